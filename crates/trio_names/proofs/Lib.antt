@@ -1,0 +1,3 @@
+pub mod NameFacts
+mod Paths
+mod Storing

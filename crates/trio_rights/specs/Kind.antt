@@ -1,0 +1,13 @@
+-- Kinds of file as bytes.
+use Rattle.std.specs.Prelude.{ℕ, ◌==◌, if◌then◌else◌}
+use Rattle.trio_rights.specs.declared.kind.Kind.{Kind}
+use Rattle.trio_rights.specs.declared.kind.Kind.TheVariants.{Regular, Directory}
+
+-- the byte that stands for a kind
+abbrev pub kind_byte : Kind → ℕ
+kind_byte Regular = 1
+kind_byte Directory = 2
+
+-- the kind that a byte stands for; what it says of other bytes means nothing
+abbrev pub kind_from : ℕ → Kind
+kind_from byte = if byte == 2 then Directory else Regular

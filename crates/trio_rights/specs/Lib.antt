@@ -1,0 +1,4 @@
+pub mod Kind
+pub mod Rights
+pub mod Row
+pub mod May
