@@ -1,3 +1,4 @@
 pub mod NameFacts
 mod Paths
 mod Storing
+mod Visible

@@ -22,7 +22,11 @@ fn rights_table(rt: HostRuntime) -> Result<(), Fail> {
     ];
     for (uid, gid, kind, mode, need, allowed) in rows {
         let creds = Creds { uid, gid };
-        assert_eq!(rt; may(creds, kind, Mode(mode), 10, 20, need), allowed, "mode {mode} uid {uid}");
+        assert_eq!(rt;
+            may(creds, kind, Mode(mode), 10, 20, need),
+            allowed,
+            "mode {mode} uid {uid}"
+        );
     }
     Ok(())
 }

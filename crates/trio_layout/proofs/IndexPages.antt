@@ -1,0 +1,1 @@
+-- Index pages: numbers that stand in bytes, against their spelling.
