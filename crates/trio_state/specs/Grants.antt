@@ -1,0 +1,136 @@
+-- Which grants are given, and what a grant lends.
+use Rattle.std.specs.Prelude.{ℕ, ◌+◌, ◌==◌, Bool, true, false, not, ◌&&◌, List, [], ◌∷◌, ◌++◌, map, Option, Some, None, is_some, if◌then◌else◌, slice_get, Result, Ok, Err, count_by}
+use Rattle.std.specs.List.{filter, filter_map, list_any}
+use Rattle.std.specs.Option.{option_map, option_and_then, option_map_or}
+use Rattle.trio_rights.specs.declared.kind.Kind.{Kind}
+use Rattle.trio_rights.specs.declared.rights.Need.{Need}
+use Rattle.trio_rights.specs.declared.rights.Need.TheVariants.{Read as ToRead, Write as ToWrite}
+use Rattle.trio_rights.specs.Row.{Row}
+use Rattle.trio_rights.specs.May.{denier}
+use Rattle.trio_nodes.specs.declared.grant.GrantKind.{GrantKind}
+use Rattle.trio_nodes.specs.declared.grant.GrantKind.TheVariants.{Read, Write, Hold}
+use Rattle.trio_nodes.specs.declared.grant.Holder.{Holder}
+use Rattle.trio_nodes.specs.declared.answers.GrantFault.{GrantFault}
+use Rattle.trio_nodes.specs.declared.answers.GrantFault.TheVariants.{NotLive, Denied, NoParent, Busy}
+use Rattle.trio_layout.specs.Body.{body_of}
+use Rattle.trio_layout.specs.Lists.{result_then}
+use Rattle.trio_layout.specs.Core.{Core, Place, nowhere, page_of, there_or}
+use Rattle.trio_layout.specs.Chain.{Chain, chain_of}
+use Rattle.trio_state.specs.Sheets.{Sheet, without_pages, sheet_numbers}
+use Rattle.trio_state.specs.Image.{Image, row_at, settled_body, with_core_pages}
+use Rattle.trio_state.specs.State.{OpenGrant, State, settled, creds_of, covered, is_write, is_read, logged}
+
+-- Which open grant on a file excludes what is asked: a read is excluded by a write or a hold of anyone and by a read of the
+-- same library; a write or a hold by any grant of anyone.
+abbrev pub excludes_kind : GrantKind → GrantKind → Bool → Bool
+excludes_kind Read Read same_library = same_library
+excludes_kind Read Write same_library = true
+excludes_kind Read Hold same_library = true
+excludes_kind Write open_kind same_library = true
+excludes_kind Hold open_kind same_library = true
+
+-- the open grants that exclude what is asked, in the order of their entries
+abbrev pub excluding : State → ℕ → ℕ → GrantKind → List OpenGrant
+excluding s lib ino kind = filter (λ g. g.ino == ino && excludes_kind kind g.kind (g.lib == lib)) s.open_grants
+
+-- an open grant, as others are told of it
+abbrev pub holder_of : OpenGrant → Holder
+holder_of g = record { lib = record { 0 = g.lib }; kind = g.kind; entry = g.entry }
+
+-- the library has a write grant on the file's parent
+abbrev pub has_parent_grant : State → ℕ → Option Row → Bool
+has_parent_grant s lib None = false
+has_parent_grant s lib (Some r) = list_any (λ g. g.lib == lib && g.ino == r.parent && is_write g.kind) s.open_grants
+
+-- who denies, for a read or write grant; a hold asks no rights of its own
+abbrev pub denied_by : State → ℕ → ℕ → GrantKind → Option ℕ
+denied_by s lib ino Read = denier s.home.rows (creds_of s lib) ino ToRead
+denied_by s lib ino Write = denier s.home.rows (creds_of s lib) ino ToWrite
+denied_by s lib ino Hold = None
+
+abbrev pub lacks_parent : State → ℕ → ℕ → GrantKind → Bool
+lacks_parent s lib ino Read = false
+lacks_parent s lib ino Write = false
+lacks_parent s lib ino Hold = not (has_parent_grant s lib (row_at s.home ino))
+
+-- the causes for which a grant is refused, in their order
+abbrev pub grant_fault : State → ℕ → ℕ → GrantKind → Option GrantFault
+grant_fault s lib ino kind =
+    if not (is_some (row_at s.home ino)) then Some NotLive else
+    option_map_or (λ n. Some (Denied n))
+    (if lacks_parent s lib ino kind then Some NoParent
+    else option_map (λ g. Busy (holder_of g)) (slice_get (excluding s lib ino kind) 0))
+    (denied_by s lib ino kind)
+
+-- the pages of these numbers
+abbrev pub sheets_of : Core → List ℕ → List Sheet
+sheets_of core pages =
+    filter_map (λ page. option_map (λ bytes. record { page = page; bytes = bytes }) (page_of core page)) pages
+
+-- the chain of a live file
+abbrev pub settled_chain : Image → Kind → ℕ → Result Chain Place
+settled_chain image kind ino =
+    result_then (chain_of image.core) (there_or nowhere (body_of kind image.core.range (settled_body image ino)))
+
+abbrev pub index_sheets : Core → Result Chain Place → List Sheet
+index_sheets core (Ok c) = sheets_of core c.index
+index_sheets core (Err place) = []
+
+abbrev pub block_sheets : Core → Result Chain Place → List Sheet
+block_sheets core (Ok c) = sheets_of core c.blocks
+block_sheets core (Err place) = []
+
+-- Reading and writing lend the index pages and the blocks beside the body; a hold lends the body alone.
+abbrev pub lent_sheets : GrantKind → List Sheet → List Sheet
+lent_sheets Read sheets = sheets
+lent_sheets Write sheets = sheets
+lent_sheets Hold sheets = []
+
+-- the grant that is opened on a live file of this kind
+abbrev pub opened : State → ℕ → ℕ → GrantKind → Row → OpenGrant
+opened s lib ino kind r =
+    let image = settled s in
+    let chain = settled_chain image r.kind ino in
+    let index = lent_sheets kind (index_sheets image.core chain) in
+    let blocks = lent_sheets kind (block_sheets image.core chain) in
+    record {
+      lib = lib;
+      ino = ino;
+      kind = kind;
+      of = r.kind;
+      entry = s.entries;
+      body = settled_body image ino;
+      index = index;
+      blocks = blocks;
+      checkpoint = covered kind r.kind index blocks;
+    }
+
+-- the pages that leave home for a grant
+abbrev pub lent_pages : OpenGrant → List ℕ
+lent_pages g = if is_write g.kind then sheet_numbers (g.index ++ g.blocks) else []
+
+-- a grant is opened: what it lends for writing leaves home
+abbrev pub opens : State → OpenGrant → State
+opens s g = logged (record s {
+  home = with_core_pages s.home (without_pages (lent_pages g) s.home.core.pages);
+  open_grants = s.open_grants ++ g ∷ [];
+})
+
+abbrev pub is_child : ℕ → Option Row → Bool
+is_child ino None = false
+is_child ino (Some r) = r.parent == ino
+
+-- how many live files have this parent
+abbrev pub children_of : Image → ℕ → ℕ
+children_of image ino = count_by (is_child ino) image.rows
+
+-- a hold tells the number of the file's children, any other grant 0
+abbrev pub told_children : Image → ℕ → GrantKind → ℕ
+told_children image ino Read = 0
+told_children image ino Write = 0
+told_children image ino Hold = children_of image ino
+
+-- a read grant ends
+abbrev pub given_back : State → ℕ → ℕ → State
+given_back s lib ino =
+    logged (record s { open_grants = filter (λ g. not (g.lib == lib && g.ino == ino && is_read g.kind)) s.open_grants })

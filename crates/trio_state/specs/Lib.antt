@@ -1,0 +1,15 @@
+pub mod Sheets
+pub mod Image
+pub mod Verifies
+pub mod State
+pub mod Proposed
+pub mod Allowed
+pub mod Accept
+pub mod Mode
+pub mod Grants
+pub mod Allotments
+pub mod Bundles
+pub mod Step
+pub mod Kept
+pub mod Given
+pub mod Run

@@ -1,0 +1,71 @@
+-- The state of the controller, and the image that is settled in it.
+use Rattle.std.specs.Prelude.{ℕ, ◌+◌, ◌-◌, ◌==◌, Bool, true, false, List, [], ◌++◌, Option, slice_index_or}
+use Rattle.std.specs.List.{flat_map, list_any}
+use Rattle.trio_rights.specs.declared.kind.Kind.{Kind}
+use Rattle.trio_rights.specs.declared.kind.Kind.TheVariants.{Regular, Directory}
+use Rattle.trio_rights.specs.declared.rights.Creds.{Creds}
+use Rattle.trio_nodes.specs.declared.grant.GrantKind.{GrantKind}
+use Rattle.trio_nodes.specs.declared.grant.GrantKind.TheVariants.{Read, Write, Hold}
+use Rattle.trio_state.specs.Sheets.{Sheet, with_pages}
+use Rattle.trio_state.specs.Image.{Image, with_core_pages}
+
+-- A grant that is open. What it lent stays as it was lent: the body, and for reading and writing the index pages and blocks.
+-- Its checkpoint is of a write grant alone, and follows the bodies of children that are accepted meanwhile.
+pub record OpenGrant : Type 0 where
+  pub lib : ℕ
+  pub ino : ℕ
+  pub kind : GrantKind
+  pub of : Kind
+  pub entry : ℕ
+  pub body : List ℕ
+  pub index : List Sheet
+  pub blocks : List Sheet
+  pub checkpoint : List Sheet
+
+-- a page or an inode number that is out by allotment, with its library
+pub record Out : Type 0 where
+  pub lib : ℕ
+  pub number : ℕ
+
+-- Pages of the home image that are lent by move or out by allotment are absent. Grants stand in the order of their entries.
+-- `entries` counts the entries of the history.
+pub record State : Type 0 where
+  pub home : Image
+  pub open_grants : List OpenGrant
+  pub pages_out : List Out
+  pub numbers_out : List Out
+  pub creds : List Creds
+  pub entries : ℕ
+
+abbrev pub is_write : GrantKind → Bool
+is_write Write = true
+is_write Read = false
+is_write Hold = false
+
+abbrev pub is_read : GrantKind → Bool
+is_read Read = true
+is_read Write = false
+is_read Hold = false
+
+-- what a checkpoint covers beside the body: the index pages, and a directory's blocks
+abbrev pub covered : GrantKind → Kind → List Sheet → List Sheet → List Sheet
+covered Write Directory index blocks = index ++ blocks
+covered Write Regular index blocks = index
+covered Read of index blocks = []
+covered Hold of index blocks = []
+
+-- home with the checkpoint of each open write grant in place
+abbrev pub settled : State → Image
+settled s = with_core_pages s.home (with_pages (flat_map (λ g. g.checkpoint) s.open_grants) s.home.core.pages)
+
+-- the credentials of a library
+abbrev pub creds_of : State → ℕ → Creds
+creds_of s lib = slice_index_or s.creds (lib - 1) (record { uid = 0; gid = 0 })
+
+-- the number is out by allotment
+abbrev pub is_out : List Out → ℕ → Bool
+is_out outs n = list_any (λ o. o.number == n) outs
+
+-- one entry more in the history
+abbrev pub logged : State → State
+logged s = record s { entries = s.entries + 1 }
