@@ -1,5 +1,5 @@
 -- The test of a name, and what it says.
-use Rattle.std.proofs.Common.{◌≡◌, ◌≢◌, ℕ, ◌<◌, ◌≤◌, ◌==◌, ◌&&◌, not, nat_lt, nat_le, true, false, Bool, List, [], ◌∷◌, length, get_or, All, Any, inl, inr, refl, arith}
+use Rattle.std.proofs.Common.{◌≡◌, ◌≢◌, ℕ, ◌<◌, ◌≤◌, ◌==◌, ◌&&◌, not, nat_lt, nat_le, true, Bool, List, [], ◌∷◌, length, All, Any, inl, inr}
 use Rattle.std.specs.Bool.{Decides}
 use Rattle.std.specs.List.{list_all}
 use Rattle.std.specs.Str.{bytes_eq}
@@ -8,7 +8,7 @@ use Rattle.std.proofs.lemmas.Bool.Decides.{Decides-eqb, Decides-not}
 use Rattle.std.proofs.lemmas.List.{get_or_default}
 use Rattle.std.proofs.lemmas.List.Sums.{AllPass-from_list_all, list_all-from_AllPass}
 use Rattle.std.proofs.lemmas.Slice.Eq.{bytes_eq-Decides}
-use Rattle.trio_names.specs.Name.{is_name, IsName}
+use Rattle.trio_names.specs.Name.{IsName}
 use Rattle.trio_names.specs.Reads.{IsBad, IsDots}
 
 pub record NameFacts (bytes : List ℕ) : Type 0 where
@@ -66,11 +66,11 @@ pub name_from : (bytes : List ℕ) → NameFacts bytes → IsName bytes
 unfolding is_plain
 name_from bytes f =
     five_from (nat_lt 0 (length bytes)) (nat_le (length bytes) 184) (list_all is_plain bytes) (not (bytes_eq bytes (46 ∷ []))) (not (bytes_eq bytes (46 ∷ 46 ∷ [])))
-      (lt-ltb 0 (length bytes) f.some)
-      (le-leb (length bytes) 184 f.short)
-      (list_all-from_AllPass is_plain bytes (λ k d lt. plain_from _ (f.plain k d lt)))
-      ((others bytes (46 ∷ [])).1 f.one_dot)
-      ((others bytes (46 ∷ 46 ∷ [])).1 f.two_dots)
+    (lt-ltb 0 (length bytes) f.some)
+    (le-leb (length bytes) 184 f.short)
+    (list_all-from_AllPass is_plain bytes (λ k d lt. plain_from _ (f.plain k d lt)))
+    ((others bytes (46 ∷ [])).1 f.one_dot)
+    ((others bytes (46 ∷ 46 ∷ [])).1 f.two_dots)
 
 -- bytes without a fault are a name
 pub unfaulted : (bytes : List ℕ) → 0 < length bytes → length bytes ≤ 184 → (Any IsBad bytes → ⊥) → (IsDots bytes → ⊥) → IsName bytes

@@ -12,8 +12,8 @@ digit d lt = cond_both (nat_lt d 10) (48 + d) (55 + d) IsVisible (λ e. (omega a
 byte : (b : ℕ) → b < 256 → AllByRecursion IsVisible (escaped_byte b)
 byte b lt =
     cond_both (nat_le 33 b && nat_le b 126 && not (b == 92)) (b ∷ []) (92 ∷ 120 ∷ hex_digit (b / 16) ∷ hex_digit (b % 16) ∷ []) (AllByRecursion IsVisible)
-      (λ e. let p = and_parts (nat_le 33 b) (nat_le b 126) (and_parts (nat_le 33 b && nat_le b 126) (not (b == 92)) e).0 in ((leb-true 33 b p.0, leb-true b 126 p.1), tt))
-      (λ e. ((omega arith, omega arith), ((omega arith, omega arith), (digit (b / 16) (omega arith), (digit (b % 16) (omega arith), tt)))))
+    (λ e. let p = and_parts (nat_le 33 b) (nat_le b 126) (and_parts (nat_le 33 b && nat_le b 126) (not (b == 92)) e).0 in ((leb-true 33 b p.0, leb-true b 126 p.1), tt))
+    (λ e. ((omega arith, omega arith), ((omega arith, omega arith), (digit (b / 16) (omega arith), (digit (b % 16) (omega arith), tt)))))
 
 all_visible : (bytes : List ℕ) → ((i : ℕ) → get_or bytes i 0 < 256) → All IsVisible (escaped_of bytes)
 all_visible [] fits = λ k d lt. absurd (omega arith)

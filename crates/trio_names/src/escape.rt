@@ -5,7 +5,7 @@ ghost use Rattle.trio_names.specs.Escaped.{hex_digit, escaped_byte, escaped_of, 
 
 use std::alloc::{AllocError as NoMemory, Global};
 
-/// The bytes as one word of visible ASCII, from which they can be told.
+/// The bytes as one word of visible ASCII.
 ///
 /// A byte from 0x21 to 0x7E other than the backslash stands for itself. Each other byte is printed
 /// as a backslash, `x` and two upper-case hexadecimal digits: a space is `\x20`, a backslash `\x5C`.
@@ -36,5 +36,9 @@ fn upper_digit(digit: u8) -> u8
     requires { digit < 16 }
     ensures { result ≡ hex_digit digit }
 {
-    if digit < 10 { b'0' + digit } else { b'A' + (digit - 10) }
+    if digit < 10 {
+        b'0' + digit
+    } else {
+        b'A' + (digit - 10)
+    }
 }
