@@ -53,14 +53,17 @@ lacks_parent s lib ino Read = false
 lacks_parent s lib ino Write = false
 lacks_parent s lib ino Hold = not (has_parent_grant s lib (row_at s.home ino))
 
+abbrev pub denied_or : Option ℕ → Option GrantFault → Option GrantFault
+denied_or None other = other
+denied_or (Some n) other = Some (Denied n)
+
 -- the causes for which a grant is refused, in their order
 abbrev pub grant_fault : State → ℕ → ℕ → GrantKind → Option GrantFault
 grant_fault s lib ino kind =
     if not (is_some (row_at s.home ino)) then Some NotLive else
-    option_map_or (λ n. Some (Denied n))
+    denied_or (denied_by s lib ino kind)
     (if lacks_parent s lib ino kind then Some NoParent
     else option_map (λ g. Busy (holder_of g)) (slice_get (excluding s lib ino kind) 0))
-    (denied_by s lib ino kind)
 
 -- the pages of these numbers
 abbrev pub sheets_of : Core → List ℕ → List Sheet
