@@ -175,7 +175,7 @@ only used last range bytes i room is =
       same = rw (same, next) refl;
       numbers = λ k lt. (
         λ below. ap (is_core range) (at k lt ∙ get_or_append_left ns pad 0 k (omega arith)) ∙ AllPass-from_list_all (is_core range) ns q.1 k 0 (omega arith),
-        λ above. at k lt ∙ get_or-append_right ns pad used k 0 len above ∙ zeros_at (511 - length ns) (k - used) (omega arith)
+        λ above. at k lt ∙ get_or-append_right ns pad used k 0 len above ∙ zeros_at (511 - length ns) (k - used) (omega arith),
       );
       link = ap (link_fits last range) next ∙ p.1;
     }
@@ -207,9 +207,11 @@ is_value used last range bytes r room found' only' small =
       narrow_next = number_at-lt w64 (2 ^ 64) wide64 4088 bytes small;
       fits = fits;
     })
-    (λ i is. let same = (only used last range bytes i room is).same in (same,
+    (λ i is. let same = (only used last range bytes i room is).same in (
+      same,
       true-bytes_eq bytes (index_bytes x) (is.spelled ∙ ap index_bytes (sym same)),
-      ap (index_fits used last range) same ∙ is.fits))
+      ap (index_fits used last range) same ∙ is.fits,
+    ))
     found' only'
 
 -- the two answers of reading, each from what was met

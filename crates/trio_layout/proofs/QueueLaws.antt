@@ -186,4 +186,3 @@ pub queue_distinct : (kids : Met → List Met) (root : Met) (i : ℕ) → are_ne
 queue_distinct kids root zero = refl
 queue_distinct kids root (suc i) =
     let f = queue kids root i in pass_distinct kids f.passed f.level (queue_distinct kids root i)
-

@@ -1,0 +1,104 @@
+-- Bytes that are all zero.
+--
+-- What it offers:
+--   get_or-zeros, IsBytes-zeros, each_zero      each byte of them; bytes are zeros where each one is
+--   take-zeros, drop-zeros, slice-zeros     their ranges
+--   zeros-append                            zeros after zeros
+--   number16_zeros, 32, 64                  the numbers in them
+--   number16_cleared, 32, 64                the numbers where zeros were written
+-- `length-zeros`, `rest_zeros` and `zeros_rest` are in Cursor.
+-- Ruleset: `zero_bytes`, for `put_zeros_in` and `clear`, beside those of Fields and Rows.
+use Rattle.std.proofs.Common.{◌≡◌, ℕ, ◌+◌, ◌-◌, ◌<◌, ◌≤◌, List, ◌++◌, length, get_or, take, drop, refl, sym, ap, ◌∙◌, inl, inr, arith}
+use Rattle.std.specs.Prelude.{slice_range}
+use Rattle.std.specs.Int.{Width, w16, w32, w64, byte_len, from_le_bytes}
+use Rattle.std.proofs.lemmas.Bool.{cases_lt}
+use Rattle.std.proofs.lemmas.Grind.{same_number_lists}
+use Rattle.std.proofs.lemmas.List.{get_or_past, get_or-replicate, take-replicate, drop-replicate, replicate-append-replicate}
+use Rattle.trio_page.specs.Field.{number_at, with_part, zeros}
+use Rattle.trio_page.proofs.Fields.{slice-with_part_same}
+use Rattle.trio_page.proofs.Ranges.{number_at-slice}
+use Rattle.trio_page.proofs.Cursor.{IsBytes, length-zeros}
+
+pub get_or-zeros : (n k : ℕ) → get_or (zeros n) k 0 ≡ 0
+unfolding zeros
+get_or-zeros n k =
+    elim (cases_lt k n) [
+      | inl lt ↦ get_or-replicate n k 0 0 lt
+      | inr le ↦ get_or_past (zeros n) k 0 (omega (arith, length-zeros n))
+    ]
+
+pub IsBytes-zeros : (n : ℕ) → IsBytes (zeros n)
+IsBytes-zeros n k = rw (get_or-zeros n k) (omega arith)
+
+pub take-zeros : (m n : ℕ) → m ≤ n → take m (zeros n) ≡ zeros m
+unfolding zeros
+take-zeros m n le = take-replicate m n 0 le
+
+pub drop-zeros : (m n : ℕ) → drop m (zeros n) ≡ zeros (n - m)
+unfolding zeros
+drop-zeros m n = drop-replicate m n 0
+
+pub slice-zeros : (n i j : ℕ) → j ≤ n → slice_range (zeros n) i j ≡ zeros (j - i)
+slice-zeros n i j le = ap (take (j - i)) (drop-zeros i n) ∙ take-zeros (j - i) (n - i) (omega arith)
+
+pub zeros-append : (m n : ℕ) → zeros m ++ zeros n ≡ zeros (m + n)
+unfolding zeros
+zeros-append m n = replicate-append-replicate m n 0
+
+-- bytes of which each is zero
+pub each_zero : (bytes : List ℕ) → ((k : ℕ) → k < length bytes → get_or bytes k 0 ≡ 0) → bytes ≡ zeros (length bytes)
+each_zero bytes zero_at =
+    same_number_lists _ _ (sym (length-zeros (length bytes))) (λ k h. zero_at k h ∙ sym (get_or-zeros (length bytes) k))
+
+-- ---- numbers in zeros
+
+zeros_of : (at k n : ℕ) → at + k ≤ n → slice_range (zeros n) at (at + k) ≡ zeros k
+zeros_of at k n le =
+    let e : at + k - at ≡ k = omega arith in
+    slice-zeros n at (at + k) le ∙ ap zeros e
+
+worth16 : from_le_bytes w16 (zeros 2) ≡ 0
+unfolding zeros
+worth16 = refl
+
+worth32 : from_le_bytes w32 (zeros 4) ≡ 0
+unfolding zeros
+worth32 = refl
+
+worth64 : from_le_bytes w64 (zeros 8) ≡ 0
+unfolding zeros
+worth64 = refl
+
+-- a number within a part that was written is the part's
+cleared : (w : Width) (at count i : ℕ) (bytes : List ℕ) → at + count ≤ length bytes → at ≤ i → i + byte_len w ≤ at + count → number_at w i (with_part at (zeros count) bytes) ≡ number_at w (i - at) (zeros count)
+cleared w at count i bytes fits le within =
+    let size : length (zeros count) ≡ count = length-zeros count in
+    let new : List ℕ = with_part at (zeros count) bytes in
+    let e : i ≡ at + (i - at) = omega arith in
+    ap (λ (x : ℕ). number_at w x new) e ∙ sym (number_at-slice w (i - at) new at (at + count) (omega arith))
+    ∙ ap (number_at w (i - at)) (slice-with_part_same at (zeros count) bytes (at + count) (omega arith) (omega arith))
+
+pub number16_zeros : (at n : ℕ) → at + 2 ≤ n → number_at w16 at (zeros n) ≡ 0
+unfolding number_at
+number16_zeros at n le = ap (from_le_bytes w16) (zeros_of at 2 n le) ∙ worth16
+
+pub number32_zeros : (at n : ℕ) → at + 4 ≤ n → number_at w32 at (zeros n) ≡ 0
+unfolding number_at
+number32_zeros at n le = ap (from_le_bytes w32) (zeros_of at 4 n le) ∙ worth32
+
+pub number64_zeros : (at n : ℕ) → at + 8 ≤ n → number_at w64 at (zeros n) ≡ 0
+unfolding number_at
+number64_zeros at n le = ap (from_le_bytes w64) (zeros_of at 8 n le) ∙ worth64
+
+-- ---- numbers where zeros were written: number i within the count of zeros at `at`
+
+pub number16_cleared : (at count i : ℕ) (bytes : List ℕ) → at + count ≤ length bytes → at ≤ i → i + 2 ≤ at + count → number_at w16 i (with_part at (zeros count) bytes) ≡ 0
+number16_cleared at count i bytes fits le within = cleared w16 at count i bytes fits le within ∙ number16_zeros (i - at) count (omega arith)
+
+pub number32_cleared : (at count i : ℕ) (bytes : List ℕ) → at + count ≤ length bytes → at ≤ i → i + 4 ≤ at + count → number_at w32 i (with_part at (zeros count) bytes) ≡ 0
+number32_cleared at count i bytes fits le within = cleared w32 at count i bytes fits le within ∙ number32_zeros (i - at) count (omega arith)
+
+pub number64_cleared : (at count i : ℕ) (bytes : List ℕ) → at + count ≤ length bytes → at ≤ i → i + 8 ≤ at + count → number_at w64 i (with_part at (zeros count) bytes) ≡ 0
+number64_cleared at count i bytes fits le within = cleared w64 at count i bytes fits le within ∙ number64_zeros (i - at) count (omega arith)
+
+pub ruleset zero_bytes = (length-zeros, number16_zeros, number32_zeros, number64_zeros, number16_cleared, number32_cleared, number64_cleared)
