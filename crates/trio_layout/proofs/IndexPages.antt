@@ -1,14 +1,12 @@
 -- Index pages: the numbers that stand in bytes, against their spelling.
-use Rattle.std.proofs.Common.{◌≡◌, ℕ, zero, suc, ◌+◌, ◌-◌, ◌*◌, ◌^◌, ◌<◌, ◌≤◌, Bool, true, false, ◌&&◌, ◌==◌, nat_lt, nat_le, IsTrue, IfSome, Option, Some, None, List, [], ◌∷◌, ◌++◌, length, get_or, take, drop, refl, sym, ap, subst, ◌∙◌, inl, inr, append_assoc, eq-eqb, arith}
-use Rattle.std.specs.Prelude.{slice_range}
+use Rattle.std.proofs.Common.{◌≡◌, ℕ, zero, suc, ◌+◌, ◌-◌, ◌*◌, ◌^◌, ◌<◌, ◌≤◌, Bool, true, false, ◌&&◌, ◌==◌, nat_lt, nat_le, IsTrue, IfSome, Option, Some, None, List, [], ◌∷◌, ◌++◌, length, get_or, take, drop, refl, sym, ap, ◌∙◌, inl, inr, append_assoc, eq-eqb, arith}
 use Rattle.std.specs.Int.{w64, to_le_bytes, from_le_bytes}
 use Rattle.std.specs.List.{list_all, flat_map}
 use Rattle.std.specs.Str.{bytes_eq}
 use Rattle.std.proofs.lemmas.Bool.{and_parts, and_from, ltb-true, lt-ltb, eqb-true, cases_lt}
 use Rattle.std.proofs.lemmas.Grind.{same_number_lists}
-use Rattle.std.proofs.lemmas.List.{get_or-append_right, get_or_default, take_at, drop_at, take_all, take-append-drop, append-nil, length-append, length-take, length-drop, length-replicate, get_or-replicate, get_or-append-add, get_or_append_left, drop-drop, nil_from_length}
+use Rattle.std.proofs.lemmas.List.{get_or-append_right, get_or_default, take_at, drop_at, take-append-drop, append-nil, length-append, length-take, length-drop, get_or-replicate, get_or_append_left, drop-drop, nil_from_length}
 use Rattle.std.proofs.lemmas.List.Sums.{AllPass-from_list_all, list_all-from_AllPass}
-use Rattle.std.proofs.lemmas.List.Concat.{flat_map-append}
 use Rattle.std.proofs.lemmas.List.Folds.{list_all-append}
 use Rattle.std.proofs.Math.Seq.{take-add}
 use Rattle.trio_page.specs.Field.{number_at, zeros}
@@ -17,7 +15,7 @@ use Rattle.trio_page.proofs.Cursor.{IsBytes, IsBytes-take, IsBytes-drop, wide64,
 use Rattle.trio_layout.specs.declared.range.CoreRange.{CoreRange}
 use Rattle.trio_layout.specs.Range.{is_core}
 use Rattle.trio_layout.specs.Index.{Index, index_at, index_bytes, index_fits, index_of, link_fits, numbers_in, IsIndexPage}
-use Rattle.trio_layout.specs.Fields.{AreNumbers, IsNumber, AreNarrow}
+use Rattle.trio_layout.specs.Fields.{AreNumbers, AreNarrow}
 use Rattle.trio_layout.proofs.Reading.{reading, bytes_eq-true, true-bytes_eq}
 
 pub length-numbers_in : (n : ℕ) (bytes : List ℕ) → length (numbers_in n bytes) ≡ n

@@ -7,7 +7,7 @@ use Rattle.trio_layout.specs.Survey.{Met}
 use Rattle.trio_layout.specs.Lists.{is_among, are_new}
 use Rattle.trio_layout.proofs.MarkLemmas.{are_new-append}
 use Rattle.std.proofs.lemmas.Bool.{and_from}
-use Rattle.std.proofs.Common.{not, ◌&&◌}
+use Rattle.std.proofs.Common.{not}
 use Rattle.trio_layout.specs.Survey.{Front, descend, levels, first_listed, numbers}
 use Rattle.trio_layout.specs.Queue.{pass_on, pass, queue}
 

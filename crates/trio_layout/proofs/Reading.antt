@@ -1,5 +1,5 @@
 -- Reading as the inverse of a spelling: what a reader answers, against the value that the definitions compute.
-use Rattle.std.proofs.Common.{◌≡◌, Bool, true, false, ◌&&◌, ℕ, IsTrue, IfSome, List, Option, Some, None, cond, refl, sym, ap, ◌∙◌}
+use Rattle.std.proofs.Common.{◌≡◌, Bool, true, false, ◌&&◌, ℕ, IfSome, List, Option, Some, None, cond, refl}
 use Rattle.std.specs.Str.{bytes_eq}
 use Rattle.std.proofs.lemmas.Bool.{false≢true}
 use Rattle.std.proofs.lemmas.Slice.Eq.{bytes_eq-Decides}

@@ -1,5 +1,5 @@
 -- When a survey is sound: rules I1 and I2 of the files met.
-use Rattle.std.specs.Prelude.{ℕ, ◌≡◌, ◌+◌, ◌==◌, nat_lt, Bool, true, ◌&&◌, ◌⊎◌, List, [], ◌∷◌, ◌++◌, map, is_ok, IsTrue, Option, if◌then◌else◌, Err}
+use Rattle.std.specs.Prelude.{ℕ, ◌≡◌, ◌+◌, nat_lt, Bool, ◌&&◌, ◌⊎◌, List, [], ◌∷◌, ◌++◌, map, is_ok, IsTrue, Option, if◌then◌else◌, Err}
 use Rattle.std.specs.List.{flat_map, list_all}
 use Rattle.trio_rights.specs.Row.{Row}
 use Rattle.trio_layout.specs.Lists.{In, is_among, are_new, tabulated}

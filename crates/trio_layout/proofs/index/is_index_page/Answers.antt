@@ -1,4 +1,4 @@
-use Rattle.std.proofs.Common.{◌≡◌, ◌∙◌, Bool, true, false, cond, Option, Some, None, IsTrue, rules, ap, subst, sym, refl}
+use Rattle.std.proofs.Common.{◌≡◌, ◌∙◌, Bool, true, false, cond, Option, Some, None, IsTrue, rules, ap, sym, refl}
 use Rattle.std.proofs.lemmas.Bool.{false≢true}
 use Rattle.trio_layout.specs.Index.{Index, index_at, index_of, link_fits, IsIndexPage}
 use Rattle.trio_layout.proofs.IndexPages.{found, only, narrow, index_value, no_index_value}

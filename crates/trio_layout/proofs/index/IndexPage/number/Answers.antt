@@ -1,4 +1,4 @@
-use Rattle.std.proofs.Common.{◌≡◌, ℕ, ◌*◌, ◌∙◌, sym, ap, get_or, arith}
+use Rattle.std.proofs.Common.{ℕ, ◌*◌, ◌∙◌, sym, ap, get_or, arith}
 use Rattle.std.proofs.lemmas.List.{get_or_past}
 use Rattle.std.specs.Int.{w64}
 use Rattle.trio_page.specs.Field.{number_at}
