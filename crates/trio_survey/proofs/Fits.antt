@@ -1,0 +1,197 @@
+-- The numbers that a file in the grammar lists are numbers of its image.
+use Rattle.std.proofs.Common.{◌≡◌, ℕ, suc, zero, ◌+◌, ◌-◌, ◌*◌, min, Bool, true, false, ◌&&◌, cond, eqb, ltb, leb, List, [], ◌∷◌, ◌++◌, map, take, Option, Some, None, Result, Ok, Err, IfOk, sym, refl, ap, ◌∙◌, arith}
+use Rattle.std.specs.List.{list_all}
+use Rattle.std.specs.Str.{bytes_eq}
+use Rattle.std.specs.Option.{option_and_then}
+use Rattle.std.proofs.lemmas.List.Folds.{list_all-append, list_all-map}
+use Rattle.std.proofs.lemmas.Bool.{and_parts, and_from}
+use Rattle.std.proofs.lemmas.Bool.Decides.{nat_tests}
+use Rattle.trio_names.specs.Name.{is_name}
+use Rattle.trio_rights.specs.declared.kind.Kind.{Kind}
+use Rattle.trio_rights.specs.declared.kind.Kind.TheVariants.{Regular, Directory}
+use Rattle.trio_layout.specs.declared.range.CoreRange.{CoreRange}
+use Rattle.trio_layout.specs.declared.slot.EntryPart.{EntryPart}
+use Rattle.trio_layout.specs.declared.slot.SlotRead.{SlotRead}
+use Rattle.trio_layout.specs.declared.slot.SlotRead.TheVariants.{Empty, Entry, Bad}
+use Rattle.trio_layout.specs.Range.{is_core}
+use Rattle.trio_layout.specs.Body.{body_of}
+use Rattle.trio_layout.specs.Slot.{slot_of, entry_at, entry_bytes, entry_fits}
+use Rattle.trio_layout.specs.Index.{Index, index_at, index_bytes, index_fits, link_fits, index_of}
+use Rattle.trio_layout.specs.Lists.{result_map, result_then, both, gathered, gathered_below}
+use Rattle.trio_layout.specs.Marks.{all_below}
+use Rattle.trio_layout.specs.Core.{Core, Place, at_page, nowhere, page_of, there_or}
+use Rattle.trio_layout.specs.Chain.{Chain, chain_from, chain_of, index_page, with_index}
+use Rattle.trio_layout.specs.Entries.{Listed, body_in_slot, slot_bytes, listed_at, slot_entries, entries_on, page_entries, unless_repeated, repeated_name, with_names_apart, entries_of_kind}
+use Rattle.trio_layout.specs.Survey.{Met, FileRead, file_of, file_with}
+use Rattle.trio_survey.specs.Within.{IsWithin, all_some}
+
+-- what holds of each answer of the steps
+if_ok_then : {X Y E : Type 0} (r : Result X E) (g : X → Result Y E) (P : Y → Type 0) → ((x : X) → r ≡ Ok x → IfOk (g x) P) → IfOk (result_then g r) P
+if_ok_then (Err e) g P h = tt
+if_ok_then (Ok x) g P h = h x refl
+
+if_ok_map : {X Y E : Type 0} (r : Result X E) (f : X → Y) (P : Y → Type 0) → IfOk r (λ x. P (f x)) → IfOk (result_map f r) P
+if_ok_map (Err e) f P h = tt
+if_ok_map (Ok x) f P h = h
+
+if_ok_at : {X E : Type 0} (r : Result X E) (x : X) (P : X → Type 0) → r ≡ Ok x → IfOk r P → P x
+if_ok_at r x P e h = rw e at h
+
+if_ok_weaker : {X E : Type 0} (r : Result X E) (P Q : X → Type 0) → ((x : X) → P x → Q x) → IfOk r P → IfOk r Q
+if_ok_weaker (Err e) P Q w h = tt
+if_ok_weaker (Ok x) P Q w h = w x h
+
+there_some : {X : Type 0} (place : Place) (o : Option X) (x : X) → there_or place o ≡ Ok x → o ≡ Some x
+there_some place None x e = absurd cc
+there_some place (Some y) x e = cc
+
+and_then_some : {X Y : Type 0} (f : X → Option Y) (o : Option X) (y : Y) → option_and_then f o ≡ Some y → (x : X) × (o ≡ Some x) × (f x ≡ Some y)
+and_then_some f None y e = absurd cc
+and_then_some f (Some x) y e = (x, refl, e)
+
+cond_some : {X : Type 0} (b : Bool) (x y : X) → cond b (Some x) None ≡ Some y → (b ≡ true) × (x ≡ y)
+cond_some true x y e = (refl, cc)
+cond_some false x y e = absurd cc
+
+cond_there : {X : Type 0} (b : Bool) (o : Option X) (x : X) → cond b o None ≡ Some x → b ≡ true
+cond_there true o x e = refl
+cond_there false o x e = absurd cc
+
+list_all-weaker : {X : Type 0} (p q : X → Bool) (xs : List X) → ((x : X) → p x ≡ true → q x ≡ true) → list_all p xs ≡ true → list_all q xs ≡ true
+list_all-weaker p q [] w h = refl
+list_all-weaker p q (x ∷ xs) w h =
+    let parts = and_parts (p x) (list_all p xs) h in
+    and_from (q x) (list_all q xs) (w x parts.0) (list_all-weaker p q xs w parts.1)
+
+core_is_below : (range : CoreRange) (page : ℕ) → is_core range page ≡ true → ltb page range.end ≡ true
+core_is_below range page h = (and_parts (leb range.first page) (ltb page range.end) h).1
+
+-- an index page is a core page, as are those that it names
+index_numbers : (used : ℕ) (last : Bool) (range : CoreRange) (page : List ℕ) (i : Index) → index_of used last range page ≡ Some i → all_below range.end i.numbers ≡ true
+unfolding index_of
+index_numbers used last range page i e =
+    let x : Index = index_at used page in
+    let c = cond_some (bytes_eq page (index_bytes x) && index_fits used last range x) x i e in
+    let fits = (and_parts (bytes_eq page (index_bytes x)) (index_fits used last range x) c.0).1 in
+    let two = (and_parts (eqb _ used && list_all (is_core range) x.numbers) (link_fits last range x.next) fits).0 in
+    let numbers = (and_parts (eqb _ used) (list_all (is_core range) x.numbers) two).1 in
+    ap (λ (y : Index). all_below range.end y.numbers) (sym c.1)
+    ∙ list_all-weaker (is_core range) (λ n. ltb n range.end) x.numbers (core_is_below range) numbers
+
+index_page_below : (core : Core) (at used : ℕ) (last : Bool) (i : Index) → index_page core at used last ≡ Ok i → (ltb at core.range.end ≡ true) × (all_below core.range.end i.numbers ≡ true)
+index_page_below core at used last i e =
+    let read = and_then_some (index_of used last core.range) (page_of core at) i (there_some (at_page at) _ i e) in
+    (core_is_below core.range at (cond_there (is_core core.range at) _ read.0 read.1), index_numbers used last core.range read.0 i read.2)
+
+-- the pages of a chain are below the end of the core
+abbrev pub IsBelow : ℕ → Chain → Type 0
+IsBelow end c = (all_below end c.index ≡ true) × (all_below end c.blocks ≡ true)
+
+pub chain_fits : (core : Core) (n blocks at : ℕ) → IfOk (chain_from core n blocks at) (IsBelow core.range.end)
+chain_fits core zero blocks at = (refl, refl)
+chain_fits core (suc n) blocks at =
+    let end : ℕ = core.range.end in
+    if_ok_then (index_page core at (min blocks 511) (eqb n 0)) (λ i. result_map (with_index at i) (chain_from core n (blocks - 511) i.next)) (IsBelow end)
+    (λ i e.
+    let here = index_page_below core at (min blocks 511) (eqb n 0) i e in
+    if_ok_map (chain_from core n (blocks - 511) i.next) (with_index at i) (IsBelow end)
+    (if_ok_weaker (chain_from core n (blocks - 511) i.next) (IsBelow end) (λ c. IsBelow end (with_index at i c))
+    (λ c h. (
+      and_from (ltb at end) (all_below end c.index) here.0 h.0,
+      list_all-append (λ x. ltb x end) i.numbers c.blocks ∙ and_from (all_below end i.numbers) (all_below end c.blocks) here.1 h.1,
+    ))
+    (chain_fits core n (blocks - 511) i.next)))
+
+-- an inode number of the image
+abbrev pub is_inode : ℕ → ℕ → Bool
+is_inode inodes n = ltb 0 n && ltb n (inodes + 1)
+
+-- these entries have inode numbers of the image
+abbrev pub AreInodes : ℕ → List Listed → Type 0
+AreInodes inodes ls = list_all (λ l. is_inode inodes l.entry.ino) ls ≡ true
+
+slot_case : (zero' good : Bool) (e e' : EntryPart) → cond zero' Empty (cond good (Entry e) Bad) ≡ Entry e' → (good ≡ true) × (e ≡ e')
+slot_case true good e e' h = absurd cc
+slot_case false true e e' h = (refl, cc)
+slot_case false false e e' h = absurd cc
+
+slot_entry_fits : (inodes : ℕ) (bytes : List ℕ) (e : EntryPart) → slot_of inodes bytes ≡ Entry e → is_inode inodes e.ino ≡ true
+unfolding slot_of
+slot_entry_fits inodes bytes e h =
+    let d : EntryPart = entry_at bytes in
+    let spelled : Bool = bytes_eq (take 192 bytes) (entry_bytes d) in
+    let c = slot_case (eqb d.ino 0) (spelled && entry_fits inodes d) d e h in
+    let fits = (and_parts spelled (entry_fits inodes d) c.0).1 in
+    let two = (and_parts (ltb 0 d.ino && leb d.ino inodes) (is_name d.name) fits).0 in
+    let some : ltb 0 d.ino ≡ true = (and_parts (ltb 0 d.ino) (leb d.ino inodes) two).0 in
+    let le : leb d.ino inodes ≡ true = (and_parts (ltb 0 d.ino) (leb d.ino inodes) two).1 in
+    let lt : ltb d.ino (inodes + 1) ≡ true = grind (arith, nat_tests) in
+    ap (λ (x : EntryPart). is_inode inodes x.ino) (sym c.1) ∙ and_from (ltb 0 d.ino) (ltb d.ino (inodes + 1)) some lt
+
+listed_fits : (inodes page slot : ℕ) (body : List ℕ) (r : SlotRead) → ((e : EntryPart) → r ≡ Entry e → is_inode inodes e.ino ≡ true) → IfOk (listed_at page slot body r) (AreInodes inodes)
+listed_fits inodes page slot body Empty h = refl
+listed_fits inodes page slot body Bad h = tt
+listed_fits inodes page slot body (Entry e) h = and_from (is_inode inodes e.ino) true (h e refl) refl
+
+slot_fits : (inodes page : ℕ) (bytes : List ℕ) (slot : ℕ) → IfOk (slot_entries inodes page bytes slot) (AreInodes inodes)
+slot_fits inodes page bytes slot =
+    let part : List ℕ = slot_bytes slot bytes in
+    listed_fits inodes page slot (body_in_slot slot bytes) (slot_of inodes part) (slot_entry_fits inodes part)
+
+both_all : {X E : Type 0} (p : X → Bool) (q r : Result (List X) E) → IfOk q (λ xs. list_all p xs ≡ true) → IfOk r (λ xs. list_all p xs ≡ true) → IfOk (both q r) (λ xs. list_all p xs ≡ true)
+both_all p (Err e) r h k = tt
+both_all p (Ok xs) (Err e) h k = tt
+both_all p (Ok xs) (Ok ys) h k = list_all-append p xs ys ∙ and_from (list_all p xs) (list_all p ys) h k
+
+gathered_below_all : {X E : Type 0} (p : X → Bool) (f : ℕ → Result (List X) E) → ((k : ℕ) → IfOk (f k) (λ xs. list_all p xs ≡ true)) → (n : ℕ) → IfOk (gathered_below f n) (λ xs. list_all p xs ≡ true)
+gathered_below_all p f h zero = refl
+gathered_below_all p f h (suc n) = both_all p (gathered_below f n) (f n) (gathered_below_all p f h n) (h n)
+
+gathered_all : {X Y E : Type 0} (p : Y → Bool) (f : X → Result (List Y) E) → ((x : X) → IfOk (f x) (λ ys. list_all p ys ≡ true)) → (xs : List X) → IfOk (gathered f xs) (λ ys. list_all p ys ≡ true)
+gathered_all p f h [] = refl
+gathered_all p f h (x ∷ xs) = both_all p (f x) (gathered f xs) (h x) (gathered_all p f h xs)
+
+entries_on_fit : (inodes page : ℕ) (bytes : List ℕ) → IfOk (entries_on inodes page bytes) (AreInodes inodes)
+unfolding entries_on
+entries_on_fit inodes page bytes =
+    gathered_below_all (λ l. is_inode inodes l.entry.ino) (slot_entries inodes page bytes) (slot_fits inodes page bytes) 16
+
+unless_repeated_fit : (inodes : ℕ) (ls : List Listed) (o : Option Place) → AreInodes inodes ls → IfOk (unless_repeated ls o) (AreInodes inodes)
+unless_repeated_fit inodes ls None h = h
+unless_repeated_fit inodes ls (Some p) h = tt
+
+pub entries_fit : (core : Core) (kind : Kind) (blocks : List ℕ) → IfOk (entries_of_kind core kind blocks) (AreInodes core.inodes)
+entries_fit core Regular blocks = refl
+entries_fit core Directory blocks =
+    if_ok_then (gathered (page_entries core) blocks) with_names_apart (AreInodes core.inodes)
+    (λ ls e. unless_repeated_fit core.inodes ls (repeated_name [] ls)
+    (if_ok_at (gathered (page_entries core) blocks) ls (AreInodes core.inodes) e
+    (gathered_all (λ l. is_inode core.inodes l.entry.ino) (page_entries core)
+    (λ page. if_ok_then (there_or (at_page page) (page_of core page)) (entries_on core.inodes page) (AreInodes core.inodes) (λ bytes _. entries_on_fit core.inodes page bytes)) blocks)))
+
+numbers_fit : (inodes : ℕ) (ls : List Listed) → AreInodes inodes ls → (all_below (inodes + 1) (map (λ l. l.entry.ino) ls) ≡ true) × (all_some (map (λ l. l.entry.ino) ls) ≡ true)
+numbers_fit inodes ls h = (
+  list_all-map (λ n. ltb n (inodes + 1)) (λ (l : Listed). l.entry.ino) ls
+      ∙ list_all-weaker (λ (l : Listed). is_inode inodes l.entry.ino) (λ (l : Listed). ltb l.entry.ino (inodes + 1)) ls (λ l k. (and_parts (ltb 0 l.entry.ino) (ltb l.entry.ino (inodes + 1)) k).1) h,
+  list_all-map (λ n. ltb 0 n) (λ (l : Listed). l.entry.ino) ls
+      ∙ list_all-weaker (λ (l : Listed). is_inode inodes l.entry.ino) (λ (l : Listed). ltb 0 l.entry.ino) ls (λ l k. (and_parts (ltb 0 l.entry.ino) (ltb l.entry.ino (inodes + 1)) k).0) h,
+)
+
+-- the file lists only numbers of the image
+abbrev pub FileIsWithin : Core → FileRead → Type 0
+FileIsWithin core f = IsWithin core.range core.inodes f.chain.index f.chain.blocks (map (λ l. l.entry.ino) f.entries)
+
+pub file_within : (core : Core) (m : Met) (f : FileRead) → file_of core m ≡ Ok f → FileIsWithin core f
+unfolding file_of
+file_within core m f e =
+    if_ok_at _ f (FileIsWithin core) e
+    (if_ok_then (there_or nowhere (body_of m.kind core.range m.body)) (λ b. result_then (file_with core m.kind b) (chain_of core b)) (FileIsWithin core)
+    (λ b _. if_ok_then (chain_of core b) (file_with core m.kind b) (FileIsWithin core)
+    (λ c p.
+    let below = if_ok_at (chain_of core b) c (IsBelow core.range.end) p (chain_fits core _ _ b.head) in
+    if_ok_map (entries_of_kind core m.kind c.blocks) (λ es. record { body = b; chain = c; entries = es }) (FileIsWithin core)
+    (if_ok_weaker (entries_of_kind core m.kind c.blocks) (AreInodes core.inodes) (λ es. FileIsWithin core (record { body = b; chain = c; entries = es }))
+    (λ es h.
+    let numbers = numbers_fit core.inodes es h in
+    record { index_below = below.0; blocks_below = below.1; numbers_below = numbers.0; numbers_some = numbers.1 })
+    (entries_fit core m.kind c.blocks)))))

@@ -1,0 +1,4 @@
+pub mod Chains
+pub mod Gathers
+pub mod Fits
+pub mod Roots

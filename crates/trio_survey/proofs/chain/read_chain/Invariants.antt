@@ -1,0 +1,15 @@
+use Rattle.std.proofs.Common.{◌≡◌, ◌≤◌, ℕ}
+use Rattle.trio_layout.specs.Chain.{chain_of}
+use Rattle.trio_layout.specs.Lists.{result_map}
+use Rattle.trio_survey.specs.Seen.{core_with}
+use Rattle.trio_survey.proofs.Chains.{after, rest_of}
+use Rattle.trio_survey.proofs.chain.read_chain.Given as goal
+
+abbrev pub invariant-loop-left : goal.invariant-loop-left
+invariant-loop-left l = record {
+  same : l.home.pages ≡ l.initial.home.pages;
+  chain : (inodes : ℕ) → result_map (after l.index.items l.blocks.items) (rest_of (core_with l.initial.home.pages l.range inodes) l.left l.at) ≡ chain_of (core_with l.initial.home.pages l.range inodes) l.body;
+}
+
+abbrev pub decreases-loop-left : goal.decreases-loop-left
+decreases-loop-left l = l.left

@@ -1,0 +1,10 @@
+use Rattle.std.proofs.Common.{◌≡◌, map, Ok}
+use Rattle.trio_layout.specs.Entries.{slot_entries}
+use Rattle.trio_layout.specs.Lists.{both, gathered_below}
+use Rattle.trio_survey.specs.Seen.{listed_seen}
+use Rattle.trio_survey.proofs.entries.add_page_entries.Given as goal
+
+abbrev pub invariant-loop-slot : goal.invariant-loop-slot
+invariant-loop-slot l =
+    both (Ok (map listed_seen l.initial.entries.items)) (gathered_below (slot_entries l.inodes l.no l.page) l.slot)
+    ≡ Ok (map listed_seen l.entries.items)

@@ -1,0 +1,101 @@
+//! One file read whole.
+
+ghost use Rattle.std.specs.Prelude.{◌≡◌, IfOk};
+ghost use Rattle.trio_layout.specs.Survey.{file_of};
+ghost use Rattle.trio_survey.specs.Seen.{core_with, met_seen, read_seen};
+ghost use Rattle.trio_survey.specs.Within.{inos, IsWithin};
+
+use crate::chain::{ChainParts, read_chain};
+use crate::entries::read_entries;
+use std::alloc::Global;
+use trio_layout::{Body, CoreRange, EntryPart};
+use trio_page::{Home, NoMemory, Reads};
+use trio_rights::Kind;
+
+/// A file that the survey meets: what its directory says of it, where, and the bytes of its body.
+#[derive(Clone, Copy)]
+pub struct MetFile {
+    /// The inode number, counted from 1.
+    pub ino: u32,
+    pub kind: Kind,
+    /// The inode number of its directory, or 0 for the root.
+    pub parent: u32,
+    /// The directory page that lists it, or 0 for the root.
+    pub page: u32,
+    /// Its slot on that page, counted from 0.
+    pub slot: u16,
+    pub body: [u8; 64],
+}
+
+/// An entry of a directory at its place, with the bytes of the body in its slot.
+#[derive(Clone, Copy)]
+pub struct ListedEntry {
+    pub entry: EntryPart,
+    /// The directory page.
+    pub page: u32,
+    /// The slot on that page, counted from 0.
+    pub slot: u16,
+    pub body: [u8; 64],
+}
+
+/// Where a file can't be read: a page and a slot, 0 where there is none to name.
+#[derive(Clone, Copy, Debug, PartialEq, Eq)]
+pub struct FaultPlace {
+    pub page: u32,
+    pub slot: u16,
+}
+
+/// What a file says.
+#[derive(Drop)]
+pub struct FileParts {
+    pub body: Body,
+    /// The numbers of its index pages, in the order of the chain.
+    pub index: Vec<u32>,
+    /// The numbers of its blocks, in the order of the file.
+    pub blocks: Vec<u32>,
+    /// The entries of a directory, in the order of block and slot; none of a regular file.
+    pub entries: Vec<ListedEntry>,
+}
+
+/// Reads a file that is met, in an image with these core pages and so many inode numbers.
+/// Blocks of a regular file aren't looked at.
+///
+/// Where the file leaves the grammar or a page is absent, the answer is the first such place: neither
+/// page nor slot for its body; an index page, or a directory page that is absent, as a whole; a bad
+/// slot; and of entries whose names are the same the first that has the name of one before it.
+///
+/// After [`NoMemory`] the pages are as they were, as they are after any answer.
+#[tactic(auto, unfolding(trio_layout::specs::Survey::file_of))]
+pub fn read_file(
+    alloc: Global,
+    home: &mut Home,
+    range: CoreRange,
+    inodes: u32,
+    met: &MetFile,
+    reads: &mut Reads,
+) -> Result<Result<FileParts, FaultPlace>, NoMemory>
+    ensures pages { home.new.pages ≡ home.old.pages }
+    ensures file { IfOk result (λ r. read_seen r ≡ file_of (core_with home.old.pages range inodes) (met_seen met.now)) }
+    ensures within { IfOk result (λ r. IfOk r (λ f. IsWithin range inodes f.index.items f.blocks.items (inos f.entries.items))) }
+{
+    let Some(body) = Body::read(&met.body, met.kind, range) else {
+        return Ok(Err(FaultPlace { page: 0, slot: 0 }));
+    };
+    let ChainParts { index, blocks } = match read_chain(alloc, home, range, &body, reads)? {
+        Ok(chain) => chain,
+        Err(place) => return Ok(Err(place)),
+    };
+    let entries = match met.kind {
+        Kind::Regular => Vec::new(alloc),
+        Kind::Directory => match read_entries(alloc, home, range, inodes, &blocks, reads)? {
+            Ok(entries) => entries,
+            Err(place) => return Ok(Err(place)),
+        },
+    };
+    Ok(Ok(FileParts {
+        body,
+        index,
+        blocks,
+        entries,
+    }))
+}

@@ -1,0 +1,4 @@
+mod RowLemmas
+mod TableLemmas
+mod CellLemmas
+mod StoredLemmas
