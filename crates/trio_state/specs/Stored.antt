@@ -1,0 +1,49 @@
+-- An image as its pages: the superblock, the shadow pages, the owner pages, and the core.
+use Rattle.std.specs.Prelude.{◌≡◌, ℕ, ◌+◌, ◌<◌, List, Option, None, Some, slice_index_or}
+use Rattle.trio_rights.specs.Row.{Row}
+use Rattle.trio_tables.specs.Stored.{shadow_bytes, owner_bytes, padded_to_pages, page_at}
+use Rattle.trio_layout.specs.declared.superblock.Superblock.{Superblock}
+use Rattle.trio_layout.specs.Superblock.{IsSuperblock}
+use Rattle.trio_layout.specs.Core.{Core}
+use Rattle.trio_layout.specs.Survey.{plain, survey}
+use Rattle.trio_layout.specs.Sound.{IsSound, rows_table, owners_table}
+use Rattle.trio_state.specs.Image.{Image}
+
+-- the core of an image that has this superblock and these pages
+abbrev pub core_in : Superblock → List (Option (List ℕ)) → Core
+core_in s pages = record {
+  pages = pages;
+  root = s.root;
+  range = record { first = s.first_core; end = s.pages };
+  inodes = s.inodes;
+}
+
+-- the page at a number is there and has these bytes
+abbrev pub HasPage : List (Option (List ℕ)) → ℕ → List ℕ → Type 0
+HasPage pages no bytes = slice_index_or pages no None ≡ Some bytes
+
+-- the shadow pages and the owner pages are these tables', with zeros behind them
+pub record StoresTables (s : Superblock) (pages : List (Option (List ℕ))) (rows : List (Option Row)) (owners : List ℕ) : Type 0 where
+  pub shadow : (k : ℕ) → 1 + k < s.first_owner → HasPage pages (1 + k) (page_at k (padded_to_pages (shadow_bytes rows)))
+  pub owner : (k : ℕ) → s.first_owner + k < s.first_core → HasPage pages (s.first_owner + k) (page_at k (padded_to_pages (owner_bytes owners)))
+
+-- With this superblock: the plain survey of the core is sound, and the stored tables are exactly its rows and owners.
+pub record PagesVerify (s : Superblock) (pages : List (Option (List ℕ))) : Type 0 where
+  pub sound : IsSound (core_in s pages) plain
+  pub tables : StoresTables s pages
+      (rows_table (core_in s pages) (survey (core_in s pages) plain))
+      (owners_table (core_in s pages) (survey (core_in s pages) plain))
+
+-- the pages' superblock
+pub record HasSuperblock (s : Superblock) (pages : List (Option (List ℕ))) : Type 0 where
+  pub bytes : List ℕ
+  pub here : HasPage pages 0 bytes
+  pub read : IsSuperblock bytes s
+
+-- the image that these pages store, where they verify
+abbrev pub image_in : Superblock → List (Option (List ℕ)) → Image
+image_in s pages = record {
+  core = core_in s pages;
+  rows = rows_table (core_in s pages) (survey (core_in s pages) plain);
+  owners = owners_table (core_in s pages) (survey (core_in s pages) plain);
+}
