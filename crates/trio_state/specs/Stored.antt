@@ -20,7 +20,7 @@ core_in s pages = record {
 
 -- the page at a number is there and has these bytes
 abbrev pub HasPage : List (Option (List ℕ)) → ℕ → List ℕ → Type 0
-HasPage pages no bytes = slice_index_or pages no None ≡ Some bytes
+HasPage pages number bytes = slice_index_or pages number None ≡ Some bytes
 
 -- the shadow pages and the owner pages are these tables', with zeros behind them
 pub record StoresTables (s : Superblock) (pages : List (Option (List ℕ))) (rows : List (Option Row)) (owners : List ℕ) : Type 0 where
