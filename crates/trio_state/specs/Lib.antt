@@ -14,3 +14,4 @@ pub mod Kept
 pub mod Given
 pub mod Run
 pub mod Stored
+pub mod Tree

@@ -1,9 +1,10 @@
 -- An image as its pages: the superblock, the shadow pages, the owner pages, and the core.
-use Rattle.std.specs.Prelude.{◌≡◌, ℕ, ◌+◌, ◌<◌, List, Option, None, Some, slice_index_or}
+use Rattle.std.specs.Prelude.{◌≡◌, ℕ, zero, suc, ◌+◌, ◌*◌, ◌<◌, ◌≤◌, List, [], ◌∷◌, Option, None, Some, length, take, drop, unwrap_or, slice_index_or}
+use Rattle.std.specs.List.{flat_map}
 use Rattle.trio_rights.specs.Row.{Row}
 use Rattle.trio_tables.specs.Stored.{shadow_bytes, owner_bytes, padded_to_pages, page_at}
 use Rattle.trio_layout.specs.declared.superblock.Superblock.{Superblock}
-use Rattle.trio_layout.specs.Superblock.{IsSuperblock}
+use Rattle.trio_layout.specs.Superblock.{superblock_bytes, IsSuperblock}
 use Rattle.trio_layout.specs.Core.{Core}
 use Rattle.trio_layout.specs.Survey.{plain, survey}
 use Rattle.trio_layout.specs.Sound.{IsSound, rows_table, owners_table}
@@ -47,3 +48,28 @@ image_in s pages = record {
   rows = rows_table (core_in s pages) (survey (core_in s pages) plain);
   owners = owners_table (core_in s pages) (survey (core_in s pages) plain);
 }
+
+-- ---- an image as the bytes of its file
+
+-- the first n pages that bytes are cut into
+abbrev pub pages_in : ℕ → List ℕ → List (Option (List ℕ))
+pages_in zero bytes = []
+pages_in (suc n) bytes = Some (take 4096 bytes) ∷ pages_in n (drop 4096 bytes)
+
+-- the bytes of pages, one after another
+abbrev pub bytes_in : List (Option (List ℕ)) → List ℕ
+bytes_in pages = flat_map (λ p. unwrap_or p []) pages
+
+-- The bytes are those of an image that verifies: its superblock is in its grammar and tells the length, and its pages verify.
+pub record BytesVerify (bytes : List ℕ) : Type 0 where
+  pub superblock : Superblock
+  pub read : IsSuperblock (take 4096 bytes) superblock
+  pub whole : length bytes ≡ 4096 * superblock.pages
+  pub verify : PagesVerify superblock (pages_in superblock.pages bytes)
+
+-- These are just the pages of an image: its root's body in the superblock, its tables, and its core pages. No others are.
+pub record StoresImage (s : Superblock) (image : Image) (pages : List (Option (List ℕ))) : Type 0 where
+  pub count : length pages ≡ s.pages
+  pub superblock : HasPage pages 0 (superblock_bytes (record s { root = image.core.root }))
+  pub tables : StoresTables s pages image.rows image.owners
+  pub core : (p : ℕ) → s.first_core ≤ p → p < s.pages → slice_index_or pages p None ≡ slice_index_or image.core.pages p None

@@ -35,7 +35,7 @@ pub fn read_entries(
             return Ok(Err(place));
         }
     }
-    Ok(match repeated_name(&entries) {
+    Ok(match repeated_name(alloc, &entries)? {
         Some(place) => Err(place),
         None => Ok(entries),
     })

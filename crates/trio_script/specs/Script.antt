@@ -1,0 +1,39 @@
+-- What a script says, line by line.
+use Rattle.std.specs.Prelude.{ℕ, ◌+◌, ◌==◌, nat_lt, Bool, true, false, not, ◌&&◌, ◌||◌, List, [], ◌∷◌, ◌++◌, length, Option, None, Some, if◌then◌else◌, codes, starts_with}
+use Rattle.std.specs.List.{list_any}
+use Rattle.std.specs.Str.{bytes_eq}
+
+-- The bytes cut at each line end (10), which belongs to no line. What follows the last line end is a line where it has bytes.
+abbrev pub cut_lines : List ℕ → List ℕ → List (List ℕ)
+cut_lines line [] = if length line == 0 then [] else line ∷ []
+cut_lines line (b ∷ bytes) = if b == 10 then line ∷ cut_lines [] bytes else cut_lines (line ++ b ∷ []) bytes
+
+abbrev pub lines_of : List ℕ → List (List ℕ)
+lines_of bytes = cut_lines [] bytes
+
+-- a line without bytes and one that begins with `#` (35) say nothing
+abbrev pub is_silent : List ℕ → Bool
+is_silent [] = true
+is_silent (b ∷ bytes) = b == 35
+
+-- the line names a library: its first word is `lib`
+abbrev pub names_library : List ℕ → Bool
+names_library line = starts_with (λ a b. a == b) line (codes "lib ")
+
+-- the one line that begins a library so far
+abbrev pub is_library_line : List ℕ → Bool
+is_library_line line = bytes_eq line (codes "lib 1 raw 0 0")
+
+-- the number of the first line from `number` on that isn't built: the first that says something has to be the library's line
+abbrev pub first_unbuilt : ℕ → Bool → List (List ℕ) → Option ℕ
+first_unbuilt number begun [] = None
+first_unbuilt number begun (line ∷ lines) =
+    if nat_lt 16384 number then Some number else
+    (if is_silent line then first_unbuilt (number + 1) begun lines else
+    (if not begun && is_library_line line then first_unbuilt (number + 1) true lines else Some number))
+
+-- The number of the line for which a script isn't built, counted from 1. A script without a library isn't at line 1.
+abbrev pub unbuilt_line : List ℕ → Option ℕ
+unbuilt_line script =
+    let lines = lines_of script in
+    if list_any names_library lines then first_unbuilt 1 false lines else Some 1

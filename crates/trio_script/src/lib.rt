@@ -1,0 +1,2 @@
+//! Scripts: which lines are read so far.
+#![tactic(auto)]
