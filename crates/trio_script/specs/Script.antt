@@ -1,5 +1,5 @@
 -- What a script says, line by line.
-use Rattle.std.specs.Prelude.{ℕ, ◌+◌, ◌==◌, nat_lt, Bool, true, false, not, ◌&&◌, ◌||◌, List, [], ◌∷◌, ◌++◌, length, Option, None, Some, if◌then◌else◌, codes, starts_with}
+use Rattle.std.specs.Prelude.{ℕ, ◌+◌, ◌==◌, nat_lt, Bool, true, false, not, ◌&&◌, ◌||◌, List, [], ◌∷◌, ◌++◌, length, Option, None, Some, if◌then◌else◌, codes, take}
 use Rattle.std.specs.List.{list_any}
 use Rattle.std.specs.Str.{bytes_eq}
 
@@ -18,7 +18,7 @@ is_silent (b ∷ bytes) = b == 35
 
 -- the line names a library: its first word is `lib`
 abbrev pub names_library : List ℕ → Bool
-names_library line = starts_with (λ a b. a == b) line (codes "lib ")
+names_library line = bytes_eq (take 4 line) (codes "lib ")
 
 -- the one line that begins a library so far
 abbrev pub is_library_line : List ℕ → Bool
