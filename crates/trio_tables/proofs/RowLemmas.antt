@@ -1,5 +1,5 @@
 -- A row that is spelled is read, and what is read is spelled so.
-use Rattle.std.proofs.Common.{◌≡◌, ◌≢◌, ℕ, ◌^◌, ◌<◌, ◌&&◌, nat_lt, Bool, true, false, cond, IsTrue, IfSome, List, [], ◌∷◌, ◌++◌, length, get_or, drop, Option, Some, None, refl, sym, ap, subst, ◌∙◌, arith}
+use Rattle.std.proofs.Common.{◌≡◌, ◌≢◌, ℕ, ◌^◌, ◌<◌, ◌&&◌, Bool, true, false, cond, IfSome, List, [], ◌∷◌, ◌++◌, length, get_or, drop, Option, Some, None, refl, sym, ap, subst, ◌∙◌, arith}
 use Rattle.std.specs.Prelude.{slice_range}
 use Rattle.std.specs.Int.{w16, w32, to_le_bytes}
 use Rattle.std.specs.Str.{bytes_eq}
@@ -14,7 +14,7 @@ use Rattle.trio_rights.specs.declared.kind.Kind.TheVariants.{Regular, Directory}
 use Rattle.trio_rights.specs.Kind.{kind_byte, kind_from}
 use Rattle.trio_rights.specs.Row.{Row}
 use Rattle.trio_tables.specs.declared.row.Row.{Row as RowData}
-use Rattle.trio_tables.specs.Row.{as_row, row_at, row_bytes, row_fits, row_of, row_with, IsFramedRow, IsNarrowRow, IsRow}
+use Rattle.trio_tables.specs.Row.{as_row, row_at, row_bytes, row_fits, row_spelled, row_with, IsFramedRow, IsNarrowRow, IsRow}
 
 -- ---- writing
 
@@ -154,12 +154,6 @@ zeros_front = refl
 pub not_free : (bytes : List ℕ) (r : Row) → IsRow bytes (Some r) → bytes ≢ zeros 32
 not_free bytes r is e = absurd (omega (arith, (only bytes r is).framed.live, zeros_front, ap (λ (x : List ℕ). get_or x 0 0) e))
 
-pub same_kind : (a b : Kind) → kind_byte a ≡ kind_byte b → a ≡ b
-same_kind Regular Regular e = refl
-same_kind Regular Directory e = absurd (omega arith)
-same_kind Directory Regular e = absurd (omega arith)
-same_kind Directory Directory e = refl
-
 kind_from-byte : (k : Kind) → kind_from (kind_byte k) ≡ k
 kind_from-byte Regular = refl
 kind_from-byte Directory = refl
@@ -212,8 +206,8 @@ reading P x false false fits (Some (Some y)) none some is uniquely found only = 
 
 -- what reading answers is the row whose bytes these are
 pub is_value : (bytes : List ℕ) (r : Option (Option Row)) → IsBytes bytes
-    → IfSome r (λ row. IsRow bytes row) → ((row : Option Row) → IsRow bytes row → r ≡ Some row) → r ≡ row_of bytes
-unfolding row_of
+    → IfSome r (λ row. IsRow bytes row) → ((row : Option Row) → IsRow bytes row → r ≡ Some row) → r ≡ row_spelled bytes
+unfolding row_spelled
 is_value bytes r small found' only' =
     let x : Row = row_at bytes in
     reading (IsRow bytes) x (bytes_eq bytes (row_bytes None)) (bytes_eq bytes (row_bytes (Some x))) (row_fits (Some x)) r

@@ -1,14 +1,14 @@
 -- The stored tables, cell by cell.
-use Rattle.std.proofs.Common.{◌≡◌, ℕ, zero, suc, ◌+◌, ◌-◌, ◌*◌, ◌/◌, ◌%◌, ◌<◌, ◌≤◌, List, [], ◌∷◌, ◌++◌, length, get_or, take, drop, Option, Some, None, refl, sym, ap, subst, ◌∙◌, arith}
-use Rattle.std.specs.Prelude.{slice_range, slice_index}
-use Rattle.std.specs.Int.{w32, w16, to_le_bytes}
-use Rattle.std.proofs.lemmas.List.{length-append, length-drop, get_or-drop}
+use Rattle.std.proofs.Common.{◌≡◌, ℕ, ◌+◌, ◌-◌, ◌*◌, ◌/◌, ◌<◌, ◌≤◌, List, length, get_or, drop, Option, Some, None, refl, sym, ap, subst, ◌∙◌, arith}
+use Rattle.std.specs.Prelude.{slice_range}
+use Rattle.std.specs.Int.{w32, to_le_bytes}
+use Rattle.std.proofs.lemmas.List.{length-drop, get_or-drop}
 use Rattle.trio_page.specs.Field.{with_number, with_part, zeros}
 use Rattle.trio_page.proofs.Fields.{length-to_le_bytes}
 use Rattle.trio_page.proofs.Cursor.{Front, length-zeros}
 use Rattle.trio_rights.specs.Row.{Row, row_in}
 use Rattle.trio_tables.specs.Row.{row_bytes}
-use Rattle.trio_tables.specs.Stored.{shadow_bytes, owner_bytes, padded_to_pages, page_at, HasRow, HasOwner, RowDiffers, OwnerDiffers}
+use Rattle.trio_tables.specs.Stored.{shadow_bytes, owner_bytes, padded_to_pages, page_at, HasRow, HasOwner}
 use Rattle.trio_tables.proofs.CellLemmas.{AreCells, length-cells, length-padded, padded_cell, length-page_at, slice-page_at, cell_written, same_cells}
 
 -- ---- rows

@@ -60,9 +60,9 @@ row_with kind bytes = record {
 abbrev pub row_at : List ℕ → Row
 row_at bytes = row_with (kind_from (slice_index bytes 1)) bytes
 
--- the row whose bytes these are, if there is one
-unfoldable pub row_of : List ℕ → Option (Option Row)
-row_of bytes =
+-- the row that the bytes spell, if they spell one
+unfoldable pub row_spelled : List ℕ → Option (Option Row)
+row_spelled bytes =
     let r = Some (row_at bytes) in
     if bytes_eq bytes (row_bytes None) then Some None
     else (if bytes_eq bytes (row_bytes r) && row_fits r then Some r else None)

@@ -36,6 +36,8 @@ pub record OwnerDiffers (owners : List ℕ) (k : ℕ) (page : List ℕ) (no : �
   pub within : no < length owners
   pub differs : slice_range page (4 * (no - 1024 * k)) (4 * (no - 1024 * k) + 4) ≢ to_le_bytes w32 (slice_index owners no)
 
+-- ---- cited by private functions alone
+
 -- at the i-th place of the page at k stands the row that the table has there
 abbrev pub HasRow : List (Option Row) → ℕ → List ℕ → ℕ → Type 0
 HasRow rows k page i = slice_range page (32 * i) (32 * i + 32) ≡ row_bytes (row_in rows (128 * k + i + 1))

@@ -32,7 +32,7 @@ impl Model for Owners {
 
 impl Owners {
     /// The table of `pages` pages, at most 8192. Those below `first_core` are the controller's, and
-    /// each other is free.
+    /// each other is free. `NoMemory` where there is no memory for it.
     pub fn new(alloc: Global, pages: u32, first_core: u32) -> Result<Owners, NoMemory>
         requires few { pages ≤ 8192 }
         requires core { first_core ≤ pages }
@@ -102,11 +102,15 @@ impl Owners {
     /// what is behind the last owner differs.
     pub fn differs_at(&self, at: u32, page: &Page) -> Option<u32>
         requires { 1024 * at < length self.now }
-        ensures same { IsNone result ↔ (page.now ≡ page_at at (padded_to_pages (owner_bytes self.now))) }
+        ensures same { IsNone result
+            ↔ (page.now ≡ page_at at (padded_to_pages (owner_bytes self.now))) }
         ensures owner { IfSome result (λ no. 0 < no → OwnerDiffers self.now at page.now no) }
-        ensures lowest { IfSome result (λ no. (k : ℕ) → k < no → OwnerDiffers self.now at page.now k → ⊥) }
+        ensures lowest { IfSome result (λ no. (k : ℕ) → k < no
+            → OwnerDiffers self.now at page.now k → ⊥) }
+        // 0 names page 0 itself where its owner differs
         ensures rest { IfSome result (λ no. no ≡ 0
-            → OwnerDiffers self.now at page.now 0 ⊎ ((k : ℕ) → OwnerDiffers self.now at page.now k → ⊥)) }
+            → OwnerDiffers self.now at page.now 0
+            ⊎ ((k : ℕ) → OwnerDiffers self.now at page.now k → ⊥)) }
     {
         let pages = self.pages();
         let Some(i) = self.first_difference(at, page.bytes()) else {

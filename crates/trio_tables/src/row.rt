@@ -3,7 +3,7 @@
 ghost use Rattle.std.specs.Prelude.{◌≡◌, ◌<◌, ◌↔◌, IsTrue, IfSome};
 ghost use Rattle.std.specs.Option.{ForSome, option_map};
 ghost use Rattle.trio_page.specs.Field.{zeros};
-ghost use Rattle.trio_tables.specs.Row.{as_row, row_bytes, row_of, row_read, row_with, IsFramedRow, IsRow, TableRow};
+ghost use Rattle.trio_tables.specs.Row.{as_row, row_bytes, row_spelled, row_read, row_with, IsFramedRow, IsRow, TableRow};
 
 use trio_page::field::{
     all_zero, put_bytes_in, put_u16_in, put_u32_in, put_zeros_in, u16_in, u32_in,
@@ -43,7 +43,7 @@ impl Row {
         ensures free { (result ≡ RowRead.Free) ↔ (bytes.now ≡ zeros 32) }
         ensures found { IfSome (row_read result) (λ row. IsRow bytes.now row) }
         ensures only { (row : TableRow) → IsRow bytes.now row → row_read result ≡ Some row }
-        ensures value { row_read result ≡ row_of bytes.now }
+        ensures value { row_read result ≡ row_spelled bytes.now }
     {
         if all_zero(bytes) {
             return RowRead::Free;

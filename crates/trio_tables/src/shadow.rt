@@ -32,11 +32,13 @@ impl Model for Shadow {
 
     ghost view = { λ s. map (option_map as_row) s.rows.items };
 
-    ghost invariant = { λ s. (0 < length s.rows.items) × (length s.rows.items ≤ 16385) × (slice_index_or s.rows.items 0 None ≡ None) };
+    ghost invariant = { λ s. (0 < length s.rows.items) × (length s.rows.items ≤ 16385)
+        × (slice_index_or s.rows.items 0 None ≡ None) };
 }
 
 impl Shadow {
-    /// The table of `inodes` inode numbers, at most 16,384, none of them live.
+    /// The table of `inodes` inode numbers, at most 16,384, none of them live. `NoMemory` where
+    /// there is no memory for it.
     #[tactic(auto, using(crate::proofs::TableLemmas::rows_same))]
     pub fn new(alloc: Global, inodes: u32) -> Result<Shadow, NoMemory>
         requires { inodes ≤ 16384 }
@@ -67,7 +69,7 @@ impl Shadow {
     /// Gives an inode number of the table a row, or makes it a number that is not live.
     #[tactic(auto, using(crate::proofs::TableLemmas::rows_set))]
     pub fn set(&mut self, ino: u32, row: Option<Row>)
-        requires some { 0 < ino }
+        requires from_one { 0 < ino }
         requires within { ino < length self.old }
         ensures { self.new ≡ slice_set self.old ino (option_map as_row row) }
     {
@@ -115,10 +117,13 @@ impl Shadow {
     /// what is behind the last row differs.
     pub fn differs_at(&self, at: u32, page: &Page) -> Option<u32>
         requires { 128 * at + 1 < length self.now }
-        ensures same { IsNone result ↔ (page.now ≡ page_at at (padded_to_pages (shadow_bytes self.now))) }
+        ensures same { IsNone result
+            ↔ (page.now ≡ page_at at (padded_to_pages (shadow_bytes self.now))) }
         ensures row { IfSome result (λ ino. 0 < ino → RowDiffers self.now at page.now ino) }
-        ensures lowest { IfSome result (λ ino. (k : ℕ) → k < ino → RowDiffers self.now at page.now k → ⊥) }
-        ensures rest { IfSome result (λ ino. ino ≡ 0 → (k : ℕ) → RowDiffers self.now at page.now k → ⊥) }
+        ensures lowest { IfSome result (λ ino. (k : ℕ) → k < ino
+            → RowDiffers self.now at page.now k → ⊥) }
+        ensures rest { IfSome result (λ ino. ino ≡ 0 → (k : ℕ)
+            → RowDiffers self.now at page.now k → ⊥) }
     {
         let inodes = self.inodes();
         let Some(i) = self.first_difference(at, page.bytes()) else {
@@ -137,7 +142,8 @@ impl Shadow {
 
     fn write_row(&self, at: u32, i: u32, page: &mut [u8; PAGE_SIZE])
         requires { i < 128 }
-        ensures { page.new ≡ with_part (32 * i) (row_bytes (row_in self.now (128 * at + i + 1))) page.old }
+        ensures { page.new
+            ≡ with_part (32 * i) (row_bytes (row_in self.now (128 * at + i + 1))) page.old }
     {
         let mut bytes = [0; 32];
         Row::put(self.stored_row(at, i), &mut bytes);

@@ -1,6 +1,5 @@
-use Rattle.std.proofs.Common.{ℕ, List, sym, refl, ◌∙◌}
+use Rattle.std.proofs.Common.{refl, ◌∙◌}
 use Rattle.std.proofs.lemmas.Bool.{true≢false}
-use Rattle.trio_tables.specs.Stored.{HasOwner}
 use Rattle.trio_tables.proofs.StoredLemmas.{same_owners, owners_of_same}
 use Rattle.trio_tables.proofs.owners.Owners.differs_at.Goals as goal
 

@@ -1,6 +1,5 @@
-use Rattle.std.proofs.Common.{ℕ, List, sym, refl, ◌∙◌}
+use Rattle.std.proofs.Common.{refl, ◌∙◌}
 use Rattle.std.proofs.lemmas.Bool.{true≢false}
-use Rattle.trio_tables.specs.Stored.{HasRow}
 use Rattle.trio_tables.proofs.StoredLemmas.{same_rows, rows_of_same}
 use Rattle.trio_tables.proofs.shadow.Shadow.differs_at.Goals as goal
 

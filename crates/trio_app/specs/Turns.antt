@@ -1,0 +1,140 @@
+-- What the words `turns IMAGE SCRIPT OUT` do.
+use Rattle.std.specs.Prelude.{◌≡◌, ◌≢◌, ◌⊎◌, ℕ, ◌*◌, ◌≤◌, false, true, Option, Some, None, List, [], ◌∷◌, length, take, IfSome, IsTrue}
+use Rattle.trio_io.specs.Shelf.{Shelf, Rose, RisesAt, IsTold, IsLonger, KeepsOthers, told}
+use Rattle.trio_rights.specs.declared.rights.Creds.{Creds}
+use Rattle.trio_layout.specs.declared.superblock.Superblock.{Superblock}
+use Rattle.trio_layout.specs.Superblock.{IsSuperblock}
+use Rattle.trio_state.specs.Image.{Image}
+use Rattle.trio_state.specs.State.{State, settled}
+use Rattle.trio_state.specs.Run.{start, Run}
+use Rattle.trio_state.specs.Stored.{BytesVerify, StoresImage, core_in, image_in, pages_in, bytes_in}
+use Rattle.trio_script.specs.Script.{unbuilt_line}
+use Rattle.trio_app.specs.declared.status.Status.{Status}
+use Rattle.trio_app.specs.declared.status.Status.TheVariants.{Done, NotVerified, ReadFault, WriteFault, NoMemory, NotBuilt}
+use Rattle.trio_app.specs.Lines.{not_verified_line, read_fault_line, write_fault_line, not_built_image, not_built_script, not_built_line}
+use Rattle.trio_app.specs.Report.{report_text}
+use Rattle.trio_app.specs.Roots.{root_lists_directory}
+
+-- the one library's credentials
+abbrev pub libraries : List Creds
+libraries = record { uid = 0; gid = 0 } ∷ []
+
+-- the superblock and the length of an image file are right
+pub record HasLength (s : Superblock) (image : List ℕ) : Type 0 where
+  pub read : IsSuperblock (take 4096 image) s
+  pub whole : length image ≡ 4096 * s.pages
+
+-- Superblock and length are right, and the root lists a directory.
+pub record ListsDirectory (image : List ℕ) : Type 0 where
+  pub superblock : Superblock
+  pub lengths : HasLength superblock image
+  pub lists : IsTrue (root_lists_directory (core_in superblock (pages_in superblock.pages image)))
+
+-- The image can be run on: it verifies, and its root lists no directory.
+pub record IsBuilt (image : List ℕ) : Type 0 where
+  pub verifies : BytesVerify image
+  pub no_directory : ListsDirectory image → ⊥
+
+-- A run of the script on the image: from the image's state, with nothing out, by the script's events and their answers, of
+-- which there are none so far.
+abbrev pub RunsTo : List ℕ → List ℕ → Superblock → State → Type 0
+RunsTo image script s final = HasLength s image × Run (start (image_in s (pages_in s.pages image)) libraries) [] [] final
+
+-- all was done with the bytes of both files
+pub record TurnsDone (image script out : List ℕ) (old new : Shelf) (text : List ℕ) : Type 0 where
+  pub image_bytes : List ℕ
+  pub script_bytes : List ℕ
+  pub image_is : IsTold (old.held image) image_bytes
+  pub script_is : IsTold (old.held script) script_bytes
+  pub image_built : IsBuilt image_bytes
+  pub script_built : unbuilt_line script_bytes ≡ None
+  pub superblock : Superblock
+  pub final : State
+  pub run : RunsTo image_bytes script_bytes superblock final
+  pub put : text ≡ report_text (settled final)
+  -- the pages of the image that is settled at the end, and the file that has them
+  pub pages : List (Option (List ℕ))
+  pub stores : StoresImage superblock (settled final) pages
+  pub written : new.held out ≡ told old.tells (bytes_in pages)
+  pub written_verifies : BytesVerify (bytes_in pages)
+
+-- the image was read, and doesn't verify; it isn't one that is not built
+pub record TurnsNotVerified (image : List ℕ) (old : Shelf) (text : List ℕ) : Type 0 where
+  pub image_bytes : List ℕ
+  pub image_is : IsTold (old.held image) image_bytes
+  pub within : length image_bytes ≤ 33554432
+  pub no_directory : ListsDirectory image_bytes → ⊥
+  pub fails : BytesVerify image_bytes → ⊥
+  pub put : text ≡ not_verified_line
+
+-- the image was read and can be run on
+pub record ImageIsBuilt (image : List ℕ) (old : Shelf) : Type 0 where
+  pub image_bytes : List ℕ
+  pub image_is : IsTold (old.held image) image_bytes
+  pub within : length image_bytes ≤ 33554432
+  pub built : IsBuilt image_bytes
+
+-- a file that should be read failed: the image, or the script once the image was read and can be run on
+abbrev pub TurnsReadFault : List ℕ → List ℕ → Shelf → Shelf → List ℕ → Type 0
+TurnsReadFault image script old new text =
+    (Rose (old.read_faults image) (new.read_faults image) × (text ≡ read_fault_line image))
+    ⊎ (Rose (old.read_faults script) (new.read_faults script) × ImageIsBuilt image old × (text ≡ read_fault_line script))
+
+-- the image's root lists a directory
+pub record ReadsDirectory (image : List ℕ) (old : Shelf) : Type 0 where
+  pub image_bytes : List ℕ
+  pub image_is : IsTold (old.held image) image_bytes
+  pub within : length image_bytes ≤ 33554432
+  pub lists : ListsDirectory image_bytes
+
+-- a line of the script isn't built
+pub record ReadsLine (image script : List ℕ) (old : Shelf) (number : ℕ) : Type 0 where
+  pub image_built : ImageIsBuilt image old
+  pub script_bytes : List ℕ
+  pub script_is : IsTold (old.held script) script_bytes
+  pub within : length script_bytes ≤ 1048576
+  pub line : unbuilt_line script_bytes ≡ Some number
+
+-- What isn't built: an image over its limit or with a directory; then a script over its limit; then a line.
+abbrev pub TurnsNotBuilt : List ℕ → List ℕ → Shelf → List ℕ → Type 0
+TurnsNotBuilt image script old text =
+    ((text ≡ not_built_image) × (IsLonger 33554432 (old.held image) ⊎ ReadsDirectory image old))
+    ⊎ ((text ≡ not_built_script) × ImageIsBuilt image old × IsLonger 1048576 (old.held script))
+    ⊎ ((number : ℕ) × (text ≡ not_built_line number) × ReadsLine image script old number)
+
+-- all was done but for the write, which failed
+pub record TurnsWriteFault (image script out : List ℕ) (old new : Shelf) (text : List ℕ) : Type 0 where
+  pub image_built : ImageIsBuilt image old
+  pub script_bytes : List ℕ
+  pub script_is : IsTold (old.held script) script_bytes
+  pub script_built : unbuilt_line script_bytes ≡ None
+  pub rose : Rose (old.write_faults out) (new.write_faults out)
+  pub put : text ≡ write_fault_line out
+
+-- what it came to, by status, and the text that is then due
+abbrev pub TurnsComesTo : List ℕ → List ℕ → List ℕ → Shelf → Shelf → List ℕ → Status → Type 0
+TurnsComesTo image script out old new text Done = TurnsDone image script out old new text
+TurnsComesTo image script out old new text NotVerified = TurnsNotVerified image old text
+TurnsComesTo image script out old new text ReadFault = TurnsReadFault image script old new text
+TurnsComesTo image script out old new text WriteFault = TurnsWriteFault image script out old new text
+TurnsComesTo image script out old new text NoMemory = text ≡ []
+TurnsComesTo image script out old new text NotBuilt = TurnsNotBuilt image script old text
+
+-- only OUT may change, and that only where it was to be written
+abbrev pub TurnsKeeps : List ℕ → Shelf → Shelf → Status → Type 0
+TurnsKeeps out old new Done = KeepsOthers out old.held new.held
+TurnsKeeps out old new WriteFault = KeepsOthers out old.held new.held
+TurnsKeeps out old new _ = new.held ≡ old.held
+
+-- whose counts may rise
+pub record TurnsCounts (image script out : List ℕ) (old new : Shelf) : Type 0 where
+  pub reads_later : (q : List ℕ) → old.read_faults q ≤ new.read_faults q
+  pub reads_others : (q : List ℕ) → q ≢ image → q ≢ script → new.read_faults q ≡ old.read_faults q
+  pub writes : RisesAt out old.write_faults new.write_faults
+  pub serves : new.served ≡ old.served
+  pub tells : new.tells ≡ old.tells
+
+pub record Turns (image script out : List ℕ) (old new : Shelf) (text : List ℕ) (status : Status) : Type 0 where
+  pub comes_to : TurnsComesTo image script out old new text status
+  pub keeps : TurnsKeeps out old new status
+  pub counts : TurnsCounts image script out old new

@@ -1,0 +1,6 @@
+//! The program.
+#![tactic(auto)]
+
+mod status;
+
+pub use status::Status;

@@ -1,0 +1,6 @@
+use Rattle.trio_io.proofs.Moving.{Filled}
+use Rattle.trio_io.proofs.real.fill.Given as goal
+
+abbrev pub invariant-loop : goal.invariant-loop
+invariant-loop g l =
+    Filled (g.R.Read.remaining l.fn.from) (g.R.Read.remaining l.from) l.buf l.filled l.fn.faults l.faults

@@ -1,0 +1,4 @@
+pub mod Shelf
+pub mod Names
+pub mod Kept
+pub mod Plan

@@ -1,0 +1,136 @@
+//! Files and a sink in memory that never fail.
+
+ghost use Rattle.std.specs.Prelude.{◌≡◌, ◌↔◌, IsTrue, IfSome, IsSomeAnd, None, Some, [], false, vec_len, Contains, IfOk, List, ℕ};
+ghost use Rattle.trio_io.specs.Kept.{content_at};
+ghost use Rattle.trio_io.specs.Names.{place_of, texts_of};
+ghost use Rattle.trio_io.specs.Shelf.{NoFaults, KeepsOthers};
+
+use crate::content::{Content, copy_from};
+use crate::counts::{is_among, place};
+use crate::{Failed, Files, Sink};
+use std::alloc::{AllocError as NoMemory, Global};
+
+/// Files in memory that never fail. All their counts are 0 for ever.
+///
+/// They tell the contents that they are given, and tell the empty content for a name that is given
+/// none. What `replace` puts in place may not find memory and reads as empty then, so it isn't told.
+#[derive(Drop)]
+pub struct SureFiles {
+    alloc: Global,
+    names: Vec<String>,
+    contents: Vec<Content>,
+    ghost content_each: { vec_len contents ≡ vec_len names },
+}
+
+impl SureFiles {
+    /// Serves these names, each of which is empty.
+    pub fn new(alloc: Global, names: Vec<String>) -> Result<SureFiles, NoMemory>
+        ensures serves { IfOk result (λ files. (⟦<SureFiles as Files>⟧.seen files).served ≡ texts_of names.items) }
+        ensures tells { IfOk result (λ files. (⟦<SureFiles as Files>⟧.seen files).tells ≡ false) }
+        ensures empty { IfOk result (λ files. (q : List ℕ) → Contains (texts_of names.items) q → (⟦<SureFiles as Files>⟧.seen files).held q ≡ Some []) }
+        ensures faults { IfOk result (λ files. NoFaults (⟦<SureFiles as Files>⟧.seen files)) }
+    {
+        let mut contents = Vec::with_capacity(alloc, names.len())?;
+        for _ in 0..names.len() {
+            contents.push(Content::Told(Vec::new(alloc)))?;
+        }
+        Ok(SureFiles {
+            alloc,
+            names,
+            contents,
+        })
+    }
+
+    /// Whether this name may be asked for.
+    pub fn serves(&self, name: &str) -> bool
+        ensures { IsTrue result ↔ Contains (⟦<SureFiles as Files>⟧.seen self.now).served name.now }
+    {
+        is_among(&self.names, name)
+    }
+
+    /// Gives a name this content. A name that isn't served is passed over.
+    #[tactic(auto, using(crate::proofs::Places::others_put))]
+    pub fn hold(&mut self, name: &str, bytes: Vec<u8>)
+        ensures content { Contains (⟦<SureFiles as Files>⟧.seen self.old).served name.now → (⟦<SureFiles as Files>⟧.seen self.new).held name.now ≡ Some bytes.items }
+        ensures others { KeepsOthers name.now (⟦<SureFiles as Files>⟧.seen self.old).held (⟦<SureFiles as Files>⟧.seen self.new).held }
+        ensures reads { (⟦<SureFiles as Files>⟧.seen self.new).read_faults ≡ (⟦<SureFiles as Files>⟧.seen self.old).read_faults }
+        ensures writes { (⟦<SureFiles as Files>⟧.seen self.new).write_faults ≡ (⟦<SureFiles as Files>⟧.seen self.old).write_faults }
+        ensures tells { (⟦<SureFiles as Files>⟧.seen self.new).tells ≡ (⟦<SureFiles as Files>⟧.seen self.old).tells }
+        ensures serves { (⟦<SureFiles as Files>⟧.seen self.new).served ≡ (⟦<SureFiles as Files>⟧.seen self.old).served }
+    {
+        let i = place(&self.names, name);
+        if i < self.contents.len() {
+            self.contents[i] = Content::Told(bytes);
+        }
+    }
+
+    /// What stands under a name, told or not. `None` where nothing does.
+    pub fn content(&self, name: &str) -> Option<&[u8]>
+        ensures { IfSome ((⟦<SureFiles as Files>⟧.seen self.now).held name.now) (λ bs. IsSomeAnd result (λ bytes. bytes.now ≡ bs)) }
+    {
+        let i = place(&self.names, name);
+        self.contents.get(i)?.bytes()
+    }
+}
+
+impl Files for SureFiles {
+    ghost seen = { λ s. record {
+      served = texts_of s.names.items;
+      tells = false;
+      held = λ q. content_at s.contents.items (place_of s.names.items q);
+      read_faults = λ _. 0;
+      write_faults = λ _. 0;
+    } };
+
+    fn read_at(&mut self, name: &str, at: u64, buf: &mut [u8]) -> Result<usize, Failed> {
+        let i = place(&self.names, name);
+        match self.contents[i].bytes() {
+            Some(bytes) => Ok(copy_from(bytes, at, buf)),
+            None => Ok(0),
+        }
+    }
+
+    #[tactic(auto, using(crate::proofs::Places::others_put))]
+    fn replace(&mut self, name: &str, bytes: &[u8]) -> Result<(), Failed> {
+        let i = place(&self.names, name);
+        self.contents[i] = match bytes.to_vec(self.alloc) {
+            Ok(copy) => Content::Untold(copy),
+            Err(_) => Content::Absent,
+        };
+        Ok(())
+    }
+}
+
+/// A sink that never fails. Its count of faults is 0 for ever.
+///
+/// It keeps the bytes for which there is memory, and passes over the others, so it tells nothing.
+#[derive(Drop)]
+pub struct SureSink {
+    bytes: Vec<u8>,
+}
+
+impl SureSink {
+    /// An empty sink. It takes no memory.
+    pub fn new(alloc: Global) -> SureSink
+        ensures written { (⟦<SureSink as Sink>⟧.seen result).written ≡ None }
+        ensures faults { (⟦<SureSink as Sink>⟧.seen result).faults ≡ 0 }
+    {
+        SureSink {
+            bytes: Vec::new(alloc),
+        }
+    }
+
+    /// The bytes that it kept.
+    pub fn bytes(&self) -> &[u8] {
+        &self.bytes
+    }
+}
+
+impl Sink for SureSink {
+    ghost seen = { λ s. record { written = None; faults = 0 } };
+
+    fn put(&mut self, bytes: &[u8]) -> Result<(), Failed> {
+        let _ = self.bytes.extend_from_slice(bytes);
+        Ok(())
+    }
+}
