@@ -1,0 +1,226 @@
+//! Bundles.
+
+ghost use Rattle.std.specs.Prelude.{◌≡◌, ◌++◌, ◌∷◌, ◌<◌, ◌≤◌, [], OnOk, IfErr, OnErr, IsOk, length};
+ghost use Rattle.trio_lease.specs.Bundles.{HasRoom, NoRoomLost, bundled};
+
+use crate::fresh::{FreshIno, FreshPage, discard_inodes, discard_pages};
+use crate::hold::{HoldLease, discard_holds};
+use crate::write::{WriteLease, discard_writes};
+use std::alloc::Global;
+use std::marker::Model;
+use trio_page::NoMemory;
+
+/// What a [`Bundle`] is made of.
+pub struct BundleParts {
+    pub writes: Vec<WriteLease>,
+    pub holds: Vec<HoldLease>,
+    pub pages: Vec<FreshPage>,
+    pub inodes: Vec<FreshIno>,
+}
+
+/// What one release hands in: write leases, holds, and pages and inode numbers that were allotted,
+/// each in the order in which they were added.
+///
+/// Contracts see the four lists and, as `room`, how many of each the bundle has places for
+/// (`Bundled`).
+pub struct Bundle {
+    writes: Vec<WriteLease>,
+    holds: Vec<HoldLease>,
+    pages: Vec<FreshPage>,
+    inodes: Vec<FreshIno>,
+}
+
+impl Model for Bundle {
+    ghost use Rattle.std.specs.Prelude.{vec_capacity};
+    ghost use Rattle.trio_lease.specs.Bundles.{Bundled};
+
+    ghost Value = { Bundled };
+
+    ghost view = { λ b. record { writes = b.writes.items; holds = b.holds.items; pages = b.pages.items; inodes = b.inodes.items; room = record { writes = vec_capacity b.writes; holds = vec_capacity b.holds; pages = vec_capacity b.pages; inodes = vec_capacity b.inodes } } };
+}
+
+impl Bundle {
+    /// The empty bundle. It takes no memory.
+    pub fn new(alloc: Global) -> Bundle
+        ensures { result ≡ record { writes = []; holds = []; pages = []; inodes = []; room = record { writes = 0; holds = 0; pages = 0; inodes = 0 } } }
+    {
+        Bundle {
+            writes: Vec::new(alloc),
+            holds: Vec::new(alloc),
+            pages: Vec::new(alloc),
+            inodes: Vec::new(alloc),
+        }
+    }
+
+    /// The bundle that has these parts.
+    pub fn of(parts: BundleParts) -> Bundle
+        ensures { result ≡ bundled parts }
+    {
+        let BundleParts {
+            writes,
+            holds,
+            pages,
+            inodes,
+        } = parts;
+        Bundle {
+            writes,
+            holds,
+            pages,
+            inodes,
+        }
+    }
+
+    /// What the bundle is made of.
+    pub fn parts(self) -> BundleParts
+        ensures { bundled result ≡ self }
+    {
+        let Bundle {
+            writes,
+            holds,
+            pages,
+            inodes,
+        } = self;
+        BundleParts {
+            writes,
+            holds,
+            pages,
+            inodes,
+        }
+    }
+
+    /// Lets all of it go. Its grants and allotments stay out for good, so that others find the
+    /// files busy, and the pages and inode numbers not free.
+    pub fn discard(self) {
+        let Bundle {
+            writes,
+            holds,
+            pages,
+            inodes,
+        } = self;
+        discard_writes(writes);
+        discard_holds(holds);
+        discard_pages(pages);
+        discard_inodes(inodes);
+    }
+
+    /// Makes room for so many more write leases, holds, pages and inode numbers: after `Ok` so many
+    /// calls of [`add_write`](Self::add_write), [`add_hold`](Self::add_hold),
+    /// [`add_page`](Self::add_page) and [`add_ino`](Self::add_ino) answer `Ok` and take no memory.
+    /// Where there is room for them already, the answer is `Ok`.
+    ///
+    /// After [`NoMemory`] the bundle has what it had, and no less room.
+    pub fn reserve(
+        &mut self,
+        writes: u32,
+        holds: u32,
+        pages: u32,
+        inodes: u32,
+    ) -> Result<(), NoMemory>
+        ensures kept { self.new ≡ record self.old { room = self.new.room } }
+        ensures room { OnOk result (HasRoom self.new writes holds pages inodes) }
+        ensures grows { NoRoomLost self.old.room self.new.room }
+        ensures succeeds { HasRoom self.old writes holds pages inodes → IsOk result }
+    {
+        self.writes.reserve(writes as usize)?;
+        self.holds.reserve(holds as usize)?;
+        self.pages.reserve(pages as usize)?;
+        self.inodes.reserve(inodes as usize)?;
+        Ok(())
+    }
+
+    /// Adds a write lease as the last one. Where the bundle has room for it
+    /// ([`reserve`](Self::reserve)), the answer is `Ok`.
+    ///
+    /// With [`NoMemory`] the lease comes back, and the bundle has what it had.
+    pub fn add_write(&mut self, lease: WriteLease) -> Result<(), (WriteLease, NoMemory)>
+        ensures added { OnOk result (self.new ≡ record self.old { writes = self.old.writes ++ lease ∷ []; room = record self.old.room { writes = self.new.room.writes } }) }
+        ensures kept { OnErr result (self.new ≡ record self.old { room = record self.old.room { writes = self.new.room.writes } }) }
+        ensures back { IfErr result (λ e. e.0 ≡ lease) }
+        ensures grows { self.old.room.writes ≤ self.new.room.writes }
+        ensures succeeds { length self.old.writes < self.old.room.writes → IsOk result }
+    {
+        match self.writes.push(lease) {
+            Ok(()) => Ok(()),
+            Err(failed) => Err((failed.value, NoMemory)),
+        }
+    }
+
+    /// Adds a hold as the last one. Where the bundle has room for it
+    /// ([`reserve`](Self::reserve)), the answer is `Ok`.
+    ///
+    /// With [`NoMemory`] the hold comes back, and the bundle has what it had.
+    pub fn add_hold(&mut self, lease: HoldLease) -> Result<(), (HoldLease, NoMemory)>
+        ensures added { OnOk result (self.new ≡ record self.old { holds = self.old.holds ++ lease ∷ []; room = record self.old.room { holds = self.new.room.holds } }) }
+        ensures kept { OnErr result (self.new ≡ record self.old { room = record self.old.room { holds = self.new.room.holds } }) }
+        ensures back { IfErr result (λ e. e.0 ≡ lease) }
+        ensures grows { self.old.room.holds ≤ self.new.room.holds }
+        ensures succeeds { length self.old.holds < self.old.room.holds → IsOk result }
+    {
+        match self.holds.push(lease) {
+            Ok(()) => Ok(()),
+            Err(failed) => Err((failed.value, NoMemory)),
+        }
+    }
+
+    /// Adds an allotted page as the last one. Where the bundle has room for it
+    /// ([`reserve`](Self::reserve)), the answer is `Ok`.
+    ///
+    /// With [`NoMemory`] the page comes back, and the bundle has what it had.
+    pub fn add_page(&mut self, page: FreshPage) -> Result<(), (FreshPage, NoMemory)>
+        ensures added { OnOk result (self.new ≡ record self.old { pages = self.old.pages ++ page ∷ []; room = record self.old.room { pages = self.new.room.pages } }) }
+        ensures kept { OnErr result (self.new ≡ record self.old { room = record self.old.room { pages = self.new.room.pages } }) }
+        ensures back { IfErr result (λ e. e.0 ≡ page) }
+        ensures grows { self.old.room.pages ≤ self.new.room.pages }
+        ensures succeeds { length self.old.pages < self.old.room.pages → IsOk result }
+    {
+        match self.pages.push(page) {
+            Ok(()) => Ok(()),
+            Err(failed) => Err((failed.value, NoMemory)),
+        }
+    }
+
+    /// Adds an allotted inode number as the last one. Where the bundle has room for it
+    /// ([`reserve`](Self::reserve)), the answer is `Ok`.
+    ///
+    /// With [`NoMemory`] the inode number comes back, and the bundle has what it had.
+    pub fn add_ino(&mut self, ino: FreshIno) -> Result<(), (FreshIno, NoMemory)>
+        ensures added { OnOk result (self.new ≡ record self.old { inodes = self.old.inodes ++ ino ∷ []; room = record self.old.room { inodes = self.new.room.inodes } }) }
+        ensures kept { OnErr result (self.new ≡ record self.old { room = record self.old.room { inodes = self.new.room.inodes } }) }
+        ensures back { IfErr result (λ e. e.0 ≡ ino) }
+        ensures grows { self.old.room.inodes ≤ self.new.room.inodes }
+        ensures succeeds { length self.old.inodes < self.old.room.inodes → IsOk result }
+    {
+        match self.inodes.push(ino) {
+            Ok(()) => Ok(()),
+            Err(failed) => Err((failed.value, NoMemory)),
+        }
+    }
+
+    /// The write leases, in the order in which they were added.
+    pub fn writes(&self) -> &[WriteLease]
+        ensures { result.now ≡ self.now.writes }
+    {
+        &self.writes
+    }
+
+    /// The holds, in the order in which they were added.
+    pub fn holds(&self) -> &[HoldLease]
+        ensures { result.now ≡ self.now.holds }
+    {
+        &self.holds
+    }
+
+    /// The allotted pages, in the order in which they were added.
+    pub fn pages(&self) -> &[FreshPage]
+        ensures { result.now ≡ self.now.pages }
+    {
+        &self.pages
+    }
+
+    /// The allotted inode numbers, in the order in which they were added.
+    pub fn inodes(&self) -> &[FreshIno]
+        ensures { result.now ≡ self.now.inodes }
+    {
+        &self.inodes
+    }
+}
