@@ -60,9 +60,10 @@ pub struct FileParts {
 /// Reads a file that is met, in an image with these core pages and so many inode numbers.
 /// Blocks of a regular file aren't looked at.
 ///
-/// Where the file leaves the grammar or a page is absent, the answer is the first such place: neither
-/// page nor slot for its body; an index page, or a directory page that is absent, as a whole; a bad
-/// slot; and of entries whose names are the same the first that has the name of one before it.
+/// Where the file leaves the grammar or a page is absent, the answer is the first such place, in this
+/// order: neither page nor slot for its body; an index page as a whole; a directory page that is
+/// absent as a whole, or a bad slot; and of entries with the same name the first one that has the name
+/// of one before it. What lies behind a fault isn't looked at.
 ///
 /// After [`NoMemory`] the pages are as they were, as they are after any answer.
 #[tactic(auto, unfolding(trio_layout::specs::Survey::file_of))]

@@ -10,3 +10,5 @@ mod entries;
 pub mod file;
 mod home;
 mod names;
+#[cfg(test)]
+mod tests;

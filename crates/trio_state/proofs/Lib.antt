@@ -1,0 +1,2 @@
+mod WorkedImages
+mod WorkedBundles
