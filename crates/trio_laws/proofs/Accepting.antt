@@ -1,0 +1,204 @@
+-- The end of an accepted bundle keeps what holds of a state.
+use Rattle.std.proofs.Common.{◌≡◌, ℕ, true, false, ◌&&◌, eqb, List, ◌++◌, Option, Some, None, slice_get, sym, refl, ap, ◌∙◌, subst, inl, inr, ◌⊎◌}
+use Rattle.std.specs.Prelude.{map, is_some, slice_index}
+use Rattle.std.specs.List.{flat_map}
+use Rattle.std.specs.Option.{option_map}
+use Rattle.std.proofs.lemmas.Bool.{and_parts, eqb-true, cases_Bool}
+use Rattle.std.proofs.lemmas.List.{map-append}
+use Rattle.trio_rights.specs.Row.{Row}
+use Rattle.trio_rights.specs.declared.rights.Creds.{Creds}
+use Rattle.trio_nodes.specs.declared.grant.GrantKind.TheVariants.{Write, Hold}
+use Rattle.trio_layout.specs.Chain.{Chain}
+use Rattle.trio_layout.specs.Core.{Core}
+use Rattle.trio_layout.specs.Lists.{is_among, In}
+use Rattle.trio_layout.specs.Range.{is_core}
+use Rattle.trio_layout.specs.Sound.{is_sound}
+use Rattle.trio_layout.specs.Survey.{Met, Pick, plain, survey, row_by, row_of}
+use Rattle.trio_state.specs.Accept.{is_accepted, next}
+use Rattle.trio_state.specs.Bundles.{is_in_bundle, Ends}
+use Rattle.trio_state.specs.Given.{GivenTo}
+use Rattle.trio_state.specs.Grants.{has_parent_grant}
+use Rattle.trio_state.specs.Image.{IsFit, Image, settled_body, row_at}
+use Rattle.trio_state.specs.Kept.{Kept, LentIsListed, HoldStands}
+use Rattle.trio_state.specs.Proposed.{Written, Bundle, bundle_sheets, bundle_pages, proposed, proposed_pick}
+use Rattle.trio_state.specs.Sheets.{Sheet, sheet_numbers}
+use Rattle.trio_state.specs.State.{OpenGrant, Out, State, settled, is_write}
+use Rattle.trio_state.specs.Verifies.{Verifies}
+use Rattle.trio_laws.specs.Reading.{with_picked_bodies, picked_entry}
+use Rattle.trio_laws.proofs.Accepted.{accepted_verifies, fit_put}
+use Rattle.trio_laws.proofs.Bundles.{Closed, outside_unheld, kept_chain}
+use Rattle.trio_laws.proofs.Ended.{grant_before, apart_then, checkpoints_then, write_in_bundle, parent_then, outs_then, numbers_then, out_once_then, numbers_once_then, absent_then}
+use Rattle.trio_laws.proofs.Images.{some_of, row_at_is, row_met, settled_body_met, unlisted_free, free_is_low}
+use Rattle.trio_laws.proofs.Members.{In-left, In-right, In-flat, In-map, map_from, In-among}
+use Rattle.trio_laws.proofs.Picked.{all_listed, bodies_are, listed_no_root, file_put, survey_put}
+use Rattle.trio_laws.proofs.Putting.{put_on, with_bodies-get}
+use Rattle.trio_laws.proofs.Sheets.{with_pages_absent}
+use Rattle.trio_laws.proofs.StateFacts.{any_at, write_is, tables}
+use Rattle.trio_laws.proofs.Survivors.{Stays, fit_now, sound_now, stays, survivor_unwritten, out_unlisted, number_free}
+
+absent_map : (f : List ℕ → List ℕ) (o : Option (Option (List ℕ))) → option_map (option_map f) o ≡ Some None → o ≡ Some None
+absent_map f None e = absurd cc
+absent_map f (Some None) e = refl
+absent_map f (Some (Some b)) e = absurd cc
+
+-- the pages of a written file are pages of the bundle
+pub handed_in : (b : Bundle) (w : Written) (p : ℕ) → In w b.writes → In p (sheet_numbers (w.index ++ w.blocks)) → In p (bundle_pages b)
+handed_in b w p i a =
+    let r = map_from (λ (x : Sheet). x.page) p (w.index ++ w.blocks) a in
+    let j : In r.0 (bundle_sheets b) = In-left r.0 (flat_map (λ (w : Written). w.index ++ w.blocks) b.writes) b.pages (In-flat (λ (w : Written). w.index ++ w.blocks) w r.0 b.writes i r.1) in
+    subst (λ n. In n (bundle_pages b)) (sym r.2) (In-map (λ (x : Sheet). x.page) r.0 (bundle_sheets b) j)
+
+pub allotted_in : (b : Bundle) (p : ℕ) → In p (sheet_numbers b.pages) → In p (bundle_pages b)
+allotted_in b p a =
+    let r = map_from (λ (x : Sheet). x.page) p b.pages a in
+    let j : In r.0 (bundle_sheets b) = In-right r.0 (flat_map (λ (w : Written). w.index ++ w.blocks) b.writes) b.pages r.1 in
+    subst (λ n. In n (bundle_pages b)) (sym r.2) (In-map (λ (x : Sheet). x.page) r.0 (bundle_sheets b) j)
+
+module _ (s s' : State) (k : Kept s) (lib : ℕ) (creds : Creds) (b : Bundle) (given : GivenTo s lib b) (closed : Closed s lib b) (accepted : is_accepted (settled s) creds b ≡ true) (e : Ends s lib b (next (settled s) b) s') where
+  abbrev core : Core
+  core = proposed (settled s) b
+
+  abbrev pick : Pick
+  pick = proposed_pick (settled s) b
+
+  abbrev after : Image
+  after = next (settled s) b
+
+  fit : IsFit core
+  fit = fit_now s k lib creds b given accepted
+
+  sound : is_sound core pick ≡ true
+  sound = sound_now s k lib creds b given accepted
+
+  verifies' : Verifies after
+  verifies' = accepted_verifies (settled s) creds b fit accepted
+
+  fit' : IsFit (with_picked_bodies core pick)
+  fit' = fit_put core pick fit sound
+
+  rows_after : (n : ℕ) → row_at after n ≡ row_of core (survey core pick) n
+  rows_after n = row_at_is core pick fit sound after (record { rows = refl; owners = refl }) n
+
+  pub rows_home : (n : ℕ) → row_at s'.home n ≡ row_of core (survey core pick) n
+  rows_home n = ap (λ (i : Image). row_at i n) e.settles ∙ rows_after n
+
+  body_after : (m : Met) → In m (survey core pick) → settled_body after m.ino ≡ m.body
+  body_after m i =
+      settled_body_met after m fit' verifies'.sound (record { rows = verifies'.rows; owners = verifies'.owners })
+      (subst (λ l. In m l) (sym (survey_put core pick fit sound)) i)
+
+  -- the file of a grant that stays
+  pub stays_then : (h : OpenGrant) (i : In h s.open_grants) → is_in_bundle lib b h ≡ false → (r : Row) → row_at s.home h.ino ≡ Some r → Stays (settled s) core pick h.ino r
+  stays_then h i out r row =
+      stays s k lib creds b given accepted h.ino r row (outside_unheld s k lib b given h i out) (survivor_unwritten s k lib creds b given accepted h i out)
+
+  pub row_then : (n : ℕ) (r : Row) (st : Stays (settled s) core pick n r) → row_at s'.home n ≡ Some (row_by st.met st.file.body)
+  row_then n r st =
+      ap (row_at s'.home) (sym st.number) ∙ rows_home st.met.ino ∙ row_met core pick fit sound st.met st.file st.stands st.read
+
+  live_then : (g : OpenGrant) → In g s'.open_grants → is_some (row_at s'.home g.ino) ≡ true
+  live_then g i =
+      let h = grant_before s s' k lib b given after e g i in
+      let r = some_of (row_at s.home h.0.ino) (k.live h.0 h.1) in
+      let st = stays_then h.0 h.1 h.2 r.0 r.1 in
+      ap (λ (x : OpenGrant). is_some (row_at s'.home x.ino)) h.3 ∙ ap is_some (row_then h.0.ino r.0 st)
+
+  held_then : (g : OpenGrant) → In g s'.open_grants → g.kind ≡ Hold → HoldStands s' g
+  held_then g i kind =
+      let x = grant_before s s' k lib b given after e g i in
+      let h : OpenGrant = x.0 in
+      let hk : h.kind ≡ Hold = ap (λ (y : OpenGrant). y.kind) (sym x.3) ∙ kind in
+      let r = some_of (row_at s.home h.ino) (k.live h x.1) in
+      let st = stays_then h x.1 x.2 r.0 r.1 in
+      let was = k.held h x.1 hk in
+      let has : has_parent_grant s h.lib (Some r.0) ≡ true = ap (has_parent_grant s h.lib) (sym r.1) ∙ was.0 in
+      let q : Row = row_by st.met st.file.body in
+      let p = parent_then s s' k lib b given after e closed h g r.0 q x.1 hk x.2 r.1 (outside_unheld s k lib b given h x.1 x.2) x.3 (ap (λ (x : Row). x.parent) st.row) has in
+      let row : row_at s'.home g.ino ≡ Some q = ap (λ (y : OpenGrant). row_at s'.home y.ino) x.3 ∙ row_then h.ino r.0 st in (
+        ap (has_parent_grant s' g.lib) row ∙ p,
+        ap (λ (y : OpenGrant). y.body) x.3 ∙ was.1 ∙ sym st.body ∙ sym (body_after st.met st.stands) ∙ ap (settled_body after) st.number ∙ ap (λ (y : OpenGrant). settled_body after y.ino) (sym x.3) ∙ ap (λ (i : Image). settled_body i g.ino) (sym e.settles),
+      )
+
+  lent_listed : (g : OpenGrant) → In g s'.open_grants → g.kind ≡ Write → LentIsListed after g
+  lent_listed g i kind =
+      let x = grant_before s s' k lib b given after e g i in
+      let h : OpenGrant = x.0 in
+      let hk : h.kind ≡ Write = ap (λ (y : OpenGrant). y.kind) (sym x.3) ∙ kind in
+      let l = k.lent h x.1 hk in
+      let r : Row = row_by l.met l.file.body in
+      let row0 : row_at s.home l.met.ino ≡ Some r = row_at_is (settled s).core plain k.fit k.verifies.sound (settled s) (tables s k) l.met.ino ∙ row_met (settled s).core plain k.fit k.verifies.sound l.met l.file l.stands l.read in
+      let row : row_at s.home h.ino ≡ Some r = ap (row_at s.home) (sym l.number) ∙ row0 in
+      let st = stays_then h x.1 x.2 r row in
+      let un = survivor_unwritten s k lib creds b given accepted h x.1 x.2 in
+      let body : st.met.body ≡ l.met.body = st.body ∙ ap (settled_body (settled s)) (sym l.number) ∙ settled_body_met (settled s) l.met k.fit k.verifies.sound (tables s k) l.stands in
+      let chain : st.file.chain ≡ l.file.chain = kept_chain s k lib b given st.met l.met st.file l.file l.stands l.read st.read (λ w j same. un w j (same ∙ l.number)) (ap (λ (x : Row). x.kind) (sym st.row)) body in
+      record {
+        met = st.met;
+        file = record { body = st.file.body; chain = st.file.chain; entries = map (picked_entry pick st.met.ino) st.file.entries };
+        stands = subst (λ ms. In st.met ms) (sym (survey_put core pick fit sound)) st.stands;
+        read = file_put core pick fit sound st.met st.file st.stands st.read;
+        number = st.number ∙ ap (λ (y : OpenGrant). y.ino) (sym x.3);
+        of = ap (λ (x : Row). x.kind) (sym st.row) ∙ l.of ∙ ap (λ (y : OpenGrant). y.of) (sym x.3);
+        index = ap (λ (y : OpenGrant). sheet_numbers y.index) x.3 ∙ l.index ∙ ap (λ (c : Chain). c.index) (sym chain);
+        blocks = ap (λ (y : OpenGrant). sheet_numbers y.blocks) x.3 ∙ l.blocks ∙ ap (λ (c : Chain). c.blocks) (sym chain);
+      }
+
+  -- a page that is absent from what is settled then was lent or is out
+  absent_after : (p : ℕ) → is_core (settled s).core.range p ≡ true → slice_get after.core.pages p ≡ Some None → ((g : OpenGrant) × In g s.open_grants × (is_in_bundle lib b g ≡ false) × (g.kind ≡ Write) × In p (sheet_numbers (g.index ++ g.blocks))) ⊎ ((o : Out) × In o s.pages_out × (o.number ≡ p) × (In p (sheet_numbers b.pages) → ⊥))
+  absent_after p c gone =
+      let a : slice_get core.pages p ≡ Some None =
+      absent_map (put_on p (all_listed core pick)) (slice_get core.pages p)
+      (sym (with_bodies-get p (all_listed core pick) core.pages (listed_no_root core pick fit sound)) ∙ ap (λ ps. slice_get ps p) (sym (bodies_are core pick fit sound)) ∙ gone) in
+      let w = with_pages_absent (bundle_sheets b) (settled s).core.pages p a in
+      let v = with_pages_absent (flat_map (λ g. g.checkpoint) s.open_grants) s.home.core.pages p w.1 in
+      elim (k.absent p v.1 c) [
+        | inl lent ↦
+            let q = any_at (λ g. is_write g.kind && is_among p (sheet_numbers (g.index ++ g.blocks))) s.open_grants lent in
+            let parts = and_parts (is_write q.0.kind) (is_among p (sheet_numbers (q.0.index ++ q.0.blocks))) q.2 in
+            let kind : q.0.kind ≡ Write = write_is q.0.kind parts.0 in
+            let pages = In-among p (sheet_numbers (q.0.index ++ q.0.blocks)) parts.1 in
+            elim (cases_Bool (is_in_bundle lib b q.0)) [
+              | inr out ↦ inl (q.0, q.1, out, kind, pages)
+              | inl in' ↦
+                  let x = write_in_bundle s s' k lib b given after e q.0 q.1 kind in' in
+                  let y = given.writes x.0 x.1 in
+                  let same : sheet_numbers (q.0.index ++ q.0.blocks) ≡ sheet_numbers (x.0.index ++ x.0.blocks) =
+                  ap (λ (z : OpenGrant). sheet_numbers (z.index ++ z.blocks)) (sym x.2) ∙ map-append (λ (z : Sheet). z.page) y.grant.index y.grant.blocks ∙ ap (λ l. l ++ sheet_numbers y.grant.blocks) (sym y.index) ∙ ap (λ l. sheet_numbers x.0.index ++ l) (sym y.blocks) ∙ sym (map-append (λ (z : Sheet). z.page) x.0.index x.0.blocks) in
+                  absurd (w.0 (handed_in b x.0 p x.1 (subst (λ l. In p l) same pages)))
+            ]
+        | inr out ↦
+            let q = any_at (λ (o : Out). eqb o.number p) s.pages_out out in
+            inr (q.0, q.1, eqb-true q.0.number p q.2, λ j. w.0 (allotted_in b p j))
+      ]
+
+  free_then : (o : Out) → In o s'.pages_out → slice_index s'.home.owners o.number ≡ 0
+  free_then o i =
+      let was = outs_then s s' k lib b given after e o i in
+      let z = k.out_free o was.0 in
+      ap (λ (i : Image). slice_index i.owners o.number) e.settles
+      ∙ unlisted_free core pick fit sound after (record { rows = refl; owners = refl }) o.number
+      (free_is_low (settled s).core plain k.fit k.verifies.sound (settled s) (tables s k) o.number z)
+      (out_unlisted s k lib creds b given accepted o.number z was.1)
+
+  numbers_free_then : (o : Out) → In o s'.numbers_out → row_at s'.home o.number ≡ None
+  numbers_free_then o i =
+      let was = numbers_then s s' k lib b given after e o i in
+      rows_home o.number ∙ number_free s k lib creds b given accepted o.number (k.numbers_free o was.0) was.1
+
+  pub accepted_kept : Kept s'
+  accepted_kept = record {
+    fit = (let P : Image → Type 0 = λ i. IsFit i.core in subst P (sym e.settles) fit');
+    verifies = (let P : Image → Type 0 = λ i. Verifies i in subst P (sym e.settles) verifies');
+    live = live_then;
+    apart = apart_then s s' k lib b given after e;
+    held = held_then;
+    lent = λ g i w. (let P : Image → Type 0 = λ x. LentIsListed x g in subst P (sym e.settles) (lent_listed g i w));
+    checkpoints = checkpoints_then s s' k lib b given after e;
+    absent = λ p gone c.
+        let c' : is_core (settled s).core.range p ≡ true = ap (λ (i : Image). is_core i.core.range p) (sym e.settles) ∙ c in
+        absent_then s s' k lib b given after e p gone (absent_after p c');
+    out_once = out_once_then s s' k lib b given after e;
+    out_free = free_then;
+    numbers_once = numbers_once_then s s' k lib b given after e;
+    numbers_free = numbers_free_then;
+  }

@@ -1,0 +1,47 @@
+-- An image with other pages, of which all that are read are the same, has the same files, bodies and lent pages.
+use Rattle.std.proofs.Common.{◌≡◌, ℕ, Some, sym, ap, ◌∙◌, subst}
+use Rattle.trio_rights.specs.Row.{Row}
+use Rattle.trio_layout.specs.Lists.{In}
+use Rattle.trio_layout.specs.Survey.{Met, plain, survey}
+use Rattle.trio_state.specs.Image.{IsFit, Image, row_at, settled_body}
+use Rattle.trio_state.specs.Kept.{LentIsListed}
+use Rattle.trio_state.specs.State.{OpenGrant}
+use Rattle.trio_state.specs.Verifies.{Verifies}
+use Rattle.trio_laws.proofs.Accepted.{agreeing_verifies}
+use Rattle.trio_laws.proofs.Images.{TablesOf, row_at_is, met_row, settled_body_met}
+use Rattle.trio_laws.proofs.Local.{file_agrees, survey_local}
+use Rattle.trio_laws.proofs.Owned.{sound_parts}
+use Rattle.trio_laws.proofs.Sheets.{Pages}
+use Rattle.trio_laws.specs.Reading.{with_other, AgreeOn}
+
+abbrev pub image_with : Image → Pages → Image
+image_with image pages = record { core = with_other image.core pages; rows = image.rows; owners = image.owners }
+
+module _ (image : Image) (pages : Pages) (fit : IsFit image.core) (fit' : IsFit (with_other image.core pages)) (v : Verifies image) (agree : AgreeOn image.core (with_other image.core pages) (survey image.core plain)) where
+  pub verifies_still : Verifies (image_with image pages)
+  verifies_still = agreeing_verifies image pages v agree
+
+  pub met_still : (m : Met) → In m (survey image.core plain) → In m (survey (with_other image.core pages) plain)
+  met_still m i = subst (λ l. In m l) (sym (survey_local image.core pages plain (sound_parts image.core plain v.sound).grammar agree)) i
+
+  pub lent_still : (g : OpenGrant) → LentIsListed image g → LentIsListed (image_with image pages) g
+  lent_still g l = record {
+    met = l.met;
+    file = l.file;
+    stands = met_still l.met l.stands;
+    read = file_agrees image.core pages (survey image.core plain) (sound_parts image.core plain v.sound).grammar agree l.met l.stands ∙ l.read;
+    number = l.number;
+    of = l.of;
+    index = l.index;
+    blocks = l.blocks;
+  }
+
+  pub body_still : (n : ℕ) (r : Row) → row_at image n ≡ Some r → settled_body (image_with image pages) n ≡ settled_body image n
+  body_still n r e =
+      let t : TablesOf image image.core plain = record { rows = v.rows; owners = v.owners } in
+      let v' = verifies_still in
+      let t' : TablesOf (image_with image pages) (with_other image.core pages) plain = record { rows = v'.rows; owners = v'.owners } in
+      let k = met_row image.core plain fit v.sound n r (sym (row_at_is image.core plain fit v.sound image t n) ∙ e) in
+      let now = settled_body_met (image_with image pages) k.met fit' v'.sound t' (met_still k.met k.stands) in
+      let was = settled_body_met image k.met fit v.sound t k.stands in
+      ap (settled_body (image_with image pages)) (sym k.number) ∙ now ∙ sym was ∙ ap (settled_body image) k.number

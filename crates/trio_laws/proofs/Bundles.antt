@@ -1,0 +1,289 @@
+-- What a bundle that was given to its library can touch.
+use Rattle.std.proofs.Common.{◌≡◌, ℕ, suc, zero, ◌<◌, ◌≤◌, Bool, true, false, cond, ◌&&◌, ◌||◌, not, eqb, List, [], ◌∷◌, ◌++◌, Option, Some, None, Result, Ok, Err, sym, refl, ap, ◌∙◌, subst, inl, inr, ◌⊎◌, arith}
+use Rattle.std.specs.Prelude.{map, is_some, slice_index}
+use Rattle.std.specs.List.{flat_map, find, filter, list_all}
+use Rattle.std.specs.Option.{option_map_or}
+use Rattle.std.proofs.lemmas.List.{map-append}
+use Rattle.std.proofs.lemmas.Bool.{and_parts, and_from, or_cases, or_right, eqb-true, eq-eqb, false≢true, not-true, both_ways, false_from_ne_true, cases_lt, cases_Bool}
+use Rattle.trio_rights.specs.Row.{Row}
+use Rattle.trio_rights.specs.declared.kind.Kind.{Kind}
+use Rattle.trio_rights.specs.declared.kind.Kind.TheVariants.{Regular, Directory}
+use Rattle.trio_nodes.specs.declared.grant.GrantKind.{GrantKind}
+use Rattle.trio_nodes.specs.declared.grant.GrantKind.TheVariants.{Read, Write, Hold}
+use Rattle.trio_layout.specs.Body.{body_of, block_count}
+use Rattle.trio_layout.specs.Chain.{index_count, chain_of}
+use Rattle.trio_layout.specs.Core.{Core, page_of}
+use Rattle.trio_layout.specs.Entries.{Listed}
+use Rattle.trio_layout.specs.Lists.{In, is_among}
+use Rattle.trio_layout.specs.Sound.{is_sound}
+use Rattle.trio_layout.specs.Survey.{Met, Pick, plain, FileRead, file_of, survey, children, pages_of, met_in}
+use Rattle.trio_state.specs.Allowed.{same_kind, same_row, all_up_to}
+use Rattle.trio_state.specs.Bundles.{is_hold, is_parent_written, is_parted, lower, lowest, parted_hold, is_in_bundle, has_all}
+use Rattle.trio_state.specs.Given.{GivenTo}
+use Rattle.trio_state.specs.Image.{IsFit, settled_body, row_at}
+use Rattle.trio_state.specs.Kept.{Kept}
+use Rattle.trio_state.specs.Proposed.{Written, Bundle, bundle_sheets, bundle_pages, is_written, kept_body, is_place_of, proposed, proposed_pick}
+use Rattle.trio_state.specs.Sheets.{Sheet, sheet_numbers, with_pages}
+use Rattle.trio_state.specs.State.{OpenGrant, Out, State, settled, is_write, is_read}
+use Rattle.trio_laws.proofs.Images.{finds, found, met_numbered, owner_listed, root_or_listed}
+use Rattle.trio_laws.proofs.Local.{reads_from, chain_follows}
+use Rattle.trio_laws.proofs.Members.{In-left, In-cases, flat_from, map_from, In-map, In-among, among_from, all_at}
+use Rattle.trio_laws.proofs.Owned.{pages_are}
+use Rattle.trio_laws.proofs.Sheets.{with_pages_apart, page_same}
+use Rattle.trio_laws.proofs.StateFacts.{alone, tables, lent_met}
+use Rattle.trio_laws.proofs.Tree.{child_from}
+
+-- an answer is one value
+pub ok_one : {X E : Type 0} (o : Result X E) (x y : X) → o ≡ Ok x → o ≡ Ok y → x ≡ y
+ok_one (Ok z) x y e f = (let a : z ≡ x = cc e in let b : z ≡ y = cc f in sym a ∙ b)
+ok_one (Err p) x y e f = absurd cc
+
+filter_case : {X : Type 0} (p : X → Bool) (x z : X) (zs : List X) (b : Bool) → p z ≡ b → (In x (filter p zs) → In x zs × (p x ≡ true)) → In x (cond b (z ∷ filter p zs) (filter p zs)) → ((x ≡ z) ⊎ In x zs) × (p x ≡ true)
+filter_case p x z zs true t h (inl s) = (inl s, ap p s ∙ t)
+filter_case p x z zs true t h (inr i) = let r = h i in (inr r.0, r.1)
+filter_case p x z zs false t h i = let r = h i in (inr r.0, r.1)
+
+pub filter_in : {X : Type 0} (p : X → Bool) (x : X) (xs : List X) → In x (filter p xs) → In x xs × (p x ≡ true)
+filter_in p x [] i = absurd i
+filter_in p x (z ∷ zs) i = filter_case p x z zs (p z) refl (filter_in p x zs) i
+
+in_filter_case : {X : Type 0} (p : X → Bool) (x z : X) (zs : List X) (b : Bool) → p z ≡ b → p x ≡ true → (In x zs → In x (filter p zs)) → (x ≡ z) ⊎ In x zs → In x (cond b (z ∷ filter p zs) (filter p zs))
+in_filter_case p x z zs true t e h (inl s) = inl s
+in_filter_case p x z zs true t e h (inr i) = inr (h i)
+in_filter_case p x z zs false t e h (inl s) = absurd (both_ways (p z) t (ap p (sym s) ∙ e))
+in_filter_case p x z zs false t e h (inr i) = h i
+
+pub in_filter : {X : Type 0} (p : X → Bool) (x : X) (xs : List X) → In x xs → p x ≡ true → In x (filter p xs)
+in_filter p x [] i e = absurd i
+in_filter p x (z ∷ zs) i e = in_filter_case p x z zs (p z) refl e (λ j. in_filter p x zs j e) i
+
+cases_le : (j n : ℕ) → (j ≤ n) ⊎ (n < j)
+cases_le j n = elim (cases_lt n j) [ inl l ↦ inr l | inr g ↦ inl g ]
+
+picked_met : (pick : Pick) (d : ℕ) (m : Met) (l : Listed) → m ≡ met_in pick d l → m.body ≡ pick m.parent m.page m.slot m.ino l.body
+picked_met pick d m l e =
+    let P : Met → Type 0 = λ x. x.body ≡ pick x.parent x.page x.slot x.ino l.body in
+    let there : (met_in pick d l).body ≡ pick d l.page l.slot l.entry.ino l.body = refl in
+    subst P (sym e) there
+
+pub up_to_at : (p : ℕ → Bool) (n j : ℕ) → all_up_to p n ≡ true → 0 < j → j ≤ n → p j ≡ true
+up_to_at p zero j h low high = absurd (omega arith)
+up_to_at p (suc n) j h low high =
+    let parts = and_parts (all_up_to p n) (p (suc n)) h in
+    elim (let c : (j ≡ suc n) ⊎ (j ≤ n) = (elim (cases_le j n) [ inl a ↦ inr a | inr b ↦ (let e : j ≡ suc n = omega arith in inl e) ]) in c) [
+      | inl e ↦ ap p e ∙ parts.1
+      | inr l ↦ up_to_at p n j parts.0 low l
+    ]
+
+pub same_kind_is : (a b : Kind) → same_kind a b ≡ true → a ≡ b
+same_kind_is Regular Regular e = refl
+same_kind_is Directory Directory e = refl
+same_kind_is Regular Directory e = absurd (false≢true e)
+same_kind_is Directory Regular e = absurd (false≢true e)
+
+row_same : (r q : Row) → r.kind ≡ q.kind → r.mode.0 ≡ q.mode.0 → r.uid ≡ q.uid → r.gid ≡ q.gid → r.parent ≡ q.parent → r.page ≡ q.page → r.slot ≡ q.slot → r ≡ q
+row_same r q kind mode uid gid parent page slot =
+    ap (λ (x : Kind). record r { kind = x }) kind
+    ∙ ap (λ (n : ℕ). record { kind = q.kind; mode = record { 0 = n }; uid = r.uid; gid = r.gid; parent = r.parent; page = r.page; slot = r.slot }) mode
+    ∙ ap (λ (n : ℕ). record { kind = q.kind; mode = q.mode; uid = n; gid = r.gid; parent = r.parent; page = r.page; slot = r.slot }) uid
+    ∙ ap (λ (n : ℕ). record { kind = q.kind; mode = q.mode; uid = q.uid; gid = n; parent = r.parent; page = r.page; slot = r.slot }) gid
+    ∙ ap (λ (n : ℕ). record { kind = q.kind; mode = q.mode; uid = q.uid; gid = q.gid; parent = n; page = r.page; slot = r.slot }) parent
+    ∙ ap (λ (n : ℕ). record { kind = q.kind; mode = q.mode; uid = q.uid; gid = q.gid; parent = q.parent; page = n; slot = r.slot }) page
+    ∙ ap (λ (n : ℕ). record { kind = q.kind; mode = q.mode; uid = q.uid; gid = q.gid; parent = q.parent; page = q.page; slot = n }) slot
+
+-- rows that pass as the same are
+pub same_row_is : (r : Row) (o : Option Row) → same_row (Some r) o ≡ true → o ≡ Some r
+same_row_is r None e = absurd (false≢true e)
+same_row_is r (Some q) e =
+    let a1 : Bool = same_kind r.kind q.kind in
+    let a2 : Bool = eqb r.mode.0 q.mode.0 in
+    let a3 : Bool = eqb r.uid q.uid in
+    let a4 : Bool = eqb r.gid q.gid in
+    let a5 : Bool = eqb r.parent q.parent in
+    let a6 : Bool = eqb r.page q.page in
+    let a7 : Bool = eqb r.slot q.slot in
+    let s7 = and_parts (a1 && a2 && a3 && a4 && a5 && a6) a7 e in
+    let s6 = and_parts (a1 && a2 && a3 && a4 && a5) a6 s7.0 in
+    let s5 = and_parts (a1 && a2 && a3 && a4) a5 s6.0 in
+    let s4 = and_parts (a1 && a2 && a3) a4 s5.0 in
+    let s3 = and_parts (a1 && a2) a3 s4.0 in
+    let s2 = and_parts a1 a2 s3.0 in
+    ap Some (sym (row_same r q (same_kind_is r.kind q.kind s2.0) (eqb-true r.mode.0 q.mode.0 s2.1) (eqb-true r.uid q.uid s3.1) (eqb-true r.gid q.gid s4.1) (eqb-true r.parent q.parent s5.1) (eqb-true r.page q.page s6.1) (eqb-true r.slot q.slot s7.1)))
+
+pub in_numbers : (xs : List Sheet) (x : Sheet) (p : ℕ) → In x xs → p ≡ x.page → In p (sheet_numbers xs)
+in_numbers xs x p i e = subst (λ n. In n (sheet_numbers xs)) (sym e) (In-map (λ (y : Sheet). y.page) x xs i)
+
+-- no write lease of the bundle is on this file
+abbrev pub Unwritten : Bundle → ℕ → Type 0
+Unwritten b n = (w : Written) → In w b.writes → w.ino ≡ n → ⊥
+
+pub unwritten_finds : (b : Bundle) (n : ℕ) → Unwritten b n → find (λ (w : Written). eqb w.ino n) b.writes ≡ None
+unwritten_finds b n h = by_find (find (λ (w : Written). eqb w.ino n) b.writes) refl
+  where
+    by_find : (o : Option Written) → find (λ (w : Written). eqb w.ino n) b.writes ≡ o → o ≡ None
+    by_find None e = refl
+    by_find (Some w) e =
+        let r = found (λ (w : Written). eqb w.ino n) b.writes w e in absurd (h w r.0 (eqb-true w.ino n r.1))
+
+pub finds_unwritten : (b : Bundle) (n : ℕ) → is_some (find (λ (w : Written). eqb w.ino n) b.writes) ≡ false → Unwritten b n
+finds_unwritten b n e w i same =
+    let r = finds (λ (w : Written). eqb w.ino n) b.writes w i (eq-eqb w.ino n same) in
+    false≢true (sym e ∙ ap is_some r.1)
+
+-- a hold of the library on a file whose directory is written is in the bundle
+abbrev pub Closed : State → ℕ → Bundle → Type 0
+Closed s lib b = (g : OpenGrant) (r : Row) → In g s.open_grants → g.kind ≡ Hold → g.lib ≡ lib → row_at s.home g.ino ≡ Some r → In r.parent (map (λ (w : Written). w.ino) b.writes) → In g.ino b.holds
+
+written_from : (b : Bundle) (n : ℕ) → In n (map (λ (w : Written). w.ino) b.writes) → is_written b n ≡ true
+written_from b n i =
+    let r = map_from (λ (w : Written). w.ino) n b.writes i in
+    let f = finds (λ (w : Written). eqb w.ino n) b.writes r.0 r.1 (eq-eqb r.0.ino n (sym r.2)) in ap is_some f.1
+
+none_lowest : (ns : List ℕ) → lowest ns ≡ None → ns ≡ []
+none_lowest [] e = refl
+none_lowest (n ∷ ns) e = absurd (lower_some (lowest ns) e)
+  where
+    lower_some : (o : Option ℕ) → lower n o ≡ None → ⊥
+    lower_some None e = absurd cc
+    lower_some (Some m) e = absurd cc
+
+-- where no hold is parted, each open grant is none that is
+pub unparted_at : (s : State) (lib : ℕ) (b : Bundle) (g : OpenGrant) → parted_hold s lib b ≡ None → In g s.open_grants → is_parted s lib b g ≡ false
+unparted_at s lib b g none i =
+    false_from_ne_true (is_parted s lib b g)
+    (λ t.
+    let j = In-map (λ (x : OpenGrant). x.ino) g (filter (is_parted s lib b) s.open_grants) (in_filter (is_parted s lib b) g s.open_grants i t) in
+    subst (λ l. In g.ino l) (none_lowest (map (λ (x : OpenGrant). x.ino) (filter (is_parted s lib b) s.open_grants)) none) j)
+
+filter_none : {X : Type 0} (p : X → Bool) (xs : List X) → ((x : X) → In x xs → p x ≡ false) → filter p xs ≡ []
+filter_none p [] h = refl
+filter_none p (x ∷ xs) h = ap (λ t. cond t (x ∷ filter p xs) (filter p xs)) (h x (inl refl)) ∙ filter_none p xs (λ y i. h y (inr i))
+
+pub unparted_from : (s : State) (lib : ℕ) (b : Bundle) → ((g : OpenGrant) → In g s.open_grants → is_parted s lib b g ≡ false) → parted_hold s lib b ≡ None
+unparted_from s lib b h = ap (λ l. lowest (map (λ (x : OpenGrant). x.ino) l)) (filter_none (is_parted s lib b) s.open_grants h)
+
+-- where no hold is parted from its parent's lease the bundle is closed
+pub closed_unparted : (s : State) (lib : ℕ) (b : Bundle) → parted_hold s lib b ≡ None → Closed s lib b
+closed_unparted s lib b none g r i kind mine row written =
+    elim (cases_Bool (is_among g.ino b.holds)) [
+      | inl held ↦ In-among g.ino b.holds held
+      | inr free ↦
+          let w : is_parent_written b (row_at s.home g.ino) ≡ true = ap (is_parent_written b) row ∙ written_from b r.parent written in
+          let c : cond (is_among g.ino b.holds) (not (is_parent_written b (row_at s.home g.ino))) (is_parent_written b (row_at s.home g.ino)) ≡ true =
+          ap (λ t. cond t (not (is_parent_written b (row_at s.home g.ino))) (is_parent_written b (row_at s.home g.ino))) free ∙ w in
+          let own : (eqb g.lib lib && is_hold g.kind) ≡ true = and_from (eqb g.lib lib) (is_hold g.kind) (eq-eqb g.lib lib mine) (ap is_hold kind) in
+          let parted : is_parted s lib b g ≡ true = and_from (eqb g.lib lib && is_hold g.kind) (cond (is_among g.ino b.holds) (not (is_parent_written b (row_at s.home g.ino))) (is_parent_written b (row_at s.home g.ino))) own c in
+          absurd (both_ways (is_parted s lib b g) (unparted_at s lib b g none i) parted)
+    ]
+
+hold_in_bundle : (kind : GrantKind) (a w h : Bool) → kind ≡ Hold → (a && ((is_write kind && w) || (is_hold kind && h))) ≡ true → h ≡ true
+hold_in_bundle Hold a w h e t = (and_parts a h t).1
+hold_in_bundle Read a w h e t = absurd cc
+hold_in_bundle Write a w h e t = absurd cc
+
+pub hold_reads : (kind : GrantKind) → kind ≡ Hold → is_read kind ≡ false
+hold_reads kind e = ap is_read e
+
+-- a bundle of all that the library has is closed
+pub closed_all : (s : State) (lib : ℕ) (b : Bundle) → has_all s lib b ≡ true → Closed s lib b
+closed_all s lib b all g r i kind mine row written =
+    let grants : Bool = list_all (λ (g : OpenGrant). not (eqb g.lib lib) || is_read g.kind || is_in_bundle lib b g) s.open_grants in
+    let pages : Bool = list_all (λ (o : Out). not (eqb o.lib lib) || is_among o.number (sheet_numbers b.pages)) s.pages_out in
+    let numbers : Bool = list_all (λ (o : Out). not (eqb o.lib lib) || is_among o.number b.numbers) s.numbers_out in
+    let p = and_parts (grants && pages) numbers all in
+    let q = and_parts grants pages p.0 in
+    let t = all_at (λ (g : OpenGrant). not (eqb g.lib lib) || is_read g.kind || is_in_bundle lib b g) g s.open_grants q.0 i in
+    elim (or_cases (not (eqb g.lib lib) || is_read g.kind) (is_in_bundle lib b g) t) [
+      | inr own ↦ In-among g.ino b.holds (hold_in_bundle g.kind (eqb g.lib lib) (is_written b g.ino) (is_among g.ino b.holds) kind own)
+      | inl other ↦
+          elim (or_cases (not (eqb g.lib lib)) (is_read g.kind) other) [
+            | inl apart ↦ absurd (both_ways (eqb g.lib lib) (not-true (eqb g.lib lib) apart) (eq-eqb g.lib lib mine))
+            | inr read ↦ (let no : false ≡ true = sym (ap is_read kind) ∙ read in absurd (false≢true no))
+          ]
+    ]
+
+module _ (s : State) (k : Kept s) (lib : ℕ) (b : Bundle) (given : GivenTo s lib b) where
+  -- the pages of a written file are those that its grant lent
+  pub written_lent : (w : Written) (i : In w b.writes) (p : ℕ) → In p (sheet_numbers (w.index ++ w.blocks)) → In p (sheet_numbers ((given.writes w i).grant.index ++ (given.writes w i).grant.blocks))
+  written_lent w i p a =
+      let g = given.writes w i in
+      let e : sheet_numbers (w.index ++ w.blocks) ≡ sheet_numbers (g.grant.index ++ g.grant.blocks) =
+      map-append (λ (x : Sheet). x.page) w.index w.blocks ∙ ap (λ l. l ++ sheet_numbers w.blocks) g.index ∙ ap (λ l. sheet_numbers g.grant.index ++ l) g.blocks ∙ sym (map-append (λ (x : Sheet). x.page) g.grant.index g.grant.blocks) in
+      subst (λ l. In p l) e a
+
+  pub bundle_page : (p : ℕ) → In p (bundle_pages b) → In p (sheet_numbers b.pages) ⊎ ((w : Written) × In w b.writes × In p (sheet_numbers (w.index ++ w.blocks)))
+  bundle_page p i =
+      let r = map_from (λ (x : Sheet). x.page) p (bundle_sheets b) i in
+      elim (In-cases r.0 (flat_map (λ (w : Written). w.index ++ w.blocks) b.writes) b.pages r.1) [
+        | inl a ↦ let q = flat_from (λ (w : Written). w.index ++ w.blocks) r.0 b.writes a in inr (q.0, q.1, in_numbers (q.0.index ++ q.0.blocks) r.0 p q.2 r.2)
+        | inr a ↦ inl (in_numbers b.pages r.0 p a r.2)
+      ]
+
+  -- a page of the bundle is free, or its owner is a written file
+  pub page_owned : (p : ℕ) → In p (bundle_pages b) → (slice_index s.home.owners p ≡ 0) ⊎ ((w : Written) × In w b.writes × (slice_index s.home.owners p ≡ w.ino))
+  page_owned p i =
+      elim (bundle_page p i) [
+        | inl a ↦ let o = given.pages p a in inl (ap (slice_index s.home.owners) (sym o.3) ∙ k.out_free o.0 o.1)
+        | inr w ↦
+            let g = given.writes w.0 w.1 in
+            let l = k.lent g.grant g.is_open g.kind in
+            let a = lent_met s k g.grant g.is_open g.kind p (written_lent w.0 w.1 p w.2) in
+            inr (w.0, w.1, owner_listed (settled s).core plain k.fit k.verifies.sound (settled s) (tables s k) l.met p l.stands a ∙ l.number ∙ g.ino)
+      ]
+
+  -- the pages of an unwritten live file are none of the bundle's
+  pub unwritten_apart : (m : Met) (p : ℕ) → In m (survey (settled s).core plain) → Unwritten b m.ino → In p (pages_of (settled s).core m) → In p (bundle_pages b) → ⊥
+  unwritten_apart m p i un a j =
+      let own = owner_listed (settled s).core plain k.fit k.verifies.sound (settled s) (tables s k) m p i a in
+      let pos : 0 < m.ino = (met_numbered (settled s).core plain k.fit k.verifies.sound m i).0 in
+      elim (page_owned p j) [
+        | inl z ↦ omega (arith, own, pos, z)
+        | inr w ↦ un w.0 w.1 (sym w.2 ∙ own)
+      ]
+
+  pub page_kept : (p : ℕ) → (In p (bundle_pages b) → ⊥) → page_of (proposed (settled s) b) p ≡ page_of (settled s).core p
+  page_kept p none =
+      page_same (settled s).core (with_pages (bundle_sheets b) (settled s).core.pages) p (with_pages_apart (bundle_sheets b) (settled s).core.pages p none)
+
+  -- a file of the proposed core with the kind and the body of an unwritten live file lists that file's pages
+  pub kept_chain : (m m0 : Met) (f f0 : FileRead) → In m0 (survey (settled s).core plain) → file_of (settled s).core m0 ≡ Ok f0 → file_of (proposed (settled s) b) m ≡ Ok f → Unwritten b m0.ino → m.kind ≡ m0.kind → m.body ≡ m0.body → f.chain ≡ f0.chain
+  kept_chain m m0 f f0 i e0 e un kind body =
+      let core : Core = (settled s).core in
+      let r = reads_from (proposed (settled s) b) m f e in
+      let r0 = reads_from core m0 f0 e0 in
+      let bodies : Some f.body ≡ Some f0.body = sym r.body ∙ ap (λ x. body_of x core.range m.body) kind ∙ ap (body_of m0.kind core.range) body ∙ r0.body in
+      let same : f.body ≡ f0.body = cc bodies in
+      let now : chain_of (proposed (settled s) b) f0.body ≡ Ok f0.chain =
+      chain_follows core (proposed (settled s) b) refl (index_count (block_count f0.body.size)) (block_count f0.body.size) f0.body.head f0.chain r0.chain
+      (λ p j. page_kept p (λ c. unwritten_apart m0 p i un (subst (λ l. In p l) (sym (pages_are core m0 f0 e0)) (In-left p f0.chain.index f0.chain.blocks j)) c)) in
+      ok_one (chain_of (proposed (settled s) b) f.body) f.chain f0.chain r.chain (ap (chain_of (proposed (settled s) b)) same ∙ now)
+
+  -- the bodies that the survey of the proposed core meets
+  pub body_picked : IsFit (proposed (settled s) b) → is_sound (proposed (settled s) b) (proposed_pick (settled s) b) ≡ true → (m : Met) (r : Row) → In m (survey (proposed (settled s) b) (proposed_pick (settled s) b)) → row_at (settled s) m.ino ≡ Some r → r.parent ≡ m.parent → r.page ≡ m.page → r.slot ≡ m.slot → Unwritten b m.ino → m.body ≡ settled_body (settled s) m.ino
+  body_picked fit sound m r i row parent page slot un =
+      let core : Core = proposed (settled s) b in
+      let pick : Pick = proposed_pick (settled s) b in
+      let keeps : kept_body (settled s) b m.ino ≡ settled_body (settled s) m.ino =
+      ap (λ o. option_map_or (λ (w : Written). w.body) o (settled_body (settled s) m.ino)) (unwritten_finds b m.ino un) in
+      elim (root_or_listed core pick fit sound m i) [
+        | inl e ↦ ap (λ (x : Met). x.body) e ∙ ap (λ (x : Met). kept_body (settled s) b x.ino) (sym e) ∙ keeps
+        | inr j ↦
+            let q = flat_from (children core pick) m (survey core pick) j in
+            let c = child_from core pick q.0 m q.2 in
+            let l = c.entry in
+            let placed : is_place_of m.parent m.page m.slot (row_at (settled s) m.ino) ≡ true =
+            ap (is_place_of m.parent m.page m.slot) row ∙ and_from (eqb r.parent m.parent && eqb r.page m.page) (eqb r.slot m.slot) (and_from (eqb r.parent m.parent) (eqb r.page m.page) (eq-eqb r.parent m.parent parent) (eq-eqb r.page m.page page)) (eq-eqb r.slot m.slot slot) in
+            let is_pick : m.body ≡ pick m.parent m.page m.slot m.ino l.body = picked_met pick q.0.ino m l c.is in
+            is_pick ∙ ap (λ t. cond t (kept_body (settled s) b m.ino) l.body) placed ∙ keeps
+      ]
+
+  -- a grant that the bundle does not end is no hold of it
+  pub outside_unheld : (g : OpenGrant) → In g s.open_grants → is_in_bundle lib b g ≡ false → In g.ino b.holds → ⊥
+  outside_unheld g i out j =
+      let x = given.holds g.ino j in
+      let same : x.grant ≡ g = alone s.open_grants x.grant g k.apart x.is_open i (hold_reads x.grant.kind x.kind) x.ino in
+      let a : eqb g.lib lib ≡ true = eq-eqb g.lib lib (ap (λ (y : OpenGrant). y.lib) (sym same) ∙ x.lib) in
+      let h : is_hold g.kind ≡ true = ap is_hold (ap (λ (y : OpenGrant). y.kind) (sym same) ∙ x.kind) in
+      both_ways (is_in_bundle lib b g) out
+      (and_from (eqb g.lib lib) ((is_write g.kind && is_written b g.ino) || (is_hold g.kind && is_among g.ino b.holds)) a
+      (or_right (is_write g.kind && is_written b g.ino) (is_hold g.kind && is_among g.ino b.holds) (and_from (is_hold g.kind) (is_among g.ino b.holds) h (among_from g.ino b.holds j))))

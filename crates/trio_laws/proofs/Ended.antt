@@ -1,0 +1,174 @@
+-- What the end of a bundle leaves of grants and of what is out, whatever the verdict.
+use Rattle.std.proofs.Common.{◌≡◌, ℕ, ◌<◌, Bool, true, false, cond, ◌&&◌, ◌||◌, not, eqb, List, [], ◌∷◌, ◌++◌, length, get_or, Option, Some, None, slice_get, sym, refl, ap, ◌∙◌, subst, inl, inr, ◌⊎◌, arith}
+use Rattle.std.specs.Prelude.{map, is_some, AllPairs}
+use Rattle.std.specs.List.{filter, find, flat_map}
+use Rattle.std.proofs.lemmas.List.{length-map, get_or-map}
+use Rattle.std.proofs.lemmas.List.Kept.{AllPairs-filter}
+use Rattle.std.proofs.lemmas.Bool.{and_parts, and_from, or_cases, eqb-true, eq-eqb, false≢true, not-true, not_from_false, both_ways, false_from_ne_true}
+use Rattle.trio_rights.specs.Row.{Row}
+use Rattle.trio_nodes.specs.declared.grant.GrantKind.TheVariants.{Write, Hold}
+use Rattle.trio_layout.specs.Lists.{is_among, are_new, In}
+use Rattle.trio_state.specs.Bundles.{is_hold, is_in_bundle, grants_after, lent_part, blank, Ends}
+use Rattle.trio_state.specs.Given.{GivenTo}
+use Rattle.trio_state.specs.Grants.{has_parent_grant}
+use Rattle.trio_state.specs.Image.{Image, row_at}
+use Rattle.trio_state.specs.Kept.{Kept, MayBothStand, is_lent}
+use Rattle.trio_state.specs.Proposed.{Written, Bundle, is_written}
+use Rattle.trio_state.specs.Sheets.{Sheet, sheet_numbers}
+use Rattle.trio_state.specs.State.{covered, OpenGrant, Out, State, is_write, is_out}
+use Rattle.trio_laws.proofs.Bundles.{Closed, filter_in, in_filter}
+use Rattle.trio_laws.proofs.Images.{found}
+use Rattle.trio_laws.proofs.Members.{In-left, In-map, map_from, In-among, among_from}
+use Rattle.trio_laws.proofs.Owned.{new_weaker}
+use Rattle.trio_laws.proofs.Sheets.{among_cases, with_pages_apart}
+use Rattle.trio_laws.proofs.StateFacts.{any_from, any_at, write_is, write_alone, covered_write, numbers_flat}
+
+new_filter_step : {X : Type 0} (f : X → ℕ) (p : X → Bool) (x : X) (xs : List X) (seen : List ℕ) (b : Bool) → (not (is_among (f x) seen) && are_new (seen ++ f x ∷ []) (map f xs)) ≡ true → ((more : List ℕ) → are_new more (map f xs) ≡ true → are_new more (map f (filter p xs)) ≡ true) → are_new seen (map f (cond b (x ∷ filter p xs) (filter p xs))) ≡ true
+new_filter_step f p x xs seen true h ih =
+    let parts = and_parts (not (is_among (f x) seen)) (are_new (seen ++ f x ∷ []) (map f xs)) h in
+    and_from (not (is_among (f x) seen)) (are_new (seen ++ f x ∷ []) (map f (filter p xs))) parts.0 (ih (seen ++ f x ∷ []) parts.1)
+new_filter_step f p x xs seen false h ih =
+    let parts = and_parts (not (is_among (f x) seen)) (are_new (seen ++ f x ∷ []) (map f xs)) h in
+    new_weaker seen (seen ++ f x ∷ []) (map f (filter p xs)) (λ n i. In-left n seen (f x ∷ []) i) (ih (seen ++ f x ∷ []) parts.1)
+
+pub new_filter : {X : Type 0} (f : X → ℕ) (p : X → Bool) (xs : List X) (seen : List ℕ) → are_new seen (map f xs) ≡ true → are_new seen (map f (filter p xs)) ≡ true
+new_filter f p [] seen h = refl
+new_filter f p (x ∷ xs) seen h = new_filter_step f p x xs seen (p x) h (λ more e. new_filter f p xs more e)
+
+blank_numbers : (xs : List Sheet) → sheet_numbers (map blank xs) ≡ sheet_numbers xs
+blank_numbers [] = refl
+blank_numbers (x ∷ xs) = ap (λ l. x.page ∷ l) (blank_numbers xs)
+
+-- the pairs of a list go by what counts of its members
+pairs_like : (xs ys : List OpenGrant) → map lent_part xs ≡ map lent_part ys → AllPairs MayBothStand ys → AllPairs MayBothStand xs
+pairs_like xs ys e h i j d l m =
+    let n : length xs ≡ length ys = sym (length-map xs lent_part) ∙ ap length e ∙ length-map ys lent_part in
+    let il : i < length xs = omega arith in
+    let iy : i < length ys = omega (arith, n) in
+    let jy : j < length ys = omega (arith, n) in
+    let at : (k : ℕ) → k < length xs → k < length ys → lent_part (get_or xs k d) ≡ lent_part (get_or ys k d) =
+    λ k a b. sym (get_or-map lent_part xs k d (lent_part d) a) ∙ ap (λ l. get_or l k (lent_part d)) e ∙ get_or-map lent_part ys k d (lent_part d) b in
+    let R : OpenGrant → OpenGrant → Type 0 = λ x y. MayBothStand x y in
+    let base : MayBothStand (lent_part (get_or ys i d)) (lent_part (get_or ys j d)) = h i j d l jy in
+    let one : MayBothStand (lent_part (get_or xs i d)) (lent_part (get_or ys j d)) = subst (λ x. R x (lent_part (get_or ys j d))) (sym (at i il iy)) base in
+    let two : MayBothStand (lent_part (get_or xs i d)) (lent_part (get_or xs j d)) = subst (λ x. R (lent_part (get_or xs i d)) x) (sym (at j m jy)) one in
+    two
+
+module _ (s s' : State) (k : Kept s) (lib : ℕ) (b : Bundle) (given : GivenTo s lib b) (image' : Image) (e : Ends s lib b image' s') where
+  -- a grant that is open then was open, and isn't one of the bundle's
+  pub grant_before : (g : OpenGrant) → In g s'.open_grants → (h : OpenGrant) × In h s.open_grants × (is_in_bundle lib b h ≡ false) × (lent_part g ≡ lent_part h)
+  grant_before g i =
+      let j : In (lent_part g) (map lent_part (grants_after s lib b)) = subst (λ l. In (lent_part g) l) e.grants (In-map lent_part g s'.open_grants i) in
+      let r = map_from lent_part (lent_part g) (grants_after s lib b) j in
+      let f = filter_in (λ g. not (is_in_bundle lib b g)) r.0 s.open_grants r.1 in
+      (r.0, f.0, not-true (is_in_bundle lib b r.0) f.1, r.2)
+
+  pub grant_after : (h : OpenGrant) → In h s.open_grants → is_in_bundle lib b h ≡ false → (g : OpenGrant) × In g s'.open_grants × (lent_part h ≡ lent_part g)
+  grant_after h i out =
+      let j = in_filter (λ g. not (is_in_bundle lib b g)) h s.open_grants i (not_from_false (is_in_bundle lib b h) out) in
+      let m : In (lent_part h) (map lent_part s'.open_grants) = subst (λ l. In (lent_part h) l) (sym e.grants) (In-map lent_part h (grants_after s lib b) j) in
+      map_from lent_part (lent_part h) s'.open_grants m
+
+  pub apart_then : AllPairs MayBothStand s'.open_grants
+  apart_then = pairs_like s'.open_grants (grants_after s lib b) e.grants (AllPairs-filter MayBothStand (λ g. not (is_in_bundle lib b g)) s.open_grants k.apart)
+
+  pub checkpoints_then : (g : OpenGrant) → In g s'.open_grants → sheet_numbers g.checkpoint ≡ sheet_numbers (covered g.kind g.of g.index g.blocks)
+  checkpoints_then g i =
+      let r = grant_before g i in
+      let h : OpenGrant = r.0 in
+      let part : lent_part g ≡ lent_part h = r.3 in
+      sym (blank_numbers g.checkpoint)
+      ∙ ap (λ (x : OpenGrant). sheet_numbers x.checkpoint) part
+      ∙ blank_numbers h.checkpoint
+      ∙ k.checkpoints h r.1
+      ∙ ap (λ (x : OpenGrant). sheet_numbers (covered x.kind x.of x.index x.blocks)) (sym part)
+
+  -- a write grant of the bundle is that of one of its written files
+  pub write_in_bundle : (g : OpenGrant) → In g s.open_grants → g.kind ≡ Write → is_in_bundle lib b g ≡ true → (w : Written) × (i : In w b.writes) × ((given.writes w i).grant ≡ g)
+  write_in_bundle g i kind in' =
+      let parts = and_parts (eqb g.lib lib) ((is_write g.kind && is_written b g.ino) || (is_hold g.kind && is_among g.ino b.holds)) in' in
+      elim (or_cases (is_write g.kind && is_written b g.ino) (is_hold g.kind && is_among g.ino b.holds) parts.1) [
+        | inl written ↦ by_find (find (λ (w : Written). eqb w.ino g.ino) b.writes) refl (and_parts (is_write g.kind) (is_written b g.ino) written).1
+        | inr held ↦ (let no : false ≡ true = sym (ap is_hold kind) ∙ (and_parts (is_hold g.kind) (is_among g.ino b.holds) held).0 in absurd (false≢true no))
+      ]
+    where
+      by_find : (o : Option Written) → find (λ (w : Written). eqb w.ino g.ino) b.writes ≡ o → is_some o ≡ true → (w : Written) × (i : In w b.writes) × ((given.writes w i).grant ≡ g)
+      by_find None f t = absurd (false≢true t)
+      by_find (Some w) f t =
+          let q = found (λ (w : Written). eqb w.ino g.ino) b.writes w f in
+          let x = given.writes w q.0 in
+          (w, q.0, write_alone s.open_grants x.grant g k.apart x.is_open i x.kind (x.ino ∙ eqb-true w.ino g.ino q.1))
+
+  -- the parent's lease of a hold that stays stays
+  pub parent_then : Closed s lib b → (g g' : OpenGrant) (r q : Row) → In g s.open_grants → g.kind ≡ Hold → is_in_bundle lib b g ≡ false → row_at s.home g.ino ≡ Some r → (In g.ino b.holds → ⊥) → lent_part g' ≡ lent_part g → r.parent ≡ q.parent → has_parent_grant s g.lib (Some r) ≡ true → has_parent_grant s' g'.lib (Some q) ≡ true
+  parent_then closed g g' r q i kind out row unheld part same has =
+      let a = any_at (λ (x : OpenGrant). eqb x.lib g.lib && eqb x.ino r.parent && is_write x.kind) s.open_grants has in
+      let h : OpenGrant = a.0 in
+      let p1 = and_parts (eqb h.lib g.lib && eqb h.ino r.parent) (is_write h.kind) a.2 in
+      let p2 = and_parts (eqb h.lib g.lib) (eqb h.ino r.parent) p1.0 in
+      let hk : h.kind ≡ Write = write_is h.kind p1.1 in
+      let lib_same : h.lib ≡ g.lib = eqb-true h.lib g.lib p2.0 in
+      let ino_same : h.ino ≡ r.parent = eqb-true h.ino r.parent p2.1 in
+      let h_out : is_in_bundle lib b h ≡ false =
+      false_from_ne_true (is_in_bundle lib b h)
+      (λ t.
+      let w = write_in_bundle h a.1 hk t in
+      let x = given.writes w.0 w.1 in
+      let hl : h.lib ≡ lib = ap (λ (y : OpenGrant). y.lib) (sym w.2) ∙ x.lib in
+      let hi : r.parent ≡ w.0.ino = sym ino_same ∙ ap (λ (y : OpenGrant). y.ino) (sym w.2) ∙ x.ino in
+      let j : In r.parent (map (λ (w : Written). w.ino) b.writes) = subst (λ n. In n (map (λ (w : Written). w.ino) b.writes)) (sym hi) (In-map (λ (w : Written). w.ino) w.0 b.writes w.1) in
+      unheld (closed g r i kind (sym lib_same ∙ hl) row j)) in
+      let n = grant_after h a.1 h_out in
+      let h' : OpenGrant = n.0 in
+      let l' : h'.lib ≡ g'.lib = ap (λ (y : OpenGrant). y.lib) (sym n.2) ∙ lib_same ∙ ap (λ (y : OpenGrant). y.lib) (sym part) in
+      let i' : h'.ino ≡ q.parent = ap (λ (y : OpenGrant). y.ino) (sym n.2) ∙ ino_same ∙ same in
+      let k' : is_write h'.kind ≡ true = ap (λ (y : OpenGrant). is_write y.kind) (sym n.2) ∙ p1.1 in
+      any_from (λ (x : OpenGrant). eqb x.lib g'.lib && eqb x.ino q.parent && is_write x.kind) h' s'.open_grants n.1
+      (and_from (eqb h'.lib g'.lib && eqb h'.ino q.parent) (is_write h'.kind) (and_from (eqb h'.lib g'.lib) (eqb h'.ino q.parent) (eq-eqb h'.lib g'.lib l') (eq-eqb h'.ino q.parent i')) k')
+
+  lent_then : (g : OpenGrant) (p : ℕ) → In g s'.open_grants → g.kind ≡ Write → In p (sheet_numbers (g.index ++ g.blocks)) → is_lent s'.open_grants p ≡ true
+  lent_then g p i kind a =
+      any_from (λ (x : OpenGrant). is_write x.kind && is_among p (sheet_numbers (x.index ++ x.blocks))) g s'.open_grants i
+      (and_from (is_write g.kind) (is_among p (sheet_numbers (g.index ++ g.blocks))) (ap is_write kind) (among_from p (sheet_numbers (g.index ++ g.blocks)) a))
+
+  pub outs_then : (o : Out) → In o s'.pages_out → In o s.pages_out × (In o.number (sheet_numbers b.pages) → ⊥)
+  outs_then o i =
+      let r = filter_in (λ (o : Out). not (is_among o.number (sheet_numbers b.pages))) o s.pages_out (subst (λ l. In o l) e.pages i) in
+      (r.0, λ j. both_ways (is_among o.number (sheet_numbers b.pages)) (not-true (is_among o.number (sheet_numbers b.pages)) r.1) (among_from o.number (sheet_numbers b.pages) j))
+
+  pub numbers_then : (o : Out) → In o s'.numbers_out → In o s.numbers_out × (In o.number b.numbers → ⊥)
+  numbers_then o i =
+      let r = filter_in (λ (o : Out). not (is_among o.number b.numbers)) o s.numbers_out (subst (λ l. In o l) e.numbers i) in
+      (r.0, λ j. both_ways (is_among o.number b.numbers) (not-true (is_among o.number b.numbers) r.1) (among_from o.number b.numbers j))
+
+  pub out_once_then : are_new [] (map (λ (o : Out). o.number) s'.pages_out) ≡ true
+  out_once_then = ap (λ l. are_new [] (map (λ (o : Out). o.number) l)) e.pages ∙ new_filter (λ (o : Out). o.number) (λ (o : Out). not (is_among o.number (sheet_numbers b.pages))) s.pages_out [] k.out_once
+
+  pub numbers_once_then : are_new [] (map (λ (o : Out). o.number) s'.numbers_out) ≡ true
+  numbers_once_then = ap (λ l. are_new [] (map (λ (o : Out). o.number) l)) e.numbers ∙ new_filter (λ (o : Out). o.number) (λ (o : Out). not (is_among o.number b.numbers)) s.numbers_out [] k.numbers_once
+
+  -- a page absent from home is absent from the settled image, or a checkpoint covers it
+  pub absent_then : (p : ℕ) → slice_get s'.home.core.pages p ≡ Some None → (slice_get image'.core.pages p ≡ Some None → ((g : OpenGrant) × In g s.open_grants × (is_in_bundle lib b g ≡ false) × (g.kind ≡ Write) × In p (sheet_numbers (g.index ++ g.blocks))) ⊎ ((o : Out) × In o s.pages_out × (o.number ≡ p) × (In p (sheet_numbers b.pages) → ⊥))) → (is_lent s'.open_grants p ≡ true) ⊎ (is_out s'.pages_out p ≡ true)
+  absent_then p gone h =
+      elim (among_cases p (sheet_numbers (flat_map (λ g. g.checkpoint) s'.open_grants))) [
+        | inl covered' ↦
+            let r = numbers_flat s'.open_grants p covered' in
+            let c = covered_write r.0.kind r.0.of r.0.index r.0.blocks p (subst (λ l. In p l) (checkpoints_then r.0 r.1) r.2) in
+            inl (lent_then r.0 p r.1 c.0 c.1)
+        | inr none ↦
+            let now : slice_get image'.core.pages p ≡ Some None =
+            ap (λ (i : Image). slice_get i.core.pages p) (sym e.settles) ∙ with_pages_apart (flat_map (λ g. g.checkpoint) s'.open_grants) s'.home.core.pages p none ∙ gone in
+            elim (h now) [
+              | inl g ↦
+                  let n = grant_after g.0 g.1 g.2 in
+                  let kind : n.0.kind ≡ Write = ap (λ (y : OpenGrant). y.kind) (sym n.2) ∙ g.3 in
+                  let a : In p (sheet_numbers (n.0.index ++ n.0.blocks)) = subst (λ l. In p l) (ap (λ (y : OpenGrant). sheet_numbers (y.index ++ y.blocks)) n.2) g.4 in
+                  inl (lent_then n.0 p n.1 kind a)
+              | inr o ↦
+                  let unhanded : In o.0.number (sheet_numbers b.pages) → ⊥ = λ j. o.3 (subst (λ n. In n (sheet_numbers b.pages)) o.2 j) in
+                  let j = in_filter (λ (o : Out). not (is_among o.number (sheet_numbers b.pages))) o.0 s.pages_out o.1
+                  (not_from_false (is_among o.0.number (sheet_numbers b.pages)) (false_from_ne_true (is_among o.0.number (sheet_numbers b.pages)) (λ t. unhanded (In-among o.0.number (sheet_numbers b.pages) t)))) in
+                  let j' : In o.0 s'.pages_out = subst (λ l. In o.0 l) (sym e.pages) j in
+                  inr (any_from (λ (x : Out). eqb x.number p) o.0 s'.pages_out j' (eq-eqb o.0.number p o.2))
+            ]
+      ]

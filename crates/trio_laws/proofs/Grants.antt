@@ -1,0 +1,195 @@
+-- Every grant keeps what holds of a state.
+use Rattle.std.proofs.Common.{◌≡◌, ℕ, Bool, true, false, cond, ◌&&◌, not, eqb, List, [], ◌∷◌, ◌++◌, get_or, Option, Some, None, slice_get, sym, refl, ap, ◌∙◌, subst, inl, inr, ◌⊎◌}
+use Rattle.std.specs.Prelude.{is_some}
+use Rattle.std.specs.List.{filter, flat_map, list_any}
+use Rattle.std.specs.Option.{option_map}
+use Rattle.std.proofs.lemmas.List.{append-nil}
+use Rattle.std.proofs.lemmas.List.Folds.{list_any-append}
+use Rattle.std.proofs.lemmas.List.Concat.{flat_map-append}
+use Rattle.std.proofs.lemmas.List.Quantifiers.{all_pairs_push}
+use Rattle.std.proofs.lemmas.Bool.{and_from, and_cases, or_left, not-false, eq-eqb, eqb-false, false≢true, both_ways}
+use Rattle.trio_rights.specs.Row.{Row}
+use Rattle.trio_nodes.specs.declared.grant.GrantKind.{GrantKind}
+use Rattle.trio_nodes.specs.declared.grant.GrantKind.TheVariants.{Read, Write, Hold}
+use Rattle.trio_nodes.specs.declared.answers.GrantFault.{GrantFault}
+use Rattle.trio_nodes.specs.declared.answers.GrantFault.TheVariants.{NotLive, Denied, NoParent, Busy, NoMemory as OutOfMemory}
+use Rattle.trio_layout.specs.Lists.{is_among, In}
+use Rattle.trio_layout.specs.Survey.{row_by}
+use Rattle.trio_state.specs.Grants.{holder_of, denied_or, excluding, excludes_kind, denied_by, lacks_parent, has_parent_grant, opened, lent_pages, opens, grant_fault}
+use Rattle.trio_state.specs.Image.{IsFit, Image, settled_body, row_at}
+use Rattle.trio_state.specs.Kept.{Kept, LentIsListed, MayBothStand, HoldStands}
+use Rattle.trio_state.specs.Sheets.{sheet_numbers, with_pages, without_pages}
+use Rattle.trio_state.specs.State.{covered, OpenGrant, State, settled, is_write, is_read, logged}
+use Rattle.trio_state.specs.Step.{Grant, Answer, Step, granted_to, after_grant_fault}
+use Rattle.trio_state.specs.Verifies.{Verifies}
+use Rattle.trio_laws.proofs.Members.{In-cases}
+use Rattle.trio_laws.proofs.StateFacts.{In_get, live_met}
+use Rattle.trio_laws.proofs.WriteGrant.{write_grant_kept}
+
+pub logged_kept : (s : State) → Kept s → Kept (logged s)
+logged_kept s k = record {
+  fit = k.fit;
+  verifies = k.verifies;
+  live = k.live;
+  apart = k.apart;
+  held = λ g i w. let h = k.held g i w in (parent_same (row_at s.home g.ino) g h.0, h.1);
+  lent = k.lent;
+  checkpoints = k.checkpoints;
+  absent = k.absent;
+  out_once = k.out_once;
+  out_free = k.out_free;
+  numbers_once = k.numbers_once;
+  numbers_free = k.numbers_free;
+}
+  where
+    parent_same : (r : Option Row) (g : OpenGrant) → has_parent_grant s g.lib r ≡ true → has_parent_grant (logged s) g.lib r ≡ true
+    parent_same None g e = e
+    parent_same (Some r) g e = e
+
+after_fault_kept : (s : State) (f : GrantFault) → Kept s → Kept (after_grant_fault s f)
+after_fault_kept s NotLive k = logged_kept s k
+after_fault_kept s (Denied n) k = logged_kept s k
+after_fault_kept s NoParent k = logged_kept s k
+after_fault_kept s (Busy holder) k = k
+after_fault_kept s OutOfMemory k = logged_kept s k
+
+-- what a grant that isn't refused has passed
+refusal_none : (live : Bool) (d : Option ℕ) (parent : Bool) (o : Option OpenGrant) → cond live (Some NotLive) (denied_or d (cond parent (Some NoParent) (option_map (λ (g : OpenGrant). Busy (holder_of g)) o))) ≡ None → (parent ≡ false) × (o ≡ None)
+refusal_none true d parent o e = absurd cc
+refusal_none false (Some n) parent o e = absurd cc
+refusal_none false None true o e = absurd cc
+refusal_none false None false None e = (refl, refl)
+refusal_none false None false (Some g) e = absurd cc
+
+filter_step : {X : Type 0} (p : X → Bool) (x : X) (zs : List X) (b : Bool) → p x ≡ b → slice_get (cond b (x ∷ filter p zs) (filter p zs)) 0 ≡ None → (p x ≡ false) × (slice_get (filter p zs) 0 ≡ None)
+filter_step p x zs true t e = absurd cc
+filter_step p x zs false t e = (t, e)
+
+pub none_passes : {X : Type 0} (p : X → Bool) (xs : List X) (x : X) → slice_get (filter p xs) 0 ≡ None → In x xs → p x ≡ false
+none_passes p [] x e i = absurd i
+none_passes p (z ∷ zs) x e (inl s) = ap p s ∙ (filter_step p z zs (p z) refl e).0
+none_passes p (z ∷ zs) x e (inr i) = none_passes p zs x (filter_step p z zs (p z) refl e).1 i
+
+pub excluded_none : (s : State) (lib ino : ℕ) (kind : GrantKind) → grant_fault s lib ino kind ≡ None → (g : OpenGrant) → In g s.open_grants → g.ino ≡ ino → excludes_kind kind g.kind (eqb g.lib lib) ≡ false
+excluded_none s lib ino kind e g i same =
+    let r = refusal_none (not (is_some (row_at s.home ino))) (denied_by s lib ino kind) (lacks_parent s lib ino kind) (slice_get (excluding s lib ino kind) 0) e in
+    let p = none_passes (λ (g : OpenGrant). eqb g.ino ino && excludes_kind kind g.kind (eqb g.lib lib)) s.open_grants g r.1 i in
+    elim (and_cases (eqb g.ino ino) (excludes_kind kind g.kind (eqb g.lib lib)) p) [
+      | inl no' ↦ absurd (both_ways (eqb g.ino ino) no' (eq-eqb g.ino ino same))
+      | inr out ↦ out
+    ]
+
+write_grant : (s : State) (lib ino : ℕ) (r : Row) → Kept s → grant_fault s lib ino Write ≡ None → row_at s.home ino ≡ Some r → Kept (opens s (opened s lib ino Write r))
+write_grant s lib ino r k e row =
+    let m = live_met s k ino r row in
+    let free : (g : OpenGrant) → In g s.open_grants → g.ino ≡ m.met.ino → ⊥ =
+    λ g i same. false≢true (sym (excluded_none s lib ino Write e g i (same ∙ m.number))) in
+    let K : ℕ → Row → Type 0 = λ n q. Kept (opens s (opened s lib n Write q)) in
+    let a = write_grant_kept s k lib m.met m.file m.stands m.read free in
+    subst (λ q. K ino q) (sym m.row) (subst (λ n. K n (row_by m.met m.file.body)) m.number a)
+
+-- a grant that opened no page by move
+module _ (s : State) (k : Kept s) (g : OpenGrant) (none : lent_pages g ≡ []) (bare : g.checkpoint ≡ []) (read : g.kind ≡ Write → ⊥) where
+  pub settled_same : settled (opens s g) ≡ settled s
+  settled_same =
+      let a : flat_map (λ g. g.checkpoint) (s.open_grants ++ g ∷ []) ≡ flat_map (λ g. g.checkpoint) s.open_grants =
+      flat_map-append (λ (g : OpenGrant). g.checkpoint) s.open_grants (g ∷ [])
+      ∙ ap (λ l. flat_map (λ g. g.checkpoint) s.open_grants ++ (l ++ [])) bare
+      ∙ append-nil (flat_map (λ g. g.checkpoint) s.open_grants) in
+      let J : List (Option (List ℕ)) → Image = λ pages. record { core = record { pages = pages; root = s.home.core.root; range = s.home.core.range; inodes = s.home.core.inodes }; rows = s.home.rows; owners = s.home.owners } in
+      ap (λ l. J (with_pages l (without_pages (lent_pages g) s.home.core.pages))) a
+      ∙ ap (λ l. J (with_pages (flat_map (λ g. g.checkpoint) s.open_grants) (without_pages l s.home.core.pages))) none
+
+  any_more : (p : OpenGrant → Bool) → list_any p s.open_grants ≡ true → list_any p (s.open_grants ++ g ∷ []) ≡ true
+  any_more p h = list_any-append p s.open_grants (g ∷ []) ∙ or_left (list_any p s.open_grants) (list_any p (g ∷ [])) h
+
+  old_or_new : (h : OpenGrant) → In h (s.open_grants ++ g ∷ []) → In h s.open_grants ⊎ (h ≡ g)
+  old_or_new h j =
+      elim (In-cases h s.open_grants (g ∷ []) j) [
+        | inl old ↦ inl old
+        | inr new ↦ elim new [ inl same ↦ inr same | inr none' ↦ absurd none' ]
+      ]
+
+  pub parent_more : (l : ℕ) (r : Option Row) → has_parent_grant s l r ≡ true → has_parent_grant (opens s g) l r ≡ true
+  parent_more l None h = h
+  parent_more l (Some r) h = any_more (λ (x : OpenGrant). eqb x.lib l && eqb x.ino r.parent && is_write x.kind) h
+
+  pub light_grant_kept : is_some (row_at s.home g.ino) ≡ true → ((h : OpenGrant) → In h s.open_grants → MayBothStand h g) → (g.kind ≡ Hold → (has_parent_grant s g.lib (row_at s.home g.ino) ≡ true) × (g.body ≡ settled_body (settled s) g.ino)) → sheet_numbers g.checkpoint ≡ sheet_numbers (covered g.kind g.of g.index g.blocks) → Kept (opens s g)
+  light_grant_kept live apart held covers = record {
+    fit = (let P : Image → Type 0 = λ x. IsFit x.core in subst P (sym settled_same) k.fit);
+    verifies = (let P : Image → Type 0 = λ x. Verifies x in subst P (sym settled_same) k.verifies);
+    live = λ h j. elim (old_or_new h j) [
+      | inl old ↦ k.live h old
+      | inr new ↦ ap (λ (x : OpenGrant). is_some (row_at s.home x.ino)) new ∙ live
+    ];
+    apart = all_pairs_push MayBothStand s.open_grants g k.apart (λ n d l. apart (get_or s.open_grants n d) (In_get s.open_grants n d l));
+    held = λ h j w. elim (old_or_new h j) [
+      | inl old ↦ let was = k.held h old w in (parent_more h.lib (row_at s.home h.ino) was.0, was.1 ∙ ap (λ x. settled_body x h.ino) (sym settled_same))
+      | inr new ↦
+          let q = held (sym (ap (λ (x : OpenGrant). x.kind) new) ∙ w) in
+          let H : OpenGrant → Type 0 = λ x. HoldStands (opens s g) x in
+          subst H (sym new) (parent_more g.lib (row_at s.home g.ino) q.0, q.1 ∙ ap (λ x. settled_body x g.ino) (sym settled_same))
+    ];
+    lent = λ h j w. elim (old_or_new h j) [
+      | inl old ↦ let P : Image → Type 0 = λ x. LentIsListed x h in subst P (sym settled_same) (k.lent h old w)
+      | inr new ↦ absurd (read (sym (ap (λ (x : OpenGrant). x.kind) new) ∙ w))
+    ];
+    checkpoints = λ h j. elim (old_or_new h j) [
+      | inl old ↦ k.checkpoints h old
+      | inr new ↦
+          let C : OpenGrant → Type 0 = λ x. sheet_numbers x.checkpoint ≡ sheet_numbers (covered x.kind x.of x.index x.blocks) in
+          subst C (sym new) covers
+    ];
+    absent = λ p gone c.
+        let was : slice_get s.home.core.pages p ≡ Some None = sym (ap (λ l. slice_get (without_pages l s.home.core.pages) p) none) ∙ gone in
+        elim (k.absent p was c) [
+          | inl lent ↦ inl (any_more (λ (x : OpenGrant). is_write x.kind && is_among p (sheet_numbers (x.index ++ x.blocks))) lent)
+          | inr out ↦ inr out
+        ];
+    out_once = k.out_once;
+    out_free = k.out_free;
+    numbers_once = k.numbers_once;
+    numbers_free = k.numbers_free;
+  }
+
+reads_both : (kind : GrantKind) (same_lib : Bool) → excludes_kind Read kind same_lib ≡ false → (is_read kind ≡ true) × (same_lib ≡ false)
+reads_both Read same_lib e = (refl, e)
+reads_both Write same_lib e = absurd (false≢true (sym e))
+reads_both Hold same_lib e = absurd (false≢true (sym e))
+
+read_grant : (s : State) (lib ino : ℕ) (r : Row) → Kept s → grant_fault s lib ino Read ≡ None → row_at s.home ino ≡ Some r → Kept (opens s (opened s lib ino Read r))
+read_grant s lib ino r k e row =
+    let g : OpenGrant = opened s lib ino Read r in
+    light_grant_kept s k g refl refl (λ w. cc w) (ap is_some row)
+    (λ h i same.
+    let x = reads_both h.kind (eqb h.lib lib) (excluded_none s lib ino Read e h i same) in
+    (and_from (is_read h.kind) true x.0 refl, eqb-false h.lib lib x.1))
+    (λ w. absurd (cc w)) refl
+
+hold_grant : (s : State) (lib ino : ℕ) (r : Row) → Kept s → grant_fault s lib ino Hold ≡ None → row_at s.home ino ≡ Some r → Kept (opens s (opened s lib ino Hold r))
+hold_grant s lib ino r k e row =
+    let g : OpenGrant = opened s lib ino Hold r in
+    let q = refusal_none (not (is_some (row_at s.home ino))) (denied_by s lib ino Hold) (lacks_parent s lib ino Hold) (slice_get (excluding s lib ino Hold) 0) e in
+    let parent : has_parent_grant s lib (row_at s.home ino) ≡ true = not-false (has_parent_grant s lib (row_at s.home ino)) q.0 in
+    light_grant_kept s k g refl refl (λ w. cc w) (ap is_some row)
+    (λ h i same. absurd (false≢true (sym (excluded_none s lib ino Hold e h i same))))
+    (λ w. (parent, refl)) refl
+
+granted : (s : State) (lib ino : ℕ) (kind : GrantKind) (r : Row) → Kept s → grant_fault s lib ino kind ≡ None → row_at s.home ino ≡ Some r → Kept (opens s (opened s lib ino kind r))
+granted s lib ino Read r k e row = read_grant s lib ino r k e row
+granted s lib ino Write r k e row = write_grant s lib ino r k e row
+granted s lib ino Hold r k e row = hold_grant s lib ino r k e row
+
+outcome_kept : (s : State) (lib ino : ℕ) (kind : GrantKind) (a : Option GrantFault) (o : Option Row) → Kept s → grant_fault s lib ino kind ≡ a → row_at s.home ino ≡ o → Kept (granted_to s lib ino kind a o).after
+outcome_kept s lib ino kind (Some fault) o k e row = after_fault_kept s fault k
+outcome_kept s lib ino kind None None k e row = k
+outcome_kept s lib ino kind None (Some r) k e row = granted s lib ino kind r k e row
+
+-- a step of a grant of any kind
+pub grant_kept : (s s' : State) (lib ino : ℕ) (kind : GrantKind) (answer : Answer) → Kept s → Step s (Grant lib ino kind) answer s' → Kept s'
+grant_kept s s' lib ino kind answer k step =
+    let K : State → Type 0 = λ x. Kept x in
+    elim step [
+      | inl does ↦ subst K (sym does.1) (outcome_kept s lib ino kind (grant_fault s lib ino kind) (row_at s.home ino) k refl refl)
+      | inr none ↦ subst K (sym none.2) k
+    ]

@@ -1,0 +1,217 @@
+-- A change of mode keeps what holds of a state.
+use Rattle.std.proofs.Common.{◌⊎◌, get_or, ◌≡◌, ℕ, ◌≤◌, Bool, true, false, cond, ◌||◌, not, eqb, ltb, List, [], ◌∷◌, set, Option, Some, None, slice_get, slice_set, sym, refl, ap, ◌∙◌, subst, inl, inr}
+use Rattle.std.specs.Prelude.{is_some}
+use Rattle.std.specs.List.{flat_map}
+use Rattle.std.specs.Option.{option_map, option_and_then, option_map_or}
+use Rattle.std.proofs.lemmas.List.{set_comm, get_or-set_other}
+use Rattle.std.proofs.lemmas.Bool.{cases_eq, ne_eqb, or_parts, or_cases, not-false, eqb-true, ltb-false, eqb-false}
+use Rattle.trio_rights.specs.Row.{Row}
+use Rattle.trio_nodes.specs.declared.answers.ModeFault.{ModeFault}
+use Rattle.trio_nodes.specs.declared.answers.ModeFault.TheVariants.{NotLive, NotOwner, BadMode, Busy, NoMemory as OutOfMemory}
+use Rattle.trio_layout.specs.Entries.{body_in_slot}
+use Rattle.trio_layout.specs.Lists.{In}
+use Rattle.trio_layout.specs.Survey.{Met, plain, survey, children, pages_of}
+use Rattle.trio_state.specs.Accept.{with_body_in}
+use Rattle.trio_state.specs.Grants.{holder_of, has_parent_grant}
+use Rattle.trio_state.specs.Image.{IsFit, Image, settled_body, row_at, body_by_row}
+use Rattle.trio_state.specs.Kept.{Kept, LentIsListed}
+use Rattle.trio_state.specs.Mode.{with_mode, moded_row, body_put, moded}
+use Rattle.trio_state.specs.Sheets.{Sheet, sheet_numbers, with_pages}
+use Rattle.trio_state.specs.State.{OpenGrant, State, settled, creds_of}
+use Rattle.trio_state.specs.Step.{after_mode_fault, SetMode, Answer, Step, mode_excluding, mode_fault, moded_to}
+use Rattle.trio_state.specs.Verifies.{Verifies}
+use Rattle.trio_laws.proofs.Grants.{none_passes, logged_kept}
+use Rattle.trio_laws.proofs.Images.{some_of, MetAt, root_or_listed}
+use Rattle.trio_laws.proofs.Members.{In-right, flat_from}
+use Rattle.trio_laws.proofs.Moded.{changed}
+use Rattle.trio_laws.proofs.ModedCore.{read_now}
+use Rattle.trio_laws.proofs.ModedImage.{mode_body_other, met_other, mode_met, mode_verifies, mode_fit, mode_file}
+use Rattle.trio_laws.proofs.Owned.{pages_are}
+use Rattle.trio_laws.proofs.SheetLaws.{page_at, get-set_same, get-set_other}
+use Rattle.trio_laws.proofs.Sheets.{Pages, page_same, with_pages_apart}
+use Rattle.trio_laws.proofs.StateFacts.{live_met, lent_file, checkpoint_lent}
+use Rattle.trio_laws.proofs.Tree.{child_from, child_placed}
+
+with_pages_set : (ss : List Sheet) (pages : Pages) (k : ℕ) (x : Option (List ℕ)) → (In k (sheet_numbers ss) → ⊥) → with_pages ss (slice_set pages k x) ≡ slice_set (with_pages ss pages) k x
+with_pages_set [] pages k x h = refl
+with_pages_set (s ∷ ss) pages k x h =
+    ap (with_pages ss) (set_comm pages k s.page x (Some s.bytes) (λ e. h (inl e)))
+    ∙ with_pages_set ss (slice_set pages s.page (Some s.bytes)) k x (λ i. h (inr i))
+
+absent_set : (o : Option (Option (List ℕ))) (f : List ℕ → List ℕ) → option_map (λ _. option_map f (option_and_then (λ x. x) o)) o ≡ Some None → o ≡ Some None
+absent_set None f e = absurd cc
+absent_set (Some None) f e = refl
+absent_set (Some (Some b)) f e = absurd cc
+
+absent_put : (r : Row) (body : List ℕ) (pages : Pages) (p : ℕ) → slice_get (body_put (Some r) body pages) p ≡ Some None → slice_get pages p ≡ Some None
+absent_put r body pages p e =
+    let X : Option (List ℕ) = option_map (with_body_in r.slot body) (get_or pages r.page None) in
+    elim (cases_eq r.page p) [
+      | inl same ↦
+          let f : List ℕ → List ℕ = with_body_in r.slot body in
+          let a : option_map (λ _. option_map f (option_and_then (λ x. x) (slice_get pages r.page))) (slice_get pages r.page) ≡ Some None =
+          ap (λ x. option_map (λ _. option_map f x) (slice_get pages r.page)) (sym (page_at pages r.page)) ∙ sym (get-set_same pages r.page X) ∙ ap (slice_get (slice_set pages r.page X)) same ∙ e in
+          ap (slice_get pages) (sym same) ∙ absent_set (slice_get pages r.page) f a
+      | inr differ ↦ sym (get-set_other pages r.page p X (ne_eqb r.page p differ)) ∙ e
+    ]
+
+module _ (s : State) (k : Kept s) (n mode : ℕ) (r : Row) (row : row_at s.home n ≡ Some r) (small : mode ≤ 511) (other : n ≡ 1 → ⊥) (free : (g : OpenGrant) → In g s.open_grants → (g.ino ≡ n → ⊥) × (g.ino ≡ r.parent → ⊥)) where
+  abbrev ck : List Sheet
+  ck = flat_map (λ g. g.checkpoint) s.open_grants
+
+  abbrev pub after : State
+  after = record s { home = moded s.home n mode }
+
+  abbrev q : MetAt (settled s).core plain n r
+  q = mode_met (settled s) n mode r k.fit k.verifies row small other
+
+  -- no checkpoint covers the page of the body
+  away : In r.page (sheet_numbers ck) → ⊥
+  away i =
+      let m = live_met s k n r row in
+      elim (root_or_listed (settled s).core plain k.fit k.verifies.sound m.met m.stands) [
+        | inl e ↦ other (sym m.number ∙ ap (λ (x : Met). x.ino) e)
+        | inr j ↦
+            let d = flat_from (children (settled s).core plain) m.met (survey (settled s).core plain) j in
+            let c = child_from (settled s).core plain d.0 m.met d.2 in
+            let pl = child_placed (settled s).core plain d.0 m.met c in
+            let page : r.page ≡ c.entry.page = ap (λ (x : Row). x.page) m.row ∙ ap (λ (x : Met). x.page) c.is in
+            let parent : r.parent ≡ d.0.ino = ap (λ (x : Row). x.parent) m.row ∙ ap (λ (x : Met). x.parent) c.is in
+            let block : In r.page (pages_of (settled s).core d.0) =
+            subst (λ l. In r.page l) (sym (pages_are (settled s).core d.0 c.file c.read)) (In-right r.page c.file.chain.index c.file.chain.blocks (subst (λ x. In x c.file.chain.blocks) (sym page) pl.block)) in
+            let g = checkpoint_lent s k r.page i in
+            (free g.0 g.1).1 (lent_file s k d.0 r.page g.0 d.1 block g.1 g.2 g.3 ∙ sym parent)
+      ]
+
+  page_home : slice_get s.home.core.pages r.page ≡ slice_get (settled s).core.pages r.page
+  page_home = sym (with_pages_apart ck s.home.core.pages r.page away)
+
+  body_same : settled_body s.home n ≡ settled_body (settled s) n
+  body_same =
+      let f : eqb n 1 ≡ false = ne_eqb n 1 other in
+      ap (λ b. cond b s.home.core.root (body_by_row s.home.core (row_at s.home n))) f
+      ∙ ap (body_by_row s.home.core) row
+      ∙ ap (λ o. option_map_or (body_in_slot r.slot) o []) (page_same (settled s).core s.home.core.pages r.page page_home)
+      ∙ ap (body_by_row (settled s).core) (sym row)
+      ∙ sym (ap (λ b. cond b s.home.core.root (body_by_row (settled s).core (row_at s.home n))) f)
+
+  pages_same : with_pages ck (moded s.home n mode).core.pages ≡ (moded (settled s) n mode).core.pages
+  pages_same =
+      let P : Pages = s.home.core.pages in
+      let S : Pages = (settled s).core.pages in
+      let body : List ℕ = with_mode mode (settled_body s.home n) in
+      let X : Option (List ℕ) → Option (List ℕ) = λ o. option_map (with_body_in r.slot body) o in
+      let there : get_or P r.page None ≡ get_or S r.page None = page_at P r.page ∙ ap (option_and_then (λ x. x)) page_home ∙ sym (page_at S r.page) in
+      ap (λ o. with_pages ck (body_put o body P)) row
+      ∙ with_pages_set ck P r.page (X (get_or P r.page None)) away
+      ∙ ap (λ o. slice_set S r.page (X o)) there
+      ∙ ap (λ o. body_put o body S) (sym row)
+      ∙ ap (λ b. body_put (row_at s.home n) (with_mode mode b) S) body_same
+
+  pub settled_moded : settled after ≡ moded (settled s) n mode
+  settled_moded =
+      let J : Pages → Image = λ ps. record { core = record { pages = ps; root = s.home.core.root; range = s.home.core.range; inodes = s.home.core.inodes }; rows = set s.home.rows n (moded_row mode (row_at s.home n)); owners = s.home.owners } in
+      ap J pages_same
+
+  row_other : (j : ℕ) → (j ≡ n → ⊥) → row_at after.home j ≡ row_at s.home j
+  row_other j d = get_or-set_other s.home.rows n j (moded_row mode (row_at s.home n)) None d
+
+  parent_same : (l : ℕ) (o : Option Row) → has_parent_grant s l o ≡ true → has_parent_grant after l o ≡ true
+  parent_same l None e = e
+  parent_same l (Some x) e = e
+
+  verifies' : Verifies (moded (settled s) n mode)
+  verifies' = mode_verifies (settled s) n mode r k.fit k.verifies row small other
+
+  pub moded_kept : Kept after
+  moded_kept = record {
+    fit = (let P : Image → Type 0 = λ i. IsFit i.core in subst P (sym settled_moded) (mode_fit (settled s) n mode r k.fit k.verifies row small other));
+    verifies = (let P : Image → Type 0 = λ i. Verifies i in subst P (sym settled_moded) verifies');
+    live = λ g i. ap is_some (row_other g.ino (free g i).0) ∙ k.live g i;
+    apart = k.apart;
+    held = λ g i w.
+        let h = k.held g i w in
+        let x = some_of (row_at s.home g.ino) (k.live g i) in (
+          ap (has_parent_grant after g.lib) (row_other g.ino (free g i).0) ∙ parent_same g.lib (row_at s.home g.ino) h.0,
+          h.1 ∙ sym (mode_body_other (settled s) n mode r k.fit k.verifies row small other g.ino x.0 x.1 (free g i).0) ∙ ap (λ (y : Image). settled_body y g.ino) (sym settled_moded),
+        );
+    lent = λ g i w.
+        let l = k.lent g i w in
+        let f = mode_file (settled s) n mode r k.fit k.verifies row small other l.met l.file l.stands l.read in
+        let there : LentIsListed (moded (settled s) n mode) g = record {
+          met = changed q.met.ino mode l.met;
+          file = read_now (settled s).core k.fit k.verifies.sound mode small q.met q.stands (met_other (settled s) n mode r k.fit k.verifies row small other) l.met l.file;
+          stands = f.0;
+          read = f.1;
+          number = l.number;
+          of = l.of;
+          index = l.index;
+          blocks = l.blocks;
+        } in
+        let P : Image → Type 0 = λ i. LentIsListed i g in subst P (sym settled_moded) there;
+    checkpoints = k.checkpoints;
+    absent = λ p gone c.
+        let a : slice_get (body_put (Some r) (with_mode mode (settled_body s.home n)) s.home.core.pages) p ≡ Some None =
+        ap (λ o. slice_get (body_put o (with_mode mode (settled_body s.home n)) s.home.core.pages) p) (sym row) ∙ gone in
+        k.absent p (absent_put r (with_mode mode (settled_body s.home n)) s.home.core.pages p a) c;
+    out_once = k.out_once;
+    out_free = k.out_free;
+    numbers_once = k.numbers_once;
+    numbers_free = λ o i.
+        let was = k.numbers_free o i in
+        row_other o.number (λ e. (let wrong : None ≡ Some r = sym was ∙ ap (row_at s.home) e ∙ row in absurd (cc wrong))) ∙ was;
+  }
+
+-- a change of mode that isn't refused
+passed : (b c : Bool) (o : Option OpenGrant) → cond b (Some NotOwner) (cond c (Some BadMode) (option_map (λ (g : OpenGrant). Busy (holder_of g)) o)) ≡ None → (b ≡ false) × (c ≡ false) × (o ≡ None)
+passed true c o e = absurd cc
+passed false true o e = absurd cc
+passed false false None e = (refl, refl, refl)
+passed false false (Some g) e = absurd cc
+
+after_fault_kept : (s : State) (f : ModeFault) → Kept s → Kept (after_mode_fault s f)
+after_fault_kept s NotLive k = logged_kept s k
+after_fault_kept s NotOwner k = logged_kept s k
+after_fault_kept s BadMode k = logged_kept s k
+after_fault_kept s (Busy holder) k = k
+after_fault_kept s OutOfMemory k = logged_kept s k
+
+-- what a change of mode that isn't refused has passed
+pub record MayChange (s : State) (lib ino mode : ℕ) (r : Row) : Type 0 where
+  pub other : ino ≡ 1 → ⊥
+  pub small : mode ≤ 511
+  pub free : (g : OpenGrant) → In g s.open_grants → (g.ino ≡ ino → ⊥) × (g.ino ≡ r.parent → ⊥)
+  pub owner : ((creds_of s lib).uid ≡ 0) ⊎ ((creds_of s lib).uid ≡ r.uid)
+
+pub may_change : (s : State) (lib ino mode : ℕ) (r : Row) → mode_fault s lib ino mode (Some r) ≡ None → MayChange s lib ino mode r
+may_change s lib ino mode r e =
+    let uid : ℕ = (creds_of s lib).uid in
+    let p = passed (eqb ino 1 || not (eqb uid 0 || eqb uid r.uid)) (ltb 511 mode) (mode_excluding s ino r) e in
+    let own = or_parts (eqb ino 1) (not (eqb uid 0 || eqb uid r.uid)) p.0 in
+    record {
+      other = eqb-false ino 1 own.0;
+      small = ltb-false 511 mode p.1;
+      free = λ g i.
+          let f = or_parts (eqb g.ino ino) (eqb g.ino r.parent) (none_passes (λ (g : OpenGrant). eqb g.ino ino || eqb g.ino r.parent) s.open_grants g p.2 i) in
+          (eqb-false g.ino ino f.0, eqb-false g.ino r.parent f.1);
+      owner = elim (or_cases (eqb uid 0) (eqb uid r.uid) (not-false (eqb uid 0 || eqb uid r.uid) own.1)) [
+        | inl root ↦ inl (eqb-true uid 0 root)
+        | inr same ↦ inr (eqb-true uid r.uid same)
+      ];
+    }
+
+outcome_kept : (s : State) (lib ino mode : ℕ) (o : Option Row) (a : Option ModeFault) → Kept s → row_at s.home ino ≡ o → mode_fault s lib ino mode o ≡ a → Kept (moded_to s ino mode a).after
+outcome_kept s lib ino mode o (Some fault) k row e = after_fault_kept s fault k
+outcome_kept s lib ino mode None None k row e = absurd cc
+outcome_kept s lib ino mode (Some r) None k row e =
+    let may = may_change s lib ino mode r e in
+    logged_kept (record s { home = moded s.home ino mode }) (moded_kept s k ino mode r row may.small may.other may.free)
+
+-- a step of a change of mode
+pub mode_kept : (s s' : State) (lib ino mode : ℕ) (answer : Answer) → Kept s → Step s (SetMode lib ino mode) answer s' → Kept s'
+mode_kept s s' lib ino mode answer k step =
+    let K : State → Type 0 = λ x. Kept x in
+    elim step [
+      | inl does ↦ subst K (sym does.1) (outcome_kept s lib ino mode (row_at s.home ino) (mode_fault s lib ino mode (row_at s.home ino)) k refl refl)
+      | inr none ↦ subst K (sym none.2) k
+    ]

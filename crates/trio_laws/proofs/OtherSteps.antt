@@ -1,0 +1,154 @@
+-- Each step of another library leaves what a library was given.
+use Rattle.std.proofs.Common.{◌≡◌, ℕ, Bool, true, false, cond, ◌&&◌, not, eqb, ltb, [], ◌∷◌, length, take, Option, Some, None, sym, refl, ap, ◌∙◌, subst, inl, inr}
+use Rattle.std.specs.Prelude.{map}
+use Rattle.std.proofs.lemmas.Bool.{and_left, not_from_false, ne_eqb}
+use Rattle.std.proofs.lemmas.List.{get_or-set_other}
+use Rattle.trio_rights.specs.Row.{Row}
+use Rattle.trio_nodes.specs.declared.grant.GrantKind.{GrantKind}
+use Rattle.trio_nodes.specs.declared.grant.GrantKind.TheVariants.{Read}
+use Rattle.trio_nodes.specs.declared.answers.GrantFault.{GrantFault}
+use Rattle.trio_nodes.specs.declared.answers.GrantFault.TheVariants.{NotLive, Denied, NoParent, Busy, NoMemory as OutOfMemory}
+use Rattle.trio_nodes.specs.declared.answers.ModeFault.{ModeFault}
+use Rattle.trio_nodes.specs.declared.answers.ModeFault.TheVariants.{NotLive as ModeNotLive, NotOwner, BadMode, Busy as ModeBusy, NoMemory as ModeNoMemory}
+use Rattle.trio_layout.specs.Lists.{In}
+use Rattle.trio_state.specs.Image.{row_at}
+use Rattle.trio_state.specs.State.{OpenGrant, State, is_read, logged}
+use Rattle.trio_state.specs.Proposed.{Bundle}
+use Rattle.trio_state.specs.Mode.{moded, moded_row}
+use Rattle.trio_state.specs.Grants.{grant_fault, opened, opens, given_back}
+use Rattle.trio_state.specs.Allotments.{free_pages, free_numbers, allots}
+use Rattle.trio_state.specs.Step.{Event, Grant, Allot, Back, Release, Settle, SetMode, Answer, NoPages, NoInodes, Given, Outcome, Step, after_grant_fault, granted_to, allot_outcome, mode_fault, after_mode_fault, moded_to}
+use Rattle.trio_state.specs.Kept.{Kept}
+use Rattle.trio_state.specs.Given.{GivenTo, GivenEvent}
+use Rattle.trio_laws.specs.Laws.{library_of, GivenThrough, ClosedThrough}
+use Rattle.trio_laws.proofs.Members.{In-left, In-cases}
+use Rattle.trio_laws.proofs.Bundles.{closed_unparted, closed_all, filter_in, in_filter}
+use Rattle.trio_laws.proofs.Releases.{ReleaseEnd, Parted, IsAccepted, IsRefused, release_end}
+use Rattle.trio_laws.proofs.Modes.{may_change}
+use Rattle.trio_laws.proofs.Runs.{step_kept}
+use Rattle.trio_laws.proofs.Others.{LeavesTo, has_grant_stays, given_stays, unparted_stays, refused_leaves, accepted_leaves}
+
+-- a step after which grants, outs and rows stand as they did
+same_leaves : (s s' : State) (lib : ℕ) → s'.open_grants ≡ s.open_grants → s'.pages_out ≡ s.pages_out → s'.numbers_out ≡ s.numbers_out → ((g : OpenGrant) (q : Row) → In g s.open_grants → row_at s'.home g.ino ≡ Some q → (r : Row) × (row_at s.home g.ino ≡ Some r) × (r.parent ≡ q.parent)) → LeavesTo s s' lib
+same_leaves s s' lib a b c rows = record {
+  grants = λ g i mine. (g, subst (λ l. In g l) (sym a) i, refl);
+  none_new = λ h i mine. (h, subst (λ l. In h l) a i, refl);
+  pages = λ o i mine. subst (λ l. In o l) (sym b) i;
+  numbers = λ o i mine. subst (λ l. In o l) (sym c) i;
+  parents = λ g q i mine row. rows g q i row;
+}
+
+no_step_leaves : (s : State) (lib : ℕ) → LeavesTo s s lib
+no_step_leaves s lib = same_leaves s s lib refl refl refl (λ g q i row. (q, row, refl))
+
+logged_leaves : (s : State) (lib : ℕ) → LeavesTo s (logged s) lib
+logged_leaves s lib = same_leaves s (logged s) lib refl refl refl (λ g q i row. (q, row, refl))
+
+grant_fault_leaves : (s : State) (f : GrantFault) (lib : ℕ) → LeavesTo s (after_grant_fault s f) lib
+grant_fault_leaves s NotLive lib = logged_leaves s lib
+grant_fault_leaves s (Denied n) lib = logged_leaves s lib
+grant_fault_leaves s NoParent lib = logged_leaves s lib
+grant_fault_leaves s (Busy holder) lib = no_step_leaves s lib
+grant_fault_leaves s OutOfMemory lib = logged_leaves s lib
+
+opens_leaves : (s : State) (g : OpenGrant) (lib : ℕ) → (g.lib ≡ lib → ⊥) → LeavesTo s (opens s g) lib
+opens_leaves s g lib apart = record {
+  grants = λ h i mine. (h, In-left h s.open_grants (g ∷ []) i, refl);
+  none_new = λ h i mine. elim (In-cases h s.open_grants (g ∷ []) i) [
+    | inl old ↦ (h, old, refl)
+    | inr new ↦ elim new [ inl same ↦ absurd (apart (ap (λ (x : OpenGrant). x.lib) (sym same) ∙ mine)) | inr z ↦ absurd z ]
+  ];
+  pages = λ o i mine. i;
+  numbers = λ o i mine. i;
+  parents = λ h q i mine row. (q, row, refl);
+}
+
+grant_leaves : (s : State) (lib other ino : ℕ) (kind : GrantKind) (a : Option GrantFault) (o : Option Row) → (other ≡ lib → ⊥) → LeavesTo s (granted_to s other ino kind a o).after lib
+grant_leaves s lib other ino kind (Some fault) o apart = grant_fault_leaves s fault lib
+grant_leaves s lib other ino kind None None apart = no_step_leaves s lib
+grant_leaves s lib other ino kind None (Some r) apart = opens_leaves s (opened s other ino kind r) lib apart
+
+allot_leaves : (s : State) (lib other count many : ℕ) → LeavesTo s (allot_outcome s other count many).after lib
+allot_leaves s lib other count many = either (ltb (length (free_pages s)) count) (ltb (length (free_numbers s)) many)
+  where
+    either : (a b : Bool) → LeavesTo s (cond {A = Outcome} a (record { answer = NoPages count (length (free_pages s)); after = logged s }) (cond b (record { answer = NoInodes many (length (free_numbers s)); after = logged s }) (record { answer = Given (take count (free_pages s)) (take many (free_numbers s)); after = allots s other (take count (free_pages s)) (take many (free_numbers s)) }))).after lib
+    either true b = logged_leaves s lib
+    either false true = logged_leaves s lib
+    either false false = record {
+      grants = λ g i mine. (g, i, refl);
+      none_new = λ h i mine. (h, i, refl);
+      pages = λ o i mine. In-left o s.pages_out (map (λ p. record { lib = other; number = p }) (take count (free_pages s))) i;
+      numbers = λ o i mine. In-left o s.numbers_out (map (λ n. record { lib = other; number = n }) (take many (free_numbers s))) i;
+      parents = λ g q i mine row. (q, row, refl);
+    }
+
+back_leaves : (s : State) (lib other ino : ℕ) → (other ≡ lib → ⊥) → LeavesTo s (given_back s other ino) lib
+back_leaves s lib other ino apart =
+    let stays : OpenGrant → Bool = λ g. not (eqb g.lib other && eqb g.ino ino && is_read g.kind) in
+    record {
+      grants = λ g i mine.
+          let away : (eqb g.lib other && eqb g.ino ino && is_read g.kind) ≡ false =
+          and_left (eqb g.lib other && eqb g.ino ino) (is_read g.kind) (and_left (eqb g.lib other) (eqb g.ino ino) (ne_eqb g.lib other (λ e. apart (sym e ∙ mine)))) in
+          (g, in_filter stays g s.open_grants i (not_from_false (eqb g.lib other && eqb g.ino ino && is_read g.kind) away), refl);
+      none_new = λ h i mine. (h, (filter_in stays h s.open_grants i).0, refl);
+      pages = λ o i mine. i;
+      numbers = λ o i mine. i;
+      parents = λ g q i mine row. (q, row, refl);
+    }
+
+mode_fault_leaves : (s : State) (f : ModeFault) (lib : ℕ) → LeavesTo s (after_mode_fault s f) lib
+mode_fault_leaves s ModeNotLive lib = logged_leaves s lib
+mode_fault_leaves s NotOwner lib = logged_leaves s lib
+mode_fault_leaves s BadMode lib = logged_leaves s lib
+mode_fault_leaves s (ModeBusy holder) lib = no_step_leaves s lib
+mode_fault_leaves s ModeNoMemory lib = logged_leaves s lib
+
+mode_leaves : (s : State) (lib other ino mode : ℕ) (o : Option Row) (a : Option ModeFault) → mode_fault s other ino mode o ≡ a → LeavesTo s (moded_to s ino mode a).after lib
+mode_leaves s lib other ino mode o (Some fault) e = mode_fault_leaves s fault lib
+mode_leaves s lib other ino mode None None e = absurd cc
+mode_leaves s lib other ino mode (Some r) None e =
+    let may = may_change s other ino mode r e in
+    same_leaves s (logged (record s { home = moded s.home ino mode })) lib refl refl refl
+    (λ g q i row.
+    let same : row_at (moded s.home ino mode) g.ino ≡ row_at s.home g.ino =
+    get_or-set_other s.home.rows ino g.ino (moded_row mode (row_at s.home ino)) None (may.free g i).0 in
+    (q, sym same ∙ row, refl))
+
+release_leaves : (s s' : State) (lib other : ℕ) (b : Bundle) (answer : Answer) → Kept s → GivenTo s other b → (other ≡ lib → ⊥) → ReleaseEnd s other b answer s' → LeavesTo s s' lib
+release_leaves s s' lib other b answer k given apart (Parted n none e same) = (let L : State → Type 0 = λ x. LeavesTo s x lib in subst L (sym same) (no_step_leaves s lib))
+release_leaves s s' lib other b answer k given apart (IsAccepted none t e ends) = accepted_leaves s s' k lib other b given (closed_unparted s other b none) t ends (λ x. apart (sym x))
+release_leaves s s' lib other b answer k given apart (IsRefused none f e ends) = refused_leaves s s' k lib other b given ends (λ x. apart (sym x))
+
+-- a step of another library leaves what a library has out
+pub other_step_leaves : (s s' : State) (lib : ℕ) (event : Event) (answer : Answer) → Kept s → GivenEvent s event → Step s event answer s' → (library_of event ≡ lib → ⊥) → LeavesTo s s' lib
+other_step_leaves s s' lib event answer k given (inr none) apart =
+    let L : State → Type 0 = λ x. LeavesTo s x lib in subst L (sym none.2) (no_step_leaves s lib)
+other_step_leaves s s' lib (Grant other ino kind) answer k given (inl does) apart =
+    let L : State → Type 0 = λ x. LeavesTo s x lib in subst L (sym does.1) (grant_leaves s lib other ino kind (grant_fault s other ino kind) (row_at s.home ino) apart)
+other_step_leaves s s' lib (Allot other count many) answer k given (inl does) apart =
+    let L : State → Type 0 = λ x. LeavesTo s x lib in subst L (sym does.1) (allot_leaves s lib other count many)
+other_step_leaves s s' lib (Back other ino) answer k given (inl does) apart =
+    let L : State → Type 0 = λ x. LeavesTo s x lib in subst L (sym does.1) (back_leaves s lib other ino apart)
+other_step_leaves s s' lib (Release other b) answer k given (inl does) apart =
+    release_leaves s s' lib other b answer k given apart (release_end s s' other b answer does)
+other_step_leaves s s' lib (Settle other b) answer k given (inl does) apart =
+    accepted_leaves s s' k lib other b given (closed_all s other b does.1) does.2 does.3 (λ x. apart (sym x))
+other_step_leaves s s' lib (SetMode other ino mode) answer k given (inl does) apart =
+    let L : State → Type 0 = λ x. LeavesTo s x lib in subst L (sym does.1) (mode_leaves s lib other ino mode (row_at s.home ino) (mode_fault s other ino mode (row_at s.home ino)) refl)
+
+event_stays : (s s' : State) (mine : Event) → LeavesTo s s' (library_of mine) → GivenEvent s mine → GivenEvent s' mine
+event_stays s s' (Grant lib ino kind) l given = given
+event_stays s s' (Allot lib pages numbers) l given = given
+event_stays s s' (Back lib ino) l given = has_grant_stays s s' lib ino Read l given
+event_stays s s' (Release lib b) l given = given_stays s s' lib b given l
+event_stays s s' (Settle lib b) l given = given_stays s s' lib b given l
+event_stays s s' (SetMode lib ino mode) l given = given
+
+-- what a library hands in stays given through the steps of others
+pub given_through : GivenThrough
+given_through s mine event answer s' k given event_given step apart =
+    event_stays s s' mine (other_step_leaves s s' (library_of mine) event answer k event_given step apart) given
+
+pub closed_through : ClosedThrough
+closed_through s lib b event answer s' k given step apart none =
+    unparted_stays s s' lib b (step_kept s s' event answer k given step) (other_step_leaves s s' lib event answer k given step apart) none

@@ -1,0 +1,141 @@
+-- A step of another library leaves what a library was given.
+use Rattle.std.proofs.Common.{cond, ◌&&◌, None, Bool, ◌≡◌, ℕ, true, false, not, eqb, List, [], ◌∷◌, Some, sym, refl, ap, ◌∙◌, subst, inl, inr}
+use Rattle.std.specs.Prelude.{map}
+use Rattle.std.specs.List.{filter}
+use Rattle.std.proofs.lemmas.Bool.{and_parts, and_left, eqb-true, both_ways, ne_eqb, not_from_false, false_from_ne_true}
+use Rattle.trio_rights.specs.Row.{Row}
+use Rattle.trio_nodes.specs.declared.grant.GrantKind.{GrantKind}
+use Rattle.trio_nodes.specs.declared.grant.GrantKind.TheVariants.{Hold}
+use Rattle.trio_layout.specs.Lists.{is_among, are_new, In}
+use Rattle.trio_layout.specs.Survey.{row_by}
+use Rattle.trio_state.specs.Accept.{is_accepted, next}
+use Rattle.trio_state.specs.Bundles.{is_hold, is_parent_written, is_parted, parted_hold, is_in_bundle, lent_part, refused_image, Ends}
+use Rattle.trio_state.specs.Given.{HasGrant, GivenTo}
+use Rattle.trio_state.specs.Image.{Image, row_at}
+use Rattle.trio_state.specs.Kept.{Kept}
+use Rattle.trio_state.specs.Proposed.{Bundle, is_written}
+use Rattle.trio_state.specs.Sheets.{sheet_numbers}
+use Rattle.trio_state.specs.State.{OpenGrant, Out, State, settled, creds_of}
+use Rattle.trio_laws.proofs.Accepting.{stays_then, row_then}
+use Rattle.trio_laws.proofs.Bundles.{Closed, in_filter, unparted_at, unparted_from}
+use Rattle.trio_laws.proofs.Ended.{grant_before, grant_after}
+use Rattle.trio_laws.proofs.Images.{some_of}
+use Rattle.trio_laws.proofs.Members.{In-map, In-among}
+use Rattle.trio_laws.proofs.Owned.{new_before, new_weaker}
+
+-- what a step leaves of the grants and outs of a library
+pub record LeavesTo (s s' : State) (lib : ℕ) : Type 0 where
+  pub grants : (g : OpenGrant) → In g s.open_grants → g.lib ≡ lib → (h : OpenGrant) × In h s'.open_grants × (lent_part g ≡ lent_part h)
+  pub none_new : (h : OpenGrant) → In h s'.open_grants → h.lib ≡ lib → (g : OpenGrant) × In g s.open_grants × (lent_part h ≡ lent_part g)
+  pub pages : (o : Out) → In o s.pages_out → o.lib ≡ lib → In o s'.pages_out
+  pub numbers : (o : Out) → In o s.numbers_out → o.lib ≡ lib → In o s'.numbers_out
+  pub parents : (g : OpenGrant) (q : Row) → In g s.open_grants → g.lib ≡ lib → row_at s'.home g.ino ≡ Some q → (r : Row) × (row_at s.home g.ino ≡ Some r) × (r.parent ≡ q.parent)
+
+-- then a grant of the library stays
+pub has_grant_stays : (s s' : State) (lib ino : ℕ) (kind : GrantKind) → LeavesTo s s' lib → HasGrant s lib ino kind → HasGrant s' lib ino kind
+has_grant_stays s s' lib ino kind l g =
+    let h = l.grants g.grant g.is_open g.lib in
+    record {
+      grant = h.0;
+      is_open = h.1;
+      lib = ap (λ (x : OpenGrant). x.lib) (sym h.2) ∙ g.lib;
+      kind = ap (λ (x : OpenGrant). x.kind) (sym h.2) ∙ g.kind;
+      ino = ap (λ (x : OpenGrant). x.ino) (sym h.2) ∙ g.ino;
+    }
+
+-- what was given stays given
+pub given_stays : (s s' : State) (lib : ℕ) (b : Bundle) → GivenTo s lib b → LeavesTo s s' lib → GivenTo s' lib b
+given_stays s s' lib b given l = record {
+  writes = λ w i.
+      let g = given.writes w i in
+      let h = l.grants g.grant g.is_open g.lib in
+      record {
+        grant = h.0;
+        is_open = h.1;
+        lib = ap (λ (x : OpenGrant). x.lib) (sym h.2) ∙ g.lib;
+        kind = ap (λ (x : OpenGrant). x.kind) (sym h.2) ∙ g.kind;
+        ino = ap (λ (x : OpenGrant). x.ino) (sym h.2) ∙ g.ino;
+        of = ap (λ (x : OpenGrant). x.of) (sym h.2) ∙ g.of;
+        index = g.index ∙ ap (λ (x : OpenGrant). sheet_numbers x.index) h.2;
+        blocks = g.blocks ∙ ap (λ (x : OpenGrant). sheet_numbers x.blocks) h.2;
+      };
+  holds = λ n i. has_grant_stays s s' lib n Hold l (given.holds n i);
+  pages = λ n i. let o = given.pages n i in (o.0, l.pages o.0 o.1 o.2, o.2, o.3);
+  numbers = λ n i. let o = given.numbers n i in (o.0, l.numbers o.0 o.1 o.2, o.2, o.3);
+  full = given.full;
+}
+
+-- a bundle that is closed stays closed
+pub unparted_stays : (s s' : State) (lib : ℕ) (b : Bundle) → Kept s' → LeavesTo s s' lib → parted_hold s lib b ≡ None → parted_hold s' lib b ≡ None
+unparted_stays s s' lib b k' l none =
+    unparted_from s' lib b
+    (λ h i.
+    false_from_ne_true (is_parted s' lib b h)
+    (λ t.
+    let own = and_parts (eqb h.lib lib && is_hold h.kind) (cond (is_among h.ino b.holds) (not (is_parent_written b (row_at s'.home h.ino))) (is_parent_written b (row_at s'.home h.ino))) t in
+    let mine : h.lib ≡ lib = eqb-true h.lib lib (and_parts (eqb h.lib lib) (is_hold h.kind) own.0).0 in
+    let n = l.none_new h i mine in
+    let g : OpenGrant = n.0 in
+    let part : lent_part h ≡ lent_part g = n.2 in
+    let q = some_of (row_at s'.home h.ino) (k'.live h i) in
+    let at : h.ino ≡ g.ino = ap (λ (x : OpenGrant). x.ino) part in
+    let r = l.parents g q.0 n.1 (ap (λ (x : OpenGrant). x.lib) (sym part) ∙ mine) (ap (row_at s'.home) (sym at) ∙ q.1) in
+    let P : OpenGrant → Bool → Bool = λ x w. eqb x.lib lib && is_hold x.kind && cond (is_among x.ino b.holds) (not w) w in
+    let written : is_parent_written b (row_at s.home g.ino) ≡ is_parent_written b (row_at s'.home h.ino) =
+    ap (is_parent_written b) r.1 ∙ ap (is_written b) r.2 ∙ ap (is_parent_written b) (sym q.1) in
+    let same : P g (is_parent_written b (row_at s.home g.ino)) ≡ P h (is_parent_written b (row_at s'.home h.ino)) =
+    ap (λ (x : OpenGrant). P x (is_parent_written b (row_at s.home g.ino))) (sym part) ∙ ap (P h) written in
+    both_ways (is_parted s lib b g) (unparted_at s lib b g none n.1) (same ∙ t)))
+
+-- two outs of one number are one
+one_out : (outs : List Out) (a c : Out) → are_new [] (map (λ (o : Out). o.number) outs) ≡ true → In a outs → In c outs → a.number ≡ c.number → a ≡ c
+one_out [] a c new i j e = absurd i
+one_out (x ∷ xs) a c new (inl p) (inl q) e = p ∙ sym q
+one_out (x ∷ xs) a c new (inl p) (inr j) e =
+    absurd (new_before c.number (x.number ∷ []) (map (λ (o : Out). o.number) xs) (and_parts true (are_new (x.number ∷ []) (map (λ (o : Out). o.number) xs)) new).1 (In-map (λ (o : Out). o.number) c xs j) (inl (sym e ∙ ap (λ (o : Out). o.number) p)))
+one_out (x ∷ xs) a c new (inr i) (inl q) e =
+    absurd (new_before a.number (x.number ∷ []) (map (λ (o : Out). o.number) xs) (and_parts true (are_new (x.number ∷ []) (map (λ (o : Out). o.number) xs)) new).1 (In-map (λ (o : Out). o.number) a xs i) (inl (e ∙ ap (λ (o : Out). o.number) q)))
+one_out (x ∷ xs) a c new (inr i) (inr j) e =
+    one_out xs a c (new_weaker [] (x.number ∷ []) (map (λ (o : Out). o.number) xs) (λ n k. absurd k) (and_parts true (are_new (x.number ∷ []) (map (λ (o : Out). o.number) xs)) new).1) i j e
+
+-- what the end of another library's bundle takes is that library's own
+outs_stay : (outs : List Out) (these : List ℕ) (lib other : ℕ) (o : Out) → are_new [] (map (λ (o : Out). o.number) outs) ≡ true → ((n : ℕ) → In n these → (x : Out) × In x outs × (x.lib ≡ other) × (x.number ≡ n)) → (lib ≡ other → ⊥) → In o outs → o.lib ≡ lib → In o (filter (λ (o : Out). not (is_among o.number these)) outs)
+outs_stay outs these lib other o once theirs apart i mine =
+    in_filter (λ (o : Out). not (is_among o.number these)) o outs i
+    (not_from_false (is_among o.number these)
+    (false_from_ne_true (is_among o.number these)
+    (λ t.
+    let x = theirs o.number (In-among o.number these t) in
+    let same : x.0 ≡ o = one_out outs x.0 o once x.1 i x.3 in
+    apart (sym mine ∙ ap (λ (y : Out). y.lib) (sym same) ∙ x.2))))
+
+-- the end of another library's bundle, with rows whose parents stay
+pub ends_leaves : (s s' : State) (k : Kept s) (lib other : ℕ) (b : Bundle) (given : GivenTo s other b) (image' : Image) (e : Ends s other b image' s') → (lib ≡ other → ⊥) → ((g : OpenGrant) (q : Row) → In g s.open_grants → is_in_bundle other b g ≡ false → row_at s'.home g.ino ≡ Some q → (r : Row) × (row_at s.home g.ino ≡ Some r) × (r.parent ≡ q.parent)) → LeavesTo s s' lib
+ends_leaves s s' k lib other b given image' e apart parents =
+    let out : (g : OpenGrant) → g.lib ≡ lib → is_in_bundle other b g ≡ false =
+    λ g mine. and_left (eqb g.lib other) _ (ne_eqb g.lib other (λ t. apart (sym mine ∙ t))) in
+    record {
+      grants = λ g i mine. grant_after s s' k other b given image' e g i (out g mine);
+      none_new = λ h i mine. (let r = grant_before s s' k other b given image' e h i in (r.0, r.1, r.3));
+      pages = λ o i mine. subst (λ l. In o l) (sym e.pages) (outs_stay s.pages_out (sheet_numbers b.pages) lib other o k.out_once given.pages apart i mine);
+      numbers = λ o i mine. subst (λ l. In o l) (sym e.numbers) (outs_stay s.numbers_out b.numbers lib other o k.numbers_once given.numbers apart i mine);
+      parents = λ g q i mine row. parents g q i (out g mine) row;
+    }
+
+-- a refused bundle of another library
+pub refused_leaves : (s s' : State) (k : Kept s) (lib other : ℕ) (b : Bundle) (given : GivenTo s other b) (e : Ends s other b (refused_image (settled s) b) s') → (lib ≡ other → ⊥) → LeavesTo s s' lib
+refused_leaves s s' k lib other b given e apart =
+    ends_leaves s s' k lib other b given (refused_image (settled s) b) e apart
+    (λ g q i out row. (q, sym (ap (λ (x : Image). row_at x g.ino) e.settles) ∙ row, refl))
+
+-- an accepted bundle of another library
+pub accepted_leaves : (s s' : State) (k : Kept s) (lib other : ℕ) (b : Bundle) (given : GivenTo s other b) → Closed s other b → is_accepted (settled s) (creds_of s other) b ≡ true → (e : Ends s other b (next (settled s) b) s') → (lib ≡ other → ⊥) → LeavesTo s s' lib
+accepted_leaves s s' k lib other b given closed accepted e apart =
+    ends_leaves s s' k lib other b given (next (settled s) b) e apart
+    (λ g q i out row.
+    let r = some_of (row_at s.home g.ino) (k.live g i) in
+    let st = stays_then s s' k other (creds_of s other) b given closed accepted e g i out r.0 r.1 in
+    let now = row_then s s' k other (creds_of s other) b given closed accepted e g.ino r.0 st in
+    let same : Some (row_by st.met st.file.body) ≡ Some q = sym now ∙ row in
+    let same' : row_by st.met st.file.body ≡ q = cc same in
+    (r.0, r.1, (ap (λ (x : Row). x.parent) st.row) ∙ ap (λ (x : Row). x.parent) same'))

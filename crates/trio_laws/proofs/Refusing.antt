@@ -1,0 +1,205 @@
+-- The end of a refused bundle keeps what holds of a state.
+use Rattle.std.proofs.Common.{◌≡◌, ℕ, true, false, ◌&&◌, eqb, List, ◌++◌, length, Some, None, slice_get, sym, refl, ap, ◌∙◌, subst, inl, inr, ◌⊎◌, arith}
+use Rattle.std.specs.Prelude.{is_some, slice_index}
+use Rattle.std.specs.List.{flat_map}
+use Rattle.std.proofs.lemmas.Bool.{and_parts, eqb-true, cases_Bool}
+use Rattle.trio_rights.specs.declared.kind.Kind.{Kind}
+use Rattle.trio_rights.specs.declared.kind.Kind.TheVariants.{Regular, Directory}
+use Rattle.trio_nodes.specs.declared.grant.GrantKind.TheVariants.{Write, Hold}
+use Rattle.trio_layout.specs.Core.{Core}
+use Rattle.trio_layout.specs.Lists.{is_among, In}
+use Rattle.trio_layout.specs.Range.{is_core}
+use Rattle.trio_layout.specs.Survey.{plain, FileRead, survey}
+use Rattle.trio_state.specs.Bundles.{is_in_bundle, lent_part, refused_image, uncovered, uncovered_of, Ends}
+use Rattle.trio_state.specs.Given.{GivenTo}
+use Rattle.trio_state.specs.Grants.{has_parent_grant}
+use Rattle.trio_state.specs.Image.{IsFit, Image, settled_body, row_at}
+use Rattle.trio_state.specs.Kept.{Kept, LentIsListed, HoldStands}
+use Rattle.trio_state.specs.Proposed.{Written, Bundle, bundle_sheets}
+use Rattle.trio_state.specs.Sheets.{Sheet, sheet_numbers, with_pages}
+use Rattle.trio_state.specs.State.{covered, OpenGrant, Out, State, settled, is_write}
+use Rattle.trio_state.specs.Verifies.{Verifies}
+use Rattle.trio_laws.proofs.Agreeing.{verifies_still, lent_still, body_still}
+use Rattle.trio_laws.proofs.Bundles.{Closed, outside_unheld, in_numbers}
+use Rattle.trio_laws.proofs.Ended.{grant_before, apart_then, checkpoints_then, write_in_bundle, parent_then, outs_then, numbers_then, out_once_then, numbers_once_then, absent_then}
+use Rattle.trio_laws.proofs.Images.{some_of, free_unlisted}
+use Rattle.trio_laws.proofs.Members.{In-left, In-right, In-cases, In-flat, flat_from, map_from, In-among}
+use Rattle.trio_laws.proofs.Owned.{sound_parts, pages_are}
+use Rattle.trio_laws.proofs.SheetLaws.{length-with_pages}
+use Rattle.trio_laws.proofs.Sheets.{Pages, with_pages_apart, with_pages_absent, with_pages_from, page_same, page_there, page_from}
+use Rattle.trio_laws.proofs.StateFacts.{any_at, write_is, tables}
+use Rattle.trio_laws.proofs.WriteGrant.{read_cases, block_unread, uncovers}
+use Rattle.trio_laws.specs.Reading.{with_other, AgreeOn, pages_read}
+
+-- a page that is read is listed
+pub read_listed : (kind : Kind) (f : FileRead) (p : ℕ) → In p (pages_read kind f) → In p (f.chain.index ++ f.chain.blocks)
+read_listed kind f p i =
+    elim (read_cases kind f p i) [
+      | inl a ↦ In-left p f.chain.index f.chain.blocks a
+      | inr a ↦ In-right p f.chain.index f.chain.blocks a.0
+    ]
+
+uncovered_is : (kind : Kind) (blocks : List Sheet) (x : Sheet) → In x (uncovered_of kind blocks) → (kind ≡ Regular) × In x blocks
+uncovered_is Regular blocks x i = (refl, i)
+uncovered_is Directory blocks x i = absurd i
+
+is_uncovered : (kind : Kind) (blocks : List Sheet) (x : Sheet) → kind ≡ Regular → In x blocks → In x (uncovered_of kind blocks)
+is_uncovered Regular blocks x e i = i
+is_uncovered Directory blocks x e i = absurd cc
+
+-- what counts of a grant goes with its lent part
+pub lent_like : (image : Image) (g h : OpenGrant) → lent_part g ≡ lent_part h → LentIsListed image h → LentIsListed image g
+lent_like image g h e l = record {
+  met = l.met;
+  file = l.file;
+  stands = l.stands;
+  read = l.read;
+  number = l.number ∙ ap (λ (x : OpenGrant). x.ino) (sym e);
+  of = l.of ∙ ap (λ (x : OpenGrant). x.of) (sym e);
+  index = ap (λ (x : OpenGrant). sheet_numbers x.index) e ∙ l.index;
+  blocks = ap (λ (x : OpenGrant). sheet_numbers x.blocks) e ∙ l.blocks;
+}
+
+module _ (s s' : State) (k : Kept s) (lib : ℕ) (b : Bundle) (given : GivenTo s lib b) (closed : Closed s lib b) (e : Ends s lib b (refused_image (settled s) b) s') where
+  abbrev pub core : Core
+  core = (settled s).core
+
+  abbrev pub pages : Pages
+  pages = with_pages (uncovered b ++ b.pages) (settled s).core.pages
+
+  abbrev after : Image
+  after = refused_image (settled s) b
+
+  -- where an uncovered sheet comes from
+  uncovered_from : (x : Sheet) → In x (uncovered b ++ b.pages) → In x b.pages ⊎ ((w : Written) × In w b.writes × (w.kind ≡ Regular) × In x w.blocks)
+  uncovered_from x i =
+      elim (In-cases x (flat_map (λ (w : Written). uncovered_of w.kind w.blocks) b.writes) b.pages i) [
+        | inl a ↦
+            let r = flat_from (λ (w : Written). uncovered_of w.kind w.blocks) x b.writes a in
+            let u = uncovered_is r.0.kind r.0.blocks x r.2 in inr (r.0, r.1, u.0, u.1)
+        | inr a ↦ inl a
+      ]
+
+  pub uncovered_handed : (x : Sheet) → In x (uncovered b ++ b.pages) → In x (bundle_sheets b)
+  uncovered_handed x i =
+      elim (uncovered_from x i) [
+        | inl a ↦ In-right x (flat_map (λ (w : Written). w.index ++ w.blocks) b.writes) b.pages a
+        | inr w ↦ In-left x (flat_map (λ (w : Written). w.index ++ w.blocks) b.writes) b.pages (In-flat (λ (w : Written). w.index ++ w.blocks) w.0 x b.writes w.1 (In-right x w.0.index w.0.blocks w.3))
+      ]
+
+  block_uncovered : (w : Written) (p : ℕ) → In w b.writes → w.kind ≡ Regular → In p (sheet_numbers w.blocks) → In p (sheet_numbers (uncovered b ++ b.pages))
+  block_uncovered w p i reg a =
+      let r = map_from (λ (x : Sheet). x.page) p w.blocks a in
+      let u = In-flat (λ (w : Written). uncovered_of w.kind w.blocks) w r.0 b.writes i (is_uncovered w.kind w.blocks r.0 reg r.1) in
+      in_numbers (uncovered b ++ b.pages) r.0 p (In-left r.0 (flat_map (λ (w : Written). uncovered_of w.kind w.blocks) b.writes) b.pages u) r.2
+
+  page_uncovered : (p : ℕ) → In p (sheet_numbers b.pages) → In p (sheet_numbers (uncovered b ++ b.pages))
+  page_uncovered p a =
+      let r = map_from (λ (x : Sheet). x.page) p b.pages a in
+      in_numbers (uncovered b ++ b.pages) r.0 p (In-right r.0 (flat_map (λ (w : Written). uncovered_of w.kind w.blocks) b.writes) b.pages r.1) r.2
+
+  pub agree : AgreeOn core (with_other core pages) (survey core plain)
+  agree m f p i read a =
+      page_same core pages p (with_pages_apart (uncovered b ++ b.pages) core.pages p
+      (λ j.
+      let r = map_from (λ (x : Sheet). x.page) p (uncovered b ++ b.pages) j in
+      elim (uncovered_from r.0 r.1) [
+        | inl handed ↦
+            let o = given.pages p (in_numbers b.pages r.0 p handed r.2) in
+            let z : slice_index s.home.owners p ≡ 0 = ap (slice_index s.home.owners) (sym o.3) ∙ k.out_free o.0 o.1 in
+            free_unlisted core plain k.fit k.verifies.sound (settled s) (tables s k) p z m i (subst (λ l. In p l) (sym (pages_are core m f read)) (read_listed m.kind f p a))
+        | inr w ↦
+            let g = given.writes w.0 w.1 in
+            let l = k.lent g.grant g.is_open g.kind in
+            let block : In p l.file.chain.blocks = subst (λ x. In p x) (g.blocks ∙ l.blocks) (in_numbers w.0.blocks r.0 p w.3 r.2) in
+            block_unread core (survey core plain) l.met m l.file f p (sound_parts core plain k.verifies.sound).paged l.stands l.read block (l.of ∙ g.of ∙ w.2) i read a
+      ]))
+
+  pub fit' : IsFit (with_other core pages)
+  fit' = record {
+    full = λ p bytes h.
+        let t = page_there (with_other core pages) p bytes h in
+        elim (with_pages_from (uncovered b ++ b.pages) core.pages p bytes t.1) [
+          | inl r ↦ ap length (sym r.2) ∙ given.full r.0 (uncovered_handed r.0 r.1)
+          | inr was ↦ k.fit.full p bytes (page_from core p bytes t.0 was)
+        ];
+    long = (let l = length-with_pages (uncovered b ++ b.pages) core.pages in let f = k.fit.long in omega (arith, l, f));
+    numbers = k.fit.numbers;
+  }
+
+  rows_home : (n : ℕ) → row_at s'.home n ≡ row_at s.home n
+  rows_home n = ap (λ (i : Image). row_at i n) e.settles
+
+  live_then : (g : OpenGrant) → In g s'.open_grants → is_some (row_at s'.home g.ino) ≡ true
+  live_then g i =
+      let x = grant_before s s' k lib b given after e g i in
+      ap is_some (rows_home g.ino) ∙ ap (λ (y : OpenGrant). is_some (row_at s.home y.ino)) x.3 ∙ k.live x.0 x.1
+
+  held_then : (g : OpenGrant) → In g s'.open_grants → g.kind ≡ Hold → HoldStands s' g
+  held_then g i kind =
+      let x = grant_before s s' k lib b given after e g i in
+      let h : OpenGrant = x.0 in
+      let hk : h.kind ≡ Hold = ap (λ (y : OpenGrant). y.kind) (sym x.3) ∙ kind in
+      let r = some_of (row_at s.home h.ino) (k.live h x.1) in
+      let was = k.held h x.1 hk in
+      let has : has_parent_grant s h.lib (Some r.0) ≡ true = ap (has_parent_grant s h.lib) (sym r.1) ∙ was.0 in
+      let p = parent_then s s' k lib b given after e closed h g r.0 r.0 x.1 hk x.2 r.1 (outside_unheld s k lib b given h x.1 x.2) x.3 refl has in
+      let row : row_at s'.home g.ino ≡ Some r.0 = rows_home g.ino ∙ ap (λ (y : OpenGrant). row_at s.home y.ino) x.3 ∙ r.1 in (
+        ap (has_parent_grant s' g.lib) row ∙ p,
+        ap (λ (y : OpenGrant). y.body) x.3 ∙ was.1 ∙ sym (body_still (settled s) pages k.fit fit' k.verifies agree h.ino r.0 r.1) ∙ ap (λ (y : OpenGrant). settled_body after y.ino) (sym x.3) ∙ ap (λ (i : Image). settled_body i g.ino) (sym e.settles),
+      )
+
+  lent_listed : (g : OpenGrant) → In g s'.open_grants → g.kind ≡ Write → LentIsListed after g
+  lent_listed g i kind =
+      let x = grant_before s s' k lib b given after e g i in
+      let hk : x.0.kind ≡ Write = ap (λ (y : OpenGrant). y.kind) (sym x.3) ∙ kind in
+      lent_like after g x.0 x.3 (lent_still (settled s) pages k.fit fit' k.verifies agree x.0 (k.lent x.0 x.1 hk))
+
+  absent_after : (p : ℕ) → is_core core.range p ≡ true → slice_get after.core.pages p ≡ Some None → ((g : OpenGrant) × In g s.open_grants × (is_in_bundle lib b g ≡ false) × (g.kind ≡ Write) × In p (sheet_numbers (g.index ++ g.blocks))) ⊎ ((o : Out) × In o s.pages_out × (o.number ≡ p) × (In p (sheet_numbers b.pages) → ⊥))
+  absent_after p c gone =
+      let w = with_pages_absent (uncovered b ++ b.pages) core.pages p gone in
+      let v = with_pages_absent (flat_map (λ g. g.checkpoint) s.open_grants) s.home.core.pages p w.1 in
+      elim (k.absent p v.1 c) [
+        | inl lent ↦
+            let q = any_at (λ g. is_write g.kind && is_among p (sheet_numbers (g.index ++ g.blocks))) s.open_grants lent in
+            let g : OpenGrant = q.0 in
+            let parts = and_parts (is_write g.kind) (is_among p (sheet_numbers (g.index ++ g.blocks))) q.2 in
+            let kind : g.kind ≡ Write = write_is g.kind parts.0 in
+            let mine = In-among p (sheet_numbers (g.index ++ g.blocks)) parts.1 in
+            elim (cases_Bool (is_in_bundle lib b g)) [
+              | inr out ↦ inl (g, q.1, out, kind, mine)
+              | inl in' ↦
+                  let x = write_in_bundle s s' k lib b given after e g q.1 kind in' in
+                  let y = given.writes x.0 x.1 in
+                  let bare : In p (sheet_numbers (covered Write g.of g.index g.blocks)) → ⊥ =
+                  λ j.
+                  let j' : In p (sheet_numbers g.checkpoint) = subst (λ l. In p l) (ap (λ t. sheet_numbers (covered t g.of g.index g.blocks)) (sym kind) ∙ sym (k.checkpoints g q.1)) j in
+                  let z = map_from (λ (x : Sheet). x.page) p g.checkpoint j' in
+                  v.0 (in_numbers (flat_map (λ g. g.checkpoint) s.open_grants) z.0 p (In-flat (λ (g : OpenGrant). g.checkpoint) g z.0 s.open_grants q.1 z.1) z.2) in
+                  let u = uncovers g.of g.index g.blocks p mine bare in
+                  let reg : x.0.kind ≡ Regular = sym y.of ∙ ap (λ (z : OpenGrant). z.of) x.2 ∙ u.1 in
+                  let block : In p (sheet_numbers x.0.blocks) = subst (λ l. In p l) (ap (λ (z : OpenGrant). sheet_numbers z.blocks) (sym x.2) ∙ sym y.blocks) u.0 in
+                  absurd (w.0 (block_uncovered x.0 p x.1 reg block))
+            ]
+        | inr out ↦
+            let q = any_at (λ (o : Out). eqb o.number p) s.pages_out out in
+            inr (q.0, q.1, eqb-true q.0.number p q.2, λ j. w.0 (page_uncovered p j))
+      ]
+
+  pub refused_kept : Kept s'
+  refused_kept = record {
+    fit = (let P : Image → Type 0 = λ i. IsFit i.core in subst P (sym e.settles) fit');
+    verifies = (let P : Image → Type 0 = λ i. Verifies i in subst P (sym e.settles) (verifies_still (settled s) pages k.fit fit' k.verifies agree));
+    live = live_then;
+    apart = apart_then s s' k lib b given after e;
+    held = held_then;
+    lent = λ g i w. (let P : Image → Type 0 = λ x. LentIsListed x g in subst P (sym e.settles) (lent_listed g i w));
+    checkpoints = checkpoints_then s s' k lib b given after e;
+    absent = λ p gone c.
+        let c' : is_core core.range p ≡ true = ap (λ (i : Image). is_core i.core.range p) (sym e.settles) ∙ c in
+        absent_then s s' k lib b given after e p gone (absent_after p c');
+    out_once = out_once_then s s' k lib b given after e;
+    out_free = λ o i. ap (λ (i : Image). slice_index i.owners o.number) e.settles ∙ k.out_free o (outs_then s s' k lib b given after e o i).0;
+    numbers_once = numbers_once_then s s' k lib b given after e;
+    numbers_free = λ o i. rows_home o.number ∙ k.numbers_free o (numbers_then s s' k lib b given after e o i).0;
+  }

@@ -1,0 +1,123 @@
+-- What every step leaves of the row of a live number.
+use Rattle.std.proofs.Common.{◌≡◌, ℕ, ◌<◌, Bool, true, false, cond, ltb, List, length, get_or, take, Option, Some, None, sym, refl, ap, ◌∙◌, subst, inl, inr, ◌⊎◌}
+use Rattle.std.proofs.lemmas.Bool.{cases_Bool, cases_eq, cases_lt, both_ways}
+use Rattle.std.proofs.lemmas.List.{get_or_past, get_or-set_same, get_or-set_other}
+use Rattle.trio_rights.specs.Row.{Row}
+use Rattle.trio_nodes.specs.declared.grant.GrantKind.{GrantKind}
+use Rattle.trio_nodes.specs.declared.answers.GrantFault.{GrantFault}
+use Rattle.trio_nodes.specs.declared.answers.GrantFault.TheVariants.{NotLive, Denied, NoParent, Busy, NoMemory as OutOfMemory}
+use Rattle.trio_nodes.specs.declared.answers.ModeFault.{ModeFault}
+use Rattle.trio_nodes.specs.declared.answers.ModeFault.TheVariants.{NotLive as ModeNotLive, NotOwner, BadMode, Busy as ModeBusy, NoMemory as ModeNoMemory}
+use Rattle.trio_layout.specs.Lists.{In, is_among}
+use Rattle.trio_layout.specs.Survey.{survey, row_of}
+use Rattle.trio_state.specs.Image.{Image, row_at}
+use Rattle.trio_state.specs.State.{State, settled, creds_of, logged}
+use Rattle.trio_state.specs.Proposed.{Bundle, proposed, proposed_pick}
+use Rattle.trio_state.specs.Accept.{is_accepted, next}
+use Rattle.trio_state.specs.Mode.{moded_row}
+use Rattle.trio_state.specs.Grants.{grant_fault}
+use Rattle.trio_state.specs.Allotments.{free_pages, free_numbers, allots}
+use Rattle.trio_state.specs.Bundles.{Ends}
+use Rattle.trio_state.specs.Step.{Grant, Allot, Back, Release, Settle, SetMode, Answer, NoPages, NoInodes, Given, Outcome, after_grant_fault, granted_to, allot_outcome, mode_fault, after_mode_fault, moded_to}
+use Rattle.trio_state.specs.Kept.{Kept}
+use Rattle.trio_state.specs.Given.{GivenTo}
+use Rattle.trio_laws.specs.Laws.{HasRightsOf, RowGoes, EveryStepKeepsRows}
+use Rattle.trio_laws.proofs.Members.{In-among, among_from}
+use Rattle.trio_laws.proofs.Images.{row_at_is}
+use Rattle.trio_laws.proofs.Survivors.{fit_now, sound_now, unheld_row, held_rights}
+use Rattle.trio_laws.proofs.Releases.{ReleaseEnd, Parted, IsAccepted, IsRefused, release_end}
+use Rattle.trio_laws.proofs.Modes.{may_change}
+
+row_within : (rows : List (Option Row)) (n : ℕ) (r : Row) → get_or rows n None ≡ Some r → n < length rows
+row_within rows n r e =
+    elim (cases_lt n (length rows)) [
+      | inl l ↦ l
+      | inr past ↦ (let wrong : None ≡ Some r = sym (get_or_past rows n None past) ∙ e in absurd (cc wrong))
+    ]
+
+module _ (s : State) (n : ℕ) (r : Row) (row : row_at s.home n ≡ Some r) where
+  after_fault : (f : GrantFault) → row_at (after_grant_fault s f).home n ≡ Some r
+  after_fault NotLive = row
+  after_fault (Denied m) = row
+  after_fault NoParent = row
+  after_fault (Busy holder) = row
+  after_fault OutOfMemory = row
+
+  grant_row : (lib ino : ℕ) (kind : GrantKind) (f : Option GrantFault) (o : Option Row) → row_at (granted_to s lib ino kind f o).after.home n ≡ Some r
+  grant_row lib ino kind (Some fault) o = after_fault fault
+  grant_row lib ino kind None None = row
+  grant_row lib ino kind None (Some q) = row
+
+  allot_row : (lib count many : ℕ) → row_at (allot_outcome s lib count many).after.home n ≡ Some r
+  allot_row lib count many = either (ltb (length (free_pages s)) count) (ltb (length (free_numbers s)) many)
+    where
+      either : (a b : Bool) → row_at (cond {A = Outcome} a (record { answer = NoPages count (length (free_pages s)); after = logged s }) (cond b (record { answer = NoInodes many (length (free_numbers s)); after = logged s }) (record { answer = Given (take count (free_pages s)) (take many (free_numbers s)); after = allots s lib (take count (free_pages s)) (take many (free_numbers s)) }))).after.home n ≡ Some r
+      either true b = row
+      either false true = row
+      either false false = row
+
+  after_no_mode : (f : ModeFault) → row_at (after_mode_fault s f).home n ≡ Some r
+  after_no_mode ModeNotLive = row
+  after_no_mode NotOwner = row
+  after_no_mode BadMode = row
+  after_no_mode (ModeBusy holder) = row
+  after_no_mode ModeNoMemory = row
+
+  mode_row : (lib ino mode : ℕ) (o : Option Row) (f : Option ModeFault) → row_at s.home ino ≡ o → mode_fault s lib ino mode o ≡ f → RowGoes s (SetMode lib ino mode) n r (row_at (moded_to s ino mode f).after.home n)
+  mode_row lib ino mode o (Some fault) at e = inl (after_no_mode fault)
+  mode_row lib ino mode None None at e = absurd cc
+  mode_row lib ino mode (Some q) None at e =
+      elim (cases_eq n ino) [
+        | inr differ ↦ inl (get_or-set_other s.home.rows ino n (moded_row mode (row_at s.home ino)) None differ ∙ row)
+        | inl same ↦
+            let may = may_change s lib ino mode q e in
+            let rows : Some q ≡ Some r = sym at ∙ ap (row_at s.home) (sym same) ∙ row in
+            let is_r : q ≡ r = cc rows in
+            let now : row_at (moded_to s ino mode None).after.home n ≡ moded_row mode (row_at s.home ino) =
+            ap (λ j. get_or (moded_to s ino mode None).after.home.rows j None) same ∙ get_or-set_same s.home.rows ino (moded_row mode (row_at s.home ino)) None (row_within s.home.rows ino q at) in
+            let uid : ℕ = (creds_of s lib).uid in
+            let O : Row → Type 0 = λ x. (uid ≡ 0) ⊎ (uid ≡ x.uid) in
+            inr (inr (sym same, now ∙ ap (moded_row mode) (at ∙ ap Some is_r), subst O is_r may.owner))
+      ]
+
+  module _ (k : Kept s) (lib : ℕ) where
+    accepted_row : (s' : State) (b : Bundle) (given : GivenTo s lib b) → is_accepted (settled s) (creds_of s lib) b ≡ true → Ends s lib b (next (settled s) b) s' → RowGoes s (Release lib b) n r (row_at s'.home n)
+    accepted_row s' b given accepted e =
+        let files : Option Row = row_of (proposed (settled s) b) (survey (proposed (settled s) b) (proposed_pick (settled s) b)) n in
+        let home : row_at s'.home n ≡ files =
+        ap (λ (i : Image). row_at i n) e.settles
+        ∙ row_at_is (proposed (settled s) b) (proposed_pick (settled s) b) (fit_now s k lib (creds_of s lib) b given accepted) (sound_now s k lib (creds_of s lib) b given accepted) (next (settled s) b) (record { rows = refl; owners = refl }) n in
+        elim (cases_Bool (is_among n b.holds)) [
+          | inr free ↦ inl (home ∙ unheld_row s k lib (creds_of s lib) b given accepted n r row (λ j. both_ways (is_among n b.holds) free (among_from n b.holds j)))
+          | inl held ↦
+              let j = In-among n b.holds held in
+              let rights : (o : Option Row) → files ≡ o → HasRightsOf r o = by_row b given accepted j in
+              inr (inl (given.holds n j, subst (λ o. HasRightsOf r o) (sym home) (rights files refl)))
+        ]
+      where
+        by_row : (b : Bundle) (given : GivenTo s lib b) (accepted : is_accepted (settled s) (creds_of s lib) b ≡ true) → In n b.holds → (o : Option Row) → row_of (proposed (settled s) b) (survey (proposed (settled s) b) (proposed_pick (settled s) b)) n ≡ o → HasRightsOf r o
+        by_row b given accepted j None e = tt
+        by_row b given accepted j (Some q) e = held_rights s k lib (creds_of s lib) b given accepted n r q j row e
+
+    release_row : (s' : State) (b : Bundle) (answer : Answer) → GivenTo s lib b → ReleaseEnd s lib b answer s' → RowGoes s (Release lib b) n r (row_at s'.home n)
+    release_row s' b answer given (Parted m some e same) = inl (ap (λ (x : State). row_at x.home n) same ∙ row)
+    release_row s' b answer given (IsAccepted closed t e ends) = accepted_row s' b given t ends
+    release_row s' b answer given (IsRefused closed f e ends) = inl (ap (λ (i : Image). row_at i n) ends.settles ∙ row)
+
+-- each step leaves a live number its row, but for what a hold or a change of mode lets happen to it
+pub every_step_keeps_rows : EveryStepKeepsRows
+every_step_keeps_rows s event answer s' n r k given (inr none) row = inl (ap (λ (x : State). row_at x.home n) none.2 ∙ row)
+every_step_keeps_rows s (Grant lib ino kind) answer s' n r k given (inl does) row =
+    inl (ap (λ (x : State). row_at x.home n) does.1 ∙ grant_row s n r row lib ino kind (grant_fault s lib ino kind) (row_at s.home ino))
+every_step_keeps_rows s (Allot lib count many) answer s' n r k given (inl does) row =
+    inl (ap (λ (x : State). row_at x.home n) does.1 ∙ allot_row s n r row lib count many)
+every_step_keeps_rows s (Back lib ino) answer s' n r k given (inl does) row = inl (ap (λ (x : State). row_at x.home n) does.1 ∙ row)
+every_step_keeps_rows s (Release lib b) answer s' n r k given (inl does) row = release_row s n r row k lib s' b answer given (release_end s s' lib b answer does)
+every_step_keeps_rows s (Settle lib b) answer s' n r k given (inl does) row =
+    elim (accepted_row s n r row k lib s' b given does.2 does.3) [
+      | inl same ↦ inl same
+      | inr goes ↦ elim goes [ inl held ↦ inr (inl held) | inr wrong ↦ absurd wrong ]
+    ]
+every_step_keeps_rows s (SetMode lib ino mode) answer s' n r k given (inl does) row =
+    let G : State → Type 0 = λ x. RowGoes s (SetMode lib ino mode) n r (row_at x.home n) in
+    subst G (sym does.1) (mode_row s n r row lib ino mode (row_at s.home ino) (mode_fault s lib ino mode (row_at s.home ino)) refl refl)

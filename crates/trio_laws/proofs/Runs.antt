@@ -1,0 +1,80 @@
+-- Every step keeps what holds of a state, and so does every run.
+use Rattle.std.proofs.Common.{ℕ, List, [], ◌∷◌, sym, refl, subst, inl, inr, arith}
+use Rattle.trio_rights.specs.declared.rights.Creds.{Creds}
+use Rattle.trio_layout.specs.Lists.{In}
+use Rattle.trio_state.specs.Given.{GivenTo, GivenEvent}
+use Rattle.trio_state.specs.Image.{IsFit, Image}
+use Rattle.trio_state.specs.Kept.{Kept}
+use Rattle.trio_state.specs.Proposed.{Bundle}
+use Rattle.trio_state.specs.Run.{IsWhole, Trace, start}
+use Rattle.trio_state.specs.State.{State, creds_of}
+use Rattle.trio_state.specs.Step.{Event, Grant, Allot, Back, Release, Settle, SetMode, Answer, Step}
+use Rattle.trio_state.specs.Verifies.{Verifies}
+use Rattle.trio_laws.proofs.Accepting.{accepted_kept}
+use Rattle.trio_laws.proofs.Allots.{allot_kept}
+use Rattle.trio_laws.proofs.Bundles.{closed_unparted, closed_all}
+use Rattle.trio_laws.proofs.Backs.{back_kept}
+use Rattle.trio_laws.proofs.Grants.{grant_kept}
+use Rattle.trio_laws.proofs.Releases.{ReleaseEnd, Parted, IsAccepted, IsRefused, release_end}
+use Rattle.trio_laws.proofs.Modes.{mode_kept}
+use Rattle.trio_laws.proofs.Refusing.{refused_kept}
+
+-- a step of a release of any bundle that was given to its library
+pub release_kept : (s s' : State) (lib : ℕ) (b : Bundle) (answer : Answer) → Kept s → GivenTo s lib b → Step s (Release lib b) answer s' → Kept s'
+release_kept s s' lib b answer k given (inr none) = (let K : State → Type 0 = λ x. Kept x in subst K (sym none.2) k)
+release_kept s s' lib b answer k given (inl does) = by_end (release_end s s' lib b answer does)
+  where
+    by_end : ReleaseEnd s lib b answer s' → Kept s'
+    by_end (Parted n none e same) = (let K : State → Type 0 = λ x. Kept x in subst K (sym same) k)
+    by_end (IsAccepted none t e ends) = accepted_kept s s' k lib (creds_of s lib) b given (closed_unparted s lib b none) t ends
+    by_end (IsRefused none f e ends) = refused_kept s s' k lib b given (closed_unparted s lib b none) ends
+
+-- a step of a settle
+pub settle_kept : (s s' : State) (lib : ℕ) (b : Bundle) (answer : Answer) → Kept s → GivenTo s lib b → Step s (Settle lib b) answer s' → Kept s'
+settle_kept s s' lib b answer k given step =
+    let K : State → Type 0 = λ x. Kept x in
+    elim step [
+      | inl does ↦ accepted_kept s s' k lib (creds_of s lib) b given (closed_all s lib b does.1) does.2 does.3
+      | inr none ↦ subst K (sym none.2) k
+    ]
+
+-- each step keeps what holds of a state
+pub step_kept : (s s' : State) (event : Event) (answer : Answer) → Kept s → GivenEvent s event → Step s event answer s' → Kept s'
+step_kept s s' (Grant lib ino kind) answer k given step = grant_kept s s' lib ino kind answer k step
+step_kept s s' (Allot lib pages numbers) answer k given step = allot_kept s s' lib pages numbers answer k step
+step_kept s s' (Back lib ino) answer k given step = back_kept s s' lib ino answer k step
+step_kept s s' (Release lib b) answer k given step = release_kept s s' lib b answer k given step
+step_kept s s' (Settle lib b) answer k given step = settle_kept s s' lib b answer k given step
+step_kept s s' (SetMode lib ino mode) answer k given step = mode_kept s s' lib ino mode answer k step
+
+-- each state of a run is kept
+pub trace_kept : (s : State) (events : List Event) (answers : List Answer) (states : List State) → Kept s → Trace s events answers states → (t : State) → In t states → Kept t
+trace_kept s [] [] [] k run t i = absurd i
+trace_kept s [] [] (u ∷ states) k run t i = absurd run
+trace_kept s [] (answer ∷ answers) states k run t i = absurd run
+trace_kept s (event ∷ events) [] states k run t i = absurd run
+trace_kept s (event ∷ events) (answer ∷ answers) [] k run t i = absurd run
+trace_kept s (event ∷ events) (answer ∷ answers) (u ∷ states) k run t i =
+    let now : Kept u = step_kept s u event answer k run.0 run.1 in
+    let K : State → Type 0 = λ x. Kept x in
+    elim i [
+      | inl e ↦ subst K (sym e) now
+      | inr j ↦ trace_kept u events answers states now run.2 t j
+    ]
+
+-- the image that a run begins with
+pub start_kept : (image : Image) (creds : List Creds) → IsFit image.core → Verifies image → IsWhole image → Kept (start image creds)
+start_kept image creds fit verifies whole = record {
+  fit = fit;
+  verifies = verifies;
+  live = λ g i. absurd i;
+  apart = λ i j d a b. absurd (omega arith);
+  held = λ g i w. absurd i;
+  lent = λ g i w. absurd i;
+  checkpoints = λ g i. absurd i;
+  absent = λ p gone c. absurd (whole p gone c);
+  out_once = refl;
+  out_free = λ o i. absurd i;
+  numbers_once = refl;
+  numbers_free = λ o i. absurd i;
+}

@@ -1,0 +1,184 @@
+-- What follows from `Kept` of open grants and pages.
+use Rattle.std.proofs.Common.{◌≡◌, ℕ, suc, zero, ◌<◌, Bool, true, false, ◌&&◌, eqb, ltb, leb, List, [], ◌∷◌, ◌++◌, length, get_or, Option, Some, None, slice_get, sym, refl, ap, ◌∙◌, subst, inl, inr, ◌⊎◌, arith}
+use Rattle.std.specs.Prelude.{AllPairs}
+use Rattle.std.specs.List.{list_any, flat_map}
+use Rattle.std.proofs.lemmas.List.{map-append}
+use Rattle.std.proofs.lemmas.Bool.{and_parts, or_cases, or_left, or_right, eqb-true, ltb-true, false≢true}
+use Rattle.trio_rights.specs.Row.{Row}
+use Rattle.trio_rights.specs.declared.kind.Kind.{Kind}
+use Rattle.trio_rights.specs.declared.kind.Kind.TheVariants.{Regular, Directory}
+use Rattle.trio_nodes.specs.declared.grant.GrantKind.{GrantKind}
+use Rattle.trio_nodes.specs.declared.grant.GrantKind.TheVariants.{Read, Write, Hold}
+use Rattle.trio_layout.specs.Core.{Core, page_of}
+use Rattle.trio_layout.specs.Lists.{is_among, In}
+use Rattle.trio_layout.specs.Range.{is_core}
+use Rattle.trio_layout.specs.Survey.{Met, plain, survey, pages_of}
+use Rattle.trio_state.specs.Image.{row_at}
+use Rattle.trio_state.specs.Kept.{Kept, MayBothStand}
+use Rattle.trio_state.specs.Sheets.{Sheet, sheet_numbers}
+use Rattle.trio_state.specs.State.{covered, OpenGrant, State, settled, is_write, is_read}
+use Rattle.trio_laws.proofs.Cores.{listed_is_core}
+use Rattle.trio_laws.proofs.Images.{TablesOf, MetAt, row_at_is, met_row, read_met, free_unlisted}
+use Rattle.trio_laws.proofs.Members.{In-left, flat_from, map_from, In-among}
+use Rattle.trio_laws.proofs.Owned.{sound_parts, page_owner, pages_are}
+use Rattle.trio_laws.proofs.Sheets.{with_pages_absent, place_there, page_from}
+
+pub any_from : {X : Type 0} (p : X → Bool) (x : X) (xs : List X) → In x xs → p x ≡ true → list_any p xs ≡ true
+any_from p x [] i e = absurd i
+any_from p x (z ∷ zs) (inl s) e = or_left (p z) (list_any p zs) (ap p (sym s) ∙ e)
+any_from p x (z ∷ zs) (inr i) e = or_right (p z) (list_any p zs) (any_from p x zs i e)
+
+pub any_at : {X : Type 0} (p : X → Bool) (xs : List X) → list_any p xs ≡ true → (x : X) × In x xs × (p x ≡ true)
+any_at p [] e = absurd (false≢true e)
+any_at p (z ∷ zs) e =
+    elim (or_cases (p z) (list_any p zs) e) [
+      | inl h ↦ (z, inl refl, h)
+      | inr h ↦ let r = any_at p zs h in (r.0, inr r.1, r.2)
+    ]
+
+pub In_get : {X : Type 0} (xs : List X) (k : ℕ) (d : X) → k < length xs → In (get_or xs k d) xs
+In_get [] k d l = absurd (omega arith)
+In_get (x ∷ xs) zero d l = inl refl
+In_get (x ∷ xs) (suc k) d l = inr (In_get xs k d (omega arith))
+
+In_index : {X : Type 0} (x : X) (xs : List X) → In x xs → (k : ℕ) × (k < length xs) × (get_or xs k x ≡ x)
+In_index x [] i = absurd i
+In_index x (z ∷ zs) (inl e) = let l : 0 < length (z ∷ zs) = omega arith in (zero, l, sym e)
+In_index x (z ∷ zs) (inr i) =
+    let r = In_index x zs i in
+    let l : suc r.0 < length (z ∷ zs) = (let k = r.1 in omega (arith, k)) in (suc r.0, l, r.2)
+
+-- two members of a list whose pairs stand are one, or they stand
+pub pairs_in : {X : Type 0} (R : X → X → Type 0) (xs : List X) (x y : X) → AllPairs R xs → In x xs → In y xs → (x ≡ y) ⊎ (R x y ⊎ R y x)
+pairs_in R [] x y h i j = absurd i
+pairs_in R (z ∷ zs) x y h (inl a) (inl b) = inl (a ∙ sym b)
+pairs_in R (z ∷ zs) x y h (inl a) (inr j) =
+    let r = In_index y zs j in
+    let l : 0 < suc r.0 = omega arith in
+    let k : suc r.0 < length (z ∷ zs) = (let q = r.1 in omega (arith, q)) in
+    let s : R z y = subst (λ w. R z w) r.2 (h zero (suc r.0) y l k) in
+    inr (inl (subst (λ w. R w y) (sym a) s))
+pairs_in R (z ∷ zs) x y h (inr i) (inl b) =
+    let r = In_index x zs i in
+    let l : 0 < suc r.0 = omega arith in
+    let k : suc r.0 < length (z ∷ zs) = (let q = r.1 in omega (arith, q)) in
+    let s : R z x = subst (λ w. R z w) r.2 (h zero (suc r.0) x l k) in
+    inr (inr (subst (λ w. R w x) (sym b) s))
+pairs_in R (z ∷ zs) x y h (inr i) (inr j) =
+    pairs_in R zs x y (λ a b d l k. h (suc a) (suc b) d (omega arith) (omega arith)) i j
+
+pub write_is : (k : GrantKind) → is_write k ≡ true → k ≡ Write
+write_is Write e = refl
+write_is Read e = absurd (false≢true e)
+write_is Hold e = absurd (false≢true e)
+
+write_reads : (k : GrantKind) (b : Bool) → k ≡ Write → (is_read k && b) ≡ true → ⊥
+write_reads Write b e h = false≢true h
+write_reads Read b e h = absurd cc
+write_reads Hold b e h = absurd cc
+
+reads_right : (a b : Bool) → (a && b) ≡ true → (b && a) ≡ true
+reads_right true true e = refl
+reads_right true false e = absurd (false≢true e)
+reads_right false b e = absurd (false≢true e)
+
+-- a write grant is alone on its file
+pub write_alone : (gs : List OpenGrant) (g h : OpenGrant) → AllPairs MayBothStand gs → In g gs → In h gs → g.kind ≡ Write → g.ino ≡ h.ino → g ≡ h
+write_alone gs g h pairs i j w e =
+    elim (pairs_in MayBothStand gs g h pairs i j) [
+      | inl same ↦ same
+      | inr one ↦
+          elim one [
+            | inl r ↦ absurd (write_reads g.kind (is_read h.kind) w (r e).0)
+            | inr r ↦ absurd (write_reads g.kind (is_read h.kind) w (reads_right (is_read h.kind) (is_read g.kind) (r (sym e)).0))
+          ]
+    ]
+
+pub covered_write : (kind : GrantKind) (of : Kind) (index blocks : List Sheet) (p : ℕ) → In p (sheet_numbers (covered kind of index blocks)) → (kind ≡ Write) × In p (sheet_numbers (index ++ blocks))
+covered_write Read of index blocks p i = absurd i
+covered_write Hold of index blocks p i = absurd i
+covered_write Write Directory index blocks p i = (refl, i)
+covered_write Write Regular index blocks p i =
+    (refl, subst (λ l. In p l) (sym (map-append (λ (x : Sheet). x.page) index blocks)) (In-left p (sheet_numbers index) (sheet_numbers blocks) i))
+
+pub numbers_flat : (gs : List OpenGrant) (p : ℕ) → In p (sheet_numbers (flat_map (λ g. g.checkpoint) gs)) → (g : OpenGrant) × In g gs × In p (sheet_numbers g.checkpoint)
+numbers_flat gs p i =
+    let r = map_from (λ (x : Sheet). x.page) p (flat_map (λ g. g.checkpoint) gs) i in
+    let q = flat_from (λ (g : OpenGrant). g.checkpoint) r.0 gs r.1 in
+    (q.0, q.1, in_map q.0.checkpoint r.0 q.2 r.2)
+  where
+    in_map : (xs : List Sheet) (x : Sheet) → In x xs → p ≡ x.page → In p (sheet_numbers xs)
+    in_map [] x i e = i
+    in_map (z ∷ zs) x (inl s) e = inl (e ∙ ap (λ (y : Sheet). y.page) s)
+    in_map (z ∷ zs) x (inr i) e = inr (in_map zs x i e)
+
+module _ (s : State) (k : Kept s) where
+  pub tables : TablesOf (settled s) (settled s).core plain
+  tables = record { rows = k.verifies.rows; owners = k.verifies.owners }
+
+  -- the file of a live number
+  pub live_met : (n : ℕ) (r : Row) → row_at s.home n ≡ Some r → MetAt (settled s).core plain n r
+  live_met n r e =
+      met_row (settled s).core plain k.fit k.verifies.sound n r (sym (row_at_is (settled s).core plain k.fit k.verifies.sound (settled s) tables n) ∙ e)
+
+  -- the pages that a write grant lent are those of its file
+  pub lent_met : (g : OpenGrant) (i : In g s.open_grants) (w : g.kind ≡ Write) (p : ℕ) → In p (sheet_numbers (g.index ++ g.blocks)) → In p (pages_of (settled s).core (k.lent g i w).met)
+  lent_met g i w p a =
+      let l = k.lent g i w in
+      let e : sheet_numbers (g.index ++ g.blocks) ≡ pages_of (settled s).core l.met =
+      map-append (λ (x : Sheet). x.page) g.index g.blocks ∙ ap (λ x. x ++ sheet_numbers g.blocks) l.index ∙ ap (λ x. l.file.chain.index ++ x) l.blocks ∙ sym (pages_are (settled s).core l.met l.file l.read) in
+      subst (λ x. In p x) e a
+
+  -- a page in a checkpoint was lent
+  pub checkpoint_lent : (p : ℕ) → In p (sheet_numbers (flat_map (λ g. g.checkpoint) s.open_grants)) → (g : OpenGrant) × In g s.open_grants × (g.kind ≡ Write) × In p (sheet_numbers (g.index ++ g.blocks))
+  checkpoint_lent p i =
+      let r = numbers_flat s.open_grants p i in
+      let c = covered_write r.0.kind r.0.of r.0.index r.0.blocks p (subst (λ l. In p l) (k.checkpoints r.0 r.1) r.2) in
+      (r.0, r.1, c.0, c.1)
+
+  -- a page of a file that a write grant lent is of that grant's file
+  pub lent_file : (m : Met) (p : ℕ) (g : OpenGrant) → In m (survey (settled s).core plain) → In p (pages_of (settled s).core m) → In g s.open_grants → g.kind ≡ Write → In p (sheet_numbers (g.index ++ g.blocks)) → g.ino ≡ m.ino
+  lent_file m p g i a j w b =
+      let l = k.lent g j w in
+      let same : l.met ≡ m = page_owner (settled s).core (survey (settled s).core plain) l.met m p (sound_parts (settled s).core plain k.verifies.sound).paged l.stands i (lent_met g j w p b) a in
+      sym l.number ∙ ap (λ (x : Met). x.ino) same
+
+  -- the pages of a file that no write grant has lent are there
+  pub pages_there : (m : Met) (p : ℕ) → In m (survey (settled s).core plain) → In p (pages_of (settled s).core m) → ((g : OpenGrant) → In g s.open_grants → g.kind ≡ Write → g.ino ≡ m.ino → ⊥) → (bytes : List ℕ) × (page_of (settled s).core p ≡ Some bytes)
+  pages_there m p i a none =
+      let core : Core = (settled s).core in
+      let f = read_met core plain k.fit k.verifies.sound m i in
+      let c : is_core core.range p ≡ true = listed_is_core core m f.0 p f.1 a in
+      let below : p < core.range.end = ltb-true p core.range.end (and_parts (leb core.range.first p) (ltb p core.range.end) c).1 in
+      let long = k.fit.long in
+      let r = place_there core.pages p (omega (arith, below, long)) in
+      by_place r.0 r.1 c
+    where
+      by_place : (o : Option (List ℕ)) → slice_get (settled s).core.pages p ≡ Some o → is_core (settled s).core.range p ≡ true → (bytes : List ℕ) × (page_of (settled s).core p ≡ Some bytes)
+      by_place (Some b) e c = (b, page_from (settled s).core p b c e)
+      by_place None e c =
+          let w = with_pages_absent (flat_map (λ g. g.checkpoint) s.open_grants) s.home.core.pages p e in
+          absurd (elim (k.absent p w.1 c) [
+            | inl lent ↦
+                let q = any_at (λ g. is_write g.kind && is_among p (sheet_numbers (g.index ++ g.blocks))) s.open_grants lent in
+                let parts = and_parts (is_write q.0.kind) (is_among p (sheet_numbers (q.0.index ++ q.0.blocks))) q.2 in
+                let kind : q.0.kind ≡ Write = write_is q.0.kind parts.0 in
+                none q.0 q.1 kind (lent_file m p q.0 i a q.1 kind (In-among p (sheet_numbers (q.0.index ++ q.0.blocks)) parts.1))
+            | inr out ↦
+                let q = any_at (λ o. eqb o.number p) s.pages_out out in
+                let n : q.0.number ≡ p = eqb-true q.0.number p q.2 in
+                let z = k.out_free q.0 q.1 in
+                free_unlisted (settled s).core plain k.fit k.verifies.sound (settled s) tables q.0.number z m i (subst (λ x. In x (pages_of (settled s).core m)) (sym n) a)
+          ])
+
+-- a grant that doesn't read alone is alone on its file
+pub alone : (gs : List OpenGrant) (g h : OpenGrant) → AllPairs MayBothStand gs → In g gs → In h gs → is_read g.kind ≡ false → g.ino ≡ h.ino → g ≡ h
+alone gs g h pairs i j w e =
+    elim (pairs_in MayBothStand gs g h pairs i j) [
+      | inl same ↦ same
+      | inr one ↦
+          elim one [
+            | inl r ↦ absurd (false≢true (sym w ∙ (and_parts (is_read g.kind) (is_read h.kind) (r e).0).0))
+            | inr r ↦ absurd (false≢true (sym w ∙ (and_parts (is_read h.kind) (is_read g.kind) (r (sym e)).0).1))
+          ]
+    ]

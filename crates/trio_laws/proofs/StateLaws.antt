@@ -1,0 +1,110 @@
+-- The laws on runs, each from the lemmas that carry it.
+use Rattle.std.proofs.Common.{◌≡◌, ◌≢◌, ℕ, Bool, true, false, cond, ltb, List, [], ◌∷◌, length, take, Option, Some, None, sym, ◌∙◌, subst, inl, inr}
+use Rattle.trio_rights.specs.declared.rights.Creds.{Creds}
+use Rattle.trio_rights.specs.Row.{Row}
+use Rattle.trio_nodes.specs.declared.grant.GrantKind.{GrantKind}
+use Rattle.trio_nodes.specs.declared.answers.GrantFault.{GrantFault}
+use Rattle.trio_nodes.specs.declared.answers.ModeFault.{ModeFault}
+use Rattle.trio_layout.specs.Lists.{In}
+use Rattle.trio_state.specs.Sheets.{Sheet}
+use Rattle.trio_state.specs.Image.{Image, IsFit, row_at}
+use Rattle.trio_state.specs.Verifies.{Verifies}
+use Rattle.trio_state.specs.State.{State}
+use Rattle.trio_state.specs.Proposed.{Bundle, bundle_sheets}
+use Rattle.trio_state.specs.Accept.{is_accepted, next}
+use Rattle.trio_state.specs.Grants.{grant_fault}
+use Rattle.trio_state.specs.Allotments.{free_pages, free_numbers, allots}
+use Rattle.trio_state.specs.State.{logged}
+use Rattle.trio_state.specs.Step.{Event, Grant, Allot, Back, Release, Settle, SetMode, Answer, NoPages, NoInodes, Given, Done, Accepted, Refused, NotClosed, Settled, NoMemory, Outcome, Does, granted_to, allot_outcome, mode_fault, moded_to}
+use Rattle.trio_state.specs.Kept.{Kept}
+use Rattle.trio_state.specs.Run.{start, Trace}
+use Rattle.trio_laws.specs.Laws.{AnyRun, EveryStateIsKept, Happens, IsMove, EveryMoveIsAStep, EveryReleaseIsJudged, NeverStuck}
+use Rattle.trio_laws.proofs.Accepted.{fit_proposed, accepted_verifies}
+use Rattle.trio_laws.proofs.Runs.{step_kept, trace_kept, start_kept as first_kept}
+use Rattle.trio_laws.proofs.Releases.{ReleaseEnd, Parted, IsAccepted, IsRefused, release_end}
+use Rattle.trio_laws.proofs.Possible.{call_possible}
+use Rattle.trio_laws.proofs.Verdicts.{release_verdict}
+
+-- an accepted bundle leaves an image that verifies
+pub next_verifies : (image : Image) (creds : Creds) (b : Bundle) → IsFit image.core → ((x : Sheet) → In x (bundle_sheets b) → length x.bytes ≡ 4096) → is_accepted image creds b ≡ true → Verifies (next image b)
+next_verifies image creds b fit full accepted = accepted_verifies image creds b (fit_proposed image b fit full) accepted
+
+run_begins : (run : AnyRun) → Kept (start run.image run.creds)
+run_begins run = first_kept run.image run.creds run.fit run.verifies run.whole
+
+pub every_state_is_kept : EveryStateIsKept
+every_state_is_kept run s i =
+    let K : State → Type 0 = λ x. Kept x in
+    let begins = run_begins run in
+    let k : Kept s = elim i [
+      | inl first ↦ subst K (sym first) begins
+      | inr later ↦ trace_kept (start run.image run.creds) run.events run.answers run.states begins run.trace s later
+    ] in
+    (k, k.verifies)
+
+-- each move of a trace is a step from a kept state
+pub trace_moves : (first : State) (events : List Event) (answers : List Answer) (states : List State) → Kept first → Trace first events answers states → (s : State) (event : Event) (answer : Answer) (s' : State) → Happens first events answers states s event answer s' → IsMove s event answer s'
+trace_moves first [] answers states k trace s event answer s' come = absurd come
+trace_moves first (e ∷ events) [] states k trace s event answer s' come = absurd come
+trace_moves first (e ∷ events) (a ∷ answers) [] k trace s event answer s' come = absurd come
+trace_moves first (e ∷ events) (a ∷ answers) (t ∷ states) k trace s event answer s' (inr later) =
+    trace_moves t events answers states (step_kept first t e a k trace.0 trace.1) trace.2 s event answer s' later
+trace_moves first (e ∷ events) (a ∷ answers) (t ∷ states) k trace s event answer s' (inl here) =
+    let M0 : State → Type 0 = λ x. IsMove x e a t in
+    let M1 : Event → Type 0 = λ x. IsMove s x a t in
+    let M2 : Answer → Type 0 = λ x. IsMove s event x t in
+    let M3 : State → Type 0 = λ x. IsMove s event answer x in
+    let move : IsMove first e a t = record { kept = k; given = trace.0; step = trace.1 } in
+    subst M3 (sym here.3) (subst M2 (sym here.2) (subst M1 (sym here.1) (subst M0 (sym here.0) move)))
+
+pub every_move_is_a_step : EveryMoveIsAStep
+every_move_is_a_step run s event answer s' come =
+    trace_moves (start run.image run.creds) run.events run.answers run.states (run_begins run) run.trace s event answer s' come
+
+pub every_release_is_judged : EveryReleaseIsJudged
+every_release_is_judged run s lib b answer s' come =
+    let move = every_move_is_a_step run s (Release lib b) answer s' come in
+    release_verdict s s' lib b answer move.step
+
+-- ---- what each call does is never want of memory
+
+told : (a b : Answer) → a ≡ b → b ≢ NoMemory → a ≢ NoMemory
+told a b e other wrong = other (sym e ∙ wrong)
+
+grant_told : (s : State) (lib ino : ℕ) (kind : GrantKind) (f : Option GrantFault) (o : Option Row) → (granted_to s lib ino kind f o).answer ≢ NoMemory
+grant_told s lib ino kind (Some fault) o wrong = absurd (cc wrong)
+grant_told s lib ino kind None None wrong = absurd (cc wrong)
+grant_told s lib ino kind None (Some r) wrong = absurd (cc wrong)
+
+allot_told : (s : State) (lib count many : ℕ) → (allot_outcome s lib count many).answer ≢ NoMemory
+allot_told s lib count many = either (ltb (length (free_pages s)) count) (ltb (length (free_numbers s)) many)
+  where
+    either : (a b : Bool) → (cond {A = Outcome} a (record { answer = NoPages count (length (free_pages s)); after = logged s }) (cond b (record { answer = NoInodes many (length (free_numbers s)); after = logged s }) (record { answer = Given (take count (free_pages s)) (take many (free_numbers s)); after = allots s lib (take count (free_pages s)) (take many (free_numbers s)) }))).answer ≢ NoMemory
+    either true b wrong = absurd (cc wrong)
+    either false true wrong = absurd (cc wrong)
+    either false false wrong = absurd (cc wrong)
+
+mode_told : (s : State) (ino mode : ℕ) (f : Option ModeFault) → (moded_to s ino mode f).answer ≢ NoMemory
+mode_told s ino mode (Some fault) wrong = absurd (cc wrong)
+mode_told s ino mode None wrong = absurd (cc wrong)
+
+release_told : (s s' : State) (lib : ℕ) (b : Bundle) (answer : Answer) → Does s (Release lib b) answer s' → answer ≢ NoMemory
+release_told s s' lib b answer does = by_end (release_end s s' lib b answer does)
+  where
+    by_end : ReleaseEnd s lib b answer s' → answer ≢ NoMemory
+    by_end (Parted n some e same) = told answer (NotClosed n) e (λ wrong. absurd (cc wrong))
+    by_end (IsAccepted none t e ends) = told answer Accepted e (λ wrong. absurd (cc wrong))
+    by_end (IsRefused none f e ends) = told answer Refused e (λ wrong. absurd (cc wrong))
+
+does_told : (s : State) (event : Event) (answer : Answer) (s' : State) → Does s event answer s' → answer ≢ NoMemory
+does_told s (Grant lib ino kind) answer s' does = told answer _ does.0 (grant_told s lib ino kind (grant_fault s lib ino kind) (row_at s.home ino))
+does_told s (Allot lib pages numbers) answer s' does = told answer _ does.0 (allot_told s lib pages numbers)
+does_told s (Back lib ino) answer s' does = told answer Done does.0 (λ wrong. absurd (cc wrong))
+does_told s (Release lib b) answer s' does = release_told s s' lib b answer does
+does_told s (Settle lib b) answer s' does = told answer Settled does.0 (λ wrong. absurd (cc wrong))
+does_told s (SetMode lib ino mode) answer s' does = told answer _ does.0 (mode_told s ino mode (mode_fault s lib ino mode (row_at s.home ino)))
+
+pub never_stuck : NeverStuck
+never_stuck s event k given may =
+    let r = call_possible s k event given may in
+    (r.0, r.1, does_told s event r.0 r.1 r.2, r.2)

@@ -1,0 +1,122 @@
+-- The verdict on a bundle, and what a refusal leaves.
+use Rattle.std.proofs.Common.{◌≡◌, ℕ, true, false, List, ◌++◌, Option, Some, None, slice_get, sym, refl, ap, ◌∙◌, subst, inl, inr}
+use Rattle.std.proofs.lemmas.Bool.{both_ways}
+use Rattle.std.proofs.lemmas.List.{map-append}
+use Rattle.trio_rights.specs.declared.kind.Kind.{Kind}
+use Rattle.trio_rights.specs.declared.kind.Kind.TheVariants.{Regular, Directory}
+use Rattle.trio_nodes.specs.declared.grant.GrantKind.TheVariants.{Write}
+use Rattle.trio_layout.specs.Lists.{In}
+use Rattle.trio_layout.specs.Core.{page_of}
+use Rattle.trio_layout.specs.Survey.{plain, FileRead, survey}
+use Rattle.trio_state.specs.Sheets.{Sheet, sheet_numbers}
+use Rattle.trio_state.specs.Image.{Image, settled_body}
+use Rattle.trio_state.specs.State.{State, settled, creds_of, covered}
+use Rattle.trio_state.specs.Proposed.{Bundle}
+use Rattle.trio_state.specs.Accept.{is_accepted, next}
+use Rattle.trio_state.specs.Bundles.{parted_hold, uncovered, refused_image, Ends}
+use Rattle.trio_state.specs.Step.{Answer, Accepted, Refused, NotClosed, NoMemory, Release, Step}
+use Rattle.trio_state.specs.Kept.{Kept}
+use Rattle.trio_state.specs.Given.{GivenTo}
+use Rattle.trio_laws.specs.Reading.{pages_read}
+use Rattle.trio_laws.specs.Laws.{IsVerdict, IsBack, RefusalKeeps}
+use Rattle.trio_laws.proofs.Local.{survey_local}
+use Rattle.trio_laws.proofs.Owned.{sound_parts}
+use Rattle.trio_laws.proofs.Sheets.{with_pages_apart}
+use Rattle.trio_laws.proofs.Agreeing.{body_still}
+use Rattle.trio_laws.proofs.Bundles.{Closed, closed_unparted}
+use Rattle.trio_laws.proofs.Releases.{ReleaseEnd, Parted, IsAccepted, IsRefused, release_end}
+use Rattle.trio_laws.proofs.Refusing.{agree, fit', pages}
+
+without_memory : (s : State) (lib : ℕ) (b : Bundle) → IsVerdict s lib b NoMemory s
+without_memory s lib b = record {
+  parted = λ n e. absurd (cc e);
+  no_memory = λ e. refl;
+  closed = λ judged. absurd (judged.0 refl);
+  accepted = λ judged. absurd (judged.0 refl);
+  refused = λ judged. absurd (judged.0 refl);
+  stands = λ e. absurd (cc e);
+  returns = λ e. absurd (cc e);
+}
+
+parted_back : (s : State) (lib : ℕ) (b : Bundle) (n : ℕ) → parted_hold s lib b ≡ Some n → IsVerdict s lib b (NotClosed n) s
+parted_back s lib b n parted = record {
+  parted = λ m e. (let same : n ≡ m = cc e in (parted ∙ ap Some same, refl));
+  no_memory = λ e. absurd (cc e);
+  closed = λ judged. absurd (judged.1 n refl);
+  accepted = λ judged. absurd (judged.1 n refl);
+  refused = λ judged. absurd (judged.1 n refl);
+  stands = λ e. absurd (cc e);
+  returns = λ e. absurd (cc e);
+}
+
+is_accepted_then : (s s' : State) (lib : ℕ) (b : Bundle) → parted_hold s lib b ≡ None → is_accepted (settled s) (creds_of s lib) b ≡ true → settled s' ≡ next (settled s) b → IsVerdict s lib b Accepted s'
+is_accepted_then s s' lib b none t settles = record {
+  parted = λ n e. absurd (cc e);
+  no_memory = λ e. absurd (cc e);
+  closed = λ judged. none;
+  accepted = λ judged. (λ e. t, λ e. refl);
+  refused = λ judged. (λ e. absurd (cc e), λ f. absurd (both_ways (is_accepted (settled s) (creds_of s lib) b) f t));
+  stands = λ e. settles;
+  returns = λ e. absurd (cc e);
+}
+
+is_refused_then : (s s' : State) (lib : ℕ) (b : Bundle) → parted_hold s lib b ≡ None → is_accepted (settled s) (creds_of s lib) b ≡ false → settled s' ≡ refused_image (settled s) b → IsVerdict s lib b Refused s'
+is_refused_then s s' lib b none f settles = record {
+  parted = λ n e. absurd (cc e);
+  no_memory = λ e. absurd (cc e);
+  closed = λ judged. none;
+  accepted = λ judged. (λ e. absurd (cc e), λ t. absurd (both_ways (is_accepted (settled s) (creds_of s lib) b) f t));
+  refused = λ judged. (λ e. f, λ e. refl);
+  stands = λ e. absurd (cc e);
+  returns = λ e. settles;
+}
+
+same_verdict : (s s' : State) (lib : ℕ) (b : Bundle) (answer given : Answer) → answer ≡ given → s' ≡ s → IsVerdict s lib b given s → IsVerdict s lib b answer s'
+same_verdict s s' lib b answer given e same v =
+    let V : Answer → Type 0 = λ a. IsVerdict s lib b a s in
+    let W : State → Type 0 = λ t. IsVerdict s lib b answer t in subst W (sym same) (subst V (sym e) v)
+
+-- each release is judged, handed back or answered for want of memory
+pub release_verdict : (s s' : State) (lib : ℕ) (b : Bundle) (answer : Answer) → Step s (Release lib b) answer s' → IsVerdict s lib b answer s'
+release_verdict s s' lib b answer (inr none) = same_verdict s s' lib b answer NoMemory none.1 none.2 (without_memory s lib b)
+release_verdict s s' lib b answer (inl does) = by_end (release_end s s' lib b answer does)
+  where
+    by_end : ReleaseEnd s lib b answer s' → IsVerdict s lib b answer s'
+    by_end (Parted n some e same) = same_verdict s s' lib b answer (NotClosed n) e same (parted_back s lib b n some)
+    by_end (IsAccepted none t e ends) = (let V : Answer → Type 0 = λ a. IsVerdict s lib b a s' in subst V (sym e) (is_accepted_then s s' lib b none t ends.settles))
+    by_end (IsRefused none f e ends) = (let V : Answer → Type 0 = λ a. IsVerdict s lib b a s' in subst V (sym e) (is_refused_then s s' lib b none f ends.settles))
+
+-- a page that a checkpoint covers is one that is read of its file
+covered_read : (kind : Kind) (index blocks : List Sheet) (f : FileRead) (p : ℕ) → sheet_numbers index ≡ f.chain.index → sheet_numbers blocks ≡ f.chain.blocks → In p (sheet_numbers (covered Write kind index blocks)) → In p (pages_read kind f)
+covered_read Regular index blocks f p a b i = subst (λ l. In p l) a i
+covered_read Directory index blocks f p a b i =
+    subst (λ l. In p l) (map-append (λ (x : Sheet). x.page) index blocks ∙ ap (λ l. l ++ sheet_numbers blocks) a ∙ ap (λ l. f.chain.index ++ l) b) i
+
+refused_back : (s s' : State) (k : Kept s) (lib : ℕ) (b : Bundle) (given : GivenTo s lib b) → Closed s lib b → Ends s lib b (refused_image (settled s) b) s' → IsBack s b s'
+refused_back s s' k lib b given closed e =
+    let ps : List (Option (List ℕ)) = pages s s' k lib b given closed e in
+    let agrees = agree s s' k lib b given closed e in
+    record {
+      pages = λ page none. ap (λ (i : Image). slice_get i.core.pages page) e.settles ∙ with_pages_apart (uncovered b ++ b.pages) (settled s).core.pages page none;
+      covered = λ w page i j.
+          let g = given.writes w i in
+          let l = k.lent g.grant g.is_open g.kind in
+          let read : In page (pages_read w.kind l.file) = covered_read w.kind w.index w.blocks l.file page (g.index ∙ l.index) (g.blocks ∙ l.blocks) j in
+          let read' : In page (pages_read l.met.kind l.file) = subst (λ kind. In page (pages_read kind l.file)) (sym (l.of ∙ g.of)) read in
+          ap (λ (i : Image). page_of i.core page) e.settles ∙ agrees l.met l.file page l.stands l.read read';
+      root = ap (λ (i : Image). i.core.root) e.settles;
+      bodies = λ n r row. ap (λ (i : Image). settled_body i n) e.settles ∙ body_still (settled s) ps k.fit (fit' s s' k lib b given closed e) k.verifies agrees n r row;
+      files = ap (λ (i : Image). survey i.core plain) e.settles ∙ survey_local (settled s).core ps plain (sound_parts (settled s).core plain k.verifies.sound).grammar agrees;
+      rows = ap (λ (i : Image). i.rows) e.settles;
+      owners = ap (λ (i : Image). i.owners) e.settles;
+    }
+
+-- a refusal leaves what the checkpoint covers
+pub refusal_keeps : RefusalKeeps
+refusal_keeps s lib b s' k given (inr none) = (let wrong : Refused ≡ NoMemory = none.1 in absurd (cc wrong))
+refusal_keeps s lib b s' k given (inl does) = by_end (release_end s s' lib b Refused does)
+  where
+    by_end : ReleaseEnd s lib b Refused s' → IsBack s b s'
+    by_end (Parted n some e same) = absurd (cc e)
+    by_end (IsAccepted none t e ends) = absurd (cc e)
+    by_end (IsRefused none f e ends) = refused_back s s' k lib b given (closed_unparted s lib b none) ends

@@ -1,0 +1,274 @@
+-- The laws of the controller, as they are to be read beside the claim: from every image that verifies, for every list of grants,
+-- allotments, give backs, releases, settles and changes of mode with any bytes, the settled image verifies after each step, as
+-- one connected tree with each page owned once and rights as in the shadow table, and a release is accepted exactly when the
+-- whole image with its bytes would be sound by an allowed change, while otherwise what the checkpoint covers returns byte for
+-- byte.
+use Rattle.std.specs.Prelude.{◌≡◌, ◌≢◌, ◌↔◌, ◌⊎◌, ℕ, zero, suc, List, map, [], ◌∷◌, ◌++◌, Option, Some, None, Ok, is_some, slice_get, slice_index, IsTrue, IsFalse}
+use Rattle.trio_rights.specs.declared.kind.Kind.{Kind}
+use Rattle.trio_rights.specs.declared.kind.Kind.TheVariants.{Regular, Directory}
+use Rattle.trio_rights.specs.declared.rights.Creds.{Creds}
+use Rattle.trio_rights.specs.Row.{Row}
+use Rattle.trio_nodes.specs.declared.grant.GrantKind.TheVariants.{Write, Hold}
+use Rattle.trio_layout.specs.Lists.{In, is_among, are_new}
+use Rattle.trio_layout.specs.Range.{is_core}
+use Rattle.trio_layout.specs.Core.{Core, page_of}
+use Rattle.trio_layout.specs.Entries.{Listed}
+use Rattle.trio_layout.specs.Survey.{Met, plain, FileRead, file_of, survey, root_of, children, pages_of, row_by, numbers}
+use Rattle.trio_layout.specs.Sound.{listings, listed_pages}
+use Rattle.trio_state.specs.Sheets.{sheet_numbers}
+use Rattle.trio_state.specs.Image.{Image, IsFit, row_at, settled_body}
+use Rattle.trio_state.specs.Verifies.{Verifies}
+use Rattle.trio_state.specs.State.{State, settled, creds_of, covered}
+use Rattle.trio_state.specs.Proposed.{Written, Bundle, is_written}
+use Rattle.trio_state.specs.Accept.{is_accepted, next}
+use Rattle.trio_state.specs.Bundles.{parted_hold, uncovered, refused_image, has_all}
+use Rattle.trio_state.specs.Step.{Event, Grant, Allot, Back, Release, Settle, SetMode, Answer, Accepted, Refused, NotClosed, NoMemory, Does, Step}
+use Rattle.trio_state.specs.Kept.{Kept}
+use Rattle.trio_state.specs.Given.{HasGrant, GivenTo, GivenEvent}
+use Rattle.trio_state.specs.Run.{start, IsWhole, Trace}
+
+-- ---- runs
+
+-- A run from an image that verifies, with all its pages there: any events that hand in what was given, with any bytes, the
+-- answers to them, and the state after each.
+pub record AnyRun : Type 0 where
+  pub image : Image
+  pub creds : List Creds
+  pub events : List Event
+  pub answers : List Answer
+  pub states : List State
+  pub fit : IsFit image.core
+  pub verifies : Verifies image
+  pub whole : IsWhole image
+  pub trace : Trace (start image creds) events answers states
+
+-- each state that a run comes through, the first one too, is kept, and so its settled image verifies
+abbrev pub EveryStateIsKept : Type 0
+EveryStateIsKept = (run : AnyRun) (s : State) → In s (start run.image run.creds ∷ run.states) → Kept s × Verifies (settled s)
+
+-- somewhere from the first state on, this event came in this state, with this answer, and this state after it
+abbrev pub Happens : State → List Event → List Answer → List State → State → Event → Answer → State → Type 0
+Happens first [] answers states s event answer s' = ⊥
+Happens first (e ∷ events) [] states s event answer s' = ⊥
+Happens first (e ∷ events) (a ∷ answers) [] s event answer s' = ⊥
+Happens first (e ∷ events) (a ∷ answers) (t ∷ states) s event answer s' =
+    ((s ≡ first) × (event ≡ e) × (answer ≡ a) × (s' ≡ t)) ⊎ Happens t events answers states s event answer s'
+
+-- the same somewhere in a run
+abbrev pub HappensIn : AnyRun → State → Event → Answer → State → Type 0
+HappensIn run s event answer s' = Happens (start run.image run.creds) run.events run.answers run.states s event answer s'
+
+-- a step from a kept state, of an event that hands in what was given
+pub record IsMove (s : State) (event : Event) (answer : Answer) (s' : State) : Type 0 where
+  pub kept : Kept s
+  pub given : GivenEvent s event
+  pub step : Step s event answer s'
+
+-- each move of a run is one; so what is said below of steps from kept states holds in every run
+abbrev pub EveryMoveIsAStep : Type 0
+EveryMoveIsAStep =
+    (run : AnyRun) (s : State) (event : Event) (answer : Answer) (s' : State)
+    → HappensIn run s event answer s' → IsMove s event answer s'
+
+-- ---- one connected tree
+
+-- a way of so many steps from the root down to a file, each to a file that the one before it lists
+abbrev pub Reaches : Core → ℕ → Met → Type 0
+Reaches core zero m = m ≡ root_of core
+Reaches core (suc steps) m = (parent : Met) × Reaches core steps parent × In m (children core plain parent)
+
+-- The file of a live number: it is met from the root, alone of its number, and read whole. Its row says where it is listed and
+-- what it is, and its rights are those that its body says.
+pub record IsLive (image : Image) (n : ℕ) (r : Row) : Type 0 where
+  pub met : Met
+  pub file : FileRead
+  pub stands : In met (survey image.core plain)
+  pub number : met.ino ≡ n
+  pub alone : (other : Met) → In other (survey image.core plain) → other.ino ≡ n → other ≡ met
+  pub steps : ℕ
+  pub reached : Reaches image.core steps met
+  pub read : file_of image.core met ≡ Ok file
+  pub body : met.body ≡ settled_body image n
+  pub row : r ≡ row_by met file.body
+
+-- The survey is the root and what its files list. Each live number is that of one file met, and each file met is live. Each page
+-- is listed once; the owner row of a listed page names the file that lists it, and an owner row names no other file.
+pub record IsTree (image : Image) : Type 0 where
+  pub listed : survey image.core plain ≡ root_of image.core ∷ listings image.core plain (survey image.core plain)
+  pub once : IsTrue (are_new [] (numbers (survey image.core plain)))
+  pub live : (n : ℕ) (r : Row) → row_at image n ≡ Some r → IsLive image n r
+  pub met : (m : Met) → In m (survey image.core plain) → IsTrue (is_some (row_at image m.ino))
+  pub pages_once : IsTrue (are_new [] (listed_pages image.core (survey image.core plain)))
+  pub owner :
+      (m : Met) (page : ℕ) → In m (survey image.core plain) → In page (pages_of image.core m)
+      → slice_index image.owners page ≡ m.ino
+  pub owned :
+      (page : ℕ) → IsTrue (is_core image.core.range page) → slice_index image.owners page ≢ 0
+      → (m : Met) × In m (survey image.core plain) × (m.ino ≡ slice_index image.owners page) × In page (pages_of image.core m)
+
+-- an image that verifies is one tree
+abbrev pub ImageIsTree : Type 0
+ImageIsTree = (image : Image) → IsFit image.core → Verifies image → IsTree image
+
+-- ---- releases
+
+-- the answer is a verdict: neither want of memory, nor that the bundle is not closed
+abbrev pub IsJudged : Answer → Type 0
+IsJudged answer = (answer ≢ NoMemory) × ((n : ℕ) → answer ≢ NotClosed n)
+
+-- How a release ends. A bundle that is not closed comes back with nothing changed, and any bundle may for want of memory. One
+-- that is judged is closed; it is accepted exactly where it is acceptable in the image that is settled then, and refused exactly
+-- where it is not, and then the next image is settled, or the one of a refusal.
+pub record IsVerdict (s : State) (lib : ℕ) (b : Bundle) (answer : Answer) (s' : State) : Type 0 where
+  pub parted : (n : ℕ) → answer ≡ NotClosed n → (parted_hold s lib b ≡ Some n) × (s' ≡ s)
+  pub no_memory : answer ≡ NoMemory → s' ≡ s
+  pub closed : IsJudged answer → parted_hold s lib b ≡ None
+  pub accepted : IsJudged answer → (answer ≡ Accepted ↔ IsTrue (is_accepted (settled s) (creds_of s lib) b))
+  pub refused : IsJudged answer → (answer ≡ Refused ↔ IsFalse (is_accepted (settled s) (creds_of s lib) b))
+  pub stands : answer ≡ Accepted → settled s' ≡ next (settled s) b
+  pub returns : answer ≡ Refused → settled s' ≡ refused_image (settled s) b
+
+-- each release of a run ends so
+abbrev pub EveryReleaseIsJudged : Type 0
+EveryReleaseIsJudged =
+    (run : AnyRun) (s : State) (lib : ℕ) (b : Bundle) (answer : Answer) (s' : State)
+    → HappensIn run s (Release lib b) answer s' → IsVerdict s lib b answer s'
+
+-- What stands in the settled image after a refusal: all as before, but for the lent blocks of the bundle's regular files and its
+-- allotted pages. The pages that the checkpoints of its written files cover are not among these: they are as before, byte for byte.
+pub record IsBack (s : State) (b : Bundle) (s' : State) : Type 0 where
+  pub pages :
+      (page : ℕ) → (In page (sheet_numbers (uncovered b ++ b.pages)) → ⊥)
+      → slice_get (settled s').core.pages page ≡ slice_get (settled s).core.pages page
+  pub covered :
+      (w : Written) (page : ℕ) → In w b.writes → In page (sheet_numbers (covered Write w.kind w.index w.blocks))
+      → page_of (settled s').core page ≡ page_of (settled s).core page
+  pub root : (settled s').core.root ≡ (settled s).core.root
+  pub bodies : (n : ℕ) (r : Row) → row_at (settled s) n ≡ Some r → settled_body (settled s') n ≡ settled_body (settled s) n
+  pub files : survey (settled s').core plain ≡ survey (settled s).core plain
+  pub rows : (settled s').rows ≡ (settled s).rows
+  pub owners : (settled s').owners ≡ (settled s).owners
+
+-- after a refusal it stands so
+abbrev pub RefusalKeeps : Type 0
+RefusalKeeps =
+    (s : State) (lib : ℕ) (b : Bundle) (s' : State)
+    → Kept s → GivenTo s lib b → Step s (Release lib b) Refused s' → IsBack s b s'
+
+-- ---- no call is stuck
+
+-- a settle is answered where the bundle is all that its library has out, and acceptable
+abbrev pub MayEnd : State → Event → Type 0
+MayEnd s (Settle lib b) = IsTrue (has_all s lib b) × IsTrue (is_accepted (settled s) (creds_of s lib) b)
+MayEnd s _ = Unit {0}
+
+-- in every kept state each call of what was given can be answered, and not for want of memory
+abbrev pub NeverStuck : Type 0
+NeverStuck =
+    (s : State) (event : Event)
+    → Kept s → GivenEvent s event → MayEnd s event → (answer : Answer) × (s' : State) × (answer ≢ NoMemory) × Does s event answer s'
+
+-- ---- the files of others
+
+-- whose call it is
+abbrev pub library_of : Event → ℕ
+library_of (Grant lib ino kind) = lib
+library_of (Allot lib pages numbers) = lib
+library_of (Back lib ino) = lib
+library_of (Release lib b) = lib
+library_of (Settle lib b) = lib
+library_of (SetMode lib ino mode) = lib
+
+-- an entry of a directory but for the body in its slot
+abbrev pub entry_only : Listed → Listed
+entry_only l = record { entry = l.entry; page = l.page; slot = l.slot; body = [] }
+
+-- the pages of a file that have no slots: the index pages, and a regular file's blocks
+abbrev pub plain_pages : Kind → FileRead → List ℕ
+plain_pages Regular f = f.chain.index ++ f.chain.blocks
+plain_pages Directory f = f.chain.index
+
+-- The file of a number is the same in both images: met at its place, with its kind, body, row and chain, with the same bytes in
+-- each page without slots and, in a directory, with the same entries but for the bodies of its children.
+pub record IsUntouched (before after : Image) (n : ℕ) : Type 0 where
+  pub met : Met
+  pub file_was : FileRead
+  pub file_is : FileRead
+  pub number : met.ino ≡ n
+  pub stood : In met (survey before.core plain)
+  pub stands : In met (survey after.core plain)
+  pub read_was : file_of before.core met ≡ Ok file_was
+  pub read_is : file_of after.core met ≡ Ok file_is
+  pub body : file_is.body ≡ file_was.body
+  pub chain : file_is.chain ≡ file_was.chain
+  pub pages :
+      (page : ℕ) → In page (plain_pages met.kind file_was)
+      → page_of after.core page ≡ page_of before.core page
+  pub entries : map entry_only file_is.entries ≡ map entry_only file_was.entries
+  pub settled_bodies : settled_body after n ≡ settled_body before n
+  pub row : row_at after n ≡ row_at before n
+
+-- a live file that an accepted bundle neither holds nor writes is the same after it
+abbrev pub OthersUntouched : Type 0
+OthersUntouched =
+    (s : State) (lib : ℕ) (creds : Creds) (b : Bundle) (n : ℕ) (r : Row)
+    → Kept s → GivenTo s lib b → IsTrue (is_accepted (settled s) creds b)
+    → row_at s.home n ≡ Some r → IsFalse (is_among n b.holds) → IsFalse (is_written b n)
+    → IsUntouched (settled s) (next (settled s) b) n
+
+-- the library has no open write grant and no hold on the file
+abbrev pub HasNone : State → ℕ → ℕ → Type 0
+HasNone s lib n = (HasGrant s lib n Write → ⊥) × (HasGrant s lib n Hold → ⊥)
+
+-- the event asks no grant on the file, and is no change of its mode
+abbrev pub IsElsewhere : ℕ → Event → Type 0
+IsElsewhere n (Grant lib ino kind) = ino ≢ n
+IsElsewhere n (SetMode lib ino mode) = ino ≢ n
+IsElsewhere n _ = Unit {0}
+
+-- A live file on which a library has no open write grant and no hold is the same after each event of that library that is
+-- elsewhere. (A write grant on a regular file itself takes its blocks out of the settled image until they come back.)
+abbrev pub EveryStepIsIsolated : Type 0
+EveryStepIsIsolated =
+    (s : State) (event : Event) (answer : Answer) (s' : State) (n : ℕ) (r : Row)
+    → Kept s → GivenEvent s event → Step s event answer s'
+    → row_at (settled s) n ≡ Some r → HasNone s (library_of event) n → IsElsewhere n event
+    → IsUntouched (settled s) (settled s') n
+
+-- a row of the same kind, mode, uid and gid, where there is one
+abbrev pub HasRightsOf : Row → Option Row → Type 0
+HasRightsOf r None = Unit {0}
+HasRightsOf r (Some q) = (q.kind ≡ r.kind) × (q.mode ≡ r.mode) × (q.uid ≡ r.uid) × (q.gid ≡ r.gid)
+
+-- the event changes the mode of this file, and its library acts for the owner or for uid 0; nothing else of the row changes
+abbrev pub IsModeSet : State → Event → ℕ → Row → Option Row → Type 0
+IsModeSet s (SetMode lib ino mode) n r after =
+    (ino ≡ n) × (after ≡ Some (record r { mode = record { 0 = mode } })) × (((creds_of s lib).uid ≡ 0) ⊎ ((creds_of s lib).uid ≡ r.uid))
+IsModeSet s _ n r after = ⊥
+
+-- What becomes of the row of a live number. It stays; or the library holds the file, which is then gone, or has its kind and
+-- rights at its place; or its mode is changed.
+abbrev pub RowGoes : State → Event → ℕ → Row → Option Row → Type 0
+RowGoes s event n r after =
+    (after ≡ Some r) ⊎ ((HasGrant s (library_of event) n Hold × HasRightsOf r after) ⊎ IsModeSet s event n r after)
+
+-- each step leaves the rows of live numbers so
+abbrev pub EveryStepKeepsRows : Type 0
+EveryStepKeepsRows =
+    (s : State) (event : Event) (answer : Answer) (s' : State) (n : ℕ) (r : Row)
+    → Kept s → GivenEvent s event → Step s event answer s'
+    → row_at (settled s) n ≡ Some r → RowGoes s event n r (row_at (settled s') n)
+
+-- what an event hands in stays given through every step of another library
+abbrev pub GivenThrough : Type 0
+GivenThrough =
+    (s : State) (mine event : Event) (answer : Answer) (s' : State)
+    → Kept s → GivenEvent s mine → GivenEvent s event → Step s event answer s' → library_of event ≢ library_of mine
+    → GivenEvent s' mine
+
+-- and a bundle that is closed stays closed
+abbrev pub ClosedThrough : Type 0
+ClosedThrough =
+    (s : State) (lib : ℕ) (b : Bundle) (event : Event) (answer : Answer) (s' : State)
+    → Kept s → GivenEvent s event → Step s event answer s' → library_of event ≢ lib
+    → parted_hold s lib b ≡ None → parted_hold s' lib b ≡ None

@@ -1,0 +1,3 @@
+pub mod SurveyLaws
+pub mod Laws
+pub mod Reading
