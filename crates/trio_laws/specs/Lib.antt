@@ -1,3 +1,3 @@
+pub mod Reading
 pub mod SurveyLaws
 pub mod Laws
-pub mod Reading
