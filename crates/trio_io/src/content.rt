@@ -19,7 +19,8 @@ impl Content {
 
     /// The bytes. `None` where there are none.
     pub fn bytes(&self) -> Option<&[u8]>
-        ensures told { IfSome (told_bytes self.now) (λ bs. IsSomeAnd result (λ bytes. bytes.now ≡ bs)) }
+        ensures told { IfSome (told_bytes self.now)
+            (λ bs. IsSomeAnd result (λ bytes. bytes.now ≡ bs)) }
         ensures none { IsNone result ↔ (self.now ≡ Content.Absent) }
     {
         match self {

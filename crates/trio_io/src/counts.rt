@@ -40,7 +40,8 @@ fn set_count(names: &[String], counts: &mut [u64], name: &str, n: u64)
     requires among { Contains (texts_of names.now) name.now }
     requires each { length counts.old ≡ length names.now }
     requires no_less { count_of names.now counts.old name.now ≤ n }
-    ensures rises { RisesAt name.now (count_of names.now counts.old) (count_of names.now counts.new) }
+    ensures rises { RisesAt name.now
+        (count_of names.now counts.old) (count_of names.now counts.new) }
     ensures count { count_of names.now counts.new name.now ≡ n }
 {
     counts[place(names, name)] = n;

@@ -27,9 +27,11 @@ pub struct MemFiles {
 impl MemFiles {
     /// Serves these names, none of which has a content.
     pub fn new(alloc: Global, names: Vec<String>, plan: FailingCalls) -> Result<MemFiles, NoMemory>
-        ensures serves { IfOk result (λ files. (⟦<MemFiles as Files>⟧.seen files).served ≡ texts_of names.items) }
+        ensures serves { IfOk result
+            (λ files. (⟦<MemFiles as Files>⟧.seen files).served ≡ texts_of names.items) }
         ensures tells { IfOk result (λ files. (⟦<MemFiles as Files>⟧.seen files).tells ≡ true) }
-        ensures empty { IfOk result (λ files. (q : List ℕ) → (⟦<MemFiles as Files>⟧.seen files).held q ≡ None) }
+        ensures empty { IfOk result
+            (λ files. (q : List ℕ) → (⟦<MemFiles as Files>⟧.seen files).held q ≡ None) }
         ensures faults { IfOk result (λ files. NoFaults (⟦<MemFiles as Files>⟧.seen files)) }
     {
         let mut contents = Vec::with_capacity(alloc, names.len())?;
@@ -54,12 +56,18 @@ impl MemFiles {
     /// Gives a name this content. A name that isn't served is passed over.
     #[tactic(auto, using(crate::proofs::Places::others_put))]
     pub fn hold(&mut self, name: &str, bytes: Vec<u8>)
-        ensures content { Contains (⟦<MemFiles as Files>⟧.seen self.old).served name.now → (⟦<MemFiles as Files>⟧.seen self.new).held name.now ≡ Some bytes.items }
-        ensures others { KeepsOthers name.now (⟦<MemFiles as Files>⟧.seen self.old).held (⟦<MemFiles as Files>⟧.seen self.new).held }
-        ensures reads { (⟦<MemFiles as Files>⟧.seen self.new).read_faults ≡ (⟦<MemFiles as Files>⟧.seen self.old).read_faults }
-        ensures writes { (⟦<MemFiles as Files>⟧.seen self.new).write_faults ≡ (⟦<MemFiles as Files>⟧.seen self.old).write_faults }
-        ensures tells { (⟦<MemFiles as Files>⟧.seen self.new).tells ≡ (⟦<MemFiles as Files>⟧.seen self.old).tells }
-        ensures serves { (⟦<MemFiles as Files>⟧.seen self.new).served ≡ (⟦<MemFiles as Files>⟧.seen self.old).served }
+        ensures content { Contains (⟦<MemFiles as Files>⟧.seen self.old).served name.now
+            → (⟦<MemFiles as Files>⟧.seen self.new).held name.now ≡ Some bytes.items }
+        ensures others { KeepsOthers name.now
+            (⟦<MemFiles as Files>⟧.seen self.old).held (⟦<MemFiles as Files>⟧.seen self.new).held }
+        ensures reads { (⟦<MemFiles as Files>⟧.seen self.new).read_faults
+            ≡ (⟦<MemFiles as Files>⟧.seen self.old).read_faults }
+        ensures writes { (⟦<MemFiles as Files>⟧.seen self.new).write_faults
+            ≡ (⟦<MemFiles as Files>⟧.seen self.old).write_faults }
+        ensures tells { (⟦<MemFiles as Files>⟧.seen self.new).tells
+            ≡ (⟦<MemFiles as Files>⟧.seen self.old).tells }
+        ensures serves { (⟦<MemFiles as Files>⟧.seen self.new).served
+            ≡ (⟦<MemFiles as Files>⟧.seen self.old).served }
     {
         let i = place(&self.counts.names, name);
         if i < self.contents.len() {
@@ -69,7 +77,8 @@ impl MemFiles {
 
     /// What stands under a name, told or not. `None` where nothing does.
     pub fn content(&self, name: &str) -> Option<&[u8]>
-        ensures { IfSome ((⟦<MemFiles as Files>⟧.seen self.now).held name.now) (λ bs. IsSomeAnd result (λ bytes. bytes.now ≡ bs)) }
+        ensures { IfSome ((⟦<MemFiles as Files>⟧.seen self.now).held name.now)
+            (λ bs. IsSomeAnd result (λ bytes. bytes.now ≡ bs)) }
     {
         let i = place(&self.counts.names, name);
         self.contents.get(i)?.bytes()

@@ -60,7 +60,8 @@ pub trait Files {
         ensures cause { OnErr result
             (Rose ((seen self.old).write_faults name.now) ((seen self.new).write_faults name.now)) }
 
-        ensures writes { RisesAt name.now (seen self.old).write_faults (seen self.new).write_faults }
+        ensures writes { RisesAt name.now
+            (seen self.old).write_faults (seen self.new).write_faults }
         ensures reads { (seen self.new).read_faults ≡ (seen self.old).read_faults }
         ensures tells { (seen self.new).tells ≡ (seen self.old).tells }
         ensures serves { (seen self.new).served ≡ (seen self.old).served };

@@ -38,7 +38,8 @@ impl FailingCalls {
 
     /// Counts a call, and says whether it is to fail.
     pub(crate) fn next(&mut self) -> bool
-        ensures calls { self.new ≡ record self.old { calls = min (self.old.calls + 1) (2 ^ 64 - 1) } }
+        ensures calls { self.new
+            ≡ record self.old { calls = min (self.old.calls + 1) (2 ^ 64 - 1) } }
         ensures fails { IsTrue result ↔ Contains self.new.failing self.new.calls }
     {
         self.calls = self.calls.saturating_add(1);

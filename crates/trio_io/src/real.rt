@@ -5,12 +5,12 @@
 //! bytes that a reader gives or a writer takes. That the host's calls reach the file of that name,
 //! at that offset, is trusted.
 
-ghost use Rattle.std.specs.Prelude.{◌≡◌, ◌<◌, ◌≤◌, length, take, None, false, IfOk, OnOk, OnErr, List, ℕ};
+ghost use Rattle.std.specs.Prelude.{◌≡◌, ◌<◌, ◌≤◌, ◌↔◌, length, take, None, false, Contains, IsTrue, IfOk, OnOk, OnErr, List, ℕ};
 ghost use Rattle.std.specs.Io.KnownBytes.{Appends, Consumes, IsAtEnd};
 ghost use Rattle.trio_io.specs.Names.{texts_of, count_of};
 ghost use Rattle.trio_io.specs.Shelf.{Rose, NoFaults};
 
-use crate::counts::FaultCounts;
+use crate::counts::{FaultCounts, is_among};
 use crate::{Failed, Files, Sink};
 use std::alloc::{AllocError as NoMemory, Global};
 use std::io::{ErrorKind, Read, Seek, SeekFrom, Write};
@@ -30,13 +30,23 @@ pub struct RealFiles<'a, R: Host> {
 impl<'a, R: Host> RealFiles<'a, R> {
     /// Serves these names. No file is touched yet.
     pub fn new(host: &'a R, alloc: Global, names: Vec<String>) -> Result<RealFiles<'a, R>, NoMemory>
-        ensures serves { IfOk result (λ files. (⟦<RealFiles<'a, R> as Files>⟧.seen files).served ≡ texts_of names.items) }
-        ensures faults { IfOk result (λ files. NoFaults (⟦<RealFiles<'a, R> as Files>⟧.seen files)) }
+        ensures serves { IfOk result
+            (λ files. (⟦<RealFiles<'a, R> as Files>⟧.seen files).served ≡ texts_of names.items) }
+        ensures faults { IfOk result
+            (λ files. NoFaults (⟦<RealFiles<'a, R> as Files>⟧.seen files)) }
     {
         Ok(RealFiles {
             host,
             counts: FaultCounts::new(alloc, names)?,
         })
+    }
+
+    /// Whether this name may be asked for.
+    pub fn serves(&self, name: &str) -> bool
+        ensures { IsTrue result
+            ↔ Contains (⟦<RealFiles<'a, R> as Files>⟧.seen self.now).served name.now }
+    {
+        is_among(&self.counts.names, name)
     }
 }
 

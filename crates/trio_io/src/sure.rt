@@ -13,7 +13,7 @@ use std::alloc::{AllocError as NoMemory, Global};
 /// Files in memory that never fail. All their counts are 0 for ever.
 ///
 /// They tell the contents that they are given, and tell the empty content for a name that is given
-/// none. What `replace` puts in place may not find memory and reads as empty then, so it isn't told.
+/// none. What `replace` puts in place isn't told: it may not find memory, and reads as empty then.
 #[derive(Drop)]
 pub struct SureFiles {
     alloc: Global,
@@ -25,9 +25,11 @@ pub struct SureFiles {
 impl SureFiles {
     /// Serves these names, each of which is empty.
     pub fn new(alloc: Global, names: Vec<String>) -> Result<SureFiles, NoMemory>
-        ensures serves { IfOk result (λ files. (⟦<SureFiles as Files>⟧.seen files).served ≡ texts_of names.items) }
+        ensures serves { IfOk result
+            (λ files. (⟦<SureFiles as Files>⟧.seen files).served ≡ texts_of names.items) }
         ensures tells { IfOk result (λ files. (⟦<SureFiles as Files>⟧.seen files).tells ≡ false) }
-        ensures empty { IfOk result (λ files. (q : List ℕ) → Contains (texts_of names.items) q → (⟦<SureFiles as Files>⟧.seen files).held q ≡ Some []) }
+        ensures empty { IfOk result (λ files. (q : List ℕ) → Contains (texts_of names.items) q
+            → (⟦<SureFiles as Files>⟧.seen files).held q ≡ Some []) }
         ensures faults { IfOk result (λ files. NoFaults (⟦<SureFiles as Files>⟧.seen files)) }
     {
         let mut contents = Vec::with_capacity(alloc, names.len())?;
@@ -51,12 +53,18 @@ impl SureFiles {
     /// Gives a name this content. A name that isn't served is passed over.
     #[tactic(auto, using(crate::proofs::Places::others_put))]
     pub fn hold(&mut self, name: &str, bytes: Vec<u8>)
-        ensures content { Contains (⟦<SureFiles as Files>⟧.seen self.old).served name.now → (⟦<SureFiles as Files>⟧.seen self.new).held name.now ≡ Some bytes.items }
-        ensures others { KeepsOthers name.now (⟦<SureFiles as Files>⟧.seen self.old).held (⟦<SureFiles as Files>⟧.seen self.new).held }
-        ensures reads { (⟦<SureFiles as Files>⟧.seen self.new).read_faults ≡ (⟦<SureFiles as Files>⟧.seen self.old).read_faults }
-        ensures writes { (⟦<SureFiles as Files>⟧.seen self.new).write_faults ≡ (⟦<SureFiles as Files>⟧.seen self.old).write_faults }
-        ensures tells { (⟦<SureFiles as Files>⟧.seen self.new).tells ≡ (⟦<SureFiles as Files>⟧.seen self.old).tells }
-        ensures serves { (⟦<SureFiles as Files>⟧.seen self.new).served ≡ (⟦<SureFiles as Files>⟧.seen self.old).served }
+        ensures content { Contains (⟦<SureFiles as Files>⟧.seen self.old).served name.now
+            → (⟦<SureFiles as Files>⟧.seen self.new).held name.now ≡ Some bytes.items }
+        ensures others { KeepsOthers name.now (⟦<SureFiles as Files>⟧.seen self.old).held
+            (⟦<SureFiles as Files>⟧.seen self.new).held }
+        ensures reads { (⟦<SureFiles as Files>⟧.seen self.new).read_faults
+            ≡ (⟦<SureFiles as Files>⟧.seen self.old).read_faults }
+        ensures writes { (⟦<SureFiles as Files>⟧.seen self.new).write_faults
+            ≡ (⟦<SureFiles as Files>⟧.seen self.old).write_faults }
+        ensures tells { (⟦<SureFiles as Files>⟧.seen self.new).tells
+            ≡ (⟦<SureFiles as Files>⟧.seen self.old).tells }
+        ensures serves { (⟦<SureFiles as Files>⟧.seen self.new).served
+            ≡ (⟦<SureFiles as Files>⟧.seen self.old).served }
     {
         let i = place(&self.names, name);
         if i < self.contents.len() {
@@ -66,7 +74,8 @@ impl SureFiles {
 
     /// What stands under a name, told or not. `None` where nothing does.
     pub fn content(&self, name: &str) -> Option<&[u8]>
-        ensures { IfSome ((⟦<SureFiles as Files>⟧.seen self.now).held name.now) (λ bs. IsSomeAnd result (λ bytes. bytes.now ≡ bs)) }
+        ensures { IfSome ((⟦<SureFiles as Files>⟧.seen self.now).held name.now)
+            (λ bs. IsSomeAnd result (λ bytes. bytes.now ≡ bs)) }
     {
         let i = place(&self.names, name);
         self.contents.get(i)?.bytes()

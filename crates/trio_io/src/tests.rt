@@ -11,10 +11,10 @@ const FULL: &str = "full";
 
 const BARE: &str = "bare";
 
-fn names(alloc: Global) -> Result<Vec<String>, NoMemory> {
+fn names_of(alloc: Global, texts: &[&str]) -> Result<Vec<String>, NoMemory> {
     let mut names = Vec::new(alloc);
-    for name in [FULL, BARE] {
-        names.push(String::from_str(alloc, name)?)?;
+    for text in texts {
+        names.push(String::from_str(alloc, text)?)?;
     }
     Ok(names)
 }
@@ -22,7 +22,7 @@ fn names(alloc: Global) -> Result<Vec<String>, NoMemory> {
 // Files of which one has this content, and of which these calls fail.
 fn mem_files(alloc: Global, content: &[u8], failing: &[u64]) -> Result<MemFiles, NoMemory> {
     let plan = FailingCalls::new(failing.to_vec(alloc)?);
-    let mut files = MemFiles::new(alloc, names(alloc)?, plan)?;
+    let mut files = MemFiles::new(alloc, names_of(alloc, &[FULL, BARE])?, plan)?;
     files.hold(FULL, content.to_vec(alloc)?);
     Ok(files)
 }
@@ -164,7 +164,7 @@ fn sink_in_memory(rt: HostRuntime) -> Result<(), Fail> {
 
 #[test]
 fn sure_forms(rt: HostRuntime) -> Result<(), Fail> {
-    let mut files = SureFiles::new(rt.alloc(), names(rt.alloc())?)?;
+    let mut files = SureFiles::new(rt.alloc(), names_of(rt.alloc(), &[FULL, BARE])?)?;
     files.hold(FULL, b"abc".to_vec(rt.alloc())?);
     let mut buf = [7u8; 4];
     assert!(rt; files.serves(FULL) && files.serves(BARE) && !files.serves("other"));
@@ -179,6 +179,34 @@ fn sure_forms(rt: HostRuntime) -> Result<(), Fail> {
     assert_eq!(rt; out.put(b"line\n"), Ok(()));
     assert_eq!(rt; out.put(b"two\n"), Ok(()));
     assert_eq!(rt; out.bytes(), b"line\ntwo\n".as_slice());
+    Ok(())
+}
+
+// Devices that every host has: one that is empty, one without an end, and one that takes nothing.
+#[test]
+fn real_forms(rt: HostRuntime) -> Result<(), Fail> {
+    let texts = ["/dev/null", "/dev/zero", "/dev/full", "/dev/no such device"];
+    let mut files = RealFiles::new(&rt, rt.alloc(), names_of(rt.alloc(), &texts)?)?;
+    let mut buf = [7u8; 4];
+    for (name, answer) in [
+        ("/dev/null", Ok(0)),
+        ("/dev/zero", Ok(4)),
+        (texts[3], Err(Failed)),
+    ] {
+        assert!(rt; files.serves(name));
+        assert_eq!(rt; files.read_at(name, 9, &mut buf), answer, "{name}");
+    }
+    assert_eq!(rt; buf, [0; 4]);
+    let writes: [(&str, &[u8], bool); 3] = [
+        ("/dev/null", b"some", true),
+        ("/dev/full", b"some", false),
+        ("/dev/full", b"", true),
+    ];
+    for (name, bytes, is_ok) in writes {
+        assert!(rt; files.serves(name));
+        assert_eq!(rt; files.replace(name, bytes).is_ok(), is_ok, "{name}");
+    }
+    assert_eq!(rt; StdoutSink::new(&rt).put(b""), Ok(()));
     Ok(())
 }
 
