@@ -2,3 +2,8 @@ pub mod Chains
 pub mod Gathers
 pub mod Fits
 pub mod Roots
+pub mod Repeats
+pub mod Adding
+pub mod CorePages
+pub mod Tables
+pub mod Standing

@@ -1,3 +1,6 @@
 pub mod Seen
 pub mod Steps
 pub mod Within
+pub mod Picks
+pub mod Walk
+pub mod Answer
