@@ -139,6 +139,9 @@ pub refused : (core : Core) (pick : Pick) (e : SurveyFault) → IsFault core pic
 refused core pick (Fails rule ino page slot) f = (fails_unsound core pick rule ino (record { page = page; slot = slot }) f, f)
 refused core pick NoMemory f = tt
 
+pub second_refused : (core : Core) (pick : Pick) (r : Repeated) → FailsAt core pick 2 r.ino (record { page = r.page; slot = r.slot }) → IsRefused core pick (Fails 2 r.ino r.page r.slot)
+second_refused core pick r f = refused core pick (Fails 2 r.ino r.page r.slot) f
+
 -- the survey is sound, and the tables are those of its files
 pub record IsWhole (core : Core) (pick : Pick) (owners : List ℕ) (rows : List (Option Row)) : Type 0 where
   pub sound : IsSound core pick

@@ -4,3 +4,5 @@ pub mod Within
 pub mod Picks
 pub mod Walk
 pub mod Answer
+pub mod Verdict
+pub mod Stored

@@ -19,9 +19,11 @@ mod home;
 mod marks;
 mod names;
 mod picks;
+mod verdict;
 mod walk;
 mod whole;
 
 pub use fault::SurveyFault;
 pub use picks::{Picked, Picks};
+pub use verdict::{verify, verify_found};
 pub use whole::{Found, survey, survey_picked};
