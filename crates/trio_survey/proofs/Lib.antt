@@ -7,3 +7,4 @@ pub mod Adding
 pub mod CorePages
 pub mod Tables
 pub mod Standing
+pub mod Verdicts

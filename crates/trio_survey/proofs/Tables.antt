@@ -191,6 +191,12 @@ is_tabulated f xs n d len each =
     same_lists xs (tabulated f n) (len ∙ sym (length-tabulated f n))
     (λ k e h. get_or_default xs k e d h ∙ each k h ∙ sym (get_or-tabulated f n k e (omega (arith, len))))
 
+pub length-rows_table : (core : Core) (files : List Met) → length (rows_table core files) ≡ core.inodes + 1
+length-rows_table core files = length-tabulated (row_of core files) (core.inodes + 1)
+
+pub length-owners_table : (core : Core) (files : List Met) → length (owners_table core files) ≡ core.range.end
+length-owners_table core files = length-tabulated (owner_in core files) core.range.end
+
 pub rows_are : (core : Core) (files : List Met) (owners : List ℕ) (rows : List (Option Row)) → Tabled core files owners rows → rows ≡ rows_table core files
 rows_are core files owners rows t = is_tabulated (row_of core files) rows (core.inodes + 1) None t.many_rows t.each_file
 

@@ -118,6 +118,7 @@ fn row_fault(
     reads: &mut Reads,
 ) -> Option<u32>
     requires some { 1 ≤ first_owner }
+    requires few { first_owner ≤ 8192 }
     requires rows { (k : ℕ) → 1 + k < first_owner → 128 * k + 1 < length rows.now }
     ensures pages { home.new.pages ≡ home.old.pages }
     ensures stored { IfNone result ((k : ℕ) → 1 + k < first_owner
