@@ -8,3 +8,4 @@ pub mod CorePages
 pub mod Tables
 pub mod Standing
 pub mod Verdicts
+pub mod PickProofs

@@ -6,3 +6,4 @@ pub mod Walk
 pub mod Answer
 pub mod Verdict
 pub mod Stored
+pub mod PickLaws

@@ -16,6 +16,7 @@ mod entries;
 mod fault;
 pub mod file;
 mod home;
+pub mod laws;
 mod marks;
 mod names;
 mod picks;
@@ -27,3 +28,6 @@ pub use fault::SurveyFault;
 pub use picks::{Picked, Picks};
 pub use verdict::{verify, verify_found};
 pub use whole::{Found, survey, survey_picked};
+
+#[cfg(test)]
+mod image_tests;

@@ -31,11 +31,7 @@ pub fn verify(alloc: Global, home: &mut Home, reads: &mut Reads) -> Result<(), S
 }
 
 /// As [`verify`], with the tables of an image that verifies.
-pub fn verify_found(
-    alloc: Global,
-    home: &mut Home,
-    reads: &mut Reads,
-) -> Result<Found, SurveyFault>
+pub fn verify_found(alloc: Global, home: &mut Home, reads: &mut Reads) -> Result<Found, SurveyFault>
     requires { IsSome (superblock_in home.old.pages) }
     ensures pages { home.new.pages ≡ home.old.pages }
     ensures verified { (s : Superblock) → HasSuperblock s home.old.pages → OnOk result (PagesVerify s home.old.pages) }
@@ -111,12 +107,7 @@ fn compare(
 
 /// The first inode number whose stored row differs, or 0 where a shadow page before it is absent or
 /// isn't zero behind its rows.
-fn row_fault(
-    home: &mut Home,
-    rows: &Shadow,
-    first_owner: u32,
-    reads: &mut Reads,
-) -> Option<u32>
+fn row_fault(home: &mut Home, rows: &Shadow, first_owner: u32, reads: &mut Reads) -> Option<u32>
     requires some { 1 ≤ first_owner }
     requires few { first_owner ≤ 8192 }
     requires rows { (k : ℕ) → 1 + k < first_owner → 128 * k + 1 < length rows.now }

@@ -127,11 +127,15 @@ impl Walk {
         };
         let index = mark_new(&mut self.used, &file.index);
         let block = mark_new(&mut self.used, &file.blocks);
-        let entry = add_children(&mut self.files, &mut self.met, picks, met.ino, &file.entries)?;
+        let entry = add_children(
+            &mut self.files,
+            &mut self.met,
+            picks,
+            met.ino,
+            &file.entries,
+        )?;
         enter(&mut self.rows, &mut self.owners, &met, &file);
-        self.repeated = self
-            .repeated
-            .or(repeated_in(met.ino, index, block, entry));
+        self.repeated = self.repeated.or(repeated_in(met.ino, index, block, entry));
         Ok(())
     }
 }
