@@ -26,34 +26,34 @@ use Rattle.trio_layout.specs.Survey.{Met, FileRead, file_of, file_with}
 use Rattle.trio_survey.specs.Within.{IsWithin, all_some}
 
 -- what holds of each answer of the steps
-if_ok_then : {X Y E : Type 0} (r : Result X E) (g : X → Result Y E) (P : Y → Type 0) → ((x : X) → r ≡ Ok x → IfOk (g x) P) → IfOk (result_then g r) P
+pub if_ok_then : {X Y E : Type 0} (r : Result X E) (g : X → Result Y E) (P : Y → Type 0) → ((x : X) → r ≡ Ok x → IfOk (g x) P) → IfOk (result_then g r) P
 if_ok_then (Err e) g P h = tt
 if_ok_then (Ok x) g P h = h x refl
 
-if_ok_map : {X Y E : Type 0} (r : Result X E) (f : X → Y) (P : Y → Type 0) → IfOk r (λ x. P (f x)) → IfOk (result_map f r) P
+pub if_ok_map : {X Y E : Type 0} (r : Result X E) (f : X → Y) (P : Y → Type 0) → IfOk r (λ x. P (f x)) → IfOk (result_map f r) P
 if_ok_map (Err e) f P h = tt
 if_ok_map (Ok x) f P h = h
 
-if_ok_at : {X E : Type 0} (r : Result X E) (x : X) (P : X → Type 0) → r ≡ Ok x → IfOk r P → P x
+pub if_ok_at : {X E : Type 0} (r : Result X E) (x : X) (P : X → Type 0) → r ≡ Ok x → IfOk r P → P x
 if_ok_at r x P e h = rw e at h
 
-if_ok_weaker : {X E : Type 0} (r : Result X E) (P Q : X → Type 0) → ((x : X) → P x → Q x) → IfOk r P → IfOk r Q
+pub if_ok_weaker : {X E : Type 0} (r : Result X E) (P Q : X → Type 0) → ((x : X) → P x → Q x) → IfOk r P → IfOk r Q
 if_ok_weaker (Err e) P Q w h = tt
 if_ok_weaker (Ok x) P Q w h = w x h
 
-there_some : {X : Type 0} (place : Place) (o : Option X) (x : X) → there_or place o ≡ Ok x → o ≡ Some x
+pub there_some : {X : Type 0} (place : Place) (o : Option X) (x : X) → there_or place o ≡ Ok x → o ≡ Some x
 there_some place None x e = absurd cc
 there_some place (Some y) x e = cc
 
-and_then_some : {X Y : Type 0} (f : X → Option Y) (o : Option X) (y : Y) → option_and_then f o ≡ Some y → (x : X) × (o ≡ Some x) × (f x ≡ Some y)
+pub and_then_some : {X Y : Type 0} (f : X → Option Y) (o : Option X) (y : Y) → option_and_then f o ≡ Some y → (x : X) × (o ≡ Some x) × (f x ≡ Some y)
 and_then_some f None y e = absurd cc
 and_then_some f (Some x) y e = (x, refl, e)
 
-cond_some : {X : Type 0} (b : Bool) (x y : X) → cond b (Some x) None ≡ Some y → (b ≡ true) × (x ≡ y)
+pub cond_some : {X : Type 0} (b : Bool) (x y : X) → cond b (Some x) None ≡ Some y → (b ≡ true) × (x ≡ y)
 cond_some true x y e = (refl, cc)
 cond_some false x y e = absurd cc
 
-cond_there : {X : Type 0} (b : Bool) (o : Option X) (x : X) → cond b o None ≡ Some x → b ≡ true
+pub cond_there : {X : Type 0} (b : Bool) (o : Option X) (x : X) → cond b o None ≡ Some x → b ≡ true
 cond_there true o x e = refl
 cond_there false o x e = absurd cc
 

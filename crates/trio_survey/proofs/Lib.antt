@@ -3,3 +3,10 @@ pub mod Gathers
 pub mod Fits
 pub mod Roots
 pub mod NamesSeen
+pub mod Repeats
+pub mod Adding
+pub mod CorePages
+pub mod Tables
+pub mod Standing
+pub mod Verdicts
+pub mod PickProofs

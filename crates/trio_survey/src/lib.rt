@@ -1,14 +1,35 @@
-//! What an image says, read from its pages: each file whole, with every look at a page counted.
+//! What an image says, read from its pages: each file whole, all files from the root downward, and
+//! whether an image verifies, with every look at a page counted.
 //!
-//! [`file::read_file`] reads one file that is met: its body, its chain of index pages and blocks and,
-//! of a directory, its entries. Its contract is `file_of` of `trio_layout`'s `specs/Survey.antt`, with
-//! the place where a file can't be read.
+//! - [`file::read_file`] reads one file that is met: its body, its chain of index pages and blocks
+//!   and, of a directory, its entries. Its contract is `file_of` of `trio_layout`'s
+//!   `specs/Survey.antt`, with the place where a file can't be read.
+//! - [`survey`] goes through all files from the root downward, and answers the tables of a sound core
+//!   (`specs/Sound.antt` of `trio_layout`) or the lowest rule that fails. [`survey_picked`] does so
+//!   with bodies that stand in place of the bytes in slots.
+//! - [`verify`] says whether an image verifies (`PagesVerify` of `trio_state`'s `specs/Stored.antt`).
 #![tactic(auto)]
 
 mod chain;
+mod enter;
 mod entries;
+mod fault;
 pub mod file;
 mod home;
+pub mod laws;
+mod marks;
 mod names;
+mod picks;
+mod verdict;
+mod walk;
+mod whole;
+
+pub use fault::SurveyFault;
+pub use picks::{Picked, Picks};
+pub use verdict::{verify, verify_found};
+pub use whole::{Found, survey, survey_picked};
+
+#[cfg(test)]
+mod image_tests;
 #[cfg(test)]
 mod tests;

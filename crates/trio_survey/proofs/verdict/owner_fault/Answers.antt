@@ -1,0 +1,6 @@
+use Rattle.std.proofs.Common.{◌≡◌, ◌<◌, ◌∙◌, inl, inr, sym, subst, arith}
+use Rattle.std.proofs.lemmas.Bool.{cases_lt}
+use Rattle.trio_survey.proofs.verdict.owner_fault.Goals as goal
+
+pub owner_fault_at-requires-clause-owners : goal.owner_fault_at-requires-clause-owners
+owner_fault_at-requires-clause-owners c = c.requires.owners c.loop-k.k (omega arith)

@@ -1,0 +1,6 @@
+use Rattle.std.proofs.Common.{◌≡◌, ◌<◌, ◌∙◌, inl, inr, sym, subst, arith}
+use Rattle.std.proofs.lemmas.Bool.{cases_lt}
+use Rattle.trio_survey.proofs.verdict.row_fault.Goals as goal
+
+pub row_fault_at-requires-clause-rows : goal.row_fault_at-requires-clause-rows
+row_fault_at-requires-clause-rows c = c.requires.rows c.loop-k.k (omega arith)

@@ -1,0 +1,85 @@
+use Rattle.std.proofs.Common.{◌≡◌, ◌+◌, ◌<◌, ◌++◌, Err, Ok, map, get_or, vec_len, length, sym, ap, ◌∙◌, arith, append_assoc}
+use Rattle.std.proofs.lemmas.List.{get_or-map, length-map}
+use Rattle.std.proofs.lemmas.Simd.{map-map}
+use Rattle.trio_layout.specs.Core.{Place}
+use Rattle.trio_layout.specs.Survey.{file_of}
+use Rattle.trio_survey.specs.Picks.{pick_of}
+use Rattle.trio_survey.specs.Seen.{file_seen, met_seen}
+use Rattle.trio_survey.specs.Walk.{framed}
+use Rattle.trio_survey.proofs.Fits.{file_within}
+use Rattle.trio_survey.proofs.Roots.{file_rootless}
+use Rattle.trio_survey.proofs.Standing.{file_fails, stands_more}
+use Rattle.trio_survey.proofs.Tables.{met_below, met_some, entered_in_two, tabled_after}
+use Rattle.trio_survey.proofs.walk.Walk.visit.Goals as goal
+
+pub returns-in-Err-clause-fault : goal.returns-in-Err-clause-fault
+returns-in-Err-clause-fault c =
+    let core = framed c.args.home.now.pages c.args.frame.now in
+    let walk = c.args.self.now in
+    let files = map met_seen walk.files.items in
+    let m = met_seen c.index.result.now in
+    let inside : c.args.at < length files = omega (arith, length-map walk.files.items met_seen) in
+    let at : get_or files c.args.at m ≡ m = get_or-map met_seen walk.files.items c.args.at c.index.result.now m (omega arith) ∙ ap met_seen (sym c.index.ensures) in
+    let place : Place = record { page = c.in-Err.place.page; slot = c.in-Err.place.slot } in
+    let bad : file_of core m ≡ Err place = file_rootless core m ∙ sym (rw c.in-Err.is at c.in_ok-file.ensures.file) in
+    file_fails core (pick_of c.args.picks.now) c.args.at files walk.met.items walk.used.items walk.repeated m place c.requires.stands inside at bad
+
+pub enter-requires-clause-some : goal.enter-requires-clause-some
+enter-requires-clause-some c =
+    let items = c.args.self.now.files.items in
+    let files = map met_seen items in
+    let m = met_seen c.index.result.now in
+    let inside : c.args.at < length files = omega (arith, length-map items met_seen) in
+    let at : get_or files c.args.at m ≡ m = get_or-map met_seen items c.args.at c.index.result.now m (omega arith) ∙ ap met_seen (sym c.index.ensures) in
+    met_some files c.args.at m inside at c.requires.stands.some
+
+pub enter-requires-clause-ino : goal.enter-requires-clause-ino
+enter-requires-clause-ino c =
+    let items = c.args.self.now.files.items in
+    let files = map met_seen items in
+    let m = met_seen c.index.result.now in
+    let inside : c.args.at < length files = omega (arith, length-map items met_seen) in
+    let at : get_or files c.args.at m ≡ m = get_or-map met_seen items c.args.at c.index.result.now m (omega arith) ∙ ap met_seen (sym c.index.ensures) in
+    omega (arith, met_below (c.args.frame.now.inodes + 1) files c.args.at m inside at c.requires.stands.fit, c.requires.tables.many_rows)
+
+pub returns-clause-stands : goal.returns-clause-stands
+returns-clause-stands c =
+    let core = framed c.args.home.now.pages c.args.frame.now in
+    let walk = c.args.self.now in
+    let files = map met_seen walk.files.items in
+    let m = met_seen c.index.result.now in
+    let inside : c.args.at < length files = omega (arith, length-map walk.files.items met_seen) in
+    let at : get_or files c.args.at m ≡ m = get_or-map met_seen walk.files.items c.args.at c.index.result.now m (omega arith) ∙ ap met_seen (sym c.index.ensures) in
+    let f = file_seen c.in-Ok.file in
+    let read : file_of core m ≡ Ok f = file_rootless core m ∙ sym (rw c.in-Ok.is at c.in_ok-file.ensures.file) in
+    let within = file_within core m f read in
+    let first = c.mark_new-index.ensures in
+    let second = c.mark_new-block.ensures in
+    let third = c.in_ok-entry.ensures in
+    let index_is = c.deref.ensures.value in
+    let blocks_is = c.deref-2.ensures.value in
+    let entries_is = c.deref-3.ensures.value in
+    rw (c.or-self.ensures, c.repeated_in.ensures) (stands_more core (pick_of c.args.picks.now) c.args.at files (map met_seen c.add_children.new.files.items) walk.met.items c.add_children.new.marks.items walk.used.items c.mark_new-block.new.marks.items walk.repeated c.mark_new-index.result c.mark_new-block.result c.in_ok-entry.entry m f inside at read (omega (arith, third.len)) (omega (arith, first.len, second.len))
+    (record {
+      pages = λ before x. rw (index_is, blocks_is, append_assoc) at (second.marked (before ++ c.deref.result.now) (first.marked before x));
+      first_index = λ before x. rw index_is at (first.first before x);
+      first_block = λ before x. rw (index_is, blocks_is) at (second.first (before ++ c.deref.result.now) (first.marked before x));
+      added = rw entries_is at third.added;
+      marked = third.marked;
+      fit = within.numbers_below;
+      some = within.numbers_some;
+      first_entry = rw entries_is at third.first;
+    })
+    c.requires.stands)
+
+pub returns-clause-tables : goal.returns-clause-tables
+returns-clause-tables c =
+    let core = framed c.args.home.now.pages c.args.frame.now in
+    let walk = c.args.self.now in
+    let files = map met_seen walk.files.items in
+    let m = met_seen c.index.result.now in
+    let inside : c.args.at < length files = omega (arith, length-map walk.files.items met_seen) in
+    let at : get_or files c.args.at m ≡ m = get_or-map met_seen walk.files.items c.args.at c.index.result.now m (omega arith) ∙ ap met_seen (sym c.index.ensures) in
+    let f = file_seen c.in-Ok.file in
+    let read : file_of core m ≡ Ok f = file_rootless core m ∙ sym (rw c.in-Ok.is at c.in_ok-file.ensures.file) in
+    tabled_after core (pick_of c.args.picks.now) c.args.at files (map met_seen c.add_children.new.files.items) _ m f walk.owners c.enter.new.owners walk.rows c.enter.new.rows inside at read c.requires.stands.queued (rw c.deref-3.ensures.value at c.in_ok-entry.ensures.added) c.enter.ensures c.requires.tables

@@ -1,0 +1,57 @@
+use Rattle.std.proofs.Common.{◌≡◌, ◌<◌, ◌≤◌, ◌+◌, None, Some, map, length, refl, arith}
+use Rattle.std.proofs.lemmas.List.{length-map}
+use Rattle.std.proofs.lemmas.Result.{err_from_is_err_and}
+use Rattle.trio_survey.specs.Answer.{core_of}
+use Rattle.trio_survey.specs.Picks.{pick_of}
+use Rattle.trio_survey.specs.Seen.{met_seen}
+use Rattle.trio_survey.specs.Walk.{Stands}
+use Rattle.trio_survey.proofs.Standing.{fails_second, is_whole, refused, second_refused}
+use Rattle.trio_survey.proofs.whole.survey_picked.Goals as goal
+
+pub loop-at-init : goal.loop-at-init
+loop-at-init c =
+    record {
+      same = refl;
+      stands = c.in_ok-walk.ensures.stands c.args.home.now.pages (pick_of c.args.picks.now);
+      tables = c.in_ok-walk.ensures.tables c.args.home.now.pages;
+    }
+
+pub returns-in_err-visit-clause-fails : goal.returns-in_err-visit-clause-fails
+returns-in_err-visit-clause-fails c =
+    let core = core_of c.args.home.now.pages c.args.root.now c.args.range c.args.inodes in
+    let p = err_from_is_err_and c.from_residual-in_err-visit.result c.from_residual-in_err-visit.ensures.1 in
+    rw (p.1, p.2) (refused core (pick_of c.args.picks.now) c.in_err-visit.field-0.0 (rw c.loop-at.invariant.same at c.in_err-visit.ensures.fault))
+
+pub returns-in-Some-clause-fails : goal.returns-in-Some-clause-fails
+returns-in-Some-clause-fails c =
+    let core = core_of c.args.home.now.pages c.args.root.now c.args.range c.args.inodes in
+    let pick = pick_of c.args.picks.now in
+    let walk = c.loop-at.walk in
+    let files = map met_seen walk.files.items in
+    let all : length files ≤ c.loop-at.at = omega (arith, length-map walk.files.items met_seen) in
+    let stands = rw c.in-Some.is at c.loop-at.invariant.stands in
+    rw c.fault.ensures (second_refused core pick c.in-Some.place (fails_second core pick c.loop-at.at files walk.met.items walk.used.items c.in-Some.place stands all))
+
+pub returns-in-None-clause-sound : goal.returns-in-None-clause-sound
+returns-in-None-clause-sound c =
+    let walk = c.loop-at.walk in
+    let files = map met_seen walk.files.items in
+    let all : length files ≤ c.loop-at.at = omega (arith, length-map walk.files.items met_seen) in
+    let stands = rw c.in-None.is at c.loop-at.invariant.stands in
+    (is_whole (core_of c.args.home.now.pages c.args.root.now c.args.range c.args.inodes) (pick_of c.args.picks.now) c.loop-at.at files walk.met.items walk.used.items walk.owners walk.rows stands c.loop-at.invariant.tables all).sound
+
+pub returns-in-None-clause-rows : goal.returns-in-None-clause-rows
+returns-in-None-clause-rows c =
+    let walk = c.loop-at.walk in
+    let files = map met_seen walk.files.items in
+    let all : length files ≤ c.loop-at.at = omega (arith, length-map walk.files.items met_seen) in
+    let stands = rw c.in-None.is at c.loop-at.invariant.stands in
+    (is_whole (core_of c.args.home.now.pages c.args.root.now c.args.range c.args.inodes) (pick_of c.args.picks.now) c.loop-at.at files walk.met.items walk.used.items walk.owners walk.rows stands c.loop-at.invariant.tables all).rows_are
+
+pub returns-in-None-clause-owners : goal.returns-in-None-clause-owners
+returns-in-None-clause-owners c =
+    let walk = c.loop-at.walk in
+    let files = map met_seen walk.files.items in
+    let all : length files ≤ c.loop-at.at = omega (arith, length-map walk.files.items met_seen) in
+    let stands = rw c.in-None.is at c.loop-at.invariant.stands in
+    (is_whole (core_of c.args.home.now.pages c.args.root.now c.args.range c.args.inodes) (pick_of c.args.picks.now) c.loop-at.at files walk.met.items walk.used.items walk.owners walk.rows stands c.loop-at.invariant.tables all).owners_are

@@ -1,0 +1,53 @@
+//! The tables of the files that were met.
+
+ghost use Rattle.std.specs.Prelude.{◌≡◌, ◌<◌, ℕ, length, true, slice_index, if◌then◌else◌};
+ghost use Rattle.trio_layout.specs.Lists.{is_among};
+ghost use Rattle.trio_layout.specs.Marks.{all_below};
+ghost use Rattle.trio_layout.specs.Survey.{row_by};
+ghost use Rattle.trio_survey.specs.Seen.{file_seen, met_seen};
+ghost use Rattle.trio_survey.specs.Walk.{Entered};
+ghost use Rattle.trio_tables.specs.Row.{as_row};
+
+use crate::file::{FileParts, MetFile};
+use trio_layout::Body;
+use trio_page::PageNo;
+use trio_tables::{Owners, Row, Shadow};
+
+/// Writes the row of a file and the owner of its pages.
+pub fn enter(rows: &mut Shadow, owners: &mut Owners, met: &MetFile, file: &FileParts)
+    requires index { all_below (length owners.old) file.now.index.items ≡ true }
+    requires blocks { all_below (length owners.old) file.now.blocks.items ≡ true }
+    requires some { 0 < met.now.ino }
+    requires ino { met.now.ino < length rows.old }
+    ensures { Entered (met_seen met.now) (file_seen file.now) owners.old owners.new rows.old rows.new }
+{
+    set_owner(owners, met.ino, &file.index);
+    set_owner(owners, met.ino, &file.blocks);
+    rows.set(met.ino, Some(row_of(met, &file.body)));
+}
+
+/// Writes the owner of these pages.
+fn set_owner(owners: &mut Owners, owner: u32, pages: &[u32])
+    requires { all_below (length owners.old) pages.now ≡ true }
+    ensures each { (p : ℕ) → p < length owners.new
+        → slice_index owners.new p ≡ (if is_among p pages.now then owner else slice_index owners.old p) }
+    ensures len { length owners.new ≡ length owners.old }
+{
+    for page in pages {
+        owners.set(PageNo(*page), owner);
+    }
+}
+
+fn row_of(met: &MetFile, body: &Body) -> Row
+    ensures { as_row result ≡ row_by (met_seen met.now) body.now }
+{
+    Row {
+        kind: met.kind,
+        mode: body.mode,
+        uid: body.uid,
+        gid: body.gid,
+        parent: met.parent,
+        page: met.page,
+        slot: met.slot,
+    }
+}

@@ -1,0 +1,157 @@
+//! The walk over the files that are met, level by level.
+
+ghost use Rattle.std.specs.Prelude.{◌≡◌, ◌+◌, ◌<◌, ◌≤◌, ℕ, List, Option, [], IfErr, IfOk, OnOk, map, take, vec_len};
+ghost use Rattle.trio_layout.specs.Survey.{Pick};
+ghost use Rattle.trio_survey.specs.Picks.{pick_of};
+ghost use Rattle.trio_survey.specs.Seen.{met_seen};
+ghost use Rattle.trio_survey.specs.Walk.{file_repeat, framed, IsFault, Stands, Tabled};
+
+use crate::enter::enter;
+use crate::fault::SurveyFault;
+use crate::file::{FaultPlace, MetFile, read_file};
+use crate::marks::{add_children, mark_new};
+use crate::picks::Picks;
+use std::alloc::Global;
+use trio_layout::CoreRange;
+use trio_page::{Home, NoMemory, Reads};
+use trio_rights::Kind;
+use trio_tables::{Owners, Shadow};
+
+/// What a survey is told of a core beside its pages.
+#[derive(Clone, Copy)]
+pub struct CoreFrame {
+    /// The body of the root.
+    pub root: [u8; 64],
+    pub range: CoreRange,
+    /// How many inode numbers there are.
+    pub inodes: u32,
+}
+
+/// Where something is listed that was listed before: a page as a whole, or an entry.
+#[derive(Clone, Copy)]
+pub struct Repeated {
+    /// The file that lists it.
+    pub ino: u32,
+    pub page: u32,
+    pub slot: u16,
+}
+
+impl Repeated {
+    /// Rule 2 fails here.
+    pub fn fault(&self) -> SurveyFault
+        ensures { result ≡ SurveyFault.Fails 2 self.now.ino self.now.page self.now.slot }
+    {
+        SurveyFault::Fails {
+            rule: 2,
+            ino: self.ino,
+            page: self.page,
+            slot: self.slot,
+        }
+    }
+}
+
+/// A walk on its way: the files met so far, those passed at the front, and what was found of these.
+#[derive(Drop)]
+pub struct Walk {
+    /// The files met, each once, in the order in which they are passed.
+    pub files: Vec<MetFile>,
+    /// By inode number, which was met.
+    pub met: Vec<bool>,
+    /// By page number, which was listed.
+    pub used: Vec<bool>,
+    /// The first place at which something was listed again.
+    pub repeated: Option<Repeated>,
+    pub rows: Shadow,
+    pub owners: Owners,
+}
+
+impl Walk {
+    /// The walk that has met the root and passed nothing.
+    pub fn start(alloc: Global, frame: &CoreFrame) -> Result<Walk, NoMemory>
+        requires order { frame.now.range.first ≤ frame.now.range.end }
+        requires pages { frame.now.range.end ≤ 8192 }
+        requires some { 1 ≤ frame.now.inodes }
+        requires inodes { frame.now.inodes ≤ 16384 }
+        ensures stands { IfOk result (λ w. (pages : List (Option (List ℕ))) → (pick : Pick) → Stands (framed pages frame.now) pick 0 (map met_seen w.files.items) w.met.items w.used.items w.repeated) }
+        ensures tables { IfOk result (λ w. (pages : List (Option (List ℕ))) → Tabled (framed pages frame.now) [] w.owners w.rows) }
+    {
+        let root = MetFile {
+            ino: 1,
+            kind: Kind::Directory,
+            parent: 0,
+            page: 0,
+            slot: 0,
+            body: frame.root,
+        };
+        let mut met = vec![in alloc; false; frame.inodes as usize + 1]?;
+        met[1] = true;
+        Ok(Walk {
+            files: vec![in alloc; root]?,
+            met,
+            used: vec![in alloc; false; frame.range.end as usize]?,
+            repeated: None,
+            rows: Shadow::new(alloc, frame.inodes)?,
+            owners: Owners::new(alloc, frame.range.end, frame.range.first)?,
+        })
+    }
+
+    /// Passes the file at this place of the queue.
+    pub fn visit(
+        &mut self,
+        alloc: Global,
+        home: &mut Home,
+        frame: &CoreFrame,
+        picks: &Picks,
+        at: usize,
+        reads: &mut Reads,
+    ) -> Result<(), SurveyFault>
+        requires inside { at < vec_len self.old.files }
+        requires stands { Stands (framed home.old.pages frame.now) (pick_of picks.now) at (map met_seen self.old.files.items) self.old.met.items self.old.used.items self.old.repeated }
+        requires tables { Tabled (framed home.old.pages frame.now) (take at (map met_seen self.old.files.items)) self.old.owners self.old.rows }
+        ensures pages { home.new.pages ≡ home.old.pages }
+        ensures stands { OnOk result (Stands (framed home.old.pages frame.now) (pick_of picks.now) (at + 1) (map met_seen self.new.files.items) self.new.met.items self.new.used.items self.new.repeated) }
+        ensures tables { OnOk result (Tabled (framed home.old.pages frame.now) (take (at + 1) (map met_seen self.new.files.items)) self.new.owners self.new.rows) }
+        ensures fault { IfErr result (IsFault (framed home.old.pages frame.now) (pick_of picks.now)) }
+    {
+        let met = self.files[at];
+        let file = match read_file(alloc, home, frame.range, frame.inodes, &met, reads)? {
+            Ok(file) => file,
+            Err(place) => {
+                return Err(SurveyFault::Fails {
+                    rule: 1,
+                    ino: met.ino,
+                    page: place.page,
+                    slot: place.slot,
+                });
+            }
+        };
+        let index = mark_new(&mut self.used, &file.index);
+        let block = mark_new(&mut self.used, &file.blocks);
+        let entry = add_children(
+            &mut self.files,
+            &mut self.met,
+            picks,
+            met.ino,
+            &file.entries,
+        )?;
+        enter(&mut self.rows, &mut self.owners, &met, &file);
+        self.repeated = self.repeated.or(repeated_in(met.ino, index, block, entry));
+        Ok(())
+    }
+}
+
+/// What a file lists again, by the first such index page, block and entry.
+fn repeated_in(
+    ino: u32,
+    index: Option<u32>,
+    block: Option<u32>,
+    entry: Option<FaultPlace>,
+) -> Option<Repeated>
+    ensures { result ≡ file_repeat ino index block entry }
+{
+    if let Some(page) = index.or(block) {
+        return Some(Repeated { ino, page, slot: 0 });
+    }
+    let FaultPlace { page, slot } = entry?;
+    Some(Repeated { ino, page, slot })
+}

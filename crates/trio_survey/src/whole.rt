@@ -1,0 +1,98 @@
+//! The survey of a whole core.
+
+ghost use Rattle.std.specs.Prelude.{◌≡◌, ◌≤◌, IfErr, IfOk, OnOk};
+ghost use Rattle.trio_layout.specs.Survey.{plain, survey};
+ghost use Rattle.trio_layout.specs.Sound.{IsSound, rows_table, owners_table};
+ghost use Rattle.trio_survey.specs.Answer.{core_of, IsRefused};
+ghost use Rattle.trio_survey.specs.Picks.{pick_of};
+
+use crate::fault::SurveyFault;
+use crate::picks::Picks;
+use crate::walk::{CoreFrame, Walk};
+use std::alloc::Global;
+use trio_layout::CoreRange;
+use trio_page::{Home, Reads};
+use trio_tables::{Owners, Shadow};
+
+/// The tables of all files that are reached from the root.
+#[derive(Drop)]
+pub struct Found {
+    /// The row of each inode number.
+    pub rows: Shadow,
+    /// The owner of each page: the controller below the first core page, else the file that lists
+    /// the page, or 0.
+    pub owners: Owners,
+}
+
+/// Goes through the files of a core from the root downward, level by level, and answers the tables
+/// of a sound core. `root` is the body of the root, `range` says which pages are core pages, and the
+/// inode numbers run from 1 up to `inodes`.
+///
+/// Each look at a page is counted. Blocks of regular files aren't looked at, and each page that a
+/// sound core lists otherwise is looked at once. The time is linear in the pages and inode numbers.
+///
+/// [`SurveyFault::Fails`] names the lowest of the rules 1 and 2 that fails, with a file and place at
+/// which it does; it comes exactly where the core isn't sound. The pages are as they were after any
+/// answer.
+pub fn survey(
+    alloc: Global,
+    home: &mut Home,
+    root: &[u8; 64],
+    range: CoreRange,
+    inodes: u32,
+    reads: &mut Reads,
+) -> Result<Found, SurveyFault>
+    requires order { range.first ≤ range.end }
+    requires pages { range.end ≤ 8192 }
+    requires some { 1 ≤ inodes }
+    requires inodes { inodes ≤ 16384 }
+    ensures pages { home.new.pages ≡ home.old.pages }
+    ensures sound { OnOk result (IsSound (core_of home.old.pages root.now range inodes) plain) }
+    ensures rows { IfOk result (λ f. f.rows ≡ rows_table (core_of home.old.pages root.now range inodes) (survey (core_of home.old.pages root.now range inodes) plain)) }
+    ensures owners { IfOk result (λ f. f.owners ≡ owners_table (core_of home.old.pages root.now range inodes) (survey (core_of home.old.pages root.now range inodes) plain)) }
+    ensures fails { IfErr result (IsRefused (core_of home.old.pages root.now range inodes) plain) }
+{
+    let picks = Picks::none(alloc);
+    survey_picked(alloc, home, root, range, inodes, &picks, reads)
+}
+
+/// As [`survey`], where an entry for whose number a body is picked at its place has that body in
+/// place of the bytes in its slot.
+pub fn survey_picked(
+    alloc: Global,
+    home: &mut Home,
+    root: &[u8; 64],
+    range: CoreRange,
+    inodes: u32,
+    picks: &Picks,
+    reads: &mut Reads,
+) -> Result<Found, SurveyFault>
+    requires order { range.first ≤ range.end }
+    requires pages { range.end ≤ 8192 }
+    requires some { 1 ≤ inodes }
+    requires inodes { inodes ≤ 16384 }
+    ensures pages { home.new.pages ≡ home.old.pages }
+    ensures sound { OnOk result (IsSound (core_of home.old.pages root.now range inodes) (pick_of picks.now)) }
+    ensures rows { IfOk result (λ f. f.rows ≡ rows_table (core_of home.old.pages root.now range inodes) (survey (core_of home.old.pages root.now range inodes) (pick_of picks.now))) }
+    ensures owners { IfOk result (λ f. f.owners ≡ owners_table (core_of home.old.pages root.now range inodes) (survey (core_of home.old.pages root.now range inodes) (pick_of picks.now))) }
+    ensures fails { IfErr result (IsRefused (core_of home.old.pages root.now range inodes) (pick_of picks.now)) }
+{
+    let frame = CoreFrame {
+        root: *root,
+        range,
+        inodes,
+    };
+    let mut walk = Walk::start(alloc, &frame)?;
+    let mut at = 0;
+    while at < walk.files.len() {
+        walk.visit(alloc, home, &frame, picks, at, reads)?;
+        at += 1;
+    }
+    match walk.repeated {
+        Some(place) => Err(place.fault()),
+        None => Ok(Found {
+            rows: walk.rows,
+            owners: walk.owners,
+        }),
+    }
+}
