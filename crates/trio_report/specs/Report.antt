@@ -6,6 +6,10 @@ use Rattle.trio_names.specs.Escaped.{escaped_of}
 use Rattle.trio_rights.specs.declared.kind.Kind.{Kind}
 use Rattle.trio_rights.specs.declared.kind.Kind.TheVariants.{Regular, Directory}
 use Rattle.trio_state.specs.Tree.{TreeLine}
+use Rattle.trio_report.specs.declared.report.LibraryKind.{LibraryKind}
+use Rattle.trio_report.specs.declared.report.LibraryKind.TheVariants.{Raw}
+use Rattle.trio_report.specs.declared.report.EndAnswer.{EndAnswer}
+use Rattle.trio_report.specs.declared.report.EndAnswer.TheVariants.{Nothing}
 
 -- three octal digits
 abbrev pub octal_of : ℕ → List ℕ
@@ -32,3 +36,19 @@ pub record Counts : Type 0 where
 
 abbrev pub counts_text : Counts → List ℕ
 counts_text c = codes "inodes " ++ decimal c.inodes ++ codes " pages " ++ decimal c.pages ++ codes " free " ++ decimal c.free ++ codes "\n"
+
+-- the word for a library's kind
+abbrev pub library_word : LibraryKind → List ℕ
+library_word Raw = codes "raw"
+
+-- the line that begins the report on a library
+abbrev pub lib_heading : ℕ → LibraryKind → List ℕ
+lib_heading number kind = codes "lib " ++ decimal number ++ codes " " ++ library_word kind ++ codes "\n"
+
+-- the words for what a library's end is answered
+abbrev pub answer_word : EndAnswer → List ℕ
+answer_word Nothing = codes "nothing"
+
+-- the line that ends the report on a library
+abbrev pub end_line : EndAnswer → List ℕ
+end_line answer = codes "end " ++ answer_word answer ++ codes "\n"

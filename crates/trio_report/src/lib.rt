@@ -1,2 +1,24 @@
-//! The report of a run as text.
+//! The report of a run: what was answered, the tree of an image and its counts, as text.
+//!
+//! - [`tree_lines`] gives the tree of an image, a line for each file, a directory before its children
+//!   and children in the byte order of their names. Its contract is `tree_of` of `trio_state`'s
+//!   `specs/Tree.antt`.
+//! - [`put_heading`], [`put_end`], [`put_tree`] and [`put_counts`] append text to bytes.
+//!   `specs/Report.antt` has the text of each.
+//!
+//! What puts text takes memory for it. After [`NoMemory`] a part of the text may have been appended.
 #![tactic(auto)]
+
+mod line;
+mod report;
+mod text;
+mod tree;
+
+pub use line::{TreeLine, TreeName, put_tree};
+pub use report::{Counts, EndAnswer, LibraryKind, put_counts, put_end, put_heading};
+pub use tree::tree_lines;
+/// Want of memory.
+pub use trio_page::NoMemory;
+
+#[cfg(test)]
+mod tests;

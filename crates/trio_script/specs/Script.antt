@@ -37,3 +37,8 @@ abbrev pub unbuilt_line : List ℕ → Option ℕ
 unbuilt_line script =
     let lines = lines_of script in
     if list_any names_library lines then first_unbuilt 1 false lines else Some 1
+
+-- where a script isn't built whose first line that isn't built has this number: there, if a library began before or one of the
+-- lines from there on names one, else at line 1
+abbrev pub unbuilt_at : ℕ → Bool → List (List ℕ) → ℕ
+unbuilt_at number begun lines = if begun || list_any names_library lines then number else 1

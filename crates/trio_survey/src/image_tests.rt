@@ -79,9 +79,9 @@ fn empty_root() -> [TestFile; 1] {
     [file(1, 2, [0, 0], (0, 0, 0), (0, 0))]
 }
 
-/// Writes bytes at a place of a page that is there, where they fit.
-fn put(pages: &mut [Option<Page>], page: usize, at: usize, bytes: &[u8]) {
-    let Some(Some(page)) = pages.get_mut(page) else {
+/// Writes bytes at a place of a page, where they fit.
+fn put(pages: &mut [Page], page: usize, at: usize, bytes: &[u8]) {
+    let Some(page) = pages.get_mut(page) else {
         return;
     };
     if at <= 4096 && bytes.len() <= 4096 - at {
@@ -104,7 +104,7 @@ fn body(file: &TestFile) -> [u8; 24] {
     bytes
 }
 
-fn put_file(pages: &mut [Option<Page>], file: &TestFile) {
+fn put_file(pages: &mut [Page], file: &TestFile) {
     let body = body(file);
     let (page, slot) = (usize::from(file.page), 256 * usize::from(file.slot));
     if file.page == 0 {
@@ -131,10 +131,10 @@ fn put_file(pages: &mut [Option<Page>], file: &TestFile) {
 }
 
 /// The image of these files.
-fn image(alloc: Global, files: &[TestFile]) -> Result<Vec<Option<Page>>, NoMemory> {
+fn image(alloc: Global, files: &[TestFile]) -> Result<Vec<Page>, NoMemory> {
     let mut pages = Vec::new(alloc);
     for _ in 0..32 {
-        pages.push(Some(Page::zero(alloc)?))?;
+        pages.push(Page::zero(alloc)?)?;
     }
     put(&mut pages, 0, 0, b"ARCKTRIO");
     let numbers = [1, 0, 0, 0, 0, 16, 0, 0, 32, 0, 0, 0, 64, 0, 0, 0];
@@ -147,19 +147,23 @@ fn image(alloc: Global, files: &[TestFile]) -> Result<Vec<Option<Page>>, NoMemor
     Ok(pages)
 }
 
-/// What `verify` answers of these pages, with the number of looks at pages.
-fn verdict(
-    alloc: Global,
-    pages: Vec<Option<Page>>,
-) -> Result<(Result<(), SurveyFault>, u64), Fail> {
-    if pages.len() > 8192 {
+fn home_of(alloc: Global, pages: Vec<Page>) -> Result<Home, Fail> {
+    let mut there = Vec::new(alloc);
+    for page in pages {
+        there.push(Some(page)).ok().ok_or("memory")?;
+    }
+    if there.len() > 8192 {
         return Err("too many pages".into());
     }
-    let mut home = Home::of(pages);
-    let mut reads = Reads::new();
-    let page = home.page(PageNo(0), &mut reads).ok_or("page 0")?;
+    Ok(Home::of(there))
+}
+
+/// What `verify` answers, and how often it looked at a page.
+fn verdict(alloc: Global, home: &mut Home) -> Result<(Result<(), SurveyFault>, u64), Fail> {
+    let page = home.page(PageNo(0), &mut Reads::new()).ok_or("page 0")?;
     Superblock::read(page).ok_or("superblock")?;
-    let answer = verify(alloc, &mut home, &mut reads);
+    let mut reads = Reads::new();
+    let answer = verify(alloc, home, &mut reads);
     Ok((answer, reads.count()))
 }
 
@@ -249,7 +253,7 @@ fn damaged_images(rt: HostRuntime) -> Result<(), Fail> {
                 slot,
             })
         };
-        let (answer, _) = verdict(rt.alloc(), pages)?;
+        let (answer, _) = verdict(rt.alloc(), &mut home_of(rt.alloc(), pages)?)?;
         assert!(rt; answer == wanted, "page {page} at {at}");
     }
     Ok(())
@@ -266,28 +270,25 @@ fn absent_pages(rt: HostRuntime) -> Result<(), Fail> {
         (5, 1, 2, 5),
     ];
     for (absent, rule, ino, page) in rows {
-        let mut pages = image(rt.alloc(), &one_file()).ok().ok_or("memory")?;
-        if let Some(gone) = pages.get_mut(absent) {
-            *gone = None;
-        }
+        let pages = image(rt.alloc(), &one_file()).ok().ok_or("memory")?;
+        let mut home = home_of(rt.alloc(), pages)?;
+        home.take(PageNo(absent), &mut Reads::new());
         let wanted = SurveyFault::Fails {
             rule,
             ino,
             page,
             slot: 0,
         };
-        let (answer, _) = verdict(rt.alloc(), pages)?;
+        let (answer, _) = verdict(rt.alloc(), &mut home)?;
         assert!(rt; answer == Err(wanted), "page {absent}");
     }
     // the block of a regular file isn't looked at, nor are free pages
-    let mut pages = image(rt.alloc(), &one_file()).ok().ok_or("memory")?;
+    let pages = image(rt.alloc(), &one_file()).ok().ok_or("memory")?;
+    let mut home = home_of(rt.alloc(), pages)?;
     for absent in [6, 7, 31] {
-        if let Some(gone) = pages.get_mut(absent) {
-            *gone = None;
-        }
+        home.take(PageNo(absent), &mut Reads::new());
     }
-    // page 0 is looked at by the test too
-    assert_eq!(rt; verdict(rt.alloc(), pages)?, (Ok(()), 7));
+    assert_eq!(rt; verdict(rt.alloc(), &mut home)?, (Ok(()), 6));
     Ok(())
 }
 
@@ -311,8 +312,7 @@ fn owner(found: &Found, page: u32) -> Option<u32> {
 fn tables_and_picks(rt: HostRuntime) -> Result<(), Fail> {
     let range = CoreRange { first: 3, end: 32 };
     let pages = image(rt.alloc(), &three_files()).ok().ok_or("memory")?;
-    assert!(rt; pages.len() <= 8192);
-    let mut home = Home::of(pages);
+    let mut home = home_of(rt.alloc(), pages)?;
     let mut reads = Reads::new();
     let body = whole_body(&root());
     let found = survey(rt.alloc(), &mut home, &body, range, 64, &mut reads);
@@ -359,14 +359,7 @@ fn tables_and_picks(rt: HostRuntime) -> Result<(), Fail> {
 }
 
 /// An entry in a slot of a directory page.
-fn put_entry(
-    pages: &mut [Option<Page>],
-    page: usize,
-    slot: usize,
-    ino: u32,
-    kind: u8,
-    name: &[u8],
-) {
+fn put_entry(pages: &mut [Page], page: usize, slot: usize, ino: u32, kind: u8, name: &[u8]) {
     let at = 256 * (slot % 16);
     put(pages, page, at, &ino.to_le_bytes());
     put(pages, page, at + 4, &[kind, 3]);
@@ -376,10 +369,10 @@ fn put_entry(
 
 /// A root of 900 directories with 16 empty files each, in an image of 8192 pages and 16384 inode
 /// numbers: the root has pages 137 to 194, and each directory two pages behind them.
-fn large_tree(alloc: Global) -> Result<Vec<Option<Page>>, NoMemory> {
+fn large_tree(alloc: Global) -> Result<Vec<Page>, NoMemory> {
     let mut pages = Vec::new(alloc);
     for _ in 0..8192 {
-        pages.push(Some(Page::zero(alloc)?))?;
+        pages.push(Page::zero(alloc)?)?;
     }
     for i in 0..57u32 {
         put(&mut pages, 137, 8 * i as usize, &(138 + i).to_le_bytes());
@@ -409,8 +402,7 @@ fn large_tree(alloc: Global) -> Result<Vec<Option<Page>>, NoMemory> {
 #[test]
 fn a_large_tree(rt: HostRuntime) -> Result<(), Fail> {
     let pages = large_tree(rt.alloc()).ok().ok_or("memory")?;
-    assert!(rt; pages.len() <= 8192);
-    let mut home = Home::of(pages);
+    let mut home = home_of(rt.alloc(), pages)?;
     let mut reads = Reads::new();
     let mut body = [0; 64];
     // mode 755, head 137, and 57 blocks

@@ -1,0 +1,4 @@
+pub mod Pages
+pub mod Superblocks
+pub mod Images
+pub mod Refused

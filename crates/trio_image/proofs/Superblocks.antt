@@ -1,0 +1,33 @@
+-- The superblock of pages.
+use Rattle.std.proofs.Common.{◌≡◌, ℕ, List, Option, Some, refl, sym, ap, subst, ◌∙◌}
+use Rattle.trio_layout.specs.declared.superblock.Superblock.{Superblock}
+use Rattle.trio_layout.specs.Superblock.{IsSuperblock, superblock_at, superblock_bytes, superblock_fits, superblock_of}
+use Rattle.trio_layout.proofs.Reading.{true-bytes_eq}
+use Rattle.trio_survey.specs.Verdict.{superblock_in}
+use Rattle.std.specs.Option.{option_and_then}
+use Rattle.std.specs.Str.{bytes_eq}
+use Rattle.std.specs.Prelude.{if◌then◌else◌, IsSome, ◌&&◌, None}
+use Rattle.trio_layout.proofs.Superblocks.{only}
+use Rattle.trio_state.specs.Stored.{HasSuperblock}
+use Rattle.trio_image.specs.Image.{IsVerified}
+
+-- pages have one superblock at most
+pub same_superblock : (s t : Superblock) (pages : List (Option (List ℕ))) → HasSuperblock s pages → HasSuperblock t pages → s ≡ t
+same_superblock s t pages a b =
+    let same : Some a.bytes ≡ Some b.bytes = sym a.here ∙ b.here in
+    let bytes : a.bytes ≡ b.bytes = cc in
+    sym (only a.bytes s a.read).0 ∙ ap superblock_at bytes ∙ (only b.bytes t b.read).0
+
+pub verified_by : (s t : Superblock) (pages : List (Option (List ℕ))) → IsVerified s pages → HasSuperblock t pages → IsVerified t pages
+verified_by s t pages v has = subst (λ (x : Superblock). IsVerified x pages) (same_superblock s t pages v.whole.superblock has) v
+
+-- what the bytes of a superblock are read as
+pub superblock_value : (bytes : List ℕ) (s : Superblock) → IsSuperblock bytes s → superblock_of bytes ≡ Some s
+unfolding superblock_of
+superblock_value bytes s is =
+    let P : Superblock → Type 0 = λ t. (if bytes_eq bytes (superblock_bytes t) && superblock_fits t then Some t else None) ≡ Some s in
+    subst P (sym (only bytes s is).0) (rw (true-bytes_eq bytes (superblock_bytes s) is.spelled, is.fits) refl)
+
+pub superblock_there : (s : Superblock) (pages : List (Option (List ℕ))) → HasSuperblock s pages → IsSome (superblock_in pages)
+superblock_there s pages has =
+    subst (λ (o : Option Superblock). IsSome o) (sym (ap (option_and_then superblock_of) has.here ∙ superblock_value has.bytes s has.read)) refl

@@ -1,0 +1,26 @@
+-- An image as its pages with what its first page says.
+use Rattle.std.specs.Prelude.{◌≡◌, ℕ, ◌==◌, Bool, false, List, Option, None, Some, length, IsTrue}
+use Rattle.std.specs.List.{list_all}
+use Rattle.trio_layout.specs.declared.superblock.Superblock.{Superblock}
+use Rattle.trio_state.specs.Stored.{HasSuperblock, PagesVerify}
+
+-- what the superblock says, and the pages by number; None is an absent page
+pub record ImagePages : Type 0 where
+  pub superblock : Superblock
+  pub pages : List (Option (List ℕ))
+
+-- the page is there and has 4096 bytes
+abbrev pub is_whole_page : Option (List ℕ) → Bool
+is_whole_page None = false
+is_whole_page (Some bytes) = length bytes == 4096
+
+-- just as many pages as the superblock on the first one says, each of them whole
+pub record IsWholeImage (s : Superblock) (pages : List (Option (List ℕ))) : Type 0 where
+  pub count : length pages ≡ s.pages
+  pub whole : IsTrue (list_all is_whole_page pages)
+  pub superblock : HasSuperblock s pages
+
+-- a whole image that verifies
+pub record IsVerified (s : Superblock) (pages : List (Option (List ℕ))) : Type 0 where
+  pub whole : IsWholeImage s pages
+  pub verify : PagesVerify s pages

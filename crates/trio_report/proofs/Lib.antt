@@ -1,0 +1,4 @@
+pub mod Joins
+pub mod Stable
+pub mod ByName
+pub mod Trees

@@ -1,0 +1,121 @@
+//! The lines of a tree.
+
+ghost use Rattle.std.specs.Prelude.{◌≡◌, ◌+◌, ◌%◌, ◌++◌, OnOk, codes, map};
+ghost use Rattle.std.specs.Fmt.{decimal};
+ghost use Rattle.std.specs.List.{flat_map};
+ghost use Rattle.trio_names.specs.Escaped.{escaped_of};
+ghost use Rattle.trio_report.specs.Report.{octal_of, kind_letter, tree_line, tree_text};
+ghost use Rattle.trio_report.specs.Seen.{line_seen, name_seen};
+
+use crate::text::{put_escaped, put_text};
+use std::alloc::Global;
+use trio_names::Name;
+use trio_page::NoMemory;
+use trio_rights::{Kind, Mode};
+
+/// By which name a file is told.
+#[derive(Clone, Copy)]
+pub enum TreeName {
+    /// The root, told as a slash.
+    Root,
+    /// A file that a directory lists by this name.
+    Entry(Name),
+}
+
+/// What is told of one file of a tree.
+#[derive(Clone, Copy)]
+pub struct TreeLine {
+    /// How many directories are above the file: 0 for the root.
+    pub depth: u32,
+    pub kind: Kind,
+    pub mode: Mode,
+    pub uid: u32,
+    pub gid: u32,
+    /// The size in bytes of a regular file, the number of entries of a directory.
+    pub size: u64,
+    pub name: TreeName,
+}
+
+/// Appends a line `tree` and a line `DEPTH KIND MODE UID GID SIZE NAME` for each file.
+///
+/// The kind is `d` or `f`, the mode three octal digits, the name printed as one word of visible
+/// ASCII ([`trio_names::escaped`]), and the other numbers are decimal.
+pub fn put_tree(alloc: Global, out: &mut Vec<u8>, lines: &[TreeLine]) -> Result<(), NoMemory>
+    ensures { OnOk result (out.new.items ≡ out.old.items ++ tree_text (map line_seen lines.now)) }
+{
+    put_text(out, "tree\n")?;
+    put_lines(alloc, out, lines)
+}
+
+fn put_lines(alloc: Global, out: &mut Vec<u8>, lines: &[TreeLine]) -> Result<(), NoMemory>
+    ensures { OnOk result (out.new.items ≡ out.old.items ++ flat_map tree_line (map line_seen lines.now)) }
+{
+    for line in lines {
+        put_line(alloc, out, line)?;
+    }
+    Ok(())
+}
+
+fn put_line(alloc: Global, out: &mut Vec<u8>, line: &TreeLine) -> Result<(), NoMemory>
+    ensures { OnOk result (out.new.items ≡ out.old.items ++ tree_line (line_seen line.now)) }
+{
+    put_kind(alloc, out, line.depth, line.kind)?;
+    put_mode(out, line.mode)?;
+    put_owner(alloc, out, line.uid, line.gid, line.size)?;
+    put_name(alloc, out, &line.name)?;
+    put_text(out, "\n")
+}
+
+fn put_kind(alloc: Global, out: &mut Vec<u8>, depth: u32, kind: Kind) -> Result<(), NoMemory>
+    ensures { OnOk result (out.new.items ≡ out.old.items ++ (decimal depth ++ codes " " ++ kind_letter kind ++ codes " ")) }
+{
+    let letter = kind_letter(kind);
+    put_text(out, &format!(in alloc; "{depth} {letter} ")?)
+}
+
+fn put_owner(
+    alloc: Global,
+    out: &mut Vec<u8>,
+    uid: u32,
+    gid: u32,
+    size: u64,
+) -> Result<(), NoMemory>
+    ensures { OnOk result (out.new.items ≡ out.old.items ++ (codes " " ++ decimal uid ++ codes " " ++ decimal gid ++ codes " " ++ decimal size ++ codes " ")) }
+{
+    put_text(out, &format!(in alloc; " {uid} {gid} {size} ")?)
+}
+
+fn kind_letter(kind: Kind) -> &'static str
+    ensures { result.now ≡ kind_letter kind }
+{
+    match kind {
+        Kind::Regular => "f",
+        Kind::Directory => "d",
+    }
+}
+
+fn put_mode(out: &mut Vec<u8>, mode: Mode) -> Result<(), NoMemory>
+    ensures { OnOk result (out.new.items ≡ out.old.items ++ octal_of mode.0) }
+{
+    out.extend_from_slice(&[
+        octal_digit(mode.0 / 64),
+        octal_digit(mode.0 / 8),
+        octal_digit(mode.0),
+    ])
+}
+
+// the last octal digit of a number
+fn octal_digit(number: u16) -> u8
+    ensures { result ≡ 48 + number % 8 }
+{
+    b'0' + (number % 8) as u8
+}
+
+fn put_name(alloc: Global, out: &mut Vec<u8>, name: &TreeName) -> Result<(), NoMemory>
+    ensures { OnOk result (out.new.items ≡ out.old.items ++ escaped_of (name_seen name.now)) }
+{
+    match name {
+        TreeName::Root => put_text(out, "/"),
+        TreeName::Entry(name) => put_escaped(alloc, out, name.as_bytes()),
+    }
+}

@@ -1,0 +1,91 @@
+//! What a report says of its libraries and of the whole image.
+
+ghost use Rattle.std.specs.Prelude.{◌≡◌, ◌++◌, OnOk};
+ghost use Rattle.trio_report.specs.Report.{library_word, lib_heading, answer_word, end_line, counts_text};
+ghost use Rattle.trio_report.specs.Seen.{counts_seen};
+
+use crate::text::put_text;
+use std::alloc::Global;
+use trio_page::NoMemory;
+use trio_rights::LibNo;
+
+/// What kind of library a script has.
+#[derive(Clone, Copy, Debug, PartialEq, Eq)]
+pub enum LibraryKind {
+    /// A library that asks the controller itself, and may write any bytes.
+    Raw,
+}
+
+impl LibraryKind {
+    fn word(self) -> &'static str
+        ensures { result.now ≡ library_word self }
+    {
+        match self {
+            LibraryKind::Raw => "raw",
+        }
+    }
+}
+
+/// What a library's end is answered.
+#[derive(Clone, Copy, Debug, PartialEq, Eq)]
+pub enum EndAnswer {
+    /// The library had nothing to give back.
+    Nothing,
+}
+
+impl EndAnswer {
+    fn word(self) -> &'static str
+        ensures { result.now ≡ answer_word self }
+    {
+        match self {
+            EndAnswer::Nothing => "nothing",
+        }
+    }
+}
+
+/// Appends the line that begins the report on a library, as `lib 1 raw`.
+pub fn put_heading(
+    alloc: Global,
+    out: &mut Vec<u8>,
+    library: LibNo,
+    kind: LibraryKind,
+) -> Result<(), NoMemory>
+    ensures { OnOk result (out.new.items ≡ out.old.items ++ lib_heading library.0 kind) }
+{
+    let number = library.0;
+    put_text(out, &format!(in alloc; "lib {number} ")?)?;
+    put_text(out, kind.word())?;
+    put_text(out, "\n")
+}
+
+/// Appends the line that ends the report on a library, as `end nothing`.
+pub fn put_end(out: &mut Vec<u8>, answer: EndAnswer) -> Result<(), NoMemory>
+    ensures { OnOk result (out.new.items ≡ out.old.items ++ end_line answer) }
+{
+    put_text(out, "end ")?;
+    put_text(out, answer.word())?;
+    put_text(out, "\n")
+}
+
+/// How much of an image is in use.
+#[derive(Clone, Copy, Debug, PartialEq, Eq)]
+pub struct Counts {
+    /// How many inode numbers are live.
+    pub inodes: u32,
+    /// How many core pages are owned by files.
+    pub pages: u32,
+    /// How many core pages are free.
+    pub free: u32,
+}
+
+/// Appends the counts as a line, as `inodes 2 pages 4 free 25`.
+pub fn put_counts(alloc: Global, out: &mut Vec<u8>, counts: &Counts) -> Result<(), NoMemory>
+    ensures { OnOk result (out.new.items ≡ out.old.items ++ counts_text (counts_seen counts.now)) }
+{
+    let Counts {
+        inodes,
+        pages,
+        free,
+    } = *counts;
+    put_text(out, &format!(in alloc; "inodes {inodes} pages {pages} free {free}\n")?)
+}

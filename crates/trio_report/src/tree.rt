@@ -1,0 +1,160 @@
+//! The tree of an image.
+
+ghost use Rattle.std.specs.Prelude.{◌≡◌, ◌<◌, ◌+◌, ◌^◌, [], ◌∷◌, ◌++◌, IfOk, OnOk, map, reverse};
+ghost use Rattle.trio_layout.specs.Survey.{file_of, met_in, plain, root_of};
+ghost use Rattle.trio_survey.specs.Seen.{core_with, listed_seen, file_seen, met_seen};
+ghost use Rattle.trio_state.specs.Stored.{core_in};
+ghost use Rattle.trio_state.specs.Tree.{by_name, told_line, tree_of};
+ghost use Rattle.trio_report.specs.Nodes.{node_seen, children_of, Visited};
+ghost use Rattle.trio_report.specs.Seen.{line_seen, name_seen};
+
+use crate::line::{TreeLine, TreeName};
+use std::alloc::Global;
+use trio_layout::{CoreRange, Superblock};
+use trio_page::{Home, NoMemory, Reads};
+use trio_rights::Kind;
+use trio_survey::file::{FileParts, ListedEntry, MetFile, read_file};
+
+/// A file whose line is still to come.
+#[derive(Clone, Copy)]
+struct Pending {
+    depth: u32,
+    name: TreeName,
+    met: MetFile,
+}
+
+/// The tree of the image that has this superblock and the pages at home: a directory before its
+/// children, children in the byte order of their names.
+///
+/// A file that can't be read has no line, nor has what it lists; in an image that verifies there is
+/// none. Nothing is told below the depth that is the number of inode numbers, which no tree reaches.
+/// Blocks of regular files aren't looked at.
+///
+/// After [`NoMemory`] the pages are as they were, as they are after any answer.
+pub fn tree_lines(
+    alloc: Global,
+    home: &mut Home,
+    superblock: &Superblock,
+    reads: &mut Reads,
+) -> Result<Vec<TreeLine>, NoMemory>
+    ensures pages { home.new.pages ≡ home.old.pages }
+    ensures tree { IfOk result (λ lines. map line_seen lines.items ≡ tree_of (core_in superblock.now home.old.pages)) }
+{
+    let range = CoreRange {
+        first: superblock.first_core,
+        end: superblock.pages,
+    };
+    let mut lines = Vec::new(alloc);
+    let mut pending = Vec::new(alloc);
+    pending.push(Pending {
+        depth: 0,
+        name: TreeName::Root,
+        met: root_file(superblock),
+    })?;
+    while let Some(next) = pending.pop() {
+        visit(alloc, home, range, superblock.inodes, &next, &mut pending, &mut lines, reads)?;
+    }
+    Ok(lines)
+}
+
+fn root_file(superblock: &Superblock) -> MetFile
+    ensures { met_seen result ≡ root_of (core_in superblock.now []) }
+{
+    MetFile {
+        ino: 1,
+        kind: Kind::Directory,
+        parent: 0,
+        page: 0,
+        slot: 0,
+        body: superblock.root,
+    }
+}
+
+/// Reads a file, tells its line, and lets the files that it lists wait.
+fn visit(
+    alloc: Global,
+    home: &mut Home,
+    range: CoreRange,
+    inodes: u32,
+    next: &Pending,
+    pending: &mut Vec<Pending>,
+    lines: &mut Vec<TreeLine>,
+    reads: &mut Reads,
+) -> Result<(), NoMemory>
+    ensures pages { home.new.pages ≡ home.old.pages }
+    ensures visited { OnOk result (Visited inodes (node_seen next.now) (file_of (core_with home.old.pages range inodes) (met_seen next.now.met))
+        (map node_seen pending.old.items) (map node_seen pending.new.items) (map line_seen lines.old.items) (map line_seen lines.new.items)) }
+{
+    let Ok(mut file) = read_file(alloc, home, range, inodes, &next.met, reads)? else {
+        return Ok(());
+    };
+    lines.push(next.line(&file))?;
+    if next.depth < inodes {
+        next.add_children(alloc, &mut file.entries, pending)?;
+    }
+    Ok(())
+}
+
+impl Pending {
+    fn line(&self, file: &FileParts) -> TreeLine
+        ensures { line_seen result ≡ told_line self.now.depth (name_seen self.now.name) self.now.met.kind (file_seen file.now) }
+    {
+        let size = match self.met.kind {
+            Kind::Regular => file.body.size,
+            Kind::Directory => file.entries.len() as u64,
+        };
+        TreeLine {
+            depth: self.depth,
+            kind: self.met.kind,
+            mode: file.body.mode,
+            uid: file.body.uid,
+            gid: file.body.gid,
+            size,
+            name: self.name,
+        }
+    }
+
+    /// Lets the files of these entries wait, the first name at the end. The entries are left in an
+    /// order of no meaning.
+    fn add_children(
+        &self,
+        alloc: Global,
+        entries: &mut [ListedEntry],
+        pending: &mut Vec<Pending>,
+    ) -> Result<(), NoMemory>
+        requires { self.now.depth + 1 < 2 ^ 32 }
+        ensures { OnOk result (map node_seen pending.new.items ≡ map node_seen pending.old.items ++ children_of (node_seen self.now) (map listed_seen entries.old)) }
+    {
+        sort_down(alloc, entries)?;
+        for listed in entries.iter() {
+            pending.push(Pending {
+                depth: self.depth + 1,
+                name: TreeName::Entry(listed.entry.name),
+                met: self.child(listed),
+            })?;
+        }
+        Ok(())
+    }
+
+    fn child(&self, listed: &ListedEntry) -> MetFile
+        ensures { met_seen result ≡ met_in plain self.now.met.ino (listed_seen listed.now) }
+    {
+        MetFile {
+            ino: listed.entry.ino,
+            kind: listed.entry.kind,
+            parent: self.met.ino,
+            page: listed.page,
+            slot: listed.slot,
+            body: listed.body,
+        }
+    }
+}
+
+/// Puts the entries in the order of their names, the last name first.
+fn sort_down(alloc: Global, entries: &mut [ListedEntry]) -> Result<(), NoMemory>
+    ensures { OnOk result (map listed_seen entries.new ≡ reverse (by_name (map listed_seen entries.old))) }
+{
+    entries.sort_by_key(alloc, |listed| listed.entry.name)?;
+    entries.reverse();
+    Ok(())
+}
