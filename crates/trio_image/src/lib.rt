@@ -15,3 +15,6 @@ mod reading;
 pub use bytes::pages_of;
 pub use image::{Image, bytes_of};
 pub use reading::{ImageFault, ReadFault, ReadPages, read, read_pages, verify};
+
+#[cfg(test)]
+mod tests;

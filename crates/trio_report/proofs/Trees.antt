@@ -1,5 +1,5 @@
 -- The lines of files that wait, and how many visits they take.
-use Rattle.std.proofs.Common.{◌≡◌, ℕ, suc, zero, ◌+◌, ◌-◌, ◌<◌, ◌≤◌, ltb, Bool, true, false, cond, List, [], ◌∷◌, ◌++◌, All, map, reverse, length, take, Option, Some, Result, Ok, Err, refl, sym, ap, ◌∙◌, subst, append_assoc, arith}
+use Rattle.std.proofs.Common.{◌≡◌, ℕ, suc, zero, ◌+◌, ◌-◌, ◌<◌, ◌≤◌, ltb, Bool, true, false, List, [], ◌∷◌, ◌++◌, All, map, reverse, length, take, Option, Some, Result, Ok, Err, refl, sym, ap, ◌∙◌, append_assoc, arith}
 use Rattle.std.specs.List.{flat_map, sum_by}
 use Rattle.std.proofs.lemmas.Bool.{ltb-true, ltb-false}
 use Rattle.std.proofs.lemmas.List.{append-nil, reverse-append, reverse-reverse, take_all}
@@ -58,6 +58,7 @@ lines_below core n f reached = by (ltb n.depth core.inodes) refl
   where
     ls : List Listed
     ls = by_name f.entries
+
     by : (t : Bool) → ltb n.depth core.inodes ≡ t → flat_map (λ l. node_lines core (child_of n l)) (by_name f.entries) ≡ waiting_lines core (below core.inodes n f)
     by true is = rw (is, reverse-reverse (map (child_of n) (by_name f.entries))) (sym (flat_map-map (node_lines core) (child_of n) (by_name f.entries)))
     by false is =

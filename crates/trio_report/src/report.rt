@@ -87,5 +87,8 @@ pub fn put_counts(alloc: Global, out: &mut Vec<u8>, counts: &Counts) -> Result<(
         pages,
         free,
     } = *counts;
-    put_text(out, &format!(in alloc; "inodes {inodes} pages {pages} free {free}\n")?)
+    put_text(
+        out,
+        &format!(in alloc; "inodes {inodes} pages {pages} free {free}\n")?,
+    )
 }

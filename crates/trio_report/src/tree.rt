@@ -52,7 +52,16 @@ pub fn tree_lines(
         met: root_file(superblock),
     })?;
     while let Some(next) = pending.pop() {
-        visit(alloc, home, range, superblock.inodes, &next, &mut pending, &mut lines, reads)?;
+        visit(
+            alloc,
+            home,
+            range,
+            superblock.inodes,
+            &next,
+            &mut pending,
+            &mut lines,
+            reads,
+        )?;
     }
     Ok(lines)
 }

@@ -1,4 +1,4 @@
-use Rattle.std.proofs.Common.{◌≡◌, append_assoc}
+use Rattle.std.proofs.Common.{append_assoc}
 use Rattle.trio_report.specs.Report.{tree_line}
 use Rattle.trio_report.specs.Seen.{line_seen}
 use Rattle.trio_report.proofs.Joins.{five_joined}

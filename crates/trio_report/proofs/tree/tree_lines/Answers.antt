@@ -1,4 +1,4 @@
-use Rattle.std.proofs.Common.{◌≡◌, ◌++◌, ◌∷◌, [], map, refl, ap, sym, ◌∙◌}
+use Rattle.std.proofs.Common.{◌∷◌, [], map, refl, ap, ◌∙◌}
 use Rattle.std.proofs.lemmas.List.{map-append}
 use Rattle.trio_state.specs.Stored.{core_in}
 use Rattle.trio_report.specs.Nodes.{node_seen}

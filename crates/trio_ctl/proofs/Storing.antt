@@ -1,0 +1,206 @@
+-- The pages that store the image of a state with nothing out: they verify, and they store just that image.
+use Rattle.std.proofs.Common.{◌≡◌, ℕ, suc, ◌+◌, ◌-◌, ◌*◌, ◌<◌, ◌≤◌, Bool, true, false, ◌==◌, List, [], ◌∷◌, ◌++◌, length, get_or, Option, Some, None, refl, sym, ap, subst, ◌∙◌, arith, inl, inr}
+use Rattle.std.specs.Prelude.{slice_get, slice_index_or, if◌then◌else◌, IsTrue, nat_le, nat_lt}
+use Rattle.std.specs.List.{list_all}
+use Rattle.std.proofs.lemmas.Bool.{and_parts, eq-eqb, le-leb, lt-ltb, leb-true, ltb-true}
+use Rattle.std.proofs.lemmas.List.{length-append, get_or-append-add, get_or_append_left}
+use Rattle.std.proofs.lemmas.List.Folds.{list_all-append}
+use Rattle.std.proofs.lemmas.Option.{slice_get-get_or}
+use Rattle.trio_page.proofs.Cursor.{length-zeros}
+use Rattle.trio_page.proofs.Fields.{length-slice, length-to_le_bytes}
+use Rattle.trio_rights.specs.declared.rights.Creds.{Creds}
+use Rattle.trio_rights.specs.Row.{Row}
+use Rattle.trio_tables.specs.Stored.{shadow_bytes, owner_bytes, padded_to_pages, page_at}
+use Rattle.trio_layout.specs.declared.superblock.Superblock.{Superblock}
+use Rattle.trio_layout.specs.Superblock.{page_count, superblock_bytes}
+use Rattle.trio_layout.specs.Range.{is_core}
+use Rattle.trio_layout.specs.Core.{Core, page_of}
+use Rattle.trio_layout.specs.Survey.{plain, row_of, survey}
+use Rattle.trio_layout.proofs.Superblocks.{superblock_facts}
+use Rattle.trio_state.specs.Image.{Image}
+use Rattle.trio_state.specs.Run.{start}
+use Rattle.trio_state.specs.State.{settled}
+use Rattle.trio_state.specs.Stored.{core_in, image_in, HasSuperblock, PagesVerify, StoresImage, StoresTables}
+use Rattle.trio_state.specs.Verifies.{Verifies}
+use Rattle.trio_laws.specs.Reading.{with_other, AgreeOn}
+use Rattle.trio_laws.proofs.Accepted.{agreeing_verifies}
+use Rattle.trio_laws.proofs.Images.{tabulated-length, tabulated-get}
+use Rattle.trio_image.specs.Image.{is_whole_page, IsVerified}
+use Rattle.trio_ctl.specs.Ctl.{home_image, superblock_for, IsControlled}
+use Rattle.trio_ctl.specs.Pages.{FillsPages, owner_pages, pages_from, shadow_pages, stored_pages, table_pages}
+use Rattle.trio_ctl.proofs.Wholes.{cond_same, tabulated-all}
+
+length-superblock : (s : Superblock) → length s.root ≡ 64 → length (superblock_bytes s) ≡ 4096
+unfolding superblock_bytes
+length-superblock s root = simp (length-append, length-zeros) (omega (arith, root))
+
+length-page : (k : ℕ) (bytes : List ℕ) → 4096 * k + 4096 ≤ length bytes → length (page_at k bytes) ≡ 4096
+length-page k bytes le = omega (arith, length-slice bytes (4096 * k) (4096 * k + 4096) le)
+
+-- each page of a stored table is whole
+table_whole : (bytes : List ℕ) (n : ℕ) → length bytes ≡ 4096 * n → list_all is_whole_page (table_pages bytes n) ≡ true
+table_whole bytes n len =
+    tabulated-all is_whole_page (λ k. Some (page_at k bytes)) n (λ k lt. eq-eqb (length (page_at k bytes)) 4096 (length-page k bytes (omega (arith, len))))
+
+no_lent : (t : Bool) → IsTrue t → t ≡ false → ⊥
+no_lent true e f = absurd cc
+no_lent false e f = absurd cc
+
+module _ (s : Superblock) (pages : List (Option (List ℕ))) (rows : List (Option Row)) (owners : List ℕ) (creds : List Creds) (k : IsControlled s pages rows owners creds) (shadow_full : FillsPages (shadow_bytes rows) (page_count (32 * (length rows - 1)))) (owner_full : FillsPages (owner_bytes owners) (page_count (4 * length owners))) where
+  abbrev image : Image
+  image = home_image s pages rows owners
+
+  abbrev core : Core
+  core = core_in s pages
+
+  abbrev stored : List (Option (List ℕ))
+  stored = stored_pages s pages rows owners
+
+  verifies : Verifies image
+  verifies = k.kept.verifies
+
+  many_rows : length rows ≡ s.inodes + 1
+  many_rows = ap length verifies.rows ∙ tabulated-length (row_of core (survey core plain)) (s.inodes + 1)
+
+  many_owners : length owners ≡ s.pages
+  many_owners = ap length verifies.owners ∙ tabulated-length _ s.pages
+
+  abbrev shadow_count : ℕ
+  shadow_count = page_count (32 * (length rows - 1))
+
+  abbrev owner_count : ℕ
+  owner_count = page_count (4 * length owners)
+
+  shadow_end : s.first_owner ≡ 1 + shadow_count
+  shadow_end =
+      let e : length rows - 1 ≡ s.inodes = omega (arith, many_rows) in
+      (superblock_facts s k.fits).first_owner ∙ ap (λ (n : ℕ). 1 + page_count (32 * n)) (sym e)
+
+  owner_end : s.first_core ≡ s.first_owner + owner_count
+  owner_end = (superblock_facts s k.fits).first_core ∙ ap (λ (n : ℕ). s.first_owner + page_count (4 * n)) (sym many_owners)
+
+  in_core : s.first_core < s.pages
+  in_core = (superblock_facts s k.fits).core
+
+  length-shadow_pages : length (shadow_pages rows) ≡ shadow_count
+  length-shadow_pages = tabulated-length (λ n. Some (page_at n (padded_to_pages (shadow_bytes rows)))) shadow_count
+
+  length-owner_pages : length (owner_pages owners) ≡ owner_count
+  length-owner_pages = tabulated-length (λ n. Some (page_at n (padded_to_pages (owner_bytes owners)))) owner_count
+
+  abbrev core_pages : List (Option (List ℕ))
+  core_pages = pages_from pages s.first_core (s.pages - s.first_core)
+
+  length-core_pages : length core_pages ≡ s.pages - s.first_core
+  length-core_pages = tabulated-length (λ n. slice_index_or pages (s.first_core + n) None) (s.pages - s.first_core)
+
+  abbrev behind : List (Option (List ℕ))
+  behind = shadow_pages rows ++ (owner_pages owners ++ core_pages)
+
+  pub stored_count : length stored ≡ s.pages
+  unfolding stored_pages
+  stored_count =
+      let a = length-append (shadow_pages rows) (owner_pages owners ++ core_pages) in
+      let b = length-append (owner_pages owners) core_pages in
+      let one : length (Some (superblock_bytes s) ∷ behind) ≡ suc (length behind) = refl in
+      one ∙ omega (arith, a, b, length-shadow_pages, length-owner_pages, length-core_pages, shadow_end, owner_end, in_core)
+
+  stored_behind : (n : ℕ) → get_or stored (1 + n) None ≡ get_or behind n None
+  unfolding stored_pages
+  stored_behind n = get_or-append-add (Some (superblock_bytes s) ∷ []) behind n None
+
+  stored_first : get_or stored 0 None ≡ Some (superblock_bytes s)
+  unfolding stored_pages
+  stored_first = refl
+
+  stored_shadow : (n : ℕ) → 1 + n < s.first_owner → get_or stored (1 + n) None ≡ Some (page_at n (padded_to_pages (shadow_bytes rows)))
+  stored_shadow n lt =
+      let below : n < shadow_count = omega (arith, shadow_end) in
+      let inside : n < length (shadow_pages rows) = omega (arith, length-shadow_pages, below) in
+      stored_behind n
+      ∙ get_or_append_left (shadow_pages rows) (owner_pages owners ++ core_pages) None n inside
+      ∙ tabulated-get (λ n. Some (page_at n (padded_to_pages (shadow_bytes rows)))) shadow_count n None below
+
+  stored_owner : (n : ℕ) → s.first_owner + n < s.first_core → get_or stored (s.first_owner + n) None ≡ Some (page_at n (padded_to_pages (owner_bytes owners)))
+  stored_owner n lt =
+      let below : n < owner_count = omega (arith, owner_end) in
+      let inside : n < length (owner_pages owners) = omega (arith, length-owner_pages, below) in
+      let place : s.first_owner + n ≡ 1 + (length (shadow_pages rows) + n) = omega (arith, shadow_end, length-shadow_pages) in
+      ap (λ (i : ℕ). get_or stored i None) place
+      ∙ stored_behind (length (shadow_pages rows) + n)
+      ∙ get_or-append-add (shadow_pages rows) (owner_pages owners ++ core_pages) n None
+      ∙ get_or_append_left (owner_pages owners) core_pages None n inside
+      ∙ tabulated-get (λ n. Some (page_at n (padded_to_pages (owner_bytes owners)))) owner_count n None below
+
+  pub stored_core : (p : ℕ) → s.first_core ≤ p → p < s.pages → get_or stored p None ≡ get_or pages p None
+  stored_core p le lt =
+      let n : ℕ = p - s.first_core in
+      let below : n < s.pages - s.first_core = omega arith in
+      let place : p ≡ 1 + (length (shadow_pages rows) + (length (owner_pages owners) + n)) = omega (arith, shadow_end, owner_end, length-shadow_pages, length-owner_pages) in
+      let back : s.first_core + n ≡ p = omega arith in
+      ap (λ (i : ℕ). get_or stored i None) place
+      ∙ stored_behind (length (shadow_pages rows) + (length (owner_pages owners) + n))
+      ∙ get_or-append-add (shadow_pages rows) (owner_pages owners ++ core_pages) (length (owner_pages owners) + n) None
+      ∙ get_or-append-add (owner_pages owners) core_pages n None
+      ∙ tabulated-get (λ n. slice_index_or pages (s.first_core + n) None) (s.pages - s.first_core) n None below
+      ∙ ap (λ (i : ℕ). get_or pages i None) back
+
+  is_core_at : (p : ℕ) → s.first_core ≤ p → p < s.pages → is_core core.range p ≡ true
+  is_core_at p le lt = rw (le-leb s.first_core p le, lt-ltb p s.pages lt) refl
+
+  -- each core page at home is whole
+  core_whole : (p : ℕ) → s.first_core ≤ p → p < s.pages → is_whole_page (get_or pages p None) ≡ true
+  core_whole p le lt = by_page (get_or pages p None) refl
+    where
+      by_page : (o : Option (List ℕ)) → get_or pages p None ≡ o → is_whole_page o ≡ true
+      by_page None e =
+          let gone : slice_get pages p ≡ Some None = slice_get-get_or pages p None (omega (arith, k.count)) ∙ ap Some e in
+          elim (k.kept.absent p gone (is_core_at p le lt)) [ inl lent ↦ absurd (no_lent false lent refl) | inr out ↦ absurd (no_lent false out refl) ]
+      by_page (Some bytes) e =
+          let there : page_of core p ≡ Some bytes = ap (λ b. if b then get_or pages p None else None) (is_core_at p le lt) ∙ e in
+          eq-eqb (length bytes) 4096 (k.kept.fit.full p bytes there)
+
+  stored_whole : list_all is_whole_page stored ≡ true
+  unfolding stored_pages
+  stored_whole =
+      let first : length (superblock_bytes s) == 4096 ≡ true = eq-eqb (length (superblock_bytes s)) 4096 (length-superblock s k.root) in
+      let a = table_whole (padded_to_pages (shadow_bytes rows)) shadow_count shadow_full in
+      let b = table_whole (padded_to_pages (owner_bytes owners)) owner_count owner_full in
+      let c : list_all is_whole_page core_pages ≡ true =
+      tabulated-all is_whole_page (λ n. slice_index_or pages (s.first_core + n) None) (s.pages - s.first_core) (λ n lt. core_whole (s.first_core + n) (omega arith) (omega arith)) in
+      rw (first, list_all-append is_whole_page (shadow_pages rows) (owner_pages owners ++ core_pages), a, list_all-append is_whole_page (owner_pages owners) core_pages, b, c) refl
+
+  pub stored_superblock : HasSuperblock s stored
+  stored_superblock = record { bytes = superblock_bytes s; here = stored_first; read = record { spelled = refl; root = k.root; fits = k.fits } }
+
+  tables : StoresTables s stored rows owners
+  tables = record { shadow = stored_shadow; owner = stored_owner }
+
+  stored_agrees : AgreeOn core (with_other core stored) (survey core plain)
+  stored_agrees m f p i e j =
+      cond_same (is_core core.range p) (get_or stored p None) (get_or pages p None)
+      (λ t. let b = and_parts (nat_le s.first_core p) (nat_lt p s.pages) t in stored_core p (leb-true s.first_core p b.0) (ltb-true p s.pages b.1))
+
+  stored_verifies : Verifies (home_image s stored rows owners)
+  stored_verifies = agreeing_verifies image stored verifies stored_agrees
+
+  pages_verify : PagesVerify s stored
+  pages_verify = record {
+    sound = stored_verifies.sound;
+    tables = subst (λ rs. StoresTables s stored rs (image_in s stored).owners) stored_verifies.rows (subst (λ os. StoresTables s stored rows os) stored_verifies.owners tables);
+  }
+
+  -- the pages are an image that verifies
+  pub stored_verified : IsVerified s stored
+  stored_verified = record { whole = record { count = stored_count; whole = stored_whole; superblock = stored_superblock }; verify = pages_verify }
+
+  -- and they store the image of the state
+  pub stores : StoresImage s (settled (start image creds)) stored
+  stores = record { count = stored_count; superblock = stored_first; tables = tables; core = stored_core }
+
+  pub superblock_is : s ≡ superblock_for (settled (start image creds)).core
+  superblock_is = ap (λ (n : ℕ). record s { first_owner = n }) (superblock_facts s k.fits).first_owner
+
+pub stores_by : (s t : Superblock) (image : Image) (made pages : List (Option (List ℕ))) → t ≡ s → made ≡ pages → StoresImage s image pages → StoresImage t image made
+stores_by s t image made pages same is h =
+    subst (λ (x : Superblock). StoresImage x image made) (sym same) (subst (λ ps. StoresImage s image ps) (sym is) h)

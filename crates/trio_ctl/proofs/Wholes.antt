@@ -1,0 +1,48 @@
+-- Lists of whole pages, and pages by number.
+use Rattle.std.proofs.Common.{◌≡◌, ℕ, zero, suc, ◌+◌, ◌<◌, Bool, true, false, ◌==◌, List, [], ◌∷◌, ◌++◌, length, get_or, Option, Some, None, refl, sym, ap, ◌∙◌, arith}
+use Rattle.std.specs.Prelude.{slice_get, if◌then◌else◌}
+use Rattle.std.specs.List.{list_all}
+use Rattle.std.proofs.lemmas.Bool.{and_parts, eqb-true}
+use Rattle.std.proofs.lemmas.List.Folds.{list_all-append}
+use Rattle.std.proofs.lemmas.List.{append_assoc}
+use Rattle.trio_layout.specs.Lists.{tabulated}
+use Rattle.trio_image.specs.Image.{is_whole_page}
+
+pub tabulated-more : {X : Type 0} (f : ℕ → X) (n : ℕ) → tabulated f (n + 1) ≡ tabulated f n ++ f n ∷ []
+tabulated-more f n = let e : n + 1 ≡ suc n = omega arith in ap (tabulated f) e
+
+-- one element more behind a front
+pub tabulated-step : {X : Type 0} (f : ℕ → X) (n : ℕ) (front xs xs' : List X) (x : X) → xs ≡ front ++ tabulated f n → xs' ≡ xs ++ x ∷ [] → x ≡ f n → xs' ≡ front ++ tabulated f (n + 1)
+tabulated-step f n front xs xs' x before after is =
+    after ∙ ap (λ ys. ys ++ x ∷ []) before ∙ append_assoc front (tabulated f n) (x ∷ []) ∙ ap (λ y. front ++ (tabulated f n ++ y ∷ [])) is ∙ ap (λ ys. front ++ ys) (sym (tabulated-more f n))
+
+pub tabulated-all : {X : Type 0} (p : X → Bool) (f : ℕ → X) (n : ℕ) → ((k : ℕ) → k < n → p (f k) ≡ true) → list_all p (tabulated f n) ≡ true
+tabulated-all p f zero h = refl
+tabulated-all p f (suc n) h =
+    list_all-append p (tabulated f n) (f n ∷ [])
+    ∙ rw (tabulated-all p f n (λ k lt. h k (omega arith)), h n (omega arith)) refl
+
+-- a page of whole ones has 4096 bytes
+pub whole_at : (pages : List (Option (List ℕ))) (p : ℕ) (bytes : List ℕ) → list_all is_whole_page pages ≡ true → get_or pages p None ≡ Some bytes → length bytes ≡ 4096
+whole_at [] p bytes w e = absurd cc
+whole_at (None ∷ pages) p bytes w e = absurd cc
+whole_at (Some page ∷ pages) zero bytes w e =
+    let same : page ≡ bytes = cc in
+    ap length (sym same) ∙ eqb-true (length page) 4096 (and_parts (length page == 4096) (list_all is_whole_page pages) w).0
+whole_at (Some page ∷ pages) (suc p) bytes w e =
+    whole_at pages p bytes (and_parts (length page == 4096) (list_all is_whole_page pages) w).1 e
+
+-- none of whole pages is absent
+pub whole_none : (pages : List (Option (List ℕ))) (p : ℕ) → list_all is_whole_page pages ≡ true → slice_get pages p ≡ Some None → ⊥
+whole_none [] p w e = absurd cc
+whole_none (None ∷ pages) p w e = absurd cc
+whole_none (Some page ∷ pages) zero w e = absurd cc
+whole_none (Some page ∷ pages) (suc p) w e = whole_none pages p (and_parts (length page == 4096) (list_all is_whole_page pages) w).1 e
+
+pub cond_there : {X : Type 0} (b : Bool) (o : Option X) (x : X) → (if b then o else None) ≡ Some x → o ≡ Some x
+cond_there true o x e = e
+cond_there false o x e = absurd cc
+
+pub cond_same : {X : Type 0} (b : Bool) (o o' : Option X) → (b ≡ true → o ≡ o') → (if b then o else None) ≡ (if b then o' else None)
+cond_same true o o' h = h refl
+cond_same false o o' h = refl

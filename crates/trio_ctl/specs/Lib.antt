@@ -1,0 +1,3 @@
+pub mod Ctl
+pub mod Count
+pub mod Pages

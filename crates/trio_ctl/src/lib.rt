@@ -1,0 +1,15 @@
+//! The controller: what it keeps of an image, and its calls.
+//!
+//! Contracts see a [`Ctl`] as the `State` of `trio_state`'s `specs/State.antt`, of which `Kept` holds
+//! in every state that it is in.
+#![tactic(auto)]
+
+mod count;
+mod ctl;
+mod store;
+
+pub use count::Counts;
+pub use ctl::Ctl;
+
+#[cfg(test)]
+mod tests;

@@ -1,0 +1,86 @@
+ghost use Rattle.std.specs.Prelude.{◌≡◌, length};
+
+use super::*;
+use std::alloc::Global;
+use std::test::Fail;
+use trio_image::{bytes_of, read};
+use trio_page::field::{put_bytes_in, put_u32_in};
+use trio_rights::Creds;
+
+// An image of 32 pages and 64 inode numbers with an empty root: the superblock, one shadow page, one
+// owner page, and core pages from page 3 on.
+fn put_image(bytes: &mut [u8])
+    requires { length bytes.old ≡ 131072 }
+{
+    put_bytes_in(bytes, 0, b"ARCKTRIO");
+    put_u32_in(bytes, 8, 1);
+    put_u32_in(bytes, 12, 4096);
+    put_u32_in(bytes, 16, 32);
+    put_u32_in(bytes, 20, 64);
+    put_u32_in(bytes, 24, 1);
+    put_u32_in(bytes, 28, 2);
+    put_u32_in(bytes, 32, 3);
+    put_u32_in(bytes, 36, 1);
+    // the root's body has mode 755
+    put_bytes_in(bytes, 40, &[0xed, 0x01]);
+    put_bytes_in(bytes, 4096, &[1, 2, 0xed, 0x01]);
+    put_bytes_in(bytes, 8192, &[0xff; 12]);
+}
+
+// The root lists the directory `a` with inode number 2: page 3 is its index page, page 4 its block.
+fn put_directory(bytes: &mut [u8])
+    requires { length bytes.old ≡ 131072 }
+{
+    put_u32_in(bytes, 52, 3);
+    put_u32_in(bytes, 56, 4096);
+    put_u32_in(bytes, 12_288, 4);
+    put_bytes_in(bytes, 16_384, &[2, 0, 0, 0, 2, 1, 0, 0, b'a']);
+    put_bytes_in(bytes, 16_576, &[0xed, 0x01]);
+    put_bytes_in(bytes, 4128, &[1, 2, 0xed, 0x01]);
+    put_u32_in(bytes, 4140, 1);
+    put_u32_in(bytes, 4144, 4);
+    put_u32_in(bytes, 8204, 1);
+    put_u32_in(bytes, 8208, 1);
+}
+
+fn image_bytes(alloc: Global, with_directory: bool) -> Option<Vec<u8>> {
+    let mut bytes = vec![in alloc; 0; 131_072].ok()?;
+    put_image(&mut bytes);
+    if with_directory {
+        put_directory(&mut bytes);
+    }
+    Some(bytes)
+}
+
+fn started(alloc: Global, bytes: &[u8]) -> Option<Ctl> {
+    let image = read(alloc, bytes).ok()?;
+    let libs = vec![in alloc; Creds { uid: 5, gid: 5 }].ok()?;
+    Ctl::start(alloc, image, libs).ok()
+}
+
+#[test]
+fn the_settled_image_is_stored_again(rt: HostRuntime) -> Result<(), Fail> {
+    let alloc = rt.alloc();
+    for with_directory in [false, true] {
+        let bytes = image_bytes(alloc, with_directory).ok_or("memory")?;
+        let mut ctl = started(alloc, &bytes).ok_or("a controller")?;
+        let mut image = ctl.image(alloc).ok().ok_or("memory")?;
+        let written = bytes_of(alloc, &mut image).ok().ok_or("memory")?;
+        assert!(rt; written.as_slice() == bytes.as_slice());
+        let counts = if with_directory {
+            Counts {
+                inodes: 2,
+                pages: 2,
+                free: 27,
+            }
+        } else {
+            Counts {
+                inodes: 1,
+                pages: 0,
+                free: 29,
+            }
+        };
+        assert_eq!(rt; ctl.counts(), counts);
+    }
+    Ok(())
+}
