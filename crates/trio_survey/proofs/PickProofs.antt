@@ -7,7 +7,7 @@ use Rattle.trio_survey.specs.declared.picks.Picked.{Picked}
 use Rattle.trio_survey.specs.Picks.{pick_of, body_picked}
 use Rattle.trio_survey.specs.PickLaws.{NothingPicked, PicksByBody}
 
-abbrev abbrev nothing : Option Picked
+abbrev nothing : Option Picked
 nothing = None
 
 none_at : (n i : ℕ) → get_or (replicate n nothing) i None ≡ None
