@@ -340,7 +340,6 @@ fn tables_and_picks(rt: HostRuntime) -> Result<(), Fail> {
     let wanted = [CONTROLLER, CONTROLLER, 1, 1, 2, 2, 3, 3, 0].map(Some);
     assert!(rt; owners == wanted);
 
-    let mut picks = Picks::new(rt.alloc(), 64).ok().ok_or("memory")?;
     let mut other = [0; 64];
     other[0] = 0x80;
     // directory, page and slot of the pick, and the mode of `f` that is found
@@ -350,6 +349,7 @@ fn tables_and_picks(rt: HostRuntime) -> Result<(), Fail> {
         (2, 5, 0, 0o644),
         (2, 6, 1, 0o644),
     ] {
+        let mut picks = Picks::new(rt.alloc(), 64).ok().ok_or("memory")?;
         picks.set(3, parent, page, slot, &other);
         let found = survey_picked(rt.alloc(), &mut home, &body, range, 64, &picks, &mut reads);
         let row = found.ok().ok_or("tables")?.rows.row(3).ok_or("a row")?;
@@ -379,7 +379,11 @@ fn large_tree(alloc: Global) -> Result<Vec<Page>, NoMemory> {
     }
     for d in 0..900u32 {
         let (page, slot) = (138 + d as usize / 16, d as usize % 16);
-        let name = [100, 10, 1].map(|unit| b'0' + (d / unit % 10) as u8);
+        let name = [
+            b'0' + (d / 100) as u8,
+            b'0' + (d / 10 % 10) as u8,
+            b'0' + (d % 10) as u8,
+        ];
         put_entry(&mut pages, page, slot, 2 + d, 2, &name);
         let at = 256 * slot + 192;
         put(&mut pages, page, at + 12, &(195 + 2 * d).to_le_bytes());

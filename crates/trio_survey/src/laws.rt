@@ -3,13 +3,11 @@
 ghost use Rattle.trio_survey.specs.PickLaws.{NothingPicked, PicksByBody};
 
 /// Where nothing is picked, the survey is the plain one.
-#[tactic(auto, using(crate::proofs::PickProofs::nothing_picked))]
 pub fn nothing_picked()
     ensures law { NothingPicked }
 {}
 
 /// Picks go by the bodies that they give.
-#[tactic(auto, using(crate::proofs::PickProofs::picks_by_body))]
 pub fn picks_by_body()
     ensures law { PicksByBody }
 {}
