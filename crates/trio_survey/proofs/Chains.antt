@@ -1,10 +1,8 @@
 -- One index page more of a chain.
-use Rattle.std.proofs.Common.{◌≡◌, ℕ, suc, zero, ◌+◌, ◌-◌, ◌/◌, ◌<◌, ◌≤◌, min, leb, eqb, Bool, List, [], ◌∷◌, ◌++◌, length, take, Option, Some, None, Result, Ok, Err, sym, refl, ap, ◌∙◌, append_assoc, arith, IsTrue}
+use Rattle.std.proofs.Common.{◌≡◌, ℕ, suc, ◌-◌, ◌<◌, min, leb, eqb, Bool, List, [], ◌∷◌, ◌++◌, length, Some, None, Result, Ok, Err, sym, refl, ◌∙◌, append_assoc, arith}
 use Rattle.std.proofs.lemmas.List.{append-nil}
 use Rattle.std.proofs.lemmas.Bool.Decides.{nat_tests}
 use Rattle.trio_layout.specs.declared.range.CoreRange.{CoreRange}
-use Rattle.trio_layout.specs.declared.body.Body.{Body}
-use Rattle.trio_layout.specs.Body.{block_count}
 use Rattle.trio_layout.specs.Core.{Core, Place, at_page, page_of}
 use Rattle.trio_layout.specs.Index.{Index, IsIndexPage, index_of}
 use Rattle.trio_layout.specs.Lists.{result_map, result_then}

@@ -1,5 +1,5 @@
 -- What a file says doesn't hang on the body of the root.
-use Rattle.std.proofs.Common.{◌≡◌, ℕ, suc, zero, ◌-◌, min, eqb, List, [], Option, Result, Ok, Err, refl, ap, ◌∙◌}
+use Rattle.std.proofs.Common.{◌≡◌, ℕ, suc, zero, ◌-◌, min, eqb, List, Result, Ok, Err, refl, ap, ◌∙◌}
 use Rattle.trio_rights.specs.declared.kind.Kind.{Kind}
 use Rattle.trio_rights.specs.declared.kind.Kind.TheVariants.{Regular, Directory}
 use Rattle.trio_layout.specs.Body.{body_of, block_count}

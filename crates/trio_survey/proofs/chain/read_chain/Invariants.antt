@@ -1,4 +1,4 @@
-use Rattle.std.proofs.Common.{◌≡◌, ◌≤◌, ℕ}
+use Rattle.std.proofs.Common.{◌≡◌, ℕ}
 use Rattle.trio_layout.specs.Chain.{chain_of}
 use Rattle.trio_layout.specs.Lists.{result_map}
 use Rattle.trio_survey.specs.Seen.{core_with}

@@ -1,4 +1,4 @@
-use Rattle.std.proofs.Common.{ap, sym, ◌∙◌, ◌≡◌, Ok, Err, map, arith}
+use Rattle.std.proofs.Common.{ap, sym, ◌∙◌, Ok, map, arith}
 use Rattle.trio_layout.specs.Entries.{slot_bytes, slot_entries}
 use Rattle.trio_layout.specs.Lists.{both}
 use Rattle.trio_survey.specs.Seen.{listed_seen}
