@@ -1,7 +1,7 @@
 -- One entry more of a directory: a file that is met for the first time, or again.
 use Rattle.std.proofs.Common.{◌≡◌, ℕ, ◌+◌, ◌<◌, Bool, true, false, cond, List, [], ◌∷◌, ◌++◌, map, length, get_or, set, take, Option, Some, sym, refl, ap, ◌∙◌, arith, append_assoc}
 use Rattle.std.specs.Option.{option_or}
-use Rattle.std.proofs.lemmas.List.{append-nil, map-append, map_push, map_more, length_push, length-map, get_or-map, take_more}
+use Rattle.std.proofs.lemmas.List.{append-nil, map-append, map_push, length_push, length-map, get_or-map, take_more}
 use Rattle.std.proofs.lemmas.List.Sums.{sum_by-set}
 use Rattle.trio_layout.specs.Lists.{is_among}
 use Rattle.trio_layout.specs.Marks.{all_below}

@@ -1,9 +1,9 @@
 -- The pages that a file in the grammar lists are core pages.
-use Rattle.std.proofs.Common.{◌≡◌, ℕ, suc, zero, ◌-◌, min, Bool, true, false, ◌&&◌, eqb, ltb, leb, List, [], ◌∷◌, ◌++◌, Option, Some, Ok, Err, Result, IfOk, inl, inr, sym, refl, ap, ◌∙◌, arith}
+use Rattle.std.proofs.Common.{◌≡◌, ℕ, suc, zero, ◌-◌, min, Bool, true, false, ◌&&◌, eqb, ltb, leb, List, [], ◌∷◌, ◌++◌, Some, Ok, Err, Result, IfOk, inl, inr, sym, refl, ap, ◌∙◌, arith}
 use Rattle.std.specs.List.{list_all}
 use Rattle.std.specs.Str.{bytes_eq}
 use Rattle.std.proofs.lemmas.List.Folds.{list_all-append}
-use Rattle.std.proofs.lemmas.Bool.{and_parts, and_from, or_cases, cases_lt, false≢true}
+use Rattle.std.proofs.lemmas.Bool.{and_parts, and_from, or_cases, false≢true}
 use Rattle.std.proofs.lemmas.Bool.Decides.{nat_tests}
 use Rattle.trio_layout.specs.declared.range.CoreRange.{CoreRange}
 use Rattle.trio_layout.specs.Range.{is_core}
@@ -13,7 +13,7 @@ use Rattle.trio_layout.specs.Lists.{is_among, result_map, result_then}
 use Rattle.trio_layout.specs.Core.{Core, at_page, nowhere, page_of, there_or}
 use Rattle.trio_layout.specs.Chain.{Chain, chain_from, chain_of, index_page, with_index}
 use Rattle.trio_layout.specs.Entries.{entries_of_kind}
-use Rattle.trio_layout.specs.Survey.{Met, FileRead, file_of, file_with, pages_in}
+use Rattle.trio_layout.specs.Survey.{Met, FileRead, file_of, file_with}
 use Rattle.trio_survey.proofs.Fits.{if_ok_then, if_ok_map, if_ok_at, if_ok_weaker, there_some, and_then_some, cond_some, cond_there}
 
 index_numbers : (used : ℕ) (last : Bool) (range : CoreRange) (page : List ℕ) (i : Index) → index_of used last range page ≡ Some i → list_all (is_core range) i.numbers ≡ true

@@ -1,10 +1,9 @@
 -- The laws of picks.
-use Rattle.std.proofs.Common.{◌≡◌, ℕ, zero, suc, List, Option, None, get_or, refl, ap}
+use Rattle.std.proofs.Common.{◌≡◌, ℕ, zero, suc, Option, None, get_or, refl, ap}
 use Rattle.std.specs.Prelude.{replicate}
 use mathlib.Core.Path.{fun_ext}
-use Rattle.trio_layout.specs.Survey.{Pick}
 use Rattle.trio_survey.specs.declared.picks.Picked.{Picked}
-use Rattle.trio_survey.specs.Picks.{pick_of, body_picked}
+use Rattle.trio_survey.specs.Picks.{body_picked}
 use Rattle.trio_survey.specs.PickLaws.{NothingPicked, PicksByBody}
 
 abbrev nothing : Option Picked

@@ -1,6 +1,6 @@
 -- What is listed again, of numbers, entries and files.
-use Rattle.std.proofs.Common.{◌≡◌, ℕ, suc, zero, ◌+◌, ◌<◌, Bool, true, false, not, ◌&&◌, ◌||◌, List, [], ◌∷◌, ◌++◌, map, length, get_or, Option, Some, None, Ok, is_ok, inl, inr, sym, refl, ap, ◌∙◌, arith, append_assoc}
-use Rattle.std.specs.List.{list_all, flat_map}
+use Rattle.std.proofs.Common.{◌≡◌, ℕ, Bool, true, false, not, ◌&&◌, ◌||◌, List, [], ◌∷◌, ◌++◌, map, Option, Some, None, Ok, is_ok, inl, inr, sym, refl, ap, ◌∙◌, append_assoc}
+use Rattle.std.specs.List.{list_all}
 use Rattle.std.specs.Option.{option_or}
 use Rattle.std.proofs.lemmas.List.{append-nil, map-append}
 use Rattle.std.proofs.lemmas.List.Concat.{flat_map-append}
@@ -10,7 +10,7 @@ use Rattle.trio_layout.specs.Core.{Core, Place, at_page}
 use Rattle.trio_layout.specs.Entries.{Listed, place_of}
 use Rattle.trio_layout.specs.Survey.{Met, FileRead, Pick, file_of, children, children_in, met_in, numbers, pages_of, pages_in, survey}
 use Rattle.trio_layout.specs.Sound.{are_in_grammar, are_listed_once, is_sound, listings, listed_numbers, listed_pages, page_listings, PageListing, FailsAt, ListsNumberAgain, ListsPageAgain}
-use Rattle.trio_layout.proofs.MarkLemmas.{is_among-append, are_new-append, are_new-push, and-false, and-true}
+use Rattle.trio_layout.proofs.MarkLemmas.{is_among-append, are_new-append, are_new-push, and-false}
 use Rattle.trio_survey.specs.declared.file.FaultPlace.{FaultPlace}
 use Rattle.trio_survey.specs.declared.walk.Repeated.{Repeated}
 use Rattle.trio_survey.specs.Seen.{place_seen}

@@ -1,6 +1,5 @@
 -- One file more of the walk, and its end.
-use Rattle.std.proofs.Common.{◌≡◌, ℕ, suc, zero, ◌+◌, ◌<◌, ◌≤◌, Bool, true, false, not, ◌&&◌, ◌||◌, ltb, List, [], ◌∷◌, ◌++◌, map, length, get_or, take, drop, Option, Some, None, Ok, Err, is_ok, inl, inr, sym, refl, ap, ◌∙◌, arith, append_assoc}
-use Rattle.std.specs.List.{list_all}
+use Rattle.std.proofs.Common.{◌≡◌, ℕ, suc, zero, ◌+◌, ◌<◌, ◌≤◌, Bool, true, ◌&&◌, ◌||◌, ltb, List, [], ◌∷◌, ◌++◌, map, length, get_or, take, drop, Option, Some, None, Ok, Err, is_ok, inl, inr, sym, refl, ap, ◌∙◌, arith}
 use Rattle.std.specs.Option.{option_or}
 use Rattle.std.proofs.lemmas.List.{append-nil, map-append, length-append, take_more, drop_more, take-append-le, drop-append-le, take-append-drop, take_all, drop_all}
 use Rattle.std.proofs.lemmas.List.Concat.{flat_map-append}
@@ -10,20 +9,19 @@ use Rattle.std.proofs.lemmas.Bool.{and_from, and_parts}
 use Rattle.trio_rights.specs.Row.{Row}
 use Rattle.trio_layout.specs.Lists.{In, is_among, are_new}
 use Rattle.trio_layout.specs.Core.{Core, Place}
-use Rattle.trio_layout.specs.Entries.{Listed}
 use Rattle.trio_layout.specs.Marks.{Marks, all_below}
 use Rattle.trio_layout.specs.Queue.{pass_on, pass, queue}
 use Rattle.trio_layout.specs.Survey.{Met, FileRead, file_of, first_listed, numbers, children, children_in, Pick, root_of, met_in, survey, pages_of, pages_in}
-use Rattle.trio_layout.specs.Sound.{IsSound, are_in_grammar, are_listed_once, is_sound, listed_numbers, listed_pages, rows_table, owners_table, FailsAt}
+use Rattle.trio_layout.specs.Sound.{IsSound, are_in_grammar, are_listed_once, listed_numbers, listed_pages, rows_table, owners_table, FailsAt}
 use Rattle.trio_layout.proofs.QueueLaws.{files_are_levels, waiting_is_met}
-use Rattle.trio_layout.proofs.MarkLemmas.{is_among-append, are_new-append, among-first_listed}
+use Rattle.trio_layout.proofs.MarkLemmas.{is_among-append, among-first_listed}
 use Rattle.trio_survey.specs.declared.file.FaultPlace.{FaultPlace}
 use Rattle.trio_survey.specs.declared.walk.Repeated.{Repeated}
 use Rattle.trio_survey.specs.declared.fault.SurveyFault.{SurveyFault}
 use Rattle.trio_survey.specs.declared.fault.SurveyFault.TheVariants.{Fails, NoMemory}
 use Rattle.trio_survey.specs.Answer.{IsRefused}
 use Rattle.trio_survey.specs.Within.{all_some}
-use Rattle.trio_survey.specs.Walk.{AreMarked, FirstRepeat, FirstEntry, IsFault, IsFirstRepeat, Stands, Tabled, file_repeat}
+use Rattle.trio_survey.specs.Walk.{AreMarked, FirstRepeat, FirstEntry, IsFault, Stands, Tabled, file_repeat}
 use Rattle.trio_survey.proofs.Repeats.{fails_unsound, first_repeat, numbers_of, numbers_met}
 use Rattle.trio_survey.proofs.Tables.{all_first, owners_are, rows_are}
 

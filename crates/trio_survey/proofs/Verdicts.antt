@@ -1,5 +1,5 @@
 -- What a comparison of the stored tables finds, and what it says of the image.
-use Rattle.std.proofs.Common.{◌≡◌, ◌≢◌, ℕ, ◌+◌, ◌<◌, ◌⊎◌, Bool, true, false, List, Option, Some, None, inl, inr, sym, refl, ap, ◌∙◌, arith}
+use Rattle.std.proofs.Common.{◌≡◌, ℕ, ◌+◌, ◌<◌, List, Option, Some, None, inl, inr, sym, refl, ap, ◌∙◌}
 use Rattle.std.specs.Prelude.{slice_index_or}
 use Rattle.std.proofs.lemmas.Bool.{false≢true}
 use Rattle.trio_rights.specs.Row.{Row}
@@ -8,7 +8,7 @@ use Rattle.trio_layout.specs.Core.{Place}
 use Rattle.trio_layout.specs.Survey.{plain}
 use Rattle.trio_layout.specs.Sound.{IsSound}
 use Rattle.trio_tables.specs.Stored.{shadow_bytes, owner_bytes, padded_to_pages, page_at}
-use Rattle.trio_state.specs.Stored.{core_in, image_in, HasPage, PagesVerify, StoresTables}
+use Rattle.trio_state.specs.Stored.{core_in, image_in, PagesVerify, StoresTables}
 use Rattle.trio_survey.specs.declared.fault.SurveyFault.{SurveyFault}
 use Rattle.trio_survey.specs.declared.fault.SurveyFault.TheVariants.{Fails, NoMemory}
 use Rattle.trio_survey.specs.Answer.{IsRefused}

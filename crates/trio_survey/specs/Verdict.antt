@@ -5,7 +5,7 @@ use Rattle.trio_rights.specs.Row.{Row}
 use Rattle.trio_layout.specs.declared.superblock.Superblock.{Superblock}
 use Rattle.trio_layout.specs.Superblock.{superblock_of}
 use Rattle.trio_layout.specs.Core.{Place, nowhere}
-use Rattle.trio_layout.specs.Survey.{plain, survey}
+use Rattle.trio_layout.specs.Survey.{plain}
 use Rattle.trio_layout.specs.Sound.{IsSound, FailsAt}
 use Rattle.trio_tables.specs.Stored.{shadow_bytes, owner_bytes, padded_to_pages, page_at, RowDiffers, OwnerDiffers}
 use Rattle.trio_state.specs.Stored.{core_in, image_in, HasPage, PagesVerify}

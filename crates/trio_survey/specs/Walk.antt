@@ -1,9 +1,9 @@
 -- How far a walk over the files with a queue has come. Cited by private functions alone.
-use Rattle.std.specs.Prelude.{◌≡◌, ℕ, ◌+◌, ◌<◌, ◌≤◌, ◌⊎◌, nat_lt, Bool, true, List, [], ◌∷◌, ◌++◌, length, map, take, drop, Option, Some, None, MatchOption, if◌then◌else◌, slice_set, slice_index, slice_index_or, ⊤, IsTrue}
+use Rattle.std.specs.Prelude.{◌≡◌, ℕ, ◌+◌, ◌<◌, ◌≤◌, ◌⊎◌, nat_lt, Bool, true, List, [], ◌∷◌, ◌++◌, length, map, take, drop, Option, Some, None, MatchOption, if◌then◌else◌, slice_set, slice_index, slice_index_or, ⊤}
 use Rattle.std.specs.List.{count_by}
 use Rattle.trio_rights.specs.Row.{Row}
 use Rattle.trio_layout.specs.Lists.{is_among, are_new}
-use Rattle.trio_layout.specs.Core.{Core, Place, at_page}
+use Rattle.trio_layout.specs.Core.{Core, Place}
 use Rattle.trio_layout.specs.Entries.{Listed, place_of}
 use Rattle.trio_layout.specs.Marks.{Marks, all_below}
 use Rattle.trio_layout.specs.Queue.{queue}

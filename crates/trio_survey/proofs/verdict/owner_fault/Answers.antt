@@ -1,5 +1,4 @@
-use Rattle.std.proofs.Common.{◌≡◌, ◌<◌, ◌∙◌, inl, inr, sym, subst, arith}
-use Rattle.std.proofs.lemmas.Bool.{cases_lt}
+use Rattle.std.proofs.Common.{arith}
 use Rattle.trio_survey.proofs.verdict.owner_fault.Goals as goal
 
 pub owner_fault_at-requires-clause-owners : goal.owner_fault_at-requires-clause-owners

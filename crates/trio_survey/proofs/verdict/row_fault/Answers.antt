@@ -1,5 +1,4 @@
-use Rattle.std.proofs.Common.{◌≡◌, ◌<◌, ◌∙◌, inl, inr, sym, subst, arith}
-use Rattle.std.proofs.lemmas.Bool.{cases_lt}
+use Rattle.std.proofs.Common.{arith}
 use Rattle.trio_survey.proofs.verdict.row_fault.Goals as goal
 
 pub row_fault_at-requires-clause-rows : goal.row_fault_at-requires-clause-rows

@@ -1,6 +1,5 @@
-use Rattle.std.proofs.Common.{◌≡◌, ◌+◌, ◌<◌, ◌++◌, Err, Ok, map, get_or, vec_len, length, sym, ap, ◌∙◌, arith, append_assoc}
+use Rattle.std.proofs.Common.{◌≡◌, ◌+◌, ◌<◌, ◌++◌, Err, Ok, map, get_or, length, sym, ap, ◌∙◌, arith, append_assoc}
 use Rattle.std.proofs.lemmas.List.{get_or-map, length-map}
-use Rattle.std.proofs.lemmas.Simd.{map-map}
 use Rattle.trio_layout.specs.Core.{Place}
 use Rattle.trio_layout.specs.Survey.{file_of}
 use Rattle.trio_survey.specs.Picks.{pick_of}
@@ -9,7 +8,7 @@ use Rattle.trio_survey.specs.Walk.{framed}
 use Rattle.trio_survey.proofs.Fits.{file_within}
 use Rattle.trio_survey.proofs.Roots.{file_rootless}
 use Rattle.trio_survey.proofs.Standing.{file_fails, stands_more}
-use Rattle.trio_survey.proofs.Tables.{met_below, met_some, entered_in_two, tabled_after}
+use Rattle.trio_survey.proofs.Tables.{met_below, met_some, tabled_after}
 use Rattle.trio_survey.proofs.walk.Walk.visit.Goals as goal
 
 pub returns-in-Err-clause-fault : goal.returns-in-Err-clause-fault
