@@ -1,19 +1,19 @@
 //! The tree of an image.
 
 ghost use Rattle.std.specs.Prelude.{◌≡◌, ◌<◌, ◌+◌, ◌^◌, [], ◌∷◌, ◌++◌, IfOk, OnOk, map, reverse};
-ghost use Rattle.trio_layout.specs.Survey.{file_of, met_in, plain, root_of};
-ghost use Rattle.trio_survey.specs.Seen.{core_with, listed_seen, file_seen, met_seen};
+ghost use Rattle.trio_layout.specs.Survey.{met_in, plain, root_of};
+ghost use Rattle.trio_survey.specs.Seen.{listed_seen, file_seen, met_seen, read_seen};
 ghost use Rattle.trio_state.specs.Stored.{core_in};
-ghost use Rattle.trio_state.specs.Tree.{by_name, told_line, tree_of};
+ghost use Rattle.trio_state.specs.Tree.{by_name, told_size, tree_of};
 ghost use Rattle.trio_report.specs.Nodes.{node_seen, children_of, Visited};
-ghost use Rattle.trio_report.specs.Seen.{line_seen, name_seen};
+ghost use Rattle.trio_report.specs.Seen.{line_seen};
 
 use crate::line::{TreeLine, TreeName};
 use std::alloc::Global;
 use trio_layout::{CoreRange, Superblock};
 use trio_page::{Home, NoMemory, Reads};
 use trio_rights::Kind;
-use trio_survey::file::{FileParts, ListedEntry, MetFile, read_file};
+use trio_survey::file::{FaultPlace, FileParts, ListedEntry, MetFile, read_file};
 
 /// A file whose line is still to come.
 #[derive(Clone, Copy)]
@@ -52,16 +52,8 @@ pub fn tree_lines(
         met: root_file(superblock),
     })?;
     while let Some(next) = pending.pop() {
-        visit(
-            alloc,
-            home,
-            range,
-            superblock.inodes,
-            &next,
-            &mut pending,
-            &mut lines,
-            reads,
-        )?;
+        let read = read_file(alloc, home, range, superblock.inodes, &next.met, reads)?;
+        next.visit(alloc, read, superblock.inodes, &mut pending, &mut lines)?;
     }
     Ok(lines)
 }
@@ -79,48 +71,36 @@ fn root_file(superblock: &Superblock) -> MetFile
     }
 }
 
-/// Reads a file, tells its line, and lets the files that it lists wait.
-fn visit(
-    alloc: Global,
-    home: &mut Home,
-    range: CoreRange,
-    inodes: u32,
-    next: &Pending,
-    pending: &mut Vec<Pending>,
-    lines: &mut Vec<TreeLine>,
-    reads: &mut Reads,
-) -> Result<(), NoMemory>
-    ensures pages { home.new.pages ≡ home.old.pages }
-    ensures visited { OnOk result (Visited inodes (node_seen next.now) (file_of (core_with home.old.pages range inodes) (met_seen next.now.met))
-        (map node_seen pending.old.items) (map node_seen pending.new.items) (map line_seen lines.old.items) (map line_seen lines.new.items)) }
-{
-    let Ok(mut file) = read_file(alloc, home, range, inodes, &next.met, reads)? else {
-        return Ok(());
-    };
-    lines.push(next.line(&file))?;
-    if next.depth < inodes {
-        next.add_children(alloc, &mut file.entries, pending)?;
-    }
-    Ok(())
-}
-
 impl Pending {
-    fn line(&self, file: &FileParts) -> TreeLine
-        ensures { line_seen result ≡ told_line self.now.depth (name_seen self.now.name) self.now.met.kind (file_seen file.now) }
+    /// Tells the line of the file, as it was read, and lets the files that it lists wait where they
+    /// are no deeper than the last depth.
+    fn visit(
+        &self,
+        alloc: Global,
+        read: Result<FileParts, FaultPlace>,
+        last: u32,
+        pending: &mut Vec<Pending>,
+        lines: &mut Vec<TreeLine>,
+    ) -> Result<(), NoMemory>
+        ensures { OnOk result (Visited last (node_seen self.now) (read_seen read)
+            (map node_seen pending.old.items) (map node_seen pending.new.items) (map line_seen lines.old.items) (map line_seen lines.new.items)) }
     {
-        let size = match self.met.kind {
-            Kind::Regular => file.body.size,
-            Kind::Directory => file.entries.len() as u64,
+        let Ok(mut file) = read else {
+            return Ok(());
         };
-        TreeLine {
+        lines.push(TreeLine {
             depth: self.depth,
             kind: self.met.kind,
             mode: file.body.mode,
             uid: file.body.uid,
             gid: file.body.gid,
-            size,
+            size: told_size(self.met.kind, &file),
             name: self.name,
+        })?;
+        if self.depth < last {
+            self.add_children(alloc, &mut file.entries, pending)?;
         }
+        Ok(())
     }
 
     /// Lets the files of these entries wait, the first name at the end. The entries are left in an
@@ -156,6 +136,15 @@ impl Pending {
             slot: listed.slot,
             body: listed.body,
         }
+    }
+}
+
+fn told_size(kind: Kind, file: &FileParts) -> u64
+    ensures { result ≡ told_size kind (file_seen file.now) }
+{
+    match kind {
+        Kind::Regular => file.body.size,
+        Kind::Directory => file.entries.len() as u64,
     }
 }
 

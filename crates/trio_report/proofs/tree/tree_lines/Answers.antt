@@ -16,14 +16,16 @@ loop-next-init c =
 pub loop-next-smaller : goal.loop-next-smaller
 loop-next-smaller c =
     let popped = ap (map node_seen) c.in-Some.ensures.items ∙ map-append node_seen c.pop.new.self.items (c.in-Some.next ∷ []) in
-    (visited_at_home c.args.superblock.now c.args.home.now.pages _ _ _ _ _ _ _ c.loop-next.invariant.same popped c.loop-next.invariant.reached c.in_ok-visit.ensures.visited).fewer
+    let visited = rw c.in_ok-read.ensures.file at c.in_ok-visit.ensures in
+    (visited_at_home c.args.superblock.now c.args.home.now.pages _ _ _ _ _ _ _ c.loop-next.invariant.same popped c.loop-next.invariant.reached visited).fewer
 
 pub loop-next-preserved : goal.loop-next-preserved
 loop-next-preserved c =
     let popped = ap (map node_seen) c.in-Some.ensures.items ∙ map-append node_seen c.pop.new.self.items (c.in-Some.next ∷ []) in
-    let step = visited_at_home c.args.superblock.now c.args.home.now.pages _ _ _ _ _ _ _ c.loop-next.invariant.same popped c.loop-next.invariant.reached c.in_ok-visit.ensures.visited in
+    let visited = rw c.in_ok-read.ensures.file at c.in_ok-visit.ensures in
+    let step = visited_at_home c.args.superblock.now c.args.home.now.pages _ _ _ _ _ _ _ c.loop-next.invariant.same popped c.loop-next.invariant.reached visited in
     record {
-      same = c.in_ok-visit.ensures.pages ∙ c.loop-next.invariant.same;
+      same = c.read_file.ensures.pages ∙ c.loop-next.invariant.same;
       reached = step.reached;
       tree = step.lines ∙ c.loop-next.invariant.tree;
     }
