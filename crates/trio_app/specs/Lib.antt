@@ -5,3 +5,8 @@ pub mod Roots
 pub mod Turns
 pub mod Command
 pub mod Main
+pub mod Request
+pub mod Stop
+pub mod Inputs
+pub mod RunEnd
+pub mod Causes

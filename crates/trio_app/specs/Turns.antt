@@ -1,10 +1,9 @@
 -- What the words `turns IMAGE SCRIPT OUT` do.
-use Rattle.std.specs.Prelude.{◌≡◌, ◌≢◌, ◌⊎◌, ℕ, ◌*◌, ◌≤◌, false, true, Option, Some, None, List, [], ◌∷◌, length, take, IfSome, IsTrue}
+use Rattle.std.specs.Prelude.{◌≡◌, ◌≢◌, ◌⊎◌, ℕ, ◌*◌, ◌≤◌, Option, Some, None, List, [], ◌∷◌, length, take, IsTrue}
 use Rattle.trio_io.specs.Shelf.{Shelf, Rose, RisesAt, IsTold, IsLonger, KeepsOthers, told}
 use Rattle.trio_rights.specs.declared.rights.Creds.{Creds}
 use Rattle.trio_layout.specs.declared.superblock.Superblock.{Superblock}
 use Rattle.trio_layout.specs.Superblock.{IsSuperblock}
-use Rattle.trio_state.specs.Image.{Image}
 use Rattle.trio_state.specs.State.{State, settled}
 use Rattle.trio_state.specs.Run.{start, Run}
 use Rattle.trio_state.specs.Stored.{BytesVerify, StoresImage, core_in, image_in, pages_in, bytes_in}

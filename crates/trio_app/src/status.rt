@@ -1,7 +1,9 @@
 //! How the program ends.
 
-ghost use Rattle.std.specs.Prelude.{◌≡◌};
+ghost use Rattle.std.specs.Prelude.{◌≡◌, []};
 ghost use Rattle.trio_app.specs.Status.{code_of};
+
+use std::alloc::Global;
 
 /// How the program ends.
 #[derive(Clone, Copy, Debug, PartialEq, Eq)]
@@ -32,6 +34,26 @@ impl Status {
             Status::WriteFault => 5,
             Status::NoMemory => 6,
             Status::NotBuilt => 8,
+        }
+    }
+}
+
+/// What the work came to, and the text that is then due.
+#[derive(Drop)]
+pub struct Outcome {
+    pub status: Status,
+    pub text: Vec<u8>,
+}
+
+impl Outcome {
+    /// Want of memory, of which nothing is told. Takes no memory.
+    pub fn no_memory(alloc: Global) -> Outcome
+        ensures status { result.status ≡ Status.NoMemory }
+        ensures text { result.text.items ≡ [] }
+    {
+        Outcome {
+            status: Status::NoMemory,
+            text: Vec::new(alloc),
         }
     }
 }

@@ -11,7 +11,8 @@ ghost use Rattle.trio_survey.specs.Seen.{core_with};
 use trio_layout::CoreRange;
 use trio_page::{Home, Page, PageNo, Reads};
 
-/// A core page that is there.
+/// A look at a core page. `None` exactly where the number isn't a core page's or the page is absent;
+/// a number that isn't a core page's costs no look. The pages are as they were.
 pub fn core_page<'a>(
     home: &'a mut Home,
     range: CoreRange,

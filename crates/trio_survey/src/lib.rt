@@ -4,18 +4,20 @@
 //! - [`file::read_file`] reads one file that is met: its body, its chain of index pages and blocks
 //!   and, of a directory, its entries. Its contract is `file_of` of `trio_layout`'s
 //!   `specs/Survey.antt`, with the place where a file can't be read.
+//! - [`chain::read_chain`] reads the chain of a body alone, and [`home::core_page`] is a look at a core
+//!   page.
 //! - [`survey`] goes through all files from the root downward, and answers the tables of a sound core
 //!   (`specs/Sound.antt` of `trio_layout`) or the lowest rule that fails. [`survey_picked`] does so
 //!   with bodies that stand in place of the bytes in slots.
 //! - [`verify`] says whether an image verifies (`PagesVerify` of `trio_state`'s `specs/Stored.antt`).
 #![tactic(auto)]
 
-mod chain;
+pub mod chain;
 mod enter;
 mod entries;
 mod fault;
 pub mod file;
-mod home;
+pub mod home;
 pub mod laws;
 mod marks;
 mod names;

@@ -1,0 +1,5 @@
+pub mod Rooted
+pub mod Judged
+pub mod Trees
+pub mod Ends
+pub mod Causes

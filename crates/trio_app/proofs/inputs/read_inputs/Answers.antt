@@ -1,0 +1,7 @@
+use Rattle.trio_app.proofs.Judged.{script_stop}
+use Rattle.trio_app.proofs.inputs.read_inputs.Goals as goal
+
+pub returns-in-Err-input_script-clause-stops : goal.returns-in-Err-input_script-clause-stops
+returns-in-Err-input_script-clause-stops g c =
+    script_stop c.args.image_name.now c.args.script_name.now (g.F.Files.seen c.args.files.now) (g.F.Files.seen c.input_image.new.files) (g.F.Files.seen c.input_script.new.files) c.in-Ok.image.superblock c.in-Ok.image.pages
+    c.in-Err-input_script.stop c.in-Ok.ensures.image c.in-Ok.ensures.files c.in-Err-input_script.ensures.stops

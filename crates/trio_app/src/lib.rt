@@ -1,6 +1,0 @@
-//! The program.
-#![tactic(auto)]
-
-mod status;
-
-pub use status::Status;

@@ -1,0 +1,91 @@
+//! The program `trio`.
+//!
+//! `trio turns IMAGE SCRIPT OUT` runs a script on an image, writes the image that is then settled,
+//! and puts out a report. What it does and how it ends is the contract of [`trio_main`]:
+//! `specs/Main.antt` first, then `specs/Command.antt` and `specs/Turns.antt`.
+//!
+//! [`trio_main`] is generic over the files, the sink and the gate. [`main`] hands it the host's,
+//! which no contract speaks of.
+#![tactic(auto)]
+
+ghost use Rattle.std.specs.Prelude.{◌≡◌, IfOk};
+ghost use Rattle.trio_io.specs.Names.{texts_of};
+
+mod inputs;
+mod lines;
+mod plain;
+mod roots;
+mod run;
+mod status;
+mod stop;
+mod sure;
+mod threads;
+mod turns;
+mod words;
+
+pub use inputs::{IMAGE_LIMIT, SCRIPT_LIMIT, read_inputs};
+pub use plain::plain_main;
+pub use roots::lists_directory;
+pub use status::{Outcome, Status};
+use std::alloc::Global;
+use std::env;
+use std::io::ErrorKind;
+use std::process::ExitCode;
+use std::rt::{Env, Files as Host};
+use std::sync::Wait;
+use std::thread::Threads;
+pub use stop::Stop;
+pub use sure::sure_main;
+pub use threads::trio_main;
+use trio_io::{OpenGate, RealFiles, StdoutSink};
+use trio_page::NoMemory;
+pub use turns::turns;
+pub use words::{Request, read_words};
+
+/// The same words once more.
+fn copy_words(alloc: Global, words: &[String]) -> Result<Vec<String>, NoMemory>
+    ensures { IfOk result (λ copies. texts_of copies.items ≡ texts_of words.now) }
+{
+    let mut copies = Vec::new(alloc);
+    for word in words {
+        copies.push(String::from_str(alloc, word.as_str())?)?;
+    }
+    Ok(copies)
+}
+
+/// The words of the command line without the program's name, or how the program ends without them:
+/// [`Status::NoMemory`], or [`Status::NotBuilt`] where a word isn't UTF-8.
+fn words_given<R: Env + AllocGlobal>(rt: &R) -> Result<Vec<String>, Status> {
+    let mut words = Vec::new(rt.alloc());
+    match env::args(rt) {
+        Ok(args) => {
+            for word in args.skip(1) {
+                if words.push(word).is_err() {
+                    return Err(Status::NoMemory);
+                }
+            }
+            Ok(words)
+        }
+        Err(fault) if fault.kind() == ErrorKind::OutOfMemory => Err(Status::NoMemory),
+        Err(_) => Err(Status::NotBuilt),
+    }
+}
+
+fn run_words<R: Threads + Wait + Sync + Env + Host + Print + AllocGlobal>(rt: &R) -> u8 {
+    let words = match words_given(rt) {
+        Ok(words) => words,
+        Err(status) => return status.code(),
+    };
+    let Ok(names) = copy_words(rt.alloc(), &words) else {
+        return Status::NoMemory.code();
+    };
+    let Ok(mut files) = RealFiles::new(rt, rt.alloc(), names) else {
+        return Status::NoMemory.code();
+    };
+    let mut out = StdoutSink::new(rt);
+    trio_main(rt, rt.alloc(), &words, &mut files, &mut out, &OpenGate)
+}
+
+fn main(rt: HostRuntime) -> ExitCode {
+    ExitCode::from(run_words(&rt))
+}

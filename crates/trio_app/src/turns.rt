@@ -1,0 +1,49 @@
+//! The words `turns IMAGE SCRIPT OUT`.
+
+ghost use Rattle.std.specs.Prelude.{◌≡◌, Contains};
+ghost use Rattle.trio_app.specs.Turns.{Turns};
+
+use crate::inputs::read_inputs;
+use crate::lines::named_line;
+use crate::run::run;
+use crate::{Outcome, Status};
+use std::alloc::Global;
+use trio_io::{Failed, Files};
+
+/// Runs a script on an image, writes the image that is then settled, and says what is to be put.
+///
+/// The image is read and judged first, then the script. All that takes memory comes before the
+/// image is written, so after [`Status::NoMemory`] nothing was written.
+pub fn turns<F: Files>(
+    alloc: Global,
+    image_name: &str,
+    script_name: &str,
+    out_name: &str,
+    files: &mut F,
+) -> Outcome
+    requires image { Contains (F.seen files.old).served image_name.now }
+    requires script { Contains (F.seen files.old).served script_name.now }
+    requires out { Contains (F.seen files.old).served out_name.now }
+    ensures { Turns image_name.now script_name.now out_name.now (F.seen files.old) (F.seen files.new) result.text.items result.status }
+{
+    let image = match read_inputs(alloc, image_name, script_name, files) {
+        Ok(image) => image,
+        Err(stop) => return stop.outcome(alloc, image_name, script_name),
+    };
+    let Ok(end) = run(alloc, image) else {
+        return Outcome::no_memory(alloc);
+    };
+    let Ok(fault) = named_line(alloc, "write fault ", out_name) else {
+        return Outcome::no_memory(alloc);
+    };
+    match files.replace(out_name, &end.image) {
+        Ok(()) => Outcome {
+            status: Status::Done,
+            text: end.report,
+        },
+        Err(Failed) => Outcome {
+            status: Status::WriteFault,
+            text: fault,
+        },
+    }
+}
