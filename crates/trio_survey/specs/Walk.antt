@@ -9,11 +9,12 @@ use Rattle.trio_layout.specs.Marks.{Marks, all_below}
 use Rattle.trio_layout.specs.Queue.{queue}
 use Rattle.trio_layout.specs.Survey.{Met, FileRead, Pick, children, numbers, owner_of, root_of, row_by, row_of}
 use Rattle.trio_layout.specs.Sound.{are_in_grammar, are_listed_once, listed_numbers, listed_pages, FailsAt, ListsNumberAgain, ListsPageAgain}
-use Rattle.trio_survey.specs.Seen.{place_seen}
+use Rattle.trio_survey.specs.Seen.{met_seen, place_seen}
 use Rattle.trio_survey.specs.Within.{all_some}
 use Rattle.trio_survey.specs.declared.file.FaultPlace.{FaultPlace}
 use Rattle.trio_survey.specs.declared.walk.CoreFrame.{CoreFrame}
 use Rattle.trio_survey.specs.declared.walk.Repeated.{Repeated}
+use Rattle.trio_survey.specs.declared.walk.Walk.{Walk}
 use Rattle.trio_survey.specs.declared.fault.SurveyFault.{SurveyFault}
 use Rattle.trio_survey.specs.declared.fault.SurveyFault.TheVariants.{Fails, NoMemory}
 
@@ -104,6 +105,13 @@ pub record Entered (m : Met) (f : FileRead) (owners owners' : List ℕ) (rows ro
   pub owned : (p : ℕ) → p < length owners' → slice_index owners' p ≡ (if is_among p (f.chain.index ++ f.chain.blocks) then m.ino else slice_index owners p)
   pub rowed : rows' ≡ slice_set rows m.ino (Some (row_by m f.body))
   pub many_owners : length owners' ≡ length owners
+
+-- the same of a walk as the code has it
+abbrev pub WalkStands : Core → Pick → ℕ → Walk → Type 0
+WalkStands core pick i w = Stands core pick i (map met_seen w.files.items) w.met.items w.used.items w.repeated
+
+abbrev pub WalkTables : Core → ℕ → Walk → Type 0
+WalkTables core i w = Tabled core (take i (map met_seen w.files.items)) w.owners w.rows
 
 -- a file and place at which the survey fails; want of memory says nothing
 abbrev pub IsFault : Core → Pick → SurveyFault → Type 0

@@ -3,8 +3,7 @@
 ghost use Rattle.std.specs.Prelude.{◌≡◌, ◌+◌, ◌<◌, ◌≤◌, ℕ, List, Option, [], IfErr, IfOk, OnOk, map, take, vec_len};
 ghost use Rattle.trio_layout.specs.Survey.{Pick};
 ghost use Rattle.trio_survey.specs.Picks.{pick_of};
-ghost use Rattle.trio_survey.specs.Seen.{met_seen};
-ghost use Rattle.trio_survey.specs.Walk.{file_repeat, framed, IsFault, Stands, Tabled};
+ghost use Rattle.trio_survey.specs.Walk.{file_repeat, framed, IsFault, WalkStands, WalkTables};
 
 use crate::enter::enter;
 use crate::fault::SurveyFault;
@@ -72,8 +71,10 @@ impl Walk {
         requires pages { frame.now.range.end ≤ 8192 }
         requires some { 1 ≤ frame.now.inodes }
         requires inodes { frame.now.inodes ≤ 16384 }
-        ensures stands { IfOk result (λ w. (pages : List (Option (List ℕ))) → (pick : Pick) → Stands (framed pages frame.now) pick 0 (map met_seen w.files.items) w.met.items w.used.items w.repeated) }
-        ensures tables { IfOk result (λ w. (pages : List (Option (List ℕ))) → Tabled (framed pages frame.now) [] w.owners w.rows) }
+        ensures stands { IfOk result (λ w. (pages : List (Option (List ℕ))) → (pick : Pick)
+            → WalkStands (framed pages frame.now) pick 0 w) }
+        ensures tables { IfOk result (λ w. (pages : List (Option (List ℕ)))
+            → WalkTables (framed pages frame.now) 0 w) }
     {
         let root = MetFile {
             ino: 1,
@@ -106,11 +107,11 @@ impl Walk {
         reads: &mut Reads,
     ) -> Result<(), SurveyFault>
         requires inside { at < vec_len self.old.files }
-        requires stands { Stands (framed home.old.pages frame.now) (pick_of picks.now) at (map met_seen self.old.files.items) self.old.met.items self.old.used.items self.old.repeated }
-        requires tables { Tabled (framed home.old.pages frame.now) (take at (map met_seen self.old.files.items)) self.old.owners self.old.rows }
+        requires stands { WalkStands (framed home.old.pages frame.now) (pick_of picks.now) at self.old }
+        requires tables { WalkTables (framed home.old.pages frame.now) at self.old }
         ensures pages { home.new.pages ≡ home.old.pages }
-        ensures stands { OnOk result (Stands (framed home.old.pages frame.now) (pick_of picks.now) (at + 1) (map met_seen self.new.files.items) self.new.met.items self.new.used.items self.new.repeated) }
-        ensures tables { OnOk result (Tabled (framed home.old.pages frame.now) (take (at + 1) (map met_seen self.new.files.items)) self.new.owners self.new.rows) }
+        ensures stands { OnOk result (WalkStands (framed home.old.pages frame.now) (pick_of picks.now) (at + 1) self.new) }
+        ensures tables { OnOk result (WalkTables (framed home.old.pages frame.now) (at + 1) self.new) }
         ensures fault { IfErr result (IsFault (framed home.old.pages frame.now) (pick_of picks.now)) }
     {
         let met = self.files[at];

@@ -28,8 +28,7 @@ pub struct Found {
 /// of a sound core. `root` is the body of the root, `range` says which pages are core pages, and the
 /// inode numbers run from 1 up to `inodes`.
 ///
-/// Each look at a page is counted. Blocks of regular files aren't looked at, and each page that a
-/// sound core lists otherwise is looked at once. The time is linear in the pages and inode numbers.
+/// Blocks of regular files aren't looked at.
 ///
 /// [`SurveyFault::Fails`] names the lowest of the rules 1 and 2 that fails, with a file and place at
 /// which it does; it comes exactly where the core isn't sound. The pages are as they were after any
@@ -48,8 +47,10 @@ pub fn survey(
     requires inodes { inodes ≤ 16384 }
     ensures pages { home.new.pages ≡ home.old.pages }
     ensures sound { OnOk result (IsSound (core_of home.old.pages root.now range inodes) plain) }
-    ensures rows { IfOk result (λ f. f.rows ≡ rows_table (core_of home.old.pages root.now range inodes) (survey (core_of home.old.pages root.now range inodes) plain)) }
-    ensures owners { IfOk result (λ f. f.owners ≡ owners_table (core_of home.old.pages root.now range inodes) (survey (core_of home.old.pages root.now range inodes) plain)) }
+    ensures rows { let core = core_of home.old.pages root.now range inodes in
+        IfOk result (λ f. f.rows ≡ rows_table core (survey core plain)) }
+    ensures owners { let core = core_of home.old.pages root.now range inodes in
+        IfOk result (λ f. f.owners ≡ owners_table core (survey core plain)) }
     ensures fails { IfErr result (IsRefused (core_of home.old.pages root.now range inodes) plain) }
 {
     let picks = Picks::none(alloc);
@@ -73,8 +74,10 @@ pub fn survey_picked(
     requires inodes { inodes ≤ 16384 }
     ensures pages { home.new.pages ≡ home.old.pages }
     ensures sound { OnOk result (IsSound (core_of home.old.pages root.now range inodes) (pick_of picks.now)) }
-    ensures rows { IfOk result (λ f. f.rows ≡ rows_table (core_of home.old.pages root.now range inodes) (survey (core_of home.old.pages root.now range inodes) (pick_of picks.now))) }
-    ensures owners { IfOk result (λ f. f.owners ≡ owners_table (core_of home.old.pages root.now range inodes) (survey (core_of home.old.pages root.now range inodes) (pick_of picks.now))) }
+    ensures rows { let core = core_of home.old.pages root.now range inodes in
+        IfOk result (λ f. f.rows ≡ rows_table core (survey core (pick_of picks.now))) }
+    ensures owners { let core = core_of home.old.pages root.now range inodes in
+        IfOk result (λ f. f.owners ≡ owners_table core (survey core (pick_of picks.now))) }
     ensures fails { IfErr result (IsRefused (core_of home.old.pages root.now range inodes) (pick_of picks.now)) }
 {
     let frame = CoreFrame {
