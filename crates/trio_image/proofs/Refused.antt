@@ -1,7 +1,7 @@
 -- Bytes that are refused don't verify.
-use Rattle.std.proofs.Common.{◌≡◌, ◌≢◌, ℕ, ◌+◌, ◌*◌, ◌<◌, ◌≤◌, List, length, take, Option, refl, sym, ap, subst, ◌∙◌, inl, inr, arith}
+use Rattle.std.proofs.Common.{◌≡◌, ◌≢◌, ℕ, ◌*◌, List, take, Option, refl, sym, ap, subst, ◌∙◌, inl, inr, arith}
 use Rattle.trio_layout.specs.declared.superblock.Superblock.{Superblock}
-use Rattle.trio_layout.specs.Superblock.{IsSuperblock, superblock_at}
+use Rattle.trio_layout.specs.Superblock.{IsSuperblock}
 use Rattle.trio_layout.proofs.Superblocks.{only, superblock_facts}
 use Rattle.trio_state.specs.Stored.{pages_in, BytesVerify, PagesVerify}
 use Rattle.trio_survey.specs.declared.fault.SurveyFault.{SurveyFault}

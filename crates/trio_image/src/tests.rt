@@ -1,4 +1,4 @@
-ghost use Rattle.std.specs.Prelude.{◌≡◌, IfSome, length};
+ghost use Rattle.std.specs.Prelude.{◌≡◌, length};
 
 use super::*;
 use std::alloc::Global;
@@ -25,16 +25,30 @@ fn put_image(bytes: &mut [u8])
     put_bytes_in(bytes, 8192, &[0xff; 12]);
 }
 
-fn image_bytes(alloc: Global) -> Option<Vec<u8>>
-    ensures { IfSome result (λ bytes. length bytes.items ≡ 131072) }
-{
+fn image_bytes(alloc: Global) -> Option<Vec<u8>> {
     let mut bytes = vec![in alloc; 0; 131_072].ok()?;
     put_image(&mut bytes);
     Some(bytes)
 }
 
-fn fault(alloc: Global, bytes: &[u8]) -> Option<ImageFault> {
-    read(alloc, bytes).err()
+// why the front of the image, with these bytes at these places, is none
+fn fault(alloc: Global, count: usize, edits: &[(usize, u8)]) -> Option<ImageFault> {
+    let mut bytes = image_bytes(alloc)?;
+    for (at, byte) in edits {
+        if let Some(place) = bytes.get_mut(*at) {
+            *place = *byte;
+        }
+    }
+    read(alloc, bytes.get(..count)?).err()
+}
+
+fn fails(rule: u8, ino: u32, page: u32) -> Option<ImageFault> {
+    Some(ImageFault::Fails {
+        rule,
+        ino,
+        page,
+        slot: 0,
+    })
 }
 
 #[test]
@@ -53,38 +67,23 @@ fn an_image_is_read_and_written(rt: HostRuntime) -> Result<(), Fail> {
 }
 
 #[test]
-fn other_bytes_are_refused(rt: HostRuntime) -> Result<(), Fail> {
+fn other_bytes_are_refused(rt: HostRuntime) {
     let alloc = rt.alloc();
-    let mut bytes = image_bytes(alloc).ok_or("memory")?;
-    assert_eq!(rt; fault(alloc, &[]), Some(ImageFault::Length(0)));
+    assert_eq!(rt; fault(alloc, 131_072, &[]), None);
+    assert_eq!(rt; fault(alloc, 0, &[]), Some(ImageFault::Length(0)));
     assert_eq!(rt;
-        fault(alloc, &bytes[..4095]),
-        Some(ImageFault::Length(4095))
-    );
-    assert_eq!(rt;
-        fault(alloc, &bytes[..131_071]),
+        fault(alloc, 131_071, &[]),
         Some(ImageFault::Length(131_071))
     );
-    // an owner of a page that no file uses
-    bytes[8204] = 2;
-    let tables = ImageFault::Fails {
-        rule: 5,
-        ino: 0,
-        page: 3,
-        slot: 0,
-    };
-    assert_eq!(rt; fault(alloc, &bytes), Some(tables));
-    // a size without a block
-    bytes[56] = 1;
-    let root = ImageFault::Fails {
-        rule: 1,
-        ino: 1,
-        page: 0,
-        slot: 0,
-    };
-    assert_eq!(rt; fault(alloc, &bytes), Some(root));
-    bytes[0] = b'a';
-    assert_eq!(rt; fault(alloc, &bytes), Some(ImageFault::BadSuper));
-    assert_eq!(rt; fault(alloc, &bytes[..4096]), Some(ImageFault::BadSuper));
-    Ok(())
+    // an owner of a page that no file uses, and a size without a block
+    let owner = (8204, 2);
+    let size = (56, 1);
+    let magic = (0, b'a');
+    assert_eq!(rt; fault(alloc, 131_072, &[owner]), fails(5, 0, 3));
+    assert_eq!(rt; fault(alloc, 131_072, &[owner, size]), fails(1, 1, 0));
+    assert_eq!(rt; fault(alloc, 131_071, &[magic]), Some(ImageFault::BadSuper));
+    assert_eq!(rt;
+        fault(alloc, 4095, &[magic]),
+        Some(ImageFault::Length(4095))
+    );
 }

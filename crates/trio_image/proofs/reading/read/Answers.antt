@@ -1,4 +1,3 @@
-use Rattle.std.proofs.Common.{refl}
 use Rattle.std.proofs.lemmas.Result.{err_from_is_err_and}
 use Rattle.trio_state.specs.Stored.{BytesVerify}
 use Rattle.trio_image.proofs.Refused.{told_fault, told_verifying}
