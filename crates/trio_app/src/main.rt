@@ -89,3 +89,6 @@ fn run_words<R: Threads + Wait + Sync + Env + Host + Print + AllocGlobal>(rt: &R
 fn main(rt: HostRuntime) -> ExitCode {
     ExitCode::from(run_words(&rt))
 }
+
+#[cfg(test)]
+mod tests;
