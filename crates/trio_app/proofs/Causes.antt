@@ -7,7 +7,7 @@ use Rattle.trio_app.specs.declared.status.Status.{Status}
 use Rattle.trio_app.specs.declared.status.Status.TheVariants.{Done, NotVerified, ReadFault, WriteFault, NoMemory, NotBuilt}
 use Rattle.trio_app.specs.Status.{code_of}
 use Rattle.trio_app.specs.Command.{Command, turns, unknown, command_of, ComesTo}
-use Rattle.trio_app.specs.Turns.{Turns, TurnsComesTo, ListsDirectory}
+use Rattle.trio_app.specs.Turns.{TurnsComesTo, ListsDirectory}
 use Rattle.trio_app.specs.Main.{Main}
 use Rattle.trio_app.specs.Causes.{ReadFaultCause, WriteFaultCause, TurnsReady}
 

@@ -1,5 +1,5 @@
 -- How a run ends, and what the whole work comes to.
-use Rattle.std.proofs.Common.{◌≡◌, ◌≢◌, ℕ, ◌≤◌, List, [], ◌++◌, Option, None, Bool, inl, inr, refl, sym, ap, subst, ◌∙◌, append_assoc, arith}
+use Rattle.std.proofs.Common.{◌≡◌, ℕ, List, [], ◌++◌, Option, Bool, inl, inr, refl, sym, ap, subst, ◌∙◌, append_assoc, arith}
 use Rattle.std.specs.Prelude.{codes, IsTrue}
 use Rattle.trio_io.specs.Shelf.{Shelf, Rose, RisesAt, KeepsOthers, told}
 use Rattle.trio_layout.specs.declared.superblock.Superblock.{Superblock}
@@ -20,10 +20,10 @@ use Rattle.trio_app.specs.declared.stop.Stop.{Stop}
 use Rattle.trio_app.specs.declared.stop.Stop.TheVariants.{ImageFault, ImageNotBuilt, NotVerified, ScriptFault, ScriptNotBuilt, LineNotBuilt, NoMemory}
 use Rattle.trio_app.specs.Inputs.{ReadsBoth}
 use Rattle.trio_app.specs.Lines.{write_fault_line}
-use Rattle.trio_app.specs.Report.{counts_of, report_text}
+use Rattle.trio_app.specs.Report.{counts_of}
 use Rattle.trio_app.specs.RunEnd.{IsRunEnd}
 use Rattle.trio_app.specs.Stop.{InputStop, ReadsImage, ReadsScript, ToldStop, line_of, status_of}
-use Rattle.trio_app.specs.Turns.{Turns, TurnsComesTo, TurnsCounts, TurnsDone, TurnsKeeps, HasLength, ImageIsBuilt, RunsTo, libraries}
+use Rattle.trio_app.specs.Turns.{Turns, TurnsComesTo, TurnsCounts, TurnsKeeps, libraries}
 use Rattle.trio_app.proofs.Trees.{tree_same}
 
 -- ---- a run

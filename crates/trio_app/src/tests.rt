@@ -264,21 +264,28 @@ fn other_words(rt: HostRuntime) -> Result<(), Fail> {
     Ok(())
 }
 
+// How a run ends over the forms that never fail, with the files and the sink.
+fn run_surely(alloc: Global, image: Vec<u8>) -> Result<(u8, SureFiles, SureSink), NoMemory> {
+    let words = words_of(alloc, &WORDS)?;
+    let names = copy_words(alloc, &words)?;
+    let mut files = SureFiles::new(alloc, names)?;
+    files.hold("first.img", image);
+    files.hold("script", SCRIPT.to_vec(alloc)?);
+    let mut out = SureSink::new(alloc);
+    let status = sure_main(alloc, &words, &mut files, &mut out);
+    Ok((status, files, out))
+}
+
 #[test]
 fn sure_forms(rt: HostRuntime) -> Result<(), Fail> {
-    let alloc = rt.alloc();
-    for (size, status, text) in [(IMAGE_SIZE, 0, REPORT), (4095, 1, b"not verified\n")] {
-        let words = words_of(alloc, &WORDS)?;
-        let names = copy_words(alloc, &words)?;
-        let mut files = SureFiles::new(alloc, names)?;
-        let image = image(alloc, size, &[])?;
-        files.hold("first.img", image.to_vec(alloc)?);
-        files.hold("script", SCRIPT.to_vec(alloc)?);
-        let mut out = SureSink::new(alloc);
-        assert_eq!(rt; sure_main(alloc, &words, &mut files, &mut out), status);
-        assert_eq!(rt; out.bytes(), text);
-        let written = files.content("o p") == Some(image.as_slice());
-        assert_eq!(rt; written, status == 0);
-    }
+    let whole = image(rt.alloc(), IMAGE_SIZE, &[])?;
+    let (status, files, out) = run_surely(rt.alloc(), whole.to_vec(rt.alloc())?)?;
+    assert_eq!(rt; status, 0);
+    assert_eq!(rt; out.bytes(), REPORT);
+    assert!(rt; files.content("o p") == Some(whole.as_slice()));
+    let (status, files, out) = run_surely(rt.alloc(), image(rt.alloc(), 4095, &[])?)?;
+    assert_eq!(rt; status, 1);
+    assert_eq!(rt; out.bytes(), b"not verified\n".as_slice());
+    assert!(rt; files.content("o p") == Some(b"".as_slice()));
     Ok(())
 }

@@ -1,4 +1,4 @@
-use Rattle.std.proofs.Common.{◌≡◌, sym, ◌∙◌}
+use Rattle.std.proofs.Common.{sym, ◌∙◌}
 use Rattle.std.proofs.lemmas.Result.{err_from_is_err_and}
 use Rattle.trio_app.proofs.Judged.{read_stop, verified_image, verify_stop}
 use Rattle.trio_app.proofs.inputs.built_image.Goals as goal

@@ -1,4 +1,4 @@
-use Rattle.std.proofs.Common.{refl, rules, ◌≡◌}
+use Rattle.std.proofs.Common.{refl}
 use Rattle.trio_app.specs.declared.status.Status.TheVariants.{NotBuilt}
 use Rattle.trio_app.specs.Lines.{not_built_words}
 use Rattle.trio_app.proofs.plain.plain_main.Goals as goal

@@ -1,4 +1,4 @@
-use Rattle.std.proofs.Common.{◌≡◌, IsTrue, subst}
+use Rattle.std.proofs.Common.{IsTrue, subst}
 use Rattle.trio_layout.specs.Superblock.{superblock_fits}
 use Rattle.trio_image.specs.Image.{ImagePages}
 use Rattle.trio_app.proofs.Ends.{run_end}
