@@ -1,0 +1,99 @@
+-- What is free, number by number.
+use Rattle.std.proofs.Common.{◌≡◌, ℕ, zero, suc, ◌+◌, ◌-◌, ◌<◌, ◌≤◌, Bool, false, cond, if◌then◌else◌, List, [], ◌∷◌, ◌++◌, Option, length, drop, take, get_or, ◌⊎◌, inl, inr, refl, sym, ap, ◌∙◌, arith, slice_index, ◌≢◌, ◌&&◌, not, is_some}
+use Rattle.std.specs.List.{filter}
+use Rattle.std.proofs.lemmas.Bool.{cases_lt, ne_eqb}
+use Rattle.std.proofs.lemmas.List.{drop_more, drop_all, take_more}
+use Rattle.trio_rights.specs.Row.{Row}
+use Rattle.trio_rights.specs.declared.rights.LibNo.{LibNo}
+use Rattle.trio_allot.specs.Free.{count_up, numbers_where, is_free_page, free_pages, is_free_number, free_numbers}
+use Rattle.trio_allot.specs.Out.{lib_at}
+
+pub where_step : (test : ℕ → Bool) (from end : ℕ) → from < end
+    → numbers_where test from end ≡ (if test from then from ∷ numbers_where test (from + 1) end else numbers_where test (from + 1) end)
+where_step test from end lt =
+    let left : end - from ≡ suc (end - (from + 1)) = omega arith in
+    let next : suc from ≡ from + 1 = omega arith in
+    ap (λ n. filter test (count_up from n)) left
+    ∙ ap (λ k. if test from then from ∷ filter test (count_up k (end - (from + 1))) else filter test (count_up k (end - (from + 1)))) next
+
+pub where_end : (test : ℕ → Bool) (from end : ℕ) → end ≤ from → numbers_where test from end ≡ []
+where_end test from end le =
+    let none : end - from ≡ 0 = omega arith in
+    ap (λ n. filter test (count_up from n)) none
+
+-- tests that agree from a number on keep the same numbers from there on
+pub where_same : (test other : ℕ → Bool) (from end : ℕ) → ((n : ℕ) → from ≤ n → n < end → test n ≡ other n) → numbers_where test from end ≡ numbers_where other from end
+where_same test other from end same = by from (end - from) (λ n le lt. same n le (omega (arith, le, lt)))
+  where
+    by : (from n : ℕ) → ((k : ℕ) → from ≤ k → k < from + n → test k ≡ other k) → filter test (count_up from n) ≡ filter other (count_up from n)
+    by from zero same = refl
+    by from (suc n) same =
+        ap (λ b. cond b (from ∷ filter test (count_up (suc from) n)) (filter test (count_up (suc from) n))) (same from (omega arith) (omega arith))
+        ∙ ap (λ l. cond (other from) (from ∷ l) l) (by (suc from) n (λ k le lt. same k (omega (arith, le)) (omega (arith, lt))))
+
+-- where none below a number passes, it may as well begin there
+pub where_skip : (test : ℕ → Bool) (first end : ℕ) → first ≤ end → ((n : ℕ) → n < first → test n ≡ false) → numbers_where test 0 end ≡ numbers_where test first end
+where_skip test zero end le none = refl
+where_skip test (suc first) end le none =
+    where_skip test first end (omega (arith, le)) (λ n lt. none n (omega (arith, lt)))
+    ∙ where_step test first end (omega (arith, le))
+    ∙ ap (λ b. if b then first ∷ numbers_where test (first + 1) end else numbers_where test (first + 1) end) (none first (omega arith))
+    ∙ (let e : first + 1 ≡ suc first = omega arith in ap (λ k. numbers_where test k end) e)
+
+-- one more of the free numbers: it is the one at i, and the rest are those behind it
+pub record Next (free rest : List ℕ) (i n : ℕ) : Type 0 where
+  pub below : i < length free
+  pub taken : take (i + 1) free ≡ take i free ++ n ∷ []
+  pub left : drop (i + 1) free ≡ rest
+
+pub next_of : (free : List ℕ) (i n : ℕ) (rest : List ℕ) → drop i free ≡ n ∷ rest → Next free rest i n
+next_of free i n rest e =
+    let below : i < length free = by (cases_lt i (length free)) in
+    let read = drop_more free i 0 below in
+    let here : get_or free i 0 ≡ n = ap (λ xs. get_or xs 0 0) (sym read ∙ e) in
+    record {
+      below = below;
+      taken = take_more free i 0 below ∙ ap (λ x. take i free ++ x ∷ []) here;
+      left = ap (drop 1) (sym read ∙ e);
+    }
+  where
+    by : ((i < length free) ⊎ (length free ≤ i)) → i < length free
+    by (inl lt) = lt
+    by (inr le) = grind (arith, drop_all i free le, e)
+
+pub not_empty : (free : List ℕ) (i : ℕ) → i < length free → drop i free ≡ [] → ⊥
+not_empty free i lt e = grind (arith, drop_more free i 0 lt, e)
+
+-- the next one by a test, by another that agrees with it from here on
+pub next_same : (test other : ℕ → Bool) (from end n : ℕ) → ((m : ℕ) → from ≤ m → m < end → test m ≡ other m) → from ≤ n
+    → numbers_where test from end ≡ n ∷ numbers_where test (n + 1) end → numbers_where other from end ≡ n ∷ numbers_where other (n + 1) end
+next_same test other from end n same le e =
+    sym (where_same test other from end same) ∙ e
+    ∙ ap (λ l. n ∷ l) (where_same test other (n + 1) end (λ m more lt. same m (omega (arith, le, more)) lt))
+
+-- ---- for callers that count and test in words of their own
+
+-- a count that has the equations of `count_up` is the same
+pub count_is : (count : ℕ → ℕ → List ℕ) → ((from : ℕ) → count from 0 ≡ []) → ((from n : ℕ) → count from (suc n) ≡ from ∷ count (suc from) n)
+    → (from n : ℕ) → count from n ≡ count_up from n
+count_is count none more from zero = none from
+count_is count none more from (suc n) = more from n ∙ ap (λ l. from ∷ l) (count_is count none more (suc from) n)
+
+-- The free pages are the core pages that pass a test which agrees on them. The pages below the first core page have an owner.
+pub free_pages_are : (owners : List ℕ) (outs : List (Option LibNo)) (first end : ℕ) (test : ℕ → Bool)
+    → length owners ≡ end → first ≤ end → ((n : ℕ) → n < first → slice_index owners n ≢ 0)
+    → ((n : ℕ) → first ≤ n → n < end → test n ≡ is_free_page owners outs n)
+    → filter test (count_up first (end - first)) ≡ free_pages owners outs
+free_pages_are owners outs first end test size le owned same =
+    where_same test (is_free_page owners outs) first end same
+    ∙ sym (where_skip (is_free_page owners outs) first end le (λ n lt. ap (λ b. b && not (is_some (lib_at outs n))) (ne_eqb (slice_index owners n) 0 (owned n lt))))
+    ∙ ap (numbers_where (is_free_page owners outs) 0) (sym size)
+
+-- the free numbers are those of the table that pass a test which agrees on them
+pub free_numbers_are : (rows : List (Option Row)) (outs : List (Option LibNo)) (inodes : ℕ) (test : ℕ → Bool)
+    → length rows ≡ inodes + 1 → ((n : ℕ) → 1 ≤ n → n ≤ inodes → test n ≡ is_free_number rows outs n)
+    → filter test (count_up 1 inodes) ≡ free_numbers rows outs
+free_numbers_are rows outs inodes test size same =
+    let many : inodes ≡ length rows - 1 = omega (arith, size) in
+    ap (λ k. filter test (count_up 1 k)) many
+    ∙ where_same test (is_free_number rows outs) 1 (length rows) (λ n le lt. same n le (omega (arith, size, lt)))

@@ -1,0 +1,10 @@
+use Rattle.std.proofs.Common.{◌≡◌, ◌+◌, ◌≤◌, length}
+use Rattle.trio_allot.specs.Free.{is_free_page, free_pages, numbers_where}
+use Rattle.trio_allot.proofs.allot.Allotments.free_pages.Given as goal
+
+-- those counted, and those from here on, are all
+abbrev pub invariant-loop-no : goal.invariant-loop-no
+invariant-loop-no l = record {
+  counted : l.free + length (numbers_where (is_free_page l.owners l.self.pages) l.no (length l.owners)) ≡ length (free_pages l.owners l.self.pages);
+  few : l.free ≤ l.no;
+}

@@ -1,0 +1,56 @@
+-- What is out by allotment, and how it goes out and comes back.
+use Rattle.std.specs.Prelude.{◌≢◌, ℕ, zero, suc, ◌+◌, List, [], ◌∷◌, map, replicate, Option, None, Some, IsSome, All, AllPairs, slice_index_or, slice_set}
+use Rattle.trio_page.specs.Field.{zeros}
+use Rattle.trio_page.specs.Home.{raised}
+use Rattle.trio_rights.specs.declared.rights.LibNo.{LibNo}
+use Rattle.trio_lease.specs.declared.parts.FreshParts.{FreshParts}
+use Rattle.trio_lease.specs.declared.parts.InoParts.{InoParts}
+
+-- by page number and by inode number, the library that has it out, or None where it isn't out
+pub record OutTo : Type 0 where
+  pub pages : List (Option LibNo)
+  pub numbers : List (Option LibNo)
+
+-- nothing is out of so many pages and so many inode numbers; the number 0 has its place, and is none
+abbrev pub none_out : ℕ → ℕ → OutTo
+none_out pages inodes = record { pages = replicate pages None; numbers = replicate (inodes + 1) None }
+
+-- the library that has this number out; None where it isn't out, as past the end
+abbrev pub lib_at : List (Option LibNo) → ℕ → Option LibNo
+lib_at outs n = slice_index_or outs n None
+
+-- the list with the same x at each of these places
+abbrev pub with_all : {X : Type 0} → X → List ℕ → List X → List X
+with_all x [] xs = xs
+with_all x (n ∷ ns) xs = with_all x ns (slice_set xs n x)
+
+-- a page that goes out: its number, and all zero bytes
+abbrev pub fresh_page : LibNo → ℕ → FreshParts
+fresh_page lib n = record { lib = lib; no = record { 0 = n }; page = zeros 4096 }
+
+-- an inode number that goes out
+abbrev pub fresh_number : LibNo → ℕ → InoParts
+fresh_number lib n = record { lib = lib; no = n }
+
+-- a count after so many more looks
+abbrev pub raised_by : ℕ → ℕ → ℕ
+raised_by zero n = n
+raised_by (suc k) n = raised (raised_by k n)
+
+-- the numbers of the pages, in their order
+abbrev pub page_numbers : List FreshParts → List ℕ
+page_numbers back = map (λ f. f.no.0) back
+
+-- the inode numbers, in their order
+abbrev pub inode_numbers : List InoParts → List ℕ
+inode_numbers back = map (λ f. f.no) back
+
+-- each of these numbers is out, and stands among them once
+pub record AreOut (outs : List (Option LibNo)) (ns : List ℕ) : Type 0 where
+  pub out : All (λ n. IsSome (lib_at outs n)) ns
+  pub once : AllPairs (λ m n. m ≢ n) ns
+
+-- the pages of an image with these in place, each as it is
+abbrev pub with_pages : List FreshParts → List (Option (List ℕ)) → List (Option (List ℕ))
+with_pages [] pages = pages
+with_pages (f ∷ fs) pages = with_pages fs (slice_set pages f.no.0 (Some f.page))

@@ -1,0 +1,60 @@
+-- Copies of pages, in the words of the state.
+use Rattle.std.proofs.Common.{◌≡◌, ℕ, Bool, true, false, ◌&&◌, cond, List, [], ◌∷◌, ◌++◌, All, get_or, Option, Some, None, IsSome, IsTrue, is_some, sym, refl, ap, ◌∙◌}
+use Rattle.std.proofs.lemmas.Bool.{false≢true, and_parts, and_from}
+use Rattle.std.proofs.lemmas.List.Elements.{All-nil, All-cons, All-head, All-tail, All-push}
+use Rattle.std.proofs.lemmas.List.{append-nil, map-append}
+use Rattle.std.proofs.lemmas.List.Folds.{list_all-append}
+use Rattle.trio_nodes.specs.declared.grant.GrantKind.TheVariants.{Write}
+use Rattle.trio_rights.specs.declared.kind.Kind.{Kind}
+use Rattle.trio_rights.specs.declared.kind.Kind.TheVariants.{Regular, Directory}
+use Rattle.trio_layout.specs.Range.{is_core}
+use Rattle.trio_layout.specs.Core.{Core, page_of}
+use Rattle.trio_state.specs.Sheets.{Sheet, sheet_numbers}
+use Rattle.trio_state.specs.Grants.{sheets_of}
+use Rattle.trio_state.specs.State.{covered}
+use Rattle.trio_checkpoint.specs.Covered.{are_there, covered_numbers}
+use Rattle.trio_checkpoint.specs.Steps.{AllStand, AreCopies, IsCopy}
+
+-- a core page that is there stands at its number
+pub at_its_number : (core : Core) (n : ℕ) → IsSome (page_of core n) → page_of core n ≡ get_or core.pages n None
+at_its_number core n h = by (is_core core.range n) h
+  where
+    by : (b : Bool) → IsSome (cond b (get_or core.pages n None) None) → cond b (get_or core.pages n None) None ≡ get_or core.pages n None
+    by true h = refl
+    by false h = absurd (false≢true h)
+
+pub all_stand : (core : Core) (ns : List ℕ) → IsTrue (are_there core ns) → AllStand core.pages ns
+all_stand core [] h = All-nil (λ n. IsSome (get_or core.pages n None))
+all_stand core (n ∷ ns) h =
+    let parts = and_parts (is_some (page_of core n)) (are_there core ns) h in
+    All-cons (λ n. IsSome (get_or core.pages n None)) n ns (ap is_some (sym (at_its_number core n parts.0)) ∙ parts.0) (all_stand core ns parts.1)
+
+numbered : (core : Core) (xs : List Sheet) → All (IsCopy core.pages) xs → IsTrue (are_there core (sheet_numbers xs)) → xs ≡ sheets_of core (sheet_numbers xs)
+numbered core [] h t = refl
+numbered core (x ∷ xs) h t =
+    let parts = and_parts (is_some (page_of core x.page)) (are_there core (sheet_numbers xs)) t in
+    let page : page_of core x.page ≡ Some x.bytes = at_its_number core x.page parts.0 ∙ All-head (IsCopy core.pages) x xs h in
+    rw page (ap (λ ys. x ∷ ys) (numbered core xs (All-tail (IsCopy core.pages) x xs h) parts.1))
+
+-- copies of core pages are the sheets of their numbers
+pub copies_are_sheets : (core : Core) (ns : List ℕ) (xs : List Sheet) → AreCopies core.pages ns xs → IsTrue (are_there core ns) → xs ≡ sheets_of core ns
+copies_are_sheets core ns xs h t =
+    numbered core xs h.copied (rw (← h.numbered) at t) ∙ ap (sheets_of core) h.numbered
+
+-- one copy more
+pub one_copy_more : (pages : List (Option (List ℕ))) (ns : List ℕ) (xs : List Sheet) (n : ℕ) (x : Sheet) → AreCopies pages ns xs → x.page ≡ n → IsCopy pages x → AreCopies pages (ns ++ n ∷ []) (xs ++ x ∷ [])
+one_copy_more pages ns xs n x h e copy = record {
+  numbered = map-append (λ (y : Sheet). y.page) xs (x ∷ []) ∙ rw (e, h.numbered) refl;
+  copied = All-push (IsCopy pages) xs x h.copied copy;
+}
+
+-- one page more that is there
+pub one_more_there : (core : Core) (ns : List ℕ) (n : ℕ) → IsTrue (are_there core ns) → IsSome (page_of core n) → IsTrue (are_there core (ns ++ n ∷ []))
+one_more_there core ns n h some =
+    list_all-append (λ page. is_some (page_of core page)) ns (n ∷ [])
+    ∙ and_from (are_there core ns) (is_some (page_of core n) && true) h (and_from (is_some (page_of core n)) true some refl)
+
+-- what a write grant covers of these index pages and of the blocks of these numbers
+pub covered_are : (core : Core) (kind : Kind) (index : List Sheet) (blocks : List ℕ) → index ++ sheets_of core (covered_numbers kind blocks) ≡ covered Write kind index (sheets_of core blocks)
+covered_are core Regular index blocks = append-nil index
+covered_are core Directory index blocks = refl

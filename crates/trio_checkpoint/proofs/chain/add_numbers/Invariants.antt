@@ -1,0 +1,5 @@
+use Rattle.std.proofs.Common.{◌≡◌, ◌++◌, take}
+use Rattle.trio_checkpoint.proofs.chain.add_numbers.Given as goal
+
+abbrev pub invariant-loop-i : goal.invariant-loop-i
+invariant-loop-i l = l.blocks.items ≡ l.initial.blocks.items ++ take l.i l.index.numbers

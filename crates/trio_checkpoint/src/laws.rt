@@ -1,0 +1,13 @@
+//! The laws of checkpoints: the body of each function is empty, and its contract is the law.
+
+ghost use Rattle.trio_checkpoint.specs.Laws.{RenewingSettles, RestoringKeeps};
+
+/// A checkpoint that is taken and then restored leaves the pages at home as they were.
+pub fn restoring_keeps()
+    ensures law { RestoringKeeps }
+{}
+
+/// A body that is put into a covered page is the body at that place once the page is put back.
+pub fn renewing_settles()
+    ensures law { RenewingSettles }
+{}
