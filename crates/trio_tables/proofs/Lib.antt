@@ -2,3 +2,4 @@ mod RowLemmas
 mod TableLemmas
 mod CellLemmas
 mod StoredLemmas
+mod MayLemmas

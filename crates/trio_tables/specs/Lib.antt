@@ -1,3 +1,4 @@
 pub mod Row
 pub mod Tables
 pub mod Stored
+pub mod Climb

@@ -1,8 +1,11 @@
 //! The shadow table: the row of each live inode number.
 
-ghost use Rattle.std.specs.Prelude.{◌≡◌, ℕ, ◌+◌, ◌-◌, ◌*◌, ◌/◌, ◌<◌, ◌≤◌, ◌↔◌, IsTrue, IsNone, IfNone, IfSome, IfOk, count_by, is_some, length, map, slice_set};
+ghost use Rattle.std.specs.Prelude.{◌≡◌, ℕ, ◌==◌, MatchResult, None, Some, if◌then◌else◌, ◌+◌, ◌-◌, ◌*◌, ◌/◌, ◌<◌, ◌≤◌, ◌↔◌, IsTrue, IsNone, IfNone, IfSome, IfOk, count_by, is_some, length, map, slice_set};
 ghost use Rattle.std.specs.Option.{option_map};
 ghost use Rattle.trio_rights.specs.Row.{row_in};
+ghost use Rattle.trio_rights.specs.May.{denier, row_permits};
+ghost use Rattle.trio_rights.specs.declared.rights.Need.TheVariants.{Read};
+ghost use Rattle.trio_tables.specs.Climb.{parent_in};
 ghost use Rattle.trio_page.specs.Field.{with_part};
 ghost use Rattle.trio_tables.specs.Row.{as_row, row_bytes};
 ghost use Rattle.trio_tables.specs.Stored.{page_at, padded_to_pages, shadow_bytes, HasRow, RowDiffers};
@@ -13,6 +16,7 @@ use std::alloc::Global;
 use std::marker::Model;
 use trio_page::field::put_bytes_in;
 use trio_page::{NoMemory, PAGE_SIZE, Page};
+use trio_rights::{Creds, Need, may};
 
 /// The rows of the inode numbers from 1 up to the number of inodes, at most 16,384. A number
 /// without a row is not live.
@@ -74,6 +78,47 @@ impl Shadow {
         ensures { self.new ≡ slice_set self.old ino (option_map as_row row) }
     {
         self.rows[ino as usize] = row;
+    }
+
+    /// Whether a library may reach and use a file: every proper ancestor has to give `Read`, because
+    /// a library walks by reading, and the file itself `need`. The refusal is the first number from
+    /// the root downward that denies; a number that is not live gives nothing.
+    ///
+    /// The climb goes over the rows' parents, and takes at most as many steps as the table has numbers.
+    pub fn may(&self, creds: Creds, ino: u32, need: Need) -> Result<(), u32>
+        ensures { MatchResult result (λ _. denier self.now creds ino need ≡ None) (λ n. denier self.now creds ino need ≡ Some n) }
+    {
+        let mut denier = self.denied_at(creds, ino, ino, need);
+        let mut parent = self.parent(ino);
+        let mut left = self.inodes() + 1;
+        while left > 0 && parent != 0 {
+            denier = self.denied_at(creds, parent, ino, need).or(denier);
+            parent = self.parent(parent);
+            left -= 1;
+        }
+        match denier {
+            None => Ok(()),
+            Some(denier) => Err(denier),
+        }
+    }
+
+    // a number on the way to `ino`, where its row doesn't give what is needed: of `ino` itself `need`,
+    // of every other number `Read`
+    fn denied_at(&self, creds: Creds, no: u32, ino: u32, need: Need) -> Option<u32>
+        ensures { result ≡ (if row_permits creds (if no == ino then need else Read) (row_in self.now no) then None else Some no) }
+    {
+        let asked = if no == ino { need } else { Need::Read };
+        match self.row(no) {
+            Some(row) if may(creds, row.kind, row.mode, row.uid, row.gid, asked) => None,
+            _ => Some(no),
+        }
+    }
+
+    // the directory that lists a file; 0 for the root, and for a number that is not live
+    fn parent(&self, ino: u32) -> u32
+        ensures { result ≡ parent_in (row_in self.now ino) }
+    {
+        self.row(ino).map_or(0, |row| row.parent)
     }
 
     /// How many live files name this inode number as the directory that lists them.

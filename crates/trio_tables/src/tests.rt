@@ -1,7 +1,7 @@
 use super::*;
 use std::test::Fail;
 use trio_page::{Page, PageNo};
-use trio_rights::{Kind, Mode};
+use trio_rights::{Creds, Kind, Mode, Need};
 
 /// A directory of mode 755, uid 1001 and gid 5 that the directory 7 lists in slot 3 of page 258.
 const ROW: Row = Row {
@@ -109,5 +109,65 @@ fn pages_by_hand(rt: HostRuntime) -> Result<(), Fail> {
     owners.write_page(0, &mut page);
     assert_eq!(rt; page.u32_at(16), CONTROLLER);
     assert_eq!(rt; page.u32_at(20), 0);
+    Ok(())
+}
+
+/// `/` is 1, `/a` 2 and `/a/f` 3, which belong to uid 1001 and gid 5.
+#[test]
+fn the_first_that_denies(rt: HostRuntime) -> Result<(), Fail> {
+    let mut rows = Shadow::new(rt.alloc(), 8).ok().ok_or("memory")?;
+    let root = Row {
+        parent: 0,
+        uid: 0,
+        gid: 0,
+        ..ROW
+    };
+    rows.set(1, Some(root));
+    rows.set(
+        2,
+        Some(Row {
+            parent: 1,
+            mode: Mode(0o750),
+            ..ROW
+        }),
+    );
+    let file = Row {
+        parent: 2,
+        kind: Kind::Regular,
+        mode: Mode(0o640),
+        ..ROW
+    };
+    rows.set(3, Some(file));
+    let owner = Creds { uid: 1001, gid: 5 };
+    let group = Creds { uid: 7, gid: 5 };
+    let other = Creds { uid: 7, gid: 7 };
+    let all = Creds { uid: 0, gid: 7 };
+    let cases = [
+        (owner, 3, Need::Write, Ok(())),
+        (group, 3, Need::Read, Ok(())),
+        (group, 3, Need::Write, Err(3)),
+        (other, 3, Need::Read, Err(2)),
+        (other, 1, Need::Read, Ok(())),
+        (other, 1, Need::Write, Err(1)),
+        (all, 3, Need::Write, Ok(())),
+        // not live
+        (all, 4, Need::Read, Err(4)),
+    ];
+    for (creds, ino, need, wanted) in cases {
+        assert!(rt;
+            rows.may(creds, ino, need) == wanted,
+            "{ino} by uid {}",
+            creds.uid
+        );
+    }
+    // the root denies all but reading
+    rows.set(
+        1,
+        Some(Row {
+            mode: Mode(0o700),
+            ..root
+        }),
+    );
+    assert!(rt; rows.may(owner, 3, Need::Read) == Err(1));
     Ok(())
 }
