@@ -1,5 +1,5 @@
 //! Words that the controller, its libraries and its history share: kinds of grant, the holder of a
-//! grant, and the answers of the controller's calls.
+//! grant, the answers of the controller's calls, and the spots of what a library has.
 //!
 //! The controller answers with these types, a session reads them, and the history keeps them, so
 //! they stand below all three.
@@ -7,6 +7,8 @@
 
 mod answers;
 mod grant;
+mod spot;
 
 pub use answers::{AllotFault, GrantFault, ModeFault, ReleaseAnswer, ReleaseFault};
 pub use grant::{GrantKind, Holder};
+pub use spot::Spot;

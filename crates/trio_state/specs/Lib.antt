@@ -15,3 +15,4 @@ pub mod Given
 pub mod Run
 pub mod Stored
 pub mod Tree
+pub mod Handed
