@@ -35,7 +35,7 @@ pub new_filter : {X : Type 0} (f : X → ℕ) (p : X → Bool) (xs : List X) (se
 new_filter f p [] seen h = refl
 new_filter f p (x ∷ xs) seen h = new_filter_step f p x xs seen (p x) h (λ more e. new_filter f p xs more e)
 
-blank_numbers : (xs : List Sheet) → sheet_numbers (map blank xs) ≡ sheet_numbers xs
+pub blank_numbers : (xs : List Sheet) → sheet_numbers (map blank xs) ≡ sheet_numbers xs
 blank_numbers [] = refl
 blank_numbers (x ∷ xs) = ap (λ l. x.page ∷ l) (blank_numbers xs)
 
@@ -53,6 +53,23 @@ pairs_like xs ys e h i j d l m =
     let one : MayBothStand (lent_part (get_or xs i d)) (lent_part (get_or ys j d)) = subst (λ x. R x (lent_part (get_or ys j d))) (sym (at i il iy)) base in
     let two : MayBothStand (lent_part (get_or xs i d)) (lent_part (get_or xs j d)) = subst (λ x. R (lent_part (get_or xs i d)) x) (sym (at j m jy)) one in
     two
+
+module _ (s : State) (k : Kept s) (lib : ℕ) (b : Bundle) (given : GivenTo s lib b) where
+  -- a write grant of the bundle is that of one of its written files
+  pub bundle_write : (g : OpenGrant) → In g s.open_grants → g.kind ≡ Write → is_in_bundle lib b g ≡ true → (w : Written) × (i : In w b.writes) × ((given.writes w i).grant ≡ g)
+  bundle_write g i kind in' =
+      let parts = and_parts (eqb g.lib lib) ((is_write g.kind && is_written b g.ino) || (is_hold g.kind && is_among g.ino b.holds)) in' in
+      elim (or_cases (is_write g.kind && is_written b g.ino) (is_hold g.kind && is_among g.ino b.holds) parts.1) [
+        | inl written ↦ by_find (find (λ (w : Written). eqb w.ino g.ino) b.writes) refl (and_parts (is_write g.kind) (is_written b g.ino) written).1
+        | inr held ↦ (let no : false ≡ true = sym (ap is_hold kind) ∙ (and_parts (is_hold g.kind) (is_among g.ino b.holds) held).0 in absurd (false≢true no))
+      ]
+    where
+      by_find : (o : Option Written) → find (λ (w : Written). eqb w.ino g.ino) b.writes ≡ o → is_some o ≡ true → (w : Written) × (i : In w b.writes) × ((given.writes w i).grant ≡ g)
+      by_find None f t = absurd (false≢true t)
+      by_find (Some w) f t =
+          let q = found (λ (w : Written). eqb w.ino g.ino) b.writes w f in
+          let x = given.writes w q.0 in
+          (w, q.0, write_alone s.open_grants x.grant g k.apart x.is_open i x.kind (x.ino ∙ eqb-true w.ino g.ino q.1))
 
 module _ (s s' : State) (k : Kept s) (lib : ℕ) (b : Bundle) (given : GivenTo s lib b) (image' : Image) (e : Ends s lib b image' s') where
   -- a grant that is open then was open, and isn't one of the bundle's
@@ -85,19 +102,7 @@ module _ (s s' : State) (k : Kept s) (lib : ℕ) (b : Bundle) (given : GivenTo s
 
   -- a write grant of the bundle is that of one of its written files
   pub write_in_bundle : (g : OpenGrant) → In g s.open_grants → g.kind ≡ Write → is_in_bundle lib b g ≡ true → (w : Written) × (i : In w b.writes) × ((given.writes w i).grant ≡ g)
-  write_in_bundle g i kind in' =
-      let parts = and_parts (eqb g.lib lib) ((is_write g.kind && is_written b g.ino) || (is_hold g.kind && is_among g.ino b.holds)) in' in
-      elim (or_cases (is_write g.kind && is_written b g.ino) (is_hold g.kind && is_among g.ino b.holds) parts.1) [
-        | inl written ↦ by_find (find (λ (w : Written). eqb w.ino g.ino) b.writes) refl (and_parts (is_write g.kind) (is_written b g.ino) written).1
-        | inr held ↦ (let no : false ≡ true = sym (ap is_hold kind) ∙ (and_parts (is_hold g.kind) (is_among g.ino b.holds) held).0 in absurd (false≢true no))
-      ]
-    where
-      by_find : (o : Option Written) → find (λ (w : Written). eqb w.ino g.ino) b.writes ≡ o → is_some o ≡ true → (w : Written) × (i : In w b.writes) × ((given.writes w i).grant ≡ g)
-      by_find None f t = absurd (false≢true t)
-      by_find (Some w) f t =
-          let q = found (λ (w : Written). eqb w.ino g.ino) b.writes w f in
-          let x = given.writes w q.0 in
-          (w, q.0, write_alone s.open_grants x.grant g k.apart x.is_open i x.kind (x.ino ∙ eqb-true w.ino g.ino q.1))
+  write_in_bundle = bundle_write s k lib b given
 
   -- the parent's lease of a hold that stays stays
   pub parent_then : Closed s lib b → (g g' : OpenGrant) (r q : Row) → In g s.open_grants → g.kind ≡ Hold → is_in_bundle lib b g ≡ false → row_at s.home g.ino ≡ Some r → (In g.ino b.holds → ⊥) → lent_part g' ≡ lent_part g → r.parent ≡ q.parent → has_parent_grant s g.lib (Some r) ≡ true → has_parent_grant s' g'.lib (Some q) ≡ true

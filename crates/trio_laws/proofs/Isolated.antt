@@ -77,7 +77,7 @@ plain_listed Directory f p i = In-left p f.chain.index f.chain.blocks i
 plain_listed Regular f p i = i
 
 -- a file that lists entries is a directory
-regular_empty : (core : Core) (kind : Kind) (blocks : List ℕ) (es : List Listed) (l : Listed) → kind ≡ Regular → entries_of_kind core kind blocks ≡ Ok es → In l es → ⊥
+pub regular_empty : (core : Core) (kind : Kind) (blocks : List ℕ) (es : List Listed) (l : Listed) → kind ≡ Regular → entries_of_kind core kind blocks ≡ Ok es → In l es → ⊥
 regular_empty core Regular blocks es l e read i = (let none : [] ≡ es = cc read in subst (λ x. In l x) (sym none) i)
 regular_empty core Directory blocks es l e read i = absurd cc
 

@@ -39,3 +39,11 @@ pub mod Isolation
 pub mod RowSteps
 pub mod Others
 pub mod OtherSteps
+pub mod PageSlots
+pub mod AnyOrder
+pub mod Checkpoints
+pub mod Spread
+pub mod PutBack
+pub mod Standing
+pub mod Lendable
+pub mod EndLaws

@@ -114,7 +114,7 @@ module _ (core : Core) (pick : Pick) (fit : IsFit core) (sound : is_sound core p
       (low, body_sized x.kind core.range x.body f.0.body rd.body)
 
   -- what stands at a place of a directory that is met, by the page's bytes alone
-  same_place : (m x : Met) (f : FileRead) (p s : ℕ) (bytes : List ℕ) (e : EntryPart) → In m (survey core pick) → file_of core m ≡ Ok f → In p f.chain.blocks → page_of core p ≡ Some bytes → slot_of core.inodes (slot_bytes s bytes) ≡ Entry e → In x (all_listed core pick) → x.page ≡ p → x.slot ≡ s → x.body ≡ pick m.ino p s e.ino (body_in_slot s bytes)
+  pub same_place : (m x : Met) (f : FileRead) (p s : ℕ) (bytes : List ℕ) (e : EntryPart) → In m (survey core pick) → file_of core m ≡ Ok f → In p f.chain.blocks → page_of core p ≡ Some bytes → slot_of core.inodes (slot_bytes s bytes) ≡ Entry e → In x (all_listed core pick) → x.page ≡ p → x.slot ≡ s → x.body ≡ pick m.ino p s e.ino (body_in_slot s bytes)
   same_place m x f p s bytes e i read block there says listed on at =
       let parts = sound_parts core pick sound in
       let r = flat_from (children core pick) x (survey core pick) listed in

@@ -47,6 +47,16 @@ is_uncovered : (kind : Kind) (blocks : List Sheet) (x : Sheet) → kind ≡ Regu
 is_uncovered Regular blocks x e i = i
 is_uncovered Directory blocks x e i = absurd cc
 
+-- where an uncovered sheet comes from
+pub uncovered_from : (b : Bundle) (x : Sheet) → In x (uncovered b ++ b.pages) → In x b.pages ⊎ ((w : Written) × In w b.writes × (w.kind ≡ Regular) × In x w.blocks)
+uncovered_from b x i =
+    elim (In-cases x (flat_map (λ (w : Written). uncovered_of w.kind w.blocks) b.writes) b.pages i) [
+      | inl a ↦
+          let r = flat_from (λ (w : Written). uncovered_of w.kind w.blocks) x b.writes a in
+          let u = uncovered_is r.0.kind r.0.blocks x r.2 in inr (r.0, r.1, u.0, u.1)
+      | inr a ↦ inl a
+    ]
+
 -- what counts of a grant goes with its lent part
 pub lent_like : (image : Image) (g h : OpenGrant) → lent_part g ≡ lent_part h → LentIsListed image h → LentIsListed image g
 lent_like image g h e l = record {
@@ -70,19 +80,9 @@ module _ (s s' : State) (k : Kept s) (lib : ℕ) (b : Bundle) (given : GivenTo s
   abbrev after : Image
   after = refused_image (settled s) b
 
-  -- where an uncovered sheet comes from
-  uncovered_from : (x : Sheet) → In x (uncovered b ++ b.pages) → In x b.pages ⊎ ((w : Written) × In w b.writes × (w.kind ≡ Regular) × In x w.blocks)
-  uncovered_from x i =
-      elim (In-cases x (flat_map (λ (w : Written). uncovered_of w.kind w.blocks) b.writes) b.pages i) [
-        | inl a ↦
-            let r = flat_from (λ (w : Written). uncovered_of w.kind w.blocks) x b.writes a in
-            let u = uncovered_is r.0.kind r.0.blocks x r.2 in inr (r.0, r.1, u.0, u.1)
-        | inr a ↦ inl a
-      ]
-
   pub uncovered_handed : (x : Sheet) → In x (uncovered b ++ b.pages) → In x (bundle_sheets b)
   uncovered_handed x i =
-      elim (uncovered_from x i) [
+      elim (uncovered_from b x i) [
         | inl a ↦ In-right x (flat_map (λ (w : Written). w.index ++ w.blocks) b.writes) b.pages a
         | inr w ↦ In-left x (flat_map (λ (w : Written). w.index ++ w.blocks) b.writes) b.pages (In-flat (λ (w : Written). w.index ++ w.blocks) w.0 x b.writes w.1 (In-right x w.0.index w.0.blocks w.3))
       ]
@@ -103,7 +103,7 @@ module _ (s s' : State) (k : Kept s) (lib : ℕ) (b : Bundle) (given : GivenTo s
       page_same core pages p (with_pages_apart (uncovered b ++ b.pages) core.pages p
       (λ j.
       let r = map_from (λ (x : Sheet). x.page) p (uncovered b ++ b.pages) j in
-      elim (uncovered_from r.0 r.1) [
+      elim (uncovered_from b r.0 r.1) [
         | inl handed ↦
             let o = given.pages p (in_numbers b.pages r.0 p handed r.2) in
             let z : slice_index s.home.owners p ≡ 0 = ap (slice_index s.home.owners) (sym o.3) ∙ k.out_free o.0 o.1 in

@@ -5,5 +5,6 @@
 //! `specs/` holds what the laws speak of beside the definitions below, and `proofs/` their proofs.
 #![tactic(auto)]
 
+pub mod ends;
 pub mod laws;
 pub mod surveys;

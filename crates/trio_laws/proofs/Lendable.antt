@@ -1,0 +1,58 @@
+-- The pages of a live file on which no grant is open are at home.
+use Rattle.std.proofs.Common.{◌≡◌, ℕ, true, List, [], ◌++◌, length, Some, Ok, slice_get, sym, ap, ◌∙◌, subst}
+use Rattle.trio_rights.specs.Row.{Row}
+use Rattle.trio_layout.specs.Body.{body_of}
+use Rattle.trio_layout.specs.Chain.{Chain, chain_of}
+use Rattle.trio_layout.specs.Core.{Core, nowhere, page_of, there_or}
+use Rattle.trio_layout.specs.Lists.{In, are_new, result_then}
+use Rattle.trio_layout.specs.Range.{is_core}
+use Rattle.trio_layout.specs.Survey.{plain, survey, pages_of}
+use Rattle.trio_state.specs.Grants.{settled_chain}
+use Rattle.trio_state.specs.Image.{row_at, settled_body}
+use Rattle.trio_state.specs.Kept.{Kept}
+use Rattle.trio_state.specs.State.{OpenGrant, State, settled}
+use Rattle.trio_laws.specs.EndLaws.{checkpoints_of}
+use Rattle.trio_laws.proofs.Images.{MetAt, settled_body_met}
+use Rattle.trio_laws.proofs.Local.{reads_from}
+use Rattle.trio_laws.proofs.Owned.{body_sized, pages_are, pages_new, sound_parts}
+use Rattle.trio_laws.proofs.Sheets.{page_there, with_pages_apart}
+use Rattle.trio_laws.proofs.StateFacts.{checkpoint_lent, lent_file, live_met, pages_there, tables}
+
+module _ (s : State) (k : Kept s) (ino : ℕ) (r : Row) (row : row_at s.home ino ≡ Some r) (free : (g : OpenGrant) → In g s.open_grants → g.ino ≡ ino → ⊥) where
+  abbrev core : Core
+  core = (settled s).core
+
+  m : MetAt core plain ino r
+  m = live_met s k ino r row
+
+  body_is : settled_body (settled s) ino ≡ m.met.body
+  body_is =
+      ap (settled_body (settled s)) (sym m.number) ∙ settled_body_met (settled s) m.met k.fit k.verifies.sound (tables s k) m.stands
+
+  chain_is : settled_chain (settled s) r.kind ino ≡ Ok m.file.chain
+  chain_is =
+      let f = reads_from core m.met m.file m.read in
+      ap (λ kind. settled_chain (settled s) kind ino) (ap (λ (x : Row). x.kind) m.row)
+      ∙ ap (λ b. result_then (chain_of core) (there_or nowhere (body_of m.met.kind core.range b))) body_is
+      ∙ ap (λ o. result_then (chain_of core) (there_or nowhere o)) f.body
+      ∙ f.chain
+
+  -- a page of the file is in no checkpoint, and so it is at home what it is in the settled image
+  page_home : (p : ℕ) → In p (m.file.chain.index ++ m.file.chain.blocks) → (bytes : List ℕ) × (slice_get s.home.core.pages p ≡ Some (Some bytes)) × (page_of core p ≡ Some bytes) × (is_core s.home.core.range p ≡ true)
+  page_home p i =
+      let listed : In p (pages_of core m.met) = subst (λ l. In p l) (sym (pages_are core m.met m.file m.read)) i in
+      let none : (g : OpenGrant) → In g s.open_grants → g.ino ≡ m.met.ino → ⊥ = λ g j e. free g j (e ∙ m.number) in
+      let t = pages_there s k m.met p m.stands listed (λ g j w e. none g j e) in
+      let q = page_there core p t.0 t.1 in
+      let bare = with_pages_apart (checkpoints_of s.open_grants) s.home.core.pages p
+      (λ j. let c = checkpoint_lent s k p j in none c.0 c.1 (lent_file s k m.met p c.0 m.stands listed c.1 c.2 c.3)) in
+      (t.0, sym bare ∙ q.1, t.1, q.0)
+
+  pub at_home : (c : Chain) × (settled_chain (settled s) r.kind ino ≡ Ok c) × ((p : ℕ) → In p (c.index ++ c.blocks) → (bytes : List ℕ) × (slice_get s.home.core.pages p ≡ Some (Some bytes)) × (page_of core p ≡ Some bytes) × (is_core s.home.core.range p ≡ true)) × (are_new [] (c.index ++ c.blocks) ≡ true) × (length (settled_body (settled s) ino) ≡ 64)
+  at_home =
+      let paged = (sound_parts core plain k.verifies.sound).paged in
+      let new : are_new [] (m.file.chain.index ++ m.file.chain.blocks) ≡ true =
+      ap (are_new []) (sym (pages_are core m.met m.file m.read)) ∙ pages_new core (survey core plain) m.met paged m.stands in
+      let sized : length (settled_body (settled s) ino) ≡ 64 =
+      ap length body_is ∙ body_sized m.met.kind core.range m.met.body m.file.body (reads_from core m.met m.file m.read).body in
+      (m.file.chain, chain_is, page_home, new, sized)
