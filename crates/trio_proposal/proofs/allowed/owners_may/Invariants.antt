@@ -1,0 +1,7 @@
+use Rattle.std.proofs.Common.{◌≤◌, ◌<◌, ℕ, IsTrue, false, slice_index_or}
+use Rattle.trio_proposal.specs.Steps.{owner_may}
+use Rattle.trio_proposal.proofs.allowed.owners_may.Given as goal
+
+abbrev pub invariant-loop-page : goal.invariant-loop-page
+invariant-loop-page l =
+    (p : ℕ) → l.fn.range.first ≤ p → p < l.page → IsTrue (owner_may l.rows l.handed.written.items (slice_index_or l.handed.pages.items p false) (slice_index_or l.owners p 0))

@@ -1,0 +1,23 @@
+use Rattle.std.proofs.Common.{map, refl, sym, ◌∙◌}
+use Rattle.trio_state.specs.Handed.{lent_sheet}
+use Rattle.trio_state.specs.Sheets.{Sheet}
+use Rattle.trio_proposal.proofs.Fitting.{fit_all, fit_more}
+use Rattle.trio_proposal.proofs.Puts.{lent_past, lent_past_page, lent_there}
+use Rattle.trio_proposal.proofs.checks.index_fits.Goals as goal
+
+pub loop-i-preserved : goal.loop-i-preserved
+loop-i-preserved c =
+    let pages = c.args.lease.now.stands.index in
+    let x : Sheet = record { page = c.in-Some.no.0; bytes = c.in-Some-index.page.now } in
+    let there = lent_there pages c.loop-i.i c.in-Some.no c.in-Some-index.page.now c.in-Some.ensures c.in-Some-index.ensures in
+    fit_more c.args.count (map lent_sheet pages) c.loop-i.i x there c.loop-i.invariant (c.if-not-page_fits.ensures refl)
+
+pub returns-in_default : goal.returns-in_default
+returns-in_default c = λ done.
+    fit_all c.args.count (map lent_sheet c.args.lease.now.stands.index) c.loop-i.i c.loop-i.invariant
+    (lent_past c.args.lease.now.stands.index c.loop-i.i (sym c.in_default.is ∙ c.index_no.ensures))
+
+pub returns-in_default-index : goal.returns-in_default-index
+returns-in_default-index c = λ done.
+    fit_all c.args.count (map lent_sheet c.args.lease.now.stands.index) c.loop-i.i c.loop-i.invariant
+    (lent_past_page c.args.lease.now.stands.index c.loop-i.i (rw c.in_default-index.is at c.index.ensures))

@@ -1,0 +1,7 @@
+use Rattle.std.proofs.Common.{map, take}
+use Rattle.trio_state.specs.Handed.{lent_sheet}
+use Rattle.trio_proposal.specs.Steps.{AreFit}
+use Rattle.trio_proposal.proofs.checks.index_fits.Given as goal
+
+abbrev pub invariant-loop-i : goal.invariant-loop-i
+invariant-loop-i l = AreFit l.count (take l.i (map lent_sheet l.lease.stands.index))

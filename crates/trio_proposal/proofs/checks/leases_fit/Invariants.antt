@@ -1,0 +1,7 @@
+use Rattle.std.proofs.Common.{take}
+use Rattle.std.specs.List.{flat_map}
+use Rattle.trio_proposal.specs.Steps.{AreFit, lease_sheets}
+use Rattle.trio_proposal.proofs.checks.leases_fit.Given as goal
+
+abbrev pub invariant-loop-lease : goal.invariant-loop-lease
+invariant-loop-lease l = AreFit l.count (flat_map lease_sheets (take l.lease-index l.leases))

@@ -1,0 +1,7 @@
+use Rattle.std.proofs.Common.{map, take}
+use Rattle.trio_state.specs.Handed.{fresh_sheet}
+use Rattle.trio_proposal.specs.Steps.{ArePut}
+use Rattle.trio_proposal.proofs.pages.put_fresh.Given as goal
+
+abbrev pub invariant-loop-page : goal.invariant-loop-page
+invariant-loop-page l = ArePut (take l.page-index (map fresh_sheet l.pages)) l.fn.home.pages l.home.pages l.fn.marks.items l.marks.items

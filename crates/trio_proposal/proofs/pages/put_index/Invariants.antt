@@ -1,0 +1,7 @@
+use Rattle.std.proofs.Common.{map, take}
+use Rattle.trio_state.specs.Handed.{lent_sheet}
+use Rattle.trio_proposal.specs.Steps.{ArePut}
+use Rattle.trio_proposal.proofs.pages.put_index.Given as goal
+
+abbrev pub invariant-loop-i : goal.invariant-loop-i
+invariant-loop-i l = ArePut (take l.i (map lent_sheet l.lease.stands.index)) l.fn.home.pages l.home.pages l.fn.marks.items l.marks.items

@@ -1,0 +1,6 @@
+use Rattle.std.proofs.Common.{sym, subst}
+use Rattle.trio_proposal.specs.Steps.{ArePlaced}
+use Rattle.trio_proposal.proofs.picks.kept_bodies.Goals as goal
+
+pub kept_body-requires : goal.kept_body-requires
+kept_body-requires c = subst (λ pages. ArePlaced pages c.args.rows.now) (sym c.loop-ino.invariant.same) c.requires

@@ -1,0 +1,9 @@
+use Rattle.std.proofs.Common.{length, subst, sym}
+use Rattle.trio_state.specs.Handed.{bundle_in}
+use Rattle.trio_state.specs.Proposed.{bundle_sheets}
+use Rattle.trio_proposal.specs.Steps.{AreWithin}
+use Rattle.trio_proposal.proofs.propose.propose.Goals as goal
+
+pub put_bundle-requires : goal.put_bundle-requires
+put_bundle-requires c =
+    subst (λ pages. AreWithin (length pages) (bundle_sheets (bundle_in c.args.bundle.now))) (sym c.in_ok-kept.ensures.home) c.requires.within
