@@ -1,0 +1,8 @@
+pub mod Members
+pub mod Places
+pub mod Poking
+pub mod Taking
+pub mod Once
+pub mod Kept
+pub mod InHand
+pub mod Steps

@@ -1,0 +1,159 @@
+-- What the controller gives is new to those who have it.
+use Rattle.std.proofs.Common.{◌≡◌, ℕ, zero, suc, ◌-◌, ◌<◌, Bool, true, false, cond, not, ◌&&◌, eqb, ltb, List, [], ◌∷◌, ◌++◌, length, take, Option, Some, None, Result, Ok, Err, sym, refl, ap, ◌∙◌, subst, inl, inr, arith}
+use Rattle.std.specs.Prelude.{map, is_some, slice_get, slice_index}
+use Rattle.std.specs.List.{filter, cons_option}
+use Rattle.std.specs.Option.{option_map}
+use Rattle.std.proofs.lemmas.Bool.{and_parts, and_from, or_left, or_right, eq-eqb, both_ways, false≢true, not-true, not_from_false, cases_Bool}
+use Rattle.std.proofs.lemmas.List.{append-nil}
+use Rattle.trio_rights.specs.Row.{Row}
+use Rattle.trio_nodes.specs.declared.grant.GrantKind.TheVariants.{Write}
+use Rattle.trio_nodes.specs.declared.answers.GrantFault.{GrantFault}
+use Rattle.trio_nodes.specs.declared.answers.GrantFault.TheVariants.{Busy, NotLive}
+use Rattle.trio_layout.specs.Chain.{Chain}
+use Rattle.trio_layout.specs.Core.{Core, Place, page_of}
+use Rattle.trio_layout.specs.Lists.{In, is_among, are_new}
+use Rattle.trio_state.specs.Sheets.{Sheet}
+use Rattle.trio_state.specs.Image.{row_at}
+use Rattle.trio_state.specs.State.{OpenGrant, Out, State, settled, is_out, logged}
+use Rattle.trio_state.specs.Grants.{block_sheets, denied_by, denied_or, excluding, excludes_kind, grant_fault, holder_of, index_sheets, opened, settled_chain, sheets_of}
+use Rattle.trio_state.specs.Allotments.{allots, count_up, free_pages, free_numbers}
+use Rattle.trio_state.specs.Step.{Granted, NotGranted, Given, NoPages, NoInodes, Done, Comes, granted_to}
+use Rattle.trio_raw.specs.InHand.{InHand}
+use Rattle.trio_raw.specs.Laws.{GrantedIsInHand, GivenOutIsInHand, lent_file, with_lent, with_allotted}
+use Rattle.trio_raw.proofs.Members.{In-cases, In-left, map_from, not_among, in_filter, filter_in, new_weaker, new_beside}
+use Rattle.trio_raw.proofs.InHand.{lent_is_in_hand, allotted_is_in_hand}
+
+-- ---- grants
+
+-- each of these pages is that of the core
+sheet_there : (core : Core) (ns : List ℕ) (x : Sheet) → In x (sheets_of core ns) → page_of core x.page ≡ Some x.bytes
+sheet_there core [] x i = absurd i
+sheet_there core (n ∷ ns) x i = by_page (λ j. sheet_there core ns x j) (page_of core n) refl i
+  where
+    by_page : (In x (sheets_of core ns) → page_of core x.page ≡ Some x.bytes) → (o : Option (List ℕ)) → page_of core n ≡ o → In x (cons_option (option_map (λ bytes. record { page = n; bytes = bytes }) o) (sheets_of core ns)) → page_of core x.page ≡ Some x.bytes
+    by_page later None e j = later j
+    by_page later (Some b) e (inl s) =
+        ap (λ (y : Sheet). page_of core y.page) s ∙ e ∙ ap (λ (y : Sheet). Some y.bytes) (sym s)
+    by_page later (Some b) e (inr j) = later j
+
+-- and so are a file's index pages and blocks
+lent_there : (core : Core) (chain : Result Chain Place) (x : Sheet) → In x (index_sheets core chain ++ block_sheets core chain) → page_of core x.page ≡ Some x.bytes
+lent_there core (Err p) x i = absurd i
+lent_there core (Ok c) x i =
+    elim (In-cases x (sheets_of core c.index) (sheets_of core c.blocks) i) [
+      | inl a ↦ sheet_there core c.index x a
+      | inr b ↦ sheet_there core c.blocks x b
+    ]
+
+denied_none : (d : Option ℕ) (o : Option GrantFault) → denied_or d o ≡ None → o ≡ None
+denied_none None o e = e
+denied_none (Some n) o e = absurd cc
+
+map_none : {X Y : Type 0} (f : X → Y) (o : Option X) → option_map f o ≡ None → o ≡ None
+map_none f None e = refl
+map_none f (Some x) e = absurd cc
+
+no_first : {X : Type 0} (xs : List X) (x : X) → slice_get xs 0 ≡ None → In x xs → ⊥
+no_first [] x e i = i
+no_first (y ∷ ys) x e i = absurd cc
+
+past_live : (live : Bool) (o : Option GrantFault) → live ≡ true → cond (not live) (Some NotLive) o ≡ None → o ≡ None
+past_live true o l e = e
+past_live false o l e = absurd (false≢true l)
+
+-- a write grant is given only where no grant on the file is open
+none_open : (s : State) (lib ino : ℕ) (r : Row) → row_at s.home ino ≡ Some r → grant_fault s lib ino Write ≡ None → (h : OpenGrant) → In h s.open_grants → h.ino ≡ ino → ⊥
+none_open s lib ino r row none h i e =
+    let rest : Option GrantFault = option_map (λ (g : OpenGrant). Busy (holder_of g)) (slice_get (excluding s lib ino Write) 0) in
+    let asked : denied_or (denied_by s lib ino Write) rest ≡ None = past_live (is_some (row_at s.home ino)) (denied_or (denied_by s lib ino Write) rest) (ap is_some row) none in
+    no_first (excluding s lib ino Write) h
+    (map_none (λ (g : OpenGrant). Busy (holder_of g)) (slice_get (excluding s lib ino Write) 0) (denied_none (denied_by s lib ino Write) rest asked))
+    (in_filter (λ (g : OpenGrant). eqb g.ino ino && excludes_kind Write g.kind (eqb g.lib lib)) h s.open_grants i
+    (and_from (eqb h.ino ino) true (eq-eqb h.ino ino e) refl))
+
+pub granted_is_in_hand : GrantedIsInHand
+granted_is_in_hand s lib ino has children s' fit h comes = by_answer (grant_fault s lib ino Write) (row_at s.home ino) refl refl comes
+  where
+    by_answer : (fault : Option GrantFault) (row : Option Row) → grant_fault s lib ino Write ≡ fault → row_at s.home ino ≡ row → Comes (granted_to s lib ino Write fault row) (Granted children) s' → (r : Row) × (row_at s.home ino ≡ Some r) × InHand s' lib (with_lent has (lent_file (opened s lib ino Write r)))
+    by_answer (Some fault) row e f c = let wrong : Granted children ≡ NotGranted fault = c.0 in absurd (cc wrong)
+    by_answer None None e f c = let wrong : Granted children ≡ Done = c.0 in absurd (cc wrong)
+    by_answer None (Some r) e f c =
+        let g : OpenGrant = opened s lib ino Write r in (
+          r,
+          f,
+          subst (λ t. InHand t lib (with_lent has (lent_file g))) (sym c.1)
+              (lent_is_in_hand s lib has g h refl refl (none_open s lib ino r f e)
+              (λ x i. fit.full x.page x.bytes (lent_there (settled s).core (settled_chain (settled s) r.kind ino) x i))),
+        )
+
+-- ---- allotments
+
+take_new : (n : ℕ) (seen xs : List ℕ) → are_new seen xs ≡ true → are_new seen (take n xs) ≡ true
+take_new zero seen xs h = refl
+take_new (suc n) seen [] h = refl
+take_new (suc n) seen (x ∷ xs) h =
+    let p = and_parts (not (is_among x seen)) (are_new (seen ++ x ∷ []) xs) h in
+    and_from (not (is_among x seen)) (are_new (seen ++ x ∷ []) (take n xs)) p.0 (take_new n (seen ++ x ∷ []) xs p.1)
+
+take_in : (n : ℕ) (xs : List ℕ) (x : ℕ) → In x (take n xs) → In x xs
+take_in zero xs x i = absurd i
+take_in (suc n) [] x i = i
+take_in (suc n) (y ∷ ys) x (inl e) = inl e
+take_in (suc n) (y ∷ ys) x (inr i) = inr (take_in n ys x i)
+
+filter_new : (p : ℕ → Bool) (seen xs : List ℕ) → are_new seen xs ≡ true → are_new seen (filter p xs) ≡ true
+filter_new p seen [] h = refl
+filter_new p seen (x ∷ xs) h =
+    let parts = and_parts (not (is_among x seen)) (are_new (seen ++ x ∷ []) xs) h in
+    elim (cases_Bool (p x)) [
+      | inl t ↦ rw t (and_from (not (is_among x seen)) (are_new (seen ++ x ∷ []) (filter p xs)) parts.0 (filter_new p (seen ++ x ∷ []) xs parts.1))
+      | inr f ↦ rw f (filter_new p seen xs (new_weaker seen (seen ++ x ∷ []) xs (λ m i. In-left m seen (x ∷ []) i) parts.1))
+    ]
+
+count_new : (from n : ℕ) (seen : List ℕ) → ((x : ℕ) → In x seen → x < from) → are_new seen (count_up from n) ≡ true
+count_new from zero seen below = refl
+count_new from (suc n) seen below =
+    let new : is_among from seen ≡ false = not_among from seen (λ i. let l = below from i in absurd (omega (arith, l))) in
+    and_from (not (is_among from seen)) (are_new (seen ++ from ∷ []) (count_up (suc from) n)) (not_from_false (is_among from seen) new)
+    (count_new (suc from) n (seen ++ from ∷ [])
+    (λ x i. elim (In-cases x seen (from ∷ []) i) [
+      | inl a ↦ (let l = below x a in omega (arith, l))
+      | inr b ↦ elim b [ inl e ↦ omega (arith, e) | inr k ↦ absurd k ]
+    ]))
+
+number_out : (outs : List Out) (o : Out) → In o outs → is_out outs o.number ≡ true
+number_out [] o i = absurd i
+number_out (x ∷ xs) o (inl e) = or_left (eqb x.number o.number) (is_out xs o.number) (eq-eqb x.number o.number (ap (λ (y : Out). y.number) (sym e)))
+number_out (x ∷ xs) o (inr i) = or_right (eqb x.number o.number) (is_out xs o.number) (number_out xs o i)
+
+-- the first of what is counted up and isn't out
+free_new : (outs : List Out) (test : ℕ → Bool) (from n count : ℕ) → are_new (map (λ (o : Out). o.number) outs) (take count (filter (λ x. test x && not (is_out outs x)) (count_up from n))) ≡ true
+free_new outs test from n count =
+    let nos : List ℕ = map (λ (o : Out). o.number) outs in
+    let free : List ℕ = filter (λ x. test x && not (is_out outs x)) (count_up from n) in
+    let once : are_new [] (take count free) ≡ true =
+    take_new count [] free (filter_new (λ x. test x && not (is_out outs x)) [] (count_up from n) (count_new from n [] (λ x i. absurd i))) in
+    ap (λ l. are_new l (take count free)) (sym (append-nil nos))
+    ∙ new_beside nos [] (take count free) once
+    (λ x i j.
+    let k = filter_in (λ y. test y && not (is_out outs y)) x (count_up from n) (take_in count free x i) in
+    let parts = and_parts (test x) (not (is_out outs x)) k.1 in
+    let r = map_from (λ (o : Out). o.number) x outs j in
+    both_ways (is_out outs x) (not-true (is_out outs x) parts.1) (ap (is_out outs) r.2 ∙ number_out outs r.0 r.1))
+
+pub given_out_is_in_hand : GivenOutIsInHand
+given_out_is_in_hand s lib has wanted_pages wanted_numbers pages numbers s' h comes =
+    by_tests (ltb (length (free_pages s)) wanted_pages) (ltb (length (free_numbers s)) wanted_numbers) comes
+  where
+    by_tests : (few_pages few_numbers : Bool) → Comes (cond few_pages (record { answer = NoPages wanted_pages (length (free_pages s)); after = logged s }) (cond few_numbers (record { answer = NoInodes wanted_numbers (length (free_numbers s)); after = logged s }) (record { answer = Given (take wanted_pages (free_pages s)) (take wanted_numbers (free_numbers s)); after = allots s lib (take wanted_pages (free_pages s)) (take wanted_numbers (free_numbers s)) }))) (Given pages numbers) s' → InHand s' lib (with_allotted has pages numbers)
+    by_tests true few c = let wrong : Given pages numbers ≡ NoPages wanted_pages (length (free_pages s)) = c.0 in absurd (cc wrong)
+    by_tests false true c = let wrong : Given pages numbers ≡ NoInodes wanted_numbers (length (free_numbers s)) = c.0 in absurd (cc wrong)
+    by_tests false false c =
+        let ps : List ℕ = take wanted_pages (free_pages s) in
+        let ns : List ℕ = take wanted_numbers (free_numbers s) in
+        let same : Given pages numbers ≡ Given ps ns = c.0 in
+        let pages_are : pages ≡ ps = cc same in
+        let numbers_are : numbers ≡ ns = cc same in
+        let new_pages = free_new s.pages_out (λ page. eqb (slice_index s.home.owners page) 0) s.home.core.range.first (s.home.core.range.end - s.home.core.range.first) wanted_pages in
+        let new_numbers = free_new s.numbers_out (λ n. not (is_some (row_at s.home n))) 1 s.home.core.inodes wanted_numbers in
+        rw (c.1, pages_are, numbers_are) (allotted_is_in_hand s lib has ps ns h new_pages new_numbers)

@@ -1,0 +1,13 @@
+use Rattle.std.proofs.Common.{◌≡◌, ◌+◌, ◌≤◌, true, ◌++◌, drop, length, vec_capacity, vec_len}
+use Rattle.trio_raw.specs.Has.{are_there, named, without_all}
+use Rattle.trio_raw.proofs.lent.move_all.Given as goal
+
+-- with what is left to be moved, all is as after all
+abbrev pub invariant-loop-number : goal.invariant-loop-number
+invariant-loop-number g l = record {
+  there : are_there g.T.Lent.number_of l.things.items (drop l.number-index l.numbers) ≡ true;
+  moved : l.taken.items ++ named g.T.Lent.number_of l.things.items (drop l.number-index l.numbers) ≡ l.fn.taken.items ++ named g.T.Lent.number_of l.fn.things.items l.numbers;
+  left : without_all g.T.Lent.number_of l.things.items (drop l.number-index l.numbers) ≡ without_all g.T.Lent.number_of l.fn.things.items l.numbers;
+  room : vec_len l.taken + length (drop l.number-index l.numbers) ≤ vec_capacity l.taken;
+  capacity : vec_capacity l.things ≡ vec_capacity l.fn.things;
+}

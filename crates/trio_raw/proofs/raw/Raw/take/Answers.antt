@@ -1,0 +1,45 @@
+use Rattle.std.proofs.Common.{◌++◌, sym, ap, ◌∙◌}
+use Rattle.trio_state.specs.Handed.{bundle_in}
+use Rattle.trio_raw.specs.Has.{bundle_of, has_all_of, named, rest_of}
+use Rattle.trio_raw.specs.Held.{Held}
+use Rattle.trio_raw.proofs.Taking.{files_there, pages_there, numbers_there, taken_is, left_is, held_same, ino_of, page_of, no_of}
+use Rattle.trio_raw.proofs.raw.Raw.take.Goals as goal
+
+pub move_all-requires-clause-there : goal.move_all-requires-clause-there
+move_all-requires-clause-there c =
+    let inside = c.self.inside in
+    files_there inside.files.items inside.pages.items inside.inodes.items c.args.inos.now c.args.pages.now c.args.inodes.now
+    (ap (λ (h : Held). has_all_of h.has c.args.inos.now c.args.pages.now c.args.inodes.now) c.self.view_is ∙ sym c.has_all_of.ensures ∙ c.if-not-has_all_of.false)
+
+pub move_all-requires-2-clause-there : goal.move_all-requires-2-clause-there
+move_all-requires-2-clause-there c =
+    let inside = c.self.inside in
+    pages_there inside.files.items inside.pages.items inside.inodes.items c.args.inos.now c.args.pages.now c.args.inodes.now
+    (ap (λ (h : Held). has_all_of h.has c.args.inos.now c.args.pages.now c.args.inodes.now) c.self.view_is ∙ sym c.has_all_of.ensures ∙ c.if-not-has_all_of.false)
+
+pub move_all-requires-3-clause-there : goal.move_all-requires-3-clause-there
+move_all-requires-3-clause-there c =
+    let inside = c.self.inside in
+    numbers_there inside.files.items inside.pages.items inside.inodes.items c.args.inos.now c.args.pages.now c.args.inodes.now
+    (ap (λ (h : Held). has_all_of h.has c.args.inos.now c.args.pages.now c.args.inodes.now) c.self.view_is ∙ sym c.has_all_of.ensures ∙ c.if-not-has_all_of.false)
+
+pub returns-clause-bundle : goal.returns-clause-bundle
+returns-clause-bundle c =
+    let inside = c.self.inside in
+    let empty = c.in-Ok.ensures in
+    ap bundle_in c.of.ensures
+    ∙ taken_is inside.files.items inside.pages.items inside.inodes.items c.args.inos.now c.args.pages.now c.args.inodes.now
+    c.move_all.new.taken.items c.in-Ok.parts.holds.items c.move_all-2.new.taken.items c.move_all-3.new.taken.items empty.no_holds
+    (c.move_all.ensures.taken ∙ ap (λ l. l ++ named ino_of inside.files.items c.args.inos.now) empty.no_files)
+    (c.move_all-2.ensures.taken ∙ ap (λ l. l ++ named page_of inside.pages.items c.args.pages.now) empty.no_pages)
+    (c.move_all-3.ensures.taken ∙ ap (λ l. l ++ named no_of inside.inodes.items c.args.inodes.now) empty.no_numbers)
+    ∙ ap (λ (h : Held). bundle_of h.has c.args.inos.now c.args.pages.now c.args.inodes.now) c.self.view_is
+
+pub returns-clause-rest : goal.returns-clause-rest
+returns-clause-rest c =
+    let inside = c.self.inside in
+    held_same inside.lib
+    (left_is inside.files.items inside.pages.items inside.inodes.items c.args.inos.now c.args.pages.now c.args.inodes.now
+    c.move_all.new.things.items c.move_all-2.new.things.items c.move_all-3.new.things.items c.move_all.ensures.rest c.move_all-2.ensures.rest c.move_all-3.ensures.rest)
+    c.move_all.ensures.capacity c.move_all-2.ensures.capacity c.move_all-3.ensures.capacity
+    ∙ ap (λ (h : Held). record h { has = rest_of h.has c.args.inos.now c.args.pages.now c.args.inodes.now }) c.self.view_is

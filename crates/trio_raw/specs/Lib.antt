@@ -1,0 +1,4 @@
+pub mod Has
+pub mod Held
+pub mod InHand
+pub mod Laws

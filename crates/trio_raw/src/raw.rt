@@ -1,0 +1,301 @@
+//! What one library has.
+
+ghost use Rattle.std.specs.Prelude.{◌≡◌, ◌+◌, ◌<◌, ◌≤◌, ◌++◌, ◌∷◌, ◌↔◌, [], Err, IfErr, IfOk, IfSome, IsErr, IsFalse, IsNone, IsOk, IsTrue, None, OnErr, OnOk, Some, if◌then◌else◌, length, map};
+ghost use Rattle.trio_state.specs.Handed.{bundle_in, fresh_sheet};
+ghost use Rattle.trio_raw.specs.Has.{bundle_of, has_all_of, is_nothing, nothing, poked, poked_block, poked_body, poked_index, poked_sheet, rest_of, whole_bundle, with_file, with_fresh};
+ghost use Rattle.trio_raw.specs.Held.{HasPlaces, HasRoomFor, NoPlaceLost, file_of};
+
+use crate::lent::{append_all, have_all, let_go_all, move_all, place_of};
+use crate::poke::{poke_block, poke_body, poke_fresh, poke_index};
+use std::alloc::Global;
+use std::marker::Model;
+use std::mem;
+use trio_lease::{Allotted, Bundle, BundleParts, FreshIno, FreshPage, WriteLease};
+use trio_nodes::Spot;
+use trio_page::NoMemory;
+use trio_rights::LibNo;
+
+/// Why [`Raw::take`] took nothing.
+#[derive(Clone, Copy, Debug, PartialEq, Eq)]
+pub enum RawFault {
+    /// Something that was named isn't there, or is named twice.
+    Absent,
+    /// There was no memory for the bundle.
+    NoMemory,
+}
+
+/// The write leases, allotted pages and allotted inode numbers of one library, each kind in the
+/// order in which it came.
+///
+/// Contracts see the library, what it has (`Has`) and, as `room`, how many of each kind have a
+/// place (`Held`).
+pub struct Raw {
+    lib: LibNo,
+    files: Vec<WriteLease>,
+    pages: Vec<FreshPage>,
+    inodes: Vec<FreshIno>,
+}
+
+impl Model for Raw {
+    ghost use Rattle.std.specs.Prelude.{map, vec_capacity};
+    ghost use Rattle.trio_state.specs.Handed.{fresh_sheet};
+    ghost use Rattle.trio_raw.specs.Held.{Held, file_of};
+
+    ghost Value = { Held };
+
+    ghost view = { λ r. record {
+      lib = r.lib;
+      has = record { files = map file_of r.files.items; pages = map fresh_sheet r.pages.items; numbers = map (λ n. n.no) r.inodes.items };
+      room = record { files = vec_capacity r.files; pages = vec_capacity r.pages; numbers = vec_capacity r.inodes };
+    } };
+}
+
+impl Raw {
+    /// A library that has nothing yet. It takes no memory.
+    pub fn new(alloc: Global, lib: LibNo) -> Raw
+        ensures { result ≡ record { lib = lib; has = nothing; room = record { files = 0; pages = 0; numbers = 0 } } }
+    {
+        Raw {
+            lib,
+            files: Vec::new(alloc),
+            pages: Vec::new(alloc),
+            inodes: Vec::new(alloc),
+        }
+    }
+
+    /// The library.
+    pub fn lib(&self) -> LibNo
+        ensures { result ≡ self.now.lib }
+    {
+        self.lib
+    }
+
+    /// Makes room for one more lease: after `Ok` the next [`add_lease`](Self::add_lease) answers
+    /// `Ok` and takes no memory.
+    ///
+    /// After [`NoMemory`] the library has what it had, and no less room.
+    pub fn reserve_lease(&mut self) -> Result<(), NoMemory>
+        ensures kept { self.new ≡ record self.old { room = self.new.room } }
+        ensures room { OnOk result (HasPlaces self.new 1 0 0) }
+        ensures grows { NoPlaceLost self.old.room self.new.room }
+        ensures succeeds { HasPlaces self.old 1 0 0 → IsOk result }
+    {
+        self.files.reserve(1)
+    }
+
+    /// Makes room for so many more pages and inode numbers: after `Ok` the next
+    /// [`add_allotted`](Self::add_allotted) of no more than those answers `Ok` and takes no memory.
+    ///
+    /// After [`NoMemory`] the library has what it had, and no less room.
+    pub fn reserve_allotted(&mut self, pages: u32, inodes: u32) -> Result<(), NoMemory>
+        ensures kept { self.new ≡ record self.old { room = self.new.room } }
+        ensures room { OnOk result (HasPlaces self.new 0 pages inodes) }
+        ensures grows { NoPlaceLost self.old.room self.new.room }
+        ensures succeeds { HasPlaces self.old 0 pages inodes → IsOk result }
+    {
+        self.pages.reserve(pages as usize)?;
+        self.inodes.reserve(inodes as usize)
+    }
+
+    /// Adds a write lease as the last one. Where there is room for it
+    /// ([`reserve_lease`](Self::reserve_lease)), the answer is `Ok`.
+    ///
+    /// With [`NoMemory`] the lease comes back, and the library has what it had.
+    pub fn add_lease(&mut self, lease: WriteLease) -> Result<(), (WriteLease, NoMemory)>
+        ensures added { OnOk result (self.new ≡ record self.old { has = record self.old.has { files = self.old.has.files ++ file_of lease ∷ [] }; room = self.new.room }) }
+        ensures kept { OnErr result (self.new ≡ record self.old { room = self.new.room }) }
+        ensures back { IfErr result (λ e. e.0 ≡ lease) }
+        ensures grows { NoPlaceLost self.old.room self.new.room }
+        ensures succeeds { HasPlaces self.old 1 0 0 → IsOk result }
+    {
+        match self.files.push(lease) {
+            Ok(()) => Ok(()),
+            Err(failed) => Err((failed.value, NoMemory)),
+        }
+    }
+
+    /// Adds what an allotment gave, as the last pages and numbers. Where there is room for them
+    /// ([`reserve_allotted`](Self::reserve_allotted)), the answer is `Ok`.
+    ///
+    /// With [`NoMemory`] all of it comes back, and the library has what it had.
+    pub fn add_allotted(&mut self, given: Allotted) -> Result<(), (Allotted, NoMemory)>
+        ensures added { OnOk result (self.new ≡ record self.old { has = record self.old.has { pages = self.old.has.pages ++ map fresh_sheet given.pages.items; numbers = self.old.has.numbers ++ map (λ n. n.no) given.inodes.items }; room = self.new.room }) }
+        ensures kept { OnErr result (self.new ≡ record self.old { room = self.new.room }) }
+        ensures back { IfErr result (λ e. e.0 ≡ given) }
+        ensures grows { NoPlaceLost self.old.room self.new.room }
+        ensures succeeds { HasPlaces self.old 0 (length given.pages.items) (length given.inodes.items) → IsOk result }
+    {
+        if self.pages.reserve(given.pages.len()).is_err()
+            || self.inodes.reserve(given.inodes.len()).is_err()
+        {
+            return Err((given, NoMemory));
+        }
+        let Allotted { pages, inodes } = given;
+        append_all(pages, &mut self.pages);
+        append_all(inodes, &mut self.inodes);
+        Ok(())
+    }
+
+    /// Writes these bytes at a spot, from an offset on, counted in bytes from the front of the body
+    /// or the page. `false` exactly where the library has no such thing or the bytes leave it, and
+    /// then nothing has changed.
+    pub fn poke(&mut self, at: Spot, offset: u32, bytes: &[u8]) -> bool
+        ensures poked { poked self.old.has at offset bytes.now ≡ (if result then Some self.new.has else None) }
+        ensures rest { self.new ≡ record self.old { has = self.new.has } }
+        ensures kept { IsFalse result → self.new ≡ self.old }
+    {
+        match at {
+            Spot::Body(ino) => self.poke_body(ino, offset, bytes),
+            Spot::Index(ino, page) => self.poke_index(ino, page, offset, bytes),
+            Spot::Block(ino, block) => self.poke_block(ino, block, offset, bytes),
+            Spot::Fresh(page) => self.poke_fresh(page, offset, bytes),
+        }
+    }
+
+    fn poke_body(&mut self, ino: u32, offset: u32, bytes: &[u8]) -> bool
+        ensures poked { with_file (poked_body offset bytes.now) ino self.old.has ≡ (if result then Some self.new.has else None) }
+        ensures rest { self.new ≡ record self.old { has = self.new.has } }
+        ensures kept { IsFalse result → self.new ≡ self.old }
+    {
+        match place_of(&self.files, ino) {
+            Some(i) => poke_body(&mut self.files[i], offset, bytes),
+            None => false,
+        }
+    }
+
+    fn poke_index(&mut self, ino: u32, page: u32, offset: u32, bytes: &[u8]) -> bool
+        ensures poked { with_file (poked_index page offset bytes.now) ino self.old.has ≡ (if result then Some self.new.has else None) }
+        ensures rest { self.new ≡ record self.old { has = self.new.has } }
+        ensures kept { IsFalse result → self.new ≡ self.old }
+    {
+        match place_of(&self.files, ino) {
+            Some(i) => poke_index(&mut self.files[i], page, offset, bytes),
+            None => false,
+        }
+    }
+
+    fn poke_block(&mut self, ino: u32, block: u32, offset: u32, bytes: &[u8]) -> bool
+        ensures poked { with_file (poked_block block offset bytes.now) ino self.old.has ≡ (if result then Some self.new.has else None) }
+        ensures rest { self.new ≡ record self.old { has = self.new.has } }
+        ensures kept { IsFalse result → self.new ≡ self.old }
+    {
+        match place_of(&self.files, ino) {
+            Some(i) => poke_block(&mut self.files[i], block, offset, bytes),
+            None => false,
+        }
+    }
+
+    fn poke_fresh(&mut self, page: u32, offset: u32, bytes: &[u8]) -> bool
+        ensures poked { with_fresh (poked_sheet offset bytes.now) page self.old.has ≡ (if result then Some self.new.has else None) }
+        ensures rest { self.new ≡ record self.old { has = self.new.has } }
+        ensures kept { IsFalse result → self.new ≡ self.old }
+    {
+        match place_of(&self.pages, page) {
+            Some(i) => poke_fresh(&mut self.pages[i], offset, bytes),
+            None => false,
+        }
+    }
+
+    /// Takes the files, allotted pages and allotted inode numbers that are named out, as a bundle of
+    /// just these, each as it stands, in the order in which they are named, and with no hold.
+    ///
+    /// Nothing changes on an error. [`RawFault::Absent`], exactly where one that is named isn't
+    /// there or is named twice. [`RawFault::NoMemory`]: there was no memory for the bundle.
+    pub fn take(
+        &mut self,
+        alloc: Global,
+        inos: &[u32],
+        pages: &[u32],
+        inodes: &[u32],
+    ) -> Result<Bundle, RawFault>
+        ensures bundle { IfOk result (λ b. bundle_in b ≡ bundle_of self.old.has inos.now pages.now inodes.now) }
+        ensures rest { OnOk result (self.new ≡ record self.old { has = rest_of self.old.has inos.now pages.now inodes.now }) }
+        ensures kept { OnErr result (self.new ≡ self.old) }
+        ensures absent { result ≡ Err RawFault.Absent ↔ IsFalse (has_all_of self.old.has inos.now pages.now inodes.now) }
+    {
+        if !self.has_all_of(inos, pages, inodes) {
+            return Err(RawFault::Absent);
+        }
+        let Ok(mut parts) = room_for(alloc, inos.len(), pages.len(), inodes.len()) else {
+            return Err(RawFault::NoMemory);
+        };
+        move_all(&mut self.files, inos, &mut parts.writes);
+        move_all(&mut self.pages, pages, &mut parts.pages);
+        move_all(&mut self.inodes, inodes, &mut parts.inodes);
+        Ok(Bundle::of(parts))
+    }
+
+    /// Takes all that the library has, as one bundle, in the order in which it came, and with no
+    /// hold. `None` exactly where it has nothing. It takes no memory.
+    pub fn take_all(&mut self, alloc: Global) -> Option<Bundle>
+        ensures bundle { IfSome result (λ b. bundle_in b ≡ whole_bundle self.old.has) }
+        ensures none { IsNone result ↔ IsTrue (is_nothing self.old.has) }
+        ensures left { self.new ≡ record self.old { has = nothing; room = self.new.room } }
+    {
+        if self.files.is_empty() && self.pages.is_empty() && self.inodes.is_empty() {
+            return None;
+        }
+        Some(Bundle::of(BundleParts {
+            writes: mem::replace(&mut self.files, Vec::new(alloc)),
+            holds: Vec::new(alloc),
+            pages: mem::replace(&mut self.pages, Vec::new(alloc)),
+            inodes: mem::replace(&mut self.inodes, Vec::new(alloc)),
+        }))
+    }
+
+    /// Lets all of it go. Its grants and allotments stay out for good, so that others find the
+    /// files busy, and the pages and inode numbers not free.
+    pub fn discard(self) {
+        let Raw {
+            lib: _,
+            files,
+            pages,
+            inodes,
+        } = self;
+        let_go_all(files);
+        let_go_all(pages);
+        let_go_all(inodes);
+    }
+
+    /// Whether all that is named is there, each named once.
+    fn has_all_of(&self, inos: &[u32], pages: &[u32], inodes: &[u32]) -> bool
+        ensures { result ≡ has_all_of self.now.has inos.now pages.now inodes.now }
+    {
+        if !have_all(&self.files, inos) {
+            return false;
+        }
+        if !have_all(&self.pages, pages) {
+            return false;
+        }
+        have_all(&self.inodes, inodes)
+    }
+}
+
+/// The parts of a bundle that has nothing, with room for so many files, pages and inode numbers.
+fn room_for(
+    alloc: Global,
+    files: usize,
+    pages: usize,
+    inodes: usize,
+) -> Result<BundleParts, NoMemory>
+    ensures { IfOk result (λ parts. HasRoomFor parts files pages inodes) }
+{
+    let mut writes = Vec::new(alloc);
+    let mut fresh = Vec::new(alloc);
+    let mut numbers = Vec::new(alloc);
+    if writes.reserve(files).is_err()
+        || fresh.reserve(pages).is_err()
+        || numbers.reserve(inodes).is_err()
+    {
+        writes.destroy_empty();
+        fresh.destroy_empty();
+        numbers.destroy_empty();
+        return Err(NoMemory);
+    }
+    Ok(BundleParts {
+        writes,
+        holds: Vec::new(alloc),
+        pages: fresh,
+        inodes: numbers,
+    })
+}
