@@ -1,3 +1,11 @@
+pub mod AtHome
 pub mod Wholes
 pub mod Starting
 pub mod Storing
+pub mod LendLemmas
+pub mod Bringing
+pub mod Spreading
+pub mod Ending
+pub mod Granting
+pub mod Handing
+pub mod Releasing

@@ -1,5 +1,5 @@
 -- The state of an image that verifies is kept.
-use Rattle.std.proofs.Common.{◌≡◌, ℕ, ◌≤◌, List, length, Option, None, refl, sym, ap, subst, ◌∙◌, arith}
+use Rattle.std.proofs.Common.{◌≡◌, ℕ, ◌≤◌, List, [], length, Option, None, refl, sym, ap, subst, ◌∙◌, arith}
 use Rattle.std.specs.Prelude.{slice_index_or}
 use Rattle.trio_rights.specs.declared.rights.Creds.{Creds}
 use Rattle.trio_rights.specs.Row.{Row}
@@ -13,7 +13,9 @@ use Rattle.trio_state.specs.Stored.{core_in, image_in}
 use Rattle.trio_state.specs.Verifies.{Verifies}
 use Rattle.trio_laws.proofs.Runs.{start_kept}
 use Rattle.trio_image.specs.Image.{ImagePages, IsVerified}
+use Rattle.trio_grants.specs.Grants.{Keyed}
 use Rattle.trio_ctl.specs.Ctl.{IsControlled}
+use Rattle.trio_ctl.specs.Open.{Opened}
 use Rattle.trio_ctl.proofs.Wholes.{cond_there, whole_at, whole_none}
 
 pub image_kept : (s : Superblock) (pages : List (Option (List ℕ))) (creds : List Creds) → IsVerified s pages → Kept (start (image_in s pages) creds)
@@ -29,21 +31,27 @@ image_kept s pages creds v =
     start_kept (image_in s pages) creds fit verifies (λ p gone core. whole_none pages p v.whole.whole gone)
 
 -- what the controller keeps at its start
-pub started : (s t : Superblock) (pages pages' : List (Option (List ℕ))) (rows : List (Option Row)) (owners : List ℕ) (creds : List Creds) → IsVerified s pages → t ≡ s → pages' ≡ pages
-    → rows ≡ (image_in s pages).rows → owners ≡ (image_in s pages).owners → 1 ≤ length creds → length creds ≤ 16 → IsControlled t pages' rows owners creds
-started s t pages pages' rows owners creds v same home is_rows is_owners some few =
-    let base : IsControlled s pages (image_in s pages).rows (image_in s pages).owners creds = record {
+pub started : (s t : Superblock) (pages pages' : List (Option (List ℕ))) (rows : List (Option Row)) (owners : List ℕ) (table : List Keyed) (files : List Opened) (creds : List Creds) → IsVerified s pages → t ≡ s → pages' ≡ pages
+    → rows ≡ (image_in s pages).rows → owners ≡ (image_in s pages).owners → table ≡ [] → files ≡ [] → 1 ≤ length creds → length creds ≤ 16 → IsControlled t pages' rows owners table files creds 0
+started s t pages pages' rows owners table files creds v same home is_rows is_owners none empty some few =
+    let base : IsControlled s pages (image_in s pages).rows (image_in s pages).owners [] [] creds 0 = record {
       fits = v.whole.superblock.read.fits;
       root = v.whole.superblock.read.root;
       count = v.whole.count;
       some_libraries = some;
       few_libraries = few;
+      grants = refl;
+      keys_once = refl;
+      earlier = λ o i. absurd i;
+      writes = λ o i. absurd i;
       kept = image_kept s pages creds v;
     } in
-    subst (λ (x : Superblock). IsControlled x pages' rows owners creds) (sym same)
-    (subst (λ ps. IsControlled s ps rows owners creds) (sym home)
-    (subst (λ rs. IsControlled s pages rs owners creds) (sym is_rows)
-    (subst (λ os. IsControlled s pages (image_in s pages).rows os creds) (sym is_owners) base)))
+    subst (λ (x : Superblock). IsControlled x pages' rows owners table files creds 0) (sym same)
+    (subst (λ ps. IsControlled s ps rows owners table files creds 0) (sym home)
+    (subst (λ rs. IsControlled s pages rs owners table files creds 0) (sym is_rows)
+    (subst (λ os. IsControlled s pages (image_in s pages).rows os table files creds 0) (sym is_owners)
+    (subst (λ ts. IsControlled s pages (image_in s pages).rows (image_in s pages).owners ts files creds 0) (sym none)
+    (subst (λ fs. IsControlled s pages (image_in s pages).rows (image_in s pages).owners [] fs creds 0) (sym empty) base)))))
 
 pub same_image : (a b : ImagePages) → a.superblock ≡ b.superblock → a.pages ≡ b.pages → a ≡ b
 same_image a b p q =

@@ -26,7 +26,8 @@ use Rattle.trio_laws.specs.Reading.{with_other, AgreeOn}
 use Rattle.trio_laws.proofs.Accepted.{agreeing_verifies}
 use Rattle.trio_laws.proofs.Images.{tabulated-length, tabulated-get}
 use Rattle.trio_image.specs.Image.{is_whole_page, IsVerified}
-use Rattle.trio_ctl.specs.Ctl.{home_image, superblock_for, IsControlled}
+use Rattle.trio_ctl.specs.Ctl.{home_image, superblock_for}
+use Rattle.trio_ctl.proofs.AtHome.{IsAtHome}
 use Rattle.trio_ctl.specs.Pages.{FillsPages, owner_pages, pages_from, shadow_pages, stored_pages, table_pages}
 use Rattle.trio_ctl.proofs.Wholes.{cond_same, tabulated-all}
 
@@ -46,7 +47,7 @@ no_lent : (t : Bool) → IsTrue t → t ≡ false → ⊥
 no_lent true e f = absurd cc
 no_lent false e f = absurd cc
 
-module _ (s : Superblock) (pages : List (Option (List ℕ))) (rows : List (Option Row)) (owners : List ℕ) (creds : List Creds) (k : IsControlled s pages rows owners creds) (shadow_full : FillsPages (shadow_bytes rows) (page_count (32 * (length rows - 1)))) (owner_full : FillsPages (owner_bytes owners) (page_count (4 * length owners))) where
+module _ (s : Superblock) (pages : List (Option (List ℕ))) (rows : List (Option Row)) (owners : List ℕ) (creds : List Creds) (k : IsAtHome s pages rows owners creds) (shadow_full : FillsPages (shadow_bytes rows) (page_count (32 * (length rows - 1)))) (owner_full : FillsPages (owner_bytes owners) (page_count (4 * length owners))) where
   abbrev image : Image
   image = home_image s pages rows owners
 

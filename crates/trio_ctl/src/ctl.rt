@@ -1,49 +1,80 @@
 //! The controller.
 
-ghost use Rattle.std.specs.Prelude.{◌≡◌, ◌≤◌, IfErr, IfOk, vec_len};
+ghost use Rattle.std.specs.Prelude.{◌≡◌, ◌⊎◌, ◌≤◌, ◌++◌, ◌∷◌, [], Err, IfErr, IfOk, OnErr, None, Some, slice_index_or, vec_len};
+ghost use Rattle.std.specs.Option.{ForSome};
+ghost use Rattle.trio_rights.specs.declared.rights.Need.TheVariants.{Write as ToWrite};
+ghost use Rattle.trio_rights.specs.May.{denier};
+ghost use Rattle.trio_nodes.specs.declared.grant.GrantKind.TheVariants.{Write};
+ghost use Rattle.trio_nodes.specs.declared.answers.GrantFault.TheVariants.{NoMemory as NoGrantMemory};
+ghost use Rattle.trio_tables.specs.Row.{as_row};
+ghost use Rattle.trio_grants.specs.Grants.{AllBelow, HasKey, excludes, grant_under, without};
 ghost use Rattle.trio_image.specs.Image.{IsVerified};
+ghost use Rattle.trio_state.specs.Grants.{opened};
+ghost use Rattle.trio_state.specs.Image.{row_at};
 ghost use Rattle.trio_state.specs.Kept.{Kept};
 ghost use Rattle.trio_state.specs.Run.{start};
-ghost use Rattle.trio_state.specs.State.{settled};
+ghost use Rattle.trio_state.specs.State.{settled, creds_of, logged};
+ghost use Rattle.trio_state.specs.Step.{Grant, Step};
 ghost use Rattle.trio_state.specs.Stored.{image_in, StoresImage};
+ghost use Rattle.trio_ctl.specs.Answers.{grant_answer, Admits, TellsImage};
 ghost use Rattle.trio_ctl.specs.Count.{counts_of};
-ghost use Rattle.trio_ctl.specs.Ctl.{superblock_for};
+ghost use Rattle.trio_ctl.specs.Ctl.{IsLibrary, superblock_for, writer_of};
+ghost use Rattle.trio_ctl.specs.Open.{lease_of};
 
 use crate::count::{Counts, counts_in};
+use crate::lend::{Asked, lend, settled_body};
+use crate::open::OpenFile;
 use crate::store::stored_pages;
 use std::alloc::Global;
 use std::marker::Model;
+use trio_grants::{AdmitFault, GrantKey, GrantTable};
 use trio_image::Image;
-use trio_layout::Superblock;
+use trio_layout::{CoreRange, Superblock};
+use trio_lease::WriteLease;
+use trio_nodes::{GrantFault, GrantKind, Holder};
 use trio_page::{Home, NoMemory, Reads};
-use trio_rights::Creds;
+use trio_rights::{Creds, LibNo, Need};
 use trio_survey::verify_found;
-use trio_tables::{Owners, Shadow};
+use trio_tables::{Owners, Row, Shadow};
 
-/// The controller of one image: its pages at home, its tables, and the credentials of its libraries.
+/// The controller of one image: its pages at home, its tables, the grants that are open, and the
+/// credentials of its libraries.
 ///
 /// Contracts see the `State` of which the controller's steps speak. It is kept in every state.
 #[derive(Drop)]
 pub struct Ctl {
-    home: Home,
+    pub(crate) home: Home,
     // the sizes of the image, with the body of the root as it stands
-    superblock: Superblock,
-    rows: Shadow,
-    owners: Owners,
+    pub(crate) superblock: Superblock,
+    pub(crate) rows: Shadow,
+    pub(crate) owners: Owners,
+    pub(crate) grants: GrantTable,
+    // the open grants, in the order of the entries that opened them
+    pub(crate) files: Vec<OpenFile>,
     // library n has the n-th, counted from 1
-    libs: Vec<Creds>,
+    pub(crate) libs: Vec<Creds>,
+    // how many entries the history has
+    pub(crate) entries: u64,
 }
 
 impl Model for Ctl {
     ghost use Rattle.trio_state.specs.State.{State};
-    ghost use Rattle.trio_state.specs.Run.{start};
-    ghost use Rattle.trio_ctl.specs.Ctl.{home_image, IsControlled};
+    ghost use Rattle.trio_ctl.specs.Ctl.{state_of, IsControlled};
 
     ghost Value = { State };
 
-    ghost view = { λ c. start (home_image c.superblock c.home.pages c.rows c.owners) c.libs.items };
+    ghost view = { λ c. state_of c.superblock c.home.pages c.rows c.owners c.files.items c.libs.items c.entries };
 
-    ghost invariant = { λ c. IsControlled c.superblock c.home.pages c.rows c.owners c.libs.items };
+    ghost invariant = { λ c. IsControlled c.superblock c.home.pages c.rows c.owners c.grants c.files.items c.libs.items c.entries };
+}
+
+/// Why a settled image isn't told.
+#[derive(Clone, Copy, Debug, PartialEq, Eq)]
+pub enum ImageFault {
+    /// A write grant is out: of those that are, the one of the lowest entry.
+    Busy(Holder),
+    /// Want of memory.
+    NoMemory,
 }
 
 impl Ctl {
@@ -64,29 +95,69 @@ impl Ctl {
                 superblock,
                 rows: found.rows,
                 owners: found.owners,
+                grants: GrantTable::new(alloc),
+                files: Vec::new(alloc),
                 libs,
+                entries: 0,
             }),
             // an image verifies, so this is want of memory
             Err(_fault) => Err((Image::of(home), NoMemory)),
         }
     }
 
+    /// Lends a live file to a library for writing: its body, its index pages and its blocks, which
+    /// leave home by move. What the grant covers is kept aside.
+    ///
+    /// `NotLive` exactly where no live file has the number; `Denied` exactly where a number on the
+    /// way from the root denies what is needed, the first such number; `Busy` exactly where an open
+    /// grant is on the file, with the one of the lowest entry. After `NoMemory`, which may come in
+    /// place of each of them, nothing changed; a history that has as many entries as a `u64` counts
+    /// has no memory for one more.
+    pub fn grant_write(
+        &mut self,
+        alloc: Global,
+        lib: LibNo,
+        ino: u32,
+    ) -> Result<WriteLease, GrantFault>
+        requires library { IsLibrary lib self.old }
+        ensures step { Step self.old (Grant lib.0 ino Write) (grant_answer result) self.new }
+        ensures lease { IfOk result (λ lease. ForSome (row_at self.old.home ino)
+            (λ r. lease ≡ lease_of (opened self.old lib.0 ino Write r))) }
+        ensures was_kept { Kept self.old }
+        ensures kept { Kept self.new }
+    {
+        let Some(row) = self.rows.row(ino) else {
+            return Err(self.log_refusal(GrantFault::NotLive));
+        };
+        if let Err(denier) = self.rows.may(self.creds(lib), ino, Need::Write) {
+            return Err(self.log_refusal(GrantFault::Denied(denier)));
+        }
+        self.lend_file(alloc, lib, ino, &row)
+    }
+
     /// The settled image: its pages are just those that store it, with copies of the core pages. The
-    /// state is unchanged. `NoMemory`: there was no memory for the pages.
-    pub fn image(&mut self, alloc: Global) -> Result<Image, NoMemory>
+    /// state is unchanged. `Busy` exactly where a write grant is out; `NoMemory`: there was no memory
+    /// for the pages.
+    pub fn image(&mut self, alloc: Global) -> Result<Image, ImageFault>
+        ensures answer { TellsImage (writer_of self.old) result }
         ensures superblock { IfOk result (λ image. image.superblock ≡ superblock_for (settled self.old).core) }
         ensures stores { IfOk result (λ image. StoresImage image.superblock (settled self.old) image.pages) }
         ensures verified { IfOk result (λ image. IsVerified image.superblock image.pages) }
         ensures state { self.new ≡ self.old }
         ensures kept { Kept self.old }
     {
-        let pages = stored_pages(
+        if let Some(holder) = self.grants.writer() {
+            return Err(ImageFault::Busy(holder));
+        }
+        let Ok(pages) = stored_pages(
             alloc,
             &mut self.home,
             &self.superblock,
             &self.rows,
             &self.owners,
-        )?;
+        ) else {
+            return Err(ImageFault::NoMemory);
+        };
         Ok(Image::of(Home::of(pages)))
     }
 
@@ -96,5 +167,98 @@ impl Ctl {
         ensures kept { Kept self.now }
     {
         counts_in(&self.rows, &self.owners)
+    }
+
+    // the credentials of a library
+    pub(crate) fn creds(&self, lib: LibNo) -> Creds
+        requires { IsLibrary lib self.now }
+        ensures { result ≡ creds_of self.now lib.0 }
+    {
+        self.libs[lib.0 as usize - 1]
+    }
+
+    // one entry more in the history, for a refusal; or want of memory for it
+    fn log_refusal(&mut self, fault: GrantFault) -> GrantFault
+        ensures { ((result ≡ fault) × (self.new ≡ logged self.old)) ⊎ ((result ≡ NoGrantMemory) × (self.new ≡ self.old)) }
+    {
+        match self.entries.checked_add(1) {
+            Some(entries) => {
+                self.entries = entries;
+                fault
+            }
+            None => GrantFault::NoMemory,
+        }
+    }
+
+    // lends a file that has this row and denies nothing
+    fn lend_file(
+        &mut self,
+        alloc: Global,
+        lib: LibNo,
+        ino: u32,
+        row: &Row,
+    ) -> Result<WriteLease, GrantFault>
+        requires library { IsLibrary lib self.old }
+        requires live { row_at self.old.home ino ≡ Some (as_row row.now) }
+        requires may { denier self.old.home.rows (creds_of self.old lib.0) ino ToWrite ≡ None }
+        ensures step { Step self.old (Grant lib.0 ino Write) (grant_answer result) self.new }
+        ensures lease { IfOk result (λ lease. lease ≡ lease_of (opened self.old lib.0 ino Write (as_row row.now))) }
+    {
+        let Some(entries) = self.entries.checked_add(1) else {
+            return Err(GrantFault::NoMemory);
+        };
+        let Ok(()) = self.files.reserve(1) else {
+            return Err(GrantFault::NoMemory);
+        };
+        let key = match admit_writer(&mut self.grants, lib, ino, self.entries) {
+            Ok(key) => key,
+            Err(fault) => return Err(fault),
+        };
+        let asked = Asked {
+            lib,
+            ino,
+            kind: row.kind,
+            entry: self.entries,
+            body: settled_body(&mut self.home, &self.files, &self.superblock.root, ino, row),
+        };
+        let range = CoreRange {
+            first: self.superblock.first_core,
+            end: self.superblock.pages,
+        };
+        match lend(alloc, &mut self.home, range, &asked, key) {
+            Ok((file, lease)) => {
+                let Ok(()) = self.files.push(file) else {
+                    lease.discard();
+                    unreachable!()
+                };
+                self.entries = entries;
+                Ok(lease)
+            }
+            Err(NoMemory) => {
+                self.grants.end(key);
+                Err(GrantFault::NoMemory)
+            }
+        }
+    }
+}
+
+// opens a write grant in the table, unless an open grant is on the file
+fn admit_writer(
+    grants: &mut GrantTable,
+    lib: LibNo,
+    ino: u32,
+    entry: u64,
+) -> Result<GrantKey, GrantFault>
+    ensures answer { Admits (excludes lib ino Write) grants.old result }
+    ensures opened { IfOk result (λ key. AllBelow entry grants.old → grants.new ≡ grants.old ++ (key, record { lib = lib; ino = ino; kind = Write; entry = entry }) ∷ []) }
+    ensures there { IfOk result (λ key. HasKey key grants.new) }
+    ensures new_key { IfOk result (λ key. grant_under key grants.old ≡ None) }
+    ensures rest { IfOk result (λ key. without key grants.new ≡ grants.old) }
+    ensures kept { OnErr result (grants.new ≡ grants.old) }
+{
+    match grants.admit(lib, ino, GrantKind::Write, entry) {
+        Ok(key) => Ok(key),
+        Err(AdmitFault::Busy(holder)) => Err(GrantFault::Busy(holder)),
+        Err(AdmitFault::NoMemory) => Err(GrantFault::NoMemory),
     }
 }

@@ -4,12 +4,18 @@
 //! in every state that it is in.
 #![tactic(auto)]
 
+mod bundles;
+mod closing;
 mod count;
 mod ctl;
+mod lend;
+mod open;
+mod release;
+mod spread;
 mod store;
 
 pub use count::Counts;
-pub use ctl::Ctl;
+pub use ctl::{Ctl, ImageFault};
 
 #[cfg(test)]
 mod tests;

@@ -98,7 +98,7 @@ fn add_core_pages(
 }
 
 /// A copy of the page at home; `None` where it is absent.
-fn copy_of(
+pub(crate) fn copy_of(
     alloc: Global,
     home: &mut Home,
     no: u32,

@@ -1,11 +1,13 @@
-ghost use Rattle.std.specs.Prelude.{◌≡◌, length};
+ghost use Rattle.std.specs.Prelude.{◌≡◌, IfSome, length};
 
 use super::*;
 use std::alloc::Global;
 use std::test::Fail;
 use trio_image::{bytes_of, read};
+use trio_nodes::{GrantFault, GrantKind, Holder};
+use trio_page::PageNo;
 use trio_page::field::{put_bytes_in, put_u32_in};
-use trio_rights::Creds;
+use trio_rights::{Creds, LibNo};
 
 // An image of 32 pages and 64 inode numbers with an empty root: the superblock, one shadow page, one
 // owner page, and core pages from page 3 on.
@@ -82,5 +84,64 @@ fn the_settled_image_is_stored_again(rt: HostRuntime) -> Result<(), Fail> {
         };
         assert_eq!(rt; ctl.counts(), counts);
     }
+    Ok(())
+}
+
+// A controller over the image with the directory, for one library of this uid.
+fn controlled(alloc: Global, uid: u32) -> Option<Ctl>
+    ensures { IfSome result (λ ctl. length ctl.creds ≡ 1) }
+{
+    let bytes = image_bytes(alloc, true)?;
+    let image = read(alloc, &bytes).ok()?;
+    let libs = vec![in alloc; Creds { uid, gid: 0 }].ok()?;
+    Ctl::start(alloc, image, libs).ok()
+}
+
+#[test]
+fn files_are_lent_or_refused(rt: HostRuntime) -> Result<(), Fail> {
+    let alloc = rt.alloc();
+    let cases = [
+        (0, 3, Some(GrantFault::NotLive)),
+        (0, 9, Some(GrantFault::NotLive)),
+        (5, 2, Some(GrantFault::Denied(2))),
+        (5, 1, Some(GrantFault::Denied(1))),
+        (0, 2, None),
+    ];
+    for (uid, ino, wanted) in cases {
+        let mut ctl = controlled(alloc, uid).ok_or("a controller")?;
+        match ctl.grant_write(alloc, LibNo(1), ino) {
+            Ok(lease) => {
+                let same = lease.ino() == ino && lease.lib() == LibNo(1) && lease.entry() == 0;
+                lease.discard();
+                assert!(rt; same && wanted.is_none(), "{ino} by uid {uid}");
+            }
+            Err(fault) => assert!(rt; Some(fault) == wanted, "{ino} by uid {uid}"),
+        }
+    }
+    Ok(())
+}
+
+#[test]
+fn what_is_lent_has_left_home(rt: HostRuntime) -> Result<(), Fail> {
+    let alloc = rt.alloc();
+    let mut ctl = controlled(alloc, 0).ok_or("a controller")?;
+    let Ok(lease) = ctl.grant_write(alloc, LibNo(1), 1) else {
+        return Err("a lease".into());
+    };
+    // the root's index page names its block, in which the entry of `a` stands
+    let index = lease.index(0).map(|page| page.u32_at(0));
+    let entry = lease.block(0).map(|page| page.u32_at(0));
+    let numbers = (lease.index_no(0), lease.block_no(0), lease.block_no(1));
+    lease.discard();
+    assert_eq!(rt; (index, entry), (Some(4), Some(2)));
+    assert!(rt; numbers == (Some(PageNo(3)), Some(PageNo(4)), None));
+    // while it is out nobody is told an image
+    let holder = Holder {
+        lib: LibNo(1),
+        kind: GrantKind::Write,
+        entry: 0,
+    };
+    let fault = ctl.image(alloc).err();
+    assert!(rt; fault == Some(ImageFault::Busy(holder)));
     Ok(())
 }

@@ -19,9 +19,9 @@ invariant_of-result c =
     let home = c.into_home-home.result.pages in
     let v = subst (IsVerified image.superblock) (sym c.into_home-home.ensures.pages) c.into_home-home.ensures.verified in
     let has = v.whole.superblock in
-    started image.superblock c.superblock-superblock.result home c.verify_found.new.home.pages c.in-Ok.found.rows c.in-Ok.found.owners c.args.libs.items v
+    started image.superblock c.superblock-superblock.result home c.verify_found.new.home.pages c.in-Ok.found.rows c.in-Ok.found.owners c.new-in-Ok.result c.new-in-Ok-2.result.items c.args.libs.items v
     c.superblock-superblock.ensures.superblock c.verify_found.ensures.pages
-    (c.in-Ok.ensures.rows image.superblock has) (c.in-Ok.ensures.owners image.superblock has) (omega arith) (omega arith)
+    (c.in-Ok.ensures.rows image.superblock has) (c.in-Ok.ensures.owners image.superblock has) c.new-in-Ok.ensures c.new-in-Ok-2.ensures.items (omega arith) (omega arith)
 
 pub returns-in-Err-clause-back : goal.returns-in-Err-clause-back
 returns-in-Err-clause-back c =
@@ -36,7 +36,7 @@ returns-in-Ok-clause-kept c =
     let home = c.into_home-home.result.pages in
     let v = subst (IsVerified image.superblock) (sym c.into_home-home.ensures.pages) c.into_home-home.ensures.verified in
     let has = v.whole.superblock in
-    let all = started image.superblock c.superblock-superblock.result home c.verify_found.new.home.pages c.in-Ok.found.rows c.in-Ok.found.owners c.args.libs.items v
+    let all = started image.superblock c.superblock-superblock.result home c.verify_found.new.home.pages c.in-Ok.found.rows c.in-Ok.found.owners c.new-in-Ok.result c.new-in-Ok-2.result.items c.args.libs.items v
     c.superblock-superblock.ensures.superblock c.verify_found.ensures.pages
-    (c.in-Ok.ensures.rows image.superblock has) (c.in-Ok.ensures.owners image.superblock has) (omega arith) (omega arith) in
+    (c.in-Ok.ensures.rows image.superblock has) (c.in-Ok.ensures.owners image.superblock has) c.new-in-Ok.ensures c.new-in-Ok-2.ensures.items (omega arith) (omega arith) in
     all.kept

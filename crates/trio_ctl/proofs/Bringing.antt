@@ -1,0 +1,156 @@
+-- Pages that are brought home one list after another.
+use Rattle.std.proofs.Common.{◌≡◌, ℕ, zero, suc, ◌+◌, ◌<◌, Bool, true, false, ◌==◌, List, [], ◌∷◌, ◌++◌, length, map, take, get_or, set, reverse, Some, None, is_some, IsTrue, refl, sym, ap, subst, ◌∙◌, ◌⊎◌, inl, inr, ◌≢◌, arith, get_or-set_same, get_or-set_other}
+use Rattle.std.proofs.Math.Seq.{take-suc}
+use Rattle.std.specs.Prelude.{◌||◌, nat_le, if◌then◌else◌}
+use Rattle.std.specs.List.{flat_map, find, list_all}
+use Rattle.std.proofs.lemmas.Bool.{and_parts, cases_eq, eq-eqb, leb-true, ne_eqb}
+use Rattle.std.proofs.lemmas.List.{reverse-append}
+use Rattle.std.proofs.lemmas.List.Folds.{flat_map-map}
+use Rattle.trio_page.specs.Home.{Pages}
+use Rattle.trio_layout.specs.Marks.{all_below}
+use Rattle.trio_rights.specs.declared.kind.Kind.{Kind}
+use Rattle.trio_rights.specs.declared.kind.Kind.TheVariants.{Regular, Directory}
+use Rattle.trio_lease.specs.Bundles.{Bundled, bundled}
+use Rattle.trio_lease.specs.Shown.{LentFile}
+use Rattle.trio_lease.specs.declared.bundle.BundleParts.{BundleParts}
+use Rattle.trio_state.specs.Bundles.{uncovered, uncovered_of}
+use Rattle.trio_state.specs.Handed.{bundle_in, fresh_sheet, lent_sheet, written_in}
+use Rattle.trio_state.specs.Proposed.{Written, bundle_sheets}
+use Rattle.trio_state.specs.Sheets.{Sheet, sheet_numbers, with_pages}
+use Rattle.trio_checkpoint.proofs.Restoring.{below_joined, below_parts, length-with_pages, with_pages-append}
+use Rattle.trio_ctl.specs.Moves.{file_sheets, uncovered_sheets}
+
+-- With the pages that are left put too, home is as the start with all of them put.
+pub record Left (home start : Pages) (rest all : List Sheet) : Type 0 where
+  pub pages : with_pages rest home.pages ≡ with_pages all start.pages
+  pub below : IsTrue (all_below (length home.pages) (sheet_numbers rest))
+  pub looked : home.looked ≡ start.looked
+
+pub all_left : (start : Pages) (rest all : List Sheet) → rest ≡ all → IsTrue (all_below (length start.pages) (sheet_numbers all)) → Left start start rest all
+all_left start rest all same below = record {
+  pages = ap (λ xs. with_pages xs start.pages) same;
+  below = subst (λ xs. IsTrue (all_below (length start.pages) (sheet_numbers xs))) (sym same) below;
+  looked = refl;
+}
+
+pub front_within : (home start : Pages) (rest all xs ys : List Sheet) → Left home start rest all → rest ≡ xs ++ ys → IsTrue (all_below (length home.pages) (sheet_numbers xs))
+front_within home start rest all xs ys left parts =
+    (below_parts (length home.pages) xs ys (subst (λ zs. IsTrue (all_below (length home.pages) (sheet_numbers zs))) parts left.below)).0
+
+pub less_left : (home start now : Pages) (rest all xs ys : List Sheet) → Left home start rest all → rest ≡ xs ++ ys → now ≡ record home { pages = with_pages xs home.pages } → Left now start ys all
+less_left home start now rest all xs ys left parts put =
+    let n : length now.pages ≡ length home.pages = ap (λ (h : Pages). length h.pages) put ∙ length-with_pages xs home.pages in
+    record {
+      pages = ap (λ (h : Pages). with_pages ys h.pages) put
+          ∙ sym (with_pages-append xs ys home.pages)
+          ∙ ap (λ zs. with_pages zs home.pages) (sym parts)
+          ∙ left.pages;
+      below = subst (λ k. IsTrue (all_below k (sheet_numbers ys))) (sym n)
+          (below_parts (length home.pages) xs ys (subst (λ zs. IsTrue (all_below (length home.pages) (sheet_numbers zs))) parts left.below)).1;
+      looked = ap (λ (h : Pages). h.looked) put ∙ left.looked;
+    }
+
+-- the last of a list stands at the front of the reversed one
+pub last_first : {X Y : Type 0} (f : X → List Y) (items rest : List X) (x : X) → items ≡ rest ++ x ∷ [] → flat_map f (reverse items) ≡ f x ++ flat_map f (reverse rest)
+last_first f items rest x is =
+    ap (λ xs. flat_map f (reverse xs)) is ∙ ap (flat_map f) (reverse-append rest (x ∷ []))
+
+pub last_first-map : {X Y : Type 0} (f : X → Y) (items rest : List X) (x : X) → items ≡ rest ++ x ∷ [] → map f (reverse items) ≡ (f x ∷ []) ++ map f (reverse rest)
+last_first-map f items rest x is =
+    ap (λ xs. map f (reverse xs)) is ∙ ap (map f) (reverse-append rest (x ∷ []))
+
+-- ---- marks
+
+-- whether one of these files has this inode number
+abbrev pub has_number : ℕ → List LentFile → Bool
+has_number n files = is_some (find (λ w. w.ino == n) (map (λ f. written_in f.stands) files))
+
+one_more : (n : ℕ) (files : List LentFile) (x : LentFile) → has_number n (files ++ x ∷ []) ≡ (has_number n files || x.stands.ino == n)
+one_more n [] x = by (x.stands.ino == n) (written_in x.stands)
+  where
+    by : (b : Bool) (w : Written) → is_some (if b then Some w else None) ≡ b
+    by true w = refl
+    by false w = refl
+one_more n (f ∷ files) x = by (one_more n files x) (f.stands.ino == n) (written_in f.stands)
+  where
+    by : has_number n (files ++ x ∷ []) ≡ (has_number n files || x.stands.ino == n) → (b : Bool) (w : Written)
+        → is_some (if b then Some w else find (λ w. w.ino == n) (map (λ f. written_in f.stands) (files ++ x ∷ [])))
+        ≡ (is_some (if b then Some w else find (λ w. w.ino == n) (map (λ f. written_in f.stands) files)) || x.stands.ino == n)
+    by again true w = refl
+    by again false w = again
+
+or_true : (b : Bool) → (b || true) ≡ true
+or_true true = refl
+or_true false = refl
+
+or_false : (b : Bool) → (b || false) ≡ b
+or_false true = refl
+or_false false = refl
+
+-- with the mark of the next file, all files so far are marked
+pub mark_next : (marks : List Bool) (files : List LentFile) (i : ℕ) (x : LentFile) (n : ℕ) → i < length files → x ≡ get_or files i x → x.stands.ino < length marks
+    → get_or marks n false ≡ has_number n (take i files) → get_or (set marks x.stands.ino true) n false ≡ has_number n (take (i + 1) files)
+mark_next marks files i x n lt is below so_far =
+    by (cases_eq x.stands.ino n) ∙ sym (one_more n (take i files) x) ∙ ap (has_number n) (sym more)
+  where
+    e : i + 1 ≡ suc i
+    e = omega arith
+
+    more : take (i + 1) files ≡ take i files ++ x ∷ []
+    more = ap (λ k. take k files) e ∙ take-suc files i x lt ∙ ap (λ y. take i files ++ y ∷ []) (sym is)
+
+    by : ((x.stands.ino ≡ n) ⊎ (x.stands.ino ≢ n)) → get_or (set marks x.stands.ino true) n false ≡ (has_number n (take i files) || x.stands.ino == n)
+    by (inl same) =
+        ap (λ k. get_or (set marks x.stands.ino true) k false) (sym same)
+        ∙ get_or-set_same marks x.stands.ino true false below
+        ∙ sym (or_true (has_number n (take i files)))
+        ∙ ap (λ b. has_number n (take i files) || b) (sym (eq-eqb x.stands.ino n same))
+    by (inr apart) =
+        get_or-set_other marks x.stands.ino n true false (λ e. apart (sym e))
+        ∙ so_far
+        ∙ sym (or_false (has_number n (take i files)))
+        ∙ ap (λ b. has_number n (take i files) || b) (sym (ne_eqb x.stands.ino n apart))
+
+pub number_within : (inodes : ℕ) (files : List LentFile) (i : ℕ) (x : LentFile) → i < length files → x ≡ get_or files i x
+    → IsTrue (list_all (λ w. nat_le w.ino inodes) (map (λ f. written_in f.stands) files)) → x.stands.ino < inodes + 1
+number_within inodes [] i x lt is all = absurd (omega arith)
+number_within inodes (f ∷ files) zero x lt is all =
+    let le = leb-true f.stands.ino inodes (and_parts (nat_le f.stands.ino inodes) (list_all (λ w. nat_le w.ino inodes) (map (λ f. written_in f.stands) files)) all).0 in
+    let e : x.stands.ino ≡ f.stands.ino = ap (λ (y : LentFile). y.stands.ino) is in
+    omega (arith, le, e)
+number_within inodes (f ∷ files) (suc i) x lt is all =
+    number_within inodes files i x (omega arith) is
+    (and_parts (nat_le f.stands.ino inodes) (list_all (λ w. nat_le w.ino inodes) (map (λ f. written_in f.stands) files)) all).1
+
+-- ---- the pages of a bundle
+
+pub sheets_are : (parts : BundleParts) (b : Bundled) → bundled parts ≡ b → bundle_sheets (bundle_in b) ≡ flat_map file_sheets parts.writes.items ++ map fresh_sheet parts.pages.items
+sheets_are parts b is =
+    ap (λ (b : Bundled). bundle_sheets (bundle_in b)) (sym is)
+    ∙ ap (λ ss. ss ++ map fresh_sheet parts.pages.items)
+    (flat_map-map (λ (w : Written). w.index ++ w.blocks) (λ (f : LentFile). written_in f.stands) parts.writes.items)
+
+pub uncovered_are : (parts : BundleParts) (b : Bundled) → bundled parts ≡ b → uncovered (bundle_in b) ++ (bundle_in b).pages ≡ flat_map uncovered_sheets parts.writes.items ++ map fresh_sheet parts.pages.items
+uncovered_are parts b is =
+    ap (λ (b : Bundled). uncovered (bundle_in b) ++ (bundle_in b).pages) (sym is)
+    ∙ ap (λ ss. ss ++ map fresh_sheet parts.pages.items)
+    (flat_map-map (λ (w : Written). uncovered_of w.kind w.blocks) (λ (f : LentFile). written_in f.stands) parts.writes.items)
+
+file_within : (n : ℕ) (kind : Kind) (index blocks : List Sheet) → IsTrue (all_below n (sheet_numbers (index ++ blocks))) → IsTrue (all_below n (sheet_numbers (uncovered_of kind blocks)))
+file_within n Regular index blocks below = (below_parts n index blocks below).1
+file_within n Directory index blocks below = refl
+
+uncovered_within : (n : ℕ) (files : List LentFile) → IsTrue (all_below n (sheet_numbers (flat_map file_sheets files))) → IsTrue (all_below n (sheet_numbers (flat_map uncovered_sheets files)))
+uncovered_within n [] below = refl
+uncovered_within n (f ∷ files) below =
+    let parts = below_parts n (file_sheets f) (flat_map file_sheets files) below in
+    below_joined n (uncovered_sheets f) (flat_map uncovered_sheets files)
+    (file_within n f.stands.kind (map lent_sheet f.stands.index) (map lent_sheet f.stands.blocks) parts.0)
+    (uncovered_within n files parts.1)
+
+-- pages of a bundle that no checkpoint covers are within where all of its pages are
+pub less_within : (n : ℕ) (files : List LentFile) (allotted : List Sheet) → IsTrue (all_below n (sheet_numbers (flat_map file_sheets files ++ allotted)))
+    → IsTrue (all_below n (sheet_numbers (flat_map uncovered_sheets files ++ allotted)))
+less_within n files allotted below =
+    let parts = below_parts n (flat_map file_sheets files) allotted below in
+    below_joined n (flat_map uncovered_sheets files) allotted (uncovered_within n files parts.0) parts.1

@@ -1,0 +1,33 @@
+use Rattle.std.proofs.Common.{◌∙◌, List, length, map, IsTrue, ap, sym, subst}
+use Rattle.std.specs.List.{flat_map}
+use Rattle.trio_layout.specs.Marks.{all_below}
+use Rattle.trio_page.specs.Home.{Pages}
+use Rattle.trio_state.specs.Handed.{fresh_sheet}
+use Rattle.trio_state.specs.Sheets.{Sheet, sheet_numbers, with_pages}
+use Rattle.trio_checkpoint.proofs.Following.{put_both, within_still}
+use Rattle.trio_checkpoint.proofs.Restoring.{below_parts}
+use Rattle.trio_ctl.specs.Moves.{file_sheets}
+use Rattle.trio_ctl.proofs.Bringing.{sheets_are}
+use Rattle.trio_ctl.proofs.bundles.bring_home.Goals as goal
+
+pub bring_files-requires : goal.bring_files-requires
+bring_files-requires c =
+    let parts = c.parts-writes.result in
+    let n = length c.args.home.now.pages in
+    let below = subst (λ (ss : List Sheet). IsTrue (all_below n (sheet_numbers ss))) (sheets_are parts c.args.bundle c.parts-writes.ensures) c.requires in
+    (below_parts n (flat_map file_sheets parts.writes.items) (map fresh_sheet parts.pages.items) below).0
+
+pub bring_allotted-requires : goal.bring_allotted-requires
+bring_allotted-requires c =
+    let parts = c.parts-writes.result in
+    let n = length c.args.home.now.pages in
+    let below = subst (λ (ss : List Sheet). IsTrue (all_below n (sheet_numbers ss))) (sheets_are parts c.args.bundle c.parts-writes.ensures) c.requires in
+    within_still c.args.home.now c.bring_files.new.home (flat_map file_sheets parts.writes.items) (map fresh_sheet parts.pages.items) below c.bring_files.ensures
+
+pub returns : goal.returns
+returns c =
+    let parts = c.parts-writes.result in
+    let home : Pages = c.args.home.now in
+    put_both home c.bring_files.new.home c.bring_allotted.new.home (flat_map file_sheets parts.writes.items) (map fresh_sheet parts.pages.items)
+    c.bring_files.ensures c.bring_allotted.ensures
+    ∙ ap (λ (ss : List Sheet). record home { pages = with_pages ss home.pages }) (sym (sheets_are parts c.args.bundle c.parts-writes.ensures))

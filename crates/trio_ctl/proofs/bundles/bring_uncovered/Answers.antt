@@ -1,0 +1,33 @@
+use Rattle.std.proofs.Common.{◌∙◌, List, length, map, IsTrue, ap, sym, subst}
+use Rattle.std.specs.List.{flat_map}
+use Rattle.trio_layout.specs.Marks.{all_below}
+use Rattle.trio_page.specs.Home.{Pages}
+use Rattle.trio_state.specs.Handed.{fresh_sheet}
+use Rattle.trio_state.specs.Sheets.{Sheet, sheet_numbers, with_pages}
+use Rattle.trio_checkpoint.proofs.Following.{put_both, within_still}
+use Rattle.trio_checkpoint.proofs.Restoring.{below_parts}
+use Rattle.trio_ctl.specs.Moves.{uncovered_sheets}
+use Rattle.trio_ctl.proofs.Bringing.{less_within, sheets_are, uncovered_are}
+use Rattle.trio_ctl.proofs.bundles.bring_uncovered.Goals as goal
+
+pub bring_uncovered_blocks-requires : goal.bring_uncovered_blocks-requires
+bring_uncovered_blocks-requires c =
+    let parts = c.parts-writes.result in
+    let n = length c.args.home.now.pages in
+    let below = subst (λ (ss : List Sheet). IsTrue (all_below n (sheet_numbers ss))) (sheets_are parts c.args.bundle c.parts-writes.ensures) c.requires in
+    (below_parts n (flat_map uncovered_sheets parts.writes.items) (map fresh_sheet parts.pages.items) (less_within n parts.writes.items (map fresh_sheet parts.pages.items) below)).0
+
+pub bring_allotted-requires : goal.bring_allotted-requires
+bring_allotted-requires c =
+    let parts = c.parts-writes.result in
+    let n = length c.args.home.now.pages in
+    let below = subst (λ (ss : List Sheet). IsTrue (all_below n (sheet_numbers ss))) (sheets_are parts c.args.bundle c.parts-writes.ensures) c.requires in
+    within_still c.args.home.now c.bring_uncovered_blocks.new.home (flat_map uncovered_sheets parts.writes.items) (map fresh_sheet parts.pages.items) (less_within n parts.writes.items (map fresh_sheet parts.pages.items) below) c.bring_uncovered_blocks.ensures
+
+pub returns : goal.returns
+returns c =
+    let parts = c.parts-writes.result in
+    let home : Pages = c.args.home.now in
+    put_both home c.bring_uncovered_blocks.new.home c.bring_allotted.new.home (flat_map uncovered_sheets parts.writes.items) (map fresh_sheet parts.pages.items)
+    c.bring_uncovered_blocks.ensures c.bring_allotted.ensures
+    ∙ ap (λ (ss : List Sheet). record home { pages = with_pages ss home.pages }) (sym (uncovered_are parts c.args.bundle c.parts-writes.ensures))

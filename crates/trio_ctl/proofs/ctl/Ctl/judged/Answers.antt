@@ -1,0 +1,56 @@
+use Rattle.std.proofs.Common.{◌≡◌, ◌∙◌, true, false, sym, ap, subst}
+use Rattle.trio_layout.specs.Marks.{all_below}
+use Rattle.trio_state.specs.Accept.{is_accepted, next}
+use Rattle.trio_state.specs.Given.{GivenTo}
+use Rattle.trio_state.specs.Handed.{bundle_in}
+use Rattle.trio_state.specs.Image.{Image}
+use Rattle.trio_state.specs.State.{State, creds_of, settled}
+use Rattle.trio_proposal.specs.Judged.{IfAccepted, IfRefused, IsImage}
+use Rattle.trio_ctl.specs.Ctl.{state_of}
+use Rattle.trio_ctl.proofs.Handing.{can_be_judged, covered_within, image_same, numbered}
+use Rattle.trio_ctl.proofs.ctl.Ctl.judged.Goals as goal
+
+pub settled_pages-requires : goal.settled_pages-requires
+settled_pages-requires c =
+    let f = c.self.inside in
+    rw c.deref.ensures.value (covered_within f.superblock f.home.pages f.rows f.owners f.grants f.files.items f.libs.items f.entries c.self.invariant)
+
+pub judge-requires : goal.judge-requires
+judge-requires c =
+    let f = c.self.inside in
+    let b = bundle_in c.args.bundle.now in
+    let given = subst (λ (x : State). GivenTo x c.args.lib.0 b) (sym c.self.view_is) c.requires.given in
+    can_be_judged f.superblock f.home.pages f.rows f.owners f.grants f.files.items f.libs.items f.entries c.self.invariant c.args.lib b given c.in_ok-settled.settled.pages (rw c.deref.ensures.value at c.in_ok-settled.ensures.pages)
+
+pub written_marks-requires-clause-numbers : goal.written_marks-requires-clause-numbers
+written_marks-requires-clause-numbers c =
+    let f = c.self.inside in
+    let b = bundle_in c.args.bundle.now in
+    let given = subst (λ (x : State). GivenTo x c.args.lib.0 b) (sym c.self.view_is) c.requires.given in
+    numbered f.superblock f.home.pages f.rows f.owners f.grants f.files.items f.libs.items f.entries c.self.invariant c.args.lib b given
+
+pub returns-clause-accepted : goal.returns-clause-accepted
+returns-clause-accepted c =
+    let f = c.self.inside in
+    let b = bundle_in c.args.bundle.now in
+    let given = subst (λ (x : State). GivenTo x c.args.lib.0 b) (sym c.self.view_is) c.requires.given in
+    let same = image_same f.superblock f.home.pages f.rows f.owners f.grants f.files.items f.libs.items f.entries c.self.invariant c.args.lib b given c.in_ok-settled.settled.pages (rw c.deref.ensures.value at c.in_ok-settled.ensures.pages) in
+    rw c.creds-creds.ensures at
+    (subst (λ (image : Image). IfAccepted (λ n. is_accepted image c.creds-creds.result b ≡ true) c.in_ok-verdict.verdict) (same ∙ ap settled c.self.view_is) (c.in_ok-verdict.ensures.accepted f.owners))
+
+pub returns-clause-next : goal.returns-clause-next
+returns-clause-next c =
+    let f = c.self.inside in
+    let b = bundle_in c.args.bundle.now in
+    let given = subst (λ (x : State). GivenTo x c.args.lib.0 b) (sym c.self.view_is) c.requires.given in
+    let same = image_same f.superblock f.home.pages f.rows f.owners f.grants f.files.items f.libs.items f.entries c.self.invariant c.args.lib b given c.in_ok-settled.settled.pages (rw c.deref.ensures.value at c.in_ok-settled.ensures.pages) in
+    subst (λ (image : Image). IfAccepted (IsImage (next image b)) c.in_ok-verdict.verdict) (same ∙ ap settled c.self.view_is) (c.in_ok-verdict.ensures.next f.owners)
+
+pub returns-clause-refused : goal.returns-clause-refused
+returns-clause-refused c =
+    let f = c.self.inside in
+    let b = bundle_in c.args.bundle.now in
+    let given = subst (λ (x : State). GivenTo x c.args.lib.0 b) (sym c.self.view_is) c.requires.given in
+    let same = image_same f.superblock f.home.pages f.rows f.owners f.grants f.files.items f.libs.items f.entries c.self.invariant c.args.lib b given c.in_ok-settled.settled.pages (rw c.deref.ensures.value at c.in_ok-settled.ensures.pages) in
+    rw c.creds-creds.ensures at
+    (subst (λ (image : Image). IfRefused (is_accepted image c.creds-creds.result b ≡ false) c.in_ok-verdict.verdict) (same ∙ ap settled c.self.view_is) (c.in_ok-verdict.ensures.refused f.owners))

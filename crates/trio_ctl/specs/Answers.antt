@@ -1,0 +1,46 @@
+-- What the controller's calls answer, as the steps have it.
+use Rattle.std.specs.Prelude.{◌≡◌, ⊤, ℕ, Bool, List, Option, Some, None, Result, Ok, Err}
+use Rattle.std.specs.Option.{option_map}
+use Rattle.trio_grants.specs.declared.grant.Grant.{Grant}
+use Rattle.trio_grants.specs.Grants.{Keyed, first_with, holder}
+use Rattle.trio_nodes.specs.declared.grant.Holder.{Holder}
+use Rattle.trio_nodes.specs.declared.answers.GrantFault.{GrantFault}
+use Rattle.trio_nodes.specs.declared.answers.GrantFault.TheVariants.{Busy as BusyGrant, NoMemory as NoGrantMemory}
+use Rattle.trio_nodes.specs.declared.answers.ReleaseAnswer.{ReleaseAnswer}
+use Rattle.trio_nodes.specs.declared.answers.ReleaseAnswer.TheVariants.{Accepted as AcceptedBundle, Refused as RefusedBundle}
+use Rattle.trio_nodes.specs.declared.answers.ReleaseFault.{ReleaseFault}
+use Rattle.trio_nodes.specs.declared.answers.ReleaseFault.TheVariants.{NotClosed as NotClosedBundle, NoMemory as NoReleaseMemory}
+use Rattle.trio_state.specs.Step.{Answer, Granted, NotGranted, Accepted, Refused, NotClosed, NoMemory}
+use Rattle.trio_ctl.specs.declared.ctl.ImageFault.{ImageFault}
+use Rattle.trio_ctl.specs.declared.ctl.ImageFault.TheVariants.{Busy, NoMemory as NoImageMemory}
+
+-- a write grant tells no children
+abbrev pub grant_fault_answer : GrantFault → Answer
+grant_fault_answer NoGrantMemory = NoMemory
+grant_fault_answer fault = NotGranted fault
+
+abbrev pub grant_answer : {L : Type 0} → Result L GrantFault → Answer
+grant_answer (Ok lease) = Granted 0
+grant_answer (Err fault) = grant_fault_answer fault
+
+abbrev pub release_fault_answer : ReleaseFault → Answer
+release_fault_answer NoReleaseMemory = NoMemory
+release_fault_answer (NotClosedBundle ino) = NotClosed ino
+
+abbrev pub release_answer : {B : Type 0} → Result ReleaseAnswer B → (B → ReleaseFault) → Answer
+release_answer (Ok AcceptedBundle) fault = Accepted
+release_answer (Ok (RefusedBundle rule ino page slot)) fault = Refused
+release_answer (Err back) fault = release_fault_answer (fault back)
+
+-- a settled image is told just where nobody writes; else the first writer is named
+abbrev pub TellsImage : {I : Type 0} → Option Holder → Result I ImageFault → Type 0
+TellsImage writer (Ok image) = writer ≡ None
+TellsImage writer (Err (Busy holder)) = writer ≡ Some holder
+TellsImage writer (Err NoImageMemory) = writer ≡ None
+
+-- A grant that is asked is admitted just where no open one excludes it; else the first that does is named.
+abbrev pub Admits : (Grant → Bool) → List Keyed → Result ℕ GrantFault → Type 0
+Admits excluding grants (Ok key) = first_with excluding grants ≡ None
+Admits excluding grants (Err (BusyGrant who)) = option_map holder (first_with excluding grants) ≡ Some who
+Admits excluding grants (Err NoGrantMemory) = ⊤
+Admits excluding grants (Err fault) = ⊥

@@ -1,0 +1,62 @@
+-- The grants that are open, as the controller keeps them.
+use Rattle.std.specs.Prelude.{ℕ, ◌==◌, ◌++◌, List, map, Option, false}
+use Rattle.std.specs.List.{find}
+use Rattle.std.specs.Option.{option_and_then}
+use Rattle.trio_rights.specs.declared.kind.Kind.{Kind}
+use Rattle.trio_nodes.specs.declared.grant.GrantKind.TheVariants.{Write}
+use Rattle.trio_grants.specs.Grants.{Keyed}
+use Rattle.trio_layout.specs.Chain.{Chain}
+use Rattle.trio_layout.specs.Core.{Core}
+use Rattle.trio_lease.specs.declared.parts.LentPage.{LentPage}
+use Rattle.trio_lease.specs.Shown.{Shown, LentFile}
+use Rattle.trio_state.specs.Grants.{sheets_of}
+use Rattle.trio_state.specs.Sheets.{Sheet}
+use Rattle.trio_state.specs.State.{OpenGrant, covered}
+use Rattle.trio_checkpoint.specs.Covered.{page_on}
+
+-- an open grant, beside the key that ends it in the table of grants
+pub record Opened : Type 0 where
+  pub key : ℕ
+  pub grant : OpenGrant
+
+-- the same as the table of grants has it
+abbrev pub keyed : Opened → Keyed
+keyed o = (o.key, record { lib = record { 0 = o.grant.lib }; ino = o.grant.ino; kind = o.grant.kind; entry = o.grant.entry })
+
+-- the page of this number as the checkpoint of the open grant on this directory has it
+abbrev pub page_lent : List Opened → ℕ → ℕ → Option (List ℕ)
+page_lent files directory page = option_and_then (λ o. page_on page o.grant.checkpoint) (find (λ o. o.grant.ino == directory) files)
+
+-- a write grant on a file of this kind, body and chain, by the pages of this core
+abbrev pub grant_on : Core → ℕ → ℕ → Kind → ℕ → List ℕ → Chain → OpenGrant
+grant_on core lib ino of entry body chain = record {
+  lib = lib;
+  ino = ino;
+  kind = Write;
+  of = of;
+  entry = entry;
+  body = body;
+  index = sheets_of core chain.index;
+  blocks = sheets_of core chain.blocks;
+  checkpoint = covered Write of (sheets_of core chain.index) (sheets_of core chain.blocks);
+}
+
+-- a page as it is lent: nobody has asked for it for writing
+abbrev pub untouched : Sheet → LentPage
+untouched x = record { no = record { 0 = x.page }; page = x.bytes; touched = false }
+
+-- the file that a grant lends, as its lease shows it
+abbrev pub shown_of : OpenGrant → Shown
+shown_of g = record {
+  lib = record { 0 = g.lib };
+  ino = g.ino;
+  kind = g.of;
+  entry = g.entry;
+  body = g.body;
+  index = map untouched g.index;
+  blocks = map untouched g.blocks;
+}
+
+-- the lease of a write grant, as it is given
+abbrev pub lease_of : OpenGrant → LentFile
+lease_of g = record { stands = shown_of g; lent = shown_of g }

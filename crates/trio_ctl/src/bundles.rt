@@ -1,0 +1,159 @@
+//! What becomes of a bundle that was handed in.
+
+ghost use Rattle.std.specs.Prelude.{◌≡◌, ◌≤◌, ◌++◌, ℕ, IfOk, IsTrue, false, length, map, slice_index_or};
+ghost use Rattle.std.specs.List.{flat_map};
+ghost use Rattle.trio_layout.specs.Marks.{all_below};
+ghost use Rattle.trio_state.specs.Bundles.{uncovered};
+ghost use Rattle.trio_state.specs.Handed.{bundle_in, fresh_sheet};
+ghost use Rattle.trio_state.specs.Proposed.{bundle_pages, bundle_sheets, is_written};
+ghost use Rattle.trio_state.specs.Sheets.{sheet_numbers, with_pages};
+ghost use Rattle.trio_ctl.specs.Moves.{are_numbered, file_sheets, lent_sheets, uncovered_sheets};
+
+use std::alloc::Global;
+use trio_lease::{
+    Bundle, BundleParts, FreshIno, FreshPage, FreshParts, HoldLease, LentPage, WriteLease,
+    WriteParts,
+};
+use trio_page::{Home, NoMemory};
+use trio_rights::Kind;
+
+/// Which files a bundle writes, by inode number. `NoMemory`: there was no memory for the marks.
+pub(crate) fn written_marks(
+    alloc: Global,
+    bundle: &Bundle,
+    inodes: u32,
+) -> Result<Vec<bool>, NoMemory>
+    requires few { inodes ≤ 16384 }
+    requires numbers { IsTrue (are_numbered inodes (bundle_in bundle.now)) }
+    ensures { IfOk result (λ marks. (n : ℕ) → slice_index_or marks.items n false ≡ is_written (bundle_in bundle.now) n) }
+{
+    let mut marks = Vec::new(alloc);
+    marks.resize(inodes as usize + 1, false)?;
+    for lease in bundle.writes() {
+        marks[lease.ino() as usize] = true;
+    }
+    Ok(marks)
+}
+
+/// Brings all pages of a bundle home: each lease's index pages and blocks, then the allotted
+/// pages. Holds and numbers are let go.
+pub(crate) fn bring_home(home: &mut Home, bundle: Bundle)
+    requires { IsTrue (all_below (length home.old.pages) (bundle_pages (bundle_in bundle))) }
+    ensures { home.new ≡ record home.old { pages = with_pages (bundle_sheets (bundle_in bundle)) home.old.pages } }
+{
+    let BundleParts {
+        writes,
+        holds,
+        pages,
+        inodes,
+    } = bundle.parts();
+    bring_files(home, writes);
+    bring_allotted(home, pages);
+    discard_holds(holds);
+    discard_numbers(inodes);
+}
+
+/// Brings home what no checkpoint covers: the blocks of regular files, and the allotted pages. The
+/// rest of the bundle is let go.
+pub(crate) fn bring_uncovered(home: &mut Home, bundle: Bundle)
+    requires { IsTrue (all_below (length home.old.pages) (bundle_pages (bundle_in bundle))) }
+    ensures { home.new ≡ record home.old {
+      pages = with_pages (uncovered (bundle_in bundle) ++ (bundle_in bundle).pages) home.old.pages;
+    } }
+{
+    let BundleParts {
+        writes,
+        holds,
+        pages,
+        inodes,
+    } = bundle.parts();
+    bring_uncovered_blocks(home, writes);
+    bring_allotted(home, pages);
+    discard_holds(holds);
+    discard_numbers(inodes);
+}
+
+/// Brings all pages of written files home, file by file.
+fn bring_files(home: &mut Home, mut writes: Vec<WriteLease>)
+    requires { IsTrue (all_below (length home.old.pages) (sheet_numbers (flat_map file_sheets writes.items))) }
+    ensures { home.new ≡ record home.old { pages = with_pages (flat_map file_sheets writes.items) home.old.pages } }
+{
+    writes.reverse();
+    while let Some(lease) = writes.pop() {
+        bring_file(home, lease);
+    }
+    writes.destroy_empty();
+}
+
+/// Brings the pages of one file home.
+fn bring_file(home: &mut Home, lease: WriteLease)
+    requires { IsTrue (all_below (length home.old.pages) (sheet_numbers (file_sheets lease))) }
+    ensures { home.new ≡ record home.old { pages = with_pages (file_sheets lease) home.old.pages } }
+{
+    let WriteParts { index, blocks, .. } = lease.parts();
+    bring_pages(home, index);
+    bring_pages(home, blocks);
+}
+
+/// Brings the blocks of the regular files among these home.
+fn bring_uncovered_blocks(home: &mut Home, mut writes: Vec<WriteLease>)
+    requires { IsTrue (all_below (length home.old.pages) (sheet_numbers (flat_map uncovered_sheets writes.items))) }
+    ensures { home.new ≡ record home.old { pages = with_pages (flat_map uncovered_sheets writes.items) home.old.pages } }
+{
+    writes.reverse();
+    while let Some(lease) = writes.pop() {
+        bring_blocks(home, lease);
+    }
+    writes.destroy_empty();
+}
+
+/// Brings the blocks of one file home, if it is regular.
+fn bring_blocks(home: &mut Home, lease: WriteLease)
+    requires { IsTrue (all_below (length home.old.pages) (sheet_numbers (uncovered_sheets lease))) }
+    ensures { home.new ≡ record home.old { pages = with_pages (uncovered_sheets lease) home.old.pages } }
+{
+    let WriteParts { kind, blocks, .. } = lease.parts();
+    match kind {
+        Kind::Regular => bring_pages(home, blocks),
+        Kind::Directory => {}
+    }
+}
+
+/// Puts lent pages in their places at home.
+fn bring_pages(home: &mut Home, pages: Vec<LentPage>)
+    requires { IsTrue (all_below (length home.old.pages) (sheet_numbers (lent_sheets pages.items))) }
+    ensures { home.new ≡ record home.old { pages = with_pages (lent_sheets pages.items) home.old.pages } }
+{
+    for lent in pages {
+        home.put(lent.no, lent.page);
+    }
+}
+
+/// Puts allotted pages in their places at home.
+fn bring_allotted(home: &mut Home, mut pages: Vec<FreshPage>)
+    requires { IsTrue (all_below (length home.old.pages) (sheet_numbers (map fresh_sheet pages.items))) }
+    ensures { home.new ≡ record home.old { pages = with_pages (map fresh_sheet pages.items) home.old.pages } }
+{
+    pages.reverse();
+    while let Some(page) = pages.pop() {
+        let FreshParts { no, page, .. } = page.parts();
+        home.put(no, page);
+    }
+    pages.destroy_empty();
+}
+
+/// Lets the holds go.
+fn discard_holds(mut holds: Vec<HoldLease>) {
+    while let Some(hold) = holds.pop() {
+        hold.discard();
+    }
+    holds.destroy_empty();
+}
+
+/// Lets the inode numbers go.
+fn discard_numbers(mut numbers: Vec<FreshIno>) {
+    while let Some(number) = numbers.pop() {
+        number.discard();
+    }
+    numbers.destroy_empty();
+}

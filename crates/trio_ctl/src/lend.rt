@@ -1,0 +1,179 @@
+//! Lending a file for writing.
+
+ghost use Rattle.std.specs.Prelude.{◌≡◌, ◌≢◌, ◌==◌, ◌++◌, ◌∷◌, ◌<◌, ◌≤◌, [], false, IfOk, IsOk, IsSome, IsTrue, OnErr, if◌then◌else◌, length, map, None, Some, slice_index_or, vec_capacity};
+ghost use Rattle.std.specs.Result.{ForOk};
+ghost use Rattle.trio_layout.specs.Entries.{body_in_slot};
+ghost use Rattle.trio_layout.specs.Lists.{are_new};
+ghost use Rattle.trio_state.specs.Grants.{sheets_of};
+ghost use Rattle.trio_state.specs.Sheets.{without_pages};
+ghost use Rattle.trio_checkpoint.specs.Covered.{are_there, chain_in, core_of};
+ghost use Rattle.trio_tables.specs.Row.{as_row};
+ghost use Rattle.trio_ctl.specs.Lending.{IsLendable, StandsSomewhere, body_standing};
+ghost use Rattle.trio_ctl.specs.Open.{grant_on, lease_of, untouched};
+
+use crate::open::{OpenFile, lent_page};
+use std::alloc::Global;
+use std::snapshot::Snapshot;
+use trio_checkpoint::Checkpoint;
+use trio_grants::GrantKey;
+use trio_layout::CoreRange;
+use trio_lease::{LentPage, WriteLease, WriteParts};
+use trio_page::{Home, NoMemory, Page, PageNo, Reads};
+use trio_rights::{Kind, LibNo};
+use trio_tables::Row;
+
+/// A file that a library asks for.
+#[derive(Clone, Copy)]
+pub(crate) struct Asked {
+    /// The library that asks.
+    pub lib: LibNo,
+    /// The inode number of the file.
+    pub ino: u32,
+    pub kind: Kind,
+    /// The number of the entry of the history that opens the grant.
+    pub entry: u64,
+    /// The settled body of the file.
+    pub body: [u8; 64],
+}
+
+/// Lends a file for writing: its pages leave home. `NoMemory`: there was no memory for the
+/// checkpoint or the lease; then all pages are at home as before.
+pub(crate) fn lend(
+    alloc: Global,
+    home: &mut Home,
+    range: CoreRange,
+    asked: &Asked,
+    key: GrantKey,
+) -> Result<(OpenFile, WriteLease), NoMemory>
+    requires chain { IsOk (chain_in (core_of home.old.pages range) asked.now.kind asked.now.body) }
+    requires lendable { ForOk (chain_in (core_of home.old.pages range) asked.now.kind asked.now.body) (IsLendable (core_of home.old.pages range)) }
+    ensures opened { IfOk result (λ r. ForOk (chain_in (core_of home.old.pages range) asked.now.kind asked.now.body)
+        (λ chain. r.0 ≡ record { key = key; grant = grant_on (core_of home.old.pages range) asked.now.lib.0 asked.now.ino asked.now.kind asked.now.entry asked.now.body chain })) }
+    ensures lease { IfOk result (λ r. r.1 ≡ lease_of r.0.grant) }
+    ensures pages { IfOk result (λ r. ForOk (chain_in (core_of home.old.pages range) asked.now.kind asked.now.body)
+        (λ chain. home.new.pages ≡ without_pages (chain.index ++ chain.blocks) home.old.pages)) }
+    ensures kept { OnErr result (home.new.pages ≡ home.old.pages) }
+{
+    let mut reads = Reads::new();
+    let checkpoint = Checkpoint::taken(
+        alloc,
+        home,
+        asked.ino,
+        asked.kind,
+        &asked.body,
+        range,
+        &mut reads,
+    )?;
+    let mut index = Vec::with_capacity(alloc, checkpoint.index_numbers().len())?;
+    let mut blocks = Vec::with_capacity(alloc, checkpoint.block_numbers().len())?;
+    take_pages(
+        home,
+        range,
+        checkpoint.index_numbers(),
+        &mut index,
+        &mut reads,
+    );
+    take_pages(
+        home,
+        range,
+        checkpoint.block_numbers(),
+        &mut blocks,
+        &mut reads,
+    );
+    let parts = WriteParts {
+        lib: asked.lib,
+        ino: asked.ino,
+        kind: asked.kind,
+        entry: asked.entry,
+        body: asked.body,
+        index,
+        blocks,
+    };
+    let file = OpenFile::of(key, Snapshot::of(&parts), asked.lib, checkpoint);
+    Ok((file, WriteLease::of(parts)))
+}
+
+/// Takes the core pages of these numbers, all of them there and none twice, out of home. There is
+/// room for them.
+fn take_pages(
+    home: &mut Home,
+    range: CoreRange,
+    numbers: &[u32],
+    to: &mut Vec<LentPage>,
+    reads: &mut Reads,
+)
+    requires there { IsTrue (are_there (core_of home.old.pages range) numbers.now) }
+    requires once { IsTrue (are_new [] numbers.now) }
+    requires empty { to.old.items ≡ [] }
+    requires room { length numbers.now ≤ vec_capacity to.old }
+    ensures pages { home.new.pages ≡ without_pages numbers.now home.old.pages }
+    ensures lent { to.new.items ≡ map untouched (sheets_of (core_of home.old.pages range) numbers.now) }
+{
+    for number in numbers {
+        let page = taken(home, *number, reads);
+        let Ok(()) = to.push(page) else {
+            unreachable!()
+        };
+    }
+}
+
+/// Takes the page of this number, which is there, out of home.
+fn taken(home: &mut Home, number: u32, reads: &mut Reads) -> LentPage
+    requires { IsSome (slice_index_or home.old.pages number None) }
+    ensures pages { home.new.pages ≡ without_pages (number ∷ []) home.old.pages }
+    ensures lent { slice_index_or home.old.pages number None ≡ Some result.page }
+    ensures number { result ≡ record { no = record { 0 = number }; page = result.page; touched = false } }
+{
+    let no = PageNo(number);
+    let Some(page) = home.take(no, reads) else {
+        unreachable!()
+    };
+    LentPage {
+        no,
+        page,
+        touched: false,
+    }
+}
+
+/// The settled body of a live file that has this row, where `root` is that of the root.
+pub(crate) fn settled_body(
+    home: &mut Home,
+    files: &[OpenFile],
+    root: &[u8; 64],
+    ino: u32,
+    row: &Row,
+) -> [u8; 64]
+    requires { ino ≢ 1 → StandsSomewhere home.old.pages files.now (as_row row.now) }
+    ensures body { result ≡ (if ino == 1 then root.now else body_standing home.old.pages files.now (as_row row.now)) }
+    ensures home { home.new.pages ≡ home.old.pages }
+{
+    if ino == 1 {
+        return *root;
+    }
+    standing_body(home, files, row)
+}
+
+/// The body at the place of a row, as it is settled.
+fn standing_body(home: &mut Home, files: &[OpenFile], row: &Row) -> [u8; 64]
+    requires { StandsSomewhere home.old.pages files.now (as_row row.now) }
+    ensures body { result ≡ body_standing home.old.pages files.now (as_row row.now) }
+    ensures home { home.new.pages ≡ home.old.pages }
+{
+    let no = PageNo(row.page);
+    if let Some(page) = lent_page(files, row.parent, no) {
+        return body_on(page, row.slot);
+    }
+    let Some(page) = home.page(no, &mut Reads::new()) else {
+        unreachable!()
+    };
+    body_on(page, row.slot)
+}
+
+/// The body in a slot of a directory page.
+fn body_on(page: &Page, slot: u16) -> [u8; 64]
+    requires { slot < 16 }
+    ensures { result ≡ body_in_slot slot page.now }
+{
+    let at = 256 * usize::from(slot) + 192;
+    *page.bytes()[at..at + 64].as_array().unwrap()
+}
