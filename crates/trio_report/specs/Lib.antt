@@ -1,3 +1,4 @@
 pub mod Report
+pub mod Answers
 pub mod Seen
 pub mod Nodes

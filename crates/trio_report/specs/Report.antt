@@ -9,7 +9,7 @@ use Rattle.trio_state.specs.Tree.{TreeLine}
 use Rattle.trio_report.specs.declared.report.LibraryKind.{LibraryKind}
 use Rattle.trio_report.specs.declared.report.LibraryKind.TheVariants.{Raw}
 use Rattle.trio_report.specs.declared.report.EndAnswer.{EndAnswer}
-use Rattle.trio_report.specs.declared.report.EndAnswer.TheVariants.{Nothing}
+use Rattle.trio_report.specs.declared.report.EndAnswer.TheVariants.{Nothing, Accepted, Refused}
 
 -- three octal digits
 abbrev pub octal_of : ℕ → List ℕ
@@ -48,6 +48,8 @@ lib_heading number kind = codes "lib " ++ decimal number ++ codes " " ++ library
 -- the words for what a library's end is answered
 abbrev pub answer_word : EndAnswer → List ℕ
 answer_word Nothing = codes "nothing"
+answer_word Accepted = codes "accepted"
+answer_word Refused = codes "refused"
 
 -- the line that ends the report on a library
 abbrev pub end_line : EndAnswer → List ℕ

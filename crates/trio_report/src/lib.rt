@@ -5,15 +5,18 @@
 //!   `specs/Tree.antt`.
 //! - [`put_heading`], [`put_end`], [`put_tree`] and [`put_counts`] append text to bytes.
 //!   `specs/Report.antt` has the text of each.
+//! - [`put_answer`] appends what a line of a script is answered. `specs/Answers.antt` has its text.
 //!
 //! What puts text takes memory for it. After [`NoMemory`] a part of the text may have been appended.
 #![tactic(auto)]
 
+mod answer;
 mod line;
 mod report;
 mod text;
 mod tree;
 
+pub use answer::{LineAnswer, put_answer};
 pub use line::{TreeLine, TreeName, put_tree};
 pub use report::{Counts, EndAnswer, LibraryKind, put_counts, put_end, put_heading};
 pub use tree::tree_lines;

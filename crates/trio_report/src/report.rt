@@ -31,6 +31,10 @@ impl LibraryKind {
 pub enum EndAnswer {
     /// The library had nothing to give back.
     Nothing,
+    /// What was given back for it was accepted.
+    Accepted,
+    /// What was given back for it was refused.
+    Refused,
 }
 
 impl EndAnswer {
@@ -39,6 +43,8 @@ impl EndAnswer {
     {
         match self {
             EndAnswer::Nothing => "nothing",
+            EndAnswer::Accepted => "accepted",
+            EndAnswer::Refused => "refused",
         }
     }
 }

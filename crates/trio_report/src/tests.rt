@@ -186,3 +186,59 @@ fn deep_image_is_told(rt: HostRuntime) -> Result<(), Fail> {
     );
     Ok(())
 }
+
+/// Each answer, and its line.
+#[test]
+fn answers_are_told(rt: HostRuntime) -> Result<(), Fail> {
+    let alloc = rt.alloc();
+    let mut out = Vec::new(alloc);
+    put_answer(alloc, &mut out, 2, &LineAnswer::Granted)?;
+    put_answer(alloc, &mut out, 3, &LineAnswer::NotLive)?;
+    put_answer(alloc, &mut out, 4, &LineAnswer::Denied(12))?;
+    put_answer(alloc, &mut out, 5, &LineAnswer::NoParent)?;
+    put_answer(alloc, &mut out, 10, &LineAnswer::Busy)?;
+    put_answer(alloc, &mut out, 11, &LineAnswer::Poked)?;
+    put_answer(alloc, &mut out, 12, &LineAnswer::Accepted)?;
+    put_answer(alloc, &mut out, 13, &LineAnswer::Refused)?;
+    put_answer(alloc, &mut out, 16_384, &LineAnswer::Absent)?;
+    put_end(&mut out, EndAnswer::Accepted)?;
+    put_end(&mut out, EndAnswer::Refused)?;
+    assert_eq!(rt;
+        out.as_slice(),
+        b"2 granted\n3 notlive\n4 denied 12\n5 noparent\n10 busy\n11 poked\n12 accepted\n13 refused\n16384 absent\nend accepted\nend refused\n".as_slice()
+    );
+    Ok(())
+}
+
+/// Answers with numbers: lists of none, of one and of more, and what is free beside what was wanted.
+#[test]
+fn allotments_are_told(rt: HostRuntime) -> Result<(), Fail> {
+    let alloc = rt.alloc();
+    let answers = vec![in alloc;
+        LineAnswer::Allotted {
+            pages: vec![in alloc; 9]?,
+            inodes: Vec::new(alloc),
+        },
+        LineAnswer::Allotted {
+            pages: Vec::new(alloc),
+            inodes: vec![in alloc; 0, 12, 4_294_967_295]?,
+        },
+        LineAnswer::NoPages {
+            wanted: 30,
+            free: 25,
+        },
+        LineAnswer::NoInodes {
+            wanted: 64,
+            free: 0
+        },
+    ]?;
+    let mut out = Vec::new(alloc);
+    for answer in &answers {
+        put_answer(alloc, &mut out, 7, answer)?;
+    }
+    assert_eq!(rt;
+        out.as_slice(),
+        b"7 allotted 9 -\n7 allotted - 0,12,4294967295\n7 nopages 30 25\n7 noinodes 64 0\n".as_slice()
+    );
+    Ok(())
+}

@@ -1,1 +1,5 @@
+pub mod Forms
 pub mod Lines
+pub mod Numbers
+pub mod Numerals
+pub mod Played

@@ -1,7 +1,8 @@
 -- What a script says, line by line.
-use Rattle.std.specs.Prelude.{ℕ, ◌+◌, ◌==◌, nat_lt, Bool, true, false, not, ◌&&◌, ◌||◌, List, [], ◌∷◌, ◌++◌, length, Option, None, Some, if◌then◌else◌, codes, take}
+use Rattle.std.specs.Prelude.{ℕ, ◌+◌, ◌==◌, nat_lt, Bool, true, false, ◌||◌, List, [], ◌∷◌, ◌++◌, length, Option, None, Some, if◌then◌else◌, codes, take}
 use Rattle.std.specs.List.{list_any}
 use Rattle.std.specs.Str.{bytes_eq}
+use Rattle.trio_script.specs.Said.{Said, grant_write, allot, poke, release, line_said}
 
 -- The bytes cut at each line end (10), which belongs to no line. What follows the last line end is a line where it has bytes.
 abbrev pub cut_lines : List ℕ → List ℕ → List (List ℕ)
@@ -24,13 +25,25 @@ names_library line = bytes_eq (take 4 line) (codes "lib ")
 abbrev pub is_library_line : List ℕ → Bool
 is_library_line line = bytes_eq line (codes "lib 1 raw 0 0")
 
--- the number of the first line from `number` on that isn't built: the first that says something has to be the library's line
+-- what a line says is built, where it has one of the four forms; an allotment isn't built so far
+abbrev pub is_played : Option Said → Bool
+is_played (Some (grant_write ino)) = true
+is_played (Some (allot pages inodes)) = false
+is_played (Some (poke at offset bytes)) = true
+is_played (Some (release inos pages inodes)) = true
+is_played None = false
+
+-- a line that says something is built: the first such line is the library's, and what each after it says is built
+abbrev pub is_built : Bool → List ℕ → Bool
+is_built begun line = if begun then is_played (line_said line) else is_library_line line
+
+-- the number of the first line from `number` on that isn't built; `begun` tells whether the library's line came before
 abbrev pub first_unbuilt : ℕ → Bool → List (List ℕ) → Option ℕ
 first_unbuilt number begun [] = None
 first_unbuilt number begun (line ∷ lines) =
     if nat_lt 16384 number then Some number else
     (if is_silent line then first_unbuilt (number + 1) begun lines else
-    (if not begun && is_library_line line then first_unbuilt (number + 1) true lines else Some number))
+    (if is_built begun line then first_unbuilt (number + 1) true lines else Some number))
 
 -- The number of the line for which a script isn't built, counted from 1. A script without a library isn't at line 1.
 abbrev pub unbuilt_line : List ℕ → Option ℕ
@@ -42,3 +55,26 @@ unbuilt_line script =
 -- lines from there on names one, else at line 1
 abbrev pub unbuilt_at : ℕ → Bool → List (List ℕ) → ℕ
 unbuilt_at number begun lines = if begun || list_any names_library lines then number else 1
+
+-- a line that has one of the four forms, with its number
+pub record SaidLine : Type 0 where
+  pub number : ℕ
+  pub said : Said
+
+-- the line says something else than an allotment
+abbrev pub is_no_allotment : SaidLine → Bool
+is_no_allotment line = is_played (Some line.said)
+
+abbrev pub said_at : ℕ → Option Said → List SaidLine
+said_at number (Some said) = record { number = number; said = said } ∷ []
+said_at number None = []
+
+-- the lines from `number` on that have one of the four forms
+abbrev pub said_from : ℕ → List (List ℕ) → List SaidLine
+said_from number [] = []
+said_from number (line ∷ lines) = said_at number (line_said line) ++ said_from (number + 1) lines
+
+-- What a script says: its lines that have one of the four forms, with their numbers, counted from 1. Where the script is built,
+-- these are all lines that say something, but the library's.
+abbrev pub script_lines : List ℕ → List SaidLine
+script_lines script = said_from 1 (lines_of script)

@@ -1,5 +1,201 @@
 use super::*;
 use std::test::Fail;
+use trio_nodes::Spot;
+
+/// What the second line of a script says whose first is the library's.
+fn second_line(alloc: Global, line: &[u8]) -> Result<Result<Vec<ScriptLine>, ScriptFault>, Fail> {
+    let mut script = Vec::new(alloc);
+    script.extend_from_slice(b"lib 1 raw 0 0\n")?;
+    script.extend_from_slice(line)?;
+    Ok(read_script(alloc, &script))
+}
+
+/// Lines of each form, and what they say.
+#[test]
+fn lines_are_read(rt: HostRuntime) -> Result<(), Fail> {
+    let alloc = rt.alloc();
+    let none = || Vec::new(alloc);
+    let rows: [(&[u8], RawLine); 9] = [
+        (b"grant write 2", RawLine::GrantWrite(2)),
+        (b"grant write 0\n", RawLine::GrantWrite(0)),
+        (
+            b"grant write 4294967295",
+            RawLine::GrantWrite(4_294_967_295),
+        ),
+        (
+            b"poke body 5 16 00ff",
+            RawLine::Poke {
+                at: Spot::Body(5),
+                offset: 16,
+                bytes: vec![in alloc; 0x00, 0xff]?,
+            },
+        ),
+        (
+            b"poke index 5 1 8 0a",
+            RawLine::Poke {
+                at: Spot::Index(5, 1),
+                offset: 8,
+                bytes: vec![in alloc; 0x0a]?,
+            },
+        ),
+        (
+            b"poke block 2 0 0 4a9f",
+            RawLine::Poke {
+                at: Spot::Block(2, 0),
+                offset: 0,
+                bytes: vec![in alloc; 0x4a, 0x9f]?,
+            },
+        ),
+        (
+            b"poke fresh 9 4095 61",
+            RawLine::Poke {
+                at: Spot::Fresh(9),
+                offset: 4095,
+                bytes: vec![in alloc; 0x61]?,
+            },
+        ),
+        (
+            b"release - - -",
+            RawLine::Release {
+                inos: none(),
+                pages: none(),
+                inodes: none(),
+            },
+        ),
+        (
+            b"release 2,1,10 9 7,8\n",
+            RawLine::Release {
+                inos: vec![in alloc; 2, 1, 10]?,
+                pages: vec![in alloc; 9]?,
+                inodes: vec![in alloc; 7, 8]?,
+            },
+        ),
+    ];
+    for (text, line) in rows {
+        let wanted = vec![in alloc; ScriptLine { number: 2, line }]?;
+        assert_eq!(rt; second_line(alloc, text)?, Ok(wanted), "at {text:?}");
+    }
+    Ok(())
+}
+
+/// Lines that have none of the forms.
+#[test]
+fn other_lines_are_unbuilt(rt: HostRuntime) -> Result<(), Fail> {
+    let rows: [&[u8]; 40] = [
+        b"grant",
+        b"grant write",
+        b"grant write 02",
+        b"grant write 00",
+        b"grant write 4294967296",
+        b"grant write 42949672950",
+        b"grant write +2",
+        b"grant write -2",
+        b"grant write 2a",
+        b"grant write ",
+        b"grant write 2 ",
+        b"grant write 2 3",
+        b"grant write 2\r",
+        b"grant  write 2",
+        b" grant write 2",
+        b"grant read 2",
+        b"Grant write 2",
+        b"allot 1",
+        b"allot 1 -",
+        b"allot 1 2 3",
+        b"poke body 2 0",
+        b"poke body 2 0 ",
+        b"poke body 2 0 0 4a",
+        b"poke fresh 2 0 0 4a",
+        b"poke block 2 0 4a",
+        b"poke index 2 0 4a",
+        b"poke block 2 0 0 4A",
+        b"poke block 2 0 0 4",
+        b"poke block 2 0 0 4g",
+        b"poke block 2 0 0 0x4a",
+        b"poke block 2 0 0 4a 4a",
+        b"poke page 2 0 4a",
+        b"release - -",
+        b"release - - - -",
+        b"release 2,2 - -",
+        b"release - 1,3,1 -",
+        b"release 2, - -",
+        b"release ,2 - -",
+        b"release 2,03 - -",
+        b"release -,2 - -",
+    ];
+    for text in rows {
+        let wanted = Some(ScriptFault::Unbuilt(2));
+        assert_eq!(rt; second_line(rt.alloc(), text)?.err(), wanted, "at {text:?}");
+    }
+    Ok(())
+}
+
+/// An allotment isn't built, as any other line that isn't: the first of them is told.
+#[test]
+fn allotments_are_unbuilt(rt: HostRuntime) -> Result<(), Fail> {
+    let rows: [(&[u8], u32); 5] = [
+        (b"lib 1 raw 0 0\nallot 3 0", 2),
+        (
+            b"lib 1 raw 0 0\ngrant write 2\nallot 1 0\n#\ngrant read 2\n",
+            3,
+        ),
+        (b"lib 1 raw 0 0\ngrant read 2\nallot 1 0\n", 2),
+        (b"allot 1 0\nlib 1 raw 0 0\n", 1),
+        (b"\nallot 1 0\n", 1),
+    ];
+    for (script, line) in rows {
+        let wanted = Err(ScriptFault::Unbuilt(line));
+        assert_eq!(rt; read_script(rt.alloc(), script), wanted, "at {script:?}");
+    }
+    Ok(())
+}
+
+/// Bytes of a page at most, two digits each.
+#[test]
+fn bytes_are_counted(rt: HostRuntime) -> Result<(), Fail> {
+    let alloc = rt.alloc();
+    let mut line = Vec::new(alloc);
+    line.extend_from_slice(b"poke fresh 9 0 ")?;
+    line.resize(line.len() + 8192, b'7')?;
+    let poke = RawLine::Poke {
+        at: Spot::Fresh(9),
+        offset: 0,
+        bytes: vec![in alloc; 0x77; 4096]?,
+    };
+    let wanted = vec![in alloc;
+        ScriptLine {
+            number: 2,
+            line: poke,
+        },
+    ]?;
+    assert_eq!(rt; second_line(alloc, &line)?, Ok(wanted));
+    line.extend_from_slice(b"77")?;
+    assert_eq!(rt; second_line(alloc, &line)?, Err(ScriptFault::Unbuilt(2)));
+    Ok(())
+}
+
+/// Each line that says something has its own number, and the first line that isn't built is told.
+#[test]
+fn lines_are_numbered(rt: HostRuntime) -> Result<(), Fail> {
+    let alloc = rt.alloc();
+    let script = b"#\nlib 1 raw 0 0\n\ngrant write 2\n#\ngrant write 3\n";
+    let wanted = vec![in alloc;
+        ScriptLine {
+            number: 4,
+            line: RawLine::GrantWrite(2),
+        },
+        ScriptLine {
+            number: 6,
+            line: RawLine::GrantWrite(3),
+        },
+    ]?;
+    assert_eq!(rt; read_script(alloc, script), Ok(wanted));
+    let early = b"grant write 2\nlib 1 raw 0 0\n";
+    assert_eq!(rt; read_script(alloc, early), Err(ScriptFault::Unbuilt(1)));
+    let late = b"lib 1 raw 0 0\ngrant write 2\ngrant write x\nsettle\n";
+    assert_eq!(rt; read_script(alloc, late), Err(ScriptFault::Unbuilt(3)));
+    Ok(())
+}
 
 /// Scripts, and the number of the line that isn't built, or 0.
 #[test]
@@ -14,7 +210,7 @@ fn scripts_are_read(rt: HostRuntime) {
         (b"lib 1 raw 0 0\n#last\n\n#", 0),
         (b"lib 1 raw 0 0\nlib 2 raw 0 0\n", 2),
         (b"lib 1 raw 0 0\n#\nlib 1 raw 0 0", 3),
-        (b"lib 1 raw 0 0\n\ngrant write 2\nsettle\n", 3),
+        (b"lib 1 raw 0 0\n\ngrant write 2\nsettle\n", 4),
         (b"#\nsettle\nlib 1 raw 0 0\n", 2),
         (b"#\nsettle\nstat /\n", 1),
         (b"\n\nlib 1 honest 0 0\n", 3),
@@ -27,11 +223,15 @@ fn scripts_are_read(rt: HostRuntime) {
     ];
     for (script, line) in rows {
         let wanted = if line == 0 {
-            Ok(())
+            None
         } else {
-            Err(UnbuiltLine(line))
+            Some(ScriptFault::Unbuilt(line))
         };
-        assert_eq!(rt; read_script(script), wanted, "at {script:?}");
+        assert_eq!(rt;
+            read_script(rt.alloc(), script).err(),
+            wanted,
+            "at {script:?}"
+        );
     }
 }
 
@@ -41,10 +241,11 @@ fn lines_are_counted(rt: HostRuntime) -> Result<(), Fail> {
     let mut script = Vec::new(rt.alloc());
     script.extend_from_slice(b"lib 1 raw 0 0\n")?;
     script.resize(script.len() + 16_383, b'\n')?;
-    assert_eq!(rt; read_script(&script), Ok(()));
+    assert_eq!(rt; read_script(rt.alloc(), &script).err(), None);
     script.push(b'\n')?;
-    assert_eq!(rt; read_script(&script), Err(UnbuiltLine(16_385)));
+    let too_many = Some(ScriptFault::Unbuilt(16_385));
+    assert_eq!(rt; read_script(rt.alloc(), &script).err(), too_many);
     script.push(b'x')?;
-    assert_eq!(rt; read_script(&script), Err(UnbuiltLine(16_385)));
+    assert_eq!(rt; read_script(rt.alloc(), &script).err(), too_many);
     Ok(())
 }

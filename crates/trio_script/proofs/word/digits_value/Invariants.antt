@@ -1,0 +1,9 @@
+use Rattle.std.proofs.Common.{◌≡◌, ◌<◌, ◌^◌, drop}
+use Rattle.trio_script.specs.Words.{digits_after}
+use Rattle.trio_script.proofs.word.digits_value.Given as goal
+
+abbrev pub invariant-loop-digit : goal.invariant-loop-digit
+invariant-loop-digit l = record {
+  small : l.number < 2 ^ 32;
+  read : digits_after 0 l.digits ≡ digits_after l.number (drop l.digit-index l.digits);
+}

@@ -1,0 +1,68 @@
+-- The words of a line: numbers, bytes in hexadecimal digits, and lists of numbers.
+use Rattle.std.specs.Prelude.{ℕ, ◌+◌, ◌-◌, ◌*◌, ◌%◌, ◌^◌, ◌==◌, nat_lt, nat_le, Bool, true, not, ◌&&◌, ◌||◌, List, [], ◌∷◌, ◌++◌, length, slice_index, Option, None, Some, if◌then◌else◌, codes}
+use Rattle.std.specs.List.{list_all, list_any, slice_split}
+use Rattle.std.specs.Str.{bytes_eq}
+
+-- the words of a line: the bytes between single spaces (32), so that two spaces have an empty word between them
+abbrev pub words_of : List ℕ → List (List ℕ)
+words_of line = slice_split (λ b. b == 32) line
+
+-- a decimal digit, 0 (48) to 9 (57)
+abbrev pub is_digit : ℕ → Bool
+is_digit b = nat_le 48 b && nat_le b 57
+
+-- the number that decimal digits write, after the digits of another
+abbrev pub digits_after : ℕ → List ℕ → ℕ
+digits_after n [] = n
+digits_after n (b ∷ bytes) = digits_after (n * 10 + (b - 48)) bytes
+
+-- digits, the first of which is a zero (48) only where it is the only one
+abbrev pub is_numeral : List ℕ → Bool
+is_numeral word = list_all is_digit word && nat_lt 0 (length word) && (length word == 1 || not (slice_index word 0 == 48))
+
+-- a number: a numeral of at most 4,294,967,295
+abbrev pub number_of : List ℕ → Option ℕ
+number_of word = if is_numeral word && nat_lt (digits_after 0 word) (2 ^ 32) then Some (digits_after 0 word) else None
+
+-- a hexadecimal digit: 0 (48) to 9 (57), or a (97) to f (102)
+abbrev pub is_hex_digit : ℕ → Bool
+is_hex_digit b = is_digit b || (nat_le 97 b && nat_le b 102)
+
+abbrev pub hex_value : ℕ → ℕ
+hex_value b = if nat_lt b 97 then b - 48 else b - 87
+
+-- the bytes that hexadecimal digits write, two a byte, the higher first
+abbrev pub hex_bytes : List ℕ → List ℕ
+hex_bytes (high ∷ low ∷ digits) = (hex_value high * 16 + hex_value low) ∷ hex_bytes digits
+hex_bytes _ = []
+
+-- two digits for each of 1 to 4096 bytes
+abbrev pub is_hex : List ℕ → Bool
+is_hex word = list_all is_hex_digit word && length word % 2 == 0 && nat_lt 0 (length word) && nat_le (length word) 8192
+
+-- 1 to 4096 bytes
+abbrev pub hex_of : List ℕ → Option (List ℕ)
+hex_of word = if is_hex word then Some (hex_bytes word) else None
+
+-- a number and the numbers after it, where all of them are numbers
+abbrev pub number_before : Option ℕ → Option (List ℕ) → Option (List ℕ)
+number_before (Some n) (Some ns) = Some (n ∷ ns)
+number_before _ _ = None
+
+-- the number that each part is, where each is one
+abbrev pub numbers_of : List (List ℕ) → Option (List ℕ)
+numbers_of [] = Some []
+numbers_of (part ∷ parts) = number_before (number_of part) (numbers_of parts)
+
+-- no number stands twice, nor is one of those that were seen
+abbrev pub are_new : List ℕ → List ℕ → Bool
+are_new seen [] = true
+are_new seen (n ∷ ns) = not (list_any (λ m. n == m) seen) && are_new (seen ++ n ∷ []) ns
+
+abbrev pub without_repeat : Option (List ℕ) → Option (List ℕ)
+without_repeat (Some ns) = if are_new [] ns then Some ns else None
+without_repeat None = None
+
+-- a list of numbers, none of them twice: they are joined by commas (44), and `-` says that there is none
+abbrev pub list_of : List ℕ → Option (List ℕ)
+list_of word = if bytes_eq word (codes "-") then Some [] else without_repeat (numbers_of (slice_split (λ b. b == 44) word))

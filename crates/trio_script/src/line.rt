@@ -1,0 +1,166 @@
+//! What the lines of a hostile library say.
+
+ghost use Rattle.std.specs.Prelude.{◌≡◌, IfOk, map};
+ghost use Rattle.std.specs.Option.{option_map};
+ghost use Rattle.trio_script.specs.Said.{grant_in, allot_in, whole_spot, part_spot, poked, poke_in, released, release_in, said_in, line_said};
+ghost use Rattle.trio_script.specs.Seen.{line_seen};
+ghost use Rattle.trio_script.specs.Words.{number_of, hex_of};
+
+use crate::word::{parts, read_hex, read_list, read_number};
+use std::alloc::Global;
+use trio_nodes::Spot;
+use trio_page::NoMemory;
+
+/// What a line of a hostile library says.
+#[derive(Debug, PartialEq, Eq, Drop)]
+pub enum RawLine {
+    /// `grant write INO`: a write grant on this file is asked.
+    GrantWrite(u32),
+    /// `allot PAGES INODES`: so many pages and inode numbers are asked. Nothing is built for it yet, so
+    /// no script that is read has such a line.
+    Allot {
+        pages: u32,
+        inodes: u32,
+    },
+    /// `poke body INO OFF HEX`, `poke index INO I OFF HEX`, `poke block INO I OFF HEX` or
+    /// `poke fresh PAGE OFF HEX`: these bytes are written from this byte on, counted from 0.
+    Poke {
+        at: Spot,
+        offset: u32,
+        bytes: Vec<u8>,
+    },
+    /// `release INOS PAGES INODES`: these files, and these allotted pages and inode numbers, are
+    /// given back. No number stands twice in a list.
+    Release {
+        inos: Vec<u32>,
+        pages: Vec<u32>,
+        inodes: Vec<u32>,
+    },
+}
+
+/// What a line says, where it has one of the four forms of [`RawLine`].
+pub fn read_line(alloc: Global, line: &[u8]) -> Result<Option<RawLine>, NoMemory>
+    ensures { IfOk result (λ said. option_map line_seen said ≡ line_said line.now) }
+{
+    read_words(alloc, &parts(alloc, line, b' ')?)
+}
+
+fn read_words(alloc: Global, words: &[&[u8]]) -> Result<Option<RawLine>, NoMemory>
+    ensures { IfOk result (λ said. option_map line_seen said ≡ said_in (map (λ word. word.now) words.now)) }
+{
+    let Some((command, words)) = words.split_first() else {
+        return Ok(None);
+    };
+    if *command == b"grant".as_slice() {
+        Ok(read_grant(words))
+    } else if *command == b"allot".as_slice() {
+        Ok(read_allot(words))
+    } else if *command == b"poke".as_slice() {
+        read_poke(alloc, words)
+    } else if *command == b"release".as_slice() {
+        read_release(alloc, words)
+    } else {
+        Ok(None)
+    }
+}
+
+fn read_grant(words: &[&[u8]]) -> Option<RawLine>
+    ensures { option_map line_seen result ≡ grant_in (map (λ word. word.now) words.now) }
+{
+    let [right, ino] = words else {
+        return None;
+    };
+    if *right != b"write".as_slice() {
+        return None;
+    }
+    Some(RawLine::GrantWrite(read_number(ino)?))
+}
+
+fn read_allot(words: &[&[u8]]) -> Option<RawLine>
+    ensures { option_map line_seen result ≡ allot_in (map (λ word. word.now) words.now) }
+{
+    let [pages, inodes] = words else {
+        return None;
+    };
+    Some(RawLine::Allot {
+        pages: read_number(pages)?,
+        inodes: read_number(inodes)?,
+    })
+}
+
+fn read_poke(alloc: Global, words: &[&[u8]]) -> Result<Option<RawLine>, NoMemory>
+    ensures { IfOk result (λ said. option_map line_seen said ≡ poke_in (map (λ word. word.now) words.now)) }
+{
+    match words {
+        [place, number, offset, hex] => Ok(poked(
+            whole_spot(place, read_number(number)),
+            read_number(offset),
+            read_hex(alloc, hex)?,
+        )),
+        [place, ino, i, offset, hex] => Ok(poked(
+            part_spot(place, read_number(ino), read_number(i)),
+            read_number(offset),
+            read_hex(alloc, hex)?,
+        )),
+        _ => Ok(None),
+    }
+}
+
+fn whole_spot(place: &[u8], number: Option<u32>) -> Option<Spot>
+    ensures { result ≡ whole_spot place.now number }
+{
+    let number = number?;
+    match place {
+        b"body" => Some(Spot::Body(number)),
+        b"fresh" => Some(Spot::Fresh(number)),
+        _ => None,
+    }
+}
+
+fn part_spot(place: &[u8], ino: Option<u32>, i: Option<u32>) -> Option<Spot>
+    ensures { result ≡ part_spot place.now ino i }
+{
+    let (ino, i) = (ino?, i?);
+    match place {
+        b"index" => Some(Spot::Index(ino, i)),
+        b"block" => Some(Spot::Block(ino, i)),
+        _ => None,
+    }
+}
+
+fn poked(at: Option<Spot>, offset: Option<u32>, bytes: Option<Vec<u8>>) -> Option<RawLine>
+    ensures { option_map line_seen result ≡ poked at offset (option_map (λ bs. bs.items) bytes) }
+{
+    Some(RawLine::Poke {
+        at: at?,
+        offset: offset?,
+        bytes: bytes?,
+    })
+}
+
+fn read_release(alloc: Global, words: &[&[u8]]) -> Result<Option<RawLine>, NoMemory>
+    ensures { IfOk result (λ said. option_map line_seen said ≡ release_in (map (λ word. word.now) words.now)) }
+{
+    let [inos, pages, inodes] = words else {
+        return Ok(None);
+    };
+    Ok(released(
+        read_list(alloc, inos)?,
+        read_list(alloc, pages)?,
+        read_list(alloc, inodes)?,
+    ))
+}
+
+fn released(
+    inos: Option<Vec<u32>>,
+    pages: Option<Vec<u32>>,
+    inodes: Option<Vec<u32>>,
+) -> Option<RawLine>
+    ensures { option_map line_seen result ≡ released (option_map (λ ns. ns.items) inos) (option_map (λ ns. ns.items) pages) (option_map (λ ns. ns.items) inodes) }
+{
+    Some(RawLine::Release {
+        inos: inos?,
+        pages: pages?,
+        inodes: inodes?,
+    })
+}
