@@ -1,0 +1,6 @@
+pub mod Lines
+pub mod Runs
+pub mod Turns
+pub mod Creds
+pub mod Rounds
+pub mod EndFree

@@ -1,0 +1,15 @@
+use Rattle.std.proofs.Common.{◌≡◌, ap, subst}
+use Rattle.trio_state.specs.Handed.{bundle_in}
+use Rattle.trio_state.specs.Step.{Answer, NotClosed, Release, Step}
+use Rattle.trio_ctl.specs.Answers.{release_fault_answer}
+use Rattle.trio_runner.proofs.Turns.{never_parted}
+use Rattle.trio_runner.proofs.player.hand_in.Goals as goal
+
+pub unreachable-requires : goal.unreachable-requires
+unreachable-requires c =
+    let s = c.args.ctl.now in
+    let s' = c.release.new.self in
+    let b = bundle_in c.args.bundle in
+    let is : release_fault_answer c.in-Err.fault ≡ NotClosed c.in-NotClosed.field-0 = ap release_fault_answer c.in-NotClosed.is in
+    never_parted s s' c.args.lib.0 c.in-NotClosed.field-0 b c.requires.no_hold
+    (subst (λ (a : Answer). Step s (Release c.args.lib.0 b) a s') is c.in-Err.ensures.step)

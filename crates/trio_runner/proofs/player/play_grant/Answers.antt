@@ -1,0 +1,23 @@
+use Rattle.std.proofs.Common.{rules, ◌≡◌, Some}
+use Rattle.trio_report.specs.Seen.{answer_seen}
+use Rattle.trio_script.specs.Said.{grant_write}
+use Rattle.trio_runner.specs.Play.{told_fault}
+use Rattle.trio_runner.specs.Seen.{LinePlayed}
+use Rattle.trio_runner.proofs.Turns.{grant_played, fault_played, if_ok}
+use Rattle.trio_runner.proofs.player.play_grant.Goals as goal
+
+pub returns-in-Ok : goal.returns-in-Ok
+returns-in-Ok c =
+    grant_played c.args.ino c.args.ctl.now c.args.raw.now c.grant_write.new.self c.keep_lease.new.raw c.in-Ok.lease c.requires
+    (search rules) (search rules) (search rules) (search rules)
+
+pub returns-in-Err : goal.returns-in-Err
+returns-in-Err c =
+    let s = c.args.ctl.now in
+    let s' = c.grant_write.new.self in
+    let h' = c.reserve_lease.new.self in
+    if_ok c.fault_answer.result
+    (λ a. told_fault c.in-Err.fault ≡ Some (answer_seen a))
+    (λ a. LinePlayed (grant_write c.args.ino) (answer_seen a) s c.args.raw.now s' h')
+    (λ a is. fault_played c.args.ino c.in-Err.fault (answer_seen a) s c.args.raw.now s' h' is (search rules) (search rules) (search rules))
+    c.fault_answer.ensures

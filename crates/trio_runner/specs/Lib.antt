@@ -1,0 +1,4 @@
+pub mod Play
+pub mod PlayLaws
+pub mod Seen
+pub mod EndFree

@@ -1,0 +1,59 @@
+-- What contracts see of a script that is played.
+use Rattle.std.specs.Prelude.{◌≡◌, List, map, ◌++◌, IsFalse, ⊤}
+use Rattle.trio_layout.specs.Lists.{In}
+use Rattle.trio_rights.specs.declared.rights.Creds.{Creds}
+use Rattle.trio_state.specs.Image.{Image}
+use Rattle.trio_state.specs.State.{State}
+use Rattle.trio_raw.specs.Held.{Held}
+use Rattle.trio_script.specs.Said.{Said}
+use Rattle.trio_script.specs.Script.{SaidLine, is_no_allotment}
+use Rattle.trio_report.specs.Answers.{Answer as Told}
+use Rattle.trio_report.specs.Seen.{answer_seen}
+use Rattle.trio_report.specs.declared.answer.LineAnswer.{LineAnswer}
+use Rattle.trio_report.specs.declared.report.EndAnswer.{EndAnswer}
+use Rattle.trio_runner.specs.declared.player.PlayFault.{PlayFault}
+use Rattle.trio_runner.specs.declared.player.PlayFault.TheVariants.{Unbuilt, NoMemory}
+use Rattle.trio_ctl.specs.Ctl.{IsLibrary}
+use Rattle.trio_runner.specs.Play.{Player, Moved, PlaysLine, Plays, PlaysEnd, Played}
+use Rattle.trio_runner.specs.PlayLaws.{Stands}
+
+-- the controller's state beside what a library has
+abbrev pub player : State → Held → Player
+player s h = record { state = s; has = h.has }
+
+-- a line may be played
+pub record IsReady (s : State) (h : Held) : Type 0 where
+  pub stands : Stands h.lib.0 (player s h)
+  pub library : IsLibrary h.lib s
+
+-- a line was played, and told this
+pub record LinePlayed (said : Said) (told : Told) (s : State) (h : Held) (s' : State) (h' : Held) : Type 0 where
+  pub moves : List Moved
+  pub line : PlaysLine h.lib.0 (player s h) said told moves (player s' h')
+  pub lib : h'.lib ≡ h.lib
+
+-- lines were played, their answers stand behind those before, and another line may be played
+pub record LinesPlayed (lines : List SaidLine) (s : State) (h : Held) (before : List LineAnswer) (s' : State) (h' : Held) (after : List LineAnswer) : Type 0 where
+  pub tolds : List Told
+  pub moves : List Moved
+  pub lines_are : Plays h.lib.0 (player s h) lines tolds moves (player s' h')
+  pub told : map answer_seen after ≡ map answer_seen before ++ tolds
+  pub lib : h'.lib ≡ h.lib
+  pub ready : IsReady s' h'
+
+-- a library came to its end
+pub record EndPlayed (end : EndAnswer) (s : State) (h : Held) (s' : State) (h' : Held) : Type 0 where
+  pub moves : List Moved
+  pub end_is : PlaysEnd h.lib.0 (player s h) end moves (player s' h')
+
+-- a whole script was played on an image: the answers stand behind those before, the end was told this, and this is the state
+pub record ScriptPlayed (image : Image) (creds : List Creds) (lines : List SaidLine) (before after : List LineAnswer) (told_end : EndAnswer) (s' : State) : Type 0 where
+  pub played : Played image creds lines
+  pub told : map answer_seen after ≡ map answer_seen before ++ played.tolds
+  pub end : played.end ≡ told_end
+  pub last : played.last.state ≡ s'
+
+-- a line for which nothing is built yet asks for an allotment
+abbrev pub FaultNames : List SaidLine → PlayFault → Type 0
+FaultNames lines (Unbuilt number) = (line : SaidLine) × In line lines × (line.number ≡ number) × IsFalse (is_no_allotment line)
+FaultNames lines NoMemory = ⊤
