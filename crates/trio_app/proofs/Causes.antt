@@ -7,7 +7,7 @@ use Rattle.trio_app.specs.declared.status.Status.{Status}
 use Rattle.trio_app.specs.declared.status.Status.TheVariants.{Done, NotVerified, ReadFault, WriteFault, NoMemory, NotBuilt}
 use Rattle.trio_app.specs.Status.{code_of}
 use Rattle.trio_app.specs.Command.{Command, turns, unknown, command_of, ComesTo}
-use Rattle.trio_app.specs.Turns.{TurnsComesTo, ListsDirectory}
+use Rattle.trio_app.specs.Turns.{TurnsComesTo}
 use Rattle.trio_app.specs.Main.{Main}
 use Rattle.trio_app.specs.Causes.{ReadFaultCause, WriteFaultCause, TurnsReady}
 
@@ -72,15 +72,12 @@ turns_complete : (image script out : List ℕ) (old new : Shelf) (text : List �
 turns_complete image script out old new text Done ready reads writes comes = inl refl
 turns_complete image script out old new text NoMemory ready reads writes comes = inr refl
 turns_complete image script out old new text NotVerified ready reads writes comes =
-    absurd (comes.fails (subst BytesVerify (same_bytes (old.held image) ready.image_bytes comes.image_bytes ready.image_is comes.image_is) ready.image_built.verifies))
+    absurd (comes.fails (subst BytesVerify (same_bytes (old.held image) ready.image_bytes comes.image_bytes ready.image_is comes.image_is) ready.image_verifies))
 turns_complete image script out old new text ReadFault ready reads writes (inl fault) = absurd (reads image fault.0)
 turns_complete image script out old new text ReadFault ready reads writes (inr fault) = absurd (reads script fault.0)
 turns_complete image script out old new text WriteFault ready reads writes comes = absurd (writes comes.rose)
 turns_complete image script out old new text NotBuilt ready reads writes (inl unfit) =
-    elim unfit.1 [
-      | inl long ↦ absurd (no_longer 33554432 (old.held image) ready.image_bytes ready.image_is ready.image_within long)
-      | inr d ↦ absurd (ready.image_built.no_directory (subst ListsDirectory (sym (same_bytes (old.held image) ready.image_bytes d.image_bytes ready.image_is d.image_is)) d.lists))
-    ]
+    absurd (no_longer 33554432 (old.held image) ready.image_bytes ready.image_is ready.image_within unfit.1)
 turns_complete image script out old new text NotBuilt ready reads writes (inr (inl long)) = absurd (no_longer 1048576 (old.held script) ready.script_bytes ready.script_is ready.script_within long.2)
 turns_complete image script out old new text NotBuilt ready reads writes (inr (inr line)) =
     absurd (no_unbuilt ready.script_bytes line.2.script_bytes line.0 (same_bytes (old.held script) ready.script_bytes line.2.script_bytes ready.script_is line.2.script_is) ready.script_built line.2.line)

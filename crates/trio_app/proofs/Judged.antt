@@ -14,9 +14,8 @@ use Rattle.trio_image.specs.declared.reading.ReadFault.TheVariants.{Length, BadS
 use Rattle.trio_image.specs.Fault.{HasLength as HasLengths, IsReadFault}
 use Rattle.trio_app.specs.declared.stop.Stop.{Stop}
 use Rattle.trio_app.specs.declared.stop.Stop.TheVariants.{ImageNotBuilt, NotVerified, ScriptFault, ScriptNotBuilt, LineNotBuilt, NoMemory}
-use Rattle.trio_app.specs.Roots.{root_lists_directory}
-use Rattle.trio_app.specs.Stop.{BytesStop, ImageStop, InputStop, IsBuiltImage, ReadsImage, ScriptStop, stop_of_reading, stop_of_verifying}
-use Rattle.trio_app.specs.Turns.{HasLength, ImageIsBuilt, ListsDirectory}
+use Rattle.trio_app.specs.Stop.{BytesStop, ImageStop, InputStop, IsImage, ReadsImage, ScriptStop, stop_of_reading, stop_of_verifying}
+use Rattle.trio_app.specs.Turns.{HasLength, ImageVerifies}
 
 -- bytes are those of one superblock at most
 one_superblock : (bytes : List ℕ) (s t : Superblock) → IsSuperblock bytes s → IsSuperblock bytes t → s ≡ t
@@ -35,42 +34,25 @@ no_lengths bytes BadSuper bad other s has = bad.1 s has.read
 no_lengths bytes ReadNoMemory bad other s has = other refl
 
 no_image : (bytes : List ℕ) → ((s : Superblock) → HasLength s bytes → ⊥) → BytesStop bytes NotVerified
-no_image bytes none = (λ lists. none lists.superblock lists.lengths, λ v. none v.superblock (record { read = v.read; whole = v.whole }))
+no_image bytes none = λ v. none v.superblock (record { read = v.read; whole = v.whole })
 
 pub read_stop : (bytes : List ℕ) (fault : ReadFault) → IsReadFault bytes fault → BytesStop bytes (stop_of_reading fault)
 read_stop bytes (Length n) bad = no_image bytes (no_lengths bytes (Length n) bad (λ e. absurd cc))
 read_stop bytes BadSuper bad = no_image bytes (no_lengths bytes BadSuper bad (λ e. absurd cc))
 read_stop bytes ReadNoMemory bad = tt
 
--- ---- pages with a root
+-- ---- pages
 
 pub has_length : (bytes : List ℕ) (s : Superblock) → HasLengths bytes s → HasLength s bytes
 has_length bytes s has = record { read = has.superblock; whole = has.length_is }
 
-pub lists_stop : (bytes : List ℕ) (s : Superblock) (pages : List (Option (List ℕ))) → HasLengths bytes s → pages ≡ pages_in s.pages bytes → true ≡ root_lists_directory (core_in s pages) → BytesStop bytes ImageNotBuilt
-lists_stop bytes s pages has is lists = record {
-  superblock = s;
-  lengths = has_length bytes s has;
-  lists = sym (lists ∙ ap (λ (ps : List (Option (List ℕ))). root_lists_directory (core_in s ps)) is);
-}
+pub verify_stop : (bytes : List ℕ) (fault : SurveyFault) → (fault ≢ SurveyNoMemory → BytesVerify bytes → ⊥) → BytesStop bytes (stop_of_verifying fault)
+verify_stop bytes (Fails rule ino page slot) refused = refused (λ e. absurd cc)
+verify_stop bytes SurveyNoMemory refused = tt
 
-no_directory : (bytes : List ℕ) (s : Superblock) (pages : List (Option (List ℕ))) → HasLengths bytes s → pages ≡ pages_in s.pages bytes → false ≡ root_lists_directory (core_in s pages) → ListsDirectory bytes → ⊥
-no_directory bytes s pages has is none d =
-    let lists : root_lists_directory (core_in s (pages_in s.pages bytes)) ≡ true =
-    subst (λ (t : Superblock). root_lists_directory (core_in t (pages_in t.pages bytes)) ≡ true) (one_superblock (take 4096 bytes) d.superblock s d.lengths.read has.superblock) d.lists in
-    let contrary : false ≡ true = none ∙ ap (λ (ps : List (Option (List ℕ))). root_lists_directory (core_in s ps)) is ∙ lists in
-    absurd cc
-
-pub verify_stop : (bytes : List ℕ) (s : Superblock) (pages : List (Option (List ℕ))) (fault : SurveyFault) → HasLengths bytes s → pages ≡ pages_in s.pages bytes → false ≡ root_lists_directory (core_in s pages) → (fault ≢ SurveyNoMemory → BytesVerify bytes → ⊥) → BytesStop bytes (stop_of_verifying fault)
-verify_stop bytes s pages (Fails rule ino page slot) has is none refused = (no_directory bytes s pages has is none, refused (λ e. absurd cc))
-verify_stop bytes s pages SurveyNoMemory has is none refused = tt
-
-pub verified_image : (bytes : List ℕ) (s : Superblock) (pages : List (Option (List ℕ))) → HasLengths bytes s → pages ≡ pages_in s.pages bytes → false ≡ root_lists_directory (core_in s pages) → PagesVerify s pages → IsBuiltImage bytes s pages
-verified_image bytes s pages has is none v = record {
-  built = record {
-    verifies = record { superblock = s; read = has.superblock; whole = has.length_is; verify = subst (PagesVerify s) is v };
-    no_directory = no_directory bytes s pages has is none;
-  };
+pub image_is : (bytes : List ℕ) (s : Superblock) (pages : List (Option (List ℕ))) → HasLengths bytes s → pages ≡ pages_in s.pages bytes → PagesVerify s pages → IsImage bytes s pages
+image_is bytes s pages has is v = record {
+  verifies = record { superblock = s; read = has.superblock; whole = has.length_is; verify = subst (PagesVerify s) is v };
   lengths = has_length bytes s has;
   pages_are = is;
 }
@@ -78,21 +60,20 @@ verified_image bytes s pages has is none v = record {
 -- ---- files
 
 image_stop : (image bytes : List ℕ) (old new : Shelf) → IsTold (old.held image) bytes → length bytes ≤ 33554432 → (stop : Stop) → BytesStop bytes stop → ImageStop image old new stop
-image_stop image bytes old new told within ImageNotBuilt lists = inr (record { image_bytes = bytes; image_is = told; within = within; lists = lists })
-image_stop image bytes old new told within NotVerified fails = record { image_bytes = bytes; image_is = told; within = within; no_directory = fails.0; fails = fails.1 }
+image_stop image bytes old new told within NotVerified fails = record { image_bytes = bytes; image_is = told; within = within; fails = fails }
 image_stop image bytes old new told within NoMemory never = tt
 image_stop image bytes old new told within _ never = absurd never
 
 pub image_stops : {X : Type 0} (image bytes : List ℕ) (old new : Shelf) (r : Result X Stop) → IsTold (old.held image) bytes → length bytes ≤ 33554432 → IfErr r (BytesStop bytes) → IfErr r (ImageStop image old new)
 image_stops image bytes old new r told within stops = IfErr-weaker r (BytesStop bytes) (ImageStop image old new) (image_stop image bytes old new told within) stops
 
-image_built : (image : List ℕ) (old : Shelf) (s : Superblock) (pages : List (Option (List ℕ))) → ReadsImage image old s pages → ImageIsBuilt image old
-image_built image old s pages reads = record { image_bytes = reads.image_bytes; image_is = reads.image_is; within = reads.within; built = reads.is.built }
+image_verifies : (image : List ℕ) (old : Shelf) (s : Superblock) (pages : List (Option (List ℕ))) → ReadsImage image old s pages → ImageVerifies image old
+image_verifies image old s pages reads = record { image_bytes = reads.image_bytes; image_is = reads.image_is; within = reads.within; verifies = reads.is.verifies }
 
 pub script_stop : (image script : List ℕ) (old mid new : Shelf) (s : Superblock) (pages : List (Option (List ℕ))) (stop : Stop) → ReadsImage image old s pages → OnlyReads image old mid → ScriptStop script mid new stop → InputStop image script old new stop
-script_stop image script old mid new s pages ScriptFault reads first rose = (omega (arith, first.reads.later script, rose), image_built image old s pages reads)
-script_stop image script old mid new s pages ScriptNotBuilt reads first long = (image_built image old s pages reads, rw (← first.held) long)
+script_stop image script old mid new s pages ScriptFault reads first rose = (omega (arith, first.reads.later script, rose), image_verifies image old s pages reads)
+script_stop image script old mid new s pages ScriptNotBuilt reads first long = (image_verifies image old s pages reads, rw (← first.held) long)
 script_stop image script old mid new s pages (LineNotBuilt number) reads first line =
-    record { image_built = image_built image old s pages reads; script_bytes = line.script_bytes; script_is = rw (← first.held) line.script_is; within = line.within; line = line.line }
+    record { image_verifies = image_verifies image old s pages reads; script_bytes = line.script_bytes; script_is = rw (← first.held) line.script_is; within = line.within; line = line.line }
 script_stop image script old mid new s pages NoMemory reads first never = tt
 script_stop image script old mid new s pages _ reads first never = absurd never

@@ -1,5 +1,5 @@
-pub mod Rooted
 pub mod Judged
 pub mod Trees
+pub mod Headlines
 pub mod Ends
 pub mod Causes

@@ -16,7 +16,6 @@ use Rattle.trio_layout.specs.Entries.{Listed, entries_on, entries_of_kind, page_
 use Rattle.trio_layout.specs.Survey.{Met, FileRead, file_of, file_with, met_in, plain, root_of}
 use Rattle.trio_state.specs.Stored.{core_in}
 use Rattle.trio_state.specs.Tree.{TreeLine, by_name, lines_from, lines_with, told_line, tree_of}
-use Rattle.trio_app.proofs.Rooted.{then_same}
 
 -- the core with other pages
 abbrev pub repaged : Core → List (Option (List ℕ)) → Core
@@ -25,6 +24,10 @@ repaged core pages = record { pages = pages; root = core.root; range = core.rang
 -- its core pages are the same
 abbrev pub HasSamePages : Core → List (Option (List ℕ)) → Type 0
 HasSamePages core pages = (p : ℕ) → page_of core p ≡ page_of (repaged core pages) p
+
+then_same : {X Y E : Type 0} (f g : X → Result Y E) (r : Result X E) → ((x : X) → f x ≡ g x) → result_then f r ≡ result_then g r
+then_same f g (Ok x) h = h x
+then_same f g (Err e) h = refl
 
 gathered_same : {X Y E : Type 0} (f g : X → Result (List Y) E) (xs : List X) → ((x : X) → f x ≡ g x) → gathered f xs ≡ gathered g xs
 gathered_same f g [] h = refl

@@ -3,7 +3,7 @@ use Rattle.std.specs.Prelude.{◌≡◌, ◌⊎◌, ℕ, ◌≤◌, List, length
 use Rattle.trio_io.specs.Shelf.{Shelf, Rose}
 use Rattle.trio_script.specs.Script.{unbuilt_line}
 use Rattle.trio_app.specs.Command.{Command, turns, unknown}
-use Rattle.trio_app.specs.Turns.{IsBuilt}
+use Rattle.trio_state.specs.Stored.{BytesVerify}
 
 -- status 4 comes only where the read faults of a file that is read rose
 abbrev pub ReadFaultCause : Command → Shelf → Shelf → Type 0
@@ -25,5 +25,5 @@ pub record TurnsReady (image script : List ℕ) (old : Shelf) : Type 0 where
   pub script_is : old.held script ≡ Some script_bytes
   pub image_within : length image_bytes ≤ 33554432
   pub script_within : length script_bytes ≤ 1048576
-  pub image_built : IsBuilt image_bytes
+  pub image_verifies : BytesVerify image_bytes
   pub script_built : unbuilt_line script_bytes ≡ None

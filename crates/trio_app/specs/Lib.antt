@@ -1,7 +1,7 @@
 pub mod Lines
 pub mod Status
 pub mod Report
-pub mod Roots
+pub mod Headline
 pub mod Turns
 pub mod Command
 pub mod Main

@@ -7,13 +7,13 @@ use Rattle.trio_survey.specs.declared.fault.SurveyFault.{SurveyFault}
 use Rattle.trio_survey.specs.declared.fault.SurveyFault.TheVariants.{Fails, NoMemory as SurveyNoMemory}
 use Rattle.trio_image.specs.declared.reading.ReadFault.{ReadFault}
 use Rattle.trio_image.specs.declared.reading.ReadFault.TheVariants.{Length, BadSuper, NoMemory as ReadNoMemory}
-use Rattle.trio_script.specs.Script.{unbuilt_line}
+use Rattle.trio_script.specs.Script.{SaidLine, script_lines, unbuilt_line}
 use Rattle.trio_app.specs.declared.status.Status.{Status}
 use Rattle.trio_app.specs.declared.status.Status.TheVariants.{NotVerified as StatusNotVerified, ReadFault as StatusReadFault, NoMemory as StatusNoMemory, NotBuilt}
 use Rattle.trio_app.specs.declared.stop.Stop.{Stop}
 use Rattle.trio_app.specs.declared.stop.Stop.TheVariants.{ImageFault, ImageNotBuilt, NotVerified, ScriptFault, ScriptNotBuilt, LineNotBuilt, NoMemory}
 use Rattle.trio_app.specs.Lines.{not_verified_line, read_fault_line, not_built_image, not_built_script, not_built_line}
-use Rattle.trio_app.specs.Turns.{HasLength, ListsDirectory, IsBuilt, ImageIsBuilt, ReadsDirectory, ReadsLine}
+use Rattle.trio_app.specs.Turns.{HasLength, ImageVerifies, ReadsLine}
 
 abbrev pub status_of : Stop → Status
 status_of ImageFault = StatusReadFault
@@ -49,50 +49,49 @@ abbrev pub stop_of_verifying : SurveyFault → Stop
 stop_of_verifying (Fails rule ino page slot) = NotVerified
 stop_of_verifying SurveyNoMemory = NoMemory
 
--- Bytes of an image that can be run on, with its superblock and its pages.
-pub record IsBuiltImage (bytes : List ℕ) (s : Superblock) (pages : List (Option (List ℕ))) : Type 0 where
-  pub built : IsBuilt bytes
+-- Bytes of an image that verifies, with its superblock and its pages.
+pub record IsImage (bytes : List ℕ) (s : Superblock) (pages : List (Option (List ℕ))) : Type 0 where
+  pub verifies : BytesVerify bytes
   pub lengths : HasLength s bytes
   pub pages_are : pages ≡ pages_in s.pages bytes
 
 -- why bytes are none
 abbrev pub BytesStop : List ℕ → Stop → Type 0
-BytesStop bytes ImageNotBuilt = ListsDirectory bytes
-BytesStop bytes NotVerified = (ListsDirectory bytes → ⊥) × (BytesVerify bytes → ⊥)
+BytesStop bytes NotVerified = BytesVerify bytes → ⊥
 BytesStop bytes NoMemory = ⊤
 BytesStop bytes _ = ⊥
 
--- the image was read, and can be run on
+-- the image was read, and verifies
 pub record ReadsImage (image : List ℕ) (old : Shelf) (s : Superblock) (pages : List (Option (List ℕ))) : Type 0 where
   pub image_bytes : List ℕ
   pub image_is : IsTold (old.held image) image_bytes
   pub within : length image_bytes ≤ 33554432
-  pub is : IsBuiltImage image_bytes s pages
+  pub is : IsImage image_bytes s pages
 
--- the image was read, and doesn't verify; it isn't one that is not built
+-- the image was read, and doesn't verify
 pub record FailsImage (image : List ℕ) (old : Shelf) : Type 0 where
   pub image_bytes : List ℕ
   pub image_is : IsTold (old.held image) image_bytes
   pub within : length image_bytes ≤ 33554432
-  pub no_directory : ListsDirectory image_bytes → ⊥
   pub fails : BytesVerify image_bytes → ⊥
 
 -- why there is no image to run on
 abbrev pub ImageStop : List ℕ → Shelf → Shelf → Stop → Type 0
 ImageStop image old new ImageFault = Rose (old.read_faults image) (new.read_faults image)
-ImageStop image old new ImageNotBuilt = IsLonger 33554432 (old.held image) ⊎ ReadsDirectory image old
+ImageStop image old new ImageNotBuilt = IsLonger 33554432 (old.held image)
 ImageStop image old new NotVerified = FailsImage image old
 ImageStop image old new NoMemory = ⊤
 ImageStop image old new _ = ⊥
 
 -- ---- the script
 
--- the script was read, and each line of it is built
-pub record ReadsScript (script : List ℕ) (old : Shelf) : Type 0 where
+-- the script was read, each line of it is built, and these are the lines that say something
+pub record ReadsScript (script : List ℕ) (old : Shelf) (lines : List SaidLine) : Type 0 where
   pub script_bytes : List ℕ
   pub script_is : IsTold (old.held script) script_bytes
   pub within : length script_bytes ≤ 1048576
   pub built : unbuilt_line script_bytes ≡ None
+  pub lines_are : lines ≡ script_lines script_bytes
 
 -- the script was read, and nothing is built for this line
 pub record HasUnbuiltLine (script : List ℕ) (old : Shelf) (number : ℕ) : Type 0 where
@@ -114,9 +113,9 @@ ScriptStop script old new _ = ⊥
 -- why there is no run
 abbrev pub InputStop : List ℕ → List ℕ → Shelf → Shelf → Stop → Type 0
 InputStop image script old new ImageFault = Rose (old.read_faults image) (new.read_faults image)
-InputStop image script old new ImageNotBuilt = IsLonger 33554432 (old.held image) ⊎ ReadsDirectory image old
+InputStop image script old new ImageNotBuilt = IsLonger 33554432 (old.held image)
 InputStop image script old new NotVerified = FailsImage image old
-InputStop image script old new ScriptFault = Rose (old.read_faults script) (new.read_faults script) × ImageIsBuilt image old
-InputStop image script old new ScriptNotBuilt = ImageIsBuilt image old × IsLonger 1048576 (old.held script)
+InputStop image script old new ScriptFault = Rose (old.read_faults script) (new.read_faults script) × ImageVerifies image old
+InputStop image script old new ScriptNotBuilt = ImageVerifies image old × IsLonger 1048576 (old.held script)
 InputStop image script old new (LineNotBuilt number) = ReadsLine image script old number
 InputStop image script old new NoMemory = ⊤

@@ -1,18 +1,19 @@
 -- What the words `turns IMAGE SCRIPT OUT` do.
-use Rattle.std.specs.Prelude.{◌≡◌, ◌≢◌, ◌⊎◌, ℕ, ◌*◌, ◌≤◌, Option, Some, None, List, [], ◌∷◌, length, take, IsTrue}
+use Rattle.std.specs.Prelude.{◌≡◌, ◌≢◌, ◌⊎◌, ℕ, ◌*◌, ◌≤◌, Option, Some, None, List, [], ◌∷◌, length, take}
 use Rattle.trio_io.specs.Shelf.{Shelf, Rose, RisesAt, IsTold, IsLonger, KeepsOthers, told}
 use Rattle.trio_rights.specs.declared.rights.Creds.{Creds}
 use Rattle.trio_layout.specs.declared.superblock.Superblock.{Superblock}
 use Rattle.trio_layout.specs.Superblock.{IsSuperblock}
-use Rattle.trio_state.specs.State.{State, settled}
-use Rattle.trio_state.specs.Run.{start, Run}
-use Rattle.trio_state.specs.Stored.{BytesVerify, StoresImage, core_in, image_in, pages_in, bytes_in}
-use Rattle.trio_script.specs.Script.{unbuilt_line}
+use Rattle.trio_state.specs.State.{settled}
+use Rattle.trio_state.specs.Stored.{BytesVerify, StoresImage, image_in, pages_in, bytes_in}
+use Rattle.trio_ctl.specs.Ctl.{superblock_for}
+use Rattle.trio_script.specs.Script.{script_lines, unbuilt_line}
+use Rattle.trio_runner.specs.Play.{Played, moves_of}
+use Rattle.trio_app.specs.Headline.{Headline}
 use Rattle.trio_app.specs.declared.status.Status.{Status}
 use Rattle.trio_app.specs.declared.status.Status.TheVariants.{Done, NotVerified, ReadFault, WriteFault, NoMemory, NotBuilt}
 use Rattle.trio_app.specs.Lines.{not_verified_line, read_fault_line, write_fault_line, not_built_image, not_built_script, not_built_line}
 use Rattle.trio_app.specs.Report.{report_text}
-use Rattle.trio_app.specs.Roots.{root_lists_directory}
 
 -- the one library's credentials
 abbrev pub libraries : List Creds
@@ -23,87 +24,65 @@ pub record HasLength (s : Superblock) (image : List ℕ) : Type 0 where
   pub read : IsSuperblock (take 4096 image) s
   pub whole : length image ≡ 4096 * s.pages
 
--- Superblock and length are right, and the root lists a directory.
-pub record ListsDirectory (image : List ℕ) : Type 0 where
-  pub superblock : Superblock
-  pub lengths : HasLength superblock image
-  pub lists : IsTrue (root_lists_directory (core_in superblock (pages_in superblock.pages image)))
-
--- The image can be run on: it verifies, and its root lists no directory.
-pub record IsBuilt (image : List ℕ) : Type 0 where
-  pub verifies : BytesVerify image
-  pub no_directory : ListsDirectory image → ⊥
-
--- A run of the script on the image: from the image's state, with nothing out, by the script's events and their answers, of
--- which there are none so far.
-abbrev pub RunsTo : List ℕ → List ℕ → Superblock → State → Type 0
-RunsTo image script s final = HasLength s image × Run (start (image_in s (pages_in s.pages image)) libraries) [] [] final
-
 -- all was done with the bytes of both files
 pub record TurnsDone (image script out : List ℕ) (old new : Shelf) (text : List ℕ) : Type 0 where
   pub image_bytes : List ℕ
   pub script_bytes : List ℕ
   pub image_is : IsTold (old.held image) image_bytes
   pub script_is : IsTold (old.held script) script_bytes
-  pub image_built : IsBuilt image_bytes
+  pub image_verifies : BytesVerify image_bytes
   pub script_built : unbuilt_line script_bytes ≡ None
   pub superblock : Superblock
-  pub final : State
-  pub run : RunsTo image_bytes script_bytes superblock final
-  pub put : text ≡ report_text (settled final)
+  pub lengths : HasLength superblock image_bytes
+  -- the script as it is played on the image, and what holds of each of its moves
+  pub played : Played (image_in superblock (pages_in superblock.pages image_bytes)) libraries (script_lines script_bytes)
+  pub headline : Headline (image_in superblock (pages_in superblock.pages image_bytes)) libraries (moves_of played)
+  pub put : text ≡ report_text (script_lines script_bytes) played.tolds played.end (settled played.last.state)
   -- the pages of the image that is settled at the end, and the file that has them
   pub pages : List (Option (List ℕ))
-  pub stores : StoresImage superblock (settled final) pages
+  pub stores : StoresImage (superblock_for (settled played.last.state).core) (settled played.last.state) pages
   pub written : new.held out ≡ told old.tells (bytes_in pages)
   pub written_verifies : BytesVerify (bytes_in pages)
 
--- the image was read, and doesn't verify; it isn't one that is not built
+-- the image was read, and doesn't verify
 pub record TurnsNotVerified (image : List ℕ) (old : Shelf) (text : List ℕ) : Type 0 where
   pub image_bytes : List ℕ
   pub image_is : IsTold (old.held image) image_bytes
   pub within : length image_bytes ≤ 33554432
-  pub no_directory : ListsDirectory image_bytes → ⊥
   pub fails : BytesVerify image_bytes → ⊥
   pub put : text ≡ not_verified_line
 
--- the image was read and can be run on
-pub record ImageIsBuilt (image : List ℕ) (old : Shelf) : Type 0 where
+-- the image was read and verifies
+pub record ImageVerifies (image : List ℕ) (old : Shelf) : Type 0 where
   pub image_bytes : List ℕ
   pub image_is : IsTold (old.held image) image_bytes
   pub within : length image_bytes ≤ 33554432
-  pub built : IsBuilt image_bytes
+  pub verifies : BytesVerify image_bytes
 
--- a file that should be read failed: the image, or the script once the image was read and can be run on
+-- a file that should be read failed: the image, or the script once the image was read and verifies
 abbrev pub TurnsReadFault : List ℕ → List ℕ → Shelf → Shelf → List ℕ → Type 0
 TurnsReadFault image script old new text =
     (Rose (old.read_faults image) (new.read_faults image) × (text ≡ read_fault_line image))
-    ⊎ (Rose (old.read_faults script) (new.read_faults script) × ImageIsBuilt image old × (text ≡ read_fault_line script))
-
--- the image's root lists a directory
-pub record ReadsDirectory (image : List ℕ) (old : Shelf) : Type 0 where
-  pub image_bytes : List ℕ
-  pub image_is : IsTold (old.held image) image_bytes
-  pub within : length image_bytes ≤ 33554432
-  pub lists : ListsDirectory image_bytes
+    ⊎ (Rose (old.read_faults script) (new.read_faults script) × ImageVerifies image old × (text ≡ read_fault_line script))
 
 -- a line of the script isn't built
 pub record ReadsLine (image script : List ℕ) (old : Shelf) (number : ℕ) : Type 0 where
-  pub image_built : ImageIsBuilt image old
+  pub image_verifies : ImageVerifies image old
   pub script_bytes : List ℕ
   pub script_is : IsTold (old.held script) script_bytes
   pub within : length script_bytes ≤ 1048576
   pub line : unbuilt_line script_bytes ≡ Some number
 
--- What isn't built: an image over its limit or with a directory; then a script over its limit; then a line.
+-- What isn't built: an image over its limit; then a script over its limit; then a line.
 abbrev pub TurnsNotBuilt : List ℕ → List ℕ → Shelf → List ℕ → Type 0
 TurnsNotBuilt image script old text =
-    ((text ≡ not_built_image) × (IsLonger 33554432 (old.held image) ⊎ ReadsDirectory image old))
-    ⊎ ((text ≡ not_built_script) × ImageIsBuilt image old × IsLonger 1048576 (old.held script))
+    ((text ≡ not_built_image) × IsLonger 33554432 (old.held image))
+    ⊎ ((text ≡ not_built_script) × ImageVerifies image old × IsLonger 1048576 (old.held script))
     ⊎ ((number : ℕ) × (text ≡ not_built_line number) × ReadsLine image script old number)
 
 -- all was done but for the write, which failed
 pub record TurnsWriteFault (image script out : List ℕ) (old new : Shelf) (text : List ℕ) : Type 0 where
-  pub image_built : ImageIsBuilt image old
+  pub image_verifies : ImageVerifies image old
   pub script_bytes : List ℕ
   pub script_is : IsTold (old.held script) script_bytes
   pub script_built : unbuilt_line script_bytes ≡ None

@@ -1,16 +1,16 @@
 //! The image and the script of a run, read and judged.
 
-ghost use Rattle.std.specs.Prelude.{◌≡◌, Contains, IfOk, IfErr, OnOk};
+ghost use Rattle.std.specs.Prelude.{◌≡◌, Contains, IfOk, IfErr, map};
 ghost use Rattle.trio_io.specs.Shelf.{OnlyReads};
+ghost use Rattle.trio_script.specs.Seen.{script_line_seen};
 ghost use Rattle.trio_app.specs.Inputs.{ReadsBoth};
-ghost use Rattle.trio_app.specs.Stop.{BytesStop, ImageStop, InputStop, IsBuiltImage, ReadsImage, ReadsScript, ScriptStop};
+ghost use Rattle.trio_app.specs.Stop.{BytesStop, ImageStop, InputStop, IsImage, ReadsImage, ReadsScript, ScriptStop};
 
-use crate::{Stop, lists_directory};
+use crate::Stop;
 use std::alloc::Global;
 use trio_image::{Image, read_pages, verify};
 use trio_io::{Files, ReadWholeFault, read_whole};
-use trio_page::Reads;
-use trio_script::{UnbuiltLine, read_script};
+use trio_script::{ScriptFault, ScriptLine, read_script};
 
 /// The most bytes that an image may have: 8192 pages of 4096.
 pub const IMAGE_LIMIT: usize = 33_554_432;
@@ -18,18 +18,18 @@ pub const IMAGE_LIMIT: usize = 33_554_432;
 /// The most bytes that a script may have.
 pub const SCRIPT_LIMIT: usize = 1_048_576;
 
-/// Reads the image and then the script, and answers the image where both can be run; else the first
-/// cause why not.
+/// Reads the image and then the script, and answers the image and the script's lines where both can
+/// be run; else the first cause why not.
 pub fn read_inputs<F: Files>(
     alloc: Global,
     image_name: &str,
     script_name: &str,
     files: &mut F,
-) -> Result<Image, Stop>
+) -> Result<(Image, Vec<ScriptLine>), Stop>
     requires image { Contains (F.seen files.old).served image_name.now }
     requires script { Contains (F.seen files.old).served script_name.now }
-    ensures image { IfOk result (λ image. ReadsImage image_name.now (F.seen files.old) image.superblock image.pages) }
-    ensures script { IfOk result (λ _. ReadsScript script_name.now (F.seen files.old)) }
+    ensures image { IfOk result (λ r. ReadsImage image_name.now (F.seen files.old) r.0.superblock r.0.pages) }
+    ensures script { IfOk result (λ r. ReadsScript script_name.now (F.seen files.old) (map script_line_seen r.1.items)) }
     ensures stops { IfErr result (InputStop image_name.now script_name.now (F.seen files.old) (F.seen files.new)) }
     ensures files { ReadsBoth image_name.now script_name.now (F.seen files.old) (F.seen files.new) }
 {
@@ -38,7 +38,7 @@ pub fn read_inputs<F: Files>(
         Err(stop) => return Err(stop),
     };
     match input_script(alloc, script_name, files) {
-        Ok(()) => Ok(image),
+        Ok(lines) => Ok((image, lines)),
         Err(stop) => Err(stop),
     }
 }
@@ -50,29 +50,25 @@ fn input_image<F: Files>(alloc: Global, name: &str, files: &mut F) -> Result<Ima
     ensures files { OnlyReads name.now (F.seen files.old) (F.seen files.new) }
 {
     match read_whole(alloc, files, name, IMAGE_LIMIT) {
-        Ok(bytes) => built_image(alloc, &bytes),
+        Ok(bytes) => verified_image(alloc, &bytes),
         Err(ReadWholeFault::ReadFault) => Err(Stop::ImageFault),
         Err(ReadWholeFault::TooLong) => Err(Stop::ImageNotBuilt),
         Err(ReadWholeFault::NoMemory) => Err(Stop::NoMemory),
     }
 }
 
-/// The image that these bytes are, where it can be run on.
-fn built_image(alloc: Global, bytes: &[u8]) -> Result<Image, Stop>
-    ensures image { IfOk result (λ image. IsBuiltImage bytes.now image.superblock image.pages) }
+/// The image that these bytes are, where it verifies.
+fn verified_image(alloc: Global, bytes: &[u8]) -> Result<Image, Stop>
+    ensures image { IfOk result (λ image. IsImage bytes.now image.superblock image.pages) }
     ensures stops { IfErr result (BytesStop bytes.now) }
 {
-    let mut pages = read_pages(alloc, bytes)?;
-    let superblock = pages.superblock;
-    if lists_directory(alloc, &mut pages.home, &superblock, &mut Reads::new())? {
-        return Err(Stop::ImageNotBuilt);
-    }
+    let pages = read_pages(alloc, bytes)?;
     Ok(verify(alloc, pages)?)
 }
 
-fn input_script<F: Files>(alloc: Global, name: &str, files: &mut F) -> Result<(), Stop>
+fn input_script<F: Files>(alloc: Global, name: &str, files: &mut F) -> Result<Vec<ScriptLine>, Stop>
     requires { Contains (F.seen files.old).served name.now }
-    ensures script { OnOk result (ReadsScript name.now (F.seen files.old)) }
+    ensures script { IfOk result (λ lines. ReadsScript name.now (F.seen files.old) (map script_line_seen lines.items)) }
     ensures stops { IfErr result (ScriptStop name.now (F.seen files.old) (F.seen files.new)) }
     ensures files { OnlyReads name.now (F.seen files.old) (F.seen files.new) }
 {
@@ -82,8 +78,9 @@ fn input_script<F: Files>(alloc: Global, name: &str, files: &mut F) -> Result<()
         Err(ReadWholeFault::TooLong) => return Err(Stop::ScriptNotBuilt),
         Err(ReadWholeFault::NoMemory) => return Err(Stop::NoMemory),
     };
-    match read_script(&bytes) {
-        Ok(()) => Ok(()),
-        Err(UnbuiltLine(number)) => Err(Stop::LineNotBuilt(number)),
+    match read_script(alloc, &bytes) {
+        Ok(lines) => Ok(lines),
+        Err(ScriptFault::Unbuilt(number)) => Err(Stop::LineNotBuilt(number)),
+        Err(ScriptFault::NoMemory) => Err(Stop::NoMemory),
     }
 }

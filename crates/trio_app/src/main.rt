@@ -14,7 +14,6 @@ ghost use Rattle.trio_io.specs.Names.{texts_of};
 mod inputs;
 mod lines;
 mod plain;
-mod roots;
 mod run;
 mod status;
 mod stop;
@@ -25,7 +24,6 @@ mod words;
 
 pub use inputs::{IMAGE_LIMIT, SCRIPT_LIMIT, read_inputs};
 pub use plain::plain_main;
-pub use roots::lists_directory;
 pub use status::{Outcome, Status};
 use std::alloc::Global;
 use std::env;

@@ -1,10 +1,13 @@
 //! The run of a script, its report and the image at its end.
 
-ghost use Rattle.std.specs.Prelude.{◌≡◌, ◌++◌, codes, IfOk};
-ghost use Rattle.trio_report.specs.Report.{counts_text, tree_text};
-ghost use Rattle.trio_report.specs.Seen.{counts_seen};
+ghost use Rattle.std.specs.Prelude.{◌≡◌, ◌++◌, IfOk, OnOk, map};
+ghost use Rattle.trio_report.specs.declared.report.LibraryKind.TheVariants.{Raw};
+ghost use Rattle.trio_report.specs.Report.{counts_text, end_line, lib_heading, tree_text};
+ghost use Rattle.trio_report.specs.Seen.{answer_seen, counts_seen};
+ghost use Rattle.trio_script.specs.Seen.{script_line_seen};
 ghost use Rattle.trio_state.specs.Stored.{core_in};
 ghost use Rattle.trio_state.specs.Tree.{tree_of};
+ghost use Rattle.trio_app.specs.Report.{answers_text};
 ghost use Rattle.trio_app.specs.RunEnd.{IsRunEnd};
 
 use std::alloc::Global;
@@ -12,9 +15,12 @@ use trio_ctl::Ctl;
 use trio_image::{Image, bytes_of};
 use trio_page::{NoMemory, Reads};
 use trio_report::{
-    Counts, EndAnswer, LibraryKind, put_counts, put_end, put_heading, put_tree, tree_lines,
+    Counts, EndAnswer, LibraryKind, LineAnswer, put_answer, put_counts, put_end, put_heading,
+    put_tree, tree_lines,
 };
 use trio_rights::{Creds, LibNo};
+use trio_runner::play;
+use trio_script::ScriptLine;
 
 /// What a run left.
 #[derive(Drop)]
@@ -25,15 +31,20 @@ pub struct RunEnd {
     pub image: Vec<u8>,
 }
 
-/// Runs a script whose one library does nothing. `NoMemory`: there was no memory for the run, the
-/// report or the bytes.
-pub fn run(alloc: Global, image: Image) -> Result<RunEnd, NoMemory>
-    ensures { IfOk result (λ end. IsRunEnd image.superblock image.pages end.report.items end.image.items) }
+/// Plays a script's lines on an image. `NoMemory`: there was no memory for the run, the report or
+/// the bytes.
+pub fn run(alloc: Global, image: Image, lines: &[ScriptLine]) -> Result<RunEnd, NoMemory>
+    ensures { IfOk result (λ end. IsRunEnd image.superblock image.pages (map script_line_seen lines.now) end.report.items end.image.items) }
 {
     let root = Creds { uid: 0, gid: 0 };
     let mut ctl = match Ctl::start(alloc, image, vec![in alloc; root]?) {
         Ok(ctl) => ctl,
         Err((_image, fault)) => return Err(fault),
+    };
+    let mut answers = Vec::new(alloc);
+    // no line that was read asks for what isn't built, so this is want of memory
+    let Ok(end) = play(alloc, &mut ctl, lines, &mut answers) else {
+        return Err(NoMemory);
     };
     let counts = ctl.counts();
     let counts = Counts {
@@ -41,15 +52,26 @@ pub fn run(alloc: Global, image: Image) -> Result<RunEnd, NoMemory>
         pages: counts.pages,
         free: counts.free,
     };
-    let mut last = ctl.image(alloc)?;
+    // at a script's end nothing is lent, so this is want of memory
+    let Ok(mut last) = ctl.image(alloc) else {
+        return Err(NoMemory);
+    };
     let image = bytes_of(alloc, &mut last)?;
-    let report = report(alloc, last, &counts)?;
+    let report = report(alloc, lines, &answers, end, last, &counts)?;
     Ok(RunEnd { report, image })
 }
 
-/// The report of a run whose one library did nothing, with the tree of the image at its end.
-fn report(alloc: Global, image: Image, counts: &Counts) -> Result<Vec<u8>, NoMemory>
-    ensures { IfOk result (λ text. text.items ≡ codes "lib 1 raw\nend nothing\n"
+/// The report of a run: the answers to its lines and that of its end, with the tree of the image at
+/// its end.
+fn report(
+    alloc: Global,
+    lines: &[ScriptLine],
+    answers: &[LineAnswer],
+    end: EndAnswer,
+    image: Image,
+    counts: &Counts,
+) -> Result<Vec<u8>, NoMemory>
+    ensures { IfOk result (λ text. text.items ≡ lib_heading 1 Raw ++ answers_text (map script_line_seen lines.now) (map answer_seen answers.now) ++ end_line end
         ++ tree_text (tree_of (core_in image.superblock image.pages)) ++ counts_text (counts_seen counts.now)) }
 {
     let superblock = image.superblock();
@@ -57,8 +79,24 @@ fn report(alloc: Global, image: Image, counts: &Counts) -> Result<Vec<u8>, NoMem
     let tree = tree_lines(alloc, &mut home, &superblock, &mut Reads::new())?;
     let mut text = Vec::new(alloc);
     put_heading(alloc, &mut text, LibNo(1), LibraryKind::Raw)?;
-    put_end(&mut text, EndAnswer::Nothing)?;
+    put_answers(alloc, &mut text, lines, answers)?;
+    put_end(&mut text, end)?;
     put_tree(alloc, &mut text, &tree)?;
     put_counts(alloc, &mut text, counts)?;
     Ok(text)
+}
+
+/// Appends the answer to each line, behind the line's number.
+fn put_answers(
+    alloc: Global,
+    text: &mut Vec<u8>,
+    lines: &[ScriptLine],
+    answers: &[LineAnswer],
+) -> Result<(), NoMemory>
+    ensures { OnOk result (text.new.items ≡ text.old.items ++ answers_text (map script_line_seen lines.now) (map answer_seen answers.now)) }
+{
+    for at in 0..lines.len().min(answers.len()) {
+        put_answer(alloc, text, lines[at].number, &answers[at])?;
+    }
+    Ok(())
 }

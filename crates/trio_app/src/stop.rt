@@ -16,7 +16,7 @@ use trio_survey::SurveyFault;
 pub enum Stop {
     /// A read of the image failed.
     ImageFault,
-    /// The image is over its limit, or its root lists a directory.
+    /// The image is over its limit.
     ImageNotBuilt,
     /// The image doesn't verify.
     NotVerified,

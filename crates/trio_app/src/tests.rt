@@ -156,23 +156,11 @@ fn inputs_are_judged(rt: HostRuntime) -> Result<(), Fail> {
         // an owner of a free page, and a row that differs
         (IMAGE_SIZE, &[(8220, 2)], b"", 1, b"not verified\n"),
         (IMAGE_SIZE, &[(4130, 0xa5)], SCRIPT, 1, b"not verified\n"),
-        // a directory in the root, whatever else fails
-        (IMAGE_SIZE, &[(16_388, 2)], SCRIPT, 8, b"not built image\n"),
-        (
-            IMAGE_SIZE,
-            &[(16_388, 2), (8220, 2)],
-            b"",
-            8,
-            b"not built image\n",
-        ),
-        // a slot outside the grammar lists none
-        (
-            IMAGE_SIZE,
-            &[(16_388, 2), (16_390, 1)],
-            SCRIPT,
-            1,
-            b"not verified\n",
-        ),
+        // a directory of five bytes, also where the script isn't built
+        (IMAGE_SIZE, &[(16_388, 2)], SCRIPT, 1, b"not verified\n"),
+        (IMAGE_SIZE, &[(16_388, 2)], b"", 1, b"not verified\n"),
+        // a slot outside the grammar
+        (IMAGE_SIZE, &[(16_390, 1)], SCRIPT, 1, b"not verified\n"),
         (IMAGE_SIZE, &[], b"", 8, b"not built line 1\n"),
         (
             IMAGE_SIZE,
@@ -184,7 +172,7 @@ fn inputs_are_judged(rt: HostRuntime) -> Result<(), Fail> {
         (
             IMAGE_SIZE,
             &[],
-            b"lib 1 raw 0 0\n\ngrant write 2",
+            b"lib 1 raw 0 0\n\nallot 1 0",
             8,
             b"not built line 3\n",
         ),
@@ -287,5 +275,293 @@ fn sure_forms(rt: HostRuntime) -> Result<(), Fail> {
     assert_eq!(rt; status, 1);
     assert_eq!(rt; out.bytes(), b"not verified\n".as_slice());
     assert!(rt; files.content("o p") == Some(b"".as_slice()));
+    Ok(())
+}
+
+// ---- scripts
+
+// The script of these lines, behind the library's.
+fn script_of(alloc: Global, lines: &str) -> Result<Vec<u8>, NoMemory> {
+    let mut script = SCRIPT.to_vec(alloc)?;
+    script.extend_from_slice(lines.as_bytes())?;
+    Ok(script)
+}
+
+// The report with these answers of lines and of the end, and this tree.
+fn report_of(alloc: Global, answers: &str, tree: &str) -> Result<Vec<u8>, NoMemory> {
+    let mut report = b"lib 1 raw\n".to_vec(alloc)?;
+    report.extend_from_slice(answers.as_bytes())?;
+    report.extend_from_slice(tree.as_bytes())?;
+    Ok(report)
+}
+
+// One file in the root.
+const FILE_TREE: &str = "tree\n0 d 755 0 0 1 /\n1 f 644 0 0 5 f\ninodes 2 pages 4 free 25\n";
+
+// What a library does with the file, the answers, and whether its block then begins with `J`.
+#[test]
+fn a_file_is_lent_written_and_released(rt: HostRuntime) -> Result<(), Fail> {
+    let rows: [(&str, &str, bool); 9] = [
+        (
+            "grant write 2\npoke block 2 0 0 4a\nrelease 2 - -\n",
+            "2 granted\n3 poked\n4 accepted\nend nothing\n",
+            true,
+        ),
+        // a size of 4097 with one block
+        (
+            "grant write 2\npoke block 2 0 0 4a\npoke body 2 16 0110000000000000\nrelease 2 - -\n",
+            "2 granted\n3 poked\n4 poked\n5 refused\nend nothing\n",
+            true,
+        ),
+        // the root's block
+        (
+            "grant write 2\npoke block 2 0 0 4a\npoke index 2 0 0 0400000000000000\nrelease 2 - -\n",
+            "2 granted\n3 poked\n4 poked\n5 refused\nend nothing\n",
+            true,
+        ),
+        // another uid
+        (
+            "grant write 2\npoke block 2 0 0 4a\npoke body 2 4 05000000\nrelease 2 - -\n",
+            "2 granted\n3 poked\n4 poked\n5 refused\nend nothing\n",
+            true,
+        ),
+        (
+            "grant write 2\ngrant write 2\ngrant write 9\n",
+            "2 granted\n3 busy\n4 notlive\nend accepted\n",
+            false,
+        ),
+        // no release
+        (
+            "grant write 2\npoke block 2 0 0 4a\n",
+            "2 granted\n3 poked\nend accepted\n",
+            true,
+        ),
+        // what it hasn't, and past the end
+        (
+            "poke block 2 0 0 4a\nrelease 2 - -\ngrant write 2\npoke block 2 1 0 4a\npoke block 2 0 4095 4a4a\npoke fresh 9 0 4a\nrelease 2 9 -\n",
+            "2 absent\n3 absent\n4 granted\n5 absent\n6 absent\n7 absent\n8 absent\nend accepted\n",
+            false,
+        ),
+        // a second grant after a refusal
+        (
+            "grant write 2\npoke body 2 0 ff\nrelease 2 - -\ngrant write 2\npoke block 2 0 0 4a\nrelease 2 - -\n",
+            "2 granted\n3 poked\n4 refused\n5 granted\n6 poked\n7 accepted\nend nothing\n",
+            true,
+        ),
+        // nothing at all is handed in
+        ("release - - -\n", "2 accepted\nend nothing\n", false),
+    ];
+    for (lines, answers, written) in rows {
+        let alloc = rt.alloc();
+        let whole = image(alloc, IMAGE_SIZE, &[])?;
+        let left = run_over(&rt, &WORDS, whole, script_of(alloc, lines)?, (0, 0))?;
+        let report = report_of(alloc, answers, FILE_TREE)?;
+        assert_eq!(rt; left.status, 0, "{lines}");
+        assert_eq!(rt; left.out.bytes(), report.as_slice(), "{lines}");
+        let begins = if written { b'J' } else { b'h' };
+        let wanted = image(alloc, IMAGE_SIZE, &[(24_576, begins)])?;
+        assert!(rt;
+            left.files.content("o p") == Some(wanted.as_slice()),
+            "{lines}"
+        );
+    }
+    Ok(())
+}
+
+// The image with a directory `a` in the root, and in it a file `f` of the five bytes `hello`.
+fn tree_parts() -> [(usize, &'static [u8]); 19] {
+    [
+        (0, b"ARCKTRIO"),
+        (8, b"\x01\0\0\0\0\x10\0\0\x20\0\0\0\x40"),
+        (24, b"\x01\0\0\0\x02\0\0\0\x03\0\0\0\x01"),
+        (40, b"\xed\x01"),
+        (52, b"\x03\0\0\0\0\x10"),
+        // the rows of 1, 2 and 3
+        (4096, b"\x01\x02\xed\x01"),
+        (4128, b"\x01\x02\xed\x01"),
+        (4140, b"\x01\0\0\0\x04"),
+        (4160, b"\x01\x01\xa4\x01"),
+        (4172, b"\x02\0\0\0\x06"),
+        // the owners of pages 0 to 8
+        (
+            8192,
+            b"\xff\xff\xff\xff\xff\xff\xff\xff\xff\xff\xff\xff\x01\0\0\0\x01\0\0\0\x02\0\0\0\x02\0\0\0\x03\0\0\0\x03",
+        ),
+        // the root's index page and its block, with the entry of 2
+        (12_288, b"\x04"),
+        (16_384, b"\x02\0\0\0\x02\x01\0\0a"),
+        (16_576, b"\xed\x01\0\0\0\0\0\0\0\0\0\0\x05\0\0\0\0\x10"),
+        // the directory's, with the entry of 3
+        (20_480, b"\x06"),
+        (24_576, b"\x03\0\0\0\x01\x01\0\0f"),
+        (24_768, b"\xa4\x01\0\0\0\0\0\0\0\0\0\0\x07\0\0\0\x05"),
+        // the file's
+        (28_672, b"\x08"),
+        (32_768, b"hello"),
+    ]
+}
+
+fn tree_image(alloc: Global) -> Result<Vec<u8>, NoMemory> {
+    let mut bytes = zeros(alloc, IMAGE_SIZE)?;
+    for (at, part) in tree_parts() {
+        put(&mut bytes, at, part);
+    }
+    Ok(bytes)
+}
+
+// What a library does with directories, the answers, the size of `f` at the end and the first byte
+// of its block.
+#[test]
+fn directories_are_lent_too(rt: HostRuntime) -> Result<(), Fail> {
+    let rows: [(&str, &str, &str, u8); 11] = [
+        (
+            "grant write 3\npoke block 3 0 0 4a\nrelease 3 - -\n",
+            "2 granted\n3 poked\n4 accepted\nend nothing\n",
+            "5",
+            b'J',
+        ),
+        (
+            "grant write 3\npoke body 3 16 0110000000000000\nrelease 3 - -\n",
+            "2 granted\n3 poked\n4 refused\nend nothing\n",
+            "5",
+            b'h',
+        ),
+        // the directory's holder writes over the size of `f`
+        (
+            "grant write 2\npoke block 2 0 208 ffffffffffffffff\nrelease 2 - -\n",
+            "2 granted\n3 poked\n4 accepted\nend nothing\n",
+            "5",
+            b'h',
+        ),
+        // the last link has to be zero
+        (
+            "grant write 3\npoke index 3 0 4088 0700000000000000\nrelease 3 - -\n",
+            "2 granted\n3 poked\n4 refused\nend nothing\n",
+            "5",
+            b'h',
+        ),
+        // both in one bundle
+        (
+            "grant write 2\ngrant write 3\npoke block 3 0 0 4a\npoke body 3 16 04\npoke block 2 0 208 ff\nrelease 2,3 - -\n",
+            "2 granted\n3 granted\n4 poked\n5 poked\n6 poked\n7 accepted\nend nothing\n",
+            "4",
+            b'J',
+        ),
+        // the child is released while its directory is out, and that comes later with stale bytes
+        (
+            "grant write 2\ngrant write 3\npoke body 3 16 04\nrelease 3 - -\npoke block 2 0 208 ff\nrelease 2 - -\n",
+            "2 granted\n3 granted\n4 poked\n5 accepted\n6 poked\n7 accepted\nend nothing\n",
+            "4",
+            b'h',
+        ),
+        // and where the directory is refused
+        (
+            "grant write 2\ngrant write 3\npoke body 3 16 04\nrelease 3 - -\npoke body 2 4 05\nrelease 2 - -\n",
+            "2 granted\n3 granted\n4 poked\n5 accepted\n6 poked\n7 refused\nend nothing\n",
+            "4",
+            b'h',
+        ),
+        // a child is dropped
+        (
+            "grant write 2\npoke block 2 0 0 00000000\nrelease 2 - -\n",
+            "2 granted\n3 poked\n4 refused\nend nothing\n",
+            "5",
+            b'h',
+        ),
+        // a file of another directory
+        (
+            "grant write 1\npoke block 1 0 256 030000000101000067\npoke block 1 0 448 a401\nrelease 1 - -\n",
+            "2 granted\n3 poked\n4 poked\n5 refused\nend nothing\n",
+            "5",
+            b'h',
+        ),
+        // a child twice
+        (
+            "grant write 2\npoke block 2 0 256 030000000101000067\npoke block 2 0 448 a401\nrelease 2 - -\n",
+            "2 granted\n3 poked\n4 poked\n5 refused\nend nothing\n",
+            "5",
+            b'h',
+        ),
+        // all that is left at the end
+        (
+            "grant write 1\ngrant write 2\ngrant write 3\npoke block 3 0 0 4a\n",
+            "2 granted\n3 granted\n4 granted\n5 poked\nend accepted\n",
+            "5",
+            b'J',
+        ),
+    ];
+    for (lines, answers, size, begins) in rows {
+        let alloc = rt.alloc();
+        let whole = tree_image(alloc)?;
+        let left = run_over(&rt, &WORDS, whole, script_of(alloc, lines)?, (0, 0))?;
+        let mut report = report_of(
+            alloc,
+            answers,
+            "tree\n0 d 755 0 0 1 /\n1 d 755 0 0 1 a\n2 f 644 0 0 ",
+        )?;
+        report.extend_from_slice(size.as_bytes())?;
+        report.extend_from_slice(b" f\ninodes 3 pages 6 free 23\n")?;
+        assert_eq!(rt; left.status, 0, "{lines}");
+        assert_eq!(rt; left.out.bytes(), report.as_slice(), "{lines}");
+        let out = left.files.content("o p").ok_or("an image")?;
+        assert_eq!(rt; out.get(32_768), Some(&begins), "{lines}");
+    }
+    Ok(())
+}
+
+// Each byte of the file's body set to some values. It is accepted only where nothing is changed, or
+// the size within its one block.
+#[test]
+fn any_byte_of_a_body(rt: HostRuntime) -> Result<(), Fail> {
+    let alloc = rt.alloc();
+    let whole = image(alloc, IMAGE_SIZE, &[])?;
+    for at in 0..64_usize {
+        for (value, text) in [(0_u8, "00"), (1, "01"), (0x7f, "7f"), (0xff, "ff")] {
+            let lines = format!(in alloc;
+                "grant write 2\npoke body 2 {at} {text}\nrelease 2 - -\n"
+            )?;
+            let script = script_of(alloc, lines.as_str())?;
+            let left = run_over(&rt, &WORDS, whole.to_vec(alloc)?, script, (0, 0))?;
+            assert_eq!(rt; left.status, 0, "{text} at {at}");
+            let same = whole.get(16_576 + at) == Some(&value);
+            let sized = at == 16 && value > 0 || at == 17 && value < 0x10;
+            let verdict: &[u8] = if same || sized {
+                b"4 accepted"
+            } else {
+                b"4 refused\n"
+            };
+            assert!(rt;
+                left.out.bytes().get(28..38) == Some(verdict),
+                "{text} at {at}"
+            );
+            let out = left.files.content("o p").ok_or("an image")?;
+            assert!(rt; trio_image::read(alloc, out).is_ok(), "{text} at {at}");
+        }
+    }
+    Ok(())
+}
+
+// Some bytes of the file's index page set to some values: only what changes nothing is accepted.
+#[test]
+fn any_byte_of_an_index_page(rt: HostRuntime) -> Result<(), Fail> {
+    let alloc = rt.alloc();
+    let whole = image(alloc, IMAGE_SIZE, &[])?;
+    for at in [0_u16, 1, 4, 7, 8, 9, 2048, 4080, 4087, 4088, 4089, 4095] {
+        for (value, text) in [(0_u8, "00"), (1, "01"), (0x7f, "7f"), (0xff, "ff")] {
+            let lines = format!(in alloc;
+                "grant write 2\npoke index 2 0 {at} {text}\nrelease 2 - -\n"
+            )?;
+            let script = script_of(alloc, lines.as_str())?;
+            let left = run_over(&rt, &WORDS, whole.to_vec(alloc)?, script, (0, 0))?;
+            let same = whole.get(20_480 + usize::from(at)) == Some(&value);
+            let verdict: &[u8] = if same { b"4 accepted" } else { b"4 refused\n" };
+            assert!(rt;
+                left.out.bytes().get(28..38) == Some(verdict),
+                "{text} at {at}"
+            );
+            let wanted = left.files.content("o p") == Some(whole.as_slice());
+            assert!(rt; wanted, "{text} at {at}");
+        }
+    }
     Ok(())
 }

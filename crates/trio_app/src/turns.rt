@@ -26,11 +26,11 @@ pub fn turns<F: Files>(
     requires out { Contains (F.seen files.old).served out_name.now }
     ensures { Turns image_name.now script_name.now out_name.now (F.seen files.old) (F.seen files.new) result.text.items result.status }
 {
-    let image = match read_inputs(alloc, image_name, script_name, files) {
-        Ok(image) => image,
+    let (image, lines) = match read_inputs(alloc, image_name, script_name, files) {
+        Ok(inputs) => inputs,
         Err(stop) => return stop.outcome(alloc, image_name, script_name),
     };
-    let Ok(end) = run(alloc, image) else {
+    let Ok(end) = run(alloc, image, &lines) else {
         return Outcome::no_memory(alloc);
     };
     let Ok(fault) = named_line(alloc, "write fault ", out_name) else {

@@ -1,12 +1,16 @@
-use Rattle.std.proofs.Common.{IsTrue, subst}
-use Rattle.trio_layout.specs.Superblock.{superblock_fits}
-use Rattle.trio_image.specs.Image.{ImagePages}
+use Rattle.std.proofs.Common.{map}
+use Rattle.trio_script.specs.Seen.{script_line_seen}
 use Rattle.trio_app.proofs.Ends.{run_end}
 use Rattle.trio_app.proofs.run.run.Goals as goal
 
 pub returns : goal.returns
 returns c =
-    let fits : IsTrue (superblock_fits c.args.image.superblock) = subst (λ (v : ImagePages). IsTrue (superblock_fits v.superblock)) c.drop.view_is c.drop.invariant.whole.superblock.read.fits in
-    let text = rw c.in_ok-image.ensures.image at c.in_ok-report.ensures in
-    run_end c.args.image.superblock c.in_ok-last.last.superblock c.args.image.pages c.in_ok-last.last.pages c.in_ok-vec.field-0.items c.in-Ok.ctl c.counts-counts.result c.in_ok-report.report.items c.in_ok-image.image.items
-    fits c.in_ok-vec.ensures.items c.in-Ok.ensures.started c.counts-counts.ensures.counts c.in_ok-last.ensures.superblock c.in_ok-last.ensures.stores c.in_ok-image.ensures.bytes c.in_ok-image.ensures.verify text
+    let told = c.in_ok-report.ensures in
+    let text = rw (c.in_ok-image.ensures.image, c.deref.ensures.value) at told in
+    let started = c.in-Ok.ensures in
+    let played = c.in-Ok-play.ensures.played in
+    let image = c.in-Ok-image.ensures in
+    let bytes = c.in_ok-image.ensures in
+    run_end c.args.image.superblock c.in-Ok-image.last.superblock c.args.image.pages c.in-Ok-image.last.pages c.in_ok-vec.field-0.items c.in-Ok.ctl c.play.new.ctl (map script_line_seen c.args.lines.now)
+    c.new-answers.result.items c.play.new.answers.items c.in-Ok-play.end c.counts-counts.result c.in_ok-report.report.items c.in_ok-image.image.items
+    started.kept c.in_ok-vec.ensures.items started.started c.new-answers.ensures.items played c.counts-counts.ensures.counts image.superblock image.stores bytes.bytes bytes.verify text

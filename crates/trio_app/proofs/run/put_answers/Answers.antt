@@ -1,0 +1,14 @@
+use Rattle.std.proofs.Common.{arith, ap, ◌∙◌, ◌++◌}
+use Rattle.trio_app.proofs.Ends.{answers_all_seen, answers_put}
+use Rattle.trio_app.proofs.run.put_answers.Goals as goal
+
+pub loop-at-preserved : goal.loop-at-preserved
+loop-at-preserved c =
+    let put = c.in_ok-put_answer.ensures in
+    answers_put c.args.lines.now c.args.answers.now c.loop-at.at c.index-lines-at.result c.index-answers-at.result c.args.text.now.items c.loop-at.text.items c.put_answer.new.out.items
+    (omega arith) (omega arith) c.index-lines-at.is c.index-answers-at.is c.loop-at.invariant put
+
+pub returns : goal.returns
+returns c =
+    c.loop-at.invariant
+    ∙ ap (λ bytes. c.args.text.now.items ++ bytes) (answers_all_seen c.args.lines.now c.args.answers.now c.loop-at.at (omega arith))
