@@ -1,6 +1,6 @@
 -- Lists with many places changed.
 use Rattle.std.proofs.Common.{◌≡◌, ◌≢◌, ℕ, suc, ◌+◌, ◌<◌, ◌≤◌, List, [], ◌∷◌, ◌++◌, length, set, get_or, Option, Some, None, IsSome, refl, sym, ap, subst, ◌∙◌, ◌⊎◌, inl, inr, arith, Bool, true, false, if◌then◌else◌, ◌==◌, ◌||◌, length-set, get_or-set_same, get_or-set_other}
-use Rattle.std.specs.Prelude.{All, AllPairs, IsTrue, not, is_some, ◌&&◌, slice_index}
+use Rattle.std.specs.Prelude.{All, IsTrue, not, is_some, ◌&&◌, slice_index}
 use Rattle.std.specs.List.{list_any}
 use Rattle.std.proofs.lemmas.Bool.{cases_eq, cases_lt, ne_eqb, eq-eqb, and_parts, false≢true}
 use Rattle.std.proofs.lemmas.List.{set_comm, get_or_push, get_or_append_left, get_or_past, length_push}
@@ -41,23 +41,6 @@ all_init P ns n all = (
   (λ k d lt. subst P (get_or_append_left ns (n ∷ []) d k lt) (all k d (let l = length_push ns n in omega (arith, l, lt)))),
   subst P (get_or_push ns n 0 (length ns) refl) (all (length ns) 0 (let l = length_push ns n in omega (arith, l))),
 )
-
-pub pairs_init : (ns : List ℕ) (n : ℕ) → AllPairs (λ a b. a ≢ b) (ns ++ n ∷ []) → AllPairs (λ a b. a ≢ b) ns × All (λ m. m ≢ n) ns
-pairs_init ns n pairs =
-    let longer = length_push ns n in (
-      (λ i j d lt l. subst (λ a. a ≢ get_or ns j d) (get_or_append_left ns (n ∷ []) d i (omega (arith, lt, l)))
-          (subst (λ b. get_or (ns ++ n ∷ []) i d ≢ b) (get_or_append_left ns (n ∷ []) d j l) (pairs i j d lt (omega (arith, longer, l))))),
-      (λ k d lt. subst (λ a. a ≢ n) (get_or_append_left ns (n ∷ []) d k lt)
-          (subst (λ b. get_or (ns ++ n ∷ []) k d ≢ b) (get_or_push ns n d (length ns) refl) (pairs k (length ns) d lt (omega (arith, longer))))),
-    )
-
--- the last page may as well be the first, where no other has its number
-pub with_pages-last : (fs : List FreshParts) (f : FreshParts) (pages : List (Option (List ℕ))) → All (λ n. n ≢ f.no.0) (page_numbers fs)
-    → with_pages (fs ++ f ∷ []) pages ≡ with_pages fs (set pages f.no.0 (Some f.page))
-with_pages-last [] f pages apart = refl
-with_pages-last (g ∷ fs) f pages apart =
-    with_pages-last fs f (set pages g.no.0 (Some g.page)) (All-tail (λ n. n ≢ f.no.0) g.no.0 (page_numbers fs) apart)
-    ∙ ap (with_pages fs) (set_comm pages g.no.0 f.no.0 (Some g.page) (Some f.page) (All-head (λ n. n ≢ f.no.0) g.no.0 (page_numbers fs) apart))
 
 -- ---- for callers
 

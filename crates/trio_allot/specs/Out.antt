@@ -1,5 +1,5 @@
 -- What is out by allotment, and how it goes out and comes back.
-use Rattle.std.specs.Prelude.{◌≢◌, ℕ, zero, suc, ◌+◌, List, [], ◌∷◌, map, replicate, Option, None, Some, IsSome, All, AllPairs, slice_index_or, slice_set}
+use Rattle.std.specs.Prelude.{ℕ, zero, suc, ◌+◌, List, [], ◌∷◌, map, replicate, Option, None, Some, slice_index_or, slice_set}
 use Rattle.trio_page.specs.Field.{zeros}
 use Rattle.trio_page.specs.Home.{raised}
 use Rattle.trio_rights.specs.declared.rights.LibNo.{LibNo}
@@ -44,11 +44,6 @@ page_numbers back = map (λ f. f.no.0) back
 -- the inode numbers, in their order
 abbrev pub inode_numbers : List InoParts → List ℕ
 inode_numbers back = map (λ f. f.no) back
-
--- each of these numbers is out, and stands among them once
-pub record AreOut (outs : List (Option LibNo)) (ns : List ℕ) : Type 0 where
-  pub out : All (λ n. IsSome (lib_at outs n)) ns
-  pub once : AllPairs (λ m n. m ≢ n) ns
 
 -- the pages of an image with these in place, each as it is
 abbrev pub with_pages : List FreshParts → List (Option (List ℕ)) → List (Option (List ℕ))

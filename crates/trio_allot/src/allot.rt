@@ -1,10 +1,10 @@
 //! What is out by allotment.
 
-ghost use Rattle.std.specs.Prelude.{◌≡◌, ◌+◌, ◌<◌, ◌≤◌, ◌∷◌, [], IfErr, IfOk, IfSome, IsSome, IsTrue, MatchOption, None, OnErr, OnOk, Some, All, AllPairs, ◌≢◌, length, map, slice_index_or, slice_set, take};
+ghost use Rattle.std.specs.Prelude.{◌≡◌, ◌+◌, ◌<◌, ◌≤◌, ◌∷◌, [], IfErr, IfOk, IfSome, IsSome, IsTrue, MatchOption, None, OnErr, OnOk, Some, All, length, map, slice_index_or, slice_set, take};
 ghost use Rattle.trio_page.specs.Field.{zeros};
 ghost use Rattle.trio_page.specs.Home.{raised};
 ghost use Rattle.trio_allot.specs.Free.{FreeAreHome, RefusesInodes, RefusesPages, free_numbers, free_pages, is_free_number, is_free_page, numbers_where};
-ghost use Rattle.trio_allot.specs.Out.{AreOut, fresh_number, fresh_page, inode_numbers, lib_at, none_out, page_numbers, raised_by, with_all, with_pages};
+ghost use Rattle.trio_allot.specs.Out.{fresh_number, fresh_page, inode_numbers, lib_at, none_out, page_numbers, raised_by, with_all, with_pages};
 
 use std::alloc::Global;
 use std::marker::Model;
@@ -209,13 +209,14 @@ impl Allotments {
     }
 
     /// Brings the pages home as they are, and ends the allotment of all pages and numbers of
-    /// `back`. Takes no memory, and counts no look.
+    /// `back`, whether they are out or not. A page that stands there twice is at home as it came
+    /// last. Takes no memory, and counts no look.
     ///
-    /// Each page and each number of `back` is out here and stands there once, and the page numbers
-    /// are within the home.
+    /// Each page and each number of `back` is the image's, and the page numbers are within the
+    /// home.
     pub fn put_back(&mut self, home: &mut Home, back: Allotted)
-        requires pages { AreOut self.old.pages (page_numbers back.pages.items) }
-        requires numbers { AreOut self.old.numbers (inode_numbers back.inodes.items) }
+        requires pages { All (λ n. n < length self.old.pages) (page_numbers back.pages.items) }
+        requires numbers { All (λ n. n < length self.old.numbers) (inode_numbers back.inodes.items) }
         requires within { All (λ n. n < length home.old.pages) (page_numbers back.pages.items) }
         ensures ended { self.new ≡ record {
           pages = with_all None (page_numbers back.pages.items) self.old.pages;
@@ -316,12 +317,12 @@ impl Allotments {
     fn put_pages(&mut self, home: &mut Home, mut pages: Vec<FreshPage>)
         requires within { All (λ n. n < length self.old.pages) (page_numbers pages.items) }
         requires within_home { All (λ n. n < length home.old.pages) (page_numbers pages.items) }
-        requires once { AllPairs (λ m n. m ≢ n) (page_numbers pages.items) }
         ensures ended { self.new
             ≡ record self.old { pages = with_all None (page_numbers pages.items) self.old.pages } }
         ensures home { home.new
             ≡ record home.old { pages = with_pages pages.items home.old.pages } }
     {
+        pages.reverse();
         while let Some(page) = pages.pop() {
             self.put_page(home, page);
         }

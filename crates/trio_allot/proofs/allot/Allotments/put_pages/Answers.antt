@@ -1,47 +1,59 @@
-use Rattle.std.proofs.Common.{◌≢◌, ◌<◌, ◌∙◌, ◌∷◌, [], ap, sym, subst, length, length-set, Some, None}
-use Rattle.std.specs.Prelude.{All, AllPairs}
-use Rattle.std.proofs.lemmas.List.{map-append}
+use Rattle.std.proofs.Common.{◌≡◌, ◌<◌, ◌∙◌, ◌∷◌, ◌++◌, [], List, ap, refl, sym, subst, length, reverse, length-set, Some, None}
+use Rattle.std.specs.Prelude.{All}
+use Rattle.std.proofs.lemmas.List.{reverse-append, reverse-reverse}
+use Rattle.std.proofs.lemmas.List.Elements.{All-head, All-tail}
+use Rattle.trio_lease.specs.declared.parts.FreshParts.{FreshParts}
 use Rattle.trio_allot.specs.Out.{page_numbers, with_all, with_pages}
-use Rattle.trio_allot.proofs.OutLemmas.{all_init, pairs_init, with_all-last, with_pages-last}
 use Rattle.trio_allot.proofs.allot.Allotments.put_pages.Goals as goal
+
+-- the last of the list is the first of the reversed one
+last_first : (items rest : List FreshParts) (f : FreshParts) → items ≡ rest ++ f ∷ [] → reverse items ≡ f ∷ reverse rest
+last_first items rest f is = ap reverse is ∙ reverse-append rest (f ∷ [])
+
+pub loop-page-init : goal.loop-page-init
+loop-page-init c =
+    let all : reverse c.reverse.new.self.items ≡ c.args.pages.items = ap reverse c.reverse.ensures.items ∙ reverse-reverse c.args.pages.items in
+    record {
+      ended = ap (λ fs. with_all None (page_numbers fs) c.args.self.now.pages) all;
+      numbers = refl;
+      home = ap (λ fs. with_pages fs c.args.home.now.pages) all;
+      looked = refl;
+      within = subst (λ fs. All (λ n. n < length c.args.self.now.pages) (page_numbers fs)) (sym all) c.requires.within;
+      within_home = subst (λ fs. All (λ n. n < length c.args.home.now.pages) (page_numbers fs)) (sym all) c.requires.within_home;
+    }
 
 pub put_page-requires-clause-within : goal.put_page-requires-clause-within
 put_page-requires-clause-within c =
-    let rest = c.pop.new.self.items in let f = c.in-Some.page in
-    let numbers = ap page_numbers c.in-Some.ensures.items ∙ map-append (λ f. f.no.0) rest (f ∷ []) in
-    (all_init (λ n. n < length c.loop-page.self.pages) (page_numbers rest) f.no.0
-    (subst (All (λ n. n < length c.loop-page.self.pages)) numbers c.loop-page.invariant.within)).1
+    let k = length c.loop-page.self.pages in let f = c.in-Some.page in
+    let next = last_first c.loop-page.pages.items c.pop.new.self.items f c.in-Some.ensures.items in
+    All-head (λ n. n < k) f.no.0 (page_numbers (reverse c.pop.new.self.items))
+    (subst (λ fs. All (λ n. n < k) (page_numbers fs)) next c.loop-page.invariant.within)
 
 pub put_page-requires-clause-within_home : goal.put_page-requires-clause-within_home
 put_page-requires-clause-within_home c =
-    let rest = c.pop.new.self.items in let f = c.in-Some.page in
-    let numbers = ap page_numbers c.in-Some.ensures.items ∙ map-append (λ f. f.no.0) rest (f ∷ []) in
-    (all_init (λ n. n < length c.loop-page.home.pages) (page_numbers rest) f.no.0
-    (subst (All (λ n. n < length c.loop-page.home.pages)) numbers c.loop-page.invariant.within_home)).1
+    let k = length c.loop-page.home.pages in let f = c.in-Some.page in
+    let next = last_first c.loop-page.pages.items c.pop.new.self.items f c.in-Some.ensures.items in
+    All-head (λ n. n < k) f.no.0 (page_numbers (reverse c.pop.new.self.items))
+    (subst (λ fs. All (λ n. n < k) (page_numbers fs)) next c.loop-page.invariant.within_home)
 
 pub loop-page-preserved : goal.loop-page-preserved
 loop-page-preserved c =
     let inv = c.loop-page.invariant in
-    let rest = c.pop.new.self.items in let f = c.in-Some.page in
-    let items = c.in-Some.ensures.items in
-    let numbers = ap page_numbers items ∙ map-append (λ f. f.no.0) rest (f ∷ []) in
+    let rest = reverse c.pop.new.self.items in let f = c.in-Some.page in
+    let next = last_first c.loop-page.pages.items c.pop.new.self.items f c.in-Some.ensures.items in
     let outs = c.loop-page.self.pages in let pages = c.loop-page.home.pages in
     let one = c.put_page.ensures in
-    let pairs = pairs_init (page_numbers rest) f.no.0 (subst (AllPairs (λ m n. m ≢ n)) numbers inv.once) in
     let same_size = ap (λ s. length s.pages) one.ended ∙ length-set outs f.no.0 None in
     let same_home = ap (λ h. length h.pages) one.home ∙ length-set pages f.no.0 (Some f.page) in
     record {
       ended = ap (λ s. with_all None (page_numbers rest) s.pages) one.ended
-          ∙ sym (with_all-last None (page_numbers rest) f.no.0 outs)
-          ∙ ap (λ ns. with_all None ns outs) (sym numbers) ∙ inv.ended;
+          ∙ ap (λ fs. with_all None (page_numbers fs) outs) (sym next) ∙ inv.ended;
       numbers = ap (λ s. s.numbers) one.ended ∙ inv.numbers;
       home = ap (λ h. with_pages rest h.pages) one.home
-          ∙ sym (with_pages-last rest f pages pairs.1)
-          ∙ ap (λ fs. with_pages fs pages) (sym items) ∙ inv.home;
+          ∙ ap (λ fs. with_pages fs pages) (sym next) ∙ inv.home;
       looked = ap (λ h. h.looked) one.home ∙ inv.looked;
       within = subst (λ k. All (λ n. n < k) (page_numbers rest)) (sym same_size)
-          (all_init (λ n. n < length outs) (page_numbers rest) f.no.0 (subst (All (λ n. n < length outs)) numbers inv.within)).0;
+          (All-tail (λ n. n < length outs) f.no.0 (page_numbers rest) (subst (λ fs. All (λ n. n < length outs) (page_numbers fs)) next inv.within));
       within_home = subst (λ k. All (λ n. n < k) (page_numbers rest)) (sym same_home)
-          (all_init (λ n. n < length pages) (page_numbers rest) f.no.0 (subst (All (λ n. n < length pages)) numbers inv.within_home)).0;
-      once = pairs.0;
+          (All-tail (λ n. n < length pages) f.no.0 (page_numbers rest) (subst (λ fs. All (λ n. n < length pages) (page_numbers fs)) next inv.within_home));
     }
