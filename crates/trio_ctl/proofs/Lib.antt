@@ -9,3 +9,4 @@ pub mod Ending
 pub mod Granting
 pub mod Handing
 pub mod Releasing
+pub mod OutLists

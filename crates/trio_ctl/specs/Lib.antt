@@ -5,3 +5,4 @@ pub mod Open
 pub mod Lending
 pub mod Answers
 pub mod Moves
+pub mod Outs

@@ -10,6 +10,7 @@ mod count;
 mod ctl;
 mod lend;
 mod open;
+mod outs;
 mod release;
 mod spread;
 mod store;
