@@ -1,26 +1,27 @@
 -- The lists of what is out, beside the table by number.
-use Rattle.std.proofs.Common.{◌≡◌, ◌≢◌, ℕ, zero, suc, ◌+◌, ◌-◌, ◌<◌, ◌≤◌, Bool, true, false, cond, not, ◌==◌, ◌&&◌, ◌||◌, List, [], ◌∷◌, ◌++◌, length, map, take, get_or, Option, Some, None, IsSome, is_some, IsTrue, refl, sym, ap, subst, ◌∙◌, ◌⊎◌, inl, inr, arith, set, slice_index}
+use Rattle.std.proofs.Common.{◌≡◌, ◌≢◌, ℕ, zero, suc, ◌+◌, ◌-◌, ◌<◌, ◌≤◌, Bool, true, false, cond, not, ◌==◌, ◌&&◌, ◌||◌, List, [], ◌∷◌, ◌++◌, length, map, take, Option, Some, None, is_some, IsTrue, refl, sym, ap, subst, ◌∙◌, ◌⊎◌, inl, inr, arith, set, slice_index}
 use Rattle.std.specs.Prelude.{All, if◌then◌else◌, nat_lt}
-use Rattle.std.specs.List.{filter, find, list_any}
+use Rattle.std.specs.List.{filter, find}
 use Rattle.std.specs.Option.{option_map, option_or}
-use Rattle.std.proofs.lemmas.Bool.{and_parts, cases_eq, cases_lt, eq-eqb, eqb-true, false≢true, ltb-true, ne_eqb}
-use Rattle.std.proofs.lemmas.List.{ext_get_or, get_or_past, length_push}
+use Rattle.std.proofs.lemmas.Bool.{and_parts, cases_eq, cases_lt, eq-eqb, false≢true, lt-ltb, ltb-true, ne_eqb}
+use Rattle.std.proofs.lemmas.List.{ext_get_or, get_or_past}
 use Rattle.std.proofs.lemmas.List.Elements.{All-cons, All-nil}
 use Rattle.trio_rights.specs.Row.{Row, row_in}
 use Rattle.trio_rights.specs.declared.rights.LibNo.{LibNo}
 use Rattle.trio_lease.specs.declared.parts.FreshParts.{FreshParts}
 use Rattle.trio_layout.specs.Lists.{In, is_among}
 use Rattle.trio_layout.specs.Marks.{all_below}
-use Rattle.trio_state.specs.Allotments.{count_up, free_numbers as free_numbers_now, free_pages as free_pages_now, out_after}
+use Rattle.trio_state.specs.Allotments.{count_up, free_numbers as state_free_numbers, free_pages as state_free_pages, out_after}
+use Rattle.trio_state.specs.Given.{WasAllotted}
 use Rattle.trio_state.specs.Handed.{fresh_sheet}
 use Rattle.trio_state.specs.Sheets.{sheet_numbers, with_pages, without_pages}
 use Rattle.trio_state.specs.State.{Out, State, is_out}
-use Rattle.trio_allot.specs.Free.{FreeAreHome, count_up as allot_count, free_numbers, free_pages, is_free_number, is_free_page}
+use Rattle.trio_allot.specs.Free.{FreeAreHome, count_up as count_from, free_numbers, free_pages, is_free_number, is_free_page}
 use Rattle.trio_allot.specs.Out.{OutTo, fresh_number, fresh_page, inode_numbers, lib_at, page_numbers, with_all, with_pages as with_fresh}
 use Rattle.trio_allot.proofs.FreeLemmas.{count_is, free_numbers_are, free_pages_are, where_skip}
-use Rattle.trio_allot.proofs.OutLemmas.{length-with_all, with_all-read, with_all_is, within_some}
+use Rattle.trio_allot.proofs.OutLemmas.{length-with_all, with_all-read, within_some}
 use Rattle.trio_laws.proofs.Bundles.{filter_in, in_filter}
-use Rattle.trio_laws.proofs.Members.{In-among}
+use Rattle.trio_laws.proofs.Members.{In-among, all_from}
 use Rattle.trio_laws.proofs.StateFacts.{any_from}
 use Rattle.trio_ctl.specs.Outs.{AreWithin, FreePagesAreHome, OutNow, Tells, TellsOf, free_numbers_of, free_pages_of, lib_of, out_now, out_to, outs_after, outs_with}
 
@@ -48,7 +49,7 @@ all_from_below n (m ∷ ns) below =
     let parts = and_parts (nat_lt m n) (all_below n ns) below in
     All-cons (λ m. m < n) m ns (ltb-true m n parts.0) (all_from_below n ns parts.1)
 
-counts_are : (from n : ℕ) → count_up from n ≡ allot_count from n
+counts_are : (from n : ℕ) → count_up from n ≡ count_from from n
 counts_are from n = count_is count_up (λ from. refl) (λ from n. refl) from n
 
 -- ---- members
@@ -246,7 +247,7 @@ module _ (table : List (Option LibNo)) (outs : List Out) (tells : TellsOf table 
   free_pages_told owners =
       let all : length owners - 0 ≡ length owners = omega arith in
       let test : ℕ → Bool = λ n. slice_index owners n == 0 && not (is_out outs n) in
-      sym (ap (filter test) (counts_are 0 (length owners) ∙ ap (allot_count 0) (sym all))
+      sym (ap (filter test) (counts_are 0 (length owners) ∙ ap (count_from 0) (sym all))
       ∙ free_pages_are owners table 0 (length owners) test refl (omega arith) (λ n lt. absurd (omega (arith, lt)))
       (λ n le lt. ap (λ b. slice_index owners n == 0 && not b) (sym (out_is n))))
 
@@ -254,7 +255,7 @@ module _ (table : List (Option LibNo)) (outs : List Out) (tells : TellsOf table 
   free_numbers_told rows inodes size =
       let all : length rows - 1 ≡ inodes = omega (arith, size) in
       let test : ℕ → Bool = λ n. not (is_some (row_in rows n)) && not (is_out outs n) in
-      sym (ap (filter test) (counts_are 1 (length rows - 1) ∙ ap (allot_count 1) all)
+      sym (ap (filter test) (counts_are 1 (length rows - 1) ∙ ap (count_from 1) all)
       ∙ free_numbers_are rows table inodes test size (λ n le lt. ap (λ b. not (is_some (row_in rows n)) && not b) (sym (out_is n))))
 
   -- each free page is at home, by the table too
@@ -272,7 +273,7 @@ not_out (Some x) e = absurd (false≢true e)
 -- pages that are free by the table, as many of them as are taken
 pub pages_are_free : (owners : List ℕ) (table : List (Option LibNo)) (k : ℕ) → length table ≡ length owners → AreFree table (take k (free_pages owners table))
 pages_are_free owners table k size m i =
-    let kept = filter_in (is_free_page owners table) m (allot_count 0 (length owners - 0)) (take_in k (free_pages owners table) m i) in
+    let kept = filter_in (is_free_page owners table) m (count_from 0 (length owners - 0)) (take_in k (free_pages owners table) m i) in
     let lt = count_below 0 (length owners - 0) m (subst (In m) (sym (counts_are 0 (length owners - 0))) kept.0) in (
       omega (arith, lt, size),
       not_out (lib_at table m) (and_parts (slice_index owners m == 0) (not (is_some (lib_at table m))) kept.1).1,
@@ -280,7 +281,7 @@ pages_are_free owners table k size m i =
 
 pub numbers_are_free : (rows : List (Option Row)) (table : List (Option LibNo)) (k : ℕ) → length table ≡ length rows → AreFree table (take k (free_numbers rows table))
 numbers_are_free rows table k size m i =
-    let kept = filter_in (is_free_number rows table) m (allot_count 1 (length rows - 1)) (take_in k (free_numbers rows table) m i) in
+    let kept = filter_in (is_free_number rows table) m (count_from 1 (length rows - 1)) (take_in k (free_numbers rows table) m i) in
     let lt = count_below 1 (length rows - 1) m (subst (In m) (sym (counts_are 1 (length rows - 1))) kept.0) in
     let some = from_one (length rows) m (subst (In m) (sym (counts_are 1 (length rows - 1))) kept.0) in (
       omega (arith, lt, some, size),
@@ -381,23 +382,6 @@ module _ (table next : OutTo) (outs : OutNow) (tells : Tells table outs) where
         inode_count = length-with_all None ns table.numbers ∙ tells.inode_count;
       })
 
--- ---- for callers: what is free, in the words of the steps
-
-pub free_pages_here : (s : State) → length s.home.owners ≡ s.home.core.range.end → s.home.core.range.first ≤ s.home.core.range.end
-    → ((n : ℕ) → n < s.home.core.range.first → slice_index s.home.owners n ≢ 0) → free_pages_of s.home.owners s.pages_out ≡ free_pages_now s
-free_pages_here s size le owned =
-    let first = s.home.core.range.first in let end = s.home.core.range.end in
-    let test : ℕ → Bool = λ n. slice_index s.home.owners n == 0 && not (is_out s.pages_out n) in
-    let all : length s.home.owners ≡ end - 0 = omega (arith, size) in
-    ap (filter test) (counts_are 0 (length s.home.owners) ∙ ap (allot_count 0) all)
-    ∙ where_skip test first end le (λ n lt. ap (λ b. b && not (is_out s.pages_out n)) (ne_eqb (slice_index s.home.owners n) 0 (owned n lt)))
-    ∙ ap (filter test) (sym (counts_are first (end - first)))
-
-pub free_numbers_here : (s : State) → length s.home.rows ≡ s.home.core.inodes + 1 → free_numbers_of s.home.rows s.numbers_out ≡ free_numbers_now s
-free_numbers_here s size =
-    let all : length s.home.rows - 1 ≡ s.home.core.inodes = omega (arith, size) in
-    ap (λ k. filter (λ n. not (is_some (row_in s.home.rows n)) && not (is_out s.numbers_out n)) (count_up 1 k)) all
-
 -- ---- what was given
 
 pub numbers_given : (lib : LibNo) (ns : List ℕ) → inode_numbers (map (fresh_number lib) ns) ≡ ns
@@ -407,3 +391,26 @@ numbers_given lib (n ∷ ns) = ap (λ ms. n ∷ ms) (numbers_given lib ns)
 pub pages_given : (lib : LibNo) (ns : List ℕ) → page_numbers (map (fresh_page lib) ns) ≡ ns
 pages_given lib [] = refl
 pages_given lib (n ∷ ns) = ap (λ ms. n ∷ ms) (pages_given lib ns)
+
+-- ---- for callers: what is free, in the words of the steps
+
+pub free_pages_here : (s : State) → length s.home.owners ≡ s.home.core.range.end → s.home.core.range.first ≤ s.home.core.range.end
+    → ((n : ℕ) → n < s.home.core.range.first → slice_index s.home.owners n ≢ 0) → free_pages_of s.home.owners s.pages_out ≡ state_free_pages s
+free_pages_here s size le owned =
+    let first = s.home.core.range.first in let end = s.home.core.range.end in
+    let test : ℕ → Bool = λ n. slice_index s.home.owners n == 0 && not (is_out s.pages_out n) in
+    let all : length s.home.owners ≡ end - 0 = omega (arith, size) in
+    ap (filter test) (counts_are 0 (length s.home.owners) ∙ ap (count_from 0) all)
+    ∙ where_skip test first end le (λ n lt. ap (λ b. b && not (is_out s.pages_out n)) (ne_eqb (slice_index s.home.owners n) 0 (owned n lt)))
+    ∙ ap (filter test) (sym (counts_are first (end - first)))
+
+pub free_numbers_here : (s : State) → length s.home.rows ≡ s.home.core.inodes + 1 → free_numbers_of s.home.rows s.numbers_out ≡ state_free_numbers s
+free_numbers_here s size =
+    let all : length s.home.rows - 1 ≡ s.home.core.inodes = omega (arith, size) in
+    ap (λ k. filter (λ n. not (is_some (row_in s.home.rows n)) && not (is_out s.numbers_out n)) (count_up 1 k)) all
+
+-- what was allotted is below a bound of all that is out
+pub given_below : (outs : List Out) (lib k : ℕ) (ns : List ℕ) → ((o : Out) → In o outs → o.number < k) → ((n : ℕ) → In n ns → WasAllotted outs lib n) → IsTrue (all_below k ns)
+given_below outs lib k ns within given =
+    all_from (λ m. nat_lt m k) ns
+    (λ n i. let was = given n i in let lt = within was.0 was.1 in let e = was.3 in lt-ltb n k (omega (arith, lt, e)))

@@ -1,13 +1,15 @@
-ghost use Rattle.std.specs.Prelude.{◌≡◌, IfSome, length};
+ghost use Rattle.std.specs.Prelude.{◌≡◌, ◌≤◌, All, IfOk, IfSome, IsSome, length};
 
 use super::*;
+use crate::outs::Outs;
 use std::alloc::Global;
 use std::test::Fail;
 use trio_image::{bytes_of, read};
 use trio_nodes::{GrantFault, GrantKind, Holder};
-use trio_page::PageNo;
 use trio_page::field::{put_bytes_in, put_u32_in};
+use trio_page::{Home, NoMemory, Page, PageNo, Reads};
 use trio_rights::{Creds, LibNo};
+use trio_tables::{Owners, Shadow};
 
 // An image of 32 pages and 64 inode numbers with an empty root: the superblock, one shadow page, one
 // owner page, and core pages from page 3 on.
@@ -143,5 +145,37 @@ fn what_is_lent_has_left_home(rt: HostRuntime) -> Result<(), Fail> {
     };
     let fault = ctl.image(alloc).err();
     assert!(rt; fault == Some(ImageFault::Busy(holder)));
+    Ok(())
+}
+
+// A home of so many pages, all of them there.
+fn full_home(alloc: Global, count: u32) -> Result<Home, NoMemory>
+    requires few { count ≤ 8192 }
+    ensures count { IfOk result (λ home. length home.pages ≡ count) }
+    ensures there { IfOk result (λ home. All (λ page. IsSome page) home.pages) }
+{
+    let mut pages = Vec::new(alloc);
+    for _i in 0..count {
+        pages.push(Some(Page::zero(alloc)?))?;
+    }
+    Ok(Home::of(pages))
+}
+
+#[test]
+fn the_lowest_free_ones_are_given(rt: HostRuntime) -> Result<(), Fail> {
+    let alloc = rt.alloc();
+    let mut home = full_home(alloc, 8)?;
+    let owners = Owners::new(alloc, 8, 3)?;
+    let rows = Shadow::new(alloc, 4)?;
+    let mut outs = Outs::new(alloc, 8, 4)?;
+    let mut reads = Reads::new();
+    let lib = LibNo(1);
+    let Ok(given) = outs.take(alloc, &mut home, &owners, &rows, lib, 2, 3, &mut reads) else {
+        return Err("nothing was given".into());
+    };
+    let pages = given.pages.iter().map(|page| page.no().0).eq([3, 4]);
+    let inodes = given.inodes.iter().map(|ino| ino.no()).eq([1, 2, 3]);
+    given.discard();
+    assert!(rt; pages && inodes);
     Ok(())
 }

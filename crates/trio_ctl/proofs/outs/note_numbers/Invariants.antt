@@ -1,4 +1,4 @@
-use Rattle.std.proofs.Common.{◌≡◌, ◌≤◌, ◌+◌, ◌-◌, ◌++◌, length, take, vec_capacity}
+use Rattle.std.proofs.Common.{◌≡◌, ◌≤◌, ◌+◌, ◌++◌, length, take, vec_capacity}
 use Rattle.trio_allot.specs.Out.{inode_numbers}
 use Rattle.trio_ctl.specs.Outs.{out_to}
 use Rattle.trio_ctl.proofs.outs.note_numbers.Given as goal

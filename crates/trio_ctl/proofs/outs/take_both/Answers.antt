@@ -1,4 +1,4 @@
-use Rattle.std.proofs.Common.{◌≡◌, ◌<◌, ◌∙◌, List, Option, ℕ, ap, length, map, refl, subst, sym, take, Some, None}
+use Rattle.std.proofs.Common.{◌<◌, ◌∙◌, List, Option, ℕ, ap, length, subst, sym, take, Some, None}
 use Rattle.std.specs.Prelude.{All}
 use Rattle.trio_rights.specs.declared.rights.LibNo.{LibNo}
 use Rattle.trio_lease.specs.declared.parts.FreshParts.{FreshParts}

@@ -1,39 +1,30 @@
-use Rattle.std.proofs.Common.{◌≡◌, ◌<◌, ◌∙◌, List, Option, ℕ, ap, length, subst, sym}
-use Rattle.std.specs.Prelude.{All, is_some}
+use Rattle.std.proofs.Common.{◌∙◌, List, Option, ℕ, ap, subst, sym}
+use Rattle.std.specs.Prelude.{is_some}
 use Rattle.std.specs.List.{filter}
 use Rattle.trio_page.specs.Home.{Pages}
-use Rattle.trio_state.specs.State.{Out}
-use Rattle.trio_allot.specs.Out.{OutTo, inode_numbers, lib_at, page_numbers}
-use Rattle.trio_ctl.specs.Outs.{OutNow, Tells}
-use Rattle.trio_ctl.proofs.OutLists.{came_back, fresh_is}
+use Rattle.trio_allot.specs.Out.{inode_numbers, lib_at, page_numbers}
+use Rattle.trio_ctl.specs.Outs.{OutNow, Tells, outs_after}
+use Rattle.trio_ctl.proofs.OutLists.{Stands, came_back, fresh_is}
 use Rattle.trio_ctl.proofs.outs.Outs.put_back.Goals as goal
 
-pub invariant_of-self : goal.invariant_of-self
-invariant_of-self c =
-    let outs : OutNow = c.args.self.now in
-    (came_back c.self.inside.table c.put_back.new.self outs (subst (Tells c.self.inside.table) c.self.view_is c.self.invariant)
+-- what stands once the table and both lists have changed
+back : (c : goal.After-keep_numbers) → Stands c.put_back.new.self c.keep_pages.new.outs.items c.keep_numbers.new.outs.items (outs_after c.args.self.now (page_numbers c.args.back.pages.items) (inode_numbers c.args.back.inodes.items))
+back c =
+    let outs : OutNow = c.args.self.now in let table = c.self.inside.table in let next = c.put_back.new.self in
+    came_back table next outs (subst (Tells table) c.self.view_is c.self.invariant)
     (page_numbers c.args.back.pages.items) (inode_numbers c.args.back.inodes.items) c.keep_pages.new.outs.items c.keep_numbers.new.outs.items
     c.put_back.ensures.ended
-    (c.keep_pages.ensures ∙ ap (λ (o : OutNow). filter (λ o. is_some (lib_at c.put_back.new.self.pages o.number)) o.pages) c.self.view_is)
-    (c.keep_numbers.ensures ∙ ap (λ (o : OutNow). filter (λ o. is_some (lib_at c.put_back.new.self.numbers o.number)) o.numbers) c.self.view_is)).tells
+    (c.keep_pages.ensures ∙ ap (λ (o : OutNow). filter (λ o. is_some (lib_at next.pages o.number)) o.pages) c.self.view_is)
+    (c.keep_numbers.ensures ∙ ap (λ (o : OutNow). filter (λ o. is_some (lib_at next.numbers o.number)) o.numbers) c.self.view_is)
+
+pub invariant_of-self : goal.invariant_of-self
+invariant_of-self c = (back c).tells
 
 pub returns-clause-out : goal.returns-clause-out
-returns-clause-out c =
-    let outs : OutNow = c.args.self.now in
-    (came_back c.self.inside.table c.put_back.new.self outs (subst (Tells c.self.inside.table) c.self.view_is c.self.invariant)
-    (page_numbers c.args.back.pages.items) (inode_numbers c.args.back.inodes.items) c.keep_pages.new.outs.items c.keep_numbers.new.outs.items
-    c.put_back.ensures.ended
-    (c.keep_pages.ensures ∙ ap (λ (o : OutNow). filter (λ o. is_some (lib_at c.put_back.new.self.pages o.number)) o.pages) c.self.view_is)
-    (c.keep_numbers.ensures ∙ ap (λ (o : OutNow). filter (λ o. is_some (lib_at c.put_back.new.self.numbers o.number)) o.numbers) c.self.view_is)).view
+returns-clause-out c = (back c).view
 
 pub returns-clause-within : goal.returns-clause-within
-returns-clause-within c =
-    let outs : OutNow = c.args.self.now in
-    (came_back c.self.inside.table c.put_back.new.self outs (subst (Tells c.self.inside.table) c.self.view_is c.self.invariant)
-    (page_numbers c.args.back.pages.items) (inode_numbers c.args.back.inodes.items) c.keep_pages.new.outs.items c.keep_numbers.new.outs.items
-    c.put_back.ensures.ended
-    (c.keep_pages.ensures ∙ ap (λ (o : OutNow). filter (λ o. is_some (lib_at c.put_back.new.self.pages o.number)) o.pages) c.self.view_is)
-    (c.keep_numbers.ensures ∙ ap (λ (o : OutNow). filter (λ o. is_some (lib_at c.put_back.new.self.numbers o.number)) o.numbers) c.self.view_is)).within
+returns-clause-within c = (back c).within
 
 pub returns-clause-home : goal.returns-clause-home
 returns-clause-home c =

@@ -1,4 +1,4 @@
-use Rattle.std.proofs.Common.{◌≤◌, ◌<◌, ◌∙◌, List, ℕ, ap, length, refl, subst}
+use Rattle.std.proofs.Common.{◌≤◌, ◌<◌, ◌∙◌, ℕ, ap, length, refl, subst}
 use Rattle.trio_ctl.specs.Outs.{Tells}
 use Rattle.trio_ctl.proofs.OutLists.{free_numbers_told, free_pages_told}
 use Rattle.trio_ctl.proofs.outs.Outs.refuse_more.Goals as goal

@@ -1,12 +1,9 @@
-use Rattle.std.proofs.Common.{◌≡◌, ◌≤◌, ◌∙◌, ◌++◌, List, Option, ℕ, ap, length, map, subst, sym, take, None}
-use Rattle.trio_rights.specs.Row.{Row}
-use Rattle.trio_lease.specs.declared.parts.FreshParts.{FreshParts}
-use Rattle.trio_lease.specs.declared.parts.InoParts.{InoParts}
+use Rattle.std.proofs.Common.{◌≤◌, ◌∙◌, ◌++◌, List, Option, ℕ, ap, length, map, subst, sym, take, None}
 use Rattle.trio_state.specs.State.{Out}
 use Rattle.trio_allot.specs.Free.{free_numbers, free_pages}
 use Rattle.trio_allot.specs.Out.{OutTo, fresh_number, fresh_page, inode_numbers, page_numbers, raised_by, with_all}
-use Rattle.trio_ctl.specs.Outs.{AreWithin, OutNow, Tells, free_numbers_of, free_pages_of, out_now, out_to}
-use Rattle.trio_ctl.proofs.OutLists.{free_numbers_told, free_pages_told, home_told, numbers_given, pages_given, stands, went_out, within_of, without_is}
+use Rattle.trio_ctl.specs.Outs.{AreWithin, OutNow, Tells, free_numbers_of, free_pages_of, out_now, out_to, outs_with}
+use Rattle.trio_ctl.proofs.OutLists.{Stands, free_numbers_told, free_pages_told, home_told, numbers_given, pages_given, stands, went_out, within_of, without_is}
 use Rattle.trio_ctl.proofs.outs.Outs.take.Goals as goal
 
 pub returns-in_err-refuse_more-clause-within : goal.returns-in_err-refuse_more-clause-within
@@ -72,53 +69,29 @@ returns-clause-home c =
     (ap (λ (fs : List ℕ). with_all None (take c.args.pages fs) c.args.home.now.pages) told
     ∙ sym (without_is (take c.args.pages (free_pages_of c.args.owners.now outs.pages)) c.args.home.now.pages))
 
-pub invariant_of-self-2 : goal.invariant_of-self-2
-invariant_of-self-2 c =
+-- what stands once the table and both lists have changed
+gone : (c : goal.After-note_numbers) → Stands c.take_both.new.table c.note_pages.new.outs.items c.note_numbers.new.outs.items (outs_with c.args.self.now c.args.lib (take c.args.pages (free_pages_of c.args.owners.now c.args.self.now.pages)) (take c.args.inodes (free_numbers_of c.args.rows.now c.args.self.now.numbers)))
+gone c =
     let outs : OutNow = c.args.self.now in let table : OutTo = c.self.inside.table in let lib = c.args.lib in
     let ps = take c.args.pages (free_pages c.args.owners.now table.pages) in
     let ns = take c.args.inodes (free_numbers c.args.rows.now table.numbers) in
-    (went_out table c.take_both.new.table outs (subst (Tells c.self.inside.table) c.self.view_is c.self.invariant)
+    let page_numbers_are = ap page_numbers (c.deref.ensures.value ∙ c.in_ok-given.ensures.pages) ∙ pages_given lib ps in
+    let inode_numbers_are = ap inode_numbers (c.deref-2.ensures.value ∙ c.in_ok-given.ensures.inodes) ∙ numbers_given lib ns in
+    went_out table c.take_both.new.table outs (subst (Tells table) c.self.view_is c.self.invariant)
     c.args.owners.now c.args.rows.now lib c.args.pages c.args.inodes c.note_pages.new.outs.items c.note_numbers.new.outs.items
     c.requires.page_count c.requires.inode_count c.in_ok-given.ensures.out
     (c.note_pages.ensures
     ∙ ap (λ (os : List Out). os ++ out_to lib (page_numbers c.deref.result.now)) (c.reserve.ensures.items ∙ ap (λ (o : OutNow). o.pages) c.self.view_is)
-    ∙ ap (λ (fs : List FreshParts). outs.pages ++ out_to lib (page_numbers fs)) (c.deref.ensures.value ∙ c.in_ok-given.ensures.pages)
-    ∙ ap (λ (ms : List ℕ). outs.pages ++ out_to lib ms) (pages_given lib ps))
+    ∙ ap (λ (ms : List ℕ). outs.pages ++ out_to lib ms) page_numbers_are)
     (c.note_numbers.ensures
     ∙ ap (λ (os : List Out). os ++ out_to lib (inode_numbers c.deref-2.result.now)) (c.reserve-2.ensures.items ∙ ap (λ (o : OutNow). o.numbers) c.self.view_is)
-    ∙ ap (λ (fs : List InoParts). outs.numbers ++ out_to lib (inode_numbers fs)) (c.deref-2.ensures.value ∙ c.in_ok-given.ensures.inodes)
-    ∙ ap (λ (ms : List ℕ). outs.numbers ++ out_to lib ms) (numbers_given lib ns))).tells
+    ∙ ap (λ (ms : List ℕ). outs.numbers ++ out_to lib ms) inode_numbers_are)
+
+pub invariant_of-self-2 : goal.invariant_of-self-2
+invariant_of-self-2 c = (gone c).tells
 
 pub returns-clause-out : goal.returns-clause-out
-returns-clause-out c =
-    let outs : OutNow = c.args.self.now in let table : OutTo = c.self.inside.table in let lib = c.args.lib in
-    let ps = take c.args.pages (free_pages c.args.owners.now table.pages) in
-    let ns = take c.args.inodes (free_numbers c.args.rows.now table.numbers) in
-    (went_out table c.take_both.new.table outs (subst (Tells c.self.inside.table) c.self.view_is c.self.invariant)
-    c.args.owners.now c.args.rows.now lib c.args.pages c.args.inodes c.note_pages.new.outs.items c.note_numbers.new.outs.items
-    c.requires.page_count c.requires.inode_count c.in_ok-given.ensures.out
-    (c.note_pages.ensures
-    ∙ ap (λ (os : List Out). os ++ out_to lib (page_numbers c.deref.result.now)) (c.reserve.ensures.items ∙ ap (λ (o : OutNow). o.pages) c.self.view_is)
-    ∙ ap (λ (fs : List FreshParts). outs.pages ++ out_to lib (page_numbers fs)) (c.deref.ensures.value ∙ c.in_ok-given.ensures.pages)
-    ∙ ap (λ (ms : List ℕ). outs.pages ++ out_to lib ms) (pages_given lib ps))
-    (c.note_numbers.ensures
-    ∙ ap (λ (os : List Out). os ++ out_to lib (inode_numbers c.deref-2.result.now)) (c.reserve-2.ensures.items ∙ ap (λ (o : OutNow). o.numbers) c.self.view_is)
-    ∙ ap (λ (fs : List InoParts). outs.numbers ++ out_to lib (inode_numbers fs)) (c.deref-2.ensures.value ∙ c.in_ok-given.ensures.inodes)
-    ∙ ap (λ (ms : List ℕ). outs.numbers ++ out_to lib ms) (numbers_given lib ns))).view
+returns-clause-out c = (gone c).view
 
 pub returns-clause-within : goal.returns-clause-within
-returns-clause-within c =
-    let outs : OutNow = c.args.self.now in let table : OutTo = c.self.inside.table in let lib = c.args.lib in
-    let ps = take c.args.pages (free_pages c.args.owners.now table.pages) in
-    let ns = take c.args.inodes (free_numbers c.args.rows.now table.numbers) in
-    (went_out table c.take_both.new.table outs (subst (Tells c.self.inside.table) c.self.view_is c.self.invariant)
-    c.args.owners.now c.args.rows.now lib c.args.pages c.args.inodes c.note_pages.new.outs.items c.note_numbers.new.outs.items
-    c.requires.page_count c.requires.inode_count c.in_ok-given.ensures.out
-    (c.note_pages.ensures
-    ∙ ap (λ (os : List Out). os ++ out_to lib (page_numbers c.deref.result.now)) (c.reserve.ensures.items ∙ ap (λ (o : OutNow). o.pages) c.self.view_is)
-    ∙ ap (λ (fs : List FreshParts). outs.pages ++ out_to lib (page_numbers fs)) (c.deref.ensures.value ∙ c.in_ok-given.ensures.pages)
-    ∙ ap (λ (ms : List ℕ). outs.pages ++ out_to lib ms) (pages_given lib ps))
-    (c.note_numbers.ensures
-    ∙ ap (λ (os : List Out). os ++ out_to lib (inode_numbers c.deref-2.result.now)) (c.reserve-2.ensures.items ∙ ap (λ (o : OutNow). o.numbers) c.self.view_is)
-    ∙ ap (λ (fs : List InoParts). outs.numbers ++ out_to lib (inode_numbers fs)) (c.deref-2.ensures.value ∙ c.in_ok-given.ensures.inodes)
-    ∙ ap (λ (ms : List ℕ). outs.numbers ++ out_to lib ms) (numbers_given lib ns))).within
+returns-clause-within c = (gone c).within
