@@ -3,7 +3,7 @@ use Rattle.std.proofs.Common.{◌≡◌, ◌≢◌, ℕ, zero, suc, ◌+◌, ◌
 use Rattle.std.specs.Prelude.{All, if◌then◌else◌, nat_lt}
 use Rattle.std.specs.List.{filter, find}
 use Rattle.std.specs.Option.{option_map, option_or}
-use Rattle.std.proofs.lemmas.Bool.{and_parts, cases_eq, cases_lt, eq-eqb, false≢true, lt-ltb, ltb-true, ne_eqb}
+use Rattle.std.proofs.lemmas.Bool.{and_parts, cases_eq, cases_lt, eq-eqb, false≢true, lt-ltb, ne_eqb}
 use Rattle.std.proofs.lemmas.List.{ext_get_or, get_or_past}
 use Rattle.std.proofs.lemmas.List.Elements.{All-cons, All-nil}
 use Rattle.trio_rights.specs.Row.{Row, row_in}
@@ -42,12 +42,6 @@ fresh_is (f ∷ fs) pages = fresh_is fs (set pages f.no.0 (Some f.page))
 pub fresh_numbers : (fs : List FreshParts) → sheet_numbers (map fresh_sheet fs) ≡ page_numbers fs
 fresh_numbers [] = refl
 fresh_numbers (f ∷ fs) = ap (λ ns. f.no.0 ∷ ns) (fresh_numbers fs)
-
-pub all_from_below : (n : ℕ) (ns : List ℕ) → IsTrue (all_below n ns) → All (λ m. m < n) ns
-all_from_below n [] below = All-nil (λ m. m < n)
-all_from_below n (m ∷ ns) below =
-    let parts = and_parts (nat_lt m n) (all_below n ns) below in
-    All-cons (λ m. m < n) m ns (ltb-true m n parts.0) (all_from_below n ns parts.1)
 
 counts_are : (from n : ℕ) → count_up from n ≡ count_from from n
 counts_are from n = count_is count_up (λ from. refl) (λ from n. refl) from n
@@ -156,7 +150,7 @@ abbrev pub AreFree : List (Option LibNo) → List ℕ → Type 0
 AreFree table ns = (m : ℕ) → In m ns → (m < length table) × (lib_at table m ≡ None)
 
 -- free numbers have gone out
-pub tells_with : (table : List (Option LibNo)) (outs : List Out) (lib : LibNo) (ns : List ℕ) → TellsOf table outs → AreFree table ns
+tells_with : (table : List (Option LibNo)) (outs : List Out) (lib : LibNo) (ns : List ℕ) → TellsOf table outs → AreFree table ns
     → TellsOf (with_all (Some lib) ns table) (outs ++ out_to lib ns)
 tells_with table outs lib ns tells free n = by (cases_lt n (length table))
   where
@@ -183,7 +177,7 @@ tells_with table outs lib ns tells free n = by (cases_lt n (length table))
         ∙ sym (list ∙ ap (λ o. option_or o (if is_among n ns then Some lib else None)) (get_or_past table n None le) ∙ none (is_among n ns) refl le)
 
 -- numbers are back, out or not
-pub tells_after : (table : List (Option LibNo)) (outs : List Out) (ns : List ℕ) → TellsOf table outs → TellsOf (with_all None ns table) (out_after outs ns)
+tells_after : (table : List (Option LibNo)) (outs : List Out) (ns : List ℕ) → TellsOf table outs → TellsOf (with_all None ns table) (out_after outs ns)
 tells_after table outs ns tells n = by (cases_lt n (length table)) ∙ ap (λ o. if is_among n ns then None else o) (tells n) ∙ sym (after outs ns n)
   where
     by : ((n < length table) ⊎ (length table ≤ n)) → lib_at (with_all None ns table) n ≡ (if is_among n ns then None else lib_at table n)
@@ -197,7 +191,7 @@ within_table : (table : List (Option LibNo)) (outs : List Out) → TellsOf table
 within_table table outs tells o i = within_some table o.number (ap is_some (tells o.number) ∙ found o outs i)
 
 -- what the table still has out once numbers are back is the list without them
-pub still_out : (table : List (Option LibNo)) (outs : List Out) (ns : List ℕ) → TellsOf table outs
+still_out : (table : List (Option LibNo)) (outs : List Out) (ns : List ℕ) → TellsOf table outs
     → filter (λ o. is_some (lib_at (with_all None ns table) o.number)) outs ≡ out_after outs ns
 still_out table outs ns tells = same_kept (λ o. is_some (lib_at (with_all None ns table) o.number)) (λ o. not (is_among o.number ns)) outs one
   where
@@ -271,7 +265,7 @@ not_out None e = refl
 not_out (Some x) e = absurd (false≢true e)
 
 -- pages that are free by the table, as many of them as are taken
-pub pages_are_free : (owners : List ℕ) (table : List (Option LibNo)) (k : ℕ) → length table ≡ length owners → AreFree table (take k (free_pages owners table))
+pages_are_free : (owners : List ℕ) (table : List (Option LibNo)) (k : ℕ) → length table ≡ length owners → AreFree table (take k (free_pages owners table))
 pages_are_free owners table k size m i =
     let kept = filter_in (is_free_page owners table) m (count_from 0 (length owners - 0)) (take_in k (free_pages owners table) m i) in
     let lt = count_below 0 (length owners - 0) m (subst (In m) (sym (counts_are 0 (length owners - 0))) kept.0) in (
