@@ -1,4 +1,4 @@
--- A controller of which nothing is out: its settled image is the one at home.
+-- A controller of which nothing is lent: its settled image is the one at home.
 use Rattle.std.proofs.Common.{◌≡◌, ℕ, Bool, true, false, List, [], ◌∷◌, length, map, Option, Some, None, IsTrue, inl, inr, refl, sym, ap, subst, ◌∙◌}
 use Rattle.std.specs.List.{find}
 use Rattle.std.specs.Option.{option_map}
@@ -13,16 +13,16 @@ use Rattle.trio_layout.specs.Superblock.{superblock_fits}
 use Rattle.trio_layout.specs.Lists.{In}
 use Rattle.trio_state.specs.Grants.{holder_of}
 use Rattle.trio_state.specs.Kept.{Kept}
-use Rattle.trio_state.specs.Run.{start}
 use Rattle.trio_state.specs.State.{OpenGrant, State, is_write}
-use Rattle.trio_ctl.specs.Ctl.{home_image, state_of, writer_of, IsControlled}
+use Rattle.trio_ctl.specs.Ctl.{state_of, writer_of, IsControlled}
 use Rattle.trio_ctl.specs.Open.{Opened, keyed}
+use Rattle.trio_ctl.specs.Outs.{OutNow}
 
-pub record IsAtHome (s : Superblock) (pages : List (Option (List ℕ))) (rows : List (Option Row)) (owners : List ℕ) (creds : List Creds) : Type 0 where
+pub record IsAtHome (s : Superblock) (pages : List (Option (List ℕ))) (rows : List (Option Row)) (owners : List ℕ) (outs : OutNow) (creds : List Creds) (entries : ℕ) : Type 0 where
   pub fits : IsTrue (superblock_fits s)
   pub root : length s.root ≡ 64
   pub count : length pages ≡ s.pages
-  pub kept : Kept (start (home_image s pages rows owners) creds)
+  pub kept : Kept (state_of s pages rows owners [] outs creds entries)
 
 -- the first writer, by the table and by the state
 same_write : (k : GrantKind) → k ≡ Write → (e : Bool) → e ≡ true → true ≡ e
@@ -34,43 +34,23 @@ writer_first (o ∷ os) all =
     let kind : o.grant.kind ≡ Write = all o (inl refl) in
     rw kind refl
 
-pub writer_is : (s : Superblock) (pages : List (Option (List ℕ))) (rows : List (Option Row)) (owners : List ℕ) (table : List Keyed) (files : List Opened) (creds : List Creds) (entries : ℕ) → IsControlled s pages rows owners table files creds entries
-    → option_map holder (first_with writes_in_table table) ≡ writer_of (state_of s pages rows owners files creds entries)
-writer_is s pages rows owners table files creds entries k =
+pub writer_is : (s : Superblock) (pages : List (Option (List ℕ))) (rows : List (Option Row)) (owners : List ℕ) (table : List Keyed) (files : List Opened) (outs : OutNow) (creds : List Creds) (entries : ℕ) → IsControlled s pages rows owners table files outs creds entries
+    → option_map holder (first_with writes_in_table table) ≡ writer_of (state_of s pages rows owners files outs creds entries)
+writer_is s pages rows owners table files outs creds entries k =
     ap (λ t. option_map holder (first_with writes_in_table t)) k.grants ∙ writer_first files k.writes
 
 nobody : (files : List Opened) → ((o : Opened) → In o files → o.grant.kind ≡ Write) → option_map holder (first_with writes_in_table (map keyed files)) ≡ None → files ≡ []
 nobody [] all none = refl
 nobody (o ∷ os) all none = (let kind : o.grant.kind ≡ Write = all o (inl refl) in absurd cc)
 
-pub at_home : (s : Superblock) (pages : List (Option (List ℕ))) (rows : List (Option Row)) (owners : List ℕ) (table : List Keyed) (files : List Opened) (creds : List Creds) (entries : ℕ) → IsControlled s pages rows owners table files creds entries
-    → option_map holder (first_with writes_in_table table) ≡ None → (files ≡ []) × IsAtHome s pages rows owners creds
-at_home s pages rows owners table files creds entries k none =
+pub at_home : (s : Superblock) (pages : List (Option (List ℕ))) (rows : List (Option Row)) (owners : List ℕ) (table : List Keyed) (files : List Opened) (outs : OutNow) (creds : List Creds) (entries : ℕ) → IsControlled s pages rows owners table files outs creds entries
+    → option_map holder (first_with writes_in_table table) ≡ None → (files ≡ []) × IsAtHome s pages rows owners outs creds entries
+at_home s pages rows owners table files outs creds entries k none =
     let empty : files ≡ [] = nobody files k.writes (ap (λ t. option_map holder (first_with writes_in_table t)) (sym k.grants) ∙ none) in
-    let kept : Kept (state_of s pages rows owners [] creds entries) = subst (λ fs. Kept (state_of s pages rows owners fs creds entries)) empty k.kept in (
-      empty,
-      record {
-        fits = k.fits;
-        root = k.root;
-        count = k.count;
-        kept = record {
-          fit = kept.fit;
-          verifies = kept.verifies;
-          live = λ g i. absurd i;
-          apart = kept.apart;
-          held = λ g i. absurd i;
-          lent = λ g i. absurd i;
-          checkpoints = λ g i. absurd i;
-          absent = kept.absent;
-          out_once = kept.out_once;
-          out_free = kept.out_free;
-          numbers_once = kept.numbers_once;
-          numbers_free = kept.numbers_free;
-        };
-      },
-    )
+    let kept : Kept (state_of s pages rows owners [] outs creds entries) = subst (λ fs. Kept (state_of s pages rows owners fs outs creds entries)) empty k.kept in
+    (empty, record { fits = k.fits; root = k.root; count = k.count; kept = kept })
 
--- the state of nothing out, as it is of no open files
-pub same_state : (s : Superblock) (pages : List (Option (List ℕ))) (rows : List (Option Row)) (owners : List ℕ) (files : List Opened) (creds : List Creds) (entries : ℕ) → files ≡ []
-    → state_of s pages rows owners [] creds entries ≡ state_of s pages rows owners files creds entries
-same_state s pages rows owners files creds entries empty = ap (λ fs. state_of s pages rows owners fs creds entries) (sym empty)
+-- the state of nothing lent, as it is of no open files
+pub same_state : (s : Superblock) (pages : List (Option (List ℕ))) (rows : List (Option Row)) (owners : List ℕ) (files : List Opened) (outs : OutNow) (creds : List Creds) (entries : ℕ) → files ≡ []
+    → state_of s pages rows owners [] outs creds entries ≡ state_of s pages rows owners files outs creds entries
+same_state s pages rows owners files outs creds entries empty = ap (λ fs. state_of s pages rows owners fs outs creds entries) (sym empty)

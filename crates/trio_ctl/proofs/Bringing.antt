@@ -13,12 +13,15 @@ use Rattle.trio_rights.specs.declared.kind.Kind.TheVariants.{Regular, Directory}
 use Rattle.trio_lease.specs.Bundles.{Bundled, bundled}
 use Rattle.trio_lease.specs.Shown.{LentFile}
 use Rattle.trio_lease.specs.declared.bundle.BundleParts.{BundleParts}
+use Rattle.trio_allot.specs.Out.{inode_numbers, page_numbers}
 use Rattle.trio_state.specs.Bundles.{uncovered, uncovered_of}
 use Rattle.trio_state.specs.Handed.{bundle_in, fresh_sheet, lent_sheet, written_in}
 use Rattle.trio_state.specs.Proposed.{Written, bundle_sheets}
 use Rattle.trio_state.specs.Sheets.{Sheet, sheet_numbers, with_pages}
 use Rattle.trio_checkpoint.proofs.Restoring.{below_joined, below_parts, length-with_pages, with_pages-append}
 use Rattle.trio_ctl.specs.Moves.{file_sheets, uncovered_sheets}
+use Rattle.trio_ctl.specs.Outs.{HasPlaces, OutNow, outs_after}
+use Rattle.trio_ctl.proofs.OutLists.{fresh_numbers}
 
 -- With the pages that are left put too, home is as the start with all of them put.
 pub record Left (home start : Pages) (rest all : List Sheet) : Type 0 where
@@ -54,10 +57,6 @@ less_left home start now rest all xs ys left parts put =
 pub last_first : {X Y : Type 0} (f : X → List Y) (items rest : List X) (x : X) → items ≡ rest ++ x ∷ [] → flat_map f (reverse items) ≡ f x ++ flat_map f (reverse rest)
 last_first f items rest x is =
     ap (λ xs. flat_map f (reverse xs)) is ∙ ap (flat_map f) (reverse-append rest (x ∷ []))
-
-pub last_first-map : {X Y : Type 0} (f : X → Y) (items rest : List X) (x : X) → items ≡ rest ++ x ∷ [] → map f (reverse items) ≡ (f x ∷ []) ++ map f (reverse rest)
-last_first-map f items rest x is =
-    ap (λ xs. map f (reverse xs)) is ∙ ap (map f) (reverse-append rest (x ∷ []))
 
 -- ---- marks
 
@@ -135,6 +134,19 @@ uncovered_are parts b is =
     ap (λ (b : Bundled). uncovered (bundle_in b) ++ (bundle_in b).pages) (sym is)
     ∙ ap (λ ss. ss ++ map fresh_sheet parts.pages.items)
     (flat_map-map (λ (w : Written). uncovered_of w.kind w.blocks) (λ (f : LentFile). written_in f.stands) parts.writes.items)
+
+-- what of a bundle was allotted, by its parts
+pub places_of : (parts : BundleParts) (b : Bundled) (outs : OutNow) → bundled parts ≡ b → HasPlaces outs (bundle_in b)
+    → IsTrue (all_below outs.page_count (page_numbers parts.pages.items)) × IsTrue (all_below (outs.inode_count + 1) (inode_numbers parts.inodes.items))
+places_of parts b outs is h =
+    let h' : HasPlaces outs (bundle_in (bundled parts)) = subst (λ (x : Bundled). HasPlaces outs (bundle_in x)) (sym is) h in
+    (subst (λ ns. IsTrue (all_below outs.page_count ns)) (fresh_numbers parts.pages.items) h'.pages, h'.numbers)
+
+pub returned_are : (parts : BundleParts) (b : Bundled) (outs : OutNow) → bundled parts ≡ b
+    → outs_after outs (page_numbers parts.pages.items) (inode_numbers parts.inodes.items) ≡ outs_after outs (sheet_numbers (bundle_in b).pages) (bundle_in b).numbers
+returned_are parts b outs is =
+    ap (λ ns. outs_after outs ns (inode_numbers parts.inodes.items)) (sym (fresh_numbers parts.pages.items))
+    ∙ ap (λ (x : Bundled). outs_after outs (sheet_numbers (bundle_in x).pages) (bundle_in x).numbers) is
 
 file_within : (n : ℕ) (kind : Kind) (index blocks : List Sheet) → IsTrue (all_below n (sheet_numbers (index ++ blocks))) → IsTrue (all_below n (sheet_numbers (uncovered_of kind blocks)))
 file_within n Regular index blocks below = (below_parts n index blocks below).1

@@ -49,6 +49,7 @@ use Rattle.trio_ctl.specs.Answers.{grant_fault_answer, Admits}
 use Rattle.trio_ctl.specs.Ctl.{home_image, state_of, IsControlled}
 use Rattle.trio_ctl.specs.Lending.{IsLendable, StandsSomewhere, body_standing}
 use Rattle.trio_ctl.specs.Open.{Opened, grant_on, keyed, lease_of, page_lent}
+use Rattle.trio_ctl.specs.Outs.{OutNow}
 use Rattle.trio_ctl.proofs.LendLemmas.{read_or, same_chain, sheets_same}
 
 -- ---- lists
@@ -110,9 +111,9 @@ fault_is s lib ino r row may =
     ap (λ (o : Option Row). if not (is_some o) then Some NotLive else denied_or (denier s.home.rows (creds_of s lib) ino ToWrite) busy) row
     ∙ ap (λ d. denied_or d busy) may
 
-module _ (s : Superblock) (pages : List (Option (List ℕ))) (rows : List (Option Row)) (owners : List ℕ) (table : List Keyed) (files : List Opened) (creds : List Creds) (entries : ℕ) (k : IsControlled s pages rows owners table files creds entries) where
+module _ (s : Superblock) (pages : List (Option (List ℕ))) (rows : List (Option Row)) (owners : List ℕ) (table : List Keyed) (files : List Opened) (outs : OutNow) (creds : List Creds) (entries : ℕ) (k : IsControlled s pages rows owners table files outs creds entries) where
   abbrev st : State
-  st = state_of s pages rows owners files creds entries
+  st = state_of s pages rows owners files outs creds entries
 
   abbrev core : Core
   core = (settled st).core
@@ -201,9 +202,9 @@ module _ (s : Superblock) (pages : List (Option (List ℕ))) (rows : List (Optio
       pub file_grant : file.grant ≡ opened st lib.0 ino Write r
       file_grant = ap (λ (o : Opened). o.grant) made ∙ grant_made body is
 
-      pub after_is : state_of s pages' rows owners files' creds entries' ≡ opens st (opened st lib.0 ino Write r)
+      pub after_is : state_of s pages' rows owners files' outs creds entries' ≡ opens st (opened st lib.0 ino Write r)
       after_is =
-          let S : List (Option (List ℕ)) → List OpenGrant → ℕ → State = λ ps gs n. record { home = home_image s ps rows owners; open_grants = gs; pages_out = []; numbers_out = []; creds = creds; entries = n } in
+          let S : List (Option (List ℕ)) → List OpenGrant → ℕ → State = λ ps gs n. record { home = home_image s ps rows owners; open_grants = gs; pages_out = outs.pages; numbers_out = outs.numbers; creds = creds; entries = n } in
           let grants : map (λ (o : Opened). o.grant) files' ≡ map (λ (o : Opened). o.grant) files ++ opened st lib.0 ino Write r ∷ [] =
           ap (map (λ (o : Opened). o.grant)) more ∙ map-append (λ (o : Opened). o.grant) files (file ∷ []) ∙ ap (λ g. map (λ (o : Opened). o.grant) files ++ g ∷ []) file_grant in
           let lent : chain.index ++ chain.blocks ≡ lent_pages (opened st lib.0 ino Write r) = sym (lent_are body) ∙ ap lent_pages (grant_made body is) in
@@ -211,7 +212,7 @@ module _ (s : Superblock) (pages : List (Option (List ℕ))) (rows : List (Optio
           ∙ ap (λ gs. S (without_pages (lent_pages (opened st lib.0 ino Write r)) pages) gs entries') grants
           ∙ ap (S (without_pages (lent_pages (opened st lib.0 ino Write r)) pages) (map (λ (o : Opened). o.grant) files ++ opened st lib.0 ino Write r ∷ [])) next
 
-      pub granted_step : denier rows (creds_of st lib.0) ino ToWrite ≡ None → Step st (Grant lib.0 ino Write) (Granted 0) (state_of s pages' rows owners files' creds entries')
+      pub granted_step : denier rows (creds_of st lib.0) ino ToWrite ≡ None → Step st (Grant lib.0 ino Write) (Granted 0) (state_of s pages' rows owners files' outs creds entries')
       granted_step may =
           let none = map_none (slice_get (excluding st lib.0 ino Write) 0) (sym (table_excluding lib ino) ∙ no_holder (first_with (excludes lib ino Write) table) free) in
           let fault : grant_fault st lib.0 ino Write ≡ None = fault_is st lib.0 ino r row may ∙ ap (option_map (λ g. Busy (holder_of g))) none in
@@ -223,7 +224,7 @@ module _ (s : Superblock) (pages : List (Option (List ℕ))) (rows : List (Optio
       -- what the controller keeps then
       pub granted_controlled : denier rows (creds_of st lib.0) ino ToWrite ≡ None
           → (AllBelow entries table → table' ≡ table ++ (key, record { lib = lib; ino = ino; kind = Write; entry = entries }) ∷ [])
-          → grant_under key table ≡ None → IsControlled s pages' rows owners table' files' creds entries'
+          → grant_under key table ≡ None → IsControlled s pages' rows owners table' files' outs creds entries'
       granted_controlled may put new = record {
         fits = k.fits;
         root = k.root;
@@ -251,7 +252,10 @@ module _ (s : Superblock) (pages : List (Option (List ℕ))) (rows : List (Optio
             | inr none ↦ absurd none
           ]
         ];
-        kept = step_kept st (state_of s pages' rows owners files' creds entries') (Grant lib.0 ino Write) (Granted 0) k.kept tt (granted_step may);
+        out_pages = k.out_pages;
+        out_inodes = k.out_inodes;
+        out_within = k.out_within;
+        kept = step_kept st (state_of s pages' rows owners files' outs creds entries') (Grant lib.0 ino Write) (Granted 0) k.kept tt (granted_step may);
       }
         where
           all_below : (fs : List Opened) → ((o : Opened) → In o fs → o.grant.entry < entries) → AllBelow entries (map keyed fs)
@@ -336,11 +340,11 @@ module _ (s : Superblock) (pages : List (Option (List ℕ))) (rows : List (Optio
           ∙ sym (ap (body_by_row core) row)
 
   -- nothing has changed
-  pub controlled_still : (pages' : List (Option (List ℕ))) (table' : List Keyed) (files' : List Opened) → pages' ≡ pages → table' ≡ table → files' ≡ files → IsControlled s pages' rows owners table' files' creds entries
+  pub controlled_still : (pages' : List (Option (List ℕ))) (table' : List Keyed) (files' : List Opened) → pages' ≡ pages → table' ≡ table → files' ≡ files → IsControlled s pages' rows owners table' files' outs creds entries
   controlled_still pages' table' files' same_pages same_table same_files =
-      subst (λ ps. IsControlled s ps rows owners table' files' creds entries) (sym same_pages)
-      (subst (λ t. IsControlled s pages rows owners t files' creds entries) (sym same_table)
-      (subst (λ fs. IsControlled s pages rows owners table fs creds entries) (sym same_files) k))
+      subst (λ ps. IsControlled s ps rows owners table' files' outs creds entries) (sym same_pages)
+      (subst (λ t. IsControlled s pages rows owners t files' outs creds entries) (sym same_table)
+      (subst (λ fs. IsControlled s pages rows owners table fs outs creds entries) (sym same_files) k))
 
 pub kept_either : (s t : State) (P Q : Type 0) → Kept s → (P × (t ≡ logged s)) ⊎ (Q × (t ≡ s)) → Kept t
 kept_either s t P Q k (inl l) = subst Kept (sym l.1) (logged_kept s k)

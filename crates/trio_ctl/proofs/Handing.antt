@@ -37,6 +37,7 @@ use Rattle.trio_proposal.specs.Judged.{CanBeJudged, image_of}
 use Rattle.trio_ctl.specs.Ctl.{IsControlled, state_of}
 use Rattle.trio_ctl.specs.Moves.{all_covered, are_numbered, is_closing}
 use Rattle.trio_ctl.specs.Open.{Opened}
+use Rattle.trio_ctl.specs.Outs.{HasPlaces, OutNow}
 use Rattle.trio_ctl.proofs.Ending.{staying}
 
 pub below_from : (n : ℕ) (ns : List ℕ) → ((p : ℕ) → In p ns → p < n) → IsTrue (all_below n ns)
@@ -97,9 +98,9 @@ staying_same lib b marks (o ∷ files) is writes =
     by false true e again = absurd cc
     by false false e again = ap (λ gs. o.grant ∷ gs) again
 
-module _ (s : Superblock) (pages : List (Option (List ℕ))) (rows : List (Option Row)) (owners : List ℕ) (table : List Keyed) (files : List Opened) (creds : List Creds) (entries : ℕ) (k : IsControlled s pages rows owners table files creds entries) where
+module _ (s : Superblock) (pages : List (Option (List ℕ))) (rows : List (Option Row)) (owners : List ℕ) (table : List Keyed) (files : List Opened) (outs : OutNow) (creds : List Creds) (entries : ℕ) (k : IsControlled s pages rows owners table files outs creds entries) where
   abbrev now : State
-  now = state_of s pages rows owners files creds entries
+  now = state_of s pages rows owners files outs creds entries
 
   pub grant_writes : (g : OpenGrant) → In g now.open_grants → g.kind ≡ Write
   grant_writes g i =
@@ -124,7 +125,7 @@ module _ (s : Superblock) (pages : List (Option (List ℕ))) (rows : List (Optio
       let g = checkpoint_lent now k.kept p (subst (λ xs. In p (sheet_numbers xs)) (sym (covered_same files)) i) in
       lent_within g.0 p g.1 g.3)
 
-  rows_long : length rows ≡ s.inodes + 1
+  pub rows_long : length rows ≡ s.inodes + 1
   rows_long = ap length k.kept.verifies.rows ∙ length-rows_table (settled now).core (survey (settled now).core plain)
 
   module _ (lib : LibNo) (b : Bundle) (given : GivenTo now lib.0 b) where
@@ -141,6 +142,14 @@ module _ (s : Superblock) (pages : List (Option (List ℕ))) (rows : List (Optio
     pub unparted_bundle : parted_hold now lib.0 b ≡ None
     unparted_bundle = ap (λ gs. lowest (map (λ g. g.ino) gs)) (none_is_parted now lib.0 b files k.writes)
 
+    allotted_within : (n : ℕ) → WasAllotted now.pages_out lib.0 n → n < length pages
+    allotted_within n o =
+        let below = k.out_within.pages o.0 o.1 in
+        let same = o.3 in
+        let count = k.count in
+        let long = k.out_pages in
+        omega (arith, below, same, count, long)
+
     sheet_within : (x : Sheet) → In x (bundle_sheets b) → x.page < length pages
     sheet_within x i =
         elim (In-cases x (flat_map (λ (w : Written). w.index ++ w.blocks) b.writes) b.pages i) [
@@ -154,7 +163,7 @@ module _ (s : Superblock) (pages : List (Option (List ℕ))) (rows : List (Optio
               ∙ ap (λ l. sheet_numbers y.grant.index ++ l) y.blocks
               ∙ sym (map-append (λ (z : Sheet). z.page) y.grant.index y.grant.blocks) in
               lent_within y.grant x.page y.is_open (subst (λ l. In x.page l) same (in_numbers (w.index ++ w.blocks) x x.page r.2 refl))
-          | inr j ↦ let o = given.pages x.page (in_numbers b.pages x x.page j refl) in absurd o.1
+          | inr j ↦ let o = given.pages x.page (in_numbers b.pages x x.page j refl) in allotted_within x.page o
         ]
 
     -- so have the pages of the bundle
@@ -164,6 +173,21 @@ module _ (s : Superblock) (pages : List (Option (List ℕ))) (rows : List (Optio
         (λ p i.
         let r = map_from (λ (x : Sheet). x.page) p (bundle_sheets b) i in
         subst (λ n. n < length pages) (sym r.2) (sheet_within r.0 r.1))
+
+    -- what was allotted has its places among those of the image
+    pub allotted_places : HasPlaces outs b
+    allotted_places = record {
+      pages = below_from outs.page_count (sheet_numbers b.pages) (λ n i.
+          let o = given.pages n i in
+          let below = k.out_within.pages o.0 o.1 in
+          let same = o.3 in
+          omega (arith, below, same));
+      numbers = below_from (outs.inode_count + 1) b.numbers (λ n i.
+          let o = given.numbers n i in
+          let below = k.out_within.numbers o.0 o.1 in
+          let same = o.3 in
+          omega (arith, below, same));
+    }
 
     -- its files have inode numbers of the image
     pub numbered : IsTrue (are_numbered s.inodes b)

@@ -10,3 +10,4 @@ pub mod Granting
 pub mod Handing
 pub mod Releasing
 pub mod OutLists
+pub mod Allotting

@@ -24,7 +24,7 @@ use Rattle.trio_state.specs.Image.{Image, IsFit}
 use Rattle.trio_state.specs.Kept.{Kept}
 use Rattle.trio_state.specs.Proposed.{Bundle, Written, bundle_pages, bundle_sheets, is_written, proposed, proposed_pick}
 use Rattle.trio_state.specs.Sheets.{Sheet, sheet_numbers, with_pages}
-use Rattle.trio_state.specs.State.{OpenGrant, State, creds_of, settled}
+use Rattle.trio_state.specs.State.{OpenGrant, Out, State, creds_of, settled}
 use Rattle.trio_state.specs.Step.{Accepted, Answer, Judged, NotClosed, Refused, Release, Step}
 use Rattle.trio_checkpoint.specs.Covered.{all_stand, standing}
 use Rattle.trio_laws.specs.EndLaws.{IsSpread, checkpoints_of, unless_absent}
@@ -50,6 +50,7 @@ use Rattle.trio_proposal.specs.Judged.{IsImage}
 use Rattle.trio_ctl.specs.Ctl.{IsControlled, state_of}
 use Rattle.trio_ctl.specs.Moves.{all_covered, followed, is_closing}
 use Rattle.trio_ctl.specs.Open.{Opened, keyed}
+use Rattle.trio_ctl.specs.Outs.{AreWithin, OutNow, outs_after}
 use Rattle.trio_ctl.proofs.Ending.{ending, keys, staying}
 use Rattle.trio_ctl.proofs.Handing.{closing_same, covered_same, grant_writes, staying_same, unparted_bundle}
 
@@ -127,9 +128,9 @@ part_followed pages (o ∷ files) =
     ap (λ (sheets : List Sheet). record o.grant { checkpoint = sheets } ∷ map lent_part (map (λ o. o.grant) (map (followed pages) files))) (blank_standing pages o.grant.checkpoint)
     ∙ ap (λ l. lent_part o.grant ∷ l) (part_followed pages files)
 
-module _ (s : Superblock) (pages : List (Option (List ℕ))) (rows : List (Option Row)) (owners : List ℕ) (table : List Keyed) (files : List Opened) (creds : List Creds) (entries : ℕ) (k : IsControlled s pages rows owners table files creds entries) (lib : LibNo) (b : Bundle) (given : GivenTo (state_of s pages rows owners files creds entries) lib.0 b) (marks : List Bool) (marked : (n : ℕ) → slice_index_or marks n false ≡ is_written b n) where
+module _ (s : Superblock) (pages : List (Option (List ℕ))) (rows : List (Option Row)) (owners : List ℕ) (table : List Keyed) (files : List Opened) (outs : OutNow) (creds : List Creds) (entries : ℕ) (k : IsControlled s pages rows owners table files outs creds entries) (lib : LibNo) (b : Bundle) (given : GivenTo (state_of s pages rows owners files outs creds entries) lib.0 b) (marks : List Bool) (marked : (n : ℕ) → slice_index_or marks n false ≡ is_written b n) where
   abbrev now : State
-  now = state_of s pages rows owners files creds entries
+  now = state_of s pages rows owners files outs creds entries
 
   abbrev stay : List Opened
   stay = staying lib marks files
@@ -167,7 +168,7 @@ module _ (s : Superblock) (pages : List (Option (List ℕ))) (rows : List (Optio
   back_handed x i =
       let c = back_from x i in
       let g : OpenGrant = c.0 in
-      let kind = grant_writes s pages rows owners table files creds entries k g c.1 in
+      let kind = grant_writes s pages rows owners table files outs creds entries k g c.1 in
       let w = bundle_write now k.kept lib.0 b given g c.1 kind c.2 in
       let y = given.writes w.0 w.1 in
       let lent = covered_write g.kind g.of g.index g.blocks x.page (subst (λ l. In x.page l) (k.kept.checkpoints g c.1) (in_numbers g.checkpoint x x.page c.3 refl)) in
@@ -190,19 +191,27 @@ module _ (s : Superblock) (pages : List (Option (List ℕ))) (rows : List (Optio
   step_of : (answer : Answer) (after : State) → Judged now lib.0 b answer after → Step now (Release lib.0 b) answer after
   step_of answer after judged =
       let P : Option ℕ → Type 0 = λ o. MatchOption o (Judged now lib.0 b answer after) (λ n. (answer ≡ NotClosed n) × (after ≡ now)) in
-      inl (subst P (sym (unparted_bundle s pages rows owners table files creds entries k lib b given)) judged)
+      inl (subst P (sym (unparted_bundle s pages rows owners table files outs creds entries k lib b given)) judged)
 
   root_sized : (core : Core) → IsFit core → is_sound core plain ≡ true → length core.root ≡ 64
   root_sized core fit sound =
       let f = read_met core plain fit sound (root_of core) (root_is_met core plain fit sound) in
       body_sized (root_of core).kind core.range core.root f.0.body (reads_from core (root_of core) f.0 f.1).body
 
-  module _ (table' : List Keyed) (pages' : List (Option (List ℕ))) (entries' : ℕ) (ended : table' ≡ map keyed stay) (more : entries' ≡ entries + 1) where
+  module _ (table' : List Keyed) (pages' : List (Option (List ℕ))) (outs' : OutNow) (entries' : ℕ) (ended : table' ≡ map keyed stay) (returned : outs' ≡ outs_after outs (sheet_numbers b.pages) b.numbers) (more : entries' ≡ entries + 1) where
+    -- what is out still was out before, so it is within
+    within_still_out : AreWithin outs'
+    within_still_out =
+        subst AreWithin (sym returned) (record {
+          pages = λ o i. k.out_within.pages o (filter_in (λ (o : Out). not (is_among o.number (sheet_numbers b.pages))) o outs.pages i).0;
+          numbers = λ o i. k.out_within.numbers o (filter_in (λ (o : Out). not (is_among o.number b.numbers)) o outs.numbers i).0;
+        })
+
     -- ---- refused
 
     module _ (false' : is_accepted (settled now) (creds_of now lib.0) b ≡ false) (put : pages' ≡ with_pages (uncovered b ++ b.pages) (with_pages back pages)) where
       abbrev refused : State
-      refused = state_of s pages' rows owners stay creds entries'
+      refused = state_of s pages' rows owners stay outs' creds entries'
 
       refused_ends : Ends now lib.0 b (refused_image (settled now) b) refused
       refused_ends =
@@ -214,8 +223,8 @@ module _ (s : Superblock) (pages : List (Option (List ℕ))) (rows : List (Optio
           record {
             settles = ap J settles;
             grants = ap (map lent_part) stay_same;
-            pages = refl;
-            numbers = refl;
+            pages = ap (λ (o : OutNow). o.pages) returned;
+            numbers = ap (λ (o : OutNow). o.numbers) returned;
             creds = refl;
             entries = more;
           }
@@ -227,7 +236,7 @@ module _ (s : Superblock) (pages : List (Option (List ℕ))) (rows : List (Optio
           let no : No = (refl, refused_ends) in
           step_of Refused refused (subst (λ v. MatchBool v Yes No) (sym false') no)
 
-      pub refused_controlled : IsControlled s pages' rows owners table' stay creds entries'
+      pub refused_controlled : IsControlled s pages' rows owners table' stay outs' creds entries'
       refused_controlled = record {
         fits = k.fits;
         root = k.root;
@@ -238,6 +247,9 @@ module _ (s : Superblock) (pages : List (Option (List ℕ))) (rows : List (Optio
         keys_once = stay_once;
         earlier = λ o i. let below = k.earlier o (stays_from o i) in let e = more in omega (arith, below, e);
         writes = λ o i. k.writes o (stays_from o i);
+        out_pages = ap (λ (o : OutNow). o.page_count) returned ∙ k.out_pages;
+        out_inodes = ap (λ (o : OutNow). o.inode_count) returned ∙ k.out_inodes;
+        out_within = within_still_out;
         kept = release_kept now refused lib.0 b Refused k.kept given refused_step;
       }
 
@@ -290,7 +302,7 @@ module _ (s : Superblock) (pages : List (Option (List ℕ))) (rows : List (Optio
         s' = record s { root = n.root }
 
         abbrev accepted : State
-        accepted = state_of s' pages' n.rows n.owners files' creds entries'
+        accepted = state_of s' pages' n.rows n.owners files' outs' creds entries'
 
         like : map lent_part accepted.open_grants ≡ map lent_part (grants_after now lib.0 b)
         like = part_followed after stay ∙ ap (map lent_part) stay_same
@@ -329,8 +341,8 @@ module _ (s : Superblock) (pages : List (Option (List ℕ))) (rows : List (Optio
                   ∙ ap (λ rs. J image.core.pages image.core.root rs n.owners) is.rows
                   ∙ ap (J image.core.pages image.core.root image.rows) is.owners;
               grants = like;
-              pages = refl;
-              numbers = refl;
+              pages = ap (λ (o : OutNow). o.pages) returned;
+              numbers = ap (λ (o : OutNow). o.numbers) returned;
               creds = refl;
               entries = more;
             }
@@ -342,7 +354,7 @@ module _ (s : Superblock) (pages : List (Option (List ℕ))) (rows : List (Optio
             let yes : Yes = (refl, accepted_ends) in
             step_of Accepted accepted (subst (λ v. MatchBool v Yes No) (sym true') yes)
 
-        pub accepted_controlled : IsControlled s' pages' n.rows n.owners table' files' creds entries'
+        pub accepted_controlled : IsControlled s' pages' n.rows n.owners table' files' outs' creds entries'
         accepted_controlled =
             let kept : Kept accepted = release_kept now accepted lib.0 b Accepted k.kept given accepted_step in
             record {
@@ -362,5 +374,8 @@ module _ (s : Superblock) (pages : List (Option (List ℕ))) (rows : List (Optio
               writes = λ o i.
                   let q = map_from (followed after) o stay i in
                   ap (λ (z : Opened). z.grant.kind) q.2 ∙ k.writes q.0 (stays_from q.0 q.1);
+              out_pages = ap (λ (o : OutNow). o.page_count) returned ∙ k.out_pages;
+              out_inodes = ap (λ (o : OutNow). o.inode_count) returned ∙ k.out_inodes;
+              out_within = within_still_out;
               kept = kept;
             }

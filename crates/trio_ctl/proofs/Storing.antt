@@ -1,11 +1,13 @@
--- The pages that store the image of a state with nothing out: they verify, and they store just that image.
-use Rattle.std.proofs.Common.{◌≡◌, ℕ, suc, ◌+◌, ◌-◌, ◌*◌, ◌<◌, ◌≤◌, Bool, true, false, ◌==◌, List, [], ◌∷◌, ◌++◌, length, get_or, Option, Some, None, refl, sym, ap, subst, ◌∙◌, arith, inl, inr}
-use Rattle.std.specs.Prelude.{slice_get, slice_index_or, if◌then◌else◌, IsTrue, nat_le, nat_lt}
+-- The pages that store the image of a state with nothing lent: they verify, and they store just that image, with all zeros in
+-- place of the pages that are out by allotment.
+use Rattle.std.proofs.Common.{◌≡◌, ℕ, suc, ◌+◌, ◌-◌, ◌*◌, ◌<◌, ◌≤◌, Bool, true, false, ◌==◌, List, [], ◌∷◌, ◌++◌, length, map, get_or, Option, Some, None, refl, sym, ap, subst, ◌∙◌, arith, inl, inr}
+use Rattle.std.specs.Prelude.{slice_get, slice_index, slice_index_or, if◌then◌else◌, IsTrue, nat_le, nat_lt}
 use Rattle.std.specs.List.{list_all}
-use Rattle.std.proofs.lemmas.Bool.{and_parts, eq-eqb, le-leb, lt-ltb, leb-true, ltb-true}
-use Rattle.std.proofs.lemmas.List.{length-append, get_or-append-add, get_or_append_left}
+use Rattle.std.proofs.lemmas.Bool.{and_parts, eq-eqb, eqb-true, le-leb, lt-ltb, leb-true, ltb-true}
+use Rattle.std.proofs.lemmas.List.{length-append, get_or-append-add, get_or-map, get_or_append_left}
 use Rattle.std.proofs.lemmas.List.Folds.{list_all-append}
 use Rattle.std.proofs.lemmas.Option.{slice_get-get_or}
+use Rattle.trio_page.specs.Field.{zeros}
 use Rattle.trio_page.proofs.Cursor.{length-zeros}
 use Rattle.trio_page.proofs.Fields.{length-slice}
 use Rattle.trio_rights.specs.declared.rights.Creds.{Creds}
@@ -15,18 +17,22 @@ use Rattle.trio_layout.specs.declared.superblock.Superblock.{Superblock}
 use Rattle.trio_layout.specs.Superblock.{page_count, superblock_bytes}
 use Rattle.trio_layout.specs.Range.{is_core}
 use Rattle.trio_layout.specs.Core.{Core, page_of}
-use Rattle.trio_layout.specs.Survey.{plain, row_of, survey}
+use Rattle.trio_layout.specs.Lists.{In}
+use Rattle.trio_layout.specs.Survey.{Met, pages_of, plain, row_of, survey}
 use Rattle.trio_layout.proofs.Superblocks.{superblock_facts}
 use Rattle.trio_state.specs.Image.{Image}
-use Rattle.trio_state.specs.Run.{start}
-use Rattle.trio_state.specs.State.{settled}
+use Rattle.trio_state.specs.State.{Out, State, settled}
 use Rattle.trio_state.specs.Stored.{core_in, image_in, HasSuperblock, PagesVerify, StoresImage, StoresTables}
 use Rattle.trio_state.specs.Verifies.{Verifies}
 use Rattle.trio_laws.specs.Reading.{with_other, AgreeOn}
 use Rattle.trio_laws.proofs.Accepted.{agreeing_verifies}
-use Rattle.trio_laws.proofs.Images.{tabulated-length, tabulated-get}
+use Rattle.trio_laws.proofs.Images.{free_unlisted, tabulated-length, tabulated-get}
+use Rattle.trio_laws.proofs.Owned.{pages_are}
+use Rattle.trio_laws.proofs.Refusing.{read_listed}
+use Rattle.trio_laws.proofs.StateFacts.{any_at, tables as tables_of}
 use Rattle.trio_image.specs.Image.{is_whole_page, IsVerified}
-use Rattle.trio_ctl.specs.Ctl.{home_image, superblock_for}
+use Rattle.trio_ctl.specs.Ctl.{home_image, or_zero, state_of, superblock_for, with_zeros}
+use Rattle.trio_ctl.specs.Outs.{OutNow}
 use Rattle.trio_ctl.proofs.AtHome.{IsAtHome}
 use Rattle.trio_ctl.specs.Pages.{FillsPages, owner_pages, pages_from, shadow_pages, stored_pages, table_pages}
 use Rattle.trio_ctl.proofs.Wholes.{cond_same, tabulated-all}
@@ -47,7 +53,10 @@ no_lent : (t : Bool) → IsTrue t → t ≡ false → ⊥
 no_lent true e f = absurd cc
 no_lent false e f = absurd cc
 
-module _ (s : Superblock) (pages : List (Option (List ℕ))) (rows : List (Option Row)) (owners : List ℕ) (creds : List Creds) (k : IsAtHome s pages rows owners creds) (shadow_full : FillsPages (shadow_bytes rows) (page_count (32 * (length rows - 1)))) (owner_full : FillsPages (owner_bytes owners) (page_count (4 * length owners))) where
+module _ (s : Superblock) (pages : List (Option (List ℕ))) (rows : List (Option Row)) (owners : List ℕ) (outs : OutNow) (creds : List Creds) (entries : ℕ) (k : IsAtHome s pages rows owners outs creds entries) (shadow_full : FillsPages (shadow_bytes rows) (page_count (32 * (length rows - 1)))) (owner_full : FillsPages (owner_bytes owners) (page_count (4 * length owners))) where
+  abbrev now : State
+  now = state_of s pages rows owners [] outs creds entries
+
   abbrev image : Image
   image = home_image s pages rows owners
 
@@ -93,7 +102,7 @@ module _ (s : Superblock) (pages : List (Option (List ℕ))) (rows : List (Optio
   core_pages = pages_from pages s.first_core (s.pages - s.first_core)
 
   length-core_pages : length core_pages ≡ s.pages - s.first_core
-  length-core_pages = tabulated-length (λ n. slice_index_or pages (s.first_core + n) None) (s.pages - s.first_core)
+  length-core_pages = tabulated-length (λ n. or_zero (slice_index_or pages (s.first_core + n) None)) (s.pages - s.first_core)
 
   abbrev behind : List (Option (List ℕ))
   behind = shadow_pages rows ++ (owner_pages owners ++ core_pages)
@@ -133,7 +142,7 @@ module _ (s : Superblock) (pages : List (Option (List ℕ))) (rows : List (Optio
       ∙ get_or_append_left (owner_pages owners) core_pages None n inside
       ∙ tabulated-get (λ n. Some (page_at n (padded_to_pages (owner_bytes owners)))) owner_count n None below
 
-  pub stored_core : (p : ℕ) → s.first_core ≤ p → p < s.pages → get_or stored p None ≡ get_or pages p None
+  pub stored_core : (p : ℕ) → s.first_core ≤ p → p < s.pages → get_or stored p None ≡ or_zero (get_or pages p None)
   stored_core p le lt =
       let n : ℕ = p - s.first_core in
       let below : n < s.pages - s.first_core = omega arith in
@@ -143,20 +152,34 @@ module _ (s : Superblock) (pages : List (Option (List ℕ))) (rows : List (Optio
       ∙ stored_behind (length (shadow_pages rows) + (length (owner_pages owners) + n))
       ∙ get_or-append-add (shadow_pages rows) (owner_pages owners ++ core_pages) (length (owner_pages owners) + n) None
       ∙ get_or-append-add (owner_pages owners) core_pages n None
-      ∙ tabulated-get (λ n. slice_index_or pages (s.first_core + n) None) (s.pages - s.first_core) n None below
-      ∙ ap (λ (i : ℕ). get_or pages i None) back
+      ∙ tabulated-get (λ n. or_zero (slice_index_or pages (s.first_core + n) None)) (s.pages - s.first_core) n None below
+      ∙ ap (λ (i : ℕ). or_zero (get_or pages i None)) back
 
   is_core_at : (p : ℕ) → s.first_core ≤ p → p < s.pages → is_core core.range p ≡ true
   is_core_at p le lt = rw (le-leb s.first_core p le, lt-ltb p s.pages lt) refl
 
-  -- each core page at home is whole
-  core_whole : (p : ℕ) → s.first_core ≤ p → p < s.pages → is_whole_page (get_or pages p None) ≡ true
+  -- a core page that is absent is out by allotment
+  absent_out : (p : ℕ) → s.first_core ≤ p → p < s.pages → get_or pages p None ≡ None → (o : Out) × In o outs.pages × (o.number ≡ p)
+  absent_out p le lt e =
+      let gone : slice_get pages p ≡ Some None = slice_get-get_or pages p None (omega (arith, k.count)) ∙ ap Some e in
+      elim (k.kept.absent p gone (is_core_at p le lt)) [
+        | inl lent ↦ absurd (no_lent false lent refl)
+        | inr out ↦ (let q = any_at (λ o. o.number == p) outs.pages out in (q.0, q.1, eqb-true q.0.number p q.2))
+      ]
+
+  -- so no file lists it
+  absent_unlisted : (p : ℕ) → s.first_core ≤ p → p < s.pages → get_or pages p None ≡ None → (m : Met) → In m (survey core plain) → In p (pages_of core m) → ⊥
+  absent_unlisted p le lt e m i a =
+      let q = absent_out p le lt e in
+      let zero' : slice_index owners p ≡ 0 = ap (slice_index owners) (sym q.2) ∙ k.kept.out_free q.0 q.1 in
+      free_unlisted core plain k.kept.fit verifies.sound image (tables_of now k.kept) p zero' m i a
+
+  -- each core page that is stored is whole
+  core_whole : (p : ℕ) → s.first_core ≤ p → p < s.pages → is_whole_page (or_zero (get_or pages p None)) ≡ true
   core_whole p le lt = by_page (get_or pages p None) refl
     where
-      by_page : (o : Option (List ℕ)) → get_or pages p None ≡ o → is_whole_page o ≡ true
-      by_page None e =
-          let gone : slice_get pages p ≡ Some None = slice_get-get_or pages p None (omega (arith, k.count)) ∙ ap Some e in
-          elim (k.kept.absent p gone (is_core_at p le lt)) [ inl lent ↦ absurd (no_lent false lent refl) | inr out ↦ absurd (no_lent false out refl) ]
+      by_page : (o : Option (List ℕ)) → get_or pages p None ≡ o → is_whole_page (or_zero o) ≡ true
+      by_page None e = eq-eqb (length (zeros 4096)) 4096 (length-zeros 4096)
       by_page (Some bytes) e =
           let there : page_of core p ≡ Some bytes = ap (λ b. if b then get_or pages p None else None) (is_core_at p le lt) ∙ e in
           eq-eqb (length bytes) 4096 (k.kept.fit.full p bytes there)
@@ -168,7 +191,7 @@ module _ (s : Superblock) (pages : List (Option (List ℕ))) (rows : List (Optio
       let a = table_whole (padded_to_pages (shadow_bytes rows)) shadow_count shadow_full in
       let b = table_whole (padded_to_pages (owner_bytes owners)) owner_count owner_full in
       let c : list_all is_whole_page core_pages ≡ true =
-      tabulated-all is_whole_page (λ n. slice_index_or pages (s.first_core + n) None) (s.pages - s.first_core) (λ n lt. core_whole (s.first_core + n) (omega arith) (omega arith)) in
+      tabulated-all is_whole_page (λ n. or_zero (slice_index_or pages (s.first_core + n) None)) (s.pages - s.first_core) (λ n lt. core_whole (s.first_core + n) (omega arith) (omega arith)) in
       rw (first, list_all-append is_whole_page (shadow_pages rows) (owner_pages owners ++ core_pages), a, list_all-append is_whole_page (owner_pages owners) core_pages, b, c) refl
 
   pub stored_superblock : HasSuperblock s stored
@@ -180,7 +203,16 @@ module _ (s : Superblock) (pages : List (Option (List ℕ))) (rows : List (Optio
   stored_agrees : AgreeOn core (with_other core stored) (survey core plain)
   stored_agrees m f p i e j =
       cond_same (is_core core.range p) (get_or stored p None) (get_or pages p None)
-      (λ t. let b = and_parts (nat_le s.first_core p) (nat_lt p s.pages) t in stored_core p (leb-true s.first_core p b.0) (ltb-true p s.pages b.1))
+      (λ t.
+      let b = and_parts (nat_le s.first_core p) (nat_lt p s.pages) t in
+      let le = leb-true s.first_core p b.0 in
+      let lt = ltb-true p s.pages b.1 in
+      let listed : In p (pages_of core m) = subst (λ l. In p l) (sym (pages_are core m f e)) (read_listed m.kind f p j) in
+      stored_core p le lt ∙ by_page p le lt m i listed (get_or pages p None) refl)
+    where
+      by_page : (p : ℕ) → s.first_core ≤ p → p < s.pages → (m : Met) → In m (survey core plain) → In p (pages_of core m) → (o : Option (List ℕ)) → get_or pages p None ≡ o → or_zero o ≡ o
+      by_page p le lt m i a None none = absurd (absent_unlisted p le lt none m i a)
+      by_page p le lt m i a (Some bytes) there = refl
 
   stored_verifies : Verifies (home_image s stored rows owners)
   stored_verifies = agreeing_verifies image stored verifies stored_agrees
@@ -195,11 +227,22 @@ module _ (s : Superblock) (pages : List (Option (List ℕ))) (rows : List (Optio
   pub stored_verified : IsVerified s stored
   stored_verified = record { whole = record { count = stored_count; whole = stored_whole; superblock = stored_superblock }; verify = pages_verify }
 
-  -- and they store the image of the state
-  pub stores : StoresImage s (settled (start image creds)) stored
-  stores = record { count = stored_count; superblock = stored_first; tables = tables; core = stored_core }
+  zeros_at : (p : ℕ) → p < s.pages → get_or (map or_zero pages) p None ≡ or_zero (get_or pages p None)
+  zeros_at p lt = get_or-map or_zero pages p None None (omega (arith, k.count))
 
-  pub superblock_is : s ≡ superblock_for (settled (start image creds)).core
+  -- and they store the image of the state, with zeros in place of what is out
+  pub stores_zeros : StoresImage s (with_zeros (settled now)) stored
+  stores_zeros = record { count = stored_count; superblock = stored_first; tables = tables; core = λ p le lt. stored_core p le lt ∙ sym (zeros_at p lt) }
+
+  -- where nothing is out, they store just that image
+  pub stores : outs.pages ≡ [] → StoresImage s (settled now) stored
+  stores none = record { count = stored_count; superblock = stored_first; tables = tables; core = λ p le lt. stored_core p le lt ∙ by_page p le lt (get_or pages p None) refl }
+    where
+      by_page : (p : ℕ) → s.first_core ≤ p → p < s.pages → (o : Option (List ℕ)) → get_or pages p None ≡ o → or_zero o ≡ o
+      by_page p le lt None e = (let q = absent_out p le lt e in absurd (subst (λ os. In q.0 os) none q.1))
+      by_page p le lt (Some bytes) there = refl
+
+  pub superblock_is : s ≡ superblock_for (settled now).core
   superblock_is = ap (λ (n : ℕ). record s { first_owner = n }) (superblock_facts s k.fits).first_owner
 
 pub stores_by : (s t : Superblock) (image : Image) (made pages : List (Option (List ℕ))) → t ≡ s → made ≡ pages → StoresImage s image pages → StoresImage t image made

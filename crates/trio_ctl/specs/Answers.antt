@@ -4,13 +4,17 @@ use Rattle.std.specs.Option.{option_map}
 use Rattle.trio_grants.specs.declared.grant.Grant.{Grant}
 use Rattle.trio_grants.specs.Grants.{Keyed, first_with, holder}
 use Rattle.trio_nodes.specs.declared.grant.Holder.{Holder}
+use Rattle.trio_lease.specs.declared.fresh.Allotted.{Allotted}
+use Rattle.trio_allot.specs.Out.{inode_numbers, page_numbers}
+use Rattle.trio_nodes.specs.declared.answers.AllotFault.{AllotFault}
+use Rattle.trio_nodes.specs.declared.answers.AllotFault.TheVariants.{NoPages as NoFreePages, NoInodes as NoFreeInodes, NoMemory as NoAllotMemory}
 use Rattle.trio_nodes.specs.declared.answers.GrantFault.{GrantFault}
 use Rattle.trio_nodes.specs.declared.answers.GrantFault.TheVariants.{Busy as BusyGrant, NoMemory as NoGrantMemory}
 use Rattle.trio_nodes.specs.declared.answers.ReleaseAnswer.{ReleaseAnswer}
 use Rattle.trio_nodes.specs.declared.answers.ReleaseAnswer.TheVariants.{Accepted as AcceptedBundle, Refused as RefusedBundle}
 use Rattle.trio_nodes.specs.declared.answers.ReleaseFault.{ReleaseFault}
 use Rattle.trio_nodes.specs.declared.answers.ReleaseFault.TheVariants.{NotClosed as NotClosedBundle, NoMemory as NoReleaseMemory}
-use Rattle.trio_state.specs.Step.{Answer, Granted, NotGranted, Accepted, Refused, NotClosed, NoMemory}
+use Rattle.trio_state.specs.Step.{Answer, Granted, NotGranted, Given, NoPages, NoInodes, Accepted, Refused, NotClosed, NoMemory}
 use Rattle.trio_ctl.specs.declared.ctl.ImageFault.{ImageFault}
 use Rattle.trio_ctl.specs.declared.ctl.ImageFault.TheVariants.{Busy, NoMemory as NoImageMemory}
 
@@ -31,6 +35,15 @@ abbrev pub release_answer : {B : Type 0} → Result ReleaseAnswer B → (B → R
 release_answer (Ok AcceptedBundle) fault = Accepted
 release_answer (Ok (RefusedBundle rule ino page slot)) fault = Refused
 release_answer (Err back) fault = release_fault_answer (fault back)
+
+abbrev pub allot_fault_answer : AllotFault → Answer
+allot_fault_answer (NoFreePages wanted free) = NoPages wanted free
+allot_fault_answer (NoFreeInodes wanted free) = NoInodes wanted free
+allot_fault_answer NoAllotMemory = NoMemory
+
+abbrev pub allot_answer : Result Allotted AllotFault → Answer
+allot_answer (Ok given) = Given (page_numbers given.pages.items) (inode_numbers given.inodes.items)
+allot_answer (Err fault) = allot_fault_answer fault
 
 -- a settled image is told just where nobody writes; else the first writer is named
 abbrev pub TellsImage : {I : Type 0} → Option Holder → Result I ImageFault → Type 0

@@ -1,7 +1,8 @@
 -- What the controller keeps, as the state of which its steps speak.
-use Rattle.std.specs.Prelude.{◌≡◌, ℕ, ◌+◌, ◌*◌, ◌<◌, ◌≤◌, List, [], map, Option, length, IsTrue}
+use Rattle.std.specs.Prelude.{◌≡◌, ℕ, ◌+◌, ◌*◌, ◌<◌, ◌≤◌, List, [], map, Option, None, Some, length, IsTrue}
 use Rattle.std.specs.List.{find}
 use Rattle.std.specs.Option.{option_map}
+use Rattle.trio_page.specs.Field.{zeros}
 use Rattle.trio_rights.specs.Row.{Row}
 use Rattle.trio_rights.specs.declared.rights.Creds.{Creds}
 use Rattle.trio_rights.specs.declared.rights.LibNo.{LibNo}
@@ -12,12 +13,13 @@ use Rattle.trio_layout.specs.Lists.{are_new, In}
 use Rattle.trio_layout.specs.declared.superblock.Superblock.{Superblock}
 use Rattle.trio_layout.specs.Superblock.{page_count, superblock_fits}
 use Rattle.trio_layout.specs.Core.{Core}
-use Rattle.trio_state.specs.Image.{Image}
+use Rattle.trio_state.specs.Image.{Image, with_core_pages}
 use Rattle.trio_state.specs.Grants.{holder_of}
 use Rattle.trio_state.specs.State.{State, is_write}
 use Rattle.trio_state.specs.Stored.{core_in}
 use Rattle.trio_state.specs.Kept.{Kept}
 use Rattle.trio_ctl.specs.Open.{Opened, keyed}
+use Rattle.trio_ctl.specs.Outs.{AreWithin, OutNow}
 
 -- the superblock of an image of this core: its sizes, and the body of its root
 abbrev pub superblock_for : Core → Superblock
@@ -33,21 +35,21 @@ superblock_for core = record {
 abbrev pub home_image : Superblock → List (Option (List ℕ)) → List (Option Row) → List ℕ → Image
 home_image s pages rows owners = record { core = core_in s pages; rows = rows; owners = owners }
 
--- The state that the controller's parts are. Nothing is out by allotment so far.
-abbrev pub state_of : Superblock → List (Option (List ℕ)) → List (Option Row) → List ℕ → List Opened → List Creds → ℕ → State
-state_of s pages rows owners files creds entries = record {
+-- the state that the controller's parts are
+abbrev pub state_of : Superblock → List (Option (List ℕ)) → List (Option Row) → List ℕ → List Opened → OutNow → List Creds → ℕ → State
+state_of s pages rows owners files outs creds entries = record {
   home = home_image s pages rows owners;
   open_grants = map (λ o. o.grant) files;
-  pages_out = [];
-  numbers_out = [];
+  pages_out = outs.pages;
+  numbers_out = outs.numbers;
   creds = creds;
   entries = entries;
 }
 
 -- What holds of what the controller keeps: the sizes fit each other, each page has its place, there are 1 to 16 libraries, the
--- table of grants has just the open ones, which are write grants of earlier entries under keys of their own, and the state is
--- kept.
-pub record IsControlled (s : Superblock) (pages : List (Option (List ℕ))) (rows : List (Option Row)) (owners : List ℕ) (table : List Keyed) (files : List Opened) (creds : List Creds) (entries : ℕ) : Type 0 where
+-- table of grants has just the open ones, which are write grants of earlier entries under keys of their own, what is out is of
+-- the image, and the state is kept.
+pub record IsControlled (s : Superblock) (pages : List (Option (List ℕ))) (rows : List (Option Row)) (owners : List ℕ) (table : List Keyed) (files : List Opened) (outs : OutNow) (creds : List Creds) (entries : ℕ) : Type 0 where
   pub fits : IsTrue (superblock_fits s)
   pub root : length s.root ≡ 64
   pub count : length pages ≡ s.pages
@@ -57,7 +59,10 @@ pub record IsControlled (s : Superblock) (pages : List (Option (List ℕ))) (row
   pub keys_once : IsTrue (are_new [] (map (λ o. o.key) files))
   pub earlier : (o : Opened) → In o files → o.grant.entry < entries
   pub writes : (o : Opened) → In o files → o.grant.kind ≡ Write
-  pub kept : Kept (state_of s pages rows owners files creds entries)
+  pub out_pages : outs.page_count ≡ s.pages
+  pub out_inodes : outs.inode_count ≡ s.inodes
+  pub out_within : AreWithin outs
+  pub kept : Kept (state_of s pages rows owners files outs creds entries)
 
 -- the library is one of the controller's
 abbrev pub IsLibrary : LibNo → State → Type 0
@@ -66,3 +71,12 @@ IsLibrary lib s = (1 ≤ lib.0) × (lib.0 ≤ length s.creds)
 -- the first open write grant, as others are told of it
 abbrev pub writer_of : State → Option Holder
 writer_of s = option_map holder_of (find (λ g. is_write g.kind) s.open_grants)
+
+-- a page that is absent, all zero
+abbrev pub or_zero : Option (List ℕ) → Option (List ℕ)
+or_zero (Some bytes) = Some bytes
+or_zero None = Some (zeros 4096)
+
+-- an image with all zeros in place of the pages that are absent
+abbrev pub with_zeros : Image → Image
+with_zeros image = with_core_pages image (map or_zero image.core.pages)

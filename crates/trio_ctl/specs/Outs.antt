@@ -1,5 +1,5 @@
 -- What is out by allotment, as the controller keeps it: in the order in which it was given.
-use Rattle.std.specs.Prelude.{◌≡◌, ℕ, ◌+◌, ◌-◌, ◌<◌, ◌≤◌, ◌==◌, not, ◌&&◌, List, [], ◌++◌, length, map, Option, None, IsSome, is_some, slice_index, slice_index_or}
+use Rattle.std.specs.Prelude.{◌≡◌, ℕ, ◌+◌, ◌-◌, ◌<◌, ◌≤◌, ◌==◌, not, ◌&&◌, List, [], ◌++◌, length, map, Option, None, IsSome, IsTrue, is_some, slice_index, slice_index_or}
 use Rattle.std.specs.List.{filter, find}
 use Rattle.std.specs.Option.{option_map}
 use Rattle.trio_rights.specs.Row.{Row, row_in}
@@ -7,6 +7,9 @@ use Rattle.trio_rights.specs.declared.rights.LibNo.{LibNo}
 use Rattle.trio_nodes.specs.declared.answers.AllotFault.{AllotFault}
 use Rattle.trio_nodes.specs.declared.answers.AllotFault.TheVariants.{NoPages, NoInodes, NoMemory}
 use Rattle.trio_layout.specs.Lists.{In}
+use Rattle.trio_layout.specs.Marks.{all_below}
+use Rattle.trio_state.specs.Proposed.{Bundle}
+use Rattle.trio_state.specs.Sheets.{sheet_numbers}
 use Rattle.trio_state.specs.State.{Out, is_out}
 use Rattle.trio_state.specs.Allotments.{count_up, out_after}
 use Rattle.trio_allot.specs.Out.{OutTo, lib_at}
@@ -62,6 +65,11 @@ RefusesAllotment pages numbers ps ns NoMemory = (pages ≤ length ps) × (number
 pub record AreWithin (outs : OutNow) : Type 0 where
   pub pages : (o : Out) → In o outs.pages → o.number < outs.page_count
   pub numbers : (o : Out) → In o outs.numbers → o.number ≤ outs.inode_count
+
+-- what a bundle has by allotment has its places in the image
+pub record HasPlaces (outs : OutNow) (b : Bundle) : Type 0 where
+  pub pages : IsTrue (all_below outs.page_count (sheet_numbers b.pages))
+  pub numbers : IsTrue (all_below (outs.inode_count + 1) b.numbers)
 
 -- ---- the lists beside the table by number
 

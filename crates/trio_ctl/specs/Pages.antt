@@ -5,6 +5,7 @@ use Rattle.trio_tables.specs.Stored.{shadow_bytes, owner_bytes, padded_to_pages,
 use Rattle.trio_layout.specs.declared.superblock.Superblock.{Superblock}
 use Rattle.trio_layout.specs.Superblock.{superblock_bytes, page_count}
 use Rattle.trio_layout.specs.Lists.{tabulated}
+use Rattle.trio_ctl.specs.Ctl.{or_zero}
 
 -- with zeros behind them the bytes are so many pages
 abbrev pub FillsPages : List ℕ → ℕ → Type 0
@@ -20,9 +21,9 @@ shadow_pages rows = table_pages (padded_to_pages (shadow_bytes rows)) (page_coun
 abbrev pub owner_pages : List ℕ → List (Option (List ℕ))
 owner_pages owners = table_pages (padded_to_pages (owner_bytes owners)) (page_count (4 * length owners))
 
--- n pages from `first` on
+-- n pages from `first` on, all zero where one is absent
 abbrev pub pages_from : List (Option (List ℕ)) → ℕ → ℕ → List (Option (List ℕ))
-pages_from pages first n = tabulated (λ k. slice_index_or pages (first + k) None) n
+pages_from pages first n = tabulated (λ k. or_zero (slice_index_or pages (first + k) None)) n
 
 -- the superblock, the shadow pages, the owner pages and the core
 unfoldable pub stored_pages : Superblock → List (Option (List ℕ)) → List (Option Row) → List ℕ → List (Option (List ℕ))

@@ -4,16 +4,15 @@ ghost use Rattle.std.specs.Prelude.{◌≡◌, ◌≤◌, ◌++◌, ℕ, IfOk, I
 ghost use Rattle.std.specs.List.{flat_map};
 ghost use Rattle.trio_layout.specs.Marks.{all_below};
 ghost use Rattle.trio_state.specs.Bundles.{uncovered};
-ghost use Rattle.trio_state.specs.Handed.{bundle_in, fresh_sheet};
+ghost use Rattle.trio_state.specs.Handed.{bundle_in};
 ghost use Rattle.trio_state.specs.Proposed.{bundle_pages, bundle_sheets, is_written};
 ghost use Rattle.trio_state.specs.Sheets.{sheet_numbers, with_pages};
 ghost use Rattle.trio_ctl.specs.Moves.{are_numbered, file_sheets, lent_sheets, uncovered_sheets};
+ghost use Rattle.trio_ctl.specs.Outs.{HasPlaces, outs_after};
 
+use crate::outs::Outs;
 use std::alloc::Global;
-use trio_lease::{
-    Bundle, BundleParts, FreshIno, FreshPage, FreshParts, HoldLease, LentPage, WriteLease,
-    WriteParts,
-};
+use trio_lease::{Allotted, Bundle, BundleParts, HoldLease, LentPage, WriteLease, WriteParts};
 use trio_page::{Home, NoMemory};
 use trio_rights::Kind;
 
@@ -36,10 +35,12 @@ pub(crate) fn written_marks(
 }
 
 /// Brings all pages of a bundle home: each lease's index pages and blocks, then the allotted
-/// pages. Holds and numbers are let go.
-pub(crate) fn bring_home(home: &mut Home, bundle: Bundle)
-    requires { IsTrue (all_below (length home.old.pages) (bundle_pages (bundle_in bundle))) }
-    ensures { home.new ≡ record home.old { pages = with_pages (bundle_sheets (bundle_in bundle)) home.old.pages } }
+/// pages. The allotments of its pages and numbers end, and its holds are let go.
+pub(crate) fn bring_home(home: &mut Home, outs: &mut Outs, bundle: Bundle)
+    requires within { IsTrue (all_below (length home.old.pages) (bundle_pages (bundle_in bundle))) }
+    requires allotted { HasPlaces outs.old (bundle_in bundle) }
+    ensures home { home.new ≡ record home.old { pages = with_pages (bundle_sheets (bundle_in bundle)) home.old.pages } }
+    ensures returned { outs.new ≡ outs_after outs.old (sheet_numbers (bundle_in bundle).pages) (bundle_in bundle).numbers }
 {
     let BundleParts {
         writes,
@@ -48,18 +49,19 @@ pub(crate) fn bring_home(home: &mut Home, bundle: Bundle)
         inodes,
     } = bundle.parts();
     bring_files(home, writes);
-    bring_allotted(home, pages);
+    outs.put_back(home, Allotted { pages, inodes });
     discard_holds(holds);
-    discard_numbers(inodes);
 }
 
 /// Brings home what no checkpoint covers: the blocks of regular files, and the allotted pages. The
-/// rest of the bundle is let go.
-pub(crate) fn bring_uncovered(home: &mut Home, bundle: Bundle)
-    requires { IsTrue (all_below (length home.old.pages) (bundle_pages (bundle_in bundle))) }
-    ensures { home.new ≡ record home.old {
+/// allotments of the bundle's pages and numbers end, and the rest of it is let go.
+pub(crate) fn bring_uncovered(home: &mut Home, outs: &mut Outs, bundle: Bundle)
+    requires within { IsTrue (all_below (length home.old.pages) (bundle_pages (bundle_in bundle))) }
+    requires allotted { HasPlaces outs.old (bundle_in bundle) }
+    ensures home { home.new ≡ record home.old {
       pages = with_pages (uncovered (bundle_in bundle) ++ (bundle_in bundle).pages) home.old.pages;
     } }
+    ensures returned { outs.new ≡ outs_after outs.old (sheet_numbers (bundle_in bundle).pages) (bundle_in bundle).numbers }
 {
     let BundleParts {
         writes,
@@ -68,9 +70,8 @@ pub(crate) fn bring_uncovered(home: &mut Home, bundle: Bundle)
         inodes,
     } = bundle.parts();
     bring_uncovered_blocks(home, writes);
-    bring_allotted(home, pages);
+    outs.put_back(home, Allotted { pages, inodes });
     discard_holds(holds);
-    discard_numbers(inodes);
 }
 
 /// Brings all pages of written files home, file by file.
@@ -129,31 +130,10 @@ fn bring_pages(home: &mut Home, pages: Vec<LentPage>)
     }
 }
 
-/// Puts allotted pages in their places at home.
-fn bring_allotted(home: &mut Home, mut pages: Vec<FreshPage>)
-    requires { IsTrue (all_below (length home.old.pages) (sheet_numbers (map fresh_sheet pages.items))) }
-    ensures { home.new ≡ record home.old { pages = with_pages (map fresh_sheet pages.items) home.old.pages } }
-{
-    pages.reverse();
-    while let Some(page) = pages.pop() {
-        let FreshParts { no, page, .. } = page.parts();
-        home.put(no, page);
-    }
-    pages.destroy_empty();
-}
-
 /// Lets the holds go.
 fn discard_holds(mut holds: Vec<HoldLease>) {
     while let Some(hold) = holds.pop() {
         hold.discard();
     }
     holds.destroy_empty();
-}
-
-/// Lets the inode numbers go.
-fn discard_numbers(mut numbers: Vec<FreshIno>) {
-    while let Some(number) = numbers.pop() {
-        number.discard();
-    }
-    numbers.destroy_empty();
 }

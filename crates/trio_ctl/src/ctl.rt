@@ -1,12 +1,13 @@
 //! The controller.
 
-ghost use Rattle.std.specs.Prelude.{◌≡◌, ◌⊎◌, ◌≤◌, ◌++◌, ◌∷◌, [], Err, IfErr, IfOk, OnErr, None, Some, slice_index_or, vec_len};
+ghost use Rattle.std.specs.Prelude.{◌≡◌, ◌⊎◌, ◌≤◌, ◌++◌, ◌∷◌, [], Err, IfErr, IfOk, OnErr, None, Some, map, slice_index_or, vec_len};
 ghost use Rattle.std.specs.Option.{ForSome};
 ghost use Rattle.trio_rights.specs.declared.rights.Need.TheVariants.{Write as ToWrite};
 ghost use Rattle.trio_rights.specs.May.{denier};
 ghost use Rattle.trio_nodes.specs.declared.grant.GrantKind.TheVariants.{Write};
 ghost use Rattle.trio_nodes.specs.declared.answers.GrantFault.TheVariants.{NoMemory as NoGrantMemory};
 ghost use Rattle.trio_tables.specs.Row.{as_row};
+ghost use Rattle.trio_allot.specs.Out.{fresh_number, fresh_page, inode_numbers, page_numbers};
 ghost use Rattle.trio_grants.specs.Grants.{AllBelow, HasKey, excludes, grant_under, without};
 ghost use Rattle.trio_image.specs.Image.{IsVerified};
 ghost use Rattle.trio_state.specs.Grants.{opened};
@@ -14,31 +15,32 @@ ghost use Rattle.trio_state.specs.Image.{row_at};
 ghost use Rattle.trio_state.specs.Kept.{Kept};
 ghost use Rattle.trio_state.specs.Run.{start};
 ghost use Rattle.trio_state.specs.State.{settled, creds_of, logged};
-ghost use Rattle.trio_state.specs.Step.{Grant, Step};
+ghost use Rattle.trio_state.specs.Step.{Allot, Grant, Step};
 ghost use Rattle.trio_state.specs.Stored.{image_in, StoresImage};
-ghost use Rattle.trio_ctl.specs.Answers.{grant_answer, Admits, TellsImage};
+ghost use Rattle.trio_ctl.specs.Answers.{allot_answer, grant_answer, Admits, TellsImage};
 ghost use Rattle.trio_ctl.specs.Count.{counts_of};
-ghost use Rattle.trio_ctl.specs.Ctl.{IsLibrary, superblock_for, writer_of};
+ghost use Rattle.trio_ctl.specs.Ctl.{IsLibrary, superblock_for, with_zeros, writer_of};
 ghost use Rattle.trio_ctl.specs.Open.{lease_of};
 
 use crate::count::{Counts, counts_in};
 use crate::lend::{Asked, lend, settled_body};
 use crate::open::OpenFile;
+use crate::outs::Outs;
 use crate::store::stored_pages;
 use std::alloc::Global;
 use std::marker::Model;
 use trio_grants::{AdmitFault, GrantKey, GrantTable};
 use trio_image::Image;
 use trio_layout::{CoreRange, Superblock};
-use trio_lease::WriteLease;
-use trio_nodes::{GrantFault, GrantKind, Holder};
+use trio_lease::{Allotted, WriteLease};
+use trio_nodes::{AllotFault, GrantFault, GrantKind, Holder};
 use trio_page::{Home, NoMemory, Reads};
 use trio_rights::{Creds, LibNo, Need};
 use trio_survey::verify_found;
 use trio_tables::{Owners, Row, Shadow};
 
-/// The controller of one image: its pages at home, its tables, the grants that are open, and the
-/// credentials of its libraries.
+/// The controller of one image: its pages at home, its tables, the grants that are open, what is out
+/// by allotment, and the credentials of its libraries.
 ///
 /// Contracts see the `State` of which the controller's steps speak. It is kept in every state.
 #[derive(Drop)]
@@ -51,6 +53,8 @@ pub struct Ctl {
     pub(crate) grants: GrantTable,
     // the open grants, in the order of the entries that opened them
     pub(crate) files: Vec<OpenFile>,
+    // what is out by allotment
+    pub(crate) outs: Outs,
     // library n has the n-th, counted from 1
     pub(crate) libs: Vec<Creds>,
     // how many entries the history has
@@ -63,9 +67,9 @@ impl Model for Ctl {
 
     ghost Value = { State };
 
-    ghost view = { λ c. state_of c.superblock c.home.pages c.rows c.owners c.files.items c.libs.items c.entries };
+    ghost view = { λ c. state_of c.superblock c.home.pages c.rows c.owners c.files.items c.outs c.libs.items c.entries };
 
-    ghost invariant = { λ c. IsControlled c.superblock c.home.pages c.rows c.owners c.grants c.files.items c.libs.items c.entries };
+    ghost invariant = { λ c. IsControlled c.superblock c.home.pages c.rows c.owners c.grants c.files.items c.outs c.libs.items c.entries };
 }
 
 /// Why a settled image isn't told.
@@ -88,6 +92,9 @@ impl Ctl {
         ensures back { IfErr result (λ back. back.0 ≡ image) }
     {
         let superblock = image.superblock();
+        let Ok(outs) = Outs::new(alloc, superblock.pages, superblock.inodes) else {
+            return Err((image, NoMemory));
+        };
         let mut home = image.into_home();
         match verify_found(alloc, &mut home, &mut Reads::new()) {
             Ok(found) => Ok(Ctl {
@@ -97,6 +104,7 @@ impl Ctl {
                 owners: found.owners,
                 grants: GrantTable::new(alloc),
                 files: Vec::new(alloc),
+                outs,
                 libs,
                 entries: 0,
             }),
@@ -135,13 +143,64 @@ impl Ctl {
         self.lend_file(alloc, lib, ino, &row)
     }
 
-    /// The settled image: its pages are just those that store it, with copies of the core pages. The
-    /// state is unchanged. `Busy` exactly where a write grant is out; `NoMemory`: there was no memory
-    /// for the pages.
+    /// Allots free pages and inode numbers to a library, so many of each as it asks for: the lowest
+    /// ones, in their order, and each page all zero. They stay out until they are handed in.
+    ///
+    /// `NoPages` exactly where more pages are wanted than are free; `NoInodes` exactly where enough
+    /// pages are free, and more inode numbers are wanted than are; each tells both numbers. After
+    /// `NoMemory`, which may come in place of each of them, nothing changed; a history that has as
+    /// many entries as a `u64` counts has no memory for one more.
+    pub fn allot(
+        &mut self,
+        alloc: Global,
+        lib: LibNo,
+        pages: u32,
+        inodes: u32,
+    ) -> Result<Allotted, AllotFault>
+        requires library { IsLibrary lib self.old }
+        ensures step { Step self.old (Allot lib.0 pages inodes) (allot_answer result) self.new }
+        ensures pages { IfOk result (λ given. given.pages.items ≡ map (fresh_page lib) (page_numbers given.pages.items)) }
+        ensures inodes { IfOk result (λ given. given.inodes.items ≡ map (fresh_number lib) (inode_numbers given.inodes.items)) }
+        ensures was_kept { Kept self.old }
+        ensures kept { Kept self.new }
+    {
+        let Some(entries) = self.entries.checked_add(1) else {
+            return Err(AllotFault::NoMemory);
+        };
+        let given = self.outs.take(
+            alloc,
+            &mut self.home,
+            &self.owners,
+            &self.rows,
+            lib,
+            pages,
+            inodes,
+            &mut Reads::new(),
+        );
+        match given {
+            Ok(given) => {
+                self.entries = entries;
+                Ok(given)
+            }
+            // want of memory makes no entry
+            Err(fault) => match fault {
+                AllotFault::NoMemory => Err(fault),
+                AllotFault::NoPages { .. } | AllotFault::NoInodes { .. } => {
+                    self.entries = entries;
+                    Err(fault)
+                }
+            },
+        }
+    }
+
+    /// The settled image: its pages are just those that store it, with copies of the core pages, and
+    /// all zero where one is out by allotment. The state is unchanged. `Busy` exactly where a write
+    /// grant is out; `NoMemory`: there was no memory for the pages.
     pub fn image(&mut self, alloc: Global) -> Result<Image, ImageFault>
         ensures answer { TellsImage (writer_of self.old) result }
         ensures superblock { IfOk result (λ image. image.superblock ≡ superblock_for (settled self.old).core) }
-        ensures stores { IfOk result (λ image. StoresImage image.superblock (settled self.old) image.pages) }
+        ensures zeros { IfOk result (λ image. StoresImage image.superblock (with_zeros (settled self.old)) image.pages) }
+        ensures stores { self.old.pages_out ≡ [] → IfOk result (λ image. StoresImage image.superblock (settled self.old) image.pages) }
         ensures verified { IfOk result (λ image. IsVerified image.superblock image.pages) }
         ensures state { self.new ≡ self.old }
         ensures kept { Kept self.old }

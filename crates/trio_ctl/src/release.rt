@@ -9,7 +9,7 @@ ghost use Rattle.trio_state.specs.Given.{GivenTo};
 ghost use Rattle.trio_state.specs.Handed.{bundle_in};
 ghost use Rattle.trio_state.specs.Kept.{Kept};
 ghost use Rattle.trio_state.specs.Proposed.{bundle_pages, bundle_sheets, is_written};
-ghost use Rattle.trio_state.specs.Sheets.{with_pages};
+ghost use Rattle.trio_state.specs.Sheets.{sheet_numbers, with_pages};
 ghost use Rattle.trio_state.specs.State.{creds_of, settled};
 ghost use Rattle.trio_state.specs.Step.{Release, Step};
 ghost use Rattle.trio_laws.specs.EndLaws.{unless_absent};
@@ -18,11 +18,13 @@ ghost use Rattle.trio_proposal.specs.Judged.{IfAccepted, IfRefused, IsImage};
 ghost use Rattle.trio_ctl.specs.Answers.{release_answer};
 ghost use Rattle.trio_ctl.specs.Ctl.{IsLibrary};
 ghost use Rattle.trio_ctl.specs.Moves.{all_covered, followed};
+ghost use Rattle.trio_ctl.specs.Outs.{HasPlaces, outs_after};
 
 use crate::bundles::{bring_home, bring_uncovered, written_marks};
 use crate::closing::{Closing, close_all};
 use crate::ctl::Ctl;
 use crate::open::OpenFile;
+use crate::outs::Outs;
 use crate::spread::{follow_all, settled_pages, spread};
 use std::alloc::Global;
 use std::mem;
@@ -77,14 +79,21 @@ impl Ctl {
                     rows,
                     owners,
                 } = next;
-                put_in_place(&mut self.home, &mut self.files, bundle, pages, reads);
+                put_in_place(
+                    &mut self.home,
+                    &mut self.files,
+                    &mut self.outs,
+                    bundle,
+                    pages,
+                    reads,
+                );
                 self.superblock.root = root;
                 self.rows = rows;
                 self.owners = owners;
                 Ok(ReleaseAnswer::Accepted)
             }
             Verdict::Refused => {
-                bring_uncovered(&mut self.home, bundle);
+                bring_uncovered(&mut self.home, &mut self.outs, bundle);
                 Ok(ReleaseAnswer::Refused {
                     rule: 0,
                     ino: 0,
@@ -142,19 +151,22 @@ impl Ctl {
 fn put_in_place(
     home: &mut Home,
     files: &mut [OpenFile],
+    outs: &mut Outs,
     bundle: Bundle,
     mut pages: Home,
     reads: &mut Reads,
 )
     requires within { IsTrue (all_below (length home.old.pages) (bundle_pages (bundle_in bundle))) }
+    requires allotted { HasPlaces outs.old (bundle_in bundle) }
     requires count { length home.old.pages ≡ length pages.pages }
     requires stand { IsTrue (all_stand pages.pages (all_covered files.old)) }
     ensures files { files.new ≡ map (followed pages.pages) files.old }
+    ensures returned { outs.new ≡ outs_after outs.old (sheet_numbers (bundle_in bundle).pages) (bundle_in bundle).numbers }
     ensures count { length home.new.pages ≡ length home.old.pages }
     ensures home { (p : ℕ) → slice_get home.new.pages p
         ≡ unless_absent (slice_get (with_pages (bundle_sheets (bundle_in bundle)) home.old.pages) p) (slice_get pages.pages p) }
 {
-    bring_home(home, bundle);
+    bring_home(home, outs, bundle);
     follow_all(files, &mut pages, reads);
     spread(home, pages, reads);
 }

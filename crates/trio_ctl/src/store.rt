@@ -10,8 +10,8 @@ use trio_layout::Superblock;
 use trio_page::{Home, NoMemory, Page, PageNo, Reads};
 use trio_tables::{Owners, Shadow};
 
-/// The pages that store an image: the superblock, the tables, and copies of the core pages at home.
-/// `NoMemory`: there was no memory for them.
+/// The pages that store an image: the superblock, the tables, and copies of the core pages at home,
+/// all zero where one is absent. `NoMemory`: there was no memory for them.
 #[tactic(auto, unfolding(crate::specs::Pages::stored_pages))]
 pub fn stored_pages(
     alloc: Global,
@@ -77,7 +77,7 @@ fn add_owner_pages(
     Ok(())
 }
 
-/// Appends copies of the core pages; an absent one stays absent.
+/// Appends copies of the core pages; one that is absent comes all zero.
 fn add_core_pages(
     alloc: Global,
     home: &mut Home,
@@ -91,8 +91,11 @@ fn add_core_pages(
 {
     let mut reads = Reads::new();
     for at in 0..superblock.pages - superblock.first_core {
-        let copy = copy_of(alloc, home, superblock.first_core + at, &mut reads)?;
-        pages.push(copy)?;
+        let page = match copy_of(alloc, home, superblock.first_core + at, &mut reads)? {
+            Some(copy) => copy,
+            None => Page::zero(alloc)?,
+        };
+        pages.push(Some(page))?;
     }
     Ok(())
 }

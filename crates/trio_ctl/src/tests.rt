@@ -5,8 +5,9 @@ use crate::outs::Outs;
 use std::alloc::Global;
 use std::test::Fail;
 use trio_image::{bytes_of, read};
-use trio_nodes::{GrantFault, GrantKind, Holder};
-use trio_page::field::{put_bytes_in, put_u32_in};
+use trio_lease::Allotted;
+use trio_nodes::{AllotFault, GrantFault, GrantKind, Holder};
+use trio_page::field::{all_zero, put_bytes_in, put_u32_in};
 use trio_page::{Home, NoMemory, Page, PageNo, Reads};
 use trio_rights::{Creds, LibNo};
 use trio_tables::{Owners, Shadow};
@@ -145,6 +146,89 @@ fn what_is_lent_has_left_home(rt: HostRuntime) -> Result<(), Fail> {
     };
     let fault = ctl.image(alloc).err();
     assert!(rt; fault == Some(ImageFault::Busy(holder)));
+    Ok(())
+}
+
+// the numbers of what was allotted, which is let go
+fn numbers_of(alloc: Global, given: Allotted) -> Option<(Vec<u32>, Vec<u32>)> {
+    let pages = page_numbers(alloc, &given);
+    let inodes = inode_numbers(alloc, &given);
+    given.discard();
+    Some((pages?, inodes?))
+}
+
+// the numbers of the pages, where all of them are all zero
+fn page_numbers(alloc: Global, given: &Allotted) -> Option<Vec<u32>> {
+    let mut numbers = Vec::new(alloc);
+    for page in &given.pages {
+        if !all_zero(page.page().bytes()) {
+            return None;
+        }
+        numbers.push(page.no().0).ok()?;
+    }
+    Some(numbers)
+}
+
+fn inode_numbers(alloc: Global, given: &Allotted) -> Option<Vec<u32>> {
+    let mut numbers = Vec::new(alloc);
+    for number in &given.inodes {
+        numbers.push(number.no()).ok()?;
+    }
+    Some(numbers)
+}
+
+// Pages 3 and 4 are the root's, and the numbers 1 and 2 are live. Page 6 has bytes that nobody owns.
+#[test]
+fn the_lowest_free_are_allotted(rt: HostRuntime) -> Result<(), Fail> {
+    let alloc = rt.alloc();
+    let mut bytes = image_bytes(alloc, true).ok_or("memory")?;
+    put_bytes_in(&mut bytes, 24_576, b"left");
+    let mut ctl = started(alloc, &bytes).ok_or("a controller")?;
+    let cases = [
+        (2, 1, [5, 6].as_slice(), [3].as_slice()),
+        (0, 0, [].as_slice(), [].as_slice()),
+        (1, 2, [7].as_slice(), [4, 5].as_slice()),
+    ];
+    for (pages, inodes, wanted_pages, wanted_inodes) in cases {
+        let given = ctl
+            .allot(alloc, LibNo(1), pages, inodes)
+            .ok()
+            .ok_or("an allotment")?;
+        let (pages, inodes) = numbers_of(alloc, given).ok_or("zeros")?;
+        assert!(rt; pages.as_slice() == wanted_pages && inodes.as_slice() == wanted_inodes);
+    }
+    // pages are asked first
+    for (pages, inodes, wanted) in [
+        (
+            25,
+            60,
+            AllotFault::NoPages {
+                wanted: 25,
+                free: 24,
+            },
+        ),
+        (
+            24,
+            60,
+            AllotFault::NoInodes {
+                wanted: 60,
+                free: 59,
+            },
+        ),
+    ] {
+        match ctl.allot(alloc, LibNo(1), pages, inodes) {
+            Ok(given) => {
+                given.discard();
+                return Err("too much was allotted".into());
+            }
+            Err(fault) => assert!(rt; fault == wanted),
+        }
+    }
+    // in the settled image what is out is all zero
+    let mut image = ctl.image(alloc).ok().ok_or("memory")?;
+    let written = bytes_of(alloc, &mut image).ok().ok_or("memory")?;
+    put_bytes_in(&mut bytes, 24_576, &[0; 4]);
+    assert!(rt; written == bytes);
     Ok(())
 }
 

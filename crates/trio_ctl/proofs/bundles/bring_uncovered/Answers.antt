@@ -7,27 +7,38 @@ use Rattle.trio_state.specs.Sheets.{Sheet, sheet_numbers, with_pages}
 use Rattle.trio_checkpoint.proofs.Following.{put_both, within_still}
 use Rattle.trio_checkpoint.proofs.Restoring.{below_parts}
 use Rattle.trio_ctl.specs.Moves.{uncovered_sheets}
-use Rattle.trio_ctl.proofs.Bringing.{less_within, sheets_are, uncovered_are}
+use Rattle.trio_ctl.proofs.Bringing.{places_of, returned_are, less_within, sheets_are, uncovered_are}
+use Rattle.trio_ctl.proofs.OutLists.{fresh_numbers}
 use Rattle.trio_ctl.proofs.bundles.bring_uncovered.Goals as goal
 
 pub bring_uncovered_blocks-requires : goal.bring_uncovered_blocks-requires
 bring_uncovered_blocks-requires c =
     let parts = c.parts-writes.result in
     let n = length c.args.home.now.pages in
-    let below = subst (λ (ss : List Sheet). IsTrue (all_below n (sheet_numbers ss))) (sheets_are parts c.args.bundle c.parts-writes.ensures) c.requires in
+    let below = subst (λ (ss : List Sheet). IsTrue (all_below n (sheet_numbers ss))) (sheets_are parts c.args.bundle c.parts-writes.ensures) c.requires.within in
     (below_parts n (flat_map uncovered_sheets parts.writes.items) (map fresh_sheet parts.pages.items) (less_within n parts.writes.items (map fresh_sheet parts.pages.items) below)).0
 
-pub bring_allotted-requires : goal.bring_allotted-requires
-bring_allotted-requires c =
+pub put_back-requires-clause-within_home : goal.put_back-requires-clause-within_home
+put_back-requires-clause-within_home c =
     let parts = c.parts-writes.result in
     let n = length c.args.home.now.pages in
-    let below = subst (λ (ss : List Sheet). IsTrue (all_below n (sheet_numbers ss))) (sheets_are parts c.args.bundle c.parts-writes.ensures) c.requires in
-    within_still c.args.home.now c.bring_uncovered_blocks.new.home (flat_map uncovered_sheets parts.writes.items) (map fresh_sheet parts.pages.items) (less_within n parts.writes.items (map fresh_sheet parts.pages.items) below) c.bring_uncovered_blocks.ensures
+    let below = subst (λ (ss : List Sheet). IsTrue (all_below n (sheet_numbers ss))) (sheets_are parts c.args.bundle c.parts-writes.ensures) c.requires.within in
+    subst (λ ns. IsTrue (all_below (length c.bring_uncovered_blocks.new.home.pages) ns)) (fresh_numbers parts.pages.items)
+    (within_still c.args.home.now c.bring_uncovered_blocks.new.home (flat_map uncovered_sheets parts.writes.items) (map fresh_sheet parts.pages.items) (less_within n parts.writes.items (map fresh_sheet parts.pages.items) below) c.bring_uncovered_blocks.ensures)
 
-pub returns : goal.returns
-returns c =
+pub put_back-requires-clause-pages : goal.put_back-requires-clause-pages
+put_back-requires-clause-pages c = (places_of c.parts-writes.result c.args.bundle c.args.outs.now c.parts-writes.ensures c.requires.allotted).0
+
+pub put_back-requires-clause-numbers : goal.put_back-requires-clause-numbers
+put_back-requires-clause-numbers c = (places_of c.parts-writes.result c.args.bundle c.args.outs.now c.parts-writes.ensures c.requires.allotted).1
+
+pub returns-clause-home : goal.returns-clause-home
+returns-clause-home c =
     let parts = c.parts-writes.result in
     let home : Pages = c.args.home.now in
-    put_both home c.bring_uncovered_blocks.new.home c.bring_allotted.new.home (flat_map uncovered_sheets parts.writes.items) (map fresh_sheet parts.pages.items)
-    c.bring_uncovered_blocks.ensures c.bring_allotted.ensures
+    put_both home c.bring_uncovered_blocks.new.home c.put_back.new.home (flat_map uncovered_sheets parts.writes.items) (map fresh_sheet parts.pages.items)
+    c.bring_uncovered_blocks.ensures c.put_back.ensures.home
     ∙ ap (λ (ss : List Sheet). record home { pages = with_pages ss home.pages }) (sym (uncovered_are parts c.args.bundle c.parts-writes.ensures))
+
+pub returns-clause-returned : goal.returns-clause-returned
+returns-clause-returned c = c.put_back.ensures.out ∙ returned_are c.parts-writes.result c.args.bundle c.args.outs.now c.parts-writes.ensures

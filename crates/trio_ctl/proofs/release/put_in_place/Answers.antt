@@ -7,7 +7,7 @@ use Rattle.trio_ctl.proofs.release.put_in_place.Goals as goal
 
 pub spread-requires : goal.spread-requires
 spread-requires c =
-    ap (λ (h : Pages). length h.pages) c.bring_home.ensures
+    ap (λ (h : Pages). length h.pages) c.bring_home.ensures.home
     ∙ length-with_pages (bundle_sheets (bundle_in c.args.bundle)) c.args.home.now.pages
     ∙ c.requires.count
     ∙ sym (ap length c.follow_all.ensures.pages)
@@ -15,5 +15,5 @@ spread-requires c =
 pub returns-clause-count : goal.returns-clause-count
 returns-clause-count c =
     c.spread.ensures.count
-    ∙ ap (λ (h : Pages). length h.pages) c.bring_home.ensures
+    ∙ ap (λ (h : Pages). length h.pages) c.bring_home.ensures.home
     ∙ length-with_pages (bundle_sheets (bundle_in c.args.bundle)) c.args.home.now.pages

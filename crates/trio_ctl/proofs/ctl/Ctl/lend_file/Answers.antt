@@ -21,7 +21,7 @@ returns-in-Err-clause-step c =
     let may = subst (λ (v : State). denier v.home.rows (creds_of v c.args.lib.0) c.args.ino ToWrite ≡ None) (sym c.self.view_is) c.requires.may in
     let answer = c.in-Err.ensures.answer in
     rw (← c.self.view_is, c.in-Ok.ensures.items)
-    (refused_step i.superblock i.home.pages i.rows i.owners i.grants i.files.items i.libs.items i.entries c.self.invariant c.args.lib c.args.ino r c.in-Err.fault live may answer)
+    (refused_step i.superblock i.home.pages i.rows i.owners i.grants i.files.items i.outs i.libs.items i.entries c.self.invariant c.args.lib c.args.ino r c.in-Err.fault live may answer)
 
 pub settled_body-requires : goal.settled_body-requires
 settled_body-requires c = λ other.
@@ -29,7 +29,7 @@ settled_body-requires c = λ other.
     let r = as_row c.args.row.now in
     let live = subst (λ (v : State). row_at v.home c.args.ino ≡ Some r) (sym c.self.view_is) c.requires.live in
     rw (c.deref.ensures.value, c.in-Ok.ensures.items)
-    (stands_somewhere i.superblock i.home.pages i.rows i.owners i.grants i.files.items i.libs.items i.entries c.self.invariant c.args.ino r live other)
+    (stands_somewhere i.superblock i.home.pages i.rows i.owners i.grants i.files.items i.outs i.libs.items i.entries c.self.invariant c.args.ino r live other)
 
 pub lend-requires-clause-chain : goal.lend-requires-clause-chain
 lend-requires-clause-chain c =
@@ -38,8 +38,8 @@ lend-requires-clause-chain c =
     let live = subst (λ (v : State). row_at v.home c.args.ino ≡ Some r) (sym c.self.view_is) c.requires.live in
     let files = c.deref.ensures.value ∙ c.in-Ok.ensures.items in
     let body = c.settled_body.ensures.body ∙ ap (λ fs. if c.args.ino == 1 then i.superblock.root else body_standing i.home.pages fs r) files
-    ∙ body_is i.superblock i.home.pages i.rows i.owners i.grants i.files.items i.libs.items i.entries c.self.invariant c.args.ino r live in
-    rw (c.settled_body.ensures.home, chain_home i.superblock i.home.pages i.rows i.owners i.grants i.files.items i.libs.items i.entries c.self.invariant c.args.lib c.args.ino r live c.in-Ok-admit_writer.ensures.answer c.settled_body.result body) refl
+    ∙ body_is i.superblock i.home.pages i.rows i.owners i.grants i.files.items i.outs i.libs.items i.entries c.self.invariant c.args.ino r live in
+    rw (c.settled_body.ensures.home, chain_home i.superblock i.home.pages i.rows i.owners i.grants i.files.items i.outs i.libs.items i.entries c.self.invariant c.args.lib c.args.ino r live c.in-Ok-admit_writer.ensures.answer c.settled_body.result body) refl
 
 pub lend-requires-clause-lendable : goal.lend-requires-clause-lendable
 lend-requires-clause-lendable c =
@@ -48,9 +48,9 @@ lend-requires-clause-lendable c =
     let live = subst (λ (v : State). row_at v.home c.args.ino ≡ Some r) (sym c.self.view_is) c.requires.live in
     let files = c.deref.ensures.value ∙ c.in-Ok.ensures.items in
     let body = c.settled_body.ensures.body ∙ ap (λ fs. if c.args.ino == 1 then i.superblock.root else body_standing i.home.pages fs r) files
-    ∙ body_is i.superblock i.home.pages i.rows i.owners i.grants i.files.items i.libs.items i.entries c.self.invariant c.args.ino r live in
+    ∙ body_is i.superblock i.home.pages i.rows i.owners i.grants i.files.items i.outs i.libs.items i.entries c.self.invariant c.args.ino r live in
     rw c.settled_body.ensures.home
-    (λ x e. lendable i.superblock i.home.pages i.rows i.owners i.grants i.files.items i.libs.items i.entries c.self.invariant c.args.lib c.args.ino r live c.in-Ok-admit_writer.ensures.answer c.settled_body.result x body e)
+    (λ x e. lendable i.superblock i.home.pages i.rows i.owners i.grants i.files.items i.outs i.libs.items i.entries c.self.invariant c.args.lib c.args.ino r live c.in-Ok-admit_writer.ensures.answer c.settled_body.result x body e)
 
 pub invariant_of-self-in-Ok-lend : goal.invariant_of-self-in-Ok-lend
 invariant_of-self-in-Ok-lend c =
@@ -60,11 +60,11 @@ invariant_of-self-in-Ok-lend c =
     let may = subst (λ (v : State). denier v.home.rows (creds_of v c.args.lib.0) c.args.ino ToWrite ≡ None) (sym c.self.view_is) c.requires.may in
     let files = c.deref.ensures.value ∙ c.in-Ok.ensures.items in
     let body = c.settled_body.ensures.body ∙ ap (λ fs. if c.args.ino == 1 then i.superblock.root else body_standing i.home.pages fs r) files
-    ∙ body_is i.superblock i.home.pages i.rows i.owners i.grants i.files.items i.libs.items i.entries c.self.invariant c.args.ino r live in
+    ∙ body_is i.superblock i.home.pages i.rows i.owners i.grants i.files.items i.outs i.libs.items i.entries c.self.invariant c.args.ino r live in
     let range : CoreRange = record { first = i.superblock.first_core; end = i.superblock.pages } in
     let free = c.in-Ok-admit_writer.ensures.answer in
-    let ch = chain i.superblock i.home.pages i.rows i.owners i.grants i.files.items i.libs.items i.entries c.self.invariant c.args.lib c.args.ino r live free in
-    let read = chain_home i.superblock i.home.pages i.rows i.owners i.grants i.files.items i.libs.items i.entries c.self.invariant c.args.lib c.args.ino r live free c.settled_body.result body in
+    let ch = chain i.superblock i.home.pages i.rows i.owners i.grants i.files.items i.outs i.libs.items i.entries c.self.invariant c.args.lib c.args.ino r live free in
+    let read = chain_home i.superblock i.home.pages i.rows i.owners i.grants i.files.items i.outs i.libs.items i.entries c.self.invariant c.args.lib c.args.ino r live free c.settled_body.result body in
     let read' = ap (λ ps. chain_in (core_of ps range) r.kind c.settled_body.result) c.settled_body.ensures.home ∙ read in
     let opened = c.in-Ok-lend.ensures.opened in
     let made = opened ch read' ∙ ap (λ ps. record { key = c.in-Ok-admit_writer.key; grant = grant_on (core_of ps range) c.args.lib.0 c.args.ino r.kind i.entries c.settled_body.result ch }) c.settled_body.ensures.home in
@@ -74,20 +74,20 @@ invariant_of-self-in-Ok-lend c =
     let more = pushed ∙ ap (λ fs. fs ++ c.in-Ok-lend.file ∷ []) c.in-Ok.ensures.items in
     let put = c.in-Ok-admit_writer.ensures.opened in
     let new = c.in-Ok-admit_writer.ensures.new_key in
-    granted_controlled i.superblock i.home.pages i.rows i.owners i.grants i.files.items i.libs.items i.entries c.self.invariant c.args.lib c.args.ino r live free c.in-Ok-admit_writer.key c.settled_body.result body c.in-Ok-lend.file c.lend.new.home.pages c.admit_writer.new.grants c.push.new.self.items c.in-Some.entries made gone more (omega arith) may put new
+    granted_controlled i.superblock i.home.pages i.rows i.owners i.grants i.files.items i.outs i.libs.items i.entries c.self.invariant c.args.lib c.args.ino r live free c.in-Ok-admit_writer.key c.settled_body.result body c.in-Ok-lend.file c.lend.new.home.pages c.admit_writer.new.grants c.push.new.self.items c.in-Some.entries made gone more (omega arith) may put new
 
 pub invariant_of-self-in-Err : goal.invariant_of-self-in-Err
 invariant_of-self-in-Err c =
     let i = c.self.inside in
     let kept = c.in-Err.ensures.kept in
-    controlled_still i.superblock i.home.pages i.rows i.owners i.grants i.files.items i.libs.items i.entries c.self.invariant i.home.pages c.admit_writer.new.grants c.reserve.new.self.items refl kept c.in-Ok.ensures.items
+    controlled_still i.superblock i.home.pages i.rows i.owners i.grants i.files.items i.outs i.libs.items i.entries c.self.invariant i.home.pages c.admit_writer.new.grants c.reserve.new.self.items refl kept c.in-Ok.ensures.items
 
 pub invariant_of-self-in-Err-lend : goal.invariant_of-self-in-Err-lend
 invariant_of-self-in-Err-lend c =
     let i = c.self.inside in
     let kept = c.in-Err-lend.ensures.kept in
     let rest = c.in-Ok-admit_writer.ensures.rest in
-    controlled_still i.superblock i.home.pages i.rows i.owners i.grants i.files.items i.libs.items i.entries c.self.invariant c.lend.new.home.pages c.end.new.self c.reserve.new.self.items (kept ∙ c.settled_body.ensures.home) (c.end.ensures.ended ∙ rest) c.in-Ok.ensures.items
+    controlled_still i.superblock i.home.pages i.rows i.owners i.grants i.files.items i.outs i.libs.items i.entries c.self.invariant c.lend.new.home.pages c.end.new.self c.reserve.new.self.items (kept ∙ c.settled_body.ensures.home) (c.end.ensures.ended ∙ rest) c.in-Ok.ensures.items
 
 pub returns-in-Ok-push-clause-step : goal.returns-in-Ok-push-clause-step
 returns-in-Ok-push-clause-step c =
@@ -97,11 +97,11 @@ returns-in-Ok-push-clause-step c =
     let may = subst (λ (v : State). denier v.home.rows (creds_of v c.args.lib.0) c.args.ino ToWrite ≡ None) (sym c.self.view_is) c.requires.may in
     let files = c.deref.ensures.value ∙ c.in-Ok.ensures.items in
     let body = c.settled_body.ensures.body ∙ ap (λ fs. if c.args.ino == 1 then i.superblock.root else body_standing i.home.pages fs r) files
-    ∙ body_is i.superblock i.home.pages i.rows i.owners i.grants i.files.items i.libs.items i.entries c.self.invariant c.args.ino r live in
+    ∙ body_is i.superblock i.home.pages i.rows i.owners i.grants i.files.items i.outs i.libs.items i.entries c.self.invariant c.args.ino r live in
     let range : CoreRange = record { first = i.superblock.first_core; end = i.superblock.pages } in
     let free = c.in-Ok-admit_writer.ensures.answer in
-    let ch = chain i.superblock i.home.pages i.rows i.owners i.grants i.files.items i.libs.items i.entries c.self.invariant c.args.lib c.args.ino r live free in
-    let read = chain_home i.superblock i.home.pages i.rows i.owners i.grants i.files.items i.libs.items i.entries c.self.invariant c.args.lib c.args.ino r live free c.settled_body.result body in
+    let ch = chain i.superblock i.home.pages i.rows i.owners i.grants i.files.items i.outs i.libs.items i.entries c.self.invariant c.args.lib c.args.ino r live free in
+    let read = chain_home i.superblock i.home.pages i.rows i.owners i.grants i.files.items i.outs i.libs.items i.entries c.self.invariant c.args.lib c.args.ino r live free c.settled_body.result body in
     let read' = ap (λ ps. chain_in (core_of ps range) r.kind c.settled_body.result) c.settled_body.ensures.home ∙ read in
     let opened = c.in-Ok-lend.ensures.opened in
     let made = opened ch read' ∙ ap (λ ps. record { key = c.in-Ok-admit_writer.key; grant = grant_on (core_of ps range) c.args.lib.0 c.args.ino r.kind i.entries c.settled_body.result ch }) c.settled_body.ensures.home in
@@ -110,7 +110,7 @@ returns-in-Ok-push-clause-step c =
     let pushed = c.in-Ok-push.ensures.items in
     let more = pushed ∙ ap (λ fs. fs ++ c.in-Ok-lend.file ∷ []) c.in-Ok.ensures.items in
     rw (← c.self.view_is)
-    (granted_step i.superblock i.home.pages i.rows i.owners i.grants i.files.items i.libs.items i.entries c.self.invariant c.args.lib c.args.ino r live free c.in-Ok-admit_writer.key c.settled_body.result body c.in-Ok-lend.file c.lend.new.home.pages c.admit_writer.new.grants c.push.new.self.items c.in-Some.entries made gone more (omega arith) may)
+    (granted_step i.superblock i.home.pages i.rows i.owners i.grants i.files.items i.outs i.libs.items i.entries c.self.invariant c.args.lib c.args.ino r live free c.in-Ok-admit_writer.key c.settled_body.result body c.in-Ok-lend.file c.lend.new.home.pages c.admit_writer.new.grants c.push.new.self.items c.in-Some.entries made gone more (omega arith) may)
 
 pub returns-in-Ok-push-clause-lease : goal.returns-in-Ok-push-clause-lease
 returns-in-Ok-push-clause-lease c =
@@ -120,11 +120,11 @@ returns-in-Ok-push-clause-lease c =
     let may = subst (λ (v : State). denier v.home.rows (creds_of v c.args.lib.0) c.args.ino ToWrite ≡ None) (sym c.self.view_is) c.requires.may in
     let files = c.deref.ensures.value ∙ c.in-Ok.ensures.items in
     let body = c.settled_body.ensures.body ∙ ap (λ fs. if c.args.ino == 1 then i.superblock.root else body_standing i.home.pages fs r) files
-    ∙ body_is i.superblock i.home.pages i.rows i.owners i.grants i.files.items i.libs.items i.entries c.self.invariant c.args.ino r live in
+    ∙ body_is i.superblock i.home.pages i.rows i.owners i.grants i.files.items i.outs i.libs.items i.entries c.self.invariant c.args.ino r live in
     let range : CoreRange = record { first = i.superblock.first_core; end = i.superblock.pages } in
     let free = c.in-Ok-admit_writer.ensures.answer in
-    let ch = chain i.superblock i.home.pages i.rows i.owners i.grants i.files.items i.libs.items i.entries c.self.invariant c.args.lib c.args.ino r live free in
-    let read = chain_home i.superblock i.home.pages i.rows i.owners i.grants i.files.items i.libs.items i.entries c.self.invariant c.args.lib c.args.ino r live free c.settled_body.result body in
+    let ch = chain i.superblock i.home.pages i.rows i.owners i.grants i.files.items i.outs i.libs.items i.entries c.self.invariant c.args.lib c.args.ino r live free in
+    let read = chain_home i.superblock i.home.pages i.rows i.owners i.grants i.files.items i.outs i.libs.items i.entries c.self.invariant c.args.lib c.args.ino r live free c.settled_body.result body in
     let read' = ap (λ ps. chain_in (core_of ps range) r.kind c.settled_body.result) c.settled_body.ensures.home ∙ read in
     let opened = c.in-Ok-lend.ensures.opened in
     let made = opened ch read' ∙ ap (λ ps. record { key = c.in-Ok-admit_writer.key; grant = grant_on (core_of ps range) c.args.lib.0 c.args.ino r.kind i.entries c.settled_body.result ch }) c.settled_body.ensures.home in
@@ -134,4 +134,4 @@ returns-in-Ok-push-clause-lease c =
     let more = pushed ∙ ap (λ fs. fs ++ c.in-Ok-lend.file ∷ []) c.in-Ok.ensures.items in
     let lease = c.in-Ok-lend.ensures.lease in
     rw (← c.self.view_is)
-    (lease ∙ ap lease_of (file_grant i.superblock i.home.pages i.rows i.owners i.grants i.files.items i.libs.items i.entries c.self.invariant c.args.lib c.args.ino r live free c.in-Ok-admit_writer.key c.settled_body.result body c.in-Ok-lend.file c.lend.new.home.pages c.admit_writer.new.grants c.push.new.self.items c.in-Some.entries made gone more (omega arith)))
+    (lease ∙ ap lease_of (file_grant i.superblock i.home.pages i.rows i.owners i.grants i.files.items i.outs i.libs.items i.entries c.self.invariant c.args.lib c.args.ino r live free c.in-Ok-admit_writer.key c.settled_body.result body c.in-Ok-lend.file c.lend.new.home.pages c.admit_writer.new.grants c.push.new.self.items c.in-Some.entries made gone more (omega arith)))

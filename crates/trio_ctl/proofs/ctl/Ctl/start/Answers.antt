@@ -1,9 +1,11 @@
-use Rattle.std.proofs.Common.{arith, sym, subst, ◌∙◌}
+use Rattle.std.proofs.Common.{arith, ap, sym, subst, ◌∙◌}
 use Rattle.std.specs.Prelude.{IsSome}
 use Rattle.trio_survey.specs.Verdict.{superblock_in}
 use Rattle.trio_state.specs.Stored.{HasSuperblock}
 use Rattle.trio_image.specs.Image.{IsVerified}
 use Rattle.trio_image.proofs.Superblocks.{superblock_there}
+use Rattle.trio_layout.specs.declared.superblock.Superblock.{Superblock}
+use Rattle.trio_ctl.specs.Outs.{nothing_out}
 use Rattle.trio_ctl.proofs.Starting.{same_image, started}
 use Rattle.trio_ctl.proofs.ctl.Ctl.start.Goals as goal
 
@@ -19,9 +21,9 @@ invariant_of-result c =
     let home = c.into_home-home.result.pages in
     let v = subst (IsVerified image.superblock) (sym c.into_home-home.ensures.pages) c.into_home-home.ensures.verified in
     let has = v.whole.superblock in
-    started image.superblock c.superblock-superblock.result home c.verify_found.new.home.pages c.in-Ok.found.rows c.in-Ok.found.owners c.new-in-Ok.result c.new-in-Ok-2.result.items c.args.libs.items v
+    started image.superblock c.superblock-superblock.result home c.verify_found.new.home.pages c.in-Ok-verify_found.found.rows c.in-Ok-verify_found.found.owners c.new-in-Ok-verify_found.result c.new-in-Ok-verify_found-2.result.items c.in-Ok.outs c.args.libs.items v
     c.superblock-superblock.ensures.superblock c.verify_found.ensures.pages
-    (c.in-Ok.ensures.rows image.superblock has) (c.in-Ok.ensures.owners image.superblock has) c.new-in-Ok.ensures c.new-in-Ok-2.ensures.items (omega arith) (omega arith)
+    (c.in-Ok-verify_found.ensures.rows image.superblock has) (c.in-Ok-verify_found.ensures.owners image.superblock has) c.new-in-Ok-verify_found.ensures c.new-in-Ok-verify_found-2.ensures.items (c.in-Ok.ensures.empty ∙ ap (λ (x : Superblock). nothing_out x.pages x.inodes) c.superblock-superblock.ensures.superblock) (omega arith) (omega arith)
 
 pub returns-in-Err-clause-back : goal.returns-in-Err-clause-back
 returns-in-Err-clause-back c =
@@ -30,13 +32,13 @@ returns-in-Err-clause-back c =
     let has = subst (HasSuperblock image.superblock) (sym pages) c.into_home-home.ensures.verified.whole.superblock in
     same_image c.of.result image (c.of.ensures.superblock image.superblock has) (c.of.ensures.pages ∙ pages)
 
-pub returns-in-Ok-clause-kept : goal.returns-in-Ok-clause-kept
-returns-in-Ok-clause-kept c =
+pub returns-in-Ok-verify_found-clause-kept : goal.returns-in-Ok-verify_found-clause-kept
+returns-in-Ok-verify_found-clause-kept c =
     let image = c.args.image in
     let home = c.into_home-home.result.pages in
     let v = subst (IsVerified image.superblock) (sym c.into_home-home.ensures.pages) c.into_home-home.ensures.verified in
     let has = v.whole.superblock in
-    let all = started image.superblock c.superblock-superblock.result home c.verify_found.new.home.pages c.in-Ok.found.rows c.in-Ok.found.owners c.new-in-Ok.result c.new-in-Ok-2.result.items c.args.libs.items v
+    let all = started image.superblock c.superblock-superblock.result home c.verify_found.new.home.pages c.in-Ok-verify_found.found.rows c.in-Ok-verify_found.found.owners c.new-in-Ok-verify_found.result c.new-in-Ok-verify_found-2.result.items c.in-Ok.outs c.args.libs.items v
     c.superblock-superblock.ensures.superblock c.verify_found.ensures.pages
-    (c.in-Ok.ensures.rows image.superblock has) (c.in-Ok.ensures.owners image.superblock has) c.new-in-Ok.ensures c.new-in-Ok-2.ensures.items (omega arith) (omega arith) in
+    (c.in-Ok-verify_found.ensures.rows image.superblock has) (c.in-Ok-verify_found.ensures.owners image.superblock has) c.new-in-Ok-verify_found.ensures c.new-in-Ok-verify_found-2.ensures.items (c.in-Ok.ensures.empty ∙ ap (λ (x : Superblock). nothing_out x.pages x.inodes) c.superblock-superblock.ensures.superblock) (omega arith) (omega arith) in
     all.kept
