@@ -1,23 +1,37 @@
--- All that is open in the midst of a script was lent to its library for writing, and at its end nothing is open.
+-- All that is lent or out in the midst of a script is in its library's hands, and at its end nothing is lent or out.
 use Rattle.std.specs.Prelude.{◌≡◌, ℕ, List, [], map}
 use Rattle.trio_rights.specs.declared.rights.Creds.{Creds}
 use Rattle.trio_nodes.specs.declared.grant.GrantKind.TheVariants.{Write}
 use Rattle.trio_layout.specs.Lists.{In}
+use Rattle.trio_state.specs.Sheets.{sheet_numbers}
 use Rattle.trio_state.specs.Image.{Image, IsFit}
 use Rattle.trio_state.specs.Verifies.{Verifies}
-use Rattle.trio_state.specs.State.{OpenGrant}
+use Rattle.trio_state.specs.State.{OpenGrant, Out, State}
 use Rattle.trio_state.specs.Run.{IsWhole}
 use Rattle.trio_script.specs.Script.{SaidLine}
 use Rattle.trio_runner.specs.Play.{Player, Played}
 
--- every open grant is a write grant of the library, on a file that it has
+-- each number that is out by allotment is out to the library, and is one of these
+pub record OutInHand (lib' : ℕ) (outs : List Out) (mine : List ℕ) : Type 0 where
+  pub lib : (o : Out) → In o outs → o.lib ≡ lib'
+  pub number : (o : Out) → In o outs → In o.number mine
+
+-- every open grant is a write grant of the library, on a file that it has; and it has every page and every inode number that is out
 pub record AllInHand (lib' : ℕ) (p : Player) : Type 0 where
   pub lib : (g : OpenGrant) → In g p.state.open_grants → g.lib ≡ lib'
   pub kind : (g : OpenGrant) → In g p.state.open_grants → g.kind ≡ Write
   pub file : (g : OpenGrant) → In g p.state.open_grants → In g.ino (map (λ w. w.ino) p.has.files)
+  pub pages : OutInHand lib' p.state.pages_out (sheet_numbers p.has.pages)
+  pub numbers : OutInHand lib' p.state.numbers_out p.has.numbers
 
--- at a script's end no grant is open
+-- no grant is open, and no page and no inode number is out by allotment
+pub record NothingOut (s : State) : Type 0 where
+  pub grants : s.open_grants ≡ []
+  pub pages : s.pages_out ≡ []
+  pub numbers : s.numbers_out ≡ []
+
+-- at a script's end nothing is lent or out
 abbrev pub PlayedEndsFree : Type 0
 PlayedEndsFree =
     (image : Image) (creds : List Creds) (lines : List SaidLine) (played : Played image creds lines)
-    → IsFit image.core → Verifies image → IsWhole image → played.last.state.open_grants ≡ []
+    → IsFit image.core → Verifies image → IsWhole image → NothingOut played.last.state

@@ -34,7 +34,8 @@ pub fn played_keeps()
     ensures law { PlayedKeeps }
 {}
 
-/// At a script's end no grant is open.
+/// At a script's end nothing is lent or out: no grant is open, and no page and no inode number is
+/// out by allotment.
 pub fn ends_free()
     ensures law { PlayedEndsFree }
 {}

@@ -1,0 +1,73 @@
+-- What changes nothing of what is lent and out, and no number of what a library has.
+use Rattle.std.proofs.Common.{◌≡◌, ℕ, eqb, List, Option, Some, None, refl, subst}
+use Rattle.std.specs.Prelude.{map}
+use Rattle.trio_nodes.specs.declared.spot.Spot.{Spot}
+use Rattle.trio_nodes.specs.declared.spot.Spot.TheVariants.{Body, Index, Block, Fresh}
+use Rattle.trio_state.specs.Sheets.{Sheet, sheet_numbers}
+use Rattle.trio_state.specs.State.{State, logged}
+use Rattle.trio_state.specs.Proposed.{Written}
+use Rattle.trio_raw.specs.Has.{Has, poked, poked_body, poked_index, poked_block, poked_sheet, with_file, with_fresh, changed_first}
+use Rattle.trio_raw.proofs.Kept.{Changed, KeepsFiles, map_some, first_from, changed_same, sheets_kept, body_keeps, index_keeps, block_keeps}
+use Rattle.trio_script.specs.Said.{Said, grant_write, allot, poke, release}
+use Rattle.trio_runner.specs.Play.{has_alone, has_poked}
+
+-- the numbers of the files that a library has
+abbrev pub inos_of : Has → List ℕ
+inos_of has = map (λ (w : Written). w.ino) has.files
+
+-- the same is lent and out
+pub record SameOut (s s' : State) : Type 0 where
+  pub grants : s'.open_grants ≡ s.open_grants
+  pub pages : s'.pages_out ≡ s.pages_out
+  pub numbers : s'.numbers_out ≡ s.numbers_out
+
+-- things of the same numbers
+pub record SameNumbers (has has' : Has) : Type 0 where
+  pub files : inos_of has' ≡ inos_of has
+  pub pages : sheet_numbers has'.pages ≡ sheet_numbers has.pages
+  pub numbers : has'.numbers ≡ has.numbers
+
+pub out_stays : (s : State) → SameOut s s
+out_stays s = record { grants = refl; pages = refl; numbers = refl }
+
+-- an entry more in the history changes nothing of it
+pub out_logged : (s : State) → SameOut s (logged s)
+out_logged s = record { grants = refl; pages = refl; numbers = refl }
+
+pub numbers_stay : (has : Has) → SameNumbers has has
+numbers_stay has = record { files = refl; pages = refl; numbers = refl }
+
+file_numbers : (f : Written → Option Written) → KeepsFiles f → (ino : ℕ) (has after : Has) → with_file f ino has ≡ Some after → SameNumbers has after
+file_numbers f keeps ino has after e =
+    let put : List Written → Has = λ files. record has { files = files } in
+    let a = map_some put (changed_first (λ w. eqb w.ino ino) f has.files) after e in
+    let c : Changed f has.files a.0 = first_from (λ w. eqb w.ino ino) f has.files a.0 a.1 in
+    subst (SameNumbers has) a.2 (record {
+      files = changed_same f (λ (w : Written). w.ino) has.files a.0 c (keeps c.old c.new c.changed).ino;
+      pages = refl;
+      numbers = refl;
+    })
+
+page_numbers : (offset : ℕ) (bytes : List ℕ) (page : ℕ) (has after : Has) → with_fresh (poked_sheet offset bytes) page has ≡ Some after → SameNumbers has after
+page_numbers offset bytes page has after e =
+    let put : List Sheet → Has = λ pages. record has { pages = pages } in
+    let a = map_some put (changed_first (λ x. eqb x.page page) (poked_sheet offset bytes) has.pages) after e in
+    let c : Changed (poked_sheet offset bytes) has.pages a.0 = first_from (λ x. eqb x.page page) (poked_sheet offset bytes) has.pages a.0 a.1 in
+    subst (SameNumbers has) a.2 (record { files = refl; pages = (sheets_kept offset bytes has.pages a.0 c).0; numbers = refl })
+
+-- bytes that are written change no number
+poked_numbers : (has after : Has) (at : Spot) (offset : ℕ) (bytes : List ℕ) → poked has at offset bytes ≡ Some after → SameNumbers has after
+poked_numbers has after (Body ino) offset bytes e = file_numbers (poked_body offset bytes) (body_keeps offset bytes) ino has after e
+poked_numbers has after (Index ino i) offset bytes e = file_numbers (poked_index i offset bytes) (index_keeps i offset bytes) ino has after e
+poked_numbers has after (Block ino i) offset bytes e = file_numbers (poked_block i offset bytes) (block_keeps i offset bytes) ino has after e
+poked_numbers has after (Fresh page) offset bytes e = page_numbers offset bytes page has after e
+
+pub alone_numbers : (has : Has) (said : Said) → SameNumbers has (has_alone has said)
+alone_numbers has (grant_write ino) = numbers_stay has
+alone_numbers has (allot wanted many) = numbers_stay has
+alone_numbers has (release inos pages numbers) = numbers_stay has
+alone_numbers has (poke at offset bytes) = by_poked (poked has at offset bytes) refl
+  where
+    by_poked : (o : Option Has) → poked has at offset bytes ≡ o → SameNumbers has (has_poked has o)
+    by_poked None e = numbers_stay has
+    by_poked (Some after) e = poked_numbers has after at offset bytes e
