@@ -2,4 +2,3 @@ pub mod Forms
 pub mod Lines
 pub mod Numbers
 pub mod Numerals
-pub mod Played

@@ -1,8 +1,8 @@
 -- What a script says, line by line.
-use Rattle.std.specs.Prelude.{ℕ, ◌+◌, ◌==◌, nat_lt, Bool, true, false, ◌||◌, List, [], ◌∷◌, ◌++◌, length, Option, None, Some, if◌then◌else◌, codes, take}
+use Rattle.std.specs.Prelude.{ℕ, ◌+◌, ◌==◌, nat_lt, Bool, true, false, ◌||◌, List, [], ◌∷◌, ◌++◌, length, Option, None, Some, is_some, if◌then◌else◌, codes, take}
 use Rattle.std.specs.List.{list_any}
 use Rattle.std.specs.Str.{bytes_eq}
-use Rattle.trio_script.specs.Said.{Said, grant_write, allot, poke, release, line_said}
+use Rattle.trio_script.specs.Said.{Said, line_said}
 
 -- The bytes cut at each line end (10), which belongs to no line. What follows the last line end is a line where it has bytes.
 abbrev pub cut_lines : List ℕ → List ℕ → List (List ℕ)
@@ -25,17 +25,9 @@ names_library line = bytes_eq (take 4 line) (codes "lib ")
 abbrev pub is_library_line : List ℕ → Bool
 is_library_line line = bytes_eq line (codes "lib 1 raw 0 0")
 
--- what a line says is built, where it has one of the four forms; an allotment isn't built so far
-abbrev pub is_played : Option Said → Bool
-is_played (Some (grant_write ino)) = true
-is_played (Some (allot pages inodes)) = false
-is_played (Some (poke at offset bytes)) = true
-is_played (Some (release inos pages inodes)) = true
-is_played None = false
-
--- a line that says something is built: the first such line is the library's, and what each after it says is built
+-- a line that says something is built: the first such line is the library's, and each after it has one of the four forms
 abbrev pub is_built : Bool → List ℕ → Bool
-is_built begun line = if begun then is_played (line_said line) else is_library_line line
+is_built begun line = if begun then is_some (line_said line) else is_library_line line
 
 -- the number of the first line from `number` on that isn't built; `begun` tells whether the library's line came before
 abbrev pub first_unbuilt : ℕ → Bool → List (List ℕ) → Option ℕ
@@ -60,10 +52,6 @@ unbuilt_at number begun lines = if begun || list_any names_library lines then nu
 pub record SaidLine : Type 0 where
   pub number : ℕ
   pub said : Said
-
--- the line says something else than an allotment
-abbrev pub is_no_allotment : SaidLine → Bool
-is_no_allotment line = is_played (Some line.said)
 
 abbrev pub said_at : ℕ → Option Said → List SaidLine
 said_at number (Some said) = record { number = number; said = said } ∷ []

@@ -1,16 +1,14 @@
 -- How one line is taken. Cited by private functions alone.
 use Rattle.std.specs.Prelude.{◌≡◌, ℕ, ◌+◌, ◌≤◌, Bool, true, false, ◌||◌, List, ◌∷◌, ◌++◌, Some}
-use Rattle.std.specs.List.{list_all}
 use Rattle.trio_script.specs.Said.{line_said}
-use Rattle.trio_script.specs.Script.{SaidLine, first_unbuilt, names_library, is_no_allotment, said_at}
+use Rattle.trio_script.specs.Script.{SaidLine, first_unbuilt, names_library, said_at}
 
--- the line says nothing or is built, and what it says, which is no allotment, stands behind the lines before
+-- the line says nothing or is built, and what it says stands behind the lines before
 pub record Taken (number : ℕ) (line : List ℕ) (begun begun' : Bool) (lines lines' : List SaidLine) : Type 0 where
   pub counted : number ≤ 16384
   pub first : (more : List (List ℕ)) → first_unbuilt number begun (line ∷ more) ≡ first_unbuilt (number + 1) begun' more
   pub named : (more : Bool) → (begun || (names_library line || more)) ≡ (begun' || more)
   pub said : lines' ≡ lines ++ said_at number (line_said line)
-  pub played : list_all is_no_allotment lines' ≡ list_all is_no_allotment lines
 
 -- the line isn't built
 pub record Stops (number : ℕ) (line : List ℕ) (begun begun' : Bool) : Type 0 where

@@ -3,7 +3,7 @@
 //! A script is bytes. Lines end with the byte 10, which the last line may lack. A line without bytes
 //! and a line that begins with `#` say nothing, but count. The first line that says something is
 //! `lib 1 raw 0 0`. After it come lines of a hostile library, each a [`RawLine`]; any other line is one
-//! for which nothing is built yet, and so is an allotment. There are at most [`LINE_LIMIT`] lines.
+//! for which nothing is built yet. There are at most [`LINE_LIMIT`] lines.
 //!
 //! The words of a line are separated by one space. A number is decimal, without a sign and without a
 //! leading zero, and at most 4,294,967,295. Bytes are 1 to 4096, two lower-case hexadecimal digits
@@ -14,11 +14,11 @@
 //! takes a time of k log k. Beside the answer, memory is taken for the words of one line at a time.
 #![tactic(auto)]
 
-ghost use Rattle.std.specs.Prelude.{◌≡◌, ◌∷◌, ◌++◌, ◌<◌, ◌≤◌, length, map, IfOk, IsTrue, MatchOption, MatchResult, None, Some, if◌then◌else◌};
-ghost use Rattle.std.specs.List.{list_all, list_any};
+ghost use Rattle.std.specs.Prelude.{◌≡◌, ◌∷◌, ◌++◌, ◌<◌, ◌≤◌, length, map, IfOk, MatchOption, MatchResult, None, Some, if◌then◌else◌};
+ghost use Rattle.std.specs.List.{list_any};
 ghost use Rattle.trio_script.specs.Ends.{EndsLine, IsPlain};
-ghost use Rattle.trio_script.specs.Script.{lines_of, is_silent, names_library, is_library_line, unbuilt_line, unbuilt_at, is_played, is_no_allotment, script_lines};
-ghost use Rattle.trio_script.specs.Seen.{line_seen, script_line_seen, IsUnbuilt};
+ghost use Rattle.trio_script.specs.Script.{lines_of, is_silent, names_library, is_library_line, unbuilt_line, unbuilt_at, script_lines};
+ghost use Rattle.trio_script.specs.Seen.{script_line_seen, IsUnbuilt};
 ghost use Rattle.trio_script.specs.Taken.{Takes};
 
 mod line;
@@ -64,7 +64,7 @@ impl From<NoMemory> for ScriptFault {
 }
 
 /// Reads a script, in one pass over its bytes. `Ok` comes only where each line is built, with what
-/// the lines say in their order; none of them is a [`RawLine::Allot`].
+/// the lines say in their order.
 ///
 /// A line is a library's line where it begins with `lib` and a space. A script without such a line
 /// is answered by line 1, also where another line isn't built. Else the answer is the number of the
@@ -72,7 +72,6 @@ impl From<NoMemory> for ScriptFault {
 pub fn read_script(alloc: Global, bytes: &[u8]) -> Result<Vec<ScriptLine>, ScriptFault>
     ensures built { MatchResult result (λ _. unbuilt_line bytes.now ≡ None) (IsUnbuilt bytes.now) }
     ensures lines { IfOk result (λ lines. map script_line_seen lines.items ≡ script_lines bytes.now) }
-    ensures played { IfOk result (λ _. IsTrue (list_all is_no_allotment (script_lines bytes.now))) }
 {
     let mut lines = Vec::new(alloc);
     let mut rest = bytes;
@@ -114,19 +113,12 @@ fn take_line(
         return Ok(*begun);
     }
     match read_line(alloc, line)? {
-        Some(line) if is_played(&line) => {
+        Some(line) => {
             lines.push(ScriptLine { number, line })?;
             Ok(true)
         }
-        _ => Ok(false),
+        None => Ok(false),
     }
-}
-
-// whether what a line says is built: an allotment isn't so far
-fn is_played(line: &RawLine) -> bool
-    ensures { result ≡ is_played (Some (line_seen line.now)) }
-{
-    !matches!(line, RawLine::Allot { .. })
 }
 
 // where a script isn't built whose first line that isn't built has this number; `rest` begins with it

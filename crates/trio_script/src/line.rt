@@ -16,8 +16,7 @@ use trio_page::NoMemory;
 pub enum RawLine {
     /// `grant write INO`: a write grant on this file is asked.
     GrantWrite(u32),
-    /// `allot PAGES INODES`: so many pages and inode numbers are asked. Nothing is built for it yet, so
-    /// no script that is read has such a line.
+    /// `allot PAGES INODES`: so many pages and inode numbers are asked.
     Allot {
         pages: u32,
         inodes: u32,

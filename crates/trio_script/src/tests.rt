@@ -15,12 +15,33 @@ fn second_line(alloc: Global, line: &[u8]) -> Result<Result<Vec<ScriptLine>, Scr
 fn lines_are_read(rt: HostRuntime) -> Result<(), Fail> {
     let alloc = rt.alloc();
     let none = || Vec::new(alloc);
-    let rows: [(&[u8], RawLine); 9] = [
+    let rows: [(&[u8], RawLine); 12] = [
         (b"grant write 2", RawLine::GrantWrite(2)),
         (b"grant write 0\n", RawLine::GrantWrite(0)),
         (
             b"grant write 4294967295",
             RawLine::GrantWrite(4_294_967_295),
+        ),
+        (
+            b"allot 1 0",
+            RawLine::Allot {
+                pages: 1,
+                inodes: 0,
+            },
+        ),
+        (
+            b"allot 0 64\n",
+            RawLine::Allot {
+                pages: 0,
+                inodes: 64,
+            },
+        ),
+        (
+            b"allot 4294967295 3",
+            RawLine::Allot {
+                pages: 4_294_967_295,
+                inodes: 3,
+            },
         ),
         (
             b"poke body 5 16 00ff",
@@ -81,7 +102,7 @@ fn lines_are_read(rt: HostRuntime) -> Result<(), Fail> {
 /// Lines that have none of the forms.
 #[test]
 fn other_lines_are_unbuilt(rt: HostRuntime) -> Result<(), Fail> {
-    let rows: [&[u8]; 40] = [
+    let rows: [&[u8]; 46] = [
         b"grant",
         b"grant write",
         b"grant write 02",
@@ -99,8 +120,14 @@ fn other_lines_are_unbuilt(rt: HostRuntime) -> Result<(), Fail> {
         b" grant write 2",
         b"grant read 2",
         b"Grant write 2",
+        b"allot",
         b"allot 1",
+        b"allot 1 ",
         b"allot 1 -",
+        b"allot 01 2",
+        b"allot 1 02",
+        b"allot 4294967296 0",
+        b"allot 1,2 3",
         b"allot 1 2 3",
         b"poke body 2 0",
         b"poke body 2 0 ",
@@ -126,26 +153,6 @@ fn other_lines_are_unbuilt(rt: HostRuntime) -> Result<(), Fail> {
     for text in rows {
         let wanted = Some(ScriptFault::Unbuilt(2));
         assert_eq!(rt; second_line(rt.alloc(), text)?.err(), wanted, "at {text:?}");
-    }
-    Ok(())
-}
-
-/// An allotment isn't built, as any other line that isn't: the first of them is told.
-#[test]
-fn allotments_are_unbuilt(rt: HostRuntime) -> Result<(), Fail> {
-    let rows: [(&[u8], u32); 5] = [
-        (b"lib 1 raw 0 0\nallot 3 0", 2),
-        (
-            b"lib 1 raw 0 0\ngrant write 2\nallot 1 0\n#\ngrant read 2\n",
-            3,
-        ),
-        (b"lib 1 raw 0 0\ngrant read 2\nallot 1 0\n", 2),
-        (b"allot 1 0\nlib 1 raw 0 0\n", 1),
-        (b"\nallot 1 0\n", 1),
-    ];
-    for (script, line) in rows {
-        let wanted = Err(ScriptFault::Unbuilt(line));
-        assert_eq!(rt; read_script(rt.alloc(), script), wanted, "at {script:?}");
     }
     Ok(())
 }
@@ -200,7 +207,7 @@ fn lines_are_numbered(rt: HostRuntime) -> Result<(), Fail> {
 /// Scripts, and the number of the line that isn't built, or 0.
 #[test]
 fn scripts_are_read(rt: HostRuntime) {
-    let rows: [(&[u8], u32); 19] = [
+    let rows: [(&[u8], u32); 21] = [
         (b"", 1),
         (b"\n", 1),
         (b"# lib 1 raw 0 0\n#\n", 1),
@@ -213,6 +220,8 @@ fn scripts_are_read(rt: HostRuntime) {
         (b"lib 1 raw 0 0\n\ngrant write 2\nsettle\n", 4),
         (b"#\nsettle\nlib 1 raw 0 0\n", 2),
         (b"#\nsettle\nstat /\n", 1),
+        (b"#\nallot 1 0\nlib 1 raw 0 0\n", 2),
+        (b"#\nallot 1 0\n", 1),
         (b"\n\nlib 1 honest 0 0\n", 3),
         (b"\nlib 1 raw 0 0 \n", 2),
         (b"\nlib 1 raw 0 0\r\n", 2),
