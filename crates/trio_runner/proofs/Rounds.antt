@@ -1,8 +1,7 @@
 -- Lines that are played one after another.
-use Rattle.std.proofs.Common.{◌≡◌, ℕ, suc, ◌+◌, ◌<◌, ◌≤◌, List, [], ◌∷◌, ◌++◌, length, map, take, get_or, sym, refl, ap, ◌∙◌, subst, inl, inr, arith}
+use Rattle.std.proofs.Common.{◌≡◌, ℕ, suc, ◌+◌, ◌<◌, ◌≤◌, List, [], ◌∷◌, ◌++◌, length, map, take, get_or, sym, refl, ap, ◌∙◌, subst, arith}
 use Rattle.std.proofs.Math.Seq.{take-suc}
 use Rattle.std.proofs.lemmas.List.{append_assoc, append-nil, map-append}
-use Rattle.trio_layout.specs.Lists.{In}
 use Rattle.trio_rights.specs.declared.rights.LibNo.{LibNo}
 use Rattle.trio_rights.specs.declared.rights.Creds.{Creds}
 use Rattle.trio_state.specs.State.{State}
@@ -16,11 +15,7 @@ use Rattle.trio_report.specs.declared.report.EndAnswer.{EndAnswer}
 use Rattle.trio_ctl.specs.Ctl.{IsLibrary}
 use Rattle.trio_runner.specs.Play.{Player, Moved, Plays, PlaysEnd, PlaysLine, at_start}
 use Rattle.trio_runner.specs.PlayLaws.{Stands}
-use Rattle.std.specs.Prelude.{Result, Err, IfErr}
-use Rattle.std.proofs.Common.{zero}
-use Rattle.trio_runner.specs.declared.player.PlayFault.{PlayFault}
-use Rattle.trio_runner.specs.declared.player.PlayFault.TheVariants.{Unbuilt, NoMemory}
-use Rattle.trio_runner.specs.Seen.{EndPlayed, FaultNames, IsReady, LinePlayed, LinesPlayed, ScriptPlayed, player}
+use Rattle.trio_runner.specs.Seen.{EndPlayed, IsReady, LinePlayed, LinesPlayed, ScriptPlayed, player}
 use Rattle.trio_runner.proofs.Creds.{step_creds}
 use Rattle.trio_runner.proofs.Lines.{IsAlone, IsAsked, line_end, line_stands}
 use Rattle.trio_runner.proofs.Runs.{plays_more}
@@ -69,25 +64,6 @@ one_more lines line s h before s' h' after answer s'' h'' ls l =
       lib = l.lib ∙ ls.lib;
       ready = ready_after line.said (answer_seen answer) s' h' s'' h'' ls.ready l;
     }
-
--- each line is among the lines
-line_among : (lines : List SaidLine) (i : ℕ) (line : SaidLine) → i < length lines → get_or lines i line ≡ line → In line lines
-line_among [] i line lt e = absurd (omega (arith, lt))
-line_among (l ∷ lines) zero line lt e = inl (sym e)
-line_among (l ∷ lines) (suc i) line lt e = inr (line_among lines i line (omega (arith, lt)) e)
-
-line_fault : (lines : List SaidLine) (line : SaidLine) (fault : PlayFault) → In line lines → FaultNames (line ∷ []) fault → FaultNames lines fault
-line_fault lines line (Unbuilt n) i names =
-    elim names.1 [
-      | inl same ↦ (names.0, subst (λ l. In l lines) (sym same) i, names.2, names.3)
-      | inr none ↦ absurd none
-    ]
-line_fault lines line NoMemory i names = tt
-
--- a fault of the line at a place, as it is answered
-pub fault_at : (lines : List SaidLine) (i : ℕ) (line : SaidLine) (fault fault' : PlayFault) (result : Result (Unit {0}) PlayFault) → i < length lines → get_or lines i line ≡ line → FaultNames (line ∷ []) fault → fault' ≡ fault → result ≡ Err fault' → IfErr result (FaultNames lines)
-fault_at lines i line fault fault' result lt at names same is =
-    rw (is, same) (line_fault lines line fault (line_among lines i line lt at) names)
 
 -- the lines up to a place and the one there
 pub take_line : (lines : List SaidLine) (i : ℕ) (line : SaidLine) → i < length lines → get_or lines i line ≡ line → take (i + 1) lines ≡ take i lines ++ line ∷ []

@@ -1,6 +1,6 @@
 -- What each call of a turn comes to.
-use Rattle.std.proofs.Common.{◌≡◌, ℕ, Bool, true, not, ◌&&◌, eqb, List, [], ◌∷◌, map, Some, None, sym, refl, ap, ◌∙◌, subst, inl, inr}
-use Rattle.std.specs.Prelude.{IsTrue, IsFalse, IfOk, Result, Ok, Err, if◌then◌else◌}
+use Rattle.std.proofs.Common.{◌≡◌, ℕ, Bool, true, not, ◌&&◌, eqb, List, [], ◌∷◌, ◌++◌, map, Some, None, sym, refl, ap, ◌∙◌, subst, inl, inr}
+use Rattle.std.specs.Prelude.{IsTrue, IsFalse, IfOk, OnOk, Result, Ok, Err, if◌then◌else◌}
 use Rattle.std.specs.List.{filter}
 use Rattle.std.specs.Option.{ForSome}
 use Rattle.std.proofs.lemmas.Bool.{cases_Bool, and_parts, eqb-true}
@@ -9,27 +9,32 @@ use Rattle.trio_nodes.specs.declared.grant.GrantKind.{GrantKind}
 use Rattle.trio_nodes.specs.declared.grant.GrantKind.TheVariants.{Read, Write, Hold}
 use Rattle.trio_nodes.specs.declared.answers.GrantFault.{GrantFault}
 use Rattle.trio_nodes.specs.declared.answers.GrantFault.TheVariants.{NotLive, Denied, NoParent, Busy, NoMemory as NoGrantMemory}
+use Rattle.trio_nodes.specs.declared.answers.AllotFault.{AllotFault}
+use Rattle.trio_nodes.specs.declared.answers.AllotFault.TheVariants.{NoPages as TooFewPages, NoInodes as TooFewInodes, NoMemory as NoAllotMemory}
 use Rattle.trio_layout.specs.Lists.{In, is_among}
+use Rattle.trio_lease.specs.declared.parts.FreshParts.{FreshParts}
+use Rattle.trio_lease.specs.declared.parts.InoParts.{InoParts}
 use Rattle.trio_lease.specs.Shown.{LentFile}
+use Rattle.trio_allot.specs.Out.{fresh_page, inode_numbers, page_numbers}
 use Rattle.trio_state.specs.Sheets.{Sheet}
-use Rattle.trio_state.specs.Handed.{lent_sheet}
+use Rattle.trio_state.specs.Handed.{fresh_sheet, lent_sheet}
 use Rattle.trio_state.specs.Image.{row_at}
 use Rattle.trio_state.specs.State.{OpenGrant, State}
 use Rattle.trio_state.specs.Proposed.{Bundle, Written}
 use Rattle.trio_state.specs.Given.{GivenTo}
 use Rattle.trio_state.specs.Grants.{opened}
 use Rattle.trio_state.specs.Bundles.{is_hold, is_parted, is_parent_written, lowest, parted_hold}
-use Rattle.trio_state.specs.Step.{Event, Grant, Release, Answer, Granted, Accepted, Refused, NotClosed, NoMemory, Step}
+use Rattle.trio_state.specs.Step.{Event, Allot, Grant, Release, Answer, Given, Granted, Accepted, Refused, NotClosed, NoMemory, Step}
 use Rattle.trio_laws.proofs.Releases.{Parted, IsAccepted, IsRefused, release_end}
 use Rattle.trio_raw.specs.Has.{nothing, has_all_of, bundle_of, rest_of, whole_bundle, is_nothing}
 use Rattle.trio_raw.specs.Held.{Held, file_of}
-use Rattle.trio_raw.specs.Laws.{lent_file, with_lent}
+use Rattle.trio_raw.specs.Laws.{lent_file, with_lent, zero_sheet}
 use Rattle.trio_raw.proofs.InHand.{taken_was_given, all_was_given}
 use Rattle.trio_raw.proofs.Steps.{granted_is_in_hand}
-use Rattle.trio_script.specs.Said.{grant_write, release}
-use Rattle.trio_report.specs.Answers.{Answer as Told, granted, accepted, refused}
+use Rattle.trio_script.specs.Said.{allot, grant_write, release}
+use Rattle.trio_report.specs.Answers.{Answer as Told, granted, allotted, accepted, refused}
 use Rattle.trio_report.specs.declared.report.EndAnswer.{EndAnswer}
-use Rattle.trio_ctl.specs.Answers.{grant_fault_answer}
+use Rattle.trio_ctl.specs.Answers.{allot_fault_answer, grant_fault_answer}
 use Rattle.trio_ctl.specs.Open.{lease_of, untouched}
 use Rattle.trio_runner.specs.Play.{Moved, Asks, EndsAll, end_of, has_after, has_lent, told_fault, told_of}
 use Rattle.trio_runner.specs.PlayLaws.{HasNoHold}
@@ -175,10 +180,46 @@ fault_played ino fault told s h s' h' is step has lib =
     same (Busy holder) = refl
     same NoGrantMemory = refl
 
+-- ---- allotments
+
+-- allotted pages are all zero
+fresh_sheets : (lib : LibNo) (ns : List ℕ) → map fresh_sheet (map (fresh_page lib) ns) ≡ map zero_sheet ns
+fresh_sheets lib [] = refl
+fresh_sheets lib (n ∷ ns) = ap (λ xs. zero_sheet n ∷ xs) (fresh_sheets lib ns)
+
+pub allotted_played : (wanted many : ℕ) (ps : List FreshParts) (ns : List InoParts) (told : Told) (s : State) (h : Held) (s' : State) (h' : Held) → told ≡ allotted (page_numbers ps) (inode_numbers ns) → Step s (Allot h.lib.0 wanted many) (Given (page_numbers ps) (inode_numbers ns)) s' → ps ≡ map (fresh_page h.lib) (page_numbers ps) → h'.has ≡ record h.has { pages = h.has.pages ++ map fresh_sheet ps; numbers = h.has.numbers ++ inode_numbers ns } → h'.lib ≡ h.lib → LinePlayed (allot wanted many) told s h s' h'
+allotted_played wanted many ps ns told s h s' h' is step fresh has lib =
+    let zero : map fresh_sheet ps ≡ map zero_sheet (page_numbers ps) = ap (map fresh_sheet) fresh ∙ fresh_sheets h.lib (page_numbers ps) in
+    record {
+      moves = _;
+      line = record {
+        answer = Given (page_numbers ps) (inode_numbers ns);
+        told_is = ap Some (sym is);
+        step = step;
+        moves_are = refl;
+        has = has ∙ ap (λ (xs : List Sheet). record h.has { pages = h.has.pages ++ xs; numbers = h.has.numbers ++ inode_numbers ns }) zero;
+      };
+      lib = lib;
+    }
+
+pub unallotted_played : (wanted many : ℕ) (fault : AllotFault) (told : Told) (s : State) (h : Held) (s' : State) → told_of (allot_fault_answer fault) ≡ Some told → Step s (Allot h.lib.0 wanted many) (allot_fault_answer fault) s' → LinePlayed (allot wanted many) told s h s' h
+unallotted_played wanted many fault told s h s' is step =
+    record { moves = _; line = record { answer = allot_fault_answer fault; told_is = is; step = step; moves_are = refl; has = sym (same fault) }; lib = refl }
+  where
+    same : (f : AllotFault) → has_after h.lib.0 s h.has (allot wanted many) (allot_fault_answer f) ≡ h.has
+    same (TooFewPages wanted free) = refl
+    same (TooFewInodes wanted free) = refl
+    same NoAllotMemory = refl
+
 -- what follows of each answer
 pub if_ok : {T E : Type 0} (r : Result T E) (P Q : T → Type 0) → ((x : T) → P x → Q x) → IfOk r P → IfOk r Q
 if_ok (Ok x) P Q f h = f x h
 if_ok (Err e) P Q f h = h
+
+-- and of what stands beside it
+pub if_both_ok : {T E : Type 0} (r : Result T E) (P : T → Type 0) (A : Type 0) (Q : T → Type 0) → ((x : T) → P x → A → Q x) → IfOk r P → OnOk r A → IfOk r Q
+if_both_ok (Ok x) P A Q f h k = f x h k
+if_both_ok (Err e) P A Q f h k = h
 
 -- the step of a verdict, by the library and the verdict that are known
 pub verdict_step : (s s' : State) (lib lib' : LibNo) (b : Bundle) (answer verdict : Bool) → lib ≡ lib' → answer ≡ verdict → Step s (Release lib.0 b) (if answer then Accepted else Refused) s' → Step s (Release lib'.0 b) (if verdict then Accepted else Refused) s'

@@ -1,18 +1,15 @@
 -- What contracts see of a script that is played.
-use Rattle.std.specs.Prelude.{◌≡◌, List, map, ◌++◌, IsFalse, ⊤}
-use Rattle.trio_layout.specs.Lists.{In}
+use Rattle.std.specs.Prelude.{◌≡◌, List, map, ◌++◌}
 use Rattle.trio_rights.specs.declared.rights.Creds.{Creds}
 use Rattle.trio_state.specs.Image.{Image}
 use Rattle.trio_state.specs.State.{State}
 use Rattle.trio_raw.specs.Held.{Held}
 use Rattle.trio_script.specs.Said.{Said}
-use Rattle.trio_script.specs.Script.{SaidLine, is_no_allotment}
+use Rattle.trio_script.specs.Script.{SaidLine}
 use Rattle.trio_report.specs.Answers.{Answer as Told}
 use Rattle.trio_report.specs.Seen.{answer_seen}
 use Rattle.trio_report.specs.declared.answer.LineAnswer.{LineAnswer}
 use Rattle.trio_report.specs.declared.report.EndAnswer.{EndAnswer}
-use Rattle.trio_runner.specs.declared.player.PlayFault.{PlayFault}
-use Rattle.trio_runner.specs.declared.player.PlayFault.TheVariants.{Unbuilt, NoMemory}
 use Rattle.trio_ctl.specs.Ctl.{IsLibrary}
 use Rattle.trio_runner.specs.Play.{Player, Moved, PlaysLine, Plays, PlaysEnd, Played}
 use Rattle.trio_runner.specs.PlayLaws.{Stands}
@@ -52,8 +49,3 @@ pub record ScriptPlayed (image : Image) (creds : List Creds) (lines : List SaidL
   pub told : map answer_seen after ≡ map answer_seen before ++ played.tolds
   pub end : played.end ≡ told_end
   pub last : played.last.state ≡ s'
-
--- a line for which nothing is built yet asks for an allotment
-abbrev pub FaultNames : List SaidLine → PlayFault → Type 0
-FaultNames lines (Unbuilt number) = (line : SaidLine) × In line lines × (line.number ≡ number) × IsFalse (is_no_allotment line)
-FaultNames lines NoMemory = ⊤

@@ -10,4 +10,4 @@ mod player;
 #[cfg(test)]
 mod tests;
 
-pub use player::{PlayFault, play};
+pub use player::play;

@@ -1,66 +1,49 @@
 //! A library's lines, played.
 
-ghost use Rattle.std.specs.Prelude.{◌≡◌, ◌≤◌, ◌∷◌, ◌++◌, [], Err, IfErr, IfOk, OnOk, Some, length, map, if◌then◌else◌};
+ghost use Rattle.std.specs.Prelude.{◌≡◌, ◌≤◌, ◌∷◌, ◌++◌, [], IfOk, OnOk, Some, length, map, if◌then◌else◌};
 ghost use Rattle.trio_state.specs.Given.{GivenTo};
-ghost use Rattle.trio_state.specs.Handed.{bundle_in};
+ghost use Rattle.trio_allot.specs.Out.{inode_numbers, page_numbers};
+ghost use Rattle.trio_state.specs.Handed.{bundle_in, fresh_sheet};
 ghost use Rattle.trio_state.specs.Kept.{Kept};
 ghost use Rattle.trio_state.specs.Run.{start};
 ghost use Rattle.trio_state.specs.Step.{Accepted, Refused, Release, Step};
 ghost use Rattle.trio_raw.specs.Held.{HasPlaces, file_of};
 ghost use Rattle.trio_raw.specs.Laws.{with_lent};
-ghost use Rattle.trio_script.specs.Said.{grant_write, poke, release};
+ghost use Rattle.trio_script.specs.Said.{allot, grant_write, poke, release};
 ghost use Rattle.trio_script.specs.Seen.{line_seen, script_line_seen};
+ghost use Rattle.trio_report.specs.Answers.{allotted};
 ghost use Rattle.trio_report.specs.Seen.{answer_seen};
+ghost use Rattle.trio_ctl.specs.Answers.{allot_fault_answer};
 ghost use Rattle.trio_ctl.specs.Ctl.{IsLibrary};
-ghost use Rattle.trio_runner.specs.Play.{at_start, has_alone, told_alone, told_fault};
+ghost use Rattle.trio_runner.specs.Play.{at_start, has_alone, told_alone, told_fault, told_of};
 ghost use Rattle.trio_runner.specs.PlayLaws.{HasNoHold};
-ghost use Rattle.trio_runner.specs.Seen.{EndPlayed, FaultNames, IsReady, LinePlayed, LinesPlayed, ScriptPlayed, player};
+ghost use Rattle.trio_runner.specs.Seen.{EndPlayed, IsReady, LinePlayed, LinesPlayed, ScriptPlayed, player};
 
 use std::alloc::Global;
 use trio_ctl::Ctl;
-use trio_lease::{Bundle, WriteLease};
-use trio_nodes::{GrantFault, ReleaseAnswer, ReleaseFault, Spot};
+use trio_lease::{Allotted, Bundle, FreshIno, FreshPage, WriteLease};
+use trio_nodes::{AllotFault, GrantFault, ReleaseAnswer, ReleaseFault, Spot};
 use trio_page::{NoMemory, Reads};
 use trio_raw::{Raw, RawFault};
 use trio_report::{EndAnswer, LineAnswer};
 use trio_rights::LibNo;
 use trio_script::{RawLine, ScriptLine};
 
-/// Why a script was not played to its end.
-#[derive(Clone, Copy, Debug, PartialEq, Eq)]
-pub enum PlayFault {
-    /// The line of this number asks for an allotment, for which nothing is built yet.
-    Unbuilt(u32),
-    /// Want of memory.
-    NoMemory,
-}
-
-impl From<NoMemory> for PlayFault {
-    ghost use Rattle.trio_runner.specs.declared.player.PlayFault.TheVariants.{NoMemory as NoPlayMemory};
-
-    ghost from_gives = { λ _ e. e ≡ NoPlayMemory };
-
-    fn from(_e: NoMemory) -> PlayFault {
-        PlayFault::NoMemory
-    }
-}
-
 /// Plays the lines of library 1, one after another, and then ends it: what it still has is released
 /// in one bundle. The answers of the lines are added behind those that stand there, and the result
 /// is what the end is answered.
 ///
-/// On an error what the library had stays out for good, and some answers may have been added.
+/// On want of memory what the library had stays out for good, and some answers may have been added.
 pub fn play(
     alloc: Global,
     ctl: &mut Ctl,
     lines: &[ScriptLine],
     answers: &mut Vec<LineAnswer>,
-) -> Result<EndAnswer, PlayFault>
+) -> Result<EndAnswer, NoMemory>
     requires kept { Kept ctl.old }
     requires library { 1 ≤ length ctl.old.creds }
     requires at_start { ctl.old ≡ start ctl.old.home ctl.old.creds }
-    ensures played { IfOk result (λ end. ScriptPlayed ctl.old.home ctl.old.creds (map script_line_seen lines.now) answers.old.items answers.new.items end ctl.new) }
-    ensures unbuilt { IfErr result (FaultNames (map script_line_seen lines.now)) }
+    ensures { IfOk result (λ end. ScriptPlayed ctl.old.home ctl.old.creds (map script_line_seen lines.now) answers.old.items answers.new.items end ctl.new) }
 {
     let mut raw = Raw::new(alloc, LibNo(1));
     let played = play_all(alloc, ctl, &mut raw, lines, answers);
@@ -75,15 +58,14 @@ fn play_all(
     raw: &mut Raw,
     lines: &[ScriptLine],
     answers: &mut Vec<LineAnswer>,
-) -> Result<EndAnswer, PlayFault>
+) -> Result<EndAnswer, NoMemory>
     requires ready { IsReady ctl.old raw.old }
     requires first { raw.old.lib.0 ≡ 1 }
     requires at_start { player ctl.old raw.old ≡ at_start ctl.old.home ctl.old.creds }
-    ensures played { IfOk result (λ end. ScriptPlayed ctl.old.home ctl.old.creds (map script_line_seen lines.now) answers.old.items answers.new.items end ctl.new) }
-    ensures unbuilt { IfErr result (FaultNames (map script_line_seen lines.now)) }
+    ensures { IfOk result (λ end. ScriptPlayed ctl.old.home ctl.old.creds (map script_line_seen lines.now) answers.old.items answers.new.items end ctl.new) }
 {
     play_lines(alloc, ctl, raw, lines, answers)?;
-    Ok(play_end(alloc, ctl, raw)?)
+    play_end(alloc, ctl, raw)
 }
 
 /// Plays lines one after another.
@@ -93,16 +75,13 @@ fn play_lines(
     raw: &mut Raw,
     lines: &[ScriptLine],
     answers: &mut Vec<LineAnswer>,
-) -> Result<(), PlayFault>
+) -> Result<(), NoMemory>
     requires { IsReady ctl.old raw.old }
-    ensures played { OnOk result (LinesPlayed (map script_line_seen lines.now) ctl.old raw.old answers.old.items ctl.new raw.new answers.new.items) }
-    ensures unbuilt { IfErr result (FaultNames (map script_line_seen lines.now)) }
+    ensures { OnOk result (LinesPlayed (map script_line_seen lines.now) ctl.old raw.old answers.old.items ctl.new raw.new answers.new.items) }
 {
     for line in lines {
-        let answer = play_line(alloc, ctl, raw, line)?;
-        if answers.push(answer).is_err() {
-            return Err(PlayFault::NoMemory);
-        }
+        let answer = play_line(alloc, ctl, raw, &line.line)?;
+        answers.push(answer)?;
     }
     Ok(())
 }
@@ -112,21 +91,20 @@ fn play_line(
     alloc: Global,
     ctl: &mut Ctl,
     raw: &mut Raw,
-    line: &ScriptLine,
-) -> Result<LineAnswer, PlayFault>
+    line: &RawLine,
+) -> Result<LineAnswer, NoMemory>
     requires { IsReady ctl.old raw.old }
-    ensures played { IfOk result (λ answer. LinePlayed (line_seen line.now.line) (answer_seen answer) ctl.old raw.old ctl.new raw.new) }
-    ensures unbuilt { IfErr result (FaultNames (script_line_seen line.now ∷ [])) }
+    ensures { IfOk result (λ answer. LinePlayed (line_seen line.now) (answer_seen answer) ctl.old raw.old ctl.new raw.new) }
 {
-    match &line.line {
-        RawLine::GrantWrite(ino) => Ok(play_grant(alloc, ctl, raw, *ino)?),
-        RawLine::Allot { .. } => Err(PlayFault::Unbuilt(line.number)),
+    match line {
+        RawLine::GrantWrite(ino) => play_grant(alloc, ctl, raw, *ino),
+        RawLine::Allot { pages, inodes } => play_allot(alloc, ctl, raw, *pages, *inodes),
         RawLine::Poke { at, offset, bytes } => Ok(play_poke(raw, *at, *offset, bytes)),
         RawLine::Release {
             inos,
             pages,
             inodes,
-        } => Ok(play_release(alloc, ctl, raw, inos, pages, inodes)?),
+        } => play_release(alloc, ctl, raw, inos, pages, inodes),
     }
 }
 
@@ -167,6 +145,79 @@ fn fault_answer(fault: GrantFault) -> Result<LineAnswer, NoMemory>
         GrantFault::NoParent => Ok(LineAnswer::NoParent),
         GrantFault::Busy(_) => Ok(LineAnswer::Busy),
         GrantFault::NoMemory => Err(NoMemory),
+    }
+}
+
+/// Asks for pages and inode numbers, and keeps what is given. Any numbers may be asked, so room is
+/// made for what is given alone.
+fn play_allot(
+    alloc: Global,
+    ctl: &mut Ctl,
+    raw: &mut Raw,
+    pages: u32,
+    inodes: u32,
+) -> Result<LineAnswer, NoMemory>
+    requires { IsReady ctl.old raw.old }
+    ensures { IfOk result (λ answer. LinePlayed (allot pages inodes) (answer_seen answer) ctl.old raw.old ctl.new raw.new) }
+{
+    match ctl.allot(raw.lib(), pages, inodes) {
+        Ok(given) => keep_allotted(alloc, raw, given),
+        Err(fault) => want_answer(fault),
+    }
+}
+
+/// Adds what an allotment gave, and tells its numbers. After want of memory it is let go.
+fn keep_allotted(alloc: Global, raw: &mut Raw, given: Allotted) -> Result<LineAnswer, NoMemory>
+    ensures told { IfOk result (λ answer. answer_seen answer ≡ allotted (page_numbers given.pages.items) (inode_numbers given.inodes.items)) }
+    ensures has { OnOk result (raw.new.has ≡ record raw.old.has { pages = raw.old.has.pages ++ map fresh_sheet given.pages.items; numbers = raw.old.has.numbers ++ inode_numbers given.inodes.items }) }
+    ensures lib { raw.new.lib ≡ raw.old.lib }
+{
+    let answer = match allotted_answer(alloc, &given) {
+        Ok(answer) => answer,
+        Err(fault) => {
+            given.discard();
+            return Err(fault);
+        }
+    };
+    match raw.add_allotted(given) {
+        Ok(()) => Ok(answer),
+        Err((given, fault)) => {
+            given.discard();
+            Err(fault)
+        }
+    }
+}
+
+/// The answer that tells the numbers of what an allotment gave.
+fn allotted_answer(alloc: Global, given: &Allotted) -> Result<LineAnswer, NoMemory>
+    ensures { IfOk result (λ answer. answer_seen answer ≡ allotted (page_numbers given.now.pages.items) (inode_numbers given.now.inodes.items)) }
+{
+    Ok(LineAnswer::Allotted {
+        pages: numbers_of_pages(alloc, &given.pages)?,
+        inodes: numbers_of_inodes(alloc, &given.inodes)?,
+    })
+}
+
+fn numbers_of_pages(alloc: Global, pages: &[FreshPage]) -> Result<Vec<u32>, NoMemory>
+    ensures { IfOk result (λ numbers. numbers.items ≡ page_numbers pages.now) }
+{
+    pages.iter().map(|page| page.no().0).collect(alloc)
+}
+
+fn numbers_of_inodes(alloc: Global, inodes: &[FreshIno]) -> Result<Vec<u32>, NoMemory>
+    ensures { IfOk result (λ numbers. numbers.items ≡ inode_numbers inodes.now) }
+{
+    inodes.iter().map(|ino| ino.no()).collect(alloc)
+}
+
+/// How a line is answered that wants more than is free. Want of memory is no answer.
+fn want_answer(fault: AllotFault) -> Result<LineAnswer, NoMemory>
+    ensures { IfOk result (λ answer. told_of (allot_fault_answer fault) ≡ Some (answer_seen answer)) }
+{
+    match fault {
+        AllotFault::NoPages { wanted, free } => Ok(LineAnswer::NoPages { wanted, free }),
+        AllotFault::NoInodes { wanted, free } => Ok(LineAnswer::NoInodes { wanted, free }),
+        AllotFault::NoMemory => Err(NoMemory),
     }
 }
 

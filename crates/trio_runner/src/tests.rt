@@ -8,10 +8,11 @@ use std::alloc::Global;
 use std::test::Fail;
 use trio_ctl::Ctl;
 use trio_image::{bytes_of, read};
+use trio_page::NoMemory;
 use trio_page::field::{put_bytes_in, put_u32_in};
 use trio_report::{EndAnswer, LineAnswer};
 use trio_rights::Creds;
-use trio_script::{RawLine, ScriptLine, read_script};
+use trio_script::read_script;
 
 /// Where the block of `f` begins in the image.
 const BLOCK: usize = 24_576;
@@ -67,23 +68,18 @@ fn image_bytes(alloc: Global) -> Option<Vec<u8>>
 #[derive(Drop)]
 struct Told {
     answers: Vec<LineAnswer>,
-    end: Result<EndAnswer, PlayFault>,
+    end: Result<EndAnswer, NoMemory>,
     image: Option<Vec<u8>>,
 }
 
-// plays a script on an image
+// plays a script on an image, for a library of uid and gid 5
 fn play_script(alloc: Global, bytes: &[u8], script: &[u8]) -> Option<Told> {
     let lines = read_script(alloc, script).ok()?;
-    play_on(alloc, bytes, &lines)
-}
-
-// plays lines on an image, for a library of uid and gid 5
-fn play_on(alloc: Global, bytes: &[u8], lines: &[ScriptLine]) -> Option<Told> {
     let image = read(alloc, bytes).ok()?;
     let creds = vec![in alloc; Creds { uid: 5, gid: 5 }].ok()?;
     let mut ctl = Ctl::start(alloc, image, creds).ok()?;
     let mut answers = Vec::new(alloc);
-    let end = play(alloc, &mut ctl, lines, &mut answers);
+    let end = play(alloc, &mut ctl, &lines, &mut answers);
     let image = match ctl.image(alloc) {
         Ok(mut image) => bytes_of(alloc, &mut image).ok(),
         Err(_) => None,
@@ -158,27 +154,37 @@ fn an_end_is_refused(rt: HostRuntime) -> Result<(), Fail> {
     Ok(())
 }
 
-/// A line that asks for an allotment stops the script. What was lent stays out.
+/// The lowest free pages and inode numbers are told and kept, and what is handed in is free again.
 #[test]
-fn an_allotment_is_not_built(rt: HostRuntime) -> Result<(), Fail> {
+fn allotments_are_answered(rt: HostRuntime) -> Result<(), Fail> {
     let alloc = rt.alloc();
     let bytes = image_bytes(alloc).ok_or("memory")?;
-    let lines = vec![in alloc;
-        ScriptLine {
-            number: 2,
-            line: RawLine::GrantWrite(2),
+    let script =
+        b"lib 1 raw 0 0\nallot 2 1\npoke fresh 8 0 61\nrelease - 8 3\npoke fresh 8 0 61\nallot 2 0\nallot 24 0\nallot 0 4294967295\n";
+    let told = play_script(alloc, &bytes, script).ok_or("a script")?;
+    let wanted = [
+        LineAnswer::Allotted {
+            pages: vec![in alloc; 7, 8]?,
+            inodes: vec![in alloc; 3]?,
         },
-        ScriptLine {
-            number: 4,
-            line: RawLine::Allot {
-                pages: 1,
-                inodes: 0,
-            },
+        LineAnswer::Poked,
+        LineAnswer::Accepted,
+        LineAnswer::Absent,
+        LineAnswer::Allotted {
+            pages: vec![in alloc; 8, 9]?,
+            inodes: Vec::new(alloc),
         },
-    ]?;
-    let told = play_on(alloc, &bytes, &lines).ok_or("a script")?;
-    assert!(rt; told.answers.as_slice() == [LineAnswer::Granted].as_slice());
-    assert!(rt; told.end == Err(PlayFault::Unbuilt(4)));
-    assert!(rt; told.image.is_none());
+        LineAnswer::NoPages {
+            wanted: 24,
+            free: 22,
+        },
+        LineAnswer::NoInodes {
+            wanted: 4_294_967_295,
+            free: 62,
+        },
+    ];
+    assert!(rt; told.answers.as_slice() == wanted.as_slice());
+    assert!(rt; told.end == Ok(EndAnswer::Accepted));
+    assert!(rt; told.image == Some(bytes));
     Ok(())
 }

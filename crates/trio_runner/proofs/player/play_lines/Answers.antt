@@ -1,23 +1,12 @@
 use Rattle.std.proofs.Common.{◌≡◌, ◌<◌, List, ◌++◌, ◌∷◌, ◌∙◌, [], ap, get_or, length, map, take, rules, subst, sym, arith}
 use Rattle.std.proofs.Math.ListN.{get_or-map}
 use Rattle.std.proofs.lemmas.List.{length-map}
-use Rattle.std.proofs.lemmas.Result.{err_from_is_err_and}
 use Rattle.trio_report.specs.declared.answer.LineAnswer.{LineAnswer}
 use Rattle.trio_script.specs.Script.{SaidLine}
 use Rattle.trio_script.specs.Seen.{script_line_seen}
 use Rattle.trio_runner.specs.Seen.{LinesPlayed}
-use Rattle.trio_runner.proofs.Rounds.{fault_at, one_more, take_line}
+use Rattle.trio_runner.proofs.Rounds.{one_more, take_line}
 use Rattle.trio_runner.proofs.player.play_lines.Goals as goal
-
-pub returns-in_err-answer-clause-unbuilt : goal.returns-in_err-answer-clause-unbuilt
-returns-in_err-answer-clause-unbuilt c =
-    let p = err_from_is_err_and c.from_residual.result c.from_residual.ensures.1 in
-    let lines = c.args.lines.now in
-    let i = c.loop-line.line-index in
-    let line = c.line-item.result in
-    let within : i < length (map script_line_seen lines) = omega (arith, length-map lines script_line_seen) in
-    let at : get_or (map script_line_seen lines) i (script_line_seen line) ≡ script_line_seen line = get_or-map script_line_seen lines i line ∙ ap script_line_seen (sym c.line-item.is) in
-    fault_at (map script_line_seen lines) i (script_line_seen line) c.in_err-answer.field-0.0 p.0 c.from_residual.result within at c.in_err-answer.ensures.unbuilt p.2 p.1
 
 pub loop-line-preserved : goal.loop-line-preserved
 loop-line-preserved c =
@@ -38,6 +27,6 @@ loop-line-preserved c =
     let within : i < length lines = omega (arith, length-map c.args.lines.now script_line_seen) in
     let at : get_or lines i said ≡ said = get_or-map script_line_seen c.args.lines.now i line ∙ ap script_line_seen (sym c.line-item.is) in
     let pushed : c.push.new.self.items ≡ after ++ answer ∷ [] = search rules in
-    let more = one_more (take i lines) said s h before s' h' after answer s'' h'' turn.invariant c.in_ok-answer.ensures.played in
+    let more = one_more (take i lines) said s h before s' h' after answer s'' h'' turn.invariant c.in_ok-answer.ensures in
     subst (λ (ls : List SaidLine). LinesPlayed ls s h before s'' h'' c.push.new.self.items) (sym (take_line lines i said within at))
     (subst (λ (items : List LineAnswer). LinesPlayed (take i lines ++ said ∷ []) s h before s'' h'' items) (sym pushed) more)
