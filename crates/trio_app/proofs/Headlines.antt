@@ -1,5 +1,5 @@
 -- The claim, of a script that is played on an image that verifies.
-use Rattle.std.proofs.Common.{List, inl, inr, map}
+use Rattle.std.proofs.Common.{◌≡◌, List, [], inl, inr, map}
 use Rattle.std.proofs.lemmas.Bool.{false≢true}
 use Rattle.trio_rights.specs.declared.rights.Creds.{Creds}
 use Rattle.trio_state.specs.Image.{Image, IsFit}
@@ -9,6 +9,7 @@ use Rattle.trio_state.specs.Verifies.{Verifies}
 use Rattle.trio_laws.proofs.StateLaws.{every_release_is_judged}
 use Rattle.trio_script.specs.Script.{SaidLine}
 use Rattle.trio_runner.specs.Play.{Played, moves_of}
+use Rattle.trio_runner.proofs.EndFree.{ends_free}
 use Rattle.trio_runner.proofs.Runs.{played_is_trace, played_keeps}
 use Rattle.trio_app.specs.Headline.{Headline}
 
@@ -33,7 +34,12 @@ headline_of image creds lines played fit verifies whole =
     }
 
 -- the image of a controller that has just started is whole
+started_whole : (image : Image) (creds : List Creds) → Kept (start image creds) → IsWhole image
+started_whole image creds k = λ page gone core. elim (k.absent page gone core) [ inl lent ↦ absurd (false≢true lent) | inr out ↦ absurd (false≢true out) ]
+
 pub headline : (image : Image) (creds : List Creds) (lines : List SaidLine) (played : Played image creds lines) → Kept (start image creds) → Headline image creds (moves_of played)
-headline image creds lines played k =
-    headline_of image creds lines played k.fit k.verifies
-    (λ page gone core. elim (k.absent page gone core) [ inl lent ↦ absurd (false≢true lent) | inr out ↦ absurd (false≢true out) ])
+headline image creds lines played k = headline_of image creds lines played k.fit k.verifies (started_whole image creds k)
+
+-- at its end no page is out
+pub no_page_out : (image : Image) (creds : List Creds) (lines : List SaidLine) (played : Played image creds lines) → Kept (start image creds) → played.last.state.pages_out ≡ []
+no_page_out image creds lines played k = (ends_free image creds lines played k.fit k.verifies (started_whole image creds k)).pages

@@ -42,17 +42,14 @@ pub fn run(alloc: Global, image: Image, lines: &[ScriptLine]) -> Result<RunEnd, 
         Err((_image, fault)) => return Err(fault),
     };
     let mut answers = Vec::new(alloc);
-    // no line that was read asks for what isn't built, so this is want of memory
-    let Ok(end) = play(alloc, &mut ctl, lines, &mut answers) else {
-        return Err(NoMemory);
-    };
+    let end = play(alloc, &mut ctl, lines, &mut answers)?;
     let counts = ctl.counts();
     let counts = Counts {
         inodes: counts.inodes,
         pages: counts.pages,
         free: counts.free,
     };
-    // at a script's end nothing is lent, so this is want of memory
+    // at a script's end nothing is out, so this is want of memory
     let Ok(mut last) = ctl.image(alloc) else {
         return Err(NoMemory);
     };

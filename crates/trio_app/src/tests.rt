@@ -146,7 +146,7 @@ fn each_call_fails(rt: HostRuntime) -> Result<(), Fail> {
 // What doesn't verify or isn't built, with the status and the line. OUT is as before.
 #[test]
 fn inputs_are_judged(rt: HostRuntime) -> Result<(), Fail> {
-    let due: [(usize, &[(usize, u8)], &[u8], u8, &[u8]); 14] = [
+    let due: [(usize, &[(usize, u8)], &[u8], u8, &[u8]); 15] = [
         (0, &[], SCRIPT, 1, b"not verified\n"),
         (4096, &[], SCRIPT, 1, b"not verified\n"),
         (131_071, &[], SCRIPT, 1, b"not verified\n"),
@@ -172,7 +172,15 @@ fn inputs_are_judged(rt: HostRuntime) -> Result<(), Fail> {
         (
             IMAGE_SIZE,
             &[],
-            b"lib 1 raw 0 0\n\nallot 1 0",
+            b"lib 1 raw 0 0\n\nallot 1",
+            8,
+            b"not built line 3\n",
+        ),
+        // a page is named twice
+        (
+            IMAGE_SIZE,
+            &[],
+            b"lib 1 raw 0 0\nallot 1 0\nrelease - 7,7 -\n",
             8,
             b"not built line 3\n",
         ),
@@ -506,6 +514,145 @@ fn directories_are_lent_too(rt: HostRuntime) -> Result<(), Fail> {
         let out = left.files.content("o p").ok_or("an image")?;
         assert_eq!(rt; out.get(32_768), Some(&begins), "{lines}");
     }
+    Ok(())
+}
+
+// The image of `tree_parts` as it is told.
+const TREE: &str =
+    "tree\n0 d 755 0 0 1 /\n1 d 755 0 0 1 a\n2 f 644 0 0 5 f\ninodes 3 pages 6 free 23\n";
+
+// What is allotted and used, the answers, the tree at the end, and a range of OUT that is all zero
+// then.
+#[test]
+fn allotments_are_used(rt: HostRuntime) -> Result<(), Fail> {
+    let grown =
+        "tree\n0 d 755 0 0 1 /\n1 d 755 0 0 1 a\n2 f 644 0 0 4097 f\ninodes 3 pages 7 free 22\n";
+    let rows: [(&str, &str, &str, (usize, usize)); 7] = [
+        // `f` grows onto page 9, which isn't handed in
+        (
+            "allot 1 0\ngrant write 3\npoke index 3 0 8 09\npoke body 3 16 0110\nrelease 3 - -\n",
+            "2 allotted 9 -\n3 granted\n4 poked\n5 poked\n6 refused\nend accepted\n",
+            TREE,
+            (36_864, 40_960),
+        ),
+        // and which is
+        (
+            "allot 1 0\ngrant write 3\npoke index 3 0 8 09\npoke body 3 16 0110\nrelease 3 9 -\n",
+            "2 allotted 9 -\n3 granted\n4 poked\n5 poked\n6 accepted\nend nothing\n",
+            grown,
+            (36_864, 40_960),
+        ),
+        // and which was written into twice before, once by an accepted bundle and once by a refused one
+        (
+            "allot 1 0\npoke fresh 9 0 ff\nrelease - 9 -\nallot 1 0\npoke fresh 9 7 ff\ngrant write 3\npoke body 3 4 05\nrelease 3 9 -\nallot 1 0\ngrant write 3\npoke index 3 0 8 09\npoke body 3 16 0110\nrelease 3 9 -\n",
+            "2 allotted 9 -\n3 poked\n4 accepted\n5 allotted 9 -\n6 poked\n7 granted\n8 poked\n9 refused\n10 allotted 9 -\n11 granted\n12 poked\n13 poked\n14 accepted\nend nothing\n",
+            grown,
+            (36_864, 40_960),
+        ),
+        // `f` is cut, and its pages become its own again
+        (
+            "grant write 3\npoke block 3 0 4095 7a\npoke body 3 12 000000000000\nrelease 3 - -\nallot 2 0\ngrant write 3\npoke body 3 12 070000000010\npoke fresh 7 0 08\nrelease 3 7,8 -\n",
+            "2 granted\n3 poked\n4 poked\n5 accepted\n6 allotted 7,8 -\n7 granted\n8 poked\n9 poked\n10 accepted\nend nothing\n",
+            "tree\n0 d 755 0 0 1 /\n1 d 755 0 0 1 a\n2 f 644 0 0 4096 f\ninodes 3 pages 6 free 23\n",
+            (32_768, 36_864),
+        ),
+        // a new file has a name that stands there, and another
+        (
+            "allot 0 1\ngrant write 2\npoke block 2 0 256 040000000101000066\npoke block 2 0 448 a401\nrelease 2 - 4\nallot 0 1\ngrant write 2\npoke block 2 0 256 04000000010200006666\npoke block 2 0 448 a401\nrelease 2 - 4\n",
+            "2 allotted - 4\n3 granted\n4 poked\n5 poked\n6 refused\n7 allotted - 4\n8 granted\n9 poked\n10 poked\n11 accepted\nend nothing\n",
+            "tree\n0 d 755 0 0 1 /\n1 d 755 0 0 2 a\n2 f 644 0 0 5 f\n2 f 644 0 0 0 ff\ninodes 4 pages 6 free 23\n",
+            (0, 0),
+        ),
+        // and a number that isn't handed in
+        (
+            "allot 0 1\ngrant write 2\npoke block 2 0 256 04000000010200006666\npoke block 2 0 448 a401\nrelease 2 - -\n",
+            "2 allotted - 4\n3 granted\n4 poked\n5 poked\n6 refused\nend accepted\n",
+            TREE,
+            (0, 0),
+        ),
+        // a new directory `b`, and its first block with the entry of `f`, and then with that of a new file
+        (
+            "allot 2 2\ngrant write 1\npoke block 1 0 256 040000000201000062\npoke block 1 0 448 ed01\nrelease 1 - 4\ngrant write 4\npoke body 4 12 090000000010\npoke fresh 9 0 0a\npoke fresh 10 0 030000000101000067\npoke fresh 10 192 a401\npoke fresh 10 204 0700000005\nrelease 4 9,10 -\nallot 2 0\ngrant write 4\npoke body 4 12 090000000010\npoke fresh 9 0 0a\npoke fresh 10 0 050000000101000067\npoke fresh 10 192 a401\nrelease 4 9,10 5\n",
+            "2 allotted 9,10 4,5\n3 granted\n4 poked\n5 poked\n6 accepted\n7 granted\n8 poked\n9 poked\n10 poked\n11 poked\n12 poked\n13 refused\n14 allotted 9,10 -\n15 granted\n16 poked\n17 poked\n18 poked\n19 poked\n20 accepted\nend nothing\n",
+            "tree\n0 d 755 0 0 2 /\n1 d 755 0 0 1 a\n2 f 644 0 0 5 f\n1 d 755 0 0 1 b\n2 f 644 0 0 0 g\ninodes 5 pages 8 free 21\n",
+            (41_216, 45_056),
+        ),
+    ];
+    for (lines, answers, tree, (from, to)) in rows {
+        let alloc = rt.alloc();
+        let whole = tree_image(alloc)?;
+        let left = run_over(&rt, &WORDS, whole, script_of(alloc, lines)?, (0, 0))?;
+        let report = report_of(alloc, answers, tree)?;
+        assert_eq!(rt; left.status, 0, "{lines}");
+        assert_eq!(rt; left.out.bytes(), report.as_slice(), "{lines}");
+        let out = left.files.content("o p").ok_or("an image")?;
+        assert!(rt; trio_image::read(alloc, out).is_ok(), "{lines}");
+        let part = out.get(from..to).ok_or("a part")?;
+        assert!(rt; part.iter().all(|byte| *byte == 0), "{lines}");
+    }
+    Ok(())
+}
+
+// What is allotted and not used, and the answers. The tree stays as it is.
+#[test]
+fn the_lowest_free_are_allotted(rt: HostRuntime) -> Result<(), Fail> {
+    let rows: [(&str, &str); 4] = [
+        ("allot 1 0\n", "2 allotted 9 -\nend accepted\n"),
+        // what is handed in is free again
+        (
+            "allot 2 1\nallot 1 2\nrelease - 9 5\nallot 2 1\nrelease - 10,12 4\nallot 3 2\nrelease - 11,9,13 -\nallot 1 0\n",
+            "2 allotted 9,10 4\n3 allotted 11 5,6\n4 accepted\n5 allotted 9,12 5\n6 accepted\n7 allotted 10,12,13 4,7\n8 accepted\n9 allotted 9 -\nend accepted\n",
+        ),
+        // what isn't allotted, and past the end of a page
+        (
+            "allot 1 1\npoke fresh 10 0 00\npoke fresh 9 4095 0000\npoke fresh 9 4095 00\nrelease - 10 -\nrelease - 9 5\nrelease - 9 4\npoke fresh 9 0 00\n",
+            "2 allotted 9 4\n3 absent\n4 absent\n5 poked\n6 absent\n7 absent\n8 accepted\n9 absent\nend nothing\n",
+        ),
+        // the end is refused
+        (
+            "allot 1 1\ngrant write 3\npoke body 3 4 05\n",
+            "2 allotted 9 4\n3 granted\n4 poked\nend refused\n",
+        ),
+    ];
+    for (lines, answers) in rows {
+        let alloc = rt.alloc();
+        let whole = tree_image(alloc)?;
+        let left = run_over(&rt, &WORDS, whole, script_of(alloc, lines)?, (0, 0))?;
+        let report = report_of(alloc, answers, TREE)?;
+        assert_eq!(rt; left.status, 0, "{lines}");
+        assert_eq!(rt; left.out.bytes(), report.as_slice(), "{lines}");
+    }
+    Ok(())
+}
+
+// The image with nothing in the root.
+fn empty_image(alloc: Global) -> Result<Vec<u8>, NoMemory> {
+    let mut bytes = zeros(alloc, IMAGE_SIZE)?;
+    put(&mut bytes, 0, b"ARCKTRIO");
+    put(&mut bytes, 8, b"\x01\0\0\0\0\x10\0\0\x20\0\0\0\x40");
+    put(&mut bytes, 24, b"\x01\0\0\0\x02\0\0\0\x03\0\0\0\x01");
+    put(&mut bytes, 40, b"\xed\x01");
+    put(&mut bytes, 4096, b"\x01\x02\xed\x01");
+    put(&mut bytes, 8192, &[0xff; 12]);
+    Ok(bytes)
+}
+
+// More than is free is allotted in no part, and any number may be asked.
+#[test]
+fn no_more_than_is_free_is_allotted(rt: HostRuntime) -> Result<(), Fail> {
+    let alloc = rt.alloc();
+    let lines =
+        "allot 30 0\nallot 4294967295 64\nallot 29 0\nallot 0 64\nallot 0 4294967295\nallot 0 0\nallot 1 64\nallot 0 2\nallot 0 62\n";
+    let answers =
+        "2 nopages 30 29\n3 nopages 4294967295 29\n4 allotted 3,4,5,6,7,8,9,10,11,12,13,14,15,16,17,18,19,20,21,22,23,24,25,26,27,28,29,30,31 -\n5 noinodes 64 63\n6 noinodes 4294967295 63\n7 allotted - -\n8 nopages 1 0\n9 allotted - 2,3\n10 noinodes 62 61\nend accepted\n";
+    let tree = "tree\n0 d 755 0 0 0 /\ninodes 1 pages 0 free 29\n";
+    let whole = empty_image(alloc)?;
+    let script = script_of(alloc, lines)?;
+    let left = run_over(&rt, &WORDS, whole.to_vec(alloc)?, script, (0, 0))?;
+    let report = report_of(alloc, answers, tree)?;
+    assert_eq!(rt; left.status, 0);
+    assert_eq!(rt; left.out.bytes(), report.as_slice());
+    assert!(rt; left.files.content("o p") == Some(whole.as_slice()));
     Ok(())
 }
 

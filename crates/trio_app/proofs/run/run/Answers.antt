@@ -8,9 +8,9 @@ returns c =
     let told = c.in_ok-report.ensures in
     let text = rw (c.in_ok-image.ensures.image, c.deref.ensures.value) at told in
     let started = c.in-Ok.ensures in
-    let played = c.in-Ok-play.ensures.played in
+    let played = c.in_ok-end.ensures in
     let image = c.in-Ok-image.ensures in
     let bytes = c.in_ok-image.ensures in
     run_end c.args.image.superblock c.in-Ok-image.last.superblock c.args.image.pages c.in-Ok-image.last.pages c.in_ok-vec.field-0.items c.in-Ok.ctl c.play.new.ctl (map script_line_seen c.args.lines.now)
-    c.new-answers.result.items c.play.new.answers.items c.in-Ok-play.end c.counts-counts.result c.in_ok-report.report.items c.in_ok-image.image.items
+    c.new-answers.result.items c.play.new.answers.items c.in_ok-end.end c.counts-counts.result c.in_ok-report.report.items c.in_ok-image.image.items
     started.kept c.in_ok-vec.ensures.items started.started c.new-answers.ensures.items played c.counts-counts.ensures.counts image.superblock image.stores bytes.bytes bytes.verify text
