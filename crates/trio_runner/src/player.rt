@@ -160,7 +160,7 @@ fn play_allot(
     requires { IsReady ctl.old raw.old }
     ensures { IfOk result (λ answer. LinePlayed (allot pages inodes) (answer_seen answer) ctl.old raw.old ctl.new raw.new) }
 {
-    match ctl.allot(raw.lib(), pages, inodes) {
+    match ctl.allot(alloc, raw.lib(), pages, inodes) {
         Ok(given) => keep_allotted(alloc, raw, given),
         Err(fault) => want_answer(fault),
     }
