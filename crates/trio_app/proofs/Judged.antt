@@ -1,19 +1,19 @@
 -- What is known of bytes that were judged, and of two files that were read one after the other.
-use Rattle.std.proofs.Common.{◌≡◌, ◌≢◌, ℕ, ◌*◌, ◌≤◌, false, true, List, length, take, Option, inl, inr, refl, sym, ap, subst, ◌∙◌, arith}
+use Rattle.std.proofs.Common.{◌≡◌, ◌≢◌, ℕ, ◌*◌, ◌≤◌, List, length, take, Option, inl, inr, refl, sym, ap, subst, ◌∙◌, arith}
 use Rattle.std.specs.Prelude.{IfErr, Result}
 use Rattle.std.proofs.lemmas.Result.{IfErr-weaker}
 use Rattle.trio_io.specs.Shelf.{Shelf, IsTold, OnlyReads}
 use Rattle.trio_layout.specs.declared.superblock.Superblock.{Superblock}
 use Rattle.trio_layout.specs.Superblock.{IsSuperblock}
 use Rattle.trio_layout.proofs.Superblocks.{only, superblock_facts}
-use Rattle.trio_state.specs.Stored.{BytesVerify, PagesVerify, core_in, pages_in}
+use Rattle.trio_state.specs.Stored.{BytesVerify, PagesVerify, pages_in}
 use Rattle.trio_survey.specs.declared.fault.SurveyFault.{SurveyFault}
 use Rattle.trio_survey.specs.declared.fault.SurveyFault.TheVariants.{Fails, NoMemory as SurveyNoMemory}
 use Rattle.trio_image.specs.declared.reading.ReadFault.{ReadFault}
 use Rattle.trio_image.specs.declared.reading.ReadFault.TheVariants.{Length, BadSuper, NoMemory as ReadNoMemory}
 use Rattle.trio_image.specs.Fault.{HasLength as HasLengths, IsReadFault}
 use Rattle.trio_app.specs.declared.stop.Stop.{Stop}
-use Rattle.trio_app.specs.declared.stop.Stop.TheVariants.{ImageNotBuilt, NotVerified, ScriptFault, ScriptNotBuilt, LineNotBuilt, NoMemory}
+use Rattle.trio_app.specs.declared.stop.Stop.TheVariants.{NotVerified, ScriptFault, ScriptNotBuilt, LineNotBuilt, NoMemory}
 use Rattle.trio_app.specs.Stop.{BytesStop, ImageStop, InputStop, IsImage, ReadsImage, ScriptStop, stop_of_reading, stop_of_verifying}
 use Rattle.trio_app.specs.Turns.{HasLength, ImageVerifies}
 

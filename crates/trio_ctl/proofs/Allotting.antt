@@ -1,8 +1,7 @@
 -- What an allotment gives, by what the controller keeps.
-use Rattle.std.proofs.Common.{◌≡◌, ◌≢◌, ℕ, zero, suc, ◌+◌, ◌-◌, ◌<◌, ◌≤◌, Bool, true, false, ◌==◌, ◌&&◌, List, [], ◌∷◌, ◌++◌, length, map, take, Option, Some, None, is_some, IsSome, IsTrue, refl, sym, ap, subst, ◌∙◌, ◌⊎◌, inl, inr, arith}
+use Rattle.std.proofs.Common.{◌≡◌, ℕ, zero, suc, ◌+◌, ◌<◌, ◌≤◌, Bool, true, false, ◌==◌, ◌&&◌, List, ◌++◌, length, take, Option, Some, None, IsSome, refl, sym, ap, subst, ◌∙◌, ◌⊎◌, inl, inr, arith}
 use Rattle.std.specs.Prelude.{if◌then◌else◌, nat_lt, not, slice_get, slice_index, slice_index_or}
-use Rattle.std.specs.List.{filter}
-use Rattle.std.proofs.lemmas.Bool.{and_parts, eqb-true, false≢true, false_from_ne_true, le-leb, le-ltb, lt-ltb, not-true}
+use Rattle.std.proofs.lemmas.Bool.{and_parts, eqb-true, false≢true, le-leb, le-ltb, lt-ltb, not-true}
 use Rattle.std.proofs.lemmas.Option.{slice_get-get_or}
 use Rattle.trio_rights.specs.Row.{Row}
 use Rattle.trio_rights.specs.declared.rights.Creds.{Creds}
@@ -17,7 +16,6 @@ use Rattle.trio_layout.specs.Range.{is_core}
 use Rattle.trio_layout.specs.Survey.{plain}
 use Rattle.trio_layout.proofs.Superblocks.{superblock_facts}
 use Rattle.trio_state.specs.Allotments.{allots, count_up, free_numbers, free_pages}
-use Rattle.trio_state.specs.Image.{row_at}
 use Rattle.trio_state.specs.Kept.{is_lent}
 use Rattle.trio_state.specs.Sheets.{sheet_numbers, without_pages}
 use Rattle.trio_state.specs.State.{State, is_out, is_write, logged, settled}

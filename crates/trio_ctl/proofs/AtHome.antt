@@ -1,5 +1,5 @@
 -- A controller of which nothing is lent: its settled image is the one at home.
-use Rattle.std.proofs.Common.{◌≡◌, ℕ, Bool, true, false, List, [], ◌∷◌, length, map, Option, Some, None, IsTrue, inl, inr, refl, sym, ap, subst, ◌∙◌}
+use Rattle.std.proofs.Common.{◌≡◌, ℕ, Bool, true, List, [], ◌∷◌, length, map, Option, None, IsTrue, inl, refl, sym, ap, subst, ◌∙◌}
 use Rattle.std.specs.List.{find}
 use Rattle.std.specs.Option.{option_map}
 use Rattle.trio_rights.specs.Row.{Row}
@@ -13,7 +13,7 @@ use Rattle.trio_layout.specs.Superblock.{superblock_fits}
 use Rattle.trio_layout.specs.Lists.{In}
 use Rattle.trio_state.specs.Grants.{holder_of}
 use Rattle.trio_state.specs.Kept.{Kept}
-use Rattle.trio_state.specs.State.{OpenGrant, State, is_write}
+use Rattle.trio_state.specs.State.{OpenGrant, is_write}
 use Rattle.trio_ctl.specs.Ctl.{state_of, writer_of, IsControlled}
 use Rattle.trio_ctl.specs.Open.{Opened, keyed}
 use Rattle.trio_ctl.specs.Outs.{OutNow}

@@ -1,19 +1,16 @@
 -- A write grant of the controller is the step that the definitions say.
-use Rattle.std.proofs.Common.{◌≡◌, ◌≢◌, ℕ, zero, suc, ◌+◌, ◌<◌, Bool, true, false, not, ◌&&◌, ◌||◌, eqb, List, [], ◌∷◌, ◌++◌, length, map, get_or, set, Option, Some, None, is_some, slice_get, IsTrue, IsSome, All, inl, inr, ◌⊎◌, refl, sym, ap, subst, ◌∙◌, arith}
-use Rattle.std.specs.Prelude.{◌==◌, Ok, Err, Result, if◌then◌else◌}
-use Rattle.std.specs.List.{find, filter, flat_map}
+use Rattle.std.proofs.Common.{◌≡◌, ◌≢◌, ℕ, ◌+◌, ◌<◌, Bool, true, false, not, ◌&&◌, ◌||◌, List, [], ◌∷◌, ◌++◌, length, map, get_or, Option, Some, None, is_some, slice_get, inl, inr, ◌⊎◌, refl, sym, ap, subst, ◌∙◌, arith}
+use Rattle.std.specs.Prelude.{◌==◌, Ok, Err, if◌then◌else◌}
+use Rattle.std.specs.List.{find, filter}
 use Rattle.std.specs.Option.{option_map, option_map_or, option_and_then, option_or}
-use Rattle.std.proofs.lemmas.Bool.{ne_eqb, eq-eqb, eqb-true, false≢true, and_parts}
+use Rattle.std.proofs.lemmas.Bool.{eq-eqb, eqb-true, false≢true}
 use Rattle.std.proofs.lemmas.List.{map-append}
-use Rattle.std.proofs.lemmas.List.Elements.{All-push, All-cons}
+use Rattle.std.proofs.lemmas.List.Elements.{All-cons}
 use Rattle.trio_rights.specs.Row.{Row}
 use Rattle.trio_rights.specs.May.{denier}
-use Rattle.trio_rights.specs.declared.kind.Kind.{Kind}
-use Rattle.trio_rights.specs.declared.kind.Kind.TheVariants.{Regular, Directory}
 use Rattle.trio_rights.specs.declared.rights.Creds.{Creds}
 use Rattle.trio_rights.specs.declared.rights.LibNo.{LibNo}
 use Rattle.trio_rights.specs.declared.rights.Need.TheVariants.{Write as ToWrite}
-use Rattle.trio_nodes.specs.declared.grant.GrantKind.{GrantKind}
 use Rattle.trio_nodes.specs.declared.grant.GrantKind.TheVariants.{Write}
 use Rattle.trio_nodes.specs.declared.grant.Holder.{Holder}
 use Rattle.trio_nodes.specs.declared.answers.GrantFault.{GrantFault}
@@ -24,18 +21,18 @@ use Rattle.trio_layout.specs.declared.superblock.Superblock.{Superblock}
 use Rattle.trio_layout.specs.declared.range.CoreRange.{CoreRange}
 use Rattle.trio_layout.specs.Body.{body_of}
 use Rattle.trio_layout.specs.Chain.{Chain, chain_of}
-use Rattle.trio_layout.specs.Core.{Core, Place, nowhere, page_of, there_or}
+use Rattle.trio_layout.specs.Core.{Core, nowhere, page_of, there_or}
 use Rattle.trio_layout.specs.Entries.{body_in_slot}
 use Rattle.trio_layout.specs.Lists.{is_among, are_new, result_then, In}
 use Rattle.trio_layout.specs.Range.{is_core}
 use Rattle.trio_layout.proofs.MarkLemmas.{are_new-push}
-use Rattle.trio_state.specs.Grants.{denied_or, excludes_kind, excluding, grant_fault, holder_of, index_sheets, block_sheets, opened, opens, lent_pages, lent_sheets, settled_chain, sheets_of}
+use Rattle.trio_state.specs.Grants.{denied_or, excludes_kind, excluding, grant_fault, holder_of, index_sheets, block_sheets, opened, opens, lent_pages, settled_chain, sheets_of}
 use Rattle.trio_state.specs.Image.{body_by_row, row_at, settled_body}
 use Rattle.trio_state.specs.Kept.{Kept}
-use Rattle.trio_state.specs.Sheets.{Sheet, sheet_numbers, with_pages, without_pages}
+use Rattle.trio_state.specs.Sheets.{Sheet, sheet_numbers, without_pages}
 use Rattle.trio_state.specs.State.{OpenGrant, State, covered, creds_of, logged, settled}
 use Rattle.trio_state.specs.Step.{Grant, Granted, NotGranted, Step}
-use Rattle.trio_checkpoint.specs.Covered.{are_there, chain_in, core_of, page_on}
+use Rattle.trio_checkpoint.specs.Covered.{chain_in, core_of, page_on}
 use Rattle.trio_laws.specs.EndLaws.{checkpoints_of}
 use Rattle.trio_laws.proofs.EndLaws.{body_stands, lendable_is_home}
 use Rattle.trio_laws.proofs.Grants.{logged_kept}
@@ -48,9 +45,9 @@ use Rattle.trio_laws.proofs.StateFacts.{write_alone}
 use Rattle.trio_ctl.specs.Answers.{grant_fault_answer, Admits}
 use Rattle.trio_ctl.specs.Ctl.{home_image, state_of, IsControlled}
 use Rattle.trio_ctl.specs.Lending.{IsLendable, StandsSomewhere, body_standing}
-use Rattle.trio_ctl.specs.Open.{Opened, grant_on, keyed, lease_of, page_lent}
+use Rattle.trio_ctl.specs.Open.{Opened, grant_on, keyed, page_lent}
 use Rattle.trio_ctl.specs.Outs.{OutNow}
-use Rattle.trio_ctl.proofs.LendLemmas.{read_or, same_chain, sheets_same}
+use Rattle.trio_ctl.proofs.LendLemmas.{same_chain, sheets_same}
 
 -- ---- lists
 

@@ -1,8 +1,8 @@
 -- Pages that leave home one after another.
-use Rattle.std.proofs.Common.{◌≡◌, ℕ, zero, suc, ◌+◌, ◌<◌, Bool, true, false, not, ◌&&◌, List, [], ◌∷◌, ◌++◌, length, map, take, drop, get_or, set, Option, Some, None, is_some, slice_get, IsTrue, inl, inr, refl, sym, ap, subst, ◌∙◌, arith}
+use Rattle.std.proofs.Common.{◌≡◌, ℕ, suc, ◌+◌, ◌<◌, Bool, true, false, not, ◌&&◌, List, [], ◌∷◌, ◌++◌, length, map, take, drop, get_or, set, Option, Some, None, is_some, inl, inr, refl, sym, ap, ◌∙◌, arith}
 use Rattle.std.proofs.Math.Seq.{take-suc}
 use Rattle.std.specs.Prelude.{if◌then◌else◌, Ok, Err, Result}
-use Rattle.std.specs.List.{cons_option, list_all, filter_map}
+use Rattle.std.specs.List.{cons_option, list_all}
 use Rattle.std.specs.Option.{option_map, option_and_then}
 use Rattle.std.proofs.lemmas.Bool.{and_parts, not-true, false≢true}
 use Rattle.std.proofs.lemmas.List.{map-append, take-append-drop, get_or_default}

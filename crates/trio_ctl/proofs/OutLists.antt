@@ -1,18 +1,16 @@
 -- The lists of what is out, beside the table by number.
-use Rattle.std.proofs.Common.{◌≡◌, ◌≢◌, ℕ, zero, suc, ◌+◌, ◌-◌, ◌<◌, ◌≤◌, Bool, true, false, cond, not, ◌==◌, ◌&&◌, ◌||◌, List, [], ◌∷◌, ◌++◌, length, map, take, Option, Some, None, is_some, IsTrue, refl, sym, ap, subst, ◌∙◌, ◌⊎◌, inl, inr, arith, set, slice_index}
-use Rattle.std.specs.Prelude.{All, if◌then◌else◌, nat_lt}
+use Rattle.std.proofs.Common.{◌≡◌, ◌≢◌, ℕ, zero, suc, ◌+◌, ◌-◌, ◌<◌, ◌≤◌, Bool, true, false, cond, not, ◌==◌, ◌&&◌, ◌||◌, List, [], ◌∷◌, ◌++◌, length, map, take, Option, Some, None, is_some, refl, sym, ap, subst, ◌∙◌, ◌⊎◌, inl, inr, arith, set, slice_index}
+use Rattle.std.specs.Prelude.{All, if◌then◌else◌}
 use Rattle.std.specs.List.{filter, find}
 use Rattle.std.specs.Option.{option_map, option_or}
-use Rattle.std.proofs.lemmas.Bool.{and_parts, cases_eq, cases_lt, eq-eqb, false≢true, lt-ltb, ne_eqb}
+use Rattle.std.proofs.lemmas.Bool.{and_parts, cases_eq, cases_lt, eq-eqb, false≢true, ne_eqb}
 use Rattle.std.proofs.lemmas.List.{ext_get_or, get_or_past}
 use Rattle.std.proofs.lemmas.List.Elements.{All-cons, All-nil}
 use Rattle.trio_rights.specs.Row.{Row, row_in}
 use Rattle.trio_rights.specs.declared.rights.LibNo.{LibNo}
 use Rattle.trio_lease.specs.declared.parts.FreshParts.{FreshParts}
 use Rattle.trio_layout.specs.Lists.{In, is_among}
-use Rattle.trio_layout.specs.Marks.{all_below}
 use Rattle.trio_state.specs.Allotments.{count_up, free_numbers as state_free_numbers, free_pages as state_free_pages, out_after}
-use Rattle.trio_state.specs.Given.{WasAllotted}
 use Rattle.trio_state.specs.Handed.{fresh_sheet}
 use Rattle.trio_state.specs.Sheets.{sheet_numbers, with_pages, without_pages}
 use Rattle.trio_state.specs.State.{Out, State, is_out}
@@ -21,7 +19,7 @@ use Rattle.trio_allot.specs.Out.{OutTo, fresh_number, fresh_page, inode_numbers,
 use Rattle.trio_allot.proofs.FreeLemmas.{count_is, free_numbers_are, free_pages_are, where_skip}
 use Rattle.trio_allot.proofs.OutLemmas.{length-with_all, with_all-read, within_some}
 use Rattle.trio_laws.proofs.Bundles.{filter_in, in_filter}
-use Rattle.trio_laws.proofs.Members.{In-among, all_from}
+use Rattle.trio_laws.proofs.Members.{In-among}
 use Rattle.trio_laws.proofs.StateFacts.{any_from}
 use Rattle.trio_ctl.specs.Outs.{AreWithin, FreePagesAreHome, OutNow, Tells, TellsOf, free_numbers_of, free_pages_of, lib_of, out_now, out_to, outs_after, outs_with}
 
@@ -402,9 +400,3 @@ pub free_numbers_here : (s : State) → length s.home.rows ≡ s.home.core.inode
 free_numbers_here s size =
     let all : length s.home.rows - 1 ≡ s.home.core.inodes = omega (arith, size) in
     ap (λ k. filter (λ n. not (is_some (row_in s.home.rows n)) && not (is_out s.numbers_out n)) (count_up 1 k)) all
-
--- what was allotted is below a bound of all that is out
-pub given_below : (outs : List Out) (lib k : ℕ) (ns : List ℕ) → ((o : Out) → In o outs → o.number < k) → ((n : ℕ) → In n ns → WasAllotted outs lib n) → IsTrue (all_below k ns)
-given_below outs lib k ns within given =
-    all_from (λ m. nat_lt m k) ns
-    (λ n i. let was = given n i in let lt = within was.0 was.1 in let e = was.3 in lt-ltb n k (omega (arith, lt, e)))

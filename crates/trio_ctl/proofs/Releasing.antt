@@ -1,16 +1,14 @@
 -- The end of a release: what the controller keeps after each verdict.
-use Rattle.std.proofs.Common.{◌≡◌, ◌≢◌, ℕ, zero, suc, ◌+◌, ◌<◌, Bool, true, false, ◌==◌, ◌&&◌, List, [], ◌∷◌, ◌++◌, length, map, Option, Some, None, is_some, IsTrue, refl, sym, ap, subst, ◌∙◌, ◌⊎◌, inl, inr, arith}
+use Rattle.std.proofs.Common.{◌≡◌, ◌≢◌, ℕ, zero, suc, ◌+◌, Bool, true, false, List, [], ◌∷◌, ◌++◌, length, map, Option, Some, None, is_some, IsTrue, refl, sym, ap, subst, ◌∙◌, inl, inr, arith}
 use Rattle.std.specs.Prelude.{MatchBool, MatchOption, if◌then◌else◌, not, slice_get, slice_index_or, slice_set}
-use Rattle.std.specs.List.{filter, flat_map}
+use Rattle.std.specs.List.{filter}
 use Rattle.std.specs.Option.{option_map, option_map_or}
 use Rattle.std.proofs.lemmas.Bool.{and_from, and_parts, cases_eq, ne_eqb}
 use Rattle.std.proofs.lemmas.List.{map-append, set-set}
-use Rattle.std.proofs.lemmas.List.Folds.{flat_map-map}
 use Rattle.std.proofs.lemmas.Option.{get_or_from_slice_get}
 use Rattle.trio_rights.specs.Row.{Row}
 use Rattle.trio_rights.specs.declared.rights.Creds.{Creds}
 use Rattle.trio_rights.specs.declared.rights.LibNo.{LibNo}
-use Rattle.trio_nodes.specs.declared.grant.GrantKind.TheVariants.{Write}
 use Rattle.trio_grants.specs.Grants.{Keyed}
 use Rattle.trio_layout.specs.declared.superblock.Superblock.{Superblock}
 use Rattle.trio_layout.specs.Core.{Core}
@@ -18,11 +16,11 @@ use Rattle.trio_layout.specs.Lists.{In, are_new, is_among}
 use Rattle.trio_layout.specs.Sound.{is_sound}
 use Rattle.trio_layout.specs.Survey.{Pick, plain, root_of, survey}
 use Rattle.trio_state.specs.Accept.{is_accepted, next}
-use Rattle.trio_state.specs.Bundles.{Ends, blank, grants_after, is_in_bundle, lent_part, parted_hold, refused_image, uncovered}
+use Rattle.trio_state.specs.Bundles.{Ends, blank, grants_after, is_in_bundle, lent_part, refused_image, uncovered}
 use Rattle.trio_state.specs.Given.{GivenTo}
 use Rattle.trio_state.specs.Image.{Image, IsFit}
 use Rattle.trio_state.specs.Kept.{Kept}
-use Rattle.trio_state.specs.Proposed.{Bundle, Written, bundle_pages, bundle_sheets, is_written, proposed, proposed_pick}
+use Rattle.trio_state.specs.Proposed.{Bundle, bundle_pages, bundle_sheets, is_written, proposed, proposed_pick}
 use Rattle.trio_state.specs.Sheets.{Sheet, sheet_numbers, with_pages}
 use Rattle.trio_state.specs.State.{OpenGrant, Out, State, creds_of, settled}
 use Rattle.trio_state.specs.Step.{Accepted, Answer, Judged, NotClosed, Refused, Release, Step}
@@ -52,7 +50,7 @@ use Rattle.trio_ctl.specs.Moves.{all_covered, followed, is_closing}
 use Rattle.trio_ctl.specs.Open.{Opened, keyed}
 use Rattle.trio_ctl.specs.Outs.{AreWithin, OutNow, outs_after}
 use Rattle.trio_ctl.proofs.Ending.{ending, keys, staying}
-use Rattle.trio_ctl.proofs.Handing.{closing_same, covered_same, grant_writes, staying_same, unparted_bundle}
+use Rattle.trio_ctl.proofs.Handing.{closing_same, grant_writes, staying_same, unparted_bundle}
 
 -- ---- pages that are put in place
 

@@ -1,5 +1,5 @@
 -- The grants that are open, as the controller keeps them.
-use Rattle.std.specs.Prelude.{ℕ, ◌==◌, ◌++◌, List, map, Option, false}
+use Rattle.std.specs.Prelude.{ℕ, ◌==◌, List, map, Option, false}
 use Rattle.std.specs.List.{find}
 use Rattle.std.specs.Option.{option_and_then}
 use Rattle.trio_rights.specs.declared.kind.Kind.{Kind}

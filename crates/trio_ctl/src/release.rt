@@ -42,7 +42,8 @@ impl Ctl {
     /// settled ones, is sound and the change is allowed: then that image is settled. `Refused`
     /// exactly where it is not: then the image is settled as before, but for the blocks of the
     /// regular files and the allotted pages, which stand as handed in. Which rule was broken isn't
-    /// told yet: all numbers of the refusal are 0. The grants of the bundle end in both cases.
+    /// told yet: all numbers of the refusal are 0. The grants and allotments of the bundle end in both
+    /// cases: what no file has then is free.
     ///
     /// After `NoMemory`, which may come in place of each answer, nothing changed and the bundle comes
     /// back; a history that has as many entries as a `u64` counts has no memory for one more.

@@ -1,4 +1,3 @@
-use Rattle.std.proofs.Common.{sym, ◌∙◌}
 use Rattle.std.proofs.lemmas.Result.{err_from_is_err_and}
 use Rattle.trio_app.proofs.Judged.{image_is, read_stop, verify_stop}
 use Rattle.trio_app.proofs.inputs.verified_image.Goals as goal

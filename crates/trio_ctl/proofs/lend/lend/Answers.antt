@@ -1,6 +1,5 @@
-use Rattle.std.proofs.Common.{arith, ap, sym, subst, ◌∙◌}
+use Rattle.std.proofs.Common.{sym}
 use Rattle.trio_checkpoint.specs.Covered.{core_of}
-use Rattle.trio_layout.specs.Lists.{are_new}
 use Rattle.trio_ctl.proofs.LendLemmas.{index_there, covered_there, index_once, blocks_once, blocks_there, blocks_same, both_gone, opened_is, lease_is, same_chain}
 use Rattle.trio_ctl.proofs.lend.lend.Goals as goal
 

@@ -1,9 +1,7 @@
-use Rattle.std.proofs.Common.{◌≡◌, ◌≢◌, ◌∙◌, ◌+◌, map, ap, sym, subst}
+use Rattle.std.proofs.Common.{◌∙◌, ◌+◌, map, ap, sym, subst}
 use Rattle.trio_page.specs.Home.{Pages}
-use Rattle.trio_state.specs.Kept.{Kept}
 use Rattle.trio_state.specs.State.{State}
 use Rattle.trio_state.specs.Step.{Allot, Given, Step}
-use Rattle.trio_laws.proofs.Runs.{step_kept}
 use Rattle.trio_ctl.specs.Answers.{allot_fault_answer}
 use Rattle.trio_ctl.specs.Ctl.{state_of}
 use Rattle.trio_allot.specs.Out.{fresh_number, fresh_page, inode_numbers, page_numbers}

@@ -4,7 +4,7 @@ use Rattle.trio_layout.proofs.Superblocks.{superblock_facts}
 use Rattle.trio_state.specs.State.{State, settled}
 use Rattle.trio_state.specs.Stored.{HasSuperblock, StoresImage}
 use Rattle.trio_image.specs.Image.{IsVerified}
-use Rattle.trio_ctl.specs.Ctl.{state_of, superblock_for, with_zeros, writer_of}
+use Rattle.trio_ctl.specs.Ctl.{superblock_for, with_zeros}
 use Rattle.trio_ctl.proofs.AtHome.{at_home, same_state, writer_is}
 use Rattle.trio_ctl.proofs.Storing.{stored_count, stored_superblock, stored_verified, stores, stores_by, stores_zeros, superblock_is}
 use Rattle.trio_ctl.proofs.ctl.Ctl.image.Goals as goal

@@ -1,4 +1,4 @@
-use Rattle.std.proofs.Common.{◌≡◌, refl, arith, ℕ, Option, Some, None, List, ap, sym, subst, ◌∙◌, ◌++◌, ◌∷◌, []}
+use Rattle.std.proofs.Common.{◌≡◌, refl, arith, Some, None, ap, sym, subst, ◌∙◌, ◌++◌, ◌∷◌, []}
 use Rattle.std.specs.Prelude.{◌==◌, if◌then◌else◌}
 use Rattle.trio_rights.specs.May.{denier}
 use Rattle.trio_rights.specs.declared.rights.Need.TheVariants.{Write as ToWrite}
@@ -9,7 +9,7 @@ use Rattle.trio_checkpoint.specs.Covered.{chain_in, core_of}
 use Rattle.trio_ctl.specs.Lending.{body_standing}
 use Rattle.trio_layout.specs.declared.range.CoreRange.{CoreRange}
 use Rattle.trio_state.specs.Sheets.{without_pages}
-use Rattle.trio_ctl.specs.Open.{Opened, grant_on, lease_of}
+use Rattle.trio_ctl.specs.Open.{grant_on, lease_of}
 use Rattle.trio_ctl.proofs.Granting.{refused_step, stands_somewhere, body_is, chain, chain_home, lendable, granted_controlled, granted_step, file_grant, controlled_still}
 use Rattle.trio_ctl.proofs.ctl.Ctl.lend_file.Goals as goal
 
