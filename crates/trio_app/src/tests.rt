@@ -306,7 +306,8 @@ fn report_of(alloc: Global, answers: &str, tree: &str) -> Result<Vec<u8>, NoMemo
 // One file in the root.
 const FILE_TREE: &str = "tree\n0 d 755 0 0 1 /\n1 f 644 0 0 5 f\ninodes 2 pages 4 free 25\n";
 
-// What a library does with the file, the answers, and whether its block then begins with `J`.
+// What a library does with the file, the answers, and whether its block then begins with `J`. What
+// was refused is lent again as it was before: handed in so, it is accepted, and OUT has no other byte.
 #[test]
 fn a_file_is_lent_written_and_released(rt: HostRuntime) -> Result<(), Fail> {
     let rows: [(&str, &str, bool); 9] = [
@@ -317,20 +318,20 @@ fn a_file_is_lent_written_and_released(rt: HostRuntime) -> Result<(), Fail> {
         ),
         // a size of 4097 with one block
         (
-            "grant write 2\npoke block 2 0 0 4a\npoke body 2 16 0110000000000000\nrelease 2 - -\n",
-            "2 granted\n3 poked\n4 poked\n5 refused\nend nothing\n",
+            "grant write 2\npoke block 2 0 0 4a\npoke body 2 16 0110000000000000\nrelease 2 - -\ngrant write 2\nrelease 2 - -\n",
+            "2 granted\n3 poked\n4 poked\n5 refused\n6 granted\n7 accepted\nend nothing\n",
             true,
         ),
         // the root's block
         (
-            "grant write 2\npoke block 2 0 0 4a\npoke index 2 0 0 0400000000000000\nrelease 2 - -\n",
-            "2 granted\n3 poked\n4 poked\n5 refused\nend nothing\n",
+            "grant write 2\npoke block 2 0 0 4a\npoke index 2 0 0 0400000000000000\nrelease 2 - -\ngrant write 2\nrelease 2 - -\n",
+            "2 granted\n3 poked\n4 poked\n5 refused\n6 granted\n7 accepted\nend nothing\n",
             true,
         ),
         // another uid
         (
-            "grant write 2\npoke block 2 0 0 4a\npoke body 2 4 05000000\nrelease 2 - -\n",
-            "2 granted\n3 poked\n4 poked\n5 refused\nend nothing\n",
+            "grant write 2\npoke block 2 0 0 4a\npoke body 2 4 05000000\nrelease 2 - -\ngrant write 2\nrelease 2 - -\n",
+            "2 granted\n3 poked\n4 poked\n5 refused\n6 granted\n7 accepted\nend nothing\n",
             true,
         ),
         (
@@ -527,7 +528,7 @@ const TREE: &str =
 fn allotments_are_used(rt: HostRuntime) -> Result<(), Fail> {
     let grown =
         "tree\n0 d 755 0 0 1 /\n1 d 755 0 0 1 a\n2 f 644 0 0 4097 f\ninodes 3 pages 7 free 22\n";
-    let rows: [(&str, &str, &str, (usize, usize)); 7] = [
+    let rows: [(&str, &str, &str, (usize, usize)); 8] = [
         // `f` grows onto page 9, which isn't handed in
         (
             "allot 1 0\ngrant write 3\npoke index 3 0 8 09\npoke body 3 16 0110\nrelease 3 - -\n",
@@ -555,6 +556,13 @@ fn allotments_are_used(rt: HostRuntime) -> Result<(), Fail> {
             "2 granted\n3 poked\n4 poked\n5 accepted\n6 allotted 7,8 -\n7 granted\n8 poked\n9 poked\n10 accepted\nend nothing\n",
             "tree\n0 d 755 0 0 1 /\n1 d 755 0 0 1 a\n2 f 644 0 0 4096 f\ninodes 3 pages 6 free 23\n",
             (32_768, 36_864),
+        ),
+        // the directory grows and its file is cut by a byte, both in one bundle
+        (
+            "allot 1 0\ngrant write 2\ngrant write 3\npoke body 2 16 0020\npoke index 2 0 8 09\npoke body 3 16 04\nrelease 2,3 9 -\n",
+            "2 allotted 9 -\n3 granted\n4 granted\n5 poked\n6 poked\n7 poked\n8 accepted\nend nothing\n",
+            "tree\n0 d 755 0 0 1 /\n1 d 755 0 0 1 a\n2 f 644 0 0 4 f\ninodes 3 pages 7 free 22\n",
+            (36_864, 40_960),
         ),
         // a new file has a name that stands there, and another
         (
