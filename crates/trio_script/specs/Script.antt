@@ -17,7 +17,7 @@ abbrev pub is_silent : List ℕ → Bool
 is_silent [] = true
 is_silent (b ∷ bytes) = b == 35
 
--- the line names a library: its first word is `lib`
+-- the line names a library: it begins with `lib` and a space
 abbrev pub names_library : List ℕ → Bool
 names_library line = bytes_eq (take 4 line) (codes "lib ")
 
