@@ -198,6 +198,7 @@ fn the_lowest_numbers_come_first(rt: HostRuntime) -> Result<(), Fail> {
     assert!(rt; take_inodes(&mut allotments, &rows, 1, 2, &[2, 4], alloc) == Ok(true));
     let refused = AllotFault::NoInodes { wanted: 5, free: 4 };
     assert!(rt; take_inodes(&mut allotments, &rows, 2, 5, &[], alloc) == Err(refused));
+    assert!(rt; take_inodes(&mut allotments, &rows, 2, 0, &[], alloc) == Ok(true));
 
     assert!(rt; allotments.number_lib(2) == Some(LibNo(1)));
     assert!(rt; allotments.number_lib(0).is_none() && allotments.number_lib(9).is_none());
