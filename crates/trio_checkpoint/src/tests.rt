@@ -137,3 +137,18 @@ fn block_of_a_regular_file_stays_as_written(rt: HostRuntime) -> Result<(), Fail>
     assert_eq!(rt; number_on(&mut home, 4, 0), Some(0x0101_0101_0101_0101));
     Ok(())
 }
+
+#[test]
+fn copies_are_put_in_place(rt: HostRuntime) -> Result<(), Fail> {
+    let alloc = rt.alloc();
+    let mut home = home_of(alloc).ok().ok_or("memory")?;
+    let checkpoint = taken(alloc, &mut home, Kind::Directory).ok_or("taken")?;
+    home.put(PageNo(3), page_of(alloc, 1).ok().ok_or("memory")?);
+    home.put(PageNo(4), page_of(alloc, 1).ok().ok_or("memory")?);
+    let copied = checkpoint.put_copies(alloc, &mut home);
+    assert!(rt; copied.is_ok());
+    assert_eq!(rt; number_on(&mut home, 3, 0), Some(4));
+    assert_eq!(rt; number_on(&mut home, 4, 0), Some(0x0909_0909_0909_0909));
+    assert_eq!(rt; number_on(&mut home, 5, 0), None);
+    Ok(())
+}
