@@ -48,7 +48,9 @@ fn put_directory(bytes: &mut [u8])
     put_u32_in(bytes, 8208, 1);
 }
 
-fn image_bytes(alloc: Global, with_directory: bool) -> Option<Vec<u8>> {
+fn image_bytes(alloc: Global, with_directory: bool) -> Option<Vec<u8>>
+    ensures { IfSome result (λ bytes. length bytes.items ≡ 131072) }
+{
     let mut bytes = vec![in alloc; 0; 131_072].ok()?;
     put_image(&mut bytes);
     if with_directory {
@@ -57,7 +59,9 @@ fn image_bytes(alloc: Global, with_directory: bool) -> Option<Vec<u8>> {
     Some(bytes)
 }
 
-fn started(alloc: Global, bytes: &[u8]) -> Option<Ctl> {
+fn started(alloc: Global, bytes: &[u8]) -> Option<Ctl>
+    ensures { IfSome result (λ ctl. length ctl.creds ≡ 1) }
+{
     let image = read(alloc, bytes).ok()?;
     let libs = vec![in alloc; Creds { uid: 5, gid: 5 }].ok()?;
     Ctl::start(alloc, image, libs).ok()
@@ -184,39 +188,33 @@ fn the_lowest_free_are_allotted(rt: HostRuntime) -> Result<(), Fail> {
     let mut bytes = image_bytes(alloc, true).ok_or("memory")?;
     put_bytes_in(&mut bytes, 24_576, b"left");
     let mut ctl = started(alloc, &bytes).ok_or("a controller")?;
-    let cases = [
-        (2, 1, [5, 6].as_slice(), [3].as_slice()),
-        (0, 0, [].as_slice(), [].as_slice()),
-        (1, 2, [7].as_slice(), [4, 5].as_slice()),
-    ];
-    for (pages, inodes, wanted_pages, wanted_inodes) in cases {
-        let given = ctl
-            .allot(alloc, LibNo(1), pages, inodes)
-            .ok()
-            .ok_or("an allotment")?;
-        let (pages, inodes) = numbers_of(alloc, given).ok_or("zeros")?;
-        assert!(rt; pages.as_slice() == wanted_pages && inodes.as_slice() == wanted_inodes);
-    }
-    // pages are asked first
-    for (pages, inodes, wanted) in [
-        (
-            25,
-            60,
-            AllotFault::NoPages {
-                wanted: 25,
-                free: 24,
-            },
-        ),
-        (
-            24,
-            60,
-            AllotFault::NoInodes {
-                wanted: 60,
-                free: 59,
-            },
-        ),
-    ] {
-        match ctl.allot(alloc, LibNo(1), pages, inodes) {
+    let given = ctl.allot(alloc, LibNo(1), 2, 1).ok().ok_or("an allotment")?;
+    let (pages, inodes) = numbers_of(alloc, given).ok_or("zeros")?;
+    assert!(rt; pages.as_slice() == [5, 6].as_slice());
+    assert!(rt; inodes.as_slice() == [3].as_slice());
+    // in the settled image what is out is all zero
+    let mut image = ctl.image(alloc).ok().ok_or("memory")?;
+    let written = bytes_of(alloc, &mut image).ok().ok_or("memory")?;
+    put_bytes_in(&mut bytes, 24_576, &[0; 4]);
+    assert!(rt; written == bytes);
+    Ok(())
+}
+
+// Of 29 core pages 27 are free, and of 64 numbers 62. Pages are asked first.
+#[test]
+fn too_much_is_not_allotted(rt: HostRuntime) -> Result<(), Fail> {
+    let alloc = rt.alloc();
+    let no_pages = AllotFault::NoPages {
+        wanted: 28,
+        free: 27,
+    };
+    let no_inodes = AllotFault::NoInodes {
+        wanted: 63,
+        free: 62,
+    };
+    for (pages, wanted) in [(28, no_pages), (27, no_inodes)] {
+        let mut ctl = controlled(alloc, 0).ok_or("a controller")?;
+        match ctl.allot(alloc, LibNo(1), pages, 63) {
             Ok(given) => {
                 given.discard();
                 return Err("too much was allotted".into());
@@ -224,11 +222,6 @@ fn the_lowest_free_are_allotted(rt: HostRuntime) -> Result<(), Fail> {
             Err(fault) => assert!(rt; fault == wanted),
         }
     }
-    // in the settled image what is out is all zero
-    let mut image = ctl.image(alloc).ok().ok_or("memory")?;
-    let written = bytes_of(alloc, &mut image).ok().ok_or("memory")?;
-    put_bytes_in(&mut bytes, 24_576, &[0; 4]);
-    assert!(rt; written == bytes);
     Ok(())
 }
 
