@@ -23,7 +23,7 @@ use Rattle.trio_state.specs.Mode.{with_mode, moded, moded_row}
 use Rattle.trio_state.specs.Grants.{grant_fault, opened, opens, given_back}
 use Rattle.trio_state.specs.Allotments.{free_pages, free_numbers, allots}
 use Rattle.trio_state.specs.Bundles.{uncovered, refused_image, Ends}
-use Rattle.trio_state.specs.Step.{Grant, Allot, Back, Release, Settle, SetMode, Answer, NoPages, NoInodes, Given, Outcome, after_grant_fault, granted_to, allot_outcome, mode_fault, after_mode_fault, moded_to}
+use Rattle.trio_state.specs.Step.{Grant, Allot, Back, Release, Settle, SetMode, Answer, NoPages, NoInodes, Given, Outcome, after_grant_fault, granted_to, allot_outcome, mode_fault, after_mode_fault, moded_to, ReleaseEnd, Parted, IsAccepted, IsRefused}
 use Rattle.trio_state.specs.Kept.{Kept}
 use Rattle.trio_state.specs.Given.{GivenTo}
 use Rattle.trio_laws.specs.Reading.{with_other, AgreeOn}
@@ -45,7 +45,6 @@ use Rattle.trio_laws.proofs.Moded.{body_moded, changed}
 use Rattle.trio_laws.proofs.ModedCore.{pick as mode_pick, ms, page_now, listed0, read_now}
 use Rattle.trio_laws.proofs.ModedImage.{mode_met, met_other, mode_core_is, mode_file, mode_body_other}
 use Rattle.trio_laws.proofs.Modes.{may_change, settled_moded}
-use Rattle.trio_laws.proofs.Releases.{ReleaseEnd, Parted, IsAccepted, IsRefused, release_end}
 use Rattle.trio_laws.proofs.Isolated.{picked_only, put_none, bare_page, plain_listed, untouched}
 
 -- an image with other pages, where those that are read and the file's own are the same
@@ -216,7 +215,7 @@ module _ (s : State) (k : Kept s) (lib n : ℕ) (r : Row) (row : row_at (settled
   release : (s' : State) (b : Bundle) (answer : Answer) → GivenTo s lib b → HasNone s lib n → ReleaseEnd s lib b answer s' → Same s'
   release s' b answer given none (Parted m some e same) = (let U : State → Type 0 = λ x. Same x in subst U (sym same) nothing)
   release s' b answer given none (IsAccepted closed t e ends) = accepted s' b given t ends none
-  release s' b answer given none (IsRefused closed f e ends) = refused s' b given (closed_unparted s lib b closed) ends none
+  release s' b answer given none (IsRefused closed f why e tells ends) = refused s' b given (closed_unparted s lib b closed) ends none
 
   after_no_mode : (f : ModeFault) → Same (after_mode_fault s f)
   after_no_mode ModeNotLive = nothing
@@ -249,7 +248,7 @@ every_step_is_isolated s (Back lib ino) answer s' n r k given (inl does) row has
     let U : State → Type 0 = λ x. IsUntouched (settled s) (settled x) n in
     subst U (sym does.1) (back s k lib n r row ino)
 every_step_is_isolated s (Release lib b) answer s' n r k given (inl does) row has elsewhere =
-    release s k lib n r row s' b answer given has (release_end s s' lib b answer does)
+    release s k lib n r row s' b answer given has does
 every_step_is_isolated s (Settle lib b) answer s' n r k given (inl does) row has elsewhere =
     accepted s k lib n r row s' b given does.2 does.3 has
 every_step_is_isolated s (SetMode lib ino mode) answer s' n r k given (inl does) row has elsewhere =

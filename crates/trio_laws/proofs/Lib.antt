@@ -29,8 +29,8 @@ pub mod Moded
 pub mod ModedCore
 pub mod ModedImage
 pub mod Modes
-pub mod Releases
 pub mod Runs
+pub mod Tells
 pub mod Verdicts
 pub mod Possible
 pub mod StateLaws

@@ -17,13 +17,12 @@ use Rattle.trio_state.specs.Proposed.{Bundle}
 use Rattle.trio_state.specs.Mode.{moded, moded_row}
 use Rattle.trio_state.specs.Grants.{grant_fault, opened, opens, given_back}
 use Rattle.trio_state.specs.Allotments.{free_pages, free_numbers, allots}
-use Rattle.trio_state.specs.Step.{Event, Grant, Allot, Back, Release, Settle, SetMode, Answer, NoPages, NoInodes, Given, Outcome, Step, after_grant_fault, granted_to, allot_outcome, mode_fault, after_mode_fault, moded_to}
+use Rattle.trio_state.specs.Step.{Event, Grant, Allot, Back, Release, Settle, SetMode, Answer, NoPages, NoInodes, Given, Outcome, Step, after_grant_fault, granted_to, allot_outcome, mode_fault, after_mode_fault, moded_to, ReleaseEnd, Parted, IsAccepted, IsRefused}
 use Rattle.trio_state.specs.Kept.{Kept}
 use Rattle.trio_state.specs.Given.{GivenTo, GivenEvent}
 use Rattle.trio_laws.specs.Laws.{library_of, GivenThrough, ClosedThrough}
 use Rattle.trio_laws.proofs.Members.{In-left, In-cases}
 use Rattle.trio_laws.proofs.Bundles.{closed_unparted, closed_all, filter_in, in_filter}
-use Rattle.trio_laws.proofs.Releases.{ReleaseEnd, Parted, IsAccepted, IsRefused, release_end}
 use Rattle.trio_laws.proofs.Modes.{may_change}
 use Rattle.trio_laws.proofs.Runs.{step_kept}
 use Rattle.trio_laws.proofs.Others.{LeavesTo, has_grant_stays, given_stays, unparted_stays, refused_leaves, accepted_leaves}
@@ -117,7 +116,7 @@ mode_leaves s lib other ino mode (Some r) None e =
 release_leaves : (s s' : State) (lib other : ℕ) (b : Bundle) (answer : Answer) → Kept s → GivenTo s other b → (other ≡ lib → ⊥) → ReleaseEnd s other b answer s' → LeavesTo s s' lib
 release_leaves s s' lib other b answer k given apart (Parted n none e same) = (let L : State → Type 0 = λ x. LeavesTo s x lib in subst L (sym same) (no_step_leaves s lib))
 release_leaves s s' lib other b answer k given apart (IsAccepted none t e ends) = accepted_leaves s s' k lib other b given (closed_unparted s other b none) t ends (λ x. apart (sym x))
-release_leaves s s' lib other b answer k given apart (IsRefused none f e ends) = refused_leaves s s' k lib other b given ends (λ x. apart (sym x))
+release_leaves s s' lib other b answer k given apart (IsRefused none f why e tells ends) = refused_leaves s s' k lib other b given ends (λ x. apart (sym x))
 
 -- a step of another library leaves what a library has out
 pub other_step_leaves : (s s' : State) (lib : ℕ) (event : Event) (answer : Answer) → Kept s → GivenEvent s event → Step s event answer s' → (library_of event ≡ lib → ⊥) → LeavesTo s s' lib
@@ -130,7 +129,7 @@ other_step_leaves s s' lib (Allot other count many) answer k given (inl does) ap
 other_step_leaves s s' lib (Back other ino) answer k given (inl does) apart =
     let L : State → Type 0 = λ x. LeavesTo s x lib in subst L (sym does.1) (back_leaves s lib other ino apart)
 other_step_leaves s s' lib (Release other b) answer k given (inl does) apart =
-    release_leaves s s' lib other b answer k given apart (release_end s s' other b answer does)
+    release_leaves s s' lib other b answer k given apart does
 other_step_leaves s s' lib (Settle other b) answer k given (inl does) apart =
     accepted_leaves s s' k lib other b given (closed_all s other b does.1) does.2 does.3 (λ x. apart (sym x))
 other_step_leaves s s' lib (SetMode other ino mode) answer k given (inl does) apart =

@@ -1,10 +1,10 @@
 -- For each bundle that was given to its library there is a step of its release.
-use Rattle.std.proofs.Common.{◌≡◌, ℕ, suc, zero, ◌+◌, ◌<◌, Bool, true, false, List, [], ◌∷◌, ◌++◌, length, Option, Some, None, slice_get, slice_set, sym, refl, ap, ◌∙◌, inl, inr, arith}
-use Rattle.std.specs.Prelude.{MatchOption, map, MatchBool}
+use Rattle.std.proofs.Common.{◌≡◌, ℕ, suc, zero, ◌+◌, ◌<◌, true, List, [], ◌∷◌, ◌++◌, length, Option, Some, None, slice_get, slice_set, sym, refl, ap, ◌∙◌, inl, inr, arith}
+use Rattle.std.specs.Prelude.{map}
 use Rattle.std.specs.List.{flat_map}
 use Rattle.std.specs.Option.{option_map}
 use Rattle.std.proofs.lemmas.List.{map-append}
-use Rattle.std.proofs.lemmas.Bool.{and_parts, ltb-true}
+use Rattle.std.proofs.lemmas.Bool.{and_parts, cases_Bool, ltb-true}
 use Rattle.std.proofs.Common.{ltb, leb, not}
 use Rattle.trio_layout.specs.Core.{Core}
 use Rattle.trio_layout.specs.Lists.{In}
@@ -22,7 +22,8 @@ use Rattle.trio_state.specs.Kept.{Kept}
 use Rattle.trio_state.specs.Proposed.{Bundle, bundle_sheets, proposed, proposed_pick}
 use Rattle.trio_state.specs.Sheets.{Sheet, sheet_numbers, with_pages}
 use Rattle.trio_state.specs.State.{OpenGrant, State, settled, creds_of}
-use Rattle.trio_state.specs.Step.{Event, Grant, Allot, Back, Release, Settle, SetMode, Answer, Done, Accepted, Refused, NotClosed, Settled, Does, Judged, grant_outcome, allot_outcome, mode_outcome}
+use Rattle.trio_state.specs.Tells.{untold}
+use Rattle.trio_state.specs.Step.{Event, Grant, Allot, Back, Release, Settle, SetMode, Answer, Done, Accepted, Refused, NotClosed, Settled, Does, Parted, IsAccepted, IsRefused, grant_outcome, allot_outcome, mode_outcome}
 use Rattle.trio_laws.proofs.Bundles.{filter_in, in_numbers}
 use Rattle.trio_laws.proofs.Cores.{listed_is_core}
 use Rattle.trio_laws.proofs.Members.{flat_from, In-flat}
@@ -31,6 +32,7 @@ use Rattle.trio_laws.proofs.Putting.{put_on, with_bodies-get}
 use Rattle.trio_laws.proofs.SheetLaws.{length-with_pages}
 use Rattle.trio_laws.proofs.Sheets.{Pages, with_pages_there, with_pages_absent, place_there}
 use Rattle.trio_laws.proofs.StateFacts.{checkpoint_lent, lent_met}
+use Rattle.trio_laws.proofs.Tells.{untold_tells}
 use Rattle.trio_laws.proofs.Survivors.{fit_now, sound_now}
 
 bytes_at : Option (Option (List ℕ)) → List ℕ
@@ -136,22 +138,22 @@ module _ (s : State) (k : Kept s) where
       ap (λ ps. slice_get ps x.page) (bodies_are core pick fit sound) ∙ with_bodies-get x.page (all_listed core pick) core.pages (listed_no_root core pick fit sound) ∙ ap (option_map (option_map (put_on x.page (all_listed core pick)))) w.1 in
       (put_on x.page (all_listed core pick) w.0, there))
 
-  -- a bundle that was given to its library can be judged
-  judged_possible : (lib : ℕ) (b : Bundle) → GivenTo s lib b → (answer : Answer) × (s' : State) × Judged s lib b answer s'
-  judged_possible lib b given = by_verdict (is_accepted (settled s) (creds_of s lib) b) refl
-    where
-      by_verdict : (v : Bool) → is_accepted (settled s) (creds_of s lib) b ≡ v → (answer : Answer) × (s' : State) × MatchBool v ((answer ≡ Accepted) × Ends s lib b (next (settled s) b) s') ((answer ≡ Refused) × Ends s lib b (refused_image (settled s) b) s')
-      by_verdict true v = (let r = accepted_ends lib b given v in (Accepted, r.0, (refl, r.1)))
-      by_verdict false v =
-          let r = ends_possible s lib b (refused_image (settled s) b) (λ x i. with_there (uncovered b ++ b.pages) x.page (after_there lib b x i)) in
-          (Refused, r.0, (refl, r.1))
+  -- a bundle that was given to its library and is closed is accepted or refused
+  closed_possible : (lib : ℕ) (b : Bundle) → GivenTo s lib b → parted_hold s lib b ≡ None → (answer : Answer) × (s' : State) × Does s (Release lib b) answer s'
+  closed_possible lib b given closed =
+      elim (cases_Bool (is_accepted (settled s) (creds_of s lib) b)) [
+        | inl t ↦ (let r = accepted_ends lib b given t in (Accepted, r.0, IsAccepted closed t refl r.1))
+        | inr f ↦ (
+            let r = ends_possible s lib b (refused_image (settled s) b) (λ x i. with_there (uncovered b ++ b.pages) x.page (after_there lib b x i)) in
+            (Refused untold, r.0, IsRefused closed f untold refl (untold_tells s lib b) r.1))
+      ]
 
   pub release_possible : (lib : ℕ) (b : Bundle) → GivenTo s lib b → (answer : Answer) × (s' : State) × Does s (Release lib b) answer s'
-  release_possible lib b given = by_parted (parted_hold s lib b)
+  release_possible lib b given = by_parted (parted_hold s lib b) refl
     where
-      by_parted : (o : Option ℕ) → (answer : Answer) × (s' : State) × MatchOption o (Judged s lib b answer s') (λ n. (answer ≡ NotClosed n) × (s' ≡ s))
-      by_parted None = judged_possible lib b given
-      by_parted (Some n) = (NotClosed n, s, (refl, refl))
+      by_parted : (o : Option ℕ) → parted_hold s lib b ≡ o → (answer : Answer) × (s' : State) × Does s (Release lib b) answer s'
+      by_parted None e = closed_possible lib b given e
+      by_parted (Some n) e = (NotClosed n, s, Parted n e refl refl)
 
   -- each call of what was given has an answer other than want of memory, a settle where it is one
   pub call_possible : (event : Event) → GivenEvent s event → MayEnd s event → (answer : Answer) × (s' : State) × Does s event answer s'

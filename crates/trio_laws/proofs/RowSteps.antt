@@ -18,14 +18,13 @@ use Rattle.trio_state.specs.Mode.{moded_row}
 use Rattle.trio_state.specs.Grants.{grant_fault}
 use Rattle.trio_state.specs.Allotments.{free_pages, free_numbers, allots}
 use Rattle.trio_state.specs.Bundles.{Ends}
-use Rattle.trio_state.specs.Step.{Grant, Allot, Back, Release, Settle, SetMode, Answer, NoPages, NoInodes, Given, Outcome, after_grant_fault, granted_to, allot_outcome, mode_fault, after_mode_fault, moded_to}
+use Rattle.trio_state.specs.Step.{Grant, Allot, Back, Release, Settle, SetMode, Answer, NoPages, NoInodes, Given, Outcome, after_grant_fault, granted_to, allot_outcome, mode_fault, after_mode_fault, moded_to, ReleaseEnd, Parted, IsAccepted, IsRefused}
 use Rattle.trio_state.specs.Kept.{Kept}
 use Rattle.trio_state.specs.Given.{GivenTo}
 use Rattle.trio_laws.specs.Laws.{HasRightsOf, RowGoes, EveryStepKeepsRows}
 use Rattle.trio_laws.proofs.Members.{In-among, among_from}
 use Rattle.trio_laws.proofs.Images.{row_at_is}
 use Rattle.trio_laws.proofs.Survivors.{fit_now, sound_now, unheld_row, held_rights}
-use Rattle.trio_laws.proofs.Releases.{ReleaseEnd, Parted, IsAccepted, IsRefused, release_end}
 use Rattle.trio_laws.proofs.Modes.{may_change}
 
 row_within : (rows : List (Option Row)) (n : ℕ) (r : Row) → get_or rows n None ≡ Some r → n < length rows
@@ -102,7 +101,7 @@ module _ (s : State) (n : ℕ) (r : Row) (row : row_at s.home n ≡ Some r) wher
     release_row : (s' : State) (b : Bundle) (answer : Answer) → GivenTo s lib b → ReleaseEnd s lib b answer s' → RowGoes s (Release lib b) n r (row_at s'.home n)
     release_row s' b answer given (Parted m some e same) = inl (ap (λ (x : State). row_at x.home n) same ∙ row)
     release_row s' b answer given (IsAccepted closed t e ends) = accepted_row s' b given t ends
-    release_row s' b answer given (IsRefused closed f e ends) = inl (ap (λ (i : Image). row_at i n) ends.settles ∙ row)
+    release_row s' b answer given (IsRefused closed f why e tells ends) = inl (ap (λ (i : Image). row_at i n) ends.settles ∙ row)
 
 -- each step leaves a live number its row, but for what a hold or a change of mode lets happen to it
 pub every_step_keeps_rows : EveryStepKeepsRows
@@ -112,7 +111,7 @@ every_step_keeps_rows s (Grant lib ino kind) answer s' n r k given (inl does) ro
 every_step_keeps_rows s (Allot lib count many) answer s' n r k given (inl does) row =
     inl (ap (λ (x : State). row_at x.home n) does.1 ∙ allot_row s n r row lib count many)
 every_step_keeps_rows s (Back lib ino) answer s' n r k given (inl does) row = inl (ap (λ (x : State). row_at x.home n) does.1 ∙ row)
-every_step_keeps_rows s (Release lib b) answer s' n r k given (inl does) row = release_row s n r row k lib s' b answer given (release_end s s' lib b answer does)
+every_step_keeps_rows s (Release lib b) answer s' n r k given (inl does) row = release_row s n r row k lib s' b answer given does
 every_step_keeps_rows s (Settle lib b) answer s' n r k given (inl does) row =
     elim (accepted_row s n r row k lib s' b given does.2 does.3) [
       | inl same ↦ inl same

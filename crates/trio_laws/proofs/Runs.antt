@@ -6,28 +6,27 @@ use Rattle.trio_state.specs.Given.{GivenTo, GivenEvent}
 use Rattle.trio_state.specs.Image.{IsFit, Image}
 use Rattle.trio_state.specs.Kept.{Kept}
 use Rattle.trio_state.specs.Proposed.{Bundle}
-use Rattle.trio_state.specs.Run.{IsWhole, Trace, start}
+use Rattle.trio_state.specs.Run.{IsWhole, Move, Trace, start}
 use Rattle.trio_state.specs.State.{State, creds_of}
-use Rattle.trio_state.specs.Step.{Event, Grant, Allot, Back, Release, Settle, SetMode, Answer, Step}
+use Rattle.trio_state.specs.Step.{Event, Grant, Allot, Back, Release, Settle, SetMode, Answer, Step, ReleaseEnd, Parted, IsAccepted, IsRefused}
 use Rattle.trio_state.specs.Verifies.{Verifies}
 use Rattle.trio_laws.proofs.Accepting.{accepted_kept}
 use Rattle.trio_laws.proofs.Allots.{allot_kept}
 use Rattle.trio_laws.proofs.Bundles.{closed_unparted, closed_all}
 use Rattle.trio_laws.proofs.Backs.{back_kept}
 use Rattle.trio_laws.proofs.Grants.{grant_kept}
-use Rattle.trio_laws.proofs.Releases.{ReleaseEnd, Parted, IsAccepted, IsRefused, release_end}
 use Rattle.trio_laws.proofs.Modes.{mode_kept}
 use Rattle.trio_laws.proofs.Refusing.{refused_kept}
 
 -- a step of a release of any bundle that was given to its library
 pub release_kept : (s s' : State) (lib : ℕ) (b : Bundle) (answer : Answer) → Kept s → GivenTo s lib b → Step s (Release lib b) answer s' → Kept s'
 release_kept s s' lib b answer k given (inr none) = (let K : State → Type 0 = λ x. Kept x in subst K (sym none.2) k)
-release_kept s s' lib b answer k given (inl does) = by_end (release_end s s' lib b answer does)
+release_kept s s' lib b answer k given (inl does) = by_end does
   where
     by_end : ReleaseEnd s lib b answer s' → Kept s'
     by_end (Parted n none e same) = (let K : State → Type 0 = λ x. Kept x in subst K (sym same) k)
     by_end (IsAccepted none t e ends) = accepted_kept s s' k lib (creds_of s lib) b given (closed_unparted s lib b none) t ends
-    by_end (IsRefused none f e ends) = refused_kept s s' k lib b given (closed_unparted s lib b none) ends
+    by_end (IsRefused none f why e tells ends) = refused_kept s s' k lib b given (closed_unparted s lib b none) ends
 
 -- a step of a settle
 pub settle_kept : (s s' : State) (lib : ℕ) (b : Bundle) (answer : Answer) → Kept s → GivenTo s lib b → Step s (Settle lib b) answer s' → Kept s'
@@ -47,19 +46,16 @@ step_kept s s' (Release lib b) answer k given step = release_kept s s' lib b ans
 step_kept s s' (Settle lib b) answer k given step = settle_kept s s' lib b answer k given step
 step_kept s s' (SetMode lib ino mode) answer k given step = mode_kept s s' lib ino mode answer k step
 
--- each state of a run is kept
-pub trace_kept : (s : State) (events : List Event) (answers : List Answer) (states : List State) → Kept s → Trace s events answers states → (t : State) → In t states → Kept t
-trace_kept s [] [] [] k run t i = absurd i
-trace_kept s [] [] (u ∷ states) k run t i = absurd run
-trace_kept s [] (answer ∷ answers) states k run t i = absurd run
-trace_kept s (event ∷ events) [] states k run t i = absurd run
-trace_kept s (event ∷ events) (answer ∷ answers) [] k run t i = absurd run
-trace_kept s (event ∷ events) (answer ∷ answers) (u ∷ states) k run t i =
-    let now : Kept u = step_kept s u event answer k run.0 run.1 in
-    let K : State → Type 0 = λ x. Kept x in
+-- each move of a run begins and ends in a kept state
+pub trace_kept : (s : State) (moves : List Move) → Kept s → Trace s moves → (m : Move) → In m moves → Kept m.before × Kept m.after
+trace_kept s [] k run m i = absurd i
+trace_kept s (x ∷ moves) k run m i =
+    let K : State → Type 0 = λ t. Kept t in
+    let before : Kept x.before = subst K (sym run.0) k in
+    let after : Kept x.after = step_kept x.before x.after x.event x.answer before run.1 run.2 in
     elim i [
-      | inl e ↦ subst K (sym e) now
-      | inr j ↦ trace_kept u events answers states now run.2 t j
+      | inl e ↦ (let B : Move → Type 0 = λ y. Kept y.before × Kept y.after in subst B (sym e) (before, after))
+      | inr j ↦ trace_kept x.after moves after run.3 m j
     ]
 
 -- the image that a run begins with

@@ -15,13 +15,13 @@ use Rattle.trio_state.specs.Accept.{is_accepted, next}
 use Rattle.trio_state.specs.Grants.{grant_fault}
 use Rattle.trio_state.specs.Allotments.{free_pages, free_numbers, allots}
 use Rattle.trio_state.specs.State.{logged}
-use Rattle.trio_state.specs.Step.{Event, Grant, Allot, Back, Release, Settle, SetMode, Answer, NoPages, NoInodes, Given, Done, Accepted, Refused, NotClosed, Settled, NoMemory, Outcome, Does, granted_to, allot_outcome, mode_fault, moded_to}
+use Rattle.trio_state.specs.Step.{Event, Grant, Allot, Back, Release, Settle, SetMode, Answer, NoPages, NoInodes, Given, Done, Accepted, Refused, NotClosed, Settled, NoMemory, Outcome, Does, Step, granted_to, allot_outcome, mode_fault, moded_to, ReleaseEnd, Parted, IsAccepted, IsRefused}
 use Rattle.trio_state.specs.Kept.{Kept}
-use Rattle.trio_state.specs.Run.{start, Trace}
-use Rattle.trio_laws.specs.Laws.{AnyRun, EveryStateIsKept, Happens, IsMove, EveryMoveIsAStep, EveryReleaseIsJudged, NeverStuck}
+use Rattle.trio_state.specs.Given.{GivenEvent}
+use Rattle.trio_state.specs.Run.{start, Move, Trace}
+use Rattle.trio_laws.specs.Laws.{AnyRun, EveryStateIsKept, EveryMoveIsAStep, EveryReleaseIsJudged, NeverStuck}
 use Rattle.trio_laws.proofs.Accepted.{fit_proposed, accepted_verifies}
-use Rattle.trio_laws.proofs.Runs.{step_kept, trace_kept, start_kept as first_kept}
-use Rattle.trio_laws.proofs.Releases.{ReleaseEnd, Parted, IsAccepted, IsRefused, release_end}
+use Rattle.trio_laws.proofs.Runs.{trace_kept, start_kept as first_kept}
 use Rattle.trio_laws.proofs.Possible.{call_possible}
 use Rattle.trio_laws.proofs.Verdicts.{release_verdict}
 
@@ -33,38 +33,29 @@ run_begins : (run : AnyRun) → Kept (start run.image run.creds)
 run_begins run = first_kept run.image run.creds run.fit run.verifies run.whole
 
 pub every_state_is_kept : EveryStateIsKept
-every_state_is_kept run s i =
-    let K : State → Type 0 = λ x. Kept x in
+every_state_is_kept run =
     let begins = run_begins run in
-    let k : Kept s = elim i [
-      | inl first ↦ subst K (sym first) begins
-      | inr later ↦ trace_kept (start run.image run.creds) run.events run.answers run.states begins run.trace s later
-    ] in
-    (k, k.verifies)
+    (begins, λ m i. trace_kept (start run.image run.creds) run.moves begins run.trace m i)
 
--- each move of a trace is a step from a kept state
-pub trace_moves : (first : State) (events : List Event) (answers : List Answer) (states : List State) → Kept first → Trace first events answers states → (s : State) (event : Event) (answer : Answer) (s' : State) → Happens first events answers states s event answer s' → IsMove s event answer s'
-trace_moves first [] answers states k trace s event answer s' come = absurd come
-trace_moves first (e ∷ events) [] states k trace s event answer s' come = absurd come
-trace_moves first (e ∷ events) (a ∷ answers) [] k trace s event answer s' come = absurd come
-trace_moves first (e ∷ events) (a ∷ answers) (t ∷ states) k trace s event answer s' (inr later) =
-    trace_moves t events answers states (step_kept first t e a k trace.0 trace.1) trace.2 s event answer s' later
-trace_moves first (e ∷ events) (a ∷ answers) (t ∷ states) k trace s event answer s' (inl here) =
-    let M0 : State → Type 0 = λ x. IsMove x e a t in
-    let M1 : Event → Type 0 = λ x. IsMove s x a t in
-    let M2 : Answer → Type 0 = λ x. IsMove s event x t in
-    let M3 : State → Type 0 = λ x. IsMove s event answer x in
-    let move : IsMove first e a t = record { kept = k; given = trace.0; step = trace.1 } in
-    subst M3 (sym here.3) (subst M2 (sym here.2) (subst M1 (sym here.1) (subst M0 (sym here.0) move)))
+-- each move of a trace is a step of what was given
+trace_steps : (s : State) (moves : List Move) → Trace s moves → (m : Move) → In m moves → GivenEvent m.before m.event × Step m.before m.event m.answer m.after
+trace_steps s [] run m i = absurd i
+trace_steps s (x ∷ moves) run m i =
+    let M : Move → Type 0 = λ y. GivenEvent y.before y.event × Step y.before y.event y.answer y.after in
+    elim i [
+      | inl e ↦ subst M (sym e) (run.1, run.2)
+      | inr j ↦ trace_steps x.after moves run.3 m j
+    ]
 
 pub every_move_is_a_step : EveryMoveIsAStep
-every_move_is_a_step run s event answer s' come =
-    trace_moves (start run.image run.creds) run.events run.answers run.states (run_begins run) run.trace s event answer s' come
+every_move_is_a_step run m i =
+    let steps = trace_steps (start run.image run.creds) run.moves run.trace m i in
+    record { kept = ((every_state_is_kept run).1 m i).0; given = steps.0; step = steps.1 }
 
 pub every_release_is_judged : EveryReleaseIsJudged
-every_release_is_judged run s lib b answer s' come =
-    let move = every_move_is_a_step run s (Release lib b) answer s' come in
-    release_verdict s s' lib b answer move.step
+every_release_is_judged run m lib b i is =
+    let S : Event → Type 0 = λ event. Step m.before event m.answer m.after in
+    release_verdict m.before m.after lib b m.answer (subst S is (every_move_is_a_step run m i).step)
 
 -- ---- what each call does is never want of memory
 
@@ -89,12 +80,12 @@ mode_told s ino mode (Some fault) wrong = absurd (cc wrong)
 mode_told s ino mode None wrong = absurd (cc wrong)
 
 release_told : (s s' : State) (lib : ℕ) (b : Bundle) (answer : Answer) → Does s (Release lib b) answer s' → answer ≢ NoMemory
-release_told s s' lib b answer does = by_end (release_end s s' lib b answer does)
+release_told s s' lib b answer does = by_end does
   where
     by_end : ReleaseEnd s lib b answer s' → answer ≢ NoMemory
     by_end (Parted n some e same) = told answer (NotClosed n) e (λ wrong. absurd (cc wrong))
     by_end (IsAccepted none t e ends) = told answer Accepted e (λ wrong. absurd (cc wrong))
-    by_end (IsRefused none f e ends) = told answer Refused e (λ wrong. absurd (cc wrong))
+    by_end (IsRefused none f why e tells ends) = told answer (Refused why) e (λ wrong. absurd (cc wrong))
 
 does_told : (s : State) (event : Event) (answer : Answer) (s' : State) → Does s event answer s' → answer ≢ NoMemory
 does_told s (Grant lib ino kind) answer s' does = told answer _ does.0 (grant_told s lib ino kind (grant_fault s lib ino kind) (row_at s.home ino))

@@ -14,7 +14,8 @@ use Rattle.trio_state.specs.State.{State, settled, creds_of, covered}
 use Rattle.trio_state.specs.Proposed.{Bundle}
 use Rattle.trio_state.specs.Accept.{is_accepted, next}
 use Rattle.trio_state.specs.Bundles.{parted_hold, uncovered, refused_image, Ends}
-use Rattle.trio_state.specs.Step.{Answer, Accepted, Refused, NotClosed, NoMemory, Release, Step}
+use Rattle.trio_state.specs.Tells.{Why, Tells}
+use Rattle.trio_state.specs.Step.{Answer, Accepted, Refused, NotClosed, NoMemory, Release, Step, ReleaseEnd, Parted, IsAccepted, IsRefused}
 use Rattle.trio_state.specs.Kept.{Kept}
 use Rattle.trio_state.specs.Given.{GivenTo}
 use Rattle.trio_laws.specs.Reading.{pages_read}
@@ -24,7 +25,6 @@ use Rattle.trio_laws.proofs.Owned.{sound_parts}
 use Rattle.trio_laws.proofs.Sheets.{with_pages_apart}
 use Rattle.trio_laws.proofs.Agreeing.{body_still}
 use Rattle.trio_laws.proofs.Bundles.{Closed, closed_unparted}
-use Rattle.trio_laws.proofs.Releases.{ReleaseEnd, Parted, IsAccepted, IsRefused, release_end}
 use Rattle.trio_laws.proofs.Refusing.{agree, fit', pages}
 
 without_memory : (s : State) (lib : ℕ) (b : Bundle) → IsVerdict s lib b NoMemory s
@@ -35,7 +35,8 @@ without_memory s lib b = record {
   accepted = λ judged. absurd (judged.0 refl);
   refused = λ judged. absurd (judged.0 refl);
   stands = λ e. absurd (cc e);
-  returns = λ e. absurd (cc e);
+  returns = λ refused. (let wrong = refused.1 in absurd (cc wrong));
+  tells = λ why e. absurd (cc e);
 }
 
 parted_back : (s : State) (lib : ℕ) (b : Bundle) (n : ℕ) → parted_hold s lib b ≡ Some n → IsVerdict s lib b (NotClosed n) s
@@ -46,7 +47,8 @@ parted_back s lib b n parted = record {
   accepted = λ judged. absurd (judged.1 n refl);
   refused = λ judged. absurd (judged.1 n refl);
   stands = λ e. absurd (cc e);
-  returns = λ e. absurd (cc e);
+  returns = λ refused. (let wrong = refused.1 in absurd (cc wrong));
+  tells = λ why e. absurd (cc e);
 }
 
 is_accepted_then : (s s' : State) (lib : ℕ) (b : Bundle) → parted_hold s lib b ≡ None → is_accepted (settled s) (creds_of s lib) b ≡ true → settled s' ≡ next (settled s) b → IsVerdict s lib b Accepted s'
@@ -55,20 +57,22 @@ is_accepted_then s s' lib b none t settles = record {
   no_memory = λ e. absurd (cc e);
   closed = λ judged. none;
   accepted = λ judged. (λ e. t, λ e. refl);
-  refused = λ judged. (λ e. absurd (cc e), λ f. absurd (both_ways (is_accepted (settled s) (creds_of s lib) b) f t));
+  refused = λ judged. (λ r. (let wrong = r.1 in absurd (cc wrong)), λ f. absurd (both_ways (is_accepted (settled s) (creds_of s lib) b) f t));
   stands = λ e. settles;
-  returns = λ e. absurd (cc e);
+  returns = λ refused. (let wrong = refused.1 in absurd (cc wrong));
+  tells = λ why e. absurd (cc e);
 }
 
-is_refused_then : (s s' : State) (lib : ℕ) (b : Bundle) → parted_hold s lib b ≡ None → is_accepted (settled s) (creds_of s lib) b ≡ false → settled s' ≡ refused_image (settled s) b → IsVerdict s lib b Refused s'
-is_refused_then s s' lib b none f settles = record {
+is_refused_then : (s s' : State) (lib : ℕ) (b : Bundle) (why : Why) → parted_hold s lib b ≡ None → is_accepted (settled s) (creds_of s lib) b ≡ false → Tells s lib b why → settled s' ≡ refused_image (settled s) b → IsVerdict s lib b (Refused why) s'
+is_refused_then s s' lib b why none f tells settles = record {
   parted = λ n e. absurd (cc e);
   no_memory = λ e. absurd (cc e);
   closed = λ judged. none;
   accepted = λ judged. (λ e. absurd (cc e), λ t. absurd (both_ways (is_accepted (settled s) (creds_of s lib) b) f t));
-  refused = λ judged. (λ e. f, λ e. refl);
+  refused = λ judged. (λ e. f, λ e. (why, refl));
   stands = λ e. absurd (cc e);
   returns = λ e. settles;
+  tells = λ other e. (let same : why ≡ other = cc e in subst (Tells s lib b) same tells);
 }
 
 same_verdict : (s s' : State) (lib : ℕ) (b : Bundle) (answer given : Answer) → answer ≡ given → s' ≡ s → IsVerdict s lib b given s → IsVerdict s lib b answer s'
@@ -79,12 +83,12 @@ same_verdict s s' lib b answer given e same v =
 -- each release is judged, handed back or answered for want of memory
 pub release_verdict : (s s' : State) (lib : ℕ) (b : Bundle) (answer : Answer) → Step s (Release lib b) answer s' → IsVerdict s lib b answer s'
 release_verdict s s' lib b answer (inr none) = same_verdict s s' lib b answer NoMemory none.1 none.2 (without_memory s lib b)
-release_verdict s s' lib b answer (inl does) = by_end (release_end s s' lib b answer does)
+release_verdict s s' lib b answer (inl does) = by_end does
   where
     by_end : ReleaseEnd s lib b answer s' → IsVerdict s lib b answer s'
     by_end (Parted n some e same) = same_verdict s s' lib b answer (NotClosed n) e same (parted_back s lib b n some)
     by_end (IsAccepted none t e ends) = (let V : Answer → Type 0 = λ a. IsVerdict s lib b a s' in subst V (sym e) (is_accepted_then s s' lib b none t ends.settles))
-    by_end (IsRefused none f e ends) = (let V : Answer → Type 0 = λ a. IsVerdict s lib b a s' in subst V (sym e) (is_refused_then s s' lib b none f ends.settles))
+    by_end (IsRefused none f why e tells ends) = (let V : Answer → Type 0 = λ a. IsVerdict s lib b a s' in subst V (sym e) (is_refused_then s s' lib b why none f tells ends.settles))
 
 -- a page that a checkpoint covers is one that is read of its file
 covered_read : (kind : Kind) (index blocks : List Sheet) (f : FileRead) (p : ℕ) → sheet_numbers index ≡ f.chain.index → sheet_numbers blocks ≡ f.chain.blocks → In p (sheet_numbers (covered Write kind index blocks)) → In p (pages_read kind f)
@@ -113,10 +117,10 @@ refused_back s s' k lib b given closed e =
 
 -- a refusal leaves what the checkpoint covers
 pub refusal_keeps : RefusalKeeps
-refusal_keeps s lib b s' k given (inr none) = (let wrong : Refused ≡ NoMemory = none.1 in absurd (cc wrong))
-refusal_keeps s lib b s' k given (inl does) = by_end (release_end s s' lib b Refused does)
+refusal_keeps s lib b why s' k given (inr none) = (let wrong : Refused why ≡ NoMemory = none.1 in absurd (cc wrong))
+refusal_keeps s lib b why s' k given (inl does) = by_end does
   where
-    by_end : ReleaseEnd s lib b Refused s' → IsBack s b s'
+    by_end : ReleaseEnd s lib b (Refused why) s' → IsBack s b s'
     by_end (Parted n some e same) = absurd (cc e)
     by_end (IsAccepted none t e ends) = absurd (cc e)
-    by_end (IsRefused none f e ends) = refused_back s s' k lib b given (closed_unparted s lib b none) ends
+    by_end (IsRefused none f other e tells ends) = refused_back s s' k lib b given (closed_unparted s lib b none) ends

@@ -22,53 +22,38 @@ use Rattle.trio_state.specs.State.{State, settled, creds_of, covered}
 use Rattle.trio_state.specs.Proposed.{Written, Bundle, is_written}
 use Rattle.trio_state.specs.Accept.{is_accepted, next}
 use Rattle.trio_state.specs.Bundles.{parted_hold, uncovered, refused_image, has_all}
+use Rattle.trio_state.specs.Tells.{Why, Tells}
 use Rattle.trio_state.specs.Step.{Event, Grant, Allot, Back, Release, Settle, SetMode, Answer, Accepted, Refused, NotClosed, NoMemory, Does, Step}
 use Rattle.trio_state.specs.Kept.{Kept}
 use Rattle.trio_state.specs.Given.{HasGrant, GivenTo, GivenEvent}
-use Rattle.trio_state.specs.Run.{start, IsWhole, Trace}
+use Rattle.trio_state.specs.Run.{start, IsWhole, Move, Trace}
 
 -- ---- runs
 
--- A run from an image that verifies, with all its pages there: any events that hand in what was given, with any bytes, the
--- answers to them, and the state after each.
+-- A run from an image that verifies, with all its pages there: moves of any events that hand in what was given, with any bytes.
 pub record AnyRun : Type 0 where
   pub image : Image
   pub creds : List Creds
-  pub events : List Event
-  pub answers : List Answer
-  pub states : List State
+  pub moves : List Move
   pub fit : IsFit image.core
   pub verifies : Verifies image
   pub whole : IsWhole image
-  pub trace : Trace (start image creds) events answers states
+  pub trace : Trace (start image creds) moves
 
 -- each state that a run comes through, the first one too, is kept, and so its settled image verifies
 abbrev pub EveryStateIsKept : Type 0
-EveryStateIsKept = (run : AnyRun) (s : State) → In s (start run.image run.creds ∷ run.states) → Kept s × Verifies (settled s)
-
--- somewhere from the first state on, this event came in this state, with this answer, and this state after it
-abbrev pub Happens : State → List Event → List Answer → List State → State → Event → Answer → State → Type 0
-Happens first [] answers states s event answer s' = ⊥
-Happens first (e ∷ events) [] states s event answer s' = ⊥
-Happens first (e ∷ events) (a ∷ answers) [] s event answer s' = ⊥
-Happens first (e ∷ events) (a ∷ answers) (t ∷ states) s event answer s' =
-    ((s ≡ first) × (event ≡ e) × (answer ≡ a) × (s' ≡ t)) ⊎ Happens t events answers states s event answer s'
-
--- the same somewhere in a run
-abbrev pub HappensIn : AnyRun → State → Event → Answer → State → Type 0
-HappensIn run s event answer s' = Happens (start run.image run.creds) run.events run.answers run.states s event answer s'
+EveryStateIsKept =
+    (run : AnyRun) → Kept (start run.image run.creds) × ((m : Move) → In m run.moves → Kept m.before × Kept m.after)
 
 -- a step from a kept state, of an event that hands in what was given
-pub record IsMove (s : State) (event : Event) (answer : Answer) (s' : State) : Type 0 where
-  pub kept : Kept s
-  pub given : GivenEvent s event
-  pub step : Step s event answer s'
+pub record IsMove (m : Move) : Type 0 where
+  pub kept : Kept m.before
+  pub given : GivenEvent m.before m.event
+  pub step : Step m.before m.event m.answer m.after
 
 -- each move of a run is one; so what is said below of steps from kept states holds in every run
 abbrev pub EveryMoveIsAStep : Type 0
-EveryMoveIsAStep =
-    (run : AnyRun) (s : State) (event : Event) (answer : Answer) (s' : State)
-    → HappensIn run s event answer s' → IsMove s event answer s'
+EveryMoveIsAStep = (run : AnyRun) (m : Move) → In m run.moves → IsMove m
 
 -- ---- one connected tree
 
@@ -116,23 +101,28 @@ ImageIsTree = (image : Image) → IsFit image.core → Verifies image → IsTree
 abbrev pub IsJudged : Answer → Type 0
 IsJudged answer = (answer ≢ NoMemory) × ((n : ℕ) → answer ≢ NotClosed n)
 
+-- the answer is a refusal, for some cause
+abbrev pub IsRefusal : Answer → Type 0
+IsRefusal answer = (why : Why) × (answer ≡ Refused why)
+
 -- How a release ends. A bundle that is not closed comes back with nothing changed, and any bundle may for want of memory. One
 -- that is judged is closed; it is accepted exactly where it is acceptable in the image that is settled then, and refused exactly
--- where it is not, and then the next image is settled, or the one of a refusal.
+-- where it is not, and then the next image is settled, or the one of a refusal, which tells a cause that it may tell.
 pub record IsVerdict (s : State) (lib : ℕ) (b : Bundle) (answer : Answer) (s' : State) : Type 0 where
   pub parted : (n : ℕ) → answer ≡ NotClosed n → (parted_hold s lib b ≡ Some n) × (s' ≡ s)
   pub no_memory : answer ≡ NoMemory → s' ≡ s
   pub closed : IsJudged answer → parted_hold s lib b ≡ None
   pub accepted : IsJudged answer → (answer ≡ Accepted ↔ IsTrue (is_accepted (settled s) (creds_of s lib) b))
-  pub refused : IsJudged answer → (answer ≡ Refused ↔ IsFalse (is_accepted (settled s) (creds_of s lib) b))
+  pub refused : IsJudged answer → (IsRefusal answer ↔ IsFalse (is_accepted (settled s) (creds_of s lib) b))
   pub stands : answer ≡ Accepted → settled s' ≡ next (settled s) b
-  pub returns : answer ≡ Refused → settled s' ≡ refused_image (settled s) b
+  pub returns : IsRefusal answer → settled s' ≡ refused_image (settled s) b
+  pub tells : (why : Why) → answer ≡ Refused why → Tells s lib b why
 
 -- each release of a run ends so
 abbrev pub EveryReleaseIsJudged : Type 0
 EveryReleaseIsJudged =
-    (run : AnyRun) (s : State) (lib : ℕ) (b : Bundle) (answer : Answer) (s' : State)
-    → HappensIn run s (Release lib b) answer s' → IsVerdict s lib b answer s'
+    (run : AnyRun) (m : Move) (lib : ℕ) (b : Bundle)
+    → In m run.moves → m.event ≡ Release lib b → IsVerdict m.before lib b m.answer m.after
 
 -- What stands in the settled image after a refusal: all as before, but for the lent blocks of the bundle's regular files and its
 -- allotted pages. The pages that the checkpoints of its written files cover are not among these: they are as before, byte for byte.
@@ -152,8 +142,8 @@ pub record IsBack (s : State) (b : Bundle) (s' : State) : Type 0 where
 -- after a refusal it stands so
 abbrev pub RefusalKeeps : Type 0
 RefusalKeeps =
-    (s : State) (lib : ℕ) (b : Bundle) (s' : State)
-    → Kept s → GivenTo s lib b → Step s (Release lib b) Refused s' → IsBack s b s'
+    (s : State) (lib : ℕ) (b : Bundle) (why : Why) (s' : State)
+    → Kept s → GivenTo s lib b → Step s (Release lib b) (Refused why) s' → IsBack s b s'
 
 -- ---- no call is stuck
 

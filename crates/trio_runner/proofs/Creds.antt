@@ -11,8 +11,7 @@ use Rattle.trio_state.specs.State.{State, logged}
 use Rattle.trio_state.specs.Proposed.{Bundle}
 use Rattle.trio_state.specs.Grants.{grant_fault}
 use Rattle.trio_state.specs.Allotments.{allots, free_pages, free_numbers}
-use Rattle.trio_state.specs.Step.{Event, Grant, Allot, Back, Release, Settle, SetMode, Answer, Given, NoPages, NoInodes, Comes, Does, Step, granted_to, grant_outcome, after_grant_fault, allot_outcome, mode_fault, mode_outcome, moded_to, after_mode_fault}
-use Rattle.trio_laws.proofs.Releases.{ReleaseEnd, Parted, IsAccepted, IsRefused, release_end}
+use Rattle.trio_state.specs.Step.{Event, Grant, Allot, Back, Release, Settle, SetMode, Answer, Given, NoPages, NoInodes, Comes, Does, Step, granted_to, grant_outcome, after_grant_fault, allot_outcome, mode_fault, mode_outcome, moded_to, after_mode_fault, ReleaseEnd, Parted, IsAccepted, IsRefused}
 
 -- the credentials of a state
 creds_in : (s s' : State) → s' ≡ s → s'.creds ≡ s.creds
@@ -59,13 +58,13 @@ mode_creds s s' lib ino mode answer comes = by_fault (mode_fault s lib ino mode 
 release_creds : (s s' : State) (lib : ℕ) (b : Bundle) (answer : Answer) → ReleaseEnd s lib b answer s' → s'.creds ≡ s.creds
 release_creds s s' lib b answer (Parted n parted e same) = creds_in s s' same
 release_creds s s' lib b answer (IsAccepted closed t e ends) = ends.creds
-release_creds s s' lib b answer (IsRefused closed f e ends) = ends.creds
+release_creds s s' lib b answer (IsRefused closed f why e tells ends) = ends.creds
 
 does_creds : (s s' : State) (event : Event) (answer : Answer) → Does s event answer s' → s'.creds ≡ s.creds
 does_creds s s' (Grant lib ino kind) answer does = grant_creds s s' lib ino kind answer does
 does_creds s s' (Allot lib wanted many) answer does = allot_creds s s' lib wanted many answer does
 does_creds s s' (Back lib ino) answer does = ap (λ (t : State). t.creds) does.1
-does_creds s s' (Release lib b) answer does = release_creds s s' lib b answer (release_end s s' lib b answer does)
+does_creds s s' (Release lib b) answer does = release_creds s s' lib b answer does
 does_creds s s' (Settle lib b) answer does = does.3.creds
 does_creds s s' (SetMode lib ino mode) answer does = mode_creds s s' lib ino mode answer does
 

@@ -18,9 +18,8 @@ use Rattle.trio_state.specs.Proposed.{Written, Bundle, is_written}
 use Rattle.trio_state.specs.Grants.{grant_fault, opened, opens}
 use Rattle.trio_state.specs.Allotments.{allots, free_pages, free_numbers, out_after}
 use Rattle.trio_state.specs.Bundles.{Ends, grants_after, is_hold, is_in_bundle, lent_part}
-use Rattle.trio_state.specs.Step.{Event, Grant, Allot, Release, Given, NoPages, NoInodes, Done, NotClosed, NoMemory, Comes, after_grant_fault, granted_to, grant_outcome, allot_outcome}
+use Rattle.trio_state.specs.Step.{Event, Grant, Allot, Release, Given, NoPages, NoInodes, Done, NotClosed, NoMemory, Comes, after_grant_fault, granted_to, grant_outcome, allot_outcome, ReleaseEnd, Parted, IsAccepted, IsRefused}
 use Rattle.trio_laws.proofs.Images.{finds}
-use Rattle.trio_laws.proofs.Releases.{ReleaseEnd, Parted, IsAccepted, IsRefused, release_end}
 use Rattle.trio_raw.specs.Has.{Has, nothing, bundle_of, has_all_of, rest_of, whole_bundle, is_nothing}
 use Rattle.trio_raw.specs.Laws.{lent_file, with_lent, with_allotted, zero_sheet}
 use Rattle.trio_raw.proofs.Members.{In-left, In-right, In-cases, In-map, map_from, among_from, filter_in}
@@ -245,7 +244,7 @@ release_in_hand lib inos pages numbers p event told moves p' h a (Parted n parte
 release_in_hand lib inos pages numbers p event told moves p' h a (IsAccepted closed t e ends) =
     ends_in_hand lib p (bundle_of p.has inos pages numbers) _ (rest_of p.has inos pages numbers) p' h (named_leaves p.has inos pages numbers) ends
     (a.has ∙ ap (has_after lib p.state p.has (release inos pages numbers)) e)
-release_in_hand lib inos pages numbers p event told moves p' h a (IsRefused closed t e ends) =
+release_in_hand lib inos pages numbers p event told moves p' h a (IsRefused closed t why e tells ends) =
     ends_in_hand lib p (bundle_of p.has inos pages numbers) _ (rest_of p.has inos pages numbers) p' h (named_leaves p.has inos pages numbers) ends
     (a.has ∙ ap (has_after lib p.state p.has (release inos pages numbers)) e)
 
@@ -283,7 +282,7 @@ line_in_hand lib p (release inos pages numbers) told moves p' h plays = by_there
     by_there false a = alone_in_hand lib p said told moves p' h a
     by_there true a =
         elim a.step [
-          | inl does ↦ release_in_hand lib inos pages numbers p (Release lib b) told moves p' h a (release_end p.state p'.state lib b a.answer does)
+          | inl does ↦ release_in_hand lib inos pages numbers p (Release lib b) told moves p' h a does
           | inr none ↦ absurd (not_told told_of a.answer NoMemory told none.1 a.told_is refl)
         ]
 
@@ -299,10 +298,10 @@ lines_in_hand lib p (l ∷ lines) (t ∷ tolds) moves p' h plays =
 all_in_hand : (lib : ℕ) (p : Player) (end : EndAnswer) (moves : List Moved) (p' : Player) → AllInHand lib p → EndsAll lib p end moves p' → AllInHand lib p'
 all_in_hand lib p end moves p' h a =
     elim a.step [
-      | inl does ↦ elim (release_end p.state p'.state lib (whole_bundle p.has) a.answer does) [
+      | inl does ↦ elim does [
         | Parted n parted e same ↦ absurd (not_told end_of a.answer (NotClosed n) end e a.end_is refl)
         | IsAccepted closed t e ends ↦ ends_in_hand lib p (whole_bundle p.has) _ nothing p' h (all_leaves p.has) ends a.has
-        | IsRefused closed t e ends ↦ ends_in_hand lib p (whole_bundle p.has) _ nothing p' h (all_leaves p.has) ends a.has
+        | IsRefused closed t why e tells ends ↦ ends_in_hand lib p (whole_bundle p.has) _ nothing p' h (all_leaves p.has) ends a.has
       ]
       | inr none ↦ absurd (not_told end_of a.answer NoMemory end none.1 a.end_is refl)
     ]

@@ -15,8 +15,7 @@ use Rattle.trio_state.specs.Proposed.{Bundle}
 use Rattle.trio_state.specs.Grants.{grant_fault, opened}
 use Rattle.trio_state.specs.Allotments.{allots, free_pages, free_numbers}
 use Rattle.trio_state.specs.Bundles.{Ends, grants_after, is_in_bundle, lent_part}
-use Rattle.trio_state.specs.Step.{Event, Grant, Allot, Release, Answer, Given, NoPages, NoInodes, Done, NotClosed, NoMemory, Comes, Does, granted_to, grant_outcome, after_grant_fault, allot_outcome}
-use Rattle.trio_laws.proofs.Releases.{ReleaseEnd, Parted, IsAccepted, IsRefused, release_end}
+use Rattle.trio_state.specs.Step.{Event, Grant, Allot, Release, Answer, Given, NoPages, NoInodes, Done, NotClosed, NoMemory, Comes, Does, granted_to, grant_outcome, after_grant_fault, allot_outcome, ReleaseEnd, Parted, IsAccepted, IsRefused}
 use Rattle.trio_laws.proofs.Runs.{step_kept, start_kept}
 use Rattle.trio_raw.specs.Has.{Has, nothing, poked, has_all_of, bundle_of, rest_of, whole_bundle, is_nothing}
 use Rattle.trio_raw.specs.InHand.{InHand}
@@ -182,7 +181,7 @@ release_stands : (lib : ℕ) (inos pages numbers : List ℕ) (p : Player) (event
 release_stands lib inos pages numbers p event told moves p' h kept a (Parted n parted e same) = absurd (untold a.answer (NotClosed n) told e a.told_is refl)
 release_stands lib inos pages numbers p event told moves p' h kept a (IsAccepted closed t e ends) =
     rest_stands lib inos pages numbers p p' _ h kept ends (a.has ∙ ap (has_after lib p.state p.has (release inos pages numbers)) e)
-release_stands lib inos pages numbers p event told moves p' h kept a (IsRefused closed t e ends) =
+release_stands lib inos pages numbers p event told moves p' h kept a (IsRefused closed t why e tells ends) =
     rest_stands lib inos pages numbers p p' _ h kept ends (a.has ∙ ap (has_after lib p.state p.has (release inos pages numbers)) e)
 
 -- a line that asks something
@@ -212,7 +211,7 @@ asked_stands lib p said event told moves p' h e given a =
         by_there true f =
             let same : Release lib (bundle_of p.has inos pages numbers) ≡ event = cc f in
             let D : Event → Type 0 = λ x. Does p.state x a.answer p'.state in
-            release_stands lib inos pages numbers p event told moves p' h kept a (release_end p.state p'.state lib (bundle_of p.has inos pages numbers) a.answer (subst D (sym same) does))
+            release_stands lib inos pages numbers p event told moves p' h kept a (subst D (sym same) does)
 
 -- a line that asks nothing
 alone_stands : (lib : ℕ) (p : Player) (said : Said) (told : Told) (moves : List Moved) (p' : Player) → Stands lib p → Alone p said told moves p' → Stands lib p'
@@ -259,10 +258,10 @@ all_stands : (lib : ℕ) (p : Player) (end : EndAnswer) (moves : List Moved) (p'
 all_stands lib p end moves p' h a =
     let kept : Kept p'.state = step_kept p.state p'.state (Release lib (whole_bundle p.has)) a.answer h.kept (all_given lib p h) a.step in
     elim a.step [
-      | inl does ↦ elim (release_end p.state p'.state lib (whole_bundle p.has) a.answer does) [
+      | inl does ↦ elim does [
         | Parted n parted e same ↦ absurd (unended a.answer (NotClosed n) end e a.end_is refl)
         | IsAccepted closed t e ends ↦ nothing_stands lib p p' _ h kept ends a.has
-        | IsRefused closed t e ends ↦ nothing_stands lib p p' _ h kept ends a.has
+        | IsRefused closed t why e tells ends ↦ nothing_stands lib p p' _ h kept ends a.has
       ]
       | inr none ↦ absurd (unended a.answer NoMemory end none.1 a.end_is refl)
     ]

@@ -24,8 +24,7 @@ use Rattle.trio_state.specs.Proposed.{Bundle, Written}
 use Rattle.trio_state.specs.Given.{GivenTo}
 use Rattle.trio_state.specs.Grants.{opened}
 use Rattle.trio_state.specs.Bundles.{is_hold, is_parted, is_parent_written, lowest, parted_hold}
-use Rattle.trio_state.specs.Step.{Event, Allot, Grant, Release, Answer, Given, Granted, Accepted, Refused, NotClosed, NoMemory, Step}
-use Rattle.trio_laws.proofs.Releases.{Parted, IsAccepted, IsRefused, release_end}
+use Rattle.trio_state.specs.Step.{Event, Allot, Grant, Release, Answer, Given, Granted, Accepted, Refused, NotClosed, NoMemory, Step, Parted, IsAccepted, IsRefused}
 use Rattle.trio_raw.specs.Has.{nothing, has_all_of, bundle_of, rest_of, whole_bundle, is_nothing}
 use Rattle.trio_raw.specs.Held.{Held, file_of}
 use Rattle.trio_raw.specs.Laws.{lent_file, with_lent, zero_sheet}
@@ -71,10 +70,10 @@ closed s lib b none = ap (λ (gs : List OpenGrant). lowest (map (λ (g : OpenGra
 pub never_parted : (s s' : State) (lib n : ℕ) (b : Bundle) → HasNoHold lib s → Step s (Release lib b) (NotClosed n) s' → ⊥
 never_parted s s' lib n b none step =
     elim step [
-      | inl does ↦ elim (release_end s s' lib b (NotClosed n) does) [
+      | inl does ↦ elim does [
         | Parted m parted e same ↦ (let wrong : None ≡ Some m = sym (closed s lib b none) ∙ parted in absurd (cc wrong))
         | IsAccepted c t e ends ↦ absurd (cc e)
-        | IsRefused c t e ends ↦ absurd (cc e)
+        | IsRefused c t why e tells ends ↦ absurd (cc e)
       ]
       | inr lacks ↦ (let wrong : NotClosed n ≡ NoMemory = lacks.1 in absurd (cc wrong))
     ]

@@ -9,6 +9,7 @@ pub mod Mode
 pub mod Grants
 pub mod Allotments
 pub mod Bundles
+pub mod Tells
 pub mod Step
 pub mod Kept
 pub mod Given

@@ -22,11 +22,15 @@ Run s (event ∷ events) (answer ∷ answers) s' = (mid : State) × Step s event
 Run s [] (answer ∷ answers) s' = ⊥
 Run s (event ∷ events) [] s' = ⊥
 
--- the same with every state after an event, of events that hand in what was given
-abbrev pub Trace : State → List Event → List Answer → List State → Type 0
-Trace s [] [] [] = Unit {0}
-Trace s (event ∷ events) (answer ∷ answers) (t ∷ states) = GivenEvent s event × Step s event answer t × Trace t events answers states
-Trace s [] [] (t ∷ states) = ⊥
-Trace s [] (answer ∷ answers) states = ⊥
-Trace s (event ∷ events) [] states = ⊥
-Trace s (event ∷ events) (answer ∷ answers) [] = ⊥
+-- a call with its answer, and the states before and after it
+pub record Move : Type 0 where
+  pub before : State
+  pub event : Event
+  pub answer : Answer
+  pub after : State
+
+-- moves from s on: each begins where the one before it ended, hands in what was given, and is a step
+abbrev pub Trace : State → List Move → Type 0
+Trace s [] = Unit {0}
+Trace s (m ∷ moves) =
+    (m.before ≡ s) × GivenEvent m.before m.event × Step m.before m.event m.answer m.after × Trace m.after moves

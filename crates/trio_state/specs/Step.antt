@@ -1,5 +1,5 @@
 -- The steps of the controller, by its calls.
-use Rattle.std.specs.Prelude.{◌≡◌, MatchBool, MatchOption, ℕ, ◌==◌, nat_lt, Bool, true, false, not, ◌||◌, ◌⊎◌, List, length, take, Option, Some, None, if◌then◌else◌, slice_get, IsTrue}
+use Rattle.std.specs.Prelude.{◌≡◌, ℕ, ◌==◌, nat_lt, Bool, true, false, not, ◌||◌, ◌⊎◌, List, length, take, Option, Some, None, if◌then◌else◌, slice_get, IsTrue, IsFalse}
 use Rattle.std.specs.List.{filter}
 use Rattle.std.specs.Option.{option_map}
 use Rattle.trio_rights.specs.Row.{Row}
@@ -16,6 +16,7 @@ use Rattle.trio_state.specs.Mode.{moded}
 use Rattle.trio_state.specs.Grants.{grant_fault, opened, opens, told_children, given_back, holder_of}
 use Rattle.trio_state.specs.Allotments.{free_pages, free_numbers, allots}
 use Rattle.trio_state.specs.Bundles.{parted_hold, refused_image, Ends, has_all}
+use Rattle.trio_state.specs.Tells.{Why, Tells}
 
 -- one call of the controller, by a library
 pub data Event : Type 0 where
@@ -34,7 +35,7 @@ pub data Answer : Type 0 where
   NoInodes : (wanted free : ℕ) → Answer
   Done : Answer
   Accepted : Answer
-  Refused : Answer
+  Refused : (why : Why) → Answer
   NotClosed : (ino : ℕ) → Answer
   Settled : Answer
   ModeSet : Answer
@@ -96,21 +97,24 @@ mode_outcome s lib ino mode = moded_to s ino mode (mode_fault s lib ino mode (ro
 abbrev pub Comes : Outcome → Answer → State → Type 0
 Comes o answer s' = (answer ≡ o.answer) × (s' ≡ o.after)
 
--- The end of a release. It is accepted exactly where the bundle is, and refused otherwise.
-abbrev pub Judged : State → ℕ → Bundle → Answer → State → Type 0
-Judged s lib b answer s' =
-    let image = settled s in
-    MatchBool (is_accepted image (creds_of s lib) b)
-    ((answer ≡ Accepted) × Ends s lib b (next image b) s')
-    ((answer ≡ Refused) × Ends s lib b (refused_image image b) s')
+-- A release ends parted, accepted or refused: a bundle that is not closed comes back with nothing changed; a closed one is
+-- accepted where it is acceptable in the settled image, and refused, with a cause, where it is not.
+pub data ReleaseEnd (s : State) (lib : ℕ) (b : Bundle) (answer : Answer) (s' : State) : Type 0 where
+  Parted : (n : ℕ) → parted_hold s lib b ≡ Some n → answer ≡ NotClosed n → s' ≡ s → ReleaseEnd s lib b answer s'
+  IsAccepted :
+    parted_hold s lib b ≡ None → IsTrue (is_accepted (settled s) (creds_of s lib) b)
+    → answer ≡ Accepted → Ends s lib b (next (settled s) b) s' → ReleaseEnd s lib b answer s'
+  IsRefused :
+    parted_hold s lib b ≡ None → IsFalse (is_accepted (settled s) (creds_of s lib) b)
+    → (why : Why) → answer ≡ Refused why → Tells s lib b why
+    → Ends s lib b (refused_image (settled s) b) s' → ReleaseEnd s lib b answer s'
 
 -- what each call does, where memory is there
 abbrev pub Does : State → Event → Answer → State → Type 0
 Does s (Grant lib ino kind) answer s' = Comes (grant_outcome s lib ino kind) answer s'
 Does s (Allot lib pages numbers) answer s' = Comes (allot_outcome s lib pages numbers) answer s'
 Does s (Back lib ino) answer s' = (answer ≡ Done) × (s' ≡ given_back s lib ino)
-Does s (Release lib b) answer s' =
-    MatchOption (parted_hold s lib b) (Judged s lib b answer s') (λ n. (answer ≡ NotClosed n) × (s' ≡ s))
+Does s (Release lib b) answer s' = ReleaseEnd s lib b answer s'
 Does s (Settle lib b) answer s' =
     let image = settled s in
     (answer ≡ Settled) × IsTrue (has_all s lib b) × IsTrue (is_accepted image (creds_of s lib) b) × Ends s lib b (next image b) s'
