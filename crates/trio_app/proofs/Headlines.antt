@@ -1,36 +1,48 @@
 -- The claim, of a script that is played on an image that verifies.
-use Rattle.std.proofs.Common.{◌≡◌, List, [], inl, inr, map}
+use Rattle.std.proofs.Common.{◌≡◌, List, [], subst, inl, inr}
 use Rattle.std.proofs.lemmas.Bool.{false≢true}
 use Rattle.trio_rights.specs.declared.rights.Creds.{Creds}
 use Rattle.trio_state.specs.Image.{Image, IsFit}
 use Rattle.trio_state.specs.Kept.{Kept}
 use Rattle.trio_state.specs.Run.{IsWhole, start}
 use Rattle.trio_state.specs.Verifies.{Verifies}
-use Rattle.trio_laws.proofs.StateLaws.{every_release_is_judged}
+use Rattle.trio_state.specs.State.{settled}
+use Rattle.trio_state.specs.Given.{GivenEvent}
+use Rattle.trio_state.specs.Step.{Event, Answer, Release, Step}
+use Rattle.trio_laws.specs.Laws.{AnyRun}
+use Rattle.trio_laws.proofs.StateLaws.{every_state_is_kept, every_move_is_a_step, every_release_is_judged}
+use Rattle.trio_laws.proofs.Trees.{image_is_tree}
+use Rattle.trio_laws.proofs.Verdicts.{refusal_keeps}
 use Rattle.trio_script.specs.Script.{SaidLine}
 use Rattle.trio_runner.specs.Play.{Played, moves_of}
 use Rattle.trio_runner.proofs.EndFree.{ends_free}
-use Rattle.trio_runner.proofs.Runs.{played_is_trace, played_keeps}
+use Rattle.trio_runner.proofs.Runs.{played_is_trace}
 use Rattle.trio_app.specs.Headline.{Headline}
 
 headline_of : (image : Image) (creds : List Creds) (lines : List SaidLine) (played : Played image creds lines) → IsFit image.core → Verifies image → IsWhole image → Headline image creds (moves_of played)
 headline_of image creds lines played fit verifies whole =
-    let run = played_is_trace image creds lines played fit verifies whole in
+    let run : AnyRun = record {
+      image = image;
+      creds = creds;
+      moves = moves_of played;
+      fit = fit;
+      verifies = verifies;
+      whole = whole;
+      trace = played_is_trace image creds lines played fit verifies whole;
+    } in
+    let all = every_state_is_kept run in
     record {
-      run = run;
-      verifies = λ m i. played_keeps image creds lines played m fit verifies whole i;
-      judged = λ s lib b answer s' happens.
-          every_release_is_judged (record {
-            image = image;
-            creds = creds;
-            events = map (λ m. m.event) (moves_of played);
-            answers = map (λ m. m.answer) (moves_of played);
-            states = map (λ m. m.after) (moves_of played);
-            fit = fit;
-            verifies = verifies;
-            whole = whole;
-            trace = run;
-          }) s lib b answer s' happens;
+      run = run.trace;
+      begins = (all.0, image_is_tree image fit verifies);
+      kept = λ m i. (all.1 m i).1;
+      tree = λ m i. let k = (all.1 m i).1 in image_is_tree (settled m.after) k.fit k.verifies;
+      judged = every_release_is_judged run;
+      back = λ m lib b why i is told.
+          let move = every_move_is_a_step run m i in
+          let G : Event → Type 0 = λ event. GivenEvent m.before event in
+          let S : Event → Type 0 = λ event. Step m.before event m.answer m.after in
+          let R : Answer → Type 0 = λ answer. Step m.before (Release lib b) answer m.after in
+          refusal_keeps m.before lib b why m.after move.kept (subst G is move.given) (subst R told (subst S is move.step));
     }
 
 -- the image of a controller that has just started is whole

@@ -1,6 +1,6 @@
 -- The end of a release: what the controller keeps after each verdict.
 use Rattle.std.proofs.Common.{◌≡◌, ◌≢◌, ℕ, zero, suc, ◌+◌, Bool, true, false, List, [], ◌∷◌, ◌++◌, length, map, Option, Some, None, is_some, IsTrue, refl, sym, ap, subst, ◌∙◌, inl, inr, arith}
-use Rattle.std.specs.Prelude.{MatchBool, MatchOption, if◌then◌else◌, not, slice_get, slice_index_or, slice_set}
+use Rattle.std.specs.Prelude.{if◌then◌else◌, not, slice_get, slice_index_or, slice_set}
 use Rattle.std.specs.List.{filter}
 use Rattle.std.specs.Option.{option_map, option_map_or}
 use Rattle.std.proofs.lemmas.Bool.{and_from, and_parts, cases_eq, ne_eqb}
@@ -16,14 +16,15 @@ use Rattle.trio_layout.specs.Lists.{In, are_new, is_among}
 use Rattle.trio_layout.specs.Sound.{is_sound}
 use Rattle.trio_layout.specs.Survey.{Pick, plain, root_of, survey}
 use Rattle.trio_state.specs.Accept.{is_accepted, next}
-use Rattle.trio_state.specs.Bundles.{Ends, blank, grants_after, is_in_bundle, lent_part, refused_image, uncovered}
+use Rattle.trio_state.specs.Bundles.{Ends, blank, grants_after, is_in_bundle, lent_part, parted_hold, refused_image, uncovered}
 use Rattle.trio_state.specs.Given.{GivenTo}
 use Rattle.trio_state.specs.Image.{Image, IsFit}
 use Rattle.trio_state.specs.Kept.{Kept}
 use Rattle.trio_state.specs.Proposed.{Bundle, bundle_pages, bundle_sheets, is_written, proposed, proposed_pick}
 use Rattle.trio_state.specs.Sheets.{Sheet, sheet_numbers, with_pages}
 use Rattle.trio_state.specs.State.{OpenGrant, Out, State, creds_of, settled}
-use Rattle.trio_state.specs.Step.{Accepted, Answer, Judged, NotClosed, Refused, Release, Step}
+use Rattle.trio_state.specs.Tells.{untold}
+use Rattle.trio_state.specs.Step.{Accepted, IsAccepted, IsRefused, Refused, Release, Step}
 use Rattle.trio_checkpoint.specs.Covered.{all_stand, standing}
 use Rattle.trio_laws.specs.EndLaws.{IsSpread, checkpoints_of, unless_absent}
 use Rattle.trio_laws.proofs.Accepted.{length-bodies}
@@ -43,6 +44,7 @@ use Rattle.trio_laws.proofs.SheetLaws.{get-set_other, get-set_same, length-with_
 use Rattle.trio_laws.proofs.Sheets.{Pages, page_there}
 use Rattle.trio_laws.proofs.StateFacts.{covered_write}
 use Rattle.trio_laws.proofs.Survivors.{fit_now, sound_now}
+use Rattle.trio_laws.proofs.Tells.{untold_tells}
 use Rattle.trio_proposal.specs.declared.judgement.NextImage.{NextImage}
 use Rattle.trio_proposal.specs.Judged.{IsImage}
 use Rattle.trio_ctl.specs.Ctl.{IsControlled, state_of}
@@ -185,11 +187,9 @@ module _ (s : Superblock) (pages : List (Option (List ℕ))) (rows : List (Optio
       let o : Opened = r.0 in
       In-flat (λ (g : OpenGrant). g.checkpoint) o.grant x now.open_grants (In-map (λ (o : Opened). o.grant) o files (stays_from o r.1)) r.2
 
-  -- the step of a release, by what its verdict says
-  step_of : (answer : Answer) (after : State) → Judged now lib.0 b answer after → Step now (Release lib.0 b) answer after
-  step_of answer after judged =
-      let P : Option ℕ → Type 0 = λ o. MatchOption o (Judged now lib.0 b answer after) (λ n. (answer ≡ NotClosed n) × (after ≡ now)) in
-      inl (subst P (sym (unparted_bundle s pages rows owners table files outs creds entries k lib b given)) judged)
+  -- without a hold the bundle is closed
+  unparted : parted_hold now lib.0 b ≡ None
+  unparted = unparted_bundle s pages rows owners table files outs creds entries k lib b given
 
   root_sized : (core : Core) → IsFit core → is_sound core plain ≡ true → length core.root ≡ 64
   root_sized core fit sound =
@@ -227,12 +227,8 @@ module _ (s : Superblock) (pages : List (Option (List ℕ))) (rows : List (Optio
             entries = more;
           }
 
-      pub refused_step : Step now (Release lib.0 b) Refused refused
-      refused_step =
-          let Yes : Type 0 = (Refused ≡ Accepted) × Ends now lib.0 b (next (settled now) b) refused in
-          let No : Type 0 = (Refused ≡ Refused) × Ends now lib.0 b (refused_image (settled now) b) refused in
-          let no : No = (refl, refused_ends) in
-          step_of Refused refused (subst (λ v. MatchBool v Yes No) (sym false') no)
+      pub refused_step : Step now (Release lib.0 b) (Refused untold) refused
+      refused_step = inl (IsRefused unparted false' untold refl (untold_tells now lib.0 b) refused_ends)
 
       pub refused_controlled : IsControlled s pages' rows owners table' stay outs' creds entries'
       refused_controlled = record {
@@ -248,7 +244,7 @@ module _ (s : Superblock) (pages : List (Option (List ℕ))) (rows : List (Optio
         out_pages = ap (λ (o : OutNow). o.page_count) returned ∙ k.out_pages;
         out_inodes = ap (λ (o : OutNow). o.inode_count) returned ∙ k.out_inodes;
         out_within = within_still_out;
-        kept = release_kept now refused lib.0 b Refused k.kept given refused_step;
+        kept = release_kept now refused lib.0 b (Refused untold) k.kept given refused_step;
       }
 
     -- ---- accepted
@@ -346,11 +342,7 @@ module _ (s : Superblock) (pages : List (Option (List ℕ))) (rows : List (Optio
             }
 
         pub accepted_step : Step now (Release lib.0 b) Accepted accepted
-        accepted_step =
-            let Yes : Type 0 = (Accepted ≡ Accepted) × Ends now lib.0 b (next (settled now) b) accepted in
-            let No : Type 0 = (Accepted ≡ Refused) × Ends now lib.0 b (refused_image (settled now) b) accepted in
-            let yes : Yes = (refl, accepted_ends) in
-            step_of Accepted accepted (subst (λ v. MatchBool v Yes No) (sym true') yes)
+        accepted_step = inl (IsAccepted unparted true' refl accepted_ends)
 
         pub accepted_controlled : IsControlled s' pages' n.rows n.owners table' files' outs' creds entries'
         accepted_controlled =

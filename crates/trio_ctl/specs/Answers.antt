@@ -31,9 +31,13 @@ abbrev pub release_fault_answer : ReleaseFault → Answer
 release_fault_answer NoReleaseMemory = NoMemory
 release_fault_answer (NotClosedBundle ino) = NotClosed ino
 
+-- a refusal tells its cause
+abbrev pub verdict_of : ReleaseAnswer → Answer
+verdict_of AcceptedBundle = Accepted
+verdict_of (RefusedBundle rule ino page slot) = Refused (record { rule = rule; ino = ino; page = page; slot = slot })
+
 abbrev pub release_answer : {B : Type 0} → Result ReleaseAnswer B → (B → ReleaseFault) → Answer
-release_answer (Ok AcceptedBundle) fault = Accepted
-release_answer (Ok (RefusedBundle rule ino page slot)) fault = Refused
+release_answer (Ok answer) fault = verdict_of answer
 release_answer (Err back) fault = release_fault_answer (fault back)
 
 abbrev pub allot_fault_answer : AllotFault → Answer

@@ -1,8 +1,7 @@
 //! The end of a release: the judgement of what a library hands in, and what stands after it.
 
-ghost use Rattle.std.specs.Prelude.{◌≡◌, ◌⊎◌, ◌≤◌, ℕ, [], IfErr, IfOk, IsTrue, true, false, length, map, slice_get, slice_index_or, vec_capacity};
+ghost use Rattle.std.specs.Prelude.{◌≡◌, ◌≤◌, ℕ, [], IfErr, IfOk, IsTrue, true, false, length, map, slice_get, slice_index_or, vec_capacity};
 ghost use Rattle.trio_layout.specs.Marks.{all_below};
-ghost use Rattle.trio_nodes.specs.declared.answers.ReleaseAnswer.TheVariants.{Accepted as AcceptedBundle, Refused as RefusedBundle};
 ghost use Rattle.trio_nodes.specs.declared.answers.ReleaseFault.TheVariants.{NoMemory as NoReleaseMemory};
 ghost use Rattle.trio_state.specs.Accept.{is_accepted, next};
 ghost use Rattle.trio_state.specs.Given.{GivenTo};
@@ -57,7 +56,6 @@ impl Ctl {
         requires library { IsLibrary lib self.old }
         requires given { GivenTo self.old lib.0 (bundle_in bundle) }
         ensures step { Step self.old (Release lib.0 (bundle_in bundle)) (release_answer result (λ back. back.1)) self.new }
-        ensures told { IfOk result (λ answer. (answer ≡ AcceptedBundle) ⊎ (answer ≡ RefusedBundle 0 0 0 0)) }
         ensures back { IfErr result (λ back. back.0 ≡ bundle) }
         ensures fault { IfErr result (λ back. back.1 ≡ NoReleaseMemory) }
         ensures was_kept { Kept self.old }

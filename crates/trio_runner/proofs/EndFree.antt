@@ -19,6 +19,7 @@ use Rattle.trio_state.specs.Grants.{grant_fault, opened, opens}
 use Rattle.trio_state.specs.Allotments.{allots, free_pages, free_numbers, out_after}
 use Rattle.trio_state.specs.Bundles.{Ends, grants_after, is_hold, is_in_bundle, lent_part}
 use Rattle.trio_state.specs.Step.{Event, Grant, Allot, Release, Given, NoPages, NoInodes, Done, NotClosed, NoMemory, Comes, after_grant_fault, granted_to, grant_outcome, allot_outcome, ReleaseEnd, Parted, IsAccepted, IsRefused}
+use Rattle.trio_state.specs.Run.{Move}
 use Rattle.trio_laws.proofs.Images.{finds}
 use Rattle.trio_raw.specs.Has.{Has, nothing, bundle_of, has_all_of, rest_of, whole_bundle, is_nothing}
 use Rattle.trio_raw.specs.Laws.{lent_file, with_lent, with_allotted, zero_sheet}
@@ -27,7 +28,7 @@ use Rattle.trio_script.specs.Said.{Said, grant_write, allot, poke, release}
 use Rattle.trio_script.specs.Script.{SaidLine}
 use Rattle.trio_report.specs.Answers.{Answer as Told}
 use Rattle.trio_report.specs.declared.report.EndAnswer.{EndAnswer}
-use Rattle.trio_runner.specs.Play.{Player, Moved, Alone, Asks, PlaysLine, Plays, EndsAlone, EndsAll, PlaysEnd, told_of, end_of, has_lent, has_after, at_start}
+use Rattle.trio_runner.specs.Play.{Player, Alone, Asks, PlaysLine, Plays, EndsAlone, EndsAll, PlaysEnd, told_of, end_of, has_lent, has_after, at_start}
 use Rattle.trio_runner.specs.EndFree.{OutInHand, AllInHand, NothingOut, PlayedEndsFree}
 use Rattle.trio_runner.proofs.Unchanged.{inos_of, SameOut, SameNumbers, out_stays, out_logged, numbers_stay, alone_numbers}
 use Rattle.trio_runner.proofs.Left.{Splits, Leaves, all_leaves, named_leaves}
@@ -99,7 +100,7 @@ out_after_fault s NoParent = out_logged s
 out_after_fault s (Busy holder) = out_stays s
 out_after_fault s NoGrantMemory = out_logged s
 
-grant_in_hand : (lib ino : ℕ) (p : Player) (told : Told) (moves : List Moved) (p' : Player) → AllInHand lib p → (a : Asks lib p (grant_write ino) (Grant lib ino Write) told moves p') → Comes (grant_outcome p.state lib ino Write) a.answer p'.state → AllInHand lib p'
+grant_in_hand : (lib ino : ℕ) (p : Player) (told : Told) (moves : List Move) (p' : Player) → AllInHand lib p → (a : Asks lib p (grant_write ino) (Grant lib ino Write) told moves p') → Comes (grant_outcome p.state lib ino Write) a.answer p'.state → AllInHand lib p'
 grant_in_hand lib ino p told moves p' h a comes =
     by_answer (grant_fault p.state lib ino Write) (row_at p.state.home ino) refl comes
   where
@@ -157,7 +158,7 @@ more_in_hand lib p p' pages numbers h state has =
           (ap (λ (x : Has). x.numbers) has);
     }
 
-allot_in_hand : (lib wanted many : ℕ) (p : Player) (told : Told) (moves : List Moved) (p' : Player) → AllInHand lib p → (a : Asks lib p (allot wanted many) (Allot lib wanted many) told moves p') → Comes (allot_outcome p.state lib wanted many) a.answer p'.state → AllInHand lib p'
+allot_in_hand : (lib wanted many : ℕ) (p : Player) (told : Told) (moves : List Move) (p' : Player) → AllInHand lib p → (a : Asks lib p (allot wanted many) (Allot lib wanted many) told moves p') → Comes (allot_outcome p.state lib wanted many) a.answer p'.state → AllInHand lib p'
 allot_in_hand lib wanted many p told moves p' h a comes =
     by_tests (ltb (length ps) wanted) (ltb (length ns) many) comes
   where
@@ -239,7 +240,7 @@ ends_in_hand lib p b image after p' h leaves e has = record {
       (outs_left lib p.state.numbers_out p'.state.numbers_out p.has.numbers b.numbers after.numbers h.numbers leaves.numbers e.numbers);
 }
 
-release_in_hand : (lib : ℕ) (inos pages numbers : List ℕ) (p : Player) (event : Event) (told : Told) (moves : List Moved) (p' : Player) → AllInHand lib p → (a : Asks lib p (release inos pages numbers) event told moves p') → ReleaseEnd p.state lib (bundle_of p.has inos pages numbers) a.answer p'.state → AllInHand lib p'
+release_in_hand : (lib : ℕ) (inos pages numbers : List ℕ) (p : Player) (event : Event) (told : Told) (moves : List Move) (p' : Player) → AllInHand lib p → (a : Asks lib p (release inos pages numbers) event told moves p') → ReleaseEnd p.state lib (bundle_of p.has inos pages numbers) a.answer p'.state → AllInHand lib p'
 release_in_hand lib inos pages numbers p event told moves p' h a (Parted n parted e same) = absurd (not_told told_of a.answer (NotClosed n) told e a.told_is refl)
 release_in_hand lib inos pages numbers p event told moves p' h a (IsAccepted closed t e ends) =
     ends_in_hand lib p (bundle_of p.has inos pages numbers) _ (rest_of p.has inos pages numbers) p' h (named_leaves p.has inos pages numbers) ends
@@ -250,7 +251,7 @@ release_in_hand lib inos pages numbers p event told moves p' h a (IsRefused clos
 
 -- ---- a line that asks nothing
 
-alone_in_hand : (lib : ℕ) (p : Player) (said : Said) (told : Told) (moves : List Moved) (p' : Player) → AllInHand lib p → Alone p said told moves p' → AllInHand lib p'
+alone_in_hand : (lib : ℕ) (p : Player) (said : Said) (told : Told) (moves : List Move) (p' : Player) → AllInHand lib p → Alone p said told moves p' → AllInHand lib p'
 alone_in_hand lib p said told moves p' h a =
     same_in_hand lib p p' h
     (subst (SameOut p.state) (sym a.state) (out_stays p.state))
@@ -258,7 +259,7 @@ alone_in_hand lib p said told moves p' h a =
 
 -- ---- a line
 
-line_in_hand : (lib : ℕ) (p : Player) (said : Said) (told : Told) (moves : List Moved) (p' : Player) → AllInHand lib p → PlaysLine lib p said told moves p' → AllInHand lib p'
+line_in_hand : (lib : ℕ) (p : Player) (said : Said) (told : Told) (moves : List Move) (p' : Player) → AllInHand lib p → PlaysLine lib p said told moves p' → AllInHand lib p'
 line_in_hand lib p (grant_write ino) told moves p' h a =
     elim a.step [
       | inl does ↦ grant_in_hand lib ino p told moves p' h a does
@@ -286,7 +287,7 @@ line_in_hand lib p (release inos pages numbers) told moves p' h plays = by_there
           | inr none ↦ absurd (not_told told_of a.answer NoMemory told none.1 a.told_is refl)
         ]
 
-lines_in_hand : (lib : ℕ) (p : Player) (lines : List SaidLine) (tolds : List Told) (moves : List Moved) (p' : Player) → AllInHand lib p → Plays lib p lines tolds moves p' → AllInHand lib p'
+lines_in_hand : (lib : ℕ) (p : Player) (lines : List SaidLine) (tolds : List Told) (moves : List Move) (p' : Player) → AllInHand lib p → Plays lib p lines tolds moves p' → AllInHand lib p'
 lines_in_hand lib p [] [] moves p' h plays = subst (AllInHand lib) (sym plays.1) h
 lines_in_hand lib p [] (t ∷ tolds) moves p' h plays = absurd plays
 lines_in_hand lib p (l ∷ lines) [] moves p' h plays = absurd plays
@@ -295,7 +296,7 @@ lines_in_hand lib p (l ∷ lines) (t ∷ tolds) moves p' h plays =
 
 -- ---- the end
 
-all_in_hand : (lib : ℕ) (p : Player) (end : EndAnswer) (moves : List Moved) (p' : Player) → AllInHand lib p → EndsAll lib p end moves p' → AllInHand lib p'
+all_in_hand : (lib : ℕ) (p : Player) (end : EndAnswer) (moves : List Move) (p' : Player) → AllInHand lib p → EndsAll lib p end moves p' → AllInHand lib p'
 all_in_hand lib p end moves p' h a =
     elim a.step [
       | inl does ↦ elim does [
@@ -335,7 +336,7 @@ has_nothing lib p h t =
     let both = and_parts files pages all.0 in
     nothing_out lib p h (is_empty p.has.files both.0) (is_empty p.has.pages both.1) (is_empty p.has.numbers all.1)
 
-end_free : (lib : ℕ) (p : Player) (end : EndAnswer) (moves : List Moved) (p' : Player) → AllInHand lib p → PlaysEnd lib p end moves p' → NothingOut p'.state
+end_free : (lib : ℕ) (p : Player) (end : EndAnswer) (moves : List Move) (p' : Player) → AllInHand lib p → PlaysEnd lib p end moves p' → NothingOut p'.state
 end_free lib p end moves p' h plays =
     let Yes : Type 0 = EndsAlone p end moves p' in
     let No : Type 0 = EndsAll lib p end moves p' in

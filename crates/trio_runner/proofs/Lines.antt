@@ -16,6 +16,7 @@ use Rattle.trio_state.specs.Grants.{grant_fault, opened}
 use Rattle.trio_state.specs.Allotments.{allots, free_pages, free_numbers}
 use Rattle.trio_state.specs.Bundles.{Ends, grants_after, is_in_bundle, lent_part}
 use Rattle.trio_state.specs.Step.{Event, Grant, Allot, Release, Answer, Given, NoPages, NoInodes, Done, NotClosed, NoMemory, Comes, Does, granted_to, grant_outcome, after_grant_fault, allot_outcome, ReleaseEnd, Parted, IsAccepted, IsRefused}
+use Rattle.trio_state.specs.Run.{Move}
 use Rattle.trio_laws.proofs.Runs.{step_kept, start_kept}
 use Rattle.trio_raw.specs.Has.{Has, nothing, poked, has_all_of, bundle_of, rest_of, whole_bundle, is_nothing}
 use Rattle.trio_raw.specs.InHand.{InHand}
@@ -25,7 +26,7 @@ use Rattle.trio_raw.proofs.Steps.{granted_is_in_hand, given_out_is_in_hand}
 use Rattle.trio_script.specs.Said.{Said, grant_write, allot, poke, release}
 use Rattle.trio_report.specs.Answers.{Answer as Told}
 use Rattle.trio_report.specs.declared.report.EndAnswer.{EndAnswer}
-use Rattle.trio_runner.specs.Play.{Player, Moved, Alone, Asks, PlaysLine, EndsAlone, EndsAll, PlaysEnd, event_of, told_of, end_of, has_lent, has_after, has_alone, has_poked}
+use Rattle.trio_runner.specs.Play.{Player, Alone, Asks, PlaysLine, EndsAlone, EndsAll, PlaysEnd, event_of, told_of, end_of, has_lent, has_after, has_alone, has_poked}
 use Rattle.trio_runner.specs.PlayLaws.{Stands, StartStands, LineStands, EndStands}
 
 pub start_stands : StartStands
@@ -37,7 +38,7 @@ start_stands image creds fit verifies whole = record {
 
 -- ---- what a line asks hands in what was given
 
-pub data LineEnd (lib : ℕ) (p : Player) (said : Said) (told : Told) (moves : List Moved) (p' : Player) : Type 0 where
+pub data LineEnd (lib : ℕ) (p : Player) (said : Said) (told : Told) (moves : List Move) (p' : Player) : Type 0 where
   IsAlone : event_of lib p.has said ≡ None → Alone p said told moves p' → LineEnd lib p said told moves p'
   IsAsked : (event : Event) → event_of lib p.has said ≡ Some event → GivenEvent p.state event → Asks lib p said event told moves p' → LineEnd lib p said told moves p'
 
@@ -58,7 +59,7 @@ event_given lib p (release inos pages numbers) event h e =
     by_there true = taken_was_given p.state lib p.has inos pages numbers h
     by_there false = tt
 
-pub line_end : (lib : ℕ) (p : Player) (said : Said) (told : Told) (moves : List Moved) (p' : Player) → InHand p.state lib p.has → PlaysLine lib p said told moves p' → LineEnd lib p said told moves p'
+pub line_end : (lib : ℕ) (p : Player) (said : Said) (told : Told) (moves : List Move) (p' : Player) → InHand p.state lib p.has → PlaysLine lib p said told moves p' → LineEnd lib p said told moves p'
 line_end lib p said told moves p' h plays = by_event (event_of lib p.has said) refl plays
   where
     by_event : (o : Option Event) → event_of lib p.has said ≡ o → MatchOption o (Alone p said told moves p') (λ event. Asks lib p said event told moves p') → LineEnd lib p said told moves p'
@@ -106,7 +107,7 @@ fault_numbers s NoParent = refl
 fault_numbers s (Busy holder) = refl
 fault_numbers s NoGrantMemory = refl
 
-grant_stands : (lib ino : ℕ) (p : Player) (told : Told) (moves : List Moved) (p' : Player) → Stands lib p → Kept p'.state → (a : Asks lib p (grant_write ino) (Grant lib ino Write) told moves p') → Comes (grant_outcome p.state lib ino Write) a.answer p'.state → Stands lib p'
+grant_stands : (lib ino : ℕ) (p : Player) (told : Told) (moves : List Move) (p' : Player) → Stands lib p → Kept p'.state → (a : Asks lib p (grant_write ino) (Grant lib ino Write) told moves p') → Comes (grant_outcome p.state lib ino Write) a.answer p'.state → Stands lib p'
 grant_stands lib ino p told moves p' h kept a comes =
     by_answer (grant_fault p.state lib ino Write) (row_at p.state.home ino) refl refl comes
   where
@@ -136,7 +137,7 @@ grant_stands lib ino p told moves p' h kept a comes =
           ];
         }
 
-allot_stands : (lib wanted many : ℕ) (p : Player) (told : Told) (moves : List Moved) (p' : Player) → Stands lib p → Kept p'.state → (a : Asks lib p (allot wanted many) (Allot lib wanted many) told moves p') → Comes (allot_outcome p.state lib wanted many) a.answer p'.state → Stands lib p'
+allot_stands : (lib wanted many : ℕ) (p : Player) (told : Told) (moves : List Move) (p' : Player) → Stands lib p → Kept p'.state → (a : Asks lib p (allot wanted many) (Allot lib wanted many) told moves p') → Comes (allot_outcome p.state lib wanted many) a.answer p'.state → Stands lib p'
 allot_stands lib wanted many p told moves p' h kept a comes =
     by_tests (ltb (length ps) wanted) (ltb (length ns) many) comes
   where
@@ -177,7 +178,7 @@ rest_stands lib inos pages numbers p p' image h kept ends has = record {
   no_hold = ends_no_hold lib p (bundle_of p.has inos pages numbers) image p'.state h ends;
 }
 
-release_stands : (lib : ℕ) (inos pages numbers : List ℕ) (p : Player) (event : Event) (told : Told) (moves : List Moved) (p' : Player) → Stands lib p → Kept p'.state → (a : Asks lib p (release inos pages numbers) event told moves p') → ReleaseEnd p.state lib (bundle_of p.has inos pages numbers) a.answer p'.state → Stands lib p'
+release_stands : (lib : ℕ) (inos pages numbers : List ℕ) (p : Player) (event : Event) (told : Told) (moves : List Move) (p' : Player) → Stands lib p → Kept p'.state → (a : Asks lib p (release inos pages numbers) event told moves p') → ReleaseEnd p.state lib (bundle_of p.has inos pages numbers) a.answer p'.state → Stands lib p'
 release_stands lib inos pages numbers p event told moves p' h kept a (Parted n parted e same) = absurd (untold a.answer (NotClosed n) told e a.told_is refl)
 release_stands lib inos pages numbers p event told moves p' h kept a (IsAccepted closed t e ends) =
     rest_stands lib inos pages numbers p p' _ h kept ends (a.has ∙ ap (has_after lib p.state p.has (release inos pages numbers)) e)
@@ -185,7 +186,7 @@ release_stands lib inos pages numbers p event told moves p' h kept a (IsRefused 
     rest_stands lib inos pages numbers p p' _ h kept ends (a.has ∙ ap (has_after lib p.state p.has (release inos pages numbers)) e)
 
 -- a line that asks something
-asked_stands : (lib : ℕ) (p : Player) (said : Said) (event : Event) (told : Told) (moves : List Moved) (p' : Player) → Stands lib p → event_of lib p.has said ≡ Some event → GivenEvent p.state event → Asks lib p said event told moves p' → Stands lib p'
+asked_stands : (lib : ℕ) (p : Player) (said : Said) (event : Event) (told : Told) (moves : List Move) (p' : Player) → Stands lib p → event_of lib p.has said ≡ Some event → GivenEvent p.state event → Asks lib p said event told moves p' → Stands lib p'
 asked_stands lib p said event told moves p' h e given a =
     elim a.step [
       | inl does ↦ by_said said event e (step_kept p.state p'.state event a.answer h.kept given a.step) a does
@@ -214,7 +215,7 @@ asked_stands lib p said event told moves p' h e given a =
             release_stands lib inos pages numbers p event told moves p' h kept a (subst D (sym same) does)
 
 -- a line that asks nothing
-alone_stands : (lib : ℕ) (p : Player) (said : Said) (told : Told) (moves : List Moved) (p' : Player) → Stands lib p → Alone p said told moves p' → Stands lib p'
+alone_stands : (lib : ℕ) (p : Player) (said : Said) (told : Told) (moves : List Move) (p' : Player) → Stands lib p → Alone p said told moves p' → Stands lib p'
 alone_stands lib p said told moves p' h a =
     let there : Stands lib (record { state = p.state; has = p'.has }) = record { kept = h.kept; in_hand = by_said said a.has; no_hold = h.no_hold } in
     let S : State → Type 0 = λ s. Stands lib (record { state = s; has = p'.has }) in
@@ -254,7 +255,7 @@ nothing_stands lib p p' image h kept ends has = record {
   no_hold = ends_no_hold lib p (whole_bundle p.has) image p'.state h ends;
 }
 
-all_stands : (lib : ℕ) (p : Player) (end : EndAnswer) (moves : List Moved) (p' : Player) → Stands lib p → EndsAll lib p end moves p' → Stands lib p'
+all_stands : (lib : ℕ) (p : Player) (end : EndAnswer) (moves : List Move) (p' : Player) → Stands lib p → EndsAll lib p end moves p' → Stands lib p'
 all_stands lib p end moves p' h a =
     let kept : Kept p'.state = step_kept p.state p'.state (Release lib (whole_bundle p.has)) a.answer h.kept (all_given lib p h) a.step in
     elim a.step [
@@ -267,7 +268,7 @@ all_stands lib p end moves p' h a =
     ]
 
 -- the end, by whether the library has something
-pub end_cases : (lib : ℕ) (p : Player) (end : EndAnswer) (moves : List Moved) (p' : Player) → PlaysEnd lib p end moves p' → EndsAlone p end moves p' ⊎ EndsAll lib p end moves p'
+pub end_cases : (lib : ℕ) (p : Player) (end : EndAnswer) (moves : List Move) (p' : Player) → PlaysEnd lib p end moves p' → EndsAlone p end moves p' ⊎ EndsAll lib p end moves p'
 end_cases lib p end moves p' plays =
     let Yes : Type 0 = EndsAlone p end moves p' in
     let No : Type 0 = EndsAll lib p end moves p' in

@@ -5,6 +5,7 @@ use Rattle.std.proofs.lemmas.List.{append_assoc, append-nil, map-append}
 use Rattle.trio_rights.specs.declared.rights.LibNo.{LibNo}
 use Rattle.trio_rights.specs.declared.rights.Creds.{Creds}
 use Rattle.trio_state.specs.State.{State}
+use Rattle.trio_state.specs.Run.{Move}
 use Rattle.trio_raw.specs.Held.{Held}
 use Rattle.trio_script.specs.Said.{Said}
 use Rattle.trio_script.specs.Script.{SaidLine}
@@ -13,7 +14,7 @@ use Rattle.trio_report.specs.Seen.{answer_seen}
 use Rattle.trio_report.specs.declared.answer.LineAnswer.{LineAnswer}
 use Rattle.trio_report.specs.declared.report.EndAnswer.{EndAnswer}
 use Rattle.trio_ctl.specs.Ctl.{IsLibrary}
-use Rattle.trio_runner.specs.Play.{Player, Moved, Plays, PlaysEnd, PlaysLine, at_start}
+use Rattle.trio_runner.specs.Play.{Player, Plays, PlaysEnd, PlaysLine, at_start}
 use Rattle.trio_runner.specs.PlayLaws.{Stands}
 use Rattle.trio_runner.specs.Seen.{EndPlayed, IsReady, LinePlayed, LinesPlayed, ScriptPlayed, player}
 use Rattle.trio_runner.proofs.Creds.{step_creds}
@@ -21,7 +22,7 @@ use Rattle.trio_runner.proofs.Lines.{IsAlone, IsAsked, line_end, line_stands}
 use Rattle.trio_runner.proofs.Runs.{plays_more}
 
 -- a line leaves the credentials as they are
-line_creds : (lib : ℕ) (p : Player) (said : Said) (told : Told) (moves : List Moved) (p' : Player) → Stands lib p → PlaysLine lib p said told moves p' → p'.state.creds ≡ p.state.creds
+line_creds : (lib : ℕ) (p : Player) (said : Said) (told : Told) (moves : List Move) (p' : Player) → Stands lib p → PlaysLine lib p said told moves p' → p'.state.creds ≡ p.state.creds
 line_creds lib p said told moves p' h plays =
     elim (line_end lib p said told moves p' h.in_hand plays) [
       | IsAlone e a ↦ ap (λ (s : State). s.creds) a.state

@@ -4,15 +4,15 @@ use Rattle.std.specs.Prelude.{map}
 use Rattle.std.proofs.lemmas.List.{append_assoc, append-nil}
 use Rattle.trio_state.specs.State.{State}
 use Rattle.trio_state.specs.Kept.{Kept}
-use Rattle.trio_state.specs.Run.{start}
+use Rattle.trio_state.specs.Run.{start, Move, Trace}
 use Rattle.trio_laws.proofs.Runs.{start_kept, trace_kept}
 use Rattle.trio_raw.proofs.Members.{In-map}
 use Rattle.trio_script.specs.Said.{Said}
 use Rattle.trio_script.specs.Script.{SaidLine}
 use Rattle.trio_report.specs.Answers.{Answer as Told}
 use Rattle.trio_report.specs.declared.report.EndAnswer.{EndAnswer}
-use Rattle.trio_runner.specs.Play.{Player, Moved, PlaysLine, Plays, PlaysEnd, at_start, moves_of}
-use Rattle.trio_runner.specs.PlayLaws.{Stands, IsTrace, PlaysMore, PlayedIsTrace, PlayedKeeps}
+use Rattle.trio_runner.specs.Play.{Player, PlaysLine, Plays, PlaysEnd, at_start, moves_of}
+use Rattle.trio_runner.specs.PlayLaws.{Stands, PlaysMore, PlayedIsTrace, PlayedKeeps}
 use Rattle.trio_runner.proofs.Lines.{IsAlone, IsAsked, line_end, line_stands, end_cases, all_given, start_stands}
 
 pub plays_more : PlaysMore
@@ -38,47 +38,47 @@ plays_more lib p (l ∷ lines) (t ∷ tolds) moves middle line told more p' play
 -- ---- runs
 
 -- the state after some moves
-abbrev last_of : State → List Moved → State
+abbrev last_of : State → List Move → State
 last_of s [] = s
 last_of s (m ∷ moves) = last_of m.after moves
 
 -- moves that are a run to this state
-record Runs (s : State) (moves : List Moved) (s' : State) : Type 0 where
-  trace : IsTrace s moves
+record Runs (s : State) (moves : List Move) (s' : State) : Type 0 where
+  trace : Trace s moves
   last : last_of s moves ≡ s'
 
-runs_on : (s middle s' : State) (moves more : List Moved) → Runs s moves middle → Runs middle more s' → Runs s (moves ++ more) s'
+runs_on : (s middle s' : State) (moves more : List Move) → Runs s moves middle → Runs middle more s' → Runs s (moves ++ more) s'
 runs_on s middle s' [] more h k = subst (λ x. Runs x more s') (sym h.last) k
 runs_on s middle s' (m ∷ moves) more h k =
-    let rest : Runs m.after moves middle = record { trace = h.trace.2; last = h.last } in
+    let rest : Runs m.after moves middle = record { trace = h.trace.3; last = h.last } in
     let all = runs_on m.after middle s' moves more rest k in
-    record { trace = (h.trace.0, h.trace.1, all.trace); last = all.last }
+    record { trace = (h.trace.0, h.trace.1, h.trace.2, all.trace); last = all.last }
 
-none_runs : (s s' : State) (moves : List Moved) → moves ≡ [] → s' ≡ s → Runs s moves s'
+none_runs : (s s' : State) (moves : List Move) → moves ≡ [] → s' ≡ s → Runs s moves s'
 none_runs s s' moves none same = subst (λ l. Runs s l s') (sym none) (record { trace = tt; last = sym same })
 
 -- a line's moves
-line_runs : (lib : ℕ) (p : Player) (said : Said) (told : Told) (moves : List Moved) (p' : Player) → Stands lib p → PlaysLine lib p said told moves p' → Runs p.state moves p'.state
+line_runs : (lib : ℕ) (p : Player) (said : Said) (told : Told) (moves : List Move) (p' : Player) → Stands lib p → PlaysLine lib p said told moves p' → Runs p.state moves p'.state
 line_runs lib p said told moves p' h plays =
     elim (line_end lib p said told moves p' h.in_hand plays) [
       | IsAlone e a ↦ none_runs p.state p'.state moves a.moves_are a.state
-      | IsAsked event e given a ↦ subst (λ l. Runs p.state l p'.state) (sym a.moves_are) (record { trace = (given, a.step, tt); last = refl })
+      | IsAsked event e given a ↦ subst (λ l. Runs p.state l p'.state) (sym a.moves_are) (record { trace = (refl, given, a.step, tt); last = refl })
     ]
 
 -- the moves of the end
-end_runs : (lib : ℕ) (p : Player) (end : EndAnswer) (moves : List Moved) (p' : Player) → Stands lib p → PlaysEnd lib p end moves p' → Runs p.state moves p'.state
+end_runs : (lib : ℕ) (p : Player) (end : EndAnswer) (moves : List Move) (p' : Player) → Stands lib p → PlaysEnd lib p end moves p' → Runs p.state moves p'.state
 end_runs lib p end moves p' h plays =
     elim (end_cases lib p end moves p' plays) [
       | inl a ↦ none_runs p.state p'.state moves a.moves_are (ap (λ (q : Player). q.state) a.same)
-      | inr a ↦ subst (λ l. Runs p.state l p'.state) (sym a.moves_are) (record { trace = (all_given lib p h, a.step, tt); last = refl })
+      | inr a ↦ subst (λ l. Runs p.state l p'.state) (sym a.moves_are) (record { trace = (refl, all_given lib p h, a.step, tt); last = refl })
     ]
 
 -- lines, one after another
-record Comes (lib : ℕ) (p : Player) (moves : List Moved) (p' : Player) : Type 0 where
+record Comes (lib : ℕ) (p : Player) (moves : List Move) (p' : Player) : Type 0 where
   runs : Runs p.state moves p'.state
   stands : Stands lib p'
 
-plays_come : (lib : ℕ) (p : Player) (lines : List SaidLine) (tolds : List Told) (moves : List Moved) (p' : Player) → Stands lib p → Plays lib p lines tolds moves p' → Comes lib p moves p'
+plays_come : (lib : ℕ) (p : Player) (lines : List SaidLine) (tolds : List Told) (moves : List Move) (p' : Player) → Stands lib p → Plays lib p lines tolds moves p' → Comes lib p moves p'
 plays_come lib p [] [] moves p' h plays = record {
   runs = none_runs p.state p'.state moves plays.0 (ap (λ (q : Player). q.state) plays.1);
   stands = subst (Stands lib) (sym plays.1) h;
@@ -104,11 +104,4 @@ played_is_trace image creds lines played fit verifies whole =
 
 pub played_keeps : PlayedKeeps
 played_keeps image creds lines played m fit verifies whole i =
-    let moves : List Moved = moves_of played in
-    let kept : Kept m.after =
-    trace_kept (start image creds) (map (λ (x : Moved). x.event) moves) (map (λ (x : Moved). x.answer) moves) (map (λ (x : Moved). x.after) moves)
-    (start_kept image creds fit verifies whole)
-    (played_is_trace image creds lines played fit verifies whole)
-    m.after
-    (In-map (λ (x : Moved). x.after) m moves i) in
-    (kept, kept.verifies)
+    trace_kept (start image creds) (moves_of played) (start_kept image creds fit verifies whole) (played_is_trace image creds lines played fit verifies whole) m i

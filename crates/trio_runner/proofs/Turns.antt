@@ -11,6 +11,7 @@ use Rattle.trio_nodes.specs.declared.answers.GrantFault.{GrantFault}
 use Rattle.trio_nodes.specs.declared.answers.GrantFault.TheVariants.{NotLive, Denied, NoParent, Busy, NoMemory as NoGrantMemory}
 use Rattle.trio_nodes.specs.declared.answers.AllotFault.{AllotFault}
 use Rattle.trio_nodes.specs.declared.answers.AllotFault.TheVariants.{NoPages as TooFewPages, NoInodes as TooFewInodes, NoMemory as NoAllotMemory}
+use Rattle.trio_nodes.specs.declared.answers.ReleaseAnswer.{ReleaseAnswer}
 use Rattle.trio_layout.specs.Lists.{In, is_among}
 use Rattle.trio_lease.specs.declared.parts.FreshParts.{FreshParts}
 use Rattle.trio_lease.specs.declared.parts.InoParts.{InoParts}
@@ -25,6 +26,8 @@ use Rattle.trio_state.specs.Given.{GivenTo}
 use Rattle.trio_state.specs.Grants.{opened}
 use Rattle.trio_state.specs.Bundles.{is_hold, is_parted, is_parent_written, lowest, parted_hold}
 use Rattle.trio_state.specs.Step.{Event, Allot, Grant, Release, Answer, Given, Granted, Accepted, Refused, NotClosed, NoMemory, Step, Parted, IsAccepted, IsRefused}
+use Rattle.trio_state.specs.Tells.{Why}
+use Rattle.trio_state.specs.Run.{Move}
 use Rattle.trio_raw.specs.Has.{nothing, has_all_of, bundle_of, rest_of, whole_bundle, is_nothing}
 use Rattle.trio_raw.specs.Held.{Held, file_of}
 use Rattle.trio_raw.specs.Laws.{lent_file, with_lent, zero_sheet}
@@ -33,9 +36,9 @@ use Rattle.trio_raw.proofs.Steps.{granted_is_in_hand}
 use Rattle.trio_script.specs.Said.{allot, grant_write, release}
 use Rattle.trio_report.specs.Answers.{Answer as Told, granted, allotted, accepted, refused}
 use Rattle.trio_report.specs.declared.report.EndAnswer.{EndAnswer}
-use Rattle.trio_ctl.specs.Answers.{allot_fault_answer, grant_fault_answer}
+use Rattle.trio_ctl.specs.Answers.{allot_fault_answer, grant_fault_answer, verdict_of}
 use Rattle.trio_ctl.specs.Open.{lease_of, untouched}
-use Rattle.trio_runner.specs.Play.{Moved, Asks, EndsAll, end_of, has_after, has_lent, told_fault, told_of}
+use Rattle.trio_runner.specs.Play.{Asks, EndsAll, end_of, has_after, has_lent, told_fault, told_of}
 use Rattle.trio_runner.specs.PlayLaws.{HasNoHold}
 use Rattle.trio_runner.specs.Seen.{EndPlayed, IsReady, LinePlayed, player}
 
@@ -91,7 +94,7 @@ all_given s h b ready e = subst (GivenTo s h.lib.0) (sym e) (all_was_given s h.l
 verdict_played : (inos pages numbers : List ℕ) (answer : Answer) (told : Told) (s : State) (h : Held) (s' : State) (h' : Held) (b : Bundle) → told_of answer ≡ Some told → has_after h.lib.0 s h.has (release inos pages numbers) answer ≡ rest_of h.has inos pages numbers → (IsFalse (has_all_of h.has inos pages numbers) → ⊥) → b ≡ bundle_of h.has inos pages numbers → Step s (Release h.lib.0 b) answer s' → h'.has ≡ rest_of h.has inos pages numbers → h'.lib ≡ h.lib → LinePlayed (release inos pages numbers) told s h s' h'
 verdict_played inos pages numbers answer told s h s' h' b is after all e step rest lib =
     let event : Event = Release h.lib.0 (bundle_of h.has inos pages numbers) in
-    let moves : List Moved = record { event = event; answer = answer; after = s' } ∷ [] in
+    let moves : List Move = record { before = s; event = event; answer = answer; after = s' } ∷ [] in
     let asks : Asks h.lib.0 (player s h) (release inos pages numbers) event told moves (player s' h') = record {
       answer = answer;
       told_is = is;
@@ -107,14 +110,14 @@ verdict_played inos pages numbers answer told s h s' h' b is after all e step re
 pub accepted_played : (inos pages numbers : List ℕ) (s : State) (h : Held) (s' : State) (h' : Held) (b : Bundle) → (IsFalse (has_all_of h.has inos pages numbers) → ⊥) → b ≡ bundle_of h.has inos pages numbers → Step s (Release h.lib.0 b) Accepted s' → h'.has ≡ rest_of h.has inos pages numbers → h'.lib ≡ h.lib → LinePlayed (release inos pages numbers) accepted s h s' h'
 accepted_played inos pages numbers s h s' h' b all e step rest lib = verdict_played inos pages numbers Accepted accepted s h s' h' b refl refl all e step rest lib
 
-pub refused_played : (inos pages numbers : List ℕ) (s : State) (h : Held) (s' : State) (h' : Held) (b : Bundle) → (IsFalse (has_all_of h.has inos pages numbers) → ⊥) → b ≡ bundle_of h.has inos pages numbers → Step s (Release h.lib.0 b) Refused s' → h'.has ≡ rest_of h.has inos pages numbers → h'.lib ≡ h.lib → LinePlayed (release inos pages numbers) refused s h s' h'
-refused_played inos pages numbers s h s' h' b all e step rest lib = verdict_played inos pages numbers Refused refused s h s' h' b refl refl all e step rest lib
+pub refused_played : (inos pages numbers : List ℕ) (s : State) (h : Held) (s' : State) (h' : Held) (b : Bundle) (why : Why) → (IsFalse (has_all_of h.has inos pages numbers) → ⊥) → b ≡ bundle_of h.has inos pages numbers → Step s (Release h.lib.0 b) (Refused why) s' → h'.has ≡ rest_of h.has inos pages numbers → h'.lib ≡ h.lib → LinePlayed (release inos pages numbers) refused s h s' h'
+refused_played inos pages numbers s h s' h' b why all e step rest lib = verdict_played inos pages numbers (Refused why) refused s h s' h' b refl refl all e step rest lib
 
 -- the end of a library that has something, by either verdict
 pub end_played : (answer : Answer) (end : EndAnswer) (s : State) (h : Held) (s' : State) (h' : Held) (b : Bundle) → end_of answer ≡ Some end → (IsTrue (is_nothing h.has) → ⊥) → b ≡ whole_bundle h.has → Step s (Release h.lib.0 b) answer s' → h'.has ≡ nothing → EndPlayed end s h s' h'
 end_played answer end s h s' h' b is some e step none =
     let event : Event = Release h.lib.0 (whole_bundle h.has) in
-    let moves : List Moved = record { event = event; answer = answer; after = s' } ∷ [] in
+    let moves : List Move = record { before = s; event = event; answer = answer; after = s' } ∷ [] in
     let ends : EndsAll h.lib.0 (player s h) end moves (player s' h') = record {
       answer = answer;
       end_is = is;
@@ -220,8 +223,8 @@ pub if_both_ok : {T E : Type 0} (r : Result T E) (P : T → Type 0) (A : Type 0)
 if_both_ok (Ok x) P A Q f h k = f x h k
 if_both_ok (Err e) P A Q f h k = h
 
--- the step of a verdict, by the library and the verdict that are known
-pub verdict_step : (s s' : State) (lib lib' : LibNo) (b : Bundle) (answer verdict : Bool) → lib ≡ lib' → answer ≡ verdict → Step s (Release lib.0 b) (if answer then Accepted else Refused) s' → Step s (Release lib'.0 b) (if verdict then Accepted else Refused) s'
-verdict_step s s' lib lib' b answer verdict e f step =
-    subst (λ (l : LibNo). Step s (Release l.0 b) (if verdict then Accepted else Refused) s') e
-    (subst (λ (v : Bool). Step s (Release lib.0 b) (if v then Accepted else Refused) s') f step)
+-- the step of a verdict, by the library and the answer that are known
+pub verdict_step : (s s' : State) (lib lib' : LibNo) (b : Bundle) (verdict : ReleaseAnswer) (answer : Answer) → lib ≡ lib' → verdict_of verdict ≡ answer → Step s (Release lib.0 b) (verdict_of verdict) s' → Step s (Release lib'.0 b) answer s'
+verdict_step s s' lib lib' b verdict answer e f step =
+    subst (λ (l : LibNo). Step s (Release l.0 b) answer s') e
+    (subst (λ (a : Answer). Step s (Release lib.0 b) a s') f step)

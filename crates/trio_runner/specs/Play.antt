@@ -10,7 +10,7 @@ use Rattle.trio_state.specs.Image.{Image, row_at}
 use Rattle.trio_state.specs.State.{State}
 use Rattle.trio_state.specs.Grants.{opened}
 use Rattle.trio_state.specs.Step.{Event, Grant, Allot, Release, Answer, Granted, NotGranted, Given, NoPages, NoInodes, Accepted, Refused, Step}
-use Rattle.trio_state.specs.Run.{start}
+use Rattle.trio_state.specs.Run.{start, Move}
 use Rattle.trio_raw.specs.Has.{Has, nothing, poked, has_all_of, bundle_of, rest_of, whole_bundle, is_nothing}
 use Rattle.trio_raw.specs.Laws.{lent_file, with_lent, with_allotted}
 use Rattle.trio_script.specs.Said.{Said, grant_write, allot, poke, release}
@@ -23,12 +23,6 @@ use Rattle.trio_report.specs.declared.report.EndAnswer.TheVariants.{Nothing, Acc
 pub record Player : Type 0 where
   pub state : State
   pub has : Has
-
--- an event, its answer, and the state after it
-pub record Moved : Type 0 where
-  pub event : Event
-  pub answer : Answer
-  pub after : State
 
 -- ---- what a line asks, and what it is told
 
@@ -71,7 +65,7 @@ told_of (Given pages numbers) = Some (allotted pages numbers)
 told_of (NoPages wanted free) = Some (no_pages wanted free)
 told_of (NoInodes wanted free) = Some (no_inodes wanted free)
 told_of Accepted = Some accepted
-told_of Refused = Some refused
+told_of (Refused why) = Some refused
 told_of _ = None
 
 -- the things with the file that a write grant on a live file lends, as it is lent
@@ -85,44 +79,44 @@ abbrev pub has_after : ℕ → State → Has → Said → Answer → Has
 has_after lib s has (grant_write ino) (Granted children) = has_lent lib s has ino (row_at s.home ino)
 has_after lib s has (allot wanted_pages wanted_numbers) (Given pages numbers) = with_allotted has pages numbers
 has_after lib s has (release inos pages numbers) Accepted = rest_of has inos pages numbers
-has_after lib s has (release inos pages numbers) Refused = rest_of has inos pages numbers
+has_after lib s has (release inos pages numbers) (Refused why) = rest_of has inos pages numbers
 has_after lib s has said answer = has
 
 -- ---- a line
 
 -- a line that asks nothing
-pub record Alone (p : Player) (said : Said) (told : Told) (moves : List Moved) (p' : Player) : Type 0 where
+pub record Alone (p : Player) (said : Said) (told : Told) (moves : List Move) (p' : Player) : Type 0 where
   pub told_is : told ≡ told_alone p.has said
   pub moves_are : moves ≡ []
   pub state : p'.state ≡ p.state
   pub has : p'.has ≡ has_alone p.has said
 
 -- a line that asks this event: the controller takes one step, and its answer is told
-pub record Asks (lib : ℕ) (p : Player) (said : Said) (event : Event) (told : Told) (moves : List Moved) (p' : Player) : Type 0 where
+pub record Asks (lib : ℕ) (p : Player) (said : Said) (event : Event) (told : Told) (moves : List Move) (p' : Player) : Type 0 where
   pub answer : Answer
   pub told_is : told_of answer ≡ Some told
   pub step : Step p.state event answer p'.state
-  pub moves_are : moves ≡ record { event = event; answer = answer; after = p'.state } ∷ []
+  pub moves_are : moves ≡ record { before = p.state; event = event; answer = answer; after = p'.state } ∷ []
   pub has : p'.has ≡ has_after lib p.state p.has said answer
 
 -- one line: it asks nothing, or it is one step of the controller
-abbrev pub PlaysLine : ℕ → Player → Said → Told → List Moved → Player → Type 0
+abbrev pub PlaysLine : ℕ → Player → Said → Told → List Move → Player → Type 0
 PlaysLine lib p said told moves p' =
     MatchOption (event_of lib p.has said) (Alone p said told moves p') (λ event. Asks lib p said event told moves p')
 
 -- ---- a script
 
 -- a line, and what comes of those after it
-pub record Next (lib : ℕ) (p : Player) (said : Said) (told : Told) (moves : List Moved) (Rest : Player → List Moved → Type 0) : Type 0 where
-  pub first : List Moved
+pub record Next (lib : ℕ) (p : Player) (said : Said) (told : Told) (moves : List Move) (Rest : Player → List Move → Type 0) : Type 0 where
+  pub first : List Move
   pub middle : Player
-  pub others : List Moved
+  pub others : List Move
   pub line : PlaysLine lib p said told first middle
   pub rest : Rest middle others
   pub moves_are : moves ≡ first ++ others
 
 -- lines one after another: what each is told, all moves in their order, and how it stands at the end
-abbrev pub Plays : ℕ → Player → List SaidLine → List Told → List Moved → Player → Type 0
+abbrev pub Plays : ℕ → Player → List SaidLine → List Told → List Move → Player → Type 0
 Plays lib p [] [] moves p' = (moves ≡ []) × (p' ≡ p)
 Plays lib p (line ∷ lines) (told ∷ tolds) moves p' =
     Next lib p line.said told moves (λ middle others. Plays lib middle lines tolds others p')
@@ -130,7 +124,7 @@ Plays lib p [] (told ∷ tolds) moves p' = ⊥
 Plays lib p (line ∷ lines) [] moves p' = ⊥
 
 -- the end of a library that has nothing: nothing comes
-pub record EndsAlone (p : Player) (end : EndAnswer) (moves : List Moved) (p' : Player) : Type 0 where
+pub record EndsAlone (p : Player) (end : EndAnswer) (moves : List Move) (p' : Player) : Type 0 where
   pub end_is : end ≡ Nothing
   pub moves_are : moves ≡ []
   pub same : p' ≡ p
@@ -138,19 +132,20 @@ pub record EndsAlone (p : Player) (end : EndAnswer) (moves : List Moved) (p' : P
 -- how the answer to the last release is told
 abbrev pub end_of : Answer → Option EndAnswer
 end_of Accepted = Some EndAccepted
-end_of Refused = Some EndRefused
+end_of (Refused why) = Some EndRefused
 end_of _ = None
 
 -- the end of a library that has something: all of it is released in one bundle
-pub record EndsAll (lib : ℕ) (p : Player) (end : EndAnswer) (moves : List Moved) (p' : Player) : Type 0 where
+pub record EndsAll (lib : ℕ) (p : Player) (end : EndAnswer) (moves : List Move) (p' : Player) : Type 0 where
   pub answer : Answer
   pub end_is : end_of answer ≡ Some end
   pub step : Step p.state (Release lib (whole_bundle p.has)) answer p'.state
-  pub moves_are : moves ≡ record { event = Release lib (whole_bundle p.has); answer = answer; after = p'.state } ∷ []
+  pub moves_are :
+      moves ≡ record { before = p.state; event = Release lib (whole_bundle p.has); answer = answer; after = p'.state } ∷ []
   pub has : p'.has ≡ nothing
 
 -- the end of a library
-abbrev pub PlaysEnd : ℕ → Player → EndAnswer → List Moved → Player → Type 0
+abbrev pub PlaysEnd : ℕ → Player → EndAnswer → List Move → Player → Type 0
 PlaysEnd lib p end moves p' = MatchBool (is_nothing p.has) (EndsAlone p end moves p') (EndsAll lib p end moves p')
 
 -- at first nothing is out and the library has nothing
@@ -161,13 +156,13 @@ at_start image creds = record { state = start image creds; has = nothing }
 pub record Played (image : Image) (creds : List Creds) (lines : List SaidLine) : Type 0 where
   pub tolds : List Told
   pub end : EndAnswer
-  pub line_moves : List Moved
-  pub end_moves : List Moved
+  pub line_moves : List Move
+  pub end_moves : List Move
   pub middle : Player
   pub last : Player
   pub lines_are : Plays 1 (at_start image creds) lines tolds line_moves middle
   pub end_is : PlaysEnd 1 middle end end_moves last
 
 -- all moves of a script, in their order
-abbrev pub moves_of : {image : Image} {creds : List Creds} {lines : List SaidLine} → Played image creds lines → List Moved
+abbrev pub moves_of : {image : Image} {creds : List Creds} {lines : List SaidLine} → Played image creds lines → List Move
 moves_of played = played.line_moves ++ played.end_moves

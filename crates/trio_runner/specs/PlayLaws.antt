@@ -1,19 +1,19 @@
 -- The laws of scripts: what they come to is a run of the controller.
-use Rattle.std.specs.Prelude.{◌≡◌, ℕ, List, [], ◌∷◌, ◌++◌, map}
+use Rattle.std.specs.Prelude.{◌≡◌, ℕ, List, [], ◌∷◌, ◌++◌}
 use Rattle.trio_rights.specs.declared.rights.Creds.{Creds}
 use Rattle.trio_nodes.specs.declared.grant.GrantKind.TheVariants.{Hold}
 use Rattle.trio_layout.specs.Lists.{In}
 use Rattle.trio_state.specs.Image.{Image, IsFit}
 use Rattle.trio_state.specs.Verifies.{Verifies}
-use Rattle.trio_state.specs.State.{OpenGrant, State, settled}
+use Rattle.trio_state.specs.State.{OpenGrant, State}
 use Rattle.trio_state.specs.Kept.{Kept}
-use Rattle.trio_state.specs.Run.{start, IsWhole, Trace}
+use Rattle.trio_state.specs.Run.{start, IsWhole, Trace, Move}
 use Rattle.trio_raw.specs.InHand.{InHand}
 use Rattle.trio_script.specs.Said.{Said}
 use Rattle.trio_script.specs.Script.{SaidLine}
 use Rattle.trio_report.specs.Answers.{Answer as Told}
 use Rattle.trio_report.specs.declared.report.EndAnswer.{EndAnswer}
-use Rattle.trio_runner.specs.Play.{Player, Moved, PlaysLine, Plays, PlaysEnd, Played, moves_of, at_start}
+use Rattle.trio_runner.specs.Play.{Player, PlaysLine, Plays, PlaysEnd, Played, moves_of, at_start}
 
 -- the library has no hold
 abbrev pub HasNoHold : ℕ → State → Type 0
@@ -34,35 +34,31 @@ StartStands =
 -- so it is after each line
 abbrev pub LineStands : Type 0
 LineStands =
-    (lib : ℕ) (p : Player) (said : Said) (told : Told) (moves : List Moved) (p' : Player)
+    (lib : ℕ) (p : Player) (said : Said) (told : Told) (moves : List Move) (p' : Player)
     → Stands lib p → PlaysLine lib p said told moves p' → Stands lib p'
 
 -- and after the end
 abbrev pub EndStands : Type 0
 EndStands =
-    (lib : ℕ) (p : Player) (end : EndAnswer) (moves : List Moved) (p' : Player)
+    (lib : ℕ) (p : Player) (end : EndAnswer) (moves : List Move) (p' : Player)
     → Stands lib p → PlaysEnd lib p end moves p' → Stands lib p'
 
 -- one line more, at the end
 abbrev pub PlaysMore : Type 0
 PlaysMore =
-    (lib : ℕ) (p : Player) (lines : List SaidLine) (tolds : List Told) (moves : List Moved) (middle : Player)
-    (line : SaidLine) (told : Told) (more : List Moved) (p' : Player)
+    (lib : ℕ) (p : Player) (lines : List SaidLine) (tolds : List Told) (moves : List Move) (middle : Player)
+    (line : SaidLine) (told : Told) (more : List Move) (p' : Player)
     → Plays lib p lines tolds moves middle → PlaysLine lib middle line.said told more p'
     → Plays lib p (lines ++ line ∷ []) (tolds ++ told ∷ []) (moves ++ more) p'
-
--- moves, as a run of the controller
-abbrev pub IsTrace : State → List Moved → Type 0
-IsTrace s moves = Trace s (map (λ m. m.event) moves) (map (λ m. m.answer) moves) (map (λ m. m.after) moves)
 
 -- the moves of a whole script are a run of the controller, of events that hand in what was given
 abbrev pub PlayedIsTrace : Type 0
 PlayedIsTrace =
     (image : Image) (creds : List Creds) (lines : List SaidLine) (played : Played image creds lines)
-    → IsFit image.core → Verifies image → IsWhole image → IsTrace (start image creds) (moves_of played)
+    → IsFit image.core → Verifies image → IsWhole image → Trace (start image creds) (moves_of played)
 
--- so the state after each of them is kept, and its settled image verifies
+-- so the states before and after each of them are kept
 abbrev pub PlayedKeeps : Type 0
 PlayedKeeps =
-    (image : Image) (creds : List Creds) (lines : List SaidLine) (played : Played image creds lines) (m : Moved)
-    → IsFit image.core → Verifies image → IsWhole image → In m (moves_of played) → Kept m.after × Verifies (settled m.after)
+    (image : Image) (creds : List Creds) (lines : List SaidLine) (played : Played image creds lines) (m : Move)
+    → IsFit image.core → Verifies image → IsWhole image → In m (moves_of played) → Kept m.before × Kept m.after

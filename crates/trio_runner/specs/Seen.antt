@@ -3,6 +3,7 @@ use Rattle.std.specs.Prelude.{◌≡◌, List, map, ◌++◌}
 use Rattle.trio_rights.specs.declared.rights.Creds.{Creds}
 use Rattle.trio_state.specs.Image.{Image}
 use Rattle.trio_state.specs.State.{State}
+use Rattle.trio_state.specs.Run.{Move}
 use Rattle.trio_raw.specs.Held.{Held}
 use Rattle.trio_script.specs.Said.{Said}
 use Rattle.trio_script.specs.Script.{SaidLine}
@@ -11,7 +12,7 @@ use Rattle.trio_report.specs.Seen.{answer_seen}
 use Rattle.trio_report.specs.declared.answer.LineAnswer.{LineAnswer}
 use Rattle.trio_report.specs.declared.report.EndAnswer.{EndAnswer}
 use Rattle.trio_ctl.specs.Ctl.{IsLibrary}
-use Rattle.trio_runner.specs.Play.{Player, Moved, PlaysLine, Plays, PlaysEnd, Played}
+use Rattle.trio_runner.specs.Play.{Player, PlaysLine, Plays, PlaysEnd, Played}
 use Rattle.trio_runner.specs.PlayLaws.{Stands}
 
 -- the controller's state beside what a library has
@@ -25,14 +26,14 @@ pub record IsReady (s : State) (h : Held) : Type 0 where
 
 -- a line was played, and told this
 pub record LinePlayed (said : Said) (told : Told) (s : State) (h : Held) (s' : State) (h' : Held) : Type 0 where
-  pub moves : List Moved
+  pub moves : List Move
   pub line : PlaysLine h.lib.0 (player s h) said told moves (player s' h')
   pub lib : h'.lib ≡ h.lib
 
 -- lines were played, their answers stand behind those before, and another line may be played
 pub record LinesPlayed (lines : List SaidLine) (s : State) (h : Held) (before : List LineAnswer) (s' : State) (h' : Held) (after : List LineAnswer) : Type 0 where
   pub tolds : List Told
-  pub moves : List Moved
+  pub moves : List Move
   pub lines_are : Plays h.lib.0 (player s h) lines tolds moves (player s' h')
   pub told : map answer_seen after ≡ map answer_seen before ++ tolds
   pub lib : h'.lib ≡ h.lib
@@ -40,7 +41,7 @@ pub record LinesPlayed (lines : List SaidLine) (s : State) (h : Held) (before : 
 
 -- a library came to its end
 pub record EndPlayed (end : EndAnswer) (s : State) (h : Held) (s' : State) (h' : Held) : Type 0 where
-  pub moves : List Moved
+  pub moves : List Move
   pub end_is : PlaysEnd h.lib.0 (player s h) end moves (player s' h')
 
 -- a whole script was played on an image: the answers stand behind those before, the end was told this, and this is the state

@@ -1,19 +1,19 @@
 //! A library's lines, played.
 
-ghost use Rattle.std.specs.Prelude.{◌≡◌, ◌≤◌, ◌∷◌, ◌++◌, [], IfOk, OnOk, Some, length, map, if◌then◌else◌};
+ghost use Rattle.std.specs.Prelude.{◌≡◌, ◌≤◌, ◌∷◌, ◌++◌, [], IfOk, OnOk, Some, length, map};
 ghost use Rattle.trio_state.specs.Given.{GivenTo};
 ghost use Rattle.trio_allot.specs.Out.{inode_numbers, page_numbers};
 ghost use Rattle.trio_state.specs.Handed.{bundle_in, fresh_sheet};
 ghost use Rattle.trio_state.specs.Kept.{Kept};
 ghost use Rattle.trio_state.specs.Run.{start};
-ghost use Rattle.trio_state.specs.Step.{Accepted, Refused, Release, Step};
+ghost use Rattle.trio_state.specs.Step.{Release, Step};
 ghost use Rattle.trio_raw.specs.Held.{HasPlaces, file_of};
 ghost use Rattle.trio_raw.specs.Laws.{with_lent};
 ghost use Rattle.trio_script.specs.Said.{allot, grant_write, poke, release};
 ghost use Rattle.trio_script.specs.Seen.{line_seen, script_line_seen};
 ghost use Rattle.trio_report.specs.Answers.{allotted};
 ghost use Rattle.trio_report.specs.Seen.{answer_seen};
-ghost use Rattle.trio_ctl.specs.Answers.{allot_fault_answer};
+ghost use Rattle.trio_ctl.specs.Answers.{allot_fault_answer, verdict_of};
 ghost use Rattle.trio_ctl.specs.Ctl.{IsLibrary};
 ghost use Rattle.trio_runner.specs.Play.{at_start, has_alone, told_alone, told_fault, told_of};
 ghost use Rattle.trio_runner.specs.PlayLaws.{HasNoHold};
@@ -251,10 +251,9 @@ fn play_release(
         Err(RawFault::Absent) => return Ok(LineAnswer::Absent),
         Err(RawFault::NoMemory) => return Err(NoMemory),
     };
-    if hand_in(alloc, ctl, raw.lib(), bundle)? {
-        Ok(LineAnswer::Accepted)
-    } else {
-        Ok(LineAnswer::Refused)
+    match hand_in(alloc, ctl, raw.lib(), bundle)? {
+        ReleaseAnswer::Accepted => Ok(LineAnswer::Accepted),
+        ReleaseAnswer::Refused { .. } => Ok(LineAnswer::Refused),
     }
 }
 
@@ -266,23 +265,26 @@ fn play_end(alloc: Global, ctl: &mut Ctl, raw: &mut Raw) -> Result<EndAnswer, No
     let Some(bundle) = raw.take_all(alloc) else {
         return Ok(EndAnswer::Nothing);
     };
-    if hand_in(alloc, ctl, raw.lib(), bundle)? {
-        Ok(EndAnswer::Accepted)
-    } else {
-        Ok(EndAnswer::Refused)
+    match hand_in(alloc, ctl, raw.lib(), bundle)? {
+        ReleaseAnswer::Accepted => Ok(EndAnswer::Accepted),
+        ReleaseAnswer::Refused { .. } => Ok(EndAnswer::Refused),
     }
 }
 
-/// Hands in a bundle of a library that has no hold. The answer is whether it was accepted.
-fn hand_in(alloc: Global, ctl: &mut Ctl, lib: LibNo, bundle: Bundle) -> Result<bool, NoMemory>
+/// Hands in a bundle of a library that has no hold. So it comes to a verdict.
+fn hand_in(
+    alloc: Global,
+    ctl: &mut Ctl,
+    lib: LibNo,
+    bundle: Bundle,
+) -> Result<ReleaseAnswer, NoMemory>
     requires library { IsLibrary lib ctl.old }
     requires given { GivenTo ctl.old lib.0 (bundle_in bundle) }
     requires no_hold { HasNoHold lib.0 ctl.old }
-    ensures { IfOk result (λ accepted. Step ctl.old (Release lib.0 (bundle_in bundle)) (if accepted then Accepted else Refused) ctl.new) }
+    ensures { IfOk result (λ answer. Step ctl.old (Release lib.0 (bundle_in bundle)) (verdict_of answer) ctl.new) }
 {
     match ctl.release(alloc, lib, bundle, &mut Reads::new()) {
-        Ok(ReleaseAnswer::Accepted) => Ok(true),
-        Ok(ReleaseAnswer::Refused { .. }) => Ok(false),
+        Ok(answer) => Ok(answer),
         Err((bundle, fault)) => {
             bundle.discard();
             match fault {

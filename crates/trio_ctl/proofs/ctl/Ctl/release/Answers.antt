@@ -13,6 +13,7 @@ use Rattle.trio_state.specs.Kept.{Kept}
 use Rattle.trio_state.specs.Proposed.{bundle_pages, bundle_sheets}
 use Rattle.trio_state.specs.Sheets.{sheet_numbers, with_pages}
 use Rattle.trio_state.specs.State.{State, creds_of, settled}
+use Rattle.trio_state.specs.Tells.{untold}
 use Rattle.trio_state.specs.Step.{Accepted, Refused, Release, Step}
 use Rattle.trio_laws.specs.EndLaws.{unless_absent}
 use Rattle.trio_laws.proofs.SheetLaws.{length-with_pages}
@@ -179,8 +180,8 @@ returns-in-Refused-clause-step c =
     let false' = subst (λ (x : State). is_accepted (settled x) (creds_of x c.args.lib.0) b ≡ false) (sym e) (subst (IfRefused (is_accepted (settled c.args.self.now) (creds_of c.args.self.now c.args.lib.0) b ≡ false)) c.in-Refused.is c.in-Ok.ensures.refused) in
     let put = ap (λ (h : Pages). h.pages) c.bring_uncovered.ensures.home ∙ ap (with_pages (uncovered b ++ b.pages)) home in
     let step = refused_step f.superblock f.home.pages f.rows f.owners f.grants f.files.items f.outs f.libs.items f.entries c.self.invariant c.args.lib b given c.in-Ok.closing.written.items c.in-Ok.ensures.marks c.close_all.new.grants c.bring_uncovered.new.home.pages c.bring_uncovered.new.outs c.in-Some.entries table c.bring_uncovered.ensures.returned more false' put in
-    subst (λ (x : State). Step x (Release c.args.lib.0 b) Refused (state_of f.superblock c.bring_uncovered.new.home.pages f.rows f.owners c.close_all.result.items c.bring_uncovered.new.outs f.libs.items c.in-Some.entries)) e
-    (subst (λ (fs : List Opened). Step (state_of f.superblock f.home.pages f.rows f.owners f.files.items f.outs f.libs.items f.entries) (Release c.args.lib.0 b) Refused (state_of f.superblock c.bring_uncovered.new.home.pages f.rows f.owners fs c.bring_uncovered.new.outs f.libs.items c.in-Some.entries)) (sym remain) step)
+    subst (λ (x : State). Step x (Release c.args.lib.0 b) (Refused untold) (state_of f.superblock c.bring_uncovered.new.home.pages f.rows f.owners c.close_all.result.items c.bring_uncovered.new.outs f.libs.items c.in-Some.entries)) e
+    (subst (λ (fs : List Opened). Step (state_of f.superblock f.home.pages f.rows f.owners f.files.items f.outs f.libs.items f.entries) (Release c.args.lib.0 b) (Refused untold) (state_of f.superblock c.bring_uncovered.new.home.pages f.rows f.owners fs c.bring_uncovered.new.outs f.libs.items c.in-Some.entries)) (sym remain) step)
 
 pub returns-in-Refused-clause-kept : goal.returns-in-Refused-clause-kept
 returns-in-Refused-clause-kept c =
