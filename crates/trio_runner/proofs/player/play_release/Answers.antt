@@ -2,7 +2,9 @@ use Rattle.std.proofs.Common.{◌≡◌, ◌∙◌, true, false, ap, sym, subst,
 use Rattle.trio_rights.specs.declared.rights.LibNo.{LibNo}
 use Rattle.trio_state.specs.Given.{GivenTo}
 use Rattle.trio_state.specs.Handed.{bundle_in}
+use Rattle.trio_state.specs.Step.{Accepted, Refused}
 use Rattle.trio_raw.specs.Held.{Held}
+use Rattle.trio_ctl.specs.Answers.{verdict_of}
 use Rattle.trio_runner.specs.PlayLaws.{HasNoHold}
 use Rattle.trio_runner.proofs.Turns.{taken_given, accepted_played, refused_played, verdict_step}
 use Rattle.trio_runner.proofs.player.play_release.Goals as goal
@@ -21,8 +23,8 @@ hand_in-requires-clause-no_hold c =
     let lib : c.lib.result ≡ c.args.raw.now.lib = c.lib.ensures ∙ ap (λ (h : Held). h.lib) c.in-Ok.ensures.rest in
     subst (λ (l : LibNo). HasNoHold l.0 s) (sym lib) c.requires.stands.no_hold
 
-pub returns-then-branch : goal.returns-then-branch
-returns-then-branch c =
+pub returns-in-Accepted : goal.returns-in-Accepted
+returns-in-Accepted c =
     let s = c.args.ctl.now in
     let s' = c.hand_in.new.ctl in
     let b = bundle_in c.in-Ok.bundle in
@@ -30,17 +32,17 @@ returns-then-branch c =
     let left = c.in-Ok.ensures.rest in
     let lib : c.lib.result ≡ h.lib = c.lib.ensures ∙ ap (λ (x : Held). x.lib) left in
     accepted_played c.args.inos.now c.args.pages.now c.args.inodes.now s h s' c.take.new.self b (search rules) c.in-Ok.ensures.bundle
-    (verdict_step s s' c.lib.result h.lib b c.in_ok-hand_in.field-0 true lib c.if-branch.true c.in_ok-hand_in.ensures)
+    (verdict_step s s' c.lib.result h.lib b c.in_ok-hand_in.field-0 Accepted lib (ap verdict_of c.in-Accepted.is) c.in_ok-hand_in.ensures)
     (ap (λ (x : Held). x.has) left) (ap (λ (x : Held). x.lib) left)
 
-pub returns-else-branch : goal.returns-else-branch
-returns-else-branch c =
+pub returns-in-Refused : goal.returns-in-Refused
+returns-in-Refused c =
     let s = c.args.ctl.now in
     let s' = c.hand_in.new.ctl in
     let b = bundle_in c.in-Ok.bundle in
     let h = c.args.raw.now in
     let left = c.in-Ok.ensures.rest in
     let lib : c.lib.result ≡ h.lib = c.lib.ensures ∙ ap (λ (x : Held). x.lib) left in
-    refused_played c.args.inos.now c.args.pages.now c.args.inodes.now s h s' c.take.new.self b (search rules) c.in-Ok.ensures.bundle
-    (verdict_step s s' c.lib.result h.lib b c.in_ok-hand_in.field-0 false lib c.if-branch.false c.in_ok-hand_in.ensures)
+    refused_played c.args.inos.now c.args.pages.now c.args.inodes.now s h s' c.take.new.self b _ (search rules) c.in-Ok.ensures.bundle
+    (verdict_step s s' c.lib.result h.lib b c.in_ok-hand_in.field-0 (Refused _) lib (ap verdict_of c.in-Refused.is) c.in_ok-hand_in.ensures)
     (ap (λ (x : Held). x.has) left) (ap (λ (x : Held). x.lib) left)
