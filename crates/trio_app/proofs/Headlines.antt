@@ -34,7 +34,7 @@ headline_of image creds lines played fit verifies whole =
     record {
       run = run.trace;
       begins = (all.0, image_is_tree image fit verifies);
-      kept = λ m i. (all.1 m i).1;
+      verifies = λ m i. (all.1 m i).1;
       tree = λ m i. let k = (all.1 m i).1 in image_is_tree (settled m.after) k.fit k.verifies;
       judged = every_release_is_judged run;
       back = λ m lib b why i is told.

@@ -18,7 +18,7 @@ use Rattle.trio_laws.specs.Laws.{IsTree, IsVerdict, IsBack}
 pub record Headline (image : Image) (creds : List Creds) (moves : List Move) : Type 0 where
   pub run : Trace (start image creds) moves
   pub begins : Kept (start image creds) × IsTree image
-  pub kept : (m : Move) → In m moves → Kept m.after
+  pub verifies : (m : Move) → In m moves → Kept m.after
   pub tree : (m : Move) → In m moves → IsTree (settled m.after)
   pub judged :
       (m : Move) (lib : ℕ) (b : Bundle) → In m moves → m.event ≡ Release lib b

@@ -14,12 +14,12 @@ use Rattle.trio_lease.specs.Bundles.{Bundled, bundled}
 use Rattle.trio_lease.specs.Shown.{LentFile}
 use Rattle.trio_lease.specs.declared.bundle.BundleParts.{BundleParts}
 use Rattle.trio_allot.specs.Out.{inode_numbers, page_numbers}
-use Rattle.trio_state.specs.Bundles.{uncovered, uncovered_of}
+use Rattle.trio_state.specs.Bundles.{uncovered_of}
 use Rattle.trio_state.specs.Handed.{bundle_in, fresh_sheet, lent_sheet, written_in}
 use Rattle.trio_state.specs.Proposed.{Written, bundle_sheets}
 use Rattle.trio_state.specs.Sheets.{Sheet, sheet_numbers, with_pages}
 use Rattle.trio_checkpoint.proofs.Restoring.{below_joined, below_parts, length-with_pages, with_pages-append}
-use Rattle.trio_ctl.specs.Moves.{file_sheets, uncovered_sheets}
+use Rattle.trio_ctl.specs.Moves.{file_sheets, lent_uncovered, uncovered_sheets}
 use Rattle.trio_ctl.specs.Outs.{HasPlaces, OutNow, outs_after}
 use Rattle.trio_ctl.proofs.OutLists.{fresh_numbers}
 
@@ -129,9 +129,9 @@ sheets_are parts b is =
     ∙ ap (λ ss. ss ++ map fresh_sheet parts.pages.items)
     (flat_map-map (λ (w : Written). w.index ++ w.blocks) (λ (f : LentFile). written_in f.stands) parts.writes.items)
 
-pub uncovered_are : (parts : BundleParts) (b : Bundled) → bundled parts ≡ b → uncovered (bundle_in b) ++ (bundle_in b).pages ≡ flat_map uncovered_sheets parts.writes.items ++ map fresh_sheet parts.pages.items
+pub uncovered_are : (parts : BundleParts) (b : Bundled) → bundled parts ≡ b → lent_uncovered (bundle_in b) ++ (bundle_in b).pages ≡ flat_map uncovered_sheets parts.writes.items ++ map fresh_sheet parts.pages.items
 uncovered_are parts b is =
-    ap (λ (b : Bundled). uncovered (bundle_in b) ++ (bundle_in b).pages) (sym is)
+    ap (λ (b : Bundled). lent_uncovered (bundle_in b) ++ (bundle_in b).pages) (sym is)
     ∙ ap (λ ss. ss ++ map fresh_sheet parts.pages.items)
     (flat_map-map (λ (w : Written). uncovered_of w.kind w.blocks) (λ (f : LentFile). written_in f.stands) parts.writes.items)
 

@@ -16,7 +16,7 @@ use Rattle.trio_layout.specs.Lists.{In, are_new, is_among}
 use Rattle.trio_layout.specs.Sound.{is_sound}
 use Rattle.trio_layout.specs.Survey.{Pick, plain, root_of, survey}
 use Rattle.trio_state.specs.Accept.{is_accepted, next}
-use Rattle.trio_state.specs.Bundles.{Ends, blank, grants_after, is_in_bundle, lent_part, parted_hold, refused_image, uncovered}
+use Rattle.trio_state.specs.Bundles.{Ends, blank, grants_after, is_in_bundle, lent_part, parted_hold, refused_image}
 use Rattle.trio_state.specs.Given.{GivenTo}
 use Rattle.trio_state.specs.Image.{Image, IsFit}
 use Rattle.trio_state.specs.Kept.{Kept}
@@ -45,10 +45,11 @@ use Rattle.trio_laws.proofs.Sheets.{Pages, page_there}
 use Rattle.trio_laws.proofs.StateFacts.{covered_write}
 use Rattle.trio_laws.proofs.Survivors.{fit_now, sound_now}
 use Rattle.trio_laws.proofs.Tells.{untold_tells}
+use Rattle.trio_laws.proofs.Uncovered.{uncovered-lent}
 use Rattle.trio_proposal.specs.declared.judgement.NextImage.{NextImage}
 use Rattle.trio_proposal.specs.Judged.{IsImage}
 use Rattle.trio_ctl.specs.Ctl.{IsControlled, state_of}
-use Rattle.trio_ctl.specs.Moves.{all_covered, followed, is_closing}
+use Rattle.trio_ctl.specs.Moves.{all_covered, followed, is_closing, lent_uncovered}
 use Rattle.trio_ctl.specs.Open.{Opened, keyed}
 use Rattle.trio_ctl.specs.Outs.{AreWithin, OutNow, outs_after}
 use Rattle.trio_ctl.proofs.Ending.{ending, keys, staying}
@@ -207,7 +208,7 @@ module _ (s : Superblock) (pages : List (Option (List ℕ))) (rows : List (Optio
 
     -- ---- refused
 
-    module _ (false' : is_accepted (settled now) (creds_of now lib.0) b ≡ false) (put : pages' ≡ with_pages (uncovered b ++ b.pages) (with_pages back pages)) where
+    module _ (false' : is_accepted (settled now) (creds_of now lib.0) b ≡ false) (put : pages' ≡ with_pages (lent_uncovered b ++ b.pages) (with_pages back pages)) where
       abbrev refused : State
       refused = state_of s pages' rows owners stay outs' creds entries'
 
@@ -217,6 +218,7 @@ module _ (s : Superblock) (pages : List (Option (List ℕ))) (rows : List (Optio
           let settles : with_pages (checkpoints_of refused.open_grants) pages' ≡ (refused_image (settled now) b).core.pages =
           ap (λ gs. with_pages (checkpoints_of gs) pages') stay_same
           ∙ ap (with_pages (checkpoints_of (grants_after now lib.0 b))) put
+          ∙ ap (λ ss. with_pages (checkpoints_of (grants_after now lib.0 b)) (with_pages (ss ++ b.pages) (with_pages back pages))) (sym (uncovered-lent now k.kept lib.0 b given))
           ∙ refused_settles now lib.0 b back k.kept given back_from back_all in
           record {
             settles = ap J settles;
@@ -234,7 +236,7 @@ module _ (s : Superblock) (pages : List (Option (List ℕ))) (rows : List (Optio
       refused_controlled = record {
         fits = k.fits;
         root = k.root;
-        count = ap length put ∙ length-with_pages (uncovered b ++ b.pages) (with_pages back pages) ∙ length-with_pages back pages ∙ k.count;
+        count = ap length put ∙ length-with_pages (lent_uncovered b ++ b.pages) (with_pages back pages) ∙ length-with_pages back pages ∙ k.count;
         some_libraries = k.some_libraries;
         few_libraries = k.few_libraries;
         grants = ended;

@@ -27,6 +27,10 @@ file_sheets f = lent_sheets f.stands.index ++ lent_sheets f.stands.blocks
 abbrev pub uncovered_sheets : LentFile → List Sheet
 uncovered_sheets f = uncovered_of f.stands.kind (lent_sheets f.stands.blocks)
 
+-- those of the written files of a bundle, by the kinds of their leases
+abbrev pub lent_uncovered : Bundle → List Sheet
+lent_uncovered b = flat_map (λ w. uncovered_of w.kind w.blocks) b.writes
+
 -- ---- grants that stay open
 
 -- the pages that the checkpoints of these grants cover

@@ -3,11 +3,10 @@
 ghost use Rattle.std.specs.Prelude.{◌≡◌, ◌≤◌, ◌++◌, ℕ, IfOk, IsTrue, false, length, map, slice_index_or};
 ghost use Rattle.std.specs.List.{flat_map};
 ghost use Rattle.trio_layout.specs.Marks.{all_below};
-ghost use Rattle.trio_state.specs.Bundles.{uncovered};
 ghost use Rattle.trio_state.specs.Handed.{bundle_in};
 ghost use Rattle.trio_state.specs.Proposed.{bundle_pages, bundle_sheets, is_written};
 ghost use Rattle.trio_state.specs.Sheets.{sheet_numbers, with_pages};
-ghost use Rattle.trio_ctl.specs.Moves.{are_numbered, file_sheets, lent_sheets, uncovered_sheets};
+ghost use Rattle.trio_ctl.specs.Moves.{are_numbered, file_sheets, lent_sheets, lent_uncovered, uncovered_sheets};
 ghost use Rattle.trio_ctl.specs.Outs.{HasPlaces, outs_after};
 
 use crate::outs::Outs;
@@ -59,7 +58,7 @@ pub(crate) fn bring_uncovered(home: &mut Home, outs: &mut Outs, bundle: Bundle)
     requires within { IsTrue (all_below (length home.old.pages) (bundle_pages (bundle_in bundle))) }
     requires allotted { HasPlaces outs.old (bundle_in bundle) }
     ensures home { home.new ≡ record home.old {
-      pages = with_pages (uncovered (bundle_in bundle) ++ (bundle_in bundle).pages) home.old.pages;
+      pages = with_pages (lent_uncovered (bundle_in bundle) ++ (bundle_in bundle).pages) home.old.pages;
     } }
     ensures returned { outs.new ≡ outs_after outs.old (sheet_numbers (bundle_in bundle).pages) (bundle_in bundle).numbers }
 {

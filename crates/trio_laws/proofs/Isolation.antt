@@ -200,9 +200,9 @@ module _ (s : State) (k : Kept s) (lib n : ℕ) (r : Row) (row : row_at (settled
       let a : IsUntouched (settled s) (refused_image (settled s) b) n =
       agreeing_untouched (settled s) ps k.fit (refused_fit s s' k lib b given closed e) k.verifies (refused_agree s s' k lib b given closed e) n r row
       (λ m f p i num read own.
-      page_same core ps p (with_pages_apart (uncovered b ++ b.pages) core.pages p
+      page_same core ps p (with_pages_apart (uncovered (settled s) b ++ b.pages) core.pages p
       (λ j.
-      let x = map_from (λ (y : Sheet). y.page) p (uncovered b ++ b.pages) j in
+      let x = map_from (λ (y : Sheet). y.page) p (uncovered (settled s) b ++ b.pages) j in
       let h : In p (bundle_pages b) = in_numbers (bundle_sheets b) x.0 p (uncovered_handed s s' k lib b given closed e x.0 x.1) x.2 in
       unwritten_apart s k lib b given m p i (λ w c same. unwritten b given none w c (same ∙ num)) (subst (λ l. In p l) (sym (pages_are core m f read)) (plain_listed m.kind f p own)) h))) in
       let U : Image → Type 0 = λ i. IsUntouched (settled s) i n in subst U (sym e.settles) a

@@ -31,6 +31,7 @@ pub mod ModedImage
 pub mod Modes
 pub mod Runs
 pub mod Tells
+pub mod Uncovered
 pub mod Verdicts
 pub mod Possible
 pub mod StateLaws

@@ -144,7 +144,7 @@ module _ (s : State) (k : Kept s) where
       elim (cases_Bool (is_accepted (settled s) (creds_of s lib) b)) [
         | inl t ↦ (let r = accepted_ends lib b given t in (Accepted, r.0, IsAccepted closed t refl r.1))
         | inr f ↦ (
-            let r = ends_possible s lib b (refused_image (settled s) b) (λ x i. with_there (uncovered b ++ b.pages) x.page (after_there lib b x i)) in
+            let r = ends_possible s lib b (refused_image (settled s) b) (λ x i. with_there (uncovered (settled s) b ++ b.pages) x.page (after_there lib b x i)) in
             (Refused untold, r.0, IsRefused closed f untold refl (untold_tells s lib b) r.1))
       ]
 

@@ -21,7 +21,7 @@ use Rattle.trio_laws.proofs.Images.{free_unlisted}
 use Rattle.trio_laws.proofs.Members.{In-cases, In-flat, In-left, In-right, flat_from, map_from}
 use Rattle.trio_laws.proofs.Owned.{index_apart, sound_parts}
 use Rattle.trio_laws.proofs.PageSlots.{pages_same}
-use Rattle.trio_laws.proofs.Refusing.{uncovered_from}
+use Rattle.trio_laws.proofs.Uncovered.{uncovered_from}
 use Rattle.trio_laws.proofs.Sheets.{Pages, among_cases, with_pages-append, with_pages_apart, with_pages_cong}
 use Rattle.trio_laws.proofs.StateFacts.{tables, lent_met}
 
@@ -61,11 +61,11 @@ module _ (s : State) (k : Kept s) (lib : ℕ) (b : Bundle) (given : GivenTo s li
       (subst (λ ns. In p ns) (y.blocks ∙ l'.blocks) a)
 
   -- no checkpoint covers what is uncovered
-  pub bare : (p : ℕ) → In p (sheet_numbers (uncovered b ++ b.pages)) → In p (sheet_numbers (checkpoints_of s.open_grants)) → ⊥
+  pub bare : (p : ℕ) → In p (sheet_numbers (uncovered (settled s) b ++ b.pages)) → In p (sheet_numbers (checkpoints_of s.open_grants)) → ⊥
   bare p i j =
-      let r = map_from (λ (x : Sheet). x.page) p (uncovered b ++ b.pages) i in
+      let r = map_from (λ (x : Sheet). x.page) p (uncovered (settled s) b ++ b.pages) i in
       let q = map_from (λ (x : Sheet). x.page) p (checkpoints_of s.open_grants) j in
-      elim (uncovered_from b r.0 r.1) [
+      elim (uncovered_from s k lib b given r.0 r.1) [
         | inr w ↦ block_bare w.0 q.0 p w.1 w.2 (in_numbers w.0.blocks r.0 p w.3 r.2) q.1 q.2
         | inl handed ↦
             let c = checkpoint_from s k q.0 q.1 in
@@ -85,7 +85,7 @@ module _ (s : State) (k : Kept s) (lib : ℕ) (b : Bundle) (given : GivenTo s li
     every = checkpoints_of s.open_grants
 
     abbrev handed : List Sheet
-    handed = uncovered b ++ b.pages
+    handed = uncovered (settled s) b ++ b.pages
 
     abbrev home : Pages
     home = s.home.core.pages

@@ -1,16 +1,16 @@
 -- The end of a refused bundle keeps what holds of a state.
-use Rattle.std.proofs.Common.{◌≡◌, ℕ, true, false, ◌&&◌, eqb, List, ◌++◌, length, Some, None, slice_get, sym, refl, ap, ◌∙◌, subst, inl, inr, ◌⊎◌, arith}
+use Rattle.std.proofs.Common.{◌≡◌, ℕ, true, false, ◌&&◌, eqb, ◌++◌, length, Some, None, slice_get, sym, refl, ap, ◌∙◌, subst, inl, inr, ◌⊎◌, arith}
 use Rattle.std.specs.Prelude.{is_some, slice_index}
 use Rattle.std.specs.List.{flat_map}
 use Rattle.std.proofs.lemmas.Bool.{and_parts, eqb-true, cases_Bool}
 use Rattle.trio_rights.specs.declared.kind.Kind.{Kind}
-use Rattle.trio_rights.specs.declared.kind.Kind.TheVariants.{Regular, Directory}
+use Rattle.trio_rights.specs.declared.kind.Kind.TheVariants.{Regular}
 use Rattle.trio_nodes.specs.declared.grant.GrantKind.TheVariants.{Write, Hold}
 use Rattle.trio_layout.specs.Core.{Core}
 use Rattle.trio_layout.specs.Lists.{is_among, In}
 use Rattle.trio_layout.specs.Range.{is_core}
 use Rattle.trio_layout.specs.Survey.{plain, FileRead, survey}
-use Rattle.trio_state.specs.Bundles.{is_in_bundle, lent_part, refused_image, uncovered, uncovered_of, Ends}
+use Rattle.trio_state.specs.Bundles.{is_in_bundle, lent_part, refused_image, uncovered, Ends}
 use Rattle.trio_state.specs.Given.{GivenTo}
 use Rattle.trio_state.specs.Grants.{has_parent_grant}
 use Rattle.trio_state.specs.Image.{IsFit, Image, settled_body, row_at}
@@ -23,11 +23,12 @@ use Rattle.trio_laws.proofs.Agreeing.{verifies_still, lent_still, body_still}
 use Rattle.trio_laws.proofs.Bundles.{Closed, outside_unheld, in_numbers}
 use Rattle.trio_laws.proofs.Ended.{grant_before, apart_then, checkpoints_then, write_in_bundle, parent_then, outs_then, numbers_then, out_once_then, numbers_once_then, absent_then}
 use Rattle.trio_laws.proofs.Images.{some_of, free_unlisted}
-use Rattle.trio_laws.proofs.Members.{In-left, In-right, In-cases, In-flat, flat_from, map_from, In-among}
+use Rattle.trio_laws.proofs.Members.{In-left, In-right, In-flat, map_from, In-among}
 use Rattle.trio_laws.proofs.Owned.{sound_parts, pages_are}
 use Rattle.trio_laws.proofs.SheetLaws.{length-with_pages}
 use Rattle.trio_laws.proofs.Sheets.{Pages, with_pages_apart, with_pages_absent, with_pages_from, page_same, page_there, page_from}
 use Rattle.trio_laws.proofs.StateFacts.{any_at, write_is, tables}
+use Rattle.trio_laws.proofs.Uncovered.{uncovered_from, In-uncovered}
 use Rattle.trio_laws.proofs.WriteGrant.{read_cases, block_unread, uncovers}
 use Rattle.trio_laws.specs.Reading.{with_other, AgreeOn, pages_read}
 
@@ -37,24 +38,6 @@ read_listed kind f p i =
     elim (read_cases kind f p i) [
       | inl a ↦ In-left p f.chain.index f.chain.blocks a
       | inr a ↦ In-right p f.chain.index f.chain.blocks a.0
-    ]
-
-uncovered_is : (kind : Kind) (blocks : List Sheet) (x : Sheet) → In x (uncovered_of kind blocks) → (kind ≡ Regular) × In x blocks
-uncovered_is Regular blocks x i = (refl, i)
-uncovered_is Directory blocks x i = absurd i
-
-is_uncovered : (kind : Kind) (blocks : List Sheet) (x : Sheet) → kind ≡ Regular → In x blocks → In x (uncovered_of kind blocks)
-is_uncovered Regular blocks x e i = i
-is_uncovered Directory blocks x e i = absurd cc
-
--- where an uncovered sheet comes from
-pub uncovered_from : (b : Bundle) (x : Sheet) → In x (uncovered b ++ b.pages) → In x b.pages ⊎ ((w : Written) × In w b.writes × (w.kind ≡ Regular) × In x w.blocks)
-uncovered_from b x i =
-    elim (In-cases x (flat_map (λ (w : Written). uncovered_of w.kind w.blocks) b.writes) b.pages i) [
-      | inl a ↦
-          let r = flat_from (λ (w : Written). uncovered_of w.kind w.blocks) x b.writes a in
-          let u = uncovered_is r.0.kind r.0.blocks x r.2 in inr (r.0, r.1, u.0, u.1)
-      | inr a ↦ inl a
     ]
 
 -- what counts of a grant goes with its lent part
@@ -75,35 +58,34 @@ module _ (s s' : State) (k : Kept s) (lib : ℕ) (b : Bundle) (given : GivenTo s
   core = (settled s).core
 
   abbrev pub pages : Pages
-  pages = with_pages (uncovered b ++ b.pages) (settled s).core.pages
+  pages = with_pages (uncovered (settled s) b ++ b.pages) (settled s).core.pages
 
   abbrev after : Image
   after = refused_image (settled s) b
 
-  pub uncovered_handed : (x : Sheet) → In x (uncovered b ++ b.pages) → In x (bundle_sheets b)
+  pub uncovered_handed : (x : Sheet) → In x (uncovered (settled s) b ++ b.pages) → In x (bundle_sheets b)
   uncovered_handed x i =
-      elim (uncovered_from b x i) [
+      elim (uncovered_from s k lib b given x i) [
         | inl a ↦ In-right x (flat_map (λ (w : Written). w.index ++ w.blocks) b.writes) b.pages a
         | inr w ↦ In-left x (flat_map (λ (w : Written). w.index ++ w.blocks) b.writes) b.pages (In-flat (λ (w : Written). w.index ++ w.blocks) w.0 x b.writes w.1 (In-right x w.0.index w.0.blocks w.3))
       ]
 
-  block_uncovered : (w : Written) (p : ℕ) → In w b.writes → w.kind ≡ Regular → In p (sheet_numbers w.blocks) → In p (sheet_numbers (uncovered b ++ b.pages))
+  block_uncovered : (w : Written) (p : ℕ) → In w b.writes → w.kind ≡ Regular → In p (sheet_numbers w.blocks) → In p (sheet_numbers (uncovered (settled s) b ++ b.pages))
   block_uncovered w p i reg a =
       let r = map_from (λ (x : Sheet). x.page) p w.blocks a in
-      let u = In-flat (λ (w : Written). uncovered_of w.kind w.blocks) w r.0 b.writes i (is_uncovered w.kind w.blocks r.0 reg r.1) in
-      in_numbers (uncovered b ++ b.pages) r.0 p (In-left r.0 (flat_map (λ (w : Written). uncovered_of w.kind w.blocks) b.writes) b.pages u) r.2
+      in_numbers (uncovered (settled s) b ++ b.pages) r.0 p (In-left r.0 (uncovered (settled s) b) b.pages (In-uncovered s k lib b given w r.0 i reg r.1)) r.2
 
-  page_uncovered : (p : ℕ) → In p (sheet_numbers b.pages) → In p (sheet_numbers (uncovered b ++ b.pages))
+  page_uncovered : (p : ℕ) → In p (sheet_numbers b.pages) → In p (sheet_numbers (uncovered (settled s) b ++ b.pages))
   page_uncovered p a =
       let r = map_from (λ (x : Sheet). x.page) p b.pages a in
-      in_numbers (uncovered b ++ b.pages) r.0 p (In-right r.0 (flat_map (λ (w : Written). uncovered_of w.kind w.blocks) b.writes) b.pages r.1) r.2
+      in_numbers (uncovered (settled s) b ++ b.pages) r.0 p (In-right r.0 (uncovered (settled s) b) b.pages r.1) r.2
 
   pub agree : AgreeOn core (with_other core pages) (survey core plain)
   agree m f p i read a =
-      page_same core pages p (with_pages_apart (uncovered b ++ b.pages) core.pages p
+      page_same core pages p (with_pages_apart (uncovered (settled s) b ++ b.pages) core.pages p
       (λ j.
-      let r = map_from (λ (x : Sheet). x.page) p (uncovered b ++ b.pages) j in
-      elim (uncovered_from b r.0 r.1) [
+      let r = map_from (λ (x : Sheet). x.page) p (uncovered (settled s) b ++ b.pages) j in
+      elim (uncovered_from s k lib b given r.0 r.1) [
         | inl handed ↦
             let o = given.pages p (in_numbers b.pages r.0 p handed r.2) in
             let z : slice_index s.home.owners p ≡ 0 = ap (slice_index s.home.owners) (sym o.3) ∙ k.out_free o.0 o.1 in
@@ -119,11 +101,11 @@ module _ (s s' : State) (k : Kept s) (lib : ℕ) (b : Bundle) (given : GivenTo s
   fit' = record {
     full = λ p bytes h.
         let t = page_there (with_other core pages) p bytes h in
-        elim (with_pages_from (uncovered b ++ b.pages) core.pages p bytes t.1) [
+        elim (with_pages_from (uncovered (settled s) b ++ b.pages) core.pages p bytes t.1) [
           | inl r ↦ ap length (sym r.2) ∙ given.full r.0 (uncovered_handed r.0 r.1)
           | inr was ↦ k.fit.full p bytes (page_from core p bytes t.0 was)
         ];
-    long = (let l = length-with_pages (uncovered b ++ b.pages) core.pages in let f = k.fit.long in omega (arith, l, f));
+    long = (let l = length-with_pages (uncovered (settled s) b ++ b.pages) core.pages in let f = k.fit.long in omega (arith, l, f));
     numbers = k.fit.numbers;
   }
 
@@ -157,7 +139,7 @@ module _ (s s' : State) (k : Kept s) (lib : ℕ) (b : Bundle) (given : GivenTo s
 
   absent_after : (p : ℕ) → is_core core.range p ≡ true → slice_get after.core.pages p ≡ Some None → ((g : OpenGrant) × In g s.open_grants × (is_in_bundle lib b g ≡ false) × (g.kind ≡ Write) × In p (sheet_numbers (g.index ++ g.blocks))) ⊎ ((o : Out) × In o s.pages_out × (o.number ≡ p) × (In p (sheet_numbers b.pages) → ⊥))
   absent_after p c gone =
-      let w = with_pages_absent (uncovered b ++ b.pages) core.pages p gone in
+      let w = with_pages_absent (uncovered (settled s) b ++ b.pages) core.pages p gone in
       let v = with_pages_absent (flat_map (λ g. g.checkpoint) s.open_grants) s.home.core.pages p w.1 in
       elim (k.absent p v.1 c) [
         | inl lent ↦

@@ -101,7 +101,7 @@ refused_back s s' k lib b given closed e =
     let ps : List (Option (List ℕ)) = pages s s' k lib b given closed e in
     let agrees = agree s s' k lib b given closed e in
     record {
-      pages = λ page none. ap (λ (i : Image). slice_get i.core.pages page) e.settles ∙ with_pages_apart (uncovered b ++ b.pages) (settled s).core.pages page none;
+      pages = λ page none. ap (λ (i : Image). slice_get i.core.pages page) e.settles ∙ with_pages_apart (uncovered (settled s) b ++ b.pages) (settled s).core.pages page none;
       covered = λ w page i j.
           let g = given.writes w i in
           let l = k.lent g.grant g.is_open g.kind in

@@ -62,7 +62,7 @@ RefusedSettles =
     (s : State) (lib : ℕ) (b : Bundle) (sheets : List Sheet) → Kept s → GivenTo s lib b
     → ((x : Sheet) → In x sheets → (g : OpenGrant) × In g s.open_grants × IsTrue (is_in_bundle lib b g) × In x g.checkpoint)
     → ((g : OpenGrant) (x : Sheet) → In g s.open_grants → IsTrue (is_in_bundle lib b g) → In x g.checkpoint → In x sheets)
-    → with_pages (checkpoints_of (grants_after s lib b)) (with_pages (uncovered b ++ b.pages) (with_pages sheets s.home.core.pages))
+    → with_pages (checkpoints_of (grants_after s lib b)) (with_pages (uncovered (settled s) b ++ b.pages) (with_pages sheets s.home.core.pages))
     ≡ (refused_image (settled s) b).core.pages
 
 -- What a file that is to be lent for writing has is at home: a live file on which no grant is open.

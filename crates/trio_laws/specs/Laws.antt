@@ -124,11 +124,11 @@ EveryReleaseIsJudged =
     (run : AnyRun) (m : Move) (lib : ℕ) (b : Bundle)
     → In m run.moves → m.event ≡ Release lib b → IsVerdict m.before lib b m.answer m.after
 
--- What stands in the settled image after a refusal: all as before, but for the lent blocks of the bundle's regular files and its
--- allotted pages. The pages that the checkpoints of its written files cover are not among these: they are as before, byte for byte.
+-- What stands in the settled image after a refusal: all as before, but for the lent blocks of its written files that aren't
+-- covered, and its allotted pages. The pages that the checkpoints of its written files cover are not among these: they are as before, byte for byte.
 pub record IsBack (s : State) (b : Bundle) (s' : State) : Type 0 where
   pub pages :
-      (page : ℕ) → (In page (sheet_numbers (uncovered b ++ b.pages)) → ⊥)
+      (page : ℕ) → (In page (sheet_numbers (uncovered (settled s) b ++ b.pages)) → ⊥)
       → slice_get (settled s').core.pages page ≡ slice_get (settled s).core.pages page
   pub covered :
       (w : Written) (page : ℕ) → In w b.writes → In page (sheet_numbers (covered Write w.kind w.index w.blocks))

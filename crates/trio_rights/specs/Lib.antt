@@ -1,4 +1,5 @@
 pub mod Kind
+pub mod ByKind
 pub mod Rights
 pub mod Row
 pub mod May

@@ -2,7 +2,7 @@
 use Rattle.std.specs.Prelude.{◌≡◌, ℕ, ◌+◌, ◌==◌, nat_le, Bool, true, false, not, ◌&&◌, ◌||◌, List, [], ◌∷◌, ◌++◌, map, Option, Some, None, is_some, if◌then◌else◌}
 use Rattle.std.specs.List.{filter, flat_map, list_all}
 use Rattle.trio_rights.specs.declared.kind.Kind.{Kind}
-use Rattle.trio_rights.specs.declared.kind.Kind.TheVariants.{Regular, Directory}
+use Rattle.trio_rights.specs.ByKind.{covers_blocks}
 use Rattle.trio_rights.specs.Row.{Row}
 use Rattle.trio_nodes.specs.declared.grant.GrantKind.{GrantKind}
 use Rattle.trio_nodes.specs.declared.grant.GrantKind.TheVariants.{Read, Write, Hold}
@@ -55,18 +55,23 @@ is_in_bundle lib b g =
 abbrev pub grants_after : State → ℕ → Bundle → List OpenGrant
 grants_after s lib b = filter (λ g. not (is_in_bundle lib b g)) s.open_grants
 
--- the blocks of regular files, which no checkpoint covers
+-- the blocks of a file of this kind, unless its checkpoint covers them
 abbrev pub uncovered_of : Kind → List Sheet → List Sheet
-uncovered_of Regular blocks = blocks
-uncovered_of Directory blocks = []
+uncovered_of kind blocks = if covers_blocks kind then [] else blocks
 
-abbrev pub uncovered : Bundle → List Sheet
-uncovered b = flat_map (λ w. uncovered_of w.kind w.blocks) b.writes
+-- the same of a live file, by its row
+abbrev pub uncovered_by : Option Row → List Sheet → List Sheet
+uncovered_by None blocks = []
+uncovered_by (Some r) blocks = uncovered_of r.kind blocks
 
--- What is settled after a refusal: as before, but lent blocks of regular files and allotted pages stand at their numbers as
+-- the blocks of the written files that no checkpoint covers, by what is settled
+abbrev pub uncovered : Image → Bundle → List Sheet
+uncovered image b = flat_map (λ w. uncovered_by (row_at image w.ino) w.blocks) b.writes
+
+-- What is settled after a refusal: as before, but lent blocks that aren't covered and allotted pages stand at their numbers as
 -- they were handed in.
 abbrev pub refused_image : Image → Bundle → Image
-refused_image image b = with_core_pages image (with_pages (uncovered b ++ b.pages) image.core.pages)
+refused_image image b = with_core_pages image (with_pages (uncovered image b ++ b.pages) image.core.pages)
 
 -- A page of which only the number counts.
 abbrev pub blank : Sheet → Sheet

@@ -1,8 +1,8 @@
 -- The state of the controller, and the image that is settled in it.
-use Rattle.std.specs.Prelude.{ℕ, ◌+◌, ◌-◌, ◌==◌, Bool, true, false, List, [], ◌++◌, Option, slice_index_or}
+use Rattle.std.specs.Prelude.{ℕ, ◌+◌, ◌-◌, ◌==◌, Bool, true, false, List, [], ◌++◌, Option, if◌then◌else◌, slice_index_or}
 use Rattle.std.specs.List.{flat_map, list_any}
 use Rattle.trio_rights.specs.declared.kind.Kind.{Kind}
-use Rattle.trio_rights.specs.declared.kind.Kind.TheVariants.{Regular, Directory}
+use Rattle.trio_rights.specs.ByKind.{covers_blocks}
 use Rattle.trio_rights.specs.declared.rights.Creds.{Creds}
 use Rattle.trio_nodes.specs.declared.grant.GrantKind.{GrantKind}
 use Rattle.trio_nodes.specs.declared.grant.GrantKind.TheVariants.{Read, Write, Hold}
@@ -47,10 +47,9 @@ is_read Read = true
 is_read Write = false
 is_read Hold = false
 
--- what a checkpoint covers beside the body: the index pages, and a directory's blocks
+-- what a checkpoint covers beside the body: the index pages, and the blocks where the kind says so
 abbrev pub covered : GrantKind → Kind → List Sheet → List Sheet → List Sheet
-covered Write Directory index blocks = index ++ blocks
-covered Write Regular index blocks = index
+covered Write of index blocks = if covers_blocks of then index ++ blocks else index
 covered Read of index blocks = []
 covered Hold of index blocks = []
 

@@ -6,7 +6,6 @@ use Rattle.trio_page.specs.Home.{Pages}
 use Rattle.trio_layout.specs.Marks.{all_below}
 use Rattle.trio_checkpoint.specs.Covered.{all_stand}
 use Rattle.trio_state.specs.Accept.{is_accepted, next}
-use Rattle.trio_state.specs.Bundles.{uncovered}
 use Rattle.trio_state.specs.Given.{GivenTo}
 use Rattle.trio_state.specs.Handed.{bundle_in}
 use Rattle.trio_state.specs.Kept.{Kept}
@@ -19,7 +18,7 @@ use Rattle.trio_laws.specs.EndLaws.{unless_absent}
 use Rattle.trio_laws.proofs.SheetLaws.{length-with_pages}
 use Rattle.trio_proposal.specs.Judged.{IfAccepted, IfRefused, IsImage}
 use Rattle.trio_ctl.specs.Ctl.{IsControlled, state_of}
-use Rattle.trio_ctl.specs.Moves.{all_covered, followed}
+use Rattle.trio_ctl.specs.Moves.{all_covered, followed, lent_uncovered}
 use Rattle.trio_ctl.specs.Open.{Opened, keyed}
 use Rattle.trio_ctl.specs.Outs.{outs_after}
 use Rattle.trio_ctl.proofs.Ending.{ending}
@@ -126,7 +125,7 @@ invariant_of-self-in-Refused c =
     let table = c.close_all.ensures.table ∙ ap (map keyed) remain in
     let more = c.in-Some.ensures.1 in
     let false' = subst (λ (x : State). is_accepted (settled x) (creds_of x c.args.lib.0) b ≡ false) (sym e) (subst (IfRefused (is_accepted (settled c.args.self.now) (creds_of c.args.self.now c.args.lib.0) b ≡ false)) c.in-Refused.is c.in-Ok.ensures.refused) in
-    let put = ap (λ (h : Pages). h.pages) c.bring_uncovered.ensures.home ∙ ap (with_pages (uncovered b ++ b.pages)) home in
+    let put = ap (λ (h : Pages). h.pages) c.bring_uncovered.ensures.home ∙ ap (with_pages (lent_uncovered b ++ b.pages)) home in
     subst (λ (fs : List Opened). IsControlled f.superblock c.bring_uncovered.new.home.pages f.rows f.owners c.close_all.new.grants fs c.bring_uncovered.new.outs f.libs.items c.in-Some.entries) (sym remain)
     (refused_controlled f.superblock f.home.pages f.rows f.owners f.grants f.files.items f.outs f.libs.items f.entries c.self.invariant c.args.lib b given c.in-Ok.closing.written.items c.in-Ok.ensures.marks c.close_all.new.grants c.bring_uncovered.new.home.pages c.bring_uncovered.new.outs c.in-Some.entries table c.bring_uncovered.ensures.returned more false' put)
 
@@ -178,7 +177,7 @@ returns-in-Refused-clause-step c =
     let table = c.close_all.ensures.table ∙ ap (map keyed) remain in
     let more = c.in-Some.ensures.1 in
     let false' = subst (λ (x : State). is_accepted (settled x) (creds_of x c.args.lib.0) b ≡ false) (sym e) (subst (IfRefused (is_accepted (settled c.args.self.now) (creds_of c.args.self.now c.args.lib.0) b ≡ false)) c.in-Refused.is c.in-Ok.ensures.refused) in
-    let put = ap (λ (h : Pages). h.pages) c.bring_uncovered.ensures.home ∙ ap (with_pages (uncovered b ++ b.pages)) home in
+    let put = ap (λ (h : Pages). h.pages) c.bring_uncovered.ensures.home ∙ ap (with_pages (lent_uncovered b ++ b.pages)) home in
     let step = refused_step f.superblock f.home.pages f.rows f.owners f.grants f.files.items f.outs f.libs.items f.entries c.self.invariant c.args.lib b given c.in-Ok.closing.written.items c.in-Ok.ensures.marks c.close_all.new.grants c.bring_uncovered.new.home.pages c.bring_uncovered.new.outs c.in-Some.entries table c.bring_uncovered.ensures.returned more false' put in
     subst (λ (x : State). Step x (Release c.args.lib.0 b) (Refused untold) (state_of f.superblock c.bring_uncovered.new.home.pages f.rows f.owners c.close_all.result.items c.bring_uncovered.new.outs f.libs.items c.in-Some.entries)) e
     (subst (λ (fs : List Opened). Step (state_of f.superblock f.home.pages f.rows f.owners f.files.items f.outs f.libs.items f.entries) (Release c.args.lib.0 b) (Refused untold) (state_of f.superblock c.bring_uncovered.new.home.pages f.rows f.owners fs c.bring_uncovered.new.outs f.libs.items c.in-Some.entries)) (sym remain) step)
@@ -194,6 +193,6 @@ returns-in-Refused-clause-kept c =
     let table = c.close_all.ensures.table ∙ ap (map keyed) remain in
     let more = c.in-Some.ensures.1 in
     let false' = subst (λ (x : State). is_accepted (settled x) (creds_of x c.args.lib.0) b ≡ false) (sym e) (subst (IfRefused (is_accepted (settled c.args.self.now) (creds_of c.args.self.now c.args.lib.0) b ≡ false)) c.in-Refused.is c.in-Ok.ensures.refused) in
-    let put = ap (λ (h : Pages). h.pages) c.bring_uncovered.ensures.home ∙ ap (with_pages (uncovered b ++ b.pages)) home in
+    let put = ap (λ (h : Pages). h.pages) c.bring_uncovered.ensures.home ∙ ap (with_pages (lent_uncovered b ++ b.pages)) home in
     let after = refused_controlled f.superblock f.home.pages f.rows f.owners f.grants f.files.items f.outs f.libs.items f.entries c.self.invariant c.args.lib b given c.in-Ok.closing.written.items c.in-Ok.ensures.marks c.close_all.new.grants c.bring_uncovered.new.home.pages c.bring_uncovered.new.outs c.in-Some.entries table c.bring_uncovered.ensures.returned more false' put in
     subst (λ (fs : List Opened). Kept (state_of f.superblock c.bring_uncovered.new.home.pages f.rows f.owners fs c.bring_uncovered.new.outs f.libs.items c.in-Some.entries)) (sym remain) after.kept

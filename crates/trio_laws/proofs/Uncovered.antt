@@ -1,0 +1,63 @@
+-- Which blocks of written files no checkpoint covers.
+use Rattle.std.proofs.Common.{◌≡◌, List, ◌++◌, Some, sym, refl, ap, ◌∙◌, subst, inl, inr, ◌⊎◌}
+use Rattle.std.specs.Prelude.{ℕ}
+use Rattle.std.specs.List.{flat_map}
+use Rattle.trio_rights.specs.declared.kind.Kind.{Kind}
+use Rattle.trio_rights.specs.declared.kind.Kind.TheVariants.{Regular, Directory}
+use Rattle.trio_rights.specs.Row.{Row}
+use Rattle.trio_layout.specs.Lists.{In}
+use Rattle.trio_layout.specs.Survey.{plain, row_by}
+use Rattle.trio_state.specs.Bundles.{uncovered, uncovered_by, uncovered_of}
+use Rattle.trio_state.specs.Given.{GivenTo}
+use Rattle.trio_state.specs.Image.{row_at}
+use Rattle.trio_state.specs.Kept.{Kept}
+use Rattle.trio_state.specs.Proposed.{Written, Bundle}
+use Rattle.trio_state.specs.Sheets.{Sheet}
+use Rattle.trio_state.specs.State.{State, settled}
+use Rattle.trio_laws.proofs.Images.{row_at_is, row_met}
+use Rattle.trio_laws.proofs.Members.{In-cases, In-flat, flat_from, flat_same}
+use Rattle.trio_laws.proofs.StateFacts.{tables}
+
+uncovered_is : (kind : Kind) (blocks : List Sheet) (x : Sheet) → In x (uncovered_of kind blocks) → (kind ≡ Regular) × In x blocks
+uncovered_is Regular blocks x i = (refl, i)
+uncovered_is Directory blocks x i = absurd i
+
+is_uncovered : (kind : Kind) (blocks : List Sheet) (x : Sheet) → kind ≡ Regular → In x blocks → In x (uncovered_of kind blocks)
+is_uncovered Regular blocks x e i = i
+is_uncovered Directory blocks x e i = absurd cc
+
+module _ (s : State) (k : Kept s) (lib : ℕ) (b : Bundle) (given : GivenTo s lib b) where
+  -- the row of a written file is of the kind of its lease
+  written_row : (w : Written) → In w b.writes → (r : Row) × (row_at (settled s) w.ino ≡ Some r) × (r.kind ≡ w.kind)
+  written_row w i =
+      let core = (settled s).core in
+      let sound = k.verifies.sound in
+      let g = given.writes w i in
+      let l = k.lent g.grant g.is_open g.kind in
+      let number : l.met.ino ≡ w.ino = l.number ∙ g.ino in
+      let row : row_at (settled s) l.met.ino ≡ Some (row_by l.met l.file.body) =
+      row_at_is core plain k.fit sound (settled s) (tables s k) l.met.ino ∙ row_met core plain k.fit sound l.met l.file l.stands l.read in
+      (row_by l.met l.file.body, ap (row_at (settled s)) (sym number) ∙ row, l.of ∙ g.of)
+
+  -- so what is uncovered goes by the kinds of the leases
+  pub uncovered-lent : uncovered (settled s) b ≡ flat_map (λ (w : Written). uncovered_of w.kind w.blocks) b.writes
+  uncovered-lent =
+      flat_same (λ (w : Written). uncovered_by (row_at (settled s) w.ino) w.blocks) (λ (w : Written). uncovered_of w.kind w.blocks) b.writes
+      (λ w i.
+      let r = written_row w i in
+      ap (λ o. uncovered_by o w.blocks) r.1 ∙ ap (λ kind. uncovered_of kind w.blocks) r.2)
+
+  -- where an uncovered sheet comes from
+  pub uncovered_from : (x : Sheet) → In x (uncovered (settled s) b ++ b.pages) → In x b.pages ⊎ ((w : Written) × In w b.writes × (w.kind ≡ Regular) × In x w.blocks)
+  uncovered_from x i =
+      elim (In-cases x (uncovered (settled s) b) b.pages i) [
+        | inl a ↦
+            let r = flat_from (λ (w : Written). uncovered_of w.kind w.blocks) x b.writes (subst (λ l. In x l) uncovered-lent a) in
+            let u = uncovered_is r.0.kind r.0.blocks x r.2 in inr (r.0, r.1, u.0, u.1)
+        | inr a ↦ inl a
+      ]
+
+  pub In-uncovered : (w : Written) (x : Sheet) → In w b.writes → w.kind ≡ Regular → In x w.blocks → In x (uncovered (settled s) b)
+  In-uncovered w x i reg a =
+      subst (λ l. In x l) (sym uncovered-lent)
+      (In-flat (λ (w : Written). uncovered_of w.kind w.blocks) w x b.writes i (is_uncovered w.kind w.blocks x reg a))
