@@ -149,6 +149,7 @@ turns_done image script out old mid new s pages lines report bytes image_read sc
         script_bytes = script_read.script_bytes;
         image_is = image_read.image_is;
         script_is = script_read.script_is;
+        script_within = script_read.within;
         image_verifies = image_read.is.verifies;
         script_built = script_read.built;
         superblock = s;
@@ -172,6 +173,7 @@ turns_write_fault image script out old mid new s pages lines text image_read scr
     image_verifies = record { image_bytes = image_read.image_bytes; image_is = image_read.image_is; within = image_read.within; verifies = image_read.is.verifies };
     script_bytes = script_read.script_bytes;
     script_is = script_read.script_is;
+    script_within = script_read.within;
     script_built = script_read.built;
     rose = rw (← files.writes) rose;
     put = line;
