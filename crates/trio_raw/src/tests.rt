@@ -106,14 +106,14 @@ fn library(alloc: Global) -> Result<Raw, NoMemory> {
     Err(NoMemory)
 }
 
-/// Of the first file in a bundle, its library, the low half of its entry, and 1 where its block 0 is
-/// marked as touched; then the inode numbers, page numbers and allotted inode numbers of the bundle,
+/// Of the first file in a bundle, its library, its entry where a `u32` has it, and 1 where its block
+/// 0 is marked as touched; then the inode numbers, page numbers and allotted inode numbers of the bundle,
 /// which has at most two of each. 0 is none. The bundle is let go.
 fn numbers_in(bundle: Bundle) -> [u32; 9] {
     let first = bundle.writes().get(0);
     let numbers = [
         first.map_or(0, |file| file.lib().0),
-        first.map_or(0, |file| file.entry() as u32),
+        first.map_or(0, |file| u32::try_from(file.entry()).unwrap_or(0)),
         first.map_or(0, |file| u32::from(file.block_touched(0) == Some(true))),
         bundle.writes().get(0).map_or(0, |file| file.ino()),
         bundle.writes().get(1).map_or(0, |file| file.ino()),
