@@ -1,7 +1,7 @@
 -- How a run ends, and what the whole work comes to.
 use Rattle.std.proofs.Common.{◌≡◌, ℕ, zero, suc, ◌+◌, ◌<◌, ◌≤◌, min, List, [], ◌∷◌, ◌++◌, length, take, get_or, Option, Bool, map, inl, inr, refl, sym, ap, subst, ◌∙◌, arith}
 use Rattle.std.proofs.lemmas.List.{append-nil, append_assoc}
-use Rattle.trio_io.specs.Shelf.{Shelf, Rose, RisesAt, KeepsOthers, told}
+use Rattle.trio_io.specs.Shelf.{Shelf, OnlyReplaces, Rose, told}
 use Rattle.trio_layout.specs.Core.{Core}
 use Rattle.trio_layout.specs.declared.superblock.Superblock.{Superblock}
 use Rattle.trio_state.specs.Kept.{Kept}
@@ -84,14 +84,6 @@ joined t0 t1 t2 t3 t4 t5 a b c d e e0 e1 e2 e3 e4 e5 = rw (e5, e4, e3, e2, e1, e
 
 -- ---- the whole work
 
--- what replacing OUT left of the files
-pub record Replaces (out : List ℕ) (mid new : Shelf) : Type 0 where
-  pub others : KeepsOthers out mid.held new.held
-  pub writes : RisesAt out mid.write_faults new.write_faults
-  pub reads : new.read_faults ≡ mid.read_faults
-  pub tells : new.tells ≡ mid.tells
-  pub serves : new.served ≡ mid.served
-
 counts_read : (image script out : List ℕ) (old new : Shelf) → ReadsBoth image script old new → TurnsCounts image script out old new
 counts_read image script out old new files = record {
   reads_later = files.later;
@@ -101,7 +93,7 @@ counts_read image script out old new files = record {
   tells = files.tells;
 }
 
-counts_replaced : (image script out : List ℕ) (old mid new : Shelf) → ReadsBoth image script old mid → Replaces out mid new → TurnsCounts image script out old new
+counts_replaced : (image script out : List ℕ) (old mid new : Shelf) → ReadsBoth image script old mid → OnlyReplaces out mid new → TurnsCounts image script out old new
 counts_replaced image script out old mid new files put = record {
   reads_later = rw put.reads files.later;
   reads_others = rw put.reads files.others;
@@ -138,7 +130,7 @@ turns_stop image script out old new stop text status why files (inl told) =
 turns_stop image script out old new stop text status why files (inr lacking) = turns_no_memory image script out old new text status files lacking.0 lacking.1
 
 pub turns_done : (image script out : List ℕ) (old mid new : Shelf) (s : Superblock) (pages : List (Option (List ℕ))) (lines : List SaidLine) (report bytes : List ℕ) → ReadsImage image old s pages → ReadsScript script old lines → ReadsBoth image script old mid → IsRunEnd s pages lines report bytes
-    → Replaces out mid new → new.held out ≡ told mid.tells bytes → Turns image script out old new report Done
+    → OnlyReplaces out mid new → new.held out ≡ told mid.tells bytes → Turns image script out old new report Done
 turns_done image script out old mid new s pages lines report bytes image_read script_read files end put written =
     let end' : IsRunEnd s (pages_in s.pages image_read.image_bytes) (script_lines script_read.script_bytes) report bytes =
     subst (λ ps. IsRunEnd s ps (script_lines script_read.script_bytes) report bytes) image_read.is.pages_are
@@ -149,6 +141,7 @@ turns_done image script out old mid new s pages lines report bytes image_read sc
         script_bytes = script_read.script_bytes;
         image_is = image_read.image_is;
         script_is = script_read.script_is;
+        script_within = script_read.within;
         image_verifies = image_read.is.verifies;
         script_built = script_read.built;
         superblock = s;
@@ -166,12 +159,13 @@ turns_done image script out old mid new s pages lines report bytes image_read sc
     }
 
 pub turns_write_fault : (image script out : List ℕ) (old mid new : Shelf) (s : Superblock) (pages : List (Option (List ℕ))) (lines : List SaidLine) (text : List ℕ) → ReadsImage image old s pages → ReadsScript script old lines → ReadsBoth image script old mid
-    → Replaces out mid new → Rose (mid.write_faults out) (new.write_faults out) → text ≡ write_fault_line out → Turns image script out old new text WriteFault
+    → OnlyReplaces out mid new → Rose (mid.write_faults out) (new.write_faults out) → text ≡ write_fault_line out → Turns image script out old new text WriteFault
 turns_write_fault image script out old mid new s pages lines text image_read script_read files put rose line = record {
   comes_to = record {
     image_verifies = record { image_bytes = image_read.image_bytes; image_is = image_read.image_is; within = image_read.within; verifies = image_read.is.verifies };
     script_bytes = script_read.script_bytes;
     script_is = script_read.script_is;
+    script_within = script_read.within;
     script_built = script_read.built;
     rose = rw (← files.writes) rose;
     put = line;

@@ -30,6 +30,7 @@ pub record TurnsDone (image script out : List ℕ) (old new : Shelf) (text : Lis
   pub script_bytes : List ℕ
   pub image_is : IsTold (old.held image) image_bytes
   pub script_is : IsTold (old.held script) script_bytes
+  pub script_within : length script_bytes ≤ 1048576
   pub image_verifies : BytesVerify image_bytes
   pub script_built : unbuilt_line script_bytes ≡ None
   pub superblock : Superblock
@@ -85,6 +86,7 @@ pub record TurnsWriteFault (image script out : List ℕ) (old new : Shelf) (text
   pub image_verifies : ImageVerifies image old
   pub script_bytes : List ℕ
   pub script_is : IsTold (old.held script) script_bytes
+  pub script_within : length script_bytes ≤ 1048576
   pub script_built : unbuilt_line script_bytes ≡ None
   pub rose : Rose (old.write_faults out) (new.write_faults out)
   pub put : text ≡ write_fault_line out

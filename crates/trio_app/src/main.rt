@@ -8,8 +8,10 @@
 //! which no contract speaks of.
 #![tactic(auto)]
 
-ghost use Rattle.std.specs.Prelude.{◌≡◌, IfOk};
+ghost use Rattle.std.specs.Prelude.{◌≡◌, ◌⊎◌, IfErr, IfOk, drop};
+ghost use Rattle.std.specs.Vec.Iter.{into_iter_items};
 ghost use Rattle.trio_io.specs.Names.{texts_of};
+ghost use Rattle.trio_app.specs.Main.{EndOfProcess};
 
 mod inputs;
 mod lines;
@@ -32,6 +34,7 @@ use std::process::ExitCode;
 use std::rt::{Env, Files as Host};
 use std::sync::Wait;
 use std::thread::Threads;
+use std::vec::IntoIter;
 pub use stop::Stop;
 pub use sure::sure_main;
 pub use threads::trio_main;
@@ -51,25 +54,41 @@ fn copy_words(alloc: Global, words: &[String]) -> Result<Vec<String>, NoMemory>
     Ok(copies)
 }
 
+/// The words but for the first, which is the program's name.
+fn without_name(alloc: Global, all: IntoIter<String>) -> Result<Vec<String>, NoMemory>
+    ensures { IfOk result (λ words. words.items ≡ drop 1 (into_iter_items all)) }
+{
+    let mut left = all;
+    let _name = left.next();
+    let mut words = Vec::new(alloc);
+    for word in left {
+        words.push(word)?;
+    }
+    Ok(words)
+}
+
 /// The words of the command line without the program's name, or how the program ends without them:
 /// [`Status::NoMemory`], or [`Status::NotBuilt`] where a word isn't UTF-8.
-fn words_given<R: Env + AllocGlobal>(rt: &R) -> Result<Vec<String>, Status> {
-    let mut words = Vec::new(rt.alloc());
+///
+/// No clause can name the words that the process was given. All that [`env::args`] answers but the
+/// first is kept, as [`without_name`] says.
+fn words_given<R: Env + AllocGlobal>(rt: &R) -> Result<Vec<String>, Status>
+    ensures { IfErr result (λ status. (status ≡ Status.NoMemory) ⊎ (status ≡ Status.NotBuilt)) }
+{
     match env::args(rt) {
-        Ok(args) => {
-            for word in args.skip(1) {
-                if words.push(word).is_err() {
-                    return Err(Status::NoMemory);
-                }
-            }
-            Ok(words)
-        }
+        Ok(all) => match without_name(rt.alloc(), all) {
+            Ok(words) => Ok(words),
+            Err(_) => Err(Status::NoMemory),
+        },
         Err(fault) if fault.kind() == ErrorKind::OutOfMemory => Err(Status::NoMemory),
         Err(_) => Err(Status::NotBuilt),
     }
 }
 
-fn run_words<R: Threads + Wait + Sync + Env + Host + Print + AllocGlobal>(rt: &R) -> u8 {
+/// Runs the program on the words of the command line, the host's files and its standard output.
+fn run_words<R: Threads + Wait + Sync + Env + Host + Print + AllocGlobal>(rt: &R) -> u8
+    ensures { EndOfProcess result }
+{
     let words = match words_given(rt) {
         Ok(words) => words,
         Err(status) => return status.code(),

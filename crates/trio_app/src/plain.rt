@@ -1,6 +1,6 @@
 //! The top call, without threads.
 
-ghost use Rattle.std.specs.Prelude.{◌≡◌, All, Contains};
+ghost use Rattle.std.specs.Prelude.{◌≡◌, [], All, Contains};
 ghost use Rattle.trio_io.specs.Names.{texts_of};
 ghost use Rattle.trio_app.specs.Main.{Main, Puts};
 ghost use Rattle.trio_app.specs.Status.{code_of};
@@ -9,9 +9,11 @@ use crate::{Request, Status, read_words, turns};
 use std::alloc::Global;
 use trio_io::{Files, Sink};
 
-/// Puts a text, and answers how the program then ends. An empty text isn't put.
+/// Puts a text, and answers how the program then ends. For an empty text the sink
+/// isn't asked.
 fn end<S: Sink>(text: &[u8], status: Status, out: &mut S) -> u8
-    ensures { Puts (S.seen out.old) (S.seen out.new) text.now (code_of status) result }
+    ensures puts { Puts (S.seen out.old) (S.seen out.new) text.now (code_of status) result }
+    ensures unasked { text.now ≡ [] → (result ≡ code_of status) × (S.seen out.new ≡ S.seen out.old) }
 {
     if text.is_empty() {
         return status.code();

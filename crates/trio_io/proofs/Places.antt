@@ -7,7 +7,7 @@ use Rattle.std.proofs.lemmas.Slice.Eq.{bytes_eq-Decides}
 use Rattle.std.specs.Str.{bytes_eq}
 use Rattle.std.specs.declared.alloc.Global.{Global}
 use Rattle.trio_io.specs.Names.{place_of, texts_of, count_of}
-use Rattle.trio_io.specs.Kept.{told_bytes, content_at}
+use Rattle.trio_io.specs.Kept.{told_bytes, content_at, bytes_at, bytes_of}
 use Rattle.trio_io.specs.declared.content.Content.{Content}
 use Rattle.trio_io.specs.declared.content.Content.TheVariants.{Absent}
 use Rattle.trio_io.specs.Shelf.{RisesAt, KeepsOthers}
@@ -85,3 +85,9 @@ count_set names counts name i n len at within = rw (← at) (get_or-set_same cou
 pub others_put : (names : List (String Global)) (contents : List Content) (name : List ℕ) (i : ℕ) (v : Content) → i ≡ place_of names name → i < length names → KeepsOthers name (λ q. content_at contents (place_of names q)) (λ q. content_at (set contents i v) (place_of names q))
 others_put names contents name i v at within =
     λ q ne. ap told_bytes (get_or-set_other contents i (place_of names q) v Absent (λ e. ne (place_of_inj names q name (e ∙ at) (omega arith))))
+
+-- the same of all that is kept, told or not
+pub others_kept : (names : List (String Global)) (contents : List Content) (name : List ℕ) (i : ℕ) (v : Content) → i ≡ place_of names name → i < length names
+    → KeepsOthers name (λ q. bytes_at contents (place_of names q)) (λ q. bytes_at (set contents i v) (place_of names q))
+others_kept names contents name i v at within =
+    λ q ne. ap bytes_of (get_or-set_other contents i (place_of names q) v Absent (λ e. ne (place_of_inj names q name (e ∙ at) (omega arith))))

@@ -64,3 +64,11 @@ pub record OnlyReads (name : List ℕ) (old new : Shelf) : Type 0 where
   pub held : new.held ≡ old.held
   pub tells : new.tells ≡ old.tells
   pub serves : new.served ≡ old.served
+
+-- nothing but the content of this name and the count of its failed writes may have changed
+pub record OnlyReplaces (name : List ℕ) (old new : Shelf) : Type 0 where
+  pub others : KeepsOthers name old.held new.held
+  pub writes : RisesAt name old.write_faults new.write_faults
+  pub reads : new.read_faults ≡ old.read_faults
+  pub tells : new.tells ≡ old.tells
+  pub serves : new.served ≡ old.served

@@ -14,14 +14,12 @@ pub(crate) enum Content {
 }
 
 impl Content {
-    ghost use Rattle.std.specs.Prelude.{◌↔◌, IsNone, IsSomeAnd};
-    ghost use Rattle.trio_io.specs.Kept.{told_bytes};
+    ghost use Rattle.std.specs.Option.{option_copied};
+    ghost use Rattle.trio_io.specs.Kept.{bytes_of};
 
     /// The bytes. `None` where there are none.
     pub fn bytes(&self) -> Option<&[u8]>
-        ensures told { IfSome (told_bytes self.now)
-            (λ bs. IsSomeAnd result (λ bytes. bytes.now ≡ bs)) }
-        ensures none { IsNone result ↔ (self.now ≡ Content.Absent) }
+        ensures { option_copied result ≡ bytes_of self.now }
     {
         match self {
             Content::Absent => None,

@@ -17,6 +17,7 @@
 mod content;
 mod counts;
 mod hold_gate;
+mod kept;
 mod memory;
 mod outside;
 mod plan;
@@ -25,6 +26,7 @@ mod sure;
 mod whole;
 
 pub use hold_gate::{HoldGate, Stop};
+pub use kept::{InMemory, KeepsBytes, Planned};
 pub use memory::{MemFiles, MemSink};
 pub use outside::{Failed, Files, Gate, MAX_OFFSET, OpenGate, Sink};
 pub use plan::FailingCalls;

@@ -1,6 +1,7 @@
 //! Calls of which some are to fail.
 
-ghost use Rattle.std.specs.Prelude.{◌≡◌, ◌+◌, ◌-◌, ◌^◌, ◌↔◌, min, [], IsTrue, Contains};
+ghost use Rattle.std.specs.Prelude.{◌≡◌, ◌↔◌, [], IsTrue};
+ghost use Rattle.trio_io.specs.Plan.{counted, FailsNext};
 
 use std::alloc::Global;
 use std::marker::Model;
@@ -38,9 +39,8 @@ impl FailingCalls {
 
     /// Counts a call, and says whether it is to fail.
     pub(crate) fn next(&mut self) -> bool
-        ensures calls { self.new
-            ≡ record self.old { calls = min (self.old.calls + 1) (2 ^ 64 - 1) } }
-        ensures fails { IsTrue result ↔ Contains self.new.failing self.new.calls }
+        ensures calls { self.new ≡ counted self.old }
+        ensures fails { IsTrue result ↔ FailsNext self.old }
     {
         self.calls = self.calls.saturating_add(1);
         self.failing.contains(&self.calls)

@@ -1,13 +1,15 @@
 //! Files and a sink in memory that never fail.
 
-ghost use Rattle.std.specs.Prelude.{◌≡◌, ◌↔◌, IsTrue, IfSome, IsSomeAnd, None, Some, [], false, vec_len, Contains, IfOk, List, ℕ};
-ghost use Rattle.trio_io.specs.Kept.{content_at};
+ghost use Rattle.std.specs.Prelude.{◌≡◌, ◌≤◌, OnErr, OnOk, length, take, ◌↔◌, ◌⊎◌, ◌++◌, IsTrue, IfSome, IsSomeAnd, Ok, None, Some, [], false, vec_len, Contains, IfOk, List, ℕ};
+ghost use Rattle.std.specs.Io.KnownBytes.{Appends};
+ghost use Rattle.std.specs.Option.{option_copied};
+ghost use Rattle.trio_io.specs.Kept.{bytes_at, content_at};
 ghost use Rattle.trio_io.specs.Names.{place_of, texts_of};
-ghost use Rattle.trio_io.specs.Shelf.{NoFaults, KeepsOthers};
+ghost use Rattle.trio_io.specs.Shelf.{GivesBytes, KeepsOthers, NoFaults, OnlyReads, OnlyReplaces, Rose, told};
 
 use crate::content::{Content, copy_from};
 use crate::counts::{is_among, place};
-use crate::{Failed, Files, Sink};
+use crate::{Failed, Files, InMemory, KeepsBytes, MAX_OFFSET, Sink};
 use std::alloc::{AllocError as NoMemory, Global};
 
 /// Files in memory that never fail. All their counts are 0 for ever.
@@ -51,7 +53,7 @@ impl SureFiles {
     }
 
     /// Gives a name this content. A name that isn't served is passed over.
-    #[tactic(auto, using(crate::proofs::Places::others_put))]
+    #[tactic(auto, using(crate::proofs::Places::others_put, crate::proofs::Places::others_kept))]
     pub fn hold(&mut self, name: &str, bytes: Vec<u8>)
         ensures content { Contains (⟦<SureFiles as Files>⟧.seen self.old).served name.now
             → (⟦<SureFiles as Files>⟧.seen self.new).held name.now ≡ Some bytes.items }
@@ -65,6 +67,10 @@ impl SureFiles {
             ≡ (⟦<SureFiles as Files>⟧.seen self.old).tells }
         ensures serves { (⟦<SureFiles as Files>⟧.seen self.new).served
             ≡ (⟦<SureFiles as Files>⟧.seen self.old).served }
+        ensures kept { Contains (⟦<SureFiles as Files>⟧.seen self.old).served name.now
+            → ⟦<SureFiles as InMemory>⟧.kept self.new name.now ≡ Some bytes.items }
+        ensures kept_others { KeepsOthers name.now
+            (⟦<SureFiles as InMemory>⟧.kept self.old) (⟦<SureFiles as InMemory>⟧.kept self.new) }
     {
         let i = place(&self.names, name);
         if i < self.contents.len() {
@@ -74,12 +80,17 @@ impl SureFiles {
 
     /// What stands under a name, told or not. `None` where nothing does.
     pub fn content(&self, name: &str) -> Option<&[u8]>
-        ensures { IfSome ((⟦<SureFiles as Files>⟧.seen self.now).held name.now)
+        ensures kept { option_copied result ≡ ⟦<SureFiles as InMemory>⟧.kept self.now name.now }
+        ensures told { IfSome ((⟦<SureFiles as Files>⟧.seen self.now).held name.now)
             (λ bs. IsSomeAnd result (λ bytes. bytes.now ≡ bs)) }
     {
         let i = place(&self.names, name);
         self.contents.get(i)?.bytes()
     }
+}
+
+impl InMemory for SureFiles {
+    ghost kept = { λ s. λ q. bytes_at s.contents.items (place_of s.names.items q) };
 }
 
 impl Files for SureFiles {
@@ -91,7 +102,18 @@ impl Files for SureFiles {
       write_faults = λ _. 0;
     } };
 
-    fn read_at(&mut self, name: &str, at: u64, buf: &mut [u8]) -> Result<usize, Failed> {
+    fn read_at(&mut self, name: &str, at: u64, buf: &mut [u8]) -> Result<usize, Failed>
+        requires served { Contains (⟦<SureFiles as Files>⟧.seen self.old).served name.now }
+        requires within { at ≤ MAX_OFFSET }
+        ensures bound { IfOk result (λ n. n ≤ length buf.new) }
+        ensures bytes { GivesBytes ((⟦<SureFiles as Files>⟧.seen self.old).held name.now) at result buf.new }
+        ensures cause { OnErr result (Rose ((⟦<SureFiles as Files>⟧.seen self.old).read_faults name.now)
+            ((⟦<SureFiles as Files>⟧.seen self.new).read_faults name.now)) }
+        ensures files { OnlyReads name.now (⟦<SureFiles as Files>⟧.seen self.old) (⟦<SureFiles as Files>⟧.seen self.new) }
+        ensures reads_kept { GivesBytes (⟦<SureFiles as InMemory>⟧.kept self.old name.now) at result buf.new }
+        ensures reads_absent { ⟦<SureFiles as InMemory>⟧.kept self.old name.now ≡ None → result ≡ Ok 0 }
+        ensures kept { ⟦<SureFiles as InMemory>⟧.kept self.new ≡ ⟦<SureFiles as InMemory>⟧.kept self.old }
+    {
         let i = place(&self.names, name);
         match self.contents[i].bytes() {
             Some(bytes) => Ok(copy_from(bytes, at, buf)),
@@ -99,8 +121,21 @@ impl Files for SureFiles {
         }
     }
 
-    #[tactic(auto, using(crate::proofs::Places::others_put))]
-    fn replace(&mut self, name: &str, bytes: &[u8]) -> Result<(), Failed> {
+    #[tactic(auto, using(crate::proofs::Places::others_put, crate::proofs::Places::others_kept))]
+    fn replace(&mut self, name: &str, bytes: &[u8]) -> Result<(), Failed>
+        requires { Contains (⟦<SureFiles as Files>⟧.seen self.old).served name.now }
+        ensures content { OnOk result
+            ((⟦<SureFiles as Files>⟧.seen self.new).held name.now ≡ told (⟦<SureFiles as Files>⟧.seen self.old).tells bytes.now) }
+        ensures untold { OnErr result ((⟦<SureFiles as Files>⟧.seen self.new).held name.now ≡ None) }
+        ensures cause { OnErr result (Rose ((⟦<SureFiles as Files>⟧.seen self.old).write_faults name.now)
+            ((⟦<SureFiles as Files>⟧.seen self.new).write_faults name.now)) }
+        ensures files { OnlyReplaces name.now (⟦<SureFiles as Files>⟧.seen self.old) (⟦<SureFiles as Files>⟧.seen self.new) }
+        // nothing stands there where there was no memory
+        ensures kept { (⟦<SureFiles as InMemory>⟧.kept self.new name.now ≡ Some bytes.now)
+            ⊎ (⟦<SureFiles as InMemory>⟧.kept self.new name.now ≡ None) }
+        ensures kept_others { KeepsOthers name.now
+            (⟦<SureFiles as InMemory>⟧.kept self.old) (⟦<SureFiles as InMemory>⟧.kept self.new) }
+    {
         let i = place(&self.names, name);
         self.contents[i] = match bytes.to_vec(self.alloc) {
             Ok(copy) => Content::Untold(copy),
@@ -123,6 +158,7 @@ impl SureSink {
     pub fn new(alloc: Global) -> SureSink
         ensures written { (⟦<SureSink as Sink>⟧.seen result).written ≡ None }
         ensures faults { (⟦<SureSink as Sink>⟧.seen result).faults ≡ 0 }
+        ensures kept { ⟦<SureSink as KeepsBytes>⟧.kept result ≡ [] }
     {
         SureSink {
             bytes: Vec::new(alloc),
@@ -130,15 +166,30 @@ impl SureSink {
     }
 
     /// The bytes that it kept.
-    pub fn bytes(&self) -> &[u8] {
+    pub fn bytes(&self) -> &[u8]
+        ensures { result.now ≡ ⟦<SureSink as KeepsBytes>⟧.kept self.now }
+    {
         &self.bytes
     }
+}
+
+impl KeepsBytes for SureSink {
+    ghost kept = { λ s. s.bytes.items };
 }
 
 impl Sink for SureSink {
     ghost seen = { λ s. record { written = None; faults = 0 } };
 
-    fn put(&mut self, bytes: &[u8]) -> Result<(), Failed> {
+    fn put(&mut self, bytes: &[u8]) -> Result<(), Failed>
+        ensures all { OnOk result (Appends (⟦<SureSink as Sink>⟧.seen self.old).written (⟦<SureSink as Sink>⟧.seen self.new).written bytes.now) }
+        ensures part { OnErr result
+            ((n : ℕ) × Appends (⟦<SureSink as Sink>⟧.seen self.old).written (⟦<SureSink as Sink>⟧.seen self.new).written (take n bytes.now)) }
+        ensures cause { OnErr result (Rose (⟦<SureSink as Sink>⟧.seen self.old).faults (⟦<SureSink as Sink>⟧.seen self.new).faults) }
+        ensures later { (⟦<SureSink as Sink>⟧.seen self.old).faults ≤ (⟦<SureSink as Sink>⟧.seen self.new).faults }
+        // the bytes are passed over where there was no memory
+        ensures kept { (⟦<SureSink as KeepsBytes>⟧.kept self.new ≡ ⟦<SureSink as KeepsBytes>⟧.kept self.old ++ bytes.now)
+            ⊎ (⟦<SureSink as KeepsBytes>⟧.kept self.new ≡ ⟦<SureSink as KeepsBytes>⟧.kept self.old) }
+    {
         let _ = self.bytes.extend_from_slice(bytes);
         Ok(())
     }

@@ -182,6 +182,23 @@ fn sure_forms(rt: HostRuntime) -> Result<(), Fail> {
     Ok(())
 }
 
+// Reads back a file that it writes in the folder where it runs.
+#[test]
+fn real_file(rt: HostRuntime) -> Result<(), Fail> {
+    let name = "real_file";
+    let mut files = RealFiles::new(&rt, rt.alloc(), names_of(rt.alloc(), &[name])?)?;
+    let mut buf = [0u8; 8];
+    assert!(rt; files.serves(name));
+    assert_eq!(rt; files.replace(name, b"abcdefg"), Ok(()));
+    assert_eq!(rt; files.read_at(name, 3, &mut buf), Ok(4));
+    assert_eq!(rt; &buf[..4], b"defg".as_slice());
+    assert_eq!(rt; files.replace(name, b"xyz"), Ok(()));
+    assert_eq!(rt; files.read_at(name, 0, &mut buf), Ok(3));
+    assert_eq!(rt; &buf[..3], b"xyz".as_slice());
+    assert_eq!(rt; files.read_at(name, 3, &mut buf), Ok(0));
+    Ok(())
+}
+
 // Devices that every host has: one that is empty, one without an end, and one that takes nothing.
 #[test]
 fn real_forms(rt: HostRuntime) -> Result<(), Fail> {

@@ -30,6 +30,13 @@ pub changed_past : {X Y : Type 0} (f : Y → Option Y) (v : X → Y) (xs : List 
 changed_past {X} {Y} f v xs i at =
     ap (λ (o : Option Y). option_and_then (λ z. option_map (λ w. slice_set (map v xs) i w) (f z)) o) (slice_get-map v xs i ∙ ap (option_map v) at)
 
+-- the same of a list that is seen as it is
+pub changed_at-some : {X : Type 0} (f : X → Option X) (xs : List X) (i : ℕ) (x y : X) → slice_get xs i ≡ Some x → f x ≡ Some y → changed_at f i xs ≡ Some (slice_set xs i y)
+changed_at-some f xs i x y at e = ap (λ o. option_and_then (λ z. option_map (λ w. slice_set xs i w) (f z)) o) at ∙ ap (option_map (λ w. slice_set xs i w)) e
+
+pub changed_at-none : {X : Type 0} (f : X → Option X) (xs : List X) (i : ℕ) → slice_get xs i ≡ None → changed_at f i xs ≡ None
+changed_at-none f xs i at = ap (λ o. option_and_then (λ z. option_map (λ w. slice_set xs i w) (f z)) o) at
+
 -- ---- the first that passes a test
 
 place-map : {X Y : Type 0} (p : Y → Bool) (v : X → Y) (xs : List X) → position_or_len p (map v xs) ≡ position_or_len (λ x. p (v x)) xs
@@ -284,3 +291,12 @@ map_done g x false = refl
 -- what is named is there as it is shown
 pub there-map : {X Y : Type 0} (number : Y → ℕ) (v : X → Y) (xs : List X) (names : List ℕ) → are_there number (map v xs) names ≡ are_there (λ x. number (v x)) xs names
 there-map number v xs names = ap (λ l. list_all (λ n. is_among n l) names && are_new [] names) (map-map number v xs)
+
+map-same : {X : Type 0} (xs : List X) → map (λ x. x) xs ≡ xs
+map-same [] = refl
+map-same (x ∷ xs) = ap (λ ys. x ∷ ys) (map-same xs)
+
+-- the same of a list that is seen as it is
+pub changed_first-some : {X : Type 0} (p : X → Bool) (f : X → Option X) (xs : List X) (i : ℕ) (old new : X) (done : Bool) → position p xs ≡ Some i → old ≡ get_or xs i old → f old ≡ cond done (Some new) None → changed_first p f xs ≡ cond done (Some (slice_set xs i new)) None
+changed_first-some p f xs i old new done at is e =
+    ap (changed_first p f) (sym (map-same xs)) ∙ first_changed p f (λ x. x) xs i old new done at is e ∙ ap (λ ys. cond done (Some ys) None) (map-same (slice_set xs i new))

@@ -12,6 +12,7 @@ use Rattle.trio_state.specs.Proposed.{Written, Bundle}
 use Rattle.trio_state.specs.Sheets.{Sheet}
 use Rattle.trio_raw.specs.Has.{Has, are_there, bundle_of, has_all_of, named, rest_of, without_all}
 use Rattle.trio_raw.specs.Held.{Held, file_of}
+use Rattle.trio_raw.specs.Things.{Things}
 use Rattle.trio_raw.proofs.Places.{named-map, there-map, without_all-map}
 
 abbrev pub ino_of : LentFile → ℕ
@@ -74,6 +75,11 @@ module _ (leases : List LentFile) (fresh : List FreshParts) (allotted : List Ino
       has_same : {a a' : List Written} {b b' : List Sheet} {c c' : List ℕ} → a ≡ a' → b ≡ b' → c ≡ c' → ◌≡◌ {A = Has} (record { files = a; pages = b; numbers = c }) (record { files = a'; pages = b'; numbers = c' })
       has_same p q r = rw (p, q, r) refl
 
--- the same things and places
-pub held_same : (lib : LibNo) {has has' : Has} {a a' b b' c c' : ℕ} → has ≡ has' → a ≡ a' → b ≡ b' → c ≡ c' → ◌≡◌ {A = Held} (record { lib = lib; has = has; room = record { files = a; pages = b; numbers = c } }) (record { lib = lib; has = has'; room = record { files = a'; pages = b'; numbers = c' } })
-held_same lib o p q r = rw (o, p, q, r) refl
+-- the same things of each kind
+pub things_same : {a a' : List LentFile} {b b' : List FreshParts} {c c' : List InoParts} → a ≡ a' → b ≡ b' → c ≡ c' → ◌≡◌ {A = Things} (record { leases = a; pages = b; numbers = c }) (record { leases = a'; pages = b'; numbers = c' })
+things_same p q r = rw (p, q, r) refl
+
+-- the same of a library, and the same places
+pub held_same : (lib : LibNo) {has has' : Has} {things things' : Things} {a a' b b' c c' : ℕ} → has ≡ has' → things ≡ things' → a ≡ a' → b ≡ b' → c ≡ c'
+    → ◌≡◌ {A = Held} (record { lib = lib; has = has; things = things; room = record { files = a; pages = b; numbers = c } }) (record { lib = lib; has = has'; things = things'; room = record { files = a'; pages = b'; numbers = c' } })
+held_same lib o t p q r = rw (o, t, p, q, r) refl

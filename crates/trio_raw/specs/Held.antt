@@ -6,6 +6,7 @@ use Rattle.trio_lease.specs.declared.bundle.BundleParts.{BundleParts}
 use Rattle.trio_state.specs.Handed.{written_in}
 use Rattle.trio_state.specs.Proposed.{Written}
 use Rattle.trio_raw.specs.Has.{Has}
+use Rattle.trio_raw.specs.Things.{Things}
 
 -- how many of each kind have a place, those that are there counted in
 pub record Places : Type 0 where
@@ -13,10 +14,11 @@ pub record Places : Type 0 where
   pub pages : ℕ
   pub numbers : ℕ
 
--- the library, what it has, and the places
+-- the library, what it has in the words of the steps, the things themselves, and the places
 pub record Held : Type 0 where
   pub lib : LibNo
   pub has : Has
+  pub things : Things
   pub room : Places
 
 -- a lent file as it stands

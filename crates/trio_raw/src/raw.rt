@@ -4,6 +4,7 @@ ghost use Rattle.std.specs.Prelude.{◌≡◌, ◌+◌, ◌<◌, ◌≤◌, ◌+
 ghost use Rattle.trio_state.specs.Handed.{bundle_in, fresh_sheet};
 ghost use Rattle.trio_raw.specs.Has.{bundle_of, has_all_of, is_nothing, nothing, poked, poked_block, poked_body, poked_index, poked_sheet, rest_of, whole_bundle, with_file, with_fresh};
 ghost use Rattle.trio_raw.specs.Held.{HasPlaces, HasRoomFor, NoPlaceLost, file_of};
+ghost use Rattle.trio_raw.specs.Things.{no_things, poked_allotted, poked_lease_block, poked_lease_body, poked_lease_index, poked_things, things_in, things_left, things_named, with_allotted_page, with_lease};
 
 use crate::lent::{append_all, have_all, let_go_all, move_all, place_of};
 use crate::poke::{poke_block, poke_body, poke_fresh, poke_index};
@@ -27,8 +28,8 @@ pub enum RawFault {
 /// The write leases, allotted pages and allotted inode numbers of one library, each kind in the
 /// order in which it came.
 ///
-/// Contracts see the library, what it has (`Has`) and, as `room`, how many of each kind have a
-/// place (`Held`).
+/// Contracts see the library, what it has in the words of the controller's steps (`Has`), the
+/// things themselves (`Things`) and, as `room`, how many of each kind have a place (`Held`).
 pub struct Raw {
     lib: LibNo,
     files: Vec<WriteLease>,
@@ -46,6 +47,7 @@ impl Model for Raw {
     ghost view = { λ r. record {
       lib = r.lib;
       has = record { files = map file_of r.files.items; pages = map fresh_sheet r.pages.items; numbers = map (λ n. n.no) r.inodes.items };
+      things = record { leases = r.files.items; pages = r.pages.items; numbers = r.inodes.items };
       room = record { files = vec_capacity r.files; pages = vec_capacity r.pages; numbers = vec_capacity r.inodes };
     } };
 }
@@ -53,7 +55,7 @@ impl Model for Raw {
 impl Raw {
     /// A library that has nothing yet. It takes no memory.
     pub fn new(alloc: Global, lib: LibNo) -> Raw
-        ensures { result ≡ record { lib = lib; has = nothing; room = record { files = 0; pages = 0; numbers = 0 } } }
+        ensures { result ≡ record { lib = lib; has = nothing; things = no_things; room = record { files = 0; pages = 0; numbers = 0 } } }
     {
         Raw {
             lib,
@@ -102,7 +104,7 @@ impl Raw {
     ///
     /// With [`NoMemory`] the lease comes back, and the library has what it had.
     pub fn add_lease(&mut self, lease: WriteLease) -> Result<(), (WriteLease, NoMemory)>
-        ensures added { OnOk result (self.new ≡ record self.old { has = record self.old.has { files = self.old.has.files ++ file_of lease ∷ [] }; room = self.new.room }) }
+        ensures added { OnOk result (self.new ≡ record self.old { has = record self.old.has { files = self.old.has.files ++ file_of lease ∷ [] }; things = record self.old.things { leases = self.old.things.leases ++ lease ∷ [] }; room = self.new.room }) }
         ensures kept { OnErr result (self.new ≡ record self.old { room = self.new.room }) }
         ensures back { IfErr result (λ e. e.0 ≡ lease) }
         ensures grows { NoPlaceLost self.old.room self.new.room }
@@ -119,7 +121,7 @@ impl Raw {
     ///
     /// With [`NoMemory`] all of it comes back, and the library has what it had.
     pub fn add_allotted(&mut self, given: Allotted) -> Result<(), (Allotted, NoMemory)>
-        ensures added { OnOk result (self.new ≡ record self.old { has = record self.old.has { pages = self.old.has.pages ++ map fresh_sheet given.pages.items; numbers = self.old.has.numbers ++ map (λ n. n.no) given.inodes.items }; room = self.new.room }) }
+        ensures added { OnOk result (self.new ≡ record self.old { has = record self.old.has { pages = self.old.has.pages ++ map fresh_sheet given.pages.items; numbers = self.old.has.numbers ++ map (λ n. n.no) given.inodes.items }; things = record self.old.things { pages = self.old.things.pages ++ given.pages.items; numbers = self.old.things.numbers ++ given.inodes.items }; room = self.new.room }) }
         ensures kept { OnErr result (self.new ≡ record self.old { room = self.new.room }) }
         ensures back { IfErr result (λ e. e.0 ≡ given) }
         ensures grows { NoPlaceLost self.old.room self.new.room }
@@ -141,7 +143,8 @@ impl Raw {
     /// then nothing has changed.
     pub fn poke(&mut self, at: Spot, offset: u32, bytes: &[u8]) -> bool
         ensures poked { poked self.old.has at offset bytes.now ≡ (if result then Some self.new.has else None) }
-        ensures rest { self.new ≡ record self.old { has = self.new.has } }
+        ensures things { poked_things self.old.things at offset bytes.now ≡ (if result then Some self.new.things else None) }
+        ensures rest { self.new ≡ record self.old { has = self.new.has; things = self.new.things } }
         ensures kept { IsFalse result → self.new ≡ self.old }
     {
         match at {
@@ -154,7 +157,8 @@ impl Raw {
 
     fn poke_body(&mut self, ino: u32, offset: u32, bytes: &[u8]) -> bool
         ensures poked { with_file (poked_body offset bytes.now) ino self.old.has ≡ (if result then Some self.new.has else None) }
-        ensures rest { self.new ≡ record self.old { has = self.new.has } }
+        ensures things { with_lease (poked_lease_body offset bytes.now) ino self.old.things ≡ (if result then Some self.new.things else None) }
+        ensures rest { self.new ≡ record self.old { has = self.new.has; things = self.new.things } }
         ensures kept { IsFalse result → self.new ≡ self.old }
     {
         match place_of(&self.files, ino) {
@@ -165,7 +169,8 @@ impl Raw {
 
     fn poke_index(&mut self, ino: u32, page: u32, offset: u32, bytes: &[u8]) -> bool
         ensures poked { with_file (poked_index page offset bytes.now) ino self.old.has ≡ (if result then Some self.new.has else None) }
-        ensures rest { self.new ≡ record self.old { has = self.new.has } }
+        ensures things { with_lease (poked_lease_index page offset bytes.now) ino self.old.things ≡ (if result then Some self.new.things else None) }
+        ensures rest { self.new ≡ record self.old { has = self.new.has; things = self.new.things } }
         ensures kept { IsFalse result → self.new ≡ self.old }
     {
         match place_of(&self.files, ino) {
@@ -176,7 +181,8 @@ impl Raw {
 
     fn poke_block(&mut self, ino: u32, block: u32, offset: u32, bytes: &[u8]) -> bool
         ensures poked { with_file (poked_block block offset bytes.now) ino self.old.has ≡ (if result then Some self.new.has else None) }
-        ensures rest { self.new ≡ record self.old { has = self.new.has } }
+        ensures things { with_lease (poked_lease_block block offset bytes.now) ino self.old.things ≡ (if result then Some self.new.things else None) }
+        ensures rest { self.new ≡ record self.old { has = self.new.has; things = self.new.things } }
         ensures kept { IsFalse result → self.new ≡ self.old }
     {
         match place_of(&self.files, ino) {
@@ -187,7 +193,8 @@ impl Raw {
 
     fn poke_fresh(&mut self, page: u32, offset: u32, bytes: &[u8]) -> bool
         ensures poked { with_fresh (poked_sheet offset bytes.now) page self.old.has ≡ (if result then Some self.new.has else None) }
-        ensures rest { self.new ≡ record self.old { has = self.new.has } }
+        ensures things { with_allotted_page (poked_allotted offset bytes.now) page self.old.things ≡ (if result then Some self.new.things else None) }
+        ensures rest { self.new ≡ record self.old { has = self.new.has; things = self.new.things } }
         ensures kept { IsFalse result → self.new ≡ self.old }
     {
         match place_of(&self.pages, page) {
@@ -209,7 +216,8 @@ impl Raw {
         inodes: &[u32],
     ) -> Result<Bundle, RawFault>
         ensures bundle { IfOk result (λ b. bundle_in b ≡ bundle_of self.old.has inos.now pages.now inodes.now) }
-        ensures rest { OnOk result (self.new ≡ record self.old { has = rest_of self.old.has inos.now pages.now inodes.now }) }
+        ensures things { IfOk result (λ b. things_in b ≡ things_named self.old.things inos.now pages.now inodes.now) }
+        ensures rest { OnOk result (self.new ≡ record self.old { has = rest_of self.old.has inos.now pages.now inodes.now; things = things_left self.old.things inos.now pages.now inodes.now }) }
         ensures kept { OnErr result (self.new ≡ self.old) }
         ensures absent { result ≡ Err RawFault.Absent ↔ IsFalse (has_all_of self.old.has inos.now pages.now inodes.now) }
     {
@@ -229,8 +237,9 @@ impl Raw {
     /// hold. `None` exactly where it has nothing. It takes no memory.
     pub fn take_all(&mut self, alloc: Global) -> Option<Bundle>
         ensures bundle { IfSome result (λ b. bundle_in b ≡ whole_bundle self.old.has) }
+        ensures things { IfSome result (λ b. things_in b ≡ self.old.things) }
         ensures none { IsNone result ↔ IsTrue (is_nothing self.old.has) }
-        ensures left { self.new ≡ record self.old { has = nothing; room = self.new.room } }
+        ensures left { self.new ≡ record self.old { has = nothing; things = no_things; room = self.new.room } }
     {
         if self.files.is_empty() && self.pages.is_empty() && self.inodes.is_empty() {
             return None;

@@ -106,10 +106,15 @@ fn library(alloc: Global) -> Result<Raw, NoMemory> {
     Err(NoMemory)
 }
 
-/// The inode numbers, page numbers and allotted inode numbers of a bundle with at most two of each,
-/// where 0 is none. The bundle is let go.
-fn numbers_in(bundle: Bundle) -> [u32; 6] {
+/// Of the first file in a bundle, its library, its entry where a `u32` has it, and 1 where its block
+/// 0 is marked as touched; then the inode numbers, page numbers and allotted inode numbers of the bundle,
+/// which has at most two of each. 0 is none. The bundle is let go.
+fn numbers_in(bundle: Bundle) -> [u32; 9] {
+    let first = bundle.writes().get(0);
     let numbers = [
+        first.map_or(0, |file| file.lib().0),
+        first.map_or(0, |file| u32::try_from(file.entry()).unwrap_or(0)),
+        first.map_or(0, |file| u32::from(file.block_touched(0) == Some(true))),
         bundle.writes().get(0).map_or(0, |file| file.ino()),
         bundle.writes().get(1).map_or(0, |file| file.ino()),
         bundle.pages().get(0).map_or(0, |page| page.no().0),
@@ -128,7 +133,7 @@ fn taken(
     inos: &[u32],
     pages: &[u32],
     inodes: &[u32],
-) -> Result<[u32; 6], RawFault> {
+) -> Result<[u32; 9], RawFault> {
     match raw.take(alloc, inos, pages, inodes) {
         Ok(bundle) => Ok(numbers_in(bundle)),
         Err(fault) => Err(fault),
@@ -136,7 +141,7 @@ fn taken(
 }
 
 /// The numbers in the bundle of all.
-fn all_taken(raw: &mut Raw, alloc: Global) -> Option<[u32; 6]> {
+fn all_taken(raw: &mut Raw, alloc: Global) -> Option<[u32; 9]> {
     match raw.take_all(alloc) {
         Some(bundle) => Some(numbers_in(bundle)),
         None => None,
@@ -218,12 +223,13 @@ fn one_of_two_is_taken(rt: HostRuntime) -> Result<(), Fail> {
     let alloc = rt.alloc();
     let mut raw = library(alloc)?;
     assert!(rt; raw.lib() == LibNo(2));
+    assert!(rt; raw.poke(Spot::Block(8, 0), 0, &[1]));
     assert!(rt; taken(&mut raw, alloc, &[9], &[], &[]) == Err(RawFault::Absent));
     assert!(rt; taken(&mut raw, alloc, &[7], &[51], &[]) == Err(RawFault::Absent));
     assert!(rt; taken(&mut raw, alloc, &[7], &[50], &[12]) == Err(RawFault::Absent));
     assert!(rt; taken(&mut raw, alloc, &[7, 7], &[], &[]) == Err(RawFault::Absent));
-    assert!(rt; taken(&mut raw, alloc, &[8], &[50], &[]) == Ok([8, 0, 50, 0, 0, 0]));
-    assert!(rt; all_taken(&mut raw, alloc) == Some([7, 0, 0, 0, 11, 0]));
+    assert!(rt; taken(&mut raw, alloc, &[8], &[50], &[]) == Ok([2, 5, 1, 8, 0, 50, 0, 0, 0]));
+    assert!(rt; all_taken(&mut raw, alloc) == Some([2, 5, 0, 7, 0, 0, 0, 11, 0]));
     raw.discard();
     Ok(())
 }
@@ -232,8 +238,8 @@ fn one_of_two_is_taken(rt: HostRuntime) -> Result<(), Fail> {
 fn all_is_taken_in_the_order_in_which_it_came(rt: HostRuntime) -> Result<(), Fail> {
     let alloc = rt.alloc();
     let mut raw = library(alloc)?;
-    assert!(rt; taken(&mut raw, alloc, &[], &[], &[]) == Ok([0; 6]));
-    assert!(rt; all_taken(&mut raw, alloc) == Some([7, 8, 50, 0, 11, 0]));
+    assert!(rt; taken(&mut raw, alloc, &[], &[], &[]) == Ok([0; 9]));
+    assert!(rt; all_taken(&mut raw, alloc) == Some([2, 5, 0, 7, 8, 50, 0, 11, 0]));
     assert!(rt; all_taken(&mut raw, alloc).is_none());
     raw.discard();
     Ok(())

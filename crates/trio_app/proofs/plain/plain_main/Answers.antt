@@ -8,7 +8,8 @@ returns-in-Turns g c = record {
   status = c.turns-outcome.result.status;
   text = c.turns-outcome.result.text.items;
   comes_to = rw (← c.in-Turns.ensures) c.turns-outcome.ensures;
-  puts = rw (← c.deref.ensures.value) c.end.ensures;
+  puts = rw (← c.deref.ensures.value) c.end.ensures.puts;
+  unasked = rw (← c.deref.ensures.value) c.end.ensures.unasked;
 }
 
 pub returns-in-Unknown : goal.returns-in-Unknown
@@ -16,5 +17,6 @@ returns-in-Unknown g c = record {
   status = NotBuilt;
   text = not_built_words;
   comes_to = rw (← c.in-Unknown.ensures) (record { status_is = refl; put = refl; same = refl });
-  puts = c.end-in-Unknown.ensures;
+  puts = c.end-in-Unknown.ensures.puts;
+  unasked = c.end-in-Unknown.ensures.unasked;
 }

@@ -2,7 +2,8 @@ use Rattle.std.proofs.Common.{◌++◌, sym, ap, ◌∙◌}
 use Rattle.trio_state.specs.Handed.{bundle_in}
 use Rattle.trio_raw.specs.Has.{bundle_of, has_all_of, named, rest_of}
 use Rattle.trio_raw.specs.Held.{Held}
-use Rattle.trio_raw.proofs.Taking.{files_there, pages_there, numbers_there, taken_is, left_is, held_same, ino_of, page_of, no_of}
+use Rattle.trio_raw.specs.Things.{things_in, things_left, things_named}
+use Rattle.trio_raw.proofs.Taking.{things_same, files_there, pages_there, numbers_there, taken_is, left_is, held_same, ino_of, page_of, no_of}
 use Rattle.trio_raw.proofs.raw.Raw.take.Goals as goal
 
 pub move_all-requires-clause-there : goal.move_all-requires-clause-there
@@ -41,5 +42,17 @@ returns-clause-rest c =
     held_same inside.lib
     (left_is inside.files.items inside.pages.items inside.inodes.items c.args.inos.now c.args.pages.now c.args.inodes.now
     c.move_all.new.things.items c.move_all-2.new.things.items c.move_all-3.new.things.items c.move_all.ensures.rest c.move_all-2.ensures.rest c.move_all-3.ensures.rest)
+    (things_same c.move_all.ensures.rest c.move_all-2.ensures.rest c.move_all-3.ensures.rest)
     c.move_all.ensures.capacity c.move_all-2.ensures.capacity c.move_all-3.ensures.capacity
-    ∙ ap (λ (h : Held). record h { has = rest_of h.has c.args.inos.now c.args.pages.now c.args.inodes.now }) c.self.view_is
+    ∙ ap (λ (h : Held). record h { has = rest_of h.has c.args.inos.now c.args.pages.now c.args.inodes.now; things = things_left h.things c.args.inos.now c.args.pages.now c.args.inodes.now }) c.self.view_is
+
+pub returns-clause-things : goal.returns-clause-things
+returns-clause-things c =
+    let inside = c.self.inside in
+    let empty = c.in-Ok.ensures in
+    ap things_in c.of.ensures
+    ∙ things_same
+    (c.move_all.ensures.taken ∙ ap (λ l. l ++ named ino_of inside.files.items c.args.inos.now) empty.no_files)
+    (c.move_all-2.ensures.taken ∙ ap (λ l. l ++ named page_of inside.pages.items c.args.pages.now) empty.no_pages)
+    (c.move_all-3.ensures.taken ∙ ap (λ l. l ++ named no_of inside.inodes.items c.args.inodes.now) empty.no_numbers)
+    ∙ ap (λ (h : Held). things_named h.things c.args.inos.now c.args.pages.now c.args.inodes.now) c.self.view_is

@@ -1,0 +1,9 @@
+use Rattle.std.proofs.Common.{◌≡◌, ◌++◌, drop}
+use Rattle.std.specs.Vec.Iter.{into_iter_items}
+use Rattle.trio_app.proofs.without_name.Given as goal
+
+abbrev pub invariant-loop-word : goal.invariant-loop-word
+invariant-loop-word l =
+    (goal.iterator-loop-word).can_next l.word-iterator ×
+    (goal.iterator-loop-word).is_finite l.word-iterator ×
+    (l.words.items ++ into_iter_items l.word-iterator ≡ drop 1 (into_iter_items l.fn.all))
