@@ -7,4 +7,5 @@
 
 pub mod ends;
 pub mod laws;
+pub mod outs;
 pub mod surveys;
