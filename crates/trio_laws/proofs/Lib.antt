@@ -50,3 +50,4 @@ pub mod EndLaws
 pub mod Filters
 pub mod Ordered
 pub mod OthersOut
+pub mod HeldFiles

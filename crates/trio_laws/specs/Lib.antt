@@ -4,3 +4,4 @@ pub mod Laws
 pub mod EndLaws
 pub mod GrantLaws
 pub mod OutLaws
+pub mod ContentLaws

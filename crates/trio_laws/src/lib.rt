@@ -5,6 +5,7 @@
 //! `specs/` holds what the laws speak of beside the definitions below, and `proofs/` their proofs.
 #![tactic(auto)]
 
+pub mod contents;
 pub mod ends;
 pub mod laws;
 pub mod outs;
