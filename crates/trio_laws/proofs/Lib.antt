@@ -51,3 +51,4 @@ pub mod Filters
 pub mod Ordered
 pub mod OthersOut
 pub mod HeldFiles
+pub mod KnownSteps

@@ -5,3 +5,4 @@ pub mod EndLaws
 pub mod GrantLaws
 pub mod OutLaws
 pub mod ContentLaws
+pub mod Known

@@ -7,6 +7,7 @@
 
 pub mod contents;
 pub mod ends;
+pub mod known;
 pub mod laws;
 pub mod outs;
 pub mod surveys;
