@@ -52,3 +52,4 @@ pub mod Ordered
 pub mod OthersOut
 pub mod HeldFiles
 pub mod KnownSteps
+pub mod SettledBodies
