@@ -239,6 +239,7 @@ module _ (s : State) (k : Kept s) where
     where
       outcome : State → Bool → Bool → Outcome
       outcome x a b = cond {A = Outcome} a (record { answer = NoPages count (length (free_pages s)); after = logged x }) (cond b (record { answer = NoInodes many (length (free_numbers s)); after = logged x }) (record { answer = Given (take count (free_pages s)) (take many (free_numbers s)); after = allots x lib (take count (free_pages s)) (take many (free_numbers s)) }))
+
       either : (a b : Bool) → known (outcome u a b).after ≡ known (outcome s a b).after
       either true b = known_logged s
       either false true = known_logged s
@@ -256,6 +257,7 @@ module _ (s : State) (k : Kept s) where
     where
       outcome : State → Bool → Bool → Outcome
       outcome x a b = cond {A = Outcome} a (record { answer = NoPages count (length (free_pages s)); after = logged x }) (cond b (record { answer = NoInodes many (length (free_numbers s)); after = logged x }) (record { answer = Given (take count (free_pages s)) (take many (free_numbers s)); after = allots x lib (take count (free_pages s)) (take many (free_numbers s)) }))
+
       either : (a b : Bool) → (outcome u a b).answer ≡ (outcome s a b).answer
       either true b = refl
       either false true = refl
@@ -415,8 +417,7 @@ pub same_event_same_answer : SameEventSameAnswer
 same_event_same_answer s t event a b s' t' k l same one two some_a some_b =
     let d = step_does s event a s' one some_a in
     let e = step_does t event b t' two some_b in
-    let answer : SameAnswer b (known_answer (known s) event) = subst (λ x. SameAnswer b (known_answer x event)) (sym same) (does_answer t l event b t' e) in
-    (
+    let answer : SameAnswer b (known_answer (known s) event) = subst (λ x. SameAnswer b (known_answer x event)) (sym same) (does_answer t l event b t' e) in (
       same_joined a b (known_answer (known s) event) (does_answer s k event a s' d) answer,
       doing s k event a s' d ∙ ap (λ x. known_done x event) same ∙ sym (doing t l event b t' e),
     )

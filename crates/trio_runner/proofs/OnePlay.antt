@@ -95,6 +95,7 @@ one_line lib p q said told told' moves moves' p' q' h k like one two =
   where
     events : event_of lib p.has said ≡ event_of lib q.has said
     events = ap (λ x. event_of lib x said) like.has_same
+
     by_ends : LineEnd lib p said told moves p' → LineEnd lib q said told' moves' q' → OneLine told told' p' q'
     by_ends (IsAlone e a) (IsAlone f b) = record {
       one_told = a.told_is ∙ ap (λ x. told_alone x said) like.has_same ∙ sym b.told_is;
@@ -179,6 +180,7 @@ one_end lib p q end end' moves moves' p' q' h k like one two =
   where
     there : is_nothing p.has ≡ is_nothing q.has
     there = ap is_nothing like.has_same
+
     by_ends : ((is_nothing p.has ≡ true) × EndsAlone p end moves p') ⊎ ((is_nothing p.has ≡ false) × EndsAll lib p end moves p') → ((is_nothing q.has ≡ true) × EndsAlone q end' moves' q') ⊎ ((is_nothing q.has ≡ false) × EndsAll lib q end' moves' q') → OneEnd end end' p' q'
     by_ends (inl a) (inl b) = record {
       one_end = a.1.end_is ∙ sym b.1.end_is;
