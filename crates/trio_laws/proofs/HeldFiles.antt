@@ -30,7 +30,9 @@ use Rattle.trio_laws.proofs.Bundles.{Unwritten, unwritten_apart, page_kept}
 use Rattle.trio_laws.proofs.Survivors.{fit_now, sound_now, held_unwritten, held_met}
 use Rattle.trio_laws.proofs.Isolated.{same_file, picked_only, plain_listed, bare_page, put_none}
 
-module _ (s : State) (lib : ℕ) (creds : Creds) (b : Bundle) (n : ℕ) (r q : Row) (k : Kept s) (given : GivenTo s lib b) (accepted : is_accepted (settled s) creds b ≡ true) (row : row_at s.home n ≡ Some r) (held : In n b.holds) (row' : row_at (next (settled s) b) n ≡ Some q) where
+module _ (s : State) (lib : ℕ) (creds : Creds) (b : Bundle) (n : ℕ) (r q : Row) (k : Kept s)
+    (given : GivenTo s lib b) (accepted : is_accepted (settled s) creds b ≡ true) (row : row_at s.home n ≡ Some r)
+    (held : In n b.holds) (row' : row_at (next (settled s) b) n ≡ Some q) where
   abbrev image : Image
   image = settled s
 
@@ -53,13 +55,18 @@ module _ (s : State) (lib : ℕ) (creds : Creds) (b : Bundle) (n : ℕ) (r q : R
   was = live_met s k n r row
 
   is : MetAt core pick n q
-  is = met_row core pick fit sound n q (sym (row_at_is core pick fit sound after (record { rows = refl; owners = refl }) n) ∙ row')
+  is = met_row core pick fit sound n q (sym (row_at_is core pick fit sound after (record {
+    rows = refl;
+    owners =
+        refl;
+  }) n) ∙ row')
 
   un : Unwritten b was.met.ino
   un = held_unwritten s k lib creds b given accepted was.met.ino (subst (λ i. In i b.holds) (sym was.number) held)
 
   same_kind : is.met.kind ≡ was.met.kind
-  same_kind = (held_met s k lib creds b given accepted n r is.met held row is.stands is.number).0 ∙ ap (λ (x : Row). x.kind) was.row
+  same_kind = (held_met s k lib creds b given accepted n r is.met held row is.stands is.number).0
+      ∙ ap (λ (x : Row). x.kind) was.row
 
   same_body : is.met.body ≡ was.met.body
   same_body =
@@ -70,13 +77,16 @@ module _ (s : State) (lib : ℕ) (creds : Creds) (b : Bundle) (n : ℕ) (r q : R
   page_stays : (p : ℕ) → In p (was.file.chain.index ++ was.file.chain.blocks) → page_of core p ≡ page_of image.core p
   page_stays p i =
       page_kept s k lib b given p
-      (unwritten_apart s k lib b given was.met p was.stands un (subst (λ l. In p l) (sym (pages_are image.core was.met was.file was.read)) i))
+      (unwritten_apart s k lib b given was.met p was.stands un
+      (subst (λ l. In p l) (sym (pages_are image.core was.met was.file was.read)) i))
 
   read_now : file_of core is.met ≡ Ok was.file
   read_now =
-      let r = reads_from core was.met was.file (same_file image.core core was.met was.file refl refl was.read page_stays) in
+      let r = reads_from core was.met was.file (same_file image.core core was.met was.file refl refl was.read
+      page_stays) in
       reads_to core is.met was.file (record {
-        body = ap (λ (c : Kind). body_of c core.range is.met.body) same_kind ∙ ap (body_of was.met.kind core.range) same_body ∙ r.body;
+        body = ap (λ (c : Kind). body_of c core.range is.met.body) same_kind
+            ∙ ap (body_of was.met.kind core.range) same_body ∙ r.body;
         chain = r.chain;
         entries = ap (λ (c : Kind). entries_of_kind core c was.file.chain.blocks) same_kind ∙ r.entries;
       })
@@ -85,14 +95,20 @@ module _ (s : State) (lib : ℕ) (creds : Creds) (b : Bundle) (n : ℕ) (r q : R
   page_now p i =
       let i' : In p (plain_pages is.met.kind was.file) = subst (λ c. In p (plain_pages c was.file)) (sym same_kind) i in
       page_put_is core pick fit sound p
-      ∙ put_none p (all_listed core pick) (page_of core p) (bare_page core pick sound is.met was.file p is.stands read_now i')
+      ∙ put_none p (all_listed core pick) (page_of core p)
+      (bare_page core pick sound is.met was.file p is.stands read_now i')
       ∙ page_stays p (plain_listed was.met.kind was.file p i)
 
   pub same_content : HasSameContent image after n
   same_content =
       let v = accepted_verifies image creds b fit accepted in
-      let there : In is.met (survey after.core plain) = subst (λ l. In is.met l) (sym (survey_put core pick fit sound)) is.stands in
-      let now = settled_body_met after is.met (fit_put core pick fit sound) v.sound (record { rows = v.rows; owners = v.owners }) there in
+      let there : In is.met (survey after.core plain) =
+      subst (λ l. In is.met l) (sym (survey_put core pick fit sound)) is.stands in
+      let now = settled_body_met after is.met (fit_put core pick fit sound) v.sound (record {
+        rows = v.rows;
+        owners =
+            v.owners;
+      }) there in
       let before = settled_body_met image was.met k.fit k.verifies.sound (tables s k) was.stands in
       record {
         met_was = was.met;

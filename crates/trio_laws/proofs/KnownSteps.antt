@@ -17,7 +17,7 @@ use Rattle.trio_nodes.specs.declared.answers.ModeFault.TheVariants.{NotLive as M
 use Rattle.trio_layout.specs.Lists.{In}
 use Rattle.trio_layout.specs.Survey.{Met, plain, FileRead, file_of, survey, row_by, pages_of}
 use Rattle.trio_state.specs.Sheets.{Sheet, sheet_numbers, with_pages, without_pages}
-use Rattle.trio_state.specs.Image.{Image, row_at, settled_body}
+use Rattle.trio_state.specs.Image.{Image, row_at, settled_body, with_core_pages}
 use Rattle.trio_state.specs.State.{OpenGrant, Out, State, settled, creds_of, covered, is_read, is_write, logged}
 use Rattle.trio_state.specs.Proposed.{Bundle}
 use Rattle.trio_state.specs.Accept.{is_accepted, next}
@@ -68,25 +68,34 @@ inos-bare [] = refl
 inos-bare (g ∷ gs) = ap (λ l. g.ino ∷ l) (inos-bare gs)
 
 -- a test that doesn't read checkpoints
-filter-bare : (p : OpenGrant → Bool) (gs : List OpenGrant) → filter p (bare gs) ≡ bare (filter (λ g. p (without_checkpoint g)) gs)
+filter-bare : (p : OpenGrant → Bool) (gs : List OpenGrant)
+    → filter p (bare gs) ≡ bare (filter (λ g. p (without_checkpoint g)) gs)
 filter-bare p gs = filter-map without_checkpoint p gs
 
-busy_first : (gs : List OpenGrant) → option_map (λ (g : OpenGrant). Busy (holder_of g)) (slice_get (bare gs) 0) ≡ option_map (λ (g : OpenGrant). Busy (holder_of g)) (slice_get gs 0)
-busy_first [] = refl
-busy_first (g ∷ gs) = refl
+-- what is told of the first grant, but for its checkpoint
+first-bare : {X : Type 0} (f : OpenGrant → X) → ((g : OpenGrant) → f (without_checkpoint g) ≡ f g)
+    → (gs : List OpenGrant) → option_map f (slice_get (bare gs) 0) ≡ option_map f (slice_get gs 0)
+first-bare f same [] = refl
+first-bare f same (g ∷ gs) = ap Some (same g)
 
-mode_busy_first : (gs : List OpenGrant) → option_map (λ (g : OpenGrant). ModeBusy (holder_of g)) (slice_get (bare gs) 0) ≡ option_map (λ (g : OpenGrant). ModeBusy (holder_of g)) (slice_get gs 0)
-mode_busy_first [] = refl
-mode_busy_first (g ∷ gs) = refl
+abbrev busy_of : OpenGrant → GrantFault
+busy_of g = Busy (holder_of g)
+
+abbrev mode_busy_of : OpenGrant → ModeFault
+mode_busy_of g = ModeBusy (holder_of g)
 
 -- pages that no sheet is put at can be taken out before or after
-with_pages-without_pages : (ss : List Sheet) (ns : List ℕ) (pages : Pages) → ((n : ℕ) → In n ns → In n (sheet_numbers ss) → ⊥) → with_pages ss (without_pages ns pages) ≡ without_pages ns (with_pages ss pages)
+with_pages-without_pages : (ss : List Sheet) (ns : List ℕ) (pages : Pages)
+    → ((n : ℕ) → In n ns → In n (sheet_numbers ss) → ⊥)
+    → with_pages ss (without_pages ns pages) ≡ without_pages ns (with_pages ss pages)
 with_pages-without_pages ss [] pages apart = refl
 with_pages-without_pages ss (n ∷ ns) pages apart =
     with_pages-without_pages ss ns _ (λ m i. apart m (inr i))
     ∙ ap (without_pages ns) (with_pages_set ss pages n None (apart n (inl refl)))
 
-known_same : (s t : State) → settled s ≡ settled t → bare s.open_grants ≡ bare t.open_grants → s.pages_out ≡ t.pages_out → s.numbers_out ≡ t.numbers_out → s.creds ≡ t.creds → s.entries ≡ t.entries → known s ≡ known t
+known_same : (s t : State) → settled s ≡ settled t → bare s.open_grants ≡ bare t.open_grants
+    → s.pages_out ≡ t.pages_out → s.numbers_out ≡ t.numbers_out → s.creds ≡ t.creds → s.entries ≡ t.entries
+    → known s ≡ known t
 known_same s t a b c d e f = rw (a, b, c, d, e, f) refl
 
 -- ---- a state, and the plain state of what is known of it
@@ -96,7 +105,7 @@ module _ (s : State) where
   t = plain_state (known s)
 
   abbrev J : Pages → Image
-  J pages = record { core = record { pages = pages; root = s.home.core.root; range = s.home.core.range; inodes = s.home.core.inodes }; rows = s.home.rows; owners = s.home.owners }
+  J pages = with_core_pages s.home pages
 
   pub settled_plain : settled t ≡ settled s
   settled_plain = ap (λ ss. J (with_pages ss (settled s).core.pages)) (sheets-bare s.open_grants)
@@ -109,7 +118,8 @@ module _ (s : State) where
 
   parent_grant_plain : (lib : ℕ) (o : Option Row) → has_parent_grant t lib o ≡ has_parent_grant s lib o
   parent_grant_plain lib None = refl
-  parent_grant_plain lib (Some r) = list_any-map without_checkpoint (λ (g : OpenGrant). eqb g.lib lib && eqb g.ino r.parent && is_write g.kind) s.open_grants
+  parent_grant_plain lib (Some r) = list_any-map without_checkpoint
+      (λ (g : OpenGrant). eqb g.lib lib && eqb g.ino r.parent && is_write g.kind) s.open_grants
 
   denied_plain : (lib ino : ℕ) (kind : GrantKind) → denied_by t lib ino kind ≡ denied_by s lib ino kind
   denied_plain lib ino Read = refl
@@ -121,16 +131,21 @@ module _ (s : State) where
   lacks_plain lib ino Write = refl
   lacks_plain lib ino Hold = ap not (parent_grant_plain lib (row_at s.home ino))
 
-  busy_plain : (lib ino : ℕ) (kind : GrantKind) → option_map (λ (g : OpenGrant). Busy (holder_of g)) (slice_get (excluding t lib ino kind) 0) ≡ option_map (λ (g : OpenGrant). Busy (holder_of g)) (slice_get (excluding s lib ino kind) 0)
+  busy_plain : (lib ino : ℕ) (kind : GrantKind)
+      → option_map busy_of (slice_get (excluding t lib ino kind) 0)
+      ≡ option_map busy_of (slice_get (excluding s lib ino kind) 0)
   busy_plain lib ino kind =
-      ap (λ gs. option_map (λ (g : OpenGrant). Busy (holder_of g)) (slice_get gs 0)) (filter-bare (λ g. eqb g.ino ino && excludes_kind kind g.kind (eqb g.lib lib)) s.open_grants)
-      ∙ busy_first (excluding s lib ino kind)
+      let excludes : OpenGrant → Bool = λ g. eqb g.ino ino && excludes_kind kind g.kind (eqb g.lib lib) in
+      ap (λ gs. option_map busy_of (slice_get gs 0)) (filter-bare excludes s.open_grants)
+      ∙ first-bare busy_of (λ g. refl) (excluding s lib ino kind)
 
   pub grant_fault_plain : (lib ino : ℕ) (kind : GrantKind) → grant_fault t lib ino kind ≡ grant_fault s lib ino kind
   grant_fault_plain lib ino kind =
-      let F : Option ℕ → Bool → Option GrantFault → Option GrantFault = λ d l o. cond (not (is_some (row_at s.home ino))) (Some NotLive) (denied_or d (cond l (Some NoParent) o)) in
-      ap (λ d. F d (lacks_parent t lib ino kind) (option_map (λ (g : OpenGrant). Busy (holder_of g)) (slice_get (excluding t lib ino kind) 0))) (denied_plain lib ino kind)
-      ∙ ap (λ l. F (denied_by s lib ino kind) l (option_map (λ (g : OpenGrant). Busy (holder_of g)) (slice_get (excluding t lib ino kind) 0))) (lacks_plain lib ino kind)
+      let F : Option ℕ → Bool → Option GrantFault → Option GrantFault =
+      λ d l o. cond (not (is_some (row_at s.home ino))) (Some NotLive) (denied_or d (cond l (Some NoParent) o)) in
+      let busy : Option GrantFault = option_map busy_of (slice_get (excluding t lib ino kind) 0) in
+      ap (λ d. F d (lacks_parent t lib ino kind) busy) (denied_plain lib ino kind)
+      ∙ ap (λ l. F (denied_by s lib ino kind) l busy) (lacks_plain lib ino kind)
       ∙ ap (F (denied_by s lib ino kind) (lacks_parent s lib ino kind)) (busy_plain lib ino kind)
 
   pub opened_plain : (lib ino : ℕ) (kind : GrantKind) (r : Row) → opened t lib ino kind r ≡ opened s lib ino kind r
@@ -163,16 +178,19 @@ module _ (s : State) where
   told_plain ino Write = refl
   told_plain ino Hold = refl
 
-  mode_busy_plain : (ino : ℕ) (r : Row) → option_map (λ (g : OpenGrant). ModeBusy (holder_of g)) (mode_excluding t ino r) ≡ option_map (λ (g : OpenGrant). ModeBusy (holder_of g)) (mode_excluding s ino r)
+  mode_busy_plain : (ino : ℕ) (r : Row)
+      → option_map mode_busy_of (mode_excluding t ino r) ≡ option_map mode_busy_of (mode_excluding s ino r)
   mode_busy_plain ino r =
-      ap (λ gs. option_map (λ (g : OpenGrant). ModeBusy (holder_of g)) (slice_get gs 0)) (filter-bare (λ g. eqb g.ino ino || eqb g.ino r.parent) s.open_grants)
-      ∙ mode_busy_first (filter (λ g. eqb g.ino ino || eqb g.ino r.parent) s.open_grants)
+      let excludes : OpenGrant → Bool = λ g. eqb g.ino ino || eqb g.ino r.parent in
+      ap (λ gs. option_map mode_busy_of (slice_get gs 0)) (filter-bare excludes s.open_grants)
+      ∙ first-bare mode_busy_of (λ g. refl) (filter excludes s.open_grants)
 
   mode_fault_plain : (lib ino mode : ℕ) (o : Option Row) → mode_fault t lib ino mode o ≡ mode_fault s lib ino mode o
   mode_fault_plain lib ino mode None = refl
   mode_fault_plain lib ino mode (Some r) =
       let uid : ℕ = (creds_of s lib).uid in
-      ap (λ o. cond (eqb ino 1 || not (eqb uid 0 || eqb uid r.uid)) (Some NotOwner) (cond (ltb 511 mode) (Some BadMode) o)) (mode_busy_plain ino r)
+      ap (λ o. cond (eqb ino 1 || not (eqb uid 0 || eqb uid r.uid)) (Some NotOwner)
+      (cond (ltb 511 mode) (Some BadMode) o)) (mode_busy_plain ino r)
 
   -- ---- what each call comes to
 
@@ -184,17 +202,23 @@ module _ (s : State) where
   after_fault OutOfMemory = known_logged
 
   -- what a grant lends for writing is under no checkpoint
-  opens_plain : (g : OpenGrant) → ((n : ℕ) → In n (lent_pages g) → In n (sheet_numbers (sheets s.open_grants)) → ⊥) → known (opens t g) ≡ known (opens s g)
+  opens_plain : (g : OpenGrant) → ((n : ℕ) → In n (lent_pages g) → In n (sheet_numbers (sheets s.open_grants)) → ⊥)
+      → known (opens t g) ≡ known (opens s g)
   opens_plain g apart =
       let ck : List Sheet = sheets s.open_grants in
       let end : (gs : List OpenGrant) → sheets (gs ++ g ∷ []) ≡ sheets gs ++ g.checkpoint =
-      λ gs. flat_map-append (λ (g : OpenGrant). g.checkpoint) gs (g ∷ []) ∙ ap (λ l. sheets gs ++ l) (append-nil g.checkpoint) in
-      let a : settled (opens t g) ≡ J (with_pages g.checkpoint (without_pages (lent_pages g) (with_pages ck s.home.core.pages))) =
-      ap (λ ss. J (with_pages ss (without_pages (lent_pages g) (with_pages ck s.home.core.pages)))) (end (bare s.open_grants) ∙ ap (λ l. l ++ g.checkpoint) (sheets-bare s.open_grants)) in
-      let b : settled (opens s g) ≡ J (with_pages g.checkpoint (without_pages (lent_pages g) (with_pages ck s.home.core.pages))) =
+      λ gs. flat_map-append (λ (g : OpenGrant). g.checkpoint) gs (g ∷ [])
+      ∙ ap (λ l. sheets gs ++ l) (append-nil g.checkpoint) in
+      let a : settled (opens t g) ≡ J (with_pages g.checkpoint
+      (without_pages (lent_pages g) (with_pages ck s.home.core.pages))) =
+      ap (λ ss. J (with_pages ss (without_pages (lent_pages g) (with_pages ck s.home.core.pages))))
+      (end (bare s.open_grants) ∙ ap (λ l. l ++ g.checkpoint) (sheets-bare s.open_grants)) in
+      let b : settled (opens s g) ≡ J (with_pages g.checkpoint
+      (without_pages (lent_pages g) (with_pages ck s.home.core.pages))) =
       ap (λ ss. J (with_pages ss (without_pages (lent_pages g) s.home.core.pages))) (end s.open_grants)
       ∙ ap J (with_pages-append ck g.checkpoint (without_pages (lent_pages g) s.home.core.pages))
-      ∙ ap (λ ps. J (with_pages g.checkpoint ps)) (with_pages-without_pages ck (lent_pages g) s.home.core.pages apart) in
+      ∙ ap (λ ps. J (with_pages g.checkpoint ps)) (with_pages-without_pages ck
+      (lent_pages g) s.home.core.pages apart) in
       known_same (opens t g) (opens s g) (a ∙ sym b)
       (map-append without_checkpoint (bare s.open_grants) (g ∷ [])
       ∙ ap (λ l. l ++ without_checkpoint g ∷ []) (bare-bare s.open_grants)
@@ -206,67 +230,79 @@ module _ (s : State) (k : Kept s) where
   u = plain_state (known s)
 
   -- a file on which no grant is open has no page under a checkpoint
-  uncovered_lent : (lib ino : ℕ) (r : Row) → grant_fault s lib ino Write ≡ None → row_at s.home ino ≡ Some r → (n : ℕ) → In n (lent_pages (opened s lib ino Write r)) → In n (sheet_numbers (sheets s.open_grants)) → ⊥
+  uncovered_lent : (lib ino : ℕ) (r : Row) → grant_fault s lib ino Write ≡ None → row_at s.home ino ≡ Some r
+      → (n : ℕ) → In n (lent_pages (opened s lib ino Write r)) → In n (sheet_numbers (sheets s.open_grants)) → ⊥
   uncovered_lent lib ino r e row =
       let m = live_met s k ino r row in
-      let free : (g : OpenGrant) → In g s.open_grants → g.ino ≡ m.met.ino → ⊥ = λ g i same. false≢true (sym (excluded_none s lib ino Write e g i (same ∙ m.number))) in
-      let P : ℕ → Row → Type 0 = λ i q. (n : ℕ) → In n (lent_pages (opened s lib i Write q)) → In n (sheet_numbers (sheets s.open_grants)) → ⊥ in
+      let free : (g : OpenGrant) → In g s.open_grants → g.ino ≡ m.met.ino → ⊥ =
+      λ g i same. false≢true (sym (excluded_none s lib ino Write e g i (same ∙ m.number))) in
+      let P : ℕ → Row → Type 0 = λ i q. (n : ℕ) → In n (lent_pages (opened s lib i Write q))
+      → In n (sheet_numbers (sheets s.open_grants)) → ⊥ in
       let a : P m.met.ino (row_by m.met m.file.body) =
       λ n i j.
       let q = checkpoint_lent s k n j in
       let mine : In n (pages_of (settled s).core m.met) =
-      subst (λ l. In n l) (lent_numbers s k lib m.met m.file m.stands m.read free ∙ sym (pages_are (settled s).core m.met m.file m.read)) i in
+      subst (λ l. In n l) (lent_numbers s k lib m.met m.file m.stands m.read free
+      ∙ sym (pages_are (settled s).core m.met m.file m.read)) i in
       free q.0 q.1 (lent_file s k m.met n q.0 m.stands mine q.1 q.2 q.3) in
       subst (λ q. P ino q) (sym m.row) (subst (λ i. P i (row_by m.met m.file.body)) m.number a)
 
-  opening : (lib ino : ℕ) (kind : GrantKind) (r : Row) → grant_fault s lib ino kind ≡ None → row_at s.home ino ≡ Some r → known (opens u (opened s lib ino kind r)) ≡ known (opens s (opened s lib ino kind r))
+  opening : (lib ino : ℕ) (kind : GrantKind) (r : Row) → grant_fault s lib ino kind ≡ None
+      → row_at s.home ino ≡ Some r → known (opens u (opened s lib ino kind r))
+      ≡ known (opens s (opened s lib ino kind r))
   opening lib ino Read r e row = (let g : OpenGrant = opened s lib ino Read r in opens_plain s g (λ n i j. i))
   opening lib ino Hold r e row = (let g : OpenGrant = opened s lib ino Hold r in opens_plain s g (λ n i j. i))
-  opening lib ino Write r e row = (let g : OpenGrant = opened s lib ino Write r in opens_plain s g (uncovered_lent lib ino r e row))
+  opening lib ino Write r e row = (let g : OpenGrant =
+      opened s lib ino Write r in opens_plain s g (uncovered_lent lib ino r e row))
 
-  granting : (lib ino : ℕ) (kind : GrantKind) (f : Option GrantFault) (o : Option Row) → grant_fault s lib ino kind ≡ f → row_at s.home ino ≡ o → known (granted_to u lib ino kind f o).after ≡ known (granted_to s lib ino kind f o).after
+  granting : (lib ino : ℕ) (kind : GrantKind) (f : Option GrantFault) (o : Option Row)
+      → grant_fault s lib ino kind ≡ f → row_at s.home ino ≡ o
+      → known (granted_to u lib ino kind f o).after ≡ known (granted_to s lib ino kind f o).after
   granting lib ino kind (Some fault) o e row = after_fault s fault
   granting lib ino kind None None e row = known_plain s
-  granting lib ino kind None (Some r) e row = ap (λ g. known (opens u g)) (opened_plain s lib ino kind r) ∙ opening lib ino kind r e row
+  granting lib ino kind None (Some r) e row = ap (λ g. known (opens u g)) (opened_plain s lib ino kind r)
+      ∙ opening lib ino kind r e row
 
-  granting_answer : (lib ino : ℕ) (kind : GrantKind) (f : Option GrantFault) (o : Option Row) → (granted_to u lib ino kind f o).answer ≡ (granted_to s lib ino kind f o).answer
+  granting_answer : (lib ino : ℕ) (kind : GrantKind) (f : Option GrantFault) (o : Option Row)
+      → (granted_to u lib ino kind f o).answer ≡ (granted_to s lib ino kind f o).answer
   granting_answer lib ino kind (Some fault) o = refl
   granting_answer lib ino kind None None = refl
   granting_answer lib ino kind None (Some r) = ap Granted (told_plain s ino kind)
 
-  allotting : (lib count many : ℕ) → known (allot_outcome u lib count many).after ≡ known (allot_outcome s lib count many).after
+  -- what is allotted, by what is free in s, by whether there are too few pages or numbers
+  abbrev allot_by : (lib count many : ℕ) → State → Bool → Bool → Outcome
+  allot_by lib count many x few_pages few_numbers =
+      cond few_pages (record { answer = NoPages count (length (free_pages s)); after = logged x })
+      (cond few_numbers (record { answer = NoInodes many (length (free_numbers s)); after = logged x }) (record {
+        answer = Given (take count (free_pages s)) (take many (free_numbers s));
+        after = allots x lib (take count (free_pages s)) (take many (free_numbers s));
+      }))
+
+  allotting : (lib count many : ℕ)
+      → (known (allot_outcome u lib count many).after ≡ known (allot_outcome s lib count many).after)
+      × ((allot_outcome u lib count many).answer ≡ (allot_outcome s lib count many).answer)
   allotting lib count many = either (ltb (length (free_pages s)) count) (ltb (length (free_numbers s)) many)
     where
-      outcome : State → Bool → Bool → Outcome
-      outcome x a b = cond {A = Outcome} a (record { answer = NoPages count (length (free_pages s)); after = logged x }) (cond b (record { answer = NoInodes many (length (free_numbers s)); after = logged x }) (record { answer = Given (take count (free_pages s)) (take many (free_numbers s)); after = allots x lib (take count (free_pages s)) (take many (free_numbers s)) }))
-
-      either : (a b : Bool) → known (outcome u a b).after ≡ known (outcome s a b).after
-      either true b = known_logged s
-      either false true = known_logged s
+      either : (a b : Bool)
+          → (known (allot_by lib count many u a b).after ≡ known (allot_by lib count many s a b).after)
+          × ((allot_by lib count many u a b).answer ≡ (allot_by lib count many s a b).answer)
+      either true b = (known_logged s, refl)
+      either false true = (known_logged s, refl)
       either false false =
           let ps : List ℕ = take count (free_pages s) in
           let ns : List ℕ = take many (free_numbers s) in
           let ck : List Sheet = sheets s.open_grants in
           let image : settled (allots u lib ps ns) ≡ settled (allots s lib ps ns) =
           ap (λ ss. J s (with_pages ss (without_pages ps (with_pages ck s.home.core.pages)))) (sheets-bare s.open_grants)
-          ∙ ap (J s) (sym (with_pages-without_pages ck ps s.home.core.pages (λ n i j. uncovered' s k lib count many n i j))) in
-          known_same (allots u lib ps ns) (allots s lib ps ns) image (bare-bare s.open_grants) refl refl refl refl
-
-  allotting_answer : (lib count many : ℕ) → (allot_outcome u lib count many).answer ≡ (allot_outcome s lib count many).answer
-  allotting_answer lib count many = either (ltb (length (free_pages s)) count) (ltb (length (free_numbers s)) many)
-    where
-      outcome : State → Bool → Bool → Outcome
-      outcome x a b = cond {A = Outcome} a (record { answer = NoPages count (length (free_pages s)); after = logged x }) (cond b (record { answer = NoInodes many (length (free_numbers s)); after = logged x }) (record { answer = Given (take count (free_pages s)) (take many (free_numbers s)); after = allots x lib (take count (free_pages s)) (take many (free_numbers s)) }))
-
-      either : (a b : Bool) → (outcome u a b).answer ≡ (outcome s a b).answer
-      either true b = refl
-      either false true = refl
-      either false false = refl
+          ∙ ap (J s)
+          (sym (with_pages-without_pages ck ps s.home.core.pages (λ n i j. uncovered' s k lib count many n i j))) in
+          (known_same (allots u lib ps ns) (allots s lib ps ns) image (bare-bare s.open_grants) refl refl refl refl, refl)
 
   giving_back : (lib ino : ℕ) → known (given_back u lib ino) ≡ known (given_back s lib ino)
   giving_back lib ino =
       let stays : OpenGrant → Bool = λ g. not (eqb g.lib lib && eqb g.ino ino && is_read g.kind) in
-      let left : filter stays (bare s.open_grants) ≡ bare (filter stays s.open_grants) = filter-bare stays s.open_grants in
+      let left : filter stays (bare s.open_grants) ≡ bare (filter stays s.open_grants) =
+      filter-bare stays s.open_grants in
       let image : settled (given_back u lib ino) ≡ settled s =
       ap (λ gs. J s (with_pages (sheets gs) (settled s).core.pages)) left
       ∙ ap (λ ss. J s (with_pages ss (settled s).core.pages)) (sheets-bare (filter stays s.open_grants)) in
@@ -280,7 +316,8 @@ module _ (s : State) (k : Kept s) where
   after_no_mode (ModeBusy holder) = known_plain s
   after_no_mode ModeNoMemory = known_logged s
 
-  moding : (lib ino mode : ℕ) (o : Option Row) (f : Option ModeFault) → row_at s.home ino ≡ o → mode_fault s lib ino mode o ≡ f → known (moded_to u ino mode f).after ≡ known (moded_to s ino mode f).after
+  moding : (lib ino mode : ℕ) (o : Option Row) (f : Option ModeFault) → row_at s.home ino ≡ o
+      → mode_fault s lib ino mode o ≡ f → known (moded_to u ino mode f).after ≡ known (moded_to s ino mode f).after
   moding lib ino mode o (Some fault) row e = after_no_mode fault
   moding lib ino mode None None row e = absurd cc
   moding lib ino mode (Some r) None row e =
@@ -289,21 +326,26 @@ module _ (s : State) (k : Kept s) where
       let I : Image = moded (settled s) ino mode in
       let plain : settled (record u { home = moded u.home ino mode }) ≡ I =
       ap (λ ss. record I { core = record I.core { pages = with_pages ss I.core.pages } }) (sheets-bare s.open_grants) in
-      known_same (logged (record u { home = moded u.home ino mode })) (logged (record s { home = moded s.home ino mode })) (plain ∙ sym image)
+      known_same (logged (record u { home = moded u.home ino mode }))
+      (logged (record s { home = moded s.home ino mode })) (plain ∙ sym image)
       (bare-bare s.open_grants) refl refl refl refl
 
-  moding_answer : (ino mode : ℕ) (f : Option ModeFault) → (moded_to u ino mode f).answer ≡ (moded_to s ino mode f).answer
+  moding_answer : (ino mode : ℕ) (f : Option ModeFault)
+      → (moded_to u ino mode f).answer ≡ (moded_to s ino mode f).answer
   moding_answer ino mode (Some fault) = refl
   moding_answer ino mode None = refl
 
-  ending : (s' : State) (lib : ℕ) (b : Bundle) (image : Image) → Ends s lib b image s' → known s' ≡ ended (known s) lib b image
+  ending : (s' : State) (lib : ℕ) (b : Bundle) (image : Image) → Ends s lib b image s'
+      → known s' ≡ ended (known s) lib b image
   ending s' lib b image e =
       let grants : bare s'.open_grants ≡ grants_after u lib b =
-      sym (bare-part s'.open_grants) ∙ ap bare e.grants ∙ bare-part (grants_after s lib b) ∙ sym (filter-bare (λ g. not (is_in_bundle lib b g)) s.open_grants) in
+      sym (bare-part s'.open_grants) ∙ ap bare e.grants ∙ bare-part (grants_after s lib b)
+      ∙ sym (filter-bare (λ g. not (is_in_bundle lib b g)) s.open_grants) in
       rw (e.settles, grants, e.pages, e.numbers, e.creds, e.entries) refl
 
   -- the ways in which a release ends
-  releasing : (lib : ℕ) (b : Bundle) (answer : Answer) (s' : State) → ReleaseEnd s lib b answer s' → known s' ≡ released (known s) lib b (parted_hold u lib b)
+  releasing : (lib : ℕ) (b : Bundle) (answer : Answer) (s' : State) → ReleaseEnd s lib b answer s'
+      → known s' ≡ released (known s) lib b (parted_hold u lib b)
   releasing lib b answer s' (Parted n some a same) =
       ap known same ∙ ap (released (known s) lib b) (sym (parted_plain s lib b ∙ some))
   releasing lib b answer s' (IsAccepted none sure a e) =
@@ -315,12 +357,13 @@ module _ (s : State) (k : Kept s) where
       ∙ ap (λ x. ended (known s) lib b (cond x (next (settled s) b) (refused_image (settled s) b))) (sym not_so)
       ∙ ap (released (known s) lib b) (sym (parted_plain s lib b ∙ none))
 
-  doing : (event : Event) (answer : Answer) (s' : State) → Does s event answer s' → known s' ≡ known_done (known s) event
+  doing : (event : Event) (answer : Answer) (s' : State) → Does s event answer s'
+      → known s' ≡ known_done (known s) event
   doing (Grant lib ino kind) answer s' d =
       ap known d.1
       ∙ sym (granting lib ino kind (grant_fault s lib ino kind) (row_at s.home ino) refl refl)
       ∙ ap (λ f. known (granted_to u lib ino kind f (row_at s.home ino)).after) (sym (grant_fault_plain s lib ino kind))
-  doing (Allot lib pages numbers) answer s' d = ap known d.1 ∙ sym (allotting lib pages numbers)
+  doing (Allot lib pages numbers) answer s' d = ap known d.1 ∙ sym (allotting lib pages numbers).0
   doing (Back lib ino) answer s' d = ap known d.1 ∙ sym (giving_back lib ino)
   doing (Release lib b) answer s' d = releasing lib b answer s' (release_end s s' lib b answer d)
   doing (Settle lib b) answer s' d = ending s' lib b _ d.3
@@ -347,7 +390,8 @@ other_answer (NotModeSet fault) other = refl
 pub steps_are_known : StepsAreKnown
 steps_are_known s event answer s' k (inl does) =
     doing s k event answer s' does
-    ∙ ap (λ b. cond b (known s) (known_done (known s) event)) (sym (other_answer answer (does_told s event answer s' does)))
+    ∙ ap (λ b. cond b (known s) (known_done (known s) event))
+    (sym (other_answer answer (does_told s event answer s' does)))
 steps_are_known s event answer s' k (inr none) =
     ap known none.2 ∙ ap (λ a. known_after (known s) event a) (sym none.1)
 
@@ -384,32 +428,39 @@ same_joined a b c (inl e) (inr y) = inr (ap is_refusal e ∙ y.1, y.0)
 same_joined a b c (inr x) (inl f) = inr (x.0, ap is_refusal f ∙ x.1)
 same_joined a b c (inr x) (inr y) = inr (x.0, y.0)
 
-released_answer : (s s' : State) (lib : ℕ) (b : Bundle) (answer : Answer) → ReleaseEnd s lib b answer s' → SameAnswer answer (known_answer (known s) (Release lib b))
+released_answer : (s s' : State) (lib : ℕ) (b : Bundle) (answer : Answer) → ReleaseEnd s lib b answer s'
+    → SameAnswer answer (known_answer (known s) (Release lib b))
 released_answer s s' lib b answer (Parted n some a same) =
     inl (a ∙ ap (release_answer (known s) lib b) (sym (parted_plain s lib b ∙ some)))
 released_answer s s' lib b answer (IsAccepted none sure a e) =
-    inl (a ∙ ap (λ x. cond x Accepted Refused) (sym sure) ∙ ap (release_answer (known s) lib b) (sym (parted_plain s lib b ∙ none)))
+    inl (a ∙ ap (λ x. cond x Accepted Refused) (sym sure)
+    ∙ ap (release_answer (known s) lib b) (sym (parted_plain s lib b ∙ none)))
 released_answer s s' lib b answer (IsRefused none not_so a e) =
     let is : Refused ≡ known_answer (known s) (Release lib b) =
-    ap (λ x. cond x Accepted Refused) (sym not_so) ∙ ap (release_answer (known s) lib b) (sym (parted_plain s lib b ∙ none)) in
+    ap (λ x. cond x Accepted Refused) (sym not_so) ∙ ap (release_answer (known s) lib b) (sym (parted_plain s lib b
+    ∙ none)) in
     inr (ap is_refusal a, sym (ap is_refusal is))
 
-does_answer : (s : State) (k : Kept s) (event : Event) (answer : Answer) (s' : State) → Does s event answer s' → SameAnswer answer (known_answer (known s) event)
+does_answer : (s : State) (k : Kept s) (event : Event) (answer : Answer) (s' : State) → Does s event answer s'
+    → SameAnswer answer (known_answer (known s) event)
 does_answer s k (Grant lib ino kind) answer s' d =
     inl (d.0
     ∙ sym (granting_answer s k lib ino kind (grant_fault s lib ino kind) (row_at s.home ino))
-    ∙ ap (λ f. (granted_to (plain_state (known s)) lib ino kind f (row_at s.home ino)).answer) (sym (grant_fault_plain s lib ino kind)))
-does_answer s k (Allot lib pages numbers) answer s' d = inl (d.0 ∙ sym (allotting_answer s k lib pages numbers))
+    ∙ ap (λ f. (granted_to (plain_state (known s)) lib ino kind f (row_at s.home ino)).answer)
+    (sym (grant_fault_plain s lib ino kind)))
+does_answer s k (Allot lib pages numbers) answer s' d = inl (d.0 ∙ sym ((allotting s k lib pages numbers).1))
 does_answer s k (Back lib ino) answer s' d = inl d.0
 does_answer s k (Release lib b) answer s' d = released_answer s s' lib b answer (release_end s s' lib b answer d)
 does_answer s k (Settle lib b) answer s' d = inl d.0
 does_answer s k (SetMode lib ino mode) answer s' d =
     inl (d.0
     ∙ sym (moding_answer s k ino mode (mode_fault s lib ino mode (row_at s.home ino)))
-    ∙ ap (λ f. (moded_to (plain_state (known s)) ino mode f).answer) (sym (mode_fault_plain s lib ino mode (row_at s.home ino))))
+    ∙ ap (λ f. (moded_to (plain_state (known s)) ino mode f).answer)
+    (sym (mode_fault_plain s lib ino mode (row_at s.home ino))))
 
 -- a step with memory there
-step_does : (s : State) (event : Event) (answer : Answer) (s' : State) → Step s event answer s' → answer ≢ NoMemory → Does s event answer s'
+step_does : (s : State) (event : Event) (answer : Answer) (s' : State) → Step s event answer s' → answer ≢ NoMemory
+    → Does s event answer s'
 step_does s event answer s' (inl does) other = does
 step_does s event answer s' (inr none) other = absurd (other none.1)
 
@@ -417,7 +468,8 @@ pub same_event_same_answer : SameEventSameAnswer
 same_event_same_answer s t event a b s' t' k l same one two some_a some_b =
     let d = step_does s event a s' one some_a in
     let e = step_does t event b t' two some_b in
-    let answer : SameAnswer b (known_answer (known s) event) = subst (λ x. SameAnswer b (known_answer x event)) (sym same) (does_answer t l event b t' e) in (
+    let answer : SameAnswer b (known_answer (known s) event) =
+    subst (λ x. SameAnswer b (known_answer x event)) (sym same) (does_answer t l event b t' e) in (
       same_joined a b (known_answer (known s) event) (does_answer s k event a s' d) answer,
       doing s k event a s' d ∙ ap (λ x. known_done x event) same ∙ sym (doing t l event b t' e),
     )

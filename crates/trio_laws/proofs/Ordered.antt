@@ -51,11 +51,16 @@ opens_ordered s g e o = record {
       (λ k d l. let b = o.below (get_or s.open_grants k d) (In_get s.open_grants k d l) in omega (arith, b, e));
   below = λ h i. elim (In-cases h s.open_grants (g ∷ []) i) [
     | inl old ↦ let b = o.below h old in omega (arith, b)
-    | inr new ↦ elim new [ inl same ↦ let at : h.entry ≡ g.entry = ap (λ (x : OpenGrant). x.entry) same in omega (arith, at, e) | inr none ↦ absurd none ]
+    | inr new ↦ elim new [
+      | inl same ↦ let at : h.entry ≡ g.entry =
+          ap (λ (x : OpenGrant). x.entry) same in omega (arith, at, e)
+      | inr none ↦ absurd none
+    ]
   ];
 }
 
-granted_ordered : (s : State) (lib ino : ℕ) (kind : GrantKind) (a : Option GrantFault) (r : Option Row) → IsOrdered s → IsOrdered (granted_to s lib ino kind a r).after
+granted_ordered : (s : State) (lib ino : ℕ) (kind : GrantKind) (a : Option GrantFault) (r : Option Row) → IsOrdered s
+    → IsOrdered (granted_to s lib ino kind a r).after
 granted_ordered s lib ino kind (Some fault) r o = grant_fault_ordered s fault o
 granted_ordered s lib ino kind None None o = o
 granted_ordered s lib ino kind None (Some r) o = opens_ordered s (opened s lib ino kind r) refl o
@@ -63,10 +68,21 @@ granted_ordered s lib ino kind None (Some r) o = opens_ordered s (opened s lib i
 allot_ordered : (s : State) (lib pages numbers : ℕ) → IsOrdered s → IsOrdered (allot_outcome s lib pages numbers).after
 allot_ordered s lib pages numbers o = either (ltb (length (free_pages s)) pages) (ltb (length (free_numbers s)) numbers)
   where
-    either : (a b : Bool) → IsOrdered (cond {A = Outcome} a (record { answer = NoPages pages (length (free_pages s)); after = logged s }) (cond b (record { answer = NoInodes numbers (length (free_numbers s)); after = logged s }) (record { answer = Given (take pages (free_pages s)) (take numbers (free_numbers s)); after = allots s lib (take pages (free_pages s)) (take numbers (free_numbers s)) }))).after
+    either : (a b : Bool) → IsOrdered (cond {A = Outcome} a (record {
+      answer =
+          NoPages pages (length (free_pages s));
+      after = logged s;
+    })
+        (cond b (record { answer = NoInodes numbers (length (free_numbers s)); after = logged s })
+        (record {
+          answer = Given (take pages (free_pages s)) (take numbers (free_numbers s));
+          after =
+              allots s lib (take pages (free_pages s)) (take numbers (free_numbers s));
+        }))).after
     either true b = logged_ordered s o
     either false true = logged_ordered s o
-    either false false = same_ordered s (allots s lib (take pages (free_pages s)) (take numbers (free_numbers s))) refl (omega arith) o
+    either false false = same_ordered s (allots s lib (take pages (free_pages s)) (take numbers (free_numbers s)))
+        refl (omega arith) o
 
 back_ordered : (s : State) (lib ino : ℕ) → IsOrdered s → IsOrdered (given_back s lib ino)
 back_ordered s lib ino o =
@@ -76,20 +92,24 @@ back_ordered s lib ino o =
       below = λ g i. let b = o.below g (filter_in stays g s.open_grants i).0 in omega (arith, b);
     }
 
-ends_ordered : (s s' : State) (lib : ℕ) (b : Bundle) (image : Image) → Ends s lib b image s' → IsOrdered s → IsOrdered s'
+ends_ordered : (s s' : State) (lib : ℕ) (b : Bundle) (image : Image) → Ends s lib b image s' → IsOrdered s
+    → IsOrdered s'
 ends_ordered s s' lib b image e o =
     let stays : OpenGrant → Bool = λ g. not (is_in_bundle lib b g) in
     record {
-      rising = pairs_like CameBefore (λ x y h. h) (λ x y h. h) s'.open_grants (grants_after s lib b) e.grants (AllPairs-filter CameBefore stays s.open_grants o.rising);
+      rising = pairs_like CameBefore (λ x y h. h) (λ x y h. h) s'.open_grants (grants_after s lib b) e.grants
+          (AllPairs-filter CameBefore stays s.open_grants o.rising);
       below = λ g i.
-          let j = map_from lent_part (lent_part g) (grants_after s lib b) (subst (λ l. In (lent_part g) l) e.grants (In-map lent_part g s'.open_grants i)) in
+          let j = map_from lent_part (lent_part g) (grants_after s lib b)
+          (subst (λ l. In (lent_part g) l) e.grants (In-map lent_part g s'.open_grants i)) in
           let was = o.below j.0 (filter_in stays j.0 s.open_grants j.1).0 in
           let at : g.entry ≡ j.0.entry = ap (λ (x : OpenGrant). x.entry) j.2 in
           let more = e.entries in
           omega (arith, was, at, more);
     }
 
-release_ordered : (s s' : State) (lib : ℕ) (b : Bundle) (answer : Answer) → ReleaseEnd s lib b answer s' → IsOrdered s → IsOrdered s'
+release_ordered : (s s' : State) (lib : ℕ) (b : Bundle) (answer : Answer) → ReleaseEnd s lib b answer s'
+    → IsOrdered s → IsOrdered s'
 release_ordered s s' lib b answer (Parted n none e same) o = subst IsOrdered (sym same) o
 release_ordered s s' lib b answer (IsAccepted none t e ends) o = ends_ordered s s' lib b _ ends o
 release_ordered s s' lib b answer (IsRefused none f e ends) o = ends_ordered s s' lib b _ ends o
@@ -110,15 +130,20 @@ order_begins image creds = record { rising = λ i j d l within. absurd (omega ar
 
 pub order_stays : OrderStays
 order_stays s event answer s' o (inr none) = subst IsOrdered (sym none.2) o
-order_stays s (Grant lib ino kind) answer s' o (inl does) = subst IsOrdered (sym does.1) (granted_ordered s lib ino kind (grant_fault s lib ino kind) (row_at s.home ino) o)
-order_stays s (Allot lib pages numbers) answer s' o (inl does) = subst IsOrdered (sym does.1) (allot_ordered s lib pages numbers o)
+order_stays s (Grant lib ino kind) answer s' o (inl does) =
+    subst IsOrdered (sym does.1) (granted_ordered s lib ino kind (grant_fault s lib ino kind) (row_at s.home ino) o)
+order_stays s (Allot lib pages numbers) answer s' o (inl does) =
+    subst IsOrdered (sym does.1) (allot_ordered s lib pages numbers o)
 order_stays s (Back lib ino) answer s' o (inl does) = subst IsOrdered (sym does.1) (back_ordered s lib ino o)
-order_stays s (Release lib b) answer s' o (inl does) = release_ordered s s' lib b answer (release_end s s' lib b answer does) o
+order_stays s (Release lib b) answer s' o (inl does) =
+    release_ordered s s' lib b answer (release_end s s' lib b answer does) o
 order_stays s (Settle lib b) answer s' o (inl does) = ends_ordered s s' lib b _ does.3 o
-order_stays s (SetMode lib ino mode) answer s' o (inl does) = subst IsOrdered (sym does.1) (mode_ordered s ino mode (mode_fault s lib ino mode (row_at s.home ino)) o)
+order_stays s (SetMode lib ino mode) answer s' o (inl does) =
+    subst IsOrdered (sym does.1) (mode_ordered s ino mode (mode_fault s lib ino mode (row_at s.home ino)) o)
 
 -- each state of a run is ordered
-trace_ordered : (s : State) (events : List Event) (answers : List Answer) (states : List State) → IsOrdered s → Trace s events answers states → (t : State) → In t states → IsOrdered t
+trace_ordered : (s : State) (events : List Event) (answers : List Answer) (states : List State) → IsOrdered s
+    → Trace s events answers states → (t : State) → In t states → IsOrdered t
 trace_ordered s [] [] [] o run t i = absurd i
 trace_ordered s [] [] (u ∷ states) o run t i = absurd run
 trace_ordered s [] (answer ∷ answers) states o run t i = absurd run
@@ -140,7 +165,8 @@ grants_are_ordered run s i =
     ]
 
 -- the first of a list in order is the lowest
-first_of : (gs : List OpenGrant) (g h : OpenGrant) → AllPairs CameBefore gs → slice_get gs 0 ≡ Some g → In h gs → g.entry ≤ h.entry
+first_of : (gs : List OpenGrant) (g h : OpenGrant) → AllPairs CameBefore gs → slice_get gs 0 ≡ Some g → In h gs
+    → g.entry ≤ h.entry
 first_of [] g h rising first i = absurd i
 first_of (x ∷ xs) g h rising first (inl same) =
     let is : x ≡ g = cc first in
@@ -158,4 +184,5 @@ first_of (x ∷ xs) g h rising first (inr later) =
 
 pub first_is_lowest : FirstIsLowest
 first_is_lowest s passes g h o first i passed =
-    first_of (filter passes s.open_grants) g h (AllPairs-filter CameBefore passes s.open_grants o.rising) first (in_filter passes h s.open_grants i passed)
+    first_of (filter passes s.open_grants) g h (AllPairs-filter CameBefore passes s.open_grants o.rising) first
+    (in_filter passes h s.open_grants i passed)

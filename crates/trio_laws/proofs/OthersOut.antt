@@ -27,7 +27,9 @@ use Rattle.trio_laws.proofs.Others.{one_out}
 use Rattle.trio_laws.proofs.Releases.{ReleaseEnd, Parted, IsAccepted, IsRefused, release_end}
 
 -- what a library has out goes by its grants, pages and numbers
-out_of_same : (s s' : State) (lib : ℕ) → grants_to s'.open_grants lib ≡ grants_to s.open_grants lib → numbers_to s'.pages_out lib ≡ numbers_to s.pages_out lib → numbers_to s'.numbers_out lib ≡ numbers_to s.numbers_out lib → out_of s' lib ≡ out_of s lib
+out_of_same : (s s' : State) (lib : ℕ) → grants_to s'.open_grants lib ≡ grants_to s.open_grants lib
+    → numbers_to s'.pages_out lib ≡ numbers_to s.pages_out lib
+    → numbers_to s'.numbers_out lib ≡ numbers_to s.numbers_out lib → out_of s' lib ≡ out_of s lib
 out_of_same s s' lib a b c = rw (a, b, c) refl
 
 module _ (mine lib : ℕ) (apart : mine ≢ lib) where
@@ -41,12 +43,15 @@ module _ (mine lib : ℕ) (apart : mine ≢ lib) where
   away g t = ne_eqb g.lib mine (λ e. apart (sym e ∙ eqb-true g.lib lib t))
 
   -- grants
-  grants_to-more : (gs : List OpenGrant) (g : OpenGrant) → g.lib ≡ mine → grants_to (gs ++ g ∷ []) lib ≡ grants_to gs lib
+  grants_to-more : (gs : List OpenGrant) (g : OpenGrant) → g.lib ≡ mine
+      → grants_to (gs ++ g ∷ []) lib ≡ grants_to gs lib
   grants_to-more gs g e =
       ap (map without_checkpoint)
-      (filter-append to gs (g ∷ []) ∙ ap (λ b. filter to gs ++ cond b (g ∷ []) []) (other_lib g.lib e) ∙ append-nil (filter to gs))
+      (filter-append to gs (g ∷ []) ∙ ap (λ b. filter to gs ++ cond b (g ∷ []) []) (other_lib g.lib e)
+      ∙ append-nil (filter to gs))
 
-  grants_to-filter : (stays : OpenGrant → Bool) (gs : List OpenGrant) → ((g : OpenGrant) → eqb g.lib mine ≡ false → stays g ≡ true) → grants_to (filter stays gs) lib ≡ grants_to gs lib
+  grants_to-filter : (stays : OpenGrant → Bool) (gs : List OpenGrant)
+      → ((g : OpenGrant) → eqb g.lib mine ≡ false → stays g ≡ true) → grants_to (filter stays gs) lib ≡ grants_to gs lib
   grants_to-filter stays gs h = ap (map without_checkpoint) (filter-filter to stays gs (λ g i t. h g (away g t)))
 
   -- the bytes of checkpoints don't count
@@ -58,7 +63,8 @@ module _ (mine lib : ℕ) (apart : mine ≢ lib) where
       bare (g ∷ gs) = ap (λ l. without_checkpoint g ∷ l) (bare gs)
 
   -- numbers
-  numbers_to-more : (outs : List Out) (ns : List ℕ) → numbers_to (outs ++ map (λ n. record { lib = mine; number = n }) ns) lib ≡ numbers_to outs lib
+  numbers_to-more : (outs : List Out) (ns : List ℕ) → numbers_to
+      (outs ++ map (λ n. record { lib = mine; number = n }) ns) lib ≡ numbers_to outs lib
   numbers_to-more outs ns =
       ap (map (λ (o : Out). o.number))
       (filter-append (λ (o : Out). eqb o.lib lib) outs (map (λ n. record { lib = mine; number = n }) ns)
@@ -67,9 +73,16 @@ module _ (mine lib : ℕ) (apart : mine ≢ lib) where
     where
       none : (ns : List ℕ) → filter (λ (o : Out). eqb o.lib lib) (map (λ n. record { lib = mine; number = n }) ns) ≡ []
       none [] = refl
-      none (n ∷ ns) = ap (λ b. cond b (record { lib = mine; number = n } ∷ filter (λ (o : Out). eqb o.lib lib) (map (λ n. record { lib = mine; number = n }) ns)) (filter (λ (o : Out). eqb o.lib lib) (map (λ n. record { lib = mine; number = n }) ns))) (other_lib mine refl) ∙ none ns
+      none (n ∷ ns) = ap (λ b. cond b (record {
+        lib = mine;
+        number =
+            n;
+      } ∷ filter (λ (o : Out). eqb o.lib lib) (map (λ n. record { lib = mine; number = n }) ns))
+          (filter (λ (o : Out). eqb o.lib lib) (map (λ n. record { lib = mine; number = n }) ns)))
+          (other_lib mine refl) ∙ none ns
 
-  numbers_to-after : (outs : List Out) (these : List ℕ) → are_new [] (map (λ (o : Out). o.number) outs) ≡ true → ((n : ℕ) → In n these → WasAllotted outs mine n) → numbers_to (out_after outs these) lib ≡ numbers_to outs lib
+  numbers_to-after : (outs : List Out) (these : List ℕ) → are_new [] (map (λ (o : Out). o.number) outs) ≡ true
+      → ((n : ℕ) → In n these → WasAllotted outs mine n) → numbers_to (out_after outs these) lib ≡ numbers_to outs lib
   numbers_to-after outs these new given =
       ap (map (λ (o : Out). o.number))
       (filter-filter (λ (o : Out). eqb o.lib lib) (λ (o : Out). not (is_among o.number these)) outs
@@ -89,16 +102,29 @@ module _ (s : State) (k : Kept s) (mine lib : ℕ) (apart : mine ≢ lib) where
   after_fault (Busy holder) = refl
   after_fault OutOfMemory = refl
 
-  grant : (ino : ℕ) (kind : GrantKind) (f : Option GrantFault) (o : Option Row) → out_of (granted_to s mine ino kind f o).after lib ≡ out_of s lib
+  grant : (ino : ℕ) (kind : GrantKind) (f : Option GrantFault) (o : Option Row)
+      → out_of (granted_to s mine ino kind f o).after lib ≡ out_of s lib
   grant ino kind (Some f) o = after_fault f
   grant ino kind None None = refl
   grant ino kind None (Some r) =
-      (let g : OpenGrant = opened s mine ino kind r in out_of_same s (opens s g) lib (grants_to-more mine lib apart s.open_grants g refl) refl refl)
+      (let g : OpenGrant = opened s mine ino kind r in out_of_same s (opens s g) lib
+      (grants_to-more mine lib apart s.open_grants g refl) refl refl)
 
   allot : (count many : ℕ) → out_of (allot_outcome s mine count many).after lib ≡ out_of s lib
   allot count many = either (ltb (length (free_pages s)) count) (ltb (length (free_numbers s)) many)
     where
-      either : (a b : Bool) → out_of (cond {A = Outcome} a (record { answer = NoPages count (length (free_pages s)); after = logged s }) (cond b (record { answer = NoInodes many (length (free_numbers s)); after = logged s }) (record { answer = Given (take count (free_pages s)) (take many (free_numbers s)); after = allots s mine (take count (free_pages s)) (take many (free_numbers s)) }))).after lib ≡ out_of s lib
+      either : (a b : Bool) → out_of (cond {A = Outcome} a (record {
+        answer =
+            NoPages count (length (free_pages s));
+        after = logged s;
+      })
+          (cond b (record { answer = NoInodes many (length (free_numbers s)); after = logged s })
+          (record {
+            answer = Given (take count (free_pages s)) (take many (free_numbers s));
+            after =
+                allots s mine (take count (free_pages s)) (take many (free_numbers s));
+          }))).after lib
+          ≡ out_of s lib
       either true b = refl
       either false true = refl
       either false false =
@@ -112,18 +138,23 @@ module _ (s : State) (k : Kept s) (mine lib : ℕ) (apart : mine ≢ lib) where
       (grants_to-filter mine lib apart (λ g. not (eqb g.lib mine && eqb g.ino ino && is_read g.kind)) s.open_grants
       (λ g f. ap (λ b. not (b && eqb g.ino ino && is_read g.kind)) f)) refl refl
 
-  ends : (b : Bundle) (image : Image) (s' : State) → GivenTo s mine b → Ends s mine b image s' → out_of s' lib ≡ out_of s lib
+  ends : (b : Bundle) (image : Image) (s' : State) → GivenTo s mine b → Ends s mine b image s'
+      → out_of s' lib ≡ out_of s lib
   ends b image s' given e =
       out_of_same s s' lib
       (sym (grants_to-part mine lib apart s'.open_grants)
       ∙ ap (λ l. grants_to l lib) e.grants
       ∙ grants_to-part mine lib apart (grants_after s mine b)
       ∙ grants_to-filter mine lib apart (λ g. not (is_in_bundle mine b g)) s.open_grants
-      (λ g f. ap (λ x. not (x && ((is_write g.kind && is_written b g.ino) || (is_hold g.kind && is_among g.ino b.holds)))) f))
-      (ap (λ l. numbers_to l lib) e.pages ∙ numbers_to-after mine lib apart s.pages_out (sheet_numbers b.pages) k.out_once given.pages)
-      (ap (λ l. numbers_to l lib) e.numbers ∙ numbers_to-after mine lib apart s.numbers_out b.numbers k.numbers_once given.numbers)
+      (λ g f. ap (λ x. not (x && ((is_write g.kind && is_written b g.ino) ||
+      (is_hold g.kind && is_among g.ino b.holds)))) f))
+      (ap (λ l. numbers_to l lib) e.pages ∙ numbers_to-after mine lib apart s.pages_out
+      (sheet_numbers b.pages) k.out_once given.pages)
+      (ap (λ l. numbers_to l lib) e.numbers
+      ∙ numbers_to-after mine lib apart s.numbers_out b.numbers k.numbers_once given.numbers)
 
-  release : (b : Bundle) (answer : Answer) (s' : State) → GivenTo s mine b → ReleaseEnd s mine b answer s' → out_of s' lib ≡ out_of s lib
+  release : (b : Bundle) (answer : Answer) (s' : State) → GivenTo s mine b → ReleaseEnd s mine b answer s'
+      → out_of s' lib ≡ out_of s lib
   release b answer s' given (Parted n some a same) = ap (λ (x : State). out_of x lib) same
   release b answer s' given (IsAccepted none t a e) = ends b _ s' given e
   release b answer s' given (IsRefused none f a e) = ends b _ s' given e
@@ -141,9 +172,14 @@ module _ (s : State) (k : Kept s) (mine lib : ℕ) (apart : mine ≢ lib) where
 
 pub others_keep_out : OthersKeepOut
 others_keep_out s event answer s' lib k given (inr none) apart = ap (λ (x : State). out_of x lib) none.2
-others_keep_out s (Grant mine ino kind) answer s' lib k given (inl d) apart = ap (λ (x : State). out_of x lib) d.1 ∙ grant s k mine lib apart ino kind (grant_fault s mine ino kind) (row_at s.home ino)
-others_keep_out s (Allot mine count many) answer s' lib k given (inl d) apart = ap (λ (x : State). out_of x lib) d.1 ∙ allot s k mine lib apart count many
-others_keep_out s (Back mine ino) answer s' lib k given (inl d) apart = ap (λ (x : State). out_of x lib) d.1 ∙ back s k mine lib apart ino
-others_keep_out s (Release mine b) answer s' lib k given (inl d) apart = release s k mine lib apart b answer s' given (release_end s s' mine b answer d)
+others_keep_out s (Grant mine ino kind) answer s' lib k given (inl d) apart = ap (λ (x : State). out_of x lib) d.1
+    ∙ grant s k mine lib apart ino kind (grant_fault s mine ino kind) (row_at s.home ino)
+others_keep_out s (Allot mine count many) answer s' lib k given (inl d) apart = ap (λ (x : State). out_of x lib) d.1
+    ∙ allot s k mine lib apart count many
+others_keep_out s (Back mine ino) answer s' lib k given (inl d) apart = ap (λ (x : State). out_of x lib) d.1
+    ∙ back s k mine lib apart ino
+others_keep_out s (Release mine b) answer s' lib k given (inl d) apart =
+    release s k mine lib apart b answer s' given (release_end s s' mine b answer d)
 others_keep_out s (Settle mine b) answer s' lib k given (inl d) apart = ends s k mine lib apart b _ s' given d.3
-others_keep_out s (SetMode mine ino mode) answer s' lib k given (inl d) apart = ap (λ (x : State). out_of x lib) d.1 ∙ set_mode s k mine lib apart ino mode (mode_fault s mine ino mode (row_at s.home ino))
+others_keep_out s (SetMode mine ino mode) answer s' lib k given (inl d) apart = ap (λ (x : State). out_of x lib) d.1
+    ∙ set_mode s k mine lib apart ino mode (mode_fault s mine ino mode (row_at s.home ino))

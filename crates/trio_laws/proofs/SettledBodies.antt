@@ -48,7 +48,8 @@ use Rattle.trio_laws.proofs.Releases.{ReleaseEnd, Parted, IsAccepted, IsRefused,
 
 -- ---- an accepted bundle
 
-module _ (s : State) (lib : ℕ) (creds : Creds) (b : Bundle) (n : ℕ) (q : Row) (k : Kept s) (given : GivenTo s lib b) (accepted : is_accepted (settled s) creds b ≡ true) (row' : row_at (next (settled s) b) n ≡ Some q) where
+module _ (s : State) (lib : ℕ) (creds : Creds) (b : Bundle) (n : ℕ) (q : Row) (k : Kept s) (given : GivenTo s lib b)
+    (accepted : is_accepted (settled s) creds b ≡ true) (row' : row_at (next (settled s) b) n ≡ Some q) where
   abbrev image : Image
   image = settled s
 
@@ -76,9 +77,14 @@ module _ (s : State) (lib : ℕ) (creds : Creds) (b : Bundle) (n : ℕ) (q : Row
   settled_now : settled_body after n ≡ is.met.body
   settled_now =
       let v = accepted_verifies image creds b fit accepted in
-      let there : In is.met (survey after.core plain) = subst (λ l. In is.met l) (sym (survey_put core pick fit sound)) is.stands in
+      let there : In is.met (survey after.core plain) =
+      subst (λ l. In is.met l) (sym (survey_put core pick fit sound)) is.stands in
       ap (settled_body after) (sym is.number)
-      ∙ settled_body_met after is.met (fit_put core pick fit sound) v.sound (record { rows = v.rows; owners = v.owners }) there
+      ∙ settled_body_met after is.met (fit_put core pick fit sound) v.sound (record {
+        rows = v.rows;
+        owners =
+            v.owners;
+      }) there
 
   -- a live file has the body that is kept
   live_body : (r : Row) → row_at image n ≡ Some r → is.met.body ≡ kept_body image b n
@@ -88,13 +94,15 @@ module _ (s : State) (lib : ℕ) (creds : Creds) (b : Bundle) (n : ℕ) (q : Row
       by_held true e =
           let held : In n b.holds = In-among n b.holds e in
           (held_met s k lib creds b given accepted n r is.met held row is.stands is.number).1
-          ∙ sym (ap (λ o. option_map_or (λ w. w.body) o (settled_body image n)) (unwritten_finds b n (held_unwritten s k lib creds b given accepted n held)))
+          ∙ sym (ap (λ o. option_map_or (λ w. w.body) o (settled_body image n))
+          (unwritten_finds b n (held_unwritten s k lib creds b given accepted n held)))
       by_held false e =
           let unheld : In n b.holds → ⊥ = λ i. false≢true (sym e ∙ among_from n b.holds i) in
           let same : Some q ≡ Some r = sym row_now ∙ unheld_row s k lib creds b given accepted n r row unheld in
           let is_r : q ≡ r = cc same in
           let at : r ≡ row_by is.met is.file.body = sym is_r ∙ is.row in
-          body_kept s k lib b given fit sound is.met r is.stands (ap (row_at image) is.number ∙ row) (ap (λ (x : Row). x.parent) at) (ap (λ (x : Row). x.page) at) (ap (λ (x : Row). x.slot) at)
+          body_kept s k lib b given fit sound is.met r is.stands (ap (row_at image) is.number
+          ∙ row) (ap (λ (x : Row). x.parent) at) (ap (λ (x : Row). x.page) at) (ap (λ (x : Row). x.slot) at)
           ∙ ap (kept_body image b) is.number
 
   -- a new one has the body in its slot
@@ -104,7 +112,8 @@ module _ (s : State) (lib : ℕ) (creds : Creds) (b : Bundle) (n : ℕ) (q : Row
         | inl e ↦
             let root = root_is_met image.core plain k.fit k.verifies.sound in
             let f = read_met image.core plain k.fit k.verifies.sound (root_of image.core) root in
-            let live = row_at_is image.core plain k.fit k.verifies.sound image (tables s k) 1 ∙ row_met image.core plain k.fit k.verifies.sound (root_of image.core) f.0 root f.1 in
+            let live = row_at_is image.core plain k.fit k.verifies.sound image (tables s k) 1
+            ∙ row_met image.core plain k.fit k.verifies.sound (root_of image.core) f.0 root f.1 in
             let one : n ≡ 1 = sym is.number ∙ ap (λ (x : Met). x.ino) e in
             let wrong : None ≡ Some (row_by (root_of image.core) f.0.body) = sym dead ∙ ap (row_at image) one ∙ live in
             absurd (cc wrong)
@@ -117,7 +126,8 @@ module _ (s : State) (lib : ℕ) (creds : Creds) (b : Bundle) (n : ℕ) (q : Row
             let page : q.page ≡ l.page = ap (λ (x : Row). x.page) is.row ∙ ap (λ (x : Met). x.page) c.is in
             let slot : q.slot ≡ l.slot = ap (λ (x : Row). x.slot) is.row ∙ ap (λ (x : Met). x.slot) c.is in
             picked_met pick d.0.ino is.met l c.is
-            ∙ ap (λ o. cond (is_place_of is.met.parent is.met.page is.met.slot o) (kept_body image b is.met.ino) l.body) none
+            ∙ ap (λ o. cond (is_place_of is.met.parent is.met.page is.met.slot o)
+            (kept_body image b is.met.ino) l.body) none
             ∙ pl.body
             ∙ ap (λ o. option_map_or (body_in_slot l.slot) o []) (sym pl.page)
             ∙ ap (λ p. body_at_place core p l.slot) (sym page)
@@ -148,21 +158,29 @@ module _ (s : State) (k : Kept s) (lib n : ℕ) where
   after_fault (Busy holder) q row = refl
   after_fault OutOfMemory q row = refl
 
-  write : (ino : ℕ) (r : Row) → grant_fault s lib ino Write ≡ None → row_at s.home ino ≡ Some r → Stays (opens s (opened s lib ino Write r))
+  write : (ino : ℕ) (r : Row) → grant_fault s lib ino Write ≡ None → row_at s.home ino ≡ Some r
+      → Stays (opens s (opened s lib ino Write r))
   write ino r e at =
       let m0 = live_met s k ino r at in
-      let free : (g : OpenGrant) → In g s.open_grants → g.ino ≡ m0.met.ino → ⊥ = λ g i on. false≢true (sym (excluded_none s lib ino Write e g i (on ∙ m0.number))) in
+      let free : (g : OpenGrant) → In g s.open_grants → g.ino ≡ m0.met.ino → ⊥ =
+      λ g i on. false≢true (sym (excluded_none s lib ino Write e g i (on ∙ m0.number))) in
       let U : ℕ → Row → Type 0 = λ j x. Stays (opens s (opened s lib j Write x)) in
       let a : U m0.met.ino (row_by m0.met m0.file.body) =
-      λ q row. body_still (settled s) (lent_pages_after s k lib m0.met m0.file m0.stands m0.read free) k.fit (lent_fit s k lib m0.met m0.file m0.stands m0.read free) k.verifies (lent_agree s k lib m0.met m0.file m0.stands m0.read free) n q row in
+      λ q row. body_still (settled s) (lent_pages_after s k lib m0.met m0.file m0.stands m0.read free) k.fit
+      (lent_fit s k lib m0.met m0.file m0.stands m0.read free) k.verifies
+      (lent_agree s k lib m0.met m0.file m0.stands m0.read free) n q row in
       subst (λ x. U ino x) (sym m0.row) (subst (λ j. U j (row_by m0.met m0.file.body)) m0.number a)
 
-  granted : (ino : ℕ) (kind : GrantKind) (r : Row) → grant_fault s lib ino kind ≡ None → row_at s.home ino ≡ Some r → Stays (opens s (opened s lib ino kind r))
-  granted ino Read r e at = (let g : OpenGrant = opened s lib ino Read r in same (opens s g) (settled_same s k g refl refl (λ w. cc w)))
-  granted ino Hold r e at = (let g : OpenGrant = opened s lib ino Hold r in same (opens s g) (settled_same s k g refl refl (λ w. cc w)))
+  granted : (ino : ℕ) (kind : GrantKind) (r : Row) → grant_fault s lib ino kind ≡ None → row_at s.home ino ≡ Some r
+      → Stays (opens s (opened s lib ino kind r))
+  granted ino Read r e at = (let g : OpenGrant = opened s lib ino Read r in same (opens s g)
+      (settled_same s k g refl refl (λ w. cc w)))
+  granted ino Hold r e at = (let g : OpenGrant = opened s lib ino Hold r in same (opens s g)
+      (settled_same s k g refl refl (λ w. cc w)))
   granted ino Write r e at = write ino r e at
 
-  grant : (ino : ℕ) (kind : GrantKind) (f : Option GrantFault) (o : Option Row) → grant_fault s lib ino kind ≡ f → row_at s.home ino ≡ o → Stays (granted_to s lib ino kind f o).after
+  grant : (ino : ℕ) (kind : GrantKind) (f : Option GrantFault) (o : Option Row) → grant_fault s lib ino kind ≡ f
+      → row_at s.home ino ≡ o → Stays (granted_to s lib ino kind f o).after
   grant ino kind (Some fault) o e at = after_fault fault
   grant ino kind None None e at = λ q row. refl
   grant ino kind None (Some r) e at = granted ino kind r e at
@@ -170,18 +188,34 @@ module _ (s : State) (k : Kept s) (lib n : ℕ) where
   allot : (count many : ℕ) → Stays (allot_outcome s lib count many).after
   allot count many = either (ltb (length (free_pages s)) count) (ltb (length (free_numbers s)) many)
     where
-      either : (a b : Bool) → Stays (cond {A = Outcome} a (record { answer = NoPages count (length (free_pages s)); after = logged s }) (cond b (record { answer = NoInodes many (length (free_numbers s)); after = logged s }) (record { answer = Given (take count (free_pages s)) (take many (free_numbers s)); after = allots s lib (take count (free_pages s)) (take many (free_numbers s)) }))).after
+      either : (a b : Bool) → Stays (cond {A = Outcome} a (record {
+        answer =
+            NoPages count (length (free_pages s));
+        after = logged s;
+      })
+          (cond b (record { answer = NoInodes many (length (free_numbers s)); after = logged s })
+          (record {
+            answer = Given (take count (free_pages s)) (take many (free_numbers s));
+            after =
+                allots s lib (take count (free_pages s)) (take many (free_numbers s));
+          }))).after
       either true b q row = refl
       either false true q row = refl
       either false false q row =
-          body_still (settled s) (allot_pages s k lib count many) k.fit (allot_fit s k lib count many) k.verifies (allot_agree s k lib count many) n q row
+          body_still (settled s) (allot_pages s k lib count many) k.fit (allot_fit s k lib count many) k.verifies
+          (allot_agree s k lib count many) n q row
 
-  refused : (s' : State) (b : Bundle) (given : GivenTo s lib b) → Closed s lib b → Ends s lib b (refused_image (settled s) b) s' → Stays s'
+  refused : (s' : State) (b : Bundle) (given : GivenTo s lib b) → Closed s lib b
+      → Ends s lib b (refused_image (settled s) b) s' → Stays s'
   refused s' b given closed e q row =
       ap (λ (i : Image). settled_body i n) e.settles
-      ∙ body_still (settled s) (refused_pages s s' k lib b given closed e) k.fit (refused_fit s s' k lib b given closed e) k.verifies (refused_agree s s' k lib b given closed e) n q (sym (ap (λ (i : Image). row_at i n) e.settles) ∙ row)
+      ∙ body_still (settled s) (refused_pages s s' k lib b given closed e) k.fit
+      (refused_fit s s' k lib b given closed e) k.verifies (refused_agree s s' k lib b given closed e) n q
+      (sym (ap (λ (i : Image). row_at i n) e.settles) ∙ row)
 
-  accepted : (s' : State) (b : Bundle) (given : GivenTo s lib b) → is_accepted (settled s) (creds_of s lib) b ≡ true → Ends s lib b (next (settled s) b) s' → (q : Row) → row_at (settled s') n ≡ Some q → settled_body (settled s') n ≡ accepted_body (settled s) b n (row_at (settled s) n) q
+  accepted : (s' : State) (b : Bundle) (given : GivenTo s lib b) → is_accepted (settled s) (creds_of s lib) b ≡ true
+      → Ends s lib b (next (settled s) b) s' → (q : Row) → row_at (settled s') n ≡ Some q
+      → settled_body (settled s') n ≡ accepted_body (settled s) b n (row_at (settled s) n) q
   accepted s' b given t e q row =
       ap (λ (i : Image). settled_body i n) e.settles
       ∙ accepted_goes s lib (creds_of s lib) b n q k given t (sym (ap (λ (i : Image). row_at i n) e.settles) ∙ row)
@@ -193,13 +227,17 @@ module _ (s : State) (k : Kept s) (lib n : ℕ) where
   after_no_mode (ModeBusy holder) q row = refl
   after_no_mode ModeNoMemory q row = refl
 
-  set_mode : (ino mode : ℕ) (r : Row) → row_at s.home ino ≡ Some r → mode_fault s lib ino mode (Some r) ≡ None → (q : Row) → row_at (moded s.home ino mode) n ≡ Some q → settled_body (settled (record s { home = moded s.home ino mode })) n ≡ cond (eqb n ino) (with_mode mode (settled_body (settled s) n)) (settled_body (settled s) n)
+  set_mode : (ino mode : ℕ) (r : Row) → row_at s.home ino ≡ Some r → mode_fault s lib ino mode (Some r) ≡ None
+      → (q : Row) → row_at (moded s.home ino mode) n ≡ Some q
+      → settled_body (settled (record s { home = moded s.home ino mode })) n
+      ≡ cond (eqb n ino) (with_mode mode (settled_body (settled s) n)) (settled_body (settled s) n)
   set_mode ino mode r at e q row =
       let may = may_change s lib ino mode r e in
       ap (λ (i : Image). settled_body i n) (settled_moded s k ino mode r at may.small may.other may.free)
       ∙ by_own (eqb n ino) refl
     where
-      by_own : (b : Bool) → eqb n ino ≡ b → settled_body (moded (settled s) ino mode) n ≡ cond b (with_mode mode (settled_body (settled s) n)) (settled_body (settled s) n)
+      by_own : (b : Bool) → eqb n ino ≡ b → settled_body (moded (settled s) ino mode) n
+          ≡ cond b (with_mode mode (settled_body (settled s) n)) (settled_body (settled s) n)
       by_own true own =
           let may = may_change s lib ino mode r e in
           let is_n : n ≡ ino = eqb-true n ino own in
@@ -209,24 +247,30 @@ module _ (s : State) (k : Kept s) (lib n : ℕ) where
       by_own false differs =
           let may = may_change s lib ino mode r e in
           let apart : n ≡ ino → ⊥ = eqb-false n ino differs in
-          let was : row_at (settled s) n ≡ Some q = sym (get_or-set_other s.home.rows ino n (moded_row mode (row_at s.home ino)) None apart) ∙ row in
+          let was : row_at (settled s) n ≡ Some q = sym
+          (get_or-set_other s.home.rows ino n (moded_row mode (row_at s.home ino)) None apart) ∙ row in
           mode_body_other (settled s) ino mode r k.fit k.verifies at may.small may.other n q was apart
 
   abbrev Goes : Event → Answer → State → Type 0
-  Goes event answer x = (q : Row) → row_at (settled x) n ≡ Some q → settled_body (settled x) n ≡ body_after s event answer n q
+  Goes event answer x = (q : Row) → row_at (settled x) n ≡ Some q
+      → settled_body (settled x) n ≡ body_after s event answer n q
 
-  moding : (ino mode : ℕ) (o : Option Row) (f : Option ModeFault) → row_at s.home ino ≡ o → mode_fault s lib ino mode o ≡ f → Goes (SetMode lib ino mode) (moded_to s ino mode f).answer (moded_to s ino mode f).after
+  moding : (ino mode : ℕ) (o : Option Row) (f : Option ModeFault) → row_at s.home ino ≡ o
+      → mode_fault s lib ino mode o ≡ f → Goes (SetMode lib ino mode) (moded_to s ino mode f).answer
+      (moded_to s ino mode f).after
   moding ino mode o (Some fault) at e = after_no_mode fault
   moding ino mode None None at e = absurd cc
   moding ino mode (Some r) None at e = set_mode ino mode r at e
 
-  release : (s' : State) (b : Bundle) (answer : Answer) → GivenTo s lib b → ReleaseEnd s lib b answer s' → Goes (Release lib b) answer s'
+  release : (s' : State) (b : Bundle) (answer : Answer) → GivenTo s lib b → ReleaseEnd s lib b answer s'
+      → Goes (Release lib b) answer s'
   release s' b answer given (Parted m some e is) q row =
       ap (λ (x : State). settled_body (settled x) n) is ∙ ap (λ a. body_after s (Release lib b) a n q) (sym e)
   release s' b answer given (IsAccepted closed t e ends) q row =
       accepted s' b given t ends q row ∙ ap (λ a. body_after s (Release lib b) a n q) (sym e)
   release s' b answer given (IsRefused closed f e ends) q row =
-      refused s' b given (closed_unparted s lib b closed) ends q row ∙ ap (λ a. body_after s (Release lib b) a n q) (sym e)
+      refused s' b given (closed_unparted s lib b closed) ends q row
+      ∙ ap (λ a. body_after s (Release lib b) a n q) (sym e)
 
 -- want of memory changes nothing
 no_step : (s : State) (event : Event) (n : ℕ) (q : Row) → settled_body (settled s) n ≡ body_after s event NoMemory n q
@@ -239,13 +283,16 @@ no_step s (SetMode lib ino mode) n q = refl
 
 pub settled_body_goes : SettledBodyGoes
 settled_body_goes s event answer s' n q k given (inr none) row =
-    ap (λ (x : State). settled_body (settled x) n) none.2 ∙ no_step s event n q ∙ ap (λ a. body_after s event a n q) (sym none.1)
+    ap (λ (x : State). settled_body (settled x) n) none.2 ∙ no_step s event n q
+    ∙ ap (λ a. body_after s event a n q) (sym none.1)
 settled_body_goes s (Grant lib ino kind) answer s' n q k given (inl does) row =
-    subst (Stays s k lib n) (sym does.1) (grant s k lib n ino kind (grant_fault s lib ino kind) (row_at s.home ino) refl refl) q row
+    subst (Stays s k lib n) (sym does.1) (grant s k lib n ino kind (grant_fault s lib ino kind)
+    (row_at s.home ino) refl refl) q row
 settled_body_goes s (Allot lib count many) answer s' n q k given (inl does) row =
     subst (Stays s k lib n) (sym does.1) (allot s k lib n count many) q row
 settled_body_goes s (Back lib ino) answer s' n q k given (inl does) row =
-    ap (λ (x : State). settled_body (settled x) n) does.1 ∙ ap (λ (i : Image). settled_body i n) (settled_back s k lib ino)
+    ap (λ (x : State). settled_body (settled x) n) does.1
+    ∙ ap (λ (i : Image). settled_body i n) (settled_back s k lib ino)
 settled_body_goes s (Release lib b) answer s' n q k given (inl does) row =
     release s k lib n s' b answer given (release_end s s' lib b answer does) q row
 settled_body_goes s (Settle lib b) answer s' n q k given (inl does) row =
@@ -253,4 +300,5 @@ settled_body_goes s (Settle lib b) answer s' n q k given (inl does) row =
 settled_body_goes s (SetMode lib ino mode) answer s' n q k given (inl does) row =
     let G : Answer → State → Type 0 = Goes s k lib n (SetMode lib ino mode) in
     let a = moding s k lib n ino mode (row_at s.home ino) (mode_fault s lib ino mode (row_at s.home ino)) refl refl in
-    subst (λ x. G x s') (sym does.0) (subst (G (moded_to s ino mode (mode_fault s lib ino mode (row_at s.home ino))).answer) (sym does.1) a) q row
+    subst (λ x. G x s') (sym does.0)
+    (subst (G (moded_to s ino mode (mode_fault s lib ino mode (row_at s.home ino))).answer) (sym does.1) a) q row

@@ -15,8 +15,8 @@ use Rattle.trio_state.specs.Kept.{Kept}
 use Rattle.trio_state.specs.Given.{GivenTo, GivenEvent}
 use Rattle.trio_laws.specs.Laws.{entry_only, plain_pages}
 
--- The file of a number has the same content in both images, at whichever place: its kind, body and chain, the same bytes in
--- each page without slots and, in a directory, the same entries but for the bodies of its children.
+-- The file of a number has the same content in both images, at whichever place: its kind, body and chain, the same
+-- bytes in each page without slots and, in a directory, the same entries but for the bodies of its children.
 pub record HasSameContent (before after : Image) (n : ℕ) : Type 0 where
   pub met_was : Met
   pub met_is : Met
@@ -45,8 +45,8 @@ HeldFilesKeepContent =
     → row_at s.home n ≡ Some r → IsTrue (is_among n b.holds) → row_at (next (settled s) b) n ≡ Some q
     → HasSameContent (settled s) (next (settled s) b) n
 
--- The body that is settled of a file once a bundle is accepted: of one that was live, the body of its write lease, where that is
--- in the bundle, or else its settled one; of a new one, with this row, the body in its slot as it was handed in.
+-- The body that is settled of a file once a bundle is accepted: of one that was live, the body of its write lease, where
+-- that is in the bundle, or else its settled one; of a new one, with this row, the body in its slot as it was handed in.
 abbrev pub accepted_body : Image → Bundle → ℕ → Option Row → Row → List ℕ
 accepted_body image b n (Some r) q = kept_body image b n
 accepted_body image b n None q = body_at_place (proposed image b) q.page q.slot

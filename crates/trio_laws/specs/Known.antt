@@ -15,8 +15,8 @@ use Rattle.trio_state.specs.Step.{Event, Grant, Allot, Back, Release, Settle, Se
 use Rattle.trio_state.specs.Kept.{Kept}
 use Rattle.trio_laws.specs.OutLaws.{without_checkpoint}
 
--- What is determined of a state: the settled image, the open grants without their checkpoints, and what is out, with the
--- credentials and the count of entries. How the settled image lies at home and in the checkpoints is not.
+-- What is determined of a state: the settled image, the open grants without their checkpoints, and what is out, with
+-- the credentials and the count of entries. How the settled image lies at home and in the checkpoints is not.
 pub record Known : Type 0 where
   pub image : Image
   pub grants : List OpenGrant
@@ -93,8 +93,10 @@ StepsAreKnown =
 -- what is asked of a state in a step goes by what is known of it
 pub record GoesByKnown (s : State) : Type 0 where
   pub image : settled (plain_state (known s)) ≡ settled s
-  pub grant_faults : (lib ino : ℕ) (kind : GrantKind) → grant_fault (plain_state (known s)) lib ino kind ≡ grant_fault s lib ino kind
-  pub openings : (lib ino : ℕ) (kind : GrantKind) (r : Row) → opened (plain_state (known s)) lib ino kind r ≡ opened s lib ino kind r
+  pub grant_faults : (lib ino : ℕ) (kind : GrantKind)
+      → grant_fault (plain_state (known s)) lib ino kind ≡ grant_fault s lib ino kind
+  pub openings : (lib ino : ℕ) (kind : GrantKind) (r : Row)
+      → opened (plain_state (known s)) lib ino kind r ≡ opened s lib ino kind r
   pub free_pages : free_pages (plain_state (known s)) ≡ free_pages s
   pub free_numbers : free_numbers (plain_state (known s)) ≡ free_numbers s
   pub parted : (lib : ℕ) (b : Bundle) → parted_hold (plain_state (known s)) lib b ≡ parted_hold s lib b
@@ -112,7 +114,8 @@ is_refusal _ = false
 abbrev pub SameAnswer : Answer → Answer → Type 0
 SameAnswer a b = (a ≡ b) ⊎ (IsTrue (is_refusal a) × IsTrue (is_refusal b))
 
--- From two states of which the same is known, an event has the same answer, where memory is there, and the same is known then.
+-- From two states of which the same is known, an event has the same answer, where memory is there, and the same is
+-- known then.
 abbrev pub SameEventSameAnswer : Type 0
 SameEventSameAnswer =
     (s t : State) (event : Event) (a b : Answer) (s' t' : State)

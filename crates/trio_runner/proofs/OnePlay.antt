@@ -54,11 +54,14 @@ end_some : (a : Answer) (end : EndAnswer) → end_of a ≡ Some end → a ≢ No
 end_some a end is e = (let wrong : None ≡ Some end = sym (ap end_of e) ∙ is in cc wrong)
 
 -- what a granted file lends goes by what is known
-has_lent_plain : (lib : ℕ) (s : State) (has : Has) (ino : ℕ) (o : Option Row) → has_lent lib (plain_state (known s)) has ino o ≡ has_lent lib s has ino o
+has_lent_plain : (lib : ℕ) (s : State) (has : Has) (ino : ℕ) (o : Option Row)
+    → has_lent lib (plain_state (known s)) has ino o ≡ has_lent lib s has ino o
 has_lent_plain lib s has ino None = refl
-has_lent_plain lib s has ino (Some r) = ap (λ (g : OpenGrant). with_lent has (lent_file g)) ((known_decides s).openings lib ino Write r)
+has_lent_plain lib s has ino (Some r) = ap (λ (g : OpenGrant). with_lent has (lent_file g))
+    ((known_decides s).openings lib ino Write r)
 
-has_after_plain : (lib : ℕ) (s : State) (has : Has) (said : Said) (a : Answer) → has_after lib (plain_state (known s)) has said a ≡ has_after lib s has said a
+has_after_plain : (lib : ℕ) (s : State) (has : Has) (said : Said) (a : Answer)
+    → has_after lib (plain_state (known s)) has said a ≡ has_after lib s has said a
 has_after_plain lib s has (allot pages numbers) a = refl
 has_after_plain lib s has (poke at offset bytes) a = refl
 has_after_plain lib s has (release inos pages numbers) a = refl
@@ -76,7 +79,8 @@ has_after_plain lib s has (grant_write ino) ModeSet = refl
 has_after_plain lib s has (grant_write ino) (NotModeSet fault) = refl
 has_after_plain lib s has (grant_write ino) NoMemory = refl
 
-has_after_same : (lib : ℕ) (p q : Player) (said : Said) (a b : Answer) → Alike p q → a ≡ b → has_after lib p.state p.has said a ≡ has_after lib q.state q.has said b
+has_after_same : (lib : ℕ) (p q : Player) (said : Said) (a b : Answer) → Alike p q → a ≡ b
+    → has_after lib p.state p.has said a ≡ has_after lib q.state q.has said b
 has_after_same lib p q said a b like e =
     sym (has_after_plain lib p.state p.has said a)
     ∙ ap (λ k. has_after lib (plain_state k) p.has said a) like.known_same
@@ -89,7 +93,9 @@ record OneLine (told told' : Told) (p' q' : Player) : Type 0 where
   one_told : told ≡ told'
   alike : Alike p' q'
 
-one_line : (lib : ℕ) (p q : Player) (said : Said) (told told' : Told) (moves moves' : List Moved) (p' q' : Player) → Stands lib p → Stands lib q → Alike p q → PlaysLine lib p said told moves p' → PlaysLine lib q said told' moves' q' → OneLine told told' p' q'
+one_line : (lib : ℕ) (p q : Player) (said : Said) (told told' : Told) (moves moves' : List Moved) (p' q' : Player)
+    → Stands lib p → Stands lib q → Alike p q → PlaysLine lib p said told moves p'
+    → PlaysLine lib q said told' moves' q' → OneLine told told' p' q'
 one_line lib p q said told told' moves moves' p' q' h k like one two =
     by_ends (line_end lib p said told moves p' h.in_hand one) (line_end lib q said told' moves' q' k.in_hand two)
   where
@@ -104,18 +110,23 @@ one_line lib p q said told told' moves moves' p' q' h k like one two =
         has_same = a.has ∙ ap (λ x. has_alone x said) like.has_same ∙ sym b.has;
       };
     }
-    by_ends (IsAlone e a) (IsAsked event f given b) = (let wrong : None ≡ Some event = sym e ∙ events ∙ f in absurd (cc wrong))
-    by_ends (IsAsked event e given a) (IsAlone f b) = (let wrong : Some event ≡ None = sym e ∙ events ∙ f in absurd (cc wrong))
+    by_ends (IsAlone e a) (IsAsked event f given b) =
+        (let wrong : None ≡ Some event = sym e ∙ events ∙ f in absurd (cc wrong))
+    by_ends (IsAsked event e given a) (IsAlone f b) =
+        (let wrong : Some event ≡ None = sym e ∙ events ∙ f in absurd (cc wrong))
     by_ends (IsAsked event e given a) (IsAsked event' f given' b) =
         let same : Some event' ≡ Some event = sym f ∙ sym events ∙ e in
         let one_event : event' ≡ event = cc same in
-        let step : Step q.state event b.answer q'.state = subst (λ x. Step q.state x b.answer q'.state) one_event b.step in
-        let r = same_event_same_answer p.state q.state event a.answer b.answer p'.state q'.state h.kept k.kept like.known_same a.step step (told_some a.answer told a.told_is) (told_some b.answer told' b.told_is) in
+        let step : Step q.state event b.answer q'.state =
+            subst (λ x. Step q.state x b.answer q'.state) one_event b.step in
+        let r = same_event_same_answer p.state q.state event a.answer b.answer p'.state q'.state h.kept k.kept
+            like.known_same a.step step (told_some a.answer told a.told_is) (told_some b.answer told' b.told_is) in
         let answers : a.answer ≡ b.answer = one_answer a.answer b.answer r.0 in
         let tolds : Some told ≡ Some told' = sym a.told_is ∙ ap told_of answers ∙ b.told_is in
         record {
           one_told = cc tolds;
-          alike = record { known_same = r.1; has_same = a.has ∙ has_after_same lib p q said a.answer b.answer like answers ∙ sym b.has };
+          alike = record { known_same = r.1; has_same = a.has
+              ∙ has_after_same lib p q said a.answer b.answer like answers ∙ sym b.has };
         }
 
 -- lines, one after another
@@ -125,11 +136,14 @@ record OnePart (lib : ℕ) (tolds tolds' : List Told) (p' q' : Player) : Type 0 
   stands : Stands lib p'
   stands' : Stands lib q'
 
-one_part : (lib : ℕ) (p q : Player) (lines : List SaidLine) (tolds tolds' : List Told) (moves moves' : List Moved) (p' q' : Player) → Stands lib p → Stands lib q → Alike p q → Plays lib p lines tolds moves p' → Plays lib q lines tolds' moves' q' → OnePart lib tolds tolds' p' q'
+one_part : (lib : ℕ) (p q : Player) (lines : List SaidLine) (tolds tolds' : List Told) (moves moves' : List Moved)
+    (p' q' : Player) → Stands lib p → Stands lib q → Alike p q → Plays lib p lines tolds moves p'
+    → Plays lib q lines tolds' moves' q' → OnePart lib tolds tolds' p' q'
 one_part lib p q [] [] [] moves moves' p' q' h k like one two = record {
   one_told = refl;
   alike = record {
-    known_same = ap (λ (x : Player). known x.state) one.1 ∙ like.known_same ∙ sym (ap (λ (x : Player). known x.state) two.1);
+    known_same = ap (λ (x : Player). known x.state) one.1 ∙ like.known_same
+        ∙ sym (ap (λ (x : Player). known x.state) two.1);
     has_same = ap (λ (x : Player). x.has) one.1 ∙ like.has_same ∙ sym (ap (λ (x : Player). x.has) two.1);
   };
   stands = subst (Stands lib) (sym one.1) h;
@@ -142,7 +156,9 @@ one_part lib p q (l ∷ lines) (t ∷ ts) [] moves moves' p' q' h k like one two
 one_part lib p q (l ∷ lines) (t ∷ ts) (u ∷ us) moves moves' p' q' h k like one two =
     let first = one_line lib p q l.said t u one.first two.first one.middle two.middle h k like one.line two.line in
     let rest =
-    one_part lib one.middle two.middle lines ts us one.others two.others p' q' (line_stands lib p l.said t one.first one.middle h one.line) (line_stands lib q l.said u two.first two.middle k two.line) first.alike one.rest two.rest in
+    one_part lib one.middle two.middle lines ts us one.others two.others p' q'
+        (line_stands lib p l.said t one.first one.middle h one.line)
+        (line_stands lib q l.said u two.first two.middle k two.line) first.alike one.rest two.rest in
     record {
       one_told = ap (λ x. x ∷ ts) first.one_told ∙ ap (λ l. u ∷ l) rest.one_told;
       alike = rest.alike;
@@ -156,7 +172,8 @@ record OneEnd (end end' : EndAnswer) (p' q' : Player) : Type 0 where
   known_same : known p'.state ≡ known q'.state
 
 -- the end, by whether the library has something
-end_by : (lib : ℕ) (p : Player) (end : EndAnswer) (moves : List Moved) (p' : Player) → PlaysEnd lib p end moves p' → ((is_nothing p.has ≡ true) × EndsAlone p end moves p') ⊎ ((is_nothing p.has ≡ false) × EndsAll lib p end moves p')
+end_by : (lib : ℕ) (p : Player) (end : EndAnswer) (moves : List Moved) (p' : Player) → PlaysEnd lib p end moves p'
+    → ((is_nothing p.has ≡ true) × EndsAlone p end moves p') ⊎ ((is_nothing p.has ≡ false) × EndsAll lib p end moves p')
 end_by lib p end moves p' plays =
     let Yes : Type 0 = EndsAlone p end moves p' in
     let No : Type 0 = EndsAll lib p end moves p' in
@@ -165,26 +182,34 @@ end_by lib p end moves p' plays =
       | inr f ↦ inr (f, MatchBool-at_false Yes No f plays)
     ]
 
-one_end_of : (lib : ℕ) (p q : Player) (end end' : EndAnswer) (moves moves' : List Moved) (p' q' : Player) → Stands lib p → Stands lib q → Alike p q → EndsAll lib p end moves p' → EndsAll lib q end' moves' q' → OneEnd end end' p' q'
+one_end_of : (lib : ℕ) (p q : Player) (end end' : EndAnswer) (moves moves' : List Moved) (p' q' : Player)
+    → Stands lib p → Stands lib q → Alike p q → EndsAll lib p end moves p' → EndsAll lib q end' moves' q'
+    → OneEnd end end' p' q'
 one_end_of lib p q end end' moves moves' p' q' h k like a b =
     let event : Event = Release lib (whole_bundle p.has) in
     let step : Step q.state event b.answer q'.state =
     subst (λ x. Step q.state (Release lib (whole_bundle x)) b.answer q'.state) (sym like.has_same) b.step in
-    let r = same_event_same_answer p.state q.state event a.answer b.answer p'.state q'.state h.kept k.kept like.known_same a.step step (end_some a.answer end a.end_is) (end_some b.answer end' b.end_is) in
+    let r = same_event_same_answer p.state q.state event a.answer b.answer p'.state q'.state h.kept k.kept
+        like.known_same a.step step (end_some a.answer end a.end_is) (end_some b.answer end' b.end_is) in
     let ends : Some end ≡ Some end' = sym a.end_is ∙ ap end_of (one_answer a.answer b.answer r.0) ∙ b.end_is in
     record { one_end = cc ends; known_same = r.1 }
 
-one_end : (lib : ℕ) (p q : Player) (end end' : EndAnswer) (moves moves' : List Moved) (p' q' : Player) → Stands lib p → Stands lib q → Alike p q → PlaysEnd lib p end moves p' → PlaysEnd lib q end' moves' q' → OneEnd end end' p' q'
+one_end : (lib : ℕ) (p q : Player) (end end' : EndAnswer) (moves moves' : List Moved) (p' q' : Player) → Stands lib p
+    → Stands lib q → Alike p q → PlaysEnd lib p end moves p' → PlaysEnd lib q end' moves' q' → OneEnd end end' p' q'
 one_end lib p q end end' moves moves' p' q' h k like one two =
     by_ends (end_by lib p end moves p' one) (end_by lib q end' moves' q' two)
   where
     there : is_nothing p.has ≡ is_nothing q.has
     there = ap is_nothing like.has_same
 
-    by_ends : ((is_nothing p.has ≡ true) × EndsAlone p end moves p') ⊎ ((is_nothing p.has ≡ false) × EndsAll lib p end moves p') → ((is_nothing q.has ≡ true) × EndsAlone q end' moves' q') ⊎ ((is_nothing q.has ≡ false) × EndsAll lib q end' moves' q') → OneEnd end end' p' q'
+    by_ends : ((is_nothing p.has ≡ true) × EndsAlone p end moves p')
+        ⊎ ((is_nothing p.has ≡ false) × EndsAll lib p end moves p')
+        → ((is_nothing q.has ≡ true) × EndsAlone q end' moves' q')
+        ⊎ ((is_nothing q.has ≡ false) × EndsAll lib q end' moves' q') → OneEnd end end' p' q'
     by_ends (inl a) (inl b) = record {
       one_end = a.1.end_is ∙ sym b.1.end_is;
-      known_same = ap (λ (x : Player). known x.state) a.1.same ∙ like.known_same ∙ sym (ap (λ (x : Player). known x.state) b.1.same);
+      known_same = ap (λ (x : Player). known x.state) a.1.same ∙ like.known_same
+          ∙ sym (ap (λ (x : Player). known x.state) b.1.same);
     }
     by_ends (inl a) (inr b) = absurd (false≢true (sym b.0 ∙ sym there ∙ a.0))
     by_ends (inr a) (inl b) = absurd (false≢true (sym a.0 ∙ there ∙ b.0))
@@ -195,6 +220,8 @@ played_is_one image creds lines a b fit verifies whole =
     let first = at_start image creds in
     let begins = start_stands image creds fit verifies whole in
     let part =
-    one_part 1 first first lines a.tolds b.tolds a.line_moves b.line_moves a.middle b.middle begins begins (record { known_same = refl; has_same = refl }) a.lines_are b.lines_are in
-    let last = one_end 1 a.middle b.middle a.end b.end a.end_moves b.end_moves a.last b.last part.stands part.stands' part.alike a.end_is b.end_is in
+    one_part 1 first first lines a.tolds b.tolds a.line_moves b.line_moves a.middle b.middle begins begins
+        (record { known_same = refl; has_same = refl }) a.lines_are b.lines_are in
+    let last = one_end 1 a.middle b.middle a.end b.end a.end_moves b.end_moves a.last b.last part.stands part.stands'
+        part.alike a.end_is b.end_is in
     record { tolds = part.one_told; end = last.one_end; settles = ap (λ (k : Known). k.image) last.known_same }

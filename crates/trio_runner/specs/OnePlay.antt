@@ -9,7 +9,8 @@ use Rattle.trio_script.specs.Script.{SaidLine}
 use Rattle.trio_runner.specs.Play.{Played}
 
 -- two plays come to the same: what each line is told, the end, and the image that is settled then
-pub record ComeToOne {image : Image} {creds : List Creds} {lines : List SaidLine} (a b : Played image creds lines) : Type 0 where
+pub record ComeToOne {image : Image} {creds : List Creds} {lines : List SaidLine}
+    (a b : Played image creds lines) : Type 0 where
   pub tolds : a.tolds ≡ b.tolds
   pub end : a.end ≡ b.end
   pub settles : settled a.last.state ≡ settled b.last.state
