@@ -1,5 +1,5 @@
 -- A held file that stays or moves keeps its content.
-use Rattle.std.proofs.Common.{◌≡◌, ℕ, true, List, ◌++◌, Option, Some, Ok, sym, refl, ap, ◌∙◌, subst}
+use Rattle.std.proofs.Common.{◌≡◌, ℕ, true, ◌++◌, Some, Ok, sym, refl, ap, ◌∙◌, subst}
 use Rattle.std.specs.Prelude.{map}
 use Rattle.trio_rights.specs.declared.kind.Kind.{Kind}
 use Rattle.trio_rights.specs.declared.rights.Creds.{Creds}
@@ -8,7 +8,7 @@ use Rattle.trio_layout.specs.Lists.{In}
 use Rattle.trio_layout.specs.Core.{Core, page_of}
 use Rattle.trio_layout.specs.Body.{body_of}
 use Rattle.trio_layout.specs.Entries.{entries_of_kind}
-use Rattle.trio_layout.specs.Survey.{Met, Pick, plain, FileRead, file_of, survey, pages_of}
+use Rattle.trio_layout.specs.Survey.{Pick, plain, file_of, survey}
 use Rattle.trio_layout.specs.Sound.{is_sound}
 use Rattle.trio_state.specs.Image.{Image, IsFit, row_at, settled_body}
 use Rattle.trio_state.specs.State.{State, settled}

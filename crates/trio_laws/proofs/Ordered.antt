@@ -1,10 +1,9 @@
 -- Open grants stand in the order of their entries.
-use Rattle.std.proofs.Common.{◌≡◌, ℕ, ◌+◌, ◌<◌, ◌≤◌, zero, suc, Bool, true, false, cond, ◌&&◌, not, eqb, ltb, List, [], ◌∷◌, ◌++◌, length, get_or, take, Option, Some, None, slice_get, sym, refl, ap, ◌∙◌, subst, inl, inr, arith}
+use Rattle.std.proofs.Common.{◌≡◌, ℕ, ◌<◌, ◌≤◌, zero, suc, Bool, true, false, cond, ◌&&◌, not, eqb, ltb, List, [], ◌∷◌, length, get_or, take, Option, Some, None, slice_get, sym, refl, ap, subst, inl, inr, arith}
 use Rattle.std.specs.Prelude.{AllPairs}
 use Rattle.std.specs.List.{filter}
 use Rattle.std.proofs.lemmas.List.Kept.{AllPairs-filter}
 use Rattle.std.proofs.lemmas.List.Quantifiers.{all_pairs_push}
-use Rattle.trio_rights.specs.declared.rights.Creds.{Creds}
 use Rattle.trio_rights.specs.Row.{Row}
 use Rattle.trio_nodes.specs.declared.grant.GrantKind.{GrantKind}
 use Rattle.trio_nodes.specs.declared.answers.GrantFault.{GrantFault}
@@ -18,7 +17,7 @@ use Rattle.trio_state.specs.Proposed.{Bundle}
 use Rattle.trio_state.specs.Grants.{grant_fault, opened, opens, given_back}
 use Rattle.trio_state.specs.Allotments.{free_pages, free_numbers, allots}
 use Rattle.trio_state.specs.Bundles.{is_in_bundle, lent_part, grants_after, Ends}
-use Rattle.trio_state.specs.Step.{Event, Grant, Allot, Back, Release, Settle, SetMode, Answer, NoPages, NoInodes, Given, Outcome, Step, after_grant_fault, granted_to, allot_outcome, mode_fault, after_mode_fault, moded_to}
+use Rattle.trio_state.specs.Step.{Event, Grant, Allot, Back, Release, Settle, SetMode, Answer, NoPages, NoInodes, Given, Outcome, after_grant_fault, granted_to, allot_outcome, mode_fault, after_mode_fault, moded_to}
 use Rattle.trio_state.specs.Run.{start, Trace}
 use Rattle.trio_laws.specs.GrantLaws.{CameBefore, IsOrdered, OrderBegins, OrderStays, GrantsAreOrdered, FirstIsLowest}
 use Rattle.trio_laws.proofs.Members.{In-cases, In-map, map_from}

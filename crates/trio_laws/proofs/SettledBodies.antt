@@ -1,7 +1,7 @@
 -- What becomes of the settled body of a file in each step.
-use Rattle.std.proofs.Common.{◌≡◌, ◌≢◌, ℕ, Bool, true, false, cond, eqb, ltb, ◌&&◌, [], ◌++◌, length, take, Option, Some, None, slice_get, sym, refl, ap, ◌∙◌, subst, inl, inr, ◌⊎◌}
+use Rattle.std.proofs.Common.{◌≡◌, ℕ, Bool, true, false, cond, eqb, ltb, [], length, take, Option, Some, None, sym, refl, ap, ◌∙◌, subst, inl, inr}
 use Rattle.std.specs.Option.{option_map_or}
-use Rattle.std.proofs.lemmas.Bool.{cases_Bool, eqb-true, eqb-false, eq-eqb, false≢true, ne_eqb}
+use Rattle.std.proofs.lemmas.Bool.{eqb-true, eqb-false, false≢true}
 use Rattle.std.proofs.lemmas.List.{get_or-set_other}
 use Rattle.trio_rights.specs.declared.rights.Creds.{Creds}
 use Rattle.trio_rights.specs.Row.{Row}
@@ -12,7 +12,7 @@ use Rattle.trio_nodes.specs.declared.answers.GrantFault.TheVariants.{NotLive, De
 use Rattle.trio_nodes.specs.declared.answers.ModeFault.{ModeFault}
 use Rattle.trio_nodes.specs.declared.answers.ModeFault.TheVariants.{NotLive as ModeNotLive, NotOwner, BadMode, Busy as ModeBusy, NoMemory as ModeNoMemory}
 use Rattle.trio_layout.specs.Lists.{In, is_among}
-use Rattle.trio_layout.specs.Core.{Core, page_of}
+use Rattle.trio_layout.specs.Core.{Core}
 use Rattle.trio_layout.specs.Entries.{body_in_slot}
 use Rattle.trio_layout.specs.Survey.{Met, Pick, plain, survey, children, root_of, row_by, row_of}
 use Rattle.trio_layout.specs.Sound.{is_sound}
@@ -21,17 +21,17 @@ use Rattle.trio_state.specs.State.{OpenGrant, State, settled, creds_of, logged}
 use Rattle.trio_state.specs.Proposed.{Bundle, is_place_of, kept_body, proposed, proposed_pick}
 use Rattle.trio_state.specs.Accept.{is_accepted, next}
 use Rattle.trio_state.specs.Mode.{with_mode, moded, moded_row}
-use Rattle.trio_state.specs.Grants.{grant_fault, opened, opens, given_back}
+use Rattle.trio_state.specs.Grants.{grant_fault, opened, opens}
 use Rattle.trio_state.specs.Allotments.{free_pages, free_numbers, allots}
 use Rattle.trio_state.specs.Bundles.{refused_image, Ends}
-use Rattle.trio_state.specs.Step.{Event, Grant, Allot, Back, Release, Settle, SetMode, Answer, NoPages, NoInodes, Given, Accepted, Refused, NotClosed, Settled, ModeSet, NoMemory, Outcome, Step, after_grant_fault, granted_to, allot_outcome, mode_fault, after_mode_fault, moded_to}
+use Rattle.trio_state.specs.Step.{Event, Grant, Allot, Back, Release, Settle, SetMode, Answer, NoPages, NoInodes, Given, NoMemory, Outcome, after_grant_fault, granted_to, allot_outcome, mode_fault, after_mode_fault, moded_to}
 use Rattle.trio_state.specs.Kept.{Kept}
 use Rattle.trio_state.specs.Given.{GivenTo}
 use Rattle.trio_laws.specs.ContentLaws.{accepted_body, body_after, SettledBodyGoes}
 use Rattle.trio_laws.proofs.Members.{flat_from, In-among, among_from}
 use Rattle.trio_laws.proofs.Tree.{child_from, child_placed}
 use Rattle.trio_laws.proofs.Picked.{survey_put}
-use Rattle.trio_laws.proofs.Images.{TablesOf, MetAt, met_row, row_at_is, row_met, read_met, root_is_met, root_or_listed, settled_body_met, one_met}
+use Rattle.trio_laws.proofs.Images.{MetAt, met_row, row_at_is, row_met, read_met, root_is_met, root_or_listed, settled_body_met}
 use Rattle.trio_laws.proofs.Accepted.{accepted_verifies, fit_put}
 use Rattle.trio_laws.proofs.Agreeing.{body_still}
 use Rattle.trio_laws.proofs.StateFacts.{tables, live_met}
