@@ -60,7 +60,7 @@ in_filter p x (z ∷ zs) i e = in_filter_case p x z zs (p z) refl e (λ j. in_fi
 cases_le : (j n : ℕ) → (j ≤ n) ⊎ (n < j)
 cases_le j n = elim (cases_lt n j) [ inl l ↦ inr l | inr g ↦ inl g ]
 
-picked_met : (pick : Pick) (d : ℕ) (m : Met) (l : Listed) → m ≡ met_in pick d l → m.body ≡ pick m.parent m.page m.slot m.ino l.body
+pub picked_met : (pick : Pick) (d : ℕ) (m : Met) (l : Listed) → m ≡ met_in pick d l → m.body ≡ pick m.parent m.page m.slot m.ino l.body
 picked_met pick d m l e =
     let P : Met → Type 0 = λ x. x.body ≡ pick x.parent x.page x.slot x.ino l.body in
     let there : (met_in pick d l).body ≡ pick d l.page l.slot l.entry.ino l.body = refl in
@@ -258,15 +258,13 @@ module _ (s : State) (k : Kept s) (lib : ℕ) (b : Bundle) (given : GivenTo s li
       (λ p j. page_kept p (λ c. unwritten_apart m0 p i un (subst (λ l. In p l) (sym (pages_are core m0 f0 e0)) (In-left p f0.chain.index f0.chain.blocks j)) c)) in
       ok_one (chain_of (proposed (settled s) b) f.body) f.chain f0.chain r.chain (ap (chain_of (proposed (settled s) b)) same ∙ now)
 
-  -- the bodies that the survey of the proposed core meets
-  pub body_picked : IsFit (proposed (settled s) b) → is_sound (proposed (settled s) b) (proposed_pick (settled s) b) ≡ true → (m : Met) (r : Row) → In m (survey (proposed (settled s) b) (proposed_pick (settled s) b)) → row_at (settled s) m.ino ≡ Some r → r.parent ≡ m.parent → r.page ≡ m.page → r.slot ≡ m.slot → Unwritten b m.ino → m.body ≡ settled_body (settled s) m.ino
-  body_picked fit sound m r i row parent page slot un =
+  -- a live file that is met where its row names has the body that is kept
+  pub body_kept : IsFit (proposed (settled s) b) → is_sound (proposed (settled s) b) (proposed_pick (settled s) b) ≡ true → (m : Met) (r : Row) → In m (survey (proposed (settled s) b) (proposed_pick (settled s) b)) → row_at (settled s) m.ino ≡ Some r → r.parent ≡ m.parent → r.page ≡ m.page → r.slot ≡ m.slot → m.body ≡ kept_body (settled s) b m.ino
+  body_kept fit sound m r i row parent page slot =
       let core : Core = proposed (settled s) b in
       let pick : Pick = proposed_pick (settled s) b in
-      let keeps : kept_body (settled s) b m.ino ≡ settled_body (settled s) m.ino =
-      ap (λ o. option_map_or (λ (w : Written). w.body) o (settled_body (settled s) m.ino)) (unwritten_finds b m.ino un) in
       elim (root_or_listed core pick fit sound m i) [
-        | inl e ↦ ap (λ (x : Met). x.body) e ∙ ap (λ (x : Met). kept_body (settled s) b x.ino) (sym e) ∙ keeps
+        | inl e ↦ ap (λ (x : Met). x.body) e ∙ ap (λ (x : Met). kept_body (settled s) b x.ino) (sym e)
         | inr j ↦
             let q = flat_from (children core pick) m (survey core pick) j in
             let c = child_from core pick q.0 m q.2 in
@@ -274,8 +272,14 @@ module _ (s : State) (k : Kept s) (lib : ℕ) (b : Bundle) (given : GivenTo s li
             let placed : is_place_of m.parent m.page m.slot (row_at (settled s) m.ino) ≡ true =
             ap (is_place_of m.parent m.page m.slot) row ∙ and_from (eqb r.parent m.parent && eqb r.page m.page) (eqb r.slot m.slot) (and_from (eqb r.parent m.parent) (eqb r.page m.page) (eq-eqb r.parent m.parent parent) (eq-eqb r.page m.page page)) (eq-eqb r.slot m.slot slot) in
             let is_pick : m.body ≡ pick m.parent m.page m.slot m.ino l.body = picked_met pick q.0.ino m l c.is in
-            is_pick ∙ ap (λ t. cond t (kept_body (settled s) b m.ino) l.body) placed ∙ keeps
+            is_pick ∙ ap (λ t. cond t (kept_body (settled s) b m.ino) l.body) placed
       ]
+
+  -- so one that isn't written has its settled body
+  pub body_picked : IsFit (proposed (settled s) b) → is_sound (proposed (settled s) b) (proposed_pick (settled s) b) ≡ true → (m : Met) (r : Row) → In m (survey (proposed (settled s) b) (proposed_pick (settled s) b)) → row_at (settled s) m.ino ≡ Some r → r.parent ≡ m.parent → r.page ≡ m.page → r.slot ≡ m.slot → Unwritten b m.ino → m.body ≡ settled_body (settled s) m.ino
+  body_picked fit sound m r i row parent page slot un =
+      body_kept fit sound m r i row parent page slot
+      ∙ ap (λ o. option_map_or (λ (w : Written). w.body) o (settled_body (settled s) m.ino)) (unwritten_finds b m.ino un)
 
   -- a grant that the bundle does not end is no hold of it
   pub outside_unheld : (g : OpenGrant) → In g s.open_grants → is_in_bundle lib b g ≡ false → In g.ino b.holds → ⊥

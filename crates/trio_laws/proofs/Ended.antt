@@ -40,19 +40,19 @@ blank_numbers [] = refl
 blank_numbers (x ∷ xs) = ap (λ l. x.page ∷ l) (blank_numbers xs)
 
 -- the pairs of a list go by what counts of its members
-pairs_like : (xs ys : List OpenGrant) → map lent_part xs ≡ map lent_part ys → AllPairs MayBothStand ys → AllPairs MayBothStand xs
-pairs_like xs ys e h i j d l m =
-    let n : length xs ≡ length ys = sym (length-map xs lent_part) ∙ ap length e ∙ length-map ys lent_part in
-    let il : i < length xs = omega arith in
-    let iy : i < length ys = omega (arith, n) in
-    let jy : j < length ys = omega (arith, n) in
-    let at : (k : ℕ) → k < length xs → k < length ys → lent_part (get_or xs k d) ≡ lent_part (get_or ys k d) =
-    λ k a b. sym (get_or-map lent_part xs k d (lent_part d) a) ∙ ap (λ l. get_or l k (lent_part d)) e ∙ get_or-map lent_part ys k d (lent_part d) b in
-    let R : OpenGrant → OpenGrant → Type 0 = λ x y. MayBothStand x y in
-    let base : MayBothStand (lent_part (get_or ys i d)) (lent_part (get_or ys j d)) = h i j d l jy in
-    let one : MayBothStand (lent_part (get_or xs i d)) (lent_part (get_or ys j d)) = subst (λ x. R x (lent_part (get_or ys j d))) (sym (at i il iy)) base in
-    let two : MayBothStand (lent_part (get_or xs i d)) (lent_part (get_or xs j d)) = subst (λ x. R (lent_part (get_or xs i d)) x) (sym (at j m jy)) one in
-    two
+module _ (R : OpenGrant → OpenGrant → Type 0) (parts : (x y : OpenGrant) → R x y → R (lent_part x) (lent_part y)) (whole : (x y : OpenGrant) → R (lent_part x) (lent_part y) → R x y) where
+  pub pairs_like : (xs ys : List OpenGrant) → map lent_part xs ≡ map lent_part ys → AllPairs R ys → AllPairs R xs
+  pairs_like xs ys e h i j d l m =
+      let n : length xs ≡ length ys = sym (length-map xs lent_part) ∙ ap length e ∙ length-map ys lent_part in
+      let il : i < length xs = omega arith in
+      let iy : i < length ys = omega (arith, n) in
+      let jy : j < length ys = omega (arith, n) in
+      let at : (k : ℕ) → k < length xs → k < length ys → lent_part (get_or xs k d) ≡ lent_part (get_or ys k d) =
+      λ k a b. sym (get_or-map lent_part xs k d (lent_part d) a) ∙ ap (λ l. get_or l k (lent_part d)) e ∙ get_or-map lent_part ys k d (lent_part d) b in
+      let base : R (lent_part (get_or ys i d)) (lent_part (get_or ys j d)) = parts (get_or ys i d) (get_or ys j d) (h i j d l jy) in
+      let one : R (lent_part (get_or xs i d)) (lent_part (get_or ys j d)) = subst (λ x. R x (lent_part (get_or ys j d))) (sym (at i il iy)) base in
+      let two : R (lent_part (get_or xs i d)) (lent_part (get_or xs j d)) = subst (λ x. R (lent_part (get_or xs i d)) x) (sym (at j m jy)) one in
+      whole (get_or xs i d) (get_or xs j d) two
 
 module _ (s : State) (k : Kept s) (lib : ℕ) (b : Bundle) (given : GivenTo s lib b) where
   -- a write grant of the bundle is that of one of its written files
@@ -87,7 +87,7 @@ module _ (s s' : State) (k : Kept s) (lib : ℕ) (b : Bundle) (given : GivenTo s
       map_from lent_part (lent_part h) s'.open_grants m
 
   pub apart_then : AllPairs MayBothStand s'.open_grants
-  apart_then = pairs_like s'.open_grants (grants_after s lib b) e.grants (AllPairs-filter MayBothStand (λ g. not (is_in_bundle lib b g)) s.open_grants k.apart)
+  apart_then = pairs_like MayBothStand (λ x y h. h) (λ x y h. h) s'.open_grants (grants_after s lib b) e.grants (AllPairs-filter MayBothStand (λ g. not (is_in_bundle lib b g)) s.open_grants k.apart)
 
   pub checkpoints_then : (g : OpenGrant) → In g s'.open_grants → sheet_numbers g.checkpoint ≡ sheet_numbers (covered g.kind g.of g.index g.blocks)
   checkpoints_then g i =

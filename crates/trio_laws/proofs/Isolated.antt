@@ -55,7 +55,7 @@ entries_same core other inodes Directory blocks h =
     (λ p i. ap (λ n. result_then (entries_on n p) (there_or (at_page p) (page_of other p))) inodes ∙ ap (λ o. result_then (entries_on core.inodes p) (there_or (at_page p) o)) (h p i)))
 
 -- a file reads the same in another core where its pages are the same
-same_file : (core other : Core) (m : Met) (f : FileRead) → other.range ≡ core.range → other.inodes ≡ core.inodes → file_of core m ≡ Ok f → ((p : ℕ) → In p (f.chain.index ++ f.chain.blocks) → page_of other p ≡ page_of core p) → file_of other m ≡ Ok f
+pub same_file : (core other : Core) (m : Met) (f : FileRead) → other.range ≡ core.range → other.inodes ≡ core.inodes → file_of core m ≡ Ok f → ((p : ℕ) → In p (f.chain.index ++ f.chain.blocks) → page_of other p ≡ page_of core p) → file_of other m ≡ Ok f
 same_file core other m f range inodes e h =
     let r = reads_from core m f e in
     reads_to other m f (record {

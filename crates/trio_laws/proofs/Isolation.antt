@@ -20,14 +20,14 @@ use Rattle.trio_state.specs.State.{OpenGrant, State, settled, creds_of, logged}
 use Rattle.trio_state.specs.Proposed.{Bundle, bundle_sheets, bundle_pages}
 use Rattle.trio_state.specs.Accept.{is_accepted, next}
 use Rattle.trio_state.specs.Mode.{with_mode, moded, moded_row}
-use Rattle.trio_state.specs.Grants.{grant_fault, opened, opens, given_back}
+use Rattle.trio_state.specs.Grants.{grant_fault, opened, opens, told_children, given_back}
 use Rattle.trio_state.specs.Allotments.{free_pages, free_numbers, allots}
 use Rattle.trio_state.specs.Bundles.{uncovered, refused_image, Ends}
 use Rattle.trio_state.specs.Step.{Grant, Allot, Back, Release, Settle, SetMode, Answer, NoPages, NoInodes, Given, Outcome, after_grant_fault, granted_to, allot_outcome, mode_fault, after_mode_fault, moded_to, ReleaseEnd, Parted, IsAccepted, IsRefused}
 use Rattle.trio_state.specs.Kept.{Kept}
 use Rattle.trio_state.specs.Given.{GivenTo}
 use Rattle.trio_laws.specs.Reading.{with_other, AgreeOn}
-use Rattle.trio_laws.specs.Laws.{plain_pages, IsUntouched, HasNone, library_of, EveryStepIsIsolated}
+use Rattle.trio_laws.specs.Laws.{plain_pages, IsUntouched, HasNone, IsElsewhere, library_of, EveryStepIsIsolated}
 use Rattle.trio_laws.proofs.Members.{In-right, map_from}
 use Rattle.trio_laws.proofs.Local.{file_agrees}
 use Rattle.trio_laws.proofs.Owned.{sound_parts, page_owner, pages_are}
@@ -156,15 +156,15 @@ module _ (s : State) (k : Kept s) (lib n : ℕ) (r : Row) (row : row_at (settled
       ]) in
       subst (λ x. U ino x) (sym m0.row) (subst (λ j. U j (row_by m0.met m0.file.body)) m0.number a)
 
-  granted : (ino : ℕ) (kind : GrantKind) (q : Row) → grant_fault s lib ino kind ≡ None → row_at s.home ino ≡ Some q → ino ≢ n → Same (opens s (opened s lib ino kind q))
+  granted : (ino : ℕ) (kind : GrantKind) (q : Row) → grant_fault s lib ino kind ≡ None → row_at s.home ino ≡ Some q → (kind ≡ Write → ino ≢ n) → Same (opens s (opened s lib ino kind q))
   granted ino Read q e at elsewhere = (let g : OpenGrant = opened s lib ino Read q in light g (settled_same s k g refl refl (λ w. cc w)))
   granted ino Hold q e at elsewhere = (let g : OpenGrant = opened s lib ino Hold q in light g (settled_same s k g refl refl (λ w. cc w)))
-  granted ino Write q e at elsewhere = write ino q e at elsewhere
+  granted ino Write q e at elsewhere = write ino q e at (elsewhere refl)
 
-  grant : (ino : ℕ) (kind : GrantKind) (f : Option GrantFault) (o : Option Row) → grant_fault s lib ino kind ≡ f → row_at s.home ino ≡ o → ino ≢ n → Same (granted_to s lib ino kind f o).after
+  grant : (ino : ℕ) (kind : GrantKind) (f : Option GrantFault) (o : Option Row) → grant_fault s lib ino kind ≡ f → row_at s.home ino ≡ o → IsElsewhere n (Grant lib ino kind) (granted_to s lib ino kind f o).answer → Same (granted_to s lib ino kind f o).after
   grant ino kind (Some fault) o e at elsewhere = after_fault fault
   grant ino kind None None e at elsewhere = nothing
-  grant ino kind None (Some q) e at elsewhere = granted ino kind q e at elsewhere
+  grant ino kind None (Some q) e at elsewhere = granted ino kind q e at (λ w. elsewhere w (told_children s.home ino kind) refl)
 
   allotted : (count many : ℕ) → Same (allots s lib (take count (free_pages s)) (take many (free_numbers s)))
   allotted count many =
@@ -224,12 +224,12 @@ module _ (s : State) (k : Kept s) (lib n : ℕ) (r : Row) (row : row_at (settled
   after_no_mode (ModeBusy holder) = nothing
   after_no_mode ModeNoMemory = nothing
 
-  set_mode : (ino mode : ℕ) (o : Option Row) (f : Option ModeFault) → row_at s.home ino ≡ o → mode_fault s lib ino mode o ≡ f → ino ≢ n → Same (moded_to s ino mode f).after
+  set_mode : (ino mode : ℕ) (o : Option Row) (f : Option ModeFault) → row_at s.home ino ≡ o → mode_fault s lib ino mode o ≡ f → IsElsewhere n (SetMode lib ino mode) (moded_to s ino mode f).answer → Same (moded_to s ino mode f).after
   set_mode ino mode o (Some fault) at e elsewhere = after_no_mode fault
   set_mode ino mode None None at e elsewhere = absurd cc
   set_mode ino mode (Some q) None at e elsewhere =
       let may = may_change s lib ino mode q e in
-      let a = mode_untouched (settled s) ino mode q k.fit k.verifies at may.small may.other n r row (λ same. elsewhere (sym same)) in
+      let a = mode_untouched (settled s) ino mode q k.fit k.verifies at may.small may.other n r row (λ same. elsewhere refl (sym same)) in
       let U : Image → Type 0 = λ i. IsUntouched (settled s) i n in
       subst U (sym (settled_moded s k ino mode q at may.small may.other may.free)) a
 
@@ -240,7 +240,7 @@ every_step_is_isolated s event answer s' n r k given (inr none) row has elsewher
     subst U (sym none.2) (nothing s k (library_of event) n r row)
 every_step_is_isolated s (Grant lib ino kind) answer s' n r k given (inl does) row has elsewhere =
     let U : State → Type 0 = λ x. IsUntouched (settled s) (settled x) n in
-    subst U (sym does.1) (grant s k lib n r row ino kind (grant_fault s lib ino kind) (row_at s.home ino) refl refl elsewhere)
+    subst U (sym does.1) (grant s k lib n r row ino kind (grant_fault s lib ino kind) (row_at s.home ino) refl refl (subst (IsElsewhere n (Grant lib ino kind)) does.0 elsewhere))
 every_step_is_isolated s (Allot lib count many) answer s' n r k given (inl does) row has elsewhere =
     let U : State → Type 0 = λ x. IsUntouched (settled s) (settled x) n in
     subst U (sym does.1) (allot s k lib n r row count many)
@@ -253,4 +253,4 @@ every_step_is_isolated s (Settle lib b) answer s' n r k given (inl does) row has
     accepted s k lib n r row s' b given does.2 does.3 has
 every_step_is_isolated s (SetMode lib ino mode) answer s' n r k given (inl does) row has elsewhere =
     let U : State → Type 0 = λ x. IsUntouched (settled s) (settled x) n in
-    subst U (sym does.1) (set_mode s k lib n r row ino mode (row_at s.home ino) (mode_fault s lib ino mode (row_at s.home ino)) refl refl elsewhere)
+    subst U (sym does.1) (set_mode s k lib n r row ino mode (row_at s.home ino) (mode_fault s lib ino mode (row_at s.home ino)) refl refl (subst (IsElsewhere n (SetMode lib ino mode)) does.0 elsewhere))

@@ -48,3 +48,9 @@ pub mod PutBack
 pub mod Standing
 pub mod Lendable
 pub mod EndLaws
+pub mod Filters
+pub mod Ordered
+pub mod OthersOut
+pub mod HeldFiles
+pub mod KnownSteps
+pub mod SettledBodies

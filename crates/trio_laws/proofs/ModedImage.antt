@@ -156,6 +156,18 @@ module _ (image : Image) (n mode : ℕ) (r : Row) (fit : IsFit image.core) (v : 
       let P : Core → Type 0 = λ c. In (changed q.met.ino mode m) (survey c plain) × (file_of c (changed q.met.ino mode m) ≡ Ok (read_now image.core fit v.sound mode small q.met q.stands met_other m f)) in
       subst P mode_core_is (in_now image.core fit v.sound mode small q.met q.file q.stands q.read met_other m i, file_now image.core fit v.sound mode small q.met q.stands met_other m f i e)
 
+  -- the body of the file has the other mode
+  pub mode_body_own : settled_body (moded image n mode) n ≡ with_mode mode (settled_body image n)
+  mode_body_own =
+      let q = mode_met in
+      let f = mode_file q.met q.file q.stands q.read in
+      let t : TablesOf (moded image n mode) (moded image n mode).core plain = record { rows = mode_verifies.rows; owners = mode_verifies.owners } in
+      let now = settled_body_met (moded image n mode) (changed q.met.ino mode q.met) mode_fit mode_verifies.sound t f.0 in
+      ap (settled_body (moded image n mode)) (sym q.number)
+      ∙ now
+      ∙ ap (λ b. cond b (with_mode mode q.met.body) q.met.body) (eq-eqb q.met.ino q.met.ino refl)
+      ∙ ap (with_mode mode) (sym mode_settled)
+
   -- the body of any other file stays
   pub mode_body_other : (j : ℕ) (x : Row) → row_at image j ≡ Some x → (j ≡ n → ⊥) → settled_body (moded image n mode) j ≡ settled_body image j
   mode_body_other j x at differ =

@@ -32,7 +32,7 @@ use Rattle.trio_laws.proofs.Sheets.{Pages, page_same, with_pages_apart}
 use Rattle.trio_laws.proofs.StateFacts.{live_met, lent_file, checkpoint_lent}
 use Rattle.trio_laws.proofs.Tree.{child_from, child_placed}
 
-with_pages_set : (ss : List Sheet) (pages : Pages) (k : ℕ) (x : Option (List ℕ)) → (In k (sheet_numbers ss) → ⊥) → with_pages ss (slice_set pages k x) ≡ slice_set (with_pages ss pages) k x
+pub with_pages_set : (ss : List Sheet) (pages : Pages) (k : ℕ) (x : Option (List ℕ)) → (In k (sheet_numbers ss) → ⊥) → with_pages ss (slice_set pages k x) ≡ slice_set (with_pages ss pages) k x
 with_pages_set [] pages k x h = refl
 with_pages_set (s ∷ ss) pages k x h =
     ap (with_pages ss) (set_comm pages k s.page x (Some s.bytes) (λ e. h (inl e)))

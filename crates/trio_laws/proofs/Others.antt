@@ -88,7 +88,7 @@ unparted_stays s s' lib b k' l none =
     both_ways (is_parted s lib b g) (unparted_at s lib b g none n.1) (same ∙ t)))
 
 -- two outs of one number are one
-one_out : (outs : List Out) (a c : Out) → are_new [] (map (λ (o : Out). o.number) outs) ≡ true → In a outs → In c outs → a.number ≡ c.number → a ≡ c
+pub one_out : (outs : List Out) (a c : Out) → are_new [] (map (λ (o : Out). o.number) outs) ≡ true → In a outs → In c outs → a.number ≡ c.number → a ≡ c
 one_out [] a c new i j e = absurd i
 one_out (x ∷ xs) a c new (inl p) (inl q) e = p ∙ sym q
 one_out (x ∷ xs) a c new (inl p) (inr j) e =

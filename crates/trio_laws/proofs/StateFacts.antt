@@ -41,7 +41,7 @@ In_get [] k d l = absurd (omega arith)
 In_get (x ∷ xs) zero d l = inl refl
 In_get (x ∷ xs) (suc k) d l = inr (In_get xs k d (omega arith))
 
-In_index : {X : Type 0} (x : X) (xs : List X) → In x xs → (k : ℕ) × (k < length xs) × (get_or xs k x ≡ x)
+pub In_index : {X : Type 0} (x : X) (xs : List X) → In x xs → (k : ℕ) × (k < length xs) × (get_or xs k x ≡ x)
 In_index x [] i = absurd i
 In_index x (z ∷ zs) (inl e) = let l : 0 < length (z ∷ zs) = omega arith in (zero, l, sym e)
 In_index x (z ∷ zs) (inr i) =

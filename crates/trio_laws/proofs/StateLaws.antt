@@ -87,7 +87,7 @@ release_told s s' lib b answer does = by_end does
     by_end (IsAccepted none t e ends) = told answer Accepted e (λ wrong. absurd (cc wrong))
     by_end (IsRefused none f why e tells ends) = told answer (Refused why) e (λ wrong. absurd (cc wrong))
 
-does_told : (s : State) (event : Event) (answer : Answer) (s' : State) → Does s event answer s' → answer ≢ NoMemory
+pub does_told : (s : State) (event : Event) (answer : Answer) (s' : State) → Does s event answer s' → answer ≢ NoMemory
 does_told s (Grant lib ino kind) answer s' does = told answer _ does.0 (grant_told s lib ino kind (grant_fault s lib ino kind) (row_at s.home ino))
 does_told s (Allot lib pages numbers) answer s' does = told answer _ does.0 (allot_told s lib pages numbers)
 does_told s (Back lib ino) answer s' does = told answer Done does.0 (λ wrong. absurd (cc wrong))

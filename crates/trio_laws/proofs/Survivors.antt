@@ -76,7 +76,7 @@ module _ (s : State) (k : Kept s) (lib : ℕ) (creds : Creds) (b : Bundle) (give
       (and_parts (is_sound core pick) (is_allowed image creds b core (survey core pick)) accepted).1
 
   -- a held number is that of a hold of the bundle
-  held_unwritten : (n : ℕ) → In n b.holds → Unwritten b n
+  pub held_unwritten : (n : ℕ) → In n b.holds → Unwritten b n
   held_unwritten n i w j e =
       let h = given.holds n i in
       let g = given.writes w j in
@@ -228,26 +228,34 @@ module _ (s : State) (k : Kept s) (lib : ℕ) (creds : Creds) (b : Bundle) (give
                 ]
           ]
 
-  -- a held file that is met has its kind and rights
+  -- a held file that is met has its kind and its settled body
+  pub held_met : (n : ℕ) (r : Row) (m : Met) → In n b.holds → row_at image n ≡ Some r → In m (survey core pick) → m.ino ≡ n → (m.kind ≡ r.kind) × (m.body ≡ settled_body image n)
+  held_met n r m held row i num =
+      let ino : ℕ = m.ino in
+      let asked : Bool = has_kind m.kind (row_at image ino) && bytes_eq m.body (settled_body image ino) in
+      let rest : Bool =
+      cond (is_some (row_at image ino)) (cond (is_written b ino) (lists_own b core m) true)
+      (is_among ino b.numbers && has_owner creds (row_of core (survey core pick) ino) && lists_own b core m) in
+      let h : is_among ino b.holds ≡ true = among_from ino b.holds (subst (λ j. In j b.holds) (sym num) held) in
+      let t = all_at (may_stand image creds b core (survey core pick)) m (survey core pick) allowed.1 i in
+      let p = and_parts (has_kind m.kind (row_at image ino)) (bytes_eq m.body (settled_body image ino)) (sym (ap (λ x. cond x asked rest) h) ∙ t) in
+      let x = has_kind_is m.kind (row_at image ino) p.0 in
+      let rows : Some x.0 ≡ Some r = sym x.1 ∙ ap (row_at image) num ∙ row in
+      let is_r : x.0 ≡ r = cc rows in (
+        x.2 ∙ ap (λ (y : Row). y.kind) is_r,
+        (bytes_eq-Decides m.body (settled_body image ino)).0 p.1 ∙ ap (settled_body image) num,
+      )
+
+  -- and so its rights
   pub held_rights : (n : ℕ) (r q : Row) → In n b.holds → row_at image n ≡ Some r → row_of core (survey core pick) n ≡ Some q → (q.kind ≡ r.kind) × (q.mode ≡ r.mode) × (q.uid ≡ r.uid) × (q.gid ≡ r.gid)
   held_rights n r q held row e =
       let m = met_row core pick fit_now sound_now n q e in
       let m0 = live_met s k n r row in
-      let ino : ℕ = m.met.ino in
-      let asked : Bool = has_kind m.met.kind (row_at image ino) && bytes_eq m.met.body (settled_body image ino) in
-      let rest : Bool =
-      cond (is_some (row_at image ino)) (cond (is_written b ino) (lists_own b core m.met) true)
-      (is_among ino b.numbers && has_owner creds (row_of core (survey core pick) ino) && lists_own b core m.met) in
-      let h : is_among ino b.holds ≡ true = among_from ino b.holds (subst (λ j. In j b.holds) (sym m.number) held) in
-      let t = all_at (may_stand image creds b core (survey core pick)) m.met (survey core pick) allowed.1 m.stands in
-      let p = and_parts (has_kind m.met.kind (row_at image ino)) (bytes_eq m.met.body (settled_body image ino)) (sym (ap (λ x. cond x asked rest) h) ∙ t) in
-      let x = has_kind_is m.met.kind (row_at image ino) p.0 in
-      let rows : Some x.0 ≡ Some r = sym x.1 ∙ ap (row_at image) m.number ∙ row in
-      let is_r : x.0 ≡ r = cc rows in
-      let kind : m.met.kind ≡ r.kind = x.2 ∙ ap (λ (y : Row). y.kind) is_r in
+      let h = held_met n r m.met held row m.stands m.number in
+      let kind : m.met.kind ≡ r.kind = h.0 in
       let body : m.met.body ≡ m0.met.body =
-      (bytes_eq-Decides m.met.body (settled_body image ino)).0 p.1
-      ∙ ap (settled_body image) (m.number ∙ sym m0.number)
+      h.1
+      ∙ ap (settled_body image) (sym m0.number)
       ∙ settled_body_met image m0.met k.fit k.verifies.sound (tables s k) m0.stands in
       let a = reads_from core m.met m.file m.read in
       let a0 = reads_from image.core m0.met m0.file m0.read in

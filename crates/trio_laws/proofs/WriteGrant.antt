@@ -98,7 +98,7 @@ module _ (s : State) (k : Kept s) (lib : ℕ) (m : Met) (f : FileRead) (i : In m
   block_numbers : sheet_numbers g.blocks ≡ f.chain.blocks
   block_numbers = ap sheet_numbers blocks_are ∙ sheets_all core f.chain.blocks (λ p a. there p (In-right p f.chain.index f.chain.blocks a))
 
-  lent_numbers : sheet_numbers (g.index ++ g.blocks) ≡ f.chain.index ++ f.chain.blocks
+  pub lent_numbers : sheet_numbers (g.index ++ g.blocks) ≡ f.chain.index ++ f.chain.blocks
   lent_numbers = map-append (λ (x : Sheet). x.page) g.index g.blocks ∙ ap (λ l. l ++ sheet_numbers g.blocks) index_numbers ∙ ap (λ l. f.chain.index ++ l) block_numbers
 
   -- a sheet that is lent has the settled bytes

@@ -23,7 +23,7 @@ use Rattle.trio_state.specs.Proposed.{Written, Bundle, is_written}
 use Rattle.trio_state.specs.Accept.{is_accepted, next}
 use Rattle.trio_state.specs.Bundles.{parted_hold, uncovered, refused_image, has_all}
 use Rattle.trio_state.specs.Tells.{Why, Tells}
-use Rattle.trio_state.specs.Step.{Event, Grant, Allot, Back, Release, Settle, SetMode, Answer, Accepted, Refused, NotClosed, NoMemory, Does, Step}
+use Rattle.trio_state.specs.Step.{Event, Grant, Allot, Back, Release, Settle, SetMode, Answer, Accepted, Refused, NotClosed, NoMemory, Does, Step, Granted, ModeSet}
 use Rattle.trio_state.specs.Kept.{Kept}
 use Rattle.trio_state.specs.Given.{HasGrant, GivenTo, GivenEvent}
 use Rattle.trio_state.specs.Run.{start, IsWhole, Move, Trace}
@@ -210,11 +210,11 @@ OthersUntouched =
 abbrev pub HasNone : State → ℕ → ℕ → Type 0
 HasNone s lib n = (HasGrant s lib n Write → ⊥) × (HasGrant s lib n Hold → ⊥)
 
--- the event asks no grant on the file, and is no change of its mode
-abbrev pub IsElsewhere : ℕ → Event → Type 0
-IsElsewhere n (Grant lib ino kind) = ino ≢ n
-IsElsewhere n (SetMode lib ino mode) = ino ≢ n
-IsElsewhere n _ = Unit {0}
+-- the event gets no write grant on the file by this answer, and doesn't change its mode
+abbrev pub IsElsewhere : ℕ → Event → Answer → Type 0
+IsElsewhere n (Grant lib ino kind) answer = kind ≡ Write → (children : ℕ) → answer ≡ Granted children → ino ≢ n
+IsElsewhere n (SetMode lib ino mode) answer = answer ≡ ModeSet → ino ≢ n
+IsElsewhere n _ answer = Unit {0}
 
 -- A live file on which a library has no open write grant and no hold is the same after each event of that library that is
 -- elsewhere. (A write grant on a regular file itself takes its blocks out of the settled image until they come back.)
@@ -222,7 +222,7 @@ abbrev pub EveryStepIsIsolated : Type 0
 EveryStepIsIsolated =
     (s : State) (event : Event) (answer : Answer) (s' : State) (n : ℕ) (r : Row)
     → Kept s → GivenEvent s event → Step s event answer s'
-    → row_at (settled s) n ≡ Some r → HasNone s (library_of event) n → IsElsewhere n event
+    → row_at (settled s) n ≡ Some r → HasNone s (library_of event) n → IsElsewhere n event answer
     → IsUntouched (settled s) (settled s') n
 
 -- a row of the same kind, mode, uid and gid, where there is one

@@ -2,3 +2,7 @@ pub mod Reading
 pub mod SurveyLaws
 pub mod Laws
 pub mod EndLaws
+pub mod GrantLaws
+pub mod OutLaws
+pub mod ContentLaws
+pub mod Known

@@ -45,7 +45,7 @@ pub fn others_untouched()
 {}
 
 /// An event leaves each live file on which its library has no open write grant and no hold as it is,
-/// where it is no grant on that file and no change of its mode.
+/// unless it gets a write grant on that file or changes its mode.
 pub fn every_step_is_isolated()
     ensures law { EveryStepIsIsolated }
 {}

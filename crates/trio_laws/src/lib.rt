@@ -5,6 +5,9 @@
 //! `specs/` holds what the laws speak of beside the definitions below, and `proofs/` their proofs.
 #![tactic(auto)]
 
+pub mod contents;
 pub mod ends;
+pub mod known;
 pub mod laws;
+pub mod outs;
 pub mod surveys;

@@ -6,3 +6,4 @@ pub mod Rounds
 pub mod Unchanged
 pub mod Left
 pub mod EndFree
+pub mod OnePlay

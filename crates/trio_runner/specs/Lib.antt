@@ -2,3 +2,4 @@ pub mod Play
 pub mod PlayLaws
 pub mod Seen
 pub mod EndFree
+pub mod OnePlay

@@ -1,6 +1,7 @@
 //! The laws: the body of each function is empty, and its contract is the law.
 
 ghost use Rattle.trio_runner.specs.EndFree.{PlayedEndsFree};
+ghost use Rattle.trio_runner.specs.OnePlay.{PlayedIsOne};
 ghost use Rattle.trio_runner.specs.PlayLaws.{EndStands, LineStands, PlayedIsTrace, PlayedKeeps, PlaysMore, StartStands};
 
 /// At the start of a script on an image that verifies the state is kept, and the library has
@@ -38,4 +39,10 @@ pub fn played_keeps()
 /// out by allotment.
 pub fn ends_free()
     ensures law { PlayedEndsFree }
+{}
+
+/// What the lines of a script are told, its end, and the image that is settled then are determined by
+/// the image at its beginning and the lines.
+pub fn played_is_one()
+    ensures law { PlayedIsOne }
 {}

@@ -1,0 +1,139 @@
+-- A held file that stays or moves keeps its content.
+use Rattle.std.proofs.Common.{◌≡◌, ℕ, true, ◌++◌, Some, Ok, sym, refl, ap, ◌∙◌, subst}
+use Rattle.std.specs.Prelude.{map}
+use Rattle.trio_rights.specs.declared.kind.Kind.{Kind}
+use Rattle.trio_rights.specs.declared.rights.Creds.{Creds}
+use Rattle.trio_rights.specs.Row.{Row}
+use Rattle.trio_layout.specs.Lists.{In}
+use Rattle.trio_layout.specs.Core.{Core, page_of}
+use Rattle.trio_layout.specs.Body.{body_of}
+use Rattle.trio_layout.specs.Entries.{entries_of_kind}
+use Rattle.trio_layout.specs.Survey.{Pick, plain, file_of, survey}
+use Rattle.trio_layout.specs.Sound.{is_sound}
+use Rattle.trio_state.specs.Image.{Image, IsFit, row_at, settled_body}
+use Rattle.trio_state.specs.State.{State, settled}
+use Rattle.trio_state.specs.Proposed.{Bundle, proposed, proposed_pick}
+use Rattle.trio_state.specs.Accept.{is_accepted, next}
+use Rattle.trio_state.specs.Kept.{Kept}
+use Rattle.trio_state.specs.Given.{GivenTo}
+use Rattle.trio_laws.specs.Reading.{picked_entry}
+use Rattle.trio_laws.specs.Laws.{plain_pages}
+use Rattle.trio_laws.specs.ContentLaws.{HasSameContent, HeldFilesKeepContent}
+use Rattle.trio_laws.proofs.Members.{In-among}
+use Rattle.trio_laws.proofs.Local.{reads_from, reads_to}
+use Rattle.trio_laws.proofs.Owned.{pages_are}
+use Rattle.trio_laws.proofs.Picked.{all_listed, page_put_is, file_put, survey_put}
+use Rattle.trio_laws.proofs.Images.{MetAt, met_row, row_at_is, settled_body_met}
+use Rattle.trio_laws.proofs.Accepted.{accepted_verifies, fit_put}
+use Rattle.trio_laws.proofs.StateFacts.{tables, live_met}
+use Rattle.trio_laws.proofs.Bundles.{Unwritten, unwritten_apart, page_kept}
+use Rattle.trio_laws.proofs.Survivors.{fit_now, sound_now, held_unwritten, held_met}
+use Rattle.trio_laws.proofs.Isolated.{same_file, picked_only, plain_listed, bare_page, put_none}
+
+module _ (s : State) (lib : ℕ) (creds : Creds) (b : Bundle) (n : ℕ) (r q : Row) (k : Kept s)
+    (given : GivenTo s lib b) (accepted : is_accepted (settled s) creds b ≡ true) (row : row_at s.home n ≡ Some r)
+    (held : In n b.holds) (row' : row_at (next (settled s) b) n ≡ Some q) where
+  abbrev image : Image
+  image = settled s
+
+  abbrev core : Core
+  core = proposed (settled s) b
+
+  abbrev pick : Pick
+  pick = proposed_pick (settled s) b
+
+  abbrev after : Image
+  after = next (settled s) b
+
+  fit : IsFit core
+  fit = fit_now s k lib creds b given accepted
+
+  sound : is_sound core pick ≡ true
+  sound = sound_now s k lib creds b given accepted
+
+  was : MetAt image.core plain n r
+  was = live_met s k n r row
+
+  is : MetAt core pick n q
+  is = met_row core pick fit sound n q (sym (row_at_is core pick fit sound after (record {
+    rows = refl;
+    owners =
+        refl;
+  }) n) ∙ row')
+
+  un : Unwritten b was.met.ino
+  un = held_unwritten s k lib creds b given accepted was.met.ino (subst (λ i. In i b.holds) (sym was.number) held)
+
+  same_kind : is.met.kind ≡ was.met.kind
+  same_kind = (held_met s k lib creds b given accepted n r is.met held row is.stands is.number).0
+      ∙ ap (λ (x : Row). x.kind) was.row
+
+  same_body : is.met.body ≡ was.met.body
+  same_body =
+      (held_met s k lib creds b given accepted n r is.met held row is.stands is.number).1
+      ∙ ap (settled_body image) (sym was.number)
+      ∙ settled_body_met image was.met k.fit k.verifies.sound (tables s k) was.stands
+
+  page_stays : (p : ℕ) → In p (was.file.chain.index ++ was.file.chain.blocks) → page_of core p ≡ page_of image.core p
+  page_stays p i =
+      page_kept s k lib b given p
+      (unwritten_apart s k lib b given was.met p was.stands un
+      (subst (λ l. In p l) (sym (pages_are image.core was.met was.file was.read)) i))
+
+  read_now : file_of core is.met ≡ Ok was.file
+  read_now =
+      let r = reads_from core was.met was.file (same_file image.core core was.met was.file refl refl was.read
+      page_stays) in
+      reads_to core is.met was.file (record {
+        body = ap (λ (c : Kind). body_of c core.range is.met.body) same_kind
+            ∙ ap (body_of was.met.kind core.range) same_body ∙ r.body;
+        chain = r.chain;
+        entries = ap (λ (c : Kind). entries_of_kind core c was.file.chain.blocks) same_kind ∙ r.entries;
+      })
+
+  page_now : (p : ℕ) → In p (plain_pages was.met.kind was.file) → page_of after.core p ≡ page_of image.core p
+  page_now p i =
+      let i' : In p (plain_pages is.met.kind was.file) = subst (λ c. In p (plain_pages c was.file)) (sym same_kind) i in
+      page_put_is core pick fit sound p
+      ∙ put_none p (all_listed core pick) (page_of core p)
+      (bare_page core pick sound is.met was.file p is.stands read_now i')
+      ∙ page_stays p (plain_listed was.met.kind was.file p i)
+
+  pub same_content : HasSameContent image after n
+  same_content =
+      let v = accepted_verifies image creds b fit accepted in
+      let there : In is.met (survey after.core plain) =
+      subst (λ l. In is.met l) (sym (survey_put core pick fit sound)) is.stands in
+      let now = settled_body_met after is.met (fit_put core pick fit sound) v.sound (record {
+        rows = v.rows;
+        owners =
+            v.owners;
+      }) there in
+      let before = settled_body_met image was.met k.fit k.verifies.sound (tables s k) was.stands in
+      record {
+        met_was = was.met;
+        met_is = is.met;
+        file_was = was.file;
+        file_is = record was.file { entries = map (picked_entry pick is.met.ino) was.file.entries };
+        number_was = was.number;
+        number_is = is.number;
+        stood = was.stands;
+        stands = there;
+        read_was = was.read;
+        read_is = file_put core pick fit sound is.met was.file is.stands read_now;
+        kind = same_kind;
+        body = refl;
+        chain = refl;
+        pages = page_now;
+        entries = picked_only pick is.met.ino was.file.entries;
+        settled_bodies =
+            ap (settled_body after) (sym is.number)
+            ∙ now
+            ∙ same_body
+            ∙ sym before
+            ∙ ap (settled_body image) was.number;
+      }
+
+pub held_files_keep_content : HeldFilesKeepContent
+held_files_keep_content s lib creds b n r q k given accepted row held row' =
+    same_content s lib creds b n r q k given accepted row (In-among n b.holds held) row'

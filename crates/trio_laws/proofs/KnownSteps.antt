@@ -1,0 +1,473 @@
+-- What is known of a state determines what is known after each step, and the answer.
+use Rattle.std.proofs.Common.{◌≡◌, ◌≢◌, ℕ, Bool, true, false, cond, ltb, ◌&&◌, ◌||◌, not, eqb, List, [], ◌∷◌, ◌++◌, map, length, take, Option, Some, None, slice_get, sym, refl, ap, ◌∙◌, subst, inl, inr}
+use Rattle.std.specs.Prelude.{is_some}
+use Rattle.std.specs.List.{filter, flat_map}
+use Rattle.std.specs.Option.{option_map}
+use Rattle.std.proofs.lemmas.List.{map-append, append-nil}
+use Rattle.std.proofs.lemmas.List.Concat.{flat_map-append}
+use Rattle.std.proofs.lemmas.Bool.{false≢true}
+use Rattle.trio_rights.specs.Row.{Row}
+use Rattle.trio_nodes.specs.declared.grant.GrantKind.{GrantKind}
+use Rattle.trio_nodes.specs.declared.grant.GrantKind.TheVariants.{Read, Write, Hold}
+use Rattle.trio_nodes.specs.declared.answers.GrantFault.{GrantFault}
+use Rattle.trio_nodes.specs.declared.answers.GrantFault.TheVariants.{NotLive, Denied, NoParent, Busy, NoMemory as OutOfMemory}
+use Rattle.trio_nodes.specs.declared.answers.ModeFault.{ModeFault}
+use Rattle.trio_nodes.specs.declared.answers.ModeFault.TheVariants.{NotLive as ModeNotLive, NotOwner, BadMode, Busy as ModeBusy, NoMemory as ModeNoMemory}
+use Rattle.trio_layout.specs.Lists.{In}
+use Rattle.trio_layout.specs.Survey.{row_by, pages_of}
+use Rattle.trio_state.specs.Sheets.{Sheet, sheet_numbers, with_pages, without_pages}
+use Rattle.trio_state.specs.Image.{Image, row_at, settled_body, with_core_pages}
+use Rattle.trio_state.specs.State.{OpenGrant, State, settled, creds_of, covered, is_read, is_write, logged}
+use Rattle.trio_state.specs.Proposed.{Bundle}
+use Rattle.trio_state.specs.Accept.{is_accepted, next}
+use Rattle.trio_state.specs.Mode.{moded}
+use Rattle.trio_state.specs.Grants.{grant_fault, denied_or, denied_by, lacks_parent, has_parent_grant, excludes_kind, excluding, holder_of, settled_chain, index_sheets, block_sheets, lent_sheets, opened, lent_pages, opens, told_children, given_back}
+use Rattle.trio_state.specs.Allotments.{free_pages, free_numbers, allots}
+use Rattle.trio_state.specs.Bundles.{is_parted, lowest, parted_hold, is_in_bundle, lent_part, grants_after, refused_image, Ends}
+use Rattle.trio_state.specs.Step.{Event, Grant, Allot, Back, Release, Settle, SetMode, Answer, Granted, NotGranted, ModeSet, NotModeSet, NoPages, NoInodes, Given, Done, Accepted, Refused, NotClosed, Settled, NoMemory, Outcome, Does, Step, granted_to, after_grant_fault, grant_outcome, allot_outcome, mode_excluding, mode_fault, moded_to, after_mode_fault, mode_outcome}
+use Rattle.trio_state.specs.Kept.{Kept}
+use Rattle.trio_laws.specs.OutLaws.{without_checkpoint}
+use Rattle.trio_laws.specs.Known.{Known, known, plain_state, ended, released, known_done, is_no_memory, known_after, StepsAreKnown, KnownDecides, is_refusal, SameAnswer, SameEventSameAnswer}
+use Rattle.trio_laws.proofs.Filters.{filter-map, list_any-map}
+use Rattle.trio_laws.proofs.Sheets.{Pages, with_pages-append}
+use Rattle.trio_laws.proofs.Owned.{pages_are}
+use Rattle.trio_laws.proofs.StateFacts.{live_met, checkpoint_lent, lent_file}
+use Rattle.trio_laws.proofs.WriteGrant.{lent_numbers}
+use Rattle.trio_laws.proofs.Grants.{excluded_none}
+use Rattle.trio_laws.proofs.Allots.{uncovered'}
+use Rattle.trio_laws.proofs.Backs.{settled_back}
+use Rattle.trio_laws.proofs.Modes.{with_pages_set, may_change, settled_moded}
+use Rattle.trio_laws.proofs.Releases.{ReleaseEnd, Parted, IsAccepted, IsRefused, release_end}
+use Rattle.trio_laws.proofs.StateLaws.{does_told}
+
+-- ---- lists
+
+-- the sheets of the checkpoints of grants
+abbrev sheets : List OpenGrant → List Sheet
+sheets gs = flat_map (λ g. g.checkpoint) gs
+
+abbrev bare : List OpenGrant → List OpenGrant
+bare gs = map without_checkpoint gs
+
+bare-bare : (gs : List OpenGrant) → bare (bare gs) ≡ bare gs
+bare-bare [] = refl
+bare-bare (g ∷ gs) = ap (λ l. without_checkpoint g ∷ l) (bare-bare gs)
+
+bare-part : (gs : List OpenGrant) → bare (map lent_part gs) ≡ bare gs
+bare-part [] = refl
+bare-part (g ∷ gs) = ap (λ l. without_checkpoint g ∷ l) (bare-part gs)
+
+sheets-bare : (gs : List OpenGrant) → sheets (bare gs) ≡ []
+sheets-bare [] = refl
+sheets-bare (g ∷ gs) = sheets-bare gs
+
+inos-bare : (gs : List OpenGrant) → map (λ (g : OpenGrant). g.ino) (bare gs) ≡ map (λ (g : OpenGrant). g.ino) gs
+inos-bare [] = refl
+inos-bare (g ∷ gs) = ap (λ l. g.ino ∷ l) (inos-bare gs)
+
+-- a test that doesn't read checkpoints
+filter-bare : (p : OpenGrant → Bool) (gs : List OpenGrant)
+    → filter p (bare gs) ≡ bare (filter (λ g. p (without_checkpoint g)) gs)
+filter-bare p gs = filter-map without_checkpoint p gs
+
+-- what is told of the first grant, but for its checkpoint
+first-bare : {X : Type 0} (f : OpenGrant → X) → ((g : OpenGrant) → f (without_checkpoint g) ≡ f g)
+    → (gs : List OpenGrant) → option_map f (slice_get (bare gs) 0) ≡ option_map f (slice_get gs 0)
+first-bare f same [] = refl
+first-bare f same (g ∷ gs) = ap Some (same g)
+
+abbrev busy_of : OpenGrant → GrantFault
+busy_of g = Busy (holder_of g)
+
+abbrev mode_busy_of : OpenGrant → ModeFault
+mode_busy_of g = ModeBusy (holder_of g)
+
+-- pages that no sheet is put at can be taken out before or after
+with_pages-without_pages : (ss : List Sheet) (ns : List ℕ) (pages : Pages)
+    → ((n : ℕ) → In n ns → In n (sheet_numbers ss) → ⊥)
+    → with_pages ss (without_pages ns pages) ≡ without_pages ns (with_pages ss pages)
+with_pages-without_pages ss [] pages apart = refl
+with_pages-without_pages ss (n ∷ ns) pages apart =
+    with_pages-without_pages ss ns _ (λ m i. apart m (inr i))
+    ∙ ap (without_pages ns) (with_pages_set ss pages n None (apart n (inl refl)))
+
+known_same : (s t : State) → settled s ≡ settled t → bare s.open_grants ≡ bare t.open_grants
+    → s.pages_out ≡ t.pages_out → s.numbers_out ≡ t.numbers_out → s.creds ≡ t.creds → s.entries ≡ t.entries
+    → known s ≡ known t
+known_same s t a b c d e f = rw (a, b, c, d, e, f) refl
+
+-- ---- a state, and the plain state of what is known of it
+
+module _ (s : State) where
+  abbrev t : State
+  t = plain_state (known s)
+
+  abbrev J : Pages → Image
+  J pages = with_core_pages s.home pages
+
+  pub settled_plain : settled t ≡ settled s
+  settled_plain = ap (λ ss. J (with_pages ss (settled s).core.pages)) (sheets-bare s.open_grants)
+
+  pub known_plain : known t ≡ known s
+  known_plain = known_same t s settled_plain (bare-bare s.open_grants) refl refl refl refl
+
+  pub known_logged : known (logged t) ≡ known (logged s)
+  known_logged = known_same (logged t) (logged s) settled_plain (bare-bare s.open_grants) refl refl refl refl
+
+  parent_grant_plain : (lib : ℕ) (o : Option Row) → has_parent_grant t lib o ≡ has_parent_grant s lib o
+  parent_grant_plain lib None = refl
+  parent_grant_plain lib (Some r) = list_any-map without_checkpoint
+      (λ (g : OpenGrant). eqb g.lib lib && eqb g.ino r.parent && is_write g.kind) s.open_grants
+
+  denied_plain : (lib ino : ℕ) (kind : GrantKind) → denied_by t lib ino kind ≡ denied_by s lib ino kind
+  denied_plain lib ino Read = refl
+  denied_plain lib ino Write = refl
+  denied_plain lib ino Hold = refl
+
+  lacks_plain : (lib ino : ℕ) (kind : GrantKind) → lacks_parent t lib ino kind ≡ lacks_parent s lib ino kind
+  lacks_plain lib ino Read = refl
+  lacks_plain lib ino Write = refl
+  lacks_plain lib ino Hold = ap not (parent_grant_plain lib (row_at s.home ino))
+
+  busy_plain : (lib ino : ℕ) (kind : GrantKind)
+      → option_map busy_of (slice_get (excluding t lib ino kind) 0)
+      ≡ option_map busy_of (slice_get (excluding s lib ino kind) 0)
+  busy_plain lib ino kind =
+      let excludes : OpenGrant → Bool = λ g. eqb g.ino ino && excludes_kind kind g.kind (eqb g.lib lib) in
+      ap (λ gs. option_map busy_of (slice_get gs 0)) (filter-bare excludes s.open_grants)
+      ∙ first-bare busy_of (λ g. refl) (excluding s lib ino kind)
+
+  pub grant_fault_plain : (lib ino : ℕ) (kind : GrantKind) → grant_fault t lib ino kind ≡ grant_fault s lib ino kind
+  grant_fault_plain lib ino kind =
+      let F : Option ℕ → Bool → Option GrantFault → Option GrantFault =
+      λ d l o. cond (not (is_some (row_at s.home ino))) (Some NotLive) (denied_or d (cond l (Some NoParent) o)) in
+      let busy : Option GrantFault = option_map busy_of (slice_get (excluding t lib ino kind) 0) in
+      ap (λ d. F d (lacks_parent t lib ino kind) busy) (denied_plain lib ino kind)
+      ∙ ap (λ l. F (denied_by s lib ino kind) l busy) (lacks_plain lib ino kind)
+      ∙ ap (F (denied_by s lib ino kind) (lacks_parent s lib ino kind)) (busy_plain lib ino kind)
+
+  pub opened_plain : (lib ino : ℕ) (kind : GrantKind) (r : Row) → opened t lib ino kind r ≡ opened s lib ino kind r
+  opened_plain lib ino kind r = ap opened_in settled_plain
+    where
+      opened_in : Image → OpenGrant
+      opened_in image =
+          let chain = settled_chain image r.kind ino in
+          let index = lent_sheets kind (index_sheets image.core chain) in
+          let blocks = lent_sheets kind (block_sheets image.core chain) in
+          record {
+            lib = lib;
+            ino = ino;
+            kind = kind;
+            of = r.kind;
+            entry = s.entries;
+            body = settled_body image ino;
+            index = index;
+            blocks = blocks;
+            checkpoint = covered kind r.kind index blocks;
+          }
+
+  pub parted_plain : (lib : ℕ) (b : Bundle) → parted_hold t lib b ≡ parted_hold s lib b
+  parted_plain lib b =
+      ap (λ gs. lowest (map (λ (g : OpenGrant). g.ino) gs)) (filter-bare (is_parted t lib b) s.open_grants)
+      ∙ ap lowest (inos-bare (filter (is_parted s lib b) s.open_grants))
+
+  told_plain : (ino : ℕ) (kind : GrantKind) → told_children t.home ino kind ≡ told_children s.home ino kind
+  told_plain ino Read = refl
+  told_plain ino Write = refl
+  told_plain ino Hold = refl
+
+  mode_busy_plain : (ino : ℕ) (r : Row)
+      → option_map mode_busy_of (mode_excluding t ino r) ≡ option_map mode_busy_of (mode_excluding s ino r)
+  mode_busy_plain ino r =
+      let excludes : OpenGrant → Bool = λ g. eqb g.ino ino || eqb g.ino r.parent in
+      ap (λ gs. option_map mode_busy_of (slice_get gs 0)) (filter-bare excludes s.open_grants)
+      ∙ first-bare mode_busy_of (λ g. refl) (filter excludes s.open_grants)
+
+  mode_fault_plain : (lib ino mode : ℕ) (o : Option Row) → mode_fault t lib ino mode o ≡ mode_fault s lib ino mode o
+  mode_fault_plain lib ino mode None = refl
+  mode_fault_plain lib ino mode (Some r) =
+      let uid : ℕ = (creds_of s lib).uid in
+      ap (λ o. cond (eqb ino 1 || not (eqb uid 0 || eqb uid r.uid)) (Some NotOwner)
+      (cond (ltb 511 mode) (Some BadMode) o)) (mode_busy_plain ino r)
+
+  -- ---- what each call comes to
+
+  after_fault : (f : GrantFault) → known (after_grant_fault t f) ≡ known (after_grant_fault s f)
+  after_fault NotLive = known_logged
+  after_fault (Denied n) = known_logged
+  after_fault NoParent = known_logged
+  after_fault (Busy holder) = known_plain
+  after_fault OutOfMemory = known_logged
+
+  -- what a grant lends for writing is under no checkpoint
+  opens_plain : (g : OpenGrant) → ((n : ℕ) → In n (lent_pages g) → In n (sheet_numbers (sheets s.open_grants)) → ⊥)
+      → known (opens t g) ≡ known (opens s g)
+  opens_plain g apart =
+      let ck : List Sheet = sheets s.open_grants in
+      let end : (gs : List OpenGrant) → sheets (gs ++ g ∷ []) ≡ sheets gs ++ g.checkpoint =
+      λ gs. flat_map-append (λ (g : OpenGrant). g.checkpoint) gs (g ∷ [])
+      ∙ ap (λ l. sheets gs ++ l) (append-nil g.checkpoint) in
+      let a : settled (opens t g) ≡ J (with_pages g.checkpoint
+      (without_pages (lent_pages g) (with_pages ck s.home.core.pages))) =
+      ap (λ ss. J (with_pages ss (without_pages (lent_pages g) (with_pages ck s.home.core.pages))))
+      (end (bare s.open_grants) ∙ ap (λ l. l ++ g.checkpoint) (sheets-bare s.open_grants)) in
+      let b : settled (opens s g) ≡ J (with_pages g.checkpoint
+      (without_pages (lent_pages g) (with_pages ck s.home.core.pages))) =
+      ap (λ ss. J (with_pages ss (without_pages (lent_pages g) s.home.core.pages))) (end s.open_grants)
+      ∙ ap J (with_pages-append ck g.checkpoint (without_pages (lent_pages g) s.home.core.pages))
+      ∙ ap (λ ps. J (with_pages g.checkpoint ps)) (with_pages-without_pages ck
+      (lent_pages g) s.home.core.pages apart) in
+      known_same (opens t g) (opens s g) (a ∙ sym b)
+      (map-append without_checkpoint (bare s.open_grants) (g ∷ [])
+      ∙ ap (λ l. l ++ without_checkpoint g ∷ []) (bare-bare s.open_grants)
+      ∙ sym (map-append without_checkpoint s.open_grants (g ∷ [])))
+      refl refl refl refl
+
+module _ (s : State) (k : Kept s) where
+  abbrev u : State
+  u = plain_state (known s)
+
+  -- a file on which no grant is open has no page under a checkpoint
+  uncovered_lent : (lib ino : ℕ) (r : Row) → grant_fault s lib ino Write ≡ None → row_at s.home ino ≡ Some r
+      → (n : ℕ) → In n (lent_pages (opened s lib ino Write r)) → In n (sheet_numbers (sheets s.open_grants)) → ⊥
+  uncovered_lent lib ino r e row =
+      let m = live_met s k ino r row in
+      let free : (g : OpenGrant) → In g s.open_grants → g.ino ≡ m.met.ino → ⊥ =
+      λ g i same. false≢true (sym (excluded_none s lib ino Write e g i (same ∙ m.number))) in
+      let P : ℕ → Row → Type 0 = λ i q. (n : ℕ) → In n (lent_pages (opened s lib i Write q))
+      → In n (sheet_numbers (sheets s.open_grants)) → ⊥ in
+      let a : P m.met.ino (row_by m.met m.file.body) =
+      λ n i j.
+      let q = checkpoint_lent s k n j in
+      let mine : In n (pages_of (settled s).core m.met) =
+      subst (λ l. In n l) (lent_numbers s k lib m.met m.file m.stands m.read free
+      ∙ sym (pages_are (settled s).core m.met m.file m.read)) i in
+      free q.0 q.1 (lent_file s k m.met n q.0 m.stands mine q.1 q.2 q.3) in
+      subst (λ q. P ino q) (sym m.row) (subst (λ i. P i (row_by m.met m.file.body)) m.number a)
+
+  opening : (lib ino : ℕ) (kind : GrantKind) (r : Row) → grant_fault s lib ino kind ≡ None
+      → row_at s.home ino ≡ Some r → known (opens u (opened s lib ino kind r))
+      ≡ known (opens s (opened s lib ino kind r))
+  opening lib ino Read r e row = (let g : OpenGrant = opened s lib ino Read r in opens_plain s g (λ n i j. i))
+  opening lib ino Hold r e row = (let g : OpenGrant = opened s lib ino Hold r in opens_plain s g (λ n i j. i))
+  opening lib ino Write r e row = (let g : OpenGrant =
+      opened s lib ino Write r in opens_plain s g (uncovered_lent lib ino r e row))
+
+  granting : (lib ino : ℕ) (kind : GrantKind) (f : Option GrantFault) (o : Option Row)
+      → grant_fault s lib ino kind ≡ f → row_at s.home ino ≡ o
+      → known (granted_to u lib ino kind f o).after ≡ known (granted_to s lib ino kind f o).after
+  granting lib ino kind (Some fault) o e row = after_fault s fault
+  granting lib ino kind None None e row = known_plain s
+  granting lib ino kind None (Some r) e row = ap (λ g. known (opens u g)) (opened_plain s lib ino kind r)
+      ∙ opening lib ino kind r e row
+
+  granting_answer : (lib ino : ℕ) (kind : GrantKind) (f : Option GrantFault) (o : Option Row)
+      → (granted_to u lib ino kind f o).answer ≡ (granted_to s lib ino kind f o).answer
+  granting_answer lib ino kind (Some fault) o = refl
+  granting_answer lib ino kind None None = refl
+  granting_answer lib ino kind None (Some r) = ap Granted (told_plain s ino kind)
+
+  -- what is allotted, by what is free in s, by whether there are too few pages or numbers
+  abbrev allot_by : (lib count many : ℕ) → State → Bool → Bool → Outcome
+  allot_by lib count many x few_pages few_numbers =
+      cond few_pages (record { answer = NoPages count (length (free_pages s)); after = logged x })
+      (cond few_numbers (record { answer = NoInodes many (length (free_numbers s)); after = logged x }) (record {
+        answer = Given (take count (free_pages s)) (take many (free_numbers s));
+        after = allots x lib (take count (free_pages s)) (take many (free_numbers s));
+      }))
+
+  allotting : (lib count many : ℕ)
+      → (known (allot_outcome u lib count many).after ≡ known (allot_outcome s lib count many).after)
+      × ((allot_outcome u lib count many).answer ≡ (allot_outcome s lib count many).answer)
+  allotting lib count many = either (ltb (length (free_pages s)) count) (ltb (length (free_numbers s)) many)
+    where
+      either : (a b : Bool)
+          → (known (allot_by lib count many u a b).after ≡ known (allot_by lib count many s a b).after)
+          × ((allot_by lib count many u a b).answer ≡ (allot_by lib count many s a b).answer)
+      either true b = (known_logged s, refl)
+      either false true = (known_logged s, refl)
+      either false false =
+          let ps : List ℕ = take count (free_pages s) in
+          let ns : List ℕ = take many (free_numbers s) in
+          let ck : List Sheet = sheets s.open_grants in
+          let image : settled (allots u lib ps ns) ≡ settled (allots s lib ps ns) =
+          ap (λ ss. J s (with_pages ss (without_pages ps (with_pages ck s.home.core.pages)))) (sheets-bare s.open_grants)
+          ∙ ap (J s)
+          (sym (with_pages-without_pages ck ps s.home.core.pages (λ n i j. uncovered' s k lib count many n i j))) in
+          (known_same (allots u lib ps ns) (allots s lib ps ns) image (bare-bare s.open_grants) refl refl refl refl, refl)
+
+  giving_back : (lib ino : ℕ) → known (given_back u lib ino) ≡ known (given_back s lib ino)
+  giving_back lib ino =
+      let stays : OpenGrant → Bool = λ g. not (eqb g.lib lib && eqb g.ino ino && is_read g.kind) in
+      let left : filter stays (bare s.open_grants) ≡ bare (filter stays s.open_grants) =
+      filter-bare stays s.open_grants in
+      let image : settled (given_back u lib ino) ≡ settled s =
+      ap (λ gs. J s (with_pages (sheets gs) (settled s).core.pages)) left
+      ∙ ap (λ ss. J s (with_pages ss (settled s).core.pages)) (sheets-bare (filter stays s.open_grants)) in
+      known_same (given_back u lib ino) (given_back s lib ino) (image ∙ sym (settled_back s k lib ino))
+      (ap bare left ∙ bare-bare (filter stays s.open_grants)) refl refl refl refl
+
+  after_no_mode : (f : ModeFault) → known (after_mode_fault u f) ≡ known (after_mode_fault s f)
+  after_no_mode ModeNotLive = known_logged s
+  after_no_mode NotOwner = known_logged s
+  after_no_mode BadMode = known_logged s
+  after_no_mode (ModeBusy holder) = known_plain s
+  after_no_mode ModeNoMemory = known_logged s
+
+  moding : (lib ino mode : ℕ) (o : Option Row) (f : Option ModeFault) → row_at s.home ino ≡ o
+      → mode_fault s lib ino mode o ≡ f → known (moded_to u ino mode f).after ≡ known (moded_to s ino mode f).after
+  moding lib ino mode o (Some fault) row e = after_no_mode fault
+  moding lib ino mode None None row e = absurd cc
+  moding lib ino mode (Some r) None row e =
+      let may = may_change s lib ino mode r e in
+      let image = settled_moded s k ino mode r row may.small may.other may.free in
+      let I : Image = moded (settled s) ino mode in
+      let plain : settled (record u { home = moded u.home ino mode }) ≡ I =
+      ap (λ ss. record I { core = record I.core { pages = with_pages ss I.core.pages } }) (sheets-bare s.open_grants) in
+      known_same (logged (record u { home = moded u.home ino mode }))
+      (logged (record s { home = moded s.home ino mode })) (plain ∙ sym image)
+      (bare-bare s.open_grants) refl refl refl refl
+
+  moding_answer : (ino mode : ℕ) (f : Option ModeFault)
+      → (moded_to u ino mode f).answer ≡ (moded_to s ino mode f).answer
+  moding_answer ino mode (Some fault) = refl
+  moding_answer ino mode None = refl
+
+  ending : (s' : State) (lib : ℕ) (b : Bundle) (image : Image) → Ends s lib b image s'
+      → known s' ≡ ended (known s) lib b image
+  ending s' lib b image e =
+      let grants : bare s'.open_grants ≡ grants_after u lib b =
+      sym (bare-part s'.open_grants) ∙ ap bare e.grants ∙ bare-part (grants_after s lib b)
+      ∙ sym (filter-bare (λ g. not (is_in_bundle lib b g)) s.open_grants) in
+      rw (e.settles, grants, e.pages, e.numbers, e.creds, e.entries) refl
+
+  -- the ways in which a release ends
+  releasing : (lib : ℕ) (b : Bundle) (answer : Answer) (s' : State) → ReleaseEnd s lib b answer s'
+      → known s' ≡ released (known s) lib b (parted_hold u lib b)
+  releasing lib b answer s' (Parted n some a same) =
+      ap known same ∙ ap (released (known s) lib b) (sym (parted_plain s lib b ∙ some))
+  releasing lib b answer s' (IsAccepted none sure a e) =
+      ending s' lib b _ e
+      ∙ ap (λ x. ended (known s) lib b (cond x (next (settled s) b) (refused_image (settled s) b))) (sym sure)
+      ∙ ap (released (known s) lib b) (sym (parted_plain s lib b ∙ none))
+  releasing lib b answer s' (IsRefused none not_so a e) =
+      ending s' lib b _ e
+      ∙ ap (λ x. ended (known s) lib b (cond x (next (settled s) b) (refused_image (settled s) b))) (sym not_so)
+      ∙ ap (released (known s) lib b) (sym (parted_plain s lib b ∙ none))
+
+  doing : (event : Event) (answer : Answer) (s' : State) → Does s event answer s'
+      → known s' ≡ known_done (known s) event
+  doing (Grant lib ino kind) answer s' d =
+      ap known d.1
+      ∙ sym (granting lib ino kind (grant_fault s lib ino kind) (row_at s.home ino) refl refl)
+      ∙ ap (λ f. known (granted_to u lib ino kind f (row_at s.home ino)).after) (sym (grant_fault_plain s lib ino kind))
+  doing (Allot lib pages numbers) answer s' d = ap known d.1 ∙ sym (allotting lib pages numbers).0
+  doing (Back lib ino) answer s' d = ap known d.1 ∙ sym (giving_back lib ino)
+  doing (Release lib b) answer s' d = releasing lib b answer s' (release_end s s' lib b answer d)
+  doing (Settle lib b) answer s' d = ending s' lib b _ d.3
+  doing (SetMode lib ino mode) answer s' d =
+      ap known d.1
+      ∙ sym (moding lib ino mode (row_at s.home ino) (mode_fault s lib ino mode (row_at s.home ino)) refl refl)
+      ∙ ap (λ f. known (moded_to u ino mode f).after) (sym (mode_fault_plain s lib ino mode (row_at s.home ino)))
+
+other_answer : (answer : Answer) → answer ≢ NoMemory → is_no_memory answer ≡ false
+other_answer NoMemory other = absurd (other refl)
+other_answer (Granted children) other = refl
+other_answer (NotGranted fault) other = refl
+other_answer (Given pages numbers) other = refl
+other_answer (NoPages wanted free) other = refl
+other_answer (NoInodes wanted free) other = refl
+other_answer Done other = refl
+other_answer Accepted other = refl
+other_answer Refused other = refl
+other_answer (NotClosed ino) other = refl
+other_answer Settled other = refl
+other_answer ModeSet other = refl
+other_answer (NotModeSet fault) other = refl
+
+pub steps_are_known : StepsAreKnown
+steps_are_known s event answer s' k (inl does) =
+    doing s k event answer s' does
+    ∙ ap (λ b. cond b (known s) (known_done (known s) event))
+    (sym (other_answer answer (does_told s event answer s' does)))
+steps_are_known s event answer s' k (inr none) =
+    ap known none.2 ∙ ap (λ a. known_after (known s) event a) (sym none.1)
+
+pub known_decides : KnownDecides
+known_decides s = record {
+  image = settled_plain s;
+  grant_faults = grant_fault_plain s;
+  openings = opened_plain s;
+  free_pages = refl;
+  free_numbers = refl;
+  parted = parted_plain s;
+  creds = λ lib. refl;
+}
+
+-- ---- answers
+
+-- the answer to a release by its lowest hold that is parted
+abbrev release_answer : Known → ℕ → Bundle → Option ℕ → Answer
+release_answer k lib b (Some n) = NotClosed n
+release_answer k lib b None = cond (is_accepted k.image (creds_of (plain_state k) lib) b) Accepted Refused
+
+-- the answer to an event, where memory is there
+abbrev known_answer : Known → Event → Answer
+known_answer k (Grant lib ino kind) = (grant_outcome (plain_state k) lib ino kind).answer
+known_answer k (Allot lib pages numbers) = (allot_outcome (plain_state k) lib pages numbers).answer
+known_answer k (Back lib ino) = Done
+known_answer k (Release lib b) = release_answer k lib b (parted_hold (plain_state k) lib b)
+known_answer k (Settle lib b) = Settled
+known_answer k (SetMode lib ino mode) = (mode_outcome (plain_state k) lib ino mode).answer
+
+same_joined : (a b c : Answer) → SameAnswer a c → SameAnswer b c → SameAnswer a b
+same_joined a b c (inl e) (inl f) = inl (e ∙ sym f)
+same_joined a b c (inl e) (inr y) = inr (ap is_refusal e ∙ y.1, y.0)
+same_joined a b c (inr x) (inl f) = inr (x.0, ap is_refusal f ∙ x.1)
+same_joined a b c (inr x) (inr y) = inr (x.0, y.0)
+
+released_answer : (s s' : State) (lib : ℕ) (b : Bundle) (answer : Answer) → ReleaseEnd s lib b answer s'
+    → SameAnswer answer (known_answer (known s) (Release lib b))
+released_answer s s' lib b answer (Parted n some a same) =
+    inl (a ∙ ap (release_answer (known s) lib b) (sym (parted_plain s lib b ∙ some)))
+released_answer s s' lib b answer (IsAccepted none sure a e) =
+    inl (a ∙ ap (λ x. cond x Accepted Refused) (sym sure)
+    ∙ ap (release_answer (known s) lib b) (sym (parted_plain s lib b ∙ none)))
+released_answer s s' lib b answer (IsRefused none not_so a e) =
+    let is : Refused ≡ known_answer (known s) (Release lib b) =
+    ap (λ x. cond x Accepted Refused) (sym not_so) ∙ ap (release_answer (known s) lib b) (sym (parted_plain s lib b
+    ∙ none)) in
+    inr (ap is_refusal a, sym (ap is_refusal is))
+
+does_answer : (s : State) (k : Kept s) (event : Event) (answer : Answer) (s' : State) → Does s event answer s'
+    → SameAnswer answer (known_answer (known s) event)
+does_answer s k (Grant lib ino kind) answer s' d =
+    inl (d.0
+    ∙ sym (granting_answer s k lib ino kind (grant_fault s lib ino kind) (row_at s.home ino))
+    ∙ ap (λ f. (granted_to (plain_state (known s)) lib ino kind f (row_at s.home ino)).answer)
+    (sym (grant_fault_plain s lib ino kind)))
+does_answer s k (Allot lib pages numbers) answer s' d = inl (d.0 ∙ sym ((allotting s k lib pages numbers).1))
+does_answer s k (Back lib ino) answer s' d = inl d.0
+does_answer s k (Release lib b) answer s' d = released_answer s s' lib b answer (release_end s s' lib b answer d)
+does_answer s k (Settle lib b) answer s' d = inl d.0
+does_answer s k (SetMode lib ino mode) answer s' d =
+    inl (d.0
+    ∙ sym (moding_answer s k ino mode (mode_fault s lib ino mode (row_at s.home ino)))
+    ∙ ap (λ f. (moded_to (plain_state (known s)) ino mode f).answer)
+    (sym (mode_fault_plain s lib ino mode (row_at s.home ino))))
+
+-- a step with memory there
+step_does : (s : State) (event : Event) (answer : Answer) (s' : State) → Step s event answer s' → answer ≢ NoMemory
+    → Does s event answer s'
+step_does s event answer s' (inl does) other = does
+step_does s event answer s' (inr none) other = absurd (other none.1)
+
+pub same_event_same_answer : SameEventSameAnswer
+same_event_same_answer s t event a b s' t' k l same one two some_a some_b =
+    let d = step_does s event a s' one some_a in
+    let e = step_does t event b t' two some_b in
+    let answer : SameAnswer b (known_answer (known s) event) =
+    subst (λ x. SameAnswer b (known_answer x event)) (sym same) (does_answer t l event b t' e) in (
+      same_joined a b (known_answer (known s) event) (does_answer s k event a s' d) answer,
+      doing s k event a s' d ∙ ap (λ x. known_done x event) same ∙ sym (doing t l event b t' e),
+    )

@@ -1,0 +1,187 @@
+-- Open grants stand in the order of their entries.
+use Rattle.std.proofs.Common.{◌≡◌, ℕ, ◌<◌, ◌≤◌, zero, suc, Bool, true, false, cond, ◌&&◌, not, eqb, ltb, List, [], ◌∷◌, length, get_or, take, Option, Some, None, slice_get, sym, refl, ap, subst, inl, inr, arith}
+use Rattle.std.specs.Prelude.{AllPairs}
+use Rattle.std.specs.List.{filter}
+use Rattle.std.proofs.lemmas.List.Kept.{AllPairs-filter}
+use Rattle.std.proofs.lemmas.List.Quantifiers.{all_pairs_push}
+use Rattle.trio_rights.specs.Row.{Row}
+use Rattle.trio_nodes.specs.declared.grant.GrantKind.{GrantKind}
+use Rattle.trio_nodes.specs.declared.answers.GrantFault.{GrantFault}
+use Rattle.trio_nodes.specs.declared.answers.GrantFault.TheVariants.{NotLive, Denied, NoParent, Busy, NoMemory as OutOfMemory}
+use Rattle.trio_nodes.specs.declared.answers.ModeFault.{ModeFault}
+use Rattle.trio_nodes.specs.declared.answers.ModeFault.TheVariants.{NotLive as ModeNotLive, NotOwner, BadMode, Busy as ModeBusy, NoMemory as ModeNoMemory}
+use Rattle.trio_layout.specs.Lists.{In}
+use Rattle.trio_state.specs.Image.{Image, row_at}
+use Rattle.trio_state.specs.State.{OpenGrant, State, is_read, logged}
+use Rattle.trio_state.specs.Proposed.{Bundle}
+use Rattle.trio_state.specs.Grants.{grant_fault, opened, opens, given_back}
+use Rattle.trio_state.specs.Allotments.{free_pages, free_numbers, allots}
+use Rattle.trio_state.specs.Bundles.{is_in_bundle, lent_part, grants_after, Ends}
+use Rattle.trio_state.specs.Step.{Event, Grant, Allot, Back, Release, Settle, SetMode, Answer, NoPages, NoInodes, Given, Outcome, after_grant_fault, granted_to, allot_outcome, mode_fault, after_mode_fault, moded_to}
+use Rattle.trio_state.specs.Run.{start, Trace}
+use Rattle.trio_laws.specs.GrantLaws.{CameBefore, IsOrdered, OrderBegins, OrderStays, GrantsAreOrdered, FirstIsLowest}
+use Rattle.trio_laws.proofs.Members.{In-cases, In-map, map_from}
+use Rattle.trio_laws.proofs.StateFacts.{In_get, In_index}
+use Rattle.trio_laws.proofs.Bundles.{filter_in, in_filter}
+use Rattle.trio_laws.proofs.Ended.{pairs_like}
+use Rattle.trio_laws.proofs.Releases.{ReleaseEnd, Parted, IsAccepted, IsRefused, release_end}
+
+-- the same grants in a state of as many entries or more
+same_ordered : (s s' : State) → s'.open_grants ≡ s.open_grants → s.entries ≤ s'.entries → IsOrdered s → IsOrdered s'
+same_ordered s s' e more o = record {
+  rising = subst (AllPairs CameBefore) (sym e) o.rising;
+  below = λ g i. let l = o.below g (subst (λ gs. In g gs) e i) in omega (arith, more, l);
+}
+
+logged_ordered : (s : State) → IsOrdered s → IsOrdered (logged s)
+logged_ordered s o = same_ordered s (logged s) refl (omega arith) o
+
+grant_fault_ordered : (s : State) (f : GrantFault) → IsOrdered s → IsOrdered (after_grant_fault s f)
+grant_fault_ordered s NotLive o = logged_ordered s o
+grant_fault_ordered s (Denied n) o = logged_ordered s o
+grant_fault_ordered s NoParent o = logged_ordered s o
+grant_fault_ordered s (Busy holder) o = o
+grant_fault_ordered s OutOfMemory o = logged_ordered s o
+
+-- a grant with the next entry
+opens_ordered : (s : State) (g : OpenGrant) → g.entry ≡ s.entries → IsOrdered s → IsOrdered (opens s g)
+opens_ordered s g e o = record {
+  rising = all_pairs_push CameBefore s.open_grants g o.rising
+      (λ k d l. let b = o.below (get_or s.open_grants k d) (In_get s.open_grants k d l) in omega (arith, b, e));
+  below = λ h i. elim (In-cases h s.open_grants (g ∷ []) i) [
+    | inl old ↦ let b = o.below h old in omega (arith, b)
+    | inr new ↦ elim new [
+      | inl same ↦ let at : h.entry ≡ g.entry =
+          ap (λ (x : OpenGrant). x.entry) same in omega (arith, at, e)
+      | inr none ↦ absurd none
+    ]
+  ];
+}
+
+granted_ordered : (s : State) (lib ino : ℕ) (kind : GrantKind) (a : Option GrantFault) (r : Option Row) → IsOrdered s
+    → IsOrdered (granted_to s lib ino kind a r).after
+granted_ordered s lib ino kind (Some fault) r o = grant_fault_ordered s fault o
+granted_ordered s lib ino kind None None o = o
+granted_ordered s lib ino kind None (Some r) o = opens_ordered s (opened s lib ino kind r) refl o
+
+allot_ordered : (s : State) (lib pages numbers : ℕ) → IsOrdered s → IsOrdered (allot_outcome s lib pages numbers).after
+allot_ordered s lib pages numbers o = either (ltb (length (free_pages s)) pages) (ltb (length (free_numbers s)) numbers)
+  where
+    either : (a b : Bool) → IsOrdered (cond {A = Outcome} a (record {
+      answer =
+          NoPages pages (length (free_pages s));
+      after = logged s;
+    })
+        (cond b (record { answer = NoInodes numbers (length (free_numbers s)); after = logged s })
+        (record {
+          answer = Given (take pages (free_pages s)) (take numbers (free_numbers s));
+          after =
+              allots s lib (take pages (free_pages s)) (take numbers (free_numbers s));
+        }))).after
+    either true b = logged_ordered s o
+    either false true = logged_ordered s o
+    either false false = same_ordered s (allots s lib (take pages (free_pages s)) (take numbers (free_numbers s)))
+        refl (omega arith) o
+
+back_ordered : (s : State) (lib ino : ℕ) → IsOrdered s → IsOrdered (given_back s lib ino)
+back_ordered s lib ino o =
+    let stays : OpenGrant → Bool = λ g. not (eqb g.lib lib && eqb g.ino ino && is_read g.kind) in
+    record {
+      rising = AllPairs-filter CameBefore stays s.open_grants o.rising;
+      below = λ g i. let b = o.below g (filter_in stays g s.open_grants i).0 in omega (arith, b);
+    }
+
+ends_ordered : (s s' : State) (lib : ℕ) (b : Bundle) (image : Image) → Ends s lib b image s' → IsOrdered s
+    → IsOrdered s'
+ends_ordered s s' lib b image e o =
+    let stays : OpenGrant → Bool = λ g. not (is_in_bundle lib b g) in
+    record {
+      rising = pairs_like CameBefore (λ x y h. h) (λ x y h. h) s'.open_grants (grants_after s lib b) e.grants
+          (AllPairs-filter CameBefore stays s.open_grants o.rising);
+      below = λ g i.
+          let j = map_from lent_part (lent_part g) (grants_after s lib b)
+          (subst (λ l. In (lent_part g) l) e.grants (In-map lent_part g s'.open_grants i)) in
+          let was = o.below j.0 (filter_in stays j.0 s.open_grants j.1).0 in
+          let at : g.entry ≡ j.0.entry = ap (λ (x : OpenGrant). x.entry) j.2 in
+          let more = e.entries in
+          omega (arith, was, at, more);
+    }
+
+release_ordered : (s s' : State) (lib : ℕ) (b : Bundle) (answer : Answer) → ReleaseEnd s lib b answer s'
+    → IsOrdered s → IsOrdered s'
+release_ordered s s' lib b answer (Parted n none e same) o = subst IsOrdered (sym same) o
+release_ordered s s' lib b answer (IsAccepted none t e ends) o = ends_ordered s s' lib b _ ends o
+release_ordered s s' lib b answer (IsRefused none f e ends) o = ends_ordered s s' lib b _ ends o
+
+mode_fault_ordered : (s : State) (f : ModeFault) → IsOrdered s → IsOrdered (after_mode_fault s f)
+mode_fault_ordered s ModeNotLive o = logged_ordered s o
+mode_fault_ordered s NotOwner o = logged_ordered s o
+mode_fault_ordered s BadMode o = logged_ordered s o
+mode_fault_ordered s (ModeBusy holder) o = o
+mode_fault_ordered s ModeNoMemory o = logged_ordered s o
+
+mode_ordered : (s : State) (ino mode : ℕ) (a : Option ModeFault) → IsOrdered s → IsOrdered (moded_to s ino mode a).after
+mode_ordered s ino mode (Some fault) o = mode_fault_ordered s fault o
+mode_ordered s ino mode None o = same_ordered s _ refl (omega arith) o
+
+pub order_begins : OrderBegins
+order_begins image creds = record { rising = λ i j d l within. absurd (omega arith); below = λ g i. absurd i }
+
+pub order_stays : OrderStays
+order_stays s event answer s' o (inr none) = subst IsOrdered (sym none.2) o
+order_stays s (Grant lib ino kind) answer s' o (inl does) =
+    subst IsOrdered (sym does.1) (granted_ordered s lib ino kind (grant_fault s lib ino kind) (row_at s.home ino) o)
+order_stays s (Allot lib pages numbers) answer s' o (inl does) =
+    subst IsOrdered (sym does.1) (allot_ordered s lib pages numbers o)
+order_stays s (Back lib ino) answer s' o (inl does) = subst IsOrdered (sym does.1) (back_ordered s lib ino o)
+order_stays s (Release lib b) answer s' o (inl does) =
+    release_ordered s s' lib b answer (release_end s s' lib b answer does) o
+order_stays s (Settle lib b) answer s' o (inl does) = ends_ordered s s' lib b _ does.3 o
+order_stays s (SetMode lib ino mode) answer s' o (inl does) =
+    subst IsOrdered (sym does.1) (mode_ordered s ino mode (mode_fault s lib ino mode (row_at s.home ino)) o)
+
+-- each state of a run is ordered
+trace_ordered : (s : State) (events : List Event) (answers : List Answer) (states : List State) → IsOrdered s
+    → Trace s events answers states → (t : State) → In t states → IsOrdered t
+trace_ordered s [] [] [] o run t i = absurd i
+trace_ordered s [] [] (u ∷ states) o run t i = absurd run
+trace_ordered s [] (answer ∷ answers) states o run t i = absurd run
+trace_ordered s (event ∷ events) [] states o run t i = absurd run
+trace_ordered s (event ∷ events) (answer ∷ answers) [] o run t i = absurd run
+trace_ordered s (event ∷ events) (answer ∷ answers) (u ∷ states) o run t i =
+    let now : IsOrdered u = order_stays s event answer u o run.1 in
+    elim i [
+      | inl e ↦ subst IsOrdered (sym e) now
+      | inr j ↦ trace_ordered u events answers states now run.2 t j
+    ]
+
+pub grants_are_ordered : GrantsAreOrdered
+grants_are_ordered run s i =
+    let begins = order_begins run.image run.creds in
+    elim i [
+      | inl first ↦ subst IsOrdered (sym first) begins
+      | inr later ↦ trace_ordered (start run.image run.creds) run.events run.answers run.states begins run.trace s later
+    ]
+
+-- the first of a list in order is the lowest
+first_of : (gs : List OpenGrant) (g h : OpenGrant) → AllPairs CameBefore gs → slice_get gs 0 ≡ Some g → In h gs
+    → g.entry ≤ h.entry
+first_of [] g h rising first i = absurd i
+first_of (x ∷ xs) g h rising first (inl same) =
+    let is : x ≡ g = cc first in
+    let at : x.entry ≡ g.entry = ap (λ (y : OpenGrant). y.entry) is in
+    let e : h.entry ≡ x.entry = ap (λ (y : OpenGrant). y.entry) same in
+    omega (arith, e, at)
+first_of (x ∷ xs) g h rising first (inr later) =
+    let is : x ≡ g = cc first in
+    let at : x.entry ≡ g.entry = ap (λ (y : OpenGrant). y.entry) is in
+    let r = In_index h xs later in
+    let l : 0 < suc r.0 = omega arith in
+    let k : suc r.0 < length (x ∷ xs) = (let q = r.1 in omega (arith, q)) in
+    let before : x.entry < h.entry = subst (λ y. CameBefore x y) r.2 (rising zero (suc r.0) h l k) in
+    omega (arith, before, at)
+
+pub first_is_lowest : FirstIsLowest
+first_is_lowest s passes g h o first i passed =
+    first_of (filter passes s.open_grants) g h (AllPairs-filter CameBefore passes s.open_grants o.rising) first
+    (in_filter passes h s.open_grants i passed)

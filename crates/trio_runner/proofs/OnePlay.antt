@@ -1,0 +1,227 @@
+-- Two plays of one script on one image come to the same.
+use Rattle.std.proofs.Common.{◌≡◌, ◌≢◌, ℕ, Bool, true, false, List, [], ◌∷◌, Option, Some, None, sym, refl, ap, ◌∙◌, subst, inl, inr, ◌⊎◌}
+use Rattle.std.proofs.lemmas.Bool.{MatchBool-at_true, MatchBool-at_false, cases_Bool, false≢true}
+use Rattle.trio_rights.specs.declared.rights.Creds.{Creds}
+use Rattle.trio_rights.specs.Row.{Row}
+use Rattle.trio_nodes.specs.declared.grant.GrantKind.TheVariants.{Write}
+use Rattle.trio_state.specs.Image.{Image, row_at}
+use Rattle.trio_state.specs.State.{OpenGrant, State, settled}
+use Rattle.trio_state.specs.Grants.{opened}
+use Rattle.trio_state.specs.Step.{Event, Release, Answer, Granted, NotGranted, Given, NoPages, NoInodes, Done, Accepted, Refused, NotClosed, Settled, ModeSet, NotModeSet, NoMemory, Step}
+use Rattle.trio_laws.specs.Known.{Known, known, plain_state, is_refusal, SameAnswer}
+use Rattle.trio_laws.proofs.KnownSteps.{known_decides, same_event_same_answer}
+use Rattle.trio_raw.specs.Has.{Has, nothing, whole_bundle, is_nothing}
+use Rattle.trio_raw.specs.Laws.{lent_file, with_lent}
+use Rattle.trio_script.specs.Said.{Said, grant_write, allot, poke, release}
+use Rattle.trio_script.specs.Script.{SaidLine}
+use Rattle.trio_report.specs.Answers.{Answer as Told}
+use Rattle.trio_report.specs.declared.report.EndAnswer.{EndAnswer}
+use Rattle.trio_runner.specs.Play.{Player, Moved, Alone, Asks, PlaysLine, Plays, EndsAlone, EndsAll, PlaysEnd, Played, event_of, told_of, end_of, told_alone, has_alone, has_lent, has_after, at_start}
+use Rattle.trio_runner.specs.PlayLaws.{Stands}
+use Rattle.trio_runner.specs.OnePlay.{ComeToOne, PlayedIsOne}
+use Rattle.trio_runner.proofs.Lines.{LineEnd, IsAlone, IsAsked, line_end, line_stands, start_stands}
+
+-- of two players the same is known, and the library has the same
+record Alike (p q : Player) : Type 0 where
+  known_same : known p.state ≡ known q.state
+  has_same : p.has ≡ q.has
+
+-- a refusal tells nothing
+refusal_is : (a : Answer) → is_refusal a ≡ true → a ≡ Refused
+refusal_is Refused e = refl
+refusal_is (Granted children) e = absurd (false≢true e)
+refusal_is (NotGranted fault) e = absurd (false≢true e)
+refusal_is (Given pages numbers) e = absurd (false≢true e)
+refusal_is (NoPages wanted free) e = absurd (false≢true e)
+refusal_is (NoInodes wanted free) e = absurd (false≢true e)
+refusal_is Done e = absurd (false≢true e)
+refusal_is Accepted e = absurd (false≢true e)
+refusal_is (NotClosed ino) e = absurd (false≢true e)
+refusal_is Settled e = absurd (false≢true e)
+refusal_is ModeSet e = absurd (false≢true e)
+refusal_is (NotModeSet fault) e = absurd (false≢true e)
+refusal_is NoMemory e = absurd (false≢true e)
+
+one_answer : (a b : Answer) → SameAnswer a b → a ≡ b
+one_answer a b (inl e) = e
+one_answer a b (inr r) = refusal_is a r.0 ∙ sym (refusal_is b r.1)
+
+-- what is told is no want of memory
+told_some : (a : Answer) (told : Told) → told_of a ≡ Some told → a ≢ NoMemory
+told_some a told is e = (let wrong : None ≡ Some told = sym (ap told_of e) ∙ is in cc wrong)
+
+end_some : (a : Answer) (end : EndAnswer) → end_of a ≡ Some end → a ≢ NoMemory
+end_some a end is e = (let wrong : None ≡ Some end = sym (ap end_of e) ∙ is in cc wrong)
+
+-- what a granted file lends goes by what is known
+has_lent_plain : (lib : ℕ) (s : State) (has : Has) (ino : ℕ) (o : Option Row)
+    → has_lent lib (plain_state (known s)) has ino o ≡ has_lent lib s has ino o
+has_lent_plain lib s has ino None = refl
+has_lent_plain lib s has ino (Some r) = ap (λ (g : OpenGrant). with_lent has (lent_file g))
+    ((known_decides s).openings lib ino Write r)
+
+has_after_plain : (lib : ℕ) (s : State) (has : Has) (said : Said) (a : Answer)
+    → has_after lib (plain_state (known s)) has said a ≡ has_after lib s has said a
+has_after_plain lib s has (allot pages numbers) a = refl
+has_after_plain lib s has (poke at offset bytes) a = refl
+has_after_plain lib s has (release inos pages numbers) a = refl
+has_after_plain lib s has (grant_write ino) (Granted children) = has_lent_plain lib s has ino (row_at s.home ino)
+has_after_plain lib s has (grant_write ino) Refused = refl
+has_after_plain lib s has (grant_write ino) (NotGranted fault) = refl
+has_after_plain lib s has (grant_write ino) (Given pages numbers) = refl
+has_after_plain lib s has (grant_write ino) (NoPages wanted free) = refl
+has_after_plain lib s has (grant_write ino) (NoInodes wanted free) = refl
+has_after_plain lib s has (grant_write ino) Done = refl
+has_after_plain lib s has (grant_write ino) Accepted = refl
+has_after_plain lib s has (grant_write ino) (NotClosed n) = refl
+has_after_plain lib s has (grant_write ino) Settled = refl
+has_after_plain lib s has (grant_write ino) ModeSet = refl
+has_after_plain lib s has (grant_write ino) (NotModeSet fault) = refl
+has_after_plain lib s has (grant_write ino) NoMemory = refl
+
+has_after_same : (lib : ℕ) (p q : Player) (said : Said) (a b : Answer) → Alike p q → a ≡ b
+    → has_after lib p.state p.has said a ≡ has_after lib q.state q.has said b
+has_after_same lib p q said a b like e =
+    sym (has_after_plain lib p.state p.has said a)
+    ∙ ap (λ k. has_after lib (plain_state k) p.has said a) like.known_same
+    ∙ has_after_plain lib q.state p.has said a
+    ∙ ap (λ h. has_after lib q.state h said a) like.has_same
+    ∙ ap (has_after lib q.state q.has said) e
+
+-- a line
+record OneLine (told told' : Told) (p' q' : Player) : Type 0 where
+  one_told : told ≡ told'
+  alike : Alike p' q'
+
+one_line : (lib : ℕ) (p q : Player) (said : Said) (told told' : Told) (moves moves' : List Moved) (p' q' : Player)
+    → Stands lib p → Stands lib q → Alike p q → PlaysLine lib p said told moves p'
+    → PlaysLine lib q said told' moves' q' → OneLine told told' p' q'
+one_line lib p q said told told' moves moves' p' q' h k like one two =
+    by_ends (line_end lib p said told moves p' h.in_hand one) (line_end lib q said told' moves' q' k.in_hand two)
+  where
+    events : event_of lib p.has said ≡ event_of lib q.has said
+    events = ap (λ x. event_of lib x said) like.has_same
+
+    by_ends : LineEnd lib p said told moves p' → LineEnd lib q said told' moves' q' → OneLine told told' p' q'
+    by_ends (IsAlone e a) (IsAlone f b) = record {
+      one_told = a.told_is ∙ ap (λ x. told_alone x said) like.has_same ∙ sym b.told_is;
+      alike = record {
+        known_same = ap known a.state ∙ like.known_same ∙ sym (ap known b.state);
+        has_same = a.has ∙ ap (λ x. has_alone x said) like.has_same ∙ sym b.has;
+      };
+    }
+    by_ends (IsAlone e a) (IsAsked event f given b) =
+        (let wrong : None ≡ Some event = sym e ∙ events ∙ f in absurd (cc wrong))
+    by_ends (IsAsked event e given a) (IsAlone f b) =
+        (let wrong : Some event ≡ None = sym e ∙ events ∙ f in absurd (cc wrong))
+    by_ends (IsAsked event e given a) (IsAsked event' f given' b) =
+        let same : Some event' ≡ Some event = sym f ∙ sym events ∙ e in
+        let one_event : event' ≡ event = cc same in
+        let step : Step q.state event b.answer q'.state =
+            subst (λ x. Step q.state x b.answer q'.state) one_event b.step in
+        let r = same_event_same_answer p.state q.state event a.answer b.answer p'.state q'.state h.kept k.kept
+            like.known_same a.step step (told_some a.answer told a.told_is) (told_some b.answer told' b.told_is) in
+        let answers : a.answer ≡ b.answer = one_answer a.answer b.answer r.0 in
+        let tolds : Some told ≡ Some told' = sym a.told_is ∙ ap told_of answers ∙ b.told_is in
+        record {
+          one_told = cc tolds;
+          alike = record { known_same = r.1; has_same = a.has
+              ∙ has_after_same lib p q said a.answer b.answer like answers ∙ sym b.has };
+        }
+
+-- lines, one after another
+record OnePart (lib : ℕ) (tolds tolds' : List Told) (p' q' : Player) : Type 0 where
+  one_told : tolds ≡ tolds'
+  alike : Alike p' q'
+  stands : Stands lib p'
+  stands' : Stands lib q'
+
+one_part : (lib : ℕ) (p q : Player) (lines : List SaidLine) (tolds tolds' : List Told) (moves moves' : List Moved)
+    (p' q' : Player) → Stands lib p → Stands lib q → Alike p q → Plays lib p lines tolds moves p'
+    → Plays lib q lines tolds' moves' q' → OnePart lib tolds tolds' p' q'
+one_part lib p q [] [] [] moves moves' p' q' h k like one two = record {
+  one_told = refl;
+  alike = record {
+    known_same = ap (λ (x : Player). known x.state) one.1 ∙ like.known_same
+        ∙ sym (ap (λ (x : Player). known x.state) two.1);
+    has_same = ap (λ (x : Player). x.has) one.1 ∙ like.has_same ∙ sym (ap (λ (x : Player). x.has) two.1);
+  };
+  stands = subst (Stands lib) (sym one.1) h;
+  stands' = subst (Stands lib) (sym two.1) k;
+}
+one_part lib p q [] [] (u ∷ us) moves moves' p' q' h k like one two = absurd two
+one_part lib p q [] (t ∷ ts) tolds' moves moves' p' q' h k like one two = absurd one
+one_part lib p q (l ∷ lines) [] tolds' moves moves' p' q' h k like one two = absurd one
+one_part lib p q (l ∷ lines) (t ∷ ts) [] moves moves' p' q' h k like one two = absurd two
+one_part lib p q (l ∷ lines) (t ∷ ts) (u ∷ us) moves moves' p' q' h k like one two =
+    let first = one_line lib p q l.said t u one.first two.first one.middle two.middle h k like one.line two.line in
+    let rest =
+    one_part lib one.middle two.middle lines ts us one.others two.others p' q'
+        (line_stands lib p l.said t one.first one.middle h one.line)
+        (line_stands lib q l.said u two.first two.middle k two.line) first.alike one.rest two.rest in
+    record {
+      one_told = ap (λ x. x ∷ ts) first.one_told ∙ ap (λ l. u ∷ l) rest.one_told;
+      alike = rest.alike;
+      stands = rest.stands;
+      stands' = rest.stands';
+    }
+
+-- the end
+record OneEnd (end end' : EndAnswer) (p' q' : Player) : Type 0 where
+  one_end : end ≡ end'
+  known_same : known p'.state ≡ known q'.state
+
+-- the end, by whether the library has something
+end_by : (lib : ℕ) (p : Player) (end : EndAnswer) (moves : List Moved) (p' : Player) → PlaysEnd lib p end moves p'
+    → ((is_nothing p.has ≡ true) × EndsAlone p end moves p') ⊎ ((is_nothing p.has ≡ false) × EndsAll lib p end moves p')
+end_by lib p end moves p' plays =
+    let Yes : Type 0 = EndsAlone p end moves p' in
+    let No : Type 0 = EndsAll lib p end moves p' in
+    elim (cases_Bool (is_nothing p.has)) [
+      | inl t ↦ inl (t, MatchBool-at_true Yes No t plays)
+      | inr f ↦ inr (f, MatchBool-at_false Yes No f plays)
+    ]
+
+one_end_of : (lib : ℕ) (p q : Player) (end end' : EndAnswer) (moves moves' : List Moved) (p' q' : Player)
+    → Stands lib p → Stands lib q → Alike p q → EndsAll lib p end moves p' → EndsAll lib q end' moves' q'
+    → OneEnd end end' p' q'
+one_end_of lib p q end end' moves moves' p' q' h k like a b =
+    let event : Event = Release lib (whole_bundle p.has) in
+    let step : Step q.state event b.answer q'.state =
+    subst (λ x. Step q.state (Release lib (whole_bundle x)) b.answer q'.state) (sym like.has_same) b.step in
+    let r = same_event_same_answer p.state q.state event a.answer b.answer p'.state q'.state h.kept k.kept
+        like.known_same a.step step (end_some a.answer end a.end_is) (end_some b.answer end' b.end_is) in
+    let ends : Some end ≡ Some end' = sym a.end_is ∙ ap end_of (one_answer a.answer b.answer r.0) ∙ b.end_is in
+    record { one_end = cc ends; known_same = r.1 }
+
+one_end : (lib : ℕ) (p q : Player) (end end' : EndAnswer) (moves moves' : List Moved) (p' q' : Player) → Stands lib p
+    → Stands lib q → Alike p q → PlaysEnd lib p end moves p' → PlaysEnd lib q end' moves' q' → OneEnd end end' p' q'
+one_end lib p q end end' moves moves' p' q' h k like one two =
+    by_ends (end_by lib p end moves p' one) (end_by lib q end' moves' q' two)
+  where
+    there : is_nothing p.has ≡ is_nothing q.has
+    there = ap is_nothing like.has_same
+
+    by_ends : ((is_nothing p.has ≡ true) × EndsAlone p end moves p')
+        ⊎ ((is_nothing p.has ≡ false) × EndsAll lib p end moves p')
+        → ((is_nothing q.has ≡ true) × EndsAlone q end' moves' q')
+        ⊎ ((is_nothing q.has ≡ false) × EndsAll lib q end' moves' q') → OneEnd end end' p' q'
+    by_ends (inl a) (inl b) = record {
+      one_end = a.1.end_is ∙ sym b.1.end_is;
+      known_same = ap (λ (x : Player). known x.state) a.1.same ∙ like.known_same
+          ∙ sym (ap (λ (x : Player). known x.state) b.1.same);
+    }
+    by_ends (inl a) (inr b) = absurd (false≢true (sym b.0 ∙ sym there ∙ a.0))
+    by_ends (inr a) (inl b) = absurd (false≢true (sym a.0 ∙ there ∙ b.0))
+    by_ends (inr a) (inr b) = one_end_of lib p q end end' moves moves' p' q' h k like a.1 b.1
+
+pub played_is_one : PlayedIsOne
+played_is_one image creds lines a b fit verifies whole =
+    let first = at_start image creds in
+    let begins = start_stands image creds fit verifies whole in
+    let part =
+    one_part 1 first first lines a.tolds b.tolds a.line_moves b.line_moves a.middle b.middle begins begins
+        (record { known_same = refl; has_same = refl }) a.lines_are b.lines_are in
+    let last = one_end 1 a.middle b.middle a.end b.end a.end_moves b.end_moves a.last b.last part.stands part.stands'
+        part.alike a.end_is b.end_is in
+    record { tolds = part.one_told; end = last.one_end; settles = ap (λ (k : Known). k.image) last.known_same }
