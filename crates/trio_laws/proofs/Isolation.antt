@@ -251,7 +251,7 @@ every_step_is_isolated s (Back lib ino) answer s' n r k given (inl does) row has
 every_step_is_isolated s (Release lib b) answer s' n r k given (inl does) row has elsewhere =
     release s k lib n r row s' b answer given has (release_end s s' lib b answer does)
 every_step_is_isolated s (Settle lib b) answer s' n r k given (inl does) row has elsewhere =
-    accepted s k lib n r row s' b given does.2 does.3 has
+    accepted s k lib n r row s' b given.0 does.2 does.3 has
 every_step_is_isolated s (SetMode lib ino mode) answer s' n r k given (inl does) row has elsewhere =
     let U : State → Type 0 = λ x. IsUntouched (settled s) (settled x) n in
     subst U (sym does.1) (set_mode s k lib n r row ino mode (row_at s.home ino) (mode_fault s lib ino mode (row_at s.home ino)) refl refl elsewhere)

@@ -26,7 +26,7 @@ use Rattle.trio_laws.proofs.Bundles.{closed_unparted, closed_all, filter_in, in_
 use Rattle.trio_laws.proofs.Releases.{ReleaseEnd, Parted, IsAccepted, IsRefused, release_end}
 use Rattle.trio_laws.proofs.Modes.{may_change}
 use Rattle.trio_laws.proofs.Runs.{step_kept}
-use Rattle.trio_laws.proofs.Others.{LeavesTo, has_grant_stays, given_stays, unparted_stays, refused_leaves, accepted_leaves}
+use Rattle.trio_laws.proofs.Others.{LeavesTo, has_grant_stays, given_stays, no_read_stays, unparted_stays, refused_leaves, accepted_leaves}
 
 -- a step after which grants, outs and rows stand as they did
 same_leaves : (s s' : State) (lib : ℕ) → s'.open_grants ≡ s.open_grants → s'.pages_out ≡ s.pages_out → s'.numbers_out ≡ s.numbers_out → ((g : OpenGrant) (q : Row) → In g s.open_grants → row_at s'.home g.ino ≡ Some q → (r : Row) × (row_at s.home g.ino ≡ Some r) × (r.parent ≡ q.parent)) → LeavesTo s s' lib
@@ -132,7 +132,7 @@ other_step_leaves s s' lib (Back other ino) answer k given (inl does) apart =
 other_step_leaves s s' lib (Release other b) answer k given (inl does) apart =
     release_leaves s s' lib other b answer k given apart (release_end s s' other b answer does)
 other_step_leaves s s' lib (Settle other b) answer k given (inl does) apart =
-    accepted_leaves s s' k lib other b given (closed_all s other b does.1) does.2 does.3 (λ x. apart (sym x))
+    accepted_leaves s s' k lib other b given.0 (closed_all s other b does.1) does.2 does.3 (λ x. apart (sym x))
 other_step_leaves s s' lib (SetMode other ino mode) answer k given (inl does) apart =
     let L : State → Type 0 = λ x. LeavesTo s x lib in subst L (sym does.1) (mode_leaves s lib other ino mode (row_at s.home ino) (mode_fault s other ino mode (row_at s.home ino)) refl)
 
@@ -141,7 +141,7 @@ event_stays s s' (Grant lib ino kind) l given = given
 event_stays s s' (Allot lib pages numbers) l given = given
 event_stays s s' (Back lib ino) l given = has_grant_stays s s' lib ino Read l given
 event_stays s s' (Release lib b) l given = given_stays s s' lib b given l
-event_stays s s' (Settle lib b) l given = given_stays s s' lib b given l
+event_stays s s' (Settle lib b) l given = (given_stays s s' lib b given.0 l, no_read_stays s s' lib given.1 l)
 event_stays s s' (SetMode lib ino mode) l given = given
 
 -- what a library hands in stays given through the steps of others

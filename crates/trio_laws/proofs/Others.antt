@@ -10,7 +10,7 @@ use Rattle.trio_layout.specs.Lists.{is_among, are_new, In}
 use Rattle.trio_layout.specs.Survey.{row_by}
 use Rattle.trio_state.specs.Accept.{is_accepted, next}
 use Rattle.trio_state.specs.Bundles.{is_hold, is_parent_written, is_parted, parted_hold, is_in_bundle, lent_part, refused_image, Ends}
-use Rattle.trio_state.specs.Given.{HasGrant, GivenTo}
+use Rattle.trio_state.specs.Given.{HasGrant, HasNoRead, GivenTo}
 use Rattle.trio_state.specs.Image.{Image, row_at}
 use Rattle.trio_state.specs.Kept.{Kept}
 use Rattle.trio_state.specs.Proposed.{Bundle, is_written}
@@ -63,7 +63,17 @@ given_stays s s' lib b given l = record {
   pages = λ n i. let o = given.pages n i in (o.0, l.pages o.0 o.1 o.2, o.2, o.3);
   numbers = λ n i. let o = given.numbers n i in (o.0, l.numbers o.0 o.1 o.2, o.2, o.3);
   full = given.full;
+  writes_once = given.writes_once;
+  holds_once = given.holds_once;
+  pages_once = given.pages_once;
+  numbers_once = given.numbers_once;
 }
+
+-- a library without a read grant still has none
+pub no_read_stays : (s s' : State) (lib : ℕ) → HasNoRead s lib → LeavesTo s s' lib → HasNoRead s' lib
+no_read_stays s s' lib none l h i mine kind =
+    let g = l.none_new h i mine in
+    none g.0 g.1 (ap (λ (x : OpenGrant). x.lib) (sym g.2) ∙ mine) (ap (λ (x : OpenGrant). x.kind) (sym g.2) ∙ kind)
 
 -- a bundle that is closed stays closed
 pub unparted_stays : (s s' : State) (lib : ℕ) (b : Bundle) → Kept s' → LeavesTo s s' lib → parted_hold s lib b ≡ None → parted_hold s' lib b ≡ None

@@ -44,7 +44,7 @@ step_kept s s' (Grant lib ino kind) answer k given step = grant_kept s s' lib in
 step_kept s s' (Allot lib pages numbers) answer k given step = allot_kept s s' lib pages numbers answer k step
 step_kept s s' (Back lib ino) answer k given step = back_kept s s' lib ino answer k step
 step_kept s s' (Release lib b) answer k given step = release_kept s s' lib b answer k given step
-step_kept s s' (Settle lib b) answer k given step = settle_kept s s' lib b answer k given step
+step_kept s s' (Settle lib b) answer k given step = settle_kept s s' lib b answer k given.0 step
 step_kept s s' (SetMode lib ino mode) answer k given step = mode_kept s s' lib ino mode answer k step
 
 -- each state of a run is kept
