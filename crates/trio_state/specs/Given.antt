@@ -1,10 +1,12 @@
 -- What a library can hand in: what it was given, with any bytes.
-use Rattle.std.specs.Prelude.{◌≡◌, ◌≢◌, ℕ, List, [], length, map, IsTrue}
+use Rattle.std.specs.Prelude.{◌≡◌, ◌≢◌, ℕ, List, [], length, map, Option, Some, IsTrue}
+use Rattle.trio_rights.specs.declared.rights.LibNo.{LibNo}
+use Rattle.trio_tables.specs.Out.{lib_at}
 use Rattle.trio_nodes.specs.declared.grant.GrantKind.TheVariants.{Read, Write, Hold}
 use Rattle.trio_nodes.specs.declared.grant.GrantKind.{GrantKind}
 use Rattle.trio_layout.specs.Lists.{In, are_new}
 use Rattle.trio_state.specs.Sheets.{Sheet, sheet_numbers}
-use Rattle.trio_state.specs.State.{OpenGrant, Out, State}
+use Rattle.trio_state.specs.State.{OpenGrant, State}
 use Rattle.trio_state.specs.Proposed.{Written, Bundle, bundle_sheets}
 use Rattle.trio_state.specs.Step.{Event, Grant, Allot, Back, Release, Settle, SetMode}
 
@@ -28,8 +30,8 @@ pub record WasLent (s : State) (lib' : ℕ) (w : Written) : Type 0 where
   pub blocks : sheet_numbers w.blocks ≡ sheet_numbers grant.blocks
 
 -- the number is out by an allotment of this library
-abbrev pub WasAllotted : List Out → ℕ → ℕ → Type 0
-WasAllotted outs lib n = (o : Out) × In o outs × (o.lib ≡ lib) × (o.number ≡ n)
+abbrev pub WasAllotted : List (Option LibNo) → ℕ → ℕ → Type 0
+WasAllotted outs lib n = lib_at outs n ≡ Some (record { 0 = lib })
 
 -- The bundle is made of what the library was given, each thing once, and each page with 4096 bytes of any value. Nothing is
 -- asked of bodies.
