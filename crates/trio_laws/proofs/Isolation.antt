@@ -170,12 +170,12 @@ module _ (s : State) (k : Kept s) (lib n : ℕ) (r : Row) (row : row_at (settled
   allotted : (count many : ℕ) → Same (allots s lib (take count (free_pages s)) (take many (free_numbers s)))
   allotted count many =
       let core : Core = (settled s).core in
-      agreeing_untouched (settled s) (allot_pages s k lib count many) k.fit (allot_fit s k lib count many) k.verifies (allot_agree s k lib count many) n r row
+      agreeing_untouched (settled s) (allot_pages s lib count many k) k.fit (allot_fit s lib count many k) k.verifies (allot_agree s lib count many k) n r row
       (λ m f p i num read own.
-      elim (allot_now s k lib count many p) [
-        | inl same ↦ page_same core (allot_pages s k lib count many) p same
+      elim (allot_now s lib count many k p) [
+        | inl same ↦ page_same core (allot_pages s lib count many k) p same
         | inr gone ↦
-            absurd (free_unlisted core plain k.fit k.verifies.sound (settled s) (tables s k) p (page_free s k lib count many p gone.0).0 m i (subst (λ l. In p l) (sym (pages_are core m f read)) (plain_listed m.kind f p own)))
+            absurd (free_unlisted core plain k.fit k.verifies.sound (settled s) (tables s k) p (page_free s lib count many p gone.0).0 m i (subst (λ l. In p l) (sym (pages_are core m f read)) (plain_listed m.kind f p own)))
       ])
 
   allot : (count many : ℕ) → Same (allot_outcome s lib count many).after

@@ -1,6 +1,10 @@
 -- Every step keeps what holds of a state, and so does every run.
-use Rattle.std.proofs.Common.{ℕ, List, [], ◌∷◌, sym, refl, subst, inl, inr, arith}
+use Rattle.std.proofs.Common.{ℕ, ◌+◌, List, [], ◌∷◌, None, sym, refl, ap, ◌∙◌, subst, inl, inr, arith}
+use Rattle.std.specs.Prelude.{is_some}
+use Rattle.std.proofs.lemmas.Bool.{false≢true}
+use Rattle.std.proofs.lemmas.List.{length-replicate}
 use Rattle.trio_rights.specs.declared.rights.Creds.{Creds}
+use Rattle.trio_tables.proofs.OutLemmas.{lib_at-none_out}
 use Rattle.trio_layout.specs.Lists.{In}
 use Rattle.trio_state.specs.Given.{GivenTo, GivenEvent}
 use Rattle.trio_state.specs.Image.{IsFit, Image}
@@ -73,8 +77,8 @@ start_kept image creds fit verifies whole = record {
   lent = λ g i w. absurd i;
   checkpoints = λ g i. absurd i;
   absent = λ p gone c. absurd (whole p gone c);
-  out_once = refl;
-  out_free = λ o i. absurd i;
-  numbers_once = refl;
-  numbers_free = λ o i. absurd i;
+  pages_placed = length-replicate image.core.range.end None;
+  out_free = λ p out. absurd (false≢true (sym (ap is_some (lib_at-none_out image.core.range.end p)) ∙ out));
+  numbers_placed = length-replicate (image.core.inodes + 1) None;
+  numbers_free = λ n out. absurd (false≢true (sym (ap is_some (lib_at-none_out (image.core.inodes + 1) n)) ∙ out));
 }
