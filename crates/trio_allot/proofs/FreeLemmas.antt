@@ -5,8 +5,8 @@ use Rattle.std.proofs.lemmas.Bool.{cases_lt, ne_eqb}
 use Rattle.std.proofs.lemmas.List.{drop_more, drop_all, take_more}
 use Rattle.trio_rights.specs.Row.{Row}
 use Rattle.trio_rights.specs.declared.rights.LibNo.{LibNo}
-use Rattle.trio_allot.specs.Free.{count_up, numbers_where, is_free_page, free_pages, is_free_number, free_numbers}
-use Rattle.trio_allot.specs.Out.{lib_at}
+use Rattle.trio_tables.specs.Free.{count_up, numbers_where, is_free_page, free_pages, is_free_number, free_numbers}
+use Rattle.trio_tables.specs.Out.{lib_at}
 
 pub where_step : (test : ℕ → Bool) (from end : ℕ) → from < end
     → numbers_where test from end ≡ (if test from then from ∷ numbers_where test (from + 1) end else numbers_where test (from + 1) end)
@@ -30,15 +30,6 @@ where_same test other from end same = by from (end - from) (λ n le lt. same n l
     by from (suc n) same =
         ap (λ b. cond b (from ∷ filter test (count_up (suc from) n)) (filter test (count_up (suc from) n))) (same from (omega arith) (omega arith))
         ∙ ap (λ l. cond (other from) (from ∷ l) l) (by (suc from) n (λ k le lt. same k (omega (arith, le)) (omega (arith, lt))))
-
--- where none below a number passes, it may as well begin there
-pub where_skip : (test : ℕ → Bool) (first end : ℕ) → first ≤ end → ((n : ℕ) → n < first → test n ≡ false) → numbers_where test 0 end ≡ numbers_where test first end
-where_skip test zero end le none = refl
-where_skip test (suc first) end le none =
-    where_skip test first end (omega (arith, le)) (λ n lt. none n (omega (arith, lt)))
-    ∙ where_step test first end (omega (arith, le))
-    ∙ ap (λ b. if b then first ∷ numbers_where test (first + 1) end else numbers_where test (first + 1) end) (none first (omega arith))
-    ∙ (let e : first + 1 ≡ suc first = omega arith in ap (λ k. numbers_where test k end) e)
 
 -- one more of the free numbers: it is the one at i, and the rest are those behind it
 pub record Next (free rest : List ℕ) (i n : ℕ) : Type 0 where
@@ -70,30 +61,3 @@ pub next_same : (test other : ℕ → Bool) (from end n : ℕ) → ((m : ℕ) �
 next_same test other from end n same le e =
     sym (where_same test other from end same) ∙ e
     ∙ ap (λ l. n ∷ l) (where_same test other (n + 1) end (λ m more lt. same m (omega (arith, le, more)) lt))
-
--- ---- for callers that count and test in words of their own
-
--- a count that has the equations of `count_up` is the same
-pub count_is : (count : ℕ → ℕ → List ℕ) → ((from : ℕ) → count from 0 ≡ []) → ((from n : ℕ) → count from (suc n) ≡ from ∷ count (suc from) n)
-    → (from n : ℕ) → count from n ≡ count_up from n
-count_is count none more from zero = none from
-count_is count none more from (suc n) = more from n ∙ ap (λ l. from ∷ l) (count_is count none more (suc from) n)
-
--- The free pages are the core pages that pass a test which agrees on them. The pages below the first core page have an owner.
-pub free_pages_are : (owners : List ℕ) (outs : List (Option LibNo)) (first end : ℕ) (test : ℕ → Bool)
-    → length owners ≡ end → first ≤ end → ((n : ℕ) → n < first → slice_index owners n ≢ 0)
-    → ((n : ℕ) → first ≤ n → n < end → test n ≡ is_free_page owners outs n)
-    → filter test (count_up first (end - first)) ≡ free_pages owners outs
-free_pages_are owners outs first end test size le owned same =
-    where_same test (is_free_page owners outs) first end same
-    ∙ sym (where_skip (is_free_page owners outs) first end le (λ n lt. ap (λ b. b && not (is_some (lib_at outs n))) (ne_eqb (slice_index owners n) 0 (owned n lt))))
-    ∙ ap (numbers_where (is_free_page owners outs) 0) (sym size)
-
--- the free numbers are those of the table that pass a test which agrees on them
-pub free_numbers_are : (rows : List (Option Row)) (outs : List (Option LibNo)) (inodes : ℕ) (test : ℕ → Bool)
-    → length rows ≡ inodes + 1 → ((n : ℕ) → 1 ≤ n → n ≤ inodes → test n ≡ is_free_number rows outs n)
-    → filter test (count_up 1 inodes) ≡ free_numbers rows outs
-free_numbers_are rows outs inodes test size same =
-    let many : inodes ≡ length rows - 1 = omega (arith, size) in
-    ap (λ k. filter test (count_up 1 k)) many
-    ∙ where_same test (is_free_number rows outs) 1 (length rows) (λ n le lt. same n le (omega (arith, size, lt)))

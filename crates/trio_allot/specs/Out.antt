@@ -1,8 +1,9 @@
 -- What is out by allotment, and how it goes out and comes back.
-use Rattle.std.specs.Prelude.{ℕ, zero, suc, ◌+◌, List, [], ◌∷◌, map, replicate, Option, None, Some, slice_index_or, slice_set}
+use Rattle.std.specs.Prelude.{ℕ, zero, suc, ◌+◌, List, [], ◌∷◌, map, Option, Some, slice_set}
 use Rattle.trio_page.specs.Field.{zeros}
 use Rattle.trio_page.specs.Home.{raised}
 use Rattle.trio_rights.specs.declared.rights.LibNo.{LibNo}
+use Rattle.trio_tables.specs.Out.{none_out}
 use Rattle.trio_lease.specs.declared.parts.FreshParts.{FreshParts}
 use Rattle.trio_lease.specs.declared.parts.InoParts.{InoParts}
 
@@ -12,17 +13,8 @@ pub record OutTo : Type 0 where
   pub numbers : List (Option LibNo)
 
 -- nothing is out of so many pages and so many inode numbers; the number 0 has its place, and is none
-abbrev pub none_out : ℕ → ℕ → OutTo
-none_out pages inodes = record { pages = replicate pages None; numbers = replicate (inodes + 1) None }
-
--- the library that has this number out; None where it isn't out, as past the end
-abbrev pub lib_at : List (Option LibNo) → ℕ → Option LibNo
-lib_at outs n = slice_index_or outs n None
-
--- the list with the same x at each of these places
-abbrev pub with_all : {X : Type 0} → X → List ℕ → List X → List X
-with_all x [] xs = xs
-with_all x (n ∷ ns) xs = with_all x ns (slice_set xs n x)
+abbrev pub nothing_out : ℕ → ℕ → OutTo
+nothing_out pages inodes = record { pages = none_out pages; numbers = none_out (inodes + 1) }
 
 -- a page that goes out: its number, and all zero bytes
 abbrev pub fresh_page : LibNo → ℕ → FreshParts

@@ -3,8 +3,10 @@
 ghost use Rattle.std.specs.Prelude.{◌≡◌, ◌+◌, ◌<◌, ◌≤◌, ◌∷◌, [], IfErr, IfOk, IfSome, IsSome, IsTrue, MatchOption, None, OnErr, OnOk, Some, All, length, map, slice_index_or, slice_set, take};
 ghost use Rattle.trio_page.specs.Field.{zeros};
 ghost use Rattle.trio_page.specs.Home.{raised};
-ghost use Rattle.trio_allot.specs.Free.{FreeAreHome, RefusesInodes, RefusesPages, free_numbers, free_pages, is_free_number, is_free_page, numbers_where};
-ghost use Rattle.trio_allot.specs.Out.{fresh_number, fresh_page, inode_numbers, lib_at, none_out, page_numbers, raised_by, with_all, with_pages};
+ghost use Rattle.trio_tables.specs.Free.{free_numbers, free_pages, is_free_number, is_free_page, numbers_where};
+ghost use Rattle.trio_allot.specs.Free.{FreeAreHome, RefusesInodes, RefusesPages};
+ghost use Rattle.trio_tables.specs.Out.{lib_at, with_all};
+ghost use Rattle.trio_allot.specs.Out.{fresh_number, fresh_page, inode_numbers, nothing_out, page_numbers, raised_by, with_pages};
 
 use std::alloc::Global;
 use std::marker::Model;
@@ -43,7 +45,7 @@ impl Allotments {
     /// Nothing is out, of an image of `pages` pages and of the inode numbers from 1 to `inodes`.
     /// `NoMemory` where there is no memory for it.
     pub fn new(alloc: Global, pages: u32, inodes: u32) -> Result<Allotments, NoMemory>
-        ensures { IfOk result (λ a. a ≡ none_out pages inodes) }
+        ensures { IfOk result (λ a. a ≡ nothing_out pages inodes) }
     {
         let mut by_page = Vec::new(alloc);
         by_page.resize(pages as usize, None)?;
@@ -56,17 +58,15 @@ impl Allotments {
         })
     }
 
-    /// The library that has the page out. `None` exactly where it isn't out, as all pages past the
-    /// image aren't.
-    pub fn page_lib(&self, no: PageNo) -> Option<LibNo>
+    // the library that has the page out; none past the image
+    pub(crate) fn page_lib(&self, no: PageNo) -> Option<LibNo>
         ensures { result ≡ lib_at self.now.pages no.0 }
     {
         *self.pages.get(no.0 as usize)?
     }
 
-    /// The library that has the inode number out. `None` exactly where it isn't out, as all numbers
-    /// past the last one aren't.
-    pub fn number_lib(&self, ino: u32) -> Option<LibNo>
+    // the library that has the inode number out; none past the last one
+    pub(crate) fn number_lib(&self, ino: u32) -> Option<LibNo>
         ensures { result ≡ lib_at self.now.numbers ino }
     {
         *self.numbers.get(ino as usize)?

@@ -11,8 +11,7 @@
 //! Contracts see it as two lists, by page and by inode number, of the library that has it out
 //! (`OutTo` of `specs/Out.antt`). So what is out is out to one library, and once.
 //!
-//! `specs/Free.antt` says what is free. Lemmas for callers: `proofs/FreeLemmas.antt` (the same by
-//! a caller's own words) and `proofs/OutLemmas.antt` (the lists at one number).
+//! `trio_tables`' `specs/Free.antt` says what is free.
 #![tactic(auto)]
 
 mod allot;

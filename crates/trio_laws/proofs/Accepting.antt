@@ -1,5 +1,5 @@
 -- The end of an accepted bundle keeps what holds of a state.
-use Rattle.std.proofs.Common.{◌≡◌, ℕ, true, false, ◌&&◌, eqb, List, ◌++◌, Option, Some, None, slice_get, sym, refl, ap, ◌∙◌, subst, inl, inr, ◌⊎◌}
+use Rattle.std.proofs.Common.{◌≡◌, ℕ, ◌+◌, true, false, ◌&&◌, eqb, List, ◌++◌, Option, Some, None, slice_get, sym, refl, ap, ◌∙◌, subst, inl, inr, ◌⊎◌}
 use Rattle.std.specs.Prelude.{map, is_some, slice_index}
 use Rattle.std.specs.List.{flat_map}
 use Rattle.std.specs.Option.{option_map}
@@ -8,6 +8,7 @@ use Rattle.std.proofs.lemmas.List.{map-append}
 use Rattle.trio_rights.specs.Row.{Row}
 use Rattle.trio_rights.specs.declared.rights.Creds.{Creds}
 use Rattle.trio_nodes.specs.declared.grant.GrantKind.TheVariants.{Write, Hold}
+use Rattle.trio_tables.specs.Out.{is_out}
 use Rattle.trio_layout.specs.Chain.{Chain}
 use Rattle.trio_layout.specs.Core.{Core}
 use Rattle.trio_layout.specs.Lists.{is_among, In}
@@ -22,12 +23,12 @@ use Rattle.trio_state.specs.Image.{IsFit, Image, settled_body, row_at}
 use Rattle.trio_state.specs.Kept.{Kept, LentIsListed, HoldStands}
 use Rattle.trio_state.specs.Proposed.{Written, Bundle, bundle_sheets, bundle_pages, proposed, proposed_pick}
 use Rattle.trio_state.specs.Sheets.{Sheet, sheet_numbers}
-use Rattle.trio_state.specs.State.{OpenGrant, Out, State, settled, is_write}
+use Rattle.trio_state.specs.State.{OpenGrant, State, settled, is_write}
 use Rattle.trio_state.specs.Verifies.{Verifies}
 use Rattle.trio_laws.specs.Reading.{with_picked_bodies, picked_entry}
 use Rattle.trio_laws.proofs.Accepted.{accepted_verifies, fit_put}
 use Rattle.trio_laws.proofs.Bundles.{Closed, outside_unheld, kept_chain}
-use Rattle.trio_laws.proofs.Ended.{grant_before, apart_then, checkpoints_then, write_in_bundle, parent_then, outs_then, numbers_then, out_once_then, numbers_once_then, absent_then}
+use Rattle.trio_laws.proofs.Ended.{grant_before, apart_then, checkpoints_then, write_in_bundle, parent_then, outs_then, numbers_then, pages_placed_then, numbers_placed_then, absent_then}
 use Rattle.trio_laws.proofs.Images.{some_of, row_at_is, row_met, settled_body_met, unlisted_free, free_is_low}
 use Rattle.trio_laws.proofs.Members.{In-left, In-right, In-flat, In-map, map_from, In-among}
 use Rattle.trio_laws.proofs.Picked.{all_listed, bodies_are, listed_no_root, file_put, survey_put}
@@ -144,7 +145,7 @@ module _ (s s' : State) (k : Kept s) (lib : ℕ) (creds : Creds) (b : Bundle) (g
       }
 
   -- a page that is absent from what is settled then was lent or is out
-  absent_after : (p : ℕ) → is_core (settled s).core.range p ≡ true → slice_get after.core.pages p ≡ Some None → ((g : OpenGrant) × In g s.open_grants × (is_in_bundle lib b g ≡ false) × (g.kind ≡ Write) × In p (sheet_numbers (g.index ++ g.blocks))) ⊎ ((o : Out) × In o s.pages_out × (o.number ≡ p) × (In p (sheet_numbers b.pages) → ⊥))
+  absent_after : (p : ℕ) → is_core (settled s).core.range p ≡ true → slice_get after.core.pages p ≡ Some None → ((g : OpenGrant) × In g s.open_grants × (is_in_bundle lib b g ≡ false) × (g.kind ≡ Write) × In p (sheet_numbers (g.index ++ g.blocks))) ⊎ ((is_out s.pages_out p ≡ true) × (In p (sheet_numbers b.pages) → ⊥))
   absent_after p c gone =
       let a : slice_get core.pages p ≡ Some None =
       absent_map (put_on p (all_listed core pick)) (slice_get core.pages p)
@@ -166,24 +167,22 @@ module _ (s s' : State) (k : Kept s) (lib : ℕ) (creds : Creds) (b : Bundle) (g
                   ap (λ (z : OpenGrant). sheet_numbers (z.index ++ z.blocks)) (sym x.2) ∙ map-append (λ (z : Sheet). z.page) y.grant.index y.grant.blocks ∙ ap (λ l. l ++ sheet_numbers y.grant.blocks) (sym y.index) ∙ ap (λ l. sheet_numbers x.0.index ++ l) (sym y.blocks) ∙ sym (map-append (λ (z : Sheet). z.page) x.0.index x.0.blocks) in
                   absurd (w.0 (handed_in b x.0 p x.1 (subst (λ l. In p l) same pages)))
             ]
-        | inr out ↦
-            let q = any_at (λ (o : Out). eqb o.number p) s.pages_out out in
-            inr (q.0, q.1, eqb-true q.0.number p q.2, λ j. w.0 (allotted_in b p j))
+        | inr out ↦ inr (out, λ j. w.0 (allotted_in b p j))
       ]
 
-  free_then : (o : Out) → In o s'.pages_out → slice_index s'.home.owners o.number ≡ 0
-  free_then o i =
-      let was = outs_then s s' k lib b given after e o i in
-      let z = k.out_free o was.0 in
-      ap (λ (i : Image). slice_index i.owners o.number) e.settles
-      ∙ unlisted_free core pick fit sound after (record { rows = refl; owners = refl }) o.number
-      (free_is_low (settled s).core plain k.fit k.verifies.sound (settled s) (tables s k) o.number z)
-      (out_unlisted s k lib creds b given accepted o.number z was.1)
+  free_then : (p : ℕ) → is_out s'.pages_out p ≡ true → slice_index s'.home.owners p ≡ 0
+  free_then p out =
+      let was = outs_then s s' k lib b given after e p out in
+      let z = k.out_free p was.0 in
+      ap (λ (i : Image). slice_index i.owners p) e.settles
+      ∙ unlisted_free core pick fit sound after (record { rows = refl; owners = refl }) p
+      (free_is_low (settled s).core plain k.fit k.verifies.sound (settled s) (tables s k) p z)
+      (out_unlisted s k lib creds b given accepted p z was.1)
 
-  numbers_free_then : (o : Out) → In o s'.numbers_out → row_at s'.home o.number ≡ None
-  numbers_free_then o i =
-      let was = numbers_then s s' k lib b given after e o i in
-      rows_home o.number ∙ number_free s k lib creds b given accepted o.number (k.numbers_free o was.0) was.1
+  numbers_free_then : (n : ℕ) → is_out s'.numbers_out n ≡ true → row_at s'.home n ≡ None
+  numbers_free_then n out =
+      let was = numbers_then s s' k lib b given after e n out in
+      rows_home n ∙ number_free s k lib creds b given accepted n (k.numbers_free n was.0) was.1
 
   pub accepted_kept : Kept s'
   accepted_kept = record {
@@ -197,8 +196,8 @@ module _ (s s' : State) (k : Kept s) (lib : ℕ) (creds : Creds) (b : Bundle) (g
     absent = λ p gone c.
         let c' : is_core (settled s).core.range p ≡ true = ap (λ (i : Image). is_core i.core.range p) (sym e.settles) ∙ c in
         absent_then s s' k lib b given after e p gone (absent_after p c');
-    out_once = out_once_then s s' k lib b given after e;
+    pages_placed = pages_placed_then s s' k lib b given after e ∙ ap (λ (i : Image). i.core.range.end) (sym e.settles);
     out_free = free_then;
-    numbers_once = numbers_once_then s s' k lib b given after e;
+    numbers_placed = numbers_placed_then s s' k lib b given after e ∙ ap (λ (i : Image). i.core.inodes + 1) (sym e.settles);
     numbers_free = numbers_free_then;
   }

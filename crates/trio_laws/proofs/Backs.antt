@@ -85,9 +85,9 @@ module _ (s : State) (k : Kept s) (lib ino : ℕ) where
           inl (any_writes (λ (g : OpenGrant). is_write g.kind && is_among p (sheet_numbers (g.index ++ g.blocks))) (λ g t. (and_parts (is_write g.kind) (is_among p (sheet_numbers (g.index ++ g.blocks))) t).0) lent)
       | inr out ↦ inr out
     ];
-    out_once = k.out_once;
+    pages_placed = k.pages_placed;
     out_free = k.out_free;
-    numbers_once = k.numbers_once;
+    numbers_placed = k.numbers_placed;
     numbers_free = k.numbers_free;
   }
 

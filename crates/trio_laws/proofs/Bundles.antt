@@ -18,13 +18,14 @@ use Rattle.trio_layout.specs.Lists.{In, is_among}
 use Rattle.trio_layout.specs.Sound.{is_sound}
 use Rattle.trio_layout.specs.Survey.{Met, Pick, plain, FileRead, file_of, survey, children, pages_of, met_in}
 use Rattle.trio_state.specs.Allowed.{same_kind, same_row, all_up_to}
+use Rattle.trio_state.specs.Allotments.{out_after, has_none_out}
 use Rattle.trio_state.specs.Bundles.{is_hold, is_parent_written, is_parted, lower, lowest, parted_hold, is_in_bundle, has_all}
 use Rattle.trio_state.specs.Given.{GivenTo}
 use Rattle.trio_state.specs.Image.{IsFit, settled_body, row_at}
 use Rattle.trio_state.specs.Kept.{Kept}
 use Rattle.trio_state.specs.Proposed.{Written, Bundle, bundle_sheets, bundle_pages, is_written, kept_body, is_place_of, proposed, proposed_pick}
 use Rattle.trio_state.specs.Sheets.{Sheet, sheet_numbers, with_pages}
-use Rattle.trio_state.specs.State.{OpenGrant, Out, State, settled, is_write, is_read}
+use Rattle.trio_state.specs.State.{OpenGrant, State, settled, is_write, is_read}
 use Rattle.trio_laws.proofs.Images.{finds, found, met_numbered, owner_listed, root_or_listed}
 use Rattle.trio_laws.proofs.Local.{reads_from, chain_follows}
 use Rattle.trio_laws.proofs.Members.{In-left, In-cases, flat_from, map_from, In-map, In-among, among_from, all_at}
@@ -188,8 +189,8 @@ hold_reads kind e = ap is_read e
 pub closed_all : (s : State) (lib : ℕ) (b : Bundle) → has_all s lib b ≡ true → Closed s lib b
 closed_all s lib b all g r i kind mine row written =
     let grants : Bool = list_all (λ (g : OpenGrant). not (eqb g.lib lib) || is_read g.kind || is_in_bundle lib b g) s.open_grants in
-    let pages : Bool = list_all (λ (o : Out). not (eqb o.lib lib) || is_among o.number (sheet_numbers b.pages)) s.pages_out in
-    let numbers : Bool = list_all (λ (o : Out). not (eqb o.lib lib) || is_among o.number b.numbers) s.numbers_out in
+    let pages : Bool = has_none_out lib (out_after s.pages_out (sheet_numbers b.pages)) in
+    let numbers : Bool = has_none_out lib (out_after s.numbers_out b.numbers) in
     let p = and_parts (grants && pages) numbers all in
     let q = and_parts grants pages p.0 in
     let t = all_at (λ (g : OpenGrant). not (eqb g.lib lib) || is_read g.kind || is_in_bundle lib b g) g s.open_grants q.0 i in
@@ -223,7 +224,7 @@ module _ (s : State) (k : Kept s) (lib : ℕ) (b : Bundle) (given : GivenTo s li
   pub page_owned : (p : ℕ) → In p (bundle_pages b) → (slice_index s.home.owners p ≡ 0) ⊎ ((w : Written) × In w b.writes × (slice_index s.home.owners p ≡ w.ino))
   page_owned p i =
       elim (bundle_page p i) [
-        | inl a ↦ let o = given.pages p a in inl (ap (slice_index s.home.owners) (sym o.3) ∙ k.out_free o.0 o.1)
+        | inl a ↦ inl (k.out_free p (ap is_some (given.pages p a)))
         | inr w ↦
             let g = given.writes w.0 w.1 in
             let l = k.lent g.grant g.is_open g.kind in

@@ -1,5 +1,5 @@
 -- What the end of a bundle leaves of grants and of what is out, whatever the verdict.
-use Rattle.std.proofs.Common.{◌≡◌, ℕ, ◌<◌, Bool, true, false, cond, ◌&&◌, ◌||◌, not, eqb, List, [], ◌∷◌, ◌++◌, length, get_or, Option, Some, None, slice_get, sym, refl, ap, ◌∙◌, subst, inl, inr, ◌⊎◌, arith}
+use Rattle.std.proofs.Common.{◌≡◌, ℕ, ◌+◌, ◌<◌, Bool, true, false, cond, ◌&&◌, ◌||◌, not, eqb, List, [], ◌∷◌, ◌++◌, length, get_or, Option, Some, None, slice_get, sym, refl, ap, ◌∙◌, subst, inl, inr, ◌⊎◌, arith}
 use Rattle.std.specs.Prelude.{map, is_some, AllPairs}
 use Rattle.std.specs.List.{filter, find, flat_map}
 use Rattle.std.proofs.lemmas.List.{length-map, get_or-map}
@@ -7,6 +7,8 @@ use Rattle.std.proofs.lemmas.List.Kept.{AllPairs-filter}
 use Rattle.std.proofs.lemmas.Bool.{and_parts, and_from, or_cases, eqb-true, eq-eqb, false≢true, not-true, not_from_false, both_ways, false_from_ne_true}
 use Rattle.trio_rights.specs.Row.{Row}
 use Rattle.trio_nodes.specs.declared.grant.GrantKind.TheVariants.{Write, Hold}
+use Rattle.trio_tables.specs.Out.{is_out}
+use Rattle.trio_tables.proofs.OutLemmas.{is_out-back, length-with_all, lib_at-others}
 use Rattle.trio_layout.specs.Lists.{is_among, are_new, In}
 use Rattle.trio_state.specs.Bundles.{is_hold, is_in_bundle, grants_after, lent_part, blank, Ends}
 use Rattle.trio_state.specs.Given.{GivenTo}
@@ -15,25 +17,13 @@ use Rattle.trio_state.specs.Image.{Image, row_at}
 use Rattle.trio_state.specs.Kept.{Kept, MayBothStand, is_lent}
 use Rattle.trio_state.specs.Proposed.{Written, Bundle, is_written}
 use Rattle.trio_state.specs.Sheets.{Sheet, sheet_numbers}
-use Rattle.trio_state.specs.State.{covered, OpenGrant, Out, State, is_write, is_out}
+use Rattle.trio_state.specs.State.{covered, OpenGrant, State, is_write}
 use Rattle.trio_laws.proofs.Bundles.{Closed, filter_in, in_filter}
 use Rattle.trio_laws.proofs.Images.{found}
 use Rattle.trio_laws.proofs.Members.{In-left, In-map, map_from, In-among, among_from}
 use Rattle.trio_laws.proofs.Owned.{new_weaker}
 use Rattle.trio_laws.proofs.Sheets.{among_cases, with_pages_apart}
 use Rattle.trio_laws.proofs.StateFacts.{any_from, any_at, write_is, write_alone, covered_write, numbers_flat}
-
-new_filter_step : {X : Type 0} (f : X → ℕ) (p : X → Bool) (x : X) (xs : List X) (seen : List ℕ) (b : Bool) → (not (is_among (f x) seen) && are_new (seen ++ f x ∷ []) (map f xs)) ≡ true → ((more : List ℕ) → are_new more (map f xs) ≡ true → are_new more (map f (filter p xs)) ≡ true) → are_new seen (map f (cond b (x ∷ filter p xs) (filter p xs))) ≡ true
-new_filter_step f p x xs seen true h ih =
-    let parts = and_parts (not (is_among (f x) seen)) (are_new (seen ++ f x ∷ []) (map f xs)) h in
-    and_from (not (is_among (f x) seen)) (are_new (seen ++ f x ∷ []) (map f (filter p xs))) parts.0 (ih (seen ++ f x ∷ []) parts.1)
-new_filter_step f p x xs seen false h ih =
-    let parts = and_parts (not (is_among (f x) seen)) (are_new (seen ++ f x ∷ []) (map f xs)) h in
-    new_weaker seen (seen ++ f x ∷ []) (map f (filter p xs)) (λ n i. In-left n seen (f x ∷ []) i) (ih (seen ++ f x ∷ []) parts.1)
-
-pub new_filter : {X : Type 0} (f : X → ℕ) (p : X → Bool) (xs : List X) (seen : List ℕ) → are_new seen (map f xs) ≡ true → are_new seen (map f (filter p xs)) ≡ true
-new_filter f p [] seen h = refl
-new_filter f p (x ∷ xs) seen h = new_filter_step f p x xs seen (p x) h (λ more e. new_filter f p xs more e)
 
 pub blank_numbers : (xs : List Sheet) → sheet_numbers (map blank xs) ≡ sheet_numbers xs
 blank_numbers [] = refl
@@ -136,24 +126,24 @@ module _ (s s' : State) (k : Kept s) (lib : ℕ) (b : Bundle) (given : GivenTo s
       any_from (λ (x : OpenGrant). is_write x.kind && is_among p (sheet_numbers (x.index ++ x.blocks))) g s'.open_grants i
       (and_from (is_write g.kind) (is_among p (sheet_numbers (g.index ++ g.blocks))) (ap is_write kind) (among_from p (sheet_numbers (g.index ++ g.blocks)) a))
 
-  pub outs_then : (o : Out) → In o s'.pages_out → In o s.pages_out × (In o.number (sheet_numbers b.pages) → ⊥)
-  outs_then o i =
-      let r = filter_in (λ (o : Out). not (is_among o.number (sheet_numbers b.pages))) o s.pages_out (subst (λ l. In o l) e.pages i) in
-      (r.0, λ j. both_ways (is_among o.number (sheet_numbers b.pages)) (not-true (is_among o.number (sheet_numbers b.pages)) r.1) (among_from o.number (sheet_numbers b.pages) j))
+  pub outs_then : (n : ℕ) → is_out s'.pages_out n ≡ true → (is_out s.pages_out n ≡ true) × (In n (sheet_numbers b.pages) → ⊥)
+  outs_then n out =
+      let r = is_out-back (sheet_numbers b.pages) n s.pages_out (ap (λ l. is_out l n) (sym e.pages) ∙ out) in
+      (r.0, λ j. both_ways (is_among n (sheet_numbers b.pages)) r.1 (among_from n (sheet_numbers b.pages) j))
 
-  pub numbers_then : (o : Out) → In o s'.numbers_out → In o s.numbers_out × (In o.number b.numbers → ⊥)
-  numbers_then o i =
-      let r = filter_in (λ (o : Out). not (is_among o.number b.numbers)) o s.numbers_out (subst (λ l. In o l) e.numbers i) in
-      (r.0, λ j. both_ways (is_among o.number b.numbers) (not-true (is_among o.number b.numbers) r.1) (among_from o.number b.numbers j))
+  pub numbers_then : (n : ℕ) → is_out s'.numbers_out n ≡ true → (is_out s.numbers_out n ≡ true) × (In n b.numbers → ⊥)
+  numbers_then n out =
+      let r = is_out-back b.numbers n s.numbers_out (ap (λ l. is_out l n) (sym e.numbers) ∙ out) in
+      (r.0, λ j. both_ways (is_among n b.numbers) r.1 (among_from n b.numbers j))
 
-  pub out_once_then : are_new [] (map (λ (o : Out). o.number) s'.pages_out) ≡ true
-  out_once_then = ap (λ l. are_new [] (map (λ (o : Out). o.number) l)) e.pages ∙ new_filter (λ (o : Out). o.number) (λ (o : Out). not (is_among o.number (sheet_numbers b.pages))) s.pages_out [] k.out_once
+  pub pages_placed_then : length s'.pages_out ≡ s.home.core.range.end
+  pages_placed_then = ap length e.pages ∙ length-with_all None (sheet_numbers b.pages) s.pages_out ∙ k.pages_placed
 
-  pub numbers_once_then : are_new [] (map (λ (o : Out). o.number) s'.numbers_out) ≡ true
-  numbers_once_then = ap (λ l. are_new [] (map (λ (o : Out). o.number) l)) e.numbers ∙ new_filter (λ (o : Out). o.number) (λ (o : Out). not (is_among o.number b.numbers)) s.numbers_out [] k.numbers_once
+  pub numbers_placed_then : length s'.numbers_out ≡ s.home.core.inodes + 1
+  numbers_placed_then = ap length e.numbers ∙ length-with_all None b.numbers s.numbers_out ∙ k.numbers_placed
 
   -- a page absent from home is absent from the settled image, or a checkpoint covers it
-  pub absent_then : (p : ℕ) → slice_get s'.home.core.pages p ≡ Some None → (slice_get image'.core.pages p ≡ Some None → ((g : OpenGrant) × In g s.open_grants × (is_in_bundle lib b g ≡ false) × (g.kind ≡ Write) × In p (sheet_numbers (g.index ++ g.blocks))) ⊎ ((o : Out) × In o s.pages_out × (o.number ≡ p) × (In p (sheet_numbers b.pages) → ⊥))) → (is_lent s'.open_grants p ≡ true) ⊎ (is_out s'.pages_out p ≡ true)
+  pub absent_then : (p : ℕ) → slice_get s'.home.core.pages p ≡ Some None → (slice_get image'.core.pages p ≡ Some None → ((g : OpenGrant) × In g s.open_grants × (is_in_bundle lib b g ≡ false) × (g.kind ≡ Write) × In p (sheet_numbers (g.index ++ g.blocks))) ⊎ ((is_out s.pages_out p ≡ true) × (In p (sheet_numbers b.pages) → ⊥))) → (is_lent s'.open_grants p ≡ true) ⊎ (is_out s'.pages_out p ≡ true)
   absent_then p gone h =
       elim (among_cases p (sheet_numbers (flat_map (λ g. g.checkpoint) s'.open_grants))) [
         | inl covered' ↦
@@ -170,10 +160,7 @@ module _ (s s' : State) (k : Kept s) (lib : ℕ) (b : Bundle) (given : GivenTo s
                   let a : In p (sheet_numbers (n.0.index ++ n.0.blocks)) = subst (λ l. In p l) (ap (λ (y : OpenGrant). sheet_numbers (y.index ++ y.blocks)) n.2) g.4 in
                   inl (lent_then n.0 p n.1 kind a)
               | inr o ↦
-                  let unhanded : In o.0.number (sheet_numbers b.pages) → ⊥ = λ j. o.3 (subst (λ n. In n (sheet_numbers b.pages)) o.2 j) in
-                  let j = in_filter (λ (o : Out). not (is_among o.number (sheet_numbers b.pages))) o.0 s.pages_out o.1
-                  (not_from_false (is_among o.0.number (sheet_numbers b.pages)) (false_from_ne_true (is_among o.0.number (sheet_numbers b.pages)) (λ t. unhanded (In-among o.0.number (sheet_numbers b.pages) t)))) in
-                  let j' : In o.0 s'.pages_out = subst (λ l. In o.0 l) (sym e.pages) j in
-                  inr (any_from (λ (x : Out). eqb x.number p) o.0 s'.pages_out j' (eq-eqb o.0.number p o.2))
+                  let unhanded = false_from_ne_true (is_among p (sheet_numbers b.pages)) (λ t. o.1 (In-among p (sheet_numbers b.pages) t)) in
+                  inr (ap (λ l. is_out l p) e.pages ∙ ap is_some (lib_at-others None (sheet_numbers b.pages) p s.pages_out unhanded) ∙ o.0)
             ]
       ]

@@ -36,9 +36,9 @@ logged_kept s k = record {
   lent = k.lent;
   checkpoints = k.checkpoints;
   absent = k.absent;
-  out_once = k.out_once;
+  pages_placed = k.pages_placed;
   out_free = k.out_free;
-  numbers_once = k.numbers_once;
+  numbers_placed = k.numbers_placed;
   numbers_free = k.numbers_free;
 }
   where
@@ -146,9 +146,9 @@ module _ (s : State) (k : Kept s) (g : OpenGrant) (none : lent_pages g ≡ []) (
           | inl lent ↦ inl (any_more (λ (x : OpenGrant). is_write x.kind && is_among p (sheet_numbers (x.index ++ x.blocks))) lent)
           | inr out ↦ inr out
         ];
-    out_once = k.out_once;
+    pages_placed = k.pages_placed;
     out_free = k.out_free;
-    numbers_once = k.numbers_once;
+    numbers_placed = k.numbers_placed;
     numbers_free = k.numbers_free;
   }
 

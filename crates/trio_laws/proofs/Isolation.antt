@@ -169,12 +169,12 @@ module _ (s : State) (k : Kept s) (lib n : ℕ) (r : Row) (row : row_at (settled
   allotted : (count many : ℕ) → Same (allots s lib (take count (free_pages s)) (take many (free_numbers s)))
   allotted count many =
       let core : Core = (settled s).core in
-      agreeing_untouched (settled s) (allot_pages s k lib count many) k.fit (allot_fit s k lib count many) k.verifies (allot_agree s k lib count many) n r row
+      agreeing_untouched (settled s) (allot_pages s lib count many k) k.fit (allot_fit s lib count many k) k.verifies (allot_agree s lib count many k) n r row
       (λ m f p i num read own.
-      elim (allot_now s k lib count many p) [
-        | inl same ↦ page_same core (allot_pages s k lib count many) p same
+      elim (allot_now s lib count many k p) [
+        | inl same ↦ page_same core (allot_pages s lib count many k) p same
         | inr gone ↦
-            absurd (free_unlisted core plain k.fit k.verifies.sound (settled s) (tables s k) p (page_free s k lib count many p gone.0).0 m i (subst (λ l. In p l) (sym (pages_are core m f read)) (plain_listed m.kind f p own)))
+            absurd (free_unlisted core plain k.fit k.verifies.sound (settled s) (tables s k) p (page_free s lib count many p gone.0).0 m i (subst (λ l. In p l) (sym (pages_are core m f read)) (plain_listed m.kind f p own)))
       ])
 
   allot : (count many : ℕ) → Same (allot_outcome s lib count many).after
@@ -250,7 +250,7 @@ every_step_is_isolated s (Back lib ino) answer s' n r k given (inl does) row has
 every_step_is_isolated s (Release lib b) answer s' n r k given (inl does) row has elsewhere =
     release s k lib n r row s' b answer given has does
 every_step_is_isolated s (Settle lib b) answer s' n r k given (inl does) row has elsewhere =
-    accepted s k lib n r row s' b given does.2 does.3 has
+    accepted s k lib n r row s' b given.0 does.2 does.3 has
 every_step_is_isolated s (SetMode lib ino mode) answer s' n r k given (inl does) row has elsewhere =
     let U : State → Type 0 = λ x. IsUntouched (settled s) (settled x) n in
     subst U (sym does.1) (set_mode s k lib n r row ino mode (row_at s.home ino) (mode_fault s lib ino mode (row_at s.home ino)) refl refl (subst (IsElsewhere n (SetMode lib ino mode)) does.0 elsewhere))

@@ -154,12 +154,12 @@ module _ (s : State) (k : Kept s) (n mode : ℕ) (r : Row) (row : row_at s.home 
         let a : slice_get (body_put (Some r) (with_mode mode (settled_body s.home n)) s.home.core.pages) p ≡ Some None =
         ap (λ o. slice_get (body_put o (with_mode mode (settled_body s.home n)) s.home.core.pages) p) (sym row) ∙ gone in
         k.absent p (absent_put r (with_mode mode (settled_body s.home n)) s.home.core.pages p a) c;
-    out_once = k.out_once;
+    pages_placed = k.pages_placed;
     out_free = k.out_free;
-    numbers_once = k.numbers_once;
-    numbers_free = λ o i.
-        let was = k.numbers_free o i in
-        row_other o.number (λ e. (let wrong : None ≡ Some r = sym was ∙ ap (row_at s.home) e ∙ row in absurd (cc wrong))) ∙ was;
+    numbers_placed = k.numbers_placed;
+    numbers_free = λ m out.
+        let was = k.numbers_free m out in
+        row_other m (λ e. (let wrong : None ≡ Some r = sym was ∙ ap (row_at s.home) e ∙ row in absurd (cc wrong))) ∙ was;
   }
 
 -- a change of mode that isn't refused

@@ -4,6 +4,7 @@ use Rattle.std.specs.Prelude.{map}
 use Rattle.std.proofs.lemmas.Bool.{and_left, not_from_false, ne_eqb}
 use Rattle.std.proofs.lemmas.List.{get_or-set_other}
 use Rattle.trio_rights.specs.Row.{Row}
+use Rattle.trio_tables.specs.Out.{lib_at}
 use Rattle.trio_nodes.specs.declared.grant.GrantKind.{GrantKind}
 use Rattle.trio_nodes.specs.declared.grant.GrantKind.TheVariants.{Read}
 use Rattle.trio_nodes.specs.declared.answers.GrantFault.{GrantFault}
@@ -24,16 +25,17 @@ use Rattle.trio_laws.specs.Laws.{library_of, GivenThrough, ClosedThrough}
 use Rattle.trio_laws.proofs.Members.{In-left, In-cases}
 use Rattle.trio_laws.proofs.Bundles.{closed_unparted, closed_all, filter_in, in_filter}
 use Rattle.trio_laws.proofs.Modes.{may_change}
+use Rattle.trio_laws.proofs.Allots.{pages_apart, numbers_apart}
 use Rattle.trio_laws.proofs.Runs.{step_kept}
-use Rattle.trio_laws.proofs.Others.{LeavesTo, has_grant_stays, given_stays, unparted_stays, refused_leaves, accepted_leaves}
+use Rattle.trio_laws.proofs.Others.{LeavesTo, has_grant_stays, given_stays, no_read_stays, unparted_stays, refused_leaves, accepted_leaves}
 
 -- a step after which grants, outs and rows stand as they did
 same_leaves : (s s' : State) (lib : ℕ) → s'.open_grants ≡ s.open_grants → s'.pages_out ≡ s.pages_out → s'.numbers_out ≡ s.numbers_out → ((g : OpenGrant) (q : Row) → In g s.open_grants → row_at s'.home g.ino ≡ Some q → (r : Row) × (row_at s.home g.ino ≡ Some r) × (r.parent ≡ q.parent)) → LeavesTo s s' lib
 same_leaves s s' lib a b c rows = record {
   grants = λ g i mine. (g, subst (λ l. In g l) (sym a) i, refl);
   none_new = λ h i mine. (h, subst (λ l. In h l) a i, refl);
-  pages = λ o i mine. subst (λ l. In o l) (sym b) i;
-  numbers = λ o i mine. subst (λ l. In o l) (sym c) i;
+  pages = λ n mine. ap (λ l. lib_at l n) b ∙ mine;
+  numbers = λ n mine. ap (λ l. lib_at l n) c ∙ mine;
   parents = λ g q i mine row. rows g q i row;
 }
 
@@ -57,8 +59,8 @@ opens_leaves s g lib apart = record {
     | inl old ↦ (h, old, refl)
     | inr new ↦ elim new [ inl same ↦ absurd (apart (ap (λ (x : OpenGrant). x.lib) (sym same) ∙ mine)) | inr z ↦ absurd z ]
   ];
-  pages = λ o i mine. i;
-  numbers = λ o i mine. i;
+  pages = λ n mine. mine;
+  numbers = λ n mine. mine;
   parents = λ h q i mine row. (q, row, refl);
 }
 
@@ -76,8 +78,8 @@ allot_leaves s lib other count many = either (ltb (length (free_pages s)) count)
     either false false = record {
       grants = λ g i mine. (g, i, refl);
       none_new = λ h i mine. (h, i, refl);
-      pages = λ o i mine. In-left o s.pages_out (map (λ p. record { lib = other; number = p }) (take count (free_pages s))) i;
-      numbers = λ o i mine. In-left o s.numbers_out (map (λ n. record { lib = other; number = n }) (take many (free_numbers s))) i;
+      pages = λ n mine. pages_apart s other count many lib n mine;
+      numbers = λ n mine. numbers_apart s other count many lib n mine;
       parents = λ g q i mine row. (q, row, refl);
     }
 
@@ -90,8 +92,8 @@ back_leaves s lib other ino apart =
           and_left (eqb g.lib other && eqb g.ino ino) (is_read g.kind) (and_left (eqb g.lib other) (eqb g.ino ino) (ne_eqb g.lib other (λ e. apart (sym e ∙ mine)))) in
           (g, in_filter stays g s.open_grants i (not_from_false (eqb g.lib other && eqb g.ino ino && is_read g.kind) away), refl);
       none_new = λ h i mine. (h, (filter_in stays h s.open_grants i).0, refl);
-      pages = λ o i mine. i;
-      numbers = λ o i mine. i;
+      pages = λ n mine. mine;
+      numbers = λ n mine. mine;
       parents = λ g q i mine row. (q, row, refl);
     }
 
@@ -131,7 +133,7 @@ other_step_leaves s s' lib (Back other ino) answer k given (inl does) apart =
 other_step_leaves s s' lib (Release other b) answer k given (inl does) apart =
     release_leaves s s' lib other b answer k given apart does
 other_step_leaves s s' lib (Settle other b) answer k given (inl does) apart =
-    accepted_leaves s s' k lib other b given (closed_all s other b does.1) does.2 does.3 (λ x. apart (sym x))
+    accepted_leaves s s' k lib other b given.0 (closed_all s other b does.1) does.2 does.3 (λ x. apart (sym x))
 other_step_leaves s s' lib (SetMode other ino mode) answer k given (inl does) apart =
     let L : State → Type 0 = λ x. LeavesTo s x lib in subst L (sym does.1) (mode_leaves s lib other ino mode (row_at s.home ino) (mode_fault s other ino mode (row_at s.home ino)) refl)
 
@@ -140,7 +142,7 @@ event_stays s s' (Grant lib ino kind) l given = given
 event_stays s s' (Allot lib pages numbers) l given = given
 event_stays s s' (Back lib ino) l given = has_grant_stays s s' lib ino Read l given
 event_stays s s' (Release lib b) l given = given_stays s s' lib b given l
-event_stays s s' (Settle lib b) l given = given_stays s s' lib b given l
+event_stays s s' (Settle lib b) l given = (given_stays s s' lib b given.0 l, no_read_stays s s' lib given.1 l)
 event_stays s s' (SetMode lib ino mode) l given = given
 
 -- what a library hands in stays given through the steps of others

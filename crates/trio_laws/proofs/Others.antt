@@ -1,34 +1,37 @@
 -- A step of another library leaves what a library was given.
-use Rattle.std.proofs.Common.{cond, ◌&&◌, None, Bool, ◌≡◌, ℕ, true, false, not, eqb, List, [], ◌∷◌, Some, sym, refl, ap, ◌∙◌, subst, inl, inr}
+use Rattle.std.proofs.Common.{cond, ◌&&◌, None, Bool, ◌≡◌, ℕ, true, false, not, eqb, List, [], ◌∷◌, Option, Some, sym, refl, ap, ◌∙◌, subst, inl, inr}
 use Rattle.std.specs.Prelude.{map}
 use Rattle.std.specs.List.{filter}
 use Rattle.std.proofs.lemmas.Bool.{and_parts, and_left, eqb-true, both_ways, ne_eqb, not_from_false, false_from_ne_true}
 use Rattle.trio_rights.specs.Row.{Row}
+use Rattle.trio_rights.specs.declared.rights.LibNo.{LibNo}
+use Rattle.trio_tables.specs.Out.{lib_at}
+use Rattle.trio_tables.proofs.OutLemmas.{lib_at-others}
 use Rattle.trio_nodes.specs.declared.grant.GrantKind.{GrantKind}
 use Rattle.trio_nodes.specs.declared.grant.GrantKind.TheVariants.{Hold}
 use Rattle.trio_layout.specs.Lists.{is_among, are_new, In}
 use Rattle.trio_layout.specs.Survey.{row_by}
 use Rattle.trio_state.specs.Accept.{is_accepted, next}
+use Rattle.trio_state.specs.Allotments.{out_after}
 use Rattle.trio_state.specs.Bundles.{is_hold, is_parent_written, is_parted, parted_hold, is_in_bundle, lent_part, refused_image, Ends}
-use Rattle.trio_state.specs.Given.{HasGrant, GivenTo}
+use Rattle.trio_state.specs.Given.{HasGrant, HasNoRead, WasAllotted, GivenTo}
 use Rattle.trio_state.specs.Image.{Image, row_at}
 use Rattle.trio_state.specs.Kept.{Kept}
 use Rattle.trio_state.specs.Proposed.{Bundle, is_written}
 use Rattle.trio_state.specs.Sheets.{sheet_numbers}
-use Rattle.trio_state.specs.State.{OpenGrant, Out, State, settled, creds_of}
+use Rattle.trio_state.specs.State.{OpenGrant, State, settled, creds_of}
 use Rattle.trio_laws.proofs.Accepting.{stays_then, row_then}
 use Rattle.trio_laws.proofs.Bundles.{Closed, in_filter, unparted_at, unparted_from}
 use Rattle.trio_laws.proofs.Ended.{grant_before, grant_after}
 use Rattle.trio_laws.proofs.Images.{some_of}
-use Rattle.trio_laws.proofs.Members.{In-map, In-among}
-use Rattle.trio_laws.proofs.Owned.{new_before, new_weaker}
+use Rattle.trio_laws.proofs.Members.{In-among}
 
 -- what a step leaves of the grants and outs of a library
 pub record LeavesTo (s s' : State) (lib : ℕ) : Type 0 where
   pub grants : (g : OpenGrant) → In g s.open_grants → g.lib ≡ lib → (h : OpenGrant) × In h s'.open_grants × (lent_part g ≡ lent_part h)
   pub none_new : (h : OpenGrant) → In h s'.open_grants → h.lib ≡ lib → (g : OpenGrant) × In g s.open_grants × (lent_part h ≡ lent_part g)
-  pub pages : (o : Out) → In o s.pages_out → o.lib ≡ lib → In o s'.pages_out
-  pub numbers : (o : Out) → In o s.numbers_out → o.lib ≡ lib → In o s'.numbers_out
+  pub pages : (n : ℕ) → WasAllotted s.pages_out lib n → WasAllotted s'.pages_out lib n
+  pub numbers : (n : ℕ) → WasAllotted s.numbers_out lib n → WasAllotted s'.numbers_out lib n
   pub parents : (g : OpenGrant) (q : Row) → In g s.open_grants → g.lib ≡ lib → row_at s'.home g.ino ≡ Some q → (r : Row) × (row_at s.home g.ino ≡ Some r) × (r.parent ≡ q.parent)
 
 -- then a grant of the library stays
@@ -60,10 +63,20 @@ given_stays s s' lib b given l = record {
         blocks = g.blocks ∙ ap (λ (x : OpenGrant). sheet_numbers x.blocks) h.2;
       };
   holds = λ n i. has_grant_stays s s' lib n Hold l (given.holds n i);
-  pages = λ n i. let o = given.pages n i in (o.0, l.pages o.0 o.1 o.2, o.2, o.3);
-  numbers = λ n i. let o = given.numbers n i in (o.0, l.numbers o.0 o.1 o.2, o.2, o.3);
+  pages = λ n i. l.pages n (given.pages n i);
+  numbers = λ n i. l.numbers n (given.numbers n i);
   full = given.full;
+  writes_once = given.writes_once;
+  holds_once = given.holds_once;
+  pages_once = given.pages_once;
+  numbers_once = given.numbers_once;
 }
+
+-- a library without a read grant still has none
+pub no_read_stays : (s s' : State) (lib : ℕ) → HasNoRead s lib → LeavesTo s s' lib → HasNoRead s' lib
+no_read_stays s s' lib none l h i mine kind =
+    let g = l.none_new h i mine in
+    none g.0 g.1 (ap (λ (x : OpenGrant). x.lib) (sym g.2) ∙ mine) (ap (λ (x : OpenGrant). x.kind) (sym g.2) ∙ kind)
 
 -- a bundle that is closed stays closed
 pub unparted_stays : (s s' : State) (lib : ℕ) (b : Bundle) → Kept s' → LeavesTo s s' lib → parted_hold s lib b ≡ None → parted_hold s' lib b ≡ None
@@ -87,27 +100,22 @@ unparted_stays s s' lib b k' l none =
     ap (λ (x : OpenGrant). P x (is_parent_written b (row_at s.home g.ino))) (sym part) ∙ ap (P h) written in
     both_ways (is_parted s lib b g) (unparted_at s lib b g none n.1) (same ∙ t)))
 
--- two outs of one number are one
-pub one_out : (outs : List Out) (a c : Out) → are_new [] (map (λ (o : Out). o.number) outs) ≡ true → In a outs → In c outs → a.number ≡ c.number → a ≡ c
-one_out [] a c new i j e = absurd i
-one_out (x ∷ xs) a c new (inl p) (inl q) e = p ∙ sym q
-one_out (x ∷ xs) a c new (inl p) (inr j) e =
-    absurd (new_before c.number (x.number ∷ []) (map (λ (o : Out). o.number) xs) (and_parts true (are_new (x.number ∷ []) (map (λ (o : Out). o.number) xs)) new).1 (In-map (λ (o : Out). o.number) c xs j) (inl (sym e ∙ ap (λ (o : Out). o.number) p)))
-one_out (x ∷ xs) a c new (inr i) (inl q) e =
-    absurd (new_before a.number (x.number ∷ []) (map (λ (o : Out). o.number) xs) (and_parts true (are_new (x.number ∷ []) (map (λ (o : Out). o.number) xs)) new).1 (In-map (λ (o : Out). o.number) a xs i) (inl (e ∙ ap (λ (o : Out). o.number) q)))
-one_out (x ∷ xs) a c new (inr i) (inr j) e =
-    one_out xs a c (new_weaker [] (x.number ∷ []) (map (λ (o : Out). o.number) xs) (λ n k. absurd k) (and_parts true (are_new (x.number ∷ []) (map (λ (o : Out). o.number) xs)) new).1) i j e
-
 -- what the end of another library's bundle takes is that library's own
-outs_stay : (outs : List Out) (these : List ℕ) (lib other : ℕ) (o : Out) → are_new [] (map (λ (o : Out). o.number) outs) ≡ true → ((n : ℕ) → In n these → (x : Out) × In x outs × (x.lib ≡ other) × (x.number ≡ n)) → (lib ≡ other → ⊥) → In o outs → o.lib ≡ lib → In o (filter (λ (o : Out). not (is_among o.number these)) outs)
-outs_stay outs these lib other o once theirs apart i mine =
-    in_filter (λ (o : Out). not (is_among o.number these)) o outs i
-    (not_from_false (is_among o.number these)
-    (false_from_ne_true (is_among o.number these)
+outs_stay : (outs : List (Option LibNo)) (these : List ℕ) (lib other n : ℕ) → ((m : ℕ) → In m these → WasAllotted outs other m) → (lib ≡ other → ⊥) → WasAllotted outs lib n → WasAllotted (out_after outs these) lib n
+outs_stay outs these lib other n theirs apart mine =
+    lib_at-others None these n outs
+    (false_from_ne_true (is_among n these)
     (λ t.
-    let x = theirs o.number (In-among o.number these t) in
-    let same : x.0 ≡ o = one_out outs x.0 o once x.1 i x.3 in
-    apart (sym mine ∙ ap (λ (y : Out). y.lib) (sym same) ∙ x.2))))
+    let same : Some (library lib) ≡ Some (library other) = sym mine ∙ theirs n (In-among n these t) in
+    apart (ap (λ (o : Option LibNo). number_of o) same)))
+    ∙ mine
+  where
+    library : ℕ → LibNo
+    library l = record { 0 = l }
+
+    number_of : Option LibNo → ℕ
+    number_of None = lib
+    number_of (Some l) = l.0
 
 -- the end of another library's bundle, with rows whose parents stay
 pub ends_leaves : (s s' : State) (k : Kept s) (lib other : ℕ) (b : Bundle) (given : GivenTo s other b) (image' : Image) (e : Ends s other b image' s') → (lib ≡ other → ⊥) → ((g : OpenGrant) (q : Row) → In g s.open_grants → is_in_bundle other b g ≡ false → row_at s'.home g.ino ≡ Some q → (r : Row) × (row_at s.home g.ino ≡ Some r) × (r.parent ≡ q.parent)) → LeavesTo s s' lib
@@ -117,8 +125,8 @@ ends_leaves s s' k lib other b given image' e apart parents =
     record {
       grants = λ g i mine. grant_after s s' k other b given image' e g i (out g mine);
       none_new = λ h i mine. (let r = grant_before s s' k other b given image' e h i in (r.0, r.1, r.3));
-      pages = λ o i mine. subst (λ l. In o l) (sym e.pages) (outs_stay s.pages_out (sheet_numbers b.pages) lib other o k.out_once given.pages apart i mine);
-      numbers = λ o i mine. subst (λ l. In o l) (sym e.numbers) (outs_stay s.numbers_out b.numbers lib other o k.numbers_once given.numbers apart i mine);
+      pages = λ n mine. ap (λ l. lib_at l n) e.pages ∙ outs_stay s.pages_out (sheet_numbers b.pages) lib other n given.pages apart mine;
+      numbers = λ n mine. ap (λ l. lib_at l n) e.numbers ∙ outs_stay s.numbers_out b.numbers lib other n given.numbers apart mine;
       parents = λ g q i mine row. parents g q i (out g mine) row;
     }
 

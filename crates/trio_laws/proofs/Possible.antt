@@ -161,5 +161,5 @@ module _ (s : State) (k : Kept s) where
   call_possible (Allot lib pages numbers) given may = (let o = allot_outcome s lib pages numbers in (o.answer, o.after, (refl, refl)))
   call_possible (Back lib ino) given may = (Done, given_back s lib ino, (refl, refl))
   call_possible (Release lib b) given may = release_possible lib b given
-  call_possible (Settle lib b) given may = (let r = accepted_ends lib b given may.1 in (Settled, r.0, (refl, may.0, may.1, r.1)))
+  call_possible (Settle lib b) given may = (let r = accepted_ends lib b given.0 may.1 in (Settled, r.0, (refl, may.0, may.1, r.1)))
   call_possible (SetMode lib ino mode) given may = (let o = mode_outcome s lib ino mode in (o.answer, o.after, (refl, refl)))

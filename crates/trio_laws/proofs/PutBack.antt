@@ -1,6 +1,6 @@
 -- After a refusal the image of a refusal is settled, once the bundle's checkpoints are back at home.
 use Rattle.std.proofs.Common.{◌≡◌, ℕ, true, not, List, ◌++◌, slice_get, sym, ap, ◌∙◌, subst, inl, inr}
-use Rattle.std.specs.Prelude.{slice_index}
+use Rattle.std.specs.Prelude.{is_some, slice_index}
 use Rattle.std.proofs.lemmas.Bool.{cases_Bool, not_from_false}
 use Rattle.trio_rights.specs.declared.kind.Kind.{Kind}
 use Rattle.trio_rights.specs.declared.kind.Kind.TheVariants.{Regular, Directory}
@@ -72,7 +72,7 @@ module _ (s : State) (k : Kept s) (lib : ℕ) (b : Bundle) (given : GivenTo s li
             let l = k.lent c.0 c.1 c.3 in
             let theirs : In p (sheet_numbers (c.0.index ++ c.0.blocks)) = subst (λ n. In n (sheet_numbers (c.0.index ++ c.0.blocks))) (sym q.2) c.4 in
             let o = given.pages p (in_numbers b.pages r.0 p handed r.2) in
-            let z : slice_index s.home.owners p ≡ 0 = ap (slice_index s.home.owners) (sym o.3) ∙ k.out_free o.0 o.1 in
+            let z : slice_index s.home.owners p ≡ 0 = k.out_free p (ap is_some o) in
             free_unlisted core plain k.fit k.verifies.sound (settled s) (tables s k) p z l.met l.stands (lent_met s k c.0 c.1 c.3 p theirs)
       ]
 

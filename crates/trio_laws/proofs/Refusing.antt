@@ -1,11 +1,12 @@
 -- The end of a refused bundle keeps what holds of a state.
-use Rattle.std.proofs.Common.{◌≡◌, ℕ, true, false, ◌&&◌, eqb, ◌++◌, length, Some, None, slice_get, sym, refl, ap, ◌∙◌, subst, inl, inr, ◌⊎◌, arith}
+use Rattle.std.proofs.Common.{◌≡◌, ℕ, true, false, ◌&&◌, eqb, ◌++◌, length, Some, None, slice_get, sym, refl, ap, ◌∙◌, subst, inl, inr, ◌⊎◌, arith, ◌+◌}
 use Rattle.std.specs.Prelude.{is_some, slice_index}
 use Rattle.std.specs.List.{flat_map}
 use Rattle.std.proofs.lemmas.Bool.{and_parts, eqb-true, cases_Bool}
 use Rattle.trio_rights.specs.declared.kind.Kind.{Kind}
 use Rattle.trio_rights.specs.declared.kind.Kind.TheVariants.{Regular}
 use Rattle.trio_nodes.specs.declared.grant.GrantKind.TheVariants.{Write, Hold}
+use Rattle.trio_tables.specs.Out.{is_out}
 use Rattle.trio_layout.specs.Core.{Core}
 use Rattle.trio_layout.specs.Lists.{is_among, In}
 use Rattle.trio_layout.specs.Range.{is_core}
@@ -17,11 +18,11 @@ use Rattle.trio_state.specs.Image.{IsFit, Image, settled_body, row_at}
 use Rattle.trio_state.specs.Kept.{Kept, LentIsListed, HoldStands}
 use Rattle.trio_state.specs.Proposed.{Written, Bundle, bundle_sheets}
 use Rattle.trio_state.specs.Sheets.{Sheet, sheet_numbers, with_pages}
-use Rattle.trio_state.specs.State.{covered, OpenGrant, Out, State, settled, is_write}
+use Rattle.trio_state.specs.State.{covered, OpenGrant, State, settled, is_write}
 use Rattle.trio_state.specs.Verifies.{Verifies}
 use Rattle.trio_laws.proofs.Agreeing.{verifies_still, lent_still, body_still}
 use Rattle.trio_laws.proofs.Bundles.{Closed, outside_unheld, in_numbers}
-use Rattle.trio_laws.proofs.Ended.{grant_before, apart_then, checkpoints_then, write_in_bundle, parent_then, outs_then, numbers_then, out_once_then, numbers_once_then, absent_then}
+use Rattle.trio_laws.proofs.Ended.{grant_before, apart_then, checkpoints_then, write_in_bundle, parent_then, outs_then, numbers_then, pages_placed_then, numbers_placed_then, absent_then}
 use Rattle.trio_laws.proofs.Images.{some_of, free_unlisted}
 use Rattle.trio_laws.proofs.Members.{In-left, In-right, In-flat, map_from, In-among}
 use Rattle.trio_laws.proofs.Owned.{sound_parts, pages_are}
@@ -88,7 +89,7 @@ module _ (s s' : State) (k : Kept s) (lib : ℕ) (b : Bundle) (given : GivenTo s
       elim (uncovered_from s k lib b given r.0 r.1) [
         | inl handed ↦
             let o = given.pages p (in_numbers b.pages r.0 p handed r.2) in
-            let z : slice_index s.home.owners p ≡ 0 = ap (slice_index s.home.owners) (sym o.3) ∙ k.out_free o.0 o.1 in
+            let z : slice_index s.home.owners p ≡ 0 = k.out_free p (ap is_some o) in
             free_unlisted core plain k.fit k.verifies.sound (settled s) (tables s k) p z m i (subst (λ l. In p l) (sym (pages_are core m f read)) (read_listed m.kind f p a))
         | inr w ↦
             let g = given.writes w.0 w.1 in
@@ -137,7 +138,7 @@ module _ (s s' : State) (k : Kept s) (lib : ℕ) (b : Bundle) (given : GivenTo s
       let hk : x.0.kind ≡ Write = ap (λ (y : OpenGrant). y.kind) (sym x.3) ∙ kind in
       lent_like after g x.0 x.3 (lent_still (settled s) pages k.fit fit' k.verifies agree x.0 (k.lent x.0 x.1 hk))
 
-  absent_after : (p : ℕ) → is_core core.range p ≡ true → slice_get after.core.pages p ≡ Some None → ((g : OpenGrant) × In g s.open_grants × (is_in_bundle lib b g ≡ false) × (g.kind ≡ Write) × In p (sheet_numbers (g.index ++ g.blocks))) ⊎ ((o : Out) × In o s.pages_out × (o.number ≡ p) × (In p (sheet_numbers b.pages) → ⊥))
+  absent_after : (p : ℕ) → is_core core.range p ≡ true → slice_get after.core.pages p ≡ Some None → ((g : OpenGrant) × In g s.open_grants × (is_in_bundle lib b g ≡ false) × (g.kind ≡ Write) × In p (sheet_numbers (g.index ++ g.blocks))) ⊎ ((is_out s.pages_out p ≡ true) × (In p (sheet_numbers b.pages) → ⊥))
   absent_after p c gone =
       let w = with_pages_absent (uncovered (settled s) b ++ b.pages) core.pages p gone in
       let v = with_pages_absent (flat_map (λ g. g.checkpoint) s.open_grants) s.home.core.pages p w.1 in
@@ -163,9 +164,7 @@ module _ (s s' : State) (k : Kept s) (lib : ℕ) (b : Bundle) (given : GivenTo s
                   let block : In p (sheet_numbers x.0.blocks) = subst (λ l. In p l) (ap (λ (z : OpenGrant). sheet_numbers z.blocks) (sym x.2) ∙ sym y.blocks) u.0 in
                   absurd (w.0 (block_uncovered x.0 p x.1 reg block))
             ]
-        | inr out ↦
-            let q = any_at (λ (o : Out). eqb o.number p) s.pages_out out in
-            inr (q.0, q.1, eqb-true q.0.number p q.2, λ j. w.0 (page_uncovered p j))
+        | inr out ↦ inr (out, λ j. w.0 (page_uncovered p j))
       ]
 
   pub refused_kept : Kept s'
@@ -180,8 +179,8 @@ module _ (s s' : State) (k : Kept s) (lib : ℕ) (b : Bundle) (given : GivenTo s
     absent = λ p gone c.
         let c' : is_core core.range p ≡ true = ap (λ (i : Image). is_core i.core.range p) (sym e.settles) ∙ c in
         absent_then s s' k lib b given after e p gone (absent_after p c');
-    out_once = out_once_then s s' k lib b given after e;
-    out_free = λ o i. ap (λ (i : Image). slice_index i.owners o.number) e.settles ∙ k.out_free o (outs_then s s' k lib b given after e o i).0;
-    numbers_once = numbers_once_then s s' k lib b given after e;
-    numbers_free = λ o i. rows_home o.number ∙ k.numbers_free o (numbers_then s s' k lib b given after e o i).0;
+    pages_placed = pages_placed_then s s' k lib b given after e ∙ ap (λ (i : Image). i.core.range.end) (sym e.settles);
+    out_free = λ p out. ap (λ (i : Image). slice_index i.owners p) e.settles ∙ k.out_free p (outs_then s s' k lib b given after e p out).0;
+    numbers_placed = numbers_placed_then s s' k lib b given after e ∙ ap (λ (i : Image). i.core.inodes + 1) (sym e.settles);
+    numbers_free = λ n out. rows_home n ∙ k.numbers_free n (numbers_then s s' k lib b given after e n out).0;
   }

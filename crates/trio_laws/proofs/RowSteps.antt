@@ -113,7 +113,7 @@ every_step_keeps_rows s (Allot lib count many) answer s' n r k given (inl does) 
 every_step_keeps_rows s (Back lib ino) answer s' n r k given (inl does) row = inl (ap (λ (x : State). row_at x.home n) does.1 ∙ row)
 every_step_keeps_rows s (Release lib b) answer s' n r k given (inl does) row = release_row s n r row k lib s' b answer given does
 every_step_keeps_rows s (Settle lib b) answer s' n r k given (inl does) row =
-    elim (accepted_row s n r row k lib s' b given does.2 does.3) [
+    elim (accepted_row s n r row k lib s' b given.0 does.2 does.3) [
       | inl same ↦ inl same
       | inr goes ↦ elim goes [ inl held ↦ inr (inl held) | inr wrong ↦ absurd wrong ]
     ]

@@ -1,6 +1,10 @@
 -- Every step keeps what holds of a state, and so does every run.
-use Rattle.std.proofs.Common.{ℕ, List, [], ◌∷◌, sym, refl, subst, inl, inr, arith}
+use Rattle.std.proofs.Common.{ℕ, ◌+◌, List, [], ◌∷◌, None, sym, refl, ap, ◌∙◌, subst, inl, inr, arith}
+use Rattle.std.specs.Prelude.{is_some}
+use Rattle.std.proofs.lemmas.Bool.{false≢true}
+use Rattle.std.proofs.lemmas.List.{length-replicate}
 use Rattle.trio_rights.specs.declared.rights.Creds.{Creds}
+use Rattle.trio_tables.proofs.OutLemmas.{lib_at-none_out}
 use Rattle.trio_layout.specs.Lists.{In}
 use Rattle.trio_state.specs.Given.{GivenTo, GivenEvent}
 use Rattle.trio_state.specs.Image.{IsFit, Image}
@@ -43,7 +47,7 @@ step_kept s s' (Grant lib ino kind) answer k given step = grant_kept s s' lib in
 step_kept s s' (Allot lib pages numbers) answer k given step = allot_kept s s' lib pages numbers answer k step
 step_kept s s' (Back lib ino) answer k given step = back_kept s s' lib ino answer k step
 step_kept s s' (Release lib b) answer k given step = release_kept s s' lib b answer k given step
-step_kept s s' (Settle lib b) answer k given step = settle_kept s s' lib b answer k given step
+step_kept s s' (Settle lib b) answer k given step = settle_kept s s' lib b answer k given.0 step
 step_kept s s' (SetMode lib ino mode) answer k given step = mode_kept s s' lib ino mode answer k step
 
 -- each move of a run begins and ends in a kept state
@@ -69,8 +73,8 @@ start_kept image creds fit verifies whole = record {
   lent = λ g i w. absurd i;
   checkpoints = λ g i. absurd i;
   absent = λ p gone c. absurd (whole p gone c);
-  out_once = refl;
-  out_free = λ o i. absurd i;
-  numbers_once = refl;
-  numbers_free = λ o i. absurd i;
+  pages_placed = length-replicate image.core.range.end None;
+  out_free = λ p out. absurd (false≢true (sym (ap is_some (lib_at-none_out image.core.range.end p)) ∙ out));
+  numbers_placed = length-replicate (image.core.inodes + 1) None;
+  numbers_free = λ n out. absurd (false≢true (sym (ap is_some (lib_at-none_out (image.core.inodes + 1) n)) ∙ out));
 }

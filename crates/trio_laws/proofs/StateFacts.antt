@@ -165,10 +165,7 @@ module _ (s : State) (k : Kept s) where
                 let kind : q.0.kind ≡ Write = write_is q.0.kind parts.0 in
                 none q.0 q.1 kind (lent_file m p q.0 i a q.1 kind (In-among p (sheet_numbers (q.0.index ++ q.0.blocks)) parts.1))
             | inr out ↦
-                let q = any_at (λ o. eqb o.number p) s.pages_out out in
-                let n : q.0.number ≡ p = eqb-true q.0.number p q.2 in
-                let z = k.out_free q.0 q.1 in
-                free_unlisted (settled s).core plain k.fit k.verifies.sound (settled s) tables q.0.number z m i (subst (λ x. In x (pages_of (settled s).core m)) (sym n) a)
+                free_unlisted (settled s).core plain k.fit k.verifies.sound (settled s) tables p (k.out_free p out) m i a
           ])
 
 -- a grant that doesn't read alone is alone on its file

@@ -250,8 +250,8 @@ module _ (s : State) (k : Kept s) (lib : ℕ) (m : Met) (f : FileRead) (i : In m
             | inr out ↦ inr out
           ]
     ];
-    out_once = k.out_once;
+    pages_placed = k.pages_placed;
     out_free = k.out_free;
-    numbers_once = k.numbers_once;
+    numbers_placed = k.numbers_placed;
     numbers_free = k.numbers_free;
   }

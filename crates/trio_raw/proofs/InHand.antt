@@ -1,8 +1,8 @@
 -- What a library has stays in hand.
-use Rattle.std.proofs.Common.{◌≡◌, ℕ, true, false, not, ◌&&◌, ◌||◌, eqb, List, [], ◌∷◌, ◌++◌, length, Option, Some, None, sym, refl, ap, ◌∙◌, subst, inl, inr, ◌⊎◌}
+use Rattle.std.proofs.Common.{◌≡◌, ℕ, true, false, not, ◌&&◌, ◌||◌, eqb, List, [], ◌∷◌, ◌++◌, length, Bool, Option, Some, None, sym, refl, ap, ◌∙◌, subst, inl, inr, ◌⊎◌}
 use Rattle.std.specs.Prelude.{map, is_some}
-use Rattle.std.specs.List.{find, flat_map}
-use Rattle.std.proofs.lemmas.Bool.{and_from, and_right, or_from, eqb-true, not_from_false}
+use Rattle.std.specs.List.{find, flat_map, list_all}
+use Rattle.std.proofs.lemmas.Bool.{and_parts, and_from, and_right, or_from, eqb-true, not_from_false}
 use Rattle.std.proofs.lemmas.List.{map-append, map-id}
 use Rattle.std.proofs.lemmas.Simd.{map-map}
 use Rattle.trio_page.proofs.Cursor.{length-zeros}
@@ -18,11 +18,11 @@ use Rattle.trio_state.specs.Allotments.{out_after}
 use Rattle.trio_state.specs.Grants.{opens}
 use Rattle.trio_state.specs.Bundles.{Ends, grants_after, is_hold, is_in_bundle, lent_part}
 use Rattle.trio_state.specs.Given.{GivenTo, WasAllotted, WasLent}
-use Rattle.trio_raw.specs.Has.{Has, named, poked_body, poked_block, poked_index, poked_sheet, bundle_of, rest_of, whole_bundle, with_file, with_fresh, changed_first}
+use Rattle.trio_raw.specs.Has.{Has, are_there, named, poked_body, poked_block, poked_index, poked_sheet, bundle_of, rest_of, whole_bundle, with_file, with_fresh, changed_first}
 use Rattle.trio_raw.specs.InHand.{InHand, all_sheets}
 use Rattle.trio_raw.specs.Laws.{NothingIsInHand, PokedIsInHand, TakenWasGiven, AllWasGiven, RestIsInHand, NothingIsLeft, LentIsInHand, AllottedIsInHand, StaysInHand, GivenIsInHand, lent_file, zero_sheet}
 use Rattle.trio_raw.proofs.Members.{In-left, In-right, In-cases, In-flat, flat_from, In-map, map_from, not_among, in_filter, new_weaker}
-use Rattle.trio_raw.proofs.Once.{found, named_in, without_all_in, without_all_once, all_gone}
+use Rattle.trio_raw.proofs.Once.{found, named_in, named_once, without_all_in, without_all_once, all_gone}
 use Rattle.trio_raw.proofs.Kept.{AreFull, Changed, KeepsFiles, SameFile, map_some, first_from, changed_in, old_in, changed_same, sheets_kept, body_keeps, index_keeps, block_keeps}
 
 pub nothing_is_in_hand : NothingIsInHand
@@ -129,11 +129,15 @@ all_was_given s lib has h = record {
   pages = h.pages;
   numbers = h.numbers;
   full = h.full;
+  writes_once = h.files_once;
+  holds_once = refl;
+  pages_once = h.pages_once;
+  numbers_once = h.numbers_once;
 }
 
--- what is among the things was given; so a part of them was
-part_given : (s : State) (lib : ℕ) (has part : Has) → InHand s lib has → ((w : Written) → In w part.files → In w has.files) → ((x : Sheet) → In x part.pages → In x has.pages) → ((n : ℕ) → In n part.numbers → In n has.numbers) → GivenTo s lib (whole_bundle part)
-part_given s lib has part h files pages numbers = record {
+-- what is among the things was given; so a part of them was, where nothing stands in it twice
+part_given : (s : State) (lib : ℕ) (has part : Has) → InHand s lib has → ((w : Written) → In w part.files → In w has.files) → ((x : Sheet) → In x part.pages → In x has.pages) → ((n : ℕ) → In n part.numbers → In n has.numbers) → are_new [] (map (λ (w : Written). w.ino) part.files) ≡ true → are_new [] (sheet_numbers part.pages) ≡ true → are_new [] part.numbers ≡ true → GivenTo s lib (whole_bundle part)
+part_given s lib has part h files pages numbers files_once pages_once numbers_once = record {
   writes = λ w i. h.files w (files w i);
   holds = λ n i. absurd i;
   pages = λ n i.
@@ -144,16 +148,32 @@ part_given s lib has part h files pages numbers = record {
     | inl r ↦ h.full x (file_sheets has r.0 x (files r.0 r.1) r.2)
     | inr j ↦ h.full x (fresh_sheets has x (pages x j))
   ];
+  writes_once = files_once;
+  holds_once = refl;
+  pages_once = pages_once;
+  numbers_once = numbers_once;
 }
 
 pub taken_was_given : TakenWasGiven
-taken_was_given s lib has inos pages numbers h =
+taken_was_given s lib has inos pages numbers h there =
+    let files_there : Bool = are_there (λ (w : Written). w.ino) has.files inos in
+    let pages_there : Bool = are_there (λ (x : Sheet). x.page) has.pages pages in
+    let numbers_there : Bool = are_there (λ (n : ℕ). n) has.numbers numbers in
+    let parts = and_parts (files_there && pages_there) numbers_there there in
+    let both = and_parts files_there pages_there parts.0 in
     part_given s lib has
     (record { files = named (λ (w : Written). w.ino) has.files inos; pages = named (λ (x : Sheet). x.page) has.pages pages; numbers = named (λ (n : ℕ). n) has.numbers numbers })
     h
     (λ w i. (named_in (λ (w : Written). w.ino) has.files inos w i).0)
     (λ x i. (named_in (λ (x : Sheet). x.page) has.pages pages x i).0)
     (λ n i. (named_in (λ (n : ℕ). n) has.numbers numbers n i).0)
+    (once_of (λ (w : Written). w.ino) has.files inos both.0)
+    (once_of (λ (x : Sheet). x.page) has.pages pages both.1)
+    (ap (are_new []) (sym (map-id (named (λ (n : ℕ). n) has.numbers numbers))) ∙ once_of (λ (n : ℕ). n) has.numbers numbers parts.1)
+  where
+    once_of : {X : Type 0} (number : X → ℕ) (xs : List X) (names : List ℕ) → are_there number xs names ≡ true → are_new [] (map number (named number xs names)) ≡ true
+    once_of number xs names t =
+        named_once number xs names [] (and_parts (list_all (λ n. is_among n (map number xs)) names) (are_new [] names) t).1
 
 -- ---- the end of a bundle
 

@@ -34,6 +34,22 @@ module _ {X : Type 0} (number : X → ℕ) where
           (subst (λ z. In z xs) (sym s) r.0, inl (ap number s ∙ eqb-true (number x) n r.1))
       by_find later (Some x) e (inr j) = let r = later j in (r.0, inr r.1)
 
+  -- what is named once stands once
+  pub named_once : (xs : List X) (names seen : List ℕ) → are_new seen names ≡ true → are_new seen (map number (named number xs names)) ≡ true
+  named_once xs [] seen h = refl
+  named_once xs (n ∷ names) seen h =
+      let parts = and_parts (not (is_among n seen)) (are_new (seen ++ n ∷ []) names) h in
+      by_find parts.0 (named_once xs names (seen ++ n ∷ []) parts.1) (find (λ x. eqb (number x) n) xs) refl
+    where
+      others : List ℕ
+      others = map number (named number xs names)
+
+      by_find : not (is_among n seen) ≡ true → are_new (seen ++ n ∷ []) others ≡ true → (o : Option X) → find (λ x. eqb (number x) n) xs ≡ o → are_new seen (map number (cons_option o (named number xs names))) ≡ true
+      by_find new rest None e = new_weaker seen (seen ++ n ∷ []) others (λ m i. In-left m seen (n ∷ []) i) rest
+      by_find new rest (Some x) e =
+          let same : number x ≡ n = eqb-true (number x) n (found (λ x. eqb (number x) n) xs x e).1 in
+          subst (λ m. are_new seen (m ∷ others) ≡ true) (sym same) (and_from (not (is_among n seen)) (are_new (seen ++ n ∷ []) others) new rest)
+
   pub without_in : (xs : List X) (n : ℕ) (y : X) → In y (without number xs n) → In y xs
   without_in [] n y i = i
   without_in (x ∷ xs) n y i =

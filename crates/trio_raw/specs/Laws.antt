@@ -17,7 +17,7 @@ use Rattle.trio_state.specs.Bundles.{Ends}
 use Rattle.trio_state.specs.Given.{GivenTo}
 use Rattle.trio_state.specs.Run.{start}
 use Rattle.trio_state.specs.Step.{Granted, Given, Comes, grant_outcome, allot_outcome}
-use Rattle.trio_raw.specs.Has.{Has, nothing, poked, bundle_of, rest_of, whole_bundle}
+use Rattle.trio_raw.specs.Has.{Has, nothing, poked, has_all_of, bundle_of, rest_of, whole_bundle}
 use Rattle.trio_raw.specs.InHand.{InHand}
 
 -- at the start a library has nothing, and that is in hand
@@ -30,11 +30,11 @@ PokedIsInHand =
     (s : State) (lib : ℕ) (has has' : Has) (at : Spot) (offset : ℕ) (bytes : List ℕ)
     → InHand s lib has → poked has at offset bytes ≡ Some has' → InHand s lib has'
 
--- what is taken was given
+-- what is taken was given, where it has all that is named
 abbrev pub TakenWasGiven : Type 0
 TakenWasGiven =
     (s : State) (lib : ℕ) (has : Has) (inos pages numbers : List ℕ)
-    → InHand s lib has → GivenTo s lib (bundle_of has inos pages numbers)
+    → InHand s lib has → IsTrue (has_all_of has inos pages numbers) → GivenTo s lib (bundle_of has inos pages numbers)
 
 -- and so was all
 abbrev pub AllWasGiven : Type 0

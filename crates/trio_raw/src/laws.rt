@@ -12,7 +12,7 @@ pub fn poked_is_in_hand()
     ensures law { PokedIsInHand }
 {}
 
-/// Any bundle that a library takes of what it has was given to it.
+/// Any bundle that a library takes of what it has, each thing once, was given to it.
 pub fn taken_was_given()
     ensures law { TakenWasGiven }
 {}

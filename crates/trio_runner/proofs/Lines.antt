@@ -53,11 +53,11 @@ event_given lib p (grant_write ino) event h e = subst (λ (o : Option Event). On
 event_given lib p (allot pages numbers) event h e = subst (λ (o : Option Event). OnEvent p.state o) e tt
 event_given lib p (poke at offset bytes) event h e = absurd (cc e)
 event_given lib p (release inos pages numbers) event h e =
-    subst (λ (o : Option Event). OnEvent p.state o) e (by_there (has_all_of p.has inos pages numbers))
+    subst (λ (o : Option Event). OnEvent p.state o) e (by_there (has_all_of p.has inos pages numbers) refl)
   where
-    by_there : (b : Bool) → OnEvent p.state (cond b (Some (Release lib (bundle_of p.has inos pages numbers))) None)
-    by_there true = taken_was_given p.state lib p.has inos pages numbers h
-    by_there false = tt
+    by_there : (b : Bool) → has_all_of p.has inos pages numbers ≡ b → OnEvent p.state (cond b (Some (Release lib (bundle_of p.has inos pages numbers))) None)
+    by_there true t = taken_was_given p.state lib p.has inos pages numbers h t
+    by_there false f = tt
 
 pub line_end : (lib : ℕ) (p : Player) (said : Said) (told : Told) (moves : List Move) (p' : Player) → InHand p.state lib p.has → PlaysLine lib p said told moves p' → LineEnd lib p said told moves p'
 line_end lib p said told moves p' h plays = by_event (event_of lib p.has said) refl plays

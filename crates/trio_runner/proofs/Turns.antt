@@ -3,7 +3,7 @@ use Rattle.std.proofs.Common.{◌≡◌, ℕ, Bool, true, not, ◌&&◌, eqb, Li
 use Rattle.std.specs.Prelude.{IsTrue, IsFalse, IfOk, OnOk, Result, Ok, Err, if◌then◌else◌}
 use Rattle.std.specs.List.{filter}
 use Rattle.std.specs.Option.{ForSome}
-use Rattle.std.proofs.lemmas.Bool.{cases_Bool, and_parts, eqb-true}
+use Rattle.std.proofs.lemmas.Bool.{cases_Bool, and_parts, eqb-true, true_from_ne_false}
 use Rattle.trio_rights.specs.declared.rights.LibNo.{LibNo}
 use Rattle.trio_nodes.specs.declared.grant.GrantKind.{GrantKind}
 use Rattle.trio_nodes.specs.declared.grant.GrantKind.TheVariants.{Read, Write, Hold}
@@ -81,9 +81,9 @@ never_parted s s' lib n b none step =
       | inr lacks ↦ (let wrong : NotClosed n ≡ NoMemory = lacks.1 in absurd (cc wrong))
     ]
 
-pub taken_given : (s : State) (h : Held) (inos pages numbers : List ℕ) (b : Bundle) → IsReady s h → b ≡ bundle_of h.has inos pages numbers → GivenTo s h.lib.0 b
-taken_given s h inos pages numbers b ready e =
-    subst (GivenTo s h.lib.0) (sym e) (taken_was_given s h.lib.0 h.has inos pages numbers ready.stands.in_hand)
+pub taken_given : (s : State) (h : Held) (inos pages numbers : List ℕ) (b : Bundle) → IsReady s h → (IsFalse (has_all_of h.has inos pages numbers) → ⊥) → b ≡ bundle_of h.has inos pages numbers → GivenTo s h.lib.0 b
+taken_given s h inos pages numbers b ready all e =
+    subst (GivenTo s h.lib.0) (sym e) (taken_was_given s h.lib.0 h.has inos pages numbers ready.stands.in_hand (true_from_ne_false (has_all_of h.has inos pages numbers) all))
 
 pub all_given : (s : State) (h : Held) (b : Bundle) → IsReady s h → b ≡ whole_bundle h.has → GivenTo s h.lib.0 b
 all_given s h b ready e = subst (GivenTo s h.lib.0) (sym e) (all_was_given s h.lib.0 h.has ready.stands.in_hand)

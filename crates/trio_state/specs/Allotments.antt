@@ -1,35 +1,43 @@
 -- Which pages and inode numbers are free, and what is handed out.
-use Rattle.std.specs.Prelude.{ℕ, zero, suc, ◌-◌, ◌==◌, Bool, not, ◌&&◌, List, [], ◌∷◌, ◌++◌, map, is_some, slice_index}
-use Rattle.std.specs.List.{filter}
-use Rattle.trio_layout.specs.Lists.{is_among}
+use Rattle.std.specs.Prelude.{ℕ, Bool, true, false, not, ◌==◌, List, Option, None, Some}
+use Rattle.std.specs.List.{list_any}
+use Rattle.trio_rights.specs.declared.rights.LibNo.{LibNo}
+use Rattle.trio_tables.specs.Free.{free_pages as free_of_owners, free_numbers as free_of_rows}
+use Rattle.trio_tables.specs.Out.{with_all}
 use Rattle.trio_state.specs.Sheets.{without_pages}
-use Rattle.trio_state.specs.Image.{row_at, with_core_pages}
-use Rattle.trio_state.specs.State.{Out, State, is_out, logged}
+use Rattle.trio_state.specs.Image.{with_core_pages}
+use Rattle.trio_state.specs.State.{State, logged}
 
--- so many numbers from `from` on
-abbrev pub count_up : ℕ → ℕ → List ℕ
-count_up from zero = []
-count_up from (suc n) = from ∷ count_up (suc from) n
-
--- the free core pages, the lowest first: owned by no file, and not out
+-- The free pages, the lowest first: owned by nobody, and not out. They are core pages, since in an image that verifies the
+-- pages below the first core page have the controller for their owner.
 abbrev pub free_pages : State → List ℕ
-free_pages s =
-    filter (λ page. slice_index s.home.owners page == 0 && not (is_out s.pages_out page))
-    (count_up s.home.core.range.first (s.home.core.range.end - s.home.core.range.first))
+free_pages s = free_of_owners s.home.owners s.pages_out
 
 -- the free inode numbers, the lowest first: not live, and not out
 abbrev pub free_numbers : State → List ℕ
-free_numbers s =
-    filter (λ n. not (is_some (row_at s.home n)) && not (is_out s.numbers_out n)) (count_up 1 s.home.core.inodes)
+free_numbers s = free_of_rows s.home.rows s.numbers_out
+
+-- what is out once these numbers went out to a library
+abbrev pub out_with : List (Option LibNo) → ℕ → List ℕ → List (Option LibNo)
+out_with outs lib these = with_all (Some (record { 0 = lib })) these outs
+
+-- what is out once these numbers are back
+abbrev pub out_after : List (Option LibNo) → List ℕ → List (Option LibNo)
+out_after outs these = with_all None these outs
 
 -- pages and numbers go out to a library
 abbrev pub allots : State → ℕ → List ℕ → List ℕ → State
 allots s lib pages numbers = logged (record s {
   home = with_core_pages s.home (without_pages pages s.home.core.pages);
-  pages_out = s.pages_out ++ map (λ p. record { lib = lib; number = p }) pages;
-  numbers_out = s.numbers_out ++ map (λ n. record { lib = lib; number = n }) numbers;
+  pages_out = out_with s.pages_out lib pages;
+  numbers_out = out_with s.numbers_out lib numbers;
 })
 
--- what is out, without these numbers
-abbrev pub out_after : List Out → List ℕ → List Out
-out_after outs these = filter (λ o. not (is_among o.number these)) outs
+-- it is this library
+abbrev pub is_library : ℕ → Option LibNo → Bool
+is_library lib None = false
+is_library lib (Some l) = l.0 == lib
+
+-- nothing is out to the library
+abbrev pub has_none_out : ℕ → List (Option LibNo) → Bool
+has_none_out lib outs = not (list_any (is_library lib) outs)

@@ -11,7 +11,7 @@ use Rattle.trio_state.specs.Sheets.{Sheet, sheet_numbers, with_pages}
 use Rattle.trio_state.specs.Image.{Image, row_at, with_core_pages}
 use Rattle.trio_state.specs.State.{OpenGrant, State, settled, is_write, is_read}
 use Rattle.trio_state.specs.Proposed.{Bundle, is_written}
-use Rattle.trio_state.specs.Allotments.{out_after}
+use Rattle.trio_state.specs.Allotments.{out_after, has_none_out}
 
 -- ---- closed bundles
 
@@ -95,5 +95,5 @@ pub record Ends (s : State) (lib : ℕ) (b : Bundle) (image : Image) (s' : State
 abbrev pub has_all : State → ℕ → Bundle → Bool
 has_all s lib b =
     list_all (λ g. not (g.lib == lib) || is_read g.kind || is_in_bundle lib b g) s.open_grants
-    && list_all (λ o. not (o.lib == lib) || is_among o.number (sheet_numbers b.pages)) s.pages_out
-    && list_all (λ o. not (o.lib == lib) || is_among o.number b.numbers) s.numbers_out
+    && has_none_out lib (out_after s.pages_out (sheet_numbers b.pages))
+    && has_none_out lib (out_after s.numbers_out b.numbers)

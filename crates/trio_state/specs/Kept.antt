@@ -1,14 +1,15 @@
 -- What holds of every state that the controller is in.
-use Rattle.std.specs.Prelude.{◌≡◌, ◌≢◌, ℕ, Bool, true, ◌&&◌, List, [], ◌++◌, map, AllPairs, ◌⊎◌, None, Some, Ok, is_some, slice_get, slice_index, IsTrue}
+use Rattle.std.specs.Prelude.{◌≡◌, ◌≢◌, ℕ, ◌+◌, Bool, true, ◌&&◌, List, ◌++◌, length, AllPairs, ◌⊎◌, None, Some, Ok, is_some, slice_get, slice_index, IsTrue}
 use Rattle.std.specs.List.{list_any}
+use Rattle.trio_tables.specs.Out.{is_out}
 use Rattle.trio_nodes.specs.declared.grant.GrantKind.TheVariants.{Write, Hold}
-use Rattle.trio_layout.specs.Lists.{In, is_among, are_new}
+use Rattle.trio_layout.specs.Lists.{In, is_among}
 use Rattle.trio_layout.specs.Range.{is_core}
 use Rattle.trio_layout.specs.Survey.{Met, plain, survey, FileRead, file_of}
 use Rattle.trio_state.specs.Sheets.{sheet_numbers}
 use Rattle.trio_state.specs.Image.{Image, IsFit, row_at, settled_body}
 use Rattle.trio_state.specs.Verifies.{Verifies}
-use Rattle.trio_state.specs.State.{OpenGrant, Out, State, settled, covered, is_write, is_read, is_out}
+use Rattle.trio_state.specs.State.{OpenGrant, State, settled, covered, is_write, is_read}
 use Rattle.trio_state.specs.Grants.{has_parent_grant}
 
 -- two open grants on one file are read grants of different libraries
@@ -36,7 +37,8 @@ is_lent grants page = list_any (λ g. is_write g.kind && is_among page (sheet_nu
 
 -- The settled image verifies, and its pages are whole. The file of each open grant is live, and grants on one file are apart.
 -- Holds stand with their parents' write grants, and write grants lent what their files list, under a checkpoint of what it is to
--- cover. A page is absent from home only where it was lent for writing or is out by allotment. What is out is out once and free.
+-- cover. A page is absent from home only where it was lent for writing or is out by allotment. Each page and each
+-- inode number from 0 on has its place in the lists of what is out, and what is out is owned by nobody.
 pub record Kept (s : State) : Type 0 where
   pub fit : IsFit (settled s).core
   pub verifies : Verifies (settled s)
@@ -46,7 +48,7 @@ pub record Kept (s : State) : Type 0 where
   pub lent : (g : OpenGrant) → In g s.open_grants → g.kind ≡ Write → LentIsListed (settled s) g
   pub checkpoints : (g : OpenGrant) → In g s.open_grants → sheet_numbers g.checkpoint ≡ sheet_numbers (covered g.kind g.of g.index g.blocks)
   pub absent : (page : ℕ) → slice_get s.home.core.pages page ≡ Some None → IsTrue (is_core s.home.core.range page) → IsTrue (is_lent s.open_grants page) ⊎ IsTrue (is_out s.pages_out page)
-  pub out_once : IsTrue (are_new [] (map (λ o. o.number) s.pages_out))
-  pub out_free : (o : Out) → In o s.pages_out → slice_index s.home.owners o.number ≡ 0
-  pub numbers_once : IsTrue (are_new [] (map (λ o. o.number) s.numbers_out))
-  pub numbers_free : (o : Out) → In o s.numbers_out → row_at s.home o.number ≡ None
+  pub pages_placed : length s.pages_out ≡ s.home.core.range.end
+  pub out_free : (page : ℕ) → IsTrue (is_out s.pages_out page) → slice_index s.home.owners page ≡ 0
+  pub numbers_placed : length s.numbers_out ≡ s.home.core.inodes + 1
+  pub numbers_free : (n : ℕ) → IsTrue (is_out s.numbers_out n) → row_at s.home n ≡ None

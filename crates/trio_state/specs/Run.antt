@@ -1,6 +1,7 @@
 -- Whole runs of the controller.
-use Rattle.std.specs.Prelude.{◌≡◌, ℕ, List, [], ◌∷◌, Some, None, slice_get, IsTrue}
+use Rattle.std.specs.Prelude.{◌≡◌, ℕ, ◌+◌, List, [], ◌∷◌, Some, None, slice_get, IsTrue}
 use Rattle.trio_rights.specs.declared.rights.Creds.{Creds}
+use Rattle.trio_tables.specs.Out.{none_out}
 use Rattle.trio_layout.specs.Range.{is_core}
 use Rattle.trio_state.specs.Image.{Image}
 use Rattle.trio_state.specs.State.{State}
@@ -9,7 +10,14 @@ use Rattle.trio_state.specs.Given.{GivenEvent}
 
 -- the state of an image with nothing lent or out, and no history
 abbrev pub start : Image → List Creds → State
-start image creds = record { home = image; open_grants = []; pages_out = []; numbers_out = []; creds = creds; entries = 0 }
+start image creds = record {
+  home = image;
+  open_grants = [];
+  pages_out = none_out image.core.range.end;
+  numbers_out = none_out (image.core.inodes + 1);
+  creds = creds;
+  entries = 0;
+}
 
 -- no core page of the image is absent
 abbrev pub IsWhole : Image → Type 0

@@ -1,9 +1,10 @@
 -- The state of the controller, and the image that is settled in it.
-use Rattle.std.specs.Prelude.{ℕ, ◌+◌, ◌-◌, ◌==◌, Bool, true, false, List, [], ◌++◌, Option, if◌then◌else◌, slice_index_or}
-use Rattle.std.specs.List.{flat_map, list_any}
+use Rattle.std.specs.Prelude.{ℕ, ◌+◌, ◌-◌, Bool, true, false, List, [], ◌++◌, Option, if◌then◌else◌, slice_index_or}
+use Rattle.std.specs.List.{flat_map}
 use Rattle.trio_rights.specs.declared.kind.Kind.{Kind}
 use Rattle.trio_rights.specs.ByKind.{covers_blocks}
 use Rattle.trio_rights.specs.declared.rights.Creds.{Creds}
+use Rattle.trio_rights.specs.declared.rights.LibNo.{LibNo}
 use Rattle.trio_nodes.specs.declared.grant.GrantKind.{GrantKind}
 use Rattle.trio_nodes.specs.declared.grant.GrantKind.TheVariants.{Read, Write, Hold}
 use Rattle.trio_state.specs.Sheets.{Sheet, with_pages}
@@ -22,18 +23,14 @@ pub record OpenGrant : Type 0 where
   pub blocks : List Sheet
   pub checkpoint : List Sheet
 
--- a page or an inode number that is out by allotment, with its library
-pub record Out : Type 0 where
-  pub lib : ℕ
-  pub number : ℕ
-
 -- Pages of the home image that are lent by move or out by allotment are absent. Grants stand in the order of their entries.
--- `entries` counts the entries of the history.
+-- By page number and by inode number, `pages_out` and `numbers_out` have the library that has it out; so what is out is out to
+-- one library, and once. `entries` counts the entries of the history.
 pub record State : Type 0 where
   pub home : Image
   pub open_grants : List OpenGrant
-  pub pages_out : List Out
-  pub numbers_out : List Out
+  pub pages_out : List (Option LibNo)
+  pub numbers_out : List (Option LibNo)
   pub creds : List Creds
   pub entries : ℕ
 
@@ -60,10 +57,6 @@ settled s = with_core_pages s.home (with_pages (flat_map (λ g. g.checkpoint) s.
 -- the credentials of a library
 abbrev pub creds_of : State → ℕ → Creds
 creds_of s lib = slice_index_or s.creds (lib - 1) (record { uid = 0; gid = 0 })
-
--- the number is out by allotment
-abbrev pub is_out : List Out → ℕ → Bool
-is_out outs n = list_any (λ o. o.number == n) outs
 
 -- one entry more in the history
 abbrev pub logged : State → State

@@ -3,3 +3,4 @@ mod TableLemmas
 mod CellLemmas
 mod StoredLemmas
 mod MayLemmas
+pub mod OutLemmas

@@ -15,7 +15,7 @@ hand_in-requires-clause-given c =
     let b = bundle_in c.in-Ok.bundle in
     let lib : c.lib.result ≡ c.args.raw.now.lib = c.lib.ensures ∙ ap (λ (h : Held). h.lib) c.in-Ok.ensures.rest in
     subst (λ (l : LibNo). GivenTo s l.0 b) (sym lib)
-    (taken_given s c.args.raw.now c.args.inos.now c.args.pages.now c.args.inodes.now b c.requires c.in-Ok.ensures.bundle)
+    (taken_given s c.args.raw.now c.args.inos.now c.args.pages.now c.args.inodes.now b c.requires (search rules) c.in-Ok.ensures.bundle)
 
 pub hand_in-requires-clause-no_hold : goal.hand_in-requires-clause-no_hold
 hand_in-requires-clause-no_hold c =

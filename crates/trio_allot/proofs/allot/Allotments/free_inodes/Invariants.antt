@@ -1,5 +1,5 @@
 use Rattle.std.proofs.Common.{◌≡◌, ◌+◌, ◌≤◌, length}
-use Rattle.trio_allot.specs.Free.{is_free_number, free_numbers, numbers_where}
+use Rattle.trio_tables.specs.Free.{is_free_number, free_numbers, numbers_where}
 use Rattle.trio_allot.proofs.allot.Allotments.free_inodes.Given as goal
 
 -- those counted, and those from here on, are all

@@ -1,8 +1,9 @@
 use Rattle.std.proofs.Common.{◌≡◌, ◌≤◌, ℕ, ◌<◌, ◌+◌, ◌∙◌, ◌∷◌, [], ◌++◌, ◌==◌, ◌&&◌, not, is_some, arith, ap, sym, subst, map, take, set, length, slice_index, IsSome, IsTrue, Some, None, slice_index_or, length-set, get_or-set_other, le_trans}
 use Rattle.std.proofs.lemmas.List.{map-append}
 use Rattle.trio_page.specs.Home.{raised}
-use Rattle.trio_allot.specs.Free.{free_pages, is_free_page}
-use Rattle.trio_allot.specs.Out.{fresh_page, with_all}
+use Rattle.trio_tables.specs.Free.{free_pages, is_free_page}
+use Rattle.trio_tables.specs.Out.{with_all}
+use Rattle.trio_allot.specs.Out.{fresh_page}
 use Rattle.trio_allot.proofs.FreeLemmas.{next_of, next_same, not_empty, where_same}
 use Rattle.trio_allot.proofs.OutLemmas.{with_all-push, raised_by-more, home_after_taking}
 use Rattle.trio_allot.proofs.allot.Allotments.take_pages.Goals as goal

@@ -1,6 +1,7 @@
 use Rattle.std.proofs.Common.{◌≡◌, ◌≤◌, ℕ, Some, None, length, map, take, drop, vec_len, vec_capacity, slice_index_or}
-use Rattle.trio_allot.specs.Free.{is_free_page, free_pages, numbers_where}
-use Rattle.trio_allot.specs.Out.{lib_at, fresh_page, raised_by, with_all}
+use Rattle.trio_tables.specs.Free.{is_free_page, free_pages, numbers_where}
+use Rattle.trio_tables.specs.Out.{lib_at, with_all}
+use Rattle.trio_allot.specs.Out.{fresh_page, raised_by}
 use Rattle.trio_allot.proofs.allot.Allotments.take_pages.Given as goal
 
 -- the first i free pages are out; the others are those from `from` on, where all is as it was
