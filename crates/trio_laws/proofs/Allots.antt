@@ -81,7 +81,7 @@ module _ (s : State) (lib count many : ℕ) where
     abbrev pub pages : Pages
     pages = with_pages (flat_map (λ g. g.checkpoint) s.open_grants) (without_pages ps s.home.core.pages)
 
-    uncovered' : (p : ℕ) → In p ps → In p (sheet_numbers (flat_map (λ g. g.checkpoint) s.open_grants)) → ⊥
+    pub uncovered' : (p : ℕ) → In p ps → In p (sheet_numbers (flat_map (λ g. g.checkpoint) s.open_grants)) → ⊥
     uncovered' p i j =
         let g = checkpoint_lent s k p j in
         free_unlisted core plain k.fit k.verifies.sound (settled s) (tables s k) p (page_free p i).0 (k.lent g.0 g.1 g.2).met (k.lent g.0 g.1 g.2).stands (lent_met s k g.0 g.1 g.2 p g.3)
