@@ -30,6 +30,7 @@ pub enum RawFault {
 /// Contracts see the library, what it has (`Has`) and, as `room`, how many of each kind have a
 /// place (`Held`).
 pub struct Raw {
+    alloc: Global,
     lib: LibNo,
     files: Vec<WriteLease>,
     pages: Vec<FreshPage>,
@@ -56,6 +57,7 @@ impl Raw {
         ensures { result ≡ record { lib = lib; has = nothing; room = record { files = 0; pages = 0; numbers = 0 } } }
     {
         Raw {
+            alloc,
             lib,
             files: Vec::new(alloc),
             pages: Vec::new(alloc),
@@ -203,7 +205,6 @@ impl Raw {
     /// there or is named twice. [`RawFault::NoMemory`]: there was no memory for the bundle.
     pub fn take(
         &mut self,
-        alloc: Global,
         inos: &[u32],
         pages: &[u32],
         inodes: &[u32],
@@ -216,7 +217,7 @@ impl Raw {
         if !self.has_all_of(inos, pages, inodes) {
             return Err(RawFault::Absent);
         }
-        let Ok(mut parts) = room_for(alloc, inos.len(), pages.len(), inodes.len()) else {
+        let Ok(mut parts) = room_for(self.alloc, inos.len(), pages.len(), inodes.len()) else {
             return Err(RawFault::NoMemory);
         };
         move_all(&mut self.files, inos, &mut parts.writes);
@@ -227,7 +228,7 @@ impl Raw {
 
     /// Takes all that the library has, as one bundle, in the order in which it came, and with no
     /// hold. `None` exactly where it has nothing. It takes no memory.
-    pub fn take_all(&mut self, alloc: Global) -> Option<Bundle>
+    pub fn take_all(&mut self) -> Option<Bundle>
         ensures bundle { IfSome result (λ b. bundle_in b ≡ whole_bundle self.old.has) }
         ensures none { IsNone result ↔ IsTrue (is_nothing self.old.has) }
         ensures left { self.new ≡ record self.old { has = nothing; room = self.new.room } }
@@ -236,10 +237,10 @@ impl Raw {
             return None;
         }
         Some(Bundle::of(BundleParts {
-            writes: mem::replace(&mut self.files, Vec::new(alloc)),
-            holds: Vec::new(alloc),
-            pages: mem::replace(&mut self.pages, Vec::new(alloc)),
-            inodes: mem::replace(&mut self.inodes, Vec::new(alloc)),
+            writes: mem::replace(&mut self.files, Vec::new(self.alloc)),
+            holds: Vec::new(self.alloc),
+            pages: mem::replace(&mut self.pages, Vec::new(self.alloc)),
+            inodes: mem::replace(&mut self.inodes, Vec::new(self.alloc)),
         }))
     }
 
@@ -247,6 +248,7 @@ impl Raw {
     /// files busy, and the pages and inode numbers not free.
     pub fn discard(self) {
         let Raw {
+            alloc: _,
             lib: _,
             files,
             pages,
