@@ -4,6 +4,7 @@ use Rattle.std.proofs.lemmas.List.{append-nil, append_assoc}
 use Rattle.trio_io.specs.Shelf.{Shelf, OnlyReplaces, Rose, told}
 use Rattle.trio_layout.specs.Core.{Core}
 use Rattle.trio_layout.specs.declared.superblock.Superblock.{Superblock}
+use Rattle.trio_state.specs.Image.{Image}
 use Rattle.trio_state.specs.Kept.{Kept}
 use Rattle.trio_state.specs.Stored.{BytesVerify, StoresImage, core_in, image_in, bytes_in, pages_in}
 use Rattle.trio_state.specs.State.{State, settled}
@@ -19,8 +20,9 @@ use Rattle.trio_report.specs.Answers.{Answer as Told, answer_line}
 use Rattle.trio_report.specs.Report.{tree_text, counts_text, end_line, lib_heading}
 use Rattle.trio_report.specs.Seen.{answer_seen}
 use Rattle.trio_rights.specs.declared.rights.Creds.{Creds}
-use Rattle.trio_ctl.specs.declared.count.Counts.{Counts as CtlCounts}
-use Rattle.trio_ctl.specs.Count.{counts_of as counts_in_tables}
+use Rattle.trio_image.specs.declared.counts.Counts.{Counts}
+use Rattle.trio_image.specs.Counts.{counts_in_tables, counts_of}
+use Rattle.trio_image.specs.Image.{TablesAre}
 use Rattle.trio_ctl.specs.Ctl.{superblock_for}
 use Rattle.trio_runner.specs.Play.{Played}
 use Rattle.trio_runner.specs.Seen.{ScriptPlayed}
@@ -30,7 +32,7 @@ use Rattle.trio_app.specs.declared.stop.Stop.{Stop}
 use Rattle.trio_app.specs.declared.stop.Stop.TheVariants.{ImageFault, ImageNotBuilt, NotVerified, ScriptFault, ScriptNotBuilt, LineNotBuilt, NoMemory}
 use Rattle.trio_app.specs.Inputs.{ReadsBoth}
 use Rattle.trio_app.specs.Lines.{write_fault_line}
-use Rattle.trio_app.specs.Report.{answers_text, report_text}
+use Rattle.trio_app.specs.Report.{answers_text, report_text, told_counts}
 use Rattle.trio_app.specs.RunEnd.{IsRunEnd}
 use Rattle.trio_app.specs.Stop.{InputStop, ReadsImage, ReadsScript, ToldStop, line_of, status_of}
 use Rattle.trio_app.specs.Turns.{Turns, TurnsComesTo, TurnsCounts, TurnsKeeps, libraries}
@@ -39,26 +41,32 @@ use Rattle.trio_app.proofs.Trees.{tree_same}
 
 -- ---- a run
 
+-- the counts of the stored image are those of the image that is stored
+counts_same : (image : Image) (t : Superblock) (last : List (Option (List ℕ))) → TablesAre t last image.rows image.owners → counts_of (image_in t last) ≡ counts_of image
+counts_same image t last tables =
+    ap (λ rows. counts_in_tables rows (image_in t last).owners) (sym tables.rows_are) ∙ ap (counts_in_tables image.rows) (sym tables.owners_are)
+
 -- the text of a report, by the image that is settled at the end
-pub reported : (lines : List SaidLine) (tolds seen : List Told) (end end' : EndAnswer) (ctl : State) (counts : CtlCounts) (t : Superblock) (last : List (Option (List ℕ))) (report : List ℕ)
-    → seen ≡ tolds → end' ≡ end → counts ≡ counts_in_tables ctl.home.rows ctl.home.owners → t ≡ superblock_for (settled ctl).core → StoresImage t (settled ctl) last
-    → report ≡ lib_heading 1 Raw ++ answers_text lines seen ++ end_line end' ++ tree_text (tree_of (core_in t last)) ++ counts_text (record { inodes = counts.inodes; pages = counts.pages; free = counts.free })
+pub reported : (lines : List SaidLine) (tolds seen : List Told) (end end' : EndAnswer) (ctl : State) (t : Superblock) (last : List (Option (List ℕ))) (report : List ℕ)
+    → seen ≡ tolds → end' ≡ end → TablesAre t last (settled ctl).rows (settled ctl).owners → t ≡ superblock_for (settled ctl).core → StoresImage t (settled ctl) last
+    → report ≡ lib_heading 1 Raw ++ answers_text lines seen ++ end_line end' ++ tree_text (tree_of (core_in t last)) ++ counts_text (told_counts (counts_of (image_in t last)))
     → report ≡ report_text lines tolds end (settled ctl)
-reported lines tolds seen end end' ctl counts t last report same ended counted is stores text =
+reported lines tolds seen end end' ctl t last report same ended tables is stores text =
     let core : Core = (settled ctl).core in
     let stored : StoresImage (superblock_for core) (settled ctl) last = subst (λ (x : Superblock). StoresImage x (settled ctl) last) is stores in
     let tree : tree_of (core_in t last) ≡ tree_of core = ap (λ (x : Superblock). tree_of (core_in x last)) is ∙ tree_same (superblock_for core) core.pages last stored.core in
-    let T : List Told → EndAnswer → List TreeLine → CtlCounts → List ℕ = λ ts e lines' k. lib_heading 1 Raw ++ answers_text lines ts ++ end_line e ++ tree_text lines' ++ counts_text (record { inodes = k.inodes; pages = k.pages; free = k.free }) in
+    let T : List Told → EndAnswer → List TreeLine → Counts → List ℕ = λ ts e lines' k. lib_heading 1 Raw ++ answers_text lines ts ++ end_line e ++ tree_text lines' ++ counts_text (told_counts k) in
+    let counts : Counts = counts_of (image_in t last) in
     text ∙ ap (λ ts. T ts end' (tree_of (core_in t last)) counts) same ∙ ap (λ e. T tolds e (tree_of (core_in t last)) counts) ended
-    ∙ ap (λ ls. T tolds end ls counts) tree ∙ ap (T tolds end (tree_of core)) counted
+    ∙ ap (λ ls. T tolds end ls counts) tree ∙ ap (T tolds end (tree_of core)) (counts_same (settled ctl) t last tables)
 
 -- what a run comes to
-pub run_end : (s t : Superblock) (pages last : List (Option (List ℕ))) (libs : List Creds) (first final : State) (lines : List SaidLine) (none after : List LineAnswer) (end : EndAnswer) (counts : CtlCounts) (report bytes : List ℕ)
+pub run_end : (s t : Superblock) (pages last : List (Option (List ℕ))) (libs : List Creds) (first final : State) (lines : List SaidLine) (none after : List LineAnswer) (end : EndAnswer) (report bytes : List ℕ)
     → Kept first → libs ≡ libraries → first ≡ start (image_in s pages) libs → none ≡ [] → ScriptPlayed first.home first.creds lines none after end final
-    → counts ≡ counts_in_tables final.home.rows final.home.owners → t ≡ superblock_for (settled final).core → (final.pages_out ≡ [] → StoresImage t (settled final) last) → bytes ≡ bytes_in last → BytesVerify bytes
-    → report ≡ lib_heading 1 Raw ++ answers_text lines (map answer_seen after) ++ end_line end ++ tree_text (tree_of (core_in t last)) ++ counts_text (record { inodes = counts.inodes; pages = counts.pages; free = counts.free })
+    → TablesAre t last (settled final).rows (settled final).owners → t ≡ superblock_for (settled final).core → (final.pages_out ≡ [] → StoresImage t (settled final) last) → bytes ≡ bytes_in last → BytesVerify bytes
+    → report ≡ lib_heading 1 Raw ++ answers_text lines (map answer_seen after) ++ end_line end ++ tree_text (tree_of (core_in t last)) ++ counts_text (told_counts (counts_of (image_in t last)))
     → IsRunEnd s pages lines report bytes
-run_end s t pages last libs first final lines none after end counts report bytes k libs_are started nothing script counted is stores bytes_are verify text =
+run_end s t pages last libs first final lines none after end report bytes k libs_are started nothing script tables is stores bytes_are verify text =
     let begun : first ≡ start (image_in s pages) libraries = started ∙ ap (start (image_in s pages)) libs_are in
     let script' : ScriptPlayed (image_in s pages) libraries lines none after end final = subst (λ (f : State). ScriptPlayed f.home f.creds lines none after end final) begun script in
     let played : Played (image_in s pages) libraries lines = script'.played in
@@ -67,11 +75,11 @@ run_end s t pages last libs first final lines none after end counts report bytes
     let here : final.pages_out ≡ [] = ap (λ (f : State). f.pages_out) (sym script'.last) ∙ no_page_out (image_in s pages) libraries lines played k' in
     let stored : StoresImage t (settled played.last.state) last = subst (λ (f : State). StoresImage t (settled f) last) (sym script'.last) (stores here) in
     let is' : t ≡ superblock_for (settled played.last.state).core = is ∙ ap (λ (f : State). superblock_for (settled f).core) (sym script'.last) in
-    let counted' : counts ≡ counts_in_tables played.last.state.home.rows played.last.state.home.owners = counted ∙ ap (λ (f : State). counts_in_tables f.home.rows f.home.owners) (sym script'.last) in
+    let tables' : TablesAre t last (settled played.last.state).rows (settled played.last.state).owners = subst (λ (f : State). TablesAre t last (settled f).rows (settled f).owners) (sym script'.last) tables in
     record {
       played = played;
       headline = headline (image_in s pages) libraries lines played k';
-      put = reported lines played.tolds (map answer_seen after) played.end end played.last.state counts t last report seen (sym script'.end) counted' is' stored text;
+      put = reported lines played.tolds (map answer_seen after) played.end end played.last.state t last report seen (sym script'.end) tables' is' stored text;
       last = last;
       stores = subst (λ (x : Superblock). StoresImage x (settled played.last.state) last) is' stored;
       image_is = bytes_are;

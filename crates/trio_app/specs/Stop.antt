@@ -3,10 +3,8 @@ use Rattle.std.specs.Prelude.{◌≡◌, ◌⊎◌, ℕ, ◌≤◌, List, [], Op
 use Rattle.trio_io.specs.Shelf.{Shelf, Rose, IsTold, IsLonger}
 use Rattle.trio_layout.specs.declared.superblock.Superblock.{Superblock}
 use Rattle.trio_state.specs.Stored.{BytesVerify, pages_in}
-use Rattle.trio_survey.specs.declared.fault.SurveyFault.{SurveyFault}
-use Rattle.trio_survey.specs.declared.fault.SurveyFault.TheVariants.{Fails, NoMemory as SurveyNoMemory}
-use Rattle.trio_image.specs.declared.reading.ReadFault.{ReadFault}
-use Rattle.trio_image.specs.declared.reading.ReadFault.TheVariants.{Length, BadSuper, NoMemory as ReadNoMemory}
+use Rattle.trio_image.specs.declared.reading.LoadFault.{LoadFault}
+use Rattle.trio_image.specs.declared.reading.LoadFault.TheVariants.{Length, BadSuper, Fails, NoMemory as LoadNoMemory}
 use Rattle.trio_script.specs.Script.{SaidLine, script_lines, unbuilt_line}
 use Rattle.trio_app.specs.declared.status.Status.{Status}
 use Rattle.trio_app.specs.declared.status.Status.TheVariants.{NotVerified as StatusNotVerified, ReadFault as StatusReadFault, NoMemory as StatusNoMemory, NotBuilt}
@@ -40,14 +38,11 @@ ToldStop image script stop text status =
 
 -- ---- the image
 
-abbrev pub stop_of_reading : ReadFault → Stop
-stop_of_reading (Length count) = NotVerified
-stop_of_reading BadSuper = NotVerified
-stop_of_reading ReadNoMemory = NoMemory
-
-abbrev pub stop_of_verifying : SurveyFault → Stop
-stop_of_verifying (Fails rule ino page slot) = NotVerified
-stop_of_verifying SurveyNoMemory = NoMemory
+abbrev pub stop_of_loading : LoadFault → Stop
+stop_of_loading (Length count) = NotVerified
+stop_of_loading BadSuper = NotVerified
+stop_of_loading (Fails rule ino page slot) = NotVerified
+stop_of_loading LoadNoMemory = NoMemory
 
 -- Bytes of an image that verifies, with its superblock and its pages.
 pub record IsImage (bytes : List ℕ) (s : Superblock) (pages : List (Option (List ℕ))) : Type 0 where

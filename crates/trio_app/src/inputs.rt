@@ -8,7 +8,7 @@ ghost use Rattle.trio_app.specs.Stop.{BytesStop, ImageStop, InputStop, IsImage, 
 
 use crate::Stop;
 use std::alloc::Global;
-use trio_image::{Image, read_pages, verify};
+use trio_image::Image;
 use trio_io::{Files, ReadWholeFault, read_whole};
 use trio_script::{ScriptFault, ScriptLine, read_script};
 
@@ -62,8 +62,7 @@ fn verified_image(alloc: Global, bytes: &[u8]) -> Result<Image, Stop>
     ensures image { IfOk result (λ image. IsImage bytes.now image.superblock image.pages) }
     ensures stops { IfErr result (BytesStop bytes.now) }
 {
-    let pages = read_pages(alloc, bytes)?;
-    Ok(verify(alloc, pages)?)
+    Ok(Image::from_bytes(alloc, bytes)?)
 }
 
 fn input_script<F: Files>(alloc: Global, name: &str, files: &mut F) -> Result<Vec<ScriptLine>, Stop>

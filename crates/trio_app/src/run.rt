@@ -5,9 +5,10 @@ ghost use Rattle.trio_report.specs.declared.report.LibraryKind.TheVariants.{Raw}
 ghost use Rattle.trio_report.specs.Report.{counts_text, end_line, lib_heading, tree_text};
 ghost use Rattle.trio_report.specs.Seen.{answer_seen, counts_seen};
 ghost use Rattle.trio_script.specs.Seen.{script_line_seen};
-ghost use Rattle.trio_state.specs.Stored.{core_in};
+ghost use Rattle.trio_state.specs.Stored.{core_in, image_in};
 ghost use Rattle.trio_state.specs.Tree.{tree_of};
-ghost use Rattle.trio_app.specs.Report.{answers_text};
+ghost use Rattle.trio_image.specs.Counts.{counts_of};
+ghost use Rattle.trio_app.specs.Report.{answers_text, told_counts};
 ghost use Rattle.trio_app.specs.RunEnd.{IsRunEnd};
 
 use std::alloc::Global;
@@ -43,44 +44,50 @@ pub fn run(alloc: Global, image: Image, lines: &[ScriptLine]) -> Result<RunEnd, 
     };
     let mut answers = Vec::new(alloc);
     let end = play(alloc, &mut ctl, lines, &mut answers)?;
-    let counts = ctl.counts();
-    let counts = Counts {
-        inodes: counts.inodes,
-        pages: counts.pages,
-        free: counts.free,
-    };
     // at a script's end nothing is out, so this is want of memory
-    let Ok(mut last) = ctl.image(alloc) else {
+    let Ok(mut last) = ctl.image() else {
         return Err(NoMemory);
     };
     let image = bytes_of(alloc, &mut last)?;
-    let report = report(alloc, lines, &answers, end, last, &counts)?;
+    let report = report(alloc, lines, &answers, end, last)?;
     Ok(RunEnd { report, image })
 }
 
-/// The report of a run: the answers to its lines and that of its end, with the tree of the image at
-/// its end.
+/// The report of a run: the answers to its lines and that of its end, with the tree and the counts
+/// of the image at its end.
 fn report(
     alloc: Global,
     lines: &[ScriptLine],
     answers: &[LineAnswer],
     end: EndAnswer,
     image: Image,
-    counts: &Counts,
 ) -> Result<Vec<u8>, NoMemory>
     ensures { IfOk result (λ text. text.items ≡ lib_heading 1 Raw ++ answers_text (map script_line_seen lines.now) (map answer_seen answers.now) ++ end_line end
-        ++ tree_text (tree_of (core_in image.superblock image.pages)) ++ counts_text (counts_seen counts.now)) }
+        ++ tree_text (tree_of (core_in image.superblock image.pages)) ++ counts_text (told_counts (counts_of (image_in image.superblock image.pages)))) }
 {
     let superblock = image.superblock();
-    let mut home = image.into_home();
+    let counts = counts(&image);
+    let mut home = image.into_parts().home;
     let tree = tree_lines(alloc, &mut home, &superblock, &mut Reads::new())?;
     let mut text = Vec::new(alloc);
     put_heading(alloc, &mut text, LibNo(1), LibraryKind::Raw)?;
     put_answers(alloc, &mut text, lines, answers)?;
     put_end(&mut text, end)?;
     put_tree(alloc, &mut text, &tree)?;
-    put_counts(alloc, &mut text, counts)?;
+    put_counts(alloc, &mut text, &counts)?;
     Ok(text)
+}
+
+/// The counts of an image, as the report tells them.
+fn counts(image: &Image) -> Counts
+    ensures { counts_seen result ≡ told_counts (counts_of (image_in image.now.superblock image.now.pages)) }
+{
+    let counts = image.counts();
+    Counts {
+        inodes: counts.inodes,
+        pages: counts.pages,
+        free: counts.free,
+    }
 }
 
 /// Appends the answer to each line, behind the line's number.

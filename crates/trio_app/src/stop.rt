@@ -6,9 +6,8 @@ ghost use Rattle.trio_app.specs.Stop.{status_of, line_of, ToldStop};
 use crate::lines::{named_line, unbuilt_line_text};
 use crate::{Outcome, Status};
 use std::alloc::Global;
-use trio_image::ReadFault;
+use trio_image::LoadFault;
 use trio_page::NoMemory;
-use trio_survey::SurveyFault;
 
 /// Why the work ends before anything is written. Each cause comes where those before it don't
 /// stand.
@@ -41,30 +40,18 @@ impl From<NoMemory> for Stop {
     }
 }
 
-impl From<ReadFault> for Stop {
+impl From<LoadFault> for Stop {
     ghost use Rattle.std.specs.Prelude.{◌≡◌};
-    ghost use Rattle.trio_app.specs.Stop.{stop_of_reading};
+    ghost use Rattle.trio_app.specs.Stop.{stop_of_loading};
 
-    ghost from_gives = { λ fault e. e ≡ stop_of_reading fault };
+    ghost from_gives = { λ fault e. e ≡ stop_of_loading fault };
 
-    fn from(fault: ReadFault) -> Stop {
+    fn from(fault: LoadFault) -> Stop {
         match fault {
-            ReadFault::Length(_) | ReadFault::BadSuper => Stop::NotVerified,
-            ReadFault::NoMemory => Stop::NoMemory,
-        }
-    }
-}
-
-impl From<SurveyFault> for Stop {
-    ghost use Rattle.std.specs.Prelude.{◌≡◌};
-    ghost use Rattle.trio_app.specs.Stop.{stop_of_verifying};
-
-    ghost from_gives = { λ fault e. e ≡ stop_of_verifying fault };
-
-    fn from(fault: SurveyFault) -> Stop {
-        match fault {
-            SurveyFault::Fails { .. } => Stop::NotVerified,
-            SurveyFault::NoMemory => Stop::NoMemory,
+            LoadFault::Length(_) | LoadFault::BadSuper | LoadFault::Fails { .. } => {
+                Stop::NotVerified
+            }
+            LoadFault::NoMemory => Stop::NoMemory,
         }
     }
 }

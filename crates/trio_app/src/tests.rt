@@ -9,6 +9,7 @@ use std::process::Abort;
 use std::sync::Wait;
 use std::test::Fail;
 use std::thread::Threads;
+use trio_image::Image;
 use trio_io::{FailingCalls, MemFiles, MemSink, OpenGate, SureFiles, SureSink};
 use trio_page::NoMemory;
 use trio_page::field::put_bytes_in;
@@ -594,7 +595,7 @@ fn allotments_are_used(rt: HostRuntime) -> Result<(), Fail> {
         assert_eq!(rt; left.status, 0, "{lines}");
         assert_eq!(rt; left.out.bytes(), report.as_slice(), "{lines}");
         let out = left.files.content("o p").ok_or("an image")?;
-        assert!(rt; trio_image::read(alloc, out).is_ok(), "{lines}");
+        assert!(rt; Image::from_bytes(alloc, out).is_ok(), "{lines}");
         let part = out.get(from..to).ok_or("a part")?;
         assert!(rt; part.iter().all(|byte| *byte == 0), "{lines}");
     }
@@ -690,7 +691,7 @@ fn any_byte_of_a_body(rt: HostRuntime) -> Result<(), Fail> {
                 "{text} at {at}"
             );
             let out = left.files.content("o p").ok_or("an image")?;
-            assert!(rt; trio_image::read(alloc, out).is_ok(), "{text} at {at}");
+            assert!(rt; Image::from_bytes(alloc, out).is_ok(), "{text} at {at}");
         }
     }
     Ok(())

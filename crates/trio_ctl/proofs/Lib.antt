@@ -1,5 +1,6 @@
 pub mod AtHome
 pub mod Wholes
+pub mod Views
 pub mod Starting
 pub mod Storing
 pub mod LendLemmas

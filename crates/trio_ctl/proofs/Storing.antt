@@ -30,7 +30,7 @@ use Rattle.trio_laws.proofs.Images.{free_unlisted, tabulated-length, tabulated-g
 use Rattle.trio_laws.proofs.Owned.{pages_are}
 use Rattle.trio_laws.proofs.Refusing.{read_listed}
 use Rattle.trio_laws.proofs.StateFacts.{any_at, tables as tables_of}
-use Rattle.trio_image.specs.Image.{is_whole_page, IsVerified}
+use Rattle.trio_image.specs.Image.{is_whole_page, IsVerified, TablesAre}
 use Rattle.trio_ctl.specs.Ctl.{home_image, or_zero, state_of, superblock_for, with_zeros}
 use Rattle.trio_ctl.specs.Outs.{OutNow}
 use Rattle.trio_ctl.proofs.AtHome.{IsAtHome}
@@ -226,6 +226,10 @@ module _ (s : Superblock) (pages : List (Option (List ℕ))) (rows : List (Optio
   -- the pages are an image that verifies
   pub stored_verified : IsVerified s stored
   stored_verified = record { whole = record { count = stored_count; whole = stored_whole; superblock = stored_superblock }; verify = pages_verify }
+
+  -- with these tables
+  pub stored_tables : TablesAre s stored rows owners
+  stored_tables = record { rows_are = stored_verifies.rows; owners_are = stored_verifies.owners }
 
   zeros_at : (p : ℕ) → p < s.pages → get_or (map or_zero pages) p None ≡ or_zero (get_or pages p None)
   zeros_at p lt = get_or-map or_zero pages p None None (omega (arith, k.count))

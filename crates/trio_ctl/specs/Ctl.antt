@@ -46,6 +46,10 @@ state_of s pages rows owners files outs creds entries = record {
   entries = entries;
 }
 
+-- what contracts see of the controller; later fields join here
+pub record Controller : Type 0 where
+  pub state : State
+
 -- What holds of what the controller keeps: the sizes fit each other, each page has its place, there are 1 to 16 libraries, the
 -- table of grants has just the open ones, which are write grants of earlier entries under keys of their own, what is out is of
 -- the image, and the state is kept.

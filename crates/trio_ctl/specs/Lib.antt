@@ -1,5 +1,4 @@
 pub mod Ctl
-pub mod Count
 pub mod Pages
 pub mod Open
 pub mod Lending

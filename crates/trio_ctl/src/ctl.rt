@@ -1,7 +1,7 @@
 //! The controller.
 
 ghost use Rattle.std.specs.Prelude.{◌≡◌, ◌⊎◌, ◌≤◌, ◌++◌, ◌∷◌, [], Err, IfErr, IfOk, OnErr, None, Some, map, slice_index_or, vec_len};
-ghost use Rattle.std.specs.Option.{ForSome};
+ghost use Rattle.std.specs.Option.{IsSomeAnd};
 ghost use Rattle.trio_rights.specs.declared.rights.Need.TheVariants.{Write as ToWrite};
 ghost use Rattle.trio_rights.specs.May.{denier};
 ghost use Rattle.trio_nodes.specs.declared.grant.GrantKind.TheVariants.{Write};
@@ -9,7 +9,7 @@ ghost use Rattle.trio_nodes.specs.declared.answers.GrantFault.TheVariants.{NoMem
 ghost use Rattle.trio_tables.specs.Row.{as_row};
 ghost use Rattle.trio_allot.specs.Out.{fresh_number, fresh_page, inode_numbers, page_numbers};
 ghost use Rattle.trio_grants.specs.Grants.{AllBelow, HasKey, excludes, grant_under, without};
-ghost use Rattle.trio_image.specs.Image.{IsVerified};
+ghost use Rattle.trio_image.specs.Image.{IsVerified, TablesAre};
 ghost use Rattle.trio_state.specs.Grants.{opened};
 ghost use Rattle.trio_state.specs.Image.{row_at};
 ghost use Rattle.trio_state.specs.Kept.{Kept};
@@ -18,11 +18,9 @@ ghost use Rattle.trio_state.specs.State.{settled, creds_of, logged};
 ghost use Rattle.trio_state.specs.Step.{Allot, Grant, Step};
 ghost use Rattle.trio_state.specs.Stored.{image_in, StoresImage};
 ghost use Rattle.trio_ctl.specs.Answers.{allot_answer, grant_answer, Admits, TellsImage};
-ghost use Rattle.trio_ctl.specs.Count.{counts_of};
 ghost use Rattle.trio_ctl.specs.Ctl.{IsLibrary, superblock_for, with_zeros, writer_of};
 ghost use Rattle.trio_ctl.specs.Open.{lease_of};
 
-use crate::count::{Counts, counts_in};
 use crate::lend::{Asked, lend, settled_body};
 use crate::open::OpenFile;
 use crate::outs::Outs;
@@ -30,21 +28,22 @@ use crate::store::stored_pages;
 use std::alloc::Global;
 use std::marker::Model;
 use trio_grants::{AdmitFault, GrantKey, GrantTable};
-use trio_image::Image;
+use trio_image::{Image, ImageParts};
 use trio_layout::{CoreRange, Superblock};
-use trio_lease::{Allotted, WriteLease};
+use trio_lease::{Allotted, Lease, WriteLease};
 use trio_nodes::{AllotFault, GrantFault, GrantKind, Holder};
 use trio_page::{Home, NoMemory, Reads};
 use trio_rights::{Creds, LibNo, Need};
-use trio_survey::verify_found;
 use trio_tables::{Owners, Row, Shadow};
 
 /// The controller of one image: its pages at home, its tables, the grants that are open, what is out
 /// by allotment, and the credentials of its libraries.
 ///
-/// Contracts see the `State` of which the controller's steps speak. It is kept in every state.
+/// Contracts see a `Controller` of `specs/Ctl.antt`: the `State` of which the controller's steps
+/// speak, which is always kept.
 #[derive(Drop)]
 pub struct Ctl {
+    pub(crate) alloc: Global,
     pub(crate) home: Home,
     // the sizes of the image, with the body of the root as it stands
     pub(crate) superblock: Superblock,
@@ -62,12 +61,13 @@ pub struct Ctl {
 }
 
 impl Model for Ctl {
-    ghost use Rattle.trio_state.specs.State.{State};
-    ghost use Rattle.trio_ctl.specs.Ctl.{state_of, IsControlled};
+    ghost use Rattle.trio_ctl.specs.Ctl.{state_of, Controller, IsControlled};
 
-    ghost Value = { State };
+    ghost Value = { Controller };
 
-    ghost view = { λ c. state_of c.superblock c.home.pages c.rows c.owners c.files.items c.outs c.libs.items c.entries };
+    ghost view = { λ c. record {
+      state = state_of c.superblock c.home.pages c.rows c.owners c.files.items c.outs c.libs.items c.entries;
+    } };
 
     ghost invariant = { λ c. IsControlled c.superblock c.home.pages c.rows c.owners c.grants c.files.items c.outs c.libs.items c.entries };
 }
@@ -87,52 +87,64 @@ impl Ctl {
     pub fn start(alloc: Global, image: Image, libs: Vec<Creds>) -> Result<Ctl, (Image, NoMemory)>
         requires some { 1 ≤ vec_len libs }
         requires few { vec_len libs ≤ 16 }
-        ensures started { IfOk result (λ ctl. ctl ≡ start (image_in image.superblock image.pages) libs.items) }
-        ensures kept { IfOk result Kept }
+        ensures started { IfOk result (λ ctl. ctl.state ≡ start (image_in image.superblock image.pages) libs.items) }
+        ensures kept { IfOk result (λ ctl. Kept ctl.state) }
         ensures back { IfErr result (λ back. back.0 ≡ image) }
     {
         let superblock = image.superblock();
         let Ok(outs) = Outs::new(alloc, superblock.pages, superblock.inodes) else {
             return Err((image, NoMemory));
         };
-        let mut home = image.into_home();
-        match verify_found(alloc, &mut home, &mut Reads::new()) {
-            Ok(found) => Ok(Ctl {
-                home,
-                superblock,
-                rows: found.rows,
-                owners: found.owners,
-                grants: GrantTable::new(alloc),
-                files: Vec::new(alloc),
-                outs,
-                libs,
-                entries: 0,
-            }),
-            // an image verifies, so this is want of memory
-            Err(_fault) => Err((Image::of(home), NoMemory)),
-        }
+        let ImageParts { home, rows, owners } = image.into_parts();
+        Ok(Ctl {
+            alloc,
+            home,
+            superblock,
+            rows,
+            owners,
+            grants: GrantTable::new(alloc),
+            files: Vec::new(alloc),
+            outs,
+            libs,
+            entries: 0,
+        })
     }
 
-    /// Lends a live file to a library for writing: its body, its index pages and its blocks, which
-    /// leave home by move. What the grant covers is kept aside.
+    /// Grants a live file to a library. A write grant lends the file's body, its index pages and its
+    /// blocks, which leave home by move; what it covers is kept aside. Only write grants are given
+    /// yet: that the kind is `Write` is the caller's condition until there are read grants and holds.
     ///
     /// `NotLive` exactly where no live file has the number; `Denied` exactly where a number on the
     /// way from the root denies what is needed, the first such number; `Busy` exactly where an open
     /// grant is on the file, with the one of the lowest entry. After `NoMemory`, which may come in
     /// place of each of them, nothing changed; a history that has as many entries as a `u64` counts
     /// has no memory for one more.
-    pub fn grant_write(
-        &mut self,
-        alloc: Global,
-        lib: LibNo,
-        ino: u32,
-    ) -> Result<WriteLease, GrantFault>
-        requires library { IsLibrary lib self.old }
-        ensures step { Step self.old (Grant lib.0 ino Write) (grant_answer result) self.new }
-        ensures lease { IfOk result (λ lease. ForSome (row_at self.old.home ino)
-            (λ r. lease ≡ lease_of (opened self.old lib.0 ino Write r))) }
-        ensures was_kept { Kept self.old }
-        ensures kept { Kept self.new }
+    pub fn grant(&mut self, lib: LibNo, ino: u32, kind: GrantKind) -> Result<Lease, GrantFault>
+        requires library { IsLibrary lib self.old.state }
+        requires write { kind ≡ Write }
+        ensures step { Step self.old.state (Grant lib.0 ino kind) (grant_answer result) self.new.state }
+        ensures lease { IfOk result (λ lease. IsSomeAnd (row_at self.old.state.home ino)
+            (λ r. lease ≡ Lease.Write (lease_of (opened self.old.state lib.0 ino kind r)))) }
+        ensures was_kept { Kept self.old.state }
+        ensures kept { Kept self.new.state }
+    {
+        match kind {
+            GrantKind::Write => match self.grant_write(lib, ino) {
+                Ok(lease) => Ok(Lease::Write(lease)),
+                Err(fault) => Err(fault),
+            },
+            GrantKind::Read | GrantKind::Hold => unreachable!(),
+        }
+    }
+
+    // lends a live file for writing
+    fn grant_write(&mut self, lib: LibNo, ino: u32) -> Result<WriteLease, GrantFault>
+        requires library { IsLibrary lib self.old.state }
+        ensures step { Step self.old.state (Grant lib.0 ino Write) (grant_answer result) self.new.state }
+        ensures lease { IfOk result (λ lease. IsSomeAnd (row_at self.old.state.home ino)
+            (λ r. lease ≡ lease_of (opened self.old.state lib.0 ino Write r))) }
+        ensures was_kept { Kept self.old.state }
+        ensures kept { Kept self.new.state }
     {
         let Some(row) = self.rows.row(ino) else {
             return Err(self.log_refusal(GrantFault::NotLive));
@@ -140,7 +152,7 @@ impl Ctl {
         if let Err(denier) = self.rows.may(self.creds(lib), ino, Need::Write) {
             return Err(self.log_refusal(GrantFault::Denied(denier)));
         }
-        self.lend_file(alloc, lib, ino, &row)
+        self.lend_file(lib, ino, &row)
     }
 
     /// Allots free pages and inode numbers to a library, so many of each as it asks for: the lowest
@@ -152,23 +164,22 @@ impl Ctl {
     /// many entries as a `u64` counts has no memory for one more.
     pub fn allot(
         &mut self,
-        alloc: Global,
         lib: LibNo,
         pages: u32,
         inodes: u32,
     ) -> Result<Allotted, AllotFault>
-        requires library { IsLibrary lib self.old }
-        ensures step { Step self.old (Allot lib.0 pages inodes) (allot_answer result) self.new }
+        requires library { IsLibrary lib self.old.state }
+        ensures step { Step self.old.state (Allot lib.0 pages inodes) (allot_answer result) self.new.state }
         ensures pages { IfOk result (λ given. given.pages.items ≡ map (fresh_page lib) (page_numbers given.pages.items)) }
         ensures inodes { IfOk result (λ given. given.inodes.items ≡ map (fresh_number lib) (inode_numbers given.inodes.items)) }
-        ensures was_kept { Kept self.old }
-        ensures kept { Kept self.new }
+        ensures was_kept { Kept self.old.state }
+        ensures kept { Kept self.new.state }
     {
         let Some(entries) = self.entries.checked_add(1) else {
             return Err(AllotFault::NoMemory);
         };
         let given = self.outs.take(
-            alloc,
+            self.alloc,
             &mut self.home,
             &self.owners,
             &self.rows,
@@ -195,21 +206,22 @@ impl Ctl {
 
     /// The settled image: its pages are just those that store it, with copies of the core pages, and
     /// all zero where one is out by allotment. The state is unchanged. `Busy` exactly where a write
-    /// grant is out; `NoMemory`: there was no memory for the pages.
-    pub fn image(&mut self, alloc: Global) -> Result<Image, ImageFault>
-        ensures answer { TellsImage (writer_of self.old) result }
-        ensures superblock { IfOk result (λ image. image.superblock ≡ superblock_for (settled self.old).core) }
-        ensures zeros { IfOk result (λ image. StoresImage image.superblock (with_zeros (settled self.old)) image.pages) }
-        ensures stores { self.old.pages_out ≡ [] → IfOk result (λ image. StoresImage image.superblock (settled self.old) image.pages) }
+    /// grant is out; `NoMemory`: there was no memory for the pages and the tables.
+    pub fn image(&mut self) -> Result<Image, ImageFault>
+        ensures answer { TellsImage (writer_of self.old.state) result }
+        ensures superblock { IfOk result (λ image. image.superblock ≡ superblock_for (settled self.old.state).core) }
+        ensures zeros { IfOk result (λ image. StoresImage image.superblock (with_zeros (settled self.old.state)) image.pages) }
+        ensures stores { self.old.state.pages_out ≡ [] → IfOk result (λ image. StoresImage image.superblock (settled self.old.state) image.pages) }
+        ensures tables { IfOk result (λ image. TablesAre image.superblock image.pages (settled self.old.state).rows (settled self.old.state).owners) }
         ensures verified { IfOk result (λ image. IsVerified image.superblock image.pages) }
-        ensures state { self.new ≡ self.old }
-        ensures kept { Kept self.old }
+        ensures state { self.new.state ≡ self.old.state }
+        ensures kept { Kept self.old.state }
     {
         if let Some(holder) = self.grants.writer() {
             return Err(ImageFault::Busy(holder));
         }
         let Ok(pages) = stored_pages(
-            alloc,
+            self.alloc,
             &mut self.home,
             &self.superblock,
             &self.rows,
@@ -217,28 +229,30 @@ impl Ctl {
         ) else {
             return Err(ImageFault::NoMemory);
         };
-        Ok(Image::of(Home::of(pages)))
-    }
-
-    /// What the image at home has in use.
-    pub fn counts(&self) -> Counts
-        ensures counts { result ≡ counts_of self.now.home.rows self.now.home.owners }
-        ensures kept { Kept self.now }
-    {
-        counts_in(&self.rows, &self.owners)
+        let Ok(rows) = self.rows.copy(self.alloc) else {
+            return Err(ImageFault::NoMemory);
+        };
+        let Ok(owners) = self.owners.copy(self.alloc) else {
+            return Err(ImageFault::NoMemory);
+        };
+        Ok(Image::of(ImageParts {
+            home: Home::of(pages),
+            rows,
+            owners,
+        }))
     }
 
     // the credentials of a library
     pub(crate) fn creds(&self, lib: LibNo) -> Creds
-        requires { IsLibrary lib self.now }
-        ensures { result ≡ creds_of self.now lib.0 }
+        requires { IsLibrary lib self.now.state }
+        ensures { result ≡ creds_of self.now.state lib.0 }
     {
         self.libs[lib.0 as usize - 1]
     }
 
     // one entry more in the history, for a refusal; or want of memory for it
     fn log_refusal(&mut self, fault: GrantFault) -> GrantFault
-        ensures { ((result ≡ fault) × (self.new ≡ logged self.old)) ⊎ ((result ≡ NoGrantMemory) × (self.new ≡ self.old)) }
+        ensures { ((result ≡ fault) × (self.new.state ≡ logged self.old.state)) ⊎ ((result ≡ NoGrantMemory) × (self.new.state ≡ self.old.state)) }
     {
         match self.entries.checked_add(1) {
             Some(entries) => {
@@ -252,16 +266,15 @@ impl Ctl {
     // lends a file that has this row and denies nothing
     fn lend_file(
         &mut self,
-        alloc: Global,
         lib: LibNo,
         ino: u32,
         row: &Row,
     ) -> Result<WriteLease, GrantFault>
-        requires library { IsLibrary lib self.old }
-        requires live { row_at self.old.home ino ≡ Some (as_row row.now) }
-        requires may { denier self.old.home.rows (creds_of self.old lib.0) ino ToWrite ≡ None }
-        ensures step { Step self.old (Grant lib.0 ino Write) (grant_answer result) self.new }
-        ensures lease { IfOk result (λ lease. lease ≡ lease_of (opened self.old lib.0 ino Write (as_row row.now))) }
+        requires library { IsLibrary lib self.old.state }
+        requires live { row_at self.old.state.home ino ≡ Some (as_row row.now) }
+        requires may { denier self.old.state.home.rows (creds_of self.old.state lib.0) ino ToWrite ≡ None }
+        ensures step { Step self.old.state (Grant lib.0 ino Write) (grant_answer result) self.new.state }
+        ensures lease { IfOk result (λ lease. lease ≡ lease_of (opened self.old.state lib.0 ino Write (as_row row.now))) }
     {
         let Some(entries) = self.entries.checked_add(1) else {
             return Err(GrantFault::NoMemory);
@@ -284,7 +297,7 @@ impl Ctl {
             first: self.superblock.first_core,
             end: self.superblock.pages,
         };
-        match lend(alloc, &mut self.home, range, &asked, key) {
+        match lend(self.alloc, &mut self.home, range, &asked, key) {
             Ok((file, lease)) => {
                 let Ok(()) = self.files.push(file) else {
                     lease.discard();

@@ -1,12 +1,11 @@
 //! The controller: what it keeps of an image, and its calls.
 //!
-//! Contracts see a [`Ctl`] as the `State` of `trio_state`'s `specs/State.antt`, of which `Kept` holds
-//! in every state that it is in.
+//! Contracts see a [`Ctl`] as a `Controller` of `specs/Ctl.antt`, whose state is that of `trio_state`'s
+//! `specs/State.antt`. `Kept` holds of it in every state that it is in.
 #![tactic(auto)]
 
 mod bundles;
 mod closing;
-mod count;
 mod ctl;
 mod lend;
 mod open;
@@ -15,7 +14,6 @@ mod release;
 mod spread;
 mod store;
 
-pub use count::Counts;
 pub use ctl::{Ctl, ImageFault};
 
 #[cfg(test)]

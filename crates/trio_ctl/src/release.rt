@@ -25,7 +25,6 @@ use crate::ctl::Ctl;
 use crate::open::OpenFile;
 use crate::outs::Outs;
 use crate::spread::{follow_all, settled_pages, spread};
-use std::alloc::Global;
 use std::mem;
 use trio_layout::CoreRange;
 use trio_lease::Bundle;
@@ -48,26 +47,25 @@ impl Ctl {
     /// back; a history that has as many entries as a `u64` counts has no memory for one more.
     pub fn release(
         &mut self,
-        alloc: Global,
         lib: LibNo,
         bundle: Bundle,
         reads: &mut Reads,
     ) -> Result<ReleaseAnswer, (Bundle, ReleaseFault)>
-        requires library { IsLibrary lib self.old }
-        requires given { GivenTo self.old lib.0 (bundle_in bundle) }
-        ensures step { Step self.old (Release lib.0 (bundle_in bundle)) (release_answer result (λ back. back.1)) self.new }
+        requires library { IsLibrary lib self.old.state }
+        requires given { GivenTo self.old.state lib.0 (bundle_in bundle) }
+        ensures step { Step self.old.state (Release lib.0 (bundle_in bundle)) (release_answer result (λ back. back.1)) self.new.state }
         ensures back { IfErr result (λ back. back.0 ≡ bundle) }
         ensures fault { IfErr result (λ back. back.1 ≡ NoReleaseMemory) }
-        ensures was_kept { Kept self.old }
-        ensures kept { Kept self.new }
+        ensures was_kept { Kept self.old.state }
+        ensures kept { Kept self.new.state }
     {
-        let Ok((verdict, closing)) = self.judged(alloc, lib, &bundle, reads) else {
+        let Ok((verdict, closing)) = self.judged(lib, &bundle, reads) else {
             return Err((bundle, ReleaseFault::NoMemory));
         };
         let Some(entries) = self.entries.checked_add(1) else {
             return Err((bundle, ReleaseFault::NoMemory));
         };
-        let files = mem::replace(&mut self.files, Vec::new(alloc));
+        let files = mem::replace(&mut self.files, Vec::new(self.alloc));
         self.files = close_all(closing, lib, files, &mut self.grants, &mut self.home);
         self.entries = entries;
         match verdict {
@@ -106,30 +104,29 @@ impl Ctl {
     // The verdict over a bundle, and what the end of its grants needs. All memory is taken here.
     fn judged(
         &mut self,
-        alloc: Global,
         lib: LibNo,
         bundle: &Bundle,
         reads: &mut Reads,
     ) -> Result<(Verdict, Closing), NoMemory>
-        requires library { IsLibrary lib self.old }
-        requires given { GivenTo self.old lib.0 (bundle_in bundle.now) }
-        ensures accepted { IfOk result (λ r. IfAccepted (λ n. is_accepted (settled self.old) (creds_of self.old lib.0) (bundle_in bundle.now) ≡ true) r.0) }
-        ensures next { IfOk result (λ r. IfAccepted (IsImage (next (settled self.old) (bundle_in bundle.now))) r.0) }
-        ensures refused { IfOk result (λ r. IfRefused (is_accepted (settled self.old) (creds_of self.old lib.0) (bundle_in bundle.now) ≡ false) r.0) }
+        requires library { IsLibrary lib self.old.state }
+        requires given { GivenTo self.old.state lib.0 (bundle_in bundle.now) }
+        ensures accepted { IfOk result (λ r. IfAccepted (λ n. is_accepted (settled self.old.state) (creds_of self.old.state lib.0) (bundle_in bundle.now) ≡ true) r.0) }
+        ensures next { IfOk result (λ r. IfAccepted (IsImage (next (settled self.old.state) (bundle_in bundle.now))) r.0) }
+        ensures refused { IfOk result (λ r. IfRefused (is_accepted (settled self.old.state) (creds_of self.old.state lib.0) (bundle_in bundle.now) ≡ false) r.0) }
         ensures marks { IfOk result (λ r. (n : ℕ) → slice_index_or r.1.written.items n false ≡ is_written (bundle_in bundle.now) n) }
         ensures empty { IfOk result (λ r. r.1.room.items ≡ []) }
-        ensures room { IfOk result (λ r. length self.old.open_grants ≤ vec_capacity r.1.room) }
-        ensures state { self.new ≡ self.old }
-        ensures kept { Kept self.old }
+        ensures room { IfOk result (λ r. length self.old.state.open_grants ≤ vec_capacity r.1.room) }
+        ensures state { self.new.state ≡ self.old.state }
+        ensures kept { Kept self.old.state }
     {
         let creds = self.creds(lib);
         let range = CoreRange {
             first: self.superblock.first_core,
             end: self.superblock.pages,
         };
-        let settled = settled_pages(alloc, &mut self.home, &self.files)?;
+        let settled = settled_pages(self.alloc, &mut self.home, &self.files)?;
         let verdict = judge(
-            alloc,
+            self.alloc,
             settled,
             &self.superblock.root,
             range,
@@ -138,8 +135,8 @@ impl Ctl {
             bundle,
             reads,
         )?;
-        let written = written_marks(alloc, bundle, self.superblock.inodes)?;
-        let room = Vec::with_capacity(alloc, self.files.len())?;
+        let written = written_marks(self.alloc, bundle, self.superblock.inodes)?;
+        let room = Vec::with_capacity(self.alloc, self.files.len())?;
         Ok((verdict, Closing { written, room }))
     }
 }

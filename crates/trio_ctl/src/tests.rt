@@ -4,8 +4,8 @@ use super::*;
 use crate::outs::Outs;
 use std::alloc::Global;
 use std::test::Fail;
-use trio_image::{bytes_of, read};
-use trio_lease::Allotted;
+use trio_image::{Counts, Image, bytes_of};
+use trio_lease::{Allotted, Lease};
 use trio_nodes::{AllotFault, GrantFault, GrantKind, Holder};
 use trio_page::field::{all_zero, put_bytes_in, put_u32_in};
 use trio_page::{Home, NoMemory, Page, PageNo, Reads};
@@ -60,9 +60,9 @@ fn image_bytes(alloc: Global, with_directory: bool) -> Option<Vec<u8>>
 }
 
 fn started(alloc: Global, bytes: &[u8]) -> Option<Ctl>
-    ensures { IfSome result (λ ctl. length ctl.creds ≡ 1) }
+    ensures { IfSome result (λ ctl. length ctl.state.creds ≡ 1) }
 {
-    let image = read(alloc, bytes).ok()?;
+    let image = Image::from_bytes(alloc, bytes).ok()?;
     let libs = vec![in alloc; Creds { uid: 5, gid: 5 }].ok()?;
     Ctl::start(alloc, image, libs).ok()
 }
@@ -73,7 +73,7 @@ fn the_settled_image_is_stored_again(rt: HostRuntime) -> Result<(), Fail> {
     for with_directory in [false, true] {
         let bytes = image_bytes(alloc, with_directory).ok_or("memory")?;
         let mut ctl = started(alloc, &bytes).ok_or("a controller")?;
-        let mut image = ctl.image(alloc).ok().ok_or("memory")?;
+        let mut image = ctl.image().ok().ok_or("memory")?;
         let written = bytes_of(alloc, &mut image).ok().ok_or("memory")?;
         assert!(rt; written.as_slice() == bytes.as_slice());
         let counts = if with_directory {
@@ -89,17 +89,17 @@ fn the_settled_image_is_stored_again(rt: HostRuntime) -> Result<(), Fail> {
                 free: 29,
             }
         };
-        assert_eq!(rt; ctl.counts(), counts);
+        assert_eq!(rt; image.counts(), counts);
     }
     Ok(())
 }
 
 // A controller over the image with the directory, for one library of this uid.
 fn controlled(alloc: Global, uid: u32) -> Option<Ctl>
-    ensures { IfSome result (λ ctl. length ctl.creds ≡ 1) }
+    ensures { IfSome result (λ ctl. length ctl.state.creds ≡ 1) }
 {
     let bytes = image_bytes(alloc, true)?;
-    let image = read(alloc, &bytes).ok()?;
+    let image = Image::from_bytes(alloc, &bytes).ok()?;
     let libs = vec![in alloc; Creds { uid, gid: 0 }].ok()?;
     Ctl::start(alloc, image, libs).ok()
 }
@@ -116,11 +116,15 @@ fn files_are_lent_or_refused(rt: HostRuntime) -> Result<(), Fail> {
     ];
     for (uid, ino, wanted) in cases {
         let mut ctl = controlled(alloc, uid).ok_or("a controller")?;
-        match ctl.grant_write(alloc, LibNo(1), ino) {
-            Ok(lease) => {
+        match ctl.grant(LibNo(1), ino, GrantKind::Write) {
+            Ok(Lease::Write(lease)) => {
                 let same = lease.ino() == ino && lease.lib() == LibNo(1) && lease.entry() == 0;
                 lease.discard();
                 assert!(rt; same && wanted.is_none(), "{ino} by uid {uid}");
+            }
+            Ok(lease) => {
+                lease.discard();
+                return Err("a write lease".into());
             }
             Err(fault) => assert!(rt; Some(fault) == wanted, "{ino} by uid {uid}"),
         }
@@ -132,8 +136,13 @@ fn files_are_lent_or_refused(rt: HostRuntime) -> Result<(), Fail> {
 fn what_is_lent_has_left_home(rt: HostRuntime) -> Result<(), Fail> {
     let alloc = rt.alloc();
     let mut ctl = controlled(alloc, 0).ok_or("a controller")?;
-    let Ok(lease) = ctl.grant_write(alloc, LibNo(1), 1) else {
-        return Err("a lease".into());
+    let lease = match ctl.grant(LibNo(1), 1, GrantKind::Write) {
+        Ok(Lease::Write(lease)) => lease,
+        Ok(lease) => {
+            lease.discard();
+            return Err("a write lease".into());
+        }
+        Err(_) => return Err("a lease".into()),
     };
     // the root's index page names its block, in which the entry of `a` stands
     let index = lease.index(0).map(|page| page.u32_at(0));
@@ -148,7 +157,7 @@ fn what_is_lent_has_left_home(rt: HostRuntime) -> Result<(), Fail> {
         kind: GrantKind::Write,
         entry: 0,
     };
-    let fault = ctl.image(alloc).err();
+    let fault = ctl.image().err();
     assert!(rt; fault == Some(ImageFault::Busy(holder)));
     Ok(())
 }
@@ -188,12 +197,12 @@ fn the_lowest_free_are_allotted(rt: HostRuntime) -> Result<(), Fail> {
     let mut bytes = image_bytes(alloc, true).ok_or("memory")?;
     put_bytes_in(&mut bytes, 24_576, b"left");
     let mut ctl = started(alloc, &bytes).ok_or("a controller")?;
-    let given = ctl.allot(alloc, LibNo(1), 2, 1).ok().ok_or("an allotment")?;
+    let given = ctl.allot(LibNo(1), 2, 1).ok().ok_or("an allotment")?;
     let (pages, inodes) = numbers_of(alloc, given).ok_or("zeros")?;
     assert!(rt; pages.as_slice() == [5, 6].as_slice());
     assert!(rt; inodes.as_slice() == [3].as_slice());
     // in the settled image what is out is all zero
-    let mut image = ctl.image(alloc).ok().ok_or("memory")?;
+    let mut image = ctl.image().ok().ok_or("memory")?;
     let written = bytes_of(alloc, &mut image).ok().ok_or("memory")?;
     put_bytes_in(&mut bytes, 24_576, &[0; 4]);
     assert!(rt; written == bytes);
@@ -214,7 +223,7 @@ fn too_much_is_not_allotted(rt: HostRuntime) -> Result<(), Fail> {
     };
     for (pages, wanted) in [(28, no_pages), (27, no_inodes)] {
         let mut ctl = controlled(alloc, 0).ok_or("a controller")?;
-        match ctl.allot(alloc, LibNo(1), pages, 63) {
+        match ctl.allot(LibNo(1), pages, 63) {
             Ok(given) => {
                 given.discard();
                 return Err("too much was allotted".into());

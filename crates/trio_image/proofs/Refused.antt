@@ -7,12 +7,9 @@ use Rattle.trio_state.specs.Stored.{pages_in, BytesVerify, PagesVerify}
 use Rattle.trio_survey.specs.declared.fault.SurveyFault.{SurveyFault}
 use Rattle.trio_survey.specs.declared.fault.SurveyFault.TheVariants.{Fails as SurveyFails, NoMemory as SurveyNoMemory}
 use Rattle.trio_survey.specs.Verdict.{IsDenied}
-use Rattle.trio_image.specs.declared.reading.ReadFault.{ReadFault}
-use Rattle.trio_image.specs.declared.reading.ReadFault.TheVariants.{Length as ReadLength, BadSuper as ReadBadSuper, NoMemory as ReadNoMemory}
-use Rattle.trio_image.specs.declared.reading.ImageFault.{ImageFault}
-use Rattle.trio_image.specs.declared.reading.ImageFault.TheVariants.{Length, BadSuper, Fails, NoMemory}
-use Rattle.trio_image.specs.Faults.{fault_of_verifying}
-use Rattle.trio_image.specs.Fault.{HasLength, IsBadLength, IsBadSuper, IsImageFault, IsReadFault}
+use Rattle.trio_image.specs.declared.reading.LoadFault.{LoadFault}
+use Rattle.trio_image.specs.declared.reading.LoadFault.TheVariants.{Length, BadSuper, Fails, NoMemory}
+use Rattle.trio_image.specs.Fault.{fault_of_survey, HasLength, IsBadLength, IsBadSuper, IsLoadFault, IsPagesFault, IsReadFault}
 
 -- bytes are those of one superblock at most
 one_superblock : (bytes : List ℕ) (s t : Superblock) → IsSuperblock bytes s → IsSuperblock bytes t → s ≡ t
@@ -33,32 +30,33 @@ bad_length bytes n bad v =
 bad_super : (bytes : List ℕ) → IsBadSuper bytes → BytesVerify bytes → ⊥
 bad_super bytes bad v = bad.1 v.superblock v.read
 
-pub read_refuses : (bytes : List ℕ) (fault : ReadFault) → IsReadFault bytes fault → fault ≢ ReadNoMemory → BytesVerify bytes → ⊥
-read_refuses bytes (ReadLength n) bad other v = bad_length bytes n bad v
-read_refuses bytes ReadBadSuper bad other v = bad_super bytes bad v
-read_refuses bytes ReadNoMemory bad other v = other refl
+-- a fault of reading the pages is one of loading
+pub read_loads : (bytes : List ℕ) (fault : LoadFault) → IsReadFault bytes fault → IsLoadFault bytes fault
+read_loads bytes (Length n) bad = bad
+read_loads bytes BadSuper bad = bad
+read_loads bytes (Fails rule ino page slot) bad = absurd bad
+read_loads bytes NoMemory bad = tt
 
-pub survey_refuses : (s : Superblock) (pages : List (Option (List ℕ))) (fault : SurveyFault) → IsDenied s pages fault → fault ≢ SurveyNoMemory → PagesVerify s pages → ⊥
-survey_refuses s pages (SurveyFails rule ino page slot) bad other v = bad.0 v
-survey_refuses s pages SurveyNoMemory bad other v = other refl
+-- so is one of the pages that were read
+pub pages_load : (bytes : List ℕ) (s : Superblock) (pages : List (Option (List ℕ))) (fault : LoadFault) → HasLength bytes s → pages ≡ pages_in s.pages bytes → IsPagesFault s pages fault → IsLoadFault bytes fault
+pages_load bytes s pages (Fails rule ino page slot) has is bad = (s, has, subst (λ ps. IsDenied s ps (SurveyFails rule ino page slot)) is bad)
+pages_load bytes s pages NoMemory has is bad = tt
+pages_load bytes s pages (Length n) has is bad = absurd bad
+pages_load bytes s pages BadSuper has is bad = absurd bad
 
-pub verify_refuses : (s : Superblock) (pages : List (Option (List ℕ))) (fault : SurveyFault) → IsDenied s pages fault → fault ≢ SurveyNoMemory → (bytes : List ℕ) → HasLength bytes s → pages ≡ pages_in s.pages bytes → BytesVerify bytes → ⊥
-verify_refuses s pages fault bad other bytes has is v =
-    survey_refuses s pages fault bad other (subst (PagesVerify s) (sym is) (pages_verify bytes s has v))
+pub load_refuses : (bytes : List ℕ) (fault : LoadFault) → IsLoadFault bytes fault → fault ≢ NoMemory → BytesVerify bytes → ⊥
+load_refuses bytes (Length n) bad other v = bad_length bytes n bad v
+load_refuses bytes BadSuper bad other v = bad_super bytes bad v
+load_refuses bytes (Fails rule ino page slot) bad other v = bad.2.0 (pages_verify bytes bad.0 bad.1 v)
+load_refuses bytes NoMemory bad other v = other refl
 
-pub image_refuses : (bytes : List ℕ) (fault : ImageFault) → IsImageFault bytes fault → fault ≢ NoMemory → BytesVerify bytes → ⊥
-image_refuses bytes (Length n) bad other v = bad_length bytes n bad v
-image_refuses bytes BadSuper bad other v = bad_super bytes bad v
-image_refuses bytes (Fails rule ino page slot) bad other v = survey_refuses bad.0 (pages_in bad.0.pages bytes) (SurveyFails rule ino page slot) bad.2 (λ e. absurd cc) (pages_verify bytes bad.0 bad.1 v)
-image_refuses bytes NoMemory bad other v = other refl
+pub pages_refuse : (s : Superblock) (pages : List (Option (List ℕ))) (fault : LoadFault) → IsPagesFault s pages fault → fault ≢ NoMemory → PagesVerify s pages → ⊥
+pages_refuse s pages (Fails rule ino page slot) bad other v = bad.0 v
+pages_refuse s pages NoMemory bad other v = other refl
+pages_refuse s pages (Length n) bad other v = absurd bad
+pages_refuse s pages BadSuper bad other v = absurd bad
 
--- want of memory is told as such, and nothing else is
-pub told_verifying : (P : Type 0) (fault : SurveyFault) → (fault ≢ SurveyNoMemory → P) → fault_of_verifying fault ≢ NoMemory → P
-told_verifying P (SurveyFails rule ino page slot) h other = h (λ e. absurd cc)
-told_verifying P SurveyNoMemory h other = absurd (other refl)
-
--- a fault of verifying, as it is told of bytes
-pub told_fault : (bytes : List ℕ) (s : Superblock) (pages : List (Option (List ℕ))) (fault : SurveyFault) → HasLength bytes s → pages ≡ pages_in s.pages bytes → IsDenied s pages fault → IsImageFault bytes (fault_of_verifying fault)
-told_fault bytes s pages (SurveyFails rule ino page slot) has is bad =
-    (s, has, subst (λ ps. IsDenied s ps (SurveyFails rule ino page slot)) is bad)
-told_fault bytes s pages SurveyNoMemory has is bad = tt
+-- a fault of the survey, as it is told of pages
+pub survey_told : (s : Superblock) (pages : List (Option (List ℕ))) (fault : SurveyFault) → IsDenied s pages fault → IsPagesFault s pages (fault_of_survey fault)
+survey_told s pages (SurveyFails rule ino page slot) bad = bad
+survey_told s pages SurveyNoMemory bad = tt

@@ -1,14 +1,13 @@
 -- Why bytes are no image, with each cause exactly where it stands.
-use Rattle.std.specs.Prelude.{◌≡◌, ◌≢◌, ℕ, ◌*◌, ◌<◌, ◌≤◌, ◌⊎◌, List, length, take, ⊤}
+use Rattle.std.specs.Prelude.{◌≡◌, ◌≢◌, ℕ, ◌*◌, ◌<◌, ◌≤◌, ◌⊎◌, List, Option, length, take, ⊤}
 use Rattle.trio_layout.specs.declared.superblock.Superblock.{Superblock}
 use Rattle.trio_layout.specs.Superblock.{IsSuperblock}
 use Rattle.trio_state.specs.Stored.{pages_in}
-use Rattle.trio_survey.specs.declared.fault.SurveyFault.TheVariants.{Fails as SurveyFails}
+use Rattle.trio_survey.specs.declared.fault.SurveyFault.{SurveyFault}
+use Rattle.trio_survey.specs.declared.fault.SurveyFault.TheVariants.{Fails as SurveyFails, NoMemory as SurveyNoMemory}
 use Rattle.trio_survey.specs.Verdict.{IsDenied}
-use Rattle.trio_image.specs.declared.reading.ReadFault.{ReadFault}
-use Rattle.trio_image.specs.declared.reading.ReadFault.TheVariants.{Length as ReadLength, BadSuper as ReadBadSuper, NoMemory as ReadNoMemory}
-use Rattle.trio_image.specs.declared.reading.ImageFault.{ImageFault}
-use Rattle.trio_image.specs.declared.reading.ImageFault.TheVariants.{Length, BadSuper, Fails, NoMemory}
+use Rattle.trio_image.specs.declared.reading.LoadFault.{LoadFault}
+use Rattle.trio_image.specs.declared.reading.LoadFault.TheVariants.{Length, BadSuper, Fails, NoMemory}
 
 -- the bytes begin with this superblock, and are as many as it says
 pub record HasLength (bytes : List ℕ) (s : Superblock) : Type 0 where
@@ -25,16 +24,28 @@ IsBadLength bytes n =
 abbrev pub IsBadSuper : List ℕ → Type 0
 IsBadSuper bytes = (4096 ≤ length bytes) × ((s : Superblock) → IsSuperblock (take 4096 bytes) s → ⊥)
 
--- Why the bytes are no pages. Want of memory says nothing.
-abbrev pub IsReadFault : List ℕ → ReadFault → Type 0
-IsReadFault bytes (ReadLength n) = IsBadLength bytes n
-IsReadFault bytes ReadBadSuper = IsBadSuper bytes
-IsReadFault bytes ReadNoMemory = ⊤
+-- how a fault of the survey is told
+abbrev pub fault_of_survey : SurveyFault → LoadFault
+fault_of_survey (SurveyFails rule ino page slot) = Fails rule ino page slot
+fault_of_survey SurveyNoMemory = NoMemory
 
--- Why the bytes are no image. Want of memory says nothing.
-abbrev pub IsImageFault : List ℕ → ImageFault → Type 0
-IsImageFault bytes (Length n) = IsBadLength bytes n
-IsImageFault bytes BadSuper = IsBadSuper bytes
-IsImageFault bytes (Fails rule ino page slot) =
+-- Why the bytes are no pages of an image. Want of memory says nothing.
+abbrev pub IsReadFault : List ℕ → LoadFault → Type 0
+IsReadFault bytes (Length n) = IsBadLength bytes n
+IsReadFault bytes BadSuper = IsBadSuper bytes
+IsReadFault bytes (Fails rule ino page slot) = ⊥
+IsReadFault bytes NoMemory = ⊤
+
+-- Why pages with this superblock don't verify. Want of memory says nothing.
+abbrev pub IsPagesFault : Superblock → List (Option (List ℕ)) → LoadFault → Type 0
+IsPagesFault s pages (Fails rule ino page slot) = IsDenied s pages (SurveyFails rule ino page slot)
+IsPagesFault s pages NoMemory = ⊤
+IsPagesFault s pages fault = ⊥
+
+-- Why the bytes are no image that verifies. Want of memory says nothing.
+abbrev pub IsLoadFault : List ℕ → LoadFault → Type 0
+IsLoadFault bytes (Length n) = IsBadLength bytes n
+IsLoadFault bytes BadSuper = IsBadSuper bytes
+IsLoadFault bytes (Fails rule ino page slot) =
     (s : Superblock) × HasLength bytes s × IsDenied s (pages_in s.pages bytes) (SurveyFails rule ino page slot)
-IsImageFault bytes NoMemory = ⊤
+IsLoadFault bytes NoMemory = ⊤

@@ -2,7 +2,8 @@
 use Rattle.std.specs.Prelude.{◌≡◌, ℕ, ◌==◌, Bool, false, List, Option, None, Some, length, IsTrue}
 use Rattle.std.specs.List.{list_all}
 use Rattle.trio_layout.specs.declared.superblock.Superblock.{Superblock}
-use Rattle.trio_state.specs.Stored.{HasSuperblock, PagesVerify}
+use Rattle.trio_rights.specs.Row.{Row}
+use Rattle.trio_state.specs.Stored.{image_in, HasSuperblock, PagesVerify}
 
 -- what the superblock says, and the pages by number; None is an absent page
 pub record ImagePages : Type 0 where
@@ -24,3 +25,8 @@ pub record IsWholeImage (s : Superblock) (pages : List (Option (List ℕ))) : Ty
 pub record IsVerified (s : Superblock) (pages : List (Option (List ℕ))) : Type 0 where
   pub whole : IsWholeImage s pages
   pub verify : PagesVerify s pages
+
+-- the rows and the owners are those of the image that the pages store
+pub record TablesAre (s : Superblock) (pages : List (Option (List ℕ))) (rows : List (Option Row)) (owners : List ℕ) : Type 0 where
+  pub rows_are : rows ≡ (image_in s pages).rows
+  pub owners_are : owners ≡ (image_in s pages).owners

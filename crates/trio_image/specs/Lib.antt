@@ -1,3 +1,3 @@
 pub mod Image
 pub mod Fault
-pub mod Faults
+pub mod Counts

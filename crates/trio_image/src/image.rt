@@ -2,63 +2,87 @@
 
 ghost use Rattle.std.specs.Prelude.{◌≡◌, IfOk};
 ghost use Rattle.trio_layout.specs.declared.superblock.Superblock.{Superblock};
-ghost use Rattle.trio_state.specs.Stored.{bytes_in, pages_in, BytesVerify, HasSuperblock};
-ghost use Rattle.trio_image.specs.Image.{IsVerified};
+ghost use Rattle.trio_state.specs.Stored.{bytes_in, image_in, pages_in, BytesVerify, HasSuperblock};
+ghost use Rattle.trio_image.specs.Counts.{counts_of};
+ghost use Rattle.trio_image.specs.Image.{IsVerified, TablesAre};
 
 use crate::bytes::home_bytes;
+use crate::counts::{Counts, counts_in};
 use std::alloc::Global;
 use std::marker::Model;
 use trio_layout::Superblock;
 use trio_page::{Home, NoMemory, PageNo, Reads};
+use trio_tables::{Owners, Shadow};
 
-/// An image that verifies, with just the pages that its superblock tells, none absent.
+/// An image that verifies, with just the pages that its superblock tells, none absent. It keeps the
+/// tables that its verification found.
 ///
 /// Contracts see its superblock and its pages by number, each as its bytes (`ImagePages` of
 /// `specs/Image.antt`).
 #[derive(Drop)]
 pub struct Image {
     superblock: Superblock,
-    home: Home,
+    parts: ImageParts,
+}
+
+/// The pages of an image and its tables.
+#[derive(Drop)]
+pub struct ImageParts {
+    pub home: Home,
+    /// The row of each live inode number.
+    pub rows: Shadow,
+    /// The owner of each page.
+    pub owners: Owners,
 }
 
 impl Model for Image {
-    ghost use Rattle.trio_image.specs.Image.{ImagePages, IsVerified};
+    ghost use Rattle.trio_image.specs.Image.{ImagePages, IsVerified, TablesAre};
 
     ghost Value = { ImagePages };
 
-    ghost view = { λ i. record { superblock = i.superblock; pages = i.home.pages } };
+    ghost view = { λ i. record { superblock = i.superblock; pages = i.parts.home.pages } };
 
-    ghost invariant = { λ i. IsVerified i.superblock i.home.pages };
+    ghost invariant = { λ i. IsVerified i.superblock i.parts.home.pages
+        × TablesAre i.superblock i.parts.home.pages i.parts.rows i.parts.owners };
 }
 
 impl Image {
-    /// The image of a home that verifies, with just the superblock's pages, none absent. Takes no
-    /// memory.
-    pub fn of(home: Home) -> Image
-        requires { (s : Superblock) × IsVerified s home.pages }
-        ensures pages { result.pages ≡ home.pages }
+    /// The image of a home that verifies, with just the superblock's pages, none absent, and of its
+    /// tables. Takes no memory.
+    pub fn of(parts: ImageParts) -> Image
+        requires { (s : Superblock) × IsVerified s parts.home.pages × TablesAre s parts.home.pages parts.rows parts.owners }
+        ensures pages { result.pages ≡ parts.home.pages }
         ensures verified { IsVerified result.superblock result.pages }
-        ensures superblock { (s : Superblock) → HasSuperblock s home.pages → result.superblock ≡ s }
+        ensures superblock { (s : Superblock) → HasSuperblock s parts.home.pages → result.superblock ≡ s }
     {
-        let mut home = home;
-        let superblock = superblock_of(&mut home);
-        Image { superblock, home }
+        let mut parts = parts;
+        let superblock = superblock_of(&mut parts.home);
+        Image { superblock, parts }
     }
 
     /// The image of a home whose first page says this superblock.
-    pub(crate) fn sealed(superblock: Superblock, home: Home) -> Image
-        requires { IsVerified superblock home.pages }
-        ensures { result ≡ record { superblock = superblock; pages = home.pages } }
+    pub(crate) fn sealed(superblock: Superblock, parts: ImageParts) -> Image
+        requires verified { IsVerified superblock parts.home.pages }
+        requires tables { TablesAre superblock parts.home.pages parts.rows parts.owners }
+        ensures { result ≡ record { superblock = superblock; pages = parts.home.pages } }
     {
-        Image { superblock, home }
+        Image { superblock, parts }
     }
 
-    /// The home with the pages of the image. Takes no memory.
-    pub fn into_home(self) -> Home
-        ensures pages { result.pages ≡ self.pages }
+    /// The home with the pages of the image, and its tables. Takes no memory.
+    pub fn into_parts(self) -> ImageParts
+        ensures pages { result.home.pages ≡ self.pages }
         ensures verified { IsVerified self.superblock self.pages }
+        ensures tables { TablesAre self.superblock self.pages result.rows result.owners }
     {
-        self.home
+        self.parts
+    }
+
+    /// What the image has in use. The pages are not read.
+    pub fn counts(&self) -> Counts
+        ensures { result ≡ counts_of (image_in self.now.superblock self.now.pages) }
+    {
+        counts_in(&self.parts.rows, &self.parts.owners)
     }
 
     /// What the first page says.
@@ -88,5 +112,5 @@ pub fn bytes_of(alloc: Global, image: &mut Image) -> Result<Vec<u8>, NoMemory>
     ensures again { IfOk result (λ bytes. pages_in image.old.superblock.pages bytes.items ≡ image.old.pages) }
     ensures image { image.new ≡ image.old }
 {
-    home_bytes(alloc, &mut image.home)
+    home_bytes(alloc, &mut image.parts.home)
 }

@@ -32,18 +32,18 @@ fn image_bytes(alloc: Global) -> Option<Vec<u8>> {
 }
 
 // why the front of the image, with these bytes at these places, is none
-fn fault(alloc: Global, count: usize, edits: &[(usize, u8)]) -> Option<ImageFault> {
+fn fault(alloc: Global, count: usize, edits: &[(usize, u8)]) -> Option<LoadFault> {
     let mut bytes = image_bytes(alloc)?;
     for (at, byte) in edits {
         if let Some(place) = bytes.get_mut(*at) {
             *place = *byte;
         }
     }
-    read(alloc, bytes.get(..count)?).err()
+    Image::from_bytes(alloc, bytes.get(..count)?).err()
 }
 
-fn fails(rule: u8, ino: u32, page: u32) -> Option<ImageFault> {
-    Some(ImageFault::Fails {
+fn fails(rule: u8, ino: u32, page: u32) -> Option<LoadFault> {
+    Some(LoadFault::Fails {
         rule,
         ino,
         page,
@@ -54,15 +54,21 @@ fn fails(rule: u8, ino: u32, page: u32) -> Option<ImageFault> {
 #[test]
 fn an_image_is_read_and_written(rt: HostRuntime) -> Result<(), Fail> {
     let bytes = image_bytes(rt.alloc()).ok_or("memory")?;
-    let mut image = read(rt.alloc(), &bytes).ok().ok_or("an image")?;
+    let mut image = Image::from_bytes(rt.alloc(), &bytes).ok().ok_or("an image")?;
     let superblock = image.superblock();
     assert_eq!(rt; (superblock.pages, superblock.inodes), (32, 64));
     assert_eq!(rt; (superblock.first_owner, superblock.first_core), (2, 3));
     let written = bytes_of(rt.alloc(), &mut image).ok().ok_or("memory")?;
     assert!(rt; written.as_slice() == bytes.as_slice());
-    let home = image.into_home();
-    assert_eq!(rt; home.len(), 32);
-    assert_eq!(rt; Image::of(home).superblock().pages, 32);
+    let counts = Counts {
+        inodes: 1,
+        pages: 0,
+        free: 29,
+    };
+    assert_eq!(rt; image.counts(), counts);
+    let parts = image.into_parts();
+    assert_eq!(rt; parts.home.len(), 32);
+    assert_eq!(rt; Image::of(parts).superblock().pages, 32);
     Ok(())
 }
 
@@ -70,10 +76,10 @@ fn an_image_is_read_and_written(rt: HostRuntime) -> Result<(), Fail> {
 fn other_bytes_are_refused(rt: HostRuntime) {
     let alloc = rt.alloc();
     assert_eq!(rt; fault(alloc, 131_072, &[]), None);
-    assert_eq!(rt; fault(alloc, 0, &[]), Some(ImageFault::Length(0)));
+    assert_eq!(rt; fault(alloc, 0, &[]), Some(LoadFault::Length(0)));
     assert_eq!(rt;
         fault(alloc, 131_071, &[]),
-        Some(ImageFault::Length(131_071))
+        Some(LoadFault::Length(131_071))
     );
     // an owner of a page that no file uses, and a size without a block
     let owner = (8204, 2);
@@ -81,9 +87,9 @@ fn other_bytes_are_refused(rt: HostRuntime) {
     let magic = (0, b'a');
     assert_eq!(rt; fault(alloc, 131_072, &[owner]), fails(5, 0, 3));
     assert_eq!(rt; fault(alloc, 131_072, &[owner, size]), fails(1, 1, 0));
-    assert_eq!(rt; fault(alloc, 131_071, &[magic]), Some(ImageFault::BadSuper));
+    assert_eq!(rt; fault(alloc, 131_071, &[magic]), Some(LoadFault::BadSuper));
     assert_eq!(rt;
         fault(alloc, 4095, &[magic]),
-        Some(ImageFault::Length(4095))
+        Some(LoadFault::Length(4095))
     );
 }

@@ -31,6 +31,7 @@ pub enum RawFault {
 /// Contracts see the library, what it has in the words of the controller's steps (`Has`), the
 /// things themselves (`Things`) and, as `room`, how many of each kind have a place (`Held`).
 pub struct Raw {
+    alloc: Global,
     lib: LibNo,
     files: Vec<WriteLease>,
     pages: Vec<FreshPage>,
@@ -58,6 +59,7 @@ impl Raw {
         ensures { result ≡ record { lib = lib; has = nothing; things = no_things; room = record { files = 0; pages = 0; numbers = 0 } } }
     {
         Raw {
+            alloc,
             lib,
             files: Vec::new(alloc),
             pages: Vec::new(alloc),
@@ -210,7 +212,6 @@ impl Raw {
     /// there or is named twice. [`RawFault::NoMemory`]: there was no memory for the bundle.
     pub fn take(
         &mut self,
-        alloc: Global,
         inos: &[u32],
         pages: &[u32],
         inodes: &[u32],
@@ -224,7 +225,7 @@ impl Raw {
         if !self.has_all_of(inos, pages, inodes) {
             return Err(RawFault::Absent);
         }
-        let Ok(mut parts) = room_for(alloc, inos.len(), pages.len(), inodes.len()) else {
+        let Ok(mut parts) = room_for(self.alloc, inos.len(), pages.len(), inodes.len()) else {
             return Err(RawFault::NoMemory);
         };
         move_all(&mut self.files, inos, &mut parts.writes);
@@ -235,7 +236,7 @@ impl Raw {
 
     /// Takes all that the library has, as one bundle, in the order in which it came, and with no
     /// hold. `None` exactly where it has nothing. It takes no memory.
-    pub fn take_all(&mut self, alloc: Global) -> Option<Bundle>
+    pub fn take_all(&mut self) -> Option<Bundle>
         ensures bundle { IfSome result (λ b. bundle_in b ≡ whole_bundle self.old.has) }
         ensures things { IfSome result (λ b. things_in b ≡ self.old.things) }
         ensures none { IsNone result ↔ IsTrue (is_nothing self.old.has) }
@@ -245,10 +246,10 @@ impl Raw {
             return None;
         }
         Some(Bundle::of(BundleParts {
-            writes: mem::replace(&mut self.files, Vec::new(alloc)),
-            holds: Vec::new(alloc),
-            pages: mem::replace(&mut self.pages, Vec::new(alloc)),
-            inodes: mem::replace(&mut self.inodes, Vec::new(alloc)),
+            writes: mem::replace(&mut self.files, Vec::new(self.alloc)),
+            holds: Vec::new(self.alloc),
+            pages: mem::replace(&mut self.pages, Vec::new(self.alloc)),
+            inodes: mem::replace(&mut self.inodes, Vec::new(self.alloc)),
         }))
     }
 
@@ -256,6 +257,7 @@ impl Raw {
     /// files busy, and the pages and inode numbers not free.
     pub fn discard(self) {
         let Raw {
+            alloc: _,
             lib: _,
             files,
             pages,

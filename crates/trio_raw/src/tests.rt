@@ -134,7 +134,7 @@ fn taken(
     pages: &[u32],
     inodes: &[u32],
 ) -> Result<[u32; 9], RawFault> {
-    match raw.take(alloc, inos, pages, inodes) {
+    match raw.take(inos, pages, inodes) {
         Ok(bundle) => Ok(numbers_in(bundle)),
         Err(fault) => Err(fault),
     }
@@ -142,7 +142,7 @@ fn taken(
 
 /// The numbers in the bundle of all.
 fn all_taken(raw: &mut Raw, alloc: Global) -> Option<[u32; 9]> {
-    match raw.take_all(alloc) {
+    match raw.take_all() {
         Some(bundle) => Some(numbers_in(bundle)),
         None => None,
     }
@@ -187,7 +187,7 @@ fn bytes_stay_within_their_spot(rt: HostRuntime) -> Result<(), Fail> {
     assert!(rt; poke_ends(&mut raw, Spot::Index(8, 0), 4096));
     assert!(rt; poke_ends(&mut raw, Spot::Block(8, 1), 4096));
     assert!(rt; poke_ends(&mut raw, Spot::Fresh(50), 4096));
-    let all = raw.take_all(rt.alloc());
+    let all = raw.take_all();
     raw.discard();
     let Some(bundle) = all else {
         return Err("nothing is there".into());

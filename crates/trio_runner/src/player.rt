@@ -21,8 +21,8 @@ ghost use Rattle.trio_runner.specs.Seen.{EndPlayed, IsReady, LinePlayed, LinesPl
 
 use std::alloc::Global;
 use trio_ctl::Ctl;
-use trio_lease::{Allotted, Bundle, FreshIno, FreshPage, WriteLease};
-use trio_nodes::{AllotFault, GrantFault, ReleaseAnswer, ReleaseFault, Spot};
+use trio_lease::{Allotted, Bundle, FreshIno, FreshPage, Lease, WriteLease};
+use trio_nodes::{AllotFault, GrantFault, GrantKind, ReleaseAnswer, ReleaseFault, Spot};
 use trio_page::{NoMemory, Reads};
 use trio_raw::{Raw, RawFault};
 use trio_report::{EndAnswer, LineAnswer};
@@ -40,10 +40,10 @@ pub fn play(
     lines: &[ScriptLine],
     answers: &mut Vec<LineAnswer>,
 ) -> Result<EndAnswer, NoMemory>
-    requires kept { Kept ctl.old }
-    requires library { 1 ≤ length ctl.old.creds }
-    requires at_start { ctl.old ≡ start ctl.old.home ctl.old.creds }
-    ensures { IfOk result (λ end. ScriptPlayed ctl.old.home ctl.old.creds (map script_line_seen lines.now) answers.old.items answers.new.items end ctl.new) }
+    requires kept { Kept ctl.old.state }
+    requires library { 1 ≤ length ctl.old.state.creds }
+    requires at_start { ctl.old.state ≡ start ctl.old.state.home ctl.old.state.creds }
+    ensures { IfOk result (λ end. ScriptPlayed ctl.old.state.home ctl.old.state.creds (map script_line_seen lines.now) answers.old.items answers.new.items end ctl.new.state) }
 {
     let mut raw = Raw::new(alloc, LibNo(1));
     let played = play_all(alloc, ctl, &mut raw, lines, answers);
@@ -59,13 +59,13 @@ fn play_all(
     lines: &[ScriptLine],
     answers: &mut Vec<LineAnswer>,
 ) -> Result<EndAnswer, NoMemory>
-    requires ready { IsReady ctl.old raw.old }
+    requires ready { IsReady ctl.old.state raw.old }
     requires first { raw.old.lib.0 ≡ 1 }
-    requires at_start { player ctl.old raw.old ≡ at_start ctl.old.home ctl.old.creds }
-    ensures { IfOk result (λ end. ScriptPlayed ctl.old.home ctl.old.creds (map script_line_seen lines.now) answers.old.items answers.new.items end ctl.new) }
+    requires at_start { player ctl.old.state raw.old ≡ at_start ctl.old.state.home ctl.old.state.creds }
+    ensures { IfOk result (λ end. ScriptPlayed ctl.old.state.home ctl.old.state.creds (map script_line_seen lines.now) answers.old.items answers.new.items end ctl.new.state) }
 {
     play_lines(alloc, ctl, raw, lines, answers)?;
-    play_end(alloc, ctl, raw)
+    play_end(ctl, raw)
 }
 
 /// Plays lines one after another.
@@ -76,8 +76,8 @@ fn play_lines(
     lines: &[ScriptLine],
     answers: &mut Vec<LineAnswer>,
 ) -> Result<(), NoMemory>
-    requires { IsReady ctl.old raw.old }
-    ensures { OnOk result (LinesPlayed (map script_line_seen lines.now) ctl.old raw.old answers.old.items ctl.new raw.new answers.new.items) }
+    requires { IsReady ctl.old.state raw.old }
+    ensures { OnOk result (LinesPlayed (map script_line_seen lines.now) ctl.old.state raw.old answers.old.items ctl.new.state raw.new answers.new.items) }
 {
     for line in lines {
         let answer = play_line(alloc, ctl, raw, &line.line)?;
@@ -93,31 +93,36 @@ fn play_line(
     raw: &mut Raw,
     line: &RawLine,
 ) -> Result<LineAnswer, NoMemory>
-    requires { IsReady ctl.old raw.old }
-    ensures { IfOk result (λ answer. LinePlayed (line_seen line.now) (answer_seen answer) ctl.old raw.old ctl.new raw.new) }
+    requires { IsReady ctl.old.state raw.old }
+    ensures { IfOk result (λ answer. LinePlayed (line_seen line.now) (answer_seen answer) ctl.old.state raw.old ctl.new.state raw.new) }
 {
     match line {
-        RawLine::GrantWrite(ino) => play_grant(alloc, ctl, raw, *ino),
+        RawLine::GrantWrite(ino) => play_grant(ctl, raw, *ino),
         RawLine::Allot { pages, inodes } => play_allot(alloc, ctl, raw, *pages, *inodes),
         RawLine::Poke { at, offset, bytes } => Ok(play_poke(raw, *at, *offset, bytes)),
         RawLine::Release {
             inos,
             pages,
             inodes,
-        } => play_release(alloc, ctl, raw, inos, pages, inodes),
+        } => play_release(ctl, raw, inos, pages, inodes),
     }
 }
 
 /// Asks for a write grant, and keeps the lease.
-fn play_grant(alloc: Global, ctl: &mut Ctl, raw: &mut Raw, ino: u32) -> Result<LineAnswer, NoMemory>
-    requires { IsReady ctl.old raw.old }
-    ensures { IfOk result (λ answer. LinePlayed (grant_write ino) (answer_seen answer) ctl.old raw.old ctl.new raw.new) }
+fn play_grant(ctl: &mut Ctl, raw: &mut Raw, ino: u32) -> Result<LineAnswer, NoMemory>
+    requires { IsReady ctl.old.state raw.old }
+    ensures { IfOk result (λ answer. LinePlayed (grant_write ino) (answer_seen answer) ctl.old.state raw.old ctl.new.state raw.new) }
 {
     raw.reserve_lease()?;
-    match ctl.grant_write(alloc, raw.lib(), ino) {
-        Ok(lease) => {
+    match ctl.grant(raw.lib(), ino, GrantKind::Write) {
+        Ok(Lease::Write(lease)) => {
             keep_lease(raw, lease);
             Ok(LineAnswer::Granted)
+        }
+        // a write grant gives no other
+        Ok(lease) => {
+            lease.discard();
+            unreachable!()
         }
         Err(fault) => fault_answer(fault),
     }
@@ -157,10 +162,10 @@ fn play_allot(
     pages: u32,
     inodes: u32,
 ) -> Result<LineAnswer, NoMemory>
-    requires { IsReady ctl.old raw.old }
-    ensures { IfOk result (λ answer. LinePlayed (allot pages inodes) (answer_seen answer) ctl.old raw.old ctl.new raw.new) }
+    requires { IsReady ctl.old.state raw.old }
+    ensures { IfOk result (λ answer. LinePlayed (allot pages inodes) (answer_seen answer) ctl.old.state raw.old ctl.new.state raw.new) }
 {
-    match ctl.allot(alloc, raw.lib(), pages, inodes) {
+    match ctl.allot(raw.lib(), pages, inodes) {
         Ok(given) => keep_allotted(alloc, raw, given),
         Err(fault) => want_answer(fault),
     }
@@ -236,36 +241,35 @@ fn play_poke(raw: &mut Raw, at: Spot, offset: u32, bytes: &[u8]) -> LineAnswer
 
 /// Hands in what is named, as one bundle, where the library has all of it.
 fn play_release(
-    alloc: Global,
     ctl: &mut Ctl,
     raw: &mut Raw,
     inos: &[u32],
     pages: &[u32],
     inodes: &[u32],
 ) -> Result<LineAnswer, NoMemory>
-    requires { IsReady ctl.old raw.old }
-    ensures { IfOk result (λ answer. LinePlayed (release inos.now pages.now inodes.now) (answer_seen answer) ctl.old raw.old ctl.new raw.new) }
+    requires { IsReady ctl.old.state raw.old }
+    ensures { IfOk result (λ answer. LinePlayed (release inos.now pages.now inodes.now) (answer_seen answer) ctl.old.state raw.old ctl.new.state raw.new) }
 {
-    let bundle = match raw.take(alloc, inos, pages, inodes) {
+    let bundle = match raw.take(inos, pages, inodes) {
         Ok(bundle) => bundle,
         Err(RawFault::Absent) => return Ok(LineAnswer::Absent),
         Err(RawFault::NoMemory) => return Err(NoMemory),
     };
-    match hand_in(alloc, ctl, raw.lib(), bundle)? {
+    match hand_in(ctl, raw.lib(), bundle)? {
         ReleaseAnswer::Accepted => Ok(LineAnswer::Accepted),
         ReleaseAnswer::Refused { .. } => Ok(LineAnswer::Refused),
     }
 }
 
 /// Ends the library: all that it has is released in one bundle.
-fn play_end(alloc: Global, ctl: &mut Ctl, raw: &mut Raw) -> Result<EndAnswer, NoMemory>
-    requires { IsReady ctl.old raw.old }
-    ensures { IfOk result (λ end. EndPlayed end ctl.old raw.old ctl.new raw.new) }
+fn play_end(ctl: &mut Ctl, raw: &mut Raw) -> Result<EndAnswer, NoMemory>
+    requires { IsReady ctl.old.state raw.old }
+    ensures { IfOk result (λ end. EndPlayed end ctl.old.state raw.old ctl.new.state raw.new) }
 {
-    let Some(bundle) = raw.take_all(alloc) else {
+    let Some(bundle) = raw.take_all() else {
         return Ok(EndAnswer::Nothing);
     };
-    match hand_in(alloc, ctl, raw.lib(), bundle)? {
+    match hand_in(ctl, raw.lib(), bundle)? {
         ReleaseAnswer::Accepted => Ok(EndAnswer::Accepted),
         ReleaseAnswer::Refused { .. } => Ok(EndAnswer::Refused),
     }
@@ -273,17 +277,16 @@ fn play_end(alloc: Global, ctl: &mut Ctl, raw: &mut Raw) -> Result<EndAnswer, No
 
 /// Hands in a bundle of a library that has no hold. So it comes to a verdict.
 fn hand_in(
-    alloc: Global,
     ctl: &mut Ctl,
     lib: LibNo,
     bundle: Bundle,
 ) -> Result<ReleaseAnswer, NoMemory>
-    requires library { IsLibrary lib ctl.old }
-    requires given { GivenTo ctl.old lib.0 (bundle_in bundle) }
-    requires no_hold { HasNoHold lib.0 ctl.old }
-    ensures { IfOk result (λ answer. Step ctl.old (Release lib.0 (bundle_in bundle)) (verdict_of answer) ctl.new) }
+    requires library { IsLibrary lib ctl.old.state }
+    requires given { GivenTo ctl.old.state lib.0 (bundle_in bundle) }
+    requires no_hold { HasNoHold lib.0 ctl.old.state }
+    ensures { IfOk result (λ answer. Step ctl.old.state (Release lib.0 (bundle_in bundle)) (verdict_of answer) ctl.new.state) }
 {
-    match ctl.release(alloc, lib, bundle, &mut Reads::new()) {
+    match ctl.release(lib, bundle, &mut Reads::new()) {
         Ok(answer) => Ok(answer),
         Err((bundle, fault)) => {
             bundle.discard();

@@ -7,7 +7,7 @@ use super::*;
 use std::alloc::Global;
 use std::test::Fail;
 use trio_ctl::Ctl;
-use trio_image::{bytes_of, read};
+use trio_image::{Image, bytes_of};
 use trio_page::NoMemory;
 use trio_page::field::{put_bytes_in, put_u32_in};
 use trio_report::{EndAnswer, LineAnswer};
@@ -75,12 +75,12 @@ struct Told {
 // plays a script on an image, for a library of uid and gid 5
 fn play_script(alloc: Global, bytes: &[u8], script: &[u8]) -> Option<Told> {
     let lines = read_script(alloc, script).ok()?;
-    let image = read(alloc, bytes).ok()?;
+    let image = Image::from_bytes(alloc, bytes).ok()?;
     let creds = vec![in alloc; Creds { uid: 5, gid: 5 }].ok()?;
     let mut ctl = Ctl::start(alloc, image, creds).ok()?;
     let mut answers = Vec::new(alloc);
     let end = play(alloc, &mut ctl, &lines, &mut answers);
-    let image = match ctl.image(alloc) {
+    let image = match ctl.image() {
         Ok(mut image) => bytes_of(alloc, &mut image).ok(),
         Err(_) => None,
     };

@@ -44,6 +44,14 @@ impl Owners {
         Ok(Owners { owners })
     }
 
+    /// A table of its own with the same owners. `NoMemory`: there was no memory for it.
+    pub fn copy(&self, alloc: Global) -> Result<Owners, NoMemory>
+        ensures { IfOk result (λ o. o ≡ self.now) }
+    {
+        let owners = self.owners.to_vec(alloc)?;
+        Ok(Owners { owners })
+    }
+
     /// How many pages the table has.
     pub fn pages(&self) -> u32
         ensures pages { result ≡ length self.now }

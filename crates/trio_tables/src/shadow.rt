@@ -53,6 +53,14 @@ impl Shadow {
         Ok(Shadow { rows })
     }
 
+    /// A table of its own with the same rows. `NoMemory`: there was no memory for it.
+    pub fn copy(&self, alloc: Global) -> Result<Shadow, NoMemory>
+        ensures { IfOk result (λ s. s ≡ self.now) }
+    {
+        let rows = self.rows.to_vec(alloc)?;
+        Ok(Shadow { rows })
+    }
+
     /// How many inode numbers the table has. The number 0 is none of them.
     pub fn inodes(&self) -> u32
         ensures inodes { length self.now ≡ result + 1 }

@@ -11,6 +11,6 @@ returns c =
     let played = c.in_ok-end.ensures in
     let image = c.in-Ok-image.ensures in
     let bytes = c.in_ok-image.ensures in
-    run_end c.args.image.superblock c.in-Ok-image.last.superblock c.args.image.pages c.in-Ok-image.last.pages c.in_ok-vec.field-0.items c.in-Ok.ctl c.play.new.ctl (map script_line_seen c.args.lines.now)
-    c.new-answers.result.items c.play.new.answers.items c.in_ok-end.end c.counts-counts.result c.in_ok-report.report.items c.in_ok-image.image.items
-    started.kept c.in_ok-vec.ensures.items started.started c.new-answers.ensures.items played c.counts-counts.ensures.counts image.superblock image.stores bytes.bytes bytes.verify text
+    run_end c.args.image.superblock c.in-Ok-image.last.superblock c.args.image.pages c.in-Ok-image.last.pages c.in_ok-vec.field-0.items c.in-Ok.ctl.state c.play.new.ctl.state (map script_line_seen c.args.lines.now)
+    c.new-answers.result.items c.play.new.answers.items c.in_ok-end.end c.in_ok-report.report.items c.in_ok-image.image.items
+    started.kept c.in_ok-vec.ensures.items started.started c.new-answers.ensures.items played image.tables image.superblock image.stores bytes.bytes bytes.verify text

@@ -8,14 +8,14 @@ use Rattle.trio_image.proofs.image.bytes_of.Goals as goal
 pub returns-clause-verify : goal.returns-clause-verify
 returns-clause-verify c =
     let image = c.image.inside in
-    IfOk-weaker c.home_bytes.result (λ b. b.items ≡ bytes_in image.home.pages) (λ b. BytesVerify b.items)
-    (λ b is. subst BytesVerify (sym is) (bytes_verify image.superblock image.home.pages c.image.invariant)) c.home_bytes.ensures.bytes
+    IfOk-weaker c.home_bytes.result (λ b. b.items ≡ bytes_in image.parts.home.pages) (λ b. BytesVerify b.items)
+    (λ b is. subst BytesVerify (sym is) (bytes_verify image.superblock image.parts.home.pages c.image.invariant.0)) c.home_bytes.ensures.bytes
 
 pub returns-clause-again : goal.returns-clause-again
 returns-clause-again c =
     let image = c.image.inside in
     let r = c.home_bytes.result in
-    let inside : IfOk r (λ b. pages_in image.superblock.pages b.items ≡ image.home.pages) =
-    IfOk-weaker r (λ b. b.items ≡ bytes_in image.home.pages) (λ b. pages_in image.superblock.pages b.items ≡ image.home.pages)
-    (λ b is. ap (pages_in image.superblock.pages) is ∙ again image.superblock image.home.pages c.image.invariant.whole) c.home_bytes.ensures.bytes in
+    let inside : IfOk r (λ b. pages_in image.superblock.pages b.items ≡ image.parts.home.pages) =
+    IfOk-weaker r (λ b. b.items ≡ bytes_in image.parts.home.pages) (λ b. pages_in image.superblock.pages b.items ≡ image.parts.home.pages)
+    (λ b is. ap (pages_in image.superblock.pages) is ∙ again image.superblock image.parts.home.pages c.image.invariant.0.whole) c.home_bytes.ensures.bytes in
     subst (λ (v : ImagePages). IfOk r (λ b. pages_in v.superblock.pages b.items ≡ v.pages)) c.image.view_is inside

@@ -7,8 +7,8 @@ use Rattle.trio_runner.proofs.player.hand_in.Goals as goal
 
 pub unreachable-requires : goal.unreachable-requires
 unreachable-requires c =
-    let s = c.args.ctl.now in
-    let s' = c.release.new.self in
+    let s = c.args.ctl.now.state in
+    let s' = c.release.new.self.state in
     let b = bundle_in c.args.bundle in
     let is : release_fault_answer c.in-Err.fault ≡ NotClosed c.in-NotClosed.field-0 = ap release_fault_answer c.in-NotClosed.is in
     never_parted s s' c.args.lib.0 c.in-NotClosed.field-0 b c.requires.no_hold

@@ -8,9 +8,9 @@ use Rattle.trio_runner.proofs.player.play_all.Goals as goal
 pub returns : goal.returns
 returns c =
     let lines = map script_line_seen c.args.lines.now in
-    let s = c.args.ctl.now in
-    let s' = c.play_lines.new.ctl in
-    let s'' = c.play_end.new.ctl in
+    let s = c.args.ctl.now.state in
+    let s' = c.play_lines.new.ctl.state in
+    let s'' = c.play_end.new.ctl.state in
     let h = c.args.raw.now in
     let h' = c.play_lines.new.raw in
     let h'' = c.play_end.new.raw in

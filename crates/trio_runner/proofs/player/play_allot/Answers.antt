@@ -12,8 +12,8 @@ use Rattle.trio_runner.proofs.player.play_allot.Goals as goal
 
 pub returns-in-Ok : goal.returns-in-Ok
 returns-in-Ok c =
-    let s = c.args.ctl.now in
-    let s' = c.allot.new.self in
+    let s = c.args.ctl.now.state in
+    let s' = c.allot.new.self.state in
     let h = c.args.raw.now in
     let h' = c.keep_allotted.new.raw in
     let pages = c.in-Ok.given.pages.items in
@@ -28,8 +28,8 @@ returns-in-Ok c =
 
 pub returns-in-Err : goal.returns-in-Err
 returns-in-Err c =
-    let s = c.args.ctl.now in
-    let s' = c.allot.new.self in
+    let s = c.args.ctl.now.state in
+    let s' = c.allot.new.self.state in
     let h = c.args.raw.now in
     if_ok c.want_answer.result
     (λ a. told_of (allot_fault_answer c.in-Err.fault) ≡ Some (answer_seen a))

@@ -12,21 +12,21 @@ use Rattle.trio_runner.proofs.player.play_end.Goals as goal
 
 pub hand_in-requires-clause-given : goal.hand_in-requires-clause-given
 hand_in-requires-clause-given c =
-    let s = c.args.ctl.now in
+    let s = c.args.ctl.now.state in
     let b = bundle_in c.in-Some.bundle in
     let lib : c.lib.result ≡ c.args.raw.now.lib = c.lib.ensures ∙ ap (λ (h : Held). h.lib) c.take_all.ensures.left in
     subst (λ (l : LibNo). GivenTo s l.0 b) (sym lib) (all_given s c.args.raw.now b c.requires c.in-Some.ensures.bundle)
 
 pub hand_in-requires-clause-no_hold : goal.hand_in-requires-clause-no_hold
 hand_in-requires-clause-no_hold c =
-    let s = c.args.ctl.now in
+    let s = c.args.ctl.now.state in
     let lib : c.lib.result ≡ c.args.raw.now.lib = c.lib.ensures ∙ ap (λ (h : Held). h.lib) c.take_all.ensures.left in
     subst (λ (l : LibNo). HasNoHold l.0 s) (sym lib) c.requires.stands.no_hold
 
 pub returns-in-Accepted : goal.returns-in-Accepted
 returns-in-Accepted c =
-    let s = c.args.ctl.now in
-    let s' = c.hand_in.new.ctl in
+    let s = c.args.ctl.now.state in
+    let s' = c.hand_in.new.ctl.state in
     let b = bundle_in c.in-Some.bundle in
     let h = c.args.raw.now in
     let lib : c.lib.result ≡ h.lib = c.lib.ensures ∙ ap (λ (x : Held). x.lib) c.take_all.ensures.left in
@@ -36,8 +36,8 @@ returns-in-Accepted c =
 
 pub returns-in-Refused : goal.returns-in-Refused
 returns-in-Refused c =
-    let s = c.args.ctl.now in
-    let s' = c.hand_in.new.ctl in
+    let s = c.args.ctl.now.state in
+    let s' = c.hand_in.new.ctl.state in
     let b = bundle_in c.in-Some.bundle in
     let h = c.args.raw.now in
     let lib : c.lib.result ≡ h.lib = c.lib.ensures ∙ ap (λ (x : Held). x.lib) c.take_all.ensures.left in

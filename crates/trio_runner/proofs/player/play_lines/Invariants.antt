@@ -5,4 +5,4 @@ use Rattle.trio_runner.proofs.player.play_lines.Given as goal
 
 abbrev pub invariant-loop-line : goal.invariant-loop-line
 invariant-loop-line l =
-    LinesPlayed (take l.line-index (map script_line_seen l.lines)) l.fn.ctl l.fn.raw l.fn.answers.items l.ctl l.raw l.answers.items
+    LinesPlayed (take l.line-index (map script_line_seen l.lines)) l.fn.ctl.state l.fn.raw l.fn.answers.items l.ctl.state l.raw l.answers.items

@@ -11,7 +11,7 @@ use Rattle.trio_runner.proofs.player.play_release.Goals as goal
 
 pub hand_in-requires-clause-given : goal.hand_in-requires-clause-given
 hand_in-requires-clause-given c =
-    let s = c.args.ctl.now in
+    let s = c.args.ctl.now.state in
     let b = bundle_in c.in-Ok.bundle in
     let lib : c.lib.result ≡ c.args.raw.now.lib = c.lib.ensures ∙ ap (λ (h : Held). h.lib) c.in-Ok.ensures.rest in
     subst (λ (l : LibNo). GivenTo s l.0 b) (sym lib)
@@ -19,14 +19,14 @@ hand_in-requires-clause-given c =
 
 pub hand_in-requires-clause-no_hold : goal.hand_in-requires-clause-no_hold
 hand_in-requires-clause-no_hold c =
-    let s = c.args.ctl.now in
+    let s = c.args.ctl.now.state in
     let lib : c.lib.result ≡ c.args.raw.now.lib = c.lib.ensures ∙ ap (λ (h : Held). h.lib) c.in-Ok.ensures.rest in
     subst (λ (l : LibNo). HasNoHold l.0 s) (sym lib) c.requires.stands.no_hold
 
 pub returns-in-Accepted : goal.returns-in-Accepted
 returns-in-Accepted c =
-    let s = c.args.ctl.now in
-    let s' = c.hand_in.new.ctl in
+    let s = c.args.ctl.now.state in
+    let s' = c.hand_in.new.ctl.state in
     let b = bundle_in c.in-Ok.bundle in
     let h = c.args.raw.now in
     let left = c.in-Ok.ensures.rest in
@@ -37,8 +37,8 @@ returns-in-Accepted c =
 
 pub returns-in-Refused : goal.returns-in-Refused
 returns-in-Refused c =
-    let s = c.args.ctl.now in
-    let s' = c.hand_in.new.ctl in
+    let s = c.args.ctl.now.state in
+    let s' = c.hand_in.new.ctl.state in
     let b = bundle_in c.in-Ok.bundle in
     let h = c.args.raw.now in
     let left = c.in-Ok.ensures.rest in

@@ -5,6 +5,7 @@ use Rattle.trio_state.specs.Step.{Allot, Given, Step}
 use Rattle.trio_ctl.specs.Answers.{allot_fault_answer}
 use Rattle.trio_ctl.specs.Ctl.{state_of}
 use Rattle.trio_allot.specs.Out.{fresh_number, fresh_page, inode_numbers, page_numbers}
+use Rattle.trio_ctl.proofs.Views.{state_is}
 use Rattle.trio_ctl.proofs.Allotting.{free_home, given_controlled, given_step, logged_controlled, logged_is, owners_long, refused_step}
 use Rattle.trio_ctl.proofs.Handing.{rows_long}
 use Rattle.trio_ctl.proofs.OutLists.{numbers_given, pages_given}
@@ -36,7 +37,7 @@ returns-in-Ok-clause-step c =
     let pages = ap page_numbers c.in-Ok.ensures.pages ∙ pages_given c.args.lib _ in
     let inodes = ap inode_numbers c.in-Ok.ensures.inodes ∙ numbers_given c.args.lib _ in
     let after = state_of i.superblock c.take-given.new.home.pages i.rows i.owners i.files.items c.take-given.new.self i.libs.items c.in-Some.entries in
-    subst (λ (x : State). Step x (Allot c.args.lib.0 c.args.pages c.args.inodes) (Given (page_numbers c.in-Ok.given.pages.items) (inode_numbers c.in-Ok.given.inodes.items)) after) c.self.view_is
+    subst (λ (x : State). Step x (Allot c.args.lib.0 c.args.pages c.args.inodes) (Given (page_numbers c.in-Ok.given.pages.items) (inode_numbers c.in-Ok.given.inodes.items)) after) (state_is c.self.view_is)
     (rw (pages, inodes) (given_step i.superblock i.home.pages i.rows i.owners i.grants i.files.items i.outs i.libs.items i.entries c.self.invariant c.args.lib c.args.pages c.args.inodes c.take-given.new.home.pages c.take-given.new.self c.in-Some.entries c.in-Ok.ensures.enough_pages c.in-Ok.ensures.enough_inodes (ap (λ (h : Pages). h.pages) c.in-Ok.ensures.home) c.in-Ok.ensures.out c.take-given.ensures.within c.in-Some.ensures.1))
 
 pub returns-in-Ok-clause-pages : goal.returns-in-Ok-clause-pages
@@ -60,5 +61,5 @@ returns-in-NoPages-clause-step c =
     let i = c.self.inside in
     let same = logged_is i.superblock i.home.pages i.rows i.owners i.grants i.files.items i.outs i.libs.items i.entries c.self.invariant c.take-given.new.home.pages c.take-given.new.self c.in-Some.entries (ap (λ (h : Pages). h.pages) (rw c.in-Err.is at c.take-given.ensures.kept).1) (rw c.in-Err.is at c.take-given.ensures.kept).0 c.in-Some.ensures.1 in
     let after = state_of i.superblock c.take-given.new.home.pages i.rows i.owners i.files.items c.take-given.new.self i.libs.items c.in-Some.entries in
-    subst (λ (x : State). Step x (Allot c.args.lib.0 c.args.pages c.args.inodes) (allot_fault_answer c.in-Err.fault) after) c.self.view_is
+    subst (λ (x : State). Step x (Allot c.args.lib.0 c.args.pages c.args.inodes) (allot_fault_answer c.in-Err.fault) after) (state_is c.self.view_is)
     (subst (λ (x : State). Step (state_of i.superblock i.home.pages i.rows i.owners i.files.items i.outs i.libs.items i.entries) (Allot c.args.lib.0 c.args.pages c.args.inodes) (allot_fault_answer c.in-Err.fault) x) (sym same) (refused_step i.superblock i.home.pages i.rows i.owners i.grants i.files.items i.outs i.libs.items i.entries c.self.invariant c.args.lib c.args.pages c.args.inodes c.in-Err.fault c.in-NoPages.is (rw c.in-Err.is at c.take-given.ensures.refused)))

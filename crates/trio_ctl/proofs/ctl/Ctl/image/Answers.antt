@@ -3,16 +3,17 @@ use Rattle.trio_page.specs.Home.{Pages}
 use Rattle.trio_layout.proofs.Superblocks.{superblock_facts}
 use Rattle.trio_state.specs.State.{State, settled}
 use Rattle.trio_state.specs.Stored.{HasSuperblock, StoresImage}
-use Rattle.trio_image.specs.Image.{IsVerified}
+use Rattle.trio_image.specs.Image.{IsVerified, TablesAre}
 use Rattle.trio_ctl.specs.Ctl.{superblock_for, with_zeros}
+use Rattle.trio_ctl.proofs.Views.{state_is}
 use Rattle.trio_ctl.proofs.AtHome.{at_home, same_state, writer_is}
-use Rattle.trio_ctl.proofs.Storing.{stored_count, stored_superblock, stored_verified, stores, stores_by, stores_zeros, superblock_is}
+use Rattle.trio_ctl.proofs.Storing.{stored_count, stored_superblock, stored_tables, stored_verified, stores, stores_by, stores_zeros, superblock_is}
 use Rattle.trio_ctl.proofs.ctl.Ctl.image.Goals as goal
 
 pub returns-in-Some-clause-answer : goal.returns-in-Some-clause-answer
 returns-in-Some-clause-answer c =
     let s = c.self.inside in
-    rw (← c.self.view_is)
+    rw (← (state_is c.self.view_is))
     (sym (writer_is s.superblock s.home.pages s.rows s.owners s.grants s.files.items s.outs s.libs.items s.entries c.self.invariant) ∙ sym c.writer.ensures ∙ c.in-Some.is)
 
 pub of-requires : goal.of-requires
@@ -32,6 +33,7 @@ of-requires-2 c =
     let pages = ap (λ (h : Pages). h.pages) c.of.ensures ∙ made.pages in (
       s.superblock,
       subst (IsVerified s.superblock) (sym pages) (stored_verified s.superblock s.home.pages s.rows s.owners s.outs s.libs.items s.entries k made.shadow made.owner),
+      rw (pages, c.in-Ok-copy.ensures, c.in-Ok-copy-2.ensures) (stored_tables s.superblock s.home.pages s.rows s.owners s.outs s.libs.items s.entries k made.shadow made.owner),
     )
 
 pub returns-clause-superblock : goal.returns-clause-superblock
@@ -43,8 +45,21 @@ returns-clause-superblock c =
     let made = c.in-Ok.ensures in
     let pages = ap (λ (h : Pages). h.pages) c.of.ensures ∙ made.pages in
     let has = subst (HasSuperblock s.superblock) (sym pages) (stored_superblock s.superblock s.home.pages s.rows s.owners s.outs s.libs.items s.entries k made.shadow made.owner) in
-    subst (λ (v : State). c.of-2.result.superblock ≡ superblock_for (settled v).core) (same_state s.superblock s.home.pages s.rows s.owners s.files.items s.outs s.libs.items s.entries home.0 ∙ c.self.view_is)
+    subst (λ (v : State). c.of-2.result.superblock ≡ superblock_for (settled v).core) (same_state s.superblock s.home.pages s.rows s.owners s.files.items s.outs s.libs.items s.entries home.0 ∙ (state_is c.self.view_is))
     (c.of-2.ensures.superblock s.superblock has ∙ superblock_is s.superblock s.home.pages s.rows s.owners s.outs s.libs.items s.entries k made.shadow made.owner)
+
+pub returns-clause-tables : goal.returns-clause-tables
+returns-clause-tables c =
+    let s = c.self.inside in
+    let none = sym c.writer.ensures ∙ c.in_default.is in
+    let home = at_home s.superblock s.home.pages s.rows s.owners s.grants s.files.items s.outs s.libs.items s.entries c.self.invariant none in
+    let k = home.1 in
+    let made = c.in-Ok.ensures in
+    let pages = ap (λ (h : Pages). h.pages) c.of.ensures ∙ made.pages in
+    let has = subst (HasSuperblock s.superblock) (sym pages) (stored_superblock s.superblock s.home.pages s.rows s.owners s.outs s.libs.items s.entries k made.shadow made.owner) in
+    subst (λ (v : State). TablesAre c.of-2.result.superblock c.of-2.result.pages (settled v).rows (settled v).owners) (same_state s.superblock s.home.pages s.rows s.owners s.files.items s.outs s.libs.items s.entries home.0 ∙ (state_is c.self.view_is))
+    (rw (c.of-2.ensures.superblock s.superblock has, c.of-2.ensures.pages ∙ pages)
+    (stored_tables s.superblock s.home.pages s.rows s.owners s.outs s.libs.items s.entries k made.shadow made.owner))
 
 pub returns-clause-zeros : goal.returns-clause-zeros
 returns-clause-zeros c =
@@ -55,7 +70,7 @@ returns-clause-zeros c =
     let made = c.in-Ok.ensures in
     let pages = ap (λ (h : Pages). h.pages) c.of.ensures ∙ made.pages in
     let has = subst (HasSuperblock s.superblock) (sym pages) (stored_superblock s.superblock s.home.pages s.rows s.owners s.outs s.libs.items s.entries k made.shadow made.owner) in
-    subst (λ (v : State). StoresImage c.of-2.result.superblock (with_zeros (settled v)) c.of-2.result.pages) (same_state s.superblock s.home.pages s.rows s.owners s.files.items s.outs s.libs.items s.entries home.0 ∙ c.self.view_is)
+    subst (λ (v : State). StoresImage c.of-2.result.superblock (with_zeros (settled v)) c.of-2.result.pages) (same_state s.superblock s.home.pages s.rows s.owners s.files.items s.outs s.libs.items s.entries home.0 ∙ (state_is c.self.view_is))
     (stores_by s.superblock c.of-2.result.superblock _ c.of-2.result.pages _ (c.of-2.ensures.superblock s.superblock has) (c.of-2.ensures.pages ∙ pages)
     (stores_zeros s.superblock s.home.pages s.rows s.owners s.outs s.libs.items s.entries k made.shadow made.owner))
 
@@ -68,18 +83,30 @@ returns-clause-stores c = λ nothing.
     let made = c.in-Ok.ensures in
     let pages = ap (λ (h : Pages). h.pages) c.of.ensures ∙ made.pages in
     let has = subst (HasSuperblock s.superblock) (sym pages) (stored_superblock s.superblock s.home.pages s.rows s.owners s.outs s.libs.items s.entries k made.shadow made.owner) in
-    subst (λ (v : State). StoresImage c.of-2.result.superblock (settled v) c.of-2.result.pages) (same_state s.superblock s.home.pages s.rows s.owners s.files.items s.outs s.libs.items s.entries home.0 ∙ c.self.view_is)
+    subst (λ (v : State). StoresImage c.of-2.result.superblock (settled v) c.of-2.result.pages) (same_state s.superblock s.home.pages s.rows s.owners s.files.items s.outs s.libs.items s.entries home.0 ∙ (state_is c.self.view_is))
     (stores_by s.superblock c.of-2.result.superblock _ c.of-2.result.pages _ (c.of-2.ensures.superblock s.superblock has) (c.of-2.ensures.pages ∙ pages)
-    (stores s.superblock s.home.pages s.rows s.owners s.outs s.libs.items s.entries k made.shadow made.owner (ap (λ (v : State). v.pages_out) c.self.view_is ∙ nothing)))
+    (stores s.superblock s.home.pages s.rows s.owners s.outs s.libs.items s.entries k made.shadow made.owner (ap (λ (v : State). v.pages_out) (state_is c.self.view_is) ∙ nothing)))
 
 pub returns-clause-answer : goal.returns-clause-answer
 returns-clause-answer c =
     let s = c.self.inside in
-    rw (← c.self.view_is)
+    rw (← (state_is c.self.view_is))
     (sym (writer_is s.superblock s.home.pages s.rows s.owners s.grants s.files.items s.outs s.libs.items s.entries c.self.invariant) ∙ sym c.writer.ensures ∙ c.in_default.is)
 
 pub returns-in_default-stored_pages-clause-answer : goal.returns-in_default-stored_pages-clause-answer
 returns-in_default-stored_pages-clause-answer c =
     let s = c.self.inside in
-    rw (← c.self.view_is)
+    rw (← (state_is c.self.view_is))
+    (sym (writer_is s.superblock s.home.pages s.rows s.owners s.grants s.files.items s.outs s.libs.items s.entries c.self.invariant) ∙ sym c.writer.ensures ∙ c.in_default.is)
+
+pub returns-in_default-copy-clause-answer : goal.returns-in_default-copy-clause-answer
+returns-in_default-copy-clause-answer c =
+    let s = c.self.inside in
+    rw (← (state_is c.self.view_is))
+    (sym (writer_is s.superblock s.home.pages s.rows s.owners s.grants s.files.items s.outs s.libs.items s.entries c.self.invariant) ∙ sym c.writer.ensures ∙ c.in_default.is)
+
+pub returns-in_default-copy-2-clause-answer : goal.returns-in_default-copy-2-clause-answer
+returns-in_default-copy-2-clause-answer c =
+    let s = c.self.inside in
+    rw (← (state_is c.self.view_is))
     (sym (writer_is s.superblock s.home.pages s.rows s.owners s.grants s.files.items s.outs s.libs.items s.entries c.self.invariant) ∙ sym c.writer.ensures ∙ c.in_default.is)

@@ -10,6 +10,7 @@ use Rattle.trio_ctl.specs.Lending.{body_standing}
 use Rattle.trio_layout.specs.declared.range.CoreRange.{CoreRange}
 use Rattle.trio_state.specs.Sheets.{without_pages}
 use Rattle.trio_ctl.specs.Open.{grant_on, lease_of}
+use Rattle.trio_ctl.proofs.Views.{state_is}
 use Rattle.trio_ctl.proofs.Granting.{refused_step, stands_somewhere, body_is, chain, chain_home, lendable, granted_controlled, granted_step, file_grant, controlled_still}
 use Rattle.trio_ctl.proofs.ctl.Ctl.lend_file.Goals as goal
 
@@ -17,17 +18,17 @@ pub returns-in-Err-clause-step : goal.returns-in-Err-clause-step
 returns-in-Err-clause-step c =
     let i = c.self.inside in
     let r = as_row c.args.row.now in
-    let live = subst (λ (v : State). row_at v.home c.args.ino ≡ Some r) (sym c.self.view_is) c.requires.live in
-    let may = subst (λ (v : State). denier v.home.rows (creds_of v c.args.lib.0) c.args.ino ToWrite ≡ None) (sym c.self.view_is) c.requires.may in
+    let live = subst (λ (v : State). row_at v.home c.args.ino ≡ Some r) (sym (state_is c.self.view_is)) c.requires.live in
+    let may = subst (λ (v : State). denier v.home.rows (creds_of v c.args.lib.0) c.args.ino ToWrite ≡ None) (sym (state_is c.self.view_is)) c.requires.may in
     let answer = c.in-Err.ensures.answer in
-    rw (← c.self.view_is, c.in-Ok.ensures.items)
+    rw (← (state_is c.self.view_is), c.in-Ok.ensures.items)
     (refused_step i.superblock i.home.pages i.rows i.owners i.grants i.files.items i.outs i.libs.items i.entries c.self.invariant c.args.lib c.args.ino r c.in-Err.fault live may answer)
 
 pub settled_body-requires : goal.settled_body-requires
 settled_body-requires c = λ other.
     let i = c.self.inside in
     let r = as_row c.args.row.now in
-    let live = subst (λ (v : State). row_at v.home c.args.ino ≡ Some r) (sym c.self.view_is) c.requires.live in
+    let live = subst (λ (v : State). row_at v.home c.args.ino ≡ Some r) (sym (state_is c.self.view_is)) c.requires.live in
     rw (c.deref.ensures.value, c.in-Ok.ensures.items)
     (stands_somewhere i.superblock i.home.pages i.rows i.owners i.grants i.files.items i.outs i.libs.items i.entries c.self.invariant c.args.ino r live other)
 
@@ -35,7 +36,7 @@ pub lend-requires-clause-chain : goal.lend-requires-clause-chain
 lend-requires-clause-chain c =
     let i = c.self.inside in
     let r = as_row c.args.row.now in
-    let live = subst (λ (v : State). row_at v.home c.args.ino ≡ Some r) (sym c.self.view_is) c.requires.live in
+    let live = subst (λ (v : State). row_at v.home c.args.ino ≡ Some r) (sym (state_is c.self.view_is)) c.requires.live in
     let files = c.deref.ensures.value ∙ c.in-Ok.ensures.items in
     let body = c.settled_body.ensures.body ∙ ap (λ fs. if c.args.ino == 1 then i.superblock.root else body_standing i.home.pages fs r) files
     ∙ body_is i.superblock i.home.pages i.rows i.owners i.grants i.files.items i.outs i.libs.items i.entries c.self.invariant c.args.ino r live in
@@ -45,7 +46,7 @@ pub lend-requires-clause-lendable : goal.lend-requires-clause-lendable
 lend-requires-clause-lendable c =
     let i = c.self.inside in
     let r = as_row c.args.row.now in
-    let live = subst (λ (v : State). row_at v.home c.args.ino ≡ Some r) (sym c.self.view_is) c.requires.live in
+    let live = subst (λ (v : State). row_at v.home c.args.ino ≡ Some r) (sym (state_is c.self.view_is)) c.requires.live in
     let files = c.deref.ensures.value ∙ c.in-Ok.ensures.items in
     let body = c.settled_body.ensures.body ∙ ap (λ fs. if c.args.ino == 1 then i.superblock.root else body_standing i.home.pages fs r) files
     ∙ body_is i.superblock i.home.pages i.rows i.owners i.grants i.files.items i.outs i.libs.items i.entries c.self.invariant c.args.ino r live in
@@ -56,8 +57,8 @@ pub invariant_of-self-in-Ok-lend : goal.invariant_of-self-in-Ok-lend
 invariant_of-self-in-Ok-lend c =
     let i = c.self.inside in
     let r = as_row c.args.row.now in
-    let live = subst (λ (v : State). row_at v.home c.args.ino ≡ Some r) (sym c.self.view_is) c.requires.live in
-    let may = subst (λ (v : State). denier v.home.rows (creds_of v c.args.lib.0) c.args.ino ToWrite ≡ None) (sym c.self.view_is) c.requires.may in
+    let live = subst (λ (v : State). row_at v.home c.args.ino ≡ Some r) (sym (state_is c.self.view_is)) c.requires.live in
+    let may = subst (λ (v : State). denier v.home.rows (creds_of v c.args.lib.0) c.args.ino ToWrite ≡ None) (sym (state_is c.self.view_is)) c.requires.may in
     let files = c.deref.ensures.value ∙ c.in-Ok.ensures.items in
     let body = c.settled_body.ensures.body ∙ ap (λ fs. if c.args.ino == 1 then i.superblock.root else body_standing i.home.pages fs r) files
     ∙ body_is i.superblock i.home.pages i.rows i.owners i.grants i.files.items i.outs i.libs.items i.entries c.self.invariant c.args.ino r live in
@@ -93,8 +94,8 @@ pub returns-in-Ok-push-clause-step : goal.returns-in-Ok-push-clause-step
 returns-in-Ok-push-clause-step c =
     let i = c.self.inside in
     let r = as_row c.args.row.now in
-    let live = subst (λ (v : State). row_at v.home c.args.ino ≡ Some r) (sym c.self.view_is) c.requires.live in
-    let may = subst (λ (v : State). denier v.home.rows (creds_of v c.args.lib.0) c.args.ino ToWrite ≡ None) (sym c.self.view_is) c.requires.may in
+    let live = subst (λ (v : State). row_at v.home c.args.ino ≡ Some r) (sym (state_is c.self.view_is)) c.requires.live in
+    let may = subst (λ (v : State). denier v.home.rows (creds_of v c.args.lib.0) c.args.ino ToWrite ≡ None) (sym (state_is c.self.view_is)) c.requires.may in
     let files = c.deref.ensures.value ∙ c.in-Ok.ensures.items in
     let body = c.settled_body.ensures.body ∙ ap (λ fs. if c.args.ino == 1 then i.superblock.root else body_standing i.home.pages fs r) files
     ∙ body_is i.superblock i.home.pages i.rows i.owners i.grants i.files.items i.outs i.libs.items i.entries c.self.invariant c.args.ino r live in
@@ -109,15 +110,15 @@ returns-in-Ok-push-clause-step c =
     let gone = lent ch read' ∙ ap (without_pages (ch.index ++ ch.blocks)) c.settled_body.ensures.home in
     let pushed = c.in-Ok-push.ensures.items in
     let more = pushed ∙ ap (λ fs. fs ++ c.in-Ok-lend.file ∷ []) c.in-Ok.ensures.items in
-    rw (← c.self.view_is)
+    rw (← (state_is c.self.view_is))
     (granted_step i.superblock i.home.pages i.rows i.owners i.grants i.files.items i.outs i.libs.items i.entries c.self.invariant c.args.lib c.args.ino r live free c.in-Ok-admit_writer.key c.settled_body.result body c.in-Ok-lend.file c.lend.new.home.pages c.admit_writer.new.grants c.push.new.self.items c.in-Some.entries made gone more (omega arith) may)
 
 pub returns-in-Ok-push-clause-lease : goal.returns-in-Ok-push-clause-lease
 returns-in-Ok-push-clause-lease c =
     let i = c.self.inside in
     let r = as_row c.args.row.now in
-    let live = subst (λ (v : State). row_at v.home c.args.ino ≡ Some r) (sym c.self.view_is) c.requires.live in
-    let may = subst (λ (v : State). denier v.home.rows (creds_of v c.args.lib.0) c.args.ino ToWrite ≡ None) (sym c.self.view_is) c.requires.may in
+    let live = subst (λ (v : State). row_at v.home c.args.ino ≡ Some r) (sym (state_is c.self.view_is)) c.requires.live in
+    let may = subst (λ (v : State). denier v.home.rows (creds_of v c.args.lib.0) c.args.ino ToWrite ≡ None) (sym (state_is c.self.view_is)) c.requires.may in
     let files = c.deref.ensures.value ∙ c.in-Ok.ensures.items in
     let body = c.settled_body.ensures.body ∙ ap (λ fs. if c.args.ino == 1 then i.superblock.root else body_standing i.home.pages fs r) files
     ∙ body_is i.superblock i.home.pages i.rows i.owners i.grants i.files.items i.outs i.libs.items i.entries c.self.invariant c.args.ino r live in
@@ -133,5 +134,5 @@ returns-in-Ok-push-clause-lease c =
     let pushed = c.in-Ok-push.ensures.items in
     let more = pushed ∙ ap (λ fs. fs ++ c.in-Ok-lend.file ∷ []) c.in-Ok.ensures.items in
     let lease = c.in-Ok-lend.ensures.lease in
-    rw (← c.self.view_is)
+    rw (← (state_is c.self.view_is))
     (lease ∙ ap lease_of (file_grant i.superblock i.home.pages i.rows i.owners i.grants i.files.items i.outs i.libs.items i.entries c.self.invariant c.args.lib c.args.ino r live free c.in-Ok-admit_writer.key c.settled_body.result body c.in-Ok-lend.file c.lend.new.home.pages c.admit_writer.new.grants c.push.new.self.items c.in-Some.entries made gone more (omega arith)))

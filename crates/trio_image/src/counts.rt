@@ -1,7 +1,7 @@
-//! What is counted of the tables.
+//! What an image has in use.
 
 ghost use Rattle.std.specs.Prelude.{◌≡◌};
-ghost use Rattle.trio_ctl.specs.Count.{counts_of, is_file, owned_count};
+ghost use Rattle.trio_image.specs.Counts.{counts_in_tables, is_file, owned_count};
 
 use trio_page::PageNo;
 use trio_tables::{CONTROLLER, Owners, Shadow};
@@ -19,7 +19,7 @@ pub struct Counts {
 
 /// The counts of these tables.
 pub(crate) fn counts_in(rows: &Shadow, owners: &Owners) -> Counts
-    ensures { result ≡ counts_of rows.now owners.now }
+    ensures { result ≡ counts_in_tables rows.now owners.now }
 {
     Counts {
         inodes: rows.live(),
