@@ -7,7 +7,8 @@ use Rattle.trio_survey.specs.declared.fault.SurveyFault.{SurveyFault}
 use Rattle.trio_survey.specs.declared.fault.SurveyFault.TheVariants.{Fails, NoMemory as SurveyNoMemory}
 use Rattle.trio_image.specs.declared.reading.ReadFault.{ReadFault}
 use Rattle.trio_image.specs.declared.reading.ReadFault.TheVariants.{Length, BadSuper, NoMemory as ReadNoMemory}
-use Rattle.trio_script.specs.Script.{SaidLine, script_lines, unbuilt_line}
+use Rattle.trio_script.specs.declared.ScriptLine.{ScriptLine}
+use Rattle.trio_script.specs.Script.{script_lines, unbuilt_line}
 use Rattle.trio_app.specs.declared.status.Status.{Status}
 use Rattle.trio_app.specs.declared.status.Status.TheVariants.{NotVerified as StatusNotVerified, ReadFault as StatusReadFault, NoMemory as StatusNoMemory, NotBuilt}
 use Rattle.trio_app.specs.declared.stop.Stop.{Stop}
@@ -86,7 +87,7 @@ ImageStop image old new _ = ⊥
 -- ---- the script
 
 -- the script was read, each line of it is built, and these are the lines that say something
-pub record ReadsScript (script : List ℕ) (old : Shelf) (lines : List SaidLine) : Type 0 where
+pub record ReadsScript (script : List ℕ) (old : Shelf) (lines : List ScriptLine) : Type 0 where
   pub script_bytes : List ℕ
   pub script_is : IsTold (old.held script) script_bytes
   pub within : length script_bytes ≤ 1048576

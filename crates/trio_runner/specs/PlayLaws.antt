@@ -9,9 +9,9 @@ use Rattle.trio_state.specs.State.{OpenGrant, State, settled}
 use Rattle.trio_state.specs.Kept.{Kept}
 use Rattle.trio_state.specs.Run.{start, IsWhole, Trace}
 use Rattle.trio_raw.specs.InHand.{InHand}
-use Rattle.trio_script.specs.Said.{Said}
-use Rattle.trio_script.specs.Script.{SaidLine}
-use Rattle.trio_report.specs.Answers.{Answer as Told}
+use Rattle.trio_script.specs.declared.line.RawLine.{RawLine}
+use Rattle.trio_script.specs.declared.ScriptLine.{ScriptLine}
+use Rattle.trio_report.specs.declared.answer.LineAnswer.{LineAnswer}
 use Rattle.trio_report.specs.declared.report.EndAnswer.{EndAnswer}
 use Rattle.trio_runner.specs.Play.{Player, Moved, PlaysLine, Plays, PlaysEnd, Played, moves_of, at_start}
 
@@ -34,7 +34,7 @@ StartStands =
 -- so it is after each line
 abbrev pub LineStands : Type 0
 LineStands =
-    (lib : ℕ) (p : Player) (said : Said) (told : Told) (moves : List Moved) (p' : Player)
+    (lib : ℕ) (p : Player) (said : RawLine) (told : LineAnswer) (moves : List Moved) (p' : Player)
     → Stands lib p → PlaysLine lib p said told moves p' → Stands lib p'
 
 -- and after the end
@@ -46,9 +46,9 @@ EndStands =
 -- one line more, at the end
 abbrev pub PlaysMore : Type 0
 PlaysMore =
-    (lib : ℕ) (p : Player) (lines : List SaidLine) (tolds : List Told) (moves : List Moved) (middle : Player)
-    (line : SaidLine) (told : Told) (more : List Moved) (p' : Player)
-    → Plays lib p lines tolds moves middle → PlaysLine lib middle line.said told more p'
+    (lib : ℕ) (p : Player) (lines : List ScriptLine) (tolds : List LineAnswer) (moves : List Moved) (middle : Player)
+    (line : ScriptLine) (told : LineAnswer) (more : List Moved) (p' : Player)
+    → Plays lib p lines tolds moves middle → PlaysLine lib middle line.line told more p'
     → Plays lib p (lines ++ line ∷ []) (tolds ++ told ∷ []) (moves ++ more) p'
 
 -- moves, as a run of the controller
@@ -58,11 +58,11 @@ IsTrace s moves = Trace s (map (λ m. m.event) moves) (map (λ m. m.answer) move
 -- the moves of a whole script are a run of the controller, of events that hand in what was given
 abbrev pub PlayedIsTrace : Type 0
 PlayedIsTrace =
-    (image : Image) (creds : List Creds) (lines : List SaidLine) (played : Played image creds lines)
+    (image : Image) (creds : List Creds) (lines : List ScriptLine) (played : Played image creds lines)
     → IsFit image.core → Verifies image → IsWhole image → IsTrace (start image creds) (moves_of played)
 
 -- so the state after each of them is kept, and its settled image verifies
 abbrev pub PlayedKeeps : Type 0
 PlayedKeeps =
-    (image : Image) (creds : List Creds) (lines : List SaidLine) (played : Played image creds lines) (m : Moved)
+    (image : Image) (creds : List Creds) (lines : List ScriptLine) (played : Played image creds lines) (m : Moved)
     → IsFit image.core → Verifies image → IsWhole image → In m (moves_of played) → Kept m.after × Verifies (settled m.after)
