@@ -1,5 +1,5 @@
 -- How a run ends, and what the whole work comes to.
-use Rattle.std.proofs.Common.{◌≡◌, ℕ, zero, suc, ◌+◌, ◌<◌, ◌≤◌, min, List, [], ◌∷◌, ◌++◌, length, take, get_or, Option, Bool, map, inl, inr, refl, sym, ap, subst, ◌∙◌, arith}
+use Rattle.std.proofs.Common.{◌≡◌, ℕ, zero, suc, ◌+◌, ◌<◌, ◌≤◌, min, List, [], ◌∷◌, ◌++◌, length, take, get_or, Option, Bool, inl, inr, refl, sym, ap, subst, ◌∙◌, arith}
 use Rattle.std.proofs.lemmas.List.{append-nil, append_assoc}
 use Rattle.trio_io.specs.Shelf.{Shelf, OnlyReplaces, Rose, told}
 use Rattle.trio_layout.specs.Core.{Core}
@@ -11,14 +11,12 @@ use Rattle.trio_state.specs.State.{State, settled}
 use Rattle.trio_state.specs.Run.{start}
 use Rattle.trio_state.specs.Tree.{TreeLine, tree_of}
 use Rattle.trio_script.specs.declared.ScriptLine.{ScriptLine}
-use Rattle.trio_script.specs.Script.{SaidLine, script_lines}
-use Rattle.trio_script.specs.Seen.{script_line_seen}
+use Rattle.trio_script.specs.Script.{script_lines}
 use Rattle.trio_report.specs.declared.answer.LineAnswer.{LineAnswer}
 use Rattle.trio_report.specs.declared.report.EndAnswer.{EndAnswer}
 use Rattle.trio_report.specs.declared.report.LibraryKind.TheVariants.{Raw}
-use Rattle.trio_report.specs.Answers.{Answer as Told, answer_line}
+use Rattle.trio_report.specs.Answers.{answer_line}
 use Rattle.trio_report.specs.Report.{tree_text, counts_text, end_line, lib_heading}
-use Rattle.trio_report.specs.Seen.{answer_seen}
 use Rattle.trio_rights.specs.declared.rights.Creds.{Creds}
 use Rattle.trio_image.specs.declared.counts.Counts.{Counts}
 use Rattle.trio_image.specs.Counts.{counts_in_tables, counts_of}
@@ -47,7 +45,7 @@ counts_same image t last tables =
     ap (λ rows. counts_in_tables rows (image_in t last).owners) (sym tables.rows_are) ∙ ap (counts_in_tables image.rows) (sym tables.owners_are)
 
 -- the text of a report, by the image that is settled at the end
-pub reported : (lines : List SaidLine) (tolds seen : List Told) (end end' : EndAnswer) (ctl : State) (t : Superblock) (last : List (Option (List ℕ))) (report : List ℕ)
+pub reported : (lines : List ScriptLine) (tolds seen : List LineAnswer) (end end' : EndAnswer) (ctl : State) (t : Superblock) (last : List (Option (List ℕ))) (report : List ℕ)
     → seen ≡ tolds → end' ≡ end → TablesAre t last (settled ctl).rows (settled ctl).owners → t ≡ superblock_for (settled ctl).core → StoresImage t (settled ctl) last
     → report ≡ lib_heading 1 Raw ++ answers_text lines seen ++ end_line end' ++ tree_text (tree_of (core_in t last)) ++ counts_text (told_counts (counts_of (image_in t last)))
     → report ≡ report_text lines tolds end (settled ctl)
@@ -55,22 +53,22 @@ reported lines tolds seen end end' ctl t last report same ended tables is stores
     let core : Core = (settled ctl).core in
     let stored : StoresImage (superblock_for core) (settled ctl) last = subst (λ (x : Superblock). StoresImage x (settled ctl) last) is stores in
     let tree : tree_of (core_in t last) ≡ tree_of core = ap (λ (x : Superblock). tree_of (core_in x last)) is ∙ tree_same (superblock_for core) core.pages last stored.core in
-    let T : List Told → EndAnswer → List TreeLine → Counts → List ℕ = λ ts e lines' k. lib_heading 1 Raw ++ answers_text lines ts ++ end_line e ++ tree_text lines' ++ counts_text (told_counts k) in
+    let T : List LineAnswer → EndAnswer → List TreeLine → Counts → List ℕ = λ ts e lines' k. lib_heading 1 Raw ++ answers_text lines ts ++ end_line e ++ tree_text lines' ++ counts_text (told_counts k) in
     let counts : Counts = counts_of (image_in t last) in
     text ∙ ap (λ ts. T ts end' (tree_of (core_in t last)) counts) same ∙ ap (λ e. T tolds e (tree_of (core_in t last)) counts) ended
     ∙ ap (λ ls. T tolds end ls counts) tree ∙ ap (T tolds end (tree_of core)) (counts_same (settled ctl) t last tables)
 
 -- what a run comes to
-pub run_end : (s t : Superblock) (pages last : List (Option (List ℕ))) (libs : List Creds) (first final : State) (lines : List SaidLine) (none after : List LineAnswer) (end : EndAnswer) (report bytes : List ℕ)
+pub run_end : (s t : Superblock) (pages last : List (Option (List ℕ))) (libs : List Creds) (first final : State) (lines : List ScriptLine) (none after : List LineAnswer) (end : EndAnswer) (report bytes : List ℕ)
     → Kept first → libs ≡ libraries → first ≡ start (image_in s pages) libs → none ≡ [] → ScriptPlayed first.home first.creds lines none after end final
     → TablesAre t last (settled final).rows (settled final).owners → t ≡ superblock_for (settled final).core → (final.pages_out ≡ [] → StoresImage t (settled final) last) → bytes ≡ bytes_in last → BytesVerify bytes
-    → report ≡ lib_heading 1 Raw ++ answers_text lines (map answer_seen after) ++ end_line end ++ tree_text (tree_of (core_in t last)) ++ counts_text (told_counts (counts_of (image_in t last)))
+    → report ≡ lib_heading 1 Raw ++ answers_text lines after ++ end_line end ++ tree_text (tree_of (core_in t last)) ++ counts_text (told_counts (counts_of (image_in t last)))
     → IsRunEnd s pages lines report bytes
 run_end s t pages last libs first final lines none after end report bytes k libs_are started nothing script tables is stores bytes_are verify text =
     let begun : first ≡ start (image_in s pages) libraries = started ∙ ap (start (image_in s pages)) libs_are in
     let script' : ScriptPlayed (image_in s pages) libraries lines none after end final = subst (λ (f : State). ScriptPlayed f.home f.creds lines none after end final) begun script in
     let played : Played (image_in s pages) libraries lines = script'.played in
-    let seen : map answer_seen after ≡ played.tolds = script'.told ∙ ap (λ ns. map answer_seen ns ++ played.tolds) nothing in
+    let seen : after ≡ played.tolds = script'.told ∙ ap (λ ns. ns ++ played.tolds) nothing in
     let k' : Kept (start (image_in s pages) libraries) = subst Kept begun k in
     let here : final.pages_out ≡ [] = ap (λ (f : State). f.pages_out) (sym script'.last) ∙ no_page_out (image_in s pages) libraries lines played k' in
     let stored : StoresImage t (settled played.last.state) last = subst (λ (f : State). StoresImage t (settled f) last) (sym script'.last) (stores here) in
@@ -79,7 +77,7 @@ run_end s t pages last libs first final lines none after end report bytes k libs
     record {
       played = played;
       headline = headline (image_in s pages) libraries lines played k';
-      put = reported lines played.tolds (map answer_seen after) played.end end played.last.state t last report seen (sym script'.end) tables' is' stored text;
+      put = reported lines played.tolds after played.end end played.last.state t last report seen (sym script'.end) tables' is' stored text;
       last = last;
       stores = subst (λ (x : Superblock). StoresImage x (settled played.last.state) last) is' stored;
       image_is = bytes_are;
@@ -137,7 +135,7 @@ turns_stop image script out old new stop text status why files (inl told) =
     rw (told.0, told.1) (record { comes_to = stop_comes image script out old new stop why; keeps = stop_keeps out old new stop files.held; counts = counts_read image script out old new files })
 turns_stop image script out old new stop text status why files (inr lacking) = turns_no_memory image script out old new text status files lacking.0 lacking.1
 
-pub turns_done : (image script out : List ℕ) (old mid new : Shelf) (s : Superblock) (pages : List (Option (List ℕ))) (lines : List SaidLine) (report bytes : List ℕ) → ReadsImage image old s pages → ReadsScript script old lines → ReadsBoth image script old mid → IsRunEnd s pages lines report bytes
+pub turns_done : (image script out : List ℕ) (old mid new : Shelf) (s : Superblock) (pages : List (Option (List ℕ))) (lines : List ScriptLine) (report bytes : List ℕ) → ReadsImage image old s pages → ReadsScript script old lines → ReadsBoth image script old mid → IsRunEnd s pages lines report bytes
     → OnlyReplaces out mid new → new.held out ≡ told mid.tells bytes → Turns image script out old new report Done
 turns_done image script out old mid new s pages lines report bytes image_read script_read files end put written =
     let end' : IsRunEnd s (pages_in s.pages image_read.image_bytes) (script_lines script_read.script_bytes) report bytes =
@@ -166,7 +164,7 @@ turns_done image script out old mid new s pages lines report bytes image_read sc
       counts = counts_replaced image script out old mid new files put;
     }
 
-pub turns_write_fault : (image script out : List ℕ) (old mid new : Shelf) (s : Superblock) (pages : List (Option (List ℕ))) (lines : List SaidLine) (text : List ℕ) → ReadsImage image old s pages → ReadsScript script old lines → ReadsBoth image script old mid
+pub turns_write_fault : (image script out : List ℕ) (old mid new : Shelf) (s : Superblock) (pages : List (Option (List ℕ))) (lines : List ScriptLine) (text : List ℕ) → ReadsImage image old s pages → ReadsScript script old lines → ReadsBoth image script old mid
     → OnlyReplaces out mid new → Rose (mid.write_faults out) (new.write_faults out) → text ≡ write_fault_line out → Turns image script out old new text WriteFault
 turns_write_fault image script out old mid new s pages lines text image_read script_read files put rose line = record {
   comes_to = record {
@@ -184,17 +182,17 @@ turns_write_fault image script out old mid new s pages lines text image_read scr
 
 -- ---- the answers
 
-answers_more : (lines : List SaidLine) (tolds : List Told) (i : ℕ) (line : SaidLine) (answer : Told) → i < length lines → i < length tolds → get_or lines i line ≡ line → get_or tolds i answer ≡ answer
+answers_more : (lines : List ScriptLine) (tolds : List LineAnswer) (i : ℕ) (line : ScriptLine) (answer : LineAnswer) → i < length lines → i < length tolds → get_or lines i line ≡ line → get_or tolds i answer ≡ answer
     → answers_text (take (suc i) lines) (take (suc i) tolds) ≡ answers_text (take i lines) (take i tolds) ++ answer_line line.number answer
 answers_more [] tolds i line answer a b is same = absurd (omega arith)
 answers_more (l ∷ ls) [] i line answer a b is same = absurd (omega arith)
 answers_more (l ∷ ls) (t ∷ ts) zero line answer a b is same =
-    ap (λ (x : SaidLine). answer_line x.number t ++ answers_text (take 0 ls) (take 0 ts)) is ∙ ap (λ x. answer_line line.number x ++ answers_text (take 0 ls) (take 0 ts)) same ∙ append-nil (answer_line line.number answer)
+    ap (λ (x : ScriptLine). answer_line x.number t ++ answers_text (take 0 ls) (take 0 ts)) is ∙ ap (λ x. answer_line line.number x ++ answers_text (take 0 ls) (take 0 ts)) same ∙ append-nil (answer_line line.number answer)
 answers_more (l ∷ ls) (t ∷ ts) (suc i) line answer a b is same =
     ap (λ bytes. answer_line l.number t ++ bytes) (answers_more ls ts i line answer (omega arith) (omega arith) is same)
     ∙ sym (append_assoc (answer_line l.number t) (answers_text (take i ls) (take i ts)) (answer_line line.number answer))
 
-answers_all : (lines : List SaidLine) (tolds : List Told) (i : ℕ) → min (length lines) (length tolds) ≤ i → answers_text (take i lines) (take i tolds) ≡ answers_text lines tolds
+pub answers_all : (lines : List ScriptLine) (tolds : List LineAnswer) (i : ℕ) → min (length lines) (length tolds) ≤ i → answers_text (take i lines) (take i tolds) ≡ answers_text lines tolds
 answers_all [] tolds zero h = refl
 answers_all [] tolds (suc i) h = refl
 answers_all (l ∷ ls) [] zero h = refl
@@ -202,31 +200,13 @@ answers_all (l ∷ ls) [] (suc i) h = refl
 answers_all (l ∷ ls) (t ∷ ts) zero h = absurd (omega arith)
 answers_all (l ∷ ls) (t ∷ ts) (suc i) h = ap (λ bytes. answer_line l.number t ++ bytes) (answers_all ls ts i (omega arith))
 
-get_or-mapped : {X Y : Type 0} (f : X → Y) (xs : List X) (i : ℕ) (x : X) → i < length xs → x ≡ get_or xs i x → get_or (map f xs) i (f x) ≡ f x
-get_or-mapped f [] i x lt is = absurd (omega arith)
-get_or-mapped f (y ∷ ys) zero x lt is = ap f (sym is)
-get_or-mapped f (y ∷ ys) (suc i) x lt is = get_or-mapped f ys i x (omega arith) is
-
-map_length : {X Y : Type 0} (f : X → Y) (xs : List X) → length (map f xs) ≡ length xs
-map_length f [] = refl
-map_length f (x ∷ xs) = ap suc (map_length f xs)
-
 pub answers_put : (lines : List ScriptLine) (answers : List LineAnswer) (i : ℕ) (line : ScriptLine) (answer : LineAnswer) (old before after : List ℕ) → i < length lines → i < length answers → line ≡ get_or lines i line → answer ≡ get_or answers i answer
-    → before ≡ old ++ answers_text (take i (map script_line_seen lines)) (take i (map answer_seen answers)) → after ≡ before ++ answer_line (get_or lines i line).number (answer_seen answer)
-    → after ≡ old ++ answers_text (take (i + 1) (map script_line_seen lines)) (take (i + 1) (map answer_seen answers))
+    → before ≡ old ++ answers_text (take i lines) (take i answers) → after ≡ before ++ answer_line (get_or lines i line).number answer
+    → after ≡ old ++ answers_text (take (i + 1) lines) (take (i + 1) answers)
 answers_put lines answers i line answer old before after a b is same first more =
-    let la = map_length script_line_seen lines in
-    let lb = map_length answer_seen answers in
-    let L : List ℕ = answer_line line.number (answer_seen answer) in
+    let L : List ℕ = answer_line line.number answer in
     let up : i + 1 ≡ suc i = omega arith in
-    more ∙ ap (λ (l : ScriptLine). before ++ answer_line l.number (answer_seen answer)) (sym is) ∙ ap (λ bytes. bytes ++ L) first
-    ∙ append_assoc old (answers_text (take i (map script_line_seen lines)) (take i (map answer_seen answers))) L
-    ∙ ap (λ bytes. old ++ bytes) (sym (answers_more (map script_line_seen lines) (map answer_seen answers) i (script_line_seen line) (answer_seen answer) (omega (arith, la)) (omega (arith, lb))
-    (get_or-mapped script_line_seen lines i line a is) (get_or-mapped answer_seen answers i answer b same)))
-    ∙ ap (λ n. old ++ answers_text (take n (map script_line_seen lines)) (take n (map answer_seen answers))) (sym up)
-
-pub answers_all_seen : (lines : List ScriptLine) (answers : List LineAnswer) (i : ℕ) → min (length lines) (length answers) ≤ i → answers_text (take i (map script_line_seen lines)) (take i (map answer_seen answers)) ≡ answers_text (map script_line_seen lines) (map answer_seen answers)
-answers_all_seen lines answers i h =
-    let la = map_length script_line_seen lines in
-    let lb = map_length answer_seen answers in
-    answers_all (map script_line_seen lines) (map answer_seen answers) i (omega (arith, la, lb))
+    more ∙ ap (λ (l : ScriptLine). before ++ answer_line l.number answer) (sym is) ∙ ap (λ bytes. bytes ++ L) first
+    ∙ append_assoc old (answers_text (take i lines) (take i answers)) L
+    ∙ ap (λ bytes. old ++ bytes) (sym (answers_more lines answers i line answer a b (sym is) (sym same)))
+    ∙ ap (λ n. old ++ answers_text (take n lines) (take n answers)) (sym up)

@@ -13,13 +13,13 @@ use Rattle.trio_laws.specs.Laws.{AnyRun}
 use Rattle.trio_laws.proofs.StateLaws.{every_state_is_kept, every_move_is_a_step, every_release_is_judged}
 use Rattle.trio_laws.proofs.Trees.{image_is_tree}
 use Rattle.trio_laws.proofs.Verdicts.{refusal_keeps}
-use Rattle.trio_script.specs.Script.{SaidLine}
+use Rattle.trio_script.specs.declared.ScriptLine.{ScriptLine}
 use Rattle.trio_runner.specs.Play.{Played, moves_of}
 use Rattle.trio_runner.proofs.EndFree.{ends_free}
 use Rattle.trio_runner.proofs.Runs.{played_is_trace}
 use Rattle.trio_app.specs.Headline.{Headline}
 
-headline_of : (image : Image) (creds : List Creds) (lines : List SaidLine) (played : Played image creds lines) → IsFit image.core → Verifies image → IsWhole image → Headline image creds (moves_of played)
+headline_of : (image : Image) (creds : List Creds) (lines : List ScriptLine) (played : Played image creds lines) → IsFit image.core → Verifies image → IsWhole image → Headline image creds (moves_of played)
 headline_of image creds lines played fit verifies whole =
     let run : AnyRun = record {
       image = image;
@@ -49,9 +49,9 @@ headline_of image creds lines played fit verifies whole =
 started_whole : (image : Image) (creds : List Creds) → Kept (start image creds) → IsWhole image
 started_whole image creds k = λ page gone core. elim (k.absent page gone core) [ inl lent ↦ absurd (false≢true lent) | inr out ↦ absurd (false≢true out) ]
 
-pub headline : (image : Image) (creds : List Creds) (lines : List SaidLine) (played : Played image creds lines) → Kept (start image creds) → Headline image creds (moves_of played)
+pub headline : (image : Image) (creds : List Creds) (lines : List ScriptLine) (played : Played image creds lines) → Kept (start image creds) → Headline image creds (moves_of played)
 headline image creds lines played k = headline_of image creds lines played k.fit k.verifies (started_whole image creds k)
 
 -- at its end no page is out
-pub no_page_out : (image : Image) (creds : List Creds) (lines : List SaidLine) (played : Played image creds lines) → Kept (start image creds) → played.last.state.pages_out ≡ []
+pub no_page_out : (image : Image) (creds : List Creds) (lines : List ScriptLine) (played : Played image creds lines) → Kept (start image creds) → played.last.state.pages_out ≡ []
 no_page_out image creds lines played k = (ends_free image creds lines played k.fit k.verifies (started_whole image creds k)).pages

@@ -5,7 +5,8 @@ use Rattle.trio_layout.specs.declared.superblock.Superblock.{Superblock}
 use Rattle.trio_state.specs.Stored.{BytesVerify, pages_in}
 use Rattle.trio_image.specs.declared.reading.LoadFault.{LoadFault}
 use Rattle.trio_image.specs.declared.reading.LoadFault.TheVariants.{Length, BadSuper, Fails, NoMemory as LoadNoMemory}
-use Rattle.trio_script.specs.Script.{SaidLine, script_lines, unbuilt_line}
+use Rattle.trio_script.specs.Script.{script_lines, unbuilt_line}
+use Rattle.trio_script.specs.declared.ScriptLine.{ScriptLine}
 use Rattle.trio_app.specs.declared.status.Status.{Status}
 use Rattle.trio_app.specs.declared.status.Status.TheVariants.{NotVerified as StatusNotVerified, ReadFault as StatusReadFault, NoMemory as StatusNoMemory, NotBuilt}
 use Rattle.trio_app.specs.declared.stop.Stop.{Stop}
@@ -81,7 +82,7 @@ ImageStop image old new _ = ⊥
 -- ---- the script
 
 -- the script was read, each line of it is built, and these are the lines that say something
-pub record ReadsScript (script : List ℕ) (old : Shelf) (lines : List SaidLine) : Type 0 where
+pub record ReadsScript (script : List ℕ) (old : Shelf) (lines : List ScriptLine) : Type 0 where
   pub script_bytes : List ℕ
   pub script_is : IsTold (old.held script) script_bytes
   pub within : length script_bytes ≤ 1048576

@@ -1,8 +1,7 @@
 //! The image and the script of a run, read and judged.
 
-ghost use Rattle.std.specs.Prelude.{◌≡◌, Contains, IfOk, IfErr, map};
+ghost use Rattle.std.specs.Prelude.{◌≡◌, Contains, IfOk, IfErr};
 ghost use Rattle.trio_io.specs.Shelf.{OnlyReads};
-ghost use Rattle.trio_script.specs.Seen.{script_line_seen};
 ghost use Rattle.trio_app.specs.Inputs.{ReadsBoth};
 ghost use Rattle.trio_app.specs.Stop.{BytesStop, ImageStop, InputStop, IsImage, ReadsImage, ReadsScript, ScriptStop};
 
@@ -29,7 +28,7 @@ pub fn read_inputs<F: Files>(
     requires image { Contains (F.seen files.old).served image_name.now }
     requires script { Contains (F.seen files.old).served script_name.now }
     ensures image { IfOk result (λ r. ReadsImage image_name.now (F.seen files.old) r.0.superblock r.0.pages) }
-    ensures script { IfOk result (λ r. ReadsScript script_name.now (F.seen files.old) (map script_line_seen r.1.items)) }
+    ensures script { IfOk result (λ r. ReadsScript script_name.now (F.seen files.old) r.1.items) }
     ensures stops { IfErr result (InputStop image_name.now script_name.now (F.seen files.old) (F.seen files.new)) }
     ensures files { ReadsBoth image_name.now script_name.now (F.seen files.old) (F.seen files.new) }
 {
@@ -67,7 +66,7 @@ fn verified_image(alloc: Global, bytes: &[u8]) -> Result<Image, Stop>
 
 fn input_script<F: Files>(alloc: Global, name: &str, files: &mut F) -> Result<Vec<ScriptLine>, Stop>
     requires { Contains (F.seen files.old).served name.now }
-    ensures script { IfOk result (λ lines. ReadsScript name.now (F.seen files.old) (map script_line_seen lines.items)) }
+    ensures script { IfOk result (λ lines. ReadsScript name.now (F.seen files.old) lines.items) }
     ensures stops { IfErr result (ScriptStop name.now (F.seen files.old) (F.seen files.new)) }
     ensures files { OnlyReads name.now (F.seen files.old) (F.seen files.new) }
 {

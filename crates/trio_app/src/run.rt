@@ -1,10 +1,8 @@
 //! The run of a script, its report and the image at its end.
 
-ghost use Rattle.std.specs.Prelude.{◌≡◌, ◌++◌, IfOk, OnOk, map};
+ghost use Rattle.std.specs.Prelude.{◌≡◌, ◌++◌, IfOk, OnOk};
 ghost use Rattle.trio_report.specs.declared.report.LibraryKind.TheVariants.{Raw};
 ghost use Rattle.trio_report.specs.Report.{counts_text, end_line, lib_heading, tree_text};
-ghost use Rattle.trio_report.specs.Seen.{answer_seen, counts_seen};
-ghost use Rattle.trio_script.specs.Seen.{script_line_seen};
 ghost use Rattle.trio_state.specs.Stored.{core_in, image_in};
 ghost use Rattle.trio_state.specs.Tree.{tree_of};
 ghost use Rattle.trio_image.specs.Counts.{counts_of};
@@ -35,7 +33,7 @@ pub struct RunEnd {
 /// Plays a script's lines on an image. `NoMemory`: there was no memory for the run, the report or
 /// the bytes.
 pub fn run(alloc: Global, image: Image, lines: &[ScriptLine]) -> Result<RunEnd, NoMemory>
-    ensures { IfOk result (λ end. IsRunEnd image.superblock image.pages (map script_line_seen lines.now) end.report.items end.image.items) }
+    ensures { IfOk result (λ end. IsRunEnd image.superblock image.pages lines.now end.report.items end.image.items) }
 {
     let root = Creds { uid: 0, gid: 0 };
     let mut ctl = match Ctl::start(alloc, image, vec![in alloc; root]?) {
@@ -62,7 +60,7 @@ fn report(
     end: EndAnswer,
     image: Image,
 ) -> Result<Vec<u8>, NoMemory>
-    ensures { IfOk result (λ text. text.items ≡ lib_heading 1 Raw ++ answers_text (map script_line_seen lines.now) (map answer_seen answers.now) ++ end_line end
+    ensures { IfOk result (λ text. text.items ≡ lib_heading 1 Raw ++ answers_text lines.now answers.now ++ end_line end
         ++ tree_text (tree_of (core_in image.superblock image.pages)) ++ counts_text (told_counts (counts_of (image_in image.superblock image.pages)))) }
 {
     let superblock = image.superblock();
@@ -97,7 +95,7 @@ fn put_answers(
     lines: &[ScriptLine],
     answers: &[LineAnswer],
 ) -> Result<(), NoMemory>
-    ensures { OnOk result (text.new.items ≡ text.old.items ++ answers_text (map script_line_seen lines.now) (map answer_seen answers.now)) }
+    ensures { OnOk result (text.new.items ≡ text.old.items ++ answers_text lines.now answers.now) }
 {
     for at in 0..lines.len().min(answers.len()) {
         put_answer(alloc, text, lines[at].number, &answers[at])?;

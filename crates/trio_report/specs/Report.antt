@@ -3,9 +3,9 @@ use Rattle.std.specs.Prelude.{ℕ, ◌+◌, ◌/◌, ◌%◌, List, [], ◌∷�
 use Rattle.std.specs.List.{flat_map}
 use Rattle.std.specs.Fmt.{decimal}
 use Rattle.trio_names.specs.Escaped.{escaped_of}
-use Rattle.trio_rights.specs.declared.kind.Kind.{Kind}
-use Rattle.trio_rights.specs.declared.kind.Kind.TheVariants.{Regular, Directory}
+use Rattle.trio_rights.specs.Kind.{letter}
 use Rattle.trio_state.specs.Tree.{TreeLine}
+use Rattle.trio_report.specs.declared.report.Counts.{Counts}
 use Rattle.trio_report.specs.declared.report.LibraryKind.{LibraryKind}
 use Rattle.trio_report.specs.declared.report.LibraryKind.TheVariants.{Raw}
 use Rattle.trio_report.specs.declared.report.EndAnswer.{EndAnswer}
@@ -15,25 +15,16 @@ use Rattle.trio_report.specs.declared.report.EndAnswer.TheVariants.{Nothing, Acc
 abbrev pub octal_of : ℕ → List ℕ
 octal_of mode = (48 + mode / 64 % 8) ∷ (48 + mode / 8 % 8) ∷ (48 + mode % 8) ∷ []
 
-abbrev pub kind_letter : Kind → List ℕ
-kind_letter Regular = codes "f"
-kind_letter Directory = codes "d"
-
 -- the root's name is printed as the slash that it is, every other name escaped, which a slash in no name needs
 abbrev pub tree_line : TreeLine → List ℕ
 tree_line l =
-    decimal l.depth ++ codes " " ++ kind_letter l.kind ++ codes " " ++ octal_of l.mode.0 ++ codes " " ++ decimal l.uid
+    decimal l.depth ++ codes " " ++ letter l.kind ++ codes " " ++ octal_of l.mode.0 ++ codes " " ++ decimal l.uid
     ++ codes " " ++ decimal l.gid ++ codes " " ++ decimal l.size ++ codes " " ++ escaped_of l.name ++ codes "\n"
 
 abbrev pub tree_text : List TreeLine → List ℕ
 tree_text lines = codes "tree\n" ++ flat_map tree_line lines
 
 -- live inode numbers, core pages that files own, and free core pages
-pub record Counts : Type 0 where
-  pub inodes : ℕ
-  pub pages : ℕ
-  pub free : ℕ
-
 abbrev pub counts_text : Counts → List ℕ
 counts_text c = codes "inodes " ++ decimal c.inodes ++ codes " pages " ++ decimal c.pages ++ codes " free " ++ decimal c.free ++ codes "\n"
 

@@ -4,10 +4,10 @@ ghost use Rattle.std.specs.Prelude.{◌≡◌, ◌++◌, OnOk, codes};
 ghost use Rattle.std.specs.List.{flat_map};
 ghost use Rattle.std.specs.Fmt.{decimal};
 ghost use Rattle.trio_report.specs.Answers.{after_comma, numbers_text, answer_text, answer_line};
-ghost use Rattle.trio_report.specs.Seen.{answer_seen};
 
 use crate::text::put_text;
 use std::alloc::Global;
+use trio_nodes::List;
 use trio_page::NoMemory;
 
 /// What a line of a script is answered.
@@ -24,7 +24,7 @@ pub enum LineAnswer {
     /// The grant wasn't given: an open grant excludes it.
     Busy,
     /// These pages and inode numbers were allotted.
-    Allotted { pages: Vec<u32>, inodes: Vec<u32> },
+    Allotted { pages: List<u32>, inodes: List<u32> },
     /// Nothing was allotted: more pages were wanted than are free.
     NoPages { wanted: u32, free: u32 },
     /// Nothing was allotted: more inode numbers were wanted than are free.
@@ -47,7 +47,7 @@ pub fn put_answer(
     number: u32,
     answer: &LineAnswer,
 ) -> Result<(), NoMemory>
-    ensures { OnOk result (out.new.items ≡ out.old.items ++ answer_line number (answer_seen answer.now)) }
+    ensures { OnOk result (out.new.items ≡ out.old.items ++ answer_line number answer.now) }
 {
     put_text(out, &format!(in alloc; "{number} ")?)?;
     put_words(alloc, out, answer)?;
@@ -55,7 +55,7 @@ pub fn put_answer(
 }
 
 fn put_words(alloc: Global, out: &mut Vec<u8>, answer: &LineAnswer) -> Result<(), NoMemory>
-    ensures { OnOk result (out.new.items ≡ out.old.items ++ answer_text (answer_seen answer.now)) }
+    ensures { OnOk result (out.new.items ≡ out.old.items ++ answer_text answer.now) }
 {
     match answer {
         LineAnswer::Granted => put_text(out, "granted"),
@@ -63,7 +63,12 @@ fn put_words(alloc: Global, out: &mut Vec<u8>, answer: &LineAnswer) -> Result<()
         LineAnswer::Denied(ino) => put_denied(alloc, out, *ino),
         LineAnswer::NoParent => put_text(out, "noparent"),
         LineAnswer::Busy => put_text(out, "busy"),
-        LineAnswer::Allotted { pages, inodes } => put_allotted(alloc, out, pages, inodes),
+        LineAnswer::Allotted { pages, inodes } => put_allotted(
+            alloc,
+            out,
+            pages.as_slice(),
+            inodes.as_slice(),
+        ),
         LineAnswer::NoPages { wanted, free } => put_want(alloc, out, "nopages", *wanted, *free),
         LineAnswer::NoInodes { wanted, free } => put_want(alloc, out, "noinodes", *wanted, *free),
         LineAnswer::Poked => put_text(out, "poked"),

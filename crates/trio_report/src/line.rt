@@ -1,14 +1,16 @@
 //! The lines of a tree.
 
-ghost use Rattle.std.specs.Prelude.{◌≡◌, ◌+◌, ◌%◌, ◌++◌, OnOk, codes, map};
+ghost use Rattle.std.specs.Prelude.{◌≡◌, ◌+◌, ◌%◌, ◌++◌, OnOk, codes};
 ghost use Rattle.std.specs.Fmt.{decimal};
 ghost use Rattle.std.specs.List.{flat_map};
 ghost use Rattle.trio_names.specs.Escaped.{escaped_of};
-ghost use Rattle.trio_report.specs.Report.{octal_of, kind_letter, tree_line, tree_text};
-ghost use Rattle.trio_report.specs.Seen.{line_seen, name_seen};
+ghost use Rattle.trio_rights.specs.Kind.{letter};
+ghost use Rattle.trio_report.specs.Report.{octal_of, tree_line, tree_text};
+ghost use Rattle.trio_report.specs.Seen.{name_seen};
 
 use crate::text::{put_escaped, put_text};
 use std::alloc::Global;
+use std::marker::Model;
 use trio_names::Name;
 use trio_page::NoMemory;
 use trio_rights::{Kind, Mode};
@@ -22,8 +24,9 @@ pub enum TreeName {
     Entry(Name),
 }
 
-/// What is told of one file of a tree.
-#[derive(Clone, Copy)]
+/// What is told of one file of a tree. Contracts see it as the line of the definition of a tree,
+/// `TreeLine` of `trio_state`'s `specs/Tree.antt`.
+#[derive(Drop)]
 pub struct TreeLine {
     /// How many directories are above the file: 0 for the root.
     pub depth: u32,
@@ -36,19 +39,36 @@ pub struct TreeLine {
     pub name: TreeName,
 }
 
+impl Model for TreeLine {
+    ghost use Rattle.trio_state.specs.Tree.{TreeLine};
+    ghost use Rattle.trio_report.specs.Seen.{name_seen};
+
+    ghost Value = { TreeLine };
+
+    ghost view = { λ l. record {
+      depth = l.depth;
+      kind = l.kind;
+      mode = l.mode;
+      uid = l.uid;
+      gid = l.gid;
+      size = l.size;
+      name = name_seen l.name;
+    } };
+}
+
 /// Appends a line `tree` and a line `DEPTH KIND MODE UID GID SIZE NAME` for each file.
 ///
 /// The kind is `d` or `f`, the mode three octal digits, the name printed as one word of visible
 /// ASCII ([`trio_names::escaped`]), and the other numbers are decimal.
 pub fn put_tree(alloc: Global, out: &mut Vec<u8>, lines: &[TreeLine]) -> Result<(), NoMemory>
-    ensures { OnOk result (out.new.items ≡ out.old.items ++ tree_text (map line_seen lines.now)) }
+    ensures { OnOk result (out.new.items ≡ out.old.items ++ tree_text lines.now) }
 {
     put_text(out, "tree\n")?;
     put_lines(alloc, out, lines)
 }
 
 fn put_lines(alloc: Global, out: &mut Vec<u8>, lines: &[TreeLine]) -> Result<(), NoMemory>
-    ensures { OnOk result (out.new.items ≡ out.old.items ++ flat_map tree_line (map line_seen lines.now)) }
+    ensures { OnOk result (out.new.items ≡ out.old.items ++ flat_map tree_line lines.now) }
 {
     for line in lines {
         put_line(alloc, out, line)?;
@@ -57,7 +77,7 @@ fn put_lines(alloc: Global, out: &mut Vec<u8>, lines: &[TreeLine]) -> Result<(),
 }
 
 fn put_line(alloc: Global, out: &mut Vec<u8>, line: &TreeLine) -> Result<(), NoMemory>
-    ensures { OnOk result (out.new.items ≡ out.old.items ++ tree_line (line_seen line.now)) }
+    ensures { OnOk result (out.new.items ≡ out.old.items ++ tree_line line.now) }
 {
     put_kind(alloc, out, line.depth, line.kind)?;
     put_mode(out, line.mode)?;
@@ -67,9 +87,9 @@ fn put_line(alloc: Global, out: &mut Vec<u8>, line: &TreeLine) -> Result<(), NoM
 }
 
 fn put_kind(alloc: Global, out: &mut Vec<u8>, depth: u32, kind: Kind) -> Result<(), NoMemory>
-    ensures { OnOk result (out.new.items ≡ out.old.items ++ (decimal depth ++ codes " " ++ kind_letter kind ++ codes " ")) }
+    ensures { OnOk result (out.new.items ≡ out.old.items ++ (decimal depth ++ codes " " ++ letter kind ++ codes " ")) }
 {
-    let letter = kind_letter(kind);
+    let letter = kind.letter();
     put_text(out, &format!(in alloc; "{depth} {letter} ")?)
 }
 
@@ -83,15 +103,6 @@ fn put_owner(
     ensures { OnOk result (out.new.items ≡ out.old.items ++ (codes " " ++ decimal uid ++ codes " " ++ decimal gid ++ codes " " ++ decimal size ++ codes " ")) }
 {
     put_text(out, &format!(in alloc; " {uid} {gid} {size} ")?)
-}
-
-fn kind_letter(kind: Kind) -> &'static str
-    ensures { result.now ≡ kind_letter kind }
-{
-    match kind {
-        Kind::Regular => "f",
-        Kind::Directory => "d",
-    }
 }
 
 fn put_mode(out: &mut Vec<u8>, mode: Mode) -> Result<(), NoMemory>

@@ -2,7 +2,6 @@
 
 ghost use Rattle.std.specs.Prelude.{◌≡◌, ◌++◌, OnOk};
 ghost use Rattle.trio_report.specs.Report.{library_word, lib_heading, answer_word, end_line, counts_text};
-ghost use Rattle.trio_report.specs.Seen.{counts_seen};
 
 use crate::text::put_text;
 use std::alloc::Global;
@@ -86,7 +85,7 @@ pub struct Counts {
 
 /// Appends the counts as a line, as `inodes 2 pages 4 free 25`.
 pub fn put_counts(alloc: Global, out: &mut Vec<u8>, counts: &Counts) -> Result<(), NoMemory>
-    ensures { OnOk result (out.new.items ≡ out.old.items ++ counts_text (counts_seen counts.now)) }
+    ensures { OnOk result (out.new.items ≡ out.old.items ++ counts_text counts.now) }
 {
     let Counts {
         inodes,

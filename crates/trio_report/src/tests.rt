@@ -5,6 +5,7 @@ ghost use Rattle.std.specs.Prelude.{◌<◌, ◌≤◌, length};
 use super::*;
 use std::test::Fail;
 use trio_layout::Superblock;
+use trio_nodes::List;
 use trio_page::field::put_bytes_in;
 use trio_page::{Home, Page, Reads};
 use trio_rights::LibNo;
@@ -216,12 +217,12 @@ fn allotments_are_told(rt: HostRuntime) -> Result<(), Fail> {
     let alloc = rt.alloc();
     let answers = vec![in alloc;
         LineAnswer::Allotted {
-            pages: vec![in alloc; 9]?,
-            inodes: Vec::new(alloc),
+            pages: List::from_vec(vec![in alloc; 9]?),
+            inodes: List::from_vec(Vec::new(alloc)),
         },
         LineAnswer::Allotted {
-            pages: Vec::new(alloc),
-            inodes: vec![in alloc; 0, 12, 4_294_967_295]?,
+            pages: List::from_vec(Vec::new(alloc)),
+            inodes: List::from_vec(vec![in alloc; 0, 12, 4_294_967_295]?),
         },
         LineAnswer::NoPages {
             wanted: 30,

@@ -6,7 +6,6 @@ ghost use Rattle.trio_survey.specs.Seen.{listed_seen, file_seen, met_seen, read_
 ghost use Rattle.trio_state.specs.Stored.{core_in};
 ghost use Rattle.trio_state.specs.Tree.{by_name, told_size, tree_of};
 ghost use Rattle.trio_report.specs.Nodes.{node_seen, children_of, Visited};
-ghost use Rattle.trio_report.specs.Seen.{line_seen};
 
 use crate::line::{TreeLine, TreeName};
 use std::alloc::Global;
@@ -38,7 +37,7 @@ pub fn tree_lines(
     reads: &mut Reads,
 ) -> Result<Vec<TreeLine>, NoMemory>
     ensures pages { home.new.pages ≡ home.old.pages }
-    ensures tree { IfOk result (λ lines. map line_seen lines.items ≡ tree_of (core_in superblock.now home.old.pages)) }
+    ensures tree { IfOk result (λ lines. lines.items ≡ tree_of (core_in superblock.now home.old.pages)) }
 {
     let range = CoreRange {
         first: superblock.first_core,
@@ -83,7 +82,7 @@ impl Pending {
         lines: &mut Vec<TreeLine>,
     ) -> Result<(), NoMemory>
         ensures { OnOk result (Visited last (node_seen self.now) (read_seen read)
-            (map node_seen pending.old.items) (map node_seen pending.new.items) (map line_seen lines.old.items) (map line_seen lines.new.items)) }
+            (map node_seen pending.old.items) (map node_seen pending.new.items) lines.old.items lines.new.items) }
     {
         let Ok(mut file) = read else {
             return Ok(());

@@ -1,5 +1,5 @@
--- Kinds of file as bytes.
-use Rattle.std.specs.Prelude.{ℕ, ◌==◌, if◌then◌else◌}
+-- Kinds of file as bytes and as letters.
+use Rattle.std.specs.Prelude.{ℕ, ◌==◌, List, if◌then◌else◌, codes}
 use Rattle.trio_rights.specs.declared.kind.Kind.{Kind}
 use Rattle.trio_rights.specs.declared.kind.Kind.TheVariants.{Regular, Directory}
 
@@ -11,3 +11,8 @@ kind_byte Directory = 2
 -- the kind that a byte stands for; what it says of other bytes means nothing
 abbrev pub kind_from : ℕ → Kind
 kind_from byte = if byte == 2 then Directory else Regular
+
+-- the letter that stands for a kind where a tree is printed
+abbrev pub letter : Kind → List ℕ
+letter Regular = codes "f"
+letter Directory = codes "d"

@@ -1,7 +1,7 @@
 //! What a file is.
 
 ghost use Rattle.std.specs.Prelude.{◌≡◌, ◌≢◌, IfNone, IfSome};
-ghost use Rattle.trio_rights.specs.Kind.{kind_byte};
+ghost use Rattle.trio_rights.specs.Kind.{kind_byte, letter};
 
 /// What a file is.
 #[derive(Clone, Copy, Debug, PartialEq, Eq)]
@@ -33,6 +33,16 @@ impl Kind {
             1 => Some(Kind::Regular),
             2 => Some(Kind::Directory),
             _ => None,
+        }
+    }
+
+    /// The letter that stands for the kind where a tree is printed.
+    pub fn letter(self) -> &'static str
+        ensures { result.now ≡ letter self }
+    {
+        match self {
+            Kind::Regular => "f",
+            Kind::Directory => "d",
         }
     }
 }

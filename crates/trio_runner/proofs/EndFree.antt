@@ -24,9 +24,10 @@ use Rattle.trio_laws.proofs.Images.{finds}
 use Rattle.trio_raw.specs.Has.{Has, nothing, bundle_of, has_all_of, rest_of, whole_bundle, is_nothing}
 use Rattle.trio_raw.specs.Laws.{lent_file, with_lent, with_allotted, zero_sheet}
 use Rattle.trio_raw.proofs.Members.{In-left, In-right, In-cases, In-map, map_from, among_from, filter_in}
-use Rattle.trio_script.specs.Said.{Said, grant_write, allot, poke, release}
-use Rattle.trio_script.specs.Script.{SaidLine}
-use Rattle.trio_report.specs.Answers.{Answer as Told}
+use Rattle.trio_script.specs.declared.line.RawLine.{RawLine}
+use Rattle.trio_script.specs.declared.line.RawLine.TheVariants.{GrantWrite, Allot as AllotLine, Poke, Release as ReleaseLine}
+use Rattle.trio_script.specs.declared.ScriptLine.{ScriptLine}
+use Rattle.trio_report.specs.declared.answer.LineAnswer.{LineAnswer}
 use Rattle.trio_report.specs.declared.report.EndAnswer.{EndAnswer}
 use Rattle.trio_runner.specs.Play.{Player, Alone, Asks, PlaysLine, Plays, EndsAlone, EndsAll, PlaysEnd, told_of, end_of, has_lent, has_after, at_start}
 use Rattle.trio_runner.specs.EndFree.{OutInHand, AllInHand, NothingOut, PlayedEndsFree}
@@ -100,7 +101,7 @@ out_after_fault s NoParent = out_logged s
 out_after_fault s (Busy holder) = out_stays s
 out_after_fault s NoGrantMemory = out_logged s
 
-grant_in_hand : (lib ino : ℕ) (p : Player) (told : Told) (moves : List Move) (p' : Player) → AllInHand lib p → (a : Asks lib p (grant_write ino) (Grant lib ino Write) told moves p') → Comes (grant_outcome p.state lib ino Write) a.answer p'.state → AllInHand lib p'
+grant_in_hand : (lib ino : ℕ) (p : Player) (told : LineAnswer) (moves : List Move) (p' : Player) → AllInHand lib p → (a : Asks lib p (GrantWrite ino) (Grant lib ino Write) told moves p') → Comes (grant_outcome p.state lib ino Write) a.answer p'.state → AllInHand lib p'
 grant_in_hand lib ino p told moves p' h a comes =
     by_answer (grant_fault p.state lib ino Write) (row_at p.state.home ino) refl comes
   where
@@ -108,12 +109,12 @@ grant_in_hand lib ino p told moves p' h a comes =
     by_answer (Some fault) row f c =
         same_in_hand lib p p' h
         (subst (SameOut p.state) (sym c.1) (out_after_fault p.state fault))
-        (subst (SameNumbers p.has) (sym (a.has ∙ ap (has_after lib p.state p.has (grant_write ino)) c.0)) (numbers_stay p.has))
+        (subst (SameNumbers p.has) (sym (a.has ∙ ap (has_after lib p.state p.has (GrantWrite ino)) c.0)) (numbers_stay p.has))
     by_answer None None f c = absurd (not_told told_of a.answer Done told c.0 a.told_is refl)
     by_answer None (Some r) f c =
         one_more lib p p' (opened p.state lib ino Write r) h refl refl
         c.1
-        (a.has ∙ ap (has_after lib p.state p.has (grant_write ino)) c.0 ∙ ap (has_lent lib p.state p.has ino) f)
+        (a.has ∙ ap (has_after lib p.state p.has (GrantWrite ino)) c.0 ∙ ap (has_lent lib p.state p.has ino) f)
 
 -- ---- an allotment
 
@@ -158,7 +159,7 @@ more_in_hand lib p p' pages numbers h state has =
           (ap (λ (x : Has). x.numbers) has);
     }
 
-allot_in_hand : (lib wanted many : ℕ) (p : Player) (told : Told) (moves : List Move) (p' : Player) → AllInHand lib p → (a : Asks lib p (allot wanted many) (Allot lib wanted many) told moves p') → Comes (allot_outcome p.state lib wanted many) a.answer p'.state → AllInHand lib p'
+allot_in_hand : (lib wanted many : ℕ) (p : Player) (told : LineAnswer) (moves : List Move) (p' : Player) → AllInHand lib p → (a : Asks lib p (AllotLine wanted many) (Allot lib wanted many) told moves p') → Comes (allot_outcome p.state lib wanted many) a.answer p'.state → AllInHand lib p'
 allot_in_hand lib wanted many p told moves p' h a comes =
     by_tests (ltb (length ps) wanted) (ltb (length ns) many) comes
   where
@@ -172,13 +173,13 @@ allot_in_hand lib wanted many p told moves p' h a comes =
     by_tests true few c =
         same_in_hand lib p p' h
         (subst (SameOut p.state) (sym c.1) (out_logged p.state))
-        (subst (SameNumbers p.has) (sym (a.has ∙ ap (has_after lib p.state p.has (allot wanted many)) c.0)) (numbers_stay p.has))
+        (subst (SameNumbers p.has) (sym (a.has ∙ ap (has_after lib p.state p.has (AllotLine wanted many)) c.0)) (numbers_stay p.has))
     by_tests false true c =
         same_in_hand lib p p' h
         (subst (SameOut p.state) (sym c.1) (out_logged p.state))
-        (subst (SameNumbers p.has) (sym (a.has ∙ ap (has_after lib p.state p.has (allot wanted many)) c.0)) (numbers_stay p.has))
+        (subst (SameNumbers p.has) (sym (a.has ∙ ap (has_after lib p.state p.has (AllotLine wanted many)) c.0)) (numbers_stay p.has))
     by_tests false false c =
-        more_in_hand lib p p' (take wanted ps) (take many ns) h c.1 (a.has ∙ ap (has_after lib p.state p.has (allot wanted many)) c.0)
+        more_in_hand lib p p' (take wanted ps) (take many ns) h c.1 (a.has ∙ ap (has_after lib p.state p.has (AllotLine wanted many)) c.0)
 
 -- ---- the end of a bundle
 
@@ -240,18 +241,18 @@ ends_in_hand lib p b image after p' h leaves e has = record {
       (outs_left lib p.state.numbers_out p'.state.numbers_out p.has.numbers b.numbers after.numbers h.numbers leaves.numbers e.numbers);
 }
 
-release_in_hand : (lib : ℕ) (inos pages numbers : List ℕ) (p : Player) (event : Event) (told : Told) (moves : List Move) (p' : Player) → AllInHand lib p → (a : Asks lib p (release inos pages numbers) event told moves p') → ReleaseEnd p.state lib (bundle_of p.has inos pages numbers) a.answer p'.state → AllInHand lib p'
+release_in_hand : (lib : ℕ) (inos pages numbers : List ℕ) (p : Player) (event : Event) (told : LineAnswer) (moves : List Move) (p' : Player) → AllInHand lib p → (a : Asks lib p (ReleaseLine inos pages numbers) event told moves p') → ReleaseEnd p.state lib (bundle_of p.has inos pages numbers) a.answer p'.state → AllInHand lib p'
 release_in_hand lib inos pages numbers p event told moves p' h a (Parted n parted e same) = absurd (not_told told_of a.answer (NotClosed n) told e a.told_is refl)
 release_in_hand lib inos pages numbers p event told moves p' h a (IsAccepted closed t e ends) =
     ends_in_hand lib p (bundle_of p.has inos pages numbers) _ (rest_of p.has inos pages numbers) p' h (named_leaves p.has inos pages numbers) ends
-    (a.has ∙ ap (has_after lib p.state p.has (release inos pages numbers)) e)
+    (a.has ∙ ap (has_after lib p.state p.has (ReleaseLine inos pages numbers)) e)
 release_in_hand lib inos pages numbers p event told moves p' h a (IsRefused closed t why e tells ends) =
     ends_in_hand lib p (bundle_of p.has inos pages numbers) _ (rest_of p.has inos pages numbers) p' h (named_leaves p.has inos pages numbers) ends
-    (a.has ∙ ap (has_after lib p.state p.has (release inos pages numbers)) e)
+    (a.has ∙ ap (has_after lib p.state p.has (ReleaseLine inos pages numbers)) e)
 
 -- ---- a line that asks nothing
 
-alone_in_hand : (lib : ℕ) (p : Player) (said : Said) (told : Told) (moves : List Move) (p' : Player) → AllInHand lib p → Alone p said told moves p' → AllInHand lib p'
+alone_in_hand : (lib : ℕ) (p : Player) (said : RawLine) (told : LineAnswer) (moves : List Move) (p' : Player) → AllInHand lib p → Alone p said told moves p' → AllInHand lib p'
 alone_in_hand lib p said told moves p' h a =
     same_in_hand lib p p' h
     (subst (SameOut p.state) (sym a.state) (out_stays p.state))
@@ -259,22 +260,22 @@ alone_in_hand lib p said told moves p' h a =
 
 -- ---- a line
 
-line_in_hand : (lib : ℕ) (p : Player) (said : Said) (told : Told) (moves : List Move) (p' : Player) → AllInHand lib p → PlaysLine lib p said told moves p' → AllInHand lib p'
-line_in_hand lib p (grant_write ino) told moves p' h a =
+line_in_hand : (lib : ℕ) (p : Player) (said : RawLine) (told : LineAnswer) (moves : List Move) (p' : Player) → AllInHand lib p → PlaysLine lib p said told moves p' → AllInHand lib p'
+line_in_hand lib p (GrantWrite ino) told moves p' h a =
     elim a.step [
       | inl does ↦ grant_in_hand lib ino p told moves p' h a does
       | inr none ↦ absurd (not_told told_of a.answer NoMemory told none.1 a.told_is refl)
     ]
-line_in_hand lib p (allot wanted many) told moves p' h a =
+line_in_hand lib p (AllotLine wanted many) told moves p' h a =
     elim a.step [
       | inl does ↦ allot_in_hand lib wanted many p told moves p' h a does
       | inr none ↦ absurd (not_told told_of a.answer NoMemory told none.1 a.told_is refl)
     ]
-line_in_hand lib p (poke at offset bytes) told moves p' h a = alone_in_hand lib p (poke at offset bytes) told moves p' h a
-line_in_hand lib p (release inos pages numbers) told moves p' h plays = by_there (has_all_of p.has inos pages numbers) plays
+line_in_hand lib p (Poke at offset bytes) told moves p' h a = alone_in_hand lib p (Poke at offset bytes) told moves p' h a
+line_in_hand lib p (ReleaseLine inos pages numbers) told moves p' h plays = by_there (has_all_of p.has inos pages numbers) plays
   where
-    said : Said
-    said = release inos pages numbers
+    said : RawLine
+    said = ReleaseLine inos pages numbers
 
     b : Bundle
     b = bundle_of p.has inos pages numbers
@@ -287,12 +288,12 @@ line_in_hand lib p (release inos pages numbers) told moves p' h plays = by_there
           | inr none ↦ absurd (not_told told_of a.answer NoMemory told none.1 a.told_is refl)
         ]
 
-lines_in_hand : (lib : ℕ) (p : Player) (lines : List SaidLine) (tolds : List Told) (moves : List Move) (p' : Player) → AllInHand lib p → Plays lib p lines tolds moves p' → AllInHand lib p'
+lines_in_hand : (lib : ℕ) (p : Player) (lines : List ScriptLine) (tolds : List LineAnswer) (moves : List Move) (p' : Player) → AllInHand lib p → Plays lib p lines tolds moves p' → AllInHand lib p'
 lines_in_hand lib p [] [] moves p' h plays = subst (AllInHand lib) (sym plays.1) h
 lines_in_hand lib p [] (t ∷ tolds) moves p' h plays = absurd plays
 lines_in_hand lib p (l ∷ lines) [] moves p' h plays = absurd plays
 lines_in_hand lib p (l ∷ lines) (t ∷ tolds) moves p' h plays =
-    lines_in_hand lib plays.middle lines tolds plays.others p' (line_in_hand lib p l.said t plays.first plays.middle h plays.line) plays.rest
+    lines_in_hand lib plays.middle lines tolds plays.others p' (line_in_hand lib p l.line t plays.first plays.middle h plays.line) plays.rest
 
 -- ---- the end
 

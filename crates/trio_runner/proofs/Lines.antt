@@ -23,8 +23,9 @@ use Rattle.trio_raw.specs.InHand.{InHand}
 use Rattle.trio_raw.proofs.Members.{In-map, In-cases, map_from, filter_in}
 use Rattle.trio_raw.proofs.InHand.{nothing_is_in_hand, poked_is_in_hand, taken_was_given, all_was_given, rest_is_in_hand, nothing_is_left, stays_in_hand}
 use Rattle.trio_raw.proofs.Steps.{granted_is_in_hand, given_out_is_in_hand}
-use Rattle.trio_script.specs.Said.{Said, grant_write, allot, poke, release}
-use Rattle.trio_report.specs.Answers.{Answer as Told}
+use Rattle.trio_script.specs.declared.line.RawLine.{RawLine}
+use Rattle.trio_script.specs.declared.line.RawLine.TheVariants.{GrantWrite, Allot as AllotLine, Poke, Release as ReleaseLine}
+use Rattle.trio_report.specs.declared.answer.LineAnswer.{LineAnswer}
 use Rattle.trio_report.specs.declared.report.EndAnswer.{EndAnswer}
 use Rattle.trio_runner.specs.Play.{Player, Alone, Asks, PlaysLine, EndsAlone, EndsAll, PlaysEnd, event_of, told_of, end_of, has_lent, has_after, has_alone, has_poked}
 use Rattle.trio_runner.specs.PlayLaws.{Stands, StartStands, LineStands, EndStands}
@@ -38,7 +39,7 @@ start_stands image creds fit verifies whole = record {
 
 -- ---- what a line asks hands in what was given
 
-pub data LineEnd (lib : ℕ) (p : Player) (said : Said) (told : Told) (moves : List Move) (p' : Player) : Type 0 where
+pub data LineEnd (lib : ℕ) (p : Player) (said : RawLine) (told : LineAnswer) (moves : List Move) (p' : Player) : Type 0 where
   IsAlone : event_of lib p.has said ≡ None → Alone p said told moves p' → LineEnd lib p said told moves p'
   IsAsked : (event : Event) → event_of lib p.has said ≡ Some event → GivenEvent p.state event → Asks lib p said event told moves p' → LineEnd lib p said told moves p'
 
@@ -48,18 +49,18 @@ OnEvent s None = Unit {0}
 OnEvent s (Some event) = GivenEvent s event
 
 -- what a line asks was given
-event_given : (lib : ℕ) (p : Player) (said : Said) (event : Event) → InHand p.state lib p.has → event_of lib p.has said ≡ Some event → GivenEvent p.state event
-event_given lib p (grant_write ino) event h e = subst (λ (o : Option Event). OnEvent p.state o) e tt
-event_given lib p (allot pages numbers) event h e = subst (λ (o : Option Event). OnEvent p.state o) e tt
-event_given lib p (poke at offset bytes) event h e = absurd (cc e)
-event_given lib p (release inos pages numbers) event h e =
+event_given : (lib : ℕ) (p : Player) (said : RawLine) (event : Event) → InHand p.state lib p.has → event_of lib p.has said ≡ Some event → GivenEvent p.state event
+event_given lib p (GrantWrite ino) event h e = subst (λ (o : Option Event). OnEvent p.state o) e tt
+event_given lib p (AllotLine pages numbers) event h e = subst (λ (o : Option Event). OnEvent p.state o) e tt
+event_given lib p (Poke at offset bytes) event h e = absurd (cc e)
+event_given lib p (ReleaseLine inos pages numbers) event h e =
     subst (λ (o : Option Event). OnEvent p.state o) e (by_there (has_all_of p.has inos pages numbers) refl)
   where
     by_there : (b : Bool) → has_all_of p.has inos pages numbers ≡ b → OnEvent p.state (cond b (Some (Release lib (bundle_of p.has inos pages numbers))) None)
     by_there true t = taken_was_given p.state lib p.has inos pages numbers h t
     by_there false f = tt
 
-pub line_end : (lib : ℕ) (p : Player) (said : Said) (told : Told) (moves : List Move) (p' : Player) → InHand p.state lib p.has → PlaysLine lib p said told moves p' → LineEnd lib p said told moves p'
+pub line_end : (lib : ℕ) (p : Player) (said : RawLine) (told : LineAnswer) (moves : List Move) (p' : Player) → InHand p.state lib p.has → PlaysLine lib p said told moves p' → LineEnd lib p said told moves p'
 line_end lib p said told moves p' h plays = by_event (event_of lib p.has said) refl plays
   where
     by_event : (o : Option Event) → event_of lib p.has said ≡ o → MatchOption o (Alone p said told moves p') (λ event. Asks lib p said event told moves p') → LineEnd lib p said told moves p'
@@ -69,7 +70,7 @@ line_end lib p said told moves p' h plays = by_event (event_of lib p.has said) r
 -- ---- what stands after it
 
 -- what no line is told doesn't come
-untold : (a b : Answer) (told : Told) → a ≡ b → told_of a ≡ Some told → told_of b ≡ None → ⊥
+untold : (a b : Answer) (told : LineAnswer) → a ≡ b → told_of a ≡ Some told → told_of b ≡ None → ⊥
 untold a b told same is none =
     let wrong : None ≡ Some told = sym none ∙ ap told_of (sym same) ∙ is in absurd (cc wrong)
 
@@ -107,12 +108,12 @@ fault_numbers s NoParent = refl
 fault_numbers s (Busy holder) = refl
 fault_numbers s NoGrantMemory = refl
 
-grant_stands : (lib ino : ℕ) (p : Player) (told : Told) (moves : List Move) (p' : Player) → Stands lib p → Kept p'.state → (a : Asks lib p (grant_write ino) (Grant lib ino Write) told moves p') → Comes (grant_outcome p.state lib ino Write) a.answer p'.state → Stands lib p'
+grant_stands : (lib ino : ℕ) (p : Player) (told : LineAnswer) (moves : List Move) (p' : Player) → Stands lib p → Kept p'.state → (a : Asks lib p (GrantWrite ino) (Grant lib ino Write) told moves p') → Comes (grant_outcome p.state lib ino Write) a.answer p'.state → Stands lib p'
 grant_stands lib ino p told moves p' h kept a comes =
     by_answer (grant_fault p.state lib ino Write) (row_at p.state.home ino) refl refl comes
   where
     after : Answer → Has
-    after answer = has_after lib p.state p.has (grant_write ino) answer
+    after answer = has_after lib p.state p.has (GrantWrite ino) answer
 
     by_answer : (fault : Option GrantFault) (row : Option Row) → grant_fault p.state lib ino Write ≡ fault → row_at p.state.home ino ≡ row → Comes (granted_to p.state lib ino Write fault row) a.answer p'.state → Stands lib p'
     by_answer (Some fault) row e f c =
@@ -120,14 +121,14 @@ grant_stands lib ino p told moves p' h kept a comes =
         (ap (λ (s : State). s.open_grants) c.1 ∙ fault_grants p.state fault)
         (ap (λ (s : State). s.pages_out) c.1 ∙ fault_pages p.state fault)
         (ap (λ (s : State). s.numbers_out) c.1 ∙ fault_numbers p.state fault)
-        (a.has ∙ ap (has_after lib p.state p.has (grant_write ino)) c.0)
+        (a.has ∙ ap (has_after lib p.state p.has (GrantWrite ino)) c.0)
     by_answer None None e f c = absurd (untold a.answer Done told c.0 a.told_is refl)
     by_answer None (Some r) e f c =
         let g : OpenGrant = opened p.state lib ino Write r in
         let lent = granted_is_in_hand p.state lib ino p.has 0 p'.state h.kept.fit h.in_hand (subst (λ (x : Answer). Comes (grant_outcome p.state lib ino Write) x p'.state) c.0 comes) in
         record {
           kept = kept;
-          in_hand = subst (InHand p'.state lib) (sym (a.has ∙ ap (has_after lib p.state p.has (grant_write ino)) c.0 ∙ ap (has_lent lib p.state p.has ino) lent.1)) lent.2;
+          in_hand = subst (InHand p'.state lib) (sym (a.has ∙ ap (has_after lib p.state p.has (GrantWrite ino)) c.0 ∙ ap (has_lent lib p.state p.has ino) lent.1)) lent.2;
           no_hold = λ x i l k. elim (In-cases x p.state.open_grants (g ∷ []) (subst (λ (s : State). In x s.open_grants) c.1 i)) [
             | inl j ↦ h.no_hold x j l k
             | inr j ↦ elim j [
@@ -137,7 +138,7 @@ grant_stands lib ino p told moves p' h kept a comes =
           ];
         }
 
-allot_stands : (lib wanted many : ℕ) (p : Player) (told : Told) (moves : List Move) (p' : Player) → Stands lib p → Kept p'.state → (a : Asks lib p (allot wanted many) (Allot lib wanted many) told moves p') → Comes (allot_outcome p.state lib wanted many) a.answer p'.state → Stands lib p'
+allot_stands : (lib wanted many : ℕ) (p : Player) (told : LineAnswer) (moves : List Move) (p' : Player) → Stands lib p → Kept p'.state → (a : Asks lib p (AllotLine wanted many) (Allot lib wanted many) told moves p') → Comes (allot_outcome p.state lib wanted many) a.answer p'.state → Stands lib p'
 allot_stands lib wanted many p told moves p' h kept a comes =
     by_tests (ltb (length ps) wanted) (ltb (length ns) many) comes
   where
@@ -150,13 +151,13 @@ allot_stands lib wanted many p told moves p' h kept a comes =
     by_tests : (few_pages few_numbers : Bool) → Comes (cond few_pages (record { answer = NoPages wanted (length ps); after = logged p.state }) (cond few_numbers (record { answer = NoInodes many (length ns); after = logged p.state }) (record { answer = Given (take wanted ps) (take many ns); after = allots p.state lib (take wanted ps) (take many ns) }))) a.answer p'.state → Stands lib p'
     by_tests true few c =
         same_stands lib p p' h kept (ap (λ (s : State). s.open_grants) c.1) (ap (λ (s : State). s.pages_out) c.1) (ap (λ (s : State). s.numbers_out) c.1)
-        (a.has ∙ ap (has_after lib p.state p.has (allot wanted many)) c.0)
+        (a.has ∙ ap (has_after lib p.state p.has (AllotLine wanted many)) c.0)
     by_tests false true c =
         same_stands lib p p' h kept (ap (λ (s : State). s.open_grants) c.1) (ap (λ (s : State). s.pages_out) c.1) (ap (λ (s : State). s.numbers_out) c.1)
-        (a.has ∙ ap (has_after lib p.state p.has (allot wanted many)) c.0)
+        (a.has ∙ ap (has_after lib p.state p.has (AllotLine wanted many)) c.0)
     by_tests false false c = record {
       kept = kept;
-      in_hand = subst (InHand p'.state lib) (sym (a.has ∙ ap (has_after lib p.state p.has (allot wanted many)) c.0))
+      in_hand = subst (InHand p'.state lib) (sym (a.has ∙ ap (has_after lib p.state p.has (AllotLine wanted many)) c.0))
           (given_out_is_in_hand p.state lib p.has wanted many (take wanted ps) (take many ns) p'.state h.in_hand
           (subst (λ (x : Answer). Comes (allot_outcome p.state lib wanted many) x p'.state) c.0 comes));
       no_hold = λ g i l k. h.no_hold g (subst (λ (s : State). In g s.open_grants) c.1 i) l k;
@@ -178,34 +179,34 @@ rest_stands lib inos pages numbers p p' image h kept ends has = record {
   no_hold = ends_no_hold lib p (bundle_of p.has inos pages numbers) image p'.state h ends;
 }
 
-release_stands : (lib : ℕ) (inos pages numbers : List ℕ) (p : Player) (event : Event) (told : Told) (moves : List Move) (p' : Player) → Stands lib p → Kept p'.state → (a : Asks lib p (release inos pages numbers) event told moves p') → ReleaseEnd p.state lib (bundle_of p.has inos pages numbers) a.answer p'.state → Stands lib p'
+release_stands : (lib : ℕ) (inos pages numbers : List ℕ) (p : Player) (event : Event) (told : LineAnswer) (moves : List Move) (p' : Player) → Stands lib p → Kept p'.state → (a : Asks lib p (ReleaseLine inos pages numbers) event told moves p') → ReleaseEnd p.state lib (bundle_of p.has inos pages numbers) a.answer p'.state → Stands lib p'
 release_stands lib inos pages numbers p event told moves p' h kept a (Parted n parted e same) = absurd (untold a.answer (NotClosed n) told e a.told_is refl)
 release_stands lib inos pages numbers p event told moves p' h kept a (IsAccepted closed t e ends) =
-    rest_stands lib inos pages numbers p p' _ h kept ends (a.has ∙ ap (has_after lib p.state p.has (release inos pages numbers)) e)
+    rest_stands lib inos pages numbers p p' _ h kept ends (a.has ∙ ap (has_after lib p.state p.has (ReleaseLine inos pages numbers)) e)
 release_stands lib inos pages numbers p event told moves p' h kept a (IsRefused closed t why e tells ends) =
-    rest_stands lib inos pages numbers p p' _ h kept ends (a.has ∙ ap (has_after lib p.state p.has (release inos pages numbers)) e)
+    rest_stands lib inos pages numbers p p' _ h kept ends (a.has ∙ ap (has_after lib p.state p.has (ReleaseLine inos pages numbers)) e)
 
 -- a line that asks something
-asked_stands : (lib : ℕ) (p : Player) (said : Said) (event : Event) (told : Told) (moves : List Move) (p' : Player) → Stands lib p → event_of lib p.has said ≡ Some event → GivenEvent p.state event → Asks lib p said event told moves p' → Stands lib p'
+asked_stands : (lib : ℕ) (p : Player) (said : RawLine) (event : Event) (told : LineAnswer) (moves : List Move) (p' : Player) → Stands lib p → event_of lib p.has said ≡ Some event → GivenEvent p.state event → Asks lib p said event told moves p' → Stands lib p'
 asked_stands lib p said event told moves p' h e given a =
     elim a.step [
       | inl does ↦ by_said said event e (step_kept p.state p'.state event a.answer h.kept given a.step) a does
       | inr none ↦ absurd (untold a.answer NoMemory told none.1 a.told_is refl)
     ]
   where
-    by_said : (said : Said) (event : Event) → event_of lib p.has said ≡ Some event → Kept p'.state → (a : Asks lib p said event told moves p') → Does p.state event a.answer p'.state → Stands lib p'
-    by_said (grant_write ino) event e kept a does =
+    by_said : (said : RawLine) (event : Event) → event_of lib p.has said ≡ Some event → Kept p'.state → (a : Asks lib p said event told moves p') → Does p.state event a.answer p'.state → Stands lib p'
+    by_said (GrantWrite ino) event e kept a does =
         let same : Grant lib ino Write ≡ event = cc e in
-        let A : Event → Type 0 = λ x. (a : Asks lib p (grant_write ino) x told moves p') × Does p.state x a.answer p'.state in
+        let A : Event → Type 0 = λ x. (a : Asks lib p (GrantWrite ino) x told moves p') × Does p.state x a.answer p'.state in
         let back : A (Grant lib ino Write) = subst A (sym same) (a, does) in
         grant_stands lib ino p told moves p' h kept back.0 back.1
-    by_said (allot wanted many) event e kept a does =
+    by_said (AllotLine wanted many) event e kept a does =
         let same : Allot lib wanted many ≡ event = cc e in
-        let A : Event → Type 0 = λ x. (a : Asks lib p (allot wanted many) x told moves p') × Does p.state x a.answer p'.state in
+        let A : Event → Type 0 = λ x. (a : Asks lib p (AllotLine wanted many) x told moves p') × Does p.state x a.answer p'.state in
         let back : A (Allot lib wanted many) = subst A (sym same) (a, does) in
         allot_stands lib wanted many p told moves p' h kept back.0 back.1
-    by_said (poke at offset bytes) event e kept a does = absurd (cc e)
-    by_said (release inos pages numbers) event e kept a does = by_there (has_all_of p.has inos pages numbers) e
+    by_said (Poke at offset bytes) event e kept a does = absurd (cc e)
+    by_said (ReleaseLine inos pages numbers) event e kept a does = by_there (has_all_of p.has inos pages numbers) e
       where
         by_there : (b : Bool) → cond b (Some (Release lib (bundle_of p.has inos pages numbers))) None ≡ Some event → Stands lib p'
         by_there false f = absurd (cc f)
@@ -215,17 +216,17 @@ asked_stands lib p said event told moves p' h e given a =
             release_stands lib inos pages numbers p event told moves p' h kept a (subst D (sym same) does)
 
 -- a line that asks nothing
-alone_stands : (lib : ℕ) (p : Player) (said : Said) (told : Told) (moves : List Move) (p' : Player) → Stands lib p → Alone p said told moves p' → Stands lib p'
+alone_stands : (lib : ℕ) (p : Player) (said : RawLine) (told : LineAnswer) (moves : List Move) (p' : Player) → Stands lib p → Alone p said told moves p' → Stands lib p'
 alone_stands lib p said told moves p' h a =
     let there : Stands lib (record { state = p.state; has = p'.has }) = record { kept = h.kept; in_hand = by_said said a.has; no_hold = h.no_hold } in
     let S : State → Type 0 = λ s. Stands lib (record { state = s; has = p'.has }) in
     subst S (sym a.state) there
   where
-    by_said : (said : Said) → p'.has ≡ has_alone p.has said → InHand p.state lib p'.has
-    by_said (grant_write ino) e = subst (InHand p.state lib) (sym e) h.in_hand
-    by_said (allot wanted many) e = subst (InHand p.state lib) (sym e) h.in_hand
-    by_said (release inos pages numbers) e = subst (InHand p.state lib) (sym e) h.in_hand
-    by_said (poke at offset bytes) e = by_poked (poked p.has at offset bytes) refl e
+    by_said : (said : RawLine) → p'.has ≡ has_alone p.has said → InHand p.state lib p'.has
+    by_said (GrantWrite ino) e = subst (InHand p.state lib) (sym e) h.in_hand
+    by_said (AllotLine wanted many) e = subst (InHand p.state lib) (sym e) h.in_hand
+    by_said (ReleaseLine inos pages numbers) e = subst (InHand p.state lib) (sym e) h.in_hand
+    by_said (Poke at offset bytes) e = by_poked (poked p.has at offset bytes) refl e
       where
         by_poked : (o : Option Has) → poked p.has at offset bytes ≡ o → p'.has ≡ has_poked p.has o → InHand p.state lib p'.has
         by_poked None f g = subst (InHand p.state lib) (sym g) h.in_hand

@@ -7,9 +7,9 @@ use Rattle.trio_state.specs.Kept.{Kept}
 use Rattle.trio_state.specs.Run.{start, Move, Trace}
 use Rattle.trio_laws.proofs.Runs.{start_kept, trace_kept}
 use Rattle.trio_raw.proofs.Members.{In-map}
-use Rattle.trio_script.specs.Said.{Said}
-use Rattle.trio_script.specs.Script.{SaidLine}
-use Rattle.trio_report.specs.Answers.{Answer as Told}
+use Rattle.trio_script.specs.declared.line.RawLine.{RawLine}
+use Rattle.trio_script.specs.declared.ScriptLine.{ScriptLine}
+use Rattle.trio_report.specs.declared.answer.LineAnswer.{LineAnswer}
 use Rattle.trio_report.specs.declared.report.EndAnswer.{EndAnswer}
 use Rattle.trio_runner.specs.Play.{Player, PlaysLine, Plays, PlaysEnd, at_start, moves_of}
 use Rattle.trio_runner.specs.PlayLaws.{Stands, PlaysMore, PlayedIsTrace, PlayedKeeps}
@@ -20,7 +20,7 @@ plays_more lib p [] [] moves middle line told more p' plays last = record {
   first = more;
   middle = p';
   others = [];
-  line = subst (λ (q : Player). PlaysLine lib q line.said told more p') plays.1 last;
+  line = subst (λ (q : Player). PlaysLine lib q line.line told more p') plays.1 last;
   rest = (refl, refl);
   moves_are = ap (λ l. l ++ more) plays.0 ∙ sym (append-nil more);
 }
@@ -58,7 +58,7 @@ none_runs : (s s' : State) (moves : List Move) → moves ≡ [] → s' ≡ s →
 none_runs s s' moves none same = subst (λ l. Runs s l s') (sym none) (record { trace = tt; last = sym same })
 
 -- a line's moves
-line_runs : (lib : ℕ) (p : Player) (said : Said) (told : Told) (moves : List Move) (p' : Player) → Stands lib p → PlaysLine lib p said told moves p' → Runs p.state moves p'.state
+line_runs : (lib : ℕ) (p : Player) (said : RawLine) (told : LineAnswer) (moves : List Move) (p' : Player) → Stands lib p → PlaysLine lib p said told moves p' → Runs p.state moves p'.state
 line_runs lib p said told moves p' h plays =
     elim (line_end lib p said told moves p' h.in_hand plays) [
       | IsAlone e a ↦ none_runs p.state p'.state moves a.moves_are a.state
@@ -78,7 +78,7 @@ record Comes (lib : ℕ) (p : Player) (moves : List Move) (p' : Player) : Type 0
   runs : Runs p.state moves p'.state
   stands : Stands lib p'
 
-plays_come : (lib : ℕ) (p : Player) (lines : List SaidLine) (tolds : List Told) (moves : List Move) (p' : Player) → Stands lib p → Plays lib p lines tolds moves p' → Comes lib p moves p'
+plays_come : (lib : ℕ) (p : Player) (lines : List ScriptLine) (tolds : List LineAnswer) (moves : List Move) (p' : Player) → Stands lib p → Plays lib p lines tolds moves p' → Comes lib p moves p'
 plays_come lib p [] [] moves p' h plays = record {
   runs = none_runs p.state p'.state moves plays.0 (ap (λ (q : Player). q.state) plays.1);
   stands = subst (Stands lib) (sym plays.1) h;
@@ -86,11 +86,11 @@ plays_come lib p [] [] moves p' h plays = record {
 plays_come lib p [] (t ∷ tolds) moves p' h plays = absurd plays
 plays_come lib p (l ∷ lines) [] moves p' h plays = absurd plays
 plays_come lib p (l ∷ lines) (t ∷ tolds) moves p' h plays =
-    let next : Stands lib plays.middle = line_stands lib p l.said t plays.first plays.middle h plays.line in
+    let next : Stands lib plays.middle = line_stands lib p l.line t plays.first plays.middle h plays.line in
     let rest = plays_come lib plays.middle lines tolds plays.others p' next plays.rest in
     record {
       runs = subst (λ ms. Runs p.state ms p'.state) (sym plays.moves_are)
-          (runs_on p.state plays.middle.state p'.state plays.first plays.others (line_runs lib p l.said t plays.first plays.middle h plays.line) rest.runs);
+          (runs_on p.state plays.middle.state p'.state plays.first plays.others (line_runs lib p l.line t plays.first plays.middle h plays.line) rest.runs);
       stands = rest.stands;
     }
 

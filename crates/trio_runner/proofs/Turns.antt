@@ -33,8 +33,9 @@ use Rattle.trio_raw.specs.Held.{Held, file_of}
 use Rattle.trio_raw.specs.Laws.{lent_file, with_lent, zero_sheet}
 use Rattle.trio_raw.proofs.InHand.{taken_was_given, all_was_given}
 use Rattle.trio_raw.proofs.Steps.{granted_is_in_hand}
-use Rattle.trio_script.specs.Said.{allot, grant_write, release}
-use Rattle.trio_report.specs.Answers.{Answer as Told, granted, allotted, accepted, refused}
+use Rattle.trio_script.specs.declared.line.RawLine.TheVariants.{GrantWrite, Allot as AllotLine, Release as ReleaseLine}
+use Rattle.trio_report.specs.declared.answer.LineAnswer.{LineAnswer}
+use Rattle.trio_report.specs.declared.answer.LineAnswer.TheVariants as answered
 use Rattle.trio_report.specs.declared.report.EndAnswer.{EndAnswer}
 use Rattle.trio_ctl.specs.Answers.{allot_fault_answer, grant_fault_answer, verdict_of}
 use Rattle.trio_ctl.specs.Open.{lease_of, untouched}
@@ -91,11 +92,11 @@ all_given s h b ready e = subst (GivenTo s h.lib.0) (sym e) (all_was_given s h.l
 -- ---- releases
 
 -- a bundle that was handed in, by either verdict
-verdict_played : (inos pages numbers : List ℕ) (answer : Answer) (told : Told) (s : State) (h : Held) (s' : State) (h' : Held) (b : Bundle) → told_of answer ≡ Some told → has_after h.lib.0 s h.has (release inos pages numbers) answer ≡ rest_of h.has inos pages numbers → (IsFalse (has_all_of h.has inos pages numbers) → ⊥) → b ≡ bundle_of h.has inos pages numbers → Step s (Release h.lib.0 b) answer s' → h'.has ≡ rest_of h.has inos pages numbers → h'.lib ≡ h.lib → LinePlayed (release inos pages numbers) told s h s' h'
+verdict_played : (inos pages numbers : List ℕ) (answer : Answer) (told : LineAnswer) (s : State) (h : Held) (s' : State) (h' : Held) (b : Bundle) → told_of answer ≡ Some told → has_after h.lib.0 s h.has (ReleaseLine inos pages numbers) answer ≡ rest_of h.has inos pages numbers → (IsFalse (has_all_of h.has inos pages numbers) → ⊥) → b ≡ bundle_of h.has inos pages numbers → Step s (Release h.lib.0 b) answer s' → h'.has ≡ rest_of h.has inos pages numbers → h'.lib ≡ h.lib → LinePlayed (ReleaseLine inos pages numbers) told s h s' h'
 verdict_played inos pages numbers answer told s h s' h' b is after all e step rest lib =
     let event : Event = Release h.lib.0 (bundle_of h.has inos pages numbers) in
     let moves : List Move = record { before = s; event = event; answer = answer; after = s' } ∷ [] in
-    let asks : Asks h.lib.0 (player s h) (release inos pages numbers) event told moves (player s' h') = record {
+    let asks : Asks h.lib.0 (player s h) (ReleaseLine inos pages numbers) event told moves (player s' h') = record {
       answer = answer;
       told_is = is;
       step = subst (λ (x : Bundle). Step s (Release h.lib.0 x) answer s') e step;
@@ -107,11 +108,11 @@ verdict_played inos pages numbers answer told s h s' h' b is after all e step re
       | inr f ↦ absurd (all f)
     ]
 
-pub accepted_played : (inos pages numbers : List ℕ) (s : State) (h : Held) (s' : State) (h' : Held) (b : Bundle) → (IsFalse (has_all_of h.has inos pages numbers) → ⊥) → b ≡ bundle_of h.has inos pages numbers → Step s (Release h.lib.0 b) Accepted s' → h'.has ≡ rest_of h.has inos pages numbers → h'.lib ≡ h.lib → LinePlayed (release inos pages numbers) accepted s h s' h'
-accepted_played inos pages numbers s h s' h' b all e step rest lib = verdict_played inos pages numbers Accepted accepted s h s' h' b refl refl all e step rest lib
+pub accepted_played : (inos pages numbers : List ℕ) (s : State) (h : Held) (s' : State) (h' : Held) (b : Bundle) → (IsFalse (has_all_of h.has inos pages numbers) → ⊥) → b ≡ bundle_of h.has inos pages numbers → Step s (Release h.lib.0 b) Accepted s' → h'.has ≡ rest_of h.has inos pages numbers → h'.lib ≡ h.lib → LinePlayed (ReleaseLine inos pages numbers) answered.Accepted s h s' h'
+accepted_played inos pages numbers s h s' h' b all e step rest lib = verdict_played inos pages numbers Accepted answered.Accepted s h s' h' b refl refl all e step rest lib
 
-pub refused_played : (inos pages numbers : List ℕ) (s : State) (h : Held) (s' : State) (h' : Held) (b : Bundle) (why : Why) → (IsFalse (has_all_of h.has inos pages numbers) → ⊥) → b ≡ bundle_of h.has inos pages numbers → Step s (Release h.lib.0 b) (Refused why) s' → h'.has ≡ rest_of h.has inos pages numbers → h'.lib ≡ h.lib → LinePlayed (release inos pages numbers) refused s h s' h'
-refused_played inos pages numbers s h s' h' b why all e step rest lib = verdict_played inos pages numbers (Refused why) refused s h s' h' b refl refl all e step rest lib
+pub refused_played : (inos pages numbers : List ℕ) (s : State) (h : Held) (s' : State) (h' : Held) (b : Bundle) (why : Why) → (IsFalse (has_all_of h.has inos pages numbers) → ⊥) → b ≡ bundle_of h.has inos pages numbers → Step s (Release h.lib.0 b) (Refused why) s' → h'.has ≡ rest_of h.has inos pages numbers → h'.lib ≡ h.lib → LinePlayed (ReleaseLine inos pages numbers) answered.Refused s h s' h'
+refused_played inos pages numbers s h s' h' b why all e step rest lib = verdict_played inos pages numbers (Refused why) answered.Refused s h s' h' b refl refl all e step rest lib
 
 -- the end of a library that has something, by either verdict
 pub end_played : (answer : Answer) (end : EndAnswer) (s : State) (h : Held) (s' : State) (h' : Held) (b : Bundle) → end_of answer ≡ Some end → (IsTrue (is_nothing h.has) → ⊥) → b ≡ whole_bundle h.has → Step s (Release h.lib.0 b) answer s' → h'.has ≡ nothing → EndPlayed end s h s' h'
@@ -144,7 +145,7 @@ lease_file g =
     let b = sheets_untouched g.blocks in
     ap (λ index. shown index (map lent_sheet (map untouched g.blocks))) a ∙ ap (shown g.index) b
 
-pub grant_played : (ino : ℕ) (s : State) (h : Held) (s' : State) (h' : Held) (lease : LentFile) → IsReady s h → Step s (Grant h.lib.0 ino Write) (Granted 0) s' → ForSome (row_at s.home ino) (λ r. lease ≡ lease_of (opened s h.lib.0 ino Write r)) → h'.has ≡ with_lent h.has (file_of lease) → h'.lib ≡ h.lib → LinePlayed (grant_write ino) granted s h s' h'
+pub grant_played : (ino : ℕ) (s : State) (h : Held) (s' : State) (h' : Held) (lease : LentFile) → IsReady s h → Step s (Grant h.lib.0 ino Write) (Granted 0) s' → ForSome (row_at s.home ino) (λ r. lease ≡ lease_of (opened s h.lib.0 ino Write r)) → h'.has ≡ with_lent h.has (file_of lease) → h'.lib ≡ h.lib → LinePlayed (GrantWrite ino) answered.Granted s h s' h'
 grant_played ino s h s' h' lease ready step lent has lib =
     elim step [
       | inl does ↦ (
@@ -164,7 +165,7 @@ grant_played ino s h s' h' lease ready step lent has lib =
       | inr lacks ↦ (let wrong : Granted 0 ≡ NoMemory = lacks.1 in absurd (cc wrong))
     ]
 
-pub fault_played : (ino : ℕ) (fault : GrantFault) (told : Told) (s : State) (h : Held) (s' : State) (h' : Held) → told_fault fault ≡ Some told → Step s (Grant h.lib.0 ino Write) (grant_fault_answer fault) s' → h'.has ≡ h.has → h'.lib ≡ h.lib → LinePlayed (grant_write ino) told s h s' h'
+pub fault_played : (ino : ℕ) (fault : GrantFault) (told : LineAnswer) (s : State) (h : Held) (s' : State) (h' : Held) → told_fault fault ≡ Some told → Step s (Grant h.lib.0 ino Write) (grant_fault_answer fault) s' → h'.has ≡ h.has → h'.lib ≡ h.lib → LinePlayed (GrantWrite ino) told s h s' h'
 fault_played ino fault told s h s' h' is step has lib =
     record { moves = _; line = record { answer = grant_fault_answer fault; told_is = by_fault fault is; step = step; moves_are = refl; has = has ∙ sym (same fault) }; lib = lib }
   where
@@ -175,7 +176,7 @@ fault_played ino fault told s h s' h' is step has lib =
     by_fault (Busy holder) e = e
     by_fault NoGrantMemory e = absurd (cc e)
 
-    same : (f : GrantFault) → has_after h.lib.0 s h.has (grant_write ino) (grant_fault_answer f) ≡ h.has
+    same : (f : GrantFault) → has_after h.lib.0 s h.has (GrantWrite ino) (grant_fault_answer f) ≡ h.has
     same NotLive = refl
     same (Denied n) = refl
     same NoParent = refl
@@ -189,7 +190,7 @@ fresh_sheets : (lib : LibNo) (ns : List ℕ) → map fresh_sheet (map (fresh_pag
 fresh_sheets lib [] = refl
 fresh_sheets lib (n ∷ ns) = ap (λ xs. zero_sheet n ∷ xs) (fresh_sheets lib ns)
 
-pub allotted_played : (wanted many : ℕ) (ps : List FreshParts) (ns : List InoParts) (told : Told) (s : State) (h : Held) (s' : State) (h' : Held) → told ≡ allotted (page_numbers ps) (inode_numbers ns) → Step s (Allot h.lib.0 wanted many) (Given (page_numbers ps) (inode_numbers ns)) s' → ps ≡ map (fresh_page h.lib) (page_numbers ps) → h'.has ≡ record h.has { pages = h.has.pages ++ map fresh_sheet ps; numbers = h.has.numbers ++ inode_numbers ns } → h'.lib ≡ h.lib → LinePlayed (allot wanted many) told s h s' h'
+pub allotted_played : (wanted many : ℕ) (ps : List FreshParts) (ns : List InoParts) (told : LineAnswer) (s : State) (h : Held) (s' : State) (h' : Held) → told ≡ answered.Allotted (page_numbers ps) (inode_numbers ns) → Step s (Allot h.lib.0 wanted many) (Given (page_numbers ps) (inode_numbers ns)) s' → ps ≡ map (fresh_page h.lib) (page_numbers ps) → h'.has ≡ record h.has { pages = h.has.pages ++ map fresh_sheet ps; numbers = h.has.numbers ++ inode_numbers ns } → h'.lib ≡ h.lib → LinePlayed (AllotLine wanted many) told s h s' h'
 allotted_played wanted many ps ns told s h s' h' is step fresh has lib =
     let zero : map fresh_sheet ps ≡ map zero_sheet (page_numbers ps) = ap (map fresh_sheet) fresh ∙ fresh_sheets h.lib (page_numbers ps) in
     record {
@@ -204,11 +205,11 @@ allotted_played wanted many ps ns told s h s' h' is step fresh has lib =
       lib = lib;
     }
 
-pub unallotted_played : (wanted many : ℕ) (fault : AllotFault) (told : Told) (s : State) (h : Held) (s' : State) → told_of (allot_fault_answer fault) ≡ Some told → Step s (Allot h.lib.0 wanted many) (allot_fault_answer fault) s' → LinePlayed (allot wanted many) told s h s' h
+pub unallotted_played : (wanted many : ℕ) (fault : AllotFault) (told : LineAnswer) (s : State) (h : Held) (s' : State) → told_of (allot_fault_answer fault) ≡ Some told → Step s (Allot h.lib.0 wanted many) (allot_fault_answer fault) s' → LinePlayed (AllotLine wanted many) told s h s' h
 unallotted_played wanted many fault told s h s' is step =
     record { moves = _; line = record { answer = allot_fault_answer fault; told_is = is; step = step; moves_are = refl; has = sym (same fault) }; lib = refl }
   where
-    same : (f : AllotFault) → has_after h.lib.0 s h.has (allot wanted many) (allot_fault_answer f) ≡ h.has
+    same : (f : AllotFault) → has_after h.lib.0 s h.has (AllotLine wanted many) (allot_fault_answer f) ≡ h.has
     same (TooFewPages wanted free) = refl
     same (TooFewInodes wanted free) = refl
     same NoAllotMemory = refl

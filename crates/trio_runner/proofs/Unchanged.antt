@@ -8,7 +8,8 @@ use Rattle.trio_state.specs.State.{State, logged}
 use Rattle.trio_state.specs.Proposed.{Written}
 use Rattle.trio_raw.specs.Has.{Has, poked, poked_body, poked_index, poked_block, poked_sheet, with_file, with_fresh, changed_first}
 use Rattle.trio_raw.proofs.Kept.{Changed, KeepsFiles, map_some, first_from, changed_same, sheets_kept, body_keeps, index_keeps, block_keeps}
-use Rattle.trio_script.specs.Said.{Said, grant_write, allot, poke, release}
+use Rattle.trio_script.specs.declared.line.RawLine.{RawLine}
+use Rattle.trio_script.specs.declared.line.RawLine.TheVariants.{GrantWrite, Allot as AllotLine, Poke, Release as ReleaseLine}
 use Rattle.trio_runner.specs.Play.{has_alone, has_poked}
 
 -- the numbers of the files that a library has
@@ -62,11 +63,11 @@ poked_numbers has after (Index ino i) offset bytes e = file_numbers (poked_index
 poked_numbers has after (Block ino i) offset bytes e = file_numbers (poked_block i offset bytes) (block_keeps i offset bytes) ino has after e
 poked_numbers has after (Fresh page) offset bytes e = page_numbers offset bytes page has after e
 
-pub alone_numbers : (has : Has) (said : Said) → SameNumbers has (has_alone has said)
-alone_numbers has (grant_write ino) = numbers_stay has
-alone_numbers has (allot wanted many) = numbers_stay has
-alone_numbers has (release inos pages numbers) = numbers_stay has
-alone_numbers has (poke at offset bytes) = by_poked (poked has at offset bytes) refl
+pub alone_numbers : (has : Has) (said : RawLine) → SameNumbers has (has_alone has said)
+alone_numbers has (GrantWrite ino) = numbers_stay has
+alone_numbers has (AllotLine wanted many) = numbers_stay has
+alone_numbers has (ReleaseLine inos pages numbers) = numbers_stay has
+alone_numbers has (Poke at offset bytes) = by_poked (poked has at offset bytes) refl
   where
     by_poked : (o : Option Has) → poked has at offset bytes ≡ o → SameNumbers has (has_poked has o)
     by_poked None e = numbers_stay has

@@ -8,7 +8,7 @@ use Rattle.trio_state.specs.Image.{Image, IsFit}
 use Rattle.trio_state.specs.Verifies.{Verifies}
 use Rattle.trio_state.specs.State.{OpenGrant, Out, State}
 use Rattle.trio_state.specs.Run.{IsWhole}
-use Rattle.trio_script.specs.Script.{SaidLine}
+use Rattle.trio_script.specs.declared.ScriptLine.{ScriptLine}
 use Rattle.trio_runner.specs.Play.{Player, Played}
 
 -- each number that is out by allotment is out to the library, and is one of these
@@ -33,5 +33,5 @@ pub record NothingOut (s : State) : Type 0 where
 -- at a script's end nothing is lent or out
 abbrev pub PlayedEndsFree : Type 0
 PlayedEndsFree =
-    (image : Image) (creds : List Creds) (lines : List SaidLine) (played : Played image creds lines)
+    (image : Image) (creds : List Creds) (lines : List ScriptLine) (played : Played image creds lines)
     → IsFit image.core → Verifies image → IsWhole image → NothingOut played.last.state

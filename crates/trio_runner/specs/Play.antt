@@ -13,9 +13,11 @@ use Rattle.trio_state.specs.Step.{Event, Grant, Allot, Release, Answer, Granted,
 use Rattle.trio_state.specs.Run.{start, Move}
 use Rattle.trio_raw.specs.Has.{Has, nothing, poked, has_all_of, bundle_of, rest_of, whole_bundle, is_nothing}
 use Rattle.trio_raw.specs.Laws.{lent_file, with_lent, with_allotted}
-use Rattle.trio_script.specs.Said.{Said, grant_write, allot, poke, release}
-use Rattle.trio_script.specs.Script.{SaidLine}
-use Rattle.trio_report.specs.Answers.{Answer as Told, granted, not_live, denied, no_parent, busy, allotted, no_pages, no_inodes, poked as told_poked, accepted, refused, absent}
+use Rattle.trio_script.specs.declared.line.RawLine.{RawLine}
+use Rattle.trio_script.specs.declared.line.RawLine.TheVariants.{GrantWrite, Allot as AllotLine, Poke, Release as ReleaseLine}
+use Rattle.trio_script.specs.declared.ScriptLine.{ScriptLine}
+use Rattle.trio_report.specs.declared.answer.LineAnswer.{LineAnswer}
+use Rattle.trio_report.specs.declared.answer.LineAnswer.TheVariants as answered
 use Rattle.trio_report.specs.declared.report.EndAnswer.{EndAnswer}
 use Rattle.trio_report.specs.declared.report.EndAnswer.TheVariants.{Nothing, Accepted as EndAccepted, Refused as EndRefused}
 
@@ -27,17 +29,17 @@ pub record Player : Type 0 where
 -- ---- what a line asks, and what it is told
 
 -- the event that a line asks of the controller, by what the library has; None where it asks none
-abbrev pub event_of : ℕ → Has → Said → Option Event
-event_of lib has (grant_write ino) = Some (Grant lib ino Write)
-event_of lib has (allot pages numbers) = Some (Allot lib pages numbers)
-event_of lib has (poke at offset bytes) = None
-event_of lib has (release inos pages numbers) =
+abbrev pub event_of : ℕ → Has → RawLine → Option Event
+event_of lib has (GrantWrite ino) = Some (Grant lib ino Write)
+event_of lib has (AllotLine pages numbers) = Some (Allot lib pages numbers)
+event_of lib has (Poke at offset bytes) = None
+event_of lib has (ReleaseLine inos pages numbers) =
     if has_all_of has inos pages numbers then Some (Release lib (bundle_of has inos pages numbers)) else None
 
 -- what a line is told that asks nothing: whether its bytes were written, or that the library lacks what it names
-abbrev pub told_alone : Has → Said → Told
-told_alone has (poke at offset bytes) = if is_some (poked has at offset bytes) then told_poked else absent
-told_alone has _ = absent
+abbrev pub told_alone : Has → RawLine → LineAnswer
+told_alone has (Poke at offset bytes) = if is_some (poked has at offset bytes) then answered.Poked else answered.Absent
+told_alone has _ = answered.Absent
 
 -- the things once bytes were written, where they could be
 abbrev pub has_poked : Has → Option Has → Has
@@ -45,27 +47,27 @@ has_poked has (Some after) = after
 has_poked has None = has
 
 -- what the library has after a line that asks nothing
-abbrev pub has_alone : Has → Said → Has
-has_alone has (poke at offset bytes) = has_poked has (poked has at offset bytes)
+abbrev pub has_alone : Has → RawLine → Has
+has_alone has (Poke at offset bytes) = has_poked has (poked has at offset bytes)
 has_alone has _ = has
 
 -- how a refusal of a grant is told; want of memory isn't
-abbrev pub told_fault : GrantFault → Option Told
-told_fault NotLive = Some not_live
-told_fault (Denied ino) = Some (denied ino)
-told_fault NoParent = Some no_parent
-told_fault (Busy holder) = Some busy
+abbrev pub told_fault : GrantFault → Option LineAnswer
+told_fault NotLive = Some answered.NotLive
+told_fault (Denied ino) = Some (answered.Denied ino)
+told_fault NoParent = Some answered.NoParent
+told_fault (Busy holder) = Some answered.Busy
 told_fault NoGrantMemory = None
 
 -- how the controller's answer is told; None for one that no line is told, want of memory among them
-abbrev pub told_of : Answer → Option Told
-told_of (Granted children) = Some granted
+abbrev pub told_of : Answer → Option LineAnswer
+told_of (Granted children) = Some answered.Granted
 told_of (NotGranted fault) = told_fault fault
-told_of (Given pages numbers) = Some (allotted pages numbers)
-told_of (NoPages wanted free) = Some (no_pages wanted free)
-told_of (NoInodes wanted free) = Some (no_inodes wanted free)
-told_of Accepted = Some accepted
-told_of (Refused why) = Some refused
+told_of (Given pages numbers) = Some (answered.Allotted pages numbers)
+told_of (NoPages wanted free) = Some (answered.NoPages wanted free)
+told_of (NoInodes wanted free) = Some (answered.NoInodes wanted free)
+told_of Accepted = Some answered.Accepted
+told_of (Refused why) = Some answered.Refused
 told_of _ = None
 
 -- the things with the file that a write grant on a live file lends, as it is lent
@@ -75,24 +77,24 @@ has_lent lib s has ino None = has
 
 -- What the library has after the controller's answer in this state: a granted file beside what it had; allotted pages, all zero,
 -- and numbers; and without what a release handed in.
-abbrev pub has_after : ℕ → State → Has → Said → Answer → Has
-has_after lib s has (grant_write ino) (Granted children) = has_lent lib s has ino (row_at s.home ino)
-has_after lib s has (allot wanted_pages wanted_numbers) (Given pages numbers) = with_allotted has pages numbers
-has_after lib s has (release inos pages numbers) Accepted = rest_of has inos pages numbers
-has_after lib s has (release inos pages numbers) (Refused why) = rest_of has inos pages numbers
+abbrev pub has_after : ℕ → State → Has → RawLine → Answer → Has
+has_after lib s has (GrantWrite ino) (Granted children) = has_lent lib s has ino (row_at s.home ino)
+has_after lib s has (AllotLine wanted_pages wanted_numbers) (Given pages numbers) = with_allotted has pages numbers
+has_after lib s has (ReleaseLine inos pages numbers) Accepted = rest_of has inos pages numbers
+has_after lib s has (ReleaseLine inos pages numbers) (Refused why) = rest_of has inos pages numbers
 has_after lib s has said answer = has
 
 -- ---- a line
 
 -- a line that asks nothing
-pub record Alone (p : Player) (said : Said) (told : Told) (moves : List Move) (p' : Player) : Type 0 where
+pub record Alone (p : Player) (said : RawLine) (told : LineAnswer) (moves : List Move) (p' : Player) : Type 0 where
   pub told_is : told ≡ told_alone p.has said
   pub moves_are : moves ≡ []
   pub state : p'.state ≡ p.state
   pub has : p'.has ≡ has_alone p.has said
 
 -- a line that asks this event: the controller takes one step, and its answer is told
-pub record Asks (lib : ℕ) (p : Player) (said : Said) (event : Event) (told : Told) (moves : List Move) (p' : Player) : Type 0 where
+pub record Asks (lib : ℕ) (p : Player) (said : RawLine) (event : Event) (told : LineAnswer) (moves : List Move) (p' : Player) : Type 0 where
   pub answer : Answer
   pub told_is : told_of answer ≡ Some told
   pub step : Step p.state event answer p'.state
@@ -100,14 +102,14 @@ pub record Asks (lib : ℕ) (p : Player) (said : Said) (event : Event) (told : T
   pub has : p'.has ≡ has_after lib p.state p.has said answer
 
 -- one line: it asks nothing, or it is one step of the controller
-abbrev pub PlaysLine : ℕ → Player → Said → Told → List Move → Player → Type 0
+abbrev pub PlaysLine : ℕ → Player → RawLine → LineAnswer → List Move → Player → Type 0
 PlaysLine lib p said told moves p' =
     MatchOption (event_of lib p.has said) (Alone p said told moves p') (λ event. Asks lib p said event told moves p')
 
 -- ---- a script
 
 -- a line, and what comes of those after it
-pub record Next (lib : ℕ) (p : Player) (said : Said) (told : Told) (moves : List Move) (Rest : Player → List Move → Type 0) : Type 0 where
+pub record Next (lib : ℕ) (p : Player) (said : RawLine) (told : LineAnswer) (moves : List Move) (Rest : Player → List Move → Type 0) : Type 0 where
   pub first : List Move
   pub middle : Player
   pub others : List Move
@@ -116,10 +118,10 @@ pub record Next (lib : ℕ) (p : Player) (said : Said) (told : Told) (moves : Li
   pub moves_are : moves ≡ first ++ others
 
 -- lines one after another: what each is told, all moves in their order, and how it stands at the end
-abbrev pub Plays : ℕ → Player → List SaidLine → List Told → List Move → Player → Type 0
+abbrev pub Plays : ℕ → Player → List ScriptLine → List LineAnswer → List Move → Player → Type 0
 Plays lib p [] [] moves p' = (moves ≡ []) × (p' ≡ p)
 Plays lib p (line ∷ lines) (told ∷ tolds) moves p' =
-    Next lib p line.said told moves (λ middle others. Plays lib middle lines tolds others p')
+    Next lib p line.line told moves (λ middle others. Plays lib middle lines tolds others p')
 Plays lib p [] (told ∷ tolds) moves p' = ⊥
 Plays lib p (line ∷ lines) [] moves p' = ⊥
 
@@ -153,8 +155,8 @@ abbrev pub at_start : Image → List Creds → Player
 at_start image creds = record { state = start image creds; has = nothing }
 
 -- a whole script of library 1 on an image: what each line is told, the lines' moves, and the end with its own
-pub record Played (image : Image) (creds : List Creds) (lines : List SaidLine) : Type 0 where
-  pub tolds : List Told
+pub record Played (image : Image) (creds : List Creds) (lines : List ScriptLine) : Type 0 where
+  pub tolds : List LineAnswer
   pub end : EndAnswer
   pub line_moves : List Move
   pub end_moves : List Move
@@ -164,5 +166,5 @@ pub record Played (image : Image) (creds : List Creds) (lines : List SaidLine) :
   pub end_is : PlaysEnd 1 middle end end_moves last
 
 -- all moves of a script, in their order
-abbrev pub moves_of : {image : Image} {creds : List Creds} {lines : List SaidLine} → Played image creds lines → List Move
+abbrev pub moves_of : {image : Image} {creds : List Creds} {lines : List ScriptLine} → Played image creds lines → List Move
 moves_of played = played.line_moves ++ played.end_moves

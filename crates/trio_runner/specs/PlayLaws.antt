@@ -9,9 +9,9 @@ use Rattle.trio_state.specs.State.{OpenGrant, State}
 use Rattle.trio_state.specs.Kept.{Kept}
 use Rattle.trio_state.specs.Run.{start, IsWhole, Trace, Move}
 use Rattle.trio_raw.specs.InHand.{InHand}
-use Rattle.trio_script.specs.Said.{Said}
-use Rattle.trio_script.specs.Script.{SaidLine}
-use Rattle.trio_report.specs.Answers.{Answer as Told}
+use Rattle.trio_script.specs.declared.line.RawLine.{RawLine}
+use Rattle.trio_script.specs.declared.ScriptLine.{ScriptLine}
+use Rattle.trio_report.specs.declared.answer.LineAnswer.{LineAnswer}
 use Rattle.trio_report.specs.declared.report.EndAnswer.{EndAnswer}
 use Rattle.trio_runner.specs.Play.{Player, PlaysLine, Plays, PlaysEnd, Played, moves_of, at_start}
 
@@ -34,7 +34,7 @@ StartStands =
 -- so it is after each line
 abbrev pub LineStands : Type 0
 LineStands =
-    (lib : ℕ) (p : Player) (said : Said) (told : Told) (moves : List Move) (p' : Player)
+    (lib : ℕ) (p : Player) (said : RawLine) (told : LineAnswer) (moves : List Move) (p' : Player)
     → Stands lib p → PlaysLine lib p said told moves p' → Stands lib p'
 
 -- and after the end
@@ -46,19 +46,19 @@ EndStands =
 -- one line more, at the end
 abbrev pub PlaysMore : Type 0
 PlaysMore =
-    (lib : ℕ) (p : Player) (lines : List SaidLine) (tolds : List Told) (moves : List Move) (middle : Player)
-    (line : SaidLine) (told : Told) (more : List Move) (p' : Player)
-    → Plays lib p lines tolds moves middle → PlaysLine lib middle line.said told more p'
+    (lib : ℕ) (p : Player) (lines : List ScriptLine) (tolds : List LineAnswer) (moves : List Move) (middle : Player)
+    (line : ScriptLine) (told : LineAnswer) (more : List Move) (p' : Player)
+    → Plays lib p lines tolds moves middle → PlaysLine lib middle line.line told more p'
     → Plays lib p (lines ++ line ∷ []) (tolds ++ told ∷ []) (moves ++ more) p'
 
 -- the moves of a whole script are a run of the controller, of events that hand in what was given
 abbrev pub PlayedIsTrace : Type 0
 PlayedIsTrace =
-    (image : Image) (creds : List Creds) (lines : List SaidLine) (played : Played image creds lines)
+    (image : Image) (creds : List Creds) (lines : List ScriptLine) (played : Played image creds lines)
     → IsFit image.core → Verifies image → IsWhole image → Trace (start image creds) (moves_of played)
 
 -- so the states before and after each of them are kept
 abbrev pub PlayedKeeps : Type 0
 PlayedKeeps =
-    (image : Image) (creds : List Creds) (lines : List SaidLine) (played : Played image creds lines) (m : Move)
+    (image : Image) (creds : List Creds) (lines : List ScriptLine) (played : Played image creds lines) (m : Move)
     → IsFit image.core → Verifies image → IsWhole image → In m (moves_of played) → Kept m.before × Kept m.after

@@ -1,14 +1,12 @@
 -- What contracts see of a script that is played.
-use Rattle.std.specs.Prelude.{◌≡◌, List, map, ◌++◌}
+use Rattle.std.specs.Prelude.{◌≡◌, List, ◌++◌}
 use Rattle.trio_rights.specs.declared.rights.Creds.{Creds}
 use Rattle.trio_state.specs.Image.{Image}
 use Rattle.trio_state.specs.State.{State}
 use Rattle.trio_state.specs.Run.{Move}
 use Rattle.trio_raw.specs.Held.{Held}
-use Rattle.trio_script.specs.Said.{Said}
-use Rattle.trio_script.specs.Script.{SaidLine}
-use Rattle.trio_report.specs.Answers.{Answer as Told}
-use Rattle.trio_report.specs.Seen.{answer_seen}
+use Rattle.trio_script.specs.declared.line.RawLine.{RawLine}
+use Rattle.trio_script.specs.declared.ScriptLine.{ScriptLine}
 use Rattle.trio_report.specs.declared.answer.LineAnswer.{LineAnswer}
 use Rattle.trio_report.specs.declared.report.EndAnswer.{EndAnswer}
 use Rattle.trio_ctl.specs.Ctl.{IsLibrary}
@@ -25,17 +23,17 @@ pub record IsReady (s : State) (h : Held) : Type 0 where
   pub library : IsLibrary h.lib s
 
 -- a line was played, and told this
-pub record LinePlayed (said : Said) (told : Told) (s : State) (h : Held) (s' : State) (h' : Held) : Type 0 where
+pub record LinePlayed (said : RawLine) (told : LineAnswer) (s : State) (h : Held) (s' : State) (h' : Held) : Type 0 where
   pub moves : List Move
   pub line : PlaysLine h.lib.0 (player s h) said told moves (player s' h')
   pub lib : h'.lib ≡ h.lib
 
 -- lines were played, their answers stand behind those before, and another line may be played
-pub record LinesPlayed (lines : List SaidLine) (s : State) (h : Held) (before : List LineAnswer) (s' : State) (h' : Held) (after : List LineAnswer) : Type 0 where
-  pub tolds : List Told
+pub record LinesPlayed (lines : List ScriptLine) (s : State) (h : Held) (before : List LineAnswer) (s' : State) (h' : Held) (after : List LineAnswer) : Type 0 where
+  pub tolds : List LineAnswer
   pub moves : List Move
   pub lines_are : Plays h.lib.0 (player s h) lines tolds moves (player s' h')
-  pub told : map answer_seen after ≡ map answer_seen before ++ tolds
+  pub told : after ≡ before ++ tolds
   pub lib : h'.lib ≡ h.lib
   pub ready : IsReady s' h'
 
@@ -45,8 +43,8 @@ pub record EndPlayed (end : EndAnswer) (s : State) (h : Held) (s' : State) (h' :
   pub end_is : PlaysEnd h.lib.0 (player s h) end moves (player s' h')
 
 -- a whole script was played on an image: the answers stand behind those before, the end was told this, and this is the state
-pub record ScriptPlayed (image : Image) (creds : List Creds) (lines : List SaidLine) (before after : List LineAnswer) (told_end : EndAnswer) (s' : State) : Type 0 where
+pub record ScriptPlayed (image : Image) (creds : List Creds) (lines : List ScriptLine) (before after : List LineAnswer) (told_end : EndAnswer) (s' : State) : Type 0 where
   pub played : Played image creds lines
-  pub told : map answer_seen after ≡ map answer_seen before ++ played.tolds
+  pub told : after ≡ before ++ played.tolds
   pub end : played.end ≡ told_end
   pub last : played.last.state ≡ s'

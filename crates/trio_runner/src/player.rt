@@ -9,10 +9,6 @@ ghost use Rattle.trio_state.specs.Run.{start};
 ghost use Rattle.trio_state.specs.Step.{Release, Step};
 ghost use Rattle.trio_raw.specs.Held.{HasPlaces, file_of};
 ghost use Rattle.trio_raw.specs.Laws.{with_lent};
-ghost use Rattle.trio_script.specs.Said.{allot, grant_write, poke, release};
-ghost use Rattle.trio_script.specs.Seen.{line_seen, script_line_seen};
-ghost use Rattle.trio_report.specs.Answers.{allotted};
-ghost use Rattle.trio_report.specs.Seen.{answer_seen};
 ghost use Rattle.trio_ctl.specs.Answers.{allot_fault_answer, verdict_of};
 ghost use Rattle.trio_ctl.specs.Ctl.{IsLibrary};
 ghost use Rattle.trio_runner.specs.Play.{at_start, has_alone, told_alone, told_fault, told_of};
@@ -23,6 +19,7 @@ use std::alloc::Global;
 use trio_ctl::Ctl;
 use trio_lease::{Allotted, Bundle, FreshIno, FreshPage, Lease, WriteLease};
 use trio_nodes::{AllotFault, GrantFault, GrantKind, ReleaseAnswer, ReleaseFault, Spot};
+use trio_nodes::{AllotFault, GrantFault, List, ReleaseAnswer, ReleaseFault, Spot};
 use trio_page::{NoMemory, Reads};
 use trio_raw::{Raw, RawFault};
 use trio_report::{EndAnswer, LineAnswer};
@@ -43,7 +40,7 @@ pub fn play(
     requires kept { Kept ctl.old.state }
     requires library { 1 ≤ length ctl.old.state.creds }
     requires at_start { ctl.old.state ≡ start ctl.old.state.home ctl.old.state.creds }
-    ensures { IfOk result (λ end. ScriptPlayed ctl.old.state.home ctl.old.state.creds (map script_line_seen lines.now) answers.old.items answers.new.items end ctl.new.state) }
+    ensures { IfOk result (λ end. ScriptPlayed ctl.old.state.home ctl.old.state.creds lines.now answers.old.items answers.new.items end ctl.new.state) }
 {
     let mut raw = Raw::new(alloc, LibNo(1));
     let played = play_all(alloc, ctl, &mut raw, lines, answers);
@@ -62,7 +59,7 @@ fn play_all(
     requires ready { IsReady ctl.old.state raw.old }
     requires first { raw.old.lib.0 ≡ 1 }
     requires at_start { player ctl.old.state raw.old ≡ at_start ctl.old.state.home ctl.old.state.creds }
-    ensures { IfOk result (λ end. ScriptPlayed ctl.old.state.home ctl.old.state.creds (map script_line_seen lines.now) answers.old.items answers.new.items end ctl.new.state) }
+    ensures { IfOk result (λ end. ScriptPlayed ctl.old.state.home ctl.old.state.creds lines.now answers.old.items answers.new.items end ctl.new.state) }
 {
     play_lines(alloc, ctl, raw, lines, answers)?;
     play_end(ctl, raw)
@@ -77,7 +74,7 @@ fn play_lines(
     answers: &mut Vec<LineAnswer>,
 ) -> Result<(), NoMemory>
     requires { IsReady ctl.old.state raw.old }
-    ensures { OnOk result (LinesPlayed (map script_line_seen lines.now) ctl.old.state raw.old answers.old.items ctl.new.state raw.new answers.new.items) }
+    ensures { OnOk result (LinesPlayed lines.now ctl.old.state raw.old answers.old.items ctl.new.state raw.new answers.new.items) }
 {
     for line in lines {
         let answer = play_line(alloc, ctl, raw, &line.line)?;
@@ -94,24 +91,24 @@ fn play_line(
     line: &RawLine,
 ) -> Result<LineAnswer, NoMemory>
     requires { IsReady ctl.old.state raw.old }
-    ensures { IfOk result (λ answer. LinePlayed (line_seen line.now) (answer_seen answer) ctl.old.state raw.old ctl.new.state raw.new) }
+    ensures { IfOk result (λ answer. LinePlayed line.now answer ctl.old.state raw.old ctl.new.state raw.new) }
 {
     match line {
         RawLine::GrantWrite(ino) => play_grant(ctl, raw, *ino),
         RawLine::Allot { pages, inodes } => play_allot(alloc, ctl, raw, *pages, *inodes),
-        RawLine::Poke { at, offset, bytes } => Ok(play_poke(raw, *at, *offset, bytes)),
+        RawLine::Poke { at, offset, bytes } => Ok(play_poke(raw, *at, *offset, bytes.as_slice())),
         RawLine::Release {
             inos,
             pages,
             inodes,
-        } => play_release(ctl, raw, inos, pages, inodes),
+        } => play_release(ctl, raw, inos.as_slice(), pages.as_slice(), inodes.as_slice()),
     }
 }
 
 /// Asks for a write grant, and keeps the lease.
 fn play_grant(ctl: &mut Ctl, raw: &mut Raw, ino: u32) -> Result<LineAnswer, NoMemory>
     requires { IsReady ctl.old.state raw.old }
-    ensures { IfOk result (λ answer. LinePlayed (grant_write ino) (answer_seen answer) ctl.old.state raw.old ctl.new.state raw.new) }
+    ensures { IfOk result (λ answer. LinePlayed (RawLine.GrantWrite ino) answer ctl.old.state raw.old ctl.new.state raw.new) }
 {
     raw.reserve_lease()?;
     match ctl.grant(raw.lib(), ino, GrantKind::Write) {
@@ -142,7 +139,7 @@ fn keep_lease(raw: &mut Raw, lease: WriteLease)
 
 /// How a line is answered whose grant was not given. Want of memory is no answer.
 fn fault_answer(fault: GrantFault) -> Result<LineAnswer, NoMemory>
-    ensures { IfOk result (λ answer. told_fault fault ≡ Some (answer_seen answer)) }
+    ensures { IfOk result (λ answer. told_fault fault ≡ Some answer) }
 {
     match fault {
         GrantFault::NotLive => Ok(LineAnswer::NotLive),
@@ -163,7 +160,7 @@ fn play_allot(
     inodes: u32,
 ) -> Result<LineAnswer, NoMemory>
     requires { IsReady ctl.old.state raw.old }
-    ensures { IfOk result (λ answer. LinePlayed (allot pages inodes) (answer_seen answer) ctl.old.state raw.old ctl.new.state raw.new) }
+    ensures { IfOk result (λ answer. LinePlayed (RawLine.Allot pages inodes) answer ctl.old.state raw.old ctl.new.state raw.new) }
 {
     match ctl.allot(raw.lib(), pages, inodes) {
         Ok(given) => keep_allotted(alloc, raw, given),
@@ -173,7 +170,7 @@ fn play_allot(
 
 /// Adds what an allotment gave, and tells its numbers. After want of memory it is let go.
 fn keep_allotted(alloc: Global, raw: &mut Raw, given: Allotted) -> Result<LineAnswer, NoMemory>
-    ensures told { IfOk result (λ answer. answer_seen answer ≡ allotted (page_numbers given.pages.items) (inode_numbers given.inodes.items)) }
+    ensures told { IfOk result (λ answer. answer ≡ LineAnswer.Allotted (page_numbers given.pages.items) (inode_numbers given.inodes.items)) }
     ensures has { OnOk result (raw.new.has ≡ record raw.old.has { pages = raw.old.has.pages ++ map fresh_sheet given.pages.items; numbers = raw.old.has.numbers ++ inode_numbers given.inodes.items }) }
     ensures lib { raw.new.lib ≡ raw.old.lib }
 {
@@ -195,11 +192,11 @@ fn keep_allotted(alloc: Global, raw: &mut Raw, given: Allotted) -> Result<LineAn
 
 /// The answer that tells the numbers of what an allotment gave.
 fn allotted_answer(alloc: Global, given: &Allotted) -> Result<LineAnswer, NoMemory>
-    ensures { IfOk result (λ answer. answer_seen answer ≡ allotted (page_numbers given.now.pages.items) (inode_numbers given.now.inodes.items)) }
+    ensures { IfOk result (λ answer. answer ≡ LineAnswer.Allotted (page_numbers given.now.pages.items) (inode_numbers given.now.inodes.items)) }
 {
     Ok(LineAnswer::Allotted {
-        pages: numbers_of_pages(alloc, &given.pages)?,
-        inodes: numbers_of_inodes(alloc, &given.inodes)?,
+        pages: List::from_vec(numbers_of_pages(alloc, &given.pages)?),
+        inodes: List::from_vec(numbers_of_inodes(alloc, &given.inodes)?),
     })
 }
 
@@ -217,7 +214,7 @@ fn numbers_of_inodes(alloc: Global, inodes: &[FreshIno]) -> Result<Vec<u32>, NoM
 
 /// How a line is answered that wants more than is free. Want of memory is no answer.
 fn want_answer(fault: AllotFault) -> Result<LineAnswer, NoMemory>
-    ensures { IfOk result (λ answer. told_of (allot_fault_answer fault) ≡ Some (answer_seen answer)) }
+    ensures { IfOk result (λ answer. told_of (allot_fault_answer fault) ≡ Some answer) }
 {
     match fault {
         AllotFault::NoPages { wanted, free } => Ok(LineAnswer::NoPages { wanted, free }),
@@ -228,8 +225,8 @@ fn want_answer(fault: AllotFault) -> Result<LineAnswer, NoMemory>
 
 /// Writes bytes into what the library has. Nobody is asked.
 fn play_poke(raw: &mut Raw, at: Spot, offset: u32, bytes: &[u8]) -> LineAnswer
-    ensures answer { answer_seen result ≡ told_alone raw.old.has (poke at offset bytes.now) }
-    ensures has { raw.new.has ≡ has_alone raw.old.has (poke at offset bytes.now) }
+    ensures answer { result ≡ told_alone raw.old.has (RawLine.Poke at offset bytes.now) }
+    ensures has { raw.new.has ≡ has_alone raw.old.has (RawLine.Poke at offset bytes.now) }
     ensures lib { raw.new.lib ≡ raw.old.lib }
 {
     if raw.poke(at, offset, bytes) {
@@ -248,7 +245,7 @@ fn play_release(
     inodes: &[u32],
 ) -> Result<LineAnswer, NoMemory>
     requires { IsReady ctl.old.state raw.old }
-    ensures { IfOk result (λ answer. LinePlayed (release inos.now pages.now inodes.now) (answer_seen answer) ctl.old.state raw.old ctl.new.state raw.new) }
+    ensures { IfOk result (λ answer. LinePlayed (RawLine.Release inos.now pages.now inodes.now) answer ctl.old.state raw.old ctl.new.state raw.new) }
 {
     let bundle = match raw.take(inos, pages, inodes) {
         Ok(bundle) => bundle,

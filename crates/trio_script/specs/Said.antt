@@ -3,30 +3,25 @@ use Rattle.std.specs.Prelude.{ℕ, List, [], ◌∷◌, Option, None, Some, if�
 use Rattle.std.specs.Str.{bytes_eq}
 use Rattle.trio_nodes.specs.declared.spot.Spot.{Spot}
 use Rattle.trio_nodes.specs.declared.spot.Spot.TheVariants.{Body, Index, Block, Fresh}
+use Rattle.trio_script.specs.declared.line.RawLine.{RawLine}
+use Rattle.trio_script.specs.declared.line.RawLine.TheVariants.{GrantWrite, Allot, Poke, Release}
 use Rattle.trio_script.specs.Words.{words_of, number_of, hex_of, list_of}
 
--- what a line of a hostile library says
-pub data Said : Type 0 where
-  grant_write : (ino : ℕ) → Said
-  allot : (pages inodes : ℕ) → Said
-  poke : (at : Spot) (offset : ℕ) (bytes : List ℕ) → Said
-  release : (inos pages inodes : List ℕ) → Said
-
-abbrev pub granted : Option ℕ → Option Said
-granted (Some ino) = Some (grant_write ino)
+abbrev pub granted : Option ℕ → Option RawLine
+granted (Some ino) = Some (GrantWrite ino)
 granted None = None
 
 -- behind `grant`: `write INO`
-abbrev pub grant_in : List (List ℕ) → Option Said
+abbrev pub grant_in : List (List ℕ) → Option RawLine
 grant_in (right ∷ ino ∷ []) = if bytes_eq right (codes "write") then granted (number_of ino) else None
 grant_in _ = None
 
-abbrev pub allotted : Option ℕ → Option ℕ → Option Said
-allotted (Some pages) (Some inodes) = Some (allot pages inodes)
+abbrev pub allotted : Option ℕ → Option ℕ → Option RawLine
+allotted (Some pages) (Some inodes) = Some (Allot pages inodes)
 allotted _ _ = None
 
 -- behind `allot`: `PAGES INODES`
-abbrev pub allot_in : List (List ℕ) → Option Said
+abbrev pub allot_in : List (List ℕ) → Option RawLine
 allot_in (pages ∷ inodes ∷ []) = allotted (number_of pages) (number_of inodes)
 allot_in _ = None
 
@@ -44,27 +39,27 @@ part_spot place (Some ino) (Some i) =
     (if bytes_eq place (codes "block") then Some (Block ino i) else None)
 part_spot place _ _ = None
 
-abbrev pub poked : Option Spot → Option ℕ → Option (List ℕ) → Option Said
-poked (Some at) (Some offset) (Some bytes) = Some (poke at offset bytes)
+abbrev pub poked : Option Spot → Option ℕ → Option (List ℕ) → Option RawLine
+poked (Some at) (Some offset) (Some bytes) = Some (Poke at offset bytes)
 poked _ _ _ = None
 
 -- behind `poke`: `body INO OFF HEX`, `index INO I OFF HEX`, `block INO I OFF HEX` or `fresh PAGE OFF HEX`
-abbrev pub poke_in : List (List ℕ) → Option Said
+abbrev pub poke_in : List (List ℕ) → Option RawLine
 poke_in (place ∷ number ∷ offset ∷ hex ∷ []) = poked (whole_spot place (number_of number)) (number_of offset) (hex_of hex)
 poke_in (place ∷ ino ∷ i ∷ offset ∷ hex ∷ []) = poked (part_spot place (number_of ino) (number_of i)) (number_of offset) (hex_of hex)
 poke_in _ = None
 
-abbrev pub released : Option (List ℕ) → Option (List ℕ) → Option (List ℕ) → Option Said
-released (Some inos) (Some pages) (Some inodes) = Some (release inos pages inodes)
+abbrev pub released : Option (List ℕ) → Option (List ℕ) → Option (List ℕ) → Option RawLine
+released (Some inos) (Some pages) (Some inodes) = Some (Release inos pages inodes)
 released _ _ _ = None
 
 -- behind `release`: `INOS PAGES INODES`, three lists
-abbrev pub release_in : List (List ℕ) → Option Said
+abbrev pub release_in : List (List ℕ) → Option RawLine
 release_in (inos ∷ pages ∷ inodes ∷ []) = released (list_of inos) (list_of pages) (list_of inodes)
 release_in _ = None
 
 -- the four forms, by their first word
-abbrev pub said_in : List (List ℕ) → Option Said
+abbrev pub said_in : List (List ℕ) → Option RawLine
 said_in (command ∷ words) =
     if bytes_eq command (codes "grant") then grant_in words else
     (if bytes_eq command (codes "allot") then allot_in words else
@@ -73,5 +68,5 @@ said_in (command ∷ words) =
 said_in [] = None
 
 -- what a line says, where it has one of the four forms
-abbrev pub line_said : List ℕ → Option Said
+abbrev pub line_said : List ℕ → Option RawLine
 line_said line = said_in (words_of line)

@@ -1,8 +1,12 @@
 -- What a script says, line by line.
-use Rattle.std.specs.Prelude.{ℕ, ◌+◌, ◌==◌, nat_lt, Bool, true, false, ◌||◌, List, [], ◌∷◌, ◌++◌, length, Option, None, Some, is_some, if◌then◌else◌, codes, take}
+use Rattle.std.specs.Prelude.{◌≡◌, ℕ, ◌+◌, ◌==◌, nat_lt, Bool, true, false, ◌||◌, List, [], ◌∷◌, ◌++◌, length, Option, None, Some, is_some, if◌then◌else◌, codes, take, ⊤}
 use Rattle.std.specs.List.{list_any}
 use Rattle.std.specs.Str.{bytes_eq}
-use Rattle.trio_script.specs.Said.{Said, line_said}
+use Rattle.trio_script.specs.declared.line.RawLine.{RawLine}
+use Rattle.trio_script.specs.declared.ScriptLine.{ScriptLine}
+use Rattle.trio_script.specs.declared.ScriptFault.{ScriptFault}
+use Rattle.trio_script.specs.declared.ScriptFault.TheVariants.{Unbuilt, NoMemory}
+use Rattle.trio_script.specs.Said.{line_said}
 
 -- The bytes cut at each line end (10), which belongs to no line. What follows the last line end is a line where it has bytes.
 abbrev pub cut_lines : List ℕ → List ℕ → List (List ℕ)
@@ -48,21 +52,22 @@ unbuilt_line script =
 abbrev pub unbuilt_at : ℕ → Bool → List (List ℕ) → ℕ
 unbuilt_at number begun lines = if begun || list_any names_library lines then number else 1
 
--- a line that has one of the four forms, with its number
-pub record SaidLine : Type 0 where
-  pub number : ℕ
-  pub said : Said
+-- this line is the first that isn't built, or there was no memory to read the script
+abbrev pub IsUnbuilt : List ℕ → ScriptFault → Type 0
+IsUnbuilt script (Unbuilt number) = unbuilt_line script ≡ Some number
+IsUnbuilt script NoMemory = ⊤
 
-abbrev pub said_at : ℕ → Option Said → List SaidLine
-said_at number (Some said) = record { number = number; said = said } ∷ []
+-- what a line says, with its number, where it has one of the four forms
+abbrev pub said_at : ℕ → Option RawLine → List ScriptLine
+said_at number (Some line) = record { number = number; line = line } ∷ []
 said_at number None = []
 
 -- the lines from `number` on that have one of the four forms
-abbrev pub said_from : ℕ → List (List ℕ) → List SaidLine
+abbrev pub said_from : ℕ → List (List ℕ) → List ScriptLine
 said_from number [] = []
 said_from number (line ∷ lines) = said_at number (line_said line) ++ said_from (number + 1) lines
 
 -- What a script says: its lines that have one of the four forms, with their numbers, counted from 1. Where the script is built,
 -- these are all lines that say something, but the library's.
-abbrev pub script_lines : List ℕ → List SaidLine
+abbrev pub script_lines : List ℕ → List ScriptLine
 script_lines script = said_from 1 (lines_of script)

@@ -14,11 +14,10 @@
 //! takes a time of k log k. Beside the answer, memory is taken for the words of one line at a time.
 #![tactic(auto)]
 
-ghost use Rattle.std.specs.Prelude.{◌≡◌, ◌∷◌, ◌++◌, ◌<◌, ◌≤◌, length, map, IfOk, MatchOption, MatchResult, None, Some, if◌then◌else◌};
+ghost use Rattle.std.specs.Prelude.{◌≡◌, ◌∷◌, ◌++◌, ◌<◌, ◌≤◌, length, IfOk, MatchOption, MatchResult, None, Some, if◌then◌else◌};
 ghost use Rattle.std.specs.List.{list_any};
 ghost use Rattle.trio_script.specs.Ends.{EndsLine, IsPlain};
-ghost use Rattle.trio_script.specs.Script.{lines_of, is_silent, names_library, is_library_line, unbuilt_line, unbuilt_at, script_lines};
-ghost use Rattle.trio_script.specs.Seen.{script_line_seen, IsUnbuilt};
+ghost use Rattle.trio_script.specs.Script.{lines_of, is_silent, names_library, is_library_line, unbuilt_line, unbuilt_at, script_lines, IsUnbuilt};
 ghost use Rattle.trio_script.specs.Taken.{Takes};
 
 mod line;
@@ -71,7 +70,7 @@ impl From<NoMemory> for ScriptFault {
 /// first line that isn't built; line 16,385 is never built.
 pub fn read_script(alloc: Global, bytes: &[u8]) -> Result<Vec<ScriptLine>, ScriptFault>
     ensures built { MatchResult result (λ _. unbuilt_line bytes.now ≡ None) (IsUnbuilt bytes.now) }
-    ensures lines { IfOk result (λ lines. map script_line_seen lines.items ≡ script_lines bytes.now) }
+    ensures lines { IfOk result (λ lines. lines.items ≡ script_lines bytes.now) }
 {
     let mut lines = Vec::new(alloc);
     let mut rest = bytes;
@@ -100,7 +99,7 @@ fn take_line(
     line: &[u8],
     lines: &mut Vec<ScriptLine>,
 ) -> Result<bool, NoMemory>
-    ensures { IfOk result (Takes number line.now begun.old begun.new (map script_line_seen lines.old.items) (map script_line_seen lines.new.items)) }
+    ensures { IfOk result (Takes number line.now begun.old begun.new lines.old.items lines.new.items) }
 {
     if number > LINE_LIMIT {
         return Ok(false);

@@ -1,14 +1,12 @@
 //! What the lines of a hostile library say.
 
 ghost use Rattle.std.specs.Prelude.{◌≡◌, IfOk, map};
-ghost use Rattle.std.specs.Option.{option_map};
 ghost use Rattle.trio_script.specs.Said.{grant_in, allot_in, whole_spot, part_spot, poked, poke_in, released, release_in, said_in, line_said};
-ghost use Rattle.trio_script.specs.Seen.{line_seen};
 ghost use Rattle.trio_script.specs.Words.{number_of, hex_of};
 
 use crate::word::{parts, read_hex, read_list, read_number};
 use std::alloc::Global;
-use trio_nodes::Spot;
+use trio_nodes::{Bytes, List, Spot};
 use trio_page::NoMemory;
 
 /// What a line of a hostile library says.
@@ -26,26 +24,26 @@ pub enum RawLine {
     Poke {
         at: Spot,
         offset: u32,
-        bytes: Vec<u8>,
+        bytes: Bytes,
     },
     /// `release INOS PAGES INODES`: these files, and these allotted pages and inode numbers, are
     /// given back. No number stands twice in a list.
     Release {
-        inos: Vec<u32>,
-        pages: Vec<u32>,
-        inodes: Vec<u32>,
+        inos: List<u32>,
+        pages: List<u32>,
+        inodes: List<u32>,
     },
 }
 
 /// What a line says, where it has one of the four forms of [`RawLine`].
 pub fn read_line(alloc: Global, line: &[u8]) -> Result<Option<RawLine>, NoMemory>
-    ensures { IfOk result (λ said. option_map line_seen said ≡ line_said line.now) }
+    ensures { IfOk result (λ said. said ≡ line_said line.now) }
 {
     read_words(alloc, &parts(alloc, line, b' ')?)
 }
 
 fn read_words(alloc: Global, words: &[&[u8]]) -> Result<Option<RawLine>, NoMemory>
-    ensures { IfOk result (λ said. option_map line_seen said ≡ said_in (map (λ word. word.now) words.now)) }
+    ensures { IfOk result (λ said. said ≡ said_in (map (λ word. word.now) words.now)) }
 {
     let Some((command, words)) = words.split_first() else {
         return Ok(None);
@@ -64,7 +62,7 @@ fn read_words(alloc: Global, words: &[&[u8]]) -> Result<Option<RawLine>, NoMemor
 }
 
 fn read_grant(words: &[&[u8]]) -> Option<RawLine>
-    ensures { option_map line_seen result ≡ grant_in (map (λ word. word.now) words.now) }
+    ensures { result ≡ grant_in (map (λ word. word.now) words.now) }
 {
     let [right, ino] = words else {
         return None;
@@ -76,7 +74,7 @@ fn read_grant(words: &[&[u8]]) -> Option<RawLine>
 }
 
 fn read_allot(words: &[&[u8]]) -> Option<RawLine>
-    ensures { option_map line_seen result ≡ allot_in (map (λ word. word.now) words.now) }
+    ensures { result ≡ allot_in (map (λ word. word.now) words.now) }
 {
     let [pages, inodes] = words else {
         return None;
@@ -88,7 +86,7 @@ fn read_allot(words: &[&[u8]]) -> Option<RawLine>
 }
 
 fn read_poke(alloc: Global, words: &[&[u8]]) -> Result<Option<RawLine>, NoMemory>
-    ensures { IfOk result (λ said. option_map line_seen said ≡ poke_in (map (λ word. word.now) words.now)) }
+    ensures { IfOk result (λ said. said ≡ poke_in (map (λ word. word.now) words.now)) }
 {
     match words {
         [place, number, offset, hex] => Ok(poked(
@@ -127,8 +125,8 @@ fn part_spot(place: &[u8], ino: Option<u32>, i: Option<u32>) -> Option<Spot>
     }
 }
 
-fn poked(at: Option<Spot>, offset: Option<u32>, bytes: Option<Vec<u8>>) -> Option<RawLine>
-    ensures { option_map line_seen result ≡ poked at offset (option_map (λ bs. bs.items) bytes) }
+fn poked(at: Option<Spot>, offset: Option<u32>, bytes: Option<Bytes>) -> Option<RawLine>
+    ensures { result ≡ poked at offset bytes }
 {
     Some(RawLine::Poke {
         at: at?,
@@ -138,7 +136,7 @@ fn poked(at: Option<Spot>, offset: Option<u32>, bytes: Option<Vec<u8>>) -> Optio
 }
 
 fn read_release(alloc: Global, words: &[&[u8]]) -> Result<Option<RawLine>, NoMemory>
-    ensures { IfOk result (λ said. option_map line_seen said ≡ release_in (map (λ word. word.now) words.now)) }
+    ensures { IfOk result (λ said. said ≡ release_in (map (λ word. word.now) words.now)) }
 {
     let [inos, pages, inodes] = words else {
         return Ok(None);
@@ -151,11 +149,11 @@ fn read_release(alloc: Global, words: &[&[u8]]) -> Result<Option<RawLine>, NoMem
 }
 
 fn released(
-    inos: Option<Vec<u32>>,
-    pages: Option<Vec<u32>>,
-    inodes: Option<Vec<u32>>,
+    inos: Option<List<u32>>,
+    pages: Option<List<u32>>,
+    inodes: Option<List<u32>>,
 ) -> Option<RawLine>
-    ensures { option_map line_seen result ≡ released (option_map (λ ns. ns.items) inos) (option_map (λ ns. ns.items) pages) (option_map (λ ns. ns.items) inodes) }
+    ensures { result ≡ released inos pages inodes }
 {
     Some(RawLine::Release {
         inos: inos?,

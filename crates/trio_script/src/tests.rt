@@ -1,6 +1,6 @@
 use super::*;
 use std::test::Fail;
-use trio_nodes::Spot;
+use trio_nodes::{List, Spot};
 
 /// What the second line of a script says whose first is the library's.
 fn second_line(alloc: Global, line: &[u8]) -> Result<Result<Vec<ScriptLine>, ScriptFault>, Fail> {
@@ -14,7 +14,7 @@ fn second_line(alloc: Global, line: &[u8]) -> Result<Result<Vec<ScriptLine>, Scr
 #[test]
 fn lines_are_read(rt: HostRuntime) -> Result<(), Fail> {
     let alloc = rt.alloc();
-    let none = || Vec::new(alloc);
+    let none = || List::from_vec(Vec::new(alloc));
     let rows: [(&[u8], RawLine); 12] = [
         (b"grant write 2", RawLine::GrantWrite(2)),
         (b"grant write 0\n", RawLine::GrantWrite(0)),
@@ -48,7 +48,7 @@ fn lines_are_read(rt: HostRuntime) -> Result<(), Fail> {
             RawLine::Poke {
                 at: Spot::Body(5),
                 offset: 16,
-                bytes: vec![in alloc; 0x00, 0xff]?,
+                bytes: List::from_vec(vec![in alloc; 0x00, 0xff]?),
             },
         ),
         (
@@ -56,7 +56,7 @@ fn lines_are_read(rt: HostRuntime) -> Result<(), Fail> {
             RawLine::Poke {
                 at: Spot::Index(5, 1),
                 offset: 8,
-                bytes: vec![in alloc; 0x0a]?,
+                bytes: List::from_vec(vec![in alloc; 0x0a]?),
             },
         ),
         (
@@ -64,7 +64,7 @@ fn lines_are_read(rt: HostRuntime) -> Result<(), Fail> {
             RawLine::Poke {
                 at: Spot::Block(2, 0),
                 offset: 0,
-                bytes: vec![in alloc; 0x4a, 0x9f]?,
+                bytes: List::from_vec(vec![in alloc; 0x4a, 0x9f]?),
             },
         ),
         (
@@ -72,7 +72,7 @@ fn lines_are_read(rt: HostRuntime) -> Result<(), Fail> {
             RawLine::Poke {
                 at: Spot::Fresh(9),
                 offset: 4095,
-                bytes: vec![in alloc; 0x61]?,
+                bytes: List::from_vec(vec![in alloc; 0x61]?),
             },
         ),
         (
@@ -86,9 +86,9 @@ fn lines_are_read(rt: HostRuntime) -> Result<(), Fail> {
         (
             b"release 2,1,10 9 7,8\n",
             RawLine::Release {
-                inos: vec![in alloc; 2, 1, 10]?,
-                pages: vec![in alloc; 9]?,
-                inodes: vec![in alloc; 7, 8]?,
+                inos: List::from_vec(vec![in alloc; 2, 1, 10]?),
+                pages: List::from_vec(vec![in alloc; 9]?),
+                inodes: List::from_vec(vec![in alloc; 7, 8]?),
             },
         ),
     ];
@@ -167,7 +167,7 @@ fn bytes_are_counted(rt: HostRuntime) -> Result<(), Fail> {
     let poke = RawLine::Poke {
         at: Spot::Fresh(9),
         offset: 0,
-        bytes: vec![in alloc; 0x77; 4096]?,
+        bytes: List::from_vec(vec![in alloc; 0x77; 4096]?),
     };
     let wanted = vec![in alloc;
         ScriptLine {

@@ -7,6 +7,7 @@ ghost use Rattle.trio_script.specs.Words.{is_digit, digits_after, is_numeral, nu
 
 use std::alloc::Global;
 use std::collections::BTreeSet;
+use trio_nodes::{Bytes, List};
 use trio_page::NoMemory;
 
 /// The most bytes that a word may write in hexadecimal digits.
@@ -62,11 +63,11 @@ fn digits_value(digits: &[u8]) -> Option<u32>
 }
 
 /// The bytes that a word writes: two lower-case hexadecimal digits for each of 1 to 4096 bytes.
-pub fn read_hex(alloc: Global, word: &[u8]) -> Result<Option<Vec<u8>>, NoMemory>
-    ensures { IfOk result (λ bytes. option_map (λ bs. bs.items) bytes ≡ hex_of word.now) }
+pub fn read_hex(alloc: Global, word: &[u8]) -> Result<Option<Bytes>, NoMemory>
+    ensures { IfOk result (λ bytes. bytes ≡ hex_of word.now) }
 {
     if is_hex(word) {
-        Ok(Some(hex_bytes(alloc, word)?))
+        Ok(Some(List::from_vec(hex_bytes(alloc, word)?)))
     } else {
         Ok(None)
     }
@@ -115,14 +116,14 @@ fn hex_value(digit: u8) -> u8
 }
 
 /// The numbers of a word, none of them twice: they are joined by commas, and `-` has none.
-pub fn read_list(alloc: Global, word: &[u8]) -> Result<Option<Vec<u32>>, NoMemory>
-    ensures { IfOk result (λ numbers. option_map (λ ns. ns.items) numbers ≡ list_of word.now) }
+pub fn read_list(alloc: Global, word: &[u8]) -> Result<Option<List<u32>>, NoMemory>
+    ensures { IfOk result (λ numbers. numbers ≡ list_of word.now) }
 {
     if word == b"-".as_slice() {
-        return Ok(Some(Vec::new(alloc)));
+        return Ok(Some(List::from_vec(Vec::new(alloc))));
     }
     match read_numbers(alloc, &parts(alloc, word, b',')?)? {
-        Some(numbers) if are_distinct(alloc, &numbers)? => Ok(Some(numbers)),
+        Some(numbers) if are_distinct(alloc, &numbers)? => Ok(Some(List::from_vec(numbers))),
         _ => Ok(None),
     }
 }

@@ -1,5 +1,5 @@
 use Rattle.std.proofs.Common.{arith, ap, ◌∙◌, ◌++◌}
-use Rattle.trio_app.proofs.Ends.{answers_all_seen, answers_put}
+use Rattle.trio_app.proofs.Ends.{answers_all, answers_put}
 use Rattle.trio_app.proofs.run.put_answers.Goals as goal
 
 pub loop-at-preserved : goal.loop-at-preserved
@@ -11,4 +11,4 @@ loop-at-preserved c =
 pub returns : goal.returns
 returns c =
     c.loop-at.invariant
-    ∙ ap (λ bytes. c.args.text.now.items ++ bytes) (answers_all_seen c.args.lines.now c.args.answers.now c.loop-at.at (omega arith))
+    ∙ ap (λ bytes. c.args.text.now.items ++ bytes) (answers_all c.args.lines.now c.args.answers.now c.loop-at.at (omega arith))

@@ -1,5 +1,4 @@
-use Rattle.std.proofs.Common.{◌≡◌, map}
-use Rattle.trio_report.specs.Seen.{line_seen}
+use Rattle.std.proofs.Common.{◌≡◌}
 use Rattle.trio_state.specs.Stored.{core_in}
 use Rattle.trio_state.specs.Tree.{tree_of}
 use Rattle.trio_app.proofs.Ends.{joined}
@@ -8,7 +7,7 @@ use Rattle.trio_app.proofs.run.report.Goals as goal
 pub returns : goal.returns
 returns c =
     let read = c.in_ok-tree.ensures.tree in
-    let tree : map line_seen c.in_ok-tree.tree.items ≡ tree_of (core_in c.args.image.superblock c.args.image.pages) = rw (c.superblock-superblock.ensures.superblock, c.into_parts.ensures.pages) at read in
+    let tree : c.in_ok-tree.tree.items ≡ tree_of (core_in c.args.image.superblock c.args.image.pages) = rw (c.superblock-superblock.ensures.superblock, c.into_parts.ensures.pages) at read in
     let told = c.in_ok-put_tree.ensures in
     let put = rw (c.deref.ensures.value, tree) at told in
     let heading = c.in_ok-put_heading.ensures in

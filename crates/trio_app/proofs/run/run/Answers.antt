@@ -1,5 +1,3 @@
-use Rattle.std.proofs.Common.{map}
-use Rattle.trio_script.specs.Seen.{script_line_seen}
 use Rattle.trio_app.proofs.Ends.{run_end}
 use Rattle.trio_app.proofs.run.run.Goals as goal
 
@@ -11,6 +9,6 @@ returns c =
     let played = c.in_ok-end.ensures in
     let image = c.in-Ok-image.ensures in
     let bytes = c.in_ok-image.ensures in
-    run_end c.args.image.superblock c.in-Ok-image.last.superblock c.args.image.pages c.in-Ok-image.last.pages c.in_ok-vec.field-0.items c.in-Ok.ctl.state c.play.new.ctl.state (map script_line_seen c.args.lines.now)
+    run_end c.args.image.superblock c.in-Ok-image.last.superblock c.args.image.pages c.in-Ok-image.last.pages c.in_ok-vec.field-0.items c.in-Ok.ctl.state c.play.new.ctl.state c.args.lines.now
     c.new-answers.result.items c.play.new.answers.items c.in_ok-end.end c.in_ok-report.report.items c.in_ok-image.image.items
     started.kept c.in_ok-vec.ensures.items started.started c.new-answers.ensures.items played image.tables image.superblock image.stores bytes.bytes bytes.verify text

@@ -1,5 +1,3 @@
-use Rattle.std.proofs.Common.{map}
-use Rattle.trio_script.specs.Seen.{script_line_seen}
 use Rattle.trio_app.proofs.Ends.{turns_done, turns_stop, turns_write_fault}
 use Rattle.trio_app.proofs.turns.turns.Goals as goal
 
@@ -18,7 +16,7 @@ returns-in-Ok-replace g c =
     let read = c.in-Ok.ensures in
     let ran = c.in-Ok-run.ensures in
     let end = rw c.deref.ensures.value at ran in
-    turns_done c.args.image_name.now c.args.script_name.now c.args.out_name.now (g.F.Files.seen c.args.files.now) (g.F.Files.seen c.read_inputs.new.files) (g.F.Files.seen c.replace.new.self) c.in-Ok.inputs.0.superblock c.in-Ok.inputs.0.pages (map script_line_seen c.in-Ok.inputs.1.items)
+    turns_done c.args.image_name.now c.args.script_name.now c.args.out_name.now (g.F.Files.seen c.args.files.now) (g.F.Files.seen c.read_inputs.new.files) (g.F.Files.seen c.replace.new.self) c.in-Ok.inputs.0.superblock c.in-Ok.inputs.0.pages c.in-Ok.inputs.1.items
     c.in-Ok-run.end.report.items c.in-Ok-run.end.image.items read.image read.script read.files end
     (record { others = put.others; writes = put.writes; reads = put.reads; tells = put.tells; serves = put.serves }) written
 
@@ -27,6 +25,6 @@ returns g c =
     let put = c.in-Err-replace.ensures in
     let read = c.in-Ok.ensures in
     let line = c.in-Ok-named_line.ensures in
-    turns_write_fault c.args.image_name.now c.args.script_name.now c.args.out_name.now (g.F.Files.seen c.args.files.now) (g.F.Files.seen c.read_inputs.new.files) (g.F.Files.seen c.replace.new.self) c.in-Ok.inputs.0.superblock c.in-Ok.inputs.0.pages (map script_line_seen c.in-Ok.inputs.1.items)
+    turns_write_fault c.args.image_name.now c.args.script_name.now c.args.out_name.now (g.F.Files.seen c.args.files.now) (g.F.Files.seen c.read_inputs.new.files) (g.F.Files.seen c.replace.new.self) c.in-Ok.inputs.0.superblock c.in-Ok.inputs.0.pages c.in-Ok.inputs.1.items
     c.in-Ok-named_line.fault.items read.image read.script read.files
     (record { others = put.others; writes = put.writes; reads = put.reads; tells = put.tells; serves = put.serves }) put.cause line

@@ -2,7 +2,6 @@ use Rattle.std.proofs.Common.{◌∷◌, [], map, refl, ap, ◌∙◌}
 use Rattle.std.proofs.lemmas.List.{map-append}
 use Rattle.trio_state.specs.Stored.{core_in}
 use Rattle.trio_report.specs.Nodes.{node_seen}
-use Rattle.trio_report.specs.Seen.{line_seen}
 use Rattle.trio_report.proofs.Trees.{begun, visited_at_home}
 use Rattle.trio_report.proofs.tree.tree_lines.Goals as goal
 
@@ -10,7 +9,7 @@ pub loop-next-init : goal.loop-next-init
 loop-next-init c =
     let core = core_in c.args.superblock.now c.args.home.now.pages in
     let one = ap (map node_seen) (rw c.new-pending.ensures.items at c.in_ok-push.ensures.items) in
-    let b = begun core _ _ (map line_seen c.new-lines.result.items) one (ap (map line_seen) c.new-lines.ensures.items) refl refl c.root_file.ensures in
+    let b = begun core _ _ c.new-lines.result.items one c.new-lines.ensures.items refl refl c.root_file.ensures in
     record { same = refl; reached = b.reached; tree = b.lines }
 
 pub loop-next-smaller : goal.loop-next-smaller

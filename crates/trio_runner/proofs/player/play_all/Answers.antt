@@ -1,5 +1,3 @@
-use Rattle.std.proofs.Common.{map}
-use Rattle.trio_script.specs.Seen.{script_line_seen}
 use Rattle.trio_runner.specs.Seen.{EndPlayed, ScriptPlayed}
 use Rattle.trio_runner.proofs.Rounds.{script_played}
 use Rattle.trio_runner.proofs.Turns.{if_ok}
@@ -7,7 +5,7 @@ use Rattle.trio_runner.proofs.player.play_all.Goals as goal
 
 pub returns : goal.returns
 returns c =
-    let lines = map script_line_seen c.args.lines.now in
+    let lines = c.args.lines.now in
     let s = c.args.ctl.now.state in
     let s' = c.play_lines.new.ctl.state in
     let s'' = c.play_end.new.ctl.state in

@@ -1,9 +1,8 @@
 use Rattle.std.proofs.Common.{◌≡◌, ◌++◌, Some, map, rules}
 use Rattle.trio_allot.specs.Out.{inode_numbers, page_numbers}
 use Rattle.trio_state.specs.Handed.{fresh_sheet}
-use Rattle.trio_report.specs.Answers.{allotted}
-use Rattle.trio_report.specs.Seen.{answer_seen}
-use Rattle.trio_script.specs.Said.{allot}
+use Rattle.trio_report.specs.declared.answer.LineAnswer.TheVariants.{Allotted}
+use Rattle.trio_script.specs.declared.line.RawLine.TheVariants.{Allot as AllotLine}
 use Rattle.trio_ctl.specs.Answers.{allot_fault_answer}
 use Rattle.trio_runner.specs.Play.{told_of}
 use Rattle.trio_runner.specs.Seen.{LinePlayed}
@@ -20,10 +19,10 @@ returns-in-Ok c =
     let inodes = c.in-Ok.given.inodes.items in
     let kept = c.keep_allotted.ensures in
     if_both_ok c.keep_allotted.result
-    (λ a. answer_seen a ≡ allotted (page_numbers pages) (inode_numbers inodes))
+    (λ a. a ≡ Allotted (page_numbers pages) (inode_numbers inodes))
     (h'.has ≡ record h.has { pages = h.has.pages ++ map fresh_sheet pages; numbers = h.has.numbers ++ inode_numbers inodes })
-    (λ a. LinePlayed (allot c.args.pages c.args.inodes) (answer_seen a) s h s' h')
-    (λ a told has. allotted_played c.args.pages c.args.inodes pages inodes (answer_seen a) s h s' h' told (search rules) (search rules) has kept.lib)
+    (λ a. LinePlayed (AllotLine c.args.pages c.args.inodes) a s h s' h')
+    (λ a told has. allotted_played c.args.pages c.args.inodes pages inodes a s h s' h' told (search rules) (search rules) has kept.lib)
     kept.told kept.has
 
 pub returns-in-Err : goal.returns-in-Err
@@ -32,7 +31,7 @@ returns-in-Err c =
     let s' = c.allot.new.self.state in
     let h = c.args.raw.now in
     if_ok c.want_answer.result
-    (λ a. told_of (allot_fault_answer c.in-Err.fault) ≡ Some (answer_seen a))
-    (λ a. LinePlayed (allot c.args.pages c.args.inodes) (answer_seen a) s h s' h)
-    (λ a is. unallotted_played c.args.pages c.args.inodes c.in-Err.fault (answer_seen a) s h s' is (search rules))
+    (λ a. told_of (allot_fault_answer c.in-Err.fault) ≡ Some a)
+    (λ a. LinePlayed (AllotLine c.args.pages c.args.inodes) a s h s' h)
+    (λ a is. unallotted_played c.args.pages c.args.inodes c.in-Err.fault a s h s' is (search rules))
     c.want_answer.ensures

@@ -1,6 +1,5 @@
 use Rattle.std.proofs.Common.{rules, ◌≡◌, Some}
-use Rattle.trio_report.specs.Seen.{answer_seen}
-use Rattle.trio_script.specs.Said.{grant_write}
+use Rattle.trio_script.specs.declared.line.RawLine.TheVariants.{GrantWrite}
 use Rattle.trio_runner.specs.Play.{told_fault}
 use Rattle.trio_runner.specs.Seen.{LinePlayed}
 use Rattle.trio_runner.proofs.Turns.{grant_played, fault_played, if_ok}
@@ -17,7 +16,7 @@ returns-in-Err c =
     let s' = c.grant.new.self.state in
     let h' = c.reserve_lease.new.self in
     if_ok c.fault_answer.result
-    (λ a. told_fault c.in-Err.fault ≡ Some (answer_seen a))
-    (λ a. LinePlayed (grant_write c.args.ino) (answer_seen a) s c.args.raw.now s' h')
-    (λ a is. fault_played c.args.ino c.in-Err.fault (answer_seen a) s c.args.raw.now s' h' is (search rules) (search rules) (search rules))
+    (λ a. told_fault c.in-Err.fault ≡ Some a)
+    (λ a. LinePlayed (GrantWrite c.args.ino) a s c.args.raw.now s' h')
+    (λ a is. fault_played c.args.ino c.in-Err.fault a s c.args.raw.now s' h' is (search rules) (search rules) (search rules))
     c.fault_answer.ensures
