@@ -1,67 +1,25 @@
 //! Scripts on an image of 32 pages and 64 inode numbers: the root, with index page 3 and block 4,
 //! lists the regular file `f`, inode number 2, with index page 5 and block 6. Library 1 owns `f`.
 
-ghost use Rattle.std.specs.Prelude.{◌≡◌, IfSome, length};
-
 use super::*;
 use std::alloc::Global;
 use std::test::Fail;
 use trio_ctl::Ctl;
 use trio_image::{bytes_of, read};
 use trio_page::NoMemory;
-use trio_page::field::{put_bytes_in, put_u32_in};
 use trio_report::{EndAnswer, LineAnswer};
 use trio_rights::Creds;
+use trio_samples::files::root;
+use trio_samples::{Sample, put, regular};
 use trio_script::read_script;
 
 /// Where the block of `f` begins in the image.
 const BLOCK: usize = 24_576;
 
-// the superblock and the tables
-fn put_tables(bytes: &mut [u8])
-    requires { length bytes.old ≡ 131072 }
-{
-    put_bytes_in(bytes, 0, b"ARCKTRIO");
-    put_u32_in(bytes, 8, 1);
-    put_u32_in(bytes, 12, 4096);
-    put_u32_in(bytes, 16, 32);
-    put_u32_in(bytes, 20, 64);
-    put_u32_in(bytes, 24, 1);
-    put_u32_in(bytes, 28, 2);
-    put_u32_in(bytes, 32, 3);
-    put_u32_in(bytes, 36, 1);
-    // the root's body has mode 755, head 3 and one block
-    put_bytes_in(bytes, 40, &[0xed, 0x01]);
-    put_u32_in(bytes, 52, 3);
-    put_u32_in(bytes, 56, 4096);
-    put_bytes_in(bytes, 4096, &[1, 2, 0xed, 0x01]);
-    put_bytes_in(bytes, 4128, &[1, 1, 0xa4, 0x01, 5, 0, 0, 0, 5, 0, 0, 0]);
-    put_u32_in(bytes, 4140, 1);
-    put_u32_in(bytes, 4144, 4);
-    put_bytes_in(bytes, 8192, &[0xff; 12]);
-    put_bytes_in(bytes, 8204, &[1, 0, 0, 0, 1, 0, 0, 0, 2, 0, 0, 0, 2]);
-}
-
 // `f` has mode 644, owner 5, group 5 and 5 bytes
-fn put_file(bytes: &mut [u8])
-    requires { length bytes.old ≡ 131072 }
-{
-    put_u32_in(bytes, 12_288, 4);
-    put_bytes_in(bytes, 16_384, &[2, 0, 0, 0, 1, 1, 0, 0, b'f']);
-    put_bytes_in(bytes, 16_576, &[0xa4, 0x01, 0, 0, 5, 0, 0, 0, 5]);
-    put_u32_in(bytes, 16_588, 5);
-    put_u32_in(bytes, 16_592, 5);
-    put_u32_in(bytes, 20_480, 6);
-    put_bytes_in(bytes, BLOCK, b"hello");
-}
-
-fn image_bytes(alloc: Global) -> Option<Vec<u8>>
-    ensures { IfSome result (λ bytes. length bytes.items ≡ 131072) }
-{
-    let mut bytes = vec![in alloc; 0; 131_072].ok()?;
-    put_tables(&mut bytes);
-    put_file(&mut bytes);
-    Some(bytes)
+fn image_bytes(alloc: Global) -> Option<Vec<u8>> {
+    let file = regular(2, 1, b"f", b"hello").owned(5, 5);
+    Sample::small(alloc, &[root(), file]).ok()?.bytes(alloc).ok()
 }
 
 /// What a script came to, and the image at its end.
@@ -114,7 +72,7 @@ fn lines_are_answered(rt: HostRuntime) -> Result<(), Fail> {
     assert!(rt; told.answers.as_slice() == wanted.as_slice());
     assert!(rt; told.end == Ok(EndAnswer::Nothing));
     // `hullo` stands in the block now, and nothing else has changed
-    put_bytes_in(&mut bytes, BLOCK + 1, b"u");
+    put(&mut bytes, BLOCK + 1, b"u");
     assert!(rt; told.image == Some(bytes));
     Ok(())
 }
