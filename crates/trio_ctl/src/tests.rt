@@ -5,7 +5,7 @@ use std::alloc::Global;
 use std::test::Fail;
 use trio_image::{bytes_of, read};
 use trio_lease::Allotted;
-use trio_nodes::{AllotFault, GrantFault, GrantKind, Holder};
+use trio_nodes::{GrantFault, GrantKind, Holder};
 use trio_page::PageNo;
 use trio_page::field::all_zero;
 use trio_rights::{Creds, LibNo};
@@ -158,30 +158,5 @@ fn the_lowest_free_are_allotted(rt: HostRuntime) -> Result<(), Fail> {
     let written = bytes_of(alloc, &mut image).ok().ok_or("memory")?;
     put(&mut bytes, 24_576, &[0; 4]);
     assert!(rt; written == bytes);
-    Ok(())
-}
-
-// Of 29 core pages 27 are free, and of 64 numbers 62. Pages are asked first.
-#[test]
-fn too_much_is_not_allotted(rt: HostRuntime) -> Result<(), Fail> {
-    let alloc = rt.alloc();
-    let no_pages = AllotFault::NoPages {
-        wanted: 28,
-        free: 27,
-    };
-    let no_inodes = AllotFault::NoInodes {
-        wanted: 63,
-        free: 62,
-    };
-    for (pages, wanted) in [(28, no_pages), (27, no_inodes)] {
-        let mut ctl = controlled(alloc, 0).ok_or("a controller")?;
-        match ctl.allot(alloc, LibNo(1), pages, 63) {
-            Ok(given) => {
-                given.discard();
-                return Err("too much was allotted".into());
-            }
-            Err(fault) => assert!(rt; fault == wanted),
-        }
-    }
     Ok(())
 }

@@ -49,7 +49,7 @@ fn play_script(alloc: Global, bytes: &[u8], script: &[u8]) -> Option<Told> {
     })
 }
 
-/// Each answer that a line can have today, but for a refusal.
+/// Each answer that a line can have today, but for a refusal and those of an allotment.
 #[test]
 fn lines_are_answered(rt: HostRuntime) -> Result<(), Fail> {
     let alloc = rt.alloc();
@@ -73,76 +73,6 @@ fn lines_are_answered(rt: HostRuntime) -> Result<(), Fail> {
     assert!(rt; told.end == Ok(EndAnswer::Nothing));
     // `hullo` stands in the block now, and nothing else has changed
     put(&mut bytes, BLOCK + 1, b"u");
-    assert!(rt; told.image == Some(bytes));
-    Ok(())
-}
-
-/// An index page that names another page is refused, and returns. What is still lent is released
-/// at the end.
-#[test]
-fn a_refused_release_changes_nothing(rt: HostRuntime) -> Result<(), Fail> {
-    let alloc = rt.alloc();
-    let bytes = image_bytes(alloc).ok_or("memory")?;
-    let script =
-        b"lib 1 raw 0 0\ngrant write 2\npoke index 2 0 0 09\nrelease 2 - -\ngrant write 2\n";
-    let told = play_script(alloc, &bytes, script).ok_or("a script")?;
-    let wanted = [
-        LineAnswer::Granted,
-        LineAnswer::Poked,
-        LineAnswer::Refused,
-        LineAnswer::Granted,
-    ];
-    assert!(rt; told.answers.as_slice() == wanted.as_slice());
-    assert!(rt; told.end == Ok(EndAnswer::Accepted));
-    assert!(rt; told.image == Some(bytes));
-    Ok(())
-}
-
-/// The end is refused as a release is.
-#[test]
-fn an_end_is_refused(rt: HostRuntime) -> Result<(), Fail> {
-    let alloc = rt.alloc();
-    let bytes = image_bytes(alloc).ok_or("memory")?;
-    let script = b"lib 1 raw 0 0\ngrant write 2\npoke index 2 0 0 09\n";
-    let told = play_script(alloc, &bytes, script).ok_or("a script")?;
-    let wanted = [LineAnswer::Granted, LineAnswer::Poked];
-    assert!(rt; told.answers.as_slice() == wanted.as_slice());
-    assert!(rt; told.end == Ok(EndAnswer::Refused));
-    assert!(rt; told.image == Some(bytes));
-    Ok(())
-}
-
-/// The lowest free pages and inode numbers are told and kept, and what is handed in is free again.
-#[test]
-fn allotments_are_answered(rt: HostRuntime) -> Result<(), Fail> {
-    let alloc = rt.alloc();
-    let bytes = image_bytes(alloc).ok_or("memory")?;
-    let script =
-        b"lib 1 raw 0 0\nallot 2 1\npoke fresh 8 0 61\nrelease - 8 3\npoke fresh 8 0 61\nallot 2 0\nallot 24 0\nallot 0 4294967295\n";
-    let told = play_script(alloc, &bytes, script).ok_or("a script")?;
-    let wanted = [
-        LineAnswer::Allotted {
-            pages: vec![in alloc; 7, 8]?,
-            inodes: vec![in alloc; 3]?,
-        },
-        LineAnswer::Poked,
-        LineAnswer::Accepted,
-        LineAnswer::Absent,
-        LineAnswer::Allotted {
-            pages: vec![in alloc; 8, 9]?,
-            inodes: Vec::new(alloc),
-        },
-        LineAnswer::NoPages {
-            wanted: 24,
-            free: 22,
-        },
-        LineAnswer::NoInodes {
-            wanted: 4_294_967_295,
-            free: 62,
-        },
-    ];
-    assert!(rt; told.answers.as_slice() == wanted.as_slice());
-    assert!(rt; told.end == Ok(EndAnswer::Accepted));
     assert!(rt; told.image == Some(bytes));
     Ok(())
 }
