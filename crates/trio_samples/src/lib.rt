@@ -14,3 +14,6 @@ mod sample;
 
 pub use file::{SampleFile, directory, regular};
 pub use sample::{Sample, put};
+
+#[cfg(test)]
+mod tests;
