@@ -1,7 +1,7 @@
 //! Whole runs over files and sinks in memory, by tables of what goes wrong.
 //!
-//! The image is spelled here byte by byte: 32 pages and 64 inode numbers, and a root that lists one
-//! regular file `f` of the five bytes `hello`.
+//! The image has 32 pages and 64 inode numbers, and a root that lists one regular file `f` of the
+//! five bytes `hello`.
 
 use crate::{IMAGE_LIMIT, SCRIPT_LIMIT, copy_words, sure_main, trio_main};
 use std::alloc::Global;
@@ -12,7 +12,8 @@ use std::thread::Threads;
 use trio_image::Image;
 use trio_io::{FailingCalls, MemFiles, MemSink, OpenGate, SureFiles, SureSink};
 use trio_page::NoMemory;
-use trio_page::field::put_bytes_in;
+use trio_samples::Sample;
+use trio_samples::files::{one_file, root, three_files};
 
 const IMAGE_SIZE: usize = 131_072;
 
@@ -24,51 +25,13 @@ const REPORT: &[u8] =
 // What OUT has before.
 const BEFORE: &[u8] = b"before";
 
-// Where the image isn't zero.
-fn parts() -> [(usize, &'static [u8]); 14] {
-    [
-        (0, b"ARCKTRIO"),
-        (8, b"\x01\0\0\0\0\x10\0\0\x20\0\0\0\x40"),
-        (24, b"\x01\0\0\0\x02\0\0\0\x03\0\0\0\x01"),
-        // the root's body: mode 755, first index page 3, size 4096
-        (40, b"\xed\x01"),
-        (52, b"\x03\0\0\0\0\x10"),
-        // the rows of 1 and 2
-        (4096, b"\x01\x02\xed\x01"),
-        (4128, b"\x01\x01\xa4\x01"),
-        (4140, b"\x01\0\0\0\x04"),
-        // the owners of pages 0 to 6
-        (
-            8192,
-            b"\xff\xff\xff\xff\xff\xff\xff\xff\xff\xff\xff\xff\x01\0\0\0\x01\0\0\0\x02\0\0\0\x02",
-        ),
-        // the root's index page and its block, with the entry of 2
-        (12_288, b"\x04"),
-        (16_384, b"\x02\0\0\0\x01\x01\0\0f"),
-        (16_576, b"\xa4\x01\0\0\0\0\0\0\0\0\0\0\x05\0\0\0\x05"),
-        // the file's index page and its block
-        (20_480, b"\x06"),
-        (24_576, b"hello"),
-    ]
-}
-
 fn zeros(alloc: Global, size: usize) -> Result<Vec<u8>, NoMemory> {
     vec![in alloc; 0; size]
 }
 
-// Writes bytes where they fit.
-fn put(bytes: &mut [u8], at: usize, part: &[u8]) {
-    if at <= bytes.len() && part.len() <= bytes.len() - at {
-        put_bytes_in(bytes, at, part);
-    }
-}
-
 // The first `size` bytes of the image, with some of them changed.
 fn image(alloc: Global, size: usize, changes: &[(usize, u8)]) -> Result<Vec<u8>, NoMemory> {
-    let mut bytes = zeros(alloc, IMAGE_SIZE)?;
-    for (at, part) in parts() {
-        put(&mut bytes, at, part);
-    }
+    let mut bytes = Sample::small(alloc, &one_file())?.bytes(alloc)?;
     for (at, value) in changes {
         if let Some(byte) = bytes.get_mut(*at) {
             *byte = *value;
@@ -379,44 +342,8 @@ fn a_file_is_lent_written_and_released(rt: HostRuntime) -> Result<(), Fail> {
 }
 
 // The image with a directory `a` in the root, and in it a file `f` of the five bytes `hello`.
-fn tree_parts() -> [(usize, &'static [u8]); 19] {
-    [
-        (0, b"ARCKTRIO"),
-        (8, b"\x01\0\0\0\0\x10\0\0\x20\0\0\0\x40"),
-        (24, b"\x01\0\0\0\x02\0\0\0\x03\0\0\0\x01"),
-        (40, b"\xed\x01"),
-        (52, b"\x03\0\0\0\0\x10"),
-        // the rows of 1, 2 and 3
-        (4096, b"\x01\x02\xed\x01"),
-        (4128, b"\x01\x02\xed\x01"),
-        (4140, b"\x01\0\0\0\x04"),
-        (4160, b"\x01\x01\xa4\x01"),
-        (4172, b"\x02\0\0\0\x06"),
-        // the owners of pages 0 to 8
-        (
-            8192,
-            b"\xff\xff\xff\xff\xff\xff\xff\xff\xff\xff\xff\xff\x01\0\0\0\x01\0\0\0\x02\0\0\0\x02\0\0\0\x03\0\0\0\x03",
-        ),
-        // the root's index page and its block, with the entry of 2
-        (12_288, b"\x04"),
-        (16_384, b"\x02\0\0\0\x02\x01\0\0a"),
-        (16_576, b"\xed\x01\0\0\0\0\0\0\0\0\0\0\x05\0\0\0\0\x10"),
-        // the directory's, with the entry of 3
-        (20_480, b"\x06"),
-        (24_576, b"\x03\0\0\0\x01\x01\0\0f"),
-        (24_768, b"\xa4\x01\0\0\0\0\0\0\0\0\0\0\x07\0\0\0\x05"),
-        // the file's
-        (28_672, b"\x08"),
-        (32_768, b"hello"),
-    ]
-}
-
 fn tree_image(alloc: Global) -> Result<Vec<u8>, NoMemory> {
-    let mut bytes = zeros(alloc, IMAGE_SIZE)?;
-    for (at, part) in tree_parts() {
-        put(&mut bytes, at, part);
-    }
-    Ok(bytes)
+    Sample::small(alloc, &three_files())?.bytes(alloc)
 }
 
 // What a library does with directories, the answers, the size of `f` at the end and the first byte
@@ -519,7 +446,7 @@ fn directories_are_lent_too(rt: HostRuntime) -> Result<(), Fail> {
     Ok(())
 }
 
-// The image of `tree_parts` as it is told.
+// The image of `tree_image` as it is told.
 const TREE: &str =
     "tree\n0 d 755 0 0 1 /\n1 d 755 0 0 1 a\n2 f 644 0 0 5 f\ninodes 3 pages 6 free 23\n";
 
@@ -636,14 +563,7 @@ fn the_lowest_free_are_allotted(rt: HostRuntime) -> Result<(), Fail> {
 
 // The image with nothing in the root.
 fn empty_image(alloc: Global) -> Result<Vec<u8>, NoMemory> {
-    let mut bytes = zeros(alloc, IMAGE_SIZE)?;
-    put(&mut bytes, 0, b"ARCKTRIO");
-    put(&mut bytes, 8, b"\x01\0\0\0\0\x10\0\0\x20\0\0\0\x40");
-    put(&mut bytes, 24, b"\x01\0\0\0\x02\0\0\0\x03\0\0\0\x01");
-    put(&mut bytes, 40, b"\xed\x01");
-    put(&mut bytes, 4096, b"\x01\x02\xed\x01");
-    put(&mut bytes, 8192, &[0xff; 12]);
-    Ok(bytes)
+    Sample::small(alloc, &[root()])?.bytes(alloc)
 }
 
 // More than is free is allotted in no part, and any number may be asked.

@@ -1,62 +1,23 @@
-ghost use Rattle.std.specs.Prelude.{◌≡◌, ◌≤◌, All, IfOk, IfSome, IsSome, length};
+ghost use Rattle.std.specs.Prelude.{◌≡◌, IfSome, length};
 
 use super::*;
-use crate::outs::Outs;
 use std::alloc::Global;
 use std::test::Fail;
 use trio_image::{Counts, Image, bytes_of};
 use trio_lease::{Allotted, Lease};
-use trio_nodes::{AllotFault, GrantFault, GrantKind, Holder};
-use trio_page::field::{all_zero, put_bytes_in, put_u32_in};
-use trio_page::{Home, NoMemory, Page, PageNo, Reads};
+use trio_nodes::{GrantFault, GrantKind, Holder};
+use trio_page::PageNo;
+use trio_page::field::all_zero;
 use trio_rights::{Creds, LibNo};
-use trio_tables::{Owners, Shadow};
+use trio_samples::files::root;
+use trio_samples::{Sample, directory, put};
 
-// An image of 32 pages and 64 inode numbers with an empty root: the superblock, one shadow page, one
-// owner page, and core pages from page 3 on.
-fn put_image(bytes: &mut [u8])
-    requires { length bytes.old ≡ 131072 }
-{
-    put_bytes_in(bytes, 0, b"ARCKTRIO");
-    put_u32_in(bytes, 8, 1);
-    put_u32_in(bytes, 12, 4096);
-    put_u32_in(bytes, 16, 32);
-    put_u32_in(bytes, 20, 64);
-    put_u32_in(bytes, 24, 1);
-    put_u32_in(bytes, 28, 2);
-    put_u32_in(bytes, 32, 3);
-    put_u32_in(bytes, 36, 1);
-    // the root's body has mode 755
-    put_bytes_in(bytes, 40, &[0xed, 0x01]);
-    put_bytes_in(bytes, 4096, &[1, 2, 0xed, 0x01]);
-    put_bytes_in(bytes, 8192, &[0xff; 12]);
-}
-
-// The root lists the directory `a` with inode number 2: page 3 is its index page, page 4 its block.
-fn put_directory(bytes: &mut [u8])
-    requires { length bytes.old ≡ 131072 }
-{
-    put_u32_in(bytes, 52, 3);
-    put_u32_in(bytes, 56, 4096);
-    put_u32_in(bytes, 12_288, 4);
-    put_bytes_in(bytes, 16_384, &[2, 0, 0, 0, 2, 1, 0, 0, b'a']);
-    put_bytes_in(bytes, 16_576, &[0xed, 0x01]);
-    put_bytes_in(bytes, 4128, &[1, 2, 0xed, 0x01]);
-    put_u32_in(bytes, 4140, 1);
-    put_u32_in(bytes, 4144, 4);
-    put_u32_in(bytes, 8204, 1);
-    put_u32_in(bytes, 8208, 1);
-}
-
-fn image_bytes(alloc: Global, with_directory: bool) -> Option<Vec<u8>>
-    ensures { IfSome result (λ bytes. length bytes.items ≡ 131072) }
-{
-    let mut bytes = vec![in alloc; 0; 131_072].ok()?;
-    put_image(&mut bytes);
-    if with_directory {
-        put_directory(&mut bytes);
-    }
-    Some(bytes)
+// An image with an empty root, or with one that lists the directory `a` with inode number 2: page 3 is
+// the root's index page, page 4 its block.
+fn image_bytes(alloc: Global, with_directory: bool) -> Option<Vec<u8>> {
+    let files = [root(), directory(2, 1, b"a")];
+    let files = if with_directory { &files[..] } else { &files[..1] };
+    Sample::small(alloc, files).ok()?.bytes(alloc).ok()
 }
 
 fn started(alloc: Global, bytes: &[u8]) -> Option<Ctl>
@@ -195,7 +156,7 @@ fn inode_numbers(alloc: Global, given: &Allotted) -> Option<Vec<u32>> {
 fn the_lowest_free_are_allotted(rt: HostRuntime) -> Result<(), Fail> {
     let alloc = rt.alloc();
     let mut bytes = image_bytes(alloc, true).ok_or("memory")?;
-    put_bytes_in(&mut bytes, 24_576, b"left");
+    put(&mut bytes, 24_576, b"left");
     let mut ctl = started(alloc, &bytes).ok_or("a controller")?;
     let given = ctl.allot(LibNo(1), 2, 1).ok().ok_or("an allotment")?;
     let (pages, inodes) = numbers_of(alloc, given).ok_or("zeros")?;
@@ -204,64 +165,7 @@ fn the_lowest_free_are_allotted(rt: HostRuntime) -> Result<(), Fail> {
     // in the settled image what is out is all zero
     let mut image = ctl.image().ok().ok_or("memory")?;
     let written = bytes_of(alloc, &mut image).ok().ok_or("memory")?;
-    put_bytes_in(&mut bytes, 24_576, &[0; 4]);
+    put(&mut bytes, 24_576, &[0; 4]);
     assert!(rt; written == bytes);
-    Ok(())
-}
-
-// Of 29 core pages 27 are free, and of 64 numbers 62. Pages are asked first.
-#[test]
-fn too_much_is_not_allotted(rt: HostRuntime) -> Result<(), Fail> {
-    let alloc = rt.alloc();
-    let no_pages = AllotFault::NoPages {
-        wanted: 28,
-        free: 27,
-    };
-    let no_inodes = AllotFault::NoInodes {
-        wanted: 63,
-        free: 62,
-    };
-    for (pages, wanted) in [(28, no_pages), (27, no_inodes)] {
-        let mut ctl = controlled(alloc, 0).ok_or("a controller")?;
-        match ctl.allot(LibNo(1), pages, 63) {
-            Ok(given) => {
-                given.discard();
-                return Err("too much was allotted".into());
-            }
-            Err(fault) => assert!(rt; fault == wanted),
-        }
-    }
-    Ok(())
-}
-
-// A home of so many pages, all of them there.
-fn full_home(alloc: Global, count: u32) -> Result<Home, NoMemory>
-    requires few { count ≤ 8192 }
-    ensures count { IfOk result (λ home. length home.pages ≡ count) }
-    ensures there { IfOk result (λ home. All (λ page. IsSome page) home.pages) }
-{
-    let mut pages = Vec::new(alloc);
-    for _i in 0..count {
-        pages.push(Some(Page::zero(alloc)?))?;
-    }
-    Ok(Home::of(pages))
-}
-
-#[test]
-fn the_lowest_free_ones_are_given(rt: HostRuntime) -> Result<(), Fail> {
-    let alloc = rt.alloc();
-    let mut home = full_home(alloc, 8)?;
-    let owners = Owners::new(alloc, 8, 3)?;
-    let rows = Shadow::new(alloc, 4)?;
-    let mut outs = Outs::new(alloc, 8, 4)?;
-    let mut reads = Reads::new();
-    let lib = LibNo(1);
-    let Ok(given) = outs.take(alloc, &mut home, &owners, &rows, lib, 2, 3, &mut reads) else {
-        return Err("nothing was given".into());
-    };
-    let pages = given.pages.iter().map(|page| page.no().0).eq([3, 4]);
-    let inodes = given.inodes.iter().map(|ino| ino.no()).eq([1, 2, 3]);
-    given.discard();
-    assert!(rt; pages && inodes);
     Ok(())
 }

@@ -1,34 +1,12 @@
-ghost use Rattle.std.specs.Prelude.{◌≡◌, length};
-
 use super::*;
 use std::alloc::Global;
 use std::test::Fail;
-use trio_page::field::{put_bytes_in, put_u32_in};
+use trio_samples::Sample;
+use trio_samples::files::root;
 
-// An image of 32 pages and 64 inode numbers with an empty root: the superblock, one shadow page, one
-// owner page, and core pages from page 3 on.
-fn put_image(bytes: &mut [u8])
-    requires { length bytes.old ≡ 131072 }
-{
-    put_bytes_in(bytes, 0, b"ARCKTRIO");
-    put_u32_in(bytes, 8, 1);
-    put_u32_in(bytes, 12, 4096);
-    put_u32_in(bytes, 16, 32);
-    put_u32_in(bytes, 20, 64);
-    put_u32_in(bytes, 24, 1);
-    put_u32_in(bytes, 28, 2);
-    put_u32_in(bytes, 32, 3);
-    put_u32_in(bytes, 36, 1);
-    // the root's body has mode 755
-    put_bytes_in(bytes, 40, &[0xed, 0x01]);
-    put_bytes_in(bytes, 4096, &[1, 2, 0xed, 0x01]);
-    put_bytes_in(bytes, 8192, &[0xff; 12]);
-}
-
+// An image with an empty root: page 1 has the rows, page 2 the owners, and the core begins at page 3.
 fn image_bytes(alloc: Global) -> Option<Vec<u8>> {
-    let mut bytes = vec![in alloc; 0; 131_072].ok()?;
-    put_image(&mut bytes);
-    Some(bytes)
+    Sample::small(alloc, &[root()]).ok()?.bytes(alloc).ok()
 }
 
 // why the front of the image, with these bytes at these places, is none

@@ -100,13 +100,6 @@ fn again(bundle: Bundle) -> Bundle
     Bundle::of(bundle.parts())
 }
 
-/// A read lease is its parts.
-fn shown_again(lease: ReadLease) -> ReadLease
-    ensures { result ≡ lease }
-{
-    ReadLease::of(lease.parts())
-}
-
 fn hold() -> HoldLease {
     HoldLease::of(HoldParts {
         lib: LibNo(2),
@@ -164,27 +157,6 @@ fn a_write_lease_shows_what_was_written(rt: HostRuntime) -> Result<(), Fail> {
     assert!(rt; is_lent(parts.index.get(0), 20, 40, false));
     assert!(rt; is_lent(parts.blocks.get(0), 30, 0, false));
     assert!(rt; is_lent(parts.blocks.get(1), 31, 41, true));
-    Ok(())
-}
-
-#[test]
-fn a_read_lease_shows_its_parts(rt: HostRuntime) -> Result<(), Fail> {
-    let parts = ReadParts {
-        lib: LibNo(3),
-        ino: 7,
-        kind: Kind::Regular,
-        entry: 5,
-        body: [9; 64],
-        index: vec![in rt.alloc(); lent_page(rt.alloc(), 20, 20)?]?,
-        blocks: vec![in rt.alloc(); lent_page(rt.alloc(), 30, 30)?]?,
-    };
-    let lease = shown_again(ReadLease::of(parts));
-    assert!(rt; lease.lib() == LibNo(3) && lease.ino() == 7 && lease.entry() == 5);
-    assert!(rt; lease.kind() == Kind::Regular && lease.body()[63] == 9);
-    assert!(rt; begins(lease.index(0), 20) && begins(lease.block(0), 30));
-    assert!(rt; lease.index_no(0) == Some(PageNo(20)) && lease.index_no(1).is_none());
-    assert!(rt; lease.block_no(0) == Some(PageNo(30)) && lease.block(1).is_none());
-    Lease::Read(lease).discard();
     Ok(())
 }
 
@@ -250,16 +222,4 @@ fn a_bundle_has_what_was_added(rt: HostRuntime) -> Result<(), Fail> {
         Bundle::of(rest).discard();
     }
     Ok(())
-}
-
-#[test]
-fn holds_and_numbers_show_their_parts(rt: HostRuntime) {
-    let hold = hold();
-    assert!(rt; hold.lib() == LibNo(2) && hold.ino() == 8 && hold.entry() == 6);
-    assert!(rt; hold.kind() == Kind::Directory && hold.parent() == 7);
-    assert!(rt; hold.body()[63] == 4 && hold.children() == 3);
-    Lease::Hold(hold).discard();
-    let ino = fresh_ino();
-    assert!(rt; ino.lib() == LibNo(2) && ino.no() == 11);
-    ino.discard();
 }

@@ -15,6 +15,8 @@ use trio_lease::{
 use trio_page::field::put_bytes_in;
 use trio_page::{Home, NoMemory, Page, PageNo, Reads};
 use trio_rights::{Creds, Kind, LibNo, Mode};
+use trio_samples::Sample;
+use trio_samples::files::one_file;
 use trio_tables::{Owners, Row, Shadow};
 
 const LIB: LibNo = LibNo(1);
@@ -73,38 +75,10 @@ fn directory_page(alloc: Global, body: &[u8; 64]) -> Result<Page, NoMemory> {
     Ok(page)
 }
 
-fn settled_page(alloc: Global, number: u32) -> Result<Page, NoMemory> {
-    match number {
-        3 => index_page(alloc, 4),
-        4 => directory_page(alloc, &file_body()),
-        5 => index_page(alloc, 6),
-        6 => block_page(alloc, b"hello\0\0\0"),
-        _ => Page::zero(alloc),
-    }
-}
-
-fn settled_pages(alloc: Global) -> Result<Home, NoMemory> {
-    let mut pages = Vec::new(alloc);
-    for number in 0..32 {
-        pages.push(Some(settled_page(alloc, number)?))?;
-    }
-    Ok(Home::of(pages))
-}
-
-fn settled_rows(alloc: Global) -> Result<Shadow, NoMemory> {
-    let root = Row {
-        kind: Kind::Directory,
-        mode: Mode(0o755),
-        uid: 5,
-        gid: 5,
-        parent: 0,
-        page: 0,
-        slot: 0,
-    };
-    let mut rows = Shadow::new(alloc, 64)?;
-    rows.set(1, Some(root));
-    rows.set(2, Some(file_row()));
-    Ok(rows)
+/// The settled pages and rows: the root and `f`, both of uid and gid 5.
+fn settled(alloc: Global) -> Result<(Home, Shadow), NoMemory> {
+    let files = one_file().map(|file| file.owned(5, 5));
+    Sample::small(alloc, &files)?.home_and_rows(alloc)
 }
 
 fn file_row() -> Row {
@@ -232,8 +206,7 @@ fn judged(alloc: Global, bundle: Bundle) -> Option<Verdict> {
 }
 
 fn judged_whole(alloc: Global, bundle: &Bundle) -> Option<Verdict> {
-    let mut pages = settled_pages(alloc).ok()?;
-    let rows = settled_rows(alloc).ok()?;
+    let (mut pages, rows) = settled(alloc).ok()?;
     let root = root_body();
     let mut reads = Reads::new();
     if !can_be_judged(&mut pages, &root, &rows, bundle, &mut reads) {

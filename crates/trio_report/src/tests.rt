@@ -1,92 +1,22 @@
-//! Images spelled by hand, and the text that is told of them.
-
-ghost use Rattle.std.specs.Prelude.{◌<◌, ◌≤◌, length};
+//! Images, answers and counts, and the text that is told of them.
 
 use super::*;
 use std::test::Fail;
-use trio_layout::Superblock;
 use trio_nodes::List;
-use trio_page::field::put_bytes_in;
-use trio_page::{Home, Page, Reads};
-use trio_rights::LibNo;
-
-/// 32 pages and 64 inode numbers; the root has mode 755, head 3 and one block.
-const SUPERBLOCK: Superblock = Superblock {
-    pages: 32,
-    inodes: 64,
-    first_owner: 2,
-    first_core: 3,
-    root: [
-        0xed, 0x01, 0, 0, 0, 0, 0, 0, 0, 0, 0, 0, 3, 0, 0, 0, 0, 0x10, 0, 0, 0, 0, 0, 0, 0, 0, 0,
-        0, 0, 0, 0, 0, 0, 0, 0, 0, 0, 0, 0, 0, 0, 0, 0, 0, 0, 0, 0, 0, 0, 0, 0, 0, 0, 0, 0, 0, 0,
-        0, 0, 0, 0, 0, 0, 0,
-    ],
-};
-
-/// A file in a slot: its inode number, its kind's byte, its name, and its body's fields.
-#[derive(Clone, Copy)]
-struct File<'a> {
-    ino: u32,
-    kind: u8,
-    name: &'a [u8],
-    mode: u16,
-    uid: u32,
-    gid: u32,
-    head: u32,
-    size: u64,
-}
-
-fn put_file(page: &mut Page, slot: u16, file: &File)
-    requires slot { slot < 16 }
-    requires name { length file.now.name.now ≤ 184 }
-{
-    let at = 256 * usize::from(slot);
-    page.put_u32(at, file.ino);
-    put_bytes_in(
-        page.bytes_mut(),
-        at + 4,
-        &[file.kind, file.name.len() as u8],
-    );
-    put_bytes_in(page.bytes_mut(), at + 8, file.name);
-    page.put_u16(at + 192, file.mode);
-    page.put_u32(at + 196, file.uid);
-    page.put_u32(at + 200, file.gid);
-    page.put_u32(at + 204, file.head);
-    page.put_u64(at + 208, file.size);
-}
+use trio_page::Reads;
+use trio_rights::{LibNo, Mode};
+use trio_samples::files::{one_file, root};
+use trio_samples::{Sample, SampleFile, directory, regular};
 
 /// The root has one file of five bytes.
 #[test]
 fn first_image_is_told(rt: HostRuntime) -> Result<(), Fail> {
     let alloc = rt.alloc();
-    let mut root_index = Page::zero(alloc)?;
-    root_index.put_u64(0, 4);
-    let mut root_block = Page::zero(alloc)?;
-    let file = File {
-        ino: 2,
-        kind: 1,
-        name: b"f",
-        mode: 0o644,
-        uid: 0,
-        gid: 0,
-        head: 5,
-        size: 5,
-    };
-    put_file(&mut root_block, 0, &file);
-    let mut index = Page::zero(alloc)?;
-    index.put_u64(0, 6);
-    let pages = vec![in alloc;
-        None,
-        None,
-        None,
-        Some(root_index),
-        Some(root_block),
-        Some(index),
-        None,
-    ]?;
-    let mut home = Home::of(pages);
+    let sample = Sample::small(alloc, &one_file())?;
+    let superblock = *sample.superblock();
+    let mut home = sample.home(alloc)?;
     let mut reads = Reads::new();
-    let lines = tree_lines(alloc, &mut home, &SUPERBLOCK, &mut reads)?;
+    let lines = tree_lines(alloc, &mut home, &superblock, &mut reads)?;
     // the file's block isn't looked at
     assert_eq!(rt; reads.count(), 3);
 
@@ -111,74 +41,27 @@ fn first_image_is_told(rt: HostRuntime) -> Result<(), Fail> {
 #[test]
 fn deep_image_is_told(rt: HostRuntime) -> Result<(), Fail> {
     let alloc = rt.alloc();
-    let empty = File {
-        ino: 2,
-        kind: 1,
-        name: b"b",
-        mode: 0o644,
-        uid: 0,
-        gid: 0,
-        head: 0,
-        size: 0,
-    };
-    let mut root_index = Page::zero(alloc)?;
-    root_index.put_u64(0, 4);
-    let mut root_block = Page::zero(alloc)?;
-    put_file(&mut root_block, 0, &empty);
-    let below = File {
-        ino: 3,
-        kind: 2,
-        name: b"a b",
-        mode: 0o700,
-        uid: 1001,
-        gid: 5,
-        head: 5,
-        size: 4096,
-    };
-    put_file(&mut root_block, 1, &below);
-    put_file(
-        &mut root_block,
-        9,
-        &File {
-            ino: 4,
-            name: b"B",
-            ..empty
+    let files = [
+        root(),
+        regular(2, 1, b"b", b""),
+        SampleFile {
+            mode: Mode(0o700),
+            ..directory(3, 1, b"a b").owned(1001, 5)
         },
-    );
-    let mut index = Page::zero(alloc)?;
-    index.put_u64(0, 6);
-    let mut block = Page::zero(alloc)?;
-    put_file(
-        &mut block,
-        3,
-        &File {
-            ino: 5,
-            name: b"\xff",
-            mode: 0o007,
-            ..empty
+        regular(4, 1, b"B", b""),
+        SampleFile {
+            mode: Mode(0o007),
+            ..regular(5, 3, b"\xff", b"")
         },
-    );
-    put_file(
-        &mut block,
-        15,
-        &File {
-            ino: 6,
-            kind: 2,
-            name: b"A",
-            ..empty
+        SampleFile {
+            mode: Mode(0o644),
+            ..directory(6, 3, b"A")
         },
-    );
-    let pages = vec![in alloc;
-        None,
-        None,
-        None,
-        Some(root_index),
-        Some(root_block),
-        Some(index),
-        Some(block),
-    ]?;
-    let mut home = Home::of(pages);
-    let lines = tree_lines(alloc, &mut home, &SUPERBLOCK, &mut Reads::new())?;
+    ];
+    let sample = Sample::small(alloc, &files)?;
+    let superblock = *sample.superblock();
+    let mut home = sample.home(alloc)?;
+    let lines = tree_lines(alloc, &mut home, &superblock, &mut Reads::new())?;
     let mut out = Vec::new(alloc);
     put_tree(alloc, &mut out, &lines)?;
     assert_eq!(rt;
