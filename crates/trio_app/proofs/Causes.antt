@@ -1,7 +1,7 @@
 -- What follows from what the top call came to, status by status.
 use Rattle.std.proofs.Common.{◌≡◌, ◌⊎◌, ℕ, List, Option, inl, inr, refl, Some, None, length, ◌≤◌, ap, sym, subst, ◌∙◌, arith}
 use Rattle.trio_io.specs.Shelf.{Shelf, SinkSeen, Rose, IsLonger, IsTold}
-use Rattle.trio_state.specs.Stored.{BytesVerify}
+use Rattle.trio_survey.specs.Stored.{BytesVerify}
 use Rattle.trio_script.specs.Script.{unbuilt_line}
 use Rattle.trio_app.specs.declared.status.Status.{Status}
 use Rattle.trio_app.specs.declared.status.Status.TheVariants.{Done, NotVerified, ReadFault, WriteFault, NoMemory, NotBuilt}

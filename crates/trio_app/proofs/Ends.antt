@@ -4,12 +4,12 @@ use Rattle.std.proofs.lemmas.List.{append-nil, append_assoc}
 use Rattle.trio_io.specs.Shelf.{Shelf, OnlyReplaces, Rose, told}
 use Rattle.trio_layout.specs.Core.{Core}
 use Rattle.trio_layout.specs.declared.superblock.Superblock.{Superblock}
-use Rattle.trio_state.specs.Image.{Image}
+use Rattle.trio_layout.specs.Image.{Image}
 use Rattle.trio_state.specs.Kept.{Kept}
-use Rattle.trio_state.specs.Stored.{BytesVerify, StoresImage, core_in, image_in, bytes_in, pages_in}
+use Rattle.trio_survey.specs.Stored.{BytesVerify, StoresImage, core_in, image_in, bytes_in, pages_in}
 use Rattle.trio_state.specs.State.{State, settled}
 use Rattle.trio_state.specs.Run.{start}
-use Rattle.trio_state.specs.Tree.{TreeLine, tree_of}
+use Rattle.trio_layout.specs.Tree.{TreeLine, tree_of}
 use Rattle.trio_script.specs.declared.ScriptLine.{ScriptLine}
 use Rattle.trio_script.specs.Script.{script_lines}
 use Rattle.trio_report.specs.declared.answer.LineAnswer.{LineAnswer}
@@ -31,8 +31,8 @@ use Rattle.trio_app.specs.declared.stop.Stop.TheVariants.{ImageFault, ImageNotBu
 use Rattle.trio_app.specs.Inputs.{ReadsBoth}
 use Rattle.trio_app.specs.Lines.{write_fault_line}
 use Rattle.trio_app.specs.Report.{answers_text, report_text, told_counts}
-use Rattle.trio_app.specs.RunEnd.{IsRunEnd}
-use Rattle.trio_app.specs.Stop.{InputStop, ReadsImage, ReadsScript, ToldStop, line_of, status_of}
+use Rattle.trio_app.specs.inner.RunEnd.{IsRunEnd}
+use Rattle.trio_app.specs.inner.Stop.{InputStop, ReadsImage, ReadsScript, ToldStop, line_of, status_of}
 use Rattle.trio_app.specs.Turns.{Turns, TurnsComesTo, TurnsCounts, TurnsKeeps, libraries}
 use Rattle.trio_app.proofs.Headlines.{headline, no_page_out}
 use Rattle.trio_app.proofs.Trees.{tree_same}

@@ -2,16 +2,16 @@
 use Rattle.std.proofs.Common.{◌≡◌, List, [], subst, inl, inr}
 use Rattle.std.proofs.lemmas.Bool.{false≢true}
 use Rattle.trio_rights.specs.declared.rights.Creds.{Creds}
-use Rattle.trio_state.specs.Image.{Image, IsFit}
+use Rattle.trio_layout.specs.Image.{Image, IsFit}
 use Rattle.trio_state.specs.Kept.{Kept}
 use Rattle.trio_state.specs.Run.{IsWhole, start}
-use Rattle.trio_state.specs.Verifies.{Verifies}
+use Rattle.trio_layout.specs.Verifies.{Verifies}
 use Rattle.trio_state.specs.State.{settled}
 use Rattle.trio_state.specs.Given.{GivenEvent}
 use Rattle.trio_state.specs.Step.{Event, Answer, Release, Step}
 use Rattle.trio_laws.specs.Laws.{AnyRun}
 use Rattle.trio_laws.proofs.StateLaws.{every_state_is_kept, every_move_is_a_step, every_release_is_judged}
-use Rattle.trio_laws.proofs.Trees.{image_is_tree}
+use Rattle.trio_surveys.proofs.Trees.{image_is_tree}
 use Rattle.trio_laws.proofs.Verdicts.{refusal_keeps}
 use Rattle.trio_script.specs.declared.ScriptLine.{ScriptLine}
 use Rattle.trio_runner.specs.Play.{Played, moves_of}

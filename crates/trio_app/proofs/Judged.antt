@@ -6,13 +6,13 @@ use Rattle.trio_io.specs.Shelf.{Shelf, IsTold, OnlyReads}
 use Rattle.trio_layout.specs.declared.superblock.Superblock.{Superblock}
 use Rattle.trio_layout.specs.Superblock.{IsSuperblock}
 use Rattle.trio_layout.proofs.Superblocks.{only, superblock_facts}
-use Rattle.trio_state.specs.Stored.{BytesVerify, PagesVerify, pages_in}
+use Rattle.trio_survey.specs.Stored.{BytesVerify, PagesVerify, pages_in}
 use Rattle.trio_image.specs.declared.reading.LoadFault.{LoadFault}
 use Rattle.trio_image.specs.declared.reading.LoadFault.TheVariants.{Length, BadSuper, Fails, NoMemory as LoadNoMemory}
 use Rattle.trio_image.specs.Fault.{HasLength as HasLengths}
 use Rattle.trio_app.specs.declared.stop.Stop.{Stop}
 use Rattle.trio_app.specs.declared.stop.Stop.TheVariants.{NotVerified, ScriptFault, ScriptNotBuilt, LineNotBuilt, NoMemory}
-use Rattle.trio_app.specs.Stop.{BytesStop, ImageStop, InputStop, IsImage, ReadsImage, ScriptStop, stop_of_loading}
+use Rattle.trio_app.specs.inner.Stop.{BytesStop, ImageStop, InputStop, IsImage, ReadsImage, ScriptStop, stop_of_loading}
 use Rattle.trio_app.specs.Turns.{HasLength, ImageVerifies}
 
 -- ---- bytes

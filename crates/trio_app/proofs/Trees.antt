@@ -9,13 +9,14 @@ use Rattle.trio_rights.specs.declared.kind.Kind.TheVariants.{Regular, Directory}
 use Rattle.trio_layout.specs.declared.superblock.Superblock.{Superblock}
 use Rattle.trio_layout.specs.Body.{body_of, block_count}
 use Rattle.trio_layout.specs.Index.{index_of}
-use Rattle.trio_layout.specs.Lists.{both, gathered, result_map, result_then}
-use Rattle.trio_layout.specs.Core.{Core, Place, at_page, nowhere, page_of, there_or}
+use Rattle.trio_lists.specs.Lists.{both, gathered, result_map, result_then}
+use Rattle.trio_layout.specs.Core.{Core, Place, at_page, nowhere, page_of}
+use Rattle.trio_lists.specs.Lists.{there_or}
 use Rattle.trio_layout.specs.Chain.{chain_from, chain_of, index_count, index_page, with_index}
 use Rattle.trio_layout.specs.Entries.{Listed, entries_on, entries_of_kind, page_entries, with_names_apart}
 use Rattle.trio_layout.specs.Survey.{Met, FileRead, file_of, file_with, met_in, plain, root_of}
-use Rattle.trio_state.specs.Stored.{core_in}
-use Rattle.trio_state.specs.Tree.{TreeLine, by_name, lines_from, lines_with, told_line, tree_of}
+use Rattle.trio_survey.specs.Stored.{core_in}
+use Rattle.trio_layout.specs.Tree.{TreeLine, by_name, lines_from, lines_with, told_line, tree_of}
 
 -- the core with other pages
 abbrev pub repaged : Core → List (Option (List ℕ)) → Core

@@ -3,7 +3,7 @@ use Rattle.std.specs.Prelude.{◌≡◌, ◌⊎◌, ℕ, ◌≤◌, List, length
 use Rattle.trio_io.specs.Shelf.{Shelf, Rose}
 use Rattle.trio_script.specs.Script.{unbuilt_line}
 use Rattle.trio_app.specs.Command.{Command, turns, unknown}
-use Rattle.trio_state.specs.Stored.{BytesVerify}
+use Rattle.trio_survey.specs.Stored.{BytesVerify}
 
 -- status 4 comes only where the read faults of a file that is read rose
 abbrev pub ReadFaultCause : Command → Shelf → Shelf → Type 0

@@ -1,15 +1,16 @@
 -- What holds of a script's moves: the claim, of this run.
 use Rattle.std.specs.Prelude.{◌≡◌, ℕ, List}
 use Rattle.trio_rights.specs.declared.rights.Creds.{Creds}
-use Rattle.trio_layout.specs.Lists.{In}
-use Rattle.trio_state.specs.Image.{Image}
+use Rattle.trio_lists.specs.Lists.{In}
+use Rattle.trio_layout.specs.Image.{Image}
 use Rattle.trio_state.specs.Kept.{Kept}
-use Rattle.trio_state.specs.Proposed.{Bundle}
+use Rattle.trio_layout.specs.Proposed.{Bundle}
 use Rattle.trio_state.specs.Run.{start, Move, Trace}
 use Rattle.trio_state.specs.State.{settled}
 use Rattle.trio_state.specs.Tells.{Why}
 use Rattle.trio_state.specs.Step.{Release, Refused}
-use Rattle.trio_laws.specs.Laws.{IsTree, IsVerdict, IsBack}
+use Rattle.trio_laws.specs.Laws.{IsVerdict, IsBack}
+use Rattle.trio_surveys.specs.Tree.{IsTree}
 
 -- The moves are a run of the controller from the image's state, of events that hand in what was given, with any bytes. The first
 -- state and the state after each move are kept: the settled image verifies. It is one connected tree, with each page owned once

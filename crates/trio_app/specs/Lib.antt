@@ -6,7 +6,6 @@ pub mod Turns
 pub mod Command
 pub mod Main
 pub mod Request
-pub mod Stop
 pub mod Inputs
-pub mod RunEnd
 pub mod Causes
+pub mod inner

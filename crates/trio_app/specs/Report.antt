@@ -1,7 +1,7 @@
 -- The report of a run, by the image that is settled at its end.
 use Rattle.std.specs.Prelude.{ℕ, List, [], ◌∷◌, ◌++◌}
-use Rattle.trio_state.specs.Image.{Image}
-use Rattle.trio_state.specs.Tree.{tree_of}
+use Rattle.trio_layout.specs.Image.{Image}
+use Rattle.trio_layout.specs.Tree.{tree_of}
 use Rattle.trio_image.specs.declared.counts.Counts.{Counts}
 use Rattle.trio_image.specs.Counts.{counts_of}
 use Rattle.trio_script.specs.declared.ScriptLine.{ScriptLine}

@@ -5,7 +5,7 @@ use Rattle.trio_rights.specs.declared.rights.Creds.{Creds}
 use Rattle.trio_layout.specs.declared.superblock.Superblock.{Superblock}
 use Rattle.trio_layout.specs.Superblock.{IsSuperblock}
 use Rattle.trio_state.specs.State.{settled}
-use Rattle.trio_state.specs.Stored.{BytesVerify, StoresImage, image_in, pages_in, bytes_in}
+use Rattle.trio_survey.specs.Stored.{BytesVerify, StoresImage, image_in, pages_in, bytes_in}
 use Rattle.trio_ctl.specs.Ctl.{superblock_for}
 use Rattle.trio_script.specs.Script.{script_lines, unbuilt_line}
 use Rattle.trio_runner.specs.Play.{Played, moves_of}

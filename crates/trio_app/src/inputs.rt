@@ -3,7 +3,7 @@
 ghost use Rattle.std.specs.Prelude.{◌≡◌, Contains, IfOk, IfErr};
 ghost use Rattle.trio_io.specs.Shelf.{OnlyReads};
 ghost use Rattle.trio_app.specs.Inputs.{ReadsBoth};
-ghost use Rattle.trio_app.specs.Stop.{BytesStop, ImageStop, InputStop, IsImage, ReadsImage, ReadsScript, ScriptStop};
+ghost use Rattle.trio_app.specs.inner.Stop.{BytesStop, ImageStop, InputStop, IsImage, ReadsImage, ReadsScript, ScriptStop};
 
 use crate::Stop;
 use std::alloc::Global;

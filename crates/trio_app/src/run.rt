@@ -3,11 +3,11 @@
 ghost use Rattle.std.specs.Prelude.{◌≡◌, ◌++◌, IfOk, OnOk};
 ghost use Rattle.trio_report.specs.declared.report.LibraryKind.TheVariants.{Raw};
 ghost use Rattle.trio_report.specs.Report.{counts_text, end_line, lib_heading, tree_text};
-ghost use Rattle.trio_state.specs.Stored.{core_in, image_in};
-ghost use Rattle.trio_state.specs.Tree.{tree_of};
+ghost use Rattle.trio_survey.specs.Stored.{core_in, image_in};
+ghost use Rattle.trio_layout.specs.Tree.{tree_of};
 ghost use Rattle.trio_image.specs.Counts.{counts_of};
 ghost use Rattle.trio_app.specs.Report.{answers_text, told_counts};
-ghost use Rattle.trio_app.specs.RunEnd.{IsRunEnd};
+ghost use Rattle.trio_app.specs.inner.RunEnd.{IsRunEnd};
 
 use std::alloc::Global;
 use trio_ctl::Ctl;

@@ -1,7 +1,7 @@
 //! Why the work ends before anything is written.
 
 ghost use Rattle.std.specs.Prelude.{◌≡◌, IfOk};
-ghost use Rattle.trio_app.specs.Stop.{status_of, line_of, ToldStop};
+ghost use Rattle.trio_app.specs.inner.Stop.{status_of, line_of, ToldStop};
 
 use crate::lines::{named_line, unbuilt_line_text};
 use crate::{Outcome, Status};
@@ -42,7 +42,7 @@ impl From<NoMemory> for Stop {
 
 impl From<LoadFault> for Stop {
     ghost use Rattle.std.specs.Prelude.{◌≡◌};
-    ghost use Rattle.trio_app.specs.Stop.{stop_of_loading};
+    ghost use Rattle.trio_app.specs.inner.Stop.{stop_of_loading};
 
     ghost from_gives = { λ fault e. e ≡ stop_of_loading fault };
 

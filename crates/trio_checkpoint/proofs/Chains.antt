@@ -5,9 +5,9 @@ use Rattle.std.proofs.lemmas.Bool.{false≢true}
 use Rattle.std.proofs.lemmas.Bool.Decides.{nat_tests}
 use Rattle.trio_layout.specs.Core.{Core, Place, page_of}
 use Rattle.trio_layout.specs.Index.{Index, index_of}
-use Rattle.trio_layout.specs.Lists.{result_map, result_then}
+use Rattle.trio_lists.specs.Lists.{result_map, result_then}
 use Rattle.trio_layout.specs.Chain.{Chain, chain_from, index_count, index_page, with_index}
-use Rattle.trio_checkpoint.specs.Steps.{Appends}
+use Rattle.trio_checkpoint.specs.inner.Steps.{Appends}
 
 -- a chain that goes on after these index pages and blocks
 abbrev pub after : List ℕ → List ℕ → Chain → Chain

@@ -9,11 +9,11 @@ use Rattle.trio_rights.specs.declared.kind.Kind.{Kind}
 use Rattle.trio_rights.specs.declared.kind.Kind.TheVariants.{Regular, Directory}
 use Rattle.trio_layout.specs.Range.{is_core}
 use Rattle.trio_layout.specs.Core.{Core, page_of}
-use Rattle.trio_state.specs.Sheets.{Sheet, sheet_numbers}
-use Rattle.trio_state.specs.Grants.{sheets_of}
+use Rattle.trio_page.specs.Sheets.{Sheet, sheet_numbers}
+use Rattle.trio_layout.specs.Pages.{sheets_of}
 use Rattle.trio_state.specs.State.{covered}
 use Rattle.trio_checkpoint.specs.Covered.{are_there, covered_numbers}
-use Rattle.trio_checkpoint.specs.Steps.{AllStand, AreCopies, IsCopy}
+use Rattle.trio_checkpoint.specs.inner.Steps.{AllStand, AreCopies, IsCopy}
 
 -- a core page that is there stands at its number
 pub at_its_number : (core : Core) (n : ℕ) → IsSome (page_of core n) → page_of core n ≡ get_or core.pages n None

@@ -8,12 +8,12 @@ use Rattle.std.proofs.lemmas.List.Elements.{All-head, All-tail}
 use Rattle.trio_rights.specs.declared.kind.Kind.{Kind}
 use Rattle.trio_rights.specs.declared.kind.Kind.TheVariants.{Regular, Directory}
 use Rattle.trio_nodes.specs.declared.grant.GrantKind.TheVariants.{Write}
-use Rattle.trio_layout.specs.Marks.{all_below}
+use Rattle.trio_lists.specs.Marks.{all_below}
 use Rattle.trio_layout.specs.Core.{Core, page_of}
-use Rattle.trio_state.specs.Sheets.{Sheet, sheet_numbers, with_pages}
-use Rattle.trio_state.specs.Grants.{sheets_of}
+use Rattle.trio_page.specs.Sheets.{Sheet, sheet_numbers, with_pages}
+use Rattle.trio_layout.specs.Pages.{sheets_of}
 use Rattle.trio_state.specs.State.{covered}
-use Rattle.trio_checkpoint.specs.Steps.{IsCopy}
+use Rattle.trio_checkpoint.specs.inner.Steps.{IsCopy}
 use Rattle.trio_checkpoint.proofs.Copies.{at_its_number}
 
 pub with_pages-append : (xs ys : List Sheet) (pages : List (Option (List ℕ))) → with_pages (xs ++ ys) pages ≡ with_pages ys (with_pages xs pages)

@@ -6,12 +6,12 @@ use Rattle.trio_rights.specs.declared.kind.Kind.{Kind}
 use Rattle.trio_rights.specs.declared.kind.Kind.TheVariants.{Regular, Directory}
 use Rattle.trio_layout.specs.declared.range.CoreRange.{CoreRange}
 use Rattle.trio_layout.specs.Body.{body_of}
-use Rattle.trio_layout.specs.Lists.{result_then}
-use Rattle.trio_layout.specs.Core.{Core, Place, nowhere, page_of, there_or}
+use Rattle.trio_lists.specs.Lists.{result_then, there_or}
+use Rattle.trio_layout.specs.Core.{Core, Place, nowhere, page_of}
 use Rattle.trio_layout.specs.Chain.{Chain, chain_of}
 use Rattle.trio_layout.specs.Entries.{body_in_slot}
-use Rattle.trio_state.specs.Sheets.{Sheet}
-use Rattle.trio_state.specs.Accept.{with_body_in}
+use Rattle.trio_page.specs.Sheets.{Sheet}
+use Rattle.trio_layout.specs.Accept.{with_body_in}
 
 -- A checkpoint of a file that is lent for writing: the inode number, the body, the numbers of all its index pages and blocks, and what the pages
 -- are that the checkpoint covers, which are the index pages and a directory's blocks.

@@ -2,12 +2,12 @@
 use Rattle.std.specs.Prelude.{◌≡◌, ℕ, List, Option, IsTrue}
 use Rattle.trio_rights.specs.declared.kind.Kind.{Kind}
 use Rattle.trio_nodes.specs.declared.grant.GrantKind.TheVariants.{Write}
-use Rattle.trio_layout.specs.Lists.{is_among}
+use Rattle.trio_lists.specs.Lists.{is_among}
 use Rattle.trio_layout.specs.Core.{Core}
-use Rattle.trio_state.specs.Sheets.{Sheet, sheet_numbers, with_pages}
-use Rattle.trio_state.specs.Grants.{sheets_of}
+use Rattle.trio_page.specs.Sheets.{Sheet, sheet_numbers, with_pages}
+use Rattle.trio_layout.specs.Pages.{sheets_of}
 use Rattle.trio_state.specs.State.{covered}
-use Rattle.trio_state.specs.Accept.{with_body_at}
+use Rattle.trio_layout.specs.Accept.{with_body_at}
 use Rattle.trio_checkpoint.specs.Covered.{with_body}
 
 -- What is covered of a file with these index pages and blocks, put back where it was taken, leaves the pages as they are.

@@ -1,3 +1,3 @@
 pub mod Covered
 pub mod Laws
-pub mod Steps
+pub mod inner

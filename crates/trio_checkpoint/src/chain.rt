@@ -4,7 +4,7 @@ ghost use Rattle.std.specs.Prelude.{◌≡◌, ◌≤◌, ◌++◌, IfOk, IfSome
 ghost use Rattle.trio_layout.specs.Chain.{chain_of};
 ghost use Rattle.trio_layout.specs.Index.{index_of};
 ghost use Rattle.trio_checkpoint.specs.Covered.{are_there, core_of};
-ghost use Rattle.trio_checkpoint.specs.Steps.{Appends, AreCopies, chain_seen};
+ghost use Rattle.trio_checkpoint.specs.inner.Steps.{Appends, AreCopies, chain_seen};
 
 use crate::page_copy::PageCopy;
 use std::alloc::Global;

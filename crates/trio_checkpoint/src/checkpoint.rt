@@ -5,13 +5,13 @@ ghost use Rattle.std.specs.List.{find};
 ghost use Rattle.std.specs.Option.{option_copied};
 ghost use Rattle.std.specs.Result.{ForOk};
 ghost use Rattle.trio_nodes.specs.declared.grant.GrantKind.TheVariants.{Write};
-ghost use Rattle.trio_layout.specs.Lists.{is_among};
-ghost use Rattle.trio_layout.specs.Marks.{all_below};
-ghost use Rattle.trio_state.specs.Grants.{sheets_of};
-ghost use Rattle.trio_state.specs.Sheets.{sheet_numbers, with_pages};
+ghost use Rattle.trio_lists.specs.Lists.{is_among};
+ghost use Rattle.trio_lists.specs.Marks.{all_below};
+ghost use Rattle.trio_layout.specs.Pages.{sheets_of};
+ghost use Rattle.trio_page.specs.Sheets.{sheet_numbers, with_pages};
 ghost use Rattle.trio_state.specs.State.{covered};
 ghost use Rattle.trio_checkpoint.specs.Covered.{all_stand, are_there, body_on, chain_in, core_of, covered_numbers, covered_pages, page_on, standing, with_body};
-ghost use Rattle.trio_checkpoint.specs.Steps.{AllStand, AreCopies};
+ghost use Rattle.trio_checkpoint.specs.inner.Steps.{AllStand, AreCopies};
 
 use crate::chain::copy_chain;
 use crate::page_copy::{

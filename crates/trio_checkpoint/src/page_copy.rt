@@ -4,10 +4,10 @@ ghost use Rattle.std.specs.Prelude.{◌≡◌, ◌<◌, ◌+◌, ◌*◌, ◌==�
 ghost use Rattle.std.specs.List.{find};
 ghost use Rattle.std.specs.Option.{option_copied};
 ghost use Rattle.trio_layout.specs.Entries.{body_in_slot};
-ghost use Rattle.trio_layout.specs.Marks.{all_below};
-ghost use Rattle.trio_state.specs.Sheets.{sheet_numbers, with_pages};
+ghost use Rattle.trio_lists.specs.Marks.{all_below};
+ghost use Rattle.trio_page.specs.Sheets.{sheet_numbers, with_pages};
 ghost use Rattle.trio_checkpoint.specs.Covered.{all_stand, renewed, standing, with_body};
-ghost use Rattle.trio_checkpoint.specs.Steps.{AreCopies, AllStand, IsCopy};
+ghost use Rattle.trio_checkpoint.specs.inner.Steps.{AreCopies, AllStand, IsCopy};
 
 use std::alloc::Global;
 use std::marker::Model;
@@ -24,7 +24,7 @@ pub(crate) struct PageCopy {
 }
 
 impl Model for PageCopy {
-    ghost use Rattle.trio_state.specs.Sheets.{Sheet};
+    ghost use Rattle.trio_page.specs.Sheets.{Sheet};
 
     ghost Value = { Sheet };
 

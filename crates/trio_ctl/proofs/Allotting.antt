@@ -11,22 +11,25 @@ use Rattle.trio_nodes.specs.declared.answers.AllotFault.{AllotFault}
 use Rattle.trio_nodes.specs.declared.answers.AllotFault.TheVariants.{NoPages as NoFreePages, NoInodes as NoFreeInodes}
 use Rattle.trio_grants.specs.Grants.{Keyed}
 use Rattle.trio_layout.specs.declared.superblock.Superblock.{Superblock}
-use Rattle.trio_layout.specs.Lists.{In, is_among}
+use Rattle.trio_lists.specs.Lists.{In, is_among}
 use Rattle.trio_layout.specs.Range.{is_core}
 use Rattle.trio_layout.specs.Survey.{plain}
 use Rattle.trio_layout.proofs.Superblocks.{superblock_facts}
 use Rattle.trio_state.specs.Allotments.{allots, count_up, free_numbers, free_pages}
 use Rattle.trio_state.specs.Kept.{is_lent}
-use Rattle.trio_state.specs.Sheets.{sheet_numbers, without_pages}
-use Rattle.trio_state.specs.State.{State, is_out, is_write, logged, settled}
+use Rattle.trio_page.specs.Sheets.{sheet_numbers, without_pages}
+use Rattle.trio_state.specs.State.{State, is_out, logged, settled}
+use Rattle.trio_nodes.specs.GrantKinds.{is_write}
 use Rattle.trio_state.specs.Step.{Allot, Answer, Given, NoInodes, NoPages, Outcome, Step, allot_outcome}
-use Rattle.trio_laws.proofs.Bundles.{filter_in}
+use Rattle.trio_lists.proofs.Filters.{filter_in}
 use Rattle.trio_laws.proofs.Grants.{logged_kept}
-use Rattle.trio_laws.proofs.Images.{free_is_low, free_unlisted, tabulated-length}
-use Rattle.trio_laws.proofs.Members.{In-among}
+use Rattle.trio_surveys.proofs.Images.{free_is_low, free_unlisted}
+use Rattle.trio_lists.proofs.Tabulated.{tabulated-length}
+use Rattle.trio_lists.proofs.Members.{In-among}
 use Rattle.trio_laws.proofs.Runs.{step_kept}
-use Rattle.trio_laws.proofs.Sheets.{length-without}
-use Rattle.trio_laws.proofs.StateFacts.{any_at, lent_met, tables as tables_of}
+use Rattle.trio_surveys.proofs.Sheets.{length-without}
+use Rattle.trio_laws.proofs.StateFacts.{lent_met, tables as tables_of}
+use Rattle.trio_lists.proofs.Filters.{any_at}
 use Rattle.trio_ctl.specs.Answers.{allot_fault_answer}
 use Rattle.trio_ctl.specs.Ctl.{IsControlled, state_of}
 use Rattle.trio_ctl.specs.Open.{Opened}

@@ -10,10 +10,11 @@ use Rattle.trio_grants.specs.Grants.{Keyed, first_with, holder}
 use Rattle.trio_grants.specs.Grants.{is_write as writes_in_table}
 use Rattle.trio_layout.specs.declared.superblock.Superblock.{Superblock}
 use Rattle.trio_layout.specs.Superblock.{superblock_fits}
-use Rattle.trio_layout.specs.Lists.{In}
+use Rattle.trio_lists.specs.Lists.{In}
 use Rattle.trio_state.specs.Grants.{holder_of}
 use Rattle.trio_state.specs.Kept.{Kept}
-use Rattle.trio_state.specs.State.{OpenGrant, is_write}
+use Rattle.trio_state.specs.State.{OpenGrant}
+use Rattle.trio_nodes.specs.GrantKinds.{is_write}
 use Rattle.trio_ctl.specs.Ctl.{state_of, writer_of, IsControlled}
 use Rattle.trio_ctl.specs.Open.{Opened, keyed}
 use Rattle.trio_ctl.specs.Outs.{OutNow}

@@ -7,7 +7,7 @@ use Rattle.std.proofs.lemmas.Bool.{and_parts, cases_eq, eq-eqb, leb-true, ne_eqb
 use Rattle.std.proofs.lemmas.List.{reverse-append}
 use Rattle.std.proofs.lemmas.List.Folds.{flat_map-map}
 use Rattle.trio_page.specs.Home.{Pages}
-use Rattle.trio_layout.specs.Marks.{all_below}
+use Rattle.trio_lists.specs.Marks.{all_below}
 use Rattle.trio_rights.specs.declared.kind.Kind.{Kind}
 use Rattle.trio_rights.specs.declared.kind.Kind.TheVariants.{Regular, Directory}
 use Rattle.trio_lease.specs.Bundles.{Bundled, bundled}
@@ -16,8 +16,8 @@ use Rattle.trio_lease.specs.declared.bundle.BundleParts.{BundleParts}
 use Rattle.trio_allot.specs.Out.{inode_numbers, page_numbers}
 use Rattle.trio_state.specs.Bundles.{uncovered_of}
 use Rattle.trio_state.specs.Handed.{bundle_in, fresh_sheet, lent_sheet, written_in}
-use Rattle.trio_state.specs.Proposed.{Written, bundle_sheets}
-use Rattle.trio_state.specs.Sheets.{Sheet, sheet_numbers, with_pages}
+use Rattle.trio_layout.specs.Proposed.{Written, bundle_sheets}
+use Rattle.trio_page.specs.Sheets.{Sheet, sheet_numbers, with_pages}
 use Rattle.trio_checkpoint.proofs.Restoring.{below_joined, below_parts, length-with_pages, with_pages-append}
 use Rattle.trio_ctl.specs.Moves.{file_sheets, lent_uncovered, uncovered_sheets}
 use Rattle.trio_ctl.specs.Outs.{HasPlaces, OutNow, outs_after}

@@ -9,13 +9,13 @@ use Rattle.std.proofs.lemmas.List.Elements.{filter-append}
 use Rattle.trio_rights.specs.declared.rights.LibNo.{LibNo}
 use Rattle.trio_page.specs.Home.{Pages}
 use Rattle.trio_grants.specs.Grants.{Keyed, HasKey, without}
-use Rattle.trio_layout.specs.Lists.{are_new, is_among}
-use Rattle.trio_layout.specs.Marks.{all_below}
-use Rattle.trio_layout.proofs.MarkLemmas.{are_new-append}
-use Rattle.trio_laws.proofs.Members.{In-left, In-right}
-use Rattle.trio_laws.proofs.Owned.{new_before, new_weaker}
-use Rattle.trio_laws.proofs.Sheets.{not_among}
-use Rattle.trio_state.specs.Sheets.{sheet_numbers, with_pages}
+use Rattle.trio_lists.specs.Lists.{are_new, is_among}
+use Rattle.trio_lists.specs.Marks.{all_below}
+use Rattle.trio_lists.proofs.MarkLemmas.{are_new-append}
+use Rattle.trio_lists.proofs.Members.{In-left, In-right}
+use Rattle.trio_surveys.proofs.Owned.{new_before, new_weaker}
+use Rattle.trio_surveys.proofs.Sheets.{not_among}
+use Rattle.trio_page.specs.Sheets.{sheet_numbers, with_pages}
 use Rattle.trio_checkpoint.proofs.Restoring.{below_joined, below_parts}
 use Rattle.trio_ctl.specs.Open.{Opened, keyed}
 use Rattle.trio_ctl.specs.Moves.{all_covered, is_closing}

@@ -21,30 +21,33 @@ use Rattle.trio_layout.specs.declared.superblock.Superblock.{Superblock}
 use Rattle.trio_layout.specs.declared.range.CoreRange.{CoreRange}
 use Rattle.trio_layout.specs.Body.{body_of}
 use Rattle.trio_layout.specs.Chain.{Chain, chain_of}
-use Rattle.trio_layout.specs.Core.{Core, nowhere, page_of, there_or}
+use Rattle.trio_layout.specs.Core.{Core, nowhere, page_of}
+use Rattle.trio_lists.specs.Lists.{there_or}
 use Rattle.trio_layout.specs.Entries.{body_in_slot}
-use Rattle.trio_layout.specs.Lists.{is_among, are_new, result_then, In}
+use Rattle.trio_lists.specs.Lists.{is_among, are_new, result_then, In}
 use Rattle.trio_layout.specs.Range.{is_core}
-use Rattle.trio_layout.proofs.MarkLemmas.{are_new-push}
-use Rattle.trio_state.specs.Grants.{denied_or, excludes_kind, excluding, grant_fault, holder_of, index_sheets, block_sheets, opened, opens, lent_pages, settled_chain, sheets_of}
-use Rattle.trio_state.specs.Image.{body_by_row, row_at, settled_body}
+use Rattle.trio_lists.proofs.MarkLemmas.{are_new-push}
+use Rattle.trio_state.specs.Grants.{denied_or, excluding, grant_fault, holder_of, opened, opens, lent_pages}
+use Rattle.trio_nodes.specs.GrantKinds.{excludes_kind}
+use Rattle.trio_layout.specs.Pages.{index_sheets, block_sheets, settled_chain, sheets_of}
+use Rattle.trio_layout.specs.Image.{body_by_row, row_at, settled_body}
 use Rattle.trio_state.specs.Kept.{Kept}
-use Rattle.trio_state.specs.Sheets.{Sheet, sheet_numbers, without_pages}
+use Rattle.trio_page.specs.Sheets.{Sheet, sheet_numbers, without_pages}
 use Rattle.trio_state.specs.State.{OpenGrant, State, covered, creds_of, logged, settled}
 use Rattle.trio_state.specs.Step.{Grant, Granted, NotGranted, Step}
 use Rattle.trio_checkpoint.specs.Covered.{chain_in, core_of, page_on}
 use Rattle.trio_laws.specs.EndLaws.{checkpoints_of}
 use Rattle.trio_laws.proofs.EndLaws.{body_stands, lendable_is_home}
 use Rattle.trio_laws.proofs.Grants.{logged_kept}
-use Rattle.trio_laws.proofs.Local.{chain_follows}
-use Rattle.trio_laws.proofs.Members.{In-flat, In-left, In-right, In-cases, In-map, map_from, all_from, then_ok}
+use Rattle.trio_surveys.proofs.Local.{chain_follows}
+use Rattle.trio_lists.proofs.Members.{In-flat, In-left, In-right, In-cases, In-map, map_from, all_from, then_ok}
 use Rattle.trio_laws.proofs.Runs.{step_kept}
-use Rattle.trio_laws.proofs.SheetLaws.{page_at}
-use Rattle.trio_laws.proofs.Sheets.{length-without, page_from, sheets_all}
+use Rattle.trio_surveys.proofs.SheetLaws.{page_at}
+use Rattle.trio_surveys.proofs.Sheets.{length-without, page_from, sheets_all}
 use Rattle.trio_laws.proofs.StateFacts.{write_alone}
 use Rattle.trio_ctl.specs.Answers.{grant_fault_answer, Admits}
 use Rattle.trio_ctl.specs.Ctl.{home_image, state_of, IsControlled}
-use Rattle.trio_ctl.specs.Lending.{IsLendable, StandsSomewhere, body_standing}
+use Rattle.trio_ctl.specs.inner.Lending.{IsLendable, StandsSomewhere, body_standing}
 use Rattle.trio_ctl.specs.Open.{Opened, grant_on, keyed, page_lent}
 use Rattle.trio_ctl.specs.Outs.{OutNow}
 use Rattle.trio_ctl.proofs.LendLemmas.{same_chain, sheets_same}

@@ -14,23 +14,25 @@ use Rattle.trio_grants.specs.Grants.{Keyed}
 use Rattle.trio_layout.specs.declared.superblock.Superblock.{Superblock}
 use Rattle.trio_layout.specs.declared.range.CoreRange.{CoreRange}
 use Rattle.trio_layout.specs.Core.{Core, page_of}
-use Rattle.trio_layout.specs.Lists.{In, is_among}
-use Rattle.trio_layout.specs.Marks.{all_below}
+use Rattle.trio_lists.specs.Lists.{In, is_among}
+use Rattle.trio_lists.specs.Marks.{all_below}
 use Rattle.trio_layout.specs.Range.{is_core}
 use Rattle.trio_layout.specs.Survey.{plain, survey}
 use Rattle.trio_layout.proofs.Superblocks.{superblock_facts}
 use Rattle.trio_survey.proofs.Tables.{length-rows_table}
-use Rattle.trio_state.specs.Bundles.{is_hold, is_in_bundle, is_parent_written, is_parted, lowest, parted_hold}
+use Rattle.trio_state.specs.Bundles.{is_in_bundle, is_parent_written, is_parted, lowest, parted_hold}
+use Rattle.trio_nodes.specs.GrantKinds.{is_hold}
 use Rattle.trio_state.specs.Given.{GivenTo, HasGrant, WasAllotted}
-use Rattle.trio_state.specs.Image.{Image, IsFit, row_at}
-use Rattle.trio_state.specs.Proposed.{Bundle, Written, bundle_pages, bundle_sheets, is_written}
-use Rattle.trio_state.specs.Sheets.{Sheet, sheet_numbers, with_pages}
-use Rattle.trio_state.specs.State.{OpenGrant, State, is_write, settled}
+use Rattle.trio_layout.specs.Image.{Image, IsFit, row_at}
+use Rattle.trio_layout.specs.Proposed.{Bundle, Written, bundle_pages, bundle_sheets, is_written}
+use Rattle.trio_page.specs.Sheets.{Sheet, sheet_numbers, with_pages}
+use Rattle.trio_state.specs.State.{OpenGrant, State, settled}
+use Rattle.trio_nodes.specs.GrantKinds.{is_write}
 use Rattle.trio_laws.specs.EndLaws.{checkpoints_of}
 use Rattle.trio_laws.proofs.Bundles.{in_numbers}
-use Rattle.trio_laws.proofs.Cores.{listed_is_core}
-use Rattle.trio_laws.proofs.Members.{In-cases, all_from, flat_from, map_from}
-use Rattle.trio_laws.proofs.SheetLaws.{length-with_pages}
+use Rattle.trio_surveys.proofs.Cores.{listed_is_core}
+use Rattle.trio_lists.proofs.Members.{In-cases, all_from, flat_from, map_from}
+use Rattle.trio_surveys.proofs.SheetLaws.{length-with_pages}
 use Rattle.trio_laws.proofs.Standing.{stands_at}
 use Rattle.trio_laws.proofs.StateFacts.{checkpoint_lent, lent_met}
 use Rattle.trio_proposal.specs.Judged.{CanBeJudged, image_of}

@@ -15,22 +15,22 @@ use Rattle.trio_nodes.specs.declared.grant.GrantKind.TheVariants.{Write}
 use Rattle.trio_layout.specs.Chain.{Chain}
 use Rattle.trio_layout.specs.Core.{Core, Place, page_of}
 use Rattle.trio_layout.specs.Range.{is_core}
-use Rattle.trio_layout.specs.Lists.{is_among, are_new, In}
+use Rattle.trio_lists.specs.Lists.{is_among, are_new, In}
 use Rattle.trio_layout.specs.declared.range.CoreRange.{CoreRange}
-use Rattle.trio_layout.proofs.MarkLemmas.{are_new-append, are_new-more}
+use Rattle.trio_lists.proofs.MarkLemmas.{are_new-append, are_new-more}
 use Rattle.trio_lease.specs.declared.parts.LentPage.{LentPage}
-use Rattle.trio_state.specs.Grants.{sheets_of}
+use Rattle.trio_layout.specs.Pages.{sheets_of}
 use Rattle.trio_state.specs.Handed.{lent_sheet}
-use Rattle.trio_state.specs.Sheets.{Sheet, without_pages}
+use Rattle.trio_page.specs.Sheets.{Sheet, without_pages}
 use Rattle.trio_checkpoint.specs.Covered.{are_there, core_of, covered_numbers}
 use Rattle.trio_checkpoint.proofs.Following.{all_at}
-use Rattle.trio_laws.proofs.Members.{among_from}
-use Rattle.trio_laws.proofs.Owned.{new_before, new_weaker}
-use Rattle.trio_laws.proofs.SheetLaws.{page_at}
-use Rattle.trio_laws.proofs.Sheets.{Pages, without_apart}
+use Rattle.trio_lists.proofs.Members.{among_from}
+use Rattle.trio_surveys.proofs.Owned.{new_before, new_weaker}
+use Rattle.trio_surveys.proofs.SheetLaws.{page_at}
+use Rattle.trio_surveys.proofs.Sheets.{Pages, without_apart}
 use Rattle.trio_lease.specs.Shown.{LentFile, Shown}
 use Rattle.trio_state.specs.State.{covered}
-use Rattle.trio_ctl.specs.Lending.{IsLendable}
+use Rattle.trio_ctl.specs.inner.Lending.{IsLendable}
 use Rattle.trio_ctl.specs.Open.{Opened, grant_on, lease_of, untouched}
 
 untouched_sheet : (x : Sheet) → lent_sheet (untouched x) ≡ x

@@ -9,18 +9,18 @@ use Rattle.std.proofs.lemmas.List.Elements.{All-cons, All-nil}
 use Rattle.trio_rights.specs.Row.{Row, row_in}
 use Rattle.trio_rights.specs.declared.rights.LibNo.{LibNo}
 use Rattle.trio_lease.specs.declared.parts.FreshParts.{FreshParts}
-use Rattle.trio_layout.specs.Lists.{In, is_among}
+use Rattle.trio_lists.specs.Lists.{In, is_among}
 use Rattle.trio_state.specs.Allotments.{count_up, free_numbers as state_free_numbers, free_pages as state_free_pages, out_after}
 use Rattle.trio_state.specs.Handed.{fresh_sheet}
-use Rattle.trio_state.specs.Sheets.{sheet_numbers, with_pages, without_pages}
+use Rattle.trio_page.specs.Sheets.{sheet_numbers, with_pages, without_pages}
 use Rattle.trio_state.specs.State.{Out, State, is_out}
 use Rattle.trio_allot.specs.Free.{FreeAreHome, count_up as count_from, free_numbers, free_pages, is_free_number, is_free_page}
 use Rattle.trio_allot.specs.Out.{OutTo, fresh_number, fresh_page, inode_numbers, lib_at, page_numbers, with_all, with_pages as with_fresh}
 use Rattle.trio_allot.proofs.FreeLemmas.{count_is, free_numbers_are, free_pages_are, where_skip}
 use Rattle.trio_allot.proofs.OutLemmas.{length-with_all, with_all-read, within_some}
-use Rattle.trio_laws.proofs.Bundles.{filter_in, in_filter}
-use Rattle.trio_laws.proofs.Members.{In-among}
-use Rattle.trio_laws.proofs.StateFacts.{any_from}
+use Rattle.trio_lists.proofs.Filters.{filter_in, in_filter}
+use Rattle.trio_lists.proofs.Members.{In-among}
+use Rattle.trio_lists.proofs.Filters.{any_from}
 use Rattle.trio_ctl.specs.Outs.{AreWithin, FreePagesAreHome, OutNow, Tells, TellsOf, free_numbers_of, free_pages_of, lib_of, out_now, out_to, outs_after, outs_with}
 
 abbrev library : Out → LibNo

@@ -12,36 +12,37 @@ use Rattle.trio_rights.specs.declared.rights.LibNo.{LibNo}
 use Rattle.trio_grants.specs.Grants.{Keyed}
 use Rattle.trio_layout.specs.declared.superblock.Superblock.{Superblock}
 use Rattle.trio_layout.specs.Core.{Core}
-use Rattle.trio_layout.specs.Lists.{In, are_new, is_among}
+use Rattle.trio_lists.specs.Lists.{In, are_new, is_among}
 use Rattle.trio_layout.specs.Sound.{is_sound}
 use Rattle.trio_layout.specs.Survey.{Pick, plain, root_of, survey}
-use Rattle.trio_state.specs.Accept.{is_accepted, next}
+use Rattle.trio_layout.specs.Accept.{is_accepted, next}
 use Rattle.trio_state.specs.Bundles.{Ends, blank, grants_after, is_in_bundle, lent_part, parted_hold, refused_image}
 use Rattle.trio_state.specs.Given.{GivenTo}
-use Rattle.trio_state.specs.Image.{Image, IsFit}
+use Rattle.trio_layout.specs.Image.{Image, IsFit}
 use Rattle.trio_state.specs.Kept.{Kept}
-use Rattle.trio_state.specs.Proposed.{Bundle, bundle_pages, bundle_sheets, is_written, proposed, proposed_pick}
-use Rattle.trio_state.specs.Sheets.{Sheet, sheet_numbers, with_pages}
+use Rattle.trio_layout.specs.Proposed.{Bundle, bundle_pages, bundle_sheets, is_written, proposed, proposed_pick}
+use Rattle.trio_page.specs.Sheets.{Sheet, sheet_numbers, with_pages}
 use Rattle.trio_state.specs.State.{OpenGrant, Out, State, creds_of, settled}
 use Rattle.trio_state.specs.Tells.{untold}
 use Rattle.trio_state.specs.Step.{Accepted, IsAccepted, IsRefused, Refused, Release, Step}
 use Rattle.trio_checkpoint.specs.Covered.{all_stand, standing}
 use Rattle.trio_laws.specs.EndLaws.{IsSpread, checkpoints_of, unless_absent}
-use Rattle.trio_laws.proofs.Accepted.{length-bodies}
+use Rattle.trio_surveys.proofs.Accepted.{length-bodies}
 use Rattle.trio_laws.proofs.Accepting.{handed_in}
-use Rattle.trio_laws.proofs.Bundles.{filter_in, in_filter, in_numbers}
+use Rattle.trio_laws.proofs.Bundles.{in_numbers}
+use Rattle.trio_lists.proofs.Filters.{filter_in, in_filter}
 use Rattle.trio_laws.proofs.Checkpoints.{checkpoint_settled}
 use Rattle.trio_laws.proofs.Ended.{bundle_write}
 use Rattle.trio_laws.proofs.EndLaws.{accepted_settles, refused_settles}
-use Rattle.trio_laws.proofs.Images.{read_met, root_is_met}
-use Rattle.trio_laws.proofs.Local.{reads_from}
-use Rattle.trio_laws.proofs.Members.{In-flat, In-left, In-map, all_from, flat_from, map_from}
-use Rattle.trio_laws.proofs.Owned.{body_sized, new_weaker}
-use Rattle.trio_laws.proofs.Picked.{all_listed, bodies_are, listed_no_root}
-use Rattle.trio_laws.proofs.Putting.{put_on, with_bodies-get}
+use Rattle.trio_surveys.proofs.Images.{read_met, root_is_met}
+use Rattle.trio_surveys.proofs.Local.{reads_from}
+use Rattle.trio_lists.proofs.Members.{In-flat, In-left, In-map, all_from, flat_from, map_from}
+use Rattle.trio_surveys.proofs.Owned.{body_sized, new_weaker}
+use Rattle.trio_surveys.proofs.Picked.{all_listed, bodies_are, listed_no_root}
+use Rattle.trio_surveys.proofs.Putting.{put_on, with_bodies-get}
 use Rattle.trio_laws.proofs.Runs.{release_kept}
-use Rattle.trio_laws.proofs.SheetLaws.{get-set_other, get-set_same, length-with_pages}
-use Rattle.trio_laws.proofs.Sheets.{Pages, page_there}
+use Rattle.trio_surveys.proofs.SheetLaws.{get-set_other, get-set_same, length-with_pages}
+use Rattle.trio_surveys.proofs.Sheets.{Pages, page_there}
 use Rattle.trio_laws.proofs.StateFacts.{covered_write}
 use Rattle.trio_laws.proofs.Survivors.{fit_now, sound_now}
 use Rattle.trio_laws.proofs.Tells.{untold_tells}

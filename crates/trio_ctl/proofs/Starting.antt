@@ -6,11 +6,11 @@ use Rattle.trio_rights.specs.Row.{Row}
 use Rattle.trio_layout.specs.declared.superblock.Superblock.{Superblock}
 use Rattle.trio_layout.specs.Range.{is_core}
 use Rattle.trio_layout.proofs.Superblocks.{superblock_facts}
-use Rattle.trio_state.specs.Image.{IsFit}
+use Rattle.trio_layout.specs.Image.{IsFit}
 use Rattle.trio_state.specs.Kept.{Kept}
 use Rattle.trio_state.specs.Run.{start}
-use Rattle.trio_state.specs.Stored.{core_in, image_in}
-use Rattle.trio_state.specs.Verifies.{Verifies}
+use Rattle.trio_survey.specs.Stored.{core_in, image_in}
+use Rattle.trio_layout.specs.Verifies.{Verifies}
 use Rattle.trio_laws.proofs.Runs.{start_kept}
 use Rattle.trio_image.specs.Image.{ImagePages, IsVerified}
 use Rattle.trio_grants.specs.Grants.{Keyed}

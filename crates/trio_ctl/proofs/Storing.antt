@@ -17,24 +17,26 @@ use Rattle.trio_layout.specs.declared.superblock.Superblock.{Superblock}
 use Rattle.trio_layout.specs.Superblock.{page_count, superblock_bytes}
 use Rattle.trio_layout.specs.Range.{is_core}
 use Rattle.trio_layout.specs.Core.{Core, page_of}
-use Rattle.trio_layout.specs.Lists.{In}
+use Rattle.trio_lists.specs.Lists.{In}
 use Rattle.trio_layout.specs.Survey.{Met, pages_of, plain, row_of, survey}
 use Rattle.trio_layout.proofs.Superblocks.{superblock_facts}
-use Rattle.trio_state.specs.Image.{Image}
+use Rattle.trio_layout.specs.Image.{Image}
 use Rattle.trio_state.specs.State.{Out, State, settled}
-use Rattle.trio_state.specs.Stored.{core_in, image_in, HasSuperblock, PagesVerify, StoresImage, StoresTables}
-use Rattle.trio_state.specs.Verifies.{Verifies}
-use Rattle.trio_laws.specs.Reading.{with_other, AgreeOn}
-use Rattle.trio_laws.proofs.Accepted.{agreeing_verifies}
-use Rattle.trio_laws.proofs.Images.{free_unlisted, tabulated-length, tabulated-get}
-use Rattle.trio_laws.proofs.Owned.{pages_are}
+use Rattle.trio_survey.specs.Stored.{core_in, image_in, HasSuperblock, PagesVerify, StoresImage, StoresTables}
+use Rattle.trio_layout.specs.Verifies.{Verifies}
+use Rattle.trio_surveys.specs.Reading.{with_other, AgreeOn}
+use Rattle.trio_surveys.proofs.Accepted.{agreeing_verifies}
+use Rattle.trio_surveys.proofs.Images.{free_unlisted}
+use Rattle.trio_lists.proofs.Tabulated.{tabulated-length, tabulated-get}
+use Rattle.trio_surveys.proofs.Owned.{pages_are}
 use Rattle.trio_laws.proofs.Refusing.{read_listed}
-use Rattle.trio_laws.proofs.StateFacts.{any_at, tables as tables_of}
+use Rattle.trio_laws.proofs.StateFacts.{tables as tables_of}
+use Rattle.trio_lists.proofs.Filters.{any_at}
 use Rattle.trio_image.specs.Image.{is_whole_page, IsVerified, TablesAre}
 use Rattle.trio_ctl.specs.Ctl.{home_image, or_zero, state_of, superblock_for, with_zeros}
 use Rattle.trio_ctl.specs.Outs.{OutNow}
 use Rattle.trio_ctl.proofs.AtHome.{IsAtHome}
-use Rattle.trio_ctl.specs.Pages.{FillsPages, owner_pages, pages_from, shadow_pages, stored_pages, table_pages}
+use Rattle.trio_ctl.specs.inner.Pages.{FillsPages, owner_pages, pages_from, shadow_pages, stored_pages, table_pages}
 use Rattle.trio_ctl.proofs.Wholes.{cond_same, tabulated-all}
 
 length-superblock : (s : Superblock) → length s.root ≡ 64 → length (superblock_bytes s) ≡ 4096

@@ -5,7 +5,7 @@ use Rattle.std.specs.List.{list_all}
 use Rattle.std.proofs.lemmas.Bool.{and_parts, eqb-true}
 use Rattle.std.proofs.lemmas.List.Folds.{list_all-append}
 use Rattle.std.proofs.lemmas.List.{append_assoc}
-use Rattle.trio_layout.specs.Lists.{tabulated}
+use Rattle.trio_lists.specs.Lists.{tabulated}
 use Rattle.trio_image.specs.Image.{is_whole_page}
 
 pub tabulated-more : {X : Type 0} (f : ℕ → X) (n : ℕ) → tabulated f (n + 1) ≡ tabulated f n ++ f n ∷ []

@@ -9,14 +9,15 @@ use Rattle.trio_rights.specs.declared.rights.LibNo.{LibNo}
 use Rattle.trio_nodes.specs.declared.grant.GrantKind.TheVariants.{Write}
 use Rattle.trio_nodes.specs.declared.grant.Holder.{Holder}
 use Rattle.trio_grants.specs.Grants.{Keyed}
-use Rattle.trio_layout.specs.Lists.{are_new, In}
+use Rattle.trio_lists.specs.Lists.{are_new, In}
 use Rattle.trio_layout.specs.declared.superblock.Superblock.{Superblock}
 use Rattle.trio_layout.specs.Superblock.{page_count, superblock_fits}
 use Rattle.trio_layout.specs.Core.{Core}
-use Rattle.trio_state.specs.Image.{Image, with_core_pages}
+use Rattle.trio_layout.specs.Image.{Image, with_core_pages}
 use Rattle.trio_state.specs.Grants.{holder_of}
-use Rattle.trio_state.specs.State.{State, is_write}
-use Rattle.trio_state.specs.Stored.{core_in}
+use Rattle.trio_state.specs.State.{State}
+use Rattle.trio_nodes.specs.GrantKinds.{is_write}
+use Rattle.trio_survey.specs.Stored.{core_in}
 use Rattle.trio_state.specs.Kept.{Kept}
 use Rattle.trio_ctl.specs.Open.{Opened, keyed}
 use Rattle.trio_ctl.specs.Outs.{AreWithin, OutNow}

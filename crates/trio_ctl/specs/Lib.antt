@@ -1,7 +1,6 @@
 pub mod Ctl
-pub mod Pages
 pub mod Open
-pub mod Lending
 pub mod Answers
 pub mod Moves
 pub mod Outs
+pub mod inner

@@ -5,9 +5,9 @@ use Rattle.trio_rights.specs.declared.rights.LibNo.{LibNo}
 use Rattle.trio_lease.specs.declared.parts.LentPage.{LentPage}
 use Rattle.trio_lease.specs.Shown.{LentFile}
 use Rattle.trio_state.specs.Handed.{lent_sheet}
-use Rattle.trio_state.specs.Sheets.{Sheet}
+use Rattle.trio_page.specs.Sheets.{Sheet}
 use Rattle.trio_state.specs.Bundles.{uncovered_of}
-use Rattle.trio_state.specs.Proposed.{Bundle}
+use Rattle.trio_layout.specs.Proposed.{Bundle}
 use Rattle.trio_checkpoint.specs.Covered.{standing}
 use Rattle.trio_ctl.specs.Open.{Opened}
 

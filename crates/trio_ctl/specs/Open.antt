@@ -9,8 +9,8 @@ use Rattle.trio_layout.specs.Chain.{Chain}
 use Rattle.trio_layout.specs.Core.{Core}
 use Rattle.trio_lease.specs.declared.parts.LentPage.{LentPage}
 use Rattle.trio_lease.specs.Shown.{Shown, LentFile}
-use Rattle.trio_state.specs.Grants.{sheets_of}
-use Rattle.trio_state.specs.Sheets.{Sheet}
+use Rattle.trio_layout.specs.Pages.{sheets_of}
+use Rattle.trio_page.specs.Sheets.{Sheet}
 use Rattle.trio_state.specs.State.{OpenGrant, covered}
 use Rattle.trio_checkpoint.specs.Covered.{page_on}
 

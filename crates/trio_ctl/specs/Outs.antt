@@ -6,10 +6,10 @@ use Rattle.trio_rights.specs.Row.{Row, row_in}
 use Rattle.trio_rights.specs.declared.rights.LibNo.{LibNo}
 use Rattle.trio_nodes.specs.declared.answers.AllotFault.{AllotFault}
 use Rattle.trio_nodes.specs.declared.answers.AllotFault.TheVariants.{NoPages, NoInodes, NoMemory}
-use Rattle.trio_layout.specs.Lists.{In}
-use Rattle.trio_layout.specs.Marks.{all_below}
-use Rattle.trio_state.specs.Proposed.{Bundle}
-use Rattle.trio_state.specs.Sheets.{sheet_numbers}
+use Rattle.trio_lists.specs.Lists.{In}
+use Rattle.trio_lists.specs.Marks.{all_below}
+use Rattle.trio_layout.specs.Proposed.{Bundle}
+use Rattle.trio_page.specs.Sheets.{sheet_numbers}
 use Rattle.trio_state.specs.State.{Out, is_out}
 use Rattle.trio_state.specs.Allotments.{count_up, out_after}
 use Rattle.trio_allot.specs.Out.{OutTo, lib_at}

@@ -2,10 +2,10 @@
 
 ghost use Rattle.std.specs.Prelude.{◌≡◌, ◌≤◌, ◌++◌, ℕ, IfOk, IsTrue, false, length, map, slice_index_or};
 ghost use Rattle.std.specs.List.{flat_map};
-ghost use Rattle.trio_layout.specs.Marks.{all_below};
+ghost use Rattle.trio_lists.specs.Marks.{all_below};
 ghost use Rattle.trio_state.specs.Handed.{bundle_in};
-ghost use Rattle.trio_state.specs.Proposed.{bundle_pages, bundle_sheets, is_written};
-ghost use Rattle.trio_state.specs.Sheets.{sheet_numbers, with_pages};
+ghost use Rattle.trio_layout.specs.Proposed.{bundle_pages, bundle_sheets, is_written};
+ghost use Rattle.trio_page.specs.Sheets.{sheet_numbers, with_pages};
 ghost use Rattle.trio_ctl.specs.Moves.{are_numbered, file_sheets, lent_sheets, lent_uncovered, uncovered_sheets};
 ghost use Rattle.trio_ctl.specs.Outs.{HasPlaces, outs_after};
 

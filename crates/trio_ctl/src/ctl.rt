@@ -11,12 +11,12 @@ ghost use Rattle.trio_allot.specs.Out.{fresh_number, fresh_page, inode_numbers, 
 ghost use Rattle.trio_grants.specs.Grants.{AllBelow, HasKey, excludes, grant_under, without};
 ghost use Rattle.trio_image.specs.Image.{IsVerified, TablesAre};
 ghost use Rattle.trio_state.specs.Grants.{opened};
-ghost use Rattle.trio_state.specs.Image.{row_at};
+ghost use Rattle.trio_layout.specs.Image.{row_at};
 ghost use Rattle.trio_state.specs.Kept.{Kept};
 ghost use Rattle.trio_state.specs.Run.{start};
 ghost use Rattle.trio_state.specs.State.{settled, creds_of, logged};
 ghost use Rattle.trio_state.specs.Step.{Allot, Grant, Step};
-ghost use Rattle.trio_state.specs.Stored.{image_in, StoresImage};
+ghost use Rattle.trio_survey.specs.Stored.{image_in, StoresImage};
 ghost use Rattle.trio_ctl.specs.Answers.{allot_answer, grant_answer, Admits, TellsImage};
 ghost use Rattle.trio_ctl.specs.Ctl.{IsLibrary, superblock_for, with_zeros, writer_of};
 ghost use Rattle.trio_ctl.specs.Open.{lease_of};

@@ -3,12 +3,12 @@
 ghost use Rattle.std.specs.Prelude.{◌≡◌, ◌≢◌, ◌==◌, ◌++◌, ◌∷◌, ◌<◌, ◌≤◌, [], false, IfOk, IsOk, IsSome, IsTrue, OnErr, if◌then◌else◌, length, map, None, Some, slice_index_or, vec_capacity};
 ghost use Rattle.std.specs.Result.{ForOk};
 ghost use Rattle.trio_layout.specs.Entries.{body_in_slot};
-ghost use Rattle.trio_layout.specs.Lists.{are_new};
-ghost use Rattle.trio_state.specs.Grants.{sheets_of};
-ghost use Rattle.trio_state.specs.Sheets.{without_pages};
+ghost use Rattle.trio_lists.specs.Lists.{are_new};
+ghost use Rattle.trio_layout.specs.Pages.{sheets_of};
+ghost use Rattle.trio_page.specs.Sheets.{without_pages};
 ghost use Rattle.trio_checkpoint.specs.Covered.{are_there, chain_in, core_of};
 ghost use Rattle.trio_tables.specs.Row.{as_row};
-ghost use Rattle.trio_ctl.specs.Lending.{IsLendable, StandsSomewhere, body_standing};
+ghost use Rattle.trio_ctl.specs.inner.Lending.{IsLendable, StandsSomewhere, body_standing};
 ghost use Rattle.trio_ctl.specs.Open.{grant_on, lease_of, untouched};
 
 use crate::open::{OpenFile, lent_page};

@@ -2,11 +2,11 @@
 
 ghost use Rattle.std.specs.Prelude.{◌≡◌, ◌≤◌, ◌<◌, ◌+◌, ◌++◌, ℕ, IfErr, IfOk, IsTrue, None, OnErr, OnOk, Some, is_some, length, map, take, vec_capacity};
 ghost use Rattle.std.specs.List.{filter};
-ghost use Rattle.trio_layout.specs.Marks.{all_below};
+ghost use Rattle.trio_lists.specs.Marks.{all_below};
 ghost use Rattle.trio_allot.specs.Free.{FreeAreHome, free_numbers, free_pages};
 ghost use Rattle.trio_allot.specs.Out.{fresh_number, fresh_page, inode_numbers, lib_at, page_numbers, raised_by, with_all};
 ghost use Rattle.trio_state.specs.Handed.{fresh_sheet};
-ghost use Rattle.trio_state.specs.Sheets.{with_pages, without_pages};
+ghost use Rattle.trio_page.specs.Sheets.{with_pages, without_pages};
 ghost use Rattle.trio_ctl.specs.Outs.{AreWithin, FreePagesAreHome, RefusesAllotment, free_numbers_of, free_pages_of, nothing_out, out_to, outs_after, outs_with};
 
 use std::alloc::Global;

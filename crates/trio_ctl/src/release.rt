@@ -1,14 +1,14 @@
 //! The end of a release: the judgement of what a library hands in, and what stands after it.
 
 ghost use Rattle.std.specs.Prelude.{◌≡◌, ◌≤◌, ℕ, [], IfErr, IfOk, IsTrue, true, false, length, map, slice_get, slice_index_or, vec_capacity};
-ghost use Rattle.trio_layout.specs.Marks.{all_below};
+ghost use Rattle.trio_lists.specs.Marks.{all_below};
 ghost use Rattle.trio_nodes.specs.declared.answers.ReleaseFault.TheVariants.{NoMemory as NoReleaseMemory};
-ghost use Rattle.trio_state.specs.Accept.{is_accepted, next};
+ghost use Rattle.trio_layout.specs.Accept.{is_accepted, next};
 ghost use Rattle.trio_state.specs.Given.{GivenTo};
 ghost use Rattle.trio_state.specs.Handed.{bundle_in};
 ghost use Rattle.trio_state.specs.Kept.{Kept};
-ghost use Rattle.trio_state.specs.Proposed.{bundle_pages, bundle_sheets, is_written};
-ghost use Rattle.trio_state.specs.Sheets.{sheet_numbers, with_pages};
+ghost use Rattle.trio_layout.specs.Proposed.{bundle_pages, bundle_sheets, is_written};
+ghost use Rattle.trio_page.specs.Sheets.{sheet_numbers, with_pages};
 ghost use Rattle.trio_state.specs.State.{creds_of, settled};
 ghost use Rattle.trio_state.specs.Step.{Release, Step};
 ghost use Rattle.trio_laws.specs.EndLaws.{unless_absent};

@@ -3,7 +3,7 @@
 ghost use Rattle.std.specs.Prelude.{◌≡◌, ◌+◌, ◌-◌, ◌*◌, ◌≤◌, ◌++◌, ◌<◌, ℕ, Some, IfOk, IsSome, length, None, slice_index_or};
 ghost use Rattle.trio_tables.specs.Stored.{owner_bytes, shadow_bytes};
 ghost use Rattle.trio_layout.specs.Superblock.{page_count, superblock_bytes};
-ghost use Rattle.trio_ctl.specs.Pages.{FillsPages, owner_pages, pages_from, shadow_pages, stored_pages};
+ghost use Rattle.trio_ctl.specs.inner.Pages.{FillsPages, owner_pages, pages_from, shadow_pages, stored_pages};
 
 use std::alloc::Global;
 use trio_layout::Superblock;

@@ -3,7 +3,7 @@ use Rattle.std.proofs.Common.{◌≡◌, ℕ, ◌≤◌, Bool, true, false, nat_
 use Rattle.std.proofs.lemmas.Bool.{leb-true, leb-false, le-leb, lt-leb}
 use Rattle.trio_grants.specs.declared.grant.Grant.{Grant}
 use Rattle.trio_grants.specs.Grants.{Keyed, inserted, by_entry, first_with, without, least, held_number, lowest_held}
-use Rattle.trio_grants.specs.Search.{lower, lowest}
+use Rattle.trio_grants.specs.inner.Search.{lower, lowest}
 use Rattle.trio_rights.specs.declared.rights.LibNo.{LibNo}
 
 -- no entry is lower than this

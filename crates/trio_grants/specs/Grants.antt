@@ -1,32 +1,13 @@
 -- The open grants, and what is asked of them.
-use Rattle.std.specs.Prelude.{ℕ, ◌<◌, ◌==◌, nat_le, min, Bool, true, false, not, ◌&&◌, List, [], ◌∷◌, map, Option, Some, None, IsSome, if◌then◌else◌}
+use Rattle.std.specs.Prelude.{ℕ, ◌<◌, ◌==◌, nat_le, min, Bool, not, ◌&&◌, List, [], ◌∷◌, map, Option, Some, None, IsSome, if◌then◌else◌}
 use Rattle.std.specs.List.{All, filter, find}
 use Rattle.std.specs.Option.{option_map}
 use Rattle.trio_rights.specs.declared.rights.LibNo.{LibNo}
 use Rattle.trio_nodes.specs.declared.grant.GrantKind.{GrantKind}
-use Rattle.trio_nodes.specs.declared.grant.GrantKind.TheVariants.{Read, Write, Hold}
+use Rattle.trio_nodes.specs.declared.grant.GrantKind.TheVariants.{Write, Hold}
 use Rattle.trio_nodes.specs.declared.grant.Holder.{Holder}
 use Rattle.trio_grants.specs.declared.grant.Grant.{Grant}
-
--- The exclusion table, on one file: the kind that is asked, the kind that is open, and whether both are of the same library. Reads of two libraries go together, and nothing else does.
-abbrev pub excludes_kind : GrantKind → GrantKind → Bool → Bool
-excludes_kind Read Read same_library = same_library
-excludes_kind Read Write same_library = true
-excludes_kind Read Hold same_library = true
-excludes_kind Write standing same_library = true
-excludes_kind Hold standing same_library = true
-
--- whether two kinds are the same
-abbrev pub same_kind : GrantKind → GrantKind → Bool
-same_kind Read Read = true
-same_kind Read Write = false
-same_kind Read Hold = false
-same_kind Write Read = false
-same_kind Write Write = true
-same_kind Write Hold = false
-same_kind Hold Read = false
-same_kind Hold Write = false
-same_kind Hold Hold = true
+use Rattle.trio_nodes.specs.GrantKinds.{excludes_kind, same_kind}
 
 -- whether an open grant excludes one that a library asks on a file
 abbrev pub excludes : LibNo → ℕ → GrantKind → Grant → Bool

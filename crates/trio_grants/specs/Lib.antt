@@ -1,3 +1,3 @@
 pub mod Grants
 pub mod Answers
-pub mod Search
+pub mod inner

@@ -1,8 +1,8 @@
 //! What the table's look-ups ask of a grant.
 
 ghost use Rattle.std.specs.Prelude.{◌≡◌};
-ghost use Rattle.trio_grants.specs.Grants.{excludes_kind};
-ghost use Rattle.trio_grants.specs.Search.{meets};
+ghost use Rattle.trio_nodes.specs.GrantKinds.{excludes_kind};
+ghost use Rattle.trio_grants.specs.inner.Search.{meets};
 
 use crate::grant::Grant;
 use trio_nodes::GrantKind;

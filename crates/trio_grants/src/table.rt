@@ -4,7 +4,7 @@ ghost use Rattle.std.specs.Prelude.{◌≡◌, ◌≢◌, ◌++◌, ◌∷◌, [
 ghost use Rattle.std.specs.Option.{option_map};
 ghost use Rattle.trio_grants.specs.Answers.{Answers};
 ghost use Rattle.trio_grants.specs.Grants.{AllBelow, HasKey, grant_under, without, first_with, holder, excludes, is_on, is_grant, is_write, lowest_held, held_number, least};
-ghost use Rattle.trio_grants.specs.Search.{meets, lower};
+ghost use Rattle.trio_grants.specs.inner.Search.{meets, lower};
 
 use crate::grant::Grant;
 use crate::question::Question;

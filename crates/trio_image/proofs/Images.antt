@@ -3,7 +3,7 @@ use Rattle.std.proofs.Common.{◌≡◌, ℕ, zero, suc, ◌*◌, ◌/◌, ◌<�
 use Rattle.trio_layout.specs.declared.superblock.Superblock.{Superblock}
 use Rattle.trio_layout.specs.Superblock.{IsSuperblock}
 use Rattle.trio_layout.proofs.Superblocks.{superblock_facts}
-use Rattle.trio_state.specs.Stored.{bytes_in, pages_in, BytesVerify, HasPage, PagesVerify}
+use Rattle.trio_survey.specs.Stored.{bytes_in, pages_in, BytesVerify, HasPage, PagesVerify}
 use Rattle.trio_image.specs.Fault.{HasLength}
 use Rattle.trio_image.specs.Image.{IsVerified, IsWholeImage}
 use Rattle.trio_image.proofs.Pages.{first_bytes, length-bytes_in, length-pages_in, pages_again, whole_pages_in}

@@ -5,7 +5,7 @@ use Rattle.std.specs.List.{list_all}
 use Rattle.std.proofs.lemmas.List.{drop-drop, length-append, length-drop, length-take}
 use Rattle.std.proofs.Math.Seq.{take-append_seam, drop-append_seam}
 use Rattle.std.proofs.lemmas.Bool.{and_parts}
-use Rattle.trio_state.specs.Stored.{bytes_in, pages_in}
+use Rattle.trio_survey.specs.Stored.{bytes_in, pages_in}
 use Rattle.trio_image.specs.Image.{is_whole_page}
 
 pub length-pages_in : (n : ℕ) (bytes : List ℕ) → length (pages_in n bytes) ≡ n

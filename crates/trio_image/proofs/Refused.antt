@@ -3,7 +3,7 @@ use Rattle.std.proofs.Common.{◌≡◌, ◌≢◌, ℕ, ◌*◌, List, take, Op
 use Rattle.trio_layout.specs.declared.superblock.Superblock.{Superblock}
 use Rattle.trio_layout.specs.Superblock.{IsSuperblock}
 use Rattle.trio_layout.proofs.Superblocks.{only, superblock_facts}
-use Rattle.trio_state.specs.Stored.{pages_in, BytesVerify, PagesVerify}
+use Rattle.trio_survey.specs.Stored.{pages_in, BytesVerify, PagesVerify}
 use Rattle.trio_survey.specs.declared.fault.SurveyFault.{SurveyFault}
 use Rattle.trio_survey.specs.declared.fault.SurveyFault.TheVariants.{Fails as SurveyFails, NoMemory as SurveyNoMemory}
 use Rattle.trio_survey.specs.Verdict.{IsDenied}

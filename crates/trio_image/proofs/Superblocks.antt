@@ -8,7 +8,7 @@ use Rattle.std.specs.Option.{option_and_then}
 use Rattle.std.specs.Str.{bytes_eq}
 use Rattle.std.specs.Prelude.{if◌then◌else◌, IsSome, ◌&&◌, None}
 use Rattle.trio_layout.proofs.Superblocks.{only}
-use Rattle.trio_state.specs.Stored.{HasSuperblock}
+use Rattle.trio_survey.specs.Stored.{HasSuperblock}
 use Rattle.trio_image.specs.Image.{IsVerified}
 
 -- pages have one superblock at most

@@ -3,7 +3,7 @@ use Rattle.std.specs.Prelude.{ℕ, ◌==◌, Bool, not, ◌&&◌, List, Option}
 use Rattle.std.specs.List.{count_by}
 use Rattle.trio_rights.specs.Row.{Row}
 use Rattle.trio_tables.specs.Tables.{live_count, free_count}
-use Rattle.trio_state.specs.Image.{Image}
+use Rattle.trio_layout.specs.Image.{Image}
 use Rattle.trio_image.specs.declared.counts.Counts.{Counts}
 
 -- whether this owner is a file: neither 0, which is a free page's, nor the controller

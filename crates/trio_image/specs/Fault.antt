@@ -2,7 +2,7 @@
 use Rattle.std.specs.Prelude.{◌≡◌, ◌≢◌, ℕ, ◌*◌, ◌<◌, ◌≤◌, ◌⊎◌, List, Option, length, take, ⊤}
 use Rattle.trio_layout.specs.declared.superblock.Superblock.{Superblock}
 use Rattle.trio_layout.specs.Superblock.{IsSuperblock}
-use Rattle.trio_state.specs.Stored.{pages_in}
+use Rattle.trio_survey.specs.Stored.{pages_in}
 use Rattle.trio_survey.specs.declared.fault.SurveyFault.{SurveyFault}
 use Rattle.trio_survey.specs.declared.fault.SurveyFault.TheVariants.{Fails as SurveyFails, NoMemory as SurveyNoMemory}
 use Rattle.trio_survey.specs.Verdict.{IsDenied}

@@ -3,7 +3,7 @@ use Rattle.std.specs.Prelude.{◌≡◌, ℕ, ◌==◌, Bool, false, List, Optio
 use Rattle.std.specs.List.{list_all}
 use Rattle.trio_layout.specs.declared.superblock.Superblock.{Superblock}
 use Rattle.trio_rights.specs.Row.{Row}
-use Rattle.trio_state.specs.Stored.{image_in, HasSuperblock, PagesVerify}
+use Rattle.trio_survey.specs.Stored.{image_in, HasSuperblock, PagesVerify}
 
 -- what the superblock says, and the pages by number; None is an absent page
 pub record ImagePages : Type 0 where

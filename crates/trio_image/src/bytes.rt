@@ -1,7 +1,7 @@
 //! The pages of an image as the bytes of its file.
 
 ghost use Rattle.std.specs.Prelude.{◌≡◌, ◌≤◌, ◌*◌, ◌/◌, ◌%◌, IfOk, length};
-ghost use Rattle.trio_state.specs.Stored.{bytes_in, pages_in};
+ghost use Rattle.trio_survey.specs.Stored.{bytes_in, pages_in};
 
 use std::alloc::Global;
 use trio_page::{Home, NoMemory, PAGE_SIZE, Page, PageNo, Reads};

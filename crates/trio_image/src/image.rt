@@ -2,7 +2,7 @@
 
 ghost use Rattle.std.specs.Prelude.{◌≡◌, IfOk};
 ghost use Rattle.trio_layout.specs.declared.superblock.Superblock.{Superblock};
-ghost use Rattle.trio_state.specs.Stored.{bytes_in, image_in, pages_in, BytesVerify, HasSuperblock};
+ghost use Rattle.trio_survey.specs.Stored.{bytes_in, image_in, pages_in, BytesVerify, HasSuperblock};
 ghost use Rattle.trio_image.specs.Counts.{counts_of};
 ghost use Rattle.trio_image.specs.Image.{IsVerified, TablesAre};
 

@@ -1,7 +1,7 @@
 //! Reading an image from its bytes.
 
 ghost use Rattle.std.specs.Prelude.{◌≡◌, ◌≢◌, IfErr, IfOk};
-ghost use Rattle.trio_state.specs.Stored.{pages_in, BytesVerify, PagesVerify};
+ghost use Rattle.trio_survey.specs.Stored.{pages_in, BytesVerify, PagesVerify};
 ghost use Rattle.trio_image.specs.Fault.{HasLength, IsLoadFault, IsPagesFault, IsReadFault};
 ghost use Rattle.trio_image.specs.Image.{IsVerified, IsWholeImage};
 

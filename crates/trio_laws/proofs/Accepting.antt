@@ -11,30 +11,32 @@ use Rattle.trio_nodes.specs.declared.grant.GrantKind.TheVariants.{Write, Hold}
 use Rattle.trio_tables.specs.Out.{is_out}
 use Rattle.trio_layout.specs.Chain.{Chain}
 use Rattle.trio_layout.specs.Core.{Core}
-use Rattle.trio_layout.specs.Lists.{is_among, In}
+use Rattle.trio_lists.specs.Lists.{is_among, In}
 use Rattle.trio_layout.specs.Range.{is_core}
 use Rattle.trio_layout.specs.Sound.{is_sound}
 use Rattle.trio_layout.specs.Survey.{Met, Pick, plain, survey, row_by, row_of}
-use Rattle.trio_state.specs.Accept.{is_accepted, next}
+use Rattle.trio_layout.specs.Accept.{is_accepted, next}
 use Rattle.trio_state.specs.Bundles.{is_in_bundle, Ends}
 use Rattle.trio_state.specs.Given.{GivenTo}
 use Rattle.trio_state.specs.Grants.{has_parent_grant}
-use Rattle.trio_state.specs.Image.{IsFit, Image, settled_body, row_at}
+use Rattle.trio_layout.specs.Image.{IsFit, Image, settled_body, row_at}
 use Rattle.trio_state.specs.Kept.{Kept, LentIsListed, HoldStands}
-use Rattle.trio_state.specs.Proposed.{Written, Bundle, bundle_sheets, bundle_pages, proposed, proposed_pick}
-use Rattle.trio_state.specs.Sheets.{Sheet, sheet_numbers}
-use Rattle.trio_state.specs.State.{OpenGrant, State, settled, is_write}
-use Rattle.trio_state.specs.Verifies.{Verifies}
-use Rattle.trio_laws.specs.Reading.{with_picked_bodies, picked_entry}
-use Rattle.trio_laws.proofs.Accepted.{accepted_verifies, fit_put}
+use Rattle.trio_layout.specs.Proposed.{Written, Bundle, bundle_sheets, bundle_pages, proposed, proposed_pick}
+use Rattle.trio_page.specs.Sheets.{Sheet, sheet_numbers}
+use Rattle.trio_state.specs.State.{OpenGrant, State, settled}
+use Rattle.trio_nodes.specs.GrantKinds.{is_write}
+use Rattle.trio_layout.specs.Verifies.{Verifies}
+use Rattle.trio_surveys.specs.Reading.{with_picked_bodies, picked_entry}
+use Rattle.trio_surveys.proofs.Accepted.{accepted_verifies, fit_put}
 use Rattle.trio_laws.proofs.Bundles.{Closed, outside_unheld, kept_chain}
 use Rattle.trio_laws.proofs.Ended.{grant_before, apart_then, checkpoints_then, write_in_bundle, parent_then, outs_then, numbers_then, pages_placed_then, numbers_placed_then, absent_then}
-use Rattle.trio_laws.proofs.Images.{some_of, row_at_is, row_met, settled_body_met, unlisted_free, free_is_low}
-use Rattle.trio_laws.proofs.Members.{In-left, In-right, In-flat, In-map, map_from, In-among}
-use Rattle.trio_laws.proofs.Picked.{all_listed, bodies_are, listed_no_root, file_put, survey_put}
-use Rattle.trio_laws.proofs.Putting.{put_on, with_bodies-get}
-use Rattle.trio_laws.proofs.Sheets.{with_pages_absent}
-use Rattle.trio_laws.proofs.StateFacts.{any_at, write_is, tables}
+use Rattle.trio_surveys.proofs.Images.{some_of, row_at_is, row_met, settled_body_met, unlisted_free, free_is_low}
+use Rattle.trio_lists.proofs.Members.{In-left, In-right, In-flat, In-map, map_from, In-among}
+use Rattle.trio_surveys.proofs.Picked.{all_listed, bodies_are, listed_no_root, file_put, survey_put}
+use Rattle.trio_surveys.proofs.Putting.{put_on, with_bodies-get}
+use Rattle.trio_surveys.proofs.Sheets.{with_pages_absent}
+use Rattle.trio_laws.proofs.StateFacts.{write_is, tables}
+use Rattle.trio_lists.proofs.Filters.{any_at}
 use Rattle.trio_laws.proofs.Survivors.{Stays, fit_now, sound_now, stays, survivor_unwritten, out_unlisted, number_free}
 
 absent_map : (f : List ℕ → List ℕ) (o : Option (Option (List ℕ))) → option_map (option_map f) o ≡ Some None → o ≡ Some None

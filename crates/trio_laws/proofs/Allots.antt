@@ -9,28 +9,28 @@ use Rattle.trio_tables.specs.Free.{count_up, is_free_page, is_free_number}
 use Rattle.trio_tables.specs.Out.{is_out}
 use Rattle.trio_tables.proofs.OutLemmas.{is_out-given, length-with_all, lib_at-others, lib_at-set}
 use Rattle.trio_layout.specs.Core.{Core}
-use Rattle.trio_layout.specs.Lists.{is_among, In}
+use Rattle.trio_lists.specs.Lists.{is_among, In}
 use Rattle.trio_layout.specs.Range.{is_core}
 use Rattle.trio_layout.specs.Survey.{plain, survey}
 use Rattle.trio_state.specs.Allotments.{free_pages, free_numbers, allots, out_with}
 use Rattle.trio_state.specs.Given.{WasAllotted}
 use Rattle.trio_state.specs.Grants.{has_parent_grant}
-use Rattle.trio_state.specs.Image.{IsFit, row_at}
+use Rattle.trio_layout.specs.Image.{IsFit, row_at}
 use Rattle.trio_state.specs.Kept.{Kept}
-use Rattle.trio_state.specs.Sheets.{sheet_numbers, with_pages, without_pages}
+use Rattle.trio_page.specs.Sheets.{sheet_numbers, with_pages, without_pages}
 use Rattle.trio_state.specs.State.{State, settled, logged}
 use Rattle.trio_state.specs.Step.{Outcome, allot_outcome, Allot, Answer, NoPages, NoInodes, Given, Step}
 use Rattle.trio_laws.proofs.Agreeing.{verifies_still, lent_still, body_still}
-use Rattle.trio_laws.proofs.Bundles.{filter_in}
+use Rattle.trio_lists.proofs.Filters.{filter_in}
 use Rattle.trio_laws.proofs.Grants.{logged_kept}
-use Rattle.trio_laws.proofs.Images.{some_of, free_unlisted}
-use Rattle.trio_laws.proofs.Members.{In-among, among_from}
-use Rattle.trio_laws.proofs.Owned.{pages_are}
+use Rattle.trio_surveys.proofs.Images.{some_of, free_unlisted}
+use Rattle.trio_lists.proofs.Members.{In-among, among_from}
+use Rattle.trio_surveys.proofs.Owned.{pages_are}
 use Rattle.trio_laws.proofs.Refusing.{read_listed}
-use Rattle.trio_laws.proofs.SheetLaws.{length-with_pages}
-use Rattle.trio_laws.proofs.Sheets.{Pages, among_cases, with_pages_cong, with_pages_apart, without_apart, without_there, without_absent, length-without, place_there, place_within, page_same, page_there}
+use Rattle.trio_surveys.proofs.SheetLaws.{length-with_pages}
+use Rattle.trio_surveys.proofs.Sheets.{Pages, among_cases, with_pages_cong, with_pages_apart, without_apart, without_there, without_absent, length-without, place_there, place_within, page_same, page_there}
 use Rattle.trio_laws.proofs.StateFacts.{tables, checkpoint_lent, lent_met}
-use Rattle.trio_laws.specs.Reading.{with_other, AgreeOn}
+use Rattle.trio_surveys.specs.Reading.{with_other, AgreeOn}
 
 take_in : (n : ℕ) (xs : List ℕ) (x : ℕ) → In x (take n xs) → In x xs
 take_in zero xs x i = absurd i

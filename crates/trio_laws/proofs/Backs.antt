@@ -6,16 +6,17 @@ use Rattle.std.proofs.lemmas.Bool.{and_parts, and_right, false≢true, not-false
 use Rattle.trio_rights.specs.Row.{Row}
 use Rattle.trio_nodes.specs.declared.grant.GrantKind.{GrantKind}
 use Rattle.trio_nodes.specs.declared.grant.GrantKind.TheVariants.{Read, Write, Hold}
-use Rattle.trio_layout.specs.Lists.{is_among, In}
+use Rattle.trio_lists.specs.Lists.{is_among, In}
 use Rattle.trio_state.specs.Grants.{has_parent_grant, given_back}
-use Rattle.trio_state.specs.Image.{IsFit, Image, settled_body, row_at}
+use Rattle.trio_layout.specs.Image.{IsFit, Image, settled_body, row_at}
 use Rattle.trio_state.specs.Kept.{Kept, LentIsListed, MayBothStand}
-use Rattle.trio_state.specs.Sheets.{Sheet, sheet_numbers, with_pages}
-use Rattle.trio_state.specs.State.{covered, OpenGrant, State, settled, is_write, is_read}
+use Rattle.trio_page.specs.Sheets.{Sheet, sheet_numbers, with_pages}
+use Rattle.trio_state.specs.State.{covered, OpenGrant, State, settled}
+use Rattle.trio_nodes.specs.GrantKinds.{is_write, is_read}
 use Rattle.trio_state.specs.Step.{Back, Answer, Step}
-use Rattle.trio_state.specs.Verifies.{Verifies}
-use Rattle.trio_laws.proofs.Bundles.{filter_in, in_filter}
-use Rattle.trio_laws.proofs.StateFacts.{any_from, any_at}
+use Rattle.trio_layout.specs.Verifies.{Verifies}
+use Rattle.trio_lists.proofs.Filters.{filter_in, in_filter}
+use Rattle.trio_lists.proofs.Filters.{any_from, any_at}
 
 flat_filter_step : {X Y : Type 0} (f : X → List Y) (p : X → Bool) (x : X) (xs : List X) (b : Bool) → (b ≡ false → f x ≡ []) → flat_map f (filter p xs) ≡ flat_map f xs → flat_map f (cond b (x ∷ filter p xs) (filter p xs)) ≡ f x ++ flat_map f xs
 flat_filter_step f p x xs true h ih = ap (λ l. f x ++ l) ih

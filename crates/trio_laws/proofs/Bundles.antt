@@ -1,115 +1,43 @@
 -- What a bundle that was given to its library can touch.
-use Rattle.std.proofs.Common.{◌≡◌, ℕ, suc, zero, ◌<◌, ◌≤◌, Bool, true, false, cond, ◌&&◌, ◌||◌, not, eqb, List, [], ◌∷◌, ◌++◌, Option, Some, None, Result, Ok, Err, sym, refl, ap, ◌∙◌, subst, inl, inr, ◌⊎◌, arith}
+use Rattle.std.proofs.Common.{◌≡◌, ℕ, ◌<◌, Bool, true, false, cond, ◌&&◌, ◌||◌, not, eqb, List, [], ◌∷◌, ◌++◌, Option, Some, None, Ok, sym, refl, ap, ◌∙◌, subst, inl, inr, ◌⊎◌, arith}
 use Rattle.std.specs.Prelude.{map, is_some, slice_index}
 use Rattle.std.specs.List.{flat_map, find, filter, list_all}
 use Rattle.std.specs.Option.{option_map_or}
 use Rattle.std.proofs.lemmas.List.{map-append}
-use Rattle.std.proofs.lemmas.Bool.{and_parts, and_from, or_cases, or_right, eqb-true, eq-eqb, false≢true, not-true, both_ways, false_from_ne_true, cases_lt, cases_Bool}
+use Rattle.std.proofs.lemmas.Bool.{and_parts, and_from, or_cases, or_right, eqb-true, eq-eqb, false≢true, not-true, both_ways, false_from_ne_true, cases_Bool}
 use Rattle.trio_rights.specs.Row.{Row}
-use Rattle.trio_rights.specs.declared.kind.Kind.{Kind}
-use Rattle.trio_rights.specs.declared.kind.Kind.TheVariants.{Regular, Directory}
 use Rattle.trio_nodes.specs.declared.grant.GrantKind.{GrantKind}
 use Rattle.trio_nodes.specs.declared.grant.GrantKind.TheVariants.{Read, Write, Hold}
 use Rattle.trio_layout.specs.Body.{body_of, block_count}
 use Rattle.trio_layout.specs.Chain.{index_count, chain_of}
 use Rattle.trio_layout.specs.Core.{Core, page_of}
 use Rattle.trio_layout.specs.Entries.{Listed}
-use Rattle.trio_layout.specs.Lists.{In, is_among}
+use Rattle.trio_lists.specs.Lists.{In, is_among}
 use Rattle.trio_layout.specs.Sound.{is_sound}
 use Rattle.trio_layout.specs.Survey.{Met, Pick, plain, FileRead, file_of, survey, children, pages_of, met_in}
-use Rattle.trio_state.specs.Allowed.{same_kind, same_row, all_up_to}
 use Rattle.trio_state.specs.Allotments.{out_after, has_none_out}
-use Rattle.trio_state.specs.Bundles.{is_hold, is_parent_written, is_parted, lower, lowest, parted_hold, is_in_bundle, has_all}
+use Rattle.trio_state.specs.Bundles.{is_parent_written, is_parted, lower, lowest, parted_hold, is_in_bundle, has_all}
+use Rattle.trio_nodes.specs.GrantKinds.{is_hold, is_write, is_read}
 use Rattle.trio_state.specs.Given.{GivenTo}
-use Rattle.trio_state.specs.Image.{IsFit, settled_body, row_at}
+use Rattle.trio_layout.specs.Image.{IsFit, settled_body, row_at}
 use Rattle.trio_state.specs.Kept.{Kept}
-use Rattle.trio_state.specs.Proposed.{Written, Bundle, bundle_sheets, bundle_pages, is_written, kept_body, is_place_of, proposed, proposed_pick}
-use Rattle.trio_state.specs.Sheets.{Sheet, sheet_numbers, with_pages}
-use Rattle.trio_state.specs.State.{OpenGrant, State, settled, is_write, is_read}
-use Rattle.trio_laws.proofs.Images.{finds, found, met_numbered, owner_listed, root_or_listed}
-use Rattle.trio_laws.proofs.Local.{reads_from, chain_follows}
-use Rattle.trio_laws.proofs.Members.{In-left, In-cases, flat_from, map_from, In-map, In-among, among_from, all_at}
-use Rattle.trio_laws.proofs.Owned.{pages_are}
-use Rattle.trio_laws.proofs.Sheets.{with_pages_apart, page_same}
+use Rattle.trio_layout.specs.Proposed.{Written, Bundle, bundle_sheets, bundle_pages, is_written, kept_body, is_place_of, proposed, proposed_pick}
+use Rattle.trio_page.specs.Sheets.{Sheet, sheet_numbers, with_pages}
+use Rattle.trio_state.specs.State.{OpenGrant, State, settled}
+use Rattle.trio_surveys.proofs.Images.{met_numbered, owner_listed, root_or_listed}
+use Rattle.trio_lists.proofs.Filters.{finds, found, ok_one, in_filter, filter_none}
+use Rattle.trio_surveys.proofs.Local.{reads_from, chain_follows}
+use Rattle.trio_lists.proofs.Members.{In-left, In-cases, flat_from, map_from, In-map, In-among, among_from, all_at}
+use Rattle.trio_surveys.proofs.Owned.{pages_are}
+use Rattle.trio_surveys.proofs.Sheets.{with_pages_apart, page_same}
 use Rattle.trio_laws.proofs.StateFacts.{alone, tables, lent_met}
-use Rattle.trio_laws.proofs.Tree.{child_from}
-
--- an answer is one value
-pub ok_one : {X E : Type 0} (o : Result X E) (x y : X) → o ≡ Ok x → o ≡ Ok y → x ≡ y
-ok_one (Ok z) x y e f = (let a : z ≡ x = cc e in let b : z ≡ y = cc f in sym a ∙ b)
-ok_one (Err p) x y e f = absurd cc
-
-filter_case : {X : Type 0} (p : X → Bool) (x z : X) (zs : List X) (b : Bool) → p z ≡ b → (In x (filter p zs) → In x zs × (p x ≡ true)) → In x (cond b (z ∷ filter p zs) (filter p zs)) → ((x ≡ z) ⊎ In x zs) × (p x ≡ true)
-filter_case p x z zs true t h (inl s) = (inl s, ap p s ∙ t)
-filter_case p x z zs true t h (inr i) = let r = h i in (inr r.0, r.1)
-filter_case p x z zs false t h i = let r = h i in (inr r.0, r.1)
-
-pub filter_in : {X : Type 0} (p : X → Bool) (x : X) (xs : List X) → In x (filter p xs) → In x xs × (p x ≡ true)
-filter_in p x [] i = absurd i
-filter_in p x (z ∷ zs) i = filter_case p x z zs (p z) refl (filter_in p x zs) i
-
-in_filter_case : {X : Type 0} (p : X → Bool) (x z : X) (zs : List X) (b : Bool) → p z ≡ b → p x ≡ true → (In x zs → In x (filter p zs)) → (x ≡ z) ⊎ In x zs → In x (cond b (z ∷ filter p zs) (filter p zs))
-in_filter_case p x z zs true t e h (inl s) = inl s
-in_filter_case p x z zs true t e h (inr i) = inr (h i)
-in_filter_case p x z zs false t e h (inl s) = absurd (both_ways (p z) t (ap p (sym s) ∙ e))
-in_filter_case p x z zs false t e h (inr i) = h i
-
-pub in_filter : {X : Type 0} (p : X → Bool) (x : X) (xs : List X) → In x xs → p x ≡ true → In x (filter p xs)
-in_filter p x [] i e = absurd i
-in_filter p x (z ∷ zs) i e = in_filter_case p x z zs (p z) refl e (λ j. in_filter p x zs j e) i
-
-cases_le : (j n : ℕ) → (j ≤ n) ⊎ (n < j)
-cases_le j n = elim (cases_lt n j) [ inl l ↦ inr l | inr g ↦ inl g ]
+use Rattle.trio_surveys.proofs.Tree.{child_from}
 
 pub picked_met : (pick : Pick) (d : ℕ) (m : Met) (l : Listed) → m ≡ met_in pick d l → m.body ≡ pick m.parent m.page m.slot m.ino l.body
 picked_met pick d m l e =
     let P : Met → Type 0 = λ x. x.body ≡ pick x.parent x.page x.slot x.ino l.body in
     let there : (met_in pick d l).body ≡ pick d l.page l.slot l.entry.ino l.body = refl in
     subst P (sym e) there
-
-pub up_to_at : (p : ℕ → Bool) (n j : ℕ) → all_up_to p n ≡ true → 0 < j → j ≤ n → p j ≡ true
-up_to_at p zero j h low high = absurd (omega arith)
-up_to_at p (suc n) j h low high =
-    let parts = and_parts (all_up_to p n) (p (suc n)) h in
-    elim (let c : (j ≡ suc n) ⊎ (j ≤ n) = (elim (cases_le j n) [ inl a ↦ inr a | inr b ↦ (let e : j ≡ suc n = omega arith in inl e) ]) in c) [
-      | inl e ↦ ap p e ∙ parts.1
-      | inr l ↦ up_to_at p n j parts.0 low l
-    ]
-
-pub same_kind_is : (a b : Kind) → same_kind a b ≡ true → a ≡ b
-same_kind_is Regular Regular e = refl
-same_kind_is Directory Directory e = refl
-same_kind_is Regular Directory e = absurd (false≢true e)
-same_kind_is Directory Regular e = absurd (false≢true e)
-
-row_same : (r q : Row) → r.kind ≡ q.kind → r.mode.0 ≡ q.mode.0 → r.uid ≡ q.uid → r.gid ≡ q.gid → r.parent ≡ q.parent → r.page ≡ q.page → r.slot ≡ q.slot → r ≡ q
-row_same r q kind mode uid gid parent page slot =
-    ap (λ (x : Kind). record r { kind = x }) kind
-    ∙ ap (λ (n : ℕ). record { kind = q.kind; mode = record { 0 = n }; uid = r.uid; gid = r.gid; parent = r.parent; page = r.page; slot = r.slot }) mode
-    ∙ ap (λ (n : ℕ). record { kind = q.kind; mode = q.mode; uid = n; gid = r.gid; parent = r.parent; page = r.page; slot = r.slot }) uid
-    ∙ ap (λ (n : ℕ). record { kind = q.kind; mode = q.mode; uid = q.uid; gid = n; parent = r.parent; page = r.page; slot = r.slot }) gid
-    ∙ ap (λ (n : ℕ). record { kind = q.kind; mode = q.mode; uid = q.uid; gid = q.gid; parent = n; page = r.page; slot = r.slot }) parent
-    ∙ ap (λ (n : ℕ). record { kind = q.kind; mode = q.mode; uid = q.uid; gid = q.gid; parent = q.parent; page = n; slot = r.slot }) page
-    ∙ ap (λ (n : ℕ). record { kind = q.kind; mode = q.mode; uid = q.uid; gid = q.gid; parent = q.parent; page = q.page; slot = n }) slot
-
--- rows that pass as the same are
-pub same_row_is : (r : Row) (o : Option Row) → same_row (Some r) o ≡ true → o ≡ Some r
-same_row_is r None e = absurd (false≢true e)
-same_row_is r (Some q) e =
-    let a1 : Bool = same_kind r.kind q.kind in
-    let a2 : Bool = eqb r.mode.0 q.mode.0 in
-    let a3 : Bool = eqb r.uid q.uid in
-    let a4 : Bool = eqb r.gid q.gid in
-    let a5 : Bool = eqb r.parent q.parent in
-    let a6 : Bool = eqb r.page q.page in
-    let a7 : Bool = eqb r.slot q.slot in
-    let s7 = and_parts (a1 && a2 && a3 && a4 && a5 && a6) a7 e in
-    let s6 = and_parts (a1 && a2 && a3 && a4 && a5) a6 s7.0 in
-    let s5 = and_parts (a1 && a2 && a3 && a4) a5 s6.0 in
-    let s4 = and_parts (a1 && a2 && a3) a4 s5.0 in
-    let s3 = and_parts (a1 && a2) a3 s4.0 in
-    let s2 = and_parts a1 a2 s3.0 in
-    ap Some (sym (row_same r q (same_kind_is r.kind q.kind s2.0) (eqb-true r.mode.0 q.mode.0 s2.1) (eqb-true r.uid q.uid s3.1) (eqb-true r.gid q.gid s4.1) (eqb-true r.parent q.parent s5.1) (eqb-true r.page q.page s6.1) (eqb-true r.slot q.slot s7.1)))
 
 pub in_numbers : (xs : List Sheet) (x : Sheet) (p : ℕ) → In x xs → p ≡ x.page → In p (sheet_numbers xs)
 in_numbers xs x p i e = subst (λ n. In n (sheet_numbers xs)) (sym e) (In-map (λ (y : Sheet). y.page) x xs i)
@@ -155,10 +83,6 @@ unparted_at s lib b g none i =
     (λ t.
     let j = In-map (λ (x : OpenGrant). x.ino) g (filter (is_parted s lib b) s.open_grants) (in_filter (is_parted s lib b) g s.open_grants i t) in
     subst (λ l. In g.ino l) (none_lowest (map (λ (x : OpenGrant). x.ino) (filter (is_parted s lib b) s.open_grants)) none) j)
-
-filter_none : {X : Type 0} (p : X → Bool) (xs : List X) → ((x : X) → In x xs → p x ≡ false) → filter p xs ≡ []
-filter_none p [] h = refl
-filter_none p (x ∷ xs) h = ap (λ t. cond t (x ∷ filter p xs) (filter p xs)) (h x (inl refl)) ∙ filter_none p xs (λ y i. h y (inr i))
 
 pub unparted_from : (s : State) (lib : ℕ) (b : Bundle) → ((g : OpenGrant) → In g s.open_grants → is_parted s lib b g ≡ false) → parted_hold s lib b ≡ None
 unparted_from s lib b h = ap (λ l. lowest (map (λ (x : OpenGrant). x.ino) l)) (filter_none (is_parted s lib b) s.open_grants h)

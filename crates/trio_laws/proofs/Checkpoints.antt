@@ -7,20 +7,20 @@ use Rattle.trio_rights.specs.declared.kind.Kind.{Kind}
 use Rattle.trio_rights.specs.declared.kind.Kind.TheVariants.{Regular, Directory}
 use Rattle.trio_nodes.specs.declared.grant.GrantKind.TheVariants.{Write}
 use Rattle.trio_layout.specs.Core.{Core, page_of}
-use Rattle.trio_layout.specs.Lists.{In, is_among, are_new}
+use Rattle.trio_lists.specs.Lists.{In, is_among, are_new}
 use Rattle.trio_layout.specs.Range.{is_core}
 use Rattle.trio_layout.specs.Survey.{plain, survey, pages_of}
-use Rattle.trio_layout.proofs.MarkLemmas.{are_new-append}
+use Rattle.trio_lists.proofs.MarkLemmas.{are_new-append}
 use Rattle.trio_state.specs.Kept.{Kept}
-use Rattle.trio_state.specs.Sheets.{Sheet, sheet_numbers, with_pages}
+use Rattle.trio_page.specs.Sheets.{Sheet, sheet_numbers, with_pages}
 use Rattle.trio_state.specs.State.{OpenGrant, State, settled, covered}
 use Rattle.trio_laws.specs.EndLaws.{checkpoints_of}
 use Rattle.trio_laws.proofs.Bundles.{in_numbers}
-use Rattle.trio_laws.proofs.Cores.{listed_is_core}
-use Rattle.trio_laws.proofs.Members.{In-right, flat_from, map_from}
-use Rattle.trio_laws.proofs.Owned.{new_before, pages_are, pages_new, sound_parts}
-use Rattle.trio_laws.proofs.SheetLaws.{get-set_same, get-set_other, length-with_pages}
-use Rattle.trio_laws.proofs.Sheets.{Pages, among_cases, with_pages_apart, with_pages_known, place_there, page_from}
+use Rattle.trio_surveys.proofs.Cores.{listed_is_core}
+use Rattle.trio_lists.proofs.Members.{In-right, flat_from, map_from}
+use Rattle.trio_surveys.proofs.Owned.{new_before, pages_are, pages_new, sound_parts}
+use Rattle.trio_surveys.proofs.SheetLaws.{get-set_same, get-set_other, length-with_pages}
+use Rattle.trio_surveys.proofs.Sheets.{Pages, among_cases, with_pages_apart, with_pages_known, place_there, page_from}
 use Rattle.trio_laws.proofs.StateFacts.{covered_write, write_alone, lent_met, lent_file}
 
 set_past : (pages : Pages) (k n : ℕ) (x : Option (List ℕ)) → slice_get pages n ≡ None → slice_get (slice_set pages k x) n ≡ None

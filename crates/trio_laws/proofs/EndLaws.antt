@@ -1,13 +1,10 @@
 -- The laws of the end of a release, each from the lemmas that carry it.
-use Rattle.trio_laws.specs.EndLaws.{AcceptedSettles, BodiesInAnyOrder, BodyStands, LendableIsHome, RefusedSettles}
-use Rattle.trio_laws.proofs.AnyOrder.{any_order}
+use Rattle.trio_laws.specs.EndLaws.{AcceptedSettles, BodyStands, LendableIsHome, RefusedSettles}
+use Rattle.trio_surveys.proofs.AnyOrder.{any_order}
 use Rattle.trio_laws.proofs.Spread.{accepted_settles as spread_settles}
 use Rattle.trio_laws.proofs.PutBack.{refused_settles as back_settles}
 use Rattle.trio_laws.proofs.Standing.{stands_at}
 use Rattle.trio_laws.proofs.Lendable.{at_home}
-
-pub bodies_in_any_order : BodiesInAnyOrder
-bodies_in_any_order core pick ms fit sound met rest = any_order core pick fit sound ms met rest
 
 pub accepted_settles : AcceptedSettles
 accepted_settles s lib b pages grants k given accepted like spread =

@@ -9,21 +9,25 @@ use Rattle.trio_rights.specs.Row.{Row}
 use Rattle.trio_nodes.specs.declared.grant.GrantKind.TheVariants.{Write, Hold}
 use Rattle.trio_tables.specs.Out.{is_out}
 use Rattle.trio_tables.proofs.OutLemmas.{is_out-back, length-with_all, lib_at-others}
-use Rattle.trio_layout.specs.Lists.{is_among, are_new, In}
-use Rattle.trio_state.specs.Bundles.{is_hold, is_in_bundle, grants_after, lent_part, blank, Ends}
+use Rattle.trio_lists.specs.Lists.{is_among, are_new, In}
+use Rattle.trio_state.specs.Bundles.{is_in_bundle, grants_after, lent_part, blank, Ends}
+use Rattle.trio_nodes.specs.GrantKinds.{is_hold}
 use Rattle.trio_state.specs.Given.{GivenTo}
 use Rattle.trio_state.specs.Grants.{has_parent_grant}
-use Rattle.trio_state.specs.Image.{Image, row_at}
+use Rattle.trio_layout.specs.Image.{Image, row_at}
 use Rattle.trio_state.specs.Kept.{Kept, MayBothStand, is_lent}
-use Rattle.trio_state.specs.Proposed.{Written, Bundle, is_written}
-use Rattle.trio_state.specs.Sheets.{Sheet, sheet_numbers}
-use Rattle.trio_state.specs.State.{covered, OpenGrant, State, is_write}
-use Rattle.trio_laws.proofs.Bundles.{Closed, filter_in, in_filter}
-use Rattle.trio_laws.proofs.Images.{found}
-use Rattle.trio_laws.proofs.Members.{In-left, In-map, map_from, In-among, among_from}
-use Rattle.trio_laws.proofs.Owned.{new_weaker}
-use Rattle.trio_laws.proofs.Sheets.{among_cases, with_pages_apart}
-use Rattle.trio_laws.proofs.StateFacts.{any_from, any_at, write_is, write_alone, covered_write, numbers_flat}
+use Rattle.trio_layout.specs.Proposed.{Written, Bundle, is_written}
+use Rattle.trio_page.specs.Sheets.{Sheet, sheet_numbers}
+use Rattle.trio_state.specs.State.{covered, OpenGrant, State}
+use Rattle.trio_nodes.specs.GrantKinds.{is_write}
+use Rattle.trio_laws.proofs.Bundles.{Closed}
+use Rattle.trio_lists.proofs.Filters.{filter_in, in_filter}
+use Rattle.trio_lists.proofs.Filters.{found}
+use Rattle.trio_lists.proofs.Members.{In-left, In-map, map_from, In-among, among_from}
+use Rattle.trio_surveys.proofs.Owned.{new_weaker}
+use Rattle.trio_surveys.proofs.Sheets.{among_cases, with_pages_apart}
+use Rattle.trio_laws.proofs.StateFacts.{write_is, write_alone, covered_write, numbers_flat}
+use Rattle.trio_lists.proofs.Filters.{any_from, any_at}
 
 pub blank_numbers : (xs : List Sheet) → sheet_numbers (map blank xs) ≡ sheet_numbers xs
 blank_numbers [] = refl

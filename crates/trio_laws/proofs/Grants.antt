@@ -13,17 +13,20 @@ use Rattle.trio_nodes.specs.declared.grant.GrantKind.{GrantKind}
 use Rattle.trio_nodes.specs.declared.grant.GrantKind.TheVariants.{Read, Write, Hold}
 use Rattle.trio_nodes.specs.declared.answers.GrantFault.{GrantFault}
 use Rattle.trio_nodes.specs.declared.answers.GrantFault.TheVariants.{NotLive, Denied, NoParent, Busy, NoMemory as OutOfMemory}
-use Rattle.trio_layout.specs.Lists.{is_among, In}
+use Rattle.trio_lists.specs.Lists.{is_among, In}
 use Rattle.trio_layout.specs.Survey.{row_by}
-use Rattle.trio_state.specs.Grants.{holder_of, denied_or, excluding, excludes_kind, denied_by, lacks_parent, has_parent_grant, opened, lent_pages, opens, grant_fault}
-use Rattle.trio_state.specs.Image.{IsFit, Image, settled_body, row_at}
+use Rattle.trio_state.specs.Grants.{holder_of, denied_or, excluding, denied_by, lacks_parent, has_parent_grant, opened, lent_pages, opens, grant_fault}
+use Rattle.trio_nodes.specs.GrantKinds.{excludes_kind}
+use Rattle.trio_layout.specs.Image.{IsFit, Image, settled_body, row_at}
 use Rattle.trio_state.specs.Kept.{Kept, LentIsListed, MayBothStand, HoldStands}
-use Rattle.trio_state.specs.Sheets.{sheet_numbers, with_pages, without_pages}
-use Rattle.trio_state.specs.State.{covered, OpenGrant, State, settled, is_write, is_read, logged}
+use Rattle.trio_page.specs.Sheets.{sheet_numbers, with_pages, without_pages}
+use Rattle.trio_state.specs.State.{covered, OpenGrant, State, settled, logged}
+use Rattle.trio_nodes.specs.GrantKinds.{is_write, is_read}
 use Rattle.trio_state.specs.Step.{Grant, Answer, Step, granted_to, after_grant_fault}
-use Rattle.trio_state.specs.Verifies.{Verifies}
-use Rattle.trio_laws.proofs.Members.{In-cases}
-use Rattle.trio_laws.proofs.StateFacts.{In_get, live_met}
+use Rattle.trio_layout.specs.Verifies.{Verifies}
+use Rattle.trio_lists.proofs.Members.{In-cases}
+use Rattle.trio_laws.proofs.StateFacts.{live_met}
+use Rattle.trio_lists.proofs.Filters.{In_get}
 use Rattle.trio_laws.proofs.WriteGrant.{write_grant_kept}
 
 pub logged_kept : (s : State) → Kept s → Kept (logged s)

@@ -4,27 +4,27 @@ use Rattle.std.specs.Prelude.{map}
 use Rattle.trio_rights.specs.declared.kind.Kind.{Kind}
 use Rattle.trio_rights.specs.declared.rights.Creds.{Creds}
 use Rattle.trio_rights.specs.Row.{Row}
-use Rattle.trio_layout.specs.Lists.{In}
+use Rattle.trio_lists.specs.Lists.{In}
 use Rattle.trio_layout.specs.Core.{Core, page_of}
 use Rattle.trio_layout.specs.Body.{body_of}
 use Rattle.trio_layout.specs.Entries.{entries_of_kind}
 use Rattle.trio_layout.specs.Survey.{Pick, plain, file_of, survey}
 use Rattle.trio_layout.specs.Sound.{is_sound}
-use Rattle.trio_state.specs.Image.{Image, IsFit, row_at, settled_body}
+use Rattle.trio_layout.specs.Image.{Image, IsFit, row_at, settled_body}
 use Rattle.trio_state.specs.State.{State, settled}
-use Rattle.trio_state.specs.Proposed.{Bundle, proposed, proposed_pick}
-use Rattle.trio_state.specs.Accept.{is_accepted, next}
+use Rattle.trio_layout.specs.Proposed.{Bundle, proposed, proposed_pick}
+use Rattle.trio_layout.specs.Accept.{is_accepted, next}
 use Rattle.trio_state.specs.Kept.{Kept}
 use Rattle.trio_state.specs.Given.{GivenTo}
-use Rattle.trio_laws.specs.Reading.{picked_entry}
+use Rattle.trio_surveys.specs.Reading.{picked_entry}
 use Rattle.trio_laws.specs.Laws.{plain_pages}
 use Rattle.trio_laws.specs.ContentLaws.{HasSameContent, HeldFilesKeepContent}
-use Rattle.trio_laws.proofs.Members.{In-among}
-use Rattle.trio_laws.proofs.Local.{reads_from, reads_to}
-use Rattle.trio_laws.proofs.Owned.{pages_are}
-use Rattle.trio_laws.proofs.Picked.{all_listed, page_put_is, file_put, survey_put}
-use Rattle.trio_laws.proofs.Images.{MetAt, met_row, row_at_is, settled_body_met}
-use Rattle.trio_laws.proofs.Accepted.{accepted_verifies, fit_put}
+use Rattle.trio_lists.proofs.Members.{In-among}
+use Rattle.trio_surveys.proofs.Local.{reads_from, reads_to}
+use Rattle.trio_surveys.proofs.Owned.{pages_are}
+use Rattle.trio_surveys.proofs.Picked.{all_listed, page_put_is, file_put, survey_put}
+use Rattle.trio_surveys.proofs.Images.{MetAt, met_row, row_at_is, settled_body_met}
+use Rattle.trio_surveys.proofs.Accepted.{accepted_verifies, fit_put}
 use Rattle.trio_laws.proofs.StateFacts.{tables, live_met}
 use Rattle.trio_laws.proofs.Bundles.{Unwritten, unwritten_apart, page_kept}
 use Rattle.trio_laws.proofs.Survivors.{fit_now, sound_now, held_unwritten, held_met}

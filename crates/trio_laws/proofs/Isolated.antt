@@ -7,29 +7,30 @@ use Rattle.trio_rights.specs.declared.kind.Kind.{Kind}
 use Rattle.trio_rights.specs.declared.kind.Kind.TheVariants.{Regular, Directory}
 use Rattle.trio_rights.specs.declared.rights.Creds.{Creds}
 use Rattle.trio_rights.specs.Row.{Row}
-use Rattle.trio_layout.specs.Lists.{In, is_among, result_then, both, gathered}
-use Rattle.trio_layout.specs.Core.{Core, at_page, there_or, page_of}
+use Rattle.trio_lists.specs.Lists.{In, is_among, result_then, both, gathered}
+use Rattle.trio_layout.specs.Core.{Core, at_page, page_of}
+use Rattle.trio_lists.specs.Lists.{there_or}
 use Rattle.trio_layout.specs.Body.{body_of, block_count}
 use Rattle.trio_layout.specs.Chain.{index_count}
 use Rattle.trio_layout.specs.Entries.{Listed, entries_on, page_entries, with_names_apart, entries_of_kind}
 use Rattle.trio_layout.specs.Survey.{Met, Pick, plain, FileRead, file_of, survey, children, pages_of, row_by, row_of}
 use Rattle.trio_layout.specs.Sound.{is_sound}
-use Rattle.trio_state.specs.Image.{Image, IsFit, row_at, settled_body}
+use Rattle.trio_layout.specs.Image.{Image, IsFit, row_at, settled_body}
 use Rattle.trio_state.specs.State.{State, settled}
-use Rattle.trio_state.specs.Proposed.{Bundle, proposed, proposed_pick}
-use Rattle.trio_state.specs.Accept.{is_accepted, next}
+use Rattle.trio_layout.specs.Proposed.{Bundle, proposed, proposed_pick}
+use Rattle.trio_layout.specs.Accept.{is_accepted, next}
 use Rattle.trio_state.specs.Kept.{Kept}
 use Rattle.trio_state.specs.Given.{GivenTo}
-use Rattle.trio_laws.specs.Reading.{picked_entry}
+use Rattle.trio_surveys.specs.Reading.{picked_entry}
 use Rattle.trio_laws.specs.Laws.{entry_only, plain_pages, IsUntouched, OthersUntouched}
-use Rattle.trio_laws.proofs.Members.{In-left, In-right, In-cases, flat_from, among_from}
-use Rattle.trio_laws.proofs.Local.{reads_from, reads_to, chain_follows}
-use Rattle.trio_laws.proofs.Tree.{child_from, child_placed}
-use Rattle.trio_laws.proofs.Owned.{sound_parts, page_owner, pages_are, index_apart}
-use Rattle.trio_laws.proofs.Putting.{put_on, put_on-none}
-use Rattle.trio_laws.proofs.Picked.{all_listed, page_put_is, file_put, survey_put}
-use Rattle.trio_laws.proofs.Images.{MetAt, row_at_is, row_met, settled_body_met}
-use Rattle.trio_laws.proofs.Accepted.{accepted_verifies, fit_put}
+use Rattle.trio_lists.proofs.Members.{In-left, In-right, In-cases, flat_from, among_from}
+use Rattle.trio_surveys.proofs.Local.{reads_from, reads_to, chain_follows}
+use Rattle.trio_surveys.proofs.Tree.{child_from, child_placed}
+use Rattle.trio_surveys.proofs.Owned.{sound_parts, page_owner, pages_are, index_apart}
+use Rattle.trio_surveys.proofs.Putting.{put_on, put_on-none}
+use Rattle.trio_surveys.proofs.Picked.{all_listed, page_put_is, file_put, survey_put}
+use Rattle.trio_surveys.proofs.Images.{MetAt, row_at_is, row_met, settled_body_met}
+use Rattle.trio_surveys.proofs.Accepted.{accepted_verifies, fit_put}
 use Rattle.trio_laws.proofs.StateFacts.{tables, live_met}
 use Rattle.trio_laws.proofs.Bundles.{finds_unwritten, Unwritten, unwritten_apart, page_kept}
 use Rattle.trio_laws.proofs.Survivors.{fit_now, sound_now, stays}

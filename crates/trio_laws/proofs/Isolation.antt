@@ -10,29 +10,29 @@ use Rattle.trio_nodes.specs.declared.answers.GrantFault.{GrantFault}
 use Rattle.trio_nodes.specs.declared.answers.GrantFault.TheVariants.{NotLive, Denied, NoParent, Busy, NoMemory as OutOfMemory}
 use Rattle.trio_nodes.specs.declared.answers.ModeFault.{ModeFault}
 use Rattle.trio_nodes.specs.declared.answers.ModeFault.TheVariants.{NotLive as ModeNotLive, NotOwner, BadMode, Busy as ModeBusy, NoMemory as ModeNoMemory}
-use Rattle.trio_layout.specs.Lists.{In}
+use Rattle.trio_lists.specs.Lists.{In}
 use Rattle.trio_layout.specs.Core.{Core, page_of}
 use Rattle.trio_layout.specs.Survey.{Met, plain, FileRead, file_of, survey, row_by}
-use Rattle.trio_state.specs.Sheets.{Sheet}
-use Rattle.trio_state.specs.Image.{Image, IsFit, row_at}
-use Rattle.trio_state.specs.Verifies.{Verifies}
+use Rattle.trio_page.specs.Sheets.{Sheet}
+use Rattle.trio_layout.specs.Image.{Image, IsFit, row_at}
+use Rattle.trio_layout.specs.Verifies.{Verifies}
 use Rattle.trio_state.specs.State.{OpenGrant, State, settled, creds_of, logged}
-use Rattle.trio_state.specs.Proposed.{Bundle, bundle_sheets, bundle_pages}
-use Rattle.trio_state.specs.Accept.{is_accepted, next}
-use Rattle.trio_state.specs.Mode.{with_mode, moded, moded_row}
+use Rattle.trio_layout.specs.Proposed.{Bundle, bundle_sheets, bundle_pages}
+use Rattle.trio_layout.specs.Accept.{is_accepted, next}
+use Rattle.trio_layout.specs.Mode.{with_mode, moded, moded_row}
 use Rattle.trio_state.specs.Grants.{grant_fault, opened, opens, told_children, given_back}
 use Rattle.trio_state.specs.Allotments.{free_pages, free_numbers, allots}
 use Rattle.trio_state.specs.Bundles.{uncovered, refused_image, Ends}
 use Rattle.trio_state.specs.Step.{Grant, Allot, Back, Release, Settle, SetMode, Answer, NoPages, NoInodes, Given, Outcome, after_grant_fault, granted_to, allot_outcome, mode_fault, after_mode_fault, moded_to, ReleaseEnd, Parted, IsAccepted, IsRefused}
 use Rattle.trio_state.specs.Kept.{Kept}
 use Rattle.trio_state.specs.Given.{GivenTo}
-use Rattle.trio_laws.specs.Reading.{with_other, AgreeOn}
+use Rattle.trio_surveys.specs.Reading.{with_other, AgreeOn}
 use Rattle.trio_laws.specs.Laws.{plain_pages, IsUntouched, HasNone, IsElsewhere, library_of, EveryStepIsIsolated}
-use Rattle.trio_laws.proofs.Members.{In-right, map_from}
-use Rattle.trio_laws.proofs.Local.{file_agrees}
-use Rattle.trio_laws.proofs.Owned.{sound_parts, page_owner, pages_are}
-use Rattle.trio_laws.proofs.Sheets.{Pages, page_same, with_pages_apart}
-use Rattle.trio_laws.proofs.Images.{TablesOf, MetAt, row_at_is, met_row, free_unlisted}
+use Rattle.trio_lists.proofs.Members.{In-right, map_from}
+use Rattle.trio_surveys.proofs.Local.{file_agrees}
+use Rattle.trio_surveys.proofs.Owned.{sound_parts, page_owner, pages_are}
+use Rattle.trio_surveys.proofs.Sheets.{Pages, page_same, with_pages_apart}
+use Rattle.trio_surveys.proofs.Images.{TablesOf, MetAt, row_at_is, met_row, free_unlisted}
 use Rattle.trio_laws.proofs.Agreeing.{image_with, met_still, body_still}
 use Rattle.trio_laws.proofs.StateFacts.{tables, live_met}
 use Rattle.trio_laws.proofs.Bundles.{Unwritten, unwritten_apart, closed_unparted, Closed, in_numbers}
@@ -41,9 +41,9 @@ use Rattle.trio_laws.proofs.Grants.{settled_same, excluded_none}
 use Rattle.trio_laws.proofs.Allots.{pages as allot_pages, pages_now as allot_now, page_free, agree as allot_agree, fit' as allot_fit}
 use Rattle.trio_laws.proofs.Backs.{settled_back}
 use Rattle.trio_laws.proofs.Refusing.{pages as refused_pages, agree as refused_agree, fit' as refused_fit, uncovered_handed}
-use Rattle.trio_laws.proofs.Moded.{body_moded, changed}
-use Rattle.trio_laws.proofs.ModedCore.{pick as mode_pick, ms, page_now, listed0, read_now}
-use Rattle.trio_laws.proofs.ModedImage.{mode_met, met_other, mode_core_is, mode_file, mode_body_other}
+use Rattle.trio_surveys.proofs.Moded.{body_moded, changed}
+use Rattle.trio_surveys.proofs.ModedCore.{pick as mode_pick, ms, page_now, listed0, read_now}
+use Rattle.trio_surveys.proofs.ModedImage.{mode_met, met_other, mode_core_is, mode_file, mode_body_other}
 use Rattle.trio_laws.proofs.Modes.{may_change, settled_moded}
 use Rattle.trio_laws.proofs.Isolated.{picked_only, put_none, bare_page, plain_listed, untouched}
 

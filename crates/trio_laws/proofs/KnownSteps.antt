@@ -13,15 +13,18 @@ use Rattle.trio_nodes.specs.declared.answers.GrantFault.{GrantFault}
 use Rattle.trio_nodes.specs.declared.answers.GrantFault.TheVariants.{NotLive, Denied, NoParent, Busy, NoMemory as OutOfMemory}
 use Rattle.trio_nodes.specs.declared.answers.ModeFault.{ModeFault}
 use Rattle.trio_nodes.specs.declared.answers.ModeFault.TheVariants.{NotLive as ModeNotLive, NotOwner, BadMode, Busy as ModeBusy, NoMemory as ModeNoMemory}
-use Rattle.trio_layout.specs.Lists.{In}
+use Rattle.trio_lists.specs.Lists.{In}
 use Rattle.trio_layout.specs.Survey.{row_by, pages_of}
-use Rattle.trio_state.specs.Sheets.{Sheet, sheet_numbers, with_pages, without_pages}
-use Rattle.trio_state.specs.Image.{Image, row_at, settled_body, with_core_pages}
-use Rattle.trio_state.specs.State.{OpenGrant, State, settled, creds_of, covered, is_read, is_write, logged}
-use Rattle.trio_state.specs.Proposed.{Bundle}
-use Rattle.trio_state.specs.Accept.{is_accepted, next}
-use Rattle.trio_state.specs.Mode.{moded}
-use Rattle.trio_state.specs.Grants.{grant_fault, denied_or, denied_by, lacks_parent, has_parent_grant, excludes_kind, excluding, holder_of, settled_chain, index_sheets, block_sheets, lent_sheets, opened, lent_pages, opens, told_children, given_back}
+use Rattle.trio_page.specs.Sheets.{Sheet, sheet_numbers, with_pages, without_pages}
+use Rattle.trio_layout.specs.Image.{Image, row_at, settled_body, with_core_pages}
+use Rattle.trio_state.specs.State.{OpenGrant, State, settled, creds_of, covered, logged}
+use Rattle.trio_nodes.specs.GrantKinds.{is_read, is_write}
+use Rattle.trio_layout.specs.Proposed.{Bundle}
+use Rattle.trio_layout.specs.Accept.{is_accepted, next}
+use Rattle.trio_layout.specs.Mode.{moded}
+use Rattle.trio_state.specs.Grants.{grant_fault, denied_or, denied_by, lacks_parent, has_parent_grant, excluding, holder_of, lent_sheets, opened, lent_pages, opens, told_children, given_back}
+use Rattle.trio_nodes.specs.GrantKinds.{excludes_kind}
+use Rattle.trio_layout.specs.Pages.{settled_chain, index_sheets, block_sheets}
 use Rattle.trio_state.specs.Allotments.{free_pages, free_numbers, allots}
 use Rattle.trio_state.specs.Bundles.{is_parted, lowest, parted_hold, is_in_bundle, lent_part, grants_after, refused_image, Ends}
 use Rattle.trio_state.specs.Step.{Event, Grant, Allot, Back, Release, Settle, SetMode, Answer, Granted, NotGranted, ModeSet, NotModeSet, NoPages, NoInodes, Given, Done, Accepted, Refused, NotClosed, Settled, NoMemory, Outcome, Does, Step, granted_to, after_grant_fault, grant_outcome, allot_outcome, mode_excluding, mode_fault, moded_to, after_mode_fault, mode_outcome}
@@ -29,8 +32,8 @@ use Rattle.trio_state.specs.Kept.{Kept}
 use Rattle.trio_laws.specs.OutLaws.{without_checkpoint}
 use Rattle.trio_laws.specs.Known.{Known, known, plain_state, ended, released, known_done, is_no_memory, known_after, StepsAreKnown, KnownDecides, is_refusal, SameAnswer, SameEventSameAnswer}
 use Rattle.trio_laws.proofs.Filters.{filter-map, list_any-map}
-use Rattle.trio_laws.proofs.Sheets.{Pages, with_pages-append}
-use Rattle.trio_laws.proofs.Owned.{pages_are}
+use Rattle.trio_surveys.proofs.Sheets.{Pages, with_pages-append}
+use Rattle.trio_surveys.proofs.Owned.{pages_are}
 use Rattle.trio_laws.proofs.StateFacts.{live_met, checkpoint_lent, lent_file}
 use Rattle.trio_laws.proofs.WriteGrant.{lent_numbers}
 use Rattle.trio_laws.proofs.Grants.{excluded_none}

@@ -3,19 +3,20 @@ use Rattle.std.proofs.Common.{◌≡◌, ℕ, true, List, [], ◌++◌, length, 
 use Rattle.trio_rights.specs.Row.{Row}
 use Rattle.trio_layout.specs.Body.{body_of}
 use Rattle.trio_layout.specs.Chain.{Chain, chain_of}
-use Rattle.trio_layout.specs.Core.{Core, nowhere, page_of, there_or}
-use Rattle.trio_layout.specs.Lists.{In, are_new, result_then}
+use Rattle.trio_layout.specs.Core.{Core, nowhere, page_of}
+use Rattle.trio_lists.specs.Lists.{there_or}
+use Rattle.trio_lists.specs.Lists.{In, are_new, result_then}
 use Rattle.trio_layout.specs.Range.{is_core}
 use Rattle.trio_layout.specs.Survey.{plain, survey, pages_of}
-use Rattle.trio_state.specs.Grants.{settled_chain}
-use Rattle.trio_state.specs.Image.{row_at, settled_body}
+use Rattle.trio_layout.specs.Pages.{settled_chain}
+use Rattle.trio_layout.specs.Image.{row_at, settled_body}
 use Rattle.trio_state.specs.Kept.{Kept}
 use Rattle.trio_state.specs.State.{OpenGrant, State, settled}
 use Rattle.trio_laws.specs.EndLaws.{checkpoints_of}
-use Rattle.trio_laws.proofs.Images.{MetAt, settled_body_met}
-use Rattle.trio_laws.proofs.Local.{reads_from}
-use Rattle.trio_laws.proofs.Owned.{body_sized, pages_are, pages_new, sound_parts}
-use Rattle.trio_laws.proofs.Sheets.{page_there, with_pages_apart}
+use Rattle.trio_surveys.proofs.Images.{MetAt, settled_body_met}
+use Rattle.trio_surveys.proofs.Local.{reads_from}
+use Rattle.trio_surveys.proofs.Owned.{body_sized, pages_are, pages_new, sound_parts}
+use Rattle.trio_surveys.proofs.Sheets.{page_there, with_pages_apart}
 use Rattle.trio_laws.proofs.StateFacts.{checkpoint_lent, lent_file, live_met, pages_there, tables}
 
 module _ (s : State) (k : Kept s) (ino : ℕ) (r : Row) (row : row_at s.home ino ≡ Some r) (free : (g : OpenGrant) → In g s.open_grants → g.ino ≡ ino → ⊥) where

@@ -9,28 +9,28 @@ use Rattle.trio_rights.specs.Row.{Row}
 use Rattle.trio_nodes.specs.declared.answers.ModeFault.{ModeFault}
 use Rattle.trio_nodes.specs.declared.answers.ModeFault.TheVariants.{NotLive, NotOwner, BadMode, Busy, NoMemory as OutOfMemory}
 use Rattle.trio_layout.specs.Entries.{body_in_slot}
-use Rattle.trio_layout.specs.Lists.{In}
+use Rattle.trio_lists.specs.Lists.{In}
 use Rattle.trio_layout.specs.Survey.{Met, plain, survey, children, pages_of}
-use Rattle.trio_state.specs.Accept.{with_body_in}
+use Rattle.trio_layout.specs.Accept.{with_body_in}
 use Rattle.trio_state.specs.Grants.{holder_of, has_parent_grant}
-use Rattle.trio_state.specs.Image.{IsFit, Image, settled_body, row_at, body_by_row}
+use Rattle.trio_layout.specs.Image.{IsFit, Image, settled_body, row_at, body_by_row}
 use Rattle.trio_state.specs.Kept.{Kept, LentIsListed}
-use Rattle.trio_state.specs.Mode.{with_mode, moded_row, body_put, moded}
-use Rattle.trio_state.specs.Sheets.{Sheet, sheet_numbers, with_pages}
+use Rattle.trio_layout.specs.Mode.{with_mode, moded_row, body_put, moded}
+use Rattle.trio_page.specs.Sheets.{Sheet, sheet_numbers, with_pages}
 use Rattle.trio_state.specs.State.{OpenGrant, State, settled, creds_of}
 use Rattle.trio_state.specs.Step.{after_mode_fault, SetMode, Answer, Step, mode_excluding, mode_fault, moded_to}
-use Rattle.trio_state.specs.Verifies.{Verifies}
+use Rattle.trio_layout.specs.Verifies.{Verifies}
 use Rattle.trio_laws.proofs.Grants.{none_passes, logged_kept}
-use Rattle.trio_laws.proofs.Images.{some_of, MetAt, root_or_listed}
-use Rattle.trio_laws.proofs.Members.{In-right, flat_from}
-use Rattle.trio_laws.proofs.Moded.{changed}
-use Rattle.trio_laws.proofs.ModedCore.{read_now}
-use Rattle.trio_laws.proofs.ModedImage.{mode_body_other, met_other, mode_met, mode_verifies, mode_fit, mode_file}
-use Rattle.trio_laws.proofs.Owned.{pages_are}
-use Rattle.trio_laws.proofs.SheetLaws.{page_at, get-set_same, get-set_other}
-use Rattle.trio_laws.proofs.Sheets.{Pages, page_same, with_pages_apart}
+use Rattle.trio_surveys.proofs.Images.{some_of, MetAt, root_or_listed}
+use Rattle.trio_lists.proofs.Members.{In-right, flat_from}
+use Rattle.trio_surveys.proofs.Moded.{changed}
+use Rattle.trio_surveys.proofs.ModedCore.{read_now}
+use Rattle.trio_surveys.proofs.ModedImage.{mode_body_other, met_other, mode_met, mode_verifies, mode_fit, mode_file}
+use Rattle.trio_surveys.proofs.Owned.{pages_are}
+use Rattle.trio_surveys.proofs.SheetLaws.{page_at, get-set_same, get-set_other}
+use Rattle.trio_surveys.proofs.Sheets.{Pages, page_same, with_pages_apart}
 use Rattle.trio_laws.proofs.StateFacts.{live_met, lent_file, checkpoint_lent}
-use Rattle.trio_laws.proofs.Tree.{child_from, child_placed}
+use Rattle.trio_surveys.proofs.Tree.{child_from, child_placed}
 
 pub with_pages_set : (ss : List Sheet) (pages : Pages) (k : ℕ) (x : Option (List ℕ)) → (In k (sheet_numbers ss) → ⊥) → with_pages ss (slice_set pages k x) ≡ slice_set (with_pages ss pages) k x
 with_pages_set [] pages k x h = refl

@@ -10,19 +10,21 @@ use Rattle.trio_nodes.specs.declared.answers.GrantFault.{GrantFault}
 use Rattle.trio_nodes.specs.declared.answers.GrantFault.TheVariants.{NotLive, Denied, NoParent, Busy, NoMemory as OutOfMemory}
 use Rattle.trio_nodes.specs.declared.answers.ModeFault.{ModeFault}
 use Rattle.trio_nodes.specs.declared.answers.ModeFault.TheVariants.{NotLive as ModeNotLive, NotOwner, BadMode, Busy as ModeBusy, NoMemory as ModeNoMemory}
-use Rattle.trio_layout.specs.Lists.{In}
-use Rattle.trio_state.specs.Image.{Image, row_at}
-use Rattle.trio_state.specs.State.{OpenGrant, State, is_read, logged}
-use Rattle.trio_state.specs.Proposed.{Bundle}
+use Rattle.trio_lists.specs.Lists.{In}
+use Rattle.trio_layout.specs.Image.{Image, row_at}
+use Rattle.trio_state.specs.State.{OpenGrant, State, logged}
+use Rattle.trio_nodes.specs.GrantKinds.{is_read}
+use Rattle.trio_layout.specs.Proposed.{Bundle}
 use Rattle.trio_state.specs.Grants.{grant_fault, opened, opens, given_back}
 use Rattle.trio_state.specs.Allotments.{free_pages, free_numbers, allots}
 use Rattle.trio_state.specs.Bundles.{is_in_bundle, lent_part, grants_after, Ends}
 use Rattle.trio_state.specs.Step.{Event, Grant, Allot, Back, Release, Settle, SetMode, Answer, NoPages, NoInodes, Given, Outcome, after_grant_fault, granted_to, allot_outcome, mode_fault, after_mode_fault, moded_to}
 use Rattle.trio_state.specs.Run.{start, Trace}
 use Rattle.trio_laws.specs.GrantLaws.{CameBefore, IsOrdered, OrderBegins, OrderStays, GrantsAreOrdered, FirstIsLowest}
-use Rattle.trio_laws.proofs.Members.{In-cases, In-map, map_from}
-use Rattle.trio_laws.proofs.StateFacts.{In_get, In_index}
-use Rattle.trio_laws.proofs.Bundles.{filter_in, in_filter}
+use Rattle.trio_lists.proofs.Members.{In-cases, In-map, map_from}
+use Rattle.trio_laws.proofs.StateFacts.{In_index}
+use Rattle.trio_lists.proofs.Filters.{In_get}
+use Rattle.trio_lists.proofs.Filters.{filter_in, in_filter}
 use Rattle.trio_laws.proofs.Ended.{pairs_like}
 use Rattle.trio_laws.proofs.Releases.{ReleaseEnd, Parted, IsAccepted, IsRefused, release_end}
 

@@ -11,19 +11,21 @@ use Rattle.trio_nodes.specs.declared.answers.GrantFault.{GrantFault}
 use Rattle.trio_nodes.specs.declared.answers.GrantFault.TheVariants.{NotLive, Denied, NoParent, Busy, NoMemory as OutOfMemory}
 use Rattle.trio_nodes.specs.declared.answers.ModeFault.{ModeFault}
 use Rattle.trio_nodes.specs.declared.answers.ModeFault.TheVariants.{NotLive as ModeNotLive, NotOwner, BadMode, Busy as ModeBusy, NoMemory as ModeNoMemory}
-use Rattle.trio_layout.specs.Lists.{In}
-use Rattle.trio_state.specs.Image.{row_at}
-use Rattle.trio_state.specs.State.{OpenGrant, State, is_read, logged}
-use Rattle.trio_state.specs.Proposed.{Bundle}
-use Rattle.trio_state.specs.Mode.{moded, moded_row}
+use Rattle.trio_lists.specs.Lists.{In}
+use Rattle.trio_layout.specs.Image.{row_at}
+use Rattle.trio_state.specs.State.{OpenGrant, State, logged}
+use Rattle.trio_nodes.specs.GrantKinds.{is_read}
+use Rattle.trio_layout.specs.Proposed.{Bundle}
+use Rattle.trio_layout.specs.Mode.{moded, moded_row}
 use Rattle.trio_state.specs.Grants.{grant_fault, opened, opens, given_back}
 use Rattle.trio_state.specs.Allotments.{free_pages, free_numbers, allots}
 use Rattle.trio_state.specs.Step.{Event, Grant, Allot, Back, Release, Settle, SetMode, Answer, NoPages, NoInodes, Given, Outcome, Step, after_grant_fault, granted_to, allot_outcome, mode_fault, after_mode_fault, moded_to, ReleaseEnd, Parted, IsAccepted, IsRefused}
 use Rattle.trio_state.specs.Kept.{Kept}
 use Rattle.trio_state.specs.Given.{GivenTo, GivenEvent}
 use Rattle.trio_laws.specs.Laws.{library_of, GivenThrough, ClosedThrough}
-use Rattle.trio_laws.proofs.Members.{In-left, In-cases}
-use Rattle.trio_laws.proofs.Bundles.{closed_unparted, closed_all, filter_in, in_filter}
+use Rattle.trio_lists.proofs.Members.{In-left, In-cases}
+use Rattle.trio_laws.proofs.Bundles.{closed_unparted, closed_all}
+use Rattle.trio_lists.proofs.Filters.{filter_in, in_filter}
 use Rattle.trio_laws.proofs.Modes.{may_change}
 use Rattle.trio_laws.proofs.Allots.{pages_apart, numbers_apart}
 use Rattle.trio_laws.proofs.Runs.{step_kept}

@@ -9,22 +9,24 @@ use Rattle.trio_tables.specs.Out.{lib_at}
 use Rattle.trio_tables.proofs.OutLemmas.{lib_at-others}
 use Rattle.trio_nodes.specs.declared.grant.GrantKind.{GrantKind}
 use Rattle.trio_nodes.specs.declared.grant.GrantKind.TheVariants.{Hold}
-use Rattle.trio_layout.specs.Lists.{is_among, are_new, In}
+use Rattle.trio_lists.specs.Lists.{is_among, are_new, In}
 use Rattle.trio_layout.specs.Survey.{row_by}
-use Rattle.trio_state.specs.Accept.{is_accepted, next}
+use Rattle.trio_layout.specs.Accept.{is_accepted, next}
 use Rattle.trio_state.specs.Allotments.{out_after}
-use Rattle.trio_state.specs.Bundles.{is_hold, is_parent_written, is_parted, parted_hold, is_in_bundle, lent_part, refused_image, Ends}
+use Rattle.trio_state.specs.Bundles.{is_parent_written, is_parted, parted_hold, is_in_bundle, lent_part, refused_image, Ends}
+use Rattle.trio_nodes.specs.GrantKinds.{is_hold}
 use Rattle.trio_state.specs.Given.{HasGrant, HasNoRead, WasAllotted, GivenTo}
-use Rattle.trio_state.specs.Image.{Image, row_at}
+use Rattle.trio_layout.specs.Image.{Image, row_at}
 use Rattle.trio_state.specs.Kept.{Kept}
-use Rattle.trio_state.specs.Proposed.{Bundle, is_written}
-use Rattle.trio_state.specs.Sheets.{sheet_numbers}
+use Rattle.trio_layout.specs.Proposed.{Bundle, is_written}
+use Rattle.trio_page.specs.Sheets.{sheet_numbers}
 use Rattle.trio_state.specs.State.{OpenGrant, State, settled, creds_of}
 use Rattle.trio_laws.proofs.Accepting.{stays_then, row_then}
-use Rattle.trio_laws.proofs.Bundles.{Closed, in_filter, unparted_at, unparted_from}
+use Rattle.trio_laws.proofs.Bundles.{Closed, unparted_at, unparted_from}
+use Rattle.trio_lists.proofs.Filters.{in_filter}
 use Rattle.trio_laws.proofs.Ended.{grant_before, grant_after}
-use Rattle.trio_laws.proofs.Images.{some_of}
-use Rattle.trio_laws.proofs.Members.{In-among}
+use Rattle.trio_surveys.proofs.Images.{some_of}
+use Rattle.trio_lists.proofs.Members.{In-among}
 
 -- what a step leaves of the grants and outs of a library
 pub record LeavesTo (s s' : State) (lib : ℕ) : Type 0 where

@@ -9,19 +9,21 @@ use Rattle.trio_nodes.specs.declared.answers.GrantFault.{GrantFault}
 use Rattle.trio_nodes.specs.declared.answers.GrantFault.TheVariants.{NotLive, Denied, NoParent, Busy, NoMemory as OutOfMemory}
 use Rattle.trio_nodes.specs.declared.answers.ModeFault.{ModeFault}
 use Rattle.trio_nodes.specs.declared.answers.ModeFault.TheVariants.{NotLive as ModeNotLive, NotOwner, BadMode, Busy as ModeBusy, NoMemory as ModeNoMemory}
-use Rattle.trio_layout.specs.Lists.{In, is_among, are_new}
-use Rattle.trio_state.specs.Sheets.{sheet_numbers}
-use Rattle.trio_state.specs.Image.{Image, row_at}
-use Rattle.trio_state.specs.State.{OpenGrant, Out, State, is_read, is_write, logged}
-use Rattle.trio_state.specs.Proposed.{Bundle, is_written}
+use Rattle.trio_lists.specs.Lists.{In, is_among, are_new}
+use Rattle.trio_page.specs.Sheets.{sheet_numbers}
+use Rattle.trio_layout.specs.Image.{Image, row_at}
+use Rattle.trio_state.specs.State.{OpenGrant, Out, State, logged}
+use Rattle.trio_nodes.specs.GrantKinds.{is_read, is_write}
+use Rattle.trio_layout.specs.Proposed.{Bundle, is_written}
 use Rattle.trio_state.specs.Grants.{grant_fault, opened, opens, given_back}
 use Rattle.trio_state.specs.Allotments.{free_pages, free_numbers, allots, out_after}
-use Rattle.trio_state.specs.Bundles.{Ends, grants_after, is_hold, is_in_bundle, lent_part}
+use Rattle.trio_state.specs.Bundles.{Ends, grants_after, is_in_bundle, lent_part}
+use Rattle.trio_nodes.specs.GrantKinds.{is_hold}
 use Rattle.trio_state.specs.Step.{Grant, Allot, Back, Release, Settle, SetMode, Answer, NoPages, NoInodes, Given, Outcome, granted_to, after_grant_fault, allot_outcome, mode_fault, moded_to, after_mode_fault}
 use Rattle.trio_state.specs.Kept.{Kept}
 use Rattle.trio_state.specs.Given.{GivenTo, WasAllotted}
 use Rattle.trio_laws.specs.OutLaws.{without_checkpoint, grants_to, numbers_to, out_of, OthersKeepOut}
-use Rattle.trio_laws.proofs.Members.{In-among}
+use Rattle.trio_lists.proofs.Members.{In-among}
 use Rattle.trio_laws.proofs.Filters.{filter-map, filter-filter}
 use Rattle.trio_laws.proofs.Others.{one_out}
 use Rattle.trio_laws.proofs.Releases.{ReleaseEnd, Parted, IsAccepted, IsRefused, release_end}

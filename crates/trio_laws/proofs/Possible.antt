@@ -7,30 +7,31 @@ use Rattle.std.proofs.lemmas.List.{map-append}
 use Rattle.std.proofs.lemmas.Bool.{and_parts, cases_Bool, ltb-true}
 use Rattle.std.proofs.Common.{ltb, leb, not}
 use Rattle.trio_layout.specs.Core.{Core}
-use Rattle.trio_layout.specs.Lists.{In}
+use Rattle.trio_lists.specs.Lists.{In}
 use Rattle.trio_layout.specs.Range.{is_core}
 use Rattle.trio_layout.specs.Sound.{is_sound}
 use Rattle.trio_layout.specs.Survey.{Pick, survey}
-use Rattle.trio_state.specs.Accept.{is_accepted, next, with_bodies}
+use Rattle.trio_layout.specs.Accept.{is_accepted, next, with_bodies}
 use Rattle.trio_state.specs.Allotments.{out_after}
 use Rattle.trio_state.specs.Bundles.{blank, lent_part, grants_after, is_in_bundle, uncovered, parted_hold, refused_image, Ends}
 use Rattle.trio_state.specs.Grants.{given_back}
 use Rattle.trio_laws.specs.Laws.{MayEnd}
 use Rattle.trio_state.specs.Given.{GivenTo, GivenEvent}
-use Rattle.trio_state.specs.Image.{IsFit, Image}
+use Rattle.trio_layout.specs.Image.{IsFit, Image}
 use Rattle.trio_state.specs.Kept.{Kept}
-use Rattle.trio_state.specs.Proposed.{Bundle, bundle_sheets, proposed, proposed_pick}
-use Rattle.trio_state.specs.Sheets.{Sheet, sheet_numbers, with_pages}
+use Rattle.trio_layout.specs.Proposed.{Bundle, bundle_sheets, proposed, proposed_pick}
+use Rattle.trio_page.specs.Sheets.{Sheet, sheet_numbers, with_pages}
 use Rattle.trio_state.specs.State.{OpenGrant, State, settled, creds_of}
 use Rattle.trio_state.specs.Tells.{untold}
 use Rattle.trio_state.specs.Step.{Event, Grant, Allot, Back, Release, Settle, SetMode, Answer, Done, Accepted, Refused, NotClosed, Settled, Does, Parted, IsAccepted, IsRefused, grant_outcome, allot_outcome, mode_outcome}
-use Rattle.trio_laws.proofs.Bundles.{filter_in, in_numbers}
-use Rattle.trio_laws.proofs.Cores.{listed_is_core}
-use Rattle.trio_laws.proofs.Members.{flat_from, In-flat}
-use Rattle.trio_laws.proofs.Picked.{all_listed, bodies_are, listed_no_root}
-use Rattle.trio_laws.proofs.Putting.{put_on, with_bodies-get}
-use Rattle.trio_laws.proofs.SheetLaws.{length-with_pages}
-use Rattle.trio_laws.proofs.Sheets.{Pages, with_pages_there, with_pages_absent, place_there}
+use Rattle.trio_laws.proofs.Bundles.{in_numbers}
+use Rattle.trio_lists.proofs.Filters.{filter_in}
+use Rattle.trio_surveys.proofs.Cores.{listed_is_core}
+use Rattle.trio_lists.proofs.Members.{flat_from, In-flat}
+use Rattle.trio_surveys.proofs.Picked.{all_listed, bodies_are, listed_no_root}
+use Rattle.trio_surveys.proofs.Putting.{put_on, with_bodies-get}
+use Rattle.trio_surveys.proofs.SheetLaws.{length-with_pages}
+use Rattle.trio_surveys.proofs.Sheets.{Pages, with_pages_there, with_pages_absent, place_there}
 use Rattle.trio_laws.proofs.StateFacts.{checkpoint_lent, lent_met}
 use Rattle.trio_laws.proofs.Tells.{untold_tells}
 use Rattle.trio_laws.proofs.Survivors.{fit_now, sound_now}

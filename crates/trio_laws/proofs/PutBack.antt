@@ -6,23 +6,24 @@ use Rattle.trio_rights.specs.declared.kind.Kind.{Kind}
 use Rattle.trio_rights.specs.declared.kind.Kind.TheVariants.{Regular, Directory}
 use Rattle.trio_nodes.specs.declared.grant.GrantKind.TheVariants.{Write}
 use Rattle.trio_layout.specs.Core.{Core}
-use Rattle.trio_layout.specs.Lists.{In}
+use Rattle.trio_lists.specs.Lists.{In}
 use Rattle.trio_layout.specs.Survey.{plain, survey}
 use Rattle.trio_state.specs.Bundles.{grants_after, is_in_bundle, refused_image, uncovered}
 use Rattle.trio_state.specs.Given.{GivenTo}
 use Rattle.trio_state.specs.Kept.{Kept}
-use Rattle.trio_state.specs.Proposed.{Written, Bundle}
-use Rattle.trio_state.specs.Sheets.{Sheet, sheet_numbers, with_pages}
+use Rattle.trio_layout.specs.Proposed.{Written, Bundle}
+use Rattle.trio_page.specs.Sheets.{Sheet, sheet_numbers, with_pages}
 use Rattle.trio_state.specs.State.{OpenGrant, State, settled, covered}
 use Rattle.trio_laws.specs.EndLaws.{checkpoints_of}
-use Rattle.trio_laws.proofs.Bundles.{filter_in, in_filter, in_numbers}
+use Rattle.trio_laws.proofs.Bundles.{in_numbers}
+use Rattle.trio_lists.proofs.Filters.{filter_in, in_filter}
 use Rattle.trio_laws.proofs.Checkpoints.{with_pages_like, checkpoint_from, one_lender, checkpoints_one}
-use Rattle.trio_laws.proofs.Images.{free_unlisted}
-use Rattle.trio_laws.proofs.Members.{In-cases, In-flat, In-left, In-right, flat_from, map_from}
-use Rattle.trio_laws.proofs.Owned.{index_apart, sound_parts}
-use Rattle.trio_laws.proofs.PageSlots.{pages_same}
+use Rattle.trio_surveys.proofs.Images.{free_unlisted}
+use Rattle.trio_lists.proofs.Members.{In-cases, In-flat, In-left, In-right, flat_from, map_from}
+use Rattle.trio_surveys.proofs.Owned.{index_apart, sound_parts}
+use Rattle.trio_surveys.proofs.PageSlots.{pages_same}
 use Rattle.trio_laws.proofs.Uncovered.{uncovered_from}
-use Rattle.trio_laws.proofs.Sheets.{Pages, among_cases, with_pages-append, with_pages_apart, with_pages_cong}
+use Rattle.trio_surveys.proofs.Sheets.{Pages, among_cases, with_pages-append, with_pages_apart, with_pages_cong}
 use Rattle.trio_laws.proofs.StateFacts.{tables, lent_met}
 
 -- a checkpoint of a regular file covers its index pages alone

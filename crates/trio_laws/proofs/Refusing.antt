@@ -8,30 +8,32 @@ use Rattle.trio_rights.specs.declared.kind.Kind.TheVariants.{Regular}
 use Rattle.trio_nodes.specs.declared.grant.GrantKind.TheVariants.{Write, Hold}
 use Rattle.trio_tables.specs.Out.{is_out}
 use Rattle.trio_layout.specs.Core.{Core}
-use Rattle.trio_layout.specs.Lists.{is_among, In}
+use Rattle.trio_lists.specs.Lists.{is_among, In}
 use Rattle.trio_layout.specs.Range.{is_core}
 use Rattle.trio_layout.specs.Survey.{plain, FileRead, survey}
 use Rattle.trio_state.specs.Bundles.{is_in_bundle, lent_part, refused_image, uncovered, Ends}
 use Rattle.trio_state.specs.Given.{GivenTo}
 use Rattle.trio_state.specs.Grants.{has_parent_grant}
-use Rattle.trio_state.specs.Image.{IsFit, Image, settled_body, row_at}
+use Rattle.trio_layout.specs.Image.{IsFit, Image, settled_body, row_at}
 use Rattle.trio_state.specs.Kept.{Kept, LentIsListed, HoldStands}
-use Rattle.trio_state.specs.Proposed.{Written, Bundle, bundle_sheets}
-use Rattle.trio_state.specs.Sheets.{Sheet, sheet_numbers, with_pages}
-use Rattle.trio_state.specs.State.{covered, OpenGrant, State, settled, is_write}
-use Rattle.trio_state.specs.Verifies.{Verifies}
+use Rattle.trio_layout.specs.Proposed.{Written, Bundle, bundle_sheets}
+use Rattle.trio_page.specs.Sheets.{Sheet, sheet_numbers, with_pages}
+use Rattle.trio_state.specs.State.{covered, OpenGrant, State, settled}
+use Rattle.trio_nodes.specs.GrantKinds.{is_write}
+use Rattle.trio_layout.specs.Verifies.{Verifies}
 use Rattle.trio_laws.proofs.Agreeing.{verifies_still, lent_still, body_still}
 use Rattle.trio_laws.proofs.Bundles.{Closed, outside_unheld, in_numbers}
 use Rattle.trio_laws.proofs.Ended.{grant_before, apart_then, checkpoints_then, write_in_bundle, parent_then, outs_then, numbers_then, pages_placed_then, numbers_placed_then, absent_then}
-use Rattle.trio_laws.proofs.Images.{some_of, free_unlisted}
-use Rattle.trio_laws.proofs.Members.{In-left, In-right, In-flat, map_from, In-among}
-use Rattle.trio_laws.proofs.Owned.{sound_parts, pages_are}
-use Rattle.trio_laws.proofs.SheetLaws.{length-with_pages}
-use Rattle.trio_laws.proofs.Sheets.{Pages, with_pages_apart, with_pages_absent, with_pages_from, page_same, page_there, page_from}
-use Rattle.trio_laws.proofs.StateFacts.{any_at, write_is, tables}
+use Rattle.trio_surveys.proofs.Images.{some_of, free_unlisted}
+use Rattle.trio_lists.proofs.Members.{In-left, In-right, In-flat, map_from, In-among}
+use Rattle.trio_surveys.proofs.Owned.{sound_parts, pages_are}
+use Rattle.trio_surveys.proofs.SheetLaws.{length-with_pages}
+use Rattle.trio_surveys.proofs.Sheets.{Pages, with_pages_apart, with_pages_absent, with_pages_from, page_same, page_there, page_from}
+use Rattle.trio_laws.proofs.StateFacts.{write_is, tables}
+use Rattle.trio_lists.proofs.Filters.{any_at}
 use Rattle.trio_laws.proofs.Uncovered.{uncovered_from, In-uncovered}
 use Rattle.trio_laws.proofs.WriteGrant.{read_cases, block_unread, uncovers}
-use Rattle.trio_laws.specs.Reading.{with_other, AgreeOn, pages_read}
+use Rattle.trio_surveys.specs.Reading.{with_other, AgreeOn, pages_read}
 
 -- a page that is read is listed
 pub read_listed : (kind : Kind) (f : FileRead) (p : ℕ) → In p (pages_read kind f) → In p (f.chain.index ++ f.chain.blocks)

@@ -8,13 +8,13 @@ use Rattle.trio_nodes.specs.declared.answers.GrantFault.{GrantFault}
 use Rattle.trio_nodes.specs.declared.answers.GrantFault.TheVariants.{NotLive, Denied, NoParent, Busy, NoMemory as OutOfMemory}
 use Rattle.trio_nodes.specs.declared.answers.ModeFault.{ModeFault}
 use Rattle.trio_nodes.specs.declared.answers.ModeFault.TheVariants.{NotLive as ModeNotLive, NotOwner, BadMode, Busy as ModeBusy, NoMemory as ModeNoMemory}
-use Rattle.trio_layout.specs.Lists.{In, is_among}
+use Rattle.trio_lists.specs.Lists.{In, is_among}
 use Rattle.trio_layout.specs.Survey.{survey, row_of}
-use Rattle.trio_state.specs.Image.{Image, row_at}
+use Rattle.trio_layout.specs.Image.{Image, row_at}
 use Rattle.trio_state.specs.State.{State, settled, creds_of, logged}
-use Rattle.trio_state.specs.Proposed.{Bundle, proposed, proposed_pick}
-use Rattle.trio_state.specs.Accept.{is_accepted, next}
-use Rattle.trio_state.specs.Mode.{moded_row}
+use Rattle.trio_layout.specs.Proposed.{Bundle, proposed, proposed_pick}
+use Rattle.trio_layout.specs.Accept.{is_accepted, next}
+use Rattle.trio_layout.specs.Mode.{moded_row}
 use Rattle.trio_state.specs.Grants.{grant_fault}
 use Rattle.trio_state.specs.Allotments.{free_pages, free_numbers, allots}
 use Rattle.trio_state.specs.Bundles.{Ends}
@@ -22,8 +22,8 @@ use Rattle.trio_state.specs.Step.{Grant, Allot, Back, Release, Settle, SetMode, 
 use Rattle.trio_state.specs.Kept.{Kept}
 use Rattle.trio_state.specs.Given.{GivenTo}
 use Rattle.trio_laws.specs.Laws.{HasRightsOf, RowGoes, EveryStepKeepsRows}
-use Rattle.trio_laws.proofs.Members.{In-among, among_from}
-use Rattle.trio_laws.proofs.Images.{row_at_is}
+use Rattle.trio_lists.proofs.Members.{In-among, among_from}
+use Rattle.trio_surveys.proofs.Images.{row_at_is}
 use Rattle.trio_laws.proofs.Survivors.{fit_now, sound_now, unheld_row, held_rights}
 use Rattle.trio_laws.proofs.Modes.{may_change}
 

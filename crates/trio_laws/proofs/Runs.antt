@@ -5,15 +5,15 @@ use Rattle.std.proofs.lemmas.Bool.{false≢true}
 use Rattle.std.proofs.lemmas.List.{length-replicate}
 use Rattle.trio_rights.specs.declared.rights.Creds.{Creds}
 use Rattle.trio_tables.proofs.OutLemmas.{lib_at-none_out}
-use Rattle.trio_layout.specs.Lists.{In}
+use Rattle.trio_lists.specs.Lists.{In}
 use Rattle.trio_state.specs.Given.{GivenTo, GivenEvent}
-use Rattle.trio_state.specs.Image.{IsFit, Image}
+use Rattle.trio_layout.specs.Image.{IsFit, Image}
 use Rattle.trio_state.specs.Kept.{Kept}
-use Rattle.trio_state.specs.Proposed.{Bundle}
+use Rattle.trio_layout.specs.Proposed.{Bundle}
 use Rattle.trio_state.specs.Run.{IsWhole, Move, Trace, start}
 use Rattle.trio_state.specs.State.{State, creds_of}
 use Rattle.trio_state.specs.Step.{Event, Grant, Allot, Back, Release, Settle, SetMode, Answer, Step, ReleaseEnd, Parted, IsAccepted, IsRefused}
-use Rattle.trio_state.specs.Verifies.{Verifies}
+use Rattle.trio_layout.specs.Verifies.{Verifies}
 use Rattle.trio_laws.proofs.Accepting.{accepted_kept}
 use Rattle.trio_laws.proofs.Allots.{allot_kept}
 use Rattle.trio_laws.proofs.Bundles.{closed_unparted, closed_all}

@@ -11,16 +11,16 @@ use Rattle.trio_nodes.specs.declared.answers.GrantFault.{GrantFault}
 use Rattle.trio_nodes.specs.declared.answers.GrantFault.TheVariants.{NotLive, Denied, NoParent, Busy, NoMemory as OutOfMemory}
 use Rattle.trio_nodes.specs.declared.answers.ModeFault.{ModeFault}
 use Rattle.trio_nodes.specs.declared.answers.ModeFault.TheVariants.{NotLive as ModeNotLive, NotOwner, BadMode, Busy as ModeBusy, NoMemory as ModeNoMemory}
-use Rattle.trio_layout.specs.Lists.{In, is_among}
+use Rattle.trio_lists.specs.Lists.{In, is_among}
 use Rattle.trio_layout.specs.Core.{Core}
 use Rattle.trio_layout.specs.Entries.{body_in_slot}
 use Rattle.trio_layout.specs.Survey.{Met, Pick, plain, survey, children, root_of, row_by, row_of}
 use Rattle.trio_layout.specs.Sound.{is_sound}
-use Rattle.trio_state.specs.Image.{Image, IsFit, row_at, body_at_place, settled_body}
+use Rattle.trio_layout.specs.Image.{Image, IsFit, row_at, body_at_place, settled_body}
 use Rattle.trio_state.specs.State.{OpenGrant, State, settled, creds_of, logged}
-use Rattle.trio_state.specs.Proposed.{Bundle, is_place_of, kept_body, proposed, proposed_pick}
-use Rattle.trio_state.specs.Accept.{is_accepted, next}
-use Rattle.trio_state.specs.Mode.{with_mode, moded, moded_row}
+use Rattle.trio_layout.specs.Proposed.{Bundle, is_place_of, kept_body, proposed, proposed_pick}
+use Rattle.trio_layout.specs.Accept.{is_accepted, next}
+use Rattle.trio_layout.specs.Mode.{with_mode, moded, moded_row}
 use Rattle.trio_state.specs.Grants.{grant_fault, opened, opens}
 use Rattle.trio_state.specs.Allotments.{free_pages, free_numbers, allots}
 use Rattle.trio_state.specs.Bundles.{refused_image, Ends}
@@ -28,11 +28,11 @@ use Rattle.trio_state.specs.Step.{Event, Grant, Allot, Back, Release, Settle, Se
 use Rattle.trio_state.specs.Kept.{Kept}
 use Rattle.trio_state.specs.Given.{GivenTo}
 use Rattle.trio_laws.specs.ContentLaws.{accepted_body, body_after, SettledBodyGoes}
-use Rattle.trio_laws.proofs.Members.{flat_from, In-among, among_from}
-use Rattle.trio_laws.proofs.Tree.{child_from, child_placed}
-use Rattle.trio_laws.proofs.Picked.{survey_put}
-use Rattle.trio_laws.proofs.Images.{MetAt, met_row, row_at_is, row_met, read_met, root_is_met, root_or_listed, settled_body_met}
-use Rattle.trio_laws.proofs.Accepted.{accepted_verifies, fit_put}
+use Rattle.trio_lists.proofs.Members.{flat_from, In-among, among_from}
+use Rattle.trio_surveys.proofs.Tree.{child_from, child_placed}
+use Rattle.trio_surveys.proofs.Picked.{survey_put}
+use Rattle.trio_surveys.proofs.Images.{MetAt, met_row, row_at_is, row_met, read_met, root_is_met, root_or_listed, settled_body_met}
+use Rattle.trio_surveys.proofs.Accepted.{accepted_verifies, fit_put}
 use Rattle.trio_laws.proofs.Agreeing.{body_still}
 use Rattle.trio_laws.proofs.StateFacts.{tables, live_met}
 use Rattle.trio_laws.proofs.WriteGrant.{pages as lent_pages_after, agree as lent_agree, fit' as lent_fit}
@@ -42,7 +42,7 @@ use Rattle.trio_laws.proofs.Backs.{settled_back}
 use Rattle.trio_laws.proofs.Bundles.{Closed, closed_unparted, unwritten_finds, picked_met, body_kept}
 use Rattle.trio_laws.proofs.Refusing.{pages as refused_pages, agree as refused_agree, fit' as refused_fit}
 use Rattle.trio_laws.proofs.Survivors.{fit_now, sound_now, held_unwritten, held_met, unheld_row}
-use Rattle.trio_laws.proofs.ModedImage.{mode_body_other, mode_body_own}
+use Rattle.trio_surveys.proofs.ModedImage.{mode_body_other, mode_body_own}
 use Rattle.trio_laws.proofs.Modes.{may_change, settled_moded}
 use Rattle.trio_laws.proofs.Releases.{ReleaseEnd, Parted, IsAccepted, IsRefused, release_end}
 

@@ -6,27 +6,28 @@ use Rattle.std.proofs.lemmas.Bool.{cases_Bool, not_from_false}
 use Rattle.std.proofs.lemmas.List.{map-append}
 use Rattle.trio_nodes.specs.declared.grant.GrantKind.TheVariants.{Write}
 use Rattle.trio_layout.specs.Core.{Core}
-use Rattle.trio_layout.specs.Lists.{In}
+use Rattle.trio_lists.specs.Lists.{In}
 use Rattle.trio_layout.specs.Sound.{is_sound}
 use Rattle.trio_layout.specs.Survey.{Pick}
-use Rattle.trio_state.specs.Accept.{is_accepted, next}
+use Rattle.trio_layout.specs.Accept.{is_accepted, next}
 use Rattle.trio_state.specs.Bundles.{grants_after, is_in_bundle, lent_part}
 use Rattle.trio_state.specs.Given.{GivenTo}
-use Rattle.trio_state.specs.Image.{IsFit}
+use Rattle.trio_layout.specs.Image.{IsFit}
 use Rattle.trio_state.specs.Kept.{Kept}
-use Rattle.trio_state.specs.Proposed.{Bundle, bundle_pages, bundle_sheets, proposed, proposed_pick}
-use Rattle.trio_state.specs.Sheets.{Sheet, sheet_numbers, with_pages}
+use Rattle.trio_layout.specs.Proposed.{Bundle, bundle_pages, bundle_sheets, proposed, proposed_pick}
+use Rattle.trio_page.specs.Sheets.{Sheet, sheet_numbers, with_pages}
 use Rattle.trio_state.specs.State.{OpenGrant, State, settled, creds_of}
 use Rattle.trio_laws.specs.EndLaws.{IsSpread, checkpoints_of, unless_absent}
 use Rattle.trio_laws.proofs.Accepting.{handed_in}
-use Rattle.trio_laws.proofs.Bundles.{in_filter, in_numbers}
+use Rattle.trio_laws.proofs.Bundles.{in_numbers}
+use Rattle.trio_lists.proofs.Filters.{in_filter}
 use Rattle.trio_laws.proofs.Checkpoints.{checkpoint_from}
 use Rattle.trio_laws.proofs.Ended.{bundle_write, blank_numbers}
-use Rattle.trio_laws.proofs.Members.{In-flat, In-map, flat_from, map_from}
-use Rattle.trio_laws.proofs.PageSlots.{pages_same}
-use Rattle.trio_laws.proofs.Picked.{all_listed, bodies_are, listed_no_root}
-use Rattle.trio_laws.proofs.Putting.{put_on, with_bodies-get}
-use Rattle.trio_laws.proofs.Sheets.{Pages, among_cases, with_pages_absent, with_pages_apart, with_pages_known}
+use Rattle.trio_lists.proofs.Members.{In-flat, In-map, flat_from, map_from}
+use Rattle.trio_surveys.proofs.PageSlots.{pages_same}
+use Rattle.trio_surveys.proofs.Picked.{all_listed, bodies_are, listed_no_root}
+use Rattle.trio_surveys.proofs.Putting.{put_on, with_bodies-get}
+use Rattle.trio_surveys.proofs.Sheets.{Pages, among_cases, with_pages_absent, with_pages_apart, with_pages_known}
 use Rattle.trio_laws.proofs.Survivors.{fit_now, sound_now}
 
 -- a place of which the image has the page is there, whether or not the page is absent

@@ -6,24 +6,25 @@ use Rattle.trio_rights.specs.declared.kind.Kind.TheVariants.{Regular, Directory}
 use Rattle.trio_nodes.specs.declared.grant.GrantKind.TheVariants.{Write}
 use Rattle.trio_layout.specs.Core.{Core, page_of}
 use Rattle.trio_layout.specs.Entries.{Listed}
-use Rattle.trio_layout.specs.Lists.{In}
+use Rattle.trio_lists.specs.Lists.{In}
 use Rattle.trio_layout.specs.Survey.{Met, FileRead, plain, survey, children, file_of, pages_of}
-use Rattle.trio_state.specs.Image.{row_at}
+use Rattle.trio_layout.specs.Image.{row_at}
 use Rattle.trio_state.specs.Kept.{Kept}
-use Rattle.trio_state.specs.Sheets.{Sheet, sheet_numbers}
+use Rattle.trio_page.specs.Sheets.{Sheet, sheet_numbers}
 use Rattle.trio_state.specs.State.{OpenGrant, State, settled}
 use Rattle.trio_laws.specs.EndLaws.{checkpoints_of}
-use Rattle.trio_laws.proofs.Bundles.{in_numbers, ok_one}
+use Rattle.trio_laws.proofs.Bundles.{in_numbers}
+use Rattle.trio_lists.proofs.Filters.{ok_one}
 use Rattle.trio_laws.proofs.Checkpoints.{checkpoint_from, checkpoint_settled}
-use Rattle.trio_laws.proofs.Images.{one_met, root_or_listed}
+use Rattle.trio_surveys.proofs.Images.{one_met, root_or_listed}
 use Rattle.trio_laws.proofs.Isolated.{regular_empty}
-use Rattle.trio_laws.proofs.Local.{reads_from}
-use Rattle.trio_laws.proofs.Members.{In-flat, In-right, flat_from, map_from}
-use Rattle.trio_laws.proofs.Owned.{pages_are}
-use Rattle.trio_laws.proofs.Picked.{all_listed}
-use Rattle.trio_laws.proofs.Sheets.{among_cases, page_there, with_pages_apart}
+use Rattle.trio_surveys.proofs.Local.{reads_from}
+use Rattle.trio_lists.proofs.Members.{In-flat, In-right, flat_from, map_from}
+use Rattle.trio_surveys.proofs.Owned.{pages_are}
+use Rattle.trio_surveys.proofs.Picked.{all_listed}
+use Rattle.trio_surveys.proofs.Sheets.{among_cases, page_there, with_pages_apart}
 use Rattle.trio_laws.proofs.StateFacts.{lent_file, live_met}
-use Rattle.trio_laws.proofs.Tree.{child_from, child_placed}
+use Rattle.trio_surveys.proofs.Tree.{child_from, child_placed}
 
 directory_or : (kind : Kind) → (kind ≡ Regular → ⊥) → kind ≡ Directory
 directory_or Directory h = refl

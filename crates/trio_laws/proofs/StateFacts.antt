@@ -1,71 +1,29 @@
 -- What follows from `Kept` of open grants and pages.
-use Rattle.std.proofs.Common.{◌≡◌, ℕ, suc, zero, ◌<◌, Bool, true, false, ◌&&◌, eqb, ltb, leb, List, [], ◌∷◌, ◌++◌, length, get_or, Option, Some, None, slice_get, sym, refl, ap, ◌∙◌, subst, inl, inr, ◌⊎◌, arith}
+use Rattle.std.proofs.Common.{◌≡◌, ℕ, ◌<◌, Bool, true, false, ◌&&◌, ltb, leb, List, [], ◌∷◌, ◌++◌, Option, Some, None, slice_get, sym, refl, ap, ◌∙◌, subst, inl, inr, arith}
 use Rattle.std.specs.Prelude.{AllPairs}
-use Rattle.std.specs.List.{list_any, flat_map}
+use Rattle.std.specs.List.{flat_map}
 use Rattle.std.proofs.lemmas.List.{map-append}
-use Rattle.std.proofs.lemmas.Bool.{and_parts, or_cases, or_left, or_right, eqb-true, ltb-true, false≢true}
+use Rattle.std.proofs.lemmas.Bool.{and_parts, ltb-true, false≢true}
 use Rattle.trio_rights.specs.Row.{Row}
 use Rattle.trio_rights.specs.declared.kind.Kind.{Kind}
 use Rattle.trio_rights.specs.declared.kind.Kind.TheVariants.{Regular, Directory}
 use Rattle.trio_nodes.specs.declared.grant.GrantKind.{GrantKind}
 use Rattle.trio_nodes.specs.declared.grant.GrantKind.TheVariants.{Read, Write, Hold}
 use Rattle.trio_layout.specs.Core.{Core, page_of}
-use Rattle.trio_layout.specs.Lists.{is_among, In}
+use Rattle.trio_lists.specs.Lists.{is_among, In}
 use Rattle.trio_layout.specs.Range.{is_core}
 use Rattle.trio_layout.specs.Survey.{Met, plain, survey, pages_of}
-use Rattle.trio_state.specs.Image.{row_at}
+use Rattle.trio_layout.specs.Image.{row_at}
 use Rattle.trio_state.specs.Kept.{Kept, MayBothStand}
-use Rattle.trio_state.specs.Sheets.{Sheet, sheet_numbers}
-use Rattle.trio_state.specs.State.{covered, OpenGrant, State, settled, is_write, is_read}
-use Rattle.trio_laws.proofs.Cores.{listed_is_core}
-use Rattle.trio_laws.proofs.Images.{TablesOf, MetAt, row_at_is, met_row, read_met, free_unlisted}
-use Rattle.trio_laws.proofs.Members.{In-left, flat_from, map_from, In-among}
-use Rattle.trio_laws.proofs.Owned.{sound_parts, page_owner, pages_are}
-use Rattle.trio_laws.proofs.Sheets.{with_pages_absent, place_there, page_from}
-
-pub any_from : {X : Type 0} (p : X → Bool) (x : X) (xs : List X) → In x xs → p x ≡ true → list_any p xs ≡ true
-any_from p x [] i e = absurd i
-any_from p x (z ∷ zs) (inl s) e = or_left (p z) (list_any p zs) (ap p (sym s) ∙ e)
-any_from p x (z ∷ zs) (inr i) e = or_right (p z) (list_any p zs) (any_from p x zs i e)
-
-pub any_at : {X : Type 0} (p : X → Bool) (xs : List X) → list_any p xs ≡ true → (x : X) × In x xs × (p x ≡ true)
-any_at p [] e = absurd (false≢true e)
-any_at p (z ∷ zs) e =
-    elim (or_cases (p z) (list_any p zs) e) [
-      | inl h ↦ (z, inl refl, h)
-      | inr h ↦ let r = any_at p zs h in (r.0, inr r.1, r.2)
-    ]
-
-pub In_get : {X : Type 0} (xs : List X) (k : ℕ) (d : X) → k < length xs → In (get_or xs k d) xs
-In_get [] k d l = absurd (omega arith)
-In_get (x ∷ xs) zero d l = inl refl
-In_get (x ∷ xs) (suc k) d l = inr (In_get xs k d (omega arith))
-
-pub In_index : {X : Type 0} (x : X) (xs : List X) → In x xs → (k : ℕ) × (k < length xs) × (get_or xs k x ≡ x)
-In_index x [] i = absurd i
-In_index x (z ∷ zs) (inl e) = let l : 0 < length (z ∷ zs) = omega arith in (zero, l, sym e)
-In_index x (z ∷ zs) (inr i) =
-    let r = In_index x zs i in
-    let l : suc r.0 < length (z ∷ zs) = (let k = r.1 in omega (arith, k)) in (suc r.0, l, r.2)
-
--- two members of a list whose pairs stand are one, or they stand
-pub pairs_in : {X : Type 0} (R : X → X → Type 0) (xs : List X) (x y : X) → AllPairs R xs → In x xs → In y xs → (x ≡ y) ⊎ (R x y ⊎ R y x)
-pairs_in R [] x y h i j = absurd i
-pairs_in R (z ∷ zs) x y h (inl a) (inl b) = inl (a ∙ sym b)
-pairs_in R (z ∷ zs) x y h (inl a) (inr j) =
-    let r = In_index y zs j in
-    let l : 0 < suc r.0 = omega arith in
-    let k : suc r.0 < length (z ∷ zs) = (let q = r.1 in omega (arith, q)) in
-    let s : R z y = subst (λ w. R z w) r.2 (h zero (suc r.0) y l k) in
-    inr (inl (subst (λ w. R w y) (sym a) s))
-pairs_in R (z ∷ zs) x y h (inr i) (inl b) =
-    let r = In_index x zs i in
-    let l : 0 < suc r.0 = omega arith in
-    let k : suc r.0 < length (z ∷ zs) = (let q = r.1 in omega (arith, q)) in
-    let s : R z x = subst (λ w. R z w) r.2 (h zero (suc r.0) x l k) in
-    inr (inr (subst (λ w. R w x) (sym b) s))
-pairs_in R (z ∷ zs) x y h (inr i) (inr j) =
-    pairs_in R zs x y (λ a b d l k. h (suc a) (suc b) d (omega arith) (omega arith)) i j
+use Rattle.trio_page.specs.Sheets.{Sheet, sheet_numbers}
+use Rattle.trio_state.specs.State.{covered, OpenGrant, State, settled}
+use Rattle.trio_nodes.specs.GrantKinds.{is_write, is_read}
+use Rattle.trio_surveys.proofs.Cores.{listed_is_core}
+use Rattle.trio_surveys.proofs.Images.{TablesOf, MetAt, row_at_is, met_row, read_met, free_unlisted}
+use Rattle.trio_lists.proofs.Members.{In-left, flat_from, map_from, In-among}
+use Rattle.trio_surveys.proofs.Owned.{sound_parts, page_owner, pages_are}
+use Rattle.trio_surveys.proofs.Sheets.{with_pages_absent, place_there, page_from}
+use Rattle.trio_lists.proofs.Filters.{any_at, pairs_in}
 
 pub write_is : (k : GrantKind) → is_write k ≡ true → k ≡ Write
 write_is Write e = refl

@@ -5,13 +5,13 @@ use Rattle.trio_rights.specs.Row.{Row}
 use Rattle.trio_nodes.specs.declared.grant.GrantKind.{GrantKind}
 use Rattle.trio_nodes.specs.declared.answers.GrantFault.{GrantFault}
 use Rattle.trio_nodes.specs.declared.answers.ModeFault.{ModeFault}
-use Rattle.trio_layout.specs.Lists.{In}
-use Rattle.trio_state.specs.Sheets.{Sheet}
-use Rattle.trio_state.specs.Image.{Image, IsFit, row_at}
-use Rattle.trio_state.specs.Verifies.{Verifies}
+use Rattle.trio_lists.specs.Lists.{In}
+use Rattle.trio_page.specs.Sheets.{Sheet}
+use Rattle.trio_layout.specs.Image.{Image, IsFit, row_at}
+use Rattle.trio_layout.specs.Verifies.{Verifies}
 use Rattle.trio_state.specs.State.{State}
-use Rattle.trio_state.specs.Proposed.{Bundle, bundle_sheets}
-use Rattle.trio_state.specs.Accept.{is_accepted, next}
+use Rattle.trio_layout.specs.Proposed.{Bundle, bundle_sheets}
+use Rattle.trio_layout.specs.Accept.{is_accepted, next}
 use Rattle.trio_state.specs.Grants.{grant_fault}
 use Rattle.trio_state.specs.Allotments.{free_pages, free_numbers, allots}
 use Rattle.trio_state.specs.State.{logged}
@@ -20,7 +20,7 @@ use Rattle.trio_state.specs.Kept.{Kept}
 use Rattle.trio_state.specs.Given.{GivenEvent}
 use Rattle.trio_state.specs.Run.{start, Move, Trace}
 use Rattle.trio_laws.specs.Laws.{AnyRun, EveryStateIsKept, EveryMoveIsAStep, EveryReleaseIsJudged, NeverStuck}
-use Rattle.trio_laws.proofs.Accepted.{fit_proposed, accepted_verifies}
+use Rattle.trio_surveys.proofs.Accepted.{fit_proposed, accepted_verifies}
 use Rattle.trio_laws.proofs.Runs.{trace_kept, start_kept as first_kept}
 use Rattle.trio_laws.proofs.Possible.{call_possible}
 use Rattle.trio_laws.proofs.Verdicts.{release_verdict}

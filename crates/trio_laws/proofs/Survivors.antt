@@ -12,25 +12,29 @@ use Rattle.trio_nodes.specs.declared.grant.GrantKind.TheVariants.{Write, Hold}
 use Rattle.trio_layout.specs.Chain.{Chain}
 use Rattle.trio_layout.specs.declared.body.Body.{Body}
 use Rattle.trio_layout.specs.Body.{body_of}
-use Rattle.trio_laws.proofs.Local.{reads_from}
+use Rattle.trio_surveys.proofs.Local.{reads_from}
 use Rattle.trio_layout.specs.Core.{Core}
-use Rattle.trio_layout.specs.Lists.{is_among, In}
+use Rattle.trio_lists.specs.Lists.{is_among, In}
 use Rattle.trio_layout.specs.Sound.{is_sound}
 use Rattle.trio_layout.specs.Survey.{Met, Pick, plain, FileRead, file_of, survey, pages_of, row_by, row_of}
-use Rattle.trio_state.specs.Accept.{is_accepted}
-use Rattle.trio_state.specs.Allowed.{same_row, keeps_rows, lists_own, has_owner, has_kind, may_stand, is_allowed}
-use Rattle.trio_state.specs.Bundles.{is_hold, is_in_bundle}
+use Rattle.trio_layout.specs.Accept.{is_accepted}
+use Rattle.trio_layout.specs.Allowed.{same_row, keeps_rows, lists_own, has_owner, has_kind, may_stand, is_allowed}
+use Rattle.trio_state.specs.Bundles.{is_in_bundle}
+use Rattle.trio_nodes.specs.GrantKinds.{is_hold}
 use Rattle.trio_state.specs.Given.{GivenTo}
-use Rattle.trio_state.specs.Image.{IsFit, Image, settled_body, row_at}
+use Rattle.trio_layout.specs.Image.{IsFit, Image, settled_body, row_at}
 use Rattle.trio_state.specs.Kept.{Kept}
-use Rattle.trio_state.specs.Proposed.{Written, Bundle, bundle_pages, is_written, proposed, proposed_pick}
-use Rattle.trio_state.specs.Sheets.{sheet_numbers}
-use Rattle.trio_state.specs.State.{OpenGrant, State, settled, is_write}
-use Rattle.trio_laws.proofs.Accepted.{fit_proposed}
-use Rattle.trio_laws.proofs.Bundles.{up_to_at, same_kind_is, same_row_is, Unwritten, finds_unwritten, written_lent, bundle_page, kept_chain, body_picked}
-use Rattle.trio_laws.proofs.Images.{some_of, finds, met_row, read_met, met_numbered, one_met, free_unlisted, settled_body_met}
-use Rattle.trio_laws.proofs.Members.{all_at, In-among, among_from}
-use Rattle.trio_laws.proofs.Owned.{pages_are}
+use Rattle.trio_layout.specs.Proposed.{Written, Bundle, bundle_pages, is_written, proposed, proposed_pick}
+use Rattle.trio_page.specs.Sheets.{sheet_numbers}
+use Rattle.trio_state.specs.State.{OpenGrant, State, settled}
+use Rattle.trio_nodes.specs.GrantKinds.{is_write}
+use Rattle.trio_surveys.proofs.Accepted.{fit_proposed}
+use Rattle.trio_laws.proofs.Bundles.{Unwritten, finds_unwritten, written_lent, bundle_page, kept_chain, body_picked}
+use Rattle.trio_surveys.proofs.Alike.{up_to_at, same_kind_is, same_row_is}
+use Rattle.trio_surveys.proofs.Images.{some_of, met_row, read_met, met_numbered, one_met, free_unlisted, settled_body_met}
+use Rattle.trio_lists.proofs.Filters.{finds}
+use Rattle.trio_lists.proofs.Members.{all_at, In-among, among_from}
+use Rattle.trio_surveys.proofs.Owned.{pages_are}
 use Rattle.trio_laws.proofs.StateFacts.{write_alone, tables, live_met, lent_met}
 
 -- the cases of what is asked of a file that is met

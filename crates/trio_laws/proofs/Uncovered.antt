@@ -5,17 +5,17 @@ use Rattle.std.specs.List.{flat_map}
 use Rattle.trio_rights.specs.declared.kind.Kind.{Kind}
 use Rattle.trio_rights.specs.declared.kind.Kind.TheVariants.{Regular, Directory}
 use Rattle.trio_rights.specs.Row.{Row}
-use Rattle.trio_layout.specs.Lists.{In}
+use Rattle.trio_lists.specs.Lists.{In}
 use Rattle.trio_layout.specs.Survey.{plain, row_by}
 use Rattle.trio_state.specs.Bundles.{uncovered, uncovered_by, uncovered_of}
 use Rattle.trio_state.specs.Given.{GivenTo}
-use Rattle.trio_state.specs.Image.{row_at}
+use Rattle.trio_layout.specs.Image.{row_at}
 use Rattle.trio_state.specs.Kept.{Kept}
-use Rattle.trio_state.specs.Proposed.{Written, Bundle}
-use Rattle.trio_state.specs.Sheets.{Sheet}
+use Rattle.trio_layout.specs.Proposed.{Written, Bundle}
+use Rattle.trio_page.specs.Sheets.{Sheet}
 use Rattle.trio_state.specs.State.{State, settled}
-use Rattle.trio_laws.proofs.Images.{row_at_is, row_met}
-use Rattle.trio_laws.proofs.Members.{In-cases, In-flat, flat_from, flat_same}
+use Rattle.trio_surveys.proofs.Images.{row_at_is, row_met}
+use Rattle.trio_lists.proofs.Members.{In-cases, In-flat, flat_from, flat_same}
 use Rattle.trio_laws.proofs.StateFacts.{tables}
 
 uncovered_is : (kind : Kind) (blocks : List Sheet) (x : Sheet) → In x (uncovered_of kind blocks) → (kind ≡ Regular) × In x blocks

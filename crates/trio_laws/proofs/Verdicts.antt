@@ -5,24 +5,24 @@ use Rattle.std.proofs.lemmas.List.{map-append}
 use Rattle.trio_rights.specs.declared.kind.Kind.{Kind}
 use Rattle.trio_rights.specs.declared.kind.Kind.TheVariants.{Regular, Directory}
 use Rattle.trio_nodes.specs.declared.grant.GrantKind.TheVariants.{Write}
-use Rattle.trio_layout.specs.Lists.{In}
+use Rattle.trio_lists.specs.Lists.{In}
 use Rattle.trio_layout.specs.Core.{page_of}
 use Rattle.trio_layout.specs.Survey.{plain, FileRead, survey}
-use Rattle.trio_state.specs.Sheets.{Sheet, sheet_numbers}
-use Rattle.trio_state.specs.Image.{Image, settled_body}
+use Rattle.trio_page.specs.Sheets.{Sheet, sheet_numbers}
+use Rattle.trio_layout.specs.Image.{Image, settled_body}
 use Rattle.trio_state.specs.State.{State, settled, creds_of, covered}
-use Rattle.trio_state.specs.Proposed.{Bundle}
-use Rattle.trio_state.specs.Accept.{is_accepted, next}
+use Rattle.trio_layout.specs.Proposed.{Bundle}
+use Rattle.trio_layout.specs.Accept.{is_accepted, next}
 use Rattle.trio_state.specs.Bundles.{parted_hold, uncovered, refused_image, Ends}
 use Rattle.trio_state.specs.Tells.{Why, Tells}
 use Rattle.trio_state.specs.Step.{Answer, Accepted, Refused, NotClosed, NoMemory, Release, Step, ReleaseEnd, Parted, IsAccepted, IsRefused}
 use Rattle.trio_state.specs.Kept.{Kept}
 use Rattle.trio_state.specs.Given.{GivenTo}
-use Rattle.trio_laws.specs.Reading.{pages_read}
+use Rattle.trio_surveys.specs.Reading.{pages_read}
 use Rattle.trio_laws.specs.Laws.{IsVerdict, IsBack, RefusalKeeps}
-use Rattle.trio_laws.proofs.Local.{survey_local}
-use Rattle.trio_laws.proofs.Owned.{sound_parts}
-use Rattle.trio_laws.proofs.Sheets.{with_pages_apart}
+use Rattle.trio_surveys.proofs.Local.{survey_local}
+use Rattle.trio_surveys.proofs.Owned.{sound_parts}
+use Rattle.trio_surveys.proofs.Sheets.{with_pages_apart}
 use Rattle.trio_laws.proofs.Agreeing.{body_still}
 use Rattle.trio_laws.proofs.Bundles.{Closed, closed_unparted}
 use Rattle.trio_laws.proofs.Refusing.{agree, fit', pages}

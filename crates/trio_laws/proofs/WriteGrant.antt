@@ -13,24 +13,28 @@ use Rattle.trio_rights.specs.declared.kind.Kind.TheVariants.{Regular, Directory}
 use Rattle.trio_nodes.specs.declared.grant.GrantKind.TheVariants.{Write, Hold}
 use Rattle.trio_layout.specs.Body.{body_of}
 use Rattle.trio_layout.specs.Chain.{chain_of}
-use Rattle.trio_layout.specs.Core.{Core, nowhere, there_or, page_of}
-use Rattle.trio_layout.specs.Lists.{result_then, is_among, are_new, In}
+use Rattle.trio_layout.specs.Core.{Core, nowhere, page_of}
+use Rattle.trio_lists.specs.Lists.{there_or}
+use Rattle.trio_lists.specs.Lists.{result_then, is_among, are_new, In}
 use Rattle.trio_layout.specs.Sound.{listed_pages}
 use Rattle.trio_layout.specs.Survey.{Met, plain, FileRead, file_of, survey, pages_of, row_by}
-use Rattle.trio_state.specs.Grants.{has_parent_grant, sheets_of, settled_chain, index_sheets, block_sheets, opened, lent_pages, opens}
-use Rattle.trio_state.specs.Image.{IsFit, settled_body, row_at}
+use Rattle.trio_state.specs.Grants.{has_parent_grant, opened, lent_pages, opens}
+use Rattle.trio_layout.specs.Pages.{sheets_of, settled_chain, index_sheets, block_sheets}
+use Rattle.trio_layout.specs.Image.{IsFit, settled_body, row_at}
 use Rattle.trio_state.specs.Kept.{Kept, LentIsListed, MayBothStand, HoldStands}
-use Rattle.trio_state.specs.Sheets.{Sheet, sheet_numbers, with_pages, without_pages}
-use Rattle.trio_state.specs.State.{covered, OpenGrant, State, settled, is_write}
+use Rattle.trio_page.specs.Sheets.{Sheet, sheet_numbers, with_pages, without_pages}
+use Rattle.trio_state.specs.State.{covered, OpenGrant, State, settled}
+use Rattle.trio_nodes.specs.GrantKinds.{is_write}
 use Rattle.trio_laws.proofs.Agreeing.{image_with, verifies_still, met_still, lent_still, body_still}
-use Rattle.trio_laws.proofs.Images.{some_of, settled_body_met, row_at_is, row_met}
-use Rattle.trio_laws.proofs.Local.{reads_from, file_agrees}
-use Rattle.trio_laws.proofs.Members.{In-left, In-right, In-cases, map_from, among_from}
-use Rattle.trio_laws.proofs.Owned.{sound_parts, page_owner, pages_are, index_apart}
-use Rattle.trio_laws.proofs.SheetLaws.{length-with_pages}
-use Rattle.trio_laws.proofs.Sheets.{Pages, with_pages-append, with_pages_cong, with_pages_known, with_pages_apart, without_apart, without_there, without_absent, length-without, page_same, page_there, among_cases, place_there, place_within, sheets_in, sheets_all}
-use Rattle.trio_laws.proofs.StateFacts.{any_from, In_get, tables, pages_there, lent_file, checkpoint_lent}
-use Rattle.trio_laws.specs.Reading.{with_other, AgreeOn, pages_read}
+use Rattle.trio_surveys.proofs.Images.{some_of, settled_body_met, row_at_is, row_met}
+use Rattle.trio_surveys.proofs.Local.{reads_from, file_agrees}
+use Rattle.trio_lists.proofs.Members.{In-left, In-right, In-cases, map_from, among_from}
+use Rattle.trio_surveys.proofs.Owned.{sound_parts, page_owner, pages_are, index_apart}
+use Rattle.trio_surveys.proofs.SheetLaws.{length-with_pages}
+use Rattle.trio_surveys.proofs.Sheets.{Pages, with_pages-append, with_pages_cong, with_pages_known, with_pages_apart, without_apart, without_there, without_absent, length-without, page_same, page_there, among_cases, place_there, place_within, sheets_in, sheets_all}
+use Rattle.trio_laws.proofs.StateFacts.{tables, pages_there, lent_file, checkpoint_lent}
+use Rattle.trio_lists.proofs.Filters.{any_from, In_get}
+use Rattle.trio_surveys.specs.Reading.{with_other, AgreeOn, pages_read}
 
 -- a page that is read is an index page or a block of a directory
 pub read_cases : (kind : Kind) (f : FileRead) (p : ℕ) → In p (pages_read kind f) → In p f.chain.index ⊎ (In p f.chain.blocks × (kind ≡ Directory))

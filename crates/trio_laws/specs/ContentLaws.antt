@@ -2,14 +2,14 @@
 use Rattle.std.specs.Prelude.{◌≡◌, ℕ, ◌==◌, List, map, Option, None, Some, if◌then◌else◌, Ok, IsTrue}
 use Rattle.trio_rights.specs.declared.rights.Creds.{Creds}
 use Rattle.trio_rights.specs.Row.{Row}
-use Rattle.trio_layout.specs.Lists.{In, is_among}
+use Rattle.trio_lists.specs.Lists.{In, is_among}
 use Rattle.trio_layout.specs.Core.{page_of}
 use Rattle.trio_layout.specs.Survey.{Met, plain, FileRead, file_of, survey}
-use Rattle.trio_state.specs.Image.{Image, row_at, body_at_place, settled_body}
+use Rattle.trio_layout.specs.Image.{Image, row_at, body_at_place, settled_body}
 use Rattle.trio_state.specs.State.{State, settled}
-use Rattle.trio_state.specs.Proposed.{Bundle, kept_body, proposed}
-use Rattle.trio_state.specs.Accept.{is_accepted, next}
-use Rattle.trio_state.specs.Mode.{with_mode}
+use Rattle.trio_layout.specs.Proposed.{Bundle, kept_body, proposed}
+use Rattle.trio_layout.specs.Accept.{is_accepted, next}
+use Rattle.trio_layout.specs.Mode.{with_mode}
 use Rattle.trio_state.specs.Step.{Event, Release, Settle, SetMode, Answer, Accepted, Settled, ModeSet, Step}
 use Rattle.trio_state.specs.Kept.{Kept}
 use Rattle.trio_state.specs.Given.{GivenTo, GivenEvent}

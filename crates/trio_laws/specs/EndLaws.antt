@@ -4,30 +4,19 @@ use Rattle.std.specs.List.{flat_map}
 use Rattle.trio_rights.specs.declared.kind.Kind.TheVariants.{Directory}
 use Rattle.trio_rights.specs.Row.{Row}
 use Rattle.trio_nodes.specs.declared.grant.GrantKind.TheVariants.{Write}
-use Rattle.trio_layout.specs.Lists.{In, are_new}
+use Rattle.trio_lists.specs.Lists.{In, are_new}
 use Rattle.trio_layout.specs.Range.{is_core}
-use Rattle.trio_layout.specs.Core.{Core, page_of}
+use Rattle.trio_layout.specs.Core.{page_of}
 use Rattle.trio_layout.specs.Chain.{Chain}
-use Rattle.trio_layout.specs.Survey.{Met, Pick, survey}
-use Rattle.trio_layout.specs.Sound.{IsSound}
-use Rattle.trio_state.specs.Sheets.{Sheet, sheet_numbers, with_pages}
-use Rattle.trio_state.specs.Image.{IsFit, row_at, body_at_place, settled_body}
+use Rattle.trio_page.specs.Sheets.{Sheet, sheet_numbers, with_pages}
+use Rattle.trio_layout.specs.Image.{row_at, settled_body}
 use Rattle.trio_state.specs.State.{OpenGrant, State, settled, creds_of}
-use Rattle.trio_state.specs.Grants.{settled_chain}
-use Rattle.trio_state.specs.Proposed.{Bundle, bundle_sheets}
-use Rattle.trio_state.specs.Accept.{is_accepted, next, with_bodies}
+use Rattle.trio_layout.specs.Pages.{settled_chain}
+use Rattle.trio_layout.specs.Proposed.{Bundle, bundle_sheets}
+use Rattle.trio_layout.specs.Accept.{is_accepted, next}
 use Rattle.trio_state.specs.Bundles.{grants_after, is_in_bundle, lent_part, refused_image, uncovered}
 use Rattle.trio_state.specs.Kept.{Kept}
 use Rattle.trio_state.specs.Given.{GivenTo}
-
--- The bodies of a sound survey can be put at their places in any order, and a body that stands in its slot already can be left
--- out.
-abbrev pub BodiesInAnyOrder : Type 0
-BodiesInAnyOrder =
-    (core : Core) (pick : Pick) (ms : List Met) → IsFit core → IsSound core pick
-    → ((m : Met) → In m ms → In m (survey core pick) × (m.ino ≢ 1))
-    → ((m : Met) → In m (survey core pick) → m.ino ≢ 1 → In m ms ⊎ (m.body ≡ body_at_place core m.page m.slot))
-    → with_bodies ms core.pages ≡ with_bodies (survey core pick) core.pages
 
 -- the sheets of the checkpoints of grants
 abbrev pub checkpoints_of : List OpenGrant → List Sheet

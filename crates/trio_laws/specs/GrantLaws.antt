@@ -2,8 +2,8 @@
 use Rattle.std.specs.Prelude.{◌≡◌, ◌<◌, ◌≤◌, Bool, List, ◌∷◌, Some, AllPairs, slice_get, IsTrue}
 use Rattle.std.specs.List.{filter}
 use Rattle.trio_rights.specs.declared.rights.Creds.{Creds}
-use Rattle.trio_layout.specs.Lists.{In}
-use Rattle.trio_state.specs.Image.{Image}
+use Rattle.trio_lists.specs.Lists.{In}
+use Rattle.trio_layout.specs.Image.{Image}
 use Rattle.trio_state.specs.State.{OpenGrant, State}
 use Rattle.trio_state.specs.Step.{Event, Answer, Step}
 use Rattle.trio_state.specs.Run.{start}

@@ -3,11 +3,11 @@ use Rattle.std.specs.Prelude.{◌≡◌, ◌≢◌, ◌⊎◌, ℕ, ◌+◌, Boo
 use Rattle.trio_rights.specs.declared.rights.Creds.{Creds}
 use Rattle.trio_rights.specs.Row.{Row}
 use Rattle.trio_nodes.specs.declared.grant.GrantKind.{GrantKind}
-use Rattle.trio_state.specs.Sheets.{sheet_numbers}
-use Rattle.trio_state.specs.Image.{Image}
+use Rattle.trio_page.specs.Sheets.{sheet_numbers}
+use Rattle.trio_layout.specs.Image.{Image}
 use Rattle.trio_state.specs.State.{OpenGrant, Out, State, settled, creds_of}
-use Rattle.trio_state.specs.Proposed.{Bundle}
-use Rattle.trio_state.specs.Accept.{is_accepted, next}
+use Rattle.trio_layout.specs.Proposed.{Bundle}
+use Rattle.trio_layout.specs.Accept.{is_accepted, next}
 use Rattle.trio_state.specs.Grants.{grant_fault, opened, given_back}
 use Rattle.trio_state.specs.Allotments.{free_pages, free_numbers, out_after}
 use Rattle.trio_state.specs.Bundles.{parted_hold, refused_image, grants_after}

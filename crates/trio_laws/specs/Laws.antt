@@ -3,24 +3,22 @@
 -- one connected tree with each page owned once and rights as in the shadow table, and a release is accepted exactly when the
 -- whole image with its bytes would be sound by an allowed change, while otherwise what the checkpoint covers returns byte for
 -- byte.
-use Rattle.std.specs.Prelude.{◌≡◌, ◌≢◌, ◌↔◌, ◌⊎◌, ℕ, zero, suc, List, map, [], ◌∷◌, ◌++◌, Option, Some, None, Ok, is_some, slice_get, slice_index, IsTrue, IsFalse}
+use Rattle.std.specs.Prelude.{◌≡◌, ◌≢◌, ◌↔◌, ◌⊎◌, ℕ, List, map, [], ◌++◌, Option, Some, None, Ok, slice_get, IsTrue, IsFalse}
 use Rattle.trio_rights.specs.declared.kind.Kind.{Kind}
 use Rattle.trio_rights.specs.declared.kind.Kind.TheVariants.{Regular, Directory}
 use Rattle.trio_rights.specs.declared.rights.Creds.{Creds}
 use Rattle.trio_rights.specs.Row.{Row}
 use Rattle.trio_nodes.specs.declared.grant.GrantKind.TheVariants.{Write, Hold}
-use Rattle.trio_layout.specs.Lists.{In, is_among, are_new}
-use Rattle.trio_layout.specs.Range.{is_core}
-use Rattle.trio_layout.specs.Core.{Core, page_of}
+use Rattle.trio_lists.specs.Lists.{In, is_among}
+use Rattle.trio_layout.specs.Core.{page_of}
 use Rattle.trio_layout.specs.Entries.{Listed}
-use Rattle.trio_layout.specs.Survey.{Met, plain, FileRead, file_of, survey, root_of, children, pages_of, row_by, numbers}
-use Rattle.trio_layout.specs.Sound.{listings, listed_pages}
-use Rattle.trio_state.specs.Sheets.{sheet_numbers}
-use Rattle.trio_state.specs.Image.{Image, IsFit, row_at, settled_body}
-use Rattle.trio_state.specs.Verifies.{Verifies}
+use Rattle.trio_layout.specs.Survey.{Met, plain, FileRead, file_of, survey, children, numbers}
+use Rattle.trio_page.specs.Sheets.{sheet_numbers}
+use Rattle.trio_layout.specs.Image.{Image, IsFit, row_at, settled_body}
+use Rattle.trio_layout.specs.Verifies.{Verifies}
 use Rattle.trio_state.specs.State.{State, settled, creds_of, covered}
-use Rattle.trio_state.specs.Proposed.{Written, Bundle, is_written}
-use Rattle.trio_state.specs.Accept.{is_accepted, next}
+use Rattle.trio_layout.specs.Proposed.{Written, Bundle, is_written}
+use Rattle.trio_layout.specs.Accept.{is_accepted, next}
 use Rattle.trio_state.specs.Bundles.{parted_hold, uncovered, refused_image, has_all}
 use Rattle.trio_state.specs.Tells.{Why, Tells}
 use Rattle.trio_state.specs.Step.{Event, Grant, Allot, Back, Release, Settle, SetMode, Answer, Accepted, Refused, NotClosed, NoMemory, Does, Step, Granted, ModeSet}
@@ -56,44 +54,6 @@ abbrev pub EveryMoveIsAStep : Type 0
 EveryMoveIsAStep = (run : AnyRun) (m : Move) → In m run.moves → IsMove m
 
 -- ---- one connected tree
-
--- a way of so many steps from the root down to a file, each to a file that the one before it lists
-abbrev pub Reaches : Core → ℕ → Met → Type 0
-Reaches core zero m = m ≡ root_of core
-Reaches core (suc steps) m = (parent : Met) × Reaches core steps parent × In m (children core plain parent)
-
--- The file of a live number: it is met from the root, alone of its number, and read whole. Its row says where it is listed and
--- what it is, and its rights are those that its body says.
-pub record IsLive (image : Image) (n : ℕ) (r : Row) : Type 0 where
-  pub met : Met
-  pub file : FileRead
-  pub stands : In met (survey image.core plain)
-  pub number : met.ino ≡ n
-  pub alone : (other : Met) → In other (survey image.core plain) → other.ino ≡ n → other ≡ met
-  pub steps : ℕ
-  pub reached : Reaches image.core steps met
-  pub read : file_of image.core met ≡ Ok file
-  pub body : met.body ≡ settled_body image n
-  pub row : r ≡ row_by met file.body
-
--- The survey is the root and what its files list. Each live number is that of one file met, and each file met is live. Each page
--- is listed once; the owner row of a listed page names the file that lists it, and an owner row names no other file.
-pub record IsTree (image : Image) : Type 0 where
-  pub listed : survey image.core plain ≡ root_of image.core ∷ listings image.core plain (survey image.core plain)
-  pub once : IsTrue (are_new [] (numbers (survey image.core plain)))
-  pub live : (n : ℕ) (r : Row) → row_at image n ≡ Some r → IsLive image n r
-  pub met : (m : Met) → In m (survey image.core plain) → IsTrue (is_some (row_at image m.ino))
-  pub pages_once : IsTrue (are_new [] (listed_pages image.core (survey image.core plain)))
-  pub owner :
-      (m : Met) (page : ℕ) → In m (survey image.core plain) → In page (pages_of image.core m)
-      → slice_index image.owners page ≡ m.ino
-  pub owned :
-      (page : ℕ) → IsTrue (is_core image.core.range page) → slice_index image.owners page ≢ 0
-      → (m : Met) × In m (survey image.core plain) × (m.ino ≡ slice_index image.owners page) × In page (pages_of image.core m)
-
--- an image that verifies is one tree
-abbrev pub ImageIsTree : Type 0
-ImageIsTree = (image : Image) → IsFit image.core → Verifies image → IsTree image
 
 -- ---- releases
 

@@ -1,5 +1,3 @@
-pub mod Reading
-pub mod SurveyLaws
 pub mod Laws
 pub mod EndLaws
 pub mod GrantLaws

@@ -1,12 +1,6 @@
 //! The laws of the end of a release: the body of each function is empty, and its contract is the law.
 
-ghost use Rattle.trio_laws.specs.EndLaws.{AcceptedSettles, BodiesInAnyOrder, BodyStands, LendableIsHome, RefusedSettles};
-
-/// The bodies of a sound survey can be put at their places in any order, and a body that stands in
-/// its slot already can be left out.
-pub fn bodies_in_any_order()
-    ensures law { BodiesInAnyOrder }
-{}
+ghost use Rattle.trio_laws.specs.EndLaws.{AcceptedSettles, BodyStands, LendableIsHome, RefusedSettles};
 
 /// An accepted image that is spread over home and the checkpoints of the grants that stay open is
 /// what is settled then.

@@ -1,6 +1,6 @@
 //! The laws: the body of each function is empty, and its contract is the law.
 
-ghost use Rattle.trio_laws.specs.Laws.{ClosedThrough, EveryMoveIsAStep, EveryReleaseIsJudged, EveryStateIsKept, EveryStepIsIsolated, EveryStepKeepsRows, GivenThrough, ImageIsTree, NeverStuck, OthersUntouched, RefusalKeeps};
+ghost use Rattle.trio_laws.specs.Laws.{ClosedThrough, EveryMoveIsAStep, EveryReleaseIsJudged, EveryStateIsKept, EveryStepIsIsolated, EveryStepKeepsRows, GivenThrough, NeverStuck, OthersUntouched, RefusalKeeps};
 
 /// From an image that verifies, each state of each run is kept: its settled image verifies, what is
 /// lent is what its files list, and what is out is out once and free.
@@ -11,13 +11,6 @@ pub fn every_state_is_kept()
 /// Each event of a run is a step, from a state that is kept, of what was given.
 pub fn every_move_is_a_step()
     ensures law { EveryMoveIsAStep }
-{}
-
-/// An image that verifies is one connected tree: each live number is that of one file, which is
-/// met from the root; each page is listed once, and its owner row names the file that lists it; and
-/// rows and bodies agree.
-pub fn image_is_tree()
-    ensures law { ImageIsTree }
 {}
 
 /// In a run each bundle that is judged is accepted exactly where the whole image with its bytes

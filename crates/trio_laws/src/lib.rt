@@ -1,6 +1,5 @@
-//! Laws over the definitions of images and steps: a survey goes by the pages that it reads, a sound
-//! survey is a tree, an image whose bodies are put in place verifies, and the controller keeps an
-//! image that verifies through every step (`docs/DEFINITIONS.md`).
+//! Laws over the definitions of steps: the controller keeps an image that verifies through every step,
+//! and what follows of releases and of the files of others (`docs/DEFINITIONS.md`).
 //!
 //! `specs/` holds what the laws speak of beside the definitions below, and `proofs/` their proofs.
 #![tactic(auto)]
@@ -10,4 +9,3 @@ pub mod ends;
 pub mod known;
 pub mod laws;
 pub mod outs;
-pub mod surveys;

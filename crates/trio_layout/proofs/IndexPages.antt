@@ -15,7 +15,7 @@ use Rattle.trio_page.proofs.Cursor.{IsBytes, IsBytes-take, IsBytes-drop, wide64,
 use Rattle.trio_layout.specs.declared.range.CoreRange.{CoreRange}
 use Rattle.trio_layout.specs.Range.{is_core}
 use Rattle.trio_layout.specs.Index.{Index, index_at, index_bytes, index_fits, index_of, link_fits, numbers_in, IsIndexPage}
-use Rattle.trio_layout.specs.Fields.{AreNumbers, AreNarrow}
+use Rattle.trio_layout.specs.inner.Fields.{AreNumbers, AreNarrow}
 use Rattle.trio_layout.proofs.Reading.{reading, bytes_eq-true, true-bytes_eq}
 
 pub length-numbers_in : (n : ℕ) (bytes : List ℕ) → length (numbers_in n bytes) ≡ n

@@ -1,15 +1,13 @@
 -- A walk with a queue meets what a walk by levels meets.
-use Rattle.std.proofs.Common.{◌≡◌, ℕ, suc, zero, ◌+◌, ◌-◌, ◌<◌, ◌≤◌, Bool, true, false, cond, List, [], ◌∷◌, ◌++◌, length, get_or, take, drop, sym, refl, ap, ◌∙◌, inl, inr, ◌⊎◌, arith, append_assoc, length-append}
+use Rattle.std.proofs.Common.{◌≡◌, ℕ, suc, zero, ◌+◌, ◌-◌, ◌<◌, ◌≤◌, Bool, true, false, cond, List, [], ◌∷◌, ◌++◌, length, get_or, take, drop, sym, refl, ap, ◌∙◌, inl, inr, ◌⊎◌, arith, append_assoc, length-append, not, ◌||◌, eqb}
 use Rattle.std.specs.List.{flat_map}
 use Rattle.std.proofs.lemmas.List.{append-nil, map-append, length-drop, take-append-drop, get_or_append_left}
-use Rattle.std.proofs.lemmas.Bool.{cases_lt}
-use Rattle.trio_layout.specs.Survey.{Met}
-use Rattle.trio_layout.specs.Lists.{is_among, are_new}
-use Rattle.trio_layout.proofs.MarkLemmas.{are_new-append}
-use Rattle.std.proofs.lemmas.Bool.{and_from}
-use Rattle.std.proofs.Common.{not}
-use Rattle.trio_layout.specs.Survey.{Front, descend, levels, first_listed, numbers}
+use Rattle.std.proofs.lemmas.Bool.{cases_lt, and_from, cases_eq, or_left}
+use Rattle.trio_layout.specs.Survey.{Met, Front, descend, levels, first_listed, numbers}
+use Rattle.trio_lists.specs.Lists.{is_among, are_new}
+use Rattle.trio_lists.proofs.MarkLemmas.{are_new-append, is_among-append}
 use Rattle.trio_layout.specs.Queue.{pass_on, pass, queue}
+use Rattle.std.proofs.lemmas.Bool.Decides.{nat_tests}
 
 abbrev pub pass_many : (Met → List Met) → ℕ → Front → Front
 pass_many kids zero f = f
@@ -186,3 +184,27 @@ pub queue_distinct : (kids : Met → List Met) (root : Met) (i : ℕ) → are_ne
 queue_distinct kids root zero = refl
 queue_distinct kids root (suc i) =
     let f = queue kids root i in pass_distinct kids f.passed f.level (queue_distinct kids root i)
+
+-- a number that stands in a list already adds nothing to it
+among_twice : (n x : ℕ) (seen : List ℕ) (b : Bool) → is_among x seen ≡ true → (is_among n seen || b) ≡ (is_among n seen || (eqb x n || b))
+among_twice n x seen b e =
+    elim (cases_eq n x) [
+      | inl same ↦
+          let t : is_among n seen ≡ true = ap (λ k. is_among k seen) same ∙ e in
+          or_left (is_among n seen) b t ∙ sym (or_left (is_among n seen) (eqb x n || b) t)
+      | inr differ ↦ let f : eqb x n ≡ false = grind (arith, nat_tests) in rw f refl
+    ]
+
+-- the first listed bring each number that the others have
+among-first_step : (b : Bool) (n : ℕ) (seen : List ℕ) (m : Met) (ms : List Met) → is_among m.ino seen ≡ b → is_among n (seen ++ numbers (first_listed seen ms)) ≡ is_among n (seen ++ numbers ms) → is_among n ((seen ++ m.ino ∷ []) ++ numbers (first_listed (seen ++ m.ino ∷ []) ms)) ≡ is_among n ((seen ++ m.ino ∷ []) ++ numbers ms) → is_among n (seen ++ numbers (cond b (first_listed seen ms) (m ∷ first_listed (seen ++ m.ino ∷ []) ms))) ≡ is_among n (seen ++ numbers (m ∷ ms))
+among-first_step true n seen m ms e p q =
+    let l : is_among n (seen ++ numbers ms) ≡ is_among n (seen ++ m.ino ∷ numbers ms) =
+    is_among-append n seen (numbers ms) ∙ among_twice n m.ino seen (is_among n (numbers ms)) e ∙ sym (is_among-append n seen (m.ino ∷ numbers ms)) in
+    p ∙ l
+among-first_step false n seen m ms e p q =
+    ap (is_among n) (sym (append_assoc seen (m.ino ∷ []) (numbers (first_listed (seen ++ m.ino ∷ []) ms)))) ∙ q ∙ ap (is_among n) (append_assoc seen (m.ino ∷ []) (numbers ms))
+
+pub among-first_listed : (n : ℕ) (seen : List ℕ) (ms : List Met) → is_among n (seen ++ numbers (first_listed seen ms)) ≡ is_among n (seen ++ numbers ms)
+among-first_listed n seen [] = refl
+among-first_listed n seen (m ∷ ms) =
+    among-first_step (is_among m.ino seen) n seen m ms refl (among-first_listed n seen ms) (among-first_listed n (seen ++ m.ino ∷ []) ms)

@@ -18,7 +18,7 @@ use Rattle.std.proofs.lemmas.Bool.{false≢true, and_parts, and_from, leb-true, 
 use Rattle.trio_layout.specs.declared.slot.SlotRead.{SlotRead}
 use Rattle.trio_layout.specs.declared.slot.SlotRead.TheVariants.{Empty, Entry, Bad}
 use Rattle.trio_layout.specs.Slot.{entry_at, entry_bytes, entry_fits, slot_of, IsEntry}
-use Rattle.trio_layout.specs.Fields.{HasSlotZeros}
+use Rattle.trio_layout.specs.inner.Fields.{HasSlotZeros}
 use Rattle.trio_layout.proofs.Reading.{bytes_eq-true, true-bytes_eq}
 
 pub is_written : (e : EntryPart) (to : List ℕ) → length to ≡ 192 → length e.name ≤ 184

@@ -4,8 +4,8 @@ use Rattle.std.specs.Option.{option_and_then}
 use Rattle.trio_layout.specs.declared.body.Body.{Body}
 use Rattle.trio_layout.specs.Body.{block_count}
 use Rattle.trio_layout.specs.Index.{Index, index_of}
-use Rattle.trio_layout.specs.Lists.{result_map, result_then}
-use Rattle.trio_layout.specs.Core.{Core, Place, at_page, page_of, there_or}
+use Rattle.trio_lists.specs.Lists.{result_map, result_then, there_or}
+use Rattle.trio_layout.specs.Core.{Core, Place, at_page, page_of}
 
 -- the numbers of the index pages, and of the blocks
 pub record Chain : Type 0 where

@@ -1,5 +1,5 @@
 -- The pages of a core, some of which are lent or allotted and so absent, and the body of the root.
-use Rattle.std.specs.Prelude.{ℕ, List, Option, None, Some, if◌then◌else◌, slice_index_or, Result, Ok, Err}
+use Rattle.std.specs.Prelude.{ℕ, List, Option, None, if◌then◌else◌, slice_index_or}
 use Rattle.trio_layout.specs.declared.range.CoreRange.{CoreRange}
 use Rattle.trio_layout.specs.Range.{is_core}
 
@@ -27,7 +27,3 @@ nowhere = record { page = 0; slot = 0 }
 abbrev pub at_page : ℕ → Place
 at_page page = record { page = page; slot = 0 }
 
--- what is there, or that this place has nothing
-abbrev pub there_or : {X : Type 0} → Place → Option X → Result X Place
-there_or place None = Err place
-there_or place (Some x) = Ok x

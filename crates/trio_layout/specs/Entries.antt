@@ -8,8 +8,8 @@ use Rattle.trio_layout.specs.declared.slot.EntryPart.{EntryPart}
 use Rattle.trio_layout.specs.declared.slot.SlotRead.{SlotRead}
 use Rattle.trio_layout.specs.declared.slot.SlotRead.TheVariants.{Empty, Entry, Bad}
 use Rattle.trio_layout.specs.Slot.{slot_of}
-use Rattle.trio_layout.specs.Lists.{result_then, gathered, gathered_below}
-use Rattle.trio_layout.specs.Core.{Core, Place, at_page, page_of, there_or}
+use Rattle.trio_lists.specs.Lists.{result_then, gathered, gathered_below, there_or}
+use Rattle.trio_layout.specs.Core.{Core, Place, at_page, page_of}
 
 -- an entry at its place, with the bytes of the body in its slot
 pub record Listed : Type 0 where

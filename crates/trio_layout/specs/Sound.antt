@@ -2,7 +2,7 @@
 use Rattle.std.specs.Prelude.{ℕ, ◌≡◌, ◌+◌, nat_lt, Bool, ◌&&◌, ◌⊎◌, List, [], ◌∷◌, ◌++◌, map, is_ok, IsTrue, Option, if◌then◌else◌, Err}
 use Rattle.std.specs.List.{flat_map, list_all}
 use Rattle.trio_rights.specs.Row.{Row}
-use Rattle.trio_layout.specs.Lists.{In, is_among, are_new, tabulated}
+use Rattle.trio_lists.specs.Lists.{In, is_among, are_new, tabulated}
 use Rattle.trio_layout.specs.Core.{Core, Place, at_page}
 use Rattle.trio_layout.specs.Survey.{Met, Pick, file_of, survey, children, numbers, pages_of, row_of, owner_of}
 

@@ -7,8 +7,8 @@ use Rattle.trio_rights.specs.declared.kind.Kind.TheVariants.{Directory}
 use Rattle.trio_rights.specs.Row.{Row}
 use Rattle.trio_layout.specs.declared.body.Body.{Body}
 use Rattle.trio_layout.specs.Body.{body_of}
-use Rattle.trio_layout.specs.Lists.{is_among, result_map, result_then}
-use Rattle.trio_layout.specs.Core.{Core, Place, nowhere, there_or}
+use Rattle.trio_lists.specs.Lists.{is_among, result_map, result_then, there_or}
+use Rattle.trio_layout.specs.Core.{Core, Place, nowhere}
 use Rattle.trio_layout.specs.Chain.{Chain, chain_of}
 use Rattle.trio_layout.specs.Entries.{Listed, entries_of_kind}
 

@@ -6,18 +6,18 @@ use Rattle.std.proofs.lemmas.Bool.{and_parts, and_from, or_cases, or_left, or_ri
 use Rattle.trio_rights.specs.Row.{Row}
 use Rattle.trio_rights.specs.declared.rights.Creds.{Creds}
 use Rattle.trio_layout.specs.Core.{Core}
-use Rattle.trio_layout.specs.Lists.{In, is_among}
+use Rattle.trio_lists.specs.Lists.{In, is_among}
 use Rattle.trio_layout.specs.Sound.{is_sound}
 use Rattle.trio_layout.specs.Survey.{Met, Pick, survey, pages_of, owner_of, row_of}
-use Rattle.trio_state.specs.Allowed.{same_row, all_up_to, keeps_rows, lists_own, has_owner, may_stand, is_allowed}
-use Rattle.trio_state.specs.Image.{Image, IsFit, row_at}
-use Rattle.trio_state.specs.Proposed.{Bundle, bundle_pages, is_written}
-use Rattle.trio_laws.proofs.Bundles.{up_to_at, same_row_is}
-use Rattle.trio_laws.proofs.Cores.{listed_is_core}
-use Rattle.trio_laws.proofs.Images.{row_met, met_row, read_met, met_numbered}
-use Rattle.trio_laws.proofs.Members.{all_at, all_from, In-among}
-use Rattle.trio_laws.proofs.Owned.{sound_parts, owner_is}
-use Rattle.trio_proposal.specs.Steps.{row_may}
+use Rattle.trio_layout.specs.Allowed.{same_row, all_up_to, keeps_rows, lists_own, has_owner, may_stand, is_allowed}
+use Rattle.trio_layout.specs.Image.{Image, IsFit, row_at}
+use Rattle.trio_layout.specs.Proposed.{Bundle, bundle_pages, is_written}
+use Rattle.trio_surveys.proofs.Alike.{up_to_at, same_row_is}
+use Rattle.trio_surveys.proofs.Cores.{listed_is_core}
+use Rattle.trio_surveys.proofs.Images.{row_met, met_row, read_met, met_numbered}
+use Rattle.trio_lists.proofs.Members.{all_at, all_from, In-among}
+use Rattle.trio_surveys.proofs.Owned.{sound_parts, owner_is}
+use Rattle.trio_proposal.specs.inner.Steps.{row_may}
 
 pub up_to_from : (p : ℕ → Bool) (n : ℕ) → ((j : ℕ) → 1 ≤ j → j ≤ n → p j ≡ true) → all_up_to p n ≡ true
 up_to_from p zero h = refl

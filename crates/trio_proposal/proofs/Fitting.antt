@@ -12,10 +12,10 @@ use Rattle.trio_proposal.specs.Judged.{CanBeJudged, image_of}
 use Rattle.trio_proposal.proofs.Keeping.{page_at_number}
 use Rattle.trio_lease.specs.Bundles.{Bundled}
 use Rattle.trio_state.specs.Handed.{bundle_in, fresh_sheet}
-use Rattle.trio_state.specs.Proposed.{bundle_sheets}
-use Rattle.trio_state.specs.Sheets.{Sheet}
-use Rattle.trio_laws.proofs.Members.{In-cases}
-use Rattle.trio_proposal.specs.Steps.{AreFit, lease_sheets}
+use Rattle.trio_layout.specs.Proposed.{bundle_sheets}
+use Rattle.trio_page.specs.Sheets.{Sheet}
+use Rattle.trio_lists.proofs.Members.{In-cases}
+use Rattle.trio_proposal.specs.inner.Steps.{AreFit, lease_sheets}
 use Rattle.trio_proposal.proofs.Puts.{sheets_are, take_there}
 
 pub fit_both : (n : ℕ) (xs ys : List Sheet) → AreFit n xs → AreFit n ys → AreFit n (xs ++ ys)

@@ -6,25 +6,26 @@ use Rattle.trio_rights.specs.Row.{Row, row_in}
 use Rattle.trio_rights.specs.declared.rights.Creds.{Creds}
 use Rattle.trio_layout.specs.declared.range.CoreRange.{CoreRange}
 use Rattle.trio_layout.specs.Core.{Core}
-use Rattle.trio_layout.specs.Lists.{is_among}
+use Rattle.trio_lists.specs.Lists.{is_among}
 use Rattle.trio_layout.specs.Sound.{is_sound, rows_table, owners_table}
 use Rattle.trio_layout.specs.Survey.{Pick, survey, owner_of, row_of}
 use Rattle.trio_lease.specs.Bundles.{Bundled}
-use Rattle.trio_state.specs.Accept.{is_accepted, next, with_bodies}
-use Rattle.trio_state.specs.Allowed.{is_allowed}
+use Rattle.trio_layout.specs.Accept.{is_accepted, next, with_bodies}
+use Rattle.trio_layout.specs.Allowed.{is_allowed}
 use Rattle.trio_state.specs.Handed.{bundle_in}
-use Rattle.trio_state.specs.Image.{Image, IsFit, row_at}
-use Rattle.trio_state.specs.Proposed.{bundle_sheets, bundle_pages, is_written, proposed, proposed_pick}
-use Rattle.trio_state.specs.Sheets.{with_pages}
+use Rattle.trio_layout.specs.Image.{Image, IsFit, row_at}
+use Rattle.trio_layout.specs.Proposed.{bundle_sheets, bundle_pages, is_written, proposed, proposed_pick}
+use Rattle.trio_page.specs.Sheets.{with_pages}
 use Rattle.trio_survey.specs.Answer.{core_of}
 use Rattle.trio_survey.specs.declared.whole.Found.{Found}
 use Rattle.trio_survey.specs.Picks.{pick_of}
-use Rattle.trio_laws.proofs.Accepted.{fit_proposed}
-use Rattle.trio_laws.proofs.Images.{TablesOf, row_at_is, owner_at, tabulated-length}
+use Rattle.trio_surveys.proofs.Accepted.{fit_proposed}
+use Rattle.trio_surveys.proofs.Images.{TablesOf, row_at_is, owner_at}
+use Rattle.trio_lists.proofs.Tabulated.{tabulated-length}
 use Rattle.trio_proposal.specs.declared.propose.Proposal.{Proposal}
 use Rattle.trio_proposal.specs.Judged.{CanBeJudged, image_of}
-use Rattle.trio_proposal.specs.Proposes.{Proposes}
-use Rattle.trio_proposal.specs.Steps.{row_may, RowsMay, owner_may, OwnersMay, mets_below}
+use Rattle.trio_proposal.specs.inner.Proposes.{Proposes}
+use Rattle.trio_proposal.specs.inner.Steps.{row_may, RowsMay, owner_may, OwnersMay, mets_below}
 use Rattle.trio_proposal.proofs.Allowing.{may_own, allowed_from, rows_stand, owners_stand}
 use Rattle.trio_proposal.proofs.Keeping.{live_below, written_is, root_is, kept_of, picks_are}
 use Rattle.trio_proposal.proofs.Placing.{bodies_placed}

@@ -7,7 +7,7 @@ use Rattle.std.proofs.lemmas.List.{length-set, get_or-set_same, get_or-set_other
 use Rattle.std.proofs.lemmas.List.Folds.{find-append}
 use Rattle.std.proofs.lemmas.Bool.{false≢true, cases_eq, eq-eqb, ne_eqb}
 use Rattle.trio_lease.specs.Shown.{LentFile}
-use Rattle.trio_proposal.specs.Steps.{lent_body, AreLentBodies}
+use Rattle.trio_proposal.specs.inner.Steps.{lent_body, AreLentBodies}
 
 abbrev first : List LentFile → ℕ → Option LentFile
 first leases n = find (λ (f : LentFile). eqb f.stands.ino n) leases

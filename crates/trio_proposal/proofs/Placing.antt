@@ -7,19 +7,19 @@ use Rattle.trio_rights.specs.Row.{Row, row_in}
 use Rattle.trio_rights.specs.declared.rights.Creds.{Creds}
 use Rattle.trio_layout.specs.Core.{Core, page_of}
 use Rattle.trio_layout.specs.Entries.{Listed, body_in_slot}
-use Rattle.trio_layout.specs.Lists.{In}
+use Rattle.trio_lists.specs.Lists.{In}
 use Rattle.trio_layout.specs.Sound.{is_sound}
 use Rattle.trio_layout.specs.Survey.{Met, Pick, survey, children, row_by, met_in}
 use Rattle.trio_page.specs.Field.{with_part}
-use Rattle.trio_state.specs.Accept.{with_bodies, with_body_at}
-use Rattle.trio_state.specs.Allowed.{is_allowed}
-use Rattle.trio_state.specs.Image.{Image, IsFit, row_at, body_at_place}
-use Rattle.trio_state.specs.Proposed.{Bundle, kept_body, is_place_of, proposed, proposed_pick}
-use Rattle.trio_laws.proofs.Images.{row_met, met_row, read_met, met_numbered, root_or_listed}
-use Rattle.trio_laws.proofs.Members.{In-cases, In-left, In-right, flat_from}
-use Rattle.trio_laws.proofs.EndLaws.{bodies_in_any_order}
-use Rattle.trio_laws.proofs.Tree.{child_from, child_placed}
-use Rattle.trio_proposal.specs.Steps.{met_by, mets_below}
+use Rattle.trio_layout.specs.Accept.{with_bodies, with_body_at}
+use Rattle.trio_layout.specs.Allowed.{is_allowed}
+use Rattle.trio_layout.specs.Image.{Image, IsFit, row_at, body_at_place}
+use Rattle.trio_layout.specs.Proposed.{Bundle, kept_body, is_place_of, proposed, proposed_pick}
+use Rattle.trio_surveys.proofs.Images.{row_met, met_row, read_met, met_numbered, root_or_listed}
+use Rattle.trio_lists.proofs.Members.{In-cases, In-left, In-right, flat_from}
+use Rattle.trio_surveys.proofs.AnyOrder.{bodies_in_any_order}
+use Rattle.trio_surveys.proofs.Tree.{child_from, child_placed}
+use Rattle.trio_proposal.specs.inner.Steps.{met_by, mets_below}
 use Rattle.trio_proposal.proofs.Allowing.{row_stays}
 
 abbrev Pages : Type 0

@@ -12,15 +12,15 @@ use Rattle.trio_lease.specs.declared.parts.LentPage.{LentPage}
 use Rattle.trio_lease.specs.declared.parts.FreshParts.{FreshParts}
 use Rattle.trio_lease.specs.Shown.{LentFile, page_at, no_at}
 use Rattle.trio_lease.specs.Bundles.{Bundled}
-use Rattle.trio_layout.specs.Lists.{In}
-use Rattle.trio_layout.specs.Marks.{Marks}
+use Rattle.trio_lists.specs.Lists.{In}
+use Rattle.trio_lists.specs.Marks.{Marks}
 use Rattle.trio_state.specs.Handed.{bundle_in, fresh_sheet, lent_sheet, written_in}
-use Rattle.trio_state.specs.Proposed.{Written, bundle_sheets}
-use Rattle.trio_state.specs.Sheets.{Sheet, sheet_numbers, with_pages}
-use Rattle.trio_laws.proofs.Sheets.{with_pages-append}
-use Rattle.trio_laws.proofs.SheetLaws.{length-with_pages}
-use Rattle.trio_laws.proofs.Members.{In-flat, In-left, In-right}
-use Rattle.trio_proposal.specs.Steps.{ArePut, AreWithin, lease_sheets}
+use Rattle.trio_layout.specs.Proposed.{Written, bundle_sheets}
+use Rattle.trio_page.specs.Sheets.{Sheet, sheet_numbers, with_pages}
+use Rattle.trio_surveys.proofs.Sheets.{with_pages-append}
+use Rattle.trio_surveys.proofs.SheetLaws.{length-with_pages}
+use Rattle.trio_lists.proofs.Members.{In-flat, In-left, In-right}
+use Rattle.trio_proposal.specs.inner.Steps.{ArePut, AreWithin, lease_sheets}
 
 abbrev Pages : Type 0
 Pages = List (Option (List ℕ))

@@ -4,8 +4,9 @@ ghost use Rattle.std.specs.Prelude.{◌≡◌, ◌≤◌, ◌<◌, ◌↔◌, Is
 ghost use Rattle.std.specs.Option.{option_map};
 ghost use Rattle.trio_rights.specs.Row.{row_in};
 ghost use Rattle.trio_tables.specs.Row.{as_row};
-ghost use Rattle.trio_state.specs.Allowed.{has_owner, same_kind, same_row};
-ghost use Rattle.trio_proposal.specs.Steps.{OwnersMay, RowsMay, owner_may, row_may};
+ghost use Rattle.trio_layout.specs.Allowed.{has_owner, same_row};
+ghost use Rattle.trio_rights.specs.Kind.{same_kind};
+ghost use Rattle.trio_proposal.specs.inner.Steps.{OwnersMay, RowsMay, owner_may, row_may};
 
 use crate::marks::is_marked;
 use trio_layout::CoreRange;

@@ -7,10 +7,10 @@ ghost use Rattle.trio_rights.specs.Row.{Row as TableRow, row_in};
 ghost use Rattle.trio_tables.specs.Row.{as_row};
 ghost use Rattle.trio_layout.specs.Core.{page_of};
 ghost use Rattle.trio_state.specs.Handed.{bundle_in, fresh_sheet, lent_sheet};
-ghost use Rattle.trio_state.specs.Proposed.{bundle_sheets};
+ghost use Rattle.trio_layout.specs.Proposed.{bundle_sheets};
 ghost use Rattle.trio_survey.specs.Answer.{core_of};
 ghost use Rattle.trio_proposal.specs.Judged.{CanBeJudged, image_of};
-ghost use Rattle.trio_proposal.specs.Steps.{AreFit, lease_sheets};
+ghost use Rattle.trio_proposal.specs.inner.Steps.{AreFit, lease_sheets};
 
 use trio_layout::CoreRange;
 use trio_lease::{Bundle, FreshPage, WriteLease};

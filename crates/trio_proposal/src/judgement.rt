@@ -1,7 +1,7 @@
 //! The judgement of a bundle.
 
 ghost use Rattle.std.specs.Prelude.{◌≡◌, ℕ, List, [], IfOk, true, false};
-ghost use Rattle.trio_state.specs.Accept.{is_accepted, next};
+ghost use Rattle.trio_layout.specs.Accept.{is_accepted, next};
 ghost use Rattle.trio_state.specs.Handed.{bundle_in};
 ghost use Rattle.trio_proposal.specs.Judged.{CanBeJudged, IfAccepted, IfRefused, IsImage, image_of};
 

@@ -1,7 +1,7 @@
 //! Marks by inode number and by page.
 
 ghost use Rattle.std.specs.Prelude.{◌≡◌, ◌+◌, ◌++◌, ◌∷◌, [], ℕ, List, IfOk, false, map, slice_index_or, vec_len};
-ghost use Rattle.trio_layout.specs.Marks.{Marks};
+ghost use Rattle.trio_lists.specs.Marks.{Marks};
 
 use std::alloc::Global;
 use trio_lease::FreshIno;

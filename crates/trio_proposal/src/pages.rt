@@ -2,12 +2,12 @@
 
 ghost use Rattle.std.specs.Prelude.{◌≡◌, ◌<◌, ◌++◌, ◌∷◌, [], IfOk, OnOk, length, map, vec_len};
 ghost use Rattle.std.specs.List.{flat_map};
-ghost use Rattle.trio_layout.specs.Lists.{In};
-ghost use Rattle.trio_layout.specs.Marks.{Marks};
+ghost use Rattle.trio_lists.specs.Lists.{In};
+ghost use Rattle.trio_lists.specs.Marks.{Marks};
 ghost use Rattle.trio_state.specs.Handed.{bundle_in, fresh_sheet, lent_sheet, written_in};
-ghost use Rattle.trio_state.specs.Proposed.{bundle_pages, bundle_sheets};
-ghost use Rattle.trio_state.specs.Sheets.{Sheet, with_pages};
-ghost use Rattle.trio_proposal.specs.Steps.{ArePut, AreWithin, lease_sheets};
+ghost use Rattle.trio_layout.specs.Proposed.{bundle_pages, bundle_sheets};
+ghost use Rattle.trio_page.specs.Sheets.{Sheet, with_pages};
+ghost use Rattle.trio_proposal.specs.inner.Steps.{ArePut, AreWithin, lease_sheets};
 
 use crate::marks::{mark, no_marks};
 use std::alloc::Global;

@@ -4,7 +4,7 @@ ghost use Rattle.std.specs.Prelude.{◌≡◌, ◌+◌, ◌++◌, ◌∷◌, ◌
 ghost use Rattle.std.specs.Option.{option_map};
 ghost use Rattle.trio_rights.specs.Row.{row_in};
 ghost use Rattle.trio_lease.specs.Shown.{LentFile};
-ghost use Rattle.trio_proposal.specs.Steps.{AreKept, AreLentBodies, ArePicked, ArePlaced, body_on, kept_at};
+ghost use Rattle.trio_proposal.specs.inner.Steps.{AreKept, AreLentBodies, ArePicked, ArePlaced, body_on, kept_at};
 
 use std::alloc::Global;
 use trio_lease::WriteLease;

@@ -2,8 +2,8 @@
 
 ghost use Rattle.std.specs.Prelude.{◌≡◌, ◌≢◌, ◌≤◌, ◌<◌, ℕ, None, Some, length, slice_index_or};
 ghost use Rattle.trio_rights.specs.Row.{Row as TableRow, row_in};
-ghost use Rattle.trio_state.specs.Accept.{with_bodies, with_body_at};
-ghost use Rattle.trio_proposal.specs.Steps.{met_by, mets_below};
+ghost use Rattle.trio_layout.specs.Accept.{with_bodies, with_body_at};
+ghost use Rattle.trio_proposal.specs.inner.Steps.{met_by, mets_below};
 
 use crate::picks::body_offset;
 use trio_page::field::put_bytes_in;

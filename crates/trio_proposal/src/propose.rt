@@ -2,10 +2,10 @@
 
 ghost use Rattle.std.specs.Prelude.{◌≡◌, OnOk, IfOk, length};
 ghost use Rattle.trio_state.specs.Handed.{bundle_in};
-ghost use Rattle.trio_state.specs.Proposed.{bundle_sheets};
-ghost use Rattle.trio_state.specs.Sheets.{with_pages};
-ghost use Rattle.trio_proposal.specs.Steps.{ArePlaced, AreWithin};
-ghost use Rattle.trio_proposal.specs.Proposes.{Proposes};
+ghost use Rattle.trio_layout.specs.Proposed.{bundle_sheets};
+ghost use Rattle.trio_page.specs.Sheets.{with_pages};
+ghost use Rattle.trio_proposal.specs.inner.Steps.{ArePlaced, AreWithin};
+ghost use Rattle.trio_proposal.specs.inner.Proposes.{Proposes};
 
 use crate::allowed::Handed;
 use crate::marks::number_marks;

@@ -8,15 +8,17 @@ use Rattle.std.proofs.lemmas.Simd.{map-map}
 use Rattle.trio_page.proofs.Cursor.{length-zeros}
 use Rattle.trio_nodes.specs.declared.grant.GrantKind.TheVariants.{Write}
 use Rattle.trio_nodes.specs.declared.spot.Spot.TheVariants.{Body, Index, Block, Fresh}
-use Rattle.trio_layout.specs.Lists.{In, is_among, are_new}
-use Rattle.trio_layout.proofs.MarkLemmas.{are_new-append}
-use Rattle.trio_state.specs.Sheets.{Sheet, sheet_numbers}
-use Rattle.trio_state.specs.Image.{Image}
-use Rattle.trio_state.specs.State.{OpenGrant, Out, State, is_write}
-use Rattle.trio_state.specs.Proposed.{Written, Bundle, is_written}
+use Rattle.trio_lists.specs.Lists.{In, is_among, are_new}
+use Rattle.trio_lists.proofs.MarkLemmas.{are_new-append}
+use Rattle.trio_page.specs.Sheets.{Sheet, sheet_numbers}
+use Rattle.trio_layout.specs.Image.{Image}
+use Rattle.trio_state.specs.State.{OpenGrant, Out, State}
+use Rattle.trio_nodes.specs.GrantKinds.{is_write}
+use Rattle.trio_layout.specs.Proposed.{Written, Bundle, is_written}
 use Rattle.trio_state.specs.Allotments.{out_after}
 use Rattle.trio_state.specs.Grants.{opens}
-use Rattle.trio_state.specs.Bundles.{Ends, grants_after, is_hold, is_in_bundle, lent_part}
+use Rattle.trio_state.specs.Bundles.{Ends, grants_after, is_in_bundle, lent_part}
+use Rattle.trio_nodes.specs.GrantKinds.{is_hold}
 use Rattle.trio_state.specs.Given.{GivenTo, WasAllotted, WasLent}
 use Rattle.trio_raw.specs.Has.{Has, are_there, named, poked_body, poked_block, poked_index, poked_sheet, bundle_of, rest_of, whole_bundle, with_file, with_fresh, changed_first}
 use Rattle.trio_raw.specs.InHand.{InHand, all_sheets}

@@ -3,7 +3,7 @@ use Rattle.std.proofs.Common.{◌≡◌, ℕ, Bool, true, not, eqb, List, [], �
 use Rattle.std.specs.Prelude.{map}
 use Rattle.std.specs.List.{find, cons_option}
 use Rattle.std.proofs.lemmas.Bool.{and_parts, and_from, eqb-true, eq-eqb, both_ways, cases_Bool}
-use Rattle.trio_layout.specs.Lists.{In, is_among, are_new}
+use Rattle.trio_lists.specs.Lists.{In, is_among, are_new}
 use Rattle.trio_raw.specs.Has.{named, without, without_all}
 use Rattle.trio_raw.proofs.Members.{In-left, In-map, first_once, new_weaker}
 

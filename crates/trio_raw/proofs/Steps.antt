@@ -11,11 +11,13 @@ use Rattle.trio_nodes.specs.declared.answers.GrantFault.{GrantFault}
 use Rattle.trio_nodes.specs.declared.answers.GrantFault.TheVariants.{Busy, NotLive}
 use Rattle.trio_layout.specs.Chain.{Chain}
 use Rattle.trio_layout.specs.Core.{Core, Place, page_of}
-use Rattle.trio_layout.specs.Lists.{In, is_among, are_new}
-use Rattle.trio_state.specs.Sheets.{Sheet}
-use Rattle.trio_state.specs.Image.{row_at}
+use Rattle.trio_lists.specs.Lists.{In, is_among, are_new}
+use Rattle.trio_page.specs.Sheets.{Sheet}
+use Rattle.trio_layout.specs.Image.{row_at}
 use Rattle.trio_state.specs.State.{OpenGrant, Out, State, settled, is_out, logged}
-use Rattle.trio_state.specs.Grants.{block_sheets, denied_by, denied_or, excluding, excludes_kind, grant_fault, holder_of, index_sheets, opened, settled_chain, sheets_of}
+use Rattle.trio_state.specs.Grants.{denied_by, denied_or, excluding, grant_fault, holder_of, opened}
+use Rattle.trio_nodes.specs.GrantKinds.{excludes_kind}
+use Rattle.trio_layout.specs.Pages.{block_sheets, index_sheets, settled_chain, sheets_of}
 use Rattle.trio_state.specs.Allotments.{allots, count_up, free_pages, free_numbers}
 use Rattle.trio_state.specs.Step.{Granted, NotGranted, Given, NoPages, NoInodes, Done, Comes, granted_to}
 use Rattle.trio_raw.specs.InHand.{InHand}

@@ -5,9 +5,9 @@ use Rattle.std.specs.Option.{option_map, option_and_then}
 use Rattle.trio_page.specs.Field.{with_part}
 use Rattle.trio_nodes.specs.declared.spot.Spot.{Spot}
 use Rattle.trio_nodes.specs.declared.spot.Spot.TheVariants.{Body, Index, Block, Fresh}
-use Rattle.trio_layout.specs.Lists.{is_among, are_new}
-use Rattle.trio_state.specs.Sheets.{Sheet}
-use Rattle.trio_state.specs.Proposed.{Written, Bundle}
+use Rattle.trio_lists.specs.Lists.{is_among, are_new}
+use Rattle.trio_page.specs.Sheets.{Sheet}
+use Rattle.trio_layout.specs.Proposed.{Written, Bundle}
 
 -- the files that were lent to it for writing, as they stand, and the pages and inode numbers that were allotted to it
 pub record Has : Type 0 where

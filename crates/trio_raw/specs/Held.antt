@@ -4,7 +4,7 @@ use Rattle.trio_rights.specs.declared.rights.LibNo.{LibNo}
 use Rattle.trio_lease.specs.Shown.{LentFile}
 use Rattle.trio_lease.specs.declared.bundle.BundleParts.{BundleParts}
 use Rattle.trio_state.specs.Handed.{written_in}
-use Rattle.trio_state.specs.Proposed.{Written}
+use Rattle.trio_layout.specs.Proposed.{Written}
 use Rattle.trio_raw.specs.Has.{Has}
 use Rattle.trio_raw.specs.Things.{Things}
 

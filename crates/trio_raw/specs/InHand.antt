@@ -1,10 +1,10 @@
 -- What ties the things of a library to the state of the controller that gave them.
 use Rattle.std.specs.Prelude.{◌≡◌, ℕ, List, [], ◌++◌, map, length, IsTrue}
 use Rattle.std.specs.List.{flat_map}
-use Rattle.trio_layout.specs.Lists.{In, are_new}
-use Rattle.trio_state.specs.Sheets.{Sheet, sheet_numbers}
+use Rattle.trio_lists.specs.Lists.{In, are_new}
+use Rattle.trio_page.specs.Sheets.{Sheet, sheet_numbers}
 use Rattle.trio_state.specs.State.{State}
-use Rattle.trio_state.specs.Proposed.{Written}
+use Rattle.trio_layout.specs.Proposed.{Written}
 use Rattle.trio_state.specs.Given.{WasLent, WasAllotted}
 use Rattle.trio_raw.specs.Has.{Has}
 

@@ -6,11 +6,11 @@ use Rattle.trio_rights.specs.declared.rights.Creds.{Creds}
 use Rattle.trio_rights.specs.Row.{Row}
 use Rattle.trio_nodes.specs.declared.grant.GrantKind.TheVariants.{Write}
 use Rattle.trio_nodes.specs.declared.spot.Spot.{Spot}
-use Rattle.trio_layout.specs.Lists.{In, are_new}
-use Rattle.trio_state.specs.Sheets.{Sheet}
-use Rattle.trio_state.specs.Image.{Image, IsFit, row_at}
+use Rattle.trio_lists.specs.Lists.{In, are_new}
+use Rattle.trio_page.specs.Sheets.{Sheet}
+use Rattle.trio_layout.specs.Image.{Image, IsFit, row_at}
 use Rattle.trio_state.specs.State.{OpenGrant, Out, State, settled}
-use Rattle.trio_state.specs.Proposed.{Written}
+use Rattle.trio_layout.specs.Proposed.{Written}
 use Rattle.trio_state.specs.Grants.{opened, opens}
 use Rattle.trio_state.specs.Allotments.{allots}
 use Rattle.trio_state.specs.Bundles.{Ends}

@@ -2,7 +2,7 @@
 
 ghost use Rattle.std.specs.Prelude.{◌≡◌, ◌+◌, ◌==◌, ◌≤◌, ◌++◌, ℕ, IsTrue, Some, [], length, map, vec_capacity, vec_len};
 ghost use Rattle.std.specs.List.{find, position};
-ghost use Rattle.trio_layout.specs.Lists.{are_new, is_among};
+ghost use Rattle.trio_lists.specs.Lists.{are_new, is_among};
 ghost use Rattle.trio_raw.specs.Has.{are_there, named, without, without_all};
 
 use trio_lease::{FreshIno, FreshPage, WriteLease};

@@ -11,7 +11,7 @@ use Rattle.std.proofs.lemmas.List.{map-append, reverse-append}
 use Rattle.std.proofs.lemmas.List.Sorted.{ranks_by}
 use Rattle.trio_survey.specs.declared.file.ListedEntry.{ListedEntry}
 use Rattle.trio_survey.specs.Seen.{listed_seen}
-use Rattle.trio_state.specs.Tree.{by_name, inserted, is_not_after}
+use Rattle.trio_layout.specs.Tree.{by_name, inserted, is_not_after}
 use Rattle.trio_report.proofs.Stable.{put_in, put_all, sorted_stably}
 
 pub map-reverse : {X Y : Type 0} (f : X → Y) (xs : List X) → map f (reverse xs) ≡ reverse (map f xs)

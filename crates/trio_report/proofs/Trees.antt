@@ -14,10 +14,10 @@ use Rattle.trio_survey.specs.declared.file.ListedEntry.{ListedEntry}
 use Rattle.trio_layout.specs.declared.superblock.Superblock.{Superblock}
 use Rattle.trio_survey.specs.Seen.{core_with, listed_seen}
 use Rattle.trio_survey.proofs.Roots.{file_rootless}
-use Rattle.trio_state.specs.Stored.{core_in}
-use Rattle.trio_state.specs.Tree.{TreeLine, by_name, told_line, lines_from, lines_with, tree_of}
+use Rattle.trio_survey.specs.Stored.{core_in}
+use Rattle.trio_layout.specs.Tree.{TreeLine, by_name, told_line, lines_from, lines_with, tree_of}
 use Rattle.trio_report.proofs.ByName.{map-reverse}
-use Rattle.trio_report.specs.Nodes.{Node, child_of, children_of, below, Visited}
+use Rattle.trio_report.specs.inner.Nodes.{Node, child_of, children_of, below, Visited}
 
 abbrev node_lines : Core → Node → List TreeLine
 node_lines core n = lines_from core (core.inodes + 1 - n.depth) n.depth n.name n.met

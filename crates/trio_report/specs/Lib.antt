@@ -1,4 +1,4 @@
 pub mod Report
 pub mod Answers
 pub mod Seen
-pub mod Nodes
+pub mod inner

@@ -4,7 +4,7 @@ use Rattle.std.specs.List.{flat_map}
 use Rattle.std.specs.Fmt.{decimal}
 use Rattle.trio_names.specs.Escaped.{escaped_of}
 use Rattle.trio_rights.specs.Kind.{letter}
-use Rattle.trio_state.specs.Tree.{TreeLine}
+use Rattle.trio_layout.specs.Tree.{TreeLine}
 use Rattle.trio_report.specs.declared.report.Counts.{Counts}
 use Rattle.trio_report.specs.declared.report.LibraryKind.{LibraryKind}
 use Rattle.trio_report.specs.declared.report.LibraryKind.TheVariants.{Raw}

@@ -40,7 +40,7 @@ pub struct TreeLine {
 }
 
 impl Model for TreeLine {
-    ghost use Rattle.trio_state.specs.Tree.{TreeLine};
+    ghost use Rattle.trio_layout.specs.Tree.{TreeLine};
     ghost use Rattle.trio_report.specs.Seen.{name_seen};
 
     ghost Value = { TreeLine };

@@ -3,9 +3,9 @@
 ghost use Rattle.std.specs.Prelude.{◌≡◌, ◌<◌, ◌+◌, ◌^◌, [], ◌∷◌, ◌++◌, IfOk, OnOk, map, reverse};
 ghost use Rattle.trio_layout.specs.Survey.{met_in, plain, root_of};
 ghost use Rattle.trio_survey.specs.Seen.{listed_seen, file_seen, met_seen, read_seen};
-ghost use Rattle.trio_state.specs.Stored.{core_in};
-ghost use Rattle.trio_state.specs.Tree.{by_name, told_size, tree_of};
-ghost use Rattle.trio_report.specs.Nodes.{node_seen, children_of, Visited};
+ghost use Rattle.trio_survey.specs.Stored.{core_in};
+ghost use Rattle.trio_layout.specs.Tree.{by_name, told_size, tree_of};
+ghost use Rattle.trio_report.specs.inner.Nodes.{node_seen, children_of, Visited};
 
 use crate::line::{TreeLine, TreeName};
 use std::alloc::Global;

@@ -1,5 +1,5 @@
 -- Kinds of file as bytes and as letters.
-use Rattle.std.specs.Prelude.{ℕ, ◌==◌, List, if◌then◌else◌, codes}
+use Rattle.std.specs.Prelude.{ℕ, ◌==◌, List, if◌then◌else◌, codes, Bool, true, false}
 use Rattle.trio_rights.specs.declared.kind.Kind.{Kind}
 use Rattle.trio_rights.specs.declared.kind.Kind.TheVariants.{Regular, Directory}
 
@@ -16,3 +16,10 @@ kind_from byte = if byte == 2 then Directory else Regular
 abbrev pub letter : Kind → List ℕ
 letter Regular = codes "f"
 letter Directory = codes "d"
+
+-- two kinds of file are the same
+abbrev pub same_kind : Kind → Kind → Bool
+same_kind Regular Regular = true
+same_kind Regular Directory = false
+same_kind Directory Regular = false
+same_kind Directory Directory = true

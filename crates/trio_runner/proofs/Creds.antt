@@ -6,9 +6,9 @@ use Rattle.trio_nodes.specs.declared.answers.GrantFault.{GrantFault}
 use Rattle.trio_nodes.specs.declared.answers.GrantFault.TheVariants.{NotLive, Denied, NoParent, Busy, NoMemory as NoGrantMemory}
 use Rattle.trio_nodes.specs.declared.answers.ModeFault.{ModeFault}
 use Rattle.trio_nodes.specs.declared.answers.ModeFault.TheVariants.{NotLive as NotLiveMode, NotOwner, BadMode, Busy as BusyMode, NoMemory as NoModeMemory}
-use Rattle.trio_state.specs.Image.{row_at}
+use Rattle.trio_layout.specs.Image.{row_at}
 use Rattle.trio_state.specs.State.{State, logged}
-use Rattle.trio_state.specs.Proposed.{Bundle}
+use Rattle.trio_layout.specs.Proposed.{Bundle}
 use Rattle.trio_state.specs.Grants.{grant_fault}
 use Rattle.trio_state.specs.Allotments.{allots, free_pages, free_numbers}
 use Rattle.trio_state.specs.Step.{Event, Grant, Allot, Back, Release, Settle, SetMode, Answer, Given, NoPages, NoInodes, Comes, Does, Step, granted_to, grant_outcome, after_grant_fault, allot_outcome, mode_fault, mode_outcome, moded_to, after_mode_fault, ReleaseEnd, Parted, IsAccepted, IsRefused}

@@ -10,17 +10,19 @@ use Rattle.trio_rights.specs.Row.{Row}
 use Rattle.trio_nodes.specs.declared.grant.GrantKind.TheVariants.{Write}
 use Rattle.trio_nodes.specs.declared.answers.GrantFault.{GrantFault}
 use Rattle.trio_nodes.specs.declared.answers.GrantFault.TheVariants.{NotLive, Denied, NoParent, Busy, NoMemory as NoGrantMemory}
-use Rattle.trio_layout.specs.Lists.{In, is_among}
-use Rattle.trio_state.specs.Sheets.{Sheet, sheet_numbers}
-use Rattle.trio_state.specs.Image.{Image, row_at}
-use Rattle.trio_state.specs.State.{OpenGrant, Out, State, logged, is_write}
-use Rattle.trio_state.specs.Proposed.{Written, Bundle, is_written}
+use Rattle.trio_lists.specs.Lists.{In, is_among}
+use Rattle.trio_page.specs.Sheets.{Sheet, sheet_numbers}
+use Rattle.trio_layout.specs.Image.{Image, row_at}
+use Rattle.trio_state.specs.State.{OpenGrant, Out, State, logged}
+use Rattle.trio_nodes.specs.GrantKinds.{is_write}
+use Rattle.trio_layout.specs.Proposed.{Written, Bundle, is_written}
 use Rattle.trio_state.specs.Grants.{grant_fault, opened, opens}
 use Rattle.trio_state.specs.Allotments.{allots, free_pages, free_numbers, out_after}
-use Rattle.trio_state.specs.Bundles.{Ends, grants_after, is_hold, is_in_bundle, lent_part}
+use Rattle.trio_state.specs.Bundles.{Ends, grants_after, is_in_bundle, lent_part}
+use Rattle.trio_nodes.specs.GrantKinds.{is_hold}
 use Rattle.trio_state.specs.Step.{Event, Grant, Allot, Release, Given, NoPages, NoInodes, Done, NotClosed, NoMemory, Comes, after_grant_fault, granted_to, grant_outcome, allot_outcome, ReleaseEnd, Parted, IsAccepted, IsRefused}
 use Rattle.trio_state.specs.Run.{Move}
-use Rattle.trio_laws.proofs.Images.{finds}
+use Rattle.trio_lists.proofs.Filters.{finds}
 use Rattle.trio_raw.specs.Has.{Has, nothing, bundle_of, has_all_of, rest_of, whole_bundle, is_nothing}
 use Rattle.trio_raw.specs.Laws.{lent_file, with_lent, with_allotted, zero_sheet}
 use Rattle.trio_raw.proofs.Members.{In-left, In-right, In-cases, In-map, map_from, among_from, filter_in}

@@ -4,10 +4,10 @@ use Rattle.std.specs.Prelude.{map}
 use Rattle.std.specs.List.{find, cons_option}
 use Rattle.std.proofs.lemmas.Bool.{eqb-true, eq-eqb, both_ways, cases_Bool}
 use Rattle.std.proofs.lemmas.List.{map-id}
-use Rattle.trio_layout.specs.Lists.{In, is_among}
-use Rattle.trio_state.specs.Sheets.{Sheet, sheet_numbers}
-use Rattle.trio_state.specs.Proposed.{Written, Bundle}
-use Rattle.trio_laws.proofs.Images.{finds}
+use Rattle.trio_lists.specs.Lists.{In, is_among}
+use Rattle.trio_page.specs.Sheets.{Sheet, sheet_numbers}
+use Rattle.trio_layout.specs.Proposed.{Written, Bundle}
+use Rattle.trio_lists.proofs.Filters.{finds}
 use Rattle.trio_raw.specs.Has.{Has, nothing, named, without, without_all, bundle_of, rest_of, whole_bundle}
 use Rattle.trio_raw.proofs.Members.{In-map, map_from, among_from, In-among}
 use Rattle.trio_raw.proofs.Once.{found}

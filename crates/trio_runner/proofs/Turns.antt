@@ -12,19 +12,20 @@ use Rattle.trio_nodes.specs.declared.answers.GrantFault.TheVariants.{NotLive, De
 use Rattle.trio_nodes.specs.declared.answers.AllotFault.{AllotFault}
 use Rattle.trio_nodes.specs.declared.answers.AllotFault.TheVariants.{NoPages as TooFewPages, NoInodes as TooFewInodes, NoMemory as NoAllotMemory}
 use Rattle.trio_nodes.specs.declared.answers.ReleaseAnswer.{ReleaseAnswer}
-use Rattle.trio_layout.specs.Lists.{In, is_among}
+use Rattle.trio_lists.specs.Lists.{In, is_among}
 use Rattle.trio_lease.specs.declared.parts.FreshParts.{FreshParts}
 use Rattle.trio_lease.specs.declared.parts.InoParts.{InoParts}
 use Rattle.trio_lease.specs.Shown.{LentFile}
 use Rattle.trio_allot.specs.Out.{fresh_page, inode_numbers, page_numbers}
-use Rattle.trio_state.specs.Sheets.{Sheet}
+use Rattle.trio_page.specs.Sheets.{Sheet}
 use Rattle.trio_state.specs.Handed.{fresh_sheet, lent_sheet}
-use Rattle.trio_state.specs.Image.{row_at}
+use Rattle.trio_layout.specs.Image.{row_at}
 use Rattle.trio_state.specs.State.{OpenGrant, State}
-use Rattle.trio_state.specs.Proposed.{Bundle, Written}
+use Rattle.trio_layout.specs.Proposed.{Bundle, Written}
 use Rattle.trio_state.specs.Given.{GivenTo}
 use Rattle.trio_state.specs.Grants.{opened}
-use Rattle.trio_state.specs.Bundles.{is_hold, is_parted, is_parent_written, lowest, parted_hold}
+use Rattle.trio_state.specs.Bundles.{is_parted, is_parent_written, lowest, parted_hold}
+use Rattle.trio_nodes.specs.GrantKinds.{is_hold}
 use Rattle.trio_state.specs.Step.{Event, Allot, Grant, Release, Answer, Given, Granted, Accepted, Refused, NotClosed, NoMemory, Step, Parted, IsAccepted, IsRefused}
 use Rattle.trio_state.specs.Tells.{Why}
 use Rattle.trio_state.specs.Run.{Move}

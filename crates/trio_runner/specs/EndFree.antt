@@ -2,10 +2,10 @@
 use Rattle.std.specs.Prelude.{◌≡◌, ℕ, List, [], map}
 use Rattle.trio_rights.specs.declared.rights.Creds.{Creds}
 use Rattle.trio_nodes.specs.declared.grant.GrantKind.TheVariants.{Write}
-use Rattle.trio_layout.specs.Lists.{In}
-use Rattle.trio_state.specs.Sheets.{sheet_numbers}
-use Rattle.trio_state.specs.Image.{Image, IsFit}
-use Rattle.trio_state.specs.Verifies.{Verifies}
+use Rattle.trio_lists.specs.Lists.{In}
+use Rattle.trio_page.specs.Sheets.{sheet_numbers}
+use Rattle.trio_layout.specs.Image.{Image, IsFit}
+use Rattle.trio_layout.specs.Verifies.{Verifies}
 use Rattle.trio_state.specs.State.{OpenGrant, Out, State}
 use Rattle.trio_state.specs.Run.{IsWhole}
 use Rattle.trio_script.specs.declared.ScriptLine.{ScriptLine}

@@ -1,8 +1,8 @@
 -- A script on an image comes to one thing.
 use Rattle.std.specs.Prelude.{◌≡◌, List}
 use Rattle.trio_rights.specs.declared.rights.Creds.{Creds}
-use Rattle.trio_state.specs.Image.{Image, IsFit}
-use Rattle.trio_state.specs.Verifies.{Verifies}
+use Rattle.trio_layout.specs.Image.{Image, IsFit}
+use Rattle.trio_layout.specs.Verifies.{Verifies}
 use Rattle.trio_state.specs.State.{settled}
 use Rattle.trio_state.specs.Run.{IsWhole}
 use Rattle.trio_script.specs.Script.{SaidLine}

@@ -6,7 +6,7 @@ use Rattle.trio_rights.specs.Row.{Row}
 use Rattle.trio_nodes.specs.declared.grant.GrantKind.TheVariants.{Write}
 use Rattle.trio_nodes.specs.declared.answers.GrantFault.{GrantFault}
 use Rattle.trio_nodes.specs.declared.answers.GrantFault.TheVariants.{NotLive, Denied, NoParent, Busy, NoMemory as NoGrantMemory}
-use Rattle.trio_state.specs.Image.{Image, row_at}
+use Rattle.trio_layout.specs.Image.{Image, row_at}
 use Rattle.trio_state.specs.State.{State}
 use Rattle.trio_state.specs.Grants.{opened}
 use Rattle.trio_state.specs.Step.{Event, Grant, Allot, Release, Answer, Granted, NotGranted, Given, NoPages, NoInodes, Accepted, Refused, Step}

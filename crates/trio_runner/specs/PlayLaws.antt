@@ -2,9 +2,9 @@
 use Rattle.std.specs.Prelude.{◌≡◌, ℕ, List, [], ◌∷◌, ◌++◌}
 use Rattle.trio_rights.specs.declared.rights.Creds.{Creds}
 use Rattle.trio_nodes.specs.declared.grant.GrantKind.TheVariants.{Hold}
-use Rattle.trio_layout.specs.Lists.{In}
-use Rattle.trio_state.specs.Image.{Image, IsFit}
-use Rattle.trio_state.specs.Verifies.{Verifies}
+use Rattle.trio_lists.specs.Lists.{In}
+use Rattle.trio_layout.specs.Image.{Image, IsFit}
+use Rattle.trio_layout.specs.Verifies.{Verifies}
 use Rattle.trio_state.specs.State.{OpenGrant, State}
 use Rattle.trio_state.specs.Kept.{Kept}
 use Rattle.trio_state.specs.Run.{start, IsWhole, Trace, Move}

@@ -1,7 +1,7 @@
 -- What contracts see of a script that is played.
 use Rattle.std.specs.Prelude.{◌≡◌, List, ◌++◌}
 use Rattle.trio_rights.specs.declared.rights.Creds.{Creds}
-use Rattle.trio_state.specs.Image.{Image}
+use Rattle.trio_layout.specs.Image.{Image}
 use Rattle.trio_state.specs.State.{State}
 use Rattle.trio_state.specs.Run.{Move}
 use Rattle.trio_raw.specs.Held.{Held}

@@ -4,7 +4,7 @@ use Rattle.std.proofs.lemmas.List.{append-nil, take_rest}
 use Rattle.std.proofs.Math.Seq.{drop-length}
 use Rattle.std.proofs.lemmas.Bool.Decides.{nat_tests}
 use Rattle.trio_script.specs.Script.{cut_lines, lines_of}
-use Rattle.trio_script.specs.Ends.{EndsLine, IsPlain}
+use Rattle.trio_script.specs.inner.Ends.{EndsLine, IsPlain}
 
 not_ten : (b : ℕ) → b ≢ 10 → eqb b 10 ≡ false
 not_ten b h = grind (arith, nat_tests)

@@ -1,5 +1,4 @@
 pub mod Script
 pub mod Said
 pub mod Words
-pub mod Ends
-pub mod Taken
+pub mod inner

@@ -16,9 +16,9 @@
 
 ghost use Rattle.std.specs.Prelude.{◌≡◌, ◌∷◌, ◌++◌, ◌<◌, ◌≤◌, length, IfOk, MatchOption, MatchResult, None, Some, if◌then◌else◌};
 ghost use Rattle.std.specs.List.{list_any};
-ghost use Rattle.trio_script.specs.Ends.{EndsLine, IsPlain};
+ghost use Rattle.trio_script.specs.inner.Ends.{EndsLine, IsPlain};
 ghost use Rattle.trio_script.specs.Script.{lines_of, is_silent, names_library, is_library_line, unbuilt_line, unbuilt_at, script_lines, IsUnbuilt};
-ghost use Rattle.trio_script.specs.Taken.{Takes};
+ghost use Rattle.trio_script.specs.inner.Taken.{Takes};
 
 mod line;
 #[cfg(test)]

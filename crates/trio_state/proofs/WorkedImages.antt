@@ -13,8 +13,8 @@ use Rattle.trio_layout.specs.Chain.{chain_of}
 use Rattle.trio_layout.specs.Entries.{entries_on}
 use Rattle.trio_layout.specs.Survey.{survey, plain, numbers, file_of, root_of, owner_of}
 use Rattle.trio_layout.specs.Sound.{is_sound, rows_table, owners_table}
-use Rattle.trio_state.specs.Image.{Image}
-use Rattle.trio_state.specs.Verifies.{Verifies}
+use Rattle.trio_layout.specs.Image.{Image}
+use Rattle.trio_layout.specs.Verifies.{Verifies}
 
 abbrev pub directory_body : ℕ → Body
 directory_body head = record { mode = record { 0 = 493 }; uid = 0; gid = 0; head = head; size = 4096 }

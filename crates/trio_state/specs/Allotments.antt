@@ -1,11 +1,11 @@
 -- Which pages and inode numbers are free, and what is handed out.
-use Rattle.std.specs.Prelude.{ℕ, Bool, true, false, not, ◌==◌, List, Option, None, Some}
+use Rattle.std.specs.Prelude.{ℕ, Bool, false, not, ◌==◌, List, Option, None, Some}
 use Rattle.std.specs.List.{list_any}
 use Rattle.trio_rights.specs.declared.rights.LibNo.{LibNo}
 use Rattle.trio_tables.specs.Free.{free_pages as free_of_owners, free_numbers as free_of_rows}
 use Rattle.trio_tables.specs.Out.{with_all}
-use Rattle.trio_state.specs.Sheets.{without_pages}
-use Rattle.trio_state.specs.Image.{with_core_pages}
+use Rattle.trio_page.specs.Sheets.{without_pages}
+use Rattle.trio_layout.specs.Image.{with_core_pages}
 use Rattle.trio_state.specs.State.{State, logged}
 
 -- The free pages, the lowest first: owned by nobody, and not out. They are core pages, since in an image that verifies the

@@ -1,24 +1,18 @@
 -- How the grants and allotments of a bundle end, and which bundles are closed.
-use Rattle.std.specs.Prelude.{◌≡◌, ℕ, ◌+◌, ◌==◌, nat_le, Bool, true, false, not, ◌&&◌, ◌||◌, List, [], ◌∷◌, ◌++◌, map, Option, Some, None, is_some, if◌then◌else◌}
+use Rattle.std.specs.Prelude.{◌≡◌, ℕ, ◌+◌, ◌==◌, nat_le, Bool, false, not, ◌&&◌, ◌||◌, List, [], ◌∷◌, ◌++◌, map, Option, Some, None, if◌then◌else◌}
 use Rattle.std.specs.List.{filter, flat_map, list_all}
 use Rattle.trio_rights.specs.declared.kind.Kind.{Kind}
 use Rattle.trio_rights.specs.ByKind.{covers_blocks}
 use Rattle.trio_rights.specs.Row.{Row}
-use Rattle.trio_nodes.specs.declared.grant.GrantKind.{GrantKind}
-use Rattle.trio_nodes.specs.declared.grant.GrantKind.TheVariants.{Read, Write, Hold}
-use Rattle.trio_layout.specs.Lists.{is_among}
-use Rattle.trio_state.specs.Sheets.{Sheet, sheet_numbers, with_pages}
-use Rattle.trio_state.specs.Image.{Image, row_at, with_core_pages}
-use Rattle.trio_state.specs.State.{OpenGrant, State, settled, is_write, is_read}
-use Rattle.trio_state.specs.Proposed.{Bundle, is_written}
+use Rattle.trio_lists.specs.Lists.{is_among}
+use Rattle.trio_page.specs.Sheets.{Sheet, sheet_numbers, with_pages}
+use Rattle.trio_layout.specs.Image.{Image, row_at, with_core_pages}
+use Rattle.trio_state.specs.State.{OpenGrant, State, settled}
+use Rattle.trio_nodes.specs.GrantKinds.{is_write, is_read, is_hold}
+use Rattle.trio_layout.specs.Proposed.{Bundle, is_written}
 use Rattle.trio_state.specs.Allotments.{out_after, has_none_out}
 
 -- ---- closed bundles
-
-abbrev pub is_hold : GrantKind → Bool
-is_hold Hold = true
-is_hold Read = false
-is_hold Write = false
 
 -- the parent that a row names, where there is one, is written in the bundle
 abbrev pub is_parent_written : Bundle → Option Row → Bool

@@ -1,9 +1,7 @@
 -- Which grants are given, and what a grant lends.
-use Rattle.std.specs.Prelude.{ℕ, ◌+◌, ◌==◌, Bool, true, false, not, ◌&&◌, List, [], ◌∷◌, ◌++◌, map, Option, Some, None, is_some, if◌then◌else◌, slice_get, Result, Ok, Err, count_by}
-use Rattle.std.specs.List.{filter, filter_map, list_any}
-use Rattle.std.specs.Option.{option_map, option_and_then, option_map_or}
-use Rattle.trio_rights.specs.declared.kind.Kind.{Kind}
-use Rattle.trio_rights.specs.declared.rights.Need.{Need}
+use Rattle.std.specs.Prelude.{ℕ, ◌+◌, ◌==◌, Bool, false, not, ◌&&◌, List, [], ◌∷◌, ◌++◌, Option, Some, None, is_some, if◌then◌else◌, slice_get}
+use Rattle.std.specs.List.{filter, list_any}
+use Rattle.std.specs.Option.{option_map}
 use Rattle.trio_rights.specs.declared.rights.Need.TheVariants.{Read as ToRead, Write as ToWrite}
 use Rattle.trio_rights.specs.Row.{Row}
 use Rattle.trio_rights.specs.May.{denier}
@@ -12,22 +10,12 @@ use Rattle.trio_nodes.specs.declared.grant.GrantKind.TheVariants.{Read, Write, H
 use Rattle.trio_nodes.specs.declared.grant.Holder.{Holder}
 use Rattle.trio_nodes.specs.declared.answers.GrantFault.{GrantFault}
 use Rattle.trio_nodes.specs.declared.answers.GrantFault.TheVariants.{NotLive, Denied, NoParent, Busy}
-use Rattle.trio_layout.specs.Body.{body_of}
-use Rattle.trio_layout.specs.Lists.{result_then}
-use Rattle.trio_layout.specs.Core.{Core, Place, nowhere, page_of, there_or}
-use Rattle.trio_layout.specs.Chain.{Chain, chain_of}
-use Rattle.trio_state.specs.Sheets.{Sheet, without_pages, sheet_numbers}
-use Rattle.trio_state.specs.Image.{Image, row_at, settled_body, with_core_pages}
-use Rattle.trio_state.specs.State.{OpenGrant, State, settled, creds_of, covered, is_write, is_read, logged}
-
--- Which open grant on a file excludes what is asked: a read is excluded by a write or a hold of anyone and by a read of the
--- same library; a write or a hold by any grant of anyone.
-abbrev pub excludes_kind : GrantKind → GrantKind → Bool → Bool
-excludes_kind Read Read same_library = same_library
-excludes_kind Read Write same_library = true
-excludes_kind Read Hold same_library = true
-excludes_kind Write open_kind same_library = true
-excludes_kind Hold open_kind same_library = true
+use Rattle.trio_page.specs.Sheets.{Sheet, without_pages, sheet_numbers}
+use Rattle.trio_layout.specs.Pages.{settled_chain, index_sheets, block_sheets}
+use Rattle.trio_layout.specs.Image.{Image, row_at, settled_body, with_core_pages}
+use Rattle.trio_state.specs.State.{OpenGrant, State, settled, creds_of, covered, logged}
+use Rattle.trio_nodes.specs.GrantKinds.{is_write, is_read, excludes_kind}
+use Rattle.trio_tables.specs.Tables.{child_count}
 
 -- the open grants that exclude what is asked, in the order of their entries
 abbrev pub excluding : State → ℕ → ℕ → GrantKind → List OpenGrant
@@ -65,24 +53,6 @@ grant_fault s lib ino kind =
     (if lacks_parent s lib ino kind then Some NoParent
     else option_map (λ g. Busy (holder_of g)) (slice_get (excluding s lib ino kind) 0))
 
--- the pages of these numbers
-abbrev pub sheets_of : Core → List ℕ → List Sheet
-sheets_of core pages =
-    filter_map (λ page. option_map (λ bytes. record { page = page; bytes = bytes }) (page_of core page)) pages
-
--- the chain of a live file
-abbrev pub settled_chain : Image → Kind → ℕ → Result Chain Place
-settled_chain image kind ino =
-    result_then (chain_of image.core) (there_or nowhere (body_of kind image.core.range (settled_body image ino)))
-
-abbrev pub index_sheets : Core → Result Chain Place → List Sheet
-index_sheets core (Ok c) = sheets_of core c.index
-index_sheets core (Err place) = []
-
-abbrev pub block_sheets : Core → Result Chain Place → List Sheet
-block_sheets core (Ok c) = sheets_of core c.blocks
-block_sheets core (Err place) = []
-
 -- Reading and writing lend the index pages and the blocks beside the body; a hold lends the body alone.
 abbrev pub lent_sheets : GrantKind → List Sheet → List Sheet
 lent_sheets Read sheets = sheets
@@ -119,13 +89,9 @@ opens s g = logged (record s {
   open_grants = s.open_grants ++ g ∷ [];
 })
 
-abbrev pub is_child : ℕ → Option Row → Bool
-is_child ino None = false
-is_child ino (Some r) = r.parent == ino
-
 -- how many live files have this parent
 abbrev pub children_of : Image → ℕ → ℕ
-children_of image ino = count_by (is_child ino) image.rows
+children_of image ino = child_count ino image.rows
 
 -- a hold tells the number of the file's children, any other grant 0
 abbrev pub told_children : Image → ℕ → GrantKind → ℕ

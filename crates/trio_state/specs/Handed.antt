@@ -1,11 +1,11 @@
 -- What libraries have in their hands, in the words of the steps.
-use Rattle.std.specs.Prelude.{ℕ, List, map}
+use Rattle.std.specs.Prelude.{map}
 use Rattle.trio_lease.specs.declared.parts.LentPage.{LentPage}
 use Rattle.trio_lease.specs.declared.parts.FreshParts.{FreshParts}
-use Rattle.trio_lease.specs.Shown.{Shown, LentFile}
+use Rattle.trio_lease.specs.Shown.{Shown}
 use Rattle.trio_lease.specs.Bundles.{Bundled}
-use Rattle.trio_state.specs.Sheets.{Sheet}
-use Rattle.trio_state.specs.Proposed.{Written, Bundle}
+use Rattle.trio_page.specs.Sheets.{Sheet}
+use Rattle.trio_layout.specs.Proposed.{Written, Bundle}
 
 -- a lent page, whether touched or not
 abbrev pub lent_sheet : LentPage → Sheet

@@ -1,15 +1,16 @@
 -- What holds of every state that the controller is in.
-use Rattle.std.specs.Prelude.{◌≡◌, ◌≢◌, ℕ, ◌+◌, Bool, true, ◌&&◌, List, ◌++◌, length, AllPairs, ◌⊎◌, None, Some, Ok, is_some, slice_get, slice_index, IsTrue}
+use Rattle.std.specs.Prelude.{◌≡◌, ◌≢◌, ℕ, ◌+◌, Bool, ◌&&◌, List, ◌++◌, length, AllPairs, ◌⊎◌, None, Some, Ok, is_some, slice_get, slice_index, IsTrue}
 use Rattle.std.specs.List.{list_any}
 use Rattle.trio_tables.specs.Out.{is_out}
 use Rattle.trio_nodes.specs.declared.grant.GrantKind.TheVariants.{Write, Hold}
-use Rattle.trio_layout.specs.Lists.{In, is_among}
+use Rattle.trio_lists.specs.Lists.{In, is_among}
 use Rattle.trio_layout.specs.Range.{is_core}
 use Rattle.trio_layout.specs.Survey.{Met, plain, survey, FileRead, file_of}
-use Rattle.trio_state.specs.Sheets.{sheet_numbers}
-use Rattle.trio_state.specs.Image.{Image, IsFit, row_at, settled_body}
-use Rattle.trio_state.specs.Verifies.{Verifies}
-use Rattle.trio_state.specs.State.{OpenGrant, State, settled, covered, is_write, is_read}
+use Rattle.trio_page.specs.Sheets.{sheet_numbers}
+use Rattle.trio_layout.specs.Image.{Image, IsFit, row_at, settled_body}
+use Rattle.trio_layout.specs.Verifies.{Verifies}
+use Rattle.trio_state.specs.State.{OpenGrant, State, settled, covered}
+use Rattle.trio_nodes.specs.GrantKinds.{is_write, is_read}
 use Rattle.trio_state.specs.Grants.{has_parent_grant}
 
 -- two open grants on one file are read grants of different libraries

@@ -1,11 +1,4 @@
-pub mod Sheets
-pub mod Image
-pub mod Verifies
 pub mod State
-pub mod Proposed
-pub mod Allowed
-pub mod Accept
-pub mod Mode
 pub mod Grants
 pub mod Allotments
 pub mod Bundles
@@ -14,6 +7,4 @@ pub mod Step
 pub mod Kept
 pub mod Given
 pub mod Run
-pub mod Stored
-pub mod Tree
 pub mod Handed

@@ -3,7 +3,7 @@ use Rattle.std.specs.Prelude.{◌≡◌, ℕ, ◌+◌, List, [], ◌∷◌, Some
 use Rattle.trio_rights.specs.declared.rights.Creds.{Creds}
 use Rattle.trio_tables.specs.Out.{none_out}
 use Rattle.trio_layout.specs.Range.{is_core}
-use Rattle.trio_state.specs.Image.{Image}
+use Rattle.trio_layout.specs.Image.{Image}
 use Rattle.trio_state.specs.State.{State}
 use Rattle.trio_state.specs.Step.{Event, Answer, Step}
 use Rattle.trio_state.specs.Given.{GivenEvent}

@@ -1,5 +1,5 @@
 -- The state of the controller, and the image that is settled in it.
-use Rattle.std.specs.Prelude.{ℕ, ◌+◌, ◌-◌, Bool, true, false, List, [], ◌++◌, Option, if◌then◌else◌, slice_index_or}
+use Rattle.std.specs.Prelude.{ℕ, ◌+◌, ◌-◌, List, [], ◌++◌, Option, if◌then◌else◌, slice_index_or}
 use Rattle.std.specs.List.{flat_map}
 use Rattle.trio_rights.specs.declared.kind.Kind.{Kind}
 use Rattle.trio_rights.specs.ByKind.{covers_blocks}
@@ -7,8 +7,8 @@ use Rattle.trio_rights.specs.declared.rights.Creds.{Creds}
 use Rattle.trio_rights.specs.declared.rights.LibNo.{LibNo}
 use Rattle.trio_nodes.specs.declared.grant.GrantKind.{GrantKind}
 use Rattle.trio_nodes.specs.declared.grant.GrantKind.TheVariants.{Read, Write, Hold}
-use Rattle.trio_state.specs.Sheets.{Sheet, with_pages}
-use Rattle.trio_state.specs.Image.{Image, with_core_pages}
+use Rattle.trio_page.specs.Sheets.{Sheet, with_pages}
+use Rattle.trio_layout.specs.Image.{Image, with_core_pages}
 
 -- A grant that is open. What it lent stays as it was lent: the body, and for reading and writing the index pages and blocks.
 -- Its checkpoint is of a write grant alone, and follows the bodies of children that are accepted meanwhile.
@@ -33,16 +33,6 @@ pub record State : Type 0 where
   pub numbers_out : List (Option LibNo)
   pub creds : List Creds
   pub entries : ℕ
-
-abbrev pub is_write : GrantKind → Bool
-is_write Write = true
-is_write Read = false
-is_write Hold = false
-
-abbrev pub is_read : GrantKind → Bool
-is_read Read = true
-is_read Write = false
-is_read Hold = false
 
 -- what a checkpoint covers beside the body: the index pages, and the blocks where the kind says so
 abbrev pub covered : GrantKind → Kind → List Sheet → List Sheet → List Sheet

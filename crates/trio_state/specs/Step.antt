@@ -8,11 +8,11 @@ use Rattle.trio_nodes.specs.declared.answers.GrantFault.{GrantFault}
 use Rattle.trio_nodes.specs.declared.answers.GrantFault.TheVariants.{Busy as BusyGrant}
 use Rattle.trio_nodes.specs.declared.answers.ModeFault.{ModeFault}
 use Rattle.trio_nodes.specs.declared.answers.ModeFault.TheVariants.{NotLive, NotOwner, BadMode, Busy}
-use Rattle.trio_state.specs.Image.{Image, row_at}
+use Rattle.trio_layout.specs.Image.{row_at}
 use Rattle.trio_state.specs.State.{OpenGrant, State, settled, creds_of, logged}
-use Rattle.trio_state.specs.Proposed.{Bundle}
-use Rattle.trio_state.specs.Accept.{is_accepted, next}
-use Rattle.trio_state.specs.Mode.{moded}
+use Rattle.trio_layout.specs.Proposed.{Bundle}
+use Rattle.trio_layout.specs.Accept.{is_accepted, next}
+use Rattle.trio_layout.specs.Mode.{moded}
 use Rattle.trio_state.specs.Grants.{grant_fault, opened, opens, told_children, given_back, holder_of}
 use Rattle.trio_state.specs.Allotments.{free_pages, free_numbers, allots}
 use Rattle.trio_state.specs.Bundles.{parted_hold, refused_image, Ends, has_all}

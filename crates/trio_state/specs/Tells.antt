@@ -1,7 +1,7 @@
 -- Why a bundle is refused, as far as a refusal tells it.
 use Rattle.std.specs.Prelude.{◌≡◌, ℕ}
 use Rattle.trio_state.specs.State.{State}
-use Rattle.trio_state.specs.Proposed.{Bundle}
+use Rattle.trio_layout.specs.Proposed.{Bundle}
 
 -- A cause of a refusal: a rule, and a file and a place at which it fails. All are 0 where that isn't told.
 pub record Why : Type 0 where

@@ -3,17 +3,18 @@ use Rattle.std.proofs.Common.{◌≡◌, ℕ, ◌+◌, ◌<◌, Bool, true, fals
 use Rattle.std.specs.Option.{option_or}
 use Rattle.std.proofs.lemmas.List.{append-nil, map-append, map_push, length_push, length-map, get_or-map, take_more}
 use Rattle.std.proofs.lemmas.List.Sums.{sum_by-set}
-use Rattle.trio_layout.specs.Lists.{is_among}
-use Rattle.trio_layout.specs.Marks.{all_below}
+use Rattle.trio_lists.specs.Lists.{is_among}
+use Rattle.trio_lists.specs.Marks.{all_below}
 use Rattle.trio_layout.specs.Entries.{Listed, place_of}
 use Rattle.trio_layout.specs.Survey.{Met, Pick, numbers, first_listed, met_in}
 use Rattle.trio_layout.proofs.QueueLaws.{first_listed-append}
-use Rattle.trio_layout.proofs.MarkLemmas.{Marks-set, among-first_listed, below_at}
+use Rattle.trio_lists.proofs.MarkLemmas.{Marks-set, below_at}
+use Rattle.trio_layout.proofs.QueueLaws.{among-first_listed}
 use Rattle.trio_survey.specs.declared.file.FaultPlace.{FaultPlace}
 use Rattle.trio_survey.specs.declared.file.ListedEntry.{ListedEntry}
 use Rattle.trio_survey.specs.Seen.{place_seen}
 use Rattle.trio_survey.specs.Within.{inos}
-use Rattle.trio_survey.specs.Walk.{AreMarked, FirstEntry}
+use Rattle.trio_survey.specs.inner.Walk.{AreMarked, FirstEntry}
 use Rattle.trio_survey.proofs.Repeats.{numbers_of, numbers_met, entry_marked, entry_unmarked}
 
 listed_push : (old now ms : List Met) (m : Met) (b : Bool) → now ≡ old ++ first_listed (numbers old) ms → is_among m.ino (numbers now) ≡ b → now ++ cond b [] (m ∷ []) ≡ old ++ first_listed (numbers old) (ms ++ m ∷ [])

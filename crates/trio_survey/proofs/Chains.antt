@@ -5,7 +5,7 @@ use Rattle.std.proofs.lemmas.Bool.Decides.{nat_tests}
 use Rattle.trio_layout.specs.declared.range.CoreRange.{CoreRange}
 use Rattle.trio_layout.specs.Core.{Core, Place, at_page, page_of}
 use Rattle.trio_layout.specs.Index.{Index, IsIndexPage, index_of}
-use Rattle.trio_layout.specs.Lists.{result_map, result_then}
+use Rattle.trio_lists.specs.Lists.{result_map, result_then}
 use Rattle.trio_layout.specs.Chain.{Chain, chain_from, index_count, index_page, with_index}
 
 -- a chain that goes on after these pages and blocks

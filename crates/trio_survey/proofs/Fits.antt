@@ -17,9 +17,10 @@ use Rattle.trio_layout.specs.Range.{is_core}
 use Rattle.trio_layout.specs.Body.{body_of}
 use Rattle.trio_layout.specs.Slot.{slot_of, entry_at, entry_bytes, entry_fits}
 use Rattle.trio_layout.specs.Index.{Index, index_at, index_bytes, index_fits, link_fits, index_of}
-use Rattle.trio_layout.specs.Lists.{result_map, result_then, both, gathered, gathered_below}
-use Rattle.trio_layout.specs.Marks.{all_below}
-use Rattle.trio_layout.specs.Core.{Core, Place, at_page, nowhere, page_of, there_or}
+use Rattle.trio_lists.specs.Lists.{result_map, result_then, both, gathered, gathered_below}
+use Rattle.trio_lists.specs.Marks.{all_below}
+use Rattle.trio_layout.specs.Core.{Core, Place, at_page, nowhere, page_of}
+use Rattle.trio_lists.specs.Lists.{there_or}
 use Rattle.trio_layout.specs.Chain.{Chain, chain_from, chain_of, index_page, with_index}
 use Rattle.trio_layout.specs.Entries.{Listed, body_in_slot, slot_bytes, listed_at, slot_entries, entries_on, page_entries, unless_repeated, repeated_name, with_names_apart, entries_of_kind}
 use Rattle.trio_layout.specs.Survey.{Met, FileRead, file_of, file_with}

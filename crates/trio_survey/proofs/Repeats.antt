@@ -5,16 +5,16 @@ use Rattle.std.specs.Option.{option_or}
 use Rattle.std.proofs.lemmas.List.{append-nil, map-append}
 use Rattle.std.proofs.lemmas.List.Concat.{flat_map-append}
 use Rattle.std.proofs.lemmas.Bool.{and_from, and_parts, and_right}
-use Rattle.trio_layout.specs.Lists.{In, is_among, are_new}
+use Rattle.trio_lists.specs.Lists.{In, is_among, are_new}
 use Rattle.trio_layout.specs.Core.{Core, Place, at_page}
 use Rattle.trio_layout.specs.Entries.{Listed, place_of}
 use Rattle.trio_layout.specs.Survey.{Met, FileRead, Pick, file_of, children, children_in, met_in, numbers, pages_of, pages_in, survey}
 use Rattle.trio_layout.specs.Sound.{are_in_grammar, are_listed_once, is_sound, listings, listed_numbers, listed_pages, page_listings, PageListing, FailsAt, ListsNumberAgain, ListsPageAgain}
-use Rattle.trio_layout.proofs.MarkLemmas.{is_among-append, are_new-append, are_new-push, and-false}
+use Rattle.trio_lists.proofs.MarkLemmas.{is_among-append, are_new-append, are_new-push, and-false}
 use Rattle.trio_survey.specs.declared.file.FaultPlace.{FaultPlace}
 use Rattle.trio_survey.specs.declared.walk.Repeated.{Repeated}
 use Rattle.trio_survey.specs.Seen.{place_seen}
-use Rattle.trio_survey.specs.Walk.{Repeats, RepeatsEntry, FirstRepeat, FirstEntry, RepeatsAt, IsFirstRepeat, file_repeat}
+use Rattle.trio_survey.specs.inner.Walk.{Repeats, RepeatsEntry, FirstRepeat, FirstEntry, RepeatsAt, IsFirstRepeat, file_repeat}
 
 -- ---- numbers
 

@@ -7,21 +7,22 @@ use Rattle.std.proofs.lemmas.List.Folds.{list_all-append}
 use Rattle.std.proofs.lemmas.List.Sums.{count_by-le-length}
 use Rattle.std.proofs.lemmas.Bool.{and_from, and_parts}
 use Rattle.trio_rights.specs.Row.{Row}
-use Rattle.trio_layout.specs.Lists.{In, is_among, are_new}
+use Rattle.trio_lists.specs.Lists.{In, is_among, are_new}
 use Rattle.trio_layout.specs.Core.{Core, Place}
-use Rattle.trio_layout.specs.Marks.{Marks, all_below}
+use Rattle.trio_lists.specs.Marks.{Marks, all_below}
 use Rattle.trio_layout.specs.Queue.{pass_on, pass, queue}
 use Rattle.trio_layout.specs.Survey.{Met, FileRead, file_of, first_listed, numbers, children, children_in, Pick, root_of, met_in, survey, pages_of, pages_in}
 use Rattle.trio_layout.specs.Sound.{IsSound, are_in_grammar, are_listed_once, listed_numbers, listed_pages, rows_table, owners_table, FailsAt}
 use Rattle.trio_layout.proofs.QueueLaws.{files_are_levels, waiting_is_met}
-use Rattle.trio_layout.proofs.MarkLemmas.{is_among-append, among-first_listed}
+use Rattle.trio_lists.proofs.MarkLemmas.{is_among-append}
+use Rattle.trio_layout.proofs.QueueLaws.{among-first_listed}
 use Rattle.trio_survey.specs.declared.file.FaultPlace.{FaultPlace}
 use Rattle.trio_survey.specs.declared.walk.Repeated.{Repeated}
 use Rattle.trio_survey.specs.declared.fault.SurveyFault.{SurveyFault}
 use Rattle.trio_survey.specs.declared.fault.SurveyFault.TheVariants.{Fails, NoMemory}
 use Rattle.trio_survey.specs.Answer.{IsRefused}
 use Rattle.trio_survey.specs.Within.{all_some}
-use Rattle.trio_survey.specs.Walk.{AreMarked, FirstRepeat, FirstEntry, IsFault, Stands, Tabled, file_repeat}
+use Rattle.trio_survey.specs.inner.Walk.{AreMarked, FirstRepeat, FirstEntry, IsFault, Stands, Tabled, file_repeat}
 use Rattle.trio_survey.proofs.Repeats.{fails_unsound, first_repeat, numbers_of, numbers_met}
 use Rattle.trio_survey.proofs.Tables.{all_first, owners_are, rows_are}
 

@@ -7,16 +7,16 @@ use Rattle.std.proofs.lemmas.List.Concat.{flat_map-append}
 use Rattle.std.proofs.lemmas.Bool.{and_parts, and_from, or_parts, or_cases, cases_eq, cases_lt, false≢true}
 use Rattle.std.proofs.lemmas.Bool.Decides.{nat_tests}
 use Rattle.trio_rights.specs.Row.{Row}
-use Rattle.trio_layout.specs.Lists.{is_among, are_new, tabulated}
-use Rattle.trio_layout.specs.Marks.{all_below}
+use Rattle.trio_lists.specs.Lists.{is_among, are_new, tabulated}
+use Rattle.trio_lists.specs.Marks.{all_below}
 use Rattle.trio_layout.specs.Core.{Core}
 use Rattle.trio_layout.specs.Queue.{queue}
 use Rattle.trio_layout.specs.Survey.{Met, FileRead, file_of, first_listed, numbers, children, Pick, root_of, row_by, row_of, row_read, owner_of, pages_of, pages_in}
 use Rattle.trio_layout.specs.Sound.{listed_pages, rows_table, owners_table}
 use Rattle.trio_layout.proofs.QueueLaws.{met_by, queue_distinct}
-use Rattle.trio_layout.proofs.MarkLemmas.{below_at, is_among-append, are_new-append}
+use Rattle.trio_lists.proofs.MarkLemmas.{below_at, is_among-append, are_new-append}
 use Rattle.trio_survey.specs.Within.{all_some}
-use Rattle.trio_survey.specs.Walk.{Tabled, Entered, owner_in}
+use Rattle.trio_survey.specs.inner.Walk.{Tabled, Entered, owner_in}
 use Rattle.trio_survey.proofs.CorePages.{file_in_core, listed_not_below}
 
 not_is : (b : Bool) → not b ≡ true → b ≡ false

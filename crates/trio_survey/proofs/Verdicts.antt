@@ -8,11 +8,11 @@ use Rattle.trio_layout.specs.Core.{Place}
 use Rattle.trio_layout.specs.Survey.{plain}
 use Rattle.trio_layout.specs.Sound.{IsSound}
 use Rattle.trio_tables.specs.Stored.{shadow_bytes, owner_bytes, padded_to_pages, page_at}
-use Rattle.trio_state.specs.Stored.{core_in, image_in, PagesVerify, StoresTables}
+use Rattle.trio_survey.specs.Stored.{core_in, image_in, PagesVerify, StoresTables}
 use Rattle.trio_survey.specs.declared.fault.SurveyFault.{SurveyFault}
 use Rattle.trio_survey.specs.declared.fault.SurveyFault.TheVariants.{Fails, NoMemory}
 use Rattle.trio_survey.specs.Answer.{IsRefused}
-use Rattle.trio_survey.specs.Stored.{HasOwnerFault, HasRowFault, IsOwnerFault, IsRowFault, IsTableFault}
+use Rattle.trio_survey.specs.inner.Compared.{HasOwnerFault, HasRowFault, IsOwnerFault, IsRowFault, IsTableFault}
 use Rattle.trio_survey.specs.Verdict.{IsDenied, TablesFailAt}
 
 some_same : {X : Type 0} {x y : X} → Some x ≡ Some y → x ≡ y

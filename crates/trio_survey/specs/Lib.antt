@@ -1,9 +1,8 @@
 pub mod Seen
-pub mod Steps
 pub mod Within
 pub mod Picks
-pub mod Walk
 pub mod Answer
 pub mod Verdict
-pub mod Stored
 pub mod PickLaws
+pub mod inner
+pub mod Stored

@@ -1,49 +1,75 @@
--- What comparing the stored tables finds. Cited by private functions alone.
-use Rattle.std.specs.Prelude.{◌≡◌, ◌≢◌, ℕ, ◌+◌, ◌*◌, ◌/◌, ◌<◌, ◌≤◌, ◌⊎◌, List, Option, None, MatchOption, slice_index_or, ⊤}
+-- An image as its pages: the superblock, the shadow pages, the owner pages, and the core.
+use Rattle.std.specs.Prelude.{◌≡◌, ℕ, zero, suc, ◌+◌, ◌*◌, ◌<◌, ◌≤◌, List, [], ◌∷◌, Option, None, Some, length, take, drop, unwrap_or, slice_index_or}
+use Rattle.std.specs.List.{flat_map}
 use Rattle.trio_rights.specs.Row.{Row}
+use Rattle.trio_tables.specs.Stored.{shadow_bytes, owner_bytes, padded_to_pages, page_at}
 use Rattle.trio_layout.specs.declared.superblock.Superblock.{Superblock}
-use Rattle.trio_tables.specs.Stored.{shadow_bytes, owner_bytes, padded_to_pages, page_at, RowDiffers, OwnerDiffers}
-use Rattle.trio_state.specs.Stored.{StoresTables}
-use Rattle.trio_survey.specs.declared.fault.SurveyFault.{SurveyFault}
-use Rattle.trio_survey.specs.declared.fault.SurveyFault.TheVariants.{Fails, NoMemory}
-use Rattle.trio_survey.specs.Verdict.{TablesFailAt}
+use Rattle.trio_layout.specs.Superblock.{superblock_bytes, IsSuperblock}
+use Rattle.trio_layout.specs.Core.{Core}
+use Rattle.trio_layout.specs.Survey.{plain, survey}
+use Rattle.trio_layout.specs.Sound.{IsSound, rows_table, owners_table}
+use Rattle.trio_layout.specs.Image.{Image}
 
--- the sizes that a superblock in its grammar has
-pub record HasSizes (s : Superblock) : Type 0 where
-  pub pages : s.pages ≤ 8192
-  pub some : 1 ≤ s.inodes
-  pub inodes : s.inodes ≤ 16384
-  pub shadow : s.first_owner ≡ 1 + (32 * s.inodes + 4095) / 4096
-  pub owner : s.first_core ≡ s.first_owner + (4 * s.pages + 4095) / 4096
-  pub core : s.first_core < s.pages
+-- the core of an image that has this superblock and these pages
+abbrev pub core_in : Superblock → List (Option (List ℕ)) → Core
+core_in s pages = record {
+  pages = pages;
+  root = s.root;
+  range = record { first = s.first_core; end = s.pages };
+  inodes = s.inodes;
+}
 
--- the shadow page at k isn't the table's: the inode number whose row differs, or 0
-abbrev pub IsRowFault : List (Option Row) → ℕ → Option (List ℕ) → ℕ → Type 0
-IsRowFault rows k stored ino =
-    MatchOption stored (ino ≡ 0)
-    (λ bytes. (bytes ≢ page_at k (padded_to_pages (shadow_bytes rows)))
-    × (RowDiffers rows k bytes ino ⊎ ((ino ≡ 0) × ((n : ℕ) → RowDiffers rows k bytes n → ⊥))))
+-- the page at a number is there and has these bytes
+abbrev pub HasPage : List (Option (List ℕ)) → ℕ → List ℕ → Type 0
+HasPage pages number bytes = slice_index_or pages number None ≡ Some bytes
 
--- the owner page at k isn't the table's: the page whose owner differs, or 0
-abbrev pub IsOwnerFault : List ℕ → ℕ → Option (List ℕ) → ℕ → Type 0
-IsOwnerFault owners k stored page =
-    MatchOption stored (page ≡ 0)
-    (λ bytes. (bytes ≢ page_at k (padded_to_pages (owner_bytes owners)))
-    × (OwnerDiffers owners k bytes page ⊎ ((page ≡ 0) × ((n : ℕ) → OwnerDiffers owners k bytes n → ⊥))))
+-- the shadow pages and the owner pages are these tables', with zeros behind them
+pub record StoresTables (s : Superblock) (pages : List (Option (List ℕ))) (rows : List (Option Row)) (owners : List ℕ) : Type 0 where
+  pub shadow : (k : ℕ) → 1 + k < s.first_owner → HasPage pages (1 + k) (page_at k (padded_to_pages (shadow_bytes rows)))
+  pub owner : (k : ℕ) → s.first_owner + k < s.first_core → HasPage pages (s.first_owner + k) (page_at k (padded_to_pages (owner_bytes owners)))
 
--- the same of one of the shadow pages, and of one of the owner pages
-pub record HasRowFault (first_owner : ℕ) (pages : List (Option (List ℕ))) (rows : List (Option Row)) (ino : ℕ) : Type 0 where
-  pub k : ℕ
-  pub table : 1 + k < first_owner
-  pub fault : IsRowFault rows k (slice_index_or pages (1 + k) None) ino
+-- With this superblock: the plain survey of the core is sound, and the stored tables are exactly its rows and owners.
+pub record PagesVerify (s : Superblock) (pages : List (Option (List ℕ))) : Type 0 where
+  pub sound : IsSound (core_in s pages) plain
+  pub tables : StoresTables s pages
+      (rows_table (core_in s pages) (survey (core_in s pages) plain))
+      (owners_table (core_in s pages) (survey (core_in s pages) plain))
 
-pub record HasOwnerFault (first_owner first_core : ℕ) (pages : List (Option (List ℕ))) (owners : List ℕ) (page : ℕ) : Type 0 where
-  pub k : ℕ
-  pub table : first_owner + k < first_core
-  pub fault : IsOwnerFault owners k (slice_index_or pages (first_owner + k) None) page
+-- the pages' superblock
+pub record HasSuperblock (s : Superblock) (pages : List (Option (List ℕ))) : Type 0 where
+  pub bytes : List ℕ
+  pub here : HasPage pages 0 bytes
+  pub read : IsSuperblock bytes s
 
--- the stored tables aren't these, and where
-abbrev pub IsTableFault : Superblock → List (Option (List ℕ)) → List (Option Row) → List ℕ → SurveyFault → Type 0
-IsTableFault s pages rows owners (Fails rule ino page slot) =
-    (rule ≡ 5) × (StoresTables s pages rows owners → ⊥) × TablesFailAt s pages rows owners ino (record { page = page; slot = slot })
-IsTableFault s pages rows owners NoMemory = ⊤
+-- the image that these pages store, where they verify
+abbrev pub image_in : Superblock → List (Option (List ℕ)) → Image
+image_in s pages = record {
+  core = core_in s pages;
+  rows = rows_table (core_in s pages) (survey (core_in s pages) plain);
+  owners = owners_table (core_in s pages) (survey (core_in s pages) plain);
+}
+
+-- ---- an image as the bytes of its file
+
+-- the first n pages that bytes are cut into
+abbrev pub pages_in : ℕ → List ℕ → List (Option (List ℕ))
+pages_in zero bytes = []
+pages_in (suc n) bytes = Some (take 4096 bytes) ∷ pages_in n (drop 4096 bytes)
+
+-- the bytes of pages, one after another
+abbrev pub bytes_in : List (Option (List ℕ)) → List ℕ
+bytes_in pages = flat_map (λ p. unwrap_or p []) pages
+
+-- The bytes are those of an image that verifies: its superblock is in its grammar and tells the length, and its pages verify.
+pub record BytesVerify (bytes : List ℕ) : Type 0 where
+  pub superblock : Superblock
+  pub read : IsSuperblock (take 4096 bytes) superblock
+  pub whole : length bytes ≡ 4096 * superblock.pages
+  pub verify : PagesVerify superblock (pages_in superblock.pages bytes)
+
+-- These are just the pages of an image: its root's body in the superblock, its tables, and its core pages. No others are.
+pub record StoresImage (s : Superblock) (image : Image) (pages : List (Option (List ℕ))) : Type 0 where
+  pub count : length pages ≡ s.pages
+  pub superblock : HasPage pages 0 (superblock_bytes (record s { root = image.core.root }))
+  pub tables : StoresTables s pages image.rows image.owners
+  pub core : (p : ℕ) → s.first_core ≤ p → p < s.pages → slice_index_or pages p None ≡ slice_index_or image.core.pages p None

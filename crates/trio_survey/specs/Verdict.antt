@@ -8,7 +8,7 @@ use Rattle.trio_layout.specs.Core.{Place, nowhere}
 use Rattle.trio_layout.specs.Survey.{plain}
 use Rattle.trio_layout.specs.Sound.{IsSound, FailsAt}
 use Rattle.trio_tables.specs.Stored.{shadow_bytes, owner_bytes, padded_to_pages, page_at, RowDiffers, OwnerDiffers}
-use Rattle.trio_state.specs.Stored.{core_in, image_in, HasPage, PagesVerify}
+use Rattle.trio_survey.specs.Stored.{core_in, image_in, HasPage, PagesVerify}
 use Rattle.trio_survey.specs.declared.fault.SurveyFault.{SurveyFault}
 use Rattle.trio_survey.specs.declared.fault.SurveyFault.TheVariants.{Fails, NoMemory}
 

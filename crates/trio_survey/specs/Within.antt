@@ -2,7 +2,7 @@
 use Rattle.std.specs.Prelude.{ℕ, ◌≡◌, ◌+◌, nat_lt, Bool, true, List, map}
 use Rattle.std.specs.List.{list_all}
 use Rattle.trio_layout.specs.declared.range.CoreRange.{CoreRange}
-use Rattle.trio_layout.specs.Marks.{all_below}
+use Rattle.trio_lists.specs.Marks.{all_below}
 use Rattle.trio_survey.specs.declared.file.ListedEntry.{ListedEntry}
 
 -- the inode numbers of entries, in order

@@ -6,7 +6,7 @@ ghost use Rattle.trio_layout.specs.Chain.{chain_of};
 ghost use Rattle.trio_layout.specs.Index.{index_of};
 ghost use Rattle.trio_layout.specs.Range.{core_count};
 ghost use Rattle.trio_survey.specs.Seen.{chain_seen, core_with, result_seen};
-ghost use Rattle.trio_survey.specs.Steps.{AppendsIndex};
+ghost use Rattle.trio_survey.specs.inner.Steps.{AppendsIndex};
 
 use crate::file::FaultPlace;
 use crate::home::core_page;

@@ -1,11 +1,11 @@
 //! The tables of the files that were met.
 
 ghost use Rattle.std.specs.Prelude.{◌≡◌, ◌<◌, ℕ, length, true, slice_index, if◌then◌else◌};
-ghost use Rattle.trio_layout.specs.Lists.{is_among};
-ghost use Rattle.trio_layout.specs.Marks.{all_below};
+ghost use Rattle.trio_lists.specs.Lists.{is_among};
+ghost use Rattle.trio_lists.specs.Marks.{all_below};
 ghost use Rattle.trio_layout.specs.Survey.{row_by};
 ghost use Rattle.trio_survey.specs.Seen.{file_seen, met_seen};
-ghost use Rattle.trio_survey.specs.Walk.{Entered};
+ghost use Rattle.trio_survey.specs.inner.Walk.{Entered};
 ghost use Rattle.trio_tables.specs.Row.{as_row};
 
 use crate::file::{FileParts, MetFile};

@@ -2,7 +2,7 @@
 
 ghost use Rattle.std.specs.Prelude.{◌≡◌, ◌<◌, IfOk, map, drop, if◌then◌else◌};
 ghost use Rattle.trio_layout.specs.Entries.{listed_at, slot_bytes, entries_on, entries_of};
-ghost use Rattle.trio_layout.specs.Lists.{both};
+ghost use Rattle.trio_lists.specs.Lists.{both};
 ghost use Rattle.trio_layout.specs.Slot.{slot_of};
 ghost use Rattle.trio_survey.specs.Seen.{core_with, listed_seen, result_seen};
 

@@ -1,11 +1,11 @@
 //! Marks over numbers, by which the walk knows what was listed before.
 
 ghost use Rattle.std.specs.Prelude.{◌≡◌, ◌++◌, ℕ, List, IfOk, OnOk, map, true, vec_len};
-ghost use Rattle.trio_layout.specs.Marks.{Marks, all_below};
+ghost use Rattle.trio_lists.specs.Marks.{Marks, all_below};
 ghost use Rattle.trio_layout.specs.Survey.{first_listed, met_in, numbers};
 ghost use Rattle.trio_survey.specs.Picks.{pick_of};
 ghost use Rattle.trio_survey.specs.Seen.{listed_seen, met_seen};
-ghost use Rattle.trio_survey.specs.Walk.{AreMarked, FirstEntry, FirstRepeat};
+ghost use Rattle.trio_survey.specs.inner.Walk.{AreMarked, FirstEntry, FirstRepeat};
 ghost use Rattle.trio_survey.specs.Within.{inos};
 
 use crate::file::{FaultPlace, ListedEntry, MetFile};

@@ -1,8 +1,8 @@
 //! Whether an image verifies.
 
 ghost use Rattle.std.specs.Prelude.{◌≡◌, ◌+◌, ◌-◌, ◌*◌, ◌<◌, ◌≤◌, ℕ, None, IfErr, IfNone, IfOk, IfSome, IsSome, OnOk, length, slice_index_or};
-ghost use Rattle.trio_state.specs.Stored.{image_in, HasPage, HasSuperblock, PagesVerify, StoresTables};
-ghost use Rattle.trio_survey.specs.Stored.{HasOwnerFault, HasRowFault, HasSizes, IsOwnerFault, IsRowFault, IsTableFault};
+ghost use Rattle.trio_survey.specs.Stored.{image_in, HasPage, HasSuperblock, PagesVerify, StoresTables};
+ghost use Rattle.trio_survey.specs.inner.Compared.{HasOwnerFault, HasRowFault, HasSizes, IsOwnerFault, IsRowFault, IsTableFault};
 ghost use Rattle.trio_survey.specs.Verdict.{superblock_in, IsDenied};
 ghost use Rattle.trio_tables.specs.Stored.{owner_bytes, padded_to_pages, page_at, shadow_bytes};
 

@@ -3,7 +3,7 @@
 ghost use Rattle.std.specs.Prelude.{◌≡◌, ◌+◌, ◌<◌, ◌≤◌, ℕ, List, Option, [], IfErr, IfOk, OnOk, map, take, vec_len};
 ghost use Rattle.trio_layout.specs.Survey.{Pick};
 ghost use Rattle.trio_survey.specs.Picks.{pick_of};
-ghost use Rattle.trio_survey.specs.Walk.{file_repeat, framed, IsFault, WalkStands, WalkTables};
+ghost use Rattle.trio_survey.specs.inner.Walk.{file_repeat, framed, IsFault, WalkStands, WalkTables};
 
 use crate::enter::enter;
 use crate::fault::SurveyFault;

@@ -9,7 +9,7 @@ use Rattle.trio_rights.specs.May.{ancestors, denier, row_permits}
 use Rattle.trio_rights.specs.declared.rights.Creds.{Creds}
 use Rattle.trio_rights.specs.declared.rights.Need.{Need}
 use Rattle.trio_rights.specs.declared.rights.Need.TheVariants.{Read}
-use Rattle.trio_tables.specs.Climb.{parent_in}
+use Rattle.trio_tables.specs.inner.Climb.{parent_in}
 
 -- the directories from this one up to the root, the root first, by at most so many steps
 pub climbed : List (Option Row) → ℕ → ℕ → List ℕ

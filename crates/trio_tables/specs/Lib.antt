@@ -1,6 +1,6 @@
 pub mod Row
 pub mod Tables
 pub mod Stored
-pub mod Climb
 pub mod Out
 pub mod Free
+pub mod inner

@@ -5,7 +5,7 @@ ghost use Rattle.std.specs.Option.{option_map};
 ghost use Rattle.trio_rights.specs.Row.{row_in};
 ghost use Rattle.trio_rights.specs.May.{denier, row_permits};
 ghost use Rattle.trio_rights.specs.declared.rights.Need.TheVariants.{Read};
-ghost use Rattle.trio_tables.specs.Climb.{parent_in};
+ghost use Rattle.trio_tables.specs.inner.Climb.{parent_in};
 ghost use Rattle.trio_page.specs.Field.{with_part};
 ghost use Rattle.trio_tables.specs.Row.{as_row, row_bytes};
 ghost use Rattle.trio_tables.specs.Stored.{page_at, padded_to_pages, shadow_bytes, HasRow, RowDiffers};

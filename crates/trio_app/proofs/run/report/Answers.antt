@@ -1,6 +1,6 @@
 use Rattle.std.proofs.Common.{◌≡◌}
-use Rattle.trio_state.specs.Stored.{core_in}
-use Rattle.trio_state.specs.Tree.{tree_of}
+use Rattle.trio_survey.specs.Stored.{core_in}
+use Rattle.trio_layout.specs.Tree.{tree_of}
 use Rattle.trio_app.proofs.Ends.{joined}
 use Rattle.trio_app.proofs.run.report.Goals as goal
 

@@ -1,7 +1,7 @@
 use Rattle.std.proofs.Common.{◌≡◌, ◌++◌, length, IsTrue, sym, subst}
-use Rattle.trio_layout.specs.Marks.{all_below}
+use Rattle.trio_lists.specs.Marks.{all_below}
 use Rattle.trio_lease.specs.Shown.{Shown}
-use Rattle.trio_state.specs.Sheets.{sheet_numbers, with_pages}
+use Rattle.trio_page.specs.Sheets.{sheet_numbers, with_pages}
 use Rattle.trio_checkpoint.proofs.Following.{put_both, within_still}
 use Rattle.trio_ctl.specs.Moves.{lent_sheets}
 use Rattle.trio_ctl.proofs.bundles.bring_file.Goals as goal

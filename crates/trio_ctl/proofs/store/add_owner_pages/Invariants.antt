@@ -1,6 +1,6 @@
 use Rattle.std.proofs.Common.{◌≡◌, ◌++◌}
 use Rattle.trio_tables.specs.Stored.{owner_bytes, padded_to_pages}
-use Rattle.trio_ctl.specs.Pages.{table_pages}
+use Rattle.trio_ctl.specs.inner.Pages.{table_pages}
 use Rattle.trio_ctl.proofs.store.add_owner_pages.Given as goal
 
 abbrev pub invariant-loop-at : goal.invariant-loop-at

@@ -1,5 +1,5 @@
 use Rattle.std.proofs.Common.{◌≡◌, take}
-use Rattle.trio_state.specs.Stored.{bytes_in}
+use Rattle.trio_survey.specs.Stored.{bytes_in}
 use Rattle.trio_image.proofs.bytes.home_bytes.Given as goal
 
 abbrev pub invariant-loop-i : goal.invariant-loop-i

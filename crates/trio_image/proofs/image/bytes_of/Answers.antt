@@ -1,6 +1,6 @@
 use Rattle.std.proofs.Common.{◌≡◌, IfOk, subst, sym, ap, ◌∙◌}
 use Rattle.std.proofs.lemmas.Result.{IfOk-weaker}
-use Rattle.trio_state.specs.Stored.{bytes_in, pages_in, BytesVerify}
+use Rattle.trio_survey.specs.Stored.{bytes_in, pages_in, BytesVerify}
 use Rattle.trio_image.specs.Image.{ImagePages}
 use Rattle.trio_image.proofs.Images.{again, bytes_verify}
 use Rattle.trio_image.proofs.image.bytes_of.Goals as goal

@@ -1,7 +1,7 @@
 use Rattle.std.proofs.Common.{map, refl, arith}
 use Rattle.std.proofs.lemmas.List.{length-map}
 use Rattle.trio_state.specs.Handed.{fresh_sheet}
-use Rattle.trio_state.specs.Sheets.{Sheet}
+use Rattle.trio_page.specs.Sheets.{Sheet}
 use Rattle.trio_proposal.proofs.Fitting.{fit_all, fit_more}
 use Rattle.trio_proposal.proofs.Puts.{fresh_there}
 use Rattle.trio_proposal.proofs.checks.fresh_fit.Goals as goal

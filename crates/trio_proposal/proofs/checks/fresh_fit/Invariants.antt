@@ -1,6 +1,6 @@
 use Rattle.std.proofs.Common.{map, take}
 use Rattle.trio_state.specs.Handed.{fresh_sheet}
-use Rattle.trio_proposal.specs.Steps.{AreFit}
+use Rattle.trio_proposal.specs.inner.Steps.{AreFit}
 use Rattle.trio_proposal.proofs.checks.fresh_fit.Given as goal
 
 abbrev pub invariant-loop-page : goal.invariant-loop-page

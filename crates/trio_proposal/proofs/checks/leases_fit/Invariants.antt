@@ -1,6 +1,6 @@
 use Rattle.std.proofs.Common.{take}
 use Rattle.std.specs.List.{flat_map}
-use Rattle.trio_proposal.specs.Steps.{AreFit, lease_sheets}
+use Rattle.trio_proposal.specs.inner.Steps.{AreFit, lease_sheets}
 use Rattle.trio_proposal.proofs.checks.leases_fit.Given as goal
 
 abbrev pub invariant-loop-lease : goal.invariant-loop-lease

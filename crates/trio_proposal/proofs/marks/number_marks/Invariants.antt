@@ -1,5 +1,5 @@
 use Rattle.std.proofs.Common.{◌≡◌, ◌+◌, map, take, vec_len}
-use Rattle.trio_layout.specs.Marks.{Marks}
+use Rattle.trio_lists.specs.Marks.{Marks}
 use Rattle.trio_proposal.proofs.marks.number_marks.Given as goal
 
 abbrev pub invariant-loop-number : goal.invariant-loop-number

@@ -1,10 +1,10 @@
 use Rattle.std.proofs.Common.{◌++◌, [], length, map, sym, ap, ◌∙◌, subst}
 use Rattle.std.specs.List.{flat_map}
-use Rattle.trio_layout.specs.Marks.{Marks}
+use Rattle.trio_lists.specs.Marks.{Marks}
 use Rattle.trio_state.specs.Handed.{fresh_sheet}
-use Rattle.trio_state.specs.Sheets.{sheet_numbers, with_pages}
-use Rattle.trio_laws.proofs.Members.{In-left, In-right}
-use Rattle.trio_proposal.specs.Steps.{ArePut, AreWithin, lease_sheets}
+use Rattle.trio_page.specs.Sheets.{sheet_numbers, with_pages}
+use Rattle.trio_lists.proofs.Members.{In-left, In-right}
+use Rattle.trio_proposal.specs.inner.Steps.{ArePut, AreWithin, lease_sheets}
 use Rattle.trio_proposal.proofs.Puts.{put_both, put_long, sheets_are}
 use Rattle.trio_proposal.proofs.pages.put_bundle.Goals as goal
 

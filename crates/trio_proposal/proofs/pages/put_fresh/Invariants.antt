@@ -1,6 +1,6 @@
 use Rattle.std.proofs.Common.{map, take}
 use Rattle.trio_state.specs.Handed.{fresh_sheet}
-use Rattle.trio_proposal.specs.Steps.{ArePut}
+use Rattle.trio_proposal.specs.inner.Steps.{ArePut}
 use Rattle.trio_proposal.proofs.pages.put_fresh.Given as goal
 
 abbrev pub invariant-loop-page : goal.invariant-loop-page

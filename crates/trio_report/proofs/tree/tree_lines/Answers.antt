@@ -1,7 +1,7 @@
 use Rattle.std.proofs.Common.{◌∷◌, [], map, refl, ap, ◌∙◌}
 use Rattle.std.proofs.lemmas.List.{map-append}
-use Rattle.trio_state.specs.Stored.{core_in}
-use Rattle.trio_report.specs.Nodes.{node_seen}
+use Rattle.trio_survey.specs.Stored.{core_in}
+use Rattle.trio_report.specs.inner.Nodes.{node_seen}
 use Rattle.trio_report.proofs.Trees.{begun, visited_at_home}
 use Rattle.trio_report.proofs.tree.tree_lines.Goals as goal
 

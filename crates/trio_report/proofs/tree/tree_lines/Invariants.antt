@@ -1,7 +1,7 @@
 use Rattle.std.proofs.Common.{◌≡◌, ◌++◌, map}
-use Rattle.trio_state.specs.Stored.{core_in}
-use Rattle.trio_state.specs.Tree.{tree_of}
-use Rattle.trio_report.specs.Nodes.{node_seen}
+use Rattle.trio_survey.specs.Stored.{core_in}
+use Rattle.trio_layout.specs.Tree.{tree_of}
+use Rattle.trio_report.specs.inner.Nodes.{node_seen}
 use Rattle.trio_report.proofs.Trees.{AreReached, waiting_lines, waiting_visits}
 use Rattle.trio_report.proofs.tree.tree_lines.Given as goal
 

@@ -1,6 +1,6 @@
 use Rattle.std.proofs.Common.{◌≡◌, ℕ}
 use Rattle.trio_layout.specs.Chain.{chain_of}
-use Rattle.trio_layout.specs.Lists.{result_map}
+use Rattle.trio_lists.specs.Lists.{result_map}
 use Rattle.trio_survey.specs.Seen.{core_with}
 use Rattle.trio_survey.proofs.Chains.{after, rest_of}
 use Rattle.trio_survey.proofs.chain.read_chain.Given as goal

@@ -1,6 +1,6 @@
 use Rattle.std.proofs.Common.{◌≡◌, map, Ok}
 use Rattle.trio_layout.specs.Entries.{slot_entries}
-use Rattle.trio_layout.specs.Lists.{both, gathered_below}
+use Rattle.trio_lists.specs.Lists.{both, gathered_below}
 use Rattle.trio_survey.specs.Seen.{listed_seen}
 use Rattle.trio_survey.proofs.entries.add_page_entries.Given as goal
 

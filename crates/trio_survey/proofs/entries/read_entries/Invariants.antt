@@ -1,6 +1,6 @@
 use Rattle.std.proofs.Common.{◌≡◌, map, take, Ok}
 use Rattle.trio_layout.specs.Entries.{page_entries}
-use Rattle.trio_layout.specs.Lists.{gathered}
+use Rattle.trio_lists.specs.Lists.{gathered}
 use Rattle.trio_survey.specs.Seen.{core_with, listed_seen}
 use Rattle.trio_survey.proofs.entries.read_entries.Given as goal
 

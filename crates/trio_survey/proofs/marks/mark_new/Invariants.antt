@@ -1,6 +1,6 @@
 use Rattle.std.proofs.Common.{◌≡◌, ℕ, List, ◌++◌, take, vec_len}
-use Rattle.trio_layout.specs.Marks.{Marks}
-use Rattle.trio_survey.specs.Walk.{FirstRepeat}
+use Rattle.trio_lists.specs.Marks.{Marks}
+use Rattle.trio_survey.specs.inner.Walk.{FirstRepeat}
 use Rattle.trio_survey.proofs.marks.mark_new.Given as goal
 
 abbrev pub invariant-loop-n : goal.invariant-loop-n

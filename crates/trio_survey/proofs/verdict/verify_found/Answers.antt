@@ -2,7 +2,7 @@ use Rattle.std.proofs.Common.{◌≡◌, IfErr, ap, ◌∙◌, length, subst}
 use Rattle.std.proofs.lemmas.Result.{err_from_is_err_and}
 use Rattle.trio_layout.specs.declared.superblock.Superblock.{Superblock}
 use Rattle.trio_layout.specs.Survey.{plain, survey}
-use Rattle.trio_state.specs.Stored.{core_in, image_in, PagesVerify}
+use Rattle.trio_survey.specs.Stored.{core_in, image_in, PagesVerify}
 use Rattle.trio_survey.specs.Verdict.{IsDenied}
 use Rattle.trio_survey.proofs.Tables.{length-rows_table, length-owners_table}
 use Rattle.trio_survey.proofs.Verdicts.{denied_by_survey, denied_by_tables, verified}

@@ -1,6 +1,6 @@
 use Rattle.std.proofs.Common.{◌≡◌, ◌+◌, ◌-◌}
 use Rattle.trio_survey.specs.Picks.{pick_of}
-use Rattle.trio_survey.specs.Walk.{framed, WalkStands, WalkTables}
+use Rattle.trio_survey.specs.inner.Walk.{framed, WalkStands, WalkTables}
 use Rattle.trio_survey.proofs.whole.survey_picked.Given as goal
 
 abbrev pub invariant-loop-at : goal.invariant-loop-at

@@ -1,6 +1,6 @@
 use Rattle.std.proofs.Common.{◌≡◌, Ok, length, sym}
 use Rattle.trio_checkpoint.specs.Covered.{chain_in, core_of, covered_numbers}
-use Rattle.trio_checkpoint.specs.Steps.{chain_seen}
+use Rattle.trio_checkpoint.specs.inner.Steps.{chain_seen}
 use Rattle.trio_checkpoint.proofs.Copies.{all_stand, copies_are_sheets, covered_are}
 use Rattle.trio_checkpoint.proofs.Restoring.{below_joined, copies_within}
 use Rattle.trio_checkpoint.proofs.checkpoint.Checkpoint.taken.Goals as goal

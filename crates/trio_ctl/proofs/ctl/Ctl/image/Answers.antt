@@ -2,7 +2,7 @@ use Rattle.std.proofs.Common.{◌≡◌, arith, ap, length, subst, sym, ◌∙�
 use Rattle.trio_page.specs.Home.{Pages}
 use Rattle.trio_layout.proofs.Superblocks.{superblock_facts}
 use Rattle.trio_state.specs.State.{State, settled}
-use Rattle.trio_state.specs.Stored.{HasSuperblock, StoresImage}
+use Rattle.trio_survey.specs.Stored.{HasSuperblock, StoresImage}
 use Rattle.trio_image.specs.Image.{IsVerified, TablesAre}
 use Rattle.trio_ctl.specs.Ctl.{superblock_for, with_zeros}
 use Rattle.trio_ctl.proofs.Views.{state_is}

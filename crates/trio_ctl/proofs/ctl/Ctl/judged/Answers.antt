@@ -1,8 +1,8 @@
 use Rattle.std.proofs.Common.{◌≡◌, ◌∙◌, true, false, sym, ap, subst}
-use Rattle.trio_state.specs.Accept.{is_accepted, next}
+use Rattle.trio_layout.specs.Accept.{is_accepted, next}
 use Rattle.trio_state.specs.Given.{GivenTo}
 use Rattle.trio_state.specs.Handed.{bundle_in}
-use Rattle.trio_state.specs.Image.{Image}
+use Rattle.trio_layout.specs.Image.{Image}
 use Rattle.trio_state.specs.State.{State, settled}
 use Rattle.trio_proposal.specs.Judged.{IfAccepted, IfRefused, IsImage}
 use Rattle.trio_ctl.proofs.Views.{state_is}

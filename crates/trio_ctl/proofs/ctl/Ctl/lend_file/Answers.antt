@@ -3,12 +3,12 @@ use Rattle.std.specs.Prelude.{◌==◌, if◌then◌else◌}
 use Rattle.trio_rights.specs.May.{denier}
 use Rattle.trio_rights.specs.declared.rights.Need.TheVariants.{Write as ToWrite}
 use Rattle.trio_tables.specs.Row.{as_row}
-use Rattle.trio_state.specs.Image.{row_at}
+use Rattle.trio_layout.specs.Image.{row_at}
 use Rattle.trio_state.specs.State.{State, creds_of}
 use Rattle.trio_checkpoint.specs.Covered.{chain_in, core_of}
-use Rattle.trio_ctl.specs.Lending.{body_standing}
+use Rattle.trio_ctl.specs.inner.Lending.{body_standing}
 use Rattle.trio_layout.specs.declared.range.CoreRange.{CoreRange}
-use Rattle.trio_state.specs.Sheets.{without_pages}
+use Rattle.trio_page.specs.Sheets.{without_pages}
 use Rattle.trio_ctl.specs.Open.{grant_on, lease_of}
 use Rattle.trio_ctl.proofs.Views.{state_is}
 use Rattle.trio_ctl.proofs.Granting.{refused_step, stands_somewhere, body_is, chain, chain_home, lendable, granted_controlled, granted_step, file_grant, controlled_still}

@@ -1,7 +1,7 @@
 use Rattle.std.proofs.Common.{◌∙◌, ap, sym, Some, None, if◌then◌else◌}
 use Rattle.slab.specs.Slab.{entries_from}
 use Rattle.trio_grants.specs.Grants.{first_with}
-use Rattle.trio_grants.specs.Search.{meets, lower, lowest}
+use Rattle.trio_grants.specs.inner.Search.{meets, lower, lowest}
 use Rattle.trio_grants.proofs.Sorting.{first_with-by_entry, lower_assoc}
 use Rattle.trio_grants.proofs.table.GrantTable.first.Goals as goal
 

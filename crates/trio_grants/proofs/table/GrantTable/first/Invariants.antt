@@ -1,6 +1,6 @@
 use Rattle.std.proofs.Common.{◌≡◌}
 use Rattle.trio_grants.specs.Grants.{first_with}
-use Rattle.trio_grants.specs.Search.{meets, lower, lowest}
+use Rattle.trio_grants.specs.inner.Search.{meets, lower, lowest}
 use Rattle.trio_grants.proofs.table.GrantTable.first.Given as goal
 
 -- the first so far and the rest give the first of all

@@ -1,6 +1,6 @@
 use Rattle.std.proofs.Common.{◌≡◌}
 use Rattle.std.proofs.lemmas.Result.{err_from_is_err_and, IfErr-weaker}
-use Rattle.trio_state.specs.Stored.{BytesVerify}
+use Rattle.trio_survey.specs.Stored.{BytesVerify}
 use Rattle.trio_image.specs.declared.reading.LoadFault.TheVariants.{NoMemory}
 use Rattle.trio_image.specs.Fault.{IsLoadFault, IsPagesFault}
 use Rattle.trio_image.proofs.Refused.{load_refuses, pages_load, read_loads}

@@ -2,7 +2,7 @@ use Rattle.std.proofs.Common.{◌≡◌, ℕ, List, Some, None, eqb, sym, ap, �
 use Rattle.std.specs.List.{position}
 use Rattle.trio_lease.specs.Shown.{LentFile}
 use Rattle.trio_state.specs.Handed.{fresh_sheet}
-use Rattle.trio_state.specs.Sheets.{Sheet}
+use Rattle.trio_page.specs.Sheets.{Sheet}
 use Rattle.trio_raw.specs.Has.{poked_body, with_file}
 use Rattle.trio_raw.specs.Held.{Held}
 use Rattle.trio_raw.specs.Things.{poked_lease_body, with_lease}

@@ -1,7 +1,7 @@
 use Rattle.std.proofs.Common.{◌≡◌, ℕ, List, Some, None, eqb, sym, ap, ◌∙◌, map}
 use Rattle.std.specs.List.{position}
 use Rattle.trio_lease.specs.declared.parts.FreshParts.{FreshParts}
-use Rattle.trio_state.specs.Proposed.{Written}
+use Rattle.trio_layout.specs.Proposed.{Written}
 use Rattle.trio_raw.specs.Has.{poked_sheet, with_fresh}
 use Rattle.trio_raw.specs.Held.{Held, file_of}
 use Rattle.trio_raw.specs.Things.{poked_allotted, with_allotted_page}

@@ -4,7 +4,7 @@ use Rattle.trio_layout.specs.Core.{Place}
 use Rattle.trio_layout.specs.Survey.{file_of}
 use Rattle.trio_survey.specs.Picks.{pick_of}
 use Rattle.trio_survey.specs.Seen.{file_seen, met_seen}
-use Rattle.trio_survey.specs.Walk.{framed}
+use Rattle.trio_survey.specs.inner.Walk.{framed}
 use Rattle.trio_survey.proofs.Fits.{file_within}
 use Rattle.trio_survey.proofs.Roots.{file_rootless}
 use Rattle.trio_survey.proofs.Standing.{file_fails, stands_more}

@@ -1,5 +1,0 @@
-use Rattle.trio_laws.proofs.Statements.{bodies_in_place}
-use Rattle.trio_laws.proofs.surveys.bodies_in_place.Goals as goal
-
-pub returns : goal.returns
-returns c = record { law = bodies_in_place }

@@ -1,5 +1,0 @@
-use Rattle.trio_laws.proofs.Statements.{soundness_is_local}
-use Rattle.trio_laws.proofs.surveys.soundness_is_local.Goals as goal
-
-pub returns : goal.returns
-returns c = record { law = soundness_is_local }

@@ -1,0 +1,69 @@
+-- The tree of an image, as the lines that are told of it: a directory before its children, children in the byte order of names.
+use Rattle.std.specs.Prelude.{ℕ, zero, suc, ◌+◌, Bool, true, false, List, [], ◌∷◌, length, if◌then◌else◌, Result, Ok, Err}
+use Rattle.std.specs.List.{flat_map}
+use Rattle.std.specs.Ordering.{nat_cmp}
+use Rattle.std.specs.Cmp.Lexicographic.{slice_cmp}
+use Rattle.std.specs.declared.cmp.Ordering.{Ordering}
+use Rattle.std.specs.declared.cmp.Ordering.TheVariants.{Less, Equal, Greater}
+use Rattle.trio_rights.specs.declared.kind.Kind.{Kind}
+use Rattle.trio_rights.specs.declared.kind.Kind.TheVariants.{Regular, Directory}
+use Rattle.trio_rights.specs.declared.rights.Mode.{Mode}
+use Rattle.trio_layout.specs.Core.{Core, Place}
+use Rattle.trio_layout.specs.Entries.{Listed}
+use Rattle.trio_layout.specs.Survey.{Met, FileRead, file_of, met_in, plain, root_of}
+
+-- what is told of one file; the size is its bytes, or a directory's number of entries
+pub record TreeLine : Type 0 where
+  pub depth : ℕ
+  pub kind : Kind
+  pub mode : Mode
+  pub uid : ℕ
+  pub gid : ℕ
+  pub size : ℕ
+  pub name : List ℕ
+
+-- a name comes before another, or is it
+abbrev pub is_not_after : Ordering → Bool
+is_not_after Less = true
+is_not_after Equal = true
+is_not_after Greater = false
+
+-- the entries with one more at its place in the order of names
+abbrev pub inserted : Listed → List Listed → List Listed
+inserted l [] = l ∷ []
+inserted l (k ∷ ks) = if is_not_after (slice_cmp nat_cmp l.entry.name k.entry.name) then l ∷ (k ∷ ks) else k ∷ inserted l ks
+
+-- the entries in the byte order of names
+abbrev pub by_name : List Listed → List Listed
+by_name [] = []
+by_name (l ∷ ls) = inserted l (by_name ls)
+
+abbrev pub told_size : Kind → FileRead → ℕ
+told_size Regular f = f.body.size
+told_size Directory f = length f.entries
+
+abbrev pub told_line : ℕ → List ℕ → Kind → FileRead → TreeLine
+told_line depth name kind f = record {
+  depth = depth;
+  kind = kind;
+  mode = f.body.mode;
+  uid = f.body.uid;
+  gid = f.body.gid;
+  size = told_size kind f;
+  name = name;
+}
+
+-- the line of a file, and what `below` gives of each entry, in the order of names
+abbrev pub lines_with : (Listed → List TreeLine) → ℕ → List ℕ → Kind → Result FileRead Place → List TreeLine
+lines_with below depth name kind (Err place) = []
+lines_with below depth name kind (Ok f) = told_line depth name kind f ∷ flat_map below (by_name f.entries)
+
+-- the lines of a file and of what it lists, so many levels down
+abbrev pub lines_from : Core → ℕ → ℕ → List ℕ → Met → List TreeLine
+lines_from core zero depth name m = []
+lines_from core (suc levels) depth name m =
+    lines_with (λ l. lines_from core levels (depth + 1) l.entry.name (met_in plain m.ino l)) depth name m.kind (file_of core m)
+
+-- the whole tree; the root's name is a slash
+unfoldable pub tree_of : Core → List TreeLine
+tree_of core = lines_from core (suc core.inodes) 0 (47 ∷ []) (root_of core)

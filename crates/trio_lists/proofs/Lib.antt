@@ -1,0 +1,4 @@
+pub mod Members
+pub mod MarkLemmas
+pub mod Filters
+pub mod Tabulated

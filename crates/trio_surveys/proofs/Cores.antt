@@ -1,0 +1,66 @@
+-- The pages that a file in the grammar lists are core pages.
+use Rattle.std.proofs.Common.{◌≡◌, ℕ, suc, zero, ◌-◌, min, Bool, true, false, cond, ◌&&◌, eqb, List, [], ◌∷◌, ◌++◌, length, Option, Some, None, Ok, sym, ap, refl, ◌∙◌, subst, inl, inr}
+use Rattle.std.specs.List.{list_all}
+use Rattle.std.specs.Str.{bytes_eq}
+use Rattle.std.proofs.lemmas.Bool.{and_parts}
+use Rattle.std.proofs.lemmas.Option.{cond_some}
+use Rattle.trio_layout.specs.declared.range.CoreRange.{CoreRange}
+use Rattle.trio_layout.specs.Range.{is_core}
+use Rattle.trio_layout.specs.Body.{block_count}
+use Rattle.trio_layout.specs.Index.{Index, index_at, index_bytes, index_fits, index_of, link_fits}
+use Rattle.trio_lists.specs.Lists.{In, result_map}
+use Rattle.trio_layout.specs.Core.{Core, at_page, page_of}
+use Rattle.trio_layout.specs.Chain.{Chain, chain_from, index_count, index_page, with_index}
+use Rattle.trio_layout.specs.Survey.{Met, FileRead, file_of, pages_of}
+use Rattle.trio_lists.proofs.Members.{In-cases, In-left, In-right, all_at, map_ok, then_ok, then_some, there_ok}
+use Rattle.trio_surveys.proofs.Local.{reads_from}
+use Rattle.trio_surveys.proofs.Owned.{pages_are}
+
+page_cond : (b : Bool) (o : Option (List ℕ)) (page : List ℕ) → cond b o None ≡ Some page → b ≡ true
+page_cond true o page e = refl
+page_cond false o page e = absurd cc
+
+pub page_is_core : (core : Core) (at : ℕ) (page : List ℕ) → page_of core at ≡ Some page → is_core core.range at ≡ true
+page_is_core core at page e = page_cond (is_core core.range at) _ page e
+
+index_core : (range : CoreRange) (used : ℕ) (last : Bool) (page : List ℕ) (i : Index) → index_of used last range page ≡ Some i → list_all (is_core range) i.numbers ≡ true
+unfolding index_of
+index_core range used last page i e =
+    let x : Index = index_at used page in
+    let spelled : Bool = bytes_eq page (index_bytes x) in
+    let many : Bool = eqb (length x.numbers) used in
+    let inside : Bool = list_all (is_core range) x.numbers in
+    let c = cond_some (spelled && index_fits used last range x) x i e in
+    let fits = (and_parts spelled (index_fits used last range x) c.0).1 in
+    let p = and_parts (many && inside) (link_fits last range x.next) fits in
+    ap (λ (y : Index). list_all (is_core range) y.numbers) (sym c.1) ∙ (and_parts many inside p.0).1
+
+pub chain_core : (core : Core) (n blocks at : ℕ) (c : Chain) (p : ℕ) → chain_from core n blocks at ≡ Ok c → In p (c.index ++ c.blocks) → is_core core.range p ≡ true
+chain_core core zero blocks at c p e i =
+    let k : record { index = []; blocks = [] } ≡ c = cc e in
+    let none : In p [] = subst (λ (x : Chain). In p (x.index ++ x.blocks)) (sym k) i in absurd none
+chain_core core (suc n) blocks at c p e i =
+    let used : ℕ = min blocks 511 in
+    let s1 = then_ok (λ i. result_map (with_index at i) (chain_from core n (blocks - 511) i.next)) (index_page core at used (eqb n 0)) c e in
+    let x : Index = s1.0 in
+    let s2 = map_ok (with_index at x) (chain_from core n (blocks - 511) x.next) c s1.2 in
+    let s3 = then_some (index_of used (eqb n 0) core.range) (page_of core at) x (there_ok (at_page at) _ x s1.1) in
+    let rest : Chain = s2.0 in
+    let j : In p (at ∷ (rest.index ++ (x.numbers ++ rest.blocks))) = subst (λ (y : Chain). In p (y.index ++ y.blocks)) (sym s2.2) i in
+    elim j [
+      | inl here ↦ ap (is_core core.range) here ∙ page_is_core core at s3.0 s3.1
+      | inr more ↦
+          elim (In-cases p rest.index (x.numbers ++ rest.blocks) more) [
+            | inl a ↦ chain_core core n (blocks - 511) x.next rest p s2.1 (In-left p rest.index rest.blocks a)
+            | inr b ↦
+                elim (In-cases p x.numbers rest.blocks b) [
+                  | inl here ↦ all_at (is_core core.range) p x.numbers (index_core core.range used (eqb n 0) s3.0 x s3.2) here
+                  | inr later ↦ chain_core core n (blocks - 511) x.next rest p s2.1 (In-right p rest.index rest.blocks later)
+                ]
+          ]
+    ]
+
+pub listed_is_core : (core : Core) (m : Met) (f : FileRead) (p : ℕ) → file_of core m ≡ Ok f → In p (pages_of core m) → is_core core.range p ≡ true
+listed_is_core core m f p e i =
+    let r = reads_from core m f e in
+    chain_core core (index_count (block_count f.body.size)) (block_count f.body.size) f.body.head f.chain p r.chain (subst (λ l. In p l) (pages_are core m f e) i)

@@ -1,0 +1,46 @@
+-- The laws of surveys, each from the lemmas that carry it.
+use Rattle.std.proofs.Common.{◌≡◌, ℕ, List, ap, ◌∙◌, subst}
+use Rattle.trio_lists.specs.Lists.{In}
+use Rattle.trio_layout.specs.declared.range.CoreRange.{CoreRange}
+use Rattle.trio_layout.specs.Core.{Core}
+use Rattle.trio_layout.specs.Survey.{Met, Pick, survey, children}
+use Rattle.trio_layout.specs.Sound.{is_sound}
+use Rattle.trio_surveys.specs.Reading.{with_other, AgreeOn}
+use Rattle.trio_surveys.specs.SurveyLaws.{IsAlike, SurveyFollows, SurveyIsLocal, SoundnessIsLocal, SurveyIsTree, FileKeeps, BodiesInPlace}
+use Rattle.trio_surveys.proofs.Local.{survey_follows as follows, survey_local}
+use Rattle.trio_surveys.proofs.SoundLocal.{agreeing_sound}
+use Rattle.trio_surveys.proofs.Tree.{survey_tree}
+use Rattle.trio_surveys.proofs.Picked.{file_put, survey_put, sound_put}
+
+core_is : (a b : Core) → IsAlike a b → b ≡ with_other a b.pages
+core_is a b alike =
+    ap (λ (r : CoreRange). record { pages = b.pages; root = b.root; range = r; inodes = b.inodes }) alike.range
+    ∙ ap (λ (n : ℕ). record { pages = b.pages; root = b.root; range = a.range; inodes = n }) alike.inodes
+    ∙ ap (λ (r : List ℕ). record { pages = b.pages; root = r; range = a.range; inodes = a.inodes }) alike.root
+
+agree_still : (a b : Core) (pick : Pick) → IsAlike a b → AgreeOn a b (survey a pick) → AgreeOn a (with_other a b.pages) (survey a pick)
+agree_still a b pick alike agree =
+    let P : Core → Type 0 = λ c. AgreeOn a c (survey a pick) in subst P (core_is a b alike) agree
+
+pub survey_follows : SurveyFollows
+survey_follows a b p q alike same =
+    let e = core_is a b alike in
+    let P : Core → Type 0 = λ c. (m : Met) → In m (survey a p) → children c q m ≡ children a p m in
+    ap (λ (c : Core). survey c q) e ∙ follows a b.pages p q (subst P e same)
+
+pub survey_is_local : SurveyIsLocal
+survey_is_local a b pick alike grammar agree =
+    ap (λ (c : Core). survey c pick) (core_is a b alike) ∙ survey_local a b.pages pick grammar (agree_still a b pick alike agree)
+
+pub soundness_is_local : SoundnessIsLocal
+soundness_is_local a b pick alike sound agree =
+    ap (λ (c : Core). is_sound c pick) (core_is a b alike) ∙ agreeing_sound a b.pages pick sound (agree_still a b pick alike agree)
+
+pub survey_is_tree : SurveyIsTree
+survey_is_tree core pick one sound = survey_tree core pick one sound
+
+pub file_keeps : FileKeeps
+file_keeps core pick fit sound m f i read = file_put core pick fit sound m f i read
+
+pub bodies_in_place : BodiesInPlace
+bodies_in_place core pick fit sound = (survey_put core pick fit sound, sound_put core pick fit sound)

@@ -1,0 +1,5 @@
+use Rattle.trio_surveys.proofs.Statements.{survey_is_tree}
+use Rattle.trio_surveys.proofs.surveys.survey_is_tree.Goals as goal
+
+pub returns : goal.returns
+returns c = record { law = survey_is_tree }
