@@ -37,3 +37,13 @@ pub filter-filter : {X : Type 0} (p q : X → Bool) (xs : List X) → ((x : X) �
 filter-filter p q [] h = refl
 filter-filter p q (x ∷ xs) h = filter_step p q x xs (p x) (q x) (h x (inl refl)) refl
     (filter-filter p q xs (λ y i. h y (inr i)))
+
+same_step : {X : Type 0} (x : X) (xs ys : List X) (t u : Bool) → t ≡ u → xs ≡ ys → cond t (x ∷ xs) xs ≡ cond u (x ∷ ys) ys
+same_step x xs ys t u e f = rw (e, f) refl
+
+-- tests that agree on a list
+pub filter_same : {X : Type 0} (p q : X → Bool) (xs : List X) → ((x : X) → In x xs → p x ≡ q x)
+    → filter p xs ≡ filter q xs
+filter_same p q [] h = refl
+filter_same p q (x ∷ xs) h =
+    same_step x (filter p xs) (filter q xs) (p x) (q x) (h x (inl refl)) (filter_same p q xs (λ y i. h y (inr i)))

@@ -27,7 +27,8 @@ use Rattle.trio_nodes.specs.GrantKinds.{excludes_kind}
 use Rattle.trio_layout.specs.Pages.{settled_chain, index_sheets, block_sheets}
 use Rattle.trio_state.specs.Allotments.{free_pages, free_numbers, allots}
 use Rattle.trio_state.specs.Bundles.{is_parted, lowest, parted_hold, is_in_bundle, lent_part, grants_after, refused_image, Ends}
-use Rattle.trio_state.specs.Step.{Event, Grant, Allot, Back, Release, Settle, SetMode, Answer, Granted, NotGranted, ModeSet, NotModeSet, NoPages, NoInodes, Given, Done, Accepted, Refused, NotClosed, Settled, NoMemory, Outcome, Does, Step, granted_to, after_grant_fault, grant_outcome, allot_outcome, mode_excluding, mode_fault, moded_to, after_mode_fault, mode_outcome}
+use Rattle.trio_state.specs.Step.{Event, Grant, Allot, Back, Release, Settle, SetMode, Answer, Granted, NotGranted, ModeSet, NotModeSet, NoPages, NoInodes, Given, Done, Accepted, Refused, NotClosed, Settled, NoMemory, Outcome, Does, Step, granted_to, after_grant_fault, grant_outcome, allot_outcome, mode_excluding, mode_fault, moded_to, after_mode_fault, mode_outcome, ReleaseEnd, Parted, IsAccepted, IsRefused}
+use Rattle.trio_state.specs.Tells.{untold}
 use Rattle.trio_state.specs.Kept.{Kept}
 use Rattle.trio_laws.specs.OutLaws.{without_checkpoint}
 use Rattle.trio_laws.specs.Known.{Known, known, plain_state, ended, released, known_done, is_no_memory, known_after, StepsAreKnown, KnownDecides, is_refusal, SameAnswer, SameEventSameAnswer}
@@ -40,7 +41,6 @@ use Rattle.trio_laws.proofs.Grants.{excluded_none}
 use Rattle.trio_laws.proofs.Allots.{uncovered'}
 use Rattle.trio_laws.proofs.Backs.{settled_back}
 use Rattle.trio_laws.proofs.Modes.{with_pages_set, may_change, settled_moded}
-use Rattle.trio_laws.proofs.Releases.{ReleaseEnd, Parted, IsAccepted, IsRefused, release_end}
 use Rattle.trio_laws.proofs.StateLaws.{does_told}
 
 -- ---- lists
@@ -296,7 +296,7 @@ module _ (s : State) (k : Kept s) where
           let image : settled (allots u lib ps ns) ≡ settled (allots s lib ps ns) =
           ap (λ ss. J s (with_pages ss (without_pages ps (with_pages ck s.home.core.pages)))) (sheets-bare s.open_grants)
           ∙ ap (J s)
-          (sym (with_pages-without_pages ck ps s.home.core.pages (λ n i j. uncovered' s k lib count many n i j))) in
+          (sym (with_pages-without_pages ck ps s.home.core.pages (λ n i j. uncovered' s lib count many k n i j))) in
           (known_same (allots u lib ps ns) (allots s lib ps ns) image (bare-bare s.open_grants) refl refl refl refl, refl)
 
   giving_back : (lib ino : ℕ) → known (given_back u lib ino) ≡ known (given_back s lib ino)
@@ -353,7 +353,7 @@ module _ (s : State) (k : Kept s) where
       ending s' lib b _ e
       ∙ ap (λ x. ended (known s) lib b (cond x (next (settled s) b) (refused_image (settled s) b))) (sym sure)
       ∙ ap (released (known s) lib b) (sym (parted_plain s lib b ∙ none))
-  releasing lib b answer s' (IsRefused none not_so a e) =
+  releasing lib b answer s' (IsRefused none not_so why a tells e) =
       ending s' lib b _ e
       ∙ ap (λ x. ended (known s) lib b (cond x (next (settled s) b) (refused_image (settled s) b))) (sym not_so)
       ∙ ap (released (known s) lib b) (sym (parted_plain s lib b ∙ none))
@@ -366,7 +366,7 @@ module _ (s : State) (k : Kept s) where
       ∙ ap (λ f. known (granted_to u lib ino kind f (row_at s.home ino)).after) (sym (grant_fault_plain s lib ino kind))
   doing (Allot lib pages numbers) answer s' d = ap known d.1 ∙ sym (allotting lib pages numbers).0
   doing (Back lib ino) answer s' d = ap known d.1 ∙ sym (giving_back lib ino)
-  doing (Release lib b) answer s' d = releasing lib b answer s' (release_end s s' lib b answer d)
+  doing (Release lib b) answer s' d = releasing lib b answer s' d
   doing (Settle lib b) answer s' d = ending s' lib b _ d.3
   doing (SetMode lib ino mode) answer s' d =
       ap known d.1
@@ -382,7 +382,7 @@ other_answer (NoPages wanted free) other = refl
 other_answer (NoInodes wanted free) other = refl
 other_answer Done other = refl
 other_answer Accepted other = refl
-other_answer Refused other = refl
+other_answer (Refused why) other = refl
 other_answer (NotClosed ino) other = refl
 other_answer Settled other = refl
 other_answer ModeSet other = refl
@@ -412,7 +412,7 @@ known_decides s = record {
 -- the answer to a release by its lowest hold that is parted
 abbrev release_answer : Known → ℕ → Bundle → Option ℕ → Answer
 release_answer k lib b (Some n) = NotClosed n
-release_answer k lib b None = cond (is_accepted k.image (creds_of (plain_state k) lib) b) Accepted Refused
+release_answer k lib b None = cond (is_accepted k.image (creds_of (plain_state k) lib) b) Accepted (Refused untold)
 
 -- the answer to an event, where memory is there
 abbrev known_answer : Known → Event → Answer
@@ -434,11 +434,11 @@ released_answer : (s s' : State) (lib : ℕ) (b : Bundle) (answer : Answer) → 
 released_answer s s' lib b answer (Parted n some a same) =
     inl (a ∙ ap (release_answer (known s) lib b) (sym (parted_plain s lib b ∙ some)))
 released_answer s s' lib b answer (IsAccepted none sure a e) =
-    inl (a ∙ ap (λ x. cond x Accepted Refused) (sym sure)
+    inl (a ∙ ap (λ x. cond x Accepted (Refused untold)) (sym sure)
     ∙ ap (release_answer (known s) lib b) (sym (parted_plain s lib b ∙ none)))
-released_answer s s' lib b answer (IsRefused none not_so a e) =
-    let is : Refused ≡ known_answer (known s) (Release lib b) =
-    ap (λ x. cond x Accepted Refused) (sym not_so) ∙ ap (release_answer (known s) lib b) (sym (parted_plain s lib b
+released_answer s s' lib b answer (IsRefused none not_so why a tells e) =
+    let is : Refused untold ≡ known_answer (known s) (Release lib b) =
+    ap (λ x. cond x Accepted (Refused untold)) (sym not_so) ∙ ap (release_answer (known s) lib b) (sym (parted_plain s lib b
     ∙ none)) in
     inr (ap is_refusal a, sym (ap is_refusal is))
 
@@ -451,7 +451,7 @@ does_answer s k (Grant lib ino kind) answer s' d =
     (sym (grant_fault_plain s lib ino kind)))
 does_answer s k (Allot lib pages numbers) answer s' d = inl (d.0 ∙ sym ((allotting s k lib pages numbers).1))
 does_answer s k (Back lib ino) answer s' d = inl d.0
-does_answer s k (Release lib b) answer s' d = released_answer s s' lib b answer (release_end s s' lib b answer d)
+does_answer s k (Release lib b) answer s' d = released_answer s s' lib b answer d
 does_answer s k (Settle lib b) answer s' d = inl d.0
 does_answer s k (SetMode lib ino mode) answer s' d =
     inl (d.0

@@ -18,15 +18,13 @@ use Rattle.trio_layout.specs.Proposed.{Bundle}
 use Rattle.trio_state.specs.Grants.{grant_fault, opened, opens, given_back}
 use Rattle.trio_state.specs.Allotments.{free_pages, free_numbers, allots}
 use Rattle.trio_state.specs.Bundles.{is_in_bundle, lent_part, grants_after, Ends}
-use Rattle.trio_state.specs.Step.{Event, Grant, Allot, Back, Release, Settle, SetMode, Answer, NoPages, NoInodes, Given, Outcome, after_grant_fault, granted_to, allot_outcome, mode_fault, after_mode_fault, moded_to}
-use Rattle.trio_state.specs.Run.{start, Trace}
+use Rattle.trio_state.specs.Step.{Event, Grant, Allot, Back, Release, Settle, SetMode, Answer, NoPages, NoInodes, Given, Outcome, after_grant_fault, granted_to, allot_outcome, mode_fault, after_mode_fault, moded_to, ReleaseEnd, Parted, IsAccepted, IsRefused}
+use Rattle.trio_state.specs.Run.{start, Move, Trace}
 use Rattle.trio_laws.specs.GrantLaws.{CameBefore, IsOrdered, OrderBegins, OrderStays, GrantsAreOrdered, FirstIsLowest}
 use Rattle.trio_lists.proofs.Members.{In-cases, In-map, map_from}
-use Rattle.trio_laws.proofs.StateFacts.{In_index}
-use Rattle.trio_lists.proofs.Filters.{In_get}
+use Rattle.trio_lists.proofs.Filters.{In_get, In_index}
 use Rattle.trio_lists.proofs.Filters.{filter_in, in_filter}
 use Rattle.trio_laws.proofs.Ended.{pairs_like}
-use Rattle.trio_laws.proofs.Releases.{ReleaseEnd, Parted, IsAccepted, IsRefused, release_end}
 
 -- the same grants in a state of as many entries or more
 same_ordered : (s s' : State) → s'.open_grants ≡ s.open_grants → s.entries ≤ s'.entries → IsOrdered s → IsOrdered s'
@@ -113,7 +111,7 @@ release_ordered : (s s' : State) (lib : ℕ) (b : Bundle) (answer : Answer) → 
     → IsOrdered s → IsOrdered s'
 release_ordered s s' lib b answer (Parted n none e same) o = subst IsOrdered (sym same) o
 release_ordered s s' lib b answer (IsAccepted none t e ends) o = ends_ordered s s' lib b _ ends o
-release_ordered s s' lib b answer (IsRefused none f e ends) o = ends_ordered s s' lib b _ ends o
+release_ordered s s' lib b answer (IsRefused none f why e tells ends) o = ends_ordered s s' lib b _ ends o
 
 mode_fault_ordered : (s : State) (f : ModeFault) → IsOrdered s → IsOrdered (after_mode_fault s f)
 mode_fault_ordered s ModeNotLive o = logged_ordered s o
@@ -137,33 +135,27 @@ order_stays s (Allot lib pages numbers) answer s' o (inl does) =
     subst IsOrdered (sym does.1) (allot_ordered s lib pages numbers o)
 order_stays s (Back lib ino) answer s' o (inl does) = subst IsOrdered (sym does.1) (back_ordered s lib ino o)
 order_stays s (Release lib b) answer s' o (inl does) =
-    release_ordered s s' lib b answer (release_end s s' lib b answer does) o
+    release_ordered s s' lib b answer does o
 order_stays s (Settle lib b) answer s' o (inl does) = ends_ordered s s' lib b _ does.3 o
 order_stays s (SetMode lib ino mode) answer s' o (inl does) =
     subst IsOrdered (sym does.1) (mode_ordered s ino mode (mode_fault s lib ino mode (row_at s.home ino)) o)
 
--- each state of a run is ordered
-trace_ordered : (s : State) (events : List Event) (answers : List Answer) (states : List State) → IsOrdered s
-    → Trace s events answers states → (t : State) → In t states → IsOrdered t
-trace_ordered s [] [] [] o run t i = absurd i
-trace_ordered s [] [] (u ∷ states) o run t i = absurd run
-trace_ordered s [] (answer ∷ answers) states o run t i = absurd run
-trace_ordered s (event ∷ events) [] states o run t i = absurd run
-trace_ordered s (event ∷ events) (answer ∷ answers) [] o run t i = absurd run
-trace_ordered s (event ∷ events) (answer ∷ answers) (u ∷ states) o run t i =
-    let now : IsOrdered u = order_stays s event answer u o run.1 in
+-- each move of a run begins and ends in an ordered state
+trace_ordered : (s : State) (moves : List Move) → IsOrdered s → Trace s moves → (m : Move) → In m moves
+    → IsOrdered m.before × IsOrdered m.after
+trace_ordered s [] o run m i = absurd i
+trace_ordered s (x ∷ moves) o run m i =
+    let before : IsOrdered x.before = subst IsOrdered (sym run.0) o in
+    let after : IsOrdered x.after = order_stays x.before x.event x.answer x.after before run.2 in
+    let B : Move → Type 0 = λ y. IsOrdered y.before × IsOrdered y.after in
     elim i [
-      | inl e ↦ subst IsOrdered (sym e) now
-      | inr j ↦ trace_ordered u events answers states now run.2 t j
+      | inl e ↦ subst B (sym e) (before, after)
+      | inr j ↦ trace_ordered x.after moves after run.3 m j
     ]
 
 pub grants_are_ordered : GrantsAreOrdered
-grants_are_ordered run s i =
-    let begins = order_begins run.image run.creds in
-    elim i [
-      | inl first ↦ subst IsOrdered (sym first) begins
-      | inr later ↦ trace_ordered (start run.image run.creds) run.events run.answers run.states begins run.trace s later
-    ]
+grants_are_ordered run m i =
+    trace_ordered (start run.image run.creds) run.moves (order_begins run.image run.creds) run.trace m i
 
 -- the first of a list in order is the lowest
 first_of : (gs : List OpenGrant) (g h : OpenGrant) → AllPairs CameBefore gs → slice_get gs 0 ≡ Some g → In h gs

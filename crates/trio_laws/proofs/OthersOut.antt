@@ -1,8 +1,10 @@
 -- A step of one library leaves what every other library has out.
-use Rattle.std.proofs.Common.{◌≡◌, ◌≢◌, ℕ, Bool, true, false, cond, ltb, ◌&&◌, ◌||◌, not, eqb, List, [], ◌∷◌, ◌++◌, map, length, take, Option, Some, None, sym, refl, ap, ◌∙◌, inl, inr, append-nil}
+use Rattle.std.proofs.Common.{◌≡◌, ◌≢◌, ℕ, ◌-◌, ◌<◌, ◌≤◌, ◌⊎◌, subst, Bool, true, false, cond, ltb, ◌&&◌, ◌||◌, not, eqb, List, [], ◌∷◌, ◌++◌, map, length, take, Option, Some, None, sym, refl, ap, ◌∙◌, inl, inr, append-nil}
 use Rattle.std.specs.List.{filter}
-use Rattle.std.proofs.lemmas.Bool.{eqb-true, ne_eqb, not_from_false, false_from_ne_true}
+use Rattle.std.specs.Prelude.{is_some}
+use Rattle.std.proofs.lemmas.Bool.{eqb-true, ne_eqb, cases_lt, false≢true}
 use Rattle.std.proofs.lemmas.List.Elements.{filter-append}
+use Rattle.std.proofs.lemmas.List.{get_or_past}
 use Rattle.trio_rights.specs.Row.{Row}
 use Rattle.trio_nodes.specs.declared.grant.GrantKind.{GrantKind}
 use Rattle.trio_nodes.specs.declared.answers.GrantFault.{GrantFault}
@@ -12,21 +14,28 @@ use Rattle.trio_nodes.specs.declared.answers.ModeFault.TheVariants.{NotLive as M
 use Rattle.trio_lists.specs.Lists.{In, is_among, are_new}
 use Rattle.trio_page.specs.Sheets.{sheet_numbers}
 use Rattle.trio_layout.specs.Image.{Image, row_at}
-use Rattle.trio_state.specs.State.{OpenGrant, Out, State, logged}
+use Rattle.trio_rights.specs.declared.rights.LibNo.{LibNo}
+use Rattle.trio_tables.specs.Out.{lib_at, is_out}
+use Rattle.trio_tables.specs.Free.{count_up}
+use Rattle.trio_tables.proofs.OutLemmas.{length-with_all, lib_at-others, lib_at-set}
+use Rattle.trio_state.specs.State.{OpenGrant, State, logged}
 use Rattle.trio_nodes.specs.GrantKinds.{is_read, is_write}
 use Rattle.trio_layout.specs.Proposed.{Bundle, is_written}
 use Rattle.trio_state.specs.Grants.{grant_fault, opened, opens, given_back}
-use Rattle.trio_state.specs.Allotments.{free_pages, free_numbers, allots, out_after}
+use Rattle.trio_state.specs.Allotments.{free_pages, free_numbers, allots, out_with, out_after, is_library}
 use Rattle.trio_state.specs.Bundles.{Ends, grants_after, is_in_bundle, lent_part}
 use Rattle.trio_nodes.specs.GrantKinds.{is_hold}
-use Rattle.trio_state.specs.Step.{Grant, Allot, Back, Release, Settle, SetMode, Answer, NoPages, NoInodes, Given, Outcome, granted_to, after_grant_fault, allot_outcome, mode_fault, moded_to, after_mode_fault}
+use Rattle.trio_state.specs.Step.{Grant, Allot, Back, Release, Settle, SetMode, Answer, NoPages, NoInodes, Given, Outcome, granted_to, after_grant_fault, allot_outcome, mode_fault, moded_to, after_mode_fault, ReleaseEnd, Parted, IsAccepted, IsRefused}
 use Rattle.trio_state.specs.Kept.{Kept}
 use Rattle.trio_state.specs.Given.{GivenTo, WasAllotted}
 use Rattle.trio_laws.specs.OutLaws.{without_checkpoint, grants_to, numbers_to, out_of, OthersKeepOut}
 use Rattle.trio_lists.proofs.Members.{In-among}
-use Rattle.trio_laws.proofs.Filters.{filter-map, filter-filter}
-use Rattle.trio_laws.proofs.Others.{one_out}
-use Rattle.trio_laws.proofs.Releases.{ReleaseEnd, Parted, IsAccepted, IsRefused, release_end}
+use Rattle.trio_laws.proofs.Filters.{filter-map, filter-filter, filter_same}
+use Rattle.trio_laws.proofs.Allots.{page_free, number_free}
+
+none_of : (o : Option LibNo) → is_some o ≡ false → o ≡ None
+none_of None e = refl
+none_of (Some l) e = absurd (false≢true (sym e))
 
 -- what a library has out goes by its grants, pages and numbers
 out_of_same : (s s' : State) (lib : ℕ) → grants_to s'.open_grants lib ≡ grants_to s.open_grants lib
@@ -65,36 +74,49 @@ module _ (mine lib : ℕ) (apart : mine ≢ lib) where
       bare (g ∷ gs) = ap (λ l. without_checkpoint g ∷ l) (bare gs)
 
   -- numbers
-  numbers_to-more : (outs : List Out) (ns : List ℕ) → numbers_to
-      (outs ++ map (λ n. record { lib = mine; number = n }) ns) lib ≡ numbers_to outs lib
-  numbers_to-more outs ns =
-      ap (map (λ (o : Out). o.number))
-      (filter-append (λ (o : Out). eqb o.lib lib) outs (map (λ n. record { lib = mine; number = n }) ns)
-      ∙ ap (λ l. filter (λ (o : Out). eqb o.lib lib) outs ++ l) (none ns)
-      ∙ append-nil (filter (λ (o : Out). eqb o.lib lib) outs))
-    where
-      none : (ns : List ℕ) → filter (λ (o : Out). eqb o.lib lib) (map (λ n. record { lib = mine; number = n }) ns) ≡ []
-      none [] = refl
-      none (n ∷ ns) = ap (λ b. cond b (record {
-        lib = mine;
-        number =
-            n;
-      } ∷ filter (λ (o : Out). eqb o.lib lib) (map (λ n. record { lib = mine; number = n }) ns))
-          (filter (λ (o : Out). eqb o.lib lib) (map (λ n. record { lib = mine; number = n }) ns)))
-          (other_lib mine refl) ∙ none ns
+  numbers_to-same : (outs these : List (Option LibNo)) → length these ≡ length outs
+      → ((n : ℕ) → is_library lib (lib_at these n) ≡ is_library lib (lib_at outs n))
+      → numbers_to these lib ≡ numbers_to outs lib
+  numbers_to-same outs these long same =
+      filter_same (λ n. is_library lib (lib_at these n)) (λ n. is_library lib (lib_at outs n))
+      (count_up 0 (length these - 0)) (λ n i. same n)
+      ∙ ap (λ k. filter (λ n. is_library lib (lib_at outs n)) (count_up 0 (k - 0))) long
 
-  numbers_to-after : (outs : List Out) (these : List ℕ) → are_new [] (map (λ (o : Out). o.number) outs) ≡ true
+  -- numbers that nobody had go out to another library
+  numbers_to-more : (outs : List (Option LibNo)) (ns : List ℕ) → ((n : ℕ) → In n ns → is_out outs n ≡ false)
+      → numbers_to (out_with outs mine ns) lib ≡ numbers_to outs lib
+  numbers_to-more outs ns free =
+      numbers_to-same outs (out_with outs mine ns) (length-with_all (Some (record { 0 = mine })) ns outs)
+      (λ n. by n (is_among n ns) refl (cases_lt n (length outs)))
+    where
+      by : (n : ℕ) (b : Bool) → is_among n ns ≡ b → (n < length outs) ⊎ (length outs ≤ n)
+          → is_library lib (lib_at (out_with outs mine ns) n) ≡ is_library lib (lib_at outs n)
+      by n false e within = ap (is_library lib) (lib_at-others (Some (record { 0 = mine })) ns n outs e)
+      by n true e (inl within) =
+          ap (is_library lib) (lib_at-set (Some (record { 0 = mine })) ns n outs within e)
+          ∙ other_lib mine refl ∙ sym (ap (is_library lib) (none_of (lib_at outs n) (free n (In-among n ns e))))
+      by n true e (inr past) =
+          ap (is_library lib) (get_or_past (out_with outs mine ns) n None
+          (subst (λ k. k ≤ n) (sym (length-with_all (Some (record { 0 = mine })) ns outs)) past))
+          ∙ sym (ap (is_library lib) (get_or_past outs n None past))
+
+  -- numbers that another library had come back
+  numbers_to-after : (outs : List (Option LibNo)) (these : List ℕ)
       → ((n : ℕ) → In n these → WasAllotted outs mine n) → numbers_to (out_after outs these) lib ≡ numbers_to outs lib
-  numbers_to-after outs these new given =
-      ap (map (λ (o : Out). o.number))
-      (filter-filter (λ (o : Out). eqb o.lib lib) (λ (o : Out). not (is_among o.number these)) outs
-      (λ o i t.
-      not_from_false (is_among o.number these)
-      (false_from_ne_true (is_among o.number these)
-      (λ a.
-      let w = given o.number (In-among o.number these a) in
-      let one : w.0 ≡ o = one_out outs w.0 o new w.1 i w.3 in
-      apart (sym w.2 ∙ ap (λ (x : Out). x.lib) one ∙ eqb-true o.lib lib t)))))
+  numbers_to-after outs these given =
+      numbers_to-same outs (out_after outs these) (length-with_all None these outs)
+      (λ n. by n (is_among n these) refl (cases_lt n (length outs)))
+    where
+      by : (n : ℕ) (b : Bool) → is_among n these ≡ b → (n < length outs) ⊎ (length outs ≤ n)
+          → is_library lib (lib_at (out_after outs these) n) ≡ is_library lib (lib_at outs n)
+      by n false e within = ap (is_library lib) (lib_at-others None these n outs e)
+      by n true e (inl within) =
+          ap (is_library lib) (lib_at-set None these n outs within e)
+          ∙ sym (ap (is_library lib) (given n (In-among n these e)) ∙ other_lib mine refl)
+      by n true e (inr past) =
+          ap (is_library lib) (get_or_past (out_after outs these) n None
+          (subst (λ k. k ≤ n) (sym (length-with_all None these outs)) past))
+          ∙ sym (ap (is_library lib) (get_or_past outs n None past))
 
 module _ (s : State) (k : Kept s) (mine lib : ℕ) (apart : mine ≢ lib) where
   after_fault : (f : GrantFault) → out_of (after_grant_fault s f) lib ≡ out_of s lib
@@ -131,8 +153,8 @@ module _ (s : State) (k : Kept s) (mine lib : ℕ) (apart : mine ≢ lib) where
       either false true = refl
       either false false =
           out_of_same s (allots s mine (take count (free_pages s)) (take many (free_numbers s))) lib refl
-          (numbers_to-more mine lib apart s.pages_out (take count (free_pages s)))
-          (numbers_to-more mine lib apart s.numbers_out (take many (free_numbers s)))
+          (numbers_to-more mine lib apart s.pages_out (take count (free_pages s)) (λ n i. (page_free s mine count many n i).1))
+          (numbers_to-more mine lib apart s.numbers_out (take many (free_numbers s)) (λ n i. (number_free s mine count many n i).1))
 
   back : (ino : ℕ) → out_of (given_back s mine ino) lib ≡ out_of s lib
   back ino =
@@ -151,15 +173,15 @@ module _ (s : State) (k : Kept s) (mine lib : ℕ) (apart : mine ≢ lib) where
       (λ g f. ap (λ x. not (x && ((is_write g.kind && is_written b g.ino) ||
       (is_hold g.kind && is_among g.ino b.holds)))) f))
       (ap (λ l. numbers_to l lib) e.pages ∙ numbers_to-after mine lib apart s.pages_out
-      (sheet_numbers b.pages) k.out_once given.pages)
+      (sheet_numbers b.pages) given.pages)
       (ap (λ l. numbers_to l lib) e.numbers
-      ∙ numbers_to-after mine lib apart s.numbers_out b.numbers k.numbers_once given.numbers)
+      ∙ numbers_to-after mine lib apart s.numbers_out b.numbers given.numbers)
 
   release : (b : Bundle) (answer : Answer) (s' : State) → GivenTo s mine b → ReleaseEnd s mine b answer s'
       → out_of s' lib ≡ out_of s lib
   release b answer s' given (Parted n some a same) = ap (λ (x : State). out_of x lib) same
   release b answer s' given (IsAccepted none t a e) = ends b _ s' given e
-  release b answer s' given (IsRefused none f a e) = ends b _ s' given e
+  release b answer s' given (IsRefused none f why a tells e) = ends b _ s' given e
 
   after_no_mode : (f : ModeFault) → out_of (after_mode_fault s f) lib ≡ out_of s lib
   after_no_mode ModeNotLive = refl
@@ -181,7 +203,7 @@ others_keep_out s (Allot mine count many) answer s' lib k given (inl d) apart = 
 others_keep_out s (Back mine ino) answer s' lib k given (inl d) apart = ap (λ (x : State). out_of x lib) d.1
     ∙ back s k mine lib apart ino
 others_keep_out s (Release mine b) answer s' lib k given (inl d) apart =
-    release s k mine lib apart b answer s' given (release_end s s' mine b answer d)
-others_keep_out s (Settle mine b) answer s' lib k given (inl d) apart = ends s k mine lib apart b _ s' given d.3
+    release s k mine lib apart b answer s' given d
+others_keep_out s (Settle mine b) answer s' lib k given (inl d) apart = ends s k mine lib apart b _ s' given.0 d.3
 others_keep_out s (SetMode mine ino mode) answer s' lib k given (inl d) apart = ap (λ (x : State). out_of x lib) d.1
     ∙ set_mode s k mine lib apart ino mode (mode_fault s mine ino mode (row_at s.home ino))

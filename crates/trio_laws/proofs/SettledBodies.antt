@@ -24,7 +24,7 @@ use Rattle.trio_layout.specs.Mode.{with_mode, moded, moded_row}
 use Rattle.trio_state.specs.Grants.{grant_fault, opened, opens}
 use Rattle.trio_state.specs.Allotments.{free_pages, free_numbers, allots}
 use Rattle.trio_state.specs.Bundles.{refused_image, Ends}
-use Rattle.trio_state.specs.Step.{Event, Grant, Allot, Back, Release, Settle, SetMode, Answer, NoPages, NoInodes, Given, NoMemory, Outcome, after_grant_fault, granted_to, allot_outcome, mode_fault, after_mode_fault, moded_to}
+use Rattle.trio_state.specs.Step.{Event, Grant, Allot, Back, Release, Settle, SetMode, Answer, NoPages, NoInodes, Given, NoMemory, Outcome, after_grant_fault, granted_to, allot_outcome, mode_fault, after_mode_fault, moded_to, ReleaseEnd, Parted, IsAccepted, IsRefused}
 use Rattle.trio_state.specs.Kept.{Kept}
 use Rattle.trio_state.specs.Given.{GivenTo}
 use Rattle.trio_laws.specs.ContentLaws.{accepted_body, body_after, SettledBodyGoes}
@@ -44,7 +44,6 @@ use Rattle.trio_laws.proofs.Refusing.{pages as refused_pages, agree as refused_a
 use Rattle.trio_laws.proofs.Survivors.{fit_now, sound_now, held_unwritten, held_met, unheld_row}
 use Rattle.trio_surveys.proofs.ModedImage.{mode_body_other, mode_body_own}
 use Rattle.trio_laws.proofs.Modes.{may_change, settled_moded}
-use Rattle.trio_laws.proofs.Releases.{ReleaseEnd, Parted, IsAccepted, IsRefused, release_end}
 
 -- ---- an accepted bundle
 
@@ -202,8 +201,8 @@ module _ (s : State) (k : Kept s) (lib n : ℕ) where
       either true b q row = refl
       either false true q row = refl
       either false false q row =
-          body_still (settled s) (allot_pages s k lib count many) k.fit (allot_fit s k lib count many) k.verifies
-          (allot_agree s k lib count many) n q row
+          body_still (settled s) (allot_pages s lib count many k) k.fit (allot_fit s lib count many k) k.verifies
+          (allot_agree s lib count many k) n q row
 
   refused : (s' : State) (b : Bundle) (given : GivenTo s lib b) → Closed s lib b
       → Ends s lib b (refused_image (settled s) b) s' → Stays s'
@@ -268,7 +267,7 @@ module _ (s : State) (k : Kept s) (lib n : ℕ) where
       ap (λ (x : State). settled_body (settled x) n) is ∙ ap (λ a. body_after s (Release lib b) a n q) (sym e)
   release s' b answer given (IsAccepted closed t e ends) q row =
       accepted s' b given t ends q row ∙ ap (λ a. body_after s (Release lib b) a n q) (sym e)
-  release s' b answer given (IsRefused closed f e ends) q row =
+  release s' b answer given (IsRefused closed f why e tells ends) q row =
       refused s' b given (closed_unparted s lib b closed) ends q row
       ∙ ap (λ a. body_after s (Release lib b) a n q) (sym e)
 
@@ -294,9 +293,9 @@ settled_body_goes s (Back lib ino) answer s' n q k given (inl does) row =
     ap (λ (x : State). settled_body (settled x) n) does.1
     ∙ ap (λ (i : Image). settled_body i n) (settled_back s k lib ino)
 settled_body_goes s (Release lib b) answer s' n q k given (inl does) row =
-    release s k lib n s' b answer given (release_end s s' lib b answer does) q row
+    release s k lib n s' b answer given does q row
 settled_body_goes s (Settle lib b) answer s' n q k given (inl does) row =
-    accepted s k lib n s' b given does.2 does.3 q row ∙ ap (λ a. body_after s (Settle lib b) a n q) (sym does.0)
+    accepted s k lib n s' b given.0 does.2 does.3 q row ∙ ap (λ a. body_after s (Settle lib b) a n q) (sym does.0)
 settled_body_goes s (SetMode lib ino mode) answer s' n q k given (inl does) row =
     let G : Answer → State → Type 0 = Goes s k lib n (SetMode lib ino mode) in
     let a = moding s k lib n ino mode (row_at s.home ino) (mode_fault s lib ino mode (row_at s.home ino)) refl refl in

@@ -6,7 +6,7 @@ use Rattle.trio_lists.specs.Lists.{In}
 use Rattle.trio_layout.specs.Image.{Image}
 use Rattle.trio_state.specs.State.{OpenGrant, State}
 use Rattle.trio_state.specs.Step.{Event, Answer, Step}
-use Rattle.trio_state.specs.Run.{start}
+use Rattle.trio_state.specs.Run.{Move, start}
 use Rattle.trio_laws.specs.Laws.{AnyRun}
 
 -- the one grant was given before the other
@@ -28,9 +28,9 @@ OrderStays =
     (s : State) (event : Event) (answer : Answer) (s' : State)
     → IsOrdered s → Step s event answer s' → IsOrdered s'
 
--- so each state that a run comes through is ordered
+-- so each move of a run begins and ends in an ordered state
 abbrev pub GrantsAreOrdered : Type 0
-GrantsAreOrdered = (run : AnyRun) (s : State) → In s (start run.image run.creds ∷ run.states) → IsOrdered s
+GrantsAreOrdered = (run : AnyRun) (m : Move) → In m run.moves → IsOrdered m.before × IsOrdered m.after
 
 -- of the open grants that pass a test, the first is that of the lowest entry
 abbrev pub FirstIsLowest : Type 0

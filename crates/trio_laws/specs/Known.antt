@@ -1,11 +1,12 @@
 -- What is determined of a state, and that each step goes by it.
 use Rattle.std.specs.Prelude.{◌≡◌, ◌≢◌, ◌⊎◌, ℕ, ◌+◌, Bool, true, false, List, map, Option, None, Some, if◌then◌else◌, IsTrue}
 use Rattle.trio_rights.specs.declared.rights.Creds.{Creds}
+use Rattle.trio_rights.specs.declared.rights.LibNo.{LibNo}
 use Rattle.trio_rights.specs.Row.{Row}
 use Rattle.trio_nodes.specs.declared.grant.GrantKind.{GrantKind}
 use Rattle.trio_page.specs.Sheets.{sheet_numbers}
 use Rattle.trio_layout.specs.Image.{Image}
-use Rattle.trio_state.specs.State.{OpenGrant, Out, State, settled, creds_of}
+use Rattle.trio_state.specs.State.{OpenGrant, State, settled, creds_of}
 use Rattle.trio_layout.specs.Proposed.{Bundle}
 use Rattle.trio_layout.specs.Accept.{is_accepted, next}
 use Rattle.trio_state.specs.Grants.{grant_fault, opened, given_back}
@@ -20,8 +21,8 @@ use Rattle.trio_laws.specs.OutLaws.{without_checkpoint}
 pub record Known : Type 0 where
   pub image : Image
   pub grants : List OpenGrant
-  pub pages_out : List Out
-  pub numbers_out : List Out
+  pub pages_out : List (Option LibNo)
+  pub numbers_out : List (Option LibNo)
   pub creds : List Creds
   pub entries : ℕ
 
@@ -107,7 +108,7 @@ KnownDecides = (s : State) → GoesByKnown s
 
 -- a bundle was refused
 abbrev pub is_refusal : Answer → Bool
-is_refusal Refused = true
+is_refusal (Refused why) = true
 is_refusal _ = false
 
 -- one answer, but for what a refusal tells

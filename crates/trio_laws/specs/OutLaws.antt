@@ -1,7 +1,11 @@
 -- What a library has out, and that the steps of others leave it.
-use Rattle.std.specs.Prelude.{◌≡◌, ◌≢◌, ℕ, ◌==◌, List, [], map}
+use Rattle.std.specs.Prelude.{◌≡◌, ◌≢◌, ℕ, ◌==◌, List, [], map, length, Option}
 use Rattle.std.specs.List.{filter}
-use Rattle.trio_state.specs.State.{OpenGrant, Out, State}
+use Rattle.trio_rights.specs.declared.rights.LibNo.{LibNo}
+use Rattle.trio_tables.specs.Out.{lib_at}
+use Rattle.trio_tables.specs.Free.{numbers_where}
+use Rattle.trio_state.specs.State.{OpenGrant, State}
+use Rattle.trio_state.specs.Allotments.{is_library}
 use Rattle.trio_state.specs.Step.{Event, Answer, Step}
 use Rattle.trio_state.specs.Kept.{Kept}
 use Rattle.trio_state.specs.Given.{GivenEvent}
@@ -21,9 +25,9 @@ without_checkpoint g = record g { checkpoint = [] }
 abbrev pub grants_to : List OpenGrant → ℕ → List OpenGrant
 grants_to grants lib = map without_checkpoint (filter (λ g. g.lib == lib) grants)
 
--- the numbers that are out to the library
-abbrev pub numbers_to : List Out → ℕ → List ℕ
-numbers_to outs lib = map (λ o. o.number) (filter (λ o. o.lib == lib) outs)
+-- the numbers that are out to the library, the lowest first
+abbrev pub numbers_to : List (Option LibNo) → ℕ → List ℕ
+numbers_to outs lib = numbers_where (λ n. is_library lib (lib_at outs n)) 0 (length outs)
 
 abbrev pub out_of : State → ℕ → HasOut
 out_of s lib = record {
