@@ -5,4 +5,3 @@ pub mod Open
 pub mod Lending
 pub mod Answers
 pub mod Moves
-pub mod Outs

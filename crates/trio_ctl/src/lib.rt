@@ -10,7 +10,6 @@ mod count;
 mod ctl;
 mod lend;
 mod open;
-mod outs;
 mod release;
 mod spread;
 mod store;

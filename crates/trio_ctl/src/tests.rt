@@ -1,7 +1,6 @@
 ghost use Rattle.std.specs.Prelude.{◌≡◌, ◌≤◌, All, IfOk, IfSome, IsSome, length};
 
 use super::*;
-use crate::outs::Outs;
 use std::alloc::Global;
 use std::test::Fail;
 use trio_image::{bytes_of, read};
@@ -236,23 +235,4 @@ fn full_home(alloc: Global, count: u32) -> Result<Home, NoMemory>
         pages.push(Some(Page::zero(alloc)?))?;
     }
     Ok(Home::of(pages))
-}
-
-#[test]
-fn the_lowest_free_ones_are_given(rt: HostRuntime) -> Result<(), Fail> {
-    let alloc = rt.alloc();
-    let mut home = full_home(alloc, 8)?;
-    let owners = Owners::new(alloc, 8, 3)?;
-    let rows = Shadow::new(alloc, 4)?;
-    let mut outs = Outs::new(alloc, 8, 4)?;
-    let mut reads = Reads::new();
-    let lib = LibNo(1);
-    let Ok(given) = outs.take(alloc, &mut home, &owners, &rows, lib, 2, 3, &mut reads) else {
-        return Err("nothing was given".into());
-    };
-    let pages = given.pages.iter().map(|page| page.no().0).eq([3, 4]);
-    let inodes = given.inodes.iter().map(|ino| ino.no()).eq([1, 2, 3]);
-    given.discard();
-    assert!(rt; pages && inodes);
-    Ok(())
 }

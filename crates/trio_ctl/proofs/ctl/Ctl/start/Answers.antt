@@ -5,7 +5,7 @@ use Rattle.trio_state.specs.Stored.{HasSuperblock}
 use Rattle.trio_image.specs.Image.{IsVerified}
 use Rattle.trio_image.proofs.Superblocks.{superblock_there}
 use Rattle.trio_layout.specs.declared.superblock.Superblock.{Superblock}
-use Rattle.trio_ctl.specs.Outs.{nothing_out}
+use Rattle.trio_allot.specs.Out.{nothing_out}
 use Rattle.trio_ctl.proofs.Starting.{same_image, started}
 use Rattle.trio_ctl.proofs.ctl.Ctl.start.Goals as goal
 
@@ -23,7 +23,7 @@ invariant_of-result c =
     let has = v.whole.superblock in
     started image.superblock c.superblock-superblock.result home c.verify_found.new.home.pages c.in-Ok-verify_found.found.rows c.in-Ok-verify_found.found.owners c.new-in-Ok-verify_found.result c.new-in-Ok-verify_found-2.result.items c.in-Ok.outs c.args.libs.items v
     c.superblock-superblock.ensures.superblock c.verify_found.ensures.pages
-    (c.in-Ok-verify_found.ensures.rows image.superblock has) (c.in-Ok-verify_found.ensures.owners image.superblock has) c.new-in-Ok-verify_found.ensures c.new-in-Ok-verify_found-2.ensures.items (c.in-Ok.ensures.empty ∙ ap (λ (x : Superblock). nothing_out x.pages x.inodes) c.superblock-superblock.ensures.superblock) (omega arith) (omega arith)
+    (c.in-Ok-verify_found.ensures.rows image.superblock has) (c.in-Ok-verify_found.ensures.owners image.superblock has) c.new-in-Ok-verify_found.ensures c.new-in-Ok-verify_found-2.ensures.items (c.in-Ok.ensures ∙ ap (λ (x : Superblock). nothing_out x.pages x.inodes) c.superblock-superblock.ensures.superblock) (omega arith) (omega arith)
 
 pub returns-in-Err-clause-back : goal.returns-in-Err-clause-back
 returns-in-Err-clause-back c =
@@ -40,5 +40,5 @@ returns-in-Ok-verify_found-clause-kept c =
     let has = v.whole.superblock in
     let all = started image.superblock c.superblock-superblock.result home c.verify_found.new.home.pages c.in-Ok-verify_found.found.rows c.in-Ok-verify_found.found.owners c.new-in-Ok-verify_found.result c.new-in-Ok-verify_found-2.result.items c.in-Ok.outs c.args.libs.items v
     c.superblock-superblock.ensures.superblock c.verify_found.ensures.pages
-    (c.in-Ok-verify_found.ensures.rows image.superblock has) (c.in-Ok-verify_found.ensures.owners image.superblock has) c.new-in-Ok-verify_found.ensures c.new-in-Ok-verify_found-2.ensures.items (c.in-Ok.ensures.empty ∙ ap (λ (x : Superblock). nothing_out x.pages x.inodes) c.superblock-superblock.ensures.superblock) (omega arith) (omega arith) in
+    (c.in-Ok-verify_found.ensures.rows image.superblock has) (c.in-Ok-verify_found.ensures.owners image.superblock has) c.new-in-Ok-verify_found.ensures c.new-in-Ok-verify_found-2.ensures.items (c.in-Ok.ensures ∙ ap (λ (x : Superblock). nothing_out x.pages x.inodes) c.superblock-superblock.ensures.superblock) (omega arith) (omega arith) in
     all.kept
