@@ -1,6 +1,7 @@
 -- How a run ends, and what the whole work comes to.
 use Rattle.std.proofs.Common.{◌≡◌, ℕ, zero, suc, ◌+◌, ◌<◌, ◌≤◌, min, List, [], ◌∷◌, ◌++◌, length, take, get_or, Option, Bool, map, inl, inr, refl, sym, ap, subst, ◌∙◌, arith}
 use Rattle.std.proofs.lemmas.List.{append-nil, append_assoc}
+use Rattle.trio_tables.specs.Out.{NoneOut}
 use Rattle.trio_io.specs.Shelf.{Shelf, Rose, RisesAt, KeepsOthers, told}
 use Rattle.trio_layout.specs.Core.{Core}
 use Rattle.trio_layout.specs.declared.superblock.Superblock.{Superblock}
@@ -55,7 +56,7 @@ reported lines tolds seen end end' ctl counts t last report same ended counted i
 -- what a run comes to
 pub run_end : (s t : Superblock) (pages last : List (Option (List ℕ))) (libs : List Creds) (first final : State) (lines : List SaidLine) (none after : List LineAnswer) (end : EndAnswer) (counts : CtlCounts) (report bytes : List ℕ)
     → Kept first → libs ≡ libraries → first ≡ start (image_in s pages) libs → none ≡ [] → ScriptPlayed first.home first.creds lines none after end final
-    → counts ≡ counts_in_tables final.home.rows final.home.owners → t ≡ superblock_for (settled final).core → (final.pages_out ≡ [] → StoresImage t (settled final) last) → bytes ≡ bytes_in last → BytesVerify bytes
+    → counts ≡ counts_in_tables final.home.rows final.home.owners → t ≡ superblock_for (settled final).core → (NoneOut final.pages_out → StoresImage t (settled final) last) → bytes ≡ bytes_in last → BytesVerify bytes
     → report ≡ lib_heading 1 Raw ++ answers_text lines (map answer_seen after) ++ end_line end ++ tree_text (tree_of (core_in t last)) ++ counts_text (record { inodes = counts.inodes; pages = counts.pages; free = counts.free })
     → IsRunEnd s pages lines report bytes
 run_end s t pages last libs first final lines none after end counts report bytes k libs_are started nothing script counted is stores bytes_are verify text =
@@ -64,7 +65,7 @@ run_end s t pages last libs first final lines none after end counts report bytes
     let played : Played (image_in s pages) libraries lines = script'.played in
     let seen : map answer_seen after ≡ played.tolds = script'.told ∙ ap (λ ns. map answer_seen ns ++ played.tolds) nothing in
     let k' : Kept (start (image_in s pages) libraries) = subst Kept begun k in
-    let here : final.pages_out ≡ [] = ap (λ (f : State). f.pages_out) (sym script'.last) ∙ no_page_out (image_in s pages) libraries lines played k' in
+    let here : NoneOut final.pages_out = subst (λ (f : State). NoneOut f.pages_out) script'.last (no_page_out (image_in s pages) libraries lines played k') in
     let stored : StoresImage t (settled played.last.state) last = subst (λ (f : State). StoresImage t (settled f) last) (sym script'.last) (stores here) in
     let is' : t ≡ superblock_for (settled played.last.state).core = is ∙ ap (λ (f : State). superblock_for (settled f).core) (sym script'.last) in
     let counted' : counts ≡ counts_in_tables played.last.state.home.rows played.last.state.home.owners = counted ∙ ap (λ (f : State). counts_in_tables f.home.rows f.home.owners) (sym script'.last) in

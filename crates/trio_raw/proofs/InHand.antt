@@ -304,7 +304,7 @@ lent_is_in_hand s lib has g h mine kind none full =
     let w : Written = lent_file g in
     let now : Has = record { files = has.files ++ w ∷ []; pages = has.pages; numbers = has.numbers } in
     let inos : List ℕ = map (λ (v : Written). v.ino) has.files in
-    let stays : InHand (opens s g) lib has = stays_in_hand s lib has (opens s g) h (λ x i a b. In-left x s.open_grants (g ∷ []) i) (λ o i a. i) (λ o i a. i) in
+    let stays : InHand (opens s g) lib has = stays_in_hand s lib has (opens s g) h (λ x i a b. In-left x s.open_grants (g ∷ []) i) (λ n out. out) (λ n out. out) in
     let new : is_among g.ino inos ≡ false =
     not_among g.ino inos (λ i.
     let r = map_from (λ (v : Written). v.ino) g.ino has.files i in

@@ -4,7 +4,7 @@ use Rattle.std.specs.Prelude.{map, is_some, slice_get, slice_index}
 use Rattle.std.specs.List.{filter, cons_option}
 use Rattle.std.specs.Option.{option_map}
 use Rattle.std.proofs.lemmas.Bool.{and_parts, and_from, or_left, or_right, eq-eqb, both_ways, false≢true, not-true, not_from_false, cases_Bool}
-use Rattle.std.proofs.lemmas.List.{append-nil}
+use Rattle.std.proofs.lemmas.List.{length_push}
 use Rattle.trio_rights.specs.Row.{Row}
 use Rattle.trio_rights.specs.declared.rights.LibNo.{LibNo}
 use Rattle.trio_tables.specs.Free.{count_up}
@@ -14,7 +14,7 @@ use Rattle.trio_nodes.specs.declared.answers.GrantFault.{GrantFault}
 use Rattle.trio_nodes.specs.declared.answers.GrantFault.TheVariants.{Busy, NotLive}
 use Rattle.trio_layout.specs.Chain.{Chain}
 use Rattle.trio_layout.specs.Core.{Core, Place, page_of}
-use Rattle.trio_layout.specs.Lists.{In, is_among, are_new}
+use Rattle.trio_layout.specs.Lists.{In, is_among, are_new, tabulated}
 use Rattle.trio_state.specs.Sheets.{Sheet}
 use Rattle.trio_state.specs.Image.{row_at}
 use Rattle.trio_state.specs.State.{OpenGrant, State, settled, logged}
@@ -139,6 +139,10 @@ free_may outs test from n count fits =
           (omega (arith, lt, fits), not-true (is_out outs x) (and_parts (test x) (not (is_out outs x)) k.1).1)),
       take_new count [] free (filter_new (λ x. test x && not (is_out outs x)) [] (count_up from n) (count_new from n [] (λ x i. absurd i))),
     )
+
+length-tabulated : {X : Type 0} (f : ℕ → X) (n : ℕ) → length (tabulated f n) ≡ n
+length-tabulated f zero = refl
+length-tabulated f (suc n) = let l = length_push (tabulated f n) (f n) in let ih = length-tabulated f n in omega (arith, l, ih)
 
 pub given_out_is_in_hand : GivenOutIsInHand
 given_out_is_in_hand s lib has wanted_pages wanted_numbers pages numbers s' kept h comes =
