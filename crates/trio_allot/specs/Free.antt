@@ -22,3 +22,10 @@ abbrev pub RefusesInodes : ℕ → ℕ → AllotFault → Type 0
 RefusesInodes n count (NoPages wanted free) = ⊥
 RefusesInodes n count (NoInodes wanted free) = (wanted ≡ n) × (free ≡ count) × (count < n)
 RefusesInodes n count NoMemory = n ≤ count
+
+-- Why so many pages and inode numbers weren't handed out where so many are free. Pages come first. Where enough of both are free
+-- it is want of memory.
+abbrev pub RefusesBoth : (pages numbers free_pages free_numbers : ℕ) → AllotFault → Type 0
+RefusesBoth pages numbers ps ns (NoPages wanted free) = (wanted ≡ pages) × (free ≡ ps) × (ps < pages)
+RefusesBoth pages numbers ps ns (NoInodes wanted free) = (wanted ≡ numbers) × (free ≡ ns) × (pages ≤ ps) × (ns < numbers)
+RefusesBoth pages numbers ps ns NoMemory = (pages ≤ ps) × (numbers ≤ ns)

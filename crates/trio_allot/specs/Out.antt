@@ -1,9 +1,9 @@
 -- What is out by allotment, and how it goes out and comes back.
-use Rattle.std.specs.Prelude.{ℕ, zero, suc, ◌+◌, List, [], ◌∷◌, map, Option, Some, slice_set}
+use Rattle.std.specs.Prelude.{ℕ, zero, suc, ◌+◌, List, [], ◌∷◌, map, Option, Some, None, slice_set}
 use Rattle.trio_page.specs.Field.{zeros}
 use Rattle.trio_page.specs.Home.{raised}
 use Rattle.trio_rights.specs.declared.rights.LibNo.{LibNo}
-use Rattle.trio_tables.specs.Out.{none_out}
+use Rattle.trio_tables.specs.Out.{none_out, with_all}
 use Rattle.trio_lease.specs.declared.parts.FreshParts.{FreshParts}
 use Rattle.trio_lease.specs.declared.parts.InoParts.{InoParts}
 
@@ -15,6 +15,17 @@ pub record OutTo : Type 0 where
 -- nothing is out of so many pages and so many inode numbers; the number 0 has its place, and is none
 abbrev pub nothing_out : ℕ → ℕ → OutTo
 nothing_out pages inodes = record { pages = none_out pages; numbers = none_out (inodes + 1) }
+
+-- once these pages and numbers went out to a library
+abbrev pub outs_with : OutTo → LibNo → List ℕ → List ℕ → OutTo
+outs_with outs lib pages numbers = record {
+  pages = with_all (Some lib) pages outs.pages;
+  numbers = with_all (Some lib) numbers outs.numbers;
+}
+
+-- once these pages and numbers are back
+abbrev pub outs_after : OutTo → List ℕ → List ℕ → OutTo
+outs_after outs pages numbers = record { pages = with_all None pages outs.pages; numbers = with_all None numbers outs.numbers }
 
 -- a page that goes out: its number, and all zero bytes
 abbrev pub fresh_page : LibNo → ℕ → FreshParts

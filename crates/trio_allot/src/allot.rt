@@ -4,9 +4,9 @@ ghost use Rattle.std.specs.Prelude.{◌≡◌, ◌+◌, ◌<◌, ◌≤◌, ◌�
 ghost use Rattle.trio_page.specs.Field.{zeros};
 ghost use Rattle.trio_page.specs.Home.{raised};
 ghost use Rattle.trio_tables.specs.Free.{free_numbers, free_pages, is_free_number, is_free_page, numbers_where};
-ghost use Rattle.trio_allot.specs.Free.{FreeAreHome, RefusesInodes, RefusesPages};
+ghost use Rattle.trio_allot.specs.Free.{FreeAreHome, RefusesBoth, RefusesInodes, RefusesPages};
 ghost use Rattle.trio_tables.specs.Out.{lib_at, with_all};
-ghost use Rattle.trio_allot.specs.Out.{fresh_number, fresh_page, inode_numbers, nothing_out, page_numbers, raised_by, with_pages};
+ghost use Rattle.trio_allot.specs.Out.{fresh_number, fresh_page, inode_numbers, nothing_out, outs_after, outs_with, page_numbers, raised_by, with_pages};
 
 use std::alloc::Global;
 use std::marker::Model;
@@ -208,6 +208,115 @@ impl Allotments {
         Ok(given)
     }
 
+    /// Takes the lowest free pages and inode numbers out, so many of each, as `take_pages` and
+    /// `take_inodes` do. All memory is taken before the first page leaves home.
+    ///
+    /// The tables are those of the image, and each free page is at home.
+    ///
+    /// Nothing changes on an error. `NoPages` exactly where more pages are wanted than are free;
+    /// `NoInodes` exactly where enough pages are free, and more inode numbers are wanted than are;
+    /// each tells both numbers. `NoMemory`: there was no memory for the lists.
+    pub fn take(
+        &mut self,
+        home: &mut Home,
+        owners: &Owners,
+        rows: &Shadow,
+        lib: LibNo,
+        pages: u32,
+        inodes: u32,
+        reads: &mut Reads,
+    ) -> Result<Allotted, AllotFault>
+        requires page_count { length self.old.pages ≡ length owners.now }
+        requires inode_count { length self.old.numbers ≡ length rows.now }
+        requires there { FreeAreHome owners.now self.old.pages home.old.pages }
+        ensures enough_pages { OnOk result (pages ≤ length (free_pages owners.now self.old.pages)) }
+        ensures enough_inodes { OnOk result (inodes ≤ length (free_numbers rows.now self.old.numbers)) }
+        ensures pages { let free = free_pages owners.now self.old.pages in
+            IfOk result (λ given. given.pages.items ≡ map (fresh_page lib) (take pages free)) }
+        ensures inodes { let free = free_numbers rows.now self.old.numbers in
+            IfOk result (λ given. given.inodes.items ≡ map (fresh_number lib) (take inodes free)) }
+        ensures out { let ps = free_pages owners.now self.old.pages in
+            let ns = free_numbers rows.now self.old.numbers in
+            OnOk result (self.new ≡ outs_with self.old lib (take pages ps) (take inodes ns)) }
+        ensures home { let free = free_pages owners.now self.old.pages in
+            OnOk result (home.new ≡ record {
+              pages = with_all None (take pages free) home.old.pages;
+              looked = raised_by pages home.old.looked;
+            }) }
+        ensures reads { OnOk result (reads.new ≡ raised_by pages reads.old) }
+        ensures refused { let ps = free_pages owners.now self.old.pages in
+            let ns = free_numbers rows.now self.old.numbers in
+            IfErr result (RefusesBoth pages inodes (length ps) (length ns)) }
+        ensures kept { OnErr result
+            ((self.new ≡ self.old) × (home.new ≡ home.old) × (reads.new ≡ reads.old)) }
+    {
+        let pages_free = self.free_pages(owners);
+        if pages_free < pages {
+            return Err(AllotFault::NoPages {
+                wanted: pages,
+                free: pages_free,
+            });
+        }
+        let inodes_free = self.free_inodes(rows);
+        if inodes_free < inodes {
+            return Err(AllotFault::NoInodes {
+                wanted: inodes,
+                free: inodes_free,
+            });
+        }
+        self.take_enough(home, owners, rows, lib, pages, inodes, reads)
+    }
+
+    // takes pages and inode numbers of which enough are free
+    fn take_enough(
+        &mut self,
+        home: &mut Home,
+        owners: &Owners,
+        rows: &Shadow,
+        lib: LibNo,
+        pages: u32,
+        inodes: u32,
+        reads: &mut Reads,
+    ) -> Result<Allotted, AllotFault>
+        requires page_count { length self.old.pages ≡ length owners.now }
+        requires inode_count { length self.old.numbers ≡ length rows.now }
+        requires there { FreeAreHome owners.now self.old.pages home.old.pages }
+        requires enough_pages { pages ≤ length (free_pages owners.now self.old.pages) }
+        requires enough_inodes { inodes ≤ length (free_numbers rows.now self.old.numbers) }
+        ensures pages { let free = free_pages owners.now self.old.pages in
+            IfOk result (λ given. given.pages.items ≡ map (fresh_page lib) (take pages free)) }
+        ensures inodes { let free = free_numbers rows.now self.old.numbers in
+            IfOk result (λ given. given.inodes.items ≡ map (fresh_number lib) (take inodes free)) }
+        ensures out { let ps = free_pages owners.now self.old.pages in
+            let ns = free_numbers rows.now self.old.numbers in
+            OnOk result (self.new ≡ outs_with self.old lib (take pages ps) (take inodes ns)) }
+        ensures home { let free = free_pages owners.now self.old.pages in
+            OnOk result (home.new ≡ record {
+              pages = with_all None (take pages free) home.old.pages;
+              looked = raised_by pages home.old.looked;
+            }) }
+        ensures reads { OnOk result (reads.new ≡ raised_by pages reads.old) }
+        ensures refused { IfErr result (λ fault. fault ≡ AllotFault.NoMemory) }
+        ensures kept { OnErr result
+            ((self.new ≡ self.old) × (home.new ≡ home.old) × (reads.new ≡ reads.old)) }
+    {
+        let numbers = self.take_inodes(rows, lib, inodes)?;
+        match self.take_pages(home, owners, lib, pages, reads) {
+            Ok(pages) => Ok(Allotted {
+                pages,
+                inodes: numbers,
+            }),
+            Err(fault) => {
+                let back = Allotted {
+                    pages: Vec::new(self.alloc),
+                    inodes: numbers,
+                };
+                self.put_back(home, back);
+                Err(fault)
+            }
+        }
+    }
+
     /// Brings the pages home as they are, and ends the allotment of all pages and numbers of
     /// `back`, whether they are out or not. A page that stands there twice is at home as it came
     /// last. Takes no memory, and counts no look.
@@ -218,10 +327,7 @@ impl Allotments {
         requires pages { All (λ n. n < length self.old.pages) (page_numbers back.pages.items) }
         requires numbers { All (λ n. n < length self.old.numbers) (inode_numbers back.inodes.items) }
         requires within { All (λ n. n < length home.old.pages) (page_numbers back.pages.items) }
-        ensures ended { self.new ≡ record {
-          pages = with_all None (page_numbers back.pages.items) self.old.pages;
-          numbers = with_all None (inode_numbers back.inodes.items) self.old.numbers;
-        } }
+        ensures ended { self.new ≡ outs_after self.old (page_numbers back.pages.items) (inode_numbers back.inodes.items) }
         ensures home { home.new
             ≡ record home.old { pages = with_pages back.pages.items home.old.pages } }
     {

@@ -2,6 +2,7 @@
 use Rattle.std.proofs.Common.{◌≡◌, ℕ, zero, suc, ◌+◌, ◌<◌, ◌≤◌, min, List, [], ◌∷◌, ◌++◌, length, take, get_or, Option, Bool, inl, inr, refl, sym, ap, subst, ◌∙◌, arith}
 use Rattle.std.proofs.lemmas.List.{append-nil, append_assoc}
 use Rattle.trio_io.specs.Shelf.{Shelf, OnlyReplaces, Rose, told}
+use Rattle.trio_tables.specs.Out.{NoneOut}
 use Rattle.trio_layout.specs.Core.{Core}
 use Rattle.trio_layout.specs.declared.superblock.Superblock.{Superblock}
 use Rattle.trio_layout.specs.Image.{Image}
@@ -61,7 +62,7 @@ reported lines tolds seen end end' ctl t last report same ended tables is stores
 -- what a run comes to
 pub run_end : (s t : Superblock) (pages last : List (Option (List ℕ))) (libs : List Creds) (first final : State) (lines : List ScriptLine) (none after : List LineAnswer) (end : EndAnswer) (report bytes : List ℕ)
     → Kept first → libs ≡ libraries → first ≡ start (image_in s pages) libs → none ≡ [] → ScriptPlayed first.home first.creds lines none after end final
-    → TablesAre t last (settled final).rows (settled final).owners → t ≡ superblock_for (settled final).core → (final.pages_out ≡ [] → StoresImage t (settled final) last) → bytes ≡ bytes_in last → BytesVerify bytes
+    → TablesAre t last (settled final).rows (settled final).owners → t ≡ superblock_for (settled final).core → (NoneOut final.pages_out → StoresImage t (settled final) last) → bytes ≡ bytes_in last → BytesVerify bytes
     → report ≡ lib_heading 1 Raw ++ answers_text lines after ++ end_line end ++ tree_text (tree_of (core_in t last)) ++ counts_text (told_counts (counts_of (image_in t last)))
     → IsRunEnd s pages lines report bytes
 run_end s t pages last libs first final lines none after end report bytes k libs_are started nothing script tables is stores bytes_are verify text =
@@ -70,7 +71,7 @@ run_end s t pages last libs first final lines none after end report bytes k libs
     let played : Played (image_in s pages) libraries lines = script'.played in
     let seen : after ≡ played.tolds = script'.told ∙ ap (λ ns. ns ++ played.tolds) nothing in
     let k' : Kept (start (image_in s pages) libraries) = subst Kept begun k in
-    let here : final.pages_out ≡ [] = ap (λ (f : State). f.pages_out) (sym script'.last) ∙ no_page_out (image_in s pages) libraries lines played k' in
+    let here : NoneOut final.pages_out = subst (λ (f : State). NoneOut f.pages_out) script'.last (no_page_out (image_in s pages) libraries lines played k') in
     let stored : StoresImage t (settled played.last.state) last = subst (λ (f : State). StoresImage t (settled f) last) (sym script'.last) (stores here) in
     let is' : t ≡ superblock_for (settled played.last.state).core = is ∙ ap (λ (f : State). superblock_for (settled f).core) (sym script'.last) in
     let tables' : TablesAre t last (settled played.last.state).rows (settled played.last.state).owners = subst (λ (f : State). TablesAre t last (settled f).rows (settled f).owners) (sym script'.last) tables in

@@ -1,6 +1,7 @@
 -- The claim, of a script that is played on an image that verifies.
 use Rattle.std.proofs.Common.{◌≡◌, List, [], subst, inl, inr}
 use Rattle.std.proofs.lemmas.Bool.{false≢true}
+use Rattle.trio_tables.specs.Out.{NoneOut}
 use Rattle.trio_rights.specs.declared.rights.Creds.{Creds}
 use Rattle.trio_layout.specs.Image.{Image, IsFit}
 use Rattle.trio_state.specs.Kept.{Kept}
@@ -53,5 +54,5 @@ pub headline : (image : Image) (creds : List Creds) (lines : List ScriptLine) (p
 headline image creds lines played k = headline_of image creds lines played k.fit k.verifies (started_whole image creds k)
 
 -- at its end no page is out
-pub no_page_out : (image : Image) (creds : List Creds) (lines : List ScriptLine) (played : Played image creds lines) → Kept (start image creds) → played.last.state.pages_out ≡ []
+pub no_page_out : (image : Image) (creds : List Creds) (lines : List ScriptLine) (played : Played image creds lines) → Kept (start image creds) → NoneOut played.last.state.pages_out
 no_page_out image creds lines played k = (ends_free image creds lines played k.fit k.verifies (started_whole image creds k)).pages

@@ -1,7 +1,9 @@
 -- Pages that are brought home one list after another.
 use Rattle.std.proofs.Common.{◌≡◌, ℕ, zero, suc, ◌+◌, ◌<◌, Bool, true, false, ◌==◌, List, [], ◌∷◌, ◌++◌, length, map, take, get_or, set, reverse, Some, None, is_some, IsTrue, refl, sym, ap, subst, ◌∙◌, ◌⊎◌, inl, inr, ◌≢◌, arith, get_or-set_same, get_or-set_other}
 use Rattle.std.proofs.Math.Seq.{take-suc}
-use Rattle.std.specs.Prelude.{◌||◌, nat_le, if◌then◌else◌}
+use Rattle.std.specs.Prelude.{All, ◌||◌, nat_le, if◌then◌else◌}
+use Rattle.std.proofs.lemmas.List.Elements.{All-from_get_or}
+use Rattle.trio_layout.proofs.MarkLemmas.{below_at}
 use Rattle.std.specs.List.{flat_map, find, list_all}
 use Rattle.std.proofs.lemmas.Bool.{and_parts, cases_eq, eq-eqb, leb-true, ne_eqb}
 use Rattle.std.proofs.lemmas.List.{reverse-append}
@@ -19,9 +21,9 @@ use Rattle.trio_state.specs.Handed.{bundle_in, fresh_sheet, lent_sheet, written_
 use Rattle.trio_layout.specs.Proposed.{Written, bundle_sheets}
 use Rattle.trio_page.specs.Sheets.{Sheet, sheet_numbers, with_pages}
 use Rattle.trio_checkpoint.proofs.Restoring.{below_joined, below_parts, length-with_pages, with_pages-append}
-use Rattle.trio_ctl.specs.Moves.{file_sheets, lent_uncovered, uncovered_sheets}
-use Rattle.trio_ctl.specs.Outs.{HasPlaces, OutNow, outs_after}
-use Rattle.trio_ctl.proofs.OutLists.{fresh_numbers}
+use Rattle.trio_ctl.specs.Moves.{file_sheets, lent_uncovered, uncovered_sheets, HasPlaces}
+use Rattle.trio_allot.specs.Out.{OutTo, outs_after}
+use Rattle.trio_ctl.proofs.Outs.{fresh_numbers}
 
 -- With the pages that are left put too, home is as the start with all of them put.
 pub record Left (home start : Pages) (rest all : List Sheet) : Type 0 where
@@ -135,14 +137,17 @@ uncovered_are parts b is =
     ∙ ap (λ ss. ss ++ map fresh_sheet parts.pages.items)
     (flat_map-map (λ (w : Written). uncovered_of w.kind w.blocks) (λ (f : LentFile). written_in f.stands) parts.writes.items)
 
+pub All-below : (n : ℕ) (xs : List ℕ) → IsTrue (all_below n xs) → All (λ m. m < n) xs
+All-below n xs below = All-from_get_or (λ m. m < n) xs 0 (λ i lt. below_at n xs i lt below)
+
 -- what of a bundle was allotted, by its parts
-pub places_of : (parts : BundleParts) (b : Bundled) (outs : OutNow) → bundled parts ≡ b → HasPlaces outs (bundle_in b)
-    → IsTrue (all_below outs.page_count (page_numbers parts.pages.items)) × IsTrue (all_below (outs.inode_count + 1) (inode_numbers parts.inodes.items))
+pub places_of : (parts : BundleParts) (b : Bundled) (outs : OutTo) → bundled parts ≡ b → HasPlaces outs (bundle_in b)
+    → All (λ n. n < length outs.pages) (page_numbers parts.pages.items) × All (λ n. n < length outs.numbers) (inode_numbers parts.inodes.items)
 places_of parts b outs is h =
     let h' : HasPlaces outs (bundle_in (bundled parts)) = subst (λ (x : Bundled). HasPlaces outs (bundle_in x)) (sym is) h in
-    (subst (λ ns. IsTrue (all_below outs.page_count ns)) (fresh_numbers parts.pages.items) h'.pages, h'.numbers)
+    (subst (All (λ n. n < length outs.pages)) (fresh_numbers parts.pages.items) (All-below (length outs.pages) (sheet_numbers (bundle_in (bundled parts)).pages) h'.pages), All-below (length outs.numbers) (inode_numbers parts.inodes.items) h'.numbers)
 
-pub returned_are : (parts : BundleParts) (b : Bundled) (outs : OutNow) → bundled parts ≡ b
+pub returned_are : (parts : BundleParts) (b : Bundled) (outs : OutTo) → bundled parts ≡ b
     → outs_after outs (page_numbers parts.pages.items) (inode_numbers parts.inodes.items) ≡ outs_after outs (sheet_numbers (bundle_in b).pages) (bundle_in b).numbers
 returned_are parts b outs is =
     ap (λ ns. outs_after outs ns (inode_numbers parts.inodes.items)) (sym (fresh_numbers parts.pages.items))

@@ -49,7 +49,7 @@ use Rattle.trio_ctl.specs.Answers.{grant_fault_answer, Admits}
 use Rattle.trio_ctl.specs.Ctl.{home_image, state_of, IsControlled}
 use Rattle.trio_ctl.specs.inner.Lending.{IsLendable, StandsSomewhere, body_standing}
 use Rattle.trio_ctl.specs.Open.{Opened, grant_on, keyed, page_lent}
-use Rattle.trio_ctl.specs.Outs.{OutNow}
+use Rattle.trio_allot.specs.Out.{OutTo}
 use Rattle.trio_ctl.proofs.LendLemmas.{same_chain, sheets_same}
 
 -- ---- lists
@@ -111,7 +111,7 @@ fault_is s lib ino r row may =
     ap (λ (o : Option Row). if not (is_some o) then Some NotLive else denied_or (denier s.home.rows (creds_of s lib) ino ToWrite) busy) row
     ∙ ap (λ d. denied_or d busy) may
 
-module _ (s : Superblock) (pages : List (Option (List ℕ))) (rows : List (Option Row)) (owners : List ℕ) (table : List Keyed) (files : List Opened) (outs : OutNow) (creds : List Creds) (entries : ℕ) (k : IsControlled s pages rows owners table files outs creds entries) where
+module _ (s : Superblock) (pages : List (Option (List ℕ))) (rows : List (Option Row)) (owners : List ℕ) (table : List Keyed) (files : List Opened) (outs : OutTo) (creds : List Creds) (entries : ℕ) (k : IsControlled s pages rows owners table files outs creds entries) where
   abbrev st : State
   st = state_of s pages rows owners files outs creds entries
 
@@ -252,9 +252,6 @@ module _ (s : Superblock) (pages : List (Option (List ℕ))) (rows : List (Optio
             | inr none ↦ absurd none
           ]
         ];
-        out_pages = k.out_pages;
-        out_inodes = k.out_inodes;
-        out_within = k.out_within;
         kept = step_kept st (state_of s pages' rows owners files' outs creds entries') (Grant lib.0 ino Write) (Granted 0) k.kept tt (granted_step may);
       }
         where

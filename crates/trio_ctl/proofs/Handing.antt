@@ -11,6 +11,7 @@ use Rattle.trio_rights.specs.declared.rights.LibNo.{LibNo}
 use Rattle.trio_nodes.specs.declared.grant.GrantKind.{GrantKind}
 use Rattle.trio_nodes.specs.declared.grant.GrantKind.TheVariants.{Read, Write, Hold}
 use Rattle.trio_grants.specs.Grants.{Keyed}
+use Rattle.trio_tables.proofs.OutLemmas.{within_some}
 use Rattle.trio_layout.specs.declared.superblock.Superblock.{Superblock}
 use Rattle.trio_layout.specs.declared.range.CoreRange.{CoreRange}
 use Rattle.trio_layout.specs.Core.{Core, page_of}
@@ -39,7 +40,8 @@ use Rattle.trio_proposal.specs.Judged.{CanBeJudged, image_of}
 use Rattle.trio_ctl.specs.Ctl.{IsControlled, state_of}
 use Rattle.trio_ctl.specs.Moves.{all_covered, are_numbered, is_closing}
 use Rattle.trio_ctl.specs.Open.{Opened}
-use Rattle.trio_ctl.specs.Outs.{HasPlaces, OutNow}
+use Rattle.trio_allot.specs.Out.{OutTo}
+use Rattle.trio_ctl.specs.Moves.{HasPlaces}
 use Rattle.trio_ctl.proofs.Ending.{staying}
 
 pub below_from : (n : ℕ) (ns : List ℕ) → ((p : ℕ) → In p ns → p < n) → IsTrue (all_below n ns)
@@ -100,7 +102,7 @@ staying_same lib b marks (o ∷ files) is writes =
     by false true e again = absurd cc
     by false false e again = ap (λ gs. o.grant ∷ gs) again
 
-module _ (s : Superblock) (pages : List (Option (List ℕ))) (rows : List (Option Row)) (owners : List ℕ) (table : List Keyed) (files : List Opened) (outs : OutNow) (creds : List Creds) (entries : ℕ) (k : IsControlled s pages rows owners table files outs creds entries) where
+module _ (s : Superblock) (pages : List (Option (List ℕ))) (rows : List (Option Row)) (owners : List ℕ) (table : List Keyed) (files : List Opened) (outs : OutTo) (creds : List Creds) (entries : ℕ) (k : IsControlled s pages rows owners table files outs creds entries) where
   abbrev now : State
   now = state_of s pages rows owners files outs creds entries
 
@@ -144,13 +146,16 @@ module _ (s : Superblock) (pages : List (Option (List ℕ))) (rows : List (Optio
     pub unparted_bundle : parted_hold now lib.0 b ≡ None
     unparted_bundle = ap (λ gs. lowest (map (λ g. g.ino) gs)) (none_is_parted now lib.0 b files k.writes)
 
+    -- what is out has its place
+    page_place : (n : ℕ) → WasAllotted now.pages_out lib.0 n → n < length outs.pages
+    page_place n out = within_some outs.pages n (ap is_some out)
+
     allotted_within : (n : ℕ) → WasAllotted now.pages_out lib.0 n → n < length pages
-    allotted_within n o =
-        let below = k.out_within.pages o.0 o.1 in
-        let same = o.3 in
+    allotted_within n out =
+        let below = page_place n out in
+        let placed = k.kept.pages_placed in
         let count = k.count in
-        let long = k.out_pages in
-        omega (arith, below, same, count, long)
+        omega (arith, below, placed, count)
 
     sheet_within : (x : Sheet) → In x (bundle_sheets b) → x.page < length pages
     sheet_within x i =
@@ -179,16 +184,8 @@ module _ (s : Superblock) (pages : List (Option (List ℕ))) (rows : List (Optio
     -- what was allotted has its places among those of the image
     pub allotted_places : HasPlaces outs b
     allotted_places = record {
-      pages = below_from outs.page_count (sheet_numbers b.pages) (λ n i.
-          let o = given.pages n i in
-          let below = k.out_within.pages o.0 o.1 in
-          let same = o.3 in
-          omega (arith, below, same));
-      numbers = below_from (outs.inode_count + 1) b.numbers (λ n i.
-          let o = given.numbers n i in
-          let below = k.out_within.numbers o.0 o.1 in
-          let same = o.3 in
-          omega (arith, below, same));
+      pages = below_from (length outs.pages) (sheet_numbers b.pages) (λ n i. page_place n (given.pages n i));
+      numbers = below_from (length outs.numbers) b.numbers (λ n i. within_some outs.numbers n (ap is_some (given.numbers n i)));
     }
 
     -- its files have inode numbers of the image

@@ -10,5 +10,5 @@ pub mod Ending
 pub mod Granting
 pub mod Handing
 pub mod Releasing
-pub mod OutLists
+pub mod Outs
 pub mod Allotting

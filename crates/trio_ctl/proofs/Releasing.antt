@@ -22,7 +22,7 @@ use Rattle.trio_layout.specs.Image.{Image, IsFit}
 use Rattle.trio_state.specs.Kept.{Kept}
 use Rattle.trio_layout.specs.Proposed.{Bundle, bundle_pages, bundle_sheets, is_written, proposed, proposed_pick}
 use Rattle.trio_page.specs.Sheets.{Sheet, sheet_numbers, with_pages}
-use Rattle.trio_state.specs.State.{OpenGrant, Out, State, creds_of, settled}
+use Rattle.trio_state.specs.State.{OpenGrant, State, creds_of, settled}
 use Rattle.trio_state.specs.Tells.{untold}
 use Rattle.trio_state.specs.Step.{Accepted, IsAccepted, IsRefused, Refused, Release, Step}
 use Rattle.trio_checkpoint.specs.Covered.{all_stand, standing}
@@ -52,7 +52,7 @@ use Rattle.trio_proposal.specs.Judged.{IsImage}
 use Rattle.trio_ctl.specs.Ctl.{IsControlled, state_of}
 use Rattle.trio_ctl.specs.Moves.{all_covered, followed, is_closing, lent_uncovered}
 use Rattle.trio_ctl.specs.Open.{Opened, keyed}
-use Rattle.trio_ctl.specs.Outs.{AreWithin, OutNow, outs_after}
+use Rattle.trio_allot.specs.Out.{OutTo, outs_after}
 use Rattle.trio_ctl.proofs.Ending.{ending, keys, staying}
 use Rattle.trio_ctl.proofs.Handing.{closing_same, grant_writes, staying_same, unparted_bundle}
 
@@ -130,7 +130,7 @@ part_followed pages (o ∷ files) =
     ap (λ (sheets : List Sheet). record o.grant { checkpoint = sheets } ∷ map lent_part (map (λ o. o.grant) (map (followed pages) files))) (blank_standing pages o.grant.checkpoint)
     ∙ ap (λ l. lent_part o.grant ∷ l) (part_followed pages files)
 
-module _ (s : Superblock) (pages : List (Option (List ℕ))) (rows : List (Option Row)) (owners : List ℕ) (table : List Keyed) (files : List Opened) (outs : OutNow) (creds : List Creds) (entries : ℕ) (k : IsControlled s pages rows owners table files outs creds entries) (lib : LibNo) (b : Bundle) (given : GivenTo (state_of s pages rows owners files outs creds entries) lib.0 b) (marks : List Bool) (marked : (n : ℕ) → slice_index_or marks n false ≡ is_written b n) where
+module _ (s : Superblock) (pages : List (Option (List ℕ))) (rows : List (Option Row)) (owners : List ℕ) (table : List Keyed) (files : List Opened) (outs : OutTo) (creds : List Creds) (entries : ℕ) (k : IsControlled s pages rows owners table files outs creds entries) (lib : LibNo) (b : Bundle) (given : GivenTo (state_of s pages rows owners files outs creds entries) lib.0 b) (marks : List Bool) (marked : (n : ℕ) → slice_index_or marks n false ≡ is_written b n) where
   abbrev now : State
   now = state_of s pages rows owners files outs creds entries
 
@@ -198,15 +198,8 @@ module _ (s : Superblock) (pages : List (Option (List ℕ))) (rows : List (Optio
       let f = read_met core plain fit sound (root_of core) (root_is_met core plain fit sound) in
       body_sized (root_of core).kind core.range core.root f.0.body (reads_from core (root_of core) f.0 f.1).body
 
-  module _ (table' : List Keyed) (pages' : List (Option (List ℕ))) (outs' : OutNow) (entries' : ℕ) (ended : table' ≡ map keyed stay) (returned : outs' ≡ outs_after outs (sheet_numbers b.pages) b.numbers) (more : entries' ≡ entries + 1) where
+  module _ (table' : List Keyed) (pages' : List (Option (List ℕ))) (outs' : OutTo) (entries' : ℕ) (ended : table' ≡ map keyed stay) (returned : outs' ≡ outs_after outs (sheet_numbers b.pages) b.numbers) (more : entries' ≡ entries + 1) where
     -- what is out still was out before, so it is within
-    within_still_out : AreWithin outs'
-    within_still_out =
-        subst AreWithin (sym returned) (record {
-          pages = λ o i. k.out_within.pages o (filter_in (λ (o : Out). not (is_among o.number (sheet_numbers b.pages))) o outs.pages i).0;
-          numbers = λ o i. k.out_within.numbers o (filter_in (λ (o : Out). not (is_among o.number b.numbers)) o outs.numbers i).0;
-        })
-
     -- ---- refused
 
     module _ (false' : is_accepted (settled now) (creds_of now lib.0) b ≡ false) (put : pages' ≡ with_pages (lent_uncovered b ++ b.pages) (with_pages back pages)) where
@@ -224,8 +217,8 @@ module _ (s : Superblock) (pages : List (Option (List ℕ))) (rows : List (Optio
           record {
             settles = ap J settles;
             grants = ap (map lent_part) stay_same;
-            pages = ap (λ (o : OutNow). o.pages) returned;
-            numbers = ap (λ (o : OutNow). o.numbers) returned;
+            pages = ap (λ (o : OutTo). o.pages) returned;
+            numbers = ap (λ (o : OutTo). o.numbers) returned;
             creds = refl;
             entries = more;
           }
@@ -244,9 +237,6 @@ module _ (s : Superblock) (pages : List (Option (List ℕ))) (rows : List (Optio
         keys_once = stay_once;
         earlier = λ o i. let below = k.earlier o (stays_from o i) in let e = more in omega (arith, below, e);
         writes = λ o i. k.writes o (stays_from o i);
-        out_pages = ap (λ (o : OutNow). o.page_count) returned ∙ k.out_pages;
-        out_inodes = ap (λ (o : OutNow). o.inode_count) returned ∙ k.out_inodes;
-        out_within = within_still_out;
         kept = release_kept now refused lib.0 b (Refused untold) k.kept given refused_step;
       }
 
@@ -338,8 +328,8 @@ module _ (s : Superblock) (pages : List (Option (List ℕ))) (rows : List (Optio
                   ∙ ap (λ rs. J image.core.pages image.core.root rs n.owners) is.rows
                   ∙ ap (J image.core.pages image.core.root image.rows) is.owners;
               grants = like;
-              pages = ap (λ (o : OutNow). o.pages) returned;
-              numbers = ap (λ (o : OutNow). o.numbers) returned;
+              pages = ap (λ (o : OutTo). o.pages) returned;
+              numbers = ap (λ (o : OutTo). o.numbers) returned;
               creds = refl;
               entries = more;
             }
@@ -367,8 +357,5 @@ module _ (s : Superblock) (pages : List (Option (List ℕ))) (rows : List (Optio
               writes = λ o i.
                   let q = map_from (followed after) o stay i in
                   ap (λ (z : Opened). z.grant.kind) q.2 ∙ k.writes q.0 (stays_from q.0 q.1);
-              out_pages = ap (λ (o : OutNow). o.page_count) returned ∙ k.out_pages;
-              out_inodes = ap (λ (o : OutNow). o.inode_count) returned ∙ k.out_inodes;
-              out_within = within_still_out;
               kept = kept;
             }

@@ -1,12 +1,13 @@
 -- The pages that store the image of a state with nothing lent: they verify, and they store just that image, with all zeros in
 -- place of the pages that are out by allotment.
 use Rattle.std.proofs.Common.{◌≡◌, ℕ, suc, ◌+◌, ◌-◌, ◌*◌, ◌<◌, ◌≤◌, Bool, true, false, ◌==◌, List, [], ◌∷◌, ◌++◌, length, map, get_or, Option, Some, None, refl, sym, ap, subst, ◌∙◌, arith, inl, inr}
-use Rattle.std.specs.Prelude.{slice_get, slice_index, slice_index_or, if◌then◌else◌, IsTrue, nat_le, nat_lt}
+use Rattle.std.specs.Prelude.{is_some, slice_get, slice_index, slice_index_or, if◌then◌else◌, IsTrue, nat_le, nat_lt}
 use Rattle.std.specs.List.{list_all}
-use Rattle.std.proofs.lemmas.Bool.{and_parts, eq-eqb, eqb-true, le-leb, lt-ltb, leb-true, ltb-true}
+use Rattle.std.proofs.lemmas.Bool.{and_parts, eq-eqb, eqb-true, false≢true, le-leb, lt-ltb, leb-true, ltb-true}
 use Rattle.std.proofs.lemmas.List.{length-append, get_or-append-add, get_or-map, get_or_append_left}
 use Rattle.std.proofs.lemmas.List.Folds.{list_all-append}
 use Rattle.std.proofs.lemmas.Option.{slice_get-get_or}
+use Rattle.trio_tables.specs.Out.{NoneOut, is_out}
 use Rattle.trio_page.specs.Field.{zeros}
 use Rattle.trio_page.proofs.Cursor.{length-zeros}
 use Rattle.trio_page.proofs.Fields.{length-slice}
@@ -21,7 +22,7 @@ use Rattle.trio_lists.specs.Lists.{In}
 use Rattle.trio_layout.specs.Survey.{Met, pages_of, plain, row_of, survey}
 use Rattle.trio_layout.proofs.Superblocks.{superblock_facts}
 use Rattle.trio_layout.specs.Image.{Image}
-use Rattle.trio_state.specs.State.{Out, State, settled}
+use Rattle.trio_state.specs.State.{State, settled}
 use Rattle.trio_survey.specs.Stored.{core_in, image_in, HasSuperblock, PagesVerify, StoresImage, StoresTables}
 use Rattle.trio_layout.specs.Verifies.{Verifies}
 use Rattle.trio_surveys.specs.Reading.{with_other, AgreeOn}
@@ -34,7 +35,7 @@ use Rattle.trio_laws.proofs.StateFacts.{tables as tables_of}
 use Rattle.trio_lists.proofs.Filters.{any_at}
 use Rattle.trio_image.specs.Image.{is_whole_page, IsVerified, TablesAre}
 use Rattle.trio_ctl.specs.Ctl.{home_image, or_zero, state_of, superblock_for, with_zeros}
-use Rattle.trio_ctl.specs.Outs.{OutNow}
+use Rattle.trio_allot.specs.Out.{OutTo}
 use Rattle.trio_ctl.proofs.AtHome.{IsAtHome}
 use Rattle.trio_ctl.specs.inner.Pages.{FillsPages, owner_pages, pages_from, shadow_pages, stored_pages, table_pages}
 use Rattle.trio_ctl.proofs.Wholes.{cond_same, tabulated-all}
@@ -55,7 +56,7 @@ no_lent : (t : Bool) → IsTrue t → t ≡ false → ⊥
 no_lent true e f = absurd cc
 no_lent false e f = absurd cc
 
-module _ (s : Superblock) (pages : List (Option (List ℕ))) (rows : List (Option Row)) (owners : List ℕ) (outs : OutNow) (creds : List Creds) (entries : ℕ) (k : IsAtHome s pages rows owners outs creds entries) (shadow_full : FillsPages (shadow_bytes rows) (page_count (32 * (length rows - 1)))) (owner_full : FillsPages (owner_bytes owners) (page_count (4 * length owners))) where
+module _ (s : Superblock) (pages : List (Option (List ℕ))) (rows : List (Option Row)) (owners : List ℕ) (outs : OutTo) (creds : List Creds) (entries : ℕ) (k : IsAtHome s pages rows owners outs creds entries) (shadow_full : FillsPages (shadow_bytes rows) (page_count (32 * (length rows - 1)))) (owner_full : FillsPages (owner_bytes owners) (page_count (4 * length owners))) where
   abbrev now : State
   now = state_of s pages rows owners [] outs creds entries
 
@@ -161,19 +162,18 @@ module _ (s : Superblock) (pages : List (Option (List ℕ))) (rows : List (Optio
   is_core_at p le lt = rw (le-leb s.first_core p le, lt-ltb p s.pages lt) refl
 
   -- a core page that is absent is out by allotment
-  absent_out : (p : ℕ) → s.first_core ≤ p → p < s.pages → get_or pages p None ≡ None → (o : Out) × In o outs.pages × (o.number ≡ p)
+  absent_out : (p : ℕ) → s.first_core ≤ p → p < s.pages → get_or pages p None ≡ None → is_out outs.pages p ≡ true
   absent_out p le lt e =
       let gone : slice_get pages p ≡ Some None = slice_get-get_or pages p None (omega (arith, k.count)) ∙ ap Some e in
       elim (k.kept.absent p gone (is_core_at p le lt)) [
         | inl lent ↦ absurd (no_lent false lent refl)
-        | inr out ↦ (let q = any_at (λ o. o.number == p) outs.pages out in (q.0, q.1, eqb-true q.0.number p q.2))
+        | inr out ↦ out
       ]
 
   -- so no file lists it
   absent_unlisted : (p : ℕ) → s.first_core ≤ p → p < s.pages → get_or pages p None ≡ None → (m : Met) → In m (survey core plain) → In p (pages_of core m) → ⊥
   absent_unlisted p le lt e m i a =
-      let q = absent_out p le lt e in
-      let zero' : slice_index owners p ≡ 0 = ap (slice_index owners) (sym q.2) ∙ k.kept.out_free q.0 q.1 in
+      let zero' : slice_index owners p ≡ 0 = k.kept.out_free p (absent_out p le lt e) in
       free_unlisted core plain k.kept.fit verifies.sound image (tables_of now k.kept) p zero' m i a
 
   -- each core page that is stored is whole
@@ -241,11 +241,11 @@ module _ (s : Superblock) (pages : List (Option (List ℕ))) (rows : List (Optio
   stores_zeros = record { count = stored_count; superblock = stored_first; tables = tables; core = λ p le lt. stored_core p le lt ∙ sym (zeros_at p lt) }
 
   -- where nothing is out, they store just that image
-  pub stores : outs.pages ≡ [] → StoresImage s (settled now) stored
+  pub stores : NoneOut outs.pages → StoresImage s (settled now) stored
   stores none = record { count = stored_count; superblock = stored_first; tables = tables; core = λ p le lt. stored_core p le lt ∙ by_page p le lt (get_or pages p None) refl }
     where
       by_page : (p : ℕ) → s.first_core ≤ p → p < s.pages → (o : Option (List ℕ)) → get_or pages p None ≡ o → or_zero o ≡ o
-      by_page p le lt None e = (let q = absent_out p le lt e in absurd (subst (λ os. In q.0 os) none q.1))
+      by_page p le lt None e = absurd (false≢true (sym (ap is_some (none p)) ∙ absent_out p le lt e))
       by_page p le lt (Some bytes) there = refl
 
   pub superblock_is : s ≡ superblock_for (settled now).core

@@ -2,5 +2,4 @@ pub mod Ctl
 pub mod Open
 pub mod Answers
 pub mod Moves
-pub mod Outs
 pub mod inner

@@ -6,11 +6,11 @@ ghost use Rattle.trio_lists.specs.Marks.{all_below};
 ghost use Rattle.trio_state.specs.Handed.{bundle_in};
 ghost use Rattle.trio_layout.specs.Proposed.{bundle_pages, bundle_sheets, is_written};
 ghost use Rattle.trio_page.specs.Sheets.{sheet_numbers, with_pages};
-ghost use Rattle.trio_ctl.specs.Moves.{are_numbered, file_sheets, lent_sheets, lent_uncovered, uncovered_sheets};
-ghost use Rattle.trio_ctl.specs.Outs.{HasPlaces, outs_after};
+ghost use Rattle.trio_ctl.specs.Moves.{are_numbered, file_sheets, lent_sheets, lent_uncovered, uncovered_sheets, HasPlaces};
+ghost use Rattle.trio_allot.specs.Out.{outs_after};
 
-use crate::outs::Outs;
 use std::alloc::Global;
+use trio_allot::Allotments;
 use trio_lease::{Allotted, Bundle, BundleParts, HoldLease, LentPage, WriteLease, WriteParts};
 use trio_page::{Home, NoMemory};
 use trio_rights::Kind;
@@ -35,7 +35,7 @@ pub(crate) fn written_marks(
 
 /// Brings all pages of a bundle home: each lease's index pages and blocks, then the allotted
 /// pages. The allotments of its pages and numbers end, and its holds are let go.
-pub(crate) fn bring_home(home: &mut Home, outs: &mut Outs, bundle: Bundle)
+pub(crate) fn bring_home(home: &mut Home, outs: &mut Allotments, bundle: Bundle)
     requires within { IsTrue (all_below (length home.old.pages) (bundle_pages (bundle_in bundle))) }
     requires allotted { HasPlaces outs.old (bundle_in bundle) }
     ensures home { home.new ≡ record home.old { pages = with_pages (bundle_sheets (bundle_in bundle)) home.old.pages } }
@@ -54,7 +54,7 @@ pub(crate) fn bring_home(home: &mut Home, outs: &mut Outs, bundle: Bundle)
 
 /// Brings home what no checkpoint covers: the blocks of regular files, and the allotted pages. The
 /// allotments of the bundle's pages and numbers end, and the rest of it is let go.
-pub(crate) fn bring_uncovered(home: &mut Home, outs: &mut Outs, bundle: Bundle)
+pub(crate) fn bring_uncovered(home: &mut Home, outs: &mut Allotments, bundle: Bundle)
     requires within { IsTrue (all_below (length home.old.pages) (bundle_pages (bundle_in bundle))) }
     requires allotted { HasPlaces outs.old (bundle_in bundle) }
     ensures home { home.new ≡ record home.old {

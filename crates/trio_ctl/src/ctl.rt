@@ -6,6 +6,7 @@ ghost use Rattle.trio_rights.specs.declared.rights.Need.TheVariants.{Write as To
 ghost use Rattle.trio_rights.specs.May.{denier};
 ghost use Rattle.trio_nodes.specs.declared.grant.GrantKind.TheVariants.{Write};
 ghost use Rattle.trio_nodes.specs.declared.answers.GrantFault.TheVariants.{NoMemory as NoGrantMemory};
+ghost use Rattle.trio_tables.specs.Out.{NoneOut};
 ghost use Rattle.trio_tables.specs.Row.{as_row};
 ghost use Rattle.trio_allot.specs.Out.{fresh_number, fresh_page, inode_numbers, page_numbers};
 ghost use Rattle.trio_grants.specs.Grants.{AllBelow, HasKey, excludes, grant_under, without};
@@ -23,10 +24,10 @@ ghost use Rattle.trio_ctl.specs.Open.{lease_of};
 
 use crate::lend::{Asked, lend, settled_body};
 use crate::open::OpenFile;
-use crate::outs::Outs;
 use crate::store::stored_pages;
 use std::alloc::Global;
 use std::marker::Model;
+use trio_allot::Allotments;
 use trio_grants::{AdmitFault, GrantKey, GrantTable};
 use trio_image::{Image, ImageParts};
 use trio_layout::{CoreRange, Superblock};
@@ -53,7 +54,7 @@ pub struct Ctl {
     // the open grants, in the order of the entries that opened them
     pub(crate) files: Vec<OpenFile>,
     // what is out by allotment
-    pub(crate) outs: Outs,
+    pub(crate) outs: Allotments,
     // library n has the n-th, counted from 1
     pub(crate) libs: Vec<Creds>,
     // how many entries the history has
@@ -92,7 +93,7 @@ impl Ctl {
         ensures back { IfErr result (λ back. back.0 ≡ image) }
     {
         let superblock = image.superblock();
-        let Ok(outs) = Outs::new(alloc, superblock.pages, superblock.inodes) else {
+        let Ok(outs) = Allotments::new(alloc, superblock.pages, superblock.inodes) else {
             return Err((image, NoMemory));
         };
         let ImageParts { home, rows, owners } = image.into_parts();
@@ -179,7 +180,6 @@ impl Ctl {
             return Err(AllotFault::NoMemory);
         };
         let given = self.outs.take(
-            self.alloc,
             &mut self.home,
             &self.owners,
             &self.rows,
@@ -211,7 +211,7 @@ impl Ctl {
         ensures answer { TellsImage (writer_of self.old.state) result }
         ensures superblock { IfOk result (λ image. image.superblock ≡ superblock_for (settled self.old.state).core) }
         ensures zeros { IfOk result (λ image. StoresImage image.superblock (with_zeros (settled self.old.state)) image.pages) }
-        ensures stores { self.old.state.pages_out ≡ [] → IfOk result (λ image. StoresImage image.superblock (settled self.old.state) image.pages) }
+        ensures stores { NoneOut self.old.state.pages_out → IfOk result (λ image. StoresImage image.superblock (settled self.old.state) image.pages) }
         ensures tables { IfOk result (λ image. TablesAre image.superblock image.pages (settled self.old.state).rows (settled self.old.state).owners) }
         ensures verified { IfOk result (λ image. IsVerified image.superblock image.pages) }
         ensures state { self.new.state ≡ self.old.state }

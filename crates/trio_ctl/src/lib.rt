@@ -9,7 +9,6 @@ mod closing;
 mod ctl;
 mod lend;
 mod open;
-mod outs;
 mod release;
 mod spread;
 mod store;

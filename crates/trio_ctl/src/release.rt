@@ -16,16 +16,16 @@ ghost use Rattle.trio_checkpoint.specs.Covered.{all_stand};
 ghost use Rattle.trio_proposal.specs.Judged.{IfAccepted, IfRefused, IsImage};
 ghost use Rattle.trio_ctl.specs.Answers.{release_answer};
 ghost use Rattle.trio_ctl.specs.Ctl.{IsLibrary};
-ghost use Rattle.trio_ctl.specs.Moves.{all_covered, followed};
-ghost use Rattle.trio_ctl.specs.Outs.{HasPlaces, outs_after};
+ghost use Rattle.trio_ctl.specs.Moves.{HasPlaces, all_covered, followed};
+ghost use Rattle.trio_allot.specs.Out.{outs_after};
 
 use crate::bundles::{bring_home, bring_uncovered, written_marks};
 use crate::closing::{Closing, close_all};
 use crate::ctl::Ctl;
 use crate::open::OpenFile;
-use crate::outs::Outs;
 use crate::spread::{follow_all, settled_pages, spread};
 use std::mem;
+use trio_allot::Allotments;
 use trio_layout::CoreRange;
 use trio_lease::Bundle;
 use trio_nodes::{ReleaseAnswer, ReleaseFault};
@@ -147,7 +147,7 @@ impl Ctl {
 fn put_in_place(
     home: &mut Home,
     files: &mut [OpenFile],
-    outs: &mut Outs,
+    outs: &mut Allotments,
     bundle: Bundle,
     mut pages: Home,
     reads: &mut Reads,

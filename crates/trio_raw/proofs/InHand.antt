@@ -2,28 +2,31 @@
 use Rattle.std.proofs.Common.{◌≡◌, ℕ, true, false, not, ◌&&◌, ◌||◌, eqb, List, [], ◌∷◌, ◌++◌, length, Bool, Option, Some, None, sym, refl, ap, ◌∙◌, subst, inl, inr, ◌⊎◌}
 use Rattle.std.specs.Prelude.{map, is_some}
 use Rattle.std.specs.List.{find, flat_map, list_all}
-use Rattle.std.proofs.lemmas.Bool.{and_parts, and_from, and_right, or_from, eqb-true, not_from_false}
-use Rattle.std.proofs.lemmas.List.{map-append, map-id}
+use Rattle.std.proofs.lemmas.Bool.{and_parts, and_from, and_right, or_from, eqb-true, not_from_false, both_ways}
+use Rattle.std.proofs.lemmas.List.{append-nil, map-append, map-id}
 use Rattle.std.proofs.lemmas.Simd.{map-map}
 use Rattle.trio_page.proofs.Cursor.{length-zeros}
+use Rattle.trio_rights.specs.declared.rights.LibNo.{LibNo}
+use Rattle.trio_tables.specs.Out.{is_out, lib_at}
+use Rattle.trio_tables.proofs.OutLemmas.{lib_at-others, lib_at-set}
 use Rattle.trio_nodes.specs.declared.grant.GrantKind.TheVariants.{Write}
 use Rattle.trio_nodes.specs.declared.spot.Spot.TheVariants.{Body, Index, Block, Fresh}
 use Rattle.trio_lists.specs.Lists.{In, is_among, are_new}
 use Rattle.trio_lists.proofs.MarkLemmas.{are_new-append}
 use Rattle.trio_page.specs.Sheets.{Sheet, sheet_numbers}
 use Rattle.trio_layout.specs.Image.{Image}
-use Rattle.trio_state.specs.State.{OpenGrant, Out, State}
+use Rattle.trio_state.specs.State.{OpenGrant, State}
 use Rattle.trio_nodes.specs.GrantKinds.{is_write}
 use Rattle.trio_layout.specs.Proposed.{Written, Bundle, is_written}
-use Rattle.trio_state.specs.Allotments.{out_after}
+use Rattle.trio_state.specs.Allotments.{out_after, out_with}
 use Rattle.trio_state.specs.Grants.{opens}
 use Rattle.trio_state.specs.Bundles.{Ends, grants_after, is_in_bundle, lent_part}
 use Rattle.trio_nodes.specs.GrantKinds.{is_hold}
 use Rattle.trio_state.specs.Given.{GivenTo, WasAllotted, WasLent}
 use Rattle.trio_raw.specs.Has.{Has, are_there, named, poked_body, poked_block, poked_index, poked_sheet, bundle_of, rest_of, whole_bundle, with_file, with_fresh, changed_first}
 use Rattle.trio_raw.specs.InHand.{InHand, all_sheets}
-use Rattle.trio_raw.specs.Laws.{NothingIsInHand, PokedIsInHand, TakenWasGiven, AllWasGiven, RestIsInHand, NothingIsLeft, LentIsInHand, AllottedIsInHand, StaysInHand, GivenIsInHand, lent_file, zero_sheet}
-use Rattle.trio_raw.proofs.Members.{In-left, In-right, In-cases, In-flat, flat_from, In-map, map_from, not_among, in_filter, new_weaker}
+use Rattle.trio_raw.specs.Laws.{NothingIsInHand, PokedIsInHand, TakenWasGiven, AllWasGiven, RestIsInHand, NothingIsLeft, LentIsInHand, AllottedIsInHand, StaysInHand, GivenIsInHand, MayGoOut, lent_file, zero_sheet}
+use Rattle.trio_raw.proofs.Members.{In-left, In-right, In-cases, In-flat, flat_from, In-map, map_from, among_from, not_among, in_filter, new_beside}
 use Rattle.trio_raw.proofs.Once.{found, named_in, named_once, without_all_in, without_all_once, all_gone}
 use Rattle.trio_raw.proofs.Kept.{AreFull, Changed, KeepsFiles, SameFile, map_some, first_from, changed_in, old_in, changed_same, sheets_kept, body_keeps, index_keeps, block_keeps}
 
@@ -213,14 +216,8 @@ not_in_bundle lib b g kind none =
         let r = found (λ (w : Written). eqb w.ino g.ino) b.writes w e in absurd (none w r.0 (eqb-true w.ino g.ino r.1))
 
 -- a number that is not handed in stays out
-out_stays : (outs outs' : List Out) (lib n : ℕ) (these : List ℕ) → outs' ≡ out_after outs these → WasAllotted outs lib n → (In n these → ⊥) → WasAllotted outs' lib n
-out_stays outs outs' lib n these e o apart =
-    let unnamed : is_among o.0.number these ≡ false = not_among o.0.number these (λ i. apart (subst (λ m. In m these) o.3 i)) in (
-      o.0,
-      subst (In o.0) (sym e) (in_filter (λ (x : Out). not (is_among x.number these)) o.0 outs o.1 (not_from_false (is_among o.0.number these) unnamed)),
-      o.2,
-      o.3,
-    )
+out_stays : (outs outs' : List (Option LibNo)) (lib n : ℕ) (these : List ℕ) → outs' ≡ out_after outs these → WasAllotted outs lib n → (In n these → ⊥) → WasAllotted outs' lib n
+out_stays outs outs' lib n these e out apart = ap (λ l. lib_at l n) e ∙ lib_at-others None these n outs (not_among n these apart) ∙ out
 
 pub rest_is_in_hand : RestIsInHand
 rest_is_in_hand s lib has inos pages numbers image s' h e =
@@ -285,8 +282,8 @@ stays_in_hand s lib has s' h grants pages numbers = record {
         index = g.index;
         blocks = g.blocks;
       };
-  pages = λ n i. let o = h.pages n i in (o.0, pages o.0 o.1 o.2, o.2, o.3);
-  numbers = λ n i. let o = h.numbers n i in (o.0, numbers o.0 o.1 o.2, o.2, o.3);
+  pages = λ n i. pages n (h.pages n i);
+  numbers = λ n i. numbers n (h.numbers n i);
   full = h.full;
   files_once = h.files_once;
   pages_once = h.pages_once;
@@ -309,7 +306,7 @@ lent_is_in_hand s lib has g h mine kind none full =
     let w : Written = lent_file g in
     let now : Has = record { files = has.files ++ w ∷ []; pages = has.pages; numbers = has.numbers } in
     let inos : List ℕ = map (λ (v : Written). v.ino) has.files in
-    let stays : InHand (opens s g) lib has = stays_in_hand s lib has (opens s g) h (λ x i a b. In-left x s.open_grants (g ∷ []) i) (λ o i a. i) (λ o i a. i) in
+    let stays : InHand (opens s g) lib has = stays_in_hand s lib has (opens s g) h (λ x i a b. In-left x s.open_grants (g ∷ []) i) (λ n out. out) (λ n out. out) in
     let new : is_among g.ino inos ≡ false =
     not_among g.ino inos (λ i.
     let r = map_from (λ (v : Written). v.ino) g.ino has.files i in
@@ -349,23 +346,19 @@ lent_is_in_hand s lib has g h mine kind none full =
     }
 
 -- numbers that are allotted now are apart from those in hand
-apart_once : (outs : List Out) (lib : ℕ) (mine new : List ℕ) → ((n : ℕ) → In n mine → WasAllotted outs lib n) → are_new [] mine ≡ true → are_new (map (λ (o : Out). o.number) outs) new ≡ true → are_new [] (mine ++ new) ≡ true
-apart_once outs lib mine new were once fresh =
+apart_once : (outs : List (Option LibNo)) (lib : ℕ) (mine new : List ℕ) → ((n : ℕ) → In n mine → WasAllotted outs lib n) → are_new [] mine ≡ true → MayGoOut outs new → are_new [] (mine ++ new) ≡ true
+apart_once outs lib mine new were once may =
     are_new-append [] mine new
     ∙ and_from (are_new [] mine) (are_new mine new) once
-    (new_weaker mine (map (λ (o : Out). o.number) outs) new
-    (λ n i.
-    let o = were n i in
-    subst (λ m. In m (map (λ (x : Out). x.number) outs)) o.3 (In-map (λ (x : Out). x.number) o.0 outs o.1))
-    fresh)
+    (ap (λ l. are_new l new) (sym (append-nil mine))
+    ∙ new_beside mine [] new may.1 (λ n i j. both_ways (is_out outs n) (may.0 n i).1 (ap is_some (were n j))))
 
 -- and each of them is out
-allotted_out : (outs : List Out) (lib n : ℕ) (mine new : List ℕ) → ((n : ℕ) → In n mine → WasAllotted outs lib n) → In n (mine ++ new) → WasAllotted (outs ++ map (λ (p : ℕ). record { lib = lib; number = p }) new) lib n
-allotted_out outs lib n mine new were i =
-    let made : ℕ → Out = λ p. record { lib = lib; number = p } in
+allotted_out : (outs : List (Option LibNo)) (lib n : ℕ) (mine new : List ℕ) → ((n : ℕ) → In n mine → WasAllotted outs lib n) → MayGoOut outs new → In n (mine ++ new) → WasAllotted (out_with outs lib new) lib n
+allotted_out outs lib n mine new were may i =
     elim (In-cases n mine new i) [
-      | inl j ↦ (let o = were n j in (o.0, In-left o.0 outs (map made new) o.1, o.2, o.3))
-      | inr j ↦ (made n, In-right (made n) outs (map made new) (In-map made n new j), refl, refl)
+      | inl j ↦ lib_at-others (Some (record { 0 = lib })) new n outs (not_among n new (λ k. both_ways (is_out outs n) (may.0 n k).1 (ap is_some (were n j)))) ∙ were n j
+      | inr j ↦ lib_at-set (Some (record { 0 = lib })) new n outs (may.0 n j).0 (among_from n new j)
     ]
 
 pub allotted_is_in_hand : AllottedIsInHand
@@ -387,8 +380,8 @@ allotted_is_in_hand s lib has pages numbers h new_pages new_numbers =
             index = g.index;
             blocks = g.blocks;
           };
-      pages = λ n i. allotted_out s.pages_out lib n (sheet_numbers has.pages) pages h.pages (subst (In n) nos i);
-      numbers = λ n i. allotted_out s.numbers_out lib n has.numbers numbers h.numbers i;
+      pages = λ n i. allotted_out s.pages_out lib n (sheet_numbers has.pages) pages h.pages new_pages (subst (In n) nos i);
+      numbers = λ n i. allotted_out s.numbers_out lib n has.numbers numbers h.numbers new_numbers i;
       full = λ x i. elim (sheet_cases now x i) [
         | inl r ↦ h.full x (file_sheets has r.0 x r.1 r.2)
         | inr j ↦

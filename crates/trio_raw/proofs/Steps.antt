@@ -1,11 +1,14 @@
 -- What the controller gives is new to those who have it.
-use Rattle.std.proofs.Common.{◌≡◌, ℕ, zero, suc, ◌-◌, ◌<◌, Bool, true, false, cond, not, ◌&&◌, eqb, ltb, List, [], ◌∷◌, ◌++◌, length, take, Option, Some, None, Result, Ok, Err, sym, refl, ap, ◌∙◌, subst, inl, inr, arith}
+use Rattle.std.proofs.Common.{◌≡◌, ℕ, zero, suc, ◌+◌, ◌-◌, ◌<◌, ◌≤◌, Bool, true, false, cond, not, ◌&&◌, eqb, ltb, List, [], ◌∷◌, ◌++◌, length, take, Option, Some, None, Result, Ok, Err, sym, refl, ap, ◌∙◌, subst, inl, inr, arith}
 use Rattle.std.specs.Prelude.{map, is_some, slice_get, slice_index}
 use Rattle.std.specs.List.{filter, cons_option}
 use Rattle.std.specs.Option.{option_map}
 use Rattle.std.proofs.lemmas.Bool.{and_parts, and_from, or_left, or_right, eq-eqb, both_ways, false≢true, not-true, not_from_false, cases_Bool}
-use Rattle.std.proofs.lemmas.List.{append-nil}
+use Rattle.std.proofs.lemmas.List.{length_push}
 use Rattle.trio_rights.specs.Row.{Row}
+use Rattle.trio_rights.specs.declared.rights.LibNo.{LibNo}
+use Rattle.trio_tables.specs.Free.{count_up}
+use Rattle.trio_tables.specs.Out.{is_out}
 use Rattle.trio_nodes.specs.declared.grant.GrantKind.TheVariants.{Write}
 use Rattle.trio_nodes.specs.declared.answers.GrantFault.{GrantFault}
 use Rattle.trio_nodes.specs.declared.answers.GrantFault.TheVariants.{Busy, NotLive}
@@ -14,14 +17,15 @@ use Rattle.trio_layout.specs.Core.{Core, Place, page_of}
 use Rattle.trio_lists.specs.Lists.{In, is_among, are_new}
 use Rattle.trio_page.specs.Sheets.{Sheet}
 use Rattle.trio_layout.specs.Image.{row_at}
-use Rattle.trio_state.specs.State.{OpenGrant, Out, State, settled, is_out, logged}
+use Rattle.trio_state.specs.State.{OpenGrant, State, settled, logged}
 use Rattle.trio_state.specs.Grants.{denied_by, denied_or, excluding, grant_fault, holder_of, opened}
 use Rattle.trio_nodes.specs.GrantKinds.{excludes_kind}
 use Rattle.trio_layout.specs.Pages.{block_sheets, index_sheets, settled_chain, sheets_of}
-use Rattle.trio_state.specs.Allotments.{allots, count_up, free_pages, free_numbers}
+use Rattle.trio_state.specs.Allotments.{allots, free_pages, free_numbers}
+use Rattle.trio_layout.specs.Lists.{tabulated}
 use Rattle.trio_state.specs.Step.{Granted, NotGranted, Given, NoPages, NoInodes, Done, Comes, granted_to}
 use Rattle.trio_raw.specs.InHand.{InHand}
-use Rattle.trio_raw.specs.Laws.{GrantedIsInHand, GivenOutIsInHand, lent_file, with_lent, with_allotted}
+use Rattle.trio_raw.specs.Laws.{GrantedIsInHand, GivenOutIsInHand, MayGoOut, lent_file, with_lent, with_allotted}
 use Rattle.trio_raw.proofs.Members.{In-cases, In-left, map_from, not_among, in_filter, filter_in, new_weaker, new_beside}
 use Rattle.trio_raw.proofs.InHand.{lent_is_in_hand, allotted_is_in_hand}
 
@@ -123,28 +127,28 @@ count_new from (suc n) seen below =
       | inr b ↦ elim b [ inl e ↦ omega (arith, e) | inr k ↦ absurd k ]
     ]))
 
-number_out : (outs : List Out) (o : Out) → In o outs → is_out outs o.number ≡ true
-number_out [] o i = absurd i
-number_out (x ∷ xs) o (inl e) = or_left (eqb x.number o.number) (is_out xs o.number) (eq-eqb x.number o.number (ap (λ (y : Out). y.number) (sym e)))
-number_out (x ∷ xs) o (inr i) = or_right (eqb x.number o.number) (is_out xs o.number) (number_out xs o i)
+count_within : (from n x : ℕ) → In x (count_up from n) → x < from + n
+count_within from zero x i = absurd i
+count_within from (suc n) x (inl e) = omega (arith, e)
+count_within from (suc n) x (inr i) = let lt = count_within (suc from) n x i in omega (arith, lt)
 
 -- the first of what is counted up and isn't out
-free_new : (outs : List Out) (test : ℕ → Bool) (from n count : ℕ) → are_new (map (λ (o : Out). o.number) outs) (take count (filter (λ x. test x && not (is_out outs x)) (count_up from n))) ≡ true
-free_new outs test from n count =
-    let nos : List ℕ = map (λ (o : Out). o.number) outs in
-    let free : List ℕ = filter (λ x. test x && not (is_out outs x)) (count_up from n) in
-    let once : are_new [] (take count free) ≡ true =
-    take_new count [] free (filter_new (λ x. test x && not (is_out outs x)) [] (count_up from n) (count_new from n [] (λ x i. absurd i))) in
-    ap (λ l. are_new l (take count free)) (sym (append-nil nos))
-    ∙ new_beside nos [] (take count free) once
-    (λ x i j.
-    let k = filter_in (λ y. test y && not (is_out outs y)) x (count_up from n) (take_in count free x i) in
-    let parts = and_parts (test x) (not (is_out outs x)) k.1 in
-    let r = map_from (λ (o : Out). o.number) x outs j in
-    both_ways (is_out outs x) (not-true (is_out outs x) parts.1) (ap (is_out outs) r.2 ∙ number_out outs r.0 r.1))
+free_may : (outs : List (Option LibNo)) (test : ℕ → Bool) (from n count : ℕ) → from + n ≤ length outs → MayGoOut outs (take count (filter (λ x. test x && not (is_out outs x)) (count_up from n)))
+free_may outs test from n count fits =
+    let free : List ℕ = filter (λ x. test x && not (is_out outs x)) (count_up from n) in (
+      (λ x i.
+          let k = filter_in (λ y. test y && not (is_out outs y)) x (count_up from n) (take_in count free x i) in
+          let lt = count_within from n x k.0 in
+          (omega (arith, lt, fits), not-true (is_out outs x) (and_parts (test x) (not (is_out outs x)) k.1).1)),
+      take_new count [] free (filter_new (λ x. test x && not (is_out outs x)) [] (count_up from n) (count_new from n [] (λ x i. absurd i))),
+    )
+
+length-tabulated : {X : Type 0} (f : ℕ → X) (n : ℕ) → length (tabulated f n) ≡ n
+length-tabulated f zero = refl
+length-tabulated f (suc n) = let l = length_push (tabulated f n) (f n) in let ih = length-tabulated f n in omega (arith, l, ih)
 
 pub given_out_is_in_hand : GivenOutIsInHand
-given_out_is_in_hand s lib has wanted_pages wanted_numbers pages numbers s' h comes =
+given_out_is_in_hand s lib has wanted_pages wanted_numbers pages numbers s' kept h comes =
     by_tests (ltb (length (free_pages s)) wanted_pages) (ltb (length (free_numbers s)) wanted_numbers) comes
   where
     by_tests : (few_pages few_numbers : Bool) → Comes (cond few_pages (record { answer = NoPages wanted_pages (length (free_pages s)); after = logged s }) (cond few_numbers (record { answer = NoInodes wanted_numbers (length (free_numbers s)); after = logged s }) (record { answer = Given (take wanted_pages (free_pages s)) (take wanted_numbers (free_numbers s)); after = allots s lib (take wanted_pages (free_pages s)) (take wanted_numbers (free_numbers s)) }))) (Given pages numbers) s' → InHand s' lib (with_allotted has pages numbers)
@@ -156,6 +160,10 @@ given_out_is_in_hand s lib has wanted_pages wanted_numbers pages numbers s' h co
         let same : Given pages numbers ≡ Given ps ns = c.0 in
         let pages_are : pages ≡ ps = cc same in
         let numbers_are : numbers ≡ ns = cc same in
-        let new_pages = free_new s.pages_out (λ page. eqb (slice_index s.home.owners page) 0) s.home.core.range.first (s.home.core.range.end - s.home.core.range.first) wanted_pages in
-        let new_numbers = free_new s.numbers_out (λ n. not (is_some (row_at s.home n))) 1 s.home.core.inodes wanted_numbers in
+        let placed = kept.pages_placed in
+        let owners : length s.home.owners ≡ s.home.core.range.end = ap length kept.verifies.owners ∙ length-tabulated _ s.home.core.range.end in
+        let places = kept.numbers_placed in
+        let rows : length s.home.rows ≡ s.home.core.inodes + 1 = ap length kept.verifies.rows ∙ length-tabulated _ (s.home.core.inodes + 1) in
+        let new_pages = free_may s.pages_out (λ page. eqb (slice_index s.home.owners page) 0) 0 (length s.home.owners - 0) wanted_pages (omega (arith, placed, owners)) in
+        let new_numbers = free_may s.numbers_out (λ n. not (is_some (row_at s.home n))) 1 (length s.home.rows - 1) wanted_numbers (omega (arith, places, rows)) in
         rw (c.1, pages_are, numbers_are) (allotted_is_in_hand s lib has ps ns h new_pages new_numbers)

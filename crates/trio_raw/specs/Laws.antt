@@ -1,6 +1,6 @@
 -- The laws of what a library has: it stays in hand through all that the library does with it, and through all that the
 -- controller does.
-use Rattle.std.specs.Prelude.{◌≡◌, ℕ, List, [], ◌∷◌, ◌++◌, map, length, Some, IsTrue}
+use Rattle.std.specs.Prelude.{◌≡◌, ◌<◌, ℕ, List, [], ◌∷◌, ◌++◌, map, length, Option, Some, IsTrue, IsFalse}
 use Rattle.trio_page.specs.Field.{zeros}
 use Rattle.trio_rights.specs.declared.rights.Creds.{Creds}
 use Rattle.trio_rights.specs.Row.{Row}
@@ -9,12 +9,15 @@ use Rattle.trio_nodes.specs.declared.spot.Spot.{Spot}
 use Rattle.trio_lists.specs.Lists.{In, are_new}
 use Rattle.trio_page.specs.Sheets.{Sheet}
 use Rattle.trio_layout.specs.Image.{Image, IsFit, row_at}
-use Rattle.trio_state.specs.State.{OpenGrant, Out, State, settled}
+use Rattle.trio_state.specs.State.{OpenGrant, State, settled}
 use Rattle.trio_layout.specs.Proposed.{Written}
 use Rattle.trio_state.specs.Grants.{opened, opens}
 use Rattle.trio_state.specs.Allotments.{allots}
 use Rattle.trio_state.specs.Bundles.{Ends}
-use Rattle.trio_state.specs.Given.{GivenTo}
+use Rattle.trio_state.specs.Given.{GivenTo, WasAllotted}
+use Rattle.trio_state.specs.Kept.{Kept}
+use Rattle.trio_tables.specs.Out.{is_out}
+use Rattle.trio_rights.specs.declared.rights.LibNo.{LibNo}
 use Rattle.trio_state.specs.Run.{start}
 use Rattle.trio_state.specs.Step.{Granted, Given, Comes, grant_outcome, allot_outcome}
 use Rattle.trio_raw.specs.Has.{Has, nothing, poked, has_all_of, bundle_of, rest_of, whole_bundle}
@@ -86,20 +89,24 @@ abbrev pub with_allotted : Has → List ℕ → List ℕ → Has
 with_allotted has pages numbers =
     record { files = has.files; pages = has.pages ++ map zero_sheet pages; numbers = has.numbers ++ numbers }
 
--- pages and numbers that are allotted now are in hand beside the others, where none of them was out, and none comes twice
+-- the numbers have their places, none of them is out, and none comes twice
+abbrev pub MayGoOut : List (Option LibNo) → List ℕ → Type 0
+MayGoOut outs ns = ((n : ℕ) → In n ns → (n < length outs) × IsFalse (is_out outs n)) × IsTrue (are_new [] ns)
+
+-- pages and numbers that are allotted now are in hand beside the others, where each has its place, none of them was out, and
+-- none comes twice
 abbrev pub AllottedIsInHand : Type 0
 AllottedIsInHand =
     (s : State) (lib : ℕ) (has : Has) (pages numbers : List ℕ)
     → InHand s lib has
-    → IsTrue (are_new (map (λ o. o.number) s.pages_out) pages)
-    → IsTrue (are_new (map (λ o. o.number) s.numbers_out) numbers)
+    → MayGoOut s.pages_out pages → MayGoOut s.numbers_out numbers
     → InHand (allots s lib pages numbers) lib (with_allotted has pages numbers)
 
 -- so they are where the controller gives them
 abbrev pub GivenOutIsInHand : Type 0
 GivenOutIsInHand =
     (s : State) (lib : ℕ) (has : Has) (wanted_pages wanted_numbers : ℕ) (pages numbers : List ℕ) (s' : State)
-    → InHand s lib has
+    → Kept s → InHand s lib has
     → Comes (allot_outcome s lib wanted_pages wanted_numbers) (Given pages numbers) s'
     → InHand s' lib (with_allotted has pages numbers)
 
@@ -109,8 +116,8 @@ StaysInHand =
     (s : State) (lib : ℕ) (has : Has) (s' : State)
     → InHand s lib has
     → ((g : OpenGrant) → In g s.open_grants → g.lib ≡ lib → g.kind ≡ Write → In g s'.open_grants)
-    → ((o : Out) → In o s.pages_out → o.lib ≡ lib → In o s'.pages_out)
-    → ((o : Out) → In o s.numbers_out → o.lib ≡ lib → In o s'.numbers_out)
+    → ((n : ℕ) → WasAllotted s.pages_out lib n → WasAllotted s'.pages_out lib n)
+    → ((n : ℕ) → WasAllotted s.numbers_out lib n → WasAllotted s'.numbers_out lib n)
     → InHand s' lib has
 
 -- and where it was given in the later state too, as it is after each step of another library

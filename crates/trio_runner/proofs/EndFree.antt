@@ -1,10 +1,13 @@
 -- At a script's end nothing is lent or out.
-use Rattle.std.proofs.Common.{◌≡◌, ℕ, Bool, true, false, cond, not, ◌&&◌, ◌||◌, eqb, ltb, List, [], ◌∷◌, ◌++◌, length, take, Option, Some, None, sym, refl, ap, ◌∙◌, subst, inl, inr, ◌⊎◌}
+use Rattle.std.proofs.Common.{◌≡◌, ◌<◌, ◌+◌, ℕ, Bool, true, false, cond, not, ◌&&◌, ◌||◌, eqb, ltb, List, [], ◌∷◌, ◌++◌, length, take, Option, Some, None, sym, refl, ap, ◌∙◌, subst, inl, inr, ◌⊎◌}
 use Rattle.std.proofs.Math.Dec.{eqb-suc-zero}
 use Rattle.std.specs.Prelude.{map, MatchOption, is_some}
 use Rattle.std.proofs.lemmas.Bool.{and_parts, and_from, or_left, eq-eqb, both_ways, false≢true, not-true, cases_Bool, MatchBool-at_true, MatchBool-at_false}
 use Rattle.std.proofs.lemmas.List.{map-append, map-id}
 use Rattle.std.proofs.lemmas.Simd.{map-map}
+use Rattle.trio_rights.specs.declared.rights.LibNo.{LibNo}
+use Rattle.trio_tables.specs.Out.{NoneOut, is_out, lib_at, none_out}
+use Rattle.trio_tables.proofs.OutLemmas.{is_out-back, is_out-given, length-with_all, lib_at-none_out, lib_at-others, lib_at-set, within_some}
 use Rattle.trio_rights.specs.declared.rights.Creds.{Creds}
 use Rattle.trio_rights.specs.Row.{Row}
 use Rattle.trio_nodes.specs.declared.grant.GrantKind.TheVariants.{Write}
@@ -13,11 +16,11 @@ use Rattle.trio_nodes.specs.declared.answers.GrantFault.TheVariants.{NotLive, De
 use Rattle.trio_lists.specs.Lists.{In, is_among}
 use Rattle.trio_page.specs.Sheets.{Sheet, sheet_numbers}
 use Rattle.trio_layout.specs.Image.{Image, row_at}
-use Rattle.trio_state.specs.State.{OpenGrant, Out, State, logged}
+use Rattle.trio_state.specs.State.{OpenGrant, State, logged}
 use Rattle.trio_nodes.specs.GrantKinds.{is_write}
 use Rattle.trio_layout.specs.Proposed.{Written, Bundle, is_written}
 use Rattle.trio_state.specs.Grants.{grant_fault, opened, opens}
-use Rattle.trio_state.specs.Allotments.{allots, free_pages, free_numbers, out_after}
+use Rattle.trio_state.specs.Allotments.{allots, free_pages, free_numbers, out_after, out_with}
 use Rattle.trio_state.specs.Bundles.{Ends, grants_after, is_in_bundle, lent_part}
 use Rattle.trio_nodes.specs.GrantKinds.{is_hold}
 use Rattle.trio_state.specs.Step.{Event, Grant, Allot, Release, Given, NoPages, NoInodes, Done, NotClosed, NoMemory, Comes, after_grant_fault, granted_to, grant_outcome, allot_outcome, ReleaseEnd, Parted, IsAccepted, IsRefused}
@@ -25,7 +28,7 @@ use Rattle.trio_state.specs.Run.{Move}
 use Rattle.trio_lists.proofs.Filters.{finds}
 use Rattle.trio_raw.specs.Has.{Has, nothing, bundle_of, has_all_of, rest_of, whole_bundle, is_nothing}
 use Rattle.trio_raw.specs.Laws.{lent_file, with_lent, with_allotted, zero_sheet}
-use Rattle.trio_raw.proofs.Members.{In-left, In-right, In-cases, In-map, map_from, among_from, filter_in}
+use Rattle.trio_raw.proofs.Members.{In-left, In-right, In-cases, In-map, map_from, among_from, filter_in, In-among}
 use Rattle.trio_script.specs.declared.line.RawLine.{RawLine}
 use Rattle.trio_script.specs.declared.line.RawLine.TheVariants.{GrantWrite, Allot as AllotLine, Poke, Release as ReleaseLine}
 use Rattle.trio_script.specs.declared.ScriptLine.{ScriptLine}
@@ -41,19 +44,22 @@ not_told : {A B : Type 0} (tell : A → Option B) (a b : A) (told : B) → a ≡
 not_told tell a b told same is none =
     let wrong : None ≡ Some told = sym none ∙ ap tell (sym same) ∙ is in absurd (cc wrong)
 
-none_out : (lib : ℕ) (mine : List ℕ) → OutInHand lib [] mine
-none_out lib mine = record { lib = λ o i. absurd i; number = λ o i. absurd i }
+no_out_in_hand : (lib count : ℕ) (mine : List ℕ) → OutInHand lib (none_out count) mine
+no_out_in_hand lib count mine = record {
+  lib = λ n l e. (let wrong : None ≡ Some l = sym (lib_at-none_out count n) ∙ e in absurd (cc wrong));
+  number = λ n t. absurd (false≢true (sym (ap is_some (lib_at-none_out count n)) ∙ t));
+}
 
 start_in_hand : (image : Image) (creds : List Creds) → AllInHand 1 (at_start image creds)
 start_in_hand image creds = record {
   lib = λ g i. absurd i;
   kind = λ g i. absurd i;
   file = λ g i. absurd i;
-  pages = none_out 1 [];
-  numbers = none_out 1 [];
+  pages = no_out_in_hand 1 image.core.range.end [];
+  numbers = no_out_in_hand 1 (image.core.inodes + 1) [];
 }
 
-same_outs : (lib : ℕ) (outs outs' : List Out) (mine mine' : List ℕ) → OutInHand lib outs mine → outs' ≡ outs → mine' ≡ mine → OutInHand lib outs' mine'
+same_outs : (lib : ℕ) (outs outs' : List (Option LibNo)) (mine mine' : List ℕ) → OutInHand lib outs mine → outs' ≡ outs → mine' ≡ mine → OutInHand lib outs' mine'
 same_outs lib outs outs' mine mine' h same numbers =
     subst (λ l. OutInHand lib l mine') (sym same) (subst (OutInHand lib outs) (sym numbers) h)
 
@@ -121,22 +127,25 @@ grant_in_hand lib ino p told moves p' h a comes =
 -- ---- an allotment
 
 -- more numbers are out, and are the library's
-more_outs : (lib : ℕ) (outs : List Out) (mine new : List ℕ) → OutInHand lib outs mine → OutInHand lib (outs ++ map (λ (n : ℕ). record { lib = lib; number = n }) new) (mine ++ new)
+more_outs : (lib : ℕ) (outs : List (Option LibNo)) (mine new : List ℕ) → OutInHand lib outs mine → OutInHand lib (out_with outs lib new) (mine ++ new)
 more_outs lib outs mine new h = record {
-  lib = λ o i. elim (In-cases o outs (map made new) i) [
-    | inl j ↦ h.lib o j
-    | inr j ↦ let r = map_from made o new j in ap (λ (x : Out). x.lib) r.2
-  ];
-  number = λ o i. elim (In-cases o outs (map made new) i) [
-    | inl j ↦ In-left o.number mine new (h.number o j)
-    | inr j ↦
-        (let r = map_from made o new j in
-        In-right o.number mine new (subst (λ n. In n new) (sym (ap (λ (x : Out). x.number) r.2)) r.1))
+  lib = λ n l e. by n l e (is_among n new) refl;
+  number = λ n t. elim (is_out-given (Some mine') new n outs t) [
+    | inl a ↦ In-right n mine new (In-among n new a)
+    | inr was ↦ In-left n mine new (h.number n was)
   ];
 }
   where
-    made : ℕ → Out
-    made n = record { lib = lib; number = n }
+    abbrev mine' : LibNo
+    mine' = record { 0 = lib }
+
+    by : (n : ℕ) (l : LibNo) → lib_at (out_with outs lib new) n ≡ Some l → (b : Bool) → is_among n new ≡ b → l.0 ≡ lib
+    by n l e false f = h.lib n l (sym (lib_at-others (Some mine') new n outs f) ∙ e)
+    by n l e true t =
+        let lt = subst (λ k. n < k) (length-with_all (Some mine') new outs) (within_some (out_with outs lib new) n (ap is_some e)) in
+        let same : Some l ≡ Some mine' = sym e ∙ lib_at-set (Some mine') new n outs lt t in
+        let is : l ≡ mine' = cc same in
+        ap (λ (x : LibNo). x.0) is
 
 -- the pages that a library has once more were allotted to it
 more_pages : (has : Has) (pages numbers : List ℕ) → sheet_numbers (with_allotted has pages numbers).pages ≡ sheet_numbers has.pages ++ pages
@@ -213,17 +222,18 @@ stayed s lib b image s' e g i =
     record { grant = r.0; is_open = was.0; outside = not-true (is_in_bundle lib b r.0) was.1; same = r.2 }
 
 -- what is out after the end was out before and isn't handed in; so it is left
-outs_left : (lib : ℕ) (outs outs' : List Out) (mine these left : List ℕ) → OutInHand lib outs mine → Splits mine these left → outs' ≡ out_after outs these → OutInHand lib outs' left
+outs_left : (lib : ℕ) (outs outs' : List (Option LibNo)) (mine these left : List ℕ) → OutInHand lib outs mine → Splits mine these left → outs' ≡ out_after outs these → OutInHand lib outs' left
 outs_left lib outs outs' mine these left h splits e = record {
-  lib = λ o i. h.lib o (was o i).0;
-  number = λ o i. elim (splits o.number (h.number o (was o i).0)) [
-    | inl j ↦ absurd (both_ways (is_among o.number these) (not-true (is_among o.number these) (was o i).1) (among_from o.number these j))
-    | inr j ↦ j
-  ];
+  lib = λ n l f.
+      let g : lib_at (out_after outs these) n ≡ Some l = ap (λ x. lib_at x n) (sym e) ∙ f in
+      h.lib n l (sym (lib_at-others None these n outs (is_out-back these n outs (ap is_some g)).1) ∙ g);
+  number = λ n t.
+      let r = is_out-back these n outs (ap (λ x. is_out x n) (sym e) ∙ t) in
+      elim (splits n (h.number n r.0)) [
+        | inl j ↦ absurd (both_ways (is_among n these) r.1 (among_from n these j))
+        | inr j ↦ j
+      ];
 }
-  where
-    was : (o : Out) → In o outs' → In o outs × (not (is_among o.number these) ≡ true)
-    was o i = filter_in (λ (x : Out). not (is_among x.number these)) o outs (subst (In o) e i)
 
 ends_in_hand : (lib : ℕ) (p : Player) (b : Bundle) (image : Image) (after : Has) (p' : Player) → AllInHand lib p → Leaves p.has b after → Ends p.state lib b image p'.state → p'.has ≡ after → AllInHand lib p'
 ends_in_hand lib p b image after p' h leaves e has = record {
@@ -315,8 +325,12 @@ none_there [] none = refl
 none_there (x ∷ xs) none = absurd (none x (inl refl))
 
 -- where the library has no number none is out
-no_outs : (lib : ℕ) (outs : List Out) (mine : List ℕ) → OutInHand lib outs mine → mine ≡ [] → outs ≡ []
-no_outs lib outs mine h none = none_there outs (λ o i. subst (In o.number) none (h.number o i))
+no_outs : (lib : ℕ) (outs : List (Option LibNo)) (mine : List ℕ) → OutInHand lib outs mine → mine ≡ [] → NoneOut outs
+no_outs lib outs mine h none n = by (lib_at outs n) refl
+  where
+    by : (o : Option LibNo) → lib_at outs n ≡ o → lib_at outs n ≡ None
+    by None e = e
+    by (Some l) e = absurd (subst (In n) none (h.number n (ap is_some e)))
 
 -- where the library has nothing nothing is lent or out
 nothing_out : (lib : ℕ) (p : Player) → AllInHand lib p → p.has.files ≡ [] → p.has.pages ≡ [] → p.has.numbers ≡ [] → NothingOut p.state

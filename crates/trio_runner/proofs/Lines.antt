@@ -2,6 +2,7 @@
 use Rattle.std.proofs.Common.{◌≡◌, ℕ, Bool, true, false, cond, not, ltb, List, [], ◌∷◌, length, take, Option, Some, None, sym, refl, ap, ◌∙◌, subst, inl, inr, ◌⊎◌}
 use Rattle.std.specs.Prelude.{map, MatchOption}
 use Rattle.std.proofs.lemmas.Bool.{MatchBool-at_true, MatchBool-at_false, cases_Bool}
+use Rattle.trio_tables.specs.Out.{lib_at}
 use Rattle.trio_rights.specs.Row.{Row}
 use Rattle.trio_nodes.specs.declared.grant.GrantKind.TheVariants.{Write, Hold}
 use Rattle.trio_nodes.specs.declared.answers.GrantFault.{GrantFault}
@@ -81,8 +82,8 @@ same_stands lib p p' h kept grants pages numbers has = record {
   in_hand = subst (InHand p'.state lib) (sym has)
       (stays_in_hand p.state lib p.has p'.state h.in_hand
       (λ g i l k. subst (In g) (sym grants) i)
-      (λ o i l. subst (In o) (sym pages) i)
-      (λ o i l. subst (In o) (sym numbers) i));
+      (λ n out. ap (λ l. lib_at l n) pages ∙ out)
+      (λ n out. ap (λ l. lib_at l n) numbers ∙ out));
   no_hold = λ g i l k. h.no_hold g (subst (In g) grants i) l k;
 }
 
@@ -158,7 +159,7 @@ allot_stands lib wanted many p told moves p' h kept a comes =
     by_tests false false c = record {
       kept = kept;
       in_hand = subst (InHand p'.state lib) (sym (a.has ∙ ap (has_after lib p.state p.has (AllotLine wanted many)) c.0))
-          (given_out_is_in_hand p.state lib p.has wanted many (take wanted ps) (take many ns) p'.state h.in_hand
+          (given_out_is_in_hand p.state lib p.has wanted many (take wanted ps) (take many ns) p'.state h.kept h.in_hand
           (subst (λ (x : Answer). Comes (allot_outcome p.state lib wanted many) x p'.state) c.0 comes));
       no_hold = λ g i l k. h.no_hold g (subst (λ (s : State). In g s.open_grants) c.1 i) l k;
     }

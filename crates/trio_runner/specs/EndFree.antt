@@ -1,20 +1,22 @@
 -- All that is lent or out in the midst of a script is in its library's hands, and at its end nothing is lent or out.
-use Rattle.std.specs.Prelude.{◌≡◌, ℕ, List, [], map}
+use Rattle.std.specs.Prelude.{◌≡◌, ℕ, List, [], map, Option, Some, IsTrue}
 use Rattle.trio_rights.specs.declared.rights.Creds.{Creds}
+use Rattle.trio_rights.specs.declared.rights.LibNo.{LibNo}
+use Rattle.trio_tables.specs.Out.{NoneOut, is_out, lib_at}
 use Rattle.trio_nodes.specs.declared.grant.GrantKind.TheVariants.{Write}
 use Rattle.trio_lists.specs.Lists.{In}
 use Rattle.trio_page.specs.Sheets.{sheet_numbers}
 use Rattle.trio_layout.specs.Image.{Image, IsFit}
 use Rattle.trio_layout.specs.Verifies.{Verifies}
-use Rattle.trio_state.specs.State.{OpenGrant, Out, State}
+use Rattle.trio_state.specs.State.{OpenGrant, State}
 use Rattle.trio_state.specs.Run.{IsWhole}
 use Rattle.trio_script.specs.declared.ScriptLine.{ScriptLine}
 use Rattle.trio_runner.specs.Play.{Player, Played}
 
 -- each number that is out by allotment is out to the library, and is one of these
-pub record OutInHand (lib' : ℕ) (outs : List Out) (mine : List ℕ) : Type 0 where
-  pub lib : (o : Out) → In o outs → o.lib ≡ lib'
-  pub number : (o : Out) → In o outs → In o.number mine
+pub record OutInHand (lib' : ℕ) (outs : List (Option LibNo)) (mine : List ℕ) : Type 0 where
+  pub lib : (n : ℕ) (l : LibNo) → lib_at outs n ≡ Some l → l.0 ≡ lib'
+  pub number : (n : ℕ) → IsTrue (is_out outs n) → In n mine
 
 -- every open grant is a write grant of the library, on a file that it has; and it has every page and every inode number that is out
 pub record AllInHand (lib' : ℕ) (p : Player) : Type 0 where
@@ -27,8 +29,8 @@ pub record AllInHand (lib' : ℕ) (p : Player) : Type 0 where
 -- no grant is open, and no page and no inode number is out by allotment
 pub record NothingOut (s : State) : Type 0 where
   pub grants : s.open_grants ≡ []
-  pub pages : s.pages_out ≡ []
-  pub numbers : s.numbers_out ≡ []
+  pub pages : NoneOut s.pages_out
+  pub numbers : NoneOut s.numbers_out
 
 -- at a script's end nothing is lent or out
 abbrev pub PlayedEndsFree : Type 0

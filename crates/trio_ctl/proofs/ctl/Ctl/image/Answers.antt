@@ -1,4 +1,5 @@
 use Rattle.std.proofs.Common.{◌≡◌, arith, ap, length, subst, sym, ◌∙◌}
+use Rattle.trio_tables.specs.Out.{lib_at}
 use Rattle.trio_page.specs.Home.{Pages}
 use Rattle.trio_layout.proofs.Superblocks.{superblock_facts}
 use Rattle.trio_state.specs.State.{State, settled}
@@ -85,7 +86,7 @@ returns-clause-stores c = λ nothing.
     let has = subst (HasSuperblock s.superblock) (sym pages) (stored_superblock s.superblock s.home.pages s.rows s.owners s.outs s.libs.items s.entries k made.shadow made.owner) in
     subst (λ (v : State). StoresImage c.of-2.result.superblock (settled v) c.of-2.result.pages) (same_state s.superblock s.home.pages s.rows s.owners s.files.items s.outs s.libs.items s.entries home.0 ∙ (state_is c.self.view_is))
     (stores_by s.superblock c.of-2.result.superblock _ c.of-2.result.pages _ (c.of-2.ensures.superblock s.superblock has) (c.of-2.ensures.pages ∙ pages)
-    (stores s.superblock s.home.pages s.rows s.owners s.outs s.libs.items s.entries k made.shadow made.owner (ap (λ (v : State). v.pages_out) (state_is c.self.view_is) ∙ nothing)))
+    (stores s.superblock s.home.pages s.rows s.owners s.outs s.libs.items s.entries k made.shadow made.owner (λ n. ap (λ (v : State). lib_at v.pages_out n) (state_is c.self.view_is) ∙ nothing n)))
 
 pub returns-clause-answer : goal.returns-clause-answer
 returns-clause-answer c =

@@ -20,8 +20,8 @@ use Rattle.trio_proposal.specs.Judged.{IfAccepted, IfRefused, IsImage}
 use Rattle.trio_ctl.specs.Ctl.{IsControlled, state_of}
 use Rattle.trio_ctl.specs.Moves.{all_covered, followed, lent_uncovered}
 use Rattle.trio_ctl.specs.Open.{Opened, keyed}
-use Rattle.trio_ctl.specs.Outs.{outs_after}
 use Rattle.trio_ctl.proofs.Views.{state_is}
+use Rattle.trio_allot.specs.Out.{outs_after}
 use Rattle.trio_ctl.proofs.Ending.{ending}
 use Rattle.trio_ctl.proofs.Handing.{allotted_places, bundle_within, covered_within}
 use Rattle.trio_ctl.proofs.Releasing.{accepted_controlled, accepted_step, after_long, after_stands, refused_controlled, refused_step}
