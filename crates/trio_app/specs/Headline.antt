@@ -12,10 +12,11 @@ use Rattle.trio_state.specs.Step.{Release, Refused}
 use Rattle.trio_laws.specs.Laws.{IsVerdict, IsBack}
 use Rattle.trio_surveys.specs.Tree.{IsTree}
 
--- The moves are a run of the controller from the image's state, of events that hand in what was given, with any bytes. The first
--- state and the state after each move are kept: the settled image verifies. It is one connected tree, with each page owned once
--- and rights as in the shadow table. A bundle is accepted exactly where the whole image with its bytes would be sound by an
--- allowed change, and refused exactly where not; then what the checkpoints cover is back, byte for byte.
+-- The moves are a run of the controller from the image's state, of events that hand in what was given, with any bytes.
+-- The first state and the state after each move are kept: the settled image verifies. It is one connected tree, with
+-- each page owned once and rights as in the shadow table. A bundle is accepted exactly where the whole image with its
+-- bytes would be sound by an allowed change, and refused exactly where not; then what the checkpoints cover is back,
+-- byte for byte.
 pub record Headline (image : Image) (creds : List Creds) (moves : List Move) : Type 0 where
   pub run : Trace (start image creds) moves
   pub begins : Kept (start image creds) × IsTree image

@@ -28,7 +28,8 @@ use Rattle.trio_state.specs.Run.{start, IsWhole, Move, Trace}
 
 -- ---- runs
 
--- A run from an image that verifies, with all its pages there: moves of any events that hand in what was given, with any bytes.
+-- A run from an image that verifies, with all its pages there: moves of any events that hand in what was given, with any
+-- bytes.
 pub record AnyRun : Type 0 where
   pub image : Image
   pub creds : List Creds
@@ -84,8 +85,9 @@ EveryReleaseIsJudged =
     (run : AnyRun) (m : Move) (lib : ℕ) (b : Bundle)
     → In m run.moves → m.event ≡ Release lib b → IsVerdict m.before lib b m.answer m.after
 
--- What stands in the settled image after a refusal: all as before, but for the lent blocks of its written files that aren't
--- covered, and its allotted pages. The pages that the checkpoints of its written files cover are not among these: they are as before, byte for byte.
+-- What stands in the settled image after a refusal: all as before, but for the lent blocks of the bundle's written files
+-- that aren't covered, and its allotted pages. The pages that the checkpoints of its written files cover are not among
+-- these: they are as before, byte for byte.
 pub record IsBack (s : State) (b : Bundle) (s' : State) : Type 0 where
   pub pages :
       (page : ℕ) → (In page (sheet_numbers (uncovered (settled s) b ++ b.pages)) → ⊥)

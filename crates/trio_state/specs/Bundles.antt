@@ -62,8 +62,8 @@ uncovered_by (Some r) blocks = uncovered_of r.kind blocks
 abbrev pub uncovered : Image → Bundle → List Sheet
 uncovered image b = flat_map (λ w. uncovered_by (row_at image w.ino) w.blocks) b.writes
 
--- What is settled after a refusal: as before, but lent blocks that aren't covered and allotted pages stand at their numbers as
--- they were handed in.
+-- What is settled after a refusal: as before, but lent blocks that aren't covered and allotted pages stand at their
+-- numbers as they were handed in.
 abbrev pub refused_image : Image → Bundle → Image
 refused_image image b = with_core_pages image (with_pages (uncovered image b ++ b.pages) image.core.pages)
 

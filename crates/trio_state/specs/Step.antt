@@ -97,8 +97,8 @@ mode_outcome s lib ino mode = moded_to s ino mode (mode_fault s lib ino mode (ro
 abbrev pub Comes : Outcome → Answer → State → Type 0
 Comes o answer s' = (answer ≡ o.answer) × (s' ≡ o.after)
 
--- A release ends parted, accepted or refused: a bundle that is not closed comes back with nothing changed; a closed one is
--- accepted where it is acceptable in the settled image, and refused, with a cause, where it is not.
+-- A release ends parted, accepted or refused: a bundle that is not closed comes back with nothing changed; a closed one
+-- is accepted where it is acceptable in the settled image, and refused, with a cause, where it is not.
 pub data ReleaseEnd (s : State) (lib : ℕ) (b : Bundle) (answer : Answer) (s' : State) : Type 0 where
   Parted : (n : ℕ) → parted_hold s lib b ≡ Some n → answer ≡ NotClosed n → s' ≡ s → ReleaseEnd s lib b answer s'
   IsAccepted :
