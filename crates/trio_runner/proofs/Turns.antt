@@ -1,8 +1,8 @@
 -- What each call of a turn comes to.
-use Rattle.std.proofs.Common.{◌≡◌, ℕ, Bool, true, not, ◌&&◌, eqb, List, [], ◌∷◌, ◌++◌, map, Some, None, sym, refl, ap, ◌∙◌, subst, inl, inr}
+use Rattle.std.proofs.Common.{◌≡◌, ℕ, Option, Bool, true, not, ◌&&◌, eqb, List, [], ◌∷◌, ◌++◌, map, Some, None, sym, refl, ap, ◌∙◌, subst, inl, inr}
 use Rattle.std.specs.Prelude.{IsTrue, IsFalse, IfOk, OnOk, Result, Ok, Err, if◌then◌else◌}
 use Rattle.std.specs.List.{filter}
-use Rattle.std.specs.Option.{ForSome}
+use Rattle.std.specs.Option.{IsSomeAnd}
 use Rattle.std.proofs.lemmas.Bool.{cases_Bool, and_parts, eqb-true, true_from_ne_false}
 use Rattle.trio_rights.specs.declared.rights.LibNo.{LibNo}
 use Rattle.trio_nodes.specs.declared.grant.GrantKind.{GrantKind}
@@ -15,6 +15,9 @@ use Rattle.trio_nodes.specs.declared.answers.ReleaseAnswer.{ReleaseAnswer}
 use Rattle.trio_lists.specs.Lists.{In, is_among}
 use Rattle.trio_lease.specs.declared.parts.FreshParts.{FreshParts}
 use Rattle.trio_lease.specs.declared.parts.InoParts.{InoParts}
+use Rattle.trio_rights.specs.Row.{Row}
+use Rattle.trio_lease.specs.declared.lease.Lease.{Lease}
+use Rattle.trio_lease.specs.declared.lease.Lease.TheVariants.{Write as WriteLent}
 use Rattle.trio_lease.specs.Shown.{LentFile}
 use Rattle.trio_allot.specs.Out.{fresh_page, inode_numbers, page_numbers}
 use Rattle.trio_page.specs.Sheets.{Sheet}
@@ -146,12 +149,19 @@ lease_file g =
     let b = sheets_untouched g.blocks in
     ap (λ index. shown index (map lent_sheet (map untouched g.blocks))) a ∙ ap (shown g.index) b
 
-pub grant_played : (ino : ℕ) (s : State) (h : Held) (s' : State) (h' : Held) (lease : LentFile) → IsReady s h → Step s (Grant h.lib.0 ino Write) (Granted 0) s' → ForSome (row_at s.home ino) (λ r. lease ≡ lease_of (opened s h.lib.0 ino Write r)) → h'.has ≡ with_lent h.has (file_of lease) → h'.lib ≡ h.lib → LinePlayed (GrantWrite ino) answered.Granted s h s' h'
-grant_played ino s h s' h' lease ready step lent has lib =
+-- a lease that a write grant gives, which is a write lease
+lease_is : (o : Option Row) (r : Row) (f : Row → LentFile) (lease : Lease) (file : LentFile) → o ≡ Some r → IsSomeAnd o (λ r. lease ≡ WriteLent (f r)) → lease ≡ WriteLent file → file ≡ f r
+lease_is o r f lease file live given is =
+    let wanted : lease ≡ WriteLent (f r) = subst (λ o. IsSomeAnd o (λ r. lease ≡ WriteLent (f r))) live given in
+    let same : WriteLent file ≡ WriteLent (f r) = sym is ∙ wanted in
+    cc
+
+pub grant_played : (ino : ℕ) (s : State) (h : Held) (s' : State) (h' : Held) (given : Lease) (lease : LentFile) → IsReady s h → Step s (Grant h.lib.0 ino Write) (Granted 0) s' → IsSomeAnd (row_at s.home ino) (λ r. given ≡ WriteLent (lease_of (opened s h.lib.0 ino Write r))) → given ≡ WriteLent lease → h'.has ≡ with_lent h.has (file_of lease) → h'.lib ≡ h.lib → LinePlayed (GrantWrite ino) answered.Granted s h s' h'
+grant_played ino s h s' h' given lease ready step lent is has lib =
     elim step [
       | inl does ↦ (
           let got = granted_is_in_hand s h.lib.0 ino h.has 0 s' ready.stands.kept.fit ready.stands.in_hand does in
-          let file : file_of lease ≡ lent_file (opened s h.lib.0 ino Write got.0) = ap file_of (lent got.0 got.1) ∙ lease_file (opened s h.lib.0 ino Write got.0) in
+          let file : file_of lease ≡ lent_file (opened s h.lib.0 ino Write got.0) = ap file_of (lease_is (row_at s.home ino) got.0 (λ r. lease_of (opened s h.lib.0 ino Write r)) given lease got.1 lent is) ∙ lease_file (opened s h.lib.0 ino Write got.0) in
           record {
             moves = _;
             line = record {

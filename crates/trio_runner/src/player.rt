@@ -116,8 +116,12 @@ fn play_grant(ctl: &mut Ctl, raw: &mut Raw, ino: u32) -> Result<LineAnswer, NoMe
             keep_lease(raw, lease);
             Ok(LineAnswer::Granted)
         }
-        // a write grant gives no other
-        Ok(lease) => {
+        // a write grant gives no other lease
+        Ok(Lease::Read(lease)) => {
+            lease.discard();
+            unreachable!()
+        }
+        Ok(Lease::Hold(lease)) => {
             lease.discard();
             unreachable!()
         }

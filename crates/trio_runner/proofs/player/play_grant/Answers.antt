@@ -5,10 +5,10 @@ use Rattle.trio_runner.specs.Seen.{LinePlayed}
 use Rattle.trio_runner.proofs.Turns.{grant_played, fault_played, if_ok}
 use Rattle.trio_runner.proofs.player.play_grant.Goals as goal
 
-pub returns-in-Ok : goal.returns-in-Ok
-returns-in-Ok c =
-    grant_played c.args.ino c.args.ctl.now.state c.args.raw.now c.grant.new.self.state c.keep_lease.new.raw c.in-Ok.lease c.requires
-    (search rules) (search rules) (search rules) (search rules)
+pub returns-in-Ok-Write : goal.returns-in-Ok-Write
+returns-in-Ok-Write c =
+    grant_played c.args.ino c.args.ctl.now.state c.args.raw.now c.grant.new.self.state c.keep_lease.new.raw c.in-Ok-Write.field-0 c.in-Ok-Write.lease c.requires
+    (search rules) (search rules) (search rules) (search rules) (search rules)
 
 pub returns-in-Err : goal.returns-in-Err
 returns-in-Err c =
