@@ -8,6 +8,7 @@ use std::alloc::Global;
 use std::test::Fail;
 use trio_ctl::Ctl;
 use trio_image::{bytes_of, read};
+use trio_nodes::List;
 use trio_page::NoMemory;
 use trio_page::field::{put_bytes_in, put_u32_in};
 use trio_report::{EndAnswer, LineAnswer};
@@ -164,15 +165,15 @@ fn allotments_are_answered(rt: HostRuntime) -> Result<(), Fail> {
     let told = play_script(alloc, &bytes, script).ok_or("a script")?;
     let wanted = [
         LineAnswer::Allotted {
-            pages: vec![in alloc; 7, 8]?,
-            inodes: vec![in alloc; 3]?,
+            pages: List::from_vec(vec![in alloc; 7, 8]?),
+            inodes: List::from_vec(vec![in alloc; 3]?),
         },
         LineAnswer::Poked,
         LineAnswer::Accepted,
         LineAnswer::Absent,
         LineAnswer::Allotted {
-            pages: vec![in alloc; 8, 9]?,
-            inodes: Vec::new(alloc),
+            pages: List::from_vec(vec![in alloc; 8, 9]?),
+            inodes: List::from_vec(Vec::new(alloc)),
         },
         LineAnswer::NoPages {
             wanted: 24,
