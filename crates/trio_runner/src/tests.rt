@@ -6,6 +6,7 @@ use std::alloc::Global;
 use std::test::Fail;
 use trio_ctl::Ctl;
 use trio_image::{Image, bytes_of};
+use trio_nodes::List;
 use trio_page::NoMemory;
 use trio_report::{EndAnswer, LineAnswer};
 use trio_rights::Creds;
