@@ -241,11 +241,7 @@ impl Sink for MemSink {
         ensures fails { FailsNext (⟦<MemSink as Planned>⟧.plan self.old) → IsErr result }
     {
         let fails = self.plan.next();
-        let part = if fails {
-            bytes.len() / 2
-        } else {
-            bytes.len()
-        };
+        let part = if fails { bytes.len() / 2 } else { bytes.len() };
         if self.bytes.extend_from_slice(&bytes[..part]).is_ok() && !fails {
             return Ok(());
         }
