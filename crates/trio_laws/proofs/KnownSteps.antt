@@ -294,10 +294,12 @@ module _ (s : State) (k : Kept s) where
           let ns : List ℕ = take many (free_numbers s) in
           let ck : List Sheet = sheets s.open_grants in
           let image : settled (allots u lib ps ns) ≡ settled (allots s lib ps ns) =
-          ap (λ ss. J s (with_pages ss (without_pages ps (with_pages ck s.home.core.pages)))) (sheets-bare s.open_grants)
+          ap (λ ss. J s (with_pages ss (without_pages ps (with_pages ck s.home.core.pages))))
+          (sheets-bare s.open_grants)
           ∙ ap (J s)
           (sym (with_pages-without_pages ck ps s.home.core.pages (λ n i j. uncovered' s lib count many k n i j))) in
-          (known_same (allots u lib ps ns) (allots s lib ps ns) image (bare-bare s.open_grants) refl refl refl refl, refl)
+          let same = bare-bare s.open_grants in
+          (known_same (allots u lib ps ns) (allots s lib ps ns) image same refl refl refl refl, refl)
 
   giving_back : (lib ino : ℕ) → known (given_back u lib ino) ≡ known (given_back s lib ino)
   giving_back lib ino =

@@ -45,8 +45,8 @@ HeldFilesKeepContent =
     → row_at s.home n ≡ Some r → IsTrue (is_among n b.holds) → row_at (next (settled s) b) n ≡ Some q
     → HasSameContent (settled s) (next (settled s) b) n
 
--- The body that is settled of a file once a bundle is accepted: of one that was live, the body of its write lease, where
--- that is in the bundle, or else its settled one; of a new one, with this row, the body in its slot as it was handed in.
+-- The body that is settled of a file once a bundle is accepted: of one that was live, the body of its write lease,
+-- where that is in the bundle, or else its settled one; of a new one, with this row, the body in its slot as handed in.
 abbrev pub accepted_body : Image → Bundle → ℕ → Option Row → Row → List ℕ
 accepted_body image b n (Some r) q = kept_body image b n
 accepted_body image b n None q = body_at_place (proposed image b) q.page q.slot

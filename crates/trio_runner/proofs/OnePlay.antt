@@ -1,24 +1,22 @@
 -- Two plays of one script on one image come to the same.
-use Rattle.std.proofs.Common.{◌≡◌, ◌≢◌, ℕ, Bool, true, false, List, [], ◌∷◌, Option, Some, None, sym, refl, ap, ◌∙◌, subst, inl, inr, ◌⊎◌}
+use Rattle.std.proofs.Common.{◌≡◌, ◌≢◌, ℕ, true, false, List, [], ◌∷◌, Option, Some, None, sym, refl, ap, ◌∙◌, subst, inl, inr, ◌⊎◌}
 use Rattle.std.proofs.lemmas.Bool.{MatchBool-at_true, MatchBool-at_false, cases_Bool, false≢true}
-use Rattle.trio_rights.specs.declared.rights.Creds.{Creds}
 use Rattle.trio_rights.specs.Row.{Row}
 use Rattle.trio_nodes.specs.declared.grant.GrantKind.TheVariants.{Write}
 use Rattle.trio_layout.specs.Image.{Image, row_at}
-use Rattle.trio_state.specs.State.{OpenGrant, State, settled}
-use Rattle.trio_state.specs.Grants.{opened}
+use Rattle.trio_state.specs.State.{OpenGrant, State}
 use Rattle.trio_state.specs.Step.{Event, Release, Answer, Granted, NotGranted, Given, NoPages, NoInodes, Done, Accepted, Refused, NotClosed, Settled, ModeSet, NotModeSet, NoMemory, Step}
 use Rattle.trio_laws.specs.Known.{Known, known, plain_state, is_refusal, SameAnswer}
 use Rattle.trio_laws.proofs.KnownSteps.{known_decides, same_event_same_answer}
-use Rattle.trio_raw.specs.Has.{Has, nothing, whole_bundle, is_nothing}
+use Rattle.trio_raw.specs.Has.{Has, whole_bundle, is_nothing}
 use Rattle.trio_raw.specs.Laws.{lent_file, with_lent}
 use Rattle.trio_script.specs.Said.{Said, grant_write, allot, poke, release}
 use Rattle.trio_script.specs.Script.{SaidLine}
 use Rattle.trio_report.specs.Answers.{Answer as Told}
 use Rattle.trio_report.specs.declared.report.EndAnswer.{EndAnswer}
-use Rattle.trio_runner.specs.Play.{Player, Moved, Alone, Asks, PlaysLine, Plays, EndsAlone, EndsAll, PlaysEnd, Played, event_of, told_of, end_of, told_alone, has_alone, has_lent, has_after, at_start}
+use Rattle.trio_runner.specs.Play.{Player, Moved, PlaysLine, Plays, EndsAlone, EndsAll, PlaysEnd, event_of, told_of, end_of, told_alone, has_alone, has_lent, has_after, at_start}
 use Rattle.trio_runner.specs.PlayLaws.{Stands}
-use Rattle.trio_runner.specs.OnePlay.{ComeToOne, PlayedIsOne}
+use Rattle.trio_runner.specs.OnePlay.{PlayedIsOne}
 use Rattle.trio_runner.proofs.Lines.{LineEnd, IsAlone, IsAsked, line_end, line_stands, start_stands}
 
 -- of two players the same is known, and the library has the same
@@ -118,15 +116,18 @@ one_line lib p q said told told' moves moves' p' q' h k like one two =
         let same : Some event' ≡ Some event = sym f ∙ sym events ∙ e in
         let one_event : event' ≡ event = cc same in
         let step : Step q.state event b.answer q'.state =
-            subst (λ x. Step q.state x b.answer q'.state) one_event b.step in
+        subst (λ x. Step q.state x b.answer q'.state) one_event b.step in
         let r = same_event_same_answer p.state q.state event a.answer b.answer p'.state q'.state h.kept k.kept
-            like.known_same a.step step (told_some a.answer told a.told_is) (told_some b.answer told' b.told_is) in
+        like.known_same a.step step (told_some a.answer told a.told_is) (told_some b.answer told' b.told_is) in
         let answers : a.answer ≡ b.answer = one_answer a.answer b.answer r.0 in
         let tolds : Some told ≡ Some told' = sym a.told_is ∙ ap told_of answers ∙ b.told_is in
         record {
           one_told = cc tolds;
-          alike = record { known_same = r.1; has_same = a.has
-              ∙ has_after_same lib p q said a.answer b.answer like answers ∙ sym b.has };
+          alike = record {
+            known_same = r.1;
+            has_same = a.has
+                ∙ has_after_same lib p q said a.answer b.answer like answers ∙ sym b.has;
+          };
         }
 
 -- lines, one after another
@@ -157,8 +158,8 @@ one_part lib p q (l ∷ lines) (t ∷ ts) (u ∷ us) moves moves' p' q' h k like
     let first = one_line lib p q l.said t u one.first two.first one.middle two.middle h k like one.line two.line in
     let rest =
     one_part lib one.middle two.middle lines ts us one.others two.others p' q'
-        (line_stands lib p l.said t one.first one.middle h one.line)
-        (line_stands lib q l.said u two.first two.middle k two.line) first.alike one.rest two.rest in
+    (line_stands lib p l.said t one.first one.middle h one.line)
+    (line_stands lib q l.said u two.first two.middle k two.line) first.alike one.rest two.rest in
     record {
       one_told = ap (λ x. x ∷ ts) first.one_told ∙ ap (λ l. u ∷ l) rest.one_told;
       alike = rest.alike;
@@ -190,7 +191,7 @@ one_end_of lib p q end end' moves moves' p' q' h k like a b =
     let step : Step q.state event b.answer q'.state =
     subst (λ x. Step q.state (Release lib (whole_bundle x)) b.answer q'.state) (sym like.has_same) b.step in
     let r = same_event_same_answer p.state q.state event a.answer b.answer p'.state q'.state h.kept k.kept
-        like.known_same a.step step (end_some a.answer end a.end_is) (end_some b.answer end' b.end_is) in
+    like.known_same a.step step (end_some a.answer end a.end_is) (end_some b.answer end' b.end_is) in
     let ends : Some end ≡ Some end' = sym a.end_is ∙ ap end_of (one_answer a.answer b.answer r.0) ∙ b.end_is in
     record { one_end = cc ends; known_same = r.1 }
 
@@ -221,7 +222,7 @@ played_is_one image creds lines a b fit verifies whole =
     let begins = start_stands image creds fit verifies whole in
     let part =
     one_part 1 first first lines a.tolds b.tolds a.line_moves b.line_moves a.middle b.middle begins begins
-        (record { known_same = refl; has_same = refl }) a.lines_are b.lines_are in
+    (record { known_same = refl; has_same = refl }) a.lines_are b.lines_are in
     let last = one_end 1 a.middle b.middle a.end b.end a.end_moves b.end_moves a.last b.last part.stands part.stands'
-        part.alike a.end_is b.end_is in
+    part.alike a.end_is b.end_is in
     record { tolds = part.one_told; end = last.one_end; settles = ap (λ (k : Known). k.image) last.known_same }
