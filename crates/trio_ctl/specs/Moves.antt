@@ -7,8 +7,7 @@ use Rattle.trio_lease.specs.Shown.{LentFile}
 use Rattle.trio_allot.specs.Out.{OutTo}
 use Rattle.trio_layout.specs.Marks.{all_below}
 use Rattle.trio_state.specs.Handed.{lent_sheet}
-use Rattle.trio_page.specs.Sheets.{Sheet}
-use Rattle.trio_state.specs.Sheets.{sheet_numbers}
+use Rattle.trio_page.specs.Sheets.{Sheet, sheet_numbers}
 use Rattle.trio_state.specs.Bundles.{uncovered_of}
 use Rattle.trio_layout.specs.Proposed.{Bundle}
 use Rattle.trio_checkpoint.specs.Covered.{standing}

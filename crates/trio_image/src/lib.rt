@@ -20,4 +20,6 @@ pub use image::{Image, ImageParts, bytes_of};
 pub use reading::LoadFault;
 
 #[cfg(test)]
+mod survey_tests;
+#[cfg(test)]
 mod tests;

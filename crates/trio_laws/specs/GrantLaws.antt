@@ -1,5 +1,5 @@
 -- Laws on the order of open grants.
-use Rattle.std.specs.Prelude.{◌≡◌, ◌<◌, ◌≤◌, Bool, List, ◌∷◌, Some, AllPairs, slice_get, IsTrue}
+use Rattle.std.specs.Prelude.{◌≡◌, ◌<◌, ◌≤◌, Bool, List, Some, AllPairs, slice_get, IsTrue}
 use Rattle.std.specs.List.{filter}
 use Rattle.trio_rights.specs.declared.rights.Creds.{Creds}
 use Rattle.trio_lists.specs.Lists.{In}

@@ -22,7 +22,7 @@ use Rattle.trio_state.specs.Grants.{denied_by, denied_or, excluding, grant_fault
 use Rattle.trio_nodes.specs.GrantKinds.{excludes_kind}
 use Rattle.trio_layout.specs.Pages.{block_sheets, index_sheets, settled_chain, sheets_of}
 use Rattle.trio_state.specs.Allotments.{allots, free_pages, free_numbers}
-use Rattle.trio_layout.specs.Lists.{tabulated}
+use Rattle.trio_lists.specs.Lists.{tabulated}
 use Rattle.trio_state.specs.Step.{Granted, NotGranted, Given, NoPages, NoInodes, Done, Comes, granted_to}
 use Rattle.trio_raw.specs.InHand.{InHand}
 use Rattle.trio_raw.specs.Laws.{GrantedIsInHand, GivenOutIsInHand, MayGoOut, lent_file, with_lent, with_allotted}

@@ -32,6 +32,4 @@ pub use verdict::{verify, verify_found};
 pub use whole::{Found, survey, survey_picked};
 
 #[cfg(test)]
-mod image_tests;
-#[cfg(test)]
 mod tests;

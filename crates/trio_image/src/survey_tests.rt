@@ -1,16 +1,16 @@
-//! Images of 32 pages and 64 inode numbers, and each of them damaged.
+//! The survey, on images of 32 pages and 64 inode numbers, and each of them damaged.
 //!
 //! Page 0 is the superblock, page 1 has the shadow rows, page 2 the owner rows, and the core begins at
 //! page 3.
 
-use crate::{Found, Picks, SurveyFault, survey, survey_picked, verify};
 use std::alloc::Global;
 use std::test::Fail;
 use trio_layout::{CoreRange, Superblock};
 use trio_page::{Home, PageNo, Reads};
 use trio_rights::{Kind, Mode};
 use trio_samples::files::{large_tree, one_file, root, six_directories, three_files};
-use trio_samples::{Sample, SampleFile};
+use trio_samples::Sample;
+use trio_survey::{Found, Picks, SurveyFault, survey, survey_picked, verify};
 use trio_tables::{CONTROLLER, Row};
 
 /// What `verify` answers, and how often it looked at a page.
@@ -22,81 +22,92 @@ fn verdict(alloc: Global, home: &mut Home) -> Result<(Result<(), SurveyFault>, u
     Ok((answer, reads.count()))
 }
 
-/// Bytes written over an image: page, offset and bytes.
-type Damage = (usize, usize, &'static [u8]);
+/// The image that is damaged.
+#[derive(Clone, Copy)]
+enum Files {
+    OnlyRoot,
+    OneFile,
+    ThreeFiles,
+    SixDirectories,
+}
 
-/// Each row has the image, the damage, and the rule, file, page and slot that come out, all 0 where
-/// the image verifies.
+/// The image, the page, the offset and the bytes written there, and the rule, file, page and slot
+/// that come out, all 0 where the image verifies.
+type Damaged = (Files, (usize, usize, &'static [u8]), (u8, u32, u32, u16));
+
+const DAMAGED: [Damaged; 46] = [
+    // whole, and with another block of the file
+    (Files::OneFile, (0, 0, b""), (0, 0, 0, 0)),
+    (Files::ThreeFiles, (0, 0, b""), (0, 0, 0, 0)),
+    (Files::SixDirectories, (0, 0, b""), (0, 0, 0, 0)),
+    (Files::OnlyRoot, (0, 0, b""), (0, 0, 0, 0)),
+    (Files::OneFile, (6, 0, b"world"), (0, 0, 0, 0)),
+    (Files::OneFile, (6, 5, b"more"), (0, 0, 0, 0)),
+    // the body of a directory, of a file and of the root
+    (Files::ThreeFiles, (4, 192 + 16, &[1]), (1, 2, 0, 0)),
+    (Files::OneFile, (4, 192 + 2, &[1]), (1, 2, 0, 0)),
+    (Files::OneFile, (4, 192 + 12, &[2]), (1, 2, 0, 0)),
+    (Files::OneFile, (4, 192 + 12, &[32]), (1, 2, 0, 0)),
+    (Files::OneFile, (4, 192 + 18, &[2]), (1, 2, 0, 0)),
+    (Files::SixDirectories, (8, 192 + 17, &[16]), (1, 5, 0, 0)),
+    (Files::OnlyRoot, (0, 40 + 17, &[16]), (1, 1, 0, 0)),
+    // an index page: a page out of the core, a number behind the last, a further link
+    (Files::OneFile, (5, 0, &[2]), (1, 2, 5, 0)),
+    (Files::OneFile, (5, 0, &[32]), (1, 2, 5, 0)),
+    (Files::OneFile, (5, 8, &[7]), (1, 2, 5, 0)),
+    (Files::OneFile, (5, 4088, &[7]), (1, 2, 5, 0)),
+    (Files::ThreeFiles, (3, 4088, &[32]), (1, 1, 3, 0)),
+    // more blocks than there are core pages
+    (Files::OneFile, (4, 192 + 16, &[0, 16, 0x20]), (1, 2, 0, 0)),
+    // a slot: number, kind, length, zeros and name
+    (Files::OneFile, (4, 0, &[65]), (1, 1, 4, 0)),
+    (Files::OneFile, (4, 4, &[3]), (1, 1, 4, 0)),
+    (Files::ThreeFiles, (6, 5, &[0]), (1, 2, 6, 0)),
+    (Files::ThreeFiles, (6, 6, &[1]), (1, 2, 6, 0)),
+    (Files::SixDirectories, (8, 8, b"/"), (1, 4, 8, 0)),
+    // the same name again
+    (Files::OneFile, (4, 256, &[3, 0, 0, 0, 1, 1, 0, 0, b'f']), (1, 1, 4, 1)),
+    (Files::SixDirectories, (4, 256 + 8, b"a"), (1, 1, 4, 1)),
+    // a number again: in its directory, in another, as its own child, and the root's
+    (Files::OneFile, (4, 256, &[2, 0, 0, 0, 1, 1, 0, 0, b'g']), (2, 1, 4, 1)),
+    (Files::SixDirectories, (12, 0, &[5]), (2, 6, 12, 0)),
+    (Files::ThreeFiles, (6, 512, &[2, 0, 0, 0, 2, 1, 0, 0, b'a']), (2, 2, 6, 2)),
+    (Files::OneFile, (4, 512, &[1, 0, 0, 0, 2, 1, 0, 0, b'g']), (2, 1, 4, 2)),
+    // a page again: the block and the index page of another file, and of the file itself
+    (Files::OneFile, (5, 0, &[4]), (2, 2, 4, 0)),
+    (Files::ThreeFiles, (7, 0, &[5]), (2, 3, 5, 0)),
+    (Files::OneFile, (5, 0, &[5]), (2, 2, 5, 0)),
+    (Files::SixDirectories, (10, 192 + 12, &[7]), (2, 6, 7, 0)),
+    // rows: state, kind, mode, uid, parent, page, slot, one that isn't live, and behind the last
+    (Files::OneFile, (1, 0, &[0]), (5, 1, 0, 0)),
+    (Files::OneFile, (1, 33, &[2]), (5, 2, 0, 0)),
+    (Files::OneFile, (1, 34, &[0xa5]), (5, 2, 0, 0)),
+    (Files::ThreeFiles, (1, 68, &[1]), (5, 3, 0, 0)),
+    (Files::ThreeFiles, (1, 76, &[1]), (5, 3, 0, 0)),
+    (Files::ThreeFiles, (1, 80, &[7]), (5, 3, 0, 0)),
+    (Files::SixDirectories, (1, 84 + 128, &[1]), (5, 7, 0, 0)),
+    (Files::OneFile, (1, 2048, &[1]), (5, 0, 0, 0)),
+    // owners: of a block, of a free page, of the controller's page, and behind the last
+    (Files::OneFile, (2, 24, &[3]), (5, 0, 6, 0)),
+    (Files::OnlyRoot, (2, 12, &[2]), (5, 0, 3, 0)),
+    (Files::OneFile, (2, 4, &[0xfe]), (5, 0, 1, 0)),
+    (Files::OneFile, (2, 128, &[1]), (5, 0, 0, 0)),
+];
+
+fn sample(alloc: Global, files: Files) -> Result<Sample, Fail> {
+    let made = match files {
+        Files::OnlyRoot => Sample::small(alloc, &[root()]),
+        Files::OneFile => Sample::small(alloc, &one_file()),
+        Files::ThreeFiles => Sample::small(alloc, &three_files()),
+        Files::SixDirectories => Sample::small(alloc, &six_directories()),
+    };
+    Ok(made?)
+}
+
 #[test]
 fn damaged_images(rt: HostRuntime) -> Result<(), Fail> {
-    let (one, three, six, empty) = (one_file(), three_files(), six_directories(), [root()]);
-    let (one, three, six, empty): (&[SampleFile], &[SampleFile], &[SampleFile], &[SampleFile]) = (
-        &one, &three, &six, &empty,
-    );
-    let rows: [(&[SampleFile], Damage, (u8, u32, u32, u16)); 46] = [
-        // whole, and with another block of the file
-        (one, (0, 0, b""), (0, 0, 0, 0)),
-        (three, (0, 0, b""), (0, 0, 0, 0)),
-        (six, (0, 0, b""), (0, 0, 0, 0)),
-        (empty, (0, 0, b""), (0, 0, 0, 0)),
-        (one, (6, 0, b"world"), (0, 0, 0, 0)),
-        (one, (6, 5, b"more"), (0, 0, 0, 0)),
-        // the body of a directory, of a file and of the root
-        (three, (4, 192 + 16, &[1]), (1, 2, 0, 0)),
-        (one, (4, 192 + 2, &[1]), (1, 2, 0, 0)),
-        (one, (4, 192 + 12, &[2]), (1, 2, 0, 0)),
-        (one, (4, 192 + 12, &[32]), (1, 2, 0, 0)),
-        (one, (4, 192 + 18, &[2]), (1, 2, 0, 0)),
-        (six, (8, 192 + 17, &[16]), (1, 5, 0, 0)),
-        (empty, (0, 40 + 17, &[16]), (1, 1, 0, 0)),
-        // an index page: a page out of the core, a number behind the last, a further link
-        (one, (5, 0, &[2]), (1, 2, 5, 0)),
-        (one, (5, 0, &[32]), (1, 2, 5, 0)),
-        (one, (5, 8, &[7]), (1, 2, 5, 0)),
-        (one, (5, 4088, &[7]), (1, 2, 5, 0)),
-        (three, (3, 4088, &[32]), (1, 1, 3, 0)),
-        // more blocks than there are core pages
-        (one, (4, 192 + 16, &[0, 16, 0x20]), (1, 2, 0, 0)),
-        // a slot: number, kind, length, zeros and name
-        (one, (4, 0, &[65]), (1, 1, 4, 0)),
-        (one, (4, 4, &[3]), (1, 1, 4, 0)),
-        (three, (6, 5, &[0]), (1, 2, 6, 0)),
-        (three, (6, 6, &[1]), (1, 2, 6, 0)),
-        (six, (8, 8, b"/"), (1, 4, 8, 0)),
-        // the same name again
-        (one, (4, 256, &[3, 0, 0, 0, 1, 1, 0, 0, b'f']), (1, 1, 4, 1)),
-        (six, (4, 256 + 8, b"a"), (1, 1, 4, 1)),
-        // a number again: in its directory, in another, as its own child, and the root's
-        (one, (4, 256, &[2, 0, 0, 0, 1, 1, 0, 0, b'g']), (2, 1, 4, 1)),
-        (six, (12, 0, &[5]), (2, 6, 12, 0)),
-        (
-            three,
-            (6, 512, &[2, 0, 0, 0, 2, 1, 0, 0, b'a']),
-            (2, 2, 6, 2),
-        ),
-        (one, (4, 512, &[1, 0, 0, 0, 2, 1, 0, 0, b'g']), (2, 1, 4, 2)),
-        // a page again: the block and the index page of another file, and of the file itself
-        (one, (5, 0, &[4]), (2, 2, 4, 0)),
-        (three, (7, 0, &[5]), (2, 3, 5, 0)),
-        (one, (5, 0, &[5]), (2, 2, 5, 0)),
-        (six, (10, 192 + 12, &[7]), (2, 6, 7, 0)),
-        // rows: state, kind, mode, uid, parent, page, slot, one that isn't live, and behind the last
-        (one, (1, 0, &[0]), (5, 1, 0, 0)),
-        (one, (1, 33, &[2]), (5, 2, 0, 0)),
-        (one, (1, 34, &[0xa5]), (5, 2, 0, 0)),
-        (three, (1, 68, &[1]), (5, 3, 0, 0)),
-        (three, (1, 76, &[1]), (5, 3, 0, 0)),
-        (three, (1, 80, &[7]), (5, 3, 0, 0)),
-        (six, (1, 84 + 128, &[1]), (5, 7, 0, 0)),
-        (one, (1, 2048, &[1]), (5, 0, 0, 0)),
-        // owners: of a block, of a free page, of the controller's page, and behind the last
-        (one, (2, 24, &[3]), (5, 0, 6, 0)),
-        (empty, (2, 12, &[2]), (5, 0, 3, 0)),
-        (one, (2, 4, &[0xfe]), (5, 0, 1, 0)),
-        (one, (2, 128, &[1]), (5, 0, 0, 0)),
-    ];
-    for (files, (page, at, bytes), (rule, ino, wanted_page, slot)) in rows {
-        let mut sample = Sample::small(rt.alloc(), files)?;
+    for (files, (page, at, bytes), (rule, ino, wanted_page, slot)) in DAMAGED {
+        let mut sample = sample(rt.alloc(), files)?;
         sample.put(page, at, bytes);
         let wanted = if rule == 0 {
             Ok(())
