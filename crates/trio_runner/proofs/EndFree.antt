@@ -126,25 +126,25 @@ grant_in_hand lib ino p told moves p' h a comes =
 
 -- ---- an allotment
 
+abbrev library : ℕ → LibNo
+library lib = record { 0 = lib }
+
 -- more numbers are out, and are the library's
 more_outs : (lib : ℕ) (outs : List (Option LibNo)) (mine new : List ℕ) → OutInHand lib outs mine → OutInHand lib (out_with outs lib new) (mine ++ new)
 more_outs lib outs mine new h = record {
   lib = λ n l e. by n l e (is_among n new) refl;
-  number = λ n t. elim (is_out-given (Some mine') new n outs t) [
+  number = λ n t. elim (is_out-given (Some (library lib)) new n outs t) [
     | inl a ↦ In-right n mine new (In-among n new a)
     | inr was ↦ In-left n mine new (h.number n was)
   ];
 }
   where
-    abbrev mine' : LibNo
-    mine' = record { 0 = lib }
-
     by : (n : ℕ) (l : LibNo) → lib_at (out_with outs lib new) n ≡ Some l → (b : Bool) → is_among n new ≡ b → l.0 ≡ lib
-    by n l e false f = h.lib n l (sym (lib_at-others (Some mine') new n outs f) ∙ e)
+    by n l e false f = h.lib n l (sym (lib_at-others (Some (library lib)) new n outs f) ∙ e)
     by n l e true t =
-        let lt = subst (λ k. n < k) (length-with_all (Some mine') new outs) (within_some (out_with outs lib new) n (ap is_some e)) in
-        let same : Some l ≡ Some mine' = sym e ∙ lib_at-set (Some mine') new n outs lt t in
-        let is : l ≡ mine' = cc same in
+        let lt = subst (λ k. n < k) (length-with_all (Some (library lib)) new outs) (within_some (out_with outs lib new) n (ap is_some e)) in
+        let same : Some l ≡ Some (library lib) = sym e ∙ lib_at-set (Some (library lib)) new n outs lt t in
+        let is : l ≡ library lib = cc same in
         ap (λ (x : LibNo). x.0) is
 
 -- the pages that a library has once more were allotted to it
