@@ -18,8 +18,7 @@ ghost use Rattle.trio_runner.specs.Seen.{EndPlayed, IsReady, LinePlayed, LinesPl
 use std::alloc::Global;
 use trio_ctl::Ctl;
 use trio_lease::{Allotted, Bundle, FreshIno, FreshPage, Lease, WriteLease};
-use trio_nodes::{AllotFault, GrantFault, GrantKind, ReleaseAnswer, ReleaseFault, Spot};
-use trio_nodes::{AllotFault, GrantFault, List, ReleaseAnswer, ReleaseFault, Spot};
+use trio_nodes::{AllotFault, GrantFault, GrantKind, List, ReleaseAnswer, ReleaseFault, Spot};
 use trio_page::{NoMemory, Reads};
 use trio_raw::{Raw, RawFault};
 use trio_report::{EndAnswer, LineAnswer};
