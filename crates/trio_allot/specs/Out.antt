@@ -8,23 +8,23 @@ use Rattle.trio_lease.specs.declared.parts.FreshParts.{FreshParts}
 use Rattle.trio_lease.specs.declared.parts.InoParts.{InoParts}
 
 -- by page number and by inode number, the library that has it out, or None where it isn't out
-pub record OutTo : Type 0 where
+pub record OutByNumber : Type 0 where
   pub pages : List (Option LibNo)
   pub numbers : List (Option LibNo)
 
 -- nothing is out of so many pages and so many inode numbers; the number 0 has its place, and is none
-abbrev pub nothing_out : ℕ → ℕ → OutTo
+abbrev pub nothing_out : ℕ → ℕ → OutByNumber
 nothing_out pages inodes = record { pages = none_out pages; numbers = none_out (inodes + 1) }
 
 -- once these pages and numbers went out to a library
-abbrev pub outs_with : OutTo → LibNo → List ℕ → List ℕ → OutTo
+abbrev pub outs_with : OutByNumber → LibNo → List ℕ → List ℕ → OutByNumber
 outs_with outs lib pages numbers = record {
   pages = with_all (Some lib) pages outs.pages;
   numbers = with_all (Some lib) numbers outs.numbers;
 }
 
 -- once these pages and numbers are back
-abbrev pub outs_after : OutTo → List ℕ → List ℕ → OutTo
+abbrev pub outs_after : OutByNumber → List ℕ → List ℕ → OutByNumber
 outs_after outs pages numbers = record { pages = with_all None pages outs.pages; numbers = with_all None numbers outs.numbers }
 
 -- a page that goes out: its number, and all zero bytes

@@ -34,9 +34,9 @@ pub struct Allotments {
 }
 
 impl Model for Allotments {
-    ghost use Rattle.trio_allot.specs.Out.{OutTo};
+    ghost use Rattle.trio_allot.specs.Out.{OutByNumber};
 
-    ghost Value = { OutTo };
+    ghost Value = { OutByNumber };
 
     ghost view = { λ a. record { pages = a.pages.items; numbers = a.numbers.items } };
 }

@@ -9,7 +9,7 @@
 //!
 //! [`Allotments`] hands out the lowest free ones, and each page that it hands out is all zero.
 //! Contracts see it as two lists, by page and by inode number, of the library that has it out
-//! (`OutTo` of `specs/Out.antt`). So what is out is out to one library, and once.
+//! (`OutByNumber` of `specs/Out.antt`). So what is out is out to one library, and once.
 //!
 //! `trio_tables`' `specs/Free.antt` says what is free.
 #![tactic(auto)]

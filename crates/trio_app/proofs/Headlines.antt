@@ -9,7 +9,7 @@ use Rattle.trio_state.specs.Run.{IsWhole, start}
 use Rattle.trio_layout.specs.Verifies.{Verifies}
 use Rattle.trio_state.specs.State.{settled}
 use Rattle.trio_state.specs.Given.{GivenEvent}
-use Rattle.trio_state.specs.Step.{Event, Answer, Release, Step}
+use Rattle.trio_state.specs.Step.{Event, CtlAnswer, Release, Step}
 use Rattle.trio_laws.specs.Laws.{AnyRun}
 use Rattle.trio_laws.proofs.StateLaws.{every_state_is_kept, every_move_is_a_step, every_release_is_judged}
 use Rattle.trio_surveys.proofs.Trees.{image_is_tree}
@@ -42,7 +42,7 @@ headline_of image creds lines played fit verifies whole =
           let move = every_move_is_a_step run m i in
           let G : Event → Type 0 = λ event. GivenEvent m.before event in
           let S : Event → Type 0 = λ event. Step m.before event m.answer m.after in
-          let R : Answer → Type 0 = λ answer. Step m.before (Release lib b) answer m.after in
+          let R : CtlAnswer → Type 0 = λ answer. Step m.before (Release lib b) answer m.after in
           refusal_keeps m.before lib b why m.after move.kept (subst G is move.given) (subst R told (subst S is move.step));
     }
 

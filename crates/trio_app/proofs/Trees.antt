@@ -9,9 +9,8 @@ use Rattle.trio_rights.specs.declared.kind.Kind.TheVariants.{Regular, Directory}
 use Rattle.trio_layout.specs.declared.superblock.Superblock.{Superblock}
 use Rattle.trio_layout.specs.Body.{body_of, block_count}
 use Rattle.trio_layout.specs.Index.{index_of}
-use Rattle.trio_lists.specs.Lists.{both, gathered, result_map, result_then}
-use Rattle.trio_layout.specs.Core.{Core, Place, at_page, nowhere, page_of}
-use Rattle.trio_lists.specs.Lists.{there_or}
+use Rattle.trio_lists.specs.Lists.{both, gathered, result_map, result_then, there_or}
+use Rattle.trio_layout.specs.Core.{Core, Location, at_page, nowhere, page_of}
 use Rattle.trio_layout.specs.Chain.{chain_from, chain_of, index_count, index_page, with_index}
 use Rattle.trio_layout.specs.Entries.{Listed, entries_on, entries_of_kind, page_entries, with_names_apart}
 use Rattle.trio_layout.specs.Survey.{Met, FileRead, file_of, file_with, met_in, plain, root_of}
@@ -62,7 +61,7 @@ file_same a pages h m =
     ∙ then_same (file_with a m.kind b) (file_with b' m.kind b) (chain_of b' b)
     (λ c. ap (result_map (λ es. record { body = b; chain = c; entries = es })) (entries_same a pages h m.kind c.blocks)))
 
-with_same : (f g : Listed → List TreeLine) (depth : ℕ) (name : List ℕ) (kind : Kind) (r : Result FileRead Place) → ((l : Listed) → f l ≡ g l) → lines_with f depth name kind r ≡ lines_with g depth name kind r
+with_same : (f g : Listed → List TreeLine) (depth : ℕ) (name : List ℕ) (kind : Kind) (r : Result FileRead Location) → ((l : Listed) → f l ≡ g l) → lines_with f depth name kind r ≡ lines_with g depth name kind r
 with_same f g depth name kind (Err place) h = refl
 with_same f g depth name kind (Ok r) h = ap (λ ys. told_line depth name kind r ∷ ys) (flat_map_same f g (by_name r.entries) h)
 

@@ -7,10 +7,12 @@ use Rattle.trio_app.specs.declared.status.Status.TheVariants.{NotBuilt}
 use Rattle.trio_app.specs.Lines.{not_built_words}
 use Rattle.trio_app.specs.Turns.{Turns}
 
+-- what the words of the command line ask for
 pub data Command : Type 0 where
   turns : List ℕ → List ℕ → List ℕ → Command
   unknown : Command
 
+-- the command that words are
 abbrev pub command_of : List (List ℕ) → Command
 command_of (word ∷ image ∷ script ∷ out ∷ []) = if bytes_eq word (codes "turns") then turns image script out else unknown
 command_of words = unknown

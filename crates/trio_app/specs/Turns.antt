@@ -114,6 +114,7 @@ pub record TurnsCounts (image script out : List ℕ) (old new : Shelf) : Type 0 
   pub serves : new.served ≡ old.served
   pub tells : new.tells ≡ old.tells
 
+-- what `turns` came to, what it left as it was, and which counts may have risen
 pub record Turns (image script out : List ℕ) (old new : Shelf) (text : List ℕ) (status : Status) : Type 0 where
   pub comes_to : TurnsComesTo image script out old new text status
   pub keeps : TurnsKeeps out old new status

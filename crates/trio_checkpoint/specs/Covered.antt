@@ -7,7 +7,7 @@ use Rattle.trio_rights.specs.declared.kind.Kind.TheVariants.{Regular, Directory}
 use Rattle.trio_layout.specs.declared.range.CoreRange.{CoreRange}
 use Rattle.trio_layout.specs.Body.{body_of}
 use Rattle.trio_lists.specs.Lists.{result_then, there_or}
-use Rattle.trio_layout.specs.Core.{Core, Place, nowhere, page_of}
+use Rattle.trio_layout.specs.Core.{Core, Location, nowhere, page_of}
 use Rattle.trio_layout.specs.Chain.{Chain, chain_of}
 use Rattle.trio_layout.specs.Entries.{body_in_slot}
 use Rattle.trio_page.specs.Sheets.{Sheet}
@@ -31,7 +31,7 @@ abbrev pub core_of : List (Option (List ℕ)) → CoreRange → Core
 core_of pages range = record { pages = pages; root = []; range = range; inodes = 0 }
 
 -- the chain of a file of this kind that has this body
-abbrev pub chain_in : Core → Kind → List ℕ → Result Chain Place
+abbrev pub chain_in : Core → Kind → List ℕ → Result Chain Location
 chain_in core kind body = result_then (chain_of core) (there_or nowhere (body_of kind core.range body))
 
 -- of the numbers of a file's blocks, those of blocks that are covered: a directory's

@@ -6,7 +6,7 @@ ghost use Rattle.std.specs.Option.{option_copied};
 ghost use Rattle.std.specs.Result.{ForOk};
 ghost use Rattle.trio_nodes.specs.declared.grant.GrantKind.TheVariants.{Write};
 ghost use Rattle.trio_lists.specs.Lists.{is_among};
-ghost use Rattle.trio_lists.specs.Marks.{all_below};
+ghost use Rattle.trio_lists.specs.Marked.{all_below};
 ghost use Rattle.trio_layout.specs.Pages.{sheets_of};
 ghost use Rattle.trio_page.specs.Sheets.{sheet_numbers, with_pages};
 ghost use Rattle.trio_state.specs.State.{covered};

@@ -1,6 +1,6 @@
 ghost use Rattle.std.specs.Prelude.{◌≡◌, ◌≤◌, IfOk, IfSome, IsOk, IsTrue, length};
 ghost use Rattle.std.specs.Result.{ForOk};
-ghost use Rattle.trio_lists.specs.Marks.{all_below};
+ghost use Rattle.trio_lists.specs.Marked.{all_below};
 ghost use Rattle.trio_page.specs.Sheets.{sheet_numbers};
 ghost use Rattle.trio_checkpoint.specs.Covered.{are_there, chain_in, core_of, covered_numbers, covered_pages};
 

@@ -23,23 +23,22 @@ use Rattle.trio_state.specs.Kept.{is_lent}
 use Rattle.trio_page.specs.Sheets.{sheet_numbers, without_pages}
 use Rattle.trio_state.specs.State.{State, logged, settled}
 use Rattle.trio_nodes.specs.GrantKinds.{is_write}
-use Rattle.trio_state.specs.Step.{Allot, Answer, Given, NoInodes, NoPages, Outcome, Step, allot_outcome}
-use Rattle.trio_lists.proofs.Filters.{filter_in}
+use Rattle.trio_state.specs.Step.{Allot, CtlAnswer, Given, NoInodes, NoPages, Outcome, Step, allot_outcome}
+use Rattle.trio_lists.proofs.Filters.{filter-In, list_any-In}
 use Rattle.trio_laws.proofs.Grants.{logged_kept}
 use Rattle.trio_surveys.proofs.Images.{free_is_low, free_unlisted}
 use Rattle.trio_lists.proofs.Tabulated.{tabulated-length}
-use Rattle.trio_lists.proofs.Members.{In-among}
+use Rattle.trio_lists.proofs.Members.{is_among-In}
 use Rattle.trio_laws.proofs.Runs.{step_kept}
 use Rattle.trio_surveys.proofs.Sheets.{length-without}
 use Rattle.trio_laws.proofs.StateFacts.{lent_met, tables as tables_of}
-use Rattle.trio_lists.proofs.Filters.{any_at}
 use Rattle.trio_ctl.specs.Answers.{allot_fault_answer}
 use Rattle.trio_ctl.specs.Ctl.{IsControlled, state_of}
 use Rattle.trio_ctl.specs.Open.{Opened}
-use Rattle.trio_allot.specs.Out.{OutTo, outs_with}
+use Rattle.trio_allot.specs.Out.{OutByNumber, outs_with}
 use Rattle.trio_ctl.proofs.Handing.{grant_writes, rows_long}
 
-module _ (s : Superblock) (pages : List (Option (List ℕ))) (rows : List (Option Row)) (owners : List ℕ) (table : List Keyed) (files : List Opened) (outs : OutTo) (creds : List Creds) (entries : ℕ) (k : IsControlled s pages rows owners table files outs creds entries) where
+module _ (s : Superblock) (pages : List (Option (List ℕ))) (rows : List (Option Row)) (owners : List ℕ) (table : List Keyed) (files : List Opened) (outs : OutByNumber) (creds : List Creds) (entries : ℕ) (k : IsControlled s pages rows owners table files outs creds entries) where
   abbrev now : State
   now = state_of s pages rows owners files outs creds entries
 
@@ -70,18 +69,18 @@ module _ (s : Superblock) (pages : List (Option (List ℕ))) (rows : List (Optio
         where
           lent_free : is_lent now.open_grants p ≡ true → ⊥
           lent_free lent =
-              let q = any_at (λ g. is_write g.kind && is_among p (sheet_numbers (g.index ++ g.blocks))) now.open_grants lent in
+              let q = list_any-In (λ g. is_write g.kind && is_among p (sheet_numbers (g.index ++ g.blocks))) now.open_grants lent in
               let parts = and_parts (is_write q.0.kind) (is_among p (sheet_numbers (q.0.index ++ q.0.blocks))) q.2 in
               let kind : q.0.kind ≡ Write = grant_writes s pages rows owners table files outs creds entries k q.0 q.1 in
               let l = k.kept.lent q.0 q.1 kind in
               free_unlisted (settled now).core plain k.kept.fit k.kept.verifies.sound (settled now) (tables_of now k.kept) p owner_zero l.met l.stands
-              (lent_met now k.kept q.0 q.1 kind p (In-among p (sheet_numbers (q.0.index ++ q.0.blocks)) parts.1))
+              (lent_met now k.kept q.0 q.1 kind p (is_among-In p (sheet_numbers (q.0.index ++ q.0.blocks)) parts.1))
 
   -- one entry more, and nothing else has changed
-  pub logged_controlled : (pages' : List (Option (List ℕ))) (outs' : OutTo) (entries' : ℕ) → pages' ≡ pages → outs' ≡ outs → entries' ≡ entries + 1 → IsControlled s pages' rows owners table files outs' creds entries'
+  pub logged_controlled : (pages' : List (Option (List ℕ))) (outs' : OutByNumber) (entries' : ℕ) → pages' ≡ pages → outs' ≡ outs → entries' ≡ entries + 1 → IsControlled s pages' rows owners table files outs' creds entries'
   logged_controlled pages' outs' entries' same_pages same_outs next =
       subst (λ ps. IsControlled s ps rows owners table files outs' creds entries') (sym same_pages)
-      (subst (λ (x : OutTo). IsControlled s pages rows owners table files x creds entries') (sym same_outs)
+      (subst (λ (x : OutByNumber). IsControlled s pages rows owners table files x creds entries') (sym same_outs)
       (subst (λ n. IsControlled s pages rows owners table files outs creds n) (sym next) (record {
         fits = k.fits;
         root = k.root;
@@ -95,10 +94,10 @@ module _ (s : Superblock) (pages : List (Option (List ℕ))) (rows : List (Optio
         kept = logged_kept now k.kept;
       })))
 
-  pub logged_is : (pages' : List (Option (List ℕ))) (outs' : OutTo) (entries' : ℕ) → pages' ≡ pages → outs' ≡ outs → entries' ≡ entries + 1 → state_of s pages' rows owners files outs' creds entries' ≡ logged now
+  pub logged_is : (pages' : List (Option (List ℕ))) (outs' : OutByNumber) (entries' : ℕ) → pages' ≡ pages → outs' ≡ outs → entries' ≡ entries + 1 → state_of s pages' rows owners files outs' creds entries' ≡ logged now
   logged_is pages' outs' entries' same_pages same_outs next =
-      let S : List (Option (List ℕ)) → OutTo → ℕ → State = λ ps os n. state_of s ps rows owners files os creds n in
-      ap (λ ps. S ps outs' entries') same_pages ∙ ap (λ (x : OutTo). S pages x entries') same_outs ∙ ap (S pages outs) next
+      let S : List (Option (List ℕ)) → OutByNumber → ℕ → State = λ ps os n. state_of s ps rows owners files os creds n in
+      ap (λ ps. S ps outs' entries') same_pages ∙ ap (λ (x : OutByNumber). S pages x entries') same_outs ∙ ap (S pages outs) next
 
   module _ (lib : LibNo) (wanted many : ℕ) where
     abbrev ps : List ℕ
@@ -107,7 +106,7 @@ module _ (s : Superblock) (pages : List (Option (List ℕ))) (rows : List (Optio
     abbrev ns : List ℕ
     ns = free_numbers rows outs.numbers
 
-    by_outcome : (answer : Answer) (after : State) (o : Outcome) → allot_outcome now lib.0 wanted many ≡ o → answer ≡ o.answer → after ≡ o.after → Step now (Allot lib.0 wanted many) answer after
+    by_outcome : (answer : CtlAnswer) (after : State) (o : Outcome) → allot_outcome now lib.0 wanted many ≡ o → answer ≡ o.answer → after ≡ o.after → Step now (Allot lib.0 wanted many) answer after
     by_outcome answer after o is told then' = inl (told ∙ ap (λ (x : Outcome). x.answer) (sym is), then' ∙ ap (λ (x : Outcome). x.after) (sym is))
 
     -- ---- too little is free
@@ -137,15 +136,15 @@ module _ (s : Superblock) (pages : List (Option (List ℕ))) (rows : List (Optio
 
     -- ---- given
 
-    module _ (pages' : List (Option (List ℕ))) (outs' : OutTo) (entries' : ℕ) (enough_pages : wanted ≤ length ps) (enough_numbers : many ≤ length ns)
+    module _ (pages' : List (Option (List ℕ))) (outs' : OutByNumber) (entries' : ℕ) (enough_pages : wanted ≤ length ps) (enough_numbers : many ≤ length ns)
         (gone : pages' ≡ without_pages (take wanted ps) pages) (given : outs' ≡ outs_with outs lib (take wanted ps) (take many ns)) (next : entries' ≡ entries + 1) where
       abbrev after : State
       after = state_of s pages' rows owners files outs' creds entries'
 
       after_is : after ≡ allots now lib.0 (take wanted ps) (take many ns)
       after_is =
-          let S : List (Option (List ℕ)) → OutTo → ℕ → State = λ ps' os n. state_of s ps' rows owners files os creds n in
-          ap (λ x. S x outs' entries') gone ∙ ap (λ (x : OutTo). S (without_pages (take wanted ps) pages) x entries') given
+          let S : List (Option (List ℕ)) → OutByNumber → ℕ → State = λ ps' os n. state_of s ps' rows owners files os creds n in
+          ap (λ x. S x outs' entries') gone ∙ ap (λ (x : OutByNumber). S (without_pages (take wanted ps) pages) x entries') given
           ∙ ap (S (without_pages (take wanted ps) pages) (outs_with outs lib (take wanted ps) (take many ns))) next
 
       pub given_step : Step now (Allot lib.0 wanted many) (Given (take wanted ps) (take many ns)) after

@@ -6,8 +6,7 @@ use Rattle.trio_rights.specs.Row.{Row}
 use Rattle.trio_rights.specs.declared.rights.Creds.{Creds}
 use Rattle.trio_nodes.specs.declared.grant.GrantKind.{GrantKind}
 use Rattle.trio_nodes.specs.declared.grant.GrantKind.TheVariants.{Write}
-use Rattle.trio_grants.specs.Grants.{Keyed, first_with, holder}
-use Rattle.trio_grants.specs.Grants.{is_write as writes_in_table}
+use Rattle.trio_grants.specs.Grants.{Keyed, first_with, holder, is_write as writes_in_table}
 use Rattle.trio_layout.specs.declared.superblock.Superblock.{Superblock}
 use Rattle.trio_layout.specs.Superblock.{superblock_fits}
 use Rattle.trio_lists.specs.Lists.{In}
@@ -17,9 +16,9 @@ use Rattle.trio_state.specs.State.{OpenGrant}
 use Rattle.trio_nodes.specs.GrantKinds.{is_write}
 use Rattle.trio_ctl.specs.Ctl.{state_of, writer_of, IsControlled}
 use Rattle.trio_ctl.specs.Open.{Opened, keyed}
-use Rattle.trio_allot.specs.Out.{OutTo}
+use Rattle.trio_allot.specs.Out.{OutByNumber}
 
-pub record IsAtHome (s : Superblock) (pages : List (Option (List ℕ))) (rows : List (Option Row)) (owners : List ℕ) (outs : OutTo) (creds : List Creds) (entries : ℕ) : Type 0 where
+pub record IsAtHome (s : Superblock) (pages : List (Option (List ℕ))) (rows : List (Option Row)) (owners : List ℕ) (outs : OutByNumber) (creds : List Creds) (entries : ℕ) : Type 0 where
   pub fits : IsTrue (superblock_fits s)
   pub root : length s.root ≡ 64
   pub count : length pages ≡ s.pages
@@ -35,7 +34,7 @@ writer_first (o ∷ os) all =
     let kind : o.grant.kind ≡ Write = all o (inl refl) in
     rw kind refl
 
-pub writer_is : (s : Superblock) (pages : List (Option (List ℕ))) (rows : List (Option Row)) (owners : List ℕ) (table : List Keyed) (files : List Opened) (outs : OutTo) (creds : List Creds) (entries : ℕ) → IsControlled s pages rows owners table files outs creds entries
+pub writer_is : (s : Superblock) (pages : List (Option (List ℕ))) (rows : List (Option Row)) (owners : List ℕ) (table : List Keyed) (files : List Opened) (outs : OutByNumber) (creds : List Creds) (entries : ℕ) → IsControlled s pages rows owners table files outs creds entries
     → option_map holder (first_with writes_in_table table) ≡ writer_of (state_of s pages rows owners files outs creds entries)
 writer_is s pages rows owners table files outs creds entries k =
     ap (λ t. option_map holder (first_with writes_in_table t)) k.grants ∙ writer_first files k.writes
@@ -44,7 +43,7 @@ nobody : (files : List Opened) → ((o : Opened) → In o files → o.grant.kind
 nobody [] all none = refl
 nobody (o ∷ os) all none = (let kind : o.grant.kind ≡ Write = all o (inl refl) in absurd cc)
 
-pub at_home : (s : Superblock) (pages : List (Option (List ℕ))) (rows : List (Option Row)) (owners : List ℕ) (table : List Keyed) (files : List Opened) (outs : OutTo) (creds : List Creds) (entries : ℕ) → IsControlled s pages rows owners table files outs creds entries
+pub at_home : (s : Superblock) (pages : List (Option (List ℕ))) (rows : List (Option Row)) (owners : List ℕ) (table : List Keyed) (files : List Opened) (outs : OutByNumber) (creds : List Creds) (entries : ℕ) → IsControlled s pages rows owners table files outs creds entries
     → option_map holder (first_with writes_in_table table) ≡ None → (files ≡ []) × IsAtHome s pages rows owners outs creds entries
 at_home s pages rows owners table files outs creds entries k none =
     let empty : files ≡ [] = nobody files k.writes (ap (λ t. option_map holder (first_with writes_in_table t)) (sym k.grants) ∙ none) in
@@ -52,6 +51,6 @@ at_home s pages rows owners table files outs creds entries k none =
     (empty, record { fits = k.fits; root = k.root; count = k.count; kept = kept })
 
 -- the state of nothing lent, as it is of no open files
-pub same_state : (s : Superblock) (pages : List (Option (List ℕ))) (rows : List (Option Row)) (owners : List ℕ) (files : List Opened) (outs : OutTo) (creds : List Creds) (entries : ℕ) → files ≡ []
+pub same_state : (s : Superblock) (pages : List (Option (List ℕ))) (rows : List (Option Row)) (owners : List ℕ) (files : List Opened) (outs : OutByNumber) (creds : List Creds) (entries : ℕ) → files ≡ []
     → state_of s pages rows owners [] outs creds entries ≡ state_of s pages rows owners files outs creds entries
 same_state s pages rows owners files outs creds entries empty = ap (λ fs. state_of s pages rows owners fs outs creds entries) (sym empty)

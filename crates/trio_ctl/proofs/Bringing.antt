@@ -9,20 +9,19 @@ use Rattle.std.proofs.lemmas.Bool.{and_parts, cases_eq, eq-eqb, leb-true, ne_eqb
 use Rattle.std.proofs.lemmas.List.{reverse-append}
 use Rattle.std.proofs.lemmas.List.Folds.{flat_map-map}
 use Rattle.trio_page.specs.Home.{Pages}
-use Rattle.trio_lists.specs.Marks.{all_below}
+use Rattle.trio_lists.specs.Marked.{all_below}
 use Rattle.trio_rights.specs.declared.kind.Kind.{Kind}
 use Rattle.trio_rights.specs.declared.kind.Kind.TheVariants.{Regular, Directory}
 use Rattle.trio_lease.specs.Bundles.{Bundled, bundled}
 use Rattle.trio_lease.specs.Shown.{LentFile}
 use Rattle.trio_lease.specs.declared.bundle.BundleParts.{BundleParts}
-use Rattle.trio_allot.specs.Out.{inode_numbers, page_numbers}
+use Rattle.trio_allot.specs.Out.{inode_numbers, page_numbers, OutByNumber, outs_after}
 use Rattle.trio_state.specs.Bundles.{uncovered_of}
-use Rattle.trio_state.specs.Handed.{bundle_in, fresh_sheet, lent_sheet, written_in}
+use Rattle.trio_state.specs.Views.{bundle_in, fresh_sheet, lent_sheet, written_in}
 use Rattle.trio_layout.specs.Proposed.{Written, bundle_sheets}
 use Rattle.trio_page.specs.Sheets.{Sheet, sheet_numbers, with_pages}
 use Rattle.trio_checkpoint.proofs.Restoring.{below_joined, below_parts, length-with_pages, with_pages-append}
-use Rattle.trio_ctl.specs.Moves.{file_sheets, lent_uncovered, uncovered_sheets, HasPlaces}
-use Rattle.trio_allot.specs.Out.{OutTo, outs_after}
+use Rattle.trio_ctl.specs.Moves.{file_sheets, lent_uncovered, uncovered_sheets, IsWithinImage}
 use Rattle.trio_ctl.proofs.Outs.{fresh_numbers}
 
 -- With the pages that are left put too, home is as the start with all of them put.
@@ -141,13 +140,13 @@ pub All-below : (n : ℕ) (xs : List ℕ) → IsTrue (all_below n xs) → All (�
 All-below n xs below = All-from_get_or (λ m. m < n) xs 0 (λ i lt. below_at n xs i lt below)
 
 -- what of a bundle was allotted, by its parts
-pub places_of : (parts : BundleParts) (b : Bundled) (outs : OutTo) → bundled parts ≡ b → HasPlaces outs (bundle_in b)
+pub places_of : (parts : BundleParts) (b : Bundled) (outs : OutByNumber) → bundled parts ≡ b → IsWithinImage outs (bundle_in b)
     → All (λ n. n < length outs.pages) (page_numbers parts.pages.items) × All (λ n. n < length outs.numbers) (inode_numbers parts.inodes.items)
 places_of parts b outs is h =
-    let h' : HasPlaces outs (bundle_in (bundled parts)) = subst (λ (x : Bundled). HasPlaces outs (bundle_in x)) (sym is) h in
+    let h' : IsWithinImage outs (bundle_in (bundled parts)) = subst (λ (x : Bundled). IsWithinImage outs (bundle_in x)) (sym is) h in
     (subst (All (λ n. n < length outs.pages)) (fresh_numbers parts.pages.items) (All-below (length outs.pages) (sheet_numbers (bundle_in (bundled parts)).pages) h'.pages), All-below (length outs.numbers) (inode_numbers parts.inodes.items) h'.numbers)
 
-pub returned_are : (parts : BundleParts) (b : Bundled) (outs : OutTo) → bundled parts ≡ b
+pub returned_are : (parts : BundleParts) (b : Bundled) (outs : OutByNumber) → bundled parts ≡ b
     → outs_after outs (page_numbers parts.pages.items) (inode_numbers parts.inodes.items) ≡ outs_after outs (sheet_numbers (bundle_in b).pages) (bundle_in b).numbers
 returned_are parts b outs is =
     ap (λ ns. outs_after outs ns (inode_numbers parts.inodes.items)) (sym (fresh_numbers parts.pages.items))

@@ -10,10 +10,10 @@ use Rattle.trio_rights.specs.declared.rights.LibNo.{LibNo}
 use Rattle.trio_page.specs.Home.{Pages}
 use Rattle.trio_grants.specs.Grants.{Keyed, HasKey, without}
 use Rattle.trio_lists.specs.Lists.{are_new, is_among}
-use Rattle.trio_lists.specs.Marks.{all_below}
-use Rattle.trio_lists.proofs.MarkLemmas.{are_new-append}
+use Rattle.trio_lists.specs.Marked.{all_below}
+use Rattle.trio_lists.proofs.Marked.{are_new-append}
 use Rattle.trio_lists.proofs.Members.{In-left, In-right}
-use Rattle.trio_surveys.proofs.Owned.{new_before, new_weaker}
+use Rattle.trio_lists.proofs.New.{are_new-before, are_new-fewer}
 use Rattle.trio_surveys.proofs.Sheets.{not_among}
 use Rattle.trio_page.specs.Sheets.{sheet_numbers, with_pages}
 use Rattle.trio_checkpoint.proofs.Restoring.{below_joined, below_parts}
@@ -77,9 +77,9 @@ others kept rest x once =
     let split : are_new [] (keys kept ++ x.key ∷ keys rest) ≡ true = ap (are_new []) (sym (map-append (λ (o : Opened). o.key) kept (x ∷ rest))) ∙ once in
     let parts = and_parts (are_new [] (keys kept)) (are_new (keys kept) (x.key ∷ keys rest)) (sym (are_new-append [] (keys kept) (x.key ∷ keys rest)) ∙ split) in
     let more = and_parts (not (is_among x.key (keys kept))) (are_new (keys kept ++ x.key ∷ []) (keys rest)) parts.1 in
-    let weaker = new_weaker (keys kept) (keys kept ++ x.key ∷ []) (keys rest) (λ n. In-left n (keys kept) (x.key ∷ [])) more.1 in (
+    let weaker = are_new-fewer (keys kept) (keys kept ++ x.key ∷ []) (keys rest) (λ n. In-left n (keys kept) (x.key ∷ [])) more.1 in (
       not_true (is_among x.key (keys kept)) more.0,
-      not_among x.key (keys rest) (λ i. new_before x.key (keys kept ++ x.key ∷ []) (keys rest) more.1 i (In-right x.key (keys kept) (x.key ∷ []) (inl refl))),
+      not_among x.key (keys rest) (λ i. are_new-before x.key (keys kept ++ x.key ∷ []) (keys rest) more.1 i (In-right x.key (keys kept) (x.key ∷ []) (inl refl))),
       ap (are_new []) (map-append (λ (o : Opened). o.key) kept rest) ∙ are_new-append [] (keys kept) (keys rest) ∙ and_from (are_new [] (keys kept)) (are_new (keys kept) (keys rest)) parts.0 weaker,
     )
   where

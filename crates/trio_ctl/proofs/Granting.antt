@@ -22,11 +22,10 @@ use Rattle.trio_layout.specs.declared.range.CoreRange.{CoreRange}
 use Rattle.trio_layout.specs.Body.{body_of}
 use Rattle.trio_layout.specs.Chain.{Chain, chain_of}
 use Rattle.trio_layout.specs.Core.{Core, nowhere, page_of}
-use Rattle.trio_lists.specs.Lists.{there_or}
+use Rattle.trio_lists.specs.Lists.{there_or, is_among, are_new, result_then, In}
 use Rattle.trio_layout.specs.Entries.{body_in_slot}
-use Rattle.trio_lists.specs.Lists.{is_among, are_new, result_then, In}
 use Rattle.trio_layout.specs.Range.{is_core}
-use Rattle.trio_lists.proofs.MarkLemmas.{are_new-push}
+use Rattle.trio_lists.proofs.Marked.{are_new-push}
 use Rattle.trio_state.specs.Grants.{denied_or, excluding, grant_fault, holder_of, opened, opens, lent_pages}
 use Rattle.trio_nodes.specs.GrantKinds.{excludes_kind}
 use Rattle.trio_layout.specs.Pages.{index_sheets, block_sheets, settled_chain, sheets_of}
@@ -40,7 +39,7 @@ use Rattle.trio_laws.specs.EndLaws.{checkpoints_of}
 use Rattle.trio_laws.proofs.EndLaws.{body_stands, lendable_is_home}
 use Rattle.trio_laws.proofs.Grants.{logged_kept}
 use Rattle.trio_surveys.proofs.Local.{chain_follows}
-use Rattle.trio_lists.proofs.Members.{In-flat, In-left, In-right, In-cases, In-map, map_from, all_from, then_ok}
+use Rattle.trio_lists.proofs.Members.{In-flat, In-left, In-right, In-cases, In-map, map-In, list_all-each, result_then-Ok}
 use Rattle.trio_laws.proofs.Runs.{step_kept}
 use Rattle.trio_surveys.proofs.SheetLaws.{page_at}
 use Rattle.trio_surveys.proofs.Sheets.{length-without, page_from, sheets_all}
@@ -49,8 +48,9 @@ use Rattle.trio_ctl.specs.Answers.{grant_fault_answer, Admits}
 use Rattle.trio_ctl.specs.Ctl.{home_image, state_of, IsControlled}
 use Rattle.trio_ctl.specs.inner.Lending.{IsLendable, StandsSomewhere, body_standing}
 use Rattle.trio_ctl.specs.Open.{Opened, grant_on, keyed, page_lent}
-use Rattle.trio_allot.specs.Out.{OutTo}
+use Rattle.trio_allot.specs.Out.{OutByNumber}
 use Rattle.trio_ctl.proofs.LendLemmas.{same_chain, sheets_same}
+use Rattle.trio_lists.proofs.Filters.{In-find}
 
 -- ---- lists
 
@@ -61,13 +61,6 @@ found_in p (y ∷ ys) x e = by (λ later. found_in p ys x later) (p y) refl e
     by : (find p ys ≡ Some x → In x ys × (p x ≡ true)) → (b : Bool) → p y ≡ b → (if b then Some y else find p ys) ≡ Some x → In x (y ∷ ys) × (p x ≡ true)
     by again true test e = (let same : y ≡ x = cc e in (inl (sym same), subst (λ z. p z ≡ true) same test))
     by again false test e = (let r = again e in (inr r.0, r.1))
-
-found_some : {X : Type 0} (p : X → Bool) (xs : List X) (x : X) → In x xs → p x ≡ true → (y : X) × (find p xs ≡ Some y)
-found_some p [] x i test = absurd i
-found_some {X = X} p (y ∷ ys) x i test = by (λ j. found_some p ys x j test) (p y) refl
-  where
-    later : p y ≡ false → In x ys
-    later first = elim i [ inl here ↦ absurd (false≢true (sym first ∙ ap p (sym here) ∙ test)) | inr there ↦ there ]
 
     by : (In x ys → (z : X) × (find p ys ≡ Some z)) → (b : Bool) → p y ≡ b → (z : X) × ((if b then Some y else find p ys) ≡ Some z)
     by again true first = (y, refl)
@@ -111,7 +104,7 @@ fault_is s lib ino r row may =
     ap (λ (o : Option Row). if not (is_some o) then Some NotLive else denied_or (denier s.home.rows (creds_of s lib) ino ToWrite) busy) row
     ∙ ap (λ d. denied_or d busy) may
 
-module _ (s : Superblock) (pages : List (Option (List ℕ))) (rows : List (Option Row)) (owners : List ℕ) (table : List Keyed) (files : List Opened) (outs : OutTo) (creds : List Creds) (entries : ℕ) (k : IsControlled s pages rows owners table files outs creds entries) where
+module _ (s : Superblock) (pages : List (Option (List ℕ))) (rows : List (Option Row)) (owners : List ℕ) (table : List Keyed) (files : List Opened) (outs : OutByNumber) (creds : List Creds) (entries : ℕ) (k : IsControlled s pages rows owners table files outs creds entries) where
   abbrev st : State
   st = state_of s pages rows owners files outs creds entries
 
@@ -143,7 +136,7 @@ module _ (s : Superblock) (pages : List (Option (List ℕ))) (rows : List (Optio
   module _ (lib : LibNo) (ino : ℕ) (r : Row) (row : row_at st.home ino ≡ Some r) (free : first_with (excludes lib ino Write) table ≡ None) where
     no_grant : (g : OpenGrant) → In g st.open_grants → g.ino ≢ ino
     no_grant g i =
-        let o = map_from (λ (o : Opened). o.grant) g files i in
+        let o = map-In (λ (o : Opened). o.grant) g files i in
         subst (λ (h : OpenGrant). h.ino ≢ ino) (sym o.2) (not_on lib ino files (ap (first_with (excludes lib ino Write)) (sym k.grants) ∙ free) o.0 o.1)
 
     abbrev home : (c : Chain) × (settled_chain (settled st) r.kind ino ≡ Ok c) × ((p : ℕ) → In p (c.index ++ c.blocks) → (bytes : List ℕ) × (slice_get pages p ≡ Some (Some bytes)) × (page_of core p ≡ Some bytes) × (is_core range p ≡ true)) × (are_new [] (c.index ++ c.blocks) ≡ true) × (length (settled_body (settled st) ino) ≡ 64)
@@ -159,7 +152,7 @@ module _ (s : Superblock) (pages : List (Option (List ℕ))) (rows : List (Optio
     pub chain_home : (body : List ℕ) → body ≡ settled_body (settled st) ino → chain_in (core_of pages range) r.kind body ≡ Ok chain
     unfolding chain
     chain_home body is =
-        let read = then_ok (chain_of core) (there_or nowhere (body_of r.kind range (settled_body (settled st) ino))) home.0 home.1 in
+        let read = result_then-Ok (chain_of core) (there_or nowhere (body_of r.kind range (settled_body (settled st) ino))) home.0 home.1 in
         ap (λ b. result_then (chain_of (core_of pages range)) (there_or nowhere (body_of r.kind range b))) is
         ∙ ap (result_then (chain_of (core_of pages range))) read.1
         ∙ chain_follows core (core_of pages range) refl _ _ _ home.0 read.2 (λ p i. page_same p (In-left p home.0.index home.0.blocks i))
@@ -169,7 +162,7 @@ module _ (s : Superblock) (pages : List (Option (List ℕ))) (rows : List (Optio
     lendable body x is read =
         let same : chain ≡ x = same_chain chain x (chain_in (core_of pages range) r.kind body) (sym (chain_home body is)) read in
         subst (IsLendable (core_of pages range)) same (record {
-          there = all_from (λ p. is_some (page_of (core_of pages range) p)) (home.0.index ++ home.0.blocks) (λ p i. ap is_some (page_same p i ∙ (home.2 p i).2));
+          there = list_all-each (λ p. is_some (page_of (core_of pages range) p)) (home.0.index ++ home.0.blocks) (λ p i. ap is_some (page_same p i ∙ (home.2 p i).2));
           once = home.3;
         })
 
@@ -280,8 +273,8 @@ module _ (s : Superblock) (pages : List (Option (List ℕ))) (rows : List (Optio
 
   page_on_there : (page : ℕ) (sheets : List Sheet) → In page (sheet_numbers sheets) → (x : Sheet) × In x sheets × (x.page ≡ page) × (page_on page sheets ≡ Some x.bytes)
   page_on_there page sheets i =
-      let x = map_from (λ (x : Sheet). x.page) page sheets i in
-      let f = found_some (λ (x : Sheet). x.page == page) sheets x.0 x.1 (eq-eqb x.0.page page (sym x.2)) in
+      let x = map-In (λ (x : Sheet). x.page) page sheets i in
+      let f = In-find (λ (x : Sheet). x.page == page) sheets x.0 x.1 (eq-eqb x.0.page page (sym x.2)) in
       let g = found_in (λ (x : Sheet). x.page == page) sheets f.0 f.1 in
       (f.0, g.0, eqb-true f.0.page page g.1, ap (option_map (λ (x : Sheet). x.bytes)) f.1)
 
@@ -301,8 +294,8 @@ module _ (s : Superblock) (pages : List (Option (List ℕ))) (rows : List (Optio
             let none : page_lent files r.parent r.page ≡ None = by_found (λ o i j. bare.0 (covered_in o i j)) (find (λ o. o.grant.ino == r.parent) files) refl in
             ap (λ o. option_or o (get_or pages r.page None)) none ∙ page_at pages r.page ∙ ap (option_and_then (λ x. x)) bare.1
         | inr lent ↦
-            let o = map_from (λ (o : Opened). o.grant) lent.0 files lent.1 in
-            let f = found_some (λ (o : Opened). o.grant.ino == r.parent) files o.0 o.1 (eq-eqb o.0.grant.ino r.parent (ap (λ (g : OpenGrant). g.ino) (sym o.2) ∙ lent.3)) in
+            let o = map-In (λ (o : Opened). o.grant) lent.0 files lent.1 in
+            let f = In-find (λ (o : Opened). o.grant.ino == r.parent) files o.0 o.1 (eq-eqb o.0.grant.ino r.parent (ap (λ (g : OpenGrant). g.ino) (sym o.2) ∙ lent.3)) in
             let g = found_in (λ (o : Opened). o.grant.ino == r.parent) files f.0 f.1 in
             let same : lent.0 ≡ f.0.grant = write_alone st.open_grants lent.0 f.0.grant k.kept.apart lent.1 (In-map (λ (o : Opened). o.grant) f.0 files g.0) lent.2 (lent.3 ∙ sym (eqb-true f.0.grant.ino r.parent g.1)) in
             let p = page_on_there r.page lent.0.checkpoint lent.6 in
@@ -314,7 +307,7 @@ module _ (s : Superblock) (pages : List (Option (List ℕ))) (rows : List (Optio
     where
       covered_in : (o : Opened) → In o files → In r.page (sheet_numbers o.grant.checkpoint) → In r.page (sheet_numbers (checkpoints_of st.open_grants))
       covered_in o i j =
-          let x = map_from (λ (x : Sheet). x.page) r.page o.grant.checkpoint j in
+          let x = map-In (λ (x : Sheet). x.page) r.page o.grant.checkpoint j in
           subst (λ n. In n (sheet_numbers (checkpoints_of st.open_grants))) (sym x.2)
           (In-map (λ (x : Sheet). x.page) x.0 (checkpoints_of st.open_grants) (In-flat (λ (g : OpenGrant). g.checkpoint) o.grant x.0 st.open_grants (In-map (λ (o : Opened). o.grant) o files i) x.1))
 

@@ -16,36 +16,34 @@ use Rattle.trio_layout.specs.declared.superblock.Superblock.{Superblock}
 use Rattle.trio_layout.specs.declared.range.CoreRange.{CoreRange}
 use Rattle.trio_layout.specs.Core.{Core, page_of}
 use Rattle.trio_lists.specs.Lists.{In, is_among}
-use Rattle.trio_lists.specs.Marks.{all_below}
+use Rattle.trio_lists.specs.Marked.{all_below}
 use Rattle.trio_layout.specs.Range.{is_core}
 use Rattle.trio_layout.specs.Survey.{plain, survey}
 use Rattle.trio_layout.proofs.Superblocks.{superblock_facts}
 use Rattle.trio_survey.proofs.Tables.{length-rows_table}
 use Rattle.trio_state.specs.Bundles.{is_in_bundle, is_parent_written, is_parted, lowest, parted_hold}
-use Rattle.trio_nodes.specs.GrantKinds.{is_hold}
+use Rattle.trio_nodes.specs.GrantKinds.{is_hold, is_write}
 use Rattle.trio_state.specs.Given.{GivenTo, HasGrant, WasAllotted}
 use Rattle.trio_layout.specs.Image.{Image, IsFit, row_at}
 use Rattle.trio_layout.specs.Proposed.{Bundle, Written, bundle_pages, bundle_sheets, is_written}
 use Rattle.trio_page.specs.Sheets.{Sheet, sheet_numbers, with_pages}
 use Rattle.trio_state.specs.State.{OpenGrant, State, settled}
-use Rattle.trio_nodes.specs.GrantKinds.{is_write}
 use Rattle.trio_laws.specs.EndLaws.{checkpoints_of}
 use Rattle.trio_laws.proofs.Bundles.{in_numbers}
 use Rattle.trio_surveys.proofs.Cores.{listed_is_core}
-use Rattle.trio_lists.proofs.Members.{In-cases, all_from, flat_from, map_from}
+use Rattle.trio_lists.proofs.Members.{In-cases, list_all-each, flat_map-In, map-In}
 use Rattle.trio_surveys.proofs.SheetLaws.{length-with_pages}
 use Rattle.trio_laws.proofs.Standing.{stands_at}
 use Rattle.trio_laws.proofs.StateFacts.{checkpoint_lent, lent_met}
-use Rattle.trio_proposal.specs.Judged.{CanBeJudged, image_of}
+use Rattle.trio_proposal.specs.Judgement.{CanBeJudged, image_of}
 use Rattle.trio_ctl.specs.Ctl.{IsControlled, state_of}
-use Rattle.trio_ctl.specs.Moves.{all_covered, are_numbered, is_closing}
+use Rattle.trio_ctl.specs.Moves.{all_covered, are_numbered, is_closing, IsWithinImage}
 use Rattle.trio_ctl.specs.Open.{Opened}
-use Rattle.trio_allot.specs.Out.{OutTo}
-use Rattle.trio_ctl.specs.Moves.{HasPlaces}
+use Rattle.trio_allot.specs.Out.{OutByNumber}
 use Rattle.trio_ctl.proofs.Ending.{staying}
 
 pub below_from : (n : ℕ) (ns : List ℕ) → ((p : ℕ) → In p ns → p < n) → IsTrue (all_below n ns)
-below_from n ns h = all_from (λ p. nat_lt p n) ns (λ p i. lt-ltb p n (h p i))
+below_from n ns h = list_all-each (λ p. nat_lt p n) ns (λ p i. lt-ltb p n (h p i))
 
 row_below : (rows : List (Option Row)) (n : ℕ) → is_some (slice_index_or rows n None) ≡ true → n < length rows
 row_below [] n live = absurd cc
@@ -102,13 +100,13 @@ staying_same lib b marks (o ∷ files) is writes =
     by false true e again = absurd cc
     by false false e again = ap (λ gs. o.grant ∷ gs) again
 
-module _ (s : Superblock) (pages : List (Option (List ℕ))) (rows : List (Option Row)) (owners : List ℕ) (table : List Keyed) (files : List Opened) (outs : OutTo) (creds : List Creds) (entries : ℕ) (k : IsControlled s pages rows owners table files outs creds entries) where
+module _ (s : Superblock) (pages : List (Option (List ℕ))) (rows : List (Option Row)) (owners : List ℕ) (table : List Keyed) (files : List Opened) (outs : OutByNumber) (creds : List Creds) (entries : ℕ) (k : IsControlled s pages rows owners table files outs creds entries) where
   abbrev now : State
   now = state_of s pages rows owners files outs creds entries
 
   pub grant_writes : (g : OpenGrant) → In g now.open_grants → g.kind ≡ Write
   grant_writes g i =
-      let r = map_from (λ (o : Opened). o.grant) g files i in
+      let r = map-In (λ (o : Opened). o.grant) g files i in
       ap (λ (h : OpenGrant). h.kind) r.2 ∙ k.writes r.0 r.1
 
   lent_within : (g : OpenGrant) (p : ℕ) → In g now.open_grants → In p (sheet_numbers (g.index ++ g.blocks)) → p < length pages
@@ -161,7 +159,7 @@ module _ (s : Superblock) (pages : List (Option (List ℕ))) (rows : List (Optio
     sheet_within x i =
         elim (In-cases x (flat_map (λ (w : Written). w.index ++ w.blocks) b.writes) b.pages i) [
           | inl j ↦
-              let r = flat_from (λ (w : Written). w.index ++ w.blocks) x b.writes j in
+              let r = flat_map-In (λ (w : Written). w.index ++ w.blocks) x b.writes j in
               let w : Written = r.0 in
               let y = given.writes w r.1 in
               let same : sheet_numbers (w.index ++ w.blocks) ≡ sheet_numbers (y.grant.index ++ y.grant.blocks) =
@@ -178,11 +176,11 @@ module _ (s : Superblock) (pages : List (Option (List ℕ))) (rows : List (Optio
     bundle_within =
         below_from (length pages) (bundle_pages b)
         (λ p i.
-        let r = map_from (λ (x : Sheet). x.page) p (bundle_sheets b) i in
+        let r = map-In (λ (x : Sheet). x.page) p (bundle_sheets b) i in
         subst (λ n. n < length pages) (sym r.2) (sheet_within r.0 r.1))
 
     -- what was allotted has its places among those of the image
-    pub allotted_places : HasPlaces outs b
+    pub allotted_places : IsWithinImage outs b
     allotted_places = record {
       pages = below_from (length outs.pages) (sheet_numbers b.pages) (λ n i. page_place n (given.pages n i));
       numbers = below_from (length outs.numbers) b.numbers (λ n i. within_some outs.numbers n (ap is_some (given.numbers n i)));
@@ -191,7 +189,7 @@ module _ (s : Superblock) (pages : List (Option (List ℕ))) (rows : List (Optio
     -- its files have inode numbers of the image
     pub numbered : IsTrue (are_numbered s.inodes b)
     numbered =
-        all_from (λ (w : Written). nat_le w.ino s.inodes) b.writes
+        list_all-each (λ (w : Written). nat_le w.ino s.inodes) b.writes
         (λ w i.
         let y = given.writes w i in
         let below = row_below rows y.grant.ino (k.kept.live y.grant y.is_open) in

@@ -13,19 +13,19 @@ use Rattle.trio_rights.specs.declared.kind.Kind.TheVariants.{Regular, Directory}
 use Rattle.trio_rights.specs.declared.rights.LibNo.{LibNo}
 use Rattle.trio_nodes.specs.declared.grant.GrantKind.TheVariants.{Write}
 use Rattle.trio_layout.specs.Chain.{Chain}
-use Rattle.trio_layout.specs.Core.{Core, Place, page_of}
+use Rattle.trio_layout.specs.Core.{Core, Location, page_of}
 use Rattle.trio_layout.specs.Range.{is_core}
 use Rattle.trio_lists.specs.Lists.{is_among, are_new, In}
 use Rattle.trio_layout.specs.declared.range.CoreRange.{CoreRange}
-use Rattle.trio_lists.proofs.MarkLemmas.{are_new-append, are_new-more}
+use Rattle.trio_lists.proofs.Marked.{are_new-append, are_new-more}
 use Rattle.trio_lease.specs.declared.parts.LentPage.{LentPage}
 use Rattle.trio_layout.specs.Pages.{sheets_of}
-use Rattle.trio_state.specs.Handed.{lent_sheet}
+use Rattle.trio_state.specs.Views.{lent_sheet}
 use Rattle.trio_page.specs.Sheets.{Sheet, without_pages}
 use Rattle.trio_checkpoint.specs.Covered.{are_there, core_of, covered_numbers}
 use Rattle.trio_checkpoint.proofs.Following.{all_at}
-use Rattle.trio_lists.proofs.Members.{among_from}
-use Rattle.trio_surveys.proofs.Owned.{new_before, new_weaker}
+use Rattle.trio_lists.proofs.Members.{In-is_among}
+use Rattle.trio_lists.proofs.New.{are_new-before, are_new-fewer}
 use Rattle.trio_surveys.proofs.SheetLaws.{page_at}
 use Rattle.trio_surveys.proofs.Sheets.{Pages, without_apart}
 use Rattle.trio_lease.specs.Shown.{LentFile, Shown}
@@ -61,7 +61,7 @@ there_at pages range ns i lt all =
 next_home : (pages now : List (Option (List ℕ))) (ns : List ℕ) (i : ℕ) → i < length ns → are_new [] ns ≡ true → now ≡ without_pages (take i ns) pages → get_or now (get_or ns i 0) None ≡ get_or pages (get_or ns i 0) None
 next_home pages now ns i lt new so_far =
     let n : ℕ = get_or ns i 0 in
-    let apart : In n (take i ns) → ⊥ = λ k. false≢true (sym (next_apart ns i lt new) ∙ among_from n (take i ns) k) in
+    let apart : In n (take i ns) → ⊥ = λ k. false≢true (sym (next_apart ns i lt new) ∙ In-is_among n (take i ns) k) in
     ap (λ ps. get_or ps n None) so_far
     ∙ page_at (without_pages (take i ns) pages) n
     ∙ ap (option_and_then (λ x. x)) (without_apart (take i ns) pages n apart)
@@ -121,12 +121,12 @@ pub index_once : (core : Core) (c : Chain) → IsLendable core c → are_new [] 
 index_once core c l = (once_parts c l.once).0
 
 pub blocks_once : (core : Core) (c : Chain) → IsLendable core c → are_new [] c.blocks ≡ true
-blocks_once core c l = new_weaker [] c.index c.blocks (λ n i. absurd i) (once_parts c l.once).1
+blocks_once core c l = are_new-fewer [] c.index c.blocks (λ n i. absurd i) (once_parts c l.once).1
 
 -- a page of the blocks stands where it stood once the index pages are gone
 block_stays : (pages : Pages) (range : CoreRange) (c : Chain) → are_new [] (c.index ++ c.blocks) ≡ true → (p : ℕ) → In p c.blocks → page_of (core_of (without_pages c.index pages) range) p ≡ page_of (core_of pages range) p
 block_stays pages range c once p i =
-    let apart : In p c.index → ⊥ = λ k. new_before p c.index c.blocks (once_parts c once).1 i k in
+    let apart : In p c.index → ⊥ = λ k. are_new-before p c.index c.blocks (once_parts c once).1 i k in
     ap (λ o. if is_core range p then o else None)
     (page_at (without_pages c.index pages) p ∙ ap (option_and_then (λ x. x)) (without_apart c.index pages p apart) ∙ sym (page_at pages p))
 
@@ -185,10 +185,10 @@ lease_is o l key ino entry is lib of body index blocks covers xs ys made number 
     ∙ ap (λ ps. S is (map untouched (map lent_sheet index)) ps) (again blocks ys second)
     ∙ ap (λ (q : Opened). lease_of q.grant) (sym made)
 
-pub read_or : Chain → Result Chain Place → Chain
+pub read_or : Chain → Result Chain Location → Chain
 read_or c (Ok x) = x
 read_or c (Err place) = c
 
-pub same_chain : (c x : Chain) (r : Result Chain Place) → Ok c ≡ r → r ≡ Ok x → c ≡ x
+pub same_chain : (c x : Chain) (r : Result Chain Location) → Ok c ≡ r → r ≡ Ok x → c ≡ x
 unfolding read_or
 same_chain c x r e f = ap (read_or c) (e ∙ f)

@@ -4,7 +4,7 @@ use Rattle.trio_rights.specs.declared.rights.LibNo.{LibNo}
 use Rattle.trio_lease.specs.declared.parts.FreshParts.{FreshParts}
 use Rattle.trio_tables.specs.Out.{with_all}
 use Rattle.trio_allot.specs.Out.{fresh_page, page_numbers, with_pages as with_fresh}
-use Rattle.trio_state.specs.Handed.{fresh_sheet}
+use Rattle.trio_state.specs.Views.{fresh_sheet}
 use Rattle.trio_page.specs.Sheets.{sheet_numbers, with_pages, without_pages}
 
 pub without_is : (ns : List ℕ) (pages : List (Option (List ℕ))) → without_pages ns pages ≡ with_all None ns pages

@@ -30,14 +30,15 @@ use Rattle.trio_laws.specs.EndLaws.{IsSpread, checkpoints_of, unless_absent}
 use Rattle.trio_surveys.proofs.Accepted.{length-bodies}
 use Rattle.trio_laws.proofs.Accepting.{handed_in}
 use Rattle.trio_laws.proofs.Bundles.{in_numbers}
-use Rattle.trio_lists.proofs.Filters.{filter_in, in_filter}
+use Rattle.trio_lists.proofs.Filters.{filter-In, In-filter}
 use Rattle.trio_laws.proofs.Checkpoints.{checkpoint_settled}
 use Rattle.trio_laws.proofs.Ended.{bundle_write}
 use Rattle.trio_laws.proofs.EndLaws.{accepted_settles, refused_settles}
 use Rattle.trio_surveys.proofs.Images.{read_met, root_is_met}
 use Rattle.trio_surveys.proofs.Local.{reads_from}
-use Rattle.trio_lists.proofs.Members.{In-flat, In-left, In-map, all_from, flat_from, map_from}
-use Rattle.trio_surveys.proofs.Owned.{body_sized, new_weaker}
+use Rattle.trio_lists.proofs.Members.{In-flat, In-left, In-map, list_all-each, flat_map-In, map-In}
+use Rattle.trio_surveys.proofs.Owned.{body_sized}
+use Rattle.trio_lists.proofs.New.{are_new-fewer}
 use Rattle.trio_surveys.proofs.Picked.{all_listed, bodies_are, listed_no_root}
 use Rattle.trio_surveys.proofs.Putting.{put_on, with_bodies-get}
 use Rattle.trio_laws.proofs.Runs.{release_kept}
@@ -48,11 +49,11 @@ use Rattle.trio_laws.proofs.Survivors.{fit_now, sound_now}
 use Rattle.trio_laws.proofs.Tells.{untold_tells}
 use Rattle.trio_laws.proofs.Uncovered.{uncovered-lent}
 use Rattle.trio_proposal.specs.declared.judgement.NextImage.{NextImage}
-use Rattle.trio_proposal.specs.Judged.{IsImage}
+use Rattle.trio_proposal.specs.Judgement.{IsImage}
 use Rattle.trio_ctl.specs.Ctl.{IsControlled, state_of}
 use Rattle.trio_ctl.specs.Moves.{all_covered, followed, is_closing, lent_uncovered}
 use Rattle.trio_ctl.specs.Open.{Opened, keyed}
-use Rattle.trio_allot.specs.Out.{OutTo, outs_after}
+use Rattle.trio_allot.specs.Out.{OutByNumber, outs_after}
 use Rattle.trio_ctl.proofs.Ending.{ending, keys, staying}
 use Rattle.trio_ctl.proofs.Handing.{closing_same, grant_writes, staying_same, unparted_bundle}
 
@@ -105,7 +106,7 @@ keys_stay p seen [] h = refl
 keys_stay p seen (o ∷ files) h =
     let parts = and_parts (not (is_among o.key seen)) (are_new (seen ++ o.key ∷ []) (keys files)) h in
     by parts.0 (keys_stay p (seen ++ o.key ∷ []) files parts.1)
-    (keys_stay p seen files (new_weaker seen (seen ++ o.key ∷ []) (keys files) (λ n. In-left n seen (o.key ∷ [])) parts.1)) (p o)
+    (keys_stay p seen files (are_new-fewer seen (seen ++ o.key ∷ []) (keys files) (λ n. In-left n seen (o.key ∷ [])) parts.1)) (p o)
   where
     by : not (is_among o.key seen) ≡ true → are_new (seen ++ o.key ∷ []) (keys (filter p files)) ≡ true → are_new seen (keys (filter p files)) ≡ true
         → (b : Bool) → are_new seen (keys (if b then o ∷ filter p files else filter p files)) ≡ true
@@ -130,7 +131,7 @@ part_followed pages (o ∷ files) =
     ap (λ (sheets : List Sheet). record o.grant { checkpoint = sheets } ∷ map lent_part (map (λ o. o.grant) (map (followed pages) files))) (blank_standing pages o.grant.checkpoint)
     ∙ ap (λ l. lent_part o.grant ∷ l) (part_followed pages files)
 
-module _ (s : Superblock) (pages : List (Option (List ℕ))) (rows : List (Option Row)) (owners : List ℕ) (table : List Keyed) (files : List Opened) (outs : OutTo) (creds : List Creds) (entries : ℕ) (k : IsControlled s pages rows owners table files outs creds entries) (lib : LibNo) (b : Bundle) (given : GivenTo (state_of s pages rows owners files outs creds entries) lib.0 b) (marks : List Bool) (marked : (n : ℕ) → slice_index_or marks n false ≡ is_written b n) where
+module _ (s : Superblock) (pages : List (Option (List ℕ))) (rows : List (Option Row)) (owners : List ℕ) (table : List Keyed) (files : List Opened) (outs : OutByNumber) (creds : List Creds) (entries : ℕ) (k : IsControlled s pages rows owners table files outs creds entries) (lib : LibNo) (b : Bundle) (given : GivenTo (state_of s pages rows owners files outs creds entries) lib.0 b) (marks : List Bool) (marked : (n : ℕ) → slice_index_or marks n false ≡ is_written b n) where
   abbrev now : State
   now = state_of s pages rows owners files outs creds entries
 
@@ -145,24 +146,24 @@ module _ (s : Superblock) (pages : List (Option (List ℕ))) (rows : List (Optio
   stay_same = staying_same lib b marks files marked k.writes
 
   stays_from : (o : Opened) → In o stay → In o files
-  stays_from o i = (filter_in (λ o. not (is_closing lib marks o)) o files i).0
+  stays_from o i = (filter-In (λ o. not (is_closing lib marks o)) o files i).0
 
   stay_once : IsTrue (are_new [] (keys stay))
   stay_once = keys_stay (λ o. not (is_closing lib marks o)) [] files k.keys_once
 
   back_from : (x : Sheet) → In x back → (g : OpenGrant) × In g now.open_grants × IsTrue (is_in_bundle lib.0 b g) × In x g.checkpoint
   back_from x i =
-      let r = flat_from (λ (o : Opened). o.grant.checkpoint) x (ending lib marks files) i in
+      let r = flat_map-In (λ (o : Opened). o.grant.checkpoint) x (ending lib marks files) i in
       let o : Opened = r.0 in
-      let f = filter_in (is_closing lib marks) o files r.1 in
+      let f = filter-In (is_closing lib marks) o files r.1 in
       (o.grant, In-map (λ (o : Opened). o.grant) o files f.0, sym (closing_same lib b marks o marked (k.writes o f.0)) ∙ f.1, r.2)
 
   back_all : (g : OpenGrant) (x : Sheet) → In g now.open_grants → IsTrue (is_in_bundle lib.0 b g) → In x g.checkpoint → In x back
   back_all g x i own a =
-      let r = map_from (λ (o : Opened). o.grant) g files i in
+      let r = map-In (λ (o : Opened). o.grant) g files i in
       let o : Opened = r.0 in
       let closes : is_closing lib marks o ≡ true = closing_same lib b marks o marked (k.writes o r.1) ∙ ap (is_in_bundle lib.0 b) (sym r.2) ∙ own in
-      In-flat (λ (o : Opened). o.grant.checkpoint) o x (ending lib marks files) (in_filter (is_closing lib marks) o files r.1 closes)
+      In-flat (λ (o : Opened). o.grant.checkpoint) o x (ending lib marks files) (In-filter (is_closing lib marks) o files r.1 closes)
       (subst (λ (h : OpenGrant). In x h.checkpoint) r.2 a)
 
   -- it is over pages of the bundle
@@ -185,7 +186,7 @@ module _ (s : Superblock) (pages : List (Option (List ℕ))) (rows : List (Optio
   -- what stays covered is covered now
   stay_covered : (x : Sheet) → In x (all_covered stay) → In x (checkpoints_of now.open_grants)
   stay_covered x i =
-      let r = flat_from (λ (o : Opened). o.grant.checkpoint) x stay i in
+      let r = flat_map-In (λ (o : Opened). o.grant.checkpoint) x stay i in
       let o : Opened = r.0 in
       In-flat (λ (g : OpenGrant). g.checkpoint) o.grant x now.open_grants (In-map (λ (o : Opened). o.grant) o files (stays_from o r.1)) r.2
 
@@ -198,7 +199,7 @@ module _ (s : Superblock) (pages : List (Option (List ℕ))) (rows : List (Optio
       let f = read_met core plain fit sound (root_of core) (root_is_met core plain fit sound) in
       body_sized (root_of core).kind core.range core.root f.0.body (reads_from core (root_of core) f.0 f.1).body
 
-  module _ (table' : List Keyed) (pages' : List (Option (List ℕ))) (outs' : OutTo) (entries' : ℕ) (ended : table' ≡ map keyed stay) (returned : outs' ≡ outs_after outs (sheet_numbers b.pages) b.numbers) (more : entries' ≡ entries + 1) where
+  module _ (table' : List Keyed) (pages' : List (Option (List ℕ))) (outs' : OutByNumber) (entries' : ℕ) (ended : table' ≡ map keyed stay) (returned : outs' ≡ outs_after outs (sheet_numbers b.pages) b.numbers) (more : entries' ≡ entries + 1) where
     -- what is out still was out before, so it is within
     -- ---- refused
 
@@ -217,8 +218,8 @@ module _ (s : Superblock) (pages : List (Option (List ℕ))) (rows : List (Optio
           record {
             settles = ap J settles;
             grants = ap (map lent_part) stay_same;
-            pages = ap (λ (o : OutTo). o.pages) returned;
-            numbers = ap (λ (o : OutTo). o.numbers) returned;
+            pages = ap (λ (o : OutByNumber). o.pages) returned;
+            numbers = ap (λ (o : OutByNumber). o.numbers) returned;
             creds = refl;
             entries = more;
           }
@@ -271,7 +272,7 @@ module _ (s : Superblock) (pages : List (Option (List ℕ))) (rows : List (Optio
 
       pub after_stands : IsTrue (all_stand after (all_covered stay))
       after_stands =
-          all_from (λ (x : Sheet). is_some (slice_index_or after x.page None)) (all_covered stay)
+          list_all-each (λ (x : Sheet). is_some (slice_index_or after x.page None)) (all_covered stay)
           (λ x i. let t = after_there x i in ap is_some (get_or_from_slice_get after x.page (Some t.0) None t.1))
 
       pub after_long : length after ≡ length pages
@@ -296,11 +297,11 @@ module _ (s : Superblock) (pages : List (Option (List ℕ))) (rows : List (Optio
 
         covered_then : (g : OpenGrant) (x : Sheet) → In g accepted.open_grants → In x g.checkpoint → slice_get after x.page ≡ Some (Some x.bytes)
         covered_then g x i a =
-            let r = map_from (λ (o : Opened). o.grant) g files' i in
-            let q = map_from (followed after) r.0 stay r.1 in
+            let r = map-In (λ (o : Opened). o.grant) g files' i in
+            let q = map-In (followed after) r.0 stay r.1 in
             let o : Opened = q.0 in
             let at : In x (map (standing after) o.grant.checkpoint) = subst (λ (h : OpenGrant). In x h.checkpoint) (r.2 ∙ ap (λ (z : Opened). z.grant) q.2) a in
-            let y = map_from (standing after) x o.grant.checkpoint at in
+            let y = map-In (standing after) x o.grant.checkpoint at in
             let t = after_there y.0 (In-flat (λ (o : Opened). o.grant.checkpoint) o y.0 stay q.1 y.1) in
             let bytes : x.bytes ≡ t.0 = ap (λ (z : Sheet). z.bytes) y.2 ∙ ap (λ o. option_map_or (λ bytes. bytes) o []) (get_or_from_slice_get after y.0.page (Some t.0) None t.1) in
             ap (slice_get after) (ap (λ (z : Sheet). z.page) y.2) ∙ t.1 ∙ ap (λ l. Some (Some l)) (sym bytes)
@@ -328,8 +329,8 @@ module _ (s : Superblock) (pages : List (Option (List ℕ))) (rows : List (Optio
                   ∙ ap (λ rs. J image.core.pages image.core.root rs n.owners) is.rows
                   ∙ ap (J image.core.pages image.core.root image.rows) is.owners;
               grants = like;
-              pages = ap (λ (o : OutTo). o.pages) returned;
-              numbers = ap (λ (o : OutTo). o.numbers) returned;
+              pages = ap (λ (o : OutByNumber). o.pages) returned;
+              numbers = ap (λ (o : OutByNumber). o.numbers) returned;
               creds = refl;
               entries = more;
             }
@@ -349,13 +350,13 @@ module _ (s : Superblock) (pages : List (Option (List ℕ))) (rows : List (Optio
               grants = ended ∙ sym (keyed_followed after stay);
               keys_once = ap (are_new []) (keys_followed after stay) ∙ stay_once;
               earlier = λ o i.
-                  let q = map_from (followed after) o stay i in
+                  let q = map-In (followed after) o stay i in
                   let below = k.earlier q.0 (stays_from q.0 q.1) in
                   let same : o.grant.entry ≡ q.0.grant.entry = ap (λ (z : Opened). z.grant.entry) q.2 in
                   let e = more in
                   omega (arith, below, same, e);
               writes = λ o i.
-                  let q = map_from (followed after) o stay i in
+                  let q = map-In (followed after) o stay i in
                   ap (λ (z : Opened). z.grant.kind) q.2 ∙ k.writes q.0 (stays_from q.0 q.1);
               kept = kept;
             }

@@ -16,7 +16,7 @@ use Rattle.trio_image.specs.Image.{ImagePages, IsVerified}
 use Rattle.trio_grants.specs.Grants.{Keyed}
 use Rattle.trio_ctl.specs.Ctl.{IsControlled}
 use Rattle.trio_ctl.specs.Open.{Opened}
-use Rattle.trio_allot.specs.Out.{OutTo, nothing_out}
+use Rattle.trio_allot.specs.Out.{OutByNumber, nothing_out}
 use Rattle.trio_ctl.proofs.Wholes.{cond_there, whole_at, whole_none}
 
 pub image_kept : (s : Superblock) (pages : List (Option (List ℕ))) (creds : List Creds) → IsVerified s pages → Kept (start (image_in s pages) creds)
@@ -32,7 +32,7 @@ image_kept s pages creds v =
     start_kept (image_in s pages) creds fit verifies (λ p gone core. whole_none pages p v.whole.whole gone)
 
 -- what the controller keeps at its start
-pub started : (s t : Superblock) (pages pages' : List (Option (List ℕ))) (rows : List (Option Row)) (owners : List ℕ) (table : List Keyed) (files : List Opened) (outs : OutTo) (creds : List Creds) → IsVerified s pages → t ≡ s → pages' ≡ pages
+pub started : (s t : Superblock) (pages pages' : List (Option (List ℕ))) (rows : List (Option Row)) (owners : List ℕ) (table : List Keyed) (files : List Opened) (outs : OutByNumber) (creds : List Creds) → IsVerified s pages → t ≡ s → pages' ≡ pages
     → rows ≡ (image_in s pages).rows → owners ≡ (image_in s pages).owners → table ≡ [] → files ≡ [] → outs ≡ nothing_out s.pages s.inodes → 1 ≤ length creds → length creds ≤ 16
     → IsControlled t pages' rows owners table files outs creds 0
 started s t pages pages' rows owners table files outs creds v same home is_rows is_owners none empty nothing some few =
@@ -54,7 +54,7 @@ started s t pages pages' rows owners table files outs creds v same home is_rows 
     (subst (λ os. IsControlled s pages (image_in s pages).rows os table files outs creds 0) (sym is_owners)
     (subst (λ ts. IsControlled s pages (image_in s pages).rows (image_in s pages).owners ts files outs creds 0) (sym none)
     (subst (λ fs. IsControlled s pages (image_in s pages).rows (image_in s pages).owners [] fs outs creds 0) (sym empty)
-    (subst (λ (o : OutTo). IsControlled s pages (image_in s pages).rows (image_in s pages).owners [] [] o creds 0) (sym nothing) base))))))
+    (subst (λ (o : OutByNumber). IsControlled s pages (image_in s pages).rows (image_in s pages).owners [] [] o creds 0) (sym nothing) base))))))
 
 pub same_image : (a b : ImagePages) → a.superblock ≡ b.superblock → a.pages ≡ b.pages → a ≡ b
 same_image a b p q =

@@ -14,38 +14,38 @@ use Rattle.trio_nodes.specs.declared.answers.ReleaseAnswer.{ReleaseAnswer}
 use Rattle.trio_nodes.specs.declared.answers.ReleaseAnswer.TheVariants.{Accepted as AcceptedBundle, Refused as RefusedBundle}
 use Rattle.trio_nodes.specs.declared.answers.ReleaseFault.{ReleaseFault}
 use Rattle.trio_nodes.specs.declared.answers.ReleaseFault.TheVariants.{NotClosed as NotClosedBundle, NoMemory as NoReleaseMemory}
-use Rattle.trio_state.specs.Step.{Answer, Granted, NotGranted, Given, NoPages, NoInodes, Accepted, Refused, NotClosed, NoMemory}
+use Rattle.trio_state.specs.Step.{CtlAnswer, Granted, NotGranted, Given, NoPages, NoInodes, Accepted, Refused, NotClosed, NoMemory}
 use Rattle.trio_ctl.specs.declared.ctl.ImageFault.{ImageFault}
 use Rattle.trio_ctl.specs.declared.ctl.ImageFault.TheVariants.{Busy, NoMemory as NoImageMemory}
 
 -- a write grant tells no children
-abbrev pub grant_fault_answer : GrantFault → Answer
+abbrev pub grant_fault_answer : GrantFault → CtlAnswer
 grant_fault_answer NoGrantMemory = NoMemory
 grant_fault_answer fault = NotGranted fault
 
-abbrev pub grant_answer : {L : Type 0} → Result L GrantFault → Answer
+abbrev pub grant_answer : {L : Type 0} → Result L GrantFault → CtlAnswer
 grant_answer (Ok lease) = Granted 0
 grant_answer (Err fault) = grant_fault_answer fault
 
-abbrev pub release_fault_answer : ReleaseFault → Answer
+abbrev pub release_fault_answer : ReleaseFault → CtlAnswer
 release_fault_answer NoReleaseMemory = NoMemory
 release_fault_answer (NotClosedBundle ino) = NotClosed ino
 
 -- a refusal tells its cause
-abbrev pub verdict_of : ReleaseAnswer → Answer
+abbrev pub verdict_of : ReleaseAnswer → CtlAnswer
 verdict_of AcceptedBundle = Accepted
 verdict_of (RefusedBundle rule ino page slot) = Refused (record { rule = rule; ino = ino; page = page; slot = slot })
 
-abbrev pub release_answer : {B : Type 0} → Result ReleaseAnswer B → (B → ReleaseFault) → Answer
+abbrev pub release_answer : {B : Type 0} → Result ReleaseAnswer B → (B → ReleaseFault) → CtlAnswer
 release_answer (Ok answer) fault = verdict_of answer
 release_answer (Err back) fault = release_fault_answer (fault back)
 
-abbrev pub allot_fault_answer : AllotFault → Answer
+abbrev pub allot_fault_answer : AllotFault → CtlAnswer
 allot_fault_answer (NoFreePages wanted free) = NoPages wanted free
 allot_fault_answer (NoFreeInodes wanted free) = NoInodes wanted free
 allot_fault_answer NoAllotMemory = NoMemory
 
-abbrev pub allot_answer : Result Allotted AllotFault → Answer
+abbrev pub allot_answer : Result Allotted AllotFault → CtlAnswer
 allot_answer (Ok given) = Given (page_numbers given.pages.items) (inode_numbers given.inodes.items)
 allot_answer (Err fault) = allot_fault_answer fault
 

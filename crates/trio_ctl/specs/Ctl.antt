@@ -8,7 +8,7 @@ use Rattle.trio_rights.specs.declared.rights.Creds.{Creds}
 use Rattle.trio_rights.specs.declared.rights.LibNo.{LibNo}
 use Rattle.trio_nodes.specs.declared.grant.GrantKind.TheVariants.{Write}
 use Rattle.trio_nodes.specs.declared.grant.Holder.{Holder}
-use Rattle.trio_allot.specs.Out.{OutTo}
+use Rattle.trio_allot.specs.Out.{OutByNumber}
 use Rattle.trio_grants.specs.Grants.{Keyed}
 use Rattle.trio_lists.specs.Lists.{are_new, In}
 use Rattle.trio_layout.specs.declared.superblock.Superblock.{Superblock}
@@ -37,7 +37,7 @@ abbrev pub home_image : Superblock → List (Option (List ℕ)) → List (Option
 home_image s pages rows owners = record { core = core_in s pages; rows = rows; owners = owners }
 
 -- the state that the controller's parts are
-abbrev pub state_of : Superblock → List (Option (List ℕ)) → List (Option Row) → List ℕ → List Opened → OutTo → List Creds → ℕ → State
+abbrev pub state_of : Superblock → List (Option (List ℕ)) → List (Option Row) → List ℕ → List Opened → OutByNumber → List Creds → ℕ → State
 state_of s pages rows owners files outs creds entries = record {
   home = home_image s pages rows owners;
   open_grants = map (λ o. o.grant) files;
@@ -54,7 +54,7 @@ pub record Controller : Type 0 where
 -- What holds of what the controller keeps: the sizes fit each other, each page has its place, there are 1 to 16 libraries, the
 -- table of grants has just the open ones, which are write grants of earlier entries under keys of their own, and the state is
 -- kept.
-pub record IsControlled (s : Superblock) (pages : List (Option (List ℕ))) (rows : List (Option Row)) (owners : List ℕ) (table : List Keyed) (files : List Opened) (outs : OutTo) (creds : List Creds) (entries : ℕ) : Type 0 where
+pub record IsControlled (s : Superblock) (pages : List (Option (List ℕ))) (rows : List (Option Row)) (owners : List ℕ) (table : List Keyed) (files : List Opened) (outs : OutByNumber) (creds : List Creds) (entries : ℕ) : Type 0 where
   pub fits : IsTrue (superblock_fits s)
   pub root : length s.root ≡ 64
   pub count : length pages ≡ s.pages

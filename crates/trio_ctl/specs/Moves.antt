@@ -4,9 +4,9 @@ use Rattle.std.specs.List.{list_all, flat_map}
 use Rattle.trio_rights.specs.declared.rights.LibNo.{LibNo}
 use Rattle.trio_lease.specs.declared.parts.LentPage.{LentPage}
 use Rattle.trio_lease.specs.Shown.{LentFile}
-use Rattle.trio_allot.specs.Out.{OutTo}
-use Rattle.trio_layout.specs.Marks.{all_below}
-use Rattle.trio_state.specs.Handed.{lent_sheet}
+use Rattle.trio_allot.specs.Out.{OutByNumber}
+use Rattle.trio_layout.specs.AreMarked.{all_below}
+use Rattle.trio_state.specs.Views.{lent_sheet}
 use Rattle.trio_page.specs.Sheets.{Sheet, sheet_numbers}
 use Rattle.trio_state.specs.Bundles.{uncovered_of}
 use Rattle.trio_layout.specs.Proposed.{Bundle}
@@ -55,6 +55,6 @@ abbrev pub is_closing : LibNo → List Bool → Opened → Bool
 is_closing lib written o = o.grant.lib == lib.0 && slice_index_or written o.grant.ino false
 
 -- what a bundle has by allotment has its places in the image
-pub record HasPlaces (outs : OutTo) (b : Bundle) : Type 0 where
+pub record IsWithinImage (outs : OutByNumber) (b : Bundle) : Type 0 where
   pub pages : IsTrue (all_below (length outs.pages) (sheet_numbers b.pages))
   pub numbers : IsTrue (all_below (length outs.numbers) b.numbers)

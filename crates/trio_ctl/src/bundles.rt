@@ -2,11 +2,11 @@
 
 ghost use Rattle.std.specs.Prelude.{◌≡◌, ◌≤◌, ◌++◌, ℕ, IfOk, IsTrue, false, length, map, slice_index_or};
 ghost use Rattle.std.specs.List.{flat_map};
-ghost use Rattle.trio_lists.specs.Marks.{all_below};
-ghost use Rattle.trio_state.specs.Handed.{bundle_in};
+ghost use Rattle.trio_lists.specs.Marked.{all_below};
+ghost use Rattle.trio_state.specs.Views.{bundle_in};
 ghost use Rattle.trio_layout.specs.Proposed.{bundle_pages, bundle_sheets, is_written};
 ghost use Rattle.trio_page.specs.Sheets.{sheet_numbers, with_pages};
-ghost use Rattle.trio_ctl.specs.Moves.{are_numbered, file_sheets, lent_sheets, lent_uncovered, uncovered_sheets, HasPlaces};
+ghost use Rattle.trio_ctl.specs.Moves.{are_numbered, file_sheets, lent_sheets, lent_uncovered, uncovered_sheets, IsWithinImage};
 ghost use Rattle.trio_allot.specs.Out.{outs_after};
 
 use std::alloc::Global;
@@ -37,7 +37,7 @@ pub(crate) fn written_marks(
 /// pages. The allotments of its pages and numbers end, and its holds are let go.
 pub(crate) fn bring_home(home: &mut Home, outs: &mut Allotments, bundle: Bundle)
     requires within { IsTrue (all_below (length home.old.pages) (bundle_pages (bundle_in bundle))) }
-    requires allotted { HasPlaces outs.old (bundle_in bundle) }
+    requires allotted { IsWithinImage outs.old (bundle_in bundle) }
     ensures home { home.new ≡ record home.old { pages = with_pages (bundle_sheets (bundle_in bundle)) home.old.pages } }
     ensures returned { outs.new ≡ outs_after outs.old (sheet_numbers (bundle_in bundle).pages) (bundle_in bundle).numbers }
 {
@@ -56,7 +56,7 @@ pub(crate) fn bring_home(home: &mut Home, outs: &mut Allotments, bundle: Bundle)
 /// allotments of the bundle's pages and numbers end, and the rest of it is let go.
 pub(crate) fn bring_uncovered(home: &mut Home, outs: &mut Allotments, bundle: Bundle)
     requires within { IsTrue (all_below (length home.old.pages) (bundle_pages (bundle_in bundle))) }
-    requires allotted { HasPlaces outs.old (bundle_in bundle) }
+    requires allotted { IsWithinImage outs.old (bundle_in bundle) }
     ensures home { home.new ≡ record home.old {
       pages = with_pages (lent_uncovered (bundle_in bundle) ++ (bundle_in bundle).pages) home.old.pages;
     } }

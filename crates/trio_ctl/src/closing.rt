@@ -3,7 +3,7 @@
 ghost use Rattle.std.specs.Prelude.{◌≡◌, ◌≤◌, [], IsTrue, length, map, not, vec_capacity};
 ghost use Rattle.std.specs.List.{filter};
 ghost use Rattle.trio_lists.specs.Lists.{are_new};
-ghost use Rattle.trio_lists.specs.Marks.{all_below};
+ghost use Rattle.trio_lists.specs.Marked.{all_below};
 ghost use Rattle.trio_page.specs.Sheets.{sheet_numbers, with_pages};
 ghost use Rattle.trio_ctl.specs.Open.{keyed};
 ghost use Rattle.trio_ctl.specs.Moves.{all_covered, is_closing};

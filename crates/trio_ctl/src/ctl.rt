@@ -22,7 +22,7 @@ ghost use Rattle.trio_ctl.specs.Answers.{allot_answer, grant_answer, Admits, Tel
 ghost use Rattle.trio_ctl.specs.Ctl.{IsLibrary, superblock_for, with_zeros, writer_of};
 ghost use Rattle.trio_ctl.specs.Open.{lease_of};
 
-use crate::lend::{Asked, lend, settled_body};
+use crate::lend::{GrantRequest, lend, settled_body};
 use crate::open::OpenFile;
 use crate::store::stored_pages;
 use std::alloc::Global;
@@ -286,7 +286,7 @@ impl Ctl {
             Ok(key) => key,
             Err(fault) => return Err(fault),
         };
-        let asked = Asked {
+        let asked = GrantRequest {
             lib,
             ino,
             kind: row.kind,

@@ -24,7 +24,7 @@ use trio_tables::Row;
 
 /// A file that a library asks for.
 #[derive(Clone, Copy)]
-pub(crate) struct Asked {
+pub(crate) struct GrantRequest {
     /// The library that asks.
     pub lib: LibNo,
     /// The inode number of the file.
@@ -42,7 +42,7 @@ pub(crate) fn lend(
     alloc: Global,
     home: &mut Home,
     range: CoreRange,
-    asked: &Asked,
+    asked: &GrantRequest,
     key: GrantKey,
 ) -> Result<(OpenFile, WriteLease), NoMemory>
     requires chain { IsOk (chain_in (core_of home.old.pages range) asked.now.kind asked.now.body) }

@@ -3,10 +3,10 @@
 ghost use Rattle.std.specs.Prelude.{◌≡◌, ◌==◌, IsTrue, OnOk, length, map};
 ghost use Rattle.std.specs.List.{find};
 ghost use Rattle.std.specs.Option.{option_copied};
-ghost use Rattle.trio_lists.specs.Marks.{all_below};
+ghost use Rattle.trio_lists.specs.Marked.{all_below};
 ghost use Rattle.trio_page.specs.Sheets.{sheet_numbers, with_pages};
 ghost use Rattle.trio_nodes.specs.declared.grant.GrantKind.TheVariants.{Write};
-ghost use Rattle.trio_state.specs.Handed.{lent_sheet};
+ghost use Rattle.trio_state.specs.Views.{lent_sheet};
 ghost use Rattle.trio_checkpoint.specs.Covered.{all_stand, covered_pages, page_on, standing};
 ghost use Rattle.trio_ctl.specs.Open.{page_lent};
 
@@ -35,7 +35,7 @@ pub(crate) struct OpenFile {
 impl Model for OpenFile {
     ghost use Rattle.std.specs.Prelude.{map};
     ghost use Rattle.trio_nodes.specs.declared.grant.GrantKind.TheVariants.{Write};
-    ghost use Rattle.trio_state.specs.Handed.{lent_sheet};
+    ghost use Rattle.trio_state.specs.Views.{lent_sheet};
     ghost use Rattle.trio_checkpoint.specs.Covered.{covered_pages};
     ghost use Rattle.trio_ctl.specs.Open.{Opened};
 

@@ -1,11 +1,11 @@
 //! The end of a release: the judgement of what a library hands in, and what stands after it.
 
 ghost use Rattle.std.specs.Prelude.{◌≡◌, ◌≤◌, ℕ, [], IfErr, IfOk, IsTrue, true, false, length, map, slice_get, slice_index_or, vec_capacity};
-ghost use Rattle.trio_lists.specs.Marks.{all_below};
+ghost use Rattle.trio_lists.specs.Marked.{all_below};
 ghost use Rattle.trio_nodes.specs.declared.answers.ReleaseFault.TheVariants.{NoMemory as NoReleaseMemory};
 ghost use Rattle.trio_layout.specs.Accept.{is_accepted, next};
 ghost use Rattle.trio_state.specs.Given.{GivenTo};
-ghost use Rattle.trio_state.specs.Handed.{bundle_in};
+ghost use Rattle.trio_state.specs.Views.{bundle_in};
 ghost use Rattle.trio_state.specs.Kept.{Kept};
 ghost use Rattle.trio_layout.specs.Proposed.{bundle_pages, bundle_sheets, is_written};
 ghost use Rattle.trio_page.specs.Sheets.{sheet_numbers, with_pages};
@@ -13,10 +13,10 @@ ghost use Rattle.trio_state.specs.State.{creds_of, settled};
 ghost use Rattle.trio_state.specs.Step.{Release, Step};
 ghost use Rattle.trio_laws.specs.EndLaws.{unless_absent};
 ghost use Rattle.trio_checkpoint.specs.Covered.{all_stand};
-ghost use Rattle.trio_proposal.specs.Judged.{IfAccepted, IfRefused, IsImage};
+ghost use Rattle.trio_proposal.specs.Judgement.{IfAccepted, IfRefused, IsImage};
 ghost use Rattle.trio_ctl.specs.Answers.{release_answer};
 ghost use Rattle.trio_ctl.specs.Ctl.{IsLibrary};
-ghost use Rattle.trio_ctl.specs.Moves.{HasPlaces, all_covered, followed};
+ghost use Rattle.trio_ctl.specs.Moves.{IsWithinImage, all_covered, followed};
 ghost use Rattle.trio_allot.specs.Out.{outs_after};
 
 use crate::bundles::{bring_home, bring_uncovered, written_marks};
@@ -153,7 +153,7 @@ fn put_in_place(
     reads: &mut Reads,
 )
     requires within { IsTrue (all_below (length home.old.pages) (bundle_pages (bundle_in bundle))) }
-    requires allotted { HasPlaces outs.old (bundle_in bundle) }
+    requires allotted { IsWithinImage outs.old (bundle_in bundle) }
     requires count { length home.old.pages ≡ length pages.pages }
     requires stand { IsTrue (all_stand pages.pages (all_covered files.old)) }
     ensures files { files.new ≡ map (followed pages.pages) files.old }

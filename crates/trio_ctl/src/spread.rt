@@ -1,7 +1,7 @@
 //! The settled pages, over home and the checkpoints of the grants that are open.
 
 ghost use Rattle.std.specs.Prelude.{◌≡◌, ◌<◌, ℕ, IfOk, IsTrue, None, length, map, slice_get, slice_index_or, slice_set};
-ghost use Rattle.trio_lists.specs.Marks.{all_below};
+ghost use Rattle.trio_lists.specs.Marked.{all_below};
 ghost use Rattle.trio_laws.specs.EndLaws.{unless_absent};
 ghost use Rattle.trio_page.specs.Sheets.{sheet_numbers, with_pages};
 ghost use Rattle.trio_checkpoint.specs.Covered.{all_stand};

@@ -6,7 +6,7 @@ use trio_rights::LibNo;
 
 /// A place where libraries arrive: the line of a library's script, or 0 for its end step.
 #[derive(Clone, Copy, Debug, PartialEq, Eq)]
-pub struct Stop {
+pub struct GateStop {
     pub lib: LibNo,
     pub line: u32,
 }
@@ -15,8 +15,8 @@ pub struct Stop {
 /// stated number of looks at a flag. Then it goes on in either case.
 #[derive(Drop)]
 pub struct HoldGate {
-    held: Stop,
-    awaited: Stop,
+    held: GateStop,
+    awaited: GateStop,
     looks: u64,
     arrived: AtomicBool,
     met: AtomicBool,
@@ -24,7 +24,7 @@ pub struct HoldGate {
 
 impl HoldGate {
     /// Holds whoever arrives at `held` until somebody has arrived at `awaited`.
-    pub fn new(held: Stop, awaited: Stop, looks: u64) -> HoldGate {
+    pub fn new(held: GateStop, awaited: GateStop, looks: u64) -> HoldGate {
         HoldGate {
             held,
             awaited,
@@ -52,7 +52,7 @@ impl HoldGate {
 
 impl Gate for HoldGate {
     fn arrive(&self, lib: LibNo, line: u32) {
-        let stop = Stop { lib, line };
+        let stop = GateStop { lib, line };
         if stop == self.awaited {
             self.arrived.store(true, Ordering::SeqCst);
         }

@@ -235,11 +235,11 @@ fn arrives<G: Gate + Sync>(gate: &G, lib: u32, line: u32) {
 #[test]
 fn gates(rt: HostRuntime) -> Result<(), Fail> {
     arrives(&OpenGate, 1, 0);
-    let held = Stop {
+    let held = GateStop {
         lib: LibNo(1),
         line: 3,
     };
-    let awaited = Stop {
+    let awaited = GateStop {
         lib: LibNo(2),
         line: 0,
     };

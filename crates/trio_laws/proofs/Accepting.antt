@@ -31,12 +31,12 @@ use Rattle.trio_surveys.proofs.Accepted.{accepted_verifies, fit_put}
 use Rattle.trio_laws.proofs.Bundles.{Closed, outside_unheld, kept_chain}
 use Rattle.trio_laws.proofs.Ended.{grant_before, apart_then, checkpoints_then, write_in_bundle, parent_then, outs_then, numbers_then, pages_placed_then, numbers_placed_then, absent_then}
 use Rattle.trio_surveys.proofs.Images.{some_of, row_at_is, row_met, settled_body_met, unlisted_free, free_is_low}
-use Rattle.trio_lists.proofs.Members.{In-left, In-right, In-flat, In-map, map_from, In-among}
+use Rattle.trio_lists.proofs.Members.{In-left, In-right, In-flat, In-map, map-In, is_among-In}
 use Rattle.trio_surveys.proofs.Picked.{all_listed, bodies_are, listed_no_root, file_put, survey_put}
 use Rattle.trio_surveys.proofs.Putting.{put_on, with_bodies-get}
 use Rattle.trio_surveys.proofs.Sheets.{with_pages_absent}
 use Rattle.trio_laws.proofs.StateFacts.{write_is, tables}
-use Rattle.trio_lists.proofs.Filters.{any_at}
+use Rattle.trio_lists.proofs.Filters.{list_any-In}
 use Rattle.trio_laws.proofs.Survivors.{Stays, fit_now, sound_now, stays, survivor_unwritten, out_unlisted, number_free}
 
 absent_map : (f : List ℕ → List ℕ) (o : Option (Option (List ℕ))) → option_map (option_map f) o ≡ Some None → o ≡ Some None
@@ -47,13 +47,13 @@ absent_map f (Some (Some b)) e = absurd cc
 -- the pages of a written file are pages of the bundle
 pub handed_in : (b : Bundle) (w : Written) (p : ℕ) → In w b.writes → In p (sheet_numbers (w.index ++ w.blocks)) → In p (bundle_pages b)
 handed_in b w p i a =
-    let r = map_from (λ (x : Sheet). x.page) p (w.index ++ w.blocks) a in
+    let r = map-In (λ (x : Sheet). x.page) p (w.index ++ w.blocks) a in
     let j : In r.0 (bundle_sheets b) = In-left r.0 (flat_map (λ (w : Written). w.index ++ w.blocks) b.writes) b.pages (In-flat (λ (w : Written). w.index ++ w.blocks) w r.0 b.writes i r.1) in
     subst (λ n. In n (bundle_pages b)) (sym r.2) (In-map (λ (x : Sheet). x.page) r.0 (bundle_sheets b) j)
 
 pub allotted_in : (b : Bundle) (p : ℕ) → In p (sheet_numbers b.pages) → In p (bundle_pages b)
 allotted_in b p a =
-    let r = map_from (λ (x : Sheet). x.page) p b.pages a in
+    let r = map-In (λ (x : Sheet). x.page) p b.pages a in
     let j : In r.0 (bundle_sheets b) = In-right r.0 (flat_map (λ (w : Written). w.index ++ w.blocks) b.writes) b.pages r.1 in
     subst (λ n. In n (bundle_pages b)) (sym r.2) (In-map (λ (x : Sheet). x.page) r.0 (bundle_sheets b) j)
 
@@ -156,10 +156,10 @@ module _ (s s' : State) (k : Kept s) (lib : ℕ) (creds : Creds) (b : Bundle) (g
       let v = with_pages_absent (flat_map (λ g. g.checkpoint) s.open_grants) s.home.core.pages p w.1 in
       elim (k.absent p v.1 c) [
         | inl lent ↦
-            let q = any_at (λ g. is_write g.kind && is_among p (sheet_numbers (g.index ++ g.blocks))) s.open_grants lent in
+            let q = list_any-In (λ g. is_write g.kind && is_among p (sheet_numbers (g.index ++ g.blocks))) s.open_grants lent in
             let parts = and_parts (is_write q.0.kind) (is_among p (sheet_numbers (q.0.index ++ q.0.blocks))) q.2 in
             let kind : q.0.kind ≡ Write = write_is q.0.kind parts.0 in
-            let pages = In-among p (sheet_numbers (q.0.index ++ q.0.blocks)) parts.1 in
+            let pages = is_among-In p (sheet_numbers (q.0.index ++ q.0.blocks)) parts.1 in
             elim (cases_Bool (is_in_bundle lib b q.0)) [
               | inr out ↦ inl (q.0, q.1, out, kind, pages)
               | inl in' ↦

@@ -19,12 +19,12 @@ use Rattle.trio_layout.specs.Image.{IsFit, row_at}
 use Rattle.trio_state.specs.Kept.{Kept}
 use Rattle.trio_page.specs.Sheets.{sheet_numbers, with_pages, without_pages}
 use Rattle.trio_state.specs.State.{State, settled, logged}
-use Rattle.trio_state.specs.Step.{Outcome, allot_outcome, Allot, Answer, NoPages, NoInodes, Given, Step}
+use Rattle.trio_state.specs.Step.{Outcome, allot_outcome, Allot, CtlAnswer, NoPages, NoInodes, Given, Step}
 use Rattle.trio_laws.proofs.Agreeing.{verifies_still, lent_still, body_still}
-use Rattle.trio_lists.proofs.Filters.{filter_in}
+use Rattle.trio_lists.proofs.Filters.{filter-In}
 use Rattle.trio_laws.proofs.Grants.{logged_kept}
 use Rattle.trio_surveys.proofs.Images.{some_of, free_unlisted}
-use Rattle.trio_lists.proofs.Members.{In-among, among_from}
+use Rattle.trio_lists.proofs.Members.{is_among-In, In-is_among}
 use Rattle.trio_surveys.proofs.Owned.{pages_are}
 use Rattle.trio_laws.proofs.Refusing.{read_listed}
 use Rattle.trio_surveys.proofs.SheetLaws.{length-with_pages}
@@ -51,13 +51,13 @@ module _ (s : State) (lib count many : ℕ) where
 
   pub page_free : (p : ℕ) → In p ps → (slice_index s.home.owners p ≡ 0) × (is_out s.pages_out p ≡ false)
   page_free p i =
-      let f = filter_in (is_free_page s.home.owners s.pages_out) p (count_up 0 (length s.home.owners - 0)) (take_in count (free_pages s) p i) in
+      let f = filter-In (is_free_page s.home.owners s.pages_out) p (count_up 0 (length s.home.owners - 0)) (take_in count (free_pages s) p i) in
       let q = and_parts (eqb (slice_index s.home.owners p) 0) (not (is_out s.pages_out p)) f.1 in
       (eqb-true (slice_index s.home.owners p) 0 q.0, not-true (is_out s.pages_out p) q.1)
 
   pub number_free : (n : ℕ) → In n ns → (row_at s.home n ≡ None) × (is_out s.numbers_out n ≡ false)
   number_free n i =
-      let f = filter_in (is_free_number s.home.rows s.numbers_out) n (count_up 1 (length s.home.rows - 1)) (take_in many (free_numbers s) n i) in
+      let f = filter-In (is_free_number s.home.rows s.numbers_out) n (count_up 1 (length s.home.rows - 1)) (take_in many (free_numbers s) n i) in
       let q = and_parts (not (is_some (row_at s.home n))) (not (is_out s.numbers_out n)) f.1 in
       (none_row (row_at s.home n) (not-true (is_some (row_at s.home n)) q.0), not-true (is_out s.numbers_out n) q.1)
 
@@ -65,13 +65,13 @@ module _ (s : State) (lib count many : ℕ) where
   pub pages_apart : (other n : ℕ) → WasAllotted s.pages_out other n → WasAllotted (out_with s.pages_out lib ps) other n
   pages_apart other n out =
       lib_at-others (Some (record { 0 = lib })) ps n s.pages_out
-      (false_from_ne_true (is_among n ps) (λ t. both_ways (is_out s.pages_out n) (page_free n (In-among n ps t)).1 (ap is_some out)))
+      (false_from_ne_true (is_among n ps) (λ t. both_ways (is_out s.pages_out n) (page_free n (is_among-In n ps t)).1 (ap is_some out)))
       ∙ out
 
   pub numbers_apart : (other n : ℕ) → WasAllotted s.numbers_out other n → WasAllotted (out_with s.numbers_out lib ns) other n
   numbers_apart other n out =
       lib_at-others (Some (record { 0 = lib })) ns n s.numbers_out
-      (false_from_ne_true (is_among n ns) (λ t. both_ways (is_out s.numbers_out n) (number_free n (In-among n ns t)).1 (ap is_some out)))
+      (false_from_ne_true (is_among n ns) (λ t. both_ways (is_out s.numbers_out n) (number_free n (is_among-In n ns t)).1 (ap is_some out)))
       ∙ out
 
   module _ (k : Kept s) where
@@ -161,7 +161,7 @@ module _ (s : State) (lib count many : ℕ) where
       lent = λ g i w. lent_still (settled s) pages k.fit fit' k.verifies agree g (k.lent g i w);
       checkpoints = k.checkpoints;
       absent = λ p gone c. elim (without_absent ps s.home.core.pages p gone) [
-        | inl taken ↦ inr (ap is_some (lib_at-set (Some library) ps p s.pages_out (within p c) (among_from p ps taken)))
+        | inl taken ↦ inr (ap is_some (lib_at-set (Some library) ps p s.pages_out (within p c) (In-is_among p ps taken)))
         | inr was ↦
             elim (k.absent p was c) [
               | inl lent ↦ inl lent
@@ -170,12 +170,12 @@ module _ (s : State) (lib count many : ℕ) where
       ];
       pages_placed = length-with_all (Some library) ps s.pages_out ∙ k.pages_placed;
       out_free = λ p out. elim (is_out-given (Some library) ps p s.pages_out out) [
-        | inl new ↦ (page_free p (In-among p ps new)).0
+        | inl new ↦ (page_free p (is_among-In p ps new)).0
         | inr old ↦ k.out_free p old
       ];
       numbers_placed = length-with_all (Some library) ns s.numbers_out ∙ k.numbers_placed;
       numbers_free = λ n out. elim (is_out-given (Some library) ns n s.numbers_out out) [
-        | inl new ↦ (number_free n (In-among n ns new)).0
+        | inl new ↦ (number_free n (is_among-In n ns new)).0
         | inr old ↦ k.numbers_free n old
       ];
     }
@@ -189,7 +189,7 @@ outcome_kept s k lib count many = either (ltb (length (free_pages s)) count) (lt
     either false false = allots_kept s lib count many k
 
 -- a step of an allotment
-pub allot_kept : (s s' : State) (lib count many : ℕ) (answer : Answer) → Kept s → Step s (Allot lib count many) answer s' → Kept s'
+pub allot_kept : (s s' : State) (lib count many : ℕ) (answer : CtlAnswer) → Kept s → Step s (Allot lib count many) answer s' → Kept s'
 allot_kept s s' lib count many answer k step =
     let K : State → Type 0 = λ x. Kept x in
     elim step [

@@ -13,10 +13,9 @@ use Rattle.trio_state.specs.Kept.{Kept, LentIsListed, MayBothStand}
 use Rattle.trio_page.specs.Sheets.{Sheet, sheet_numbers, with_pages}
 use Rattle.trio_state.specs.State.{covered, OpenGrant, State, settled}
 use Rattle.trio_nodes.specs.GrantKinds.{is_write, is_read}
-use Rattle.trio_state.specs.Step.{Back, Answer, Step}
+use Rattle.trio_state.specs.Step.{Back, CtlAnswer, Step}
 use Rattle.trio_layout.specs.Verifies.{Verifies}
-use Rattle.trio_lists.proofs.Filters.{filter_in, in_filter}
-use Rattle.trio_lists.proofs.Filters.{any_from, any_at}
+use Rattle.trio_lists.proofs.Filters.{filter-In, In-filter, In-list_any, list_any-In}
 
 flat_filter_step : {X Y : Type 0} (f : X → List Y) (p : X → Bool) (x : X) (xs : List X) (b : Bool) → (b ≡ false → f x ≡ []) → flat_map f (filter p xs) ≡ flat_map f xs → flat_map f (cond b (x ∷ filter p xs) (filter p xs)) ≡ f x ++ flat_map f xs
 flat_filter_step f p x xs true h ih = ap (λ l. f x ++ l) ih
@@ -62,8 +61,8 @@ module _ (s : State) (k : Kept s) (lib ino : ℕ) where
 
   any_writes : (p : OpenGrant → Bool) → ((g : OpenGrant) → p g ≡ true → is_write g.kind ≡ true) → list_any p s.open_grants ≡ true → list_any p (filter stays s.open_grants) ≡ true
   any_writes p w e =
-      let a = any_at p s.open_grants e in
-      any_from p a.0 (filter stays s.open_grants) (in_filter stays a.0 s.open_grants a.1 (write_stays a.0 (w a.0 a.2))) a.2
+      let a = list_any-In p s.open_grants e in
+      In-list_any p a.0 (filter stays s.open_grants) (In-filter stays a.0 s.open_grants a.1 (write_stays a.0 (w a.0 a.2))) a.2
 
   parent_back : (l : ℕ) (r : Option Row) → has_parent_grant s l r ≡ true → has_parent_grant (given_back s lib ino) l r ≡ true
   parent_back l None e = e
@@ -74,13 +73,13 @@ module _ (s : State) (k : Kept s) (lib ino : ℕ) where
   given_back_kept = record {
     fit = (let P : Image → Type 0 = λ x. IsFit x.core in subst P (sym settled_back) k.fit);
     verifies = (let P : Image → Type 0 = λ x. Verifies x in subst P (sym settled_back) k.verifies);
-    live = λ g i. k.live g (filter_in stays g s.open_grants i).0;
+    live = λ g i. k.live g (filter-In stays g s.open_grants i).0;
     apart = AllPairs-filter MayBothStand stays s.open_grants k.apart;
     held = λ g i w.
-        let h = k.held g (filter_in stays g s.open_grants i).0 w in
+        let h = k.held g (filter-In stays g s.open_grants i).0 w in
         (parent_back g.lib (row_at s.home g.ino) h.0, h.1 ∙ ap (λ (x : Image). settled_body x g.ino) (sym settled_back));
-    lent = λ g i w. (let P : Image → Type 0 = λ x. LentIsListed x g in subst P (sym settled_back) (k.lent g (filter_in stays g s.open_grants i).0 w));
-    checkpoints = λ g i. k.checkpoints g (filter_in stays g s.open_grants i).0;
+    lent = λ g i w. (let P : Image → Type 0 = λ x. LentIsListed x g in subst P (sym settled_back) (k.lent g (filter-In stays g s.open_grants i).0 w));
+    checkpoints = λ g i. k.checkpoints g (filter-In stays g s.open_grants i).0;
     absent = λ p gone c. elim (k.absent p gone c) [
       | inl lent ↦
           inl (any_writes (λ (g : OpenGrant). is_write g.kind && is_among p (sheet_numbers (g.index ++ g.blocks))) (λ g t. (and_parts (is_write g.kind) (is_among p (sheet_numbers (g.index ++ g.blocks))) t).0) lent)
@@ -93,7 +92,7 @@ module _ (s : State) (k : Kept s) (lib ino : ℕ) where
   }
 
 -- a step of giving back
-pub back_kept : (s s' : State) (lib ino : ℕ) (answer : Answer) → Kept s → Step s (Back lib ino) answer s' → Kept s'
+pub back_kept : (s s' : State) (lib ino : ℕ) (answer : CtlAnswer) → Kept s → Step s (Back lib ino) answer s' → Kept s'
 back_kept s s' lib ino answer k step =
     let K : State → Type 0 = λ x. Kept x in
     elim step [

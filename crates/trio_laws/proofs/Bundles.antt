@@ -25,9 +25,9 @@ use Rattle.trio_layout.specs.Proposed.{Written, Bundle, bundle_sheets, bundle_pa
 use Rattle.trio_page.specs.Sheets.{Sheet, sheet_numbers, with_pages}
 use Rattle.trio_state.specs.State.{OpenGrant, State, settled}
 use Rattle.trio_surveys.proofs.Images.{met_numbered, owner_listed, root_or_listed}
-use Rattle.trio_lists.proofs.Filters.{finds, found, ok_one, in_filter, filter_none}
+use Rattle.trio_lists.proofs.Filters.{In-find, find-In, Ok-one, In-filter, filter-none}
 use Rattle.trio_surveys.proofs.Local.{reads_from, chain_follows}
-use Rattle.trio_lists.proofs.Members.{In-left, In-cases, flat_from, map_from, In-map, In-among, among_from, all_at}
+use Rattle.trio_lists.proofs.Members.{In-left, In-cases, flat_map-In, map-In, In-map, is_among-In, In-is_among, list_all-In}
 use Rattle.trio_surveys.proofs.Owned.{pages_are}
 use Rattle.trio_surveys.proofs.Sheets.{with_pages_apart, page_same}
 use Rattle.trio_laws.proofs.StateFacts.{alone, tables, lent_met}
@@ -52,11 +52,11 @@ unwritten_finds b n h = by_find (find (λ (w : Written). eqb w.ino n) b.writes) 
     by_find : (o : Option Written) → find (λ (w : Written). eqb w.ino n) b.writes ≡ o → o ≡ None
     by_find None e = refl
     by_find (Some w) e =
-        let r = found (λ (w : Written). eqb w.ino n) b.writes w e in absurd (h w r.0 (eqb-true w.ino n r.1))
+        let r = find-In (λ (w : Written). eqb w.ino n) b.writes w e in absurd (h w r.0 (eqb-true w.ino n r.1))
 
 pub finds_unwritten : (b : Bundle) (n : ℕ) → is_some (find (λ (w : Written). eqb w.ino n) b.writes) ≡ false → Unwritten b n
 finds_unwritten b n e w i same =
-    let r = finds (λ (w : Written). eqb w.ino n) b.writes w i (eq-eqb w.ino n same) in
+    let r = In-find (λ (w : Written). eqb w.ino n) b.writes w i (eq-eqb w.ino n same) in
     false≢true (sym e ∙ ap is_some r.1)
 
 -- a hold of the library on a file whose directory is written is in the bundle
@@ -65,8 +65,8 @@ Closed s lib b = (g : OpenGrant) (r : Row) → In g s.open_grants → g.kind ≡
 
 written_from : (b : Bundle) (n : ℕ) → In n (map (λ (w : Written). w.ino) b.writes) → is_written b n ≡ true
 written_from b n i =
-    let r = map_from (λ (w : Written). w.ino) n b.writes i in
-    let f = finds (λ (w : Written). eqb w.ino n) b.writes r.0 r.1 (eq-eqb r.0.ino n (sym r.2)) in ap is_some f.1
+    let r = map-In (λ (w : Written). w.ino) n b.writes i in
+    let f = In-find (λ (w : Written). eqb w.ino n) b.writes r.0 r.1 (eq-eqb r.0.ino n (sym r.2)) in ap is_some f.1
 
 none_lowest : (ns : List ℕ) → lowest ns ≡ None → ns ≡ []
 none_lowest [] e = refl
@@ -81,17 +81,17 @@ pub unparted_at : (s : State) (lib : ℕ) (b : Bundle) (g : OpenGrant) → parte
 unparted_at s lib b g none i =
     false_from_ne_true (is_parted s lib b g)
     (λ t.
-    let j = In-map (λ (x : OpenGrant). x.ino) g (filter (is_parted s lib b) s.open_grants) (in_filter (is_parted s lib b) g s.open_grants i t) in
+    let j = In-map (λ (x : OpenGrant). x.ino) g (filter (is_parted s lib b) s.open_grants) (In-filter (is_parted s lib b) g s.open_grants i t) in
     subst (λ l. In g.ino l) (none_lowest (map (λ (x : OpenGrant). x.ino) (filter (is_parted s lib b) s.open_grants)) none) j)
 
 pub unparted_from : (s : State) (lib : ℕ) (b : Bundle) → ((g : OpenGrant) → In g s.open_grants → is_parted s lib b g ≡ false) → parted_hold s lib b ≡ None
-unparted_from s lib b h = ap (λ l. lowest (map (λ (x : OpenGrant). x.ino) l)) (filter_none (is_parted s lib b) s.open_grants h)
+unparted_from s lib b h = ap (λ l. lowest (map (λ (x : OpenGrant). x.ino) l)) (filter-none (is_parted s lib b) s.open_grants h)
 
 -- where no hold is parted from its parent's lease the bundle is closed
 pub closed_unparted : (s : State) (lib : ℕ) (b : Bundle) → parted_hold s lib b ≡ None → Closed s lib b
 closed_unparted s lib b none g r i kind mine row written =
     elim (cases_Bool (is_among g.ino b.holds)) [
-      | inl held ↦ In-among g.ino b.holds held
+      | inl held ↦ is_among-In g.ino b.holds held
       | inr free ↦
           let w : is_parent_written b (row_at s.home g.ino) ≡ true = ap (is_parent_written b) row ∙ written_from b r.parent written in
           let c : cond (is_among g.ino b.holds) (not (is_parent_written b (row_at s.home g.ino))) (is_parent_written b (row_at s.home g.ino)) ≡ true =
@@ -117,9 +117,9 @@ closed_all s lib b all g r i kind mine row written =
     let numbers : Bool = has_none_out lib (out_after s.numbers_out b.numbers) in
     let p = and_parts (grants && pages) numbers all in
     let q = and_parts grants pages p.0 in
-    let t = all_at (λ (g : OpenGrant). not (eqb g.lib lib) || is_read g.kind || is_in_bundle lib b g) g s.open_grants q.0 i in
+    let t = list_all-In (λ (g : OpenGrant). not (eqb g.lib lib) || is_read g.kind || is_in_bundle lib b g) g s.open_grants q.0 i in
     elim (or_cases (not (eqb g.lib lib) || is_read g.kind) (is_in_bundle lib b g) t) [
-      | inr own ↦ In-among g.ino b.holds (hold_in_bundle g.kind (eqb g.lib lib) (is_written b g.ino) (is_among g.ino b.holds) kind own)
+      | inr own ↦ is_among-In g.ino b.holds (hold_in_bundle g.kind (eqb g.lib lib) (is_written b g.ino) (is_among g.ino b.holds) kind own)
       | inl other ↦
           elim (or_cases (not (eqb g.lib lib)) (is_read g.kind) other) [
             | inl apart ↦ absurd (both_ways (eqb g.lib lib) (not-true (eqb g.lib lib) apart) (eq-eqb g.lib lib mine))
@@ -138,9 +138,9 @@ module _ (s : State) (k : Kept s) (lib : ℕ) (b : Bundle) (given : GivenTo s li
 
   pub bundle_page : (p : ℕ) → In p (bundle_pages b) → In p (sheet_numbers b.pages) ⊎ ((w : Written) × In w b.writes × In p (sheet_numbers (w.index ++ w.blocks)))
   bundle_page p i =
-      let r = map_from (λ (x : Sheet). x.page) p (bundle_sheets b) i in
+      let r = map-In (λ (x : Sheet). x.page) p (bundle_sheets b) i in
       elim (In-cases r.0 (flat_map (λ (w : Written). w.index ++ w.blocks) b.writes) b.pages r.1) [
-        | inl a ↦ let q = flat_from (λ (w : Written). w.index ++ w.blocks) r.0 b.writes a in inr (q.0, q.1, in_numbers (q.0.index ++ q.0.blocks) r.0 p q.2 r.2)
+        | inl a ↦ let q = flat_map-In (λ (w : Written). w.index ++ w.blocks) r.0 b.writes a in inr (q.0, q.1, in_numbers (q.0.index ++ q.0.blocks) r.0 p q.2 r.2)
         | inr a ↦ inl (in_numbers b.pages r.0 p a r.2)
       ]
 
@@ -181,7 +181,7 @@ module _ (s : State) (k : Kept s) (lib : ℕ) (b : Bundle) (given : GivenTo s li
       let now : chain_of (proposed (settled s) b) f0.body ≡ Ok f0.chain =
       chain_follows core (proposed (settled s) b) refl (index_count (block_count f0.body.size)) (block_count f0.body.size) f0.body.head f0.chain r0.chain
       (λ p j. page_kept p (λ c. unwritten_apart m0 p i un (subst (λ l. In p l) (sym (pages_are core m0 f0 e0)) (In-left p f0.chain.index f0.chain.blocks j)) c)) in
-      ok_one (chain_of (proposed (settled s) b) f.body) f.chain f0.chain r.chain (ap (chain_of (proposed (settled s) b)) same ∙ now)
+      Ok-one (chain_of (proposed (settled s) b) f.body) f.chain f0.chain r.chain (ap (chain_of (proposed (settled s) b)) same ∙ now)
 
   -- a live file that is met where its row names has the body that is kept
   pub body_kept : IsFit (proposed (settled s) b) → is_sound (proposed (settled s) b) (proposed_pick (settled s) b) ≡ true → (m : Met) (r : Row) → In m (survey (proposed (settled s) b) (proposed_pick (settled s) b)) → row_at (settled s) m.ino ≡ Some r → r.parent ≡ m.parent → r.page ≡ m.page → r.slot ≡ m.slot → m.body ≡ kept_body (settled s) b m.ino
@@ -191,7 +191,7 @@ module _ (s : State) (k : Kept s) (lib : ℕ) (b : Bundle) (given : GivenTo s li
       elim (root_or_listed core pick fit sound m i) [
         | inl e ↦ ap (λ (x : Met). x.body) e ∙ ap (λ (x : Met). kept_body (settled s) b x.ino) (sym e)
         | inr j ↦
-            let q = flat_from (children core pick) m (survey core pick) j in
+            let q = flat_map-In (children core pick) m (survey core pick) j in
             let c = child_from core pick q.0 m q.2 in
             let l = c.entry in
             let placed : is_place_of m.parent m.page m.slot (row_at (settled s) m.ino) ≡ true =
@@ -215,4 +215,4 @@ module _ (s : State) (k : Kept s) (lib : ℕ) (b : Bundle) (given : GivenTo s li
       let h : is_hold g.kind ≡ true = ap is_hold (ap (λ (y : OpenGrant). y.kind) (sym same) ∙ x.kind) in
       both_ways (is_in_bundle lib b g) out
       (and_from (eqb g.lib lib) ((is_write g.kind && is_written b g.ino) || (is_hold g.kind && is_among g.ino b.holds)) a
-      (or_right (is_write g.kind && is_written b g.ino) (is_hold g.kind && is_among g.ino b.holds) (and_from (is_hold g.kind) (is_among g.ino b.holds) h (among_from g.ino b.holds j))))
+      (or_right (is_write g.kind && is_written b g.ino) (is_hold g.kind && is_among g.ino b.holds) (and_from (is_hold g.kind) (is_among g.ino b.holds) h (In-is_among g.ino b.holds j))))

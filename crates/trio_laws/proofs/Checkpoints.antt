@@ -10,15 +10,16 @@ use Rattle.trio_layout.specs.Core.{Core, page_of}
 use Rattle.trio_lists.specs.Lists.{In, is_among, are_new}
 use Rattle.trio_layout.specs.Range.{is_core}
 use Rattle.trio_layout.specs.Survey.{plain, survey, pages_of}
-use Rattle.trio_lists.proofs.MarkLemmas.{are_new-append}
+use Rattle.trio_lists.proofs.Marked.{are_new-append}
 use Rattle.trio_state.specs.Kept.{Kept}
 use Rattle.trio_page.specs.Sheets.{Sheet, sheet_numbers, with_pages}
 use Rattle.trio_state.specs.State.{OpenGrant, State, settled, covered}
 use Rattle.trio_laws.specs.EndLaws.{checkpoints_of}
 use Rattle.trio_laws.proofs.Bundles.{in_numbers}
 use Rattle.trio_surveys.proofs.Cores.{listed_is_core}
-use Rattle.trio_lists.proofs.Members.{In-right, flat_from, map_from}
-use Rattle.trio_surveys.proofs.Owned.{new_before, pages_are, pages_new, sound_parts}
+use Rattle.trio_lists.proofs.Members.{In-right, flat_map-In, map-In}
+use Rattle.trio_surveys.proofs.Owned.{pages_are, pages_new, sound_parts}
+use Rattle.trio_lists.proofs.New.{are_new-before}
 use Rattle.trio_surveys.proofs.SheetLaws.{get-set_same, get-set_other, length-with_pages}
 use Rattle.trio_surveys.proofs.Sheets.{Pages, among_cases, with_pages_apart, with_pages_known, place_there, page_from}
 use Rattle.trio_laws.proofs.StateFacts.{covered_write, write_alone, lent_met, lent_file}
@@ -48,13 +49,13 @@ with_pages_like xs ys pages n there back one = by_place (slice_get pages n) refl
     by_place (Some o) e =
         elim (among_cases n (sheet_numbers ys)) [
           | inl i ↦
-              let r = map_from (λ (x : Sheet). x.page) n ys i in
+              let r = map-In (λ (x : Sheet). x.page) n ys i in
               with_pages_known xs pages n r.0.bytes o (in_numbers xs r.0 n (back r.0 r.1) r.2) (λ x j on. one x r.0 (there x j) r.1 (on ∙ r.2)) e
               ∙ sym (with_pages_known ys pages n r.0.bytes o i (λ x j on. one x r.0 j r.1 (on ∙ r.2)) e)
           | inr none ↦
               with_pages_apart xs pages n
               (λ i.
-              let r = map_from (λ (x : Sheet). x.page) n xs i in
+              let r = map-In (λ (x : Sheet). x.page) n xs i in
               none (in_numbers ys r.0 n (there r.0 r.1) r.2))
               ∙ sym (with_pages_apart ys pages n none)
         ]
@@ -67,7 +68,7 @@ one_sheet seen (z ∷ zs) x y new i j e =
     let once : (w : Sheet) → In w zs → w.page ≡ z.page → ⊥ =
     λ w a on.
     let here : In z.page (seen ++ z.page ∷ []) = In-right z.page seen (z.page ∷ []) (inl refl) in
-    new_before z.page (seen ++ z.page ∷ []) (sheet_numbers zs) parts.1 (in_numbers zs w z.page a (sym on)) here in
+    are_new-before z.page (seen ++ z.page ∷ []) (sheet_numbers zs) parts.1 (in_numbers zs w z.page a (sym on)) here in
     elim i [
       | inl a ↦
           elim j [
@@ -91,7 +92,7 @@ module _ (s : State) (k : Kept s) where
   -- a sheet of a checkpoint, with its grant
   pub checkpoint_from : (x : Sheet) → In x (checkpoints_of s.open_grants) → (g : OpenGrant) × In g s.open_grants × In x g.checkpoint × (g.kind ≡ Write) × In x.page (sheet_numbers (g.index ++ g.blocks))
   checkpoint_from x i =
-      let r = flat_from (λ (g : OpenGrant). g.checkpoint) x s.open_grants i in
+      let r = flat_map-In (λ (g : OpenGrant). g.checkpoint) x s.open_grants i in
       let g : OpenGrant = r.0 in
       let a : In x.page (sheet_numbers g.checkpoint) = in_numbers g.checkpoint x x.page r.2 refl in
       let c = covered_write g.kind g.of g.index g.blocks x.page (subst (λ l. In x.page l) (k.checkpoints g r.1) a) in

@@ -11,7 +11,7 @@ use Rattle.trio_tables.specs.Out.{is_out}
 use Rattle.trio_tables.proofs.OutLemmas.{is_out-back, length-with_all, lib_at-others}
 use Rattle.trio_lists.specs.Lists.{is_among, are_new, In}
 use Rattle.trio_state.specs.Bundles.{is_in_bundle, grants_after, lent_part, blank, Ends}
-use Rattle.trio_nodes.specs.GrantKinds.{is_hold}
+use Rattle.trio_nodes.specs.GrantKinds.{is_hold, is_write}
 use Rattle.trio_state.specs.Given.{GivenTo}
 use Rattle.trio_state.specs.Grants.{has_parent_grant}
 use Rattle.trio_layout.specs.Image.{Image, row_at}
@@ -19,15 +19,12 @@ use Rattle.trio_state.specs.Kept.{Kept, MayBothStand, is_lent}
 use Rattle.trio_layout.specs.Proposed.{Written, Bundle, is_written}
 use Rattle.trio_page.specs.Sheets.{Sheet, sheet_numbers}
 use Rattle.trio_state.specs.State.{covered, OpenGrant, State}
-use Rattle.trio_nodes.specs.GrantKinds.{is_write}
 use Rattle.trio_laws.proofs.Bundles.{Closed}
-use Rattle.trio_lists.proofs.Filters.{filter_in, in_filter}
-use Rattle.trio_lists.proofs.Filters.{found}
-use Rattle.trio_lists.proofs.Members.{In-left, In-map, map_from, In-among, among_from}
-use Rattle.trio_surveys.proofs.Owned.{new_weaker}
+use Rattle.trio_lists.proofs.Filters.{filter-In, In-filter, find-In, In-list_any, list_any-In}
+use Rattle.trio_lists.proofs.Members.{In-left, In-map, map-In, is_among-In, In-is_among}
+use Rattle.trio_lists.proofs.New.{are_new-fewer}
 use Rattle.trio_surveys.proofs.Sheets.{among_cases, with_pages_apart}
 use Rattle.trio_laws.proofs.StateFacts.{write_is, write_alone, covered_write, numbers_flat}
-use Rattle.trio_lists.proofs.Filters.{any_from, any_at}
 
 pub blank_numbers : (xs : List Sheet) → sheet_numbers (map blank xs) ≡ sheet_numbers xs
 blank_numbers [] = refl
@@ -61,7 +58,7 @@ module _ (s : State) (k : Kept s) (lib : ℕ) (b : Bundle) (given : GivenTo s li
       by_find : (o : Option Written) → find (λ (w : Written). eqb w.ino g.ino) b.writes ≡ o → is_some o ≡ true → (w : Written) × (i : In w b.writes) × ((given.writes w i).grant ≡ g)
       by_find None f t = absurd (false≢true t)
       by_find (Some w) f t =
-          let q = found (λ (w : Written). eqb w.ino g.ino) b.writes w f in
+          let q = find-In (λ (w : Written). eqb w.ino g.ino) b.writes w f in
           let x = given.writes w q.0 in
           (w, q.0, write_alone s.open_grants x.grant g k.apart x.is_open i x.kind (x.ino ∙ eqb-true w.ino g.ino q.1))
 
@@ -70,15 +67,15 @@ module _ (s s' : State) (k : Kept s) (lib : ℕ) (b : Bundle) (given : GivenTo s
   pub grant_before : (g : OpenGrant) → In g s'.open_grants → (h : OpenGrant) × In h s.open_grants × (is_in_bundle lib b h ≡ false) × (lent_part g ≡ lent_part h)
   grant_before g i =
       let j : In (lent_part g) (map lent_part (grants_after s lib b)) = subst (λ l. In (lent_part g) l) e.grants (In-map lent_part g s'.open_grants i) in
-      let r = map_from lent_part (lent_part g) (grants_after s lib b) j in
-      let f = filter_in (λ g. not (is_in_bundle lib b g)) r.0 s.open_grants r.1 in
+      let r = map-In lent_part (lent_part g) (grants_after s lib b) j in
+      let f = filter-In (λ g. not (is_in_bundle lib b g)) r.0 s.open_grants r.1 in
       (r.0, f.0, not-true (is_in_bundle lib b r.0) f.1, r.2)
 
   pub grant_after : (h : OpenGrant) → In h s.open_grants → is_in_bundle lib b h ≡ false → (g : OpenGrant) × In g s'.open_grants × (lent_part h ≡ lent_part g)
   grant_after h i out =
-      let j = in_filter (λ g. not (is_in_bundle lib b g)) h s.open_grants i (not_from_false (is_in_bundle lib b h) out) in
+      let j = In-filter (λ g. not (is_in_bundle lib b g)) h s.open_grants i (not_from_false (is_in_bundle lib b h) out) in
       let m : In (lent_part h) (map lent_part s'.open_grants) = subst (λ l. In (lent_part h) l) (sym e.grants) (In-map lent_part h (grants_after s lib b) j) in
-      map_from lent_part (lent_part h) s'.open_grants m
+      map-In lent_part (lent_part h) s'.open_grants m
 
   pub apart_then : AllPairs MayBothStand s'.open_grants
   apart_then = pairs_like MayBothStand (λ x y h. h) (λ x y h. h) s'.open_grants (grants_after s lib b) e.grants (AllPairs-filter MayBothStand (λ g. not (is_in_bundle lib b g)) s.open_grants k.apart)
@@ -101,7 +98,7 @@ module _ (s s' : State) (k : Kept s) (lib : ℕ) (b : Bundle) (given : GivenTo s
   -- the parent's lease of a hold that stays stays
   pub parent_then : Closed s lib b → (g g' : OpenGrant) (r q : Row) → In g s.open_grants → g.kind ≡ Hold → is_in_bundle lib b g ≡ false → row_at s.home g.ino ≡ Some r → (In g.ino b.holds → ⊥) → lent_part g' ≡ lent_part g → r.parent ≡ q.parent → has_parent_grant s g.lib (Some r) ≡ true → has_parent_grant s' g'.lib (Some q) ≡ true
   parent_then closed g g' r q i kind out row unheld part same has =
-      let a = any_at (λ (x : OpenGrant). eqb x.lib g.lib && eqb x.ino r.parent && is_write x.kind) s.open_grants has in
+      let a = list_any-In (λ (x : OpenGrant). eqb x.lib g.lib && eqb x.ino r.parent && is_write x.kind) s.open_grants has in
       let h : OpenGrant = a.0 in
       let p1 = and_parts (eqb h.lib g.lib && eqb h.ino r.parent) (is_write h.kind) a.2 in
       let p2 = and_parts (eqb h.lib g.lib) (eqb h.ino r.parent) p1.0 in
@@ -122,23 +119,23 @@ module _ (s s' : State) (k : Kept s) (lib : ℕ) (b : Bundle) (given : GivenTo s
       let l' : h'.lib ≡ g'.lib = ap (λ (y : OpenGrant). y.lib) (sym n.2) ∙ lib_same ∙ ap (λ (y : OpenGrant). y.lib) (sym part) in
       let i' : h'.ino ≡ q.parent = ap (λ (y : OpenGrant). y.ino) (sym n.2) ∙ ino_same ∙ same in
       let k' : is_write h'.kind ≡ true = ap (λ (y : OpenGrant). is_write y.kind) (sym n.2) ∙ p1.1 in
-      any_from (λ (x : OpenGrant). eqb x.lib g'.lib && eqb x.ino q.parent && is_write x.kind) h' s'.open_grants n.1
+      In-list_any (λ (x : OpenGrant). eqb x.lib g'.lib && eqb x.ino q.parent && is_write x.kind) h' s'.open_grants n.1
       (and_from (eqb h'.lib g'.lib && eqb h'.ino q.parent) (is_write h'.kind) (and_from (eqb h'.lib g'.lib) (eqb h'.ino q.parent) (eq-eqb h'.lib g'.lib l') (eq-eqb h'.ino q.parent i')) k')
 
   lent_then : (g : OpenGrant) (p : ℕ) → In g s'.open_grants → g.kind ≡ Write → In p (sheet_numbers (g.index ++ g.blocks)) → is_lent s'.open_grants p ≡ true
   lent_then g p i kind a =
-      any_from (λ (x : OpenGrant). is_write x.kind && is_among p (sheet_numbers (x.index ++ x.blocks))) g s'.open_grants i
-      (and_from (is_write g.kind) (is_among p (sheet_numbers (g.index ++ g.blocks))) (ap is_write kind) (among_from p (sheet_numbers (g.index ++ g.blocks)) a))
+      In-list_any (λ (x : OpenGrant). is_write x.kind && is_among p (sheet_numbers (x.index ++ x.blocks))) g s'.open_grants i
+      (and_from (is_write g.kind) (is_among p (sheet_numbers (g.index ++ g.blocks))) (ap is_write kind) (In-is_among p (sheet_numbers (g.index ++ g.blocks)) a))
 
   pub outs_then : (n : ℕ) → is_out s'.pages_out n ≡ true → (is_out s.pages_out n ≡ true) × (In n (sheet_numbers b.pages) → ⊥)
   outs_then n out =
       let r = is_out-back (sheet_numbers b.pages) n s.pages_out (ap (λ l. is_out l n) (sym e.pages) ∙ out) in
-      (r.0, λ j. both_ways (is_among n (sheet_numbers b.pages)) r.1 (among_from n (sheet_numbers b.pages) j))
+      (r.0, λ j. both_ways (is_among n (sheet_numbers b.pages)) r.1 (In-is_among n (sheet_numbers b.pages) j))
 
   pub numbers_then : (n : ℕ) → is_out s'.numbers_out n ≡ true → (is_out s.numbers_out n ≡ true) × (In n b.numbers → ⊥)
   numbers_then n out =
       let r = is_out-back b.numbers n s.numbers_out (ap (λ l. is_out l n) (sym e.numbers) ∙ out) in
-      (r.0, λ j. both_ways (is_among n b.numbers) r.1 (among_from n b.numbers j))
+      (r.0, λ j. both_ways (is_among n b.numbers) r.1 (In-is_among n b.numbers j))
 
   pub pages_placed_then : length s'.pages_out ≡ s.home.core.range.end
   pages_placed_then = ap length e.pages ∙ length-with_all None (sheet_numbers b.pages) s.pages_out ∙ k.pages_placed
@@ -164,7 +161,7 @@ module _ (s s' : State) (k : Kept s) (lib : ℕ) (b : Bundle) (given : GivenTo s
                   let a : In p (sheet_numbers (n.0.index ++ n.0.blocks)) = subst (λ l. In p l) (ap (λ (y : OpenGrant). sheet_numbers (y.index ++ y.blocks)) n.2) g.4 in
                   inl (lent_then n.0 p n.1 kind a)
               | inr o ↦
-                  let unhanded = false_from_ne_true (is_among p (sheet_numbers b.pages)) (λ t. o.1 (In-among p (sheet_numbers b.pages) t)) in
+                  let unhanded = false_from_ne_true (is_among p (sheet_numbers b.pages)) (λ t. o.1 (is_among-In p (sheet_numbers b.pages) t)) in
                   inr (ap (λ l. is_out l p) e.pages ∙ ap is_some (lib_at-others None (sheet_numbers b.pages) p s.pages_out unhanded) ∙ o.0)
             ]
       ]

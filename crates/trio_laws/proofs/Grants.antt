@@ -16,17 +16,16 @@ use Rattle.trio_nodes.specs.declared.answers.GrantFault.TheVariants.{NotLive, De
 use Rattle.trio_lists.specs.Lists.{is_among, In}
 use Rattle.trio_layout.specs.Survey.{row_by}
 use Rattle.trio_state.specs.Grants.{holder_of, denied_or, excluding, denied_by, lacks_parent, has_parent_grant, opened, lent_pages, opens, grant_fault}
-use Rattle.trio_nodes.specs.GrantKinds.{excludes_kind}
+use Rattle.trio_nodes.specs.GrantKinds.{excludes_kind, is_write, is_read}
 use Rattle.trio_layout.specs.Image.{IsFit, Image, settled_body, row_at}
 use Rattle.trio_state.specs.Kept.{Kept, LentIsListed, MayBothStand, HoldStands}
 use Rattle.trio_page.specs.Sheets.{sheet_numbers, with_pages, without_pages}
 use Rattle.trio_state.specs.State.{covered, OpenGrant, State, settled, logged}
-use Rattle.trio_nodes.specs.GrantKinds.{is_write, is_read}
-use Rattle.trio_state.specs.Step.{Grant, Answer, Step, granted_to, after_grant_fault}
+use Rattle.trio_state.specs.Step.{Grant, CtlAnswer, Step, granted_to, after_grant_fault}
 use Rattle.trio_layout.specs.Verifies.{Verifies}
 use Rattle.trio_lists.proofs.Members.{In-cases}
 use Rattle.trio_laws.proofs.StateFacts.{live_met}
-use Rattle.trio_lists.proofs.Filters.{In_get}
+use Rattle.trio_lists.proofs.Filters.{get_or-In}
 use Rattle.trio_laws.proofs.WriteGrant.{write_grant_kept}
 
 pub logged_kept : (s : State) → Kept s → Kept (logged s)
@@ -125,7 +124,7 @@ module _ (s : State) (k : Kept s) (g : OpenGrant) (none : lent_pages g ≡ []) (
       | inl old ↦ k.live h old
       | inr new ↦ ap (λ (x : OpenGrant). is_some (row_at s.home x.ino)) new ∙ live
     ];
-    apart = all_pairs_push MayBothStand s.open_grants g k.apart (λ n d l. apart (get_or s.open_grants n d) (In_get s.open_grants n d l));
+    apart = all_pairs_push MayBothStand s.open_grants g k.apart (λ n d l. apart (get_or s.open_grants n d) (get_or-In s.open_grants n d l));
     held = λ h j w. elim (old_or_new h j) [
       | inl old ↦ let was = k.held h old w in (parent_more h.lib (row_at s.home h.ino) was.0, was.1 ∙ ap (λ x. settled_body x h.ino) (sym settled_same))
       | inr new ↦
@@ -189,7 +188,7 @@ outcome_kept s lib ino kind None None k e row = k
 outcome_kept s lib ino kind None (Some r) k e row = granted s lib ino kind r k e row
 
 -- a step of a grant of any kind
-pub grant_kept : (s s' : State) (lib ino : ℕ) (kind : GrantKind) (answer : Answer) → Kept s → Step s (Grant lib ino kind) answer s' → Kept s'
+pub grant_kept : (s s' : State) (lib ino : ℕ) (kind : GrantKind) (answer : CtlAnswer) → Kept s → Step s (Grant lib ino kind) answer s' → Kept s'
 grant_kept s s' lib ino kind answer k step =
     let K : State → Type 0 = λ x. Kept x in
     elim step [

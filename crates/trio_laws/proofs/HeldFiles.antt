@@ -19,7 +19,7 @@ use Rattle.trio_state.specs.Given.{GivenTo}
 use Rattle.trio_surveys.specs.Reading.{picked_entry}
 use Rattle.trio_laws.specs.Laws.{plain_pages}
 use Rattle.trio_laws.specs.ContentLaws.{HasSameContent, HeldFilesKeepContent}
-use Rattle.trio_lists.proofs.Members.{In-among}
+use Rattle.trio_lists.proofs.Members.{is_among-In}
 use Rattle.trio_surveys.proofs.Local.{reads_from, reads_to}
 use Rattle.trio_surveys.proofs.Owned.{pages_are}
 use Rattle.trio_surveys.proofs.Picked.{all_listed, page_put_is, file_put, survey_put}
@@ -136,4 +136,4 @@ module _ (s : State) (lib : ℕ) (creds : Creds) (b : Bundle) (n : ℕ) (r q : R
 
 pub held_files_keep_content : HeldFilesKeepContent
 held_files_keep_content s lib creds b n r q k given accepted row held row' =
-    same_content s lib creds b n r q k given accepted row (In-among n b.holds held) row'
+    same_content s lib creds b n r q k given accepted row (is_among-In n b.holds held) row'

@@ -7,9 +7,8 @@ use Rattle.trio_rights.specs.declared.kind.Kind.{Kind}
 use Rattle.trio_rights.specs.declared.kind.Kind.TheVariants.{Regular, Directory}
 use Rattle.trio_rights.specs.declared.rights.Creds.{Creds}
 use Rattle.trio_rights.specs.Row.{Row}
-use Rattle.trio_lists.specs.Lists.{In, is_among, result_then, both, gathered}
+use Rattle.trio_lists.specs.Lists.{In, is_among, result_then, both, gathered, there_or}
 use Rattle.trio_layout.specs.Core.{Core, at_page, page_of}
-use Rattle.trio_lists.specs.Lists.{there_or}
 use Rattle.trio_layout.specs.Body.{body_of, block_count}
 use Rattle.trio_layout.specs.Chain.{index_count}
 use Rattle.trio_layout.specs.Entries.{Listed, entries_on, page_entries, with_names_apart, entries_of_kind}
@@ -23,7 +22,7 @@ use Rattle.trio_state.specs.Kept.{Kept}
 use Rattle.trio_state.specs.Given.{GivenTo}
 use Rattle.trio_surveys.specs.Reading.{picked_entry}
 use Rattle.trio_laws.specs.Laws.{entry_only, plain_pages, IsUntouched, OthersUntouched}
-use Rattle.trio_lists.proofs.Members.{In-left, In-right, In-cases, flat_from, among_from}
+use Rattle.trio_lists.proofs.Members.{In-left, In-right, In-cases, flat_map-In, In-is_among}
 use Rattle.trio_surveys.proofs.Local.{reads_from, reads_to, chain_follows}
 use Rattle.trio_surveys.proofs.Tree.{child_from, child_placed}
 use Rattle.trio_surveys.proofs.Owned.{sound_parts, page_owner, pages_are, index_apart}
@@ -86,7 +85,7 @@ regular_empty core Directory blocks es l e read i = absurd cc
 pub bare_page : (core : Core) (pick : Pick) → is_sound core pick ≡ true → (m : Met) (f : FileRead) (p : ℕ) → In m (survey core pick) → file_of core m ≡ Ok f → In p (plain_pages m.kind f) → (x : Met) → In x (all_listed core pick) → x.page ≡ p → ⊥
 bare_page core pick sound m f p i read bare x j on =
     let parts = sound_parts core pick sound in
-    let r = flat_from (children core pick) x (survey core pick) j in
+    let r = flat_map-In (children core pick) x (survey core pick) j in
     let k = child_from core pick r.0 x r.2 in
     let pl = child_placed core pick r.0 x k in
     let at : k.entry.page ≡ p = sym (ap (λ (w : Met). w.page) k.is) ∙ on in
@@ -176,4 +175,4 @@ module _ (s : State) (lib : ℕ) (creds : Creds) (b : Bundle) (n : ℕ) (r : Row
 
 pub others_untouched : OthersUntouched
 others_untouched s lib creds b n r k given accepted row unheld un =
-    untouched s lib creds b n r k given accepted row (λ j. both_ways (is_among n b.holds) unheld (among_from n b.holds j)) (finds_unwritten b n un)
+    untouched s lib creds b n r k given accepted row (λ j. both_ways (is_among n b.holds) unheld (In-is_among n b.holds j)) (finds_unwritten b n un)

@@ -19,16 +19,16 @@ use Rattle.trio_layout.specs.Verifies.{Verifies}
 use Rattle.trio_state.specs.State.{OpenGrant, State, settled, creds_of, logged}
 use Rattle.trio_layout.specs.Proposed.{Bundle, bundle_sheets, bundle_pages}
 use Rattle.trio_layout.specs.Accept.{is_accepted, next}
-use Rattle.trio_layout.specs.Mode.{with_mode, moded, moded_row}
+use Rattle.trio_layout.specs.Mode.{body_with_mode, image_with_mode, row_with_mode}
 use Rattle.trio_state.specs.Grants.{grant_fault, opened, opens, told_children, given_back}
 use Rattle.trio_state.specs.Allotments.{free_pages, free_numbers, allots}
 use Rattle.trio_state.specs.Bundles.{uncovered, refused_image, Ends}
-use Rattle.trio_state.specs.Step.{Grant, Allot, Back, Release, Settle, SetMode, Answer, NoPages, NoInodes, Given, Outcome, after_grant_fault, granted_to, allot_outcome, mode_fault, after_mode_fault, moded_to, ReleaseEnd, Parted, IsAccepted, IsRefused}
+use Rattle.trio_state.specs.Step.{Grant, Allot, Back, Release, Settle, SetMode, CtlAnswer, NoPages, NoInodes, Given, Outcome, after_grant_fault, granted_to, allot_outcome, mode_fault, after_mode_fault, moded_to, ReleaseEnd, Parted, IsAccepted, IsRefused}
 use Rattle.trio_state.specs.Kept.{Kept}
 use Rattle.trio_state.specs.Given.{GivenTo}
 use Rattle.trio_surveys.specs.Reading.{with_other, AgreeOn}
 use Rattle.trio_laws.specs.Laws.{plain_pages, IsUntouched, HasNone, IsElsewhere, library_of, EveryStepIsIsolated}
-use Rattle.trio_lists.proofs.Members.{In-right, map_from}
+use Rattle.trio_lists.proofs.Members.{In-right, map-In}
 use Rattle.trio_surveys.proofs.Local.{file_agrees}
 use Rattle.trio_surveys.proofs.Owned.{sound_parts, page_owner, pages_are}
 use Rattle.trio_surveys.proofs.Sheets.{Pages, page_same, with_pages_apart}
@@ -77,7 +77,7 @@ same_untouched image fit v n r row =
 
 -- the image in which another file has another mode
 module _ (image : Image) (ino mode : ℕ) (r0 : Row) (fit : IsFit image.core) (v : Verifies image) (row0 : row_at image ino ≡ Some r0) (small : mode ≤ 511) (other : ino ≡ 1 → ⊥) where
-  pub mode_untouched : (n : ℕ) (r : Row) → row_at image n ≡ Some r → (n ≡ ino → ⊥) → IsUntouched image (moded image ino mode) n
+  pub mode_untouched : (n : ℕ) (r : Row) → row_at image n ≡ Some r → (n ≡ ino → ⊥) → IsUntouched image (image_with_mode image ino mode) n
   mode_untouched n r row differ =
       let t : TablesOf image image.core plain = record { rows = v.rows; owners = v.owners } in
       let q = mode_met image ino mode r0 fit v row0 small other in
@@ -86,8 +86,8 @@ module _ (image : Image) (ino mode : ℕ) (r0 : Row) (fit : IsFit image.core) (v
       let away : eqb was.met.ino q.met.ino ≡ false = ne_eqb was.met.ino q.met.ino (λ e. differ (sym was.number ∙ e ∙ q.number)) in
       let file = mode_file image ino mode r0 fit v row0 small other was.met was.file was.stands was.read in
       let now : FileRead = read_now image.core fit v.sound mode small q.met q.stands not_root was.met was.file in
-      let same : changed q.met.ino mode was.met ≡ was.met = ap (λ b. record was.met { body = cond b (with_mode mode was.met.body) was.met.body }) away in
-      let after : Core = (moded image ino mode).core in
+      let same : changed q.met.ino mode was.met ≡ was.met = ap (λ b. record was.met { body = cond b (body_with_mode mode was.met.body) was.met.body }) away in
+      let after : Core = (image_with_mode image ino mode).core in
       record {
         met = was.met;
         file_was = was.file;
@@ -111,7 +111,7 @@ module _ (image : Image) (ino mode : ℕ) (r0 : Row) (fit : IsFit image.core) (v
             ]);
         entries = picked_only (mode_pick image.core fit v.sound mode small q.met q.stands not_root) was.met.ino was.file.entries;
         settled_bodies = mode_body_other image ino mode r0 fit v row0 small other n r row differ;
-        row = get_or-set_other image.rows ino n (moded_row mode (row_at image ino)) None differ;
+        row = get_or-set_other image.rows ino n (row_with_mode mode (row_at image ino)) None differ;
       }
 
 module _ (s : State) (k : Kept s) (lib n : ℕ) (r : Row) (row : row_at (settled s) n ≡ Some r) where
@@ -202,7 +202,7 @@ module _ (s : State) (k : Kept s) (lib n : ℕ) (r : Row) (row : row_at (settled
       (λ m f p i num read own.
       page_same core ps p (with_pages_apart (uncovered (settled s) b ++ b.pages) core.pages p
       (λ j.
-      let x = map_from (λ (y : Sheet). y.page) p (uncovered (settled s) b ++ b.pages) j in
+      let x = map-In (λ (y : Sheet). y.page) p (uncovered (settled s) b ++ b.pages) j in
       let h : In p (bundle_pages b) = in_numbers (bundle_sheets b) x.0 p (uncovered_handed s s' k lib b given closed e x.0 x.1) x.2 in
       unwritten_apart s k lib b given m p i (λ w c same. unwritten b given none w c (same ∙ num)) (subst (λ l. In p l) (sym (pages_are core m f read)) (plain_listed m.kind f p own)) h))) in
       let U : Image → Type 0 = λ i. IsUntouched (settled s) i n in subst U (sym e.settles) a
@@ -212,7 +212,7 @@ module _ (s : State) (k : Kept s) (lib n : ℕ) (r : Row) (row : row_at (settled
       let a = untouched s lib (creds_of s lib) b n r k given acc row (λ i. none.1 (given.holds n i)) (unwritten b given none) in
       let U : Image → Type 0 = λ i. IsUntouched (settled s) i n in subst U (sym e.settles) a
 
-  release : (s' : State) (b : Bundle) (answer : Answer) → GivenTo s lib b → HasNone s lib n → ReleaseEnd s lib b answer s' → Same s'
+  release : (s' : State) (b : Bundle) (answer : CtlAnswer) → GivenTo s lib b → HasNone s lib n → ReleaseEnd s lib b answer s' → Same s'
   release s' b answer given none (Parted m some e same) = (let U : State → Type 0 = λ x. Same x in subst U (sym same) nothing)
   release s' b answer given none (IsAccepted closed t e ends) = accepted s' b given t ends none
   release s' b answer given none (IsRefused closed f why e tells ends) = refused s' b given (closed_unparted s lib b closed) ends none

@@ -18,21 +18,20 @@ use Rattle.trio_layout.specs.Survey.{row_by, pages_of}
 use Rattle.trio_page.specs.Sheets.{Sheet, sheet_numbers, with_pages, without_pages}
 use Rattle.trio_layout.specs.Image.{Image, row_at, settled_body, with_core_pages}
 use Rattle.trio_state.specs.State.{OpenGrant, State, settled, creds_of, covered, logged}
-use Rattle.trio_nodes.specs.GrantKinds.{is_read, is_write}
+use Rattle.trio_nodes.specs.GrantKinds.{is_read, is_write, excludes_kind}
 use Rattle.trio_layout.specs.Proposed.{Bundle}
 use Rattle.trio_layout.specs.Accept.{is_accepted, next}
-use Rattle.trio_layout.specs.Mode.{moded}
+use Rattle.trio_layout.specs.Mode.{image_with_mode}
 use Rattle.trio_state.specs.Grants.{grant_fault, denied_or, denied_by, lacks_parent, has_parent_grant, excluding, holder_of, lent_sheets, opened, lent_pages, opens, told_children, given_back}
-use Rattle.trio_nodes.specs.GrantKinds.{excludes_kind}
 use Rattle.trio_layout.specs.Pages.{settled_chain, index_sheets, block_sheets}
 use Rattle.trio_state.specs.Allotments.{free_pages, free_numbers, allots}
 use Rattle.trio_state.specs.Bundles.{is_parted, lowest, parted_hold, is_in_bundle, lent_part, grants_after, refused_image, Ends}
-use Rattle.trio_state.specs.Step.{Event, Grant, Allot, Back, Release, Settle, SetMode, Answer, Granted, NotGranted, ModeSet, NotModeSet, NoPages, NoInodes, Given, Done, Accepted, Refused, NotClosed, Settled, NoMemory, Outcome, Does, Step, granted_to, after_grant_fault, grant_outcome, allot_outcome, mode_excluding, mode_fault, moded_to, after_mode_fault, mode_outcome, ReleaseEnd, Parted, IsAccepted, IsRefused}
+use Rattle.trio_state.specs.Step.{Event, Grant, Allot, Back, Release, Settle, SetMode, CtlAnswer, Granted, NotGranted, ModeSet, NotModeSet, NoPages, NoInodes, Given, Done, Accepted, Refused, NotClosed, Settled, NoMemory, Outcome, Does, Step, granted_to, after_grant_fault, grant_outcome, allot_outcome, mode_excluding, mode_fault, moded_to, after_mode_fault, mode_outcome, ReleaseEnd, Parted, IsAccepted, IsRefused}
 use Rattle.trio_state.specs.Tells.{untold}
 use Rattle.trio_state.specs.Kept.{Kept}
 use Rattle.trio_laws.specs.OutLaws.{without_checkpoint}
 use Rattle.trio_laws.specs.Known.{Known, known, plain_state, ended, released, known_done, is_no_memory, known_after, StepsAreKnown, KnownDecides, is_refusal, SameAnswer, SameEventSameAnswer}
-use Rattle.trio_laws.proofs.Filters.{filter-map, list_any-map}
+use Rattle.trio_lists.proofs.Filters.{filter-map, list_any-map}
 use Rattle.trio_surveys.proofs.Sheets.{Pages, with_pages-append}
 use Rattle.trio_surveys.proofs.Owned.{pages_are}
 use Rattle.trio_laws.proofs.StateFacts.{live_met, checkpoint_lent, lent_file}
@@ -326,11 +325,11 @@ module _ (s : State) (k : Kept s) where
   moding lib ino mode (Some r) None row e =
       let may = may_change s lib ino mode r e in
       let image = settled_moded s k ino mode r row may.small may.other may.free in
-      let I : Image = moded (settled s) ino mode in
-      let plain : settled (record u { home = moded u.home ino mode }) ≡ I =
+      let I : Image = image_with_mode (settled s) ino mode in
+      let plain : settled (record u { home = image_with_mode u.home ino mode }) ≡ I =
       ap (λ ss. record I { core = record I.core { pages = with_pages ss I.core.pages } }) (sheets-bare s.open_grants) in
-      known_same (logged (record u { home = moded u.home ino mode }))
-      (logged (record s { home = moded s.home ino mode })) (plain ∙ sym image)
+      known_same (logged (record u { home = image_with_mode u.home ino mode }))
+      (logged (record s { home = image_with_mode s.home ino mode })) (plain ∙ sym image)
       (bare-bare s.open_grants) refl refl refl refl
 
   moding_answer : (ino mode : ℕ) (f : Option ModeFault)
@@ -347,7 +346,7 @@ module _ (s : State) (k : Kept s) where
       rw (e.settles, grants, e.pages, e.numbers, e.creds, e.entries) refl
 
   -- the ways in which a release ends
-  releasing : (lib : ℕ) (b : Bundle) (answer : Answer) (s' : State) → ReleaseEnd s lib b answer s'
+  releasing : (lib : ℕ) (b : Bundle) (answer : CtlAnswer) (s' : State) → ReleaseEnd s lib b answer s'
       → known s' ≡ released (known s) lib b (parted_hold u lib b)
   releasing lib b answer s' (Parted n some a same) =
       ap known same ∙ ap (released (known s) lib b) (sym (parted_plain s lib b ∙ some))
@@ -360,7 +359,7 @@ module _ (s : State) (k : Kept s) where
       ∙ ap (λ x. ended (known s) lib b (cond x (next (settled s) b) (refused_image (settled s) b))) (sym not_so)
       ∙ ap (released (known s) lib b) (sym (parted_plain s lib b ∙ none))
 
-  doing : (event : Event) (answer : Answer) (s' : State) → Does s event answer s'
+  doing : (event : Event) (answer : CtlAnswer) (s' : State) → Does s event answer s'
       → known s' ≡ known_done (known s) event
   doing (Grant lib ino kind) answer s' d =
       ap known d.1
@@ -375,7 +374,7 @@ module _ (s : State) (k : Kept s) where
       ∙ sym (moding lib ino mode (row_at s.home ino) (mode_fault s lib ino mode (row_at s.home ino)) refl refl)
       ∙ ap (λ f. known (moded_to u ino mode f).after) (sym (mode_fault_plain s lib ino mode (row_at s.home ino)))
 
-other_answer : (answer : Answer) → answer ≢ NoMemory → is_no_memory answer ≡ false
+other_answer : (answer : CtlAnswer) → answer ≢ NoMemory → is_no_memory answer ≡ false
 other_answer NoMemory other = absurd (other refl)
 other_answer (Granted children) other = refl
 other_answer (NotGranted fault) other = refl
@@ -412,12 +411,12 @@ known_decides s = record {
 -- ---- answers
 
 -- the answer to a release by its lowest hold that is parted
-abbrev release_answer : Known → ℕ → Bundle → Option ℕ → Answer
+abbrev release_answer : Known → ℕ → Bundle → Option ℕ → CtlAnswer
 release_answer k lib b (Some n) = NotClosed n
 release_answer k lib b None = cond (is_accepted k.image (creds_of (plain_state k) lib) b) Accepted (Refused untold)
 
 -- the answer to an event, where memory is there
-abbrev known_answer : Known → Event → Answer
+abbrev known_answer : Known → Event → CtlAnswer
 known_answer k (Grant lib ino kind) = (grant_outcome (plain_state k) lib ino kind).answer
 known_answer k (Allot lib pages numbers) = (allot_outcome (plain_state k) lib pages numbers).answer
 known_answer k (Back lib ino) = Done
@@ -425,13 +424,13 @@ known_answer k (Release lib b) = release_answer k lib b (parted_hold (plain_stat
 known_answer k (Settle lib b) = Settled
 known_answer k (SetMode lib ino mode) = (mode_outcome (plain_state k) lib ino mode).answer
 
-same_joined : (a b c : Answer) → SameAnswer a c → SameAnswer b c → SameAnswer a b
+same_joined : (a b c : CtlAnswer) → SameAnswer a c → SameAnswer b c → SameAnswer a b
 same_joined a b c (inl e) (inl f) = inl (e ∙ sym f)
 same_joined a b c (inl e) (inr y) = inr (ap is_refusal e ∙ y.1, y.0)
 same_joined a b c (inr x) (inl f) = inr (x.0, ap is_refusal f ∙ x.1)
 same_joined a b c (inr x) (inr y) = inr (x.0, y.0)
 
-released_answer : (s s' : State) (lib : ℕ) (b : Bundle) (answer : Answer) → ReleaseEnd s lib b answer s'
+released_answer : (s s' : State) (lib : ℕ) (b : Bundle) (answer : CtlAnswer) → ReleaseEnd s lib b answer s'
     → SameAnswer answer (known_answer (known s) (Release lib b))
 released_answer s s' lib b answer (Parted n some a same) =
     inl (a ∙ ap (release_answer (known s) lib b) (sym (parted_plain s lib b ∙ some)))
@@ -444,7 +443,7 @@ released_answer s s' lib b answer (IsRefused none not_so why a tells e) =
     ∙ none)) in
     inr (ap is_refusal a, sym (ap is_refusal is))
 
-does_answer : (s : State) (k : Kept s) (event : Event) (answer : Answer) (s' : State) → Does s event answer s'
+does_answer : (s : State) (k : Kept s) (event : Event) (answer : CtlAnswer) (s' : State) → Does s event answer s'
     → SameAnswer answer (known_answer (known s) event)
 does_answer s k (Grant lib ino kind) answer s' d =
     inl (d.0
@@ -462,7 +461,7 @@ does_answer s k (SetMode lib ino mode) answer s' d =
     (sym (mode_fault_plain s lib ino mode (row_at s.home ino))))
 
 -- a step with memory there
-step_does : (s : State) (event : Event) (answer : Answer) (s' : State) → Step s event answer s' → answer ≢ NoMemory
+step_does : (s : State) (event : Event) (answer : CtlAnswer) (s' : State) → Step s event answer s' → answer ≢ NoMemory
     → Does s event answer s'
 step_does s event answer s' (inl does) other = does
 step_does s event answer s' (inr none) other = absurd (other none.1)

@@ -4,8 +4,7 @@ use Rattle.trio_rights.specs.Row.{Row}
 use Rattle.trio_layout.specs.Body.{body_of}
 use Rattle.trio_layout.specs.Chain.{Chain, chain_of}
 use Rattle.trio_layout.specs.Core.{Core, nowhere, page_of}
-use Rattle.trio_lists.specs.Lists.{there_or}
-use Rattle.trio_lists.specs.Lists.{In, are_new, result_then}
+use Rattle.trio_lists.specs.Lists.{there_or, In, are_new, result_then}
 use Rattle.trio_layout.specs.Range.{is_core}
 use Rattle.trio_layout.specs.Survey.{plain, survey, pages_of}
 use Rattle.trio_layout.specs.Pages.{settled_chain}

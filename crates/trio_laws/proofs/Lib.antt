@@ -27,7 +27,6 @@ pub mod PutBack
 pub mod Standing
 pub mod Lendable
 pub mod EndLaws
-pub mod Filters
 pub mod Ordered
 pub mod OthersOut
 pub mod HeldFiles

@@ -15,14 +15,14 @@ use Rattle.trio_layout.specs.Accept.{with_body_in}
 use Rattle.trio_state.specs.Grants.{holder_of, has_parent_grant}
 use Rattle.trio_layout.specs.Image.{IsFit, Image, settled_body, row_at, body_by_row}
 use Rattle.trio_state.specs.Kept.{Kept, LentIsListed}
-use Rattle.trio_layout.specs.Mode.{with_mode, moded_row, body_put, moded}
+use Rattle.trio_layout.specs.Mode.{body_with_mode, row_with_mode, body_put, image_with_mode}
 use Rattle.trio_page.specs.Sheets.{Sheet, sheet_numbers, with_pages}
 use Rattle.trio_state.specs.State.{OpenGrant, State, settled, creds_of}
-use Rattle.trio_state.specs.Step.{after_mode_fault, SetMode, Answer, Step, mode_excluding, mode_fault, moded_to}
+use Rattle.trio_state.specs.Step.{after_mode_fault, SetMode, CtlAnswer, Step, mode_excluding, mode_fault, moded_to}
 use Rattle.trio_layout.specs.Verifies.{Verifies}
 use Rattle.trio_laws.proofs.Grants.{none_passes, logged_kept}
 use Rattle.trio_surveys.proofs.Images.{some_of, MetAt, root_or_listed}
-use Rattle.trio_lists.proofs.Members.{In-right, flat_from}
+use Rattle.trio_lists.proofs.Members.{In-right, flat_map-In}
 use Rattle.trio_surveys.proofs.Moded.{changed}
 use Rattle.trio_surveys.proofs.ModedCore.{read_now}
 use Rattle.trio_surveys.proofs.ModedImage.{mode_body_other, met_other, mode_met, mode_verifies, mode_fit, mode_file}
@@ -60,7 +60,7 @@ module _ (s : State) (k : Kept s) (n mode : ℕ) (r : Row) (row : row_at s.home 
   ck = flat_map (λ g. g.checkpoint) s.open_grants
 
   abbrev pub after : State
-  after = record s { home = moded s.home n mode }
+  after = record s { home = image_with_mode s.home n mode }
 
   abbrev q : MetAt (settled s).core plain n r
   q = mode_met (settled s) n mode r k.fit k.verifies row small other
@@ -72,7 +72,7 @@ module _ (s : State) (k : Kept s) (n mode : ℕ) (r : Row) (row : row_at s.home 
       elim (root_or_listed (settled s).core plain k.fit k.verifies.sound m.met m.stands) [
         | inl e ↦ other (sym m.number ∙ ap (λ (x : Met). x.ino) e)
         | inr j ↦
-            let d = flat_from (children (settled s).core plain) m.met (survey (settled s).core plain) j in
+            let d = flat_map-In (children (settled s).core plain) m.met (survey (settled s).core plain) j in
             let c = child_from (settled s).core plain d.0 m.met d.2 in
             let pl = child_placed (settled s).core plain d.0 m.met c in
             let page : r.page ≡ c.entry.page = ap (λ (x : Row). x.page) m.row ∙ ap (λ (x : Met). x.page) c.is in
@@ -95,32 +95,32 @@ module _ (s : State) (k : Kept s) (n mode : ℕ) (r : Row) (row : row_at s.home 
       ∙ ap (body_by_row (settled s).core) (sym row)
       ∙ sym (ap (λ b. cond b s.home.core.root (body_by_row (settled s).core (row_at s.home n))) f)
 
-  pages_same : with_pages ck (moded s.home n mode).core.pages ≡ (moded (settled s) n mode).core.pages
+  pages_same : with_pages ck (image_with_mode s.home n mode).core.pages ≡ (image_with_mode (settled s) n mode).core.pages
   pages_same =
       let P : Pages = s.home.core.pages in
       let S : Pages = (settled s).core.pages in
-      let body : List ℕ = with_mode mode (settled_body s.home n) in
+      let body : List ℕ = body_with_mode mode (settled_body s.home n) in
       let X : Option (List ℕ) → Option (List ℕ) = λ o. option_map (with_body_in r.slot body) o in
       let there : get_or P r.page None ≡ get_or S r.page None = page_at P r.page ∙ ap (option_and_then (λ x. x)) page_home ∙ sym (page_at S r.page) in
       ap (λ o. with_pages ck (body_put o body P)) row
       ∙ with_pages_set ck P r.page (X (get_or P r.page None)) away
       ∙ ap (λ o. slice_set S r.page (X o)) there
       ∙ ap (λ o. body_put o body S) (sym row)
-      ∙ ap (λ b. body_put (row_at s.home n) (with_mode mode b) S) body_same
+      ∙ ap (λ b. body_put (row_at s.home n) (body_with_mode mode b) S) body_same
 
-  pub settled_moded : settled after ≡ moded (settled s) n mode
+  pub settled_moded : settled after ≡ image_with_mode (settled s) n mode
   settled_moded =
-      let J : Pages → Image = λ ps. record { core = record { pages = ps; root = s.home.core.root; range = s.home.core.range; inodes = s.home.core.inodes }; rows = set s.home.rows n (moded_row mode (row_at s.home n)); owners = s.home.owners } in
+      let J : Pages → Image = λ ps. record { core = record { pages = ps; root = s.home.core.root; range = s.home.core.range; inodes = s.home.core.inodes }; rows = set s.home.rows n (row_with_mode mode (row_at s.home n)); owners = s.home.owners } in
       ap J pages_same
 
   row_other : (j : ℕ) → (j ≡ n → ⊥) → row_at after.home j ≡ row_at s.home j
-  row_other j d = get_or-set_other s.home.rows n j (moded_row mode (row_at s.home n)) None d
+  row_other j d = get_or-set_other s.home.rows n j (row_with_mode mode (row_at s.home n)) None d
 
   parent_same : (l : ℕ) (o : Option Row) → has_parent_grant s l o ≡ true → has_parent_grant after l o ≡ true
   parent_same l None e = e
   parent_same l (Some x) e = e
 
-  verifies' : Verifies (moded (settled s) n mode)
+  verifies' : Verifies (image_with_mode (settled s) n mode)
   verifies' = mode_verifies (settled s) n mode r k.fit k.verifies row small other
 
   pub moded_kept : Kept after
@@ -138,7 +138,7 @@ module _ (s : State) (k : Kept s) (n mode : ℕ) (r : Row) (row : row_at s.home 
     lent = λ g i w.
         let l = k.lent g i w in
         let f = mode_file (settled s) n mode r k.fit k.verifies row small other l.met l.file l.stands l.read in
-        let there : LentIsListed (moded (settled s) n mode) g = record {
+        let there : LentIsListed (image_with_mode (settled s) n mode) g = record {
           met = changed q.met.ino mode l.met;
           file = read_now (settled s).core k.fit k.verifies.sound mode small q.met q.stands (met_other (settled s) n mode r k.fit k.verifies row small other) l.met l.file;
           stands = f.0;
@@ -151,9 +151,9 @@ module _ (s : State) (k : Kept s) (n mode : ℕ) (r : Row) (row : row_at s.home 
         let P : Image → Type 0 = λ i. LentIsListed i g in subst P (sym settled_moded) there;
     checkpoints = k.checkpoints;
     absent = λ p gone c.
-        let a : slice_get (body_put (Some r) (with_mode mode (settled_body s.home n)) s.home.core.pages) p ≡ Some None =
-        ap (λ o. slice_get (body_put o (with_mode mode (settled_body s.home n)) s.home.core.pages) p) (sym row) ∙ gone in
-        k.absent p (absent_put r (with_mode mode (settled_body s.home n)) s.home.core.pages p a) c;
+        let a : slice_get (body_put (Some r) (body_with_mode mode (settled_body s.home n)) s.home.core.pages) p ≡ Some None =
+        ap (λ o. slice_get (body_put o (body_with_mode mode (settled_body s.home n)) s.home.core.pages) p) (sym row) ∙ gone in
+        k.absent p (absent_put r (body_with_mode mode (settled_body s.home n)) s.home.core.pages p a) c;
     pages_placed = k.pages_placed;
     out_free = k.out_free;
     numbers_placed = k.numbers_placed;
@@ -205,10 +205,10 @@ outcome_kept s lib ino mode o (Some fault) k row e = after_fault_kept s fault k
 outcome_kept s lib ino mode None None k row e = absurd cc
 outcome_kept s lib ino mode (Some r) None k row e =
     let may = may_change s lib ino mode r e in
-    logged_kept (record s { home = moded s.home ino mode }) (moded_kept s k ino mode r row may.small may.other may.free)
+    logged_kept (record s { home = image_with_mode s.home ino mode }) (moded_kept s k ino mode r row may.small may.other may.free)
 
 -- a step of a change of mode
-pub mode_kept : (s s' : State) (lib ino mode : ℕ) (answer : Answer) → Kept s → Step s (SetMode lib ino mode) answer s' → Kept s'
+pub mode_kept : (s s' : State) (lib ino mode : ℕ) (answer : CtlAnswer) → Kept s → Step s (SetMode lib ino mode) answer s' → Kept s'
 mode_kept s s' lib ino mode answer k step =
     let K : State → Type 0 = λ x. Kept x in
     elim step [

@@ -18,12 +18,11 @@ use Rattle.trio_layout.specs.Proposed.{Bundle}
 use Rattle.trio_state.specs.Grants.{grant_fault, opened, opens, given_back}
 use Rattle.trio_state.specs.Allotments.{free_pages, free_numbers, allots}
 use Rattle.trio_state.specs.Bundles.{is_in_bundle, lent_part, grants_after, Ends}
-use Rattle.trio_state.specs.Step.{Event, Grant, Allot, Back, Release, Settle, SetMode, Answer, NoPages, NoInodes, Given, Outcome, after_grant_fault, granted_to, allot_outcome, mode_fault, after_mode_fault, moded_to, ReleaseEnd, Parted, IsAccepted, IsRefused}
+use Rattle.trio_state.specs.Step.{Event, Grant, Allot, Back, Release, Settle, SetMode, CtlAnswer, NoPages, NoInodes, Given, Outcome, after_grant_fault, granted_to, allot_outcome, mode_fault, after_mode_fault, moded_to, ReleaseEnd, Parted, IsAccepted, IsRefused}
 use Rattle.trio_state.specs.Run.{start, Move, Trace}
 use Rattle.trio_laws.specs.GrantLaws.{CameBefore, IsOrdered, OrderBegins, OrderStays, GrantsAreOrdered, FirstIsLowest}
-use Rattle.trio_lists.proofs.Members.{In-cases, In-map, map_from}
-use Rattle.trio_lists.proofs.Filters.{In_get, In_index}
-use Rattle.trio_lists.proofs.Filters.{filter_in, in_filter}
+use Rattle.trio_lists.proofs.Members.{In-cases, In-map, map-In}
+use Rattle.trio_lists.proofs.Filters.{get_or-In, In-get_or, filter-In, In-filter}
 use Rattle.trio_laws.proofs.Ended.{pairs_like}
 
 -- the same grants in a state of as many entries or more
@@ -47,7 +46,7 @@ grant_fault_ordered s OutOfMemory o = logged_ordered s o
 opens_ordered : (s : State) (g : OpenGrant) → g.entry ≡ s.entries → IsOrdered s → IsOrdered (opens s g)
 opens_ordered s g e o = record {
   rising = all_pairs_push CameBefore s.open_grants g o.rising
-      (λ k d l. let b = o.below (get_or s.open_grants k d) (In_get s.open_grants k d l) in omega (arith, b, e));
+      (λ k d l. let b = o.below (get_or s.open_grants k d) (get_or-In s.open_grants k d l) in omega (arith, b, e));
   below = λ h i. elim (In-cases h s.open_grants (g ∷ []) i) [
     | inl old ↦ let b = o.below h old in omega (arith, b)
     | inr new ↦ elim new [
@@ -88,7 +87,7 @@ back_ordered s lib ino o =
     let stays : OpenGrant → Bool = λ g. not (eqb g.lib lib && eqb g.ino ino && is_read g.kind) in
     record {
       rising = AllPairs-filter CameBefore stays s.open_grants o.rising;
-      below = λ g i. let b = o.below g (filter_in stays g s.open_grants i).0 in omega (arith, b);
+      below = λ g i. let b = o.below g (filter-In stays g s.open_grants i).0 in omega (arith, b);
     }
 
 ends_ordered : (s s' : State) (lib : ℕ) (b : Bundle) (image : Image) → Ends s lib b image s' → IsOrdered s
@@ -99,15 +98,15 @@ ends_ordered s s' lib b image e o =
       rising = pairs_like CameBefore (λ x y h. h) (λ x y h. h) s'.open_grants (grants_after s lib b) e.grants
           (AllPairs-filter CameBefore stays s.open_grants o.rising);
       below = λ g i.
-          let j = map_from lent_part (lent_part g) (grants_after s lib b)
+          let j = map-In lent_part (lent_part g) (grants_after s lib b)
           (subst (λ l. In (lent_part g) l) e.grants (In-map lent_part g s'.open_grants i)) in
-          let was = o.below j.0 (filter_in stays j.0 s.open_grants j.1).0 in
+          let was = o.below j.0 (filter-In stays j.0 s.open_grants j.1).0 in
           let at : g.entry ≡ j.0.entry = ap (λ (x : OpenGrant). x.entry) j.2 in
           let more = e.entries in
           omega (arith, was, at, more);
     }
 
-release_ordered : (s s' : State) (lib : ℕ) (b : Bundle) (answer : Answer) → ReleaseEnd s lib b answer s'
+release_ordered : (s s' : State) (lib : ℕ) (b : Bundle) (answer : CtlAnswer) → ReleaseEnd s lib b answer s'
     → IsOrdered s → IsOrdered s'
 release_ordered s s' lib b answer (Parted n none e same) o = subst IsOrdered (sym same) o
 release_ordered s s' lib b answer (IsAccepted none t e ends) o = ends_ordered s s' lib b _ ends o
@@ -169,7 +168,7 @@ first_of (x ∷ xs) g h rising first (inl same) =
 first_of (x ∷ xs) g h rising first (inr later) =
     let is : x ≡ g = cc first in
     let at : x.entry ≡ g.entry = ap (λ (y : OpenGrant). y.entry) is in
-    let r = In_index h xs later in
+    let r = In-get_or h xs later in
     let l : 0 < suc r.0 = omega arith in
     let k : suc r.0 < length (x ∷ xs) = (let q = r.1 in omega (arith, q)) in
     let before : x.entry < h.entry = subst (λ y. CameBefore x y) r.2 (rising zero (suc r.0) h l k) in
@@ -178,4 +177,4 @@ first_of (x ∷ xs) g h rising first (inr later) =
 pub first_is_lowest : FirstIsLowest
 first_is_lowest s passes g h o first i passed =
     first_of (filter passes s.open_grants) g h (AllPairs-filter CameBefore passes s.open_grants o.rising) first
-    (in_filter passes h s.open_grants i passed)
+    (In-filter passes h s.open_grants i passed)

@@ -16,16 +16,16 @@ use Rattle.trio_layout.specs.Image.{row_at}
 use Rattle.trio_state.specs.State.{OpenGrant, State, logged}
 use Rattle.trio_nodes.specs.GrantKinds.{is_read}
 use Rattle.trio_layout.specs.Proposed.{Bundle}
-use Rattle.trio_layout.specs.Mode.{moded, moded_row}
+use Rattle.trio_layout.specs.Mode.{image_with_mode, row_with_mode}
 use Rattle.trio_state.specs.Grants.{grant_fault, opened, opens, given_back}
 use Rattle.trio_state.specs.Allotments.{free_pages, free_numbers, allots}
-use Rattle.trio_state.specs.Step.{Event, Grant, Allot, Back, Release, Settle, SetMode, Answer, NoPages, NoInodes, Given, Outcome, Step, after_grant_fault, granted_to, allot_outcome, mode_fault, after_mode_fault, moded_to, ReleaseEnd, Parted, IsAccepted, IsRefused}
+use Rattle.trio_state.specs.Step.{Event, Grant, Allot, Back, Release, Settle, SetMode, CtlAnswer, NoPages, NoInodes, Given, Outcome, Step, after_grant_fault, granted_to, allot_outcome, mode_fault, after_mode_fault, moded_to, ReleaseEnd, Parted, IsAccepted, IsRefused}
 use Rattle.trio_state.specs.Kept.{Kept}
 use Rattle.trio_state.specs.Given.{GivenTo, GivenEvent}
 use Rattle.trio_laws.specs.Laws.{library_of, GivenThrough, ClosedThrough}
 use Rattle.trio_lists.proofs.Members.{In-left, In-cases}
 use Rattle.trio_laws.proofs.Bundles.{closed_unparted, closed_all}
-use Rattle.trio_lists.proofs.Filters.{filter_in, in_filter}
+use Rattle.trio_lists.proofs.Filters.{filter-In, In-filter}
 use Rattle.trio_laws.proofs.Modes.{may_change}
 use Rattle.trio_laws.proofs.Allots.{pages_apart, numbers_apart}
 use Rattle.trio_laws.proofs.Runs.{step_kept}
@@ -92,8 +92,8 @@ back_leaves s lib other ino apart =
       grants = λ g i mine.
           let away : (eqb g.lib other && eqb g.ino ino && is_read g.kind) ≡ false =
           and_left (eqb g.lib other && eqb g.ino ino) (is_read g.kind) (and_left (eqb g.lib other) (eqb g.ino ino) (ne_eqb g.lib other (λ e. apart (sym e ∙ mine)))) in
-          (g, in_filter stays g s.open_grants i (not_from_false (eqb g.lib other && eqb g.ino ino && is_read g.kind) away), refl);
-      none_new = λ h i mine. (h, (filter_in stays h s.open_grants i).0, refl);
+          (g, In-filter stays g s.open_grants i (not_from_false (eqb g.lib other && eqb g.ino ino && is_read g.kind) away), refl);
+      none_new = λ h i mine. (h, (filter-In stays h s.open_grants i).0, refl);
       pages = λ n mine. mine;
       numbers = λ n mine. mine;
       parents = λ g q i mine row. (q, row, refl);
@@ -111,19 +111,19 @@ mode_leaves s lib other ino mode o (Some fault) e = mode_fault_leaves s fault li
 mode_leaves s lib other ino mode None None e = absurd cc
 mode_leaves s lib other ino mode (Some r) None e =
     let may = may_change s other ino mode r e in
-    same_leaves s (logged (record s { home = moded s.home ino mode })) lib refl refl refl
+    same_leaves s (logged (record s { home = image_with_mode s.home ino mode })) lib refl refl refl
     (λ g q i row.
-    let same : row_at (moded s.home ino mode) g.ino ≡ row_at s.home g.ino =
-    get_or-set_other s.home.rows ino g.ino (moded_row mode (row_at s.home ino)) None (may.free g i).0 in
+    let same : row_at (image_with_mode s.home ino mode) g.ino ≡ row_at s.home g.ino =
+    get_or-set_other s.home.rows ino g.ino (row_with_mode mode (row_at s.home ino)) None (may.free g i).0 in
     (q, sym same ∙ row, refl))
 
-release_leaves : (s s' : State) (lib other : ℕ) (b : Bundle) (answer : Answer) → Kept s → GivenTo s other b → (other ≡ lib → ⊥) → ReleaseEnd s other b answer s' → LeavesTo s s' lib
+release_leaves : (s s' : State) (lib other : ℕ) (b : Bundle) (answer : CtlAnswer) → Kept s → GivenTo s other b → (other ≡ lib → ⊥) → ReleaseEnd s other b answer s' → LeavesTo s s' lib
 release_leaves s s' lib other b answer k given apart (Parted n none e same) = (let L : State → Type 0 = λ x. LeavesTo s x lib in subst L (sym same) (no_step_leaves s lib))
 release_leaves s s' lib other b answer k given apart (IsAccepted none t e ends) = accepted_leaves s s' k lib other b given (closed_unparted s other b none) t ends (λ x. apart (sym x))
 release_leaves s s' lib other b answer k given apart (IsRefused none f why e tells ends) = refused_leaves s s' k lib other b given ends (λ x. apart (sym x))
 
 -- a step of another library leaves what a library has out
-pub other_step_leaves : (s s' : State) (lib : ℕ) (event : Event) (answer : Answer) → Kept s → GivenEvent s event → Step s event answer s' → (library_of event ≡ lib → ⊥) → LeavesTo s s' lib
+pub other_step_leaves : (s s' : State) (lib : ℕ) (event : Event) (answer : CtlAnswer) → Kept s → GivenEvent s event → Step s event answer s' → (library_of event ≡ lib → ⊥) → LeavesTo s s' lib
 other_step_leaves s s' lib event answer k given (inr none) apart =
     let L : State → Type 0 = λ x. LeavesTo s x lib in subst L (sym none.2) (no_step_leaves s lib)
 other_step_leaves s s' lib (Grant other ino kind) answer k given (inl does) apart =

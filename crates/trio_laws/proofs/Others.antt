@@ -23,10 +23,10 @@ use Rattle.trio_page.specs.Sheets.{sheet_numbers}
 use Rattle.trio_state.specs.State.{OpenGrant, State, settled, creds_of}
 use Rattle.trio_laws.proofs.Accepting.{stays_then, row_then}
 use Rattle.trio_laws.proofs.Bundles.{Closed, unparted_at, unparted_from}
-use Rattle.trio_lists.proofs.Filters.{in_filter}
+use Rattle.trio_lists.proofs.Filters.{In-filter}
 use Rattle.trio_laws.proofs.Ended.{grant_before, grant_after}
 use Rattle.trio_surveys.proofs.Images.{some_of}
-use Rattle.trio_lists.proofs.Members.{In-among}
+use Rattle.trio_lists.proofs.Members.{is_among-In}
 
 -- what a step leaves of the grants and outs of a library
 pub record LeavesTo (s s' : State) (lib : ℕ) : Type 0 where
@@ -108,7 +108,7 @@ outs_stay outs these lib other n theirs apart mine =
     lib_at-others None these n outs
     (false_from_ne_true (is_among n these)
     (λ t.
-    let same : Some (library lib) ≡ Some (library other) = sym mine ∙ theirs n (In-among n these t) in
+    let same : Some (library lib) ≡ Some (library other) = sym mine ∙ theirs n (is_among-In n these t) in
     apart (ap (λ (o : Option LibNo). number_of o) same)))
     ∙ mine
   where

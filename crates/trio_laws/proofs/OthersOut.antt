@@ -19,18 +19,17 @@ use Rattle.trio_tables.specs.Out.{lib_at, is_out}
 use Rattle.trio_tables.specs.Free.{count_up}
 use Rattle.trio_tables.proofs.OutLemmas.{length-with_all, lib_at-others, lib_at-set}
 use Rattle.trio_state.specs.State.{OpenGrant, State, logged}
-use Rattle.trio_nodes.specs.GrantKinds.{is_read, is_write}
+use Rattle.trio_nodes.specs.GrantKinds.{is_read, is_write, is_hold}
 use Rattle.trio_layout.specs.Proposed.{Bundle, is_written}
 use Rattle.trio_state.specs.Grants.{grant_fault, opened, opens, given_back}
 use Rattle.trio_state.specs.Allotments.{free_pages, free_numbers, allots, out_with, out_after, is_library}
 use Rattle.trio_state.specs.Bundles.{Ends, grants_after, is_in_bundle, lent_part}
-use Rattle.trio_nodes.specs.GrantKinds.{is_hold}
-use Rattle.trio_state.specs.Step.{Grant, Allot, Back, Release, Settle, SetMode, Answer, NoPages, NoInodes, Given, Outcome, granted_to, after_grant_fault, allot_outcome, mode_fault, moded_to, after_mode_fault, ReleaseEnd, Parted, IsAccepted, IsRefused}
+use Rattle.trio_state.specs.Step.{Grant, Allot, Back, Release, Settle, SetMode, CtlAnswer, NoPages, NoInodes, Given, Outcome, granted_to, after_grant_fault, allot_outcome, mode_fault, moded_to, after_mode_fault, ReleaseEnd, Parted, IsAccepted, IsRefused}
 use Rattle.trio_state.specs.Kept.{Kept}
 use Rattle.trio_state.specs.Given.{GivenTo, WasAllotted}
 use Rattle.trio_laws.specs.OutLaws.{without_checkpoint, grants_to, numbers_to, out_of, OthersKeepOut}
-use Rattle.trio_lists.proofs.Members.{In-among}
-use Rattle.trio_laws.proofs.Filters.{filter-map, filter-filter, filter_same}
+use Rattle.trio_lists.proofs.Members.{is_among-In}
+use Rattle.trio_lists.proofs.Filters.{filter-map, filter-filter, filter-same}
 use Rattle.trio_laws.proofs.Allots.{page_free, number_free}
 
 none_of : (o : Option LibNo) → is_some o ≡ false → o ≡ None
@@ -78,7 +77,7 @@ module _ (mine lib : ℕ) (apart : mine ≢ lib) where
       → ((n : ℕ) → is_library lib (lib_at these n) ≡ is_library lib (lib_at outs n))
       → numbers_to these lib ≡ numbers_to outs lib
   numbers_to-same outs these long same =
-      filter_same (λ n. is_library lib (lib_at these n)) (λ n. is_library lib (lib_at outs n))
+      filter-same (λ n. is_library lib (lib_at these n)) (λ n. is_library lib (lib_at outs n))
       (count_up 0 (length these - 0)) (λ n i. same n)
       ∙ ap (λ k. filter (λ n. is_library lib (lib_at outs n)) (count_up 0 (k - 0))) long
 
@@ -94,7 +93,7 @@ module _ (mine lib : ℕ) (apart : mine ≢ lib) where
       by n false e within = ap (is_library lib) (lib_at-others (Some (record { 0 = mine })) ns n outs e)
       by n true e (inl within) =
           ap (is_library lib) (lib_at-set (Some (record { 0 = mine })) ns n outs within e)
-          ∙ other_lib mine refl ∙ sym (ap (is_library lib) (none_of (lib_at outs n) (free n (In-among n ns e))))
+          ∙ other_lib mine refl ∙ sym (ap (is_library lib) (none_of (lib_at outs n) (free n (is_among-In n ns e))))
       by n true e (inr past) =
           ap (is_library lib) (get_or_past (out_with outs mine ns) n None
           (subst (λ k. k ≤ n) (sym (length-with_all (Some (record { 0 = mine })) ns outs)) past))
@@ -112,7 +111,7 @@ module _ (mine lib : ℕ) (apart : mine ≢ lib) where
       by n false e within = ap (is_library lib) (lib_at-others None these n outs e)
       by n true e (inl within) =
           ap (is_library lib) (lib_at-set None these n outs within e)
-          ∙ sym (ap (is_library lib) (given n (In-among n these e)) ∙ other_lib mine refl)
+          ∙ sym (ap (is_library lib) (given n (is_among-In n these e)) ∙ other_lib mine refl)
       by n true e (inr past) =
           ap (is_library lib) (get_or_past (out_after outs these) n None
           (subst (λ k. k ≤ n) (sym (length-with_all None these outs)) past))
@@ -177,7 +176,7 @@ module _ (s : State) (k : Kept s) (mine lib : ℕ) (apart : mine ≢ lib) where
       (ap (λ l. numbers_to l lib) e.numbers
       ∙ numbers_to-after mine lib apart s.numbers_out b.numbers given.numbers)
 
-  release : (b : Bundle) (answer : Answer) (s' : State) → GivenTo s mine b → ReleaseEnd s mine b answer s'
+  release : (b : Bundle) (answer : CtlAnswer) (s' : State) → GivenTo s mine b → ReleaseEnd s mine b answer s'
       → out_of s' lib ≡ out_of s lib
   release b answer s' given (Parted n some a same) = ap (λ (x : State). out_of x lib) same
   release b answer s' given (IsAccepted none t a e) = ends b _ s' given e

@@ -1,11 +1,10 @@
 -- For each bundle that was given to its library there is a step of its release.
-use Rattle.std.proofs.Common.{◌≡◌, ℕ, suc, zero, ◌+◌, ◌<◌, true, List, [], ◌∷◌, ◌++◌, length, Option, Some, None, slice_get, slice_set, sym, refl, ap, ◌∙◌, inl, inr, arith}
+use Rattle.std.proofs.Common.{◌≡◌, ℕ, suc, zero, ◌+◌, ◌<◌, true, List, [], ◌∷◌, ◌++◌, length, Option, Some, None, slice_get, slice_set, sym, refl, ap, ◌∙◌, inl, inr, arith, ltb, leb, not}
 use Rattle.std.specs.Prelude.{map}
 use Rattle.std.specs.List.{flat_map}
 use Rattle.std.specs.Option.{option_map}
 use Rattle.std.proofs.lemmas.List.{map-append}
 use Rattle.std.proofs.lemmas.Bool.{and_parts, cases_Bool, ltb-true}
-use Rattle.std.proofs.Common.{ltb, leb, not}
 use Rattle.trio_layout.specs.Core.{Core}
 use Rattle.trio_lists.specs.Lists.{In}
 use Rattle.trio_layout.specs.Range.{is_core}
@@ -23,11 +22,11 @@ use Rattle.trio_layout.specs.Proposed.{Bundle, bundle_sheets, proposed, proposed
 use Rattle.trio_page.specs.Sheets.{Sheet, sheet_numbers, with_pages}
 use Rattle.trio_state.specs.State.{OpenGrant, State, settled, creds_of}
 use Rattle.trio_state.specs.Tells.{untold}
-use Rattle.trio_state.specs.Step.{Event, Grant, Allot, Back, Release, Settle, SetMode, Answer, Done, Accepted, Refused, NotClosed, Settled, Does, Parted, IsAccepted, IsRefused, grant_outcome, allot_outcome, mode_outcome}
+use Rattle.trio_state.specs.Step.{Event, Grant, Allot, Back, Release, Settle, SetMode, CtlAnswer, Done, Accepted, Refused, NotClosed, Settled, Does, Parted, IsAccepted, IsRefused, grant_outcome, allot_outcome, mode_outcome}
 use Rattle.trio_laws.proofs.Bundles.{in_numbers}
-use Rattle.trio_lists.proofs.Filters.{filter_in}
+use Rattle.trio_lists.proofs.Filters.{filter-In}
 use Rattle.trio_surveys.proofs.Cores.{listed_is_core}
-use Rattle.trio_lists.proofs.Members.{flat_from, In-flat}
+use Rattle.trio_lists.proofs.Members.{flat_map-In, In-flat}
 use Rattle.trio_surveys.proofs.Picked.{all_listed, bodies_are, listed_no_root}
 use Rattle.trio_surveys.proofs.Putting.{put_on, with_bodies-get}
 use Rattle.trio_surveys.proofs.SheetLaws.{length-with_pages}
@@ -114,8 +113,8 @@ module _ (s : State) (k : Kept s) where
 
   after_there : (lib : ℕ) (b : Bundle) (x : Sheet) → In x (flat_map (λ (g : OpenGrant). g.checkpoint) (grants_after s lib b)) → In x.page (sheet_numbers (flat_map (λ (g : OpenGrant). g.checkpoint) s.open_grants))
   after_there lib b x i =
-      let r = flat_from (λ (g : OpenGrant). g.checkpoint) x (grants_after s lib b) i in
-      let f = filter_in (λ g. not (is_in_bundle lib b g)) r.0 s.open_grants r.1 in
+      let r = flat_map-In (λ (g : OpenGrant). g.checkpoint) x (grants_after s lib b) i in
+      let f = filter-In (λ g. not (is_in_bundle lib b g)) r.0 s.open_grants r.1 in
       in_numbers (flat_map (λ (g : OpenGrant). g.checkpoint) s.open_grants) x x.page (In-flat (λ (g : OpenGrant). g.checkpoint) r.0 x s.open_grants f.0 r.2) refl
 
   with_there : (ss : List Sheet) (p : ℕ) → In p (sheet_numbers (flat_map (λ (g : OpenGrant). g.checkpoint) s.open_grants)) → (c : List ℕ) × (slice_get (with_pages ss (settled s).core.pages) p ≡ Some (Some c))
@@ -140,7 +139,7 @@ module _ (s : State) (k : Kept s) where
       (put_on x.page (all_listed core pick) w.0, there))
 
   -- a bundle that was given to its library and is closed is accepted or refused
-  closed_possible : (lib : ℕ) (b : Bundle) → GivenTo s lib b → parted_hold s lib b ≡ None → (answer : Answer) × (s' : State) × Does s (Release lib b) answer s'
+  closed_possible : (lib : ℕ) (b : Bundle) → GivenTo s lib b → parted_hold s lib b ≡ None → (answer : CtlAnswer) × (s' : State) × Does s (Release lib b) answer s'
   closed_possible lib b given closed =
       elim (cases_Bool (is_accepted (settled s) (creds_of s lib) b)) [
         | inl t ↦ (let r = accepted_ends lib b given t in (Accepted, r.0, IsAccepted closed t refl r.1))
@@ -149,15 +148,15 @@ module _ (s : State) (k : Kept s) where
             (Refused untold, r.0, IsRefused closed f untold refl (untold_tells s lib b) r.1))
       ]
 
-  pub release_possible : (lib : ℕ) (b : Bundle) → GivenTo s lib b → (answer : Answer) × (s' : State) × Does s (Release lib b) answer s'
+  pub release_possible : (lib : ℕ) (b : Bundle) → GivenTo s lib b → (answer : CtlAnswer) × (s' : State) × Does s (Release lib b) answer s'
   release_possible lib b given = by_parted (parted_hold s lib b) refl
     where
-      by_parted : (o : Option ℕ) → parted_hold s lib b ≡ o → (answer : Answer) × (s' : State) × Does s (Release lib b) answer s'
+      by_parted : (o : Option ℕ) → parted_hold s lib b ≡ o → (answer : CtlAnswer) × (s' : State) × Does s (Release lib b) answer s'
       by_parted None e = closed_possible lib b given e
       by_parted (Some n) e = (NotClosed n, s, Parted n e refl refl)
 
   -- each call of what was given has an answer other than want of memory, a settle where it is one
-  pub call_possible : (event : Event) → GivenEvent s event → MayEnd s event → (answer : Answer) × (s' : State) × Does s event answer s'
+  pub call_possible : (event : Event) → GivenEvent s event → MayEnd s event → (answer : CtlAnswer) × (s' : State) × Does s event answer s'
   call_possible (Grant lib ino kind) given may = (let o = grant_outcome s lib ino kind in (o.answer, o.after, (refl, refl)))
   call_possible (Allot lib pages numbers) given may = (let o = allot_outcome s lib pages numbers in (o.answer, o.after, (refl, refl)))
   call_possible (Back lib ino) given may = (Done, given_back s lib ino, (refl, refl))

@@ -16,10 +16,10 @@ use Rattle.trio_page.specs.Sheets.{Sheet, sheet_numbers, with_pages}
 use Rattle.trio_state.specs.State.{OpenGrant, State, settled, covered}
 use Rattle.trio_laws.specs.EndLaws.{checkpoints_of}
 use Rattle.trio_laws.proofs.Bundles.{in_numbers}
-use Rattle.trio_lists.proofs.Filters.{filter_in, in_filter}
+use Rattle.trio_lists.proofs.Filters.{filter-In, In-filter}
 use Rattle.trio_laws.proofs.Checkpoints.{with_pages_like, checkpoint_from, one_lender, checkpoints_one}
 use Rattle.trio_surveys.proofs.Images.{free_unlisted}
-use Rattle.trio_lists.proofs.Members.{In-cases, In-flat, In-left, In-right, flat_from, map_from}
+use Rattle.trio_lists.proofs.Members.{In-cases, In-flat, In-left, In-right, flat_map-In, map-In}
 use Rattle.trio_surveys.proofs.Owned.{index_apart, sound_parts}
 use Rattle.trio_surveys.proofs.PageSlots.{pages_same}
 use Rattle.trio_laws.proofs.Uncovered.{uncovered_from}
@@ -33,7 +33,7 @@ covered_index Directory index blocks p e i = absurd cc
 
 in_append : (p : ℕ) (blocks index : List Sheet) → In p (sheet_numbers blocks) → In p (sheet_numbers (index ++ blocks))
 in_append p blocks index i =
-    let r = map_from (λ (x : Sheet). x.page) p blocks i in
+    let r = map-In (λ (x : Sheet). x.page) p blocks i in
     in_numbers (index ++ blocks) r.0 p (In-right r.0 index blocks r.1) r.2
 
 module _ (s : State) (k : Kept s) (lib : ℕ) (b : Bundle) (given : GivenTo s lib b) where
@@ -64,8 +64,8 @@ module _ (s : State) (k : Kept s) (lib : ℕ) (b : Bundle) (given : GivenTo s li
   -- no checkpoint covers what is uncovered
   pub bare : (p : ℕ) → In p (sheet_numbers (uncovered (settled s) b ++ b.pages)) → In p (sheet_numbers (checkpoints_of s.open_grants)) → ⊥
   bare p i j =
-      let r = map_from (λ (x : Sheet). x.page) p (uncovered (settled s) b ++ b.pages) i in
-      let q = map_from (λ (x : Sheet). x.page) p (checkpoints_of s.open_grants) j in
+      let r = map-In (λ (x : Sheet). x.page) p (uncovered (settled s) b ++ b.pages) i in
+      let q = map-In (λ (x : Sheet). x.page) p (checkpoints_of s.open_grants) j in
       elim (uncovered_from s k lib b given r.0 r.1) [
         | inr w ↦ block_bare w.0 q.0 p w.1 w.2 (in_numbers w.0.blocks r.0 p w.3 r.2) q.1 q.2
         | inl handed ↦
@@ -93,8 +93,8 @@ module _ (s : State) (k : Kept s) (lib : ℕ) (b : Bundle) (given : GivenTo s li
 
     left_every : (x : Sheet) → In x left → In x every
     left_every x i =
-        let r = flat_from (λ (g : OpenGrant). g.checkpoint) x (grants_after s lib b) i in
-        let f = filter_in (λ (g : OpenGrant). not (is_in_bundle lib b g)) r.0 s.open_grants r.1 in
+        let r = flat_map-In (λ (g : OpenGrant). g.checkpoint) x (grants_after s lib b) i in
+        let f = filter-In (λ (g : OpenGrant). not (is_in_bundle lib b g)) r.0 s.open_grants r.1 in
         In-flat (λ (g : OpenGrant). g.checkpoint) r.0 x s.open_grants f.0 r.2
 
     sheets_every : (x : Sheet) → In x sheets → In x every
@@ -105,17 +105,17 @@ module _ (s : State) (k : Kept s) (lib : ℕ) (b : Bundle) (given : GivenTo s li
 
     every_parts : (x : Sheet) → In x every → In x (sheets ++ left)
     every_parts x i =
-        let r = flat_from (λ (g : OpenGrant). g.checkpoint) x s.open_grants i in
+        let r = flat_map-In (λ (g : OpenGrant). g.checkpoint) x s.open_grants i in
         elim (cases_Bool (is_in_bundle lib b r.0)) [
           | inl own ↦ In-left x sheets left (all r.0 x r.1 own r.2)
           | inr out ↦
-              let j = in_filter (λ (g : OpenGrant). not (is_in_bundle lib b g)) r.0 s.open_grants r.1 (not_from_false (is_in_bundle lib b r.0) out) in
+              let j = In-filter (λ (g : OpenGrant). not (is_in_bundle lib b g)) r.0 s.open_grants r.1 (not_from_false (is_in_bundle lib b r.0) out) in
               In-right x sheets left (In-flat (λ (g : OpenGrant). g.checkpoint) r.0 x (grants_after s lib b) j r.2)
         ]
 
     numbers_of : (xs : List Sheet) → ((x : Sheet) → In x xs → In x every) → (p : ℕ) → In p (sheet_numbers xs) → In p (sheet_numbers every)
     numbers_of xs h p i =
-        let r = map_from (λ (x : Sheet). x.page) p xs i in in_numbers every r.0 p (h r.0 r.1) r.2
+        let r = map-In (λ (x : Sheet). x.page) p xs i in in_numbers every r.0 p (h r.0 r.1) r.2
 
     page_then : (p : ℕ) → slice_get (with_pages left (with_pages handed (with_pages sheets home))) p ≡ slice_get (with_pages handed (with_pages every home)) p
     page_then p =

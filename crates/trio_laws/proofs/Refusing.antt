@@ -25,12 +25,12 @@ use Rattle.trio_laws.proofs.Agreeing.{verifies_still, lent_still, body_still}
 use Rattle.trio_laws.proofs.Bundles.{Closed, outside_unheld, in_numbers}
 use Rattle.trio_laws.proofs.Ended.{grant_before, apart_then, checkpoints_then, write_in_bundle, parent_then, outs_then, numbers_then, pages_placed_then, numbers_placed_then, absent_then}
 use Rattle.trio_surveys.proofs.Images.{some_of, free_unlisted}
-use Rattle.trio_lists.proofs.Members.{In-left, In-right, In-flat, map_from, In-among}
+use Rattle.trio_lists.proofs.Members.{In-left, In-right, In-flat, map-In, is_among-In}
 use Rattle.trio_surveys.proofs.Owned.{sound_parts, pages_are}
 use Rattle.trio_surveys.proofs.SheetLaws.{length-with_pages}
 use Rattle.trio_surveys.proofs.Sheets.{Pages, with_pages_apart, with_pages_absent, with_pages_from, page_same, page_there, page_from}
 use Rattle.trio_laws.proofs.StateFacts.{write_is, tables}
-use Rattle.trio_lists.proofs.Filters.{any_at}
+use Rattle.trio_lists.proofs.Filters.{list_any-In}
 use Rattle.trio_laws.proofs.Uncovered.{uncovered_from, In-uncovered}
 use Rattle.trio_laws.proofs.WriteGrant.{read_cases, block_unread, uncovers}
 use Rattle.trio_surveys.specs.Reading.{with_other, AgreeOn, pages_read}
@@ -75,19 +75,19 @@ module _ (s s' : State) (k : Kept s) (lib : ℕ) (b : Bundle) (given : GivenTo s
 
   block_uncovered : (w : Written) (p : ℕ) → In w b.writes → w.kind ≡ Regular → In p (sheet_numbers w.blocks) → In p (sheet_numbers (uncovered (settled s) b ++ b.pages))
   block_uncovered w p i reg a =
-      let r = map_from (λ (x : Sheet). x.page) p w.blocks a in
+      let r = map-In (λ (x : Sheet). x.page) p w.blocks a in
       in_numbers (uncovered (settled s) b ++ b.pages) r.0 p (In-left r.0 (uncovered (settled s) b) b.pages (In-uncovered s k lib b given w r.0 i reg r.1)) r.2
 
   page_uncovered : (p : ℕ) → In p (sheet_numbers b.pages) → In p (sheet_numbers (uncovered (settled s) b ++ b.pages))
   page_uncovered p a =
-      let r = map_from (λ (x : Sheet). x.page) p b.pages a in
+      let r = map-In (λ (x : Sheet). x.page) p b.pages a in
       in_numbers (uncovered (settled s) b ++ b.pages) r.0 p (In-right r.0 (uncovered (settled s) b) b.pages r.1) r.2
 
   pub agree : AgreeOn core (with_other core pages) (survey core plain)
   agree m f p i read a =
       page_same core pages p (with_pages_apart (uncovered (settled s) b ++ b.pages) core.pages p
       (λ j.
-      let r = map_from (λ (x : Sheet). x.page) p (uncovered (settled s) b ++ b.pages) j in
+      let r = map-In (λ (x : Sheet). x.page) p (uncovered (settled s) b ++ b.pages) j in
       elim (uncovered_from s k lib b given r.0 r.1) [
         | inl handed ↦
             let o = given.pages p (in_numbers b.pages r.0 p handed r.2) in
@@ -146,11 +146,11 @@ module _ (s s' : State) (k : Kept s) (lib : ℕ) (b : Bundle) (given : GivenTo s
       let v = with_pages_absent (flat_map (λ g. g.checkpoint) s.open_grants) s.home.core.pages p w.1 in
       elim (k.absent p v.1 c) [
         | inl lent ↦
-            let q = any_at (λ g. is_write g.kind && is_among p (sheet_numbers (g.index ++ g.blocks))) s.open_grants lent in
+            let q = list_any-In (λ g. is_write g.kind && is_among p (sheet_numbers (g.index ++ g.blocks))) s.open_grants lent in
             let g : OpenGrant = q.0 in
             let parts = and_parts (is_write g.kind) (is_among p (sheet_numbers (g.index ++ g.blocks))) q.2 in
             let kind : g.kind ≡ Write = write_is g.kind parts.0 in
-            let mine = In-among p (sheet_numbers (g.index ++ g.blocks)) parts.1 in
+            let mine = is_among-In p (sheet_numbers (g.index ++ g.blocks)) parts.1 in
             elim (cases_Bool (is_in_bundle lib b g)) [
               | inr out ↦ inl (g, q.1, out, kind, mine)
               | inl in' ↦
@@ -159,7 +159,7 @@ module _ (s s' : State) (k : Kept s) (lib : ℕ) (b : Bundle) (given : GivenTo s
                   let bare : In p (sheet_numbers (covered Write g.of g.index g.blocks)) → ⊥ =
                   λ j.
                   let j' : In p (sheet_numbers g.checkpoint) = subst (λ l. In p l) (ap (λ t. sheet_numbers (covered t g.of g.index g.blocks)) (sym kind) ∙ sym (k.checkpoints g q.1)) j in
-                  let z = map_from (λ (x : Sheet). x.page) p g.checkpoint j' in
+                  let z = map-In (λ (x : Sheet). x.page) p g.checkpoint j' in
                   v.0 (in_numbers (flat_map (λ g. g.checkpoint) s.open_grants) z.0 p (In-flat (λ (g : OpenGrant). g.checkpoint) g z.0 s.open_grants q.1 z.1) z.2) in
                   let u = uncovers g.of g.index g.blocks p mine bare in
                   let reg : x.0.kind ≡ Regular = sym y.of ∙ ap (λ (z : OpenGrant). z.of) x.2 ∙ u.1 in

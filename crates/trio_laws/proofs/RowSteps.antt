@@ -14,15 +14,15 @@ use Rattle.trio_layout.specs.Image.{Image, row_at}
 use Rattle.trio_state.specs.State.{State, settled, creds_of, logged}
 use Rattle.trio_layout.specs.Proposed.{Bundle, proposed, proposed_pick}
 use Rattle.trio_layout.specs.Accept.{is_accepted, next}
-use Rattle.trio_layout.specs.Mode.{moded_row}
+use Rattle.trio_layout.specs.Mode.{row_with_mode}
 use Rattle.trio_state.specs.Grants.{grant_fault}
 use Rattle.trio_state.specs.Allotments.{free_pages, free_numbers, allots}
 use Rattle.trio_state.specs.Bundles.{Ends}
-use Rattle.trio_state.specs.Step.{Grant, Allot, Back, Release, Settle, SetMode, Answer, NoPages, NoInodes, Given, Outcome, after_grant_fault, granted_to, allot_outcome, mode_fault, after_mode_fault, moded_to, ReleaseEnd, Parted, IsAccepted, IsRefused}
+use Rattle.trio_state.specs.Step.{Grant, Allot, Back, Release, Settle, SetMode, CtlAnswer, NoPages, NoInodes, Given, Outcome, after_grant_fault, granted_to, allot_outcome, mode_fault, after_mode_fault, moded_to, ReleaseEnd, Parted, IsAccepted, IsRefused}
 use Rattle.trio_state.specs.Kept.{Kept}
 use Rattle.trio_state.specs.Given.{GivenTo}
 use Rattle.trio_laws.specs.Laws.{HasRightsOf, RowGoes, EveryStepKeepsRows}
-use Rattle.trio_lists.proofs.Members.{In-among, among_from}
+use Rattle.trio_lists.proofs.Members.{is_among-In, In-is_among}
 use Rattle.trio_surveys.proofs.Images.{row_at_is}
 use Rattle.trio_laws.proofs.Survivors.{fit_now, sound_now, unheld_row, held_rights}
 use Rattle.trio_laws.proofs.Modes.{may_change}
@@ -67,16 +67,16 @@ module _ (s : State) (n : ℕ) (r : Row) (row : row_at s.home n ≡ Some r) wher
   mode_row lib ino mode None None at e = absurd cc
   mode_row lib ino mode (Some q) None at e =
       elim (cases_eq n ino) [
-        | inr differ ↦ inl (get_or-set_other s.home.rows ino n (moded_row mode (row_at s.home ino)) None differ ∙ row)
+        | inr differ ↦ inl (get_or-set_other s.home.rows ino n (row_with_mode mode (row_at s.home ino)) None differ ∙ row)
         | inl same ↦
             let may = may_change s lib ino mode q e in
             let rows : Some q ≡ Some r = sym at ∙ ap (row_at s.home) (sym same) ∙ row in
             let is_r : q ≡ r = cc rows in
-            let now : row_at (moded_to s ino mode None).after.home n ≡ moded_row mode (row_at s.home ino) =
-            ap (λ j. get_or (moded_to s ino mode None).after.home.rows j None) same ∙ get_or-set_same s.home.rows ino (moded_row mode (row_at s.home ino)) None (row_within s.home.rows ino q at) in
+            let now : row_at (moded_to s ino mode None).after.home n ≡ row_with_mode mode (row_at s.home ino) =
+            ap (λ j. get_or (moded_to s ino mode None).after.home.rows j None) same ∙ get_or-set_same s.home.rows ino (row_with_mode mode (row_at s.home ino)) None (row_within s.home.rows ino q at) in
             let uid : ℕ = (creds_of s lib).uid in
             let O : Row → Type 0 = λ x. (uid ≡ 0) ⊎ (uid ≡ x.uid) in
-            inr (inr (sym same, now ∙ ap (moded_row mode) (at ∙ ap Some is_r), subst O is_r may.owner))
+            inr (inr (sym same, now ∙ ap (row_with_mode mode) (at ∙ ap Some is_r), subst O is_r may.owner))
       ]
 
   module _ (k : Kept s) (lib : ℕ) where
@@ -87,9 +87,9 @@ module _ (s : State) (n : ℕ) (r : Row) (row : row_at s.home n ≡ Some r) wher
         ap (λ (i : Image). row_at i n) e.settles
         ∙ row_at_is (proposed (settled s) b) (proposed_pick (settled s) b) (fit_now s k lib (creds_of s lib) b given accepted) (sound_now s k lib (creds_of s lib) b given accepted) (next (settled s) b) (record { rows = refl; owners = refl }) n in
         elim (cases_Bool (is_among n b.holds)) [
-          | inr free ↦ inl (home ∙ unheld_row s k lib (creds_of s lib) b given accepted n r row (λ j. both_ways (is_among n b.holds) free (among_from n b.holds j)))
+          | inr free ↦ inl (home ∙ unheld_row s k lib (creds_of s lib) b given accepted n r row (λ j. both_ways (is_among n b.holds) free (In-is_among n b.holds j)))
           | inl held ↦
-              let j = In-among n b.holds held in
+              let j = is_among-In n b.holds held in
               let rights : (o : Option Row) → files ≡ o → HasRightsOf r o = by_row b given accepted j in
               inr (inl (given.holds n j, subst (λ o. HasRightsOf r o) (sym home) (rights files refl)))
         ]
@@ -98,7 +98,7 @@ module _ (s : State) (n : ℕ) (r : Row) (row : row_at s.home n ≡ Some r) wher
         by_row b given accepted j None e = tt
         by_row b given accepted j (Some q) e = held_rights s k lib (creds_of s lib) b given accepted n r q j row e
 
-    release_row : (s' : State) (b : Bundle) (answer : Answer) → GivenTo s lib b → ReleaseEnd s lib b answer s' → RowGoes s (Release lib b) n r (row_at s'.home n)
+    release_row : (s' : State) (b : Bundle) (answer : CtlAnswer) → GivenTo s lib b → ReleaseEnd s lib b answer s' → RowGoes s (Release lib b) n r (row_at s'.home n)
     release_row s' b answer given (Parted m some e same) = inl (ap (λ (x : State). row_at x.home n) same ∙ row)
     release_row s' b answer given (IsAccepted closed t e ends) = accepted_row s' b given t ends
     release_row s' b answer given (IsRefused closed f why e tells ends) = inl (ap (λ (i : Image). row_at i n) ends.settles ∙ row)

@@ -12,7 +12,7 @@ use Rattle.trio_state.specs.Kept.{Kept}
 use Rattle.trio_layout.specs.Proposed.{Bundle}
 use Rattle.trio_state.specs.Run.{IsWhole, Move, Trace, start}
 use Rattle.trio_state.specs.State.{State, creds_of}
-use Rattle.trio_state.specs.Step.{Event, Grant, Allot, Back, Release, Settle, SetMode, Answer, Step, ReleaseEnd, Parted, IsAccepted, IsRefused}
+use Rattle.trio_state.specs.Step.{Event, Grant, Allot, Back, Release, Settle, SetMode, CtlAnswer, Step, ReleaseEnd, Parted, IsAccepted, IsRefused}
 use Rattle.trio_layout.specs.Verifies.{Verifies}
 use Rattle.trio_laws.proofs.Accepting.{accepted_kept}
 use Rattle.trio_laws.proofs.Allots.{allot_kept}
@@ -23,7 +23,7 @@ use Rattle.trio_laws.proofs.Modes.{mode_kept}
 use Rattle.trio_laws.proofs.Refusing.{refused_kept}
 
 -- a step of a release of any bundle that was given to its library
-pub release_kept : (s s' : State) (lib : ℕ) (b : Bundle) (answer : Answer) → Kept s → GivenTo s lib b → Step s (Release lib b) answer s' → Kept s'
+pub release_kept : (s s' : State) (lib : ℕ) (b : Bundle) (answer : CtlAnswer) → Kept s → GivenTo s lib b → Step s (Release lib b) answer s' → Kept s'
 release_kept s s' lib b answer k given (inr none) = (let K : State → Type 0 = λ x. Kept x in subst K (sym none.2) k)
 release_kept s s' lib b answer k given (inl does) = by_end does
   where
@@ -33,7 +33,7 @@ release_kept s s' lib b answer k given (inl does) = by_end does
     by_end (IsRefused none f why e tells ends) = refused_kept s s' k lib b given (closed_unparted s lib b none) ends
 
 -- a step of a settle
-pub settle_kept : (s s' : State) (lib : ℕ) (b : Bundle) (answer : Answer) → Kept s → GivenTo s lib b → Step s (Settle lib b) answer s' → Kept s'
+pub settle_kept : (s s' : State) (lib : ℕ) (b : Bundle) (answer : CtlAnswer) → Kept s → GivenTo s lib b → Step s (Settle lib b) answer s' → Kept s'
 settle_kept s s' lib b answer k given step =
     let K : State → Type 0 = λ x. Kept x in
     elim step [
@@ -42,7 +42,7 @@ settle_kept s s' lib b answer k given step =
     ]
 
 -- each step keeps what holds of a state
-pub step_kept : (s s' : State) (event : Event) (answer : Answer) → Kept s → GivenEvent s event → Step s event answer s' → Kept s'
+pub step_kept : (s s' : State) (event : Event) (answer : CtlAnswer) → Kept s → GivenEvent s event → Step s event answer s' → Kept s'
 step_kept s s' (Grant lib ino kind) answer k given step = grant_kept s s' lib ino kind answer k step
 step_kept s s' (Allot lib pages numbers) answer k given step = allot_kept s s' lib pages numbers answer k step
 step_kept s s' (Back lib ino) answer k given step = back_kept s s' lib ino answer k step

@@ -20,15 +20,15 @@ use Rattle.trio_layout.specs.Image.{Image, IsFit, row_at, body_at_place, settled
 use Rattle.trio_state.specs.State.{OpenGrant, State, settled, creds_of, logged}
 use Rattle.trio_layout.specs.Proposed.{Bundle, is_place_of, kept_body, proposed, proposed_pick}
 use Rattle.trio_layout.specs.Accept.{is_accepted, next}
-use Rattle.trio_layout.specs.Mode.{with_mode, moded, moded_row}
+use Rattle.trio_layout.specs.Mode.{body_with_mode, image_with_mode, row_with_mode}
 use Rattle.trio_state.specs.Grants.{grant_fault, opened, opens}
 use Rattle.trio_state.specs.Allotments.{free_pages, free_numbers, allots}
 use Rattle.trio_state.specs.Bundles.{refused_image, Ends}
-use Rattle.trio_state.specs.Step.{Event, Grant, Allot, Back, Release, Settle, SetMode, Answer, NoPages, NoInodes, Given, NoMemory, Outcome, after_grant_fault, granted_to, allot_outcome, mode_fault, after_mode_fault, moded_to, ReleaseEnd, Parted, IsAccepted, IsRefused}
+use Rattle.trio_state.specs.Step.{Event, Grant, Allot, Back, Release, Settle, SetMode, CtlAnswer, NoPages, NoInodes, Given, NoMemory, Outcome, after_grant_fault, granted_to, allot_outcome, mode_fault, after_mode_fault, moded_to, ReleaseEnd, Parted, IsAccepted, IsRefused}
 use Rattle.trio_state.specs.Kept.{Kept}
 use Rattle.trio_state.specs.Given.{GivenTo}
 use Rattle.trio_laws.specs.ContentLaws.{accepted_body, body_after, SettledBodyGoes}
-use Rattle.trio_lists.proofs.Members.{flat_from, In-among, among_from}
+use Rattle.trio_lists.proofs.Members.{flat_map-In, is_among-In, In-is_among}
 use Rattle.trio_surveys.proofs.Tree.{child_from, child_placed}
 use Rattle.trio_surveys.proofs.Picked.{survey_put}
 use Rattle.trio_surveys.proofs.Images.{MetAt, met_row, row_at_is, row_met, read_met, root_is_met, root_or_listed, settled_body_met}
@@ -91,12 +91,12 @@ module _ (s : State) (lib : ℕ) (creds : Creds) (b : Bundle) (n : ℕ) (q : Row
     where
       by_held : (h : Bool) → is_among n b.holds ≡ h → is.met.body ≡ kept_body image b n
       by_held true e =
-          let held : In n b.holds = In-among n b.holds e in
+          let held : In n b.holds = is_among-In n b.holds e in
           (held_met s k lib creds b given accepted n r is.met held row is.stands is.number).1
           ∙ sym (ap (λ o. option_map_or (λ w. w.body) o (settled_body image n))
           (unwritten_finds b n (held_unwritten s k lib creds b given accepted n held)))
       by_held false e =
-          let unheld : In n b.holds → ⊥ = λ i. false≢true (sym e ∙ among_from n b.holds i) in
+          let unheld : In n b.holds → ⊥ = λ i. false≢true (sym e ∙ In-is_among n b.holds i) in
           let same : Some q ≡ Some r = sym row_now ∙ unheld_row s k lib creds b given accepted n r row unheld in
           let is_r : q ≡ r = cc same in
           let at : r ≡ row_by is.met is.file.body = sym is_r ∙ is.row in
@@ -117,7 +117,7 @@ module _ (s : State) (lib : ℕ) (creds : Creds) (b : Bundle) (n : ℕ) (q : Row
             let wrong : None ≡ Some (row_by (root_of image.core) f.0.body) = sym dead ∙ ap (row_at image) one ∙ live in
             absurd (cc wrong)
         | inr j ↦
-            let d = flat_from (children core pick) is.met (survey core pick) j in
+            let d = flat_map-In (children core pick) is.met (survey core pick) j in
             let c = child_from core pick d.0 is.met d.2 in
             let pl = child_placed core pick d.0 is.met c in
             let l = c.entry in
@@ -227,30 +227,30 @@ module _ (s : State) (k : Kept s) (lib n : ℕ) where
   after_no_mode ModeNoMemory q row = refl
 
   set_mode : (ino mode : ℕ) (r : Row) → row_at s.home ino ≡ Some r → mode_fault s lib ino mode (Some r) ≡ None
-      → (q : Row) → row_at (moded s.home ino mode) n ≡ Some q
-      → settled_body (settled (record s { home = moded s.home ino mode })) n
-      ≡ cond (eqb n ino) (with_mode mode (settled_body (settled s) n)) (settled_body (settled s) n)
+      → (q : Row) → row_at (image_with_mode s.home ino mode) n ≡ Some q
+      → settled_body (settled (record s { home = image_with_mode s.home ino mode })) n
+      ≡ cond (eqb n ino) (body_with_mode mode (settled_body (settled s) n)) (settled_body (settled s) n)
   set_mode ino mode r at e q row =
       let may = may_change s lib ino mode r e in
       ap (λ (i : Image). settled_body i n) (settled_moded s k ino mode r at may.small may.other may.free)
       ∙ by_own (eqb n ino) refl
     where
-      by_own : (b : Bool) → eqb n ino ≡ b → settled_body (moded (settled s) ino mode) n
-          ≡ cond b (with_mode mode (settled_body (settled s) n)) (settled_body (settled s) n)
+      by_own : (b : Bool) → eqb n ino ≡ b → settled_body (image_with_mode (settled s) ino mode) n
+          ≡ cond b (body_with_mode mode (settled_body (settled s) n)) (settled_body (settled s) n)
       by_own true own =
           let may = may_change s lib ino mode r e in
           let is_n : n ≡ ino = eqb-true n ino own in
-          ap (settled_body (moded (settled s) ino mode)) is_n
+          ap (settled_body (image_with_mode (settled s) ino mode)) is_n
           ∙ mode_body_own (settled s) ino mode r k.fit k.verifies at may.small may.other
-          ∙ ap (λ j. with_mode mode (settled_body (settled s) j)) (sym is_n)
+          ∙ ap (λ j. body_with_mode mode (settled_body (settled s) j)) (sym is_n)
       by_own false differs =
           let may = may_change s lib ino mode r e in
           let apart : n ≡ ino → ⊥ = eqb-false n ino differs in
           let was : row_at (settled s) n ≡ Some q = sym
-          (get_or-set_other s.home.rows ino n (moded_row mode (row_at s.home ino)) None apart) ∙ row in
+          (get_or-set_other s.home.rows ino n (row_with_mode mode (row_at s.home ino)) None apart) ∙ row in
           mode_body_other (settled s) ino mode r k.fit k.verifies at may.small may.other n q was apart
 
-  abbrev Goes : Event → Answer → State → Type 0
+  abbrev Goes : Event → CtlAnswer → State → Type 0
   Goes event answer x = (q : Row) → row_at (settled x) n ≡ Some q
       → settled_body (settled x) n ≡ body_after s event answer n q
 
@@ -261,7 +261,7 @@ module _ (s : State) (k : Kept s) (lib n : ℕ) where
   moding ino mode None None at e = absurd cc
   moding ino mode (Some r) None at e = set_mode ino mode r at e
 
-  release : (s' : State) (b : Bundle) (answer : Answer) → GivenTo s lib b → ReleaseEnd s lib b answer s'
+  release : (s' : State) (b : Bundle) (answer : CtlAnswer) → GivenTo s lib b → ReleaseEnd s lib b answer s'
       → Goes (Release lib b) answer s'
   release s' b answer given (Parted m some e is) q row =
       ap (λ (x : State). settled_body (settled x) n) is ∙ ap (λ a. body_after s (Release lib b) a n q) (sym e)
@@ -297,7 +297,7 @@ settled_body_goes s (Release lib b) answer s' n q k given (inl does) row =
 settled_body_goes s (Settle lib b) answer s' n q k given (inl does) row =
     accepted s k lib n s' b given.0 does.2 does.3 q row ∙ ap (λ a. body_after s (Settle lib b) a n q) (sym does.0)
 settled_body_goes s (SetMode lib ino mode) answer s' n q k given (inl does) row =
-    let G : Answer → State → Type 0 = Goes s k lib n (SetMode lib ino mode) in
+    let G : CtlAnswer → State → Type 0 = Goes s k lib n (SetMode lib ino mode) in
     let a = moding s k lib n ino mode (row_at s.home ino) (mode_fault s lib ino mode (row_at s.home ino)) refl refl in
     subst (λ x. G x s') (sym does.0)
     (subst (G (moded_to s ino mode (mode_fault s lib ino mode (row_at s.home ino))).answer) (sym does.1) a) q row

@@ -20,10 +20,10 @@ use Rattle.trio_state.specs.State.{OpenGrant, State, settled, creds_of}
 use Rattle.trio_laws.specs.EndLaws.{IsSpread, checkpoints_of, unless_absent}
 use Rattle.trio_laws.proofs.Accepting.{handed_in}
 use Rattle.trio_laws.proofs.Bundles.{in_numbers}
-use Rattle.trio_lists.proofs.Filters.{in_filter}
+use Rattle.trio_lists.proofs.Filters.{In-filter}
 use Rattle.trio_laws.proofs.Checkpoints.{checkpoint_from}
 use Rattle.trio_laws.proofs.Ended.{bundle_write, blank_numbers}
-use Rattle.trio_lists.proofs.Members.{In-flat, In-map, flat_from, map_from}
+use Rattle.trio_lists.proofs.Members.{In-flat, In-map, flat_map-In, map-In}
 use Rattle.trio_surveys.proofs.PageSlots.{pages_same}
 use Rattle.trio_surveys.proofs.Picked.{all_listed, bodies_are, listed_no_root}
 use Rattle.trio_surveys.proofs.Putting.{put_on, with_bodies-get}
@@ -63,12 +63,12 @@ module _ (s : State) (k : Kept s) (lib : ℕ) (b : Bundle) (given : GivenTo s li
   -- a page that a grant covers which stays open is covered then
   covered_then : (g : OpenGrant) (p : ℕ) → In g s.open_grants → is_in_bundle lib b g ≡ false → In p (sheet_numbers g.checkpoint) → In p (sheet_numbers (checkpoints_of grants))
   covered_then g p i out a =
-      let j = in_filter (λ (g : OpenGrant). not (is_in_bundle lib b g)) g s.open_grants i (not_from_false (is_in_bundle lib b g) out) in
+      let j = In-filter (λ (g : OpenGrant). not (is_in_bundle lib b g)) g s.open_grants i (not_from_false (is_in_bundle lib b g) out) in
       let m : In (lent_part g) (map lent_part grants) = subst (λ l. In (lent_part g) l) (sym like) (In-map lent_part g (grants_after s lib b) j) in
-      let r = map_from lent_part (lent_part g) grants m in
+      let r = map-In lent_part (lent_part g) grants m in
       let same : sheet_numbers g.checkpoint ≡ sheet_numbers r.0.checkpoint =
       sym (blank_numbers g.checkpoint) ∙ ap (λ (x : OpenGrant). sheet_numbers x.checkpoint) r.2 ∙ blank_numbers r.0.checkpoint in
-      let q = map_from (λ (x : Sheet). x.page) p r.0.checkpoint (subst (λ l. In p l) same a) in
+      let q = map-In (λ (x : Sheet). x.page) p r.0.checkpoint (subst (λ l. In p l) same a) in
       in_numbers (checkpoints_of grants) q.0 p (In-flat (λ (g : OpenGrant). g.checkpoint) r.0 q.0 grants r.1 q.1) q.2
 
   -- a page that a write grant of the bundle lent is one of the bundle's
@@ -86,7 +86,7 @@ module _ (s : State) (k : Kept s) (lib : ℕ) (b : Bundle) (given : GivenTo s li
       let w = with_pages_absent (bundle_sheets b) s.home.core.pages p e in
       let bare : In p (sheet_numbers (checkpoints_of s.open_grants)) → ⊥ =
       λ i.
-      let r = map_from (λ (x : Sheet). x.page) p (checkpoints_of s.open_grants) i in
+      let r = map-In (λ (x : Sheet). x.page) p (checkpoints_of s.open_grants) i in
       let c = checkpoint_from s k r.0 r.1 in
       elim (cases_Bool (is_in_bundle lib b c.0)) [
         | inl own ↦ w.0 (handed_back c.0 p c.1 c.3 own (subst (λ n. In n (sheet_numbers (c.0.index ++ c.0.blocks))) (sym r.2) c.4))
@@ -103,9 +103,9 @@ module _ (s : State) (k : Kept s) (lib : ℕ) (b : Bundle) (given : GivenTo s li
         | inl i ↦
             let at : (x : Sheet) → In x (checkpoints_of grants) → x.page ≡ p → slice_get after p ≡ Some (Some x.bytes) =
             λ x j on.
-            let q = flat_from (λ (g : OpenGrant). g.checkpoint) x grants j in
+            let q = flat_map-In (λ (g : OpenGrant). g.checkpoint) x grants j in
             ap (slice_get after) (sym on) ∙ spread.covered q.0 x q.1 q.2 in
-            let r = map_from (λ (x : Sheet). x.page) p (checkpoints_of grants) i in
+            let r = map-In (λ (x : Sheet). x.page) p (checkpoints_of grants) i in
             let here = at r.0 r.1 (sym r.2) in
             let o = place_either (slice_get (with_pages (bundle_sheets b) s.home.core.pages) p) (slice_get after p) r.0.bytes here in
             with_pages_known (checkpoints_of grants) pages p r.0.bytes o.0 i (λ x j on. one_bytes (slice_get after p) x.bytes r.0.bytes (at x j on) here) (spread.home p ∙ o.1)

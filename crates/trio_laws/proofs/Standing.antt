@@ -14,12 +14,12 @@ use Rattle.trio_page.specs.Sheets.{Sheet, sheet_numbers}
 use Rattle.trio_state.specs.State.{OpenGrant, State, settled}
 use Rattle.trio_laws.specs.EndLaws.{checkpoints_of}
 use Rattle.trio_laws.proofs.Bundles.{in_numbers}
-use Rattle.trio_lists.proofs.Filters.{ok_one}
+use Rattle.trio_lists.proofs.Filters.{Ok-one}
 use Rattle.trio_laws.proofs.Checkpoints.{checkpoint_from, checkpoint_settled}
 use Rattle.trio_surveys.proofs.Images.{one_met, root_or_listed}
 use Rattle.trio_laws.proofs.Isolated.{regular_empty}
 use Rattle.trio_surveys.proofs.Local.{reads_from}
-use Rattle.trio_lists.proofs.Members.{In-flat, In-right, flat_from, map_from}
+use Rattle.trio_lists.proofs.Members.{In-flat, In-right, flat_map-In, map-In}
 use Rattle.trio_surveys.proofs.Owned.{pages_are}
 use Rattle.trio_surveys.proofs.Picked.{all_listed}
 use Rattle.trio_surveys.proofs.Sheets.{among_cases, page_there, with_pages_apart}
@@ -49,7 +49,7 @@ module _ (s : State) (k : Kept s) (ino : ℕ) (r : Row) (row : row_at s.home ino
 
   listed_by : (m : Met) → In m (all_listed core plain) → r.parent ≡ m.parent → r.page ≡ m.page → r.slot ≡ m.slot → HasParent core r
   listed_by m i parent page slot =
-      let q = flat_from (children core plain) m (survey core plain) i in
+      let q = flat_map-In (children core plain) m (survey core plain) i in
       let c = child_from core plain q.0 m q.2 in
       let pl = child_placed core plain q.0 m c in
       let l : Listed = c.entry in
@@ -88,7 +88,7 @@ module _ (s : State) (k : Kept s) (ino : ℕ) (r : Row) (row : row_at s.home ino
       subst (λ ns. In r.page ns) (sym (pages_are core h.parent h.file h.read)) (In-right r.page h.file.chain.index h.file.chain.blocks h.block) in
       let ino' : g.ino ≡ h.parent.ino = lent_file s k h.parent r.page g h.stands listed c.1 c.3 lent in
       let same : l.met ≡ h.parent = one_met core plain k.fit k.verifies.sound l.met h.parent l.stands h.stands (l.number ∙ ino') in
-      let file : l.file ≡ h.file = ok_one (file_of core h.parent) l.file h.file (ap (file_of core) (sym same) ∙ l.read) h.read in
+      let file : l.file ≡ h.file = Ok-one (file_of core h.parent) l.file h.file (ap (file_of core) (sym same) ∙ l.read) h.read in
       let block : In r.page l.file.chain.blocks = subst (λ (f : FileRead). In r.page f.chain.blocks) (sym file) h.block in (
         g,
         c.1,
@@ -107,7 +107,7 @@ module _ (s : State) (k : Kept s) (ino : ℕ) (r : Row) (row : row_at s.home ino
         h.slot,
         (h.bytes, h.page),
         elim (among_cases r.page (sheet_numbers (checkpoints_of s.open_grants))) [
-          | inl i ↦ (let q = map_from (λ (x : Sheet). x.page) r.page (checkpoints_of s.open_grants) i in inr (covered_by h q.0 q.1 q.2))
+          | inl i ↦ (let q = map-In (λ (x : Sheet). x.page) r.page (checkpoints_of s.open_grants) i in inr (covered_by h q.0 q.1 q.2))
           | inr none ↦ inl (none, sym (with_pages_apart (checkpoints_of s.open_grants) s.home.core.pages r.page none) ∙ t.1 ∙ ap Some (sym h.page))
         ],
       )

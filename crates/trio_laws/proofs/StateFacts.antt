@@ -20,10 +20,10 @@ use Rattle.trio_state.specs.State.{covered, OpenGrant, State, settled}
 use Rattle.trio_nodes.specs.GrantKinds.{is_write, is_read}
 use Rattle.trio_surveys.proofs.Cores.{listed_is_core}
 use Rattle.trio_surveys.proofs.Images.{TablesOf, MetAt, row_at_is, met_row, read_met, free_unlisted}
-use Rattle.trio_lists.proofs.Members.{In-left, flat_from, map_from, In-among}
+use Rattle.trio_lists.proofs.Members.{In-left, flat_map-In, map-In, is_among-In}
 use Rattle.trio_surveys.proofs.Owned.{sound_parts, page_owner, pages_are}
 use Rattle.trio_surveys.proofs.Sheets.{with_pages_absent, place_there, page_from}
-use Rattle.trio_lists.proofs.Filters.{any_at, pairs_in}
+use Rattle.trio_lists.proofs.Filters.{list_any-In, AllPairs-In}
 
 pub write_is : (k : GrantKind) → is_write k ≡ true → k ≡ Write
 write_is Write e = refl
@@ -43,7 +43,7 @@ reads_right false b e = absurd (false≢true e)
 -- a write grant is alone on its file
 pub write_alone : (gs : List OpenGrant) (g h : OpenGrant) → AllPairs MayBothStand gs → In g gs → In h gs → g.kind ≡ Write → g.ino ≡ h.ino → g ≡ h
 write_alone gs g h pairs i j w e =
-    elim (pairs_in MayBothStand gs g h pairs i j) [
+    elim (AllPairs-In MayBothStand gs g h pairs i j) [
       | inl same ↦ same
       | inr one ↦
           elim one [
@@ -61,8 +61,8 @@ covered_write Write Regular index blocks p i =
 
 pub numbers_flat : (gs : List OpenGrant) (p : ℕ) → In p (sheet_numbers (flat_map (λ g. g.checkpoint) gs)) → (g : OpenGrant) × In g gs × In p (sheet_numbers g.checkpoint)
 numbers_flat gs p i =
-    let r = map_from (λ (x : Sheet). x.page) p (flat_map (λ g. g.checkpoint) gs) i in
-    let q = flat_from (λ (g : OpenGrant). g.checkpoint) r.0 gs r.1 in
+    let r = map-In (λ (x : Sheet). x.page) p (flat_map (λ g. g.checkpoint) gs) i in
+    let q = flat_map-In (λ (g : OpenGrant). g.checkpoint) r.0 gs r.1 in
     (q.0, q.1, in_map q.0.checkpoint r.0 q.2 r.2)
   where
     in_map : (xs : List Sheet) (x : Sheet) → In x xs → p ≡ x.page → In p (sheet_numbers xs)
@@ -118,10 +118,10 @@ module _ (s : State) (k : Kept s) where
           let w = with_pages_absent (flat_map (λ g. g.checkpoint) s.open_grants) s.home.core.pages p e in
           absurd (elim (k.absent p w.1 c) [
             | inl lent ↦
-                let q = any_at (λ g. is_write g.kind && is_among p (sheet_numbers (g.index ++ g.blocks))) s.open_grants lent in
+                let q = list_any-In (λ g. is_write g.kind && is_among p (sheet_numbers (g.index ++ g.blocks))) s.open_grants lent in
                 let parts = and_parts (is_write q.0.kind) (is_among p (sheet_numbers (q.0.index ++ q.0.blocks))) q.2 in
                 let kind : q.0.kind ≡ Write = write_is q.0.kind parts.0 in
-                none q.0 q.1 kind (lent_file m p q.0 i a q.1 kind (In-among p (sheet_numbers (q.0.index ++ q.0.blocks)) parts.1))
+                none q.0 q.1 kind (lent_file m p q.0 i a q.1 kind (is_among-In p (sheet_numbers (q.0.index ++ q.0.blocks)) parts.1))
             | inr out ↦
                 free_unlisted (settled s).core plain k.fit k.verifies.sound (settled s) tables p (k.out_free p out) m i a
           ])
@@ -129,7 +129,7 @@ module _ (s : State) (k : Kept s) where
 -- a grant that doesn't read alone is alone on its file
 pub alone : (gs : List OpenGrant) (g h : OpenGrant) → AllPairs MayBothStand gs → In g gs → In h gs → is_read g.kind ≡ false → g.ino ≡ h.ino → g ≡ h
 alone gs g h pairs i j w e =
-    elim (pairs_in MayBothStand gs g h pairs i j) [
+    elim (AllPairs-In MayBothStand gs g h pairs i j) [
       | inl same ↦ same
       | inr one ↦
           elim one [

@@ -9,13 +9,12 @@ use Rattle.trio_lists.specs.Lists.{In}
 use Rattle.trio_page.specs.Sheets.{Sheet}
 use Rattle.trio_layout.specs.Image.{Image, IsFit, row_at}
 use Rattle.trio_layout.specs.Verifies.{Verifies}
-use Rattle.trio_state.specs.State.{State}
+use Rattle.trio_state.specs.State.{State, logged}
 use Rattle.trio_layout.specs.Proposed.{Bundle, bundle_sheets}
 use Rattle.trio_layout.specs.Accept.{is_accepted, next}
 use Rattle.trio_state.specs.Grants.{grant_fault}
 use Rattle.trio_state.specs.Allotments.{free_pages, free_numbers, allots}
-use Rattle.trio_state.specs.State.{logged}
-use Rattle.trio_state.specs.Step.{Event, Grant, Allot, Back, Release, Settle, SetMode, Answer, NoPages, NoInodes, Given, Done, Accepted, Refused, NotClosed, Settled, NoMemory, Outcome, Does, Step, granted_to, allot_outcome, mode_fault, moded_to, ReleaseEnd, Parted, IsAccepted, IsRefused}
+use Rattle.trio_state.specs.Step.{Event, Grant, Allot, Back, Release, Settle, SetMode, CtlAnswer, NoPages, NoInodes, Given, Done, Accepted, Refused, NotClosed, Settled, NoMemory, Outcome, Does, Step, granted_to, allot_outcome, mode_fault, moded_to, ReleaseEnd, Parted, IsAccepted, IsRefused}
 use Rattle.trio_state.specs.Kept.{Kept}
 use Rattle.trio_state.specs.Given.{GivenEvent}
 use Rattle.trio_state.specs.Run.{start, Move, Trace}
@@ -59,7 +58,7 @@ every_release_is_judged run m lib b i is =
 
 -- ---- what each call does is never want of memory
 
-told : (a b : Answer) → a ≡ b → b ≢ NoMemory → a ≢ NoMemory
+told : (a b : CtlAnswer) → a ≡ b → b ≢ NoMemory → a ≢ NoMemory
 told a b e other wrong = other (sym e ∙ wrong)
 
 grant_told : (s : State) (lib ino : ℕ) (kind : GrantKind) (f : Option GrantFault) (o : Option Row) → (granted_to s lib ino kind f o).answer ≢ NoMemory
@@ -79,7 +78,7 @@ mode_told : (s : State) (ino mode : ℕ) (f : Option ModeFault) → (moded_to s 
 mode_told s ino mode (Some fault) wrong = absurd (cc wrong)
 mode_told s ino mode None wrong = absurd (cc wrong)
 
-release_told : (s s' : State) (lib : ℕ) (b : Bundle) (answer : Answer) → Does s (Release lib b) answer s' → answer ≢ NoMemory
+release_told : (s s' : State) (lib : ℕ) (b : Bundle) (answer : CtlAnswer) → Does s (Release lib b) answer s' → answer ≢ NoMemory
 release_told s s' lib b answer does = by_end does
   where
     by_end : ReleaseEnd s lib b answer s' → answer ≢ NoMemory
@@ -87,7 +86,7 @@ release_told s s' lib b answer does = by_end does
     by_end (IsAccepted none t e ends) = told answer Accepted e (λ wrong. absurd (cc wrong))
     by_end (IsRefused none f why e tells ends) = told answer (Refused why) e (λ wrong. absurd (cc wrong))
 
-pub does_told : (s : State) (event : Event) (answer : Answer) (s' : State) → Does s event answer s' → answer ≢ NoMemory
+pub does_told : (s : State) (event : Event) (answer : CtlAnswer) (s' : State) → Does s event answer s' → answer ≢ NoMemory
 does_told s (Grant lib ino kind) answer s' does = told answer _ does.0 (grant_told s lib ino kind (grant_fault s lib ino kind) (row_at s.home ino))
 does_told s (Allot lib pages numbers) answer s' does = told answer _ does.0 (allot_told s lib pages numbers)
 does_told s (Back lib ino) answer s' does = told answer Done does.0 (λ wrong. absurd (cc wrong))

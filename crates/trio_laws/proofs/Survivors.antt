@@ -20,20 +20,19 @@ use Rattle.trio_layout.specs.Survey.{Met, Pick, plain, FileRead, file_of, survey
 use Rattle.trio_layout.specs.Accept.{is_accepted}
 use Rattle.trio_layout.specs.Allowed.{same_row, keeps_rows, lists_own, has_owner, has_kind, may_stand, is_allowed}
 use Rattle.trio_state.specs.Bundles.{is_in_bundle}
-use Rattle.trio_nodes.specs.GrantKinds.{is_hold}
+use Rattle.trio_nodes.specs.GrantKinds.{is_hold, is_write}
 use Rattle.trio_state.specs.Given.{GivenTo}
 use Rattle.trio_layout.specs.Image.{IsFit, Image, settled_body, row_at}
 use Rattle.trio_state.specs.Kept.{Kept}
 use Rattle.trio_layout.specs.Proposed.{Written, Bundle, bundle_pages, is_written, proposed, proposed_pick}
 use Rattle.trio_page.specs.Sheets.{sheet_numbers}
 use Rattle.trio_state.specs.State.{OpenGrant, State, settled}
-use Rattle.trio_nodes.specs.GrantKinds.{is_write}
 use Rattle.trio_surveys.proofs.Accepted.{fit_proposed}
 use Rattle.trio_laws.proofs.Bundles.{Unwritten, finds_unwritten, written_lent, bundle_page, kept_chain, body_picked}
 use Rattle.trio_surveys.proofs.Alike.{up_to_at, same_kind_is, same_row_is}
 use Rattle.trio_surveys.proofs.Images.{some_of, met_row, read_met, met_numbered, one_met, free_unlisted, settled_body_met}
-use Rattle.trio_lists.proofs.Filters.{finds}
-use Rattle.trio_lists.proofs.Members.{all_at, In-among, among_from}
+use Rattle.trio_lists.proofs.Filters.{In-find}
+use Rattle.trio_lists.proofs.Members.{list_all-In, is_among-In, In-is_among}
 use Rattle.trio_surveys.proofs.Owned.{pages_are}
 use Rattle.trio_laws.proofs.StateFacts.{write_alone, tables, live_met, lent_met}
 
@@ -94,7 +93,7 @@ module _ (s : State) (k : Kept s) (lib : ℕ) (creds : Creds) (b : Bundle) (give
       let same : x.grant ≡ g = write_alone s.open_grants x.grant g k.apart x.is_open i x.kind (x.ino ∙ e) in
       let a : eqb g.lib lib ≡ true = eq-eqb g.lib lib (ap (λ (y : OpenGrant). y.lib) (sym same) ∙ x.lib) in
       let kind : is_write g.kind ≡ true = ap is_write (ap (λ (y : OpenGrant). y.kind) (sym same) ∙ x.kind) in
-      let f = finds (λ (w : Written). eqb w.ino g.ino) b.writes w j (eq-eqb w.ino g.ino e) in
+      let f = In-find (λ (w : Written). eqb w.ino g.ino) b.writes w j (eq-eqb w.ino g.ino e) in
       let some' : is_some (find (λ (w : Written). eqb w.ino g.ino) b.writes) ≡ true = ap is_some f.1 in
       both_ways (is_in_bundle lib b g) out
       (and_from (eqb g.lib lib) ((is_write g.kind && is_written b g.ino) || (is_hold g.kind && is_among g.ino b.holds)) a
@@ -117,7 +116,7 @@ module _ (s : State) (k : Kept s) (lib : ℕ) (creds : Creds) (b : Bundle) (give
         | inl e ↦
             elim (or_cases (not (is_some (row_at image n))) (is_among n b.holds) e) [
               | inl dead ↦ absurd (both_ways (is_some (row_at image n)) (not-true (is_some (row_at image n)) dead) (ap is_some row))
-              | inr held ↦ absurd (unheld (In-among n b.holds held))
+              | inr held ↦ absurd (unheld (is_among-In n b.holds held))
             ]
       ] in
       same_row_is r (row_of core (survey core pick) n) (sym (ap (λ o. same_row o (row_of core (survey core pick) n)) row) ∙ same)
@@ -147,12 +146,12 @@ module _ (s : State) (k : Kept s) (lib : ℕ) (creds : Creds) (b : Bundle) (give
       let w : Bool = is_some (find (λ (w : Written). eqb w.ino m.ino) b.writes) in
       let x : Bool = has_kind m.kind (row_at image m.ino) && bytes_eq m.body (settled_body image m.ino) in
       let z : Bool = is_among m.ino b.numbers && has_owner creds (row_of core (survey core pick) m.ino) && lists_own b core m in
-      let e = all_at (may_stand image creds b core (survey core pick)) m (survey core pick) allowed.1 i in
+      let e = list_all-In (may_stand image creds b core (survey core pick)) m (survey core pick) allowed.1 i in
       elim (stand_cases h l w x (lists_own b core m) z e) [
         | inl held ↦
             let p = and_parts (has_kind m.kind (row_at image m.ino)) (bytes_eq m.body (settled_body image m.ino)) held.1 in
             let r = has_kind_is m.kind (row_at image m.ino) p.0 in
-            inl (r.0, r.1, r.2, (bytes_eq-Decides m.body (settled_body image m.ino)).0 p.1, held_unwritten m.ino (In-among m.ino b.holds held.0))
+            inl (r.0, r.1, r.2, (bytes_eq-Decides m.body (settled_body image m.ino)).0 p.1, held_unwritten m.ino (is_among-In m.ino b.holds held.0))
         | inr rest ↦
             elim rest [
               | inl written ↦ inr written.3
@@ -161,7 +160,7 @@ module _ (s : State) (k : Kept s) (lib : ℕ) (creds : Creds) (b : Bundle) (give
                     | inl live ↦
                         let r = some_of (row_at image m.ino) live.1 in
                         let un = finds_unwritten b m.ino live.2 in
-                        let unheld : In m.ino b.holds → ⊥ = λ j. both_ways (is_among m.ino b.holds) live.0 (among_from m.ino b.holds j) in
+                        let unheld : In m.ino b.holds → ⊥ = λ j. both_ways (is_among m.ino b.holds) live.0 (In-is_among m.ino b.holds j) in
                         let st = stays m.ino r.0 r.1 unheld un in
                         let same : st.met ≡ m = one_met core pick fit_now sound_now st.met m st.stands i st.number in
                         let kind : m.kind ≡ r.0.kind = ap (λ (y : Met). y.kind) (sym same) ∙ ap (λ (y : Row). y.kind) (sym st.row) in
@@ -186,7 +185,7 @@ module _ (s : State) (k : Kept s) (lib : ℕ) (creds : Creds) (b : Bundle) (give
             subst (λ l. In p l) (pages_are core m f.0 f.1 ∙ ap (λ (c : Chain). c.index ++ c.blocks) chain ∙ sym (pages_are (settled s).core m0.met m0.file m0.read)) a in
             free_unlisted (settled s).core plain k.fit k.verifies.sound (settled s) (tables s k) p zero' m0.met m0.stands b'
         | inr own ↦
-            let j = In-among p (bundle_pages b) (all_at (λ page. is_among page (bundle_pages b)) p (pages_of core m) own a) in
+            let j = is_among-In p (bundle_pages b) (list_all-In (λ page. is_among page (bundle_pages b)) p (pages_of core m) own a) in
             elim (bundle_page s k lib b given p j) [
               | inl handed ↦ none handed
               | inr w ↦
@@ -211,7 +210,7 @@ module _ (s : State) (k : Kept s) (lib : ℕ) (creds : Creds) (b : Bundle) (give
           let w : Bool = is_some (find (λ (w : Written). eqb w.ino m.ino) b.writes) in
           let x : Bool = has_kind m.kind (row_at image m.ino) && bytes_eq m.body (settled_body image m.ino) in
           let z : Bool = is_among m.ino b.numbers && has_owner creds (row_of core (survey core pick) m.ino) && lists_own b core m in
-          let t = all_at (may_stand image creds b core (survey core pick)) m (survey core pick) allowed.1 q.stands in
+          let t = list_all-In (may_stand image creds b core (survey core pick)) m (survey core pick) allowed.1 q.stands in
           let not_live : l ≡ true → ⊥ = λ y. false≢true (sym (ap is_some dead') ∙ y) in
           elim (stand_cases h l w x (lists_own b core m) z t) [
             | inl held ↦
@@ -227,7 +226,7 @@ module _ (s : State) (k : Kept s) (lib : ℕ) (creds : Creds) (b : Bundle) (give
                         | inr new ↦
                             let p = and_parts (is_among m.ino b.numbers && has_owner creds (row_of core (survey core pick) m.ino)) (lists_own b core m) new.2 in
                             let p' = and_parts (is_among m.ino b.numbers) (has_owner creds (row_of core (survey core pick) m.ino)) p.0 in
-                            absurd (none (subst (λ y. In y b.numbers) q.number (In-among m.ino b.numbers p'.0)))
+                            absurd (none (subst (λ y. In y b.numbers) q.number (is_among-In m.ino b.numbers p'.0)))
                       ]
                 ]
           ]
@@ -240,8 +239,8 @@ module _ (s : State) (k : Kept s) (lib : ℕ) (creds : Creds) (b : Bundle) (give
       let rest : Bool =
       cond (is_some (row_at image ino)) (cond (is_written b ino) (lists_own b core m) true)
       (is_among ino b.numbers && has_owner creds (row_of core (survey core pick) ino) && lists_own b core m) in
-      let h : is_among ino b.holds ≡ true = among_from ino b.holds (subst (λ j. In j b.holds) (sym num) held) in
-      let t = all_at (may_stand image creds b core (survey core pick)) m (survey core pick) allowed.1 i in
+      let h : is_among ino b.holds ≡ true = In-is_among ino b.holds (subst (λ j. In j b.holds) (sym num) held) in
+      let t = list_all-In (may_stand image creds b core (survey core pick)) m (survey core pick) allowed.1 i in
       let p = and_parts (has_kind m.kind (row_at image ino)) (bytes_eq m.body (settled_body image ino)) (sym (ap (λ x. cond x asked rest) h) ∙ t) in
       let x = has_kind_is m.kind (row_at image ino) p.0 in
       let rows : Some x.0 ≡ Some r = sym x.1 ∙ ap (row_at image) num ∙ row in

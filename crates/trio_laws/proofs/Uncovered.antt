@@ -15,7 +15,7 @@ use Rattle.trio_layout.specs.Proposed.{Written, Bundle}
 use Rattle.trio_page.specs.Sheets.{Sheet}
 use Rattle.trio_state.specs.State.{State, settled}
 use Rattle.trio_surveys.proofs.Images.{row_at_is, row_met}
-use Rattle.trio_lists.proofs.Members.{In-cases, In-flat, flat_from, flat_same}
+use Rattle.trio_lists.proofs.Members.{In-cases, In-flat, flat_map-In, flat_map-same}
 use Rattle.trio_laws.proofs.StateFacts.{tables}
 
 uncovered_is : (kind : Kind) (blocks : List Sheet) (x : Sheet) → In x (uncovered_of kind blocks) → (kind ≡ Regular) × In x blocks
@@ -42,7 +42,7 @@ module _ (s : State) (k : Kept s) (lib : ℕ) (b : Bundle) (given : GivenTo s li
   -- so what is uncovered goes by the kinds of the leases
   pub uncovered-lent : uncovered (settled s) b ≡ flat_map (λ (w : Written). uncovered_of w.kind w.blocks) b.writes
   uncovered-lent =
-      flat_same (λ (w : Written). uncovered_by (row_at (settled s) w.ino) w.blocks) (λ (w : Written). uncovered_of w.kind w.blocks) b.writes
+      flat_map-same (λ (w : Written). uncovered_by (row_at (settled s) w.ino) w.blocks) (λ (w : Written). uncovered_of w.kind w.blocks) b.writes
       (λ w i.
       let r = written_row w i in
       ap (λ o. uncovered_by o w.blocks) r.1 ∙ ap (λ kind. uncovered_of kind w.blocks) r.2)
@@ -52,7 +52,7 @@ module _ (s : State) (k : Kept s) (lib : ℕ) (b : Bundle) (given : GivenTo s li
   uncovered_from x i =
       elim (In-cases x (uncovered (settled s) b) b.pages i) [
         | inl a ↦
-            let r = flat_from (λ (w : Written). uncovered_of w.kind w.blocks) x b.writes (subst (λ l. In x l) uncovered-lent a) in
+            let r = flat_map-In (λ (w : Written). uncovered_of w.kind w.blocks) x b.writes (subst (λ l. In x l) uncovered-lent a) in
             let u = uncovered_is r.0.kind r.0.blocks x r.2 in inr (r.0, r.1, u.0, u.1)
         | inr a ↦ inl a
       ]

@@ -15,7 +15,7 @@ use Rattle.trio_layout.specs.Proposed.{Bundle}
 use Rattle.trio_layout.specs.Accept.{is_accepted, next}
 use Rattle.trio_state.specs.Bundles.{parted_hold, uncovered, refused_image, Ends}
 use Rattle.trio_state.specs.Tells.{Why, Tells}
-use Rattle.trio_state.specs.Step.{Answer, Accepted, Refused, NotClosed, NoMemory, Release, Step, ReleaseEnd, Parted, IsAccepted, IsRefused}
+use Rattle.trio_state.specs.Step.{CtlAnswer, Accepted, Refused, NotClosed, NoMemory, Release, Step, ReleaseEnd, Parted, IsAccepted, IsRefused}
 use Rattle.trio_state.specs.Kept.{Kept}
 use Rattle.trio_state.specs.Given.{GivenTo}
 use Rattle.trio_surveys.specs.Reading.{pages_read}
@@ -75,20 +75,20 @@ is_refused_then s s' lib b why none f tells settles = record {
   tells = λ other e. (let same : why ≡ other = cc e in subst (Tells s lib b) same tells);
 }
 
-same_verdict : (s s' : State) (lib : ℕ) (b : Bundle) (answer given : Answer) → answer ≡ given → s' ≡ s → IsVerdict s lib b given s → IsVerdict s lib b answer s'
+same_verdict : (s s' : State) (lib : ℕ) (b : Bundle) (answer given : CtlAnswer) → answer ≡ given → s' ≡ s → IsVerdict s lib b given s → IsVerdict s lib b answer s'
 same_verdict s s' lib b answer given e same v =
-    let V : Answer → Type 0 = λ a. IsVerdict s lib b a s in
+    let V : CtlAnswer → Type 0 = λ a. IsVerdict s lib b a s in
     let W : State → Type 0 = λ t. IsVerdict s lib b answer t in subst W (sym same) (subst V (sym e) v)
 
 -- each release is judged, handed back or answered for want of memory
-pub release_verdict : (s s' : State) (lib : ℕ) (b : Bundle) (answer : Answer) → Step s (Release lib b) answer s' → IsVerdict s lib b answer s'
+pub release_verdict : (s s' : State) (lib : ℕ) (b : Bundle) (answer : CtlAnswer) → Step s (Release lib b) answer s' → IsVerdict s lib b answer s'
 release_verdict s s' lib b answer (inr none) = same_verdict s s' lib b answer NoMemory none.1 none.2 (without_memory s lib b)
 release_verdict s s' lib b answer (inl does) = by_end does
   where
     by_end : ReleaseEnd s lib b answer s' → IsVerdict s lib b answer s'
     by_end (Parted n some e same) = same_verdict s s' lib b answer (NotClosed n) e same (parted_back s lib b n some)
-    by_end (IsAccepted none t e ends) = (let V : Answer → Type 0 = λ a. IsVerdict s lib b a s' in subst V (sym e) (is_accepted_then s s' lib b none t ends.settles))
-    by_end (IsRefused none f why e tells ends) = (let V : Answer → Type 0 = λ a. IsVerdict s lib b a s' in subst V (sym e) (is_refused_then s s' lib b why none f tells ends.settles))
+    by_end (IsAccepted none t e ends) = (let V : CtlAnswer → Type 0 = λ a. IsVerdict s lib b a s' in subst V (sym e) (is_accepted_then s s' lib b none t ends.settles))
+    by_end (IsRefused none f why e tells ends) = (let V : CtlAnswer → Type 0 = λ a. IsVerdict s lib b a s' in subst V (sym e) (is_refused_then s s' lib b why none f tells ends.settles))
 
 -- a page that a checkpoint covers is one that is read of its file
 covered_read : (kind : Kind) (index blocks : List Sheet) (f : FileRead) (p : ℕ) → sheet_numbers index ≡ f.chain.index → sheet_numbers blocks ≡ f.chain.blocks → In p (sheet_numbers (covered Write kind index blocks)) → In p (pages_read kind f)

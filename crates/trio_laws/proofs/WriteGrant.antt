@@ -14,8 +14,7 @@ use Rattle.trio_nodes.specs.declared.grant.GrantKind.TheVariants.{Write, Hold}
 use Rattle.trio_layout.specs.Body.{body_of}
 use Rattle.trio_layout.specs.Chain.{chain_of}
 use Rattle.trio_layout.specs.Core.{Core, nowhere, page_of}
-use Rattle.trio_lists.specs.Lists.{there_or}
-use Rattle.trio_lists.specs.Lists.{result_then, is_among, are_new, In}
+use Rattle.trio_lists.specs.Lists.{there_or, result_then, is_among, are_new, In}
 use Rattle.trio_layout.specs.Sound.{listed_pages}
 use Rattle.trio_layout.specs.Survey.{Met, plain, FileRead, file_of, survey, pages_of, row_by}
 use Rattle.trio_state.specs.Grants.{has_parent_grant, opened, lent_pages, opens}
@@ -28,12 +27,12 @@ use Rattle.trio_nodes.specs.GrantKinds.{is_write}
 use Rattle.trio_laws.proofs.Agreeing.{image_with, verifies_still, met_still, lent_still, body_still}
 use Rattle.trio_surveys.proofs.Images.{some_of, settled_body_met, row_at_is, row_met}
 use Rattle.trio_surveys.proofs.Local.{reads_from, file_agrees}
-use Rattle.trio_lists.proofs.Members.{In-left, In-right, In-cases, map_from, among_from}
+use Rattle.trio_lists.proofs.Members.{In-left, In-right, In-cases, map-In, In-is_among}
 use Rattle.trio_surveys.proofs.Owned.{sound_parts, page_owner, pages_are, index_apart}
 use Rattle.trio_surveys.proofs.SheetLaws.{length-with_pages}
 use Rattle.trio_surveys.proofs.Sheets.{Pages, with_pages-append, with_pages_cong, with_pages_known, with_pages_apart, without_apart, without_there, without_absent, length-without, page_same, page_there, among_cases, place_there, place_within, sheets_in, sheets_all}
 use Rattle.trio_laws.proofs.StateFacts.{tables, pages_there, lent_file, checkpoint_lent}
-use Rattle.trio_lists.proofs.Filters.{any_from, In_get}
+use Rattle.trio_lists.proofs.Filters.{In-list_any, get_or-In}
 use Rattle.trio_surveys.specs.Reading.{with_other, AgreeOn, pages_read}
 
 -- a page that is read is an index page or a block of a directory
@@ -128,7 +127,7 @@ module _ (s : State) (k : Kept s) (lib : ℕ) (m : Met) (f : FileRead) (i : In m
   pages_now p =
       elim (among_cases p (sheet_numbers g.checkpoint)) [
         | inl covered' ↦
-            let x = map_from (λ (x : Sheet). x.page) p g.checkpoint covered' in
+            let x = map-In (λ (x : Sheet). x.page) p g.checkpoint covered' in
             let same : (y : Sheet) → In y g.checkpoint → y.page ≡ p → y.bytes ≡ x.0.bytes =
             λ y j on.
             let a : Some y.bytes ≡ Some x.0.bytes = sym (sheet_bytes y (covers m.kind g.index g.blocks y j)) ∙ ap (page_of core) (on ∙ x.2) ∙ sheet_bytes x.0 (covers m.kind g.index g.blocks x.0 x.1) in
@@ -229,7 +228,7 @@ module _ (s : State) (k : Kept s) (lib : ℕ) (m : Met) (f : FileRead) (i : In m
       | inl old ↦ k.live h old
       | inr new ↦ ap (λ (x : OpenGrant). is_some (row_at s.home x.ino)) new ∙ ap is_some row_is
     ];
-    apart = all_pairs_push MayBothStand s.open_grants g k.apart (λ n d l same. absurd (free (get_or s.open_grants n d) (In_get s.open_grants n d l) same));
+    apart = all_pairs_push MayBothStand s.open_grants g k.apart (λ n d l same. absurd (free (get_or s.open_grants n d) (get_or-In s.open_grants n d l) same));
     held = λ h j w. elim (old_or_new h j) [
       | inl old ↦ held_more h old w
       | inr new ↦ let wrong : Write ≡ Hold = sym (ap (λ (x : OpenGrant). x.kind) new) ∙ w in absurd (cc wrong)
@@ -247,7 +246,7 @@ module _ (s : State) (k : Kept s) (lib : ℕ) (m : Met) (f : FileRead) (i : In m
     ];
     absent = λ p gone c. elim (without_absent (lent_pages g) s.home.core.pages p gone) [
       | inl lent ↦
-          inl (any_from (λ (x : OpenGrant). is_write x.kind && is_among p (sheet_numbers (x.index ++ x.blocks))) g (s.open_grants ++ g ∷ []) (In-right g s.open_grants (g ∷ []) (inl refl)) (among_from p (sheet_numbers (g.index ++ g.blocks)) lent))
+          inl (In-list_any (λ (x : OpenGrant). is_write x.kind && is_among p (sheet_numbers (x.index ++ x.blocks))) g (s.open_grants ++ g ∷ []) (In-right g s.open_grants (g ∷ []) (inl refl)) (In-is_among p (sheet_numbers (g.index ++ g.blocks)) lent))
       | inr old ↦
           elim (k.absent p old c) [
             | inl lent ↦ inl (any_more (λ (x : OpenGrant). is_write x.kind && is_among p (sheet_numbers (x.index ++ x.blocks))) lent)

@@ -9,8 +9,8 @@ use Rattle.trio_layout.specs.Image.{Image, row_at, body_at_place, settled_body}
 use Rattle.trio_state.specs.State.{State, settled}
 use Rattle.trio_layout.specs.Proposed.{Bundle, kept_body, proposed}
 use Rattle.trio_layout.specs.Accept.{is_accepted, next}
-use Rattle.trio_layout.specs.Mode.{with_mode}
-use Rattle.trio_state.specs.Step.{Event, Release, Settle, SetMode, Answer, Accepted, Settled, ModeSet, Step}
+use Rattle.trio_layout.specs.Mode.{body_with_mode}
+use Rattle.trio_state.specs.Step.{Event, Release, Settle, SetMode, CtlAnswer, Accepted, Settled, ModeSet, Step}
 use Rattle.trio_state.specs.Kept.{Kept}
 use Rattle.trio_state.specs.Given.{GivenTo, GivenEvent}
 use Rattle.trio_laws.specs.Laws.{entry_only, plain_pages}
@@ -52,16 +52,16 @@ accepted_body image b n (Some r) q = kept_body image b n
 accepted_body image b n None q = body_at_place (proposed image b) q.page q.slot
 
 -- the body that is settled of a file, which has this row then, after an event with its answer
-abbrev pub body_after : State → Event → Answer → ℕ → Row → List ℕ
+abbrev pub body_after : State → Event → CtlAnswer → ℕ → Row → List ℕ
 body_after s (Release lib b) Accepted n q = accepted_body (settled s) b n (row_at (settled s) n) q
 body_after s (Settle lib b) Settled n q = accepted_body (settled s) b n (row_at (settled s) n) q
 body_after s (SetMode lib ino mode) ModeSet n q =
-    if n == ino then with_mode mode (settled_body (settled s) n) else settled_body (settled s) n
+    if n == ino then body_with_mode mode (settled_body (settled s) n) else settled_body (settled s) n
 body_after s event answer n q = settled_body (settled s) n
 
 -- The settled body of a live file is the one last accepted for it, with later changes of mode.
 abbrev pub SettledBodyGoes : Type 0
 SettledBodyGoes =
-    (s : State) (event : Event) (answer : Answer) (s' : State) (n : ℕ) (q : Row)
+    (s : State) (event : Event) (answer : CtlAnswer) (s' : State) (n : ℕ) (q : Row)
     → Kept s → GivenEvent s event → Step s event answer s'
     → row_at (settled s') n ≡ Some q → settled_body (settled s') n ≡ body_after s event answer n q

@@ -5,7 +5,7 @@ use Rattle.trio_rights.specs.declared.rights.Creds.{Creds}
 use Rattle.trio_lists.specs.Lists.{In}
 use Rattle.trio_layout.specs.Image.{Image}
 use Rattle.trio_state.specs.State.{OpenGrant, State}
-use Rattle.trio_state.specs.Step.{Event, Answer, Step}
+use Rattle.trio_state.specs.Step.{Event, CtlAnswer, Step}
 use Rattle.trio_state.specs.Run.{Move, start}
 use Rattle.trio_laws.specs.Laws.{AnyRun}
 
@@ -25,7 +25,7 @@ OrderBegins = (image : Image) (creds : List Creds) → IsOrdered (start image cr
 -- a step from an ordered state ends in an ordered one
 abbrev pub OrderStays : Type 0
 OrderStays =
-    (s : State) (event : Event) (answer : Answer) (s' : State)
+    (s : State) (event : Event) (answer : CtlAnswer) (s' : State)
     → IsOrdered s → Step s event answer s' → IsOrdered s'
 
 -- so each move of a run begins and ends in an ordered state

@@ -12,7 +12,7 @@ use Rattle.trio_layout.specs.Accept.{is_accepted, next}
 use Rattle.trio_state.specs.Grants.{grant_fault, opened, given_back}
 use Rattle.trio_state.specs.Allotments.{free_pages, free_numbers, out_after}
 use Rattle.trio_state.specs.Bundles.{parted_hold, refused_image, grants_after}
-use Rattle.trio_state.specs.Step.{Event, Grant, Allot, Back, Release, Settle, SetMode, Answer, Refused, NoMemory, Step, grant_outcome, allot_outcome, mode_outcome}
+use Rattle.trio_state.specs.Step.{Event, Grant, Allot, Back, Release, Settle, SetMode, CtlAnswer, Refused, NoMemory, Step, grant_outcome, allot_outcome, mode_outcome}
 use Rattle.trio_state.specs.Kept.{Kept}
 use Rattle.trio_laws.specs.OutLaws.{without_checkpoint}
 
@@ -77,18 +77,18 @@ known_done k (Release lib b) = released k lib b (parted_hold (plain_state k) lib
 known_done k (Settle lib b) = ended k lib b (next k.image b)
 known_done k (SetMode lib ino mode) = known (mode_outcome (plain_state k) lib ino mode).after
 
-abbrev pub is_no_memory : Answer → Bool
+abbrev pub is_no_memory : CtlAnswer → Bool
 is_no_memory NoMemory = true
 is_no_memory _ = false
 
 -- what is known after an event with its answer
-abbrev pub known_after : Known → Event → Answer → Known
+abbrev pub known_after : Known → Event → CtlAnswer → Known
 known_after k event answer = if is_no_memory answer then k else known_done k event
 
 -- what is known before a step, the event and its answer determine what is known after it
 abbrev pub StepsAreKnown : Type 0
 StepsAreKnown =
-    (s : State) (event : Event) (answer : Answer) (s' : State)
+    (s : State) (event : Event) (answer : CtlAnswer) (s' : State)
     → Kept s → Step s event answer s' → known s' ≡ known_after (known s) event answer
 
 -- what is asked of a state in a step goes by what is known of it
@@ -107,18 +107,18 @@ abbrev pub KnownDecides : Type 0
 KnownDecides = (s : State) → GoesByKnown s
 
 -- a bundle was refused
-abbrev pub is_refusal : Answer → Bool
+abbrev pub is_refusal : CtlAnswer → Bool
 is_refusal (Refused why) = true
 is_refusal _ = false
 
 -- one answer, but for what a refusal tells
-abbrev pub SameAnswer : Answer → Answer → Type 0
+abbrev pub SameAnswer : CtlAnswer → CtlAnswer → Type 0
 SameAnswer a b = (a ≡ b) ⊎ (IsTrue (is_refusal a) × IsTrue (is_refusal b))
 
 -- From two states of which the same is known, an event has the same answer, where memory is there, and the same is
 -- known then.
 abbrev pub SameEventSameAnswer : Type 0
 SameEventSameAnswer =
-    (s t : State) (event : Event) (a b : Answer) (s' t' : State)
+    (s t : State) (event : Event) (a b : CtlAnswer) (s' t' : State)
     → Kept s → Kept t → known s ≡ known t → Step s event a s' → Step t event b t'
     → a ≢ NoMemory → b ≢ NoMemory → SameAnswer a b × (known s' ≡ known t')

@@ -21,7 +21,7 @@ use Rattle.trio_layout.specs.Proposed.{Written, Bundle, is_written}
 use Rattle.trio_layout.specs.Accept.{is_accepted, next}
 use Rattle.trio_state.specs.Bundles.{parted_hold, uncovered, refused_image, has_all}
 use Rattle.trio_state.specs.Tells.{Why, Tells}
-use Rattle.trio_state.specs.Step.{Event, Grant, Allot, Back, Release, Settle, SetMode, Answer, Accepted, Refused, NotClosed, NoMemory, Does, Step, Granted, ModeSet}
+use Rattle.trio_state.specs.Step.{Event, Grant, Allot, Back, Release, Settle, SetMode, CtlAnswer, Accepted, Refused, NotClosed, NoMemory, Does, Step, Granted, ModeSet}
 use Rattle.trio_state.specs.Kept.{Kept}
 use Rattle.trio_state.specs.Given.{HasGrant, GivenTo, GivenEvent}
 use Rattle.trio_state.specs.Run.{start, IsWhole, Move, Trace}
@@ -59,17 +59,17 @@ EveryMoveIsAStep = (run : AnyRun) (m : Move) → In m run.moves → IsMove m
 -- ---- releases
 
 -- the answer is a verdict: neither want of memory, nor that the bundle is not closed
-abbrev pub IsJudged : Answer → Type 0
+abbrev pub IsJudged : CtlAnswer → Type 0
 IsJudged answer = (answer ≢ NoMemory) × ((n : ℕ) → answer ≢ NotClosed n)
 
 -- the answer is a refusal, for some cause
-abbrev pub IsRefusal : Answer → Type 0
+abbrev pub IsRefusal : CtlAnswer → Type 0
 IsRefusal answer = (why : Why) × (answer ≡ Refused why)
 
 -- How a release ends. A bundle that is not closed comes back with nothing changed, and any bundle may for want of memory. One
 -- that is judged is closed; it is accepted exactly where it is acceptable in the image that is settled then, and refused exactly
 -- where it is not, and then the next image is settled, or the one of a refusal, which tells a cause that it may tell.
-pub record IsVerdict (s : State) (lib : ℕ) (b : Bundle) (answer : Answer) (s' : State) : Type 0 where
+pub record IsVerdict (s : State) (lib : ℕ) (b : Bundle) (answer : CtlAnswer) (s' : State) : Type 0 where
   pub parted : (n : ℕ) → answer ≡ NotClosed n → (parted_hold s lib b ≡ Some n) × (s' ≡ s)
   pub no_memory : answer ≡ NoMemory → s' ≡ s
   pub closed : IsJudged answer → parted_hold s lib b ≡ None
@@ -118,7 +118,7 @@ MayEnd s _ = Unit {0}
 abbrev pub NeverStuck : Type 0
 NeverStuck =
     (s : State) (event : Event)
-    → Kept s → GivenEvent s event → MayEnd s event → (answer : Answer) × (s' : State) × (answer ≢ NoMemory) × Does s event answer s'
+    → Kept s → GivenEvent s event → MayEnd s event → (answer : CtlAnswer) × (s' : State) × (answer ≢ NoMemory) × Does s event answer s'
 
 -- ---- the files of others
 
@@ -173,7 +173,7 @@ abbrev pub HasNone : State → ℕ → ℕ → Type 0
 HasNone s lib n = (HasGrant s lib n Write → ⊥) × (HasGrant s lib n Hold → ⊥)
 
 -- the event gets no write grant on the file by this answer, and doesn't change its mode
-abbrev pub IsElsewhere : ℕ → Event → Answer → Type 0
+abbrev pub IsElsewhere : ℕ → Event → CtlAnswer → Type 0
 IsElsewhere n (Grant lib ino kind) answer = kind ≡ Write → (children : ℕ) → answer ≡ Granted children → ino ≢ n
 IsElsewhere n (SetMode lib ino mode) answer = answer ≡ ModeSet → ino ≢ n
 IsElsewhere n _ answer = Unit {0}
@@ -182,7 +182,7 @@ IsElsewhere n _ answer = Unit {0}
 -- elsewhere. (A write grant on a regular file itself takes its blocks out of the settled image until they come back.)
 abbrev pub EveryStepIsIsolated : Type 0
 EveryStepIsIsolated =
-    (s : State) (event : Event) (answer : Answer) (s' : State) (n : ℕ) (r : Row)
+    (s : State) (event : Event) (answer : CtlAnswer) (s' : State) (n : ℕ) (r : Row)
     → Kept s → GivenEvent s event → Step s event answer s'
     → row_at (settled s) n ≡ Some r → HasNone s (library_of event) n → IsElsewhere n event answer
     → IsUntouched (settled s) (settled s') n
@@ -207,20 +207,20 @@ RowGoes s event n r after =
 -- each step leaves the rows of live numbers so
 abbrev pub EveryStepKeepsRows : Type 0
 EveryStepKeepsRows =
-    (s : State) (event : Event) (answer : Answer) (s' : State) (n : ℕ) (r : Row)
+    (s : State) (event : Event) (answer : CtlAnswer) (s' : State) (n : ℕ) (r : Row)
     → Kept s → GivenEvent s event → Step s event answer s'
     → row_at (settled s) n ≡ Some r → RowGoes s event n r (row_at (settled s') n)
 
 -- what an event hands in stays given through every step of another library
 abbrev pub GivenThrough : Type 0
 GivenThrough =
-    (s : State) (mine event : Event) (answer : Answer) (s' : State)
+    (s : State) (mine event : Event) (answer : CtlAnswer) (s' : State)
     → Kept s → GivenEvent s mine → GivenEvent s event → Step s event answer s' → library_of event ≢ library_of mine
     → GivenEvent s' mine
 
 -- and a bundle that is closed stays closed
 abbrev pub ClosedThrough : Type 0
 ClosedThrough =
-    (s : State) (lib : ℕ) (b : Bundle) (event : Event) (answer : Answer) (s' : State)
+    (s : State) (lib : ℕ) (b : Bundle) (event : Event) (answer : CtlAnswer) (s' : State)
     → Kept s → GivenEvent s event → Step s event answer s' → library_of event ≢ lib
     → parted_hold s lib b ≡ None → parted_hold s' lib b ≡ None

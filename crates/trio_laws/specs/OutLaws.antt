@@ -6,7 +6,7 @@ use Rattle.trio_tables.specs.Out.{lib_at}
 use Rattle.trio_tables.specs.Free.{numbers_where}
 use Rattle.trio_state.specs.State.{OpenGrant, State}
 use Rattle.trio_state.specs.Allotments.{is_library}
-use Rattle.trio_state.specs.Step.{Event, Answer, Step}
+use Rattle.trio_state.specs.Step.{Event, CtlAnswer, Step}
 use Rattle.trio_state.specs.Kept.{Kept}
 use Rattle.trio_state.specs.Given.{GivenEvent}
 use Rattle.trio_laws.specs.Laws.{library_of}
@@ -39,5 +39,5 @@ out_of s lib = record {
 -- a step of one library leaves what another has out
 abbrev pub OthersKeepOut : Type 0
 OthersKeepOut =
-    (s : State) (event : Event) (answer : Answer) (s' : State) (lib : ℕ)
+    (s : State) (event : Event) (answer : CtlAnswer) (s' : State) (lib : ℕ)
     → Kept s → GivenEvent s event → Step s event answer s' → library_of event ≢ lib → out_of s' lib ≡ out_of s lib

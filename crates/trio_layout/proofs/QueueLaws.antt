@@ -5,7 +5,7 @@ use Rattle.std.proofs.lemmas.List.{append-nil, map-append, length-drop, take-app
 use Rattle.std.proofs.lemmas.Bool.{cases_lt, and_from, cases_eq, or_left}
 use Rattle.trio_layout.specs.Survey.{Met, Front, descend, levels, first_listed, numbers}
 use Rattle.trio_lists.specs.Lists.{is_among, are_new}
-use Rattle.trio_lists.proofs.MarkLemmas.{are_new-append, is_among-append}
+use Rattle.trio_lists.proofs.Marked.{are_new-append, is_among-append}
 use Rattle.trio_layout.specs.Queue.{pass_on, pass, queue}
 use Rattle.std.proofs.lemmas.Bool.Decides.{nat_tests}
 

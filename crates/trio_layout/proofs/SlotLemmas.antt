@@ -6,12 +6,11 @@ use Rattle.std.specs.Int.{w16, w32, to_le_bytes}
 use Rattle.trio_page.specs.Field.{number_at, with_number, with_part, zeros}
 use Rattle.trio_page.proofs.Fields.{length-slice}
 use Rattle.trio_page.proofs.Cursor.{IsBytes, wide16, wide32, number_here, number_known, number_at-lt, follow, byte_known, part_here, Stands, byte_is, after_part, after_number, part_is, number_is, no_front, put_number, put_part, whole_front, length-zeros}
-use Rattle.trio_names.specs.Name.{IsName}
+use Rattle.trio_names.specs.Name.{IsName, is_name}
 use Rattle.trio_rights.specs.declared.kind.Kind.{Kind}
 use Rattle.trio_rights.specs.declared.kind.Kind.TheVariants.{Regular, Directory}
 use Rattle.trio_layout.specs.declared.slot.EntryPart.{EntryPart}
 use Rattle.trio_names.proofs.NameFacts.{name_facts}
-use Rattle.trio_names.specs.Name.{is_name}
 use Rattle.trio_rights.specs.Kind.{kind_byte, kind_from}
 use Rattle.std.specs.Str.{bytes_eq}
 use Rattle.std.proofs.lemmas.Bool.{false≢true, and_parts, and_from, leb-true, ltb-true, lt-ltb, le-leb, eqb-true, ne_eqb}

@@ -12,6 +12,7 @@ use Rattle.trio_layout.specs.Image.{Image, row_at, settled_body}
 use Rattle.trio_layout.specs.Proposed.{Bundle, bundle_pages, is_written}
 use Rattle.trio_rights.specs.Kind.{same_kind}
 
+-- two rows say the same, or both are none
 abbrev pub same_row : Option Row → Option Row → Bool
 same_row None None = true
 same_row None (Some r) = false
@@ -34,10 +35,12 @@ keeps_rows image b core files =
 abbrev pub lists_own : Bundle → Core → Met → Bool
 lists_own b core m = list_all (λ page. is_among page (bundle_pages b)) (pages_of core m)
 
+-- the row has the uid and gid of these credentials
 abbrev pub has_owner : Creds → Option Row → Bool
 has_owner creds None = false
 has_owner creds (Some r) = r.uid == creds.uid && r.gid == creds.gid
 
+-- the row is of this kind
 abbrev pub has_kind : Kind → Option Row → Bool
 has_kind kind None = false
 has_kind kind (Some r) = same_kind kind r.kind
@@ -51,6 +54,7 @@ may_stand image creds b core files m =
     then (if is_written b m.ino then lists_own b core m else true)
     else is_among m.ino b.numbers && has_owner creds (row_of core files m.ino) && lists_own b core m)
 
+-- the change is allowed: rows are kept, and each file met may stand
 abbrev pub is_allowed : Image → Creds → Bundle → Core → List Met → Bool
 is_allowed image creds b core files =
     keeps_rows image b core files && list_all (may_stand image creds b core files) files

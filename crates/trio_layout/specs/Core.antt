@@ -15,15 +15,15 @@ abbrev pub page_of : Core → ℕ → Option (List ℕ)
 page_of core page = if is_core core.range page then slice_index_or core.pages page None else None
 
 -- a page and a slot on it; 0 where there is none to name
-pub record Place : Type 0 where
+pub record Location : Type 0 where
   pub page : ℕ
   pub slot : ℕ
 
 -- no page and no slot
-abbrev pub nowhere : Place
+abbrev pub nowhere : Location
 nowhere = record { page = 0; slot = 0 }
 
 -- a page as a whole
-abbrev pub at_page : ℕ → Place
+abbrev pub at_page : ℕ → Location
 at_page page = record { page = page; slot = 0 }
 

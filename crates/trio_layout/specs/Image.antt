@@ -27,6 +27,7 @@ with_core_pages image pages = record {
 abbrev pub body_at_place : Core → ℕ → ℕ → List ℕ
 body_at_place core page slot = option_map_or (body_in_slot slot) (page_of core page) []
 
+-- the body at the place that a row names
 abbrev pub body_by_row : Core → Option Row → List ℕ
 body_by_row core None = []
 body_by_row core (Some r) = body_at_place core r.page r.slot

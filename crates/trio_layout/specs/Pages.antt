@@ -5,7 +5,7 @@ use Rattle.std.specs.Option.{option_map}
 use Rattle.trio_rights.specs.declared.kind.Kind.{Kind}
 use Rattle.trio_layout.specs.Body.{body_of}
 use Rattle.trio_lists.specs.Lists.{result_then, there_or}
-use Rattle.trio_layout.specs.Core.{Core, Place, nowhere, page_of}
+use Rattle.trio_layout.specs.Core.{Core, Location, nowhere, page_of}
 use Rattle.trio_layout.specs.Chain.{Chain, chain_of}
 use Rattle.trio_page.specs.Sheets.{Sheet}
 use Rattle.trio_layout.specs.Image.{Image, settled_body}
@@ -16,14 +16,16 @@ sheets_of core pages =
     filter_map (λ page. option_map (λ bytes. record { page = page; bytes = bytes }) (page_of core page)) pages
 
 -- the chain of a live file
-abbrev pub settled_chain : Image → Kind → ℕ → Result Chain Place
+abbrev pub settled_chain : Image → Kind → ℕ → Result Chain Location
 settled_chain image kind ino =
     result_then (chain_of image.core) (there_or nowhere (body_of kind image.core.range (settled_body image ino)))
 
-abbrev pub index_sheets : Core → Result Chain Place → List Sheet
+-- the index pages of a chain that could be read
+abbrev pub index_sheets : Core → Result Chain Location → List Sheet
 index_sheets core (Ok c) = sheets_of core c.index
 index_sheets core (Err place) = []
 
-abbrev pub block_sheets : Core → Result Chain Place → List Sheet
+-- the blocks of a chain that could be read
+abbrev pub block_sheets : Core → Result Chain Location → List Sheet
 block_sheets core (Ok c) = sheets_of core c.blocks
 block_sheets core (Err place) = []

@@ -28,6 +28,7 @@ pub record Bundle : Type 0 where
 abbrev pub bundle_sheets : Bundle → List Sheet
 bundle_sheets b = flat_map (λ w. w.index ++ w.blocks) b.writes ++ b.pages
 
+-- the numbers of all pages of the bundle
 abbrev pub bundle_pages : Bundle → List ℕ
 bundle_pages b = sheet_numbers (bundle_sheets b)
 

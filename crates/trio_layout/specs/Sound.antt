@@ -3,7 +3,7 @@ use Rattle.std.specs.Prelude.{ℕ, ◌≡◌, ◌+◌, nat_lt, Bool, ◌&&◌, �
 use Rattle.std.specs.List.{flat_map, list_all}
 use Rattle.trio_rights.specs.Row.{Row}
 use Rattle.trio_lists.specs.Lists.{In, is_among, are_new, tabulated}
-use Rattle.trio_layout.specs.Core.{Core, Place, at_page}
+use Rattle.trio_layout.specs.Core.{Core, Location, at_page}
 use Rattle.trio_layout.specs.Survey.{Met, Pick, file_of, survey, children, numbers, pages_of, row_of, owner_of}
 
 -- I1: each file met has its body, its chain and, of a directory, its slots in the grammar, and its names differ
@@ -31,20 +31,21 @@ are_listed_once core pick files =
 abbrev pub is_sound : Core → Pick → Bool
 is_sound core pick = let files = survey core pick in are_in_grammar core files && are_listed_once core pick files
 
+-- the survey is sound
 abbrev pub IsSound : Core → Pick → Type 0
 IsSound core pick = IsTrue (is_sound core pick)
 
 -- ---- at which file and place a rule fails
 
 -- the file can't be read whole, because of this place
-pub record LeavesGrammar (core : Core) (files : List Met) (ino : ℕ) (place : Place) : Type 0 where
+pub record LeavesGrammar (core : Core) (files : List Met) (ino : ℕ) (place : Location) : Type 0 where
   pub met : Met
   pub among : In met files
   pub number : met.ino ≡ ino
   pub fault : file_of core met ≡ Err place
 
 -- the directory lists a number at this place that is the root's, or that a directory lists before
-pub record ListsNumberAgain (core : Core) (pick : Pick) (files : List Met) (ino : ℕ) (place : Place) : Type 0 where
+pub record ListsNumberAgain (core : Core) (pick : Pick) (files : List Met) (ino : ℕ) (place : Location) : Type 0 where
   pub earlier : List Met
   pub again : Met
   pub later : List Met
@@ -64,7 +65,7 @@ abbrev pub page_listings : Core → List Met → List PageListing
 page_listings core files = flat_map (λ m. map (λ p. record { ino = m.ino; page = p }) (pages_of core m)) files
 
 -- the file lists a page that a file lists before, or it itself
-pub record ListsPageAgain (core : Core) (files : List Met) (ino : ℕ) (place : Place) : Type 0 where
+pub record ListsPageAgain (core : Core) (files : List Met) (ino : ℕ) (place : Location) : Type 0 where
   pub earlier : List PageListing
   pub later : List PageListing
   pub again : ℕ
@@ -73,7 +74,7 @@ pub record ListsPageAgain (core : Core) (files : List Met) (ino : ℕ) (place : 
   pub place_is : place ≡ at_page again
 
 -- the lowest rule that fails of a survey's files, with a file and a place at which it fails
-abbrev pub FailsAt : Core → Pick → ℕ → ℕ → Place → Type 0
+abbrev pub FailsAt : Core → Pick → ℕ → ℕ → Location → Type 0
 FailsAt core pick rule ino place =
     let files = survey core pick in
     ((rule ≡ 1) × LeavesGrammar core files ino place)

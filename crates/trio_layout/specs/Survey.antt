@@ -8,7 +8,7 @@ use Rattle.trio_rights.specs.Row.{Row}
 use Rattle.trio_layout.specs.declared.body.Body.{Body}
 use Rattle.trio_layout.specs.Body.{body_of}
 use Rattle.trio_lists.specs.Lists.{is_among, result_map, result_then, there_or}
-use Rattle.trio_layout.specs.Core.{Core, Place, nowhere}
+use Rattle.trio_layout.specs.Core.{Core, Location, nowhere}
 use Rattle.trio_layout.specs.Chain.{Chain, chain_of}
 use Rattle.trio_layout.specs.Entries.{Listed, entries_of_kind}
 
@@ -27,12 +27,13 @@ pub record FileRead : Type 0 where
   pub chain : Chain
   pub entries : List Listed
 
-abbrev pub file_with : Core → Kind → Body → Chain → Result FileRead Place
+-- a file of this body and chain, read with its entries
+abbrev pub file_with : Core → Kind → Body → Chain → Result FileRead Location
 file_with core kind b c = result_map (λ es. record { body = b; chain = c; entries = es }) (entries_of_kind core kind c.blocks)
 
 -- A file that is met, read whole. Else the place where it leaves the grammar or a page is absent: none for its body, the
 -- index page, the directory page or slot.
-unfoldable pub file_of : Core → Met → Result FileRead Place
+unfoldable pub file_of : Core → Met → Result FileRead Location
 file_of core m =
     result_then (λ b. result_then (file_with core m.kind b) (chain_of core b))
     (there_or nowhere (body_of m.kind core.range m.body))
@@ -45,6 +46,7 @@ Pick = ℕ → ℕ → ℕ → ℕ → List ℕ → List ℕ
 abbrev pub plain : Pick
 plain directory page slot ino bytes = bytes
 
+-- the file that an entry of a directory lists, with the body that is picked for it
 abbrev pub met_in : Pick → ℕ → Listed → Met
 met_in pick directory l = record {
   ino = l.entry.ino;
@@ -55,7 +57,8 @@ met_in pick directory l = record {
   body = pick directory l.page l.slot l.entry.ino l.body;
 }
 
-abbrev pub children_in : Pick → ℕ → Result FileRead Place → List Met
+-- the files that the entries of a directory list; none where it can't be read
+abbrev pub children_in : Pick → ℕ → Result FileRead Location → List Met
 children_in pick directory (Ok f) = map (met_in pick directory) f.entries
 children_in pick directory (Err place) = []
 
@@ -67,6 +70,7 @@ children core pick m = children_in pick m.ino (file_of core m)
 abbrev pub root_of : Core → Met
 root_of core = record { ino = 1; kind = Directory; parent = 0; page = 0; slot = 0; body = core.root }
 
+-- the inode numbers of files
 abbrev pub numbers : List Met → List ℕ
 numbers files = map (λ m. m.ino) files
 
@@ -109,7 +113,8 @@ row_by m b = record {
   slot = m.slot;
 }
 
-abbrev pub row_read : Met → Result FileRead Place → Option Row
+-- the row of a file met, where it can be read
+abbrev pub row_read : Met → Result FileRead Location → Option Row
 row_read m (Ok f) = Some (row_by m f.body)
 row_read m (Err place) = None
 
@@ -117,7 +122,8 @@ row_read m (Err place) = None
 abbrev pub row_of : Core → List Met → ℕ → Option Row
 row_of core files n = option_and_then (λ m. row_read m (file_of core m)) (find (λ m. m.ino == n) files)
 
-abbrev pub pages_in : Result FileRead Place → List ℕ
+-- the index pages and blocks of a file that was read
+abbrev pub pages_in : Result FileRead Location → List ℕ
 pages_in (Ok f) = f.chain.index ++ f.chain.blocks
 pages_in (Err place) = []
 

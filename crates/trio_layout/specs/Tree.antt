@@ -8,7 +8,7 @@ use Rattle.std.specs.declared.cmp.Ordering.TheVariants.{Less, Equal, Greater}
 use Rattle.trio_rights.specs.declared.kind.Kind.{Kind}
 use Rattle.trio_rights.specs.declared.kind.Kind.TheVariants.{Regular, Directory}
 use Rattle.trio_rights.specs.declared.rights.Mode.{Mode}
-use Rattle.trio_layout.specs.Core.{Core, Place}
+use Rattle.trio_layout.specs.Core.{Core, Location}
 use Rattle.trio_layout.specs.Entries.{Listed}
 use Rattle.trio_layout.specs.Survey.{Met, FileRead, file_of, met_in, plain, root_of}
 
@@ -38,10 +38,12 @@ abbrev pub by_name : List Listed → List Listed
 by_name [] = []
 by_name (l ∷ ls) = inserted l (by_name ls)
 
+-- the size that is told: bytes of a regular file, entries of a directory
 abbrev pub told_size : Kind → FileRead → ℕ
 told_size Regular f = f.body.size
 told_size Directory f = length f.entries
 
+-- the line that is told of a file
 abbrev pub told_line : ℕ → List ℕ → Kind → FileRead → TreeLine
 told_line depth name kind f = record {
   depth = depth;
@@ -54,7 +56,7 @@ told_line depth name kind f = record {
 }
 
 -- the line of a file, and what `below` gives of each entry, in the order of names
-abbrev pub lines_with : (Listed → List TreeLine) → ℕ → List ℕ → Kind → Result FileRead Place → List TreeLine
+abbrev pub lines_with : (Listed → List TreeLine) → ℕ → List ℕ → Kind → Result FileRead Location → List TreeLine
 lines_with below depth name kind (Err place) = []
 lines_with below depth name kind (Ok f) = told_line depth name kind f ∷ flat_map below (by_name f.entries)
 

@@ -7,7 +7,7 @@ use Rattle.trio_lease.specs.declared.parts.FreshParts.{FreshParts}
 use Rattle.trio_lease.specs.declared.parts.InoParts.{InoParts}
 
 -- how many of each kind have a place, those that are there counted in
-pub record Room : Type 0 where
+pub record Capacity : Type 0 where
   pub writes : ℕ
   pub holds : ℕ
   pub pages : ℕ
@@ -19,7 +19,7 @@ pub record Bundled : Type 0 where
   pub holds : List HoldParts
   pub pages : List FreshParts
   pub inodes : List InoParts
-  pub room : Room
+  pub room : Capacity
 
 -- the bundle that has these parts
 abbrev pub bundled : BundleParts → Bundled
@@ -33,7 +33,7 @@ pub record HasRoom (b : Bundled) (writes holds pages inodes : ℕ) : Type 0 wher
   pub more_inodes : length b.inodes + inodes ≤ b.room.inodes
 
 -- no kind has fewer places than before
-pub record NoRoomLost (old new : Room) : Type 0 where
+pub record NoRoomLost (old new : Capacity) : Type 0 where
   pub writes : old.writes ≤ new.writes
   pub holds : old.holds ≤ new.holds
   pub pages : old.pages ≤ new.pages

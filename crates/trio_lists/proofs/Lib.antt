@@ -1,4 +1,5 @@
 pub mod Members
-pub mod MarkLemmas
 pub mod Filters
 pub mod Tabulated
+pub mod New
+pub mod Marked

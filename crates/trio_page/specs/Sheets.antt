@@ -6,6 +6,7 @@ pub record Sheet : Type 0 where
   pub page : ℕ
   pub bytes : List ℕ
 
+-- the numbers of pages
 abbrev pub sheet_numbers : List Sheet → List ℕ
 sheet_numbers sheets = map (λ x. x.page) sheets
 

@@ -15,7 +15,7 @@ use Rattle.trio_layout.specs.Proposed.{Bundle, bundle_pages, is_written}
 use Rattle.trio_surveys.proofs.Alike.{up_to_at, same_row_is}
 use Rattle.trio_surveys.proofs.Cores.{listed_is_core}
 use Rattle.trio_surveys.proofs.Images.{row_met, met_row, read_met, met_numbered}
-use Rattle.trio_lists.proofs.Members.{all_at, all_from, In-among}
+use Rattle.trio_lists.proofs.Members.{list_all-In, list_all-each, is_among-In}
 use Rattle.trio_surveys.proofs.Owned.{sound_parts, owner_is}
 use Rattle.trio_proposal.specs.inner.Steps.{row_may}
 
@@ -30,7 +30,7 @@ owner_from core (x ∷ xs) p = by (is_among p (pages_of core x)) refl (owner_fro
   where
     by : (t : Bool) → is_among p (pages_of core x) ≡ t → (owner_of core xs p ≡ 0) ⊎ ((m : Met) × In m xs × In p (pages_of core m) × (owner_of core xs p ≡ m.ino))
         → (cond t x.ino (owner_of core xs p) ≡ 0) ⊎ ((m : Met) × In m (x ∷ xs) × In p (pages_of core m) × (cond t x.ino (owner_of core xs p) ≡ m.ino))
-    by true t rest = inr (x, inl refl, In-among p (pages_of core x) t, refl)
+    by true t rest = inr (x, inl refl, is_among-In p (pages_of core x) t, refl)
     by false t (inl z) = inl z
     by false t (inr r) = inr (r.0, inr r.1, r.2, r.3)
 
@@ -84,7 +84,7 @@ module _ (image : Image) (creds : Creds) (b : Bundle) (no_holds : b.holds ≡ []
   -- a file whose owner row gives it no page of others lists the bundle's pages alone
   own_pages : OwnersStand → (m : Met) → In m files → (is_some (row_at image m.ino) && not (is_written b m.ino)) ≡ false → lists_own b core m ≡ true
   own_pages owners m i closed =
-      all_from (λ page. is_among page (bundle_pages b)) (pages_of core m)
+      list_all-each (λ page. is_among page (bundle_pages b)) (pages_of core m)
       (λ p a.
       let low : 0 < m.ino = (met_numbered core pick fit sound m i).0 in
       let some' : eqb m.ino 0 ≡ false = ne_eqb m.ino 0 (omega (arith, low)) in
@@ -115,13 +115,13 @@ module _ (image : Image) (creds : Creds) (b : Bundle) (no_holds : b.holds ≡ []
   pub allowed_from : RowsStand → OwnersStand → is_allowed image creds b core files ≡ true
   allowed_from rows owners =
       and_from (keeps_rows image b core files) (list_all (may_stand image creds b core files) files) (keeps rows)
-      (all_from (may_stand image creds b core files) files (stands rows owners))
+      (list_all-each (may_stand image creds b core files) files (stands rows owners))
 
   allowed_parts : is_allowed image creds b core files ≡ true → (keeps_rows image b core files ≡ true) × (list_all (may_stand image creds b core files) files ≡ true)
   allowed_parts h = and_parts (keeps_rows image b core files) (list_all (may_stand image creds b core files) files) h
 
   asked : is_allowed image creds b core files ≡ true → (m : Met) → In m files → cond (is_some (row_at image m.ino)) (cond (is_written b m.ino) (lists_own b core m) true) (is_among m.ino b.numbers && has_owner creds (row_of core files m.ino) && lists_own b core m) ≡ true
-  asked h m i = sym (asks m) ∙ all_at (may_stand image creds b core files) m files (allowed_parts h).1 i
+  asked h m i = sym (asks m) ∙ list_all-In (may_stand image creds b core files) m files (allowed_parts h).1 i
 
   same_from : (h : is_allowed image creds b core files ≡ true) (n : ℕ) → 1 ≤ n → n ≤ core.inodes → is_some (row_at image n) ≡ true → same_row (row_at image n) (row_of core files n) ≡ true
   same_from h n low high t =
@@ -164,7 +164,7 @@ module _ (image : Image) (creds : Creds) (b : Bundle) (no_holds : b.holds ≡ []
       own : (m : Met) → In p (pages_of core m) → lists_own b core m ≡ true → may_own image b p m.ino ≡ true
       own m a e =
           or_left (eqb m.ino 0 || is_among p (bundle_pages b)) (is_some (row_at image m.ino) && not (is_written b m.ino))
-          (or_right (eqb m.ino 0) (is_among p (bundle_pages b)) (all_at (λ page. is_among page (bundle_pages b)) p (pages_of core m) e a))
+          (or_right (eqb m.ino 0) (is_among p (bundle_pages b)) (list_all-In (λ page. is_among page (bundle_pages b)) p (pages_of core m) e a))
 
       by : (m : Met) → In p (pages_of core m) → (l : Bool) → is_some (row_at image m.ino) ≡ l → (w : Bool) → is_written b m.ino ≡ w
           → cond (is_some (row_at image m.ino)) (cond (is_written b m.ino) (lists_own b core m) true) (is_among m.ino b.numbers && has_owner creds (row_of core files m.ino) && lists_own b core m) ≡ true

@@ -8,10 +8,10 @@ use Rattle.trio_layout.specs.declared.range.CoreRange.{CoreRange}
 use Rattle.trio_layout.specs.Core.{Core, page_of}
 use Rattle.trio_lease.specs.declared.parts.HoldParts.{HoldParts}
 use Rattle.trio_survey.specs.Answer.{core_of}
-use Rattle.trio_proposal.specs.Judged.{CanBeJudged, image_of}
+use Rattle.trio_proposal.specs.Judgement.{CanBeJudged, image_of}
 use Rattle.trio_proposal.proofs.Keeping.{page_at_number}
 use Rattle.trio_lease.specs.Bundles.{Bundled}
-use Rattle.trio_state.specs.Handed.{bundle_in, fresh_sheet}
+use Rattle.trio_state.specs.Views.{bundle_in, fresh_sheet}
 use Rattle.trio_layout.specs.Proposed.{bundle_sheets}
 use Rattle.trio_page.specs.Sheets.{Sheet}
 use Rattle.trio_lists.proofs.Members.{In-cases}

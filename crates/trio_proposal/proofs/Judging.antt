@@ -12,7 +12,7 @@ use Rattle.trio_layout.specs.Survey.{Pick, survey, owner_of, row_of}
 use Rattle.trio_lease.specs.Bundles.{Bundled}
 use Rattle.trio_layout.specs.Accept.{is_accepted, next, with_bodies}
 use Rattle.trio_layout.specs.Allowed.{is_allowed}
-use Rattle.trio_state.specs.Handed.{bundle_in}
+use Rattle.trio_state.specs.Views.{bundle_in}
 use Rattle.trio_layout.specs.Image.{Image, IsFit, row_at}
 use Rattle.trio_layout.specs.Proposed.{bundle_sheets, bundle_pages, is_written, proposed, proposed_pick}
 use Rattle.trio_page.specs.Sheets.{with_pages}
@@ -23,7 +23,7 @@ use Rattle.trio_surveys.proofs.Accepted.{fit_proposed}
 use Rattle.trio_surveys.proofs.Images.{TablesOf, row_at_is, owner_at}
 use Rattle.trio_lists.proofs.Tabulated.{tabulated-length}
 use Rattle.trio_proposal.specs.declared.propose.Proposal.{Proposal}
-use Rattle.trio_proposal.specs.Judged.{CanBeJudged, image_of}
+use Rattle.trio_proposal.specs.Judgement.{CanBeJudged, image_of}
 use Rattle.trio_proposal.specs.inner.Proposes.{Proposes}
 use Rattle.trio_proposal.specs.inner.Steps.{row_may, RowsMay, owner_may, OwnersMay, mets_below}
 use Rattle.trio_proposal.proofs.Allowing.{may_own, allowed_from, rows_stand, owners_stand}

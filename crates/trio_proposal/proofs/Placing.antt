@@ -16,7 +16,7 @@ use Rattle.trio_layout.specs.Allowed.{is_allowed}
 use Rattle.trio_layout.specs.Image.{Image, IsFit, row_at, body_at_place}
 use Rattle.trio_layout.specs.Proposed.{Bundle, kept_body, is_place_of, proposed, proposed_pick}
 use Rattle.trio_surveys.proofs.Images.{row_met, met_row, read_met, met_numbered, root_or_listed}
-use Rattle.trio_lists.proofs.Members.{In-cases, In-left, In-right, flat_from}
+use Rattle.trio_lists.proofs.Members.{In-cases, In-left, In-right, flat_map-In}
 use Rattle.trio_surveys.proofs.AnyOrder.{bodies_in_any_order}
 use Rattle.trio_surveys.proofs.Tree.{child_from, child_placed}
 use Rattle.trio_proposal.specs.inner.Steps.{met_by, mets_below}
@@ -101,7 +101,7 @@ module _ (image : Image) (creds : Creds) (b : Bundle) (no_holds : b.holds ≡ []
       elim (root_or_listed core pick fit sound m i) [
         | inl e ↦ absurd (one (ap (λ (x : Met). x.ino) e))
         | inr j ↦
-            let q = flat_from (children core pick) m files j in
+            let q = flat_map-In (children core pick) m files j in
             let k = child_from core pick q.0 m q.2 in
             let pl = child_placed core pick q.0 m k in
             let l = k.entry in

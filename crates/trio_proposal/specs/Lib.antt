@@ -1,2 +1,2 @@
-pub mod Judged
 pub mod inner
+pub mod Judgement

@@ -17,7 +17,7 @@ use trio_tables::{Owners, Row, Shadow};
 
 /// What a bundle has, by inode number and by page.
 #[derive(Drop)]
-pub(crate) struct Handed {
+pub(crate) struct BundleTables {
     /// The body of each file that is written.
     pub written: Vec<Option<[u8; 64]>>,
     /// Which inode numbers are handed in.
@@ -32,7 +32,7 @@ pub(crate) fn is_allowed(
     found: &Found,
     range: CoreRange,
     creds: Creds,
-    handed: &Handed,
+    handed: &BundleTables,
 ) -> bool
     requires { range.end ≤ length found.now.owners }
     ensures { IsTrue result ↔ (RowsMay creds handed.now.numbers.items rows.now found.now.rows
@@ -89,7 +89,7 @@ fn same_kind(a: Kind, b: Kind) -> bool
 }
 
 /// Whether each core page that a written file has, or a file that comes, was handed in.
-fn owners_may(rows: &Shadow, owners: &Owners, range: CoreRange, handed: &Handed) -> bool
+fn owners_may(rows: &Shadow, owners: &Owners, range: CoreRange, handed: &BundleTables) -> bool
     requires { range.end ≤ length owners.now }
     ensures { IsTrue result ↔ OwnersMay rows.now handed.now.written.items handed.now.pages.items owners.now range.first range.end }
 {

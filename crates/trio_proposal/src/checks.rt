@@ -6,10 +6,10 @@ ghost use Rattle.std.specs.Option.{option_map};
 ghost use Rattle.trio_rights.specs.Row.{Row as TableRow, row_in};
 ghost use Rattle.trio_tables.specs.Row.{as_row};
 ghost use Rattle.trio_layout.specs.Core.{page_of};
-ghost use Rattle.trio_state.specs.Handed.{bundle_in, fresh_sheet, lent_sheet};
+ghost use Rattle.trio_state.specs.Views.{bundle_in, fresh_sheet, lent_sheet};
 ghost use Rattle.trio_layout.specs.Proposed.{bundle_sheets};
 ghost use Rattle.trio_survey.specs.Answer.{core_of};
-ghost use Rattle.trio_proposal.specs.Judged.{CanBeJudged, image_of};
+ghost use Rattle.trio_proposal.specs.Judgement.{CanBeJudged, image_of};
 ghost use Rattle.trio_proposal.specs.inner.Steps.{AreFit, lease_sheets};
 
 use trio_layout::CoreRange;

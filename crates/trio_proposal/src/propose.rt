@@ -1,13 +1,13 @@
 //! What a bundle proposes, as tables by inode number and by page.
 
 ghost use Rattle.std.specs.Prelude.{◌≡◌, OnOk, IfOk, length};
-ghost use Rattle.trio_state.specs.Handed.{bundle_in};
+ghost use Rattle.trio_state.specs.Views.{bundle_in};
 ghost use Rattle.trio_layout.specs.Proposed.{bundle_sheets};
 ghost use Rattle.trio_page.specs.Sheets.{with_pages};
 ghost use Rattle.trio_proposal.specs.inner.Steps.{ArePlaced, AreWithin};
 ghost use Rattle.trio_proposal.specs.inner.Proposes.{Proposes};
 
-use crate::allowed::Handed;
+use crate::allowed::BundleTables;
 use crate::marks::number_marks;
 use crate::pages::put_bundle;
 use crate::picks::{Bodies, kept_bodies, picks_of, root_body, written_bodies};
@@ -27,7 +27,7 @@ pub(crate) struct Proposal {
     /// The same, picked at the places of the rows.
     pub picks: Picks,
     /// What the bundle has.
-    pub handed: Handed,
+    pub handed: BundleTables,
 }
 
 /// Puts copies of the bundle's pages in their places, and answers what else the bundle proposes.
@@ -55,7 +55,7 @@ pub(crate) fn propose(
         root,
         kept,
         picks,
-        handed: Handed {
+        handed: BundleTables {
             written,
             numbers,
             pages,

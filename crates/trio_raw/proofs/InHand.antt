@@ -12,21 +12,22 @@ use Rattle.trio_tables.proofs.OutLemmas.{lib_at-others, lib_at-set}
 use Rattle.trio_nodes.specs.declared.grant.GrantKind.TheVariants.{Write}
 use Rattle.trio_nodes.specs.declared.spot.Spot.TheVariants.{Body, Index, Block, Fresh}
 use Rattle.trio_lists.specs.Lists.{In, is_among, are_new}
-use Rattle.trio_lists.proofs.MarkLemmas.{are_new-append}
+use Rattle.trio_lists.proofs.Marked.{are_new-append}
 use Rattle.trio_page.specs.Sheets.{Sheet, sheet_numbers}
 use Rattle.trio_layout.specs.Image.{Image}
 use Rattle.trio_state.specs.State.{OpenGrant, State}
-use Rattle.trio_nodes.specs.GrantKinds.{is_write}
+use Rattle.trio_nodes.specs.GrantKinds.{is_write, is_hold}
 use Rattle.trio_layout.specs.Proposed.{Written, Bundle, is_written}
 use Rattle.trio_state.specs.Allotments.{out_after, out_with}
 use Rattle.trio_state.specs.Grants.{opens}
 use Rattle.trio_state.specs.Bundles.{Ends, grants_after, is_in_bundle, lent_part}
-use Rattle.trio_nodes.specs.GrantKinds.{is_hold}
 use Rattle.trio_state.specs.Given.{GivenTo, WasAllotted, WasLent}
 use Rattle.trio_raw.specs.Has.{Has, are_there, named, poked_body, poked_block, poked_index, poked_sheet, bundle_of, rest_of, whole_bundle, with_file, with_fresh, changed_first}
 use Rattle.trio_raw.specs.InHand.{InHand, all_sheets}
 use Rattle.trio_raw.specs.Laws.{NothingIsInHand, PokedIsInHand, TakenWasGiven, AllWasGiven, RestIsInHand, NothingIsLeft, LentIsInHand, AllottedIsInHand, StaysInHand, GivenIsInHand, MayGoOut, lent_file, zero_sheet}
-use Rattle.trio_raw.proofs.Members.{In-left, In-right, In-cases, In-flat, flat_from, In-map, map_from, among_from, not_among, in_filter, new_beside}
+use Rattle.trio_lists.proofs.New.{is_among-not, are_new-beside}
+use Rattle.trio_lists.proofs.Filters.{In-filter}
+use Rattle.trio_lists.proofs.Members.{In-left, In-right, In-cases, In-flat, flat_map-In, In-map, map-In, In-is_among}
 use Rattle.trio_raw.proofs.Once.{found, named_in, named_once, without_all_in, without_all_once, all_gone}
 use Rattle.trio_raw.proofs.Kept.{AreFull, Changed, KeepsFiles, SameFile, map_some, first_from, changed_in, old_in, changed_same, sheets_kept, body_keeps, index_keeps, block_keeps}
 
@@ -55,7 +56,7 @@ fresh_sheets has x i = In-right x (flat_map (λ (v : Written). v.index ++ v.bloc
 sheet_cases : (has : Has) (x : Sheet) → In x (all_sheets has) → ((w : Written) × In w has.files × In x (w.index ++ w.blocks)) ⊎ In x has.pages
 sheet_cases has x i =
     elim (In-cases x (flat_map (λ (v : Written). v.index ++ v.blocks) has.files) has.pages i) [
-      | inl a ↦ inl (flat_from (λ (v : Written). v.index ++ v.blocks) x has.files a)
+      | inl a ↦ inl (flat_map-In (λ (v : Written). v.index ++ v.blocks) x has.files a)
       | inr b ↦ inr b
     ]
 
@@ -146,7 +147,7 @@ part_given s lib has part h files pages numbers files_once pages_once numbers_on
   writes = λ w i. h.files w (files w i);
   holds = λ n i. absurd i;
   pages = λ n i.
-      let r = map_from (λ (x : Sheet). x.page) n part.pages i in
+      let r = map-In (λ (x : Sheet). x.page) n part.pages i in
       h.pages n (subst (λ m. In m (sheet_numbers has.pages)) (sym r.2) (In-map (λ (x : Sheet). x.page) r.0 has.pages (pages r.0 r.1)));
   numbers = λ n i. h.numbers n (numbers n i);
   full = λ x i. elim (sheet_cases part x i) [
@@ -185,9 +186,9 @@ taken_was_given s lib has inos pages numbers h there =
 -- a grant that is not in the bundle stays open, but for its checkpoint
 grant_stays : (s : State) (lib : ℕ) (b : Bundle) (image : Image) (s' : State) (w : Written) → Ends s lib b image s' → (g : WasLent s lib w) → is_in_bundle lib b g.grant ≡ false → WasLent s' lib w
 grant_stays s lib b image s' w e g out =
-    let kept : In g.grant (grants_after s lib b) = in_filter (λ (x : OpenGrant). not (is_in_bundle lib b x)) g.grant s.open_grants g.is_open (not_from_false (is_in_bundle lib b g.grant) out) in
+    let kept : In g.grant (grants_after s lib b) = In-filter (λ (x : OpenGrant). not (is_in_bundle lib b x)) g.grant s.open_grants g.is_open (not_from_false (is_in_bundle lib b g.grant) out) in
     let shown : In (lent_part g.grant) (map lent_part s'.open_grants) = subst (In (lent_part g.grant)) (sym e.grants) (In-map lent_part g.grant (grants_after s lib b) kept) in
-    let r = map_from lent_part (lent_part g.grant) s'.open_grants shown in
+    let r = map-In lent_part (lent_part g.grant) s'.open_grants shown in
     let same : lent_part g.grant ≡ lent_part r.0 = r.2 in
     record {
       grant = r.0;
@@ -217,7 +218,7 @@ not_in_bundle lib b g kind none =
 
 -- a number that is not handed in stays out
 out_stays : (outs outs' : List (Option LibNo)) (lib n : ℕ) (these : List ℕ) → outs' ≡ out_after outs these → WasAllotted outs lib n → (In n these → ⊥) → WasAllotted outs' lib n
-out_stays outs outs' lib n these e out apart = ap (λ l. lib_at l n) e ∙ lib_at-others None these n outs (not_among n these apart) ∙ out
+out_stays outs outs' lib n these e out apart = ap (λ l. lib_at l n) e ∙ lib_at-others None these n outs (is_among-not n these apart) ∙ out
 
 pub rest_is_in_hand : RestIsInHand
 rest_is_in_hand s lib has inos pages numbers image s' h e =
@@ -236,11 +237,11 @@ rest_is_in_hand s lib has inos pages numbers image s' h e =
           let r = named_in ino has.files inos v j in
           all_gone ino has.files inos w h.files_once i (subst (λ m. In m inos) (same ∙ g.ino) r.1)));
       pages = λ n i.
-          let r = map_from page n rest.pages i in
+          let r = map-In page n rest.pages i in
           let was : In n (sheet_numbers has.pages) = subst (λ m. In m (sheet_numbers has.pages)) (sym r.2) (In-map page r.0 has.pages (without_all_in page has.pages pages r.0 r.1)) in
           out_stays s.pages_out s'.pages_out lib n (sheet_numbers b.pages) e.pages (h.pages n was)
           (λ j.
-          let t = map_from page n b.pages j in
+          let t = map-In page n b.pages j in
           let k = named_in page has.pages pages t.0 t.1 in
           all_gone page has.pages pages r.0 h.pages_once r.1 (subst (λ m. In m pages) (sym t.2 ∙ r.2) k.1));
       numbers = λ n i.
@@ -308,8 +309,8 @@ lent_is_in_hand s lib has g h mine kind none full =
     let inos : List ℕ = map (λ (v : Written). v.ino) has.files in
     let stays : InHand (opens s g) lib has = stays_in_hand s lib has (opens s g) h (λ x i a b. In-left x s.open_grants (g ∷ []) i) (λ n out. out) (λ n out. out) in
     let new : is_among g.ino inos ≡ false =
-    not_among g.ino inos (λ i.
-    let r = map_from (λ (v : Written). v.ino) g.ino has.files i in
+    is_among-not g.ino inos (λ i.
+    let r = map-In (λ (v : Written). v.ino) g.ino has.files i in
     let t = h.files r.0 r.1 in
     none t.grant t.is_open (t.ino ∙ sym r.2)) in
     record {
@@ -351,14 +352,14 @@ apart_once outs lib mine new were once may =
     are_new-append [] mine new
     ∙ and_from (are_new [] mine) (are_new mine new) once
     (ap (λ l. are_new l new) (sym (append-nil mine))
-    ∙ new_beside mine [] new may.1 (λ n i j. both_ways (is_out outs n) (may.0 n i).1 (ap is_some (were n j))))
+    ∙ are_new-beside mine [] new may.1 (λ n i j. both_ways (is_out outs n) (may.0 n i).1 (ap is_some (were n j))))
 
 -- and each of them is out
 allotted_out : (outs : List (Option LibNo)) (lib n : ℕ) (mine new : List ℕ) → ((n : ℕ) → In n mine → WasAllotted outs lib n) → MayGoOut outs new → In n (mine ++ new) → WasAllotted (out_with outs lib new) lib n
 allotted_out outs lib n mine new were may i =
     elim (In-cases n mine new i) [
-      | inl j ↦ lib_at-others (Some (record { 0 = lib })) new n outs (not_among n new (λ k. both_ways (is_out outs n) (may.0 n k).1 (ap is_some (were n j)))) ∙ were n j
-      | inr j ↦ lib_at-set (Some (record { 0 = lib })) new n outs (may.0 n j).0 (among_from n new j)
+      | inl j ↦ lib_at-others (Some (record { 0 = lib })) new n outs (is_among-not n new (λ k. both_ways (is_out outs n) (may.0 n k).1 (ap is_some (were n j)))) ∙ were n j
+      | inr j ↦ lib_at-set (Some (record { 0 = lib })) new n outs (may.0 n j).0 (In-is_among n new j)
     ]
 
 pub allotted_is_in_hand : AllottedIsInHand
@@ -388,7 +389,7 @@ allotted_is_in_hand s lib has pages numbers h new_pages new_numbers =
             elim (In-cases x has.pages (map zero_sheet pages) j) [
               | inl k ↦ h.full x (fresh_sheets has x k)
               | inr k ↦
-                  (let r = map_from zero_sheet x pages k in
+                  (let r = map-In zero_sheet x pages k in
                   ap (λ (y : Sheet). length y.bytes) r.2 ∙ length-zeros 4096)
             ]
       ];

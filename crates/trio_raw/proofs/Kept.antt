@@ -12,7 +12,7 @@ use Rattle.trio_lists.specs.Lists.{In}
 use Rattle.trio_page.specs.Sheets.{Sheet, sheet_numbers}
 use Rattle.trio_layout.specs.Proposed.{Written}
 use Rattle.trio_raw.specs.Has.{changed_at, changed_first, poked_bytes, poked_sheet, poked_body, poked_index, poked_block}
-use Rattle.trio_raw.proofs.Members.{In-left, In-right, In-cases}
+use Rattle.trio_lists.proofs.Members.{In-left, In-right, In-cases}
 
 pub then_some : {X Y : Type 0} (f : X → Option Y) (o : Option X) (y : Y) → option_and_then f o ≡ Some y → (x : X) × (o ≡ Some x) × (f x ≡ Some y)
 then_some f None y e = absurd cc

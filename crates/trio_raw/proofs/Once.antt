@@ -5,7 +5,8 @@ use Rattle.std.specs.List.{find, cons_option}
 use Rattle.std.proofs.lemmas.Bool.{and_parts, and_from, eqb-true, eq-eqb, both_ways, cases_Bool}
 use Rattle.trio_lists.specs.Lists.{In, is_among, are_new}
 use Rattle.trio_raw.specs.Has.{named, without, without_all}
-use Rattle.trio_raw.proofs.Members.{In-left, In-map, first_once, new_weaker}
+use Rattle.trio_lists.proofs.New.{are_new-first, are_new-fewer}
+use Rattle.trio_lists.proofs.Members.{In-left, In-map}
 
 -- what a search finds stands in the list and passes
 pub found : {X : Type 0} (p : X → Bool) (xs : List X) (y : X) → find p xs ≡ Some y → In y xs × (p y ≡ true)
@@ -45,7 +46,7 @@ module _ {X : Type 0} (number : X → ℕ) where
       others = map number (named number xs names)
 
       by_find : not (is_among n seen) ≡ true → are_new (seen ++ n ∷ []) others ≡ true → (o : Option X) → find (λ x. eqb (number x) n) xs ≡ o → are_new seen (map number (cons_option o (named number xs names))) ≡ true
-      by_find new rest None e = new_weaker seen (seen ++ n ∷ []) others (λ m i. In-left m seen (n ∷ []) i) rest
+      by_find new rest None e = are_new-fewer seen (seen ++ n ∷ []) others (λ m i. In-left m seen (n ∷ []) i) rest
       by_find new rest (Some x) e =
           let same : number x ≡ n = eqb-true (number x) n (found (λ x. eqb (number x) n) xs x e).1 in
           subst (λ m. are_new seen (m ∷ others) ≡ true) (sym same) (and_from (not (is_among n seen)) (are_new (seen ++ n ∷ []) others) new rest)
@@ -69,7 +70,7 @@ module _ {X : Type 0} (number : X → ℕ) where
   without_new (x ∷ xs) n seen h =
       let parts = and_parts (not (is_among (number x) seen)) (are_new (seen ++ number x ∷ []) (map number xs)) h in
       elim (cases_Bool (eqb (number x) n)) [
-        | inl t ↦ rw t (new_weaker seen (seen ++ number x ∷ []) (map number xs) (λ m i. In-left m seen (number x ∷ []) i) parts.1)
+        | inl t ↦ rw t (are_new-fewer seen (seen ++ number x ∷ []) (map number xs) (λ m i. In-left m seen (number x ∷ []) i) parts.1)
         | inr f ↦
             rw f (and_from (not (is_among (number x) seen)) (are_new (seen ++ number x ∷ []) (map number (without number xs n))) parts.0
             (without_new xs n (seen ++ number x ∷ []) parts.1))
@@ -84,7 +85,7 @@ module _ {X : Type 0} (number : X → ℕ) where
   gone : (xs : List X) (n : ℕ) (y : X) → are_new [] (map number xs) ≡ true → In y (without number xs n) → number y ≡ n → ⊥
   gone [] n y h i e = i
   gone (x ∷ xs) n y h i e =
-      let once = first_once (number x) (map number xs) h in
+      let once = are_new-first (number x) (map number xs) h in
       elim (cases_Bool (eqb (number x) n)) [
         | inl t ↦
             (let j : In y xs = rw t at i in

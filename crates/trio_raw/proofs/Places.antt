@@ -10,7 +10,7 @@ use Rattle.std.proofs.lemmas.Simd.{map-map}
 use Rattle.std.proofs.lemmas.Option.{slice_get-map, slice_get-get_or}
 use Rattle.trio_lists.specs.Lists.{In, is_among, are_new}
 use Rattle.trio_raw.specs.Has.{changed_at, changed_first, are_there, named, without, without_all}
-use Rattle.trio_raw.proofs.Members.{first_once}
+use Rattle.trio_lists.proofs.New.{are_new-first}
 
 -- ---- an element that is changed
 
@@ -177,7 +177,7 @@ module _ {X : Type 0} (number : X → ℕ) where
   pub rest_there : (xs : List X) (n : ℕ) (names : List ℕ) → are_there number xs (n ∷ names) ≡ true → are_there number (without number xs n) names ≡ true
   rest_there xs n names h =
       let parts = and_parts (list_all (λ k. is_among k (map number xs)) (n ∷ names)) (are_new [] (n ∷ names)) h in
-      let once = first_once n names parts.1 in
+      let once = are_new-first n names parts.1 in
       let all = (and_parts (is_among n (map number xs)) (list_all (λ k. is_among k (map number xs)) names) parts.0).1 in
       and_from (list_all (λ k. is_among k (map number (without number xs n))) names) (are_new [] names) (all_there-without xs n names once.0 ∙ all) once.1
 
@@ -185,7 +185,7 @@ module _ {X : Type 0} (number : X → ℕ) where
   pub named_first : (xs : List X) (n : ℕ) (names : List ℕ) (x : X) → are_there number xs (n ∷ names) ≡ true → find (λ x. eqb (number x) n) xs ≡ Some x → named number xs (n ∷ names) ≡ x ∷ named number (without number xs n) names
   named_first xs n names x h e =
       let parts = and_parts (list_all (λ k. is_among k (map number xs)) (n ∷ names)) (are_new [] (n ∷ names)) h in
-      let once = first_once n names parts.1 in
+      let once = are_new-first n names parts.1 in
       ap (λ o. cons_option o (named number xs names)) e ∙ ap (λ l. x ∷ l) (sym (named-without xs n names once.0))
 
 -- ---- the same of things as they are shown

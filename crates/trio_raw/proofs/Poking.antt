@@ -10,7 +10,7 @@ use Rattle.trio_lease.specs.declared.parts.FreshParts.{FreshParts}
 use Rattle.trio_lease.specs.declared.parts.InoParts.{InoParts}
 use Rattle.trio_lease.specs.Shown.{LentFile, lent_at}
 use Rattle.trio_page.specs.Sheets.{Sheet}
-use Rattle.trio_state.specs.Handed.{fresh_sheet, lent_sheet}
+use Rattle.trio_state.specs.Views.{fresh_sheet, lent_sheet}
 use Rattle.trio_layout.specs.Proposed.{Written}
 use Rattle.trio_raw.specs.Has.{Has, changed_at, poked_bytes, poked_sheet, with_file, with_fresh}
 use Rattle.trio_raw.specs.Held.{file_of}

@@ -1,10 +1,9 @@
 -- What the controller gives is new to those who have it.
 use Rattle.std.proofs.Common.{◌≡◌, ℕ, zero, suc, ◌+◌, ◌-◌, ◌<◌, ◌≤◌, Bool, true, false, cond, not, ◌&&◌, eqb, ltb, List, [], ◌∷◌, ◌++◌, length, take, Option, Some, None, Result, Ok, Err, sym, refl, ap, ◌∙◌, subst, inl, inr, arith}
-use Rattle.std.specs.Prelude.{map, is_some, slice_get, slice_index}
+use Rattle.std.specs.Prelude.{is_some, slice_get, slice_index}
 use Rattle.std.specs.List.{filter, cons_option}
 use Rattle.std.specs.Option.{option_map}
-use Rattle.std.proofs.lemmas.Bool.{and_parts, and_from, or_left, or_right, eq-eqb, both_ways, false≢true, not-true, not_from_false, cases_Bool}
-use Rattle.std.proofs.lemmas.List.{length_push}
+use Rattle.std.proofs.lemmas.Bool.{and_parts, and_from, eq-eqb, false≢true, not-true, not_from_false, cases_Bool}
 use Rattle.trio_rights.specs.Row.{Row}
 use Rattle.trio_rights.specs.declared.rights.LibNo.{LibNo}
 use Rattle.trio_tables.specs.Free.{count_up}
@@ -13,7 +12,7 @@ use Rattle.trio_nodes.specs.declared.grant.GrantKind.TheVariants.{Write}
 use Rattle.trio_nodes.specs.declared.answers.GrantFault.{GrantFault}
 use Rattle.trio_nodes.specs.declared.answers.GrantFault.TheVariants.{Busy, NotLive}
 use Rattle.trio_layout.specs.Chain.{Chain}
-use Rattle.trio_layout.specs.Core.{Core, Place, page_of}
+use Rattle.trio_layout.specs.Core.{Core, Location, page_of}
 use Rattle.trio_lists.specs.Lists.{In, is_among, are_new}
 use Rattle.trio_page.specs.Sheets.{Sheet}
 use Rattle.trio_layout.specs.Image.{row_at}
@@ -22,12 +21,14 @@ use Rattle.trio_state.specs.Grants.{denied_by, denied_or, excluding, grant_fault
 use Rattle.trio_nodes.specs.GrantKinds.{excludes_kind}
 use Rattle.trio_layout.specs.Pages.{block_sheets, index_sheets, settled_chain, sheets_of}
 use Rattle.trio_state.specs.Allotments.{allots, free_pages, free_numbers}
-use Rattle.trio_lists.specs.Lists.{tabulated}
 use Rattle.trio_state.specs.Step.{Granted, NotGranted, Given, NoPages, NoInodes, Done, Comes, granted_to}
 use Rattle.trio_raw.specs.InHand.{InHand}
 use Rattle.trio_raw.specs.Laws.{GrantedIsInHand, GivenOutIsInHand, MayGoOut, lent_file, with_lent, with_allotted}
-use Rattle.trio_raw.proofs.Members.{In-cases, In-left, map_from, not_among, in_filter, filter_in, new_weaker, new_beside}
+use Rattle.trio_lists.proofs.New.{is_among-not, are_new-fewer, are_new-take}
+use Rattle.trio_lists.proofs.Filters.{In-filter, filter-In}
+use Rattle.trio_lists.proofs.Members.{In-cases, In-left}
 use Rattle.trio_raw.proofs.InHand.{lent_is_in_hand, allotted_is_in_hand}
+use Rattle.trio_lists.proofs.Tabulated.{tabulated-length}
 
 -- ---- grants
 
@@ -43,7 +44,7 @@ sheet_there core (n ∷ ns) x i = by_page (λ j. sheet_there core ns x j) (page_
     by_page later (Some b) e (inr j) = later j
 
 -- and so are a file's index pages and blocks
-lent_there : (core : Core) (chain : Result Chain Place) (x : Sheet) → In x (index_sheets core chain ++ block_sheets core chain) → page_of core x.page ≡ Some x.bytes
+lent_there : (core : Core) (chain : Result Chain Location) (x : Sheet) → In x (index_sheets core chain ++ block_sheets core chain) → page_of core x.page ≡ Some x.bytes
 lent_there core (Err p) x i = absurd i
 lent_there core (Ok c) x i =
     elim (In-cases x (sheets_of core c.index) (sheets_of core c.blocks) i) [
@@ -74,7 +75,7 @@ none_open s lib ino r row none h i e =
     let asked : denied_or (denied_by s lib ino Write) rest ≡ None = past_live (is_some (row_at s.home ino)) (denied_or (denied_by s lib ino Write) rest) (ap is_some row) none in
     no_first (excluding s lib ino Write) h
     (map_none (λ (g : OpenGrant). Busy (holder_of g)) (slice_get (excluding s lib ino Write) 0) (denied_none (denied_by s lib ino Write) rest asked))
-    (in_filter (λ (g : OpenGrant). eqb g.ino ino && excludes_kind Write g.kind (eqb g.lib lib)) h s.open_grants i
+    (In-filter (λ (g : OpenGrant). eqb g.ino ino && excludes_kind Write g.kind (eqb g.lib lib)) h s.open_grants i
     (and_from (eqb h.ino ino) true (eq-eqb h.ino ino e) refl))
 
 pub granted_is_in_hand : GrantedIsInHand
@@ -94,13 +95,6 @@ granted_is_in_hand s lib ino has children s' fit h comes = by_answer (grant_faul
 
 -- ---- allotments
 
-take_new : (n : ℕ) (seen xs : List ℕ) → are_new seen xs ≡ true → are_new seen (take n xs) ≡ true
-take_new zero seen xs h = refl
-take_new (suc n) seen [] h = refl
-take_new (suc n) seen (x ∷ xs) h =
-    let p = and_parts (not (is_among x seen)) (are_new (seen ++ x ∷ []) xs) h in
-    and_from (not (is_among x seen)) (are_new (seen ++ x ∷ []) (take n xs)) p.0 (take_new n (seen ++ x ∷ []) xs p.1)
-
 take_in : (n : ℕ) (xs : List ℕ) (x : ℕ) → In x (take n xs) → In x xs
 take_in zero xs x i = absurd i
 take_in (suc n) [] x i = i
@@ -113,13 +107,13 @@ filter_new p seen (x ∷ xs) h =
     let parts = and_parts (not (is_among x seen)) (are_new (seen ++ x ∷ []) xs) h in
     elim (cases_Bool (p x)) [
       | inl t ↦ rw t (and_from (not (is_among x seen)) (are_new (seen ++ x ∷ []) (filter p xs)) parts.0 (filter_new p (seen ++ x ∷ []) xs parts.1))
-      | inr f ↦ rw f (filter_new p seen xs (new_weaker seen (seen ++ x ∷ []) xs (λ m i. In-left m seen (x ∷ []) i) parts.1))
+      | inr f ↦ rw f (filter_new p seen xs (are_new-fewer seen (seen ++ x ∷ []) xs (λ m i. In-left m seen (x ∷ []) i) parts.1))
     ]
 
 count_new : (from n : ℕ) (seen : List ℕ) → ((x : ℕ) → In x seen → x < from) → are_new seen (count_up from n) ≡ true
 count_new from zero seen below = refl
 count_new from (suc n) seen below =
-    let new : is_among from seen ≡ false = not_among from seen (λ i. let l = below from i in absurd (omega (arith, l))) in
+    let new : is_among from seen ≡ false = is_among-not from seen (λ i. let l = below from i in absurd (omega (arith, l))) in
     and_from (not (is_among from seen)) (are_new (seen ++ from ∷ []) (count_up (suc from) n)) (not_from_false (is_among from seen) new)
     (count_new (suc from) n (seen ++ from ∷ [])
     (λ x i. elim (In-cases x seen (from ∷ []) i) [
@@ -137,15 +131,11 @@ free_may : (outs : List (Option LibNo)) (test : ℕ → Bool) (from n count : �
 free_may outs test from n count fits =
     let free : List ℕ = filter (λ x. test x && not (is_out outs x)) (count_up from n) in (
       (λ x i.
-          let k = filter_in (λ y. test y && not (is_out outs y)) x (count_up from n) (take_in count free x i) in
+          let k = filter-In (λ y. test y && not (is_out outs y)) x (count_up from n) (take_in count free x i) in
           let lt = count_within from n x k.0 in
           (omega (arith, lt, fits), not-true (is_out outs x) (and_parts (test x) (not (is_out outs x)) k.1).1)),
-      take_new count [] free (filter_new (λ x. test x && not (is_out outs x)) [] (count_up from n) (count_new from n [] (λ x i. absurd i))),
+      are_new-take count [] free (filter_new (λ x. test x && not (is_out outs x)) [] (count_up from n) (count_new from n [] (λ x i. absurd i))),
     )
-
-length-tabulated : {X : Type 0} (f : ℕ → X) (n : ℕ) → length (tabulated f n) ≡ n
-length-tabulated f zero = refl
-length-tabulated f (suc n) = let l = length_push (tabulated f n) (f n) in let ih = length-tabulated f n in omega (arith, l, ih)
 
 pub given_out_is_in_hand : GivenOutIsInHand
 given_out_is_in_hand s lib has wanted_pages wanted_numbers pages numbers s' kept h comes =
@@ -161,9 +151,9 @@ given_out_is_in_hand s lib has wanted_pages wanted_numbers pages numbers s' kept
         let pages_are : pages ≡ ps = cc same in
         let numbers_are : numbers ≡ ns = cc same in
         let placed = kept.pages_placed in
-        let owners : length s.home.owners ≡ s.home.core.range.end = ap length kept.verifies.owners ∙ length-tabulated _ s.home.core.range.end in
+        let owners : length s.home.owners ≡ s.home.core.range.end = ap length kept.verifies.owners ∙ tabulated-length _ s.home.core.range.end in
         let places = kept.numbers_placed in
-        let rows : length s.home.rows ≡ s.home.core.inodes + 1 = ap length kept.verifies.rows ∙ length-tabulated _ (s.home.core.inodes + 1) in
+        let rows : length s.home.rows ≡ s.home.core.inodes + 1 = ap length kept.verifies.rows ∙ tabulated-length _ (s.home.core.inodes + 1) in
         let new_pages = free_may s.pages_out (λ page. eqb (slice_index s.home.owners page) 0) 0 (length s.home.owners - 0) wanted_pages (omega (arith, placed, owners)) in
         let new_numbers = free_may s.numbers_out (λ n. not (is_some (row_at s.home n))) 1 (length s.home.rows - 1) wanted_numbers (omega (arith, places, rows)) in
         rw (c.1, pages_are, numbers_are) (allotted_is_in_hand s lib has ps ns h new_pages new_numbers)

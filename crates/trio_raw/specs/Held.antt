@@ -3,7 +3,7 @@ use Rattle.std.specs.Prelude.{◌≡◌, ℕ, ◌+◌, ◌≤◌, [], length, ve
 use Rattle.trio_rights.specs.declared.rights.LibNo.{LibNo}
 use Rattle.trio_lease.specs.Shown.{LentFile}
 use Rattle.trio_lease.specs.declared.bundle.BundleParts.{BundleParts}
-use Rattle.trio_state.specs.Handed.{written_in}
+use Rattle.trio_state.specs.Views.{written_in}
 use Rattle.trio_layout.specs.Proposed.{Written}
 use Rattle.trio_raw.specs.Has.{Has}
 use Rattle.trio_raw.specs.Things.{Things}
@@ -26,7 +26,7 @@ abbrev pub file_of : LentFile → Written
 file_of f = written_in f.stands
 
 -- so many more files, pages and numbers have a place
-pub record HasPlaces (h : Held) (files pages numbers : ℕ) : Type 0 where
+pub record HasSpare (h : Held) (files pages numbers : ℕ) : Type 0 where
   pub more_files : length h.has.files + files ≤ h.room.files
   pub more_pages : length h.has.pages + pages ≤ h.room.pages
   pub more_numbers : length h.has.numbers + numbers ≤ h.room.numbers

@@ -1,9 +1,9 @@
 //! What one library has.
 
 ghost use Rattle.std.specs.Prelude.{◌≡◌, ◌+◌, ◌<◌, ◌≤◌, ◌++◌, ◌∷◌, ◌↔◌, [], Err, IfErr, IfOk, IfSome, IsErr, IsFalse, IsNone, IsOk, IsTrue, None, OnErr, OnOk, Some, if◌then◌else◌, length, map};
-ghost use Rattle.trio_state.specs.Handed.{bundle_in, fresh_sheet};
+ghost use Rattle.trio_state.specs.Views.{bundle_in, fresh_sheet};
 ghost use Rattle.trio_raw.specs.Has.{bundle_of, has_all_of, is_nothing, nothing, poked, poked_block, poked_body, poked_index, poked_sheet, rest_of, whole_bundle, with_file, with_fresh};
-ghost use Rattle.trio_raw.specs.Held.{HasPlaces, HasRoomFor, NoPlaceLost, file_of};
+ghost use Rattle.trio_raw.specs.Held.{HasSpare, HasRoomFor, NoPlaceLost, file_of};
 ghost use Rattle.trio_raw.specs.Things.{no_things, poked_allotted, poked_lease_block, poked_lease_body, poked_lease_index, poked_things, things_in, things_left, things_named, with_allotted_page, with_lease};
 
 use crate::lent::{append_all, have_all, let_go_all, move_all, place_of};
@@ -40,7 +40,7 @@ pub struct Raw {
 
 impl Model for Raw {
     ghost use Rattle.std.specs.Prelude.{map, vec_capacity};
-    ghost use Rattle.trio_state.specs.Handed.{fresh_sheet};
+    ghost use Rattle.trio_state.specs.Views.{fresh_sheet};
     ghost use Rattle.trio_raw.specs.Held.{Held, file_of};
 
     ghost Value = { Held };
@@ -80,9 +80,9 @@ impl Raw {
     /// After [`NoMemory`] the library has what it had, and no less room.
     pub fn reserve_lease(&mut self) -> Result<(), NoMemory>
         ensures kept { self.new ≡ record self.old { room = self.new.room } }
-        ensures room { OnOk result (HasPlaces self.new 1 0 0) }
+        ensures room { OnOk result (HasSpare self.new 1 0 0) }
         ensures grows { NoPlaceLost self.old.room self.new.room }
-        ensures succeeds { HasPlaces self.old 1 0 0 → IsOk result }
+        ensures succeeds { HasSpare self.old 1 0 0 → IsOk result }
     {
         self.files.reserve(1)
     }
@@ -93,9 +93,9 @@ impl Raw {
     /// After [`NoMemory`] the library has what it had, and no less room.
     pub fn reserve_allotted(&mut self, pages: u32, inodes: u32) -> Result<(), NoMemory>
         ensures kept { self.new ≡ record self.old { room = self.new.room } }
-        ensures room { OnOk result (HasPlaces self.new 0 pages inodes) }
+        ensures room { OnOk result (HasSpare self.new 0 pages inodes) }
         ensures grows { NoPlaceLost self.old.room self.new.room }
-        ensures succeeds { HasPlaces self.old 0 pages inodes → IsOk result }
+        ensures succeeds { HasSpare self.old 0 pages inodes → IsOk result }
     {
         self.pages.reserve(pages as usize)?;
         self.inodes.reserve(inodes as usize)
@@ -110,7 +110,7 @@ impl Raw {
         ensures kept { OnErr result (self.new ≡ record self.old { room = self.new.room }) }
         ensures back { IfErr result (λ e. e.0 ≡ lease) }
         ensures grows { NoPlaceLost self.old.room self.new.room }
-        ensures succeeds { HasPlaces self.old 1 0 0 → IsOk result }
+        ensures succeeds { HasSpare self.old 1 0 0 → IsOk result }
     {
         match self.files.push(lease) {
             Ok(()) => Ok(()),
@@ -127,7 +127,7 @@ impl Raw {
         ensures kept { OnErr result (self.new ≡ record self.old { room = self.new.room }) }
         ensures back { IfErr result (λ e. e.0 ≡ given) }
         ensures grows { NoPlaceLost self.old.room self.new.room }
-        ensures succeeds { HasPlaces self.old 0 (length given.pages.items) (length given.inodes.items) → IsOk result }
+        ensures succeeds { HasSpare self.old 0 (length given.pages.items) (length given.inodes.items) → IsOk result }
     {
         if self.pages.reserve(given.pages.len()).is_err()
             || self.inodes.reserve(given.inodes.len()).is_err()

@@ -7,10 +7,10 @@ use Rattle.std.proofs.lemmas.List.Concat.{flat_map-append}
 use Rattle.std.proofs.lemmas.List.Elements.{All-append, All-cons, All-map, All-nil, All-pop}
 use Rattle.std.proofs.lemmas.List.Sorted.{IsPermutation-reverse, All-permutation, sum_by-IsPermutation}
 use Rattle.std.proofs.lemmas.List.Sums.{sum_by-append, sum_by-cons, sum_by_push}
-use Rattle.trio_layout.specs.Core.{Core, Place}
+use Rattle.trio_layout.specs.Core.{Core, Location}
 use Rattle.trio_layout.specs.Entries.{Listed}
 use Rattle.trio_layout.specs.Survey.{Met, FileRead, file_of, met_in, plain, root_of}
-use Rattle.trio_survey.specs.declared.file.ListedEntry.{ListedEntry}
+use Rattle.trio_survey.specs.declared.file.EntryRead.{EntryRead}
 use Rattle.trio_layout.specs.declared.superblock.Superblock.{Superblock}
 use Rattle.trio_survey.specs.Seen.{core_with, listed_seen}
 use Rattle.trio_survey.proofs.Roots.{file_rootless}
@@ -68,7 +68,7 @@ lines_below core n f reached = by (ltb n.depth core.inodes) refl
 told_more : (a b c : List TreeLine) (t : TreeLine) → (a ++ t ∷ []) ++ (b ++ c) ≡ a ++ (((t ∷ b) ++ []) ++ c)
 told_more a b c t = rw (append-nil b, append_assoc a (t ∷ []) (b ++ c)) refl
 
-step_lines : (core : Core) (n : Node) (r : Result FileRead Place) (old new : List Node) (told told' : List TreeLine) → n.depth ≤ core.inodes
+step_lines : (core : Core) (n : Node) (r : Result FileRead Location) (old new : List Node) (told told' : List TreeLine) → n.depth ≤ core.inodes
     → node_lines core n ≡ lines_with (λ l. node_lines core (child_of n l)) n.depth n.name n.met.kind r
     → Visited core.inodes n r old new told told' → told' ++ waiting_lines core new ≡ told ++ waiting_lines core (old ++ n ∷ [])
 step_lines core n (Err place) old new told told' reached e v = rw (v.0, v.1, waiting-append core old (n ∷ []), e) refl
@@ -78,7 +78,7 @@ step_lines core n (Ok f) old new told told' reached e v =
 
 -- ---- how many visits they take
 
-abbrev visits_with : (Listed → ℕ) → Result FileRead Place → ℕ
+abbrev visits_with : (Listed → ℕ) → Result FileRead Location → ℕ
 visits_with f (Err place) = 0
 visits_with f (Ok r) = sum_by f (by_name r.entries)
 
@@ -113,7 +113,7 @@ visits_below core n f = by (ltb n.depth core.inodes) refl
         rw (is, turned, sum_by-map (node_visits core) (child_of n) (by_name f.entries)) (omega arith)
     by false is = rw is (omega arith)
 
-step_visits : (core : Core) (n : Node) (r : Result FileRead Place) (old new : List Node) (told told' : List TreeLine)
+step_visits : (core : Core) (n : Node) (r : Result FileRead Location) (old new : List Node) (told told' : List TreeLine)
     → node_visits core n ≡ suc (visits_with (λ l. node_visits core (child_of n l)) r)
     → Visited core.inodes n r old new told told' → waiting_visits core new < waiting_visits core (old ++ n ∷ [])
 step_visits core n (Err place) old new told told' e v = rw v.0 (omega (arith, e, sum_by_push (node_visits core) old n))
@@ -132,7 +132,7 @@ reached_below core n f = by (ltb n.depth core.inodes) refl
         rw is (All-permutation (λ m. m.depth ≤ core.inodes) cs (reverse cs) (IsPermutation-reverse cs) each)
     by false is = rw is (λ k d within. absurd (omega (arith, within)))
 
-step_reached : (core : Core) (n : Node) (r : Result FileRead Place) (old new : List Node) (told told' : List TreeLine)
+step_reached : (core : Core) (n : Node) (r : Result FileRead Location) (old new : List Node) (told told' : List TreeLine)
     → AreReached core old → Visited core.inodes n r old new told told' → AreReached core new
 step_reached core n (Err place) old new told told' all v = rw v.0 all
 step_reached core n (Ok f) old new told told' all v =
@@ -156,7 +156,7 @@ stepped core n before old new told told' e all v =
     }
 
 -- the files that a directory lists, once all of them wait
-pub children_wait : (n : Node) (old new : List Node) (es sorted : List ListedEntry) (i : ℕ) → length sorted ≤ i → new ≡ old ++ map (child_of n) (map listed_seen (take i sorted))
+pub children_wait : (n : Node) (old new : List Node) (es sorted : List EntryRead) (i : ℕ) → length sorted ≤ i → new ≡ old ++ map (child_of n) (map listed_seen (take i sorted))
     → map listed_seen sorted ≡ reverse (by_name (map listed_seen es)) → new ≡ old ++ children_of n (map listed_seen es)
 children_wait n old new es sorted i all e s =
     rw (take_all i sorted all, s, map-reverse (child_of n) (by_name (map listed_seen es))) at e

@@ -21,6 +21,7 @@ tree_line l =
     decimal l.depth ++ codes " " ++ letter l.kind ++ codes " " ++ octal_of l.mode.0 ++ codes " " ++ decimal l.uid
     ++ codes " " ++ decimal l.gid ++ codes " " ++ decimal l.size ++ codes " " ++ escaped_of l.name ++ codes "\n"
 
+-- the tree as text
 abbrev pub tree_text : List TreeLine → List ℕ
 tree_text lines = codes "tree\n" ++ flat_map tree_line lines
 

@@ -12,11 +12,11 @@ use std::alloc::Global;
 use trio_layout::{CoreRange, Superblock};
 use trio_page::{Home, NoMemory, Reads};
 use trio_rights::Kind;
-use trio_survey::file::{FaultPlace, FileParts, ListedEntry, MetFile, read_file};
+use trio_survey::file::{FaultPlace, FileParts, EntryRead, MetFile, read_file};
 
 /// A file whose line is still to come.
 #[derive(Clone, Copy)]
-struct Pending {
+struct Unprinted {
     depth: u32,
     name: TreeName,
     met: MetFile,
@@ -45,7 +45,7 @@ pub fn tree_lines(
     };
     let mut lines = Vec::new(alloc);
     let mut pending = Vec::new(alloc);
-    pending.push(Pending {
+    pending.push(Unprinted {
         depth: 0,
         name: TreeName::Root,
         met: root_file(superblock),
@@ -70,7 +70,7 @@ fn root_file(superblock: &Superblock) -> MetFile
     }
 }
 
-impl Pending {
+impl Unprinted {
     /// Tells the line of the file, as it was read, and lets the files that it lists wait where they
     /// are no deeper than the last depth.
     fn visit(
@@ -78,7 +78,7 @@ impl Pending {
         alloc: Global,
         read: Result<FileParts, FaultPlace>,
         last: u32,
-        pending: &mut Vec<Pending>,
+        pending: &mut Vec<Unprinted>,
         lines: &mut Vec<TreeLine>,
     ) -> Result<(), NoMemory>
         ensures { OnOk result (Visited last (node_seen self.now) (read_seen read)
@@ -107,15 +107,15 @@ impl Pending {
     fn add_children(
         &self,
         alloc: Global,
-        entries: &mut [ListedEntry],
-        pending: &mut Vec<Pending>,
+        entries: &mut [EntryRead],
+        pending: &mut Vec<Unprinted>,
     ) -> Result<(), NoMemory>
         requires { self.now.depth + 1 < 2 ^ 32 }
         ensures { OnOk result (map node_seen pending.new.items ≡ map node_seen pending.old.items ++ children_of (node_seen self.now) (map listed_seen entries.old)) }
     {
         sort_down(alloc, entries)?;
         for listed in entries.iter() {
-            pending.push(Pending {
+            pending.push(Unprinted {
                 depth: self.depth + 1,
                 name: TreeName::Entry(listed.entry.name),
                 met: self.child(listed),
@@ -124,7 +124,7 @@ impl Pending {
         Ok(())
     }
 
-    fn child(&self, listed: &ListedEntry) -> MetFile
+    fn child(&self, listed: &EntryRead) -> MetFile
         ensures { met_seen result ≡ met_in plain self.now.met.ino (listed_seen listed.now) }
     {
         MetFile {
@@ -148,7 +148,7 @@ fn told_size(kind: Kind, file: &FileParts) -> u64
 }
 
 /// Puts the entries in the order of their names, the last name first.
-fn sort_down(alloc: Global, entries: &mut [ListedEntry]) -> Result<(), NoMemory>
+fn sort_down(alloc: Global, entries: &mut [EntryRead]) -> Result<(), NoMemory>
     ensures { OnOk result (map listed_seen entries.new ≡ reverse (by_name (map listed_seen entries.old))) }
 {
     entries.sort_by_key(alloc, |listed| listed.entry.name)?;

@@ -11,13 +11,13 @@ use Rattle.trio_state.specs.State.{State, logged}
 use Rattle.trio_layout.specs.Proposed.{Bundle}
 use Rattle.trio_state.specs.Grants.{grant_fault}
 use Rattle.trio_state.specs.Allotments.{allots, free_pages, free_numbers}
-use Rattle.trio_state.specs.Step.{Event, Grant, Allot, Back, Release, Settle, SetMode, Answer, Given, NoPages, NoInodes, Comes, Does, Step, granted_to, grant_outcome, after_grant_fault, allot_outcome, mode_fault, mode_outcome, moded_to, after_mode_fault, ReleaseEnd, Parted, IsAccepted, IsRefused}
+use Rattle.trio_state.specs.Step.{Event, Grant, Allot, Back, Release, Settle, SetMode, CtlAnswer, Given, NoPages, NoInodes, Comes, Does, Step, granted_to, grant_outcome, after_grant_fault, allot_outcome, mode_fault, mode_outcome, moded_to, after_mode_fault, ReleaseEnd, Parted, IsAccepted, IsRefused}
 
 -- the credentials of a state
 creds_in : (s s' : State) → s' ≡ s → s'.creds ≡ s.creds
 creds_in s s' e = ap (λ (t : State). t.creds) e
 
-grant_creds : (s s' : State) (lib ino : ℕ) (kind : GrantKind) (answer : Answer) → Comes (grant_outcome s lib ino kind) answer s' → s'.creds ≡ s.creds
+grant_creds : (s s' : State) (lib ino : ℕ) (kind : GrantKind) (answer : CtlAnswer) → Comes (grant_outcome s lib ino kind) answer s' → s'.creds ≡ s.creds
 grant_creds s s' lib ino kind answer comes = by_answer (grant_fault s lib ino kind) (row_at s.home ino) comes
   where
     after_fault : (fault : GrantFault) → (after_grant_fault s fault).creds ≡ s.creds
@@ -32,7 +32,7 @@ grant_creds s s' lib ino kind answer comes = by_answer (grant_fault s lib ino ki
     by_answer None None c = ap (λ (t : State). t.creds) c.1
     by_answer None (Some r) c = ap (λ (t : State). t.creds) c.1
 
-allot_creds : (s s' : State) (lib wanted many : ℕ) (answer : Answer) → Comes (allot_outcome s lib wanted many) answer s' → s'.creds ≡ s.creds
+allot_creds : (s s' : State) (lib wanted many : ℕ) (answer : CtlAnswer) → Comes (allot_outcome s lib wanted many) answer s' → s'.creds ≡ s.creds
 allot_creds s s' lib wanted many answer comes =
     by_tests (ltb (length (free_pages s)) wanted) (ltb (length (free_numbers s)) many) comes
   where
@@ -41,7 +41,7 @@ allot_creds s s' lib wanted many answer comes =
     by_tests false true c = ap (λ (t : State). t.creds) c.1
     by_tests false false c = ap (λ (t : State). t.creds) c.1
 
-mode_creds : (s s' : State) (lib ino mode : ℕ) (answer : Answer) → Comes (mode_outcome s lib ino mode) answer s' → s'.creds ≡ s.creds
+mode_creds : (s s' : State) (lib ino mode : ℕ) (answer : CtlAnswer) → Comes (mode_outcome s lib ino mode) answer s' → s'.creds ≡ s.creds
 mode_creds s s' lib ino mode answer comes = by_fault (mode_fault s lib ino mode (row_at s.home ino)) comes
   where
     after_fault : (fault : ModeFault) → (after_mode_fault s fault).creds ≡ s.creds
@@ -55,12 +55,12 @@ mode_creds s s' lib ino mode answer comes = by_fault (mode_fault s lib ino mode 
     by_fault (Some fault) c = ap (λ (t : State). t.creds) c.1 ∙ after_fault fault
     by_fault None c = ap (λ (t : State). t.creds) c.1
 
-release_creds : (s s' : State) (lib : ℕ) (b : Bundle) (answer : Answer) → ReleaseEnd s lib b answer s' → s'.creds ≡ s.creds
+release_creds : (s s' : State) (lib : ℕ) (b : Bundle) (answer : CtlAnswer) → ReleaseEnd s lib b answer s' → s'.creds ≡ s.creds
 release_creds s s' lib b answer (Parted n parted e same) = creds_in s s' same
 release_creds s s' lib b answer (IsAccepted closed t e ends) = ends.creds
 release_creds s s' lib b answer (IsRefused closed f why e tells ends) = ends.creds
 
-does_creds : (s s' : State) (event : Event) (answer : Answer) → Does s event answer s' → s'.creds ≡ s.creds
+does_creds : (s s' : State) (event : Event) (answer : CtlAnswer) → Does s event answer s' → s'.creds ≡ s.creds
 does_creds s s' (Grant lib ino kind) answer does = grant_creds s s' lib ino kind answer does
 does_creds s s' (Allot lib wanted many) answer does = allot_creds s s' lib wanted many answer does
 does_creds s s' (Back lib ino) answer does = ap (λ (t : State). t.creds) does.1
@@ -68,6 +68,6 @@ does_creds s s' (Release lib b) answer does = release_creds s s' lib b answer do
 does_creds s s' (Settle lib b) answer does = does.3.creds
 does_creds s s' (SetMode lib ino mode) answer does = mode_creds s s' lib ino mode answer does
 
-pub step_creds : (s s' : State) (event : Event) (answer : Answer) → Step s event answer s' → s'.creds ≡ s.creds
+pub step_creds : (s s' : State) (event : Event) (answer : CtlAnswer) → Step s event answer s' → s'.creds ≡ s.creds
 step_creds s s' event answer (inl does) = does_creds s s' event answer does
 step_creds s s' event answer (inr none) = creds_in s s' none.2

@@ -17,18 +17,17 @@ use Rattle.trio_lists.specs.Lists.{In, is_among}
 use Rattle.trio_page.specs.Sheets.{Sheet, sheet_numbers}
 use Rattle.trio_layout.specs.Image.{Image, row_at}
 use Rattle.trio_state.specs.State.{OpenGrant, State, logged}
-use Rattle.trio_nodes.specs.GrantKinds.{is_write}
+use Rattle.trio_nodes.specs.GrantKinds.{is_write, is_hold}
 use Rattle.trio_layout.specs.Proposed.{Written, Bundle, is_written}
 use Rattle.trio_state.specs.Grants.{grant_fault, opened, opens}
 use Rattle.trio_state.specs.Allotments.{allots, free_pages, free_numbers, out_after, out_with}
 use Rattle.trio_state.specs.Bundles.{Ends, grants_after, is_in_bundle, lent_part}
-use Rattle.trio_nodes.specs.GrantKinds.{is_hold}
 use Rattle.trio_state.specs.Step.{Event, Grant, Allot, Release, Given, NoPages, NoInodes, Done, NotClosed, NoMemory, Comes, after_grant_fault, granted_to, grant_outcome, allot_outcome, ReleaseEnd, Parted, IsAccepted, IsRefused}
 use Rattle.trio_state.specs.Run.{Move}
-use Rattle.trio_lists.proofs.Filters.{finds}
+use Rattle.trio_lists.proofs.Filters.{In-find, filter-In}
 use Rattle.trio_raw.specs.Has.{Has, nothing, bundle_of, has_all_of, rest_of, whole_bundle, is_nothing}
 use Rattle.trio_raw.specs.Laws.{lent_file, with_lent, with_allotted, zero_sheet}
-use Rattle.trio_raw.proofs.Members.{In-left, In-right, In-cases, In-map, map_from, among_from, filter_in, In-among}
+use Rattle.trio_lists.proofs.Members.{In-left, In-right, In-cases, In-map, map-In, In-is_among, is_among-In}
 use Rattle.trio_script.specs.declared.line.RawLine.{RawLine}
 use Rattle.trio_script.specs.declared.line.RawLine.TheVariants.{GrantWrite, Allot as AllotLine, Poke, Release as ReleaseLine}
 use Rattle.trio_script.specs.declared.ScriptLine.{ScriptLine}
@@ -134,7 +133,7 @@ more_outs : (lib : ℕ) (outs : List (Option LibNo)) (mine new : List ℕ) → O
 more_outs lib outs mine new h = record {
   lib = λ n l e. by n l e (is_among n new) refl;
   number = λ n t. elim (is_out-given (Some (library lib)) new n outs t) [
-    | inl a ↦ In-right n mine new (In-among n new a)
+    | inl a ↦ In-right n mine new (is_among-In n new a)
     | inr was ↦ In-left n mine new (h.number n was)
   ];
 }
@@ -197,8 +196,8 @@ allot_in_hand lib wanted many p told moves p' h a comes =
 -- a file of the bundle is written in it
 in_written : (b : Bundle) (n : ℕ) → In n (map (λ (w : Written). w.ino) b.writes) → is_written b n ≡ true
 in_written b n i =
-    let r = map_from (λ (w : Written). w.ino) n b.writes i in
-    let f = finds (λ (v : Written). eqb v.ino n) b.writes r.0 r.1 (eq-eqb r.0.ino n (sym r.2)) in ap is_some f.1
+    let r = map-In (λ (w : Written). w.ino) n b.writes i in
+    let f = In-find (λ (v : Written). eqb v.ino n) b.writes r.0 r.1 (eq-eqb r.0.ino n (sym r.2)) in ap is_some f.1
 
 -- a write grant on a file of the bundle ends with it
 in_bundle : (lib : ℕ) (b : Bundle) (g : OpenGrant) → g.lib ≡ lib → g.kind ≡ Write → is_written b g.ino ≡ true → is_in_bundle lib b g ≡ true
@@ -217,8 +216,8 @@ record Stayed (s : State) (lib' : ℕ) (b : Bundle) (g : OpenGrant) : Type 0 whe
 stayed : (s : State) (lib : ℕ) (b : Bundle) (image : Image) (s' : State) → Ends s lib b image s' → (g : OpenGrant) → In g s'.open_grants → Stayed s lib b g
 stayed s lib b image s' e g i =
     let shown : In (lent_part g) (map lent_part (grants_after s lib b)) = subst (In (lent_part g)) e.grants (In-map lent_part g s'.open_grants i) in
-    let r = map_from lent_part (lent_part g) (grants_after s lib b) shown in
-    let was = filter_in (λ (x : OpenGrant). not (is_in_bundle lib b x)) r.0 s.open_grants r.1 in
+    let r = map-In lent_part (lent_part g) (grants_after s lib b) shown in
+    let was = filter-In (λ (x : OpenGrant). not (is_in_bundle lib b x)) r.0 s.open_grants r.1 in
     record { grant = r.0; is_open = was.0; outside = not-true (is_in_bundle lib b r.0) was.1; same = r.2 }
 
 -- what is out after the end was out before and isn't handed in; so it is left
@@ -230,7 +229,7 @@ outs_left lib outs outs' mine these left h splits e = record {
   number = λ n t.
       let r = is_out-back these n outs (ap (λ x. is_out x n) (sym e) ∙ t) in
       elim (splits n (h.number n r.0)) [
-        | inl j ↦ absurd (both_ways (is_among n these) r.1 (among_from n these j))
+        | inl j ↦ absurd (both_ways (is_among n these) r.1 (In-is_among n these j))
         | inr j ↦ j
       ];
 }

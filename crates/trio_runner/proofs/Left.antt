@@ -7,9 +7,9 @@ use Rattle.std.proofs.lemmas.List.{map-id}
 use Rattle.trio_lists.specs.Lists.{In, is_among}
 use Rattle.trio_page.specs.Sheets.{Sheet, sheet_numbers}
 use Rattle.trio_layout.specs.Proposed.{Written, Bundle}
-use Rattle.trio_lists.proofs.Filters.{finds}
+use Rattle.trio_lists.proofs.Filters.{In-find}
 use Rattle.trio_raw.specs.Has.{Has, nothing, named, without, without_all, bundle_of, rest_of, whole_bundle}
-use Rattle.trio_raw.proofs.Members.{In-map, map_from, among_from, In-among}
+use Rattle.trio_lists.proofs.Members.{In-map, map-In, In-is_among, is_among-In}
 use Rattle.trio_raw.proofs.Once.{found}
 use Rattle.trio_runner.proofs.Unchanged.{inos_of}
 
@@ -22,7 +22,7 @@ module _ {X : Type 0} (number : X → ℕ) where
   in_named : (xs : List X) (names : List ℕ) (y : X) → In y xs → In (number y) names → (z : X) × In z (named number xs names) × (number z ≡ number y)
   in_named xs [] y i j = absurd j
   in_named xs (n ∷ names) y i (inl e) =
-      let f = finds (λ x. eqb (number x) n) xs y i (eq-eqb (number y) n e) in
+      let f = In-find (λ x. eqb (number x) n) xs y i (eq-eqb (number y) n e) in
       let r = found (λ x. eqb (number x) n) xs f.0 f.1 in (
         f.0,
         subst (λ o. In f.0 (cons_option o (named number xs names))) (sym f.1) (inl refl),
@@ -59,14 +59,14 @@ all_splits mine left n i = inl i
 
 named_splits : {X : Type 0} (number : X → ℕ) (xs : List X) (names : List ℕ) → Splits (map number xs) (map number (named number xs names)) (map number (without_all number xs names))
 named_splits number xs names n i =
-    let r = map_from number n xs i in
+    let r = map-In number n xs i in
     elim (cases_Bool (is_among n names)) [
       | inl t ↦
-          (let z = in_named number xs names r.0 r.1 (subst (λ m. In m names) r.2 (In-among n names t)) in
+          (let z = in_named number xs names r.0 r.1 (subst (λ m. In m names) r.2 (is_among-In n names t)) in
           inl (subst (λ m. In m (map number (named number xs names))) (z.2 ∙ sym r.2) (In-map number z.0 (named number xs names) z.1)))
       | inr f ↦
           (let left : In r.0 (without_all number xs names) =
-          in_without_all number xs names r.0 r.1 (λ j. both_ways (is_among n names) f (among_from n names (subst (λ m. In m names) (sym r.2) j))) in
+          in_without_all number xs names r.0 r.1 (λ j. both_ways (is_among n names) f (In-is_among n names (subst (λ m. In m names) (sym r.2) j))) in
           inr (subst (λ m. In m (map number (without_all number xs names))) (sym r.2) (In-map number r.0 (without_all number xs names) left)))
     ]
 

@@ -16,12 +16,13 @@ use Rattle.trio_layout.specs.Proposed.{Bundle}
 use Rattle.trio_state.specs.Grants.{grant_fault, opened}
 use Rattle.trio_state.specs.Allotments.{allots, free_pages, free_numbers}
 use Rattle.trio_state.specs.Bundles.{Ends, grants_after, is_in_bundle, lent_part}
-use Rattle.trio_state.specs.Step.{Event, Grant, Allot, Release, Answer, Given, NoPages, NoInodes, Done, NotClosed, NoMemory, Comes, Does, granted_to, grant_outcome, after_grant_fault, allot_outcome, ReleaseEnd, Parted, IsAccepted, IsRefused}
+use Rattle.trio_state.specs.Step.{Event, Grant, Allot, Release, CtlAnswer, Given, NoPages, NoInodes, Done, NotClosed, NoMemory, Comes, Does, granted_to, grant_outcome, after_grant_fault, allot_outcome, ReleaseEnd, Parted, IsAccepted, IsRefused}
 use Rattle.trio_state.specs.Run.{Move}
 use Rattle.trio_laws.proofs.Runs.{step_kept, start_kept}
 use Rattle.trio_raw.specs.Has.{Has, nothing, poked, has_all_of, bundle_of, rest_of, whole_bundle, is_nothing}
 use Rattle.trio_raw.specs.InHand.{InHand}
-use Rattle.trio_raw.proofs.Members.{In-map, In-cases, map_from, filter_in}
+use Rattle.trio_lists.proofs.Filters.{filter-In}
+use Rattle.trio_lists.proofs.Members.{In-map, In-cases, map-In}
 use Rattle.trio_raw.proofs.InHand.{nothing_is_in_hand, poked_is_in_hand, taken_was_given, all_was_given, rest_is_in_hand, nothing_is_left, stays_in_hand}
 use Rattle.trio_raw.proofs.Steps.{granted_is_in_hand, given_out_is_in_hand}
 use Rattle.trio_script.specs.declared.line.RawLine.{RawLine}
@@ -71,7 +72,7 @@ line_end lib p said told moves p' h plays = by_event (event_of lib p.has said) r
 -- ---- what stands after it
 
 -- what no line is told doesn't come
-untold : (a b : Answer) (told : LineAnswer) → a ≡ b → told_of a ≡ Some told → told_of b ≡ None → ⊥
+untold : (a b : CtlAnswer) (told : LineAnswer) → a ≡ b → told_of a ≡ Some told → told_of b ≡ None → ⊥
 untold a b told same is none =
     let wrong : None ≡ Some told = sym none ∙ ap told_of (sym same) ∙ is in absurd (cc wrong)
 
@@ -113,7 +114,7 @@ grant_stands : (lib ino : ℕ) (p : Player) (told : LineAnswer) (moves : List Mo
 grant_stands lib ino p told moves p' h kept a comes =
     by_answer (grant_fault p.state lib ino Write) (row_at p.state.home ino) refl refl comes
   where
-    after : Answer → Has
+    after : CtlAnswer → Has
     after answer = has_after lib p.state p.has (GrantWrite ino) answer
 
     by_answer : (fault : Option GrantFault) (row : Option Row) → grant_fault p.state lib ino Write ≡ fault → row_at p.state.home ino ≡ row → Comes (granted_to p.state lib ino Write fault row) a.answer p'.state → Stands lib p'
@@ -126,7 +127,7 @@ grant_stands lib ino p told moves p' h kept a comes =
     by_answer None None e f c = absurd (untold a.answer Done told c.0 a.told_is refl)
     by_answer None (Some r) e f c =
         let g : OpenGrant = opened p.state lib ino Write r in
-        let lent = granted_is_in_hand p.state lib ino p.has 0 p'.state h.kept.fit h.in_hand (subst (λ (x : Answer). Comes (grant_outcome p.state lib ino Write) x p'.state) c.0 comes) in
+        let lent = granted_is_in_hand p.state lib ino p.has 0 p'.state h.kept.fit h.in_hand (subst (λ (x : CtlAnswer). Comes (grant_outcome p.state lib ino Write) x p'.state) c.0 comes) in
         record {
           kept = kept;
           in_hand = subst (InHand p'.state lib) (sym (a.has ∙ ap (has_after lib p.state p.has (GrantWrite ino)) c.0 ∙ ap (has_lent lib p.state p.has ino) lent.1)) lent.2;
@@ -160,7 +161,7 @@ allot_stands lib wanted many p told moves p' h kept a comes =
       kept = kept;
       in_hand = subst (InHand p'.state lib) (sym (a.has ∙ ap (has_after lib p.state p.has (AllotLine wanted many)) c.0))
           (given_out_is_in_hand p.state lib p.has wanted many (take wanted ps) (take many ns) p'.state h.kept h.in_hand
-          (subst (λ (x : Answer). Comes (allot_outcome p.state lib wanted many) x p'.state) c.0 comes));
+          (subst (λ (x : CtlAnswer). Comes (allot_outcome p.state lib wanted many) x p'.state) c.0 comes));
       no_hold = λ g i l k. h.no_hold g (subst (λ (s : State). In g s.open_grants) c.1 i) l k;
     }
 
@@ -168,9 +169,9 @@ allot_stands lib wanted many p told moves p' h kept a comes =
 ends_no_hold : (lib : ℕ) (p : Player) (b : Bundle) (image : Image) (s' : State) → Stands lib p → Ends p.state lib b image s' → (g : OpenGrant) → In g s'.open_grants → g.lib ≡ lib → g.kind ≡ Hold → ⊥
 ends_no_hold lib p b image s' h e g i l k =
     let shown : In (lent_part g) (map lent_part (grants_after p.state lib b)) = subst (In (lent_part g)) e.grants (In-map lent_part g s'.open_grants i) in
-    let r = map_from lent_part (lent_part g) (grants_after p.state lib b) shown in
+    let r = map-In lent_part (lent_part g) (grants_after p.state lib b) shown in
     let same : lent_part g ≡ lent_part r.0 = r.2 in
-    let was = filter_in (λ (x : OpenGrant). not (is_in_bundle lib b x)) r.0 p.state.open_grants r.1 in
+    let was = filter-In (λ (x : OpenGrant). not (is_in_bundle lib b x)) r.0 p.state.open_grants r.1 in
     h.no_hold r.0 was.0 (ap (λ (x : OpenGrant). x.lib) (sym same) ∙ l) (ap (λ (x : OpenGrant). x.kind) (sym same) ∙ k)
 
 rest_stands : (lib : ℕ) (inos pages numbers : List ℕ) (p p' : Player) (image : Image) → Stands lib p → Kept p'.state → Ends p.state lib (bundle_of p.has inos pages numbers) image p'.state → p'.has ≡ rest_of p.has inos pages numbers → Stands lib p'
@@ -243,7 +244,7 @@ line_stands lib p said told moves p' h plays =
 -- ---- the end
 
 -- no other answer is told at the end
-unended : (a b : Answer) (end : EndAnswer) → a ≡ b → end_of a ≡ Some end → end_of b ≡ None → ⊥
+unended : (a b : CtlAnswer) (end : EndAnswer) → a ≡ b → end_of a ≡ Some end → end_of b ≡ None → ⊥
 unended a b end same is none =
     let wrong : None ≡ Some end = sym none ∙ ap end_of (sym same) ∙ is in absurd (cc wrong)
 

@@ -5,14 +5,14 @@ use Rattle.trio_rights.specs.Row.{Row}
 use Rattle.trio_nodes.specs.declared.grant.GrantKind.TheVariants.{Write}
 use Rattle.trio_layout.specs.Image.{Image, row_at}
 use Rattle.trio_state.specs.State.{OpenGrant, State}
-use Rattle.trio_state.specs.Step.{Event, Release, Answer, Granted, NotGranted, Given, NoPages, NoInodes, Done, Accepted, Refused, NotClosed, Settled, ModeSet, NotModeSet, NoMemory, Step}
+use Rattle.trio_state.specs.Step.{Event, Release, CtlAnswer, Granted, NotGranted, Given, NoPages, NoInodes, Done, Accepted, Refused, NotClosed, Settled, ModeSet, NotModeSet, NoMemory, Step}
 use Rattle.trio_laws.specs.Known.{Known, known, plain_state, is_refusal, SameAnswer}
 use Rattle.trio_laws.proofs.KnownSteps.{known_decides, same_event_same_answer}
 use Rattle.trio_raw.specs.Has.{Has, whole_bundle, is_nothing}
 use Rattle.trio_raw.specs.Laws.{lent_file, with_lent}
 use Rattle.trio_script.specs.Said.{Said, grant_write, allot, poke, release}
 use Rattle.trio_script.specs.Script.{SaidLine}
-use Rattle.trio_report.specs.Answers.{Answer as Told}
+use Rattle.trio_report.specs.Answers.{CtlAnswer as Told}
 use Rattle.trio_report.specs.declared.report.EndAnswer.{EndAnswer}
 use Rattle.trio_runner.specs.Play.{Player, Moved, PlaysLine, Plays, EndsAlone, EndsAll, PlaysEnd, event_of, told_of, end_of, told_alone, has_alone, has_lent, has_after, at_start}
 use Rattle.trio_runner.specs.PlayLaws.{Stands}
@@ -25,7 +25,7 @@ record Alike (p q : Player) : Type 0 where
   has_same : p.has ≡ q.has
 
 -- a refusal tells nothing
-refusal_is : (a : Answer) → is_refusal a ≡ true → a ≡ Refused
+refusal_is : (a : CtlAnswer) → is_refusal a ≡ true → a ≡ Refused
 refusal_is Refused e = refl
 refusal_is (Granted children) e = absurd (false≢true e)
 refusal_is (NotGranted fault) e = absurd (false≢true e)
@@ -40,15 +40,15 @@ refusal_is ModeSet e = absurd (false≢true e)
 refusal_is (NotModeSet fault) e = absurd (false≢true e)
 refusal_is NoMemory e = absurd (false≢true e)
 
-one_answer : (a b : Answer) → SameAnswer a b → a ≡ b
+one_answer : (a b : CtlAnswer) → SameAnswer a b → a ≡ b
 one_answer a b (inl e) = e
 one_answer a b (inr r) = refusal_is a r.0 ∙ sym (refusal_is b r.1)
 
 -- what is told is no want of memory
-told_some : (a : Answer) (told : Told) → told_of a ≡ Some told → a ≢ NoMemory
+told_some : (a : CtlAnswer) (told : Told) → told_of a ≡ Some told → a ≢ NoMemory
 told_some a told is e = (let wrong : None ≡ Some told = sym (ap told_of e) ∙ is in cc wrong)
 
-end_some : (a : Answer) (end : EndAnswer) → end_of a ≡ Some end → a ≢ NoMemory
+end_some : (a : CtlAnswer) (end : EndAnswer) → end_of a ≡ Some end → a ≢ NoMemory
 end_some a end is e = (let wrong : None ≡ Some end = sym (ap end_of e) ∙ is in cc wrong)
 
 -- what a granted file lends goes by what is known
@@ -58,7 +58,7 @@ has_lent_plain lib s has ino None = refl
 has_lent_plain lib s has ino (Some r) = ap (λ (g : OpenGrant). with_lent has (lent_file g))
     ((known_decides s).openings lib ino Write r)
 
-has_after_plain : (lib : ℕ) (s : State) (has : Has) (said : Said) (a : Answer)
+has_after_plain : (lib : ℕ) (s : State) (has : Has) (said : Said) (a : CtlAnswer)
     → has_after lib (plain_state (known s)) has said a ≡ has_after lib s has said a
 has_after_plain lib s has (allot pages numbers) a = refl
 has_after_plain lib s has (poke at offset bytes) a = refl
@@ -77,7 +77,7 @@ has_after_plain lib s has (grant_write ino) ModeSet = refl
 has_after_plain lib s has (grant_write ino) (NotModeSet fault) = refl
 has_after_plain lib s has (grant_write ino) NoMemory = refl
 
-has_after_same : (lib : ℕ) (p q : Player) (said : Said) (a b : Answer) → Alike p q → a ≡ b
+has_after_same : (lib : ℕ) (p q : Player) (said : Said) (a b : CtlAnswer) → Alike p q → a ≡ b
     → has_after lib p.state p.has said a ≡ has_after lib q.state q.has said b
 has_after_same lib p q said a b like e =
     sym (has_after_plain lib p.state p.has said a)

@@ -21,7 +21,7 @@ use Rattle.trio_lease.specs.declared.lease.Lease.TheVariants.{Write as WriteLent
 use Rattle.trio_lease.specs.Shown.{LentFile}
 use Rattle.trio_allot.specs.Out.{fresh_page, inode_numbers, page_numbers}
 use Rattle.trio_page.specs.Sheets.{Sheet}
-use Rattle.trio_state.specs.Handed.{fresh_sheet, lent_sheet}
+use Rattle.trio_state.specs.Views.{fresh_sheet, lent_sheet}
 use Rattle.trio_layout.specs.Image.{row_at}
 use Rattle.trio_state.specs.State.{OpenGrant, State}
 use Rattle.trio_layout.specs.Proposed.{Bundle, Written}
@@ -29,7 +29,7 @@ use Rattle.trio_state.specs.Given.{GivenTo}
 use Rattle.trio_state.specs.Grants.{opened}
 use Rattle.trio_state.specs.Bundles.{is_parted, is_parent_written, lowest, parted_hold}
 use Rattle.trio_nodes.specs.GrantKinds.{is_hold}
-use Rattle.trio_state.specs.Step.{Event, Allot, Grant, Release, Answer, Given, Granted, Accepted, Refused, NotClosed, NoMemory, Step, Parted, IsAccepted, IsRefused}
+use Rattle.trio_state.specs.Step.{Event, Allot, Grant, Release, CtlAnswer, Given, Granted, Accepted, Refused, NotClosed, NoMemory, Step, Parted, IsAccepted, IsRefused}
 use Rattle.trio_state.specs.Tells.{Why}
 use Rattle.trio_state.specs.Run.{Move}
 use Rattle.trio_raw.specs.Has.{nothing, has_all_of, bundle_of, rest_of, whole_bundle, is_nothing}
@@ -96,7 +96,7 @@ all_given s h b ready e = subst (GivenTo s h.lib.0) (sym e) (all_was_given s h.l
 -- ---- releases
 
 -- a bundle that was handed in, by either verdict
-verdict_played : (inos pages numbers : List ℕ) (answer : Answer) (told : LineAnswer) (s : State) (h : Held) (s' : State) (h' : Held) (b : Bundle) → told_of answer ≡ Some told → has_after h.lib.0 s h.has (ReleaseLine inos pages numbers) answer ≡ rest_of h.has inos pages numbers → (IsFalse (has_all_of h.has inos pages numbers) → ⊥) → b ≡ bundle_of h.has inos pages numbers → Step s (Release h.lib.0 b) answer s' → h'.has ≡ rest_of h.has inos pages numbers → h'.lib ≡ h.lib → LinePlayed (ReleaseLine inos pages numbers) told s h s' h'
+verdict_played : (inos pages numbers : List ℕ) (answer : CtlAnswer) (told : LineAnswer) (s : State) (h : Held) (s' : State) (h' : Held) (b : Bundle) → told_of answer ≡ Some told → has_after h.lib.0 s h.has (ReleaseLine inos pages numbers) answer ≡ rest_of h.has inos pages numbers → (IsFalse (has_all_of h.has inos pages numbers) → ⊥) → b ≡ bundle_of h.has inos pages numbers → Step s (Release h.lib.0 b) answer s' → h'.has ≡ rest_of h.has inos pages numbers → h'.lib ≡ h.lib → LinePlayed (ReleaseLine inos pages numbers) told s h s' h'
 verdict_played inos pages numbers answer told s h s' h' b is after all e step rest lib =
     let event : Event = Release h.lib.0 (bundle_of h.has inos pages numbers) in
     let moves : List Move = record { before = s; event = event; answer = answer; after = s' } ∷ [] in
@@ -119,7 +119,7 @@ pub refused_played : (inos pages numbers : List ℕ) (s : State) (h : Held) (s' 
 refused_played inos pages numbers s h s' h' b why all e step rest lib = verdict_played inos pages numbers (Refused why) answered.Refused s h s' h' b refl refl all e step rest lib
 
 -- the end of a library that has something, by either verdict
-pub end_played : (answer : Answer) (end : EndAnswer) (s : State) (h : Held) (s' : State) (h' : Held) (b : Bundle) → end_of answer ≡ Some end → (IsTrue (is_nothing h.has) → ⊥) → b ≡ whole_bundle h.has → Step s (Release h.lib.0 b) answer s' → h'.has ≡ nothing → EndPlayed end s h s' h'
+pub end_played : (answer : CtlAnswer) (end : EndAnswer) (s : State) (h : Held) (s' : State) (h' : Held) (b : Bundle) → end_of answer ≡ Some end → (IsTrue (is_nothing h.has) → ⊥) → b ≡ whole_bundle h.has → Step s (Release h.lib.0 b) answer s' → h'.has ≡ nothing → EndPlayed end s h s' h'
 end_played answer end s h s' h' b is some e step none =
     let event : Event = Release h.lib.0 (whole_bundle h.has) in
     let moves : List Move = record { before = s; event = event; answer = answer; after = s' } ∷ [] in
@@ -236,7 +236,7 @@ if_both_ok (Ok x) P A Q f h k = f x h k
 if_both_ok (Err e) P A Q f h k = h
 
 -- the step of a verdict, by the library and the answer that are known
-pub verdict_step : (s s' : State) (lib lib' : LibNo) (b : Bundle) (verdict : ReleaseAnswer) (answer : Answer) → lib ≡ lib' → verdict_of verdict ≡ answer → Step s (Release lib.0 b) (verdict_of verdict) s' → Step s (Release lib'.0 b) answer s'
+pub verdict_step : (s s' : State) (lib lib' : LibNo) (b : Bundle) (verdict : ReleaseAnswer) (answer : CtlAnswer) → lib ≡ lib' → verdict_of verdict ≡ answer → Step s (Release lib.0 b) (verdict_of verdict) s' → Step s (Release lib'.0 b) answer s'
 verdict_step s s' lib lib' b verdict answer e f step =
     subst (λ (l : LibNo). Step s (Release l.0 b) answer s') e
-    (subst (λ (a : Answer). Step s (Release lib.0 b) a s') f step)
+    (subst (λ (a : CtlAnswer). Step s (Release lib.0 b) a s') f step)

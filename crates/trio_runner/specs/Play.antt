@@ -9,7 +9,7 @@ use Rattle.trio_nodes.specs.declared.answers.GrantFault.TheVariants.{NotLive, De
 use Rattle.trio_layout.specs.Image.{Image, row_at}
 use Rattle.trio_state.specs.State.{State}
 use Rattle.trio_state.specs.Grants.{opened}
-use Rattle.trio_state.specs.Step.{Event, Grant, Allot, Release, Answer, Granted, NotGranted, Given, NoPages, NoInodes, Accepted, Refused, Step}
+use Rattle.trio_state.specs.Step.{Event, Grant, Allot, Release, CtlAnswer, Granted, NotGranted, Given, NoPages, NoInodes, Accepted, Refused, Step}
 use Rattle.trio_state.specs.Run.{start, Move}
 use Rattle.trio_raw.specs.Has.{Has, nothing, poked, has_all_of, bundle_of, rest_of, whole_bundle, is_nothing}
 use Rattle.trio_raw.specs.Laws.{lent_file, with_lent, with_allotted}
@@ -60,7 +60,7 @@ told_fault (Busy holder) = Some answered.Busy
 told_fault NoGrantMemory = None
 
 -- how the controller's answer is told; None for one that no line is told, want of memory among them
-abbrev pub told_of : Answer → Option LineAnswer
+abbrev pub told_of : CtlAnswer → Option LineAnswer
 told_of (Granted children) = Some answered.Granted
 told_of (NotGranted fault) = told_fault fault
 told_of (Given pages numbers) = Some (answered.Allotted pages numbers)
@@ -77,7 +77,7 @@ has_lent lib s has ino None = has
 
 -- What the library has after the controller's answer in this state: a granted file beside what it had; allotted pages, all zero,
 -- and numbers; and without what a release handed in.
-abbrev pub has_after : ℕ → State → Has → RawLine → Answer → Has
+abbrev pub has_after : ℕ → State → Has → RawLine → CtlAnswer → Has
 has_after lib s has (GrantWrite ino) (Granted children) = has_lent lib s has ino (row_at s.home ino)
 has_after lib s has (AllotLine wanted_pages wanted_numbers) (Given pages numbers) = with_allotted has pages numbers
 has_after lib s has (ReleaseLine inos pages numbers) Accepted = rest_of has inos pages numbers
@@ -95,7 +95,7 @@ pub record Alone (p : Player) (said : RawLine) (told : LineAnswer) (moves : List
 
 -- a line that asks this event: the controller takes one step, and its answer is told
 pub record Asks (lib : ℕ) (p : Player) (said : RawLine) (event : Event) (told : LineAnswer) (moves : List Move) (p' : Player) : Type 0 where
-  pub answer : Answer
+  pub answer : CtlAnswer
   pub told_is : told_of answer ≡ Some told
   pub step : Step p.state event answer p'.state
   pub moves_are : moves ≡ record { before = p.state; event = event; answer = answer; after = p'.state } ∷ []
@@ -132,14 +132,14 @@ pub record EndsAlone (p : Player) (end : EndAnswer) (moves : List Move) (p' : Pl
   pub same : p' ≡ p
 
 -- how the answer to the last release is told
-abbrev pub end_of : Answer → Option EndAnswer
+abbrev pub end_of : CtlAnswer → Option EndAnswer
 end_of Accepted = Some EndAccepted
 end_of (Refused why) = Some EndRefused
 end_of _ = None
 
 -- the end of a library that has something: all of it is released in one bundle
 pub record EndsAll (lib : ℕ) (p : Player) (end : EndAnswer) (moves : List Move) (p' : Player) : Type 0 where
-  pub answer : Answer
+  pub answer : CtlAnswer
   pub end_is : end_of answer ≡ Some end
   pub step : Step p.state (Release lib (whole_bundle p.has)) answer p'.state
   pub moves_are :

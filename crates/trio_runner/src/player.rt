@@ -3,11 +3,11 @@
 ghost use Rattle.std.specs.Prelude.{◌≡◌, ◌≤◌, ◌∷◌, ◌++◌, [], IfOk, OnOk, Some, length, map};
 ghost use Rattle.trio_state.specs.Given.{GivenTo};
 ghost use Rattle.trio_allot.specs.Out.{inode_numbers, page_numbers};
-ghost use Rattle.trio_state.specs.Handed.{bundle_in, fresh_sheet};
+ghost use Rattle.trio_state.specs.Views.{bundle_in, fresh_sheet};
 ghost use Rattle.trio_state.specs.Kept.{Kept};
 ghost use Rattle.trio_state.specs.Run.{start};
 ghost use Rattle.trio_state.specs.Step.{Release, Step};
-ghost use Rattle.trio_raw.specs.Held.{HasPlaces, file_of};
+ghost use Rattle.trio_raw.specs.Held.{HasSpare, file_of};
 ghost use Rattle.trio_raw.specs.Laws.{with_lent};
 ghost use Rattle.trio_ctl.specs.Answers.{allot_fault_answer, verdict_of};
 ghost use Rattle.trio_ctl.specs.Ctl.{IsLibrary};
@@ -130,7 +130,7 @@ fn play_grant(ctl: &mut Ctl, raw: &mut Raw, ino: u32) -> Result<LineAnswer, NoMe
 
 /// Adds a lease, for which there is room.
 fn keep_lease(raw: &mut Raw, lease: WriteLease)
-    requires { HasPlaces raw.old 1 0 0 }
+    requires { HasSpare raw.old 1 0 0 }
     ensures has { raw.new.has ≡ with_lent raw.old.has (file_of lease) }
     ensures lib { raw.new.lib ≡ raw.old.lib }
 {

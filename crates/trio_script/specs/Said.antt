@@ -7,6 +7,7 @@ use Rattle.trio_script.specs.declared.line.RawLine.{RawLine}
 use Rattle.trio_script.specs.declared.line.RawLine.TheVariants.{GrantWrite, Allot, Poke, Release}
 use Rattle.trio_script.specs.Words.{words_of, number_of, hex_of, list_of}
 
+-- a request for a write grant, where its number is one
 abbrev pub granted : Option ℕ → Option RawLine
 granted (Some ino) = Some (GrantWrite ino)
 granted None = None
@@ -16,6 +17,7 @@ abbrev pub grant_in : List (List ℕ) → Option RawLine
 grant_in (right ∷ ino ∷ []) = if bytes_eq right (codes "write") then granted (number_of ino) else None
 grant_in _ = None
 
+-- a request for an allotment, where both numbers are
 abbrev pub allotted : Option ℕ → Option ℕ → Option RawLine
 allotted (Some pages) (Some inodes) = Some (Allot pages inodes)
 allotted _ _ = None
@@ -39,6 +41,7 @@ part_spot place (Some ino) (Some i) =
     (if bytes_eq place (codes "block") then Some (Block ino i) else None)
 part_spot place _ _ = None
 
+-- bytes to be written, where spot, offset and bytes are there
 abbrev pub poked : Option Spot → Option ℕ → Option (List ℕ) → Option RawLine
 poked (Some at) (Some offset) (Some bytes) = Some (Poke at offset bytes)
 poked _ _ _ = None
@@ -49,6 +52,7 @@ poke_in (place ∷ number ∷ offset ∷ hex ∷ []) = poked (whole_spot place (
 poke_in (place ∷ ino ∷ i ∷ offset ∷ hex ∷ []) = poked (part_spot place (number_of ino) (number_of i)) (number_of offset) (hex_of hex)
 poke_in _ = None
 
+-- what is to be handed in, where all three lists are
 abbrev pub released : Option (List ℕ) → Option (List ℕ) → Option (List ℕ) → Option RawLine
 released (Some inos) (Some pages) (Some inodes) = Some (Release inos pages inodes)
 released _ _ _ = None

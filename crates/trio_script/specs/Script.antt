@@ -13,6 +13,7 @@ abbrev pub cut_lines : List ℕ → List ℕ → List (List ℕ)
 cut_lines line [] = if length line == 0 then [] else line ∷ []
 cut_lines line (b ∷ bytes) = if b == 10 then line ∷ cut_lines [] bytes else cut_lines (line ++ b ∷ []) bytes
 
+-- the lines of a script
 abbrev pub lines_of : List ℕ → List (List ℕ)
 lines_of bytes = cut_lines [] bytes
 

@@ -28,6 +28,7 @@ number_of word = if is_numeral word && nat_lt (digits_after 0 word) (2 ^ 32) the
 abbrev pub is_hex_digit : ℕ → Bool
 is_hex_digit b = is_digit b || (nat_le 97 b && nat_le b 102)
 
+-- the value of a hexadecimal digit
 abbrev pub hex_value : ℕ → ℕ
 hex_value b = if nat_lt b 97 then b - 48 else b - 87
 
@@ -59,6 +60,7 @@ abbrev pub are_new : List ℕ → List ℕ → Bool
 are_new seen [] = true
 are_new seen (n ∷ ns) = not (list_any (λ m. n == m) seen) && are_new (seen ++ n ∷ []) ns
 
+-- the numbers, where none stands twice
 abbrev pub without_repeat : Option (List ℕ) → Option (List ℕ)
 without_repeat (Some ns) = if are_new [] ns then Some ns else None
 without_repeat None = None

@@ -46,6 +46,7 @@ abbrev pub is_in_bundle : ℕ → Bundle → OpenGrant → Bool
 is_in_bundle lib b g =
     g.lib == lib && ((is_write g.kind && is_written b g.ino) || (is_hold g.kind && is_among g.ino b.holds))
 
+-- the grants that stay open when the bundle has ended
 abbrev pub grants_after : State → ℕ → Bundle → List OpenGrant
 grants_after s lib b = filter (λ g. not (is_in_bundle lib b g)) s.open_grants
 

@@ -36,11 +36,13 @@ denied_by s lib ino Read = denier s.home.rows (creds_of s lib) ino ToRead
 denied_by s lib ino Write = denier s.home.rows (creds_of s lib) ino ToWrite
 denied_by s lib ino Hold = None
 
+-- a hold without the library's write grant on the parent
 abbrev pub lacks_parent : State → ℕ → ℕ → GrantKind → Bool
 lacks_parent s lib ino Read = false
 lacks_parent s lib ino Write = false
 lacks_parent s lib ino Hold = not (has_parent_grant s lib (row_at s.home ino))
 
+-- a denial, or else another fault
 abbrev pub denied_or : Option ℕ → Option GrantFault → Option GrantFault
 denied_or None other = other
 denied_or (Some n) other = Some (Denied n)

@@ -5,7 +5,7 @@ use Rattle.trio_tables.specs.Out.{none_out}
 use Rattle.trio_layout.specs.Range.{is_core}
 use Rattle.trio_layout.specs.Image.{Image}
 use Rattle.trio_state.specs.State.{State}
-use Rattle.trio_state.specs.Step.{Event, Answer, Step}
+use Rattle.trio_state.specs.Step.{Event, CtlAnswer, Step}
 use Rattle.trio_state.specs.Given.{GivenEvent}
 
 -- the state of an image with nothing lent or out, and no history
@@ -24,7 +24,7 @@ abbrev pub IsWhole : Image → Type 0
 IsWhole image = (page : ℕ) → slice_get image.core.pages page ≡ Some None → IsTrue (is_core image.core.range page) → ⊥
 
 -- from s the controller may give these answers to these events, one after another, and then be in s'
-abbrev pub Run : State → List Event → List Answer → State → Type 0
+abbrev pub Run : State → List Event → List CtlAnswer → State → Type 0
 Run s [] [] s' = s' ≡ s
 Run s (event ∷ events) (answer ∷ answers) s' = (mid : State) × Step s event answer mid × Run mid events answers s'
 Run s [] (answer ∷ answers) s' = ⊥
@@ -34,7 +34,7 @@ Run s (event ∷ events) [] s' = ⊥
 pub record Move : Type 0 where
   pub before : State
   pub event : Event
-  pub answer : Answer
+  pub answer : CtlAnswer
   pub after : State
 
 -- moves from s on: each begins where the one before it ended, hands in what was given, and is a step

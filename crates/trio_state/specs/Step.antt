@@ -12,7 +12,7 @@ use Rattle.trio_layout.specs.Image.{row_at}
 use Rattle.trio_state.specs.State.{OpenGrant, State, settled, creds_of, logged}
 use Rattle.trio_layout.specs.Proposed.{Bundle}
 use Rattle.trio_layout.specs.Accept.{is_accepted, next}
-use Rattle.trio_layout.specs.Mode.{moded}
+use Rattle.trio_layout.specs.Mode.{image_with_mode}
 use Rattle.trio_state.specs.Grants.{grant_fault, opened, opens, told_children, given_back, holder_of}
 use Rattle.trio_state.specs.Allotments.{free_pages, free_numbers, allots}
 use Rattle.trio_state.specs.Bundles.{parted_hold, refused_image, Ends, has_all}
@@ -27,24 +27,25 @@ pub data Event : Type 0 where
   Settle : (lib : ℕ) (bundle : Bundle) → Event
   SetMode : (lib ino mode : ℕ) → Event
 
-pub data Answer : Type 0 where
-  Granted : (children : ℕ) → Answer
-  NotGranted : (fault : GrantFault) → Answer
-  Given : (pages numbers : List ℕ) → Answer
-  NoPages : (wanted free : ℕ) → Answer
-  NoInodes : (wanted free : ℕ) → Answer
-  Done : Answer
-  Accepted : Answer
-  Refused : (why : Why) → Answer
-  NotClosed : (ino : ℕ) → Answer
-  Settled : Answer
-  ModeSet : Answer
-  NotModeSet : (fault : ModeFault) → Answer
-  NoMemory : Answer
+-- what the controller answers to a call
+pub data CtlAnswer : Type 0 where
+  Granted : (children : ℕ) → CtlAnswer
+  NotGranted : (fault : GrantFault) → CtlAnswer
+  Given : (pages numbers : List ℕ) → CtlAnswer
+  NoPages : (wanted free : ℕ) → CtlAnswer
+  NoInodes : (wanted free : ℕ) → CtlAnswer
+  Done : CtlAnswer
+  Accepted : CtlAnswer
+  Refused : (why : Why) → CtlAnswer
+  NotClosed : (ino : ℕ) → CtlAnswer
+  Settled : CtlAnswer
+  ModeSet : CtlAnswer
+  NotModeSet : (fault : ModeFault) → CtlAnswer
+  NoMemory : CtlAnswer
 
 -- an answer that is determined, with the state after it
 pub record Outcome : Type 0 where
-  pub answer : Answer
+  pub answer : CtlAnswer
   pub after : State
 
 -- an answer Busy makes no entry and changes nothing; every other refusal makes an entry and changes nothing else
@@ -52,12 +53,14 @@ abbrev pub after_grant_fault : State → GrantFault → State
 after_grant_fault s (BusyGrant holder) = s
 after_grant_fault s _ = logged s
 
+-- what a request for a grant comes to, by its fault or by the row of the file
 abbrev pub granted_to : State → ℕ → ℕ → GrantKind → Option GrantFault → Option Row → Outcome
 granted_to s lib ino kind (Some fault) r = record { answer = NotGranted fault; after = after_grant_fault s fault }
 granted_to s lib ino kind None None = record { answer = Done; after = s }
 granted_to s lib ino kind None (Some r) =
     record { answer = Granted (told_children s.home ino kind); after = opens s (opened s lib ino kind r) }
 
+-- what a request for a grant comes to
 abbrev pub grant_outcome : State → ℕ → ℕ → GrantKind → Outcome
 grant_outcome s lib ino kind = granted_to s lib ino kind (grant_fault s lib ino kind) (row_at s.home ino)
 
@@ -82,24 +85,27 @@ mode_fault s lib ino mode (Some r) =
     if ino == 1 || not (uid == 0 || uid == r.uid) then Some NotOwner else
     (if nat_lt 511 mode then Some BadMode else option_map (λ g. Busy (holder_of g)) (mode_excluding s ino r))
 
+-- the state after a refused change of mode
 abbrev pub after_mode_fault : State → ModeFault → State
 after_mode_fault s (Busy holder) = s
 after_mode_fault s _ = logged s
 
+-- what a change of mode comes to, by its fault
 abbrev pub moded_to : State → ℕ → ℕ → Option ModeFault → Outcome
 moded_to s ino mode (Some fault) = record { answer = NotModeSet fault; after = after_mode_fault s fault }
-moded_to s ino mode None = record { answer = ModeSet; after = logged (record s { home = moded s.home ino mode }) }
+moded_to s ino mode None = record { answer = ModeSet; after = logged (record s { home = image_with_mode s.home ino mode }) }
 
+-- what a change of mode comes to
 abbrev pub mode_outcome : State → ℕ → ℕ → ℕ → Outcome
 mode_outcome s lib ino mode = moded_to s ino mode (mode_fault s lib ino mode (row_at s.home ino))
 
 -- the answer and the state are these
-abbrev pub Comes : Outcome → Answer → State → Type 0
+abbrev pub Comes : Outcome → CtlAnswer → State → Type 0
 Comes o answer s' = (answer ≡ o.answer) × (s' ≡ o.after)
 
 -- A release ends parted, accepted or refused: a bundle that is not closed comes back with nothing changed; a closed one
 -- is accepted where it is acceptable in the settled image, and refused, with a cause, where it is not.
-pub data ReleaseEnd (s : State) (lib : ℕ) (b : Bundle) (answer : Answer) (s' : State) : Type 0 where
+pub data ReleaseEnd (s : State) (lib : ℕ) (b : Bundle) (answer : CtlAnswer) (s' : State) : Type 0 where
   Parted : (n : ℕ) → parted_hold s lib b ≡ Some n → answer ≡ NotClosed n → s' ≡ s → ReleaseEnd s lib b answer s'
   IsAccepted :
     parted_hold s lib b ≡ None → IsTrue (is_accepted (settled s) (creds_of s lib) b)
@@ -110,7 +116,7 @@ pub data ReleaseEnd (s : State) (lib : ℕ) (b : Bundle) (answer : Answer) (s' :
     → Ends s lib b (refused_image (settled s) b) s' → ReleaseEnd s lib b answer s'
 
 -- what each call does, where memory is there
-abbrev pub Does : State → Event → Answer → State → Type 0
+abbrev pub Does : State → Event → CtlAnswer → State → Type 0
 Does s (Grant lib ino kind) answer s' = Comes (grant_outcome s lib ino kind) answer s'
 Does s (Allot lib pages numbers) answer s' = Comes (allot_outcome s lib pages numbers) answer s'
 Does s (Back lib ino) answer s' = (answer ≡ Done) × (s' ≡ given_back s lib ino)
@@ -126,6 +132,6 @@ takes_memory (Back lib ino) = false
 takes_memory _ = true
 
 -- From s the controller may give this answer to the event and then be in s'. Want of memory changes nothing.
-abbrev pub Step : State → Event → Answer → State → Type 0
+abbrev pub Step : State → Event → CtlAnswer → State → Type 0
 Step s event answer s' =
     Does s event answer s' ⊎ (IsTrue (takes_memory event) × (answer ≡ NoMemory) × (s' ≡ s))

@@ -4,14 +4,13 @@ use Rattle.std.specs.Option.{option_or}
 use Rattle.std.proofs.lemmas.List.{append-nil, map-append, map_push, length_push, length-map, get_or-map, take_more}
 use Rattle.std.proofs.lemmas.List.Sums.{sum_by-set}
 use Rattle.trio_lists.specs.Lists.{is_among}
-use Rattle.trio_lists.specs.Marks.{all_below}
+use Rattle.trio_lists.specs.Marked.{all_below}
 use Rattle.trio_layout.specs.Entries.{Listed, place_of}
 use Rattle.trio_layout.specs.Survey.{Met, Pick, numbers, first_listed, met_in}
-use Rattle.trio_layout.proofs.QueueLaws.{first_listed-append}
-use Rattle.trio_lists.proofs.MarkLemmas.{Marks-set, below_at}
-use Rattle.trio_layout.proofs.QueueLaws.{among-first_listed}
+use Rattle.trio_layout.proofs.QueueLaws.{first_listed-append, among-first_listed}
+use Rattle.trio_lists.proofs.Marked.{AreMarked-set, below_at}
 use Rattle.trio_survey.specs.declared.file.FaultPlace.{FaultPlace}
-use Rattle.trio_survey.specs.declared.file.ListedEntry.{ListedEntry}
+use Rattle.trio_survey.specs.declared.file.EntryRead.{EntryRead}
 use Rattle.trio_survey.specs.Seen.{place_seen}
 use Rattle.trio_survey.specs.Within.{inos}
 use Rattle.trio_survey.specs.inner.Walk.{AreMarked, FirstEntry}
@@ -44,7 +43,7 @@ among_now pick d old now es n e =
 AreMarked-add : (files : List Met) (marks : List Bool) (m : Met) → m.ino < length marks → get_or marks m.ino false ≡ false → AreMarked files marks → AreMarked (files ++ m ∷ []) (set marks m.ino true)
 AreMarked-add files marks m h e a =
     record {
-      marked = rw (map_push (λ x. x.ino) files m) (Marks-set marks (numbers files) m.ino h a.marked);
+      marked = rw (map_push (λ x. x.ino) files m) (AreMarked-set marks (numbers files) m.ino h a.marked);
       counted =
           let s = sum_by-set (λ b. cond b 1 0) marks m.ino true false h in
           let f : Bool → ℕ = λ b. cond b 1 0 in
@@ -86,8 +85,8 @@ grows_first pick d old now marks first entries i e h at l t g =
       repeat = entry_unmarked (numbers old) es e first (among_now pick d old now es m.ino g.added ∙ among) g.repeat;
     })
 
-pub entry_below : (n : ℕ) (entries : List ListedEntry) (i : ℕ) (x : ListedEntry) → i < length entries → get_or entries i x ≡ x → all_below n (inos entries) ≡ true → x.entry.ino < n
+pub entry_below : (n : ℕ) (entries : List EntryRead) (i : ℕ) (x : EntryRead) → i < length entries → get_or entries i x ≡ x → all_below n (inos entries) ≡ true → x.entry.ino < n
 entry_below n entries i x h at a =
-    let l = below_at n (inos entries) i (omega (arith, length-map entries (λ (y : ListedEntry). y.entry.ino))) a in
-    let e = get_or-map (λ (y : ListedEntry). y.entry.ino) entries i x 0 h ∙ ap (λ (y : ListedEntry). y.entry.ino) at in
+    let l = below_at n (inos entries) i (omega (arith, length-map entries (λ (y : EntryRead). y.entry.ino))) a in
+    let e = get_or-map (λ (y : EntryRead). y.entry.ino) entries i x 0 h ∙ ap (λ (y : EntryRead). y.entry.ino) at in
     omega (arith, l, e)

@@ -3,7 +3,7 @@ use Rattle.std.proofs.Common.{◌≡◌, ℕ, suc, ◌-◌, ◌<◌, min, leb, e
 use Rattle.std.proofs.lemmas.List.{append-nil}
 use Rattle.std.proofs.lemmas.Bool.Decides.{nat_tests}
 use Rattle.trio_layout.specs.declared.range.CoreRange.{CoreRange}
-use Rattle.trio_layout.specs.Core.{Core, Place, at_page, page_of}
+use Rattle.trio_layout.specs.Core.{Core, Location, at_page, page_of}
 use Rattle.trio_layout.specs.Index.{Index, IsIndexPage, index_of}
 use Rattle.trio_lists.specs.Lists.{result_map, result_then}
 use Rattle.trio_layout.specs.Chain.{Chain, chain_from, index_count, index_page, with_index}
@@ -13,10 +13,10 @@ abbrev pub after : List ℕ → List ℕ → Chain → Chain
 after index blocks c = record { index = index ++ c.index; blocks = blocks ++ c.blocks }
 
 -- the chain of so many blocks from a page on
-abbrev pub rest_of : Core → ℕ → ℕ → Result Chain Place
+abbrev pub rest_of : Core → ℕ → ℕ → Result Chain Location
 rest_of core left at = chain_from core (index_count left) left at
 
-after-with_index : (index blocks : List ℕ) (at : ℕ) (i : Index) (r : Result Chain Place) → result_map (after index blocks) (result_map (with_index at i) r) ≡ result_map (after (index ++ at ∷ []) (blocks ++ i.numbers)) r
+after-with_index : (index blocks : List ℕ) (at : ℕ) (i : Index) (r : Result Chain Location) → result_map (after index blocks) (result_map (with_index at i) r) ≡ result_map (after (index ++ at ∷ []) (blocks ++ i.numbers)) r
 after-with_index index blocks at i (Err p) = refl
 after-with_index index blocks at i (Ok c) = simp append_assoc
 
@@ -28,21 +28,21 @@ rest_more core left at h =
     rw (n, last) refl
 
 -- an index page that is absent
-pub no_page_at : (core : Core) (r : Result Chain Place) (left at : ℕ) (index blocks : List ℕ) → 0 < left → result_map (after index blocks) (rest_of core left at) ≡ r → None ≡ page_of core at → Err (at_page at) ≡ r
+pub no_page_at : (core : Core) (r : Result Chain Location) (left at : ℕ) (index blocks : List ℕ) → 0 < left → result_map (after index blocks) (rest_of core left at) ≡ r → None ≡ page_of core at → Err (at_page at) ≡ r
 no_page_at core r left at index blocks h e p = rw (rest_more core left at h, ← p) at e
 
 -- an index page outside the grammar
-pub no_index_at : (core : Core) (r : Result Chain Place) (left at : ℕ) (index blocks page : List ℕ) → 0 < left → result_map (after index blocks) (rest_of core left at) ≡ r → Some page ≡ page_of core at → index_of (min left 511) (leb left 511) core.range page ≡ None → Err (at_page at) ≡ r
+pub no_index_at : (core : Core) (r : Result Chain Location) (left at : ℕ) (index blocks page : List ℕ) → 0 < left → result_map (after index blocks) (rest_of core left at) ≡ r → Some page ≡ page_of core at → index_of (min left 511) (leb left 511) core.range page ≡ None → Err (at_page at) ≡ r
 no_index_at core r left at index blocks page h e p q = rw (rest_more core left at h, ← p, q) at e
 
 -- an index page that is read
-pub one_index_more : (core : Core) (r : Result Chain Place) (left at : ℕ) (index blocks page numbers : List ℕ) (next : ℕ) → 0 < left → result_map (after index blocks) (rest_of core left at) ≡ r → Some page ≡ page_of core at → index_of (min left 511) (leb left 511) core.range page ≡ Some (record { numbers = numbers; next = next }) → result_map (after (index ++ at ∷ []) (blocks ++ numbers)) (rest_of core (left - 511) next) ≡ r
+pub one_index_more : (core : Core) (r : Result Chain Location) (left at : ℕ) (index blocks page numbers : List ℕ) (next : ℕ) → 0 < left → result_map (after index blocks) (rest_of core left at) ≡ r → Some page ≡ page_of core at → index_of (min left 511) (leb left 511) core.range page ≡ Some (record { numbers = numbers; next = next }) → result_map (after (index ++ at ∷ []) (blocks ++ numbers)) (rest_of core (left - 511) next) ≡ r
 one_index_more core r left at index blocks page numbers next h e p q =
     let i : Index = record { numbers = numbers; next = next } in
     sym (after-with_index index blocks at i (rest_of core (left - 511) next)) ∙ (rw (rest_more core left at h, ← p, q) at e)
 
 -- no blocks are left
-pub chain_whole : (core : Core) (r : Result Chain Place) (left at : ℕ) (index blocks : List ℕ) → left ≡ 0 → result_map (after index blocks) (rest_of core left at) ≡ r → Ok (record { index = index; blocks = blocks }) ≡ r
+pub chain_whole : (core : Core) (r : Result Chain Location) (left at : ℕ) (index blocks : List ℕ) → left ≡ 0 → result_map (after index blocks) (rest_of core left at) ≡ r → Ok (record { index = index; blocks = blocks }) ≡ r
 chain_whole core r left at index blocks z e =
     let none : index_count left ≡ 0 = omega arith in
     rw (none, append-nil, append-nil) at e

@@ -9,9 +9,8 @@ use Rattle.trio_layout.specs.declared.range.CoreRange.{CoreRange}
 use Rattle.trio_layout.specs.Range.{is_core}
 use Rattle.trio_layout.specs.Body.{body_of}
 use Rattle.trio_layout.specs.Index.{Index, index_at, index_bytes, index_fits, link_fits, index_of}
-use Rattle.trio_lists.specs.Lists.{is_among, result_map, result_then}
+use Rattle.trio_lists.specs.Lists.{is_among, result_map, result_then, there_or}
 use Rattle.trio_layout.specs.Core.{Core, at_page, nowhere, page_of}
-use Rattle.trio_lists.specs.Lists.{there_or}
 use Rattle.trio_layout.specs.Chain.{Chain, chain_from, chain_of, index_page, with_index}
 use Rattle.trio_layout.specs.Entries.{entries_of_kind}
 use Rattle.trio_layout.specs.Survey.{Met, FileRead, file_of, file_with}

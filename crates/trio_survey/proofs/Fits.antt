@@ -17,10 +17,9 @@ use Rattle.trio_layout.specs.Range.{is_core}
 use Rattle.trio_layout.specs.Body.{body_of}
 use Rattle.trio_layout.specs.Slot.{slot_of, entry_at, entry_bytes, entry_fits}
 use Rattle.trio_layout.specs.Index.{Index, index_at, index_bytes, index_fits, link_fits, index_of}
-use Rattle.trio_lists.specs.Lists.{result_map, result_then, both, gathered, gathered_below}
-use Rattle.trio_lists.specs.Marks.{all_below}
-use Rattle.trio_layout.specs.Core.{Core, Place, at_page, nowhere, page_of}
-use Rattle.trio_lists.specs.Lists.{there_or}
+use Rattle.trio_lists.specs.Lists.{result_map, result_then, both, gathered, gathered_below, there_or}
+use Rattle.trio_lists.specs.Marked.{all_below}
+use Rattle.trio_layout.specs.Core.{Core, Location, at_page, nowhere, page_of}
 use Rattle.trio_layout.specs.Chain.{Chain, chain_from, chain_of, index_page, with_index}
 use Rattle.trio_layout.specs.Entries.{Listed, body_in_slot, slot_bytes, listed_at, slot_entries, entries_on, page_entries, unless_repeated, repeated_name, with_names_apart, entries_of_kind}
 use Rattle.trio_layout.specs.Survey.{Met, FileRead, file_of, file_with}
@@ -42,7 +41,7 @@ pub if_ok_weaker : {X E : Type 0} (r : Result X E) (P Q : X → Type 0) → ((x 
 if_ok_weaker (Err e) P Q w h = tt
 if_ok_weaker (Ok x) P Q w h = w x h
 
-pub there_some : {X : Type 0} (place : Place) (o : Option X) (x : X) → there_or place o ≡ Ok x → o ≡ Some x
+pub there_some : {X : Type 0} (place : Location) (o : Option X) (x : X) → there_or place o ≡ Ok x → o ≡ Some x
 there_some place None x e = absurd cc
 there_some place (Some y) x e = cc
 
@@ -157,7 +156,7 @@ unfolding entries_on
 entries_on_fit inodes page bytes =
     gathered_below_all (λ l. is_inode inodes l.entry.ino) (slot_entries inodes page bytes) (slot_fits inodes page bytes) 16
 
-unless_repeated_fit : (inodes : ℕ) (ls : List Listed) (o : Option Place) → AreInodes inodes ls → IfOk (unless_repeated ls o) (AreInodes inodes)
+unless_repeated_fit : (inodes : ℕ) (ls : List Listed) (o : Option Location) → AreInodes inodes ls → IfOk (unless_repeated ls o) (AreInodes inodes)
 unless_repeated_fit inodes ls None h = h
 unless_repeated_fit inodes ls (Some p) h = tt
 

@@ -6,11 +6,11 @@ use Rattle.std.proofs.lemmas.List.{append-nil, map-append}
 use Rattle.std.proofs.lemmas.List.Concat.{flat_map-append}
 use Rattle.std.proofs.lemmas.Bool.{and_from, and_parts, and_right}
 use Rattle.trio_lists.specs.Lists.{In, is_among, are_new}
-use Rattle.trio_layout.specs.Core.{Core, Place, at_page}
+use Rattle.trio_layout.specs.Core.{Core, Location, at_page}
 use Rattle.trio_layout.specs.Entries.{Listed, place_of}
 use Rattle.trio_layout.specs.Survey.{Met, FileRead, Pick, file_of, children, children_in, met_in, numbers, pages_of, pages_in, survey}
 use Rattle.trio_layout.specs.Sound.{are_in_grammar, are_listed_once, is_sound, listings, listed_numbers, listed_pages, page_listings, PageListing, FailsAt, ListsNumberAgain, ListsPageAgain}
-use Rattle.trio_lists.proofs.MarkLemmas.{is_among-append, are_new-append, are_new-push, and-false}
+use Rattle.trio_lists.proofs.Marked.{is_among-append, are_new-append, are_new-push, and-false}
 use Rattle.trio_survey.specs.declared.file.FaultPlace.{FaultPlace}
 use Rattle.trio_survey.specs.declared.walk.Repeated.{Repeated}
 use Rattle.trio_survey.specs.Seen.{place_seen}
@@ -63,7 +63,7 @@ repeat_not_new seen earlier n later e =
 abbrev pub numbers_of : List Listed → List ℕ
 numbers_of es = map (λ l. l.entry.ino) es
 
-entry_more : (before : List ℕ) (es : List Listed) (e : Listed) (place : Place) → RepeatsEntry before es place → RepeatsEntry before (es ++ e ∷ []) place
+entry_more : (before : List ℕ) (es : List Listed) (e : Listed) (place : Location) → RepeatsEntry before es place → RepeatsEntry before (es ++ e ∷ []) place
 entry_more before es e place r = record {
   earlier = r.earlier;
   again = r.again;
@@ -110,7 +110,7 @@ pages_listed core (m ∷ ms) =
     ∙ ap (λ l. pages_of core m ++ l) (pages_listed core ms)
 
 -- what is listed again stays so with further files
-repeats_keep : (core : Core) (pick : Pick) (done more : List Met) (ino : ℕ) (place : Place) → RepeatsAt core pick done ino place → RepeatsAt core pick (done ++ more) ino place
+repeats_keep : (core : Core) (pick : Pick) (done more : List Met) (ino : ℕ) (place : Location) → RepeatsAt core pick done ino place → RepeatsAt core pick (done ++ more) ino place
 repeats_keep core pick done more ino place (inl r) =
     inl (record {
       earlier = r.earlier;
@@ -165,7 +165,7 @@ numbers_met pick directory [] = refl
 numbers_met pick directory (e ∷ es) = ap (λ l. e.entry.ino ∷ l) (numbers_met pick directory es)
 
 -- an entry of the next file whose number was listed before
-entry_repeats : (core : Core) (pick : Pick) (done : List Met) (m : Met) (f : FileRead) (before : List ℕ) (place : Place) → file_of core m ≡ Ok f → ((n : ℕ) → is_among n before ≡ is_among n (1 ∷ listed_numbers core pick done)) → RepeatsEntry before f.entries place → ListsNumberAgain core pick (done ++ m ∷ []) m.ino place
+entry_repeats : (core : Core) (pick : Pick) (done : List Met) (m : Met) (f : FileRead) (before : List ℕ) (place : Location) → file_of core m ≡ Ok f → ((n : ℕ) → is_among n before ≡ is_among n (1 ∷ listed_numbers core pick done)) → RepeatsEntry before f.entries place → ListsNumberAgain core pick (done ++ m ∷ []) m.ino place
 entry_repeats core pick done m f before place read same r =
     let kid : Listed → Met = met_in pick m.ino in
     let L : List Met = listings core pick done in
@@ -183,8 +183,8 @@ entry_repeats core pick done m f before place read same r =
           ∙ ap (λ l. L ++ l) (append-nil (children core pick m) ∙ kids_are ∙ ap (map kid) r.order ∙ map-append kid r.earlier (r.again ∷ r.later))
           ∙ sym (append_assoc L (map kid r.earlier) (kid r.again ∷ map kid r.later));
       parent = refl;
-      page = ap (λ (p : Place). p.page) r.place_is;
-      slot = ap (λ (p : Place). p.slot) r.place_is;
+      page = ap (λ (p : Location). p.page) r.place_is;
+      slot = ap (λ (p : Location). p.slot) r.place_is;
       seen =
           ap (λ l. is_among n (1 ∷ l)) (map-append (λ (x : Met). x.ino) L (map kid r.earlier) ∙ ap (λ l. l ++ numbers (map kid r.earlier)) (numbers_listed core pick done) ∙ ap (λ l. N ++ l) e_is)
           ∙ is_among-append n (1 ∷ N) E
@@ -225,7 +225,7 @@ first_repeat core pick done m f before None None None None read same x y z once 
     and_from (are_new (1 ∷ []) (listed_numbers core pick (done ++ m ∷ []))) (are_new [] (listed_pages core (done ++ m ∷ []))) (ap (are_new (1 ∷ [])) L_more ∙ new_numbers) (ap (are_new []) P_more ∙ new_pages)
 
 -- what is listed again is not listed once
-pub repeats_not_once : (core : Core) (pick : Pick) (files : List Met) (ino : ℕ) (place : Place) → RepeatsAt core pick files ino place → are_listed_once core pick files ≡ false
+pub repeats_not_once : (core : Core) (pick : Pick) (files : List Met) (ino : ℕ) (place : Location) → RepeatsAt core pick files ino place → are_listed_once core pick files ≡ false
 repeats_not_once core pick files ino place (inl r) =
     let numbers_are : listed_numbers core pick files ≡ numbers r.earlier ++ r.again.ino ∷ numbers r.later =
     sym (numbers_listed core pick files) ∙ ap numbers r.order ∙ map-append (λ (x : Met). x.ino) r.earlier (r.again ∷ r.later) in
@@ -246,7 +246,7 @@ in_fails q x (y ∷ ys) (inl s) e = ap (λ b. b && list_all q ys) (ap q (sym s) 
 in_fails q x (y ∷ ys) (inr i) e = ap (λ b. q y && b) (in_fails q x ys i e) ∙ and-false (q y)
 
 -- where a rule fails, the survey isn't sound
-pub fails_unsound : (core : Core) (pick : Pick) (rule ino : ℕ) (place : Place) → FailsAt core pick rule ino place → is_sound core pick ≡ false
+pub fails_unsound : (core : Core) (pick : Pick) (rule ino : ℕ) (place : Location) → FailsAt core pick rule ino place → is_sound core pick ≡ false
 fails_unsound core pick rule ino place (inl f) =
     let files : List Met = survey core pick in
     ap (λ b. b && are_listed_once core pick files) (in_fails (λ m. is_ok (file_of core m)) f.1.met files f.1.among (ap is_ok f.1.fault))

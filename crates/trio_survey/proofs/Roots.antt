@@ -3,9 +3,8 @@ use Rattle.std.proofs.Common.{◌≡◌, ℕ, suc, zero, ◌-◌, min, eqb, List
 use Rattle.trio_rights.specs.declared.kind.Kind.{Kind}
 use Rattle.trio_rights.specs.declared.kind.Kind.TheVariants.{Regular, Directory}
 use Rattle.trio_layout.specs.Body.{body_of, block_count}
-use Rattle.trio_lists.specs.Lists.{result_map, result_then}
+use Rattle.trio_lists.specs.Lists.{result_map, result_then, there_or}
 use Rattle.trio_layout.specs.Core.{Core, nowhere}
-use Rattle.trio_lists.specs.Lists.{there_or}
 use Rattle.trio_layout.specs.Chain.{chain_from, chain_of, index_count, index_page, with_index}
 use Rattle.trio_layout.specs.Entries.{entries_of_kind}
 use Rattle.trio_layout.specs.Survey.{Met, file_of, file_with}

@@ -8,14 +8,13 @@ use Rattle.std.proofs.lemmas.List.Sums.{count_by-le-length}
 use Rattle.std.proofs.lemmas.Bool.{and_from, and_parts}
 use Rattle.trio_rights.specs.Row.{Row}
 use Rattle.trio_lists.specs.Lists.{In, is_among, are_new}
-use Rattle.trio_layout.specs.Core.{Core, Place}
-use Rattle.trio_lists.specs.Marks.{Marks, all_below}
+use Rattle.trio_layout.specs.Core.{Core, Location}
+use Rattle.trio_lists.specs.Marked.{AreMarked, all_below}
 use Rattle.trio_layout.specs.Queue.{pass_on, pass, queue}
 use Rattle.trio_layout.specs.Survey.{Met, FileRead, file_of, first_listed, numbers, children, children_in, Pick, root_of, met_in, survey, pages_of, pages_in}
 use Rattle.trio_layout.specs.Sound.{IsSound, are_in_grammar, are_listed_once, listed_numbers, listed_pages, rows_table, owners_table, FailsAt}
-use Rattle.trio_layout.proofs.QueueLaws.{files_are_levels, waiting_is_met}
-use Rattle.trio_lists.proofs.MarkLemmas.{is_among-append}
-use Rattle.trio_layout.proofs.QueueLaws.{among-first_listed}
+use Rattle.trio_layout.proofs.QueueLaws.{files_are_levels, waiting_is_met, among-first_listed}
+use Rattle.trio_lists.proofs.Marked.{is_among-append}
 use Rattle.trio_survey.specs.declared.file.FaultPlace.{FaultPlace}
 use Rattle.trio_survey.specs.declared.walk.Repeated.{Repeated}
 use Rattle.trio_survey.specs.declared.fault.SurveyFault.{SurveyFault}
@@ -40,7 +39,7 @@ in_at (y ∷ ys) zero x h e = inl (sym e)
 in_at (y ∷ ys) (suc i) x h e = inr (in_at ys i x (omega arith) e)
 
 -- a file that can't be read
-pub file_fails : (core : Core) (pick : Pick) (i : ℕ) (files : List Met) (marks used : List Bool) (twice : Option Repeated) (m : Met) (place : Place) → Stands core pick i files marks used twice → i < length files → get_or files i m ≡ m → file_of core m ≡ Err place → FailsAt core pick 1 m.ino place
+pub file_fails : (core : Core) (pick : Pick) (i : ℕ) (files : List Met) (marks used : List Bool) (twice : Option Repeated) (m : Met) (place : Location) → Stands core pick i files marks used twice → i < length files → get_or files i m ≡ m → file_of core m ≡ Err place → FailsAt core pick 1 m.ino place
 unfolding survey
 file_fails core pick i files marks used twice m place s h at bad =
     let few : length files ≤ suc core.inodes = omega (arith, few_files core pick i files marks used twice s) in
@@ -57,9 +56,9 @@ survey_is core pick i files marks used twice s h =
 
 -- what the calls for one file leave
 pub record Visited (core : Core) (pick : Pick) (m : Met) (f : FileRead) (files files' : List Met) (marks' used used' : List Bool) (index block : Option ℕ) (entry : Option FaultPlace) : Type 0 where
-  pub pages : (before : List ℕ) → Marks used before → Marks used' (before ++ (f.chain.index ++ f.chain.blocks))
-  pub first_index : (before : List ℕ) → Marks used before → FirstRepeat before f.chain.index index
-  pub first_block : (before : List ℕ) → Marks used before → FirstRepeat (before ++ f.chain.index) f.chain.blocks block
+  pub pages : (before : List ℕ) → AreMarked used before → AreMarked used' (before ++ (f.chain.index ++ f.chain.blocks))
+  pub first_index : (before : List ℕ) → AreMarked used before → FirstRepeat before f.chain.index index
+  pub first_block : (before : List ℕ) → AreMarked used before → FirstRepeat (before ++ f.chain.index) f.chain.blocks block
   pub added : files' ≡ files ++ first_listed (numbers files) (map (met_in pick m.ino) f.entries)
   pub marked : AreMarked files' marks'
   pub fit : all_below (core.inodes + 1) (numbers_of f.entries) ≡ true

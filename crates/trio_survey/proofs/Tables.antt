@@ -2,22 +2,23 @@
 use Rattle.std.proofs.Common.{◌≡◌, ℕ, suc, zero, ◌+◌, ◌<◌, ◌≤◌, Bool, true, false, not, ◌||◌, cond, eqb, ltb, List, [], ◌∷◌, ◌++◌, length, get_or, set, take, drop, Option, Some, None, Ok, sym, refl, ap, ◌∙◌, inl, inr, arith}
 use Rattle.std.specs.List.{find, list_all}
 use Rattle.std.specs.Option.{option_and_then}
-use Rattle.std.proofs.lemmas.List.{append-nil, map-append, length-set, length_push, get_or-set_same, get_or-set_other, get_or_append_left, get_or_default, drop_more, take-append-le, take_more, length-map, get_or-map, same_lists}
+use Rattle.std.proofs.lemmas.List.{append-nil, map-append, length-set, get_or-set_same, get_or-set_other, get_or_default, drop_more, take-append-le, take_more, length-map, get_or-map, same_lists}
 use Rattle.std.proofs.lemmas.List.Concat.{flat_map-append}
-use Rattle.std.proofs.lemmas.Bool.{and_parts, and_from, or_parts, or_cases, cases_eq, cases_lt, false≢true}
+use Rattle.std.proofs.lemmas.Bool.{and_parts, and_from, or_parts, or_cases, cases_eq, false≢true}
 use Rattle.std.proofs.lemmas.Bool.Decides.{nat_tests}
 use Rattle.trio_rights.specs.Row.{Row}
 use Rattle.trio_lists.specs.Lists.{is_among, are_new, tabulated}
-use Rattle.trio_lists.specs.Marks.{all_below}
+use Rattle.trio_lists.specs.Marked.{all_below}
 use Rattle.trio_layout.specs.Core.{Core}
 use Rattle.trio_layout.specs.Queue.{queue}
 use Rattle.trio_layout.specs.Survey.{Met, FileRead, file_of, first_listed, numbers, children, Pick, root_of, row_by, row_of, row_read, owner_of, pages_of, pages_in}
 use Rattle.trio_layout.specs.Sound.{listed_pages, rows_table, owners_table}
 use Rattle.trio_layout.proofs.QueueLaws.{met_by, queue_distinct}
-use Rattle.trio_lists.proofs.MarkLemmas.{below_at, is_among-append, are_new-append}
+use Rattle.trio_lists.proofs.Marked.{below_at, is_among-append, are_new-append}
 use Rattle.trio_survey.specs.Within.{all_some}
 use Rattle.trio_survey.specs.inner.Walk.{Tabled, Entered, owner_in}
 use Rattle.trio_survey.proofs.CorePages.{file_in_core, listed_not_below}
+use Rattle.trio_lists.proofs.Tabulated.{tabulated-length, tabulated-get}
 
 not_is : (b : Bool) → not b ≡ true → b ≡ false
 not_is true e = absurd (false≢true e)
@@ -166,36 +167,20 @@ tabled_after core pick i files files' new m f owners owners' rows rows' h at rea
 
 -- ---- whole tables
 
-length-tabulated : {X : Type 0} (f : ℕ → X) (n : ℕ) → length (tabulated f n) ≡ n
-length-tabulated f zero = refl
-length-tabulated f (suc n) = length_push (tabulated f n) (f n) ∙ ap (λ k. k + 1) (length-tabulated f n) ∙ omega arith
-
 last_of : {X : Type 0} (xs : List X) (x d : X) → get_or (xs ++ x ∷ []) (length xs) d ≡ x
 last_of [] x d = refl
 last_of (y ∷ ys) x d = last_of ys x d
 
-get_or-tabulated : {X : Type 0} (f : ℕ → X) (n k : ℕ) (d : X) → k < n → get_or (tabulated f n) k d ≡ f k
-get_or-tabulated f zero k d h = let no : ⊥ = omega arith in absurd no
-get_or-tabulated f (suc n) k d h =
-    elim (cases_lt k n) [
-      | inl l ↦
-          get_or_append_left (tabulated f n) (f n ∷ []) d k (omega (arith, length-tabulated f n)) ∙ get_or-tabulated f n k d l
-      | inr g ↦
-          let e : k ≡ n = omega arith in
-          let whole : List _ = tabulated f n ++ f n ∷ [] in
-          ap (λ j. get_or whole j d) (e ∙ sym (length-tabulated f n)) ∙ last_of (tabulated f n) (f n) d ∙ ap f (sym e)
-    ]
-
 is_tabulated : {X : Type 0} (f : ℕ → X) (xs : List X) (n : ℕ) (d : X) → length xs ≡ n → ((k : ℕ) → k < length xs → get_or xs k d ≡ f k) → xs ≡ tabulated f n
 is_tabulated f xs n d len each =
-    same_lists xs (tabulated f n) (len ∙ sym (length-tabulated f n))
-    (λ k e h. get_or_default xs k e d h ∙ each k h ∙ sym (get_or-tabulated f n k e (omega (arith, len))))
+    same_lists xs (tabulated f n) (len ∙ sym (tabulated-length f n))
+    (λ k e h. get_or_default xs k e d h ∙ each k h ∙ sym (tabulated-get f n k e (omega (arith, len))))
 
 pub length-rows_table : (core : Core) (files : List Met) → length (rows_table core files) ≡ core.inodes + 1
-length-rows_table core files = length-tabulated (row_of core files) (core.inodes + 1)
+length-rows_table core files = tabulated-length (row_of core files) (core.inodes + 1)
 
 pub length-owners_table : (core : Core) (files : List Met) → length (owners_table core files) ≡ core.range.end
-length-owners_table core files = length-tabulated (owner_in core files) core.range.end
+length-owners_table core files = tabulated-length (owner_in core files) core.range.end
 
 pub rows_are : (core : Core) (files : List Met) (owners : List ℕ) (rows : List (Option Row)) → Tabled core files owners rows → rows ≡ rows_table core files
 rows_are core files owners rows t = is_tabulated (row_of core files) rows (core.inodes + 1) None t.many_rows t.each_file

@@ -4,7 +4,7 @@ use Rattle.std.specs.Prelude.{slice_index_or}
 use Rattle.std.proofs.lemmas.Bool.{false≢true}
 use Rattle.trio_rights.specs.Row.{Row}
 use Rattle.trio_layout.specs.declared.superblock.Superblock.{Superblock}
-use Rattle.trio_layout.specs.Core.{Place}
+use Rattle.trio_layout.specs.Core.{Location}
 use Rattle.trio_layout.specs.Survey.{plain}
 use Rattle.trio_layout.specs.Sound.{IsSound}
 use Rattle.trio_tables.specs.Stored.{shadow_bytes, owner_bytes, padded_to_pages, page_at}
@@ -23,7 +23,7 @@ not_absent : {X : Type 0} (x : X) → None ≡ Some x → ⊥
 not_absent x e = absurd cc
 
 -- the image isn't the one with these tables, and where
-abbrev pub FailsIn : Superblock → List (Option (List ℕ)) → List (Option Row) → List ℕ → ℕ → Place → Type 0
+abbrev pub FailsIn : Superblock → List (Option (List ℕ)) → List (Option Row) → List ℕ → ℕ → Location → Type 0
 FailsIn s pages rows owners ino place = (StoresTables s pages rows owners → ⊥) × TablesFailAt s pages rows owners ino place
 
 row_case : (s : Superblock) (pages : List (Option (List ℕ))) (rows : List (Option Row)) (owners : List ℕ) (ino k : ℕ) (stored : Option (List ℕ)) → 1 + k < s.first_owner → slice_index_or pages (1 + k) None ≡ stored → IsRowFault rows k stored ino → FailsIn s pages rows owners ino (record { page = 0; slot = 0 })

@@ -4,7 +4,7 @@ use Rattle.std.specs.Option.{option_and_then}
 use Rattle.trio_rights.specs.Row.{Row}
 use Rattle.trio_layout.specs.declared.superblock.Superblock.{Superblock}
 use Rattle.trio_layout.specs.Superblock.{superblock_of}
-use Rattle.trio_layout.specs.Core.{Place, nowhere}
+use Rattle.trio_layout.specs.Core.{Location, nowhere}
 use Rattle.trio_layout.specs.Survey.{plain}
 use Rattle.trio_layout.specs.Sound.{IsSound, FailsAt}
 use Rattle.trio_tables.specs.Stored.{shadow_bytes, owner_bytes, padded_to_pages, page_at, RowDiffers, OwnerDiffers}
@@ -48,14 +48,14 @@ pub record OwnerPageFails (s : Superblock) (pages : List (Option (List ℕ))) (o
 
 -- The stored tables aren't these: an inode number or a page at which they differ, or neither where a page of a table fails
 -- otherwise.
-abbrev pub TablesFailAt : Superblock → List (Option (List ℕ)) → List (Option Row) → List ℕ → ℕ → Place → Type 0
+abbrev pub TablesFailAt : Superblock → List (Option (List ℕ)) → List (Option Row) → List ℕ → ℕ → Location → Type 0
 TablesFailAt s pages rows owners ino place =
     ((place ≡ nowhere) × RowStoredOtherwise s pages rows ino)
     ⊎ ((ino ≡ 0) × (place.slot ≡ 0) × OwnerStoredOtherwise s pages owners place.page)
     ⊎ ((ino ≡ 0) × (place ≡ nowhere) × (ShadowPageFails s pages rows ⊎ OwnerPageFails s pages owners))
 
 -- The lowest rule that fails of an image, and where: 1 or 2 of its survey, or 5, the stored tables of a sound one.
-abbrev pub ImageFailsAt : Superblock → List (Option (List ℕ)) → ℕ → ℕ → Place → Type 0
+abbrev pub ImageFailsAt : Superblock → List (Option (List ℕ)) → ℕ → ℕ → Location → Type 0
 ImageFailsAt s pages rule ino place =
     FailsAt (core_in s pages) plain rule ino place
     ⊎ ((rule ≡ 5) × IsSound (core_in s pages) plain

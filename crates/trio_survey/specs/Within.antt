@@ -2,11 +2,11 @@
 use Rattle.std.specs.Prelude.{ℕ, ◌≡◌, ◌+◌, nat_lt, Bool, true, List, map}
 use Rattle.std.specs.List.{list_all}
 use Rattle.trio_layout.specs.declared.range.CoreRange.{CoreRange}
-use Rattle.trio_lists.specs.Marks.{all_below}
-use Rattle.trio_survey.specs.declared.file.ListedEntry.{ListedEntry}
+use Rattle.trio_lists.specs.Marked.{all_below}
+use Rattle.trio_survey.specs.declared.file.EntryRead.{EntryRead}
 
 -- the inode numbers of entries, in order
-abbrev pub inos : List ListedEntry → List ℕ
+abbrev pub inos : List EntryRead → List ℕ
 inos es = map (λ l. l.entry.ino) es
 
 -- none of the numbers is 0

@@ -2,7 +2,7 @@
 
 ghost use Rattle.std.specs.Prelude.{◌≡◌, ◌<◌, ℕ, length, true, slice_index, if◌then◌else◌};
 ghost use Rattle.trio_lists.specs.Lists.{is_among};
-ghost use Rattle.trio_lists.specs.Marks.{all_below};
+ghost use Rattle.trio_lists.specs.Marked.{all_below};
 ghost use Rattle.trio_layout.specs.Survey.{row_by};
 ghost use Rattle.trio_survey.specs.Seen.{file_seen, met_seen};
 ghost use Rattle.trio_survey.specs.inner.Walk.{Entered};

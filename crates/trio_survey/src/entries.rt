@@ -6,7 +6,7 @@ ghost use Rattle.trio_lists.specs.Lists.{both};
 ghost use Rattle.trio_layout.specs.Slot.{slot_of};
 ghost use Rattle.trio_survey.specs.Seen.{core_with, listed_seen, result_seen};
 
-use crate::file::{FaultPlace, ListedEntry};
+use crate::file::{FaultPlace, EntryRead};
 use crate::home::core_page;
 use crate::names::repeated_name;
 use std::alloc::Global;
@@ -22,7 +22,7 @@ pub fn read_entries(
     inodes: u32,
     blocks: &[u32],
     reads: &mut Reads,
-) -> Result<Result<Vec<ListedEntry>, FaultPlace>, NoMemory>
+) -> Result<Result<Vec<EntryRead>, FaultPlace>, NoMemory>
     ensures pages { home.new.pages ≡ home.old.pages }
     ensures entries { IfOk result (λ r. result_seen (λ es. map listed_seen es.items) r ≡ entries_of (core_with home.old.pages range inodes) blocks.now) }
 {
@@ -46,7 +46,7 @@ fn add_page_entries(
     page: &Page,
     no: u32,
     inodes: u32,
-    entries: &mut Vec<ListedEntry>,
+    entries: &mut Vec<EntryRead>,
 ) -> Result<Result<(), FaultPlace>, NoMemory>
     ensures { IfOk result (λ r. both (Ok (map listed_seen entries.old.items)) (entries_on inodes no page.now)
         ≡ result_seen (λ _. map listed_seen entries.new.items) r) }
@@ -75,7 +75,7 @@ fn add_slot_entry(
     page: u32,
     slot: u16,
     inodes: u32,
-    entries: &mut Vec<ListedEntry>,
+    entries: &mut Vec<EntryRead>,
 ) -> Result<bool, NoMemory>
     ensures { IfOk result (λ ok. both (Ok (map listed_seen entries.old.items)) (listed_at page slot (drop 192 bytes.now) (slot_of inodes bytes.now))
         ≡ (if ok then Ok (map listed_seen entries.new.items) else Err (record { page = page; slot = slot }))) }
@@ -86,7 +86,7 @@ fn add_slot_entry(
         SlotRead::Entry(entry) => {
             let mut body = [0; 64];
             body.copy_from_slice(&bytes[192..]);
-            entries.push(ListedEntry {
+            entries.push(EntryRead {
                 entry,
                 page,
                 slot,

@@ -29,7 +29,7 @@ pub struct MetFile {
 
 /// An entry of a directory at its place, with the bytes of the body in its slot.
 #[derive(Clone, Copy)]
-pub struct ListedEntry {
+pub struct EntryRead {
     pub entry: EntryPart,
     /// The directory page.
     pub page: u32,
@@ -54,7 +54,7 @@ pub struct FileParts {
     /// The numbers of its blocks, in the order of the file.
     pub blocks: Vec<u32>,
     /// The entries of a directory, in the order of block and slot; none of a regular file.
-    pub entries: Vec<ListedEntry>,
+    pub entries: Vec<EntryRead>,
 }
 
 /// Reads a file that is met, in an image with these core pages and so many inode numbers.

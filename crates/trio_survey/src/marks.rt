@@ -1,23 +1,23 @@
 //! Marks over numbers, by which the walk knows what was listed before.
 
 ghost use Rattle.std.specs.Prelude.{◌≡◌, ◌++◌, ℕ, List, IfOk, OnOk, map, true, vec_len};
-ghost use Rattle.trio_lists.specs.Marks.{Marks, all_below};
+ghost use Rattle.trio_lists.specs.Marked.{AreMarked, all_below};
 ghost use Rattle.trio_layout.specs.Survey.{first_listed, met_in, numbers};
 ghost use Rattle.trio_survey.specs.Picks.{pick_of};
 ghost use Rattle.trio_survey.specs.Seen.{listed_seen, met_seen};
 ghost use Rattle.trio_survey.specs.inner.Walk.{AreMarked, FirstEntry, FirstRepeat};
 ghost use Rattle.trio_survey.specs.Within.{inos};
 
-use crate::file::{FaultPlace, ListedEntry, MetFile};
+use crate::file::{FaultPlace, EntryRead, MetFile};
 use crate::picks::Picks;
 use trio_page::NoMemory;
 
 /// Marks the numbers, and answers the first that had its mark.
 pub fn mark_new(marks: &mut Vec<bool>, these: &[u32]) -> Option<u32>
     requires { all_below (vec_len marks.old) these.now ≡ true }
-    ensures marked { (before : List ℕ) → Marks marks.old.items before → Marks marks.new.items (before ++ these.now) }
+    ensures marked { (before : List ℕ) → AreMarked marks.old.items before → AreMarked marks.new.items (before ++ these.now) }
     ensures len { vec_len marks.new ≡ vec_len marks.old }
-    ensures first { (before : List ℕ) → Marks marks.old.items before → FirstRepeat before these.now result }
+    ensures first { (before : List ℕ) → AreMarked marks.old.items before → FirstRepeat before these.now result }
 {
     let mut repeated = None;
     for n in these {
@@ -37,7 +37,7 @@ pub fn add_children(
     marks: &mut Vec<bool>,
     picks: &Picks,
     directory: u32,
-    entries: &[ListedEntry],
+    entries: &[EntryRead],
 ) -> Result<Option<FaultPlace>, NoMemory>
     requires fit { all_below (vec_len marks.old) (inos entries.now) ≡ true }
     requires marked { AreMarked (map met_seen files.old.items) marks.old.items }

@@ -16,7 +16,7 @@ use Rattle.trio_layout.specs.Proposed.{Bundle, bundle_sheets, proposed, proposed
 use Rattle.trio_page.specs.Sheets.{Sheet}
 use Rattle.trio_layout.specs.Verifies.{Verifies}
 use Rattle.trio_lists.proofs.Tabulated.{tabulated-same}
-use Rattle.trio_lists.proofs.Filters.{found}
+use Rattle.trio_lists.proofs.Filters.{find-In}
 use Rattle.trio_surveys.proofs.Local.{read_at, file_agrees, survey_local}
 use Rattle.trio_surveys.proofs.Owned.{sound_parts}
 use Rattle.trio_surveys.proofs.Picked.{all_listed, page_put_is, listed_placed, file_put, pages_put, survey_put, sound_put}
@@ -35,7 +35,7 @@ pub rows_same : (core : Core) (pages : Pages) (files : List Met) → ((m : Met) 
 rows_same core pages files h =
     tabulated-same (row_of (with_other core pages) files) (row_of core files) (core.inodes + 1)
     (λ n. then_same (find (λ (x : Met). eqb x.ino n) files) (λ m. row_read m (file_of (with_other core pages) m)) (λ m. row_read m (file_of core m))
-    (λ m e. h m (found (λ (x : Met). eqb x.ino n) files m e).0))
+    (λ m e. h m (find-In (λ (x : Met). eqb x.ino n) files m e).0))
 
 owner_same : (core : Core) (pages : Pages) (files : List Met) (p : ℕ) → ((m : Met) → In m files → pages_of (with_other core pages) m ≡ pages_of core m) → owner_of (with_other core pages) files p ≡ owner_of core files p
 owner_same core pages [] p h = refl

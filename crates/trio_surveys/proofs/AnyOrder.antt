@@ -13,7 +13,7 @@ use Rattle.trio_layout.specs.Accept.{with_bodies}
 use Rattle.trio_surveys.specs.SurveyLaws.{BodiesInAnyOrder}
 use Rattle.trio_surveys.proofs.Cores.{page_is_core}
 use Rattle.trio_surveys.proofs.Images.{root_or_listed}
-use Rattle.trio_lists.proofs.Members.{flat_from}
+use Rattle.trio_lists.proofs.Members.{flat_map-In}
 use Rattle.trio_surveys.proofs.PageSlots.{page_by_slots, pages_same}
 use Rattle.trio_surveys.proofs.Picked.{all_listed, bodies_are, listed_are_met, listed_no_root, listed_placed, same_place}
 use Rattle.trio_surveys.proofs.Putting.{put_on, put_on-none, put_on-front, put_on-body, put_on-length, with_bodies-get, ArePlaced}
@@ -52,7 +52,7 @@ module _ (core : Core) (pick : Pick) (fit : IsFit core) (sound : is_sound core p
   -- two files that are listed at one place have one body
   one_body : (x y : Met) → In x listed → In y listed → x.page ≡ y.page → x.slot ≡ y.slot → x.body ≡ y.body
   one_body x y i j page slot =
-      let r = flat_from (children core pick) y (survey core pick) j in
+      let r = flat_map-In (children core pick) y (survey core pick) j in
       let k = child_from core pick r.0 y r.2 in
       let pl = child_placed core pick r.0 y k in
       let l : Listed = k.entry in
@@ -64,7 +64,7 @@ module _ (core : Core) (pick : Pick) (fit : IsFit core) (sound : is_sound core p
   -- a file is listed on a core page
   listed_core : (x : Met) → In x listed → is_core core.range x.page ≡ true
   listed_core x i =
-      let r = flat_from (children core pick) x (survey core pick) i in
+      let r = flat_map-In (children core pick) x (survey core pick) i in
       let k = child_from core pick r.0 x r.2 in
       let pl = child_placed core pick r.0 x k in
       ap (λ (w : Met). is_core core.range w.page) k.is ∙ page_is_core core k.entry.page pl.bytes pl.page

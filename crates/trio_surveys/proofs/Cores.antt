@@ -12,7 +12,7 @@ use Rattle.trio_lists.specs.Lists.{In, result_map}
 use Rattle.trio_layout.specs.Core.{Core, at_page, page_of}
 use Rattle.trio_layout.specs.Chain.{Chain, chain_from, index_count, index_page, with_index}
 use Rattle.trio_layout.specs.Survey.{Met, FileRead, file_of, pages_of}
-use Rattle.trio_lists.proofs.Members.{In-cases, In-left, In-right, all_at, map_ok, then_ok, then_some, there_ok}
+use Rattle.trio_lists.proofs.Members.{In-cases, In-left, In-right, list_all-In, result_map-Ok, result_then-Ok, option_and_then-Some, there_or-Ok}
 use Rattle.trio_surveys.proofs.Local.{reads_from}
 use Rattle.trio_surveys.proofs.Owned.{pages_are}
 
@@ -41,10 +41,10 @@ chain_core core zero blocks at c p e i =
     let none : In p [] = subst (λ (x : Chain). In p (x.index ++ x.blocks)) (sym k) i in absurd none
 chain_core core (suc n) blocks at c p e i =
     let used : ℕ = min blocks 511 in
-    let s1 = then_ok (λ i. result_map (with_index at i) (chain_from core n (blocks - 511) i.next)) (index_page core at used (eqb n 0)) c e in
+    let s1 = result_then-Ok (λ i. result_map (with_index at i) (chain_from core n (blocks - 511) i.next)) (index_page core at used (eqb n 0)) c e in
     let x : Index = s1.0 in
-    let s2 = map_ok (with_index at x) (chain_from core n (blocks - 511) x.next) c s1.2 in
-    let s3 = then_some (index_of used (eqb n 0) core.range) (page_of core at) x (there_ok (at_page at) _ x s1.1) in
+    let s2 = result_map-Ok (with_index at x) (chain_from core n (blocks - 511) x.next) c s1.2 in
+    let s3 = option_and_then-Some (index_of used (eqb n 0) core.range) (page_of core at) x (there_or-Ok (at_page at) _ x s1.1) in
     let rest : Chain = s2.0 in
     let j : In p (at ∷ (rest.index ++ (x.numbers ++ rest.blocks))) = subst (λ (y : Chain). In p (y.index ++ y.blocks)) (sym s2.2) i in
     elim j [
@@ -54,7 +54,7 @@ chain_core core (suc n) blocks at c p e i =
             | inl a ↦ chain_core core n (blocks - 511) x.next rest p s2.1 (In-left p rest.index rest.blocks a)
             | inr b ↦
                 elim (In-cases p x.numbers rest.blocks b) [
-                  | inl here ↦ all_at (is_core core.range) p x.numbers (index_core core.range used (eqb n 0) s3.0 x s3.2) here
+                  | inl here ↦ list_all-In (is_core core.range) p x.numbers (index_core core.range used (eqb n 0) s3.0 x s3.2) here
                   | inr later ↦ chain_core core n (blocks - 511) x.next rest p s2.1 (In-right p rest.index rest.blocks later)
                 ]
           ]

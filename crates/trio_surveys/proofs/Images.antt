@@ -5,7 +5,7 @@ use Rattle.std.specs.List.{find}
 use Rattle.std.specs.Option.{option_and_then, option_map_or}
 use Rattle.std.proofs.lemmas.Bool.{and_parts, cases_lt, eqb-true, eq-eqb, ne_eqb, ltb-true, leb-true, lt-ltb, le-ltb, false_from_ne_true, false≢true}
 use Rattle.trio_rights.specs.Row.{Row}
-use Rattle.trio_layout.specs.Core.{Core, Place, page_of}
+use Rattle.trio_layout.specs.Core.{Core, Location, page_of}
 use Rattle.trio_layout.specs.Entries.{body_in_slot}
 use Rattle.trio_lists.specs.Lists.{is_among, are_new, In}
 use Rattle.trio_layout.specs.Sound.{is_sound, rows_table, owners_table}
@@ -13,11 +13,12 @@ use Rattle.trio_layout.specs.Survey.{Met, Pick, plain, FileRead, file_of, survey
 use Rattle.trio_layout.specs.Image.{IsFit, Image, row_at, settled_body, body_by_row}
 use Rattle.trio_surveys.proofs.Cores.{listed_is_core}
 use Rattle.trio_surveys.proofs.Local.{read_at}
-use Rattle.trio_lists.proofs.Members.{In-map, flat_from, In-among, then_some}
-use Rattle.trio_surveys.proofs.Owned.{new_before, new_weaker, sound_parts, owner_is}
+use Rattle.trio_lists.proofs.Members.{In-map, flat_map-In, is_among-In, option_and_then-Some}
+use Rattle.trio_surveys.proofs.Owned.{sound_parts, owner_is}
+use Rattle.trio_lists.proofs.New.{are_new-before, are_new-fewer}
 use Rattle.trio_surveys.proofs.Picked.{all_listed, listed_no_root}
 use Rattle.trio_surveys.proofs.Tree.{survey_tree, child_from, child_placed, child_numbered, numbers-flat}
-use Rattle.trio_lists.proofs.Filters.{found, finds}
+use Rattle.trio_lists.proofs.Filters.{find-In, In-find}
 use Rattle.trio_lists.proofs.Tabulated.{tabulated-get, tabulated-past}
 
 -- what is there
@@ -30,16 +31,16 @@ pub same_met : (files : List Met) (m m' : Met) → are_new [] (numbers files) �
 same_met [] m m' new i j e = absurd i
 same_met (x ∷ xs) m m' new (inl a) (inl b) e = a ∙ sym b
 same_met (x ∷ xs) m m' new (inl a) (inr j) e =
-    absurd (new_before m'.ino (x.ino ∷ []) (numbers xs) (and_parts true (are_new (x.ino ∷ []) (numbers xs)) new).1 (In-map (λ (w : Met). w.ino) m' xs j) (inl (sym e ∙ ap (λ (w : Met). w.ino) a)))
+    absurd (are_new-before m'.ino (x.ino ∷ []) (numbers xs) (and_parts true (are_new (x.ino ∷ []) (numbers xs)) new).1 (In-map (λ (w : Met). w.ino) m' xs j) (inl (sym e ∙ ap (λ (w : Met). w.ino) a)))
 same_met (x ∷ xs) m m' new (inr i) (inl b) e =
-    absurd (new_before m.ino (x.ino ∷ []) (numbers xs) (and_parts true (are_new (x.ino ∷ []) (numbers xs)) new).1 (In-map (λ (w : Met). w.ino) m xs i) (inl (e ∙ ap (λ (w : Met). w.ino) b)))
+    absurd (are_new-before m.ino (x.ino ∷ []) (numbers xs) (and_parts true (are_new (x.ino ∷ []) (numbers xs)) new).1 (In-map (λ (w : Met). w.ino) m xs i) (inl (e ∙ ap (λ (w : Met). w.ino) b)))
 same_met (x ∷ xs) m m' new (inr i) (inr j) e =
-    same_met xs m m' (new_weaker [] (x.ino ∷ []) (numbers xs) (λ n k. absurd k) (and_parts true (are_new (x.ino ∷ []) (numbers xs)) new).1) i j e
+    same_met xs m m' (are_new-fewer [] (x.ino ∷ []) (numbers xs) (λ n k. absurd k) (and_parts true (are_new (x.ino ∷ []) (numbers xs)) new).1) i j e
 
 pub owner_none : (core : Core) (files : List Met) (p : ℕ) → ((m : Met) → In m files → In p (pages_of core m) → ⊥) → owner_of core files p ≡ 0
 owner_none core [] p h = refl
 owner_none core (x ∷ xs) p h =
-    ap (λ b. cond b x.ino (owner_of core xs p)) (false_from_ne_true (is_among p (pages_of core x)) (λ t. h x (inl refl) (In-among p (pages_of core x) t)))
+    ap (λ b. cond b x.ino (owner_of core xs p)) (false_from_ne_true (is_among p (pages_of core x)) (λ t. h x (inl refl) (is_among-In p (pages_of core x) t)))
     ∙ owner_none core xs p (λ m i. h m (inr i))
 
 -- the tables are those of this survey
@@ -47,7 +48,7 @@ pub record TablesOf (image : Image) (core : Core) (pick : Pick) : Type 0 where
   pub rows : image.rows ≡ rows_table core (survey core pick)
   pub owners : image.owners ≡ owners_table core (survey core pick)
 
-row_read_is : (m : Met) (o : Result FileRead Place) (r : Row) → row_read m o ≡ Some r → (f : FileRead) × (o ≡ Ok f) × (row_by m f.body ≡ r)
+row_read_is : (m : Met) (o : Result FileRead Location) (r : Row) → row_read m o ≡ Some r → (f : FileRead) × (o ≡ Ok f) × (row_by m f.body ≡ r)
 row_read_is m (Err place) r e = absurd cc
 row_read_is m (Ok f) r e = (f, refl, cc)
 
@@ -86,7 +87,7 @@ module _ (core : Core) (pick : Pick) (fit : IsFit core) (sound : is_sound core p
             let one = fit.numbers in
             let a : 0 < m.ino = omega (arith, n) in
             let b : m.ino ≤ core.inodes = omega (arith, n, one) in (a, b)
-        | inr j ↦ let r = flat_from (children core pick) m (survey core pick) j in child_numbered core pick r.0 m r.2
+        | inr j ↦ let r = flat_map-In (children core pick) m (survey core pick) j in child_numbered core pick r.0 m r.2
       ]
 
   pub read_met : (m : Met) → In m (survey core pick) → (f : FileRead) × (file_of core m ≡ Ok f)
@@ -94,15 +95,15 @@ module _ (core : Core) (pick : Pick) (fit : IsFit core) (sound : is_sound core p
 
   pub row_met : (m : Met) (f : FileRead) → In m (survey core pick) → file_of core m ≡ Ok f → row_of core (survey core pick) m.ino ≡ Some (row_by m f.body)
   row_met m f i e =
-      let s = finds (λ (x : Met). eqb x.ino m.ino) (survey core pick) m i (eq-eqb m.ino m.ino refl) in
-      let g = found (λ (x : Met). eqb x.ino m.ino) (survey core pick) s.0 s.1 in
+      let s = In-find (λ (x : Met). eqb x.ino m.ino) (survey core pick) m i (eq-eqb m.ino m.ino refl) in
+      let g = find-In (λ (x : Met). eqb x.ino m.ino) (survey core pick) s.0 s.1 in
       let same : s.0 ≡ m = one_met s.0 m g.0 i (eqb-true s.0.ino m.ino g.1) in
       ap (option_and_then (λ m. row_read m (file_of core m))) (s.1 ∙ ap Some same) ∙ ap (row_read m) e
 
   pub met_row : (n : ℕ) (r : Row) → row_of core (survey core pick) n ≡ Some r → MetAt core pick n r
   met_row n r e =
-      let s = then_some (λ m. row_read m (file_of core m)) (find (λ (x : Met). eqb x.ino n) (survey core pick)) r e in
-      let g = found (λ (x : Met). eqb x.ino n) (survey core pick) s.0 s.1 in
+      let s = option_and_then-Some (λ m. row_read m (file_of core m)) (find (λ (x : Met). eqb x.ino n) (survey core pick)) r e in
+      let g = find-In (λ (x : Met). eqb x.ino n) (survey core pick) s.0 s.1 in
       let k = row_read_is s.0 (file_of core s.0) r s.2 in
       record { met = s.0; file = k.0; stands = g.0; read = k.1; number = eqb-true s.0.ino n g.1; row = sym k.2 }
 
@@ -173,7 +174,7 @@ settled_body_met image m fit sound tables i =
     elim (root_or_listed image.core plain fit sound m i) [
       | inl e ↦ ap (λ (x : Met). settled_body image x.ino) e ∙ ap (λ (x : Met). x.body) (sym e)
       | inr j ↦
-          let r = flat_from (children image.core plain) m (survey image.core plain) j in
+          let r = flat_map-In (children image.core plain) m (survey image.core plain) j in
           let k = child_from image.core plain r.0 m r.2 in
           let pl = child_placed image.core plain r.0 m k in
           let f = read_met image.core plain fit sound m i in

@@ -6,15 +6,14 @@ use Rattle.trio_rights.specs.declared.kind.Kind.TheVariants.{Regular, Directory}
 use Rattle.trio_layout.specs.declared.body.Body.{Body}
 use Rattle.trio_layout.specs.Body.{body_of, block_count}
 use Rattle.trio_layout.specs.Index.{index_of}
-use Rattle.trio_lists.specs.Lists.{In, result_map, result_then, both, gathered}
+use Rattle.trio_lists.specs.Lists.{In, result_map, result_then, both, gathered, there_or}
 use Rattle.trio_layout.specs.Core.{Core, nowhere, at_page, page_of}
-use Rattle.trio_lists.specs.Lists.{there_or}
 use Rattle.trio_layout.specs.Chain.{Chain, index_page, chain_from, chain_of, with_index, index_count}
 use Rattle.trio_layout.specs.Entries.{Listed, page_entries, entries_on, entries_of_kind, with_names_apart}
 use Rattle.trio_layout.specs.Survey.{Met, Pick, Front, FileRead, file_of, file_with, children, children_in, root_of, levels, descend, first_listed, numbers, survey}
 use Rattle.trio_layout.specs.Sound.{are_in_grammar}
 use Rattle.trio_surveys.specs.Reading.{pages_read, with_other, AgreeOn}
-use Rattle.trio_lists.proofs.Members.{In-left, In-right, all_at, flat_same, map_ok, then_ok, there_ok, ok_of}
+use Rattle.trio_lists.proofs.Members.{In-left, In-right, list_all-In, flat_map-same, result_map-Ok, result_then-Ok, there_or-Ok, is_ok-Ok}
 
 -- a file that is read, by its parts
 pub record Reads (core : Core) (m : Met) (f : FileRead) : Type 0 where
@@ -29,11 +28,11 @@ file_parts core m f b c es p q r e =
 pub reads_from : (core : Core) (m : Met) (f : FileRead) → file_of core m ≡ Ok f → Reads core m f
 unfolding file_of
 reads_from core m f e =
-    let s1 = then_ok (λ b. result_then (file_with core m.kind b) (chain_of core b)) (there_or nowhere (body_of m.kind core.range m.body)) f e in
-    let s2 = then_ok (file_with core m.kind s1.0) (chain_of core s1.0) f s1.2 in
+    let s1 = result_then-Ok (λ b. result_then (file_with core m.kind b) (chain_of core b)) (there_or nowhere (body_of m.kind core.range m.body)) f e in
+    let s2 = result_then-Ok (file_with core m.kind s1.0) (chain_of core s1.0) f s1.2 in
     let F : List Listed → FileRead = λ es. record { body = s1.0; chain = s2.0; entries = es } in
-    let s3 = map_ok F (entries_of_kind core m.kind s2.0.blocks) f s2.2 in
-    file_parts core m f s1.0 s2.0 s3.0 (there_ok nowhere (body_of m.kind core.range m.body) s1.0 s1.1) s2.1 s3.1 s3.2
+    let s3 = result_map-Ok F (entries_of_kind core m.kind s2.0.blocks) f s2.2 in
+    file_parts core m f s1.0 s2.0 s3.0 (there_or-Ok nowhere (body_of m.kind core.range m.body) s1.0 s1.1) s2.1 s3.1 s3.2
 
 pub reads_to : (core : Core) (m : Met) (f : FileRead) → Reads core m f → file_of core m ≡ Ok f
 unfolding file_of
@@ -46,9 +45,9 @@ pub chain_follows : (core other : Core) → other.range ≡ core.range → (n bl
 chain_follows core other er zero blocks at c e h = e
 chain_follows core other er (suc n) blocks at c e h =
     let used : ℕ = min blocks 511 in
-    let s1 = then_ok (λ i. result_map (with_index at i) (chain_from core n (blocks - 511) i.next)) (index_page core at used (n == 0)) c e in
+    let s1 = result_then-Ok (λ i. result_map (with_index at i) (chain_from core n (blocks - 511) i.next)) (index_page core at used (n == 0)) c e in
     let i = s1.0 in
-    let s2 = map_ok (with_index at i) (chain_from core n (blocks - 511) i.next) c s1.2 in
+    let s2 = result_map-Ok (with_index at i) (chain_from core n (blocks - 511) i.next) c s1.2 in
     let idx : at ∷ s2.0.index ≡ c.index = ap (λ (x : Chain). x.index) s2.2 in
     let here : page_of other at ≡ page_of core at = h at (subst (λ l. In at l) idx (inl refl)) in
     let rest = chain_follows core other er n (blocks - 511) i.next s2.0 s2.1 (λ p k. h p (subst (λ l. In p l) idx (inr k))) in
@@ -92,7 +91,7 @@ levels_local f g root zero h = refl
 levels_local f g root (suc k) h =
     let w : Front = levels f root k in
     ap (descend g) (levels_local f g root k (λ m i. h m (In-left m w.passed w.level i)))
-    ∙ ap (λ l. record { passed = w.passed ++ w.level; level = first_listed (numbers (w.passed ++ w.level)) l }) (flat_same g f w.level (λ m i. h m (In-right m w.passed w.level i)))
+    ∙ ap (λ l. record { passed = w.passed ++ w.level; level = first_listed (numbers (w.passed ++ w.level)) l }) (flat_map-same g f w.level (λ m i. h m (In-right m w.passed w.level i)))
 
 -- one survey follows another where each file that is met lists the same
 pub survey_follows : (a : Core) (pages : List (Option (List ℕ))) (p q : Pick) → ((m : Met) → In m (survey a p) → children (with_other a pages) q m ≡ children a p m) → survey (with_other a pages) q ≡ survey a p
@@ -102,7 +101,7 @@ survey_follows a pages p q h =
 
 -- what a file says that is met in a survey in the grammar
 pub read_at : (core : Core) (files : List Met) (m : Met) → are_in_grammar core files ≡ true → In m files → (f : FileRead) × (file_of core m ≡ Ok f)
-read_at core files m g i = ok_of (file_of core m) (all_at (λ m. is_ok (file_of core m)) m files g i)
+read_at core files m g i = is_ok-Ok (file_of core m) (list_all-In (λ m. is_ok (file_of core m)) m files g i)
 
 pub file_agrees : (core : Core) (pages : List (Option (List ℕ))) (files : List Met) → are_in_grammar core files ≡ true → AgreeOn core (with_other core pages) files → (m : Met) → In m files → file_of (with_other core pages) m ≡ file_of core m
 file_agrees core pages files g h m i =

@@ -17,14 +17,14 @@ use Rattle.trio_layout.specs.Range.{core_count}
 use Rattle.trio_layout.specs.Survey.{Met, Front, numbers, levels, descend, first_listed}
 use Rattle.trio_layout.specs.declared.body.Body.{Body}
 use Rattle.trio_layout.specs.declared.range.CoreRange.{CoreRange}
-use Rattle.trio_layout.specs.Mode.{with_mode}
+use Rattle.trio_layout.specs.Mode.{body_with_mode}
 use Rattle.trio_lists.proofs.Members.{In-left, In-right}
 
 -- a body with another mode
 abbrev pub body_moded : ℕ → Body → Body
 body_moded mode b = record b { mode = record { 0 = mode } }
 
-spelled_moded : (mode : ℕ) (b : Body) → with_mode mode (body_bytes b) ≡ body_bytes (body_moded mode b)
+spelled_moded : (mode : ℕ) (b : Body) → body_with_mode mode (body_bytes b) ≡ body_bytes (body_moded mode b)
 unfolding with_number with_part body_bytes
 spelled_moded mode b = refl
 
@@ -74,7 +74,7 @@ read_if kind range bytes b spelled at fits =
     ∙ ap (λ t. cond t (Some b) None) (and_from (bytes_eq bytes (body_bytes b)) (body_fits kind range b) ((bytes_eq-Decides bytes (body_bytes b)).1 spelled) fits)
 
 -- a body in the grammar is in the grammar with another mode
-pub mode_body : (kind : Kind) (range : CoreRange) (bytes : List ℕ) (b : Body) (mode : ℕ) → mode ≤ 511 → body_of kind range bytes ≡ Some b → body_of kind range (with_mode mode bytes) ≡ Some (body_moded mode b)
+pub mode_body : (kind : Kind) (range : CoreRange) (bytes : List ℕ) (b : Body) (mode : ℕ) → mode ≤ 511 → body_of kind range bytes ≡ Some b → body_of kind range (body_with_mode mode bytes) ≡ Some (body_moded mode b)
 unfolding body_of
 mode_body kind range bytes b mode small e =
     let b0 : Body = body_at bytes in
@@ -84,14 +84,14 @@ mode_body kind range bytes b mode small e =
     let same : bytes ≡ body_bytes b = (bytes_eq-Decides bytes (body_bytes b0)).0 p.0 ∙ ap body_bytes is_b in
     let back : body_at (body_bytes b) ≡ b = ap body_at (sym same) ∙ is_b in
     let fits : body_fits kind range b ≡ true = ap (body_fits kind range) (sym is_b) ∙ p.1 in
-    let now : with_mode mode bytes ≡ body_bytes (body_moded mode b) = ap (with_mode mode) same ∙ spelled_moded mode b in
-    read_if kind range (with_mode mode bytes) (body_moded mode b) now (ap body_at now ∙ body_read mode b small back) (fits_moded kind range mode b small fits)
+    let now : body_with_mode mode bytes ≡ body_bytes (body_moded mode b) = ap (body_with_mode mode) same ∙ spelled_moded mode b in
+    read_if kind range (body_with_mode mode bytes) (body_moded mode b) now (ap body_at now ∙ body_read mode b small back) (fits_moded kind range mode b small fits)
 
 -- levels of files that are changed one by one, but for their numbers
 module _ (n mode : ℕ) where
   -- the file n has another mode
   abbrev pub changed : Met → Met
-  changed m = record { ino = m.ino; kind = m.kind; parent = m.parent; page = m.page; slot = m.slot; body = cond (eqb m.ino n) (with_mode mode m.body) m.body }
+  changed m = record { ino = m.ino; kind = m.kind; parent = m.parent; page = m.page; slot = m.slot; body = cond (eqb m.ino n) (body_with_mode mode m.body) m.body }
 
   pub numbers_changed : (ms : List Met) → numbers (map changed ms) ≡ numbers ms
   numbers_changed [] = refl

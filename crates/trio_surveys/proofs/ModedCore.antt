@@ -12,9 +12,8 @@ use Rattle.trio_rights.specs.declared.kind.Kind.TheVariants.{Regular, Directory}
 use Rattle.trio_layout.specs.Body.{body_of, block_count}
 use Rattle.trio_layout.specs.Chain.{index_count, chain_of}
 use Rattle.trio_layout.specs.Core.{Core, at_page, page_of}
-use Rattle.trio_lists.specs.Lists.{there_or}
+use Rattle.trio_lists.specs.Lists.{there_or, result_map, result_then, are_new, gathered, In}
 use Rattle.trio_layout.specs.Entries.{slot_bytes, body_in_slot, with_names_apart, unless_repeated, Listed, slot_entries, listed_at, entries_on, page_entries, entries_of_kind}
-use Rattle.trio_lists.specs.Lists.{result_map, result_then, are_new, gathered, In}
 use Rattle.trio_layout.specs.Slot.{slot_of}
 use Rattle.trio_layout.specs.Sound.{are_in_grammar, listed_numbers, listed_pages, is_sound}
 use Rattle.trio_layout.specs.Survey.{Front, levels, Met, Pick, plain, FileRead, file_of, survey, children, children_in, met_in, root_of, numbers, pages_of, pages_in}
@@ -24,11 +23,11 @@ use Rattle.trio_layout.specs.declared.slot.SlotRead.TheVariants.{Entry}
 use Rattle.trio_surveys.specs.Reading.{picked_entry, with_other}
 use Rattle.trio_layout.specs.Accept.{with_bodies}
 use Rattle.trio_layout.specs.Image.{IsFit}
-use Rattle.trio_layout.specs.Mode.{with_mode}
+use Rattle.trio_layout.specs.Mode.{body_with_mode}
 use Rattle.trio_surveys.proofs.Accepted.{length-bodies, map_is}
 use Rattle.trio_surveys.proofs.Images.{read_met, one_met, root_or_listed}
 use Rattle.trio_surveys.proofs.Local.{reads_from, reads_to, chain_follows}
-use Rattle.trio_lists.proofs.Members.{In-flat, flat_from, map_from, all_from}
+use Rattle.trio_lists.proofs.Members.{In-flat, flat_map-In, map-In, list_all-each}
 use Rattle.trio_surveys.proofs.Moded.{body_moded, mode_body, changed, numbers_changed, levels_changed}
 use Rattle.trio_surveys.proofs.Owned.{index_apart, sound_parts, sound_from}
 use Rattle.trio_surveys.proofs.Picked.{all_listed, listed_picked, below_map, gathered_map, names_picked, listed_are_met, listed_placed}
@@ -38,7 +37,7 @@ use Rattle.trio_surveys.proofs.Slots.{slot_by_front}
 use Rattle.trio_surveys.proofs.Tree.{child_from, child_has, child_placed}
 
 -- a body with another mode has as many bytes
-pub mode_sized : (mode : ℕ) (body : List ℕ) → length body ≡ 64 → length (with_mode mode body) ≡ 64
+pub mode_sized : (mode : ℕ) (body : List ℕ) → length body ≡ 64 → length (body_with_mode mode body) ≡ 64
 unfolding with_number
 mode_sized mode body sized = length-with_part 0 (to_le_bytes w16 mode) body (omega (arith, sized, length-low_first mode)) ∙ sized
   where
@@ -69,7 +68,7 @@ module _ (core : Core) (fit : IsFit core) (sound : is_sound core plain ≡ true)
   now = with_other core (with_bodies ms core.pages)
 
   abbrev pub pick : Pick
-  pick d p s ino bytes = cond (eqb ino m0.ino) (with_mode mode bytes) bytes
+  pick d p s ino bytes = cond (eqb ino m0.ino) (body_with_mode mode bytes) bytes
 
   pub in_ms : (c : Met) → In c ms → c ≡ changed m0.ino mode m0
   in_ms c (inl e) = e
@@ -90,7 +89,7 @@ module _ (core : Core) (fit : IsFit core) (sound : is_sound core plain ≡ true)
 
   place0 : PlaceOf core m0
   place0 =
-      let r = flat_from (children core plain) m0 (survey core plain) listed0 in
+      let r = flat_map-In (children core plain) m0 (survey core plain) listed0 in
       let k = child_from core plain r.0 m0 r.2 in
       let pl = child_placed core plain r.0 m0 k in
       let page : m0.page ≡ k.entry.page = ap (λ (x : Met). x.page) k.is in
@@ -109,15 +108,15 @@ module _ (core : Core) (fit : IsFit core) (sound : is_sound core plain ≡ true)
         block = subst (λ p. In p k.file.chain.blocks) (sym page) pl.block;
       }
 
-  body0 : (changed m0.ino mode m0).body ≡ with_mode mode m0.body
-  body0 = ap (λ b. cond b (with_mode mode m0.body) m0.body) (eq-eqb m0.ino m0.ino refl)
+  body0 : (changed m0.ino mode m0).body ≡ body_with_mode mode m0.body
+  body0 = ap (λ b. cond b (body_with_mode mode m0.body) m0.body) (eq-eqb m0.ino m0.ino refl)
 
   placed : ArePlaced ms
   placed c i =
       let r : c ≡ changed m0.ino mode m0 = in_ms c i in
       let w = listed_placed core plain fit sound m0 listed0 in
       let low : m0.slot < 16 = w.0 in
-      let l : length (with_mode mode m0.body) ≡ 64 = mode_sized mode m0.body w.1 in
+      let l : length (body_with_mode mode m0.body) ≡ 64 = mode_sized mode m0.body w.1 in
       let slot : c.slot < 16 = subst (λ (x : ℕ). x < 16) (sym (ap (λ (x : Met). x.slot) r)) low in
       (slot, ap (λ (x : Met). length x.body) r ∙ ap length body0 ∙ l)
 
@@ -139,11 +138,11 @@ module _ (core : Core) (fit : IsFit core) (sound : is_sound core plain ≡ true)
             let listed : In c (all_listed core plain) = In-flat (children core plain) m c (survey core plain) i (child_has core plain m f l read has) in
             let is0 : c ≡ m0 = one_met core plain fit sound c m0 (listed_are_met core plain fit sound c listed) i0 same in
             let b : m0.body ≡ body = sym (ap (λ (x : Met). x.body) is0) in
-            let new : (changed m0.ino mode m0).body ≡ with_mode mode body = body0 ∙ ap (with_mode mode) b in
+            let new : (changed m0.ino mode m0).body ≡ body_with_mode mode body = body0 ∙ ap (body_with_mode mode) b in
             let pg : m0.page ≡ p = sym (ap (λ (x : Met). x.page) is0) in
             let sl : m0.slot ≡ s = sym (ap (λ (x : Met). x.slot) is0) in
-            put_on-body p s ms bytes (with_mode mode body) placed full (λ x j on at. ap (λ (y : Met). y.body) (in_ms x j) ∙ new) (inr (changed m0.ino mode m0, inl refl, pg, sl))
-            ∙ sym (ap (λ t. cond t (with_mode mode body) body) (eq-eqb e.ino m0.ino same))
+            put_on-body p s ms bytes (body_with_mode mode body) placed full (λ x j on at. ap (λ (y : Met). y.body) (in_ms x j) ∙ new) (inr (changed m0.ino mode m0, inl refl, pg, sl))
+            ∙ sym (ap (λ t. cond t (body_with_mode mode body) body) (eq-eqb e.ino m0.ino same))
         | inr differ ↦
             put_on-body p s ms bytes body placed full
             (λ x j on at.
@@ -158,7 +157,7 @@ module _ (core : Core) (fit : IsFit core) (sound : is_sound core plain ≡ true)
             let ee : q.entry ≡ e = cc en in
             absurd (differ (ap (λ (y : EntryPart). y.ino) (sym ee) ∙ q.number)))
             (inl refl)
-            ∙ sym (ap (λ t. cond t (with_mode mode body) body) (ne_eqb e.ino m0.ino differ))
+            ∙ sym (ap (λ t. cond t (body_with_mode mode body) body) (ne_eqb e.ino m0.ino differ))
       ])
 
   page_entries_now : (m : Met) (f : FileRead) (p : ℕ) → In m (survey core plain) → file_of core m ≡ Ok f → gathered (page_entries core) f.chain.blocks ≡ Ok f.entries → In p f.chain.blocks → page_entries now p ≡ result_map (map (picked_entry pick m.ino)) (page_entries core p)
@@ -202,7 +201,7 @@ module _ (core : Core) (fit : IsFit core) (sound : is_sound core plain ≡ true)
   abbrev pub read_now : Met → FileRead → FileRead
   read_now m f = record { body = body_now m f.body; chain = f.chain; entries = map (picked_entry pick m.ino) f.entries }
 
-  body_step : (t : Bool) (m : Met) (b : Body) → body_of m.kind core.range m.body ≡ Some b → body_of m.kind core.range (cond t (with_mode mode m.body) m.body) ≡ Some (cond t (body_moded mode b) b)
+  body_step : (t : Bool) (m : Met) (b : Body) → body_of m.kind core.range m.body ≡ Some b → body_of m.kind core.range (cond t (body_with_mode mode m.body) m.body) ≡ Some (cond t (body_moded mode b) b)
   body_step true m b e = mode_body m.kind core.range m.body b mode small e
   body_step false m b e = e
 
@@ -234,7 +233,7 @@ module _ (core : Core) (fit : IsFit core) (sound : is_sound core plain ≡ true)
       let f = read_met core plain fit sound m i in ap pages_in (file_now m f.0 i f.1) ∙ ap pages_in (sym f.1)
 
   root_still : h (root_of core) ≡ root_of core
-  root_still = ap (λ t. record (root_of core) { body = cond t (with_mode mode core.root) core.root }) (ne_eqb 1 m0.ino (λ e. other (sym e)))
+  root_still = ap (λ t. record (root_of core) { body = cond t (body_with_mode mode core.root) core.root }) (ne_eqb 1 m0.ino (λ e. other (sym e)))
 
   pub survey_now : survey now plain ≡ map h (survey core plain)
   unfolding survey
@@ -254,8 +253,8 @@ module _ (core : Core) (fit : IsFit core) (sound : is_sound core plain ≡ true)
       flat_over (λ m. numbers (children core plain m)) (λ m. numbers (children now plain m)) files (λ m i. ap numbers (children_now m i) ∙ numbers_changed m0.ino mode (children core plain m)) in
       let paged : listed_pages now (map h files) ≡ listed_pages core files = flat_over (pages_of core) (pages_of now) files pages_moded in
       let grammar : are_in_grammar now (map h files) ≡ true =
-      all_from (λ m. is_ok (file_of now m)) (map h files)
-      (λ x j. let r = map_from h x files j in let f = read_met core plain fit sound r.0 r.1 in ap (λ y. is_ok (file_of now y)) r.2 ∙ ap is_ok (file_now r.0 f.0 r.1 f.1)) in
+      list_all-each (λ m. is_ok (file_of now m)) (map h files)
+      (λ x j. let r = map-In h x files j in let f = read_met core plain fit sound r.0 r.1 in ap (λ y. is_ok (file_of now y)) r.2 ∙ ap is_ok (file_now r.0 f.0 r.1 f.1)) in
       sound_from now plain (record {
         grammar = ap (are_in_grammar now) survey_now ∙ grammar;
         numbered = ap (λ fs. are_new (1 ∷ []) (listed_numbers now plain fs)) survey_now ∙ ap (are_new (1 ∷ [])) listed ∙ p.numbered;

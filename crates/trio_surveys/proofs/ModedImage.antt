@@ -10,11 +10,11 @@ use Rattle.trio_layout.specs.Sound.{is_sound, rows_table, owners_table}
 use Rattle.trio_layout.specs.Survey.{Met, plain, FileRead, file_of, survey, pages_of, row_by, row_of, owner_of}
 use Rattle.trio_layout.specs.Accept.{with_bodies}
 use Rattle.trio_layout.specs.Image.{IsFit, Image, row_at, settled_body}
-use Rattle.trio_layout.specs.Mode.{with_mode, moded_row, body_put, moded}
+use Rattle.trio_layout.specs.Mode.{body_with_mode, row_with_mode, body_put, image_with_mode}
 use Rattle.trio_layout.specs.Verifies.{Verifies}
 use Rattle.trio_surveys.proofs.Images.{TablesOf, MetAt, row_at_is, row_met, met_row, read_met, met_numbered, settled_body_met}
 use Rattle.trio_lists.proofs.Tabulated.{tabulated-length, tabulated-get, tabulated-same}
-use Rattle.trio_lists.proofs.Members.{In-map, map_from}
+use Rattle.trio_lists.proofs.Members.{In-map, map-In}
 use Rattle.trio_surveys.proofs.Moded.{body_moded, changed}
 use Rattle.trio_surveys.proofs.ModedCore.{now, read_now, file_now, survey_now, pages_moded, moded_sound, moded_fit}
 
@@ -45,7 +45,7 @@ module _ (core : Core) (fit : IsFit core) (sound : is_sound core plain ≡ true)
   gone_still k e None f = refl
   gone_still k e (Some r) f =
       let q = met_row B plain fit_B sound_B k r f in
-      let x = map_from (changed m0.ino mode) q.met (survey core plain) (subst (λ l. In q.met l) files_now q.stands) in
+      let x = map-In (changed m0.ino mode) q.met (survey core plain) (subst (λ l. In q.met l) files_now q.stands) in
       let g = read_met core plain fit sound x.0 x.1 in
       let was = row_met core plain fit sound x.0 g.0 x.1 g.1 in
       let num : x.0.ino ≡ k = sym (ap (λ (y : Met). y.ino) x.2) ∙ q.number in
@@ -99,11 +99,11 @@ module _ (core : Core) (fit : IsFit core) (sound : is_sound core plain ≡ true)
       (λ p. ap (cond (ltb p core.range.first) 0xFFFFFFFF) (owner_over (survey core plain) p (λ m i. pages_moded core fit sound mode small m0 i0 other m i)))
 
 -- the pages of the changed image
-pages_step : (core : Core) (m0 : Met) (f0 : FileRead) (mode : ℕ) → (m0.ino ≡ 1 → ⊥) → with_bodies (changed m0.ino mode m0 ∷ []) core.pages ≡ body_put (Some (row_by m0 f0.body)) (with_mode mode m0.body) core.pages
+pages_step : (core : Core) (m0 : Met) (f0 : FileRead) (mode : ℕ) → (m0.ino ≡ 1 → ⊥) → with_bodies (changed m0.ino mode m0 ∷ []) core.pages ≡ body_put (Some (row_by m0 f0.body)) (body_with_mode mode m0.body) core.pages
 pages_step core m0 f0 mode other =
     let X : List ℕ → List (Option (List ℕ)) = λ body. body_put (Some (row_by m0 f0.body)) body core.pages in
     ap (λ b. cond b core.pages (X (changed m0.ino mode m0).body)) (ne_eqb m0.ino 1 other)
-    ∙ ap (λ b. X (cond b (with_mode mode m0.body) m0.body)) (eq-eqb m0.ino m0.ino refl)
+    ∙ ap (λ b. X (cond b (body_with_mode mode m0.body) m0.body)) (eq-eqb m0.ino m0.ino refl)
 
 module _ (image : Image) (n mode : ℕ) (r : Row) (fit : IsFit image.core) (v : Verifies image) (row : row_at image n ≡ Some r) (small : mode ≤ 511) (other : n ≡ 1 → ⊥) where
   pub mode_tables : TablesOf image image.core plain
@@ -121,18 +121,18 @@ module _ (image : Image) (n mode : ℕ) (r : Row) (fit : IsFit image.core) (v : 
   mode_settled : settled_body image n ≡ mode_met.met.body
   mode_settled = ap (settled_body image) (sym mode_met.number) ∙ settled_body_met image mode_met.met fit v.sound mode_tables mode_met.stands
 
-  pub mode_core_is : mode_core ≡ (moded image n mode).core
+  pub mode_core_is : mode_core ≡ (image_with_mode image n mode).core
   mode_core_is =
       let core : Core = image.core in
       let q = mode_met in
-      let pages : mode_core.pages ≡ (moded image n mode).core.pages =
+      let pages : mode_core.pages ≡ (image_with_mode image n mode).core.pages =
       pages_step core q.met q.file mode met_other
-      ∙ ap (λ o. body_put o (with_mode mode q.met.body) core.pages) (sym (row ∙ ap Some q.row))
-      ∙ ap (λ b. body_put (row_at image n) (with_mode mode b) core.pages) (sym mode_settled) in
+      ∙ ap (λ o. body_put o (body_with_mode mode q.met.body) core.pages) (sym (row ∙ ap Some q.row))
+      ∙ ap (λ b. body_put (row_at image n) (body_with_mode mode b) core.pages) (sym mode_settled) in
       ap (λ (ps : List (Option (List ℕ))). record { pages = ps; root = core.root; range = core.range; inodes = core.inodes }) pages
 
   -- a change of mode leaves an image that verifies
-  pub mode_verifies : Verifies (moded image n mode)
+  pub mode_verifies : Verifies (image_with_mode image n mode)
   mode_verifies =
       let q = mode_met in
       let new : List (Option Row) = set image.rows q.met.ino (Some (record (row_by q.met q.file.body) { mode = record { 0 = mode } })) in
@@ -142,44 +142,44 @@ module _ (image : Image) (n mode : ℕ) (r : Row) (fit : IsFit image.core) (v : 
         rows = ap (λ rs. set rs q.met.ino (Some (record (row_by q.met q.file.body) { mode = record { 0 = mode } }))) v.rows ∙ sym (rows_now image.core fit v.sound mode small q.met q.file q.stands q.read met_other);
         owners = v.owners ∙ sym (owners_now image.core fit v.sound mode small q.met q.file q.stands q.read met_other);
       } in
-      let rows : new ≡ (moded image n mode).rows =
-      ap (λ k. set image.rows k (Some (record (row_by q.met q.file.body) { mode = record { 0 = mode } }))) q.number ∙ ap (λ o. set image.rows n (moded_row mode o)) (sym (row ∙ ap Some q.row)) in
+      let rows : new ≡ (image_with_mode image n mode).rows =
+      ap (λ k. set image.rows k (Some (record (row_by q.met q.file.body) { mode = record { 0 = mode } }))) q.number ∙ ap (λ o. set image.rows n (row_with_mode mode o)) (sym (row ∙ ap Some q.row)) in
       let V : Image → Type 0 = λ i. Verifies i in
-      subst V (ap (λ c. J c new) mode_core_is ∙ ap (J (moded image n mode).core) rows) good
+      subst V (ap (λ c. J c new) mode_core_is ∙ ap (J (image_with_mode image n mode).core) rows) good
 
-  pub mode_fit : IsFit (moded image n mode).core
+  pub mode_fit : IsFit (image_with_mode image n mode).core
   mode_fit = (let F : Core → Type 0 = λ c. IsFit c in subst F mode_core_is (moded_fit image.core fit v.sound mode small mode_met.met mode_met.stands met_other))
 
   -- a file of the changed image
-  pub mode_file : (m : Met) (f : FileRead) → In m (survey image.core plain) → file_of image.core m ≡ Ok f → In (changed mode_met.met.ino mode m) (survey (moded image n mode).core plain) × (file_of (moded image n mode).core (changed mode_met.met.ino mode m) ≡ Ok (read_now image.core fit v.sound mode small mode_met.met mode_met.stands met_other m f))
+  pub mode_file : (m : Met) (f : FileRead) → In m (survey image.core plain) → file_of image.core m ≡ Ok f → In (changed mode_met.met.ino mode m) (survey (image_with_mode image n mode).core plain) × (file_of (image_with_mode image n mode).core (changed mode_met.met.ino mode m) ≡ Ok (read_now image.core fit v.sound mode small mode_met.met mode_met.stands met_other m f))
   mode_file m f i e =
       let q = mode_met in
       let P : Core → Type 0 = λ c. In (changed q.met.ino mode m) (survey c plain) × (file_of c (changed q.met.ino mode m) ≡ Ok (read_now image.core fit v.sound mode small q.met q.stands met_other m f)) in
       subst P mode_core_is (in_now image.core fit v.sound mode small q.met q.file q.stands q.read met_other m i, file_now image.core fit v.sound mode small q.met q.stands met_other m f i e)
 
   -- the body of the file has the other mode
-  pub mode_body_own : settled_body (moded image n mode) n ≡ with_mode mode (settled_body image n)
+  pub mode_body_own : settled_body (image_with_mode image n mode) n ≡ body_with_mode mode (settled_body image n)
   mode_body_own =
       let q = mode_met in
       let f = mode_file q.met q.file q.stands q.read in
-      let t : TablesOf (moded image n mode) (moded image n mode).core plain = record { rows = mode_verifies.rows; owners = mode_verifies.owners } in
-      let now = settled_body_met (moded image n mode) (changed q.met.ino mode q.met) mode_fit mode_verifies.sound t f.0 in
-      ap (settled_body (moded image n mode)) (sym q.number)
+      let t : TablesOf (image_with_mode image n mode) (image_with_mode image n mode).core plain = record { rows = mode_verifies.rows; owners = mode_verifies.owners } in
+      let now = settled_body_met (image_with_mode image n mode) (changed q.met.ino mode q.met) mode_fit mode_verifies.sound t f.0 in
+      ap (settled_body (image_with_mode image n mode)) (sym q.number)
       ∙ now
-      ∙ ap (λ b. cond b (with_mode mode q.met.body) q.met.body) (eq-eqb q.met.ino q.met.ino refl)
-      ∙ ap (with_mode mode) (sym mode_settled)
+      ∙ ap (λ b. cond b (body_with_mode mode q.met.body) q.met.body) (eq-eqb q.met.ino q.met.ino refl)
+      ∙ ap (body_with_mode mode) (sym mode_settled)
 
   -- the body of any other file stays
-  pub mode_body_other : (j : ℕ) (x : Row) → row_at image j ≡ Some x → (j ≡ n → ⊥) → settled_body (moded image n mode) j ≡ settled_body image j
+  pub mode_body_other : (j : ℕ) (x : Row) → row_at image j ≡ Some x → (j ≡ n → ⊥) → settled_body (image_with_mode image n mode) j ≡ settled_body image j
   mode_body_other j x at differ =
       let q = mode_met in
       let m = met_row image.core plain fit v.sound j x (sym (row_at_is image.core plain fit v.sound image mode_tables j) ∙ at) in
       let f = mode_file m.met m.file m.stands m.read in
-      let t : TablesOf (moded image n mode) (moded image n mode).core plain = record { rows = mode_verifies.rows; owners = mode_verifies.owners } in
-      let now = settled_body_met (moded image n mode) (changed q.met.ino mode m.met) mode_fit mode_verifies.sound t f.0 in
+      let t : TablesOf (image_with_mode image n mode) (image_with_mode image n mode).core plain = record { rows = mode_verifies.rows; owners = mode_verifies.owners } in
+      let now = settled_body_met (image_with_mode image n mode) (changed q.met.ino mode m.met) mode_fit mode_verifies.sound t f.0 in
       let was = settled_body_met image m.met fit v.sound mode_tables m.stands in
-      ap (settled_body (moded image n mode)) (sym m.number)
+      ap (settled_body (image_with_mode image n mode)) (sym m.number)
       ∙ now
-      ∙ ap (λ b. cond b (with_mode mode m.met.body) m.met.body) (ne_eqb m.met.ino q.met.ino (λ e. differ (sym m.number ∙ e ∙ q.number)))
+      ∙ ap (λ b. cond b (body_with_mode mode m.met.body) m.met.body) (ne_eqb m.met.ino q.met.ino (λ e. differ (sym m.number ∙ e ∙ q.number)))
       ∙ sym was
       ∙ ap (settled_body image) m.number

@@ -1,7 +1,7 @@
 -- In a sound survey a page is listed by one file, and once.
-use Rattle.std.proofs.Common.{◌≡◌, ℕ, Bool, true, false, cond, ◌&&◌, not, List, [], ◌∷◌, ◌++◌, length, Some, Ok, sym, refl, ap, ◌∙◌, subst, inl, inr}
+use Rattle.std.proofs.Common.{◌≡◌, ℕ, Bool, true, false, cond, ◌&&◌, List, [], ◌∷◌, ◌++◌, length, Some, Ok, sym, refl, ap, ◌∙◌, subst, inl, inr}
 use Rattle.std.specs.Str.{bytes_eq}
-use Rattle.std.proofs.lemmas.Bool.{and_parts, and_from, not-true, not_from_false, false_from_ne_true, both_ways}
+use Rattle.std.proofs.lemmas.Bool.{and_parts, and_from, both_ways}
 use Rattle.std.proofs.lemmas.Option.{cond_some}
 use Rattle.std.proofs.lemmas.Slice.Eq.{bytes_eq-Decides}
 use Rattle.trio_rights.specs.declared.kind.Kind.{Kind}
@@ -13,28 +13,9 @@ use Rattle.trio_lists.specs.Lists.{In, is_among, are_new}
 use Rattle.trio_layout.specs.Core.{Core}
 use Rattle.trio_layout.specs.Survey.{Met, Pick, FileRead, file_of, pages_of, pages_in, owner_of, survey}
 use Rattle.trio_layout.specs.Sound.{are_in_grammar, are_listed_once, listed_numbers, listed_pages, is_sound}
-use Rattle.trio_lists.proofs.MarkLemmas.{are_new-append}
-use Rattle.trio_lists.proofs.Members.{In-left, In-right, In-cases, In-flat, In-among, among_from}
-
--- a number that is new stands nowhere before
-pub new_before : (p : ℕ) (seen xs : List ℕ) → are_new seen xs ≡ true → In p xs → In p seen → ⊥
-new_before p seen [] h i k = i
-new_before p seen (x ∷ xs) h i k =
-    let parts = and_parts (not (is_among x seen)) (are_new (seen ++ x ∷ []) xs) h in
-    elim i [
-      | inl e ↦ both_ways (is_among x seen) (not-true (is_among x seen) parts.0) (among_from x seen (subst (λ n. In n seen) e k))
-      | inr later ↦ new_before p (seen ++ x ∷ []) xs parts.1 later (In-left p seen (x ∷ []) k)
-    ]
-
-pub new_weaker : (less more xs : List ℕ) → ((n : ℕ) → In n less → In n more) → are_new more xs ≡ true → are_new less xs ≡ true
-new_weaker less more [] w h = refl
-new_weaker less more (x ∷ xs) w h =
-    let parts = and_parts (not (is_among x more)) (are_new (more ++ x ∷ []) xs) h in
-    let no' : is_among x less ≡ false = false_from_ne_true (is_among x less) (λ e. both_ways (is_among x more) (not-true (is_among x more) parts.0) (among_from x more (w x (In-among x less e)))) in
-    and_from (not (is_among x less)) (are_new (less ++ x ∷ []) xs) (not_from_false (is_among x less) no')
-    (new_weaker (less ++ x ∷ []) (more ++ x ∷ []) xs
-    (λ n i. elim (In-cases n less (x ∷ []) i) [ inl a ↦ In-left n more (x ∷ []) (w n a) | inr b ↦ In-right n more (x ∷ []) b ])
-    parts.1)
+use Rattle.trio_lists.proofs.Marked.{are_new-append}
+use Rattle.trio_lists.proofs.Members.{In-left, In-right, In-flat, is_among-In, In-is_among}
+use Rattle.trio_lists.proofs.New.{are_new-before, are_new-fewer}
 
 -- the pages of the first file apart from those of the rest
 pub first_apart : (core : Core) (x : Met) (xs : List Met) → are_new [] (listed_pages core (x ∷ xs)) ≡ true → (are_new [] (pages_of core x) ≡ true) × (are_new (pages_of core x) (listed_pages core xs) ≡ true)
@@ -43,16 +24,16 @@ first_apart core x xs h =
 
 pub rest_new : (core : Core) (x : Met) (xs : List Met) → are_new [] (listed_pages core (x ∷ xs)) ≡ true → are_new [] (listed_pages core xs) ≡ true
 rest_new core x xs h =
-    new_weaker [] (pages_of core x) (listed_pages core xs) (λ n i. absurd i) (first_apart core x xs h).1
+    are_new-fewer [] (pages_of core x) (listed_pages core xs) (λ n i. absurd i) (first_apart core x xs h).1
 
 -- a page that two files list is listed by one file
 pub page_owner : (core : Core) (files : List Met) (m m' : Met) (p : ℕ) → are_new [] (listed_pages core files) ≡ true → In m files → In m' files → In p (pages_of core m) → In p (pages_of core m') → m ≡ m'
 page_owner core [] m m' p new i j a b = absurd i
 page_owner core (x ∷ xs) m m' p new (inl e) (inl e') a b = e ∙ sym e'
 page_owner core (x ∷ xs) m m' p new (inl e) (inr j) a b =
-    absurd (new_before p (pages_of core x) (listed_pages core xs) (first_apart core x xs new).1 (In-flat (pages_of core) m' p xs j b) (subst (λ w. In p (pages_of core w)) e a))
+    absurd (are_new-before p (pages_of core x) (listed_pages core xs) (first_apart core x xs new).1 (In-flat (pages_of core) m' p xs j b) (subst (λ w. In p (pages_of core w)) e a))
 page_owner core (x ∷ xs) m m' p new (inr i) (inl e') a b =
-    absurd (new_before p (pages_of core x) (listed_pages core xs) (first_apart core x xs new).1 (In-flat (pages_of core) m p xs i a) (subst (λ w. In p (pages_of core w)) e' b))
+    absurd (are_new-before p (pages_of core x) (listed_pages core xs) (first_apart core x xs new).1 (In-flat (pages_of core) m p xs i a) (subst (λ w. In p (pages_of core w)) e' b))
 page_owner core (x ∷ xs) m m' p new (inr i) (inr j) a b = page_owner core xs m m' p (rest_new core x xs new) i j a b
 
 pub pages_new : (core : Core) (files : List Met) (m : Met) → are_new [] (listed_pages core files) ≡ true → In m files → are_new [] (pages_of core m) ≡ true
@@ -74,7 +55,7 @@ index_apart core files m m' f f' p new i j e e' a b =
     let own : are_new [] (f.chain.index ++ f.chain.blocks) ≡ true = ap (are_new []) (sym (pages_are core m f e)) ∙ pages_new core files m new i in
     let parts = and_parts (are_new [] f.chain.index) (are_new f.chain.index f.chain.blocks) (sym (are_new-append [] f.chain.index f.chain.blocks) ∙ own) in
     let bf : In p f.chain.blocks = subst (λ (w : FileRead). In p w.chain.blocks) (sym ff) b in
-    new_before p f.chain.index f.chain.blocks parts.1 bf a
+    are_new-before p f.chain.index f.chain.blocks parts.1 bf a
 
 owner_step : (core : Core) (x m : Met) (xs : List Met) (p : ℕ) (b : Bool) → is_among p (pages_of core x) ≡ b → (b ≡ true → x.ino ≡ m.ino) → (b ≡ false → owner_of core xs p ≡ m.ino) → cond b x.ino (owner_of core xs p) ≡ m.ino
 owner_step core x m xs p true e h k = h refl
@@ -85,9 +66,9 @@ pub owner_is : (core : Core) (files : List Met) (m : Met) (p : ℕ) → are_new 
 owner_is core [] m p new i a = absurd i
 owner_is core (x ∷ xs) m p new i a =
     owner_step core x m xs p (is_among p (pages_of core x)) refl
-    (λ t. ap (λ (w : Met). w.ino) (page_owner core (x ∷ xs) x m p new (inl refl) i (In-among p (pages_of core x) t) a))
+    (λ t. ap (λ (w : Met). w.ino) (page_owner core (x ∷ xs) x m p new (inl refl) i (is_among-In p (pages_of core x) t) a))
     (λ f. elim i [
-      | inl e ↦ absurd (both_ways (is_among p (pages_of core x)) f (among_from p (pages_of core x) (subst (λ w. In p (pages_of core w)) e a)))
+      | inl e ↦ absurd (both_ways (is_among p (pages_of core x)) f (In-is_among p (pages_of core x) (subst (λ w. In p (pages_of core w)) e a)))
       | inr j ↦ owner_is core xs m p (rest_new core x xs new) j a
     ])
 

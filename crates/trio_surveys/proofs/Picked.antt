@@ -9,11 +9,10 @@ use Rattle.trio_rights.specs.declared.kind.Kind.TheVariants.{Regular, Directory}
 use Rattle.trio_layout.specs.declared.slot.EntryPart.{EntryPart}
 use Rattle.trio_layout.specs.declared.slot.SlotRead.{SlotRead}
 use Rattle.trio_layout.specs.declared.slot.SlotRead.TheVariants.{Empty, Entry, Bad}
-use Rattle.trio_lists.specs.Lists.{In, are_new, result_map, result_then, both, gathered, gathered_below}
+use Rattle.trio_lists.specs.Lists.{In, are_new, result_map, result_then, both, gathered, gathered_below, there_or}
 use Rattle.trio_layout.specs.Body.{block_count}
 use Rattle.trio_layout.specs.Slot.{slot_of}
 use Rattle.trio_layout.specs.Core.{Core, at_page, page_of}
-use Rattle.trio_lists.specs.Lists.{there_or}
 use Rattle.trio_layout.specs.Chain.{index_count}
 use Rattle.trio_layout.specs.Entries.{Listed, slot_bytes, body_in_slot, listed_at, slot_entries, entries_on, page_entries, entries_of_kind, place_of, has_name, repeated_name, unless_repeated, with_names_apart}
 use Rattle.trio_layout.specs.Survey.{Met, Pick, plain, FileRead, file_of, survey, children, children_in, met_in, numbers, pages_of, pages_in}
@@ -22,13 +21,14 @@ use Rattle.trio_layout.specs.Image.{IsFit}
 use Rattle.trio_layout.specs.Accept.{with_bodies}
 use Rattle.trio_surveys.specs.Reading.{with_other}
 pub use Rattle.trio_surveys.specs.Reading.{picked_entry as picked, with_picked_bodies as put}
-use Rattle.trio_lists.proofs.Members.{In-right, In-flat, flat_from, In-map, all_from, flat_same}
+use Rattle.trio_lists.proofs.Members.{In-right, In-flat, flat_map-In, In-map, list_all-each, flat_map-same}
 use Rattle.trio_surveys.proofs.Local.{reads_from, reads_to, read_at, chain_local, survey_follows}
 use Rattle.trio_surveys.proofs.Places.{at_place, gathers_directory, slot_has}
 use Rattle.trio_surveys.proofs.Tree.{survey_tree, child_from, child_has, child_placed, numbers-flat}
 use Rattle.trio_surveys.proofs.Slots.{slot_by_front}
 use Rattle.trio_surveys.proofs.Putting.{put_on, page_of-bodies, put_on-none, put_on-front, put_on-body, ArePlaced}
-use Rattle.trio_surveys.proofs.Owned.{new_before, page_owner, pages_are, index_apart, sound_parts, sound_from, body_sized}
+use Rattle.trio_surveys.proofs.Owned.{page_owner, pages_are, index_apart, sound_parts, sound_from, body_sized}
+use Rattle.trio_lists.proofs.New.{are_new-before}
 
 -- all that the files list
 abbrev pub all_listed : Core → Pick → List Met
@@ -92,7 +92,7 @@ module _ (core : Core) (pick : Pick) (fit : IsFit core) (sound : is_sound core p
       let p = sound_parts core pick sound in
       let among : In x.ino (listed_numbers core pick (survey core pick)) =
       subst (λ l. In x.ino l) (numbers-flat (children core pick) (survey core pick)) (In-map (λ (m : Met). m.ino) x (all_listed core pick) i) in
-      new_before x.ino (1 ∷ []) (listed_numbers core pick (survey core pick)) p.numbered among (inl e)
+      are_new-before x.ino (1 ∷ []) (listed_numbers core pick (survey core pick)) p.numbered among (inl e)
 
   -- the bodies of all files are those of all that is listed
   pub bodies_are : with_bodies (survey core pick) core.pages ≡ with_bodies (all_listed core pick) core.pages
@@ -105,7 +105,7 @@ module _ (core : Core) (pick : Pick) (fit : IsFit core) (sound : is_sound core p
   pub listed_placed : ArePlaced (all_listed core pick)
   listed_placed x i =
       let p = sound_parts core pick sound in
-      let r = flat_from (children core pick) x (survey core pick) i in
+      let r = flat_map-In (children core pick) x (survey core pick) i in
       let k = child_from core pick r.0 x r.2 in
       let pl = child_placed core pick r.0 x k in
       let f = read_at core (survey core pick) x p.grammar (listed_are_met x i) in
@@ -118,7 +118,7 @@ module _ (core : Core) (pick : Pick) (fit : IsFit core) (sound : is_sound core p
   pub same_place : (m x : Met) (f : FileRead) (p s : ℕ) (bytes : List ℕ) (e : EntryPart) → In m (survey core pick) → file_of core m ≡ Ok f → In p f.chain.blocks → page_of core p ≡ Some bytes → slot_of core.inodes (slot_bytes s bytes) ≡ Entry e → In x (all_listed core pick) → x.page ≡ p → x.slot ≡ s → x.body ≡ pick m.ino p s e.ino (body_in_slot s bytes)
   same_place m x f p s bytes e i read block there says listed on at =
       let parts = sound_parts core pick sound in
-      let r = flat_from (children core pick) x (survey core pick) listed in
+      let r = flat_map-In (children core pick) x (survey core pick) listed in
       let m' : Met = r.0 in
       let k = child_from core pick m' x r.2 in
       let pl = child_placed core pick m' x k in
@@ -191,7 +191,7 @@ module _ (core : Core) (pick : Pick) (fit : IsFit core) (sound : is_sound core p
       let parts = sound_parts core pick sound in
       page_put_is p ∙ stays (page_of core p)
       (λ x j on.
-      let r = flat_from (children core pick) x (survey core pick) j in
+      let r = flat_map-In (children core pick) x (survey core pick) j in
       let k = child_from core pick r.0 x r.2 in
       let pl = child_placed core pick r.0 x k in
       let lp : k.entry.page ≡ p = sym (ap (λ (w : Met). w.page) k.is) ∙ on in
@@ -231,7 +231,7 @@ module _ (core : Core) (pick : Pick) (fit : IsFit core) (sound : is_sound core p
   grammar_put : are_in_grammar (put core pick) (survey core pick) ≡ true
   grammar_put =
       let p = sound_parts core pick sound in
-      all_from (λ m. is_ok (file_of (put core pick) m)) (survey core pick)
+      list_all-each (λ m. is_ok (file_of (put core pick) m)) (survey core pick)
       (λ m i. let f = read_at core (survey core pick) m p.grammar i in ap is_ok (file_put m f.0 i f.1))
 
   -- and it is sound
@@ -240,8 +240,8 @@ module _ (core : Core) (pick : Pick) (fit : IsFit core) (sound : is_sound core p
       let p = sound_parts core pick sound in
       let files : List Met = survey core pick in
       let listed : listed_numbers (put core pick) plain files ≡ listed_numbers core pick files =
-      flat_same (λ m. numbers (children (put core pick) plain m)) (λ m. numbers (children core pick m)) files (λ m i. ap numbers (children_put m i)) in
-      let paged : listed_pages (put core pick) files ≡ listed_pages core files = flat_same (pages_of (put core pick)) (pages_of core) files pages_put in
+      flat_map-same (λ m. numbers (children (put core pick) plain m)) (λ m. numbers (children core pick m)) files (λ m i. ap numbers (children_put m i)) in
+      let paged : listed_pages (put core pick) files ≡ listed_pages core files = flat_map-same (pages_of (put core pick)) (pages_of core) files pages_put in
       sound_from (put core pick) plain (record {
         grammar = ap (are_in_grammar (put core pick)) survey_put ∙ grammar_put;
         numbered = ap (λ fs. are_new (1 ∷ []) (listed_numbers (put core pick) plain fs)) survey_put ∙ ap (are_new (1 ∷ [])) listed ∙ p.numbered;

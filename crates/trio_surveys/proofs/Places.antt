@@ -7,12 +7,11 @@ use Rattle.trio_rights.specs.declared.kind.Kind.TheVariants.{Regular, Directory}
 use Rattle.trio_layout.specs.declared.slot.EntryPart.{EntryPart}
 use Rattle.trio_layout.specs.declared.slot.SlotRead.{SlotRead}
 use Rattle.trio_layout.specs.declared.slot.SlotRead.TheVariants.{Empty, Entry, Bad}
-use Rattle.trio_lists.specs.Lists.{In, result_then, gathered, gathered_below}
+use Rattle.trio_lists.specs.Lists.{In, result_then, gathered, gathered_below, there_or}
 use Rattle.trio_layout.specs.Slot.{slot_of, entry_at, entry_fits, entry_bytes}
-use Rattle.trio_layout.specs.Core.{Core, Place, at_page, page_of}
-use Rattle.trio_lists.specs.Lists.{there_or}
+use Rattle.trio_layout.specs.Core.{Core, Location, at_page, page_of}
 use Rattle.trio_layout.specs.Entries.{Listed, slot_bytes, body_in_slot, listed_at, slot_entries, entries_on, page_entries, entries_of, entries_of_kind, repeated_name, unless_repeated, with_names_apart}
-use Rattle.trio_lists.proofs.Members.{In-left, In-right, In-cases, then_ok, there_ok, both_ok}
+use Rattle.trio_lists.proofs.Members.{In-left, In-right, In-cases, result_then-Ok, there_or-Ok, both-Ok}
 
 -- the entry stands at its place in a page of these blocks
 pub record Placed (core : Core) (blocks : List ℕ) (l : Listed) : Type 0 where
@@ -27,7 +26,7 @@ pub gathered_from : {X Y E : Type 0} (f : X → Result (List Y) E) (xs : List X)
 gathered_from f [] ys y e h =
     let n : [] ≡ ys = cc in absurd (subst (λ l. In y l) (sym n) h)
 gathered_from f (x ∷ xs) ys y e h =
-    let b = both_ok (f x) (gathered f xs) ys e in
+    let b = both-Ok (f x) (gathered f xs) ys e in
     elim (In-cases y b.0 b.1 (subst (λ l. In y l) (sym b.4) h)) [
       | inl here ↦ (x, b.0, inl refl, b.2, here)
       | inr later ↦ let r = gathered_from f xs b.1 y b.3 later in (r.0, r.1, inr r.2, r.3, r.4)
@@ -36,10 +35,10 @@ gathered_from f (x ∷ xs) ys y e h =
 pub gathered_has : {X Y E : Type 0} (f : X → Result (List Y) E) (xs : List X) (ys : List Y) (x : X) → gathered f xs ≡ Ok ys → In x xs → (es : List Y) × (f x ≡ Ok es) × ((y : Y) → In y es → In y ys)
 gathered_has f [] ys x e h = absurd h
 gathered_has f (z ∷ zs) ys x e (inl s) =
-    let b = both_ok (f z) (gathered f zs) ys e in
+    let b = both-Ok (f z) (gathered f zs) ys e in
     (b.0, ap f s ∙ b.2, λ y k. subst (λ l. In y l) b.4 (In-left y b.0 b.1 k))
 gathered_has f (z ∷ zs) ys x e (inr h) =
-    let b = both_ok (f z) (gathered f zs) ys e in
+    let b = both-Ok (f z) (gathered f zs) ys e in
     let r = gathered_has f zs b.1 x b.3 h in
     (r.0, r.1, λ y k. subst (λ l. In y l) b.4 (In-right y b.0 b.1 (r.2 y k)))
 
@@ -47,7 +46,7 @@ pub below_from : {Y E : Type 0} (f : ℕ → Result (List Y) E) (n : ℕ) (ys : 
 below_from f zero ys y e h =
     let n : [] ≡ ys = cc in absurd (subst (λ l. In y l) (sym n) h)
 below_from f (suc n) ys y e h =
-    let b = both_ok (gathered_below f n) (f n) ys e in
+    let b = both-Ok (gathered_below f n) (f n) ys e in
     elim (In-cases y b.0 b.1 (subst (λ l. In y l) (sym b.4) h)) [
       | inl before ↦
           let r = below_from f n b.0 y b.2 before in
@@ -60,7 +59,7 @@ below_from f (suc n) ys y e h =
 pub below_has : {Y E : Type 0} (f : ℕ → Result (List Y) E) (n : ℕ) (ys : List Y) (k : ℕ) → gathered_below f n ≡ Ok ys → k < n → (es : List Y) × (f k ≡ Ok es) × ((y : Y) → In y es → In y ys)
 below_has f zero ys k e h = absurd (omega arith)
 below_has f (suc n) ys k e h =
-    let b = both_ok (gathered_below f n) (f n) ys e in
+    let b = both-Ok (gathered_below f n) (f n) ys e in
     elim (cases_eq k n) [
       | inl same ↦ (b.1, ap f same ∙ b.3, λ y i. subst (λ l. In y l) b.4 (In-right y b.0 b.1 i))
       | inr differ ↦
@@ -88,13 +87,13 @@ listed_has page slot body r es e h k =
     let one : Ok (at_place e page slot body ∷ []) ≡ Ok es = sym (ap (listed_at page slot body) k) ∙ h in
     let n : at_place e page slot body ∷ [] ≡ es = cc in subst (λ x. In (at_place e page slot body) x) n (inl refl)
 
-apart_ok : (o : Option Place) (ls es : List Listed) → unless_repeated ls o ≡ Ok es → (o ≡ None) × (ls ≡ es)
+apart_ok : (o : Option Location) (ls es : List Listed) → unless_repeated ls o ≡ Ok es → (o ≡ None) × (ls ≡ es)
 apart_ok None ls es e = (refl, cc)
 apart_ok (Some place) ls es e = absurd cc
 
 directory_gathers : (core : Core) (blocks : List ℕ) (es : List Listed) → entries_of core blocks ≡ Ok es → (gathered (page_entries core) blocks ≡ Ok es) × (repeated_name [] es ≡ None)
 directory_gathers core blocks es e =
-    let s = then_ok with_names_apart (gathered (page_entries core) blocks) es e in
+    let s = result_then-Ok with_names_apart (gathered (page_entries core) blocks) es e in
     let c = apart_ok (repeated_name [] s.0) s.0 es s.2 in
     (s.1 ∙ ap Ok c.1, ap (repeated_name []) (sym c.1) ∙ c.0)
 
@@ -115,10 +114,10 @@ slot_lists core blocks p s bytes l e i q k says same =
 page_lists : (core : Core) (blocks : List ℕ) (p : ℕ) (es : List Listed) (l : Listed) → In p blocks → page_entries core p ≡ Ok es → In l es → Placed core blocks l
 unfolding entries_on
 page_lists core blocks p es l i e h =
-    let s = then_ok (entries_on core.inodes p) (there_or (at_page p) (page_of core p)) es e in
+    let s = result_then-Ok (entries_on core.inodes p) (there_or (at_page p) (page_of core p)) es e in
     let b = below_from (slot_entries core.inodes p s.0) 16 es l s.2 h in
     let r = listed_from p b.0 (body_in_slot b.0 s.0) (slot_of core.inodes (slot_bytes b.0 s.0)) b.1 l b.3 b.4 in
-    slot_lists core blocks p b.0 s.0 l r.0 i (there_ok (at_page p) (page_of core p) s.0 s.1) b.2 r.1 r.2
+    slot_lists core blocks p b.0 s.0 l r.0 i (there_or-Ok (at_page p) (page_of core p) s.0 s.1) b.2 r.1 r.2
 
 pub placed_from : (core : Core) (kind : Kind) (blocks : List ℕ) (es : List Listed) (l : Listed) → entries_of_kind core kind blocks ≡ Ok es → In l es → Placed core blocks l
 placed_from core kind blocks es l e h =

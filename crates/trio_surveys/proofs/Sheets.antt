@@ -10,14 +10,14 @@ use Rattle.trio_layout.specs.Core.{Core, page_of}
 use Rattle.trio_page.specs.Sheets.{Sheet, sheet_numbers, with_pages, without_pages}
 use Rattle.trio_layout.specs.Pages.{sheets_of}
 use Rattle.trio_surveys.specs.Reading.{with_other}
-use Rattle.trio_lists.proofs.Members.{In-among}
+use Rattle.trio_lists.proofs.Members.{is_among-In}
 use Rattle.trio_surveys.proofs.SheetLaws.{page_of_at, get-set_same, get-set_other, with_pages-other}
 
 abbrev pub Pages : Type 0
 Pages = List (Option (List ℕ))
 
 pub not_among : (n : ℕ) (xs : List ℕ) → (In n xs → ⊥) → is_among n xs ≡ false
-not_among n xs h = false_from_ne_true (is_among n xs) (λ e. h (In-among n xs e))
+not_among n xs h = false_from_ne_true (is_among n xs) (λ e. h (is_among-In n xs e))
 
 pub with_pages_apart : (ss : List Sheet) (pages : Pages) (n : ℕ) → (In n (sheet_numbers ss) → ⊥) → slice_get (with_pages ss pages) n ≡ slice_get pages n
 with_pages_apart ss pages n h = with_pages-other ss pages n (not_among n (sheet_numbers ss) h)

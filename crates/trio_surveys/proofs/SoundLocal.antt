@@ -5,7 +5,7 @@ use Rattle.trio_layout.specs.Core.{Core}
 use Rattle.trio_layout.specs.Survey.{Met, Pick, file_of, survey, children, children_in, numbers, pages_of, pages_in}
 use Rattle.trio_layout.specs.Sound.{is_sound, are_in_grammar, listed_numbers, listed_pages}
 use Rattle.trio_surveys.specs.Reading.{with_other, AgreeOn}
-use Rattle.trio_lists.proofs.Members.{flat_same, all_at, all_from}
+use Rattle.trio_lists.proofs.Members.{flat_map-same, list_all-In, list_all-each}
 use Rattle.trio_surveys.proofs.Local.{file_agrees, survey_local}
 use Rattle.trio_surveys.proofs.Owned.{sound_parts, sound_from}
 
@@ -17,10 +17,10 @@ agreeing_sound core pages pick sound agree =
     let same : survey other pick ≡ files = survey_local core pages pick p.grammar agree in
     let file : (m : Met) → In m files → file_of other m ≡ file_of core m = λ m i. file_agrees core pages files p.grammar agree m i in
     let listed : listed_numbers other pick files ≡ listed_numbers core pick files =
-    flat_same (λ m. numbers (children other pick m)) (λ m. numbers (children core pick m)) files (λ m i. ap (λ o. numbers (children_in pick m.ino o)) (file m i)) in
-    let paged : listed_pages other files ≡ listed_pages core files = flat_same (pages_of other) (pages_of core) files (λ m i. ap pages_in (file m i)) in
+    flat_map-same (λ m. numbers (children other pick m)) (λ m. numbers (children core pick m)) files (λ m i. ap (λ o. numbers (children_in pick m.ino o)) (file m i)) in
+    let paged : listed_pages other files ≡ listed_pages core files = flat_map-same (pages_of other) (pages_of core) files (λ m i. ap pages_in (file m i)) in
     sound_from other pick (record {
-      grammar = ap (are_in_grammar other) same ∙ all_from (λ m. is_ok (file_of other m)) files (λ m i. ap is_ok (file m i) ∙ all_at (λ m. is_ok (file_of core m)) m files p.grammar i);
+      grammar = ap (are_in_grammar other) same ∙ list_all-each (λ m. is_ok (file_of other m)) files (λ m i. ap is_ok (file m i) ∙ list_all-In (λ m. is_ok (file_of core m)) m files p.grammar i);
       numbered = ap (λ fs. are_new (1 ∷ []) (listed_numbers other pick fs)) same ∙ ap (are_new (1 ∷ [])) listed ∙ p.numbered;
       paged = ap (λ fs. are_new [] (listed_pages other fs)) same ∙ ap (are_new []) paged ∙ p.paged;
     })

@@ -5,13 +5,13 @@ use Rattle.std.proofs.lemmas.List.{map-append, nil_from_length, length-map}
 use Rattle.std.proofs.lemmas.List.Concat.{flat_map-append}
 use Rattle.std.proofs.lemmas.Bool.{and_parts, cases_eq, not-true, eq-eqb, ne_eqb, or_right}
 use Rattle.trio_lists.specs.Lists.{In, is_among, are_new}
-use Rattle.trio_layout.specs.Core.{Core, Place}
+use Rattle.trio_layout.specs.Core.{Core, Location}
 use Rattle.trio_layout.specs.Entries.{Listed, slot_bytes}
 use Rattle.trio_layout.specs.Survey.{Met, Pick, Front, FileRead, file_of, children, children_in, met_in, root_of, levels, first_listed, numbers, survey}
 use Rattle.trio_layout.specs.Sound.{are_in_grammar, are_listed_once, listed_numbers, listed_pages, is_sound}
 use Rattle.trio_layout.proofs.QueueLaws.{levels_are, levels_enough, met_by, queue_distinct}
-use Rattle.trio_lists.proofs.MarkLemmas.{is_among-push, are_new-append}
-use Rattle.trio_lists.proofs.Members.{In-left, In-right, In-cases, flat_from, map_from, In-map}
+use Rattle.trio_lists.proofs.Marked.{is_among-push, are_new-append}
+use Rattle.trio_lists.proofs.Members.{In-left, In-right, In-cases, flat_map-In, map-In, In-map}
 use Rattle.trio_surveys.proofs.Local.{reads_from}
 use Rattle.trio_surveys.proofs.Places.{Placed, placed_from, entry_numbered}
 
@@ -138,7 +138,7 @@ pub levels_closed : (kids : Met → List Met) (root : Met) (n : ℕ) → ((m : M
 levels_closed kids root n b =
     let w : Front = levels kids root n in
     let below : (x : ℕ) → In x (numbers (w.passed ++ w.level)) → x < n =
-    λ x k. let r = map_from (λ (m : Met). m.ino) x (w.passed ++ w.level) k in let l : r.0.ino < n = b r.0 r.1 in subst (λ y. y < n) (sym r.2) l in
+    λ x k. let r = map-In (λ (m : Met). m.ino) x (w.passed ++ w.level) k in let l : r.0.ino < n = b r.0 r.1 in subst (λ y. y < n) (sym r.2) l in
     let few : length (numbers (w.passed ++ w.level)) ≤ n = pigeons n (numbers (w.passed ++ w.level)) (levels_distinct kids root n) below in
     elim (levels_enough kids root n) [
       | inl empty ↦ empty
@@ -155,10 +155,10 @@ pub record Child (core : Core) (pick : Pick) (m c : Met) : Type 0 where
   pub listed : In entry file.entries
   pub is : c ≡ met_in pick m.ino entry
 
-child_in : (core : Core) (pick : Pick) (m c : Met) (o : Result FileRead Place) → file_of core m ≡ o → In c (children_in pick m.ino o) → Child core pick m c
+child_in : (core : Core) (pick : Pick) (m c : Met) (o : Result FileRead Location) → file_of core m ≡ o → In c (children_in pick m.ino o) → Child core pick m c
 child_in core pick m c (Err place) e h = absurd h
 child_in core pick m c (Ok f) e h =
-    let r = map_from (met_in pick m.ino) c f.entries h in
+    let r = map-In (met_in pick m.ino) c f.entries h in
     record { file = f; read = e; entry = r.0; listed = r.1; is = r.2 }
 
 pub child_from : (core : Core) (pick : Pick) (m c : Met) → In c (children core pick m) → Child core pick m c
@@ -166,7 +166,7 @@ child_from core pick m c h = child_in core pick m c (file_of core m) refl h
 
 pub child_has : (core : Core) (pick : Pick) (m : Met) (f : FileRead) (l : Listed) → file_of core m ≡ Ok f → In l f.entries → In (met_in pick m.ino l) (children core pick m)
 child_has core pick m f l e h =
-    let C : Result FileRead Place → Type 0 = λ o. In (met_in pick m.ino l) (children_in pick m.ino o) in
+    let C : Result FileRead Location → Type 0 = λ o. In (met_in pick m.ino l) (children_in pick m.ino o) in
     subst C (sym e) (In-map (met_in pick m.ino) l f.entries h)
 
 pub child_placed : (core : Core) (pick : Pick) (m c : Met) → (k : Child core pick m c) → Placed core k.file.chain.blocks k.entry
@@ -187,7 +187,7 @@ survey_closed core pick one =
     (λ m i. elim (met_is_listed (children core pick) (root_of core) m (suc core.inodes) i) [
       | inl e ↦ let n : m.ino ≡ 1 = ap (λ (x : Met). x.ino) e in omega (arith, n, one)
       | inr h ↦
-          let r = flat_from (children core pick) m _ h in
+          let r = flat_map-In (children core pick) m _ h in
           let n = child_numbered core pick r.0 m r.2 in
           let l : m.ino ≤ core.inodes = n.1 in omega (arith, l)
     ])

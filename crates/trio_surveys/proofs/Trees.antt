@@ -11,7 +11,7 @@ use Rattle.trio_layout.specs.Survey.{Met, plain, survey, root_of, children, page
 use Rattle.trio_layout.specs.Image.{Image, IsFit, row_at, settled_body}
 use Rattle.trio_layout.specs.Verifies.{Verifies}
 use Rattle.trio_surveys.specs.Tree.{Reaches, IsLive, IsTree, ImageIsTree}
-use Rattle.trio_lists.proofs.Members.{In-cases, flat_from, In-among}
+use Rattle.trio_lists.proofs.Members.{In-cases, flat_map-In, is_among-In}
 use Rattle.trio_surveys.proofs.Tree.{survey_tree}
 use Rattle.trio_surveys.proofs.Owned.{sound_parts}
 use Rattle.trio_surveys.proofs.Images.{TablesOf, row_at_is, row_met, met_row, read_met, one_met, numbers_new, owner_at, owner_listed, settled_body_met}
@@ -32,7 +32,7 @@ level_reached core zero m (inr i) = absurd i
 level_reached core (suc k) m i =
     let w : Front = levels (children core plain) (root_of core) k in
     let j = first_among (numbers (w.passed ++ w.level)) (flat_map (children core plain) w.level) m i in
-    let r = flat_from (children core plain) m w.level j in
+    let r = flat_map-In (children core plain) m w.level j in
     (r.0, level_reached core k r.0 r.1, r.2)
 
 passed_reached : (core : Core) (k : ℕ) (m : Met) → In m (levels (children core plain) (root_of core) k).passed → (steps : ℕ) × Reaches core steps m
@@ -50,7 +50,7 @@ unfolding survey
 survey_reached core m i = passed_reached core (suc core.inodes) m i
 
 owner_step : (core : Core) (x : Met) (xs : List Met) (p : ℕ) (b : Bool) → is_among p (pages_of core x) ≡ b → ((owner_of core xs p ≢ 0) → (m : Met) × In m xs × (m.ino ≡ owner_of core xs p) × In p (pages_of core m)) → cond b x.ino (owner_of core xs p) ≢ 0 → (m : Met) × ((m ≡ x) ⊎ In m xs) × (m.ino ≡ cond b x.ino (owner_of core xs p)) × In p (pages_of core m)
-owner_step core x xs p true t h n = (x, inl refl, refl, In-among p (pages_of core x) t)
+owner_step core x xs p true t h n = (x, inl refl, refl, is_among-In p (pages_of core x) t)
 owner_step core x xs p false t h n = (let r = h n in (r.0, inr r.1, r.2, r.3))
 
 -- the owner that is not 0 is a file that lists the page

@@ -6,11 +6,11 @@ use Rattle.trio_rights.specs.Row.{Row, row_in}
 use Rattle.trio_rights.specs.declared.rights.Creds.{Creds}
 use Rattle.trio_layout.specs.Entries.{body_in_slot}
 use Rattle.trio_lists.specs.Lists.{In}
-use Rattle.trio_lists.specs.Marks.{Marks}
+use Rattle.trio_lists.specs.Marked.{AreMarked}
 use Rattle.trio_layout.specs.Survey.{Met}
 use Rattle.trio_lease.specs.Shown.{LentFile}
 use Rattle.trio_page.specs.Sheets.{Sheet, sheet_numbers, with_pages}
-use Rattle.trio_state.specs.Handed.{lent_sheet}
+use Rattle.trio_state.specs.Views.{lent_sheet}
 use Rattle.trio_layout.specs.Allowed.{same_row, has_owner}
 use Rattle.trio_survey.specs.declared.picks.Picked.{Picked}
 
@@ -59,7 +59,7 @@ ArePicked rows kept picks = (n : ℕ) → slice_index_or picks n None ≡ picked
 -- these pages were put in place of others, and their numbers marked
 pub record ArePut (sheets : List Sheet) (before after : List (Option (List ℕ))) (marks marks' : List Bool) : Type 0 where
   pub pages : after ≡ with_pages sheets before
-  pub marked : (seen : List ℕ) → Marks marks seen → Marks marks' (seen ++ sheet_numbers sheets)
+  pub marked : (seen : List ℕ) → AreMarked marks seen → AreMarked marks' (seen ++ sheet_numbers sheets)
   pub many : length marks' ≡ length marks
 
 -- each of these pages has its place among so many

@@ -1,11 +1,11 @@
 -- Files whose lines are still to come. Cited by private functions alone.
 use Rattle.std.specs.Prelude.{◌≡◌, ℕ, ◌+◌, nat_lt, List, [], ◌∷◌, ◌++◌, map, reverse, if◌then◌else◌, Result, Ok, Err}
-use Rattle.trio_layout.specs.Core.{Place}
+use Rattle.trio_layout.specs.Core.{Location}
 use Rattle.trio_layout.specs.Entries.{Listed}
 use Rattle.trio_layout.specs.Survey.{Met, FileRead, met_in, plain}
 use Rattle.trio_survey.specs.Seen.{met_seen}
 use Rattle.trio_layout.specs.Tree.{TreeLine, by_name, told_line}
-use Rattle.trio_report.specs.declared.tree.Pending.{Pending}
+use Rattle.trio_report.specs.declared.tree.Unprinted.{Unprinted}
 use Rattle.trio_report.specs.Seen.{name_seen}
 
 -- a file in a tree: how deep, by which name, and what its directory says of it
@@ -14,7 +14,7 @@ pub record Node : Type 0 where
   pub name : List ℕ
   pub met : Met
 
-abbrev pub node_seen : Pending → Node
+abbrev pub node_seen : Unprinted → Node
 node_seen p = record { depth = p.depth; name = name_seen p.name; met = met_seen p.met }
 
 -- a file that another lists
@@ -30,7 +30,7 @@ abbrev pub below : ℕ → Node → FileRead → List Node
 below last n f = if nat_lt n.depth last then children_of n f.entries else []
 
 -- One file was visited: nothing changes where it can't be read. Else its line is told, and the files that it lists wait, with the first name at the end.
-abbrev pub Visited : ℕ → Node → Result FileRead Place → List Node → List Node → List TreeLine → List TreeLine → Type 0
+abbrev pub Visited : ℕ → Node → Result FileRead Location → List Node → List Node → List TreeLine → List TreeLine → Type 0
 Visited last n (Err place) old new told told' = (new ≡ old) × (told' ≡ told)
 Visited last n (Ok f) old new told told' =
     (new ≡ old ++ below last n f) × (told' ≡ told ++ told_line n.depth n.name n.met.kind f ∷ [])

@@ -3,9 +3,9 @@ use Rattle.std.specs.Prelude.{◌≡◌, ℕ, ◌+◌, ◌<◌, ◌≤◌, ◌�
 use Rattle.std.specs.List.{count_by}
 use Rattle.trio_rights.specs.Row.{Row}
 use Rattle.trio_lists.specs.Lists.{is_among, are_new}
-use Rattle.trio_layout.specs.Core.{Core, Place}
+use Rattle.trio_layout.specs.Core.{Core, Location}
 use Rattle.trio_layout.specs.Entries.{Listed, place_of}
-use Rattle.trio_lists.specs.Marks.{Marks, all_below}
+use Rattle.trio_lists.specs.Marked.{AreMarked, all_below}
 use Rattle.trio_layout.specs.Queue.{queue}
 use Rattle.trio_layout.specs.Survey.{Met, FileRead, Pick, children, numbers, owner_of, root_of, row_by, row_of}
 use Rattle.trio_layout.specs.Sound.{are_in_grammar, are_listed_once, listed_numbers, listed_pages, FailsAt, ListsNumberAgain, ListsPageAgain}
@@ -30,7 +30,7 @@ pub record Repeats (before these : List ℕ) (n : ℕ) : Type 0 where
   pub seen : is_among n (before ++ earlier) ≡ true
 
 -- the place of one of these entries whose number is among those before it
-pub record RepeatsEntry (before : List ℕ) (these : List Listed) (place : Place) : Type 0 where
+pub record RepeatsEntry (before : List ℕ) (these : List Listed) (place : Location) : Type 0 where
   pub earlier : List Listed
   pub again : Listed
   pub later : List Listed
@@ -49,11 +49,11 @@ FirstEntry before these first =
 
 -- the files are those that are marked, each once
 pub record AreMarked (files : List Met) (marks : List Bool) : Type 0 where
-  pub marked : Marks marks (numbers files)
+  pub marked : AreMarked marks (numbers files)
   pub counted : count_by (λ b. b) marks ≡ length files
 
 -- at this file and place a number or a page is listed again
-abbrev pub RepeatsAt : Core → Pick → List Met → ℕ → Place → Type 0
+abbrev pub RepeatsAt : Core → Pick → List Met → ℕ → Location → Type 0
 RepeatsAt core pick files ino place = ListsNumberAgain core pick files ino place ⊎ ListsPageAgain core files ino place
 
 abbrev pub RepeatsBy : Core → Pick → List Met → Repeated → Type 0
@@ -82,7 +82,7 @@ pub record Stands (core : Core) (pick : Pick) (i : ℕ) (files : List Met) (mark
   pub good : are_in_grammar core (take i files) ≡ true
   pub marked : AreMarked files marks
   pub same : (n : ℕ) → is_among n (numbers files) ≡ is_among n (1 ∷ listed_numbers core pick (take i files))
-  pub pages : Marks used (listed_pages core (take i files))
+  pub pages : AreMarked used (listed_pages core (take i files))
   pub once : IsFirstRepeat core pick (take i files) twice
   pub fit : all_below (core.inodes + 1) (numbers files) ≡ true
   pub some : all_some (numbers files) ≡ true

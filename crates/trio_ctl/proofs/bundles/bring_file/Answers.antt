@@ -1,5 +1,5 @@
 use Rattle.std.proofs.Common.{◌≡◌, ◌++◌, length, IsTrue, sym, subst}
-use Rattle.trio_lists.specs.Marks.{all_below}
+use Rattle.trio_lists.specs.Marked.{all_below}
 use Rattle.trio_lease.specs.Shown.{Shown}
 use Rattle.trio_page.specs.Sheets.{sheet_numbers, with_pages}
 use Rattle.trio_checkpoint.proofs.Following.{put_both, within_still}

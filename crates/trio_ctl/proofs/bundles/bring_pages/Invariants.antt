@@ -1,6 +1,6 @@
 use Rattle.std.proofs.Common.{◌≡◌, IsTrue, length}
 use Rattle.std.specs.Vec.Iter.{into_iter_items}
-use Rattle.trio_lists.specs.Marks.{all_below}
+use Rattle.trio_lists.specs.Marked.{all_below}
 use Rattle.trio_page.specs.Sheets.{sheet_numbers, with_pages}
 use Rattle.trio_ctl.specs.Moves.{lent_sheets}
 use Rattle.trio_ctl.proofs.bundles.bring_pages.Given as goal

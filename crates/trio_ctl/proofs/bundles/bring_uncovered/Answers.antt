@@ -1,9 +1,9 @@
 use Rattle.std.proofs.Common.{◌∙◌, ◌<◌, ℕ, Option, List, length, map, IsTrue, ap, sym, subst}
 use Rattle.std.specs.Prelude.{All}
 use Rattle.std.specs.List.{flat_map}
-use Rattle.trio_lists.specs.Marks.{all_below}
+use Rattle.trio_lists.specs.Marked.{all_below}
 use Rattle.trio_page.specs.Home.{Pages}
-use Rattle.trio_state.specs.Handed.{fresh_sheet}
+use Rattle.trio_state.specs.Views.{fresh_sheet}
 use Rattle.trio_page.specs.Sheets.{Sheet, sheet_numbers, with_pages}
 use Rattle.trio_checkpoint.proofs.Following.{put_both, within_still}
 use Rattle.trio_checkpoint.proofs.Restoring.{below_parts}

@@ -1,6 +1,6 @@
 use Rattle.std.proofs.Common.{ap, sym, length, ◌∙◌}
 use Rattle.trio_page.specs.Home.{Pages}
-use Rattle.trio_state.specs.Handed.{bundle_in}
+use Rattle.trio_state.specs.Views.{bundle_in}
 use Rattle.trio_layout.specs.Proposed.{bundle_sheets}
 use Rattle.trio_checkpoint.proofs.Restoring.{length-with_pages}
 use Rattle.trio_ctl.proofs.release.put_in_place.Goals as goal

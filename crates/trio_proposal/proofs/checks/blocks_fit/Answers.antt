@@ -1,5 +1,5 @@
 use Rattle.std.proofs.Common.{map, refl, sym, ◌∙◌}
-use Rattle.trio_state.specs.Handed.{lent_sheet}
+use Rattle.trio_state.specs.Views.{lent_sheet}
 use Rattle.trio_page.specs.Sheets.{Sheet}
 use Rattle.trio_proposal.proofs.Fitting.{fit_all, fit_more}
 use Rattle.trio_proposal.proofs.Puts.{lent_past, lent_past_page, lent_there}

@@ -1,6 +1,6 @@
 use Rattle.std.proofs.Common.{◌≡◌, length, refl, sym, ap, ◌∙◌, subst, arith}
 use Rattle.std.proofs.lemmas.Bool.{eqb-true}
-use Rattle.trio_state.specs.Handed.{bundle_in}
+use Rattle.trio_state.specs.Views.{bundle_in}
 use Rattle.trio_layout.specs.Proposed.{bundle_sheets}
 use Rattle.trio_proposal.specs.inner.Steps.{AreFit}
 use Rattle.trio_proposal.specs.declared.checks.TheConstants.{RANGE}

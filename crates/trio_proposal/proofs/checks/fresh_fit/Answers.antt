@@ -1,6 +1,6 @@
 use Rattle.std.proofs.Common.{map, refl, arith}
 use Rattle.std.proofs.lemmas.List.{length-map}
-use Rattle.trio_state.specs.Handed.{fresh_sheet}
+use Rattle.trio_state.specs.Views.{fresh_sheet}
 use Rattle.trio_page.specs.Sheets.{Sheet}
 use Rattle.trio_proposal.proofs.Fitting.{fit_all, fit_more}
 use Rattle.trio_proposal.proofs.Puts.{fresh_there}

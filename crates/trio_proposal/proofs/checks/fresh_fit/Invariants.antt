@@ -1,5 +1,5 @@
 use Rattle.std.proofs.Common.{map, take}
-use Rattle.trio_state.specs.Handed.{fresh_sheet}
+use Rattle.trio_state.specs.Views.{fresh_sheet}
 use Rattle.trio_proposal.specs.inner.Steps.{AreFit}
 use Rattle.trio_proposal.proofs.checks.fresh_fit.Given as goal
 

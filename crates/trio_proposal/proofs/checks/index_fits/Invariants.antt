@@ -1,5 +1,5 @@
 use Rattle.std.proofs.Common.{map, take}
-use Rattle.trio_state.specs.Handed.{lent_sheet}
+use Rattle.trio_state.specs.Views.{lent_sheet}
 use Rattle.trio_proposal.specs.inner.Steps.{AreFit}
 use Rattle.trio_proposal.proofs.checks.index_fits.Given as goal
 

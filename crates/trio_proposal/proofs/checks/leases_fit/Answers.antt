@@ -1,7 +1,7 @@
 use Rattle.std.proofs.Common.{map, take, refl, sym, subst, arith}
 use Rattle.std.specs.List.{flat_map}
 use Rattle.std.proofs.lemmas.List.{take_all}
-use Rattle.trio_state.specs.Handed.{lent_sheet}
+use Rattle.trio_state.specs.Views.{lent_sheet}
 use Rattle.trio_proposal.specs.inner.Steps.{AreFit, lease_sheets}
 use Rattle.trio_proposal.proofs.Fitting.{fit_both}
 use Rattle.trio_proposal.proofs.Puts.{leases_more}

@@ -1,6 +1,6 @@
 use Rattle.std.proofs.Common.{map, refl, subst}
 use Rattle.std.specs.List.{flat_map}
-use Rattle.trio_state.specs.Handed.{fresh_sheet}
+use Rattle.trio_state.specs.Views.{fresh_sheet}
 use Rattle.trio_proposal.specs.inner.Steps.{AreFit, lease_sheets}
 use Rattle.trio_proposal.proofs.Fitting.{fit_bundle}
 use Rattle.trio_proposal.proofs.checks.sheets_fit.Goals as goal

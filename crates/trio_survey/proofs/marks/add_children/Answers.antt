@@ -1,7 +1,7 @@
 use Rattle.std.proofs.Common.{false, ◌≡◌, ◌<◌, length, map, vec_len, get_or, sym, refl, ap, ◌∙◌, arith}
 use Rattle.std.proofs.lemmas.List.{get_or_read, get_or-map, length-map, map_push}
 use Rattle.trio_layout.specs.Entries.{Listed}
-use Rattle.trio_survey.specs.declared.file.ListedEntry.{ListedEntry}
+use Rattle.trio_survey.specs.declared.file.EntryRead.{EntryRead}
 use Rattle.trio_survey.specs.Picks.{pick_of}
 use Rattle.trio_survey.specs.Seen.{listed_seen, met_seen}
 use Rattle.trio_survey.proofs.Adding.{grows_again, grows_first, entry_below}
@@ -21,7 +21,7 @@ loop-listed-preserved c =
     let entries = c.args.entries.now in
     let turn = c.loop-listed in
     let i = turn.listed-index in
-    let x : ListedEntry = c.listed-item.result in
+    let x : EntryRead = c.listed-item.result in
     let at : get_or entries i x ≡ x = sym c.listed-item.is in
     let e : Listed = listed_seen x in
     let inside : i < length (map listed_seen entries) = omega (arith, length-map entries listed_seen) in

@@ -1,10 +1,10 @@
 use Rattle.std.proofs.Common.{◌≡◌, ◌∙◌, true, false, sym, ap, subst}
 use Rattle.trio_layout.specs.Accept.{is_accepted, next}
 use Rattle.trio_state.specs.Given.{GivenTo}
-use Rattle.trio_state.specs.Handed.{bundle_in}
+use Rattle.trio_state.specs.Views.{bundle_in}
 use Rattle.trio_layout.specs.Image.{Image}
 use Rattle.trio_state.specs.State.{State, settled}
-use Rattle.trio_proposal.specs.Judged.{IfAccepted, IfRefused, IsImage}
+use Rattle.trio_proposal.specs.Judgement.{IfAccepted, IfRefused, IsImage}
 use Rattle.trio_ctl.proofs.Views.{state_is}
 use Rattle.trio_ctl.proofs.Handing.{can_be_judged, covered_within, image_same, numbered}
 use Rattle.trio_ctl.proofs.ctl.Ctl.judged.Goals as goal

@@ -3,11 +3,11 @@ use Rattle.std.specs.Prelude.{IsTrue, slice_get}
 use Rattle.std.specs.Vec.{with_items}
 use Rattle.std.proofs.lemmas.List.{length-map, with_items_is}
 use Rattle.trio_page.specs.Home.{Pages}
-use Rattle.trio_lists.specs.Marks.{all_below}
+use Rattle.trio_lists.specs.Marked.{all_below}
 use Rattle.trio_checkpoint.specs.Covered.{all_stand}
 use Rattle.trio_layout.specs.Accept.{is_accepted, next}
 use Rattle.trio_state.specs.Given.{GivenTo}
-use Rattle.trio_state.specs.Handed.{bundle_in}
+use Rattle.trio_state.specs.Views.{bundle_in}
 use Rattle.trio_state.specs.Kept.{Kept}
 use Rattle.trio_layout.specs.Proposed.{bundle_pages, bundle_sheets}
 use Rattle.trio_page.specs.Sheets.{sheet_numbers, with_pages}
@@ -16,7 +16,7 @@ use Rattle.trio_state.specs.Tells.{untold}
 use Rattle.trio_state.specs.Step.{Accepted, Refused, Release, Step}
 use Rattle.trio_laws.specs.EndLaws.{unless_absent}
 use Rattle.trio_surveys.proofs.SheetLaws.{length-with_pages}
-use Rattle.trio_proposal.specs.Judged.{IfAccepted, IfRefused, IsImage}
+use Rattle.trio_proposal.specs.Judgement.{IfAccepted, IfRefused, IsImage}
 use Rattle.trio_ctl.specs.Ctl.{IsControlled, state_of}
 use Rattle.trio_ctl.specs.Moves.{all_covered, followed, lent_uncovered}
 use Rattle.trio_ctl.specs.Open.{Opened, keyed}

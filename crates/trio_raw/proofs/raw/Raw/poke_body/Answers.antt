@@ -1,7 +1,7 @@
 use Rattle.std.proofs.Common.{◌≡◌, ℕ, List, Some, None, eqb, sym, ap, ◌∙◌, map}
 use Rattle.std.specs.List.{position}
 use Rattle.trio_lease.specs.Shown.{LentFile}
-use Rattle.trio_state.specs.Handed.{fresh_sheet}
+use Rattle.trio_state.specs.Views.{fresh_sheet}
 use Rattle.trio_page.specs.Sheets.{Sheet}
 use Rattle.trio_raw.specs.Has.{poked_body, with_file}
 use Rattle.trio_raw.specs.Held.{Held}

@@ -1,7 +1,7 @@
 use Rattle.std.proofs.Common.{arith, map}
 use Rattle.trio_report.specs.inner.Nodes.{node_seen}
 use Rattle.trio_report.proofs.Trees.{children_wait}
-use Rattle.trio_report.proofs.tree.Pending.add_children.Goals as goal
+use Rattle.trio_report.proofs.tree.Unprinted.add_children.Goals as goal
 
 pub returns : goal.returns
 returns c =

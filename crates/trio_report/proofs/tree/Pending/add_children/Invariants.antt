@@ -1,7 +1,7 @@
 use Rattle.std.proofs.Common.{◌≡◌, ◌++◌, map, take}
 use Rattle.trio_survey.specs.Seen.{listed_seen}
 use Rattle.trio_report.specs.inner.Nodes.{node_seen, child_of}
-use Rattle.trio_report.proofs.tree.Pending.add_children.Given as goal
+use Rattle.trio_report.proofs.tree.Unprinted.add_children.Given as goal
 
 abbrev pub invariant-loop-listed : goal.invariant-loop-listed
 invariant-loop-listed l =
