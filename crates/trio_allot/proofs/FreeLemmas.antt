@@ -1,12 +1,9 @@
 -- What is free, number by number.
-use Rattle.std.proofs.Common.{◌≡◌, ℕ, zero, suc, ◌+◌, ◌-◌, ◌<◌, ◌≤◌, Bool, false, cond, if◌then◌else◌, List, [], ◌∷◌, ◌++◌, Option, length, drop, take, get_or, ◌⊎◌, inl, inr, refl, sym, ap, ◌∙◌, arith, slice_index, ◌≢◌, ◌&&◌, not, is_some}
+use Rattle.std.proofs.Common.{◌≡◌, ℕ, zero, suc, ◌+◌, ◌-◌, ◌<◌, ◌≤◌, Bool, cond, if◌then◌else◌, List, [], ◌∷◌, ◌++◌, length, drop, take, get_or, ◌⊎◌, inl, inr, refl, sym, ap, ◌∙◌, arith}
 use Rattle.std.specs.List.{filter}
-use Rattle.std.proofs.lemmas.Bool.{cases_lt, ne_eqb}
+use Rattle.std.proofs.lemmas.Bool.{cases_lt}
 use Rattle.std.proofs.lemmas.List.{drop_more, drop_all, take_more}
-use Rattle.trio_rights.specs.Row.{Row}
-use Rattle.trio_rights.specs.declared.rights.LibNo.{LibNo}
-use Rattle.trio_tables.specs.Free.{count_up, numbers_where, is_free_page, free_pages, is_free_number, free_numbers}
-use Rattle.trio_tables.specs.Out.{lib_at}
+use Rattle.trio_tables.specs.Free.{count_up, numbers_where}
 
 pub where_step : (test : ℕ → Bool) (from end : ℕ) → from < end
     → numbers_where test from end ≡ (if test from then from ∷ numbers_where test (from + 1) end else numbers_where test (from + 1) end)

@@ -1,18 +1,15 @@
 -- Lists with many places changed.
-use Rattle.std.proofs.Common.{◌≡◌, ◌≢◌, ℕ, suc, ◌+◌, ◌<◌, ◌≤◌, List, [], ◌∷◌, ◌++◌, length, set, get_or, Option, Some, None, IsSome, refl, sym, ap, subst, ◌∙◌, ◌⊎◌, inl, inr, arith, Bool, true, false, if◌then◌else◌, ◌==◌, ◌||◌, length-set, get_or-set_same, get_or-set_other}
+use Rattle.std.proofs.Common.{◌≡◌, ◌≢◌, ℕ, suc, ◌+◌, ◌<◌, List, [], ◌∷◌, ◌++◌, length, set, get_or, Option, Some, None, IsSome, refl, sym, ap, subst, ◌∙◌, ◌⊎◌, inl, inr, arith, Bool, true, false, if◌then◌else◌, ◌==◌}
 use Rattle.std.specs.Prelude.{All, IsTrue, not, is_some, ◌&&◌, slice_index}
 use Rattle.std.specs.List.{list_any}
-use Rattle.std.proofs.lemmas.Bool.{cases_eq, cases_lt, ne_eqb, eq-eqb, and_parts, false≢true}
-use Rattle.std.proofs.lemmas.List.{set_comm, get_or_push, get_or_append_left, get_or_past, length_push}
-use Rattle.std.proofs.lemmas.List.Elements.{All-head, All-tail}
+use Rattle.std.proofs.lemmas.Bool.{cases_eq, and_parts, false≢true}
+use Rattle.std.proofs.lemmas.List.{set_comm, get_or_push, get_or_append_left, length_push}
 use Rattle.trio_page.specs.Home.{raised}
 use Rattle.trio_rights.specs.declared.rights.LibNo.{LibNo}
-use Rattle.trio_lease.specs.declared.parts.FreshParts.{FreshParts}
 use Rattle.trio_tables.proofs.OutLemmas.{within_some, with_all-read}
-use Rattle.trio_tables.specs.Free.{is_free_page}
 use Rattle.trio_allot.specs.Free.{FreeAreHome}
 use Rattle.trio_tables.specs.Out.{lib_at, with_all}
-use Rattle.trio_allot.specs.Out.{with_pages, page_numbers, raised_by}
+use Rattle.trio_allot.specs.Out.{raised_by}
 
 pub with_all-push : {X : Type 0} (x : X) (ns : List ℕ) (n : ℕ) (xs : List X) → with_all x (ns ++ n ∷ []) xs ≡ set (with_all x ns xs) n x
 with_all-push x [] n xs = refl

@@ -1,5 +1,5 @@
 -- The claim, of a script that is played on an image that verifies.
-use Rattle.std.proofs.Common.{◌≡◌, List, [], subst, inl, inr}
+use Rattle.std.proofs.Common.{List, subst, inl, inr}
 use Rattle.std.proofs.lemmas.Bool.{false≢true}
 use Rattle.trio_tables.specs.Out.{NoneOut}
 use Rattle.trio_rights.specs.declared.rights.Creds.{Creds}

@@ -1,12 +1,10 @@
 -- What is known of bytes that were judged, and of two files that were read one after the other.
-use Rattle.std.proofs.Common.{◌≡◌, ◌≢◌, ℕ, ◌*◌, ◌≤◌, List, length, take, Option, inl, inr, refl, sym, ap, subst, ◌∙◌, arith}
+use Rattle.std.proofs.Common.{◌≡◌, ◌≢◌, ℕ, ◌≤◌, List, length, Option, arith}
 use Rattle.std.specs.Prelude.{IfErr, Result}
 use Rattle.std.proofs.lemmas.Result.{IfErr-weaker}
 use Rattle.trio_io.specs.Shelf.{Shelf, IsTold, OnlyReads}
 use Rattle.trio_layout.specs.declared.superblock.Superblock.{Superblock}
-use Rattle.trio_layout.specs.Superblock.{IsSuperblock}
-use Rattle.trio_layout.proofs.Superblocks.{only, superblock_facts}
-use Rattle.trio_survey.specs.Stored.{BytesVerify, PagesVerify, pages_in}
+use Rattle.trio_survey.specs.Stored.{BytesVerify, pages_in}
 use Rattle.trio_image.specs.declared.reading.LoadFault.{LoadFault}
 use Rattle.trio_image.specs.declared.reading.LoadFault.TheVariants.{Length, BadSuper, Fails, NoMemory as LoadNoMemory}
 use Rattle.trio_image.specs.Fault.{HasLength as HasLengths}

@@ -1,6 +1,6 @@
 -- What an allotment gives, by what the controller keeps.
-use Rattle.std.proofs.Common.{◌≡◌, ℕ, zero, suc, ◌+◌, ◌<◌, ◌≤◌, Bool, true, false, ◌==◌, ◌&&◌, List, ◌++◌, length, take, Option, Some, None, IsSome, refl, sym, ap, subst, ◌∙◌, ◌⊎◌, inl, inr, arith}
-use Rattle.std.specs.Prelude.{if◌then◌else◌, nat_lt, not, slice_get, slice_index, slice_index_or}
+use Rattle.std.proofs.Common.{◌≡◌, ℕ, ◌+◌, ◌<◌, ◌≤◌, true, false, ◌==◌, ◌&&◌, List, ◌++◌, length, take, Option, Some, None, IsSome, refl, sym, ap, subst, ◌∙◌, ◌⊎◌, inl, inr, arith}
+use Rattle.std.specs.Prelude.{if◌then◌else◌, not, slice_get, slice_index, slice_index_or}
 use Rattle.std.proofs.lemmas.Bool.{and_parts, eqb-true, false≢true, le-leb, le-ltb, lt-ltb, not-true}
 use Rattle.std.proofs.lemmas.Option.{slice_get-get_or}
 use Rattle.trio_rights.specs.Row.{Row}
@@ -11,10 +11,9 @@ use Rattle.trio_nodes.specs.declared.answers.AllotFault.{AllotFault}
 use Rattle.trio_nodes.specs.declared.answers.AllotFault.TheVariants.{NoPages as NoFreePages, NoInodes as NoFreeInodes}
 use Rattle.trio_grants.specs.Grants.{Keyed}
 use Rattle.trio_layout.specs.declared.superblock.Superblock.{Superblock}
-use Rattle.trio_lists.specs.Lists.{In, is_among}
+use Rattle.trio_lists.specs.Lists.{is_among}
 use Rattle.trio_layout.specs.Range.{is_core}
 use Rattle.trio_layout.specs.Survey.{plain}
-use Rattle.trio_layout.proofs.Superblocks.{superblock_facts}
 use Rattle.trio_tables.specs.Free.{free_numbers, free_pages}
 use Rattle.trio_tables.specs.Out.{is_out}
 use Rattle.trio_allot.specs.Free.{FreeAreHome, RefusesBoth}
@@ -24,7 +23,7 @@ use Rattle.trio_page.specs.Sheets.{sheet_numbers, without_pages}
 use Rattle.trio_state.specs.State.{State, logged, settled}
 use Rattle.trio_nodes.specs.GrantKinds.{is_write}
 use Rattle.trio_state.specs.Step.{Allot, CtlAnswer, Given, NoInodes, NoPages, Outcome, Step, allot_outcome}
-use Rattle.trio_lists.proofs.Filters.{filter-In, list_any-In}
+use Rattle.trio_lists.proofs.Filters.{list_any-In}
 use Rattle.trio_laws.proofs.Grants.{logged_kept}
 use Rattle.trio_surveys.proofs.Images.{free_is_low, free_unlisted}
 use Rattle.trio_lists.proofs.Tabulated.{tabulated-length}
@@ -36,7 +35,7 @@ use Rattle.trio_ctl.specs.Answers.{allot_fault_answer}
 use Rattle.trio_ctl.specs.Ctl.{IsControlled, state_of}
 use Rattle.trio_ctl.specs.Open.{Opened}
 use Rattle.trio_allot.specs.Out.{OutByNumber, outs_with}
-use Rattle.trio_ctl.proofs.Handing.{grant_writes, rows_long}
+use Rattle.trio_ctl.proofs.Handing.{grant_writes}
 
 module _ (s : Superblock) (pages : List (Option (List ℕ))) (rows : List (Option Row)) (owners : List ℕ) (table : List Keyed) (files : List Opened) (outs : OutByNumber) (creds : List Creds) (entries : ℕ) (k : IsControlled s pages rows owners table files outs creds entries) where
   abbrev now : State

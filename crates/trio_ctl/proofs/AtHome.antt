@@ -1,10 +1,9 @@
 -- A controller of which nothing is lent: its settled image is the one at home.
-use Rattle.std.proofs.Common.{◌≡◌, ℕ, Bool, true, List, [], ◌∷◌, length, map, Option, None, IsTrue, inl, refl, sym, ap, subst, ◌∙◌}
+use Rattle.std.proofs.Common.{◌≡◌, ℕ, List, [], ◌∷◌, length, map, Option, None, IsTrue, inl, refl, sym, ap, subst, ◌∙◌}
 use Rattle.std.specs.List.{find}
 use Rattle.std.specs.Option.{option_map}
 use Rattle.trio_rights.specs.Row.{Row}
 use Rattle.trio_rights.specs.declared.rights.Creds.{Creds}
-use Rattle.trio_nodes.specs.declared.grant.GrantKind.{GrantKind}
 use Rattle.trio_nodes.specs.declared.grant.GrantKind.TheVariants.{Write}
 use Rattle.trio_grants.specs.Grants.{Keyed, first_with, holder, is_write as writes_in_table}
 use Rattle.trio_layout.specs.declared.superblock.Superblock.{Superblock}
@@ -23,10 +22,6 @@ pub record IsAtHome (s : Superblock) (pages : List (Option (List ℕ))) (rows : 
   pub root : length s.root ≡ 64
   pub count : length pages ≡ s.pages
   pub kept : Kept (state_of s pages rows owners [] outs creds entries)
-
--- the first writer, by the table and by the state
-same_write : (k : GrantKind) → k ≡ Write → (e : Bool) → e ≡ true → true ≡ e
-same_write k is e eq = sym eq
 
 writer_first : (files : List Opened) → ((o : Opened) → In o files → o.grant.kind ≡ Write) → option_map holder (first_with writes_in_table (map keyed files)) ≡ option_map holder_of (find (λ (g : OpenGrant). is_write g.kind) (map (λ o. o.grant) files))
 writer_first [] all = refl

@@ -33,9 +33,6 @@ use Rattle.trio_state.specs.State.{covered}
 use Rattle.trio_ctl.specs.inner.Lending.{IsLendable}
 use Rattle.trio_ctl.specs.Open.{Opened, grant_on, lease_of, untouched}
 
-untouched_sheet : (x : Sheet) → lent_sheet (untouched x) ≡ x
-untouched_sheet x = refl
-
 pub sheets_untouched : (xs : List Sheet) → map lent_sheet (map untouched xs) ≡ xs
 sheets_untouched [] = refl
 sheets_untouched (x ∷ xs) = ap (λ l. x ∷ l) (sheets_untouched xs)

@@ -1,5 +1,5 @@
 -- The state of an image that verifies is kept.
-use Rattle.std.proofs.Common.{◌≡◌, ℕ, ◌≤◌, List, [], length, Option, None, refl, sym, ap, subst, ◌∙◌, arith}
+use Rattle.std.proofs.Common.{◌≡◌, ℕ, ◌≤◌, List, [], length, Option, None, refl, sym, subst, arith}
 use Rattle.std.specs.Prelude.{slice_index_or}
 use Rattle.trio_rights.specs.declared.rights.Creds.{Creds}
 use Rattle.trio_rights.specs.Row.{Row}
@@ -12,7 +12,7 @@ use Rattle.trio_state.specs.Run.{start}
 use Rattle.trio_survey.specs.Stored.{core_in, image_in}
 use Rattle.trio_layout.specs.Verifies.{Verifies}
 use Rattle.trio_laws.proofs.Runs.{start_kept}
-use Rattle.trio_image.specs.Image.{ImagePages, IsVerified}
+use Rattle.trio_image.specs.Image.{IsVerified}
 use Rattle.trio_grants.specs.Grants.{Keyed}
 use Rattle.trio_ctl.specs.Ctl.{IsControlled}
 use Rattle.trio_ctl.specs.Open.{Opened}
@@ -55,9 +55,3 @@ started s t pages pages' rows owners table files outs creds v same home is_rows 
     (subst (λ ts. IsControlled s pages (image_in s pages).rows (image_in s pages).owners ts files outs creds 0) (sym none)
     (subst (λ fs. IsControlled s pages (image_in s pages).rows (image_in s pages).owners [] fs outs creds 0) (sym empty)
     (subst (λ (o : OutByNumber). IsControlled s pages (image_in s pages).rows (image_in s pages).owners [] [] o creds 0) (sym nothing) base))))))
-
-pub same_image : (a b : ImagePages) → a.superblock ≡ b.superblock → a.pages ≡ b.pages → a ≡ b
-same_image a b p q =
-    let F : Superblock → ImagePages = λ s. record { superblock = s; pages = a.pages } in
-    let G : List (Option (List ℕ)) → ImagePages = λ ps. record { superblock = b.superblock; pages = ps } in
-    ap F p ∙ ap G q

@@ -3,7 +3,7 @@
 use Rattle.std.proofs.Common.{◌≡◌, ℕ, suc, ◌+◌, ◌-◌, ◌*◌, ◌<◌, ◌≤◌, Bool, true, false, ◌==◌, List, [], ◌∷◌, ◌++◌, length, map, get_or, Option, Some, None, refl, sym, ap, subst, ◌∙◌, arith, inl, inr}
 use Rattle.std.specs.Prelude.{is_some, slice_get, slice_index, slice_index_or, if◌then◌else◌, IsTrue, nat_le, nat_lt}
 use Rattle.std.specs.List.{list_all}
-use Rattle.std.proofs.lemmas.Bool.{and_parts, eq-eqb, eqb-true, false≢true, le-leb, lt-ltb, leb-true, ltb-true}
+use Rattle.std.proofs.lemmas.Bool.{and_parts, eq-eqb, false≢true, le-leb, lt-ltb, leb-true, ltb-true}
 use Rattle.std.proofs.lemmas.List.{length-append, get_or-append-add, get_or-map, get_or_append_left}
 use Rattle.std.proofs.lemmas.List.Folds.{list_all-append}
 use Rattle.std.proofs.lemmas.Option.{slice_get-get_or}
@@ -32,7 +32,6 @@ use Rattle.trio_lists.proofs.Tabulated.{tabulated-length, tabulated-get}
 use Rattle.trio_surveys.proofs.Owned.{pages_are}
 use Rattle.trio_laws.proofs.Refusing.{read_listed}
 use Rattle.trio_laws.proofs.StateFacts.{tables as tables_of}
-use Rattle.trio_lists.proofs.Filters.{list_any-In}
 use Rattle.trio_image.specs.Image.{is_whole_page, IsVerified, TablesAre}
 use Rattle.trio_ctl.specs.Ctl.{home_image, or_zero, state_of, superblock_for, with_zeros}
 use Rattle.trio_allot.specs.Out.{OutByNumber}

@@ -1,20 +1,11 @@
 -- Lists of whole pages, and pages by number.
-use Rattle.std.proofs.Common.{◌≡◌, ℕ, zero, suc, ◌+◌, ◌<◌, Bool, true, false, ◌==◌, List, [], ◌∷◌, ◌++◌, length, get_or, Option, Some, None, refl, sym, ap, ◌∙◌, arith}
+use Rattle.std.proofs.Common.{◌≡◌, ℕ, zero, suc, ◌<◌, Bool, true, false, ◌==◌, List, [], ◌∷◌, length, get_or, Option, Some, None, refl, sym, ap, ◌∙◌, arith}
 use Rattle.std.specs.Prelude.{slice_get, if◌then◌else◌}
 use Rattle.std.specs.List.{list_all}
 use Rattle.std.proofs.lemmas.Bool.{and_parts, eqb-true}
 use Rattle.std.proofs.lemmas.List.Folds.{list_all-append}
-use Rattle.std.proofs.lemmas.List.{append_assoc}
 use Rattle.trio_lists.specs.Lists.{tabulated}
 use Rattle.trio_image.specs.Image.{is_whole_page}
-
-pub tabulated-more : {X : Type 0} (f : ℕ → X) (n : ℕ) → tabulated f (n + 1) ≡ tabulated f n ++ f n ∷ []
-tabulated-more f n = let e : n + 1 ≡ suc n = omega arith in ap (tabulated f) e
-
--- one element more behind a front
-pub tabulated-step : {X : Type 0} (f : ℕ → X) (n : ℕ) (front xs xs' : List X) (x : X) → xs ≡ front ++ tabulated f n → xs' ≡ xs ++ x ∷ [] → x ≡ f n → xs' ≡ front ++ tabulated f (n + 1)
-tabulated-step f n front xs xs' x before after is =
-    after ∙ ap (λ ys. ys ++ x ∷ []) before ∙ append_assoc front (tabulated f n) (x ∷ []) ∙ ap (λ y. front ++ (tabulated f n ++ y ∷ [])) is ∙ ap (λ ys. front ++ ys) (sym (tabulated-more f n))
 
 pub tabulated-all : {X : Type 0} (p : X → Bool) (f : ℕ → X) (n : ℕ) → ((k : ℕ) → k < n → p (f k) ≡ true) → list_all p (tabulated f n) ≡ true
 tabulated-all p f zero h = refl

@@ -124,10 +124,6 @@ without-by_entry j (x ∷ xs) = without-inserted j x (by_entry xs) (rising-by_en
     by again true is = rw is again
     by again false is = rw is (ap (inserted x) again)
 
-least-none : (a : Option ℕ) → least a None ≡ a
-least-none None = refl
-least-none (Some a) = refl
-
 pub least_assoc : (a b c : Option ℕ) → least (least a b) c ≡ least a (least b c)
 least_assoc None b c = refl
 least_assoc (Some a) None c = refl

@@ -1,9 +1,9 @@
 -- A loop that reads a whole file.
-use Rattle.std.proofs.Common.{◌≡◌, ℕ, ◌+◌, ◌-◌, ◌<◌, ◌≤◌, min, List, [], ◌++◌, length, take, drop, Option, Some, None, IfSome, refl, sym, ◌∙◌, ap, arith}
+use Rattle.std.proofs.Common.{◌≡◌, ℕ, ◌+◌, ◌-◌, ◌<◌, ◌≤◌, min, List, ◌++◌, length, take, drop, Option, Some, None, IfSome, refl, sym, ◌∙◌, arith}
 use Rattle.std.proofs.lemmas.Grind.{common_steps}
 use Rattle.std.proofs.Math.Seq.{take-add}
-use Rattle.std.proofs.lemmas.List.{take_all, length-take, take-append-le}
-use Rattle.trio_io.specs.Shelf.{Shelf, RisesAt, IsTold, IsLonger, OnlyReads}
+use Rattle.std.proofs.lemmas.List.{take_all, take-append-le}
+use Rattle.trio_io.specs.Shelf.{Shelf, RisesAt, IsTold, OnlyReads}
 
 -- a told content begins with these bytes
 abbrev pub IsFront : List ℕ → Option (List ℕ) → Type 0
@@ -15,9 +15,6 @@ pub record Loading (limit : ℕ) (name : List ℕ) (start now : Shelf) (bytes : 
   pub turns : turn ≤ length bytes
   pub no_longer : length bytes ≤ limit
   pub so_far : IsFront bytes (start.held name)
-
-pub OnlyReads-refl : (name : List ℕ) (s : Shelf) → OnlyReads name s s
-OnlyReads-refl name s = record { reads = record { later = λ q. omega arith; others = λ q ne. refl }; writes = refl; held = refl; tells = refl; serves = refl }
 
 pub RisesAt-trans : (name : List ℕ) (a b c : List ℕ → ℕ) → RisesAt name a b → RisesAt name b c → RisesAt name a c
 RisesAt-trans name a b c ab bc = record {
@@ -33,10 +30,6 @@ OnlyReads-trans name a b c ab bc = record {
   tells = bc.tells ∙ ab.tells;
   serves = bc.serves ∙ ab.serves;
 }
-
-pub front_none : (content : Option (List ℕ)) → IsFront [] content
-front_none None = tt
-front_none (Some bs) = refl
 
 pub front_more : (content : Option (List ℕ)) (bytes buf : List ℕ) (n : ℕ) → n ≤ length buf → IsFront bytes content → IfSome content (λ bs. (n ≡ min (length buf) (length bs - length bytes)) × (take n buf ≡ take n (drop (length bytes) bs))) → IsFront (bytes ++ take n buf) content
 front_more None bytes buf n le front gives = tt
@@ -61,9 +54,3 @@ pub front_ended : (start now : Option (List ℕ)) (bytes buf : List ℕ) (n at :
 front_ended start now bytes buf n at same here zero room front gives =
     let gives' = rw (same, here, zero) at gives in
     front_end start bytes buf room front gives'
-
-pub front_long : (content : Option (List ℕ)) (bytes : List ℕ) (limit : ℕ) → limit < length bytes → IsFront bytes content → IsLonger limit content
-front_long None bytes limit long front = tt
-front_long (Some bs) bytes limit long front =
-    let len : length bytes ≡ min (length bytes) (length bs) = ap length front ∙ length-take (length bytes) bs in
-    omega arith

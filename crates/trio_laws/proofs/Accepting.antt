@@ -1,9 +1,9 @@
 -- The end of an accepted bundle keeps what holds of a state.
-use Rattle.std.proofs.Common.{◌≡◌, ℕ, ◌+◌, true, false, ◌&&◌, eqb, List, ◌++◌, Option, Some, None, slice_get, sym, refl, ap, ◌∙◌, subst, inl, inr, ◌⊎◌}
+use Rattle.std.proofs.Common.{◌≡◌, ℕ, ◌+◌, true, false, ◌&&◌, List, ◌++◌, Option, Some, None, slice_get, sym, refl, ap, ◌∙◌, subst, inl, inr, ◌⊎◌}
 use Rattle.std.specs.Prelude.{map, is_some, slice_index}
 use Rattle.std.specs.List.{flat_map}
 use Rattle.std.specs.Option.{option_map}
-use Rattle.std.proofs.lemmas.Bool.{and_parts, eqb-true, cases_Bool}
+use Rattle.std.proofs.lemmas.Bool.{and_parts, cases_Bool}
 use Rattle.std.proofs.lemmas.List.{map-append}
 use Rattle.trio_rights.specs.Row.{Row}
 use Rattle.trio_rights.specs.declared.rights.Creds.{Creds}

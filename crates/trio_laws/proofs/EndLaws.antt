@@ -1,6 +1,5 @@
 -- The laws of the end of a release, each from the lemmas that carry it.
 use Rattle.trio_laws.specs.EndLaws.{AcceptedSettles, BodyStands, LendableIsHome, RefusedSettles}
-use Rattle.trio_surveys.proofs.AnyOrder.{any_order}
 use Rattle.trio_laws.proofs.Spread.{accepted_settles as spread_settles}
 use Rattle.trio_laws.proofs.PutBack.{refused_settles as back_settles}
 use Rattle.trio_laws.proofs.Standing.{stands_at}

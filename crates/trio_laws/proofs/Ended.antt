@@ -1,7 +1,7 @@
 -- What the end of a bundle leaves of grants and of what is out, whatever the verdict.
-use Rattle.std.proofs.Common.{◌≡◌, ℕ, ◌+◌, ◌<◌, Bool, true, false, cond, ◌&&◌, ◌||◌, not, eqb, List, [], ◌∷◌, ◌++◌, length, get_or, Option, Some, None, slice_get, sym, refl, ap, ◌∙◌, subst, inl, inr, ◌⊎◌, arith}
+use Rattle.std.proofs.Common.{◌≡◌, ℕ, ◌+◌, ◌<◌, true, false, ◌&&◌, ◌||◌, not, eqb, List, [], ◌∷◌, ◌++◌, length, get_or, Option, Some, None, slice_get, sym, refl, ap, ◌∙◌, subst, inl, inr, ◌⊎◌, arith}
 use Rattle.std.specs.Prelude.{map, is_some, AllPairs}
-use Rattle.std.specs.List.{filter, find, flat_map}
+use Rattle.std.specs.List.{find, flat_map}
 use Rattle.std.proofs.lemmas.List.{length-map, get_or-map}
 use Rattle.std.proofs.lemmas.List.Kept.{AllPairs-filter}
 use Rattle.std.proofs.lemmas.Bool.{and_parts, and_from, or_cases, eqb-true, eq-eqb, false≢true, not-true, not_from_false, both_ways, false_from_ne_true}
@@ -9,7 +9,7 @@ use Rattle.trio_rights.specs.Row.{Row}
 use Rattle.trio_nodes.specs.declared.grant.GrantKind.TheVariants.{Write, Hold}
 use Rattle.trio_tables.specs.Out.{is_out}
 use Rattle.trio_tables.proofs.OutLemmas.{is_out-back, length-with_all, lib_at-others}
-use Rattle.trio_lists.specs.Lists.{is_among, are_new, In}
+use Rattle.trio_lists.specs.Lists.{is_among, In}
 use Rattle.trio_state.specs.Bundles.{is_in_bundle, grants_after, lent_part, blank, Ends}
 use Rattle.trio_nodes.specs.GrantKinds.{is_hold, is_write}
 use Rattle.trio_state.specs.Given.{GivenTo}
@@ -21,8 +21,7 @@ use Rattle.trio_page.specs.Sheets.{Sheet, sheet_numbers}
 use Rattle.trio_state.specs.State.{covered, OpenGrant, State}
 use Rattle.trio_laws.proofs.Bundles.{Closed}
 use Rattle.trio_lists.proofs.Filters.{filter-In, In-filter, find-In, In-list_any, list_any-In}
-use Rattle.trio_lists.proofs.Members.{In-left, In-map, map-In, is_among-In, In-is_among}
-use Rattle.trio_lists.proofs.New.{are_new-fewer}
+use Rattle.trio_lists.proofs.Members.{In-map, map-In, is_among-In, In-is_among}
 use Rattle.trio_surveys.proofs.Sheets.{among_cases, with_pages_apart}
 use Rattle.trio_laws.proofs.StateFacts.{write_is, write_alone, covered_write, numbers_flat}
 

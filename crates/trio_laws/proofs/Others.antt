@@ -1,15 +1,13 @@
 -- A step of another library leaves what a library was given.
-use Rattle.std.proofs.Common.{cond, ◌&&◌, None, Bool, ◌≡◌, ℕ, true, false, not, eqb, List, [], ◌∷◌, Option, Some, sym, refl, ap, ◌∙◌, subst, inl, inr}
-use Rattle.std.specs.Prelude.{map}
-use Rattle.std.specs.List.{filter}
-use Rattle.std.proofs.lemmas.Bool.{and_parts, and_left, eqb-true, both_ways, ne_eqb, not_from_false, false_from_ne_true}
+use Rattle.std.proofs.Common.{cond, ◌&&◌, None, Bool, ◌≡◌, ℕ, true, false, not, eqb, List, Option, Some, sym, refl, ap, ◌∙◌}
+use Rattle.std.proofs.lemmas.Bool.{and_parts, and_left, eqb-true, both_ways, ne_eqb, false_from_ne_true}
 use Rattle.trio_rights.specs.Row.{Row}
 use Rattle.trio_rights.specs.declared.rights.LibNo.{LibNo}
 use Rattle.trio_tables.specs.Out.{lib_at}
 use Rattle.trio_tables.proofs.OutLemmas.{lib_at-others}
 use Rattle.trio_nodes.specs.declared.grant.GrantKind.{GrantKind}
 use Rattle.trio_nodes.specs.declared.grant.GrantKind.TheVariants.{Hold}
-use Rattle.trio_lists.specs.Lists.{is_among, are_new, In}
+use Rattle.trio_lists.specs.Lists.{is_among, In}
 use Rattle.trio_layout.specs.Survey.{row_by}
 use Rattle.trio_layout.specs.Accept.{is_accepted, next}
 use Rattle.trio_state.specs.Allotments.{out_after}
@@ -23,7 +21,6 @@ use Rattle.trio_page.specs.Sheets.{sheet_numbers}
 use Rattle.trio_state.specs.State.{OpenGrant, State, settled, creds_of}
 use Rattle.trio_laws.proofs.Accepting.{stays_then, row_then}
 use Rattle.trio_laws.proofs.Bundles.{Closed, unparted_at, unparted_from}
-use Rattle.trio_lists.proofs.Filters.{In-filter}
 use Rattle.trio_laws.proofs.Ended.{grant_before, grant_after}
 use Rattle.trio_surveys.proofs.Images.{some_of}
 use Rattle.trio_lists.proofs.Members.{is_among-In}

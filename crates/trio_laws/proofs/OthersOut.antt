@@ -11,7 +11,7 @@ use Rattle.trio_nodes.specs.declared.answers.GrantFault.{GrantFault}
 use Rattle.trio_nodes.specs.declared.answers.GrantFault.TheVariants.{NotLive, Denied, NoParent, Busy, NoMemory as OutOfMemory}
 use Rattle.trio_nodes.specs.declared.answers.ModeFault.{ModeFault}
 use Rattle.trio_nodes.specs.declared.answers.ModeFault.TheVariants.{NotLive as ModeNotLive, NotOwner, BadMode, Busy as ModeBusy, NoMemory as ModeNoMemory}
-use Rattle.trio_lists.specs.Lists.{In, is_among, are_new}
+use Rattle.trio_lists.specs.Lists.{In, is_among}
 use Rattle.trio_page.specs.Sheets.{sheet_numbers}
 use Rattle.trio_layout.specs.Image.{Image, row_at}
 use Rattle.trio_rights.specs.declared.rights.LibNo.{LibNo}

@@ -1,17 +1,13 @@
 -- The laws on runs, each from the lemmas that carry it.
 use Rattle.std.proofs.Common.{◌≡◌, ◌≢◌, ℕ, Bool, true, false, cond, ltb, List, [], ◌∷◌, length, take, Option, Some, None, sym, ◌∙◌, subst, inl, inr}
-use Rattle.trio_rights.specs.declared.rights.Creds.{Creds}
 use Rattle.trio_rights.specs.Row.{Row}
 use Rattle.trio_nodes.specs.declared.grant.GrantKind.{GrantKind}
 use Rattle.trio_nodes.specs.declared.answers.GrantFault.{GrantFault}
 use Rattle.trio_nodes.specs.declared.answers.ModeFault.{ModeFault}
 use Rattle.trio_lists.specs.Lists.{In}
-use Rattle.trio_page.specs.Sheets.{Sheet}
-use Rattle.trio_layout.specs.Image.{Image, IsFit, row_at}
-use Rattle.trio_layout.specs.Verifies.{Verifies}
+use Rattle.trio_layout.specs.Image.{row_at}
 use Rattle.trio_state.specs.State.{State, logged}
-use Rattle.trio_layout.specs.Proposed.{Bundle, bundle_sheets}
-use Rattle.trio_layout.specs.Accept.{is_accepted, next}
+use Rattle.trio_layout.specs.Proposed.{Bundle}
 use Rattle.trio_state.specs.Grants.{grant_fault}
 use Rattle.trio_state.specs.Allotments.{free_pages, free_numbers, allots}
 use Rattle.trio_state.specs.Step.{Event, Grant, Allot, Back, Release, Settle, SetMode, CtlAnswer, NoPages, NoInodes, Given, Done, Accepted, Refused, NotClosed, Settled, NoMemory, Outcome, Does, Step, granted_to, allot_outcome, mode_fault, moded_to, ReleaseEnd, Parted, IsAccepted, IsRefused}
@@ -19,14 +15,9 @@ use Rattle.trio_state.specs.Kept.{Kept}
 use Rattle.trio_state.specs.Given.{GivenEvent}
 use Rattle.trio_state.specs.Run.{start, Move, Trace}
 use Rattle.trio_laws.specs.Laws.{AnyRun, EveryStateIsKept, EveryMoveIsAStep, EveryReleaseIsJudged, NeverStuck}
-use Rattle.trio_surveys.proofs.Accepted.{fit_proposed, accepted_verifies}
 use Rattle.trio_laws.proofs.Runs.{trace_kept, start_kept as first_kept}
 use Rattle.trio_laws.proofs.Possible.{call_possible}
 use Rattle.trio_laws.proofs.Verdicts.{release_verdict}
-
--- an accepted bundle leaves an image that verifies
-pub next_verifies : (image : Image) (creds : Creds) (b : Bundle) → IsFit image.core → ((x : Sheet) → In x (bundle_sheets b) → length x.bytes ≡ 4096) → is_accepted image creds b ≡ true → Verifies (next image b)
-next_verifies image creds b fit full accepted = accepted_verifies image creds b (fit_proposed image b fit full) accepted
 
 run_begins : (run : AnyRun) → Kept (start run.image run.creds)
 run_begins run = first_kept run.image run.creds run.fit run.verifies run.whole

@@ -69,18 +69,6 @@ pub are_new-more : (before these : List ℕ) (i : ℕ) → i < length these → 
 are_new-more before these i h =
     ap (are_new before) (take_more these i 0 h) ∙ are_new-push before (take i these) (get_or these i 0)
 
--- a number that had its mark
-pub are_new-marked : (marks : List Bool) (before these : List ℕ) (i : ℕ) → i < length these → get_or these i 0 < length marks → AreMarked marks (before ++ take i these) → get_or marks (get_or these i 0) false ≡ true → false ≡ are_new before (take (i + 1) these)
-are_new-marked marks before these i h k m e =
-    let among = sym (m (get_or these i 0) k) ∙ e in
-    sym (are_new-more before these i h ∙ ap (λ b. are_new before (take i these) && not b) among ∙ and-false (are_new before (take i these)))
-
--- a number that had none
-pub are_new-unmarked : (marks : List Bool) (before these : List ℕ) (i : ℕ) (b : Bool) → i < length these → get_or these i 0 < length marks → AreMarked marks (before ++ take i these) → get_or marks (get_or these i 0) false ≡ false → b ≡ are_new before (take i these) → b ≡ are_new before (take (i + 1) these)
-are_new-unmarked marks before these i b h k m e n =
-    let among = sym (m (get_or these i 0) k) ∙ e in
-    n ∙ sym (are_new-more before these i h ∙ ap (λ b. are_new before (take i these) && not b) among ∙ and-true (are_new before (take i these)))
-
 pub below_at : (n : ℕ) (these : List ℕ) (i : ℕ) → i < length these → all_below n these ≡ true → get_or these i 0 < n
 below_at n these i h a =
     elim (cases_lt (get_or these i 0) n) [
@@ -89,4 +77,3 @@ below_at n these i h a =
           let e : ltb (get_or these i 0) n ≡ false = grind (arith, nat_tests) in
           absurd (false≢true (sym (list_all_at (λ x. ltb x n) these i 0 h e) ∙ a))
     ]
-

@@ -2,7 +2,7 @@
 use Rattle.std.proofs.Common.{◌≡◌, ℕ, Bool, true, eqb, List, [], ◌∷◌, ◌++◌, Option, Some, None, Result, Ok, Err, is_ok, sym, refl, ap, ◌∙◌, subst, inl, inr, ◌⊎◌}
 use Rattle.std.specs.Prelude.{map}
 use Rattle.std.specs.List.{flat_map, list_all}
-use Rattle.std.specs.Option.{option_map, option_and_then}
+use Rattle.std.specs.Option.{option_and_then}
 use Rattle.std.proofs.lemmas.Bool.{and_parts, and_from, or_cases, or_left, or_right, eqb-true, eq-eqb, false≢true}
 use Rattle.trio_lists.specs.Lists.{In, is_among, result_map, result_then, both, there_or}
 
@@ -71,10 +71,6 @@ flat_map-same f g (x ∷ xs) h =
 pub option_and_then-Some : {X Y : Type 0} (f : X → Option Y) (o : Option X) (y : Y) → option_and_then f o ≡ Some y → (x : X) × (o ≡ Some x) × (f x ≡ Some y)
 option_and_then-Some f None y e = absurd cc
 option_and_then-Some f (Some x) y e = (x, refl, e)
-
-pub option_map-Some : {X Y : Type 0} (f : X → Y) (o : Option X) (y : Y) → option_map f o ≡ Some y → (x : X) × (o ≡ Some x) × (f x ≡ y)
-option_map-Some f None y e = absurd cc
-option_map-Some f (Some x) y e = (x, refl, cc)
 
 pub result_then-Ok : {X Y E : Type 0} (f : X → Result Y E) (r : Result X E) (y : Y) → result_then f r ≡ Ok y → (x : X) × (r ≡ Ok x) × (f x ≡ Ok y)
 result_then-Ok f (Err e) y h = absurd cc

@@ -13,13 +13,11 @@
 -- Ruleset: `slots`.
 use Rattle.std.proofs.Common.{◌≡◌, ◌≢◌, ℕ, zero, suc, ◌+◌, ◌-◌, ◌*◌, ◌<◌, ◌≤◌, List, ◌++◌, length, get_or, sym, ap, ◌∙◌, inl, inr, arith}
 use Rattle.std.specs.Prelude.{slice_range}
-use Rattle.std.specs.Int.{Width, byte_len, to_le_bytes}
 use Rattle.std.proofs.Math.Nat.{mul-le-mul_left}
 use Rattle.std.proofs.lemmas.Bool.{cases_lt}
 use Rattle.std.proofs.lemmas.List.{same_lists}
-use Rattle.trio_page.specs.Field.{number_at, with_part, with_number}
-use Rattle.trio_page.proofs.Fields.{length-with_part, length-to_le_bytes, get_or-slice, slice-with_part_same, slice-with_part_below, slice-with_part_above, slice-split}
-use Rattle.trio_page.proofs.Ranges.{slice-slice, number_at-slice, slice-with_part_within, slice-with_number_within}
+use Rattle.trio_page.specs.Field.{with_part}
+use Rattle.trio_page.proofs.Fields.{length-with_part, get_or-slice, slice-with_part_same, slice-with_part_below, slice-with_part_above, slice-split}
 
 -- ---- rows
 
@@ -41,20 +39,6 @@ row_at size (suc count) k lt =
 pub row_put : (size i : ℕ) (row bytes : List ℕ) → length row ≡ size → size * i + size ≤ length bytes → slice_range (with_part (size * i) row bytes) (size * i) (size * i + size) ≡ row
 row_put size i row bytes len fits = slice-with_part_same (size * i) row bytes (size * i + size) (omega arith) (omega arith)
 
--- a part within row i
-pub part_in_row : (size i at : ℕ) (part bytes : List ℕ) → at + length part ≤ size → size * i + size ≤ length bytes
-    → slice_range (with_part (size * i + at) part bytes) (size * i) (size * i + size) ≡ with_part at part (slice_range bytes (size * i) (size * i + size))
-part_in_row size i at part bytes within fits = slice-with_part_within (size * i) at part bytes (size * i + size) (omega arith) fits
-
--- a part within row i leaves each range of another row
-pub part_in_other : (size i k at a b : ℕ) (part bytes : List ℕ) → at + length part ≤ size → size * i + size ≤ length bytes → k ≢ i → b ≤ size
-    → slice_range (with_part (size * i + at) part bytes) (size * k + a) (size * k + b) ≡ slice_range bytes (size * k + a) (size * k + b)
-part_in_other size i k at a b part bytes within fits ne le =
-    elim (cases_lt k i) [
-      | inl below ↦ slice-with_part_below (size * i + at) part bytes (size * k + a) (size * k + b) (omega arith) (omega (arith, row_before size k i below))
-      | inr above ↦ slice-with_part_above (size * i + at) part bytes (size * k + a) (size * k + b) (omega arith) (omega (arith, row_before size i k (omega arith)))
-    ]
-
 pub row_other : (size i k : ℕ) (row bytes : List ℕ) → length row ≡ size → size * i + size ≤ length bytes → k ≢ i
     → slice_range (with_part (size * i) row bytes) (size * k) (size * k + size) ≡ slice_range bytes (size * k) (size * k + size)
 row_other size i k row bytes len fits ne =
@@ -62,21 +46,6 @@ row_other size i k row bytes len fits ne =
       | inl below ↦ slice-with_part_below (size * i) row bytes (size * k) (size * k + size) (omega arith) (row_before size k i below)
       | inr above ↦ slice-with_part_above (size * i) row bytes (size * k) (size * k + size) (omega arith) (omega (arith, row_before size i k (omega arith)))
     ]
-
--- a number within row i
-pub number_in_row : (w : Width) (size i at n : ℕ) (bytes : List ℕ) → at + byte_len w ≤ size → size * i + size ≤ length bytes
-    → slice_range (with_number w (size * i + at) n bytes) (size * i) (size * i + size) ≡ with_number w at n (slice_range bytes (size * i) (size * i + size))
-number_in_row w size i at n bytes within fits = slice-with_number_within w (size * i) at n bytes (size * i + size) (omega arith) fits
-
--- a number within row i leaves each range of another row
-pub number_in_other : (w : Width) (size i k at a b n : ℕ) (bytes : List ℕ) → at + byte_len w ≤ size → size * i + size ≤ length bytes → k ≢ i → b ≤ size
-    → slice_range (with_number w (size * i + at) n bytes) (size * k + a) (size * k + b) ≡ slice_range bytes (size * k + a) (size * k + b)
-unfolding with_number
-number_in_other w size i k at a b n bytes within fits ne le = part_in_other size i k at a b (to_le_bytes w n) bytes (omega (arith, length-to_le_bytes w n)) fits ne le
-
--- a number of a row is one of all bytes
-pub number_of_row : (w : Width) (size i at : ℕ) (bytes : List ℕ) → at + byte_len w ≤ size → number_at w at (slice_range bytes (size * i) (size * i + size)) ≡ number_at w (size * i + at) bytes
-number_of_row w size i at bytes within = number_at-slice w at bytes (size * i) (size * i + size) (omega arith)
 
 -- bytes whose rows agree are the same
 pub same_rows : (size count : ℕ) (a b : List ℕ) → length a ≡ size * count → length b ≡ size * count
@@ -105,18 +74,6 @@ slot_other i k slot page len size lt ne = row_other 256 i k slot page size (omeg
 pub slot_split : (i : ℕ) (page : List ℕ) → slice_range page (256 * i) (256 * i + 256) ≡ slice_range page (256 * i) (256 * i + 192) ++ slice_range page (256 * i + 192) (256 * i + 256)
 slot_split i page = slice-split (256 * i) (256 * i + 192) (256 * i + 256) page (omega arith) (omega arith)
 
-pub entry_of_slot : (i : ℕ) (page : List ℕ) → slice_range (slice_range page (256 * i) (256 * i + 256)) 0 192 ≡ slice_range page (256 * i) (256 * i + 192)
-entry_of_slot i page =
-    let e : 256 * i + 0 ≡ 256 * i = omega arith in
-    slice-slice page (256 * i) (256 * i + 256) 0 192 (omega arith) (omega arith) ∙ ap (λ (x : ℕ). slice_range page x (256 * i + 192)) e
-
-pub body_of_slot : (i : ℕ) (page : List ℕ) → slice_range (slice_range page (256 * i) (256 * i + 256)) 192 256 ≡ slice_range page (256 * i + 192) (256 * i + 256)
-body_of_slot i page = slice-slice page (256 * i) (256 * i + 256) 192 256 (omega arith) (omega arith)
-
-pub same_slots : (a b : List ℕ) → length a ≡ 4096 → length b ≡ 4096
-    → ((i : ℕ) → i < 16 → slice_range a (256 * i) (256 * i + 256) ≡ slice_range b (256 * i) (256 * i + 256)) → a ≡ b
-same_slots a b la lb same = same_rows 256 16 a b la lb same
-
 -- ---- an entry's part that was written: itself, its body, its slot, another slot, another body
 
 pub entry_put : (i : ℕ) (entry page : List ℕ) → length page ≡ 4096 → length entry ≡ 192 → i < 16 → slice_range (with_part (256 * i) entry page) (256 * i) (256 * i + 192) ≡ entry
@@ -140,11 +97,6 @@ entry_other i k entry page len size lt ne =
       | inr above ↦ slice-with_part_above (256 * i) entry page (256 * k) (256 * k + 256) (omega arith) (omega arith)
     ]
 
-pub entry_other_body : (i k : ℕ) (entry page : List ℕ) → length page ≡ 4096 → length entry ≡ 192 → i < 16 → k ≢ i
-    → slice_range (with_part (256 * i) entry page) (256 * k + 192) (256 * k + 256) ≡ slice_range page (256 * k + 192) (256 * k + 256)
-entry_other_body i k entry page len size lt ne =
-    sym (body_of_slot k (with_part (256 * i) entry page)) ∙ ap (λ (x : List ℕ). slice_range x 192 256) (entry_other i k entry page len size lt ne) ∙ body_of_slot k page
-
 -- ---- a body that was written: itself, its entry's part, its slot, another slot, another body
 
 pub body_put : (i : ℕ) (body page : List ℕ) → length page ≡ 4096 → length body ≡ 64 → i < 16 → slice_range (with_part (256 * i + 192) body page) (256 * i + 192) (256 * i + 256) ≡ body
@@ -167,11 +119,6 @@ body_other i k body page len size lt ne =
       | inl below ↦ slice-with_part_below (256 * i + 192) body page (256 * k) (256 * k + 256) (omega arith) (omega arith)
       | inr above ↦ slice-with_part_above (256 * i + 192) body page (256 * k) (256 * k + 256) (omega arith) (omega arith)
     ]
-
-pub body_other_body : (i k : ℕ) (body page : List ℕ) → length page ≡ 4096 → length body ≡ 64 → i < 16 → k ≢ i
-    → slice_range (with_part (256 * i + 192) body page) (256 * k + 192) (256 * k + 256) ≡ slice_range page (256 * k + 192) (256 * k + 256)
-body_other_body i k body page len size lt ne =
-    sym (body_of_slot k (with_part (256 * i + 192) body page)) ∙ ap (λ (x : List ℕ). slice_range x 192 256) (body_other i k body page len size lt ne) ∙ body_of_slot k page
 
 -- ---- an entry's part and then its body, written in place
 

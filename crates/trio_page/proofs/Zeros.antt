@@ -8,27 +8,14 @@
 --   number16_cleared, 32, 64                the numbers where zeros were written
 -- `length-zeros`, `rest_zeros` and `zeros_rest` are in Cursor.
 -- Ruleset: `zero_bytes`, for `put_zeros_in` and `clear`, beside those of Fields and Rows.
-use Rattle.std.proofs.Common.{◌≡◌, ℕ, ◌+◌, ◌-◌, ◌<◌, ◌≤◌, List, ◌++◌, length, get_or, take, drop, refl, sym, ap, ◌∙◌, inl, inr, arith}
+use Rattle.std.proofs.Common.{◌≡◌, ℕ, ◌+◌, ◌-◌, ◌≤◌, List, length, take, drop, refl, sym, ap, ◌∙◌, arith}
 use Rattle.std.specs.Prelude.{slice_range}
 use Rattle.std.specs.Int.{Width, w16, w32, w64, byte_len, from_le_bytes}
-use Rattle.std.proofs.lemmas.Bool.{cases_lt}
-use Rattle.std.proofs.lemmas.Grind.{same_number_lists}
-use Rattle.std.proofs.lemmas.List.{get_or_past, get_or-replicate, take-replicate, drop-replicate, replicate-append-replicate}
+use Rattle.std.proofs.lemmas.List.{take-replicate, drop-replicate}
 use Rattle.trio_page.specs.Field.{number_at, with_part, zeros}
 use Rattle.trio_page.proofs.Fields.{slice-with_part_same}
 use Rattle.trio_page.proofs.Ranges.{number_at-slice}
-use Rattle.trio_page.proofs.Cursor.{IsBytes, length-zeros}
-
-pub get_or-zeros : (n k : ℕ) → get_or (zeros n) k 0 ≡ 0
-unfolding zeros
-get_or-zeros n k =
-    elim (cases_lt k n) [
-      | inl lt ↦ get_or-replicate n k 0 0 lt
-      | inr le ↦ get_or_past (zeros n) k 0 (omega (arith, length-zeros n))
-    ]
-
-pub IsBytes-zeros : (n : ℕ) → IsBytes (zeros n)
-IsBytes-zeros n k = rw (get_or-zeros n k) (omega arith)
+use Rattle.trio_page.proofs.Cursor.{length-zeros}
 
 pub take-zeros : (m n : ℕ) → m ≤ n → take m (zeros n) ≡ zeros m
 unfolding zeros
@@ -40,15 +27,6 @@ drop-zeros m n = drop-replicate m n 0
 
 pub slice-zeros : (n i j : ℕ) → j ≤ n → slice_range (zeros n) i j ≡ zeros (j - i)
 slice-zeros n i j le = ap (take (j - i)) (drop-zeros i n) ∙ take-zeros (j - i) (n - i) (omega arith)
-
-pub zeros-append : (m n : ℕ) → zeros m ++ zeros n ≡ zeros (m + n)
-unfolding zeros
-zeros-append m n = replicate-append-replicate m n 0
-
--- bytes of which each is zero
-pub each_zero : (bytes : List ℕ) → ((k : ℕ) → k < length bytes → get_or bytes k 0 ≡ 0) → bytes ≡ zeros (length bytes)
-each_zero bytes zero_at =
-    same_number_lists _ _ (sym (length-zeros (length bytes))) (λ k h. zero_at k h ∙ sym (get_or-zeros (length bytes) k))
 
 -- ---- numbers in zeros
 

@@ -1,8 +1,8 @@
 -- Pages that are put in place and marked, one list after another.
-use Rattle.std.proofs.Common.{◌≡◌, ℕ, zero, suc, ◌+◌, ◌<◌, ◌≤◌, Bool, false, List, [], ◌∷◌, ◌++◌, length, get_or, take, map, Option, Some, None, sym, refl, ap, ◌∙◌, subst, inl, inr, append_assoc}
-use Rattle.std.specs.Prelude.{slice_get, replicate}
+use Rattle.std.proofs.Common.{◌≡◌, ℕ, zero, suc, ◌+◌, ◌<◌, ◌≤◌, Bool, List, [], ◌∷◌, ◌++◌, length, get_or, take, map, Option, Some, None, sym, refl, ap, ◌∙◌, subst, inl, inr, append_assoc}
+use Rattle.std.specs.Prelude.{slice_get}
 use Rattle.std.specs.Option.{option_map}
-use Rattle.std.proofs.lemmas.List.{append-nil, map-append, take_more, get_or-replicate, length-replicate}
+use Rattle.std.proofs.lemmas.List.{append-nil, map-append, take_more}
 use Rattle.std.proofs.lemmas.List.Folds.{flat_map-map}
 use Rattle.std.specs.List.{flat_map}
 use Rattle.std.proofs.lemmas.Grind.{flat_map-append}
@@ -79,17 +79,6 @@ lent_past pages i n =
     by None n x e = absurd cc
     by (Some p) n x e = absurd cc
 
-pub lent_past_page : (pages : List LentPage) (i : ℕ) → None ≡ page_at pages i → length (map lent_sheet pages) ≤ i
-lent_past_page pages i n =
-    elim (slice_get_cases (map lent_sheet pages) i).1 [
-      | inl there ↦ absurd (by (slice_get pages i) n there.0 (sym (slice_get-map lent_sheet pages i) ∙ there.2))
-      | inr past ↦ past.0
-    ]
-  where
-    by : (o : Option LentPage) → None ≡ option_map (λ (p : LentPage). p.page) o → (x : Sheet) → option_map lent_sheet o ≡ Some x → ⊥
-    by None n x e = absurd cc
-    by (Some p) n x e = absurd cc
-
 -- one sheet more
 pub put_more : (xs : List Sheet) (i : ℕ) (x : Sheet) (a b c : Pages) (k l m : List Bool) → slice_get xs i ≡ Some x → ArePut (take i xs) a b k l → ArePut (x ∷ []) b c l m → ArePut (take (i + 1) xs) a c k m
 put_more xs i x a b c k l m e p q =
@@ -122,7 +111,3 @@ blocks_within n leases i x l is h y k =
 -- the pages of a bundle, lease by lease, then the allotted ones
 pub sheets_are : (b : Bundled) → bundle_sheets (bundle_in b) ≡ flat_map lease_sheets b.writes ++ map fresh_sheet b.pages
 sheets_are b = ap (λ xs. xs ++ map fresh_sheet b.pages) (flat_map-map (λ (w : Written). w.index ++ w.blocks) (λ (f : LentFile). written_in f.stands) b.writes)
-
--- no number is marked at first
-pub unmarked : (n : ℕ) → AreMarked (replicate n false) []
-unmarked n k l = get_or-replicate n k false false (subst (λ m. k < m) (length-replicate n false) l)

@@ -3,7 +3,7 @@ use Rattle.std.proofs.Common.{◌≡◌, ◌≢◌, ℕ, true, false, List, [], 
 use Rattle.std.proofs.lemmas.Bool.{MatchBool-at_true, MatchBool-at_false, cases_Bool, false≢true}
 use Rattle.trio_rights.specs.Row.{Row}
 use Rattle.trio_nodes.specs.declared.grant.GrantKind.TheVariants.{Write}
-use Rattle.trio_layout.specs.Image.{Image, row_at}
+use Rattle.trio_layout.specs.Image.{row_at}
 use Rattle.trio_state.specs.State.{OpenGrant, State}
 use Rattle.trio_state.specs.Step.{Event, Release, CtlAnswer, Granted, NotGranted, Given, NoPages, NoInodes, Done, Accepted, Refused, NotClosed, Settled, ModeSet, NotModeSet, NoMemory, Step}
 use Rattle.trio_laws.specs.Known.{Known, known, plain_state, is_refusal, SameAnswer}

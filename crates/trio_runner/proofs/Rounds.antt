@@ -1,7 +1,7 @@
 -- Lines that are played one after another.
 use Rattle.std.proofs.Common.{◌≡◌, ℕ, suc, ◌+◌, ◌<◌, ◌≤◌, List, [], ◌∷◌, ◌++◌, length, take, get_or, sym, refl, ap, ◌∙◌, subst, arith}
 use Rattle.std.proofs.Math.Seq.{take-suc}
-use Rattle.std.proofs.lemmas.List.{append_assoc, append-nil}
+use Rattle.std.proofs.lemmas.List.{append_assoc}
 use Rattle.trio_rights.specs.declared.rights.LibNo.{LibNo}
 use Rattle.trio_rights.specs.declared.rights.Creds.{Creds}
 use Rattle.trio_state.specs.State.{State}
@@ -37,16 +37,6 @@ ready_after said told s h s' h' ready l =
       stands = subst (λ (n : LibNo). Stands n.0 (player s' h')) (sym l.lib) stands;
       library = subst (λ (n : LibNo). IsLibrary n s') (sym l.lib) known;
     }
-
-pub none_played : (s : State) (h : Held) (before : List LineAnswer) → IsReady s h → LinesPlayed [] s h before s h before
-none_played s h before ready = record {
-  tolds = [];
-  moves = [];
-  lines_are = (refl, refl);
-  told = sym (append-nil before);
-  lib = refl;
-  ready = ready;
-}
 
 pub one_more : (lines : List ScriptLine) (line : ScriptLine) (s : State) (h : Held) (before : List LineAnswer) (s' : State) (h' : Held) (after : List LineAnswer) (answer : LineAnswer) (s'' : State) (h'' : Held) → LinesPlayed lines s h before s' h' after → LinePlayed line.line answer s' h' s'' h'' → LinesPlayed (lines ++ line ∷ []) s h before s'' h'' (after ++ answer ∷ [])
 one_more lines line s h before s' h' after answer s'' h'' ls l =

@@ -1,12 +1,9 @@
 -- The moves of a script are a run of the controller.
 use Rattle.std.proofs.Common.{◌≡◌, ℕ, List, [], ◌∷◌, ◌++◌, sym, refl, ap, ◌∙◌, subst, inl, inr}
-use Rattle.std.specs.Prelude.{map}
 use Rattle.std.proofs.lemmas.List.{append_assoc, append-nil}
 use Rattle.trio_state.specs.State.{State}
-use Rattle.trio_state.specs.Kept.{Kept}
 use Rattle.trio_state.specs.Run.{start, Move, Trace}
 use Rattle.trio_laws.proofs.Runs.{start_kept, trace_kept}
-use Rattle.trio_lists.proofs.Members.{In-map}
 use Rattle.trio_script.specs.declared.line.RawLine.{RawLine}
 use Rattle.trio_script.specs.declared.ScriptLine.{ScriptLine}
 use Rattle.trio_report.specs.declared.answer.LineAnswer.{LineAnswer}

@@ -1,24 +1,14 @@
 -- Numbers of a list, one after another.
-use Rattle.std.proofs.Common.{◌≡◌, ℕ, ◌+◌, ◌<◌, ◌==◌, ◌&&◌, Bool, true, false, not, List, [], ◌∷◌, ◌++◌, length, get_or, take, drop, Option, None, Some, refl, sym, ap, add-one, append_assoc}
+use Rattle.std.proofs.Common.{◌≡◌, ℕ, ◌+◌, ◌<◌, ◌==◌, ◌&&◌, Bool, true, false, not, List, [], ◌++◌, length, get_or, take, drop, Option, None, Some, refl, sym, add-one}
 use Rattle.std.proofs.lemmas.List.{take_more}
 use Rattle.std.proofs.Math.Seq.{drop-cons}
 use Rattle.std.specs.List.{list_any}
-use Rattle.trio_script.specs.Words.{are_new, number_before, number_of, numbers_of}
+use Rattle.trio_script.specs.Words.{are_new}
 
 -- numbers behind others, if there are such
 abbrev pub behind : List ℕ → Option (List ℕ) → Option (List ℕ)
 behind done (Some more) = Some (done ++ more)
 behind done None = None
-
-behind_one : (done : List ℕ) (n : ℕ) (more : Option (List ℕ)) → behind done (number_before (Some n) more) ≡ behind (done ++ n ∷ []) more
-behind_one done n (Some more) = ap Some (sym (append_assoc done (n ∷ []) more))
-behind_one done n None = refl
-
-pub one_read : (parts : List (List ℕ)) (part : List ℕ) (done : List ℕ) (n : ℕ) → number_of part ≡ Some n → behind done (numbers_of (part ∷ parts)) ≡ behind (done ++ n ∷ []) (numbers_of parts)
-one_read parts part done n e = rw e (behind_one done n (numbers_of parts))
-
-pub none_read : (parts : List (List ℕ)) (part : List ℕ) (done : List ℕ) → number_of part ≡ None → behind done (numbers_of (part ∷ parts)) ≡ None
-none_read parts part done e = rw e refl
 
 -- whether a number was there, by whether it was added
 pub known : (added answer has was : Bool) → added ≡ not has → has ≡ was → added ≡ not answer → was ≡ answer

@@ -1,7 +1,7 @@
 -- Bundles over the small image, evaluated: what is to be accepted is, and each way to break the image is refused.
 use Rattle.std.specs.Prelude.{◌≡◌, ℕ, List, [], ◌∷◌, ◌++◌, true, false}
 use Rattle.std.proofs.Common.{refl}
-use Rattle.trio_page.specs.Field.{number_at, with_part, zeros}
+use Rattle.trio_page.specs.Field.{number_at, zeros}
 use Rattle.trio_rights.specs.declared.kind.Kind.TheVariants.{Regular, Directory}
 use Rattle.trio_rights.specs.declared.rights.Creds.{Creds}
 use Rattle.trio_layout.specs.Body.{body_bytes, body_of}

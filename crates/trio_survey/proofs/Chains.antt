@@ -1,10 +1,9 @@
 -- One index page more of a chain.
-use Rattle.std.proofs.Common.{◌≡◌, ℕ, suc, ◌-◌, ◌<◌, min, leb, eqb, Bool, List, [], ◌∷◌, ◌++◌, length, Some, None, Result, Ok, Err, sym, refl, ◌∙◌, append_assoc, arith}
+use Rattle.std.proofs.Common.{◌≡◌, ℕ, suc, ◌-◌, ◌<◌, min, leb, eqb, List, [], ◌∷◌, ◌++◌, Some, None, Result, Ok, Err, sym, refl, ◌∙◌, append_assoc, arith}
 use Rattle.std.proofs.lemmas.List.{append-nil}
 use Rattle.std.proofs.lemmas.Bool.Decides.{nat_tests}
-use Rattle.trio_layout.specs.declared.range.CoreRange.{CoreRange}
 use Rattle.trio_layout.specs.Core.{Core, Location, at_page, page_of}
-use Rattle.trio_layout.specs.Index.{Index, IsIndexPage, index_of}
+use Rattle.trio_layout.specs.Index.{Index, index_of}
 use Rattle.trio_lists.specs.Lists.{result_map, result_then}
 use Rattle.trio_layout.specs.Chain.{Chain, chain_from, index_count, index_page, with_index}
 
@@ -46,7 +45,3 @@ pub chain_whole : (core : Core) (r : Result Chain Location) (left at : ℕ) (ind
 chain_whole core r left at index blocks z e =
     let none : index_count left ≡ 0 = omega arith in
     rw (none, append-nil, append-nil) at e
-
--- as many numbers as are in use
-pub numbers_used : (used : ℕ) (last : Bool) (range : CoreRange) (page : List ℕ) (i : Index) → IsIndexPage used last range page i → length i.numbers ≡ used
-numbers_used used last range page i h = let f = h.fits in grind (arith, nat_tests)

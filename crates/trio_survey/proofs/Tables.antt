@@ -1,5 +1,5 @@
 -- The tables after one file more, and as whole lists.
-use Rattle.std.proofs.Common.{◌≡◌, ℕ, suc, zero, ◌+◌, ◌<◌, ◌≤◌, Bool, true, false, not, ◌||◌, cond, eqb, ltb, List, [], ◌∷◌, ◌++◌, length, get_or, set, take, drop, Option, Some, None, Ok, sym, refl, ap, ◌∙◌, inl, inr, arith}
+use Rattle.std.proofs.Common.{◌≡◌, ℕ, suc, zero, ◌+◌, ◌<◌, ◌≤◌, Bool, true, false, not, cond, eqb, ltb, List, [], ◌∷◌, ◌++◌, length, get_or, set, take, drop, Option, Some, None, Ok, sym, refl, ap, ◌∙◌, inl, inr, arith}
 use Rattle.std.specs.List.{find, list_all}
 use Rattle.std.specs.Option.{option_and_then}
 use Rattle.std.proofs.lemmas.List.{append-nil, map-append, length-set, get_or-set_same, get_or-set_other, get_or_default, drop_more, take-append-le, take_more, length-map, get_or-map, same_lists}
@@ -123,21 +123,6 @@ all_first q seen [] h = refl
 all_first q seen (m ∷ ms) h =
     let parts = and_parts (q m.ino) (list_all q (numbers ms)) h in
     all_step q (is_among m.ino seen) seen m ms parts.0 (all_first q seen ms parts.1) (all_first q (seen ++ m.ino ∷ []) ms parts.1)
-
-cond_or : (x y : Bool) (a b : ℕ) → cond y a (cond x a b) ≡ cond (x || y) a b
-cond_or true true a b = refl
-cond_or true false a b = refl
-cond_or false y a b = refl
-
--- the pages of a file in two parts
-pub entered_in_two : (m : Met) (f : FileRead) (owners one two : List ℕ) (rows rows' : List (Option Row)) → ((p : ℕ) → p < length one → get_or one p 0 ≡ cond (is_among p f.chain.index) m.ino (get_or owners p 0)) → length one ≡ length owners → ((p : ℕ) → p < length two → get_or two p 0 ≡ cond (is_among p f.chain.blocks) m.ino (get_or one p 0)) → length two ≡ length one → rows' ≡ set rows m.ino (Some (row_by m f.body)) → Entered m f owners two rows rows'
-entered_in_two m f owners one two rows rows' a la b lb r = record {
-  owned = λ p l.
-      let l' : p < length one = omega (arith, lb) in
-      b p l ∙ ap (cond (is_among p f.chain.blocks) m.ino) (a p l') ∙ cond_or (is_among p f.chain.index) (is_among p f.chain.blocks) m.ino (get_or owners p 0) ∙ ap (λ t. cond t m.ino (get_or owners p 0)) (sym (is_among-append p f.chain.index f.chain.blocks));
-  rowed = r;
-  many_owners = lb ∙ la;
-}
 
 pub met_below : (n : ℕ) (files : List Met) (i : ℕ) (m : Met) → i < length files → get_or files i m ≡ m → all_below n (numbers files) ≡ true → m.ino < n
 met_below n files i m h at a =
