@@ -133,7 +133,6 @@ module _ (s : State) (lib : ℕ) (creds : Creds) (b : Bundle) (n : ℕ) (r : Row
   stands_now : In was.met (survey core pick)
   stands_now =
       let st = stays s k lib creds b given accepted n r row unheld un in
-      let q : Row = row_by was.met was.file.body in
       let body : st.met.body ≡ was.met.body = st.body ∙ ap (settled_body (settled s)) (sym was.number) ∙ settled_body_met (settled s) was.met k.fit k.verifies.sound (tables s k) was.stands in
       let same : st.met ≡ was.met =
       met_same st.met was.met (st.number ∙ sym was.number) (ap (λ (x : Row). x.kind) (sym st.row) ∙ ap (λ (x : Row). x.kind) was.row) (ap (λ (x : Row). x.parent) (sym st.row) ∙ ap (λ (x : Row). x.parent) was.row) (ap (λ (x : Row). x.page) (sym st.row) ∙ ap (λ (x : Row). x.page) was.row) (ap (λ (x : Row). x.slot) (sym st.row) ∙ ap (λ (x : Row). x.slot) was.row) body in

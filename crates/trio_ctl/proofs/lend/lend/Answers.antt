@@ -48,7 +48,6 @@ returns-clause-opened c = λ x e.
 pub returns-clause-lease : goal.returns-clause-lease
 returns-clause-lease c =
     let told = c.in_ok-checkpoint.ensures in
-    let chain = c.in_ok-checkpoint.checkpoint.chain in
     let asked = c.args.asked.now in
     let made = rw c.of.ensures at c.of-file.ensures in
     lease_is c.of-file.result c.of-2.result c.args.key asked.ino asked.entry c.in_ok-checkpoint.checkpoint.ino asked.lib asked.kind asked.body _ _ _ _ _ made told.ino c.take_pages.ensures.lent c.take_pages-2.ensures.lent c.of-2.ensures
