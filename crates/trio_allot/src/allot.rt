@@ -1,7 +1,6 @@
 //! What is out by allotment.
 
 ghost use Rattle.std.specs.Prelude.{◌≡◌, ◌+◌, ◌<◌, ◌≤◌, ◌∷◌, [], IfErr, IfOk, IfSome, IsSome, IsTrue, MatchOption, None, OnErr, OnOk, Some, All, length, map, slice_index_or, slice_set, take};
-ghost use Rattle.trio_page.specs.Field.{zeros};
 ghost use Rattle.trio_page.specs.Home.{raised};
 ghost use Rattle.trio_tables.specs.Free.{free_numbers, free_pages, is_free_number, is_free_page, numbers_where};
 ghost use Rattle.trio_allot.specs.Free.{FreeAreHome, RefusesBoth, RefusesInodes, RefusesPages};

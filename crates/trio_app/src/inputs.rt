@@ -1,6 +1,6 @@
 //! The image and the script of a run, read and judged.
 
-ghost use Rattle.std.specs.Prelude.{◌≡◌, Contains, IfOk, IfErr};
+ghost use Rattle.std.specs.Prelude.{Contains, IfOk, IfErr};
 ghost use Rattle.trio_io.specs.Shelf.{OnlyReads};
 ghost use Rattle.trio_app.specs.Inputs.{ReadsBoth};
 ghost use Rattle.trio_app.specs.inner.Stop.{BytesStop, ImageStop, InputStop, IsImage, ReadsImage, ReadsScript, ScriptStop};

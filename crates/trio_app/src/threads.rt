@@ -1,6 +1,6 @@
 //! The top call.
 
-ghost use Rattle.std.specs.Prelude.{◌≡◌, All, Contains};
+ghost use Rattle.std.specs.Prelude.{All, Contains};
 ghost use Rattle.trio_io.specs.Names.{texts_of};
 ghost use Rattle.trio_app.specs.Main.{Main};
 

@@ -1,6 +1,6 @@
 //! The words `turns IMAGE SCRIPT OUT`.
 
-ghost use Rattle.std.specs.Prelude.{◌≡◌, Contains};
+ghost use Rattle.std.specs.Prelude.{Contains};
 ghost use Rattle.trio_app.specs.Turns.{Turns};
 
 use crate::inputs::read_inputs;

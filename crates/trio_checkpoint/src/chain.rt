@@ -1,6 +1,6 @@
 //! The chain of a file, read from its index pages, which are copied on the way.
 
-ghost use Rattle.std.specs.Prelude.{◌≡◌, ◌≤◌, ◌++◌, IfOk, IfSome, IsOk, IsSome, IsTrue, Ok};
+ghost use Rattle.std.specs.Prelude.{◌≡◌, ◌≤◌, IfOk, IfSome, IsOk, IsSome, IsTrue, Ok};
 ghost use Rattle.trio_layout.specs.Chain.{chain_of};
 ghost use Rattle.trio_layout.specs.Index.{index_of};
 ghost use Rattle.trio_checkpoint.specs.Covered.{are_there, core_of};

@@ -1,6 +1,6 @@
 //! The controller.
 
-ghost use Rattle.std.specs.Prelude.{◌≡◌, ◌⊎◌, ◌≤◌, ◌++◌, ◌∷◌, [], Err, IfErr, IfOk, OnErr, None, Some, map, slice_index_or, vec_len};
+ghost use Rattle.std.specs.Prelude.{◌≡◌, ◌⊎◌, ◌≤◌, ◌++◌, ◌∷◌, [], Err, IfErr, IfOk, OnErr, None, Some, map, vec_len};
 ghost use Rattle.std.specs.Option.{IsSomeAnd};
 ghost use Rattle.trio_rights.specs.declared.rights.Need.TheVariants.{Write as ToWrite};
 ghost use Rattle.trio_rights.specs.May.{denier};

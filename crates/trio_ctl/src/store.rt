@@ -1,6 +1,6 @@
 //! Storing an image as its pages.
 
-ghost use Rattle.std.specs.Prelude.{◌≡◌, ◌+◌, ◌-◌, ◌*◌, ◌≤◌, ◌++◌, ◌<◌, ℕ, Some, IfOk, IsSome, length, None, slice_index_or};
+ghost use Rattle.std.specs.Prelude.{◌≡◌, ◌+◌, ◌-◌, ◌*◌, ◌≤◌, ◌++◌, ◌<◌, Some, IfOk, length, None, slice_index_or};
 ghost use Rattle.trio_tables.specs.Stored.{owner_bytes, shadow_bytes};
 ghost use Rattle.trio_layout.specs.Superblock.{page_count, superblock_bytes};
 ghost use Rattle.trio_ctl.specs.inner.Pages.{FillsPages, owner_pages, pages_from, shadow_pages, stored_pages};

@@ -1,6 +1,6 @@
 //! The content of a file in memory.
 
-ghost use Rattle.std.specs.Prelude.{◌≡◌, ◌-◌, length, min, take, drop, IfSome, None};
+ghost use Rattle.std.specs.Prelude.{◌≡◌, ◌-◌, length, min, take, drop, None};
 
 /// What stands in memory under a name.
 #[derive(Drop)]

@@ -5,7 +5,7 @@
 //! bytes that a reader gives or a writer takes. That the host's calls reach the file of that name,
 //! at that offset, is trusted.
 
-ghost use Rattle.std.specs.Prelude.{◌≡◌, ◌<◌, ◌≤◌, ◌↔◌, length, take, None, false, Contains, IsTrue, IfOk, OnOk, OnErr, List, ℕ};
+ghost use Rattle.std.specs.Prelude.{◌≡◌, ◌<◌, ◌≤◌, ◌↔◌, length, take, None, false, Contains, IsTrue, IfOk, OnOk, OnErr, ℕ};
 ghost use Rattle.std.specs.Io.KnownBytes.{Appends, Consumes, IsAtEnd};
 ghost use Rattle.trio_io.specs.Names.{texts_of, count_of};
 ghost use Rattle.trio_io.specs.Shelf.{Rose, NoFaults};

@@ -12,7 +12,7 @@ use Rattle.trio_layout.specs.Core.{Core, at_page, page_of}
 use Rattle.trio_layout.specs.Body.{body_of, block_count}
 use Rattle.trio_layout.specs.Chain.{index_count}
 use Rattle.trio_layout.specs.Entries.{Listed, entries_on, page_entries, with_names_apart, entries_of_kind}
-use Rattle.trio_layout.specs.Survey.{Met, Pick, plain, FileRead, file_of, survey, children, pages_of, row_by, row_of}
+use Rattle.trio_layout.specs.Survey.{Met, Pick, plain, FileRead, file_of, survey, children, pages_of, row_of}
 use Rattle.trio_layout.specs.Sound.{is_sound}
 use Rattle.trio_layout.specs.Image.{Image, IsFit, row_at, settled_body}
 use Rattle.trio_state.specs.State.{State, settled}

@@ -31,4 +31,3 @@ pub mod Ordered
 pub mod OthersOut
 pub mod HeldFiles
 pub mod KnownSteps
-pub mod SettledBodies

@@ -54,8 +54,6 @@ pub record IsMove (m : Move) : Type 0 where
 abbrev pub EveryMoveIsAStep : Type 0
 EveryMoveIsAStep = (run : AnyRun) (m : Move) → In m run.moves → IsMove m
 
--- ---- one connected tree
-
 -- ---- releases
 
 -- the answer is a verdict: neither want of memory, nor that the bundle is not closed

@@ -5,7 +5,7 @@ use Rattle.std.proofs.lemmas.List.Folds.{list_any-append, list_all_at}
 use Rattle.std.proofs.lemmas.Bool.{cases_eq, cases_lt, or_right, false≢true}
 use Rattle.std.proofs.lemmas.Bool.Decides.{nat_tests}
 use Rattle.trio_lists.specs.Lists.{is_among, are_new}
-use Rattle.trio_lists.specs.Marked.{AreMarked, all_below}
+use Rattle.trio_lists.specs.Marked.{MarksJust, all_below}
 
 or-false : (a : Bool) → (a || false) ≡ a
 or-false true = refl
@@ -44,8 +44,8 @@ are_new-push seen xs x =
     are_new-append seen xs (x ∷ []) ∙ ap (λ b. are_new seen xs && b) (and-true (not (is_among x (seen ++ xs))))
 
 -- a number that is marked
-pub AreMarked-set : (marks : List Bool) (these : List ℕ) (x : ℕ) → x < length marks → AreMarked marks these → AreMarked (set marks x true) (these ++ x ∷ [])
-AreMarked-set marks these x h m n l =
+pub MarksJust-set : (marks : List Bool) (these : List ℕ) (x : ℕ) → x < length marks → MarksJust marks these → MarksJust (set marks x true) (these ++ x ∷ [])
+MarksJust-set marks these x h m n l =
     elim (cases_eq n x) [
       | inl same ↦
           let e1 : get_or (set marks x true) n false ≡ true =
@@ -59,11 +59,11 @@ AreMarked-set marks these x h m n l =
     ]
 
 -- one number more of a list
-pub AreMarked-more : (marks : List Bool) (before these : List ℕ) (i : ℕ) → i < length these → get_or these i 0 < length marks → AreMarked marks (before ++ take i these) → AreMarked (set marks (get_or these i 0) true) (before ++ take (i + 1) these)
-AreMarked-more marks before these i h k m =
+pub MarksJust-more : (marks : List Bool) (before these : List ℕ) (i : ℕ) → i < length these → get_or these i 0 < length marks → MarksJust marks (before ++ take i these) → MarksJust (set marks (get_or these i 0) true) (before ++ take (i + 1) these)
+MarksJust-more marks before these i h k m =
     let e : before ++ take (i + 1) these ≡ (before ++ take i these) ++ get_or these i 0 ∷ [] =
     ap (λ l. before ++ l) (take_more these i 0 h) ∙ sym (append_assoc before (take i these) (get_or these i 0 ∷ [])) in
-    rw e (AreMarked-set marks (before ++ take i these) (get_or these i 0) k m)
+    rw e (MarksJust-set marks (before ++ take i these) (get_or these i 0) k m)
 
 pub are_new-more : (before these : List ℕ) (i : ℕ) → i < length these → are_new before (take (i + 1) these) ≡ (are_new before (take i these) && not (is_among (get_or these i 0) (before ++ take i these)))
 are_new-more before these i h =

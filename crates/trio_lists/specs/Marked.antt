@@ -4,8 +4,8 @@ use Rattle.std.specs.List.{list_all}
 use Rattle.trio_lists.specs.Lists.{is_among}
 
 -- just these numbers are marked
-abbrev pub AreMarked : List Bool → List ℕ → Type 0
-AreMarked marks these = (n : ℕ) → n < length marks → slice_index_or marks n false ≡ is_among n these
+abbrev pub MarksJust : List Bool → List ℕ → Type 0
+MarksJust marks these = (n : ℕ) → n < length marks → slice_index_or marks n false ≡ is_among n these
 
 -- each number has a mark of its own
 abbrev pub all_below : ℕ → List ℕ → Bool

@@ -13,7 +13,7 @@ use Rattle.trio_lease.specs.declared.parts.FreshParts.{FreshParts}
 use Rattle.trio_lease.specs.Shown.{LentFile, page_at, no_at}
 use Rattle.trio_lease.specs.Bundles.{Bundled}
 use Rattle.trio_lists.specs.Lists.{In}
-use Rattle.trio_lists.specs.Marked.{AreMarked}
+use Rattle.trio_lists.specs.Marked.{MarksJust}
 use Rattle.trio_state.specs.Views.{bundle_in, fresh_sheet, lent_sheet, written_in}
 use Rattle.trio_layout.specs.Proposed.{Written, bundle_sheets}
 use Rattle.trio_page.specs.Sheets.{Sheet, sheet_numbers, with_pages}
@@ -28,7 +28,7 @@ Pages = List (Option (List ℕ))
 pub put_none : (pages : Pages) (marks : List Bool) → ArePut [] pages pages marks marks
 put_none pages marks = record {
   pages = refl;
-  marked = λ seen m. subst (AreMarked marks) (sym (append-nil seen)) m;
+  marked = λ seen m. subst (MarksJust marks) (sym (append-nil seen)) m;
   many = refl;
 }
 
@@ -36,7 +36,7 @@ pub put_both : (xs ys : List Sheet) (a b c : Pages) (k l m : List Bool) → AreP
 put_both xs ys a b c k l m p q = record {
   pages = q.pages ∙ ap (with_pages ys) p.pages ∙ sym (with_pages-append xs ys a);
   marked = λ seen s.
-      subst (AreMarked m)
+      subst (MarksJust m)
       (append_assoc seen (sheet_numbers xs) (sheet_numbers ys) ∙ ap (λ ns. seen ++ ns) (sym (map-append (λ (x : Sheet). x.page) xs ys)))
       (q.marked (seen ++ sheet_numbers xs) (p.marked seen s));
   many = q.many ∙ p.many;

@@ -2,9 +2,8 @@
 
 ghost use Rattle.std.specs.Prelude.{◌≡◌, ◌≤◌, ◌<◌, ◌↔◌, IsTrue, None, false, is_some, length, slice_index_or};
 ghost use Rattle.std.specs.Option.{option_map};
-ghost use Rattle.trio_rights.specs.Row.{row_in};
 ghost use Rattle.trio_tables.specs.Row.{as_row};
-ghost use Rattle.trio_layout.specs.Allowed.{has_owner, same_row};
+ghost use Rattle.trio_layout.specs.Allowed.{same_row};
 ghost use Rattle.trio_rights.specs.Kind.{same_kind};
 ghost use Rattle.trio_proposal.specs.inner.Steps.{OwnersMay, RowsMay, owner_may, row_may};
 

@@ -1,12 +1,11 @@
 //! The pages of a bundle, copied into their places.
 
-ghost use Rattle.std.specs.Prelude.{◌≡◌, ◌<◌, ◌++◌, ◌∷◌, [], IfOk, OnOk, length, map, vec_len};
+ghost use Rattle.std.specs.Prelude.{◌≡◌, ◌<◌, ◌∷◌, [], IfOk, OnOk, length, map, vec_len};
 ghost use Rattle.std.specs.List.{flat_map};
-ghost use Rattle.trio_lists.specs.Lists.{In};
-ghost use Rattle.trio_lists.specs.Marked.{AreMarked};
-ghost use Rattle.trio_state.specs.Views.{bundle_in, fresh_sheet, lent_sheet, written_in};
+ghost use Rattle.trio_lists.specs.Marked.{MarksJust};
+ghost use Rattle.trio_state.specs.Views.{bundle_in, fresh_sheet, lent_sheet};
 ghost use Rattle.trio_layout.specs.Proposed.{bundle_pages, bundle_sheets};
-ghost use Rattle.trio_page.specs.Sheets.{Sheet, with_pages};
+ghost use Rattle.trio_page.specs.Sheets.{with_pages};
 ghost use Rattle.trio_proposal.specs.inner.Steps.{ArePut, AreWithin, lease_sheets};
 
 use crate::marks::{mark, no_marks};
@@ -22,7 +21,7 @@ pub(crate) fn put_bundle(
 ) -> Result<Vec<bool>, NoMemory>
     requires { AreWithin (length home.old.pages) (bundle_sheets (bundle_in bundle.now)) }
     ensures pages { OnOk result (home.new.pages ≡ with_pages (bundle_sheets (bundle_in bundle.now)) home.old.pages) }
-    ensures marks { IfOk result (λ marks. AreMarked marks.items (bundle_pages (bundle_in bundle.now))) }
+    ensures marks { IfOk result (λ marks. MarksJust marks.items (bundle_pages (bundle_in bundle.now))) }
     ensures len { IfOk result (λ marks. vec_len marks ≡ length home.old.pages) }
 {
     let mut marks = no_marks(alloc, home.len())?;

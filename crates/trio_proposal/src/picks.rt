@@ -1,6 +1,6 @@
 //! The bodies that live files keep.
 
-ghost use Rattle.std.specs.Prelude.{◌≡◌, ◌+◌, ◌++◌, ◌∷◌, ◌*◌, ◌<◌, [], List, IfOk, IsSome, None, length, slice_index_or, unwrap_or, vec_len};
+ghost use Rattle.std.specs.Prelude.{◌≡◌, ◌+◌, ◌++◌, ◌∷◌, ◌*◌, ◌<◌, [], List, IfOk, IsSome, None, slice_index_or, unwrap_or, vec_len};
 ghost use Rattle.std.specs.Option.{option_map};
 ghost use Rattle.trio_rights.specs.Row.{row_in};
 ghost use Rattle.trio_lease.specs.Shown.{LentFile};

@@ -1,6 +1,6 @@
 //! What one library has.
 
-ghost use Rattle.std.specs.Prelude.{◌≡◌, ◌+◌, ◌<◌, ◌≤◌, ◌++◌, ◌∷◌, ◌↔◌, [], Err, IfErr, IfOk, IfSome, IsErr, IsFalse, IsNone, IsOk, IsTrue, None, OnErr, OnOk, Some, if◌then◌else◌, length, map};
+ghost use Rattle.std.specs.Prelude.{◌≡◌, ◌+◌, ◌<◌, ◌++◌, ◌∷◌, ◌↔◌, [], Err, IfErr, IfOk, IfSome, IsFalse, IsNone, IsOk, IsTrue, None, OnErr, OnOk, Some, if◌then◌else◌, length, map};
 ghost use Rattle.trio_state.specs.Views.{bundle_in, fresh_sheet};
 ghost use Rattle.trio_raw.specs.Has.{bundle_of, has_all_of, is_nothing, nothing, poked, poked_block, poked_body, poked_index, poked_sheet, rest_of, whole_bundle, with_file, with_fresh};
 ghost use Rattle.trio_raw.specs.Held.{HasSpare, HasRoomFor, NoPlaceLost, file_of};

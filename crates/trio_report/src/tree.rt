@@ -1,6 +1,6 @@
 //! The tree of an image.
 
-ghost use Rattle.std.specs.Prelude.{◌≡◌, ◌<◌, ◌+◌, ◌^◌, [], ◌∷◌, ◌++◌, IfOk, OnOk, map, reverse};
+ghost use Rattle.std.specs.Prelude.{◌≡◌, ◌<◌, ◌+◌, ◌^◌, [], ◌++◌, IfOk, OnOk, map, reverse};
 ghost use Rattle.trio_layout.specs.Survey.{met_in, plain, root_of};
 ghost use Rattle.trio_survey.specs.Seen.{listed_seen, file_seen, met_seen, read_seen};
 ghost use Rattle.trio_survey.specs.Stored.{core_in};

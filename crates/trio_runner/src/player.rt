@@ -1,6 +1,6 @@
 //! A library's lines, played.
 
-ghost use Rattle.std.specs.Prelude.{◌≡◌, ◌≤◌, ◌∷◌, ◌++◌, [], IfOk, OnOk, Some, length, map};
+ghost use Rattle.std.specs.Prelude.{◌≡◌, ◌≤◌, ◌++◌, IfOk, OnOk, Some, length, map};
 ghost use Rattle.trio_state.specs.Given.{GivenTo};
 ghost use Rattle.trio_allot.specs.Out.{inode_numbers, page_numbers};
 ghost use Rattle.trio_state.specs.Views.{bundle_in, fresh_sheet};

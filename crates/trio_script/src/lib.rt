@@ -14,7 +14,7 @@
 //! takes a time of k log k. Beside the answer, memory is taken for the words of one line at a time.
 #![tactic(auto)]
 
-ghost use Rattle.std.specs.Prelude.{◌≡◌, ◌∷◌, ◌++◌, ◌<◌, ◌≤◌, length, IfOk, MatchOption, MatchResult, None, Some, if◌then◌else◌};
+ghost use Rattle.std.specs.Prelude.{◌≡◌, ◌∷◌, ◌<◌, length, IfOk, MatchOption, MatchResult, None, Some};
 ghost use Rattle.std.specs.List.{list_any};
 ghost use Rattle.trio_script.specs.inner.Ends.{EndsLine, IsPlain};
 ghost use Rattle.trio_script.specs.Script.{lines_of, is_silent, names_library, is_library_line, unbuilt_line, unbuilt_at, script_lines, IsUnbuilt};

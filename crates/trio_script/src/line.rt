@@ -2,7 +2,6 @@
 
 ghost use Rattle.std.specs.Prelude.{◌≡◌, IfOk, map};
 ghost use Rattle.trio_script.specs.Said.{grant_in, allot_in, whole_spot, part_spot, poked, poke_in, released, release_in, said_in, line_said};
-ghost use Rattle.trio_script.specs.Words.{number_of, hex_of};
 
 use crate::word::{parts, read_hex, read_list, read_number};
 use std::alloc::Global;

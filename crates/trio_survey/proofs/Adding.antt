@@ -8,7 +8,7 @@ use Rattle.trio_lists.specs.Marked.{all_below}
 use Rattle.trio_layout.specs.Entries.{Listed, place_of}
 use Rattle.trio_layout.specs.Survey.{Met, Pick, numbers, first_listed, met_in}
 use Rattle.trio_layout.proofs.QueueLaws.{first_listed-append, among-first_listed}
-use Rattle.trio_lists.proofs.Marked.{AreMarked-set, below_at}
+use Rattle.trio_lists.proofs.Marked.{MarksJust-set, below_at}
 use Rattle.trio_survey.specs.declared.file.FaultPlace.{FaultPlace}
 use Rattle.trio_survey.specs.declared.file.EntryRead.{EntryRead}
 use Rattle.trio_survey.specs.Seen.{place_seen}
@@ -43,7 +43,7 @@ among_now pick d old now es n e =
 AreMarked-add : (files : List Met) (marks : List Bool) (m : Met) → m.ino < length marks → get_or marks m.ino false ≡ false → AreMarked files marks → AreMarked (files ++ m ∷ []) (set marks m.ino true)
 AreMarked-add files marks m h e a =
     record {
-      marked = rw (map_push (λ x. x.ino) files m) (AreMarked-set marks (numbers files) m.ino h a.marked);
+      marked = rw (map_push (λ x. x.ino) files m) (MarksJust-set marks (numbers files) m.ino h a.marked);
       counted =
           let s = sum_by-set (λ b. cond b 1 0) marks m.ino true false h in
           let f : Bool → ℕ = λ b. cond b 1 0 in

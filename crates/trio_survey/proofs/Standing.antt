@@ -9,7 +9,7 @@ use Rattle.std.proofs.lemmas.Bool.{and_from, and_parts}
 use Rattle.trio_rights.specs.Row.{Row}
 use Rattle.trio_lists.specs.Lists.{In, is_among, are_new}
 use Rattle.trio_layout.specs.Core.{Core, Location}
-use Rattle.trio_lists.specs.Marked.{AreMarked, all_below}
+use Rattle.trio_lists.specs.Marked.{MarksJust, all_below}
 use Rattle.trio_layout.specs.Queue.{pass_on, pass, queue}
 use Rattle.trio_layout.specs.Survey.{Met, FileRead, file_of, first_listed, numbers, children, children_in, Pick, root_of, met_in, survey, pages_of, pages_in}
 use Rattle.trio_layout.specs.Sound.{IsSound, are_in_grammar, are_listed_once, listed_numbers, listed_pages, rows_table, owners_table, FailsAt}
@@ -56,9 +56,9 @@ survey_is core pick i files marks used twice s h =
 
 -- what the calls for one file leave
 pub record Visited (core : Core) (pick : Pick) (m : Met) (f : FileRead) (files files' : List Met) (marks' used used' : List Bool) (index block : Option ℕ) (entry : Option FaultPlace) : Type 0 where
-  pub pages : (before : List ℕ) → AreMarked used before → AreMarked used' (before ++ (f.chain.index ++ f.chain.blocks))
-  pub first_index : (before : List ℕ) → AreMarked used before → FirstRepeat before f.chain.index index
-  pub first_block : (before : List ℕ) → AreMarked used before → FirstRepeat (before ++ f.chain.index) f.chain.blocks block
+  pub pages : (before : List ℕ) → MarksJust used before → MarksJust used' (before ++ (f.chain.index ++ f.chain.blocks))
+  pub first_index : (before : List ℕ) → MarksJust used before → FirstRepeat before f.chain.index index
+  pub first_block : (before : List ℕ) → MarksJust used before → FirstRepeat (before ++ f.chain.index) f.chain.blocks block
   pub added : files' ≡ files ++ first_listed (numbers files) (map (met_in pick m.ino) f.entries)
   pub marked : AreMarked files' marks'
   pub fit : all_below (core.inodes + 1) (numbers_of f.entries) ≡ true

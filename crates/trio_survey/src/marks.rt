@@ -1,7 +1,7 @@
 //! Marks over numbers, by which the walk knows what was listed before.
 
 ghost use Rattle.std.specs.Prelude.{◌≡◌, ◌++◌, ℕ, List, IfOk, OnOk, map, true, vec_len};
-ghost use Rattle.trio_lists.specs.Marked.{AreMarked, all_below};
+ghost use Rattle.trio_lists.specs.Marked.{MarksJust, all_below};
 ghost use Rattle.trio_layout.specs.Survey.{first_listed, met_in, numbers};
 ghost use Rattle.trio_survey.specs.Picks.{pick_of};
 ghost use Rattle.trio_survey.specs.Seen.{listed_seen, met_seen};
@@ -15,9 +15,9 @@ use trio_page::NoMemory;
 /// Marks the numbers, and answers the first that had its mark.
 pub fn mark_new(marks: &mut Vec<bool>, these: &[u32]) -> Option<u32>
     requires { all_below (vec_len marks.old) these.now ≡ true }
-    ensures marked { (before : List ℕ) → AreMarked marks.old.items before → AreMarked marks.new.items (before ++ these.now) }
+    ensures marked { (before : List ℕ) → MarksJust marks.old.items before → MarksJust marks.new.items (before ++ these.now) }
     ensures len { vec_len marks.new ≡ vec_len marks.old }
-    ensures first { (before : List ℕ) → AreMarked marks.old.items before → FirstRepeat before these.now result }
+    ensures first { (before : List ℕ) → MarksJust marks.old.items before → FirstRepeat before these.now result }
 {
     let mut repeated = None;
     for n in these {

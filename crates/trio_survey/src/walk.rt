@@ -1,6 +1,6 @@
 //! The walk over the files that are met, level by level.
 
-ghost use Rattle.std.specs.Prelude.{◌≡◌, ◌+◌, ◌<◌, ◌≤◌, ℕ, List, Option, [], IfErr, IfOk, OnOk, map, take, vec_len};
+ghost use Rattle.std.specs.Prelude.{◌≡◌, ◌+◌, ◌<◌, ◌≤◌, ℕ, List, Option, IfErr, IfOk, OnOk, vec_len};
 ghost use Rattle.trio_layout.specs.Survey.{Pick};
 ghost use Rattle.trio_survey.specs.Picks.{pick_of};
 ghost use Rattle.trio_survey.specs.inner.Walk.{file_repeat, framed, IsFault, WalkStands, WalkTables};

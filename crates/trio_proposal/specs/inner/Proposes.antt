@@ -1,7 +1,7 @@
 -- What the code's tables have of a bundle. Cited by private functions alone.
 use Rattle.std.specs.Prelude.{◌≡◌, ℕ, List, Option, None, length, map, slice_index_or, unwrap_or}
 use Rattle.trio_rights.specs.Row.{Row}
-use Rattle.trio_lists.specs.Marked.{AreMarked}
+use Rattle.trio_lists.specs.Marked.{MarksJust}
 use Rattle.trio_lease.specs.Bundles.{Bundled}
 use Rattle.trio_state.specs.Views.{bundle_in}
 use Rattle.trio_layout.specs.Proposed.{bundle_pages}
@@ -15,7 +15,7 @@ pub record Proposes (old : List (Option (List ℕ))) (settled : List ℕ) (rows 
   pub kept : AreKept old settled rows p.handed.written.items p.kept.items
   pub picks : ArePicked rows p.kept.items p.picks
   pub root : p.root ≡ unwrap_or (slice_index_or p.handed.written.items 1 None) settled
-  pub numbers : AreMarked p.handed.numbers.items (map (λ n. n.no) b.inodes)
+  pub numbers : MarksJust p.handed.numbers.items (map (λ n. n.no) b.inodes)
   pub many_numbers : length p.handed.numbers.items ≡ length rows
-  pub pages : AreMarked p.handed.pages.items (bundle_pages (bundle_in b))
+  pub pages : MarksJust p.handed.pages.items (bundle_pages (bundle_in b))
   pub many_pages : length p.handed.pages.items ≡ length old

@@ -6,7 +6,7 @@ use Rattle.trio_rights.specs.Row.{Row, row_in}
 use Rattle.trio_rights.specs.declared.rights.Creds.{Creds}
 use Rattle.trio_layout.specs.Entries.{body_in_slot}
 use Rattle.trio_lists.specs.Lists.{In}
-use Rattle.trio_lists.specs.Marked.{AreMarked}
+use Rattle.trio_lists.specs.Marked.{MarksJust}
 use Rattle.trio_layout.specs.Survey.{Met}
 use Rattle.trio_lease.specs.Shown.{LentFile}
 use Rattle.trio_page.specs.Sheets.{Sheet, sheet_numbers, with_pages}
@@ -59,7 +59,7 @@ ArePicked rows kept picks = (n : ℕ) → slice_index_or picks n None ≡ picked
 -- these pages were put in place of others, and their numbers marked
 pub record ArePut (sheets : List Sheet) (before after : List (Option (List ℕ))) (marks marks' : List Bool) : Type 0 where
   pub pages : after ≡ with_pages sheets before
-  pub marked : (seen : List ℕ) → AreMarked marks seen → AreMarked marks' (seen ++ sheet_numbers sheets)
+  pub marked : (seen : List ℕ) → MarksJust marks seen → MarksJust marks' (seen ++ sheet_numbers sheets)
   pub many : length marks' ≡ length marks
 
 -- each of these pages has its place among so many

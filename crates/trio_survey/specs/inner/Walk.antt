@@ -5,7 +5,7 @@ use Rattle.trio_rights.specs.Row.{Row}
 use Rattle.trio_lists.specs.Lists.{is_among, are_new}
 use Rattle.trio_layout.specs.Core.{Core, Location}
 use Rattle.trio_layout.specs.Entries.{Listed, place_of}
-use Rattle.trio_lists.specs.Marked.{AreMarked, all_below}
+use Rattle.trio_lists.specs.Marked.{MarksJust, all_below}
 use Rattle.trio_layout.specs.Queue.{queue}
 use Rattle.trio_layout.specs.Survey.{Met, FileRead, Pick, children, numbers, owner_of, root_of, row_by, row_of}
 use Rattle.trio_layout.specs.Sound.{are_in_grammar, are_listed_once, listed_numbers, listed_pages, FailsAt, ListsNumberAgain, ListsPageAgain}
@@ -49,7 +49,7 @@ FirstEntry before these first =
 
 -- the files are those that are marked, each once
 pub record AreMarked (files : List Met) (marks : List Bool) : Type 0 where
-  pub marked : AreMarked marks (numbers files)
+  pub marked : MarksJust marks (numbers files)
   pub counted : count_by (λ b. b) marks ≡ length files
 
 -- at this file and place a number or a page is listed again
@@ -82,7 +82,7 @@ pub record Stands (core : Core) (pick : Pick) (i : ℕ) (files : List Met) (mark
   pub good : are_in_grammar core (take i files) ≡ true
   pub marked : AreMarked files marks
   pub same : (n : ℕ) → is_among n (numbers files) ≡ is_among n (1 ∷ listed_numbers core pick (take i files))
-  pub pages : AreMarked used (listed_pages core (take i files))
+  pub pages : MarksJust used (listed_pages core (take i files))
   pub once : IsFirstRepeat core pick (take i files) twice
   pub fit : all_below (core.inodes + 1) (numbers files) ≡ true
   pub some : all_some (numbers files) ≡ true

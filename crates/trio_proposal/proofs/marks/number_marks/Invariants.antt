@@ -1,9 +1,9 @@
 use Rattle.std.proofs.Common.{◌≡◌, ◌+◌, map, take, vec_len}
-use Rattle.trio_lists.specs.Marked.{AreMarked}
+use Rattle.trio_lists.specs.Marked.{MarksJust}
 use Rattle.trio_proposal.proofs.marks.number_marks.Given as goal
 
 abbrev pub invariant-loop-number : goal.invariant-loop-number
 invariant-loop-number l = record {
-  marked : AreMarked l.marks.items (map (λ n. n.no) (take l.number-index l.numbers));
+  marked : MarksJust l.marks.items (map (λ n. n.no) (take l.number-index l.numbers));
   len : vec_len l.marks ≡ l.inodes + 1;
 }

@@ -1,6 +1,6 @@
 use Rattle.std.proofs.Common.{◌++◌, [], length, map, sym, ap, ◌∙◌, subst}
 use Rattle.std.specs.List.{flat_map}
-use Rattle.trio_lists.specs.Marked.{AreMarked}
+use Rattle.trio_lists.specs.Marked.{MarksJust}
 use Rattle.trio_state.specs.Views.{fresh_sheet}
 use Rattle.trio_page.specs.Sheets.{sheet_numbers, with_pages}
 use Rattle.trio_lists.proofs.Members.{In-left, In-right}
@@ -37,4 +37,4 @@ returns-clause-marks c =
     let one = subst (λ ws. ArePut (flat_map lease_sheets ws) c.args.home.now.pages c.put_leases.new.home.pages c.in_ok-marks.marks.items c.put_leases.new.marks.items) c.writes.ensures c.in_ok-put_leases.ensures in
     let two = subst (λ ps. ArePut (map fresh_sheet ps) c.put_leases.new.home.pages c.put_fresh.new.home.pages c.put_leases.new.marks.items c.put_fresh.new.marks.items) c.pages.ensures c.in_ok-put_fresh.ensures in
     let all = put_both (flat_map lease_sheets b.writes) (map fresh_sheet b.pages) c.args.home.now.pages c.put_leases.new.home.pages c.put_fresh.new.home.pages c.in_ok-marks.marks.items c.put_leases.new.marks.items c.put_fresh.new.marks.items one two in
-    subst (λ xs. AreMarked c.put_fresh.new.marks.items (sheet_numbers xs)) (sym (sheets_are b)) (all.marked [] c.in_ok-marks.ensures.marks)
+    subst (λ xs. MarksJust c.put_fresh.new.marks.items (sheet_numbers xs)) (sym (sheets_are b)) (all.marked [] c.in_ok-marks.ensures.marks)

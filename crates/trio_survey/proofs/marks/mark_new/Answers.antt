@@ -1,6 +1,6 @@
 use Rattle.std.proofs.Common.{false, ◌≡◌, ◌+◌, ◌++◌, ◌∷◌, [], ◌<◌, length, vec_len, get_or, take, sym, ◌∙◌, arith}
 use Rattle.std.proofs.lemmas.List.{take_all, take_more, get_or_read}
-use Rattle.trio_lists.proofs.Marked.{AreMarked-more, below_at}
+use Rattle.trio_lists.proofs.Marked.{MarksJust-more, below_at}
 use Rattle.trio_survey.proofs.Repeats.{first_marked, first_unmarked}
 use Rattle.trio_survey.proofs.marks.mark_new.Goals as goal
 use Rattle.trio_survey.proofs.marks.mark_new.Goals.{then-index, else-index}
@@ -15,7 +15,7 @@ loop-n-preserved c =
     let was = sym (get_or_read marks n c.index.result.now below c.index.ensures false) in
     let more : take (i + 1) these ≡ take i these ++ n ∷ [] = take_more these i 0 (omega arith) in
     record {
-      marked = λ before m. AreMarked-more marks before these i (omega arith) below (c.loop-n.invariant.marked before m);
+      marked = λ before m. MarksJust-more marks before these i (omega arith) below (c.loop-n.invariant.marked before m);
       first = λ before m.
           let seen = sym (c.loop-n.invariant.marked before m n below) ∙ was in
           elim c.if-index.branch [

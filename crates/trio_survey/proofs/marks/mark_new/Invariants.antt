@@ -1,11 +1,11 @@
 use Rattle.std.proofs.Common.{◌≡◌, ℕ, List, ◌++◌, take, vec_len}
-use Rattle.trio_lists.specs.Marked.{AreMarked}
+use Rattle.trio_lists.specs.Marked.{MarksJust}
 use Rattle.trio_survey.specs.inner.Walk.{FirstRepeat}
 use Rattle.trio_survey.proofs.marks.mark_new.Given as goal
 
 abbrev pub invariant-loop-n : goal.invariant-loop-n
 invariant-loop-n l = record {
-  marked : (before : List ℕ) → AreMarked l.fn.marks.items before → AreMarked l.marks.items (before ++ take l.n-index l.these);
-  first : (before : List ℕ) → AreMarked l.fn.marks.items before → FirstRepeat before (take l.n-index l.these) l.repeated;
+  marked : (before : List ℕ) → MarksJust l.fn.marks.items before → MarksJust l.marks.items (before ++ take l.n-index l.these);
+  first : (before : List ℕ) → MarksJust l.fn.marks.items before → FirstRepeat before (take l.n-index l.these) l.repeated;
   len : vec_len l.marks ≡ vec_len l.fn.marks;
 }
