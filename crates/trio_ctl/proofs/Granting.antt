@@ -50,21 +50,7 @@ use Rattle.trio_ctl.specs.inner.Lending.{IsLendable, StandsSomewhere, body_stand
 use Rattle.trio_ctl.specs.Open.{Opened, grant_on, keyed, page_lent}
 use Rattle.trio_allot.specs.Out.{OutByNumber}
 use Rattle.trio_ctl.proofs.LendLemmas.{same_chain, sheets_same}
-use Rattle.trio_lists.proofs.Filters.{In-find}
-
--- ---- lists
-
-found_in : {X : Type 0} (p : X → Bool) (xs : List X) (x : X) → find p xs ≡ Some x → In x xs × (p x ≡ true)
-found_in p [] x e = absurd cc
-found_in p (y ∷ ys) x e = by (λ later. found_in p ys x later) (p y) refl e
-  where
-    by : (find p ys ≡ Some x → In x ys × (p x ≡ true)) → (b : Bool) → p y ≡ b → (if b then Some y else find p ys) ≡ Some x → In x (y ∷ ys) × (p x ≡ true)
-    by again true test e = (let same : y ≡ x = cc e in (inl (sym same), subst (λ z. p z ≡ true) same test))
-    by again false test e = (let r = again e in (inr r.0, r.1))
-
-    by : (In x ys → (z : X) × (find p ys ≡ Some z)) → (b : Bool) → p y ≡ b → (z : X) × ((if b then Some y else find p ys) ≡ Some z)
-    by again true first = (y, refl)
-    by again false first = again (later first)
+use Rattle.trio_lists.proofs.Filters.{In-find, find-In}
 
 -- ---- who excludes
 
@@ -275,7 +261,7 @@ module _ (s : Superblock) (pages : List (Option (List ℕ))) (rows : List (Optio
   page_on_there page sheets i =
       let x = map-In (λ (x : Sheet). x.page) page sheets i in
       let f = In-find (λ (x : Sheet). x.page == page) sheets x.0 x.1 (eq-eqb x.0.page page (sym x.2)) in
-      let g = found_in (λ (x : Sheet). x.page == page) sheets f.0 f.1 in
+      let g = find-In (λ (x : Sheet). x.page == page) sheets f.0 f.1 in
       (f.0, g.0, eqb-true f.0.page page g.1, ap (option_map (λ (x : Sheet). x.bytes)) f.1)
 
   page_on_none : (page : ℕ) (sheets : List Sheet) → (In page (sheet_numbers sheets) → ⊥) → page_on page sheets ≡ None
@@ -283,7 +269,7 @@ module _ (s : Superblock) (pages : List (Option (List ℕ))) (rows : List (Optio
     where
       by : (o : Option Sheet) → find (λ (x : Sheet). x.page == page) sheets ≡ o → option_map (λ (x : Sheet). x.bytes) o ≡ None
       by None e = refl
-      by (Some x) e = (let g = found_in (λ (x : Sheet). x.page == page) sheets x e in absurd (none (subst (λ n. In n (sheet_numbers sheets)) (eqb-true x.page page g.1) (In-map (λ (x : Sheet). x.page) x sheets g.0))))
+      by (Some x) e = (let g = find-In (λ (x : Sheet). x.page == page) sheets x e in absurd (none (subst (λ n. In n (sheet_numbers sheets)) (eqb-true x.page page g.1) (In-map (λ (x : Sheet). x.page) x sheets g.0))))
 
   -- the page of a live file's place, as it is settled
   standing_page : (ino : ℕ) (r : Row) → row_at st.home ino ≡ Some r → ino ≢ 1 → option_or (page_lent files r.parent r.page) (get_or pages r.page None) ≡ page_of core r.page
@@ -296,7 +282,7 @@ module _ (s : Superblock) (pages : List (Option (List ℕ))) (rows : List (Optio
         | inr lent ↦
             let o = map-In (λ (o : Opened). o.grant) lent.0 files lent.1 in
             let f = In-find (λ (o : Opened). o.grant.ino == r.parent) files o.0 o.1 (eq-eqb o.0.grant.ino r.parent (ap (λ (g : OpenGrant). g.ino) (sym o.2) ∙ lent.3)) in
-            let g = found_in (λ (o : Opened). o.grant.ino == r.parent) files f.0 f.1 in
+            let g = find-In (λ (o : Opened). o.grant.ino == r.parent) files f.0 f.1 in
             let same : lent.0 ≡ f.0.grant = write_alone st.open_grants lent.0 f.0.grant k.kept.apart lent.1 (In-map (λ (o : Opened). o.grant) f.0 files g.0) lent.2 (lent.3 ∙ sym (eqb-true f.0.grant.ino r.parent g.1)) in
             let p = page_on_there r.page lent.0.checkpoint lent.6 in
             ap (λ (q : Option Opened). option_or (option_and_then (λ (o : Opened). page_on r.page o.grant.checkpoint) q) (get_or pages r.page None)) f.1
@@ -313,7 +299,7 @@ module _ (s : Superblock) (pages : List (Option (List ℕ))) (rows : List (Optio
 
       by_found : ((o : Opened) → In o files → In r.page (sheet_numbers o.grant.checkpoint) → ⊥) → (q : Option Opened) → find (λ (o : Opened). o.grant.ino == r.parent) files ≡ q → option_and_then (λ (o : Opened). page_on r.page o.grant.checkpoint) q ≡ None
       by_found none None e = refl
-      by_found none (Some o) e = page_on_none r.page o.grant.checkpoint (none o (found_in (λ (o : Opened). o.grant.ino == r.parent) files o e).0)
+      by_found none (Some o) e = page_on_none r.page o.grant.checkpoint (none o (find-In (λ (o : Opened). o.grant.ino == r.parent) files o e).0)
 
   pub stands_somewhere : (ino : ℕ) (r : Row) → row_at st.home ino ≡ Some r → ino ≢ 1 → StandsSomewhere pages files r
   stands_somewhere ino r row other =

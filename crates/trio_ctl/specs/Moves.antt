@@ -5,7 +5,7 @@ use Rattle.trio_rights.specs.declared.rights.LibNo.{LibNo}
 use Rattle.trio_lease.specs.declared.parts.LentPage.{LentPage}
 use Rattle.trio_lease.specs.Shown.{LentFile}
 use Rattle.trio_allot.specs.Out.{OutByNumber}
-use Rattle.trio_layout.specs.MarksJust.{all_below}
+use Rattle.trio_lists.specs.Marked.{all_below}
 use Rattle.trio_state.specs.Views.{lent_sheet}
 use Rattle.trio_page.specs.Sheets.{Sheet, sheet_numbers}
 use Rattle.trio_state.specs.Bundles.{uncovered_of}

@@ -12,7 +12,7 @@ use trio_tables::{Owners, Shadow};
 
 /// The pages that store an image: the superblock, the tables, and copies of the core pages at home,
 /// all zero where one is absent. `NoMemory`: there was no memory for them.
-#[tactic(auto, unfolding(crate::specs::Pages::stored_pages))]
+#[tactic(auto, unfolding(crate::specs::inner::Pages::stored_pages))]
 pub fn stored_pages(
     alloc: Global,
     home: &mut Home,

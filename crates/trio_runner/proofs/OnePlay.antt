@@ -5,16 +5,19 @@ use Rattle.trio_rights.specs.Row.{Row}
 use Rattle.trio_nodes.specs.declared.grant.GrantKind.TheVariants.{Write}
 use Rattle.trio_layout.specs.Image.{row_at}
 use Rattle.trio_state.specs.State.{OpenGrant, State}
+use Rattle.trio_state.specs.Run.{Move}
+use Rattle.trio_state.specs.Tells.{Why}
 use Rattle.trio_state.specs.Step.{Event, Release, CtlAnswer, Granted, NotGranted, Given, NoPages, NoInodes, Done, Accepted, Refused, NotClosed, Settled, ModeSet, NotModeSet, NoMemory, Step}
 use Rattle.trio_laws.specs.Known.{Known, known, plain_state, is_refusal, SameAnswer}
 use Rattle.trio_laws.proofs.KnownSteps.{known_decides, same_event_same_answer}
 use Rattle.trio_raw.specs.Has.{Has, whole_bundle, is_nothing}
 use Rattle.trio_raw.specs.Laws.{lent_file, with_lent}
-use Rattle.trio_script.specs.Said.{Said, grant_write, allot, poke, release}
-use Rattle.trio_script.specs.Script.{SaidLine}
-use Rattle.trio_report.specs.Answers.{CtlAnswer as Told}
+use Rattle.trio_script.specs.declared.line.RawLine.{RawLine}
+use Rattle.trio_script.specs.declared.line.RawLine.TheVariants.{GrantWrite, Allot as AllotLine, Poke, Release as ReleaseLine}
+use Rattle.trio_script.specs.declared.ScriptLine.{ScriptLine}
+use Rattle.trio_report.specs.declared.answer.LineAnswer.{LineAnswer}
 use Rattle.trio_report.specs.declared.report.EndAnswer.{EndAnswer}
-use Rattle.trio_runner.specs.Play.{Player, Moved, PlaysLine, Plays, EndsAlone, EndsAll, PlaysEnd, event_of, told_of, end_of, told_alone, has_alone, has_lent, has_after, at_start}
+use Rattle.trio_runner.specs.Play.{Player, PlaysLine, Plays, EndsAlone, EndsAll, PlaysEnd, event_of, told_of, end_of, told_alone, has_alone, has_lent, has_after, at_start}
 use Rattle.trio_runner.specs.PlayLaws.{Stands}
 use Rattle.trio_runner.specs.OnePlay.{PlayedIsOne}
 use Rattle.trio_runner.proofs.Lines.{LineEnd, IsAlone, IsAsked, line_end, line_stands, start_stands}
@@ -24,28 +27,40 @@ record Alike (p q : Player) : Type 0 where
   known_same : known p.state ≡ known q.state
   has_same : p.has ≡ q.has
 
--- a refusal tells nothing
-refusal_is : (a : CtlAnswer) → is_refusal a ≡ true → a ≡ Refused
-refusal_is Refused e = refl
-refusal_is (Granted children) e = absurd (false≢true e)
-refusal_is (NotGranted fault) e = absurd (false≢true e)
-refusal_is (Given pages numbers) e = absurd (false≢true e)
-refusal_is (NoPages wanted free) e = absurd (false≢true e)
-refusal_is (NoInodes wanted free) e = absurd (false≢true e)
-refusal_is Done e = absurd (false≢true e)
-refusal_is Accepted e = absurd (false≢true e)
-refusal_is (NotClosed ino) e = absurd (false≢true e)
-refusal_is Settled e = absurd (false≢true e)
-refusal_is ModeSet e = absurd (false≢true e)
-refusal_is (NotModeSet fault) e = absurd (false≢true e)
-refusal_is NoMemory e = absurd (false≢true e)
+-- a refusal has a cause
+refusal_why : (a : CtlAnswer) → is_refusal a ≡ true → (why : Why) × (a ≡ Refused why)
+refusal_why (Refused why) e = (why, refl)
+refusal_why (Granted children) e = absurd (false≢true e)
+refusal_why (NotGranted fault) e = absurd (false≢true e)
+refusal_why (Given pages numbers) e = absurd (false≢true e)
+refusal_why (NoPages wanted free) e = absurd (false≢true e)
+refusal_why (NoInodes wanted free) e = absurd (false≢true e)
+refusal_why Done e = absurd (false≢true e)
+refusal_why Accepted e = absurd (false≢true e)
+refusal_why (NotClosed ino) e = absurd (false≢true e)
+refusal_why Settled e = absurd (false≢true e)
+refusal_why ModeSet e = absurd (false≢true e)
+refusal_why (NotModeSet fault) e = absurd (false≢true e)
+refusal_why NoMemory e = absurd (false≢true e)
 
-one_answer : (a b : CtlAnswer) → SameAnswer a b → a ≡ b
-one_answer a b (inl e) = e
-one_answer a b (inr r) = refusal_is a r.0 ∙ sym (refusal_is b r.1)
+-- what goes by an answer, but for the cause of a refusal, is the same for two that are the same but for that
+by_answer : {X : Type 0} (f : CtlAnswer → X) → ((why why' : Why) → f (Refused why) ≡ f (Refused why'))
+    → (a b : CtlAnswer) → SameAnswer a b → f a ≡ f b
+by_answer f same a b (inl e) = ap f e
+by_answer f same a b (inr r) =
+    let x = refusal_why a r.0 in
+    let y = refusal_why b r.1 in
+    ap f x.1 ∙ same x.0 y.0 ∙ sym (ap f y.1)
+
+has_after-refused : (lib : ℕ) (s : State) (has : Has) (said : RawLine) (why why' : Why)
+    → has_after lib s has said (Refused why) ≡ has_after lib s has said (Refused why')
+has_after-refused lib s has (GrantWrite ino) why why' = refl
+has_after-refused lib s has (AllotLine pages numbers) why why' = refl
+has_after-refused lib s has (Poke at offset bytes) why why' = refl
+has_after-refused lib s has (ReleaseLine inos pages numbers) why why' = refl
 
 -- what is told is no want of memory
-told_some : (a : CtlAnswer) (told : Told) → told_of a ≡ Some told → a ≢ NoMemory
+told_some : (a : CtlAnswer) (told : LineAnswer) → told_of a ≡ Some told → a ≢ NoMemory
 told_some a told is e = (let wrong : None ≡ Some told = sym (ap told_of e) ∙ is in cc wrong)
 
 end_some : (a : CtlAnswer) (end : EndAnswer) → end_of a ≡ Some end → a ≢ NoMemory
@@ -58,40 +73,40 @@ has_lent_plain lib s has ino None = refl
 has_lent_plain lib s has ino (Some r) = ap (λ (g : OpenGrant). with_lent has (lent_file g))
     ((known_decides s).openings lib ino Write r)
 
-has_after_plain : (lib : ℕ) (s : State) (has : Has) (said : Said) (a : CtlAnswer)
+has_after_plain : (lib : ℕ) (s : State) (has : Has) (said : RawLine) (a : CtlAnswer)
     → has_after lib (plain_state (known s)) has said a ≡ has_after lib s has said a
-has_after_plain lib s has (allot pages numbers) a = refl
-has_after_plain lib s has (poke at offset bytes) a = refl
-has_after_plain lib s has (release inos pages numbers) a = refl
-has_after_plain lib s has (grant_write ino) (Granted children) = has_lent_plain lib s has ino (row_at s.home ino)
-has_after_plain lib s has (grant_write ino) Refused = refl
-has_after_plain lib s has (grant_write ino) (NotGranted fault) = refl
-has_after_plain lib s has (grant_write ino) (Given pages numbers) = refl
-has_after_plain lib s has (grant_write ino) (NoPages wanted free) = refl
-has_after_plain lib s has (grant_write ino) (NoInodes wanted free) = refl
-has_after_plain lib s has (grant_write ino) Done = refl
-has_after_plain lib s has (grant_write ino) Accepted = refl
-has_after_plain lib s has (grant_write ino) (NotClosed n) = refl
-has_after_plain lib s has (grant_write ino) Settled = refl
-has_after_plain lib s has (grant_write ino) ModeSet = refl
-has_after_plain lib s has (grant_write ino) (NotModeSet fault) = refl
-has_after_plain lib s has (grant_write ino) NoMemory = refl
+has_after_plain lib s has (AllotLine pages numbers) a = refl
+has_after_plain lib s has (Poke at offset bytes) a = refl
+has_after_plain lib s has (ReleaseLine inos pages numbers) a = refl
+has_after_plain lib s has (GrantWrite ino) (Granted children) = has_lent_plain lib s has ino (row_at s.home ino)
+has_after_plain lib s has (GrantWrite ino) (Refused why) = refl
+has_after_plain lib s has (GrantWrite ino) (NotGranted fault) = refl
+has_after_plain lib s has (GrantWrite ino) (Given pages numbers) = refl
+has_after_plain lib s has (GrantWrite ino) (NoPages wanted free) = refl
+has_after_plain lib s has (GrantWrite ino) (NoInodes wanted free) = refl
+has_after_plain lib s has (GrantWrite ino) Done = refl
+has_after_plain lib s has (GrantWrite ino) Accepted = refl
+has_after_plain lib s has (GrantWrite ino) (NotClosed n) = refl
+has_after_plain lib s has (GrantWrite ino) Settled = refl
+has_after_plain lib s has (GrantWrite ino) ModeSet = refl
+has_after_plain lib s has (GrantWrite ino) (NotModeSet fault) = refl
+has_after_plain lib s has (GrantWrite ino) NoMemory = refl
 
-has_after_same : (lib : ℕ) (p q : Player) (said : Said) (a b : CtlAnswer) → Alike p q → a ≡ b
+has_after_same : (lib : ℕ) (p q : Player) (said : RawLine) (a b : CtlAnswer) → Alike p q → SameAnswer a b
     → has_after lib p.state p.has said a ≡ has_after lib q.state q.has said b
 has_after_same lib p q said a b like e =
     sym (has_after_plain lib p.state p.has said a)
     ∙ ap (λ k. has_after lib (plain_state k) p.has said a) like.known_same
     ∙ has_after_plain lib q.state p.has said a
     ∙ ap (λ h. has_after lib q.state h said a) like.has_same
-    ∙ ap (has_after lib q.state q.has said) e
+    ∙ by_answer (has_after lib q.state q.has said) (has_after-refused lib q.state q.has said) a b e
 
 -- a line
-record OneLine (told told' : Told) (p' q' : Player) : Type 0 where
+record OneLine (told told' : LineAnswer) (p' q' : Player) : Type 0 where
   one_told : told ≡ told'
   alike : Alike p' q'
 
-one_line : (lib : ℕ) (p q : Player) (said : Said) (told told' : Told) (moves moves' : List Moved) (p' q' : Player)
+one_line : (lib : ℕ) (p q : Player) (said : RawLine) (told told' : LineAnswer) (moves moves' : List Move) (p' q' : Player)
     → Stands lib p → Stands lib q → Alike p q → PlaysLine lib p said told moves p'
     → PlaysLine lib q said told' moves' q' → OneLine told told' p' q'
 one_line lib p q said told told' moves moves' p' q' h k like one two =
@@ -119,25 +134,25 @@ one_line lib p q said told told' moves moves' p' q' h k like one two =
         subst (λ x. Step q.state x b.answer q'.state) one_event b.step in
         let r = same_event_same_answer p.state q.state event a.answer b.answer p'.state q'.state h.kept k.kept
         like.known_same a.step step (told_some a.answer told a.told_is) (told_some b.answer told' b.told_is) in
-        let answers : a.answer ≡ b.answer = one_answer a.answer b.answer r.0 in
-        let tolds : Some told ≡ Some told' = sym a.told_is ∙ ap told_of answers ∙ b.told_is in
+        let tolds : Some told ≡ Some told' =
+        sym a.told_is ∙ by_answer told_of (λ why why'. refl) a.answer b.answer r.0 ∙ b.told_is in
         record {
           one_told = cc tolds;
           alike = record {
             known_same = r.1;
             has_same = a.has
-                ∙ has_after_same lib p q said a.answer b.answer like answers ∙ sym b.has;
+                ∙ has_after_same lib p q said a.answer b.answer like r.0 ∙ sym b.has;
           };
         }
 
 -- lines, one after another
-record OnePart (lib : ℕ) (tolds tolds' : List Told) (p' q' : Player) : Type 0 where
+record OnePart (lib : ℕ) (tolds tolds' : List LineAnswer) (p' q' : Player) : Type 0 where
   one_told : tolds ≡ tolds'
   alike : Alike p' q'
   stands : Stands lib p'
   stands' : Stands lib q'
 
-one_part : (lib : ℕ) (p q : Player) (lines : List SaidLine) (tolds tolds' : List Told) (moves moves' : List Moved)
+one_part : (lib : ℕ) (p q : Player) (lines : List ScriptLine) (tolds tolds' : List LineAnswer) (moves moves' : List Move)
     (p' q' : Player) → Stands lib p → Stands lib q → Alike p q → Plays lib p lines tolds moves p'
     → Plays lib q lines tolds' moves' q' → OnePart lib tolds tolds' p' q'
 one_part lib p q [] [] [] moves moves' p' q' h k like one two = record {
@@ -155,11 +170,11 @@ one_part lib p q [] (t ∷ ts) tolds' moves moves' p' q' h k like one two = absu
 one_part lib p q (l ∷ lines) [] tolds' moves moves' p' q' h k like one two = absurd one
 one_part lib p q (l ∷ lines) (t ∷ ts) [] moves moves' p' q' h k like one two = absurd two
 one_part lib p q (l ∷ lines) (t ∷ ts) (u ∷ us) moves moves' p' q' h k like one two =
-    let first = one_line lib p q l.said t u one.first two.first one.middle two.middle h k like one.line two.line in
+    let first = one_line lib p q l.line t u one.first two.first one.middle two.middle h k like one.line two.line in
     let rest =
     one_part lib one.middle two.middle lines ts us one.others two.others p' q'
-    (line_stands lib p l.said t one.first one.middle h one.line)
-    (line_stands lib q l.said u two.first two.middle k two.line) first.alike one.rest two.rest in
+    (line_stands lib p l.line t one.first one.middle h one.line)
+    (line_stands lib q l.line u two.first two.middle k two.line) first.alike one.rest two.rest in
     record {
       one_told = ap (λ x. x ∷ ts) first.one_told ∙ ap (λ l. u ∷ l) rest.one_told;
       alike = rest.alike;
@@ -173,7 +188,7 @@ record OneEnd (end end' : EndAnswer) (p' q' : Player) : Type 0 where
   known_same : known p'.state ≡ known q'.state
 
 -- the end, by whether the library has something
-end_by : (lib : ℕ) (p : Player) (end : EndAnswer) (moves : List Moved) (p' : Player) → PlaysEnd lib p end moves p'
+end_by : (lib : ℕ) (p : Player) (end : EndAnswer) (moves : List Move) (p' : Player) → PlaysEnd lib p end moves p'
     → ((is_nothing p.has ≡ true) × EndsAlone p end moves p') ⊎ ((is_nothing p.has ≡ false) × EndsAll lib p end moves p')
 end_by lib p end moves p' plays =
     let Yes : Type 0 = EndsAlone p end moves p' in
@@ -183,7 +198,7 @@ end_by lib p end moves p' plays =
       | inr f ↦ inr (f, MatchBool-at_false Yes No f plays)
     ]
 
-one_end_of : (lib : ℕ) (p q : Player) (end end' : EndAnswer) (moves moves' : List Moved) (p' q' : Player)
+one_end_of : (lib : ℕ) (p q : Player) (end end' : EndAnswer) (moves moves' : List Move) (p' q' : Player)
     → Stands lib p → Stands lib q → Alike p q → EndsAll lib p end moves p' → EndsAll lib q end' moves' q'
     → OneEnd end end' p' q'
 one_end_of lib p q end end' moves moves' p' q' h k like a b =
@@ -192,10 +207,11 @@ one_end_of lib p q end end' moves moves' p' q' h k like a b =
     subst (λ x. Step q.state (Release lib (whole_bundle x)) b.answer q'.state) (sym like.has_same) b.step in
     let r = same_event_same_answer p.state q.state event a.answer b.answer p'.state q'.state h.kept k.kept
     like.known_same a.step step (end_some a.answer end a.end_is) (end_some b.answer end' b.end_is) in
-    let ends : Some end ≡ Some end' = sym a.end_is ∙ ap end_of (one_answer a.answer b.answer r.0) ∙ b.end_is in
+    let ends : Some end ≡ Some end' = sym a.end_is
+    ∙ by_answer end_of (λ why why'. refl) a.answer b.answer r.0 ∙ b.end_is in
     record { one_end = cc ends; known_same = r.1 }
 
-one_end : (lib : ℕ) (p q : Player) (end end' : EndAnswer) (moves moves' : List Moved) (p' q' : Player) → Stands lib p
+one_end : (lib : ℕ) (p q : Player) (end end' : EndAnswer) (moves moves' : List Move) (p' q' : Player) → Stands lib p
     → Stands lib q → Alike p q → PlaysEnd lib p end moves p' → PlaysEnd lib q end' moves' q' → OneEnd end end' p' q'
 one_end lib p q end end' moves moves' p' q' h k like one two =
     by_ends (end_by lib p end moves p' one) (end_by lib q end' moves' q' two)
