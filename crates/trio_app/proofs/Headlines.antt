@@ -1,5 +1,6 @@
 -- The claim, of a script that is played on an image that verifies.
-use Rattle.std.proofs.Common.{List, subst, inl, inr}
+use Rattle.std.proofs.Common.{List, subst, inl, inr, sym, ap, ◌∙◌}
+use Rattle.std.specs.Prelude.{is_some}
 use Rattle.std.proofs.lemmas.Bool.{false≢true}
 use Rattle.trio_tables.specs.Out.{NoneOut}
 use Rattle.trio_rights.specs.declared.rights.Creds.{Creds}
@@ -19,6 +20,7 @@ use Rattle.trio_runner.specs.Play.{Played, moves_of}
 use Rattle.trio_runner.proofs.EndFree.{ends_free}
 use Rattle.trio_runner.proofs.Runs.{played_is_trace}
 use Rattle.trio_app.specs.Headline.{Headline}
+use Rattle.trio_tables.proofs.OutLemmas.{lib_at-none_out}
 
 headline_of : (image : Image) (creds : List Creds) (lines : List ScriptLine) (played : Played image creds lines) → IsFit image.core → Verifies image → IsWhole image → Headline image creds (moves_of played)
 headline_of image creds lines played fit verifies whole =
@@ -48,7 +50,7 @@ headline_of image creds lines played fit verifies whole =
 
 -- the image of a controller that has just started is whole
 started_whole : (image : Image) (creds : List Creds) → Kept (start image creds) → IsWhole image
-started_whole image creds k = λ page gone core. elim (k.absent page gone core) [ inl lent ↦ absurd (false≢true lent) | inr out ↦ absurd (false≢true out) ]
+started_whole image creds k = λ page gone core. elim (k.absent page gone core) [ inl lent ↦ absurd (false≢true lent) | inr out ↦ absurd (false≢true (sym (ap is_some (lib_at-none_out image.core.range.end page)) ∙ out)) ]
 
 pub headline : (image : Image) (creds : List Creds) (lines : List ScriptLine) (played : Played image creds lines) → Kept (start image creds) → Headline image creds (moves_of played)
 headline image creds lines played k = headline_of image creds lines played k.fit k.verifies (started_whole image creds k)

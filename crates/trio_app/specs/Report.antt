@@ -8,9 +8,9 @@ use Rattle.trio_script.specs.declared.ScriptLine.{ScriptLine}
 use Rattle.trio_report.specs.declared.report.LibraryKind.TheVariants.{Raw}
 use Rattle.trio_report.specs.declared.report.EndAnswer.{EndAnswer}
 use Rattle.trio_report.specs.Answers.{answer_line}
-use Rattle.trio_report.specs.Report.{Counts as Totals, counts_text, end_line, lib_heading, tree_text}
+use Rattle.trio_report.specs.Report.{counts_text, end_line, lib_heading, tree_text}
 use Rattle.trio_report.specs.declared.answer.LineAnswer.{LineAnswer}
-use Rattle.trio_report.specs.declared.report.Counts.{Counts}
+use Rattle.trio_report.specs.declared.report.Counts.{Counts as Totals}
 
 -- the counts of an image, as the report tells them
 abbrev pub told_counts : Counts → Totals

@@ -78,7 +78,7 @@ fn report(
 
 /// The counts of an image, as the report tells them.
 fn counts(image: &Image) -> Counts
-    ensures { counts_seen result ≡ told_counts (counts_of (image_in image.now.superblock image.now.pages)) }
+    ensures { result ≡ told_counts (counts_of (image_in image.now.superblock image.now.pages)) }
 {
     let counts = image.counts();
     Counts {

@@ -2,9 +2,8 @@ use Rattle.std.proofs.Common.{◌≡◌, ◌++◌, ◌∙◌, ap}
 use Rattle.trio_survey.specs.Stored.{core_in}
 use Rattle.trio_layout.specs.Tree.{tree_of}
 use Rattle.trio_report.specs.declared.report.LibraryKind.TheVariants.{Raw}
-use Rattle.trio_report.specs.Report.{Counts as Totals, counts_text, end_line, lib_heading, tree_text}
-use Rattle.trio_report.specs.Seen.{answer_seen}
-use Rattle.trio_script.specs.Seen.{script_line_seen}
+use Rattle.trio_report.specs.Report.{counts_text, end_line, lib_heading, tree_text}
+use Rattle.trio_report.specs.declared.report.Counts.{Counts as Totals}
 use Rattle.trio_app.specs.Report.{answers_text}
 use Rattle.trio_app.proofs.Ends.{joined}
 use Rattle.trio_app.proofs.run.report.Goals as goal
@@ -20,4 +19,4 @@ returns c =
     let ended = c.in_ok-put_end.ensures in
     let counts = c.in_ok-put_counts.ensures in
     joined _ _ _ _ _ _ _ _ _ _ _ c.new-text.ensures.items heading answers ended put counts
-    ∙ ap (λ (k : Totals). lib_heading 1 Raw ++ answers_text (map script_line_seen c.args.lines.now) (map answer_seen c.args.answers.now) ++ end_line c.args.end ++ tree_text (tree_of (core_in c.args.image.superblock c.args.image.pages)) ++ counts_text k) c.counts-counts.ensures
+    ∙ ap (λ (k : Totals). lib_heading 1 Raw ++ answers_text c.args.lines.now c.args.answers.now ++ end_line c.args.end ++ tree_text (tree_of (core_in c.args.image.superblock c.args.image.pages)) ++ counts_text k) c.counts-counts.ensures
