@@ -15,6 +15,12 @@ use Rattle.trio_lists.proofs.Members.{In-left, In-right, In-cases, flat_map-In, 
 use Rattle.trio_surveys.proofs.Local.{reads_from}
 use Rattle.trio_surveys.proofs.Places.{Placed, placed_from, entry_numbered}
 
+-- the body of a child is what its pick says
+pub picked_met : (pick : Pick) (d : ℕ) (m : Met) (l : Listed) → m ≡ met_in pick d l → m.body ≡ pick m.parent m.page m.slot m.ino l.body
+picked_met pick d m l e =
+    let there : (met_in pick d l).body ≡ pick d l.page l.slot l.entry.ino l.body = refl in
+    subst (λ (x : Met). x.body ≡ pick x.parent x.page x.slot x.ino l.body) (sym e) there
+
 -- how many numbers below n are not among these
 abbrev left_of : ℕ → List ℕ → ℕ
 left_of zero seen = 0
