@@ -6,7 +6,8 @@ use Rattle.trio_lists.specs.Lists.{In, are_new, is_among}
 use Rattle.trio_lists.specs.Sorting.{inserted_by, sorted_by}
 use Rattle.trio_lists.proofs.Members.{is_among-In, In-cases, In-map, map-In}
 use Rattle.trio_lists.proofs.New.{are_new-before}
-use Rattle.trio_lists.proofs.Newness.{new_joined, new_tail}
+use Rattle.trio_lists.proofs.New.{are_new-joined}
+use Rattle.trio_lists.proofs.Gathered.{new_tail}
 
 cond_in : {X : Type 0} (b : Bool) (x y z : X) (zs ws : List X) → (In x ws → (x ≡ y) ⊎ In x zs) → In x (cond b (y ∷ (z ∷ zs)) (z ∷ ws)) → (x ≡ y) ⊎ In x (z ∷ zs)
 cond_in true x y z zs ws h i = i
@@ -48,7 +49,7 @@ with_new key seen w (z ∷ zs) new out none =
     let head : not (is_among (key w) seen) ≡ true = not_from_false (is_among (key w) seen) (false_from_ne_true (is_among (key w) seen) (λ t. out (is_among-In (key w) seen t))) in
     with_step key (leb (key w) (key z)) seen w z zs
     (and_from (not (is_among (key w) seen)) (are_new (seen ++ key w ∷ []) (key z ∷ map key zs)) head
-    (new_joined seen (key w ∷ []) (seen ++ key w ∷ []) (key z ∷ map key zs) (λ n i. In-cases n seen (key w ∷ []) i) new
+    (are_new-joined seen (key w ∷ []) (seen ++ key w ∷ []) (key z ∷ map key zs) (λ n i. In-cases n seen (key w ∷ []) i) new
     (λ p i k. elim k [ inl e ↦ none (subst (λ n. In n (key z ∷ map key zs)) e i) | inr no' ↦ no' ])))
     (and_from (not (is_among (key z) seen)) (are_new (seen ++ key z ∷ []) (map key (inserted_by key w zs))) parts.0
     (with_new key (seen ++ key z ∷ []) w zs parts.1

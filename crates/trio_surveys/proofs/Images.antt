@@ -13,7 +13,7 @@ use Rattle.trio_layout.specs.Survey.{Met, Pick, plain, FileRead, file_of, survey
 use Rattle.trio_layout.specs.Image.{IsFit, Image, row_at, settled_body, body_by_row}
 use Rattle.trio_surveys.proofs.Cores.{listed_is_core}
 use Rattle.trio_surveys.proofs.Local.{read_at}
-use Rattle.trio_lists.proofs.Newness.{one_keyed}
+use Rattle.trio_lists.proofs.Gathered.{one_keyed}
 use Rattle.trio_lists.proofs.Members.{In-map, flat_map-In, is_among-In, option_and_then-Some}
 use Rattle.trio_surveys.proofs.Owned.{sound_parts, owner_is}
 use Rattle.trio_lists.proofs.New.{are_new-before, are_new-fewer}

@@ -11,7 +11,7 @@ use Rattle.trio_rights.specs.declared.kind.Kind.{Kind}
 use Rattle.trio_lists.proofs.Counting.{count_from, count_in}
 use Rattle.trio_lists.proofs.Filters.{some_one}
 use Rattle.trio_lists.proofs.Members.{In-flat, list_all-In, list_all-each, flat_map-In, map-In}
-use Rattle.trio_lists.proofs.Newness.{each_new, new_beside, new_spread, new_tail, one_of}
+use Rattle.trio_lists.proofs.Gathered.{each_new, new_beside, new_spread, new_tail, one_of}
 use Rattle.trio_lists.proofs.New.{are_new-before, are_new-fewer}
 use Rattle.trio_lists.specs.Counting.{count_up}
 use Rattle.trio_lists.specs.Lists.{In, are_new}

@@ -4,7 +4,7 @@ use Rattle.std.proofs.lemmas.Bool.{and_parts}
 use Rattle.std.proofs.lemmas.List.{map-append}
 use Rattle.std.specs.List.{flat_map}
 use Rattle.trio_lists.proofs.Members.{In-left, list_all-each, flat_map-In, map-In}
-use Rattle.trio_lists.proofs.Newness.{gathered_new, new_beside}
+use Rattle.trio_lists.proofs.Gathered.{gathered_new, new_beside}
 use Rattle.trio_lists.specs.Lists.{In, are_new}
 use Rattle.trio_lists.proofs.Marked.{are_new-append}
 use Rattle.trio_layout.proofs.QueueLaws.{met_by}

@@ -6,7 +6,7 @@ use Rattle.std.specs.List.{flat_map, list_all}
 use Rattle.std.specs.Prelude.{map}
 use Rattle.trio_rights.specs.Row.{Row, row_in}
 use Rattle.trio_lists.proofs.Members.{In-flat, list_all-In, flat_map-In}
-use Rattle.trio_lists.proofs.Newness.{repeated, not_new, and_false, all_false}
+use Rattle.trio_lists.proofs.Gathered.{repeated, not_new, and_false, all_false}
 use Rattle.trio_lists.specs.Lists.{In, are_new, is_among}
 use Rattle.trio_layout.specs.Allowed.{all_up_to}
 use Rattle.trio_layout.specs.Broken.{Breaks, BreaksEdges, BreaksGrammar, BreaksOwning, BreaksRights, EntryAt, judged_listings}

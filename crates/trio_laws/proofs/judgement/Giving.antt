@@ -4,7 +4,7 @@ use Rattle.std.specs.List.{flat_map}
 use Rattle.trio_rights.specs.Row.{Row, row_in}
 use Rattle.trio_lists.proofs.Filters.{some_one}
 use Rattle.trio_lists.proofs.Members.{map-In}
-use Rattle.trio_lists.proofs.Newness.{each_new, one_of}
+use Rattle.trio_lists.proofs.Gathered.{each_new, one_of}
 use Rattle.trio_lists.proofs.New.{are_new-fewer}
 use Rattle.trio_lists.specs.Lists.{In, are_new}
 use Rattle.trio_layout.specs.Case.{Case, case_of}

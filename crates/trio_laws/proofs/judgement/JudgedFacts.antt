@@ -6,7 +6,7 @@ use Rattle.std.specs.Prelude.{map}
 use Rattle.trio_rights.specs.Row.{Row, row_in}
 use Rattle.trio_lists.proofs.Filters.{filter-In, In-filter}
 use Rattle.trio_lists.proofs.Members.{is_among-In, In-flat, In-left, In-map, In-right, In-is_among, flat_map-In, map-In}
-use Rattle.trio_lists.proofs.Newness.{each_new, filtered_in, filtered_new, gathered_new, new_beside, one_of}
+use Rattle.trio_lists.proofs.Gathered.{each_new, filtered_in, filtered_new, gathered_new, new_beside, one_of}
 use Rattle.trio_lists.specs.Lists.{In, are_new, is_among}
 use Rattle.trio_layout.proofs.QueueLaws.{met_by}
 use Rattle.trio_layout.specs.Case.{Case, bundle_core, case_of}

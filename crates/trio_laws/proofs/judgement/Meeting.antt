@@ -8,7 +8,7 @@ use Rattle.std.specs.Str.{bytes_eq}
 use Rattle.trio_rights.specs.Row.{Row, row_in}
 use Rattle.trio_lists.proofs.Filters.{some_one}
 use Rattle.trio_lists.proofs.Members.{is_among-In, list_all-each, In-is_among, flat_map-In}
-use Rattle.trio_lists.proofs.Newness.{new_spread}
+use Rattle.trio_lists.proofs.Gathered.{new_spread}
 use Rattle.trio_lists.proofs.New.{are_new-fewer}
 use Rattle.trio_lists.specs.Lists.{In, are_new, is_among}
 use Rattle.trio_layout.specs.Accept.{is_accepted}

@@ -9,7 +9,7 @@ use Rattle.std.specs.Str.{bytes_eq}
 use Rattle.trio_rights.specs.Row.{Row}
 use Rattle.trio_lists.proofs.Filters.{some_one}
 use Rattle.trio_lists.proofs.Members.{is_among-In, list_all-In, In-is_among}
-use Rattle.trio_lists.proofs.Newness.{one_keyed}
+use Rattle.trio_lists.proofs.Gathered.{one_keyed}
 use Rattle.trio_lists.specs.Lists.{In, is_among}
 use Rattle.trio_layout.specs.Accept.{is_accepted}
 use Rattle.trio_layout.specs.Allowed.{has_kind, has_owner, is_allowed, keeps_rows, lists_own, may_stand}

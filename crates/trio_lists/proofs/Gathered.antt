@@ -1,37 +1,17 @@
--- Lists of numbers of which none is seen before or stands earlier, and lists of distinct numbers that are gathered from the
--- members of another list, whatever the order.
-use Rattle.std.proofs.Common.{◌≡◌, ℕ, Bool, true, false, cond, ◌&&◌, not, List, [], ◌∷◌, ◌++◌, sym, refl, ap, ◌∙◌, subst, inl, inr, ◌⊎◌, append_assoc}
+-- Lists of distinct numbers that are gathered from the members of another list, whatever the order.
+use Rattle.std.proofs.Common.{◌≡◌, ℕ, Bool, true, false, cond, ◌&&◌, not, List, [], ◌∷◌, ◌++◌, sym, refl, ap, ◌∙◌, subst, inl, inr, ◌⊎◌}
 use Rattle.std.specs.Prelude.{map}
 use Rattle.std.specs.List.{flat_map, filter, list_all}
 use Rattle.std.proofs.lemmas.List.{append-nil, map-append}
-use Rattle.std.proofs.lemmas.Bool.{and_parts, and_from, not-true, not_from_false, false_from_ne_true, both_ways, false≢true}
+use Rattle.std.proofs.lemmas.Bool.{and_parts, and_from, not-true, false_from_ne_true, both_ways, false≢true}
 use Rattle.trio_lists.specs.Lists.{In, is_among, are_new}
-use Rattle.trio_lists.proofs.Members.{In-left, In-right, In-cases, In-flat, flat_map-In, In-map, map-In, is_among-In, In-is_among}
+use Rattle.trio_lists.proofs.Members.{In-flat, flat_map-In, In-map, map-In}
 use Rattle.trio_lists.proofs.Filters.{filter-In}
 use Rattle.trio_lists.proofs.Marked.{are_new-append}
-use Rattle.trio_lists.proofs.New.{are_new-before, are_new-fewer}
-
--- what is new to one list, and in none of another, is new to both
-pub new_joined : (a b c xs : List ℕ) → ((n : ℕ) → In n c → In n a ⊎ In n b) → are_new a xs ≡ true → ((p : ℕ) → In p xs → In p b → ⊥) → are_new c xs ≡ true
-new_joined a b c [] sub new apart = refl
-new_joined a b c (x ∷ xs) sub new apart =
-    let parts = and_parts (not (is_among x a)) (are_new (a ++ x ∷ []) xs) new in
-    let out : is_among x c ≡ false =
-    false_from_ne_true (is_among x c)
-    (λ t. elim (sub x (is_among-In x c t)) [
-      | inl i ↦ both_ways (is_among x a) (not-true (is_among x a) parts.0) (In-is_among x a i)
-      | inr j ↦ apart x (inl refl) j
-    ]) in
-    and_from (not (is_among x c)) (are_new (c ++ x ∷ []) xs) (not_from_false (is_among x c) out)
-    (new_joined (a ++ x ∷ []) b (c ++ x ∷ []) xs
-    (λ n i. elim (In-cases n c (x ∷ []) i) [
-      | inl k ↦ elim (sub n k) [ inl p ↦ inl (In-left n a (x ∷ []) p) | inr q ↦ inr q ]
-      | inr k ↦ inl (In-right n a (x ∷ []) k)
-    ])
-    parts.1 (λ p i j. apart p (inr i) j))
+use Rattle.trio_lists.proofs.New.{are_new-before, are_new-fewer, are_new-joined}
 
 pub new_beside : (seen xs : List ℕ) → are_new [] xs ≡ true → ((p : ℕ) → In p xs → In p seen → ⊥) → are_new seen xs ≡ true
-new_beside seen xs new apart = new_joined [] seen seen xs (λ n i. inr i) new apart
+new_beside seen xs new apart = are_new-joined [] seen seen xs (λ n i. inr i) new apart
 
 -- a list of distinct numbers with one before it
 pub new_tail : (x : ℕ) (xs : List ℕ) → are_new [] (x ∷ xs) ≡ true → (are_new (x ∷ []) xs ≡ true) × (are_new [] xs ≡ true)
