@@ -8,7 +8,6 @@ use Rattle.std.proofs.lemmas.Slice.Eq.{bytes_eq-Decides}
 use Rattle.trio_rights.specs.Row.{Row}
 use Rattle.trio_rights.specs.declared.kind.Kind.{Kind}
 use Rattle.trio_rights.specs.declared.rights.Creds.{Creds}
-use Rattle.trio_nodes.specs.declared.grant.GrantKind.TheVariants.{Write, Hold}
 use Rattle.trio_layout.specs.Chain.{Chain}
 use Rattle.trio_layout.specs.declared.body.Body.{Body}
 use Rattle.trio_layout.specs.Body.{body_of}

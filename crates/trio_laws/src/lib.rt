@@ -8,5 +8,5 @@ pub mod contents;
 pub mod ends;
 pub mod known;
 pub mod laws;
-pub mod rules;
 pub mod outs;
+pub mod rules;

@@ -186,6 +186,7 @@ fronts_listed kids starts (suc k) m i =
       | inr first ↦
           inr (subst (λ l. In m l) (sym goes) (In-right m (flat_map kids w.passed) (flat_map kids w.level) (first_are_listed _ _ m first)))
     ]
+
 -- ---- the same walk, one file after another
 
 pass_many-more : (kids : Met → List Met) (n m : ℕ) (f : Front) → pass_many kids m (pass_many kids n f) ≡ pass_many kids (n + m) f

@@ -26,4 +26,3 @@ nowhere = record { page = 0; slot = 0 }
 -- a page as a whole
 abbrev pub at_page : ℕ → Location
 at_page page = record { page = page; slot = 0 }
-

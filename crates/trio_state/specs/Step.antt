@@ -108,12 +108,12 @@ Comes o answer s' = (answer ≡ o.answer) × (s' ≡ o.after)
 pub data ReleaseEnd (s : State) (lib : ℕ) (b : Bundle) (answer : CtlAnswer) (s' : State) : Type 0 where
   Parted : (n : ℕ) → parted_hold s lib b ≡ Some n → answer ≡ NotClosed n → s' ≡ s → ReleaseEnd s lib b answer s'
   IsAccepted :
-    parted_hold s lib b ≡ None → IsTrue (is_accepted (settled s) (creds_of s lib) b)
-    → answer ≡ Accepted → Ends s lib b (next (settled s) b) s' → ReleaseEnd s lib b answer s'
+      parted_hold s lib b ≡ None → IsTrue (is_accepted (settled s) (creds_of s lib) b)
+      → answer ≡ Accepted → Ends s lib b (next (settled s) b) s' → ReleaseEnd s lib b answer s'
   IsRefused :
-    parted_hold s lib b ≡ None → IsFalse (is_accepted (settled s) (creds_of s lib) b)
-    → (why : Why) → answer ≡ Refused why → Tells s lib b why
-    → Ends s lib b (refused_image (settled s) b) s' → ReleaseEnd s lib b answer s'
+      parted_hold s lib b ≡ None → IsFalse (is_accepted (settled s) (creds_of s lib) b)
+      → (why : Why) → answer ≡ Refused why → Tells s lib b why
+      → Ends s lib b (refused_image (settled s) b) s' → ReleaseEnd s lib b answer s'
 
 -- what each call does, where memory is there
 abbrev pub Does : State → Event → CtlAnswer → State → Type 0

@@ -14,9 +14,8 @@ use Rattle.trio_layout.specs.Image.{IsFit, Image, row_at, settled_body, body_by_
 use Rattle.trio_surveys.proofs.Cores.{listed_is_core}
 use Rattle.trio_surveys.proofs.Local.{read_at}
 use Rattle.trio_lists.proofs.Gathered.{one_keyed}
-use Rattle.trio_lists.proofs.Members.{In-map, flat_map-In, is_among-In, option_and_then-Some}
+use Rattle.trio_lists.proofs.Members.{flat_map-In, is_among-In, option_and_then-Some}
 use Rattle.trio_surveys.proofs.Owned.{sound_parts, owner_is}
-use Rattle.trio_lists.proofs.New.{are_new-before, are_new-fewer}
 use Rattle.trio_surveys.proofs.Picked.{all_listed, listed_no_root}
 use Rattle.trio_layout.proofs.Walks.{numbers-flat}
 use Rattle.trio_surveys.proofs.Tree.{survey_tree, child_from, child_placed, child_numbered}
