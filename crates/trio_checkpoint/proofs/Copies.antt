@@ -1,17 +1,15 @@
--- Copies of pages, in the words of the state.
+-- Copies of pages, in the words of what is covered.
 use Rattle.std.proofs.Common.{◌≡◌, ℕ, Bool, true, false, ◌&&◌, cond, List, [], ◌∷◌, ◌++◌, All, get_or, Option, Some, None, IsSome, IsTrue, is_some, sym, refl, ap, ◌∙◌}
 use Rattle.std.proofs.lemmas.Bool.{false≢true, and_parts, and_from}
 use Rattle.std.proofs.lemmas.List.Elements.{All-nil, All-cons, All-head, All-tail, All-push}
 use Rattle.std.proofs.lemmas.List.{append-nil, map-append}
 use Rattle.std.proofs.lemmas.List.Folds.{list_all-append}
-use Rattle.trio_nodes.specs.declared.grant.GrantKind.TheVariants.{Write}
 use Rattle.trio_rights.specs.declared.kind.Kind.{Kind}
 use Rattle.trio_rights.specs.declared.kind.Kind.TheVariants.{Regular, Directory}
 use Rattle.trio_layout.specs.Range.{is_core}
 use Rattle.trio_layout.specs.Core.{Core, page_of}
 use Rattle.trio_page.specs.Sheets.{Sheet, sheet_numbers}
-use Rattle.trio_layout.specs.Pages.{sheets_of}
-use Rattle.trio_state.specs.State.{covered}
+use Rattle.trio_layout.specs.Pages.{covered_of, sheets_of}
 use Rattle.trio_checkpoint.specs.Covered.{are_there, covered_numbers}
 use Rattle.trio_checkpoint.specs.inner.Steps.{AllStand, AreCopies, IsCopy}
 
@@ -54,7 +52,7 @@ one_more_there core ns n h some =
     list_all-append (λ page. is_some (page_of core page)) ns (n ∷ [])
     ∙ and_from (are_there core ns) (is_some (page_of core n) && true) h (and_from (is_some (page_of core n)) true some refl)
 
--- what a write grant covers of these index pages and of the blocks of these numbers
-pub covered_are : (core : Core) (kind : Kind) (index : List Sheet) (blocks : List ℕ) → index ++ sheets_of core (covered_numbers kind blocks) ≡ covered Write kind index (sheets_of core blocks)
+-- what is covered of these index pages and of the blocks of these numbers
+pub covered_are : (core : Core) (kind : Kind) (index : List Sheet) (blocks : List ℕ) → index ++ sheets_of core (covered_numbers kind blocks) ≡ covered_of kind index (sheets_of core blocks)
 covered_are core Regular index blocks = append-nil index
 covered_are core Directory index blocks = refl

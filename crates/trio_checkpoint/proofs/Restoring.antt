@@ -7,12 +7,10 @@ use Rattle.std.proofs.lemmas.List.Folds.{list_all-append}
 use Rattle.std.proofs.lemmas.List.Elements.{All-head, All-tail}
 use Rattle.trio_rights.specs.declared.kind.Kind.{Kind}
 use Rattle.trio_rights.specs.declared.kind.Kind.TheVariants.{Regular, Directory}
-use Rattle.trio_nodes.specs.declared.grant.GrantKind.TheVariants.{Write}
 use Rattle.trio_lists.specs.Marked.{all_below}
 use Rattle.trio_layout.specs.Core.{Core, page_of}
 use Rattle.trio_page.specs.Sheets.{Sheet, sheet_numbers, with_pages}
-use Rattle.trio_layout.specs.Pages.{sheets_of}
-use Rattle.trio_state.specs.State.{covered}
+use Rattle.trio_layout.specs.Pages.{covered_of, sheets_of}
 use Rattle.trio_checkpoint.specs.inner.Steps.{IsCopy}
 use Rattle.trio_checkpoint.proofs.Copies.{at_its_number}
 
@@ -65,7 +63,7 @@ sheets_back core (n ∷ ns) = by (sheets_back core ns) (page_of core n) refl
         let stands : get_or core.pages n None ≡ Some bytes = sym (at_its_number core n (rw e refl)) ∙ e in
         rw e (ap (with_pages (sheets_of core ns)) (put_same core.pages n bytes stands) ∙ again)
 
-pub restoring_keeps : (core : Core) (kind : Kind) (index blocks : List ℕ) → with_pages (covered Write kind (sheets_of core index) (sheets_of core blocks)) core.pages ≡ core.pages
+pub restoring_keeps : (core : Core) (kind : Kind) (index blocks : List ℕ) → with_pages (covered_of kind (sheets_of core index) (sheets_of core blocks)) core.pages ≡ core.pages
 restoring_keeps core Regular index blocks = sheets_back core index
 restoring_keeps core Directory index blocks =
     with_pages-append (sheets_of core index) (sheets_of core blocks) core.pages

@@ -3,7 +3,7 @@ use Rattle.std.specs.Prelude.{ℕ, ◌==◌, Bool, List, [], ◌++◌, map, Opti
 use Rattle.std.specs.List.{list_all, find}
 use Rattle.std.specs.Option.{option_map, option_map_or}
 use Rattle.trio_rights.specs.declared.kind.Kind.{Kind}
-use Rattle.trio_rights.specs.declared.kind.Kind.TheVariants.{Regular, Directory}
+use Rattle.trio_rights.specs.ByKind.{covers_blocks}
 use Rattle.trio_layout.specs.declared.range.CoreRange.{CoreRange}
 use Rattle.trio_layout.specs.Body.{body_of}
 use Rattle.trio_lists.specs.Lists.{result_then, there_or}
@@ -34,10 +34,9 @@ core_of pages range = record { pages = pages; root = []; range = range; inodes =
 abbrev pub chain_in : Core → Kind → List ℕ → Result Chain Location
 chain_in core kind body = result_then (chain_of core) (there_or nowhere (body_of kind core.range body))
 
--- of the numbers of a file's blocks, those of blocks that are covered: a directory's
+-- of the numbers of a file's blocks, those of blocks that are covered
 abbrev pub covered_numbers : Kind → List ℕ → List ℕ
-covered_numbers Directory numbers = numbers
-covered_numbers Regular numbers = []
+covered_numbers kind numbers = if covers_blocks kind then numbers else []
 
 -- each of these pages is there
 abbrev pub are_there : Core → List ℕ → Bool

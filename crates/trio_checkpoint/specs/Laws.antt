@@ -1,12 +1,10 @@
 -- Laws of checkpoints.
 use Rattle.std.specs.Prelude.{◌≡◌, ℕ, List, Option, IsTrue}
 use Rattle.trio_rights.specs.declared.kind.Kind.{Kind}
-use Rattle.trio_nodes.specs.declared.grant.GrantKind.TheVariants.{Write}
 use Rattle.trio_lists.specs.Lists.{is_among}
 use Rattle.trio_layout.specs.Core.{Core}
 use Rattle.trio_page.specs.Sheets.{Sheet, sheet_numbers, with_pages}
-use Rattle.trio_layout.specs.Pages.{sheets_of}
-use Rattle.trio_state.specs.State.{covered}
+use Rattle.trio_layout.specs.Pages.{covered_of, sheets_of}
 use Rattle.trio_layout.specs.Accept.{with_body_at}
 use Rattle.trio_checkpoint.specs.Covered.{with_body}
 
@@ -14,7 +12,7 @@ use Rattle.trio_checkpoint.specs.Covered.{with_body}
 abbrev pub RestoringKeeps : Type 0
 RestoringKeeps =
     (core : Core) (kind : Kind) (index blocks : List ℕ)
-    → with_pages (covered Write kind (sheets_of core index) (sheets_of core blocks)) core.pages ≡ core.pages
+    → with_pages (covered_of kind (sheets_of core index) (sheets_of core blocks)) core.pages ≡ core.pages
 
 -- Covered pages with a body renewed, put in place, are those pages put in place with the body renewed there.
 abbrev pub RenewingSettles : Type 0

@@ -4,12 +4,10 @@ ghost use Rattle.std.specs.Prelude.{◌≡◌, ◌<◌, ◌==◌, IfOk, OnOk, Is
 ghost use Rattle.std.specs.List.{find};
 ghost use Rattle.std.specs.Option.{option_copied};
 ghost use Rattle.std.specs.Result.{ForOk};
-ghost use Rattle.trio_nodes.specs.declared.grant.GrantKind.TheVariants.{Write};
 ghost use Rattle.trio_lists.specs.Lists.{is_among};
 ghost use Rattle.trio_lists.specs.Marked.{all_below};
-ghost use Rattle.trio_layout.specs.Pages.{sheets_of};
+ghost use Rattle.trio_layout.specs.Pages.{covered_of, sheets_of};
 ghost use Rattle.trio_page.specs.Sheets.{sheet_numbers, with_pages};
-ghost use Rattle.trio_state.specs.State.{covered};
 ghost use Rattle.trio_checkpoint.specs.Covered.{all_stand, are_there, body_on, chain_in, core_of, covered_numbers, covered_pages, page_on, standing, with_body};
 ghost use Rattle.trio_checkpoint.specs.inner.Steps.{AllStand, AreCopies};
 
@@ -80,7 +78,7 @@ impl Checkpoint {
             (λ c. c.blocks ≡ sheets_of (core_of home.old.pages range) (covered_numbers kind c.chain.blocks)) }
         // both lists in one, as the state of the controller has it
         ensures covered { IfOk result
-            (λ c. covered_pages c ≡ covered Write kind
+            (λ c. covered_pages c ≡ covered_of kind
             (sheets_of (core_of home.old.pages range) c.chain.index)
             (sheets_of (core_of home.old.pages range) c.chain.blocks)) }
         ensures index_numbers { IfOk result (λ c. sheet_numbers c.index ≡ c.chain.index) }

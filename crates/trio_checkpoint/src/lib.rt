@@ -9,9 +9,9 @@
 //! The bodies of a directory's children stand in its blocks. Where a child is accepted while its
 //! directory is lent, its new body goes into the directory's checkpoint ([`Checkpoint::put_body`]).
 //!
-//! Contracts see a checkpoint as a `Checkpointed` of `specs/Covered.antt`, in the words of
-//! `trio_state`: its pages are those that `covered` of `specs/State.antt` names. [`laws`] says that
-//! what is taken and then restored leaves home as it was.
+//! Contracts see a checkpoint as a `Checkpointed` of `specs/Covered.antt`; its pages are those that
+//! `covered_of` of `trio_layout`'s `specs/Pages.antt` names. [`laws`] says that what is taken and
+//! then restored leaves home as it was.
 //!
 //! Only [`Checkpoint::taken`] takes memory.
 #![tactic(auto)]

@@ -16,7 +16,7 @@ use trio_page::{Home, NoMemory, Page, PageNo, Reads};
 
 /// A copy of a page, with the number at which the page stood.
 ///
-/// Contracts see it as a `Sheet` of `trio_state`'s `specs/Sheets.antt`.
+/// Contracts see it as a `Sheet` of `trio_page`'s `specs/Sheets.antt`.
 #[derive(Drop)]
 pub(crate) struct PageCopy {
     number: u32,

@@ -1,5 +1,5 @@
 -- The grants that are open, as the controller keeps them.
-use Rattle.std.specs.Prelude.{ℕ, ◌==◌, List, map, Option, false}
+use Rattle.std.specs.Prelude.{ℕ, ◌==◌, List, map, Option, Ok, false}
 use Rattle.std.specs.List.{find}
 use Rattle.std.specs.Option.{option_and_then}
 use Rattle.trio_rights.specs.declared.kind.Kind.{Kind}
@@ -9,9 +9,9 @@ use Rattle.trio_layout.specs.Chain.{Chain}
 use Rattle.trio_layout.specs.Core.{Core}
 use Rattle.trio_lease.specs.declared.parts.LentPage.{LentPage}
 use Rattle.trio_lease.specs.Shown.{Shown, LentFile}
-use Rattle.trio_layout.specs.Pages.{sheets_of}
 use Rattle.trio_page.specs.Sheets.{Sheet}
-use Rattle.trio_state.specs.State.{OpenGrant, covered}
+use Rattle.trio_state.specs.State.{OpenGrant}
+use Rattle.trio_state.specs.Grants.{grant_of}
 use Rattle.trio_checkpoint.specs.Covered.{page_on}
 
 -- an open grant, beside the key that ends it in the table of grants
@@ -29,17 +29,7 @@ page_lent files directory page = option_and_then (λ o. page_on page o.grant.che
 
 -- a write grant on a file of this kind, body and chain, by the pages of this core
 abbrev pub grant_on : Core → ℕ → ℕ → Kind → ℕ → List ℕ → Chain → OpenGrant
-grant_on core lib ino of entry body chain = record {
-  lib = lib;
-  ino = ino;
-  kind = Write;
-  of = of;
-  entry = entry;
-  body = body;
-  index = sheets_of core chain.index;
-  blocks = sheets_of core chain.blocks;
-  checkpoint = covered Write of (sheets_of core chain.index) (sheets_of core chain.blocks);
-}
+grant_on core lib ino of entry body chain = grant_of core lib ino Write of entry body (Ok chain)
 
 -- a page as it is lent: nobody has asked for it for writing
 abbrev pub untouched : Sheet → LentPage

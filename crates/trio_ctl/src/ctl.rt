@@ -163,12 +163,7 @@ impl Ctl {
     /// pages are free, and more inode numbers are wanted than are; each tells both numbers. After
     /// `NoMemory`, which may come in place of each of them, nothing changed; a history that has as
     /// many entries as a `u64` counts has no memory for one more.
-    pub fn allot(
-        &mut self,
-        lib: LibNo,
-        pages: u32,
-        inodes: u32,
-    ) -> Result<Allotted, AllotFault>
+    pub fn allot(&mut self, lib: LibNo, pages: u32, inodes: u32) -> Result<Allotted, AllotFault>
         requires library { IsLibrary lib self.old.state }
         ensures step { Step self.old.state (Allot lib.0 pages inodes) (allot_answer result) self.new.state }
         ensures pages { IfOk result (λ given. given.pages.items ≡ map (fresh_page lib) (page_numbers given.pages.items)) }
@@ -264,12 +259,7 @@ impl Ctl {
     }
 
     // lends a file that has this row and denies nothing
-    fn lend_file(
-        &mut self,
-        lib: LibNo,
-        ino: u32,
-        row: &Row,
-    ) -> Result<WriteLease, GrantFault>
+    fn lend_file(&mut self, lib: LibNo, ino: u32, row: &Row) -> Result<WriteLease, GrantFault>
         requires library { IsLibrary lib self.old.state }
         requires live { row_at self.old.state.home ino ≡ Some (as_row row.now) }
         requires may { denier self.old.state.home.rows (creds_of self.old.state lib.0) ino ToWrite ≡ None }

@@ -16,7 +16,11 @@ use trio_samples::{Sample, directory, put};
 // the root's index page, page 4 its block.
 fn image_bytes(alloc: Global, with_directory: bool) -> Option<Vec<u8>> {
     let files = [root(), directory(2, 1, b"a")];
-    let files = if with_directory { &files[..] } else { &files[..1] };
+    let files = if with_directory {
+        &files[..]
+    } else {
+        &files[..1]
+    };
     Sample::small(alloc, files).ok()?.bytes(alloc).ok()
 }
 

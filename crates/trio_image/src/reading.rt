@@ -89,11 +89,7 @@ impl Image {
 
     /// The image of these pages, of which the first is this superblock; or, exactly where they don't
     /// verify, why. After a fault the pages are gone.
-    pub fn from_pages(
-        alloc: Global,
-        superblock: Superblock,
-        home: Home,
-    ) -> Result<Image, LoadFault>
+    pub fn from_pages(alloc: Global, superblock: Superblock, home: Home) -> Result<Image, LoadFault>
         requires { IsWholeImage superblock home.pages }
         ensures image { IfOk result (λ image. image ≡ record { superblock = superblock; pages = home.pages }) }
         ensures verify { IfOk result (λ image. IsVerified image.superblock image.pages) }
@@ -102,11 +98,14 @@ impl Image {
     {
         let mut home = home;
         let found = verify_found(alloc, &mut home, &mut Reads::new())?;
-        Ok(Image::sealed(superblock, ImageParts {
-            home,
-            rows: found.rows,
-            owners: found.owners,
-        }))
+        Ok(Image::sealed(
+            superblock,
+            ImageParts {
+                home,
+                rows: found.rows,
+                owners: found.owners,
+            },
+        ))
     }
 }
 

@@ -8,8 +8,8 @@ use std::test::Fail;
 use trio_layout::{CoreRange, Superblock};
 use trio_page::{Home, PageNo, Reads};
 use trio_rights::{Kind, Mode};
-use trio_samples::files::{large_tree, one_file, root, six_directories, three_files};
 use trio_samples::Sample;
+use trio_samples::files::{large_tree, one_file, root, six_directories, three_files};
 use trio_survey::{Found, Picks, SurveyFault, survey, survey_picked, verify};
 use trio_tables::{CONTROLLER, Row};
 
@@ -66,13 +66,29 @@ const DAMAGED: [Damaged; 46] = [
     (Files::ThreeFiles, (6, 6, &[1]), (1, 2, 6, 0)),
     (Files::SixDirectories, (8, 8, b"/"), (1, 4, 8, 0)),
     // the same name again
-    (Files::OneFile, (4, 256, &[3, 0, 0, 0, 1, 1, 0, 0, b'f']), (1, 1, 4, 1)),
+    (
+        Files::OneFile,
+        (4, 256, &[3, 0, 0, 0, 1, 1, 0, 0, b'f']),
+        (1, 1, 4, 1),
+    ),
     (Files::SixDirectories, (4, 256 + 8, b"a"), (1, 1, 4, 1)),
     // a number again: in its directory, in another, as its own child, and the root's
-    (Files::OneFile, (4, 256, &[2, 0, 0, 0, 1, 1, 0, 0, b'g']), (2, 1, 4, 1)),
+    (
+        Files::OneFile,
+        (4, 256, &[2, 0, 0, 0, 1, 1, 0, 0, b'g']),
+        (2, 1, 4, 1),
+    ),
     (Files::SixDirectories, (12, 0, &[5]), (2, 6, 12, 0)),
-    (Files::ThreeFiles, (6, 512, &[2, 0, 0, 0, 2, 1, 0, 0, b'a']), (2, 2, 6, 2)),
-    (Files::OneFile, (4, 512, &[1, 0, 0, 0, 2, 1, 0, 0, b'g']), (2, 1, 4, 2)),
+    (
+        Files::ThreeFiles,
+        (6, 512, &[2, 0, 0, 0, 2, 1, 0, 0, b'a']),
+        (2, 2, 6, 2),
+    ),
+    (
+        Files::OneFile,
+        (4, 512, &[1, 0, 0, 0, 2, 1, 0, 0, b'g']),
+        (2, 1, 4, 2),
+    ),
     // a page again: the block and the index page of another file, and of the file itself
     (Files::OneFile, (5, 0, &[4]), (2, 2, 4, 0)),
     (Files::ThreeFiles, (7, 0, &[5]), (2, 3, 5, 0)),

@@ -32,7 +32,9 @@ fn fails(rule: u8, ino: u32, page: u32) -> Option<LoadFault> {
 #[test]
 fn an_image_is_read_and_written(rt: HostRuntime) -> Result<(), Fail> {
     let bytes = image_bytes(rt.alloc()).ok_or("memory")?;
-    let mut image = Image::from_bytes(rt.alloc(), &bytes).ok().ok_or("an image")?;
+    let mut image = Image::from_bytes(rt.alloc(), &bytes)
+        .ok()
+        .ok_or("an image")?;
     let superblock = image.superblock();
     assert_eq!(rt; (superblock.pages, superblock.inodes), (32, 64));
     assert_eq!(rt; (superblock.first_owner, superblock.first_core), (2, 3));
@@ -66,8 +68,5 @@ fn other_bytes_are_refused(rt: HostRuntime) {
     assert_eq!(rt; fault(alloc, 131_072, &[owner]), fails(5, 0, 3));
     assert_eq!(rt; fault(alloc, 131_072, &[owner, size]), fails(1, 1, 0));
     assert_eq!(rt; fault(alloc, 131_071, &[magic]), Some(LoadFault::BadSuper));
-    assert_eq!(rt;
-        fault(alloc, 4095, &[magic]),
-        Some(LoadFault::Length(4095))
-    );
+    assert_eq!(rt; fault(alloc, 4095, &[magic]), Some(LoadFault::Length(4095)));
 }

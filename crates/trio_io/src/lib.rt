@@ -25,7 +25,7 @@ mod real;
 mod sure;
 mod whole;
 
-pub use hold_gate::{HoldGate, GateStop};
+pub use hold_gate::{GateStop, HoldGate};
 pub use kept::{InMemory, KeepsBytes, Planned};
 pub use memory::{MemFiles, MemSink};
 pub use outside::{Failed, Files, Gate, MAX_OFFSET, OpenGate, Sink};

@@ -31,13 +31,7 @@ use Rattle.trio_lists.proofs.Members.{In-left, In-cases, flat_map-In, map-In, In
 use Rattle.trio_surveys.proofs.Owned.{pages_are}
 use Rattle.trio_surveys.proofs.Sheets.{with_pages_apart, page_same}
 use Rattle.trio_laws.proofs.StateFacts.{write_alone, alone, tables, lent_met}
-use Rattle.trio_surveys.proofs.Tree.{child_from}
-
-pub picked_met : (pick : Pick) (d : ℕ) (m : Met) (l : Listed) → m ≡ met_in pick d l → m.body ≡ pick m.parent m.page m.slot m.ino l.body
-picked_met pick d m l e =
-    let P : Met → Type 0 = λ x. x.body ≡ pick x.parent x.page x.slot x.ino l.body in
-    let there : (met_in pick d l).body ≡ pick d l.page l.slot l.entry.ino l.body = refl in
-    subst P (sym e) there
+use Rattle.trio_surveys.proofs.Tree.{child_from, picked_met}
 
 pub in_numbers : (xs : List Sheet) (x : Sheet) (p : ℕ) → In x xs → p ≡ x.page → In p (sheet_numbers xs)
 in_numbers xs x p i e = subst (λ n. In n (sheet_numbers xs)) (sym e) (In-map (λ (y : Sheet). y.page) x xs i)

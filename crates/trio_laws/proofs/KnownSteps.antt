@@ -17,13 +17,12 @@ use Rattle.trio_lists.specs.Lists.{In}
 use Rattle.trio_layout.specs.Survey.{row_by, pages_of}
 use Rattle.trio_page.specs.Sheets.{Sheet, sheet_numbers, with_pages, without_pages}
 use Rattle.trio_layout.specs.Image.{Image, row_at, settled_body, with_core_pages}
-use Rattle.trio_state.specs.State.{OpenGrant, State, settled, creds_of, covered, logged}
+use Rattle.trio_state.specs.State.{OpenGrant, State, settled, creds_of, logged}
 use Rattle.trio_nodes.specs.GrantKinds.{is_read, is_write, excludes_kind}
 use Rattle.trio_layout.specs.Proposed.{Bundle}
 use Rattle.trio_layout.specs.Accept.{is_accepted, next}
 use Rattle.trio_layout.specs.Mode.{image_with_mode}
-use Rattle.trio_state.specs.Grants.{grant_fault, denied_or, denied_by, lacks_parent, has_parent_grant, excluding, holder_of, lent_sheets, opened, lent_pages, opens, told_children, given_back}
-use Rattle.trio_layout.specs.Pages.{settled_chain, index_sheets, block_sheets}
+use Rattle.trio_state.specs.Grants.{grant_fault, denied_or, denied_by, lacks_parent, has_parent_grant, excluding, holder_of, opened, opened_in, lent_pages, opens, told_children, given_back}
 use Rattle.trio_state.specs.Allotments.{free_pages, free_numbers, allots}
 use Rattle.trio_state.specs.Bundles.{is_parted, lowest, parted_hold, is_in_bundle, lent_part, grants_after, refused_image, Ends}
 use Rattle.trio_state.specs.Step.{Event, Grant, Allot, Back, Release, Settle, SetMode, CtlAnswer, Granted, NotGranted, ModeSet, NotModeSet, NoPages, NoInodes, Given, Done, Accepted, Refused, NotClosed, Settled, NoMemory, Outcome, Does, Step, granted_to, after_grant_fault, grant_outcome, allot_outcome, mode_excluding, mode_fault, moded_to, after_mode_fault, mode_outcome, ReleaseEnd, Parted, IsAccepted, IsRefused}
@@ -149,24 +148,7 @@ module _ (s : State) where
       ∙ ap (F (denied_by s lib ino kind) (lacks_parent s lib ino kind)) (busy_plain lib ino kind)
 
   pub opened_plain : (lib ino : ℕ) (kind : GrantKind) (r : Row) → opened t lib ino kind r ≡ opened s lib ino kind r
-  opened_plain lib ino kind r = ap opened_in settled_plain
-    where
-      opened_in : Image → OpenGrant
-      opened_in image =
-          let chain = settled_chain image r.kind ino in
-          let index = lent_sheets kind (index_sheets image.core chain) in
-          let blocks = lent_sheets kind (block_sheets image.core chain) in
-          record {
-            lib = lib;
-            ino = ino;
-            kind = kind;
-            of = r.kind;
-            entry = s.entries;
-            body = settled_body image ino;
-            index = index;
-            blocks = blocks;
-            checkpoint = covered kind r.kind index blocks;
-          }
+  opened_plain lib ino kind r = ap (λ image. opened_in image s.entries lib ino kind r) settled_plain
 
   pub parted_plain : (lib : ℕ) (b : Bundle) → parted_hold t lib b ≡ parted_hold s lib b
   parted_plain lib b =

@@ -18,7 +18,7 @@ use Rattle.trio_layout.specs.Proposed.{Bundle, kept_body, is_place_of, proposed,
 use Rattle.trio_surveys.proofs.Images.{row_met, met_row, read_met, met_numbered, root_or_listed}
 use Rattle.trio_lists.proofs.Members.{In-cases, In-left, In-right, flat_map-In}
 use Rattle.trio_surveys.proofs.AnyOrder.{bodies_in_any_order}
-use Rattle.trio_surveys.proofs.Tree.{child_from, child_placed}
+use Rattle.trio_surveys.proofs.Tree.{child_from, child_placed, picked_met}
 use Rattle.trio_proposal.specs.inner.Steps.{met_by, mets_below}
 use Rattle.trio_proposal.proofs.Allowing.{row_stays}
 
@@ -71,11 +71,6 @@ below_has rows kept (suc n) k m low high i =
 -- a file by its parts
 met_same : (m : Met) (r : Row) (n : ℕ) (body : List ℕ) → m.ino ≡ n → r.kind ≡ m.kind → r.parent ≡ m.parent → r.page ≡ m.page → r.slot ≡ m.slot → m.body ≡ body → record { ino = n; kind = r.kind; parent = r.parent; page = r.page; slot = r.slot; body = body } ≡ m
 met_same m r n body number kind parent page slot same = rw (← number, kind, parent, page, slot, ← same) refl
-
-picked_met : (pick : Pick) (d : ℕ) (m : Met) (l : Listed) → m ≡ met_in pick d l → m.body ≡ pick m.parent m.page m.slot m.ino l.body
-picked_met pick d m l e =
-    let there : (met_in pick d l).body ≡ pick d l.page l.slot l.entry.ino l.body = refl in
-    subst (λ (x : Met). x.body ≡ pick x.parent x.page x.slot x.ino l.body) (sym e) there
 
 module _ (image : Image) (creds : Creds) (b : Bundle) (no_holds : b.holds ≡ []) (fit : IsFit (proposed image b)) (sound : is_sound (proposed image b) (proposed_pick image b) ≡ true) where
   abbrev core : Core

@@ -41,7 +41,7 @@ pub enum Verdict {
 /// Judges a bundle of a library with these credentials against the settled image: its pages, handed
 /// in as copies, the root's body, the core pages and the rows.
 ///
-/// The image and the bundle are as a controller has them (`CanBeJudged` of `specs/Judged.antt`).
+/// The image and the bundle are as a controller has them (`CanBeJudged` of `specs/Judgement.antt`).
 /// No page of the bundle is moved. `NoMemory`: there was no memory for the judgement.
 pub fn judge(
     alloc: Global,

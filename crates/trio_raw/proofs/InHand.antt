@@ -26,9 +26,9 @@ use Rattle.trio_raw.specs.Has.{Has, are_there, named, poked_body, poked_block, p
 use Rattle.trio_raw.specs.InHand.{InHand, all_sheets}
 use Rattle.trio_raw.specs.Laws.{NothingIsInHand, PokedIsInHand, TakenWasGiven, AllWasGiven, RestIsInHand, NothingIsLeft, LentIsInHand, AllottedIsInHand, StaysInHand, GivenIsInHand, MayGoOut, lent_file, zero_sheet}
 use Rattle.trio_lists.proofs.New.{is_among-not, are_new-beside}
-use Rattle.trio_lists.proofs.Filters.{In-filter}
+use Rattle.trio_lists.proofs.Filters.{find-In, In-filter}
 use Rattle.trio_lists.proofs.Members.{In-left, In-right, In-cases, In-flat, flat_map-In, In-map, map-In, In-is_among}
-use Rattle.trio_raw.proofs.Once.{found, named_in, named_once, without_all_in, without_all_once, all_gone}
+use Rattle.trio_raw.proofs.Once.{named_in, named_once, without_all_in, without_all_once, all_gone}
 use Rattle.trio_raw.proofs.Kept.{AreFull, Changed, KeepsFiles, SameFile, map_some, first_from, changed_in, old_in, changed_same, sheets_kept, body_keeps, index_keeps, block_keeps}
 
 pub nothing_is_in_hand : NothingIsInHand
@@ -214,7 +214,7 @@ not_in_bundle lib b g kind none =
     by_find : (o : Option Written) → find (λ (w : Written). eqb w.ino g.ino) b.writes ≡ o → is_some (find (λ (w : Written). eqb w.ino g.ino) b.writes) ≡ false
     by_find None e = ap is_some e
     by_find (Some w) e =
-        let r = found (λ (w : Written). eqb w.ino g.ino) b.writes w e in absurd (none w r.0 (eqb-true w.ino g.ino r.1))
+        let r = find-In (λ (w : Written). eqb w.ino g.ino) b.writes w e in absurd (none w r.0 (eqb-true w.ino g.ino r.1))
 
 -- a number that is not handed in stays out
 out_stays : (outs outs' : List (Option LibNo)) (lib n : ℕ) (these : List ℕ) → outs' ≡ out_after outs these → WasAllotted outs lib n → (In n these → ⊥) → WasAllotted outs' lib n

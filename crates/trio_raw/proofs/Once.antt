@@ -5,22 +5,9 @@ use Rattle.std.specs.List.{find, cons_option}
 use Rattle.std.proofs.lemmas.Bool.{and_parts, and_from, eqb-true, eq-eqb, both_ways, cases_Bool}
 use Rattle.trio_lists.specs.Lists.{In, is_among, are_new}
 use Rattle.trio_raw.specs.Has.{named, without, without_all}
+use Rattle.trio_lists.proofs.Filters.{find-In}
 use Rattle.trio_lists.proofs.New.{are_new-first, are_new-fewer}
 use Rattle.trio_lists.proofs.Members.{In-left, In-map}
-
--- what a search finds stands in the list and passes
-pub found : {X : Type 0} (p : X → Bool) (xs : List X) (y : X) → find p xs ≡ Some y → In y xs × (p y ≡ true)
-found p [] y e = absurd cc
-found p (x ∷ xs) y e =
-    elim (cases_Bool (p x)) [
-      | inl t ↦
-          (let s : Some x ≡ Some y = rw t at e in
-          let is : x ≡ y = cc s in
-          (inl (sym is), subst (λ z. p z ≡ true) is t))
-      | inr f ↦
-          (let later : find p xs ≡ Some y = rw f at e in
-          let r = found p xs y later in (inr r.0, r.1))
-    ]
 
 module _ {X : Type 0} (number : X → ℕ) where
   -- what is named is one of the things, and of a number that is named
@@ -31,7 +18,7 @@ module _ {X : Type 0} (number : X → ℕ) where
       by_find : (In y (named number xs names) → In y xs × In (number y) names) → (o : Option X) → find (λ x. eqb (number x) n) xs ≡ o → In y (cons_option o (named number xs names)) → In y xs × ((number y ≡ n) ⊎ In (number y) names)
       by_find later None e j = let r = later j in (r.0, inr r.1)
       by_find later (Some x) e (inl s) =
-          let r = found (λ x. eqb (number x) n) xs x e in
+          let r = find-In (λ x. eqb (number x) n) xs x e in
           (subst (λ z. In z xs) (sym s) r.0, inl (ap number s ∙ eqb-true (number x) n r.1))
       by_find later (Some x) e (inr j) = let r = later j in (r.0, inr r.1)
 
@@ -48,7 +35,7 @@ module _ {X : Type 0} (number : X → ℕ) where
       by_find : not (is_among n seen) ≡ true → are_new (seen ++ n ∷ []) others ≡ true → (o : Option X) → find (λ x. eqb (number x) n) xs ≡ o → are_new seen (map number (cons_option o (named number xs names))) ≡ true
       by_find new rest None e = are_new-fewer seen (seen ++ n ∷ []) others (λ m i. In-left m seen (n ∷ []) i) rest
       by_find new rest (Some x) e =
-          let same : number x ≡ n = eqb-true (number x) n (found (λ x. eqb (number x) n) xs x e).1 in
+          let same : number x ≡ n = eqb-true (number x) n (find-In (λ x. eqb (number x) n) xs x e).1 in
           subst (λ m. are_new seen (m ∷ others) ≡ true) (sym same) (and_from (not (is_among n seen)) (are_new (seen ++ n ∷ []) others) new rest)
 
   pub without_in : (xs : List X) (n : ℕ) (y : X) → In y (without number xs n) → In y xs

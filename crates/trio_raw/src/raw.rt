@@ -210,12 +210,7 @@ impl Raw {
     ///
     /// Nothing changes on an error. [`RawFault::Absent`], exactly where one that is named isn't
     /// there or is named twice. [`RawFault::NoMemory`]: there was no memory for the bundle.
-    pub fn take(
-        &mut self,
-        inos: &[u32],
-        pages: &[u32],
-        inodes: &[u32],
-    ) -> Result<Bundle, RawFault>
+    pub fn take(&mut self, inos: &[u32], pages: &[u32], inodes: &[u32]) -> Result<Bundle, RawFault>
         ensures bundle { IfOk result (λ b. bundle_in b ≡ bundle_of self.old.has inos.now pages.now inodes.now) }
         ensures things { IfOk result (λ b. things_in b ≡ things_named self.old.things inos.now pages.now inodes.now) }
         ensures rest { OnOk result (self.new ≡ record self.old { has = rest_of self.old.has inos.now pages.now inodes.now; things = things_left self.old.things inos.now pages.now inodes.now }) }

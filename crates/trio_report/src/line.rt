@@ -25,7 +25,7 @@ pub enum TreeName {
 }
 
 /// What is told of one file of a tree. Contracts see it as the line of the definition of a tree,
-/// `TreeLine` of `trio_state`'s `specs/Tree.antt`.
+/// `TreeLine` of `trio_layout`'s `specs/Tree.antt`.
 #[derive(Drop)]
 pub struct TreeLine {
     /// How many directories are above the file: 0 for the root.

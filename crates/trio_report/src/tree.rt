@@ -12,7 +12,7 @@ use std::alloc::Global;
 use trio_layout::{CoreRange, Superblock};
 use trio_page::{Home, NoMemory, Reads};
 use trio_rights::Kind;
-use trio_survey::file::{FaultPlace, FileParts, EntryRead, MetFile, read_file};
+use trio_survey::file::{EntryRead, FaultPlace, FileParts, MetFile, read_file};
 
 /// A file whose line is still to come.
 #[derive(Clone, Copy)]

@@ -100,7 +100,13 @@ fn play_line(
             inos,
             pages,
             inodes,
-        } => play_release(ctl, raw, inos.as_slice(), pages.as_slice(), inodes.as_slice()),
+        } => play_release(
+            ctl,
+            raw,
+            inos.as_slice(),
+            pages.as_slice(),
+            inodes.as_slice(),
+        ),
     }
 }
 
@@ -276,11 +282,7 @@ fn play_end(ctl: &mut Ctl, raw: &mut Raw) -> Result<EndAnswer, NoMemory>
 }
 
 /// Hands in a bundle of a library that has no hold. So it comes to a verdict.
-fn hand_in(
-    ctl: &mut Ctl,
-    lib: LibNo,
-    bundle: Bundle,
-) -> Result<ReleaseAnswer, NoMemory>
+fn hand_in(ctl: &mut Ctl, lib: LibNo, bundle: Bundle) -> Result<ReleaseAnswer, NoMemory>
     requires library { IsLibrary lib ctl.old.state }
     requires given { GivenTo ctl.old.state lib.0 (bundle_in bundle) }
     requires no_hold { HasNoHold lib.0 ctl.old.state }

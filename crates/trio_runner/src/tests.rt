@@ -20,7 +20,10 @@ const BLOCK: usize = 24_576;
 // `f` has mode 644, owner 5, group 5 and 5 bytes
 fn image_bytes(alloc: Global) -> Option<Vec<u8>> {
     let file = regular(2, 1, b"f", b"hello").owned(5, 5);
-    Sample::small(alloc, &[root(), file]).ok()?.bytes(alloc).ok()
+    Sample::small(alloc, &[root(), file])
+        .ok()?
+        .bytes(alloc)
+        .ok()
 }
 
 /// What a script came to, and the image at its end.

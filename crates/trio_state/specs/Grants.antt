@@ -1,7 +1,8 @@
 -- Which grants are given, and what a grant lends.
-use Rattle.std.specs.Prelude.{ℕ, ◌+◌, ◌==◌, Bool, false, not, ◌&&◌, List, [], ◌∷◌, ◌++◌, Option, Some, None, is_some, if◌then◌else◌, slice_get}
+use Rattle.std.specs.Prelude.{ℕ, ◌+◌, ◌==◌, Bool, false, not, ◌&&◌, List, [], ◌∷◌, ◌++◌, Option, Some, None, Result, is_some, if◌then◌else◌, slice_get}
 use Rattle.std.specs.List.{filter, list_any}
 use Rattle.std.specs.Option.{option_map}
+use Rattle.trio_rights.specs.declared.kind.Kind.{Kind}
 use Rattle.trio_rights.specs.declared.rights.Need.TheVariants.{Read as ToRead, Write as ToWrite}
 use Rattle.trio_rights.specs.Row.{Row}
 use Rattle.trio_rights.specs.May.{denier}
@@ -11,6 +12,8 @@ use Rattle.trio_nodes.specs.declared.grant.Holder.{Holder}
 use Rattle.trio_nodes.specs.declared.answers.GrantFault.{GrantFault}
 use Rattle.trio_nodes.specs.declared.answers.GrantFault.TheVariants.{NotLive, Denied, NoParent, Busy}
 use Rattle.trio_page.specs.Sheets.{Sheet, without_pages, sheet_numbers}
+use Rattle.trio_layout.specs.Chain.{Chain}
+use Rattle.trio_layout.specs.Core.{Core, Location}
 use Rattle.trio_layout.specs.Pages.{settled_chain, index_sheets, block_sheets}
 use Rattle.trio_layout.specs.Image.{Image, row_at, settled_body, with_core_pages}
 use Rattle.trio_state.specs.State.{OpenGrant, State, settled, creds_of, covered, logged}
@@ -61,24 +64,31 @@ lent_sheets Read sheets = sheets
 lent_sheets Write sheets = sheets
 lent_sheets Hold sheets = []
 
--- the grant that is opened on a live file of this kind
-abbrev pub opened : State → ℕ → ℕ → GrantKind → Row → OpenGrant
-opened s lib ino kind r =
-    let image = settled s in
-    let chain = settled_chain image r.kind ino in
-    let index = lent_sheets kind (index_sheets image.core chain) in
-    let blocks = lent_sheets kind (block_sheets image.core chain) in
+-- a grant on a file of this kind and body, with what it lends of the chain, by the pages of this core
+abbrev pub grant_of : Core → ℕ → ℕ → GrantKind → Kind → ℕ → List ℕ → Result Chain Location → OpenGrant
+grant_of core lib ino kind of entry body chain =
+    let index = lent_sheets kind (index_sheets core chain) in
+    let blocks = lent_sheets kind (block_sheets core chain) in
     record {
       lib = lib;
       ino = ino;
       kind = kind;
-      of = r.kind;
-      entry = s.entries;
-      body = settled_body image ino;
+      of = of;
+      entry = entry;
+      body = body;
       index = index;
       blocks = blocks;
-      checkpoint = covered kind r.kind index blocks;
+      checkpoint = covered kind of index blocks;
     }
+
+-- the grant that is opened on a live file of this row, by the settled image
+abbrev pub opened_in : Image → ℕ → ℕ → ℕ → GrantKind → Row → OpenGrant
+opened_in image entry lib ino kind r =
+    grant_of image.core lib ino kind r.kind entry (settled_body image ino) (settled_chain image r.kind ino)
+
+-- the grant that is opened on it in this state
+abbrev pub opened : State → ℕ → ℕ → GrantKind → Row → OpenGrant
+opened s lib ino kind r = opened_in (settled s) s.entries lib ino kind r
 
 -- the pages that leave home for a grant
 abbrev pub lent_pages : OpenGrant → List ℕ

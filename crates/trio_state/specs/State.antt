@@ -1,13 +1,13 @@
 -- The state of the controller, and the image that is settled in it.
-use Rattle.std.specs.Prelude.{ℕ, ◌+◌, ◌-◌, List, [], ◌++◌, Option, if◌then◌else◌, slice_index_or}
+use Rattle.std.specs.Prelude.{ℕ, ◌+◌, ◌-◌, List, [], Option, slice_index_or}
 use Rattle.std.specs.List.{flat_map}
 use Rattle.trio_rights.specs.declared.kind.Kind.{Kind}
-use Rattle.trio_rights.specs.ByKind.{covers_blocks}
 use Rattle.trio_rights.specs.declared.rights.Creds.{Creds}
 use Rattle.trio_rights.specs.declared.rights.LibNo.{LibNo}
 use Rattle.trio_nodes.specs.declared.grant.GrantKind.{GrantKind}
 use Rattle.trio_nodes.specs.declared.grant.GrantKind.TheVariants.{Read, Write, Hold}
 use Rattle.trio_page.specs.Sheets.{Sheet, with_pages}
+use Rattle.trio_layout.specs.Pages.{covered_of}
 use Rattle.trio_layout.specs.Image.{Image, with_core_pages}
 
 -- A grant that is open. What it lent stays as it was lent: the body, and for reading and writing the index pages and blocks.
@@ -34,9 +34,9 @@ pub record State : Type 0 where
   pub creds : List Creds
   pub entries : ℕ
 
--- what a checkpoint covers beside the body: the index pages, and the blocks where the kind says so
+-- what the checkpoint of a grant covers
 abbrev pub covered : GrantKind → Kind → List Sheet → List Sheet → List Sheet
-covered Write of index blocks = if covers_blocks of then index ++ blocks else index
+covered Write of index blocks = covered_of of index blocks
 covered Read of index blocks = []
 covered Hold of index blocks = []
 

@@ -6,7 +6,7 @@ ghost use Rattle.trio_lists.specs.Lists.{both};
 ghost use Rattle.trio_layout.specs.Slot.{slot_of};
 ghost use Rattle.trio_survey.specs.Seen.{core_with, listed_seen, result_seen};
 
-use crate::file::{FaultPlace, EntryRead};
+use crate::file::{EntryRead, FaultPlace};
 use crate::home::core_page;
 use crate::names::repeated_name;
 use std::alloc::Global;

@@ -9,7 +9,7 @@
 //! - [`survey`] goes through all files from the root downward, and answers the tables of a sound core
 //!   (`specs/Sound.antt` of `trio_layout`) or the lowest rule that fails. [`survey_picked`] does so
 //!   with bodies that stand in place of the bytes in slots.
-//! - [`verify`] says whether an image verifies (`PagesVerify` of `trio_state`'s `specs/Stored.antt`).
+//! - [`verify`] says whether an image verifies (`PagesVerify` of `specs/Stored.antt`).
 #![tactic(auto)]
 
 pub mod chain;

@@ -8,7 +8,7 @@ ghost use Rattle.trio_survey.specs.Seen.{listed_seen, met_seen};
 ghost use Rattle.trio_survey.specs.inner.Walk.{AreMarked, FirstEntry, FirstRepeat};
 ghost use Rattle.trio_survey.specs.Within.{inos};
 
-use crate::file::{FaultPlace, EntryRead, MetFile};
+use crate::file::{EntryRead, FaultPlace, MetFile};
 use crate::picks::Picks;
 use trio_page::NoMemory;
 

@@ -5,7 +5,7 @@ ghost use Rattle.std.specs.Option.{option_map};
 ghost use Rattle.trio_layout.specs.Entries.{repeated_name};
 ghost use Rattle.trio_survey.specs.Seen.{listed_seen, place_seen};
 
-use crate::file::{FaultPlace, EntryRead};
+use crate::file::{EntryRead, FaultPlace};
 use std::alloc::Global;
 use std::collections::BTreeSet;
 use trio_page::NoMemory;

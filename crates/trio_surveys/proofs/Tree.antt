@@ -1,5 +1,5 @@
 -- A sound survey is the root with all that its files list.
-use Rattle.std.proofs.Common.{Err, List, Ok, Result, [], ap, arith, inl, inr, refl, subst, suc, sym, true, ◌++◌, ◌<◌, ◌∙◌, ◌∷◌, ◌≡◌, ◌≤◌}
+use Rattle.std.proofs.Common.{ℕ, ◌≡◌, Err, List, Ok, Result, [], ap, arith, inl, inr, refl, subst, suc, sym, true, ◌++◌, ◌<◌, ◌∙◌, ◌∷◌, ◌≤◌}
 use Rattle.std.proofs.lemmas.Bool.{and_parts}
 use Rattle.std.specs.List.{flat_map}
 use Rattle.trio_lists.proofs.Members.{In-map, flat_map-In, map-In}
@@ -12,6 +12,12 @@ use Rattle.trio_layout.specs.Survey.{FileRead, Front, Met, Pick, children, child
 use Rattle.trio_surveys.proofs.Local.{reads_from}
 use Rattle.trio_surveys.proofs.Places.{Placed, entry_numbered, placed_from}
 use Rattle.trio_layout.proofs.Walks.{fronts_are, fronts_closed, fronts_listed, fronts_tree}
+
+-- the body of a child is what its pick says
+pub picked_met : (pick : Pick) (d : ℕ) (m : Met) (l : Listed) → m ≡ met_in pick d l → m.body ≡ pick m.parent m.page m.slot m.ino l.body
+picked_met pick d m l e =
+    let there : (met_in pick d l).body ≡ pick d l.page l.slot l.entry.ino l.body = refl in
+    subst (λ (x : Met). x.body ≡ pick x.parent x.page x.slot x.ino l.body) (sym e) there
 
 -- a child of a file that is read, by its entry
 pub record Child (core : Core) (pick : Pick) (m c : Met) : Type 0 where

@@ -11,7 +11,7 @@ invariant_of-result c =
     let same = same_superblock c.requires.0 made.result pages c.requires.1.whole.superblock made.ensures.superblock in (
       subst (IsVerified made.result) (sym made.ensures.pages) (verified_by c.requires.0 made.result pages c.requires.1 made.ensures.superblock),
       subst (λ ps. TablesAre made.result ps c.args.parts.rows c.args.parts.owners) (sym made.ensures.pages)
-      (subst (λ (x : Superblock). TablesAre x pages c.args.parts.rows c.args.parts.owners) same c.requires.2),
+          (subst (λ (x : Superblock). TablesAre x pages c.args.parts.rows c.args.parts.owners) same c.requires.2),
     )
 
 pub returns-clause-verified : goal.returns-clause-verified
