@@ -30,7 +30,7 @@ use Rattle.trio_surveys.proofs.Local.{reads_from, chain_follows}
 use Rattle.trio_lists.proofs.Members.{In-left, In-cases, flat_map-In, map-In, In-map, is_among-In, In-is_among, list_all-In}
 use Rattle.trio_surveys.proofs.Owned.{pages_are}
 use Rattle.trio_surveys.proofs.Sheets.{with_pages_apart, page_same}
-use Rattle.trio_laws.proofs.StateFacts.{alone, tables, lent_met}
+use Rattle.trio_laws.proofs.StateFacts.{write_alone, alone, tables, lent_met}
 use Rattle.trio_surveys.proofs.Tree.{child_from, picked_met}
 
 pub in_numbers : (xs : List Sheet) (x : Sheet) (p : ℕ) → In x xs → p ≡ x.page → In p (sheet_numbers xs)
@@ -122,6 +122,15 @@ closed_all s lib b all g r i kind mine row written =
     ]
 
 module _ (s : State) (k : Kept s) (lib : ℕ) (b : Bundle) (given : GivenTo s lib b) where
+  -- a held file is not written
+  pub held_unwritten : (n : ℕ) → In n b.holds → Unwritten b n
+  held_unwritten n i w j e =
+      let h = given.holds n i in
+      let g = given.writes w j in
+      let same : g.grant ≡ h.grant = write_alone s.open_grants g.grant h.grant k.apart g.is_open h.is_open g.kind (g.ino ∙ e ∙ sym h.ino) in
+      let wrong : Write ≡ Hold = sym g.kind ∙ ap (λ (x : OpenGrant). x.kind) same ∙ h.kind in
+      absurd (cc wrong)
+
   -- the pages of a written file are those that its grant lent
   pub written_lent : (w : Written) (i : In w b.writes) (p : ℕ) → In p (sheet_numbers (w.index ++ w.blocks)) → In p (sheet_numbers ((given.writes w i).grant.index ++ (given.writes w i).grant.blocks))
   written_lent w i p a =

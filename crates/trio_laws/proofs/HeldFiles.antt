@@ -26,8 +26,8 @@ use Rattle.trio_surveys.proofs.Picked.{all_listed, page_put_is, file_put, survey
 use Rattle.trio_surveys.proofs.Images.{MetAt, met_row, row_at_is, settled_body_met}
 use Rattle.trio_surveys.proofs.Accepted.{accepted_verifies, fit_put}
 use Rattle.trio_laws.proofs.StateFacts.{tables, live_met}
-use Rattle.trio_laws.proofs.Bundles.{Unwritten, unwritten_apart, page_kept}
-use Rattle.trio_laws.proofs.Survivors.{fit_now, sound_now, held_unwritten, held_met}
+use Rattle.trio_laws.proofs.Bundles.{held_unwritten, Unwritten, unwritten_apart, page_kept}
+use Rattle.trio_laws.proofs.Survivors.{fit_now, sound_now, held_met}
 use Rattle.trio_laws.proofs.Isolated.{same_file, picked_only, plain_listed, bare_page, put_none}
 
 module _ (s : State) (lib : ℕ) (creds : Creds) (b : Bundle) (n : ℕ) (r q : Row) (k : Kept s)
@@ -62,7 +62,7 @@ module _ (s : State) (lib : ℕ) (creds : Creds) (b : Bundle) (n : ℕ) (r q : R
   }) n) ∙ row')
 
   un : Unwritten b was.met.ino
-  un = held_unwritten s k lib creds b given accepted was.met.ino (subst (λ i. In i b.holds) (sym was.number) held)
+  un = held_unwritten s k lib b given was.met.ino (subst (λ i. In i b.holds) (sym was.number) held)
 
   same_kind : is.met.kind ≡ was.met.kind
   same_kind = (held_met s k lib creds b given accepted n r is.met held row is.stands is.number).0

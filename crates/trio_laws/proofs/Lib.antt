@@ -31,3 +31,4 @@ pub mod Ordered
 pub mod OthersOut
 pub mod HeldFiles
 pub mod KnownSteps
+pub mod judgement

@@ -8,7 +8,6 @@ use Rattle.std.proofs.lemmas.Slice.Eq.{bytes_eq-Decides}
 use Rattle.trio_rights.specs.Row.{Row}
 use Rattle.trio_rights.specs.declared.kind.Kind.{Kind}
 use Rattle.trio_rights.specs.declared.rights.Creds.{Creds}
-use Rattle.trio_nodes.specs.declared.grant.GrantKind.TheVariants.{Write, Hold}
 use Rattle.trio_layout.specs.Chain.{Chain}
 use Rattle.trio_layout.specs.declared.body.Body.{Body}
 use Rattle.trio_layout.specs.Body.{body_of}
@@ -28,7 +27,7 @@ use Rattle.trio_layout.specs.Proposed.{Written, Bundle, bundle_pages, is_written
 use Rattle.trio_page.specs.Sheets.{sheet_numbers}
 use Rattle.trio_state.specs.State.{OpenGrant, State, settled}
 use Rattle.trio_surveys.proofs.Accepted.{fit_proposed}
-use Rattle.trio_laws.proofs.Bundles.{Unwritten, finds_unwritten, written_lent, bundle_page, kept_chain, body_picked}
+use Rattle.trio_laws.proofs.Bundles.{held_unwritten, Unwritten, finds_unwritten, written_lent, bundle_page, kept_chain, body_picked}
 use Rattle.trio_surveys.proofs.Alike.{up_to_at, same_kind_is, same_row_is}
 use Rattle.trio_surveys.proofs.Images.{some_of, met_row, read_met, met_numbered, one_met, free_unlisted, settled_body_met}
 use Rattle.trio_lists.proofs.Filters.{In-find}
@@ -37,13 +36,13 @@ use Rattle.trio_surveys.proofs.Owned.{pages_are}
 use Rattle.trio_laws.proofs.StateFacts.{write_alone, tables, live_met, lent_met}
 
 -- the cases of what is asked of a file that is met
-stand_cases : (h l w x y z : Bool) → cond h x (cond l (cond w y true) z) ≡ true → ((h ≡ true) × (x ≡ true)) ⊎ (((h ≡ false) × (l ≡ true) × (w ≡ true) × (y ≡ true)) ⊎ (((h ≡ false) × (l ≡ true) × (w ≡ false)) ⊎ ((h ≡ false) × (l ≡ false) × (z ≡ true))))
+pub stand_cases : (h l w x y z : Bool) → cond h x (cond l (cond w y true) z) ≡ true → ((h ≡ true) × (x ≡ true)) ⊎ (((h ≡ false) × (l ≡ true) × (w ≡ true) × (y ≡ true)) ⊎ (((h ≡ false) × (l ≡ true) × (w ≡ false)) ⊎ ((h ≡ false) × (l ≡ false) × (z ≡ true))))
 stand_cases true l w x y z e = inl (refl, e)
 stand_cases false true true x y z e = inr (inl (refl, refl, refl, e))
 stand_cases false true false x y z e = inr (inr (inl (refl, refl, refl)))
 stand_cases false false w x y z e = inr (inr (inr (refl, refl, e)))
 
-has_kind_is : (kind : Kind) (o : Option Row) → has_kind kind o ≡ true → (r : Row) × (o ≡ Some r) × (kind ≡ r.kind)
+pub has_kind_is : (kind : Kind) (o : Option Row) → has_kind kind o ≡ true → (r : Row) × (o ≡ Some r) × (kind ≡ r.kind)
 has_kind_is kind None e = absurd (false≢true e)
 has_kind_is kind (Some r) e = (r, refl, same_kind_is kind r.kind e)
 
@@ -77,15 +76,6 @@ module _ (s : State) (k : Kept s) (lib : ℕ) (creds : Creds) (b : Bundle) (give
   allowed =
       and_parts (keeps_rows image b core (survey core pick)) (list_all (may_stand image creds b core (survey core pick)) (survey core pick))
       (and_parts (is_sound core pick) (is_allowed image creds b core (survey core pick)) accepted).1
-
-  -- a held number is that of a hold of the bundle
-  pub held_unwritten : (n : ℕ) → In n b.holds → Unwritten b n
-  held_unwritten n i w j e =
-      let h = given.holds n i in
-      let g = given.writes w j in
-      let same : g.grant ≡ h.grant = write_alone s.open_grants g.grant h.grant k.apart g.is_open h.is_open g.kind (g.ino ∙ e ∙ sym h.ino) in
-      let wrong : Write ≡ Hold = sym g.kind ∙ ap (λ (x : OpenGrant). x.kind) same ∙ h.kind in
-      absurd (cc wrong)
 
   pub survivor_unwritten : (g : OpenGrant) → In g s.open_grants → is_in_bundle lib b g ≡ false → Unwritten b g.ino
   survivor_unwritten g i out w j e =
@@ -151,7 +141,7 @@ module _ (s : State) (k : Kept s) (lib : ℕ) (creds : Creds) (b : Bundle) (give
         | inl held ↦
             let p = and_parts (has_kind m.kind (row_at image m.ino)) (bytes_eq m.body (settled_body image m.ino)) held.1 in
             let r = has_kind_is m.kind (row_at image m.ino) p.0 in
-            inl (r.0, r.1, r.2, (bytes_eq-Decides m.body (settled_body image m.ino)).0 p.1, held_unwritten m.ino (is_among-In m.ino b.holds held.0))
+            inl (r.0, r.1, r.2, (bytes_eq-Decides m.body (settled_body image m.ino)).0 p.1, held_unwritten s k lib b given m.ino (is_among-In m.ino b.holds held.0))
         | inr rest ↦
             elim rest [
               | inl written ↦ inr written.3

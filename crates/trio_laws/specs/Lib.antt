@@ -4,3 +4,4 @@ pub mod GrantLaws
 pub mod OutLaws
 pub mod ContentLaws
 pub mod Known
+pub mod RuleLaws

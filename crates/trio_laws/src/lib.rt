@@ -9,3 +9,4 @@ pub mod ends;
 pub mod known;
 pub mod laws;
 pub mod outs;
+pub mod rules;

@@ -163,7 +163,7 @@ new_step : (b : Bool) (seen : List ℕ) (m : Met) (ms : List Met) → is_among m
 new_step true seen m ms e p q = p
 new_step false seen m ms e p q = and_from (not (is_among m.ino seen)) _ (ap not e) q
 
-new-first_listed : (seen : List ℕ) (ms : List Met) → are_new seen (numbers (first_listed seen ms)) ≡ true
+pub new-first_listed : (seen : List ℕ) (ms : List Met) → are_new seen (numbers (first_listed seen ms)) ≡ true
 new-first_listed seen [] = refl
 new-first_listed seen (m ∷ ms) =
     new_step (is_among m.ino seen) seen m ms refl (new-first_listed seen ms) (new-first_listed (seen ++ m.ino ∷ []) ms)

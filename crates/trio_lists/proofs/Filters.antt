@@ -1,5 +1,5 @@
 -- What a filter keeps, and what stands in a list by its places.
-use Rattle.std.proofs.Common.{◌≡◌, Bool, true, false, cond, List, [], ◌∷◌, Result, Ok, Err, sym, refl, ap, ◌∙◌, inl, inr, ◌⊎◌, ℕ, suc, zero, ◌<◌, length, get_or, subst, arith, Some, ◌||◌}
+use Rattle.std.proofs.Common.{◌≡◌, Bool, true, false, cond, List, [], ◌∷◌, Result, Ok, Err, sym, refl, ap, ◌∙◌, inl, inr, ◌⊎◌, ℕ, suc, zero, ◌<◌, length, get_or, subst, arith, Some, ◌||◌, Option, None}
 use Rattle.std.specs.List.{filter, list_any, find}
 use Rattle.std.proofs.lemmas.Bool.{both_ways, or_cases, or_left, or_right, false≢true}
 use Rattle.trio_lists.specs.Lists.{In}
@@ -137,3 +137,8 @@ pub filter-same : {X : Type 0} (p q : X → Bool) (xs : List X) → ((x : X) →
 filter-same p q [] h = refl
 filter-same p q (x ∷ xs) h =
     same_step x (filter p xs) (filter q xs) (p x) (q x) (h x (inl refl)) (filter-same p q xs (λ y i. h y (inr i)))
+
+-- an option has one value
+pub some_one : {X : Type 0} (o : Option X) (x y : X) → o ≡ Some x → o ≡ Some y → x ≡ y
+some_one None x y e f = absurd cc
+some_one (Some z) x y e f = (let a : z ≡ x = cc e in let b : z ≡ y = cc f in sym a ∙ b)

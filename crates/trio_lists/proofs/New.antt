@@ -1,5 +1,5 @@
 -- Numbers that are new.
-use Rattle.std.proofs.Common.{◌≡◌, ℕ, true, false, not, List, [], ◌∷◌, ◌++◌, refl, subst, inl, inr, zero, suc, ◌+◌, ◌-◌, take}
+use Rattle.std.proofs.Common.{◌≡◌, ℕ, true, false, not, List, [], ◌∷◌, ◌++◌, refl, subst, inl, inr, ◌⊎◌, zero, suc, take}
 use Rattle.std.proofs.lemmas.Bool.{and_parts, and_from, not-true, not_from_false, false_from_ne_true, both_ways}
 use Rattle.trio_lists.specs.Lists.{In, is_among, are_new}
 use Rattle.trio_lists.proofs.Members.{In-left, In-right, In-cases, is_among-In, In-is_among}
@@ -31,29 +31,30 @@ is_among-not n xs h = false_from_ne_true (is_among n xs) (λ e. h (is_among-In n
 pub are_new-first : (n : ℕ) (xs : List ℕ) → are_new [] (n ∷ xs) ≡ true → (In n xs → ⊥) × (are_new [] xs ≡ true)
 are_new-first n xs h = ((λ i. are_new-before n (n ∷ []) xs h i (inl refl)), are_new-fewer [] (n ∷ []) xs (λ m i. absurd i) h)
 
+-- what is new to one list, and in none of another, is new to both
+pub are_new-joined : (a b c xs : List ℕ) → ((n : ℕ) → In n c → In n a ⊎ In n b) → are_new a xs ≡ true → ((p : ℕ) → In p xs → In p b → ⊥) → are_new c xs ≡ true
+are_new-joined a b c [] sub new apart = refl
+are_new-joined a b c (x ∷ xs) sub new apart =
+    let parts = and_parts (not (is_among x a)) (are_new (a ++ x ∷ []) xs) new in
+    let out : is_among x c ≡ false =
+    false_from_ne_true (is_among x c)
+    (λ t. elim (sub x (is_among-In x c t)) [
+      | inl i ↦ both_ways (is_among x a) (not-true (is_among x a) parts.0) (In-is_among x a i)
+      | inr j ↦ apart x (inl refl) j
+    ]) in
+    and_from (not (is_among x c)) (are_new (c ++ x ∷ []) xs) (not_from_false (is_among x c) out)
+    (are_new-joined (a ++ x ∷ []) b (c ++ x ∷ []) xs
+    (λ n i. elim (In-cases n c (x ∷ []) i) [
+      | inl k ↦ elim (sub n k) [ inl p ↦ inl (In-left n a (x ∷ []) p) | inr q ↦ inr q ]
+      | inr k ↦ inl (In-right n a (x ∷ []) k)
+    ])
+    parts.1 (λ p i j. apart p (inr i) j))
+
 -- numbers are new beside more that they are apart from
 pub are_new-beside : (more seen xs : List ℕ) → are_new seen xs ≡ true → ((x : ℕ) → In x xs → In x more → ⊥) → are_new (more ++ seen) xs ≡ true
-are_new-beside more seen [] h apart = refl
-are_new-beside more seen (x ∷ xs) h apart =
-    let parts = and_parts (not (is_among x seen)) (are_new (seen ++ x ∷ []) xs) h in
-    let new : is_among x (more ++ seen) ≡ false =
-    is_among-not x (more ++ seen) (λ i. elim (In-cases x more seen i) [
-      | inl a ↦ apart x (inl refl) a
-      | inr b ↦ both_ways (is_among x seen) (not-true (is_among x seen) parts.0) (In-is_among x seen b)
-    ]) in
-    and_from (not (is_among x (more ++ seen))) (are_new ((more ++ seen) ++ x ∷ []) xs) (not_from_false (is_among x (more ++ seen)) new)
-    (are_new-fewer ((more ++ seen) ++ x ∷ []) (more ++ (seen ++ x ∷ [])) xs (λ n i. regroup n i) (are_new-beside more (seen ++ x ∷ []) xs parts.1 (λ y j. apart y (inr j))))
-  where
-    regroup : (n : ℕ) → In n ((more ++ seen) ++ x ∷ []) → In n (more ++ (seen ++ x ∷ []))
-    regroup n i =
-        elim (In-cases n (more ++ seen) (x ∷ []) i) [
-          | inl a ↦
-              elim (In-cases n more seen a) [
-                | inl b ↦ In-left n more (seen ++ x ∷ []) b
-                | inr b ↦ In-right n more (seen ++ x ∷ []) (In-left n seen (x ∷ []) b)
-              ]
-          | inr a ↦ In-right n more (seen ++ x ∷ []) (In-right n seen (x ∷ []) a)
-        ]
+are_new-beside more seen xs h apart =
+    are_new-joined seen more (more ++ seen) xs
+    (λ n i. elim (In-cases n more seen i) [ inl k ↦ inr k | inr k ↦ inl k ]) h apart
 
 pub are_new-take : (n : ℕ) (seen xs : List ℕ) → are_new seen xs ≡ true → are_new seen (take n xs) ≡ true
 are_new-take zero seen xs h = refl

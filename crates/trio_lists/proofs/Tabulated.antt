@@ -1,5 +1,5 @@
 -- Lists of what a function gives of each number.
-use Rattle.std.proofs.Common.{◌≡◌, ℕ, suc, zero, ◌+◌, ◌<◌, ◌≤◌, [], ◌∷◌, ◌++◌, length, get_or, sym, refl, ap, ◌∙◌, inl, inr, arith, length-append}
+use Rattle.std.proofs.Common.{◌≡◌, ℕ, suc, zero, ◌<◌, ◌≤◌, [], ◌∷◌, ◌++◌, length, get_or, sym, refl, ap, ◌∙◌, inl, inr, arith, length-append}
 use Rattle.std.proofs.lemmas.List.{get_or_past, get_or_append_left, get_or_at}
 use Rattle.std.proofs.lemmas.Bool.{cases_eq}
 use Rattle.trio_lists.specs.Lists.{tabulated}

@@ -1,2 +1,4 @@
 pub mod Lists
 pub mod Marked
+pub mod Counting
+pub mod Sorting

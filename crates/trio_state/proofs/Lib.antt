@@ -1,2 +1,4 @@
 mod WorkedImages
 mod WorkedBundles
+mod WorkedRules
+mod HostileBundles

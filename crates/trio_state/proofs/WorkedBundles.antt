@@ -14,20 +14,20 @@ use Rattle.trio_layout.specs.Proposed.{Bundle, Written}
 use Rattle.trio_layout.specs.Accept.{is_accepted, next}
 use Rattle.trio_state.proofs.WorkedImages.{directory_body, empty_body, short_body, file_entry, directory_entry, one_number, slots_page, image}
 
-abbrev root_user : Creds
+abbrev pub root_user : Creds
 root_user = record { uid = 0; gid = 0 }
 
-abbrev user : Creds
+abbrev pub user : Creds
 user = record { uid = 5; gid = 5 }
 
-abbrev sheet : ℕ → List ℕ → Sheet
+abbrev pub sheet : ℕ → List ℕ → Sheet
 sheet page bytes = record { page = page; bytes = bytes }
 
 abbrev nothing : Bundle
 nothing = record { writes = []; holds = []; pages = []; numbers = [] }
 
 -- the root's lease, with these bytes in its block
-abbrev root_with : List ℕ → Written
+abbrev pub root_with : List ℕ → Written
 root_with block = record {
   ino = 1;
   kind = Directory;
@@ -36,14 +36,14 @@ root_with block = record {
   blocks = sheet 5 block ∷ [];
 }
 
-abbrev slot_a : List ℕ
+abbrev pub slot_a : List ℕ
 slot_a = entry_bytes (file_entry 2 97) ++ body_bytes (empty_body 5)
 
-abbrev slot_b : List ℕ
+abbrev pub slot_b : List ℕ
 slot_b = entry_bytes (file_entry 3 98) ++ body_bytes (short_body 6)
 
 -- the lease of `b`, with this body and this number of its block
-abbrev file_with : List ℕ → ℕ → Written
+abbrev pub file_with : List ℕ → ℕ → Written
 file_with body block = record {
   ino = 3;
   kind = Regular;
@@ -52,7 +52,7 @@ file_with body block = record {
   blocks = sheet 7 (zeros 4096) ∷ [];
 }
 
-abbrev writes : List Written → Bundle
+abbrev pub writes : List Written → Bundle
 writes files = record { writes = files; holds = []; pages = []; numbers = [] }
 
 nothing_is_accepted : is_accepted image root_user nothing ≡ true

@@ -13,11 +13,12 @@ use Rattle.trio_layout.specs.Survey.{Met, Pick, plain, FileRead, file_of, survey
 use Rattle.trio_layout.specs.Image.{IsFit, Image, row_at, settled_body, body_by_row}
 use Rattle.trio_surveys.proofs.Cores.{listed_is_core}
 use Rattle.trio_surveys.proofs.Local.{read_at}
-use Rattle.trio_lists.proofs.Members.{In-map, flat_map-In, is_among-In, option_and_then-Some}
+use Rattle.trio_lists.proofs.Gathered.{one_keyed}
+use Rattle.trio_lists.proofs.Members.{flat_map-In, is_among-In, option_and_then-Some}
 use Rattle.trio_surveys.proofs.Owned.{sound_parts, owner_is}
-use Rattle.trio_lists.proofs.New.{are_new-before, are_new-fewer}
 use Rattle.trio_surveys.proofs.Picked.{all_listed, listed_no_root}
-use Rattle.trio_surveys.proofs.Tree.{survey_tree, child_from, child_placed, child_numbered, numbers-flat}
+use Rattle.trio_layout.proofs.Walks.{numbers-flat}
+use Rattle.trio_surveys.proofs.Tree.{survey_tree, child_from, child_placed, child_numbered}
 use Rattle.trio_lists.proofs.Filters.{find-In, In-find}
 use Rattle.trio_lists.proofs.Tabulated.{tabulated-get, tabulated-past}
 
@@ -28,14 +29,7 @@ some_of (Some x) e = (x, refl)
 
 -- in a list of distinct numbers a number has one file
 pub same_met : (files : List Met) (m m' : Met) → are_new [] (numbers files) ≡ true → In m files → In m' files → m.ino ≡ m'.ino → m ≡ m'
-same_met [] m m' new i j e = absurd i
-same_met (x ∷ xs) m m' new (inl a) (inl b) e = a ∙ sym b
-same_met (x ∷ xs) m m' new (inl a) (inr j) e =
-    absurd (are_new-before m'.ino (x.ino ∷ []) (numbers xs) (and_parts true (are_new (x.ino ∷ []) (numbers xs)) new).1 (In-map (λ (w : Met). w.ino) m' xs j) (inl (sym e ∙ ap (λ (w : Met). w.ino) a)))
-same_met (x ∷ xs) m m' new (inr i) (inl b) e =
-    absurd (are_new-before m.ino (x.ino ∷ []) (numbers xs) (and_parts true (are_new (x.ino ∷ []) (numbers xs)) new).1 (In-map (λ (w : Met). w.ino) m xs i) (inl (e ∙ ap (λ (w : Met). w.ino) b)))
-same_met (x ∷ xs) m m' new (inr i) (inr j) e =
-    same_met xs m m' (are_new-fewer [] (x.ino ∷ []) (numbers xs) (λ n k. absurd k) (and_parts true (are_new (x.ino ∷ []) (numbers xs)) new).1) i j e
+same_met files m m' new i j e = one_keyed (λ (w : Met). w.ino) files m m' new i j e
 
 pub owner_none : (core : Core) (files : List Met) (p : ℕ) → ((m : Met) → In m files → In p (pages_of core m) → ⊥) → owner_of core files p ≡ 0
 owner_none core [] p h = refl

@@ -19,3 +19,10 @@ pub mod Statements
 pub mod Tree
 pub mod Trees
 pub mod Alike
+pub mod Sharing
+pub mod Reached
+pub mod Climbing
+pub mod RowsLaw
+pub mod Within
+pub mod BundlePages
+pub mod OwnFiles

@@ -24,7 +24,8 @@ pub use Rattle.trio_surveys.specs.Reading.{picked_entry as picked, with_picked_b
 use Rattle.trio_lists.proofs.Members.{In-right, In-flat, flat_map-In, In-map, list_all-each, flat_map-same}
 use Rattle.trio_surveys.proofs.Local.{reads_from, reads_to, read_at, chain_local, survey_follows}
 use Rattle.trio_surveys.proofs.Places.{at_place, gathers_directory, slot_has}
-use Rattle.trio_surveys.proofs.Tree.{survey_tree, child_from, child_has, child_placed, numbers-flat}
+use Rattle.trio_layout.proofs.Walks.{numbers-flat}
+use Rattle.trio_surveys.proofs.Tree.{survey_tree, child_from, child_has, child_placed}
 use Rattle.trio_surveys.proofs.Slots.{slot_by_front}
 use Rattle.trio_surveys.proofs.Putting.{put_on, page_of-bodies, put_on-none, put_on-front, put_on-body, ArePlaced}
 use Rattle.trio_surveys.proofs.Owned.{page_owner, pages_are, index_apart, sound_parts, sound_from, body_sized}

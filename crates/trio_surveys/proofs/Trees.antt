@@ -1,60 +1,27 @@
 -- An image that verifies is one connected tree with each page owned once, and its rows are those of the files met.
-use Rattle.std.proofs.Common.{◌≡◌, ◌≢◌, ℕ, zero, suc, Bool, true, false, cond, ltb, leb, List, [], ◌∷◌, ◌++◌, Some, sym, refl, ap, ◌∙◌, inl, inr, ◌⊎◌}
+use Rattle.std.proofs.Common.{Bool, List, Some, [], ap, cond, false, inl, inr, leb, ltb, refl, sym, true, ℕ, ◌∙◌, ◌∷◌, ◌≡◌, ◌≢◌, ◌⊎◌}
+use Rattle.std.proofs.lemmas.Bool.{and_parts, le-ltb, leb-true, ltb-true}
 use Rattle.std.specs.Prelude.{is_some, slice_index}
-use Rattle.std.specs.List.{flat_map}
-use Rattle.std.proofs.lemmas.Bool.{and_parts, ltb-true, leb-true, le-ltb}
 use Rattle.trio_rights.specs.Row.{Row}
+use Rattle.trio_lists.proofs.Members.{is_among-In}
 use Rattle.trio_lists.specs.Lists.{In, is_among}
-use Rattle.trio_layout.specs.Range.{is_core}
 use Rattle.trio_layout.specs.Core.{Core}
-use Rattle.trio_layout.specs.Survey.{Met, plain, survey, root_of, children, pages_of, owner_of, levels, Front, first_listed, numbers}
 use Rattle.trio_layout.specs.Image.{Image, IsFit, row_at, settled_body}
+use Rattle.trio_layout.specs.Range.{is_core}
+use Rattle.trio_layout.specs.Survey.{Met, owner_of, pages_of, plain, survey}
 use Rattle.trio_layout.specs.Verifies.{Verifies}
-use Rattle.trio_surveys.specs.Tree.{Reaches, IsLive, IsTree, ImageIsTree}
-use Rattle.trio_lists.proofs.Members.{In-cases, flat_map-In, is_among-In}
-use Rattle.trio_surveys.proofs.Tree.{survey_tree}
+use Rattle.trio_surveys.proofs.Images.{TablesOf, met_row, numbers_new, one_met, owner_at, owner_listed, read_met, row_at_is, row_met, settled_body_met}
 use Rattle.trio_surveys.proofs.Owned.{sound_parts}
-use Rattle.trio_surveys.proofs.Images.{TablesOf, row_at_is, row_met, met_row, read_met, one_met, numbers_new, owner_at, owner_listed, settled_body_met}
-
-first_step : (b : Bool) (m x : Met) (xs ys zs : List Met) → (In m ys → In m xs) → (In m zs → In m xs) → In m (cond b ys (x ∷ zs)) → (m ≡ x) ⊎ In m xs
-first_step true m x xs ys zs h k i = inr (h i)
-first_step false m x xs ys zs h k (inl e) = inl e
-first_step false m x xs ys zs h k (inr i) = inr (k i)
-
-first_among : (seen : List ℕ) (ms : List Met) (m : Met) → In m (first_listed seen ms) → In m ms
-first_among seen [] m i = i
-first_among seen (x ∷ xs) m i =
-    first_step (is_among x.ino seen) m x xs (first_listed seen xs) (first_listed (seen ++ x.ino ∷ []) xs) (first_among seen xs m) (first_among (seen ++ x.ino ∷ []) xs m) i
-
-level_reached : (core : Core) (k : ℕ) (m : Met) → In m (levels (children core plain) (root_of core) k).level → Reaches core k m
-level_reached core zero m (inl e) = e
-level_reached core zero m (inr i) = absurd i
-level_reached core (suc k) m i =
-    let w : Front = levels (children core plain) (root_of core) k in
-    let j = first_among (numbers (w.passed ++ w.level)) (flat_map (children core plain) w.level) m i in
-    let r = flat_map-In (children core plain) m w.level j in
-    (r.0, level_reached core k r.0 r.1, r.2)
-
-passed_reached : (core : Core) (k : ℕ) (m : Met) → In m (levels (children core plain) (root_of core) k).passed → (steps : ℕ) × Reaches core steps m
-passed_reached core zero m i = absurd i
-passed_reached core (suc k) m i =
-    let w : Front = levels (children core plain) (root_of core) k in
-    elim (In-cases m w.passed w.level i) [
-      | inl before ↦ passed_reached core k m before
-      | inr here ↦ (k, level_reached core k m here)
-    ]
-
--- each file met is reached from the root
-pub survey_reached : (core : Core) (m : Met) → In m (survey core plain) → (steps : ℕ) × Reaches core steps m
-unfolding survey
-survey_reached core m i = passed_reached core (suc core.inodes) m i
+use Rattle.trio_surveys.proofs.Reached.{survey_reached}
+use Rattle.trio_surveys.proofs.Tree.{survey_tree}
+use Rattle.trio_surveys.specs.Tree.{ImageIsTree, IsLive, IsTree}
 
 owner_step : (core : Core) (x : Met) (xs : List Met) (p : ℕ) (b : Bool) → is_among p (pages_of core x) ≡ b → ((owner_of core xs p ≢ 0) → (m : Met) × In m xs × (m.ino ≡ owner_of core xs p) × In p (pages_of core m)) → cond b x.ino (owner_of core xs p) ≢ 0 → (m : Met) × ((m ≡ x) ⊎ In m xs) × (m.ino ≡ cond b x.ino (owner_of core xs p)) × In p (pages_of core m)
 owner_step core x xs p true t h n = (x, inl refl, refl, is_among-In p (pages_of core x) t)
 owner_step core x xs p false t h n = (let r = h n in (r.0, inr r.1, r.2, r.3))
 
 -- the owner that is not 0 is a file that lists the page
-owner_from : (core : Core) (files : List Met) (p : ℕ) → owner_of core files p ≢ 0 → (m : Met) × In m files × (m.ino ≡ owner_of core files p) × In p (pages_of core m)
+pub owner_from : (core : Core) (files : List Met) (p : ℕ) → owner_of core files p ≢ 0 → (m : Met) × In m files × (m.ino ≡ owner_of core files p) × In p (pages_of core m)
 owner_from core [] p n = absurd (n refl)
 owner_from core (x ∷ xs) p n = owner_step core x xs p (is_among p (pages_of core x)) refl (owner_from core xs p) n
 
@@ -65,7 +32,7 @@ module _ (image : Image) (fit : IsFit image.core) (v : Verifies image) where
   live_file : (n : ℕ) (r : Row) → row_at image n ≡ Some r → IsLive image n r
   live_file n r row =
       let q = met_row image.core plain fit v.sound n r (sym (row_at_is image.core plain fit v.sound image the_tables n) ∙ row) in
-      let way = survey_reached image.core q.met q.stands in
+      let way = survey_reached image.core plain q.met q.stands in
       record {
         met = q.met;
         file = q.file;
@@ -73,7 +40,7 @@ module _ (image : Image) (fit : IsFit image.core) (v : Verifies image) where
         number = q.number;
         alone = λ other i e. one_met image.core plain fit v.sound other q.met i q.stands (e ∙ sym q.number);
         steps = way.0;
-        reached = way.1;
+        reached = way.2;
         read = q.read;
         body = sym (settled_body_met image q.met fit v.sound the_tables q.stands) ∙ ap (settled_body image) q.number;
         row = q.row;

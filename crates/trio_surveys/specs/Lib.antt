@@ -1,3 +1,4 @@
 pub mod Reading
 pub mod SurveyLaws
 pub mod Tree
+pub mod Rows

@@ -4,15 +4,15 @@ use Rattle.trio_rights.specs.Row.{Row}
 use Rattle.trio_lists.specs.Lists.{In, are_new}
 use Rattle.trio_layout.specs.Range.{is_core}
 use Rattle.trio_layout.specs.Core.{Core}
-use Rattle.trio_layout.specs.Survey.{Met, plain, FileRead, file_of, survey, root_of, children, pages_of, row_by, numbers}
+use Rattle.trio_layout.specs.Survey.{Met, Pick, plain, FileRead, file_of, survey, root_of, children, pages_of, row_by, numbers}
 use Rattle.trio_layout.specs.Sound.{listings, listed_pages}
 use Rattle.trio_layout.specs.Image.{Image, IsFit, row_at, settled_body}
 use Rattle.trio_layout.specs.Verifies.{Verifies}
 
 -- a way of so many steps from the root down to a file, each to a file that the one before it lists
-abbrev pub Reaches : Core → ℕ → Met → Type 0
-Reaches core zero m = m ≡ root_of core
-Reaches core (suc steps) m = (parent : Met) × Reaches core steps parent × In m (children core plain parent)
+abbrev pub Reaches : Core → Pick → ℕ → Met → Type 0
+Reaches core pick zero m = m ≡ root_of core
+Reaches core pick (suc steps) m = (parent : Met) × Reaches core pick steps parent × In m (children core pick parent)
 
 -- The file of a live number: it is met from the root, alone of its number, and read whole. Its row says where it is listed and
 -- what it is, and its rights are those that its body says.
@@ -23,7 +23,7 @@ pub record IsLive (image : Image) (n : ℕ) (r : Row) : Type 0 where
   pub number : met.ino ≡ n
   pub alone : (other : Met) → In other (survey image.core plain) → other.ino ≡ n → other ≡ met
   pub steps : ℕ
-  pub reached : Reaches image.core steps met
+  pub reached : Reaches image.core plain steps met
   pub read : file_of image.core met ≡ Ok file
   pub body : met.body ≡ settled_body image n
   pub row : r ≡ row_by met file.body

@@ -2,11 +2,7 @@
 use Rattle.std.specs.Prelude.{ℕ, ◌+◌, ◌-◌, ◌==◌, Bool, false, List, ◌++◌, Option, None, Some, replicate, is_some}
 use Rattle.std.specs.List.{count_by}
 use Rattle.trio_rights.specs.Row.{Row}
-
--- a live file that this directory lists
-abbrev pub is_child : ℕ → Option Row → Bool
-is_child ino None = false
-is_child ino (Some r) = r.parent == ino
+pub use Rattle.trio_rights.specs.Row.{is_child}
 
 -- how many live files name this directory as the one that lists them
 abbrev pub child_count : ℕ → List (Option Row) → ℕ

@@ -1,0 +1,15 @@
+pub mod CaseFacts
+pub mod JudgedFacts
+pub mod Sides
+pub mod RuleParts
+pub mod Giving
+pub mod ListingFacts
+pub mod Reaching
+pub mod Allowing
+pub mod Taking
+pub mod Meeting
+pub mod MeetingEdges
+pub mod Breaking
+pub mod TablesAfter
+pub mod CopiedRows
+pub mod Equivalence

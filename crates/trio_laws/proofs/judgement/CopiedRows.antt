@@ -1,0 +1,240 @@
+-- The rows that a case copies are all that I1, I2, I4 and the listing look at.
+use Rattle.std.proofs.Common.{Bool, Err, List, None, Ok, Option, Result, Some, [], ap, arith, cond, eqb, false, inl, inr, is_ok, length, not, refl, subst, suc, sym, true, ℕ, ◌&&◌, ◌<◌, ◌||◌, ◌∙◌, ◌∷◌, ◌≡◌, ◌⊎◌}
+use Rattle.std.proofs.lemmas.Bool.{both_ways, cases_Bool, cases_lt, or_left, or_right}
+use Rattle.std.proofs.lemmas.List.{get_or_past}
+use Rattle.std.specs.List.{flat_map, list_all}
+use Rattle.std.specs.Prelude.{is_some, map}
+use Rattle.std.specs.Str.{bytes_eq}
+use Rattle.trio_rights.specs.Row.{Row, row_in}
+use Rattle.trio_rights.specs.declared.kind.Kind.{Kind}
+use Rattle.trio_rights.specs.declared.kind.Kind.TheVariants.{Directory, Regular}
+use Rattle.trio_lists.proofs.Members.{is_among-In, In-is_among, map-In, result_then-Ok}
+use Rattle.trio_lists.specs.Lists.{In, are_new, gathered, is_among}
+use Rattle.trio_layout.specs.Allowed.{has_kind}
+use Rattle.trio_layout.specs.Body.{body_of}
+use Rattle.trio_layout.specs.Case.{Case, bundle_core, case_of}
+use Rattle.trio_layout.specs.Copied.{copied_row, copied_rows, is_copied, with_copied}
+use Rattle.trio_layout.specs.Core.{Core, Location, page_of}
+use Rattle.trio_layout.specs.Entries.{Listed, body_in_slot, entries_on, listed_at, repeated_name, slot_bytes, slot_entries, unless_repeated, with_names_apart}
+use Rattle.trio_layout.specs.Image.{row_at}
+use Rattle.trio_layout.specs.JudgedFiles.{entries_in, fronts, judged_entries, judged_files, new_entries, pages_within, written_at, written_files, written_met}
+use Rattle.trio_layout.specs.Listing.{ListedEntry, Listing, entry_listed, file_listed, is_kept, listing}
+use Rattle.trio_layout.specs.Proposed.{Bundle, Written, bundle_pages, is_place_of, is_written}
+use Rattle.trio_layout.specs.Rules.{entry_in_grammar, entry_is_own, entry_keeps_rights, file_keeps_rights, has_rights, lent_body, meets_grammar, meets_owning, meets_rights}
+use Rattle.trio_layout.specs.Slot.{slot_of}
+use Rattle.trio_layout.specs.Survey.{FileRead, Met, children_in, met_in, numbers, plain}
+use Rattle.trio_layout.specs.Within.{entries_where, entries_within, file_within}
+use Rattle.trio_layout.specs.declared.slot.SlotRead.{SlotRead}
+use Rattle.trio_layout.specs.declared.slot.SlotRead.TheVariants.{Bad, Empty, Entry}
+use Rattle.trio_surveys.proofs.Images.{read_met}
+use Rattle.trio_lists.proofs.Tabulated.{tabulated-get, tabulated-past}
+use Rattle.trio_surveys.proofs.ModedCore.{ms}
+use Rattle.trio_surveys.proofs.Places.{below_from, entry_numbered, gathered_from}
+use Rattle.trio_state.specs.State.{State, creds_of, settled}
+use Rattle.trio_laws.specs.RuleLaws.{CopiedRowsSuffice, IsJudgeable}
+use Rattle.trio_laws.proofs.judgement.CaseFacts.{live, new_not_live, is_written_from, row_of_met}
+use Rattle.trio_laws.proofs.judgement.JudgedFacts.{judged_from, new_from, entry_from, written_ino}
+use Rattle.trio_lists.specs.Sorting.{sorted_by}
+use Rattle.trio_lists.proofs.Sorting.{sorted_in}
+use Rattle.trio_surveys.proofs.OwnFiles.{place_parts}
+use Rattle.trio_surveys.proofs.Reached.{met_cases, child_parent}
+use Rattle.trio_surveys.proofs.Within.{within_from}
+
+all_same : {X : Type 0} (p q : X → Bool) (xs : List X) → ((x : X) → In x xs → p x ≡ q x) → list_all p xs ≡ list_all q xs
+all_same p q [] h = refl
+all_same p q (x ∷ xs) h = ap (λ b. b && list_all p xs) (h x (inl refl)) ∙ ap (λ b. q x && b) (all_same p q xs (λ y i. h y (inr i)))
+
+map_same : {X Y : Type 0} (f g : X → Y) (xs : List X) → ((x : X) → In x xs → f x ≡ g x) → map f xs ≡ map g xs
+map_same f g [] h = refl
+map_same f g (x ∷ xs) h = ap (λ y. y ∷ map f xs) (h x (inl refl)) ∙ ap (λ ys. g x ∷ ys) (map_same f g xs (λ y i. h y (inr i)))
+
+-- ---- an entry has a number from 1 on
+
+apart_is : (o : Option Location) (ls es : List Listed) → unless_repeated ls o ≡ Ok es → ls ≡ es
+apart_is None ls es e = cc
+apart_is (Some place) ls es e = absurd cc
+
+slot_says : (page slot : ℕ) (body : List ℕ) (r : SlotRead) (es : List Listed) (l : Listed) → listed_at page slot body r ≡ Ok es → In l es → r ≡ Entry l.entry
+slot_says page slot body Empty es l e i = (let n : [] ≡ es = cc in absurd (subst (λ x. In l x) (sym n) i))
+slot_says page slot body Bad es l e i = absurd cc
+slot_says page slot body (Entry p) es l e i =
+    let n : record { entry = p; page = page; slot = slot; body = body } ∷ [] ≡ es = cc in
+    let k : In l (record { entry = p; page = page; slot = slot; body = body } ∷ []) = subst (λ x. In l x) (sym n) i in
+    elim k [ inl s ↦ ap (λ (x : Listed). Entry x.entry) (sym s) | inr no' ↦ absurd no' ]
+
+where_numbered : (inodes page : ℕ) (o : Option (List ℕ)) (es : List Listed) (l : Listed) → entries_where inodes page o ≡ Ok es → In l es → 0 < l.entry.ino
+unfolding entries_on
+where_numbered inodes page None es l e i = (let n : [] ≡ es = cc in absurd (subst (λ x. In l x) (sym n) i))
+where_numbered inodes page (Some bytes) es l e i =
+    let b = below_from (slot_entries inodes page bytes) 16 es l e i in
+    let says = slot_says page b.0 (body_in_slot b.0 bytes) (slot_of inodes (slot_bytes b.0 bytes)) b.1 l b.3 b.4 in
+    (entry_numbered inodes (slot_bytes b.0 bytes) l.entry says).0
+
+kind_numbered : (core : Core) (kind : Kind) (blocks : List ℕ) (es : List Listed) (l : Listed) → entries_within core kind blocks ≡ Ok es → In l es → 0 < l.entry.ino
+kind_numbered core Regular blocks es l e i = (let n : [] ≡ es = cc in absurd (subst (λ x. In l x) (sym n) i))
+kind_numbered core Directory blocks es l e i =
+    let f : ℕ → Result (List Listed) Location = λ page. entries_where core.inodes page (page_of core page) in
+    let q = result_then-Ok with_names_apart (gathered f blocks) es e in
+    let same : q.0 ≡ es = apart_is (repeated_name [] q.0) q.0 es q.2 in
+    let g = gathered_from f blocks q.0 l q.1 (subst (λ x. In l x) (sym same) i) in
+    where_numbered core.inodes g.0 (page_of core g.0) g.1 l g.3 g.4
+
+entry_number : (core : Core) (m e : Met) (r : Result FileRead Location) → file_within core m ≡ r → In e (children_in plain m.ino r) → (0 < e.ino) × (e.parent ≡ m.ino)
+entry_number core m e (Err p) q i = absurd i
+entry_number core m e (Ok f) q i =
+    let l = map-In (met_in plain m.ino) e f.entries i in
+    let low : 0 < l.0.entry.ino = kind_numbered core m.kind f.chain.blocks f.entries l.0 (within_from core m f q).entries l.1 in
+    let is : e.ino ≡ l.0.entry.ino = ap (λ (x : Met). x.ino) l.2 in
+    let low' : 0 < e.ino = omega (arith, low, is) in
+    (low', ap (λ (x : Met). x.parent) l.2)
+
+-- ---- rows
+
+copied_at : (b : Bundle) (rows : List (Option Row)) (n : ℕ) → row_in (copied_rows b rows) n ≡ copied_row b n (row_in rows n)
+copied_at b rows n =
+    elim (cases_lt n (length rows)) [
+      | inl l ↦ tabulated-get (λ n. copied_row b n (row_in rows n)) (length rows) n None l
+      | inr g ↦ tabulated-past (λ n. copied_row b n (row_in rows n)) (length rows) n None g ∙ sym (ap (copied_row b n) (get_or_past rows n None g))
+    ]
+
+own_row : (b : Bundle) (n : ℕ) (o : Option Row) → (is_written b n ≡ true) ⊎ In n b.holds → copied_row b n o ≡ o
+own_row b n None h = refl
+own_row b n (Some r) (inl w) =
+    ap (λ t. cond t (Some r) None) (or_left (is_written b n || is_among n b.holds) (is_written b r.parent) (or_left (is_written b n) (is_among n b.holds) w))
+own_row b n (Some r) (inr i) =
+    ap (λ t. cond t (Some r) None) (or_left (is_written b n || is_among n b.holds) (is_written b r.parent) (or_right (is_written b n) (is_among n b.holds) (In-is_among n b.holds i)))
+
+child_row : (b : Bundle) (n : ℕ) (r : Row) → is_written b r.parent ≡ true → copied_row b n (Some r) ≡ Some r
+child_row b n r w = ap (λ t. cond t (Some r) None) (or_right (is_written b n || is_among n b.holds) (is_written b r.parent) w)
+
+-- a place that a row names is named by the copied row, where the directory is written or is no row's parent
+place_step : (b : Bundle) (n d p t : ℕ) (o : Option Row) (k : Bool) → is_copied b n o ≡ k → ((r : Row) → o ≡ Some r → r.parent ≡ d → is_written b d ≡ true) → is_place_of d p t (cond k o None) ≡ is_place_of d p t o
+place_step b n d p t o true e h = refl
+place_step b n d p t None false e h = refl
+place_step b n d p t (Some r) false e h =
+    elim (cases_Bool (is_place_of d p t (Some r))) [
+      | inr f ↦ sym f
+      | inl y ↦
+          let q = place_parts d p t (Some r) y in
+          let same : r ≡ q.0 = (let z : Some r ≡ Some q.0 = q.1 in cc z) in
+          let parent : r.parent ≡ d = ap (λ (x : Row). x.parent) same ∙ q.2 in
+          let w : is_written b r.parent ≡ true = ap (is_written b) parent ∙ h r refl parent in
+          absurd (both_ways (is_copied b n (Some r)) e (or_right (is_written b n || is_among n b.holds) (is_written b r.parent) w))
+    ]
+
+module _ (s : State) (lib : ℕ) (b : Bundle) (j : IsJudgeable s lib b) where
+  abbrev c : Case
+  c = case_of (settled s) (creds_of s lib) b
+
+  abbrev d : Case
+  d = with_copied (case_of (settled s) (creds_of s lib) b)
+
+  rows_written : (w : Written) → In w b.writes → row_in d.rows w.ino ≡ row_in c.rows w.ino
+  rows_written w i = copied_at b c.rows w.ino ∙ own_row b w.ino (row_in c.rows w.ino) (inl (is_written_from s lib b j w i))
+
+  files_same : written_files d ≡ written_files c
+  files_same =
+      map_same (written_met d) (written_met c) (sorted_by (λ (w : Written). w.ino) b.writes) (λ w i. ap (written_at w) (rows_written w (sorted_in (λ (w : Written). w.ino) w b.writes i)))
+
+  judged_same : judged_files d ≡ judged_files c
+  unfolding judged_files
+  judged_same = ap (λ ws. (fronts (new_entries c) ws (suc c.inodes)).passed) files_same
+
+  -- no row names a new file for its parent
+  new_childless : (x : Met) (n : ℕ) (r : Row) → In x.ino b.numbers → 0 < x.ino → row_at (settled s) n ≡ Some r → r.parent ≡ x.ino → ⊥
+  new_childless x n r new low row is =
+      let m = live s lib b j n r row in
+      elim (met_cases (settled s).core plain j.kept.fit.numbers j.kept.verifies.sound m.met m.stands) [
+        | inl z ↦
+            let p : r.parent ≡ 0 = ap (λ (y : Row). y.parent) m.row ∙ ap (λ (y : Met). y.parent) z in
+            omega (arith, low, is, p)
+        | inr q ↦
+            let f = read_met (settled s).core plain j.kept.fit j.kept.verifies.sound q.0 q.1 in
+            let p : x.ino ≡ q.0.ino = sym is ∙ ap (λ (y : Row). y.parent) m.row ∙ child_parent (settled s).core plain q.0 m.met q.2 in
+            new_not_live s lib b j x.ino _ new (ap (row_at (settled s)) p ∙ row_of_met s lib b j q.0 f.0 q.1 f.1)
+      ]
+
+  -- the directory of a judged entry is written, where a row names it
+  dir_written : (e : Met) (n : ℕ) (r : Row) → In e (judged_entries c) → row_at (settled s) n ≡ Some r → r.parent ≡ e.parent → is_written b e.parent ≡ true
+  dir_written e n r i row is =
+      let x = entry_from s lib b j e i in
+      let dir : e.parent ≡ x.0.ino = (entry_number (bundle_core c) x.0 e (file_within (bundle_core c) x.0) refl x.2).1 in
+      elim (judged_from s lib b j x.0 x.1) [
+        | inl w ↦ ap (is_written b) (dir ∙ ap (λ (y : Met). y.ino) w.2 ∙ written_ino c w.0) ∙ is_written_from s lib b j w.0 w.1
+        | inr y ↦
+            let k = new_from s lib b j y.0 x.0 y.2 in
+            let low = (entry_number (bundle_core c) y.0 x.0 (file_within (bundle_core c) y.0) refl k.0).0 in
+            absurd (new_childless x.0 n r k.1 low row (is ∙ dir))
+      ]
+
+  kept_same : (e : Met) → In e (judged_entries c) → is_kept d e ≡ is_kept c e
+  kept_same e i =
+      ap (is_place_of e.parent e.page e.slot) (copied_at b c.rows e.ino)
+      ∙ place_step b e.ino e.parent e.page e.slot (row_in c.rows e.ino) (is_copied b e.ino (row_in c.rows e.ino)) refl
+      (λ r row is. dir_written e e.ino r i row is)
+
+  entries_same : judged_entries d ≡ judged_entries c
+  entries_same = ap (flat_map (entries_in c)) judged_same
+
+  grammar_same : meets_grammar d ≡ meets_grammar c
+  grammar_same =
+      ap (λ ms. list_all (λ m. is_ok (file_within (bundle_core c) m)) ms && list_all (entry_in_grammar d) (flat_map (entries_in c) ms)) judged_same
+      ∙ ap (λ t. list_all (λ m. is_ok (file_within (bundle_core c) m)) (judged_files c) && t)
+      (all_same (entry_in_grammar d) (entry_in_grammar c) (judged_entries c) (λ e i. ap (λ t. t || is_some (body_of e.kind c.range e.body)) (kept_same e i)))
+
+  abbrev meets_with : List Met → Bool → Bool
+  meets_with ms own =
+      list_all (λ page. is_among page (bundle_pages b)) (flat_map (pages_within c) ms) && are_new [] (flat_map (pages_within c) ms)
+      && own && are_new [] (numbers (flat_map (entries_in c) ms))
+
+  owning_same : meets_owning d ≡ meets_owning c
+  owning_same =
+      ap (λ ms. meets_with ms (list_all (entry_is_own d) (flat_map (entries_in c) ms))) judged_same
+      ∙ ap (meets_with (judged_files c))
+      (all_same (entry_is_own d) (entry_is_own c) (judged_entries c) (λ e i. ap (λ t. t || is_among e.ino b.holds || is_among e.ino b.numbers) (kept_same e i)))
+
+  -- the row of a kept child or a held file is copied
+  entry_rights_same : (e : Met) → In e (judged_entries c) → entry_keeps_rights d e ≡ entry_keeps_rights c e
+  entry_rights_same e i =
+      ap (λ t. cond t (has_kind e.kind (row_in d.rows e.ino)) (not (is_among e.ino b.holds) || (has_kind e.kind (row_in d.rows e.ino) && bytes_eq e.body (lent_body c e.ino)))) (kept_same e i)
+      ∙ by_kept (is_kept c e) refl (is_among e.ino b.holds) refl
+    where
+      row_e : (is_kept c e ≡ true) ⊎ In e.ino b.holds → row_in d.rows e.ino ≡ row_in c.rows e.ino
+      row_e (inr held) = copied_at b c.rows e.ino ∙ own_row b e.ino (row_in c.rows e.ino) (inr held)
+      row_e (inl kept) =
+          let r = place_parts e.parent e.page e.slot (row_in c.rows e.ino) kept in
+          let w : is_written b r.0.parent ≡ true = ap (is_written b) r.2 ∙ dir_written e e.ino r.0 i r.1 r.2 in
+          copied_at b c.rows e.ino ∙ ap (copied_row b e.ino) r.1 ∙ child_row b e.ino r.0 w ∙ sym r.1
+
+      by_kept : (t : Bool) → is_kept c e ≡ t → (h : Bool) → is_among e.ino b.holds ≡ h → cond t (has_kind e.kind (row_in d.rows e.ino)) (not h || (has_kind e.kind (row_in d.rows e.ino) && bytes_eq e.body (lent_body c e.ino))) ≡ cond t (has_kind e.kind (row_in c.rows e.ino)) (not h || (has_kind e.kind (row_in c.rows e.ino) && bytes_eq e.body (lent_body c e.ino)))
+      by_kept true k h q = ap (has_kind e.kind) (row_e (inl k))
+      by_kept false k false q = refl
+      by_kept false k true q = ap (λ o. has_kind e.kind o && bytes_eq e.body (lent_body c e.ino)) (row_e (inr (is_among-In e.ino b.holds q)))
+
+  file_rights_same : (m : Met) (r : Result FileRead Location) → file_keeps_rights d m r ≡ file_keeps_rights c m r
+  file_rights_same m (Err p) = refl
+  file_rights_same m (Ok f) = by_written (is_written b m.ino) refl
+    where
+      by_written : (w : Bool) → is_written b m.ino ≡ w → cond w (has_rights (row_in d.rows m.ino) f.body) (eqb f.body.uid c.creds.uid && eqb f.body.gid c.creds.gid) ≡ cond w (has_rights (row_in c.rows m.ino) f.body) (eqb f.body.uid c.creds.uid && eqb f.body.gid c.creds.gid)
+      by_written true e = ap (λ o. has_rights o f.body) (copied_at b c.rows m.ino ∙ own_row b m.ino (row_in c.rows m.ino) (inl e))
+      by_written false e = refl
+
+  rights_same : meets_rights d ≡ meets_rights c
+  rights_same =
+      ap (λ ms. list_all (entry_keeps_rights d) (flat_map (entries_in c) ms) && list_all (λ m. file_keeps_rights d m (file_within (bundle_core c) m)) ms) judged_same
+      ∙ ap (λ t. t && list_all (λ m. file_keeps_rights d m (file_within (bundle_core c) m)) (judged_files c)) (all_same (entry_keeps_rights d) (entry_keeps_rights c) (judged_entries c) entry_rights_same)
+      ∙ ap (λ t. list_all (entry_keeps_rights c) (judged_entries c) && t)
+      (all_same (λ m. file_keeps_rights d m (file_within (bundle_core c) m)) (λ m. file_keeps_rights c m (file_within (bundle_core c) m)) (judged_files c) (λ m i. file_rights_same m (file_within (bundle_core c) m)))
+
+  abbrev listed : List Met → List ListedEntry → Listing
+  listed ms es = record { held = sorted_by (λ (n : ℕ). n) b.holds; files = flat_map (λ m. file_listed m (file_within (bundle_core c) m)) ms; entries = es }
+
+  listing_same : listing d ≡ listing c
+  listing_same =
+      ap (λ ms. listed ms (map (entry_listed d) (flat_map (entries_in c) ms))) judged_same
+      ∙ ap (listed (judged_files c))
+      (map_same (entry_listed d) (entry_listed c) (judged_entries c)
+      (λ e i. ap (λ t. record { ino = e.ino; kind = e.kind; dir = e.parent; page = e.page; slot = e.slot; kept = t }) (kept_same e i)))
+
+pub copied_rows_suffice : CopiedRowsSuffice
+copied_rows_suffice s lib b j = (grammar_same s lib b j, owning_same s lib b j, rights_same s lib b j, listing_same s lib b j)

@@ -1,0 +1,88 @@
+-- What stands in the listing of a bundle.
+use Rattle.std.proofs.Common.{Err, None, Ok, Option, Result, Some, ap, eqb, inl, inr, refl, subst, sym, true, ℕ, ◌&&◌, ◌∙◌, ◌≡◌, ◌⊎◌}
+use Rattle.std.proofs.lemmas.Bool.{and_from, and_parts, eq-eqb, eqb-true}
+use Rattle.std.specs.List.{find}
+use Rattle.std.specs.Option.{option_map_or}
+use Rattle.trio_lists.proofs.Filters.{list_any-In, In-list_any, In-find, find-In}
+use Rattle.trio_lists.proofs.Members.{In-flat, In-map, flat_map-In, map-In}
+use Rattle.trio_lists.specs.Lists.{In}
+use Rattle.trio_layout.specs.Case.{Case, bundle_core}
+use Rattle.trio_layout.specs.Core.{Location}
+use Rattle.trio_layout.specs.Edges.{has_file, is_listed, is_listed_kept, proposed_parent, row_parent}
+use Rattle.trio_layout.specs.JudgedFiles.{judged_entries, judged_files}
+use Rattle.trio_layout.specs.Listing.{ListedEntry, ListedFile, entry_listed, file_listed, is_kept, listing}
+use Rattle.trio_layout.specs.Survey.{FileRead, Met, row_by}
+use Rattle.trio_layout.specs.Within.{file_within}
+use Rattle.trio_lists.proofs.Sorting.{in_sorted, sorted_in}
+
+module _ (c : Case) where
+  pub listed_from : (le : ListedEntry) → In le (listing c).entries → (e : Met) × In e (judged_entries c) × (le ≡ entry_listed c e)
+  listed_from le i = map-In (entry_listed c) le (judged_entries c) i
+
+  pub listed_to : (e : Met) → In e (judged_entries c) → In (entry_listed c e) (listing c).entries
+  listed_to e i = In-map (entry_listed c) e (judged_entries c) i
+
+  pub is_listed_at : (n : ℕ) → is_listed (listing c) n ≡ true → (e : Met) × In e (judged_entries c) × (e.ino ≡ n)
+  is_listed_at n t =
+      let q = list_any-In (λ (e : ListedEntry). eqb e.ino n) (listing c).entries t in
+      let e = listed_from q.0 q.1 in
+      (e.0, e.1, ap (λ (x : ListedEntry). x.ino) (sym e.2) ∙ eqb-true q.0.ino n q.2)
+
+  pub is_listed_by : (e : Met) (n : ℕ) → In e (judged_entries c) → e.ino ≡ n → is_listed (listing c) n ≡ true
+  is_listed_by e n i is = In-list_any (λ (e : ListedEntry). eqb e.ino n) (entry_listed c e) (listing c).entries (listed_to e i) (eq-eqb e.ino n is)
+
+  pub kept_at : (n : ℕ) → is_listed_kept (listing c) n ≡ true → (e : Met) × In e (judged_entries c) × (e.ino ≡ n) × (is_kept c e ≡ true)
+  kept_at n t =
+      let q = list_any-In (λ (e : ListedEntry). eqb e.ino n && e.kept) (listing c).entries t in
+      let p = and_parts (eqb q.0.ino n) q.0.kept q.2 in
+      let e = listed_from q.0 q.1 in
+      (e.0, e.1, ap (λ (x : ListedEntry). x.ino) (sym e.2) ∙ eqb-true q.0.ino n p.0, ap (λ (x : ListedEntry). x.kept) (sym e.2) ∙ p.1)
+
+  pub kept_by : (e : Met) (n : ℕ) → In e (judged_entries c) → e.ino ≡ n → is_kept c e ≡ true → is_listed_kept (listing c) n ≡ true
+  kept_by e n i is k =
+      In-list_any (λ (e : ListedEntry). eqb e.ino n && e.kept) (entry_listed c e) (listing c).entries (listed_to e i)
+      (and_from (eqb e.ino n) (is_kept c e) (eq-eqb e.ino n is) k)
+
+  pub has_file_by : (m : Met) (f : FileRead) (n : ℕ) → In m (judged_files c) → file_within (bundle_core c) m ≡ Ok f → m.ino ≡ n → has_file (listing c) n ≡ true
+  has_file_by m f n i e is =
+      let made : ListedFile = record { ino = m.ino; row = row_by m f.body; index = f.chain.index; blocks = f.chain.blocks } in
+      In-list_any (λ (f : ListedFile). eqb f.ino n) made (listing c).files
+      (In-flat (λ m. file_listed m (file_within (bundle_core c) m)) m made (judged_files c) i (subst (λ r. In made (file_listed m r)) (sym e) (inl refl)))
+      (eq-eqb m.ino n is)
+
+  file_made : (m x : Met) (r : Result FileRead Location) (f : ListedFile) → In f (file_listed m r) → f.ino ≡ m.ino
+  file_made m x (Ok g) f (inl e) = ap (λ (y : ListedFile). y.ino) e
+  file_made m x (Ok g) f (inr no') = absurd no'
+  file_made m x (Err p) f i = absurd i
+
+  pub has_file_at : (n : ℕ) → has_file (listing c) n ≡ true → (m : Met) × In m (judged_files c) × (m.ino ≡ n)
+  has_file_at n t =
+      let q = list_any-In (λ (f : ListedFile). eqb f.ino n) (listing c).files t in
+      let r = flat_map-In (λ m. file_listed m (file_within (bundle_core c) m)) q.0 (judged_files c) q.1 in
+      (r.0, r.1, sym (file_made r.0 r.0 (file_within (bundle_core c) r.0) q.0 r.2) ∙ eqb-true q.0.ino n q.2)
+
+  pub held_from : (n : ℕ) → In n (listing c).held → In n c.bundle.holds
+  held_from n i = sorted_in (λ (k : ℕ). k) n c.bundle.holds i
+
+  pub held_to : (n : ℕ) → In n c.bundle.holds → In n (listing c).held
+  held_to n i = in_sorted (λ (k : ℕ). k) n c.bundle.holds i
+
+  -- the proposed parent is that of an entry, or of the row of a number that is listed nowhere
+  pub parent_cases : (n : ℕ) → ((e : Met) × In e (judged_entries c) × (e.ino ≡ n) × (proposed_parent (listing c) c.rows n ≡ e.parent)) ⊎ (((e : Met) → In e (judged_entries c) → e.ino ≡ n → ⊥) × (proposed_parent (listing c) c.rows n ≡ row_parent c.rows n))
+  parent_cases n = by_find (find (λ (e : ListedEntry). eqb e.ino n) (listing c).entries) refl
+    where
+      by_find : (o : Option ListedEntry) → find (λ (e : ListedEntry). eqb e.ino n) (listing c).entries ≡ o → ((e : Met) × In e (judged_entries c) × (e.ino ≡ n) × (proposed_parent (listing c) c.rows n ≡ e.parent)) ⊎ (((e : Met) → In e (judged_entries c) → e.ino ≡ n → ⊥) × (proposed_parent (listing c) c.rows n ≡ row_parent c.rows n))
+      by_find None q =
+          inr (
+            λ e i is. (let r = In-find (λ (e : ListedEntry). eqb e.ino n) (listing c).entries (entry_listed c e) (listed_to e i) (eq-eqb e.ino n is) in let wrong : None ≡ Some r.0 = sym q ∙ r.1 in absurd cc),
+            ap (λ o. option_map_or (λ (e : ListedEntry). e.dir) o (row_parent c.rows n)) q,
+          )
+      by_find (Some le) q =
+          let g = find-In (λ (e : ListedEntry). eqb e.ino n) (listing c).entries le q in
+          let e = listed_from le g.0 in
+          inl (
+            e.0,
+            e.1,
+            ap (λ (x : ListedEntry). x.ino) (sym e.2) ∙ eqb-true le.ino n g.1,
+            ap (λ o. option_map_or (λ (e : ListedEntry). e.dir) o (row_parent c.rows n)) q ∙ ap (λ (x : ListedEntry). x.dir) e.2,
+          )
