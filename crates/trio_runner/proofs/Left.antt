@@ -7,10 +7,9 @@ use Rattle.std.proofs.lemmas.List.{map-id}
 use Rattle.trio_lists.specs.Lists.{In, is_among}
 use Rattle.trio_page.specs.Sheets.{Sheet, sheet_numbers}
 use Rattle.trio_layout.specs.Proposed.{Written, Bundle}
-use Rattle.trio_lists.proofs.Filters.{In-find}
+use Rattle.trio_lists.proofs.Filters.{In-find, find-In}
 use Rattle.trio_raw.specs.Has.{Has, nothing, named, without, without_all, bundle_of, rest_of, whole_bundle}
 use Rattle.trio_lists.proofs.Members.{In-map, map-In, In-is_among, is_among-In}
-use Rattle.trio_raw.proofs.Once.{found}
 use Rattle.trio_runner.proofs.Unchanged.{inos_of}
 
 module _ {X : Type 0} (number : X → ℕ) where
@@ -23,7 +22,7 @@ module _ {X : Type 0} (number : X → ℕ) where
   in_named xs [] y i j = absurd j
   in_named xs (n ∷ names) y i (inl e) =
       let f = In-find (λ x. eqb (number x) n) xs y i (eq-eqb (number y) n e) in
-      let r = found (λ x. eqb (number x) n) xs f.0 f.1 in (
+      let r = find-In (λ x. eqb (number x) n) xs f.0 f.1 in (
         f.0,
         subst (λ o. In f.0 (cons_option o (named number xs names))) (sym f.1) (inl refl),
         eqb-true (number f.0) n r.1 ∙ sym e,
