@@ -11,10 +11,9 @@ use Rattle.trio_nodes.specs.declared.grant.GrantKind.TheVariants.{Read, Write, H
 use Rattle.trio_layout.specs.Body.{body_of, block_count}
 use Rattle.trio_layout.specs.Chain.{index_count, chain_of}
 use Rattle.trio_layout.specs.Core.{Core, page_of}
-use Rattle.trio_layout.specs.Entries.{Listed}
 use Rattle.trio_lists.specs.Lists.{In, is_among}
 use Rattle.trio_layout.specs.Sound.{is_sound}
-use Rattle.trio_layout.specs.Survey.{Met, Pick, plain, FileRead, file_of, survey, children, pages_of, met_in}
+use Rattle.trio_layout.specs.Survey.{Met, Pick, plain, FileRead, file_of, survey, children, pages_of}
 use Rattle.trio_state.specs.Allotments.{out_after, has_none_out}
 use Rattle.trio_state.specs.Bundles.{is_parent_written, is_parted, lower, lowest, parted_hold, is_in_bundle, has_all}
 use Rattle.trio_nodes.specs.GrantKinds.{is_hold, is_write, is_read}

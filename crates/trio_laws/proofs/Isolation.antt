@@ -40,7 +40,8 @@ use Rattle.trio_laws.proofs.WriteGrant.{pages as lent_pages_after, pages_now as 
 use Rattle.trio_laws.proofs.Grants.{settled_same, excluded_none}
 use Rattle.trio_laws.proofs.Allots.{pages as allot_pages, pages_now as allot_now, page_free, agree as allot_agree, fit' as allot_fit}
 use Rattle.trio_laws.proofs.Backs.{settled_back}
-use Rattle.trio_laws.proofs.Refusing.{pages as refused_pages, agree as refused_agree, fit' as refused_fit, uncovered_handed}
+use Rattle.trio_laws.proofs.Uncovered.{uncovered_handed}
+use Rattle.trio_laws.proofs.Refusing.{pages as refused_pages, agree as refused_agree, fit' as refused_fit}
 use Rattle.trio_surveys.proofs.Moded.{body_moded, changed}
 use Rattle.trio_surveys.proofs.ModedCore.{pick as mode_pick, ms, page_now, listed0, read_now}
 use Rattle.trio_surveys.proofs.ModedImage.{mode_met, met_other, mode_core_is, mode_file, mode_body_other}
@@ -203,7 +204,7 @@ module _ (s : State) (k : Kept s) (lib n : ℕ) (r : Row) (row : row_at (settled
       page_same core ps p (with_pages_apart (uncovered (settled s) b ++ b.pages) core.pages p
       (λ j.
       let x = map-In (λ (y : Sheet). y.page) p (uncovered (settled s) b ++ b.pages) j in
-      let h : In p (bundle_pages b) = in_numbers (bundle_sheets b) x.0 p (uncovered_handed s s' k lib b given closed e x.0 x.1) x.2 in
+      let h : In p (bundle_pages b) = in_numbers (bundle_sheets b) x.0 p (uncovered_handed s k lib b given x.0 x.1) x.2 in
       unwritten_apart s k lib b given m p i (λ w c same. unwritten b given none w c (same ∙ num)) (subst (λ l. In p l) (sym (pages_are core m f read)) (plain_listed m.kind f p own)) h))) in
       let U : Image → Type 0 = λ i. IsUntouched (settled s) i n in subst U (sym e.settles) a
 

@@ -12,7 +12,7 @@ use Rattle.trio_nodes.specs.declared.grant.GrantKind.TheVariants.{Write, Hold}
 use Rattle.trio_lists.specs.Lists.{In, is_among}
 use Rattle.trio_layout.specs.Core.{page_of}
 use Rattle.trio_layout.specs.Entries.{Listed}
-use Rattle.trio_layout.specs.Survey.{Met, plain, FileRead, file_of, survey, children, numbers}
+use Rattle.trio_layout.specs.Survey.{Met, plain, FileRead, file_of, survey, numbers}
 use Rattle.trio_page.specs.Sheets.{sheet_numbers}
 use Rattle.trio_layout.specs.Image.{Image, IsFit, row_at, settled_body}
 use Rattle.trio_layout.specs.Verifies.{Verifies}
