@@ -7,7 +7,7 @@ use Rattle.std.proofs.lemmas.List.{set_comm, get_or-set_other}
 use Rattle.std.proofs.lemmas.Bool.{ne_eqb, or_parts, or_cases, not-false, eqb-true, ltb-false, eqb-false}
 use Rattle.trio_rights.specs.Row.{Row}
 use Rattle.trio_nodes.specs.declared.answers.ModeFault.{ModeFault}
-use Rattle.trio_nodes.specs.declared.answers.ModeFault.TheVariants.{NotLive, NotOwner, BadMode, Busy, NoMemory as OutOfMemory}
+use Rattle.trio_nodes.specs.declared.answers.ModeFault.TheVariants.{NotOwner, BadMode, Busy}
 use Rattle.trio_layout.specs.Entries.{body_in_slot}
 use Rattle.trio_lists.specs.Lists.{In}
 use Rattle.trio_layout.specs.Survey.{Met, plain, survey, children, pages_of}
@@ -18,9 +18,10 @@ use Rattle.trio_state.specs.Kept.{Kept, LentIsListed}
 use Rattle.trio_layout.specs.Mode.{body_with_mode, row_with_mode, body_put, image_with_mode}
 use Rattle.trio_page.specs.Sheets.{Sheet, sheet_numbers, with_pages}
 use Rattle.trio_state.specs.State.{OpenGrant, State, settled, creds_of}
-use Rattle.trio_state.specs.Step.{after_mode_fault, SetMode, CtlAnswer, Step, mode_excluding, mode_fault, moded_to}
+use Rattle.trio_state.specs.Step.{SetMode, CtlAnswer, Step, mode_excluding, mode_fault, moded_to}
 use Rattle.trio_layout.specs.Verifies.{Verifies}
 use Rattle.trio_laws.proofs.Accepting.{absent_map}
+use Rattle.trio_laws.proofs.Cases.{after_no_mode}
 use Rattle.trio_laws.proofs.Grants.{none_passes, logged_kept}
 use Rattle.trio_surveys.proofs.Images.{some_of, MetAt, root_or_listed}
 use Rattle.trio_lists.proofs.Members.{In-right, flat_map-In}
@@ -165,13 +166,6 @@ passed false true o e = absurd cc
 passed false false None e = (refl, refl, refl)
 passed false false (Some g) e = absurd cc
 
-after_fault_kept : (s : State) (f : ModeFault) → Kept s → Kept (after_mode_fault s f)
-after_fault_kept s NotLive k = logged_kept s k
-after_fault_kept s NotOwner k = logged_kept s k
-after_fault_kept s BadMode k = logged_kept s k
-after_fault_kept s (Busy holder) k = k
-after_fault_kept s OutOfMemory k = logged_kept s k
-
 -- what a change of mode that isn't refused has passed
 pub record MayChange (s : State) (lib ino mode : ℕ) (r : Row) : Type 0 where
   pub other : ino ≡ 1 → ⊥
@@ -197,7 +191,7 @@ may_change s lib ino mode r e =
     }
 
 outcome_kept : (s : State) (lib ino mode : ℕ) (o : Option Row) (a : Option ModeFault) → Kept s → row_at s.home ino ≡ o → mode_fault s lib ino mode o ≡ a → Kept (moded_to s ino mode a).after
-outcome_kept s lib ino mode o (Some fault) k row e = after_fault_kept s fault k
+outcome_kept s lib ino mode o (Some fault) k row e = after_no_mode Kept s fault k (logged_kept s k)
 outcome_kept s lib ino mode None None k row e = absurd cc
 outcome_kept s lib ino mode (Some r) None k row e =
     let may = may_change s lib ino mode r e in
