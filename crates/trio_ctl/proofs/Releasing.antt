@@ -2,9 +2,9 @@
 use Rattle.std.proofs.Common.{◌≡◌, ◌≢◌, ℕ, zero, suc, ◌+◌, Bool, true, false, List, [], ◌∷◌, ◌++◌, length, map, Option, Some, None, is_some, IsTrue, refl, sym, ap, subst, ◌∙◌, inl, inr, arith}
 use Rattle.std.specs.Prelude.{if◌then◌else◌, not, slice_get, slice_index_or, slice_set}
 use Rattle.std.specs.List.{filter}
-use Rattle.std.specs.Option.{option_map, option_map_or}
-use Rattle.std.proofs.lemmas.Bool.{and_from, and_parts, cases_eq, ne_eqb}
-use Rattle.std.proofs.lemmas.List.{map-append, set-set}
+use Rattle.std.specs.Option.{option_map_or}
+use Rattle.std.proofs.lemmas.Bool.{and_from, and_parts, cases_eq}
+use Rattle.std.proofs.lemmas.List.{set-set}
 use Rattle.std.proofs.lemmas.Option.{get_or_from_slice_get}
 use Rattle.trio_rights.specs.Row.{Row}
 use Rattle.trio_rights.specs.declared.rights.Creds.{Creds}
@@ -14,38 +14,31 @@ use Rattle.trio_layout.specs.declared.superblock.Superblock.{Superblock}
 use Rattle.trio_layout.specs.Core.{Core}
 use Rattle.trio_lists.specs.Lists.{In, are_new, is_among}
 use Rattle.trio_layout.specs.Sound.{is_sound}
-use Rattle.trio_layout.specs.Survey.{Pick, plain, root_of, survey}
+use Rattle.trio_layout.specs.Survey.{plain, root_of}
 use Rattle.trio_layout.specs.Accept.{is_accepted, next}
-use Rattle.trio_state.specs.Bundles.{Ends, blank, grants_after, is_in_bundle, lent_part, parted_hold, refused_image}
+use Rattle.trio_state.specs.Bundles.{Ends, blank, grants_after, is_in_bundle, lent_part, parted_hold, refused_image, uncovered}
 use Rattle.trio_state.specs.Given.{GivenTo}
 use Rattle.trio_layout.specs.Image.{Image, IsFit}
 use Rattle.trio_state.specs.Kept.{Kept}
-use Rattle.trio_layout.specs.Proposed.{Bundle, bundle_pages, bundle_sheets, is_written, proposed, proposed_pick}
+use Rattle.trio_layout.specs.Proposed.{Bundle, bundle_pages, bundle_sheets, is_written}
 use Rattle.trio_page.specs.Sheets.{Sheet, sheet_numbers, with_pages}
 use Rattle.trio_state.specs.State.{OpenGrant, State, creds_of, settled}
 use Rattle.trio_state.specs.Tells.{untold}
 use Rattle.trio_state.specs.Step.{Accepted, IsAccepted, IsRefused, Refused, Release, Step}
 use Rattle.trio_checkpoint.specs.Covered.{all_stand, standing}
 use Rattle.trio_laws.specs.EndLaws.{IsSpread, checkpoints_of, unless_absent}
-use Rattle.trio_surveys.proofs.Accepted.{length-bodies}
-use Rattle.trio_laws.proofs.Accepting.{handed_in}
-use Rattle.trio_laws.proofs.Bundles.{in_numbers}
 use Rattle.trio_lists.proofs.Filters.{filter-In, In-filter}
-use Rattle.trio_laws.proofs.Checkpoints.{checkpoint_settled}
-use Rattle.trio_laws.proofs.Ended.{bundle_write}
 use Rattle.trio_laws.proofs.EndLaws.{accepted_settles, refused_settles}
 use Rattle.trio_surveys.proofs.Images.{read_met, root_is_met}
 use Rattle.trio_surveys.proofs.Local.{reads_from}
 use Rattle.trio_lists.proofs.Members.{In-flat, In-left, In-map, list_all-each, flat_map-In, map-In}
 use Rattle.trio_surveys.proofs.Owned.{body_sized}
 use Rattle.trio_lists.proofs.New.{are_new-fewer}
-use Rattle.trio_surveys.proofs.Picked.{all_listed, bodies_are, listed_no_root}
-use Rattle.trio_surveys.proofs.Putting.{put_on, with_bodies-get}
+use Rattle.trio_laws.proofs.PutBack.{refused_away, sheets_handed}
 use Rattle.trio_laws.proofs.Runs.{release_kept}
-use Rattle.trio_surveys.proofs.SheetLaws.{get-set_other, get-set_same, length-with_pages}
-use Rattle.trio_surveys.proofs.Sheets.{Pages, page_there}
-use Rattle.trio_laws.proofs.StateFacts.{covered_write}
-use Rattle.trio_laws.proofs.Survivors.{fit_now, sound_now}
+use Rattle.trio_laws.proofs.Spread.{accepted_away, next_long, next_there}
+use Rattle.trio_surveys.proofs.SheetLaws.{length-with_pages}
+use Rattle.trio_surveys.proofs.Sheets.{Pages}
 use Rattle.trio_laws.proofs.Tells.{untold_tells}
 use Rattle.trio_laws.proofs.Uncovered.{uncovered-lent}
 use Rattle.trio_proposal.specs.declared.judgement.NextImage.{NextImage}
@@ -55,7 +48,7 @@ use Rattle.trio_ctl.specs.Moves.{all_covered, followed, is_closing, lent_uncover
 use Rattle.trio_ctl.specs.Open.{Opened, keyed}
 use Rattle.trio_allot.specs.Out.{OutByNumber, outs_after}
 use Rattle.trio_ctl.proofs.Ending.{ending, keys, staying}
-use Rattle.trio_ctl.proofs.Handing.{closing_same, grant_writes, staying_same, unparted_bundle}
+use Rattle.trio_ctl.proofs.Handing.{closing_same, staying_same, unparted_bundle}
 
 -- ---- pages that are put in place
 
@@ -84,19 +77,6 @@ all_put_over sheets [] pages h = refl
 all_put_over sheets (y ∷ back) pages h =
     all_put_over sheets back (slice_set pages y.page (Some y.bytes)) (λ x i. h x (inr i))
     ∙ put_over sheets pages y.page (Some y.bytes) (h y (inl refl))
-
--- a page that is there stays there
-still_there : (sheets : List Sheet) (pages : Pages) (n : ℕ) (bytes : List ℕ) → slice_get pages n ≡ Some (Some bytes) → (other : List ℕ) × (slice_get (with_pages sheets pages) n ≡ Some (Some other))
-still_there [] pages n bytes e = (bytes, e)
-still_there (s ∷ sheets) pages n bytes e =
-    elim (cases_eq s.page n) [
-      | inl same ↦
-          still_there sheets (slice_set pages s.page (Some s.bytes)) n s.bytes
-          (ap (λ k. slice_get (slice_set pages k (Some s.bytes)) n) same ∙ get-set_same pages n (Some s.bytes) ∙ ap (option_map (λ _. Some s.bytes)) e)
-      | inr apart ↦
-          still_there sheets (slice_set pages s.page (Some s.bytes)) n bytes
-          (get-set_other pages s.page n (Some s.bytes) (ne_eqb s.page n apart) ∙ e)
-    ]
 
 -- ---- grants that stay open
 
@@ -168,20 +148,7 @@ module _ (s : Superblock) (pages : List (Option (List ℕ))) (rows : List (Optio
 
   -- it is over pages of the bundle
   back_handed : (x : Sheet) → In x back → In x.page (bundle_pages b)
-  back_handed x i =
-      let c = back_from x i in
-      let g : OpenGrant = c.0 in
-      let kind = grant_writes s pages rows owners table files outs creds entries k g c.1 in
-      let w = bundle_write now k.kept lib.0 b given g c.1 kind c.2 in
-      let y = given.writes w.0 w.1 in
-      let lent = covered_write g.kind g.of g.index g.blocks x.page (subst (λ l. In x.page l) (k.kept.checkpoints g c.1) (in_numbers g.checkpoint x x.page c.3 refl)) in
-      let same : sheet_numbers (g.index ++ g.blocks) ≡ sheet_numbers (w.0.index ++ w.0.blocks) =
-      ap (λ (z : OpenGrant). sheet_numbers (z.index ++ z.blocks)) (sym w.2)
-      ∙ map-append (λ (z : Sheet). z.page) y.grant.index y.grant.blocks
-      ∙ ap (λ l. l ++ sheet_numbers y.grant.blocks) (sym y.index)
-      ∙ ap (λ l. sheet_numbers w.0.index ++ l) (sym y.blocks)
-      ∙ sym (map-append (λ (z : Sheet). z.page) w.0.index w.0.blocks) in
-      handed_in b w.0 x.page w.1 (subst (λ l. In x.page l) same lent.1)
+  back_handed = sheets_handed now k.kept lib.0 b given back back_from back_all
 
   -- what stays covered is covered now
   stay_covered : (x : Sheet) → In x (all_covered stay) → In x (checkpoints_of now.open_grants)
@@ -209,11 +176,12 @@ module _ (s : Superblock) (pages : List (Option (List ℕ))) (rows : List (Optio
 
       refused_ends : Ends now lib.0 b (refused_image (settled now) b) refused
       refused_ends =
+          let as_law : pages' ≡ with_pages (uncovered (settled now) b ++ b.pages) (with_pages back pages) =
+          put ∙ ap (λ ss. with_pages (ss ++ b.pages) (with_pages back pages)) (sym (uncovered-lent now k.kept lib.0 b given)) in
           let J : Pages → Image = λ ps. record { core = record { pages = ps; root = s.root; range = record { first = s.first_core; end = s.pages }; inodes = s.inodes }; rows = rows; owners = owners } in
           let settles : with_pages (checkpoints_of refused.open_grants) pages' ≡ (refused_image (settled now) b).core.pages =
           ap (λ gs. with_pages (checkpoints_of gs) pages') stay_same
-          ∙ ap (with_pages (checkpoints_of (grants_after now lib.0 b))) put
-          ∙ ap (λ ss. with_pages (checkpoints_of (grants_after now lib.0 b)) (with_pages (ss ++ b.pages) (with_pages back pages))) (sym (uncovered-lent now k.kept lib.0 b given))
+          ∙ ap (with_pages (checkpoints_of (grants_after now lib.0 b))) as_law
           ∙ refused_settles now lib.0 b back k.kept given back_from back_all in
           record {
             settles = ap J settles;
@@ -222,6 +190,7 @@ module _ (s : Superblock) (pages : List (Option (List ℕ))) (rows : List (Optio
             numbers = ap (λ (o : OutByNumber). o.numbers) returned;
             creds = refl;
             entries = more;
+            away = λ p gone other. ap (λ ps. slice_get ps p) as_law ∙ refused_away now k.kept lib.0 b given back back_from back_all p gone other;
           }
 
       pub refused_step : Step now (Release lib.0 b) (Refused untold) refused
@@ -244,31 +213,14 @@ module _ (s : Superblock) (pages : List (Option (List ℕ))) (rows : List (Optio
     -- ---- accepted
 
     module _ (true' : is_accepted (settled now) (creds_of now lib.0) b ≡ true) (n : NextImage) (is : IsImage (next (settled now) b) n) where
-      abbrev core : Core
-      core = proposed (settled now) b
-
-      abbrev pick : Pick
-      pick = proposed_pick (settled now) b
-
       abbrev after : Pages
       after = n.pages.pages
-
-      fit : IsFit core
-      fit = fit_now now k.kept lib.0 (creds_of now lib.0) b given true'
-
-      sound : is_sound core pick ≡ true
-      sound = sound_now now k.kept lib.0 (creds_of now lib.0) b given true'
 
       -- a page that stays covered is there
       after_there : (x : Sheet) → In x (all_covered stay) → (bytes : List ℕ) × (slice_get after x.page ≡ Some (Some bytes))
       after_there x i =
-          let here = page_there (settled now).core x.page x.bytes (checkpoint_settled now k.kept x (stay_covered x i)) in
-          let w = still_there (bundle_sheets b) (settled now).core.pages x.page x.bytes here.1 in (
-            put_on x.page (all_listed core pick) w.0,
-            ap (λ ps. slice_get ps x.page) (is.pages ∙ bodies_are core pick fit sound)
-                ∙ with_bodies-get x.page (all_listed core pick) core.pages (listed_no_root core pick fit sound)
-                ∙ ap (option_map (option_map (put_on x.page (all_listed core pick)))) w.1,
-          )
+          let t = next_there now k.kept lib.0 b given true' x (stay_covered x i) in
+          (t.0, ap (λ ps. slice_get ps x.page) is.pages ∙ t.1)
 
       pub after_stands : IsTrue (all_stand after (all_covered stay))
       after_stands =
@@ -276,11 +228,7 @@ module _ (s : Superblock) (pages : List (Option (List ℕ))) (rows : List (Optio
           (λ x i. let t = after_there x i in ap is_some (get_or_from_slice_get after x.page (Some t.0) None t.1))
 
       pub after_long : length after ≡ length pages
-      after_long =
-          ap length is.pages
-          ∙ length-bodies (survey core pick) core.pages
-          ∙ length-with_pages (bundle_sheets b) (settled now).core.pages
-          ∙ length-with_pages (checkpoints_of now.open_grants) pages
+      after_long = ap length is.pages ∙ next_long now k.kept lib.0 b given true'
 
       module _ (long : length pages' ≡ length pages) (spread : (p : ℕ) → slice_get pages' p ≡ unless_absent (slice_get (with_pages (bundle_sheets b) (with_pages back pages)) p) (slice_get after p)) where
         abbrev files' : List Opened
@@ -333,6 +281,7 @@ module _ (s : Superblock) (pages : List (Option (List ℕ))) (rows : List (Optio
               numbers = ap (λ (o : OutByNumber). o.numbers) returned;
               creds = refl;
               entries = more;
+              away = accepted_away now b image.core.pages pages' accepted.open_grants is_spread;
             }
 
         pub accepted_step : Step now (Release lib.0 b) Accepted accepted

@@ -1,17 +1,16 @@
 -- The end of an accepted bundle keeps what holds of a state.
-use Rattle.std.proofs.Common.{◌≡◌, ℕ, ◌+◌, true, false, ◌&&◌, List, ◌++◌, Option, Some, None, slice_get, sym, refl, ap, ◌∙◌, subst, inl, inr, ◌⊎◌}
+use Rattle.std.proofs.Common.{◌≡◌, ℕ, ◌+◌, true, false, List, ◌++◌, Option, Some, None, slice_get, sym, refl, ap, ◌∙◌, subst, inl, inr, ◌⊎◌}
 use Rattle.std.specs.Prelude.{map, is_some, slice_index}
 use Rattle.std.specs.List.{flat_map}
 use Rattle.std.specs.Option.{option_map}
-use Rattle.std.proofs.lemmas.Bool.{and_parts, cases_Bool}
-use Rattle.std.proofs.lemmas.List.{map-append}
+use Rattle.std.proofs.lemmas.Bool.{cases_Bool}
 use Rattle.trio_rights.specs.Row.{Row}
 use Rattle.trio_rights.specs.declared.rights.Creds.{Creds}
 use Rattle.trio_nodes.specs.declared.grant.GrantKind.TheVariants.{Write, Hold}
 use Rattle.trio_tables.specs.Out.{is_out}
 use Rattle.trio_layout.specs.Chain.{Chain}
 use Rattle.trio_layout.specs.Core.{Core}
-use Rattle.trio_lists.specs.Lists.{is_among, In}
+use Rattle.trio_lists.specs.Lists.{In}
 use Rattle.trio_layout.specs.Range.{is_core}
 use Rattle.trio_layout.specs.Sound.{is_sound}
 use Rattle.trio_layout.specs.Survey.{Met, Pick, plain, survey, row_by, row_of}
@@ -24,22 +23,21 @@ use Rattle.trio_state.specs.Kept.{Kept, LentIsListed, HoldStands}
 use Rattle.trio_layout.specs.Proposed.{Written, Bundle, bundle_sheets, bundle_pages, proposed, proposed_pick}
 use Rattle.trio_page.specs.Sheets.{Sheet, sheet_numbers}
 use Rattle.trio_state.specs.State.{OpenGrant, State, settled}
-use Rattle.trio_nodes.specs.GrantKinds.{is_write}
 use Rattle.trio_layout.specs.Verifies.{Verifies}
 use Rattle.trio_surveys.specs.Reading.{with_picked_bodies, picked_entry}
 use Rattle.trio_surveys.proofs.Accepted.{accepted_verifies, fit_put}
-use Rattle.trio_laws.proofs.Bundles.{Closed, outside_unheld, kept_chain}
-use Rattle.trio_laws.proofs.Ended.{grant_before, apart_then, checkpoints_then, write_in_bundle, parent_then, outs_then, numbers_then, pages_placed_then, numbers_placed_then, absent_then}
+use Rattle.trio_laws.proofs.Bundles.{Closed, outside_unheld, outside_unwritten, kept_chain, written_same}
+use Rattle.trio_laws.proofs.Ended.{bundle_write, grant_before, apart_then, checkpoints_then, parent_then, outs_then, numbers_then, pages_placed_then, numbers_placed_then, absent_then}
 use Rattle.trio_surveys.proofs.Images.{some_of, row_at_is, row_met, settled_body_met, unlisted_free, free_is_low}
-use Rattle.trio_lists.proofs.Members.{In-left, In-right, In-flat, In-map, map-In, is_among-In}
+use Rattle.trio_lists.proofs.Members.{In-left, In-right, In-flat, In-map, map-In}
 use Rattle.trio_surveys.proofs.Picked.{all_listed, bodies_are, listed_no_root, file_put, survey_put}
 use Rattle.trio_surveys.proofs.Putting.{put_on, with_bodies-get}
 use Rattle.trio_surveys.proofs.Sheets.{with_pages_absent}
-use Rattle.trio_laws.proofs.StateFacts.{write_is, tables}
-use Rattle.trio_lists.proofs.Filters.{list_any-In}
-use Rattle.trio_laws.proofs.Survivors.{Stays, fit_now, sound_now, stays, survivor_unwritten, out_unlisted, number_free}
+use Rattle.trio_laws.proofs.StateFacts.{lent_by, tables}
+use Rattle.trio_laws.proofs.Survivors.{Stays, fit_now, sound_now, stays, out_unlisted, number_free}
 
-absent_map : (f : List ℕ → List ℕ) (o : Option (Option (List ℕ))) → option_map (option_map f) o ≡ Some None → o ≡ Some None
+-- a page that is absent with some bytes changed was absent
+pub absent_map : (f : List ℕ → List ℕ) (o : Option (Option (List ℕ))) → option_map (option_map f) o ≡ Some None → o ≡ Some None
 absent_map f None e = absurd cc
 absent_map f (Some None) e = refl
 absent_map f (Some (Some b)) e = absurd cc
@@ -56,6 +54,14 @@ allotted_in b p a =
     let r = map-In (λ (x : Sheet). x.page) p b.pages a in
     let j : In r.0 (bundle_sheets b) = In-right r.0 (flat_map (λ (w : Written). w.index ++ w.blocks) b.writes) b.pages r.1 in
     subst (λ n. In n (bundle_pages b)) (sym r.2) (In-map (λ (x : Sheet). x.page) r.0 (bundle_sheets b) j)
+
+-- a page that a write grant of the bundle lent is one of the bundle's
+pub handed_back : (s : State) (k : Kept s) (lib : ℕ) (b : Bundle) (given : GivenTo s lib b) (g : OpenGrant) (p : ℕ) → In g s.open_grants → g.kind ≡ Write → is_in_bundle lib b g ≡ true → In p (sheet_numbers (g.index ++ g.blocks)) → In p (bundle_pages b)
+handed_back s k lib b given g p i kind own a =
+    let x = bundle_write s k lib b given g i kind own in
+    let same : sheet_numbers (g.index ++ g.blocks) ≡ sheet_numbers (x.0.index ++ x.0.blocks) =
+    ap (λ (z : OpenGrant). sheet_numbers (z.index ++ z.blocks)) (sym x.2) ∙ sym (written_same s k lib b given x.0 x.1) in
+    handed_in b x.0 p x.1 (subst (λ l. In p l) same a)
 
 module _ (s s' : State) (k : Kept s) (lib : ℕ) (creds : Creds) (b : Bundle) (given : GivenTo s lib b) (closed : Closed s lib b) (accepted : is_accepted (settled s) creds b ≡ true) (e : Ends s lib b (next (settled s) b) s') where
   abbrev core : Core
@@ -93,7 +99,7 @@ module _ (s s' : State) (k : Kept s) (lib : ℕ) (creds : Creds) (b : Bundle) (g
   -- the file of a grant that stays
   pub stays_then : (h : OpenGrant) (i : In h s.open_grants) → is_in_bundle lib b h ≡ false → (r : Row) → row_at s.home h.ino ≡ Some r → Stays (settled s) core pick h.ino r
   stays_then h i out r row =
-      stays s k lib creds b given accepted h.ino r row (outside_unheld s k lib b given h i out) (survivor_unwritten s k lib creds b given accepted h i out)
+      stays s k lib creds b given accepted h.ino r row (outside_unheld s k lib b given h i out) (outside_unwritten s k lib b given h i out)
 
   pub row_then : (n : ℕ) (r : Row) (st : Stays (settled s) core pick n r) → row_at s'.home n ≡ Some (row_by st.met st.file.body)
   row_then n r st =
@@ -132,7 +138,7 @@ module _ (s s' : State) (k : Kept s) (lib : ℕ) (creds : Creds) (b : Bundle) (g
       let row0 : row_at s.home l.met.ino ≡ Some r = row_at_is (settled s).core plain k.fit k.verifies.sound (settled s) (tables s k) l.met.ino ∙ row_met (settled s).core plain k.fit k.verifies.sound l.met l.file l.stands l.read in
       let row : row_at s.home h.ino ≡ Some r = ap (row_at s.home) (sym l.number) ∙ row0 in
       let st = stays_then h x.1 x.2 r row in
-      let un = survivor_unwritten s k lib creds b given accepted h x.1 x.2 in
+      let un = outside_unwritten s k lib b given h x.1 x.2 in
       let body : st.met.body ≡ l.met.body = st.body ∙ ap (settled_body (settled s)) (sym l.number) ∙ settled_body_met (settled s) l.met k.fit k.verifies.sound (tables s k) l.stands in
       let chain : st.file.chain ≡ l.file.chain = kept_chain s k lib b given st.met l.met st.file l.file l.stands l.read st.read (λ w j same. un w j (same ∙ l.number)) (ap (λ (x : Row). x.kind) (sym st.row)) body in
       record {
@@ -156,18 +162,10 @@ module _ (s s' : State) (k : Kept s) (lib : ℕ) (creds : Creds) (b : Bundle) (g
       let v = with_pages_absent (flat_map (λ g. g.checkpoint) s.open_grants) s.home.core.pages p w.1 in
       elim (k.absent p v.1 c) [
         | inl lent ↦
-            let q = list_any-In (λ g. is_write g.kind && is_among p (sheet_numbers (g.index ++ g.blocks))) s.open_grants lent in
-            let parts = and_parts (is_write q.0.kind) (is_among p (sheet_numbers (q.0.index ++ q.0.blocks))) q.2 in
-            let kind : q.0.kind ≡ Write = write_is q.0.kind parts.0 in
-            let pages = is_among-In p (sheet_numbers (q.0.index ++ q.0.blocks)) parts.1 in
+            let q = lent_by s.open_grants p lent in
             elim (cases_Bool (is_in_bundle lib b q.0)) [
-              | inr out ↦ inl (q.0, q.1, out, kind, pages)
-              | inl in' ↦
-                  let x = write_in_bundle s s' k lib b given after e q.0 q.1 kind in' in
-                  let y = given.writes x.0 x.1 in
-                  let same : sheet_numbers (q.0.index ++ q.0.blocks) ≡ sheet_numbers (x.0.index ++ x.0.blocks) =
-                  ap (λ (z : OpenGrant). sheet_numbers (z.index ++ z.blocks)) (sym x.2) ∙ map-append (λ (z : Sheet). z.page) y.grant.index y.grant.blocks ∙ ap (λ l. l ++ sheet_numbers y.grant.blocks) (sym y.index) ∙ ap (λ l. sheet_numbers x.0.index ++ l) (sym y.blocks) ∙ sym (map-append (λ (z : Sheet). z.page) x.0.index x.0.blocks) in
-                  absurd (w.0 (handed_in b x.0 p x.1 (subst (λ l. In p l) same pages)))
+              | inr out ↦ inl (q.0, q.1, out, q.2, q.3)
+              | inl in' ↦ absurd (w.0 (handed_back s k lib b given q.0 p q.1 q.2 in' q.3))
             ]
         | inr out ↦ inr (out, λ j. w.0 (allotted_in b p j))
       ]

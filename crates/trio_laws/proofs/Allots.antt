@@ -1,5 +1,5 @@
 -- An allotment keeps what holds of a state.
-use Rattle.std.proofs.Common.{◌≡◌, ℕ, suc, zero, ◌-◌, ◌<◌, Bool, true, false, cond, not, eqb, leb, ltb, List, [], ◌∷◌, length, take, Option, Some, None, slice_get, sym, refl, ap, ◌∙◌, subst, inl, inr, ◌⊎◌, arith}
+use Rattle.std.proofs.Common.{◌≡◌, ℕ, suc, zero, ◌-◌, ◌<◌, Bool, true, false, not, eqb, leb, ltb, List, [], ◌∷◌, length, take, Option, Some, None, slice_get, sym, refl, ap, ◌∙◌, subst, inl, inr, ◌⊎◌, arith}
 use Rattle.std.specs.Prelude.{is_some, slice_index}
 use Rattle.std.specs.List.{flat_map}
 use Rattle.std.proofs.lemmas.Bool.{and_parts, eqb-true, false≢true, not-true, both_ways, false_from_ne_true, ltb-true}
@@ -18,10 +18,11 @@ use Rattle.trio_state.specs.Grants.{has_parent_grant}
 use Rattle.trio_layout.specs.Image.{IsFit, row_at}
 use Rattle.trio_state.specs.Kept.{Kept}
 use Rattle.trio_page.specs.Sheets.{sheet_numbers, with_pages, without_pages}
-use Rattle.trio_state.specs.State.{State, settled, logged}
-use Rattle.trio_state.specs.Step.{Outcome, allot_outcome, Allot, CtlAnswer, NoPages, NoInodes, Given, Step}
+use Rattle.trio_state.specs.State.{State, settled}
+use Rattle.trio_state.specs.Step.{Allot, CtlAnswer, Step}
 use Rattle.trio_laws.proofs.Agreeing.{verifies_still, lent_still, body_still}
 use Rattle.trio_lists.proofs.Filters.{filter-In}
+use Rattle.trio_laws.proofs.Cases.{after_allot}
 use Rattle.trio_laws.proofs.Grants.{logged_kept}
 use Rattle.trio_surveys.proofs.Images.{some_of, free_unlisted}
 use Rattle.trio_lists.proofs.Members.{is_among-In, In-is_among}
@@ -180,19 +181,11 @@ module _ (s : State) (lib count many : ℕ) where
       ];
     }
 
-outcome_kept : (s : State) (k : Kept s) (lib count many : ℕ) → Kept (allot_outcome s lib count many).after
-outcome_kept s k lib count many = either (ltb (length (free_pages s)) count) (ltb (length (free_numbers s)) many)
-  where
-    either : (a b : Bool) → Kept (cond {A = Outcome} a (record { answer = NoPages count (length (free_pages s)); after = logged s }) (cond b (record { answer = NoInodes many (length (free_numbers s)); after = logged s }) (record { answer = Given (take count (free_pages s)) (take many (free_numbers s)); after = allots s lib (take count (free_pages s)) (take many (free_numbers s)) }))).after
-    either true b = logged_kept s k
-    either false true = logged_kept s k
-    either false false = allots_kept s lib count many k
-
 -- a step of an allotment
 pub allot_kept : (s s' : State) (lib count many : ℕ) (answer : CtlAnswer) → Kept s → Step s (Allot lib count many) answer s' → Kept s'
 allot_kept s s' lib count many answer k step =
     let K : State → Type 0 = λ x. Kept x in
     elim step [
-      | inl does ↦ subst K (sym does.1) (outcome_kept s k lib count many)
+      | inl does ↦ subst K (sym does.1) (after_allot Kept s lib count many (logged_kept s k) (allots_kept s lib count many k))
       | inr none ↦ subst K (sym none.2) k
     ]

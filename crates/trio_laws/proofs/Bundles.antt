@@ -4,17 +4,16 @@ use Rattle.std.specs.Prelude.{map, is_some, slice_index}
 use Rattle.std.specs.List.{flat_map, find, filter, list_all}
 use Rattle.std.specs.Option.{option_map_or}
 use Rattle.std.proofs.lemmas.List.{map-append}
-use Rattle.std.proofs.lemmas.Bool.{and_parts, and_from, or_cases, or_right, eqb-true, eq-eqb, false≢true, not-true, both_ways, false_from_ne_true, cases_Bool}
+use Rattle.std.proofs.lemmas.Bool.{and_parts, and_from, or_cases, or_left, or_right, eqb-true, eq-eqb, false≢true, not-true, both_ways, false_from_ne_true, cases_Bool}
 use Rattle.trio_rights.specs.Row.{Row}
 use Rattle.trio_nodes.specs.declared.grant.GrantKind.{GrantKind}
 use Rattle.trio_nodes.specs.declared.grant.GrantKind.TheVariants.{Read, Write, Hold}
 use Rattle.trio_layout.specs.Body.{body_of, block_count}
 use Rattle.trio_layout.specs.Chain.{index_count, chain_of}
 use Rattle.trio_layout.specs.Core.{Core, page_of}
-use Rattle.trio_layout.specs.Entries.{Listed}
 use Rattle.trio_lists.specs.Lists.{In, is_among}
 use Rattle.trio_layout.specs.Sound.{is_sound}
-use Rattle.trio_layout.specs.Survey.{Met, Pick, plain, FileRead, file_of, survey, children, pages_of, met_in}
+use Rattle.trio_layout.specs.Survey.{Met, Pick, plain, FileRead, file_of, survey, children, pages_of}
 use Rattle.trio_state.specs.Allotments.{out_after, has_none_out}
 use Rattle.trio_state.specs.Bundles.{is_parent_written, is_parted, lower, lowest, parted_hold, is_in_bundle, has_all}
 use Rattle.trio_nodes.specs.GrantKinds.{is_hold, is_write, is_read}
@@ -132,12 +131,13 @@ module _ (s : State) (k : Kept s) (lib : ℕ) (b : Bundle) (given : GivenTo s li
       absurd (cc wrong)
 
   -- the pages of a written file are those that its grant lent
-  pub written_lent : (w : Written) (i : In w b.writes) (p : ℕ) → In p (sheet_numbers (w.index ++ w.blocks)) → In p (sheet_numbers ((given.writes w i).grant.index ++ (given.writes w i).grant.blocks))
-  written_lent w i p a =
+  pub written_same : (w : Written) (i : In w b.writes) → sheet_numbers (w.index ++ w.blocks) ≡ sheet_numbers ((given.writes w i).grant.index ++ (given.writes w i).grant.blocks)
+  written_same w i =
       let g = given.writes w i in
-      let e : sheet_numbers (w.index ++ w.blocks) ≡ sheet_numbers (g.grant.index ++ g.grant.blocks) =
-      map-append (λ (x : Sheet). x.page) w.index w.blocks ∙ ap (λ l. l ++ sheet_numbers w.blocks) g.index ∙ ap (λ l. sheet_numbers g.grant.index ++ l) g.blocks ∙ sym (map-append (λ (x : Sheet). x.page) g.grant.index g.grant.blocks) in
-      subst (λ l. In p l) e a
+      map-append (λ (x : Sheet). x.page) w.index w.blocks ∙ ap (λ l. l ++ sheet_numbers w.blocks) g.index ∙ ap (λ l. sheet_numbers g.grant.index ++ l) g.blocks ∙ sym (map-append (λ (x : Sheet). x.page) g.grant.index g.grant.blocks)
+
+  pub written_lent : (w : Written) (i : In w b.writes) (p : ℕ) → In p (sheet_numbers (w.index ++ w.blocks)) → In p (sheet_numbers ((given.writes w i).grant.index ++ (given.writes w i).grant.blocks))
+  written_lent w i p a = subst (λ l. In p l) (written_same w i) a
 
   pub bundle_page : (p : ℕ) → In p (bundle_pages b) → In p (sheet_numbers b.pages) ⊎ ((w : Written) × In w b.writes × In p (sheet_numbers (w.index ++ w.blocks)))
   bundle_page p i =
@@ -219,3 +219,16 @@ module _ (s : State) (k : Kept s) (lib : ℕ) (b : Bundle) (given : GivenTo s li
       both_ways (is_in_bundle lib b g) out
       (and_from (eqb g.lib lib) ((is_write g.kind && is_written b g.ino) || (is_hold g.kind && is_among g.ino b.holds)) a
       (or_right (is_write g.kind && is_written b g.ino) (is_hold g.kind && is_among g.ino b.holds) (and_from (is_hold g.kind) (is_among g.ino b.holds) h (In-is_among g.ino b.holds j))))
+
+  -- nor is it on a written file of it
+  pub outside_unwritten : (g : OpenGrant) → In g s.open_grants → is_in_bundle lib b g ≡ false → Unwritten b g.ino
+  outside_unwritten g i out w j e =
+      let x = given.writes w j in
+      let same : x.grant ≡ g = write_alone s.open_grants x.grant g k.apart x.is_open i x.kind (x.ino ∙ e) in
+      let a : eqb g.lib lib ≡ true = eq-eqb g.lib lib (ap (λ (y : OpenGrant). y.lib) (sym same) ∙ x.lib) in
+      let kind : is_write g.kind ≡ true = ap is_write (ap (λ (y : OpenGrant). y.kind) (sym same) ∙ x.kind) in
+      let f = In-find (λ (w : Written). eqb w.ino g.ino) b.writes w j (eq-eqb w.ino g.ino e) in
+      let some' : is_some (find (λ (w : Written). eqb w.ino g.ino) b.writes) ≡ true = ap is_some f.1 in
+      both_ways (is_in_bundle lib b g) out
+      (and_from (eqb g.lib lib) ((is_write g.kind && is_written b g.ino) || (is_hold g.kind && is_among g.ino b.holds)) a
+      (or_left (is_write g.kind && is_written b g.ino) (is_hold g.kind && is_among g.ino b.holds) (and_from (is_write g.kind) (is_written b g.ino) kind some')))

@@ -23,7 +23,7 @@ use Rattle.trio_laws.proofs.Bundles.{Closed}
 use Rattle.trio_lists.proofs.Filters.{filter-In, In-filter, find-In, In-list_any, list_any-In}
 use Rattle.trio_lists.proofs.Members.{In-map, map-In, is_among-In, In-is_among}
 use Rattle.trio_surveys.proofs.Sheets.{among_cases, with_pages_apart}
-use Rattle.trio_laws.proofs.StateFacts.{write_is, write_alone, covered_write, numbers_flat}
+use Rattle.trio_laws.proofs.StateFacts.{by_lent, write_is, write_alone, covered_write, numbers_flat}
 
 pub blank_numbers : (xs : List Sheet) → sheet_numbers (map blank xs) ≡ sheet_numbers xs
 blank_numbers [] = refl
@@ -121,11 +121,6 @@ module _ (s s' : State) (k : Kept s) (lib : ℕ) (b : Bundle) (given : GivenTo s
       In-list_any (λ (x : OpenGrant). eqb x.lib g'.lib && eqb x.ino q.parent && is_write x.kind) h' s'.open_grants n.1
       (and_from (eqb h'.lib g'.lib && eqb h'.ino q.parent) (is_write h'.kind) (and_from (eqb h'.lib g'.lib) (eqb h'.ino q.parent) (eq-eqb h'.lib g'.lib l') (eq-eqb h'.ino q.parent i')) k')
 
-  lent_then : (g : OpenGrant) (p : ℕ) → In g s'.open_grants → g.kind ≡ Write → In p (sheet_numbers (g.index ++ g.blocks)) → is_lent s'.open_grants p ≡ true
-  lent_then g p i kind a =
-      In-list_any (λ (x : OpenGrant). is_write x.kind && is_among p (sheet_numbers (x.index ++ x.blocks))) g s'.open_grants i
-      (and_from (is_write g.kind) (is_among p (sheet_numbers (g.index ++ g.blocks))) (ap is_write kind) (In-is_among p (sheet_numbers (g.index ++ g.blocks)) a))
-
   pub outs_then : (n : ℕ) → is_out s'.pages_out n ≡ true → (is_out s.pages_out n ≡ true) × (In n (sheet_numbers b.pages) → ⊥)
   outs_then n out =
       let r = is_out-back (sheet_numbers b.pages) n s.pages_out (ap (λ l. is_out l n) (sym e.pages) ∙ out) in
@@ -149,7 +144,7 @@ module _ (s s' : State) (k : Kept s) (lib : ℕ) (b : Bundle) (given : GivenTo s
         | inl covered' ↦
             let r = numbers_flat s'.open_grants p covered' in
             let c = covered_write r.0.kind r.0.of r.0.index r.0.blocks p (subst (λ l. In p l) (checkpoints_then r.0 r.1) r.2) in
-            inl (lent_then r.0 p r.1 c.0 c.1)
+            inl (by_lent s'.open_grants r.0 p r.1 c.0 c.1)
         | inr none ↦
             let now : slice_get image'.core.pages p ≡ Some None =
             ap (λ (i : Image). slice_get i.core.pages p) (sym e.settles) ∙ with_pages_apart (flat_map (λ g. g.checkpoint) s'.open_grants) s'.home.core.pages p none ∙ gone in
@@ -158,7 +153,7 @@ module _ (s s' : State) (k : Kept s) (lib : ℕ) (b : Bundle) (given : GivenTo s
                   let n = grant_after g.0 g.1 g.2 in
                   let kind : n.0.kind ≡ Write = ap (λ (y : OpenGrant). y.kind) (sym n.2) ∙ g.3 in
                   let a : In p (sheet_numbers (n.0.index ++ n.0.blocks)) = subst (λ l. In p l) (ap (λ (y : OpenGrant). sheet_numbers (y.index ++ y.blocks)) n.2) g.4 in
-                  inl (lent_then n.0 p n.1 kind a)
+                  inl (by_lent s'.open_grants n.0 p n.1 kind a)
               | inr o ↦
                   let unhanded = false_from_ne_true (is_among p (sheet_numbers b.pages)) (λ t. o.1 (is_among-In p (sheet_numbers b.pages) t)) in
                   inr (ap (λ l. is_out l p) e.pages ∙ ap is_some (lib_at-others None (sheet_numbers b.pages) p s.pages_out unhanded) ∙ o.0)

@@ -12,7 +12,7 @@ use Rattle.trio_rights.specs.Row.{Row}
 use Rattle.trio_nodes.specs.declared.grant.GrantKind.{GrantKind}
 use Rattle.trio_nodes.specs.declared.grant.GrantKind.TheVariants.{Read, Write, Hold}
 use Rattle.trio_nodes.specs.declared.answers.GrantFault.{GrantFault}
-use Rattle.trio_nodes.specs.declared.answers.GrantFault.TheVariants.{NotLive, Denied, NoParent, Busy, NoMemory as OutOfMemory}
+use Rattle.trio_nodes.specs.declared.answers.GrantFault.TheVariants.{NotLive, NoParent, Busy}
 use Rattle.trio_lists.specs.Lists.{is_among, In}
 use Rattle.trio_layout.specs.Survey.{row_by}
 use Rattle.trio_state.specs.Grants.{holder_of, denied_or, excluding, denied_by, lacks_parent, has_parent_grant, opened, lent_pages, opens, grant_fault}
@@ -21,9 +21,10 @@ use Rattle.trio_layout.specs.Image.{IsFit, Image, settled_body, row_at}
 use Rattle.trio_state.specs.Kept.{Kept, LentIsListed, MayBothStand, HoldStands}
 use Rattle.trio_page.specs.Sheets.{sheet_numbers, with_pages, without_pages}
 use Rattle.trio_state.specs.State.{covered, OpenGrant, State, settled, logged}
-use Rattle.trio_state.specs.Step.{Grant, CtlAnswer, Step, granted_to, after_grant_fault}
+use Rattle.trio_state.specs.Step.{Grant, CtlAnswer, Step, granted_to}
 use Rattle.trio_layout.specs.Verifies.{Verifies}
 use Rattle.trio_lists.proofs.Members.{In-cases}
+use Rattle.trio_laws.proofs.Cases.{after_no_grant}
 use Rattle.trio_laws.proofs.StateFacts.{live_met}
 use Rattle.trio_lists.proofs.Filters.{get_or-In}
 use Rattle.trio_laws.proofs.WriteGrant.{write_grant_kept}
@@ -47,13 +48,6 @@ logged_kept s k = record {
     parent_same : (r : Option Row) (g : OpenGrant) → has_parent_grant s g.lib r ≡ true → has_parent_grant (logged s) g.lib r ≡ true
     parent_same None g e = e
     parent_same (Some r) g e = e
-
-after_fault_kept : (s : State) (f : GrantFault) → Kept s → Kept (after_grant_fault s f)
-after_fault_kept s NotLive k = logged_kept s k
-after_fault_kept s (Denied n) k = logged_kept s k
-after_fault_kept s NoParent k = logged_kept s k
-after_fault_kept s (Busy holder) k = k
-after_fault_kept s OutOfMemory k = logged_kept s k
 
 -- what a grant that isn't refused has passed
 refusal_none : (live : Bool) (d : Option ℕ) (parent : Bool) (o : Option OpenGrant) → cond live (Some NotLive) (denied_or d (cond parent (Some NoParent) (option_map (λ (g : OpenGrant). Busy (holder_of g)) o))) ≡ None → (parent ≡ false) × (o ≡ None)
@@ -183,7 +177,7 @@ granted s lib ino Write r k e row = write_grant s lib ino r k e row
 granted s lib ino Hold r k e row = hold_grant s lib ino r k e row
 
 outcome_kept : (s : State) (lib ino : ℕ) (kind : GrantKind) (a : Option GrantFault) (o : Option Row) → Kept s → grant_fault s lib ino kind ≡ a → row_at s.home ino ≡ o → Kept (granted_to s lib ino kind a o).after
-outcome_kept s lib ino kind (Some fault) o k e row = after_fault_kept s fault k
+outcome_kept s lib ino kind (Some fault) o k e row = after_no_grant Kept s fault k (logged_kept s k)
 outcome_kept s lib ino kind None None k e row = k
 outcome_kept s lib ino kind None (Some r) k e row = granted s lib ino kind r k e row
 

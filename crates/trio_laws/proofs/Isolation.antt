@@ -1,5 +1,5 @@
 -- Every step leaves the files that its library has neither for writing nor by a hold.
-use Rattle.std.proofs.Common.{◌≡◌, ◌≢◌, ℕ, ◌≤◌, Bool, true, false, cond, eqb, ltb, ◌++◌, length, take, Option, Some, None, sym, refl, ap, ◌∙◌, subst, inl, inr}
+use Rattle.std.proofs.Common.{◌≡◌, ◌≢◌, ℕ, ◌≤◌, true, false, cond, eqb, ◌++◌, take, Option, Some, None, sym, refl, ap, ◌∙◌, subst, inl, inr}
 use Rattle.std.specs.Prelude.{Ok}
 use Rattle.std.proofs.lemmas.Bool.{ne_eqb, false≢true}
 use Rattle.std.proofs.lemmas.List.{get_or-set_other}
@@ -7,23 +7,21 @@ use Rattle.trio_rights.specs.Row.{Row}
 use Rattle.trio_nodes.specs.declared.grant.GrantKind.{GrantKind}
 use Rattle.trio_nodes.specs.declared.grant.GrantKind.TheVariants.{Read, Write, Hold}
 use Rattle.trio_nodes.specs.declared.answers.GrantFault.{GrantFault}
-use Rattle.trio_nodes.specs.declared.answers.GrantFault.TheVariants.{NotLive, Denied, NoParent, Busy, NoMemory as OutOfMemory}
 use Rattle.trio_nodes.specs.declared.answers.ModeFault.{ModeFault}
-use Rattle.trio_nodes.specs.declared.answers.ModeFault.TheVariants.{NotLive as ModeNotLive, NotOwner, BadMode, Busy as ModeBusy, NoMemory as ModeNoMemory}
 use Rattle.trio_lists.specs.Lists.{In}
 use Rattle.trio_layout.specs.Core.{Core, page_of}
 use Rattle.trio_layout.specs.Survey.{Met, plain, FileRead, file_of, survey, row_by}
 use Rattle.trio_page.specs.Sheets.{Sheet}
 use Rattle.trio_layout.specs.Image.{Image, IsFit, row_at}
 use Rattle.trio_layout.specs.Verifies.{Verifies}
-use Rattle.trio_state.specs.State.{OpenGrant, State, settled, creds_of, logged}
+use Rattle.trio_state.specs.State.{OpenGrant, State, settled, creds_of}
 use Rattle.trio_layout.specs.Proposed.{Bundle, bundle_sheets, bundle_pages}
 use Rattle.trio_layout.specs.Accept.{is_accepted, next}
 use Rattle.trio_layout.specs.Mode.{body_with_mode, image_with_mode, row_with_mode}
 use Rattle.trio_state.specs.Grants.{grant_fault, opened, opens, told_children, given_back}
 use Rattle.trio_state.specs.Allotments.{free_pages, free_numbers, allots}
 use Rattle.trio_state.specs.Bundles.{uncovered, refused_image, Ends}
-use Rattle.trio_state.specs.Step.{Grant, Allot, Back, Release, Settle, SetMode, CtlAnswer, NoPages, NoInodes, Given, Outcome, after_grant_fault, granted_to, allot_outcome, mode_fault, after_mode_fault, moded_to, ReleaseEnd, Parted, IsAccepted, IsRefused}
+use Rattle.trio_state.specs.Step.{Grant, Allot, Back, Release, Settle, SetMode, CtlAnswer, granted_to, allot_outcome, mode_fault, moded_to, ReleaseEnd, Parted, IsAccepted, IsRefused}
 use Rattle.trio_state.specs.Kept.{Kept}
 use Rattle.trio_state.specs.Given.{GivenTo}
 use Rattle.trio_surveys.specs.Reading.{with_other, AgreeOn}
@@ -33,6 +31,7 @@ use Rattle.trio_surveys.proofs.Local.{file_agrees}
 use Rattle.trio_surveys.proofs.Owned.{sound_parts, page_owner, pages_are}
 use Rattle.trio_surveys.proofs.Sheets.{Pages, page_same, with_pages_apart}
 use Rattle.trio_surveys.proofs.Images.{TablesOf, MetAt, row_at_is, met_row, free_unlisted}
+use Rattle.trio_laws.proofs.Cases.{after_allot, after_no_grant, after_no_mode}
 use Rattle.trio_laws.proofs.Agreeing.{image_with, met_still, body_still}
 use Rattle.trio_laws.proofs.StateFacts.{tables, live_met}
 use Rattle.trio_laws.proofs.Bundles.{Unwritten, unwritten_apart, closed_unparted, Closed, in_numbers}
@@ -40,7 +39,8 @@ use Rattle.trio_laws.proofs.WriteGrant.{pages as lent_pages_after, pages_now as 
 use Rattle.trio_laws.proofs.Grants.{settled_same, excluded_none}
 use Rattle.trio_laws.proofs.Allots.{pages as allot_pages, pages_now as allot_now, page_free, agree as allot_agree, fit' as allot_fit}
 use Rattle.trio_laws.proofs.Backs.{settled_back}
-use Rattle.trio_laws.proofs.Refusing.{pages as refused_pages, agree as refused_agree, fit' as refused_fit, uncovered_handed}
+use Rattle.trio_laws.proofs.Uncovered.{uncovered_handed}
+use Rattle.trio_laws.proofs.Refusing.{pages as refused_pages, agree as refused_agree, fit' as refused_fit}
 use Rattle.trio_surveys.proofs.Moded.{body_moded, changed}
 use Rattle.trio_surveys.proofs.ModedCore.{pick as mode_pick, ms, page_now, listed0, read_now}
 use Rattle.trio_surveys.proofs.ModedImage.{mode_met, met_other, mode_core_is, mode_file, mode_body_other}
@@ -121,13 +121,6 @@ module _ (s : State) (k : Kept s) (lib n : ℕ) (r : Row) (row : row_at (settled
   nothing : Same s
   nothing = same_untouched (settled s) k.fit k.verifies n r row
 
-  after_fault : (f : GrantFault) → Same (after_grant_fault s f)
-  after_fault NotLive = nothing
-  after_fault (Denied m) = nothing
-  after_fault NoParent = nothing
-  after_fault (Busy holder) = nothing
-  after_fault OutOfMemory = nothing
-
   light : (g : OpenGrant) → settled (opens s g) ≡ settled s → Same (opens s g)
   light g e = (let U : Image → Type 0 = λ i. IsUntouched (settled s) i n in subst U (sym e) nothing)
 
@@ -162,7 +155,7 @@ module _ (s : State) (k : Kept s) (lib n : ℕ) (r : Row) (row : row_at (settled
   granted ino Write q e at elsewhere = write ino q e at (elsewhere refl)
 
   grant : (ino : ℕ) (kind : GrantKind) (f : Option GrantFault) (o : Option Row) → grant_fault s lib ino kind ≡ f → row_at s.home ino ≡ o → IsElsewhere n (Grant lib ino kind) (granted_to s lib ino kind f o).answer → Same (granted_to s lib ino kind f o).after
-  grant ino kind (Some fault) o e at elsewhere = after_fault fault
+  grant ino kind (Some fault) o e at elsewhere = after_no_grant Same s fault nothing nothing
   grant ino kind None None e at elsewhere = nothing
   grant ino kind None (Some q) e at elsewhere = granted ino kind q e at (λ w. elsewhere w (told_children s.home ino kind) refl)
 
@@ -178,12 +171,7 @@ module _ (s : State) (k : Kept s) (lib n : ℕ) (r : Row) (row : row_at (settled
       ])
 
   allot : (count many : ℕ) → Same (allot_outcome s lib count many).after
-  allot count many = either (ltb (length (free_pages s)) count) (ltb (length (free_numbers s)) many)
-    where
-      either : (a b : Bool) → Same (cond {A = Outcome} a (record { answer = NoPages count (length (free_pages s)); after = logged s }) (cond b (record { answer = NoInodes many (length (free_numbers s)); after = logged s }) (record { answer = Given (take count (free_pages s)) (take many (free_numbers s)); after = allots s lib (take count (free_pages s)) (take many (free_numbers s)) }))).after
-      either true b = nothing
-      either false true = nothing
-      either false false = allotted count many
+  allot count many = after_allot Same s lib count many nothing (allotted count many)
 
   back : (ino : ℕ) → Same (given_back s lib ino)
   back ino = (let U : Image → Type 0 = λ i. IsUntouched (settled s) i n in subst U (sym (settled_back s k lib ino)) nothing)
@@ -203,7 +191,7 @@ module _ (s : State) (k : Kept s) (lib n : ℕ) (r : Row) (row : row_at (settled
       page_same core ps p (with_pages_apart (uncovered (settled s) b ++ b.pages) core.pages p
       (λ j.
       let x = map-In (λ (y : Sheet). y.page) p (uncovered (settled s) b ++ b.pages) j in
-      let h : In p (bundle_pages b) = in_numbers (bundle_sheets b) x.0 p (uncovered_handed s s' k lib b given closed e x.0 x.1) x.2 in
+      let h : In p (bundle_pages b) = in_numbers (bundle_sheets b) x.0 p (uncovered_handed s k lib b given x.0 x.1) x.2 in
       unwritten_apart s k lib b given m p i (λ w c same. unwritten b given none w c (same ∙ num)) (subst (λ l. In p l) (sym (pages_are core m f read)) (plain_listed m.kind f p own)) h))) in
       let U : Image → Type 0 = λ i. IsUntouched (settled s) i n in subst U (sym e.settles) a
 
@@ -217,15 +205,8 @@ module _ (s : State) (k : Kept s) (lib n : ℕ) (r : Row) (row : row_at (settled
   release s' b answer given none (IsAccepted closed t e ends) = accepted s' b given t ends none
   release s' b answer given none (IsRefused closed f why e tells ends) = refused s' b given (closed_unparted s lib b closed) ends none
 
-  after_no_mode : (f : ModeFault) → Same (after_mode_fault s f)
-  after_no_mode ModeNotLive = nothing
-  after_no_mode NotOwner = nothing
-  after_no_mode BadMode = nothing
-  after_no_mode (ModeBusy holder) = nothing
-  after_no_mode ModeNoMemory = nothing
-
   set_mode : (ino mode : ℕ) (o : Option Row) (f : Option ModeFault) → row_at s.home ino ≡ o → mode_fault s lib ino mode o ≡ f → IsElsewhere n (SetMode lib ino mode) (moded_to s ino mode f).answer → Same (moded_to s ino mode f).after
-  set_mode ino mode o (Some fault) at e elsewhere = after_no_mode fault
+  set_mode ino mode o (Some fault) at e elsewhere = after_no_mode Same s fault nothing nothing
   set_mode ino mode None None at e elsewhere = absurd cc
   set_mode ino mode (Some q) None at e elsewhere =
       let may = may_change s lib ino mode q e in

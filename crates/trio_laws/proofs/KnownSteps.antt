@@ -16,7 +16,7 @@ use Rattle.trio_nodes.specs.declared.answers.ModeFault.TheVariants.{NotLive as M
 use Rattle.trio_lists.specs.Lists.{In}
 use Rattle.trio_layout.specs.Survey.{row_by, pages_of}
 use Rattle.trio_page.specs.Sheets.{Sheet, sheet_numbers, with_pages, without_pages}
-use Rattle.trio_layout.specs.Image.{Image, row_at, settled_body, with_core_pages}
+use Rattle.trio_layout.specs.Image.{Image, row_at, with_core_pages}
 use Rattle.trio_state.specs.State.{OpenGrant, State, settled, creds_of, logged}
 use Rattle.trio_nodes.specs.GrantKinds.{is_read, is_write, excludes_kind}
 use Rattle.trio_layout.specs.Proposed.{Bundle}

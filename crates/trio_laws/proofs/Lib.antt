@@ -1,4 +1,5 @@
 pub mod StateFacts
+pub mod Cases
 pub mod Agreeing
 pub mod WriteGrant
 pub mod Grants
@@ -29,6 +30,7 @@ pub mod Lendable
 pub mod EndLaws
 pub mod Ordered
 pub mod OthersOut
+pub mod Away
 pub mod HeldFiles
 pub mod KnownSteps
 pub mod judgement

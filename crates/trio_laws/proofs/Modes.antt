@@ -4,10 +4,10 @@ use Rattle.std.specs.Prelude.{is_some}
 use Rattle.std.specs.List.{flat_map}
 use Rattle.std.specs.Option.{option_map, option_and_then, option_map_or}
 use Rattle.std.proofs.lemmas.List.{set_comm, get_or-set_other}
-use Rattle.std.proofs.lemmas.Bool.{cases_eq, ne_eqb, or_parts, or_cases, not-false, eqb-true, ltb-false, eqb-false}
+use Rattle.std.proofs.lemmas.Bool.{ne_eqb, or_parts, or_cases, not-false, eqb-true, ltb-false, eqb-false}
 use Rattle.trio_rights.specs.Row.{Row}
 use Rattle.trio_nodes.specs.declared.answers.ModeFault.{ModeFault}
-use Rattle.trio_nodes.specs.declared.answers.ModeFault.TheVariants.{NotLive, NotOwner, BadMode, Busy, NoMemory as OutOfMemory}
+use Rattle.trio_nodes.specs.declared.answers.ModeFault.TheVariants.{NotOwner, BadMode, Busy}
 use Rattle.trio_layout.specs.Entries.{body_in_slot}
 use Rattle.trio_lists.specs.Lists.{In}
 use Rattle.trio_layout.specs.Survey.{Met, plain, survey, children, pages_of}
@@ -18,8 +18,10 @@ use Rattle.trio_state.specs.Kept.{Kept, LentIsListed}
 use Rattle.trio_layout.specs.Mode.{body_with_mode, row_with_mode, body_put, image_with_mode}
 use Rattle.trio_page.specs.Sheets.{Sheet, sheet_numbers, with_pages}
 use Rattle.trio_state.specs.State.{OpenGrant, State, settled, creds_of}
-use Rattle.trio_state.specs.Step.{after_mode_fault, SetMode, CtlAnswer, Step, mode_excluding, mode_fault, moded_to}
+use Rattle.trio_state.specs.Step.{SetMode, CtlAnswer, Step, mode_excluding, mode_fault, moded_to}
 use Rattle.trio_layout.specs.Verifies.{Verifies}
+use Rattle.trio_laws.proofs.Accepting.{absent_map}
+use Rattle.trio_laws.proofs.Cases.{after_no_mode}
 use Rattle.trio_laws.proofs.Grants.{none_passes, logged_kept}
 use Rattle.trio_surveys.proofs.Images.{some_of, MetAt, root_or_listed}
 use Rattle.trio_lists.proofs.Members.{In-right, flat_map-In}
@@ -27,7 +29,8 @@ use Rattle.trio_surveys.proofs.Moded.{changed}
 use Rattle.trio_surveys.proofs.ModedCore.{read_now}
 use Rattle.trio_surveys.proofs.ModedImage.{mode_body_other, met_other, mode_met, mode_verifies, mode_fit, mode_file}
 use Rattle.trio_surveys.proofs.Owned.{pages_are}
-use Rattle.trio_surveys.proofs.SheetLaws.{page_at, get-set_same, get-set_other}
+use Rattle.trio_surveys.proofs.Putting.{put_on, with_bodies-get}
+use Rattle.trio_surveys.proofs.SheetLaws.{page_at}
 use Rattle.trio_surveys.proofs.Sheets.{Pages, page_same, with_pages_apart}
 use Rattle.trio_laws.proofs.StateFacts.{live_met, lent_file, checkpoint_lent}
 use Rattle.trio_surveys.proofs.Tree.{child_from, child_placed}
@@ -38,22 +41,15 @@ with_pages_set (s ∷ ss) pages k x h =
     ap (with_pages ss) (set_comm pages k s.page x (Some s.bytes) (λ e. h (inl e)))
     ∙ with_pages_set ss (slice_set pages s.page (Some s.bytes)) k x (λ i. h (inr i))
 
-absent_set : (o : Option (Option (List ℕ))) (f : List ℕ → List ℕ) → option_map (λ _. option_map f (option_and_then (λ x. x) o)) o ≡ Some None → o ≡ Some None
-absent_set None f e = absurd cc
-absent_set (Some None) f e = refl
-absent_set (Some (Some b)) f e = absurd cc
-
-absent_put : (r : Row) (body : List ℕ) (pages : Pages) (p : ℕ) → slice_get (body_put (Some r) body pages) p ≡ Some None → slice_get pages p ≡ Some None
-absent_put r body pages p e =
-    let X : Option (List ℕ) = option_map (with_body_in r.slot body) (get_or pages r.page None) in
-    elim (cases_eq r.page p) [
-      | inl same ↦
-          let f : List ℕ → List ℕ = with_body_in r.slot body in
-          let a : option_map (λ _. option_map f (option_and_then (λ x. x) (slice_get pages r.page))) (slice_get pages r.page) ≡ Some None =
-          ap (λ x. option_map (λ _. option_map f x) (slice_get pages r.page)) (sym (page_at pages r.page)) ∙ sym (get-set_same pages r.page X) ∙ ap (slice_get (slice_set pages r.page X)) same ∙ e in
-          ap (slice_get pages) (sym same) ∙ absent_set (slice_get pages r.page) f a
-      | inr differ ↦ sym (get-set_other pages r.page p X (ne_eqb r.page p differ)) ∙ e
-    ]
+-- a page with a body put in its place
+pub body_put-get : (r : Row) (body : List ℕ) (pages : Pages) (p : ℕ) → (f : List ℕ → List ℕ) × (slice_get (body_put (Some r) body pages) p ≡ option_map (option_map f) (slice_get pages p))
+body_put-get r body pages p =
+    let m : Met = record { ino = 0; kind = r.kind; parent = r.parent; page = r.page; slot = r.slot; body = body } in
+    let other : (x : Met) → In x (m ∷ []) → x.ino ≡ 1 → ⊥ = λ x i e. elim i [
+      | inl same ↦ (let wrong : 0 ≡ 1 = sym (ap (λ (y : Met). y.ino) same) ∙ e in cc wrong)
+      | inr none ↦ none
+    ] in
+    (put_on p (m ∷ []), with_bodies-get p (m ∷ []) pages other)
 
 module _ (s : State) (k : Kept s) (n mode : ℕ) (r : Row) (row : row_at s.home n ≡ Some r) (small : mode ≤ 511) (other : n ≡ 1 → ⊥) (free : (g : OpenGrant) → In g s.open_grants → (g.ino ≡ n → ⊥) × (g.ino ≡ r.parent → ⊥)) where
   abbrev ck : List Sheet
@@ -153,7 +149,8 @@ module _ (s : State) (k : Kept s) (n mode : ℕ) (r : Row) (row : row_at s.home 
     absent = λ p gone c.
         let a : slice_get (body_put (Some r) (body_with_mode mode (settled_body s.home n)) s.home.core.pages) p ≡ Some None =
         ap (λ o. slice_get (body_put o (body_with_mode mode (settled_body s.home n)) s.home.core.pages) p) (sym row) ∙ gone in
-        k.absent p (absent_put r (body_with_mode mode (settled_body s.home n)) s.home.core.pages p a) c;
+        let f = body_put-get r (body_with_mode mode (settled_body s.home n)) s.home.core.pages p in
+        k.absent p (absent_map f.0 (slice_get s.home.core.pages p) (sym f.1 ∙ a)) c;
     pages_placed = k.pages_placed;
     out_free = k.out_free;
     numbers_placed = k.numbers_placed;
@@ -168,13 +165,6 @@ passed true c o e = absurd cc
 passed false true o e = absurd cc
 passed false false None e = (refl, refl, refl)
 passed false false (Some g) e = absurd cc
-
-after_fault_kept : (s : State) (f : ModeFault) → Kept s → Kept (after_mode_fault s f)
-after_fault_kept s NotLive k = logged_kept s k
-after_fault_kept s NotOwner k = logged_kept s k
-after_fault_kept s BadMode k = logged_kept s k
-after_fault_kept s (Busy holder) k = k
-after_fault_kept s OutOfMemory k = logged_kept s k
 
 -- what a change of mode that isn't refused has passed
 pub record MayChange (s : State) (lib ino mode : ℕ) (r : Row) : Type 0 where
@@ -201,7 +191,7 @@ may_change s lib ino mode r e =
     }
 
 outcome_kept : (s : State) (lib ino mode : ℕ) (o : Option Row) (a : Option ModeFault) → Kept s → row_at s.home ino ≡ o → mode_fault s lib ino mode o ≡ a → Kept (moded_to s ino mode a).after
-outcome_kept s lib ino mode o (Some fault) k row e = after_fault_kept s fault k
+outcome_kept s lib ino mode o (Some fault) k row e = after_no_mode Kept s fault k (logged_kept s k)
 outcome_kept s lib ino mode None None k row e = absurd cc
 outcome_kept s lib ino mode (Some r) None k row e =
     let may = may_change s lib ino mode r e in

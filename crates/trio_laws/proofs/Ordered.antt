@@ -1,5 +1,5 @@
 -- Open grants stand in the order of their entries.
-use Rattle.std.proofs.Common.{◌≡◌, ℕ, ◌<◌, ◌≤◌, zero, suc, Bool, true, false, cond, ◌&&◌, not, eqb, ltb, List, [], ◌∷◌, length, get_or, take, Option, Some, None, slice_get, sym, refl, ap, subst, inl, inr, arith}
+use Rattle.std.proofs.Common.{◌≡◌, ℕ, ◌<◌, ◌≤◌, zero, suc, Bool, ◌&&◌, not, eqb, List, [], ◌∷◌, length, get_or, take, Option, Some, None, slice_get, sym, refl, ap, subst, inl, inr, arith}
 use Rattle.std.specs.Prelude.{AllPairs}
 use Rattle.std.specs.List.{filter}
 use Rattle.std.proofs.lemmas.List.Kept.{AllPairs-filter}
@@ -7,9 +7,7 @@ use Rattle.std.proofs.lemmas.List.Quantifiers.{all_pairs_push}
 use Rattle.trio_rights.specs.Row.{Row}
 use Rattle.trio_nodes.specs.declared.grant.GrantKind.{GrantKind}
 use Rattle.trio_nodes.specs.declared.answers.GrantFault.{GrantFault}
-use Rattle.trio_nodes.specs.declared.answers.GrantFault.TheVariants.{NotLive, Denied, NoParent, Busy, NoMemory as OutOfMemory}
 use Rattle.trio_nodes.specs.declared.answers.ModeFault.{ModeFault}
-use Rattle.trio_nodes.specs.declared.answers.ModeFault.TheVariants.{NotLive as ModeNotLive, NotOwner, BadMode, Busy as ModeBusy, NoMemory as ModeNoMemory}
 use Rattle.trio_lists.specs.Lists.{In}
 use Rattle.trio_layout.specs.Image.{Image, row_at}
 use Rattle.trio_state.specs.State.{OpenGrant, State, logged}
@@ -18,11 +16,12 @@ use Rattle.trio_layout.specs.Proposed.{Bundle}
 use Rattle.trio_state.specs.Grants.{grant_fault, opened, opens, given_back}
 use Rattle.trio_state.specs.Allotments.{free_pages, free_numbers, allots}
 use Rattle.trio_state.specs.Bundles.{is_in_bundle, lent_part, grants_after, Ends}
-use Rattle.trio_state.specs.Step.{Grant, Allot, Back, Release, Settle, SetMode, CtlAnswer, NoPages, NoInodes, Given, Outcome, after_grant_fault, granted_to, allot_outcome, mode_fault, after_mode_fault, moded_to, ReleaseEnd, Parted, IsAccepted, IsRefused}
-use Rattle.trio_state.specs.Run.{start, Move, Trace}
+use Rattle.trio_state.specs.Step.{Grant, Allot, Back, Release, Settle, SetMode, CtlAnswer, granted_to, allot_outcome, mode_fault, moded_to, ReleaseEnd, Parted, IsAccepted, IsRefused}
+use Rattle.trio_state.specs.Run.{start}
 use Rattle.trio_laws.specs.GrantLaws.{CameBefore, IsOrdered, OrderBegins, OrderStays, GrantsAreOrdered, FirstIsLowest}
 use Rattle.trio_lists.proofs.Members.{In-cases, In-map, map-In}
 use Rattle.trio_lists.proofs.Filters.{get_or-In, In-get_or, filter-In, In-filter}
+use Rattle.trio_laws.proofs.Cases.{after_allot, after_no_grant, after_no_mode, trace_keeps}
 use Rattle.trio_laws.proofs.Ended.{pairs_like}
 
 -- the same grants in a state of as many entries or more
@@ -34,13 +33,6 @@ same_ordered s s' e more o = record {
 
 logged_ordered : (s : State) → IsOrdered s → IsOrdered (logged s)
 logged_ordered s o = same_ordered s (logged s) refl (omega arith) o
-
-grant_fault_ordered : (s : State) (f : GrantFault) → IsOrdered s → IsOrdered (after_grant_fault s f)
-grant_fault_ordered s NotLive o = logged_ordered s o
-grant_fault_ordered s (Denied n) o = logged_ordered s o
-grant_fault_ordered s NoParent o = logged_ordered s o
-grant_fault_ordered s (Busy holder) o = o
-grant_fault_ordered s OutOfMemory o = logged_ordered s o
 
 -- a grant with the next entry
 opens_ordered : (s : State) (g : OpenGrant) → g.entry ≡ s.entries → IsOrdered s → IsOrdered (opens s g)
@@ -59,28 +51,14 @@ opens_ordered s g e o = record {
 
 granted_ordered : (s : State) (lib ino : ℕ) (kind : GrantKind) (a : Option GrantFault) (r : Option Row) → IsOrdered s
     → IsOrdered (granted_to s lib ino kind a r).after
-granted_ordered s lib ino kind (Some fault) r o = grant_fault_ordered s fault o
+granted_ordered s lib ino kind (Some fault) r o = after_no_grant IsOrdered s fault o (logged_ordered s o)
 granted_ordered s lib ino kind None None o = o
 granted_ordered s lib ino kind None (Some r) o = opens_ordered s (opened s lib ino kind r) refl o
 
 allot_ordered : (s : State) (lib pages numbers : ℕ) → IsOrdered s → IsOrdered (allot_outcome s lib pages numbers).after
-allot_ordered s lib pages numbers o = either (ltb (length (free_pages s)) pages) (ltb (length (free_numbers s)) numbers)
-  where
-    either : (a b : Bool) → IsOrdered (cond {A = Outcome} a (record {
-      answer =
-          NoPages pages (length (free_pages s));
-      after = logged s;
-    })
-        (cond b (record { answer = NoInodes numbers (length (free_numbers s)); after = logged s })
-        (record {
-          answer = Given (take pages (free_pages s)) (take numbers (free_numbers s));
-          after =
-              allots s lib (take pages (free_pages s)) (take numbers (free_numbers s));
-        }))).after
-    either true b = logged_ordered s o
-    either false true = logged_ordered s o
-    either false false = same_ordered s (allots s lib (take pages (free_pages s)) (take numbers (free_numbers s)))
-        refl (omega arith) o
+allot_ordered s lib pages numbers o =
+    after_allot IsOrdered s lib pages numbers (logged_ordered s o)
+    (same_ordered s (allots s lib (take pages (free_pages s)) (take numbers (free_numbers s))) refl (omega arith) o)
 
 back_ordered : (s : State) (lib ino : ℕ) → IsOrdered s → IsOrdered (given_back s lib ino)
 back_ordered s lib ino o =
@@ -112,15 +90,8 @@ release_ordered s s' lib b answer (Parted n none e same) o = subst IsOrdered (sy
 release_ordered s s' lib b answer (IsAccepted none t e ends) o = ends_ordered s s' lib b _ ends o
 release_ordered s s' lib b answer (IsRefused none f why e tells ends) o = ends_ordered s s' lib b _ ends o
 
-mode_fault_ordered : (s : State) (f : ModeFault) → IsOrdered s → IsOrdered (after_mode_fault s f)
-mode_fault_ordered s ModeNotLive o = logged_ordered s o
-mode_fault_ordered s NotOwner o = logged_ordered s o
-mode_fault_ordered s BadMode o = logged_ordered s o
-mode_fault_ordered s (ModeBusy holder) o = o
-mode_fault_ordered s ModeNoMemory o = logged_ordered s o
-
 mode_ordered : (s : State) (ino mode : ℕ) (a : Option ModeFault) → IsOrdered s → IsOrdered (moded_to s ino mode a).after
-mode_ordered s ino mode (Some fault) o = mode_fault_ordered s fault o
+mode_ordered s ino mode (Some fault) o = after_no_mode IsOrdered s fault o (logged_ordered s o)
 mode_ordered s ino mode None o = same_ordered s _ refl (omega arith) o
 
 pub order_begins : OrderBegins
@@ -139,22 +110,10 @@ order_stays s (Settle lib b) answer s' o (inl does) = ends_ordered s s' lib b _ 
 order_stays s (SetMode lib ino mode) answer s' o (inl does) =
     subst IsOrdered (sym does.1) (mode_ordered s ino mode (mode_fault s lib ino mode (row_at s.home ino)) o)
 
--- each move of a run begins and ends in an ordered state
-trace_ordered : (s : State) (moves : List Move) → IsOrdered s → Trace s moves → (m : Move) → In m moves
-    → IsOrdered m.before × IsOrdered m.after
-trace_ordered s [] o run m i = absurd i
-trace_ordered s (x ∷ moves) o run m i =
-    let before : IsOrdered x.before = subst IsOrdered (sym run.0) o in
-    let after : IsOrdered x.after = order_stays x.before x.event x.answer x.after before run.2 in
-    let B : Move → Type 0 = λ y. IsOrdered y.before × IsOrdered y.after in
-    elim i [
-      | inl e ↦ subst B (sym e) (before, after)
-      | inr j ↦ trace_ordered x.after moves after run.3 m j
-    ]
-
 pub grants_are_ordered : GrantsAreOrdered
 grants_are_ordered run m i =
-    trace_ordered (start run.image run.creds) run.moves (order_begins run.image run.creds) run.trace m i
+    trace_keeps IsOrdered (λ s event answer s' o given step. order_stays s event answer s' o step)
+    (start run.image run.creds) run.moves (order_begins run.image run.creds) run.trace m i
 
 -- the first of a list in order is the lowest
 first_of : (gs : List OpenGrant) (g h : OpenGrant) → AllPairs CameBefore gs → slice_get gs 0 ≡ Some g → In h gs

@@ -1,5 +1,5 @@
 -- Each step of another library leaves what a library was given.
-use Rattle.std.proofs.Common.{◌≡◌, ℕ, Bool, true, false, cond, ◌&&◌, not, eqb, ltb, [], ◌∷◌, length, take, Option, Some, None, sym, refl, ap, ◌∙◌, subst, inl, inr}
+use Rattle.std.proofs.Common.{◌≡◌, ℕ, Bool, false, ◌&&◌, not, eqb, [], ◌∷◌, Option, Some, None, sym, refl, ap, ◌∙◌, subst, inl, inr}
 use Rattle.std.proofs.lemmas.Bool.{and_left, not_from_false, ne_eqb}
 use Rattle.std.proofs.lemmas.List.{get_or-set_other}
 use Rattle.trio_rights.specs.Row.{Row}
@@ -7,9 +7,7 @@ use Rattle.trio_tables.specs.Out.{lib_at}
 use Rattle.trio_nodes.specs.declared.grant.GrantKind.{GrantKind}
 use Rattle.trio_nodes.specs.declared.grant.GrantKind.TheVariants.{Read}
 use Rattle.trio_nodes.specs.declared.answers.GrantFault.{GrantFault}
-use Rattle.trio_nodes.specs.declared.answers.GrantFault.TheVariants.{NotLive, Denied, NoParent, Busy, NoMemory as OutOfMemory}
 use Rattle.trio_nodes.specs.declared.answers.ModeFault.{ModeFault}
-use Rattle.trio_nodes.specs.declared.answers.ModeFault.TheVariants.{NotLive as ModeNotLive, NotOwner, BadMode, Busy as ModeBusy, NoMemory as ModeNoMemory}
 use Rattle.trio_lists.specs.Lists.{In}
 use Rattle.trio_layout.specs.Image.{row_at}
 use Rattle.trio_state.specs.State.{OpenGrant, State, logged}
@@ -17,8 +15,7 @@ use Rattle.trio_nodes.specs.GrantKinds.{is_read}
 use Rattle.trio_layout.specs.Proposed.{Bundle}
 use Rattle.trio_layout.specs.Mode.{image_with_mode, row_with_mode}
 use Rattle.trio_state.specs.Grants.{grant_fault, opened, opens, given_back}
-use Rattle.trio_state.specs.Allotments.{free_pages, free_numbers, allots}
-use Rattle.trio_state.specs.Step.{Event, Grant, Allot, Back, Release, Settle, SetMode, CtlAnswer, NoPages, NoInodes, Given, Outcome, Step, after_grant_fault, granted_to, allot_outcome, mode_fault, after_mode_fault, moded_to, ReleaseEnd, Parted, IsAccepted, IsRefused}
+use Rattle.trio_state.specs.Step.{Event, Grant, Allot, Back, Release, Settle, SetMode, CtlAnswer, Step, granted_to, allot_outcome, mode_fault, moded_to, ReleaseEnd, Parted, IsAccepted, IsRefused}
 use Rattle.trio_state.specs.Kept.{Kept}
 use Rattle.trio_state.specs.Given.{GivenTo, GivenEvent}
 use Rattle.trio_laws.specs.Laws.{library_of, GivenThrough, ClosedThrough}
@@ -27,6 +24,7 @@ use Rattle.trio_laws.proofs.Bundles.{closed_unparted, closed_all}
 use Rattle.trio_lists.proofs.Filters.{filter-In, In-filter}
 use Rattle.trio_laws.proofs.Modes.{may_change}
 use Rattle.trio_laws.proofs.Allots.{pages_apart, numbers_apart}
+use Rattle.trio_laws.proofs.Cases.{after_allot, after_no_grant, after_no_mode}
 use Rattle.trio_laws.proofs.Runs.{step_kept}
 use Rattle.trio_laws.proofs.Others.{LeavesTo, has_grant_stays, given_stays, no_read_stays, unparted_stays, refused_leaves, accepted_leaves}
 
@@ -46,13 +44,6 @@ no_step_leaves s lib = same_leaves s s lib refl refl refl (λ g q i row. (q, row
 logged_leaves : (s : State) (lib : ℕ) → LeavesTo s (logged s) lib
 logged_leaves s lib = same_leaves s (logged s) lib refl refl refl (λ g q i row. (q, row, refl))
 
-grant_fault_leaves : (s : State) (f : GrantFault) (lib : ℕ) → LeavesTo s (after_grant_fault s f) lib
-grant_fault_leaves s NotLive lib = logged_leaves s lib
-grant_fault_leaves s (Denied n) lib = logged_leaves s lib
-grant_fault_leaves s NoParent lib = logged_leaves s lib
-grant_fault_leaves s (Busy holder) lib = no_step_leaves s lib
-grant_fault_leaves s OutOfMemory lib = logged_leaves s lib
-
 opens_leaves : (s : State) (g : OpenGrant) (lib : ℕ) → (g.lib ≡ lib → ⊥) → LeavesTo s (opens s g) lib
 opens_leaves s g lib apart = record {
   grants = λ h i mine. (h, In-left h s.open_grants (g ∷ []) i, refl);
@@ -66,23 +57,20 @@ opens_leaves s g lib apart = record {
 }
 
 grant_leaves : (s : State) (lib other ino : ℕ) (kind : GrantKind) (a : Option GrantFault) (o : Option Row) → (other ≡ lib → ⊥) → LeavesTo s (granted_to s other ino kind a o).after lib
-grant_leaves s lib other ino kind (Some fault) o apart = grant_fault_leaves s fault lib
+grant_leaves s lib other ino kind (Some fault) o apart = after_no_grant (λ x. LeavesTo s x lib) s fault (no_step_leaves s lib) (logged_leaves s lib)
 grant_leaves s lib other ino kind None None apart = no_step_leaves s lib
 grant_leaves s lib other ino kind None (Some r) apart = opens_leaves s (opened s other ino kind r) lib apart
 
 allot_leaves : (s : State) (lib other count many : ℕ) → LeavesTo s (allot_outcome s other count many).after lib
-allot_leaves s lib other count many = either (ltb (length (free_pages s)) count) (ltb (length (free_numbers s)) many)
-  where
-    either : (a b : Bool) → LeavesTo s (cond {A = Outcome} a (record { answer = NoPages count (length (free_pages s)); after = logged s }) (cond b (record { answer = NoInodes many (length (free_numbers s)); after = logged s }) (record { answer = Given (take count (free_pages s)) (take many (free_numbers s)); after = allots s other (take count (free_pages s)) (take many (free_numbers s)) }))).after lib
-    either true b = logged_leaves s lib
-    either false true = logged_leaves s lib
-    either false false = record {
+allot_leaves s lib other count many =
+    after_allot (λ x. LeavesTo s x lib) s other count many (logged_leaves s lib)
+    (record {
       grants = λ g i mine. (g, i, refl);
       none_new = λ h i mine. (h, i, refl);
       pages = λ n mine. pages_apart s other count many lib n mine;
       numbers = λ n mine. numbers_apart s other count many lib n mine;
       parents = λ g q i mine row. (q, row, refl);
-    }
+    })
 
 back_leaves : (s : State) (lib other ino : ℕ) → (other ≡ lib → ⊥) → LeavesTo s (given_back s other ino) lib
 back_leaves s lib other ino apart =
@@ -98,15 +86,8 @@ back_leaves s lib other ino apart =
       parents = λ g q i mine row. (q, row, refl);
     }
 
-mode_fault_leaves : (s : State) (f : ModeFault) (lib : ℕ) → LeavesTo s (after_mode_fault s f) lib
-mode_fault_leaves s ModeNotLive lib = logged_leaves s lib
-mode_fault_leaves s NotOwner lib = logged_leaves s lib
-mode_fault_leaves s BadMode lib = logged_leaves s lib
-mode_fault_leaves s (ModeBusy holder) lib = no_step_leaves s lib
-mode_fault_leaves s ModeNoMemory lib = logged_leaves s lib
-
 mode_leaves : (s : State) (lib other ino mode : ℕ) (o : Option Row) (a : Option ModeFault) → mode_fault s other ino mode o ≡ a → LeavesTo s (moded_to s ino mode a).after lib
-mode_leaves s lib other ino mode o (Some fault) e = mode_fault_leaves s fault lib
+mode_leaves s lib other ino mode o (Some fault) e = after_no_mode (λ x. LeavesTo s x lib) s fault (no_step_leaves s lib) (logged_leaves s lib)
 mode_leaves s lib other ino mode None None e = absurd cc
 mode_leaves s lib other ino mode (Some r) None e =
     let may = may_change s other ino mode r e in

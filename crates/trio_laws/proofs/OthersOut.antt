@@ -1,5 +1,5 @@
 -- A step of one library leaves what every other library has out.
-use Rattle.std.proofs.Common.{◌≡◌, ◌≢◌, ℕ, ◌-◌, ◌<◌, ◌≤◌, ◌⊎◌, subst, Bool, true, false, cond, ltb, ◌&&◌, ◌||◌, not, eqb, List, [], ◌∷◌, ◌++◌, map, length, take, Option, Some, None, sym, refl, ap, ◌∙◌, inl, inr, append-nil}
+use Rattle.std.proofs.Common.{◌≡◌, ◌≢◌, ℕ, ◌-◌, ◌<◌, ◌≤◌, ◌⊎◌, subst, Bool, true, false, cond, ◌&&◌, ◌||◌, not, eqb, List, [], ◌∷◌, ◌++◌, map, length, take, Option, Some, None, sym, refl, ap, ◌∙◌, inl, inr, append-nil}
 use Rattle.std.specs.List.{filter}
 use Rattle.std.specs.Prelude.{is_some}
 use Rattle.std.proofs.lemmas.Bool.{eqb-true, ne_eqb, cases_lt, false≢true}
@@ -8,9 +8,7 @@ use Rattle.std.proofs.lemmas.List.{get_or_past}
 use Rattle.trio_rights.specs.Row.{Row}
 use Rattle.trio_nodes.specs.declared.grant.GrantKind.{GrantKind}
 use Rattle.trio_nodes.specs.declared.answers.GrantFault.{GrantFault}
-use Rattle.trio_nodes.specs.declared.answers.GrantFault.TheVariants.{NotLive, Denied, NoParent, Busy, NoMemory as OutOfMemory}
 use Rattle.trio_nodes.specs.declared.answers.ModeFault.{ModeFault}
-use Rattle.trio_nodes.specs.declared.answers.ModeFault.TheVariants.{NotLive as ModeNotLive, NotOwner, BadMode, Busy as ModeBusy, NoMemory as ModeNoMemory}
 use Rattle.trio_lists.specs.Lists.{In, is_among}
 use Rattle.trio_page.specs.Sheets.{sheet_numbers}
 use Rattle.trio_layout.specs.Image.{Image, row_at}
@@ -18,18 +16,19 @@ use Rattle.trio_rights.specs.declared.rights.LibNo.{LibNo}
 use Rattle.trio_tables.specs.Out.{lib_at, is_out}
 use Rattle.trio_tables.specs.Free.{count_up}
 use Rattle.trio_tables.proofs.OutLemmas.{length-with_all, lib_at-others, lib_at-set}
-use Rattle.trio_state.specs.State.{OpenGrant, State, logged}
+use Rattle.trio_state.specs.State.{OpenGrant, State}
 use Rattle.trio_nodes.specs.GrantKinds.{is_read, is_write, is_hold}
 use Rattle.trio_layout.specs.Proposed.{Bundle, is_written}
 use Rattle.trio_state.specs.Grants.{grant_fault, opened, opens, given_back}
 use Rattle.trio_state.specs.Allotments.{free_pages, free_numbers, allots, out_with, out_after, is_library}
 use Rattle.trio_state.specs.Bundles.{Ends, grants_after, is_in_bundle, lent_part}
-use Rattle.trio_state.specs.Step.{Grant, Allot, Back, Release, Settle, SetMode, CtlAnswer, NoPages, NoInodes, Given, Outcome, granted_to, after_grant_fault, allot_outcome, mode_fault, moded_to, after_mode_fault, ReleaseEnd, Parted, IsAccepted, IsRefused}
+use Rattle.trio_state.specs.Step.{Grant, Allot, Back, Release, Settle, SetMode, CtlAnswer, granted_to, allot_outcome, mode_fault, moded_to, ReleaseEnd, Parted, IsAccepted, IsRefused}
 use Rattle.trio_state.specs.Kept.{Kept}
 use Rattle.trio_state.specs.Given.{GivenTo, WasAllotted}
 use Rattle.trio_laws.specs.OutLaws.{without_checkpoint, grants_to, numbers_to, out_of, OthersKeepOut}
 use Rattle.trio_lists.proofs.Members.{is_among-In}
 use Rattle.trio_lists.proofs.Filters.{filter-map, filter-filter, filter-same}
+use Rattle.trio_laws.proofs.Cases.{after_allot, after_no_grant, after_no_mode}
 use Rattle.trio_laws.proofs.Allots.{page_free, number_free}
 
 none_of : (o : Option LibNo) → is_some o ≡ false → o ≡ None
@@ -118,42 +117,23 @@ module _ (mine lib : ℕ) (apart : mine ≢ lib) where
           ∙ sym (ap (is_library lib) (get_or_past outs n None past))
 
 module _ (s : State) (k : Kept s) (mine lib : ℕ) (apart : mine ≢ lib) where
-  after_fault : (f : GrantFault) → out_of (after_grant_fault s f) lib ≡ out_of s lib
-  after_fault NotLive = refl
-  after_fault (Denied n) = refl
-  after_fault NoParent = refl
-  after_fault (Busy holder) = refl
-  after_fault OutOfMemory = refl
+  abbrev Same : State → Type 0
+  Same x = out_of x lib ≡ out_of s lib
 
   grant : (ino : ℕ) (kind : GrantKind) (f : Option GrantFault) (o : Option Row)
       → out_of (granted_to s mine ino kind f o).after lib ≡ out_of s lib
-  grant ino kind (Some f) o = after_fault f
+  grant ino kind (Some f) o = after_no_grant Same s f refl refl
   grant ino kind None None = refl
   grant ino kind None (Some r) =
       (let g : OpenGrant = opened s mine ino kind r in out_of_same s (opens s g) lib
       (grants_to-more mine lib apart s.open_grants g refl) refl refl)
 
   allot : (count many : ℕ) → out_of (allot_outcome s mine count many).after lib ≡ out_of s lib
-  allot count many = either (ltb (length (free_pages s)) count) (ltb (length (free_numbers s)) many)
-    where
-      either : (a b : Bool) → out_of (cond {A = Outcome} a (record {
-        answer =
-            NoPages count (length (free_pages s));
-        after = logged s;
-      })
-          (cond b (record { answer = NoInodes many (length (free_numbers s)); after = logged s })
-          (record {
-            answer = Given (take count (free_pages s)) (take many (free_numbers s));
-            after =
-                allots s mine (take count (free_pages s)) (take many (free_numbers s));
-          }))).after lib
-          ≡ out_of s lib
-      either true b = refl
-      either false true = refl
-      either false false =
-          out_of_same s (allots s mine (take count (free_pages s)) (take many (free_numbers s))) lib refl
-          (numbers_to-more mine lib apart s.pages_out (take count (free_pages s)) (λ n i. (page_free s mine count many n i).1))
-          (numbers_to-more mine lib apart s.numbers_out (take many (free_numbers s)) (λ n i. (number_free s mine count many n i).1))
+  allot count many =
+      after_allot Same s mine count many refl
+      (out_of_same s (allots s mine (take count (free_pages s)) (take many (free_numbers s))) lib refl
+      (numbers_to-more mine lib apart s.pages_out (take count (free_pages s)) (λ n i. (page_free s mine count many n i).1))
+      (numbers_to-more mine lib apart s.numbers_out (take many (free_numbers s)) (λ n i. (number_free s mine count many n i).1)))
 
   back : (ino : ℕ) → out_of (given_back s mine ino) lib ≡ out_of s lib
   back ino =
@@ -182,15 +162,8 @@ module _ (s : State) (k : Kept s) (mine lib : ℕ) (apart : mine ≢ lib) where
   release b answer s' given (IsAccepted none t a e) = ends b _ s' given e
   release b answer s' given (IsRefused none f why a tells e) = ends b _ s' given e
 
-  after_no_mode : (f : ModeFault) → out_of (after_mode_fault s f) lib ≡ out_of s lib
-  after_no_mode ModeNotLive = refl
-  after_no_mode NotOwner = refl
-  after_no_mode BadMode = refl
-  after_no_mode (ModeBusy holder) = refl
-  after_no_mode ModeNoMemory = refl
-
   set_mode : (ino mode : ℕ) (f : Option ModeFault) → out_of (moded_to s ino mode f).after lib ≡ out_of s lib
-  set_mode ino mode (Some f) = after_no_mode f
+  set_mode ino mode (Some f) = after_no_mode Same s f refl refl
   set_mode ino mode None = refl
 
 pub others_keep_out : OthersKeepOut

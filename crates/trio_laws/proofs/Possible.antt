@@ -1,150 +1,121 @@
 -- For each bundle that was given to its library there is a step of its release.
-use Rattle.std.proofs.Common.{◌≡◌, ℕ, suc, zero, ◌+◌, ◌<◌, true, List, [], ◌∷◌, ◌++◌, length, Option, Some, None, slice_get, slice_set, sym, refl, ap, ◌∙◌, inl, inr, arith, ltb, leb, not}
+use Rattle.std.proofs.Common.{◌≡◌, ℕ, suc, zero, ◌+◌, true, List, [], ◌∷◌, ◌++◌, length, Option, Some, None, slice_get, sym, refl, ap, subst, ◌∙◌, inl, inr, arith, not}
 use Rattle.std.specs.Prelude.{map}
-use Rattle.std.specs.List.{flat_map}
-use Rattle.std.specs.Option.{option_map}
-use Rattle.std.proofs.lemmas.List.{map-append}
-use Rattle.std.proofs.lemmas.Bool.{and_parts, cases_Bool, ltb-true}
-use Rattle.trio_layout.specs.Core.{Core}
+use Rattle.std.specs.List.{filter}
+use Rattle.std.specs.Option.{option_and_then}
+use Rattle.std.proofs.lemmas.Bool.{cases_Bool}
 use Rattle.trio_lists.specs.Lists.{In}
-use Rattle.trio_layout.specs.Range.{is_core}
-use Rattle.trio_layout.specs.Sound.{is_sound}
-use Rattle.trio_layout.specs.Survey.{Pick, survey}
-use Rattle.trio_layout.specs.Accept.{is_accepted, next, with_bodies}
+use Rattle.trio_layout.specs.Accept.{is_accepted, next}
 use Rattle.trio_state.specs.Allotments.{out_after}
 use Rattle.trio_state.specs.Bundles.{blank, lent_part, grants_after, is_in_bundle, uncovered, parted_hold, refused_image, Ends}
 use Rattle.trio_state.specs.Grants.{given_back}
+use Rattle.trio_laws.specs.EndLaws.{IsSpread, checkpoints_of, unless_absent}
 use Rattle.trio_laws.specs.Laws.{MayEnd}
 use Rattle.trio_state.specs.Given.{GivenTo, GivenEvent}
-use Rattle.trio_layout.specs.Image.{IsFit, Image}
+use Rattle.trio_layout.specs.Image.{Image, with_core_pages}
 use Rattle.trio_state.specs.Kept.{Kept}
-use Rattle.trio_layout.specs.Proposed.{Bundle, bundle_sheets, proposed, proposed_pick}
+use Rattle.trio_layout.specs.Proposed.{Bundle, bundle_sheets}
 use Rattle.trio_page.specs.Sheets.{Sheet, sheet_numbers, with_pages}
 use Rattle.trio_state.specs.State.{OpenGrant, State, settled, creds_of}
 use Rattle.trio_state.specs.Tells.{untold}
 use Rattle.trio_state.specs.Step.{Event, Grant, Allot, Back, Release, Settle, SetMode, CtlAnswer, Done, Accepted, Refused, NotClosed, Settled, Does, Parted, IsAccepted, IsRefused, grant_outcome, allot_outcome, mode_outcome}
-use Rattle.trio_laws.proofs.Bundles.{in_numbers}
-use Rattle.trio_lists.proofs.Filters.{filter-In}
-use Rattle.trio_surveys.proofs.Cores.{listed_is_core}
-use Rattle.trio_lists.proofs.Members.{flat_map-In, In-flat}
-use Rattle.trio_surveys.proofs.Picked.{all_listed, bodies_are, listed_no_root}
-use Rattle.trio_surveys.proofs.Putting.{put_on, with_bodies-get}
+use Rattle.trio_lists.proofs.Filters.{In-filter, filter-In}
+use Rattle.trio_lists.proofs.Members.{flat_map-In, In-flat, map-In}
+use Rattle.trio_laws.proofs.PutBack.{refused_away, refused_settles}
+use Rattle.trio_laws.proofs.Spread.{accepted_away, accepted_settles, next_long, next_there}
 use Rattle.trio_surveys.proofs.SheetLaws.{length-with_pages}
-use Rattle.trio_surveys.proofs.Sheets.{Pages, with_pages_there, with_pages_absent, place_there}
-use Rattle.trio_laws.proofs.StateFacts.{checkpoint_lent, lent_met}
+use Rattle.trio_surveys.proofs.Sheets.{Pages}
 use Rattle.trio_laws.proofs.Tells.{untold_tells}
-use Rattle.trio_laws.proofs.Survivors.{fit_now, sound_now}
 
-bytes_at : Option (Option (List ℕ)) → List ℕ
+abbrev bytes_at : Option (Option (List ℕ)) → List ℕ
 bytes_at None = []
 bytes_at (Some None) = []
 bytes_at (Some (Some b)) = b
 
 -- a sheet with the bytes that stand at its number
-refreshed : Pages → Sheet → Sheet
+abbrev refreshed : Pages → Sheet → Sheet
 refreshed pages x = record { page = x.page; bytes = bytes_at (slice_get pages x.page) }
 
-refresh : Pages → OpenGrant → OpenGrant
+abbrev refresh : Pages → OpenGrant → OpenGrant
 refresh pages g = record g { checkpoint = map (refreshed pages) g.checkpoint }
 
-set_same : (pages : Pages) (n : ℕ) (y : Option (List ℕ)) → slice_get pages n ≡ Some y → slice_set pages n y ≡ pages
-set_same [] n y e = refl
-set_same (p ∷ ps) zero y e = (let s : p ≡ y = cc e in ap (λ z. z ∷ ps) (sym s))
-set_same (p ∷ ps) (suc n) y e = ap (λ l. p ∷ l) (set_same ps n y e)
-
-put_same : (pages : Pages) (ss : List Sheet) → ((x : Sheet) → In x ss → (b : List ℕ) × (slice_get pages x.page ≡ Some (Some b))) → with_pages (map (refreshed pages) ss) pages ≡ pages
-unfolding refreshed bytes_at
-put_same pages [] h = refl
-put_same pages (x ∷ xs) h =
-    let r = h x (inl refl) in
-    let b : bytes_at (slice_get pages x.page) ≡ r.0 = ap bytes_at r.1 in
-    let same : slice_set pages x.page (Some (bytes_at (slice_get pages x.page))) ≡ pages = set_same pages x.page (Some (bytes_at (slice_get pages x.page))) (r.1 ∙ ap (λ z. Some (Some z)) (sym b)) in
-    ap (with_pages (map (refreshed pages) xs)) same ∙ put_same pages xs (λ y i. h y (inr i))
-
 blank_refreshed : (pages : Pages) (ss : List Sheet) → map blank (map (refreshed pages) ss) ≡ map blank ss
-unfolding refreshed
 blank_refreshed pages [] = refl
 blank_refreshed pages (x ∷ xs) = ap (λ l. blank x ∷ l) (blank_refreshed pages xs)
 
 part_refreshed : (pages : Pages) (gs : List OpenGrant) → map lent_part (map (refresh pages) gs) ≡ map lent_part gs
-unfolding refresh
 part_refreshed pages [] = refl
 part_refreshed pages (g ∷ gs) =
     ap (λ (ck : List Sheet). record g { checkpoint = ck } ∷ map lent_part (map (refresh pages) gs)) (blank_refreshed pages g.checkpoint)
     ∙ ap (λ l. lent_part g ∷ l) (part_refreshed pages gs)
 
-checkpoints_refreshed : (pages : Pages) (gs : List OpenGrant) → flat_map (λ (g : OpenGrant). g.checkpoint) (map (refresh pages) gs) ≡ map (refreshed pages) (flat_map (λ (g : OpenGrant). g.checkpoint) gs)
-unfolding refresh
-checkpoints_refreshed pages [] = refl
-checkpoints_refreshed pages (g ∷ gs) =
-    ap (λ l. map (refreshed pages) g.checkpoint ++ l) (checkpoints_refreshed pages gs)
-    ∙ sym (map-append (refreshed pages) g.checkpoint (flat_map (λ (g : OpenGrant). g.checkpoint) gs))
+-- the pages of an image that aren't absent before, and nothing where one is
+abbrev spread_over : Pages → Pages → Pages
+spread_over [] after = after
+spread_over (x ∷ before) [] = []
+spread_over (x ∷ before) (y ∷ after) = option_and_then (λ _. y) x ∷ spread_over before after
 
--- any image in which the covered pages are there can be settled then
-pub ends_possible : (s : State) (lib : ℕ) (b : Bundle) (image' : Image) → ((x : Sheet) → In x (flat_map (λ (g : OpenGrant). g.checkpoint) (grants_after s lib b)) → (c : List ℕ) × (slice_get image'.core.pages x.page ≡ Some (Some c))) → (s' : State) × Ends s lib b image' s'
-ends_possible s lib b image' h =
-    let pages : Pages = image'.core.pages in
-    let gs : List OpenGrant = map (refresh pages) (grants_after s lib b) in
-    let same : with_pages (flat_map (λ (g : OpenGrant). g.checkpoint) gs) pages ≡ pages =
-    ap (λ l. with_pages l pages) (checkpoints_refreshed pages (grants_after s lib b)) ∙ put_same pages (flat_map (λ (g : OpenGrant). g.checkpoint) (grants_after s lib b)) h in
-    let J : Pages → Image = λ p. record { core = record { pages = p; root = image'.core.root; range = image'.core.range; inodes = image'.core.inodes }; rows = image'.rows; owners = image'.owners } in
-    let t : State = record { home = image'; open_grants = gs; pages_out = out_after s.pages_out (map (λ x. x.page) b.pages); numbers_out = out_after s.numbers_out b.numbers; creds = s.creds; entries = s.entries + 1 } in
-    (t, record { settles = ap J same; grants = part_refreshed pages (grants_after s lib b); pages = refl; numbers = refl; creds = refl; entries = refl })
+length-spread : (before after : Pages) → length (spread_over before after) ≡ length after
+length-spread [] after = refl
+length-spread (x ∷ before) [] = refl
+length-spread (x ∷ before) (y ∷ after) = ap suc (length-spread before after)
 
-module _ (s : State) (k : Kept s) where
-  some_there : (pages : Pages) (p : ℕ) → p < length pages → (slice_get pages p ≡ Some None → ⊥) → (c : List ℕ) × (slice_get pages p ≡ Some (Some c))
-  some_there pages p l none = by_place (place_there pages p l).0 (place_there pages p l).1
-    where
-      by_place : (o : Option (List ℕ)) → slice_get pages p ≡ Some o → (c : List ℕ) × (slice_get pages p ≡ Some (Some c))
-      by_place None e = absurd (none e)
-      by_place (Some c) e = (c, e)
+get-spread : (before after : Pages) → length before ≡ length after → (p : ℕ) → slice_get (spread_over before after) p ≡ unless_absent (slice_get before p) (slice_get after p)
+get-spread [] after e p = refl
+get-spread (x ∷ before) [] e p = absurd cc
+get-spread (None ∷ before) (y ∷ after) e zero = refl
+get-spread (Some b ∷ before) (y ∷ after) e zero = refl
+get-spread (x ∷ before) (y ∷ after) e (suc p) = get-spread before after (omega (arith, e)) p
 
-  -- the covered pages are there in the settled image
-  covered_there : (p : ℕ) → In p (sheet_numbers (flat_map (λ (g : OpenGrant). g.checkpoint) s.open_grants)) → (p < length (settled s).core.pages) × (slice_get (settled s).core.pages p ≡ Some None → ⊥)
-  covered_there p i =
-      let core : Core = (settled s).core in
-      let g = checkpoint_lent s k p i in
-      let l = k.lent g.0 g.1 g.2 in
-      let c : is_core core.range p ≡ true = listed_is_core core l.met l.file p l.read (lent_met s k g.0 g.1 g.2 p g.3) in
-      let below : p < core.range.end = ltb-true p core.range.end (and_parts (leb core.range.first p) (ltb p core.range.end) c).1 in
-      let long = k.fit.long in
-      let inside : p < length core.pages = omega (arith, below, long) in
-      (inside, λ e. with_pages_there (flat_map (λ (g : OpenGrant). g.checkpoint) s.open_grants) s.home.core.pages p i e)
-
-  after_there : (lib : ℕ) (b : Bundle) (x : Sheet) → In x (flat_map (λ (g : OpenGrant). g.checkpoint) (grants_after s lib b)) → In x.page (sheet_numbers (flat_map (λ (g : OpenGrant). g.checkpoint) s.open_grants))
-  after_there lib b x i =
-      let r = flat_map-In (λ (g : OpenGrant). g.checkpoint) x (grants_after s lib b) i in
-      let f = filter-In (λ g. not (is_in_bundle lib b g)) r.0 s.open_grants r.1 in
-      in_numbers (flat_map (λ (g : OpenGrant). g.checkpoint) s.open_grants) x x.page (In-flat (λ (g : OpenGrant). g.checkpoint) r.0 x s.open_grants f.0 r.2) refl
-
-  with_there : (ss : List Sheet) (p : ℕ) → In p (sheet_numbers (flat_map (λ (g : OpenGrant). g.checkpoint) s.open_grants)) → (c : List ℕ) × (slice_get (with_pages ss (settled s).core.pages) p ≡ Some (Some c))
-  with_there ss p i =
-      let t = covered_there p i in
-      let l = t.0 in
-      let n = length-with_pages ss (settled s).core.pages in
-      some_there (with_pages ss (settled s).core.pages) p (omega (arith, l, n)) (λ e. t.1 (with_pages_absent ss (settled s).core.pages p e).1)
+module _ (s : State) (k : Kept s) (lib : ℕ) (b : Bundle) (given : GivenTo s lib b) where
+  -- a refused bundle can end
+  refused_ends : (s' : State) × Ends s lib b (refused_image (settled s) b) s'
+  refused_ends =
+      let mine : List OpenGrant = filter (is_in_bundle lib b) s.open_grants in
+      let sheets : List Sheet = checkpoints_of mine in
+      let from : (x : Sheet) → In x sheets → (g : OpenGrant) × In g s.open_grants × (is_in_bundle lib b g ≡ true) × In x g.checkpoint =
+      λ x i.
+      let r = flat_map-In (λ (g : OpenGrant). g.checkpoint) x mine i in
+      let f = filter-In (is_in_bundle lib b) r.0 s.open_grants r.1 in
+      (r.0, f.0, f.1, r.2) in
+      let all : (g : OpenGrant) (x : Sheet) → In g s.open_grants → is_in_bundle lib b g ≡ true → In x g.checkpoint → In x sheets =
+      λ g x i own a. In-flat (λ (g : OpenGrant). g.checkpoint) g x mine (In-filter (is_in_bundle lib b) g s.open_grants i own) a in
+      let home : Image = with_core_pages s.home (with_pages (uncovered (settled s) b ++ b.pages) (with_pages sheets s.home.core.pages)) in
+      let t : State = record { home = home; open_grants = grants_after s lib b; pages_out = out_after s.pages_out (sheet_numbers b.pages); numbers_out = out_after s.numbers_out b.numbers; creds = s.creds; entries = s.entries + 1 } in
+      (t, record { settles = ap (with_core_pages s.home) (refused_settles s k lib b given sheets from all); grants = refl; pages = refl; numbers = refl; creds = refl; entries = refl; away = refused_away s k lib b given sheets from all })
 
   -- an accepted bundle can end
-  accepted_ends : (lib : ℕ) (b : Bundle) → GivenTo s lib b → is_accepted (settled s) (creds_of s lib) b ≡ true → (s' : State) × Ends s lib b (next (settled s) b) s'
-  accepted_ends lib b given v =
-      let core : Core = proposed (settled s) b in
-      let pick : Pick = proposed_pick (settled s) b in
-      let fit : IsFit core = fit_now s k lib (creds_of s lib) b given v in
-      let sound : is_sound core pick ≡ true = sound_now s k lib (creds_of s lib) b given v in
-      ends_possible s lib b (next (settled s) b)
-      (λ x i.
-      let w = with_there (bundle_sheets b) x.page (after_there lib b x i) in
-      let there : slice_get (with_bodies (survey core pick) core.pages) x.page ≡ Some (Some (put_on x.page (all_listed core pick) w.0)) =
-      ap (λ ps. slice_get ps x.page) (bodies_are core pick fit sound) ∙ with_bodies-get x.page (all_listed core pick) core.pages (listed_no_root core pick fit sound) ∙ ap (option_map (option_map (put_on x.page (all_listed core pick)))) w.1 in
-      (put_on x.page (all_listed core pick) w.0, there))
+  accepted_ends : is_accepted (settled s) (creds_of s lib) b ≡ true → (s' : State) × Ends s lib b (next (settled s) b) s'
+  accepted_ends v =
+      let image : Image = next (settled s) b in
+      let after : Pages = image.core.pages in
+      let before : Pages = with_pages (bundle_sheets b) s.home.core.pages in
+      let pages : Pages = spread_over before after in
+      let gs : List OpenGrant = map (refresh after) (grants_after s lib b) in
+      let long : length before ≡ length after = length-with_pages (bundle_sheets b) s.home.core.pages ∙ sym (next_long s k lib b given v) in
+      let spread : IsSpread s b after pages gs = record {
+        count = length-spread before after;
+        home = get-spread before after long;
+        covered = λ g x i a.
+            let h = map-In (refresh after) g (grants_after s lib b) i in
+            let y = map-In (refreshed after) x h.0.checkpoint (subst (λ (z : OpenGrant). In x z.checkpoint) h.2 a) in
+            let f = filter-In (λ g. not (is_in_bundle lib b g)) h.0 s.open_grants h.1 in
+            let c = next_there s k lib b given v y.0 (In-flat (λ (z : OpenGrant). z.checkpoint) h.0 y.0 s.open_grants f.0 y.1) in
+            let bytes : x.bytes ≡ c.0 = ap (λ (z : Sheet). z.bytes) y.2 ∙ ap bytes_at c.1 in
+            ap (λ (z : Sheet). slice_get after z.page) y.2 ∙ c.1 ∙ ap (λ l. Some (Some l)) (sym bytes);
+      } in
+      let like : map lent_part gs ≡ map lent_part (grants_after s lib b) = part_refreshed after (grants_after s lib b) in
+      let t : State = record { home = with_core_pages image pages; open_grants = gs; pages_out = out_after s.pages_out (sheet_numbers b.pages); numbers_out = out_after s.numbers_out b.numbers; creds = s.creds; entries = s.entries + 1 } in
+      (t, record { settles = ap (with_core_pages image) (accepted_settles s k lib b given v pages gs like spread); grants = like; pages = refl; numbers = refl; creds = refl; entries = refl; away = accepted_away s b after pages gs spread })
 
+module _ (s : State) (k : Kept s) where
   -- a bundle that was given to its library and is closed is accepted or refused
   closed_possible : (lib : ℕ) (b : Bundle) → GivenTo s lib b → parted_hold s lib b ≡ None → (answer : CtlAnswer) × (s' : State) × Does s (Release lib b) answer s'
   closed_possible lib b given closed =
       elim (cases_Bool (is_accepted (settled s) (creds_of s lib) b)) [
-        | inl t ↦ (let r = accepted_ends lib b given t in (Accepted, r.0, IsAccepted closed t refl r.1))
+        | inl t ↦ (let r = accepted_ends s k lib b given t in (Accepted, r.0, IsAccepted closed t refl r.1))
         | inr f ↦ (
-            let r = ends_possible s lib b (refused_image (settled s) b) (λ x i. with_there (uncovered (settled s) b ++ b.pages) x.page (after_there lib b x i)) in
+            let r = refused_ends s k lib b given in
             (Refused untold, r.0, IsRefused closed f untold refl (untold_tells s lib b) r.1))
       ]
 
@@ -161,5 +132,5 @@ module _ (s : State) (k : Kept s) where
   call_possible (Allot lib pages numbers) given may = (let o = allot_outcome s lib pages numbers in (o.answer, o.after, (refl, refl)))
   call_possible (Back lib ino) given may = (Done, given_back s lib ino, (refl, refl))
   call_possible (Release lib b) given may = release_possible lib b given
-  call_possible (Settle lib b) given may = (let r = accepted_ends lib b given.0 may.1 in (Settled, r.0, (refl, may.0, may.1, r.1)))
+  call_possible (Settle lib b) given may = (let r = accepted_ends s k lib b given.0 may.1 in (Settled, r.0, (refl, may.0, may.1, r.1)))
   call_possible (SetMode lib ino mode) given may = (let o = mode_outcome s lib ino mode in (o.answer, o.after, (refl, refl)))

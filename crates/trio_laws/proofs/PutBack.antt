@@ -1,5 +1,5 @@
 -- After a refusal the image of a refusal is settled, once the bundle's checkpoints are back at home.
-use Rattle.std.proofs.Common.{◌≡◌, ℕ, true, not, List, ◌++◌, slice_get, sym, ap, ◌∙◌, subst, inl, inr}
+use Rattle.std.proofs.Common.{◌≡◌, ℕ, true, not, List, ◌++◌, Some, None, slice_get, sym, refl, ap, ◌∙◌, subst, inl, inr}
 use Rattle.std.specs.Prelude.{is_some, slice_index}
 use Rattle.std.proofs.lemmas.Bool.{cases_Bool, not_from_false}
 use Rattle.trio_rights.specs.declared.kind.Kind.{Kind}
@@ -11,10 +11,11 @@ use Rattle.trio_layout.specs.Survey.{plain, survey}
 use Rattle.trio_state.specs.Bundles.{grants_after, is_in_bundle, refused_image, uncovered}
 use Rattle.trio_state.specs.Given.{GivenTo}
 use Rattle.trio_state.specs.Kept.{Kept}
-use Rattle.trio_layout.specs.Proposed.{Written, Bundle}
+use Rattle.trio_layout.specs.Proposed.{Written, Bundle, bundle_pages, bundle_sheets}
 use Rattle.trio_page.specs.Sheets.{Sheet, sheet_numbers, with_pages}
 use Rattle.trio_state.specs.State.{OpenGrant, State, settled, covered}
 use Rattle.trio_laws.specs.EndLaws.{checkpoints_of}
+use Rattle.trio_laws.proofs.Accepting.{handed_back}
 use Rattle.trio_laws.proofs.Bundles.{in_numbers}
 use Rattle.trio_lists.proofs.Filters.{filter-In, In-filter}
 use Rattle.trio_laws.proofs.Checkpoints.{with_pages_like, checkpoint_from, one_lender, checkpoints_one}
@@ -22,9 +23,9 @@ use Rattle.trio_surveys.proofs.Images.{free_unlisted}
 use Rattle.trio_lists.proofs.Members.{In-cases, In-flat, In-left, In-right, flat_map-In, map-In}
 use Rattle.trio_surveys.proofs.Owned.{index_apart, sound_parts}
 use Rattle.trio_surveys.proofs.PageSlots.{pages_same}
-use Rattle.trio_laws.proofs.Uncovered.{uncovered_from}
+use Rattle.trio_laws.proofs.Uncovered.{uncovered_from, uncovered_handed}
 use Rattle.trio_surveys.proofs.Sheets.{Pages, among_cases, with_pages-append, with_pages_apart, with_pages_cong}
-use Rattle.trio_laws.proofs.StateFacts.{tables, lent_met}
+use Rattle.trio_laws.proofs.StateFacts.{covered_write, tables, lent_met}
 
 -- a checkpoint of a regular file covers its index pages alone
 covered_index : (of : Kind) (index blocks : List Sheet) (p : ℕ) → of ≡ Regular → In p (sheet_numbers (covered Write of index blocks)) → In p (sheet_numbers index)
@@ -99,6 +100,22 @@ module _ (s : State) (k : Kept s) (lib : ℕ) (b : Bundle) (given : GivenTo s li
 
     sheets_every : (x : Sheet) → In x sheets → In x every
     sheets_every x i = (let r = from x i in In-flat (λ (g : OpenGrant). g.checkpoint) r.0 x s.open_grants r.1 r.3)
+
+    -- they are over pages of the bundle
+    pub sheets_handed : (x : Sheet) → In x sheets → In x.page (bundle_pages b)
+    sheets_handed x i =
+        let r = from x i in
+        let c = covered_write r.0.kind r.0.of r.0.index r.0.blocks x.page (subst (λ l. In x.page l) (k.checkpoints r.0 r.1) (in_numbers r.0.checkpoint x x.page r.3 refl)) in
+        handed_back s k lib b given r.0 x.page r.1 c.0 r.2 c.1
+
+    -- a page that is absent at home stays so unless it is the bundle's
+    pub refused_away : (p : ℕ) → slice_get home p ≡ Some None → (In p (bundle_pages b) → ⊥) → slice_get (with_pages handed (with_pages sheets home)) p ≡ Some None
+    refused_away p gone other =
+        with_pages_apart handed (with_pages sheets home) p
+        (λ i. let r = map-In (λ (x : Sheet). x.page) p handed i in other (in_numbers (bundle_sheets b) r.0 p (uncovered_handed s k lib b given r.0 r.1) r.2))
+        ∙ with_pages_apart sheets home p
+        (λ i. let r = map-In (λ (x : Sheet). x.page) p sheets i in other (subst (λ n. In n (bundle_pages b)) (sym r.2) (sheets_handed r.0 r.1)))
+        ∙ gone
 
     parts_every : (x : Sheet) → In x (sheets ++ left) → In x every
     parts_every x i = elim (In-cases x sheets left i) [ inl a ↦ sheets_every x a | inr a ↦ left_every x a ]

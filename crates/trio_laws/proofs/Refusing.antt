@@ -1,14 +1,14 @@
 -- The end of a refused bundle keeps what holds of a state.
-use Rattle.std.proofs.Common.{◌≡◌, ℕ, true, false, ◌&&◌, ◌++◌, length, Some, None, slice_get, sym, refl, ap, ◌∙◌, subst, inl, inr, ◌⊎◌, arith, ◌+◌}
+use Rattle.std.proofs.Common.{◌≡◌, ℕ, true, false, ◌++◌, length, Some, None, slice_get, sym, refl, ap, ◌∙◌, subst, inl, inr, ◌⊎◌, arith, ◌+◌}
 use Rattle.std.specs.Prelude.{is_some, slice_index}
 use Rattle.std.specs.List.{flat_map}
-use Rattle.std.proofs.lemmas.Bool.{and_parts, cases_Bool}
+use Rattle.std.proofs.lemmas.Bool.{cases_Bool}
 use Rattle.trio_rights.specs.declared.kind.Kind.{Kind}
 use Rattle.trio_rights.specs.declared.kind.Kind.TheVariants.{Regular}
 use Rattle.trio_nodes.specs.declared.grant.GrantKind.TheVariants.{Write, Hold}
 use Rattle.trio_tables.specs.Out.{is_out}
 use Rattle.trio_layout.specs.Core.{Core}
-use Rattle.trio_lists.specs.Lists.{is_among, In}
+use Rattle.trio_lists.specs.Lists.{In}
 use Rattle.trio_layout.specs.Range.{is_core}
 use Rattle.trio_layout.specs.Survey.{plain, FileRead, survey}
 use Rattle.trio_state.specs.Bundles.{is_in_bundle, lent_part, refused_image, uncovered, Ends}
@@ -16,22 +16,20 @@ use Rattle.trio_state.specs.Given.{GivenTo}
 use Rattle.trio_state.specs.Grants.{has_parent_grant}
 use Rattle.trio_layout.specs.Image.{IsFit, Image, settled_body, row_at}
 use Rattle.trio_state.specs.Kept.{Kept, LentIsListed, HoldStands}
-use Rattle.trio_layout.specs.Proposed.{Written, Bundle, bundle_sheets}
+use Rattle.trio_layout.specs.Proposed.{Written, Bundle}
 use Rattle.trio_page.specs.Sheets.{Sheet, sheet_numbers, with_pages}
 use Rattle.trio_state.specs.State.{covered, OpenGrant, State, settled}
-use Rattle.trio_nodes.specs.GrantKinds.{is_write}
 use Rattle.trio_layout.specs.Verifies.{Verifies}
 use Rattle.trio_laws.proofs.Agreeing.{verifies_still, lent_still, body_still}
 use Rattle.trio_laws.proofs.Bundles.{Closed, outside_unheld, in_numbers}
 use Rattle.trio_laws.proofs.Ended.{grant_before, apart_then, checkpoints_then, write_in_bundle, parent_then, outs_then, numbers_then, pages_placed_then, numbers_placed_then, absent_then}
 use Rattle.trio_surveys.proofs.Images.{some_of, free_unlisted}
-use Rattle.trio_lists.proofs.Members.{In-left, In-right, In-flat, map-In, is_among-In}
+use Rattle.trio_lists.proofs.Members.{In-left, In-right, In-flat, map-In}
 use Rattle.trio_surveys.proofs.Owned.{sound_parts, pages_are}
 use Rattle.trio_surveys.proofs.SheetLaws.{length-with_pages}
 use Rattle.trio_surveys.proofs.Sheets.{Pages, with_pages_apart, with_pages_absent, with_pages_from, page_same, page_there, page_from}
-use Rattle.trio_laws.proofs.StateFacts.{write_is, tables}
-use Rattle.trio_lists.proofs.Filters.{list_any-In}
-use Rattle.trio_laws.proofs.Uncovered.{uncovered_from, In-uncovered}
+use Rattle.trio_laws.proofs.StateFacts.{lent_by, tables}
+use Rattle.trio_laws.proofs.Uncovered.{uncovered_from, uncovered_handed, In-uncovered}
 use Rattle.trio_laws.proofs.WriteGrant.{read_cases, block_unread, uncovers}
 use Rattle.trio_surveys.specs.Reading.{with_other, AgreeOn, pages_read}
 
@@ -66,13 +64,6 @@ module _ (s s' : State) (k : Kept s) (lib : ℕ) (b : Bundle) (given : GivenTo s
   abbrev after : Image
   after = refused_image (settled s) b
 
-  pub uncovered_handed : (x : Sheet) → In x (uncovered (settled s) b ++ b.pages) → In x (bundle_sheets b)
-  uncovered_handed x i =
-      elim (uncovered_from s k lib b given x i) [
-        | inl a ↦ In-right x (flat_map (λ (w : Written). w.index ++ w.blocks) b.writes) b.pages a
-        | inr w ↦ In-left x (flat_map (λ (w : Written). w.index ++ w.blocks) b.writes) b.pages (In-flat (λ (w : Written). w.index ++ w.blocks) w.0 x b.writes w.1 (In-right x w.0.index w.0.blocks w.3))
-      ]
-
   block_uncovered : (w : Written) (p : ℕ) → In w b.writes → w.kind ≡ Regular → In p (sheet_numbers w.blocks) → In p (sheet_numbers (uncovered (settled s) b ++ b.pages))
   block_uncovered w p i reg a =
       let r = map-In (λ (x : Sheet). x.page) p w.blocks a in
@@ -105,7 +96,7 @@ module _ (s s' : State) (k : Kept s) (lib : ℕ) (b : Bundle) (given : GivenTo s
     full = λ p bytes h.
         let t = page_there (with_other core pages) p bytes h in
         elim (with_pages_from (uncovered (settled s) b ++ b.pages) core.pages p bytes t.1) [
-          | inl r ↦ ap length (sym r.2) ∙ given.full r.0 (uncovered_handed r.0 r.1)
+          | inl r ↦ ap length (sym r.2) ∙ given.full r.0 (uncovered_handed s k lib b given r.0 r.1)
           | inr was ↦ k.fit.full p bytes (page_from core p bytes t.0 was)
         ];
     long = (let l = length-with_pages (uncovered (settled s) b ++ b.pages) core.pages in let f = k.fit.long in omega (arith, l, f));
@@ -146,11 +137,10 @@ module _ (s s' : State) (k : Kept s) (lib : ℕ) (b : Bundle) (given : GivenTo s
       let v = with_pages_absent (flat_map (λ g. g.checkpoint) s.open_grants) s.home.core.pages p w.1 in
       elim (k.absent p v.1 c) [
         | inl lent ↦
-            let q = list_any-In (λ g. is_write g.kind && is_among p (sheet_numbers (g.index ++ g.blocks))) s.open_grants lent in
+            let q = lent_by s.open_grants p lent in
             let g : OpenGrant = q.0 in
-            let parts = and_parts (is_write g.kind) (is_among p (sheet_numbers (g.index ++ g.blocks))) q.2 in
-            let kind : g.kind ≡ Write = write_is g.kind parts.0 in
-            let mine = is_among-In p (sheet_numbers (g.index ++ g.blocks)) parts.1 in
+            let kind : g.kind ≡ Write = q.2 in
+            let mine = q.3 in
             elim (cases_Bool (is_in_bundle lib b g)) [
               | inr out ↦ inl (g, q.1, out, kind, mine)
               | inl in' ↦

@@ -1,29 +1,27 @@
 -- What every step leaves of the row of a live number.
-use Rattle.std.proofs.Common.{◌≡◌, ℕ, ◌<◌, Bool, true, false, cond, ltb, List, length, get_or, take, Option, Some, None, sym, refl, ap, ◌∙◌, subst, inl, inr, ◌⊎◌}
+use Rattle.std.proofs.Common.{◌≡◌, ℕ, ◌<◌, true, List, length, get_or, Option, Some, None, sym, refl, ap, ◌∙◌, subst, inl, inr, ◌⊎◌}
 use Rattle.std.proofs.lemmas.Bool.{cases_Bool, cases_eq, cases_lt, both_ways}
 use Rattle.std.proofs.lemmas.List.{get_or_past, get_or-set_same, get_or-set_other}
 use Rattle.trio_rights.specs.Row.{Row}
 use Rattle.trio_nodes.specs.declared.grant.GrantKind.{GrantKind}
 use Rattle.trio_nodes.specs.declared.answers.GrantFault.{GrantFault}
-use Rattle.trio_nodes.specs.declared.answers.GrantFault.TheVariants.{NotLive, Denied, NoParent, Busy, NoMemory as OutOfMemory}
 use Rattle.trio_nodes.specs.declared.answers.ModeFault.{ModeFault}
-use Rattle.trio_nodes.specs.declared.answers.ModeFault.TheVariants.{NotLive as ModeNotLive, NotOwner, BadMode, Busy as ModeBusy, NoMemory as ModeNoMemory}
 use Rattle.trio_lists.specs.Lists.{In, is_among}
 use Rattle.trio_layout.specs.Survey.{survey, row_of}
 use Rattle.trio_layout.specs.Image.{Image, row_at}
-use Rattle.trio_state.specs.State.{State, settled, creds_of, logged}
+use Rattle.trio_state.specs.State.{State, settled, creds_of}
 use Rattle.trio_layout.specs.Proposed.{Bundle, proposed, proposed_pick}
 use Rattle.trio_layout.specs.Accept.{is_accepted, next}
 use Rattle.trio_layout.specs.Mode.{row_with_mode}
 use Rattle.trio_state.specs.Grants.{grant_fault}
-use Rattle.trio_state.specs.Allotments.{free_pages, free_numbers, allots}
 use Rattle.trio_state.specs.Bundles.{Ends}
-use Rattle.trio_state.specs.Step.{Grant, Allot, Back, Release, Settle, SetMode, CtlAnswer, NoPages, NoInodes, Given, Outcome, after_grant_fault, granted_to, allot_outcome, mode_fault, after_mode_fault, moded_to, ReleaseEnd, Parted, IsAccepted, IsRefused}
+use Rattle.trio_state.specs.Step.{Grant, Allot, Back, Release, Settle, SetMode, CtlAnswer, granted_to, allot_outcome, mode_fault, moded_to, ReleaseEnd, Parted, IsAccepted, IsRefused}
 use Rattle.trio_state.specs.Kept.{Kept}
 use Rattle.trio_state.specs.Given.{GivenTo}
 use Rattle.trio_laws.specs.Laws.{HasRightsOf, RowGoes, EveryStepKeepsRows}
 use Rattle.trio_lists.proofs.Members.{is_among-In, In-is_among}
 use Rattle.trio_surveys.proofs.Images.{row_at_is}
+use Rattle.trio_laws.proofs.Cases.{after_allot, after_no_grant, after_no_mode}
 use Rattle.trio_laws.proofs.Survivors.{fit_now, sound_now, unheld_row, held_rights}
 use Rattle.trio_laws.proofs.Modes.{may_change}
 
@@ -35,35 +33,19 @@ row_within rows n r e =
     ]
 
 module _ (s : State) (n : ℕ) (r : Row) (row : row_at s.home n ≡ Some r) where
-  after_fault : (f : GrantFault) → row_at (after_grant_fault s f).home n ≡ Some r
-  after_fault NotLive = row
-  after_fault (Denied m) = row
-  after_fault NoParent = row
-  after_fault (Busy holder) = row
-  after_fault OutOfMemory = row
+  abbrev Same : State → Type 0
+  Same x = row_at x.home n ≡ Some r
 
   grant_row : (lib ino : ℕ) (kind : GrantKind) (f : Option GrantFault) (o : Option Row) → row_at (granted_to s lib ino kind f o).after.home n ≡ Some r
-  grant_row lib ino kind (Some fault) o = after_fault fault
+  grant_row lib ino kind (Some fault) o = after_no_grant Same s fault row row
   grant_row lib ino kind None None = row
   grant_row lib ino kind None (Some q) = row
 
   allot_row : (lib count many : ℕ) → row_at (allot_outcome s lib count many).after.home n ≡ Some r
-  allot_row lib count many = either (ltb (length (free_pages s)) count) (ltb (length (free_numbers s)) many)
-    where
-      either : (a b : Bool) → row_at (cond {A = Outcome} a (record { answer = NoPages count (length (free_pages s)); after = logged s }) (cond b (record { answer = NoInodes many (length (free_numbers s)); after = logged s }) (record { answer = Given (take count (free_pages s)) (take many (free_numbers s)); after = allots s lib (take count (free_pages s)) (take many (free_numbers s)) }))).after.home n ≡ Some r
-      either true b = row
-      either false true = row
-      either false false = row
-
-  after_no_mode : (f : ModeFault) → row_at (after_mode_fault s f).home n ≡ Some r
-  after_no_mode ModeNotLive = row
-  after_no_mode NotOwner = row
-  after_no_mode BadMode = row
-  after_no_mode (ModeBusy holder) = row
-  after_no_mode ModeNoMemory = row
+  allot_row lib count many = after_allot Same s lib count many row row
 
   mode_row : (lib ino mode : ℕ) (o : Option Row) (f : Option ModeFault) → row_at s.home ino ≡ o → mode_fault s lib ino mode o ≡ f → RowGoes s (SetMode lib ino mode) n r (row_at (moded_to s ino mode f).after.home n)
-  mode_row lib ino mode o (Some fault) at e = inl (after_no_mode fault)
+  mode_row lib ino mode o (Some fault) at e = inl (after_no_mode Same s fault row row)
   mode_row lib ino mode None None at e = absurd cc
   mode_row lib ino mode (Some q) None at e =
       elim (cases_eq n ino) [

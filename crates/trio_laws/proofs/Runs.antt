@@ -1,5 +1,5 @@
 -- Every step keeps what holds of a state, and so does every run.
-use Rattle.std.proofs.Common.{ℕ, ◌+◌, List, [], ◌∷◌, None, sym, ap, ◌∙◌, subst, inl, inr, arith}
+use Rattle.std.proofs.Common.{ℕ, ◌+◌, List, None, sym, ap, ◌∙◌, subst, inl, inr, arith}
 use Rattle.std.specs.Prelude.{is_some}
 use Rattle.std.proofs.lemmas.Bool.{false≢true}
 use Rattle.std.proofs.lemmas.List.{length-replicate}
@@ -18,6 +18,7 @@ use Rattle.trio_laws.proofs.Accepting.{accepted_kept}
 use Rattle.trio_laws.proofs.Allots.{allot_kept}
 use Rattle.trio_laws.proofs.Bundles.{closed_unparted, closed_all}
 use Rattle.trio_laws.proofs.Backs.{back_kept}
+use Rattle.trio_laws.proofs.Cases.{trace_keeps}
 use Rattle.trio_laws.proofs.Grants.{grant_kept}
 use Rattle.trio_laws.proofs.Modes.{mode_kept}
 use Rattle.trio_laws.proofs.Refusing.{refused_kept}
@@ -52,15 +53,7 @@ step_kept s s' (SetMode lib ino mode) answer k given step = mode_kept s s' lib i
 
 -- each move of a run begins and ends in a kept state
 pub trace_kept : (s : State) (moves : List Move) → Kept s → Trace s moves → (m : Move) → In m moves → Kept m.before × Kept m.after
-trace_kept s [] k run m i = absurd i
-trace_kept s (x ∷ moves) k run m i =
-    let K : State → Type 0 = λ t. Kept t in
-    let before : Kept x.before = subst K (sym run.0) k in
-    let after : Kept x.after = step_kept x.before x.after x.event x.answer before run.1 run.2 in
-    elim i [
-      | inl e ↦ (let B : Move → Type 0 = λ y. Kept y.before × Kept y.after in subst B (sym e) (before, after))
-      | inr j ↦ trace_kept x.after moves after run.3 m j
-    ]
+trace_kept s moves k run m i = trace_keeps Kept (λ s event answer s' was given step. step_kept s s' event answer was given step) s moves k run m i
 
 -- the image that a run begins with
 pub start_kept : (image : Image) (creds : List Creds) → IsFit image.core → Verifies image → IsWhole image → Kept (start image creds)

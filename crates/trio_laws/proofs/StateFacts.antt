@@ -3,7 +3,7 @@ use Rattle.std.proofs.Common.{◌≡◌, ℕ, ◌<◌, Bool, true, false, ◌&&�
 use Rattle.std.specs.Prelude.{AllPairs}
 use Rattle.std.specs.List.{flat_map}
 use Rattle.std.proofs.lemmas.List.{map-append}
-use Rattle.std.proofs.lemmas.Bool.{and_parts, ltb-true, false≢true}
+use Rattle.std.proofs.lemmas.Bool.{and_parts, and_from, ltb-true, false≢true}
 use Rattle.trio_rights.specs.Row.{Row}
 use Rattle.trio_rights.specs.declared.kind.Kind.{Kind}
 use Rattle.trio_rights.specs.declared.kind.Kind.TheVariants.{Regular, Directory}
@@ -14,16 +14,16 @@ use Rattle.trio_lists.specs.Lists.{is_among, In}
 use Rattle.trio_layout.specs.Range.{is_core}
 use Rattle.trio_layout.specs.Survey.{Met, plain, survey, pages_of}
 use Rattle.trio_layout.specs.Image.{row_at}
-use Rattle.trio_state.specs.Kept.{Kept, MayBothStand}
+use Rattle.trio_state.specs.Kept.{Kept, MayBothStand, is_lent}
 use Rattle.trio_page.specs.Sheets.{Sheet, sheet_numbers}
 use Rattle.trio_state.specs.State.{covered, OpenGrant, State, settled}
 use Rattle.trio_nodes.specs.GrantKinds.{is_write, is_read}
 use Rattle.trio_surveys.proofs.Cores.{listed_is_core}
 use Rattle.trio_surveys.proofs.Images.{TablesOf, MetAt, row_at_is, met_row, read_met, free_unlisted}
-use Rattle.trio_lists.proofs.Members.{In-left, flat_map-In, map-In, is_among-In}
+use Rattle.trio_lists.proofs.Members.{In-left, flat_map-In, map-In, is_among-In, In-is_among}
 use Rattle.trio_surveys.proofs.Owned.{sound_parts, page_owner, pages_are}
 use Rattle.trio_surveys.proofs.Sheets.{with_pages_absent, place_there, page_from}
-use Rattle.trio_lists.proofs.Filters.{list_any-In, AllPairs-In}
+use Rattle.trio_lists.proofs.Filters.{In-list_any, list_any-In, AllPairs-In}
 
 pub write_is : (k : GrantKind) → is_write k ≡ true → k ≡ Write
 write_is Write e = refl
@@ -69,6 +69,18 @@ numbers_flat gs p i =
     in_map [] x i e = i
     in_map (z ∷ zs) x (inl s) e = inl (e ∙ ap (λ (y : Sheet). y.page) s)
     in_map (z ∷ zs) x (inr i) e = inr (in_map zs x i e)
+
+-- a lent page, with the grant that lent it
+pub lent_by : (gs : List OpenGrant) (p : ℕ) → is_lent gs p ≡ true → (g : OpenGrant) × In g gs × (g.kind ≡ Write) × In p (sheet_numbers (g.index ++ g.blocks))
+lent_by gs p lent =
+    let q = list_any-In (λ g. is_write g.kind && is_among p (sheet_numbers (g.index ++ g.blocks))) gs lent in
+    let parts = and_parts (is_write q.0.kind) (is_among p (sheet_numbers (q.0.index ++ q.0.blocks))) q.2 in
+    (q.0, q.1, write_is q.0.kind parts.0, is_among-In p (sheet_numbers (q.0.index ++ q.0.blocks)) parts.1)
+
+pub by_lent : (gs : List OpenGrant) (g : OpenGrant) (p : ℕ) → In g gs → g.kind ≡ Write → In p (sheet_numbers (g.index ++ g.blocks)) → is_lent gs p ≡ true
+by_lent gs g p i kind a =
+    In-list_any (λ (x : OpenGrant). is_write x.kind && is_among p (sheet_numbers (x.index ++ x.blocks))) g gs i
+    (and_from (is_write g.kind) (is_among p (sheet_numbers (g.index ++ g.blocks))) (ap is_write kind) (In-is_among p (sheet_numbers (g.index ++ g.blocks)) a))
 
 module _ (s : State) (k : Kept s) where
   pub tables : TablesOf (settled s) (settled s).core plain
@@ -117,11 +129,7 @@ module _ (s : State) (k : Kept s) where
       by_place None e c =
           let w = with_pages_absent (flat_map (λ g. g.checkpoint) s.open_grants) s.home.core.pages p e in
           absurd (elim (k.absent p w.1 c) [
-            | inl lent ↦
-                let q = list_any-In (λ g. is_write g.kind && is_among p (sheet_numbers (g.index ++ g.blocks))) s.open_grants lent in
-                let parts = and_parts (is_write q.0.kind) (is_among p (sheet_numbers (q.0.index ++ q.0.blocks))) q.2 in
-                let kind : q.0.kind ≡ Write = write_is q.0.kind parts.0 in
-                none q.0 q.1 kind (lent_file m p q.0 i a q.1 kind (is_among-In p (sheet_numbers (q.0.index ++ q.0.blocks)) parts.1))
+            | inl lent ↦ (let q = lent_by s.open_grants p lent in none q.0 q.1 q.2 (lent_file m p q.0 i a q.1 q.2 q.3))
             | inr out ↦
                 free_unlisted (settled s).core plain k.fit k.verifies.sound (settled s) tables p (k.out_free p out) m i a
           ])

@@ -3,7 +3,7 @@ use Rattle.std.proofs.Common.{◌≡◌, ℕ, ◌<◌, ◌≤◌, Bool, true, fa
 use Rattle.std.specs.Prelude.{Ok, is_some, slice_index}
 use Rattle.std.specs.List.{list_all, find}
 use Rattle.std.specs.Str.{bytes_eq}
-use Rattle.std.proofs.lemmas.Bool.{and_parts, and_from, or_cases, or_left, eq-eqb, false≢true, not-true, both_ways}
+use Rattle.std.proofs.lemmas.Bool.{and_parts, or_cases, false≢true, not-true, both_ways}
 use Rattle.std.proofs.lemmas.Slice.Eq.{bytes_eq-Decides}
 use Rattle.trio_rights.specs.Row.{Row}
 use Rattle.trio_rights.specs.declared.kind.Kind.{Kind}
@@ -18,8 +18,6 @@ use Rattle.trio_layout.specs.Sound.{is_sound}
 use Rattle.trio_layout.specs.Survey.{Met, Pick, plain, FileRead, file_of, survey, pages_of, row_by, row_of}
 use Rattle.trio_layout.specs.Accept.{is_accepted}
 use Rattle.trio_layout.specs.Allowed.{same_row, keeps_rows, lists_own, has_owner, has_kind, may_stand, is_allowed}
-use Rattle.trio_state.specs.Bundles.{is_in_bundle}
-use Rattle.trio_nodes.specs.GrantKinds.{is_hold, is_write}
 use Rattle.trio_state.specs.Given.{GivenTo}
 use Rattle.trio_layout.specs.Image.{IsFit, Image, settled_body, row_at}
 use Rattle.trio_state.specs.Kept.{Kept}
@@ -30,7 +28,6 @@ use Rattle.trio_surveys.proofs.Accepted.{fit_proposed}
 use Rattle.trio_laws.proofs.Bundles.{held_unwritten, Unwritten, finds_unwritten, written_lent, bundle_page, kept_chain, body_picked}
 use Rattle.trio_surveys.proofs.Alike.{up_to_at, same_kind_is, same_row_is}
 use Rattle.trio_surveys.proofs.Images.{some_of, met_row, read_met, met_numbered, one_met, free_unlisted, settled_body_met}
-use Rattle.trio_lists.proofs.Filters.{In-find}
 use Rattle.trio_lists.proofs.Members.{list_all-In, is_among-In, In-is_among}
 use Rattle.trio_surveys.proofs.Owned.{pages_are}
 use Rattle.trio_laws.proofs.StateFacts.{write_alone, tables, live_met, lent_met}
@@ -76,18 +73,6 @@ module _ (s : State) (k : Kept s) (lib : ℕ) (creds : Creds) (b : Bundle) (give
   allowed =
       and_parts (keeps_rows image b core (survey core pick)) (list_all (may_stand image creds b core (survey core pick)) (survey core pick))
       (and_parts (is_sound core pick) (is_allowed image creds b core (survey core pick)) accepted).1
-
-  pub survivor_unwritten : (g : OpenGrant) → In g s.open_grants → is_in_bundle lib b g ≡ false → Unwritten b g.ino
-  survivor_unwritten g i out w j e =
-      let x = given.writes w j in
-      let same : x.grant ≡ g = write_alone s.open_grants x.grant g k.apart x.is_open i x.kind (x.ino ∙ e) in
-      let a : eqb g.lib lib ≡ true = eq-eqb g.lib lib (ap (λ (y : OpenGrant). y.lib) (sym same) ∙ x.lib) in
-      let kind : is_write g.kind ≡ true = ap is_write (ap (λ (y : OpenGrant). y.kind) (sym same) ∙ x.kind) in
-      let f = In-find (λ (w : Written). eqb w.ino g.ino) b.writes w j (eq-eqb w.ino g.ino e) in
-      let some' : is_some (find (λ (w : Written). eqb w.ino g.ino) b.writes) ≡ true = ap is_some f.1 in
-      both_ways (is_in_bundle lib b g) out
-      (and_from (eqb g.lib lib) ((is_write g.kind && is_written b g.ino) || (is_hold g.kind && is_among g.ino b.holds)) a
-      (or_left (is_write g.kind && is_written b g.ino) (is_hold g.kind && is_among g.ino b.holds) (and_from (is_write g.kind) (is_written b g.ino) kind some')))
 
   -- a live file that the bundle doesn't hold or write stays
   pub unheld_row : (n : ℕ) (r : Row) → row_at image n ≡ Some r → (In n b.holds → ⊥) → row_of core (survey core pick) n ≡ Some r

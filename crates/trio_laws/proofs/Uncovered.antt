@@ -11,11 +11,11 @@ use Rattle.trio_state.specs.Bundles.{uncovered, uncovered_by, uncovered_of}
 use Rattle.trio_state.specs.Given.{GivenTo}
 use Rattle.trio_layout.specs.Image.{row_at}
 use Rattle.trio_state.specs.Kept.{Kept}
-use Rattle.trio_layout.specs.Proposed.{Written, Bundle}
+use Rattle.trio_layout.specs.Proposed.{Written, Bundle, bundle_sheets}
 use Rattle.trio_page.specs.Sheets.{Sheet}
 use Rattle.trio_state.specs.State.{State, settled}
 use Rattle.trio_surveys.proofs.Images.{row_at_is, row_met}
-use Rattle.trio_lists.proofs.Members.{In-cases, In-flat, flat_map-In, flat_map-same}
+use Rattle.trio_lists.proofs.Members.{In-cases, In-flat, In-left, In-right, flat_map-In, flat_map-same}
 use Rattle.trio_laws.proofs.StateFacts.{tables}
 
 uncovered_is : (kind : Kind) (blocks : List Sheet) (x : Sheet) → In x (uncovered_of kind blocks) → (kind ≡ Regular) × In x blocks
@@ -55,6 +55,15 @@ module _ (s : State) (k : Kept s) (lib : ℕ) (b : Bundle) (given : GivenTo s li
             let r = flat_map-In (λ (w : Written). uncovered_of w.kind w.blocks) x b.writes (subst (λ l. In x l) uncovered-lent a) in
             let u = uncovered_is r.0.kind r.0.blocks x r.2 in inr (r.0, r.1, u.0, u.1)
         | inr a ↦ inl a
+      ]
+
+  -- it is a sheet of the bundle
+  pub uncovered_handed : (x : Sheet) → In x (uncovered (settled s) b ++ b.pages) → In x (bundle_sheets b)
+  uncovered_handed x i =
+      let own : List Sheet = flat_map (λ (w : Written). w.index ++ w.blocks) b.writes in
+      elim (uncovered_from x i) [
+        | inl a ↦ In-right x own b.pages a
+        | inr w ↦ In-left x own b.pages (In-flat (λ (w : Written). w.index ++ w.blocks) w.0 x b.writes w.1 (In-right x w.0.index w.0.blocks w.3))
       ]
 
   pub In-uncovered : (w : Written) (x : Sheet) → In w b.writes → w.kind ≡ Regular → In x w.blocks → In x (uncovered (settled s) b)

@@ -1,7 +1,7 @@
 //! The laws of what is open and out: the body of each function is empty, and its contract is the law.
 
 ghost use Rattle.trio_laws.specs.GrantLaws.{FirstIsLowest, GrantsAreOrdered, OrderBegins, OrderStays};
-ghost use Rattle.trio_laws.specs.OutLaws.{OthersKeepOut};
+ghost use Rattle.trio_laws.specs.OutLaws.{AwayIsExact, EveryStateIsAway, OthersKeepOut, StartsAway, StepKeepsAway};
 
 /// The first state of a run is ordered: it has no open grants.
 pub fn order_begins()
@@ -28,4 +28,13 @@ pub fn first_is_lowest()
 /// allotted pages and inode numbers.
 pub fn others_keep_out()
     ensures law { OthersKeepOut }
+{}
+
+/// A lent page is absent from home exactly while it is lent for writing or out by allotment: so it is
+/// when a run starts, each step keeps it, and so it is in each state of a run.
+pub fn lent_pages_are_away()
+    ensures starts { StartsAway }
+    ensures stays { StepKeepsAway }
+    ensures exact { AwayIsExact }
+    ensures law { EveryStateIsAway }
 {}

@@ -1,15 +1,15 @@
 -- How the grants and allotments of a bundle end, and which bundles are closed.
-use Rattle.std.specs.Prelude.{◌≡◌, ℕ, ◌+◌, ◌==◌, nat_le, Bool, false, not, ◌&&◌, ◌||◌, List, [], ◌∷◌, ◌++◌, map, Option, Some, None, if◌then◌else◌}
+use Rattle.std.specs.Prelude.{◌≡◌, ℕ, ◌+◌, ◌==◌, nat_le, Bool, false, not, ◌&&◌, ◌||◌, List, [], ◌∷◌, ◌++◌, map, Option, Some, None, slice_get, if◌then◌else◌}
 use Rattle.std.specs.List.{filter, flat_map, list_all}
 use Rattle.trio_rights.specs.declared.kind.Kind.{Kind}
 use Rattle.trio_rights.specs.ByKind.{covers_blocks}
 use Rattle.trio_rights.specs.Row.{Row}
-use Rattle.trio_lists.specs.Lists.{is_among}
+use Rattle.trio_lists.specs.Lists.{In, is_among}
 use Rattle.trio_page.specs.Sheets.{Sheet, sheet_numbers, with_pages}
 use Rattle.trio_layout.specs.Image.{Image, row_at, with_core_pages}
 use Rattle.trio_state.specs.State.{OpenGrant, State, settled}
 use Rattle.trio_nodes.specs.GrantKinds.{is_write, is_read, is_hold}
-use Rattle.trio_layout.specs.Proposed.{Bundle, is_written}
+use Rattle.trio_layout.specs.Proposed.{Bundle, bundle_pages, is_written}
 use Rattle.trio_state.specs.Allotments.{out_after, has_none_out}
 
 -- ---- closed bundles
@@ -77,7 +77,7 @@ abbrev pub lent_part : OpenGrant → OpenGrant
 lent_part g = record g { checkpoint = map blank g.checkpoint }
 
 -- The bundle has come to its end, and this image is settled now: its grants have ended, and its pages and numbers are free
--- or a file's. Which pages are absent at home follows from the grants and allotments that are left.
+-- or a file's. A page that is absent at home and isn't one of the bundle's stays absent.
 pub record Ends (s : State) (lib : ℕ) (b : Bundle) (image : Image) (s' : State) : Type 0 where
   pub settles : settled s' ≡ image
   pub grants : map lent_part s'.open_grants ≡ map lent_part (grants_after s lib b)
@@ -85,6 +85,7 @@ pub record Ends (s : State) (lib : ℕ) (b : Bundle) (image : Image) (s' : State
   pub numbers : s'.numbers_out ≡ out_after s.numbers_out b.numbers
   pub creds : s'.creds ≡ s.creds
   pub entries : s'.entries ≡ s.entries + 1
+  pub away : (page : ℕ) → slice_get s.home.core.pages page ≡ Some None → (In page (bundle_pages b) → ⊥) → slice_get s'.home.core.pages page ≡ Some None
 
 -- the bundle has every write lease, hold, allotted page and number of the library
 abbrev pub has_all : State → ℕ → Bundle → Bool
