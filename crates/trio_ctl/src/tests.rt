@@ -15,13 +15,12 @@ use trio_samples::{Sample, directory, put};
 // An image with an empty root, or with one that lists the directory `a` with inode number 2: page 3 is
 // the root's index page, page 4 its block.
 fn image_bytes(alloc: Global, with_directory: bool) -> Option<Vec<u8>> {
-    let files = [root(), directory(2, 1, b"a")];
-    let files = if with_directory {
-        &files[..]
+    let sample = if with_directory {
+        Sample::small(alloc, &[root(), directory(2, 1, b"a")])
     } else {
-        &files[..1]
+        Sample::small(alloc, &[root()])
     };
-    Sample::small(alloc, files).ok()?.bytes(alloc).ok()
+    sample.ok()?.bytes(alloc).ok()
 }
 
 fn started(alloc: Global, bytes: &[u8]) -> Option<Ctl>

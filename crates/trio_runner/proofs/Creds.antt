@@ -1,17 +1,15 @@
 -- The credentials of the libraries stay through each step.
-use Rattle.std.proofs.Common.{◌≡◌, ℕ, Bool, true, false, cond, ltb, length, take, Option, Some, None, refl, ap, ◌∙◌, inl, inr}
+use Rattle.std.proofs.Common.{◌≡◌, ℕ, Option, Some, None, refl, ap, ◌∙◌, inl, inr}
 use Rattle.trio_rights.specs.Row.{Row}
 use Rattle.trio_nodes.specs.declared.grant.GrantKind.{GrantKind}
 use Rattle.trio_nodes.specs.declared.answers.GrantFault.{GrantFault}
-use Rattle.trio_nodes.specs.declared.answers.GrantFault.TheVariants.{NotLive, Denied, NoParent, Busy, NoMemory as NoGrantMemory}
 use Rattle.trio_nodes.specs.declared.answers.ModeFault.{ModeFault}
-use Rattle.trio_nodes.specs.declared.answers.ModeFault.TheVariants.{NotLive as NotLiveMode, NotOwner, BadMode, Busy as BusyMode, NoMemory as NoModeMemory}
 use Rattle.trio_layout.specs.Image.{row_at}
-use Rattle.trio_state.specs.State.{State, logged}
+use Rattle.trio_state.specs.State.{State}
 use Rattle.trio_layout.specs.Proposed.{Bundle}
 use Rattle.trio_state.specs.Grants.{grant_fault}
-use Rattle.trio_state.specs.Allotments.{allots, free_pages, free_numbers}
-use Rattle.trio_state.specs.Step.{Event, Grant, Allot, Back, Release, Settle, SetMode, CtlAnswer, Given, NoPages, NoInodes, Comes, Does, Step, granted_to, grant_outcome, after_grant_fault, allot_outcome, mode_fault, mode_outcome, moded_to, after_mode_fault, ReleaseEnd, Parted, IsAccepted, IsRefused}
+use Rattle.trio_state.specs.Step.{Event, Grant, Allot, Back, Release, Settle, SetMode, CtlAnswer, Comes, Does, Step, granted_to, grant_outcome, allot_outcome, mode_fault, mode_outcome, moded_to, ReleaseEnd, Parted, IsAccepted, IsRefused}
+use Rattle.trio_laws.proofs.Cases.{after_allot, after_no_grant, after_no_mode}
 
 -- the credentials of a state
 creds_in : (s s' : State) → s' ≡ s → s'.creds ≡ s.creds
@@ -20,39 +18,20 @@ creds_in s s' e = ap (λ (t : State). t.creds) e
 grant_creds : (s s' : State) (lib ino : ℕ) (kind : GrantKind) (answer : CtlAnswer) → Comes (grant_outcome s lib ino kind) answer s' → s'.creds ≡ s.creds
 grant_creds s s' lib ino kind answer comes = by_answer (grant_fault s lib ino kind) (row_at s.home ino) comes
   where
-    after_fault : (fault : GrantFault) → (after_grant_fault s fault).creds ≡ s.creds
-    after_fault NotLive = refl
-    after_fault (Denied n) = refl
-    after_fault NoParent = refl
-    after_fault (Busy holder) = refl
-    after_fault NoGrantMemory = refl
-
     by_answer : (fault : Option GrantFault) (row : Option Row) → Comes (granted_to s lib ino kind fault row) answer s' → s'.creds ≡ s.creds
-    by_answer (Some fault) row c = ap (λ (t : State). t.creds) c.1 ∙ after_fault fault
+    by_answer (Some fault) row c = ap (λ (t : State). t.creds) c.1 ∙ after_no_grant (λ t. t.creds ≡ s.creds) s fault refl refl
     by_answer None None c = ap (λ (t : State). t.creds) c.1
     by_answer None (Some r) c = ap (λ (t : State). t.creds) c.1
 
 allot_creds : (s s' : State) (lib wanted many : ℕ) (answer : CtlAnswer) → Comes (allot_outcome s lib wanted many) answer s' → s'.creds ≡ s.creds
 allot_creds s s' lib wanted many answer comes =
-    by_tests (ltb (length (free_pages s)) wanted) (ltb (length (free_numbers s)) many) comes
-  where
-    by_tests : (few_pages few_numbers : Bool) → Comes (cond few_pages (record { answer = NoPages wanted (length (free_pages s)); after = logged s }) (cond few_numbers (record { answer = NoInodes many (length (free_numbers s)); after = logged s }) (record { answer = Given (take wanted (free_pages s)) (take many (free_numbers s)); after = allots s lib (take wanted (free_pages s)) (take many (free_numbers s)) }))) answer s' → s'.creds ≡ s.creds
-    by_tests true few c = ap (λ (t : State). t.creds) c.1
-    by_tests false true c = ap (λ (t : State). t.creds) c.1
-    by_tests false false c = ap (λ (t : State). t.creds) c.1
+    ap (λ (t : State). t.creds) comes.1 ∙ after_allot (λ t. t.creds ≡ s.creds) s lib wanted many refl refl
 
 mode_creds : (s s' : State) (lib ino mode : ℕ) (answer : CtlAnswer) → Comes (mode_outcome s lib ino mode) answer s' → s'.creds ≡ s.creds
 mode_creds s s' lib ino mode answer comes = by_fault (mode_fault s lib ino mode (row_at s.home ino)) comes
   where
-    after_fault : (fault : ModeFault) → (after_mode_fault s fault).creds ≡ s.creds
-    after_fault NotLiveMode = refl
-    after_fault NotOwner = refl
-    after_fault BadMode = refl
-    after_fault (BusyMode holder) = refl
-    after_fault NoModeMemory = refl
-
     by_fault : (fault : Option ModeFault) → Comes (moded_to s ino mode fault) answer s' → s'.creds ≡ s.creds
-    by_fault (Some fault) c = ap (λ (t : State). t.creds) c.1 ∙ after_fault fault
+    by_fault (Some fault) c = ap (λ (t : State). t.creds) c.1 ∙ after_no_mode (λ t. t.creds ≡ s.creds) s fault refl refl
     by_fault None c = ap (λ (t : State). t.creds) c.1
 
 release_creds : (s s' : State) (lib : ℕ) (b : Bundle) (answer : CtlAnswer) → ReleaseEnd s lib b answer s' → s'.creds ≡ s.creds

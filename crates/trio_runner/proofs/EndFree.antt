@@ -12,7 +12,6 @@ use Rattle.trio_rights.specs.declared.rights.Creds.{Creds}
 use Rattle.trio_rights.specs.Row.{Row}
 use Rattle.trio_nodes.specs.declared.grant.GrantKind.TheVariants.{Write}
 use Rattle.trio_nodes.specs.declared.answers.GrantFault.{GrantFault}
-use Rattle.trio_nodes.specs.declared.answers.GrantFault.TheVariants.{NotLive, Denied, NoParent, Busy, NoMemory as NoGrantMemory}
 use Rattle.trio_lists.specs.Lists.{In, is_among}
 use Rattle.trio_page.specs.Sheets.{Sheet, sheet_numbers}
 use Rattle.trio_layout.specs.Image.{Image, row_at}
@@ -22,7 +21,7 @@ use Rattle.trio_layout.specs.Proposed.{Written, Bundle, is_written}
 use Rattle.trio_state.specs.Grants.{grant_fault, opened, opens}
 use Rattle.trio_state.specs.Allotments.{allots, free_pages, free_numbers, out_after, out_with}
 use Rattle.trio_state.specs.Bundles.{Ends, grants_after, is_in_bundle, lent_part}
-use Rattle.trio_state.specs.Step.{Event, Grant, Allot, Release, Given, NoPages, NoInodes, Done, NotClosed, NoMemory, Comes, after_grant_fault, granted_to, grant_outcome, allot_outcome, ReleaseEnd, Parted, IsAccepted, IsRefused}
+use Rattle.trio_state.specs.Step.{Event, Grant, Allot, Release, Given, NoPages, NoInodes, Done, NotClosed, NoMemory, Comes, granted_to, grant_outcome, allot_outcome, ReleaseEnd, Parted, IsAccepted, IsRefused}
 use Rattle.trio_state.specs.Run.{Move}
 use Rattle.trio_lists.proofs.Filters.{In-find, filter-In}
 use Rattle.trio_raw.specs.Has.{Has, nothing, bundle_of, has_all_of, rest_of, whole_bundle, is_nothing}
@@ -37,6 +36,7 @@ use Rattle.trio_runner.specs.Play.{Player, Alone, Asks, PlaysLine, Plays, EndsAl
 use Rattle.trio_runner.specs.EndFree.{OutInHand, AllInHand, NothingOut, PlayedEndsFree}
 use Rattle.trio_runner.proofs.Unchanged.{inos_of, SameOut, SameNumbers, out_stays, out_logged, numbers_stay, alone_numbers}
 use Rattle.trio_runner.proofs.Left.{Splits, Leaves, all_leaves, named_leaves}
+use Rattle.trio_laws.proofs.Cases.{after_no_grant}
 
 -- what isn't told doesn't come
 not_told : {A B : Type 0} (tell : A → Option B) (a b : A) (told : B) → a ≡ b → tell a ≡ Some told → tell b ≡ None → ⊥
@@ -100,14 +100,6 @@ one_more lib p p' g h mine kind state has = record {
     numbers : inos_of p'.has ≡ inos_of p.has ++ g.ino ∷ []
     numbers = ap inos_of has ∙ map-append (λ (w : Written). w.ino) p.has.files (lent_file g ∷ [])
 
--- a refused grant changes nothing of what is lent and out
-out_after_fault : (s : State) (fault : GrantFault) → SameOut s (after_grant_fault s fault)
-out_after_fault s NotLive = out_logged s
-out_after_fault s (Denied n) = out_logged s
-out_after_fault s NoParent = out_logged s
-out_after_fault s (Busy holder) = out_stays s
-out_after_fault s NoGrantMemory = out_logged s
-
 grant_in_hand : (lib ino : ℕ) (p : Player) (told : LineAnswer) (moves : List Move) (p' : Player) → AllInHand lib p → (a : Asks lib p (GrantWrite ino) (Grant lib ino Write) told moves p') → Comes (grant_outcome p.state lib ino Write) a.answer p'.state → AllInHand lib p'
 grant_in_hand lib ino p told moves p' h a comes =
     by_answer (grant_fault p.state lib ino Write) (row_at p.state.home ino) refl comes
@@ -115,7 +107,7 @@ grant_in_hand lib ino p told moves p' h a comes =
     by_answer : (fault : Option GrantFault) (row : Option Row) → row_at p.state.home ino ≡ row → Comes (granted_to p.state lib ino Write fault row) a.answer p'.state → AllInHand lib p'
     by_answer (Some fault) row f c =
         same_in_hand lib p p' h
-        (subst (SameOut p.state) (sym c.1) (out_after_fault p.state fault))
+        (subst (SameOut p.state) (sym c.1) (after_no_grant (SameOut p.state) p.state fault (out_stays p.state) (out_logged p.state)))
         (subst (SameNumbers p.has) (sym (a.has ∙ ap (has_after lib p.state p.has (GrantWrite ino)) c.0)) (numbers_stay p.has))
     by_answer None None f c = absurd (not_told told_of a.answer Done told c.0 a.told_is refl)
     by_answer None (Some r) f c =

@@ -6,7 +6,6 @@ use Rattle.trio_tables.specs.Out.{lib_at}
 use Rattle.trio_rights.specs.Row.{Row}
 use Rattle.trio_nodes.specs.declared.grant.GrantKind.TheVariants.{Write, Hold}
 use Rattle.trio_nodes.specs.declared.answers.GrantFault.{GrantFault}
-use Rattle.trio_nodes.specs.declared.answers.GrantFault.TheVariants.{NotLive, Denied, NoParent, Busy, NoMemory as NoGrantMemory}
 use Rattle.trio_lists.specs.Lists.{In}
 use Rattle.trio_layout.specs.Image.{Image, row_at}
 use Rattle.trio_state.specs.State.{OpenGrant, State, logged}
@@ -16,8 +15,9 @@ use Rattle.trio_layout.specs.Proposed.{Bundle}
 use Rattle.trio_state.specs.Grants.{grant_fault, opened}
 use Rattle.trio_state.specs.Allotments.{allots, free_pages, free_numbers}
 use Rattle.trio_state.specs.Bundles.{Ends, grants_after, is_in_bundle, lent_part}
-use Rattle.trio_state.specs.Step.{Event, Grant, Allot, Release, CtlAnswer, Given, NoPages, NoInodes, Done, NotClosed, NoMemory, Comes, Does, granted_to, grant_outcome, after_grant_fault, allot_outcome, ReleaseEnd, Parted, IsAccepted, IsRefused}
+use Rattle.trio_state.specs.Step.{Event, Grant, Allot, Release, CtlAnswer, Given, NoPages, NoInodes, Done, NotClosed, NoMemory, Comes, Does, granted_to, grant_outcome, allot_outcome, ReleaseEnd, Parted, IsAccepted, IsRefused}
 use Rattle.trio_state.specs.Run.{Move}
+use Rattle.trio_laws.proofs.Cases.{after_no_grant}
 use Rattle.trio_laws.proofs.Runs.{step_kept, start_kept}
 use Rattle.trio_raw.specs.Has.{Has, nothing, poked, has_all_of, bundle_of, rest_of, whole_bundle, is_nothing}
 use Rattle.trio_raw.specs.InHand.{InHand}
@@ -88,28 +88,6 @@ same_stands lib p p' h kept grants pages numbers has = record {
   no_hold = λ g i l k. h.no_hold g (subst (In g) grants i) l k;
 }
 
--- a refused grant leaves all that is open and out
-fault_grants : (s : State) (fault : GrantFault) → (after_grant_fault s fault).open_grants ≡ s.open_grants
-fault_grants s NotLive = refl
-fault_grants s (Denied n) = refl
-fault_grants s NoParent = refl
-fault_grants s (Busy holder) = refl
-fault_grants s NoGrantMemory = refl
-
-fault_pages : (s : State) (fault : GrantFault) → (after_grant_fault s fault).pages_out ≡ s.pages_out
-fault_pages s NotLive = refl
-fault_pages s (Denied n) = refl
-fault_pages s NoParent = refl
-fault_pages s (Busy holder) = refl
-fault_pages s NoGrantMemory = refl
-
-fault_numbers : (s : State) (fault : GrantFault) → (after_grant_fault s fault).numbers_out ≡ s.numbers_out
-fault_numbers s NotLive = refl
-fault_numbers s (Denied n) = refl
-fault_numbers s NoParent = refl
-fault_numbers s (Busy holder) = refl
-fault_numbers s NoGrantMemory = refl
-
 grant_stands : (lib ino : ℕ) (p : Player) (told : LineAnswer) (moves : List Move) (p' : Player) → Stands lib p → Kept p'.state → (a : Asks lib p (GrantWrite ino) (Grant lib ino Write) told moves p') → Comes (grant_outcome p.state lib ino Write) a.answer p'.state → Stands lib p'
 grant_stands lib ino p told moves p' h kept a comes =
     by_answer (grant_fault p.state lib ino Write) (row_at p.state.home ino) refl refl comes
@@ -120,9 +98,9 @@ grant_stands lib ino p told moves p' h kept a comes =
     by_answer : (fault : Option GrantFault) (row : Option Row) → grant_fault p.state lib ino Write ≡ fault → row_at p.state.home ino ≡ row → Comes (granted_to p.state lib ino Write fault row) a.answer p'.state → Stands lib p'
     by_answer (Some fault) row e f c =
         same_stands lib p p' h kept
-        (ap (λ (s : State). s.open_grants) c.1 ∙ fault_grants p.state fault)
-        (ap (λ (s : State). s.pages_out) c.1 ∙ fault_pages p.state fault)
-        (ap (λ (s : State). s.numbers_out) c.1 ∙ fault_numbers p.state fault)
+        (ap (λ (s : State). s.open_grants) c.1 ∙ after_no_grant (λ s. s.open_grants ≡ p.state.open_grants) p.state fault refl refl)
+        (ap (λ (s : State). s.pages_out) c.1 ∙ after_no_grant (λ s. s.pages_out ≡ p.state.pages_out) p.state fault refl refl)
+        (ap (λ (s : State). s.numbers_out) c.1 ∙ after_no_grant (λ s. s.numbers_out ≡ p.state.numbers_out) p.state fault refl refl)
         (a.has ∙ ap (has_after lib p.state p.has (GrantWrite ino)) c.0)
     by_answer None None e f c = absurd (untold a.answer Done told c.0 a.told_is refl)
     by_answer None (Some r) e f c =
