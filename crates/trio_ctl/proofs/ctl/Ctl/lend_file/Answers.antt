@@ -67,28 +67,20 @@ invariant_of-self-in-Ok-lend c =
     let ch = chain i.superblock i.home.pages i.rows i.owners i.grants i.files.items i.outs i.libs.items i.entries c.self.invariant c.args.lib c.args.ino r live free in
     let read = chain_home i.superblock i.home.pages i.rows i.owners i.grants i.files.items i.outs i.libs.items i.entries c.self.invariant c.args.lib c.args.ino r live free c.settled_body.result body in
     let read' = ap (λ ps. chain_in (core_of ps range) r.kind c.settled_body.result) c.settled_body.ensures.home ∙ read in
-    let opened = c.in-Ok-lend.ensures.opened in
-    let made = opened ch read' ∙ ap (λ ps. record { key = c.in-Ok-admit_writer.key; grant = grant_on (core_of ps range) c.args.lib.0 c.args.ino r.kind i.entries c.settled_body.result ch }) c.settled_body.ensures.home in
-    let lent = c.in-Ok-lend.ensures.pages in
-    let gone = lent ch read' ∙ ap (without_pages (ch.index ++ ch.blocks)) c.settled_body.ensures.home in
-    let pushed = c.in-Ok-push.ensures.items in
-    let more = pushed ∙ ap (λ fs. fs ++ c.in-Ok-lend.file ∷ []) c.in-Ok.ensures.items in
-    let put = c.in-Ok-admit_writer.ensures.opened in
-    let new = c.in-Ok-admit_writer.ensures.new_key in
-    granted_controlled i.superblock i.home.pages i.rows i.owners i.grants i.files.items i.outs i.libs.items i.entries c.self.invariant c.args.lib c.args.ino r live free c.in-Ok-admit_writer.key c.settled_body.result body c.in-Ok-lend.file c.lend.new.home.pages c.admit_writer.new.grants c.push.new.self.items c.in-Some.entries made gone more (omega arith) may put new
+    let made = c.in-Ok-lend.ensures.opened ch read' ∙ ap (λ ps. record { key = c.in-Ok-admit_writer.key; grant = grant_on (core_of ps range) c.args.lib.0 c.args.ino r.kind i.entries c.settled_body.result ch }) c.settled_body.ensures.home in
+    let gone = c.in-Ok-lend.ensures.pages ch read' ∙ ap (without_pages (ch.index ++ ch.blocks)) c.settled_body.ensures.home in
+    let more = c.in-Ok-push.ensures.items ∙ ap (λ fs. fs ++ c.in-Ok-lend.file ∷ []) c.in-Ok.ensures.items in
+    granted_controlled i.superblock i.home.pages i.rows i.owners i.grants i.files.items i.outs i.libs.items i.entries c.self.invariant c.args.lib c.args.ino r live free c.in-Ok-admit_writer.key c.settled_body.result body c.in-Ok-lend.file c.lend.new.home.pages c.admit_writer.new.grants c.push.new.self.items c.in-Some.entries made gone more (omega arith) may c.in-Ok-admit_writer.ensures.opened c.in-Ok-admit_writer.ensures.new_key
 
 pub invariant_of-self-in-Err : goal.invariant_of-self-in-Err
 invariant_of-self-in-Err c =
     let i = c.self.inside in
-    let kept = c.in-Err.ensures.kept in
-    controlled_still i.superblock i.home.pages i.rows i.owners i.grants i.files.items i.outs i.libs.items i.entries c.self.invariant i.home.pages c.admit_writer.new.grants c.reserve.new.self.items refl kept c.in-Ok.ensures.items
+    controlled_still i.superblock i.home.pages i.rows i.owners i.grants i.files.items i.outs i.libs.items i.entries c.self.invariant i.home.pages c.admit_writer.new.grants c.reserve.new.self.items refl c.in-Err.ensures.kept c.in-Ok.ensures.items
 
 pub invariant_of-self-in-Err-lend : goal.invariant_of-self-in-Err-lend
 invariant_of-self-in-Err-lend c =
     let i = c.self.inside in
-    let kept = c.in-Err-lend.ensures.kept in
-    let rest = c.in-Ok-admit_writer.ensures.rest in
-    controlled_still i.superblock i.home.pages i.rows i.owners i.grants i.files.items i.outs i.libs.items i.entries c.self.invariant c.lend.new.home.pages c.end.new.self c.reserve.new.self.items (kept ∙ c.settled_body.ensures.home) (c.end.ensures.ended ∙ rest) c.in-Ok.ensures.items
+    controlled_still i.superblock i.home.pages i.rows i.owners i.grants i.files.items i.outs i.libs.items i.entries c.self.invariant c.lend.new.home.pages c.end.new.self c.reserve.new.self.items (c.in-Err-lend.ensures.kept ∙ c.settled_body.ensures.home) (c.end.ensures.ended ∙ c.in-Ok-admit_writer.ensures.rest) c.in-Ok.ensures.items
 
 pub returns-in-Ok-push-clause-step : goal.returns-in-Ok-push-clause-step
 returns-in-Ok-push-clause-step c =
@@ -104,12 +96,9 @@ returns-in-Ok-push-clause-step c =
     let ch = chain i.superblock i.home.pages i.rows i.owners i.grants i.files.items i.outs i.libs.items i.entries c.self.invariant c.args.lib c.args.ino r live free in
     let read = chain_home i.superblock i.home.pages i.rows i.owners i.grants i.files.items i.outs i.libs.items i.entries c.self.invariant c.args.lib c.args.ino r live free c.settled_body.result body in
     let read' = ap (λ ps. chain_in (core_of ps range) r.kind c.settled_body.result) c.settled_body.ensures.home ∙ read in
-    let opened = c.in-Ok-lend.ensures.opened in
-    let made = opened ch read' ∙ ap (λ ps. record { key = c.in-Ok-admit_writer.key; grant = grant_on (core_of ps range) c.args.lib.0 c.args.ino r.kind i.entries c.settled_body.result ch }) c.settled_body.ensures.home in
-    let lent = c.in-Ok-lend.ensures.pages in
-    let gone = lent ch read' ∙ ap (without_pages (ch.index ++ ch.blocks)) c.settled_body.ensures.home in
-    let pushed = c.in-Ok-push.ensures.items in
-    let more = pushed ∙ ap (λ fs. fs ++ c.in-Ok-lend.file ∷ []) c.in-Ok.ensures.items in
+    let made = c.in-Ok-lend.ensures.opened ch read' ∙ ap (λ ps. record { key = c.in-Ok-admit_writer.key; grant = grant_on (core_of ps range) c.args.lib.0 c.args.ino r.kind i.entries c.settled_body.result ch }) c.settled_body.ensures.home in
+    let gone = c.in-Ok-lend.ensures.pages ch read' ∙ ap (without_pages (ch.index ++ ch.blocks)) c.settled_body.ensures.home in
+    let more = c.in-Ok-push.ensures.items ∙ ap (λ fs. fs ++ c.in-Ok-lend.file ∷ []) c.in-Ok.ensures.items in
     rw (← (state_is c.self.view_is))
     (granted_step i.superblock i.home.pages i.rows i.owners i.grants i.files.items i.outs i.libs.items i.entries c.self.invariant c.args.lib c.args.ino r live free c.in-Ok-admit_writer.key c.settled_body.result body c.in-Ok-lend.file c.lend.new.home.pages c.admit_writer.new.grants c.push.new.self.items c.in-Some.entries made gone more (omega arith) may)
 
@@ -127,12 +116,8 @@ returns-in-Ok-push-clause-lease c =
     let ch = chain i.superblock i.home.pages i.rows i.owners i.grants i.files.items i.outs i.libs.items i.entries c.self.invariant c.args.lib c.args.ino r live free in
     let read = chain_home i.superblock i.home.pages i.rows i.owners i.grants i.files.items i.outs i.libs.items i.entries c.self.invariant c.args.lib c.args.ino r live free c.settled_body.result body in
     let read' = ap (λ ps. chain_in (core_of ps range) r.kind c.settled_body.result) c.settled_body.ensures.home ∙ read in
-    let opened = c.in-Ok-lend.ensures.opened in
-    let made = opened ch read' ∙ ap (λ ps. record { key = c.in-Ok-admit_writer.key; grant = grant_on (core_of ps range) c.args.lib.0 c.args.ino r.kind i.entries c.settled_body.result ch }) c.settled_body.ensures.home in
-    let lent = c.in-Ok-lend.ensures.pages in
-    let gone = lent ch read' ∙ ap (without_pages (ch.index ++ ch.blocks)) c.settled_body.ensures.home in
-    let pushed = c.in-Ok-push.ensures.items in
-    let more = pushed ∙ ap (λ fs. fs ++ c.in-Ok-lend.file ∷ []) c.in-Ok.ensures.items in
-    let lease = c.in-Ok-lend.ensures.lease in
+    let made = c.in-Ok-lend.ensures.opened ch read' ∙ ap (λ ps. record { key = c.in-Ok-admit_writer.key; grant = grant_on (core_of ps range) c.args.lib.0 c.args.ino r.kind i.entries c.settled_body.result ch }) c.settled_body.ensures.home in
+    let gone = c.in-Ok-lend.ensures.pages ch read' ∙ ap (without_pages (ch.index ++ ch.blocks)) c.settled_body.ensures.home in
+    let more = c.in-Ok-push.ensures.items ∙ ap (λ fs. fs ++ c.in-Ok-lend.file ∷ []) c.in-Ok.ensures.items in
     rw (← (state_is c.self.view_is))
-    (lease ∙ ap lease_of (file_grant i.superblock i.home.pages i.rows i.owners i.grants i.files.items i.outs i.libs.items i.entries c.self.invariant c.args.lib c.args.ino r live free c.in-Ok-admit_writer.key c.settled_body.result body c.in-Ok-lend.file c.lend.new.home.pages c.admit_writer.new.grants c.push.new.self.items c.in-Some.entries made gone more (omega arith)))
+    (c.in-Ok-lend.ensures.lease ∙ ap lease_of (file_grant i.superblock i.home.pages i.rows i.owners i.grants i.files.items i.outs i.libs.items i.entries c.self.invariant c.args.lib c.args.ino r live free c.in-Ok-admit_writer.key c.settled_body.result body c.in-Ok-lend.file c.lend.new.home.pages c.admit_writer.new.grants c.push.new.self.items c.in-Some.entries made gone more (omega arith)))
