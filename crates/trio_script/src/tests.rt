@@ -10,91 +10,83 @@ fn second_line(alloc: Global, line: &[u8]) -> Result<Result<Vec<ScriptLine>, Scr
     Ok(read_script(alloc, &script))
 }
 
-/// Lines of each form, and what they say.
+/// Whether a script's second line says just this.
+fn says(alloc: Global, text: &[u8], line: RawLine) -> Result<bool, Fail> {
+    let wanted = vec![in alloc; ScriptLine { number: 2, line }]?;
+    Ok(second_line(alloc, text)? == Ok(wanted))
+}
+
+fn allot(pages: u32, inodes: u32) -> RawLine {
+    RawLine::Allot { pages, inodes }
+}
+
+fn poke(alloc: Global, at: Spot, offset: u32, bytes: &[u8]) -> Result<RawLine, Fail> {
+    let mut all = Vec::new(alloc);
+    all.extend_from_slice(bytes)?;
+    let bytes = List::from_vec(all);
+    Ok(RawLine::Poke { at, offset, bytes })
+}
+
+fn list(alloc: Global, numbers: &[u32]) -> Result<List<u32>, Fail> {
+    let mut all = Vec::new(alloc);
+    all.extend_from_slice(numbers)?;
+    Ok(List::from_vec(all))
+}
+
 #[test]
-fn lines_are_read(rt: HostRuntime) -> Result<(), Fail> {
-    let alloc = rt.alloc();
-    let none = || List::from_vec(Vec::new(alloc));
-    let rows: [(&[u8], RawLine); 12] = [
+fn requests_are_read(rt: HostRuntime) -> Result<(), Fail> {
+    let rows: [(&[u8], RawLine); 6] = [
         (b"grant write 2", RawLine::GrantWrite(2)),
         (b"grant write 0\n", RawLine::GrantWrite(0)),
         (
             b"grant write 4294967295",
             RawLine::GrantWrite(4_294_967_295),
         ),
-        (
-            b"allot 1 0",
-            RawLine::Allot {
-                pages: 1,
-                inodes: 0,
-            },
-        ),
-        (
-            b"allot 0 64\n",
-            RawLine::Allot {
-                pages: 0,
-                inodes: 64,
-            },
-        ),
-        (
-            b"allot 4294967295 3",
-            RawLine::Allot {
-                pages: 4_294_967_295,
-                inodes: 3,
-            },
-        ),
-        (
-            b"poke body 5 16 00ff",
-            RawLine::Poke {
-                at: Spot::Body(5),
-                offset: 16,
-                bytes: List::from_vec(vec![in alloc; 0x00, 0xff]?),
-            },
-        ),
-        (
-            b"poke index 5 1 8 0a",
-            RawLine::Poke {
-                at: Spot::Index(5, 1),
-                offset: 8,
-                bytes: List::from_vec(vec![in alloc; 0x0a]?),
-            },
-        ),
-        (
-            b"poke block 2 0 0 4a9f",
-            RawLine::Poke {
-                at: Spot::Block(2, 0),
-                offset: 0,
-                bytes: List::from_vec(vec![in alloc; 0x4a, 0x9f]?),
-            },
-        ),
-        (
-            b"poke fresh 9 4095 61",
-            RawLine::Poke {
-                at: Spot::Fresh(9),
-                offset: 4095,
-                bytes: List::from_vec(vec![in alloc; 0x61]?),
-            },
-        ),
-        (
-            b"release - - -",
-            RawLine::Release {
-                inos: none(),
-                pages: none(),
-                inodes: none(),
-            },
-        ),
-        (
-            b"release 2,1,10 9 7,8\n",
-            RawLine::Release {
-                inos: List::from_vec(vec![in alloc; 2, 1, 10]?),
-                pages: List::from_vec(vec![in alloc; 9]?),
-                inodes: List::from_vec(vec![in alloc; 7, 8]?),
-            },
-        ),
+        (b"allot 1 0", allot(1, 0)),
+        (b"allot 0 64\n", allot(0, 64)),
+        (b"allot 4294967295 3", allot(4_294_967_295, 3)),
     ];
     for (text, line) in rows {
-        let wanted = vec![in alloc; ScriptLine { number: 2, line }]?;
-        assert_eq!(rt; second_line(alloc, text)?, Ok(wanted), "at {text:?}");
+        assert!(rt; says(rt.alloc(), text, line)?, "at {text:?}");
+    }
+    Ok(())
+}
+
+#[test]
+fn pokes_are_read(rt: HostRuntime) -> Result<(), Fail> {
+    let alloc = rt.alloc();
+    let rows: [(&[u8], Spot, u32, &[u8]); 4] = [
+        (b"poke body 5 16 00ff", Spot::Body(5), 16, &[0x00, 0xff]),
+        (b"poke index 5 1 8 0a", Spot::Index(5, 1), 8, &[0x0a]),
+        (
+            b"poke block 2 0 0 4a9f",
+            Spot::Block(2, 0),
+            0,
+            &[0x4a, 0x9f],
+        ),
+        (b"poke fresh 9 4095 61", Spot::Fresh(9), 4095, &[0x61]),
+    ];
+    for (text, at, offset, bytes) in rows {
+        let line = poke(alloc, at, offset, bytes)?;
+        assert!(rt; says(alloc, text, line)?, "at {text:?}");
+    }
+    Ok(())
+}
+
+#[test]
+fn releases_are_read(rt: HostRuntime) -> Result<(), Fail> {
+    let alloc = rt.alloc();
+    let rows: [(&[u8], [&[u32]; 3]); 2] = [
+        (b"release - - -", [&[], &[], &[]]),
+        (b"release 2,1,10 9 7,8\n", [&[2, 1, 10], &[9], &[7, 8]]),
+    ];
+    for (text, [inos, pages, inodes]) in rows {
+        let line = RawLine::Release {
+            inos: list(alloc, inos)?,
+            pages: list(alloc, pages)?,
+            inodes: list(alloc, inodes)?,
+        };
+        assert!(rt; says(alloc, text, line)?, "at {text:?}");
     }
     Ok(())
 }
