@@ -20,8 +20,9 @@ use Rattle.trio_state.specs.Given.{GivenTo}
 use Rattle.trio_state.specs.Grants.{has_parent_grant}
 use Rattle.trio_layout.specs.Image.{IsFit, Image, settled_body, row_at}
 use Rattle.trio_state.specs.Kept.{Kept, LentIsListed, HoldStands}
-use Rattle.trio_layout.specs.Proposed.{Written, Bundle, bundle_sheets, bundle_pages, proposed, proposed_pick}
-use Rattle.trio_page.specs.Sheets.{Sheet, sheet_numbers}
+use Rattle.trio_rights.specs.Bundle.{Written, Bundle, bundle_sheets, bundle_pages}
+use Rattle.trio_layout.specs.Proposed.{proposed, proposed_pick}
+use Rattle.trio_rights.specs.Sheets.{Sheet, sheet_numbers}
 use Rattle.trio_state.specs.State.{OpenGrant, State, settled}
 use Rattle.trio_layout.specs.Verifies.{Verifies}
 use Rattle.trio_surveys.specs.Reading.{with_picked_bodies, picked_entry}

@@ -17,7 +17,7 @@ use Rattle.trio_state.specs.Given.{WasAllotted}
 use Rattle.trio_state.specs.Grants.{has_parent_grant}
 use Rattle.trio_layout.specs.Image.{IsFit, row_at}
 use Rattle.trio_state.specs.Kept.{Kept}
-use Rattle.trio_page.specs.Sheets.{sheet_numbers, with_pages, without_pages}
+use Rattle.trio_rights.specs.Sheets.{sheet_numbers, with_pages, without_pages}
 use Rattle.trio_state.specs.State.{State, settled}
 use Rattle.trio_state.specs.Step.{Allot, CtlAnswer, Step}
 use Rattle.trio_laws.proofs.Agreeing.{verifies_still, lent_still, body_still}

@@ -10,13 +10,13 @@ use Rattle.trio_nodes.specs.declared.answers.GrantFault.{GrantFault}
 use Rattle.trio_nodes.specs.declared.answers.ModeFault.{ModeFault}
 use Rattle.trio_tables.proofs.OutLemmas.{is_out-given, lib_at-none_out, within_some}
 use Rattle.trio_lists.specs.Lists.{In}
-use Rattle.trio_page.specs.Sheets.{sheet_numbers, without_pages}
+use Rattle.trio_rights.specs.Sheets.{sheet_numbers, without_pages}
 use Rattle.trio_layout.specs.Core.{Core}
 use Rattle.trio_layout.specs.Range.{is_core}
 use Rattle.trio_layout.specs.Survey.{plain}
 use Rattle.trio_layout.specs.Image.{Image, row_at, settled_body}
 use Rattle.trio_layout.specs.Mode.{body_put, body_with_mode}
-use Rattle.trio_layout.specs.Proposed.{Bundle}
+use Rattle.trio_rights.specs.Bundle.{Bundle}
 use Rattle.trio_nodes.specs.GrantKinds.{is_read, is_write}
 use Rattle.trio_state.specs.State.{OpenGrant, State, settled}
 use Rattle.trio_state.specs.Allotments.{allots}

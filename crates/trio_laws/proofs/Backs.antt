@@ -10,7 +10,7 @@ use Rattle.trio_lists.specs.Lists.{is_among, In}
 use Rattle.trio_state.specs.Grants.{has_parent_grant, given_back}
 use Rattle.trio_layout.specs.Image.{IsFit, Image, settled_body, row_at}
 use Rattle.trio_state.specs.Kept.{Kept, LentIsListed, MayBothStand}
-use Rattle.trio_page.specs.Sheets.{Sheet, sheet_numbers, with_pages}
+use Rattle.trio_rights.specs.Sheets.{Sheet, sheet_numbers, with_pages}
 use Rattle.trio_state.specs.State.{covered, OpenGrant, State, settled}
 use Rattle.trio_nodes.specs.GrantKinds.{is_write, is_read}
 use Rattle.trio_state.specs.Step.{Back, CtlAnswer, Step}

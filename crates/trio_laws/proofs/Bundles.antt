@@ -20,8 +20,9 @@ use Rattle.trio_nodes.specs.GrantKinds.{is_hold, is_write, is_read}
 use Rattle.trio_state.specs.Given.{GivenTo}
 use Rattle.trio_layout.specs.Image.{IsFit, settled_body, row_at}
 use Rattle.trio_state.specs.Kept.{Kept}
-use Rattle.trio_layout.specs.Proposed.{Written, Bundle, bundle_sheets, bundle_pages, is_written, kept_body, is_place_of, proposed, proposed_pick}
-use Rattle.trio_page.specs.Sheets.{Sheet, sheet_numbers, with_pages}
+use Rattle.trio_rights.specs.Bundle.{Written, Bundle, bundle_sheets, bundle_pages, is_written}
+use Rattle.trio_layout.specs.Proposed.{kept_body, is_place_of, proposed, proposed_pick}
+use Rattle.trio_rights.specs.Sheets.{Sheet, sheet_numbers, with_pages}
 use Rattle.trio_state.specs.State.{OpenGrant, State, settled}
 use Rattle.trio_surveys.proofs.Images.{met_numbered, owner_listed, root_or_listed}
 use Rattle.trio_lists.proofs.Filters.{In-find, find-In, Ok-one, In-filter, filter-none}
@@ -56,7 +57,7 @@ finds_unwritten b n e w i same =
 abbrev pub Closed : State → ℕ → Bundle → Type 0
 Closed s lib b = (g : OpenGrant) (r : Row) → In g s.open_grants → g.kind ≡ Hold → g.lib ≡ lib → row_at s.home g.ino ≡ Some r → In r.parent (map (λ (w : Written). w.ino) b.writes) → In g.ino b.holds
 
-written_from : (b : Bundle) (n : ℕ) → In n (map (λ (w : Written). w.ino) b.writes) → is_written b n ≡ true
+pub written_from : (b : Bundle) (n : ℕ) → In n (map (λ (w : Written). w.ino) b.writes) → is_written b n ≡ true
 written_from b n i =
     let r = map-In (λ (w : Written). w.ino) n b.writes i in
     let f = In-find (λ (w : Written). eqb w.ino n) b.writes r.0 r.1 (eq-eqb r.0.ino n (sym r.2)) in ap is_some f.1

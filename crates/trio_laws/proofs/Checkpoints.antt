@@ -12,7 +12,7 @@ use Rattle.trio_layout.specs.Range.{is_core}
 use Rattle.trio_layout.specs.Survey.{plain, survey, pages_of}
 use Rattle.trio_lists.proofs.Marked.{are_new-append}
 use Rattle.trio_state.specs.Kept.{Kept}
-use Rattle.trio_page.specs.Sheets.{Sheet, sheet_numbers, with_pages}
+use Rattle.trio_rights.specs.Sheets.{Sheet, sheet_numbers, with_pages}
 use Rattle.trio_state.specs.State.{OpenGrant, State, settled, covered}
 use Rattle.trio_laws.specs.EndLaws.{checkpoints_of}
 use Rattle.trio_laws.proofs.Bundles.{in_numbers}

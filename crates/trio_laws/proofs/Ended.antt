@@ -16,8 +16,8 @@ use Rattle.trio_state.specs.Given.{GivenTo}
 use Rattle.trio_state.specs.Grants.{has_parent_grant}
 use Rattle.trio_layout.specs.Image.{Image, row_at}
 use Rattle.trio_state.specs.Kept.{Kept, MayBothStand, is_lent}
-use Rattle.trio_layout.specs.Proposed.{Written, Bundle, is_written}
-use Rattle.trio_page.specs.Sheets.{Sheet, sheet_numbers}
+use Rattle.trio_rights.specs.Bundle.{Written, Bundle, is_written}
+use Rattle.trio_rights.specs.Sheets.{Sheet, sheet_numbers}
 use Rattle.trio_state.specs.State.{covered, OpenGrant, State}
 use Rattle.trio_laws.proofs.Bundles.{Closed}
 use Rattle.trio_lists.proofs.Filters.{filter-In, In-filter, find-In, In-list_any, list_any-In}

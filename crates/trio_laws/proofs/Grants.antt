@@ -19,7 +19,7 @@ use Rattle.trio_state.specs.Grants.{holder_of, denied_or, excluding, denied_by, 
 use Rattle.trio_nodes.specs.GrantKinds.{excludes_kind, is_write, is_read}
 use Rattle.trio_layout.specs.Image.{IsFit, Image, settled_body, row_at}
 use Rattle.trio_state.specs.Kept.{Kept, LentIsListed, MayBothStand, HoldStands}
-use Rattle.trio_page.specs.Sheets.{sheet_numbers, with_pages, without_pages}
+use Rattle.trio_rights.specs.Sheets.{sheet_numbers, with_pages, without_pages}
 use Rattle.trio_state.specs.State.{covered, OpenGrant, State, settled, logged}
 use Rattle.trio_state.specs.Step.{Grant, CtlAnswer, Step, granted_to}
 use Rattle.trio_layout.specs.Verifies.{Verifies}

@@ -16,7 +16,8 @@ use Rattle.trio_layout.specs.Survey.{Met, Pick, plain, FileRead, file_of, survey
 use Rattle.trio_layout.specs.Sound.{is_sound}
 use Rattle.trio_layout.specs.Image.{Image, IsFit, row_at, settled_body}
 use Rattle.trio_state.specs.State.{State, settled}
-use Rattle.trio_layout.specs.Proposed.{Bundle, proposed, proposed_pick}
+use Rattle.trio_rights.specs.Bundle.{Bundle}
+use Rattle.trio_layout.specs.Proposed.{proposed, proposed_pick}
 use Rattle.trio_layout.specs.Accept.{is_accepted, next}
 use Rattle.trio_state.specs.Kept.{Kept}
 use Rattle.trio_state.specs.Given.{GivenTo}

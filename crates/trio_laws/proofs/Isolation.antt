@@ -11,11 +11,11 @@ use Rattle.trio_nodes.specs.declared.answers.ModeFault.{ModeFault}
 use Rattle.trio_lists.specs.Lists.{In}
 use Rattle.trio_layout.specs.Core.{Core, page_of}
 use Rattle.trio_layout.specs.Survey.{Met, plain, FileRead, file_of, survey, row_by}
-use Rattle.trio_page.specs.Sheets.{Sheet}
+use Rattle.trio_rights.specs.Sheets.{Sheet}
 use Rattle.trio_layout.specs.Image.{Image, IsFit, row_at}
 use Rattle.trio_layout.specs.Verifies.{Verifies}
 use Rattle.trio_state.specs.State.{OpenGrant, State, settled, creds_of}
-use Rattle.trio_layout.specs.Proposed.{Bundle, bundle_sheets, bundle_pages}
+use Rattle.trio_rights.specs.Bundle.{Bundle, bundle_sheets, bundle_pages}
 use Rattle.trio_layout.specs.Accept.{is_accepted, next}
 use Rattle.trio_layout.specs.Mode.{body_with_mode, image_with_mode, row_with_mode}
 use Rattle.trio_state.specs.Grants.{grant_fault, opened, opens, told_children, given_back}

@@ -15,21 +15,22 @@ use Rattle.trio_nodes.specs.declared.answers.ModeFault.{ModeFault}
 use Rattle.trio_nodes.specs.declared.answers.ModeFault.TheVariants.{NotLive as ModeNotLive, NotOwner, BadMode, Busy as ModeBusy, NoMemory as ModeNoMemory}
 use Rattle.trio_lists.specs.Lists.{In}
 use Rattle.trio_layout.specs.Survey.{row_by, pages_of}
-use Rattle.trio_page.specs.Sheets.{Sheet, sheet_numbers, with_pages, without_pages}
+use Rattle.trio_rights.specs.Sheets.{Sheet, sheet_numbers, with_pages, without_pages}
 use Rattle.trio_layout.specs.Image.{Image, row_at, with_core_pages}
 use Rattle.trio_state.specs.State.{OpenGrant, State, settled, creds_of, logged}
 use Rattle.trio_nodes.specs.GrantKinds.{is_read, is_write, excludes_kind}
-use Rattle.trio_layout.specs.Proposed.{Bundle}
+use Rattle.trio_rights.specs.Bundle.{Bundle}
 use Rattle.trio_layout.specs.Accept.{is_accepted, next}
+use Rattle.trio_layout.specs.Case.{Case, case_of}
 use Rattle.trio_layout.specs.Mode.{image_with_mode}
 use Rattle.trio_state.specs.Grants.{grant_fault, denied_or, denied_by, lacks_parent, has_parent_grant, excluding, holder_of, opened, opened_in, lent_pages, opens, told_children, given_back}
 use Rattle.trio_state.specs.Allotments.{free_pages, free_numbers, allots}
 use Rattle.trio_state.specs.Bundles.{is_parted, lowest, parted_hold, is_in_bundle, lent_part, grants_after, refused_image, Ends}
 use Rattle.trio_state.specs.Step.{Event, Grant, Allot, Back, Release, Settle, SetMode, CtlAnswer, Granted, NotGranted, ModeSet, NotModeSet, NoPages, NoInodes, Given, Done, Accepted, Refused, NotClosed, Settled, NoMemory, Outcome, Does, Step, granted_to, after_grant_fault, grant_outcome, allot_outcome, mode_excluding, mode_fault, moded_to, after_mode_fault, mode_outcome, ReleaseEnd, Parted, IsAccepted, IsRefused}
-use Rattle.trio_state.specs.Tells.{untold}
+use Rattle.trio_state.specs.Tells.{Why, case_in, place_of}
 use Rattle.trio_state.specs.Kept.{Kept}
 use Rattle.trio_laws.specs.OutLaws.{without_checkpoint}
-use Rattle.trio_laws.specs.Known.{Known, known, plain_state, ended, released, known_done, is_no_memory, known_after, StepsAreKnown, KnownDecides, is_refusal, SameAnswer, SameEventSameAnswer}
+use Rattle.trio_laws.specs.Known.{Known, known, plain_state, ended, released, known_done, is_no_memory, known_after, StepsAreKnown, KnownDecides, refused_rule, SameAnswer, SameEventSameAnswer}
 use Rattle.trio_lists.proofs.Filters.{filter-map, list_any-map}
 use Rattle.trio_surveys.proofs.Sheets.{Pages, with_pages-append}
 use Rattle.trio_surveys.proofs.Owned.{pages_are}
@@ -40,6 +41,7 @@ use Rattle.trio_laws.proofs.Allots.{uncovered'}
 use Rattle.trio_laws.proofs.Backs.{settled_back}
 use Rattle.trio_laws.proofs.Modes.{with_pages_set, may_change, settled_moded}
 use Rattle.trio_laws.proofs.StateLaws.{does_told}
+use Rattle.trio_laws.proofs.judgement.Breaking.{breaks_lowest, lowest_rule}
 
 -- ---- lists
 
@@ -392,10 +394,19 @@ known_decides s = record {
 
 -- ---- answers
 
+-- a cause that names this rule
+abbrev naming : ℕ → Why
+naming rule = record { rule = rule; ino = 0; page = 0; slot = 0 }
+
+-- the lowest rule that a bundle breaks
+abbrev known_rule : Known → ℕ → Bundle → ℕ
+known_rule k lib b = lowest_rule (case_in (plain_state k) lib b)
+
 -- the answer to a release by its lowest hold that is parted
 abbrev release_answer : Known → ℕ → Bundle → Option ℕ → CtlAnswer
 release_answer k lib b (Some n) = NotClosed n
-release_answer k lib b None = cond (is_accepted k.image (creds_of (plain_state k) lib) b) Accepted (Refused untold)
+release_answer k lib b None =
+    cond (is_accepted k.image (creds_of (plain_state k) lib) b) Accepted (Refused (naming (known_rule k lib b)))
 
 -- the answer to an event, where memory is there
 abbrev known_answer : Known → Event → CtlAnswer
@@ -408,22 +419,28 @@ known_answer k (SetMode lib ino mode) = (mode_outcome (plain_state k) lib ino mo
 
 same_joined : (a b c : CtlAnswer) → SameAnswer a c → SameAnswer b c → SameAnswer a b
 same_joined a b c (inl e) (inl f) = inl (e ∙ sym f)
-same_joined a b c (inl e) (inr y) = inr (ap is_refusal e ∙ y.1, y.0)
-same_joined a b c (inr x) (inl f) = inr (x.0, ap is_refusal f ∙ x.1)
-same_joined a b c (inr x) (inr y) = inr (x.0, y.0)
+same_joined a b c (inl e) (inr y) = inr (y.0, ap refused_rule e ∙ y.2, y.1)
+same_joined a b c (inr x) (inl f) = inr (x.0, x.1, ap refused_rule f ∙ x.2)
+same_joined a b c (inr x) (inr y) = inr (x.0, x.1, y.1 ∙ sym y.2 ∙ x.2)
 
 released_answer : (s s' : State) (lib : ℕ) (b : Bundle) (answer : CtlAnswer) → ReleaseEnd s lib b answer s'
     → SameAnswer answer (known_answer (known s) (Release lib b))
 released_answer s s' lib b answer (Parted n some a same) =
     inl (a ∙ ap (release_answer (known s) lib b) (sym (parted_plain s lib b ∙ some)))
 released_answer s s' lib b answer (IsAccepted none sure a e) =
-    inl (a ∙ ap (λ x. cond x Accepted (Refused untold)) (sym sure)
+    let refused : CtlAnswer = Refused (naming (known_rule (known s) lib b)) in
+    inl (a ∙ ap (λ x. cond x Accepted refused) (sym sure)
     ∙ ap (release_answer (known s) lib b) (sym (parted_plain s lib b ∙ none)))
 released_answer s s' lib b answer (IsRefused none not_so why a tells e) =
-    let is : Refused untold ≡ known_answer (known s) (Release lib b) =
-    ap (λ x. cond x Accepted (Refused untold)) (sym not_so) ∙ ap (release_answer (known s) lib b) (sym (parted_plain s lib b
-    ∙ none)) in
-    inr (ap is_refusal a, sym (ap is_refusal is))
+    let rule : ℕ = known_rule (known s) lib b in
+    let is : Refused (naming rule) ≡ known_answer (known s) (Release lib b) =
+    ap (λ x. cond x Accepted (Refused (naming rule))) (sym not_so)
+    ∙ ap (release_answer (known s) lib b) (sym (parted_plain s lib b ∙ none)) in
+    let same : case_in s lib b ≡ case_in (plain_state (known s)) lib b =
+    ap (λ image. case_of image (creds_of s lib) b) (sym (settled_plain s)) in
+    let named : why.rule ≡ rule =
+    breaks_lowest (case_in s lib b) why.rule why.ino (place_of why) tells ∙ ap lowest_rule same in
+    inr (rule, ap refused_rule a ∙ ap Some named, sym (ap refused_rule is))
 
 does_answer : (s : State) (k : Kept s) (event : Event) (answer : CtlAnswer) (s' : State) → Does s event answer s'
     → SameAnswer answer (known_answer (known s) event)

@@ -16,7 +16,7 @@ use Rattle.trio_state.specs.Grants.{holder_of, has_parent_grant}
 use Rattle.trio_layout.specs.Image.{IsFit, Image, settled_body, row_at, body_by_row}
 use Rattle.trio_state.specs.Kept.{Kept, LentIsListed}
 use Rattle.trio_layout.specs.Mode.{body_with_mode, row_with_mode, body_put, image_with_mode}
-use Rattle.trio_page.specs.Sheets.{Sheet, sheet_numbers, with_pages}
+use Rattle.trio_rights.specs.Sheets.{Sheet, sheet_numbers, with_pages}
 use Rattle.trio_state.specs.State.{OpenGrant, State, settled, creds_of}
 use Rattle.trio_state.specs.Step.{SetMode, CtlAnswer, Step, mode_excluding, mode_fault, moded_to}
 use Rattle.trio_layout.specs.Verifies.{Verifies}

@@ -12,7 +12,7 @@ use Rattle.trio_lists.specs.Lists.{In}
 use Rattle.trio_layout.specs.Image.{Image, row_at}
 use Rattle.trio_state.specs.State.{OpenGrant, State, logged}
 use Rattle.trio_nodes.specs.GrantKinds.{is_read}
-use Rattle.trio_layout.specs.Proposed.{Bundle}
+use Rattle.trio_rights.specs.Bundle.{Bundle}
 use Rattle.trio_state.specs.Grants.{grant_fault, opened, opens, given_back}
 use Rattle.trio_state.specs.Allotments.{free_pages, free_numbers, allots}
 use Rattle.trio_state.specs.Bundles.{is_in_bundle, lent_part, grants_after, Ends}

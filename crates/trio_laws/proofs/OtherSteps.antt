@@ -12,7 +12,7 @@ use Rattle.trio_lists.specs.Lists.{In}
 use Rattle.trio_layout.specs.Image.{row_at}
 use Rattle.trio_state.specs.State.{OpenGrant, State, logged}
 use Rattle.trio_nodes.specs.GrantKinds.{is_read}
-use Rattle.trio_layout.specs.Proposed.{Bundle}
+use Rattle.trio_rights.specs.Bundle.{Bundle}
 use Rattle.trio_layout.specs.Mode.{image_with_mode, row_with_mode}
 use Rattle.trio_state.specs.Grants.{grant_fault, opened, opens, given_back}
 use Rattle.trio_state.specs.Step.{Event, Grant, Allot, Back, Release, Settle, SetMode, CtlAnswer, Step, granted_to, allot_outcome, mode_fault, moded_to, ReleaseEnd, Parted, IsAccepted, IsRefused}

@@ -16,8 +16,8 @@ use Rattle.trio_nodes.specs.GrantKinds.{is_hold}
 use Rattle.trio_state.specs.Given.{HasGrant, HasNoRead, WasAllotted, GivenTo}
 use Rattle.trio_layout.specs.Image.{Image, row_at}
 use Rattle.trio_state.specs.Kept.{Kept}
-use Rattle.trio_layout.specs.Proposed.{Bundle, is_written}
-use Rattle.trio_page.specs.Sheets.{sheet_numbers}
+use Rattle.trio_rights.specs.Bundle.{Bundle, is_written}
+use Rattle.trio_rights.specs.Sheets.{sheet_numbers}
 use Rattle.trio_state.specs.State.{OpenGrant, State, settled, creds_of}
 use Rattle.trio_laws.proofs.Accepting.{stays_then, row_then}
 use Rattle.trio_laws.proofs.Bundles.{Closed, unparted_at, unparted_from}

@@ -14,10 +14,9 @@ use Rattle.trio_laws.specs.Laws.{MayEnd}
 use Rattle.trio_state.specs.Given.{GivenTo, GivenEvent}
 use Rattle.trio_layout.specs.Image.{Image, with_core_pages}
 use Rattle.trio_state.specs.Kept.{Kept}
-use Rattle.trio_layout.specs.Proposed.{Bundle, bundle_sheets}
-use Rattle.trio_page.specs.Sheets.{Sheet, sheet_numbers, with_pages}
+use Rattle.trio_rights.specs.Bundle.{Bundle, bundle_sheets}
+use Rattle.trio_rights.specs.Sheets.{Sheet, sheet_numbers, with_pages}
 use Rattle.trio_state.specs.State.{OpenGrant, State, settled, creds_of}
-use Rattle.trio_state.specs.Tells.{untold}
 use Rattle.trio_state.specs.Step.{Event, Grant, Allot, Back, Release, Settle, SetMode, CtlAnswer, Done, Accepted, Refused, NotClosed, Settled, Does, Parted, IsAccepted, IsRefused, grant_outcome, allot_outcome, mode_outcome}
 use Rattle.trio_lists.proofs.Filters.{In-filter, filter-In}
 use Rattle.trio_lists.proofs.Members.{flat_map-In, In-flat, map-In}
@@ -25,7 +24,7 @@ use Rattle.trio_laws.proofs.PutBack.{refused_away, refused_settles}
 use Rattle.trio_laws.proofs.Spread.{accepted_away, accepted_settles, next_long, next_there}
 use Rattle.trio_surveys.proofs.SheetLaws.{length-with_pages}
 use Rattle.trio_surveys.proofs.Sheets.{Pages}
-use Rattle.trio_laws.proofs.Tells.{untold_tells}
+use Rattle.trio_laws.proofs.Tells.{refused_tells}
 
 abbrev bytes_at : Option (Option (List ℕ)) → List ℕ
 bytes_at None = []
@@ -116,7 +115,8 @@ module _ (s : State) (k : Kept s) where
         | inl t ↦ (let r = accepted_ends s k lib b given t in (Accepted, r.0, IsAccepted closed t refl r.1))
         | inr f ↦ (
             let r = refused_ends s k lib b given in
-            (Refused untold, r.0, IsRefused closed f untold refl (untold_tells s lib b) r.1))
+            let t = refused_tells s lib b k given closed f in
+            (Refused t.0, r.0, IsRefused closed f t.0 refl t.1 r.1))
       ]
 
   pub release_possible : (lib : ℕ) (b : Bundle) → GivenTo s lib b → (answer : CtlAnswer) × (s' : State) × Does s (Release lib b) answer s'

@@ -11,8 +11,8 @@ use Rattle.trio_layout.specs.Survey.{plain, survey}
 use Rattle.trio_state.specs.Bundles.{grants_after, is_in_bundle, refused_image, uncovered}
 use Rattle.trio_state.specs.Given.{GivenTo}
 use Rattle.trio_state.specs.Kept.{Kept}
-use Rattle.trio_layout.specs.Proposed.{Written, Bundle, bundle_pages, bundle_sheets}
-use Rattle.trio_page.specs.Sheets.{Sheet, sheet_numbers, with_pages}
+use Rattle.trio_rights.specs.Bundle.{Written, Bundle, bundle_pages, bundle_sheets}
+use Rattle.trio_rights.specs.Sheets.{Sheet, sheet_numbers, with_pages}
 use Rattle.trio_state.specs.State.{OpenGrant, State, settled, covered}
 use Rattle.trio_laws.specs.EndLaws.{checkpoints_of}
 use Rattle.trio_laws.proofs.Accepting.{handed_back}

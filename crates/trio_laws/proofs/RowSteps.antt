@@ -10,7 +10,8 @@ use Rattle.trio_lists.specs.Lists.{In, is_among}
 use Rattle.trio_layout.specs.Survey.{survey, row_of}
 use Rattle.trio_layout.specs.Image.{Image, row_at}
 use Rattle.trio_state.specs.State.{State, settled, creds_of}
-use Rattle.trio_layout.specs.Proposed.{Bundle, proposed, proposed_pick}
+use Rattle.trio_rights.specs.Bundle.{Bundle}
+use Rattle.trio_layout.specs.Proposed.{proposed, proposed_pick}
 use Rattle.trio_layout.specs.Accept.{is_accepted, next}
 use Rattle.trio_layout.specs.Mode.{row_with_mode}
 use Rattle.trio_state.specs.Grants.{grant_fault}

@@ -9,7 +9,7 @@ use Rattle.trio_lists.specs.Lists.{In}
 use Rattle.trio_state.specs.Given.{GivenTo, GivenEvent}
 use Rattle.trio_layout.specs.Image.{IsFit, Image}
 use Rattle.trio_state.specs.Kept.{Kept}
-use Rattle.trio_layout.specs.Proposed.{Bundle}
+use Rattle.trio_rights.specs.Bundle.{Bundle}
 use Rattle.trio_state.specs.Run.{IsWhole, Move, Trace, start}
 use Rattle.trio_state.specs.State.{State, creds_of}
 use Rattle.trio_state.specs.Step.{Event, Grant, Allot, Back, Release, Settle, SetMode, CtlAnswer, Step, ReleaseEnd, Parted, IsAccepted, IsRefused}

@@ -10,7 +10,7 @@ use Rattle.trio_lists.specs.Lists.{In}
 use Rattle.trio_layout.specs.Survey.{Met, FileRead, plain, survey, children, file_of, pages_of}
 use Rattle.trio_layout.specs.Image.{row_at}
 use Rattle.trio_state.specs.Kept.{Kept}
-use Rattle.trio_page.specs.Sheets.{Sheet, sheet_numbers}
+use Rattle.trio_rights.specs.Sheets.{Sheet, sheet_numbers}
 use Rattle.trio_state.specs.State.{OpenGrant, State, settled}
 use Rattle.trio_laws.specs.EndLaws.{checkpoints_of}
 use Rattle.trio_laws.proofs.Bundles.{in_numbers}
@@ -31,17 +31,17 @@ directory_or Directory h = refl
 directory_or Regular h = absurd (h refl)
 
 -- the directory that lists a file, with the page on which it does so
-record HasParent (core : Core) (r : Row) : Type 0 where
-  parent : Met
-  file : FileRead
-  stands : In parent (survey core plain)
-  read : file_of core parent ≡ Ok file
-  number : parent.ino ≡ r.parent
-  kind : parent.kind ≡ Directory
-  block : In r.page file.chain.blocks
-  bytes : List ℕ
-  page : page_of core r.page ≡ Some bytes
-  slot : r.slot < 16
+pub record HasParent (core : Core) (r : Row) : Type 0 where
+  pub parent : Met
+  pub file : FileRead
+  pub stands : In parent (survey core plain)
+  pub read : file_of core parent ≡ Ok file
+  pub number : parent.ino ≡ r.parent
+  pub kind : parent.kind ≡ Directory
+  pub block : In r.page file.chain.blocks
+  pub bytes : List ℕ
+  pub page : page_of core r.page ≡ Some bytes
+  pub slot : r.slot < 16
 
 module _ (s : State) (k : Kept s) (ino : ℕ) (r : Row) (row : row_at s.home ino ≡ Some r) (other : ino ≡ 1 → ⊥) where
   abbrev core : Core
@@ -69,7 +69,7 @@ module _ (s : State) (k : Kept s) (ino : ℕ) (r : Row) (row : row_at s.home ino
         slot = subst (λ n. n < 16) (sym at) pl.slot;
       }
 
-  has_parent : HasParent core r
+  pub has_parent : HasParent (settled s).core r
   has_parent =
       let m = live_met s k ino r row in
       elim (root_or_listed core plain k.fit k.verifies.sound m.met m.stands) [
@@ -77,25 +77,32 @@ module _ (s : State) (k : Kept s) (ino : ℕ) (r : Row) (row : row_at s.home ino
         | inr i ↦ listed_by m.met i (ap (λ (x : Row). x.parent) m.row) (ap (λ (x : Row). x.page) m.row) (ap (λ (x : Row). x.slot) m.row)
       ]
 
+  -- the write grant that is open on the directory lent the page
+  pub lent_place : (g : OpenGrant) → In g s.open_grants → g.kind ≡ Write → g.ino ≡ r.parent → (g.of ≡ Directory) × In r.page (sheet_numbers g.blocks)
+  lent_place g i w number =
+      let h = has_parent in
+      let l = k.lent g i w in
+      let same : l.met ≡ h.parent = one_met core plain k.fit k.verifies.sound l.met h.parent l.stands h.stands (l.number ∙ number ∙ sym h.number) in
+      let file : l.file ≡ h.file = Ok-one (file_of core h.parent) l.file h.file (ap (file_of core) (sym same) ∙ l.read) h.read in
+      let block : In r.page l.file.chain.blocks = subst (λ (f : FileRead). In r.page f.chain.blocks) (sym file) h.block in
+      (sym l.of ∙ ap (λ (m : Met). m.kind) same ∙ h.kind, subst (λ ns. In r.page ns) (sym l.blocks) block)
+
   -- a checkpoint that has the page is that of the write grant on the directory
   covered_by : HasParent core r → (x : Sheet) → In x (checkpoints_of s.open_grants) → r.page ≡ x.page → (g : OpenGrant) × In g s.open_grants × (g.kind ≡ Write) × (g.ino ≡ r.parent) × In r.page (sheet_numbers g.blocks) × (g.of ≡ Directory) × In r.page (sheet_numbers g.checkpoint) × ((x : Sheet) → In x g.checkpoint → x.page ≡ r.page → page_of core r.page ≡ Some x.bytes)
   covered_by h x i on =
       let c = checkpoint_from s k x i in
       let g : OpenGrant = c.0 in
-      let l = k.lent g c.1 c.3 in
       let lent : In r.page (sheet_numbers (g.index ++ g.blocks)) = subst (λ n. In n (sheet_numbers (g.index ++ g.blocks))) (sym on) c.4 in
       let listed : In r.page (pages_of core h.parent) =
       subst (λ ns. In r.page ns) (sym (pages_are core h.parent h.file h.read)) (In-right r.page h.file.chain.index h.file.chain.blocks h.block) in
       let ino' : g.ino ≡ h.parent.ino = lent_file s k h.parent r.page g h.stands listed c.1 c.3 lent in
-      let same : l.met ≡ h.parent = one_met core plain k.fit k.verifies.sound l.met h.parent l.stands h.stands (l.number ∙ ino') in
-      let file : l.file ≡ h.file = Ok-one (file_of core h.parent) l.file h.file (ap (file_of core) (sym same) ∙ l.read) h.read in
-      let block : In r.page l.file.chain.blocks = subst (λ (f : FileRead). In r.page f.chain.blocks) (sym file) h.block in (
+      let place = lent_place g c.1 c.3 (ino' ∙ h.number) in (
         g,
         c.1,
         c.3,
         ino' ∙ h.number,
-        subst (λ ns. In r.page ns) (sym l.blocks) block,
-        sym l.of ∙ ap (λ (m : Met). m.kind) same ∙ h.kind,
+        place.1,
+        place.0,
         in_numbers g.checkpoint x r.page c.2 on,
         λ y j at. ap (page_of core) (sym at) ∙ checkpoint_settled s k y (In-flat (λ (g : OpenGrant). g.checkpoint) g y s.open_grants c.1 j),
       )

@@ -21,8 +21,9 @@ use Rattle.trio_layout.specs.Allowed.{same_row, keeps_rows, lists_own, has_owner
 use Rattle.trio_state.specs.Given.{GivenTo}
 use Rattle.trio_layout.specs.Image.{IsFit, Image, settled_body, row_at}
 use Rattle.trio_state.specs.Kept.{Kept}
-use Rattle.trio_layout.specs.Proposed.{Written, Bundle, bundle_pages, is_written, proposed, proposed_pick}
-use Rattle.trio_page.specs.Sheets.{sheet_numbers}
+use Rattle.trio_rights.specs.Bundle.{Written, Bundle, bundle_pages, is_written}
+use Rattle.trio_layout.specs.Proposed.{proposed, proposed_pick}
+use Rattle.trio_rights.specs.Sheets.{sheet_numbers}
 use Rattle.trio_state.specs.State.{OpenGrant, State, settled}
 use Rattle.trio_surveys.proofs.Accepted.{fit_proposed}
 use Rattle.trio_laws.proofs.Bundles.{held_unwritten, Unwritten, finds_unwritten, written_lent, bundle_page, kept_chain, body_picked}

@@ -1,9 +1,27 @@
--- What a refusal may tell.
-use Rattle.std.proofs.Common.{ℕ, refl}
-use Rattle.trio_state.specs.State.{State}
-use Rattle.trio_layout.specs.Proposed.{Bundle}
-use Rattle.trio_state.specs.Tells.{Tells, untold}
+-- What a refusal tells.
+use Rattle.std.proofs.Common.{Bool, List, false, inl, inr, refl, true, ◌&&◌, ◌∙◌, ◌≡◌, ℕ}
+use Rattle.std.specs.Prelude.{None, IsFalse}
+use Rattle.std.proofs.lemmas.Bool.{both_ways, false_from_ne_true}
+use Rattle.trio_layout.specs.Accept.{is_accepted}
+use Rattle.trio_layout.specs.Case.{Case}
+use Rattle.trio_layout.specs.Rules.{meets_rules}
+use Rattle.trio_rights.specs.Bundle.{Bundle}
+use Rattle.trio_state.specs.Bundles.{parted_hold}
+use Rattle.trio_state.specs.Given.{GivenTo}
+use Rattle.trio_state.specs.Kept.{Kept}
+use Rattle.trio_state.specs.State.{State, settled, creds_of}
+use Rattle.trio_state.specs.Tells.{Why, Tells, case_in}
+use Rattle.trio_laws.proofs.judgement.Breaking.{breaks_where_not_met}
+use Rattle.trio_laws.proofs.judgement.Equivalence.{rules_are_accept}
 
--- a refusal need not tell its cause
-pub untold_tells : (s : State) (lib : ℕ) (b : Bundle) → Tells s lib b untold
-untold_tells s lib b = refl
+-- a closed bundle that isn't accepted has a cause that a refusal can tell
+pub refused_tells : (s : State) (lib : ℕ) (b : Bundle) → Kept s → GivenTo s lib b → parted_hold s lib b ≡ None
+    → IsFalse (is_accepted (settled s) (creds_of s lib) b) → (why : Why) × Tells s lib b why
+refused_tells s lib b kept given closed refused =
+    let c : Case = case_in s lib b in
+    let unmet : meets_rules c ≡ false =
+    false_from_ne_true (meets_rules c)
+    (λ t. both_ways (is_accepted (settled s) (creds_of s lib) b) refused
+    ((rules_are_accept s lib b (record { kept = kept; given = given; closed = closed })).0 t)) in
+    let r = (breaks_where_not_met c).0 unmet in
+    (record { rule = r.0; ino = r.1; page = r.2.page; slot = r.2.slot }, r.3)

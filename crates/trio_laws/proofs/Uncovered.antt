@@ -11,8 +11,8 @@ use Rattle.trio_state.specs.Bundles.{uncovered, uncovered_by, uncovered_of}
 use Rattle.trio_state.specs.Given.{GivenTo}
 use Rattle.trio_layout.specs.Image.{row_at}
 use Rattle.trio_state.specs.Kept.{Kept}
-use Rattle.trio_layout.specs.Proposed.{Written, Bundle, bundle_sheets}
-use Rattle.trio_page.specs.Sheets.{Sheet}
+use Rattle.trio_rights.specs.Bundle.{Written, Bundle, bundle_sheets}
+use Rattle.trio_rights.specs.Sheets.{Sheet}
 use Rattle.trio_state.specs.State.{State, settled}
 use Rattle.trio_surveys.proofs.Images.{row_at_is, row_met}
 use Rattle.trio_lists.proofs.Members.{In-cases, In-flat, In-left, In-right, flat_map-In, flat_map-same}

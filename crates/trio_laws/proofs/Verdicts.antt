@@ -8,10 +8,10 @@ use Rattle.trio_nodes.specs.declared.grant.GrantKind.TheVariants.{Write}
 use Rattle.trio_lists.specs.Lists.{In}
 use Rattle.trio_layout.specs.Core.{page_of}
 use Rattle.trio_layout.specs.Survey.{plain, FileRead, survey}
-use Rattle.trio_page.specs.Sheets.{Sheet, sheet_numbers}
+use Rattle.trio_rights.specs.Sheets.{Sheet, sheet_numbers}
 use Rattle.trio_layout.specs.Image.{Image, settled_body}
 use Rattle.trio_state.specs.State.{State, settled, creds_of, covered}
-use Rattle.trio_layout.specs.Proposed.{Bundle}
+use Rattle.trio_rights.specs.Bundle.{Bundle}
 use Rattle.trio_layout.specs.Accept.{is_accepted, next}
 use Rattle.trio_state.specs.Bundles.{parted_hold, uncovered, refused_image, Ends}
 use Rattle.trio_state.specs.Tells.{Why, Tells}

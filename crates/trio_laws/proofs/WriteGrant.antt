@@ -21,7 +21,7 @@ use Rattle.trio_state.specs.Grants.{has_parent_grant, opened, lent_pages, opens}
 use Rattle.trio_layout.specs.Pages.{sheets_of, settled_chain, index_sheets, block_sheets}
 use Rattle.trio_layout.specs.Image.{IsFit, settled_body, row_at}
 use Rattle.trio_state.specs.Kept.{Kept, LentIsListed, MayBothStand, HoldStands}
-use Rattle.trio_page.specs.Sheets.{Sheet, sheet_numbers, with_pages, without_pages}
+use Rattle.trio_rights.specs.Sheets.{Sheet, sheet_numbers, with_pages, without_pages}
 use Rattle.trio_state.specs.State.{covered, OpenGrant, State, settled}
 use Rattle.trio_nodes.specs.GrantKinds.{is_write}
 use Rattle.trio_laws.proofs.Agreeing.{image_with, verifies_still, met_still, lent_still, body_still}

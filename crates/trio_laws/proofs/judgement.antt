@@ -13,3 +13,4 @@ pub mod Breaking
 pub mod TablesAfter
 pub mod CopiedRows
 pub mod Equivalence
+pub mod CopiedBreaks

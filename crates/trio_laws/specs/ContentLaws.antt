@@ -7,7 +7,7 @@ use Rattle.trio_layout.specs.Core.{page_of}
 use Rattle.trio_layout.specs.Survey.{Met, plain, FileRead, file_of, survey}
 use Rattle.trio_layout.specs.Image.{Image, row_at, settled_body}
 use Rattle.trio_state.specs.State.{State, settled}
-use Rattle.trio_layout.specs.Proposed.{Bundle}
+use Rattle.trio_rights.specs.Bundle.{Bundle}
 use Rattle.trio_layout.specs.Accept.{is_accepted, next}
 use Rattle.trio_state.specs.Kept.{Kept}
 use Rattle.trio_state.specs.Given.{GivenTo}

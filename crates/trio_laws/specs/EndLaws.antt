@@ -8,11 +8,11 @@ use Rattle.trio_lists.specs.Lists.{In, are_new}
 use Rattle.trio_layout.specs.Range.{is_core}
 use Rattle.trio_layout.specs.Core.{page_of}
 use Rattle.trio_layout.specs.Chain.{Chain}
-use Rattle.trio_page.specs.Sheets.{Sheet, sheet_numbers, with_pages}
+use Rattle.trio_rights.specs.Sheets.{Sheet, sheet_numbers, with_pages}
 use Rattle.trio_layout.specs.Image.{row_at, settled_body}
 use Rattle.trio_state.specs.State.{OpenGrant, State, settled, creds_of}
 use Rattle.trio_layout.specs.Pages.{settled_chain}
-use Rattle.trio_layout.specs.Proposed.{Bundle, bundle_sheets}
+use Rattle.trio_rights.specs.Bundle.{Bundle, bundle_sheets}
 use Rattle.trio_layout.specs.Accept.{is_accepted, next}
 use Rattle.trio_state.specs.Bundles.{grants_after, is_in_bundle, lent_part, refused_image, uncovered}
 use Rattle.trio_state.specs.Kept.{Kept}

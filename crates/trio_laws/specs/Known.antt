@@ -4,10 +4,10 @@ use Rattle.trio_rights.specs.declared.rights.Creds.{Creds}
 use Rattle.trio_rights.specs.declared.rights.LibNo.{LibNo}
 use Rattle.trio_rights.specs.Row.{Row}
 use Rattle.trio_nodes.specs.declared.grant.GrantKind.{GrantKind}
-use Rattle.trio_page.specs.Sheets.{sheet_numbers}
+use Rattle.trio_rights.specs.Sheets.{sheet_numbers}
 use Rattle.trio_layout.specs.Image.{Image}
 use Rattle.trio_state.specs.State.{OpenGrant, State, settled, creds_of}
-use Rattle.trio_layout.specs.Proposed.{Bundle}
+use Rattle.trio_rights.specs.Bundle.{Bundle}
 use Rattle.trio_layout.specs.Accept.{is_accepted, next}
 use Rattle.trio_state.specs.Grants.{grant_fault, opened, given_back}
 use Rattle.trio_state.specs.Allotments.{free_pages, free_numbers, out_after}
@@ -106,14 +106,14 @@ pub record GoesByKnown (s : State) : Type 0 where
 abbrev pub KnownDecides : Type 0
 KnownDecides = (s : State) → GoesByKnown s
 
--- a bundle was refused
-abbrev pub is_refusal : CtlAnswer → Bool
-is_refusal (Refused why) = true
-is_refusal _ = false
+-- the rule that a refusal names
+abbrev pub refused_rule : CtlAnswer → Option ℕ
+refused_rule (Refused why) = Some why.rule
+refused_rule _ = None
 
--- one answer, but for what a refusal tells
+-- one answer, but for the file and the place that a refusal names
 abbrev pub SameAnswer : CtlAnswer → CtlAnswer → Type 0
-SameAnswer a b = (a ≡ b) ⊎ (IsTrue (is_refusal a) × IsTrue (is_refusal b))
+SameAnswer a b = (a ≡ b) ⊎ ((rule : ℕ) × (refused_rule a ≡ Some rule) × (refused_rule b ≡ Some rule))
 
 -- From two states of which the same is known, an event has the same answer, where memory is there, and the same is
 -- known then.

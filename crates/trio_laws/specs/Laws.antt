@@ -13,11 +13,11 @@ use Rattle.trio_lists.specs.Lists.{In, is_among}
 use Rattle.trio_layout.specs.Core.{page_of}
 use Rattle.trio_layout.specs.Entries.{Listed}
 use Rattle.trio_layout.specs.Survey.{Met, plain, FileRead, file_of, survey, numbers}
-use Rattle.trio_page.specs.Sheets.{sheet_numbers}
+use Rattle.trio_rights.specs.Sheets.{sheet_numbers}
 use Rattle.trio_layout.specs.Image.{Image, IsFit, row_at, settled_body}
 use Rattle.trio_layout.specs.Verifies.{Verifies}
 use Rattle.trio_state.specs.State.{State, settled, creds_of, covered}
-use Rattle.trio_layout.specs.Proposed.{Written, Bundle, is_written}
+use Rattle.trio_rights.specs.Bundle.{Written, Bundle, is_written}
 use Rattle.trio_layout.specs.Accept.{is_accepted, next}
 use Rattle.trio_state.specs.Bundles.{parted_hold, uncovered, refused_image, has_all}
 use Rattle.trio_state.specs.Tells.{Why, Tells}

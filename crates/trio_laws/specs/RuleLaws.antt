@@ -4,9 +4,9 @@ use Rattle.std.specs.Prelude.{◌≡◌, ◌↔◌, ℕ, None, IsTrue, IsFalse, 
 use Rattle.trio_layout.specs.Range.{is_core}
 use Rattle.trio_layout.specs.Core.{Location}
 use Rattle.trio_layout.specs.Image.{Image, row_at}
-use Rattle.trio_layout.specs.Proposed.{Bundle}
+use Rattle.trio_rights.specs.Bundle.{Bundle}
 use Rattle.trio_layout.specs.Accept.{is_accepted, next}
-use Rattle.trio_layout.specs.Case.{Case, case_of}
+use Rattle.trio_layout.specs.Case.{Case}
 use Rattle.trio_layout.specs.Listing.{Listing, listing}
 use Rattle.trio_layout.specs.Rules.{meets_grammar, meets_owning, meets_rights, meets_rules}
 use Rattle.trio_layout.specs.Broken.{Breaks}
@@ -16,16 +16,13 @@ use Rattle.trio_state.specs.State.{State, settled, creds_of}
 use Rattle.trio_state.specs.Bundles.{parted_hold}
 use Rattle.trio_state.specs.Kept.{Kept}
 use Rattle.trio_state.specs.Given.{GivenTo}
+use Rattle.trio_state.specs.Tells.{case_in}
 
 -- a bundle that is closed and was given to its library, in a kept state
 pub record IsJudgeable (s : State) (lib : ℕ) (b : Bundle) : Type 0 where
   pub kept : Kept s
   pub given : GivenTo s lib b
   pub closed : parted_hold s lib b ≡ None
-
--- the case of a library's bundle in a state
-abbrev pub case_in : State → ℕ → Bundle → Case
-case_in s lib b = case_of (settled s) (creds_of s lib) b
 
 -- such a bundle meets the four rules exactly where it is accepted
 abbrev pub RulesAreAccept : Type 0

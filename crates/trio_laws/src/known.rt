@@ -15,7 +15,7 @@ pub fn known_decides()
 {}
 
 /// From two states of which the same is known, an event has the same answer, where memory is there,
-/// but for what a refusal tells, and the same is known afterwards.
+/// but for the place that a refusal names, and the same is known afterwards.
 pub fn same_event_same_answer()
     ensures law { SameEventSameAnswer }
 {}

@@ -1,5 +1,5 @@
 -- Walks from several files on, level by level: each file is met once, and no file is missed.
-use Rattle.std.proofs.Common.{Bool, List, [], ap, arith, cond, eqb, false, inl, inr, length, not, refl, subst, suc, sym, true, zero, ℕ, ◌++◌, ◌+◌, ◌-◌, ◌<◌, ◌||◌, ◌∙◌, ◌∷◌, ◌≡◌, ◌≤◌, ◌⊎◌}
+use Rattle.std.proofs.Common.{Bool, List, [], ap, append_assoc, arith, cond, eqb, false, inl, inr, length, not, refl, subst, suc, sym, true, zero, ℕ, ◌++◌, ◌+◌, ◌-◌, ◌<◌, ◌||◌, ◌∙◌, ◌∷◌, ◌≡◌, ◌≤◌, ◌⊎◌}
 use Rattle.std.proofs.lemmas.Bool.{and_from, and_parts, cases_eq, cases_lt, eq-eqb, ne_eqb, not-true, or_right}
 use Rattle.std.proofs.lemmas.List.{append-nil, length-append, length-map, map-append, nil_from_length}
 use Rattle.std.proofs.lemmas.List.Concat.{flat_map-append}
@@ -189,7 +189,7 @@ fronts_listed kids starts (suc k) m i =
 
 -- ---- the same walk, one file after another
 
-pass_many-more : (kids : Met → List Met) (n m : ℕ) (f : Front) → pass_many kids m (pass_many kids n f) ≡ pass_many kids (n + m) f
+pub pass_many-more : (kids : Met → List Met) (n m : ℕ) (f : Front) → pass_many kids m (pass_many kids n f) ≡ pass_many kids (n + m) f
 pass_many-more kids zero m f = let e : m ≡ 0 + m = omega arith in ap (λ j. pass_many kids j f) e
 pass_many-more kids (suc n) m f =
     let e : suc (n + m) ≡ suc n + m = omega arith in pass_many-more kids n m (pass kids f) ∙ ap (λ j. pass_many kids j f) e
@@ -235,3 +235,41 @@ passed_are_fronts kids starts depth i files q h =
       | inr enough ↦ pass_many-after kids i m start (omega (arith, enough, h)) ended
     ] in
     ap (λ (f : Front). f.passed) (now ∙ same ∙ q)
+
+-- the files that are passed stay in front
+pass_many-keeps : (kids : Met → List Met) (n : ℕ) (f : Front) → (rest : List Met) × ((pass_many kids n f).passed ≡ f.passed ++ rest)
+pass_many-keeps kids zero f = ([], sym (append-nil f.passed))
+pass_many-keeps kids (suc n) f =
+    let one = pass_on-keeps kids f.passed f.level in
+    let more = pass_many-keeps kids n (pass kids f) in
+    (one.0 ++ more.0, more.1 ∙ ap (λ l. l ++ more.0) one.1 ∙ append_assoc f.passed one.0 more.0)
+  where
+    pass_on-keeps : (kids : Met → List Met) (done l : List Met) → (rest : List Met) × ((pass_on kids done l).passed ≡ done ++ rest)
+    pass_on-keeps kids done [] = ([], sym (append-nil done))
+    pass_on-keeps kids done (m ∷ ms) = (m ∷ [], refl)
+
+-- a file that waits is one of those of the levels, where there are enough of them
+pub waiting_in_fronts : (kids : Met → List Met) (starts : List Met) (depth i : ℕ) (done : List Met) (m : Met) (left : List Met) → pass_many kids i (record { passed = []; level = starts }) ≡ record { passed = done; level = m ∷ left } → i < depth → In m (fronts kids starts depth).passed
+waiting_in_fronts kids starts depth i done m left q h =
+    let start : Front = record { passed = []; level = starts } in
+    let n : ℕ = length (fronts kids starts depth).passed in
+    let now : fronts kids starts depth ≡ pass_many kids n start = fronts_pass kids starts depth in
+    let later : i < n =
+    elim (fronts_enough kids starts depth) [
+      | inl empty ↦
+          let at_n : (pass_many kids n start).level ≡ [] = ap (λ (f : Front). f.level) (sym now) ∙ empty in
+          elim (cases_lt i n) [
+            | inl lt ↦ lt
+            | inr le ↦
+                let none : m ∷ left ≡ [] = ap (λ (f : Front). f.level) (sym q) ∙ ap (λ (f : Front). f.level) (pass_many-after kids n i start le at_n) ∙ at_n in
+                absurd cc
+          ]
+      | inr enough ↦ omega (arith, enough, h)
+    ] in
+    let next : pass_many kids (i + 1) start ≡ record { passed = done ++ m ∷ []; level = left ++ first_listed (numbers (done ++ m ∷ left)) (kids m) } =
+    sym (pass_many-more kids i 1 start) ∙ ap (pass_many kids 1) q in
+    let there : n ≡ (i + 1) + (n - (i + 1)) = omega (arith, later) in
+    let rest = pass_many-keeps kids (n - (i + 1)) (pass_many kids (i + 1) start) in
+    let all : (fronts kids starts depth).passed ≡ (done ++ m ∷ []) ++ rest.0 =
+    ap (λ (f : Front). f.passed) (now ∙ ap (λ k. pass_many kids k start) there ∙ sym (pass_many-more kids (i + 1) (n - (i + 1)) start)) ∙ rest.1 ∙ ap (λ (f : Front). f.passed ++ rest.0) next in
+    subst (λ l. In m l) (sym all) (In-left m (done ++ m ∷ []) rest.0 (In-right m done (m ∷ []) (inl refl)))

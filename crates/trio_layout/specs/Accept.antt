@@ -6,7 +6,8 @@ use Rattle.trio_rights.specs.declared.rights.Creds.{Creds}
 use Rattle.trio_layout.specs.Survey.{Met, survey}
 use Rattle.trio_layout.specs.Sound.{is_sound, rows_table, owners_table}
 use Rattle.trio_layout.specs.Image.{Image}
-use Rattle.trio_layout.specs.Proposed.{Bundle, proposed, proposed_pick}
+use Rattle.trio_rights.specs.Bundle.{Bundle}
+use Rattle.trio_layout.specs.Proposed.{proposed, proposed_pick}
 use Rattle.trio_layout.specs.Allowed.{is_allowed}
 
 -- the survey of the proposed core is sound, and the change is allowed

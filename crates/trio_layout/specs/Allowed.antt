@@ -9,7 +9,7 @@ use Rattle.trio_lists.specs.Lists.{is_among}
 use Rattle.trio_layout.specs.Core.{Core}
 use Rattle.trio_layout.specs.Survey.{Met, row_of, pages_of}
 use Rattle.trio_layout.specs.Image.{Image, row_at, settled_body}
-use Rattle.trio_layout.specs.Proposed.{Bundle, bundle_pages, is_written}
+use Rattle.trio_rights.specs.Bundle.{Bundle, bundle_pages, is_written}
 use Rattle.trio_rights.specs.Kind.{same_kind}
 
 -- two rows say the same, or both are none

@@ -8,7 +8,7 @@ use Rattle.trio_lists.specs.Lists.{In, is_among}
 use Rattle.trio_layout.specs.Core.{Location, at_page, nowhere}
 use Rattle.trio_layout.specs.Survey.{Met, numbers}
 use Rattle.trio_layout.specs.Sound.{PageListing}
-use Rattle.trio_layout.specs.Proposed.{bundle_pages}
+use Rattle.trio_rights.specs.Bundle.{bundle_pages}
 use Rattle.trio_layout.specs.Case.{Case, file_in}
 use Rattle.trio_layout.specs.JudgedFiles.{judged_files, judged_entries, pages_within}
 use Rattle.trio_layout.specs.Listing.{Listing, ListedEntry, listing}

@@ -6,9 +6,9 @@ use Rattle.trio_layout.specs.declared.range.CoreRange.{CoreRange}
 use Rattle.trio_layout.specs.Core.{Core, Location}
 use Rattle.trio_layout.specs.Survey.{Met, FileRead}
 use Rattle.trio_layout.specs.Within.{file_within}
-use Rattle.trio_page.specs.Sheets.{with_pages}
+use Rattle.trio_rights.specs.Sheets.{with_pages}
 use Rattle.trio_layout.specs.Image.{Image, settled_body}
-use Rattle.trio_layout.specs.Proposed.{Bundle, bundle_sheets}
+use Rattle.trio_rights.specs.Bundle.{Bundle, bundle_sheets}
 
 -- a held file, with the body that its hold lent
 pub record Held : Type 0 where

@@ -2,7 +2,7 @@
 use Rattle.std.specs.Prelude.{ℕ, Bool, false, ◌||◌, List, Option, Some, None, if◌then◌else◌, length}
 use Rattle.trio_rights.specs.Row.{Row, row_in}
 use Rattle.trio_lists.specs.Lists.{is_among, tabulated}
-use Rattle.trio_layout.specs.Proposed.{Bundle, is_written}
+use Rattle.trio_rights.specs.Bundle.{Bundle, is_written}
 use Rattle.trio_layout.specs.Case.{Case}
 
 -- a row of a written or held file, or of a recorded child of a written one

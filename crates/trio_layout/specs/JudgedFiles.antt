@@ -5,7 +5,7 @@ use Rattle.trio_rights.specs.Row.{Row, row_in}
 use Rattle.trio_lists.specs.Lists.{is_among}
 use Rattle.trio_lists.specs.Sorting.{sorted_by}
 use Rattle.trio_layout.specs.Survey.{Met, Front, plain, children_in, descend, pages_in}
-use Rattle.trio_layout.specs.Proposed.{Written}
+use Rattle.trio_rights.specs.Bundle.{Written}
 use Rattle.trio_layout.specs.Case.{Case, file_in}
 
 -- a written file with its lease's body, at the place that its row names

@@ -8,7 +8,7 @@ use Rattle.trio_layout.specs.Body.{body_of}
 use Rattle.trio_lists.specs.Lists.{result_then, there_or}
 use Rattle.trio_layout.specs.Core.{Core, Location, nowhere, page_of}
 use Rattle.trio_layout.specs.Chain.{Chain, chain_of}
-use Rattle.trio_page.specs.Sheets.{Sheet}
+use Rattle.trio_rights.specs.Sheets.{Sheet}
 use Rattle.trio_layout.specs.Image.{Image, settled_body}
 
 -- the pages of these numbers

@@ -9,7 +9,7 @@ use Rattle.trio_layout.specs.declared.body.Body.{Body}
 use Rattle.trio_layout.specs.Body.{body_of}
 use Rattle.trio_layout.specs.Core.{Location}
 use Rattle.trio_layout.specs.Survey.{Met, FileRead, numbers}
-use Rattle.trio_layout.specs.Proposed.{bundle_pages, is_written}
+use Rattle.trio_rights.specs.Bundle.{bundle_pages, is_written}
 use Rattle.trio_layout.specs.Allowed.{has_kind}
 use Rattle.trio_layout.specs.Case.{Case, file_in}
 use Rattle.trio_layout.specs.JudgedFiles.{judged_files, judged_entries, judged_pages}

@@ -1,10 +1,7 @@
 -- The tree of an image, as the lines that are told of it: a directory before its children, children in the byte order of names.
 use Rattle.std.specs.Prelude.{ℕ, zero, suc, ◌+◌, Bool, true, false, List, [], ◌∷◌, length, if◌then◌else◌, Result, Ok, Err}
 use Rattle.std.specs.List.{flat_map}
-use Rattle.std.specs.Ordering.{nat_cmp}
-use Rattle.std.specs.Cmp.Lexicographic.{slice_cmp}
-use Rattle.std.specs.declared.cmp.Ordering.{Ordering}
-use Rattle.std.specs.declared.cmp.Ordering.TheVariants.{Less, Equal, Greater}
+use Rattle.trio_lists.specs.Sorting.{sorted_by_name}
 use Rattle.trio_rights.specs.declared.kind.Kind.{Kind}
 use Rattle.trio_rights.specs.declared.kind.Kind.TheVariants.{Regular, Directory}
 use Rattle.trio_rights.specs.declared.rights.Mode.{Mode}
@@ -22,21 +19,13 @@ pub record TreeLine : Type 0 where
   pub size : ℕ
   pub name : List ℕ
 
--- a name comes before another, or is it
-abbrev pub is_not_after : Ordering → Bool
-is_not_after Less = true
-is_not_after Equal = true
-is_not_after Greater = false
-
--- the entries with one more at its place in the order of names
-abbrev pub inserted : Listed → List Listed → List Listed
-inserted l [] = l ∷ []
-inserted l (k ∷ ks) = if is_not_after (slice_cmp nat_cmp l.entry.name k.entry.name) then l ∷ (k ∷ ks) else k ∷ inserted l ks
+-- the name of an entry
+abbrev pub listed_name : Listed → List ℕ
+listed_name l = l.entry.name
 
 -- the entries in the byte order of names
 abbrev pub by_name : List Listed → List Listed
-by_name [] = []
-by_name (l ∷ ls) = inserted l (by_name ls)
+by_name ls = sorted_by_name listed_name ls
 
 -- the size that is told: bytes of a regular file, entries of a directory
 abbrev pub told_size : Kind → FileRead → ℕ

@@ -1,14 +1,21 @@
 //! Bundles.
 
-ghost use Rattle.std.specs.Prelude.{◌≡◌, ◌++◌, ◌∷◌, ◌<◌, ◌≤◌, [], OnOk, IfErr, OnErr, IsOk, length};
+ghost use Rattle.std.specs.Prelude.{◌≡◌, ◌++◌, ◌∷◌, ◌<◌, ◌≤◌, ◌↔◌, ◌==◌, [], OnOk, IfErr, OnErr, IsOk, IfSome, IsSome, Some, length, slice_get, slice_set};
+ghost use Rattle.std.specs.List.{position};
+ghost use Rattle.std.specs.Option.{option_copied_mut};
+ghost use Rattle.std.specs.Borrow.{sem, LendsIf};
+ghost use Rattle.trio_page.specs.contracts.page.Page.{the_row as page_row};
+ghost use Rattle.trio_lease.specs.contracts.write.WriteLease.{the_row as lease_row};
+ghost use Rattle.trio_lease.specs.contracts.fresh.FreshPage.{the_row as fresh_row};
 ghost use Rattle.trio_lease.specs.Bundles.{HasRoom, NoRoomLost, bundled};
+ghost use Rattle.trio_lease.specs.Places.{bytes_at, bytes_of, place_in, with_bytes, with_bytes_at};
 
 use crate::fresh::{FreshIno, FreshPage, discard_inodes, discard_pages};
 use crate::hold::{HoldLease, discard_holds};
 use crate::write::{WriteLease, discard_writes};
 use std::alloc::Global;
 use std::marker::Model;
-use trio_page::NoMemory;
+use trio_page::{NoMemory, Page, PageNo};
 
 /// What a [`Bundle`] is made of.
 pub struct BundleParts {
@@ -39,7 +46,19 @@ impl Model for Bundle {
     ghost view = { λ b. record { writes = b.writes.items; holds = b.holds.items; pages = b.pages.items; inodes = b.inodes.items; room = record { writes = vec_capacity b.writes; holds = vec_capacity b.holds; pages = vec_capacity b.pages; inodes = vec_capacity b.inodes } } };
 }
 
+/// Where a page of a bundle stands. Each number is counted from 0.
+enum PagePlace {
+    /// Index page `at` of write lease `file`.
+    Index { file: usize, at: usize },
+    /// Block `at` of write lease `file`.
+    Block { file: usize, at: usize },
+    /// Allotted page `at`.
+    Fresh { at: usize },
+}
+
 impl Bundle {
+    ghost use Rattle.trio_lease.specs.contracts.bundle.Bundle.{the_row};
+
     /// The empty bundle. It takes no memory.
     pub fn new(alloc: Global) -> Bundle
         ensures { result ≡ record { writes = []; holds = []; pages = []; inodes = []; room = record { writes = 0; holds = 0; pages = 0; inodes = 0 } } }
@@ -222,5 +241,78 @@ impl Bundle {
         ensures { result.now ≡ self.now.inodes }
     {
         &self.inodes
+    }
+
+    /// The page of this number in the image, lent or allotted, for writing. `None` exactly where the
+    /// bundle has no such page. A lent block is marked as touched, whether anything is then written
+    /// or not. It takes no memory.
+    ///
+    /// Should a number stand more than once, the page is the first in the order of the write leases,
+    /// of each its index pages and then its blocks, and last of the allotted pages.
+    pub fn page_mut(&mut self, no: PageNo) -> Option<&mut Page>
+        ensures value { IfSome result (λ p. bytes_of self.old no ≡ Some p.now) }
+        ensures some { IsSome result ↔ IsSome (bytes_of self.old no) }
+        ensures* lends { sem 𝓛 (LendsIf the_row page_row self.entry result (λ w. with_bytes self.old no w) self.old) }
+    {
+        match self.place_of(no) {
+            Some(place) => self.page_at_mut(place),
+            None => None,
+        }
+    }
+
+    /// Where the page of this number stands, as [`page_mut`](Self::page_mut) looks for it.
+    #[tactic(auto, using(crate::proofs::Places::place_end))]
+    fn place_of(&self, no: PageNo) -> Option<PagePlace>
+        ensures { result ≡ place_in self.now no }
+    {
+        for file in 0..self.writes.len() {
+            let lease = &self.writes[file];
+            if let Some(at) = lease.index_place(no) {
+                return Some(PagePlace::Index { file, at });
+            }
+            if let Some(at) = lease.block_place(no) {
+                return Some(PagePlace::Block { file, at });
+            }
+        }
+        let at = self.fresh_place(no)?;
+        Some(PagePlace::Fresh { at })
+    }
+
+    /// The place of the first allotted page of this number.
+    fn fresh_place(&self, no: PageNo) -> Option<usize>
+        ensures { result ≡ position (λ p. p.no.0 == no.0) self.now.pages }
+    {
+        self.pages.iter().position(|page| page.no().0 == no.0)
+    }
+
+    /// The page at a place, for writing. `None` exactly where there is none. A lent block is marked
+    /// as touched.
+    #[tactic(auto, using(crate::proofs::Places::pages))]
+    fn page_at_mut(&mut self, place: PagePlace) -> Option<&mut Page>
+        ensures value { IfSome result (λ p. bytes_at self.old place ≡ Some p.now) }
+        ensures some { IsSome result ↔ IsSome (bytes_at self.old place) }
+        ensures* lends { sem 𝓛 (LendsIf the_row page_row self.entry result (λ w. with_bytes_at self.old place w) self.old) }
+    {
+        match place {
+            PagePlace::Index { file, at } => self.lease_mut(file)?.index_mut(at),
+            PagePlace::Block { file, at } => self.lease_mut(file)?.block_mut(at),
+            PagePlace::Fresh { at } => Some(self.fresh_mut(at)?.page_mut()),
+        }
+    }
+
+    /// Write lease `file`. `None` exactly where there is none.
+    fn lease_mut(&mut self, file: usize) -> Option<&mut WriteLease>
+        ensures lease { option_copied_mut result ≡ slice_get self.old.writes file }
+        ensures* lends { sem 𝓛 (LendsIf the_row lease_row self.entry result (λ l. record self.old { writes = slice_set self.old.writes file l }) self.old) }
+    {
+        self.writes.get_mut(file)
+    }
+
+    /// Allotted page `at`. `None` exactly where there is none.
+    fn fresh_mut(&mut self, at: usize) -> Option<&mut FreshPage>
+        ensures page { option_copied_mut result ≡ slice_get self.old.pages at }
+        ensures* lends { sem 𝓛 (LendsIf the_row fresh_row self.entry result (λ p. record self.old { pages = slice_set self.old.pages at p }) self.old) }
+    {
+        self.pages.get_mut(at)
     }
 }

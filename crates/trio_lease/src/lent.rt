@@ -6,6 +6,7 @@ ghost use Rattle.std.specs.Borrow.{sem, Lends, LendsIf};
 ghost use Rattle.trio_page.specs.contracts.page.Page.{the_row as page_row};
 ghost use Rattle.trio_lease.specs.contracts.parts.LentPage.{the_row as lent_row};
 ghost use Rattle.trio_lease.specs.Shown.{page_at, no_at, touched_at, lent_at, with_page, with_touched};
+ghost use Rattle.trio_lease.specs.Places.{place_among};
 
 use crate::parts::LentPage;
 use std::marker::Model;
@@ -42,6 +43,13 @@ impl LentPages {
         pages
     }
 
+    /// How many pages there are.
+    pub fn len(&self) -> usize
+        ensures { result ≡ length self.now }
+    {
+        self.pages.len()
+    }
+
     /// Page `i`. `None` exactly where the list has no such page.
     pub fn page(&self, i: usize) -> Option<&Page>
         ensures { option_copied result ≡ page_at self.now i }
@@ -61,6 +69,13 @@ impl LentPages {
         ensures { result ≡ touched_at self.now i }
     {
         Some(self.pages.get(i)?.touched)
+    }
+
+    /// The place of the first page of this number in the image, counted from 0.
+    pub fn place_of(&self, no: PageNo) -> Option<usize>
+        ensures { result ≡ place_among self.now no }
+    {
+        self.pages.iter().position(|page| page.no.0 == no.0)
     }
 
     /// Page `i`, for writing. `None` exactly where the list has no such page.

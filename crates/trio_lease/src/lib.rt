@@ -22,7 +22,7 @@
 //! Only [`Bundle::reserve`] and the `add_` calls of a [`Bundle`] take memory.
 //!
 //! `specs/Shown.antt` has what contracts see of a lease, `specs/Bundles.antt` what they see of a
-//! bundle.
+//! bundle, `specs/Places.antt` where the pages of a bundle stand.
 #![tactic(auto)]
 
 mod bundle;

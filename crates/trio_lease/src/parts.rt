@@ -11,10 +11,11 @@ pub struct LentPage {
     /// The page's number in the image.
     pub no: PageNo,
     pub page: Page,
-    /// Whether its holder has asked for the page for writing ([`WriteLease::block_mut`]). No index
-    /// page is ever marked.
+    /// Whether its holder has asked for the page for writing ([`WriteLease::block_mut`],
+    /// [`Bundle::page_mut`]). No index page is ever marked.
     ///
     /// [`WriteLease::block_mut`]: crate::WriteLease::block_mut
+    /// [`Bundle::page_mut`]: crate::Bundle::page_mut
     pub touched: bool,
 }
 

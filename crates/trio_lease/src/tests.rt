@@ -1,7 +1,8 @@
-ghost use Rattle.std.specs.Prelude.{◌≡◌, ◌<◌, ◌↔◌, ◌∷◌, [], IsTrue, IfOk, length};
+ghost use Rattle.std.specs.Prelude.{◌≡◌, ◌<◌, ◌↔◌, ◌∷◌, ℕ, List, [], IsTrue, IsFalse, IsSome, Some, IfOk, length};
 ghost use Rattle.std.specs.Int.{w64};
 ghost use Rattle.trio_page.specs.Field.{with_number};
 ghost use Rattle.trio_lease.specs.Shown.{lent_at, with_page, with_touched};
+ghost use Rattle.trio_lease.specs.Places.{bytes_of, with_bytes};
 
 use super::*;
 use std::alloc::Global;
@@ -19,19 +20,27 @@ fn lent_page(alloc: Global, no: u32, first: u64) -> Result<LentPage, NoMemory> {
     })
 }
 
-/// A lease on file 7 with index page 20 and blocks 30 and 31, each of which begins with its number.
-fn write_lease(alloc: Global) -> Result<WriteLease, NoMemory> {
-    let index = vec![in alloc; lent_page(alloc, 20, 20)?]?;
-    let blocks = vec![in alloc; lent_page(alloc, 30, 30)?, lent_page(alloc, 31, 31)?]?;
-    Ok(WriteLease::of(WriteParts {
+/// A file with one index page and two blocks, each of which begins with its number.
+fn file(alloc: Global, ino: u32, index: u32, blocks: [u32; 2]) -> Result<WriteParts, NoMemory> {
+    let [first, second] = blocks;
+    let index = vec![in alloc; lent_page(alloc, index, u64::from(index))?]?;
+    let first = lent_page(alloc, first, u64::from(first))?;
+    let second = lent_page(alloc, second, u64::from(second))?;
+    let blocks = vec![in alloc; first, second]?;
+    Ok(WriteParts {
         lib: LibNo(2),
-        ino: 7,
+        ino,
         kind: Kind::Regular,
         entry: 5,
         body: [9; 64],
         index,
         blocks,
-    }))
+    })
+}
+
+/// A lease on file 7 with index page 20 and blocks 30 and 31, each of which begins with its number.
+fn write_lease(alloc: Global) -> Result<WriteLease, NoMemory> {
+    Ok(WriteLease::of(file(alloc, 7, 20, [30, 31])?))
 }
 
 /// Writes a number into a block, and answers whether there is such a block.
@@ -56,6 +65,21 @@ fn link(lease: &mut WriteLease, i: usize, v: u64) -> bool
     ensures lent { lease.new.lent ≡ lease.old.lent }
 {
     match lease.index_mut(i) {
+        Some(page) => {
+            page.put_u64(8, v);
+            true
+        }
+        None => false,
+    }
+}
+
+/// Writes a number into the page of this number, and answers whether there is such a page.
+fn put(bundle: &mut Bundle, no: PageNo, v: u64) -> bool
+    ensures there { IsTrue result ↔ IsSome (bytes_of bundle.old no) }
+    ensures done { (bytes : List ℕ) → bytes_of bundle.old no ≡ Some bytes → bundle.new ≡ with_bytes bundle.old no (with_number w64 8 v bytes) }
+    ensures kept { IsFalse result → bundle.new ≡ bundle.old }
+{
+    match bundle.page_mut(no) {
         Some(page) => {
             page.put_u64(8, v);
             true
@@ -221,5 +245,46 @@ fn a_bundle_has_what_was_added(rt: HostRuntime) -> Result<(), Fail> {
         };
         Bundle::of(rest).discard();
     }
+    Ok(())
+}
+
+/// Whether a page has this number in its bytes at 8.
+fn has(page: Option<&Page>, written: u64) -> bool {
+    match page {
+        Some(page) => page.u64_at(8) == written,
+        None => false,
+    }
+}
+
+#[test]
+fn a_bundle_finds_its_pages_by_their_numbers(rt: HostRuntime) -> Result<(), Fail> {
+    let first = file(rt.alloc(), 7, 20, [30, 31])?;
+    let second = file(rt.alloc(), 8, 40, [30, 41])?;
+    let first_page = Page::zero(rt.alloc())?;
+    let second_page = Page::zero(rt.alloc())?;
+    let mut bundle = Bundle::new(rt.alloc());
+    assert!(rt; add_each(&mut bundle, WriteLease::of(first), fresh_page(first_page)));
+    assert!(rt; add_each(&mut bundle, WriteLease::of(second), fresh_page(second_page)));
+    for (no, there) in [
+        (20, true),
+        (30, true),
+        (40, true),
+        (41, true),
+        (50, true),
+        (60, false),
+    ] {
+        assert!(rt; put(&mut bundle, PageNo(no), u64::from(no)) == there);
+    }
+
+    assert!(rt; bundle.writes().len() == 2 && bundle.pages().len() == 2);
+    let first = &bundle.writes()[0];
+    assert!(rt; has(first.index(0), 20) && has(first.block(0), 30) && has(first.block(1), 0));
+    assert!(rt; first.block_touched(0) == Some(true) && first.block_touched(1) == Some(false));
+    let second = &bundle.writes()[1];
+    assert!(rt; has(second.index(0), 40) && has(second.block(0), 0) && has(second.block(1), 41));
+    assert!(rt; second.block_touched(0) == Some(false) && second.block_touched(1) == Some(true));
+    assert!(rt; has(Some(bundle.pages()[0].page()), 50));
+    assert!(rt; has(Some(bundle.pages()[1].page()), 0));
+    bundle.discard();
     Ok(())
 }

@@ -5,6 +5,7 @@ ghost use Rattle.std.specs.Option.{option_copied};
 ghost use Rattle.std.specs.Borrow.{sem, Lends, LendsIf, Array, u8 as byte};
 ghost use Rattle.trio_page.specs.contracts.page.Page.{the_row as page_row};
 ghost use Rattle.trio_lease.specs.Shown.{shown, page_at, no_at, touched_at, lent_at, with_page, with_touched};
+ghost use Rattle.trio_lease.specs.Places.{place_among};
 
 use crate::lent::LentPages;
 use crate::parts::{WriteParts, whole};
@@ -142,6 +143,20 @@ impl WriteLease {
         &mut self.body
     }
 
+    /// How many index pages the lease has.
+    pub fn index_len(&self) -> usize
+        ensures { result ≡ length self.now.stands.index }
+    {
+        self.index.len()
+    }
+
+    /// How many blocks the lease has.
+    pub fn blocks_len(&self) -> usize
+        ensures { result ≡ length self.now.stands.blocks }
+    {
+        self.blocks.len()
+    }
+
     /// Index page `i`, counted from 0 in the order of the chain. `None` exactly where the lease
     /// has no such page.
     pub fn index(&self, i: usize) -> Option<&Page>
@@ -189,6 +204,20 @@ impl WriteLease {
         ensures { result ≡ no_at self.now.stands.blocks i }
     {
         self.blocks.no(i)
+    }
+
+    /// The place of the first index page of this number in the image, counted from 0.
+    pub(crate) fn index_place(&self, no: PageNo) -> Option<usize>
+        ensures { result ≡ place_among self.now.stands.index no }
+    {
+        self.index.place_of(no)
+    }
+
+    /// The place of the first block of this number in the image, counted from 0.
+    pub(crate) fn block_place(&self, no: PageNo) -> Option<usize>
+        ensures { result ≡ place_among self.now.stands.blocks no }
+    {
+        self.blocks.place_of(no)
     }
 
     /// Whether block `i` is marked as touched. `None` exactly where the lease has no such page.

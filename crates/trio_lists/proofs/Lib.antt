@@ -6,3 +6,5 @@ pub mod Marked
 pub mod Gathered
 pub mod Counting
 pub mod Sorting
+pub mod Stable
+pub mod ByName

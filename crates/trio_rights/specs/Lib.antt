@@ -3,3 +3,5 @@ pub mod ByKind
 pub mod Rights
 pub mod Row
 pub mod May
+pub mod Sheets
+pub mod Bundle

@@ -12,11 +12,11 @@ use Rattle.trio_layout.specs.Body.{body_bytes, body_of}
 use Rattle.trio_layout.specs.Slot.{entry_bytes, slot_of}
 use Rattle.trio_layout.specs.Index.{index_bytes, index_of}
 use Rattle.trio_layout.specs.Entries.{entries_on}
-use Rattle.trio_page.specs.Sheets.{Sheet}
+use Rattle.trio_rights.specs.Sheets.{Sheet}
 use Rattle.trio_layout.specs.Survey.{file_of, survey}
 use Rattle.trio_layout.specs.Image.{Image}
 use Rattle.trio_layout.specs.Verifies.{Verifies}
-use Rattle.trio_layout.specs.Proposed.{Bundle, Written}
+use Rattle.trio_rights.specs.Bundle.{Bundle, Written}
 use Rattle.trio_layout.specs.Accept.{is_accepted}
 use Rattle.trio_layout.specs.Case.{Case, Held}
 use Rattle.trio_layout.specs.Within.{file_within}

@@ -9,8 +9,8 @@ use Rattle.trio_layout.specs.Slot.{entry_bytes, slot_of}
 use Rattle.trio_layout.specs.Index.{index_bytes, index_of}
 use Rattle.trio_layout.specs.Entries.{entries_on}
 use Rattle.trio_layout.specs.Survey.{survey, file_of}
-use Rattle.trio_page.specs.Sheets.{Sheet}
-use Rattle.trio_layout.specs.Proposed.{Bundle, Written}
+use Rattle.trio_rights.specs.Sheets.{Sheet}
+use Rattle.trio_rights.specs.Bundle.{Bundle, Written}
 use Rattle.trio_layout.specs.Accept.{is_accepted, next}
 use Rattle.trio_state.proofs.WorkedImages.{directory_body, empty_body, short_body, file_entry, directory_entry, one_number, slots_page, image}
 

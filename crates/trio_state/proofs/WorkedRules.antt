@@ -14,9 +14,9 @@ use Rattle.trio_layout.specs.Image.{Image}
 use Rattle.trio_layout.specs.Index.{index_bytes, index_of}
 use Rattle.trio_layout.specs.JudgedFiles.{judged_files}
 use Rattle.trio_layout.specs.Listing.{ListedEntry, listing}
-use Rattle.trio_layout.specs.Proposed.{Bundle, Written}
+use Rattle.trio_rights.specs.Bundle.{Bundle, Written}
 use Rattle.trio_layout.specs.Rules.{meets_grammar, meets_owning, meets_rights, meets_rules}
-use Rattle.trio_page.specs.Sheets.{Sheet}
+use Rattle.trio_rights.specs.Sheets.{Sheet}
 use Rattle.trio_layout.specs.Slot.{entry_bytes, slot_of}
 use Rattle.trio_layout.specs.Sound.{owners_table, rows_table}
 use Rattle.trio_layout.specs.Survey.{file_of, numbers, plain, survey}

@@ -4,7 +4,7 @@ use Rattle.std.specs.List.{list_any}
 use Rattle.trio_rights.specs.declared.rights.LibNo.{LibNo}
 use Rattle.trio_tables.specs.Free.{free_pages as free_of_owners, free_numbers as free_of_rows}
 use Rattle.trio_tables.specs.Out.{with_all}
-use Rattle.trio_page.specs.Sheets.{without_pages}
+use Rattle.trio_rights.specs.Sheets.{without_pages}
 use Rattle.trio_layout.specs.Image.{with_core_pages}
 use Rattle.trio_state.specs.State.{State, logged}
 

@@ -5,11 +5,11 @@ use Rattle.trio_rights.specs.declared.kind.Kind.{Kind}
 use Rattle.trio_rights.specs.ByKind.{covers_blocks}
 use Rattle.trio_rights.specs.Row.{Row}
 use Rattle.trio_lists.specs.Lists.{In, is_among}
-use Rattle.trio_page.specs.Sheets.{Sheet, sheet_numbers, with_pages}
+use Rattle.trio_rights.specs.Sheets.{Sheet, sheet_numbers, with_pages}
 use Rattle.trio_layout.specs.Image.{Image, row_at, with_core_pages}
 use Rattle.trio_state.specs.State.{OpenGrant, State, settled}
 use Rattle.trio_nodes.specs.GrantKinds.{is_write, is_read, is_hold}
-use Rattle.trio_layout.specs.Proposed.{Bundle, bundle_pages, is_written}
+use Rattle.trio_rights.specs.Bundle.{Bundle, bundle_pages, is_written}
 use Rattle.trio_state.specs.Allotments.{out_after, has_none_out}
 
 -- ---- closed bundles

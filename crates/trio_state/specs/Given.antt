@@ -5,9 +5,9 @@ use Rattle.trio_tables.specs.Out.{lib_at}
 use Rattle.trio_nodes.specs.declared.grant.GrantKind.TheVariants.{Read, Write, Hold}
 use Rattle.trio_nodes.specs.declared.grant.GrantKind.{GrantKind}
 use Rattle.trio_lists.specs.Lists.{In, are_new}
-use Rattle.trio_page.specs.Sheets.{Sheet, sheet_numbers}
+use Rattle.trio_rights.specs.Sheets.{Sheet, sheet_numbers}
 use Rattle.trio_state.specs.State.{OpenGrant, State}
-use Rattle.trio_layout.specs.Proposed.{Written, Bundle, bundle_sheets}
+use Rattle.trio_rights.specs.Bundle.{Written, Bundle, bundle_sheets}
 use Rattle.trio_state.specs.Step.{Event, Grant, Allot, Back, Release, Settle, SetMode}
 
 -- the library has an open grant of this kind on the file

@@ -11,7 +11,7 @@ use Rattle.trio_nodes.specs.declared.grant.GrantKind.TheVariants.{Read, Write, H
 use Rattle.trio_nodes.specs.declared.grant.Holder.{Holder}
 use Rattle.trio_nodes.specs.declared.answers.GrantFault.{GrantFault}
 use Rattle.trio_nodes.specs.declared.answers.GrantFault.TheVariants.{NotLive, Denied, NoParent, Busy}
-use Rattle.trio_page.specs.Sheets.{Sheet, without_pages, sheet_numbers}
+use Rattle.trio_rights.specs.Sheets.{Sheet, without_pages, sheet_numbers}
 use Rattle.trio_layout.specs.Chain.{Chain}
 use Rattle.trio_layout.specs.Core.{Core, Location}
 use Rattle.trio_layout.specs.Pages.{settled_chain, index_sheets, block_sheets}

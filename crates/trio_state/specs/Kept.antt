@@ -6,7 +6,7 @@ use Rattle.trio_nodes.specs.declared.grant.GrantKind.TheVariants.{Write, Hold}
 use Rattle.trio_lists.specs.Lists.{In, is_among}
 use Rattle.trio_layout.specs.Range.{is_core}
 use Rattle.trio_layout.specs.Survey.{Met, plain, survey, FileRead, file_of}
-use Rattle.trio_page.specs.Sheets.{sheet_numbers}
+use Rattle.trio_rights.specs.Sheets.{sheet_numbers}
 use Rattle.trio_layout.specs.Image.{Image, IsFit, row_at, settled_body}
 use Rattle.trio_layout.specs.Verifies.{Verifies}
 use Rattle.trio_state.specs.State.{OpenGrant, State, settled, covered}

@@ -7,4 +7,3 @@ pub mod Step
 pub mod Kept
 pub mod Given
 pub mod Run
-pub mod Views

@@ -6,7 +6,7 @@ use Rattle.trio_rights.specs.declared.rights.Creds.{Creds}
 use Rattle.trio_rights.specs.declared.rights.LibNo.{LibNo}
 use Rattle.trio_nodes.specs.declared.grant.GrantKind.{GrantKind}
 use Rattle.trio_nodes.specs.declared.grant.GrantKind.TheVariants.{Read, Write, Hold}
-use Rattle.trio_page.specs.Sheets.{Sheet, with_pages}
+use Rattle.trio_rights.specs.Sheets.{Sheet, with_pages}
 use Rattle.trio_layout.specs.Pages.{covered_of}
 use Rattle.trio_layout.specs.Image.{Image, with_core_pages}
 

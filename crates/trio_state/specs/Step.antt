@@ -10,7 +10,7 @@ use Rattle.trio_nodes.specs.declared.answers.ModeFault.{ModeFault}
 use Rattle.trio_nodes.specs.declared.answers.ModeFault.TheVariants.{NotLive, NotOwner, BadMode, Busy}
 use Rattle.trio_layout.specs.Image.{row_at}
 use Rattle.trio_state.specs.State.{OpenGrant, State, settled, creds_of, logged}
-use Rattle.trio_layout.specs.Proposed.{Bundle}
+use Rattle.trio_rights.specs.Bundle.{Bundle}
 use Rattle.trio_layout.specs.Accept.{is_accepted, next}
 use Rattle.trio_layout.specs.Mode.{image_with_mode}
 use Rattle.trio_state.specs.Grants.{grant_fault, opened, opens, told_children, given_back, holder_of}

@@ -14,7 +14,8 @@ use Rattle.trio_layout.specs.Core.{Core, at_page, nowhere, page_of}
 use Rattle.trio_layout.specs.Chain.{Chain, chain_from, chain_of, index_page, with_index}
 use Rattle.trio_layout.specs.Entries.{entries_of_kind}
 use Rattle.trio_layout.specs.Survey.{Met, FileRead, file_of, file_with}
-use Rattle.trio_survey.proofs.Fits.{if_ok_then, if_ok_map, if_ok_at, if_ok_weaker, there_some, and_then_some, cond_some, cond_there}
+use Rattle.trio_layout.proofs.EntryNumbers.{if_ok_then, if_ok_map, if_ok_at, if_ok_weaker}
+use Rattle.trio_survey.proofs.Fits.{there_some, and_then_some, cond_some, cond_there}
 
 index_numbers : (used : ℕ) (last : Bool) (range : CoreRange) (page : List ℕ) (i : Index) → index_of used last range page ≡ Some i → list_all (is_core range) i.numbers ≡ true
 unfolding index_of

@@ -1,45 +1,24 @@
 -- The numbers that a file in the grammar lists are numbers of its image.
-use Rattle.std.proofs.Common.{◌≡◌, ℕ, suc, zero, ◌+◌, ◌-◌, min, Bool, true, false, ◌&&◌, cond, eqb, ltb, leb, List, [], ◌∷◌, map, take, Option, Some, None, Result, Ok, Err, IfOk, sym, refl, ap, ◌∙◌, arith}
+use Rattle.std.proofs.Common.{◌≡◌, ℕ, suc, zero, ◌+◌, ◌-◌, min, Bool, true, false, ◌&&◌, cond, eqb, ltb, leb, List, [], ◌∷◌, map, Option, Some, None, Ok, IfOk, sym, refl, ap, ◌∙◌}
 use Rattle.std.specs.List.{list_all}
 use Rattle.std.specs.Str.{bytes_eq}
 use Rattle.std.specs.Option.{option_and_then}
 use Rattle.std.proofs.lemmas.List.Folds.{list_all-append, list_all-map}
 use Rattle.std.proofs.lemmas.Bool.{and_parts, and_from}
-use Rattle.std.proofs.lemmas.Bool.Decides.{nat_tests}
-use Rattle.trio_names.specs.Name.{is_name}
 use Rattle.trio_rights.specs.declared.kind.Kind.{Kind}
 use Rattle.trio_rights.specs.declared.kind.Kind.TheVariants.{Regular, Directory}
 use Rattle.trio_layout.specs.declared.range.CoreRange.{CoreRange}
-use Rattle.trio_layout.specs.declared.slot.EntryPart.{EntryPart}
-use Rattle.trio_layout.specs.declared.slot.SlotRead.{SlotRead}
-use Rattle.trio_layout.specs.declared.slot.SlotRead.TheVariants.{Empty, Entry, Bad}
 use Rattle.trio_layout.specs.Range.{is_core}
 use Rattle.trio_layout.specs.Body.{body_of}
-use Rattle.trio_layout.specs.Slot.{slot_of, entry_at, entry_bytes, entry_fits}
 use Rattle.trio_layout.specs.Index.{Index, index_at, index_bytes, index_fits, link_fits, index_of}
-use Rattle.trio_lists.specs.Lists.{result_map, result_then, both, gathered, gathered_below, there_or}
+use Rattle.trio_lists.specs.Lists.{result_map, result_then, gathered, there_or}
 use Rattle.trio_lists.specs.Marked.{all_below}
 use Rattle.trio_layout.specs.Core.{Core, Location, at_page, nowhere, page_of}
 use Rattle.trio_layout.specs.Chain.{Chain, chain_from, chain_of, index_page, with_index}
-use Rattle.trio_layout.specs.Entries.{Listed, body_in_slot, slot_bytes, listed_at, slot_entries, entries_on, page_entries, unless_repeated, repeated_name, with_names_apart, entries_of_kind}
+use Rattle.trio_layout.specs.Entries.{Listed, entries_on, page_entries, repeated_name, with_names_apart, entries_of_kind}
 use Rattle.trio_layout.specs.Survey.{Met, FileRead, file_of, file_with}
+use Rattle.trio_layout.proofs.EntryNumbers.{AreInodes, entries_on_fit, gathered_all, if_ok_at, if_ok_map, if_ok_then, if_ok_weaker, is_inode, unless_repeated_fit}
 use Rattle.trio_survey.specs.Within.{IsWithin, all_some}
-
--- what holds of each answer of the steps
-pub if_ok_then : {X Y E : Type 0} (r : Result X E) (g : X → Result Y E) (P : Y → Type 0) → ((x : X) → r ≡ Ok x → IfOk (g x) P) → IfOk (result_then g r) P
-if_ok_then (Err e) g P h = tt
-if_ok_then (Ok x) g P h = h x refl
-
-pub if_ok_map : {X Y E : Type 0} (r : Result X E) (f : X → Y) (P : Y → Type 0) → IfOk r (λ x. P (f x)) → IfOk (result_map f r) P
-if_ok_map (Err e) f P h = tt
-if_ok_map (Ok x) f P h = h
-
-pub if_ok_at : {X E : Type 0} (r : Result X E) (x : X) (P : X → Type 0) → r ≡ Ok x → IfOk r P → P x
-if_ok_at r x P e h = rw e at h
-
-pub if_ok_weaker : {X E : Type 0} (r : Result X E) (P Q : X → Type 0) → ((x : X) → P x → Q x) → IfOk r P → IfOk r Q
-if_ok_weaker (Err e) P Q w h = tt
-if_ok_weaker (Ok x) P Q w h = w x h
 
 pub there_some : {X : Type 0} (place : Location) (o : Option X) (x : X) → there_or place o ≡ Ok x → o ≡ Some x
 there_some place None x e = absurd cc
@@ -101,64 +80,6 @@ chain_fits core (suc n) blocks at =
       list_all-append (λ x. ltb x end) i.numbers c.blocks ∙ and_from (all_below end i.numbers) (all_below end c.blocks) here.1 h.1,
     ))
     (chain_fits core n (blocks - 511) i.next)))
-
--- an inode number of the image
-abbrev pub is_inode : ℕ → ℕ → Bool
-is_inode inodes n = ltb 0 n && ltb n (inodes + 1)
-
--- these entries have inode numbers of the image
-abbrev pub AreInodes : ℕ → List Listed → Type 0
-AreInodes inodes ls = list_all (λ l. is_inode inodes l.entry.ino) ls ≡ true
-
-slot_case : (zero' good : Bool) (e e' : EntryPart) → cond zero' Empty (cond good (Entry e) Bad) ≡ Entry e' → (good ≡ true) × (e ≡ e')
-slot_case true good e e' h = absurd cc
-slot_case false true e e' h = (refl, cc)
-slot_case false false e e' h = absurd cc
-
-slot_entry_fits : (inodes : ℕ) (bytes : List ℕ) (e : EntryPart) → slot_of inodes bytes ≡ Entry e → is_inode inodes e.ino ≡ true
-unfolding slot_of
-slot_entry_fits inodes bytes e h =
-    let d : EntryPart = entry_at bytes in
-    let spelled : Bool = bytes_eq (take 192 bytes) (entry_bytes d) in
-    let c = slot_case (eqb d.ino 0) (spelled && entry_fits inodes d) d e h in
-    let fits = (and_parts spelled (entry_fits inodes d) c.0).1 in
-    let two = (and_parts (ltb 0 d.ino && leb d.ino inodes) (is_name d.name) fits).0 in
-    let some : ltb 0 d.ino ≡ true = (and_parts (ltb 0 d.ino) (leb d.ino inodes) two).0 in
-    let le : leb d.ino inodes ≡ true = (and_parts (ltb 0 d.ino) (leb d.ino inodes) two).1 in
-    let lt : ltb d.ino (inodes + 1) ≡ true = grind (arith, nat_tests) in
-    ap (λ (x : EntryPart). is_inode inodes x.ino) (sym c.1) ∙ and_from (ltb 0 d.ino) (ltb d.ino (inodes + 1)) some lt
-
-listed_fits : (inodes page slot : ℕ) (body : List ℕ) (r : SlotRead) → ((e : EntryPart) → r ≡ Entry e → is_inode inodes e.ino ≡ true) → IfOk (listed_at page slot body r) (AreInodes inodes)
-listed_fits inodes page slot body Empty h = refl
-listed_fits inodes page slot body Bad h = tt
-listed_fits inodes page slot body (Entry e) h = and_from (is_inode inodes e.ino) true (h e refl) refl
-
-slot_fits : (inodes page : ℕ) (bytes : List ℕ) (slot : ℕ) → IfOk (slot_entries inodes page bytes slot) (AreInodes inodes)
-slot_fits inodes page bytes slot =
-    let part : List ℕ = slot_bytes slot bytes in
-    listed_fits inodes page slot (body_in_slot slot bytes) (slot_of inodes part) (slot_entry_fits inodes part)
-
-both_all : {X E : Type 0} (p : X → Bool) (q r : Result (List X) E) → IfOk q (λ xs. list_all p xs ≡ true) → IfOk r (λ xs. list_all p xs ≡ true) → IfOk (both q r) (λ xs. list_all p xs ≡ true)
-both_all p (Err e) r h k = tt
-both_all p (Ok xs) (Err e) h k = tt
-both_all p (Ok xs) (Ok ys) h k = list_all-append p xs ys ∙ and_from (list_all p xs) (list_all p ys) h k
-
-gathered_below_all : {X E : Type 0} (p : X → Bool) (f : ℕ → Result (List X) E) → ((k : ℕ) → IfOk (f k) (λ xs. list_all p xs ≡ true)) → (n : ℕ) → IfOk (gathered_below f n) (λ xs. list_all p xs ≡ true)
-gathered_below_all p f h zero = refl
-gathered_below_all p f h (suc n) = both_all p (gathered_below f n) (f n) (gathered_below_all p f h n) (h n)
-
-gathered_all : {X Y E : Type 0} (p : Y → Bool) (f : X → Result (List Y) E) → ((x : X) → IfOk (f x) (λ ys. list_all p ys ≡ true)) → (xs : List X) → IfOk (gathered f xs) (λ ys. list_all p ys ≡ true)
-gathered_all p f h [] = refl
-gathered_all p f h (x ∷ xs) = both_all p (f x) (gathered f xs) (h x) (gathered_all p f h xs)
-
-entries_on_fit : (inodes page : ℕ) (bytes : List ℕ) → IfOk (entries_on inodes page bytes) (AreInodes inodes)
-unfolding entries_on
-entries_on_fit inodes page bytes =
-    gathered_below_all (λ l. is_inode inodes l.entry.ino) (slot_entries inodes page bytes) (slot_fits inodes page bytes) 16
-
-unless_repeated_fit : (inodes : ℕ) (ls : List Listed) (o : Option Location) → AreInodes inodes ls → IfOk (unless_repeated ls o) (AreInodes inodes)
-unless_repeated_fit inodes ls None h = h
-unless_repeated_fit inodes ls (Some p) h = tt
 
 pub entries_fit : (core : Core) (kind : Kind) (blocks : List ℕ) → IfOk (entries_of_kind core kind blocks) (AreInodes core.inodes)
 entries_fit core Regular blocks = refl

@@ -18,7 +18,7 @@ then_same : {X Y E : Type 0} (f g : X → Result Y E) (r : Result X E) → ((x :
 then_same f g (Ok x) h = h x
 then_same f g (Err e) h = refl
 
-chain_rootless : (core : Core) (n blocks at : ℕ) → chain_from core n blocks at ≡ chain_from (rootless core) n blocks at
+pub chain_rootless : (core : Core) (n blocks at : ℕ) → chain_from core n blocks at ≡ chain_from (rootless core) n blocks at
 chain_rootless core zero blocks at = refl
 chain_rootless core (suc n) blocks at =
     then_same (λ i. result_map (with_index at i) (chain_from core n (blocks - 511) i.next)) (λ i. result_map (with_index at i) (chain_from (rootless core) n (blocks - 511) i.next))

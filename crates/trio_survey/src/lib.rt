@@ -30,6 +30,3 @@ pub use fault::SurveyFault;
 pub use picks::{Picked, Picks};
 pub use verdict::{verify, verify_found};
 pub use whole::{Found, survey, survey_picked};
-
-#[cfg(test)]
-mod tests;

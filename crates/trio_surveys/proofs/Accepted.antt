@@ -12,8 +12,9 @@ use Rattle.trio_layout.specs.Survey.{Met, Pick, plain, file_of, survey, pages_of
 use Rattle.trio_layout.specs.Accept.{is_accepted, next, with_bodies}
 use Rattle.trio_layout.specs.Allowed.{is_allowed}
 use Rattle.trio_layout.specs.Image.{IsFit, Image}
-use Rattle.trio_layout.specs.Proposed.{Bundle, bundle_sheets, proposed, proposed_pick}
-use Rattle.trio_page.specs.Sheets.{Sheet}
+use Rattle.trio_rights.specs.Bundle.{Bundle, bundle_sheets}
+use Rattle.trio_layout.specs.Proposed.{proposed, proposed_pick}
+use Rattle.trio_rights.specs.Sheets.{Sheet}
 use Rattle.trio_layout.specs.Verifies.{Verifies}
 use Rattle.trio_lists.proofs.Tabulated.{tabulated-same}
 use Rattle.trio_lists.proofs.Filters.{find-In}

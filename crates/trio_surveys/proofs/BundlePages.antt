@@ -8,9 +8,10 @@ use Rattle.trio_lists.specs.Lists.{In}
 use Rattle.trio_layout.specs.Range.{is_core}
 use Rattle.trio_layout.specs.Core.{Core, page_of}
 use Rattle.trio_rights.specs.declared.rights.Creds.{Creds}
-use Rattle.trio_page.specs.Sheets.{Sheet, sheet_numbers, with_pages}
+use Rattle.trio_rights.specs.Sheets.{Sheet, sheet_numbers, with_pages}
 use Rattle.trio_layout.specs.Image.{Image}
-use Rattle.trio_layout.specs.Proposed.{Bundle, bundle_sheets, bundle_pages, proposed}
+use Rattle.trio_rights.specs.Bundle.{Bundle, bundle_sheets, bundle_pages}
+use Rattle.trio_layout.specs.Proposed.{proposed}
 use Rattle.trio_surveys.proofs.SheetLaws.{get-set_same}
 use Rattle.trio_surveys.proofs.Sheets.{Pages, among_cases, with_pages_apart, page_there, page_from, place_there}
 use Rattle.trio_layout.specs.Case.{Case, case_of, bundle_core}

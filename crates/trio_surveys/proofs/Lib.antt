@@ -1,5 +1,6 @@
 pub mod Accepted
 pub mod AnyOrder
+pub mod InParts
 pub mod Cores
 pub mod Images
 pub mod Local

@@ -12,16 +12,18 @@ use Rattle.trio_layout.specs.Case.{Held, bundle_core, case_of}
 use Rattle.trio_layout.specs.Core.{Core}
 use Rattle.trio_layout.specs.Entries.{Listed}
 use Rattle.trio_layout.specs.Image.{Image, settled_body}
-use Rattle.trio_layout.specs.Proposed.{Bundle, bundle_pages, bundle_sheets, is_place_of, kept_body, proposed}
+use Rattle.trio_rights.specs.Bundle.{Bundle, bundle_pages, bundle_sheets}
+use Rattle.trio_layout.specs.Proposed.{is_place_of, kept_body, proposed}
 use Rattle.trio_layout.specs.Rules.{lent_body}
-use Rattle.trio_page.specs.Sheets.{with_pages}
+use Rattle.trio_rights.specs.Sheets.{with_pages}
 use Rattle.trio_layout.specs.Survey.{FileRead, Met, Pick, file_of, met_in, numbers}
 use Rattle.trio_layout.specs.Within.{file_within}
 use Rattle.trio_surveys.proofs.BundlePages.{in_there, there_same}
 use Rattle.trio_surveys.proofs.Cores.{listed_is_core}
 use Rattle.trio_surveys.proofs.Local.{file_local}
 use Rattle.trio_surveys.proofs.Owned.{pages_are}
-use Rattle.trio_surveys.proofs.Within.{file_part, file_whole, listed_within_core, read_pages, root_unread}
+use Rattle.trio_surveys.proofs.Within.{file_part, file_whole, read_pages, root_unread}
+use Rattle.trio_layout.proofs.WithinCore.{listed_within_core}
 
 -- a row that names a place
 pub place_parts : (d p s : ℕ) (o : Option Row) → is_place_of d p s o ≡ true → (r : Row) × (o ≡ Some r) × (r.parent ≡ d) × (r.page ≡ p) × (r.slot ≡ s)

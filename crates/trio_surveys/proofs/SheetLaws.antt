@@ -7,7 +7,7 @@ use Rattle.std.proofs.lemmas.List.{length-set}
 use Rattle.trio_layout.specs.Range.{is_core}
 use Rattle.trio_lists.specs.Lists.{is_among}
 use Rattle.trio_layout.specs.Core.{Core, page_of}
-use Rattle.trio_page.specs.Sheets.{Sheet, sheet_numbers, with_pages}
+use Rattle.trio_rights.specs.Sheets.{Sheet, sheet_numbers, with_pages}
 
 -- a page as it is read, by its place in the list
 pub page_at : (pages : List (Option (List ℕ))) (n : ℕ) → slice_index_or pages n None ≡ option_and_then (λ x. x) (slice_get pages n)

@@ -7,7 +7,7 @@ use Rattle.std.proofs.lemmas.List.{length-set}
 use Rattle.trio_layout.specs.Range.{is_core}
 use Rattle.trio_lists.specs.Lists.{In, is_among}
 use Rattle.trio_layout.specs.Core.{Core, page_of}
-use Rattle.trio_page.specs.Sheets.{Sheet, sheet_numbers, with_pages, without_pages}
+use Rattle.trio_rights.specs.Sheets.{Sheet, sheet_numbers, with_pages, without_pages}
 use Rattle.trio_layout.specs.Pages.{sheets_of}
 use Rattle.trio_surveys.specs.Reading.{with_other}
 use Rattle.trio_lists.proofs.Members.{is_among-In}

@@ -1,6 +1,7 @@
 -- Laws of surveys, as they are to be read.
-use Rattle.std.specs.Prelude.{◌≡◌, ◌≢◌, ◌≤◌, ◌⊎◌, List, ◌∷◌, map, Ok, IsTrue}
+use Rattle.std.specs.Prelude.{◌≡◌, ◌≢◌, ◌≤◌, ◌⊎◌, ℕ, List, ◌∷◌, ◌++◌, map, Option, Ok, IsTrue, slice_get}
 use Rattle.trio_lists.specs.Lists.{In}
+use Rattle.trio_rights.specs.Sheets.{Sheet, sheet_numbers, with_pages}
 use Rattle.trio_layout.specs.Core.{Core}
 use Rattle.trio_layout.specs.Survey.{Met, Pick, plain, FileRead, file_of, survey, root_of, children}
 use Rattle.trio_layout.specs.Sound.{are_in_grammar, listings, IsSound}
@@ -48,3 +49,23 @@ BodiesInAnyOrder =
     → ((m : Met) → In m ms → In m (survey core pick) × (m.ino ≢ 1))
     → ((m : Met) → In m (survey core pick) → m.ino ≢ 1 → In m ms ⊎ (m.body ≡ body_at_place core m.page m.slot))
     → with_bodies ms core.pages ≡ with_bodies (survey core pick) core.pages
+
+-- Pages at home, sheets that stay aside, sheets that come home, and all sheets that stood aside before: of each page that doesn't
+-- come, those that stay say the same as all. Bodies have their places on pages of neither, on pages that stay aside, and on pages
+-- that come.
+pub record StandApart (home : List (Option (List ℕ))) (staying coming all : List Sheet) (elsewhere aside brought : List Met) : Type 0 where
+  pub apart : (p : ℕ) → In p (sheet_numbers staying) → In p (sheet_numbers coming) → ⊥
+  pub settled : (p : ℕ) → (In p (sheet_numbers coming) → ⊥) → slice_get (with_pages all home) p ≡ slice_get (with_pages staying home) p
+  pub elsewhere_stand : (m : Met) → In m elsewhere → (In m.page (sheet_numbers staying) → ⊥) × (In m.page (sheet_numbers coming) → ⊥)
+  pub aside_stand : (m : Met) → In m aside → In m.page (sheet_numbers staying)
+  pub brought_stand : (m : Met) → In m brought → In m.page (sheet_numbers coming)
+  pub no_root : (m : Met) → In m (elsewhere ++ aside ++ brought) → m.ino ≢ 1
+
+-- Then the bodies can be put part by part: first those elsewhere, then, once the sheets have come, those on them, and those aside on
+-- the sheets that stay. With these in place that is as if all were put on what stood before with the sheets that come.
+abbrev pub BodiesInParts : Type 0
+BodiesInParts =
+    (home : List (Option (List ℕ))) (staying coming all : List Sheet) (elsewhere aside brought : List Met)
+    → StandApart home staying coming all elsewhere aside brought
+    → with_bodies aside (with_pages staying (with_bodies brought (with_pages coming (with_bodies elsewhere home))))
+    ≡ with_bodies (elsewhere ++ aside ++ brought) (with_pages coming (with_pages all home))

@@ -1,6 +1,6 @@
 //! The laws of surveys: the body of each function is empty, and its contract is the law.
 
-ghost use Rattle.trio_surveys.specs.SurveyLaws.{BodiesInAnyOrder, BodiesInPlace, FileKeeps, SoundnessIsLocal, SurveyFollows, SurveyIsLocal, SurveyIsTree};
+ghost use Rattle.trio_surveys.specs.SurveyLaws.{BodiesInAnyOrder, BodiesInParts, BodiesInPlace, FileKeeps, SoundnessIsLocal, SurveyFollows, SurveyIsLocal, SurveyIsTree};
 ghost use Rattle.trio_surveys.specs.Tree.{ImageIsTree};
 
 /// Two cores that differ in pages alone have one survey, where each file that the first survey meets
@@ -45,4 +45,10 @@ pub fn image_is_tree()
 /// its slot already can be left out.
 pub fn bodies_in_any_order()
     ensures law { BodiesInAnyOrder }
+{}
+
+/// Bodies that are put on pages at home, on pages that come home and on pages that stay aside, each
+/// in its part, are as if all were put at once.
+pub fn bodies_in_parts()
+    ensures law { BodiesInParts }
 {}

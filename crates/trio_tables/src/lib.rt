@@ -12,6 +12,3 @@ mod shadow;
 pub use owners::{CONTROLLER, Owners};
 pub use row::{Row, RowRead};
 pub use shadow::Shadow;
-
-#[cfg(test)]
-mod tests;

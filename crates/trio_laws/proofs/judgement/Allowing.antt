@@ -16,7 +16,8 @@ use Rattle.trio_layout.specs.Case.{Case, case_of}
 use Rattle.trio_layout.specs.Core.{Core}
 use Rattle.trio_layout.specs.Image.{row_at, settled_body}
 use Rattle.trio_layout.specs.JudgedFiles.{judged_files}
-use Rattle.trio_layout.specs.Proposed.{Bundle, bundle_pages, is_written, proposed, proposed_pick}
+use Rattle.trio_rights.specs.Bundle.{Bundle, bundle_pages, is_written}
+use Rattle.trio_layout.specs.Proposed.{proposed, proposed_pick}
 use Rattle.trio_layout.specs.Rules.{has_rights, meets_rules}
 use Rattle.trio_layout.specs.Sound.{is_sound}
 use Rattle.trio_layout.specs.Survey.{FileRead, Met, Pick, file_of, pages_of, row_by, row_of, survey}

@@ -15,7 +15,7 @@ use Rattle.trio_layout.specs.Core.{Location, at_page, nowhere}
 use Rattle.trio_layout.specs.Edges.{comes_to_root, keeps_children, leaves_none, meets_edges, stays_listed}
 use Rattle.trio_layout.specs.JudgedFiles.{judged_entries, judged_files, judged_pages, pages_within}
 use Rattle.trio_layout.specs.Listing.{Listing, listing}
-use Rattle.trio_layout.specs.Proposed.{bundle_pages}
+use Rattle.trio_rights.specs.Bundle.{bundle_pages}
 use Rattle.trio_layout.specs.Rules.{entry_in_grammar, entry_is_own, entry_keeps_rights, file_keeps_rights, meets_grammar, meets_owning, meets_rights, meets_rules}
 use Rattle.trio_layout.specs.Sound.{PageListing}
 use Rattle.trio_layout.specs.Survey.{FileRead, Met, numbers}
@@ -242,6 +242,44 @@ module _ (c : Case) where
                   ]
             ]
       ])
+
+  -- the lowest rule that isn't met, by whether each of the first three is
+  abbrev by_rules : Bool → Bool → Bool → ℕ
+  by_rules false owning edges = 1
+  by_rules true false edges = 2
+  by_rules true true false = 3
+  by_rules true true true = 4
+
+  abbrev pub lowest_rule : ℕ
+  lowest_rule = by_rules (meets_grammar c) (meets_owning c) (meets_edges (listing c) c.rows)
+
+  -- a rule that is broken at a place, where the lower ones are met, is the lowest
+  pub breaks_lowest : (rule ino : ℕ) (place : Location) → Breaks c rule ino place → rule ≡ lowest_rule
+  breaks_lowest rule ino place x =
+      let O : Bool = meets_owning c in
+      let E : Bool = meets_edges (listing c) c.rows in
+      elim x [
+        | inl a ↦
+            a.0 ∙ sym (ap (λ g. by_rules g O E) (false_from_ne_true (meets_grammar c) (no_grammar ino place a.1)))
+        | inr y ↦
+            elim y [
+              | inl a ↦
+                  a.0
+                  ∙ sym (ap (λ g. by_rules g O E) a.1
+                  ∙ ap (λ o. by_rules true o E) (false_from_ne_true O (no_owning ino place a.2)))
+              | inr z ↦
+                  elim z [
+                    | inl a ↦
+                        a.0
+                        ∙ sym (ap (λ g. by_rules g O E) a.1 ∙ ap (λ o. by_rules true o E) a.2
+                        ∙ ap (by_rules true true) (false_from_ne_true E (no_edges (listing c) c.rows ino a.3)))
+                    | inr a ↦
+                        a.0
+                        ∙ sym (ap (λ g. by_rules g O E) a.1 ∙ ap (λ o. by_rules true o E) a.2
+                        ∙ ap (by_rules true true) a.3)
+                  ]
+            ]
+      ]
 
 pub breaks_where_not_met : BreaksWhereNotMet
 breaks_where_not_met c = (names c, is_broken c)

@@ -14,8 +14,9 @@ use Rattle.trio_layout.specs.Case.{Case, bundle_core, case_of}
 use Rattle.trio_layout.specs.Core.{Core}
 use Rattle.trio_layout.specs.Edges.{row_parent}
 use Rattle.trio_layout.specs.Image.{Image, IsFit, row_at, settled_body}
-use Rattle.trio_layout.specs.Proposed.{Bundle, Written, bundle_sheets, is_written, kept_body, proposed, proposed_pick}
-use Rattle.trio_page.specs.Sheets.{with_pages}
+use Rattle.trio_rights.specs.Bundle.{Bundle, Written, bundle_sheets, is_written}
+use Rattle.trio_layout.specs.Proposed.{kept_body, proposed, proposed_pick}
+use Rattle.trio_rights.specs.Sheets.{with_pages}
 use Rattle.trio_layout.specs.Survey.{FileRead, Met, Pick, file_of, plain, root_of, row_by, survey}
 use Rattle.trio_surveys.proofs.Accepted.{fit_proposed}
 use Rattle.trio_surveys.proofs.Images.{MetAt, met_numbered, read_met, root_is_met, row_at_is, row_met, settled_body_met, some_of}

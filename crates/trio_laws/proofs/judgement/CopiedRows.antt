@@ -19,7 +19,8 @@ use Rattle.trio_layout.specs.Entries.{Listed, body_in_slot, entries_on, listed_a
 use Rattle.trio_layout.specs.Image.{row_at}
 use Rattle.trio_layout.specs.JudgedFiles.{entries_in, fronts, judged_entries, judged_files, new_entries, pages_within, written_at, written_files, written_met}
 use Rattle.trio_layout.specs.Listing.{ListedEntry, Listing, entry_listed, file_listed, is_kept, listing}
-use Rattle.trio_layout.specs.Proposed.{Bundle, Written, bundle_pages, is_place_of, is_written}
+use Rattle.trio_rights.specs.Bundle.{Bundle, Written, bundle_pages, is_written}
+use Rattle.trio_layout.specs.Proposed.{is_place_of}
 use Rattle.trio_layout.specs.Rules.{entry_in_grammar, entry_is_own, entry_keeps_rights, file_keeps_rights, has_rights, lent_body, meets_grammar, meets_owning, meets_rights}
 use Rattle.trio_layout.specs.Slot.{slot_of}
 use Rattle.trio_layout.specs.Survey.{FileRead, Met, children_in, met_in, numbers, plain}
@@ -38,7 +39,7 @@ use Rattle.trio_lists.specs.Sorting.{sorted_by}
 use Rattle.trio_lists.proofs.Sorting.{sorted_in}
 use Rattle.trio_surveys.proofs.OwnFiles.{place_parts}
 use Rattle.trio_surveys.proofs.Reached.{met_cases, child_parent}
-use Rattle.trio_surveys.proofs.Within.{within_from}
+use Rattle.trio_layout.proofs.WithinCore.{within_from}
 
 all_same : {X : Type 0} (p q : X → Bool) (xs : List X) → ((x : X) → In x xs → p x ≡ q x) → list_all p xs ≡ list_all q xs
 all_same p q [] h = refl
@@ -136,7 +137,7 @@ module _ (s : State) (lib : ℕ) (b : Bundle) (j : IsJudgeable s lib b) where
   files_same =
       map_same (written_met d) (written_met c) (sorted_by (λ (w : Written). w.ino) b.writes) (λ w i. ap (written_at w) (rows_written w (sorted_in (λ (w : Written). w.ino) w b.writes i)))
 
-  judged_same : judged_files d ≡ judged_files c
+  pub judged_same : judged_files d ≡ judged_files c
   unfolding judged_files
   judged_same = ap (λ ws. (fronts (new_entries c) ws (suc c.inodes)).passed) files_same
 
@@ -167,13 +168,13 @@ module _ (s : State) (lib : ℕ) (b : Bundle) (j : IsJudgeable s lib b) where
             absurd (new_childless x.0 n r k.1 low row (is ∙ dir))
       ]
 
-  kept_same : (e : Met) → In e (judged_entries c) → is_kept d e ≡ is_kept c e
+  pub kept_same : (e : Met) → In e (judged_entries c) → is_kept d e ≡ is_kept c e
   kept_same e i =
       ap (is_place_of e.parent e.page e.slot) (copied_at b c.rows e.ino)
       ∙ place_step b e.ino e.parent e.page e.slot (row_in c.rows e.ino) (is_copied b e.ino (row_in c.rows e.ino)) refl
       (λ r row is. dir_written e e.ino r i row is)
 
-  entries_same : judged_entries d ≡ judged_entries c
+  pub entries_same : judged_entries d ≡ judged_entries c
   entries_same = ap (flat_map (entries_in c)) judged_same
 
   grammar_same : meets_grammar d ≡ meets_grammar c
@@ -194,7 +195,7 @@ module _ (s : State) (lib : ℕ) (b : Bundle) (j : IsJudgeable s lib b) where
       (all_same (entry_is_own d) (entry_is_own c) (judged_entries c) (λ e i. ap (λ t. t || is_among e.ino b.holds || is_among e.ino b.numbers) (kept_same e i)))
 
   -- the row of a kept child or a held file is copied
-  entry_rights_same : (e : Met) → In e (judged_entries c) → entry_keeps_rights d e ≡ entry_keeps_rights c e
+  pub entry_rights_same : (e : Met) → In e (judged_entries c) → entry_keeps_rights d e ≡ entry_keeps_rights c e
   entry_rights_same e i =
       ap (λ t. cond t (has_kind e.kind (row_in d.rows e.ino)) (not (is_among e.ino b.holds) || (has_kind e.kind (row_in d.rows e.ino) && bytes_eq e.body (lent_body c e.ino)))) (kept_same e i)
       ∙ by_kept (is_kept c e) refl (is_among e.ino b.holds) refl
@@ -211,7 +212,7 @@ module _ (s : State) (lib : ℕ) (b : Bundle) (j : IsJudgeable s lib b) where
       by_kept false k false q = refl
       by_kept false k true q = ap (λ o. has_kind e.kind o && bytes_eq e.body (lent_body c e.ino)) (row_e (inr (is_among-In e.ino b.holds q)))
 
-  file_rights_same : (m : Met) (r : Result FileRead Location) → file_keeps_rights d m r ≡ file_keeps_rights c m r
+  pub file_rights_same : (m : Met) (r : Result FileRead Location) → file_keeps_rights d m r ≡ file_keeps_rights c m r
   file_rights_same m (Err p) = refl
   file_rights_same m (Ok f) = by_written (is_written b m.ino) refl
     where

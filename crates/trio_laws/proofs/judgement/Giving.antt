@@ -12,7 +12,8 @@ use Rattle.trio_layout.specs.Core.{Core}
 use Rattle.trio_layout.specs.Image.{row_at}
 use Rattle.trio_layout.specs.JudgedFiles.{entries_in, judged_entries, judged_files, pages_within}
 use Rattle.trio_layout.specs.Listing.{is_kept}
-use Rattle.trio_layout.specs.Proposed.{Bundle, bundle_pages, is_written, kept_body, proposed, proposed_pick}
+use Rattle.trio_rights.specs.Bundle.{Bundle, bundle_pages, is_written}
+use Rattle.trio_layout.specs.Proposed.{kept_body, proposed, proposed_pick}
 use Rattle.trio_layout.specs.Rules.{meets_rules}
 use Rattle.trio_layout.specs.Sound.{is_sound}
 use Rattle.trio_layout.specs.Survey.{Met, Pick, children, file_of, numbers, pages_of, plain, root_of, survey}

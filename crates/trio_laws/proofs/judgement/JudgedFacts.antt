@@ -13,7 +13,8 @@ use Rattle.trio_layout.specs.Case.{Case, bundle_core, case_of}
 use Rattle.trio_layout.specs.Core.{Core}
 use Rattle.trio_layout.specs.Image.{row_at}
 use Rattle.trio_layout.specs.JudgedFiles.{entries_in, fronts, judged_entries, judged_files, new_entries, written_at, written_files, written_met}
-use Rattle.trio_layout.specs.Proposed.{Bundle, Written, bundle_pages, proposed}
+use Rattle.trio_rights.specs.Bundle.{Bundle, Written, bundle_pages}
+use Rattle.trio_layout.specs.Proposed.{proposed}
 use Rattle.trio_layout.specs.Survey.{FileRead, Front, Met, children, children_in, file_of, numbers, plain}
 use Rattle.trio_layout.specs.Within.{file_within}
 use Rattle.trio_surveys.proofs.Images.{same_met}

@@ -19,7 +19,8 @@ use Rattle.trio_layout.specs.Core.{Core}
 use Rattle.trio_layout.specs.Image.{row_at}
 use Rattle.trio_layout.specs.JudgedFiles.{entries_in, judged_entries, judged_files, judged_pages, pages_within}
 use Rattle.trio_layout.specs.Listing.{is_kept}
-use Rattle.trio_layout.specs.Proposed.{Bundle, bundle_pages, is_written, proposed, proposed_pick}
+use Rattle.trio_rights.specs.Bundle.{Bundle, bundle_pages, is_written}
+use Rattle.trio_layout.specs.Proposed.{proposed, proposed_pick}
 use Rattle.trio_layout.specs.Rules.{entry_in_grammar, entry_is_own, entry_keeps_rights, file_keeps_rights, has_rights, lent_body, meets_grammar, meets_owning, meets_rights}
 use Rattle.trio_layout.specs.Survey.{FileRead, Met, Pick, children, numbers, pages_in, pages_of, survey}
 use Rattle.trio_layout.specs.Within.{file_within}

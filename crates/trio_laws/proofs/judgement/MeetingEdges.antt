@@ -16,7 +16,8 @@ use Rattle.trio_rights.specs.Row.{is_child}
 use Rattle.trio_layout.specs.Image.{row_at}
 use Rattle.trio_layout.specs.JudgedFiles.{judged_files}
 use Rattle.trio_layout.specs.Listing.{ListedEntry, listing}
-use Rattle.trio_layout.specs.Proposed.{Bundle, is_written, proposed, proposed_pick}
+use Rattle.trio_rights.specs.Bundle.{Bundle, is_written}
+use Rattle.trio_layout.specs.Proposed.{proposed, proposed_pick}
 use Rattle.trio_layout.specs.Rules.{meets_grammar, meets_owning, meets_rights, meets_rules}
 use Rattle.trio_layout.specs.Survey.{Met, Pick, children, plain, row_of, survey}
 use Rattle.trio_surveys.proofs.Images.{met_numbered, met_row, one_met}

@@ -18,7 +18,8 @@ use Rattle.trio_layout.specs.Entries.{Listed, entries_of_kind}
 use Rattle.trio_layout.specs.Image.{row_at}
 use Rattle.trio_layout.specs.JudgedFiles.{entries_in, judged_entries, judged_files}
 use Rattle.trio_layout.specs.Listing.{ListedEntry, entry_listed, is_kept, listing}
-use Rattle.trio_layout.specs.Proposed.{Bundle, proposed, proposed_pick}
+use Rattle.trio_rights.specs.Bundle.{Bundle}
+use Rattle.trio_layout.specs.Proposed.{proposed, proposed_pick}
 use Rattle.trio_layout.specs.Rules.{meets_rules}
 use Rattle.trio_layout.specs.Survey.{Met, Pick, children, plain, root_of, survey}
 use Rattle.trio_surveys.proofs.Images.{one_met, read_met}

@@ -15,7 +15,7 @@ use Rattle.trio_layout.specs.Case.{Case, bundle_core}
 use Rattle.trio_layout.specs.Edges.{comes_to_root, keeps_children, leaves_none, meets_edges, stays_listed}
 use Rattle.trio_layout.specs.JudgedFiles.{judged_entries, judged_files, judged_pages, pages_within}
 use Rattle.trio_layout.specs.Listing.{ListedEntry, Listing, is_kept, listing}
-use Rattle.trio_layout.specs.Proposed.{bundle_pages}
+use Rattle.trio_rights.specs.Bundle.{bundle_pages}
 use Rattle.trio_layout.specs.Rules.{entry_in_grammar, entry_is_own, entry_keeps_rights, file_keeps_rights, lent_body, meets_grammar, meets_owning, meets_rights, meets_rules}
 use Rattle.trio_layout.specs.Survey.{FileRead, Met, numbers, pages_in}
 use Rattle.trio_layout.specs.Within.{file_within}

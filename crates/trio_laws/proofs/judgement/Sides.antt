@@ -10,7 +10,8 @@ use Rattle.trio_layout.specs.Core.{Core}
 use Rattle.trio_layout.specs.Entries.{Listed}
 use Rattle.trio_layout.specs.Image.{row_at, settled_body}
 use Rattle.trio_layout.specs.JudgedFiles.{entries_in, judged_files, pages_within, written_met}
-use Rattle.trio_layout.specs.Proposed.{Bundle, Written, bundle_pages, is_place_of, kept_body, proposed, proposed_pick}
+use Rattle.trio_rights.specs.Bundle.{Bundle, Written, bundle_pages}
+use Rattle.trio_layout.specs.Proposed.{is_place_of, kept_body, proposed, proposed_pick}
 use Rattle.trio_layout.specs.Survey.{FileRead, Met, Pick, children, children_in, file_of, met_in, numbers, pages_in, pages_of, plain, row_by, survey}
 use Rattle.trio_surveys.proofs.Images.{MetAt, read_met}
 use Rattle.trio_surveys.proofs.Tree.{child_from, child_has}

@@ -17,7 +17,8 @@ use Rattle.trio_layout.specs.Edges.{has_file, is_listed}
 use Rattle.trio_layout.specs.Image.{Image, row_at}
 use Rattle.trio_layout.specs.JudgedFiles.{judged_entries, judged_files}
 use Rattle.trio_layout.specs.Listing.{ListedEntry, ListedFile, Listing, entry_listed, file_listed, listing}
-use Rattle.trio_layout.specs.Proposed.{Bundle, is_written, proposed, proposed_pick}
+use Rattle.trio_rights.specs.Bundle.{Bundle, is_written}
+use Rattle.trio_layout.specs.Proposed.{proposed, proposed_pick}
 use Rattle.trio_layout.specs.Range.{is_core}
 use Rattle.trio_layout.specs.Survey.{FileRead, Met, Pick, owner_of, pages_in, pages_of, plain, row_by, row_of, survey}
 use Rattle.trio_layout.specs.Tables.{gives_up, owner_after, placed_row, row_after}

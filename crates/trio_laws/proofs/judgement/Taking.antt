@@ -18,7 +18,8 @@ use Rattle.trio_layout.specs.Core.{Core}
 use Rattle.trio_layout.specs.Entries.{Listed}
 use Rattle.trio_layout.specs.Image.{IsFit, row_at, settled_body}
 use Rattle.trio_layout.specs.JudgedFiles.{entries_in, judged_files, written_at, written_met}
-use Rattle.trio_layout.specs.Proposed.{Bundle, Written, bundle_pages, is_place_of, is_written, kept_body, proposed, proposed_pick}
+use Rattle.trio_rights.specs.Bundle.{Bundle, Written, bundle_pages, is_written}
+use Rattle.trio_layout.specs.Proposed.{is_place_of, kept_body, proposed, proposed_pick}
 use Rattle.trio_layout.specs.Sound.{is_sound}
 use Rattle.trio_layout.specs.Survey.{FileRead, Met, Pick, children, file_of, met_in, pages_of, plain, row_by, row_of, survey}
 use Rattle.trio_surveys.proofs.Images.{met_row, read_met, row_met, some_of}

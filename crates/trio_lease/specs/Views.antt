@@ -4,8 +4,8 @@ use Rattle.trio_lease.specs.declared.parts.LentPage.{LentPage}
 use Rattle.trio_lease.specs.declared.parts.FreshParts.{FreshParts}
 use Rattle.trio_lease.specs.Shown.{Shown}
 use Rattle.trio_lease.specs.Bundles.{Bundled}
-use Rattle.trio_page.specs.Sheets.{Sheet}
-use Rattle.trio_layout.specs.Proposed.{Written, Bundle}
+use Rattle.trio_rights.specs.Sheets.{Sheet}
+use Rattle.trio_rights.specs.Bundle.{Written, Bundle}
 
 -- a lent page, whether touched or not
 abbrev pub lent_sheet : LentPage → Sheet
