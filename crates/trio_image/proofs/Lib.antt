@@ -2,3 +2,4 @@ pub mod Pages
 pub mod Superblocks
 pub mod Images
 pub mod Refused
+pub mod NodeParts

@@ -1,3 +1,4 @@
 pub mod Image
 pub mod Fault
 pub mod Counts
+pub mod Nodes

@@ -5,12 +5,15 @@ ghost use Rattle.trio_layout.specs.declared.superblock.Superblock.{Superblock};
 ghost use Rattle.trio_survey.specs.Stored.{bytes_in, image_in, pages_in, BytesVerify, HasSuperblock};
 ghost use Rattle.trio_image.specs.Counts.{counts_of};
 ghost use Rattle.trio_image.specs.Image.{IsVerified, TablesAre};
+ghost use Rattle.trio_image.specs.Nodes.{nodes_of};
 
 use crate::bytes::home_bytes;
 use crate::counts::{Counts, counts_in};
+use crate::nodes::nodes_in;
 use std::alloc::Global;
 use std::marker::Model;
 use trio_layout::Superblock;
+use trio_nodes::Nodes;
 use trio_page::{Home, NoMemory, PageNo, Reads};
 use trio_tables::{Owners, Shadow};
 
@@ -83,6 +86,20 @@ impl Image {
         ensures { result ≡ counts_of (image_in self.now.superblock self.now.pages) }
     {
         counts_in(&self.parts.rows, &self.parts.owners)
+    }
+
+    /// The files of the image as nodes, with the bytes of regular files. The image stays as it was.
+    /// `NoMemory`: there was no memory for the nodes.
+    pub fn nodes(&mut self, alloc: Global) -> Result<Nodes, NoMemory>
+        ensures nodes { IfOk result (λ nodes. nodes ≡ nodes_of (image_in self.old.superblock self.old.pages)) }
+        ensures image { self.new ≡ self.old }
+    {
+        nodes_in(
+            alloc,
+            &mut self.parts.home,
+            &self.superblock,
+            &self.parts.rows,
+        )
     }
 
     /// What the first page says.

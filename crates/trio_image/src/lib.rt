@@ -3,7 +3,8 @@
 //! - [`Image`] is an image that verifies, with all its pages (`IsVerified` of `specs/Image.antt`).
 //! - [`Image::from_bytes`] makes one of the bytes of a file, or says why they are none
 //!   ([`LoadFault`]); [`Image::from_pages`] is its second stage, for pages that were read.
-//! - [`Image::counts`] tells what an image has in use.
+//! - [`Image::counts`] tells what an image has in use, and [`Image::nodes`] its files as the nodes of
+//!   a tree, with the bytes of regular files (`nodes_of` of `specs/Nodes.antt`).
 //! - [`bytes_of`] gives the bytes of an image, which are read again as that image.
 //!
 //! Each page is copied once on its way in or out.
@@ -12,14 +13,10 @@
 mod bytes;
 mod counts;
 mod image;
+mod nodes;
 mod reading;
 
 pub use bytes::pages_of;
 pub use counts::Counts;
 pub use image::{Image, ImageParts, bytes_of};
 pub use reading::LoadFault;
-
-#[cfg(test)]
-mod survey_tests;
-#[cfg(test)]
-mod tests;

@@ -1,1 +1,9 @@
 pub mod GrantKinds
+pub mod Nodes
+pub mod Found
+pub mod Walk
+pub mod Apply
+pub mod Standing
+pub mod After
+pub mod Legal
+pub mod Lends

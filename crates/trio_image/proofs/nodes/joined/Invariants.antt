@@ -1,0 +1,10 @@
+use Rattle.std.proofs.Common.{◌≡◌, ◌++◌, drop}
+use Rattle.trio_survey.specs.Seen.{core_with}
+use Rattle.trio_image.specs.Nodes.{joined_pages}
+use Rattle.trio_image.proofs.nodes.joined.Given as goal
+
+abbrev pub invariant-loop-no : goal.invariant-loop-no
+invariant-loop-no l = record {
+  same : l.home.pages ≡ l.initial.home.pages;
+  rest : l.bytes.items ++ joined_pages (core_with l.initial.home.pages l.range 0) (drop l.no-index l.pages) ≡ joined_pages (core_with l.initial.home.pages l.range 0) l.pages;
+}

@@ -1,0 +1,12 @@
+//! Tests of images, their survey, their tables and checkpoints, over what these crates make public: a
+//! crate of their own, so that the crates themselves aren't proved a second time with their tests.
+#![tactic(auto)]
+
+#[cfg(test)]
+mod checkpoint;
+#[cfg(test)]
+mod image;
+#[cfg(test)]
+mod survey;
+#[cfg(test)]
+mod tables;

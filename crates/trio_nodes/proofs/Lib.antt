@@ -1,0 +1,3 @@
+pub mod NodeFacts
+mod PathFacts
+mod Blocks

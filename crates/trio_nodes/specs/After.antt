@@ -1,0 +1,105 @@
+-- The nodes after an entry: what a history makes of the tree.
+use Rattle.std.specs.Prelude.{ℕ, ◌+◌, ◌-◌, ◌*◌, ◌==◌, Bool, true, false, List, [], ◌∷◌, ◌++◌, length, take, drop, Option, None, Some, Ok, if◌then◌else◌, slice_index_or}
+use Rattle.trio_rights.specs.declared.kind.Kind.{Kind}
+use Rattle.trio_rights.specs.declared.kind.Kind.TheVariants.{Regular, Directory}
+use Rattle.trio_rights.specs.declared.rights.Creds.{Creds}
+use Rattle.trio_nodes.specs.declared.node.Node.{Node}
+use Rattle.trio_nodes.specs.declared.call.Done.{Done}
+use Rattle.trio_nodes.specs.declared.call.Reply.{Reply}
+use Rattle.trio_nodes.specs.declared.call.Reply.TheVariants.{NoSpace, NoInodes}
+use Rattle.trio_nodes.specs.declared.entry.RawFile.{RawFile}
+use Rattle.trio_nodes.specs.declared.entry.RawBlock.{RawBlock}
+use Rattle.trio_nodes.specs.declared.entry.Entry.{Entry}
+use Rattle.trio_nodes.specs.declared.entry.Entry.TheVariants.{Raw, Batch, Mode}
+use Rattle.trio_nodes.specs.Nodes.{Nodes, node_at, with_node}
+use Rattle.trio_nodes.specs.Apply.{resized, applied}
+
+-- ---- a release
+
+-- a block put in place of the bytes at its position, as far as there are bytes
+abbrev pub put_within : ℕ → List ℕ → List ℕ → List ℕ
+put_within at block bytes = take (length bytes) (take at bytes ++ block ++ drop (at + length block) bytes)
+
+-- a block put in place, where it is one of this file
+abbrev pub with_block : ℕ → RawBlock → List ℕ → List ℕ
+with_block ino b bytes = if b.ino == ino then put_within (4096 * b.at) b.bytes bytes else bytes
+
+-- the listed blocks of a file put in place
+abbrev pub with_blocks : ℕ → List RawBlock → List ℕ → List ℕ
+with_blocks ino [] bytes = bytes
+with_blocks ino (b ∷ bs) bytes = with_blocks ino bs (with_block ino b bytes)
+
+-- the bytes of a regular file: as before, cut or grown to the size, with the listed blocks in place; a directory has none
+abbrev pub raw_bytes : List RawBlock → RawFile → Kind → List ℕ → List ℕ
+raw_bytes blocks f Regular old = with_blocks f.ino blocks (resized f.size old)
+raw_bytes blocks f Directory old = []
+
+-- the bytes of a node; where there is none, none
+abbrev pub bytes_in : Option Node → List ℕ
+bytes_in None = []
+bytes_in (Some x) = x.bytes
+
+-- what becomes of a file of a release
+abbrev pub raw_node : List RawBlock → RawFile → Option Node → Option Node
+raw_node blocks f old =
+    if f.gone then None else
+    Some (record {
+      parent = f.parent;
+      name = f.name;
+      kind = f.kind;
+      mode = f.mode;
+      uid = f.uid;
+      gid = f.gid;
+      bytes = raw_bytes blocks f f.kind (bytes_in old);
+    })
+
+-- the nodes after a release
+abbrev pub raw_nodes : List RawBlock → List RawFile → Nodes → Nodes
+raw_nodes blocks [] nodes = nodes
+raw_nodes blocks (f ∷ fs) nodes = raw_nodes blocks fs (with_node nodes f.ino (raw_node blocks f (node_at nodes f.ino)))
+
+-- ---- calls
+
+-- the reply is want of room
+abbrev pub lacks_room : Reply → Bool
+lacks_room (NoSpace wanted free) = true
+lacks_room (NoInodes wanted free) = true
+lacks_room _ = false
+
+-- the nodes after a call that was done; want of room changes nothing
+abbrev pub call_nodes : Creds → Nodes → Done → Nodes
+call_nodes creds nodes d = if lacks_room d.reply then nodes else (applied nodes creds d.call d.made).nodes
+
+-- the nodes after calls in order
+abbrev pub batch_nodes : Creds → List Done → Nodes → Nodes
+batch_nodes creds [] nodes = nodes
+batch_nodes creds (d ∷ ds) nodes = batch_nodes creds ds (call_nodes creds nodes d)
+
+-- ---- a change of mode
+
+-- a node with another mode
+abbrev pub moded_node : ℕ → Option Node → Option Node
+moded_node mode None = None
+moded_node mode (Some x) = Some (record x { mode = record { 0 = mode } })
+
+-- the nodes with another mode of one of them
+abbrev pub moded_nodes : ℕ → ℕ → Nodes → Nodes
+moded_nodes ino mode nodes = with_node nodes ino (moded_node mode (node_at nodes ino))
+
+-- ---- any entry
+
+-- the credentials of a library, of those of all libraries
+abbrev pub creds_in : List Creds → ℕ → Creds
+creds_in libs lib = slice_index_or libs (lib - 1) (record { uid = 0; gid = 0 })
+
+-- the nodes after an entry
+abbrev pub nodes_after : List Creds → Nodes → Entry → Nodes
+nodes_after libs nodes (Raw lib verdict files blocks handed) = raw_nodes blocks files nodes
+nodes_after libs nodes (Batch lib calls handed) = batch_nodes (creds_in libs lib.0) calls nodes
+nodes_after libs nodes (Mode lib ino mode (Ok done) call) = moded_nodes ino mode nodes
+nodes_after libs nodes _ = nodes
+
+-- the nodes after all entries in order
+abbrev pub replayed : List Creds → Nodes → List Entry → Nodes
+replayed libs nodes [] = nodes
+replayed libs nodes (e ∷ es) = replayed libs (nodes_after libs nodes e) es

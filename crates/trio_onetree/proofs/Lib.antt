@@ -1,0 +1,10 @@
+mod PathFacts
+mod WalkFacts
+mod Setting
+mod Outcomes
+mod Listing
+pub mod Children
+pub mod TreePut
+mod CallCases
+mod TreeStays
+mod Changes
