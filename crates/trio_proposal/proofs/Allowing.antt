@@ -11,7 +11,7 @@ use Rattle.trio_layout.specs.Sound.{is_sound}
 use Rattle.trio_layout.specs.Survey.{Met, Pick, survey, pages_of, owner_of, row_of}
 use Rattle.trio_layout.specs.Allowed.{same_row, all_up_to, keeps_rows, lists_own, has_owner, may_stand, is_allowed}
 use Rattle.trio_layout.specs.Image.{Image, IsFit, row_at}
-use Rattle.trio_layout.specs.Proposed.{Bundle, bundle_pages, is_written}
+use Rattle.trio_rights.specs.Bundle.{Bundle, bundle_pages, is_written}
 use Rattle.trio_surveys.proofs.Alike.{up_to_at, same_row_is}
 use Rattle.trio_surveys.proofs.Cores.{listed_is_core}
 use Rattle.trio_surveys.proofs.Images.{row_met, met_row, read_met, met_numbered}

@@ -12,10 +12,11 @@ use Rattle.trio_layout.specs.Survey.{Pick, survey, owner_of, row_of}
 use Rattle.trio_lease.specs.Bundles.{Bundled}
 use Rattle.trio_layout.specs.Accept.{is_accepted, next, with_bodies}
 use Rattle.trio_layout.specs.Allowed.{is_allowed}
-use Rattle.trio_state.specs.Views.{bundle_in}
+use Rattle.trio_lease.specs.Views.{bundle_in}
 use Rattle.trio_layout.specs.Image.{Image, IsFit, row_at}
-use Rattle.trio_layout.specs.Proposed.{bundle_sheets, bundle_pages, is_written, proposed, proposed_pick}
-use Rattle.trio_page.specs.Sheets.{with_pages}
+use Rattle.trio_rights.specs.Bundle.{bundle_sheets, bundle_pages, is_written}
+use Rattle.trio_layout.specs.Proposed.{proposed, proposed_pick}
+use Rattle.trio_rights.specs.Sheets.{with_pages}
 use Rattle.trio_survey.specs.Answer.{core_of}
 use Rattle.trio_survey.specs.declared.whole.Found.{Found}
 use Rattle.trio_survey.specs.Picks.{pick_of}

@@ -12,9 +12,10 @@ use Rattle.trio_layout.specs.Range.{is_core}
 use Rattle.trio_layout.specs.Core.{Core, page_of}
 use Rattle.trio_lease.specs.Shown.{LentFile}
 use Rattle.trio_lease.specs.Bundles.{Bundled}
-use Rattle.trio_state.specs.Views.{bundle_in, written_in}
+use Rattle.trio_lease.specs.Views.{bundle_in, written_in}
 use Rattle.trio_layout.specs.Image.{Image, settled_body}
-use Rattle.trio_layout.specs.Proposed.{Written, kept_body, is_written, is_place_of, proposed_pick}
+use Rattle.trio_rights.specs.Bundle.{Written, is_written}
+use Rattle.trio_layout.specs.Proposed.{kept_body, is_place_of, proposed_pick}
 use Rattle.trio_survey.specs.declared.picks.Picked.{Picked}
 use Rattle.trio_survey.specs.Picks.{pick_of, body_picked}
 use Rattle.trio_proposal.specs.Judgement.{CanBeJudged, image_of}

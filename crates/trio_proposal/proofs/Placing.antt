@@ -14,7 +14,8 @@ use Rattle.trio_page.specs.Field.{with_part}
 use Rattle.trio_layout.specs.Accept.{with_bodies, with_body_at}
 use Rattle.trio_layout.specs.Allowed.{is_allowed}
 use Rattle.trio_layout.specs.Image.{Image, IsFit, row_at, body_at_place}
-use Rattle.trio_layout.specs.Proposed.{Bundle, kept_body, is_place_of, proposed, proposed_pick}
+use Rattle.trio_rights.specs.Bundle.{Bundle}
+use Rattle.trio_layout.specs.Proposed.{kept_body, is_place_of, proposed, proposed_pick}
 use Rattle.trio_surveys.proofs.Images.{row_met, met_row, read_met, met_numbered, root_or_listed}
 use Rattle.trio_lists.proofs.Members.{In-cases, In-left, In-right, flat_map-In}
 use Rattle.trio_surveys.proofs.AnyOrder.{bodies_in_any_order}

@@ -14,9 +14,9 @@ use Rattle.trio_lease.specs.Shown.{LentFile, page_at, no_at}
 use Rattle.trio_lease.specs.Bundles.{Bundled}
 use Rattle.trio_lists.specs.Lists.{In}
 use Rattle.trio_lists.specs.Marked.{MarksJust}
-use Rattle.trio_state.specs.Views.{bundle_in, fresh_sheet, lent_sheet, written_in}
-use Rattle.trio_layout.specs.Proposed.{Written, bundle_sheets}
-use Rattle.trio_page.specs.Sheets.{Sheet, sheet_numbers, with_pages}
+use Rattle.trio_lease.specs.Views.{bundle_in, fresh_sheet, lent_sheet, written_in}
+use Rattle.trio_rights.specs.Bundle.{Written, bundle_sheets}
+use Rattle.trio_rights.specs.Sheets.{Sheet, sheet_numbers, with_pages}
 use Rattle.trio_surveys.proofs.Sheets.{with_pages-append}
 use Rattle.trio_surveys.proofs.SheetLaws.{length-with_pages}
 use Rattle.trio_lists.proofs.Members.{In-flat, In-left, In-right}

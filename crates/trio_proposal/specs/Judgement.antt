@@ -4,9 +4,9 @@ use Rattle.trio_rights.specs.Row.{Row}
 use Rattle.trio_layout.specs.declared.range.CoreRange.{CoreRange}
 use Rattle.trio_layout.specs.Core.{page_of}
 use Rattle.trio_lists.specs.Lists.{In}
-use Rattle.trio_page.specs.Sheets.{Sheet}
+use Rattle.trio_rights.specs.Sheets.{Sheet}
 use Rattle.trio_layout.specs.Image.{Image, IsFit, row_at}
-use Rattle.trio_layout.specs.Proposed.{Bundle, bundle_sheets}
+use Rattle.trio_rights.specs.Bundle.{Bundle, bundle_sheets}
 use Rattle.trio_proposal.specs.declared.judgement.NextImage.{NextImage}
 use Rattle.trio_proposal.specs.declared.judgement.Verdict.{Verdict}
 use Rattle.trio_proposal.specs.declared.judgement.Verdict.TheVariants.{Accepted, Refused}

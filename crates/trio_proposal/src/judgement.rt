@@ -2,7 +2,7 @@
 
 ghost use Rattle.std.specs.Prelude.{◌≡◌, ℕ, List, [], IfOk, true, false};
 ghost use Rattle.trio_layout.specs.Accept.{is_accepted, next};
-ghost use Rattle.trio_state.specs.Views.{bundle_in};
+ghost use Rattle.trio_lease.specs.Views.{bundle_in};
 ghost use Rattle.trio_proposal.specs.Judgement.{CanBeJudged, IfAccepted, IfRefused, IsImage, image_of};
 
 use crate::allowed::is_allowed;

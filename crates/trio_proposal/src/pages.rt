@@ -3,9 +3,9 @@
 ghost use Rattle.std.specs.Prelude.{◌≡◌, ◌<◌, ◌∷◌, [], IfOk, OnOk, length, map, vec_len};
 ghost use Rattle.std.specs.List.{flat_map};
 ghost use Rattle.trio_lists.specs.Marked.{MarksJust};
-ghost use Rattle.trio_state.specs.Views.{bundle_in, fresh_sheet, lent_sheet};
-ghost use Rattle.trio_layout.specs.Proposed.{bundle_pages, bundle_sheets};
-ghost use Rattle.trio_page.specs.Sheets.{with_pages};
+ghost use Rattle.trio_lease.specs.Views.{bundle_in, fresh_sheet, lent_sheet};
+ghost use Rattle.trio_rights.specs.Bundle.{bundle_pages, bundle_sheets};
+ghost use Rattle.trio_rights.specs.Sheets.{with_pages};
 ghost use Rattle.trio_proposal.specs.inner.Steps.{ArePut, AreWithin, lease_sheets};
 
 use crate::marks::{mark, no_marks};

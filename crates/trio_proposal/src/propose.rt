@@ -1,9 +1,9 @@
 //! What a bundle proposes, as tables by inode number and by page.
 
 ghost use Rattle.std.specs.Prelude.{◌≡◌, OnOk, IfOk, length};
-ghost use Rattle.trio_state.specs.Views.{bundle_in};
-ghost use Rattle.trio_layout.specs.Proposed.{bundle_sheets};
-ghost use Rattle.trio_page.specs.Sheets.{with_pages};
+ghost use Rattle.trio_lease.specs.Views.{bundle_in};
+ghost use Rattle.trio_rights.specs.Bundle.{bundle_sheets};
+ghost use Rattle.trio_rights.specs.Sheets.{with_pages};
 ghost use Rattle.trio_proposal.specs.inner.Steps.{ArePlaced, AreWithin};
 ghost use Rattle.trio_proposal.specs.inner.Proposes.{Proposes};
 

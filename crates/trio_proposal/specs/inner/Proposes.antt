@@ -3,8 +3,8 @@ use Rattle.std.specs.Prelude.{◌≡◌, ℕ, List, Option, None, length, map, s
 use Rattle.trio_rights.specs.Row.{Row}
 use Rattle.trio_lists.specs.Marked.{MarksJust}
 use Rattle.trio_lease.specs.Bundles.{Bundled}
-use Rattle.trio_state.specs.Views.{bundle_in}
-use Rattle.trio_layout.specs.Proposed.{bundle_pages}
+use Rattle.trio_lease.specs.Views.{bundle_in}
+use Rattle.trio_rights.specs.Bundle.{bundle_pages}
 use Rattle.trio_proposal.specs.inner.Steps.{AreLentBodies, AreKept, ArePicked}
 use Rattle.trio_proposal.specs.declared.propose.Proposal.{Proposal}
 

@@ -9,8 +9,8 @@ use Rattle.trio_lists.specs.Lists.{In}
 use Rattle.trio_lists.specs.Marked.{MarksJust}
 use Rattle.trio_layout.specs.Survey.{Met}
 use Rattle.trio_lease.specs.Shown.{LentFile}
-use Rattle.trio_page.specs.Sheets.{Sheet, sheet_numbers, with_pages}
-use Rattle.trio_state.specs.Views.{lent_sheet}
+use Rattle.trio_rights.specs.Sheets.{Sheet, sheet_numbers, with_pages}
+use Rattle.trio_lease.specs.Views.{lent_sheet}
 use Rattle.trio_layout.specs.Allowed.{same_row, has_owner}
 use Rattle.trio_survey.specs.declared.picks.Picked.{Picked}
 

@@ -1,5 +1,5 @@
 use Rattle.std.proofs.Common.{map, take}
-use Rattle.trio_state.specs.Views.{fresh_sheet}
+use Rattle.trio_lease.specs.Views.{fresh_sheet}
 use Rattle.trio_proposal.specs.inner.Steps.{ArePut}
 use Rattle.trio_proposal.proofs.pages.put_fresh.Given as goal
 

@@ -1,5 +1,5 @@
 use Rattle.std.proofs.Common.{map, take}
-use Rattle.trio_state.specs.Views.{lent_sheet}
+use Rattle.trio_lease.specs.Views.{lent_sheet}
 use Rattle.trio_proposal.specs.inner.Steps.{ArePut}
 use Rattle.trio_proposal.proofs.pages.put_index.Given as goal
 

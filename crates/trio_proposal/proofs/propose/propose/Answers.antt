@@ -1,6 +1,6 @@
 use Rattle.std.proofs.Common.{length, subst, sym}
-use Rattle.trio_state.specs.Views.{bundle_in}
-use Rattle.trio_layout.specs.Proposed.{bundle_sheets}
+use Rattle.trio_lease.specs.Views.{bundle_in}
+use Rattle.trio_rights.specs.Bundle.{bundle_sheets}
 use Rattle.trio_proposal.specs.inner.Steps.{AreWithin}
 use Rattle.trio_proposal.proofs.propose.propose.Goals as goal
 

@@ -1,0 +1,50 @@
+-- One index page more of a chain, as far as it is there.
+use Rattle.std.proofs.Common.{◌≡◌, ℕ, suc, ◌-◌, ◌<◌, min, leb, eqb, List, [], ◌∷◌, ◌++◌, Some, None, Result, Ok, Err, sym, refl, ◌∙◌, append_assoc, arith}
+use Rattle.std.proofs.lemmas.List.{append-nil}
+use Rattle.std.proofs.lemmas.Bool.Decides.{nat_tests}
+use Rattle.trio_layout.specs.Core.{Core, Location, at_page, page_of}
+use Rattle.trio_layout.specs.Index.{Index, index_of}
+use Rattle.trio_lists.specs.Lists.{result_map}
+use Rattle.trio_layout.specs.Chain.{Chain, index_count, with_index}
+use Rattle.trio_layout.specs.Within.{chain_within, index_within}
+
+-- a chain that goes on after these pages and blocks
+abbrev pub after : List ℕ → List ℕ → Chain → Chain
+after index blocks c = record { index = index ++ c.index; blocks = blocks ++ c.blocks }
+
+-- the chain of so many blocks from a page on
+abbrev pub rest_of : Core → ℕ → ℕ → Result Chain Location
+rest_of core left at = chain_within core (index_count left) left at
+
+after-with_index : (index blocks : List ℕ) (at : ℕ) (i : Index) (r : Result Chain Location) → result_map (after index blocks) (result_map (with_index at i) r) ≡ result_map (after (index ++ at ∷ []) (blocks ++ i.numbers)) r
+after-with_index index blocks at i (Err p) = refl
+after-with_index index blocks at i (Ok c) = simp append_assoc
+
+-- the first index page, and the rest
+rest_more : (core : Core) (left at : ℕ) → 0 < left → rest_of core left at ≡ index_within core at (min left 511) (leb left 511) (λ i. rest_of core (left - 511) i.next) (page_of core at)
+rest_more core left at h =
+    let n : index_count left ≡ suc (index_count (left - 511)) = omega arith in
+    let last : eqb (index_count (left - 511)) 0 ≡ leb left 511 = grind (arith, nat_tests) in
+    rw (n, last) refl
+
+-- an index page that isn't there ends the chain
+pub no_page_at : (core : Core) (r : Result Chain Location) (left at : ℕ) (index blocks : List ℕ) → 0 < left → result_map (after index blocks) (rest_of core left at) ≡ r → None ≡ page_of core at → r ≡ Ok (record { index = index ++ at ∷ []; blocks = blocks })
+no_page_at core r left at index blocks h e p =
+    let end : result_map (after index blocks) (Ok (record { index = at ∷ []; blocks = [] })) ≡ r = rw (rest_more core left at h, ← p) at e in
+    sym (rw append-nil at end)
+
+-- an index page outside the grammar
+pub no_index_at : (core : Core) (r : Result Chain Location) (left at : ℕ) (index blocks page : List ℕ) → 0 < left → result_map (after index blocks) (rest_of core left at) ≡ r → Some page ≡ page_of core at → index_of (min left 511) (leb left 511) core.range page ≡ None → r ≡ Err (at_page at)
+no_index_at core r left at index blocks page h e p q = sym (rw (rest_more core left at h, ← p, q) at e)
+
+-- an index page that is read
+pub one_index_more : (core : Core) (r : Result Chain Location) (left at : ℕ) (index blocks page numbers : List ℕ) (next : ℕ) → 0 < left → result_map (after index blocks) (rest_of core left at) ≡ r → Some page ≡ page_of core at → index_of (min left 511) (leb left 511) core.range page ≡ Some (record { numbers = numbers; next = next }) → result_map (after (index ++ at ∷ []) (blocks ++ numbers)) (rest_of core (left - 511) next) ≡ r
+one_index_more core r left at index blocks page numbers next h e p q =
+    let i : Index = record { numbers = numbers; next = next } in
+    sym (after-with_index index blocks at i (rest_of core (left - 511) next)) ∙ (rw (rest_more core left at h, ← p, q) at e)
+
+-- no blocks are left
+pub chain_whole : (core : Core) (r : Result Chain Location) (left at : ℕ) (index blocks : List ℕ) → left ≡ 0 → result_map (after index blocks) (rest_of core left at) ≡ r → r ≡ Ok (record { index = index; blocks = blocks })
+chain_whole core r left at index blocks z e =
+    let none : index_count left ≡ 0 = omega arith in
+    sym (rw (none, append-nil, append-nil) at e)

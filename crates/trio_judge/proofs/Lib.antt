@@ -1,0 +1,23 @@
+mod Parts
+mod Knowing
+mod Faults
+mod Noting
+mod Listings
+mod OtherBytes
+mod Owned
+mod OwnPages
+mod FileNoted
+mod Visiting
+mod Ending
+mod Sorted
+mod Starting
+mod FoundAgain
+pub mod Gathers
+pub mod Keeping
+pub mod IndexOnce
+pub mod Chains
+pub mod Naming
+pub mod Files
+pub mod Opening
+pub mod Making
+pub mod CaseRows

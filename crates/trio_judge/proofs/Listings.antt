@@ -1,0 +1,91 @@
+-- What a file lists, within its image and its bundle.
+use Rattle.std.proofs.Common.{◌≡◌, ℕ, ◌+◌, ◌*◌, ◌≤◌, true, ltb, leb, List, [], ◌∷◌, ◌++◌, length, Result, Ok, Err, refl, ap, arith}
+use Rattle.std.specs.List.{list_all, flat_map}
+use Rattle.std.specs.Prelude.{nat_lt}
+use Rattle.std.proofs.lemmas.List.{append-nil, length-append, length-map}
+use Rattle.std.proofs.lemmas.List.Concat.{flat_map-append}
+use Rattle.std.proofs.lemmas.Bool.{and_parts}
+use Rattle.trio_rights.specs.Bundle.{bundle_pages}
+use Rattle.trio_lists.specs.Lists.{In, is_among}
+use Rattle.trio_lists.specs.Marked.{all_below}
+use Rattle.trio_lists.proofs.Members.{In-left, In-right, is_among-In, list_all-In, list_all-each}
+use Rattle.trio_layout.specs.Core.{Location}
+use Rattle.trio_layout.specs.Entries.{Listed}
+use Rattle.trio_layout.specs.Survey.{Met, FileRead, children_in, met_in, pages_in, plain}
+use Rattle.trio_layout.specs.Case.{Case, bundle_core, file_in}
+use Rattle.trio_layout.specs.JudgedFiles.{entries_in, pages_within}
+use Rattle.trio_layout.specs.Listing.{ListedFile, file_listed}
+use Rattle.trio_layout.proofs.EntryNumbers.{AreInodes, AtMost, if_ok_at, is_inode, within_fit, within_most}
+use Rattle.trio_layout.proofs.WithinCore.{listed_within_core, within_from}
+use Rattle.trio_judge.specs.inner.Walk.{Owns}
+use Rattle.trio_judge.proofs.Noting.{no_more}
+
+-- the pages of a file are below the end of the core
+pub pages_below : (c : Case) (m : Met) (f : FileRead) (ps : List ℕ) → file_in c m ≡ Ok f → ((p : ℕ) → In p ps → In p (f.chain.index ++ f.chain.blocks)) → all_below c.range.end ps ≡ true
+pages_below c m f ps e within =
+    list_all-each (λ p. ltb p c.range.end) ps
+    (λ p i. (and_parts (leb c.range.first p) (ltb p c.range.end) (listed_within_core (bundle_core c) m f p e (within p i))).1)
+
+pub index_below : (c : Case) (m : Met) (f : FileRead) → file_in c m ≡ Ok f → all_below c.range.end f.chain.index ≡ true
+index_below c m f e = pages_below c m f f.chain.index e (λ p i. In-left p f.chain.index f.chain.blocks i)
+
+pub blocks_below : (c : Case) (m : Met) (f : FileRead) → file_in c m ≡ Ok f → all_below c.range.end f.chain.blocks ≡ true
+blocks_below c m f e = pages_below c m f f.chain.blocks e (λ p i. In-right p f.chain.index f.chain.blocks i)
+
+-- its entries have inode numbers of the image
+pub numbers_below : (c : Case) (m : Met) (f : FileRead) → file_in c m ≡ Ok f → list_all (λ l. nat_lt l.entry.ino (c.inodes + 1)) f.entries ≡ true
+numbers_below c m f e =
+    let r = within_from (bundle_core c) m f e in
+    let all = if_ok_at _ f.entries (AreInodes c.inodes) r.entries (within_fit (bundle_core c) m.kind f.chain.blocks) in
+    list_all-each (λ l. nat_lt l.entry.ino (c.inodes + 1)) f.entries
+    (λ l i. (and_parts (ltb 0 l.entry.ino) (ltb l.entry.ino (c.inodes + 1)) (list_all-In (λ (x : Listed). is_inode c.inodes x.entry.ino) l f.entries all i)).1)
+
+-- and there are at most 16 a block
+entries_most : (c : Case) (m : Met) (f : FileRead) → file_in c m ≡ Ok f → length f.entries ≤ 16 * length f.chain.blocks
+entries_most c m f e =
+    let r = within_from (bundle_core c) m f e in
+    if_ok_at _ f.entries (AtMost (16 * length f.chain.blocks)) r.entries (within_most (bundle_core c) m.kind f.chain.blocks)
+
+-- ---- all files passed
+
+-- at most 16 entries a page
+entries_step : (c : Case) (m : Met) (r : Result FileRead Location) → file_in c m ≡ r → length (children_in plain m.ino r) ≤ 16 * length (pages_in r)
+entries_step c m (Ok f) e =
+    let most = entries_most c m f e in
+    omega (arith, most, length-map f.entries (met_in plain m.ino), length-append f.chain.index f.chain.blocks)
+entries_step c m (Err p) e = omega arith
+
+pub entries_few : (c : Case) (ms : List Met) → length (flat_map (entries_in c) ms) ≤ 16 * length (flat_map (pages_within c) ms)
+entries_few c [] = omega arith
+entries_few c (m ∷ ms) =
+    let one = entries_step c m (file_in c m) refl in
+    omega (arith, one, entries_few c ms, length-append (entries_in c m) (flat_map (entries_in c) ms), length-append (pages_within c m) (flat_map (pages_within c) ms))
+
+-- the pages listed are no more than the bundle has
+pub pages_few : (c : Case) (done es : List Met) → Owns c done es → length (flat_map (pages_within c) done) ≤ length (bundle_pages c.bundle)
+pages_few c done es o =
+    no_more (flat_map (pages_within c) done) (bundle_pages c.bundle) o.pages_once
+    (λ p i. is_among-In p (bundle_pages c.bundle) (list_all-In (λ page. is_among page (bundle_pages c.bundle)) p (flat_map (pages_within c) done) o.pages i))
+
+-- the lists of the files passed have just these pages
+listed_step : (m : Met) (r : Result FileRead Location) → length (flat_map (λ (f : ListedFile). f.index) (file_listed m r)) + length (flat_map (λ (f : ListedFile). f.blocks) (file_listed m r)) ≡ length (pages_in r)
+listed_step m (Ok f) = omega (arith, ap length (append-nil f.chain.index), ap length (append-nil f.chain.blocks), length-append f.chain.index f.chain.blocks)
+listed_step m (Err p) = omega arith
+
+pub listed_pages : (c : Case) (ms : List Met) → length (flat_map (λ (f : ListedFile). f.index) (flat_map (λ m. file_listed m (file_in c m)) ms)) + length (flat_map (λ (f : ListedFile). f.blocks) (flat_map (λ m. file_listed m (file_in c m)) ms)) ≡ length (flat_map (pages_within c) ms)
+listed_pages c [] = omega arith
+listed_pages c (m ∷ ms) =
+    let l : List ListedFile = file_listed m (file_in c m) in
+    let ls : List ListedFile = flat_map (λ m. file_listed m (file_in c m)) ms in
+    let i : ListedFile → List ℕ = λ f. f.index in
+    let b : ListedFile → List ℕ = λ f. f.blocks in
+    omega (arith, listed_step m (file_in c m), listed_pages c ms, ap length (flat_map-append i l ls), ap length (flat_map-append b l ls), length-append (flat_map i l) (flat_map i ls), length-append (flat_map b l) (flat_map b ls), length-append (pages_within c m) (flat_map (pages_within c) ms))
+
+files_step : (m : Met) (r : Result FileRead Location) → length (file_listed m r) ≤ 1
+files_step m (Ok f) = omega arith
+files_step m (Err p) = omega arith
+
+pub listed_files : (c : Case) (ms : List Met) → length (flat_map (λ m. file_listed m (file_in c m)) ms) ≤ length ms
+listed_files c [] = omega arith
+listed_files c (m ∷ ms) =
+    omega (arith, files_step m (file_in c m), listed_files c ms, length-append (file_listed m (file_in c m)) (flat_map (λ m. file_listed m (file_in c m)) ms))

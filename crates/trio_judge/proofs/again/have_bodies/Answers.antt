@@ -1,0 +1,21 @@
+use Rattle.std.proofs.Common.{rules, ◌≡◌, ◌<◌, true, Bool, length, get_or, map, sym, ap, ◌∙◌}
+use Rattle.std.specs.List.{list_all}
+use Rattle.std.proofs.lemmas.List.Folds.{list_all-map}
+use Rattle.trio_layout.specs.Entries.{Listed}
+use Rattle.trio_judge.specs.Reading.{listed_seen}
+use Rattle.trio_judge.specs.Rooms.{entries_kept}
+use Rattle.trio_judge.specs.inner.Again.{has_body}
+use Rattle.trio_judge.proofs.FoundAgain.{bodies_more}
+use Rattle.trio_judge.proofs.again.have_bodies.Goals as goal
+
+pub loop-block-preserved : goal.loop-block-preserved
+loop-block-preserved c =
+    let bs = c.args.room.now.blocks.items in
+    let f = entries_kept c.args.room.now.kept in
+    let i = c.loop-block.block-index in
+    let p : Listed → Bool = has_body c.args.case.now.range in
+    let within : i < length bs = rw c.blocks-block-items.ensures at c.loop-block-test.true in
+    let here : map listed_seen c.entries_of.result.now ≡ f (get_or bs i 0) = rw c.blocks-block-items.ensures at c.entries_of.ensures in
+    let all : c.are_bodies.result ≡ true = search rules in
+    let each : list_all (λ l. p (listed_seen l)) c.entries_of.result.now ≡ true = sym (rw c.range-range.ensures at c.are_bodies.ensures) ∙ all in
+    bodies_more p f bs i within c.loop-block.invariant (ap (list_all p) (sym here) ∙ list_all-map p listed_seen c.entries_of.result.now ∙ each)

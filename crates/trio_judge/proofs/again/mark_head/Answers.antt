@@ -1,0 +1,31 @@
+use Rattle.std.proofs.Common.{rules, ◌≡◌, ◌<◌, ◌^◌, true, Ok, Some, IsTrue, subst, sym, ap, ◌∙◌}
+use Rattle.std.specs.List.{list_all}
+use Rattle.trio_rights.specs.declared.kind.Kind.TheVariants.{Directory}
+use Rattle.trio_layout.specs.Body.{block_count, body_of}
+use Rattle.trio_layout.specs.Case.{file_in}
+use Rattle.trio_layout.specs.Survey.{FileRead}
+use Rattle.trio_judge.specs.Cases.{case_in}
+use Rattle.trio_judge.specs.Rooms.{entries_in_room, file_in_room}
+use Rattle.trio_judge.specs.inner.Again.{AreFoundHeads, has_body}
+use Rattle.trio_judge.specs.inner.Walk.{file_met}
+use Rattle.trio_judge.proofs.FoundAgain.{found_head, found_of, heads_more}
+use Rattle.trio_judge.proofs.again.mark_head.Goals as goal
+
+pub returns-then-have_bodies : goal.returns-then-have_bodies
+returns-then-have_bodies c =
+    let k = case_in c.args.case.now in
+    let m = file_met c.args.file.now in
+    let room = c.args.room.now in
+    let body = c.in-Some.body in
+    let f : FileRead = file_in_room room c.args.file.now.kind body in
+    let is : body_of c.args.file.now.kind c.args.case.now.range c.args.file.now.body ≡ Some body = search rules in
+    let read : file_in k m ≡ Ok f = c.requires.read body is in
+    let dir : c.args.file.now.kind ≡ Directory = search rules in
+    let some : 0 < block_count body.size = search rules in
+    let small : c.args.case.now.range.end < 2 ^ 32 = search rules in
+    let yes : IsTrue c.have_bodies.result = search rules in
+    let bodies : list_all (has_body c.args.case.now.range) f.entries ≡ true = ap (λ x. list_all (has_body c.args.case.now.range) (entries_in_room room x)) dir ∙ c.have_bodies.ensures yes in
+    record {
+      heads = λ found all es. subst (AreFoundHeads k found) (sym c.set-new.ensures.marked)
+          (heads_more k found c.args.heads.now body.head all (found_head k found m f c.requires.keeps.first small dir read some bodies (found_of k found m f read es)));
+    }

@@ -1,0 +1,173 @@
+use Rattle.std.proofs.Common.{◌≡◌, ◌<◌, [], Ok, Err, length, map, take, get_or, refl, sym, ap, ◌∙◌, arith}
+use Rattle.std.specs.List.{flat_map}
+use Rattle.std.proofs.lemmas.List.{length-map}
+use Rattle.trio_layout.specs.Core.{Location}
+use Rattle.trio_layout.specs.Case.{file_in}
+use Rattle.trio_layout.specs.JudgedFiles.{entries_in}
+use Rattle.trio_layout.specs.Survey.{children_in, met_in, plain}
+use Rattle.trio_judge.specs.Cases.{case_in}
+use Rattle.trio_judge.specs.Rooms.{entries_in_room, entries_kept, file_in_room}
+use Rattle.trio_judge.specs.inner.Walk.{file_met, files_of}
+use Rattle.trio_judge.proofs.Listings.{numbers_below}
+use Rattle.trio_judge.proofs.Noting.{marks_same, ready_same}
+use Rattle.trio_judge.proofs.Visiting.{directory_passed, directory_queued, entries_place, entry_breaks, file_breaks, if_err_then, is_judged, marks_there, on_ok_then, on_way, regular_passed, regular_queued}
+use Rattle.trio_judge.proofs.FoundAgain.{read_of}
+use Rattle.trio_judge.proofs.walk.Walk.go_over.Goals as goal
+
+pub returns-in-Err-clause-fault : goal.returns-in-Err-clause-fault
+returns-in-Err-clause-fault c =
+    let k = case_in c.args.case.now in
+    let w = c.args.self.now in
+    let m = file_met c.args.file.now in
+    let inside : c.args.at < length (files_of w) = omega (arith, length-map w.files.items file_met) in
+    let here : get_or (files_of w) c.args.at m ≡ m = c.requires.here in
+    let place : Location = record { page = c.in-Err.field-0.page; slot = c.in-Err.field-0.slot } in
+    let bad : file_in k m ≡ Err place = sym (rw c.in-Err.is at (c.read_file.ensures.file m refl refl)) in
+    file_breaks k m place (is_judged k c.args.at w m c.requires.queued c.requires.ready inside here) bad
+
+pub note_file-requires-clause-read : goal.note_file-requires-clause-read
+note_file-requires-clause-read c =
+    sym (rw c.in-Ok.is at (c.read_file.ensures.file (file_met c.args.file.now) refl refl))
+
+pub note_file-requires-clause-on_way : goal.note_file-requires-clause-on_way
+note_file-requires-clause-on_way c =
+    let w = c.args.self.now in
+    let inside : c.args.at < length (files_of w) = omega (arith, length-map w.files.items file_met) in
+    on_way (case_in c.args.case.now) c.args.at w (file_met c.args.file.now) c.requires.passed c.requires.ready inside
+
+pub note_entries-requires-clause-marks : goal.note_entries-requires-clause-marks
+note_entries-requires-clause-marks c =
+    let k = case_in c.args.case.now in
+    let w = c.args.self.now in
+    let m = file_met c.args.file.now in
+    let at = c.args.at in
+    let room = c.read_file.new.room in
+    let inside : at < length (files_of w) = omega (arith, length-map w.files.items file_met) in
+    let here : get_or (files_of w) at m ≡ m = c.requires.here in
+    let read : file_in k m ≡ Ok (file_in_room room m.kind c.in-Ok.body) = sym (rw c.in-Ok.is at (c.read_file.ensures.file m refl refl)) in
+    marks_same k w c.note_file.new.self c.note_file.ensures.same (marks_there k w at m c.requires.ready inside here c.in-Directory.is)
+
+pub note_entries-requires-clause-ready : goal.note_entries-requires-clause-ready
+note_entries-requires-clause-ready c = ready_same (case_in c.args.case.now) c.args.self.now c.note_file.new.self c.note_file.ensures.same c.requires.ready
+
+pub note_entries-requires-clause-places : goal.note_entries-requires-clause-places
+note_entries-requires-clause-places c =
+    let k = case_in c.args.case.now in
+    let w = c.args.self.now in
+    let m = file_met c.args.file.now in
+    let at = c.args.at in
+    let room = c.read_file.new.room in
+    let inside : at < length (files_of w) = omega (arith, length-map w.files.items file_met) in
+    let here : get_or (files_of w) at m ≡ m = c.requires.here in
+    let read : file_in k m ≡ Ok (file_in_room room m.kind c.in-Ok.body) = sym (rw c.in-Ok.is at (c.read_file.ensures.file m refl refl)) in
+    let stands = c.note_file.ensures.stands (take at (files_of w)) (flat_map (entries_in k) (take at (files_of w))) c.requires.passed in
+    let entries : entries_in k m ≡ map (met_in plain m.ino) (flat_map (entries_kept room.kept) room.blocks.items) =
+    ap (children_in plain m.ino) read ∙ ap (λ kind. map (met_in plain m.ino) (entries_in_room room kind)) c.in-Directory.is in
+    let count : length (entries_in k m) ≡ length (flat_map (entries_kept room.kept) room.blocks.items) = ap length entries ∙ length-map (flat_map (entries_kept room.kept) room.blocks.items) (met_in plain m.ino) in
+    rw count at (entries_place k (take at (files_of w)) (flat_map (entries_in k) (take at (files_of w))) m w c.note_file.new.self c.requires.ready c.note_file.ensures.same refl stands)
+
+pub note_entries-requires-clause-numbers : goal.note_entries-requires-clause-numbers
+note_entries-requires-clause-numbers c =
+    let k = case_in c.args.case.now in
+    let w = c.args.self.now in
+    let m = file_met c.args.file.now in
+    let at = c.args.at in
+    let room = c.read_file.new.room in
+    let inside : at < length (files_of w) = omega (arith, length-map w.files.items file_met) in
+    let here : get_or (files_of w) at m ≡ m = c.requires.here in
+    let read : file_in k m ≡ Ok (file_in_room room m.kind c.in-Ok.body) = sym (rw c.in-Ok.is at (c.read_file.ensures.file m refl refl)) in
+    rw c.in-Directory.is at (numbers_below k m (file_in_room room m.kind c.in-Ok.body) read)
+
+pub returns-in-Directory-clause-queued : goal.returns-in-Directory-clause-queued
+returns-in-Directory-clause-queued c =
+    let k = case_in c.args.case.now in
+    let w = c.args.self.now in
+    let m = file_met c.args.file.now in
+    let at = c.args.at in
+    let room = c.read_file.new.room in
+    let inside : at < length (files_of w) = omega (arith, length-map w.files.items file_met) in
+    let here : get_or (files_of w) at m ≡ m = c.requires.here in
+    let read : file_in k m ≡ Ok (file_in_room room m.kind c.in-Ok.body) = sym (rw c.in-Ok.is at (c.read_file.ensures.file m refl refl)) in
+    let stands = c.note_file.ensures.stands (take at (files_of w)) (flat_map (entries_in k) (take at (files_of w))) c.requires.passed in
+    let entries : entries_in k m ≡ map (met_in plain m.ino) (flat_map (entries_kept room.kept) room.blocks.items) =
+    ap (children_in plain m.ino) read ∙ ap (λ kind. map (met_in plain m.ino) (entries_in_room room kind)) c.in-Directory.is in
+    on_ok_then c.note_entries.result (λ noted. directory_queued k at w c.note_file.new.self m c.requires.queued c.requires.ready inside here c.note_file.ensures.same stands c.note_entries.new.self (rw entries noted)) c.note_entries.ensures.noted
+
+pub returns-in-Directory-clause-passed : goal.returns-in-Directory-clause-passed
+returns-in-Directory-clause-passed c =
+    let k = case_in c.args.case.now in
+    let w = c.args.self.now in
+    let m = file_met c.args.file.now in
+    let at = c.args.at in
+    let room = c.read_file.new.room in
+    let inside : at < length (files_of w) = omega (arith, length-map w.files.items file_met) in
+    let here : get_or (files_of w) at m ≡ m = c.requires.here in
+    let read : file_in k m ≡ Ok (file_in_room room m.kind c.in-Ok.body) = sym (rw c.in-Ok.is at (c.read_file.ensures.file m refl refl)) in
+    let stands = c.note_file.ensures.stands (take at (files_of w)) (flat_map (entries_in k) (take at (files_of w))) c.requires.passed in
+    let entries : entries_in k m ≡ map (met_in plain m.ino) (flat_map (entries_kept room.kept) room.blocks.items) =
+    ap (children_in plain m.ino) read ∙ ap (λ kind. map (met_in plain m.ino) (entries_in_room room kind)) c.in-Directory.is in
+    on_ok_then c.note_entries.result (λ noted. directory_passed k at w c.note_file.new.self m c.requires.queued c.requires.ready inside here c.note_file.ensures.same stands c.note_entries.new.self (rw entries noted)) c.note_entries.ensures.noted
+
+pub returns-in-Directory-clause-ready : goal.returns-in-Directory-clause-ready
+returns-in-Directory-clause-ready c = on_ok_then c.note_entries.result (λ noted. noted.ready) c.note_entries.ensures.noted
+
+pub returns-in-Directory-clause-fault : goal.returns-in-Directory-clause-fault
+returns-in-Directory-clause-fault c =
+    let k = case_in c.args.case.now in
+    let w = c.args.self.now in
+    let m = file_met c.args.file.now in
+    let at = c.args.at in
+    let room = c.read_file.new.room in
+    let inside : at < length (files_of w) = omega (arith, length-map w.files.items file_met) in
+    let here : get_or (files_of w) at m ≡ m = c.requires.here in
+    let read : file_in k m ≡ Ok (file_in_room room m.kind c.in-Ok.body) = sym (rw c.in-Ok.is at (c.read_file.ensures.file m refl refl)) in
+    let entries : entries_in k m ≡ map (met_in plain m.ino) (flat_map (entries_kept room.kept) room.blocks.items) =
+    ap (children_in plain m.ino) read ∙ ap (λ kind. map (met_in plain m.ino) (entries_in_room room kind)) c.in-Directory.is in
+    if_err_then c.note_entries.result (λ p bad. entry_breaks k m p (is_judged k at w m c.requires.queued c.requires.ready inside here) (rw entries bad)) c.note_entries.ensures.bad
+
+pub returns-in-Regular-clause-queued : goal.returns-in-Regular-clause-queued
+returns-in-Regular-clause-queued c =
+    let k = case_in c.args.case.now in
+    let w = c.args.self.now in
+    let m = file_met c.args.file.now in
+    let at = c.args.at in
+    let room = c.read_file.new.room in
+    let inside : at < length (files_of w) = omega (arith, length-map w.files.items file_met) in
+    let here : get_or (files_of w) at m ≡ m = c.requires.here in
+    let read : file_in k m ≡ Ok (file_in_room room m.kind c.in-Ok.body) = sym (rw c.in-Ok.is at (c.read_file.ensures.file m refl refl)) in
+    let stands = c.note_file.ensures.stands (take at (files_of w)) (flat_map (entries_in k) (take at (files_of w))) c.requires.passed in
+    let entries : entries_in k m ≡ [] = ap (children_in plain m.ino) read ∙ ap (λ kind. map (met_in plain m.ino) (entries_in_room room kind)) c.in-Regular.is in
+    regular_queued k at w c.note_file.new.self m c.requires.queued c.requires.ready inside here c.note_file.ensures.same stands entries
+
+pub returns-in-Regular-clause-passed : goal.returns-in-Regular-clause-passed
+returns-in-Regular-clause-passed c =
+    let k = case_in c.args.case.now in
+    let w = c.args.self.now in
+    let m = file_met c.args.file.now in
+    let at = c.args.at in
+    let room = c.read_file.new.room in
+    let inside : at < length (files_of w) = omega (arith, length-map w.files.items file_met) in
+    let here : get_or (files_of w) at m ≡ m = c.requires.here in
+    let read : file_in k m ≡ Ok (file_in_room room m.kind c.in-Ok.body) = sym (rw c.in-Ok.is at (c.read_file.ensures.file m refl refl)) in
+    let stands = c.note_file.ensures.stands (take at (files_of w)) (flat_map (entries_in k) (take at (files_of w))) c.requires.passed in
+    let entries : entries_in k m ≡ [] = ap (children_in plain m.ino) read ∙ ap (λ kind. map (met_in plain m.ino) (entries_in_room room kind)) c.in-Regular.is in
+    regular_passed k at w c.note_file.new.self m c.requires.queued c.requires.ready inside here c.note_file.ensures.same stands entries
+
+pub returns-in-Regular-clause-ready : goal.returns-in-Regular-clause-ready
+returns-in-Regular-clause-ready c = ready_same (case_in c.args.case.now) c.args.self.now c.note_file.new.self c.note_file.ensures.same c.requires.ready
+
+pub returns-in-Regular-clause-read : goal.returns-in-Regular-clause-read
+returns-in-Regular-clause-read c =
+    let k = case_in c.args.case.now in
+    let m = file_met c.args.file.now in
+    let room = c.read_file.new.room in
+    let read : file_in k m ≡ Ok (file_in_room room m.kind c.in-Ok.body) = sym (rw c.in-Ok.is at (c.read_file.ensures.file m refl refl)) in
+    read_of k m room c.in-Ok.body read
+
+pub returns-in-Directory-clause-read : goal.returns-in-Directory-clause-read
+returns-in-Directory-clause-read c =
+    let k = case_in c.args.case.now in
+    let m = file_met c.args.file.now in
+    let room = c.read_file.new.room in
+    let read : file_in k m ≡ Ok (file_in_room room m.kind c.in-Ok.body) = sym (rw c.in-Ok.is at (c.read_file.ensures.file m refl refl)) in
+    on_ok_then c.note_entries.result (λ noted. read_of k m room c.in-Ok.body read) c.note_entries.ensures.noted

@@ -1,0 +1,9 @@
+use Rattle.std.proofs.Common.{map, take}
+use Rattle.trio_layout.specs.Survey.{met_in, plain}
+use Rattle.trio_judge.specs.Cases.{case_in}
+use Rattle.trio_judge.specs.Reading.{listed_seen}
+use Rattle.trio_judge.specs.inner.Walk.{Noted}
+use Rattle.trio_judge.proofs.walk.Walk.note_block.Given as goal
+
+abbrev pub invariant-loop-listed : goal.invariant-loop-listed
+invariant-loop-listed l = Noted (case_in l.case) (map (met_in plain l.directory) (map listed_seen (take l.listed-index l.entries))) l.fn.self l.self

@@ -1,0 +1,32 @@
+-- What a verdict says of a case.
+use Rattle.std.specs.Prelude.{◌≡◌, ◌⊎◌, ⊤, Bool, true, false, ◌&&◌, IsTrue, MatchOption}
+use Rattle.trio_layout.specs.Core.{Location}
+use Rattle.trio_layout.specs.Case.{Case}
+use Rattle.trio_layout.specs.Listing.{listing}
+use Rattle.trio_layout.specs.Rules.{meets_grammar, meets_owning, meets_rights}
+use Rattle.trio_layout.specs.Broken.{BreaksGrammar, BreaksOwning, BreaksRights}
+use Rattle.trio_judge.specs.declared.verdict.Verdict.{Verdict}
+use Rattle.trio_judge.specs.declared.verdict.Verdict.TheVariants.{Sound, Broken}
+
+-- the bundle meets I1, I2 and I4
+abbrev pub meets_three : Case → Bool
+meets_three c = meets_grammar c && meets_owning c && meets_rights c
+
+-- the verdict is that it does
+abbrev pub is_sound : Verdict → Bool
+is_sound (Sound l) = true
+is_sound (Broken rule ino page slot l) = false
+
+-- the rule is the lowest of the three that fails, and fails at this file and place
+abbrev pub IsLowest : Case → Verdict → Type 0
+IsLowest c (Sound l) = ⊤
+IsLowest c (Broken rule ino page slot l) =
+    let place : Location = record { page = page; slot = slot } in
+    ((rule ≡ 1) × BreaksGrammar c ino place)
+    ⊎ (((rule ≡ 2) × IsTrue (meets_grammar c) × BreaksOwning c ino place)
+    ⊎ ((rule ≡ 4) × IsTrue (meets_grammar c) × IsTrue (meets_owning c) × BreaksRights c ino place))
+
+-- a verdict that the three are met, or that I4 alone of them fails, has the listing of the case, and no other has one
+abbrev pub HasListing : Case → Verdict → Type 0
+HasListing c (Sound l) = l.listing ≡ listing c
+HasListing c (Broken rule ino page slot l) = MatchOption l (rule ≡ 4 → ⊥) (λ x. (rule ≡ 4) × (x.listing ≡ listing c))

@@ -1,0 +1,45 @@
+-- What the maps of a case tell. Cited by the case's own invariant and private functions alone.
+use Rattle.std.specs.Prelude.{ℕ, ◌≡◌, ◌+◌, ◌==◌, Bool, true, false, List, Option, None, map, if◌then◌else◌}
+use Rattle.std.specs.List.{find}
+use Rattle.std.specs.Option.{option_map}
+use Rattle.std.specs.Ordering.{nat_cmp}
+use Rattle.std.specs.BTreeMap.{BTreeMap, get}
+use Rattle.std.specs.BTreeSet.{contains}
+use Rattle.trio_rights.specs.Row.{Row, row_in}
+use Rattle.trio_rights.specs.declared.kind.Kind.{Kind}
+use Rattle.trio_rights.specs.declared.kind.Kind.TheVariants.{Regular, Directory}
+use Rattle.trio_rights.specs.Bundle.{is_written}
+use Rattle.trio_lists.specs.Lists.{is_among, tabulated}
+use Rattle.trio_lease.specs.Bundles.{Bundled}
+use Rattle.trio_lease.specs.Views.{bundle_in}
+use Rattle.trio_lease.specs.declared.parts.HoldParts.{HoldParts}
+use Rattle.trio_tables.specs.Row.{as_row}
+use Rattle.trio_tables.specs.declared.row.Row.{Row as RowData}
+use Rattle.trio_judge.specs.declared.numbers.Numbers.{Numbers}
+
+-- the row of a number, where the map has one
+abbrev pub row_kept : BTreeMap ℕ RowData → ℕ → Option Row
+row_kept rows n = option_map as_row (get nat_cmp rows n)
+
+-- the rows of a map, by number up to `inodes`
+abbrev pub rows_kept : BTreeMap ℕ RowData → ℕ → List (Option Row)
+rows_kept rows inodes = tabulated (row_kept rows) (inodes + 1)
+
+-- the body that the first of these holds on a number lent
+abbrev pub body_lent : List HoldParts → ℕ → Option (List ℕ)
+body_lent holds n = option_map (λ h. h.body) (find (λ h. h.ino == n) holds)
+
+-- the kind is a directory's
+abbrev pub is_directory : Kind → Bool
+is_directory Regular = false
+is_directory Directory = true
+
+-- the sets tell of each number what the bundle has under it
+pub record Tells (numbers : Numbers) (b : Bundled) : Type 0 where
+  pub writes : (n : ℕ) → contains nat_cmp numbers.writes n ≡ is_written (bundle_in b) n
+  pub holds : (n : ℕ) → get nat_cmp numbers.holds n ≡ body_lent b.holds n
+  pub fresh : (n : ℕ) → contains nat_cmp numbers.fresh n ≡ is_among n (map (λ f. f.no) b.inodes)
+
+-- the map has the rows of these numbers, where they are live, and no others
+abbrev pub HasRowsOf : List (Option Row) → BTreeMap ℕ RowData → List ℕ → Type 0
+HasRowsOf rows m numbers = (n : ℕ) → row_kept m n ≡ (if is_among n numbers then row_in rows n else None)

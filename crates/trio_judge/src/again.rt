@@ -1,0 +1,96 @@
+//! Directories that list again just what one before them lists.
+
+ghost use Rattle.std.specs.Prelude.{◌≡◌, ◌+◌, ◌<◌, ◌≤◌, ℕ, IfErr, IfOk, IsTrue, List, Err, Ok, OnOk, Some, true};
+ghost use Rattle.std.specs.List.{flat_map, list_all};
+ghost use Rattle.trio_layout.specs.Body.{body_of};
+ghost use Rattle.trio_layout.specs.Case.{file_in};
+ghost use Rattle.trio_layout.specs.JudgedFiles.{entries_in};
+ghost use Rattle.trio_judge.specs.Cases.{case_in};
+ghost use Rattle.trio_judge.specs.Reading.{listed_seen, place_seen};
+ghost use Rattle.trio_judge.specs.Rooms.{entries_kept, file_in_room, looks_left, Keeps};
+ghost use Rattle.trio_judge.specs.inner.Again.{has_body, AreAllFound, AreFoundHeads, IsListedBefore};
+ghost use Rattle.trio_judge.specs.inner.Walk.{file_met};
+
+use crate::case::Case;
+use crate::chain::read_chain;
+use crate::entries::{DirEntry, FaultPlace};
+use crate::room::PageRoom;
+use crate::walk::JudgedFile;
+use trio_layout::{Body, CoreRange};
+use trio_marks::Marks;
+use trio_page::Reads;
+use trio_rights::Kind;
+
+/// Whether a directory has a chain that begins with a marked index page, or where its body or this
+/// chain leaves the grammar.
+#[tactic(auto, unfolding(trio_layout::specs::Within::file_within))]
+pub(crate) fn is_listed_before(
+    case: &Case,
+    room: &mut PageRoom,
+    heads: &Marks,
+    file: &JudgedFile,
+    reads: &mut Reads,
+) -> Result<bool, FaultPlace>
+    requires keeps { Keeps case.now room.old }
+    ensures before { IfOk result (λ before. IsTrue before → IsListedBefore (case_in case.now) heads.now (file_met file.now)) }
+    ensures bad { IfErr result (λ p. file_in (case_in case.now) (file_met file.now) ≡ Err (place_seen p)) }
+    ensures keeps { Keeps case.now room.new }
+    ensures looks { OnOk result (reads.new + looks_left room.new ≤ reads.old + looks_left room.old) }
+    ensures last { reads.new ≤ reads.old + looks_left room.old }
+{
+    let Some(body) = Body::read(&file.body, file.kind, case.range()) else {
+        return Err(FaultPlace { page: 0, slot: 0 });
+    };
+    if file.kind == Kind::Regular || body.blocks() == 0 || !heads.has(body.head) {
+        return Ok(false);
+    }
+    match read_chain(case, room, &body, reads) {
+        Ok(()) => Ok(true),
+        Err(page) => Err(FaultPlace { page, slot: 0 }),
+    }
+}
+
+/// Marks the first index page of a directory that was gone over, where the body in each of its
+/// entries is in the grammar.
+pub(crate) fn mark_head(case: &Case, room: &PageRoom, heads: &mut Marks, file: &JudgedFile)
+    requires keeps { Keeps case.now room.now }
+    requires read { (body : Body) → body_of file.now.kind case.now.range file.now.body ≡ Some body → file_in (case_in case.now) (file_met file.now) ≡ Ok (file_in_room room.now file.now.kind body) }
+    ensures heads { (found : List ℕ) → AreFoundHeads (case_in case.now) found heads.old → AreAllFound (case_in case.now) found (entries_in (case_in case.now) (file_met file.now)) → AreFoundHeads (case_in case.now) found heads.new }
+{
+    let Some(body) = Body::read(&file.body, file.kind, case.range()) else {
+        return;
+    };
+    if file.kind == Kind::Directory
+        && body.blocks() > 0
+        && (body.head as usize) < heads.len()
+        && have_bodies(case, room)
+    {
+        let _new = heads.set(body.head);
+    }
+}
+
+/// Whether the body in the slot of each entry of these blocks is in the grammar.
+fn have_bodies(case: &Case, room: &PageRoom) -> bool
+    requires { Keeps case.now room.now }
+    ensures { IsTrue result → list_all (has_body case.now.range) (flat_map (entries_kept room.now.kept) room.now.blocks.items) ≡ true }
+{
+    let range = case.range();
+    for block in room.blocks() {
+        if !are_bodies(room.entries_of(case, *block), range) {
+            return false;
+        }
+    }
+    true
+}
+
+fn are_bodies(entries: &[DirEntry], range: CoreRange) -> bool
+    ensures { result ≡ list_all (λ l. has_body range (listed_seen l)) entries.now }
+{
+    entries.iter().all(|listed| has_body(listed, range))
+}
+
+fn has_body(listed: &DirEntry, range: CoreRange) -> bool
+    ensures { result ≡ has_body range (listed_seen listed.now) }
+{
+    Body::read(&listed.body, listed.entry.kind, range).is_some()
+}

@@ -1,0 +1,120 @@
+//! The judge of a bundle.
+
+ghost use Rattle.std.specs.Prelude.{◌≡◌, ◌+◌, ◌*◌, ◌≤◌, IfOk, length};
+ghost use Rattle.trio_rights.specs.Bundle.{bundle_pages};
+ghost use Rattle.trio_lease.specs.Views.{bundle_in};
+ghost use Rattle.trio_judge.specs.Cases.{case_in};
+ghost use Rattle.trio_judge.specs.Verdicts.{meets_three, HasListing, IsLowest, is_sound};
+ghost use Rattle.trio_judge.specs.Judging.{IsJudgeRoom};
+ghost use Rattle.trio_judge.specs.inner.Walk.{HasEnded, IsPassed};
+
+use crate::case::Case;
+use crate::listing::Listing;
+use crate::room::PageRoom;
+use crate::walk::{FaultAt, Walk};
+use std::alloc::Global;
+use trio_marks::Marks;
+use trio_page::{NoMemory, Reads};
+
+/// What the judge says of a bundle.
+#[derive(Drop)]
+pub enum Verdict {
+    /// The rules I1, I2 and I4 hold, and this is what the bundle lists.
+    Sound(Listing),
+    /// The lowest of these rules that fails, and where.
+    ///
+    /// - Of an entry, `ino` is the directory that has it, and `page` and `slot` are its place.
+    /// - Of a page that a file lists, `ino` is that file, `page` the page, and `slot` is 0.
+    /// - Of the body of a file, `ino` is that file, and `page` and `slot` are 0.
+    Broken {
+        rule: u8,
+        ino: u32,
+        page: u32,
+        slot: u16,
+        /// What the bundle lists; it is there exactly where the rule is 4.
+        listing: Option<Listing>,
+    },
+}
+
+impl Verdict {
+    fn broken(rule: u8, place: FaultAt, listing: Option<Listing>) -> Verdict
+        ensures { result ≡ Verdict.Broken rule place.ino place.page place.slot listing }
+    {
+        Verdict::Broken {
+            rule,
+            ino: place.ino,
+            page: place.page,
+            slot: place.slot,
+            listing,
+        }
+    }
+}
+
+/// All the memory that the judgement of a case takes, by its numbers of pages, leases, holds and
+/// inode numbers.
+#[derive(Drop)]
+pub struct Room {
+    pages: PageRoom,
+    walk: Walk,
+    /// By page, whether a directory whose chain begins with it was gone over, so that another one
+    /// needn't be.
+    heads: Marks,
+}
+
+impl Room {
+    /// Room for the judgement of this case, whatever its pages say then.
+    pub fn with(alloc: Global, case: &Case) -> Result<Room, NoMemory>
+        ensures { IfOk result (IsJudgeRoom case.now) }
+    {
+        let pages = PageRoom::with(alloc, case)?;
+        let walk = Walk::with(alloc, case, pages.kept.pages.len())?;
+        let heads = Marks::with(alloc, case.range().end)?;
+        Ok(Room { pages, walk, heads })
+    }
+}
+
+/// Judges the rules I1, I2 and I4 of a bundle, in a room that was made for its case, whatever bytes
+/// its pages have got since. It takes no memory, and the listing keeps that of the room.
+///
+/// A page of the bundle is looked at no more than twice. Once I2 is known to fail, the entries of one
+/// directory alone are gone over of all whose chains begin with the same index page.
+pub fn judge(case: &Case, room: Room, reads: &mut Reads) -> Verdict
+    requires { IsJudgeRoom case.now room }
+    ensures sound { is_sound result ≡ meets_three (case_in case.now) }
+    ensures lowest { IsLowest (case_in case.now) result }
+    ensures listing { HasListing (case_in case.now) result }
+    ensures reads { reads.new ≤ reads.old + 2 * length (bundle_pages (bundle_in case.now.bundle)) }
+{
+    let Room {
+        mut pages,
+        mut walk,
+        mut heads,
+    } = room;
+    pages.opened(case);
+    let mut at = 0;
+    while at < walk.files.len() {
+        if let Err(place) = walk.visit(case, &mut pages, &mut heads, at, reads) {
+            return Verdict::broken(1, place, None);
+        }
+        at += 1;
+    }
+    conclude(case, walk)
+}
+
+/// What the walk found, after it passed all files.
+fn conclude(case: &Case, walk: Walk) -> Verdict
+    requires ended { HasEnded (case_in case.now) walk }
+    requires passed { IsPassed (case_in case.now) (length walk.files.items) walk }
+    ensures sound { is_sound result ≡ meets_three (case_in case.now) }
+    ensures lowest { IsLowest (case_in case.now) result }
+    ensures listing { HasListing (case_in case.now) result }
+{
+    let _case = case;
+    if let Some(place) = walk.owning {
+        return Verdict::broken(2, place, None);
+    }
+    match walk.rights {
+        Some(place) => Verdict::broken(4, place, Some(walk.listing)),
+        None => Verdict::Sound(walk.listing),
+    }
+}

@@ -1,0 +1,3 @@
+mod Less
+mod Links
+mod Search
