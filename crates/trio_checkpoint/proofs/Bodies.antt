@@ -4,7 +4,7 @@ use Rattle.std.specs.List.{find}
 use Rattle.std.proofs.lemmas.Bool.{false≢true, cases_lt, eqb-true, eqb-false}
 use Rattle.std.proofs.lemmas.List.{set-set, set_comm, set_past, get_or-set_same}
 use Rattle.trio_lists.specs.Lists.{is_among}
-use Rattle.trio_page.specs.Sheets.{Sheet, sheet_numbers, with_pages}
+use Rattle.trio_rights.specs.Sheets.{Sheet, sheet_numbers, with_pages}
 use Rattle.trio_layout.specs.Accept.{with_body_in, with_body_at}
 use Rattle.trio_checkpoint.specs.Covered.{with_body}
 

@@ -8,7 +8,7 @@ use Rattle.trio_rights.specs.declared.kind.Kind.{Kind}
 use Rattle.trio_rights.specs.declared.kind.Kind.TheVariants.{Regular, Directory}
 use Rattle.trio_layout.specs.Range.{is_core}
 use Rattle.trio_layout.specs.Core.{Core, page_of}
-use Rattle.trio_page.specs.Sheets.{Sheet, sheet_numbers}
+use Rattle.trio_rights.specs.Sheets.{Sheet, sheet_numbers}
 use Rattle.trio_layout.specs.Pages.{covered_of, sheets_of}
 use Rattle.trio_checkpoint.specs.Covered.{are_there, covered_numbers}
 use Rattle.trio_checkpoint.specs.inner.Steps.{AllStand, AreCopies, IsCopy}

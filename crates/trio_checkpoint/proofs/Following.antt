@@ -9,7 +9,7 @@ use Rattle.std.proofs.lemmas.List.Folds.{find-append, list_all-append}
 use Rattle.trio_page.specs.Home.{Pages}
 use Rattle.trio_lists.specs.Marked.{all_below}
 use Rattle.trio_lists.proofs.Marked.{below_at}
-use Rattle.trio_page.specs.Sheets.{Sheet, sheet_numbers, with_pages}
+use Rattle.trio_rights.specs.Sheets.{Sheet, sheet_numbers, with_pages}
 use Rattle.trio_checkpoint.specs.Covered.{all_stand, page_on}
 use Rattle.trio_checkpoint.proofs.Restoring.{below_parts, length-with_pages, with_pages-append}
 

@@ -9,7 +9,7 @@ use Rattle.trio_rights.specs.declared.kind.Kind.{Kind}
 use Rattle.trio_rights.specs.declared.kind.Kind.TheVariants.{Regular, Directory}
 use Rattle.trio_lists.specs.Marked.{all_below}
 use Rattle.trio_layout.specs.Core.{Core, page_of}
-use Rattle.trio_page.specs.Sheets.{Sheet, sheet_numbers, with_pages}
+use Rattle.trio_rights.specs.Sheets.{Sheet, sheet_numbers, with_pages}
 use Rattle.trio_layout.specs.Pages.{covered_of, sheets_of}
 use Rattle.trio_checkpoint.specs.inner.Steps.{IsCopy}
 use Rattle.trio_checkpoint.proofs.Copies.{at_its_number}

@@ -10,7 +10,7 @@ use Rattle.trio_lists.specs.Lists.{result_then, there_or}
 use Rattle.trio_layout.specs.Core.{Core, Location, nowhere, page_of}
 use Rattle.trio_layout.specs.Chain.{Chain, chain_of}
 use Rattle.trio_layout.specs.Entries.{body_in_slot}
-use Rattle.trio_page.specs.Sheets.{Sheet}
+use Rattle.trio_rights.specs.Sheets.{Sheet}
 use Rattle.trio_layout.specs.Accept.{with_body_in}
 
 -- A checkpoint of a file that is lent for writing: the inode number, the body, the numbers of all its index pages and blocks, and what the pages

@@ -3,7 +3,7 @@ use Rattle.std.specs.Prelude.{◌≡◌, ℕ, List, Option, IsTrue}
 use Rattle.trio_rights.specs.declared.kind.Kind.{Kind}
 use Rattle.trio_lists.specs.Lists.{is_among}
 use Rattle.trio_layout.specs.Core.{Core}
-use Rattle.trio_page.specs.Sheets.{Sheet, sheet_numbers, with_pages}
+use Rattle.trio_rights.specs.Sheets.{Sheet, sheet_numbers, with_pages}
 use Rattle.trio_layout.specs.Pages.{covered_of, sheets_of}
 use Rattle.trio_layout.specs.Accept.{with_body_at}
 use Rattle.trio_checkpoint.specs.Covered.{with_body}

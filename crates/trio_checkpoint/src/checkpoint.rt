@@ -7,7 +7,7 @@ ghost use Rattle.std.specs.Result.{ForOk};
 ghost use Rattle.trio_lists.specs.Lists.{is_among};
 ghost use Rattle.trio_lists.specs.Marked.{all_below};
 ghost use Rattle.trio_layout.specs.Pages.{covered_of, sheets_of};
-ghost use Rattle.trio_page.specs.Sheets.{sheet_numbers, with_pages};
+ghost use Rattle.trio_rights.specs.Sheets.{sheet_numbers, with_pages};
 ghost use Rattle.trio_checkpoint.specs.Covered.{all_stand, are_there, body_on, chain_in, core_of, covered_numbers, covered_pages, page_on, standing, with_body};
 ghost use Rattle.trio_checkpoint.specs.inner.Steps.{AllStand, AreCopies};
 

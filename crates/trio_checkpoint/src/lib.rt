@@ -20,7 +20,5 @@ mod chain;
 mod checkpoint;
 pub mod laws;
 mod page_copy;
-#[cfg(test)]
-mod tests;
 
 pub use checkpoint::Checkpoint;

@@ -5,7 +5,7 @@ ghost use Rattle.std.specs.List.{find};
 ghost use Rattle.std.specs.Option.{option_copied};
 ghost use Rattle.trio_layout.specs.Entries.{body_in_slot};
 ghost use Rattle.trio_lists.specs.Marked.{all_below};
-ghost use Rattle.trio_page.specs.Sheets.{sheet_numbers, with_pages};
+ghost use Rattle.trio_rights.specs.Sheets.{sheet_numbers, with_pages};
 ghost use Rattle.trio_checkpoint.specs.Covered.{all_stand, renewed, standing, with_body};
 ghost use Rattle.trio_checkpoint.specs.inner.Steps.{AreCopies, AllStand, IsCopy};
 
@@ -16,7 +16,7 @@ use trio_page::{Home, NoMemory, Page, PageNo, Reads};
 
 /// A copy of a page, with the number at which the page stood.
 ///
-/// Contracts see it as a `Sheet` of `trio_page`'s `specs/Sheets.antt`.
+/// Contracts see it as a `Sheet` of `trio_rights`'s `specs/Sheets.antt`.
 #[derive(Drop)]
 pub(crate) struct PageCopy {
     number: u32,
@@ -24,7 +24,7 @@ pub(crate) struct PageCopy {
 }
 
 impl Model for PageCopy {
-    ghost use Rattle.trio_page.specs.Sheets.{Sheet};
+    ghost use Rattle.trio_rights.specs.Sheets.{Sheet};
 
     ghost Value = { Sheet };
 

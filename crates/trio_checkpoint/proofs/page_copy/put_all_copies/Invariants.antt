@@ -1,5 +1,5 @@
 use Rattle.std.proofs.Common.{◌≡◌, take}
-use Rattle.trio_page.specs.Sheets.{with_pages}
+use Rattle.trio_rights.specs.Sheets.{with_pages}
 use Rattle.trio_checkpoint.proofs.page_copy.put_all_copies.Given as goal
 
 abbrev pub invariant-loop-copy : goal.invariant-loop-copy

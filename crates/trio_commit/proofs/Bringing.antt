@@ -1,0 +1,147 @@
+-- Pages that are brought home one list after another.
+use Rattle.std.proofs.Common.{◌≡◌, ℕ, ◌<◌, List, [], ◌∷◌, ◌++◌, length, map, reverse, IsTrue, refl, sym, ap, subst, ◌∙◌}
+use Rattle.std.specs.Prelude.{All}
+use Rattle.std.proofs.lemmas.List.Elements.{All-from_get_or}
+use Rattle.trio_lists.proofs.Marked.{below_at}
+use Rattle.std.specs.List.{flat_map}
+use Rattle.std.proofs.lemmas.List.{map-append, reverse-append}
+use Rattle.std.proofs.lemmas.List.Folds.{flat_map-map}
+use Rattle.trio_page.specs.Home.{Pages}
+use Rattle.trio_lists.specs.Marked.{all_below}
+use Rattle.trio_rights.specs.declared.kind.Kind.{Kind}
+use Rattle.trio_rights.specs.declared.kind.Kind.TheVariants.{Regular, Directory}
+use Rattle.trio_lease.specs.Bundles.{Bundled, bundled}
+use Rattle.trio_lease.specs.Shown.{LentFile}
+use Rattle.trio_lease.specs.declared.bundle.BundleParts.{BundleParts}
+use Rattle.trio_allot.specs.Out.{inode_numbers, page_numbers, OutByNumber, outs_after}
+use Rattle.trio_state.specs.Bundles.{uncovered_of}
+use Rattle.trio_lease.specs.Views.{bundle_in, fresh_sheet, lent_sheet, written_in}
+use Rattle.trio_rights.specs.Bundle.{Written, bundle_sheets}
+use Rattle.trio_rights.specs.Sheets.{Sheet, sheet_numbers, with_pages}
+use Rattle.trio_checkpoint.proofs.Restoring.{below_joined, below_parts, length-with_pages, with_pages-append}
+use Rattle.trio_commit.specs.inner.Files.{file_sheets, lent_sheets, uncovered_sheets, IsWithinImage}
+use Rattle.trio_commit.specs.Handed.{lent_uncovered}
+use Rattle.trio_tables.specs.Out.{with_all}
+use Rattle.trio_tables.proofs.OutLemmas.{length-with_all}
+use Rattle.trio_lease.specs.declared.parts.LentPage.{LentPage}
+use Rattle.trio_commit.specs.Listed.{written_pages}
+use Rattle.trio_commit.proofs.Cells.{with_all-append}
+use Rattle.trio_commit.proofs.Outs.{fresh_numbers}
+
+-- With the pages that are left put too, home is as the start with all of them put.
+pub record Left (home start : Pages) (rest all : List Sheet) : Type 0 where
+  pub pages : with_pages rest home.pages ≡ with_pages all start.pages
+  pub below : IsTrue (all_below (length home.pages) (sheet_numbers rest))
+  pub looked : home.looked ≡ start.looked
+
+pub all_left : (start : Pages) (rest all : List Sheet) → rest ≡ all → IsTrue (all_below (length start.pages) (sheet_numbers all)) → Left start start rest all
+all_left start rest all same below = record {
+  pages = ap (λ xs. with_pages xs start.pages) same;
+  below = subst (λ xs. IsTrue (all_below (length start.pages) (sheet_numbers xs))) (sym same) below;
+  looked = refl;
+}
+
+pub front_within : (home start : Pages) (rest all xs ys : List Sheet) → Left home start rest all → rest ≡ xs ++ ys → IsTrue (all_below (length home.pages) (sheet_numbers xs))
+front_within home start rest all xs ys left parts =
+    (below_parts (length home.pages) xs ys (subst (λ zs. IsTrue (all_below (length home.pages) (sheet_numbers zs))) parts left.below)).0
+
+pub less_left : (home start now : Pages) (rest all xs ys : List Sheet) → Left home start rest all → rest ≡ xs ++ ys → now ≡ record home { pages = with_pages xs home.pages } → Left now start ys all
+less_left home start now rest all xs ys left parts put =
+    let n : length now.pages ≡ length home.pages = ap (λ (h : Pages). length h.pages) put ∙ length-with_pages xs home.pages in
+    record {
+      pages = ap (λ (h : Pages). with_pages ys h.pages) put
+          ∙ sym (with_pages-append xs ys home.pages)
+          ∙ ap (λ zs. with_pages zs home.pages) (sym parts)
+          ∙ left.pages;
+      below = subst (λ k. IsTrue (all_below k (sheet_numbers ys))) (sym n)
+          (below_parts (length home.pages) xs ys (subst (λ zs. IsTrue (all_below (length home.pages) (sheet_numbers zs))) parts left.below)).1;
+      looked = ap (λ (h : Pages). h.looked) put ∙ left.looked;
+    }
+
+-- pages of two lists that are nobody's, one list after the other
+pub disowned_both : (owners mid after : List ℕ) (xs ys : List LentPage) → mid ≡ with_all 0 (sheet_numbers (lent_sheets xs)) owners → after ≡ with_all 0 (sheet_numbers (lent_sheets ys)) mid
+    → after ≡ with_all 0 (sheet_numbers (lent_sheets xs ++ lent_sheets ys)) owners
+disowned_both owners mid after xs ys first second =
+    second
+    ∙ ap (with_all 0 (sheet_numbers (lent_sheets ys))) first
+    ∙ sym (with_all-append 0 (sheet_numbers (lent_sheets xs)) (sheet_numbers (lent_sheets ys)) owners)
+    ∙ ap (λ ns. with_all 0 ns owners) (sym (map-append (λ (x : Sheet). x.page) (lent_sheets xs) (lent_sheets ys)))
+
+-- The same of home and of the owners: with the pages that are left put, and nobody's, both are as with all of them.
+pub record LeftBoth (home start : Pages) (owners first : List ℕ) (rest all : List Sheet) : Type 0 where
+  pub left : Left home start rest all
+  pub disowned : with_all 0 (sheet_numbers rest) owners ≡ with_all 0 (sheet_numbers all) first
+  pub table : length owners ≡ length home.pages
+
+pub less_both : (home start now : Pages) (owners first after : List ℕ) (rest all xs ys : List Sheet) → LeftBoth home start owners first rest all → rest ≡ xs ++ ys
+    → now ≡ record home { pages = with_pages xs home.pages } → after ≡ with_all 0 (sheet_numbers xs) owners → LeftBoth now start after first ys all
+less_both home start now owners first after rest all xs ys left parts put freed = record {
+  left = less_left home start now rest all xs ys left.left parts put;
+  disowned =
+      ap (with_all 0 (sheet_numbers ys)) freed
+      ∙ sym (with_all-append 0 (sheet_numbers xs) (sheet_numbers ys) owners)
+      ∙ ap (λ ns. with_all 0 ns owners) (sym (map-append (λ (x : Sheet). x.page) xs ys) ∙ ap sheet_numbers (sym parts))
+      ∙ left.disowned;
+  table =
+      ap length freed ∙ length-with_all 0 (sheet_numbers xs) owners ∙ left.table
+      ∙ sym (ap (λ (h : Pages). length h.pages) put ∙ length-with_pages xs home.pages);
+}
+
+-- the last of a list stands at the front of the reversed one
+pub last_first : {X Y : Type 0} (f : X → List Y) (items rest : List X) (x : X) → items ≡ rest ++ x ∷ [] → flat_map f (reverse items) ≡ f x ++ flat_map f (reverse rest)
+last_first f items rest x is =
+    ap (λ xs. flat_map f (reverse xs)) is ∙ ap (flat_map f) (reverse-append rest (x ∷ []))
+
+-- ---- the pages of a bundle
+
+pub sheets_are : (parts : BundleParts) (b : Bundled) → bundled parts ≡ b → bundle_sheets (bundle_in b) ≡ flat_map file_sheets parts.writes.items ++ map fresh_sheet parts.pages.items
+sheets_are parts b is =
+    ap (λ (b : Bundled). bundle_sheets (bundle_in b)) (sym is)
+    ∙ ap (λ ss. ss ++ map fresh_sheet parts.pages.items)
+    (flat_map-map (λ (w : Written). w.index ++ w.blocks) (λ (f : LentFile). written_in f.stands) parts.writes.items)
+
+pub pages_are : (parts : BundleParts) (b : Bundled) → bundled parts ≡ b → sheet_numbers (flat_map file_sheets parts.writes.items) ≡ written_pages (bundle_in b)
+pages_are parts b is =
+    ap sheet_numbers (sym (flat_map-map (λ (w : Written). w.index ++ w.blocks) (λ (f : LentFile). written_in f.stands) parts.writes.items))
+    ∙ ap (λ (b : Bundled). written_pages (bundle_in b)) is
+
+pub uncovered_are : (parts : BundleParts) (b : Bundled) → bundled parts ≡ b → lent_uncovered (bundle_in b) ++ (bundle_in b).pages ≡ flat_map uncovered_sheets parts.writes.items ++ map fresh_sheet parts.pages.items
+uncovered_are parts b is =
+    ap (λ (b : Bundled). lent_uncovered (bundle_in b) ++ (bundle_in b).pages) (sym is)
+    ∙ ap (λ ss. ss ++ map fresh_sheet parts.pages.items)
+    (flat_map-map (λ (w : Written). uncovered_of w.kind w.blocks) (λ (f : LentFile). written_in f.stands) parts.writes.items)
+
+pub All-below : (n : ℕ) (xs : List ℕ) → IsTrue (all_below n xs) → All (λ m. m < n) xs
+All-below n xs below = All-from_get_or (λ m. m < n) xs 0 (λ i lt. below_at n xs i lt below)
+
+-- what of a bundle was allotted, by its parts
+pub places_of : (parts : BundleParts) (b : Bundled) (outs : OutByNumber) → bundled parts ≡ b → IsWithinImage outs (bundle_in b)
+    → All (λ n. n < length outs.pages) (page_numbers parts.pages.items) × All (λ n. n < length outs.numbers) (inode_numbers parts.inodes.items)
+places_of parts b outs is h =
+    let h' : IsWithinImage outs (bundle_in (bundled parts)) = subst (λ (x : Bundled). IsWithinImage outs (bundle_in x)) (sym is) h in
+    (subst (All (λ n. n < length outs.pages)) (fresh_numbers parts.pages.items) (All-below (length outs.pages) (sheet_numbers (bundle_in (bundled parts)).pages) h'.pages), All-below (length outs.numbers) (inode_numbers parts.inodes.items) h'.numbers)
+
+pub returned_are : (parts : BundleParts) (b : Bundled) (outs : OutByNumber) → bundled parts ≡ b
+    → outs_after outs (page_numbers parts.pages.items) (inode_numbers parts.inodes.items) ≡ outs_after outs (sheet_numbers (bundle_in b).pages) (bundle_in b).numbers
+returned_are parts b outs is =
+    ap (λ ns. outs_after outs ns (inode_numbers parts.inodes.items)) (sym (fresh_numbers parts.pages.items))
+    ∙ ap (λ (x : Bundled). outs_after outs (sheet_numbers (bundle_in x).pages) (bundle_in x).numbers) is
+
+file_within : (n : ℕ) (kind : Kind) (index blocks : List Sheet) → IsTrue (all_below n (sheet_numbers (index ++ blocks))) → IsTrue (all_below n (sheet_numbers (uncovered_of kind blocks)))
+file_within n Regular index blocks below = (below_parts n index blocks below).1
+file_within n Directory index blocks below = refl
+
+uncovered_within : (n : ℕ) (files : List LentFile) → IsTrue (all_below n (sheet_numbers (flat_map file_sheets files))) → IsTrue (all_below n (sheet_numbers (flat_map uncovered_sheets files)))
+uncovered_within n [] below = refl
+uncovered_within n (f ∷ files) below =
+    let parts = below_parts n (file_sheets f) (flat_map file_sheets files) below in
+    below_joined n (uncovered_sheets f) (flat_map uncovered_sheets files)
+    (file_within n f.stands.kind (map lent_sheet f.stands.index) (map lent_sheet f.stands.blocks) parts.0)
+    (uncovered_within n files parts.1)
+
+-- pages of a bundle that no checkpoint covers are within where all of its pages are
+pub less_within : (n : ℕ) (files : List LentFile) (allotted : List Sheet) → IsTrue (all_below n (sheet_numbers (flat_map file_sheets files ++ allotted)))
+    → IsTrue (all_below n (sheet_numbers (flat_map uncovered_sheets files ++ allotted)))
+less_within n files allotted below =
+    let parts = below_parts n (flat_map file_sheets files) allotted below in
+    below_joined n (flat_map uncovered_sheets files) allotted (uncovered_within n files parts.0) parts.1

@@ -1,0 +1,7 @@
+pub mod Outs
+pub mod Cells
+pub mod Naming
+pub mod Bringing
+pub mod PutBack
+pub mod Rolling
+pub mod Placing

@@ -1,0 +1,15 @@
+-- Whether an entry names a number, by the directory of the first that does.
+use Rattle.std.proofs.Common.{◌≡◌, ℕ, Option, Some, None, refl, sym, ◌∙◌, ◌==◌}
+use Rattle.std.specs.Prelude.{is_some}
+use Rattle.std.specs.List.{find}
+use Rattle.std.specs.Option.{option_map}
+use Rattle.trio_layout.specs.Listing.{Listing, ListedEntry}
+use Rattle.trio_layout.specs.Edges.{is_listed}
+use Rattle.trio_commit.proofs.Cells.{is_listed-find}
+
+still_some : (o : Option ListedEntry) → is_some (option_map (λ (e : ListedEntry). e.dir) o) ≡ is_some o
+still_some None = refl
+still_some (Some e) = refl
+
+pub listed_by_dir : (l : Listing) (n : ℕ) → is_some (option_map (λ (e : ListedEntry). e.dir) (find (λ (e : ListedEntry). e.ino == n) l.entries)) ≡ is_listed l n
+listed_by_dir l n = still_some (find (λ (e : ListedEntry). e.ino == n) l.entries) ∙ sym (is_listed-find n l.entries)

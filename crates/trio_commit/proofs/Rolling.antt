@@ -1,0 +1,33 @@
+-- A bundle in the words of its leases, and what of it has its place.
+use Rattle.std.proofs.Common.{◌≡◌, ℕ, List, [], ◌∷◌, length, map, is_some, IsTrue, refl, sym, ap, subst, ◌∙◌}
+use Rattle.trio_rights.specs.declared.rights.LibNo.{LibNo}
+use Rattle.trio_page.specs.Home.{Pages}
+use Rattle.trio_lists.specs.Marked.{all_below}
+use Rattle.trio_lease.specs.Shown.{LentFile}
+use Rattle.trio_lease.specs.Views.{written_in}
+use Rattle.trio_rights.specs.Bundle.{Bundle, Written}
+use Rattle.trio_rights.specs.Sheets.{Sheet, sheet_numbers, with_pages}
+use Rattle.trio_tables.proofs.OutLemmas.{within_some}
+use Rattle.trio_allot.specs.Out.{OutByNumber}
+use Rattle.trio_checkpoint.proofs.Restoring.{length-with_pages}
+use Rattle.trio_commit.specs.Handed.{AreOutTo}
+use Rattle.trio_commit.specs.inner.Files.{IsWithinImage, lease_numbers}
+use Rattle.trio_commit.proofs.Cells.{below_from}
+
+-- the numbers of the written files, by the bundle and by its leases
+pub lease_numbers-written : (files : List LentFile) → map (λ (w : Written). w.ino) (map (λ (f : LentFile). written_in f.stands) files) ≡ lease_numbers files
+lease_numbers-written [] = refl
+lease_numbers-written (f ∷ files) = ap (λ ns. f.stands.ino ∷ ns) (lease_numbers-written files)
+
+-- what is out to a library has its place
+pub out_within : (outs : OutByNumber) (lib : LibNo) (b : Bundle) → AreOutTo outs lib b → IsWithinImage outs b
+out_within outs lib b out = record {
+  pages = below_from (length outs.pages) (sheet_numbers b.pages) (λ n i. within_some outs.pages n (ap is_some (out.pages n i)));
+  numbers = below_from (length outs.numbers) b.numbers (λ n i. within_some outs.numbers n (ap is_some (out.numbers n i)));
+}
+
+-- pages that are put leave the places as they are
+pub still_within : (home now : Pages) (sheets : List Sheet) (numbers : List ℕ) → now ≡ record home { pages = with_pages sheets home.pages } → IsTrue (all_below (length home.pages) numbers) → IsTrue (all_below (length now.pages) numbers)
+still_within home now sheets numbers is below =
+    let n : length now.pages ≡ length home.pages = ap (λ (h : Pages). length h.pages) is ∙ length-with_pages sheets home.pages in
+    subst (λ k. IsTrue (all_below k numbers)) (sym n) below

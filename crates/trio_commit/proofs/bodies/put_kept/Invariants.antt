@@ -1,0 +1,14 @@
+use Rattle.std.proofs.Common.{◌≡◌, ◌+◌, ◌≤◌, None, drop, map, take}
+use Rattle.trio_layout.specs.Accept.{with_bodies}
+use Rattle.trio_judge.specs.Listed.{entry_seen}
+use Rattle.trio_commit.specs.Bodies.{kept_children, page_changes}
+use Rattle.trio_commit.specs.inner.Putting.{IsAway, taken_number, with_taken}
+use Rattle.trio_commit.proofs.bodies.put_kept.Given as goal
+
+abbrev pub invariant-loop-entry : goal.invariant-loop-entry
+invariant-loop-entry l = record {
+  away : IsAway l.taken l.home.pages;
+  pages : with_taken l.taken l.home.pages ≡ with_bodies (kept_children l.checkpoints (map entry_seen (take l.entry-index l.entries))) l.fn.home.pages;
+  looked : l.home.looked + page_changes (taken_number l.taken) (kept_children l.checkpoints (map entry_seen (drop l.entry-index l.entries))) ≤ l.fn.home.looked + page_changes None (kept_children l.checkpoints (map entry_seen l.entries));
+  reads : l.reads + page_changes (taken_number l.taken) (kept_children l.checkpoints (map entry_seen (drop l.entry-index l.entries))) ≤ l.fn.reads + page_changes None (kept_children l.checkpoints (map entry_seen l.entries));
+}

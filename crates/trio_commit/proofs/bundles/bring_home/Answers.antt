@@ -1,0 +1,52 @@
+use Rattle.std.proofs.Common.{◌∙◌, ◌<◌, ℕ, Option, List, length, map, IsTrue, ap, sym, subst}
+use Rattle.std.specs.Prelude.{All}
+use Rattle.std.specs.List.{flat_map}
+use Rattle.trio_lists.specs.Marked.{all_below}
+use Rattle.trio_page.specs.Home.{Pages}
+use Rattle.trio_lease.specs.Views.{fresh_sheet}
+use Rattle.trio_rights.specs.Sheets.{Sheet, sheet_numbers, with_pages}
+use Rattle.trio_tables.specs.Out.{with_all}
+use Rattle.trio_checkpoint.proofs.Following.{put_both, within_still}
+use Rattle.trio_checkpoint.proofs.Restoring.{below_parts}
+use Rattle.trio_commit.specs.inner.Files.{file_sheets}
+use Rattle.trio_commit.proofs.Bringing.{All-below, pages_are, places_of, returned_are, sheets_are}
+use Rattle.trio_commit.proofs.Outs.{fresh_is, fresh_numbers}
+use Rattle.trio_commit.proofs.bundles.bring_home.Goals as goal
+
+pub bring_files-requires-clause-within : goal.bring_files-requires-clause-within
+bring_files-requires-clause-within c =
+    let parts = c.parts-writes.result in
+    let n = length c.args.home.now.pages in
+    let below = subst (λ (ss : List Sheet). IsTrue (all_below n (sheet_numbers ss))) (sheets_are parts c.args.bundle c.parts-writes.ensures) c.requires.within in
+    (below_parts n (flat_map file_sheets parts.writes.items) (map fresh_sheet parts.pages.items) below).0
+
+pub put_back-requires-clause-within : goal.put_back-requires-clause-within
+put_back-requires-clause-within c =
+    let parts = c.parts-writes.result in
+    let n = length c.args.home.now.pages in
+    let below = subst (λ (ss : List Sheet). IsTrue (all_below n (sheet_numbers ss))) (sheets_are parts c.args.bundle c.parts-writes.ensures) c.requires.within in
+    subst (All (λ n. n < length c.bring_files.new.home.pages)) (fresh_numbers parts.pages.items)
+    (All-below (length c.bring_files.new.home.pages) (sheet_numbers (map fresh_sheet parts.pages.items)) (within_still c.args.home.now c.bring_files.new.home (flat_map file_sheets parts.writes.items) (map fresh_sheet parts.pages.items) below c.bring_files.ensures.home))
+
+pub put_back-requires-clause-pages : goal.put_back-requires-clause-pages
+put_back-requires-clause-pages c = (places_of c.parts-writes.result c.args.bundle c.args.allotments.now c.parts-writes.ensures c.requires.allotted).0
+
+pub put_back-requires-clause-numbers : goal.put_back-requires-clause-numbers
+put_back-requires-clause-numbers c = (places_of c.parts-writes.result c.args.bundle c.args.allotments.now c.parts-writes.ensures c.requires.allotted).1
+
+pub returns-clause-home : goal.returns-clause-home
+returns-clause-home c =
+    let parts = c.parts-writes.result in
+    let home : Pages = c.args.home.now in
+    put_both home c.bring_files.new.home c.put_back.new.home (flat_map file_sheets parts.writes.items) (map fresh_sheet parts.pages.items)
+    c.bring_files.ensures.home
+    (c.put_back.ensures.home ∙ ap (λ (ps : List (Option (List ℕ))). record c.bring_files.new.home { pages = ps }) (sym (fresh_is parts.pages.items c.bring_files.new.home.pages)))
+    ∙ ap (λ (ss : List Sheet). record home { pages = with_pages ss home.pages }) (sym (sheets_are parts c.args.bundle c.parts-writes.ensures))
+
+pub returns-clause-ended : goal.returns-clause-ended
+returns-clause-ended c = c.put_back.ensures.ended ∙ returned_are c.parts-writes.result c.args.bundle c.args.allotments.now c.parts-writes.ensures
+
+pub returns-clause-owners : goal.returns-clause-owners
+returns-clause-owners c =
+    c.bring_files.ensures.owners
+    ∙ ap (λ ns. with_all 0 ns c.args.owners.now) (pages_are c.parts-writes.result c.args.bundle c.parts-writes.ensures)

@@ -1,0 +1,15 @@
+use Rattle.std.proofs.Common.{reverse}
+use Rattle.std.specs.List.{flat_map}
+use Rattle.trio_commit.specs.inner.Files.{uncovered_sheets}
+use Rattle.trio_commit.proofs.Bringing.{last_first, less_left}
+use Rattle.trio_commit.proofs.bundles.bring_uncovered_blocks.Goals as goal
+
+pub loop-lease-preserved : goal.loop-lease-preserved
+loop-lease-preserved c =
+    let items = c.loop-lease.writes.items in
+    let rest = c.pop.new.self.items in
+    let lease = c.in-Some.lease in
+    less_left c.loop-lease.home c.args.home.now c.bring_blocks.new.home
+    (flat_map uncovered_sheets (reverse items)) (flat_map uncovered_sheets c.args.writes.items)
+    (uncovered_sheets lease) (flat_map uncovered_sheets (reverse rest))
+    c.loop-lease.invariant (last_first uncovered_sheets items rest lease c.in-Some.ensures.items) c.bring_blocks.ensures

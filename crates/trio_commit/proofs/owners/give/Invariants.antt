@@ -1,0 +1,6 @@
+use Rattle.std.proofs.Common.{◌≡◌, take}
+use Rattle.trio_tables.specs.Out.{with_all}
+use Rattle.trio_commit.proofs.owners.give.Given as goal
+
+abbrev pub invariant-loop-page : goal.invariant-loop-page
+invariant-loop-page l = l.owners ≡ with_all l.ino (take l.page-index l.pages) l.fn.owners

@@ -1,0 +1,5 @@
+pub mod Store
+pub mod Handed
+pub mod Bodies
+pub mod Listed
+pub mod inner
