@@ -70,7 +70,7 @@ fn report(
     let mut text = Vec::new(alloc);
     put_heading(alloc, &mut text, LibNo(1), LibraryKind::Raw)?;
     put_answers(alloc, &mut text, lines, answers)?;
-    put_end(&mut text, end)?;
+    put_end(alloc, &mut text, end)?;
     put_tree(alloc, &mut text, &tree)?;
     put_counts(alloc, &mut text, &counts)?;
     Ok(text)

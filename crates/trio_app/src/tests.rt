@@ -25,13 +25,13 @@ const REPORT: &[u8] =
 // What OUT has before.
 const BEFORE: &[u8] = b"before";
 
-fn zeros(alloc: Global, size: usize) -> Result<Vec<u8>, NoMemory> {
-    vec![in alloc; 0; size]
+fn image(alloc: Global) -> Result<Vec<u8>, NoMemory> {
+    Sample::small(alloc, &one_file())?.bytes(alloc)
 }
 
 // The first `size` bytes of the image, with some of them changed.
-fn image(alloc: Global, size: usize, changes: &[(usize, u8)]) -> Result<Vec<u8>, NoMemory> {
-    let mut bytes = Sample::small(alloc, &one_file())?.bytes(alloc)?;
+fn changed_image(alloc: Global, size: usize, changes: &[(usize, u8)]) -> Result<Vec<u8>, NoMemory> {
+    let mut bytes = image(alloc)?;
     for (at, value) in changes {
         if let Some(byte) = bytes.get_mut(*at) {
             *byte = *value;
@@ -61,8 +61,8 @@ struct Left {
 fn run_over<R: Threads + Wait + Sync + AllocGlobal>(
     rt: &R,
     words: &[&str],
-    image: Vec<u8>,
-    script: Vec<u8>,
+    image: &[u8],
+    script: &[u8],
     (file_call, put): (u64, u64),
 ) -> Result<Left, NoMemory> {
     let alloc = rt.alloc();
@@ -70,573 +70,679 @@ fn run_over<R: Threads + Wait + Sync + AllocGlobal>(
     let names = copy_words(alloc, &words)?;
     let plan = FailingCalls::new(vec![in alloc; file_call]?);
     let mut files = MemFiles::new(alloc, names, plan)?;
-    files.hold("first.img", image);
-    files.hold("script", script);
+    files.hold("first.img", image.to_vec(alloc)?);
+    files.hold("script", script.to_vec(alloc)?);
     files.hold("o p", BEFORE.to_vec(alloc)?);
     let mut out = MemSink::new(alloc, FailingCalls::new(vec![in alloc; put]?));
     let status = trio_main(rt, alloc, &words, &mut files, &mut out, &OpenGate);
     Ok(Left { status, files, out })
 }
 
+// What a file has at the end.
+#[derive(Clone, Copy)]
+enum Kept {
+    // there is no such file
+    Nothing,
+    // what OUT had before
+    Before,
+    // the first so many bytes of the image
+    Image(usize),
+}
+
+fn keeps(content: Option<&[u8]>, image: &[u8], kept: Kept) -> bool {
+    match kept {
+        Kept::Nothing => content.is_none(),
+        Kept::Before => content == Some(BEFORE),
+        Kept::Image(length) => content.is_some() && content == image.get(..length),
+    }
+}
+
+// How a run ends: its status, its text, and what the file of this name then has.
+type End = (u8, &'static [u8], (&'static str, Kept));
+
+// Whether a run of which one call of the files fails ends so.
+fn ends<R: Threads + Wait + Sync + AllocGlobal>(
+    rt: &R,
+    words: &[&str],
+    image: &[u8],
+    script: &[u8],
+    failing: u64,
+    (status, text, (name, kept)): End,
+) -> Option<bool> {
+    let left = run_over(rt, words, image, script, (failing, 0)).ok()?;
+    let is_kept = keeps(left.files.content(name), image, kept);
+    Some(left.status == status && left.out.bytes() == text && is_kept)
+}
+
 const WORDS: [&str; 4] = ["turns", "first.img", "script", "o p"];
 
-// Calls 1 to 33 read the image, 34 and 35 the script, and 36 writes OUT.
+// The call that fails, and how the run ends. Calls 1 to 33 read the image, 34 and 35 the script, and
+// 36 writes OUT.
+const CALLS: &[(u64, End)] = &[
+    (1, (4, b"read fault first.img\n", ("o p", Kept::Before))),
+    (33, (4, b"read fault first.img\n", ("o p", Kept::Before))),
+    (34, (4, b"read fault script\n", ("o p", Kept::Before))),
+    (35, (4, b"read fault script\n", ("o p", Kept::Before))),
+    (
+        36,
+        (5, b"write fault o\\x20p\n", ("o p", Kept::Image(65_536))),
+    ),
+    (37, (0, REPORT, ("o p", Kept::Image(IMAGE_SIZE)))),
+];
+
+// Whether half of the report is put where its put fails.
+fn put_fails<R: Threads + Wait + Sync + AllocGlobal>(rt: &R, image: &[u8]) -> Option<bool> {
+    let left = run_over(rt, &WORDS, image, SCRIPT, (0, 1)).ok()?;
+    let half = REPORT.get(..REPORT.len() / 2)?;
+    Some(left.status == 5 && left.out.bytes() == half && left.out.faults() == 1)
+}
+
 #[test]
 fn each_call_fails(rt: HostRuntime) -> Result<(), Fail> {
-    let whole = image(rt.alloc(), IMAGE_SIZE, &[])?;
-    let half = whole.get(..65_536).ok_or("half of the image")?;
-    let due: [(u64, u8, &[u8], &[u8]); 6] = [
-        (1, 4, b"read fault first.img\n", BEFORE),
-        (33, 4, b"read fault first.img\n", BEFORE),
-        (34, 4, b"read fault script\n", BEFORE),
-        (35, 4, b"read fault script\n", BEFORE),
-        (36, 5, b"write fault o\\x20p\n", half),
-        (37, 0, REPORT, &whole),
-    ];
-    for (call, status, text, out) in due {
-        let image = whole.to_vec(rt.alloc())?;
-        let left = run_over(&rt, &WORDS, image, SCRIPT.to_vec(rt.alloc())?, (call, 0))?;
-        assert_eq!(rt; left.status, status, "at call {call}");
-        assert_eq!(rt; left.out.bytes(), text, "at call {call}");
-        assert!(rt; left.files.content("o p") == Some(out), "at call {call}");
+    let whole = image(rt.alloc())?;
+    for (call, end) in CALLS {
+        assert!(rt;
+            ends(&rt, &WORDS, &whole, SCRIPT, *call, *end) == Some(true),
+            "call {call}"
+        );
     }
-    let left = run_over(&rt, &WORDS, whole, SCRIPT.to_vec(rt.alloc())?, (0, 1))?;
-    assert_eq!(rt; left.status, 5);
-    assert_eq!(rt; left.out.bytes(), &REPORT[..REPORT.len() / 2]);
-    assert_eq!(rt; left.out.faults(), 1);
+    assert!(rt; put_fails(&rt, &whole) == Some(true));
     Ok(())
 }
 
-// What doesn't verify or isn't built, with the status and the line. OUT is as before.
+// The length of the image, its changes and the script, with the status and the text.
+type Input = (
+    usize,
+    &'static [(usize, u8)],
+    &'static [u8],
+    u8,
+    &'static [u8],
+);
+
+// What doesn't verify or isn't built.
+const INPUTS: &[Input] = &[
+    (0, &[], SCRIPT, 1, b"not verified\n"),
+    (4096, &[], SCRIPT, 1, b"not verified\n"),
+    (131_071, &[], SCRIPT, 1, b"not verified\n"),
+    (IMAGE_SIZE, &[(0, b'a')], SCRIPT, 1, b"not verified\n"),
+    // a page less than there are
+    (IMAGE_SIZE, &[(16, 31)], SCRIPT, 1, b"not verified\n"),
+    // an owner of a free page, and a row that differs
+    (IMAGE_SIZE, &[(8220, 2)], b"", 1, b"not verified\n"),
+    (IMAGE_SIZE, &[(4130, 0xa5)], SCRIPT, 1, b"not verified\n"),
+    // a directory of five bytes, also where the script isn't built
+    (IMAGE_SIZE, &[(16_388, 2)], SCRIPT, 1, b"not verified\n"),
+    (IMAGE_SIZE, &[(16_388, 2)], b"", 1, b"not verified\n"),
+    // a slot outside the grammar
+    (IMAGE_SIZE, &[(16_390, 1)], SCRIPT, 1, b"not verified\n"),
+    (IMAGE_SIZE, &[], b"", 8, b"not built line 1\n"),
+    (
+        IMAGE_SIZE,
+        &[],
+        b"lib 1 raw 0 0\nlib 2 raw 0 0\n",
+        8,
+        b"not built line 2\n",
+    ),
+    (
+        IMAGE_SIZE,
+        &[],
+        b"lib 1 raw 0 0\n\nallot 1",
+        8,
+        b"not built line 3\n",
+    ),
+    // a page is named twice
+    (
+        IMAGE_SIZE,
+        &[],
+        b"lib 1 raw 0 0\nallot 1 0\nrelease - 7,7 -\n",
+        8,
+        b"not built line 3\n",
+    ),
+    (IMAGE_SIZE, &[], b"# nothing else\nlib 1 raw 0 0", 0, REPORT),
+];
+
+// Whether a run ends so: OUT has the image where the status is 0, and else is as before.
+fn ends_so<R: Threads + Wait + Sync + AllocGlobal>(
+    rt: &R,
+    image: &[u8],
+    script: &[u8],
+    status: u8,
+    text: &'static [u8],
+) -> Option<bool> {
+    let kept = if status == 0 {
+        Kept::Image(image.len())
+    } else {
+        Kept::Before
+    };
+    ends(rt, &WORDS, image, script, 0, (status, text, ("o p", kept)))
+}
+
+fn input_ends<R: Threads + Wait + Sync + AllocGlobal>(
+    rt: &R,
+    (size, changes, script, status, text): Input,
+) -> Option<bool> {
+    let image = changed_image(rt.alloc(), size, changes).ok()?;
+    ends_so(rt, &image, script, status, text)
+}
+
 #[test]
-fn inputs_are_judged(rt: HostRuntime) -> Result<(), Fail> {
-    let due: [(usize, &[(usize, u8)], &[u8], u8, &[u8]); 15] = [
-        (0, &[], SCRIPT, 1, b"not verified\n"),
-        (4096, &[], SCRIPT, 1, b"not verified\n"),
-        (131_071, &[], SCRIPT, 1, b"not verified\n"),
-        (IMAGE_SIZE, &[(0, b'a')], SCRIPT, 1, b"not verified\n"),
-        // a page less than there are
-        (IMAGE_SIZE, &[(16, 31)], SCRIPT, 1, b"not verified\n"),
-        // an owner of a free page, and a row that differs
-        (IMAGE_SIZE, &[(8220, 2)], b"", 1, b"not verified\n"),
-        (IMAGE_SIZE, &[(4130, 0xa5)], SCRIPT, 1, b"not verified\n"),
-        // a directory of five bytes, also where the script isn't built
-        (IMAGE_SIZE, &[(16_388, 2)], SCRIPT, 1, b"not verified\n"),
-        (IMAGE_SIZE, &[(16_388, 2)], b"", 1, b"not verified\n"),
-        // a slot outside the grammar
-        (IMAGE_SIZE, &[(16_390, 1)], SCRIPT, 1, b"not verified\n"),
-        (IMAGE_SIZE, &[], b"", 8, b"not built line 1\n"),
-        (
-            IMAGE_SIZE,
-            &[],
-            b"lib 1 raw 0 0\nlib 2 raw 0 0\n",
-            8,
-            b"not built line 2\n",
-        ),
-        (
-            IMAGE_SIZE,
-            &[],
-            b"lib 1 raw 0 0\n\nallot 1",
-            8,
-            b"not built line 3\n",
-        ),
-        // a page is named twice
-        (
-            IMAGE_SIZE,
-            &[],
-            b"lib 1 raw 0 0\nallot 1 0\nrelease - 7,7 -\n",
-            8,
-            b"not built line 3\n",
-        ),
-        (IMAGE_SIZE, &[], b"# nothing else\nlib 1 raw 0 0", 0, REPORT),
-    ];
-    for (i, (size, changes, script, status, text)) in due.iter().enumerate() {
-        let image = image(rt.alloc(), *size, changes)?;
-        let left = run_over(&rt, &WORDS, image, script.to_vec(rt.alloc())?, (0, 0))?;
-        assert_eq!(rt; left.status, *status, "at {i}");
-        assert_eq!(rt; left.out.bytes(), *text, "at {i}");
-        let kept = left.files.content("o p") == Some(BEFORE);
-        assert_eq!(rt; kept, *status != 0, "at {i}");
+fn inputs_are_judged(rt: HostRuntime) {
+    for (i, input) in INPUTS.iter().enumerate() {
+        assert!(rt; input_ends(&rt, *input) == Some(true), "row {i}");
     }
-    Ok(())
+}
+
+// Whether a run over a script of this length ends so.
+fn long_script_ends<R: Threads + Wait + Sync + AllocGlobal>(
+    rt: &R,
+    length: usize,
+    status: u8,
+    text: &'static [u8],
+) -> Option<bool> {
+    let mut script = SCRIPT.to_vec(rt.alloc()).ok()?;
+    script.resize(length, b'#').ok()?;
+    ends_so(rt, &image(rt.alloc()).ok()?, &script, status, text)
+}
+
+// Whether a run over an image of this length, all of it zero, isn't built.
+fn long_image_ends<R: Threads + Wait + Sync + AllocGlobal>(rt: &R, length: usize) -> Option<bool> {
+    let zeros = vec![in rt.alloc(); 0; length].ok()?;
+    ends_so(rt, &zeros, SCRIPT, 8, b"not built image\n")
 }
 
 #[test]
-fn limits(rt: HostRuntime) -> Result<(), Fail> {
-    let whole = image(rt.alloc(), IMAGE_SIZE, &[])?;
-    let long = zeros(rt.alloc(), IMAGE_LIMIT + 1)?;
-    let end = run_over(&rt, &WORDS, long, SCRIPT.to_vec(rt.alloc())?, (0, 0))?;
-    assert_eq!(rt; end.status, 8);
-    assert_eq!(rt; end.out.bytes(), b"not built image\n".as_slice());
-    let mut script = SCRIPT.to_vec(rt.alloc())?;
-    script.resize(SCRIPT_LIMIT, b'#')?;
-    let end = run_over(
-        &rt,
-        &WORDS,
-        whole.to_vec(rt.alloc())?,
-        script.to_vec(rt.alloc())?,
-        (0, 0),
-    )?;
-    assert_eq!(rt; end.status, 0);
-    script.push(b'#')?;
-    let end = run_over(&rt, &WORDS, whole, script, (0, 0))?;
-    assert_eq!(rt; end.status, 8);
-    assert_eq!(rt; end.out.bytes(), b"not built script\n".as_slice());
-    Ok(())
+fn limits(rt: HostRuntime) {
+    assert!(rt; long_image_ends(&rt, IMAGE_LIMIT + 1) == Some(true));
+    assert!(rt; long_script_ends(&rt, SCRIPT_LIMIT, 0, REPORT) == Some(true));
+    assert!(rt; long_script_ends(&rt, SCRIPT_LIMIT + 1, 8, b"not built script\n") == Some(true));
 }
 
-// One name may stand for several files.
-#[test]
-fn names_coincide(rt: HostRuntime) -> Result<(), Fail> {
-    let whole = image(rt.alloc(), IMAGE_SIZE, &[])?;
-    let words = ["turns", "first.img", "script", "first.img"];
-    let end = run_over(
-        &rt,
-        &words,
-        whole.to_vec(rt.alloc())?,
-        SCRIPT.to_vec(rt.alloc())?,
-        (0, 0),
-    )?;
-    assert_eq!(rt; end.status, 0);
-    assert!(rt; end.files.content("first.img") == Some(whole.as_slice()));
-    let words = ["turns", "first.img", "first.img", "o p"];
-    let end = run_over(&rt, &words, whole, SCRIPT.to_vec(rt.alloc())?, (0, 0))?;
-    assert_eq!(rt; end.status, 8);
-    assert_eq!(rt; end.out.bytes(), b"not built line 1\n".as_slice());
-    Ok(())
-}
+// Words that are no command, and a name that stands for two files. A name that isn't among the words
+// has no content.
+const COMMANDS: &[(&[&str], End)] = &[
+    (&[], (8, UNBUILT, ("o p", Kept::Nothing))),
+    (&["turns"], (8, UNBUILT, ("o p", Kept::Nothing))),
+    (
+        &["turns", "first.img", "script"],
+        (8, UNBUILT, ("o p", Kept::Nothing)),
+    ),
+    (
+        &["turns", "first.img", "script", "o p", "o p"],
+        (8, UNBUILT, ("o p", Kept::Before)),
+    ),
+    (
+        &["run", "first.img", "script", "o p"],
+        (8, UNBUILT, ("o p", Kept::Before)),
+    ),
+    (
+        &["turns", "first.img", "script", "first.img"],
+        (0, REPORT, ("first.img", Kept::Image(IMAGE_SIZE))),
+    ),
+    (
+        &["turns", "first.img", "first.img", "o p"],
+        (8, b"not built line 1\n", ("o p", Kept::Before)),
+    ),
+];
+
+const UNBUILT: &[u8] = b"not built words\n";
 
 #[test]
 fn other_words(rt: HostRuntime) -> Result<(), Fail> {
-    let lists: [&[&str]; 5] = [
-        &[],
-        &["turns"],
-        &["turns", "first.img", "script"],
-        &["turns", "first.img", "script", "o p", "o p"],
-        &["run", "first.img", "script", "o p"],
-    ];
-    for words in lists {
-        let image = image(rt.alloc(), IMAGE_SIZE, &[])?;
-        let end = run_over(&rt, words, image, SCRIPT.to_vec(rt.alloc())?, (0, 0))?;
-        assert_eq!(rt; end.status, 8);
-        assert_eq!(rt; end.out.bytes(), b"not built words\n".as_slice());
-    }
-    Ok(())
-}
-
-// How a run ends over the forms that never fail, with the files and the sink.
-fn run_surely(alloc: Global, image: Vec<u8>) -> Result<(u8, SureFiles, SureSink), NoMemory> {
-    let words = words_of(alloc, &WORDS)?;
-    let names = copy_words(alloc, &words)?;
-    let mut files = SureFiles::new(alloc, names)?;
-    files.hold("first.img", image);
-    files.hold("script", SCRIPT.to_vec(alloc)?);
-    let mut out = SureSink::new(alloc);
-    let status = sure_main(alloc, &words, &mut files, &mut out);
-    Ok((status, files, out))
-}
-
-#[test]
-fn sure_forms(rt: HostRuntime) -> Result<(), Fail> {
-    let whole = image(rt.alloc(), IMAGE_SIZE, &[])?;
-    let (status, files, out) = run_surely(rt.alloc(), whole.to_vec(rt.alloc())?)?;
-    assert_eq!(rt; status, 0);
-    assert_eq!(rt; out.bytes(), REPORT);
-    assert!(rt; files.content("o p") == Some(whole.as_slice()));
-    let (status, files, out) = run_surely(rt.alloc(), image(rt.alloc(), 4095, &[])?)?;
-    assert_eq!(rt; status, 1);
-    assert_eq!(rt; out.bytes(), b"not verified\n".as_slice());
-    assert!(rt; files.content("o p") == Some(b"".as_slice()));
-    Ok(())
-}
-
-// ---- scripts
-
-// The script of these lines, behind the library's.
-fn script_of(alloc: Global, lines: &str) -> Result<Vec<u8>, NoMemory> {
-    let mut script = SCRIPT.to_vec(alloc)?;
-    script.extend_from_slice(lines.as_bytes())?;
-    Ok(script)
-}
-
-// The report with these answers of lines and of the end, and this tree.
-fn report_of(alloc: Global, answers: &str, tree: &str) -> Result<Vec<u8>, NoMemory> {
-    let mut report = b"lib 1 raw\n".to_vec(alloc)?;
-    report.extend_from_slice(answers.as_bytes())?;
-    report.extend_from_slice(tree.as_bytes())?;
-    Ok(report)
-}
-
-// One file in the root.
-const FILE_TREE: &str = "tree\n0 d 755 0 0 1 /\n1 f 644 0 0 5 f\ninodes 2 pages 4 free 25\n";
-
-// What a library does with the file, the answers, and whether its block then begins with `J`. What
-// was refused is lent again as it was before: handed in so, it is accepted, and OUT has no other byte.
-#[test]
-fn a_file_is_lent_written_and_released(rt: HostRuntime) -> Result<(), Fail> {
-    let rows: [(&str, &str, bool); 9] = [
-        (
-            "grant write 2\npoke block 2 0 0 4a\nrelease 2 - -\n",
-            "2 granted\n3 poked\n4 accepted\nend nothing\n",
-            true,
-        ),
-        // a size of 4097 with one block
-        (
-            "grant write 2\npoke block 2 0 0 4a\npoke body 2 16 0110000000000000\nrelease 2 - -\ngrant write 2\nrelease 2 - -\n",
-            "2 granted\n3 poked\n4 poked\n5 refused\n6 granted\n7 accepted\nend nothing\n",
-            true,
-        ),
-        // the root's block
-        (
-            "grant write 2\npoke block 2 0 0 4a\npoke index 2 0 0 0400000000000000\nrelease 2 - -\ngrant write 2\nrelease 2 - -\n",
-            "2 granted\n3 poked\n4 poked\n5 refused\n6 granted\n7 accepted\nend nothing\n",
-            true,
-        ),
-        // another uid
-        (
-            "grant write 2\npoke block 2 0 0 4a\npoke body 2 4 05000000\nrelease 2 - -\ngrant write 2\nrelease 2 - -\n",
-            "2 granted\n3 poked\n4 poked\n5 refused\n6 granted\n7 accepted\nend nothing\n",
-            true,
-        ),
-        (
-            "grant write 2\ngrant write 2\ngrant write 9\n",
-            "2 granted\n3 busy\n4 notlive\nend accepted\n",
-            false,
-        ),
-        // no release
-        (
-            "grant write 2\npoke block 2 0 0 4a\n",
-            "2 granted\n3 poked\nend accepted\n",
-            true,
-        ),
-        // what it hasn't, and past the end
-        (
-            "poke block 2 0 0 4a\nrelease 2 - -\ngrant write 2\npoke block 2 1 0 4a\npoke block 2 0 4095 4a4a\npoke fresh 9 0 4a\nrelease 2 9 -\n",
-            "2 absent\n3 absent\n4 granted\n5 absent\n6 absent\n7 absent\n8 absent\nend accepted\n",
-            false,
-        ),
-        // a second grant after a refusal
-        (
-            "grant write 2\npoke body 2 0 ff\nrelease 2 - -\ngrant write 2\npoke block 2 0 0 4a\nrelease 2 - -\n",
-            "2 granted\n3 poked\n4 refused\n5 granted\n6 poked\n7 accepted\nend nothing\n",
-            true,
-        ),
-        // nothing at all is handed in
-        ("release - - -\n", "2 accepted\nend nothing\n", false),
-    ];
-    for (lines, answers, written) in rows {
-        let alloc = rt.alloc();
-        let whole = image(alloc, IMAGE_SIZE, &[])?;
-        let left = run_over(&rt, &WORDS, whole, script_of(alloc, lines)?, (0, 0))?;
-        let report = report_of(alloc, answers, FILE_TREE)?;
-        assert_eq!(rt; left.status, 0, "{lines}");
-        assert_eq!(rt; left.out.bytes(), report.as_slice(), "{lines}");
-        let begins = if written { b'J' } else { b'h' };
-        let wanted = image(alloc, IMAGE_SIZE, &[(24_576, begins)])?;
+    let whole = image(rt.alloc())?;
+    for (i, (words, end)) in COMMANDS.iter().enumerate() {
         assert!(rt;
-            left.files.content("o p") == Some(wanted.as_slice()),
-            "{lines}"
+            ends(&rt, words, &whole, SCRIPT, 0, *end) == Some(true),
+            "row {i}"
         );
     }
     Ok(())
 }
 
-// The image with a directory `a` in the root, and in it a file `f` of the five bytes `hello`.
+// Whether a run over the forms that never fail ends so, with this in OUT, which has nothing before.
+fn ends_surely(alloc: Global, image: &[u8], status: u8, text: &[u8], out: &[u8]) -> Option<bool> {
+    let words = words_of(alloc, &WORDS).ok()?;
+    let mut files = SureFiles::new(alloc, copy_words(alloc, &words).ok()?).ok()?;
+    files.hold("first.img", image.to_vec(alloc).ok()?);
+    files.hold("script", SCRIPT.to_vec(alloc).ok()?);
+    let mut sink = SureSink::new(alloc);
+    let end = sure_main(alloc, &words, &mut files, &mut sink);
+    Some(end == status && sink.bytes() == text && files.content("o p") == Some(out))
+}
+
+#[test]
+fn sure_forms(rt: HostRuntime) -> Result<(), Fail> {
+    let whole = image(rt.alloc())?;
+    let short = changed_image(rt.alloc(), 4095, &[])?;
+    assert!(rt; ends_surely(rt.alloc(), &whole, 0, REPORT, &whole) == Some(true));
+    assert!(rt; ends_surely(rt.alloc(), &short, 1, b"not verified\n", b"") == Some(true));
+    Ok(())
+}
+
+// ---- scripts
+
+fn joined(alloc: Global, parts: &[&str]) -> Result<Vec<u8>, NoMemory> {
+    let mut all = Vec::new(alloc);
+    for part in parts {
+        all.extend_from_slice(part.as_bytes())?;
+    }
+    Ok(all)
+}
+
+// What OUT has at the end.
+#[derive(Clone, Copy)]
+enum Out {
+    // the image as it was, but with this byte at this offset
+    Image(usize, u8),
+    // an image of which each byte from an offset on and before another is this one
+    Part(usize, usize, u8),
+}
+
+// The image as it was, of which the last byte is zero.
+const SAME: Out = Out::Image(131_071, 0);
+
+fn has(alloc: Global, out: &[u8], image: &[u8], wanted: Out) -> Option<bool> {
+    match wanted {
+        Out::Image(at, byte) => {
+            let mut bytes = image.to_vec(alloc).ok()?;
+            *bytes.get_mut(at)? = byte;
+            Some(out == bytes.as_slice())
+        }
+        Out::Part(from, to, wanted) => {
+            let is_so = out.get(from..to)?.iter().all(|byte| *byte == wanted);
+            Some(is_so && Image::from_bytes(alloc, out).is_ok())
+        }
+    }
+}
+
+// The lines of a library, the answers to them and to the end, the tree that is then told, and OUT.
+type Session = (&'static str, &'static str, &'static str, Out);
+
+// Whether the lines are answered so.
+fn plays<R: Threads + Wait + Sync + AllocGlobal>(
+    rt: &R,
+    image: &[u8],
+    (lines, answers, tree, wanted): Session,
+) -> Option<bool> {
+    let alloc = rt.alloc();
+    let script = joined(alloc, &["lib 1 raw 0 0\n", lines]).ok()?;
+    let report = joined(alloc, &["lib 1 raw\n", answers, tree]).ok()?;
+    let left = run_over(rt, &WORDS, image, &script, (0, 0)).ok()?;
+    let is_told = left.status == 0 && left.out.bytes() == report.as_slice();
+    Some(is_told && has(alloc, left.files.content("o p")?, image, wanted)?)
+}
+
+// One file in the root.
+const FILE_TREE: &str = "tree\n0 d 755 0 0 1 /\n1 f 644 0 0 5 f\ninodes 2 pages 4 free 25\n";
+
+// What a library does with the file, and whether its block then begins with `J`. What was refused is
+// lent again as it was before: handed in so, it is accepted, and OUT has no other byte.
+const FILE_SESSIONS: &[Session] = &[
+    (
+        "grant write 2\npoke block 2 0 0 4a\nrelease 2 - -\n",
+        "2 granted\n3 poked\n4 accepted\nend nothing\n",
+        FILE_TREE,
+        Out::Image(24_576, b'J'),
+    ),
+    // a size of 4097 with one block
+    (
+        "grant write 2\npoke block 2 0 0 4a\npoke body 2 16 0110000000000000\nrelease 2 - -\ngrant write 2\nrelease 2 - -\n",
+        "2 granted\n3 poked\n4 poked\n5 refused I1\n6 granted\n7 accepted\nend nothing\n",
+        FILE_TREE,
+        Out::Image(24_576, b'J'),
+    ),
+    // the root's block
+    (
+        "grant write 2\npoke block 2 0 0 4a\npoke index 2 0 0 0400000000000000\nrelease 2 - -\ngrant write 2\nrelease 2 - -\n",
+        "2 granted\n3 poked\n4 poked\n5 refused I2\n6 granted\n7 accepted\nend nothing\n",
+        FILE_TREE,
+        Out::Image(24_576, b'J'),
+    ),
+    // another uid
+    (
+        "grant write 2\npoke block 2 0 0 4a\npoke body 2 4 05000000\nrelease 2 - -\ngrant write 2\nrelease 2 - -\n",
+        "2 granted\n3 poked\n4 poked\n5 refused I4\n6 granted\n7 accepted\nend nothing\n",
+        FILE_TREE,
+        Out::Image(24_576, b'J'),
+    ),
+    (
+        "grant write 2\ngrant write 2\ngrant write 9\n",
+        "2 granted\n3 busy\n4 notlive\nend accepted\n",
+        FILE_TREE,
+        Out::Image(24_576, b'h'),
+    ),
+    // no release
+    (
+        "grant write 2\npoke block 2 0 0 4a\n",
+        "2 granted\n3 poked\nend accepted\n",
+        FILE_TREE,
+        Out::Image(24_576, b'J'),
+    ),
+    // what it hasn't, and past the end
+    (
+        "poke block 2 0 0 4a\nrelease 2 - -\ngrant write 2\npoke block 2 1 0 4a\npoke block 2 0 4095 4a4a\npoke fresh 9 0 4a\nrelease 2 9 -\n",
+        "2 absent\n3 absent\n4 granted\n5 absent\n6 absent\n7 absent\n8 absent\nend accepted\n",
+        FILE_TREE,
+        Out::Image(24_576, b'h'),
+    ),
+    // a second grant after a refusal
+    (
+        "grant write 2\npoke body 2 0 ff\nrelease 2 - -\ngrant write 2\npoke block 2 0 0 4a\nrelease 2 - -\n",
+        "2 granted\n3 poked\n4 refused I4\n5 granted\n6 poked\n7 accepted\nend nothing\n",
+        FILE_TREE,
+        Out::Image(24_576, b'J'),
+    ),
+    // nothing at all is handed in
+    (
+        "release - - -\n",
+        "2 accepted\nend nothing\n",
+        FILE_TREE,
+        Out::Image(24_576, b'h'),
+    ),
+];
+
+#[test]
+fn a_file_is_lent_written_and_released(rt: HostRuntime) -> Result<(), Fail> {
+    let whole = image(rt.alloc())?;
+    for session in FILE_SESSIONS {
+        assert!(rt; plays(&rt, &whole, *session) == Some(true), "{}", session.0);
+    }
+    Ok(())
+}
+
+// A directory `a` in the root, and in it a file `f` of the five bytes `hello`.
 fn tree_image(alloc: Global) -> Result<Vec<u8>, NoMemory> {
     Sample::small(alloc, &three_files())?.bytes(alloc)
 }
 
-// What a library does with directories, the answers, the size of `f` at the end and the first byte
-// of its block.
-#[test]
-fn directories_are_lent_too(rt: HostRuntime) -> Result<(), Fail> {
-    let rows: [(&str, &str, &str, u8); 11] = [
-        (
-            "grant write 3\npoke block 3 0 0 4a\nrelease 3 - -\n",
-            "2 granted\n3 poked\n4 accepted\nend nothing\n",
-            "5",
-            b'J',
-        ),
-        (
-            "grant write 3\npoke body 3 16 0110000000000000\nrelease 3 - -\n",
-            "2 granted\n3 poked\n4 refused\nend nothing\n",
-            "5",
-            b'h',
-        ),
-        // the directory's holder writes over the size of `f`
-        (
-            "grant write 2\npoke block 2 0 208 ffffffffffffffff\nrelease 2 - -\n",
-            "2 granted\n3 poked\n4 accepted\nend nothing\n",
-            "5",
-            b'h',
-        ),
-        // the last link has to be zero
-        (
-            "grant write 3\npoke index 3 0 4088 0700000000000000\nrelease 3 - -\n",
-            "2 granted\n3 poked\n4 refused\nend nothing\n",
-            "5",
-            b'h',
-        ),
-        // both in one bundle
-        (
-            "grant write 2\ngrant write 3\npoke block 3 0 0 4a\npoke body 3 16 04\npoke block 2 0 208 ff\nrelease 2,3 - -\n",
-            "2 granted\n3 granted\n4 poked\n5 poked\n6 poked\n7 accepted\nend nothing\n",
-            "4",
-            b'J',
-        ),
-        // the child is released while its directory is out, and that comes later with stale bytes
-        (
-            "grant write 2\ngrant write 3\npoke body 3 16 04\nrelease 3 - -\npoke block 2 0 208 ff\nrelease 2 - -\n",
-            "2 granted\n3 granted\n4 poked\n5 accepted\n6 poked\n7 accepted\nend nothing\n",
-            "4",
-            b'h',
-        ),
-        // and where the directory is refused
-        (
-            "grant write 2\ngrant write 3\npoke body 3 16 04\nrelease 3 - -\npoke body 2 4 05\nrelease 2 - -\n",
-            "2 granted\n3 granted\n4 poked\n5 accepted\n6 poked\n7 refused\nend nothing\n",
-            "4",
-            b'h',
-        ),
-        // a child is dropped
-        (
-            "grant write 2\npoke block 2 0 0 00000000\nrelease 2 - -\n",
-            "2 granted\n3 poked\n4 refused\nend nothing\n",
-            "5",
-            b'h',
-        ),
-        // a file of another directory
-        (
-            "grant write 1\npoke block 1 0 256 030000000101000067\npoke block 1 0 448 a401\nrelease 1 - -\n",
-            "2 granted\n3 poked\n4 poked\n5 refused\nend nothing\n",
-            "5",
-            b'h',
-        ),
-        // a child twice
-        (
-            "grant write 2\npoke block 2 0 256 030000000101000067\npoke block 2 0 448 a401\nrelease 2 - -\n",
-            "2 granted\n3 poked\n4 poked\n5 refused\nend nothing\n",
-            "5",
-            b'h',
-        ),
-        // all that is left at the end
-        (
-            "grant write 1\ngrant write 2\ngrant write 3\npoke block 3 0 0 4a\n",
-            "2 granted\n3 granted\n4 granted\n5 poked\nend accepted\n",
-            "5",
-            b'J',
-        ),
-    ];
-    for (lines, answers, size, begins) in rows {
-        let alloc = rt.alloc();
-        let whole = tree_image(alloc)?;
-        let left = run_over(&rt, &WORDS, whole, script_of(alloc, lines)?, (0, 0))?;
-        let mut report = report_of(
-            alloc,
-            answers,
-            "tree\n0 d 755 0 0 1 /\n1 d 755 0 0 1 a\n2 f 644 0 0 ",
-        )?;
-        report.extend_from_slice(size.as_bytes())?;
-        report.extend_from_slice(b" f\ninodes 3 pages 6 free 23\n")?;
-        assert_eq!(rt; left.status, 0, "{lines}");
-        assert_eq!(rt; left.out.bytes(), report.as_slice(), "{lines}");
-        let out = left.files.content("o p").ok_or("an image")?;
-        assert_eq!(rt; out.get(32_768), Some(&begins), "{lines}");
-    }
-    Ok(())
-}
-
-// The image of `tree_image` as it is told.
 const TREE: &str =
     "tree\n0 d 755 0 0 1 /\n1 d 755 0 0 1 a\n2 f 644 0 0 5 f\ninodes 3 pages 6 free 23\n";
 
-// What is allotted and used, the answers, the tree at the end, and a range of OUT that is all zero
-// then.
+// The file has lost its last byte.
+const CUT_TREE: &str =
+    "tree\n0 d 755 0 0 1 /\n1 d 755 0 0 1 a\n2 f 644 0 0 4 f\ninodes 3 pages 6 free 23\n";
+
+// The file has a byte more than a block.
+const GROWN_TREE: &str =
+    "tree\n0 d 755 0 0 1 /\n1 d 755 0 0 1 a\n2 f 644 0 0 4097 f\ninodes 3 pages 7 free 22\n";
+
+// What a library does with directories, with the first byte of the block of `f`; with what it is
+// allotted, with a range that is all zero then; and what is allotted and not used.
+const TREE_SESSIONS: &[Session] = &[
+    // ---- directories
+    (
+        "grant write 3\npoke block 3 0 0 4a\nrelease 3 - -\n",
+        "2 granted\n3 poked\n4 accepted\nend nothing\n",
+        TREE,
+        Out::Part(32_768, 32_769, b'J'),
+    ),
+    (
+        "grant write 3\npoke body 3 16 0110000000000000\nrelease 3 - -\n",
+        "2 granted\n3 poked\n4 refused I1\nend nothing\n",
+        TREE,
+        Out::Part(32_768, 32_769, b'h'),
+    ),
+    // the directory's holder writes over the size of `f`
+    (
+        "grant write 2\npoke block 2 0 208 ffffffffffffffff\nrelease 2 - -\n",
+        "2 granted\n3 poked\n4 accepted\nend nothing\n",
+        TREE,
+        Out::Part(32_768, 32_769, b'h'),
+    ),
+    // the last link has to be zero
+    (
+        "grant write 3\npoke index 3 0 4088 0700000000000000\nrelease 3 - -\n",
+        "2 granted\n3 poked\n4 refused I1\nend nothing\n",
+        TREE,
+        Out::Part(32_768, 32_769, b'h'),
+    ),
+    // both in one bundle
+    (
+        "grant write 2\ngrant write 3\npoke block 3 0 0 4a\npoke body 3 16 04\npoke block 2 0 208 ff\nrelease 2,3 - -\n",
+        "2 granted\n3 granted\n4 poked\n5 poked\n6 poked\n7 accepted\nend nothing\n",
+        CUT_TREE,
+        Out::Part(32_768, 32_769, b'J'),
+    ),
+    // the child is released while its directory is out, and that comes later with stale bytes
+    (
+        "grant write 2\ngrant write 3\npoke body 3 16 04\nrelease 3 - -\npoke block 2 0 208 ff\nrelease 2 - -\n",
+        "2 granted\n3 granted\n4 poked\n5 accepted\n6 poked\n7 accepted\nend nothing\n",
+        CUT_TREE,
+        Out::Part(32_768, 32_769, b'h'),
+    ),
+    // and where the directory is refused
+    (
+        "grant write 2\ngrant write 3\npoke body 3 16 04\nrelease 3 - -\npoke body 2 4 05\nrelease 2 - -\n",
+        "2 granted\n3 granted\n4 poked\n5 accepted\n6 poked\n7 refused I4\nend nothing\n",
+        CUT_TREE,
+        Out::Part(32_768, 32_769, b'h'),
+    ),
+    // a child is dropped
+    (
+        "grant write 2\npoke block 2 0 0 00000000\nrelease 2 - -\n",
+        "2 granted\n3 poked\n4 refused I3\nend nothing\n",
+        TREE,
+        Out::Part(32_768, 32_769, b'h'),
+    ),
+    // a file of another directory
+    (
+        "grant write 1\npoke block 1 0 256 030000000101000067\npoke block 1 0 448 a401\nrelease 1 - -\n",
+        "2 granted\n3 poked\n4 poked\n5 refused I2\nend nothing\n",
+        TREE,
+        Out::Part(32_768, 32_769, b'h'),
+    ),
+    // a child twice
+    (
+        "grant write 2\npoke block 2 0 256 030000000101000067\npoke block 2 0 448 a401\nrelease 2 - -\n",
+        "2 granted\n3 poked\n4 poked\n5 refused I2\nend nothing\n",
+        TREE,
+        Out::Part(32_768, 32_769, b'h'),
+    ),
+    // all that is left at the end
+    (
+        "grant write 1\ngrant write 2\ngrant write 3\npoke block 3 0 0 4a\n",
+        "2 granted\n3 granted\n4 granted\n5 poked\nend accepted\n",
+        TREE,
+        Out::Part(32_768, 32_769, b'J'),
+    ),
+    // ---- what is allotted is used
+    // `f` grows onto page 9, which isn't handed in
+    (
+        "allot 1 0\ngrant write 3\npoke index 3 0 8 09\npoke body 3 16 0110\nrelease 3 - -\n",
+        "2 allotted 9 -\n3 granted\n4 poked\n5 poked\n6 refused I2\nend accepted\n",
+        TREE,
+        Out::Part(36_864, 40_960, 0),
+    ),
+    // and which is
+    (
+        "allot 1 0\ngrant write 3\npoke index 3 0 8 09\npoke body 3 16 0110\nrelease 3 9 -\n",
+        "2 allotted 9 -\n3 granted\n4 poked\n5 poked\n6 accepted\nend nothing\n",
+        GROWN_TREE,
+        Out::Part(36_864, 40_960, 0),
+    ),
+    // and which was written into twice before, once by an accepted bundle and once by a refused one
+    (
+        "allot 1 0\npoke fresh 9 0 ff\nrelease - 9 -\nallot 1 0\npoke fresh 9 7 ff\ngrant write 3\npoke body 3 4 05\nrelease 3 9 -\nallot 1 0\ngrant write 3\npoke index 3 0 8 09\npoke body 3 16 0110\nrelease 3 9 -\n",
+        "2 allotted 9 -\n3 poked\n4 accepted\n5 allotted 9 -\n6 poked\n7 granted\n8 poked\n9 refused I4\n10 allotted 9 -\n11 granted\n12 poked\n13 poked\n14 accepted\nend nothing\n",
+        GROWN_TREE,
+        Out::Part(36_864, 40_960, 0),
+    ),
+    // `f` is cut, and its pages become its own again
+    (
+        "grant write 3\npoke block 3 0 4095 7a\npoke body 3 12 000000000000\nrelease 3 - -\nallot 2 0\ngrant write 3\npoke body 3 12 070000000010\npoke fresh 7 0 08\nrelease 3 7,8 -\n",
+        "2 granted\n3 poked\n4 poked\n5 accepted\n6 allotted 7,8 -\n7 granted\n8 poked\n9 poked\n10 accepted\nend nothing\n",
+        "tree\n0 d 755 0 0 1 /\n1 d 755 0 0 1 a\n2 f 644 0 0 4096 f\ninodes 3 pages 6 free 23\n",
+        Out::Part(32_768, 36_864, 0),
+    ),
+    // the directory grows and its file is cut by a byte, both in one bundle
+    (
+        "allot 1 0\ngrant write 2\ngrant write 3\npoke body 2 16 0020\npoke index 2 0 8 09\npoke body 3 16 04\nrelease 2,3 9 -\n",
+        "2 allotted 9 -\n3 granted\n4 granted\n5 poked\n6 poked\n7 poked\n8 accepted\nend nothing\n",
+        "tree\n0 d 755 0 0 1 /\n1 d 755 0 0 1 a\n2 f 644 0 0 4 f\ninodes 3 pages 7 free 22\n",
+        Out::Part(36_864, 40_960, 0),
+    ),
+    // a new file has a name that stands there, and another
+    (
+        "allot 0 1\ngrant write 2\npoke block 2 0 256 040000000101000066\npoke block 2 0 448 a401\nrelease 2 - 4\nallot 0 1\ngrant write 2\npoke block 2 0 256 04000000010200006666\npoke block 2 0 448 a401\nrelease 2 - 4\n",
+        "2 allotted - 4\n3 granted\n4 poked\n5 poked\n6 refused I1\n7 allotted - 4\n8 granted\n9 poked\n10 poked\n11 accepted\nend nothing\n",
+        "tree\n0 d 755 0 0 1 /\n1 d 755 0 0 2 a\n2 f 644 0 0 5 f\n2 f 644 0 0 0 ff\ninodes 4 pages 6 free 23\n",
+        Out::Part(0, 0, 0),
+    ),
+    // and a number that isn't handed in
+    (
+        "allot 0 1\ngrant write 2\npoke block 2 0 256 04000000010200006666\npoke block 2 0 448 a401\nrelease 2 - -\n",
+        "2 allotted - 4\n3 granted\n4 poked\n5 poked\n6 refused I2\nend accepted\n",
+        TREE,
+        Out::Part(0, 0, 0),
+    ),
+    // a new directory `b`, and its first block with the entry of `f`, and then with that of a new file
+    (
+        "allot 2 2\ngrant write 1\npoke block 1 0 256 040000000201000062\npoke block 1 0 448 ed01\nrelease 1 - 4\ngrant write 4\npoke body 4 12 090000000010\npoke fresh 9 0 0a\npoke fresh 10 0 030000000101000067\npoke fresh 10 192 a401\npoke fresh 10 204 0700000005\nrelease 4 9,10 -\nallot 2 0\ngrant write 4\npoke body 4 12 090000000010\npoke fresh 9 0 0a\npoke fresh 10 0 050000000101000067\npoke fresh 10 192 a401\nrelease 4 9,10 5\n",
+        "2 allotted 9,10 4,5\n3 granted\n4 poked\n5 poked\n6 accepted\n7 granted\n8 poked\n9 poked\n10 poked\n11 poked\n12 poked\n13 refused I2\n14 allotted 9,10 -\n15 granted\n16 poked\n17 poked\n18 poked\n19 poked\n20 accepted\nend nothing\n",
+        "tree\n0 d 755 0 0 2 /\n1 d 755 0 0 1 a\n2 f 644 0 0 5 f\n1 d 755 0 0 1 b\n2 f 644 0 0 0 g\ninodes 5 pages 8 free 21\n",
+        Out::Part(41_216, 45_056, 0),
+    ),
+    // ---- the lowest that are free are allotted
+    (
+        "allot 1 0\n",
+        "2 allotted 9 -\nend accepted\n",
+        TREE,
+        Out::Part(0, 0, 0),
+    ),
+    // what is handed in is free again
+    (
+        "allot 2 1\nallot 1 2\nrelease - 9 5\nallot 2 1\nrelease - 10,12 4\nallot 3 2\nrelease - 11,9,13 -\nallot 1 0\n",
+        "2 allotted 9,10 4\n3 allotted 11 5,6\n4 accepted\n5 allotted 9,12 5\n6 accepted\n7 allotted 10,12,13 4,7\n8 accepted\n9 allotted 9 -\nend accepted\n",
+        TREE,
+        Out::Part(0, 0, 0),
+    ),
+    // what isn't allotted, and past the end of a page
+    (
+        "allot 1 1\npoke fresh 10 0 00\npoke fresh 9 4095 0000\npoke fresh 9 4095 00\nrelease - 10 -\nrelease - 9 5\nrelease - 9 4\npoke fresh 9 0 00\n",
+        "2 allotted 9 4\n3 absent\n4 absent\n5 poked\n6 absent\n7 absent\n8 accepted\n9 absent\nend nothing\n",
+        TREE,
+        Out::Part(0, 0, 0),
+    ),
+    // the end is refused
+    (
+        "allot 1 1\ngrant write 3\npoke body 3 4 05\n",
+        "2 allotted 9 4\n3 granted\n4 poked\nend refused I4\n",
+        TREE,
+        Out::Part(0, 0, 0),
+    ),
+];
+
 #[test]
-fn allotments_are_used(rt: HostRuntime) -> Result<(), Fail> {
-    let grown =
-        "tree\n0 d 755 0 0 1 /\n1 d 755 0 0 1 a\n2 f 644 0 0 4097 f\ninodes 3 pages 7 free 22\n";
-    let rows: [(&str, &str, &str, (usize, usize)); 8] = [
-        // `f` grows onto page 9, which isn't handed in
-        (
-            "allot 1 0\ngrant write 3\npoke index 3 0 8 09\npoke body 3 16 0110\nrelease 3 - -\n",
-            "2 allotted 9 -\n3 granted\n4 poked\n5 poked\n6 refused\nend accepted\n",
-            TREE,
-            (36_864, 40_960),
-        ),
-        // and which is
-        (
-            "allot 1 0\ngrant write 3\npoke index 3 0 8 09\npoke body 3 16 0110\nrelease 3 9 -\n",
-            "2 allotted 9 -\n3 granted\n4 poked\n5 poked\n6 accepted\nend nothing\n",
-            grown,
-            (36_864, 40_960),
-        ),
-        // and which was written into twice before, once by an accepted bundle and once by a refused one
-        (
-            "allot 1 0\npoke fresh 9 0 ff\nrelease - 9 -\nallot 1 0\npoke fresh 9 7 ff\ngrant write 3\npoke body 3 4 05\nrelease 3 9 -\nallot 1 0\ngrant write 3\npoke index 3 0 8 09\npoke body 3 16 0110\nrelease 3 9 -\n",
-            "2 allotted 9 -\n3 poked\n4 accepted\n5 allotted 9 -\n6 poked\n7 granted\n8 poked\n9 refused\n10 allotted 9 -\n11 granted\n12 poked\n13 poked\n14 accepted\nend nothing\n",
-            grown,
-            (36_864, 40_960),
-        ),
-        // `f` is cut, and its pages become its own again
-        (
-            "grant write 3\npoke block 3 0 4095 7a\npoke body 3 12 000000000000\nrelease 3 - -\nallot 2 0\ngrant write 3\npoke body 3 12 070000000010\npoke fresh 7 0 08\nrelease 3 7,8 -\n",
-            "2 granted\n3 poked\n4 poked\n5 accepted\n6 allotted 7,8 -\n7 granted\n8 poked\n9 poked\n10 accepted\nend nothing\n",
-            "tree\n0 d 755 0 0 1 /\n1 d 755 0 0 1 a\n2 f 644 0 0 4096 f\ninodes 3 pages 6 free 23\n",
-            (32_768, 36_864),
-        ),
-        // the directory grows and its file is cut by a byte, both in one bundle
-        (
-            "allot 1 0\ngrant write 2\ngrant write 3\npoke body 2 16 0020\npoke index 2 0 8 09\npoke body 3 16 04\nrelease 2,3 9 -\n",
-            "2 allotted 9 -\n3 granted\n4 granted\n5 poked\n6 poked\n7 poked\n8 accepted\nend nothing\n",
-            "tree\n0 d 755 0 0 1 /\n1 d 755 0 0 1 a\n2 f 644 0 0 4 f\ninodes 3 pages 7 free 22\n",
-            (36_864, 40_960),
-        ),
-        // a new file has a name that stands there, and another
-        (
-            "allot 0 1\ngrant write 2\npoke block 2 0 256 040000000101000066\npoke block 2 0 448 a401\nrelease 2 - 4\nallot 0 1\ngrant write 2\npoke block 2 0 256 04000000010200006666\npoke block 2 0 448 a401\nrelease 2 - 4\n",
-            "2 allotted - 4\n3 granted\n4 poked\n5 poked\n6 refused\n7 allotted - 4\n8 granted\n9 poked\n10 poked\n11 accepted\nend nothing\n",
-            "tree\n0 d 755 0 0 1 /\n1 d 755 0 0 2 a\n2 f 644 0 0 5 f\n2 f 644 0 0 0 ff\ninodes 4 pages 6 free 23\n",
-            (0, 0),
-        ),
-        // and a number that isn't handed in
-        (
-            "allot 0 1\ngrant write 2\npoke block 2 0 256 04000000010200006666\npoke block 2 0 448 a401\nrelease 2 - -\n",
-            "2 allotted - 4\n3 granted\n4 poked\n5 poked\n6 refused\nend accepted\n",
-            TREE,
-            (0, 0),
-        ),
-        // a new directory `b`, and its first block with the entry of `f`, and then with that of a new file
-        (
-            "allot 2 2\ngrant write 1\npoke block 1 0 256 040000000201000062\npoke block 1 0 448 ed01\nrelease 1 - 4\ngrant write 4\npoke body 4 12 090000000010\npoke fresh 9 0 0a\npoke fresh 10 0 030000000101000067\npoke fresh 10 192 a401\npoke fresh 10 204 0700000005\nrelease 4 9,10 -\nallot 2 0\ngrant write 4\npoke body 4 12 090000000010\npoke fresh 9 0 0a\npoke fresh 10 0 050000000101000067\npoke fresh 10 192 a401\nrelease 4 9,10 5\n",
-            "2 allotted 9,10 4,5\n3 granted\n4 poked\n5 poked\n6 accepted\n7 granted\n8 poked\n9 poked\n10 poked\n11 poked\n12 poked\n13 refused\n14 allotted 9,10 -\n15 granted\n16 poked\n17 poked\n18 poked\n19 poked\n20 accepted\nend nothing\n",
-            "tree\n0 d 755 0 0 2 /\n1 d 755 0 0 1 a\n2 f 644 0 0 5 f\n1 d 755 0 0 1 b\n2 f 644 0 0 0 g\ninodes 5 pages 8 free 21\n",
-            (41_216, 45_056),
-        ),
-    ];
-    for (lines, answers, tree, (from, to)) in rows {
-        let alloc = rt.alloc();
-        let whole = tree_image(alloc)?;
-        let left = run_over(&rt, &WORDS, whole, script_of(alloc, lines)?, (0, 0))?;
-        let report = report_of(alloc, answers, tree)?;
-        assert_eq!(rt; left.status, 0, "{lines}");
-        assert_eq!(rt; left.out.bytes(), report.as_slice(), "{lines}");
-        let out = left.files.content("o p").ok_or("an image")?;
-        assert!(rt; Image::from_bytes(alloc, out).is_ok(), "{lines}");
-        let part = out.get(from..to).ok_or("a part")?;
-        assert!(rt; part.iter().all(|byte| *byte == 0), "{lines}");
+fn directories_are_lent_and_what_is_free_is_allotted(rt: HostRuntime) -> Result<(), Fail> {
+    let whole = tree_image(rt.alloc())?;
+    for session in TREE_SESSIONS {
+        assert!(rt; plays(&rt, &whole, *session) == Some(true), "{}", session.0);
     }
     Ok(())
 }
 
-// What is allotted and not used, and the answers. The tree stays as it is.
-#[test]
-fn the_lowest_free_are_allotted(rt: HostRuntime) -> Result<(), Fail> {
-    let rows: [(&str, &str); 4] = [
-        ("allot 1 0\n", "2 allotted 9 -\nend accepted\n"),
-        // what is handed in is free again
-        (
-            "allot 2 1\nallot 1 2\nrelease - 9 5\nallot 2 1\nrelease - 10,12 4\nallot 3 2\nrelease - 11,9,13 -\nallot 1 0\n",
-            "2 allotted 9,10 4\n3 allotted 11 5,6\n4 accepted\n5 allotted 9,12 5\n6 accepted\n7 allotted 10,12,13 4,7\n8 accepted\n9 allotted 9 -\nend accepted\n",
-        ),
-        // what isn't allotted, and past the end of a page
-        (
-            "allot 1 1\npoke fresh 10 0 00\npoke fresh 9 4095 0000\npoke fresh 9 4095 00\nrelease - 10 -\nrelease - 9 5\nrelease - 9 4\npoke fresh 9 0 00\n",
-            "2 allotted 9 4\n3 absent\n4 absent\n5 poked\n6 absent\n7 absent\n8 accepted\n9 absent\nend nothing\n",
-        ),
-        // the end is refused
-        (
-            "allot 1 1\ngrant write 3\npoke body 3 4 05\n",
-            "2 allotted 9 4\n3 granted\n4 poked\nend refused\n",
-        ),
-    ];
-    for (lines, answers) in rows {
-        let alloc = rt.alloc();
-        let whole = tree_image(alloc)?;
-        let left = run_over(&rt, &WORDS, whole, script_of(alloc, lines)?, (0, 0))?;
-        let report = report_of(alloc, answers, TREE)?;
-        assert_eq!(rt; left.status, 0, "{lines}");
-        assert_eq!(rt; left.out.bytes(), report.as_slice(), "{lines}");
-    }
-    Ok(())
-}
-
-// The image with nothing in the root.
+// Nothing is in the root.
 fn empty_image(alloc: Global) -> Result<Vec<u8>, NoMemory> {
     Sample::small(alloc, &[root()])?.bytes(alloc)
 }
 
 // More than is free is allotted in no part, and any number may be asked.
+const ALL_IS_ASKED: Session = (
+    "allot 30 0\nallot 4294967295 64\nallot 29 0\nallot 0 64\nallot 0 4294967295\nallot 0 0\nallot 1 64\nallot 0 2\nallot 0 62\n",
+    "2 nopages 30 29\n3 nopages 4294967295 29\n4 allotted 3,4,5,6,7,8,9,10,11,12,13,14,15,16,17,18,19,20,21,22,23,24,25,26,27,28,29,30,31 -\n5 noinodes 64 63\n6 noinodes 4294967295 63\n7 allotted - -\n8 nopages 1 0\n9 allotted - 2,3\n10 noinodes 62 61\nend accepted\n",
+    "tree\n0 d 755 0 0 0 /\ninodes 1 pages 0 free 29\n",
+    SAME,
+);
+
 #[test]
 fn no_more_than_is_free_is_allotted(rt: HostRuntime) -> Result<(), Fail> {
-    let alloc = rt.alloc();
-    let lines =
-        "allot 30 0\nallot 4294967295 64\nallot 29 0\nallot 0 64\nallot 0 4294967295\nallot 0 0\nallot 1 64\nallot 0 2\nallot 0 62\n";
-    let answers =
-        "2 nopages 30 29\n3 nopages 4294967295 29\n4 allotted 3,4,5,6,7,8,9,10,11,12,13,14,15,16,17,18,19,20,21,22,23,24,25,26,27,28,29,30,31 -\n5 noinodes 64 63\n6 noinodes 4294967295 63\n7 allotted - -\n8 nopages 1 0\n9 allotted - 2,3\n10 noinodes 62 61\nend accepted\n";
-    let tree = "tree\n0 d 755 0 0 0 /\ninodes 1 pages 0 free 29\n";
-    let whole = empty_image(alloc)?;
-    let script = script_of(alloc, lines)?;
-    let left = run_over(&rt, &WORDS, whole.to_vec(alloc)?, script, (0, 0))?;
-    let report = report_of(alloc, answers, tree)?;
-    assert_eq!(rt; left.status, 0);
-    assert_eq!(rt; left.out.bytes(), report.as_slice());
-    assert!(rt; left.files.content("o p") == Some(whole.as_slice()));
+    let whole = empty_image(rt.alloc())?;
+    assert!(rt; plays(&rt, &whole, ALL_IS_ASKED) == Some(true));
     Ok(())
 }
 
-// Each byte of the file's body set to some values. It is accepted only where nothing is changed, or
-// the size within its one block.
+// Values of a byte, as they are poked.
+const VALUES: &[(u8, &str)] = &[(0, "00"), (1, "01"), (0x7f, "7f"), (0xff, "ff")];
+
+// How a report begins of which the third line is a release.
+const ACCEPTED: &[u8] = b"lib 1 raw\n2 granted\n3 poked\n4 accepted\n";
+
+const REFUSED: &[u8] = b"lib 1 raw\n2 granted\n3 poked\n4 refused I";
+
+// Whether the report begins so where this is poked into a place at an offset of the file that is then
+// released, and leaves this OUT.
+fn is_judged<R: Threads + Wait + Sync + AllocGlobal>(
+    rt: &R,
+    image: &[u8],
+    (place, offset, text): (&str, &str, &str),
+    verdict: &[u8],
+    wanted: Out,
+) -> Option<bool> {
+    let alloc = rt.alloc();
+    let begin = "lib 1 raw 0 0\ngrant write 2\npoke ";
+    let lines = [begin, place, " ", offset, " ", text, "\nrelease 2 - -\n"];
+    let script = joined(alloc, &lines).ok()?;
+    let left = run_over(rt, &WORDS, image, &script, (0, 0)).ok()?;
+    let is_told = left.status == 0 && left.out.bytes().starts_with(verdict);
+    Some(is_told && has(alloc, left.files.content("o p")?, image, wanted)?)
+}
+
+// The offsets of a body.
+const OFFSETS: &[&str] = &[
+    "0", "1", "2", "3", "4", "5", "6", "7", "8", "9", "10", "11", "12", "13", "14", "15", "16",
+    "17", "18", "19", "20", "21", "22", "23", "24", "25", "26", "27", "28", "29", "30", "31", "32",
+    "33", "34", "35", "36", "37", "38", "39", "40", "41", "42", "43", "44", "45", "46", "47", "48",
+    "49", "50", "51", "52", "53", "54", "55", "56", "57", "58", "59", "60", "61", "62", "63",
+];
+
+// Each byte of the file's body set to some values. OUT is an image, and the file is accepted only
+// where nothing is changed, or the size within its one block.
 #[test]
 fn any_byte_of_a_body(rt: HostRuntime) -> Result<(), Fail> {
-    let alloc = rt.alloc();
-    let whole = image(alloc, IMAGE_SIZE, &[])?;
-    for at in 0..64_usize {
-        for (value, text) in [(0_u8, "00"), (1, "01"), (0x7f, "7f"), (0xff, "ff")] {
-            let lines = format!(in alloc;
-                "grant write 2\npoke body 2 {at} {text}\nrelease 2 - -\n"
-            )?;
-            let script = script_of(alloc, lines.as_str())?;
-            let left = run_over(&rt, &WORDS, whole.to_vec(alloc)?, script, (0, 0))?;
-            assert_eq!(rt; left.status, 0, "{text} at {at}");
-            let same = whole.get(16_576 + at) == Some(&value);
-            let sized = at == 16 && value > 0 || at == 17 && value < 0x10;
-            let verdict: &[u8] = if same || sized {
-                b"4 accepted"
-            } else {
-                b"4 refused\n"
-            };
+    let whole = image(rt.alloc())?;
+    for (at, offset) in OFFSETS.iter().enumerate() {
+        for (value, text) in VALUES {
+            let same = whole.get(16_576 + at) == Some(value);
+            let sized = at == 16 && *value > 0 || at == 17 && *value < 0x10;
+            let poke = ("body 2", *offset, *text);
+            let verdict = if same || sized { ACCEPTED } else { REFUSED };
             assert!(rt;
-                left.out.bytes().get(28..38) == Some(verdict),
+                is_judged(&rt, &whole, poke, verdict, Out::Part(0, 0, 0)) == Some(true),
                 "{text} at {at}"
             );
-            let out = left.files.content("o p").ok_or("an image")?;
-            assert!(rt; Image::from_bytes(alloc, out).is_ok(), "{text} at {at}");
         }
     }
     Ok(())
 }
 
+// Some offsets of an index page.
+const PLACES: &[(usize, &str)] = &[
+    (0, "0"),
+    (1, "1"),
+    (4, "4"),
+    (7, "7"),
+    (8, "8"),
+    (9, "9"),
+    (2048, "2048"),
+    (4080, "4080"),
+    (4087, "4087"),
+    (4088, "4088"),
+    (4089, "4089"),
+    (4095, "4095"),
+];
+
 // Some bytes of the file's index page set to some values: only what changes nothing is accepted.
 #[test]
 fn any_byte_of_an_index_page(rt: HostRuntime) -> Result<(), Fail> {
-    let alloc = rt.alloc();
-    let whole = image(alloc, IMAGE_SIZE, &[])?;
-    for at in [0_u16, 1, 4, 7, 8, 9, 2048, 4080, 4087, 4088, 4089, 4095] {
-        for (value, text) in [(0_u8, "00"), (1, "01"), (0x7f, "7f"), (0xff, "ff")] {
-            let lines = format!(in alloc;
-                "grant write 2\npoke index 2 0 {at} {text}\nrelease 2 - -\n"
-            )?;
-            let script = script_of(alloc, lines.as_str())?;
-            let left = run_over(&rt, &WORDS, whole.to_vec(alloc)?, script, (0, 0))?;
-            let same = whole.get(20_480 + usize::from(at)) == Some(&value);
-            let verdict: &[u8] = if same { b"4 accepted" } else { b"4 refused\n" };
+    let whole = image(rt.alloc())?;
+    for (at, offset) in PLACES {
+        for (value, text) in VALUES {
+            let same = whole.get(20_480 + *at) == Some(value);
+            let poke = ("index 2 0", *offset, *text);
+            let verdict = if same { ACCEPTED } else { REFUSED };
             assert!(rt;
-                left.out.bytes().get(28..38) == Some(verdict),
+                is_judged(&rt, &whole, poke, verdict, SAME) == Some(true),
                 "{text} at {at}"
             );
-            let wanted = left.files.content("o p") == Some(whole.as_slice());
-            assert!(rt; wanted, "{text} at {at}");
         }
     }
     Ok(())

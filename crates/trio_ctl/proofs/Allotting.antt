@@ -1,8 +1,10 @@
 -- What an allotment gives, by what the controller keeps.
-use Rattle.std.proofs.Common.{◌≡◌, ℕ, ◌+◌, ◌<◌, ◌≤◌, true, false, ◌==◌, ◌&&◌, List, ◌++◌, length, take, Option, Some, None, IsSome, refl, sym, ap, subst, ◌∙◌, ◌⊎◌, inl, inr, arith}
-use Rattle.std.specs.Prelude.{not, slice_get, slice_index, slice_index_or}
+use Rattle.std.proofs.Common.{◌≡◌, ℕ, ◌+◌, ◌-◌, ◌*◌, ◌<◌, ◌≤◌, true, false, ◌==◌, ◌&&◌, List, ◌++◌, length, map, take, drop, Option, Some, None, IsSome, refl, sym, ap, subst, ◌∙◌, ◌⊎◌, inl, inr, arith}
+use Rattle.std.specs.Prelude.{IsTrue, not, slice_get, slice_index, slice_index_or}
 use Rattle.std.proofs.lemmas.Bool.{and_parts, eqb-true, false≢true, le-leb, le-ltb, lt-ltb, not-true}
+use Rattle.std.proofs.lemmas.List.{take-append-drop}
 use Rattle.std.proofs.lemmas.Option.{slice_get-get_or}
+use Rattle.trio_page.specs.Home.{Pages}
 use Rattle.trio_rights.specs.Row.{Row}
 use Rattle.trio_rights.specs.declared.rights.Creds.{Creds}
 use Rattle.trio_rights.specs.declared.rights.LibNo.{LibNo}
@@ -11,38 +13,79 @@ use Rattle.trio_nodes.specs.declared.answers.AllotFault.{AllotFault}
 use Rattle.trio_nodes.specs.declared.answers.AllotFault.TheVariants.{NoPages as NoFreePages, NoInodes as NoFreeInodes}
 use Rattle.trio_grants.specs.Grants.{Keyed}
 use Rattle.trio_layout.specs.declared.superblock.Superblock.{Superblock}
-use Rattle.trio_lists.specs.Lists.{is_among}
+use Rattle.trio_lists.specs.Lists.{In, is_among}
 use Rattle.trio_layout.specs.Range.{is_core}
-use Rattle.trio_layout.specs.Survey.{plain}
-use Rattle.trio_tables.specs.Free.{free_numbers, free_pages}
-use Rattle.trio_tables.specs.Out.{is_out}
+use Rattle.trio_layout.specs.Superblock.{page_count, superblock_fits}
+use Rattle.trio_layout.specs.Survey.{plain, row_of, survey}
+use Rattle.trio_tables.specs.Free.{count_up, free_numbers, free_pages, is_free_number}
+use Rattle.trio_tables.specs.Out.{is_out, lib_at}
+use Rattle.trio_tables.proofs.OutLemmas.{lib_at-others}
 use Rattle.trio_allot.specs.Free.{FreeAreHome, RefusesBoth}
 use Rattle.trio_state.specs.Allotments.{allots}
-use Rattle.trio_state.specs.Kept.{is_lent}
-use Rattle.trio_page.specs.Sheets.{sheet_numbers, without_pages}
-use Rattle.trio_state.specs.State.{State, logged, settled}
+use Rattle.trio_state.specs.Kept.{Kept, is_lent}
+use Rattle.trio_rights.specs.Sheets.{sheet_numbers, without_pages}
+use Rattle.trio_state.specs.State.{OpenGrant, State, logged, settled}
 use Rattle.trio_nodes.specs.GrantKinds.{is_write}
 use Rattle.trio_state.specs.Step.{Allot, CtlAnswer, Given, NoInodes, NoPages, Outcome, Step, allot_outcome}
-use Rattle.trio_lists.proofs.Filters.{list_any-In}
+use Rattle.trio_lists.proofs.Counting.{count_from}
+use Rattle.trio_lists.proofs.New.{is_among-not}
+use Rattle.trio_lists.proofs.Filters.{filter-In, list_any-In}
 use Rattle.trio_laws.proofs.Grants.{logged_kept}
 use Rattle.trio_surveys.proofs.Images.{free_is_low, free_unlisted}
 use Rattle.trio_lists.proofs.Tabulated.{tabulated-length}
-use Rattle.trio_lists.proofs.Members.{is_among-In}
+use Rattle.trio_lists.proofs.Members.{In-left, is_among-In, map-In}
 use Rattle.trio_laws.proofs.Runs.{step_kept}
 use Rattle.trio_surveys.proofs.Sheets.{length-without}
 use Rattle.trio_laws.proofs.StateFacts.{lent_met, tables as tables_of}
 use Rattle.trio_ctl.specs.Answers.{allot_fault_answer}
-use Rattle.trio_ctl.specs.Ctl.{IsControlled, state_of}
-use Rattle.trio_ctl.specs.Open.{Opened}
+use Rattle.trio_commit.specs.declared.store.Store.{Store}
+use Rattle.trio_commit.specs.Store.{checkpoint_at, state_of, with_checkpoint}
+use Rattle.trio_ctl.specs.Ctl.{IsControlled}
+use Rattle.trio_ctl.specs.Open.{Opened, grants_in}
+use Rattle.trio_ctl.specs.Stored.{IsStored, superblock_at_home}
 use Rattle.trio_allot.specs.Out.{OutByNumber, outs_with}
-use Rattle.trio_ctl.proofs.Handing.{grant_writes}
 
-module _ (s : Superblock) (pages : List (Option (List ℕ))) (rows : List (Option Row)) (owners : List ℕ) (table : List Keyed) (files : List Opened) (outs : OutByNumber) (creds : List Creds) (entries : ℕ) (k : IsControlled s pages rows owners table files outs creds entries) where
+module _ (s : Store) (first : ℕ) (table : List Keyed) (files : List Opened) (creds : List Creds) (entries : ℕ) (k : IsControlled s first table files creds entries) where
   abbrev now : State
-  now = state_of s pages rows owners files outs creds entries
+  now = state_of s first (grants_in files) creds entries
 
-  pub owners_long : length owners ≡ s.pages
-  owners_long = ap length k.kept.verifies.owners ∙ tabulated-length _ s.pages
+  abbrev pages : List (Option (List ℕ))
+  pages = s.home.pages
+
+  abbrev rows : List (Option Row)
+  rows = s.rows
+
+  abbrev owners : List ℕ
+  owners = s.owners
+
+  abbrev outs : OutByNumber
+  outs = s.allotments
+
+  kept_now : Kept now
+  kept_now = k.stored.kept
+
+  pub owners_long : length owners ≡ length pages
+  owners_long = ap length kept_now.verifies.owners ∙ tabulated-length _ (length pages)
+
+  abbrev inodes : ℕ
+  inodes = length rows - 1
+
+  pub rows_long : length rows ≡ inodes + 1
+  rows_long = ap length kept_now.verifies.rows ∙ tabulated-length (row_of (settled now).core (survey (settled now).core plain)) (inodes + 1)
+
+  -- each page and each number has its place among what is out
+  pub pages_placed : length outs.pages ≡ length owners
+  pages_placed = kept_now.pages_placed ∙ sym owners_long
+
+  pub numbers_placed : length outs.numbers ≡ length rows
+  numbers_placed = kept_now.numbers_placed ∙ sym rows_long
+
+  -- only write grants are open
+  pub writes_all : (g : OpenGrant) → In g now.open_grants → g.kind ≡ Write
+  writes_all g i =
+      let h = map-In (with_checkpoint s.checkpoints.items) g (grants_in files) i in
+      let o = map-In (λ (o : Opened). o.grant) h.0 files h.1 in
+      ap (λ (x : OpenGrant). x.kind) h.2 ∙ ap (λ (x : OpenGrant). x.kind) o.2 ∙ k.writes o.0 o.1
 
   -- each free page is at home
   pub free_home : FreeAreHome owners outs.pages pages
@@ -57,11 +100,11 @@ module _ (s : Superblock) (pages : List (Option (List ℕ))) (rows : List (Optio
       by_page : (o : Option (List ℕ)) → slice_index_or pages p None ≡ o → IsSome o
       by_page (Some bytes) e = refl
       by_page None e =
-          let lt : p < s.pages = omega (arith, below, owners_long) in
-          let low = free_is_low (settled now).core plain k.kept.fit k.kept.verifies.sound (settled now) (tables_of now k.kept) p owner_zero lt in
-          let gone : slice_get pages p ≡ Some None = slice_get-get_or pages p None (omega (arith, lt, k.count)) ∙ ap Some e in
-          let core : is_core (settled now).core.range p ≡ true = rw (le-leb s.first_core p low, lt-ltb p s.pages lt) refl in
-          absurd (elim (k.kept.absent p gone core) [
+          let lt : p < length pages = omega (arith, below, owners_long) in
+          let low = free_is_low (settled now).core plain kept_now.fit kept_now.verifies.sound (settled now) (tables_of now kept_now) p owner_zero lt in
+          let gone : slice_get pages p ≡ Some None = slice_get-get_or pages p None lt ∙ ap Some e in
+          let core : is_core (settled now).core.range p ≡ true = rw (le-leb first p low, lt-ltb p (length pages) lt) refl in
+          absurd (elim (kept_now.absent p gone core) [
             | inl lent ↦ lent_free lent
             | inr out ↦ false≢true (sym stays ∙ out)
           ])
@@ -70,33 +113,38 @@ module _ (s : Superblock) (pages : List (Option (List ℕ))) (rows : List (Optio
           lent_free lent =
               let q = list_any-In (λ g. is_write g.kind && is_among p (sheet_numbers (g.index ++ g.blocks))) now.open_grants lent in
               let parts = and_parts (is_write q.0.kind) (is_among p (sheet_numbers (q.0.index ++ q.0.blocks))) q.2 in
-              let kind : q.0.kind ≡ Write = grant_writes s pages rows owners table files outs creds entries k q.0 q.1 in
-              let l = k.kept.lent q.0 q.1 kind in
-              free_unlisted (settled now).core plain k.kept.fit k.kept.verifies.sound (settled now) (tables_of now k.kept) p owner_zero l.met l.stands
-              (lent_met now k.kept q.0 q.1 kind p (is_among-In p (sheet_numbers (q.0.index ++ q.0.blocks)) parts.1))
+              let kind : q.0.kind ≡ Write = writes_all q.0 q.1 in
+              let l = kept_now.lent q.0 q.1 kind in
+              free_unlisted (settled now).core plain kept_now.fit kept_now.verifies.sound (settled now) (tables_of now kept_now) p owner_zero l.met l.stands
+              (lent_met now kept_now q.0 q.1 kind p (is_among-In p (sheet_numbers (q.0.index ++ q.0.blocks)) parts.1))
+
+  -- nothing went out
+  pub still : (s' : Store) → s' ≡ record s { home = s'.home; allotments = s'.allotments } → s'.home ≡ s.home → s'.allotments ≡ s.allotments → s' ≡ s
+  still s' rest home none =
+      rest
+      ∙ ap (λ (h : Pages). record s { home = h; allotments = s'.allotments }) home
+      ∙ ap (λ (o : OutByNumber). record s { allotments = o }) none
+
+  pub unchanged_controlled : (s' : Store) → s' ≡ s → IsControlled s' first table files creds entries
+  unchanged_controlled s' same = subst (λ (t : Store). IsControlled t first table files creds entries) (sym same) k
 
   -- one entry more, and nothing else has changed
-  pub logged_controlled : (pages' : List (Option (List ℕ))) (outs' : OutByNumber) (entries' : ℕ) → pages' ≡ pages → outs' ≡ outs → entries' ≡ entries + 1 → IsControlled s pages' rows owners table files outs' creds entries'
-  logged_controlled pages' outs' entries' same_pages same_outs next =
-      subst (λ ps. IsControlled s ps rows owners table files outs' creds entries') (sym same_pages)
-      (subst (λ (x : OutByNumber). IsControlled s pages rows owners table files x creds entries') (sym same_outs)
-      (subst (λ n. IsControlled s pages rows owners table files outs creds n) (sym next) (record {
-        fits = k.fits;
-        root = k.root;
-        count = k.count;
+  pub logged_controlled : (s' : Store) (entries' : ℕ) → s' ≡ s → entries' ≡ entries + 1 → IsControlled s' first table files creds entries'
+  logged_controlled s' entries' same next =
+      subst (λ (t : Store). IsControlled t first table files creds entries') (sym same)
+      (subst (λ n. IsControlled s first table files creds n) (sym next) (record {
+        stored = record { fits = k.stored.fits; places = k.stored.places; of_grant = k.stored.of_grant; covers = k.stored.covers; kept = logged_kept now kept_now };
+        no_zero = k.no_zero;
         some_libraries = k.some_libraries;
         few_libraries = k.few_libraries;
         grants = k.grants;
         keys_once = k.keys_once;
         earlier = λ o i. (let e = k.earlier o i in omega (arith, e));
         writes = k.writes;
-        kept = logged_kept now k.kept;
-      })))
+      }))
 
-  pub logged_is : (pages' : List (Option (List ℕ))) (outs' : OutByNumber) (entries' : ℕ) → pages' ≡ pages → outs' ≡ outs → entries' ≡ entries + 1 → state_of s pages' rows owners files outs' creds entries' ≡ logged now
-  logged_is pages' outs' entries' same_pages same_outs next =
-      let S : List (Option (List ℕ)) → OutByNumber → ℕ → State = λ ps os n. state_of s ps rows owners files os creds n in
-      ap (λ ps. S ps outs' entries') same_pages ∙ ap (λ (x : OutByNumber). S pages x entries') same_outs ∙ ap (S pages outs) next
+  pub logged_is : (s' : Store) (entries' : ℕ) → s' ≡ s → entries' ≡ entries + 1 → state_of s' first (grants_in files) creds entries' ≡ logged now
+  logged_is s' entries' same next = ap (λ (t : Store). state_of t first (grants_in files) creds entries') same ∙ ap (state_of s first (grants_in files) creds) next
 
   module _ (lib : LibNo) (wanted many : ℕ) where
     abbrev ps : List ℕ
@@ -135,16 +183,31 @@ module _ (s : Superblock) (pages : List (Option (List ℕ))) (rows : List (Optio
 
     -- ---- given
 
-    module _ (pages' : List (Option (List ℕ))) (outs' : OutByNumber) (entries' : ℕ) (enough_pages : wanted ≤ length ps) (enough_numbers : many ≤ length ns)
-        (gone : pages' ≡ without_pages (take wanted ps) pages) (given : outs' ≡ outs_with outs lib (take wanted ps) (take many ns)) (next : entries' ≡ entries + 1) where
+    module _ (s' : Store) (entries' : ℕ) (enough_pages : wanted ≤ length ps) (enough_numbers : many ≤ length ns)
+        (rest : s' ≡ record s { home = s'.home; allotments = s'.allotments })
+        (gone : s'.home.pages ≡ without_pages (take wanted ps) pages) (given : s'.allotments ≡ outs_with outs lib (take wanted ps) (take many ns)) (next : entries' ≡ entries + 1) where
       abbrev after : State
-      after = state_of s pages' rows owners files outs' creds entries'
+      after = state_of s' first (grants_in files) creds entries'
+
+      long : length s'.home.pages ≡ length pages
+      long = ap length gone ∙ length-without (take wanted ps) pages
 
       after_is : after ≡ allots now lib.0 (take wanted ps) (take many ns)
       after_is =
-          let S : List (Option (List ℕ)) → OutByNumber → ℕ → State = λ ps' os n. state_of s ps' rows owners files os creds n in
-          ap (λ x. S x outs' entries') gone ∙ ap (λ (x : OutByNumber). S (without_pages (take wanted ps) pages) x entries') given
-          ∙ ap (S (without_pages (take wanted ps) pages) (outs_with outs lib (take wanted ps) (take many ns))) next
+          let S : Store → List (Option (List ℕ)) → ℕ → OutByNumber → ℕ → State = λ (t : Store) ps' e (os : OutByNumber) n. record {
+            home = record { core = record { pages = ps'; root = t.root; range = record { first = first; end = e }; inodes = length t.rows - 1 }; rows = t.rows; owners = t.owners };
+            open_grants = map (with_checkpoint t.checkpoints.items) (grants_in files);
+            pages_out = os.pages;
+            numbers_out = os.numbers;
+            creds = creds;
+            entries = n;
+          } in
+          let away : List (Option (List ℕ)) = without_pages (take wanted ps) pages in
+          ap (λ (t : Store). S t s'.home.pages (length s'.home.pages) s'.allotments entries') rest
+          ∙ ap (λ x. S s x (length s'.home.pages) s'.allotments entries') gone
+          ∙ ap (λ x. S s away x s'.allotments entries') long
+          ∙ ap (λ (x : OutByNumber). S s away (length pages) x entries') given
+          ∙ ap (S s away (length pages) (outs_with outs lib (take wanted ps) (take many ns))) next
 
       pub given_step : Step now (Allot lib.0 wanted many) (Given (take wanted ps) (take many ns)) after
       given_step =
@@ -153,16 +216,41 @@ module _ (s : Superblock) (pages : List (Option (List ℕ))) (rows : List (Optio
           by_outcome (Given (take wanted ps) (take many ns)) after (record { answer = Given (take wanted ps) (take many ns); after = allots now lib.0 (take wanted ps) (take many ns) })
           (rw (e, e') refl) refl after_is
 
-      pub given_controlled : IsControlled s pages' rows owners table files outs' creds entries'
+      same_superblock : superblock_at_home s' first ≡ superblock_at_home s first
+      same_superblock =
+          let S : Store → ℕ → Superblock = λ (t : Store) e. record { pages = e; inodes = length t.rows - 1; first_owner = 1 + page_count (32 * (length t.rows - 1)); first_core = first; root = t.root } in
+          ap (λ (t : Store). S t (length s'.home.pages)) rest ∙ ap (S s) long
+
+      same_checkpoints : (n : ℕ) → checkpoint_at s'.checkpoints.items n ≡ checkpoint_at s.checkpoints.items n
+      same_checkpoints n = ap (λ (t : Store). checkpoint_at t.checkpoints.items n) rest
+
+      given_stored : IsStored s' first (grants_in files) creds entries'
+      given_stored = record {
+        fits = subst (λ (x : Superblock). IsTrue (superblock_fits x)) (sym same_superblock) k.stored.fits;
+        places = ap (λ (t : Store). length t.checkpoints.items) rest ∙ k.stored.places ∙ sym (ap (λ (t : Store). length t.rows) rest);
+        of_grant = λ n c e. k.stored.of_grant n c (sym (same_checkpoints n) ∙ e);
+        covers = λ g i kind. (let q = k.stored.covers g i kind in (q.0, same_checkpoints g.ino ∙ q.1, q.2));
+        kept = step_kept now after (Allot lib.0 wanted many) (Given (take wanted ps) (take many ns)) kept_now tt given_step;
+      }
+
+      pub given_controlled : IsControlled s' first table files creds entries'
       given_controlled = record {
-        fits = k.fits;
-        root = k.root;
-        count = ap length gone ∙ length-without (take wanted ps) pages ∙ k.count;
+        stored = given_stored;
+        no_zero =
+            ap (λ (o : OutByNumber). lib_at o.numbers 0) given
+            ∙ lib_at-others (Some lib) (take many ns) 0 outs.numbers (is_among-not 0 (take many ns) not_zero)
+            ∙ k.no_zero;
         some_libraries = k.some_libraries;
         few_libraries = k.few_libraries;
         grants = k.grants;
         keys_once = k.keys_once;
         earlier = λ o i. (let e = k.earlier o i in omega (arith, e, next));
         writes = k.writes;
-        kept = step_kept now after (Allot lib.0 wanted many) (Given (take wanted ps) (take many ns)) k.kept tt given_step;
       }
+        where
+          not_zero : In 0 (take many ns) → ⊥
+          not_zero i =
+              let all = subst (In 0) (take-append-drop many ns) (In-left 0 (take many ns) (drop many ns) i) in
+              let c = filter-In (is_free_number rows outs.numbers) 0 (count_up 1 (length rows - 1)) all in
+              let low = (count_from 1 (length rows - 1) 0 c.0).0 in
+              omega (arith, low)

@@ -1,10 +1,10 @@
 -- A write grant of the controller is the step that the definitions say.
-use Rattle.std.proofs.Common.{◌≡◌, ◌≢◌, ℕ, ◌+◌, ◌<◌, Bool, true, false, not, ◌&&◌, ◌||◌, List, [], ◌∷◌, ◌++◌, length, map, get_or, Option, Some, None, is_some, slice_get, inl, inr, ◌⊎◌, refl, sym, ap, subst, ◌∙◌, arith}
-use Rattle.std.specs.Prelude.{◌==◌, Ok, Err, if◌then◌else◌}
+use Rattle.std.proofs.Common.{◌≡◌, ◌≢◌, ℕ, zero, suc, ◌+◌, ◌-◌, ◌*◌, ◌<◌, Bool, true, false, not, ◌&&◌, ◌||◌, List, [], ◌∷◌, ◌++◌, length, map, get_or, Option, Some, None, is_some, slice_get, inl, inr, ◌⊎◌, refl, sym, ap, subst, ◌∙◌, arith}
+use Rattle.std.specs.Prelude.{◌==◌, Ok, Err, if◌then◌else◌, slice_set, IsTrue}
 use Rattle.std.specs.List.{find, filter}
-use Rattle.std.specs.Option.{option_map, option_map_or, option_and_then, option_or}
+use Rattle.std.specs.Option.{option_map, option_map_or, option_and_then}
 use Rattle.std.proofs.lemmas.Bool.{eq-eqb, eqb-true, false≢true}
-use Rattle.std.proofs.lemmas.List.{map-append}
+use Rattle.std.proofs.lemmas.List.{map-append, get_or-set_same, get_or-set_other, length-set}
 use Rattle.std.proofs.lemmas.List.Elements.{All-cons}
 use Rattle.trio_rights.specs.Row.{Row}
 use Rattle.trio_rights.specs.May.{denier}
@@ -17,7 +17,6 @@ use Rattle.trio_nodes.specs.declared.answers.GrantFault.{GrantFault}
 use Rattle.trio_nodes.specs.declared.answers.GrantFault.TheVariants.{Busy, Denied, NoMemory, NoParent, NotLive}
 use Rattle.trio_grants.specs.declared.grant.Grant.{Grant as TableGrant}
 use Rattle.trio_grants.specs.Grants.{Keyed, AllBelow, excludes, first_with, grant_under, holder}
-use Rattle.trio_layout.specs.declared.superblock.Superblock.{Superblock}
 use Rattle.trio_layout.specs.declared.range.CoreRange.{CoreRange}
 use Rattle.trio_layout.specs.Body.{body_of}
 use Rattle.trio_layout.specs.Chain.{Chain, chain_of}
@@ -27,39 +26,46 @@ use Rattle.trio_layout.specs.Entries.{body_in_slot}
 use Rattle.trio_layout.specs.Range.{is_core}
 use Rattle.trio_lists.proofs.Marked.{are_new-push}
 use Rattle.trio_state.specs.Grants.{denied_or, excluding, grant_fault, holder_of, opened, opens, lent_pages}
-use Rattle.trio_nodes.specs.GrantKinds.{excludes_kind}
-use Rattle.trio_layout.specs.Pages.{index_sheets, block_sheets, settled_chain, sheets_of}
+use Rattle.trio_nodes.specs.GrantKinds.{excludes_kind, is_write}
+use Rattle.trio_rights.specs.ByKind.{covers_blocks}
+use Rattle.trio_layout.specs.declared.superblock.Superblock.{Superblock}
+use Rattle.trio_layout.specs.Superblock.{page_count, superblock_fits}
+use Rattle.trio_layout.specs.Pages.{covered_of, index_sheets, block_sheets, settled_chain, sheets_of}
 use Rattle.trio_layout.specs.Image.{body_by_row, row_at, settled_body}
 use Rattle.trio_state.specs.Kept.{Kept}
-use Rattle.trio_page.specs.Sheets.{Sheet, sheet_numbers, without_pages}
+use Rattle.trio_rights.specs.Sheets.{Sheet, sheet_numbers, without_pages}
 use Rattle.trio_state.specs.State.{OpenGrant, State, covered, creds_of, logged, settled}
 use Rattle.trio_state.specs.Step.{Grant, Granted, NotGranted, Step}
-use Rattle.trio_checkpoint.specs.Covered.{chain_in, core_of, page_on}
-use Rattle.trio_laws.specs.EndLaws.{checkpoints_of}
+use Rattle.trio_tables.specs.Out.{lib_at}
+use Rattle.trio_checkpoint.specs.Covered.{Checkpointed, chain_in, core_of, covered_pages, page_on}
+use Rattle.trio_commit.specs.declared.store.Store.{Store}
+use Rattle.trio_commit.specs.Store.{checkpoint_at, covered_at, state_of, with_checkpoint}
+use Rattle.trio_laws.proofs.Checkpoints.{checkpoint_settled}
 use Rattle.trio_laws.proofs.EndLaws.{body_stands, lendable_is_home}
+use Rattle.trio_laws.proofs.Standing.{lent_place}
 use Rattle.trio_laws.proofs.Grants.{logged_kept}
 use Rattle.trio_surveys.proofs.Local.{chain_follows}
 use Rattle.trio_lists.proofs.Members.{In-flat, In-left, In-right, In-cases, In-map, map-In, list_all-each, result_then-Ok}
 use Rattle.trio_laws.proofs.Runs.{step_kept}
 use Rattle.trio_surveys.proofs.SheetLaws.{page_at}
 use Rattle.trio_surveys.proofs.Sheets.{length-without, page_from, sheets_all}
-use Rattle.trio_laws.proofs.StateFacts.{write_alone}
 use Rattle.trio_ctl.specs.Answers.{grant_fault_answer, Admits}
-use Rattle.trio_ctl.specs.Ctl.{home_image, state_of, IsControlled}
-use Rattle.trio_ctl.specs.inner.Lending.{IsLendable, StandsSomewhere, body_standing}
-use Rattle.trio_ctl.specs.Open.{Opened, grant_on, keyed, page_lent}
-use Rattle.trio_allot.specs.Out.{OutByNumber}
+use Rattle.trio_ctl.specs.Ctl.{IsControlled}
+use Rattle.trio_ctl.specs.inner.Lending.{IsLendable, StandsSomewhere, body_standing, page_standing}
+use Rattle.trio_ctl.specs.Open.{Opened, grant_on, grants_in, keyed, lease_of, without_checkpoint}
+use Rattle.trio_ctl.specs.Stored.{CoversLent, IsStored, superblock_at_home}
 use Rattle.trio_ctl.proofs.LendLemmas.{same_chain, sheets_same}
+use Rattle.trio_ctl.proofs.StoredFacts.{Checkpoints, checkpoints_same}
 use Rattle.trio_lists.proofs.Filters.{In-find, find-In}
 
 -- ---- who excludes
 
-first_excluding : (lib : LibNo) (ino : ℕ) (files : List Opened)
-    → option_map holder (first_with (excludes lib ino Write) (map keyed files)) ≡ option_map holder_of (slice_get (filter (λ (g : OpenGrant). g.ino == ino && excludes_kind Write g.kind (g.lib == lib.0)) (map (λ o. o.grant) files)) 0)
-first_excluding lib ino [] = refl
-first_excluding lib ino (o ∷ os) = by (o.grant.ino == ino && true) (first_with (excludes lib ino Write) (map keyed os)) (filter (λ (g : OpenGrant). g.ino == ino && excludes_kind Write g.kind (g.lib == lib.0)) (map (λ o. o.grant) os)) (first_excluding lib ino os)
+first_excluding : (cs : Checkpoints) (lib : LibNo) (ino : ℕ) (files : List Opened)
+    → option_map holder (first_with (excludes lib ino Write) (map keyed files)) ≡ option_map holder_of (slice_get (filter (λ (g : OpenGrant). g.ino == ino && excludes_kind Write g.kind (g.lib == lib.0)) (map (with_checkpoint cs) (grants_in files))) 0)
+first_excluding cs lib ino [] = refl
+first_excluding cs lib ino (o ∷ os) = by (o.grant.ino == ino && true) (first_with (excludes lib ino Write) (map keyed os)) (filter (λ (g : OpenGrant). g.ino == ino && excludes_kind Write g.kind (g.lib == lib.0)) (map (with_checkpoint cs) (grants_in os))) (first_excluding cs lib ino os)
   where
-    by : (b : Bool) (x : Option TableGrant) (ys : List OpenGrant) → option_map holder x ≡ option_map holder_of (slice_get ys 0) → option_map holder (if b then Some (keyed o).1 else x) ≡ option_map holder_of (slice_get (if b then o.grant ∷ ys else ys) 0)
+    by : (b : Bool) (x : Option TableGrant) (ys : List OpenGrant) → option_map holder x ≡ option_map holder_of (slice_get ys 0) → option_map holder (if b then Some (keyed o).1 else x) ≡ option_map holder_of (slice_get (if b then with_checkpoint cs o.grant ∷ ys else ys) 0)
     by true x ys e = refl
     by false x ys e = e
 
@@ -90,18 +96,36 @@ fault_is s lib ino r row may =
     ap (λ (o : Option Row). if not (is_some o) then Some NotLive else denied_or (denier s.home.rows (creds_of s lib) ino ToWrite) busy) row
     ∙ ap (λ d. denied_or d busy) may
 
-module _ (s : Superblock) (pages : List (Option (List ℕ))) (rows : List (Option Row)) (owners : List ℕ) (table : List Keyed) (files : List Opened) (outs : OutByNumber) (creds : List Creds) (entries : ℕ) (k : IsControlled s pages rows owners table files outs creds entries) where
+-- the row of a live file has its place
+row_below : (rows : List (Option Row)) (n : ℕ) (r : Row) → get_or rows n None ≡ Some r → n < length rows
+row_below [] n r e = absurd cc
+row_below (x ∷ rows) zero r e = omega arith
+row_below (x ∷ rows) (suc n) r e = (let l = row_below rows n r e in omega (arith, l))
+
+module _ (s : Store) (first : ℕ) (table : List Keyed) (files : List Opened) (creds : List Creds) (entries : ℕ) (k : IsControlled s first table files creds entries) where
   abbrev st : State
-  st = state_of s pages rows owners files outs creds entries
+  st = state_of s first (grants_in files) creds entries
+
+  abbrev cs : Checkpoints
+  cs = s.checkpoints.items
+
+  abbrev pages : List (Option (List ℕ))
+  pages = s.home.pages
+
+  abbrev rows : List (Option Row)
+  rows = s.rows
+
+  pub kept_now : Kept st
+  kept_now = k.stored.kept
 
   abbrev core : Core
   core = (settled st).core
 
   abbrev range : CoreRange
-  range = record { first = s.first_core; end = s.pages }
+  range = record { first = first; end = length s.home.pages }
 
   table_excluding : (lib : LibNo) (ino : ℕ) → option_map holder (first_with (excludes lib ino Write) table) ≡ option_map holder_of (slice_get (excluding st lib.0 ino Write) 0)
-  table_excluding lib ino = ap (λ t. option_map holder (first_with (excludes lib ino Write) t)) k.grants ∙ first_excluding lib ino files
+  table_excluding lib ino = ap (λ t. option_map holder (first_with (excludes lib ino Write) t)) k.grants ∙ first_excluding cs lib ino files
 
   -- an open grant is on the file
   pub busy_step : (lib : LibNo) (ino : ℕ) (r : Row) (who : Holder) → row_at st.home ino ≡ Some r → denier rows (creds_of st lib.0) ino ToWrite ≡ None
@@ -120,13 +144,18 @@ module _ (s : Superblock) (pages : List (Option (List ℕ))) (rows : List (Optio
   refused_step lib ino r NoParent row may answer = absurd answer
 
   module _ (lib : LibNo) (ino : ℕ) (r : Row) (row : row_at st.home ino ≡ Some r) (free : first_with (excludes lib ino Write) table ≡ None) where
-    no_grant : (g : OpenGrant) → In g st.open_grants → g.ino ≢ ino
-    no_grant g i =
+    no_file : (g : OpenGrant) → In g (grants_in files) → g.ino ≢ ino
+    no_file g i =
         let o = map-In (λ (o : Opened). o.grant) g files i in
         subst (λ (h : OpenGrant). h.ino ≢ ino) (sym o.2) (not_on lib ino files (ap (first_with (excludes lib ino Write)) (sym k.grants) ∙ free) o.0 o.1)
 
+    no_grant : (g : OpenGrant) → In g st.open_grants → g.ino ≢ ino
+    no_grant g i =
+        let h = map-In (with_checkpoint cs) g (grants_in files) i in
+        subst (λ (x : OpenGrant). x.ino ≢ ino) (sym h.2) (no_file h.0 h.1)
+
     abbrev home : (c : Chain) × (settled_chain (settled st) r.kind ino ≡ Ok c) × ((p : ℕ) → In p (c.index ++ c.blocks) → (bytes : List ℕ) × (slice_get pages p ≡ Some (Some bytes)) × (page_of core p ≡ Some bytes) × (is_core range p ≡ true)) × (are_new [] (c.index ++ c.blocks) ≡ true) × (length (settled_body (settled st) ino) ≡ 64)
-    home = lendable_is_home st ino r k.kept row no_grant
+    home = lendable_is_home st ino r kept_now row no_grant
 
     pub chain : Chain
     chain = home.0
@@ -174,24 +203,71 @@ module _ (s : Superblock) (pages : List (Option (List ℕ))) (rows : List (Optio
         ∙ ap (λ l. l ++ sheet_numbers (sheets_of (core_of pages range) c.blocks)) (sheets_all (core_of pages range) c.index (λ p i. some p (In-left p c.index c.blocks i)))
         ∙ ap (λ l. c.index ++ l) (sheets_all (core_of pages range) c.blocks (λ p i. some p (In-right p c.index c.blocks i)))
 
-    module _ (key : ℕ) (body : List ℕ) (is : body ≡ settled_body (settled st) ino) (file : Opened) (pages' : List (Option (List ℕ))) (table' : List Keyed) (files' : List Opened) (entries' : ℕ)
-        (made : file ≡ record { key = key; grant = grant_on (core_of pages range) lib.0 ino r.kind entries body chain })
-        (gone : pages' ≡ without_pages (chain.index ++ chain.blocks) pages)
+    -- the file is lent, and its checkpoint kept
+    module _ (key : ℕ) (body : List ℕ) (is : body ≡ settled_body (settled st) ino) (file : Opened) (checkpoint : Checkpointed) (s' : Store) (table' : List Keyed) (files' : List Opened) (entries' : ℕ)
+        (made : file ≡ record { key = key; grant = without_checkpoint (grant_on (core_of pages range) lib.0 ino r.kind entries body chain) })
+        (covers : covered_pages checkpoint ≡ covered_of file.grant.of file.grant.index file.grant.blocks)
+        (gone : s'.home.pages ≡ without_pages (chain.index ++ chain.blocks) pages)
+        (rest : s' ≡ record s { home = s'.home; checkpoints = s'.checkpoints })
+        (kept_aside : s'.checkpoints.items ≡ slice_set cs ino (Some checkpoint))
         (more : files' ≡ files ++ file ∷ []) (next : entries' ≡ entries + 1) where
-      pub file_grant : file.grant ≡ opened st lib.0 ino Write r
-      file_grant = ap (λ (o : Opened). o.grant) made ∙ grant_made body is
+      abbrev new : OpenGrant
+      new = opened st lib.0 ino Write r
 
-      pub after_is : state_of s pages' rows owners files' outs creds entries' ≡ opens st (opened st lib.0 ino Write r)
+      grant_is : file.grant ≡ without_checkpoint new
+      grant_is = ap (λ (o : Opened). o.grant) made ∙ ap without_checkpoint (grant_made body is)
+
+      pub lease_made : lease_of file.grant ≡ lease_of new
+      lease_made = ap lease_of grant_is
+
+      placed : ino < length cs
+      placed = (let l = row_below rows ino r row in omega (arith, l, k.stored.places))
+
+      here : checkpoint_at s'.checkpoints.items ino ≡ Some checkpoint
+      here = ap (λ l. checkpoint_at l ino) kept_aside ∙ get_or-set_same cs ino (Some checkpoint) None placed
+
+      elsewhere : (n : ℕ) → n ≢ ino → checkpoint_at s'.checkpoints.items n ≡ checkpoint_at cs n
+      elsewhere n other = ap (λ l. checkpoint_at l n) kept_aside ∙ get_or-set_other cs ino n (Some checkpoint) None other
+
+      grant_covers : with_checkpoint s'.checkpoints.items file.grant ≡ new
+      grant_covers =
+          let C : OpenGrant → List Sheet → OpenGrant = λ g sheets. record g { checkpoint = sheets } in
+          ap (with_checkpoint s'.checkpoints.items) grant_is
+          ∙ ap (λ (o : Option Checkpointed). C new (option_map_or covered_pages o [])) here
+          ∙ ap (C new) (covers ∙ ap (λ (g : OpenGrant). covered_of g.of g.index g.blocks) grant_is)
+
+      grants_are : grants_in files' ≡ grants_in files ++ file.grant ∷ []
+      grants_are = ap grants_in more ∙ map-append (λ (o : Opened). o.grant) files (file ∷ [])
+
+      open_are : map (with_checkpoint s'.checkpoints.items) (grants_in files') ≡ st.open_grants ++ new ∷ []
+      open_are =
+          ap (map (with_checkpoint s'.checkpoints.items)) grants_are
+          ∙ map-append (with_checkpoint s'.checkpoints.items) (grants_in files) (file.grant ∷ [])
+          ∙ ap (λ l. l ++ with_checkpoint s'.checkpoints.items file.grant ∷ []) (checkpoints_same cs s'.checkpoints.items (grants_in files) (λ g i w. elsewhere g.ino (no_file g i)))
+          ∙ ap (λ g. st.open_grants ++ g ∷ []) grant_covers
+
+      many : length s'.home.pages ≡ length pages
+      many = ap length gone ∙ length-without (chain.index ++ chain.blocks) pages
+
+      pub after_is : state_of s' first (grants_in files') creds entries' ≡ opens st new
       after_is =
-          let S : List (Option (List ℕ)) → List OpenGrant → ℕ → State = λ ps gs n. record { home = home_image s ps rows owners; open_grants = gs; pages_out = outs.pages; numbers_out = outs.numbers; creds = creds; entries = n } in
-          let grants : map (λ (o : Opened). o.grant) files' ≡ map (λ (o : Opened). o.grant) files ++ opened st lib.0 ino Write r ∷ [] =
-          ap (map (λ (o : Opened). o.grant)) more ∙ map-append (λ (o : Opened). o.grant) files (file ∷ []) ∙ ap (λ g. map (λ (o : Opened). o.grant) files ++ g ∷ []) file_grant in
-          let lent : chain.index ++ chain.blocks ≡ lent_pages (opened st lib.0 ino Write r) = sym (lent_are body) ∙ ap lent_pages (grant_made body is) in
-          ap (λ ps. S ps (map (λ (o : Opened). o.grant) files') entries') (gone ∙ ap (λ l. without_pages l pages) lent)
-          ∙ ap (λ gs. S (without_pages (lent_pages (opened st lib.0 ino Write r)) pages) gs entries') grants
-          ∙ ap (S (without_pages (lent_pages (opened st lib.0 ino Write r)) pages) (map (λ (o : Opened). o.grant) files ++ opened st lib.0 ino Write r ∷ [])) next
+          let S : Store → List (Option (List ℕ)) → ℕ → List OpenGrant → ℕ → State = λ (t : Store) ps e gs n. record {
+            home = record { core = record { pages = ps; root = t.root; range = record { first = first; end = e }; inodes = length t.rows - 1 }; rows = t.rows; owners = t.owners };
+            open_grants = gs;
+            pages_out = t.allotments.pages;
+            numbers_out = t.allotments.numbers;
+            creds = creds;
+            entries = n;
+          } in
+          let lent : chain.index ++ chain.blocks ≡ lent_pages new = sym (lent_are body) ∙ ap lent_pages (grant_made body is) in
+          let away : List (Option (List ℕ)) = without_pages (lent_pages new) pages in
+          ap (λ (t : Store). S t s'.home.pages (length s'.home.pages) (map (with_checkpoint s'.checkpoints.items) (grants_in files')) entries') rest
+          ∙ ap (λ ps. S s ps (length s'.home.pages) (map (with_checkpoint s'.checkpoints.items) (grants_in files')) entries') (gone ∙ ap (λ l. without_pages l pages) lent)
+          ∙ ap (λ e. S s away e (map (with_checkpoint s'.checkpoints.items) (grants_in files')) entries') many
+          ∙ ap (λ gs. S s away (length pages) gs entries') open_are
+          ∙ ap (S s away (length pages) (st.open_grants ++ new ∷ [])) next
 
-      pub granted_step : denier rows (creds_of st lib.0) ino ToWrite ≡ None → Step st (Grant lib.0 ino Write) (Granted 0) (state_of s pages' rows owners files' outs creds entries')
+      pub granted_step : denier rows (creds_of st lib.0) ino ToWrite ≡ None → Step st (Grant lib.0 ino Write) (Granted 0) (state_of s' first (grants_in files') creds entries')
       granted_step may =
           let none = map_none (slice_get (excluding st lib.0 ino Write) 0) (sym (table_excluding lib ino) ∙ no_holder (first_with (excludes lib ino Write) table) free) in
           let fault : grant_fault st lib.0 ino Write ≡ None = fault_is st lib.0 ino r row may ∙ ap (option_map (λ g. Busy (holder_of g))) none in
@@ -200,14 +276,61 @@ module _ (s : Superblock) (pages : List (Option (List ℕ))) (rows : List (Optio
       new_keyed : keyed file ≡ (key, record { lib = lib; ino = ino; kind = Write; entry = entries })
       new_keyed = ap keyed made
 
+      file_ino : file.grant.ino ≡ ino
+      file_ino = ap (λ (o : Opened). o.grant.ino) made
+
+      file_kind : file.grant.kind ≡ Write
+      file_kind = ap (λ (o : Opened). o.grant.kind) made
+
+      -- an open grant is an earlier one, or the new one
+      by_open : (g : OpenGrant) → In g (grants_in files') → In g (grants_in files) ⊎ (g ≡ file.grant)
+      by_open g i =
+          elim (In-cases g (grants_in files) (file.grant ∷ []) (subst (In g) grants_are i)) [
+            | inl old ↦ inl old
+            | inr one ↦ elim one [
+              | inl same ↦ inr same
+              | inr none ↦ absurd none
+            ]
+          ]
+
+      of_old : (g : OpenGrant) → In g (grants_in files) → In g (grants_in files')
+      of_old g i = subst (In g) (sym grants_are) (In-left g (grants_in files) (file.grant ∷ []) i)
+
+      of_new : In file.grant (grants_in files')
+      of_new = subst (In file.grant) (sym grants_are) (In-right file.grant (grants_in files) (file.grant ∷ []) (inl refl))
+
+      same_superblock : superblock_at_home s' first ≡ superblock_at_home s first
+      same_superblock =
+          let S : Store → ℕ → Superblock = λ (t : Store) e. record { pages = e; inodes = length t.rows - 1; first_owner = 1 + page_count (32 * (length t.rows - 1)); first_core = first; root = t.root } in
+          ap (λ (t : Store). S t (length s'.home.pages)) rest ∙ ap (S s) many
+
+      granted_stored : CoversLent file.grant checkpoint → Kept (state_of s' first (grants_in files') creds entries') → IsStored s' first (grants_in files') creds entries'
+      granted_stored lent kept = record {
+        fits = subst (λ (x : Superblock). IsTrue (superblock_fits x)) (sym same_superblock) k.stored.fits;
+        places = ap length kept_aside ∙ length-set cs ino (Some checkpoint) ∙ k.stored.places ∙ sym (ap (λ (t : Store). length t.rows) rest);
+        of_grant = λ n c e. by_number n c e (n == ino) refl;
+        covers = λ g i kind. elim (by_open g i) [
+          | inl old ↦
+              let q = k.stored.covers g old kind in
+              (q.0, elsewhere g.ino (no_file g old) ∙ q.1, q.2)
+          | inr same ↦ (checkpoint, ap (checkpoint_at s'.checkpoints.items) (ap (λ (x : OpenGrant). x.ino) same ∙ file_ino) ∙ here, subst (λ (x : OpenGrant). CoversLent x checkpoint) (sym same) lent)
+        ];
+        kept = kept;
+      }
+        where
+          by_number : (n : ℕ) (c : Checkpointed) → checkpoint_at s'.checkpoints.items n ≡ Some c → (t : Bool) → (n == ino) ≡ t → (g : OpenGrant) × In g (grants_in files') × (g.kind ≡ Write) × (g.ino ≡ n)
+          by_number n c e true same = (file.grant, of_new, file_kind, file_ino ∙ sym (eqb-true n ino same))
+          by_number n c e false other =
+              let q = k.stored.of_grant n c (sym (elsewhere n (λ same. false≢true (sym other ∙ eq-eqb n ino same))) ∙ e) in
+              (q.0, of_old q.0 q.1, q.2, q.3)
+
       -- what the controller keeps then
       pub granted_controlled : denier rows (creds_of st lib.0) ino ToWrite ≡ None
           → (AllBelow entries table → table' ≡ table ++ (key, record { lib = lib; ino = ino; kind = Write; entry = entries }) ∷ [])
-          → grant_under key table ≡ None → IsControlled s pages' rows owners table' files' outs creds entries'
-      granted_controlled may put new = record {
-        fits = k.fits;
-        root = k.root;
-        count = ap length gone ∙ length-without (chain.index ++ chain.blocks) pages ∙ k.count;
+          → grant_under key table ≡ None → CoversLent file.grant checkpoint → IsControlled s' first table' files' creds entries'
+      granted_controlled may put unused lent = record {
+        stored = granted_stored lent (step_kept st (state_of s' first (grants_in files') creds entries') (Grant lib.0 ino Write) (Granted 0) kept_now tt (granted_step may));
+        no_zero = ap (λ (t : Store). lib_at t.allotments.numbers 0) rest ∙ k.no_zero;
         some_libraries = k.some_libraries;
         few_libraries = k.few_libraries;
         grants =
@@ -231,7 +354,6 @@ module _ (s : Superblock) (pages : List (Option (List ℕ))) (rows : List (Optio
             | inr none ↦ absurd none
           ]
         ];
-        kept = step_kept st (state_of s pages' rows owners files' outs creds entries') (Grant lib.0 ino Write) (Granted 0) k.kept tt (granted_step may);
       }
         where
           all_below : (fs : List Opened) → ((o : Opened) → In o fs → o.grant.entry < entries) → AllBelow entries (map keyed fs)
@@ -253,7 +375,7 @@ module _ (s : Superblock) (pages : List (Option (List ℕ))) (rows : List (Optio
           once =
               ap (are_new []) keys_are ∙ are_new-push [] (map (λ (o : Opened). o.key) files) key
               ∙ ap (λ b. b && not (is_among key (map (λ (o : Opened). o.key) files))) k.keys_once
-              ∙ ap not (none_under files (ap (grant_under key) (sym k.grants) ∙ new))
+              ∙ ap not (none_under files (ap (grant_under key) (sym k.grants) ∙ unused))
 
   -- ---- the settled body
 
@@ -264,63 +386,75 @@ module _ (s : Superblock) (pages : List (Option (List ℕ))) (rows : List (Optio
       let g = find-In (λ (x : Sheet). x.page == page) sheets f.0 f.1 in
       (f.0, g.0, eqb-true f.0.page page g.1, ap (option_map (λ (x : Sheet). x.bytes)) f.1)
 
-  page_on_none : (page : ℕ) (sheets : List Sheet) → (In page (sheet_numbers sheets) → ⊥) → page_on page sheets ≡ None
-  page_on_none page sheets none = by (find (λ (x : Sheet). x.page == page) sheets) refl
-    where
-      by : (o : Option Sheet) → find (λ (x : Sheet). x.page == page) sheets ≡ o → option_map (λ (x : Sheet). x.bytes) o ≡ None
-      by None e = refl
-      by (Some x) e = (let g = find-In (λ (x : Sheet). x.page == page) sheets x e in absurd (none (subst (λ n. In n (sheet_numbers sheets)) (eqb-true x.page page g.1) (In-map (λ (x : Sheet). x.page) x sheets g.0))))
-
   -- the page of a live file's place, as it is settled
-  standing_page : (ino : ℕ) (r : Row) → row_at st.home ino ≡ Some r → ino ≢ 1 → option_or (page_lent files r.parent r.page) (get_or pages r.page None) ≡ page_of core r.page
-  standing_page ino r row other =
-      let b = body_stands st ino r k.kept row other in
-      elim b.2 [
-        | inl bare ↦
-            let none : page_lent files r.parent r.page ≡ None = by_found (λ o i j. bare.0 (covered_in o i j)) (find (λ o. o.grant.ino == r.parent) files) refl in
-            ap (λ o. option_or o (get_or pages r.page None)) none ∙ page_at pages r.page ∙ ap (option_and_then (λ x. x)) bare.1
-        | inr lent ↦
-            let o = map-In (λ (o : Opened). o.grant) lent.0 files lent.1 in
-            let f = In-find (λ (o : Opened). o.grant.ino == r.parent) files o.0 o.1 (eq-eqb o.0.grant.ino r.parent (ap (λ (g : OpenGrant). g.ino) (sym o.2) ∙ lent.3)) in
-            let g = find-In (λ (o : Opened). o.grant.ino == r.parent) files f.0 f.1 in
-            let same : lent.0 ≡ f.0.grant = write_alone st.open_grants lent.0 f.0.grant k.kept.apart lent.1 (In-map (λ (o : Opened). o.grant) f.0 files g.0) lent.2 (lent.3 ∙ sym (eqb-true f.0.grant.ino r.parent g.1)) in
-            let p = page_on_there r.page lent.0.checkpoint lent.6 in
-            ap (λ (q : Option Opened). option_or (option_and_then (λ (o : Opened). page_on r.page o.grant.checkpoint) q) (get_or pages r.page None)) f.1
-            ∙ ap (λ (h : OpenGrant). option_or (page_on r.page h.checkpoint) (get_or pages r.page None)) (sym same)
-            ∙ ap (λ o. option_or o (get_or pages r.page None)) p.3
-            ∙ sym (lent.7 p.0 p.1 p.2)
-      ]
+  standing_page : (ino : ℕ) (r : Row) → row_at st.home ino ≡ Some r → ino ≢ 1 → page_standing s r ≡ page_of core r.page
+  standing_page ino r row other = by_parent (checkpoint_at cs r.parent) refl
     where
-      covered_in : (o : Opened) → In o files → In r.page (sheet_numbers o.grant.checkpoint) → In r.page (sheet_numbers (checkpoints_of st.open_grants))
-      covered_in o i j =
-          let x = map-In (λ (x : Sheet). x.page) r.page o.grant.checkpoint j in
-          subst (λ n. In n (sheet_numbers (checkpoints_of st.open_grants))) (sym x.2)
-          (In-map (λ (x : Sheet). x.page) x.0 (checkpoints_of st.open_grants) (In-flat (λ (g : OpenGrant). g.checkpoint) o.grant x.0 st.open_grants (In-map (λ (o : Opened). o.grant) o files i) x.1))
+      by_parent : (o : Option Checkpointed) → checkpoint_at cs r.parent ≡ o → option_map_or (λ c. page_on r.page c.blocks) o (get_or pages r.page None) ≡ page_of core r.page
+      by_parent None none =
+          elim (body_stands st ino r kept_now row other).2 [
+            | inl bare ↦ page_at pages r.page ∙ ap (option_and_then (λ x. x)) bare.1
+            | inr lent ↦
+                let h = map-In (with_checkpoint cs) lent.0 (grants_in files) lent.1 in
+                let number : h.0.ino ≡ r.parent = sym (ap (λ (g : OpenGrant). g.ino) h.2) ∙ lent.3 in
+                let q = k.stored.covers h.0 h.1 (sym (ap (λ (g : OpenGrant). g.kind) h.2) ∙ lent.2) in
+                absurd (none_some q.0 (sym none ∙ sym (ap (checkpoint_at cs) number) ∙ q.1))
+          ]
+        where
+          none_some : (c : Checkpointed) → None ≡ Some c → ⊥
+          none_some c e = absurd cc
+      by_parent (Some c) there =
+          let h = k.stored.of_grant r.parent c there in
+          let g : OpenGrant = with_checkpoint cs h.0 in
+          let i : In g st.open_grants = In-map (with_checkpoint cs) h.0 (grants_in files) h.1 in
+          let q = k.stored.covers h.0 h.1 h.2 in
+          let same : q.0 ≡ c = some_same q.0 c (sym q.1 ∙ ap (checkpoint_at cs) h.3 ∙ there) in
+          let place = lent_place st kept_now ino r row other g i h.2 h.3 in
+          let blocks : sheet_numbers c.blocks ≡ sheet_numbers h.0.blocks = ap (λ (x : Checkpointed). sheet_numbers x.blocks) (sym same) ∙ q.2.blocks ∙ ap (λ kind. if covers_blocks kind then sheet_numbers h.0.blocks else []) place.0 in
+          let p = page_on_there r.page c.blocks (subst (In r.page) (sym blocks) place.1) in
+          let covered : In p.0 g.checkpoint = subst (λ l. In p.0 l) (sym (covers_here h.0 c h.2 (ap (checkpoint_at cs) h.3 ∙ there))) (In-right p.0 c.index c.blocks p.1) in
+          p.3 ∙ sym (ap (page_of core) (sym p.2) ∙ checkpoint_settled st kept_now p.0 (In-flat (λ (g : OpenGrant). g.checkpoint) g p.0 st.open_grants i covered))
+        where
+          some_same : (a b : Checkpointed) → Some a ≡ Some b → a ≡ b
+          some_same a b e = cc
 
-      by_found : ((o : Opened) → In o files → In r.page (sheet_numbers o.grant.checkpoint) → ⊥) → (q : Option Opened) → find (λ (o : Opened). o.grant.ino == r.parent) files ≡ q → option_and_then (λ (o : Opened). page_on r.page o.grant.checkpoint) q ≡ None
-      by_found none None e = refl
-      by_found none (Some o) e = page_on_none r.page o.grant.checkpoint (none o (find-In (λ (o : Opened). o.grant.ino == r.parent) files o e).0)
+          covers_here : (h : OpenGrant) (c : Checkpointed) → h.kind ≡ Write → checkpoint_at cs h.ino ≡ Some c → (with_checkpoint cs h).checkpoint ≡ covered_pages c
+          covers_here h c kind e = ap (λ t. if is_write t then covered_at cs h.ino else []) kind ∙ ap (λ (o : Option Checkpointed). option_map_or covered_pages o []) e
 
-  pub stands_somewhere : (ino : ℕ) (r : Row) → row_at st.home ino ≡ Some r → ino ≢ 1 → StandsSomewhere pages files r
+  pub stands_somewhere : (ino : ℕ) (r : Row) → row_at st.home ino ≡ Some r → ino ≢ 1 → StandsSomewhere s r
   stands_somewhere ino r row other =
-      let b = body_stands st ino r k.kept row other in
+      let b = body_stands st ino r kept_now row other in
       record { slot = b.0; there = ap is_some (standing_page ino r row other ∙ b.1.1) }
 
-  pub body_is : (ino : ℕ) (r : Row) → row_at st.home ino ≡ Some r → (if ino == 1 then s.root else body_standing pages files r) ≡ settled_body (settled st) ino
+  pub body_is : (ino : ℕ) (r : Row) → row_at st.home ino ≡ Some r → (if ino == 1 then s.root else body_standing s r) ≡ settled_body (settled st) ino
   body_is ino r row = by (ino == 1) refl
     where
-      by : (b : Bool) → (ino == 1) ≡ b → (if b then s.root else body_standing pages files r) ≡ (if b then s.root else body_by_row core (row_at st.home ino))
+      by : (b : Bool) → (ino == 1) ≡ b → (if b then s.root else body_standing s r) ≡ (if b then s.root else body_by_row core (row_at st.home ino))
       by true e = refl
       by false e =
           ap (λ o. option_map_or (body_in_slot r.slot) o []) (standing_page ino r row (λ one. false≢true (sym e ∙ eq-eqb ino 1 one)))
           ∙ sym (ap (body_by_row core) row)
 
-  -- nothing has changed
-  pub controlled_still : (pages' : List (Option (List ℕ))) (table' : List Keyed) (files' : List Opened) → pages' ≡ pages → table' ≡ table → files' ≡ files → IsControlled s pages' rows owners table' files' outs creds entries
-  controlled_still pages' table' files' same_pages same_table same_files =
-      subst (λ ps. IsControlled s ps rows owners table' files' outs creds entries) (sym same_pages)
-      (subst (λ t. IsControlled s pages rows owners t files' outs creds entries) (sym same_table)
-      (subst (λ fs. IsControlled s pages rows owners table fs outs creds entries) (sym same_files) k))
+  -- nothing has changed but the count of looks
+  pub controlled_still : (s' : Store) (table' : List Keyed) (files' : List Opened) → s' ≡ record s { home = s'.home } → s'.home.pages ≡ s.home.pages → table' ≡ table → files' ≡ files → IsControlled s' first table' files' creds entries
+  controlled_still s' table' files' rest same_pages same_table same_files =
+      let H : List (Option (List ℕ)) → Store = λ ps. record s { home = record { pages = ps; looked = s'.home.looked } } in
+      subst (λ (t : Store). IsControlled t first table' files' creds entries) (sym rest)
+      (subst (λ ps. IsControlled (H ps) first table' files' creds entries) (sym same_pages)
+      (subst (λ t. IsControlled (H s.home.pages) first t files' creds entries) (sym same_table)
+      (subst (λ fs. IsControlled (H s.home.pages) first table fs creds entries) (sym same_files) (looked_at s'.home.looked))))
+    where
+      looked_at : (n : ℕ) → IsControlled (record s { home = record { pages = s.home.pages; looked = n } }) first table files creds entries
+      looked_at n = record {
+        stored = record { fits = k.stored.fits; places = k.stored.places; of_grant = k.stored.of_grant; covers = k.stored.covers; kept = k.stored.kept };
+        no_zero = k.no_zero;
+        some_libraries = k.some_libraries;
+        few_libraries = k.few_libraries;
+        grants = k.grants;
+        keys_once = k.keys_once;
+        earlier = k.earlier;
+        writes = k.writes;
+      }
 
 pub kept_either : (s t : State) (P Q : Type 0) → Kept s → (P × (t ≡ logged s)) ⊎ (Q × (t ≡ s)) → Kept t
 kept_either s t P Q k (inl l) = subst Kept (sym l.1) (logged_kept s k)

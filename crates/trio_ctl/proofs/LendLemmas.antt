@@ -1,5 +1,5 @@
 -- Pages that leave home one after another.
-use Rattle.std.proofs.Common.{◌≡◌, ℕ, suc, ◌+◌, ◌<◌, Bool, true, false, not, ◌&&◌, List, [], ◌∷◌, ◌++◌, length, map, take, drop, get_or, set, Option, Some, None, is_some, inl, inr, refl, sym, ap, ◌∙◌, arith}
+use Rattle.std.proofs.Common.{◌≡◌, ℕ, suc, ◌+◌, ◌<◌, Bool, true, false, not, ◌&&◌, List, [], ◌∷◌, ◌++◌, length, map, take, drop, get_or, set, Option, Some, None, is_some, inl, inr, refl, sym, ap, ◌∙◌, arith, subst}
 use Rattle.std.proofs.Math.Seq.{take-suc}
 use Rattle.std.specs.Prelude.{if◌then◌else◌, Ok, Err, Result}
 use Rattle.std.specs.List.{cons_option, list_all}
@@ -19,19 +19,20 @@ use Rattle.trio_lists.specs.Lists.{is_among, are_new, In}
 use Rattle.trio_layout.specs.declared.range.CoreRange.{CoreRange}
 use Rattle.trio_lists.proofs.Marked.{are_new-append, are_new-more}
 use Rattle.trio_lease.specs.declared.parts.LentPage.{LentPage}
-use Rattle.trio_layout.specs.Pages.{sheets_of}
-use Rattle.trio_state.specs.Views.{lent_sheet}
-use Rattle.trio_page.specs.Sheets.{Sheet, without_pages}
-use Rattle.trio_checkpoint.specs.Covered.{are_there, core_of, covered_numbers}
+use Rattle.trio_layout.specs.Pages.{covered_of, sheets_of}
+use Rattle.trio_lease.specs.Views.{lent_sheet}
+use Rattle.trio_rights.specs.Sheets.{Sheet, sheet_numbers, without_pages}
+use Rattle.trio_rights.specs.ByKind.{covers_blocks}
+use Rattle.trio_checkpoint.specs.Covered.{Checkpointed, are_there, core_of, covered_numbers, covered_pages}
 use Rattle.trio_checkpoint.proofs.Following.{all_at}
 use Rattle.trio_lists.proofs.Members.{In-is_among}
 use Rattle.trio_lists.proofs.New.{are_new-before, are_new-fewer}
 use Rattle.trio_surveys.proofs.SheetLaws.{page_at}
 use Rattle.trio_surveys.proofs.Sheets.{Pages, without_apart}
 use Rattle.trio_lease.specs.Shown.{LentFile, Shown}
-use Rattle.trio_state.specs.State.{covered}
 use Rattle.trio_ctl.specs.inner.Lending.{IsLendable}
-use Rattle.trio_ctl.specs.Open.{Opened, grant_on, lease_of, untouched}
+use Rattle.trio_ctl.specs.Open.{Opened, grant_on, lease_of, untouched, without_checkpoint}
+use Rattle.trio_ctl.specs.Stored.{CoversLent}
 
 pub sheets_untouched : (xs : List Sheet) → map lent_sheet (map untouched xs) ≡ xs
 sheets_untouched [] = refl
@@ -153,33 +154,47 @@ both_gone pages now after c first second = second ∙ ap (without_pages c.blocks
 
 -- ---- the grant and its lease
 
-pub opened_is : (o : Opened) (key lib ino entry is : ℕ) (of : Kind) (body : List ℕ) (index blocks : List LentPage) (covers : List Sheet) (core : Core) (c x : Chain)
-    → o ≡ record { key = key; grant = record { lib = lib; ino = is; kind = Write; of = of; entry = entry; body = body; index = map lent_sheet index; blocks = map lent_sheet blocks; checkpoint = covers } }
-    → is ≡ ino → index ≡ map untouched (sheets_of core c.index) → blocks ≡ map untouched (sheets_of core c.blocks)
-    → covers ≡ covered Write of (sheets_of core c.index) (sheets_of core c.blocks) → c ≡ x
-    → o ≡ record { key = key; grant = grant_on core lib ino of entry body x }
-opened_is o key lib ino entry is of body index blocks covers core c x made number first second kept same =
-    let G : ℕ → List Sheet → List Sheet → List Sheet → Opened = λ n is bs cs. record { key = key; grant = record { lib = lib; ino = n; kind = Write; of = of; entry = entry; body = body; index = is; blocks = bs; checkpoint = cs } } in
+pub opened_is : (o : Opened) (key lib ino entry : ℕ) (of : Kind) (body : List ℕ) (index blocks : List LentPage) (core : Core) (c x : Chain)
+    → o ≡ record { key = key; grant = record { lib = lib; ino = ino; kind = Write; of = of; entry = entry; body = body; index = map lent_sheet index; blocks = map lent_sheet blocks; checkpoint = [] } }
+    → index ≡ map untouched (sheets_of core c.index) → blocks ≡ map untouched (sheets_of core c.blocks) → c ≡ x
+    → o ≡ record { key = key; grant = without_checkpoint (grant_on core lib ino of entry body x) }
+opened_is o key lib ino entry of body index blocks core c x made first second same =
+    let G : List Sheet → List Sheet → Opened = λ is bs. record { key = key; grant = record { lib = lib; ino = ino; kind = Write; of = of; entry = entry; body = body; index = is; blocks = bs; checkpoint = [] } } in
     made
-    ∙ ap (λ n. G n (map lent_sheet index) (map lent_sheet blocks) covers) number
-    ∙ ap (λ l. G ino l (map lent_sheet blocks) covers) (ap (map lent_sheet) first ∙ sheets_untouched (sheets_of core c.index))
-    ∙ ap (λ l. G ino (sheets_of core c.index) l covers) (ap (map lent_sheet) second ∙ sheets_untouched (sheets_of core c.blocks))
-    ∙ ap (λ l. G ino (sheets_of core c.index) (sheets_of core c.blocks) l) kept
-    ∙ ap (λ (d : Chain). record { key = key; grant = grant_on core lib ino of entry body d }) same
+    ∙ ap (λ l. G l (map lent_sheet blocks)) (ap (map lent_sheet) first ∙ sheets_untouched (sheets_of core c.index))
+    ∙ ap (G (sheets_of core c.index)) (ap (map lent_sheet) second ∙ sheets_untouched (sheets_of core c.blocks))
+    ∙ ap (λ (d : Chain). record { key = key; grant = without_checkpoint (grant_on core lib ino of entry body d) }) same
 
-pub lease_is : (o : Opened) (l : LentFile) (key ino entry is : ℕ) (lib : LibNo) (of : Kind) (body : List ℕ) (index blocks : List LentPage) (covers xs ys : List Sheet)
-    → o ≡ record { key = key; grant = record { lib = lib.0; ino = is; kind = Write; of = of; entry = entry; body = body; index = map lent_sheet index; blocks = map lent_sheet blocks; checkpoint = covers } }
-    → is ≡ ino → index ≡ map untouched xs → blocks ≡ map untouched ys
+-- the checkpoint is that of the grant
+pub checkpoint_is : (o : Opened) (key lib ino entry : ℕ) (of : Kind) (body : List ℕ) (core : Core) (k : Checkpointed)
+    → o ≡ record { key = key; grant = without_checkpoint (grant_on core lib ino of entry body k.chain) }
+    → covered_pages k ≡ covered_of of (sheets_of core k.chain.index) (sheets_of core k.chain.blocks)
+    → covered_pages k ≡ covered_of o.grant.of o.grant.index o.grant.blocks
+checkpoint_is o key lib ino entry of body core k made told = told ∙ ap (λ (p : Opened). covered_of p.grant.of p.grant.index p.grant.blocks) (sym made)
+
+pub checkpoint_covers : (o : Opened) (key lib ino entry : ℕ) (of : Kind) (body : List ℕ) (core : Core) (k : Checkpointed)
+    → o ≡ record { key = key; grant = without_checkpoint (grant_on core lib ino of entry body k.chain) }
+    → k.index ≡ sheets_of core k.chain.index → k.blocks ≡ sheets_of core (covered_numbers of k.chain.blocks)
+    → CoversLent o.grant k
+checkpoint_covers o key lib ino entry of body core k made first second =
+    subst (λ (p : Opened). CoversLent p.grant k) (sym made) (record { index = ap sheet_numbers first; blocks = ap sheet_numbers second ∙ by_kind of })
+  where
+    by_kind : (kind : Kind) → sheet_numbers (sheets_of core (covered_numbers kind k.chain.blocks)) ≡ (if covers_blocks kind then sheet_numbers (sheets_of core k.chain.blocks) else [])
+    by_kind Regular = refl
+    by_kind Directory = refl
+
+pub lease_is : (o : Opened) (l : LentFile) (key ino entry : ℕ) (lib : LibNo) (of : Kind) (body : List ℕ) (index blocks : List LentPage) (xs ys : List Sheet)
+    → o ≡ record { key = key; grant = record { lib = lib.0; ino = ino; kind = Write; of = of; entry = entry; body = body; index = map lent_sheet index; blocks = map lent_sheet blocks; checkpoint = [] } }
+    → index ≡ map untouched xs → blocks ≡ map untouched ys
     → (let s : Shown = record { lib = lib; ino = ino; kind = of; entry = entry; body = body; index = index; blocks = blocks } in l ≡ record { stands = s; lent = s })
     → l ≡ lease_of o.grant
-lease_is o l key ino entry is lib of body index blocks covers xs ys made number first second leased =
-    let S : ℕ → List LentPage → List LentPage → LentFile = λ n is bs. let s : Shown = record { lib = lib; ino = n; kind = of; entry = entry; body = body; index = is; blocks = bs } in record { stands = s; lent = s } in
+lease_is o l key ino entry lib of body index blocks xs ys made first second leased =
+    let S : List LentPage → List LentPage → LentFile = λ is bs. let s : Shown = record { lib = lib; ino = ino; kind = of; entry = entry; body = body; index = is; blocks = bs } in record { stands = s; lent = s } in
     let again : (ps : List LentPage) (zs : List Sheet) → ps ≡ map untouched zs → ps ≡ map untouched (map lent_sheet ps) =
     λ ps zs e. e ∙ ap (map untouched) (sym (sheets_untouched zs) ∙ ap (map lent_sheet) (sym e)) in
     leased
-    ∙ ap (λ n. S n index blocks) (sym number)
-    ∙ ap (λ ps. S is ps blocks) (again index xs first)
-    ∙ ap (λ ps. S is (map untouched (map lent_sheet index)) ps) (again blocks ys second)
+    ∙ ap (λ ps. S ps blocks) (again index xs first)
+    ∙ ap (λ ps. S (map untouched (map lent_sheet index)) ps) (again blocks ys second)
     ∙ ap (λ (q : Opened). lease_of q.grant) (sym made)
 
 pub read_or : Chain → Result Chain Location → Chain

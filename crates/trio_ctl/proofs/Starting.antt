@@ -1,6 +1,7 @@
 -- The state of an image that verifies is kept.
-use Rattle.std.proofs.Common.{◌≡◌, ℕ, ◌≤◌, List, [], length, Option, None, refl, sym, subst, arith}
-use Rattle.std.specs.Prelude.{slice_index_or}
+use Rattle.std.proofs.Common.{◌≡◌, ℕ, zero, suc, ◌+◌, ◌-◌, ◌*◌, ◌≤◌, List, [], length, map, Option, Some, None, IsTrue, refl, sym, ap, subst, ◌∙◌, arith}
+use Rattle.std.specs.Prelude.{replicate, slice_index_or}
+use Rattle.std.proofs.lemmas.List.{length-replicate}
 use Rattle.trio_rights.specs.declared.rights.Creds.{Creds}
 use Rattle.trio_rights.specs.Row.{Row}
 use Rattle.trio_layout.specs.declared.superblock.Superblock.{Superblock}
@@ -14,9 +15,19 @@ use Rattle.trio_layout.specs.Verifies.{Verifies}
 use Rattle.trio_laws.proofs.Runs.{start_kept}
 use Rattle.trio_image.specs.Image.{IsVerified}
 use Rattle.trio_grants.specs.Grants.{Keyed}
-use Rattle.trio_ctl.specs.Ctl.{IsControlled}
-use Rattle.trio_ctl.specs.Open.{Opened}
+use Rattle.trio_lists.proofs.Tabulated.{tabulated-length}
+use Rattle.trio_layout.specs.Superblock.{page_count, superblock_fits}
+use Rattle.trio_lists.specs.Lists.{are_new, In}
+use Rattle.trio_state.specs.State.{OpenGrant, State}
 use Rattle.trio_allot.specs.Out.{OutByNumber, nothing_out}
+use Rattle.trio_tables.specs.Out.{lib_at}
+use Rattle.trio_tables.proofs.OutLemmas.{lib_at-none_out}
+use Rattle.trio_checkpoint.specs.Covered.{Checkpointed}
+use Rattle.trio_commit.specs.declared.store.Store.{Store}
+use Rattle.trio_commit.specs.Store.{checkpoint_at, state_of, with_checkpoint}
+use Rattle.trio_ctl.specs.Ctl.{IsControlled}
+use Rattle.trio_ctl.specs.Open.{Opened, grants_in, keyed}
+use Rattle.trio_ctl.specs.Stored.{superblock_at_home}
 use Rattle.trio_ctl.proofs.Wholes.{cond_there, whole_at, whole_none}
 
 pub image_kept : (s : Superblock) (pages : List (Option (List ℕ))) (creds : List Creds) → IsVerified s pages → Kept (start (image_in s pages) creds)
@@ -31,27 +42,85 @@ image_kept s pages creds v =
     let verifies : Verifies (image_in s pages) = record { sound = v.verify.sound; rows = refl; owners = refl } in
     start_kept (image_in s pages) creds fit verifies (λ p gone core. whole_none pages p v.whole.whole gone)
 
--- what the controller keeps at its start
-pub started : (s t : Superblock) (pages pages' : List (Option (List ℕ))) (rows : List (Option Row)) (owners : List ℕ) (table : List Keyed) (files : List Opened) (outs : OutByNumber) (creds : List Creds) → IsVerified s pages → t ≡ s → pages' ≡ pages
-    → rows ≡ (image_in s pages).rows → owners ≡ (image_in s pages).owners → table ≡ [] → files ≡ [] → outs ≡ nothing_out s.pages s.inodes → 1 ≤ length creds → length creds ≤ 16
-    → IsControlled t pages' rows owners table files outs creds 0
-started s t pages pages' rows owners table files outs creds v same home is_rows is_owners none empty nothing some few =
-    let base : IsControlled s pages (image_in s pages).rows (image_in s pages).owners [] [] (nothing_out s.pages s.inodes) creds 0 = record {
-      fits = v.whole.superblock.read.fits;
-      root = v.whole.superblock.read.root;
-      count = v.whole.count;
-      some_libraries = some;
-      few_libraries = few;
-      grants = refl;
-      keys_once = refl;
-      earlier = λ o i. absurd i;
-      writes = λ o i. absurd i;
-      kept = image_kept s pages creds v;
-    } in
-    subst (λ (x : Superblock). IsControlled x pages' rows owners table files outs creds 0) (sym same)
-    (subst (λ ps. IsControlled s ps rows owners table files outs creds 0) (sym home)
-    (subst (λ rs. IsControlled s pages rs owners table files outs creds 0) (sym is_rows)
-    (subst (λ os. IsControlled s pages (image_in s pages).rows os table files outs creds 0) (sym is_owners)
-    (subst (λ ts. IsControlled s pages (image_in s pages).rows (image_in s pages).owners ts files outs creds 0) (sym none)
-    (subst (λ fs. IsControlled s pages (image_in s pages).rows (image_in s pages).owners [] fs outs creds 0) (sym empty)
-    (subst (λ (o : OutByNumber). IsControlled s pages (image_in s pages).rows (image_in s pages).owners [] [] o creds 0) (sym nothing) base))))))
+-- where nothing stands, none is found
+none_at : (k n : ℕ) (cs : List (Option Checkpointed)) → cs ≡ replicate k None → checkpoint_at cs n ≡ None
+none_at k n cs e = ap (λ l. checkpoint_at l n) e ∙ nowhere k n
+  where
+    nowhere : (k n : ℕ) → checkpoint_at (replicate k None) n ≡ None
+    nowhere zero n = refl
+    nowhere (suc k) zero = refl
+    nowhere (suc k) (suc n) = nowhere k n
+
+-- what the controller is at its start
+module _ (sb : Superblock) (pages : List (Option (List ℕ))) (s : Store) (first : ℕ) (files : List Opened) (creds : List Creds) (entries : ℕ) (v : IsVerified sb pages)
+    (home : s.home.pages ≡ pages) (root : s.root ≡ sb.root) (rows : s.rows ≡ (image_in sb pages).rows) (owners : s.owners ≡ (image_in sb pages).owners)
+    (outs : s.allotments ≡ nothing_out sb.pages sb.inodes) (core : first ≡ sb.first_core) (empty : files ≡ []) (new : entries ≡ 0) where
+  count : length s.home.pages ≡ sb.pages
+  count = ap length home ∙ v.whole.count
+
+  many : length s.rows ≡ sb.inodes + 1
+  many = ap length rows ∙ tabulated-length _ (sb.inodes + 1)
+
+  numbers : length s.rows - 1 ≡ sb.inodes
+  numbers = omega (arith, many)
+
+  pub state_started : state_of s first (grants_in files) creds entries ≡ start (image_in sb pages) creds
+  state_started =
+      let S : List (Option (List ℕ)) → List ℕ → ℕ → ℕ → ℕ → List (Option Row) → List ℕ → List Opened → OutByNumber → State =
+      λ ps rt f e n rs os fs (po : OutByNumber). record {
+        home = record { core = record { pages = ps; root = rt; range = record { first = f; end = e }; inodes = n }; rows = rs; owners = os };
+        open_grants = map (with_checkpoint s.checkpoints.items) (grants_in fs);
+        pages_out = po.pages;
+        numbers_out = po.numbers;
+        creds = creds;
+        entries = 0;
+      } in
+      let image = image_in sb pages in
+      ap (state_of s first (grants_in files) creds) new
+      ∙ ap (λ x. S x s.root first (length s.home.pages) (length s.rows - 1) s.rows s.owners files s.allotments) home
+      ∙ ap (λ x. S pages x first (length s.home.pages) (length s.rows - 1) s.rows s.owners files s.allotments) root
+      ∙ ap (λ x. S pages sb.root x (length s.home.pages) (length s.rows - 1) s.rows s.owners files s.allotments) core
+      ∙ ap (λ x. S pages sb.root sb.first_core x (length s.rows - 1) s.rows s.owners files s.allotments) count
+      ∙ ap (λ x. S pages sb.root sb.first_core sb.pages x s.rows s.owners files s.allotments) numbers
+      ∙ ap (λ x. S pages sb.root sb.first_core sb.pages sb.inodes x s.owners files s.allotments) rows
+      ∙ ap (λ x. S pages sb.root sb.first_core sb.pages sb.inodes image.rows x files s.allotments) owners
+      ∙ ap (λ x. S pages sb.root sb.first_core sb.pages sb.inodes image.rows image.owners x s.allotments) empty
+      ∙ ap (λ (x : OutByNumber). S pages sb.root sb.first_core sb.pages sb.inodes image.rows image.owners [] x) outs
+
+  same_superblock : superblock_at_home s first ≡ sb
+  same_superblock =
+      let facts = superblock_facts sb v.whole.superblock.read.fits in
+      let S : ℕ → ℕ → ℕ → List ℕ → Superblock = λ e n f rt. record { pages = e; inodes = n; first_owner = 1 + page_count (32 * n); first_core = f; root = rt } in
+      ap (λ x. S x (length s.rows - 1) first s.root) count
+      ∙ ap (λ x. S sb.pages x first s.root) numbers
+      ∙ ap (λ x. S sb.pages sb.inodes x s.root) core
+      ∙ ap (λ x. S sb.pages sb.inodes sb.first_core x) root
+      ∙ ap (λ (x : ℕ). record sb { first_owner = x }) (sym facts.first_owner)
+
+  pub started : (table : List Keyed) → s.checkpoints.items ≡ replicate (sb.inodes + 1) None → table ≡ [] → 1 ≤ length creds → length creds ≤ 16
+      → IsControlled s first table files creds entries
+  started table nothing none some few = record {
+    stored = record {
+      fits = subst (λ (x : Superblock). IsTrue (superblock_fits x)) (sym same_superblock) v.whole.superblock.read.fits;
+      places = ap length nothing ∙ length-replicate (sb.inodes + 1) None ∙ sym many;
+      of_grant = λ n c e. absurd (not_there n c e);
+      covers = λ g i kind. absurd (nobody g i);
+      kept = subst Kept (sym state_started) (image_kept sb pages creds v);
+    };
+    no_zero = ap (λ (o : OutByNumber). lib_at o.numbers 0) outs ∙ lib_at-none_out (sb.inodes + 1) 0;
+    some_libraries = some;
+    few_libraries = few;
+    grants = none ∙ ap (map keyed) (sym empty);
+    keys_once = ap (λ fs. are_new [] (map (λ (o : Opened). o.key) fs)) empty;
+    earlier = λ o i. absurd (no_file o i);
+    writes = λ o i. absurd (no_file o i);
+  }
+    where
+      not_there : (n : ℕ) (c : Checkpointed) → checkpoint_at s.checkpoints.items n ≡ Some c → ⊥
+      not_there n c e = (let f = none_at (sb.inodes + 1) n s.checkpoints.items nothing in absurd cc)
+
+      no_file : (o : Opened) → In o files → ⊥
+      no_file o i = subst (λ fs. In o fs) empty i
+
+      nobody : (g : OpenGrant) → In g (grants_in files) → ⊥
+      nobody g i = subst (λ fs. In g (grants_in fs)) empty i

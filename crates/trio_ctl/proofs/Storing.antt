@@ -33,9 +33,9 @@ use Rattle.trio_surveys.proofs.Owned.{pages_are}
 use Rattle.trio_laws.proofs.Refusing.{read_listed}
 use Rattle.trio_laws.proofs.StateFacts.{tables as tables_of}
 use Rattle.trio_image.specs.Image.{is_whole_page, IsVerified, TablesAre}
-use Rattle.trio_ctl.specs.Ctl.{home_image, or_zero, state_of, superblock_for, with_zeros}
+use Rattle.trio_ctl.specs.Ctl.{or_zero, superblock_for, with_zeros}
 use Rattle.trio_allot.specs.Out.{OutByNumber}
-use Rattle.trio_ctl.proofs.AtHome.{IsAtHome}
+use Rattle.trio_ctl.proofs.AtHome.{IsAtHome, home_image, state_at_home}
 use Rattle.trio_ctl.specs.inner.Pages.{FillsPages, owner_pages, pages_from, shadow_pages, stored_pages, table_pages}
 use Rattle.trio_ctl.proofs.Wholes.{cond_same, tabulated-all}
 
@@ -57,7 +57,7 @@ no_lent false e f = absurd cc
 
 module _ (s : Superblock) (pages : List (Option (List ℕ))) (rows : List (Option Row)) (owners : List ℕ) (outs : OutByNumber) (creds : List Creds) (entries : ℕ) (k : IsAtHome s pages rows owners outs creds entries) (shadow_full : FillsPages (shadow_bytes rows) (page_count (32 * (length rows - 1)))) (owner_full : FillsPages (owner_bytes owners) (page_count (4 * length owners))) where
   abbrev now : State
-  now = state_of s pages rows owners [] outs creds entries
+  now = state_at_home s pages rows owners outs creds entries
 
   abbrev image : Image
   image = home_image s pages rows owners

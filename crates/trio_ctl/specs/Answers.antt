@@ -15,8 +15,8 @@ use Rattle.trio_nodes.specs.declared.answers.ReleaseAnswer.TheVariants.{Accepted
 use Rattle.trio_nodes.specs.declared.answers.ReleaseFault.{ReleaseFault}
 use Rattle.trio_nodes.specs.declared.answers.ReleaseFault.TheVariants.{NotClosed as NotClosedBundle, NoMemory as NoReleaseMemory}
 use Rattle.trio_state.specs.Step.{CtlAnswer, Granted, NotGranted, Given, NoPages, NoInodes, Accepted, Refused, NotClosed, NoMemory}
-use Rattle.trio_ctl.specs.declared.ctl.ImageFault.{ImageFault}
-use Rattle.trio_ctl.specs.declared.ctl.ImageFault.TheVariants.{Busy, NoMemory as NoImageMemory}
+use Rattle.trio_ctl.specs.declared.image.ImageFault.{ImageFault}
+use Rattle.trio_ctl.specs.declared.image.ImageFault.TheVariants.{Busy, NoMemory as NoImageMemory}
 
 -- a write grant tells no children
 abbrev pub grant_fault_answer : GrantFault → CtlAnswer

@@ -1,5 +1,5 @@
+pub mod Stored
 pub mod Ctl
 pub mod Open
 pub mod Answers
-pub mod Moves
 pub mod inner

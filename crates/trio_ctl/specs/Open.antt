@@ -1,7 +1,5 @@
 -- The grants that are open, as the controller keeps them.
-use Rattle.std.specs.Prelude.{ℕ, ◌==◌, List, map, Option, Ok, false}
-use Rattle.std.specs.List.{find}
-use Rattle.std.specs.Option.{option_and_then}
+use Rattle.std.specs.Prelude.{ℕ, List, [], map, Ok, false}
 use Rattle.trio_rights.specs.declared.kind.Kind.{Kind}
 use Rattle.trio_nodes.specs.declared.grant.GrantKind.TheVariants.{Write}
 use Rattle.trio_grants.specs.Grants.{Keyed}
@@ -9,12 +7,11 @@ use Rattle.trio_layout.specs.Chain.{Chain}
 use Rattle.trio_layout.specs.Core.{Core}
 use Rattle.trio_lease.specs.declared.parts.LentPage.{LentPage}
 use Rattle.trio_lease.specs.Shown.{Shown, LentFile}
-use Rattle.trio_page.specs.Sheets.{Sheet}
+use Rattle.trio_rights.specs.Sheets.{Sheet}
 use Rattle.trio_state.specs.State.{OpenGrant}
 use Rattle.trio_state.specs.Grants.{grant_of}
-use Rattle.trio_checkpoint.specs.Covered.{page_on}
 
--- an open grant, beside the key that ends it in the table of grants
+-- An open grant with what it lent, beside the key that ends it in the table of grants. Its checkpoint is in the store.
 pub record Opened : Type 0 where
   pub key : ℕ
   pub grant : OpenGrant
@@ -23,13 +20,17 @@ pub record Opened : Type 0 where
 abbrev pub keyed : Opened → Keyed
 keyed o = (o.key, record { lib = record { 0 = o.grant.lib }; ino = o.grant.ino; kind = o.grant.kind; entry = o.grant.entry })
 
--- the page of this number as the checkpoint of the open grant on this directory has it
-abbrev pub page_lent : List Opened → ℕ → ℕ → Option (List ℕ)
-page_lent files directory page = option_and_then (λ o. page_on page o.grant.checkpoint) (find (λ o. o.grant.ino == directory) files)
+-- the grants alone
+abbrev pub grants_in : List Opened → List OpenGrant
+grants_in files = map (λ o. o.grant) files
 
 -- a write grant on a file of this kind, body and chain, by the pages of this core
 abbrev pub grant_on : Core → ℕ → ℕ → Kind → ℕ → List ℕ → Chain → OpenGrant
 grant_on core lib ino of entry body chain = grant_of core lib ino Write of entry body (Ok chain)
+
+-- a grant but for its checkpoint
+abbrev pub without_checkpoint : OpenGrant → OpenGrant
+without_checkpoint g = record g { checkpoint = [] }
 
 -- a page as it is lent: nobody has asked for it for writing
 abbrev pub untouched : Sheet → LentPage

@@ -4,17 +4,19 @@ ghost use Rattle.std.specs.Prelude.{◌≡◌, ◌≢◌, ◌==◌, ◌++◌, �
 ghost use Rattle.std.specs.Result.{ForOk};
 ghost use Rattle.trio_layout.specs.Entries.{body_in_slot};
 ghost use Rattle.trio_lists.specs.Lists.{are_new};
-ghost use Rattle.trio_layout.specs.Pages.{sheets_of};
-ghost use Rattle.trio_page.specs.Sheets.{without_pages};
-ghost use Rattle.trio_checkpoint.specs.Covered.{are_there, chain_in, core_of};
+ghost use Rattle.trio_layout.specs.Pages.{covered_of, sheets_of};
+ghost use Rattle.trio_rights.specs.Sheets.{without_pages};
+ghost use Rattle.trio_checkpoint.specs.Covered.{are_there, chain_in, core_of, covered_pages};
 ghost use Rattle.trio_tables.specs.Row.{as_row};
 ghost use Rattle.trio_ctl.specs.inner.Lending.{IsLendable, StandsSomewhere, body_standing};
-ghost use Rattle.trio_ctl.specs.Open.{grant_on, lease_of, untouched};
+ghost use Rattle.trio_ctl.specs.Stored.{CoversLent};
+ghost use Rattle.trio_ctl.specs.Open.{grant_on, lease_of, untouched, without_checkpoint};
 
-use crate::open::{OpenFile, lent_page};
+use crate::open::OpenFile;
 use std::alloc::Global;
 use std::snapshot::Snapshot;
 use trio_checkpoint::Checkpoint;
+use trio_commit::Store;
 use trio_grants::GrantKey;
 use trio_layout::CoreRange;
 use trio_lease::{LentPage, WriteLease, WriteParts};
@@ -36,6 +38,16 @@ pub(crate) struct GrantRequest {
     pub body: [u8; 64],
 }
 
+/// What comes of lending a file for writing.
+pub(crate) struct Loan {
+    /// The open grant.
+    pub file: OpenFile,
+    /// What is kept of the file while it is out.
+    pub checkpoint: Checkpoint,
+    /// The lease for the library.
+    pub lease: WriteLease,
+}
+
 /// Lends a file for writing: its pages leave home. `NoMemory`: there was no memory for the
 /// checkpoint or the lease; then all pages are at home as before.
 pub(crate) fn lend(
@@ -44,13 +56,15 @@ pub(crate) fn lend(
     range: CoreRange,
     asked: &GrantRequest,
     key: GrantKey,
-) -> Result<(OpenFile, WriteLease), NoMemory>
+) -> Result<Loan, NoMemory>
     requires chain { IsOk (chain_in (core_of home.old.pages range) asked.now.kind asked.now.body) }
     requires lendable { ForOk (chain_in (core_of home.old.pages range) asked.now.kind asked.now.body) (IsLendable (core_of home.old.pages range)) }
-    ensures opened { IfOk result (λ r. ForOk (chain_in (core_of home.old.pages range) asked.now.kind asked.now.body)
-        (λ chain. r.0 ≡ record { key = key; grant = grant_on (core_of home.old.pages range) asked.now.lib.0 asked.now.ino asked.now.kind asked.now.entry asked.now.body chain })) }
-    ensures lease { IfOk result (λ r. r.1 ≡ lease_of r.0.grant) }
-    ensures pages { IfOk result (λ r. ForOk (chain_in (core_of home.old.pages range) asked.now.kind asked.now.body)
+    ensures opened { IfOk result (λ loan. ForOk (chain_in (core_of home.old.pages range) asked.now.kind asked.now.body)
+        (λ chain. loan.file ≡ record { key = key; grant = without_checkpoint (grant_on (core_of home.old.pages range) asked.now.lib.0 asked.now.ino asked.now.kind asked.now.entry asked.now.body chain) })) }
+    ensures covered { IfOk result (λ loan. covered_pages loan.checkpoint ≡ covered_of loan.file.grant.of loan.file.grant.index loan.file.grant.blocks) }
+    ensures covers { IfOk result (λ loan. CoversLent loan.file.grant loan.checkpoint) }
+    ensures lease { IfOk result (λ loan. loan.lease ≡ lease_of loan.file.grant) }
+    ensures pages { IfOk result (λ loan. ForOk (chain_in (core_of home.old.pages range) asked.now.kind asked.now.body)
         (λ chain. home.new.pages ≡ without_pages (chain.index ++ chain.blocks) home.old.pages)) }
     ensures kept { OnErr result (home.new.pages ≡ home.old.pages) }
 {
@@ -89,8 +103,12 @@ pub(crate) fn lend(
         index,
         blocks,
     };
-    let file = OpenFile::of(key, Snapshot::of(&parts), asked.lib, checkpoint);
-    Ok((file, WriteLease::of(parts)))
+    let file = OpenFile::of(key, Snapshot::of(&parts), asked.lib, asked.ino);
+    Ok(Loan {
+        file,
+        checkpoint,
+        lease: WriteLease::of(parts),
+    })
 }
 
 /// Takes the core pages of these numbers, all of them there and none twice, out of home. There is
@@ -135,35 +153,31 @@ fn taken(home: &mut Home, number: u32, reads: &mut Reads) -> LentPage
     }
 }
 
-/// The settled body of a live file that has this row, where `root` is that of the root.
-pub(crate) fn settled_body(
-    home: &mut Home,
-    files: &[OpenFile],
-    root: &[u8; 64],
-    ino: u32,
-    row: &Row,
-) -> [u8; 64]
-    requires { ino ≢ 1 → StandsSomewhere home.old.pages files.now (as_row row.now) }
-    ensures body { result ≡ (if ino == 1 then root.now else body_standing home.old.pages files.now (as_row row.now)) }
-    ensures home { home.new.pages ≡ home.old.pages }
+/// The settled body of a live file that has this row.
+pub(crate) fn settled_body(store: &mut Store, ino: u32, row: &Row) -> [u8; 64]
+    requires { ino ≢ 1 → StandsSomewhere store.old (as_row row.now) }
+    ensures body { result ≡ (if ino == 1 then store.old.root else body_standing store.old (as_row row.now)) }
+    ensures pages { store.new.home.pages ≡ store.old.home.pages }
+    ensures rest { store.new ≡ record store.old { home = store.new.home } }
 {
     if ino == 1 {
-        return *root;
+        return store.root;
     }
-    standing_body(home, files, row)
+    standing_body(store, row)
 }
 
 /// The body at the place of a row, as it is settled.
-fn standing_body(home: &mut Home, files: &[OpenFile], row: &Row) -> [u8; 64]
-    requires { StandsSomewhere home.old.pages files.now (as_row row.now) }
-    ensures body { result ≡ body_standing home.old.pages files.now (as_row row.now) }
-    ensures home { home.new.pages ≡ home.old.pages }
+fn standing_body(store: &mut Store, row: &Row) -> [u8; 64]
+    requires { StandsSomewhere store.old (as_row row.now) }
+    ensures body { result ≡ body_standing store.old (as_row row.now) }
+    ensures pages { store.new.home.pages ≡ store.old.home.pages }
+    ensures rest { store.new ≡ record store.old { home = store.new.home } }
 {
     let no = PageNo(row.page);
-    if let Some(page) = lent_page(files, row.parent, no) {
-        return body_on(page, row.slot);
+    if let Some(Some(checkpoint)) = store.checkpoints.get(row.parent as usize) {
+        return *checkpoint.body_at(no, row.slot).unwrap();
     }
-    let Some(page) = home.page(no, &mut Reads::new()) else {
+    let Some(page) = store.home.page(no, &mut Reads::new()) else {
         unreachable!()
     };
     body_on(page, row.slot)

@@ -4,16 +4,21 @@
 //! `specs/State.antt`. `Kept` holds of it in every state that it is in.
 #![tactic(auto)]
 
-mod bundles;
+mod allot;
 mod closing;
 mod ctl;
+mod grant;
+mod history;
+mod image;
 mod lend;
 mod open;
+mod outcome;
 mod release;
-mod spread;
-mod store;
+mod start;
+mod stored;
 
-pub use ctl::{Ctl, ImageFault};
+pub use ctl::Ctl;
+pub use image::ImageFault;
 
 #[cfg(test)]
 mod tests;

@@ -1,36 +1,28 @@
 //! The end of a release: the judgement of what a library hands in, and what stands after it.
 
-ghost use Rattle.std.specs.Prelude.{◌≡◌, ◌≤◌, ℕ, [], IfErr, IfOk, IsTrue, true, false, length, map, slice_get, slice_index_or, vec_capacity};
-ghost use Rattle.trio_lists.specs.Marked.{all_below};
+ghost use Rattle.std.specs.Prelude.{◌≡◌, ◌≤◌, ◌+◌, ◌*◌, IfErr, IfOk, length};
+ghost use Rattle.trio_rights.specs.Bundle.{bundle_pages};
 ghost use Rattle.trio_nodes.specs.declared.answers.ReleaseFault.TheVariants.{NoMemory as NoReleaseMemory};
-ghost use Rattle.trio_layout.specs.Accept.{is_accepted, next};
+ghost use Rattle.trio_lease.specs.Views.{bundle_in};
+ghost use Rattle.trio_layout.specs.Copied.{with_copied};
+ghost use Rattle.trio_judge.specs.Cases.{case_in as case_shown};
+ghost use Rattle.trio_judge.specs.Judging.{IsJudgeRoom};
 ghost use Rattle.trio_state.specs.Given.{GivenTo};
-ghost use Rattle.trio_state.specs.Views.{bundle_in};
 ghost use Rattle.trio_state.specs.Kept.{Kept};
-ghost use Rattle.trio_layout.specs.Proposed.{bundle_pages, bundle_sheets, is_written};
-ghost use Rattle.trio_page.specs.Sheets.{sheet_numbers, with_pages};
-ghost use Rattle.trio_state.specs.State.{creds_of, settled};
 ghost use Rattle.trio_state.specs.Step.{Release, Step};
-ghost use Rattle.trio_laws.specs.EndLaws.{unless_absent};
-ghost use Rattle.trio_checkpoint.specs.Covered.{all_stand};
-ghost use Rattle.trio_proposal.specs.Judgement.{IfAccepted, IfRefused, IsImage};
-ghost use Rattle.trio_ctl.specs.Answers.{release_answer};
+ghost use Rattle.trio_state.specs.Tells.{case_in};
+ghost use Rattle.trio_ctl.specs.Answers.{release_answer, verdict_of};
 ghost use Rattle.trio_ctl.specs.Ctl.{IsLibrary};
-ghost use Rattle.trio_ctl.specs.Moves.{IsWithinImage, all_covered, followed};
-ghost use Rattle.trio_allot.specs.Out.{outs_after};
+ghost use Rattle.trio_ctl.specs.inner.Histories.{HasRoom};
+ghost use Rattle.trio_ctl.specs.inner.Outcomes.{IsOutcome};
 
-use crate::bundles::{bring_home, bring_uncovered, written_marks};
-use crate::closing::{Closing, close_all};
+use crate::closing::end_files;
 use crate::ctl::Ctl;
-use crate::open::OpenFile;
-use crate::spread::{follow_all, settled_pages, spread};
-use std::mem;
-use trio_allot::Allotments;
-use trio_layout::CoreRange;
+use crate::outcome::{Outcome, outcome_of};
+use trio_judge::{Case, Room, judge};
 use trio_lease::Bundle;
 use trio_nodes::{ReleaseAnswer, ReleaseFault};
-use trio_page::{Home, NoMemory, Reads};
-use trio_proposal::{NextImage, Verdict, judge};
+use trio_page::{NoMemory, Reads};
 use trio_rights::LibNo;
 
 impl Ctl {
@@ -38,13 +30,16 @@ impl Ctl {
     ///
     /// `Accepted` exactly where the whole image that the bundle proposes, with its bytes over the
     /// settled ones, is sound and the change is allowed: then that image is settled. `Refused`
-    /// exactly where it is not: then the image is settled as before, but for the blocks of the
-    /// regular files and the allotted pages, which stand as handed in. Which rule was broken isn't
-    /// told yet: all numbers of the refusal are 0. The grants and allotments of the bundle end in both
+    /// exactly where it is not, with the lowest rule that fails, and a file and a place at which it
+    /// does: then the image is settled as before, but for the blocks of the regular files and the
+    /// allotted pages, which stand as handed in. The grants and allotments of the bundle end in both
     /// cases: what no file has then is free.
     ///
     /// After `NoMemory`, which may come in place of each answer, nothing changed and the bundle comes
     /// back; a history that has as many entries as a `u64` counts has no memory for one more.
+    ///
+    /// The bundle is judged by its own pages: home is looked at no more than once for each page of
+    /// the bundle and once for each of its write leases.
     pub fn release(
         &mut self,
         lib: LibNo,
@@ -56,113 +51,88 @@ impl Ctl {
         ensures step { Step self.old.state (Release lib.0 (bundle_in bundle)) (release_answer result (λ back. back.1)) self.new.state }
         ensures back { IfErr result (λ back. back.0 ≡ bundle) }
         ensures fault { IfErr result (λ back. back.1 ≡ NoReleaseMemory) }
+        ensures looked { self.new.looked ≤ self.old.looked + length (bundle_pages (bundle_in bundle)) + length (bundle_in bundle).writes }
+        ensures reads { reads.new ≤ reads.old + 3 * length (bundle_pages (bundle_in bundle)) + length (bundle_in bundle).writes }
         ensures was_kept { Kept self.old.state }
         ensures kept { Kept self.new.state }
     {
-        let Ok((verdict, closing)) = self.judged(lib, &bundle, reads) else {
+        let Ok(()) = self.history.make_room() else {
             return Err((bundle, ReleaseFault::NoMemory));
         };
-        let Some(entries) = self.entries.checked_add(1) else {
-            return Err((bundle, ReleaseFault::NoMemory));
+        let (case, room) = match self.case_of(lib, bundle) {
+            Ok(made) => made,
+            Err((bundle, NoMemory)) => return Err((bundle, ReleaseFault::NoMemory)),
         };
-        let files = mem::replace(&mut self.files, Vec::new(self.alloc));
-        self.files = close_all(closing, lib, files, &mut self.grants, &mut self.home);
-        self.entries = entries;
-        match verdict {
-            Verdict::Accepted(next) => {
-                let NextImage {
-                    pages,
-                    root,
-                    rows,
-                    owners,
-                } = next;
-                put_in_place(
-                    &mut self.home,
-                    &mut self.files,
-                    &mut self.outs,
-                    bundle,
-                    pages,
-                    reads,
-                );
-                self.superblock.root = root;
-                self.rows = rows;
-                self.owners = owners;
-                Ok(ReleaseAnswer::Accepted)
-            }
-            Verdict::Refused => {
-                bring_uncovered(&mut self.home, &mut self.outs, bundle);
-                Ok(ReleaseAnswer::Refused {
-                    rule: 0,
-                    ino: 0,
-                    page: 0,
-                    slot: 0,
-                })
-            }
+        let verdict = judge(&case, room, reads);
+        let outcome = outcome_of(verdict, &self.store.rows);
+        Ok(self.conclude(lib, case, outcome, reads))
+    }
+
+    // the case of a bundle, and the room to judge it
+    fn case_of(&self, lib: LibNo, bundle: Bundle) -> Result<(Case, Room), (Bundle, NoMemory)>
+        requires library { IsLibrary lib self.now.state }
+        requires given { GivenTo self.now.state lib.0 (bundle_in bundle) }
+        ensures bundle { IfOk result (λ made. made.0.bundle ≡ bundle) }
+        ensures case { IfOk result (λ made. case_shown made.0 ≡ with_copied (case_in self.now.state lib.0 (bundle_in bundle))) }
+        ensures room { IfOk result (λ made. IsJudgeRoom made.0 made.1) }
+        ensures back { IfErr result (λ back. back.0 ≡ bundle) }
+    {
+        let case = match Case::of(
+            self.alloc,
+            lib,
+            self.creds(lib),
+            bundle,
+            &self.store.rows,
+            self.range(),
+            self.store.rows.inodes(),
+        ) {
+            Ok(case) => case,
+            Err(back) => return Err(back),
+        };
+        match Room::with(self.alloc, &case) {
+            Ok(room) => Ok((case, room)),
+            Err(fault) => Err((case.into_bundle(), fault)),
         }
     }
 
-    // The verdict over a bundle, and what the end of its grants needs. All memory is taken here.
-    fn judged(
+    // puts a judged bundle in place or rolls it back; there is room for an entry
+    fn conclude(
         &mut self,
         lib: LibNo,
-        bundle: &Bundle,
+        case: Case,
+        outcome: Outcome,
         reads: &mut Reads,
-    ) -> Result<(Verdict, Closing), NoMemory>
-        requires library { IsLibrary lib self.old.state }
-        requires given { GivenTo self.old.state lib.0 (bundle_in bundle.now) }
-        ensures accepted { IfOk result (λ r. IfAccepted (λ n. is_accepted (settled self.old.state) (creds_of self.old.state lib.0) (bundle_in bundle.now) ≡ true) r.0) }
-        ensures next { IfOk result (λ r. IfAccepted (IsImage (next (settled self.old.state) (bundle_in bundle.now))) r.0) }
-        ensures refused { IfOk result (λ r. IfRefused (is_accepted (settled self.old.state) (creds_of self.old.state lib.0) (bundle_in bundle.now) ≡ false) r.0) }
-        ensures marks { IfOk result (λ r. (n : ℕ) → slice_index_or r.1.written.items n false ≡ is_written (bundle_in bundle.now) n) }
-        ensures empty { IfOk result (λ r. r.1.room.items ≡ []) }
-        ensures room { IfOk result (λ r. length self.old.state.open_grants ≤ vec_capacity r.1.room) }
-        ensures state { self.new.state ≡ self.old.state }
-        ensures kept { Kept self.old.state }
+    ) -> ReleaseAnswer
+        requires room { HasRoom self.old.state.entries }
+        requires given { GivenTo self.old.state lib.0 (bundle_in case.bundle) }
+        requires outcome { IsOutcome (case_in self.old.state lib.0 (bundle_in case.bundle)) outcome }
+        ensures step { Step self.old.state (Release lib.0 (bundle_in case.bundle)) (verdict_of result) self.new.state }
+        ensures looked { self.new.looked ≤ self.old.looked + length (bundle_pages (bundle_in case.bundle)) + length (bundle_in case.bundle).writes }
+        ensures reads { reads.new ≤ reads.old + length (bundle_pages (bundle_in case.bundle)) + length (bundle_in case.bundle).writes }
+        ensures kept { Kept self.new.state }
     {
-        let creds = self.creds(lib);
-        let range = CoreRange {
-            first: self.superblock.first_core,
-            end: self.superblock.pages,
-        };
-        let settled = settled_pages(self.alloc, &mut self.home, &self.files)?;
-        let verdict = judge(
-            self.alloc,
-            settled,
-            &self.superblock.root,
-            range,
-            &self.rows,
-            creds,
-            bundle,
-            reads,
-        )?;
-        let written = written_marks(self.alloc, bundle, self.superblock.inodes)?;
-        let room = Vec::with_capacity(self.alloc, self.files.len())?;
-        Ok((verdict, Closing { written, room }))
+        end_files(&mut self.files, &mut self.grants, lib, &case);
+        self.history.enter();
+        let bundle = case.into_bundle();
+        match outcome {
+            Outcome::Accepted(listing) => {
+                self.store.commit(lib, bundle, listing, reads);
+                ReleaseAnswer::Accepted
+            }
+            Outcome::Refused {
+                rule,
+                ino,
+                page,
+                slot,
+            } => {
+                self.store.roll_back(lib, bundle);
+                ReleaseAnswer::Refused {
+                    rule,
+                    ino,
+                    page,
+                    slot,
+                }
+            }
+        }
     }
-}
-
-/// Puts an accepted image in place: the pages of the bundle come home, what the checkpoints of the
-/// grants that stay open cover becomes what the image has there, and so does each page that is at
-/// home.
-fn put_in_place(
-    home: &mut Home,
-    files: &mut [OpenFile],
-    outs: &mut Allotments,
-    bundle: Bundle,
-    mut pages: Home,
-    reads: &mut Reads,
-)
-    requires within { IsTrue (all_below (length home.old.pages) (bundle_pages (bundle_in bundle))) }
-    requires allotted { IsWithinImage outs.old (bundle_in bundle) }
-    requires count { length home.old.pages ≡ length pages.pages }
-    requires stand { IsTrue (all_stand pages.pages (all_covered files.old)) }
-    ensures files { files.new ≡ map (followed pages.pages) files.old }
-    ensures returned { outs.new ≡ outs_after outs.old (sheet_numbers (bundle_in bundle).pages) (bundle_in bundle).numbers }
-    ensures count { length home.new.pages ≡ length home.old.pages }
-    ensures home { (p : ℕ) → slice_get home.new.pages p
-        ≡ unless_absent (slice_get (with_pages (bundle_sheets (bundle_in bundle)) home.old.pages) p) (slice_get pages.pages p) }
-{
-    bring_home(home, outs, bundle);
-    follow_all(files, &mut pages, reads);
-    spread(home, pages, reads);
 }

@@ -2,9 +2,8 @@ ghost use Rattle.std.specs.Prelude.{◌≡◌, IfSome, length};
 
 use super::*;
 use std::alloc::Global;
-use std::test::Fail;
 use trio_image::{Counts, Image, bytes_of};
-use trio_lease::{Allotted, Lease};
+use trio_lease::{Allotted, Lease, WriteLease};
 use trio_nodes::{GrantFault, GrantKind, Holder};
 use trio_page::PageNo;
 use trio_page::field::all_zero;
@@ -23,152 +22,168 @@ fn image_bytes(alloc: Global, with_directory: bool) -> Option<Vec<u8>> {
     sample.ok()?.bytes(alloc).ok()
 }
 
-fn started(alloc: Global, bytes: &[u8]) -> Option<Ctl>
+// A controller over the image of these bytes, for one library of this uid.
+fn started(alloc: Global, bytes: &[u8], uid: u32) -> Option<Ctl>
     ensures { IfSome result (λ ctl. length ctl.state.creds ≡ 1) }
 {
     let image = Image::from_bytes(alloc, bytes).ok()?;
-    let libs = vec![in alloc; Creds { uid: 5, gid: 5 }].ok()?;
-    Ctl::start(alloc, image, libs).ok()
-}
-
-#[test]
-fn the_settled_image_is_stored_again(rt: HostRuntime) -> Result<(), Fail> {
-    let alloc = rt.alloc();
-    for with_directory in [false, true] {
-        let bytes = image_bytes(alloc, with_directory).ok_or("memory")?;
-        let mut ctl = started(alloc, &bytes).ok_or("a controller")?;
-        let mut image = ctl.image().ok().ok_or("memory")?;
-        let written = bytes_of(alloc, &mut image).ok().ok_or("memory")?;
-        assert!(rt; written.as_slice() == bytes.as_slice());
-        let counts = if with_directory {
-            Counts {
-                inodes: 2,
-                pages: 2,
-                free: 27,
-            }
-        } else {
-            Counts {
-                inodes: 1,
-                pages: 0,
-                free: 29,
-            }
-        };
-        assert_eq!(rt; image.counts(), counts);
-    }
-    Ok(())
-}
-
-// A controller over the image with the directory, for one library of this uid.
-fn controlled(alloc: Global, uid: u32) -> Option<Ctl>
-    ensures { IfSome result (λ ctl. length ctl.state.creds ≡ 1) }
-{
-    let bytes = image_bytes(alloc, true)?;
-    let image = Image::from_bytes(alloc, &bytes).ok()?;
     let libs = vec![in alloc; Creds { uid, gid: 0 }].ok()?;
     Ctl::start(alloc, image, libs).ok()
 }
 
-#[test]
-fn files_are_lent_or_refused(rt: HostRuntime) -> Result<(), Fail> {
-    let alloc = rt.alloc();
-    let cases = [
-        (0, 3, Some(GrantFault::NotLive)),
-        (0, 9, Some(GrantFault::NotLive)),
-        (5, 2, Some(GrantFault::Denied(2))),
-        (5, 1, Some(GrantFault::Denied(1))),
-        (0, 2, None),
-    ];
-    for (uid, ino, wanted) in cases {
-        let mut ctl = controlled(alloc, uid).ok_or("a controller")?;
-        match ctl.grant(LibNo(1), ino, GrantKind::Write) {
-            Ok(Lease::Write(lease)) => {
-                let same = lease.ino() == ino && lease.lib() == LibNo(1) && lease.entry() == 0;
-                lease.discard();
-                assert!(rt; same && wanted.is_none(), "{ino} by uid {uid}");
-            }
-            Ok(lease) => {
-                lease.discard();
-                return Err("a write lease".into());
-            }
-            Err(fault) => assert!(rt; Some(fault) == wanted, "{ino} by uid {uid}"),
-        }
-    }
-    Ok(())
+// Whether the settled image has these bytes and counts.
+fn stores(alloc: Global, ctl: &mut Ctl, bytes: &[u8], counts: Counts) -> Option<bool> {
+    let mut image = ctl.image().ok()?;
+    let is_counted = image.counts() == counts;
+    Some(is_counted && bytes_of(alloc, &mut image).ok()?.as_slice() == bytes)
 }
 
+fn is_stored_again(alloc: Global, with_directory: bool, counts: Counts) -> Option<bool> {
+    let bytes = image_bytes(alloc, with_directory)?;
+    stores(alloc, &mut started(alloc, &bytes, 5)?, &bytes, counts)
+}
+
+const EMPTY: Counts = Counts {
+    inodes: 1,
+    pages: 0,
+    free: 29,
+};
+
+const WITH_DIRECTORY: Counts = Counts {
+    inodes: 2,
+    pages: 2,
+    free: 27,
+};
+
 #[test]
-fn what_is_lent_has_left_home(rt: HostRuntime) -> Result<(), Fail> {
-    let alloc = rt.alloc();
-    let mut ctl = controlled(alloc, 0).ok_or("a controller")?;
-    let lease = match ctl.grant(LibNo(1), 1, GrantKind::Write) {
-        Ok(Lease::Write(lease)) => lease,
+fn the_settled_image_is_stored_again(rt: HostRuntime) {
+    assert!(rt; is_stored_again(rt.alloc(), false, EMPTY) == Some(true));
+    assert!(rt; is_stored_again(rt.alloc(), true, WITH_DIRECTORY) == Some(true));
+}
+
+// What a library of this uid is answered that asks to write a file: whether it is lent as it was asked
+// for, or why it isn't.
+fn lent(alloc: Global, uid: u32, ino: u32) -> Option<Result<bool, GrantFault>> {
+    let mut ctl = started(alloc, &image_bytes(alloc, true)?, uid)?;
+    match ctl.grant(LibNo(1), ino, GrantKind::Write) {
+        Ok(Lease::Write(lease)) => {
+            let is_so = lease.ino() == ino && lease.lib() == LibNo(1) && lease.entry() == 0;
+            lease.discard();
+            Some(Ok(is_so))
+        }
         Ok(lease) => {
             lease.discard();
-            return Err("a write lease".into());
+            None
         }
-        Err(_) => return Err("a lease".into()),
+        Err(fault) => Some(Err(fault)),
+    }
+}
+
+// The uid, the file and the answer.
+const REQUESTS: [(u32, u32, Result<bool, GrantFault>); 5] = [
+    (0, 3, Err(GrantFault::NotLive)),
+    (0, 9, Err(GrantFault::NotLive)),
+    (5, 2, Err(GrantFault::Denied(2))),
+    (5, 1, Err(GrantFault::Denied(1))),
+    (0, 2, Ok(true)),
+];
+
+#[test]
+fn files_are_lent_or_refused(rt: HostRuntime) {
+    for (uid, ino, wanted) in &REQUESTS {
+        assert!(rt;
+            lent(rt.alloc(), *uid, *ino) == Some(*wanted),
+            "{ino} by uid {uid}"
+        );
+    }
+}
+
+// Whether it is the root that is lent: its index page names its block, in which the entry of `a` stands.
+fn is_root(lease: &WriteLease) -> bool {
+    let (Some(index), Some(block)) = (lease.index(0), lease.block(0)) else {
+        return false;
     };
-    // the root's index page names its block, in which the entry of `a` stands
-    let index = lease.index(0).map(|page| page.u32_at(0));
-    let entry = lease.block(0).map(|page| page.u32_at(0));
     let numbers = (lease.index_no(0), lease.block_no(0), lease.block_no(1));
-    lease.discard();
-    assert_eq!(rt; (index, entry), (Some(4), Some(2)));
-    assert!(rt; numbers == (Some(PageNo(3)), Some(PageNo(4)), None));
-    // while it is out nobody is told an image
+    let is_there = numbers == (Some(PageNo(3)), Some(PageNo(4)), None);
+    is_there && index.u32_at(0) == 4 && block.u32_at(0) == 2
+}
+
+// Whether the root is lent, and nobody is told an image while it is out.
+fn root_leaves_home(alloc: Global) -> Option<bool> {
+    let mut ctl = started(alloc, &image_bytes(alloc, true)?, 0)?;
+    let is_lent = match ctl.grant(LibNo(1), 1, GrantKind::Write) {
+        Ok(Lease::Write(lease)) => {
+            let is_so = is_root(&lease);
+            lease.discard();
+            is_so
+        }
+        Ok(lease) => {
+            lease.discard();
+            false
+        }
+        Err(_) => false,
+    };
     let holder = Holder {
         lib: LibNo(1),
         kind: GrantKind::Write,
         entry: 0,
     };
-    let fault = ctl.image().err();
-    assert!(rt; fault == Some(ImageFault::Busy(holder)));
-    Ok(())
+    Some(is_lent && ctl.image().err() == Some(ImageFault::Busy(holder)))
 }
 
-// the numbers of what was allotted, which is let go
-fn numbers_of(alloc: Global, given: Allotted) -> Option<(Vec<u32>, Vec<u32>)> {
-    let pages = page_numbers(alloc, &given);
-    let inodes = inode_numbers(alloc, &given);
-    given.discard();
-    Some((pages?, inodes?))
-}
-
-// the numbers of the pages, where all of them are all zero
-fn page_numbers(alloc: Global, given: &Allotted) -> Option<Vec<u32>> {
-    let mut numbers = Vec::new(alloc);
-    for page in &given.pages {
-        if !all_zero(page.page().bytes()) {
-            return None;
-        }
-        numbers.push(page.no().0).ok()?;
-    }
-    Some(numbers)
-}
-
-fn inode_numbers(alloc: Global, given: &Allotted) -> Option<Vec<u32>> {
-    let mut numbers = Vec::new(alloc);
-    for number in &given.inodes {
-        numbers.push(number.no()).ok()?;
-    }
-    Some(numbers)
-}
-
-// Pages 3 and 4 are the root's, and the numbers 1 and 2 are live. Page 6 has bytes that nobody owns.
 #[test]
-fn the_lowest_free_are_allotted(rt: HostRuntime) -> Result<(), Fail> {
-    let alloc = rt.alloc();
-    let mut bytes = image_bytes(alloc, true).ok_or("memory")?;
+fn what_is_lent_has_left_home(rt: HostRuntime) {
+    assert!(rt; root_leaves_home(rt.alloc()) == Some(true));
+}
+
+// Whether just these pages were allotted, and all of them are all zero.
+fn has_pages(given: &Allotted, numbers: &[u32]) -> bool {
+    for (i, page) in given.pages.iter().enumerate() {
+        let number = page.no().0;
+        if numbers.get(i) != Some(&number) || !all_zero(page.page().bytes()) {
+            return false;
+        }
+    }
+    given.pages.len() == numbers.len()
+}
+
+fn has_inodes(given: &Allotted, numbers: &[u32]) -> bool {
+    for (i, inode) in given.inodes.iter().enumerate() {
+        let number = inode.no();
+        if numbers.get(i) != Some(&number) {
+            return false;
+        }
+    }
+    given.inodes.len() == numbers.len()
+}
+
+// Whether the lowest that are free are allotted: pages 3 and 4 are the root's, and the numbers 1 and 2
+// are live.
+fn allots_the_lowest(ctl: &mut Ctl) -> Option<bool>
+    requires { length ctl.old.state.creds ≡ 1 }
+{
+    let given = ctl.allot(LibNo(1), 2, 1).ok()?;
+    let is_so = has_pages(&given, &[5, 6]) && has_inodes(&given, &[3]);
+    given.discard();
+    Some(is_so)
+}
+
+// The image with bytes in page 6, which nobody owns.
+fn marked_image(alloc: Global) -> Option<Vec<u8>> {
+    let mut bytes = image_bytes(alloc, true)?;
     put(&mut bytes, 24_576, b"left");
-    let mut ctl = started(alloc, &bytes).ok_or("a controller")?;
-    let given = ctl.allot(LibNo(1), 2, 1).ok().ok_or("an allotment")?;
-    let (pages, inodes) = numbers_of(alloc, given).ok_or("zeros")?;
-    assert!(rt; pages.as_slice() == [5, 6].as_slice());
-    assert!(rt; inodes.as_slice() == [3].as_slice());
-    // in the settled image what is out is all zero
-    let mut image = ctl.image().ok().ok_or("memory")?;
-    let written = bytes_of(alloc, &mut image).ok().ok_or("memory")?;
-    put(&mut bytes, 24_576, &[0; 4]);
-    assert!(rt; written == bytes);
-    Ok(())
+    Some(bytes)
+}
+
+// Whether in the settled image what is out is all zero.
+fn the_lowest_are_out(alloc: Global) -> Option<bool> {
+    let mut ctl = started(alloc, &marked_image(alloc)?, 5)?;
+    let is_so = allots_the_lowest(&mut ctl)?;
+    let zeroed = image_bytes(alloc, true)?;
+    Some(is_so && stores(alloc, &mut ctl, &zeroed, WITH_DIRECTORY)?)
+}
+
+#[test]
+fn the_lowest_free_are_allotted(rt: HostRuntime) {
+    assert!(rt; the_lowest_are_out(rt.alloc()) == Some(true));
 }

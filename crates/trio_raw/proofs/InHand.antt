@@ -13,11 +13,11 @@ use Rattle.trio_nodes.specs.declared.grant.GrantKind.TheVariants.{Write}
 use Rattle.trio_nodes.specs.declared.spot.Spot.TheVariants.{Body, Index, Block, Fresh}
 use Rattle.trio_lists.specs.Lists.{In, is_among, are_new}
 use Rattle.trio_lists.proofs.Marked.{are_new-append}
-use Rattle.trio_page.specs.Sheets.{Sheet, sheet_numbers}
+use Rattle.trio_rights.specs.Sheets.{Sheet, sheet_numbers}
 use Rattle.trio_layout.specs.Image.{Image}
 use Rattle.trio_state.specs.State.{OpenGrant, State}
 use Rattle.trio_nodes.specs.GrantKinds.{is_write, is_hold}
-use Rattle.trio_layout.specs.Proposed.{Written, Bundle, is_written}
+use Rattle.trio_rights.specs.Bundle.{Written, Bundle, is_written}
 use Rattle.trio_state.specs.Allotments.{out_after, out_with}
 use Rattle.trio_state.specs.Grants.{opens}
 use Rattle.trio_state.specs.Bundles.{Ends, grants_after, is_in_bundle, lent_part}

@@ -9,8 +9,8 @@ use Rattle.std.proofs.Math.Seq.{map-set_same}
 use Rattle.trio_page.specs.Field.{with_part}
 use Rattle.trio_page.proofs.Fields.{length-with_part}
 use Rattle.trio_lists.specs.Lists.{In}
-use Rattle.trio_page.specs.Sheets.{Sheet, sheet_numbers}
-use Rattle.trio_layout.specs.Proposed.{Written}
+use Rattle.trio_rights.specs.Sheets.{Sheet, sheet_numbers}
+use Rattle.trio_rights.specs.Bundle.{Written}
 use Rattle.trio_raw.specs.Has.{changed_at, changed_first, poked_bytes, poked_sheet, poked_body, poked_index, poked_block}
 use Rattle.trio_lists.proofs.Members.{In-left, In-right, In-cases}
 

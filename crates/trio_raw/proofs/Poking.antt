@@ -9,9 +9,9 @@ use Rattle.trio_lease.specs.declared.parts.LentPage.{LentPage}
 use Rattle.trio_lease.specs.declared.parts.FreshParts.{FreshParts}
 use Rattle.trio_lease.specs.declared.parts.InoParts.{InoParts}
 use Rattle.trio_lease.specs.Shown.{LentFile, lent_at}
-use Rattle.trio_page.specs.Sheets.{Sheet}
-use Rattle.trio_state.specs.Views.{fresh_sheet, lent_sheet}
-use Rattle.trio_layout.specs.Proposed.{Written}
+use Rattle.trio_rights.specs.Sheets.{Sheet}
+use Rattle.trio_lease.specs.Views.{fresh_sheet, lent_sheet}
+use Rattle.trio_rights.specs.Bundle.{Written}
 use Rattle.trio_raw.specs.Has.{Has, changed_at, poked_bytes, poked_sheet, with_file, with_fresh}
 use Rattle.trio_raw.specs.Held.{file_of}
 use Rattle.trio_raw.specs.Things.{Things, poked_lent_block, poked_lent_index, with_allotted_page, with_lease}

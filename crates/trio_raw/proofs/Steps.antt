@@ -14,7 +14,7 @@ use Rattle.trio_nodes.specs.declared.answers.GrantFault.TheVariants.{Busy, NotLi
 use Rattle.trio_layout.specs.Chain.{Chain}
 use Rattle.trio_layout.specs.Core.{Core, Location, page_of}
 use Rattle.trio_lists.specs.Lists.{In, is_among, are_new}
-use Rattle.trio_page.specs.Sheets.{Sheet}
+use Rattle.trio_rights.specs.Sheets.{Sheet}
 use Rattle.trio_layout.specs.Image.{row_at}
 use Rattle.trio_state.specs.State.{OpenGrant, State, settled, logged}
 use Rattle.trio_state.specs.Grants.{denied_by, denied_or, excluding, grant_fault, holder_of, opened}

@@ -7,9 +7,9 @@ use Rattle.trio_lease.specs.declared.parts.FreshParts.{FreshParts}
 use Rattle.trio_lease.specs.declared.parts.HoldParts.{HoldParts}
 use Rattle.trio_lease.specs.declared.parts.InoParts.{InoParts}
 use Rattle.trio_lease.specs.Shown.{LentFile}
-use Rattle.trio_state.specs.Views.{fresh_sheet}
-use Rattle.trio_layout.specs.Proposed.{Written, Bundle}
-use Rattle.trio_page.specs.Sheets.{Sheet}
+use Rattle.trio_lease.specs.Views.{fresh_sheet}
+use Rattle.trio_rights.specs.Bundle.{Written, Bundle}
+use Rattle.trio_rights.specs.Sheets.{Sheet}
 use Rattle.trio_raw.specs.Has.{Has, are_there, bundle_of, has_all_of, named, rest_of, without_all}
 use Rattle.trio_raw.specs.Held.{Held, file_of}
 use Rattle.trio_raw.specs.Things.{Things}

@@ -6,8 +6,8 @@ use Rattle.trio_page.specs.Field.{with_part}
 use Rattle.trio_nodes.specs.declared.spot.Spot.{Spot}
 use Rattle.trio_nodes.specs.declared.spot.Spot.TheVariants.{Body, Index, Block, Fresh}
 use Rattle.trio_lists.specs.Lists.{is_among, are_new}
-use Rattle.trio_page.specs.Sheets.{Sheet}
-use Rattle.trio_layout.specs.Proposed.{Written, Bundle}
+use Rattle.trio_rights.specs.Sheets.{Sheet}
+use Rattle.trio_rights.specs.Bundle.{Written, Bundle}
 
 -- the files that were lent to it for writing, as they stand, and the pages and inode numbers that were allotted to it
 pub record Has : Type 0 where

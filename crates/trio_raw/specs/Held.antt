@@ -3,8 +3,8 @@ use Rattle.std.specs.Prelude.{◌≡◌, ℕ, ◌+◌, ◌≤◌, [], length, ve
 use Rattle.trio_rights.specs.declared.rights.LibNo.{LibNo}
 use Rattle.trio_lease.specs.Shown.{LentFile}
 use Rattle.trio_lease.specs.declared.bundle.BundleParts.{BundleParts}
-use Rattle.trio_state.specs.Views.{written_in}
-use Rattle.trio_layout.specs.Proposed.{Written}
+use Rattle.trio_lease.specs.Views.{written_in}
+use Rattle.trio_rights.specs.Bundle.{Written}
 use Rattle.trio_raw.specs.Has.{Has}
 use Rattle.trio_raw.specs.Things.{Things}
 

@@ -2,9 +2,9 @@
 use Rattle.std.specs.Prelude.{◌≡◌, ℕ, List, [], ◌++◌, map, length, IsTrue}
 use Rattle.std.specs.List.{flat_map}
 use Rattle.trio_lists.specs.Lists.{In, are_new}
-use Rattle.trio_page.specs.Sheets.{Sheet, sheet_numbers}
+use Rattle.trio_rights.specs.Sheets.{Sheet, sheet_numbers}
 use Rattle.trio_state.specs.State.{State}
-use Rattle.trio_layout.specs.Proposed.{Written}
+use Rattle.trio_rights.specs.Bundle.{Written}
 use Rattle.trio_state.specs.Given.{WasLent, WasAllotted}
 use Rattle.trio_raw.specs.Has.{Has}
 

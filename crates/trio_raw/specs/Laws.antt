@@ -7,10 +7,10 @@ use Rattle.trio_rights.specs.Row.{Row}
 use Rattle.trio_nodes.specs.declared.grant.GrantKind.TheVariants.{Write}
 use Rattle.trio_nodes.specs.declared.spot.Spot.{Spot}
 use Rattle.trio_lists.specs.Lists.{In, are_new}
-use Rattle.trio_page.specs.Sheets.{Sheet}
+use Rattle.trio_rights.specs.Sheets.{Sheet}
 use Rattle.trio_layout.specs.Image.{Image, IsFit, row_at}
 use Rattle.trio_state.specs.State.{OpenGrant, State, settled}
-use Rattle.trio_layout.specs.Proposed.{Written}
+use Rattle.trio_rights.specs.Bundle.{Written}
 use Rattle.trio_state.specs.Grants.{opened, opens}
 use Rattle.trio_state.specs.Allotments.{allots}
 use Rattle.trio_state.specs.Bundles.{Ends}

@@ -1,7 +1,7 @@
 //! Bytes written into lent things.
 
 ghost use Rattle.std.specs.Prelude.{◌≡◌, ◌+◌, IsFalse, None, Some, if◌then◌else◌, length, nat_le};
-ghost use Rattle.trio_state.specs.Views.{fresh_sheet};
+ghost use Rattle.trio_lease.specs.Views.{fresh_sheet};
 ghost use Rattle.trio_raw.specs.Has.{poked_body, poked_block, poked_index, poked_sheet};
 ghost use Rattle.trio_raw.specs.Held.{file_of};
 ghost use Rattle.trio_raw.specs.Things.{poked_allotted, poked_lease_block, poked_lease_body, poked_lease_index};

@@ -1,7 +1,7 @@
 //! What one library has.
 
 ghost use Rattle.std.specs.Prelude.{◌≡◌, ◌+◌, ◌<◌, ◌++◌, ◌∷◌, ◌↔◌, [], Err, IfErr, IfOk, IfSome, IsFalse, IsNone, IsOk, IsTrue, None, OnErr, OnOk, Some, if◌then◌else◌, length, map};
-ghost use Rattle.trio_state.specs.Views.{bundle_in, fresh_sheet};
+ghost use Rattle.trio_lease.specs.Views.{bundle_in, fresh_sheet};
 ghost use Rattle.trio_raw.specs.Has.{bundle_of, has_all_of, is_nothing, nothing, poked, poked_block, poked_body, poked_index, poked_sheet, rest_of, whole_bundle, with_file, with_fresh};
 ghost use Rattle.trio_raw.specs.Held.{HasSpare, HasRoomFor, NoPlaceLost, file_of};
 ghost use Rattle.trio_raw.specs.Things.{no_things, poked_allotted, poked_lease_block, poked_lease_body, poked_lease_index, poked_things, things_in, things_left, things_named, with_allotted_page, with_lease};
@@ -40,7 +40,7 @@ pub struct Raw {
 
 impl Model for Raw {
     ghost use Rattle.std.specs.Prelude.{map, vec_capacity};
-    ghost use Rattle.trio_state.specs.Views.{fresh_sheet};
+    ghost use Rattle.trio_lease.specs.Views.{fresh_sheet};
     ghost use Rattle.trio_raw.specs.Held.{Held, file_of};
 
     ghost Value = { Held };

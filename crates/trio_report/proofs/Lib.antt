@@ -1,4 +1,3 @@
 pub mod Joins
-pub mod Stable
 pub mod ByName
 pub mod Trees

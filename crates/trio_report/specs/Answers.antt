@@ -14,6 +14,10 @@ abbrev pub numbers_text : List ℕ → List ℕ
 numbers_text [] = codes "-"
 numbers_text (n ∷ ns) = decimal n ++ flat_map after_comma ns
 
+-- the words for a refusal name its rule
+abbrev pub refused_text : ℕ → List ℕ
+refused_text rule = codes "refused I" ++ decimal rule
+
 -- the words for what a line is answered
 abbrev pub answer_text : LineAnswer → List ℕ
 answer_text Granted = codes "granted"
@@ -26,7 +30,7 @@ answer_text (NoPages wanted free) = codes "nopages " ++ decimal wanted ++ codes 
 answer_text (NoInodes wanted free) = codes "noinodes " ++ decimal wanted ++ codes " " ++ decimal free
 answer_text Poked = codes "poked"
 answer_text Accepted = codes "accepted"
-answer_text Refused = codes "refused"
+answer_text (Refused rule) = refused_text rule
 answer_text Absent = codes "absent"
 
 -- the line that says what the line of this number is answered

@@ -5,6 +5,7 @@ use Rattle.std.specs.Fmt.{decimal}
 use Rattle.trio_names.specs.Escaped.{escaped_of}
 use Rattle.trio_rights.specs.Kind.{letter}
 use Rattle.trio_layout.specs.Tree.{TreeLine}
+use Rattle.trio_report.specs.Answers.{refused_text}
 use Rattle.trio_report.specs.declared.report.Counts.{Counts}
 use Rattle.trio_report.specs.declared.report.LibraryKind.{LibraryKind}
 use Rattle.trio_report.specs.declared.report.LibraryKind.TheVariants.{Raw}
@@ -38,11 +39,11 @@ abbrev pub lib_heading : ℕ → LibraryKind → List ℕ
 lib_heading number kind = codes "lib " ++ decimal number ++ codes " " ++ library_word kind ++ codes "\n"
 
 -- the words for what a library's end is answered
-abbrev pub answer_word : EndAnswer → List ℕ
-answer_word Nothing = codes "nothing"
-answer_word Accepted = codes "accepted"
-answer_word Refused = codes "refused"
+abbrev pub end_text : EndAnswer → List ℕ
+end_text Nothing = codes "nothing"
+end_text Accepted = codes "accepted"
+end_text (Refused rule) = refused_text rule
 
 -- the line that ends the report on a library
 abbrev pub end_line : EndAnswer → List ℕ
-end_line answer = codes "end " ++ answer_word answer ++ codes "\n"
+end_line answer = codes "end " ++ end_text answer ++ codes "\n"

@@ -3,7 +3,7 @@
 ghost use Rattle.std.specs.Prelude.{◌≡◌, ◌++◌, OnOk, codes};
 ghost use Rattle.std.specs.List.{flat_map};
 ghost use Rattle.std.specs.Fmt.{decimal};
-ghost use Rattle.trio_report.specs.Answers.{after_comma, numbers_text, answer_text, answer_line};
+ghost use Rattle.trio_report.specs.Answers.{after_comma, numbers_text, answer_text, answer_line, refused_text};
 
 use crate::text::put_text;
 use std::alloc::Global;
@@ -33,8 +33,8 @@ pub enum LineAnswer {
     Poked,
     /// The release was accepted.
     Accepted,
-    /// The release was refused.
-    Refused,
+    /// The release was refused, by the rule of this number: 1 to 4 for I1 to I4.
+    Refused(u8),
     /// The library doesn't have what the line names.
     Absent,
 }
@@ -73,7 +73,7 @@ fn put_words(alloc: Global, out: &mut Vec<u8>, answer: &LineAnswer) -> Result<()
         LineAnswer::NoInodes { wanted, free } => put_want(alloc, out, "noinodes", *wanted, *free),
         LineAnswer::Poked => put_text(out, "poked"),
         LineAnswer::Accepted => put_text(out, "accepted"),
-        LineAnswer::Refused => put_text(out, "refused"),
+        LineAnswer::Refused(rule) => put_refused(alloc, out, *rule),
         LineAnswer::Absent => put_text(out, "absent"),
     }
 }
@@ -83,6 +83,14 @@ fn put_denied(alloc: Global, out: &mut Vec<u8>, ino: u32) -> Result<(), NoMemory
 {
     put_text(out, "denied ")?;
     put_text(out, &format!(in alloc; "{ino}")?)
+}
+
+/// Appends the words for a refusal, as `refused I1`.
+pub(crate) fn put_refused(alloc: Global, out: &mut Vec<u8>, rule: u8) -> Result<(), NoMemory>
+    ensures { OnOk result (out.new.items ≡ out.old.items ++ refused_text rule) }
+{
+    put_text(out, "refused I")?;
+    put_text(out, &format!(in alloc; "{rule}")?)
 }
 
 fn put_allotted(

@@ -1,8 +1,9 @@
 //! What a report says of its libraries and of the whole image.
 
 ghost use Rattle.std.specs.Prelude.{◌≡◌, ◌++◌, OnOk};
-ghost use Rattle.trio_report.specs.Report.{library_word, lib_heading, answer_word, end_line, counts_text};
+ghost use Rattle.trio_report.specs.Report.{library_word, lib_heading, end_text, end_line, counts_text};
 
+use crate::answer::put_refused;
 use crate::text::put_text;
 use std::alloc::Global;
 use trio_page::NoMemory;
@@ -32,20 +33,8 @@ pub enum EndAnswer {
     Nothing,
     /// What was given back for it was accepted.
     Accepted,
-    /// What was given back for it was refused.
-    Refused,
-}
-
-impl EndAnswer {
-    fn word(self) -> &'static str
-        ensures { result.now ≡ answer_word self }
-    {
-        match self {
-            EndAnswer::Nothing => "nothing",
-            EndAnswer::Accepted => "accepted",
-            EndAnswer::Refused => "refused",
-        }
-    }
+    /// What was given back for it was refused, by the rule of this number: 1 to 4 for I1 to I4.
+    Refused(u8),
 }
 
 /// Appends the line that begins the report on a library, as `lib 1 raw`.
@@ -64,12 +53,22 @@ pub fn put_heading(
 }
 
 /// Appends the line that ends the report on a library, as `end nothing`.
-pub fn put_end(out: &mut Vec<u8>, answer: EndAnswer) -> Result<(), NoMemory>
+pub fn put_end(alloc: Global, out: &mut Vec<u8>, answer: EndAnswer) -> Result<(), NoMemory>
     ensures { OnOk result (out.new.items ≡ out.old.items ++ end_line answer) }
 {
     put_text(out, "end ")?;
-    put_text(out, answer.word())?;
+    put_end_words(alloc, out, answer)?;
     put_text(out, "\n")
+}
+
+fn put_end_words(alloc: Global, out: &mut Vec<u8>, answer: EndAnswer) -> Result<(), NoMemory>
+    ensures { OnOk result (out.new.items ≡ out.old.items ++ end_text answer) }
+{
+    match answer {
+        EndAnswer::Nothing => put_text(out, "nothing"),
+        EndAnswer::Accepted => put_text(out, "accepted"),
+        EndAnswer::Refused(rule) => put_refused(alloc, out, rule),
+    }
 }
 
 /// How much of an image is in use.

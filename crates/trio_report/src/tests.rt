@@ -22,7 +22,7 @@ fn first_image_is_told(rt: HostRuntime) -> Result<(), Fail> {
 
     let mut out = Vec::new(alloc);
     put_heading(alloc, &mut out, LibNo(1), LibraryKind::Raw)?;
-    put_end(&mut out, EndAnswer::Nothing)?;
+    put_end(alloc, &mut out, EndAnswer::Nothing)?;
     put_tree(alloc, &mut out, &lines)?;
     let counts = Counts {
         inodes: 2,
@@ -83,13 +83,13 @@ fn answers_are_told(rt: HostRuntime) -> Result<(), Fail> {
     put_answer(alloc, &mut out, 10, &LineAnswer::Busy)?;
     put_answer(alloc, &mut out, 11, &LineAnswer::Poked)?;
     put_answer(alloc, &mut out, 12, &LineAnswer::Accepted)?;
-    put_answer(alloc, &mut out, 13, &LineAnswer::Refused)?;
+    put_answer(alloc, &mut out, 13, &LineAnswer::Refused(4))?;
     put_answer(alloc, &mut out, 16_384, &LineAnswer::Absent)?;
-    put_end(&mut out, EndAnswer::Accepted)?;
-    put_end(&mut out, EndAnswer::Refused)?;
+    put_end(alloc, &mut out, EndAnswer::Accepted)?;
+    put_end(alloc, &mut out, EndAnswer::Refused(1))?;
     assert_eq!(rt;
         out.as_slice(),
-        b"2 granted\n3 notlive\n4 denied 12\n5 noparent\n10 busy\n11 poked\n12 accepted\n13 refused\n16384 absent\nend accepted\nend refused\n".as_slice()
+        b"2 granted\n3 notlive\n4 denied 12\n5 noparent\n10 busy\n11 poked\n12 accepted\n13 refused I4\n16384 absent\nend accepted\nend refused I1\n".as_slice()
     );
     Ok(())
 }

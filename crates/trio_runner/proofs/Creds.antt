@@ -6,7 +6,7 @@ use Rattle.trio_nodes.specs.declared.answers.GrantFault.{GrantFault}
 use Rattle.trio_nodes.specs.declared.answers.ModeFault.{ModeFault}
 use Rattle.trio_layout.specs.Image.{row_at}
 use Rattle.trio_state.specs.State.{State}
-use Rattle.trio_layout.specs.Proposed.{Bundle}
+use Rattle.trio_rights.specs.Bundle.{Bundle}
 use Rattle.trio_state.specs.Grants.{grant_fault}
 use Rattle.trio_state.specs.Step.{Event, Grant, Allot, Back, Release, Settle, SetMode, CtlAnswer, Comes, Does, Step, granted_to, grant_outcome, allot_outcome, mode_fault, mode_outcome, moded_to, ReleaseEnd, Parted, IsAccepted, IsRefused}
 use Rattle.trio_laws.proofs.Cases.{after_allot, after_no_grant, after_no_mode}

@@ -13,11 +13,11 @@ use Rattle.trio_rights.specs.Row.{Row}
 use Rattle.trio_nodes.specs.declared.grant.GrantKind.TheVariants.{Write}
 use Rattle.trio_nodes.specs.declared.answers.GrantFault.{GrantFault}
 use Rattle.trio_lists.specs.Lists.{In, is_among}
-use Rattle.trio_page.specs.Sheets.{Sheet, sheet_numbers}
+use Rattle.trio_rights.specs.Sheets.{Sheet, sheet_numbers}
 use Rattle.trio_layout.specs.Image.{Image, row_at}
 use Rattle.trio_state.specs.State.{OpenGrant, State, logged}
 use Rattle.trio_nodes.specs.GrantKinds.{is_write, is_hold}
-use Rattle.trio_layout.specs.Proposed.{Written, Bundle, is_written}
+use Rattle.trio_rights.specs.Bundle.{Written, Bundle, is_written}
 use Rattle.trio_state.specs.Grants.{grant_fault, opened, opens}
 use Rattle.trio_state.specs.Allotments.{allots, free_pages, free_numbers, out_after, out_with}
 use Rattle.trio_state.specs.Bundles.{Ends, grants_after, is_in_bundle, lent_part}

@@ -5,8 +5,8 @@ use Rattle.std.specs.List.{find, cons_option}
 use Rattle.std.proofs.lemmas.Bool.{eqb-true, eq-eqb, both_ways, cases_Bool}
 use Rattle.std.proofs.lemmas.List.{map-id}
 use Rattle.trio_lists.specs.Lists.{In, is_among}
-use Rattle.trio_page.specs.Sheets.{Sheet, sheet_numbers}
-use Rattle.trio_layout.specs.Proposed.{Written, Bundle}
+use Rattle.trio_rights.specs.Sheets.{Sheet, sheet_numbers}
+use Rattle.trio_rights.specs.Bundle.{Written, Bundle}
 use Rattle.trio_lists.proofs.Filters.{In-find, find-In}
 use Rattle.trio_raw.specs.Has.{Has, nothing, named, without, without_all, bundle_of, rest_of, whole_bundle}
 use Rattle.trio_lists.proofs.Members.{In-map, map-In, In-is_among, is_among-In}

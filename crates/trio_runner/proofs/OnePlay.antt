@@ -8,7 +8,7 @@ use Rattle.trio_state.specs.State.{OpenGrant, State}
 use Rattle.trio_state.specs.Run.{Move}
 use Rattle.trio_state.specs.Tells.{Why}
 use Rattle.trio_state.specs.Step.{Event, Release, CtlAnswer, Granted, NotGranted, Given, NoPages, NoInodes, Done, Accepted, Refused, NotClosed, Settled, ModeSet, NotModeSet, NoMemory, Step}
-use Rattle.trio_laws.specs.Known.{Known, known, plain_state, is_refusal, SameAnswer}
+use Rattle.trio_laws.specs.Known.{Known, known, plain_state, refused_rule, SameAnswer}
 use Rattle.trio_laws.proofs.KnownSteps.{known_decides, same_event_same_answer}
 use Rattle.trio_raw.specs.Has.{Has, whole_bundle, is_nothing}
 use Rattle.trio_raw.specs.Laws.{lent_file, with_lent}
@@ -28,29 +28,30 @@ record Alike (p q : Player) : Type 0 where
   has_same : p.has ≡ q.has
 
 -- a refusal has a cause
-refusal_why : (a : CtlAnswer) → is_refusal a ≡ true → (why : Why) × (a ≡ Refused why)
-refusal_why (Refused why) e = (why, refl)
-refusal_why (Granted children) e = absurd (false≢true e)
-refusal_why (NotGranted fault) e = absurd (false≢true e)
-refusal_why (Given pages numbers) e = absurd (false≢true e)
-refusal_why (NoPages wanted free) e = absurd (false≢true e)
-refusal_why (NoInodes wanted free) e = absurd (false≢true e)
-refusal_why Done e = absurd (false≢true e)
-refusal_why Accepted e = absurd (false≢true e)
-refusal_why (NotClosed ino) e = absurd (false≢true e)
-refusal_why Settled e = absurd (false≢true e)
-refusal_why ModeSet e = absurd (false≢true e)
-refusal_why (NotModeSet fault) e = absurd (false≢true e)
-refusal_why NoMemory e = absurd (false≢true e)
+refusal_why : (a : CtlAnswer) (rule : ℕ) → refused_rule a ≡ Some rule → (why : Why) × (a ≡ Refused why) × (why.rule ≡ rule)
+refusal_why (Refused why) rule e = (why, refl, cc e)
+refusal_why (Granted children) rule e = absurd (cc e)
+refusal_why (NotGranted fault) rule e = absurd (cc e)
+refusal_why (Given pages numbers) rule e = absurd (cc e)
+refusal_why (NoPages wanted free) rule e = absurd (cc e)
+refusal_why (NoInodes wanted free) rule e = absurd (cc e)
+refusal_why Done rule e = absurd (cc e)
+refusal_why Accepted rule e = absurd (cc e)
+refusal_why (NotClosed ino) rule e = absurd (cc e)
+refusal_why Settled rule e = absurd (cc e)
+refusal_why ModeSet rule e = absurd (cc e)
+refusal_why (NotModeSet fault) rule e = absurd (cc e)
+refusal_why NoMemory rule e = absurd (cc e)
 
--- what goes by an answer, but for the cause of a refusal, is the same for two that are the same but for that
-by_answer : {X : Type 0} (f : CtlAnswer → X) → ((why why' : Why) → f (Refused why) ≡ f (Refused why'))
+-- what goes by an answer, but for the place that a refusal names, is the same for two that are the same but for that
+by_answer : {X : Type 0} (f : CtlAnswer → X)
+    → ((why why' : Why) → why.rule ≡ why'.rule → f (Refused why) ≡ f (Refused why'))
     → (a b : CtlAnswer) → SameAnswer a b → f a ≡ f b
 by_answer f same a b (inl e) = ap f e
 by_answer f same a b (inr r) =
-    let x = refusal_why a r.0 in
-    let y = refusal_why b r.1 in
-    ap f x.1 ∙ same x.0 y.0 ∙ sym (ap f y.1)
+    let x = refusal_why a r.0 r.1 in
+    let y = refusal_why b r.0 r.2 in
+    ap f x.1 ∙ same x.0 y.0 (x.2 ∙ sym y.2) ∙ sym (ap f y.1)
 
 has_after-refused : (lib : ℕ) (s : State) (has : Has) (said : RawLine) (why why' : Why)
     → has_after lib s has said (Refused why) ≡ has_after lib s has said (Refused why')
@@ -99,7 +100,7 @@ has_after_same lib p q said a b like e =
     ∙ ap (λ k. has_after lib (plain_state k) p.has said a) like.known_same
     ∙ has_after_plain lib q.state p.has said a
     ∙ ap (λ h. has_after lib q.state h said a) like.has_same
-    ∙ by_answer (has_after lib q.state q.has said) (has_after-refused lib q.state q.has said) a b e
+    ∙ by_answer (has_after lib q.state q.has said) (λ why why' same. has_after-refused lib q.state q.has said why why') a b e
 
 -- a line
 record OneLine (told told' : LineAnswer) (p' q' : Player) : Type 0 where
@@ -135,7 +136,7 @@ one_line lib p q said told told' moves moves' p' q' h k like one two =
         let r = same_event_same_answer p.state q.state event a.answer b.answer p'.state q'.state h.kept k.kept
         like.known_same a.step step (told_some a.answer told a.told_is) (told_some b.answer told' b.told_is) in
         let tolds : Some told ≡ Some told' =
-        sym a.told_is ∙ by_answer told_of (λ why why'. refl) a.answer b.answer r.0 ∙ b.told_is in
+        sym a.told_is ∙ by_answer told_of (λ why why' e. ap (λ rule. Some (LineAnswer.Refused rule)) e) a.answer b.answer r.0 ∙ b.told_is in
         record {
           one_told = cc tolds;
           alike = record {
@@ -208,7 +209,7 @@ one_end_of lib p q end end' moves moves' p' q' h k like a b =
     let r = same_event_same_answer p.state q.state event a.answer b.answer p'.state q'.state h.kept k.kept
     like.known_same a.step step (end_some a.answer end a.end_is) (end_some b.answer end' b.end_is) in
     let ends : Some end ≡ Some end' = sym a.end_is
-    ∙ by_answer end_of (λ why why'. refl) a.answer b.answer r.0 ∙ b.end_is in
+    ∙ by_answer end_of (λ why why' e. ap (λ rule. Some (EndAnswer.Refused rule)) e) a.answer b.answer r.0 ∙ b.end_is in
     record { one_end = cc ends; known_same = r.1 }
 
 one_end : (lib : ℕ) (p q : Player) (end end' : EndAnswer) (moves moves' : List Move) (p' q' : Player) → Stands lib p

@@ -20,11 +20,11 @@ use Rattle.trio_lease.specs.declared.lease.Lease.{Lease}
 use Rattle.trio_lease.specs.declared.lease.Lease.TheVariants.{Write as WriteLent}
 use Rattle.trio_lease.specs.Shown.{LentFile}
 use Rattle.trio_allot.specs.Out.{fresh_page, inode_numbers, page_numbers}
-use Rattle.trio_page.specs.Sheets.{Sheet}
-use Rattle.trio_state.specs.Views.{fresh_sheet, lent_sheet}
+use Rattle.trio_rights.specs.Sheets.{Sheet}
+use Rattle.trio_lease.specs.Views.{fresh_sheet, lent_sheet}
 use Rattle.trio_layout.specs.Image.{row_at}
 use Rattle.trio_state.specs.State.{OpenGrant, State}
-use Rattle.trio_layout.specs.Proposed.{Bundle, Written}
+use Rattle.trio_rights.specs.Bundle.{Bundle, Written}
 use Rattle.trio_state.specs.Given.{GivenTo}
 use Rattle.trio_state.specs.Grants.{opened}
 use Rattle.trio_state.specs.Bundles.{is_parted, is_parent_written, lowest, parted_hold}
@@ -115,8 +115,8 @@ verdict_played inos pages numbers answer told s h s' h' b is after all e step re
 pub accepted_played : (inos pages numbers : List ℕ) (s : State) (h : Held) (s' : State) (h' : Held) (b : Bundle) → (IsFalse (has_all_of h.has inos pages numbers) → ⊥) → b ≡ bundle_of h.has inos pages numbers → Step s (Release h.lib.0 b) Accepted s' → h'.has ≡ rest_of h.has inos pages numbers → h'.lib ≡ h.lib → LinePlayed (ReleaseLine inos pages numbers) answered.Accepted s h s' h'
 accepted_played inos pages numbers s h s' h' b all e step rest lib = verdict_played inos pages numbers Accepted answered.Accepted s h s' h' b refl refl all e step rest lib
 
-pub refused_played : (inos pages numbers : List ℕ) (s : State) (h : Held) (s' : State) (h' : Held) (b : Bundle) (why : Why) → (IsFalse (has_all_of h.has inos pages numbers) → ⊥) → b ≡ bundle_of h.has inos pages numbers → Step s (Release h.lib.0 b) (Refused why) s' → h'.has ≡ rest_of h.has inos pages numbers → h'.lib ≡ h.lib → LinePlayed (ReleaseLine inos pages numbers) answered.Refused s h s' h'
-refused_played inos pages numbers s h s' h' b why all e step rest lib = verdict_played inos pages numbers (Refused why) answered.Refused s h s' h' b refl refl all e step rest lib
+pub refused_played : (inos pages numbers : List ℕ) (s : State) (h : Held) (s' : State) (h' : Held) (b : Bundle) (why : Why) → (IsFalse (has_all_of h.has inos pages numbers) → ⊥) → b ≡ bundle_of h.has inos pages numbers → Step s (Release h.lib.0 b) (Refused why) s' → h'.has ≡ rest_of h.has inos pages numbers → h'.lib ≡ h.lib → LinePlayed (ReleaseLine inos pages numbers) (answered.Refused why.rule) s h s' h'
+refused_played inos pages numbers s h s' h' b why all e step rest lib = verdict_played inos pages numbers (Refused why) (answered.Refused why.rule) s h s' h' b refl refl all e step rest lib
 
 -- the end of a library that has something, by either verdict
 pub end_played : (answer : CtlAnswer) (end : EndAnswer) (s : State) (h : Held) (s' : State) (h' : Held) (b : Bundle) → end_of answer ≡ Some end → (IsTrue (is_nothing h.has) → ⊥) → b ≡ whole_bundle h.has → Step s (Release h.lib.0 b) answer s' → h'.has ≡ nothing → EndPlayed end s h s' h'

@@ -3,9 +3,9 @@ use Rattle.std.proofs.Common.{◌≡◌, ℕ, eqb, List, Option, Some, None, ref
 use Rattle.std.specs.Prelude.{map}
 use Rattle.trio_nodes.specs.declared.spot.Spot.{Spot}
 use Rattle.trio_nodes.specs.declared.spot.Spot.TheVariants.{Body, Index, Block, Fresh}
-use Rattle.trio_page.specs.Sheets.{Sheet, sheet_numbers}
+use Rattle.trio_rights.specs.Sheets.{Sheet, sheet_numbers}
 use Rattle.trio_state.specs.State.{State, logged}
-use Rattle.trio_layout.specs.Proposed.{Written}
+use Rattle.trio_rights.specs.Bundle.{Written}
 use Rattle.trio_raw.specs.Has.{Has, poked, poked_body, poked_index, poked_block, poked_sheet, with_file, with_fresh, changed_first}
 use Rattle.trio_raw.proofs.Kept.{Changed, KeepsFiles, map_some, first_from, changed_same, sheets_kept, body_keeps, index_keeps, block_keeps}
 use Rattle.trio_script.specs.declared.line.RawLine.{RawLine}

@@ -67,7 +67,7 @@ told_of (Given pages numbers) = Some (answered.Allotted pages numbers)
 told_of (NoPages wanted free) = Some (answered.NoPages wanted free)
 told_of (NoInodes wanted free) = Some (answered.NoInodes wanted free)
 told_of Accepted = Some answered.Accepted
-told_of (Refused why) = Some answered.Refused
+told_of (Refused why) = Some (answered.Refused why.rule)
 told_of _ = None
 
 -- the things with the file that a write grant on a live file lends, as it is lent
@@ -134,7 +134,7 @@ pub record EndsAlone (p : Player) (end : EndAnswer) (moves : List Move) (p' : Pl
 -- how the answer to the last release is told
 abbrev pub end_of : CtlAnswer → Option EndAnswer
 end_of Accepted = Some EndAccepted
-end_of (Refused why) = Some EndRefused
+end_of (Refused why) = Some (EndRefused why.rule)
 end_of _ = None
 
 -- the end of a library that has something: all of it is released in one bundle

@@ -3,7 +3,7 @@
 ghost use Rattle.std.specs.Prelude.{◌≡◌, ◌≤◌, ◌++◌, IfOk, OnOk, Some, length, map};
 ghost use Rattle.trio_state.specs.Given.{GivenTo};
 ghost use Rattle.trio_allot.specs.Out.{inode_numbers, page_numbers};
-ghost use Rattle.trio_state.specs.Views.{bundle_in, fresh_sheet};
+ghost use Rattle.trio_lease.specs.Views.{bundle_in, fresh_sheet};
 ghost use Rattle.trio_state.specs.Kept.{Kept};
 ghost use Rattle.trio_state.specs.Run.{start};
 ghost use Rattle.trio_state.specs.Step.{Release, Step};
@@ -263,7 +263,7 @@ fn play_release(
     };
     match hand_in(ctl, raw.lib(), bundle)? {
         ReleaseAnswer::Accepted => Ok(LineAnswer::Accepted),
-        ReleaseAnswer::Refused { .. } => Ok(LineAnswer::Refused),
+        ReleaseAnswer::Refused { rule, .. } => Ok(LineAnswer::Refused(rule)),
     }
 }
 
@@ -277,7 +277,7 @@ fn play_end(ctl: &mut Ctl, raw: &mut Raw) -> Result<EndAnswer, NoMemory>
     };
     match hand_in(ctl, raw.lib(), bundle)? {
         ReleaseAnswer::Accepted => Ok(EndAnswer::Accepted),
-        ReleaseAnswer::Refused { .. } => Ok(EndAnswer::Refused),
+        ReleaseAnswer::Refused { rule, .. } => Ok(EndAnswer::Refused(rule)),
     }
 }
 

@@ -21,8 +21,6 @@ ghost use Rattle.trio_script.specs.Script.{lines_of, is_silent, names_library, i
 ghost use Rattle.trio_script.specs.inner.Taken.{Takes};
 
 mod line;
-#[cfg(test)]
-mod tests;
 mod word;
 
 pub use line::RawLine;

@@ -1,7 +1,7 @@
 use Rattle.std.proofs.Common.{◌≡◌, ◌≤◌, map, take, length}
 use Rattle.std.specs.Prelude.{vec_capacity}
 use Rattle.trio_layout.specs.Pages.{sheets_of}
-use Rattle.trio_page.specs.Sheets.{without_pages}
+use Rattle.trio_rights.specs.Sheets.{without_pages}
 use Rattle.trio_checkpoint.specs.Covered.{core_of}
 use Rattle.trio_ctl.specs.Open.{untouched}
 use Rattle.trio_ctl.proofs.lend.take_pages.Given as goal

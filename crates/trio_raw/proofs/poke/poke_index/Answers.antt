@@ -1,8 +1,8 @@
 use Rattle.std.proofs.Common.{◌≡◌, ◌+◌, ◌<◌, ◌≤◌, true, leb, List, length, sym, ap, ◌∙◌, refl, inl, inr}
 use Rattle.std.specs.Option.{option_map}
 use Rattle.std.proofs.lemmas.Bool.{cases_lt, false≢true}
-use Rattle.trio_layout.specs.Proposed.{Written}
-use Rattle.trio_page.specs.Sheets.{Sheet}
+use Rattle.trio_rights.specs.Bundle.{Written}
+use Rattle.trio_rights.specs.Sheets.{Sheet}
 use Rattle.trio_page.specs.Field.{with_part}
 use Rattle.trio_lease.specs.Shown.{LentFile, lent_at}
 use Rattle.trio_lease.specs.declared.parts.LentPage.{LentPage}

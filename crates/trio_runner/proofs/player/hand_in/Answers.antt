@@ -1,5 +1,5 @@
 use Rattle.std.proofs.Common.{◌≡◌, ap, subst}
-use Rattle.trio_state.specs.Views.{bundle_in}
+use Rattle.trio_lease.specs.Views.{bundle_in}
 use Rattle.trio_state.specs.Step.{CtlAnswer, NotClosed, Release, Step}
 use Rattle.trio_ctl.specs.Answers.{release_fault_answer}
 use Rattle.trio_runner.proofs.Turns.{never_parted}

@@ -1,6 +1,6 @@
 use Rattle.std.proofs.Common.{◌≡◌, ◌++◌, Some, map, rules}
 use Rattle.trio_allot.specs.Out.{inode_numbers, page_numbers}
-use Rattle.trio_state.specs.Views.{fresh_sheet}
+use Rattle.trio_lease.specs.Views.{fresh_sheet}
 use Rattle.trio_report.specs.declared.answer.LineAnswer.TheVariants.{Allotted}
 use Rattle.trio_script.specs.declared.line.RawLine.TheVariants.{Allot as AllotLine}
 use Rattle.trio_ctl.specs.Answers.{allot_fault_answer}

@@ -1,7 +1,7 @@
 use Rattle.std.proofs.Common.{◌≡◌, ◌∙◌, ap, sym, subst, refl, rules}
 use Rattle.trio_rights.specs.declared.rights.LibNo.{LibNo}
 use Rattle.trio_state.specs.Given.{GivenTo}
-use Rattle.trio_state.specs.Views.{bundle_in}
+use Rattle.trio_lease.specs.Views.{bundle_in}
 use Rattle.trio_state.specs.Step.{Accepted, Refused}
 use Rattle.trio_raw.specs.Held.{Held}
 use Rattle.trio_ctl.specs.Answers.{verdict_of}
@@ -41,6 +41,6 @@ returns-in-Refused c =
     let b = bundle_in c.in-Some.bundle in
     let h = c.args.raw.now in
     let lib : c.lib.result ≡ h.lib = c.lib.ensures ∙ ap (λ (x : Held). x.lib) c.take_all.ensures.left in
-    end_played (Refused _) EndRefused s h s' c.take_all.new.self b refl (search rules) c.in-Some.ensures.bundle
+    end_played (Refused _) (EndRefused c.in-Refused.rule) s h s' c.take_all.new.self b refl (search rules) c.in-Some.ensures.bundle
     (verdict_step s s' c.lib.result h.lib b c.in_ok-hand_in.field-0 (Refused _) lib (ap verdict_of c.in-Refused.is) c.in_ok-hand_in.ensures)
     (ap (λ (x : Held). x.has) c.take_all.ensures.left)

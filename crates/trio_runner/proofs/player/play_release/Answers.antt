@@ -1,7 +1,7 @@
 use Rattle.std.proofs.Common.{◌≡◌, ◌∙◌, ap, sym, subst, rules}
 use Rattle.trio_rights.specs.declared.rights.LibNo.{LibNo}
 use Rattle.trio_state.specs.Given.{GivenTo}
-use Rattle.trio_state.specs.Views.{bundle_in}
+use Rattle.trio_lease.specs.Views.{bundle_in}
 use Rattle.trio_state.specs.Step.{Accepted, Refused}
 use Rattle.trio_raw.specs.Held.{Held}
 use Rattle.trio_ctl.specs.Answers.{verdict_of}

@@ -1,6 +1,6 @@
 use Rattle.std.proofs.Common.{◌≡◌, Some, None, eqb, sym, ap, ◌∙◌, map}
 use Rattle.std.specs.List.{position}
-use Rattle.trio_state.specs.Views.{fresh_sheet}
+use Rattle.trio_lease.specs.Views.{fresh_sheet}
 use Rattle.trio_raw.specs.Has.{poked_index, with_file}
 use Rattle.trio_raw.specs.Held.{Held}
 use Rattle.trio_raw.specs.Things.{poked_lease_index, with_lease}

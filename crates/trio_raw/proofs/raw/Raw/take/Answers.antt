@@ -1,5 +1,5 @@
 use Rattle.std.proofs.Common.{◌++◌, sym, ap, ◌∙◌}
-use Rattle.trio_state.specs.Views.{bundle_in}
+use Rattle.trio_lease.specs.Views.{bundle_in}
 use Rattle.trio_raw.specs.Has.{bundle_of, has_all_of, named, rest_of}
 use Rattle.trio_raw.specs.Held.{Held}
 use Rattle.trio_raw.specs.Things.{things_in, things_left, things_named}

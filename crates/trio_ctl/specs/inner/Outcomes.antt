@@ -1,0 +1,21 @@
+-- What comes of a bundle. Cited by private functions alone.
+use Rattle.std.specs.Prelude.{◌≡◌, IsTrue}
+use Rattle.trio_layout.specs.Broken.{Breaks}
+use Rattle.trio_layout.specs.Case.{Case}
+use Rattle.trio_layout.specs.Listing.{listing}
+use Rattle.trio_layout.specs.Rules.{meets_rules}
+use Rattle.trio_judge.specs.Verdicts.{HasListing, IsLowest, is_sound, meets_three}
+use Rattle.trio_judge.specs.declared.verdict.Verdict.{Verdict}
+use Rattle.trio_ctl.specs.declared.outcome.Outcome.{Outcome}
+use Rattle.trio_ctl.specs.declared.outcome.Outcome.TheVariants.{Accepted, Refused}
+
+-- what the judge says of a case: whether it meets I1, I2 and I4, the lowest of them that fails, and the listing
+pub record IsVerdict (c : Case) (v : Verdict) : Type 0 where
+  pub sound : is_sound v ≡ meets_three c
+  pub lowest : IsLowest c v
+  pub listed : HasListing c v
+
+-- the four rules hold, and this is the listing; or this rule is the lowest that fails, and does so at this file and place
+abbrev pub IsOutcome : Case → Outcome → Type 0
+IsOutcome c (Accepted l) = IsTrue (meets_rules c) × (l.listing ≡ listing c)
+IsOutcome c (Refused rule ino page slot) = Breaks c rule ino (record { page = page; slot = slot })

@@ -1,0 +1,59 @@
+//! Allotments.
+
+ghost use Rattle.std.specs.Prelude.{◌≡◌, IfOk, map};
+ghost use Rattle.trio_allot.specs.Out.{fresh_number, fresh_page, inode_numbers, page_numbers};
+ghost use Rattle.trio_state.specs.Kept.{Kept};
+ghost use Rattle.trio_state.specs.Step.{Allot, Step};
+ghost use Rattle.trio_ctl.specs.Answers.{allot_answer};
+ghost use Rattle.trio_ctl.specs.Ctl.{IsLibrary};
+
+use crate::ctl::Ctl;
+use trio_lease::Allotted;
+use trio_nodes::AllotFault;
+use trio_page::Reads;
+use trio_rights::LibNo;
+
+impl Ctl {
+    /// Allots free pages and inode numbers to a library, so many of each as it asks for: the lowest
+    /// ones, in their order, and each page all zero. They stay out until they are handed in.
+    ///
+    /// `NoPages` exactly where more pages are wanted than are free; `NoInodes` exactly where enough
+    /// pages are free, and more inode numbers are wanted than are; each tells both numbers. After
+    /// `NoMemory`, which may come in place of each of them, nothing changed; a history that has as
+    /// many entries as a `u64` counts has no memory for one more.
+    pub fn allot(&mut self, lib: LibNo, pages: u32, inodes: u32) -> Result<Allotted, AllotFault>
+        requires library { IsLibrary lib self.old.state }
+        ensures step { Step self.old.state (Allot lib.0 pages inodes) (allot_answer result) self.new.state }
+        ensures pages { IfOk result (λ given. given.pages.items ≡ map (fresh_page lib) (page_numbers given.pages.items)) }
+        ensures inodes { IfOk result (λ given. given.inodes.items ≡ map (fresh_number lib) (inode_numbers given.inodes.items)) }
+        ensures was_kept { Kept self.old.state }
+        ensures kept { Kept self.new.state }
+    {
+        let Ok(()) = self.history.make_room() else {
+            return Err(AllotFault::NoMemory);
+        };
+        let given = self.store.allotments.take(
+            &mut self.store.home,
+            &self.store.owners,
+            &self.store.rows,
+            lib,
+            pages,
+            inodes,
+            &mut Reads::new(),
+        );
+        match given {
+            Ok(given) => {
+                self.history.enter();
+                Ok(given)
+            }
+            // want of memory makes no entry
+            Err(fault) => match fault {
+                AllotFault::NoMemory => Err(fault),
+                AllotFault::NoPages { .. } | AllotFault::NoInodes { .. } => {
+                    self.history.enter();
+                    Err(fault)
+                }
+            },
+        }
+    }
+}

@@ -1,0 +1,68 @@
+//! The start of a controller.
+
+ghost use Rattle.std.specs.Prelude.{◌≡◌, ◌≤◌, ◌+◌, IfErr, IfOk, None, replicate, vec_len};
+ghost use Rattle.trio_state.specs.Kept.{Kept};
+ghost use Rattle.trio_state.specs.Run.{start};
+ghost use Rattle.trio_survey.specs.Stored.{image_in};
+
+use crate::ctl::Ctl;
+use crate::history::History;
+use std::alloc::Global;
+use trio_allot::Allotments;
+use trio_checkpoint::Checkpoint;
+use trio_commit::Store;
+use trio_grants::GrantTable;
+use trio_image::{Image, ImageParts};
+use trio_page::NoMemory;
+use trio_rights::Creds;
+
+impl Ctl {
+    /// The controller of an image, with nothing lent, for 1 to 16 libraries, of which the n-th has
+    /// the n-th credentials. `NoMemory`: there was no memory for its tables; the image comes back.
+    pub fn start(alloc: Global, image: Image, libs: Vec<Creds>) -> Result<Ctl, (Image, NoMemory)>
+        requires some { 1 ≤ vec_len libs }
+        requires few { vec_len libs ≤ 16 }
+        ensures started { IfOk result (λ ctl. ctl.state ≡ start (image_in image.superblock image.pages) libs.items) }
+        ensures kept { IfOk result (λ ctl. Kept ctl.state) }
+        ensures back { IfErr result (λ back. back.0 ≡ image) }
+    {
+        let superblock = image.superblock();
+        let Ok(allotments) = Allotments::new(alloc, superblock.pages, superblock.inodes) else {
+            return Err((image, NoMemory));
+        };
+        let Ok(checkpoints) = no_checkpoints(alloc, superblock.inodes) else {
+            return Err((image, NoMemory));
+        };
+        let root = superblock.root;
+        let ImageParts { home, rows, owners } = image.into_parts();
+        Ok(Ctl {
+            alloc,
+            store: Store {
+                home,
+                root,
+                rows,
+                owners,
+                allotments,
+                checkpoints,
+            },
+            first_core: superblock.first_core,
+            grants: GrantTable::new(alloc),
+            files: Vec::new(alloc),
+            libs,
+            history: History::new(),
+        })
+    }
+}
+
+// A place for a checkpoint at each inode number, and at 0; nothing stands there. `NoMemory`: there was
+// no memory for them.
+fn no_checkpoints(alloc: Global, inodes: u32) -> Result<Vec<Option<Checkpoint>>, NoMemory>
+    ensures { IfOk result (λ checkpoints. checkpoints.items ≡ replicate (inodes + 1) None) }
+{
+    let count = inodes as usize + 1;
+    let mut checkpoints = Vec::with_capacity(alloc, count)?;
+    for _i in 0..count {
+        checkpoints.push(None)?;
+    }
+    Ok(checkpoints)
+}
