@@ -1,0 +1,5 @@
+pub mod Stands
+pub mod Entries
+pub mod Replays
+pub mod Recorded
+pub mod HistoryLaws
