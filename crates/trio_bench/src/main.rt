@@ -1,0 +1,152 @@
+//! What a turn costs without others in it, and what the judge takes for bundles of many pages.
+//!
+//! - `trio_bench turn COUNT` takes a value out of its cell and gives it back COUNT times, and locks a
+//!   `Mutex` of std's with the same value COUNT times, all on one thread, five times over. It prints
+//!   the nanoseconds of the fastest turn and of the fastest lock on average over COUNT, and their
+//!   ratio.
+//! - `trio_bench judge` judges bundles of directory pages, each five times over, and prints how often
+//!   the time of one goes into that of another.
+//!
+//! It is measured and not proved; the figures of a run are in `docs/GATE.md`.
+#![tactic(auto)]
+
+ghost use Rattle.std.specs.Prelude.{◌≡◌, [], None, IfSome};
+ghost use Rattle.trio_turn.specs.Seats.{cell, cell_of, has, IsSameSeat};
+
+mod bundles;
+mod judging;
+
+use crate::judging::measure_judge;
+use std::alloc::Global;
+use std::rt::{Clock, Env};
+use std::sync::{Mutex, Wait};
+use std::time::Instant;
+use std::{env, io};
+use trio_turn::{LibSeat, Logged, Turn};
+
+const ROUNDS: u32 = 5;
+
+/// A number to count in, with no entries.
+#[derive(Drop)]
+pub struct Tally {
+    count: u64,
+}
+
+impl Logged for Tally {
+    ghost use Rattle.std.specs.Prelude.{[], None};
+
+    ghost first = { λ t. record { image = []; creds = [] } };
+
+    ghost log = { λ t. [] };
+
+    ghost begun = { λ t l. None };
+
+    fn len(&self) -> u64 {
+        0
+    }
+}
+
+/// Takes this many turns.
+fn take_turns<R: Wait>(rt: &R, turn: &Turn<Tally>, seat: &mut LibSeat<Tally>, count: u64)
+    requires { (cell_of seat.old ≡ cell turn.now) × (has seat.old ≡ None) }
+    ensures { IsSameSeat seat.old seat.new × (has seat.new ≡ None) }
+{
+    for _ in 0..count {
+        let mut tally = turn.take(rt, seat);
+        tally.count = tally.count.wrapping_add(1);
+        turn.give(seat, tally);
+    }
+}
+
+/// Locks this many times.
+fn take_locks<R: Wait>(rt: &R, lock: &Mutex<Tally>, count: u64) {
+    for _ in 0..count {
+        let mut tally = lock.lock(rt);
+        tally.count = tally.count.wrapping_add(1);
+    }
+}
+
+/// A cell with the seat of one library.
+fn start_one(alloc: Global) -> Option<(Turn<Tally>, LibSeat<Tally>)>
+    ensures { IfSome result (λ r. (cell_of r.1 ≡ cell r.0) × (has r.1 ≡ None)) }
+{
+    let Ok((turn, mut seats)) = Turn::start(alloc, Tally { count: 0 }, 1) else {
+        return None;
+    };
+    let Some(seat) = seats.pop() else {
+        unreachable!()
+    };
+    Some((turn, seat))
+}
+
+/// The nanoseconds of the fastest round of turns, and of the fastest round of locks.
+fn fastest<R: Wait + Clock>(
+    rt: &R,
+    turn: &Turn<Tally>,
+    seat: &mut LibSeat<Tally>,
+    count: u64,
+) -> io::Result<(u128, u128)>
+    requires { (cell_of seat.old ≡ cell turn.now) × (has seat.old ≡ None) }
+{
+    let lock = Mutex::new(Tally { count: 0 });
+    let mut turns = u128::MAX;
+    let mut locks = u128::MAX;
+    for _ in 0..ROUNDS {
+        let start = Instant::now(rt)?;
+        take_turns(rt, turn, seat, count);
+        turns = turns.min(start.elapsed(rt)?.as_nanos());
+        let start = Instant::now(rt)?;
+        take_locks(rt, &lock, count);
+        locks = locks.min(start.elapsed(rt)?.as_nanos());
+    }
+    Ok((turns, locks))
+}
+
+/// What is to be measured.
+#[derive(Clone, Copy)]
+enum Asked {
+    /// So many turns.
+    Turn(u64),
+    Judge,
+}
+
+/// What the command line asks for.
+fn read_words<R: Env + AllocGlobal>(rt: &R) -> io::Result<Option<Asked>> {
+    let mut words = env::args(rt)?;
+    let _name = words.next();
+    let Some(what) = words.next() else {
+        return Ok(None);
+    };
+    if what.as_str() == "judge" {
+        return Ok(Some(Asked::Judge));
+    }
+    let Some(count) = words.next() else {
+        return Ok(None);
+    };
+    let count = count.parse::<u64>().ok().filter(|count| *count > 0);
+    Ok(count.map(Asked::Turn).filter(|_| what.as_str() == "turn"))
+}
+
+/// Measures turns, and prints what was measured.
+fn measure_turn<R: Wait + Clock + Print + AllocGlobal>(rt: &R, count: u64) -> io::Result<()> {
+    let Some((turn, mut seat)) = start_one(rt.alloc()) else {
+        return println!(rt; "out of memory");
+    };
+    let (turns, locks) = fastest(rt, &turn, &mut seat, count)?;
+    let hundredths = turns.saturating_mul(100) / locks.max(1);
+    println!(rt;
+        "turn {} ns, lock {} ns, ratio {}.{:02}",
+        turns / u128::from(count.max(1)),
+        locks / u128::from(count.max(1)),
+        hundredths / 100,
+        hundredths % 100
+    )
+}
+
+fn main(rt: HostRuntime) -> io::Result<()> {
+    match read_words(&rt)? {
+        Some(Asked::Turn(count)) => measure_turn(&rt, count),
+        Some(Asked::Judge) => measure_judge(&rt),
+        None => println!(rt; "usage: trio_bench turn COUNT\n       trio_bench judge"),
+    }
+}

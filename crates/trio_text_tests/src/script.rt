@@ -1,0 +1,273 @@
+use std::alloc::Global;
+use trio_nodes::{List, Spot};
+use trio_script::{RawLine, ScriptFault, ScriptLine, read_script};
+
+/// What a script says whose first line is the library's, and these bytes the second.
+fn second_line(alloc: Global, line: &[u8]) -> Option<Result<Vec<ScriptLine>, ScriptFault>> {
+    let mut script = b"lib 1 raw 0 0\n".to_vec(alloc).ok()?;
+    script.extend_from_slice(line).ok()?;
+    Some(read_script(alloc, &script))
+}
+
+/// Whether the second line says just this.
+fn says(alloc: Global, text: &[u8], line: RawLine) -> Option<bool> {
+    let wanted = vec![in alloc; ScriptLine { number: 2, line }].ok()?;
+    Some(second_line(alloc, text)? == Ok(wanted))
+}
+
+const GRANTS: &[(&str, u32)] = &[
+    ("grant write 2", 2),
+    ("grant write 0\n", 0),
+    ("grant write 4294967295", 4_294_967_295),
+];
+
+const ALLOTS: &[(&str, u32, u32)] = &[
+    ("allot 1 0", 1, 0),
+    ("allot 0 64\n", 0, 64),
+    ("allot 4294967295 3", 4_294_967_295, 3),
+];
+
+#[test]
+fn requests_are_read(rt: HostRuntime) {
+    for (text, ino) in GRANTS {
+        let line = RawLine::GrantWrite(*ino);
+        assert!(rt;
+            says(rt.alloc(), text.as_bytes(), line) == Some(true),
+            "{text}"
+        );
+    }
+    for (text, pages, inodes) in ALLOTS {
+        let line = RawLine::Allot {
+            pages: *pages,
+            inodes: *inodes,
+        };
+        assert!(rt;
+            says(rt.alloc(), text.as_bytes(), line) == Some(true),
+            "{text}"
+        );
+    }
+}
+
+const POKES: &[(&str, Spot, u32, &[u8])] = &[
+    ("poke body 5 16 00ff", Spot::Body(5), 16, &[0x00, 0xff]),
+    ("poke index 5 1 8 0a", Spot::Index(5, 1), 8, &[0x0a]),
+    ("poke block 2 0 0 4a9f", Spot::Block(2, 0), 0, &[0x4a, 0x9f]),
+    ("poke fresh 9 4095 61", Spot::Fresh(9), 4095, &[0x61]),
+];
+
+fn says_poke(alloc: Global, text: &str, at: Spot, offset: u32, bytes: &[u8]) -> Option<bool> {
+    let bytes = List::from_vec(bytes.to_vec(alloc).ok()?);
+    says(alloc, text.as_bytes(), RawLine::Poke { at, offset, bytes })
+}
+
+#[test]
+fn pokes_are_read(rt: HostRuntime) {
+    for (text, at, offset, bytes) in POKES {
+        assert!(rt;
+            says_poke(rt.alloc(), text, *at, *offset, bytes) == Some(true),
+            "{text}"
+        );
+    }
+}
+
+/// The text, and the inode numbers of files, the page numbers and the inode numbers that it names.
+const RELEASES: &[(&str, &[u32], &[u32], &[u32])] = &[
+    ("release - - -", &[], &[], &[]),
+    ("release 2,1,10 9 7,8\n", &[2, 1, 10], &[9], &[7, 8]),
+];
+
+fn list(alloc: Global, numbers: &[u32]) -> Option<List<u32>> {
+    Some(List::from_vec(numbers.to_vec(alloc).ok()?))
+}
+
+fn says_release(
+    alloc: Global,
+    text: &str,
+    inos: &[u32],
+    pages: &[u32],
+    inodes: &[u32],
+) -> Option<bool> {
+    let line = RawLine::Release {
+        inos: list(alloc, inos)?,
+        pages: list(alloc, pages)?,
+        inodes: list(alloc, inodes)?,
+    };
+    says(alloc, text.as_bytes(), line)
+}
+
+#[test]
+fn releases_are_read(rt: HostRuntime) {
+    for (text, inos, pages, inodes) in RELEASES {
+        assert!(rt;
+            says_release(rt.alloc(), text, inos, pages, inodes) == Some(true),
+            "{text}"
+        );
+    }
+}
+
+/// Lines that have none of the forms.
+const UNBUILT: &[&str] = &[
+    "grant",
+    "grant write",
+    "grant write 02",
+    "grant write 00",
+    "grant write 4294967296",
+    "grant write 42949672950",
+    "grant write +2",
+    "grant write -2",
+    "grant write 2a",
+    "grant write ",
+    "grant write 2 ",
+    "grant write 2 3",
+    "grant write 2\r",
+    "grant  write 2",
+    " grant write 2",
+    "grant read 2",
+    "Grant write 2",
+    "allot",
+    "allot 1",
+    "allot 1 ",
+    "allot 1 -",
+    "allot 01 2",
+    "allot 1 02",
+    "allot 4294967296 0",
+    "allot 1,2 3",
+    "allot 1 2 3",
+    "poke body 2 0",
+    "poke body 2 0 ",
+    "poke body 2 0 0 4a",
+    "poke fresh 2 0 0 4a",
+    "poke block 2 0 4a",
+    "poke index 2 0 4a",
+    "poke block 2 0 0 4A",
+    "poke block 2 0 0 4",
+    "poke block 2 0 0 4g",
+    "poke block 2 0 0 0x4a",
+    "poke block 2 0 0 4a 4a",
+    "poke page 2 0 4a",
+    "release - -",
+    "release - - - -",
+    "release 2,2 - -",
+    "release - 1,3,1 -",
+    "release 2, - -",
+    "release ,2 - -",
+    "release 2,03 - -",
+    "release -,2 - -",
+];
+
+fn is_unbuilt(alloc: Global, line: &[u8]) -> Option<bool> {
+    Some(second_line(alloc, line)?.err() == Some(ScriptFault::Unbuilt(2)))
+}
+
+#[test]
+fn other_lines_are_unbuilt(rt: HostRuntime) {
+    for line in UNBUILT {
+        assert!(rt;
+            is_unbuilt(rt.alloc(), line.as_bytes()) == Some(true),
+            "{line}"
+        );
+    }
+}
+
+/// Whether 4096 bytes of two digits each are read, and one more isn't.
+fn counts_bytes(alloc: Global) -> Option<bool> {
+    let mut line = b"poke fresh 9 0 ".to_vec(alloc).ok()?;
+    line.resize(line.len() + 8192, b'7').ok()?;
+    let poke = RawLine::Poke {
+        at: Spot::Fresh(9),
+        offset: 0,
+        bytes: List::from_vec(vec![in alloc; 0x77; 4096].ok()?),
+    };
+    let is_read = says(alloc, &line, poke)?;
+    line.extend_from_slice(b"77").ok()?;
+    Some(is_read && is_unbuilt(alloc, &line)?)
+}
+
+#[test]
+fn bytes_are_counted(rt: HostRuntime) {
+    assert!(rt; counts_bytes(rt.alloc()) == Some(true));
+}
+
+/// Each line that says something has its own number.
+fn numbers_lines(alloc: Global) -> Option<bool> {
+    let script = b"#\nlib 1 raw 0 0\n\ngrant write 2\n#\ngrant write 3\n";
+    let wanted = vec![in alloc;
+        ScriptLine {
+            number: 4,
+            line: RawLine::GrantWrite(2),
+        },
+        ScriptLine {
+            number: 6,
+            line: RawLine::GrantWrite(3),
+        },
+    ]
+    .ok()?;
+    Some(read_script(alloc, script) == Ok(wanted))
+}
+
+#[test]
+fn lines_are_numbered(rt: HostRuntime) {
+    assert!(rt; numbers_lines(rt.alloc()) == Some(true));
+}
+
+/// Scripts, and the number of the first line that isn't built, or 0.
+const SCRIPTS: &[(&str, u32)] = &[
+    ("", 1),
+    ("\n", 1),
+    ("# lib 1 raw 0 0\n#\n", 1),
+    ("lib 1 raw 0 0", 0),
+    ("lib 1 raw 0 0\n", 0),
+    ("# first\n\nlib 1 raw 0 0\n", 0),
+    ("lib 1 raw 0 0\n#last\n\n#", 0),
+    ("lib 1 raw 0 0\nlib 2 raw 0 0\n", 2),
+    ("lib 1 raw 0 0\n#\nlib 1 raw 0 0", 3),
+    ("lib 1 raw 0 0\n\ngrant write 2\nsettle\n", 4),
+    ("#\nsettle\nlib 1 raw 0 0\n", 2),
+    ("#\nsettle\nstat /\n", 1),
+    ("#\nallot 1 0\nlib 1 raw 0 0\n", 2),
+    ("#\nallot 1 0\n", 1),
+    ("\n\nlib 1 honest 0 0\n", 3),
+    ("\nlib 1 raw 0 0 \n", 2),
+    ("\nlib 1 raw 0 0\r\n", 2),
+    ("\nlib 1 raw 0 00\n", 2),
+    ("\n lib 1 raw 0 0\n", 1),
+    ("lib 1 raw 0 0\n \n", 2),
+    ("\nlibrary\n", 1),
+    ("grant write 2\nlib 1 raw 0 0\n", 1),
+    ("lib 1 raw 0 0\ngrant write 2\ngrant write x\nsettle\n", 3),
+];
+
+/// The number of the line that isn't built, or 0.
+fn unbuilt(alloc: Global, script: &[u8]) -> Option<u32> {
+    match read_script(alloc, script) {
+        Ok(_) => Some(0),
+        Err(ScriptFault::Unbuilt(number)) => Some(number),
+        Err(ScriptFault::NoMemory) => None,
+    }
+}
+
+#[test]
+fn scripts_are_read(rt: HostRuntime) {
+    for (script, line) in SCRIPTS {
+        assert!(rt;
+            unbuilt(rt.alloc(), script.as_bytes()) == Some(*line),
+            "{script}"
+        );
+    }
+}
+
+/// The line that isn't built where the library's line, of 14 bytes, and lines without bytes make up a
+/// script of so many, and these follow.
+fn unbuilt_behind(alloc: Global, length: usize, last: &[u8]) -> Option<u32> {
+    let mut script = b"lib 1 raw 0 0\n".to_vec(alloc).ok()?;
+    script.resize(length, b'\n').ok()?;
+    script.extend_from_slice(last).ok()?;
+    unbuilt(alloc, &script)
+}
+
+#[test]
+fn lines_are_counted(rt: HostRuntime) {
+    assert!(rt; unbuilt_behind(rt.alloc(), 14 + 16_383, b"") == Some(0));
+    assert!(rt; unbuilt_behind(rt.alloc(), 14 + 16_383, b"\n") == Some(16_385));
+    assert!(rt; unbuilt_behind(rt.alloc(), 14 + 16_383, b"\nx") == Some(16_385));
+}

@@ -1,0 +1,14 @@
+use Rattle.std.proofs.Common.{◌≡◌, List, [], ◌++◌, length}
+use Rattle.trio_turn.specs.declared.seat.LibSeat.{LibSeat}
+use Rattle.trio_turn.specs.declared.view.Stage.TheVariants.{Idle}
+use Rattle.trio_turn.specs.inner.Gathered.{HasEach}
+use Rattle.trio_turn.proofs.gather.gather.Given as goal
+
+-- the seats that are not left are joined
+abbrev pub invariant-loop-seat : goal.invariant-loop-seat
+invariant-loop-seat g l =
+    (l.token.table_id ≡ l.initial.token.table_id) × (l.token.me.1 ≡ []) × (l.token.me.0.stage ≡ Idle)
+    × ((joined : List (LibSeat g.row.T.Denot)) × (l.fn.seats.items ≡ l.seats.items ++ joined) × HasEach l.token.me.0.libraries joined)
+
+abbrev pub decreases-loop-seat : goal.decreases-loop-seat
+decreases-loop-seat g l = length l.seats.items
