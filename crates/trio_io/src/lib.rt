@@ -22,6 +22,8 @@ mod memory;
 mod outside;
 mod plan;
 mod real;
+mod replacing;
+mod streams;
 mod sure;
 mod whole;
 
@@ -33,6 +35,3 @@ pub use plan::FailingCalls;
 pub use real::{RealFiles, StdoutSink};
 pub use sure::{SureFiles, SureSink};
 pub use whole::{ReadWholeFault, read_whole};
-
-#[cfg(test)]
-mod tests;

@@ -1,6 +1,6 @@
 //! Files and a sink in memory, which fail at the calls that they are told to fail at.
 
-ghost use Rattle.std.specs.Prelude.{◌≡◌, ◌≤◌, OnErr, length, take, ◌↔◌, IsTrue, IsErr, true, None, Some, [], Contains, IfOk, IfSome, IsSomeAnd, OnOk, vec_len, List, ℕ};
+ghost use Rattle.std.specs.Prelude.{◌≡◌, ◌≤◌, OnErr, length, take, ◌↔◌, ◌⊎◌, IsTrue, IsErr, true, None, Some, [], Contains, IfOk, IfSome, IsSomeAnd, OnOk, vec_len, List, ℕ};
 ghost use Rattle.std.specs.Io.KnownBytes.{Appends};
 ghost use Rattle.std.specs.Option.{option_copied};
 ghost use Rattle.trio_io.specs.Kept.{bytes_at, content_at};
@@ -137,8 +137,8 @@ impl Files for MemFiles {
         ensures files { OnlyReads name.now (⟦<MemFiles as Files>⟧.seen self.old) (⟦<MemFiles as Files>⟧.seen self.new) }
         ensures counted { ⟦<MemFiles as Planned>⟧.plan self.new
             ≡ counted (⟦<MemFiles as Planned>⟧.plan self.old) }
-        ensures fails { FailsNext (⟦<MemFiles as Planned>⟧.plan self.old) → IsErr result }
-        ensures absent { ⟦<MemFiles as InMemory>⟧.kept self.old name.now ≡ None → IsErr result }
+        ensures fails { IsErr result ↔ (FailsNext (⟦<MemFiles as Planned>⟧.plan self.old)
+            ⊎ (⟦<MemFiles as InMemory>⟧.kept self.old name.now ≡ None)) }
         ensures kept { ⟦<MemFiles as InMemory>⟧.kept self.new ≡ ⟦<MemFiles as InMemory>⟧.kept self.old }
     {
         let i = place(&self.counts.names, name);

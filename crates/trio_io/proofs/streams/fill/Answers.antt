@@ -1,7 +1,7 @@
 use Rattle.std.proofs.Common.{rules}
 use Rattle.trio_io.proofs.Moving.{Filled-took, Filled-kept}
-use Rattle.trio_io.proofs.real.fill.Goals.{in-Ok, in-Err+else-ne}
-use Rattle.trio_io.proofs.real.fill.Goals as goal
+use Rattle.trio_io.proofs.streams.fill.Goals.{in-Ok, in-Err+else-ne}
+use Rattle.trio_io.proofs.streams.fill.Goals as goal
 
 pub loop-preserved : goal.loop-preserved
 loop-preserved g c = elim c.match-read.branch [

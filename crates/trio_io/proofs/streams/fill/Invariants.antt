@@ -1,5 +1,5 @@
 use Rattle.trio_io.proofs.Moving.{Filled}
-use Rattle.trio_io.proofs.real.fill.Given as goal
+use Rattle.trio_io.proofs.streams.fill.Given as goal
 
 abbrev pub invariant-loop : goal.invariant-loop
 invariant-loop g l =

@@ -1,7 +1,7 @@
 use Rattle.std.proofs.Common.{ℕ, refl, arith, length-take, length-drop}
 use Rattle.trio_io.proofs.Moving.{Written-took, Written-kept}
-use Rattle.trio_io.proofs.real.write_all.Goals.{in-Ok, in-Err+else-ne}
-use Rattle.trio_io.proofs.real.write_all.Goals as goal
+use Rattle.trio_io.proofs.streams.write_all.Goals.{in-Ok, in-Err+else-ne}
+use Rattle.trio_io.proofs.streams.write_all.Goals as goal
 
 pub loop-preserved : goal.loop-preserved
 loop-preserved g c = elim c.match-write.branch [

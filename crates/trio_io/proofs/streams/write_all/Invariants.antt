@@ -1,5 +1,5 @@
 use Rattle.trio_io.proofs.Moving.{Written}
-use Rattle.trio_io.proofs.real.write_all.Given as goal
+use Rattle.trio_io.proofs.streams.write_all.Given as goal
 
 abbrev pub invariant-loop : goal.invariant-loop
 invariant-loop g l =
