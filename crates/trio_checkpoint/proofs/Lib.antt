@@ -2,4 +2,3 @@ pub mod Bodies
 pub mod Chains
 pub mod Copies
 pub mod Restoring
-pub mod Following

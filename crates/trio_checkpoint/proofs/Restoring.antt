@@ -1,5 +1,5 @@
 -- Pages that are put back.
-use Rattle.std.proofs.Common.{◌≡◌, ℕ, true, ltb, List, [], ◌∷◌, ◌++◌, All, length, set, get_or, Option, Some, None, IsTrue, inl, inr, ◌&&◌, refl, sym, ap, ◌∙◌}
+use Rattle.std.proofs.Common.{◌≡◌, ℕ, true, ltb, List, [], ◌∷◌, ◌++◌, All, length, set, get_or, Option, Some, None, IsTrue, inl, inr, ◌&&◌, refl, sym, ap, subst, ◌∙◌}
 use Rattle.std.proofs.Math.ListN.{length-set}
 use Rattle.std.proofs.lemmas.Bool.{and_parts, and_from, cases_lt, lt-ltb}
 use Rattle.std.proofs.lemmas.List.{map-append, set-get_or, get_or_past}
@@ -7,6 +7,7 @@ use Rattle.std.proofs.lemmas.List.Folds.{list_all-append}
 use Rattle.std.proofs.lemmas.List.Elements.{All-head, All-tail}
 use Rattle.trio_rights.specs.declared.kind.Kind.{Kind}
 use Rattle.trio_rights.specs.declared.kind.Kind.TheVariants.{Regular, Directory}
+use Rattle.trio_page.specs.Home.{Pages}
 use Rattle.trio_lists.specs.Marked.{all_below}
 use Rattle.trio_layout.specs.Core.{Core, page_of}
 use Rattle.trio_rights.specs.Sheets.{Sheet, sheet_numbers, with_pages}
@@ -69,3 +70,15 @@ restoring_keeps core Directory index blocks =
     with_pages-append (sheets_of core index) (sheets_of core blocks) core.pages
     ∙ ap (with_pages (sheets_of core blocks)) (sheets_back core index)
     ∙ sheets_back core blocks
+
+-- pages that are put after others are within too
+pub within_still : (pages now : Pages) (xs ys : List Sheet) → IsTrue (all_below (length pages.pages) (sheet_numbers (xs ++ ys))) → now ≡ record pages { pages = with_pages xs pages.pages } → IsTrue (all_below (length now.pages) (sheet_numbers ys))
+within_still pages now xs ys below is =
+    let n : length now.pages ≡ length pages.pages = ap (λ (h : Pages). length h.pages) is ∙ length-with_pages xs pages.pages in
+    subst (λ k. IsTrue (all_below k (sheet_numbers ys))) (sym n) (below_parts (length pages.pages) xs ys below).1
+
+pub put_both : (pages now after : Pages) (xs ys : List Sheet) → now ≡ record pages { pages = with_pages xs pages.pages } → after ≡ record now { pages = with_pages ys now.pages } → after ≡ record pages { pages = with_pages (xs ++ ys) pages.pages }
+put_both pages now after xs ys first second =
+    second
+    ∙ ap (λ (h : Pages). record h { pages = with_pages ys h.pages }) first
+    ∙ ap (λ ps. record pages { pages = ps }) (sym (with_pages-append xs ys pages.pages))

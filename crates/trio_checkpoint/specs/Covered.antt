@@ -1,7 +1,7 @@
 -- What a checkpoint has, and what becomes of it.
-use Rattle.std.specs.Prelude.{ℕ, ◌==◌, Bool, List, [], ◌++◌, map, Option, None, is_some, slice_index_or, if◌then◌else◌, Result}
+use Rattle.std.specs.Prelude.{ℕ, ◌==◌, Bool, List, [], ◌++◌, map, Option, is_some, if◌then◌else◌, Result}
 use Rattle.std.specs.List.{list_all, find}
-use Rattle.std.specs.Option.{option_map, option_map_or}
+use Rattle.std.specs.Option.{option_map}
 use Rattle.trio_rights.specs.declared.kind.Kind.{Kind}
 use Rattle.trio_rights.specs.ByKind.{covers_blocks}
 use Rattle.trio_layout.specs.declared.range.CoreRange.{CoreRange}
@@ -53,15 +53,3 @@ renewed page slot body x = if x.page == page then record { page = x.page; bytes 
 -- these pages, with this body in the slot of the page of this number
 abbrev pub with_body : ℕ → ℕ → List ℕ → List Sheet → List Sheet
 with_body page slot body sheets = map (renewed page slot body) sheets
-
--- a page as it stands among these pages; past their end and where it is absent it has no bytes
-abbrev pub standing : List (Option (List ℕ)) → Sheet → Sheet
-standing pages x = record { page = x.page; bytes = option_map_or (λ bytes. bytes) (slice_index_or pages x.page None) [] }
-
--- each of these pages is there among these pages
-abbrev pub all_stand : List (Option (List ℕ)) → List Sheet → Bool
-all_stand pages sheets = list_all (λ x. is_some (slice_index_or pages x.page None)) sheets
-
--- the bytes of the page of this number, if it is one of these
-abbrev pub page_on : ℕ → List Sheet → Option (List ℕ)
-page_on page sheets = option_map (λ x. x.bytes) (find (λ x. x.page == page) sheets)

@@ -1,6 +1,6 @@
 //! Checkpoints.
 
-ghost use Rattle.std.specs.Prelude.{◌≡◌, ◌<◌, ◌==◌, IfOk, OnOk, IsOk, IsTrue, Ok, is_some, length, map};
+ghost use Rattle.std.specs.Prelude.{◌≡◌, ◌<◌, ◌==◌, IfOk, IsOk, IsTrue, Ok, is_some, length};
 ghost use Rattle.std.specs.List.{find};
 ghost use Rattle.std.specs.Option.{option_copied};
 ghost use Rattle.std.specs.Result.{ForOk};
@@ -8,17 +8,15 @@ ghost use Rattle.trio_lists.specs.Lists.{is_among};
 ghost use Rattle.trio_lists.specs.Marked.{all_below};
 ghost use Rattle.trio_layout.specs.Pages.{covered_of, sheets_of};
 ghost use Rattle.trio_rights.specs.Sheets.{sheet_numbers, with_pages};
-ghost use Rattle.trio_checkpoint.specs.Covered.{all_stand, are_there, body_on, chain_in, core_of, covered_numbers, covered_pages, page_on, standing, with_body};
+ghost use Rattle.trio_checkpoint.specs.Covered.{are_there, body_on, chain_in, core_of, covered_numbers, covered_pages, with_body};
 ghost use Rattle.trio_checkpoint.specs.inner.Steps.{AllStand, AreCopies};
 
 use crate::chain::copy_chain;
-use crate::page_copy::{
-    PageCopy, copy_of, copy_pages, follow_all, put_all_back, put_all_copies, renew_all,
-};
+use crate::page_copy::{PageCopy, copy_of, copy_pages, put_all_back, renew_all};
 use std::alloc::Global;
 use std::marker::Model;
 use trio_layout::{Body, CoreRange};
-use trio_page::{Home, NoMemory, Page, PageNo, Reads};
+use trio_page::{Home, NoMemory, PageNo, Reads};
 use trio_rights::Kind;
 
 /// What a write grant covers of a file: its body, its index pages and, of a directory, its blocks.
@@ -158,40 +156,6 @@ impl Checkpoint {
         ensures numbers { sheet_numbers (covered_pages self.new) ≡ sheet_numbers (covered_pages self.old) }
     {
         renew_all(&mut self.blocks, page, slot, body);
-    }
-
-    /// Takes the bytes that the covered pages, all of them there, have in these pages. The pages stay as they are. Takes no memory.
-    pub fn follow(&mut self, pages: &mut Home, reads: &mut Reads)
-        requires { IsTrue (all_stand pages.old.pages (covered_pages self.old)) }
-        ensures covered { self.new ≡ record self.old {
-          index = map (standing pages.old.pages) self.old.index;
-          blocks = map (standing pages.old.pages) self.old.blocks;
-        } }
-        ensures pages { pages.new.pages ≡ pages.old.pages }
-    {
-        follow_all(&mut self.index, pages, reads);
-        follow_all(&mut self.blocks, pages, reads);
-    }
-
-    /// Puts copies of the covered pages in their places among these pages. `NoMemory`: there was no
-    /// memory for the copies; some of them may be in place.
-    pub fn put_copies(&self, alloc: Global, pages: &mut Home) -> Result<(), NoMemory>
-        requires { IsTrue (all_below (length pages.old.pages) (sheet_numbers (covered_pages self.now))) }
-        ensures { OnOk result (pages.new ≡ record pages.old { pages = with_pages (covered_pages self.now) pages.old.pages }) }
-    {
-        put_all_copies(alloc, &self.index, pages)?;
-        put_all_copies(alloc, &self.blocks, pages)?;
-        Ok(())
-    }
-
-    /// The covered page of this number. `None` exactly where none is covered.
-    pub fn page(&self, no: PageNo) -> Option<&Page>
-        ensures { option_copied result ≡ page_on no.0 (covered_pages self.now) }
-    {
-        match copy_of(&self.index, no) {
-            Some(copy) => Some(copy.page()),
-            None => Some(copy_of(&self.blocks, no)?.page()),
-        }
     }
 
     /// The covered directory page of this number.

@@ -1,12 +1,12 @@
 //! Copies of pages under their numbers.
 
-ghost use Rattle.std.specs.Prelude.{◌≡◌, ◌<◌, ◌+◌, ◌*◌, ◌==◌, IfOk, OnOk, IsSome, IsTrue, None, Some, length, map, slice_index_or, slice_set};
+ghost use Rattle.std.specs.Prelude.{◌≡◌, ◌<◌, ◌+◌, ◌*◌, ◌==◌, IfOk, IsSome, IsTrue, None, Some, length, slice_index_or, slice_set};
 ghost use Rattle.std.specs.List.{find};
 ghost use Rattle.std.specs.Option.{option_copied};
 ghost use Rattle.trio_layout.specs.Entries.{body_in_slot};
 ghost use Rattle.trio_lists.specs.Marked.{all_below};
 ghost use Rattle.trio_rights.specs.Sheets.{sheet_numbers, with_pages};
-ghost use Rattle.trio_checkpoint.specs.Covered.{all_stand, renewed, standing, with_body};
+ghost use Rattle.trio_checkpoint.specs.Covered.{renewed, with_body};
 ghost use Rattle.trio_checkpoint.specs.inner.Steps.{AreCopies, AllStand, IsCopy};
 
 use std::alloc::Global;
@@ -58,13 +58,6 @@ impl PageCopy {
         self.number
     }
 
-    /// The page itself.
-    pub(crate) fn page(&self) -> &Page
-        ensures { result.now ≡ self.now.bytes }
-    {
-        &self.page
-    }
-
     /// The body in a slot of a directory page.
     pub(crate) fn body(&self, slot: u16) -> &[u8; 64]
         requires { slot < 16 }
@@ -82,27 +75,6 @@ impl PageCopy {
         if self.number == page.0 {
             put_bytes_in(self.page.bytes_mut(), body_offset(slot), body);
         }
-    }
-
-    /// Takes the bytes that the page of this number, which is there, has in these pages.
-    pub(crate) fn follow(&mut self, pages: &mut Home, reads: &mut Reads)
-        requires { IsSome (slice_index_or pages.old.pages self.old.page None) }
-        ensures copy { self.new ≡ standing pages.old.pages self.old }
-        ensures pages { pages.new.pages ≡ pages.old.pages }
-    {
-        let Some(page) = pages.page(PageNo(self.number), reads) else {
-            unreachable!()
-        };
-        self.page.copy_from(page);
-    }
-
-    /// Puts a copy of the page in its place among these pages.
-    pub(crate) fn put_copy(&self, alloc: Global, pages: &mut Home) -> Result<(), NoMemory>
-        requires { self.now.page < length pages.old.pages }
-        ensures { OnOk result (pages.new ≡ record pages.old { pages = slice_set pages.old.pages self.now.page (Some self.now.bytes) }) }
-    {
-        pages.put(PageNo(self.number), self.page.copy(alloc)?);
-        Ok(())
     }
 
     /// Puts the page back in its place at home.
@@ -165,30 +137,4 @@ pub(crate) fn put_all_back(copies: Vec<PageCopy>, home: &mut Home)
     for copy in copies {
         copy.put_back(home);
     }
-}
-
-/// Takes the bytes that the pages of these numbers, which are there, have in these pages.
-pub(crate) fn follow_all(copies: &mut [PageCopy], pages: &mut Home, reads: &mut Reads)
-    requires { IsTrue (all_stand pages.old.pages copies.old) }
-    ensures copies { copies.new ≡ map (standing pages.old.pages) copies.old }
-    ensures pages { pages.new.pages ≡ pages.old.pages }
-{
-    for copy in copies.iter_mut() {
-        copy.follow(pages, reads);
-    }
-}
-
-/// Puts copies of the pages in their places among these pages.
-pub(crate) fn put_all_copies(
-    alloc: Global,
-    copies: &[PageCopy],
-    pages: &mut Home,
-) -> Result<(), NoMemory>
-    requires { IsTrue (all_below (length pages.old.pages) (sheet_numbers copies.now)) }
-    ensures { OnOk result (pages.new ≡ record pages.old { pages = with_pages copies.now pages.old.pages }) }
-{
-    for copy in copies {
-        copy.put_copy(alloc, pages)?;
-    }
-    Ok(())
 }

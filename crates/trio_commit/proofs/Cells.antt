@@ -9,6 +9,7 @@ use Rattle.std.proofs.lemmas.List.{get_or_past, get_or-map, length-map}
 use Rattle.trio_lists.specs.Lists.{In, is_among}
 use Rattle.trio_lists.specs.Marked.{all_below}
 use Rattle.trio_lists.proofs.Marked.{below_at, is_among-push}
+use Rattle.trio_lists.proofs.Filters.{get_or-In}
 use Rattle.trio_lists.proofs.Members.{In-map, is_among-In, list_all-In, list_all-each, map-In}
 use Rattle.trio_lists.proofs.New.{is_among-not}
 use Rattle.trio_rights.specs.declared.kind.Kind.TheVariants.{Regular}
@@ -150,19 +151,10 @@ no_file = record {
 }
 
 pub entry_number : (es : List EntryData) (i : ℕ) (d : EntryData) → i < length es → In (get_or es i d).ino (map (λ (e : EntryData). e.ino) es)
-entry_number [] i d lt = absurd (omega arith)
-entry_number (e ∷ es) zero d lt = inl refl
-entry_number (e ∷ es) (suc i) d lt = inr (entry_number es i d (omega arith))
+entry_number es i d lt = In-map (λ (e : EntryData). e.ino) (get_or es i d) es (get_or-In es i d lt)
 
 pub file_number : (fs : List FileData) (i : ℕ) (d : FileData) → i < length fs → In (get_or fs i d).ino (map (λ (f : FileData). f.ino) fs)
-file_number [] i d lt = absurd (omega arith)
-file_number (f ∷ fs) zero d lt = inl refl
-file_number (f ∷ fs) (suc i) d lt = inr (file_number fs i d (omega arith))
-
-pub In_at : (ns : List ℕ) (i : ℕ) → i < length ns → In (get_or ns i 0) ns
-In_at [] i lt = absurd (omega arith)
-In_at (n ∷ ns) zero lt = inl refl
-In_at (n ∷ ns) (suc i) lt = inr (In_at ns i (omega arith))
+file_number fs i d lt = In-map (λ (f : FileData). f.ino) (get_or fs i d) fs (get_or-In fs i d lt)
 
 pub size_kept : (l : Listing) (now after : List (Option Row)) (n : ℕ) → after ≡ (if is_listed l n then now else set now n None) → length after ≡ length now
 size_kept l now after n is = ap length is ∙ by (is_listed l n)

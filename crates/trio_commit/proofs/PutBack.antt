@@ -17,8 +17,7 @@ use Rattle.trio_tables.proofs.OutLemmas.{length-with_all, with_all-read}
 use Rattle.trio_allot.proofs.OutLemmas.{with_all-push}
 use Rattle.trio_lease.specs.Shown.{LentFile}
 use Rattle.trio_checkpoint.specs.Covered.{Checkpointed, covered_pages}
-use Rattle.trio_checkpoint.proofs.Following.{put_both}
-use Rattle.trio_checkpoint.proofs.Restoring.{below_parts, length-with_pages}
+use Rattle.trio_checkpoint.proofs.Restoring.{below_parts, length-with_pages, put_both}
 use Rattle.trio_commit.specs.Store.{checkpoint_at, covered_at}
 use Rattle.trio_commit.specs.inner.Files.{lease_numbers}
 use Rattle.std.proofs.lemmas.List.{get_or_past}

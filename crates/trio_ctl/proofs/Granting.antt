@@ -37,7 +37,7 @@ use Rattle.trio_rights.specs.Sheets.{Sheet, sheet_numbers, without_pages}
 use Rattle.trio_state.specs.State.{OpenGrant, State, covered, creds_of, logged, settled}
 use Rattle.trio_state.specs.Step.{Grant, Granted, NotGranted, Step}
 use Rattle.trio_tables.specs.Out.{lib_at}
-use Rattle.trio_checkpoint.specs.Covered.{Checkpointed, chain_in, core_of, covered_pages, page_on}
+use Rattle.trio_checkpoint.specs.Covered.{Checkpointed, chain_in, core_of, covered_pages}
 use Rattle.trio_commit.specs.declared.store.Store.{Store}
 use Rattle.trio_commit.specs.Store.{checkpoint_at, covered_at, state_of, with_checkpoint}
 use Rattle.trio_laws.proofs.Checkpoints.{checkpoint_settled}
@@ -51,7 +51,7 @@ use Rattle.trio_surveys.proofs.SheetLaws.{page_at}
 use Rattle.trio_surveys.proofs.Sheets.{length-without, page_from, sheets_all}
 use Rattle.trio_ctl.specs.Answers.{grant_fault_answer, Admits}
 use Rattle.trio_ctl.specs.Ctl.{IsControlled}
-use Rattle.trio_ctl.specs.inner.Lending.{IsLendable, StandsSomewhere, body_standing, page_standing}
+use Rattle.trio_ctl.specs.inner.Lending.{IsLendable, StandsSomewhere, body_standing, page_on, page_standing}
 use Rattle.trio_ctl.specs.Open.{Opened, grant_on, grants_in, keyed, lease_of, without_checkpoint}
 use Rattle.trio_ctl.specs.Stored.{CoversLent, IsStored, superblock_at_home}
 use Rattle.trio_ctl.proofs.LendLemmas.{same_chain, sheets_same}

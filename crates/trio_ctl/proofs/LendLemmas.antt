@@ -24,8 +24,8 @@ use Rattle.trio_lease.specs.Views.{lent_sheet}
 use Rattle.trio_rights.specs.Sheets.{Sheet, sheet_numbers, without_pages}
 use Rattle.trio_rights.specs.ByKind.{covers_blocks}
 use Rattle.trio_checkpoint.specs.Covered.{Checkpointed, are_there, core_of, covered_numbers, covered_pages}
-use Rattle.trio_checkpoint.proofs.Following.{all_at}
-use Rattle.trio_lists.proofs.Members.{In-is_among}
+use Rattle.trio_lists.proofs.Filters.{get_or-In}
+use Rattle.trio_lists.proofs.Members.{In-is_among, list_all-In}
 use Rattle.trio_lists.proofs.New.{are_new-before, are_new-fewer}
 use Rattle.trio_surveys.proofs.SheetLaws.{page_at}
 use Rattle.trio_surveys.proofs.Sheets.{Pages, without_apart}
@@ -48,7 +48,7 @@ next_apart ns i lt new =
 -- the page of a number is there
 there_at : (pages : List (Option (List ℕ))) (range : CoreRange) (ns : List ℕ) (i : ℕ) → i < length ns → are_there (core_of pages range) ns ≡ true → (bytes : List ℕ) × (page_of (core_of pages range) (get_or ns i 0) ≡ Some bytes) × (get_or pages (get_or ns i 0) None ≡ Some bytes)
 there_at pages range ns i lt all =
-    by (is_core range (get_or ns i 0)) (get_or pages (get_or ns i 0) None) (all_at (λ p. is_some (page_of (core_of pages range) p)) ns i 0 lt all)
+    by (is_core range (get_or ns i 0)) (get_or pages (get_or ns i 0) None) (list_all-In (λ p. is_some (page_of (core_of pages range) p)) (get_or ns i 0) ns all (get_or-In ns i 0 lt))
   where
     by : (b : Bool) (o : Option (List ℕ)) → is_some (if b then o else None) ≡ true → (bytes : List ℕ) × ((if b then o else None) ≡ Some bytes) × (o ≡ Some bytes)
     by true None e = absurd cc

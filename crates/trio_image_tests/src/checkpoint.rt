@@ -166,17 +166,3 @@ fn regular_file_returns(alloc: Global) -> Option<bool> {
 fn block_of_a_regular_file_stays_as_written(rt: HostRuntime) {
     assert!(rt; regular_file_returns(rt.alloc()) == Some(true));
 }
-
-fn puts_copies(alloc: Global) -> Option<bool> {
-    let mut home = home_of(alloc).ok()?;
-    let checkpoint = taken(alloc, &mut home, Kind::Directory)?;
-    overwrite(alloc, &mut home)?;
-    checkpoint.put_copies(alloc, &mut home).ok()?;
-    let is_put = has(&mut home, &[(3, 0, 4), (4, 0, 0x0909_0909_0909_0909)]);
-    Some(is_put && number_on(&mut home, 5, 0).is_none())
-}
-
-#[test]
-fn copies_are_put_in_place(rt: HostRuntime) {
-    assert!(rt; puts_copies(rt.alloc()) == Some(true));
-}

@@ -1,12 +1,14 @@
 -- What is lent of a file. Cited by private functions alone.
-use Rattle.std.specs.Prelude.{ℕ, ◌<◌, ◌++◌, List, [], Option, None, IsSome, IsTrue, slice_index_or}
-use Rattle.std.specs.Option.{option_map_or}
+use Rattle.std.specs.Prelude.{ℕ, ◌==◌, ◌<◌, ◌++◌, List, [], Option, None, IsSome, IsTrue, slice_index_or}
+use Rattle.std.specs.List.{find}
+use Rattle.std.specs.Option.{option_map, option_map_or}
 use Rattle.trio_rights.specs.Row.{Row}
 use Rattle.trio_layout.specs.Chain.{Chain}
 use Rattle.trio_layout.specs.Core.{Core}
 use Rattle.trio_layout.specs.Entries.{body_in_slot}
 use Rattle.trio_lists.specs.Lists.{are_new}
-use Rattle.trio_checkpoint.specs.Covered.{are_there, page_on}
+use Rattle.trio_rights.specs.Sheets.{Sheet}
+use Rattle.trio_checkpoint.specs.Covered.{are_there}
 use Rattle.trio_commit.specs.declared.store.Store.{Store}
 use Rattle.trio_commit.specs.Store.{checkpoint_at}
 
@@ -14,6 +16,10 @@ use Rattle.trio_commit.specs.Store.{checkpoint_at}
 pub record IsLendable (core : Core) (chain : Chain) : Type 0 where
   pub there : IsTrue (are_there core (chain.index ++ chain.blocks))
   pub once : IsTrue (are_new [] (chain.index ++ chain.blocks))
+
+-- the bytes of the page of this number, if it is one of these
+abbrev pub page_on : ℕ → List Sheet → Option (List ℕ)
+page_on page sheets = option_map (λ x. x.bytes) (find (λ x. x.page == page) sheets)
 
 -- the directory page at the place of a row: the one that the checkpoint of the directory has where there is one, else the one
 -- at home

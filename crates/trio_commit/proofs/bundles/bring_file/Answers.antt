@@ -4,8 +4,7 @@ use Rattle.trio_lease.specs.Shown.{Shown}
 use Rattle.trio_rights.specs.Sheets.{sheet_numbers, with_pages}
 use Rattle.trio_tables.specs.Out.{with_all}
 use Rattle.trio_tables.proofs.OutLemmas.{length-with_all}
-use Rattle.trio_checkpoint.proofs.Following.{put_both, within_still}
-use Rattle.trio_checkpoint.proofs.Restoring.{below_parts}
+use Rattle.trio_checkpoint.proofs.Restoring.{below_parts, put_both, within_still}
 use Rattle.trio_commit.specs.inner.Files.{lent_sheets}
 use Rattle.trio_commit.proofs.Bringing.{disowned_both}
 use Rattle.trio_commit.proofs.bundles.bring_file.Goals as goal

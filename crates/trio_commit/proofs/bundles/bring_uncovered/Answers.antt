@@ -5,8 +5,7 @@ use Rattle.trio_lists.specs.Marked.{all_below}
 use Rattle.trio_page.specs.Home.{Pages}
 use Rattle.trio_lease.specs.Views.{fresh_sheet}
 use Rattle.trio_rights.specs.Sheets.{Sheet, sheet_numbers, with_pages}
-use Rattle.trio_checkpoint.proofs.Following.{put_both, within_still}
-use Rattle.trio_checkpoint.proofs.Restoring.{below_parts}
+use Rattle.trio_checkpoint.proofs.Restoring.{below_parts, put_both, within_still}
 use Rattle.trio_commit.specs.inner.Files.{uncovered_sheets}
 use Rattle.trio_commit.proofs.Bringing.{All-below, places_of, returned_are, less_within, sheets_are, uncovered_are}
 use Rattle.trio_commit.proofs.Outs.{fresh_is, fresh_numbers}

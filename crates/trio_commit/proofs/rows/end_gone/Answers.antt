@@ -1,17 +1,18 @@
 use Rattle.std.proofs.Common.{◌∙◌, get_or, subst, arith}
 use Rattle.trio_lists.specs.Lists.{In}
-use Rattle.trio_commit.proofs.Cells.{In_at, all_gone, gone_turn, size_kept}
+use Rattle.trio_lists.proofs.Filters.{get_or-In}
+use Rattle.trio_commit.proofs.Cells.{all_gone, gone_turn, size_kept}
 use Rattle.trio_commit.proofs.rows.end_gone.Goals as goal
 
 pub end_unlisted-requires-clause-some : goal.end_unlisted-requires-clause-some
 end_unlisted-requires-clause-some c =
     let held = c.held-ino-items.result.now in
-    (c.requires (get_or held c.loop-ino.ino-index 0) (subst (In (get_or held c.loop-ino.ino-index 0)) c.held-ino-items.ensures (In_at held c.loop-ino.ino-index (omega arith)))).0
+    (c.requires (get_or held c.loop-ino.ino-index 0) (subst (In (get_or held c.loop-ino.ino-index 0)) c.held-ino-items.ensures (get_or-In held c.loop-ino.ino-index 0 (omega arith)))).0
 
 pub end_unlisted-requires-clause-within : goal.end_unlisted-requires-clause-within
 end_unlisted-requires-clause-within c =
     let held = c.held-ino-items.result.now in
-    let below = (c.requires (get_or held c.loop-ino.ino-index 0) (subst (In (get_or held c.loop-ino.ino-index 0)) c.held-ino-items.ensures (In_at held c.loop-ino.ino-index (omega arith)))).1 in
+    let below = (c.requires (get_or held c.loop-ino.ino-index 0) (subst (In (get_or held c.loop-ino.ino-index 0)) c.held-ino-items.ensures (get_or-In held c.loop-ino.ino-index 0 (omega arith)))).1 in
     let size = c.loop-ino.invariant.size in
     omega (arith, below, size)
 
@@ -19,7 +20,7 @@ pub loop-ino-preserved : goal.loop-ino-preserved
 loop-ino-preserved c =
     let turn = c.loop-ino in
     let held = c.held-ino-items.result.now in
-    let below = (c.requires (get_or held turn.ino-index 0) (subst (In (get_or held turn.ino-index 0)) c.held-ino-items.ensures (In_at held turn.ino-index (omega arith)))).1 in
+    let below = (c.requires (get_or held turn.ino-index 0) (subst (In (get_or held turn.ino-index 0)) c.held-ino-items.ensures (get_or-In held turn.ino-index 0 (omega arith)))).1 in
     let size = turn.invariant.size in
     record {
       rows = gone_turn c.args.listing.now.listing c.args.rows.now turn.rows c.end_unlisted.new.rows held turn.ino-index (omega arith) (omega (arith, below, size)) c.end_unlisted.ensures turn.invariant.rows;
