@@ -1,12 +1,8 @@
 -- What a store keeps, and the state whose store it is.
-use Rattle.std.specs.Prelude.{◌≡◌, ℕ, ◌-◌, ◌==◌, ◌&&◌, List, [], map, Option, None, Some, length, if◌then◌else◌, IsFalse, slice_index_or}
-use Rattle.std.specs.List.{list_any}
+use Rattle.std.specs.Prelude.{ℕ, ◌-◌, List, [], map, Option, None, length, if◌then◌else◌, slice_index_or}
 use Rattle.std.specs.Option.{option_map_or}
 use Rattle.trio_rights.specs.declared.rights.Creds.{Creds}
-use Rattle.trio_lists.specs.Lists.{In}
-use Rattle.trio_rights.specs.ByKind.{covers_blocks}
-use Rattle.trio_rights.specs.Sheets.{Sheet, sheet_numbers}
-use Rattle.trio_nodes.specs.declared.grant.GrantKind.TheVariants.{Write}
+use Rattle.trio_rights.specs.Sheets.{Sheet}
 use Rattle.trio_nodes.specs.GrantKinds.{is_write}
 use Rattle.trio_layout.specs.Image.{Image}
 use Rattle.trio_checkpoint.specs.Covered.{Checkpointed, covered_pages}
@@ -50,20 +46,3 @@ state_of s first_core grants creds entries = record {
   creds = creds;
   entries = entries;
 }
-
--- The checkpoint that is kept for a write grant covers the index pages that it lent, and the blocks where the kind of the file
--- says so.
-pub record HasCheckpoint (checkpoints : List (Option Checkpointed)) (g : OpenGrant) : Type 0 where
-  pub checkpoint : Checkpointed
-  pub stands : checkpoint_at checkpoints g.ino ≡ Some checkpoint
-  pub index : sheet_numbers checkpoint.index ≡ sheet_numbers g.index
-  pub blocks : sheet_numbers checkpoint.blocks ≡ sheet_numbers (if covers_blocks g.of then g.blocks else [])
-
--- The store is one of these open grants: each page has an owner, and each number a place for a checkpoint; each write grant has
--- its checkpoint, and no other number has one.
-pub record IsStoreOf (grants : List OpenGrant) (s : Store) : Type 0 where
-  pub owners : length s.owners ≡ length s.home.pages
-  pub places : length s.checkpoints.items ≡ length s.rows
-  pub lent : (g : OpenGrant) → In g grants → g.kind ≡ Write → HasCheckpoint s.checkpoints.items g
-  pub others :
-      (n : ℕ) → IsFalse (list_any (λ g. is_write g.kind && g.ino == n) grants) → checkpoint_at s.checkpoints.items n ≡ None

@@ -32,7 +32,8 @@ use trio_tables::{Owners, Shadow};
 /// What the controller keeps of an image: the pages that are at home, the body of the root, the
 /// tables, what is out by allotment, and the checkpoints of the files that are lent for writing.
 ///
-/// `IsStoreOf` of `specs/Store.antt` says how it fits the open grants.
+/// Contracts see it with some open grants as the state of a controller (`state_of` of
+/// `specs/Store.antt`).
 #[derive(Drop)]
 pub struct Store {
     pub home: Home,

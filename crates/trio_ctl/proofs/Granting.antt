@@ -52,7 +52,8 @@ use Rattle.trio_surveys.proofs.Sheets.{length-without, page_from, sheets_all}
 use Rattle.trio_ctl.specs.Answers.{grant_fault_answer, Admits}
 use Rattle.trio_ctl.specs.Ctl.{IsControlled}
 use Rattle.trio_ctl.specs.inner.Lending.{IsLendable, StandsSomewhere, body_standing, page_on, page_standing}
-use Rattle.trio_ctl.specs.Open.{Opened, grant_on, grants_in, keyed, lease_of, without_checkpoint}
+use Rattle.trio_laws.specs.OutLaws.{without_checkpoint}
+use Rattle.trio_ctl.specs.Open.{Opened, grant_on, grants_in, keyed, lease_of}
 use Rattle.trio_ctl.specs.Stored.{CoversLent, IsStored, superblock_at_home}
 use Rattle.trio_ctl.proofs.LendLemmas.{same_chain, sheets_same}
 use Rattle.trio_ctl.proofs.StoredFacts.{Checkpoints, checkpoints_same}

@@ -31,7 +31,8 @@ use Rattle.trio_surveys.proofs.SheetLaws.{page_at}
 use Rattle.trio_surveys.proofs.Sheets.{Pages, without_apart}
 use Rattle.trio_lease.specs.Shown.{LentFile, Shown}
 use Rattle.trio_ctl.specs.inner.Lending.{IsLendable}
-use Rattle.trio_ctl.specs.Open.{Opened, grant_on, lease_of, untouched, without_checkpoint}
+use Rattle.trio_laws.specs.OutLaws.{without_checkpoint}
+use Rattle.trio_ctl.specs.Open.{Opened, grant_on, lease_of, untouched}
 use Rattle.trio_ctl.specs.Stored.{CoversLent}
 
 pub sheets_untouched : (xs : List Sheet) → map lent_sheet (map untouched xs) ≡ xs

@@ -28,10 +28,6 @@ grants_in files = map (λ o. o.grant) files
 abbrev pub grant_on : Core → ℕ → ℕ → Kind → ℕ → List ℕ → Chain → OpenGrant
 grant_on core lib ino of entry body chain = grant_of core lib ino Write of entry body (Ok chain)
 
--- a grant but for its checkpoint
-abbrev pub without_checkpoint : OpenGrant → OpenGrant
-without_checkpoint g = record g { checkpoint = [] }
-
 -- a page as it is lent: nobody has asked for it for writing
 abbrev pub untouched : Sheet → LentPage
 untouched x = record { no = record { 0 = x.page }; page = x.bytes; touched = false }

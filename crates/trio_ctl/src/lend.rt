@@ -10,7 +10,8 @@ ghost use Rattle.trio_checkpoint.specs.Covered.{are_there, chain_in, core_of, co
 ghost use Rattle.trio_tables.specs.Row.{as_row};
 ghost use Rattle.trio_ctl.specs.inner.Lending.{IsLendable, StandsSomewhere, body_standing};
 ghost use Rattle.trio_ctl.specs.Stored.{CoversLent};
-ghost use Rattle.trio_ctl.specs.Open.{grant_on, lease_of, untouched, without_checkpoint};
+ghost use Rattle.trio_laws.specs.OutLaws.{without_checkpoint};
+ghost use Rattle.trio_ctl.specs.Open.{grant_on, lease_of, untouched};
 
 use crate::open::OpenFile;
 use std::alloc::Global;
