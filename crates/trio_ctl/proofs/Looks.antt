@@ -1,5 +1,5 @@
 -- How often home is looked at for kept children: at most once a page of the bundle.
-use Rattle.std.proofs.Common.{◌≡◌, ℕ, suc, ◌+◌, ◌≤◌, ◌==◌, Bool, true, false, List, [], ◌∷◌, ◌++◌, length, map, Ok, Option, Some, None, refl, sym, ap, subst, ◌∙◌, inl, inr, arith, ◌≢◌}
+use Rattle.std.proofs.Common.{◌≡◌, ℕ, suc, ◌+◌, ◌≤◌, ◌==◌, Bool, true, false, List, [], ◌∷◌, ◌++◌, length, map, Ok, Option, Some, None, refl, sym, ap, subst, ◌∙◌, inl, inr, arith}
 use Rattle.std.specs.Prelude.{if◌then◌else◌}
 use Rattle.std.specs.List.{filter_map, flat_map}
 use Rattle.std.specs.Option.{option_map, option_map_or}
@@ -10,7 +10,7 @@ use Rattle.trio_rights.specs.declared.kind.Kind.{Kind}
 use Rattle.trio_rights.specs.declared.kind.Kind.TheVariants.{Regular, Directory}
 use Rattle.trio_rights.specs.Bundle.{bundle_pages, bundle_sheets}
 use Rattle.trio_rights.specs.Sheets.{Sheet}
-use Rattle.trio_lists.specs.Lists.{In, are_new, gathered, there_or}
+use Rattle.trio_lists.specs.Lists.{In, gathered, there_or}
 use Rattle.trio_lists.proofs.Members.{both-Ok, flat_map-In, map-In, result_then-Ok}
 use Rattle.trio_layout.specs.Case.{Case}
 use Rattle.trio_layout.specs.Core.{Core, at_page, page_of}
