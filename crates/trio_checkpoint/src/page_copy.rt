@@ -58,6 +58,13 @@ impl PageCopy {
         self.number
     }
 
+    /// The page itself.
+    pub(crate) fn page(&self) -> &Page
+        ensures { result.now ≡ self.now.bytes }
+    {
+        &self.page
+    }
+
     /// The body in a slot of a directory page.
     pub(crate) fn body(&self, slot: u16) -> &[u8; 64]
         requires { slot < 16 }
