@@ -3,3 +3,5 @@ pub mod Superblocks
 pub mod Images
 pub mod Refused
 pub mod NodeParts
+pub mod Storing
+pub mod Made

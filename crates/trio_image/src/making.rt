@@ -1,10 +1,11 @@
 //! Making a new image.
 
 ghost use Rattle.std.specs.Prelude.{◌≡◌, ◌+◌, ◌-◌, ◌*◌, ◌≤◌, ◌++◌, ◌↔◌, Err, IfOk, IsTrue};
+ghost use Rattle.trio_tables.specs.Stored.{owner_bytes, shadow_bytes};
 ghost use Rattle.trio_layout.specs.Superblock.{page_count};
 ghost use Rattle.trio_survey.specs.Stored.{image_in};
 ghost use Rattle.trio_image.specs.Counts.{counts_of};
-ghost use Rattle.trio_image.specs.Front.{front_pages};
+ghost use Rattle.trio_image.specs.Front.{FillsPages, front_pages, owner_count, shadow_count};
 ghost use Rattle.trio_image.specs.Made.{new_counts, new_superblock, Fits, IsMade};
 ghost use Rattle.trio_image.specs.inner.NewTables.{root_rows, zero_pages};
 
@@ -91,7 +92,8 @@ fn empty_image(alloc: Global, pages: u32, inodes: u32) -> Result<Image, NoMemory
     let superblock = new_superblock(pages, inodes);
     let rows = root_rows(alloc, inodes)?;
     let owners = Owners::new(alloc, pages, superblock.first_core)?;
-    let home = empty_home(alloc, &superblock, &rows, &owners)?;
+    let pages = empty_pages(alloc, &superblock, &rows, &owners)?;
+    let home = Home::of(pages);
     let parts = ImageParts { home, rows, owners };
     Ok(Image::sealed(superblock, parts))
 }
@@ -140,19 +142,22 @@ fn root_rows(alloc: Global, inodes: u32) -> Result<Shadow, NoMemory>
 }
 
 /// The pages that store these tables, with a core that is all zero.
-fn empty_home(
+fn empty_pages(
     alloc: Global,
     superblock: &Superblock,
     rows: &Shadow,
     owners: &Owners,
-) -> Result<Home, NoMemory>
+) -> Result<Vec<Option<Page>>, NoMemory>
     requires few { superblock.now.pages ≤ 8192 }
     requires order { superblock.now.first_core ≤ superblock.now.pages }
-    ensures pages { IfOk result (λ home. home.pages ≡ front_pages superblock.now rows.now owners.now ++ zero_pages (superblock.now.pages - superblock.now.first_core)) }
+    ensures pages { IfOk result (λ pages. pages.items ≡ front_pages superblock.now rows.now owners.now ++ zero_pages (superblock.now.pages - superblock.now.first_core)) }
+    ensures shadow { IfOk result (λ _. FillsPages (shadow_bytes rows.now) (shadow_count rows.now)) }
+    ensures owner { IfOk result (λ _. FillsPages (owner_bytes owners.now) (owner_count owners.now)) }
 {
     let mut pages = front_pages(alloc, superblock, rows, owners)?;
-    add_zero_pages(alloc, superblock.pages - superblock.first_core, &mut pages)?;
-    Ok(Home::of(pages))
+    let count = superblock.pages - superblock.first_core;
+    add_zero_pages(alloc, count, &mut pages)?;
+    Ok(pages)
 }
 
 fn add_zero_pages(alloc: Global, count: u32, pages: &mut Vec<Option<Page>>) -> Result<(), NoMemory>
