@@ -1,7 +1,0 @@
-use Rattle.std.proofs.Common.{◌≡◌, ◌++◌}
-use Rattle.trio_tables.specs.Stored.{owner_bytes, padded_to_pages}
-use Rattle.trio_ctl.specs.inner.Pages.{table_pages}
-use Rattle.trio_ctl.proofs.stored.add_owner_pages.Given as goal
-
-abbrev pub invariant-loop-at : goal.invariant-loop-at
-invariant-loop-at l = l.pages.items ≡ l.initial.pages.items ++ table_pages (padded_to_pages (owner_bytes l.owners)) l.at
