@@ -1,8 +1,7 @@
 -- A core whose root is an empty directory: the root is the one file met, and the tables have just its row.
-use Rattle.std.proofs.Common.{◌≡◌, ◌≢◌, ℕ, zero, suc, ◌+◌, ◌-◌, ◌*◌, ◌<◌, ◌≤◌, ◌&&◌, Bool, true, false, cond, List, [], ◌∷◌, ◌++◌, length, get_or, set, replicate, Option, Some, None, Ok, refl, sym, ap, subst, ◌∙◌, inl, inr, arith}
-use Rattle.std.specs.Prelude.{nat_lt, if◌then◌else◌, is_some, slice_set, IsTrue, nat_le, ◌==◌}
-use Rattle.std.specs.List.{count_by, find, list_all, flat_map}
-use Rattle.std.specs.Option.{option_and_then}
+use Rattle.std.proofs.Common.{◌≡◌, ◌≢◌, ℕ, zero, suc, ◌+◌, ◌-◌, ◌*◌, ◌<◌, ◌≤◌, ◌&&◌, Bool, true, false, cond, List, [], ◌∷◌, ◌++◌, length, get_or, replicate, Option, Some, None, Ok, refl, sym, ap, subst, ◌∙◌, inl, inr, arith}
+use Rattle.std.specs.Prelude.{nat_lt, if◌then◌else◌, is_some, slice_set, IsTrue, ◌==◌}
+use Rattle.std.specs.List.{count_by, list_all}
 use Rattle.std.specs.Str.{bytes_eq}
 use Rattle.std.proofs.lemmas.Bool.{cases_eq, cases_lt, eq-eqb, le-leb, le-ltb, lt-ltb}
 use Rattle.std.proofs.lemmas.Bool.Decides.{eqb_tells}
@@ -34,7 +33,7 @@ use Rattle.trio_image.specs.Counts.{counts_of, is_file, owned_count}
 use Rattle.trio_image.specs.Front.{FillsPages, front_pages, owner_count, shadow_count}
 use Rattle.trio_image.specs.Image.{is_whole_page, TablesAre}
 use Rattle.trio_image.specs.Made.{empty_directory, new_counts, new_superblock, Fits, IsMade}
-use Rattle.trio_image.proofs.Storing.{stored_core, stored_count, stored_tables, stored_whole, IsLaid}
+use Rattle.trio_image.proofs.Storing.{laid_core, laid_count, laid_tables, laid_whole, IsLaid}
 use Rattle.trio_image.specs.inner.NewTables.{root_row, root_rows, zero_pages}
 
 -- ---- one file
@@ -226,18 +225,18 @@ module _ (pages inodes : ℕ) (fits : Fits pages inodes) where
   pages_verify : PagesVerify s stored
   pages_verify = record {
     sound = alone_sound core refl;
-    tables = subst (λ rs. StoresTables s stored rs (image_in s stored).owners) rows_are (subst (λ os. StoresTables s stored rows os) owners_are (stored_tables s rows owners behind laid));
+    tables = subst (λ rs. StoresTables s stored rs (image_in s stored).owners) rows_are (subst (λ os. StoresTables s stored rows os) owners_are (laid_tables s rows owners behind laid));
   }
 
   zero_core : (p : ℕ) → s.first_core ≤ p → p < pages → HasPage stored p (zeros 4096)
   zero_core p le lt =
       let place : p ≡ s.first_core + (p - s.first_core) = omega arith in
       ap (λ (i : ℕ). get_or stored i None) place
-      ∙ stored_core s rows owners behind laid (p - s.first_core)
+      ∙ laid_core s rows owners behind laid (p - s.first_core)
       ∙ get_or-replicate (pages - s.first_core) (p - s.first_core) (Some (zeros 4096)) None (omega arith)
 
   pub new_count : length stored ≡ pages
-  new_count = stored_count s rows owners behind laid
+  new_count = laid_count s rows owners behind laid
 
   pub new_tables : TablesAre s stored rows owners
   new_tables = record { rows_are = rows_are; owners_are = owners_are }
@@ -254,7 +253,7 @@ module _ (pages inodes : ℕ) (fits : Fits pages inodes) where
           superblock = refl;
           files = alone core refl;
           core = zero_core;
-          verified = record { whole = stored_whole s rows owners behind laid shadow_full owner_full whole; verify = pages_verify };
+          verified = record { whole = laid_whole s rows owners behind laid shadow_full owner_full whole; verify = pages_verify };
         }
 
 -- a superblock, tables and pages that are a new image's

@@ -48,8 +48,8 @@ module _ (s : Superblock) (rows : List (Option Row)) (owners : List ℕ) (core :
   abbrev front : List (Option (List ℕ))
   front = front_pages s rows owners
 
-  abbrev stored : List (Option (List ℕ))
-  stored = front ++ core
+  abbrev laid : List (Option (List ℕ))
+  laid = front ++ core
 
   shadow_end : s.first_owner ≡ 1 + shadow_count rows
   shadow_end =
@@ -72,48 +72,48 @@ module _ (s : Superblock) (rows : List (Option Row)) (owners : List ℕ) (core :
       let one : length (Some (superblock_bytes s) ∷ (shadow_pages rows ++ owner_pages owners)) ≡ suc (length (shadow_pages rows ++ owner_pages owners)) = refl in
       one ∙ omega (arith, a, length-shadow_pages, length-owner_pages, shadow_end, owner_end)
 
-  pub stored_count : length stored ≡ s.pages
-  stored_count = omega (arith, length-append front core, length-front, k.many_pages, (superblock_facts s k.fits).core)
+  pub laid_count : length laid ≡ s.pages
+  laid_count = omega (arith, length-append front core, length-front, k.many_pages, (superblock_facts s k.fits).core)
 
-  pub stored_first : get_or stored 0 None ≡ Some (superblock_bytes s)
+  pub laid_first : get_or laid 0 None ≡ Some (superblock_bytes s)
   unfolding front_pages
-  stored_first = refl
+  laid_first = refl
 
   front_behind : (n : ℕ) → get_or front (1 + n) None ≡ get_or (shadow_pages rows ++ owner_pages owners) n None
   unfolding front_pages
   front_behind n = get_or-append-add (Some (superblock_bytes s) ∷ []) (shadow_pages rows ++ owner_pages owners) n None
 
-  stored_behind : (n : ℕ) → 1 + n < s.first_core → get_or stored (1 + n) None ≡ get_or (shadow_pages rows ++ owner_pages owners) n None
-  stored_behind n lt = get_or_append_left front core None (1 + n) (omega (arith, length-front, lt)) ∙ front_behind n
+  laid_behind : (n : ℕ) → 1 + n < s.first_core → get_or laid (1 + n) None ≡ get_or (shadow_pages rows ++ owner_pages owners) n None
+  laid_behind n lt = get_or_append_left front core None (1 + n) (omega (arith, length-front, lt)) ∙ front_behind n
 
-  stored_shadow : (n : ℕ) → 1 + n < s.first_owner → get_or stored (1 + n) None ≡ Some (page_at n (padded_to_pages (shadow_bytes rows)))
-  stored_shadow n lt =
+  laid_shadow : (n : ℕ) → 1 + n < s.first_owner → get_or laid (1 + n) None ≡ Some (page_at n (padded_to_pages (shadow_bytes rows)))
+  laid_shadow n lt =
       let below : n < shadow_count rows = omega (arith, shadow_end) in
       let inside : n < length (shadow_pages rows) = omega (arith, length-shadow_pages, below) in
-      stored_behind n (omega (arith, owner_end))
+      laid_behind n (omega (arith, owner_end))
       ∙ get_or_append_left (shadow_pages rows) (owner_pages owners) None n inside
       ∙ tabulated-get (λ n. Some (page_at n (padded_to_pages (shadow_bytes rows)))) (shadow_count rows) n None below
 
-  stored_owner : (n : ℕ) → s.first_owner + n < s.first_core → get_or stored (s.first_owner + n) None ≡ Some (page_at n (padded_to_pages (owner_bytes owners)))
-  stored_owner n lt =
+  laid_owner : (n : ℕ) → s.first_owner + n < s.first_core → get_or laid (s.first_owner + n) None ≡ Some (page_at n (padded_to_pages (owner_bytes owners)))
+  laid_owner n lt =
       let below : n < owner_count owners = omega (arith, owner_end) in
       let place : s.first_owner + n ≡ 1 + (length (shadow_pages rows) + n) = omega (arith, shadow_end, length-shadow_pages) in
-      ap (λ (i : ℕ). get_or stored i None) place
-      ∙ stored_behind (length (shadow_pages rows) + n) (omega (arith, place, lt))
+      ap (λ (i : ℕ). get_or laid i None) place
+      ∙ laid_behind (length (shadow_pages rows) + n) (omega (arith, place, lt))
       ∙ get_or-append-add (shadow_pages rows) (owner_pages owners) n None
       ∙ tabulated-get (λ n. Some (page_at n (padded_to_pages (owner_bytes owners)))) (owner_count owners) n None below
 
   -- the core stands behind them
-  pub stored_core : (n : ℕ) → get_or stored (s.first_core + n) None ≡ get_or core n None
-  stored_core n =
+  pub laid_core : (n : ℕ) → get_or laid (s.first_core + n) None ≡ get_or core n None
+  laid_core n =
       let place : s.first_core + n ≡ length front + n = omega (arith, length-front) in
-      ap (λ (i : ℕ). get_or stored i None) place ∙ get_or-append-add front core n None
+      ap (λ (i : ℕ). get_or laid i None) place ∙ get_or-append-add front core n None
 
-  pub stored_tables : StoresTables s stored rows owners
-  stored_tables = record { shadow = stored_shadow; owner = stored_owner }
+  pub laid_tables : StoresTables s laid rows owners
+  laid_tables = record { shadow = laid_shadow; owner = laid_owner }
 
-  pub stored_superblock : HasSuperblock s stored
-  stored_superblock = record { bytes = superblock_bytes s; here = stored_first; read = record { spelled = refl; root = k.root; fits = k.fits } }
+  pub laid_superblock : HasSuperblock s laid
+  laid_superblock = record { bytes = superblock_bytes s; here = laid_first; read = record { spelled = refl; root = k.root; fits = k.fits } }
 
   -- where the core's pages are whole, they are an image's
   module _ (shadow_full : FillsPages (shadow_bytes rows) (shadow_count rows)) (owner_full : FillsPages (owner_bytes owners) (owner_count owners)) (whole : list_all is_whole_page core ≡ true) where
@@ -125,9 +125,9 @@ module _ (s : Superblock) (rows : List (Option Row)) (owners : List ℕ) (core :
         let b = table_whole (padded_to_pages (owner_bytes owners)) (owner_count owners) owner_full in
         rw (first, list_all-append is_whole_page (shadow_pages rows) (owner_pages owners), a, b) refl
 
-    pub stored_whole : IsWholeImage s stored
-    stored_whole = record {
-      count = stored_count;
+    pub laid_whole : IsWholeImage s laid
+    laid_whole = record {
+      count = laid_count;
       whole = list_all-append is_whole_page front core ∙ rw (front_whole, whole) refl;
-      superblock = stored_superblock;
+      superblock = laid_superblock;
     }

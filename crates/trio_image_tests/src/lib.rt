@@ -7,6 +7,8 @@ mod checkpoint;
 #[cfg(test)]
 mod image;
 #[cfg(test)]
+mod making;
+#[cfg(test)]
 mod survey;
 #[cfg(test)]
 mod tables;

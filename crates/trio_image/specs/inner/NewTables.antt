@@ -1,5 +1,5 @@
 -- The tables of a new image. Cited by private functions alone.
-use Rattle.std.specs.Prelude.{ℕ, List, ◌++◌, Option, Some, replicate, slice_set}
+use Rattle.std.specs.Prelude.{ℕ, List, Option, Some, replicate, slice_set}
 use Rattle.trio_page.specs.Field.{zeros}
 use Rattle.trio_rights.specs.declared.kind.Kind.TheVariants.{Directory}
 use Rattle.trio_rights.specs.Row.{Row}

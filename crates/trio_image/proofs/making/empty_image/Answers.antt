@@ -1,10 +1,10 @@
-use Rattle.std.proofs.Common.{◌≡◌, arith, List, Option, ap, subst, sym, ◌∙◌}
+use Rattle.std.proofs.Common.{◌≡◌, arith, ap, subst, sym, ◌∙◌}
 use Rattle.trio_page.specs.Home.{Pages}
 use Rattle.trio_survey.specs.Stored.{image_in}
 use Rattle.trio_image.specs.Counts.{counts_of}
 use Rattle.trio_image.specs.Image.{ImagePages, IsVerified, TablesAre}
 use Rattle.trio_image.specs.Made.{new_counts, IsMade}
-use Rattle.trio_image.proofs.Made.{is_new, IsNew}
+use Rattle.trio_image.proofs.Made.{is_new}
 use Rattle.trio_image.proofs.making.empty_image.Goals as goal
 
 pub of-home-requires : goal.of-home-requires
