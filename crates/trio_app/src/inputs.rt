@@ -3,16 +3,13 @@
 ghost use Rattle.std.specs.Prelude.{Contains, IfOk, IfErr};
 ghost use Rattle.trio_io.specs.Shelf.{OnlyReads};
 ghost use Rattle.trio_app.specs.Inputs.{ReadsBoth};
-ghost use Rattle.trio_app.specs.inner.Stop.{BytesStop, ImageStop, InputStop, IsImage, ReadsImage, ReadsScript, ScriptStop};
+ghost use Rattle.trio_app.specs.inner.Stop.{ImageStop, InputStop, ReadsImage, ReadsScript, ScriptStop};
 
 use crate::Stop;
 use std::alloc::Global;
-use trio_image::Image;
+use trio_image::{Image, load};
 use trio_io::{Files, ReadWholeFault, read_whole};
 use trio_script::{ScriptFault, ScriptLine, read_script};
-
-/// The most bytes that an image may have: 8192 pages of 4096.
-pub const IMAGE_LIMIT: usize = 33_554_432;
 
 /// The most bytes that a script may have.
 pub const SCRIPT_LIMIT: usize = 1_048_576;
@@ -48,20 +45,7 @@ fn input_image<F: Files>(alloc: Global, name: &str, files: &mut F) -> Result<Ima
     ensures stops { IfErr result (ImageStop name.now (F.seen files.old) (F.seen files.new)) }
     ensures files { OnlyReads name.now (F.seen files.old) (F.seen files.new) }
 {
-    match read_whole(alloc, files, name, IMAGE_LIMIT) {
-        Ok(bytes) => verified_image(alloc, &bytes),
-        Err(ReadWholeFault::ReadFault) => Err(Stop::ImageFault),
-        Err(ReadWholeFault::TooLong) => Err(Stop::ImageNotBuilt),
-        Err(ReadWholeFault::NoMemory) => Err(Stop::NoMemory),
-    }
-}
-
-/// The image that these bytes are, where it verifies.
-fn verified_image(alloc: Global, bytes: &[u8]) -> Result<Image, Stop>
-    ensures image { IfOk result (λ image. IsImage bytes.now image.superblock image.pages) }
-    ensures stops { IfErr result (BytesStop bytes.now) }
-{
-    Ok(Image::from_bytes(alloc, bytes)?)
+    Ok(load(alloc, files, name)?)
 }
 
 fn input_script<F: Files>(alloc: Global, name: &str, files: &mut F) -> Result<Vec<ScriptLine>, Stop>

@@ -11,7 +11,7 @@ ghost use Rattle.trio_app.specs.inner.RunEnd.{IsRunEnd};
 
 use std::alloc::Global;
 use trio_ctl::Ctl;
-use trio_image::{Image, bytes_of};
+use trio_image::Image;
 use trio_page::{NoMemory, Reads};
 use trio_report::{
     Counts, EndAnswer, LibraryKind, LineAnswer, put_answer, put_counts, put_end, put_heading,
@@ -43,37 +43,38 @@ pub fn run(alloc: Global, image: Image, lines: &[ScriptLine]) -> Result<RunEnd, 
     let mut answers = Vec::new(alloc);
     let end = play(alloc, &mut ctl, lines, &mut answers)?;
     // at a script's end nothing is out, so this is want of memory
-    let Ok(mut last) = ctl.image() else {
+    let Ok(last) = ctl.image() else {
         return Err(NoMemory);
     };
-    let image = bytes_of(alloc, &mut last)?;
-    let report = report(alloc, lines, &answers, end, last)?;
+    let (report, last) = report(alloc, lines, &answers, end, last)?;
+    let image = last.into_bytes(alloc)?;
     Ok(RunEnd { report, image })
 }
 
 /// The report of a run: the answers to its lines and that of its end, with the tree and the counts
-/// of the image at its end.
+/// of the image at its end, which comes back.
 fn report(
     alloc: Global,
     lines: &[ScriptLine],
     answers: &[LineAnswer],
     end: EndAnswer,
     image: Image,
-) -> Result<Vec<u8>, NoMemory>
-    ensures { IfOk result (λ text. text.items ≡ lib_heading 1 Raw ++ answers_text lines.now answers.now ++ end_line end
+) -> Result<(Vec<u8>, Image), NoMemory>
+    ensures text { IfOk result (λ r. r.0.items ≡ lib_heading 1 Raw ++ answers_text lines.now answers.now ++ end_line end
         ++ tree_text (tree_of (core_in image.superblock image.pages)) ++ counts_text (told_counts (counts_of (image_in image.superblock image.pages)))) }
+    ensures image { IfOk result (λ r. r.1.pages ≡ image.pages) }
 {
     let superblock = image.superblock();
     let counts = counts(&image);
-    let mut home = image.into_parts().home;
-    let tree = tree_lines(alloc, &mut home, &superblock, &mut Reads::new())?;
+    let mut parts = image.into_parts();
+    let tree = tree_lines(alloc, &mut parts.home, &superblock, &mut Reads::new())?;
     let mut text = Vec::new(alloc);
     put_heading(alloc, &mut text, LibNo(1), LibraryKind::Raw)?;
     put_answers(alloc, &mut text, lines, answers)?;
     put_end(alloc, &mut text, end)?;
     put_tree(alloc, &mut text, &tree)?;
     put_counts(alloc, &mut text, &counts)?;
-    Ok(text)
+    Ok((text, Image::of(parts)))
 }
 
 /// The counts of an image, as the report tells them.

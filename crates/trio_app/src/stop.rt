@@ -48,6 +48,8 @@ impl From<LoadFault> for Stop {
 
     fn from(fault: LoadFault) -> Stop {
         match fault {
+            LoadFault::ReadFault => Stop::ImageFault,
+            LoadFault::TooLong => Stop::ImageNotBuilt,
             LoadFault::Length(_) | LoadFault::BadSuper | LoadFault::Fails { .. } => {
                 Stop::NotVerified
             }

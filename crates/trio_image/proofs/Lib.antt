@@ -1,4 +1,5 @@
 pub mod Pages
+pub mod FileParts
 pub mod Superblocks
 pub mod Images
 pub mod Refused

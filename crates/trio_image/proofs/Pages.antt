@@ -1,10 +1,11 @@
 -- Pages that bytes are cut into, and bytes that pages are joined to.
-use Rattle.std.proofs.Common.{◌≡◌, ℕ, zero, suc, ◌+◌, ◌-◌, ◌*◌, ◌≤◌, true, List, [], ◌∷◌, ◌++◌, length, take, drop, eq-eqb, eqb-true, ◌==◌, get_or, Option, Some, None, refl, sym, ap, ◌∙◌, arith}
-use Rattle.std.specs.Prelude.{slice_range}
+use Rattle.std.proofs.Common.{◌≡◌, ℕ, zero, suc, ◌+◌, ◌-◌, ◌*◌, ◌≤◌, true, List, [], ◌∷◌, ◌++◌, length, take, drop, eq-eqb, eqb-true, ◌==◌, get_or, Option, Some, None, refl, sym, ap, ◌∙◌, arith, append_assoc}
 use Rattle.std.specs.List.{list_all}
-use Rattle.std.proofs.lemmas.List.{drop-drop, length-append, length-drop, length-take}
+use Rattle.std.proofs.lemmas.List.{append-nil, length-append, length-drop, length-take}
 use Rattle.std.proofs.Math.Seq.{take-append_seam, drop-append_seam}
 use Rattle.std.proofs.lemmas.Bool.{and_parts}
+use Rattle.std.proofs.lemmas.Grind.{flat_map-append}
+use Rattle.std.proofs.lemmas.List.Folds.{list_all-append}
 use Rattle.trio_survey.specs.Stored.{bytes_in, pages_in}
 use Rattle.trio_image.specs.Image.{is_whole_page}
 
@@ -12,33 +13,11 @@ pub length-pages_in : (n : ℕ) (bytes : List ℕ) → length (pages_in n bytes)
 length-pages_in zero bytes = refl
 length-pages_in (suc n) bytes = ap suc (length-pages_in n (drop 4096 bytes))
 
-slice-drop : (k i j : ℕ) (bytes : List ℕ) → slice_range (drop k bytes) i j ≡ slice_range bytes (k + i) (k + j)
-slice-drop k i j bytes =
-    let e : j - i ≡ k + j - (k + i) = omega arith in
-    ap (take (j - i)) (drop-drop i k bytes) ∙ ap (λ (n : ℕ). take n (drop (k + i) bytes)) e
-
 front_of : (n : ℕ) (xs ys : List ℕ) → length xs ≡ n → take n (xs ++ ys) ≡ xs
 front_of n xs ys len = ap (λ (k : ℕ). take k (xs ++ ys)) (sym len) ∙ take-append_seam xs ys
 
 back_of : (n : ℕ) (xs ys : List ℕ) → length xs ≡ n → drop n (xs ++ ys) ≡ ys
 back_of n xs ys len = ap (λ (k : ℕ). drop k (xs ++ ys)) (sym len) ∙ drop-append_seam xs ys
-
--- one page more
-pub pages_in-more : (n : ℕ) (bytes : List ℕ) → pages_in (n + 1) bytes ≡ pages_in n bytes ++ Some (slice_range bytes (4096 * n) (4096 * n + 4096)) ∷ []
-pages_in-more zero bytes = refl
-pages_in-more (suc n) bytes =
-    let a : 4096 + 4096 * n ≡ 4096 * suc n = omega arith in
-    let b : 4096 + (4096 * n + 4096) ≡ 4096 * suc n + 4096 = omega arith in
-    let page : slice_range (drop 4096 bytes) (4096 * n) (4096 * n + 4096) ≡ slice_range bytes (4096 * suc n) (4096 * suc n + 4096) =
-    slice-drop 4096 (4096 * n) (4096 * n + 4096) bytes ∙ ap (λ (i : ℕ). slice_range bytes i (4096 + (4096 * n + 4096))) a ∙ ap (slice_range bytes (4096 * suc n)) b in
-    let one : suc n + 1 ≡ suc (n + 1) = omega arith in
-    ap (λ (m : ℕ). pages_in m bytes) one
-    ∙ ap (λ ps. Some (take 4096 bytes) ∷ ps) (pages_in-more n (drop 4096 bytes))
-    ∙ ap (λ p. Some (take 4096 bytes) ∷ (pages_in n (drop 4096 bytes) ++ Some p ∷ [])) page
-
-pub pages_in-step : (i : ℕ) (bytes page : List ℕ) (pages pages' : List (Option (List ℕ))) → pages ≡ pages_in i bytes → page ≡ slice_range bytes (4096 * i) (4096 * i + 4096) → pages' ≡ pages ++ Some page ∷ [] → pages' ≡ pages_in (i + 1) bytes
-pages_in-step i bytes page pages pages' before is after =
-    after ∙ ap (λ ps. ps ++ Some page ∷ []) before ∙ ap (λ p. pages_in i bytes ++ Some p ∷ []) is ∙ sym (pages_in-more i bytes)
 
 -- ---- whole pages
 
@@ -60,15 +39,19 @@ length-bytes_in (Some page ∷ pages) w =
     let p = whole_first page pages w in
     omega (arith, p.0, length-bytes_in pages p.1, length-append page (bytes_in pages))
 
--- the pages of their bytes are they
-pub pages_again : (pages : List (Option (List ℕ))) → list_all is_whole_page pages ≡ true → pages_in (length pages) (bytes_in pages) ≡ pages
-pages_again [] w = refl
-pages_again (None ∷ pages) w = absurd cc
-pages_again (Some page ∷ pages) w =
+-- the pages of their bytes are they, whatever follows
+pub pages_in-append : (pages : List (Option (List ℕ))) (rest : List ℕ) → list_all is_whole_page pages ≡ true → pages_in (length pages) (bytes_in pages ++ rest) ≡ pages
+pages_in-append [] rest w = refl
+pages_in-append (None ∷ pages) rest w = absurd cc
+pages_in-append (Some page ∷ pages) rest w =
     let p = whole_first page pages w in
-    let front : take 4096 (page ++ bytes_in pages) ≡ page = front_of 4096 page (bytes_in pages) p.0 in
-    let back : drop 4096 (page ++ bytes_in pages) ≡ bytes_in pages = back_of 4096 page (bytes_in pages) p.0 in
-    rw (front, back) (ap (λ ps. Some page ∷ ps) (pages_again pages p.1))
+    let seam : (page ++ bytes_in pages) ++ rest ≡ page ++ (bytes_in pages ++ rest) = append_assoc page (bytes_in pages) rest in
+    let front : take 4096 (page ++ (bytes_in pages ++ rest)) ≡ page = front_of 4096 page (bytes_in pages ++ rest) p.0 in
+    let back : drop 4096 (page ++ (bytes_in pages ++ rest)) ≡ bytes_in pages ++ rest = back_of 4096 page (bytes_in pages ++ rest) p.0 in
+    rw (seam, front, back) (ap (λ ps. Some page ∷ ps) (pages_in-append pages rest p.1))
+
+pub pages_again : (pages : List (Option (List ℕ))) → list_all is_whole_page pages ≡ true → pages_in (length pages) (bytes_in pages) ≡ pages
+pages_again pages w = ap (pages_in (length pages)) (sym (append-nil (bytes_in pages))) ∙ pages_in-append pages [] w
 
 -- the first page begins the bytes
 pub first_bytes : (pages : List (Option (List ℕ))) (page : List ℕ) → list_all is_whole_page pages ≡ true → get_or pages 0 None ≡ Some page → take 4096 (bytes_in pages) ≡ page
@@ -76,3 +59,9 @@ first_bytes [] page w is = absurd cc
 first_bytes (None ∷ pages) page w is = absurd cc
 first_bytes (Some p ∷ pages) page w is =
     let same : p ≡ page = cc in front_of 4096 p (bytes_in pages) (whole_first p pages w).0 ∙ same
+
+pub bytes_in-snoc : (pages : List (Option (List ℕ))) (page : List ℕ) → bytes_in (pages ++ Some page ∷ []) ≡ bytes_in pages ++ page
+bytes_in-snoc pages page = flat_map-append _ pages (Some page ∷ []) ∙ ap (λ rest. bytes_in pages ++ rest) (append-nil page)
+
+pub whole-snoc : (pages : List (Option (List ℕ))) (page : List ℕ) → list_all is_whole_page pages ≡ true → length page ≡ 4096 → list_all is_whole_page (pages ++ Some page ∷ []) ≡ true
+whole-snoc pages page w len = list_all-append is_whole_page pages (Some page ∷ []) ∙ (rw (w, eq-eqb (length page) 4096 len) refl)

@@ -7,9 +7,10 @@ use Rattle.trio_survey.specs.Stored.{pages_in, BytesVerify, PagesVerify}
 use Rattle.trio_survey.specs.declared.fault.SurveyFault.{SurveyFault}
 use Rattle.trio_survey.specs.declared.fault.SurveyFault.TheVariants.{Fails as SurveyFails, NoMemory as SurveyNoMemory}
 use Rattle.trio_survey.specs.Verdict.{IsDenied}
-use Rattle.trio_image.specs.declared.reading.LoadFault.{LoadFault}
-use Rattle.trio_image.specs.declared.reading.LoadFault.TheVariants.{Length, BadSuper, Fails, NoMemory}
-use Rattle.trio_image.specs.Fault.{fault_of_survey, HasLength, IsBadLength, IsBadSuper, IsLoadFault, IsPagesFault, IsReadFault}
+use Rattle.trio_image.specs.declared.fault.LoadFault.{LoadFault}
+use Rattle.trio_image.specs.declared.fault.LoadFault.TheVariants.{ReadFault, TooLong, Length, BadSuper, Fails, NoMemory}
+use Rattle.trio_image.specs.Fault.{fault_of_survey, HasLength, IsBadLength, IsBadSuper, IsLoadFault, IsPagesFault}
+use Rattle.trio_image.specs.inner.Reading.{IsFirstPageFault}
 
 -- bytes are those of one superblock at most
 one_superblock : (bytes : List ℕ) (s t : Superblock) → IsSuperblock bytes s → IsSuperblock bytes t → s ≡ t
@@ -30,12 +31,14 @@ bad_length bytes n bad v =
 bad_super : (bytes : List ℕ) → IsBadSuper bytes → BytesVerify bytes → ⊥
 bad_super bytes bad v = bad.1 v.superblock v.read
 
--- a fault of reading the pages is one of loading
-pub read_loads : (bytes : List ℕ) (fault : LoadFault) → IsReadFault bytes fault → IsLoadFault bytes fault
-read_loads bytes (Length n) bad = bad
-read_loads bytes BadSuper bad = bad
-read_loads bytes (Fails rule ino page slot) bad = absurd bad
-read_loads bytes NoMemory bad = tt
+-- a fault of the first page is one of loading
+pub first_page_loads : (bytes : List ℕ) (fault : LoadFault) → IsFirstPageFault bytes fault → IsLoadFault bytes fault
+first_page_loads bytes (Length n) bad = bad
+first_page_loads bytes BadSuper bad = bad
+first_page_loads bytes (Fails rule ino page slot) bad = absurd bad
+first_page_loads bytes NoMemory bad = absurd bad
+first_page_loads bytes ReadFault bad = absurd bad
+first_page_loads bytes TooLong bad = absurd bad
 
 -- so is one of the pages that were read
 pub pages_load : (bytes : List ℕ) (s : Superblock) (pages : List (Option (List ℕ))) (fault : LoadFault) → HasLength bytes s → pages ≡ pages_in s.pages bytes → IsPagesFault s pages fault → IsLoadFault bytes fault
@@ -43,18 +46,24 @@ pages_load bytes s pages (Fails rule ino page slot) has is bad = (s, has, subst 
 pages_load bytes s pages NoMemory has is bad = tt
 pages_load bytes s pages (Length n) has is bad = absurd bad
 pages_load bytes s pages BadSuper has is bad = absurd bad
+pages_load bytes s pages ReadFault has is bad = absurd bad
+pages_load bytes s pages TooLong has is bad = absurd bad
 
 pub load_refuses : (bytes : List ℕ) (fault : LoadFault) → IsLoadFault bytes fault → fault ≢ NoMemory → BytesVerify bytes → ⊥
 load_refuses bytes (Length n) bad other v = bad_length bytes n bad v
 load_refuses bytes BadSuper bad other v = bad_super bytes bad v
 load_refuses bytes (Fails rule ino page slot) bad other v = bad.2.0 (pages_verify bytes bad.0 bad.1 v)
 load_refuses bytes NoMemory bad other v = other refl
+load_refuses bytes ReadFault bad other v = absurd bad
+load_refuses bytes TooLong bad other v = absurd bad
 
 pub pages_refuse : (s : Superblock) (pages : List (Option (List ℕ))) (fault : LoadFault) → IsPagesFault s pages fault → fault ≢ NoMemory → PagesVerify s pages → ⊥
 pages_refuse s pages (Fails rule ino page slot) bad other v = bad.0 v
 pages_refuse s pages NoMemory bad other v = other refl
 pages_refuse s pages (Length n) bad other v = absurd bad
 pages_refuse s pages BadSuper bad other v = absurd bad
+pages_refuse s pages ReadFault bad other v = absurd bad
+pages_refuse s pages TooLong bad other v = absurd bad
 
 -- a fault of the survey, as it is told of pages
 pub survey_told : (s : Superblock) (pages : List (Option (List ℕ))) (fault : SurveyFault) → IsDenied s pages fault → IsPagesFault s pages (fault_of_survey fault)

@@ -6,8 +6,8 @@ use Rattle.trio_survey.specs.Stored.{pages_in}
 use Rattle.trio_survey.specs.declared.fault.SurveyFault.{SurveyFault}
 use Rattle.trio_survey.specs.declared.fault.SurveyFault.TheVariants.{Fails as SurveyFails, NoMemory as SurveyNoMemory}
 use Rattle.trio_survey.specs.Verdict.{IsDenied}
-use Rattle.trio_image.specs.declared.reading.LoadFault.{LoadFault}
-use Rattle.trio_image.specs.declared.reading.LoadFault.TheVariants.{Length, BadSuper, Fails, NoMemory}
+use Rattle.trio_image.specs.declared.fault.LoadFault.{LoadFault}
+use Rattle.trio_image.specs.declared.fault.LoadFault.TheVariants.{Length, BadSuper, Fails, NoMemory}
 
 -- the bytes begin with this superblock, and are as many as it says
 pub record HasLength (bytes : List ℕ) (s : Superblock) : Type 0 where
@@ -29,13 +29,6 @@ abbrev pub fault_of_survey : SurveyFault → LoadFault
 fault_of_survey (SurveyFails rule ino page slot) = Fails rule ino page slot
 fault_of_survey SurveyNoMemory = NoMemory
 
--- Why the bytes are no pages of an image. Want of memory says nothing.
-abbrev pub IsReadFault : List ℕ → LoadFault → Type 0
-IsReadFault bytes (Length n) = IsBadLength bytes n
-IsReadFault bytes BadSuper = IsBadSuper bytes
-IsReadFault bytes (Fails rule ino page slot) = ⊥
-IsReadFault bytes NoMemory = ⊤
-
 -- Why pages with this superblock don't verify. Want of memory says nothing.
 abbrev pub IsPagesFault : Superblock → List (Option (List ℕ)) → LoadFault → Type 0
 IsPagesFault s pages (Fails rule ino page slot) = IsDenied s pages (SurveyFails rule ino page slot)
@@ -49,3 +42,4 @@ IsLoadFault bytes BadSuper = IsBadSuper bytes
 IsLoadFault bytes (Fails rule ino page slot) =
     (s : Superblock) × HasLength bytes s × IsDenied s (pages_in s.pages bytes) (SurveyFails rule ino page slot)
 IsLoadFault bytes NoMemory = ⊤
+IsLoadFault bytes fault = ⊥

@@ -1,5 +1,7 @@
 pub mod Image
 pub mod Fault
+pub mod Load
+pub mod Save
 pub mod Counts
 pub mod Nodes
 pub mod Front

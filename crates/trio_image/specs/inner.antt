@@ -1,1 +1,2 @@
 pub mod NewTables
+pub mod Reading

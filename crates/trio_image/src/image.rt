@@ -2,12 +2,11 @@
 
 ghost use Rattle.std.specs.Prelude.{◌≡◌, IfOk};
 ghost use Rattle.trio_layout.specs.declared.superblock.Superblock.{Superblock};
-ghost use Rattle.trio_survey.specs.Stored.{bytes_in, image_in, pages_in, BytesVerify, HasSuperblock};
+ghost use Rattle.trio_survey.specs.Stored.{image_in, HasSuperblock};
 ghost use Rattle.trio_image.specs.Counts.{counts_of};
 ghost use Rattle.trio_image.specs.Image.{IsVerified, TablesAre};
 ghost use Rattle.trio_image.specs.Nodes.{nodes_of};
 
-use crate::bytes::home_bytes;
 use crate::counts::{Counts, counts_in};
 use crate::nodes::nodes_in;
 use std::alloc::Global;
@@ -81,6 +80,14 @@ impl Image {
         self.parts
     }
 
+    /// The home with the pages of the image. Takes no memory.
+    pub fn into_home(self) -> Home
+        ensures pages { result.pages ≡ self.pages }
+        ensures verified { IsVerified self.superblock self.pages }
+    {
+        self.parts.home
+    }
+
     /// What the image has in use. The pages are not read.
     pub fn counts(&self) -> Counts
         ensures { result ≡ counts_of (image_in self.now.superblock self.now.pages) }
@@ -119,15 +126,4 @@ fn superblock_of(home: &mut Home) -> Superblock
 {
     let page = home.page(PageNo(0), &mut Reads::new()).unwrap();
     Superblock::read(page).unwrap()
-}
-
-/// The bytes of an image, one page after another. They verify, and are read as this image again.
-/// The image stays as it was. `NoMemory`: there was no memory for the bytes.
-pub fn bytes_of(alloc: Global, image: &mut Image) -> Result<Vec<u8>, NoMemory>
-    ensures bytes { IfOk result (λ bytes. bytes.items ≡ bytes_in image.old.pages) }
-    ensures verify { IfOk result (λ bytes. BytesVerify bytes.items) }
-    ensures again { IfOk result (λ bytes. pages_in image.old.superblock.pages bytes.items ≡ image.old.pages) }
-    ensures image { image.new ≡ image.old }
-{
-    home_bytes(alloc, &mut image.parts.home)
 }

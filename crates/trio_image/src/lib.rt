@@ -1,28 +1,33 @@
-//! Images whose values all verify, and their bytes.
+//! Images whose values all verify, from a file and back.
 //!
 //! - [`Image`] is an image that verifies, with all its pages (`IsVerified` of `specs/Image.antt`).
-//! - [`Image::from_bytes`] makes one of the bytes of a file, or says why they are none
-//!   ([`LoadFault`]); [`Image::from_pages`] is its second stage, for pages that were read.
+//! - [`load`] reads one from a file, or says why there is none ([`LoadFault`]; `Loads` and
+//!   `LoadFails` of `specs/Load.antt`). [`Image::from_pages`] is its last stage, for pages that stand
+//!   in memory.
+//! - [`Image::save`] makes its bytes the content of a file, which is read again as that image, and
+//!   [`Image::into_bytes`] gives them.
 //! - [`Image::counts`] tells what an image has in use, and [`Image::nodes`] its files as the nodes of
 //!   a tree, with the bytes of regular files (`nodes_of` of `specs/Nodes.antt`).
 //! - [`make`] makes a new image, whose one file is an empty root (`IsMade` of `specs/Made.antt`).
 //! - [`front_pages`] stores a superblock and tables as the pages before the core.
-//! - [`bytes_of`] gives the bytes of an image, which are read again as that image.
 //!
-//! Each page is copied once on its way in or out.
+//! A file is read straight into the pages that are the image's home. On its way out each page is
+//! copied once, and goes then.
 #![tactic(auto)]
 
-mod bytes;
 mod counts;
+mod fault;
 mod front;
 mod image;
+mod loading;
 mod making;
 mod nodes;
 mod reading;
+mod saving;
 
-pub use bytes::pages_of;
 pub use counts::Counts;
+pub use fault::{LoadFault, SaveFault};
 pub use front::front_pages;
-pub use image::{Image, ImageParts, bytes_of};
+pub use image::{Image, ImageParts};
+pub use loading::load;
 pub use making::{MakeFault, make};
-pub use reading::LoadFault;

@@ -1,131 +1,105 @@
-//! Reading an image from its bytes.
+//! Reading a file, a page at a time.
 
-ghost use Rattle.std.specs.Prelude.{◌≡◌, ◌≢◌, IfErr, IfOk};
-ghost use Rattle.trio_survey.specs.Stored.{pages_in, BytesVerify, PagesVerify};
-ghost use Rattle.trio_image.specs.Fault.{HasLength, IsLoadFault, IsPagesFault, IsReadFault};
-ghost use Rattle.trio_image.specs.Image.{IsVerified, IsWholeImage};
+ghost use Rattle.std.specs.Prelude.{◌≡◌, ◌+◌, ◌<◌, ◌≤◌, Contains, IfErr, IfOk, None, length, slice_index_or};
+ghost use Rattle.std.specs.Option.{option_copied};
+ghost use Rattle.trio_io.specs.Shelf.{OnlyReads};
+ghost use Rattle.trio_image.specs.inner.Reading.{IsFileOf, IsPartOf, StopsReading};
 
-use crate::bytes::{page_of, pages_of};
-use crate::image::{Image, ImageParts};
+use crate::fault::LoadFault;
 use std::alloc::Global;
-use trio_layout::Superblock;
-use trio_page::{Home, NoMemory, PAGE_SIZE, Reads};
-use trio_survey::{SurveyFault, verify_found};
+use trio_io::Files;
+use trio_page::{PAGE_SIZE, Page};
 
-/// Why an image can't be loaded. Each cause comes where those before it don't stand.
-#[derive(Clone, Copy, Debug, PartialEq, Eq)]
-pub enum LoadFault {
-    /// The count of bytes, which is under 4096 or isn't the superblock's pages times 4096.
-    Length(u64),
-    /// There is a page at least, and the first one is no superblock.
-    BadSuper,
-    /// The lowest rule that fails, and a file and place at which it does, as in
-    /// [`SurveyFault::Fails`].
-    Fails {
-        rule: u8,
-        ino: u32,
-        page: u32,
-        slot: u16,
-    },
-    /// There was no memory for the image, which may come in place of any other answer.
-    NoMemory,
+/// The most pages that an image may have.
+const MAX_PAGES: usize = 8192;
+
+/// A file of at most [`MAX_PAGES`] pages.
+#[derive(Drop)]
+pub(crate) struct FilePages {
+    /// The pages that the file fills, from its front on. What follows them isn't kept.
+    pub whole: Vec<Option<Page>>,
+    /// How many bytes the file has.
+    pub count: usize,
 }
 
-impl From<NoMemory> for LoadFault {
-    ghost use Rattle.std.specs.Prelude.{◌≡◌};
-    ghost use Rattle.trio_image.specs.declared.reading.LoadFault.{LoadFault};
-
-    ghost from_gives = { λ _ e. e ≡ LoadFault.NoMemory };
-
-    fn from(_fault: NoMemory) -> LoadFault {
-        LoadFault::NoMemory
+impl FilePages {
+    /// The first page, where the file fills it.
+    pub fn first(&self) -> Option<&Page>
+        ensures { option_copied result ≡ slice_index_or self.now.whole.items 0 None }
+    {
+        self.whole.first()?.as_ref()
     }
 }
 
-impl From<SurveyFault> for LoadFault {
-    ghost use Rattle.std.specs.Prelude.{◌≡◌};
-    ghost use Rattle.trio_image.specs.Fault.{fault_of_survey};
+/// A part of a file.
+#[derive(Drop)]
+struct FilePart {
+    /// The page that begins with the part.
+    page: Page,
+    /// How many bytes the part has.
+    count: usize,
+}
 
-    ghost from_gives = { λ fault e. e ≡ fault_of_survey fault };
+/// Reads a file into pages, until its end or one byte past [`MAX_PAGES`] pages.
+pub(crate) fn read_file<F: Files>(
+    alloc: Global,
+    files: &mut F,
+    name: &str,
+) -> Result<FilePages, LoadFault>
+    requires { Contains (F.seen files.old).served name.now }
+    ensures file { IfOk result (λ read. IsFileOf ((F.seen files.old).held name.now) read.whole.items read.count) }
+    ensures fault { IfErr result (StopsReading name.now (F.seen files.old) (F.seen files.new)) }
+    ensures files { OnlyReads name.now (F.seen files.old) (F.seen files.new) }
+{
+    let mut whole = Vec::new(alloc);
+    for i in 0..MAX_PAGES {
+        let part = read_part(alloc, files, name, PAGE_SIZE * i, PAGE_SIZE)?;
+        if part.count < PAGE_SIZE {
+            let count = PAGE_SIZE * i + part.count;
+            return Ok(FilePages { whole, count });
+        }
+        let Ok(()) = whole.push(Some(part.page)) else {
+            return Err(LoadFault::NoMemory);
+        };
+    }
+    let past = read_part(alloc, files, name, PAGE_SIZE * MAX_PAGES, 1)?;
+    if past.count > 0 {
+        return Err(LoadFault::TooLong);
+    }
+    let count = PAGE_SIZE * MAX_PAGES;
+    Ok(FilePages { whole, count })
+}
 
-    fn from(fault: SurveyFault) -> LoadFault {
-        match fault {
-            SurveyFault::Fails {
-                rule,
-                ino,
-                page,
-                slot,
-            } => LoadFault::Fails {
-                rule,
-                ino,
-                page,
-                slot,
-            },
-            SurveyFault::NoMemory => LoadFault::NoMemory,
+/// Reads a file from an offset on into a page, until there are so many bytes or the file ends.
+fn read_part<F: Files>(
+    alloc: Global,
+    files: &mut F,
+    name: &str,
+    at: usize,
+    room: usize,
+) -> Result<FilePart, LoadFault>
+    requires served { Contains (F.seen files.old).served name.now }
+    requires within { at + room ≤ 33554433 }
+    requires some { 0 < room }
+    requires fits { room ≤ 4096 }
+    ensures room { IfOk result (λ part. part.count ≤ room) }
+    ensures whole { IfOk result (λ part. length part.page ≡ 4096) }
+    ensures part { IfOk result (λ part. IsPartOf ((F.seen files.old).held name.now) at room part.page part.count) }
+    ensures fault { IfErr result (StopsReading name.now (F.seen files.old) (F.seen files.new)) }
+    ensures files { OnlyReads name.now (F.seen files.old) (F.seen files.new) }
+{
+    let mut page = Page::zero(alloc)?;
+    let mut count = 0;
+    // Each turn takes a byte at least, so the turns don't run out.
+    for _ in 0..room {
+        match files.read_at(name, (at + count) as u64, &mut page.bytes_mut()[count..room]) {
+            Err(_) => return Err(LoadFault::ReadFault),
+            Ok(0) => return Ok(FilePart { page, count }),
+            Ok(more) => count += more,
+        }
+        if count == room {
+            return Ok(FilePart { page, count });
         }
     }
-}
-
-/// Pages that were read and not judged yet: just as many as their superblock tells, all of them
-/// there.
-#[derive(Drop)]
-struct ReadPages {
-    superblock: Superblock,
-    home: Home,
-}
-
-impl Image {
-    /// The image that these bytes are, or the first cause for which they are none.
-    pub fn from_bytes(alloc: Global, bytes: &[u8]) -> Result<Image, LoadFault>
-        ensures image { IfOk result (λ image. HasLength bytes.now image.superblock) }
-        ensures pages { IfOk result (λ image. image.pages ≡ pages_in image.superblock.pages bytes.now) }
-        ensures verify { IfOk result (λ _. BytesVerify bytes.now) }
-        ensures fault { IfErr result (IsLoadFault bytes.now) }
-        ensures refused { IfErr result (λ fault. fault ≢ LoadFault.NoMemory → BytesVerify bytes.now → ⊥) }
-    {
-        let read = read_pages(alloc, bytes)?;
-        Image::from_pages(alloc, read.superblock, read.home)
-    }
-
-    /// The image of these pages, of which the first is this superblock; or, exactly where they don't
-    /// verify, why. After a fault the pages are gone.
-    pub fn from_pages(alloc: Global, superblock: Superblock, home: Home) -> Result<Image, LoadFault>
-        requires { IsWholeImage superblock home.pages }
-        ensures image { IfOk result (λ image. image ≡ record { superblock = superblock; pages = home.pages }) }
-        ensures verify { IfOk result (λ image. IsVerified image.superblock image.pages) }
-        ensures fault { IfErr result (IsPagesFault superblock home.pages) }
-        ensures refused { IfErr result (λ fault. fault ≢ LoadFault.NoMemory → PagesVerify superblock home.pages → ⊥) }
-    {
-        let mut home = home;
-        let found = verify_found(alloc, &mut home, &mut Reads::new())?;
-        Ok(Image::sealed(
-            superblock,
-            ImageParts {
-                home,
-                rows: found.rows,
-                owners: found.owners,
-            },
-        ))
-    }
-}
-
-/// The pages that these bytes are, with what the first one says; or why they are none.
-fn read_pages(alloc: Global, bytes: &[u8]) -> Result<ReadPages, LoadFault>
-    ensures superblock { IfOk result (λ read. HasLength bytes.now read.superblock) }
-    ensures pages { IfOk result (λ read. read.home.pages ≡ pages_in read.superblock.pages bytes.now) }
-    ensures whole { IfOk result (λ read. IsWholeImage read.superblock read.home.pages) }
-    ensures fault { IfErr result (IsReadFault bytes.now) }
-{
-    let count = bytes.len() as u64;
-    let Some(first) = bytes.get(..PAGE_SIZE) else {
-        return Err(LoadFault::Length(count));
-    };
-    let Some(superblock) = Superblock::read(&page_of(alloc, first)?) else {
-        return Err(LoadFault::BadSuper);
-    };
-    if count != 4096 * u64::from(superblock.pages) {
-        return Err(LoadFault::Length(count));
-    }
-    let home = pages_of(alloc, bytes)?;
-    Ok(ReadPages { superblock, home })
+    unreachable!()
 }

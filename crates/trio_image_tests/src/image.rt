@@ -1,6 +1,12 @@
+//! Images from files and back.
+
+ghost use Rattle.std.specs.Prelude.{None, false};
+
 use std::alloc::Global;
-use trio_image::{Counts, Image, LoadFault, bytes_of};
+use trio_image::{Counts, Image, LoadFault, SaveFault, load};
+use trio_io::{Failed, FailingCalls, Files, MemFiles, SureFiles};
 use trio_names::Path;
+use trio_page::NoMemory;
 use trio_rights::Kind;
 use trio_samples::Sample;
 use trio_samples::files::{root, three_files};
@@ -10,8 +16,25 @@ fn image_bytes(alloc: Global) -> Option<Vec<u8>> {
     Sample::small(alloc, &[root()]).ok()?.bytes(alloc).ok()
 }
 
+// A name that the files of a test serve.
+const NAME: &str = "a.img";
+
+fn names(alloc: Global) -> Result<Vec<String>, NoMemory> {
+    Ok(vec![in alloc; String::from_str(alloc, NAME)?]?)
+}
+
+// What loading a file of these bytes answers.
+fn load_bytes(alloc: Global, bytes: &[u8]) -> Option<Result<Image, LoadFault>> {
+    let mut files = SureFiles::new(alloc, names(alloc).ok()?).ok()?;
+    files.hold(NAME, bytes.to_vec(alloc).ok()?);
+    if !files.serves(NAME) {
+        return None;
+    }
+    Some(load(alloc, &mut files, NAME))
+}
+
 fn image_of(alloc: Global, bytes: &[u8]) -> Option<Image> {
-    Image::from_bytes(alloc, bytes).ok()
+    load_bytes(alloc, bytes)?.ok()
 }
 
 fn has_sizes(image: &Image) -> bool {
@@ -27,10 +50,10 @@ const COUNTS: Counts = Counts {
     free: 29,
 };
 
-fn is_written_as_read(alloc: Global) -> Option<bool> {
+fn is_told_as_read(alloc: Global) -> Option<bool> {
     let bytes = image_bytes(alloc)?;
-    let mut image = image_of(alloc, &bytes)?;
-    Some(bytes_of(alloc, &mut image).ok()?.as_slice() == bytes.as_slice())
+    let image = image_of(alloc, &bytes)?;
+    Some(image.into_bytes(alloc).ok()?.as_slice() == bytes.as_slice())
 }
 
 fn is_taken_apart(alloc: Global) -> Option<bool> {
@@ -41,8 +64,8 @@ fn is_taken_apart(alloc: Global) -> Option<bool> {
 }
 
 #[test]
-fn an_image_is_read_and_written(rt: HostRuntime) {
-    assert!(rt; is_written_as_read(rt.alloc()) == Some(true));
+fn an_image_is_read_and_told(rt: HostRuntime) {
+    assert!(rt; is_told_as_read(rt.alloc()) == Some(true));
     assert!(rt; is_taken_apart(rt.alloc()) == Some(true));
 }
 
@@ -51,13 +74,17 @@ const OWNER: (usize, u8) = (8204, 2);
 
 const SIZE: (usize, u8) = (56, 1);
 
-const MAGIC: (usize, u8) = (0, b'a');
+const MAGIC: (usize, u8) = (0, b'B');
 
-// How many bytes there are, which of them are others, and why they are no image.
+// How many bytes there are, zeros behind the image's own, which of them are others, and why they are
+// no image.
 const LOADS: &[(usize, &[(usize, u8)], Option<LoadFault>)] = &[
     (131_072, &[], None),
     (0, &[], Some(LoadFault::Length(0))),
     (131_071, &[], Some(LoadFault::Length(131_071))),
+    (131_073, &[], Some(LoadFault::Length(131_073))),
+    (4095, &[], Some(LoadFault::Length(4095))),
+    (4096, &[], Some(LoadFault::Length(4096))),
     (
         131_072,
         &[OWNER],
@@ -78,18 +105,20 @@ const LOADS: &[(usize, &[(usize, u8)], Option<LoadFault>)] = &[
             slot: 0,
         }),
     ),
+    (131_072, &[MAGIC], Some(LoadFault::BadSuper)),
     (131_071, &[MAGIC], Some(LoadFault::BadSuper)),
     (4095, &[MAGIC], Some(LoadFault::Length(4095))),
 ];
 
 fn fault(alloc: Global, count: usize, edits: &[(usize, u8)]) -> Option<Option<LoadFault>> {
     let mut bytes = image_bytes(alloc)?;
+    bytes.resize(count, 0).ok()?;
     for (at, byte) in edits {
         if let Some(place) = bytes.get_mut(*at) {
             *place = *byte;
         }
     }
-    Some(Image::from_bytes(alloc, bytes.get(..count)?).err())
+    Some(load_bytes(alloc, &bytes)?.err())
 }
 
 #[test]
@@ -120,4 +149,95 @@ fn nodes_are_told(alloc: Global) -> Option<bool> {
 #[test]
 fn files_are_nodes(rt: HostRuntime) {
     assert!(rt; nodes_are_told(rt.alloc()) == Some(true));
+}
+
+// Files in memory, of which this call fails.
+fn mem_files(alloc: Global, failing: u64) -> Result<MemFiles, NoMemory> {
+    let plan = FailingCalls::new(vec![in alloc; failing; 1]?);
+    MemFiles::new(alloc, names(alloc)?, plan)
+}
+
+// What loading an image whose file fails at this call answers, and how often a read has failed.
+fn load_failing(alloc: Global, failing: u64) -> Option<(Option<LoadFault>, u64)> {
+    let mut files = mem_files(alloc, failing).ok()?;
+    files.hold(NAME, image_bytes(alloc)?);
+    if !files.serves(NAME) {
+        return None;
+    }
+    let loaded = load(alloc, &mut files, NAME);
+    Some((loaded.err(), files.read_faults(NAME)))
+}
+
+// There are 33 reads: one a page, and one that meets the end.
+#[test]
+fn reads_fail(rt: HostRuntime) {
+    for failing in [1, 2, 33] {
+        assert!(rt;
+            load_failing(rt.alloc(), failing) == Some((Some(LoadFault::ReadFault), 1)),
+            "call {failing}"
+        );
+    }
+    assert!(rt; load_failing(rt.alloc(), 34) == Some((None, 0)));
+}
+
+// What saving an image over other bytes answers where this call fails, and whether the image's bytes
+// stand there then.
+fn save_failing(alloc: Global, failing: u64) -> Option<(Option<SaveFault>, bool)> {
+    let bytes = image_bytes(alloc)?;
+    let image = image_of(alloc, &bytes)?;
+    let mut files = mem_files(alloc, failing).ok()?;
+    files.hold(NAME, b"other".to_vec(alloc).ok()?);
+    if !files.serves(NAME) {
+        return None;
+    }
+    let saved = image.save(alloc, &mut files, NAME);
+    let is_there = files.content(NAME)? == bytes.as_slice();
+    Some((saved.err(), is_there))
+}
+
+#[test]
+fn an_image_is_saved(rt: HostRuntime) {
+    assert!(rt; save_failing(rt.alloc(), 2) == Some((None, true)));
+    assert!(rt; save_failing(rt.alloc(), 1) == Some((Some(SaveFault::WriteFault), false)));
+}
+
+// Files that give 1000 bytes at most at a call. They tell no content.
+#[derive(Drop)]
+struct SlowFiles {
+    files: SureFiles,
+}
+
+impl Files for SlowFiles {
+    ghost seen = { λ s. record {
+      served = (⟦<SureFiles as Files>⟧.seen s.files).served;
+      tells = false;
+      held = λ _. None;
+      read_faults = λ _. 0;
+      write_faults = λ _. 0;
+    } };
+
+    fn read_at(&mut self, name: &str, at: u64, buf: &mut [u8]) -> Result<usize, Failed> {
+        let most = buf.len().min(1000);
+        self.files.read_at(name, at, &mut buf[..most])
+    }
+
+    fn replace(&mut self, name: &str, bytes: &[u8]) -> Result<(), Failed> {
+        self.files.replace(name, bytes)
+    }
+}
+
+fn loads_slowly(alloc: Global) -> Option<bool> {
+    let bytes = image_bytes(alloc)?;
+    let mut files = SureFiles::new(alloc, names(alloc).ok()?).ok()?;
+    files.hold(NAME, bytes.to_vec(alloc).ok()?);
+    if !files.serves(NAME) {
+        return None;
+    }
+    let image = load(alloc, &mut SlowFiles { files }, NAME).ok()?;
+    Some(image.into_bytes(alloc).ok()?.as_slice() == bytes.as_slice())
+}
+
+#[test]
+fn short_reads_go_on(rt: HostRuntime) {
+    assert!(rt; loads_slowly(rt.alloc()) == Some(true));
 }

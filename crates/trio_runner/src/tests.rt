@@ -5,7 +5,8 @@ use super::*;
 use std::alloc::Global;
 use std::test::Fail;
 use trio_ctl::Ctl;
-use trio_image::{Image, bytes_of};
+use trio_image::{Image, load};
+use trio_io::SureFiles;
 use trio_nodes::List;
 use trio_page::NoMemory;
 use trio_report::{EndAnswer, LineAnswer};
@@ -34,16 +35,26 @@ struct Told {
     image: Option<Vec<u8>>,
 }
 
+fn image_of(alloc: Global, bytes: &[u8]) -> Option<Image> {
+    let names = vec![in alloc; String::from_str(alloc, "a.img").ok()?].ok()?;
+    let mut files = SureFiles::new(alloc, names).ok()?;
+    files.hold("a.img", bytes.to_vec(alloc).ok()?);
+    if !files.serves("a.img") {
+        return None;
+    }
+    load(alloc, &mut files, "a.img").ok()
+}
+
 // plays a script on an image, for a library of uid and gid 5
 fn play_script(alloc: Global, bytes: &[u8], script: &[u8]) -> Option<Told> {
     let lines = read_script(alloc, script).ok()?;
-    let image = Image::from_bytes(alloc, bytes).ok()?;
+    let image = image_of(alloc, bytes)?;
     let creds = vec![in alloc; Creds { uid: 5, gid: 5 }].ok()?;
     let mut ctl = Ctl::start(alloc, image, creds).ok()?;
     let mut answers = Vec::new(alloc);
     let end = play(alloc, &mut ctl, &lines, &mut answers);
     let image = match ctl.image() {
-        Ok(mut image) => bytes_of(alloc, &mut image).ok(),
+        Ok(image) => image.into_bytes(alloc).ok(),
         Err(_) => None,
     };
     Some(Told {

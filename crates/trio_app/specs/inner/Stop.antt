@@ -3,8 +3,8 @@ use Rattle.std.specs.Prelude.{◌≡◌, ◌⊎◌, ℕ, ◌≤◌, List, [], Op
 use Rattle.trio_io.specs.Shelf.{Shelf, Rose, IsTold, IsLonger}
 use Rattle.trio_layout.specs.declared.superblock.Superblock.{Superblock}
 use Rattle.trio_survey.specs.Stored.{BytesVerify, pages_in}
-use Rattle.trio_image.specs.declared.reading.LoadFault.{LoadFault}
-use Rattle.trio_image.specs.declared.reading.LoadFault.TheVariants.{Length, BadSuper, Fails, NoMemory as LoadNoMemory}
+use Rattle.trio_image.specs.declared.fault.LoadFault.{LoadFault}
+use Rattle.trio_image.specs.declared.fault.LoadFault.TheVariants.{ReadFault, TooLong, Length, BadSuper, Fails, NoMemory as LoadNoMemory}
 use Rattle.trio_script.specs.Script.{script_lines, unbuilt_line}
 use Rattle.trio_script.specs.declared.ScriptLine.{ScriptLine}
 use Rattle.trio_app.specs.declared.status.Status.{Status}
@@ -40,6 +40,8 @@ ToldStop image script stop text status =
 -- ---- the image
 
 abbrev pub stop_of_loading : LoadFault → Stop
+stop_of_loading ReadFault = ImageFault
+stop_of_loading TooLong = ImageNotBuilt
 stop_of_loading (Length count) = NotVerified
 stop_of_loading BadSuper = NotVerified
 stop_of_loading (Fails rule ino page slot) = NotVerified

@@ -1,0 +1,72 @@
+//! Loading an image from a file.
+
+ghost use Rattle.std.specs.Prelude.{◌≡◌, ◌≢◌, Contains, IfErr, IfOk, List, ℕ};
+ghost use Rattle.trio_io.specs.Shelf.{OnlyReads};
+ghost use Rattle.trio_survey.specs.Stored.{PagesVerify};
+ghost use Rattle.trio_image.specs.Fault.{HasLength, IsPagesFault};
+ghost use Rattle.trio_image.specs.Image.{IsVerified, IsWholeImage};
+ghost use Rattle.trio_image.specs.Load.{LoadFails, Loads};
+ghost use Rattle.trio_image.specs.inner.Reading.{AreFilePages, IsFirstPageFault};
+
+use crate::fault::LoadFault;
+use crate::image::{Image, ImageParts};
+use crate::reading::{FilePages, read_file};
+use std::alloc::Global;
+use trio_io::Files;
+use trio_layout::Superblock;
+use trio_page::{Home, Reads};
+use trio_survey::verify_found;
+
+/// The image in a file, or the first cause for which there is none. The file is read from the front
+/// until its end or one byte past 33,554,432, straight into the image's pages.
+pub fn load<F: Files>(alloc: Global, files: &mut F, name: &str) -> Result<Image, LoadFault>
+    requires { Contains (F.seen files.old).served name.now }
+    ensures image { IfOk result (λ image. Loads ((F.seen files.old).held name.now) image.superblock image.pages) }
+    ensures fault { IfErr result (LoadFails name.now (F.seen files.old) (F.seen files.new)) }
+    ensures files { OnlyReads name.now (F.seen files.old) (F.seen files.new) }
+{
+    let read = read_file(alloc, files, name)?;
+    let superblock = superblock_of(&read)?;
+    Image::from_pages(alloc, superblock, Home::of(read.whole))
+}
+
+/// What the first page of a file says, where the file has as many bytes as it tells.
+fn superblock_of(file: &FilePages) -> Result<Superblock, LoadFault>
+    ensures superblock { IfOk result (λ s. (bytes : List ℕ) → AreFilePages bytes file.now.whole.items file.now.count → HasLength bytes s) }
+    ensures fault { IfErr result (λ fault. (bytes : List ℕ) → AreFilePages bytes file.now.whole.items file.now.count → IsFirstPageFault bytes fault) }
+{
+    let count = file.count as u64;
+    let Some(first) = file.first() else {
+        return Err(LoadFault::Length(count));
+    };
+    let Some(superblock) = Superblock::read(first) else {
+        return Err(LoadFault::BadSuper);
+    };
+    if count != 4096 * u64::from(superblock.pages) {
+        return Err(LoadFault::Length(count));
+    }
+    Ok(superblock)
+}
+
+impl Image {
+    /// The image of these pages, of which the first is this superblock; or, exactly where they don't
+    /// verify, why. After a fault the pages are gone.
+    pub fn from_pages(alloc: Global, superblock: Superblock, home: Home) -> Result<Image, LoadFault>
+        requires { IsWholeImage superblock home.pages }
+        ensures image { IfOk result (λ image. image ≡ record { superblock = superblock; pages = home.pages }) }
+        ensures verify { IfOk result (λ image. IsVerified image.superblock image.pages) }
+        ensures fault { IfErr result (IsPagesFault superblock home.pages) }
+        ensures refused { IfErr result (λ fault. fault ≢ LoadFault.NoMemory → PagesVerify superblock home.pages → ⊥) }
+    {
+        let mut home = home;
+        let found = verify_found(alloc, &mut home, &mut Reads::new())?;
+        Ok(Image::sealed(
+            superblock,
+            ImageParts {
+                home,
+                rows: found.rows,
+                owners: found.owners,
+            },
+        ))
+    }
+}
