@@ -2,8 +2,10 @@
 use Rattle.std.proofs.Common.{◌≡◌, ℕ, ◌+◌, ◌-◌, ◌*◌, ◌/◌, ◌<◌, ◌≤◌, true, min, List, [], ◌∷◌, ◌++◌, length, take, drop, Option, Some, None, IfSome, refl, sym, ap, subst, ◌∙◌, arith}
 use Rattle.std.specs.List.{list_all}
 use Rattle.std.proofs.Math.Seq.{drop-append_seam, take-add, take-append_seam}
-use Rattle.std.proofs.lemmas.List.{drop-drop, length-append, length-take, take-append-le, take_all}
-use Rattle.trio_io.specs.Shelf.{Shelf, Rose, RisesAt, IsTold, IsLonger, OnlyReads}
+use Rattle.std.proofs.lemmas.List.{drop-drop, length-append, length-drop, length-take, take-append-drop, take-append-le, take_all}
+use Rattle.std.proofs.lemmas.Slice.{drop-put_mid, take-put_mid}
+use borrow.Rule.Slice.PartMut.{post_of, put_mid}
+use Rattle.trio_io.specs.Shelf.{Shelf, IsTold, IsLonger, OnlyReads}
 use Rattle.trio_io.proofs.Loading.{IsFront, OnlyReads-trans}
 use Rattle.trio_page.specs.Field.{zeros}
 use Rattle.trio_page.proofs.Cursor.{length-zeros}
@@ -11,7 +13,7 @@ use Rattle.trio_survey.specs.Stored.{bytes_in, pages_in}
 use Rattle.trio_image.specs.declared.fault.LoadFault.{LoadFault}
 use Rattle.trio_image.specs.declared.fault.LoadFault.TheVariants.{ReadFault, TooLong, Length, BadSuper, Fails, NoMemory}
 use Rattle.trio_image.specs.Image.{is_whole_page}
-use Rattle.trio_image.specs.inner.Reading.{IsPartOf, AreFilePages, IsFileOf, StopsReading}
+use Rattle.trio_image.specs.inner.Reading.{IsPartOf, IsFileOf, StopsReading}
 use Rattle.trio_image.proofs.Pages.{bytes_in-snoc, length-bytes_in, pages_in-append, whole-snoc}
 
 -- ---- a page
@@ -86,14 +88,26 @@ put_front page buf rest count n within le =
     take-add count n (take count page ++ (buf ++ rest)) ∙ ap (λ f. f ++ take n (drop count (take count page ++ (buf ++ rest)))) front
     ∙ ap (λ b. take count page ++ take n b) back ∙ ap (λ b. take count page ++ b) (take-append-le n buf rest le)
 
+-- the page stays whole
+pub put_whole : (page lent buf : List ℕ) (count room : ℕ) → lent ≡ page → length page ≡ 4096 → count ≤ room → room ≤ 4096 → length buf ≡ room - count → length (put_mid count (room - count) lent buf) ≡ 4096
+put_whole page lent buf count room is_lent whole le fits len =
+    let size : length lent ≡ 4096 = ap length is_lent ∙ whole in
+    let put : List ℕ = put_mid count (room - count) lent buf in
+    let both : take room put ++ drop room put ≡ put = take-append-drop room put in
+    let front : take room put ≡ take count lent ++ buf = take-put_mid count (room - count) lent buf room (omega (arith, len)) (omega (arith, size)) in
+    let back : drop room put ≡ drop room lent = drop-put_mid count (room - count) lent buf room (omega arith) (omega (arith, size)) len in
+    omega (arith, size, len, ap length both, ap length front, ap length back, length-append (take room put) (drop room put), length-append (take count lent) buf, length-take count lent, length-drop room lent)
+
 -- n bytes more
-pub part_turn : (start now : Option (List ℕ)) (page page' buf rest : List ℕ) (count n room at place : ℕ) → now ≡ start → place ≡ at + count → length buf ≡ room - count → count ≤ room → count ≤ length page → n ≤ length buf
-    → page' ≡ take count page ++ (buf ++ rest)
+pub part_turn : (start now : Option (List ℕ)) (page lent buf : List ℕ) (count n room at place : ℕ) → now ≡ start → place ≡ at + count → length buf ≡ room - count → count ≤ room → count ≤ length page → n ≤ length buf
+    → lent ≡ page
     → IfSome start (λ bs. (count ≤ length bs - at) × (take count page ≡ take count (drop at bs)))
     → IfSome now (λ bs. (n ≡ min (length buf) (length bs - place)) × (take n buf ≡ take n (drop place bs)))
-    → IfSome start (λ bs. (count + n ≤ length bs - at) × (take (count + n) page' ≡ take (count + n) (drop at bs)))
-part_turn start now page page' buf rest count n room at place same here len le within fits put so_far gives =
-    part_more start now page page' buf count n room at place same here len le fits (ap (take (count + n)) put ∙ put_front page buf rest count n within fits) so_far gives
+    → IfSome start (λ bs. (count + n ≤ length bs - at) × (take (count + n) (put_mid count (room - count) lent buf) ≡ take (count + n) (drop at bs)))
+part_turn start now page lent buf count n room at place same here len le within fits is_lent so_far gives =
+    let put : take (count + n) (put_mid count (room - count) lent buf) ≡ take count page ++ take n buf =
+    ap (λ p. take (count + n) (put_mid count (room - count) p buf)) is_lent ∙ put_front page buf (post_of count (room - count) page) count n within fits in
+    part_more start now page (put_mid count (room - count) lent buf) buf count n room at place same here len le fits put so_far gives
 
 -- a full part
 pub part_full : (content : Option (List ℕ)) (page : List ℕ) (count room at : ℕ) → count ≡ room → IfSome content (λ bs. (count ≤ length bs - at) × (take count page ≡ take count (drop at bs))) → IsPartOf content at room page count

@@ -1,5 +1,6 @@
 pub mod Pages
 pub mod FileParts
+pub mod Loads
 pub mod Superblocks
 pub mod Images
 pub mod Refused

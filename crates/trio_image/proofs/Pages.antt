@@ -1,8 +1,9 @@
 -- Pages that bytes are cut into, and bytes that pages are joined to.
-use Rattle.std.proofs.Common.{◌≡◌, ℕ, zero, suc, ◌+◌, ◌-◌, ◌*◌, ◌≤◌, true, List, [], ◌∷◌, ◌++◌, length, take, drop, eq-eqb, eqb-true, ◌==◌, get_or, Option, Some, None, refl, sym, ap, ◌∙◌, arith, append_assoc}
+use Rattle.std.proofs.Common.{◌≡◌, ℕ, zero, suc, ◌+◌, ◌*◌, ◌≤◌, true, List, [], ◌∷◌, ◌++◌, length, take, drop, eq-eqb, eqb-true, ◌==◌, get_or, Option, Some, None, refl, sym, ap, ◌∙◌, arith, append_assoc}
+use Rattle.std.specs.Prelude.{set, unwrap_or, ◌<◌}
 use Rattle.std.specs.List.{list_all}
-use Rattle.std.proofs.lemmas.List.{append-nil, length-append, length-drop, length-take}
-use Rattle.std.proofs.Math.Seq.{take-append_seam, drop-append_seam}
+use Rattle.std.proofs.lemmas.List.{append-nil, drop-drop, drop-set-lt, length-append, length-drop, length-take, take_more}
+use Rattle.std.proofs.Math.Seq.{drop-nil, take-append_seam, drop-append_seam}
 use Rattle.std.proofs.lemmas.Bool.{and_parts}
 use Rattle.std.proofs.lemmas.Grind.{flat_map-append}
 use Rattle.std.proofs.lemmas.List.Folds.{list_all-append}
@@ -65,3 +66,24 @@ bytes_in-snoc pages page = flat_map-append _ pages (Some page ∷ []) ∙ ap (λ
 
 pub whole-snoc : (pages : List (Option (List ℕ))) (page : List ℕ) → list_all is_whole_page pages ≡ true → length page ≡ 4096 → list_all is_whole_page (pages ++ Some page ∷ []) ≡ true
 whole-snoc pages page w len = list_all-append is_whole_page pages (Some page ∷ []) ∙ (rw (w, eq-eqb (length page) 4096 len) refl)
+
+-- ---- pages that are taken one after another
+
+pub taken_rest : (i : ℕ) (now pages : List (Option (List ℕ))) → drop i now ≡ drop i pages → drop (i + 1) (set now i None) ≡ drop (i + 1) pages
+taken_rest i now pages same =
+    drop-set-lt (i + 1) now i None (omega arith) ∙ sym (drop-drop 1 i now) ∙ ap (drop 1) same ∙ drop-drop 1 i pages
+
+pub taken_page : (i : ℕ) (now pages : List (Option (List ℕ))) → drop i now ≡ drop i pages → get_or now i None ≡ get_or pages i None
+taken_page zero now pages same = ap (λ ps. get_or ps 0 None) same
+taken_page (suc i) [] [] same = refl
+taken_page (suc i) [] (p ∷ pages) same = taken_page i [] pages (drop-nil i ∙ same)
+taken_page (suc i) (n ∷ now) [] same = taken_page i now [] (same ∙ sym (drop-nil i))
+taken_page (suc i) (n ∷ now) (p ∷ pages) same = taken_page i now pages same
+
+pub taken_bytes : (i : ℕ) (now pages : List (Option (List ℕ))) (page : Option (List ℕ)) (bytes bytes' : List ℕ) → drop i now ≡ drop i pages → page ≡ get_or now i None → i < length pages → bytes ≡ bytes_in (take i pages) → bytes' ≡ bytes ++ unwrap_or page [] → bytes' ≡ bytes_in (take (i + 1) pages)
+taken_bytes i now pages page bytes bytes' same is lt so_far put =
+    let last : page ≡ get_or pages i None = is ∙ taken_page i now pages same in
+    let more : take (i + 1) pages ≡ take i pages ++ get_or pages i None ∷ [] = take_more pages i None lt in
+    let split : bytes_in (take (i + 1) pages) ≡ bytes_in (take i pages) ++ unwrap_or (get_or pages i None) [] =
+    ap bytes_in more ∙ flat_map-append _ (take i pages) (get_or pages i None ∷ []) ∙ ap (λ rest. bytes_in (take i pages) ++ rest) (append-nil (unwrap_or (get_or pages i None) [])) in
+    put ∙ ap (λ b. b ++ unwrap_or page []) so_far ∙ ap (λ (p : Option (List ℕ)). bytes_in (take i pages) ++ unwrap_or p []) last ∙ sym split

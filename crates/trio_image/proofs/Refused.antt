@@ -40,6 +40,14 @@ first_page_loads bytes NoMemory bad = absurd bad
 first_page_loads bytes ReadFault bad = absurd bad
 first_page_loads bytes TooLong bad = absurd bad
 
+pub first_page_refuses : (bytes : List ℕ) (fault : LoadFault) → IsFirstPageFault bytes fault → BytesVerify bytes → ⊥
+first_page_refuses bytes (Length n) bad v = bad_length bytes n bad v
+first_page_refuses bytes BadSuper bad v = bad_super bytes bad v
+first_page_refuses bytes (Fails rule ino page slot) bad v = absurd bad
+first_page_refuses bytes NoMemory bad v = absurd bad
+first_page_refuses bytes ReadFault bad v = absurd bad
+first_page_refuses bytes TooLong bad v = absurd bad
+
 -- so is one of the pages that were read
 pub pages_load : (bytes : List ℕ) (s : Superblock) (pages : List (Option (List ℕ))) (fault : LoadFault) → HasLength bytes s → pages ≡ pages_in s.pages bytes → IsPagesFault s pages fault → IsLoadFault bytes fault
 pages_load bytes s pages (Fails rule ino page slot) has is bad = (s, has, subst (λ ps. IsDenied s ps (SurveyFails rule ino page slot)) is bad)

@@ -42,10 +42,11 @@ fn superblock_of(file: &FilePages) -> Result<Superblock, LoadFault>
     let Some(superblock) = Superblock::read(first) else {
         return Err(LoadFault::BadSuper);
     };
-    if count != 4096 * u64::from(superblock.pages) {
-        return Err(LoadFault::Length(count));
+    if count == 4096 * u64::from(superblock.pages) {
+        Ok(superblock)
+    } else {
+        Err(LoadFault::Length(count))
     }
-    Ok(superblock)
 }
 
 impl Image {

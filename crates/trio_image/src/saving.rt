@@ -33,8 +33,8 @@ impl Image {
     /// Each page goes as soon as its bytes are copied. `NoMemory`: there was no memory for the bytes.
     pub fn into_bytes(self, alloc: Global) -> Result<Vec<u8>, NoMemory>
         ensures bytes { IfOk result (λ bytes. bytes.items ≡ bytes_in self.pages) }
-        ensures verify { IfOk result (λ bytes. BytesVerify bytes.items) }
-        ensures again { IfOk result (λ bytes. pages_in self.superblock.pages bytes.items ≡ self.pages) }
+        ensures verify { BytesVerify (bytes_in self.pages) }
+        ensures again { pages_in self.superblock.pages (bytes_in self.pages) ≡ self.pages }
     {
         home_bytes(alloc, self.into_home())
     }

@@ -6,12 +6,12 @@ pub returns-in_default-read-clause-fault : goal.returns-in_default-read-clause-f
 returns-in_default-read-clause-fault c =
     λ bytes are. bad_first bytes _ c.args.file.now.whole.items c.args.file.now.count are (sym c.in-Some.ensures) (λ s read. search rules)
 
-pub returns-then-count-from-clause-fault : goal.returns-then-count-from-clause-fault
-returns-then-count-from-clause-fault c =
+pub returns-else-count-from-clause-fault : goal.returns-else-count-from-clause-fault
+returns-else-count-from-clause-fault c =
     λ bytes are. (are.count_is, inr (c.in-Some-read.superblock, first_superblock bytes _ c.args.file.now.whole.items c.args.file.now.count c.in-Some-read.superblock are (sym c.in-Some.ensures) (search rules), search rules))
 
-pub returns-clause-superblock : goal.returns-clause-superblock
-returns-clause-superblock c =
+pub returns-then-count-from-clause-superblock : goal.returns-then-count-from-clause-superblock
+returns-then-count-from-clause-superblock c =
     λ bytes are. record {
       superblock = first_superblock bytes _ c.args.file.now.whole.items c.args.file.now.count c.in-Some-read.superblock are (sym c.in-Some.ensures) (search rules);
       length_is = search rules;
