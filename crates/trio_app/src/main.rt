@@ -24,7 +24,7 @@ mod threads;
 mod turns;
 mod words;
 
-pub use inputs::{IMAGE_LIMIT, SCRIPT_LIMIT, read_inputs};
+pub use inputs::{SCRIPT_LIMIT, read_inputs};
 pub use plain::plain_main;
 pub use status::{Outcome, Status};
 use std::alloc::Global;

@@ -5,15 +5,13 @@ use Rattle.std.proofs.Math.Seq.{drop-append_seam, take-add, take-append_seam}
 use Rattle.std.proofs.lemmas.List.{drop-drop, length-append, length-drop, length-take, take-append-drop, take-append-le, take_all}
 use Rattle.std.proofs.lemmas.Slice.{drop-put_mid, take-put_mid}
 use borrow.Rule.Slice.PartMut.{post_of, put_mid}
-use Rattle.trio_io.specs.Shelf.{Shelf, IsTold, IsLonger, OnlyReads}
+use Rattle.trio_io.specs.Shelf.{Shelf, IsTold, OnlyReads}
 use Rattle.trio_io.proofs.Loading.{IsFront, OnlyReads-trans}
 use Rattle.trio_page.specs.Field.{zeros}
 use Rattle.trio_page.proofs.Cursor.{length-zeros}
 use Rattle.trio_survey.specs.Stored.{bytes_in, pages_in}
-use Rattle.trio_image.specs.declared.fault.LoadFault.{LoadFault}
-use Rattle.trio_image.specs.declared.fault.LoadFault.TheVariants.{ReadFault, TooLong, Length, BadSuper, Fails, NoMemory}
 use Rattle.trio_image.specs.Image.{is_whole_page}
-use Rattle.trio_image.specs.inner.Reading.{IsPartOf, IsFileOf, StopsReading}
+use Rattle.trio_image.specs.inner.Reading.{IsPartOf, IsFileOf}
 use Rattle.trio_image.proofs.Pages.{bytes_in-snoc, length-bytes_in, pages_in-append, whole-snoc}
 
 -- ---- a page
@@ -47,14 +45,6 @@ pub record FileSoFar (name : List ℕ) (start now : Shelf) (pages : List (Option
   pub count : length pages ≡ turn
   pub whole : list_all is_whole_page pages ≡ true
   pub so_far : IsFront (bytes_in pages) (start.held name)
-
-pub stops_later : (name : List ℕ) (start now new : Shelf) (fault : LoadFault) → OnlyReads name start now → StopsReading name now new fault → StopsReading name start new fault
-stops_later name start now new ReadFault reads stops = omega (arith, reads.reads.later name, stops)
-stops_later name start now new TooLong reads stops = subst (λ (h : List ℕ → Option (List ℕ)). IsLonger 33554432 (h name)) reads.held stops
-stops_later name start now new NoMemory reads stops = tt
-stops_later name start now new (Length n) reads stops = absurd stops
-stops_later name start now new BadSuper reads stops = absurd stops
-stops_later name start now new (Fails rule ino page slot) reads stops = absurd stops
 
 -- ---- a page is filled
 
@@ -114,16 +104,6 @@ pub part_full : (content : Option (List ℕ)) (page : List ℕ) (count room at :
 part_full None page count room at is so_far = tt
 part_full (Some bs) page count room at is so_far = (omega (arith, so_far.0), so_far.1)
 
--- the file's end
-pub part_end : (start now : Option (List ℕ)) (page buf : List ℕ) (count n room at place : ℕ) → now ≡ start → place ≡ at + count → length buf ≡ room - count → count ≤ room → n ≡ 0
-    → IfSome start (λ bs. (count ≤ length bs - at) × (take count page ≡ take count (drop at bs)))
-    → IfSome now (λ bs. (n ≡ min (length buf) (length bs - place)) × (take n buf ≡ take n (drop place bs)))
-    → IsPartOf start at room page count
-part_end None now page buf count n room at place same here len le none so_far gives = tt
-part_end (Some bs) now page buf count n room at place same here len le none so_far gives =
-    let gave = rw (same, here) at gives in
-    (omega (arith, so_far.0, gave.0), so_far.1)
-
 -- ---- a file is read
 
 pub file_more : (content : Option (List ℕ)) (pages : List (Option (List ℕ))) (page : List ℕ) (i at n : ℕ) → length pages ≡ i → list_all is_whole_page pages ≡ true → length page ≡ 4096 → n ≡ 4096 → at ≡ 4096 * i → IsFront (bytes_in pages) content → IsPartOf content at 4096 page n → IsFront (bytes_in (pages ++ Some page ∷ [])) content
@@ -174,8 +154,3 @@ file_end content pages page i at room n count is few w len less fits here sum wi
         whole_are = sym (ap (λ (k : ℕ). pages_in k (bytes_in pages ++ take n page)) cut ∙ pages_in-append pages (take n page) w);
       };
     }
-
--- a byte past the limit
-pub file_longer : (content : Option (List ℕ)) (page : List ℕ) (at n : ℕ) → at ≡ 33554432 → 0 < n → IsPartOf content at 1 page n → IsLonger 33554432 content
-file_longer None page at n here some part = tt
-file_longer (Some bs) page at n here some part = omega (arith, part.0)

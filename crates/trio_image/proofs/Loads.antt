@@ -9,7 +9,7 @@ use Rattle.trio_image.specs.declared.fault.LoadFault.TheVariants.{ReadFault, Too
 use Rattle.trio_image.specs.Fault.{HasLength, IsPagesFault}
 use Rattle.trio_image.specs.Image.{ImagePages, IsVerified, IsWholeImage}
 use Rattle.trio_image.specs.Load.{IsRefused, LoadFails, Loads}
-use Rattle.trio_image.specs.inner.Reading.{AreFilePages, IsFileOf, IsFirstPageFault, StopsReading}
+use Rattle.trio_image.specs.inner.Reading.{AreFilePages, IsFileOf, IsFirstPageFault}
 use Rattle.trio_image.proofs.Images.{file_pages, pages_whole}
 use Rattle.trio_image.proofs.Pages.{length-pages_in}
 use Rattle.trio_image.proofs.Refused.{first_page_loads, first_page_refuses, load_refuses, pages_load}
@@ -22,14 +22,6 @@ pub file_whole : (content : Option (List ℕ)) (whole : List (Option (List ℕ))
 file_whole content whole count s file has = subst (IsWholeImage s) (sym (file_pages file.bytes whole count s file.are has)) (pages_whole file.bytes s has)
 
 -- ---- why there is no image
-
-pub stops_loading : (name : List ℕ) (old new : Shelf) (fault : LoadFault) → StopsReading name old new fault → LoadFails name old new fault
-stops_loading name old new ReadFault stops = stops
-stops_loading name old new TooLong stops = stops
-stops_loading name old new NoMemory stops = tt
-stops_loading name old new (Length n) stops = absurd stops
-stops_loading name old new BadSuper stops = absurd stops
-stops_loading name old new (Fails rule ino page slot) stops = absurd stops
 
 refused : (name : List ℕ) (old new : Shelf) (fault : LoadFault) → IsRefused (old.held name) fault → LoadFails name old new fault
 refused name old new ReadFault is = absurd is.cause

@@ -92,7 +92,11 @@ fn read_part<F: Files>(
     let mut count = 0;
     // Each turn takes a byte at least, so the turns don't run out.
     for _ in 0..room {
-        match files.read_at(name, (at + count) as u64, &mut page.bytes_mut()[count..room]) {
+        match files.read_at(
+            name,
+            (at + count) as u64,
+            &mut page.bytes_mut()[count..room],
+        ) {
             Err(_) => return Err(LoadFault::ReadFault),
             Ok(0) => return Ok(FilePart { page, count }),
             Ok(more) => count += more,

@@ -22,5 +22,5 @@ loop-preserved g c = record {
   turns = search rules;
   less = search rules;
   so_far = part_turn _ _ c.loop.page _ c.read_at.new.buf c.loop.count c.in-Ok.more c.args.room c.args.at _ (ap (λ (h : List ℕ → Option (List ℕ)). h c.args.name.now) c.loop.invariant.files.held) refl (search rules) (omega (arith, c.loop.invariant.less)) (omega (arith, c.loop.invariant.less, c.loop.invariant.whole, c.requires.fits)) (search rules)
-    c.bytes_mut.ensures.bytes c.loop.invariant.so_far c.in-Ok.ensures.bytes;
+      c.bytes_mut.ensures.bytes c.loop.invariant.so_far c.in-Ok.ensures.bytes;
 }
