@@ -32,30 +32,20 @@ use Rattle.trio_lists.proofs.Tabulated.{tabulated-length, tabulated-get}
 use Rattle.trio_surveys.proofs.Owned.{pages_are}
 use Rattle.trio_laws.proofs.Refusing.{read_listed}
 use Rattle.trio_laws.proofs.StateFacts.{tables as tables_of}
-use Rattle.trio_image.specs.Image.{is_whole_page, IsVerified, TablesAre}
+use Rattle.trio_image.specs.Image.{is_whole_page, IsVerified, IsWholeImage, TablesAre}
 use Rattle.trio_ctl.specs.Ctl.{or_zero, superblock_for, with_zeros}
 use Rattle.trio_allot.specs.Out.{OutByNumber}
 use Rattle.trio_ctl.proofs.AtHome.{IsAtHome, home_image, state_at_home}
-use Rattle.trio_ctl.specs.inner.Pages.{FillsPages, owner_pages, pages_from, shadow_pages, stored_pages, table_pages}
-use Rattle.trio_ctl.proofs.Wholes.{cond_same, tabulated-all}
-
-length-superblock : (s : Superblock) → length s.root ≡ 64 → length (superblock_bytes s) ≡ 4096
-unfolding superblock_bytes
-length-superblock s root = simp (length-append, length-zeros) (omega (arith, root))
-
-length-page : (k : ℕ) (bytes : List ℕ) → 4096 * k + 4096 ≤ length bytes → length (page_at k bytes) ≡ 4096
-length-page k bytes le = omega (arith, length-slice bytes (4096 * k) (4096 * k + 4096) le)
-
--- each page of a stored table is whole
-table_whole : (bytes : List ℕ) (n : ℕ) → length bytes ≡ 4096 * n → list_all is_whole_page (table_pages bytes n) ≡ true
-table_whole bytes n len =
-    tabulated-all is_whole_page (λ k. Some (page_at k bytes)) n (λ k lt. eq-eqb (length (page_at k bytes)) 4096 (length-page k bytes (omega (arith, len))))
+use Rattle.trio_image.specs.Front.{FillsPages, owner_count, shadow_count}
+use Rattle.trio_image.proofs.Storing.{laid_core, laid_count, laid_first, laid_superblock, laid_tables, laid_whole, tabulated-all, IsLaid}
+use Rattle.trio_ctl.specs.inner.Pages.{pages_from, stored_pages}
+use Rattle.trio_ctl.proofs.Wholes.{cond_same}
 
 no_lent : (t : Bool) → IsTrue t → t ≡ false → ⊥
 no_lent true e f = absurd cc
 no_lent false e f = absurd cc
 
-module _ (s : Superblock) (pages : List (Option (List ℕ))) (rows : List (Option Row)) (owners : List ℕ) (outs : OutByNumber) (creds : List Creds) (entries : ℕ) (k : IsAtHome s pages rows owners outs creds entries) (shadow_full : FillsPages (shadow_bytes rows) (page_count (32 * (length rows - 1)))) (owner_full : FillsPages (owner_bytes owners) (page_count (4 * length owners))) where
+module _ (s : Superblock) (pages : List (Option (List ℕ))) (rows : List (Option Row)) (owners : List ℕ) (outs : OutByNumber) (creds : List Creds) (entries : ℕ) (k : IsAtHome s pages rows owners outs creds entries) (shadow_full : FillsPages (shadow_bytes rows) (shadow_count rows)) (owner_full : FillsPages (owner_bytes owners) (owner_count owners)) where
   abbrev now : State
   now = state_at_home s pages rows owners outs creds entries
 
@@ -77,83 +67,31 @@ module _ (s : Superblock) (pages : List (Option (List ℕ))) (rows : List (Optio
   many_owners : length owners ≡ s.pages
   many_owners = ap length verifies.owners ∙ tabulated-length _ s.pages
 
-  abbrev shadow_count : ℕ
-  shadow_count = page_count (32 * (length rows - 1))
-
-  abbrev owner_count : ℕ
-  owner_count = page_count (4 * length owners)
-
-  shadow_end : s.first_owner ≡ 1 + shadow_count
-  shadow_end =
-      let e : length rows - 1 ≡ s.inodes = omega (arith, many_rows) in
-      (superblock_facts s k.fits).first_owner ∙ ap (λ (n : ℕ). 1 + page_count (32 * n)) (sym e)
-
-  owner_end : s.first_core ≡ s.first_owner + owner_count
-  owner_end = (superblock_facts s k.fits).first_core ∙ ap (λ (n : ℕ). s.first_owner + page_count (4 * n)) (sym many_owners)
-
-  in_core : s.first_core < s.pages
-  in_core = (superblock_facts s k.fits).core
-
-  length-shadow_pages : length (shadow_pages rows) ≡ shadow_count
-  length-shadow_pages = tabulated-length (λ n. Some (page_at n (padded_to_pages (shadow_bytes rows)))) shadow_count
-
-  length-owner_pages : length (owner_pages owners) ≡ owner_count
-  length-owner_pages = tabulated-length (λ n. Some (page_at n (padded_to_pages (owner_bytes owners)))) owner_count
-
   abbrev core_pages : List (Option (List ℕ))
   core_pages = pages_from pages s.first_core (s.pages - s.first_core)
 
-  length-core_pages : length core_pages ≡ s.pages - s.first_core
-  length-core_pages = tabulated-length (λ n. or_zero (slice_index_or pages (s.first_core + n) None)) (s.pages - s.first_core)
-
-  abbrev behind : List (Option (List ℕ))
-  behind = shadow_pages rows ++ (owner_pages owners ++ core_pages)
+  laid : IsLaid s rows owners core_pages
+  laid = record {
+    fits = k.fits;
+    root = k.root;
+    many_rows = many_rows;
+    many_owners = many_owners;
+    many_pages = tabulated-length (λ n. or_zero (slice_index_or pages (s.first_core + n) None)) (s.pages - s.first_core);
+  }
 
   pub stored_count : length stored ≡ s.pages
-  unfolding stored_pages
-  stored_count =
-      let a = length-append (shadow_pages rows) (owner_pages owners ++ core_pages) in
-      let b = length-append (owner_pages owners) core_pages in
-      let one : length (Some (superblock_bytes s) ∷ behind) ≡ suc (length behind) = refl in
-      one ∙ omega (arith, a, b, length-shadow_pages, length-owner_pages, length-core_pages, shadow_end, owner_end, in_core)
-
-  stored_behind : (n : ℕ) → get_or stored (1 + n) None ≡ get_or behind n None
-  unfolding stored_pages
-  stored_behind n = get_or-append-add (Some (superblock_bytes s) ∷ []) behind n None
+  stored_count = laid_count s rows owners core_pages laid
 
   stored_first : get_or stored 0 None ≡ Some (superblock_bytes s)
-  unfolding stored_pages
-  stored_first = refl
-
-  stored_shadow : (n : ℕ) → 1 + n < s.first_owner → get_or stored (1 + n) None ≡ Some (page_at n (padded_to_pages (shadow_bytes rows)))
-  stored_shadow n lt =
-      let below : n < shadow_count = omega (arith, shadow_end) in
-      let inside : n < length (shadow_pages rows) = omega (arith, length-shadow_pages, below) in
-      stored_behind n
-      ∙ get_or_append_left (shadow_pages rows) (owner_pages owners ++ core_pages) None n inside
-      ∙ tabulated-get (λ n. Some (page_at n (padded_to_pages (shadow_bytes rows)))) shadow_count n None below
-
-  stored_owner : (n : ℕ) → s.first_owner + n < s.first_core → get_or stored (s.first_owner + n) None ≡ Some (page_at n (padded_to_pages (owner_bytes owners)))
-  stored_owner n lt =
-      let below : n < owner_count = omega (arith, owner_end) in
-      let inside : n < length (owner_pages owners) = omega (arith, length-owner_pages, below) in
-      let place : s.first_owner + n ≡ 1 + (length (shadow_pages rows) + n) = omega (arith, shadow_end, length-shadow_pages) in
-      ap (λ (i : ℕ). get_or stored i None) place
-      ∙ stored_behind (length (shadow_pages rows) + n)
-      ∙ get_or-append-add (shadow_pages rows) (owner_pages owners ++ core_pages) n None
-      ∙ get_or_append_left (owner_pages owners) core_pages None n inside
-      ∙ tabulated-get (λ n. Some (page_at n (padded_to_pages (owner_bytes owners)))) owner_count n None below
+  stored_first = laid_first s rows owners core_pages laid
 
   pub stored_core : (p : ℕ) → s.first_core ≤ p → p < s.pages → get_or stored p None ≡ or_zero (get_or pages p None)
   stored_core p le lt =
       let n : ℕ = p - s.first_core in
       let below : n < s.pages - s.first_core = omega arith in
-      let place : p ≡ 1 + (length (shadow_pages rows) + (length (owner_pages owners) + n)) = omega (arith, shadow_end, owner_end, length-shadow_pages, length-owner_pages) in
       let back : s.first_core + n ≡ p = omega arith in
-      ap (λ (i : ℕ). get_or stored i None) place
-      ∙ stored_behind (length (shadow_pages rows) + (length (owner_pages owners) + n))
-      ∙ get_or-append-add (shadow_pages rows) (owner_pages owners ++ core_pages) (length (owner_pages owners) + n) None
-      ∙ get_or-append-add (owner_pages owners) core_pages n None
+      ap (λ (i : ℕ). get_or stored i None) (sym back)
+      ∙ laid_core s rows owners core_pages laid n
       ∙ tabulated-get (λ n. or_zero (slice_index_or pages (s.first_core + n) None)) (s.pages - s.first_core) n None below
       ∙ ap (λ (i : ℕ). or_zero (get_or pages i None)) back
 
@@ -185,21 +123,16 @@ module _ (s : Superblock) (pages : List (Option (List ℕ))) (rows : List (Optio
           let there : page_of core p ≡ Some bytes = ap (λ b. if b then get_or pages p None else None) (is_core_at p le lt) ∙ e in
           eq-eqb (length bytes) 4096 (k.kept.fit.full p bytes there)
 
-  stored_whole : list_all is_whole_page stored ≡ true
-  unfolding stored_pages
+  stored_whole : IsWholeImage s stored
   stored_whole =
-      let first : length (superblock_bytes s) == 4096 ≡ true = eq-eqb (length (superblock_bytes s)) 4096 (length-superblock s k.root) in
-      let a = table_whole (padded_to_pages (shadow_bytes rows)) shadow_count shadow_full in
-      let b = table_whole (padded_to_pages (owner_bytes owners)) owner_count owner_full in
-      let c : list_all is_whole_page core_pages ≡ true =
-      tabulated-all is_whole_page (λ n. or_zero (slice_index_or pages (s.first_core + n) None)) (s.pages - s.first_core) (λ n lt. core_whole (s.first_core + n) (omega arith) (omega arith)) in
-      rw (first, list_all-append is_whole_page (shadow_pages rows) (owner_pages owners ++ core_pages), a, list_all-append is_whole_page (owner_pages owners) core_pages, b, c) refl
+      laid_whole s rows owners core_pages laid shadow_full owner_full
+      (tabulated-all is_whole_page (λ n. or_zero (slice_index_or pages (s.first_core + n) None)) (s.pages - s.first_core) (λ n lt. core_whole (s.first_core + n) (omega arith) (omega arith)))
 
   pub stored_superblock : HasSuperblock s stored
-  stored_superblock = record { bytes = superblock_bytes s; here = stored_first; read = record { spelled = refl; root = k.root; fits = k.fits } }
+  stored_superblock = laid_superblock s rows owners core_pages laid
 
   tables : StoresTables s stored rows owners
-  tables = record { shadow = stored_shadow; owner = stored_owner }
+  tables = laid_tables s rows owners core_pages laid
 
   stored_agrees : AgreeOn core (with_other core stored) (survey core plain)
   stored_agrees m f p i e j =
@@ -226,7 +159,7 @@ module _ (s : Superblock) (pages : List (Option (List ℕ))) (rows : List (Optio
 
   -- the pages are an image that verifies
   pub stored_verified : IsVerified s stored
-  stored_verified = record { whole = record { count = stored_count; whole = stored_whole; superblock = stored_superblock }; verify = pages_verify }
+  stored_verified = record { whole = stored_whole; verify = pages_verify }
 
   -- with these tables
   pub stored_tables : TablesAre s stored rows owners

@@ -3,15 +3,7 @@ use Rattle.std.proofs.Common.{◌≡◌, ℕ, zero, suc, ◌<◌, Bool, true, fa
 use Rattle.std.specs.Prelude.{slice_get, if◌then◌else◌}
 use Rattle.std.specs.List.{list_all}
 use Rattle.std.proofs.lemmas.Bool.{and_parts, eqb-true}
-use Rattle.std.proofs.lemmas.List.Folds.{list_all-append}
-use Rattle.trio_lists.specs.Lists.{tabulated}
 use Rattle.trio_image.specs.Image.{is_whole_page}
-
-pub tabulated-all : {X : Type 0} (p : X → Bool) (f : ℕ → X) (n : ℕ) → ((k : ℕ) → k < n → p (f k) ≡ true) → list_all p (tabulated f n) ≡ true
-tabulated-all p f zero h = refl
-tabulated-all p f (suc n) h =
-    list_all-append p (tabulated f n) (f n ∷ [])
-    ∙ rw (tabulated-all p f n (λ k lt. h k (omega arith)), h n (omega arith)) refl
 
 -- a page of whole ones has 4096 bytes
 pub whole_at : (pages : List (Option (List ℕ))) (p : ℕ) (bytes : List ℕ) → list_all is_whole_page pages ≡ true → get_or pages p None ≡ Some bytes → length bytes ≡ 4096

@@ -127,35 +127,47 @@ module _ (core : Core) (root : core.root ≡ body_bytes empty_directory) where
       ext_get_or None (root_rows core.inodes) (rows_table core (root_of core ∷ [])) (length_is ∙ sym (tabulated-length (row_of core (root_of core ∷ [])) n)) each
       ∙ ap (rows_table core) (sym alone)
 
+  abbrev owner_here : ℕ → ℕ
+  owner_here page = if nat_lt page core.range.first then 0xFFFFFFFF else owner_of core (root_of core ∷ []) page
+
+  owner_below : (page : ℕ) → page < core.range.first → owner_here page ≡ 0xFFFFFFFF
+  owner_below page lt = rw (lt-ltb page core.range.first lt) refl
+
+  owner_behind : (page : ℕ) → core.range.first ≤ page → owner_here page ≡ 0
+  owner_behind page le = rw (le-ltb page core.range.first le) (owner_none page)
+
+  free_below : (page : ℕ) → page < core.range.first → get_or (free_owners core.range.end core.range.first) page 0 ≡ 0xFFFFFFFF
+  free_below page lt =
+      let before : List ℕ = replicate core.range.first 0xFFFFFFFF in
+      get_or_append_left before (replicate (core.range.end - core.range.first) 0) 0 page (omega (arith, length-replicate core.range.first 0xFFFFFFFF, lt))
+      ∙ get_or-replicate core.range.first page 0xFFFFFFFF 0 lt
+
+  free_behind : (page : ℕ) → core.range.first ≤ page → page < core.range.end → get_or (free_owners core.range.end core.range.first) page 0 ≡ 0
+  free_behind page le lt =
+      let before : List ℕ = replicate core.range.first 0xFFFFFFFF in
+      let behind : List ℕ = replicate (core.range.end - core.range.first) 0 in
+      let place : page ≡ length before + (page - core.range.first) = omega (arith, length-replicate core.range.first 0xFFFFFFFF, le) in
+      ap (λ (k : ℕ). get_or (before ++ behind) k 0) place
+      ∙ get_or-append-add before behind (page - core.range.first) 0
+      ∙ get_or-replicate (core.range.end - core.range.first) (page - core.range.first) 0 0 (omega arith)
+
+  length-free : core.range.first ≤ core.range.end → length (free_owners core.range.end core.range.first) ≡ core.range.end
+  length-free order =
+      let before : List ℕ = replicate core.range.first 0xFFFFFFFF in
+      let behind : List ℕ = replicate (core.range.end - core.range.first) 0 in
+      omega (arith, length-append before behind, length-replicate core.range.first 0xFFFFFFFF, length-replicate (core.range.end - core.range.first) 0, order)
+
   pub alone_owners : core.range.first ≤ core.range.end → free_owners core.range.end core.range.first ≡ owners_table core (survey core plain)
   alone_owners order =
-      let first : ℕ = core.range.first in
-      let last : ℕ = core.range.end in
-      let before : List ℕ = replicate first 0xFFFFFFFF in
-      let behind : List ℕ = replicate (last - first) 0 in
-      let many : length before ≡ first = length-replicate first 0xFFFFFFFF in
-      let rest : length behind ≡ last - first = length-replicate (last - first) 0 in
-      let length_is : length (before ++ behind) ≡ last = omega (arith, length-append before behind, many, rest, order) in
-      let owner : ℕ → ℕ = λ page. if nat_lt page first then 0xFFFFFFFF else owner_of core (root_of core ∷ []) page in
-      let each : (i : ℕ) → i < length (before ++ behind) → get_or (before ++ behind) i 0 ≡ get_or (tabulated owner last) i 0 = λ i lt.
-      let below : i < last = omega (arith, length_is, lt) in
-      elim (cases_lt i first) [
-        | inl low ↦
-            let test : owner i ≡ 0xFFFFFFFF = rw (lt-ltb i first low) refl in
-            get_or_append_left before behind 0 i (omega (arith, many, low))
-            ∙ get_or-replicate first i 0xFFFFFFFF 0 low
-            ∙ sym test
-            ∙ sym (tabulated-get owner last i 0 below)
-        | inr high ↦
-            let test : owner i ≡ 0 = rw (le-ltb i first high) (owner_none i) in
-            let place : i ≡ length before + (i - first) = omega (arith, many, high) in
-            ap (λ (k : ℕ). get_or (before ++ behind) k 0) place
-            ∙ get_or-append-add before behind (i - first) 0
-            ∙ get_or-replicate (last - first) (i - first) 0 0 (omega arith)
-            ∙ sym test
-            ∙ sym (tabulated-get owner last i 0 below)
+      let owners : List ℕ = free_owners core.range.end core.range.first in
+      let each : (i : ℕ) → i < length owners → get_or owners i 0 ≡ get_or (tabulated owner_here core.range.end) i 0 = λ i lt.
+      let below : i < core.range.end = omega (arith, length-free order, lt) in
+      let same : get_or owners i 0 ≡ owner_here i = elim (cases_lt i core.range.first) [
+        | inl low ↦ free_below i low ∙ sym (owner_below i low)
+        | inr high ↦ free_behind i high below ∙ sym (owner_behind i high)
       ] in
-      ext_get_or 0 (before ++ behind) (tabulated owner last) (length_is ∙ sym (tabulated-length owner last)) each
+      same ∙ sym (tabulated-get owner_here core.range.end i 0 below) in
+      ext_get_or 0 owners (tabulated owner_here core.range.end) (length-free order ∙ sym (tabulated-length owner_here core.range.end)) each
       ∙ ap (owners_table core) (sym alone)
 
 -- ---- what the tables count
