@@ -127,6 +127,9 @@ module _ (core : Core) (root : core.root ≡ body_bytes empty_directory) where
       ext_get_or None (root_rows core.inodes) (rows_table core (root_of core ∷ [])) (length_is ∙ sym (tabulated-length (row_of core (root_of core ∷ [])) n)) each
       ∙ ap (rows_table core) (sym alone)
 
+  abbrev controller : ℕ
+  controller = 0xFFFFFFFF
+
   abbrev owner_here : ℕ → ℕ
   owner_here page = if nat_lt page core.range.first then 0xFFFFFFFF else owner_of core (root_of core ∷ []) page
 
@@ -136,17 +139,20 @@ module _ (core : Core) (root : core.root ≡ body_bytes empty_directory) where
   owner_behind : (page : ℕ) → core.range.first ≤ page → owner_here page ≡ 0
   owner_behind page le = rw (le-ltb page core.range.first le) (owner_none page)
 
+  length-before : length (replicate core.range.first controller) ≡ core.range.first
+  length-before = length-replicate core.range.first controller
+
   free_below : (page : ℕ) → page < core.range.first → get_or (free_owners core.range.end core.range.first) page 0 ≡ 0xFFFFFFFF
   free_below page lt =
       let before : List ℕ = replicate core.range.first 0xFFFFFFFF in
-      get_or_append_left before (replicate (core.range.end - core.range.first) 0) 0 page (omega (arith, length-replicate core.range.first 0xFFFFFFFF, lt))
+      get_or_append_left before (replicate (core.range.end - core.range.first) 0) 0 page (omega (arith, length-before, lt))
       ∙ get_or-replicate core.range.first page 0xFFFFFFFF 0 lt
 
   free_behind : (page : ℕ) → core.range.first ≤ page → page < core.range.end → get_or (free_owners core.range.end core.range.first) page 0 ≡ 0
   free_behind page le lt =
       let before : List ℕ = replicate core.range.first 0xFFFFFFFF in
       let behind : List ℕ = replicate (core.range.end - core.range.first) 0 in
-      let place : page ≡ length before + (page - core.range.first) = omega (arith, length-replicate core.range.first 0xFFFFFFFF, le) in
+      let place : page ≡ length before + (page - core.range.first) = omega (arith, length-before, le) in
       ap (λ (k : ℕ). get_or (before ++ behind) k 0) place
       ∙ get_or-append-add before behind (page - core.range.first) 0
       ∙ get_or-replicate (core.range.end - core.range.first) (page - core.range.first) 0 0 (omega arith)
@@ -155,7 +161,8 @@ module _ (core : Core) (root : core.root ≡ body_bytes empty_directory) where
   length-free order =
       let before : List ℕ = replicate core.range.first 0xFFFFFFFF in
       let behind : List ℕ = replicate (core.range.end - core.range.first) 0 in
-      omega (arith, length-append before behind, length-replicate core.range.first 0xFFFFFFFF, length-replicate (core.range.end - core.range.first) 0, order)
+      let rest : length behind ≡ core.range.end - core.range.first = length-replicate (core.range.end - core.range.first) 0 in
+      omega (arith, length-append before behind, length-before, rest, order)
 
   pub alone_owners : core.range.first ≤ core.range.end → free_owners core.range.end core.range.first ≡ owners_table core (survey core plain)
   alone_owners order =
