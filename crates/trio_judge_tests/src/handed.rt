@@ -149,14 +149,19 @@ struct Handed {
 
 /// An image as it stands, from which files are lent.
 #[derive(Drop)]
-struct Lender {
-    root: [u8; 64],
-    home: Home,
-    rows: Shadow,
+pub struct Lender {
+    pub root: [u8; 64],
+    pub home: Home,
+    pub rows: Shadow,
 }
 
-/// The bundle after the writes, the rows of its image, and its library.
-pub fn handed_in(alloc: Global, grants: Grants, pokes: &[Poke]) -> Option<(Bundle, Shadow, Creds)> {
+/// Whether a file is held.
+pub fn has_holds(grants: Grants) -> bool {
+    !lent_of(grants).holds.is_empty()
+}
+
+/// The bundle after the writes, its image, which keeps a copy of all that was lent, and its library.
+pub fn handed_in(alloc: Global, grants: Grants, pokes: &[Poke]) -> Option<(Bundle, Lender, Creds)> {
     let lent = lent_of(grants);
     let mut lender = lender_of(alloc, lent.image)?;
     let mut handed = lend(alloc, &mut lender, &lent)?;
@@ -167,7 +172,7 @@ pub fn handed_in(alloc: Global, grants: Grants, pokes: &[Poke]) -> Option<(Bundl
         uid: lent.user,
         gid: lent.user,
     };
-    Some((bundle_of(alloc, handed)?, lender.rows, creds))
+    Some((bundle_of(alloc, handed)?, lender, creds))
 }
 
 fn sample(alloc: Global, image: Image) -> Option<Sample> {

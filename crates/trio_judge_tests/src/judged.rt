@@ -13,9 +13,9 @@ pub type Fault = (u8, u32, u32, u16);
 
 /// Judges what is lent, after the writes. `None`: there was no memory, or it can't be judged.
 pub fn fault_of(alloc: Global, grants: Grants, pokes: &[Poke]) -> Option<Fault> {
-    let (bundle, rows, creds) = handed_in(alloc, grants, pokes)?;
-    let case = case_of(alloc, creds, bundle, &rows, RANGE)?;
-    let fault = fault_in(alloc, &case, &rows);
+    let (bundle, lender, creds) = handed_in(alloc, grants, pokes)?;
+    let case = case_of(alloc, creds, bundle, &lender.rows, RANGE)?;
+    let fault = fault_in(alloc, &case, &lender.rows);
     case.into_bundle().discard();
     fault
 }

@@ -13,5 +13,7 @@ mod handed;
 mod judged;
 #[cfg(test)]
 mod releases;
+#[cfg(test)]
+mod whole;
 
 pub use checked::{broken_edge, case_of};

@@ -1,7 +1,8 @@
 //! Hostile bundles and worked releases, each with the lowest rule that it breaks and the place.
 
-use crate::handed::{Grants, Poke, Target};
+use crate::handed::{Grants, Poke, Target, has_holds};
 use crate::judged::{Fault, fault_of};
+use crate::whole::is_accepted;
 
 /// An entry `h` of the number 3 in slot 1 of the block of `a`; in that slot a mode alone, or the body
 /// of `f`; and the entry in slot 0 cleared.
@@ -254,12 +255,22 @@ const RELEASES: &[Release] = &[
     ),
 ];
 
+// What comes out where each rule holds.
+const SOUND: Fault = (0, 0, 0, 0);
+
+// The rules on the bundle and the whole image with its bytes say the same of each row. The whole image
+// is judged without holds alone, so rows with one are judged by the rules.
 #[test]
 fn each_release_is_judged_by_the_lowest_rule(rt: HostRuntime) {
     for (i, (grants, pokes, wanted)) in RELEASES.iter().enumerate() {
         assert!(rt;
             fault_of(rt.alloc(), *grants, pokes) == Some(*wanted),
             "row {i}"
+        );
+        assert!(rt;
+            has_holds(*grants)
+                || is_accepted(rt.alloc(), *grants, pokes) == Some(*wanted == SOUND),
+            "row {i} as a whole image"
         );
     }
 }
