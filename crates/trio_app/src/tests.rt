@@ -526,6 +526,27 @@ const TREE_SESSIONS: &[Session] = &[
         CUT_TREE,
         Out::Part(32_768, 32_769, b'h'),
     ),
+    // two directories exchange blocks in one bundle, and the one that was the root's has a new file then
+    (
+        "allot 2 1\ngrant write 1\ngrant write 2\npoke index 1 0 8 09\npoke body 1 16 0020\npoke index 2 0 8 0a\npoke body 2 16 0020\nrelease 1,2 9,10 -\ngrant write 1\ngrant write 2\npoke index 1 0 8 0a\npoke index 2 0 8 09\npoke block 1 1 0 040000000101000067\npoke block 1 1 192 a401\nrelease 1,2 - 4\n",
+        "2 allotted 9,10 4\n3 granted\n4 granted\n5 poked\n6 poked\n7 poked\n8 poked\n9 accepted\n10 granted\n11 granted\n12 poked\n13 poked\n14 poked\n15 poked\n16 accepted\nend nothing\n",
+        "tree\n0 d 755 0 0 1 /\n1 d 755 0 0 2 a\n2 f 644 0 0 5 f\n2 f 644 0 0 0 g\ninodes 4 pages 8 free 21\n",
+        Out::Part(8228, 8229, 2),
+    ),
+    // and blocks in which files stand, which then come from another directory
+    (
+        "grant write 1\ngrant write 2\npoke index 1 0 0 06\npoke index 2 0 0 04\nrelease 1,2 - -\ngrant write 1\ngrant write 2\nrelease 1,2 - -\n",
+        "2 granted\n3 granted\n4 poked\n5 poked\n6 refused I2\n7 granted\n8 granted\n9 accepted\nend nothing\n",
+        TREE,
+        Out::Part(32_768, 32_769, b'h'),
+    ),
+    // a block of the directory becomes the index page of its file
+    (
+        "allot 1 0\ngrant write 2\npoke index 2 0 8 09\npoke body 2 16 0020\nrelease 2 9 -\ngrant write 2\ngrant write 3\npoke index 2 0 8 00\npoke body 2 16 0010\npoke body 3 12 09\npoke block 2 1 0 08\nrelease 2,3 - -\n",
+        "2 allotted 9 -\n3 granted\n4 poked\n5 poked\n6 accepted\n7 granted\n8 granted\n9 poked\n10 poked\n11 poked\n12 poked\n13 accepted\nend nothing\n",
+        TREE,
+        Out::Part(8228, 8229, 3),
+    ),
     // a child is dropped
     (
         "grant write 2\npoke block 2 0 0 00000000\nrelease 2 - -\n",
