@@ -1,4 +1,5 @@
-//! What a turn costs without others in it, and what the judge takes for bundles of many pages.
+//! What a turn costs without others in it, what the judge takes for bundles of many pages, and what a
+//! release costs in images of several sizes.
 //!
 //! - `trio_bench turn COUNT` takes a value out of its cell and gives it back COUNT times, and locks a
 //!   `Mutex` of std's with the same value COUNT times, all on one thread, five times over. It prints
@@ -6,6 +7,8 @@
 //!   ratio.
 //! - `trio_bench judge` judges bundles of directory pages, each five times over, and prints how often
 //!   the time of one goes into that of another.
+//! - `trio_bench release` releases a file of one block in an image of 64 pages, and in images of 1,024
+//!   and of 8,192 pages, and prints how often the time of the first goes into those of the others.
 //!
 //! It is measured and not proved; the figures of a run are in `docs/GATE.md`.
 #![tactic(auto)]
@@ -15,8 +18,10 @@ ghost use Rattle.trio_turn.specs.Seats.{cell, cell_of, has, IsSameSeat};
 
 mod bundles;
 mod judging;
+mod releasing;
 
 use crate::judging::measure_judge;
+use crate::releasing::measure_release;
 use std::alloc::Global;
 use std::rt::{Clock, Env};
 use std::sync::{Mutex, Wait};
@@ -108,6 +113,7 @@ enum Asked {
     /// So many turns.
     Turn(u64),
     Judge,
+    Release,
 }
 
 /// What the command line asks for.
@@ -119,6 +125,9 @@ fn read_words<R: Env + AllocGlobal>(rt: &R) -> io::Result<Option<Asked>> {
     };
     if what.as_str() == "judge" {
         return Ok(Some(Asked::Judge));
+    }
+    if what.as_str() == "release" {
+        return Ok(Some(Asked::Release));
     }
     let Some(count) = words.next() else {
         return Ok(None);
@@ -147,6 +156,11 @@ fn main(rt: HostRuntime) -> io::Result<()> {
     match read_words(&rt)? {
         Some(Asked::Turn(count)) => measure_turn(&rt, count),
         Some(Asked::Judge) => measure_judge(&rt),
-        None => println!(rt; "usage: trio_bench turn COUNT\n       trio_bench judge"),
+        Some(Asked::Release) => measure_release(&rt),
+        None => {
+            println!(rt;
+                "usage: trio_bench turn COUNT\n       trio_bench judge\n       trio_bench release"
+            )
+        }
     }
 }

@@ -18,3 +18,4 @@ pub mod ClosingFacts
 pub mod Concluding
 pub mod Judging
 pub mod Cases
+pub mod Given

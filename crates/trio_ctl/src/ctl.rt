@@ -47,6 +47,14 @@ impl Model for Ctl {
 }
 
 impl Ctl {
+    /// How often a page at home was looked at, as home itself counts. At 2^64 - 1 it may have been
+    /// more.
+    pub fn looked(&self) -> u64
+        ensures { result ≡ self.now.looked }
+    {
+        self.store.home.looked()
+    }
+
     // the credentials of a library
     pub(crate) fn creds(&self, lib: LibNo) -> Creds
         requires { IsLibrary lib self.now.state }

@@ -1,14 +1,15 @@
-ghost use Rattle.std.specs.Prelude.{◌≡◌, IfSome, length};
+ghost use Rattle.std.specs.Prelude.{◌≡◌, ◌∷◌, [], IfSome, length};
+ghost use Rattle.trio_lease.specs.Views.{bundle_in, written_in};
 
 use super::*;
 use std::alloc::Global;
 use trio_image::{Counts, Image, bytes_of};
-use trio_lease::{Allotted, Lease, WriteLease};
-use trio_nodes::{GrantFault, GrantKind, Holder};
-use trio_page::PageNo;
+use trio_lease::{Allotted, Bundle, Lease, WriteLease};
+use trio_nodes::{GrantFault, GrantKind, Holder, ReleaseAnswer};
 use trio_page::field::all_zero;
+use trio_page::{PageNo, Reads};
 use trio_rights::{Creds, LibNo};
-use trio_samples::files::root;
+use trio_samples::files::{root, workload_tree};
 use trio_samples::{Sample, directory, put};
 
 // An image with an empty root, or with one that lists the directory `a` with inode number 2: page 3 is
@@ -186,4 +187,56 @@ fn the_lowest_are_out(alloc: Global) -> Option<bool> {
 #[test]
 fn the_lowest_free_are_allotted(rt: HostRuntime) {
     assert!(rt; the_lowest_are_out(rt.alloc()) == Some(true));
+}
+
+// The lease alone, as a bundle.
+fn bundled(alloc: Global, lease: WriteLease) -> Option<Bundle>
+    ensures { IfSome result (λ bundle. bundle_in bundle ≡ record { writes = written_in lease.stands ∷ []; holds = []; pages = []; numbers = [] }) }
+{
+    let mut bundle = Bundle::new(alloc);
+    match bundle.add_write(lease) {
+        Ok(()) => Some(bundle),
+        Err((lease, _)) => {
+            lease.discard();
+            bundle.discard();
+            None
+        }
+    }
+}
+
+// The looks at home and the reads of a release of a file that was lent and is as it was.
+fn looks_of_release(alloc: Global, ctl: &mut Ctl, ino: u32) -> Option<(u64, u64)>
+    requires { length ctl.old.state.creds ≡ 1 }
+{
+    let lease = match ctl.grant(LibNo(1), ino, GrantKind::Write) {
+        Ok(Lease::Write(lease)) => lease,
+        Ok(lease) => {
+            lease.discard();
+            return None;
+        }
+        Err(_) => return None,
+    };
+    let bundle = bundled(alloc, lease)?;
+    let before = ctl.looked();
+    let mut reads = Reads::new();
+    match ctl.release(LibNo(1), bundle, &mut reads) {
+        Ok(ReleaseAnswer::Accepted) => Some((ctl.looked().saturating_sub(before), reads.count())),
+        Ok(ReleaseAnswer::Refused { .. }) => None,
+        Err((bundle, _)) => {
+            bundle.discard();
+            None
+        }
+    }
+}
+
+// Whether few pages are looked at for a file of one block, among the 813 files of an image of 8192 pages.
+fn looks_at_few(alloc: Global) -> Option<bool> {
+    let bytes = workload_tree(alloc).ok()?.bytes(alloc).ok()?;
+    let (looked, reads) = looks_of_release(alloc, &mut started(alloc, &bytes, 0)?, 400)?;
+    Some(looked <= 3 && reads <= 7)
+}
+
+#[test]
+fn a_release_looks_at_its_bundle_alone(rt: HostRuntime) {
+    assert!(rt; looks_at_few(rt.alloc()) == Some(true));
 }

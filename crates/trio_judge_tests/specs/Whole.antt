@@ -1,5 +1,5 @@
 -- What is looked at before a whole image is judged. Cited by private functions alone.
-use Rattle.std.specs.Prelude.{◌≡◌, ◌<◌, ℕ, ◌==◌, ◌&&◌, Bool, List, Option, None, Some, length, map, nat_lt, slice_index_or, ⊥}
+use Rattle.std.specs.Prelude.{◌≡◌, ◌<◌, ℕ, ◌==◌, ◌&&◌, Bool, List, Option, None, Some, length, map, nat_lt, slice_index_or}
 use Rattle.std.specs.List.{list_all}
 use Rattle.trio_rights.specs.Sheets.{Sheet}
 use Rattle.trio_lease.specs.Shown.{LentFile}

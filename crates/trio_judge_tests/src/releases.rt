@@ -268,8 +268,7 @@ fn each_release_is_judged_by_the_lowest_rule(rt: HostRuntime) {
             "row {i}"
         );
         assert!(rt;
-            has_holds(*grants)
-                || is_accepted(rt.alloc(), *grants, pokes) == Some(*wanted == SOUND),
+            has_holds(*grants) || is_accepted(rt.alloc(), *grants, pokes) == Some(*wanted == SOUND),
             "row {i} as a whole image"
         );
     }

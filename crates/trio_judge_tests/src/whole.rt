@@ -1,20 +1,20 @@
 //! What the whole image with the bytes of a bundle comes to, for bundles without holds.
 
-ghost use Rattle.std.specs.Prelude.{◌≡◌, ◌≢◌, ◌<◌, ℕ, List, [], IsTrue, Some, None, ◌==◌, ◌&&◌, length, map, nat_lt, slice_index_or, true};
+ghost use Rattle.std.specs.Prelude.{◌≡◌, ◌≢◌, ◌<◌, ℕ, List, [], IsTrue, Some, None, map, slice_index_or, true};
 ghost use Rattle.std.specs.List.{list_all};
 ghost use Rattle.trio_rights.specs.Bundle.{bundle_sheets};
 ghost use Rattle.trio_rights.specs.Row.{Row, row_in};
 ghost use Rattle.trio_rights.specs.Sheets.{Sheet};
 ghost use Rattle.trio_lists.specs.Lists.{In};
-ghost use Rattle.trio_lease.specs.Views.{bundle_in, lent_sheet};
+ghost use Rattle.trio_lease.specs.Views.{bundle_in, fresh_sheet, lent_sheet};
 ghost use Rattle.trio_layout.specs.Range.{is_core};
 ghost use Rattle.trio_proposal.specs.Judgement.{CanBeJudged, image_of};
-ghost use Rattle.trio_judge_tests.specs.Whole.{AreWhole, IsWhole, file_fits, sheet_fits};
+ghost use Rattle.trio_judge_tests.specs.Whole.{AreWhole, IsWhole, sheet_fits};
 
 use crate::handed::{Grants, Lender, Poke, RANGE, handed_in};
 use std::alloc::Global;
 use trio_layout::CoreRange;
-use trio_lease::{Bundle, WriteLease};
+use trio_lease::{Bundle, FreshPage, WriteLease};
 use trio_page::{Home, PAGE_SIZE, Page, PageNo, Reads};
 use trio_proposal::{Verdict, judge};
 use trio_rights::Creds;
@@ -112,8 +112,13 @@ fn bundle_fits(bundle: &Bundle, count: usize) -> bool
             return false;
         }
     }
-    bundle
-        .pages()
+    fresh_fit(bundle.pages(), count)
+}
+
+fn fresh_fit(pages: &[FreshPage], count: usize) -> bool
+    ensures { result ≡ list_all (λ p. sheet_fits count (fresh_sheet p)) pages.now }
+{
+    pages
         .iter()
         .all(|page| page_fits(page.no(), page.page(), count))
 }

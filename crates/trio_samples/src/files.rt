@@ -49,6 +49,31 @@ pub fn large_tree(alloc: Global) -> Result<Sample, NoMemory> {
     Ok(sample)
 }
 
+/// The bytes that a file of the workload's image has first.
+const LETTERS: [u8; 64] = [b'a'; 64];
+
+/// An image of the shape and size in which the generator's workload leaves one: 8192 pages, 2048
+/// inode numbers of which 813 are live, and directories `/d1` to `/d4`, each with `a` and `b`. Files
+/// of one block, of inode numbers 14 to 813, stand in these: 150 in each `a`, 50 in each `b`.
+pub fn workload_tree(alloc: Global) -> Result<Sample, NoMemory> {
+    let mut sample = Sample::of(alloc, 8192, 2048, &[root()])?;
+    for k in 0..4_u32 {
+        let tree = 2 + 3 * k;
+        sample.add(&directory(tree, 1, &[b'd', b'1' + k as u8]));
+        sample.add(&directory(tree + 1, tree, b"a"));
+        sample.add(&directory(tree + 2, tree, b"b"));
+    }
+    for i in 0..800_u32 {
+        let part = if i % 16 < 12 { 3 } else { 4 };
+        let [hundreds, tens, ones] = digits(i);
+        let name = [b'f', hundreds, tens, ones];
+        let content = &LETTERS[..1 + i as usize % 64];
+        sample.add(&regular(14 + i, part + 3 * (i % 4), &name, content));
+    }
+    sample.store_tables();
+    Ok(sample)
+}
+
 // the last three decimal digits of a number
 fn digits(n: u32) -> [u8; 3] {
     [

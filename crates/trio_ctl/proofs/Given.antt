@@ -1,0 +1,99 @@
+-- A lease that was just granted may be handed in. Cited by tests alone.
+use Rattle.std.proofs.Common.{◌≡◌, ℕ, List, [], ◌∷◌, ◌++◌, length, map, Option, Some, None, inl, inr, refl, sym, ap, subst, ◌∙◌}
+use Rattle.std.specs.Prelude.{Result, Ok, Err}
+use Rattle.std.specs.List.{flat_map}
+use Rattle.std.specs.Option.{IsSomeAnd}
+use Rattle.trio_rights.specs.Row.{Row}
+use Rattle.trio_rights.specs.Bundle.{Bundle, Written, bundle_sheets}
+use Rattle.trio_rights.specs.Sheets.{Sheet, sheet_numbers}
+use Rattle.trio_nodes.specs.declared.grant.GrantKind.TheVariants.{Write}
+use Rattle.trio_nodes.specs.declared.answers.GrantFault.{GrantFault}
+use Rattle.trio_lists.specs.Lists.{In}
+use Rattle.trio_lists.proofs.Members.{In-cases, In-right, flat_map-In}
+use Rattle.trio_lease.specs.Shown.{LentFile}
+use Rattle.trio_lease.specs.Views.{lent_sheet, written_in}
+use Rattle.trio_lease.specs.declared.lease.Lease.{Lease}
+use Rattle.trio_lease.specs.declared.lease.Lease.TheVariants.{Write as WriteLent}
+use Rattle.trio_layout.specs.Chain.{Chain}
+use Rattle.trio_layout.specs.Core.{Core, Location}
+use Rattle.trio_layout.specs.Image.{IsFit, row_at}
+use Rattle.trio_layout.specs.Pages.{block_sheets, index_sheets, settled_chain, sheets_of}
+use Rattle.trio_surveys.proofs.Sheets.{sheets_in}
+use Rattle.trio_state.specs.Given.{GivenTo, WasLent}
+use Rattle.trio_state.specs.Grants.{grant_fault, opened, opens}
+use Rattle.trio_state.specs.Kept.{Kept}
+use Rattle.trio_state.specs.State.{OpenGrant, State, settled}
+use Rattle.trio_state.specs.Step.{Comes, Done, Grant, Granted, NoMemory, NotGranted, Step, granted_to}
+use Rattle.trio_ctl.specs.Open.{lease_of, untouched}
+use Rattle.trio_ctl.proofs.LendLemmas.{sheets_untouched}
+
+-- a lease alone, as a bundle
+abbrev pub lease_alone : LentFile → Bundle
+lease_alone f = record { writes = written_in f.stands ∷ []; holds = []; pages = []; numbers = [] }
+
+full_sheet : (core : Core) (chain : Result Chain Location) (x : Sheet) → IsFit core → In x (index_sheets core chain ++ block_sheets core chain) → length x.bytes ≡ 4096
+full_sheet core (Err p) x fit i = absurd i
+full_sheet core (Ok c) x fit i =
+    elim (In-cases x (sheets_of core c.index) (sheets_of core c.blocks) i) [
+      | inl a ↦ fit.full x.page x.bytes (sheets_in core c.index x a).1
+      | inr b ↦ fit.full x.page x.bytes (sheets_in core c.blocks x b).1
+    ]
+
+-- the pages of the bundle are those that the grant lent
+lent_alone : (g : OpenGrant) (x : Sheet) → In x (bundle_sheets (lease_alone (lease_of g))) → In x (g.index ++ g.blocks)
+lent_alone g x i =
+    let sheets : Written → List Sheet = λ w. w.index ++ w.blocks in
+    let lent : Written = written_in (lease_of g).stands in
+    elim (In-cases x (flat_map sheets (lent ∷ [])) [] i) [
+      | inl there ↦
+          let w = flat_map-In sheets x (lent ∷ []) there in
+          elim w.1 [
+            | inl is ↦
+                let at : In x (map lent_sheet (map untouched g.index) ++ map lent_sheet (map untouched g.blocks)) = subst (λ (v : Written). In x (sheets v)) is w.2 in
+                subst (In x) (ap (λ xs. xs ++ map lent_sheet (map untouched g.blocks)) (sheets_untouched g.index) ∙ ap (λ xs. g.index ++ xs) (sheets_untouched g.blocks)) at
+            | inr none ↦ absurd none
+          ]
+      | inr none ↦ absurd none
+    ]
+
+-- after the grant the lease may be handed in, and the libraries are as many
+pub granted_is_given : (s s' : State) (ino : ℕ) (f : LentFile) → Kept s → Step s (Grant 1 ino Write) (Granted 0) s'
+    → IsSomeAnd (row_at s.home ino) (λ r. WriteLent f ≡ WriteLent (lease_of (opened s 1 ino Write r)))
+    → GivenTo s' 1 (lease_alone f) × (s'.creds ≡ s.creds)
+granted_is_given s s' ino f kept step lease =
+    elim step [
+      | inl does ↦ by (grant_fault s 1 ino Write) (row_at s.home ino) does lease
+      | inr none ↦ let wrong : Granted 0 ≡ NoMemory = none.1.0 in absurd (cc wrong)
+    ]
+  where
+    by : (fault : Option GrantFault) (row : Option Row) → Comes (granted_to s 1 ino Write fault row) (Granted 0) s'
+        → IsSomeAnd row (λ r. WriteLent f ≡ WriteLent (lease_of (opened s 1 ino Write r)))
+        → GivenTo s' 1 (lease_alone f) × (s'.creds ≡ s.creds)
+    by (Some fault) row c l = let wrong : Granted 0 ≡ NotGranted fault = c.0 in absurd (cc wrong)
+    by None None c l = let wrong : Granted 0 ≡ Done = c.0 in absurd (cc wrong)
+    by None (Some r) c l =
+        let g : OpenGrant = opened s 1 ino Write r in
+        let is : f ≡ lease_of g = cc l in
+        let stands : In g s'.open_grants = subst (λ (t : State). In g t.open_grants) (sym c.1) (In-right g s.open_grants (g ∷ []) (inl refl)) in
+        let lent : WasLent s' 1 (written_in (lease_of g).stands) = record {
+          grant = g;
+          is_open = stands;
+          lib = refl;
+          kind = refl;
+          ino = refl;
+          of = refl;
+          index = ap sheet_numbers (sheets_untouched g.index);
+          blocks = ap sheet_numbers (sheets_untouched g.blocks);
+        } in
+        let given : GivenTo s' 1 (lease_alone (lease_of g)) = record {
+          writes = λ w i. elim i [ inl same ↦ subst (WasLent s' 1) (sym same) lent | inr none ↦ absurd none ];
+          holds = λ n i. absurd i;
+          pages = λ n i. absurd i;
+          numbers = λ n i. absurd i;
+          full = λ x i. full_sheet (settled s).core (settled_chain (settled s) r.kind ino) x kept.fit (lent_alone g x i);
+          writes_once = refl;
+          holds_once = refl;
+          pages_once = refl;
+          numbers_once = refl;
+        } in
+        (subst (λ (h : LentFile). GivenTo s' 1 (lease_alone h)) (sym is) given, ap (λ (t : State). t.creds) c.1)
