@@ -8,7 +8,8 @@ use std::io;
 use std::rt::Clock;
 use std::time::Instant;
 use trio_ctl::Ctl;
-use trio_image::Image;
+use trio_image::{Image, load};
+use trio_io::SureFiles;
 use trio_lease::{Bundle, Lease, WriteLease};
 use trio_nodes::{GrantKind, ReleaseAnswer};
 use trio_page::Reads;
@@ -71,10 +72,20 @@ fn started(alloc: Global, pages: u32) -> Option<Ctl>
     ensures { IfSome result (λ ctl. length ctl.state.creds ≡ 1) }
 {
     let sample = Sample::of(alloc, pages, 2 * pages, &one_file()).ok()?;
-    let bytes = sample.bytes(alloc).ok()?;
-    let image = Image::from_bytes(alloc, &bytes).ok()?;
+    let image = image_of(alloc, sample.bytes(alloc).ok()?)?;
     let libs = vec![in alloc; Creds { uid: 0, gid: 0 }].ok()?;
     Ctl::start(alloc, image, libs).ok()
+}
+
+/// The image of these bytes.
+fn image_of(alloc: Global, bytes: Vec<u8>) -> Option<Image> {
+    let names = vec![in alloc; String::from_str(alloc, "a.img").ok()?].ok()?;
+    let mut files = SureFiles::new(alloc, names).ok()?;
+    files.hold("a.img", bytes);
+    if !files.serves("a.img") {
+        return None;
+    }
+    load(alloc, &mut files, "a.img").ok()
 }
 
 /// The nanoseconds of the releases of a round.

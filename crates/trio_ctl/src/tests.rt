@@ -3,7 +3,8 @@ ghost use Rattle.trio_lease.specs.Views.{bundle_in, written_in};
 
 use super::*;
 use std::alloc::Global;
-use trio_image::{Counts, Image, bytes_of};
+use trio_image::{Counts, Image, load};
+use trio_io::SureFiles;
 use trio_lease::{Allotted, Bundle, Lease, WriteLease};
 use trio_nodes::{GrantFault, GrantKind, Holder, ReleaseAnswer};
 use trio_page::field::all_zero;
@@ -23,20 +24,30 @@ fn image_bytes(alloc: Global, with_directory: bool) -> Option<Vec<u8>> {
     sample.ok()?.bytes(alloc).ok()
 }
 
+fn image_of(alloc: Global, bytes: &[u8]) -> Option<Image> {
+    let names = vec![in alloc; String::from_str(alloc, "a.img").ok()?].ok()?;
+    let mut files = SureFiles::new(alloc, names).ok()?;
+    files.hold("a.img", bytes.to_vec(alloc).ok()?);
+    if !files.serves("a.img") {
+        return None;
+    }
+    load(alloc, &mut files, "a.img").ok()
+}
+
 // A controller over the image of these bytes, for one library of this uid.
 fn started(alloc: Global, bytes: &[u8], uid: u32) -> Option<Ctl>
     ensures { IfSome result (λ ctl. length ctl.state.creds ≡ 1) }
 {
-    let image = Image::from_bytes(alloc, bytes).ok()?;
+    let image = image_of(alloc, bytes)?;
     let libs = vec![in alloc; Creds { uid, gid: 0 }].ok()?;
     Ctl::start(alloc, image, libs).ok()
 }
 
 // Whether the settled image has these bytes and counts.
 fn stores(alloc: Global, ctl: &mut Ctl, bytes: &[u8], counts: Counts) -> Option<bool> {
-    let mut image = ctl.image().ok()?;
+    let image = ctl.image().ok()?;
     let is_counted = image.counts() == counts;
-    Some(is_counted && bytes_of(alloc, &mut image).ok()?.as_slice() == bytes)
+    Some(is_counted && image.into_bytes(alloc).ok()?.as_slice() == bytes)
 }
 
 fn is_stored_again(alloc: Global, with_directory: bool, counts: Counts) -> Option<bool> {
