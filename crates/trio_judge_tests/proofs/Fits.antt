@@ -1,5 +1,5 @@
 -- A whole image that can be judged, from what was looked at.
-use Rattle.std.proofs.Common.{◌≡◌, ◌≢◌, ℕ, ◌+◌, ◌-◌, ◌<◌, ◌≤◌, eqb, ltb, nat_le, nat_lt, Bool, true, false, cond, ◌&&◌, List, [], ◌++◌, length, get_or, map, take, Option, Some, None, sym, ap, ◌∙◌, subst, inl, inr, refl, arith}
+use Rattle.std.proofs.Common.{◌≡◌, ◌≢◌, ℕ, ◌+◌, ◌<◌, ◌≤◌, eqb, nat_le, nat_lt, Bool, true, false, cond, List, [], ◌++◌, length, get_or, map, take, Option, Some, None, sym, ap, ◌∙◌, subst, inl, inr, refl, arith}
 use Rattle.std.specs.Prelude.{is_some, slice_get, slice_index_or, IsTrue}
 use Rattle.std.specs.List.{flat_map, list_all}
 use Rattle.std.proofs.lemmas.Bool.{and_parts, and_from, cases_lt, eqb-true, ltb-true, false≢true}

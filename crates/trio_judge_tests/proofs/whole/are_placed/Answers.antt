@@ -1,4 +1,4 @@
-use Rattle.std.proofs.Common.{◌≡◌, ◌≢◌, ◌<◌, ℕ, Some, arith}
+use Rattle.std.proofs.Common.{◌≡◌, ◌≢◌, ◌<◌, Some, arith}
 use Rattle.std.specs.Prelude.{IsTrue}
 use Rattle.trio_rights.specs.Row.{Row, row_in}
 use Rattle.trio_layout.specs.Range.{is_core}
