@@ -12,7 +12,6 @@ use Rattle.trio_lists.specs.Lists.{In}
 use Rattle.trio_lists.proofs.Members.{In-cases, In-right, flat_map-In}
 use Rattle.trio_lease.specs.Shown.{LentFile}
 use Rattle.trio_lease.specs.Views.{lent_sheet, written_in}
-use Rattle.trio_lease.specs.declared.lease.Lease.{Lease}
 use Rattle.trio_lease.specs.declared.lease.Lease.TheVariants.{Write as WriteLent}
 use Rattle.trio_layout.specs.Chain.{Chain}
 use Rattle.trio_layout.specs.Core.{Core, Location}
@@ -20,7 +19,7 @@ use Rattle.trio_layout.specs.Image.{IsFit, row_at}
 use Rattle.trio_layout.specs.Pages.{block_sheets, index_sheets, settled_chain, sheets_of}
 use Rattle.trio_surveys.proofs.Sheets.{sheets_in}
 use Rattle.trio_state.specs.Given.{GivenTo, WasLent}
-use Rattle.trio_state.specs.Grants.{grant_fault, opened, opens}
+use Rattle.trio_state.specs.Grants.{grant_fault, opened}
 use Rattle.trio_state.specs.Kept.{Kept}
 use Rattle.trio_state.specs.State.{OpenGrant, State, settled}
 use Rattle.trio_state.specs.Step.{Comes, Done, Grant, Granted, NoMemory, NotGranted, Step, granted_to}

@@ -1,21 +1,18 @@
 -- The pages that store the image of a state with nothing lent: they verify, and they store just that image, with all zeros in
 -- place of the pages that are out by allotment.
-use Rattle.std.proofs.Common.{◌≡◌, ℕ, suc, ◌+◌, ◌-◌, ◌*◌, ◌<◌, ◌≤◌, Bool, true, false, ◌==◌, List, [], ◌∷◌, ◌++◌, length, map, get_or, Option, Some, None, refl, sym, ap, subst, ◌∙◌, arith, inl, inr}
+use Rattle.std.proofs.Common.{◌≡◌, ℕ, ◌+◌, ◌-◌, ◌<◌, ◌≤◌, Bool, true, false, List, length, map, get_or, Option, Some, None, refl, sym, ap, subst, ◌∙◌, arith, inl, inr}
 use Rattle.std.specs.Prelude.{is_some, slice_get, slice_index, slice_index_or, if◌then◌else◌, IsTrue, nat_le, nat_lt}
-use Rattle.std.specs.List.{list_all}
 use Rattle.std.proofs.lemmas.Bool.{and_parts, eq-eqb, false≢true, le-leb, lt-ltb, leb-true, ltb-true}
-use Rattle.std.proofs.lemmas.List.{length-append, get_or-append-add, get_or-map, get_or_append_left}
-use Rattle.std.proofs.lemmas.List.Folds.{list_all-append}
+use Rattle.std.proofs.lemmas.List.{get_or-map}
 use Rattle.std.proofs.lemmas.Option.{slice_get-get_or}
 use Rattle.trio_tables.specs.Out.{NoneOut, is_out}
 use Rattle.trio_page.specs.Field.{zeros}
 use Rattle.trio_page.proofs.Cursor.{length-zeros}
-use Rattle.trio_page.proofs.Fields.{length-slice}
 use Rattle.trio_rights.specs.declared.rights.Creds.{Creds}
 use Rattle.trio_rights.specs.Row.{Row}
-use Rattle.trio_tables.specs.Stored.{shadow_bytes, owner_bytes, padded_to_pages, page_at}
+use Rattle.trio_tables.specs.Stored.{shadow_bytes, owner_bytes}
 use Rattle.trio_layout.specs.declared.superblock.Superblock.{Superblock}
-use Rattle.trio_layout.specs.Superblock.{page_count, superblock_bytes}
+use Rattle.trio_layout.specs.Superblock.{superblock_bytes}
 use Rattle.trio_layout.specs.Range.{is_core}
 use Rattle.trio_layout.specs.Core.{Core, page_of}
 use Rattle.trio_lists.specs.Lists.{In}

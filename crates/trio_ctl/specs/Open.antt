@@ -1,5 +1,5 @@
 -- The grants that are open, as the controller keeps them.
-use Rattle.std.specs.Prelude.{ℕ, List, [], map, Ok, false}
+use Rattle.std.specs.Prelude.{ℕ, List, map, Ok, false}
 use Rattle.trio_rights.specs.declared.kind.Kind.{Kind}
 use Rattle.trio_nodes.specs.declared.grant.GrantKind.TheVariants.{Write}
 use Rattle.trio_grants.specs.Grants.{Keyed}
