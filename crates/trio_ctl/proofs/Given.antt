@@ -62,7 +62,7 @@ pub granted_is_given : (s s' : State) (ino : ℕ) (f : LentFile) → Kept s → 
 granted_is_given s s' ino f kept step lease =
     elim step [
       | inl does ↦ by (grant_fault s 1 ino Write) (row_at s.home ino) does lease
-      | inr none ↦ let wrong : Granted 0 ≡ NoMemory = none.1.0 in absurd (cc wrong)
+      | inr none ↦ let wrong : Granted 0 ≡ NoMemory = none.1 in absurd (cc wrong)
     ]
   where
     by : (fault : Option GrantFault) (row : Option Row) → Comes (granted_to s 1 ino Write fault row) (Granted 0) s'
