@@ -50,6 +50,8 @@ pub enum Grants {
     Root,
     /// The same, and a hold of `a`.
     RootHoldingA,
+    /// Write leases on the root and `a`, a hold of `f`, and the allotted inode number 4.
+    RootAndAHoldingF,
     /// A write lease on the empty `b`, and the allotted pages 9 and 10.
     B,
     /// A write lease on the empty `t`, and the allotted pages 5 and 6 and inode number 3, of a library of
@@ -94,6 +96,12 @@ fn lent_of(grants: Grants) -> Lent {
         Grants::RootHoldingA => Lent {
             holds: &[2],
             ..root
+        },
+        Grants::RootAndAHoldingF => Lent {
+            writes: &[1, 2],
+            holds: &[3],
+            inodes: &[4],
+            ..f
         },
         Grants::B => Lent {
             image: Image::TwoDirectories,

@@ -146,6 +146,22 @@ const RELEASES: &[Release] = &[
     ),
     // a held file that goes
     (Grants::AHoldingF, &[CLEARED], (0, 0, 0, 0)),
+    // a held file that goes, and the block of its directory as a new file's index page
+    (
+        Grants::RootAndAHoldingF,
+        &[
+            (Target::Body(2), 12, b"\0\0\0\0\0\0\0\0\0\0\0\0"),
+            (Target::Block(2), 0, b"\x05\0\0\0\0\0\0\0\0"),
+            (Target::Block(2), 192, &[0; 25]),
+            (Target::Block(1), 256, b"\x04\0\0\0\x01\x01\0\0g"),
+            (
+                Target::Block(1),
+                448,
+                b"\xa4\x01\0\0\0\0\0\0\0\0\0\0\x06\0\0\0\x05\0\0\0\0\0\0\0",
+            ),
+        ],
+        (0, 0, 0, 0),
+    ),
     // a kind that there is not
     (
         Grants::AAndNumber,
