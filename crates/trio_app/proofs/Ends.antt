@@ -1,13 +1,13 @@
 -- How a run ends, and what the whole work comes to.
-use Rattle.std.proofs.Common.{◌≡◌, ℕ, zero, suc, ◌+◌, ◌<◌, ◌≤◌, min, List, [], ◌∷◌, ◌++◌, length, take, get_or, Option, Bool, inl, inr, refl, sym, ap, subst, ◌∙◌, arith}
+use Rattle.std.proofs.Common.{◌≡◌, ℕ, zero, suc, ◌+◌, ◌<◌, ◌≤◌, ◌⊎◌, min, List, [], ◌∷◌, ◌++◌, length, take, get_or, Option, Bool, inl, inr, refl, sym, ap, subst, ◌∙◌, arith}
 use Rattle.std.proofs.lemmas.List.{append-nil, append_assoc}
-use Rattle.trio_io.specs.Shelf.{Shelf, OnlyReplaces, Rose, told}
+use Rattle.trio_io.specs.Shelf.{Shelf, OnlyReads, OnlyReplaces, Rose, told}
 use Rattle.trio_tables.specs.Out.{NoneOut}
 use Rattle.trio_layout.specs.Core.{Core}
 use Rattle.trio_layout.specs.declared.superblock.Superblock.{Superblock}
 use Rattle.trio_layout.specs.Image.{Image}
 use Rattle.trio_state.specs.Kept.{Kept}
-use Rattle.trio_survey.specs.Stored.{BytesVerify, StoresImage, core_in, image_in, bytes_in, pages_in}
+use Rattle.trio_survey.specs.Stored.{HasSuperblock, StoresImage, core_in, image_in, bytes_in, pages_in}
 use Rattle.trio_state.specs.State.{State, settled}
 use Rattle.trio_state.specs.Run.{start}
 use Rattle.trio_layout.specs.Tree.{TreeLine, tree_of}
@@ -21,20 +21,24 @@ use Rattle.trio_report.specs.Report.{tree_text, counts_text, end_line, lib_headi
 use Rattle.trio_rights.specs.declared.rights.Creds.{Creds}
 use Rattle.trio_image.specs.declared.counts.Counts.{Counts}
 use Rattle.trio_image.specs.Counts.{counts_in_tables, counts_of}
-use Rattle.trio_image.specs.Image.{TablesAre}
+use Rattle.trio_image.specs.Image.{ImagePages, IsVerified, TablesAre}
+use Rattle.trio_image.specs.Load.{Loads}
+use Rattle.trio_image.specs.Made.{Fits, IsMade, new_counts}
 use Rattle.trio_ctl.specs.Ctl.{superblock_for}
 use Rattle.trio_runner.specs.Play.{Played}
 use Rattle.trio_runner.specs.Seen.{ScriptPlayed}
 use Rattle.trio_app.specs.declared.status.Status.{Status}
-use Rattle.trio_app.specs.declared.status.Status.TheVariants.{Done, WriteFault, NoMemory as StatusNoMemory}
-use Rattle.trio_app.specs.declared.stop.Stop.{Stop}
-use Rattle.trio_app.specs.declared.stop.Stop.TheVariants.{ImageFault, ImageNotBuilt, NotVerified, ScriptFault, ScriptNotBuilt, LineNotBuilt, NoMemory}
+use Rattle.trio_app.specs.declared.status.Status.TheVariants.{Done, NotVerified, Usage, ReadFault, WriteFault, NoMemory as StatusNoMemory, TooLong, NotBuilt}
+use Rattle.trio_app.specs.Check.{Check}
+use Rattle.trio_app.specs.Images.{ImageStops, OutKeeps}
 use Rattle.trio_app.specs.Inputs.{ReadsBoth}
-use Rattle.trio_app.specs.Lines.{write_fault_line}
+use Rattle.trio_app.specs.Lines.{made_line, usage_line, valid_line, write_fault_line}
+use Rattle.trio_app.specs.New.{New, NewCounts}
 use Rattle.trio_app.specs.Report.{answers_text, report_text, told_counts}
 use Rattle.trio_app.specs.inner.RunEnd.{IsRunEnd}
-use Rattle.trio_app.specs.inner.Stop.{InputStop, ReadsImage, ReadsScript, ToldStop, line_of, status_of}
-use Rattle.trio_app.specs.Turns.{Turns, TurnsComesTo, TurnsCounts, TurnsKeeps, libraries}
+use Rattle.trio_app.specs.inner.Saved.{IsSaved, SaveComesTo}
+use Rattle.trio_app.specs.inner.Stop.{ReadsScript}
+use Rattle.trio_app.specs.Turns.{InputsStop, Turns, TurnsComesTo, TurnsCounts, TurnsDone, TurnsWriteFault, libraries}
 use Rattle.trio_app.proofs.Headlines.{headline, no_page_out}
 use Rattle.trio_app.proofs.Trees.{tree_same}
 
@@ -60,12 +64,12 @@ reported lines tolds seen end end' ctl t last report same ended tables is stores
     ∙ ap (λ ls. T tolds end ls counts) tree ∙ ap (T tolds end (tree_of core)) (counts_same (settled ctl) t last tables)
 
 -- what a run comes to
-pub run_end : (s t : Superblock) (pages last : List (Option (List ℕ))) (libs : List Creds) (first final : State) (lines : List ScriptLine) (none after : List LineAnswer) (end : EndAnswer) (report bytes : List ℕ)
+pub run_end : (s t : Superblock) (pages last : List (Option (List ℕ))) (libs : List Creds) (first final : State) (lines : List ScriptLine) (none after : List LineAnswer) (end : EndAnswer) (report : List ℕ)
     → Kept first → libs ≡ libraries → first ≡ start (image_in s pages) libs → none ≡ [] → ScriptPlayed first.home first.creds lines none after end final
-    → TablesAre t last (settled final).rows (settled final).owners → t ≡ superblock_for (settled final).core → (NoneOut final.pages_out → StoresImage t (settled final) last) → bytes ≡ bytes_in last → BytesVerify bytes
+    → TablesAre t last (settled final).rows (settled final).owners → t ≡ superblock_for (settled final).core → (NoneOut final.pages_out → StoresImage t (settled final) last)
     → report ≡ lib_heading 1 Raw ++ answers_text lines after ++ end_line end ++ tree_text (tree_of (core_in t last)) ++ counts_text (told_counts (counts_of (image_in t last)))
-    → IsRunEnd s pages lines report bytes
-run_end s t pages last libs first final lines none after end report bytes k libs_are started nothing script tables is stores bytes_are verify text =
+    → IsRunEnd s pages lines report last
+run_end s t pages last libs first final lines none after end report k libs_are started nothing script tables is stores text =
     let begun : first ≡ start (image_in s pages) libraries = started ∙ ap (start (image_in s pages)) libs_are in
     let script' : ScriptPlayed (image_in s pages) libraries lines none after end final = subst (λ (f : State). ScriptPlayed f.home f.creds lines none after end final) begun script in
     let played : Played (image_in s pages) libraries lines = script'.played in
@@ -79,15 +83,18 @@ run_end s t pages last libs first final lines none after end report bytes k libs
       played = played;
       headline = headline (image_in s pages) libraries lines played k';
       put = reported lines played.tolds after played.end end played.last.state t last report seen (sym script'.end) tables' is' stored text;
-      last = last;
       stores = subst (λ (x : Superblock). StoresImage x (settled played.last.state) last) is' stored;
-      image_is = bytes_are;
-      verifies = verify;
     }
 
 -- a text that was put together
 pub joined : (t0 t1 t2 t3 t4 t5 a b c d e : List ℕ) → t0 ≡ [] → t1 ≡ t0 ++ a → t2 ≡ t1 ++ b → t3 ≡ t2 ++ c → t4 ≡ t3 ++ d → t5 ≡ t4 ++ e → t5 ≡ a ++ b ++ c ++ d ++ e
 joined t0 t1 t2 t3 t4 t5 a b c d e e0 e1 e2 e3 e4 e5 = rw (e5, e4, e3, e2, e1, e0) refl
+
+-- the image that was taken apart for its tree is put together again
+pub image_again : (image again : ImagePages) → IsVerified image.superblock image.pages → again.pages ≡ image.pages → ((s : Superblock) → HasSuperblock s image.pages → again.superblock ≡ s) → again ≡ image
+image_again image again verified pages superblock =
+    let of : Superblock → List (Option (List ℕ)) → ImagePages = λ s ps. record { superblock = s; pages = ps } in
+    ap (λ s. of s again.pages) (superblock image.superblock verified.whole.superblock) ∙ ap (of image.superblock) pages
 
 -- ---- the whole work
 
@@ -109,76 +116,129 @@ counts_replaced image script out old mid new files put = record {
   tells = put.tells ∙ files.tells;
 }
 
-stop_comes : (image script out : List ℕ) (old new : Shelf) (stop : Stop) → InputStop image script old new stop → TurnsComesTo image script out old new (line_of image script stop) (status_of stop)
-stop_comes image script out old new ImageFault rose = inl (rose, refl)
-stop_comes image script out old new ImageNotBuilt why = inl (refl, why)
-stop_comes image script out old new NotVerified fails = record { image_bytes = fails.image_bytes; image_is = fails.image_is; within = fails.within; fails = fails.fails; put = refl }
-stop_comes image script out old new ScriptFault why = inr (why.0, why.1, refl)
-stop_comes image script out old new ScriptNotBuilt why = inr (inl (refl, why.0, why.1))
-stop_comes image script out old new (LineNotBuilt number) line = inr (inr (number, refl, line))
-stop_comes image script out old new NoMemory never = refl
+stop_comes : (image script out : List ℕ) (old new : Shelf) (text : List ℕ) (status : Status) → InputsStop image script old new text status → TurnsComesTo image script out old new text status
+stop_comes image script out old new text NotVerified why = why
+stop_comes image script out old new text ReadFault why = why
+stop_comes image script out old new text StatusNoMemory why = why
+stop_comes image script out old new text TooLong why = why
+stop_comes image script out old new text NotBuilt why = why
+stop_comes image script out old new text _ why = absurd why
 
-stop_keeps : (out : List ℕ) (old new : Shelf) (stop : Stop) → new.held ≡ old.held → TurnsKeeps out old new (status_of stop)
-stop_keeps out old new ImageFault same = same
-stop_keeps out old new ImageNotBuilt same = same
-stop_keeps out old new NotVerified same = same
-stop_keeps out old new ScriptFault same = same
-stop_keeps out old new ScriptNotBuilt same = same
-stop_keeps out old new (LineNotBuilt number) same = same
-stop_keeps out old new NoMemory same = same
+stop_keeps : (image script out : List ℕ) (old new : Shelf) (text : List ℕ) (status : Status) → InputsStop image script old new text status → new.held ≡ old.held → OutKeeps out old new status
+stop_keeps image script out old new text NotVerified why same = same
+stop_keeps image script out old new text ReadFault why same = same
+stop_keeps image script out old new text StatusNoMemory why same = same
+stop_keeps image script out old new text TooLong why same = same
+stop_keeps image script out old new text NotBuilt why same = same
+stop_keeps image script out old new text _ why same = absurd why
+
+pub turns_stop : (image script out : List ℕ) (old new : Shelf) (text : List ℕ) (status : Status) → InputsStop image script old new text status → ReadsBoth image script old new → Turns image script out old new text status
+turns_stop image script out old new text status why files = record {
+  comes_to = stop_comes image script out old new text status why;
+  keeps = stop_keeps image script out old new text status why files.held;
+  counts = counts_read image script out old new files;
+}
 
 pub turns_no_memory : (image script out : List ℕ) (old new : Shelf) (text : List ℕ) (status : Status) → ReadsBoth image script old new → status ≡ StatusNoMemory → text ≡ [] → Turns image script out old new text status
 turns_no_memory image script out old new text status files is none =
     rw (is, none) (record { comes_to = refl; keeps = files.held; counts = counts_read image script out old new files })
 
-pub turns_stop : (image script out : List ℕ) (old new : Shelf) (stop : Stop) (text : List ℕ) (status : Status) → InputStop image script old new stop → ReadsBoth image script old new → ToldStop image script stop text status → Turns image script out old new text status
-turns_stop image script out old new stop text status why files (inl told) =
-    rw (told.0, told.1) (record { comes_to = stop_comes image script out old new stop why; keeps = stop_keeps out old new stop files.held; counts = counts_read image script out old new files })
-turns_stop image script out old new stop text status why files (inr lacking) = turns_no_memory image script out old new text status files lacking.0 lacking.1
+module _ (image script out : List ℕ) (old mid new : Shelf) (s : Superblock) (pages last : List (Option (List ℕ))) (lines : List ScriptLine) (report : List ℕ)
+    (image_read : Loads (old.held image) s pages) (script_read : ReadsScript script old lines) (files : ReadsBoth image script old mid) (end : IsRunEnd s pages lines report last) (put : OnlyReplaces out mid new) where
+  played_end : IsRunEnd s (pages_in s.pages image_read.bytes) (script_lines script_read.script_bytes) report last
+  played_end =
+      subst (λ ps. IsRunEnd s ps (script_lines script_read.script_bytes) report last) image_read.pages_are
+      (subst (λ ls. IsRunEnd s pages ls report last) script_read.lines_are end)
 
-pub turns_done : (image script out : List ℕ) (old mid new : Shelf) (s : Superblock) (pages : List (Option (List ℕ))) (lines : List ScriptLine) (report bytes : List ℕ) → ReadsImage image old s pages → ReadsScript script old lines → ReadsBoth image script old mid → IsRunEnd s pages lines report bytes
-    → OnlyReplaces out mid new → new.held out ≡ told mid.tells bytes → Turns image script out old new report Done
-turns_done image script out old mid new s pages lines report bytes image_read script_read files end put written =
-    let end' : IsRunEnd s (pages_in s.pages image_read.image_bytes) (script_lines script_read.script_bytes) report bytes =
-    subst (λ ps. IsRunEnd s ps (script_lines script_read.script_bytes) report bytes) image_read.is.pages_are
-    (subst (λ ls. IsRunEnd s pages ls report bytes) script_read.lines_are end) in
-    record {
-      comes_to = record {
-        image_bytes = image_read.image_bytes;
-        script_bytes = script_read.script_bytes;
-        image_is = image_read.image_is;
-        script_is = script_read.script_is;
-        script_within = script_read.within;
-        image_verifies = image_read.is.verifies;
-        script_built = script_read.built;
-        superblock = s;
-        lengths = image_read.is.lengths;
-        played = end'.played;
-        headline = end'.headline;
-        put = end'.put;
-        pages = end'.last;
-        stores = end'.stores;
-        written = written ∙ ap (λ (t : Bool). told t bytes) files.tells ∙ ap (told old.tells) end'.image_is;
-        written_verifies = rw (← end'.image_is) end'.verifies;
-      };
-      keeps = rw (← files.held) put.others;
-      counts = counts_replaced image script out old mid new files put;
-    }
+  done : (text : List ℕ) → IsSaved out last mid new → text ≡ report → TurnsDone image script out old new text
+  done text saved is = record {
+    image_bytes = image_read.bytes;
+    script_bytes = script_read.script_bytes;
+    image_is = image_read.told;
+    script_is = script_read.script_is;
+    image_within = image_read.within;
+    script_within = script_read.within;
+    image_verifies = image_read.verify;
+    script_built = script_read.built;
+    superblock = s;
+    lengths = image_read.lengths;
+    played = played_end.played;
+    headline = played_end.headline;
+    put = is ∙ played_end.put;
+    pages = last;
+    stores = played_end.stores;
+    written = saved.written ∙ ap (λ (t : Bool). told t (bytes_in last)) files.tells;
+    written_verifies = saved.verifies;
+  }
 
-pub turns_write_fault : (image script out : List ℕ) (old mid new : Shelf) (s : Superblock) (pages : List (Option (List ℕ))) (lines : List ScriptLine) (text : List ℕ) → ReadsImage image old s pages → ReadsScript script old lines → ReadsBoth image script old mid
-    → OnlyReplaces out mid new → Rose (mid.write_faults out) (new.write_faults out) → text ≡ write_fault_line out → Turns image script out old new text WriteFault
-turns_write_fault image script out old mid new s pages lines text image_read script_read files put rose line = record {
-  comes_to = record {
-    image_verifies = record { image_bytes = image_read.image_bytes; image_is = image_read.image_is; within = image_read.within; verifies = image_read.is.verifies };
+  fault : (text : List ℕ) → Rose (mid.write_faults out) (new.write_faults out) → text ≡ write_fault_line out → TurnsWriteFault image script out old new text
+  fault text rose line = record {
+    image_verifies = record { image_bytes = image_read.bytes; image_is = image_read.told; within = image_read.within; verifies = image_read.verify };
     script_bytes = script_read.script_bytes;
     script_is = script_read.script_is;
     script_within = script_read.within;
     script_built = script_read.built;
     rose = rw (← files.writes) rose;
     put = line;
+  }
+
+  pub turns_saved : (text : List ℕ) (status : Status) → SaveComesTo out last report mid new text status → Turns image script out old new text status
+  turns_saved text Done saved = record { comes_to = done text saved.0 saved.1; keeps = rw (← files.held) put.others; counts = counts_replaced image script out old mid new files put }
+  turns_saved text WriteFault saved = record { comes_to = fault text saved.0 saved.1; keeps = rw (← files.held) put.others; counts = counts_replaced image script out old mid new files put }
+  turns_saved text StatusNoMemory saved = record { comes_to = saved.1; keeps = saved.0 ∙ files.held; counts = counts_replaced image script out old mid new files put }
+  turns_saved text _ saved = absurd saved
+
+-- ---- a new image
+
+new_counts_rise : (out : List ℕ) (old new : Shelf) → OnlyReplaces out old new → NewCounts out old new
+new_counts_rise out old new put = record { reads = put.reads; writes = put.writes; serves = put.serves; tells = put.tells }
+
+nothing_rises : (out : List ℕ) (old new : Shelf) → new ≡ old → NewCounts out old new
+nothing_rises out old new same = rw same (record { reads = refl; writes = record { later = λ q. omega arith; others = λ q ne. refl }; serves = refl; tells = refl })
+
+pub new_no_memory : (out : List ℕ) (pages inodes : ℕ) (old : Shelf) (text : List ℕ) (status : Status) → status ≡ StatusNoMemory → text ≡ [] → New out pages inodes old old text status
+new_no_memory out pages inodes old text status is none = rw (is, none) (record { comes_to = refl; keeps = refl; counts = nothing_rises out old old refl })
+
+pub new_usage : (out : List ℕ) (pages inodes : ℕ) (old : Shelf) (text : List ℕ) (status : Status) → (Fits pages inodes → ⊥) → ((status ≡ Usage) × (text ≡ usage_line)) ⊎ ((status ≡ StatusNoMemory) × (text ≡ [])) → New out pages inodes old old text status
+new_usage out pages inodes old text status unfit (inl told) = rw (told.0, told.1) (record { comes_to = (unfit, refl); keeps = refl; counts = nothing_rises out old old refl })
+new_usage out pages inodes old text status unfit (inr lacking) = new_no_memory out pages inodes old text status lacking.0 lacking.1
+
+module _ (out : List ℕ) (pages inodes : ℕ) (old new : Shelf) (s : Superblock) (image : List (Option (List ℕ))) (line : List ℕ)
+    (fits : Fits pages inodes) (made : IsMade pages inodes s image) (line_is : line ≡ made_line pages inodes (new_counts pages inodes).free) (put : OnlyReplaces out old new) where
+  pub new_saved : (text : List ℕ) (status : Status) → SaveComesTo out image line old new text status → New out pages inodes old new text status
+  new_saved text Done saved = record {
+    comes_to = record { fits = fits; superblock = s; image = image; made = made; put = saved.1 ∙ line_is; written = saved.0.written; written_verifies = saved.0.verifies };
+    keeps = put.others;
+    counts = new_counts_rise out old new put;
+  }
+  new_saved text WriteFault saved = record { comes_to = record { fits = fits; rose = saved.0; put = saved.1 }; keeps = put.others; counts = new_counts_rise out old new put }
+  new_saved text StatusNoMemory saved = record { comes_to = saved.1; keeps = saved.0; counts = new_counts_rise out old new put }
+  new_saved text _ saved = absurd saved
+
+-- ---- an image that is checked
+
+pub check_stop : (image : List ℕ) (old new : Shelf) (text : List ℕ) (status : Status) → ImageStops image old new text status → OnlyReads image old new → Check image old new text status
+check_stop image old new text NotVerified why files = record { comes_to = why; files = files }
+check_stop image old new text ReadFault why files = record { comes_to = why; files = files }
+check_stop image old new text StatusNoMemory why files = record { comes_to = why; files = files }
+check_stop image old new text TooLong why files = record { comes_to = why; files = files }
+check_stop image old new text _ why files = absurd why
+
+pub check_no_memory : (image : List ℕ) (old new : Shelf) (text : List ℕ) (status : Status) → status ≡ StatusNoMemory → text ≡ [] → OnlyReads image old new → Check image old new text status
+check_no_memory image old new text status is none files = rw (is, none) (record { comes_to = refl; files = files })
+
+pub check_done : (image : List ℕ) (old new : Shelf) (s : Superblock) (pages : List (Option (List ℕ))) (text : List ℕ) → Loads (old.held image) s pages → OnlyReads image old new → text ≡ valid_line (told_counts (counts_of (image_in s pages))) → Check image old new text Done
+check_done image old new s pages text loads files line = record {
+  comes_to = record {
+    image_bytes = loads.bytes;
+    image_is = loads.told;
+    within = loads.within;
+    verifies = loads.verify;
+    superblock = s;
+    lengths = loads.lengths;
+    put = line ∙ ap (λ ps. valid_line (told_counts (counts_of (image_in s ps)))) loads.pages_are;
   };
-  keeps = rw (← files.held) put.others;
-  counts = counts_replaced image script out old mid new files put;
+  files = files;
 }
 
 -- ---- the answers

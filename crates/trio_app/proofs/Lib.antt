@@ -1,5 +1,7 @@
-pub mod Judged
+pub mod Stops
 pub mod Trees
 pub mod Headlines
 pub mod Ends
 pub mod Causes
+pub mod Decided
+pub mod Names

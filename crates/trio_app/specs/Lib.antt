@@ -2,9 +2,13 @@ pub mod Lines
 pub mod Status
 pub mod Report
 pub mod Headline
+pub mod Images
+pub mod New
+pub mod Check
 pub mod Turns
 pub mod Command
 pub mod Main
+pub mod Decided
 pub mod Request
 pub mod Inputs
 pub mod Causes

@@ -1,11 +1,38 @@
 -- The lines of the program, as bytes.
-use Rattle.std.specs.Prelude.{ℕ, ◌++◌, List, codes}
+use Rattle.std.specs.Prelude.{ℕ, ◌==◌, ◌++◌, List, codes, if◌then◌else◌}
 use Rattle.std.specs.Fmt.{decimal}
 use Rattle.trio_names.specs.Escaped.{escaped_of}
+use Rattle.trio_report.specs.Report.{counts_text}
+use Rattle.trio_report.specs.declared.report.Counts.{Counts}
 
--- the image doesn't verify
-abbrev pub not_verified_line : List ℕ
-not_verified_line = codes "not verified\n"
+-- the words of each command
+abbrev pub usage_line : List ℕ
+usage_line = codes "usage: trio new OUT PAGES INODES | check IMAGE | tree IMAGE [json] | turns IMAGE SCRIPT OUT | run IMAGE SCRIPT OUT | gen NUMBER FILES\n"
+
+-- the program's name and version
+abbrev pub version_line : List ℕ
+version_line = codes "trio 0.1.0\n"
+
+-- an image was made: its pages, its inode numbers and its free pages
+abbrev pub made_line : ℕ → ℕ → ℕ → List ℕ
+made_line pages inodes free =
+    codes "made pages " ++ decimal pages ++ codes " inodes " ++ decimal inodes ++ codes " free " ++ decimal free ++ codes "\n"
+
+-- an image verifies, and has so much in use
+abbrev pub valid_line : Counts → List ℕ
+valid_line counts = codes "valid " ++ counts_text counts
+
+-- a file of so many bytes is no image
+abbrev pub length_line : ℕ → List ℕ
+length_line count = codes "length " ++ decimal count ++ codes "\n"
+
+-- the first page isn't a superblock
+abbrev pub bad_superblock_line : List ℕ
+bad_superblock_line = codes "bad superblock\n"
+
+-- this rule fails: 1 or 2, or 5, the stored tables
+abbrev pub invalid_line : ℕ → List ℕ
+invalid_line rule = if rule == 5 then codes "invalid tables\n" else codes "invalid I" ++ decimal rule ++ codes "\n"
 
 -- a file couldn't be read
 abbrev pub read_fault_line : List ℕ → List ℕ
@@ -15,17 +42,13 @@ read_fault_line name = codes "read fault " ++ escaped_of name ++ codes "\n"
 abbrev pub write_fault_line : List ℕ → List ℕ
 write_fault_line name = codes "write fault " ++ escaped_of name ++ codes "\n"
 
--- what isn't built: the words, the image, the script, or a line of it
+-- a file is over its limit
+abbrev pub too_long_line : List ℕ → List ℕ
+too_long_line name = codes "too long " ++ escaped_of name ++ codes "\n"
+
+-- a command of these words isn't built
 abbrev pub not_built_words : List ℕ
 not_built_words = codes "not built words\n"
-
--- the image is over its limit
-abbrev pub not_built_image : List ℕ
-not_built_image = codes "not built image\n"
-
--- the script is over its limit
-abbrev pub not_built_script : List ℕ
-not_built_script = codes "not built script\n"
 
 -- a line of the script isn't built
 abbrev pub not_built_line : ℕ → List ℕ

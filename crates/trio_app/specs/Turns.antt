@@ -1,28 +1,24 @@
 -- What the words `turns IMAGE SCRIPT OUT` do.
 use Rattle.std.specs.Prelude.{◌≡◌, ◌≢◌, ◌⊎◌, ℕ, ◌*◌, ◌≤◌, Option, Some, None, List, [], ◌∷◌, length, take}
-use Rattle.trio_io.specs.Shelf.{Shelf, Rose, RisesAt, IsTold, IsLonger, KeepsOthers, told}
+use Rattle.trio_io.specs.Shelf.{Shelf, Rose, RisesAt, IsTold, IsLonger, told}
 use Rattle.trio_rights.specs.declared.rights.Creds.{Creds}
 use Rattle.trio_layout.specs.declared.superblock.Superblock.{Superblock}
-use Rattle.trio_layout.specs.Superblock.{IsSuperblock}
 use Rattle.trio_state.specs.State.{settled}
 use Rattle.trio_survey.specs.Stored.{BytesVerify, StoresImage, image_in, pages_in, bytes_in}
+use Rattle.trio_image.specs.Fault.{HasLength}
 use Rattle.trio_ctl.specs.Ctl.{superblock_for}
 use Rattle.trio_script.specs.Script.{script_lines, unbuilt_line}
 use Rattle.trio_runner.specs.Play.{Played, moves_of}
 use Rattle.trio_app.specs.Headline.{Headline}
 use Rattle.trio_app.specs.declared.status.Status.{Status}
-use Rattle.trio_app.specs.declared.status.Status.TheVariants.{Done, NotVerified, ReadFault, WriteFault, NoMemory, NotBuilt}
-use Rattle.trio_app.specs.Lines.{not_verified_line, read_fault_line, write_fault_line, not_built_image, not_built_script, not_built_line}
+use Rattle.trio_app.specs.declared.status.Status.TheVariants.{Done, NotVerified, ReadFault, WriteFault, NoMemory, TooLong, NotBuilt}
+use Rattle.trio_app.specs.Images.{ImageVerifies, ImageFails, OutKeeps}
+use Rattle.trio_app.specs.Lines.{read_fault_line, too_long_line, write_fault_line, not_built_line}
 use Rattle.trio_app.specs.Report.{report_text}
 
 -- the one library's credentials
 abbrev pub libraries : List Creds
 libraries = record { uid = 0; gid = 0 } ∷ []
-
--- the superblock and the length of an image file are right
-pub record HasLength (s : Superblock) (image : List ℕ) : Type 0 where
-  pub read : IsSuperblock (take 4096 image) s
-  pub whole : length image ≡ 4096 * s.pages
 
 -- all was done with the bytes of both files
 pub record TurnsDone (image script out : List ℕ) (old new : Shelf) (text : List ℕ) : Type 0 where
@@ -30,11 +26,12 @@ pub record TurnsDone (image script out : List ℕ) (old new : Shelf) (text : Lis
   pub script_bytes : List ℕ
   pub image_is : IsTold (old.held image) image_bytes
   pub script_is : IsTold (old.held script) script_bytes
+  pub image_within : length image_bytes ≤ 33554432
   pub script_within : length script_bytes ≤ 1048576
   pub image_verifies : BytesVerify image_bytes
   pub script_built : unbuilt_line script_bytes ≡ None
   pub superblock : Superblock
-  pub lengths : HasLength superblock image_bytes
+  pub lengths : HasLength image_bytes superblock
   -- the script as it is played on the image, and what holds of each of its moves
   pub played : Played (image_in superblock (pages_in superblock.pages image_bytes)) libraries (script_lines script_bytes)
   pub headline : Headline (image_in superblock (pages_in superblock.pages image_bytes)) libraries (moves_of played)
@@ -44,21 +41,6 @@ pub record TurnsDone (image script out : List ℕ) (old new : Shelf) (text : Lis
   pub stores : StoresImage (superblock_for (settled played.last.state).core) (settled played.last.state) pages
   pub written : new.held out ≡ told old.tells (bytes_in pages)
   pub written_verifies : BytesVerify (bytes_in pages)
-
--- the image was read, and doesn't verify
-pub record TurnsNotVerified (image : List ℕ) (old : Shelf) (text : List ℕ) : Type 0 where
-  pub image_bytes : List ℕ
-  pub image_is : IsTold (old.held image) image_bytes
-  pub within : length image_bytes ≤ 33554432
-  pub fails : BytesVerify image_bytes → ⊥
-  pub put : text ≡ not_verified_line
-
--- the image was read and verifies
-pub record ImageVerifies (image : List ℕ) (old : Shelf) : Type 0 where
-  pub image_bytes : List ℕ
-  pub image_is : IsTold (old.held image) image_bytes
-  pub within : length image_bytes ≤ 33554432
-  pub verifies : BytesVerify image_bytes
 
 -- a file that should be read failed: the image, or the script once the image was read and verifies
 abbrev pub TurnsReadFault : List ℕ → List ℕ → Shelf → Shelf → List ℕ → Type 0
@@ -74,12 +56,20 @@ pub record ReadsLine (image script : List ℕ) (old : Shelf) (number : ℕ) : Ty
   pub within : length script_bytes ≤ 1048576
   pub line : unbuilt_line script_bytes ≡ Some number
 
--- What isn't built: an image over its limit; then a script over its limit; then a line.
-abbrev pub TurnsNotBuilt : List ℕ → List ℕ → Shelf → List ℕ → Type 0
-TurnsNotBuilt image script old text =
-    ((text ≡ not_built_image) × IsLonger 33554432 (old.held image))
-    ⊎ ((text ≡ not_built_script) × ImageVerifies image old × IsLonger 1048576 (old.held script))
-    ⊎ ((number : ℕ) × (text ≡ not_built_line number) × ReadsLine image script old number)
+-- a file is over its limit: the image, or the script once the image was read and verifies
+abbrev pub TurnsTooLong : List ℕ → List ℕ → Shelf → List ℕ → Type 0
+TurnsTooLong image script old text =
+    (IsLonger 33554432 (old.held image) × (text ≡ too_long_line image))
+    ⊎ (IsLonger 1048576 (old.held script) × ImageVerifies image old × (text ≡ too_long_line script))
+
+-- why there is no run, by status, and the text that is then due
+abbrev pub InputsStop : List ℕ → List ℕ → Shelf → Shelf → List ℕ → Status → Type 0
+InputsStop image script old new text NotVerified = ImageFails image old text
+InputsStop image script old new text ReadFault = TurnsReadFault image script old new text
+InputsStop image script old new text NoMemory = text ≡ []
+InputsStop image script old new text TooLong = TurnsTooLong image script old text
+InputsStop image script old new text NotBuilt = (number : ℕ) × ReadsLine image script old number × (text ≡ not_built_line number)
+InputsStop image script old new text _ = ⊥
 
 -- all was done but for the write, which failed
 pub record TurnsWriteFault (image script out : List ℕ) (old new : Shelf) (text : List ℕ) : Type 0 where
@@ -94,17 +84,8 @@ pub record TurnsWriteFault (image script out : List ℕ) (old new : Shelf) (text
 -- what it came to, by status, and the text that is then due
 abbrev pub TurnsComesTo : List ℕ → List ℕ → List ℕ → Shelf → Shelf → List ℕ → Status → Type 0
 TurnsComesTo image script out old new text Done = TurnsDone image script out old new text
-TurnsComesTo image script out old new text NotVerified = TurnsNotVerified image old text
-TurnsComesTo image script out old new text ReadFault = TurnsReadFault image script old new text
 TurnsComesTo image script out old new text WriteFault = TurnsWriteFault image script out old new text
-TurnsComesTo image script out old new text NoMemory = text ≡ []
-TurnsComesTo image script out old new text NotBuilt = TurnsNotBuilt image script old text
-
--- only OUT may change, and that only where it was to be written
-abbrev pub TurnsKeeps : List ℕ → Shelf → Shelf → Status → Type 0
-TurnsKeeps out old new Done = KeepsOthers out old.held new.held
-TurnsKeeps out old new WriteFault = KeepsOthers out old.held new.held
-TurnsKeeps out old new _ = new.held ≡ old.held
+TurnsComesTo image script out old new text status = InputsStop image script old new text status
 
 -- whose counts may rise
 pub record TurnsCounts (image script out : List ℕ) (old new : Shelf) : Type 0 where
@@ -117,5 +98,5 @@ pub record TurnsCounts (image script out : List ℕ) (old new : Shelf) : Type 0 
 -- what `turns` came to, what it left as it was, and which counts may have risen
 pub record Turns (image script out : List ℕ) (old new : Shelf) (text : List ℕ) (status : Status) : Type 0 where
   pub comes_to : TurnsComesTo image script out old new text status
-  pub keeps : TurnsKeeps out old new status
+  pub keeps : OutKeeps out old new status
   pub counts : TurnsCounts image script out old new

@@ -1,2 +1,3 @@
 pub mod RunEnd
+pub mod Saved
 pub mod Stop

@@ -1,20 +1,27 @@
 //! The program `trio`.
 //!
-//! `trio turns IMAGE SCRIPT OUT` runs a script on an image, writes the image that is then settled,
-//! and puts out a report. What it does and how it ends is the contract of [`trio_main`]:
-//! `specs/Main.antt` first, then `specs/Command.antt` and `specs/Turns.antt`.
+//! - `trio new OUT PAGES INODES` makes an image.
+//! - `trio check IMAGE` says whether one verifies, and what it has in use.
+//! - `trio turns IMAGE SCRIPT OUT` runs a script on an image, writes the image that is then settled,
+//!   and puts out a report.
+//!
+//! What it does and how it ends is the contract of [`trio_main`]: `specs/Main.antt` first, then
+//! `specs/Command.antt`, `specs/New.antt`, `specs/Check.antt` and `specs/Turns.antt`.
 //!
 //! [`trio_main`] is generic over the files, the sink and the gate. [`main`] hands it the host's,
 //! which no contract speaks of.
 #![tactic(auto)]
 
-ghost use Rattle.std.specs.Prelude.{◌≡◌, ◌⊎◌, IfErr, IfOk, drop};
+ghost use Rattle.std.specs.Prelude.{◌≡◌, IfOk, drop};
 ghost use Rattle.std.specs.Vec.Iter.{into_iter_items};
 ghost use Rattle.trio_io.specs.Names.{texts_of};
 ghost use Rattle.trio_app.specs.Main.{EndOfProcess};
 
+mod checking;
+mod images;
 mod inputs;
 mod lines;
+mod making;
 mod plain;
 mod run;
 mod status;
@@ -24,7 +31,9 @@ mod threads;
 mod turns;
 mod words;
 
+pub use checking::check;
 pub use inputs::{SCRIPT_LIMIT, read_inputs};
+pub use making::new_image;
 pub use plain::plain_main;
 pub use status::{Outcome, Status};
 use std::alloc::Global;
@@ -67,21 +76,16 @@ fn without_name(alloc: Global, all: IntoIter<String>) -> Result<Vec<String>, NoM
     Ok(words)
 }
 
-/// The words of the command line without the program's name, or how the program ends without them:
-/// [`Status::NoMemory`], or [`Status::NotBuilt`] where a word isn't UTF-8.
+/// The words of the command line without the program's name, and none where one of them isn't UTF-8:
+/// no command has such a word.
 ///
 /// No clause can name the words that the process was given. All that [`env::args`] answers but the
 /// first is kept, as [`without_name`] says.
-fn words_given<R: Env + AllocGlobal>(rt: &R) -> Result<Vec<String>, Status>
-    ensures { IfErr result (λ status. (status ≡ Status.NoMemory) ⊎ (status ≡ Status.NotBuilt)) }
-{
+fn words_given<R: Env + AllocGlobal>(rt: &R) -> Result<Vec<String>, NoMemory> {
     match env::args(rt) {
-        Ok(all) => match without_name(rt.alloc(), all) {
-            Ok(words) => Ok(words),
-            Err(_) => Err(Status::NoMemory),
-        },
-        Err(fault) if fault.kind() == ErrorKind::OutOfMemory => Err(Status::NoMemory),
-        Err(_) => Err(Status::NotBuilt),
+        Ok(all) => without_name(rt.alloc(), all),
+        Err(fault) if fault.kind() == ErrorKind::OutOfMemory => Err(NoMemory),
+        Err(_) => Ok(Vec::new(rt.alloc())),
     }
 }
 
@@ -89,9 +93,8 @@ fn words_given<R: Env + AllocGlobal>(rt: &R) -> Result<Vec<String>, Status>
 fn run_words<R: Threads + Wait + Sync + Env + Host + Print + AllocGlobal>(rt: &R) -> u8
     ensures { EndOfProcess result }
 {
-    let words = match words_given(rt) {
-        Ok(words) => words,
-        Err(status) => return status.code(),
+    let Ok(words) = words_given(rt) else {
+        return Status::NoMemory.code();
     };
     let Ok(names) = copy_words(rt.alloc(), &words) else {
         return Status::NoMemory.code();

@@ -2,10 +2,12 @@
 
 ghost use Rattle.std.specs.Prelude.{◌≡◌, [], All, Contains};
 ghost use Rattle.trio_io.specs.Names.{texts_of};
+ghost use Rattle.trio_app.specs.Decided.{EndsAsDecided};
 ghost use Rattle.trio_app.specs.Main.{Main, Puts};
 ghost use Rattle.trio_app.specs.Status.{code_of};
 
-use crate::{Request, Status, read_words, turns};
+use crate::lines::{USAGE, VERSION};
+use crate::{Request, Status, check, new_image, read_words, turns};
 use std::alloc::Global;
 use trio_io::{Files, Sink};
 
@@ -28,7 +30,7 @@ fn end<S: Sink>(text: &[u8], status: Status, out: &mut S) -> u8
 ///
 /// `words` are those of the command line without the program's name. The answer is the number of a
 /// [`Status`], and `specs/Main.antt` says what each means: what the files hold then, and which text
-/// was put out.
+/// was put out. `specs/Decided.antt` says which one comes where nothing fails.
 pub fn plain_main<F: Files, S: Sink>(
     alloc: Global,
     words: &[String],
@@ -36,9 +38,22 @@ pub fn plain_main<F: Files, S: Sink>(
     out: &mut S,
 ) -> u8
     requires { All (Contains (F.seen files.old).served) (texts_of words.now) }
-    ensures { Main (texts_of words.now) (F.seen files.old) (F.seen files.new) (S.seen out.old) (S.seen out.new) result }
+    ensures main { Main (texts_of words.now) (F.seen files.old) (F.seen files.new) (S.seen out.old) (S.seen out.new) result }
+    ensures decided { EndsAsDecided (texts_of words.now) (F.seen files.old) (F.seen files.new) (S.seen out.old) (S.seen out.new) result }
 {
     match read_words(words) {
+        Request::New {
+            out: output,
+            pages,
+            inodes,
+        } => {
+            let outcome = new_image(alloc, output, pages, inodes, files);
+            end(&outcome.text, outcome.status, out)
+        }
+        Request::Check { image } => {
+            let outcome = check(alloc, image, files);
+            end(&outcome.text, outcome.status, out)
+        }
         Request::Turns {
             image,
             script,
@@ -47,6 +62,9 @@ pub fn plain_main<F: Files, S: Sink>(
             let outcome = turns(alloc, image, script, output, files);
             end(&outcome.text, outcome.status, out)
         }
-        Request::Unknown => end(b"not built words\n", Status::NotBuilt, out),
+        Request::Unbuilt => end(b"not built words\n", Status::NotBuilt, out),
+        Request::Help => end(USAGE, Status::Done, out),
+        Request::Version => end(VERSION, Status::Done, out),
+        Request::Unknown => end(USAGE, Status::Usage, out),
     }
 }

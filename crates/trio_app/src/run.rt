@@ -9,13 +9,14 @@ ghost use Rattle.trio_image.specs.Counts.{counts_of};
 ghost use Rattle.trio_app.specs.Report.{answers_text, told_counts};
 ghost use Rattle.trio_app.specs.inner.RunEnd.{IsRunEnd};
 
+use crate::images::told_counts;
 use std::alloc::Global;
 use trio_ctl::Ctl;
 use trio_image::Image;
 use trio_page::{NoMemory, Reads};
 use trio_report::{
-    Counts, EndAnswer, LibraryKind, LineAnswer, put_answer, put_counts, put_end, put_heading,
-    put_tree, tree_lines,
+    EndAnswer, LibraryKind, LineAnswer, put_answer, put_counts, put_end, put_heading, put_tree,
+    tree_lines,
 };
 use trio_rights::{Creds, LibNo};
 use trio_runner::play;
@@ -26,14 +27,13 @@ use trio_script::ScriptLine;
 pub struct RunEnd {
     /// The text of the report.
     pub report: Vec<u8>,
-    /// The bytes of the image that is settled at the end.
-    pub image: Vec<u8>,
+    /// The image that is settled at the end.
+    pub image: Image,
 }
 
-/// Plays a script's lines on an image. `NoMemory`: there was no memory for the run, the report or
-/// the bytes.
+/// Plays a script's lines on an image. `NoMemory`: there was no memory for the run or the report.
 pub fn run(alloc: Global, image: Image, lines: &[ScriptLine]) -> Result<RunEnd, NoMemory>
-    ensures { IfOk result (λ end. IsRunEnd image.superblock image.pages lines.now end.report.items end.image.items) }
+    ensures { IfOk result (λ end. IsRunEnd image.superblock image.pages lines.now end.report.items end.image.pages) }
 {
     let root = Creds { uid: 0, gid: 0 };
     let mut ctl = match Ctl::start(alloc, image, vec![in alloc; root]?) {
@@ -46,8 +46,7 @@ pub fn run(alloc: Global, image: Image, lines: &[ScriptLine]) -> Result<RunEnd, 
     let Ok(last) = ctl.image() else {
         return Err(NoMemory);
     };
-    let (report, last) = report(alloc, lines, &answers, end, last)?;
-    let image = last.into_bytes(alloc)?;
+    let (report, image) = report(alloc, lines, &answers, end, last)?;
     Ok(RunEnd { report, image })
 }
 
@@ -60,12 +59,12 @@ fn report(
     end: EndAnswer,
     image: Image,
 ) -> Result<(Vec<u8>, Image), NoMemory>
-    ensures text { IfOk result (λ r. r.0.items ≡ lib_heading 1 Raw ++ answers_text lines.now answers.now ++ end_line end
+    ensures image { IfOk result (λ r. r.1 ≡ image) }
+    ensures report { IfOk result (λ r. r.0.items ≡ lib_heading 1 Raw ++ answers_text lines.now answers.now ++ end_line end
         ++ tree_text (tree_of (core_in image.superblock image.pages)) ++ counts_text (told_counts (counts_of (image_in image.superblock image.pages)))) }
-    ensures image { IfOk result (λ r. r.1.pages ≡ image.pages) }
 {
     let superblock = image.superblock();
-    let counts = counts(&image);
+    let counts = told_counts(&image);
     let mut parts = image.into_parts();
     let tree = tree_lines(alloc, &mut parts.home, &superblock, &mut Reads::new())?;
     let mut text = Vec::new(alloc);
@@ -75,18 +74,6 @@ fn report(
     put_tree(alloc, &mut text, &tree)?;
     put_counts(alloc, &mut text, &counts)?;
     Ok((text, Image::of(parts)))
-}
-
-/// The counts of an image, as the report tells them.
-fn counts(image: &Image) -> Counts
-    ensures { result ≡ told_counts (counts_of (image_in image.now.superblock image.now.pages)) }
-{
-    let counts = image.counts();
-    Counts {
-        inodes: counts.inodes,
-        pages: counts.pages,
-        free: counts.free,
-    }
 }
 
 /// Appends the answer to each line, behind the line's number.

@@ -10,14 +10,18 @@ use std::alloc::Global;
 pub enum Status {
     /// All was done.
     Done,
-    /// The image doesn't verify.
+    /// The image's length, superblock or content doesn't verify.
     NotVerified,
+    /// The words are no command, or PAGES and INODES are out of their limits.
+    Usage,
     /// A file could not be read.
     ReadFault,
-    /// OUT could not be written.
+    /// OUT could not be written, or the text could not be put.
     WriteFault,
     /// Memory ran out. Nothing was written and nothing put.
     NoMemory,
+    /// A file is longer than its limit.
+    TooLong,
     /// What was asked isn't built yet.
     NotBuilt,
 }
@@ -30,9 +34,11 @@ impl Status {
         match self {
             Status::Done => 0,
             Status::NotVerified => 1,
+            Status::Usage => 2,
             Status::ReadFault => 4,
             Status::WriteFault => 5,
             Status::NoMemory => 6,
+            Status::TooLong => 7,
             Status::NotBuilt => 8,
         }
     }

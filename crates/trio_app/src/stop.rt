@@ -1,69 +1,54 @@
-//! Why the work ends before anything is written.
+//! Why the work ends at a file that is read.
 
 ghost use Rattle.std.specs.Prelude.{◌≡◌, IfOk};
-ghost use Rattle.trio_app.specs.inner.Stop.{status_of, line_of, ToldStop};
+ghost use Rattle.trio_app.specs.inner.Stop.{status_of, line_of, stop_of_loading, ToldStop};
 
-use crate::lines::{named_line, unbuilt_line_text};
+use crate::lines::{invalid_line, length_line, named_line, unbuilt_line_text};
 use crate::{Outcome, Status};
 use std::alloc::Global;
 use trio_image::LoadFault;
 use trio_page::NoMemory;
 
-/// Why the work ends before anything is written. Each cause comes where those before it don't
-/// stand.
+/// Why the work ends at a file that is read, before anything is written.
 #[derive(Clone, Copy, Debug, PartialEq, Eq)]
 pub enum Stop {
-    /// A read of the image failed.
-    ImageFault,
-    /// The image is over its limit.
-    ImageNotBuilt,
-    /// The image doesn't verify.
-    NotVerified,
-    /// A read of the script failed.
-    ScriptFault,
-    /// The script is over its limit.
-    ScriptNotBuilt,
+    /// A read of the file failed.
+    ReadFault,
+    /// The file is over its limit.
+    TooLong,
+    /// The file has so many bytes, which no image has.
+    Length(u64),
+    /// The first page isn't a superblock.
+    BadSuper,
+    /// This rule of an image fails: 1 or 2, or 5, the stored tables.
+    Invalid(u8),
     /// Nothing is built for the line of this number, counted from 1.
     LineNotBuilt(u32),
     /// Memory ran out, which may come in place of any other cause.
     NoMemory,
 }
 
-impl From<NoMemory> for Stop {
-    ghost use Rattle.std.specs.Prelude.{◌≡◌};
-    ghost use Rattle.trio_app.specs.declared.stop.Stop.{Stop};
-
-    ghost from_gives = { λ _ e. e ≡ Stop.NoMemory };
-
-    fn from(_fault: NoMemory) -> Stop {
-        Stop::NoMemory
-    }
-}
-
-impl From<LoadFault> for Stop {
-    ghost use Rattle.std.specs.Prelude.{◌≡◌};
-    ghost use Rattle.trio_app.specs.inner.Stop.{stop_of_loading};
-
-    ghost from_gives = { λ fault e. e ≡ stop_of_loading fault };
-
-    fn from(fault: LoadFault) -> Stop {
+impl Stop {
+    /// What the fault of loading an image comes to.
+    pub fn of_loading(fault: LoadFault) -> Stop
+        ensures { result ≡ stop_of_loading fault }
+    {
         match fault {
-            LoadFault::ReadFault => Stop::ImageFault,
-            LoadFault::TooLong => Stop::ImageNotBuilt,
-            LoadFault::Length(_) | LoadFault::BadSuper | LoadFault::Fails { .. } => {
-                Stop::NotVerified
-            }
+            LoadFault::ReadFault => Stop::ReadFault,
+            LoadFault::TooLong => Stop::TooLong,
+            LoadFault::Length(count) => Stop::Length(count),
+            LoadFault::BadSuper => Stop::BadSuper,
+            LoadFault::Fails { rule, .. } => Stop::Invalid(rule),
             LoadFault::NoMemory => Stop::NoMemory,
         }
     }
-}
 
-impl Stop {
     /// How the program then ends, with the line that is due; or that there was no memory for it.
-    pub fn outcome(self, alloc: Global, image_name: &str, script_name: &str) -> Outcome
-        ensures { ToldStop image_name.now script_name.now self result.text.items result.status }
+    /// `name` is the name of the file.
+    pub fn outcome(self, alloc: Global, name: &str) -> Outcome
+        ensures { ToldStop name.now self result.text.items result.status }
     {
-        match self.line(alloc, image_name, script_name) {
+        match self.line(alloc, name) {
             Ok(text) => Outcome {
                 status: self.status(),
                 text,
@@ -76,22 +61,23 @@ impl Stop {
         ensures { result ≡ status_of self }
     {
         match self {
-            Stop::ImageFault | Stop::ScriptFault => Status::ReadFault,
-            Stop::ImageNotBuilt | Stop::ScriptNotBuilt | Stop::LineNotBuilt(_) => Status::NotBuilt,
-            Stop::NotVerified => Status::NotVerified,
+            Stop::ReadFault => Status::ReadFault,
+            Stop::TooLong => Status::TooLong,
+            Stop::Length(_) | Stop::BadSuper | Stop::Invalid(_) => Status::NotVerified,
+            Stop::LineNotBuilt(_) => Status::NotBuilt,
             Stop::NoMemory => Status::NoMemory,
         }
     }
 
-    fn line(self, alloc: Global, image_name: &str, script_name: &str) -> Result<Vec<u8>, NoMemory>
-        ensures { IfOk result (λ line. line.items ≡ line_of image_name.now script_name.now self) }
+    fn line(self, alloc: Global, name: &str) -> Result<Vec<u8>, NoMemory>
+        ensures { IfOk result (λ line. line.items ≡ line_of name.now self) }
     {
         match self {
-            Stop::ImageFault => named_line(alloc, "read fault ", image_name),
-            Stop::ImageNotBuilt => b"not built image\n".to_vec(alloc),
-            Stop::NotVerified => b"not verified\n".to_vec(alloc),
-            Stop::ScriptFault => named_line(alloc, "read fault ", script_name),
-            Stop::ScriptNotBuilt => b"not built script\n".to_vec(alloc),
+            Stop::ReadFault => named_line(alloc, "read fault ", name),
+            Stop::TooLong => named_line(alloc, "too long ", name),
+            Stop::Length(count) => length_line(alloc, count),
+            Stop::BadSuper => b"bad superblock\n".to_vec(alloc),
+            Stop::Invalid(rule) => invalid_line(alloc, rule),
             Stop::LineNotBuilt(number) => unbuilt_line_text(alloc, number),
             Stop::NoMemory => Ok(Vec::new(alloc)),
         }

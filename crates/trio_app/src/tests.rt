@@ -3,19 +3,22 @@
 //! The image has 32 pages and 64 inode numbers, and a root that lists one regular file `f` of the
 //! five bytes `hello`.
 
+use crate::lines::USAGE;
 use crate::{SCRIPT_LIMIT, copy_words, sure_main, trio_main};
 use std::alloc::Global;
 use std::process::Abort;
 use std::sync::Wait;
 use std::test::Fail;
 use std::thread::Threads;
-use trio_image::load;
 use trio_io::{FailingCalls, MemFiles, MemSink, OpenGate, SureFiles, SureSink};
 use trio_page::NoMemory;
 use trio_samples::Sample;
 use trio_samples::files::{one_file, root, three_files};
 
 const IMAGE_SIZE: usize = 131_072;
+
+// The most bytes that an image may have.
+const IMAGE_LIMIT: usize = 33_554_432;
 
 const SCRIPT: &[u8] = b"lib 1 raw 0 0\n";
 
@@ -29,15 +32,20 @@ fn image(alloc: Global) -> Result<Vec<u8>, NoMemory> {
     Sample::small(alloc, &one_file())?.bytes(alloc)
 }
 
-// The first `size` bytes of the image, with some of them changed.
-fn changed_image(alloc: Global, size: usize, changes: &[(usize, u8)]) -> Result<Vec<u8>, NoMemory> {
-    let mut bytes = image(alloc)?;
+// So many bytes of an image, with zeros behind it, and with some of them changed.
+fn changed(
+    alloc: Global,
+    image: &[u8],
+    size: usize,
+    changes: &[(usize, u8)],
+) -> Result<Vec<u8>, NoMemory> {
+    let mut bytes = image.to_vec(alloc)?;
     for (at, value) in changes {
         if let Some(byte) = bytes.get_mut(*at) {
             *byte = *value;
         }
     }
-    bytes.truncate(size);
+    bytes.resize(size, 0)?;
     Ok(bytes)
 }
 
@@ -49,6 +57,14 @@ fn words_of(alloc: Global, words: &[&str]) -> Result<Vec<String>, NoMemory> {
     Ok(all)
 }
 
+// The name that comes first behind a command.
+fn first_name<'a>(words: &[&'a str]) -> &'a str {
+    match words {
+        [_, name, ..] => *name,
+        _ => "first.img",
+    }
+}
+
 // What is left of a run: how it ended, the files and the sink.
 #[derive(Drop)]
 struct Left {
@@ -58,21 +74,22 @@ struct Left {
 }
 
 // A run of these words over an image and a script, of which one call of the files and one put fail.
+// The image is the content of the name that comes first among the words.
 fn run_over<R: Threads + Wait + Sync + AllocGlobal>(
     rt: &R,
-    words: &[&str],
+    texts: &[&str],
     image: &[u8],
     script: &[u8],
     (file_call, put): (u64, u64),
 ) -> Result<Left, NoMemory> {
     let alloc = rt.alloc();
-    let words = words_of(alloc, words)?;
+    let words = words_of(alloc, texts)?;
     let names = copy_words(alloc, &words)?;
     let plan = FailingCalls::new(vec![in alloc; file_call]?);
     let mut files = MemFiles::new(alloc, names, plan)?;
-    files.hold("first.img", image.to_vec(alloc)?);
     files.hold("script", script.to_vec(alloc)?);
     files.hold("o p", BEFORE.to_vec(alloc)?);
+    files.hold(first_name(texts), image.to_vec(alloc)?);
     let mut out = MemSink::new(alloc, FailingCalls::new(vec![in alloc; put]?));
     let status = trio_main(rt, alloc, &words, &mut files, &mut out, &OpenGate);
     Ok(Left { status, files, out })
@@ -87,6 +104,8 @@ enum Kept {
     Before,
     // the first so many bytes of the image
     Image(usize),
+    // so many bytes
+    Bytes(usize),
 }
 
 fn keeps(content: Option<&[u8]>, image: &[u8], kept: Kept) -> bool {
@@ -94,6 +113,7 @@ fn keeps(content: Option<&[u8]>, image: &[u8], kept: Kept) -> bool {
         Kept::Nothing => content.is_none(),
         Kept::Before => content == Some(BEFORE),
         Kept::Image(length) => content.is_some() && content == image.get(..length),
+        Kept::Bytes(length) => content.map(|bytes| bytes.len()) == Some(length),
     }
 }
 
@@ -116,19 +136,61 @@ fn ends<R: Threads + Wait + Sync + AllocGlobal>(
 
 const WORDS: [&str; 4] = ["turns", "first.img", "script", "o p"];
 
-// The call that fails, and how the run ends. Calls 1 to 33 read the image, 34 and 35 the script, and
-// 36 writes OUT.
-const CALLS: &[(u64, End)] = &[
-    (1, (4, b"read fault first.img\n", ("o p", Kept::Before))),
-    (33, (4, b"read fault first.img\n", ("o p", Kept::Before))),
-    (34, (4, b"read fault script\n", ("o p", Kept::Before))),
-    (35, (4, b"read fault script\n", ("o p", Kept::Before))),
+// The words, the call that fails, and how the run ends. Of `turns` calls 1 to 33 read the image, 34
+// and 35 the script, and 36 writes OUT.
+type FailingCall = (&'static [&'static str], u64, End);
+
+const CALLS: &[FailingCall] = &[
+    (&WORDS, 1, (4, READ_FAULT, ("o p", Kept::Before))),
+    (&WORDS, 33, (4, READ_FAULT, ("o p", Kept::Before))),
     (
+        &WORDS,
+        34,
+        (4, b"read fault script\n", ("o p", Kept::Before)),
+    ),
+    (
+        &WORDS,
+        35,
+        (4, b"read fault script\n", ("o p", Kept::Before)),
+    ),
+    (
+        &WORDS,
         36,
         (5, b"write fault o\\x20p\n", ("o p", Kept::Image(65_536))),
     ),
-    (37, (0, REPORT, ("o p", Kept::Image(IMAGE_SIZE)))),
+    (&WORDS, 37, (0, REPORT, ("o p", Kept::Image(IMAGE_SIZE)))),
+    (
+        &CHECK,
+        1,
+        (4, READ_FAULT, ("first.img", Kept::Image(IMAGE_SIZE))),
+    ),
+    (
+        &CHECK,
+        33,
+        (4, READ_FAULT, ("first.img", Kept::Image(IMAGE_SIZE))),
+    ),
+    (
+        &CHECK,
+        34,
+        (0, VALID, ("first.img", Kept::Image(IMAGE_SIZE))),
+    ),
+    (
+        &NEW,
+        1,
+        (5, b"write fault a.img\n", ("a.img", Kept::Bytes(65_536))),
+    ),
+    (&NEW, 2, (0, MADE, ("a.img", Kept::Bytes(IMAGE_SIZE)))),
 ];
+
+const CHECK: [&str; 2] = ["check", "first.img"];
+
+const NEW: [&str; 4] = ["new", "a.img", "32", "64"];
+
+const READ_FAULT: &[u8] = b"read fault first.img\n";
+
+const VALID: &[u8] = b"valid inodes 2 pages 4 free 25\n";
+
+const MADE: &[u8] = b"made pages 32 inodes 64 free 29\n";
 
 // Whether half of the report is put where its put fails.
 fn put_fails<R: Threads + Wait + Sync + AllocGlobal>(rt: &R, image: &[u8]) -> Option<bool> {
@@ -140,10 +202,11 @@ fn put_fails<R: Threads + Wait + Sync + AllocGlobal>(rt: &R, image: &[u8]) -> Op
 #[test]
 fn each_call_fails(rt: HostRuntime) -> Result<(), Fail> {
     let whole = image(rt.alloc())?;
-    for (call, end) in CALLS {
+    for (words, call, end) in CALLS {
         assert!(rt;
-            ends(&rt, &WORDS, &whole, SCRIPT, *call, *end) == Some(true),
-            "call {call}"
+            ends(&rt, words, &whole, SCRIPT, *call, *end) == Some(true),
+            "{} at call {call}",
+            words[0]
         );
     }
     assert!(rt; put_fails(&rt, &whole) == Some(true));
@@ -161,20 +224,20 @@ type Input = (
 
 // What doesn't verify or isn't built.
 const INPUTS: &[Input] = &[
-    (0, &[], SCRIPT, 1, b"not verified\n"),
-    (4096, &[], SCRIPT, 1, b"not verified\n"),
-    (131_071, &[], SCRIPT, 1, b"not verified\n"),
-    (IMAGE_SIZE, &[(0, b'a')], SCRIPT, 1, b"not verified\n"),
+    (0, &[], SCRIPT, 1, b"length 0\n"),
+    (4096, &[], SCRIPT, 1, b"length 4096\n"),
+    (131_071, &[], SCRIPT, 1, b"length 131071\n"),
+    (IMAGE_SIZE, &[(0, b'a')], SCRIPT, 1, b"bad superblock\n"),
     // a page less than there are
-    (IMAGE_SIZE, &[(16, 31)], SCRIPT, 1, b"not verified\n"),
+    (IMAGE_SIZE, &[(16, 31)], SCRIPT, 1, b"length 131072\n"),
     // an owner of a free page, and a row that differs
-    (IMAGE_SIZE, &[(8220, 2)], b"", 1, b"not verified\n"),
-    (IMAGE_SIZE, &[(4130, 0xa5)], SCRIPT, 1, b"not verified\n"),
+    (IMAGE_SIZE, &[(8220, 2)], b"", 1, b"invalid tables\n"),
+    (IMAGE_SIZE, &[(4130, 0xa5)], SCRIPT, 1, b"invalid tables\n"),
     // a directory of five bytes, also where the script isn't built
-    (IMAGE_SIZE, &[(16_388, 2)], SCRIPT, 1, b"not verified\n"),
-    (IMAGE_SIZE, &[(16_388, 2)], b"", 1, b"not verified\n"),
+    (IMAGE_SIZE, &[(16_388, 2)], SCRIPT, 1, b"invalid I1\n"),
+    (IMAGE_SIZE, &[(16_388, 2)], b"", 1, b"invalid I1\n"),
     // a slot outside the grammar
-    (IMAGE_SIZE, &[(16_390, 1)], SCRIPT, 1, b"not verified\n"),
+    (IMAGE_SIZE, &[(16_390, 1)], SCRIPT, 1, b"invalid I1\n"),
     (IMAGE_SIZE, &[], b"", 8, b"not built line 1\n"),
     (
         IMAGE_SIZE,
@@ -221,7 +284,8 @@ fn input_ends<R: Threads + Wait + Sync + AllocGlobal>(
     rt: &R,
     (size, changes, script, status, text): Input,
 ) -> Option<bool> {
-    let image = changed_image(rt.alloc(), size, changes).ok()?;
+    let whole = image(rt.alloc()).ok()?;
+    let image = changed(rt.alloc(), &whole, size, changes).ok()?;
     ends_so(rt, &image, script, status, text)
 }
 
@@ -244,35 +308,73 @@ fn long_script_ends<R: Threads + Wait + Sync + AllocGlobal>(
     ends_so(rt, &image(rt.alloc()).ok()?, &script, status, text)
 }
 
-// Whether a run over an image of this length, all of it zero, isn't built.
-fn long_image_ends<R: Threads + Wait + Sync + AllocGlobal>(rt: &R, length: usize) -> Option<bool> {
-    let zeros = vec![in rt.alloc(); 0; length].ok()?;
-    ends_so(rt, &zeros, SCRIPT, 8, b"not built image\n")
+// Whether an image of one byte over its limit, all of it zero, is too long.
+fn long_image_ends<R: Threads + Wait + Sync + AllocGlobal>(rt: &R) -> Option<bool> {
+    let zeros = vec![in rt.alloc(); 0; IMAGE_LIMIT + 1].ok()?;
+    let left = run_over(rt, &["check", "big.img"], &zeros, b"", (0, 0)).ok()?;
+    Some(left.status == 7 && left.out.bytes() == b"too long big.img\n".as_slice())
 }
 
 #[test]
 fn limits(rt: HostRuntime) {
-    assert!(rt; long_image_ends(&rt, 33_554_433) == Some(true));
+    assert!(rt; long_image_ends(&rt) == Some(true));
     assert!(rt; long_script_ends(&rt, SCRIPT_LIMIT, 0, REPORT) == Some(true));
-    assert!(rt; long_script_ends(&rt, SCRIPT_LIMIT + 1, 8, b"not built script\n") == Some(true));
+    assert!(rt; long_script_ends(&rt, SCRIPT_LIMIT + 1, 7, b"too long script\n") == Some(true));
 }
 
-// Words that are no command, and a name that stands for two files. A name that isn't among the words
-// has no content.
+// A new image as bytes: `new` of 32 pages and 64 inode numbers.
+fn new_image<R: Threads + Wait + Sync + AllocGlobal>(rt: &R) -> Option<Vec<u8>> {
+    let left = run_over(rt, &NEW, b"", b"", (0, 0)).ok()?;
+    left.files.content("a.img")?.to_vec(rt.alloc()).ok()
+}
+
+// How many bytes of the new image there are, its changes, and the status and the text of its check.
+type Checked = (usize, &'static [(usize, u8)], u8, &'static [u8]);
+
+const CHECKED: &[Checked] = &[
+    (IMAGE_SIZE, &[], 0, b"valid inodes 1 pages 0 free 29\n"),
+    (131_071, &[], 1, b"length 131071\n"),
+    (131_073, &[], 1, b"length 131073\n"),
+    (4095, &[], 1, b"length 4095\n"),
+    (0, &[], 1, b"length 0\n"),
+    (IMAGE_SIZE, &[(0, b'B')], 1, b"bad superblock\n"),
+    (IMAGE_SIZE, &[(8204, 2)], 1, b"invalid tables\n"),
+    // the root has one page as both of its blocks, and the tables aren't its either
+    (
+        IMAGE_SIZE,
+        &[(52, 3), (57, 0x20), (12_288, 4), (12_296, 4)],
+        1,
+        b"invalid I2\n",
+    ),
+];
+
+fn is_checked<R: Threads + Wait + Sync + AllocGlobal>(
+    rt: &R,
+    (size, changes, status, text): Checked,
+) -> Option<bool> {
+    let image = changed(rt.alloc(), &new_image(rt)?, size, changes).ok()?;
+    let left = run_over(rt, &CHECK, &image, b"", (0, 0)).ok()?;
+    Some(left.status == status && left.out.bytes() == text)
+}
+
+#[test]
+fn a_new_image_is_checked(rt: HostRuntime) {
+    for (i, row) in CHECKED.iter().enumerate() {
+        assert!(rt; is_checked(&rt, *row) == Some(true), "row {i}");
+    }
+}
+
+// Words, and how the run ends. A name that isn't among the words has no content.
 const COMMANDS: &[(&[&str], End)] = &[
-    (&[], (8, UNBUILT, ("o p", Kept::Nothing))),
-    (&["turns"], (8, UNBUILT, ("o p", Kept::Nothing))),
+    (&[], (2, USAGE, ("o p", Kept::Nothing))),
+    (&["turns"], (2, USAGE, ("o p", Kept::Nothing))),
     (
         &["turns", "first.img", "script"],
-        (8, UNBUILT, ("o p", Kept::Nothing)),
+        (2, USAGE, ("first.img", Kept::Image(IMAGE_SIZE))),
     ),
     (
         &["turns", "first.img", "script", "o p", "o p"],
-        (8, UNBUILT, ("o p", Kept::Before)),
-    ),
-    (
-        &["run", "first.img", "script", "o p"],
-        (8, UNBUILT, ("o p", Kept::Before)),
+        (2, USAGE, ("o p", Kept::Before)),
     ),
     (
         &["turns", "first.img", "script", "first.img"],
@@ -282,12 +384,94 @@ const COMMANDS: &[(&[&str], End)] = &[
         &["turns", "first.img", "first.img", "o p"],
         (8, b"not built line 1\n", ("o p", Kept::Before)),
     ),
+    (
+        &["run", "first.img", "script", "o p"],
+        (8, UNBUILT, ("o p", Kept::Before)),
+    ),
+    (
+        &["tree", "first.img"],
+        (8, UNBUILT, ("first.img", Kept::Image(IMAGE_SIZE))),
+    ),
+    (
+        &["tree", "first.img", "json"],
+        (8, UNBUILT, ("first.img", Kept::Image(IMAGE_SIZE))),
+    ),
+    (
+        &["tree", "first.img", "xml"],
+        (2, USAGE, ("first.img", Kept::Image(IMAGE_SIZE))),
+    ),
+    (&["check"], (2, USAGE, ("o p", Kept::Nothing))),
+    (
+        &["checks", "first.img"],
+        (2, USAGE, ("first.img", Kept::Image(IMAGE_SIZE))),
+    ),
+    (&["gen", "7", "4"], (8, UNBUILT, ("o p", Kept::Nothing))),
+    (&["gen", "0", "1"], (8, UNBUILT, ("o p", Kept::Nothing))),
+    (
+        &["gen", "4294967295", "1000"],
+        (8, UNBUILT, ("o p", Kept::Nothing)),
+    ),
+    (&["gen", "7", "1001"], (2, USAGE, ("o p", Kept::Nothing))),
+    (&["gen", "7", "0"], (2, USAGE, ("o p", Kept::Nothing))),
+    (
+        &["gen", "4294967296", "4"],
+        (2, USAGE, ("o p", Kept::Nothing)),
+    ),
+    (&["gen", "07", "4"], (2, USAGE, ("o p", Kept::Nothing))),
+    (&["gen", "-7", "4"], (2, USAGE, ("o p", Kept::Nothing))),
+    (&["gen", "7", ""], (2, USAGE, ("o p", Kept::Nothing))),
+    (
+        &["new", "o p", "16", "16"],
+        (
+            0,
+            b"made pages 16 inodes 16 free 13\n",
+            ("o p", Kept::Bytes(65_536)),
+        ),
+    ),
+    (
+        &["new", "first.img", "15", "16"],
+        (2, USAGE, ("first.img", Kept::Image(IMAGE_SIZE))),
+    ),
+    (
+        &["new", "first.img", "16", "15"],
+        (2, USAGE, ("first.img", Kept::Image(IMAGE_SIZE))),
+    ),
+    (
+        &["new", "first.img", "8193", "16"],
+        (2, USAGE, ("first.img", Kept::Image(IMAGE_SIZE))),
+    ),
+    (
+        &["new", "first.img", "16", "16385"],
+        (2, USAGE, ("first.img", Kept::Image(IMAGE_SIZE))),
+    ),
+    (
+        &["new", "first.img", "16", "16384"],
+        (2, USAGE, ("first.img", Kept::Image(IMAGE_SIZE))),
+    ),
+    (
+        &["new", "first.img", "32", "+64"],
+        (2, USAGE, ("first.img", Kept::Image(IMAGE_SIZE))),
+    ),
+    (
+        &["new", "first.img", "32", "0064"],
+        (2, USAGE, ("first.img", Kept::Image(IMAGE_SIZE))),
+    ),
+    (
+        &["new", "first.img", "", "64"],
+        (2, USAGE, ("first.img", Kept::Image(IMAGE_SIZE))),
+    ),
+    (&["--help"], (0, USAGE, ("o p", Kept::Nothing))),
+    (&["--version"], (0, b"trio 0.1.0\n", ("o p", Kept::Nothing))),
+    (
+        &["--help", "--version"],
+        (2, USAGE, ("--version", Kept::Image(IMAGE_SIZE))),
+    ),
 ];
 
 const UNBUILT: &[u8] = b"not built words\n";
 
 #[test]
-fn other_words(rt: HostRuntime) -> Result<(), Fail> {
+fn words_are_read(rt: HostRuntime) -> Result<(), Fail> {
     let whole = image(rt.alloc())?;
     for (i, (words, end)) in COMMANDS.iter().enumerate() {
         assert!(rt;
@@ -312,9 +496,9 @@ fn ends_surely(alloc: Global, image: &[u8], status: u8, text: &[u8], out: &[u8])
 #[test]
 fn sure_forms(rt: HostRuntime) -> Result<(), Fail> {
     let whole = image(rt.alloc())?;
-    let short = changed_image(rt.alloc(), 4095, &[])?;
+    let short = changed(rt.alloc(), &whole, 4095, &[])?;
     assert!(rt; ends_surely(rt.alloc(), &whole, 0, REPORT, &whole) == Some(true));
-    assert!(rt; ends_surely(rt.alloc(), &short, 1, b"not verified\n", b"") == Some(true));
+    assert!(rt; ends_surely(rt.alloc(), &short, 1, b"length 4095\n", b"") == Some(true));
     Ok(())
 }
 
@@ -340,26 +524,21 @@ enum Out {
 // The image as it was, of which the last byte is zero.
 const SAME: Out = Out::Image(131_071, 0);
 
-// Whether these are the bytes of an image that verifies.
-fn verifies(alloc: Global, bytes: &[u8]) -> Option<bool> {
-    let mut files = SureFiles::new(alloc, words_of(alloc, &["out"]).ok()?).ok()?;
-    files.hold("out", bytes.to_vec(alloc).ok()?);
-    if !files.serves("out") {
-        return None;
-    }
-    Some(load(alloc, &mut files, "out").is_ok())
-}
-
-fn has(alloc: Global, out: &[u8], image: &[u8], wanted: Out) -> Option<bool> {
+fn has<R: Threads + Wait + Sync + AllocGlobal>(
+    rt: &R,
+    out: &[u8],
+    image: &[u8],
+    wanted: Out,
+) -> Option<bool> {
     match wanted {
         Out::Image(at, byte) => {
-            let mut bytes = image.to_vec(alloc).ok()?;
+            let mut bytes = image.to_vec(rt.alloc()).ok()?;
             *bytes.get_mut(at)? = byte;
             Some(out == bytes.as_slice())
         }
         Out::Part(from, to, wanted) => {
             let is_so = out.get(from..to)?.iter().all(|byte| *byte == wanted);
-            Some(is_so && verifies(alloc, out)?)
+            Some(is_so && run_over(rt, &CHECK, out, b"", (0, 0)).ok()?.status == 0)
         }
     }
 }
@@ -378,7 +557,7 @@ fn plays<R: Threads + Wait + Sync + AllocGlobal>(
     let report = joined(alloc, &["lib 1 raw\n", answers, tree]).ok()?;
     let left = run_over(rt, &WORDS, image, &script, (0, 0)).ok()?;
     let is_told = left.status == 0 && left.out.bytes() == report.as_slice();
-    Some(is_told && has(alloc, left.files.content("o p")?, image, wanted)?)
+    Some(is_told && has(rt, left.files.content("o p")?, image, wanted)?)
 }
 
 // One file in the root.
@@ -691,6 +870,73 @@ fn no_more_than_is_free_is_allotted(rt: HostRuntime) -> Result<(), Fail> {
     Ok(())
 }
 
+// What a library writes into a file that it is lent, behind the file's number, and what it is told then:
+// each row breaks the rule that is named and none below it.
+const HOSTILE: &[(&str, &str, &str)] = &[
+    // a mode above nine bits, a byte that is reserved, a byte behind the size
+    ("3", "body 3 0 0002", "refused I1"),
+    ("3", "body 3 2 01", "refused I1"),
+    ("3", "body 3 25 01", "refused I1"),
+    // no bytes, but a head; neither; more blocks than there are core pages
+    ("3", "body 3 16 0000000000000000", "refused I1"),
+    ("3", "body 3 12 000000000000000000000000", "accepted"),
+    ("3", "body 3 16 ffffffffffffffff", "refused I1"),
+    // as a block the number 0, a page below the core, another file's block, its own index page
+    ("3", "index 3 0 0 0000000000000000", "refused I1"),
+    ("3", "index 3 0 0 0200000000000000", "refused I1"),
+    ("3", "index 3 0 0 0600000000000000", "refused I2"),
+    ("3", "index 3 0 0 0700000000000000", "refused I2"),
+    // a number behind those in use, a link where the chain ends
+    ("3", "index 3 0 8 0800000000000000", "refused I1"),
+    ("3", "index 3 0 4088 0700000000000000", "refused I1"),
+    // another mode, another gid
+    ("3", "body 3 0 ff01", "refused I4"),
+    ("3", "body 3 8 05000000", "refused I4"),
+    // in a child's entry another kind, a name without bytes, a slash, another name
+    ("2", "block 2 0 4 02", "refused I4"),
+    ("2", "block 2 0 5 00", "refused I1"),
+    ("2", "block 2 0 8 2f", "refused I1"),
+    ("2", "block 2 0 8 67", "accepted"),
+    // the directory itself in it, a number above the last, none
+    ("2", "block 2 0 0 02000000", "refused I2"),
+    ("2", "block 2 0 0 41000000", "refused I1"),
+    ("2", "block 2 0 0 00000000", "refused I3"),
+    // a directory cut down over its child
+    ("2", "body 2 12 000000000000000000000000", "refused I3"),
+    // another mode of the root's
+    ("1", "body 1 0 ff01", "refused I4"),
+];
+
+// Whether a library that writes this is told so, and leaves an image: the same one where it is refused.
+fn is_told<R: Threads + Wait + Sync + AllocGlobal>(
+    rt: &R,
+    image: &[u8],
+    (ino, poke, verdict): (&str, &str, &str),
+) -> Option<bool> {
+    let alloc = rt.alloc();
+    let begin = "lib 1 raw 0 0\ngrant write ";
+    let lines = [begin, ino, "\npoke ", poke, "\nrelease ", ino, " - -\n"];
+    let script = joined(alloc, &lines).ok()?;
+    let told = joined(alloc, &["lib 1 raw\n2 granted\n3 poked\n4 ", verdict, "\n"]).ok()?;
+    let left = run_over(rt, &WORDS, image, &script, (0, 0)).ok()?;
+    let wanted = if verdict == "accepted" {
+        Out::Part(0, 0, 0)
+    } else {
+        SAME
+    };
+    let is_so = left.status == 0 && left.out.bytes().starts_with(&told);
+    Some(is_so && has(rt, left.files.content("o p")?, image, wanted)?)
+}
+
+#[test]
+fn hostile_bytes_break_the_lowest_rule(rt: HostRuntime) -> Result<(), Fail> {
+    let whole = tree_image(rt.alloc())?;
+    for row in HOSTILE {
+        assert!(rt; is_told(&rt, &whole, *row) == Some(true), "{}", row.1);
+    }
+    Ok(())
+}
+
 // Values of a byte, as they are poked.
 const VALUES: &[(u8, &str)] = &[(0, "00"), (1, "01"), (0x7f, "7f"), (0xff, "ff")];
 
@@ -714,7 +960,7 @@ fn is_judged<R: Threads + Wait + Sync + AllocGlobal>(
     let script = joined(alloc, &lines).ok()?;
     let left = run_over(rt, &WORDS, image, &script, (0, 0)).ok()?;
     let is_told = left.status == 0 && left.out.bytes().starts_with(verdict);
-    Some(is_told && has(alloc, left.files.content("o p")?, image, wanted)?)
+    Some(is_told && has(rt, left.files.content("o p")?, image, wanted)?)
 }
 
 // The offsets of a body.

@@ -2,6 +2,7 @@
 
 ghost use Rattle.std.specs.Prelude.{All, Contains};
 ghost use Rattle.trio_io.specs.Names.{texts_of};
+ghost use Rattle.trio_app.specs.Decided.{EndsAsDecided};
 ghost use Rattle.trio_app.specs.Main.{Main};
 
 use crate::plain_main;
@@ -21,7 +22,8 @@ pub fn trio_main<R: Threads + Wait + Sync, F: Files, S: Sink, G: Gate + Sync>(
     _gate: &G,
 ) -> u8
     requires { All (Contains (F.seen files.old).served) (texts_of words.now) }
-    ensures { Main (texts_of words.now) (F.seen files.old) (F.seen files.new) (S.seen out.old) (S.seen out.new) result }
+    ensures main { Main (texts_of words.now) (F.seen files.old) (F.seen files.new) (S.seen out.old) (S.seen out.new) result }
+    ensures decided { EndsAsDecided (texts_of words.now) (F.seen files.old) (F.seen files.new) (S.seen out.old) (S.seen out.new) result }
 {
     plain_main(alloc, words, files, out)
 }

@@ -3,17 +3,17 @@
 ghost use Rattle.std.specs.Prelude.{Contains};
 ghost use Rattle.trio_app.specs.Turns.{Turns};
 
+use crate::Outcome;
+use crate::images::save_image;
 use crate::inputs::read_inputs;
-use crate::lines::named_line;
 use crate::run::run;
-use crate::{Outcome, Status};
 use std::alloc::Global;
-use trio_io::{Failed, Files};
+use trio_io::Files;
 
 /// Runs a script on an image, writes the image that is then settled, and says what is to be put.
 ///
 /// The image is read and judged first, then the script. All that takes memory comes before the
-/// image is written, so after [`Status::NoMemory`] nothing was written.
+/// image is written, so after [`Status::NoMemory`](crate::Status::NoMemory) nothing was written.
 pub fn turns<F: Files>(
     alloc: Global,
     image_name: &str,
@@ -28,22 +28,10 @@ pub fn turns<F: Files>(
 {
     let (image, lines) = match read_inputs(alloc, image_name, script_name, files) {
         Ok(inputs) => inputs,
-        Err(stop) => return stop.outcome(alloc, image_name, script_name),
+        Err(end) => return end,
     };
-    let Ok(end) = run(alloc, image, &lines) else {
-        return Outcome::no_memory(alloc);
-    };
-    let Ok(fault) = named_line(alloc, "write fault ", out_name) else {
-        return Outcome::no_memory(alloc);
-    };
-    match files.replace(out_name, &end.image) {
-        Ok(()) => Outcome {
-            status: Status::Done,
-            text: end.report,
-        },
-        Err(Failed) => Outcome {
-            status: Status::WriteFault,
-            text: fault,
-        },
+    match run(alloc, image, &lines) {
+        Ok(end) => save_image(alloc, end.image, end.report, out_name, files),
+        Err(_) => Outcome::no_memory(alloc),
     }
 }

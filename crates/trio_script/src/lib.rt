@@ -28,6 +28,7 @@ use line::read_line;
 use std::alloc::Global;
 /// Want of memory.
 pub use trio_page::NoMemory;
+pub use word::read_number;
 
 /// The most lines that a script may have.
 pub const LINE_LIMIT: u32 = 16_384;

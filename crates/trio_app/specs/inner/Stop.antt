@@ -1,85 +1,50 @@
--- Why the work ends before anything is written, and how that is told. Cited by private functions alone.
+-- Why the work ends at a file that is read, and how that is told. Cited by private functions alone.
 use Rattle.std.specs.Prelude.{◌≡◌, ◌⊎◌, ℕ, ◌≤◌, List, [], Option, None, Some, length, ⊤}
 use Rattle.trio_io.specs.Shelf.{Shelf, Rose, IsTold, IsLonger}
 use Rattle.trio_layout.specs.declared.superblock.Superblock.{Superblock}
-use Rattle.trio_survey.specs.Stored.{BytesVerify, pages_in}
+use Rattle.trio_image.specs.Load.{Loads}
 use Rattle.trio_image.specs.declared.fault.LoadFault.{LoadFault}
-use Rattle.trio_image.specs.declared.fault.LoadFault.TheVariants.{ReadFault, TooLong, Length, BadSuper, Fails, NoMemory as LoadNoMemory}
+use Rattle.trio_image.specs.declared.fault.LoadFault.TheVariants.{Length as LoadLength, BadSuper as LoadBadSuper, Fails as LoadFails, NoMemory as LoadNoMemory, ReadFault as LoadReadFault, TooLong as LoadTooLong}
 use Rattle.trio_script.specs.Script.{script_lines, unbuilt_line}
 use Rattle.trio_script.specs.declared.ScriptLine.{ScriptLine}
 use Rattle.trio_app.specs.declared.status.Status.{Status}
-use Rattle.trio_app.specs.declared.status.Status.TheVariants.{NotVerified as StatusNotVerified, ReadFault as StatusReadFault, NoMemory as StatusNoMemory, NotBuilt}
+use Rattle.trio_app.specs.declared.status.Status.TheVariants.{NotVerified, ReadFault as StatusReadFault, TooLong as StatusTooLong, NoMemory as StatusNoMemory, NotBuilt}
 use Rattle.trio_app.specs.declared.stop.Stop.{Stop}
-use Rattle.trio_app.specs.declared.stop.Stop.TheVariants.{ImageFault, ImageNotBuilt, NotVerified, ScriptFault, ScriptNotBuilt, LineNotBuilt, NoMemory}
-use Rattle.trio_app.specs.Lines.{not_verified_line, read_fault_line, not_built_image, not_built_script, not_built_line}
-use Rattle.trio_app.specs.Turns.{HasLength, ImageVerifies, ReadsLine}
+use Rattle.trio_app.specs.declared.stop.Stop.TheVariants.{ReadFault, TooLong, Length, BadSuper, Invalid, LineNotBuilt, NoMemory}
+use Rattle.trio_app.specs.Lines.{length_line, bad_superblock_line, invalid_line, read_fault_line, too_long_line, not_built_line}
 
 abbrev pub status_of : Stop → Status
-status_of ImageFault = StatusReadFault
-status_of ImageNotBuilt = NotBuilt
-status_of NotVerified = StatusNotVerified
-status_of ScriptFault = StatusReadFault
-status_of ScriptNotBuilt = NotBuilt
+status_of ReadFault = StatusReadFault
+status_of TooLong = StatusTooLong
+status_of (Length count) = NotVerified
+status_of BadSuper = NotVerified
+status_of (Invalid rule) = NotVerified
 status_of (LineNotBuilt number) = NotBuilt
 status_of NoMemory = StatusNoMemory
 
-abbrev pub line_of : List ℕ → List ℕ → Stop → List ℕ
-line_of image script ImageFault = read_fault_line image
-line_of image script ImageNotBuilt = not_built_image
-line_of image script NotVerified = not_verified_line
-line_of image script ScriptFault = read_fault_line script
-line_of image script ScriptNotBuilt = not_built_script
-line_of image script (LineNotBuilt number) = not_built_line number
-line_of image script NoMemory = []
+-- the line of this cause, at the file of a name
+abbrev pub line_of : List ℕ → Stop → List ℕ
+line_of name ReadFault = read_fault_line name
+line_of name TooLong = too_long_line name
+line_of name (Length count) = length_line count
+line_of name BadSuper = bad_superblock_line
+line_of name (Invalid rule) = invalid_line rule
+line_of name (LineNotBuilt number) = not_built_line number
+line_of name NoMemory = []
 
 -- the status and the line of this cause, or want of memory
-abbrev pub ToldStop : List ℕ → List ℕ → Stop → List ℕ → Status → Type 0
-ToldStop image script stop text status =
-    ((status ≡ status_of stop) × (text ≡ line_of image script stop)) ⊎ ((status ≡ StatusNoMemory) × (text ≡ []))
+abbrev pub ToldStop : List ℕ → Stop → List ℕ → Status → Type 0
+ToldStop name stop text status =
+    ((status ≡ status_of stop) × (text ≡ line_of name stop)) ⊎ ((status ≡ StatusNoMemory) × (text ≡ []))
 
--- ---- the image
-
+-- how the fault of loading an image is told
 abbrev pub stop_of_loading : LoadFault → Stop
-stop_of_loading ReadFault = ImageFault
-stop_of_loading TooLong = ImageNotBuilt
-stop_of_loading (Length count) = NotVerified
-stop_of_loading BadSuper = NotVerified
-stop_of_loading (Fails rule ino page slot) = NotVerified
+stop_of_loading LoadReadFault = ReadFault
+stop_of_loading LoadTooLong = TooLong
+stop_of_loading (LoadLength count) = Length count
+stop_of_loading LoadBadSuper = BadSuper
+stop_of_loading (LoadFails rule ino page slot) = Invalid rule
 stop_of_loading LoadNoMemory = NoMemory
-
--- Bytes of an image that verifies, with its superblock and its pages.
-pub record IsImage (bytes : List ℕ) (s : Superblock) (pages : List (Option (List ℕ))) : Type 0 where
-  pub verifies : BytesVerify bytes
-  pub lengths : HasLength s bytes
-  pub pages_are : pages ≡ pages_in s.pages bytes
-
--- why bytes are none
-abbrev pub BytesStop : List ℕ → Stop → Type 0
-BytesStop bytes NotVerified = BytesVerify bytes → ⊥
-BytesStop bytes NoMemory = ⊤
-BytesStop bytes _ = ⊥
-
--- the image was read, and verifies
-pub record ReadsImage (image : List ℕ) (old : Shelf) (s : Superblock) (pages : List (Option (List ℕ))) : Type 0 where
-  pub image_bytes : List ℕ
-  pub image_is : IsTold (old.held image) image_bytes
-  pub within : length image_bytes ≤ 33554432
-  pub is : IsImage image_bytes s pages
-
--- the image was read, and doesn't verify
-pub record FailsImage (image : List ℕ) (old : Shelf) : Type 0 where
-  pub image_bytes : List ℕ
-  pub image_is : IsTold (old.held image) image_bytes
-  pub within : length image_bytes ≤ 33554432
-  pub fails : BytesVerify image_bytes → ⊥
-
--- why there is no image to run on
-abbrev pub ImageStop : List ℕ → Shelf → Shelf → Stop → Type 0
-ImageStop image old new ImageFault = Rose (old.read_faults image) (new.read_faults image)
-ImageStop image old new ImageNotBuilt = IsLonger 33554432 (old.held image)
-ImageStop image old new NotVerified = FailsImage image old
-ImageStop image old new NoMemory = ⊤
-ImageStop image old new _ = ⊥
 
 -- ---- the script
 
@@ -100,20 +65,8 @@ pub record HasUnbuiltLine (script : List ℕ) (old : Shelf) (number : ℕ) : Typ
 
 -- why there is no script to run
 abbrev pub ScriptStop : List ℕ → Shelf → Shelf → Stop → Type 0
-ScriptStop script old new ScriptFault = Rose (old.read_faults script) (new.read_faults script)
-ScriptStop script old new ScriptNotBuilt = IsLonger 1048576 (old.held script)
+ScriptStop script old new ReadFault = Rose (old.read_faults script) (new.read_faults script)
+ScriptStop script old new TooLong = IsLonger 1048576 (old.held script)
 ScriptStop script old new (LineNotBuilt number) = HasUnbuiltLine script old number
 ScriptStop script old new NoMemory = ⊤
 ScriptStop script old new _ = ⊥
-
--- ---- both
-
--- why there is no run
-abbrev pub InputStop : List ℕ → List ℕ → Shelf → Shelf → Stop → Type 0
-InputStop image script old new ImageFault = Rose (old.read_faults image) (new.read_faults image)
-InputStop image script old new ImageNotBuilt = IsLonger 33554432 (old.held image)
-InputStop image script old new NotVerified = FailsImage image old
-InputStop image script old new ScriptFault = Rose (old.read_faults script) (new.read_faults script) × ImageVerifies image old
-InputStop image script old new ScriptNotBuilt = ImageVerifies image old × IsLonger 1048576 (old.held script)
-InputStop image script old new (LineNotBuilt number) = ReadsLine image script old number
-InputStop image script old new NoMemory = ⊤

@@ -1,7 +1,11 @@
-use Rattle.trio_app.proofs.Judged.{script_stop}
+use Rattle.trio_app.proofs.Stops.{inputs_stop, script_stop}
 use Rattle.trio_app.proofs.inputs.read_inputs.Goals as goal
+
+pub returns-in-Err-clause-stops : goal.returns-in-Err-clause-stops
+returns-in-Err-clause-stops g c =
+    inputs_stop c.args.image_name.now c.args.script_name.now (g.F.Files.seen c.args.files.now) (g.F.Files.seen c.read_image.new.files) c.in-Err.end.text.items c.in-Err.end.status c.in-Err.ensures.stops
 
 pub returns-in-Err-input_script-clause-stops : goal.returns-in-Err-input_script-clause-stops
 returns-in-Err-input_script-clause-stops g c =
-    script_stop c.args.image_name.now c.args.script_name.now (g.F.Files.seen c.args.files.now) (g.F.Files.seen c.input_image.new.files) (g.F.Files.seen c.input_script.new.files) c.in-Ok.image.superblock c.in-Ok.image.pages
-    c.in-Err-input_script.stop c.in-Ok.ensures.image c.in-Ok.ensures.files c.in-Err-input_script.ensures.stops
+    script_stop c.args.image_name.now c.args.script_name.now (g.F.Files.seen c.args.files.now) (g.F.Files.seen c.read_image.new.files) (g.F.Files.seen c.input_script.new.files) c.in-Ok.image.superblock c.in-Ok.image.pages
+    c.in-Err-input_script.stop c.outcome.result.text.items c.outcome.result.status c.in-Ok.ensures.image c.in-Ok.ensures.files c.in-Err-input_script.ensures.stops c.outcome.ensures

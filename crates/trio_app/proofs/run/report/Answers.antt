@@ -5,13 +5,24 @@ use Rattle.trio_report.specs.declared.report.LibraryKind.TheVariants.{Raw}
 use Rattle.trio_report.specs.Report.{counts_text, end_line, lib_heading, tree_text}
 use Rattle.trio_report.specs.declared.report.Counts.{Counts as Totals}
 use Rattle.trio_app.specs.Report.{answers_text}
-use Rattle.trio_app.proofs.Ends.{joined}
+use Rattle.trio_app.proofs.Ends.{image_again, joined}
 use Rattle.trio_app.proofs.run.report.Goals as goal
 
-pub returns : goal.returns
-returns c =
+pub of-requires : goal.of-requires
+of-requires c =
+    let pages = c.tree_lines.ensures.pages ∙ c.into_parts-parts.ensures.pages in
+    (c.args.image.superblock, rw pages c.into_parts-parts.ensures.verified, rw pages c.into_parts-parts.ensures.tables)
+
+pub returns-clause-image : goal.returns-clause-image
+returns-clause-image c =
+    let pages = c.tree_lines.ensures.pages ∙ c.into_parts-parts.ensures.pages in
+    let superblock = c.of.ensures.superblock in
+    image_again c.args.image c.of.result c.into_parts-parts.ensures.verified (c.of.ensures.pages ∙ pages) (rw pages at superblock)
+
+pub returns-clause-report : goal.returns-clause-report
+returns-clause-report c =
     let read = c.in_ok-tree.ensures.tree in
-    let tree : c.in_ok-tree.tree.items ≡ tree_of (core_in c.args.image.superblock c.args.image.pages) = rw (c.superblock-superblock.ensures.superblock, c.into_parts.ensures.pages) at read in
+    let tree : c.in_ok-tree.tree.items ≡ tree_of (core_in c.args.image.superblock c.args.image.pages) = rw (c.superblock-superblock.ensures.superblock, c.into_parts-parts.ensures.pages) at read in
     let told = c.in_ok-put_tree.ensures in
     let put = rw (c.deref.ensures.value, tree) at told in
     let heading = c.in_ok-put_heading.ensures in
@@ -19,4 +30,4 @@ returns c =
     let ended = c.in_ok-put_end.ensures in
     let counts = c.in_ok-put_counts.ensures in
     joined _ _ _ _ _ _ _ _ _ _ _ c.new-text.ensures.items heading answers ended put counts
-    ∙ ap (λ (k : Totals). lib_heading 1 Raw ++ answers_text c.args.lines.now c.args.answers.now ++ end_line c.args.end ++ tree_text (tree_of (core_in c.args.image.superblock c.args.image.pages)) ++ counts_text k) c.counts-counts.ensures
+    ∙ ap (λ (k : Totals). lib_heading 1 Raw ++ answers_text c.args.lines.now c.args.answers.now ++ end_line c.args.end ++ tree_text (tree_of (core_in c.args.image.superblock c.args.image.pages)) ++ counts_text k) c.told_counts-counts.ensures

@@ -1,14 +1,17 @@
+use Rattle.std.proofs.Common.{◌≡◌, ap, sym, subst}
+use Rattle.trio_image.specs.Image.{ImagePages}
+use Rattle.trio_app.specs.inner.RunEnd.{IsRunEnd}
 use Rattle.trio_app.proofs.Ends.{run_end}
 use Rattle.trio_app.proofs.run.run.Goals as goal
 
 pub returns : goal.returns
 returns c =
-    let told = c.in_ok-report.ensures in
-    let text = rw (c.in_ok-image.ensures.image, c.deref.ensures.value) at told in
+    let told = c.in_ok-report.ensures.report in
+    let text = rw c.deref.ensures.value at told in
     let started = c.in-Ok.ensures in
     let played = c.in_ok-end.ensures in
     let image = c.in-Ok-image.ensures in
-    let bytes = c.in_ok-image.ensures in
-    run_end c.args.image.superblock c.in-Ok-image.last.superblock c.args.image.pages c.in-Ok-image.last.pages c.in_ok-vec.field-0.items c.in-Ok.ctl.state c.play.new.ctl.state c.args.lines.now
-    c.new-answers.result.items c.play.new.answers.items c.in_ok-end.end c.in_ok-report.report.items c.in_ok-image.image.items
-    started.kept c.in_ok-vec.ensures.items started.started c.new-answers.ensures.items played image.tables image.superblock image.stores bytes.bytes bytes.verify text
+    subst (λ (last : ImagePages). IsRunEnd c.args.image.superblock c.args.image.pages c.args.lines.now c.in_ok-report.report.items last.pages) (sym c.in_ok-report.ensures.image)
+    (run_end c.args.image.superblock c.in-Ok-image.last.superblock c.args.image.pages c.in-Ok-image.last.pages c.in_ok-vec.field-0.items c.in-Ok.ctl.state c.play.new.ctl.state c.args.lines.now
+    c.new-answers.result.items c.play.new.answers.items c.in_ok-end.end c.in_ok-report.report.items
+    started.kept c.in_ok-vec.ensures.items started.started c.new-answers.ensures.items played image.tables image.superblock image.stores text)

@@ -1,0 +1,199 @@
+-- The top call answers the status that the words and the bytes decide.
+use Rattle.std.proofs.Common.{◌≡◌, ◌⊎◌, ℕ, List, Option, inl, inr, refl, Some, None, length, ◌≤◌, ap, sym, subst, ◌∙◌, arith}
+use Rattle.trio_io.specs.Shelf.{Shelf, SinkSeen, Rose, IsLonger, IsTold}
+use Rattle.trio_survey.specs.Stored.{BytesVerify}
+use Rattle.trio_script.specs.Script.{unbuilt_line}
+use Rattle.trio_app.specs.declared.status.Status.{Status}
+use Rattle.trio_app.specs.declared.status.Status.TheVariants.{Done, NotVerified, Usage, ReadFault, WriteFault, NoMemory, TooLong, NotBuilt}
+use Rattle.trio_app.specs.Status.{code_of}
+use Rattle.trio_app.specs.Command.{Command, new_image, check, turns, unbuilt, help, version, unknown, command_of}
+use Rattle.trio_app.specs.Images.{ImageFails, ImageVerifies}
+use Rattle.trio_app.specs.New.{NewComesTo}
+use Rattle.trio_app.specs.Check.{CheckComesTo}
+use Rattle.trio_app.specs.Turns.{ReadsLine, TurnsComesTo, TurnsDone}
+use Rattle.trio_app.specs.Main.{ComesTo, Main}
+use Rattle.trio_app.specs.Decided.{CheckDecides, Decides, EndsAsDecided, NewDecides, NoneRose, TellsImage, TellsNoImage, TellsScript, TellsTooLong, TurnsDecides}
+
+-- ---- what a file tells is one thing
+
+same_bytes : (content : Option (List ℕ)) (bytes other : List ℕ) → content ≡ Some bytes → IsTold content other → bytes ≡ other
+same_bytes content bytes other is told = rw is at told
+
+is_longer : (limit : ℕ) (content : Option (List ℕ)) (bytes : List ℕ) → content ≡ Some bytes → length bytes ≤ limit → IsLonger limit content → ⊥
+is_longer limit content bytes is within longer = let longer' = rw is at longer in omega arith
+
+is_shorter : (limit : ℕ) (name : List ℕ) (old : Shelf) (bytes : List ℕ) → TellsTooLong limit name old → IsTold (old.held name) bytes → length bytes ≤ limit → ⊥
+is_shorter limit name old bytes long told within =
+    let same : length long.bytes ≡ length bytes = ap length (same_bytes (old.held name) long.bytes bytes long.tells told) in omega (arith, long.longer)
+
+-- ---- an image
+
+valid_not_failing : (name : List ℕ) (old : Shelf) (text : List ℕ) → TellsImage name old → ImageFails name old text → ⊥
+valid_not_failing name old text valid failing =
+    failing.fails (subst BytesVerify (same_bytes (old.held name) valid.bytes failing.image_bytes valid.tells failing.image_is) valid.verifies)
+
+valid_not_longer : (name : List ℕ) (old : Shelf) → TellsImage name old → IsLonger 33554432 (old.held name) → ⊥
+valid_not_longer name old valid longer = is_longer 33554432 (old.held name) valid.bytes valid.tells valid.within longer
+
+failing_not_valid : (name : List ℕ) (old : Shelf) → TellsNoImage name old → ImageVerifies name old → ⊥
+failing_not_valid name old failing valid =
+    failing.fails (subst BytesVerify (sym (same_bytes (old.held name) failing.bytes valid.image_bytes failing.tells valid.image_is)) valid.verifies)
+
+failing_not_longer : (name : List ℕ) (old : Shelf) → TellsNoImage name old → IsLonger 33554432 (old.held name) → ⊥
+failing_not_longer name old failing longer = is_longer 33554432 (old.held name) failing.bytes failing.tells failing.within longer
+
+longer_not_valid : (name : List ℕ) (old : Shelf) → TellsTooLong 33554432 name old → ImageVerifies name old → ⊥
+longer_not_valid name old long valid = is_shorter 33554432 name old valid.image_bytes long valid.image_is valid.within
+
+longer_not_failing : (name : List ℕ) (old : Shelf) (text : List ℕ) → TellsTooLong 33554432 name old → ImageFails name old text → ⊥
+longer_not_failing name old text long failing = is_shorter 33554432 name old failing.image_bytes long failing.image_is failing.within
+
+-- ---- a script
+
+script_not_longer : (name : List ℕ) (old : Shelf) (line : Option ℕ) → TellsScript name old line → IsLonger 1048576 (old.held name) → ⊥
+script_not_longer name old line script longer = is_longer 1048576 (old.held name) script.bytes script.tells script.within longer
+
+same_line : (name : List ℕ) (old : Shelf) (line other : Option ℕ) (bytes : List ℕ) → TellsScript name old line → IsTold (old.held name) bytes → unbuilt_line bytes ≡ other → line ≡ other
+same_line name old line other bytes script told is = sym script.built ∙ ap unbuilt_line (same_bytes (old.held name) script.bytes bytes script.tells told) ∙ is
+
+not_both : (number : ℕ) → None ≡ Some number → ⊥
+not_both number e = absurd cc
+
+-- ---- `turns`
+
+module _ (image script out : List ℕ) (old new : Shelf) (text : List ℕ) (reads : (q : List ℕ) → Rose (old.read_faults q) (new.read_faults q) → ⊥) (writes : (q : List ℕ) → Rose (old.write_faults q) (new.write_faults q) → ⊥) where
+  done_image : TurnsDone image script out old new text → ImageVerifies image old
+  done_image done = record { image_bytes = done.image_bytes; image_is = done.image_is; within = done.image_within; verifies = done.image_verifies }
+
+  turns_done : (status : Status) → TellsImage image old → TellsScript script old None → TurnsComesTo image script out old new text status → (code_of status ≡ 0) ⊎ (code_of status ≡ 6)
+  turns_done Done valid built comes = inl refl
+  turns_done NoMemory valid built comes = inr refl
+  turns_done NotVerified valid built comes = absurd (valid_not_failing image old text valid comes)
+  turns_done ReadFault valid built (inl fault) = absurd (reads image fault.0)
+  turns_done ReadFault valid built (inr fault) = absurd (reads script fault.0)
+  turns_done WriteFault valid built comes = absurd (writes out comes.rose)
+  turns_done TooLong valid built (inl long) = absurd (valid_not_longer image old valid long.0)
+  turns_done TooLong valid built (inr long) = absurd (script_not_longer script old None built long.0)
+  turns_done NotBuilt valid built comes = absurd (not_both comes.0 (same_line script old None (Some comes.0) comes.1.script_bytes built comes.1.script_is comes.1.line))
+  turns_done _ valid built comes = absurd comes
+
+  turns_not_verified : (status : Status) → TellsNoImage image old → TurnsComesTo image script out old new text status → (code_of status ≡ 1) ⊎ (code_of status ≡ 6)
+  turns_not_verified NotVerified failing comes = inl refl
+  turns_not_verified NoMemory failing comes = inr refl
+  turns_not_verified Done failing comes = absurd (failing_not_valid image old failing (done_image comes))
+  turns_not_verified ReadFault failing (inl fault) = absurd (reads image fault.0)
+  turns_not_verified ReadFault failing (inr fault) = absurd (reads script fault.0)
+  turns_not_verified WriteFault failing comes = absurd (writes out comes.rose)
+  turns_not_verified TooLong failing (inl long) = absurd (failing_not_longer image old failing long.0)
+  turns_not_verified TooLong failing (inr long) = absurd (failing_not_valid image old failing long.1)
+  turns_not_verified NotBuilt failing comes = absurd (failing_not_valid image old failing comes.1.image_verifies)
+  turns_not_verified _ failing comes = absurd comes
+
+  turns_image_long : (status : Status) → TellsTooLong 33554432 image old → TurnsComesTo image script out old new text status → (code_of status ≡ 7) ⊎ (code_of status ≡ 6)
+  turns_image_long TooLong long comes = inl refl
+  turns_image_long NoMemory long comes = inr refl
+  turns_image_long Done long comes = absurd (longer_not_valid image old long (done_image comes))
+  turns_image_long NotVerified long comes = absurd (longer_not_failing image old text long comes)
+  turns_image_long ReadFault long (inl fault) = absurd (reads image fault.0)
+  turns_image_long ReadFault long (inr fault) = absurd (reads script fault.0)
+  turns_image_long WriteFault long comes = absurd (writes out comes.rose)
+  turns_image_long NotBuilt long comes = absurd (longer_not_valid image old long comes.1.image_verifies)
+  turns_image_long _ long comes = absurd comes
+
+  turns_script_long : (status : Status) → TellsImage image old → TellsTooLong 1048576 script old → TurnsComesTo image script out old new text status → (code_of status ≡ 7) ⊎ (code_of status ≡ 6)
+  turns_script_long TooLong valid long comes = inl refl
+  turns_script_long NoMemory valid long comes = inr refl
+  turns_script_long Done valid long comes = absurd (is_shorter 1048576 script old comes.script_bytes long comes.script_is comes.script_within)
+  turns_script_long NotVerified valid long comes = absurd (valid_not_failing image old text valid comes)
+  turns_script_long ReadFault valid long (inl fault) = absurd (reads image fault.0)
+  turns_script_long ReadFault valid long (inr fault) = absurd (reads script fault.0)
+  turns_script_long WriteFault valid long comes = absurd (writes out comes.rose)
+  turns_script_long NotBuilt valid long comes = absurd (is_shorter 1048576 script old comes.1.script_bytes long comes.1.script_is comes.1.within)
+  turns_script_long _ valid long comes = absurd comes
+
+  turns_not_built : (status : Status) (number : ℕ) → TellsImage image old → TellsScript script old (Some number) → TurnsComesTo image script out old new text status → (code_of status ≡ 8) ⊎ (code_of status ≡ 6)
+  turns_not_built NotBuilt number valid line comes = inl refl
+  turns_not_built NoMemory number valid line comes = inr refl
+  turns_not_built Done number valid line comes = absurd (not_both number (sym (same_line script old (Some number) None comes.script_bytes line comes.script_is comes.script_built)))
+  turns_not_built NotVerified number valid line comes = absurd (valid_not_failing image old text valid comes)
+  turns_not_built ReadFault number valid line (inl fault) = absurd (reads image fault.0)
+  turns_not_built ReadFault number valid line (inr fault) = absurd (reads script fault.0)
+  turns_not_built WriteFault number valid line comes = absurd (writes out comes.rose)
+  turns_not_built TooLong number valid line (inl long) = absurd (valid_not_longer image old valid long.0)
+  turns_not_built TooLong number valid line (inr long) = absurd (script_not_longer script old (Some number) line long.0)
+  turns_not_built _ number valid line comes = absurd comes
+
+  pub turns_decided : (decided status : Status) → TurnsDecides image script old decided → TurnsComesTo image script out old new text status → (code_of status ≡ code_of decided) ⊎ (code_of status ≡ 6)
+  turns_decided Done status d comes = turns_done status d.0 d.1 comes
+  turns_decided NotVerified status d comes = turns_not_verified status d comes
+  turns_decided TooLong status (inl d) comes = turns_image_long status d comes
+  turns_decided TooLong status (inr d) comes = turns_script_long status d.0 d.1 comes
+  turns_decided NotBuilt status d comes = turns_not_built status d.1.0 d.0 d.1.1 comes
+  turns_decided _ status d comes = absurd d
+
+  -- ---- `check`
+
+  check_done : (status : Status) → TellsImage image old → CheckComesTo image old new text status → (code_of status ≡ 0) ⊎ (code_of status ≡ 6)
+  check_done Done valid comes = inl refl
+  check_done NoMemory valid comes = inr refl
+  check_done NotVerified valid comes = absurd (valid_not_failing image old text valid comes)
+  check_done ReadFault valid comes = absurd (reads image comes.0)
+  check_done TooLong valid comes = absurd (valid_not_longer image old valid comes.0)
+  check_done _ valid comes = absurd comes
+
+  check_not_verified : (status : Status) → TellsNoImage image old → CheckComesTo image old new text status → (code_of status ≡ 1) ⊎ (code_of status ≡ 6)
+  check_not_verified NotVerified failing comes = inl refl
+  check_not_verified NoMemory failing comes = inr refl
+  check_not_verified Done failing comes = absurd (failing_not_valid image old failing (record { image_bytes = comes.image_bytes; image_is = comes.image_is; within = comes.within; verifies = comes.verifies }))
+  check_not_verified ReadFault failing comes = absurd (reads image comes.0)
+  check_not_verified TooLong failing comes = absurd (failing_not_longer image old failing comes.0)
+  check_not_verified _ failing comes = absurd comes
+
+  check_too_long : (status : Status) → TellsTooLong 33554432 image old → CheckComesTo image old new text status → (code_of status ≡ 7) ⊎ (code_of status ≡ 6)
+  check_too_long TooLong long comes = inl refl
+  check_too_long NoMemory long comes = inr refl
+  check_too_long Done long comes = absurd (is_shorter 33554432 image old comes.image_bytes long comes.image_is comes.within)
+  check_too_long NotVerified long comes = absurd (longer_not_failing image old text long comes)
+  check_too_long ReadFault long comes = absurd (reads image comes.0)
+  check_too_long _ long comes = absurd comes
+
+  pub check_decided : (decided status : Status) → CheckDecides image old decided → CheckComesTo image old new text status → (code_of status ≡ code_of decided) ⊎ (code_of status ≡ 6)
+  check_decided Done status d comes = check_done status d comes
+  check_decided NotVerified status d comes = check_not_verified status d comes
+  check_decided TooLong status d comes = check_too_long status d comes
+  check_decided _ status d comes = absurd d
+
+  -- ---- `new`
+
+  pub new_decided : (pages inodes : ℕ) (decided status : Status) → NewDecides pages inodes decided → NewComesTo out pages inodes old new text status → (code_of status ≡ code_of decided) ⊎ (code_of status ≡ 6)
+  new_decided pages inodes Done Done d comes = inl refl
+  new_decided pages inodes Usage Usage d comes = inl refl
+  new_decided pages inodes decided NoMemory d comes = inr refl
+  new_decided pages inodes decided WriteFault d comes = absurd (writes out comes.rose)
+  new_decided pages inodes Done Usage d comes = absurd (comes.0 d)
+  new_decided pages inodes Usage Done d comes = absurd (d comes.fits)
+  new_decided pages inodes Done _ d comes = absurd comes
+  new_decided pages inodes Usage _ d comes = absurd comes
+  new_decided pages inodes _ _ d comes = absurd d
+
+-- ---- all commands
+
+same_end : (end decided status : Status) → decided ≡ end → status ≡ end → (code_of status ≡ code_of decided) ⊎ (code_of status ≡ 6)
+same_end end decided status d is = inl (ap code_of (is ∙ sym d))
+
+comes_decided : (command : Command) (old new : Shelf) (text : List ℕ) → ((q : List ℕ) → Rose (old.read_faults q) (new.read_faults q) → ⊥) → ((q : List ℕ) → Rose (old.write_faults q) (new.write_faults q) → ⊥)
+    → (decided status : Status) → Decides command old decided → ComesTo command old new text status → (code_of status ≡ code_of decided) ⊎ (code_of status ≡ 6)
+comes_decided (new_image out pages inodes) old new text reads writes decided status d comes = new_decided out out out old new text reads writes pages inodes decided status d comes.comes_to
+comes_decided (check image) old new text reads writes decided status d comes = check_decided image image image old new text reads writes decided status d comes.comes_to
+comes_decided (turns image script out) old new text reads writes decided status d comes = turns_decided image script out old new text reads writes decided status d comes.comes_to
+comes_decided unbuilt old new text reads writes decided status d comes = same_end NotBuilt decided status d comes.status_is
+comes_decided help old new text reads writes decided status d comes = same_end Done decided status d comes.status_is
+comes_decided version old new text reads writes decided status d comes = same_end Done decided status d comes.status_is
+comes_decided unknown old new text reads writes decided status d comes = same_end Usage decided status d comes.status_is
+
+pub main_decided : (words : List (List ℕ)) (old new : Shelf) (out out' : SinkSeen) (result : ℕ) → Main words old new out out' result → EndsAsDecided words old new out out' result
+main_decided words old new out out' result main = λ decided d none.
+    elim main.puts [
+      | inl done ↦ rw done.0 (comes_decided (command_of words) old new main.text none.reads none.writes decided main.status d main.comes_to)
+      | inr failed ↦ absurd (none.puts failed.1)
+    ]

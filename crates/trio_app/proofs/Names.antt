@@ -1,0 +1,53 @@
+-- The names of a command are among its words.
+use Rattle.std.proofs.Common.{ℕ, ◌&&◌, Bool, true, false, List, [], ◌∷◌, Option, Some, None, All}
+use Rattle.std.specs.Prelude.{nat_le, codes, if◌then◌else◌}
+use Rattle.std.specs.Str.{bytes_eq}
+use Rattle.std.proofs.lemmas.List.Elements.{All-head, All-tail}
+use Rattle.trio_script.specs.Words.{number_of}
+use Rattle.trio_app.specs.Command.{Command, new_image, check, turns, unbuilt, help, version, unknown, command_of, gen_of, new_of}
+
+-- this holds of each name of a file
+abbrev pub EachName : (List ℕ → Type 0) → Command → Type 0
+EachName P (new_image out pages inodes) = P out
+EachName P (check image) = P image
+EachName P (turns image script out) = P image × P script × P out
+EachName P _ = Unit {0}
+
+chosen : (P : List ℕ → Type 0) (test : Bool) (x y : Command) → EachName P x → EachName P y → EachName P (if test then x else y)
+chosen P true x y a b = a
+chosen P false x y a b = b
+
+new_names : (P : List ℕ → Type 0) (out : List ℕ) (pages inodes : Option ℕ) → P out → EachName P (new_of out pages inodes)
+new_names P out (Some pages) (Some inodes) h = h
+new_names P out (Some pages) None h = tt
+new_names P out None (Some inodes) h = tt
+new_names P out None None h = tt
+
+gen_names : (P : List ℕ → Type 0) (number files : Option ℕ) → EachName P (gen_of number files)
+gen_names P (Some number) (Some files) = chosen P (nat_le 1 files && nat_le files 1000) unbuilt unknown tt tt
+gen_names P (Some number) None = tt
+gen_names P None (Some files) = tt
+gen_names P None None = tt
+
+pub each_name : (P : List ℕ → Type 0) (words : List (List ℕ)) → All P words → EachName P (command_of words)
+each_name P [] h = tt
+each_name P (w ∷ []) h =
+    chosen P (bytes_eq w (codes "--help")) help (if bytes_eq w (codes "--version") then version else unknown) tt
+    (chosen P (bytes_eq w (codes "--version")) version unknown tt tt)
+each_name P (w ∷ a ∷ []) h =
+    chosen P (bytes_eq w (codes "check")) (check a) (if bytes_eq w (codes "tree") then unbuilt else unknown) (All-head P a [] (All-tail P w (a ∷ []) h))
+    (chosen P (bytes_eq w (codes "tree")) unbuilt unknown tt tt)
+each_name P (w ∷ a ∷ b ∷ []) h =
+    chosen P (bytes_eq w (codes "tree")) (if bytes_eq b (codes "json") then unbuilt else unknown) (if bytes_eq w (codes "gen") then gen_of (number_of a) (number_of b) else unknown)
+    (chosen P (bytes_eq b (codes "json")) unbuilt unknown tt tt)
+    (chosen P (bytes_eq w (codes "gen")) (gen_of (number_of a) (number_of b)) unknown (gen_names P (number_of a) (number_of b)) tt)
+each_name P (w ∷ a ∷ b ∷ d ∷ []) h =
+    let rest : All P (a ∷ b ∷ d ∷ []) = All-tail P w (a ∷ b ∷ d ∷ []) h in
+    let more : All P (b ∷ d ∷ []) = All-tail P a (b ∷ d ∷ []) rest in
+    let first : P a = All-head P a (b ∷ d ∷ []) rest in
+    chosen P (bytes_eq w (codes "new")) (new_of a (number_of b) (number_of d)) (if bytes_eq w (codes "turns") then turns a b d else (if bytes_eq w (codes "run") then unbuilt else unknown))
+    (new_names P a (number_of b) (number_of d) first)
+    (chosen P (bytes_eq w (codes "turns")) (turns a b d) (if bytes_eq w (codes "run") then unbuilt else unknown)
+    (first, All-head P b (d ∷ []) more, All-head P d [] (All-tail P b (d ∷ []) more))
+    (chosen P (bytes_eq w (codes "run")) unbuilt unknown tt tt))
+each_name P (w ∷ a ∷ b ∷ d ∷ e ∷ rest) h = tt

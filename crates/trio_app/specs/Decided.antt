@@ -1,0 +1,79 @@
+-- The status that the words and the bytes of the files decide, where the files tell their bytes and nothing fails.
+use Rattle.std.specs.Prelude.{◌≡◌, ◌⊎◌, ℕ, ◌<◌, ◌≤◌, List, Option, None, Some, length, ⊤}
+use Rattle.trio_io.specs.Shelf.{Shelf, SinkSeen, Rose}
+use Rattle.trio_survey.specs.Stored.{BytesVerify}
+use Rattle.trio_image.specs.Made.{Fits}
+use Rattle.trio_script.specs.Script.{unbuilt_line}
+use Rattle.trio_app.specs.declared.status.Status.{Status}
+use Rattle.trio_app.specs.declared.status.Status.TheVariants.{Done, NotVerified, Usage, TooLong, NotBuilt}
+use Rattle.trio_app.specs.Status.{code_of}
+use Rattle.trio_app.specs.Command.{Command, new_image, check, turns, unbuilt, help, version, unknown, command_of}
+
+-- a file tells its bytes, and is over its limit
+pub record TellsTooLong (limit : ℕ) (name : List ℕ) (files : Shelf) : Type 0 where
+  pub bytes : List ℕ
+  pub tells : files.held name ≡ Some bytes
+  pub longer : limit < length bytes
+
+-- a file tells the bytes of an image that verifies
+pub record TellsImage (name : List ℕ) (files : Shelf) : Type 0 where
+  pub bytes : List ℕ
+  pub tells : files.held name ≡ Some bytes
+  pub within : length bytes ≤ 33554432
+  pub verifies : BytesVerify bytes
+
+-- a file tells bytes that don't verify
+pub record TellsNoImage (name : List ℕ) (files : Shelf) : Type 0 where
+  pub bytes : List ℕ
+  pub tells : files.held name ≡ Some bytes
+  pub within : length bytes ≤ 33554432
+  pub fails : BytesVerify bytes → ⊥
+
+-- a file tells a script, and this is the first line of it that isn't built, if there is one
+pub record TellsScript (name : List ℕ) (files : Shelf) (line : Option ℕ) : Type 0 where
+  pub bytes : List ℕ
+  pub tells : files.held name ≡ Some bytes
+  pub within : length bytes ≤ 1048576
+  pub built : unbuilt_line bytes ≡ line
+
+-- what PAGES and INODES decide
+abbrev pub NewDecides : ℕ → ℕ → Status → Type 0
+NewDecides pages inodes Done = Fits pages inodes
+NewDecides pages inodes Usage = Fits pages inodes → ⊥
+NewDecides pages inodes _ = ⊥
+
+-- what the bytes of IMAGE decide
+abbrev pub CheckDecides : List ℕ → Shelf → Status → Type 0
+CheckDecides image files Done = TellsImage image files
+CheckDecides image files NotVerified = TellsNoImage image files
+CheckDecides image files TooLong = TellsTooLong 33554432 image files
+CheckDecides image files _ = ⊥
+
+-- what the bytes of IMAGE decide, and where it verifies, those of SCRIPT
+abbrev pub TurnsDecides : List ℕ → List ℕ → Shelf → Status → Type 0
+TurnsDecides image script files Done = TellsImage image files × TellsScript script files None
+TurnsDecides image script files NotVerified = TellsNoImage image files
+TurnsDecides image script files TooLong = TellsTooLong 33554432 image files ⊎ (TellsImage image files × TellsTooLong 1048576 script files)
+TurnsDecides image script files NotBuilt = TellsImage image files × ((number : ℕ) × TellsScript script files (Some number))
+TurnsDecides image script files _ = ⊥
+
+-- that a command has this status is decided by its words and the bytes of its files
+abbrev pub Decides : Command → Shelf → Status → Type 0
+Decides (new_image out pages inodes) files status = NewDecides pages inodes status
+Decides (check image) files status = CheckDecides image files status
+Decides (turns image script out) files status = TurnsDecides image script files status
+Decides unbuilt files status = status ≡ NotBuilt
+Decides help files status = status ≡ Done
+Decides version files status = status ≡ Done
+Decides unknown files status = status ≡ Usage
+
+-- no count of a fault rose: no read, no write and no put failed
+pub record NoneRose (old new : Shelf) (out out' : SinkSeen) : Type 0 where
+  pub reads : (q : List ℕ) → Rose (old.read_faults q) (new.read_faults q) → ⊥
+  pub writes : (q : List ℕ) → Rose (old.write_faults q) (new.write_faults q) → ⊥
+  pub puts : Rose out.faults out'.faults → ⊥
+
+-- The top call answers the status that is decided, where no count rose, or memory was wanting.
+abbrev pub EndsAsDecided : List (List ℕ) → Shelf → Shelf → SinkSeen → SinkSeen → ℕ → Type 0
+EndsAsDecided words old new out out' result =
+    (status : Status) → Decides (command_of words) old status → NoneRose old new out out' → (result ≡ code_of status) ⊎ (result ≡ 6)
