@@ -47,9 +47,6 @@ const SIZES: &[(u32, u32, Result<u32, MakeFault>)] = &[
 #[test]
 fn sizes_have_limits(rt: HostRuntime) {
     for (i, (pages, inodes, wanted)) in SIZES.iter().enumerate() {
-        assert!(rt;
-            free(rt.alloc(), *pages, *inodes) == *wanted,
-            "row {i}"
-        );
+        assert!(rt; free(rt.alloc(), *pages, *inodes) == *wanted, "row {i}");
     }
 }
