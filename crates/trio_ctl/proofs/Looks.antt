@@ -1,5 +1,5 @@
 -- How often home is looked at for kept children: at most once a page of the bundle.
-use Rattle.std.proofs.Common.{◌≡◌, ℕ, suc, ◌+◌, ◌≤◌, ◌==◌, Bool, true, false, List, [], ◌∷◌, ◌++◌, length, map, Ok, Option, Some, None, refl, sym, ap, subst, ◌∙◌, inl, inr, arith}
+use Rattle.std.proofs.Common.{◌≡◌, ℕ, suc, ◌+◌, ◌≤◌, ◌==◌, Bool, true, false, List, [], ◌∷◌, ◌++◌, length, map, Ok, Option, Some, None, refl, sym, ap, subst, ◌∙◌, inl, inr, arith, ◌≢◌}
 use Rattle.std.specs.Prelude.{if◌then◌else◌}
 use Rattle.std.specs.List.{filter_map, flat_map}
 use Rattle.std.specs.Option.{option_map, option_map_or}
@@ -10,7 +10,8 @@ use Rattle.trio_rights.specs.declared.kind.Kind.{Kind}
 use Rattle.trio_rights.specs.declared.kind.Kind.TheVariants.{Regular, Directory}
 use Rattle.trio_rights.specs.Bundle.{bundle_pages, bundle_sheets}
 use Rattle.trio_rights.specs.Sheets.{Sheet}
-use Rattle.trio_lists.specs.Lists.{In, gathered, there_or}
+use Rattle.trio_lists.specs.Lists.{In, are_new, gathered, there_or}
+use Rattle.trio_lists.proofs.New.{are_new-first}
 use Rattle.trio_lists.proofs.Members.{both-Ok, flat_map-In, map-In, result_then-Ok}
 use Rattle.trio_layout.specs.Case.{Case}
 use Rattle.trio_layout.specs.Core.{Core, at_page, page_of}
@@ -26,12 +27,37 @@ use Rattle.trio_surveys.proofs.Places.{below_from, gathers_directory}
 use Rattle.trio_laws.proofs.judgement.Equivalence.{rules_are_accept}
 use Rattle.trio_laws.proofs.judgement.RuleParts.{rule_pages_once}
 use Rattle.trio_laws.proofs.judgement.Taking.{reads}
-use Rattle.trio_judge.proofs.Noting.{no_more}
 use Rattle.trio_commit.specs.Bodies.{child_of, kept_body, page_changes}
 use Rattle.trio_ctl.proofs.StoredFacts.{Checkpoints}
 use Rattle.trio_ctl.proofs.Children.{filter_map-In}
 use Rattle.trio_ctl.proofs.AcceptedBundle.{AcceptedBundle, case_here, core_then, judgeable, now}
 use Rattle.trio_ctl.proofs.PagesPut.{kept, lent}
+
+-- ---- distinct numbers among others
+
+take_out : (n : ℕ) (ys : List ℕ) → In n ys → (zs : List ℕ) × (suc (length zs) ≡ length ys) × ((m : ℕ) → In m ys → m ≢ n → In m zs)
+take_out n [] i = absurd i
+take_out n (y ∷ ys) (inl here) = (ys, refl, others)
+  where
+    others : (m : ℕ) → In m (y ∷ ys) → m ≢ n → In m ys
+    others m (inl same) apart = absurd (apart (same ∙ sym here))
+    others m (inr later) apart = later
+take_out n (y ∷ ys) (inr later) =
+    let r = take_out n ys later in
+    (y ∷ r.0, ap suc r.1, others r.0 r.2)
+  where
+    others : (zs : List ℕ) → ((m : ℕ) → In m ys → m ≢ n → In m zs) → (m : ℕ) → In m (y ∷ ys) → m ≢ n → In m (y ∷ zs)
+    others zs h m (inl same) apart = inl same
+    others zs h m (inr i) apart = inr (h m i apart)
+
+no_more : (xs ys : List ℕ) → are_new [] xs ≡ true → ((n : ℕ) → In n xs → In n ys) → length xs ≤ length ys
+no_more [] ys new h = omega arith
+no_more (x ∷ xs) ys new h =
+    let first = are_new-first x xs new in
+    let r = take_out x ys (h x (inl refl)) in
+    let rest = no_more xs r.0 first.1 (λ n i. r.2 n (h n (inr i)) (λ same. first.0 (subst (λ k. In k xs) same i))) in
+    let long = r.1 in
+    omega (arith, rest, long)
 
 -- ---- how often the page changes
 
