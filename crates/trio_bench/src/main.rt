@@ -1,5 +1,5 @@
-//! What a turn costs without others in it, what the judge takes for bundles of many pages, what a
-//! release costs in images of several sizes, and what it costs to check an image.
+//! What a turn costs without others in it, what the judge takes for bundles of many pages, and what it
+//! costs to check an image.
 //!
 //! - `trio_bench turn COUNT` takes a value out of its cell and gives it back COUNT times, and locks a
 //!   `Mutex` of std's with the same value COUNT times, all on one thread, five times over. It prints
@@ -7,8 +7,6 @@
 //!   ratio.
 //! - `trio_bench judge` judges bundles of directory pages, each five times over, and prints how often
 //!   the time of one goes into that of another.
-//! - `trio_bench release` releases a file of one block in an image of 64 pages, and in images of 1,024
-//!   and of 8,192 pages, and prints how often the time of the first goes into those of the others.
 //! - `trio_bench workload IMAGE` writes an image of the shape and size in which the generator's
 //!   workload leaves one, and `trio_bench check IMAGE` loads and verifies an image and reads and sums
 //!   the bytes of its file, ten times over, and prints how often the second time goes into the first.
@@ -22,11 +20,9 @@ ghost use Rattle.trio_turn.specs.Seats.{cell, cell_of, has, IsSameSeat};
 mod bundles;
 mod checking;
 mod judging;
-mod releasing;
 
 use crate::checking::{measure_check, write_workload};
 use crate::judging::measure_judge;
-use crate::releasing::measure_release;
 use std::alloc::Global;
 use std::rt::{Clock, Env};
 use std::sync::{Mutex, Wait};
@@ -118,7 +114,6 @@ enum Asked {
     /// So many turns.
     Turn(u64),
     Judge,
-    Release,
     /// An image of this name is to be written.
     Workload(String),
     /// The image of this name.
@@ -134,9 +129,6 @@ fn read_words<R: Env + AllocGlobal>(rt: &R) -> io::Result<Option<Asked>> {
     };
     if what.as_str() == "judge" {
         return Ok(Some(Asked::Judge));
-    }
-    if what.as_str() == "release" {
-        return Ok(Some(Asked::Release));
     }
     let Some(count) = words.next() else {
         return Ok(None);
@@ -171,12 +163,11 @@ fn main(rt: HostRuntime) -> io::Result<()> {
     match read_words(&rt)? {
         Some(Asked::Turn(count)) => measure_turn(&rt, count),
         Some(Asked::Judge) => measure_judge(&rt),
-        Some(Asked::Release) => measure_release(&rt),
         Some(Asked::Workload(name)) => write_workload(&rt, &name),
         Some(Asked::Check(name)) => measure_check(&rt, &name),
         None => {
             println!(rt;
-                "usage: trio_bench turn COUNT\n       trio_bench judge\n       trio_bench release\n       trio_bench workload IMAGE\n       trio_bench check IMAGE"
+                "usage: trio_bench turn COUNT\n       trio_bench judge\n       trio_bench workload IMAGE\n       trio_bench check IMAGE"
             )
         }
     }
