@@ -10,9 +10,9 @@ use Rattle.trio_app.specs.Command.{Command, new_image, check, turns, unbuilt, he
 use Rattle.trio_app.specs.Images.{ImageFails, ImageVerifies}
 use Rattle.trio_app.specs.New.{NewComesTo}
 use Rattle.trio_app.specs.Check.{CheckComesTo}
-use Rattle.trio_app.specs.Turns.{ReadsLine, TurnsComesTo, TurnsDone}
+use Rattle.trio_app.specs.Turns.{TurnsComesTo, TurnsDone}
 use Rattle.trio_app.specs.Main.{ComesTo, Main}
-use Rattle.trio_app.specs.Decided.{CheckDecides, Decides, EndsAsDecided, NewDecides, NoneRose, TellsImage, TellsNoImage, TellsScript, TellsTooLong, TurnsDecides}
+use Rattle.trio_app.specs.Decided.{CheckDecides, Decides, EndsAsDecided, NewDecides, TellsImage, TellsNoImage, TellsScript, TellsTooLong, TurnsDecides}
 
 -- ---- what a file tells is one thing
 

@@ -1,16 +1,16 @@
 -- Why the work ends at a file that is read: the statuses and lines of its causes.
-use Rattle.std.proofs.Common.{◌≡◌, ◌≢◌, ℕ, ◌≤◌, List, length, Option, inl, inr, refl, sym, subst, ◌∙◌, ap, arith}
-use Rattle.trio_io.specs.Shelf.{Shelf, OnlyReads, IsLonger, IsTold}
+use Rattle.std.proofs.Common.{ℕ, List, Option, inl, inr, refl, subst, ap, arith}
+use Rattle.trio_io.specs.Shelf.{Shelf, OnlyReads}
 use Rattle.trio_layout.specs.declared.superblock.Superblock.{Superblock}
 use Rattle.trio_image.specs.declared.fault.LoadFault.{LoadFault}
 use Rattle.trio_image.specs.declared.fault.LoadFault.TheVariants.{ReadFault as LoadReadFault, TooLong as LoadTooLong, Length as LoadLength, BadSuper as LoadBadSuper, Fails as LoadFailsRule, NoMemory as LoadNoMemory}
 use Rattle.trio_image.specs.Fault.{IsBadLength}
 use Rattle.trio_image.specs.Load.{LoadFails, Loads}
 use Rattle.trio_app.specs.declared.status.Status.{Status}
-use Rattle.trio_app.specs.declared.status.Status.TheVariants.{Done, NotVerified, Usage, ReadFault as StatusReadFault, WriteFault, NoMemory as StatusNoMemory, TooLong as StatusTooLong, NotBuilt}
+use Rattle.trio_app.specs.declared.status.Status.TheVariants.{NotVerified, ReadFault as StatusReadFault, NoMemory as StatusNoMemory, TooLong as StatusTooLong}
 use Rattle.trio_app.specs.declared.stop.Stop.{Stop}
-use Rattle.trio_app.specs.declared.stop.Stop.TheVariants.{ReadFault, TooLong, Length, BadSuper, Invalid, LineNotBuilt, NoMemory}
-use Rattle.trio_app.specs.Images.{ImageStops, ImageVerifies, FailsWith, FailsRule}
+use Rattle.trio_app.specs.declared.stop.Stop.TheVariants.{ReadFault, TooLong, LineNotBuilt, NoMemory}
+use Rattle.trio_app.specs.Images.{ImageStops, ImageVerifies, FailsWith}
 use Rattle.trio_app.specs.Lines.{length_line}
 use Rattle.trio_app.specs.Turns.{InputsStop}
 use Rattle.trio_app.specs.inner.Stop.{ScriptStop, ToldStop, line_of, status_of, stop_of_loading}

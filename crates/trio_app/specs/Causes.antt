@@ -1,7 +1,7 @@
 -- What follows from what the top call came to where it answers a fault.
-use Rattle.std.specs.Prelude.{◌⊎◌, ℕ, List}
+use Rattle.std.specs.Prelude.{◌⊎◌, ℕ}
 use Rattle.trio_io.specs.Shelf.{Shelf, Rose}
-use Rattle.trio_app.specs.Command.{Command, new_image, check, turns, unbuilt, help, version, unknown}
+use Rattle.trio_app.specs.Command.{Command, new_image, check, turns}
 
 -- status 4 comes only where the read faults of a file that is read rose
 abbrev pub ReadFaultCause : Command → Shelf → Shelf → Type 0

@@ -1,5 +1,5 @@
 -- The words, as commands. A later command is a constructor, a case of `command_of` and a case of `ComesTo`.
-use Rattle.std.specs.Prelude.{ℕ, if◌then◌else◌, nat_le, ◌&&◌, List, [], ◌∷◌, Option, None, Some, codes}
+use Rattle.std.specs.Prelude.{ℕ, if◌then◌else◌, nat_le, ◌&&◌, List, [], ◌∷◌, Option, Some, codes}
 use Rattle.std.specs.Str.{bytes_eq}
 use Rattle.trio_script.specs.Words.{number_of}
 

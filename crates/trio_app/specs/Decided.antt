@@ -1,5 +1,5 @@
 -- The status that the words and the bytes of the files decide, where the files tell their bytes and nothing fails.
-use Rattle.std.specs.Prelude.{◌≡◌, ◌⊎◌, ℕ, ◌<◌, ◌≤◌, List, Option, None, Some, length, ⊤}
+use Rattle.std.specs.Prelude.{◌≡◌, ◌⊎◌, ℕ, ◌<◌, ◌≤◌, List, Option, None, Some, length}
 use Rattle.trio_io.specs.Shelf.{Shelf, SinkSeen, Rose}
 use Rattle.trio_survey.specs.Stored.{BytesVerify}
 use Rattle.trio_image.specs.Made.{Fits}

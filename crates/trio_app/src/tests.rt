@@ -205,8 +205,8 @@ fn each_call_fails(rt: HostRuntime) -> Result<(), Fail> {
     for (words, call, end) in CALLS {
         assert!(rt;
             ends(&rt, words, &whole, SCRIPT, *call, *end) == Some(true),
-            "{} at call {call}",
-            words[0]
+            "call {call} beside {}",
+            first_name(words)
         );
     }
     assert!(rt; put_fails(&rt, &whole) == Some(true));

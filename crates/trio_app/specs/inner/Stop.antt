@@ -1,8 +1,6 @@
 -- Why the work ends at a file that is read, and how that is told. Cited by private functions alone.
-use Rattle.std.specs.Prelude.{◌≡◌, ◌⊎◌, ℕ, ◌≤◌, List, [], Option, None, Some, length, ⊤}
+use Rattle.std.specs.Prelude.{◌≡◌, ◌⊎◌, ℕ, ◌≤◌, List, [], None, Some, length, ⊤}
 use Rattle.trio_io.specs.Shelf.{Shelf, Rose, IsTold, IsLonger}
-use Rattle.trio_layout.specs.declared.superblock.Superblock.{Superblock}
-use Rattle.trio_image.specs.Load.{Loads}
 use Rattle.trio_image.specs.declared.fault.LoadFault.{LoadFault}
 use Rattle.trio_image.specs.declared.fault.LoadFault.TheVariants.{Length as LoadLength, BadSuper as LoadBadSuper, Fails as LoadFails, NoMemory as LoadNoMemory, ReadFault as LoadReadFault, TooLong as LoadTooLong}
 use Rattle.trio_script.specs.Script.{script_lines, unbuilt_line}

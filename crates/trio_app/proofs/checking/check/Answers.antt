@@ -1,4 +1,4 @@
-use Rattle.trio_app.proofs.Ends.{check_done, check_no_memory, check_stop}
+use Rattle.trio_app.proofs.Ends.{check_stop}
 use Rattle.trio_app.proofs.checking.check.Goals as goal
 
 pub returns-in-Err : goal.returns-in-Err

@@ -1,4 +1,4 @@
-use Rattle.std.proofs.Common.{◌≡◌, ap, sym, subst}
+use Rattle.std.proofs.Common.{sym, subst}
 use Rattle.trio_image.specs.Image.{ImagePages}
 use Rattle.trio_app.specs.inner.RunEnd.{IsRunEnd}
 use Rattle.trio_app.proofs.Ends.{run_end}

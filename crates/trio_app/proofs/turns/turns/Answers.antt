@@ -1,4 +1,4 @@
-use Rattle.trio_app.proofs.Ends.{turns_no_memory, turns_saved, turns_stop}
+use Rattle.trio_app.proofs.Ends.{turns_saved, turns_stop}
 use Rattle.trio_app.proofs.turns.turns.Goals as goal
 
 pub returns-in-Err : goal.returns-in-Err
