@@ -190,7 +190,7 @@ module _ (s : Store) (first : ℕ) (table : List Keyed) (files : List Opened) (c
         sheets_same (core_of pages range) core c.index (λ p i. page_same p (In-left p c.index c.blocks i)) ∙ ap (index_sheets core) (sym home.1) in
         let blocks : sheets_of (core_of pages range) c.blocks ≡ block_sheets core (settled_chain (settled st) r.kind ino) =
         sheets_same (core_of pages range) core c.blocks (λ p i. page_same p (In-right p c.index c.blocks i)) ∙ ap (block_sheets core) (sym home.1) in
-        let G : List ℕ → List Sheet → List Sheet → OpenGrant = λ b xs ys. record { lib = lib.0; ino = ino; kind = Write; of = r.kind; entry = entries; body = b; index = xs; blocks = ys; checkpoint = covered Write r.kind xs ys } in
+        let G : List ℕ → List Sheet → List Sheet → OpenGrant = λ b xs ys. record { lib = lib.0; ino = ino; kind = Write; of = r.kind; entry = entries; body = b; index = xs; blocks = ys; parent = 0; children = 0; checkpoint = covered Write r.kind xs ys } in
         ap (λ b. G b (sheets_of (core_of pages range) c.index) (sheets_of (core_of pages range) c.blocks)) is
         ∙ ap (λ xs. G (settled_body (settled st) ino) xs (sheets_of (core_of pages range) c.blocks)) index
         ∙ ap (G (settled_body (settled st) ino) (index_sheets core (settled_chain (settled st) r.kind ino))) blocks

@@ -156,11 +156,11 @@ both_gone pages now after c first second = second ∙ ap (without_pages c.blocks
 -- ---- the grant and its lease
 
 pub opened_is : (o : Opened) (key lib ino entry : ℕ) (of : Kind) (body : List ℕ) (index blocks : List LentPage) (core : Core) (c x : Chain)
-    → o ≡ record { key = key; grant = record { lib = lib; ino = ino; kind = Write; of = of; entry = entry; body = body; index = map lent_sheet index; blocks = map lent_sheet blocks; checkpoint = [] } }
+    → o ≡ record { key = key; grant = record { lib = lib; ino = ino; kind = Write; of = of; entry = entry; body = body; index = map lent_sheet index; blocks = map lent_sheet blocks; parent = 0; children = 0; checkpoint = [] } }
     → index ≡ map untouched (sheets_of core c.index) → blocks ≡ map untouched (sheets_of core c.blocks) → c ≡ x
     → o ≡ record { key = key; grant = without_checkpoint (grant_on core lib ino of entry body x) }
 opened_is o key lib ino entry of body index blocks core c x made first second same =
-    let G : List Sheet → List Sheet → Opened = λ is bs. record { key = key; grant = record { lib = lib; ino = ino; kind = Write; of = of; entry = entry; body = body; index = is; blocks = bs; checkpoint = [] } } in
+    let G : List Sheet → List Sheet → Opened = λ is bs. record { key = key; grant = record { lib = lib; ino = ino; kind = Write; of = of; entry = entry; body = body; index = is; blocks = bs; parent = 0; children = 0; checkpoint = [] } } in
     made
     ∙ ap (λ l. G l (map lent_sheet blocks)) (ap (map lent_sheet) first ∙ sheets_untouched (sheets_of core c.index))
     ∙ ap (G (sheets_of core c.index)) (ap (map lent_sheet) second ∙ sheets_untouched (sheets_of core c.blocks))
@@ -185,7 +185,7 @@ checkpoint_covers o key lib ino entry of body core k made first second =
     by_kind Directory = refl
 
 pub lease_is : (o : Opened) (l : LentFile) (key ino entry : ℕ) (lib : LibNo) (of : Kind) (body : List ℕ) (index blocks : List LentPage) (xs ys : List Sheet)
-    → o ≡ record { key = key; grant = record { lib = lib.0; ino = ino; kind = Write; of = of; entry = entry; body = body; index = map lent_sheet index; blocks = map lent_sheet blocks; checkpoint = [] } }
+    → o ≡ record { key = key; grant = record { lib = lib.0; ino = ino; kind = Write; of = of; entry = entry; body = body; index = map lent_sheet index; blocks = map lent_sheet blocks; parent = 0; children = 0; checkpoint = [] } }
     → index ≡ map untouched xs → blocks ≡ map untouched ys
     → (let s : Shown = record { lib = lib; ino = ino; kind = of; entry = entry; body = body; index = index; blocks = blocks } in l ≡ record { stands = s; lent = s })
     → l ≡ lease_of o.grant

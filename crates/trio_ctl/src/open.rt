@@ -43,6 +43,8 @@ impl Model for OpenFile {
         body = o.lent.value.body;
         index = map lent_sheet o.lent.value.index.items;
         blocks = map lent_sheet o.lent.value.blocks.items;
+        parent = 0;
+        children = 0;
         checkpoint = [];
       };
     } };
@@ -62,6 +64,8 @@ impl OpenFile {
             body = lent.value.body;
             index = map lent_sheet lent.value.index.items;
             blocks = map lent_sheet lent.value.blocks.items;
+            parent = 0;
+            children = 0;
             checkpoint = [];
           };
         } }

@@ -16,7 +16,7 @@ use Rattle.trio_state.specs.Given.{GivenEvent}
 use Rattle.trio_state.specs.Run.{Move, start}
 use Rattle.trio_laws.specs.Laws.{AnyRun, library_of}
 
--- what a library has out: its open grants with what each lent, and its allotted pages and inode numbers
+-- what a library has out: its open grants with what each lent and a hold told, and its allotted pages and inode numbers
 pub record HasOut : Type 0 where
   pub grants : List OpenGrant
   pub pages : List ℕ

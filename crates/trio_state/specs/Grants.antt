@@ -64,7 +64,24 @@ lent_sheets Read sheets = sheets
 lent_sheets Write sheets = sheets
 lent_sheets Hold sheets = []
 
--- a grant on a file of this kind and body, with what it lends of the chain, by the pages of this core
+-- how many live files have this parent
+abbrev pub children_of : Image → ℕ → ℕ
+children_of image ino = child_count ino image.rows
+
+-- a hold tells the number of the file's children, any other grant 0
+abbrev pub told_children : Image → ℕ → GrantKind → ℕ
+told_children image ino Read = 0
+told_children image ino Write = 0
+told_children image ino Hold = children_of image ino
+
+-- a hold tells the directory that lists the file, any other grant 0
+abbrev pub told_parent : Row → GrantKind → ℕ
+told_parent r Read = 0
+told_parent r Write = 0
+told_parent r Hold = r.parent
+
+-- a grant on a file of this kind and body, with what it lends of the chain, by the pages of this core; what a hold tells beside
+-- its body is added where it is opened
 abbrev pub grant_of : Core → ℕ → ℕ → GrantKind → Kind → ℕ → List ℕ → Result Chain Location → OpenGrant
 grant_of core lib ino kind of entry body chain =
     let index = lent_sheets kind (index_sheets core chain) in
@@ -78,13 +95,16 @@ grant_of core lib ino kind of entry body chain =
       body = body;
       index = index;
       blocks = blocks;
+      parent = 0;
+      children = 0;
       checkpoint = covered kind of index blocks;
     }
 
--- the grant that is opened on a live file of this row, by the settled image
+-- the grant that is opened on a live file of this row, by the settled image, with what a hold tells
 abbrev pub opened_in : Image → ℕ → ℕ → ℕ → GrantKind → Row → OpenGrant
 opened_in image entry lib ino kind r =
-    grant_of image.core lib ino kind r.kind entry (settled_body image ino) (settled_chain image r.kind ino)
+    let lent = grant_of image.core lib ino kind r.kind entry (settled_body image ino) (settled_chain image r.kind ino) in
+    record lent { parent = told_parent r kind; children = told_children image ino kind }
 
 -- the grant that is opened on it in this state
 abbrev pub opened : State → ℕ → ℕ → GrantKind → Row → OpenGrant
@@ -100,16 +120,6 @@ opens s g = logged (record s {
   home = with_core_pages s.home (without_pages (lent_pages g) s.home.core.pages);
   open_grants = s.open_grants ++ g ∷ [];
 })
-
--- how many live files have this parent
-abbrev pub children_of : Image → ℕ → ℕ
-children_of image ino = child_count ino image.rows
-
--- a hold tells the number of the file's children, any other grant 0
-abbrev pub told_children : Image → ℕ → GrantKind → ℕ
-told_children image ino Read = 0
-told_children image ino Write = 0
-told_children image ino Hold = children_of image ino
 
 -- a read grant ends
 abbrev pub given_back : State → ℕ → ℕ → State

@@ -11,6 +11,7 @@ use Rattle.trio_layout.specs.Pages.{covered_of}
 use Rattle.trio_layout.specs.Image.{Image, with_core_pages}
 
 -- A grant that is open. What it lent stays as it was lent: the body, and for reading and writing the index pages and blocks.
+-- A hold told the file's directory and the number of its children, which stay here as they were told; any other grant has 0 for both.
 -- Its checkpoint is of a write grant alone, and follows the bodies of children that are accepted meanwhile.
 pub record OpenGrant : Type 0 where
   pub lib : ℕ
@@ -21,6 +22,8 @@ pub record OpenGrant : Type 0 where
   pub body : List ℕ
   pub index : List Sheet
   pub blocks : List Sheet
+  pub parent : ℕ
+  pub children : ℕ
   pub checkpoint : List Sheet
 
 -- Pages of the home image that are lent by move or out by allotment are absent. Grants stand in the order of their entries.
