@@ -25,7 +25,7 @@ use Rattle.trio_layout.proofs.SlotLemmas.{empty_value}
 use Rattle.trio_nodes.specs.declared.node.Node.{Node}
 use Rattle.trio_nodes.specs.Nodes.{Nodes, with_node}
 use Rattle.trio_nodes.proofs.NodeFacts.{with_node-end}
-use Rattle.trio_image.specs.Nodes.{body_of_row, bytes_at_place, chain_bytes, content_of, joined_pages, name_by_row, name_said, node_by_row}
+use Rattle.trio_state.specs.ImageNodes.{body_of_row, bytes_at_place, chain_bytes, content_of, joined_pages, name_by_row, name_said, node_by_row}
 
 -- a page has 16 slots
 pub slot_bytes-past : (slot : ℕ) (bytes : List ℕ) → length bytes ≤ 256 * slot → slot_bytes slot bytes ≡ []

@@ -3,7 +3,6 @@ pub mod Fault
 pub mod Load
 pub mod Save
 pub mod Counts
-pub mod Nodes
 pub mod Front
 pub mod Made
 pub mod inner

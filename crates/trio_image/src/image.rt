@@ -5,7 +5,7 @@ ghost use Rattle.trio_layout.specs.declared.superblock.Superblock.{Superblock};
 ghost use Rattle.trio_survey.specs.Stored.{image_in, HasSuperblock};
 ghost use Rattle.trio_image.specs.Counts.{counts_of};
 ghost use Rattle.trio_image.specs.Image.{IsVerified, TablesAre};
-ghost use Rattle.trio_image.specs.Nodes.{nodes_of};
+ghost use Rattle.trio_state.specs.ImageNodes.{nodes_of};
 
 use crate::counts::{Counts, counts_in};
 use crate::nodes::nodes_in;

@@ -7,7 +7,7 @@
 //! - [`Image::save`] makes its bytes the content of a file, which is read again as that image, and
 //!   [`Image::into_bytes`] gives them.
 //! - [`Image::counts`] tells what an image has in use, and [`Image::nodes`] its files as the nodes of
-//!   a tree, with the bytes of regular files (`nodes_of` of `specs/Nodes.antt`).
+//!   a tree, with the bytes of regular files (`nodes_of` of `trio_state`'s `specs/ImageNodes.antt`).
 //! - [`make`] makes a new image, whose one file is an empty root (`IsMade` of `specs/Made.antt`).
 //! - [`front_pages`] stores a superblock and tables as the pages before the core.
 //!

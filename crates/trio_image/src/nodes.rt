@@ -11,7 +11,7 @@ ghost use Rattle.trio_layout.specs.Entries.{slot_bytes};
 ghost use Rattle.trio_layout.specs.Slot.{slot_of};
 ghost use Rattle.trio_survey.specs.Seen.{core_with};
 ghost use Rattle.trio_survey.specs.Stored.{core_in};
-ghost use Rattle.trio_image.specs.Nodes.{body_content, bytes_at_place, content_of, joined_pages, name_said, node_by_row, nodes_by_rows};
+ghost use Rattle.trio_state.specs.ImageNodes.{body_content, bytes_at_place, content_of, joined_pages, name_said, node_by_row, nodes_by_rows};
 
 use std::alloc::Global;
 use trio_layout::{Body, CoreRange, Slot, SlotRead, Superblock};

@@ -39,7 +39,8 @@ take_in (suc n) [] x i = absurd i
 take_in (suc n) (y ∷ ys) x (inl e) = inl e
 take_in (suc n) (y ∷ ys) x (inr i) = inr (take_in n ys x i)
 
-none_row : (o : Option Row) → is_some o ≡ false → o ≡ None
+-- where no row is there, it is none
+pub none_row : (o : Option Row) → is_some o ≡ false → o ≡ None
 none_row None e = refl
 none_row (Some r) e = absurd (false≢true (sym e))
 

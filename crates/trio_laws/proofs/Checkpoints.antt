@@ -61,7 +61,7 @@ with_pages_like xs ys pages n there back one = by_place (slice_get pages n) refl
         ]
 
 -- sheets whose numbers differ
-one_sheet : (seen : List ℕ) (xs : List Sheet) (x y : Sheet) → are_new seen (sheet_numbers xs) ≡ true → In x xs → In y xs → x.page ≡ y.page → x ≡ y
+pub one_sheet : (seen : List ℕ) (xs : List Sheet) (x y : Sheet) → are_new seen (sheet_numbers xs) ≡ true → In x xs → In y xs → x.page ≡ y.page → x ≡ y
 one_sheet seen [] x y new i j e = absurd i
 one_sheet seen (z ∷ zs) x y new i j e =
     let parts = and_parts (not (is_among z.page seen)) (are_new (seen ++ z.page ∷ []) (sheet_numbers zs)) new in

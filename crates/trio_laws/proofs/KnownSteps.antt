@@ -21,7 +21,7 @@ use Rattle.trio_state.specs.State.{OpenGrant, State, settled, creds_of, logged}
 use Rattle.trio_nodes.specs.GrantKinds.{is_read, is_write, excludes_kind}
 use Rattle.trio_rights.specs.Bundle.{Bundle}
 use Rattle.trio_layout.specs.Accept.{is_accepted, next}
-use Rattle.trio_layout.specs.Case.{Case, case_of}
+use Rattle.trio_layout.specs.Case.{case_of}
 use Rattle.trio_layout.specs.Mode.{image_with_mode}
 use Rattle.trio_state.specs.Grants.{grant_fault, denied_or, denied_by, lacks_parent, has_parent_grant, excluding, holder_of, opened, opened_in, lent_pages, opens, told_children, given_back}
 use Rattle.trio_state.specs.Allotments.{free_pages, free_numbers, allots}

@@ -34,3 +34,4 @@ pub mod Away
 pub mod HeldFiles
 pub mod KnownSteps
 pub mod judgement
+mod history

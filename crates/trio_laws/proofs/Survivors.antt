@@ -24,14 +24,14 @@ use Rattle.trio_state.specs.Kept.{Kept}
 use Rattle.trio_rights.specs.Bundle.{Written, Bundle, bundle_pages, is_written}
 use Rattle.trio_layout.specs.Proposed.{proposed, proposed_pick}
 use Rattle.trio_rights.specs.Sheets.{sheet_numbers}
-use Rattle.trio_state.specs.State.{OpenGrant, State, settled}
+use Rattle.trio_state.specs.State.{State, settled}
 use Rattle.trio_surveys.proofs.Accepted.{fit_proposed}
 use Rattle.trio_laws.proofs.Bundles.{held_unwritten, Unwritten, finds_unwritten, written_lent, bundle_page, kept_chain, body_picked}
 use Rattle.trio_surveys.proofs.Alike.{up_to_at, same_kind_is, same_row_is}
 use Rattle.trio_surveys.proofs.Images.{some_of, met_row, read_met, met_numbered, one_met, free_unlisted, settled_body_met}
 use Rattle.trio_lists.proofs.Members.{list_all-In, is_among-In, In-is_among}
 use Rattle.trio_surveys.proofs.Owned.{pages_are}
-use Rattle.trio_laws.proofs.StateFacts.{write_alone, tables, live_met, lent_met}
+use Rattle.trio_laws.proofs.StateFacts.{tables, live_met, lent_met}
 
 -- the cases of what is asked of a file that is met
 pub stand_cases : (h l w x y z : Bool) → cond h x (cond l (cond w y true) z) ≡ true → ((h ≡ true) × (x ≡ true)) ⊎ (((h ≡ false) × (l ≡ true) × (w ≡ true) × (y ≡ true)) ⊎ (((h ≡ false) × (l ≡ true) × (w ≡ false)) ⊎ ((h ≡ false) × (l ≡ false) × (z ≡ true))))

@@ -1,5 +1,5 @@
 -- What a refusal tells.
-use Rattle.std.proofs.Common.{Bool, List, false, inl, inr, refl, true, ◌&&◌, ◌∙◌, ◌≡◌, ℕ}
+use Rattle.std.proofs.Common.{false, ◌≡◌, ℕ}
 use Rattle.std.specs.Prelude.{None, IsFalse}
 use Rattle.std.proofs.lemmas.Bool.{both_ways, false_from_ne_true}
 use Rattle.trio_layout.specs.Accept.{is_accepted}

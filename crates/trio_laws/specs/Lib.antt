@@ -5,3 +5,4 @@ pub mod OutLaws
 pub mod ContentLaws
 pub mod Known
 pub mod RuleLaws
+pub mod history

@@ -1,11 +1,14 @@
 //! Laws over the definitions of steps: the controller keeps an image that verifies through every step,
-//! and what follows of releases and of the files of others (`docs/DEFINITIONS.md`).
+//! and what follows of releases and of the files of others (`docs/DEFINITIONS.md`); and of the history
+//! beside the state, for which nodes a state stands, which entry an event and its answer make, and how a
+//! log replays (`specs/history/`).
 //!
 //! `specs/` holds what the laws speak of beside the definitions below, and `proofs/` their proofs.
 #![tactic(auto)]
 
 pub mod contents;
 pub mod ends;
+pub mod histories;
 pub mod known;
 pub mod laws;
 pub mod outs;

@@ -6,7 +6,6 @@ use Rattle.trio_page.specs.Field.{number_at, with_part, zeros}
 use Rattle.trio_rights.specs.Row.{Row}
 use Rattle.trio_rights.specs.declared.kind.Kind.{Kind}
 use Rattle.trio_rights.specs.declared.kind.Kind.TheVariants.{Regular, Directory}
-use Rattle.trio_rights.specs.declared.rights.Creds.{Creds}
 use Rattle.trio_layout.specs.declared.body.Body.{Body}
 use Rattle.trio_layout.specs.Body.{body_bytes, body_of}
 use Rattle.trio_layout.specs.Slot.{entry_bytes, slot_of}
@@ -16,7 +15,7 @@ use Rattle.trio_rights.specs.Sheets.{Sheet}
 use Rattle.trio_layout.specs.Survey.{file_of, survey}
 use Rattle.trio_layout.specs.Image.{Image}
 use Rattle.trio_layout.specs.Verifies.{Verifies}
-use Rattle.trio_rights.specs.Bundle.{Bundle, Written}
+use Rattle.trio_rights.specs.Bundle.{Written}
 use Rattle.trio_layout.specs.Accept.{is_accepted}
 use Rattle.trio_layout.specs.Case.{Case, Held}
 use Rattle.trio_layout.specs.Within.{file_within}

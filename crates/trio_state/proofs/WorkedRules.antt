@@ -2,9 +2,8 @@
 use Rattle.std.proofs.Common.{refl}
 use Rattle.std.specs.Prelude.{List, None, Some, [], false, map, true, ℕ, ◌++◌, ◌∷◌, ◌≡◌}
 use Rattle.trio_page.specs.Field.{number_at, zeros}
-use Rattle.trio_rights.specs.declared.kind.Kind.TheVariants.{Directory, Regular}
-use Rattle.trio_rights.specs.declared.rights.Creds.{Creds}
-use Rattle.trio_layout.specs.Accept.{is_accepted, next}
+use Rattle.trio_rights.specs.declared.kind.Kind.TheVariants.{Directory}
+use Rattle.trio_layout.specs.Accept.{is_accepted}
 use Rattle.trio_layout.specs.Body.{body_bytes, body_of}
 use Rattle.trio_layout.specs.Case.{Case, case_of}
 use Rattle.trio_layout.specs.Core.{Core}
@@ -14,15 +13,14 @@ use Rattle.trio_layout.specs.Image.{Image}
 use Rattle.trio_layout.specs.Index.{index_bytes, index_of}
 use Rattle.trio_layout.specs.JudgedFiles.{judged_files}
 use Rattle.trio_layout.specs.Listing.{ListedEntry, listing}
-use Rattle.trio_rights.specs.Bundle.{Bundle, Written}
+use Rattle.trio_rights.specs.Bundle.{Bundle}
 use Rattle.trio_layout.specs.Rules.{meets_grammar, meets_owning, meets_rights, meets_rules}
-use Rattle.trio_rights.specs.Sheets.{Sheet}
 use Rattle.trio_layout.specs.Slot.{entry_bytes, slot_of}
 use Rattle.trio_layout.specs.Sound.{owners_table, rows_table}
 use Rattle.trio_layout.specs.Survey.{file_of, numbers, plain, survey}
 use Rattle.trio_layout.specs.Within.{file_within}
 use Rattle.trio_layout.specs.declared.body.Body.{Body}
-use Rattle.trio_state.proofs.WorkedImages.{directory_body, empty_body, short_body, file_entry, directory_entry, one_number, slots_page, image}
+use Rattle.trio_state.proofs.WorkedImages.{directory_body, short_body, file_entry, directory_entry, one_number, slots_page, image}
 use Rattle.trio_state.proofs.WorkedBundles.{root_user, user, sheet, root_with, slot_a, slot_b, file_with, writes}
 
 abbrev by_root : Bundle → Case

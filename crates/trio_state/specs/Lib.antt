@@ -7,3 +7,4 @@ pub mod Step
 pub mod Kept
 pub mod Given
 pub mod Run
+pub mod ImageNodes

@@ -1,5 +1,5 @@
 -- A place at which a rule fails with the copied rows alone is one at which it fails.
-use Rattle.std.proofs.Common.{◌≡◌, ℕ, Bool, false, ◌||◌, List, ◌∷◌, ◌++◌, map, refl, sym, ap, subst, ◌∙◌, ◌⊎◌, inl, inr}
+use Rattle.std.proofs.Common.{◌≡◌, ℕ, ◌||◌, List, map, sym, ap, subst, ◌∙◌, inl, inr}
 use Rattle.std.specs.Prelude.{is_some}
 use Rattle.std.specs.List.{flat_map}
 use Rattle.trio_lists.specs.Lists.{In, is_among}
@@ -8,7 +8,7 @@ use Rattle.trio_layout.specs.Broken.{BreaksGrammar, BreaksOwning, BreaksRights, 
 use Rattle.trio_layout.specs.Case.{Case, case_of, file_in}
 use Rattle.trio_layout.specs.Copied.{with_copied}
 use Rattle.trio_layout.specs.Core.{Location}
-use Rattle.trio_layout.specs.JudgedFiles.{judged_entries, judged_files, pages_within}
+use Rattle.trio_layout.specs.JudgedFiles.{judged_entries, pages_within}
 use Rattle.trio_layout.specs.Rules.{entry_in_grammar, entry_is_own}
 use Rattle.trio_layout.specs.Sound.{PageListing}
 use Rattle.trio_layout.specs.Survey.{Met}

@@ -3,7 +3,7 @@ use Rattle.std.specs.Option.{option_map}
 use Rattle.trio_lists.specs.Lists.{tabulated}
 use Rattle.trio_rights.specs.Row.{row_in}
 use Rattle.trio_survey.specs.Stored.{core_in}
-use Rattle.trio_image.specs.Nodes.{node_by_row}
+use Rattle.trio_state.specs.ImageNodes.{node_by_row}
 use Rattle.trio_image.proofs.nodes.nodes_in.Given as goal
 
 abbrev pub invariant-loop-ino : goal.invariant-loop-ino

@@ -1,5 +1,0 @@
-use Rattle.trio_history.proofs.Agree.{replay_is_known, replays_agree, out_is_logged}
-use Rattle.trio_history.proofs.laws.replays_agree.Goals as goal
-
-pub returns : goal.returns
-returns c = record { known = replay_is_known; agree = replays_agree; out = out_is_logged }

@@ -1,0 +1,472 @@
+-- The nodes after an accepted release.
+use Rattle.std.proofs.Common.{◌≡◌, ℕ, ltb, leb, ltb-true, zero, suc, ◌+◌, ◌-◌, ◌*◌, ◌<◌, ◌≤◌, Bool, true, false, cond, ◌&&◌, ◌||◌, not, eqb, min, List, [], ◌∷◌, ◌++◌, map, length, take, drop, replicate, Option, Some, None, Ok, is_some, slice_get, sym, refl, ap, ◌∙◌, subst, inl, inr, ◌⊎◌, arith, flat_map, unwrap_or, find}
+use Rattle.std.specs.List.{list_any}
+use Rattle.std.specs.Str.{bytes_eq}
+use Rattle.std.proofs.lemmas.List.{length-replicate}
+use Rattle.std.proofs.lemmas.Bool.{and_parts, and_from, eqb-true, eq-eqb, false≢true, both_ways, or_parts, cases_lt, false_from_ne_true, not-false, or_left}
+use Rattle.std.proofs.lemmas.Slice.Eq.{bytes_eq-Decides}
+use Rattle.trio_rights.specs.Row.{Row}
+use Rattle.trio_rights.specs.declared.kind.Kind.{Kind}
+use Rattle.trio_rights.specs.declared.kind.Kind.TheVariants.{Regular, Directory}
+use Rattle.trio_layout.specs.Core.{Core, page_of}
+use Rattle.trio_lists.specs.Lists.{In, is_among}
+use Rattle.trio_layout.specs.Survey.{Met, plain, pages_of, row_by, root_of}
+use Rattle.trio_layout.specs.Accept.{is_accepted, next}
+use Rattle.trio_layout.specs.Allowed.{lists_own}
+use Rattle.trio_state.specs.Bundles.{Ends}
+use Rattle.trio_state.specs.Given.{GivenTo}
+use Rattle.trio_layout.specs.Pages.{settled_chain, block_sheets}
+use Rattle.trio_layout.specs.Image.{Image, IsFit, row_at}
+use Rattle.trio_layout.specs.Verifies.{Verifies}
+use Rattle.trio_state.specs.Kept.{Kept}
+use Rattle.trio_rights.specs.Bundle.{Written, Bundle, bundle_sheets, bundle_pages, is_written}
+use Rattle.trio_rights.specs.Sheets.{Sheet, sheet_numbers}
+use Rattle.trio_state.specs.State.{OpenGrant, State, settled, creds_of}
+use Rattle.trio_nodes.specs.GrantKinds.{is_write}
+use Rattle.trio_surveys.specs.Reading.{picked_entry}
+use Rattle.trio_laws.proofs.Bundles.{Unwritten, unwritten_finds, unwritten_apart, in_numbers}
+use Rattle.trio_lists.proofs.Filters.{find-In, In-find, list_any-In}
+use Rattle.trio_surveys.proofs.Images.{some_of, met_numbered, root_is_met, read_met, row_met, row_at_is}
+use Rattle.trio_lists.proofs.Members.{list_all-In, is_among-In, In-left, In-right, In-flat, In-map}
+use Rattle.trio_surveys.proofs.Owned.{pages_are}
+use Rattle.trio_surveys.proofs.Sheets.{with_pages_known, place_there, page_there, page_from}
+use Rattle.trio_nodes.specs.declared.entry.Handed.{Handed}
+use Rattle.trio_nodes.specs.declared.entry.HandedFile.{HandedFile}
+use Rattle.trio_nodes.specs.declared.entry.HandedPage.{HandedPage}
+use Rattle.trio_nodes.specs.declared.entry.RawBlock.{RawBlock}
+use Rattle.trio_nodes.specs.declared.entry.RawFile.{RawFile}
+use Rattle.trio_nodes.specs.Apply.{resized}
+use Rattle.trio_nodes.specs.After.{bytes_in, with_blocks, raw_bytes, raw_nodes}
+use Rattle.trio_nodes.specs.Nodes.{node_at}
+use Rattle.trio_laws.specs.history.Stands.{name_of, size_of, blocks_of, bytes_of_sheets, bytes_of, node_of, node_by, node_in, nodes_of, writer_of}
+use Rattle.trio_laws.specs.history.Entries.{name_by, bundle_handed, written_handed, sheet_handed, is_told, told_file, told_by, raw_file, raw_files, raw_blocks, block_numbers, blocks_in as chain_blocks, is_touched, is_block_told, told_blocks, told_blocks_of}
+use Rattle.trio_laws.specs.history.Recorded.{LentWhole, IsMarked}
+use Rattle.trio_laws.proofs.history.AcceptedFiles.{P, pick, fitP, fitJ, verifiesJ, Now, now, kept_follows, own_block, FileIs, Stayed, Wrote, New, file_is, unheld_now}
+use Rattle.trio_laws.proofs.history.Blocks.{chain_count, flat_sheets}
+use Rattle.trio_laws.proofs.history.Facts.{node_is}
+use Rattle.trio_laws.proofs.history.Follows.{Follows, size_follows, bytes_follow, chain_read, size_read}
+use Rattle.trio_laws.proofs.history.Grown.{resized_long, chunk_grown, unlisted_is}
+use Rattle.trio_laws.proofs.history.Listing.{met_at, chain_met, tables_of, listing, name_listed, slot_named}
+use Rattle.trio_layout.specs.Entries.{slot_bytes}
+use Rattle.trio_laws.proofs.history.OldBytes.{resized_same, old_long, count_is, lent_is}
+use Rattle.trio_layout.specs.Range.{is_core}
+use Rattle.trio_laws.proofs.history.RawGiven.{given_row}
+use Rattle.trio_laws.proofs.history.RawNodes.{becomes, part_of, blocks_in, raw_in, raw_out, raw_length}
+use Rattle.trio_laws.proofs.history.RawParts.{raw_number, own_blocks, told_none, same_told, sheet_at, get_in}
+use Rattle.trio_laws.proofs.history.Still.{node_with}
+use Rattle.trio_laws.proofs.history.Told.{Count, block_bytes, told_put}
+use Rattle.trio_laws.proofs.history.Untouched.{handed_same}
+use Rattle.trio_laws.proofs.history.WithNode.{nodes_same, nodes_long}
+use Rattle.trio_laws.proofs.history.Writers.{writes, other_writer, no_writer}
+use Rattle.trio_surveys.proofs.Local.{reads_from}
+
+module _ (s s' : State) (k : Kept s) (k' : Kept s') (whole : LentWhole s) (lib : ℕ) (h : Handed) (given : GivenTo s lib (bundle_handed h)) (accepted : is_accepted (settled s) (creds_of s lib) (bundle_handed h) ≡ true) (e : Ends s lib (bundle_handed h) (next (settled s) (bundle_handed h)) s') (marked : (w : HandedFile) → In w h.writes → IsMarked s lib w) where
+  abbrev b : Bundle
+  b = bundle_handed h
+
+  abbrev image : Image
+  image = settled s
+
+  abbrev after : Image
+  after = next image b
+
+  abbrev proposed_core : Core
+  proposed_core = P s k lib (creds_of s lib) b given accepted
+
+  abbrev at_now : (n : ℕ) (r : Row) → row_at after n ≡ Some r → Now s k lib (creds_of s lib) b given accepted n r
+  at_now n r row = now s k lib (creds_of s lib) b given accepted n r row
+
+  abbrev Is : Met → Type 0
+  Is m = FileIs s k lib (creds_of s lib) b given accepted m
+
+  fit' : IsFit after.core
+  fit' = fitJ s k lib (creds_of s lib) b given accepted
+
+  verifies' : Verifies after
+  verifies' = verifiesJ s k lib (creds_of s lib) b given accepted
+
+  -- ---- the file of a number, as it is read after the release
+
+  chain_now : (n : ℕ) (r : Row) (row : row_at after n ≡ Some r) → settled_chain after r.kind n ≡ Ok (at_now n r row).file.chain
+  chain_now n r row =
+      let w = at_now n r row in
+      ap (settled_chain after r.kind) (sym w.number)
+      ∙ chain_read after fit' verifies' w.met (record w.file { entries = map (picked_entry (pick s k lib (creds_of s lib) b given accepted) w.met.ino) w.file.entries }) w.stands' w.read' r (ap (row_at after) w.number ∙ row)
+
+  pub size_now : (n : ℕ) (r : Row) (row : row_at after n ≡ Some r) → size_of after n ≡ (at_now n r row).file.body.size
+  size_now n r row =
+      let w = at_now n r row in
+      ap (size_of after) (sym w.number)
+      ∙ size_read after fit' verifies' w.met (record w.file { entries = map (picked_entry (pick s k lib (creds_of s lib) b given accepted) w.met.ino) w.file.entries }) w.stands' w.read' r (ap (row_at after) w.number ∙ row)
+
+  pub numbers_now : (n : ℕ) (r : Row) (row : row_at after n ≡ Some r) → block_numbers after n (row_at after n) ≡ (at_now n r row).file.chain.blocks
+  numbers_now n r row = ap (block_numbers after n) row ∙ ap chain_blocks (chain_now n r row)
+
+  numbers_were : (n : ℕ) (r : Row) (row : row_at s.home n ≡ Some r) → block_numbers image n (row_at image n) ≡ (met_at image k.fit k.verifies n r row).file.chain.blocks
+  numbers_were n r row = ap (block_numbers image n) row ∙ ap chain_blocks (chain_met image k.fit k.verifies n r row)
+
+  unwritten_is : (n : ℕ) → Unwritten b n → is_written b n ≡ false
+  unwritten_is n un = ap is_some (unwritten_finds b n un)
+
+  -- ---- a file that stays
+
+  -- none of its blocks was handed in
+  clean_block : (n : ℕ) (r : Row) (row : row_at s.home n ≡ Some r) → Unwritten b n → (p : ℕ) → In p (met_at image k.fit k.verifies n r row).file.chain.blocks → is_touched h p ≡ false
+  clean_block n r row un p i =
+      let m = met_at image k.fit k.verifies n r row in
+      false_from_ne_true (is_touched h p)
+      (λ t.
+      let w = list_any-In (λ (f : HandedFile). list_any (λ (c : HandedPage). eqb c.no p && c.touched) f.blocks) h.writes t in
+      let c = list_any-In (λ (c : HandedPage). eqb c.no p && c.touched) w.0.blocks w.2 in
+      let at : c.0.no ≡ p = eqb-true c.0.no p (and_parts (eqb c.0.no p) c.0.touched c.2).0 in
+      let handed : In (sheet_handed c.0) (bundle_sheets b) =
+      In-left (sheet_handed c.0) (flat_map (λ (w : Written). w.index ++ w.blocks) b.writes) b.pages
+      (In-flat (λ (w : Written). w.index ++ w.blocks) (written_handed w.0) (sheet_handed c.0) b.writes (In-map written_handed w.0 h.writes w.1)
+      (In-right (sheet_handed c.0) (map sheet_handed w.0.index) (map sheet_handed w.0.blocks) (In-map sheet_handed c.0 w.0.blocks c.1))) in
+      let page : In p (bundle_pages b) = in_numbers (bundle_sheets b) (sheet_handed c.0) p handed (sym at) in
+      unwritten_apart s k lib b given m.met p m.stands (λ v j same. un v j (same ∙ m.number)) (subst (λ l. In p l) (sym (pages_are image.core m.met m.file m.read)) (In-right p m.file.chain.index m.file.chain.blocks i)) page)
+
+  pub kept_bytes : (n : ℕ) (r r' : Row) (row : row_at s.home n ≡ Some r) (row' : row_at after n ≡ Some r') → Follows image after n r r' → Unwritten b n → r.kind ≡ Regular → bytes_of after n r' (writer_of s' n) Regular ≡ bytes_of image n r (writer_of s n) Regular
+  kept_bytes n r r' row row' f un regular =
+      ap (bytes_of_sheets (size_of after n)) (other_writer s s' k lib b given after e n (unwritten_is n un) after r')
+      ∙ bytes_follow image after k.fit fit' k.verifies verifies' n r r' row row' f (writer_of s n) Regular regular
+
+  -- so nothing of it is listed, and its bytes are as before
+  kept_put : (n : ℕ) (r r' : Row) (row : row_at s.home n ≡ Some r) (row' : row_at after n ≡ Some r') → Follows image after n r r' → Unwritten b n → r.kind ≡ Regular → with_blocks n (told_blocks image after h n 0 (block_numbers after n (row_at after n))) (resized (size_of after n) (bytes_of image n r (writer_of s n) Regular)) ≡ bytes_of after n r' (writer_of s' n) Regular
+  kept_put n r r' row row' f un regular =
+      let m = met_at image k.fit k.verifies n r row in
+      let w = at_now n r' row' in
+      let size : size_of after n ≡ size_of image n = size_follows image after k.fit fit' k.verifies verifies' n r r' row row' f in
+      let was : settled_chain image r.kind n ≡ Ok f.file.chain = ap (settled_chain image r.kind) (sym f.number) ∙ chain_read image k.fit k.verifies f.met f.file f.stood f.read r (ap (row_at image) f.number ∙ row) in
+      let is : settled_chain after r'.kind n ≡ Ok f.file'.chain = ap (settled_chain after r'.kind) (sym f.number') ∙ chain_read after fit' verifies' f.met' f.file' f.stands f.read' r' (ap (row_at after) f.number' ∙ row') in
+      let numbers : block_numbers after n (row_at after n) ≡ block_numbers image n (row_at image n) =
+      ap (block_numbers after n) row' ∙ ap chain_blocks (is ∙ ap Ok f.chain ∙ sym was) ∙ sym (ap (block_numbers image n) row) in
+      let none : told_blocks image after h n 0 (block_numbers after n (row_at after n)) ≡ [] =
+      told_none image after h n 0 (block_numbers after n (row_at after n))
+      (λ i page get.
+      let zero_i : 0 + i ≡ i = omega arith in
+      let at : slice_get (block_numbers image n (row_at image n)) i ≡ Some page = ap (λ l. slice_get l i) (sym numbers) ∙ get in
+      let at' : slice_get (block_numbers image n (row_at image n)) (0 + i) ≡ Some page = ap (slice_get (block_numbers image n (row_at image n))) zero_i ∙ at in
+      let mine : slice_get m.file.chain.blocks i ≡ Some page = ap (λ l. slice_get l i) (sym (numbers_were n r row)) ∙ at in
+      same_told image after h n (0 + i) page at' size ∙ clean_block n r row un page (get_in m.file.chain.blocks i page mine)) in
+      ap (λ l. with_blocks n l (resized (size_of after n) (bytes_of image n r (writer_of s n) Regular))) none
+      ∙ resized_same (size_of after n) (bytes_of image n r (writer_of s n) Regular) (old_long_at n r row regular ∙ sym size)
+      ∙ sym (kept_bytes n r r' row row' f un regular)
+    where
+      old_long_at : (n : ℕ) (r : Row) (row : row_at s.home n ≡ Some r) → r.kind ≡ Regular → length (bytes_of (settled s) n r (writer_of s n) Regular) ≡ size_of (settled s) n
+      old_long_at n r row regular = old_long s k whole n r row
+
+  -- ---- a file of the bundle's pages
+
+  own_put : (n : ℕ) (r : Row) (row : row_at after n ≡ Some r) → lists_own b proposed_core (at_now n r row).met ≡ true → r.kind ≡ Regular → blocks_of after n r (writer_of s' n) ≡ blocks_of after n r None → (old : List ℕ) → ((i page : ℕ) → slice_get (at_now n r row).file.chain.blocks i ≡ Some page → is_block_told image after h n (0 + i) page ≡ false → take 4096 (drop (4096 * i) (resized (size_of after n) old)) ≡ take (length (drop (4096 * i) (resized (size_of after n) old))) (block_bytes after page)) → with_blocks n (told_blocks image after h n 0 (block_numbers after n (row_at after n))) (resized (size_of after n) old) ≡ bytes_of after n r (writer_of s' n) Regular
+  own_put n r row own regular free old un =
+      let w = at_now n r row in
+      let pl : List ℕ = w.file.chain.blocks in
+      let z : ℕ = size_of after n in
+      let y : List ℕ = resized z old in
+      let long : length y ≡ z = resized_long z old in
+      let c = chain_count proposed_core w.file.body w.file.chain (reads_from proposed_core w.met w.file w.read).chain in
+      let count : Count (length pl) (length y) = subst (λ j. Count (length pl) j) (sym (long ∙ size_now n r row)) c in
+      let full : (p : ℕ) → In p pl → length (block_bytes after p) ≡ 4096 =
+      λ p i. (let t = own_block s k lib (creds_of s lib) b given accepted n r row own regular p i in ap (λ o. length (unwrap_or o [])) t.2 ∙ t.3) in
+      let new_is : bytes_of after n r (writer_of s' n) Regular ≡ take z (flat_map (block_bytes after) pl) =
+      ap (bytes_of_sheets z) (free ∙ ap (block_sheets after.core) (chain_now n r row)) ∙ ap (take z) (flat_sheets after pl) in
+      ap (λ l. with_blocks n (told_blocks image after h n 0 l) y) (numbers_now n r row)
+      ∙ told_put image after h n 0 pl [] y refl count full un
+      ∙ ap (λ j. take j (flat_map (block_bytes after) pl)) long
+      ∙ sym new_is
+
+  -- a new one had no blocks, so all are listed
+  dead_writer : (n : ℕ) → row_at s.home n ≡ None → writer_of s n ≡ None
+  dead_writer n dead = by (writer_of s n) refl
+    where
+      by : (o : Option OpenGrant) → writer_of s n ≡ o → o ≡ None
+      by None f = refl
+      by (Some g) f =
+          let q = find-In (writes n) s.open_grants g f in
+          let ino : g.ino ≡ n = eqb-true g.ino n (and_parts (eqb g.ino n) (is_write g.kind) q.1).0 in
+          let live : is_some (row_at s.home n) ≡ true = ap (λ j. is_some (row_at s.home j)) (sym ino) ∙ k.live g q.0 in
+          absurd (false≢true (sym (ap is_some dead) ∙ live))
+
+  pub dead_unwritten : (n : ℕ) → row_at s.home n ≡ None → is_written b n ≡ false
+  dead_unwritten n dead =
+      false_from_ne_true (is_written b n)
+      (λ wr.
+      let w = some_of (find (λ (w : Written). eqb w.ino n) b.writes) wr in
+      let f = find-In (λ (w : Written). eqb w.ino n) b.writes w.0 w.1 in
+      let l = given.writes w.0 f.0 in
+      let ino : l.grant.ino ≡ n = l.ino ∙ eqb-true w.0.ino n f.1 in
+      let live : is_some (row_at s.home n) ≡ true = ap (λ j. is_some (row_at s.home j)) (sym ino) ∙ k.live l.grant l.is_open in
+      false≢true (sym (ap is_some dead) ∙ live))
+
+  new_put : (n : ℕ) (r : Row) (row : row_at after n ≡ Some r) → row_at s.home n ≡ None → lists_own b proposed_core (at_now n r row).met ≡ true → r.kind ≡ Regular → with_blocks n (told_blocks image after h n 0 (block_numbers after n (row_at after n))) (resized (size_of after n) []) ≡ bytes_of after n r (writer_of s' n) Regular
+  new_put n r row dead own regular =
+      own_put n r row own regular
+      (other_writer s s' k lib b given after e n (dead_unwritten n dead) after r ∙ ap (blocks_of after n r) (dead_writer n dead)) []
+      (λ i page get t.
+      let u = unlisted_is image after h n (0 + i) page t in
+      let wrong : slice_get (block_numbers image n None) (0 + i) ≡ Some page = ap (λ o. slice_get (block_numbers image n o) (0 + i)) (sym dead) ∙ u.same in
+      absurd (cc wrong))
+
+  -- one that is written keeps the blocks that aren't listed
+  pub get_within : (xs : List ℕ) (i x : ℕ) → slice_get xs i ≡ Some x → i < length xs
+  get_within [] i x e = absurd cc
+  get_within (y ∷ ys) zero x e = omega arith
+  get_within (y ∷ ys) (suc i) x e = (let r = get_within ys i x e in omega (arith, r))
+
+  writing_grant : (n : ℕ) → is_written b n ≡ true → (g : OpenGrant) × (writer_of s n ≡ Some g) × In g s.open_grants × (writes n g ≡ true)
+  writing_grant n wr =
+      let w = some_of (find (λ (w : Written). eqb w.ino n) b.writes) wr in
+      let f = find-In (λ (w : Written). eqb w.ino n) b.writes w.0 w.1 in
+      let l = given.writes w.0 f.0 in
+      let number : l.grant.ino ≡ n = l.ino ∙ eqb-true w.0.ino n f.1 in
+      let mine : writes n l.grant ≡ true = and_from (eqb l.grant.ino n) (is_write l.grant.kind) (eq-eqb l.grant.ino n number) (ap is_write l.kind) in
+      let q = In-find (writes n) s.open_grants l.grant l.is_open mine in
+      let v = find-In (writes n) s.open_grants q.0 q.1 in
+      (q.0, q.1, v.0, v.1)
+
+  numbers_count : (xs : List Sheet) → length (sheet_numbers xs) ≡ length xs
+  numbers_count [] = refl
+  numbers_count (x ∷ xs) = ap suc (numbers_count xs)
+
+  written_put : (n : ℕ) (r : Row) (row : row_at s.home n ≡ Some r) (row' : row_at after n ≡ Some r) → is_written b n ≡ true → lists_own b proposed_core (at_now n r row').met ≡ true → r.kind ≡ Regular → with_blocks n (told_blocks image after h n 0 (block_numbers after n (row_at after n))) (resized (size_of after n) (bytes_of image n r (writer_of s n) Regular)) ≡ bytes_of after n r (writer_of s' n) Regular
+  written_put n r row row' wr own regular =
+      let g = writing_grant n wr in
+      let gr : OpenGrant = g.0 in
+      let z : ℕ = size_of image n in
+      let old : List ℕ = bytes_of_sheets z gr.blocks in
+      let old_is : bytes_of image n r (writer_of s n) Regular ≡ old = ap (λ w. bytes_of_sheets z (blocks_of image n r w)) g.1 in
+      let long : length old ≡ z = ap length (sym old_is) ∙ old_long s k whole n r row in
+      let m = met_at image k.fit k.verifies n r row in
+      let lent : sheet_numbers gr.blocks ≡ m.file.chain.blocks = lent_is s k whole n r row gr g.2 g.3 in
+      let count : z ≤ 4096 * length gr.blocks =
+      (let c = (count_is s k whole n r row).0 in
+      let l : length m.file.chain.blocks ≡ length gr.blocks = ap length (sym lent) ∙ numbers_count gr.blocks in
+      omega (arith, c, l)) in
+      let w = at_now n r row' in
+      let pl : List ℕ = w.file.chain.blocks in
+      let size : ℕ = size_of after n in
+      let counts : Count (length pl) size = subst (λ j. Count (length pl) j) (sym (size_now n r row')) (chain_count proposed_core w.file.body w.file.chain (reads_from proposed_core w.met w.file w.read).chain) in
+      let zs : List ℕ = replicate (size - length old) 0 in
+      let lz : length zs ≡ size - length old = length-replicate (size - length old) 0 in
+      let far : size ≤ z + length zs = omega (arith, lz, long) in
+      ap (λ l. with_blocks n (told_blocks image after h n 0 (block_numbers after n (row_at after n))) (resized size l)) old_is
+      ∙ own_put n r row' own regular (ap (blocks_of after n r) (no_writer s s' k lib b given after e n wr)) old
+      (λ i page get t.
+      let u = unlisted_is image after h n (0 + i) page t in
+      let zero_i : 0 + i ≡ i = omega arith in
+      let was : slice_get m.file.chain.blocks i ≡ Some page = ap (slice_get m.file.chain.blocks) (sym zero_i) ∙ ap (λ l. slice_get l (0 + i)) (sym (numbers_were n r row)) ∙ u.same in
+      let x = sheet_at gr.blocks i page (ap (λ l. slice_get l i) lent ∙ was) in
+      let at : x.0.page ≡ page = x.2 in
+      let t' = own_block s k lib (creds_of s lib) b given accepted n r row' own regular page (get_in pl i page get) in
+      let listed : In page (pages_of proposed_core w.met) = subst (λ l. In page l) (sym (pages_are proposed_core w.met w.file w.read)) (In-right page w.file.chain.index pl (get_in pl i page get)) in
+      let handed : In page (bundle_pages b) = is_among-In page (bundle_pages b) (list_all-In (λ q. is_among q (bundle_pages b)) page (pages_of proposed_core w.met) own listed) in
+      let q = page_there proposed_core page t'.0 t'.1 in
+      let here : (o : Option (List ℕ)) × (slice_get image.core.pages x.0.page ≡ Some o) =
+      (let fitp = (fitP s k lib (creds_of s lib) b given accepted).long in
+      let far' = k.fit.long in
+      let c = t'.4 in
+      let low : page < image.core.range.end = ltb-true page image.core.range.end (and_parts (leb image.core.range.first page) (ltb page image.core.range.end) c).1 in
+      place_there image.core.pages x.0.page (omega (arith, low, far', at))) in
+      let now_page : slice_get proposed_core.pages x.0.page ≡ Some (Some x.0.bytes) =
+      with_pages_known (bundle_sheets b) image.core.pages x.0.page x.0.bytes here.0 (subst (λ j. In j (bundle_pages b)) (sym at) handed)
+      (λ y j on. handed_same s k whole lib h given marked n r row gr g.2 g.3 x.0 x.1 (ap (is_touched h) at ∙ u.clean) y j on) here.1 in
+      let same : Some t'.0 ≡ Some x.0.bytes = sym t'.1 ∙ ap (page_of proposed_core) (sym at) ∙ page_from proposed_core x.0.page x.0.bytes (ap (is_core proposed_core.range) at ∙ t'.4) now_page in
+      let bytes : block_bytes after page ≡ x.0.bytes = ap (λ o. unwrap_or o []) (t'.2 ∙ same) in
+      let within = get_within pl i page get in
+      let c1 = counts.1 in
+      let inside : 4096 * i < size = omega (arith, within, c1) in
+      let counted = u.counted in
+      let low : min size (4096 * i + 4096) ≤ z = omega (arith, counted) in
+      chunk_grown gr.blocks i x.0 z size zs (λ y j. whole gr y g.2 j) x.3 count inside low far
+      ∙ ap (take (length (drop (4096 * i) (resized size old)))) (sym bytes))
+
+  -- ---- one node after another
+
+  abbrev pub rf : ℕ → Option RawFile
+  rf = raw_file image after b
+
+  abbrev pub files : List RawFile
+  files = raw_files image after b
+
+  abbrev pub bs : List RawBlock
+  bs = raw_blocks image after h files
+
+  told_now : (n : ℕ) (o : Option Row) (r : Row) → told_by image after b n o (Some r) ≡ Some (told_file after b n false r)
+  told_now n None r = refl
+  told_now n (Some q) r = refl
+
+  pub file_of_told : (n : ℕ) (r : Row) → row_at after n ≡ Some r → is_told image after b n ≡ true → rf n ≡ Some (told_file after b n false r)
+  file_of_told n r row t =
+      ap (λ x. cond x (told_by image after b n (row_at image n) (row_at after n)) None) t
+      ∙ ap (told_by image after b n (row_at image n)) row
+      ∙ told_now n (row_at image n) r
+
+  put_is : (n : ℕ) (r : Row) → row_at after n ≡ Some r → is_told image after b n ≡ true → r.kind ≡ Regular → 1 ≤ n → n < 1 + s.home.core.inodes → (x : List ℕ) → with_blocks n bs x ≡ with_blocks n (told_blocks image after h n 0 (block_numbers after n (row_at after n))) x
+  put_is n r row t regular low high x =
+      blocks_in rf (raw_number image after b) (λ f. told_blocks_of image after h f f.kind) (λ f m y d. own_blocks image after h f m y d) s.home.core.inodes 1 n low high x
+      ∙ ap (λ o. with_blocks n (part_of (λ f. told_blocks_of image after h f f.kind) o) x) (file_of_told n r row t)
+      ∙ ap (λ kind. with_blocks n (told_blocks_of image after h (told_file after b n false r) kind) x) regular
+
+  -- the bytes of a node before
+  old_bytes : (n : ℕ) (q : Row) → row_at s.home n ≡ Some q → q.kind ≡ Regular → bytes_in (node_in s n) ≡ bytes_of image n q (writer_of s n) Regular
+  old_bytes n q row regular = ap (λ o. bytes_in (node_by image n (writer_of s n) o)) row ∙ ap (bytes_of image n q (writer_of s n)) regular
+
+  put_by : (n : ℕ) (r : Row) (row : row_at after n ≡ Some r) → r.kind ≡ Regular → Is (at_now n r row).met → with_blocks n (told_blocks image after h n 0 (block_numbers after n (row_at after n))) (resized (size_of after n) (bytes_in (node_in s n))) ≡ bytes_of after n r (writer_of s' n) Regular
+  put_by n r row regular (Stayed q row_q kind body un) =
+      let w = at_now n r row in
+      let row_s : row_at s.home n ≡ Some q = ap (row_at image) (sym w.number) ∙ row_q in
+      let reg : q.kind ≡ Regular = sym kind ∙ sym (ap (λ (x : Row). x.kind) w.row) ∙ regular in
+      let f = kept_follows s k lib (creds_of s lib) b given accepted n q r row_s row (q, row_q, kind, body, un) in
+      let un' : Unwritten b n = λ x i same. un x i (same ∙ sym w.number) in
+      ap (λ l. with_blocks n (told_blocks image after h n 0 (block_numbers after n (row_at after n))) (resized (size_of after n) l)) (old_bytes n q row_s reg)
+      ∙ kept_put n q r row_s row f un' reg
+  put_by n r row regular (Wrote wr unheld own) =
+      let w = at_now n r row in
+      let wr' : is_written b n ≡ true = ap (is_written b) (sym w.number) ∙ wr in
+      let q = given_row s k lib b given n (or_left (is_written b n) (is_among n b.holds) wr') in
+      let keeps : row_at after n ≡ Some q.0 = unheld_now s k lib (creds_of s lib) b given accepted n q.0 q.1 (ap (λ j. is_among j b.holds) (sym w.number) ∙ unheld) in
+      let rows : Some q.0 ≡ Some r = sym keeps ∙ row in
+      let same : q.0 ≡ r = cc rows in
+      let row_s : row_at s.home n ≡ Some r = q.1 ∙ ap Some same in
+      ap (λ l. with_blocks n (told_blocks image after h n 0 (block_numbers after n (row_at after n))) (resized (size_of after n) l)) (old_bytes n r row_s regular)
+      ∙ written_put n r row_s row wr' own regular
+  put_by n r row regular (New dead owner own) =
+      let w = at_now n r row in
+      let dead' : row_at s.home n ≡ None = ap (row_at image) (sym w.number) ∙ dead in
+      ap (λ o. with_blocks n (told_blocks image after h n 0 (block_numbers after n (row_at after n))) (resized (size_of after n) (bytes_in (node_by image n (writer_of s n) o)))) dead'
+      ∙ new_put n r row dead' own regular
+
+  bytes_case : (n : ℕ) (r : Row) (row : row_at after n ≡ Some r) → is_told image after b n ≡ true → 1 ≤ n → n < 1 + s.home.core.inodes → (kind : Kind) → r.kind ≡ kind → raw_bytes bs (told_file after b n false r) kind (bytes_in (node_in s n)) ≡ bytes_of after n r (writer_of s' n) kind
+  bytes_case n r row t low high Directory is = refl
+  bytes_case n r row t low high Regular is =
+      put_is n r row t is low high (resized (size_of after n) (bytes_in (node_in s n)))
+      ∙ put_by n r row is (file_is s k lib (creds_of s lib) b given accepted (at_now n r row).met (at_now n r row).stands)
+
+  -- ---- names
+
+  root_live : row_at s.home 1 ≡ None → ⊥
+  root_live dead =
+      let root = root_is_met image.core plain k.fit k.verifies.sound in
+      let f = read_met image.core plain k.fit k.verifies.sound (root_of image.core) root in
+      let there : row_at image 1 ≡ Some (row_by (root_of image.core) f.0.body) = row_at_is image.core plain k.fit k.verifies.sound image (tables_of image k.fit k.verifies) 1 ∙ row_met image.core plain k.fit k.verifies.sound (root_of image.core) f.0 root f.1 in
+      let wrong : None ≡ Some (row_by (root_of image.core) f.0.body) = sym dead ∙ there in absurd (cc wrong)
+
+  -- a listed name isn't empty
+  new_named : (n : ℕ) (r : Row) → row_at after n ≡ Some r → (n ≡ 1 → ⊥) → name_of after n r ≡ [] → ⊥
+  new_named n r row other none =
+      let l = listing after fit' verifies' n r row other in
+      slot_named after.core.inodes (slot_bytes r.slot l.bytes) l.entry.entry l.says (sym (name_listed after fit' verifies' n r l other) ∙ none)
+
+  -- ---- what isn't told stays
+
+  not_told : (n : ℕ) → is_told image after b n ≡ false → (is_written b n ≡ false) × (is_among n b.holds ≡ false) × ((is_some (row_at after n) && not (bytes_eq (name_by image n (row_at image n)) (name_by after n (row_at after n)))) ≡ false)
+  not_told n t =
+      let p = or_parts (is_written b n || is_among n b.holds) (is_some (row_at after n) && not (bytes_eq (name_by image n (row_at image n)) (name_by after n (row_at after n)))) t in
+      let q = or_parts (is_written b n) (is_among n b.holds) p.0 in (q.0, q.1, p.1)
+
+  same_name : (n : ℕ) (r : Row) (o : Option Row) → row_at after n ≡ Some r → row_at image n ≡ o → is_told image after b n ≡ false → name_by image n o ≡ name_of after n r
+  same_name n r o row was t =
+      let x : Bool = bytes_eq (name_by image n (row_at image n)) (name_by after n (row_at after n)) in
+      let e : not x ≡ false = sym (ap (λ q. is_some q && not x) row) ∙ (not_told n t).2 in
+      let names : name_by image n (row_at image n) ≡ name_by after n (row_at after n) = (bytes_eq-Decides (name_by image n (row_at image n)) (name_by after n (row_at after n))).0 (not-false x e) in
+      ap (name_by image n) (sym was) ∙ names ∙ ap (name_by after n) row
+
+  kept_kind : (n : ℕ) (r : Row) (row : row_at s.home n ≡ Some r) (row' : row_at after n ≡ Some r) → Follows image after n r r → Unwritten b n → (kind : Kind) → r.kind ≡ kind → bytes_of after n r (writer_of s' n) kind ≡ bytes_of image n r (writer_of s n) kind
+  kept_kind n r row row' f un Directory is = refl
+  kept_kind n r row row' f un Regular is = kept_bytes n r r row row' f un is
+
+  untold_by : (n : ℕ) (r : Row) (row : row_at after n ≡ Some r) → is_told image after b n ≡ false → Is (at_now n r row).met → Some (node_of after n (writer_of s' n) r) ≡ node_in s n
+  untold_by n r row t (Wrote wr unheld own) =
+      absurd (both_ways (is_written b n) (not_told n t).0 (ap (is_written b) (sym (at_now n r row).number) ∙ wr))
+  untold_by n r row t (New dead owner own) =
+      let dead' : row_at s.home n ≡ None = ap (row_at image) (sym (at_now n r row).number) ∙ dead in
+      absurd (new_named n r row (λ one. root_live (ap (row_at s.home) (sym one) ∙ dead')) (sym (same_name n r None row dead' t)))
+  untold_by n r row t (Stayed q row_q kind body un) =
+      let w = at_now n r row in
+      let row_s : row_at s.home n ≡ Some q = ap (row_at image) (sym w.number) ∙ row_q in
+      let keeps : row_at after n ≡ Some q = unheld_now s k lib (creds_of s lib) b given accepted n q row_s (not_told n t).1 in
+      let rows : Some q ≡ Some r = sym keeps ∙ row in
+      let same : q ≡ r = cc rows in
+      let row_r : row_at s.home n ≡ Some r = row_s ∙ ap Some same in
+      let f = kept_follows s k lib (creds_of s lib) b given accepted n q r row_s row (q, row_q, kind, body, un) in
+      let f' : Follows image after n r r = (let F : Row → Type 0 = λ x. Follows image after n x r in subst F same f) in
+      let un' : Unwritten b n = λ x i e. un x i (e ∙ sym w.number) in
+      ap (λ l. Some (node_with r l (bytes_of after n r (writer_of s' n) r.kind))) (sym (same_name n r (Some r) row row_r t))
+      ∙ ap (λ l. Some (node_with r (name_of image n r) l)) (kept_kind n r row_r row f' un' r.kind refl)
+      ∙ sym (ap (node_by image n (writer_of s n)) row_r)
+
+  -- ---- each node
+
+  gone_case : (n : ℕ) (o : Option Row) → row_at after n ≡ None → row_at image n ≡ o → (t : Bool) → is_told image after b n ≡ t → None ≡ becomes bs (cond t (told_by image after b n o None) None) (node_by image n (writer_of s n) o)
+  gone_case n None gone was true t = refl
+  gone_case n None gone was false t = refl
+  gone_case n (Some q) gone was true t = refl
+  gone_case n (Some q) gone was false t =
+      let keeps = unheld_now s k lib (creds_of s lib) b given accepted n q was (not_told n t).1 in
+      let wrong : None ≡ Some q = sym gone ∙ keeps in absurd (cc wrong)
+
+  there_case : (n : ℕ) (r : Row) → row_at after n ≡ Some r → 1 ≤ n → n < 1 + s.home.core.inodes → (t : Bool) → is_told image after b n ≡ t → Some (node_of after n (writer_of s' n) r) ≡ becomes bs (cond t (told_by image after b n (row_at image n) (Some r)) None) (node_in s n)
+  there_case n r row low high true t =
+      ap (λ l. Some (node_with r (name_of after n r) l)) (sym (bytes_case n r row t low high r.kind refl))
+      ∙ ap (λ o. becomes bs o (node_in s n)) (sym (told_now n (row_at image n) r))
+  there_case n r row low high false t = untold_by n r row t (file_is s k lib (creds_of s lib) b given accepted (at_now n r row).met (at_now n r row).stands)
+
+  node_case : (n : ℕ) (o : Option Row) → row_at after n ≡ o → 1 ≤ n → n < 1 + s.home.core.inodes → node_by after n (writer_of s' n) o ≡ becomes bs (cond (is_told image after b n) (told_by image after b n (row_at image n) o) None) (node_in s n)
+  node_case n None row low high = gone_case n (row_at image n) row refl (is_told image after b n) refl
+  node_case n (Some r) row low high = there_case n r row low high (is_told image after b n) refl
+
+  pub node_settled : (n : ℕ) → node_in s' n ≡ node_by after n (writer_of s' n) (row_at after n)
+  node_settled n = ap (λ (i : Image). node_by i n (writer_of s' n) (row_at i n)) e.settles
+
+  no_row : (n : ℕ) → (n < 1) ⊎ (1 + s.home.core.inodes ≤ n) → row_at s.home n ≡ None
+  no_row n out = by (row_at s.home n) refl
+    where
+      by : (o : Option Row) → row_at s.home n ≡ o → o ≡ None
+      by None row = refl
+      by (Some r) row =
+          let m = met_at (settled s) k.fit k.verifies n r row in
+          let q = met_numbered (settled s).core plain k.fit k.verifies.sound m.met m.stands in
+          let a = q.0 in
+          let c = q.1 in
+          let d = m.number in
+          absurd (elim out [ inl l ↦ omega (arith, l, a, d) | inr g ↦ omega (arith, g, c, d) ])
+
+  no_row_now : (n : ℕ) → (n < 1) ⊎ (1 + s.home.core.inodes ≤ n) → row_at after n ≡ None
+  no_row_now n out = by (row_at after n) refl
+    where
+      by : (o : Option Row) → row_at after n ≡ o → o ≡ None
+      by None row = refl
+      by (Some r) row =
+          let m = met_at after fit' verifies' n r row in
+          let q = met_numbered after.core plain fit' verifies'.sound m.met m.stands in
+          let a = q.0 in
+          let c = q.1 in
+          let d = m.number in
+          absurd (elim out [ inl l ↦ omega (arith, l, a, d) | inr g ↦ omega (arith, g, c, d) ])
+
+  outside : (n : ℕ) → (n < 1) ⊎ (1 + s.home.core.inodes ≤ n) → node_in s' n ≡ node_in s n
+  outside n out = node_settled n ∙ ap (node_by after n (writer_of s' n)) (no_row_now n out) ∙ sym (ap (node_by image n (writer_of s n)) (no_row n out))
+
+  pub accepted_nodes : nodes_of s' ≡ raw_nodes bs files (nodes_of s)
+  accepted_nodes =
+      let count : s'.home.core.inodes ≡ s.home.core.inodes = ap (λ (i : Image). i.core.inodes) e.settles in
+      let l' = nodes_long s' in
+      let l : length (raw_nodes bs files (nodes_of s)) ≡ s.home.core.inodes + 1 = raw_length rf (raw_number image after b) bs s.home.core.inodes 1 (s.home.core.inodes + 1) (omega arith) (nodes_of s) (nodes_long s) in
+      nodes_same (nodes_of s') (raw_nodes bs files (nodes_of s)) (omega (arith, l, l', count))
+      (λ n.
+      let inner : 1 ≤ n → n < 1 + s.home.core.inodes → node_at (nodes_of s') n ≡ node_at (raw_nodes bs files (nodes_of s)) n =
+      λ low high.
+      node_is s' k' n ∙ node_settled n ∙ node_case n (row_at after n) refl low high ∙ ap (becomes bs (rf n)) (sym (node_is s k n))
+      ∙ sym (raw_in rf (raw_number image after b) bs s.home.core.inodes 1 n low high (nodes_of s)) in
+      let outer : (n < 1) ⊎ (1 + s.home.core.inodes ≤ n) → node_at (nodes_of s') n ≡ node_at (raw_nodes bs files (nodes_of s)) n =
+      λ out.
+      node_is s' k' n ∙ outside n out ∙ sym (node_is s k n) ∙ sym (raw_out rf (raw_number image after b) bs s.home.core.inodes 1 n out (nodes_of s)) in
+      elim (cases_lt n 1) [
+        | inl zero_n ↦ outer (inl zero_n)
+        | inr low ↦
+            elim (cases_lt n (1 + s.home.core.inodes)) [
+              | inl high ↦ inner low high
+              | inr past ↦ outer (inr past)
+            ]
+      ])

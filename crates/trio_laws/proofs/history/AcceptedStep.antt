@@ -1,0 +1,563 @@
+-- An accepted release extends the history.
+use Rattle.std.proofs.Common.{◌≡◌, ℕ, zero, suc, ◌+◌, ◌*◌, ◌<◌, ◌≤◌, Bool, true, false, cond, ◌&&◌, not, eqb, min, List, [], ◌∷◌, ◌++◌, map, length, Option, Some, None, Ok, slice_get, sym, refl, ap, ◌∙◌, subst, inl, inr, ◌⊎◌, arith, filter, find, unwrap_or}
+use Rattle.std.specs.List.{AllByRecursion}
+use Rattle.std.proofs.lemmas.Bool.{and_parts, and_from, eqb-true, eq-eqb, both_ways, or_left, or_right, not-true, ne_eqb, cases_eq, false_from_ne_true}
+use Rattle.trio_nodes.specs.declared.grant.GrantKind.{GrantKind}
+use Rattle.trio_nodes.specs.declared.grant.GrantKind.TheVariants.{Read, Write, Hold}
+use Rattle.trio_nodes.specs.declared.answers.ReleaseAnswer.TheVariants.{Accepted as IsAccepted}
+use Rattle.trio_rights.specs.Row.{Row}
+use Rattle.trio_rights.specs.declared.kind.Kind.{Kind}
+use Rattle.trio_rights.specs.declared.kind.Kind.TheVariants.{Regular, Directory}
+use Rattle.trio_layout.specs.Body.{body_of}
+use Rattle.trio_layout.specs.Core.{Core, page_of}
+use Rattle.trio_layout.specs.Entries.{Listed, entries_of_kind}
+use Rattle.trio_lists.specs.Lists.{In, is_among}
+use Rattle.trio_layout.specs.Survey.{Met, plain, FileRead, file_of, survey, row_by, met_in, children, row_of, root_of}
+use Rattle.trio_layout.specs.Accept.{is_accepted, next}
+use Rattle.trio_lists.specs.Counting.{count_up}
+use Rattle.trio_layout.specs.Allowed.{has_owner}
+use Rattle.trio_state.specs.Bundles.{Ends}
+use Rattle.trio_state.specs.Given.{GivenTo}
+use Rattle.trio_state.specs.Grants.{has_parent_grant}
+use Rattle.trio_layout.specs.Image.{Image, IsFit, row_at, settled_body}
+use Rattle.trio_state.specs.Kept.{Kept}
+use Rattle.trio_rights.specs.Bundle.{Written, Bundle, is_written}
+use Rattle.trio_state.specs.State.{OpenGrant, State, settled, creds_of}
+use Rattle.trio_nodes.specs.GrantKinds.{is_write, same_kind}
+use Rattle.trio_state.specs.Step.{Release, Accepted}
+use Rattle.trio_layout.specs.Verifies.{Verifies}
+use Rattle.trio_surveys.specs.Reading.{picked_entry}
+use Rattle.trio_laws.proofs.Bundles.{Unwritten, page_kept, unwritten_apart}
+use Rattle.trio_lists.proofs.Filters.{Ok-one, find-In, list_any-In, In-list_any, list_any-map}
+use Rattle.trio_laws.proofs.Isolated.{same_file}
+use Rattle.trio_surveys.proofs.Images.{some_of, met_numbered, one_met, root_is_met, read_met, row_met, row_at_is}
+use Rattle.trio_surveys.proofs.Local.{reads_from, reads_to}
+use Rattle.trio_lists.proofs.Members.{In-map, In-flat, map-In, is_among-In}
+use Rattle.trio_surveys.proofs.Owned.{pages_are}
+use Rattle.trio_surveys.proofs.Picked.{all_listed, listed_are_met, listed_no_root}
+use Rattle.trio_laws.proofs.StateFacts.{alone}
+use Rattle.trio_laws.proofs.Survivors.{held_rights}
+use Rattle.trio_surveys.proofs.Tree.{child_has}
+use Rattle.trio_nodes.specs.declared.node.Node.{Node}
+use Rattle.trio_nodes.specs.declared.entry.Handed.{Handed}
+use Rattle.trio_nodes.specs.declared.entry.HandedFile.{HandedFile}
+use Rattle.trio_nodes.specs.declared.entry.RawBlock.{RawBlock}
+use Rattle.trio_nodes.specs.declared.entry.RawFile.{RawFile}
+use Rattle.trio_nodes.specs.Nodes.{Nodes, node_at, entry_in}
+use Rattle.trio_nodes.specs.Standing.{Standing, stands, is_others, is_given}
+use Rattle.trio_nodes.specs.After.{bytes_in, raw_nodes}
+use Rattle.trio_nodes.specs.Legal.{IsWithinGrants, SameContent, HasRightsOf, HasPlaceOf, HasNameOf, BlocksAreKnown, is_listed}
+use Rattle.trio_laws.specs.history.Stands.{name_of, size_of, bytes_of, node_of, node_by, nodes_of, standing_of, writer_of}
+use Rattle.trio_laws.specs.history.Entries.{bundle_handed, raw_file, raw_files, raw_blocks, raw_entry, is_told, told_by, told_file, told_blocks, told_blocks_of, is_block_told, block_numbers}
+use Rattle.trio_laws.specs.history.Recorded.{LentWhole, IsMarked}
+use Rattle.trio_laws.proofs.history.AcceptedFiles.{P, pick, fitP, soundP, fitJ, verifiesJ, Now, now, kept_follows, FileIs, Stayed, Wrote, New, file_is, unheld_now}
+use Rattle.trio_laws.proofs.history.Blocks.{chain_count}
+use Rattle.trio_laws.proofs.history.Grown.{unlisted_is}
+use Rattle.trio_laws.proofs.history.OldBytes.{old_long}
+use Rattle.trio_laws.proofs.history.AcceptedNodes.{size_now, numbers_now, accepted_nodes, node_settled, kept_bytes, dead_unwritten}
+use Rattle.trio_laws.proofs.history.Extends.{Makes, past_is}
+use Rattle.trio_laws.proofs.history.Facts.{Live, any_same, live, node_is}
+use Rattle.trio_laws.proofs.history.Follows.{Follows, name_at_entry}
+use Rattle.trio_laws.proofs.history.Listing.{listing, met_at, body_met, tables_of}
+use Rattle.trio_laws.proofs.history.RawGiven.{is_in, given_grant, given_is, grants_end, handed_is, files_from}
+use Rattle.trio_laws.proofs.history.ModeNodes.{name_root}
+
+one_of : {X : Type 0} (x y : X) → Some x ≡ Some y → x ≡ y
+one_of x y e = cc e
+
+module _ (s s' : State) (k : Kept s) (k' : Kept s') (whole : LentWhole s) (lib : ℕ) (h : Handed) (given : GivenTo s lib (bundle_handed h)) (accepted : is_accepted (settled s) (creds_of s lib) (bundle_handed h) ≡ true) (e : Ends s lib (bundle_handed h) (next (settled s) (bundle_handed h)) s') (marked : (w : HandedFile) → In w h.writes → IsMarked s lib w) where
+  abbrev b : Bundle
+  b = bundle_handed h
+
+  abbrev image : Image
+  image = settled s
+
+  abbrev after : Image
+  after = next image b
+
+  abbrev proposed_core : Core
+  proposed_core = P s k lib (creds_of s lib) b given accepted
+
+  abbrev picks : ℕ → ℕ → ℕ → ℕ → List ℕ → List ℕ
+  picks = pick s k lib (creds_of s lib) b given accepted
+
+  abbrev at_now : (n : ℕ) (r : Row) → row_at after n ≡ Some r → Now s k lib (creds_of s lib) b given accepted n r
+  at_now n r row = now s k lib (creds_of s lib) b given accepted n r row
+
+  fit' : IsFit after.core
+  fit' = fitJ s k lib (creds_of s lib) b given accepted
+
+  verifies' : Verifies after
+  verifies' = verifiesJ s k lib (creds_of s lib) b given accepted
+
+  abbrev gs : List Standing
+  gs = map standing_of s.open_grants
+
+  was : (n : ℕ) → node_at (nodes_of s) n ≡ node_by image n (writer_of s n) (row_at s.home n)
+  was n = node_is s k n
+
+  is : (n : ℕ) → node_at (nodes_of s') n ≡ node_by after n (writer_of s' n) (row_at after n)
+  is n = node_is s' k' n ∙ node_settled s s' k k' whole lib h given accepted e marked n
+
+  -- ---- a file that stays reads as before
+
+  -- a file that is live before and after it, and is not written
+  pub record Stays (n : ℕ) (r r' : Row) : Type 0 where
+    pub row : row_at s.home n ≡ Some r
+    pub row' : row_at after n ≡ Some r'
+    pub follows : Follows image after n r r'
+    pub unwritten : Unwritten b n
+    pub kind : r'.kind ≡ r.kind
+    pub met : Met
+    pub met' : Met
+    pub file : FileRead
+    pub number : met.ino ≡ n
+    pub number' : met'.ino ≡ n
+    pub stood : In met (survey image.core plain)
+    pub stands' : In met' (survey after.core plain)
+    pub read : file_of image.core met ≡ Ok file
+    pub read' : file_of after.core met' ≡ Ok (record file { entries = map (picked_entry picks met'.ino) file.entries })
+
+  stays_by : (n : ℕ) (r r' : Row) (row : row_at s.home n ≡ Some r) (row' : row_at after n ≡ Some r') → is_written b n ≡ false → FileIs s k lib (creds_of s lib) b given accepted (at_now n r' row').met → Stays n r r'
+  stays_by n r r' row row' un (Wrote wr unheld own) = absurd (both_ways (is_written b n) un (ap (is_written b) (sym (at_now n r' row').number) ∙ wr))
+  stays_by n r r' row row' un (New dead owner own) = (let wrong : None ≡ Some r = sym dead ∙ ap (row_at image) (at_now n r' row').number ∙ row in absurd (cc wrong))
+  stays_by n r r' row row' un (Stayed q row_q kind body unw) =
+      let w = at_now n r' row' in
+      let m0 = met_at image k.fit k.verifies n r row in
+      let q_r : q ≡ r = one_of q r (sym row_q ∙ ap (row_at image) w.number ∙ row) in
+      let kinds : w.met.kind ≡ m0.met.kind = kind ∙ ap (λ (x : Row). x.kind) q_r ∙ ap (λ (x : Row). x.kind) m0.row in
+      let bodies : w.met.body ≡ m0.met.body = body ∙ ap (settled_body image) w.number ∙ body_met image k.fit k.verifies n r row in
+      let un0 : Unwritten b m0.met.ino = λ x i j. unw x i (j ∙ m0.number ∙ sym w.number) in
+      let pages : (p : ℕ) → In p (m0.file.chain.index ++ m0.file.chain.blocks) → page_of proposed_core p ≡ page_of image.core p =
+      λ p i. page_kept s k lib b given p (λ j. unwritten_apart s k lib b given m0.met p m0.stands un0 (subst (λ l. In p l) (sym (pages_are image.core m0.met m0.file m0.read)) i) j) in
+      let now0 : file_of proposed_core m0.met ≡ Ok m0.file = same_file image.core proposed_core m0.met m0.file refl refl m0.read pages in
+      let a = reads_from proposed_core m0.met m0.file now0 in
+      let here : file_of proposed_core w.met ≡ Ok m0.file =
+      reads_to proposed_core w.met m0.file (record {
+        body = ap (λ x. body_of x proposed_core.range w.met.body) kinds ∙ ap (body_of m0.met.kind proposed_core.range) bodies ∙ a.body;
+        chain = a.chain;
+        entries = ap (λ x. entries_of_kind proposed_core x m0.file.chain.blocks) kinds ∙ a.entries;
+      }) in
+      let same : w.file ≡ m0.file = Ok-one (file_of proposed_core w.met) w.file m0.file w.read here in
+      record {
+        row = row;
+        row' = row';
+        follows = kept_follows s k lib (creds_of s lib) b given accepted n r r' row row' (q, row_q, kind, body, unw);
+        unwritten = λ x i j. unw x i (j ∙ sym w.number);
+        kind = ap (λ (x : Row). x.kind) w.row ∙ kinds ∙ sym (ap (λ (x : Row). x.kind) m0.row);
+        met = m0.met;
+        met' = w.met;
+        file = m0.file;
+        number = m0.number;
+        number' = w.number;
+        stood = m0.stands;
+        stands' = w.stands';
+        read = m0.read;
+        read' = w.read' ∙ ap (λ (f : FileRead). Ok (record f { entries = map (picked_entry picks w.met.ino) f.entries })) same;
+      }
+
+  stays_at : (n : ℕ) (r r' : Row) → row_at s.home n ≡ Some r → row_at after n ≡ Some r' → is_written b n ≡ false → Stays n r r'
+  stays_at n r r' row row' un =
+      stays_by n r r' row row' un (file_is s k lib (creds_of s lib) b given accepted (at_now n r' row').met (at_now n r' row').stands)
+
+  -- ---- what it lists
+
+  -- what an image says of a number that a file lists
+  pub record Child (i : Image) (dir n : ℕ) (name : List ℕ) (kind : Kind) : Type 0 where
+    pub row : Row
+    pub at : row_at i n ≡ Some row
+    pub parent : row.parent ≡ dir
+    pub name_is : name_of i n row ≡ name
+    pub kind_is : row.kind ≡ kind
+
+  child_of : (i : Image) (fit : IsFit i.core) (v : Verifies i) (m : Met) (f : FileRead) (l : Listed) → In m (survey i.core plain) → file_of i.core m ≡ Ok f → In l f.entries → Child i m.ino l.entry.ino l.entry.name l.entry.kind
+  child_of i fit v m f l stands read listed =
+      let c : Met = met_in plain m.ino l in
+      let j = child_has i.core plain m f l read listed in
+      let all : In c (all_listed i.core plain) = In-flat (children i.core plain) m c (survey i.core plain) stands j in
+      let met = listed_are_met i.core plain fit v.sound c all in
+      let g = read_met i.core plain fit v.sound c met in
+      let row : row_at i l.entry.ino ≡ Some (row_by c g.0.body) = row_at_is i.core plain fit v.sound i (tables_of i fit v) l.entry.ino ∙ row_met i.core plain fit v.sound c g.0 met g.1 in
+      let other : l.entry.ino ≡ 1 → ⊥ = listed_no_root i.core plain fit v.sound c all in
+      record {
+        row = row_by c g.0.body;
+        at = row;
+        parent = refl;
+        name_is = name_at_entry i m f l l.entry.ino (row_by c g.0.body) read listed other refl refl;
+        kind_is = refl;
+      }
+
+  entry_is : (i : Image) (dir n : ℕ) (w : Option OpenGrant) (name : List ℕ) (kind : Kind) → Child i dir n name kind → entry_in dir (node_by i n w (row_at i n)) ≡ Some (name, kind)
+  entry_is i dir n w name kind c =
+      ap (λ o. entry_in dir (node_by i n w o)) c.at
+      ∙ ap (λ t. cond t (Some (name_of i n c.row, c.row.kind)) None) (eq-eqb c.row.parent dir c.parent)
+      ∙ ap (λ l. Some (l, c.row.kind)) c.name_is
+      ∙ ap (λ t. Some (name, t)) c.kind_is
+
+  -- the root is in no directory
+  root_above : (i : Image) (fit : IsFit i.core) (v : Verifies i) (n : ℕ) (r : Row) → row_at i n ≡ Some r → n ≡ 1 → r.parent ≡ 0
+  root_above i fit v n r row one =
+      let root = root_is_met i.core plain fit v.sound in
+      let f = read_met i.core plain fit v.sound (root_of i.core) root in
+      let there : row_at i 1 ≡ Some (row_by (root_of i.core) f.0.body) = row_at_is i.core plain fit v.sound i (tables_of i fit v) 1 ∙ row_met i.core plain fit v.sound (root_of i.core) f.0 root f.1 in
+      ap (λ (x : Row). x.parent) (one_of r (row_by (root_of i.core) f.0.body) (sym row ∙ ap (row_at i) one ∙ there))
+
+  live_above : (n : ℕ) (r : Row) → row_at s.home n ≡ Some r → n ≡ 0 → ⊥
+  live_above n r row z =
+      let m = met_at image k.fit k.verifies n r row in
+      let q = (met_numbered image.core plain k.fit k.verifies.sound m.met m.stands).0 in
+      let d = m.number in omega (arith, q, d, z)
+
+  -- an entry of a file that stays is one before and after
+  listed_both : (dir : ℕ) (r r' : Row) (st : Stays dir r r') (n : ℕ) (l : Listed) → In l st.file.entries → l.entry.ino ≡ n → entry_in dir (node_by after n (writer_of s' n) (row_at after n)) ≡ entry_in dir (node_by image n (writer_of s n) (row_at s.home n))
+  listed_both dir r r' st n l i number =
+      let C : Image → ℕ → ℕ → Type 0 = λ im d j. Child im d j l.entry.name l.entry.kind in
+      let old0 : C image st.met.ino l.entry.ino = child_of image k.fit k.verifies st.met st.file l st.stood st.read i in
+      let old : C image dir n = subst (λ d. C image d n) st.number (subst (λ j. C image st.met.ino j) number old0) in
+      let new0 : C after st.met'.ino l.entry.ino = child_of after fit' verifies' st.met' (record st.file { entries = map (picked_entry picks st.met'.ino) st.file.entries }) (picked_entry picks st.met'.ino l) st.stands' st.read' (In-map (picked_entry picks st.met'.ino) l st.file.entries i) in
+      let new : C after dir n = subst (λ d. C after d n) st.number' (subst (λ j. C after st.met'.ino j) number new0) in
+      entry_is after dir n (writer_of s' n) l.entry.name l.entry.kind new ∙ sym (entry_is image dir n (writer_of s n) l.entry.name l.entry.kind old)
+
+  not_root : (i : Image) (fit : IsFit i.core) (v : Verifies i) (dir : ℕ) (r : Row) → row_at s.home dir ≡ Some r → (n : ℕ) (q : Row) → row_at i n ≡ Some q → q.parent ≡ dir → n ≡ 1 → ⊥
+  not_root i fit v dir r row n q at parent one = live_above dir r row (sym parent ∙ root_above i fit v n q at one)
+
+  there : (dir : ℕ) (r r' : Row) (st : Stays dir r r') (n : ℕ) (q : Row) → row_at s.home n ≡ Some q → q.parent ≡ dir → entry_in dir (node_by after n (writer_of s' n) (row_at after n)) ≡ entry_in dir (node_by image n (writer_of s n) (row_at s.home n))
+  there dir r r' st n q row parent =
+      let l = listing image k.fit k.verifies n q row (not_root image k.fit k.verifies dir r st.row n q row parent) in
+      let same : l.parent ≡ st.met = one_met image.core plain k.fit k.verifies.sound l.parent st.met l.met st.stood (sym l.above ∙ parent ∙ sym st.number) in
+      let file : l.file ≡ st.file = Ok-one (file_of image.core st.met) l.file st.file (ap (file_of image.core) (sym same) ∙ l.read) st.read in
+      listed_both dir r r' st n l.entry (subst (λ (f : FileRead). In l.entry f.entries) file l.listed) l.number
+
+  back : (dir : ℕ) (r r' : Row) (st : Stays dir r r') (n : ℕ) (q : Row) → row_at after n ≡ Some q → q.parent ≡ dir → entry_in dir (node_by after n (writer_of s' n) (row_at after n)) ≡ entry_in dir (node_by image n (writer_of s n) (row_at s.home n))
+  back dir r r' st n q row parent =
+      let l = listing after fit' verifies' n q row (not_root after fit' verifies' dir r st.row n q row parent) in
+      let same : l.parent ≡ st.met' = one_met after.core plain fit' verifies'.sound l.parent st.met' l.met st.stands' (sym l.above ∙ parent ∙ sym st.number') in
+      let file : l.file ≡ record st.file { entries = map (picked_entry picks st.met'.ino) st.file.entries } = Ok-one (file_of after.core st.met') l.file (record st.file { entries = map (picked_entry picks st.met'.ino) st.file.entries }) (ap (file_of after.core) (sym same) ∙ l.read) st.read' in
+      let m = map-In (picked_entry picks st.met'.ino) l.entry st.file.entries (subst (λ (f : FileRead). In l.entry f.entries) file l.listed) in
+      listed_both dir r r' st n m.0 m.1 (sym (ap (λ (x : Listed). x.entry.ino) m.2) ∙ l.number)
+
+  none_in : (dir n : ℕ) (i : Image) (w : Option OpenGrant) (o : Option Row) → ((q : Row) → o ≡ Some q → q.parent ≡ dir → ⊥) → entry_in dir (node_by i n w o) ≡ None
+  none_in dir n i w None h = refl
+  none_in dir n i w (Some q) h = ap (λ t. cond t (Some (name_of i n q, q.kind)) None) (ne_eqb q.parent dir (h q refl))
+
+  in_dir : (dir : ℕ) (o : Option Row) → ((q : Row) × (o ≡ Some q) × (q.parent ≡ dir)) ⊎ ((q : Row) → o ≡ Some q → q.parent ≡ dir → ⊥)
+  in_dir dir None = inr (λ q e p. absurd cc)
+  in_dir dir (Some q) =
+      elim (cases_eq q.parent dir) [
+        | inl same ↦ inl (q, refl, same)
+        | inr differ ↦ inr (λ x f p. differ (ap (λ (y : Row). y.parent) (one_of q x f) ∙ p))
+      ]
+
+  -- each entry of a file that stays is one after it, and the other way round
+  entries_stay : (dir : ℕ) (r r' : Row) → Stays dir r r' → (n : ℕ) → entry_in dir (node_at (nodes_of s') n) ≡ entry_in dir (node_at (nodes_of s) n)
+  entries_stay dir r r' st n =
+      ap (entry_in dir) (is n)
+      ∙ elim (in_dir dir (row_at s.home n)) [
+        | inl q ↦ there dir r r' st n q.0 q.1 q.2
+        | inr none ↦
+            elim (in_dir dir (row_at after n)) [
+              | inl q ↦ back dir r r' st n q.0 q.1 q.2
+              | inr none' ↦ none_in dir n after (writer_of s' n) (row_at after n) none' ∙ sym (none_in dir n image (writer_of s n) (row_at s.home n) none)
+            ]
+      ]
+      ∙ sym (ap (entry_in dir) (was n))
+
+  stays_kind : (n : ℕ) (r r' : Row) (st : Stays n r r') (kind : Kind) → r.kind ≡ kind → bytes_of after n r' (writer_of s' n) kind ≡ bytes_of image n r (writer_of s n) kind
+  stays_kind n r r' st Directory t = refl
+  stays_kind n r r' st Regular t = kept_bytes s s' k k' whole lib h given accepted e marked n r r' st.row st.row' st.follows st.unwritten t
+
+  content_stays : (n : ℕ) (r r' : Row) → Stays n r r' → SameContent (nodes_of s) (nodes_of s') n
+  content_stays n r r' st = record {
+    bytes =
+        ap bytes_in (is n)
+        ∙ ap (λ o. bytes_in (node_by after n (writer_of s' n) o)) st.row'
+        ∙ ap (bytes_of after n r' (writer_of s' n)) st.kind
+        ∙ stays_kind n r r' st r.kind refl
+        ∙ sym (ap (λ o. bytes_in (node_by image n (writer_of s n) o)) st.row)
+        ∙ sym (ap bytes_in (was n));
+    entries = entries_stay n r r' st;
+  }
+
+  -- ---- live nodes
+
+  now_is : (n : ℕ) (o : Option Row) → row_at after n ≡ o → node_at (nodes_of s') n ≡ node_by after n (writer_of s' n) o
+  now_is n o row = is n ∙ ap (node_by after n (writer_of s' n)) row
+
+  unheld_row : (n : ℕ) (r : Row) → row_at s.home n ≡ Some r → is_among n b.holds ≡ false → row_at after n ≡ Some r
+  unheld_row n r row un = unheld_now s k lib (creds_of s lib) b given accepted n r row un
+
+  -- the rights of one that is met after it
+  rights_of : (n : ℕ) (r r' : Row) → row_at s.home n ≡ Some r → row_at after n ≡ Some r' → (t : Bool) → is_among n b.holds ≡ t → (r'.kind ≡ r.kind) × (r'.mode ≡ r.mode) × (r'.uid ≡ r.uid) × (r'.gid ≡ r.gid)
+  rights_of n r r' row row' false un =
+      let same : r ≡ r' = one_of r r' (sym (unheld_row n r row un) ∙ row') in
+      (ap (λ (x : Row). x.kind) (sym same), ap (λ (x : Row). x.mode) (sym same), ap (λ (x : Row). x.uid) (sym same), ap (λ (x : Row). x.gid) (sym same))
+  rights_of n r r' row row' true held =
+      held_rights s k lib (creds_of s lib) b given accepted n r r' (is_among-In n b.holds held) row
+      (sym (row_at_is proposed_core picks (fitP s k lib (creds_of s lib) b given accepted) (soundP s k lib (creds_of s lib) b given accepted) after (record { rows = refl; owners = refl }) n) ∙ row')
+
+  -- ---- grants that stand
+
+  grant_stands : (n : ℕ) (g : OpenGrant) (t : GrantKind) → In g s.open_grants → g.lib ≡ lib → g.ino ≡ n → g.kind ≡ t → same_kind t t ≡ true → stands gs lib n t ≡ true
+  grant_stands n g t i l ino kind refl_kind =
+      list_any-map standing_of (λ (g : Standing). eqb g.lib lib && eqb g.ino n && same_kind g.kind t) s.open_grants
+      ∙ In-list_any (λ (g : OpenGrant). eqb g.lib lib && eqb g.ino n && same_kind g.kind t) g s.open_grants i
+      (and_from (eqb g.lib lib && eqb g.ino n) (same_kind g.kind t)
+      (and_from (eqb g.lib lib) (eqb g.ino n) (eq-eqb g.lib lib l) (eq-eqb g.ino n ino))
+      (ap (λ (x : GrantKind). same_kind x t) kind ∙ refl_kind))
+
+  written_stands : (n : ℕ) → is_written b n ≡ true → stands gs lib n Write ≡ true
+  written_stands n wr =
+      let w = some_of (find (λ (w : Written). eqb w.ino n) b.writes) wr in
+      let f = find-In (λ (w : Written). eqb w.ino n) b.writes w.0 w.1 in
+      let l = given.writes w.0 f.0 in
+      grant_stands n l.grant Write l.is_open l.lib (l.ino ∙ eqb-true w.0.ino n f.1) l.kind refl
+
+  held_stands : (n : ℕ) → is_among n b.holds ≡ true → stands gs lib n Hold ≡ true
+  held_stands n held = (let l = given.holds n (is_among-In n b.holds held) in grant_stands n l.grant Hold l.is_open l.lib l.ino l.kind refl)
+
+  -- a held file's directory is written by its library
+  held_above : (n : ℕ) (r : Row) → row_at s.home n ≡ Some r → is_among n b.holds ≡ true → stands gs lib r.parent Write ≡ true
+  held_above n r row held =
+      let l = given.holds n (is_among-In n b.holds held) in
+      let p = (k.held l.grant l.is_open l.kind).0 in
+      let a : has_parent_grant s lib (Some r) ≡ true = ap (has_parent_grant s lib) (sym row) ∙ ap (λ j. has_parent_grant s lib (row_at s.home j)) (sym l.ino) ∙ ap (λ j. has_parent_grant s j (row_at s.home l.grant.ino)) (sym l.lib) ∙ p in
+      list_any-map standing_of (λ (g : Standing). eqb g.lib lib && eqb g.ino r.parent && same_kind g.kind Write) s.open_grants
+      ∙ any_same (λ (g : OpenGrant). eqb g.lib lib && eqb g.ino r.parent && same_kind g.kind Write) (λ (g : OpenGrant). eqb g.lib lib && eqb g.ino r.parent && is_write g.kind) s.open_grants
+      (λ g i. ap (λ x. eqb g.lib lib && eqb g.ino r.parent && x) (write_same g.kind))
+      ∙ a
+    where
+      write_same : (t : GrantKind) → same_kind t Write ≡ is_write t
+      write_same Read = refl
+      write_same Write = refl
+      write_same Hold = refl
+
+  others_out : (n : ℕ) → is_others gs lib n ≡ true → (is_written b n ≡ false) × (is_among n b.holds ≡ false)
+  others_out n t = (
+    false_from_ne_true (is_written b n) (λ wr. mine (or_left (is_written b n) (is_among n b.holds) wr)),
+    false_from_ne_true (is_among n b.holds) (λ held. mine (or_right (is_written b n) (is_among n b.holds) held)),
+  )
+    where
+      mine : is_in b n ≡ true → ⊥
+      mine wr =
+          let a = list_any-In (λ (g : OpenGrant). not (eqb g.lib lib) && eqb g.ino n) s.open_grants (sym (list_any-map standing_of (λ (g : Standing). not (eqb g.lib lib) && eqb g.ino n) s.open_grants) ∙ t) in
+          let p = and_parts (not (eqb a.0.lib lib)) (eqb a.0.ino n) a.2 in
+          let g = given_grant s k lib b given n wr in
+          let one : g.0 ≡ a.0 = alone s.open_grants g.0 a.0 k.apart g.1 a.1 g.4 (g.3 ∙ sym (eqb-true a.0.ino n p.1)) in
+          let own : eqb a.0.lib lib ≡ true = eq-eqb a.0.lib lib (sym (ap (λ (x : OpenGrant). x.lib) one) ∙ g.2) in
+          both_ways (eqb a.0.lib lib) (not-true (eqb a.0.lib lib) p.0) own
+
+  -- ---- what the release may do
+
+  content_by : (n : ℕ) (x : Node) → node_at (nodes_of s) n ≡ Some x → (t : Bool) → is_written b n ≡ t → (stands gs lib n Write ≡ true) ⊎ ((node_at (nodes_of s') n ≡ None) ⊎ SameContent (nodes_of s) (nodes_of s') n)
+  content_by n x there true wr = inl (written_stands n wr)
+  content_by n x there false un = inr (by (row_at after n) refl)
+    where
+      by : (o : Option Row) → row_at after n ≡ o → (node_at (nodes_of s') n ≡ None) ⊎ SameContent (nodes_of s) (nodes_of s') n
+      by None row' = inl (now_is n None row')
+      by (Some r') row' = (let l = live s k n x there in inr (content_stays n l.row r' (stays_at n l.row r' l.at row' un)))
+
+  has_rights : (n : ℕ) (x : Node) (l : Live s n x) (r' : Row) → row_at after n ≡ Some r' → HasRightsOf x (node_at (nodes_of s') n)
+  has_rights n x l r' row' =
+      let H : Node → Option Node → Type 0 = λ y o. HasRightsOf y o in
+      let r = rights_of n l.row r' l.at row' (is_among n b.holds) refl in
+      subst (λ o. H x o) (sym (now_is n (Some r') row')) (subst (λ y. H y (Some (node_of after n (writer_of s' n) r'))) (sym l.before) r)
+
+  place_by : (n : ℕ) (x : Node) → node_at (nodes_of s) n ≡ Some x → is_among n b.holds ≡ false → HasPlaceOf x (node_at (nodes_of s') n)
+  place_by n x there un =
+      let l = live s k n x there in
+      let H : Node → Option Node → Type 0 = λ y o. HasPlaceOf y o in
+      subst (λ o. H x o) (sym (now_is n (Some l.row) (unheld_row n l.row l.at un))) (subst (λ y. H y (Some (node_of after n (writer_of s' n) l.row))) (sym l.before) refl)
+
+  -- a file whose directory isn't written keeps its name
+  name_stays : (n : ℕ) (r : Row) → row_at s.home n ≡ Some r → row_at after n ≡ Some r → is_written b r.parent ≡ false → name_of after n r ≡ name_of image n r
+  name_stays n r row row' un =
+      elim (cases_eq n 1) [
+        | inl one ↦ name_root after n r one ∙ sym (name_root image n r one)
+        | inr other ↦
+            let l = listing image k.fit k.verifies n r row other in
+            let l' = listing after fit' verifies' n r row' other in
+            let g = read_met image.core plain k.fit k.verifies.sound l.parent l.met in
+            let above : row_at s.home r.parent ≡ Some (row_by l.parent g.0.body) = ap (row_at image) l.above ∙ row_at_is image.core plain k.fit k.verifies.sound image (tables_of image k.fit k.verifies) l.parent.ino ∙ row_met image.core plain k.fit k.verifies.sound l.parent g.0 l.met g.1 in
+            let g' = read_met after.core plain fit' verifies'.sound l'.parent l'.met in
+            let above' : row_at after r.parent ≡ Some (row_by l'.parent g'.0.body) = ap (row_at after) l'.above ∙ row_at_is after.core plain fit' verifies'.sound after (tables_of after fit' verifies') l'.parent.ino ∙ row_met after.core plain fit' verifies'.sound l'.parent g'.0 l'.met g'.1 in
+            let st = stays_at r.parent (row_by l.parent g.0.body) (row_by l'.parent g'.0.body) above above' un in
+            let same = entries_stay r.parent (row_by l.parent g.0.body) (row_by l'.parent g'.0.body) st n in
+            let one = ap (entry_in r.parent) (now_is n (Some r) row') in
+            let two = ap (entry_in r.parent) (was n ∙ ap (node_by image n (writer_of s n)) row) in
+            let here : eqb r.parent r.parent ≡ true = eq-eqb r.parent r.parent refl in
+            let three : entry_in r.parent (Some (node_of after n (writer_of s' n) r)) ≡ Some (name_of after n r, r.kind) = ap (λ t. cond t (Some (name_of after n r, r.kind)) None) here in
+            let four : entry_in r.parent (Some (node_of image n (writer_of s n) r)) ≡ Some (name_of image n r, r.kind) = ap (λ t. cond t (Some (name_of image n r, r.kind)) None) here in
+            let both : Some (name_of after n r, r.kind) ≡ Some (name_of image n r, r.kind) = sym three ∙ sym one ∙ same ∙ two ∙ four in
+            ap (λ (p : List ℕ × Kind). p.0) (one_of (name_of after n r, r.kind) (name_of image n r, r.kind) both)
+      ]
+
+  name_by_cases : (n : ℕ) (x : Node) → node_at (nodes_of s) n ≡ Some x → (t u : Bool) → is_among n b.holds ≡ t → (l : Live s n x) → is_written b l.row.parent ≡ u → (stands gs lib x.parent Write ≡ true) ⊎ HasNameOf x (node_at (nodes_of s') n)
+  name_by_cases n x there true u held l wr = inl (ap (λ (y : Node). stands gs lib y.parent Write) l.before ∙ held_above n l.row l.at held)
+  name_by_cases n x there false true held l wr = inl (ap (λ (y : Node). stands gs lib y.parent Write) l.before ∙ written_stands l.row.parent wr)
+  name_by_cases n x there false false un l wr =
+      let H : Node → Option Node → Type 0 = λ y o. HasNameOf y o in
+      let row' = unheld_row n l.row l.at un in
+      inr (subst (λ o. H x o) (sym (now_is n (Some l.row) row')) (subst (λ y. H y (Some (node_of after n (writer_of s' n) l.row))) (sym l.before) (refl, name_stays n l.row l.at row' wr)))
+
+  new_owner : (n : ℕ) (r : Row) (row : row_at after n ≡ Some r) → row_at s.home n ≡ None → FileIs s k lib (creds_of s lib) b given accepted (at_now n r row).met → (r.uid ≡ (creds_of s lib).uid) × (r.gid ≡ (creds_of s lib).gid)
+  new_owner n r row dead (Stayed q row_q kind body un) = (let wrong : None ≡ Some q = sym dead ∙ ap (row_at image) (sym (at_now n r row).number) ∙ row_q in absurd (cc wrong))
+  new_owner n r row dead (Wrote wr unheld own) =
+      absurd (both_ways (is_written b n) (dead_unwritten s s' k k' whole lib h given accepted e marked n dead) (ap (is_written b) (sym (at_now n r row).number) ∙ wr))
+  new_owner n r row dead (New none owner own) =
+      let at : row_of proposed_core (survey proposed_core picks) n ≡ Some r = sym (row_at_is proposed_core picks (fitP s k lib (creds_of s lib) b given accepted) (soundP s k lib (creds_of s lib) b given accepted) after (record { rows = refl; owners = refl }) n) ∙ row in
+      let has : has_owner (creds_of s lib) (Some r) ≡ true = ap (has_owner (creds_of s lib)) (sym at) ∙ ap (λ j. has_owner (creds_of s lib) (row_of proposed_core (survey proposed_core picks) j)) (sym (at_now n r row).number) ∙ owner in
+      let p = and_parts (eqb r.uid (creds_of s lib).uid) (eqb r.gid (creds_of s lib).gid) has in
+      (eqb-true r.uid (creds_of s lib).uid p.0, eqb-true r.gid (creds_of s lib).gid p.1)
+
+  pub within : IsWithinGrants gs (creds_of s lib) lib (nodes_of s) (nodes_of s')
+  within = record {
+    content = λ n x there. content_by n x there (is_written b n) refl;
+    name = λ n x there. name_by_cases n x there (is_among n b.holds) (is_written b (live s k n x there).row.parent) refl (live s k n x there) refl;
+    place = λ n x there. place_cases n x there (is_among n b.holds) refl;
+    rights = λ n x y there there'. rights_cases n x y there there' (row_at after n) refl;
+    others = λ n x there t.
+        let o = others_out n t in
+        let l = live s k n x there in
+        let row' = unheld_row n l.row l.at o.1 in
+        (has_rights n x l l.row row', place_by n x there o.1, content_stays n l.row l.row (stays_at n l.row l.row l.at row' o.0));
+    new = λ n y none there'. new_cases n y none there' (row_at s.home n) (row_at after n) refl refl;
+  }
+    where
+      place_cases : (n : ℕ) (x : Node) → node_at (nodes_of s) n ≡ Some x → (t : Bool) → is_among n b.holds ≡ t → (stands gs lib n Hold ≡ true) ⊎ HasPlaceOf x (node_at (nodes_of s') n)
+      place_cases n x there true held = inl (held_stands n held)
+      place_cases n x there false un = inr (place_by n x there un)
+
+      rights_cases : (n : ℕ) (x y : Node) → node_at (nodes_of s) n ≡ Some x → node_at (nodes_of s') n ≡ Some y → (o : Option Row) → row_at after n ≡ o → HasRightsOf x (Some y)
+      rights_cases n x y there there' None row = (let wrong : None ≡ Some y = sym (now_is n None row) ∙ there' in absurd (cc wrong))
+      rights_cases n x y there there' (Some r') row = (let H : Option Node → Type 0 = λ o. HasRightsOf x o in subst H there' (has_rights n x (live s k n x there) r' row))
+
+      new_cases : (n : ℕ) (y : Node) → node_at (nodes_of s) n ≡ None → node_at (nodes_of s') n ≡ Some y → (o o' : Option Row) → row_at s.home n ≡ o → row_at after n ≡ o' → (y.uid ≡ (creds_of s lib).uid) × (y.gid ≡ (creds_of s lib).gid)
+      new_cases n y none there' (Some r) o' row row' = (let wrong : Some (node_of image n (writer_of s n) r) ≡ None = sym (was n ∙ ap (node_by image n (writer_of s n)) row) ∙ none in absurd (cc wrong))
+      new_cases n y none there' None None row row' = (let wrong : None ≡ Some y = sym (now_is n None row') ∙ there' in absurd (cc wrong))
+      new_cases n y none there' None (Some r') row row' =
+          let same : node_of after n (writer_of s' n) r' ≡ y = one_of (node_of after n (writer_of s' n) r') y (sym (now_is n (Some r') row') ∙ there') in
+          let o = new_owner n r' row' row (file_is s k lib (creds_of s lib) b given accepted (at_now n r' row').met (at_now n r' row').stands) in
+          (ap (λ (z : Node). z.uid) (sym same) ∙ o.0, ap (λ (z : Node). z.gid) (sym same) ∙ o.1)
+
+  -- ---- the listed blocks
+
+  abbrev these : List RawFile
+  these = raw_files image after b
+
+  abbrev blocks : List RawBlock
+  blocks = raw_blocks image after h these
+
+  told_step : (t : Bool) (x y : RawBlock) (rest : List RawBlock) → In y rest → In y (cond t (x ∷ rest) rest)
+  told_step true x y rest i = inr i
+  told_step false x y rest i = i
+
+  -- a block that is told stands in the list
+  told_has : (n at : ℕ) (pages : List ℕ) (i page : ℕ) → slice_get pages i ≡ Some page → is_block_told image after h n (at + i) page ≡ true → (x : RawBlock) × In x (told_blocks image after h n at pages) × (x.ino ≡ n) × (x.at ≡ at + i)
+  told_has n at [] i page get t = absurd cc
+  told_has n at (p ∷ ps) zero page get t =
+      let same : p ≡ page = one_of p page get in
+      let e : at + 0 ≡ at = omega arith in
+      let x : RawBlock = record { ino = n; at = at; bytes = unwrap_or (page_of after.core p) [] } in
+      let told : is_block_told image after h n at p ≡ true = ap (is_block_told image after h n at) same ∙ ap (λ m. is_block_told image after h n m page) (sym e) ∙ t in
+      (x, subst (λ l. In x l) (sym (ap (λ q. cond q (x ∷ told_blocks image after h n (at + 1) ps) (told_blocks image after h n (at + 1) ps)) told)) (inl refl), refl, sym e)
+  told_has n at (p ∷ ps) (suc i) page get t =
+      let e : at + suc i ≡ (at + 1) + i = omega arith in
+      let r = told_has n (at + 1) ps i page get (ap (λ m. is_block_told image after h n m page) (sym e) ∙ t) in
+      (r.0, told_step (is_block_told image after h n at p) (record { ino = n; at = at; bytes = unwrap_or (page_of after.core p) [] }) r.0 (told_blocks image after h n (at + 1) ps) r.1, r.2, r.3 ∙ sym e)
+
+  old_size : (n : ℕ) (q : Row) → row_at s.home n ≡ Some q → q.kind ≡ Regular → length (bytes_in (node_at (nodes_of s) n)) ≡ size_of image n
+  old_size n q row regular =
+      ap (λ o. length (bytes_in o)) (was n ∙ ap (node_by image n (writer_of s n)) row)
+      ∙ ap (λ t. length (bytes_of image n q (writer_of s n) t)) regular
+      ∙ old_long s k whole n q row
+
+  -- a position within the size has its block
+  has_block : (n : ℕ) (r : Row) (row : row_at after n ≡ Some r) (at : ℕ) → 4096 * at < size_of after n → (page : ℕ) × (slice_get (block_numbers after n (row_at after n)) at ≡ Some page)
+  has_block n r row at inside =
+      let w = at_now n r row in
+      let size = size_now s s' k k' whole lib h given accepted e marked n r row in
+      let numbers = numbers_now s s' k k' whole lib h given accepted e marked n r row in
+      let c = (chain_count proposed_core w.file.body w.file.chain (reads_from proposed_core w.met w.file w.read).chain).0 in
+      let g = get_there w.file.chain.blocks at (omega (arith, c, inside, size)) in
+      (g.0, ap (λ l. slice_get l at) numbers ∙ g.1)
+    where
+      get_there : (xs : List ℕ) (i : ℕ) → i < length xs → (x : ℕ) × (slice_get xs i ≡ Some x)
+      get_there [] i l = absurd (omega arith)
+      get_there (x ∷ xs) zero l = (x, refl)
+      get_there (x ∷ xs) (suc i) l = get_there xs i (omega arith)
+
+  listed_in : (n : ℕ) (f : RawFile) → In f these → f.ino ≡ n → f.kind ≡ Regular → f.gone ≡ false → (at page : ℕ) → slice_get (block_numbers after n (row_at after n)) at ≡ Some page → is_block_told image after h n at page ≡ true → is_listed blocks f.ino at ≡ true
+  listed_in n f i number regular there at page get t =
+      let zero_i : 0 + at ≡ at = omega arith in
+      let x = told_has n 0 (block_numbers after n (row_at after n)) at page get (ap (λ m. is_block_told image after h n m page) zero_i ∙ t) in
+      let own : told_blocks_of image after h f f.kind ≡ told_blocks image after h n 0 (block_numbers after n (row_at after n)) =
+      ap (told_blocks_of image after h f) regular
+      ∙ ap (λ q. cond q [] (told_blocks image after h f.ino 0 (block_numbers after f.ino (row_at after f.ino)))) there
+      ∙ ap (λ m. told_blocks image after h m 0 (block_numbers after m (row_at after m))) number in
+      let mine : In x.0 blocks = In-flat (λ f. told_blocks_of image after h f f.kind) f x.0 these i (subst (λ l. In x.0 l) (sym own) x.1) in
+      In-list_any (λ (y : RawBlock). eqb y.ino f.ino && eqb y.at at) x.0 blocks mine
+      (and_from (eqb x.0.ino f.ino) (eqb x.0.at at) (eq-eqb x.0.ino f.ino (x.2 ∙ sym number)) (eq-eqb x.0.at at (x.3 ∙ zero_i)))
+
+  abbrev Known : RawFile → Type 0
+  Known f = BlocksAreKnown blocks f (node_at (nodes_of s) f.ino)
+
+  -- a file that is there after the release
+  known_there : (n : ℕ) (r : Row) (f : RawFile) → row_at after n ≡ Some r → told_file after b n false r ≡ f → In f these → Known f
+  known_there n r f row same i at regular inside =
+      let number : f.ino ≡ n = sym (ap (λ (x : RawFile). x.ino) same) in
+      let size : f.size ≡ size_of after n = sym (ap (λ (x : RawFile). x.size) same) in
+      let there : f.gone ≡ false = sym (ap (λ (x : RawFile). x.gone) same) in
+      let kind : r.kind ≡ Regular = ap (λ (x : RawFile). x.kind) same ∙ regular in
+      let p = has_block n r row at (omega (arith, inside, size)) in
+      by number size there kind p.0 p.1 (is_block_told image after h n at p.0) refl
+    where
+      by : f.ino ≡ n → f.size ≡ size_of after n → f.gone ≡ false → r.kind ≡ Regular → (page : ℕ) → slice_get (block_numbers after n (row_at after n)) at ≡ Some page → (t : Bool) → is_block_told image after h n at page ≡ t → (is_listed blocks f.ino at ≡ true) ⊎ (min f.size (4096 * at + 4096) ≤ length (bytes_in (node_at (nodes_of s) f.ino)))
+      by number size there kind page get true t = inl (listed_in n f i number regular there at page get t)
+      by number size there kind page get false t =
+          let u = unlisted_is image after h n at page t in
+          inr (old (row_at s.home n) refl u.same u.counted)
+        where
+          old : (o : Option Row) → row_at s.home n ≡ o → slice_get (block_numbers image n (row_at image n)) at ≡ Some page → min (size_of after n) (4096 * at + 4096) ≤ size_of image n → min f.size (4096 * at + 4096) ≤ length (bytes_in (node_at (nodes_of s) f.ino))
+          old None dead found counted = (let wrong : slice_get (block_numbers image n None) at ≡ Some page = ap (λ o. slice_get (block_numbers image n o) at) (sym dead) ∙ found in absurd (cc wrong))
+          old (Some q) live found counted =
+              let was_kind : q.kind ≡ Regular = sym (rights_of n q r live row (is_among n b.holds) refl).0 ∙ kind in
+              let l : length (bytes_in (node_at (nodes_of s) f.ino)) ≡ size_of image n = ap (λ m. length (bytes_in (node_at (nodes_of s) m))) number ∙ old_size n q live was_kind in
+              omega (arith, l, counted, size)
+
+  -- one that is gone
+  known_gone : (n : ℕ) (q : Row) (f : RawFile) → row_at s.home n ≡ Some q → told_file image b n true q ≡ f → Known f
+  known_gone n q f row same at regular inside =
+      let number : f.ino ≡ n = sym (ap (λ (x : RawFile). x.ino) same) in
+      let size : f.size ≡ size_of image n = sym (ap (λ (x : RawFile). x.size) same) in
+      let kind : q.kind ≡ Regular = ap (λ (x : RawFile). x.kind) same ∙ regular in
+      let l : length (bytes_in (node_at (nodes_of s) f.ino)) ≡ size_of image n = ap (λ m. length (bytes_in (node_at (nodes_of s) m))) number ∙ old_size n q row kind in
+      inr (omega (arith, l, size))
+
+  known_by : (n : ℕ) (f : RawFile) (t : Bool) (o o' : Option Row) → row_at s.home n ≡ o → row_at after n ≡ o' → cond t (told_by image after b n o o') None ≡ Some f → In f these → Known f
+  known_by n f false o o' row row' q i = absurd cc
+  known_by n f true None None row row' q i = absurd cc
+  known_by n f true None (Some r) row row' q i = known_there n r f row' (one_of (told_file after b n false r) f q) i
+  known_by n f true (Some z) (Some r) row row' q i = known_there n r f row' (one_of (told_file after b n false r) f q) i
+  known_by n f true (Some z) None row row' q i = known_gone n z f row (one_of (told_file image b n true z) f q)
+
+  known_at : (f : RawFile) → In f these → Known f
+  known_at f i =
+      let q = files_from (raw_file image after b) (count_up 1 s.home.core.inodes) f i in
+      known_by q.0 f (is_told image after b q.0) (row_at s.home q.0) (row_at after q.0) refl refl q.1 i
+
+  all_files : (P : RawFile → Type 0) (xs : List RawFile) → ((f : RawFile) → In f xs → P f) → AllByRecursion P xs
+  all_files P [] h = tt
+  all_files P (x ∷ xs) h = (h x (inl refl), all_files P xs (λ f i. h f (inr i)))
+
+  pub accepted_makes : Makes s (Release lib b) Accepted s' (raw_entry image lib h IsAccepted after)
+  accepted_makes = record {
+    legal = record {
+      given = λ n. given_is s k lib b given after n ∙ sym (handed_is h n);
+      within = subst (λ (ns : Nodes). IsWithinGrants gs (creds_of s lib) lib (nodes_of s) ns) (accepted_nodes s s' k k' whole lib h given accepted e marked) within;
+      judged = tt;
+      known = all_files Known these known_at;
+    };
+    comes = past_is s' (raw_nodes blocks these (nodes_of s)) (filter (λ (g : Standing). not (eqb g.lib lib && is_given these g.ino)) gs) (s.entries + 1) (accepted_nodes s s' k k' whole lib h given accepted e marked) (grants_end s k lib b given after s' e.grants) e.entries;
+    tells = refl;
+    says = refl;
+  }

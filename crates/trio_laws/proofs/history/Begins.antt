@@ -1,0 +1,32 @@
+-- A history begins, and is legal.
+use Rattle.std.proofs.Common.{◌≡◌, ℕ, suc, ◌+◌, List, [], ◌∷◌, length, sym, refl, ap, subst, arith}
+use Rattle.trio_rights.specs.declared.rights.Creds.{Creds}
+use Rattle.trio_state.specs.Run.{start}
+use Rattle.trio_laws.proofs.Runs.{start_kept}
+use Rattle.trio_nodes.specs.declared.entry.Entry.{Entry}
+use Rattle.trio_nodes.specs.Nodes.{Nodes}
+use Rattle.trio_nodes.specs.Legal.{Past, Legal, LegalFrom, past_after, beginning}
+use Rattle.trio_laws.specs.history.Stands.{nodes_of, past_of}
+use Rattle.trio_laws.specs.history.HistoryLaws.{HistoryBegins, HistoryIsLegal}
+
+pub history_begins : HistoryBegins
+history_begins image creds fit v whole =
+    record { kept = start_kept image creds fit v whole; whole = λ g x i j. absurd i; stands = refl; legal = refl; replays = refl }
+
+-- a log counts its entries
+count_from : (libs : List Creds) (p : Past) (es : List Entry) (q : Past) → LegalFrom libs p es q → p.entries + length es ≡ q.entries
+count_from libs p [] q h = (let e : q.entries ≡ p.entries = ap (λ (x : Past). x.entries) h in let none : List Entry = [] in let z : length none ≡ 0 = refl in omega (arith, e, z))
+count_from libs p (e ∷ es) q h =
+    let r = count_from libs (past_after libs p e) es q h.1 in
+    let l : length (e ∷ es) ≡ suc (length es) = refl in
+    omega (arith, r, l)
+
+pub history_is_legal : HistoryIsLegal
+history_is_legal r i =
+    let libs : List Creds = r.state.creds in
+    let first : Nodes = nodes_of (start r.first libs) in
+    let n : length r.log ≡ r.state.entries = (let c = count_from libs (beginning first) r.log (past_of r.state) i.legal in omega (arith, c)) in
+    let L : ℕ → Type 0 = λ m. LegalFrom libs (beginning first) r.log (record { nodes = nodes_of r.state; grants = (past_of r.state).grants; entries = m }) in
+    let legal : Legal first libs r.log (nodes_of r.state) = record { grants = (past_of r.state).grants; each = subst L (sym n) i.legal } in
+    let H : Nodes → Type 0 = λ x. Legal first libs r.log x in
+    (subst H (sym i.stands) legal, n)

@@ -1,0 +1,43 @@
+-- What is to be shown of a step: it makes no entry and changes nothing, or it makes one that is legal and comes to the state after it.
+use Rattle.std.proofs.Common.{◌≡◌, ℕ, List, [], ◌∷◌, map, Option, Some, None, refl, ap, ◌∙◌}
+use Rattle.trio_state.specs.State.{OpenGrant, State}
+use Rattle.trio_state.specs.Bundles.{lent_part}
+use Rattle.trio_state.specs.Step.{Event, CtlAnswer}
+use Rattle.trio_nodes.specs.declared.entry.Entry.{Entry}
+use Rattle.trio_nodes.specs.Standing.{Standing}
+use Rattle.trio_nodes.specs.Nodes.{Nodes}
+use Rattle.trio_nodes.specs.Legal.{IsLegal, past_after}
+use Rattle.trio_laws.specs.history.Stands.{nodes_of, past_of, standing_of}
+use Rattle.trio_laws.specs.history.Entries.{Beside, entry_of, event_of, answer_of}
+
+-- the entry is legal in this state, tells of this event and answer, and comes to the state after it
+pub record Makes (s : State) (event : Event) (answer : CtlAnswer) (s' : State) (e : Entry) : Type 0 where
+  pub legal : IsLegal s.creds (past_of s) e
+  pub comes : past_of s' ≡ past_after s.creds (past_of s) e
+  pub tells : event_of e ≡ event
+  pub says : answer_of e ≡ answer
+
+-- what comes of an event and its answer, by the entry that they make
+abbrev pub Comes' : State → Event → CtlAnswer → State → Option Entry → Type 0
+Comes' s event answer s' None = s' ≡ s
+Comes' s event answer s' (Some e) = Makes s event answer s' e
+
+abbrev pub Extends : State → Beside → Event → CtlAnswer → State → Type 0
+Extends s x event answer s' = Comes' s event answer s' (entry_of s x event answer)
+
+-- a past by its parts
+pub past_is : (s' : State) (nodes : Nodes) (grants : List Standing) (entries : ℕ) → nodes_of s' ≡ nodes → (past_of s').grants ≡ grants → s'.entries ≡ entries → past_of s' ≡ record { nodes = nodes; grants = grants; entries = entries }
+past_is s' nodes grants entries a b c =
+    ap (λ (x : Nodes). record { nodes = x; grants = (past_of s').grants; entries = s'.entries }) a
+    ∙ ap (λ (x : List Standing). record { nodes = nodes; grants = x; entries = s'.entries }) b
+    ∙ ap (λ (x : ℕ). record { nodes = nodes; grants = grants; entries = x }) c
+
+-- what stands of grants goes by what they are but for their checkpoints
+pub standing_lent : (gs hs : List OpenGrant) → map lent_part gs ≡ map lent_part hs → map standing_of gs ≡ map standing_of hs
+standing_lent [] [] e = refl
+standing_lent [] (h ∷ hs) e = absurd cc
+standing_lent (g ∷ gs) [] e = absurd cc
+standing_lent (g ∷ gs) (h ∷ hs) e =
+    let one : lent_part g ≡ lent_part h = cc e in
+    let rest : map lent_part gs ≡ map lent_part hs = cc e in
+    ap (λ (x : OpenGrant). standing_of x ∷ map standing_of gs) one ∙ ap (λ l. standing_of h ∷ l) (standing_lent gs hs rest)

@@ -1,0 +1,139 @@
+-- Each step changes the nodes within the grants of its library, or it changes a mode.
+use Rattle.std.proofs.Common.{◌≡◌, ℕ, true, List, [], ◌∷◌, map, Option, Some, None, Result, Ok, Err, refl, sym, ap, ◌∙◌, subst, inl, inr, ◌⊎◌}
+use Rattle.trio_rights.specs.declared.rights.Creds.{Creds}
+use Rattle.trio_rights.specs.Bundle.{Written, Bundle}
+use Rattle.trio_rights.specs.Sheets.{Sheet}
+use Rattle.trio_lists.specs.Lists.{In}
+use Rattle.trio_lists.proofs.Members.{map-In}
+use Rattle.trio_nodes.specs.declared.entry.Entry.{Entry}
+use Rattle.trio_nodes.specs.declared.entry.Entry.TheVariants.{Grant as GrantEntry, Allot as AllotEntry, Back as BackEntry, Raw, Batch, Mode}
+use Rattle.trio_nodes.specs.declared.entry.Handed.{Handed}
+use Rattle.trio_nodes.specs.declared.entry.HandedFile.{HandedFile}
+use Rattle.trio_nodes.specs.declared.entry.HandedPage.{HandedPage}
+use Rattle.trio_nodes.specs.Nodes.{Nodes}
+use Rattle.trio_nodes.specs.Standing.{Standing}
+use Rattle.trio_nodes.specs.declared.answers.ModeFault.{ModeFault}
+use Rattle.trio_nodes.specs.Legal.{Past, HasNameOf, HasPlaceOf, HasRightsOf, IsWithinGrants, LegalChmod}
+use Rattle.trio_state.specs.Given.{GivenEvent}
+use Rattle.trio_state.specs.Kept.{Kept}
+use Rattle.trio_state.specs.State.{State, creds_of}
+use Rattle.trio_state.specs.Step.{Event, Grant, Allot, Back, Release, Settle, SetMode, CtlAnswer, Step}
+use Rattle.trio_laws.specs.Laws.{library_of}
+use Rattle.trio_laws.proofs.Runs.{step_kept}
+use Rattle.trio_laws.specs.history.Stands.{nodes_of, past_of, standing_of}
+use Rattle.trio_laws.specs.history.Entries.{Beside, sheet_handed, written_handed, bundle_handed, entry_of}
+use Rattle.trio_laws.specs.history.Recorded.{LentWhole, IsMarked, BesideFits}
+use Rattle.trio_laws.specs.history.HistoryLaws.{IsModeChange, StepsAreIsolated}
+use Rattle.trio_laws.proofs.history.Extends.{Makes, Comes'}
+use Rattle.trio_laws.proofs.history.Grows.{step_extends}
+use Rattle.trio_laws.proofs.history.SettleStep.{settle_within}
+
+-- ---- a bundle of which each page is marked
+
+abbrev page_touched : Sheet → HandedPage
+page_touched x = record { no = x.page; bytes = x.bytes; touched = true }
+
+abbrev file_touched : Written → HandedFile
+file_touched w = record { ino = w.ino; kind = w.kind; body = w.body; index = map page_touched w.index; blocks = map page_touched w.blocks }
+
+abbrev all_touched : Bundle → Handed
+all_touched b = record { writes = map file_touched b.writes; holds = b.holds; pages = map page_touched b.pages; numbers = b.numbers }
+
+pages_back : (xs : List Sheet) → map sheet_handed (map page_touched xs) ≡ xs
+pages_back [] = refl
+pages_back (x ∷ xs) = ap (λ l. x ∷ l) (pages_back xs)
+
+file_back : (w : Written) → written_handed (file_touched w) ≡ w
+file_back w =
+    ap (λ (l : List Sheet). record w { index = l; blocks = map sheet_handed (map page_touched w.blocks) }) (pages_back w.index)
+    ∙ ap (λ (l : List Sheet). record w { blocks = l }) (pages_back w.blocks)
+
+files_back : (ws : List Written) → map written_handed (map file_touched ws) ≡ ws
+files_back [] = refl
+files_back (w ∷ ws) = ap (λ (x : Written). x ∷ map written_handed (map file_touched ws)) (file_back w) ∙ ap (λ l. w ∷ l) (files_back ws)
+
+bundle_back : (b : Bundle) → bundle_handed (all_touched b) ≡ b
+bundle_back b =
+    ap (λ (l : List Written). record b { writes = l; pages = map sheet_handed (map page_touched b.pages) }) (files_back b.writes)
+    ∙ ap (λ (l : List Sheet). record b { pages = l }) (pages_back b.pages)
+
+-- so nothing is asked of what was lent
+all_marked : (s : State) (lib : ℕ) (b : Bundle) (f : HandedFile) → In f (all_touched b).writes → IsMarked s lib f
+all_marked s lib b f i g p open_grant mine own j =
+    let w = map-In file_touched f b.writes i in
+    let q = map-In page_touched p w.0.blocks (subst (λ (z : HandedFile). In p z.blocks) w.2 j) in
+    inl (ap (λ (z : HandedPage). z.touched) q.2)
+
+-- ---- by the entry
+
+-- nodes that stay are within any grants
+within_same : (grants : List Standing) (creds : Creds) (lib : ℕ) (nodes : Nodes) → IsWithinGrants grants creds lib nodes nodes
+within_same grants creds lib nodes = record {
+  content = λ n x at. inr (inr (record { bytes = refl; entries = λ m. refl }));
+  name = λ n x at. inr (subst (HasNameOf x) (sym at) (refl, refl));
+  place = λ n x at. inr (subst (HasPlaceOf x) (sym at) refl);
+  rights = λ n x y at at'. subst (HasRightsOf x) (sym at ∙ at') (refl, refl, refl, refl);
+  others = λ n x at other. (subst (HasRightsOf x) (sym at) (refl, refl, refl, refl), subst (HasPlaceOf x) (sym at) refl, record { bytes = refl; entries = λ m. refl });
+  new = λ n y none at. (let wrong : None ≡ Some y = sym none ∙ at in absurd (cc wrong));
+}
+
+abbrev Within : State → Event → Nodes → Type 0
+Within s event nodes = IsWithinGrants (map standing_of s.open_grants) (creds_of s (library_of event)) (library_of event) (nodes_of s) nodes
+
+abbrev Isolated : State → Event → State → Type 0
+Isolated s event s' = Within s event (nodes_of s') ⊎ IsModeChange s event s'
+
+stays : (s : State) (event : Event) (s' : State) → nodes_of s' ≡ nodes_of s → Isolated s event s'
+stays s event s' same = inl (subst (Within s event) (sym same) (within_same (map standing_of s.open_grants) (creds_of s (library_of event)) (library_of event) (nodes_of s)))
+
+module _ (s : State) (answer : CtlAnswer) (s' : State) where
+  abbrev IsSettle : Event → Type 0
+  IsSettle event = (lib : ℕ) (b : Bundle) → Settle lib b ≡ event → Within s event (nodes_of s')
+
+  by_entry : (e : Entry) (event : Event) → Makes s event answer s' e → IsSettle event → Isolated s event s'
+  by_entry (GrantEntry lib ino kind given) event m settles = stays s event s' (ap (λ (p : Past). p.nodes) m.comes)
+  by_entry (AllotEntry lib pages inodes given) event m settles = stays s event s' (ap (λ (p : Past). p.nodes) m.comes)
+  by_entry (BackEntry lib ino) event m settles = stays s event s' (ap (λ (p : Past). p.nodes) m.comes)
+  by_entry (Raw lib verdict files blocks handed) event m settles =
+      let I : Event → Type 0 = λ x. Isolated s x s' in
+      subst I m.tells (inl (subst (Within s (Release lib.0 (bundle_handed handed))) (sym (ap (λ (p : Past). p.nodes) m.comes)) m.legal.within))
+  by_entry (Batch lib calls handed) event m settles = inl (settles lib.0 (bundle_handed handed) m.tells)
+  by_entry (Mode lib ino mode (Ok done) call) event m settles =
+      let I : Event → Type 0 = λ x. Isolated s x s' in
+      subst I m.tells (inr (record { ino = ino; mode = mode; is = refl; owner = m.legal.0.0; nodes = ap (λ (p : Past). p.nodes) m.comes }))
+  by_entry (Mode lib ino mode (Err fault) call) event m settles = stays s event s' (ap (λ (p : Past). p.nodes) m.comes)
+
+  by_option : (o : Option Entry) (event : Event) → Comes' s event answer s' o → IsSettle event → Isolated s event s'
+  by_option None event same settles = stays s event s' (ap nodes_of same)
+  by_option (Some e) event m settles = by_entry e event m settles
+
+-- ---- by the event
+
+abbrev bare : Bundle → Beside
+bare b = record { handed = all_touched b; calls = []; call = None }
+
+abbrev empty : Bundle
+empty = record { writes = []; holds = []; pages = []; numbers = [] }
+
+no_call : (s : State) (creds : Creds) (ino mode : ℕ) (said : Result (Unit {0}) ModeFault) → LegalChmod (past_of s) creds ino mode said None
+no_call s creds ino mode (Ok done) = tt
+no_call s creds ino mode (Err fault) = tt
+
+module _ (s : State) (k : Kept s) (w : LentWhole s) (answer : CtlAnswer) (s' : State) where
+  by_step : (x : Beside) (event : Event) → GivenEvent s event → Step s event answer s' → BesideFits s x event answer s' → IsSettle s answer s' event → Isolated s event s'
+  by_step x event given step fits settles =
+      by_option s answer s' (entry_of s x event answer) event (step_extends s x event answer s' k w given step fits) settles
+
+  isolated : (event : Event) → GivenEvent s event → Step s event answer s' → Isolated s event s'
+  isolated (Grant lib ino kind) given step = by_step (bare empty) (Grant lib ino kind) given step tt (λ l b e. absurd cc)
+  isolated (Allot lib count many) given step = by_step (bare empty) (Allot lib count many) given step tt (λ l b e. absurd cc)
+  isolated (Back lib ino) given step = by_step (bare empty) (Back lib ino) given step tt (λ l b e. absurd cc)
+  isolated (Release lib b) given step = by_step (bare b) (Release lib b) given step (bundle_back b, all_marked s lib b) (λ l c e. absurd cc)
+  isolated (Settle lib b) given (inl does) =
+      inl (settle_within s s' k (step_kept s s' (Settle lib b) answer k given (inl does)) w lib b (all_touched b) (bundle_back b) (all_marked s lib b) given.0 does.2 does.3)
+  isolated (Settle lib b) given (inr none) = stays s (Settle lib b) s' (ap nodes_of none.2)
+  isolated (SetMode lib ino mode) given step =
+      by_step (bare empty) (SetMode lib ino mode) given step (λ said is. no_call s (creds_of s lib) ino mode said) (λ l b e. absurd cc)
+
+pub steps_are_isolated : StepsAreIsolated
+steps_are_isolated r event answer s' i given step = isolated r.state i.kept i.whole answer s' event given step

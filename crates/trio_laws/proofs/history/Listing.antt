@@ -1,0 +1,146 @@
+-- Where a live file is listed in an image that verifies, and what its name and its chain are.
+use Rattle.std.proofs.Common.{◌≡◌, ℕ, Bool, true, false, cond, ◌&&◌, eqb, take, List, [], ◌∷◌, Some, Ok, sym, refl, ap, ◌∙◌, subst, inl, inr}
+use Rattle.std.specs.Option.{option_map_or}
+use Rattle.std.specs.Str.{bytes_eq}
+use Rattle.std.proofs.lemmas.Bool.{ne_eqb, and_parts, false≢true}
+use Rattle.std.specs.Prelude.{nat_lt, nat_le}
+use Rattle.trio_names.specs.Name.{is_name}
+use Rattle.trio_rights.specs.Row.{Row}
+use Rattle.trio_rights.specs.declared.kind.Kind.{Kind}
+use Rattle.trio_rights.specs.declared.kind.Kind.TheVariants.{Regular, Directory}
+use Rattle.trio_layout.specs.declared.slot.EntryPart.{EntryPart}
+use Rattle.trio_layout.specs.declared.slot.SlotRead.TheVariants.{Empty, Entry, Bad}
+use Rattle.trio_layout.specs.Body.{body_of}
+use Rattle.trio_layout.specs.Chain.{chain_of}
+use Rattle.trio_layout.specs.Slot.{slot_of, entry_at, entry_bytes, entry_fits}
+use Rattle.trio_layout.specs.Core.{Core, page_of, nowhere}
+use Rattle.trio_lists.specs.Lists.{there_or, In, result_then}
+use Rattle.trio_layout.specs.Entries.{Listed, slot_bytes, entries_of_kind}
+use Rattle.trio_layout.specs.Survey.{Met, plain, FileRead, file_of, survey, children}
+use Rattle.trio_layout.specs.Pages.{settled_chain}
+use Rattle.trio_layout.specs.Image.{IsFit, Image, row_at, settled_body}
+use Rattle.trio_layout.specs.Verifies.{Verifies}
+use Rattle.trio_surveys.specs.Reading.{pages_read}
+use Rattle.trio_surveys.proofs.Images.{TablesOf, MetAt, row_at_is, met_row, root_or_listed, settled_body_met}
+use Rattle.trio_surveys.proofs.Local.{reads_from}
+use Rattle.trio_lists.proofs.Members.{In-right, flat_map-In}
+use Rattle.trio_surveys.proofs.Tree.{child_from, child_placed}
+use Rattle.trio_laws.specs.history.Stands.{name_in, name_of}
+
+-- a file that isn't the root is listed by a directory, on one of its blocks
+pub record Listing (core : Core) (n : ℕ) (r : Row) : Type 0 where
+  pub parent : Met
+  pub file : FileRead
+  pub entry : Listed
+  pub met : In parent (survey core plain)
+  pub read : file_of core parent ≡ Ok file
+  pub listed : In entry file.entries
+  pub number : entry.entry.ino ≡ n
+  pub above : r.parent ≡ parent.ino
+  pub page : r.page ≡ entry.page
+  pub slot : r.slot ≡ entry.slot
+  pub directory : parent.kind ≡ Directory
+  pub block : In r.page file.chain.blocks
+  pub bytes : List ℕ
+  pub there : page_of core r.page ≡ Some bytes
+  pub says : slot_of core.inodes (slot_bytes r.slot bytes) ≡ Entry entry.entry
+
+-- what a slot says is the entry at the places of the fields
+said_entry : (a b : Bool) (e x : EntryPart) → cond a Empty (cond b (Entry e) Bad) ≡ Entry x → e ≡ x
+said_entry true b e x h = absurd cc
+said_entry false true e x h = cc h
+said_entry false false e x h = absurd cc
+
+pub slot_entry : (inodes : ℕ) (bytes : List ℕ) (x : EntryPart) → slot_of inodes bytes ≡ Entry x → entry_at bytes ≡ x
+unfolding slot_of
+slot_entry inodes bytes x h =
+    let e = entry_at bytes in
+    said_entry (eqb e.ino 0) (bytes_eq (take 192 bytes) (entry_bytes e) && entry_fits inodes e) e x h
+
+-- and its name isn't empty
+said_named : (inodes : ℕ) (a : Bool) (p : Bool) (e x : EntryPart) → cond a Empty (cond (p && entry_fits inodes e) (Entry e) Bad) ≡ Entry x → (e ≡ x) × (entry_fits inodes e ≡ true)
+said_named inodes true p e x h = absurd cc
+said_named inodes false p e x h = by (p && entry_fits inodes e) refl h
+  where
+    by : (t : Bool) → (p && entry_fits inodes e) ≡ t → cond t (Entry e) Bad ≡ Entry x → (e ≡ x) × (entry_fits inodes e ≡ true)
+    by true t h = (cc h, (and_parts p (entry_fits inodes e) t).1)
+    by false t h = absurd cc
+
+pub slot_named : (inodes : ℕ) (bytes : List ℕ) (x : EntryPart) → slot_of inodes bytes ≡ Entry x → x.name ≡ [] → ⊥
+unfolding slot_of
+slot_named inodes bytes x h none =
+    let e = entry_at bytes in
+    let s = said_named inodes (eqb e.ino 0) (bytes_eq (take 192 bytes) (entry_bytes e)) e x h in
+    let name : is_name x.name ≡ true = ap (λ (y : EntryPart). is_name y.name) (sym s.0) ∙ (and_parts (nat_lt 0 e.ino && nat_le e.ino inodes) (is_name e.name) s.1).1 in
+    false≢true (ap is_name (sym none) ∙ name)
+
+-- what lists is a directory
+lists : (core : Core) (kind : Kind) (blocks : List ℕ) (es : List Listed) (l : Listed) → entries_of_kind core kind blocks ≡ Ok es → In l es → kind ≡ Directory
+lists core Directory blocks es l e i = refl
+lists core Regular blocks es l e i =
+    let none : [] ≡ es = cc e in
+    let M : List Listed → Type 0 = λ xs. In l xs in absurd (subst M (sym none) i)
+
+module _ (image : Image) (fit : IsFit image.core) (v : Verifies image) where
+  pub tables_of : TablesOf image image.core plain
+  tables_of = record { rows = v.rows; owners = v.owners }
+
+  -- the file of a live number
+  pub met_at : (n : ℕ) (r : Row) → row_at image n ≡ Some r → MetAt image.core plain n r
+  met_at n r e = met_row image.core plain fit v.sound n r (sym (row_at_is image.core plain fit v.sound image tables_of n) ∙ e)
+
+  pub body_met : (n : ℕ) (r : Row) (e : row_at image n ≡ Some r) → settled_body image n ≡ (met_at n r e).met.body
+  body_met n r e =
+      let m = met_at n r e in
+      ap (settled_body image) (sym m.number) ∙ settled_body_met image m.met fit v.sound tables_of m.stands
+
+  pub chain_met : (n : ℕ) (r : Row) (e : row_at image n ≡ Some r) → settled_chain image r.kind n ≡ Ok (met_at n r e).file.chain
+  chain_met n r e =
+      let m = met_at n r e in
+      let f = reads_from image.core m.met m.file m.read in
+      ap (λ kind. settled_chain image kind n) (ap (λ (x : Row). x.kind) m.row)
+      ∙ ap (λ b. result_then (chain_of image.core) (there_or nowhere (body_of m.met.kind image.core.range b))) (body_met n r e)
+      ∙ ap (λ o. result_then (chain_of image.core) (there_or nowhere o)) f.body
+      ∙ f.chain
+
+  pub listing : (n : ℕ) (r : Row) → row_at image n ≡ Some r → (n ≡ 1 → ⊥) → Listing image.core n r
+  listing n r e other =
+      let m = met_at n r e in
+      elim (root_or_listed image.core plain fit v.sound m.met m.stands) [
+        | inl root ↦ absurd (other (sym m.number ∙ ap (λ (x : Met). x.ino) root))
+        | inr j ↦
+            let q = flat_map-In (children image.core plain) m.met (survey image.core plain) j in
+            let c = child_from image.core plain q.0 m.met q.2 in
+            let pl = child_placed image.core plain q.0 m.met c in
+            let page : r.page ≡ c.entry.page = ap (λ (x : Row). x.page) m.row ∙ ap (λ (x : Met). x.page) c.is in
+            let slot : r.slot ≡ c.entry.slot = ap (λ (x : Row). x.slot) m.row ∙ ap (λ (x : Met). x.slot) c.is in
+            record {
+              parent = q.0;
+              file = c.file;
+              entry = c.entry;
+              met = q.1;
+              read = c.read;
+              listed = c.listed;
+              number = sym (ap (λ (x : Met). x.ino) c.is) ∙ m.number;
+              above = ap (λ (x : Row). x.parent) m.row ∙ ap (λ (x : Met). x.parent) c.is;
+              page = page;
+              slot = slot;
+              directory = lists image.core q.0.kind c.file.chain.blocks c.file.entries c.entry (reads_from image.core q.0 c.file c.read).entries c.listed;
+              block = subst (λ p. In p c.file.chain.blocks) (sym page) pl.block;
+              bytes = pl.bytes;
+              there = ap (page_of image.core) page ∙ pl.page;
+              says = ap (λ s. slot_of image.core.inodes (slot_bytes s pl.bytes)) slot ∙ pl.says;
+            }
+      ]
+
+  -- the name of a file is that of its entry
+  pub name_listed : (n : ℕ) (r : Row) → (l : Listing image.core n r) → (n ≡ 1 → ⊥) → name_of image n r ≡ l.entry.entry.name
+  name_listed n r l other =
+      ap (λ b. cond b (45 ∷ []) (option_map_or (name_in r.slot) (page_of image.core r.page) [])) (ne_eqb n 1 other)
+      ∙ ap (λ o. option_map_or (name_in r.slot) o []) l.there
+      ∙ ap (λ (x : EntryPart). x.name) (slot_entry image.core.inodes (slot_bytes r.slot l.bytes) l.entry.entry l.says)
+
+-- a block of a directory is read
+pub block_read : (kind : Kind) (f : FileRead) (p : ℕ) → kind ≡ Directory → In p f.chain.blocks → In p (pages_read kind f)
+block_read Directory f p e i = In-right p f.chain.index f.chain.blocks i
+block_read Regular f p e i = absurd cc

@@ -1,0 +1,98 @@
+-- The bytes of a live regular file are as many as its size says.
+use Rattle.std.proofs.Common.{◌≡◌, ℕ, suc, ◌-◌, true, eqb, List, [], ◌∷◌, ◌++◌, length, take, replicate, Option, Some, None, Ok, sym, refl, ap, ◌∙◌, subst, arith, length-take, take_all, append-nil}
+use Rattle.std.proofs.lemmas.Bool.{and_parts, and_from, eqb-true, eq-eqb, both_ways}
+use Rattle.trio_nodes.specs.declared.grant.GrantKind.{GrantKind}
+use Rattle.trio_nodes.specs.declared.grant.GrantKind.TheVariants.{Write, Read, Hold}
+use Rattle.trio_rights.specs.Row.{Row}
+use Rattle.trio_rights.specs.declared.kind.Kind.TheVariants.{Regular}
+use Rattle.trio_layout.specs.Core.{page_of}
+use Rattle.trio_layout.specs.Chain.{Chain}
+use Rattle.trio_lists.specs.Lists.{In}
+use Rattle.trio_layout.specs.Survey.{plain}
+use Rattle.trio_layout.specs.Pages.{settled_chain, block_sheets, sheets_of}
+use Rattle.trio_layout.specs.Image.{row_at}
+use Rattle.trio_state.specs.Kept.{Kept}
+use Rattle.trio_rights.specs.Sheets.{Sheet, sheet_numbers}
+use Rattle.trio_state.specs.State.{OpenGrant, State, settled}
+use Rattle.trio_nodes.specs.GrantKinds.{is_write}
+use Rattle.trio_surveys.proofs.Images.{MetAt}
+use Rattle.trio_lists.proofs.Filters.{find-In}
+use Rattle.trio_surveys.proofs.Local.{reads_from}
+use Rattle.trio_lists.proofs.Members.{In-right}
+use Rattle.trio_surveys.proofs.Owned.{pages_are}
+use Rattle.trio_surveys.proofs.Sheets.{sheets_in, sheets_all}
+use Rattle.trio_laws.proofs.StateFacts.{pages_there, write_is}
+use Rattle.trio_nodes.specs.Apply.{resized}
+use Rattle.trio_laws.specs.history.Stands.{size_of, blocks_of, bytes_of_sheets, bytes_of, writer_of}
+use Rattle.trio_laws.specs.history.Recorded.{LentWhole}
+use Rattle.trio_laws.proofs.history.Blocks.{chain_count, flat, flat_long}
+use Rattle.trio_laws.proofs.history.Follows.{chain_read, size_read}
+use Rattle.trio_laws.proofs.history.Listing.{met_at, chain_met}
+use Rattle.trio_laws.proofs.history.Told.{Count}
+use Rattle.trio_laws.proofs.history.Writers.{writes, none_found}
+
+-- bytes of a size are what they are when they are cut or grown to it
+pub resized_same : (size : ℕ) (bytes : List ℕ) → length bytes ≡ size → resized size bytes ≡ bytes
+resized_same size bytes e =
+    let z : size - length bytes ≡ 0 = omega (arith, e) in
+    ap (λ m. take size (bytes ++ replicate m 0)) z ∙ ap (take size) (append-nil bytes) ∙ take_all size bytes (omega (arith, e))
+
+pub cut_long : (size : ℕ) (xs : List Sheet) → ((x : Sheet) → In x xs → length x.bytes ≡ 4096) → Count (length xs) size → length (bytes_of_sheets size xs) ≡ size
+cut_long size xs full count =
+    let l = length-take size (flat xs) in
+    let f = flat_long xs full in
+    let c = count.0 in omega (arith, l, f, c)
+
+numbers_count : (xs : List Sheet) → length (sheet_numbers xs) ≡ length xs
+numbers_count [] = refl
+numbers_count (x ∷ xs) = ap suc (numbers_count xs)
+
+module _ (s : State) (k : Kept s) (whole : LentWhole s) (n : ℕ) (r : Row) (row : row_at s.home n ≡ Some r) where
+  abbrev m : MetAt (settled s).core plain n r
+  m = met_at (settled s) k.fit k.verifies n r row
+
+  -- size and blocks of the file that is met
+  pub count_is : Count (length m.file.chain.blocks) (size_of (settled s) n)
+  count_is =
+      let c = chain_count (settled s).core m.file.body m.file.chain (reads_from (settled s).core m.met m.file m.read).chain in
+      let z : size_of (settled s) n ≡ m.file.body.size =
+      ap (size_of (settled s)) (sym m.number) ∙ size_read (settled s) k.fit k.verifies m.met m.file m.stands m.read r (ap (row_at s.home) m.number ∙ row) in
+      subst (λ j. Count (length m.file.chain.blocks) j) (sym z) c
+
+  -- what an open write grant lent is what the file lists
+  pub lent_is : (g : OpenGrant) → In g s.open_grants → writes n g ≡ true → sheet_numbers g.blocks ≡ m.file.chain.blocks
+  lent_is g i t =
+      let p = and_parts (eqb g.ino n) (is_write g.kind) t in
+      let l = k.lent g i (write_is g.kind p.1) in
+      let number : l.met.ino ≡ n = l.number ∙ eqb-true g.ino n p.0 in
+      let one = chain_read (settled s) k.fit k.verifies l.met l.file l.stands l.read r (ap (row_at s.home) number ∙ row) in
+      let two = chain_met (settled s) k.fit k.verifies n r row in
+      let same : Ok l.file.chain ≡ Ok m.file.chain = sym one ∙ ap (settled_chain (settled s) r.kind) number ∙ two in
+      l.blocks ∙ (let c : l.file.chain ≡ m.file.chain = cc same in ap (λ (x : Chain). x.blocks) c)
+
+  -- a file that nobody writes has its blocks
+  unwritten_there : writer_of s n ≡ None → (p : ℕ) → In p m.file.chain.blocks → (bytes : List ℕ) × (page_of (settled s).core p ≡ Some bytes)
+  unwritten_there none p i =
+      pages_there s k m.met p m.stands (subst (λ l. In p l) (sym (pages_are (settled s).core m.met m.file m.read)) (In-right p m.file.chain.index m.file.chain.blocks i))
+      (λ g j w same. both_ways (writes n g) (none_found (writes n) s.open_grants g none j) (and_from (eqb g.ino n) (is_write g.kind) (eq-eqb g.ino n (same ∙ m.number)) (write_kept g.kind w)))
+    where
+      write_kept : (t : GrantKind) → t ≡ Write → is_write t ≡ true
+      write_kept Write e = refl
+      write_kept Read e = absurd cc
+      write_kept Hold e = absurd cc
+
+  long_by : (o : Option OpenGrant) → writer_of s n ≡ o → length (bytes_of_sheets (size_of (settled s) n) (blocks_of (settled s) n r o)) ≡ size_of (settled s) n
+  long_by (Some g) e =
+      let f = find-In (writes n) s.open_grants g e in
+      let c : length m.file.chain.blocks ≡ length g.blocks = ap length (sym (lent_is g f.0 f.1)) ∙ numbers_count g.blocks in
+      cut_long (size_of (settled s) n) g.blocks (λ x i. whole g x f.0 i) (subst (λ j. Count j (size_of (settled s) n)) c count_is)
+  long_by None e =
+      let ps : List ℕ = m.file.chain.blocks in
+      let xs : List Sheet = sheets_of (settled s).core ps in
+      let c : length ps ≡ length xs = ap length (sym (sheets_all (settled s).core ps (unwritten_there e))) ∙ numbers_count xs in
+      ap (λ l. length (bytes_of_sheets (size_of (settled s) n) (block_sheets (settled s).core l))) (chain_met (settled s) k.fit k.verifies n r row)
+      ∙ cut_long (size_of (settled s) n) xs (λ x i. (let q = sheets_in (settled s).core ps x i in k.fit.full x.page x.bytes q.1)) (subst (λ j. Count j (size_of (settled s) n)) c count_is)
+
+  -- the bytes of a regular file are as many as its size
+  pub old_long : length (bytes_of (settled s) n r (writer_of s n) Regular) ≡ size_of (settled s) n
+  old_long = long_by (writer_of s n) refl

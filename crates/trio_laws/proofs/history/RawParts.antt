@@ -1,0 +1,94 @@
+-- The files and blocks of a release, one by one.
+use Rattle.std.proofs.Common.{◌≡◌, ℕ, zero, suc, ◌+◌, ◌*◌, Bool, true, false, cond, ◌||◌, not, eqb, ltb, min, List, [], ◌∷◌, Option, Some, None, slice_get, sym, refl, ap, ◌∙◌, inl, inr, arith, unwrap_or}
+use Rattle.std.specs.Option.{option_map_or}
+use Rattle.std.proofs.lemmas.Bool.{ne_eqb, eq-eqb, le-ltb}
+use Rattle.trio_rights.specs.Row.{Row}
+use Rattle.trio_rights.specs.declared.kind.Kind.{Kind}
+use Rattle.trio_rights.specs.declared.kind.Kind.TheVariants.{Regular, Directory}
+use Rattle.trio_layout.specs.Core.{page_of}
+use Rattle.trio_lists.specs.Lists.{In}
+use Rattle.trio_layout.specs.Image.{Image, row_at}
+use Rattle.trio_rights.specs.Bundle.{Bundle}
+use Rattle.trio_rights.specs.Sheets.{Sheet, sheet_numbers}
+use Rattle.trio_nodes.specs.declared.entry.Handed.{Handed}
+use Rattle.trio_nodes.specs.declared.entry.RawBlock.{RawBlock}
+use Rattle.trio_nodes.specs.declared.entry.RawFile.{RawFile}
+use Rattle.trio_nodes.specs.After.{with_blocks, put_within}
+use Rattle.trio_laws.specs.history.Entries.{is_told, told_file, told_by, raw_file, block_numbers, is_touched, is_block_told, told_blocks, told_blocks_of}
+use Rattle.trio_laws.specs.history.Stands.{size_of}
+
+-- the file of a number has that number
+told_number : (before after : Image) (b : Bundle) (n : ℕ) (was is : Option Row) (f : RawFile) → told_by before after b n was is ≡ Some f → f.ino ≡ n
+told_number before after b n None None f e = absurd cc
+told_number before after b n (Some r) None f e = (let s : told_file before b n true r ≡ f = cc e in sym (ap (λ (x : RawFile). x.ino) s))
+told_number before after b n None (Some r) f e = (let s : told_file after b n false r ≡ f = cc e in sym (ap (λ (x : RawFile). x.ino) s))
+told_number before after b n (Some q) (Some r) f e = (let s : told_file after b n false r ≡ f = cc e in sym (ap (λ (x : RawFile). x.ino) s))
+
+number_step : (before after : Image) (b : Bundle) (n : ℕ) (t : Bool) (f : RawFile) → cond t (told_by before after b n (row_at before n) (row_at after n)) None ≡ Some f → f.ino ≡ n
+number_step before after b n true f e = told_number before after b n (row_at before n) (row_at after n) f e
+number_step before after b n false f e = absurd cc
+
+pub raw_number : (before after : Image) (b : Bundle) (n : ℕ) (f : RawFile) → raw_file before after b n ≡ Some f → f.ino ≡ n
+raw_number before after b n f e = number_step before after b n (is_told before after b n) f e
+
+-- blocks of one file leave every other
+others_step : (m : ℕ) (t : Bool) (x : RawBlock) (rest : List RawBlock) (bytes : List ℕ) → (x.ino ≡ m → ⊥) → with_blocks m (cond t (x ∷ rest) rest) bytes ≡ with_blocks m rest bytes
+others_step m true x rest bytes d = ap (λ b. with_blocks m rest (cond b (put_within (4096 * x.at) x.bytes bytes) bytes)) (ne_eqb x.ino m d)
+others_step m false x rest bytes d = refl
+
+told_others : (before after : Image) (h : Handed) (n m at : ℕ) (pages : List ℕ) (bytes : List ℕ) → (n ≡ m → ⊥) → with_blocks m (told_blocks before after h n at pages) bytes ≡ bytes
+told_others before after h n m at [] bytes d = refl
+told_others before after h n m at (p ∷ ps) bytes d =
+    others_step m (is_block_told before after h n at p) (record { ino = n; at = at; bytes = unwrap_or (page_of after.core p) [] }) (told_blocks before after h n (at + 1) ps) bytes d
+    ∙ told_others before after h n m (at + 1) ps bytes d
+
+gone_others : (before after : Image) (h : Handed) (f : RawFile) (m : ℕ) (bytes : List ℕ) (t : Bool) → (f.ino ≡ m → ⊥) → with_blocks m (cond t [] (told_blocks before after h f.ino 0 (block_numbers after f.ino (row_at after f.ino)))) bytes ≡ bytes
+gone_others before after h f m bytes true d = refl
+gone_others before after h f m bytes false d = told_others before after h f.ino m 0 (block_numbers after f.ino (row_at after f.ino)) bytes d
+
+kind_others : (before after : Image) (h : Handed) (f : RawFile) (m : ℕ) (bytes : List ℕ) (kind : Kind) → (f.ino ≡ m → ⊥) → with_blocks m (told_blocks_of before after h f kind) bytes ≡ bytes
+kind_others before after h f m bytes Directory d = refl
+kind_others before after h f m bytes Regular d = gone_others before after h f m bytes f.gone d
+
+pub own_blocks : (before after : Image) (h : Handed) (f : RawFile) (m : ℕ) (bytes : List ℕ) → (f.ino ≡ m → ⊥) → with_blocks m (told_blocks_of before after h f f.kind) bytes ≡ bytes
+own_blocks before after h f m bytes d = kind_others before after h f m bytes f.kind d
+
+-- where nothing is told, there are no blocks
+none_step : (t : Bool) (x : RawBlock) (rest : List RawBlock) → t ≡ false → rest ≡ [] → cond t (x ∷ rest) rest ≡ []
+none_step t x rest e h = ap (λ b. cond b (x ∷ rest) rest) e ∙ h
+
+pub told_none : (before after : Image) (h : Handed) (n at : ℕ) (pages : List ℕ) → ((i page : ℕ) → slice_get pages i ≡ Some page → is_block_told before after h n (at + i) page ≡ false) → told_blocks before after h n at pages ≡ []
+told_none before after h n at [] un = refl
+told_none before after h n at (p ∷ ps) un =
+    let e : at + 0 ≡ at = omega arith in
+    none_step (is_block_told before after h n at p) (record { ino = n; at = at; bytes = unwrap_or (page_of after.core p) [] }) (told_blocks before after h n (at + 1) ps)
+    (ap (λ m. is_block_told before after h n m p) (sym e) ∙ un 0 p refl)
+    (told_none before after h n (at + 1) ps
+    (λ i q g. let f : (at + 1) + i ≡ at + suc i = omega arith in ap (λ m. is_block_told before after h n m q) f ∙ un (suc i) q g))
+
+-- a block of a file of the same pages and size is told only where it was touched
+not_grown : (size k : ℕ) → ltb size (min size k) ≡ false
+not_grown size k = le-ltb size (min size k) (omega arith)
+
+pub same_told : (before after : Image) (h : Handed) (n at page : ℕ) → slice_get (block_numbers before n (row_at before n)) at ≡ Some page → size_of after n ≡ size_of before n → is_block_told before after h n at page ≡ is_touched h page
+same_told before after h n at page get size =
+    ap (λ o. is_touched h page || not (option_map_or (λ q. eqb q page) o false) || ltb (size_of before n) (min (size_of after n) (4096 * at + 4096))) get
+    ∙ ap (λ b. is_touched h page || not b || ltb (size_of before n) (min (size_of after n) (4096 * at + 4096))) (eq-eqb page page refl)
+    ∙ ap (λ z. is_touched h page || false || ltb (size_of before n) (min z (4096 * at + 4096))) size
+    ∙ ap (λ b. is_touched h page || false || b) (not_grown (size_of before n) (4096 * at + 4096))
+    ∙ plain (is_touched h page)
+  where
+    plain : (b : Bool) → (b || false || false) ≡ b
+    plain true = refl
+    plain false = refl
+
+-- the sheet at the place of a number
+pub sheet_at : (xs : List Sheet) (i page : ℕ) → slice_get (sheet_numbers xs) i ≡ Some page → (x : Sheet) × In x xs × (x.page ≡ page) × (slice_get xs i ≡ Some x)
+sheet_at [] i page e = absurd cc
+sheet_at (x ∷ xs) zero page e = (let s : x.page ≡ page = cc e in (x, inl refl, s, refl))
+sheet_at (x ∷ xs) (suc i) page e = let r = sheet_at xs i page e in (r.0, inr r.1, r.2, r.3)
+
+pub get_in : (xs : List ℕ) (i x : ℕ) → slice_get xs i ≡ Some x → In x xs
+get_in [] i x e = absurd cc
+get_in (y ∷ ys) zero x e = (let s : y ≡ x = cc e in inl (sym s))
+get_in (y ∷ ys) (suc i) x e = inr (get_in ys i x e)

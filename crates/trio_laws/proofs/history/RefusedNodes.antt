@@ -1,0 +1,328 @@
+-- The nodes after a refused release.
+use Rattle.std.proofs.Common.{◌≡◌, ℕ, ltb, leb, ltb-true, ◌+◌, ◌*◌, ◌<◌, ◌≤◌, Bool, true, false, cond, ◌&&◌, ◌||◌, not, eqb, List, [], ◌++◌, map, length, take, drop, Option, Some, None, is_some, slice_get, sym, refl, ap, ◌∙◌, subst, inl, inr, ◌⊎◌, arith, flat_map, unwrap_or, find}
+use Rattle.std.specs.List.{list_any}
+use Rattle.std.proofs.lemmas.Bool.{and_parts, and_from, eqb-true, eq-eqb, both_ways, or_parts, cases_lt, false_from_ne_true}
+use Rattle.trio_rights.specs.Row.{Row}
+use Rattle.trio_rights.specs.declared.kind.Kind.{Kind}
+use Rattle.trio_rights.specs.declared.kind.Kind.TheVariants.{Regular, Directory}
+use Rattle.trio_layout.specs.Core.{page_of}
+use Rattle.trio_lists.specs.Lists.{In, is_among}
+use Rattle.trio_layout.specs.Survey.{Met, plain, pages_of}
+use Rattle.trio_layout.specs.Pages.{block_sheets}
+use Rattle.trio_layout.specs.Image.{Image, IsFit, row_at}
+use Rattle.trio_state.specs.Kept.{Kept}
+use Rattle.trio_state.specs.Given.{GivenTo}
+use Rattle.trio_rights.specs.Bundle.{Written, Bundle, bundle_sheets, bundle_pages, is_written}
+use Rattle.trio_state.specs.Bundles.{Ends, refused_image, uncovered}
+use Rattle.trio_rights.specs.Sheets.{Sheet, sheet_numbers}
+use Rattle.trio_state.specs.State.{OpenGrant, State, settled}
+use Rattle.trio_nodes.specs.GrantKinds.{is_write}
+use Rattle.trio_layout.specs.Verifies.{Verifies}
+use Rattle.trio_surveys.specs.Reading.{with_other}
+use Rattle.trio_laws.proofs.Agreeing.{verifies_still}
+use Rattle.trio_laws.proofs.Bundles.{Closed, Unwritten, unwritten_apart, in_numbers}
+use Rattle.trio_lists.proofs.Filters.{find-In, In-find, list_any-In}
+use Rattle.trio_surveys.proofs.Images.{some_of, one_met, met_numbered}
+use Rattle.trio_lists.proofs.Members.{In-left, In-right, In-flat, In-map, map-In}
+use Rattle.trio_surveys.proofs.Owned.{pages_are}
+use Rattle.trio_layout.specs.Range.{is_core}
+use Rattle.trio_surveys.proofs.Cores.{listed_is_core}
+use Rattle.trio_laws.proofs.Refusing.{pages, agree, fit'}
+use Rattle.trio_laws.proofs.Uncovered.{uncovered_handed, In-uncovered}
+use Rattle.trio_laws.proofs.history.Untouched.{handed_same}
+use Rattle.trio_surveys.proofs.Sheets.{Pages, with_pages_apart, with_pages_known, with_pages_there, page_same, page_from, place_there}
+use Rattle.trio_laws.proofs.StateFacts.{write_alone}
+use Rattle.trio_nodes.specs.declared.entry.Handed.{Handed}
+use Rattle.trio_nodes.specs.declared.entry.HandedFile.{HandedFile}
+use Rattle.trio_nodes.specs.declared.entry.HandedPage.{HandedPage}
+use Rattle.trio_nodes.specs.declared.entry.RawBlock.{RawBlock}
+use Rattle.trio_nodes.specs.declared.entry.RawFile.{RawFile}
+use Rattle.trio_nodes.specs.After.{with_blocks, raw_bytes, raw_nodes}
+use Rattle.trio_nodes.specs.Nodes.{node_at}
+use Rattle.trio_laws.specs.history.Stands.{name_of, size_of, blocks_of, bytes_of_sheets, bytes_of, node_of, node_by, node_in, nodes_of, writer_of}
+use Rattle.trio_laws.specs.history.Entries.{name_by, bundle_handed, written_handed, sheet_handed, is_told, told_file, told_by, raw_file, raw_files, raw_blocks, block_numbers, blocks_in as chain_blocks, is_touched, is_block_told, told_blocks, told_blocks_of}
+use Rattle.trio_laws.specs.history.Recorded.{LentWhole, IsMarked}
+use Rattle.trio_laws.proofs.history.Blocks.{flat_sheets, chunk}
+use Rattle.trio_laws.proofs.history.Listing.{met_at, chain_met}
+use Rattle.trio_laws.proofs.history.OldBytes.{resized_same, old_long, count_is, lent_is}
+use Rattle.trio_laws.proofs.history.RawNodes.{becomes, part_of, blocks_in, raw_in, raw_out, raw_length}
+use Rattle.trio_laws.proofs.history.WithNode.{nodes_same, nodes_long}
+use Rattle.trio_laws.proofs.history.Facts.{node_is}
+use Rattle.std.specs.Str.{bytes_eq}
+use Rattle.trio_laws.proofs.history.RawParts.{raw_number, own_blocks, told_none, same_told, sheet_at, get_in}
+use Rattle.trio_laws.proofs.history.Still.{node_with, node_same, name_still, size_still, chain_still, blocks_still}
+use Rattle.trio_laws.proofs.history.Told.{Count, block_bytes, told_put}
+use Rattle.trio_laws.proofs.history.Writers.{writes, none_found, other_writer, no_writer}
+
+module _ (s s' : State) (k : Kept s) (k' : Kept s') (whole : LentWhole s) (lib : ℕ) (h : Handed) (given : GivenTo s lib (bundle_handed h)) (closed : Closed s lib (bundle_handed h)) (e : Ends s lib (bundle_handed h) (refused_image (settled s) (bundle_handed h)) s') (marked : (w : HandedFile) → In w h.writes → IsMarked s lib w) where
+  abbrev pub b : Bundle
+  b = bundle_handed h
+
+  abbrev pub I : Image
+  I = settled s
+
+  abbrev ps : Pages
+  ps = pages s s' k lib b given closed e
+
+  abbrev pub J : Image
+  J = refused_image I b
+
+  fitJ : IsFit J.core
+  fitJ = fit' s s' k lib b given closed e
+
+  verifiesJ : Verifies J
+  verifiesJ = verifies_still I ps k.fit fitJ k.verifies (agree s s' k lib b given closed e)
+
+  -- ---- a file that the bundle doesn't write
+
+  unwritten : (n : ℕ) → is_written b n ≡ false → Unwritten b n
+  unwritten n un w i same = by_find (find (λ (x : Written). eqb x.ino n) b.writes) refl
+    where
+      by_find : (o : Option Written) → find (λ (x : Written). eqb x.ino n) b.writes ≡ o → ⊥
+      by_find None f = both_ways (eqb w.ino n) (none_found (λ (x : Written). eqb x.ino n) b.writes w f i) (eq-eqb w.ino n same)
+      by_find (Some x) f = both_ways (is_written b n) un (ap is_some f)
+
+  block_stays : (n : ℕ) (r : Row) (row : row_at s.home n ≡ Some r) → is_written b n ≡ false → (p : ℕ) → In p (met_at I k.fit k.verifies n r row).file.chain.blocks → page_of (with_other I.core ps) p ≡ page_of I.core p
+  block_stays n r row un p a =
+      let m = met_at I k.fit k.verifies n r row in
+      page_same I.core ps p (with_pages_apart (uncovered I b ++ b.pages) I.core.pages p
+      (λ j.
+      let x = map-In (λ (y : Sheet). y.page) p (uncovered I b ++ b.pages) j in
+      let handed : In p (bundle_pages b) = in_numbers (bundle_sheets b) x.0 p (uncovered_handed s k lib b given x.0 x.1) x.2 in
+      unwritten_apart s k lib b given m.met p m.stands (λ w c same. unwritten n un w c (same ∙ m.number)) (subst (λ l. In p l) (sym (pages_are I.core m.met m.file m.read)) (In-right p m.file.chain.index m.file.chain.blocks a)) handed))
+
+  blocks_stay : (n : ℕ) (r : Row) (row : row_at s.home n ≡ Some r) → is_written b n ≡ false → (w : Option OpenGrant) → blocks_of J n r w ≡ blocks_of I n r w
+  blocks_stay n r row un (Some g) = refl
+  blocks_stay n r row un None = blocks_still I ps k.fit fitJ k.verifies (agree s s' k lib b given closed e) n r row (block_stays n r row un)
+
+  pub size_stays : (n : ℕ) (r : Row) → row_at s.home n ≡ Some r → size_of J n ≡ size_of I n
+  size_stays n r row = size_still I ps k.fit fitJ k.verifies (agree s s' k lib b given closed e) n r row
+
+  pub name_stays : (n : ℕ) (r : Row) → row_at s.home n ≡ Some r → name_of J n r ≡ name_of I n r
+  name_stays n r row = name_still I ps k.fit fitJ k.verifies (agree s s' k lib b given closed e) n r row
+
+  numbers_stay : (n : ℕ) (r : Row) (row : row_at s.home n ≡ Some r) → block_numbers J n (row_at J n) ≡ (met_at I k.fit k.verifies n r row).file.chain.blocks
+  numbers_stay n r row =
+      ap (block_numbers J n) row
+      ∙ ap chain_blocks (chain_still I ps k.fit fitJ k.verifies (agree s s' k lib b given closed e) n r row ∙ chain_met I k.fit k.verifies n r row)
+
+  numbers_were : (n : ℕ) (r : Row) (row : row_at s.home n ≡ Some r) → block_numbers I n (row_at I n) ≡ (met_at I k.fit k.verifies n r row).file.chain.blocks
+  numbers_were n r row = ap (block_numbers I n) row ∙ ap chain_blocks (chain_met I k.fit k.verifies n r row)
+
+  pub same_node : (n : ℕ) (r : Row) (row : row_at s.home n ≡ Some r) → is_written b n ≡ false → node_of J n (writer_of s' n) r ≡ node_of I n (writer_of s n) r
+  same_node n r row un =
+      node_same I J n r (writer_of s n) (writer_of s' n) (name_stays n r row) (size_stays n r row)
+      (λ regular. other_writer s s' k lib b given J e n un J r ∙ blocks_stay n r row un (writer_of s n))
+
+  -- ---- where a page was handed in
+
+  -- a block that wasn't touched has the bytes that were lent
+  untouched : (n : ℕ) (r : Row) (row : row_at s.home n ≡ Some r) (g : OpenGrant) → In g s.open_grants → writes n g ≡ true → (x : Sheet) → In x g.blocks → is_touched h x.page ≡ false → (y : Sheet) → In y (uncovered I b ++ b.pages) → y.page ≡ x.page → y.bytes ≡ x.bytes
+  untouched n r row g i t x a un y j at =
+      handed_same s k whole lib h given marked n r row g i t x a un y (uncovered_handed s k lib b given y j) at
+
+  -- ---- a regular file that the bundle writes
+
+  -- the grant by which the bundle writes a file, which lent its blocks and has them handed in
+  written_grant : (n : ℕ) (r : Row) (row : row_at s.home n ≡ Some r) → is_written b n ≡ true → r.kind ≡ Regular → (g : OpenGrant) × (writer_of s n ≡ Some g) × In g s.open_grants × (writes n g ≡ true) × ((p : ℕ) → In p (sheet_numbers g.blocks) → In p (sheet_numbers (uncovered I b ++ b.pages)))
+  written_grant n r row wr regular =
+      let w = some_of (find (λ (w : Written). eqb w.ino n) b.writes) wr in
+      let f = find-In (λ (w : Written). eqb w.ino n) b.writes w.0 w.1 in
+      let l = given.writes w.0 f.0 in
+      let number : l.grant.ino ≡ n = l.ino ∙ eqb-true w.0.ino n f.1 in
+      let mine : writes n l.grant ≡ true = and_from (eqb l.grant.ino n) (is_write l.grant.kind) (eq-eqb l.grant.ino n number) (ap is_write l.kind) in
+      let q = In-find (writes n) s.open_grants l.grant l.is_open mine in
+      let v = find-In (writes n) s.open_grants q.0 q.1 in
+      let one : l.grant ≡ q.0 = write_alone s.open_grants l.grant q.0 k.apart l.is_open v.0 l.kind (number ∙ sym (eqb-true q.0.ino n (and_parts (eqb q.0.ino n) (is_write q.0.kind) v.1).0)) in
+      let lent = k.lent l.grant l.is_open l.kind in
+      let m = met_at I k.fit k.verifies n r row in
+      let same : lent.met ≡ m.met = one_met I.core plain k.fit k.verifies.sound lent.met m.met lent.stands m.stands (lent.number ∙ number ∙ sym m.number) in
+      let kind : w.0.kind ≡ Regular = sym l.of ∙ sym lent.of ∙ ap (λ (x : Met). x.kind) same ∙ sym (ap (λ (x : Row). x.kind) m.row) ∙ regular in (
+        q.0,
+        q.1,
+        v.0,
+        v.1,
+        λ p i.
+            let a : In p (sheet_numbers w.0.blocks) = subst (λ z. In p z) (ap (λ (x : OpenGrant). sheet_numbers x.blocks) (sym one) ∙ sym l.blocks) i in
+            let y = map-In (λ (x : Sheet). x.page) p w.0.blocks a in
+            let u = In-uncovered s k lib b given w.0 y.0 f.0 kind y.1 in
+            in_numbers (uncovered I b ++ b.pages) y.0 p (In-left y.0 (uncovered I b) b.pages u) y.2,
+      )
+
+  -- a page that was handed in is there
+  handed_there : (p : ℕ) → is_core I.core.range p ≡ true → In p (sheet_numbers (uncovered I b ++ b.pages)) → (bytes : List ℕ) × (page_of J.core p ≡ Some bytes)
+  handed_there p c i =
+      let low : p < I.core.range.end = ltb-true p I.core.range.end (and_parts (leb I.core.range.first p) (ltb p I.core.range.end) c).1 in
+      let long = fitJ.long in
+      let q = place_there ps p (omega (arith, low, long)) in
+      by q.0 q.1
+    where
+      by : (o : Option (List ℕ)) → slice_get ps p ≡ Some o → (bytes : List ℕ) × (page_of J.core p ≡ Some bytes)
+      by (Some bytes) at = (bytes, page_from J.core p bytes c at)
+      by None at = absurd (with_pages_there (uncovered I b ++ b.pages) I.core.pages p i at)
+
+  -- the listed blocks in place of the old bytes give the new ones
+  written_bytes : (n : ℕ) (r : Row) (row : row_at s.home n ≡ Some r) → is_written b n ≡ true → r.kind ≡ Regular → with_blocks n (told_blocks I J h n 0 (block_numbers J n (row_at J n))) (bytes_of I n r (writer_of s n) Regular) ≡ bytes_of J n r (writer_of s' n) Regular
+  written_bytes n r row wr regular =
+      let m = met_at I k.fit k.verifies n r row in
+      let pl : List ℕ = m.file.chain.blocks in
+      let z : ℕ = size_of I n in
+      let g = written_grant n r row wr regular in
+      let gr : OpenGrant = g.0 in
+      let old : List ℕ = bytes_of_sheets z gr.blocks in
+      let lent : sheet_numbers gr.blocks ≡ pl = lent_is s k whole n r row gr g.2 g.3 in
+      let old_is : bytes_of I n r (writer_of s n) Regular ≡ old = ap (λ w. bytes_of_sheets z (blocks_of I n r w)) g.1 in
+      let long : length old ≡ z = ap length (sym old_is) ∙ old_long s k whole n r row in
+      let listed : (p : ℕ) → In p pl → In p (pages_of I.core m.met) = λ p i. subst (λ l. In p l) (sym (pages_are I.core m.met m.file m.read)) (In-right p m.file.chain.index pl i) in
+      let core : (p : ℕ) → In p pl → is_core I.core.range p ≡ true = λ p i. listed_is_core I.core m.met m.file p m.read (listed p i) in
+      let handed : (p : ℕ) → In p pl → In p (sheet_numbers (uncovered I b ++ b.pages)) = λ p i. g.4 p (subst (λ l. In p l) (sym lent) i) in
+      let full : (p : ℕ) → In p pl → length (block_bytes J p) ≡ 4096 =
+      λ p i. (let t = handed_there p (core p i) (handed p i) in ap (λ o. length (unwrap_or o [])) t.1 ∙ fitJ.full p t.0 t.1) in
+      let count : Count (length pl) (length old) = subst (λ j. Count (length pl) j) (sym long) (count_is s k whole n r row) in
+      let un : (i page : ℕ) → slice_get pl i ≡ Some page → is_block_told I J h n (0 + i) page ≡ false → take 4096 (drop (4096 * i) old) ≡ take (length (drop (4096 * i) old)) (block_bytes J page) =
+      λ i page get t.
+      let zero_i : 0 + i ≡ i = omega arith in
+      let was : slice_get (block_numbers I n (row_at I n)) (0 + i) ≡ Some page = ap (λ l. slice_get l (0 + i)) (numbers_were n r row) ∙ ap (slice_get pl) zero_i ∙ get in
+      let clean : is_touched h page ≡ false = sym (same_told I J h n (0 + i) page was (size_stays n r row)) ∙ t in
+      let x = sheet_at gr.blocks i page (ap (λ l. slice_get l i) lent ∙ get) in
+      let at : x.0.page ≡ page = x.2 in
+      let inside : In x.0.page pl = subst (λ q. In q pl) (sym at) (get_in pl i page get) in
+      let there : (o : Option (List ℕ)) × (slice_get I.core.pages x.0.page ≡ Some o) =
+      (let c = core x.0.page inside in
+      let low : x.0.page < I.core.range.end = ltb-true x.0.page I.core.range.end (and_parts (leb I.core.range.first x.0.page) (ltb x.0.page I.core.range.end) c).1 in
+      let far = k.fit.long in
+      place_there I.core.pages x.0.page (omega (arith, low, far))) in
+      let now : slice_get ps x.0.page ≡ Some (Some x.0.bytes) =
+      with_pages_known (uncovered I b ++ b.pages) I.core.pages x.0.page x.0.bytes there.0 (handed x.0.page inside)
+      (λ y j on. untouched n r row gr g.2 g.3 x.0 x.1 (ap (is_touched h) at ∙ clean) y j on) there.1 in
+      let bytes : block_bytes J page ≡ x.0.bytes = ap (block_bytes J) (sym at) ∙ ap (λ o. unwrap_or o []) (page_from J.core x.0.page x.0.bytes (core x.0.page inside) now) in
+      chunk gr.blocks i x.0 z (λ y j. whole gr y g.2 j) x.3 ∙ ap (take (length (drop (4096 * i) old))) (sym bytes) in
+      let none : writer_of s' n ≡ None = no_writer s s' k lib b given J e n wr in
+      let new_is : bytes_of J n r (writer_of s' n) Regular ≡ take z (flat_map (block_bytes J) pl) =
+      ap (λ w. bytes_of_sheets (size_of J n) (blocks_of J n r w)) none
+      ∙ ap (λ j. bytes_of_sheets j (blocks_of J n r None)) (size_stays n r row)
+      ∙ ap (λ c. bytes_of_sheets z (block_sheets J.core c)) (chain_still I ps k.fit fitJ k.verifies (agree s s' k lib b given closed e) n r row ∙ chain_met I k.fit k.verifies n r row)
+      ∙ ap (take z) (flat_sheets J pl) in
+      ap (with_blocks n (told_blocks I J h n 0 (block_numbers J n (row_at J n)))) old_is
+      ∙ ap (λ l. with_blocks n (told_blocks I J h n 0 l) old) (numbers_stay n r row)
+      ∙ told_put I J h n 0 pl [] old refl count full un
+      ∙ ap (λ j. take j (flat_map (block_bytes J) pl)) long
+      ∙ sym new_is
+
+  -- ---- one node after another
+
+  -- no block of a file that isn't written was touched
+  clean_block : (n : ℕ) (r : Row) (row : row_at s.home n ≡ Some r) → is_written b n ≡ false → (p : ℕ) → In p (met_at I k.fit k.verifies n r row).file.chain.blocks → is_touched h p ≡ false
+  clean_block n r row un p i =
+      let m = met_at I k.fit k.verifies n r row in
+      false_from_ne_true (is_touched h p)
+      (λ t.
+      let w = list_any-In (λ (f : HandedFile). list_any (λ (c : HandedPage). eqb c.no p && c.touched) f.blocks) h.writes t in
+      let c = list_any-In (λ (c : HandedPage). eqb c.no p && c.touched) w.0.blocks w.2 in
+      let at : c.0.no ≡ p = eqb-true c.0.no p (and_parts (eqb c.0.no p) c.0.touched c.2).0 in
+      let handed : In (sheet_handed c.0) (bundle_sheets b) =
+      In-left (sheet_handed c.0) (flat_map (λ (w : Written). w.index ++ w.blocks) b.writes) b.pages
+      (In-flat (λ (w : Written). w.index ++ w.blocks) (written_handed w.0) (sheet_handed c.0) b.writes (In-map written_handed w.0 h.writes w.1)
+      (In-right (sheet_handed c.0) (map sheet_handed w.0.index) (map sheet_handed w.0.blocks) (In-map sheet_handed c.0 w.0.blocks c.1))) in
+      let page : In p (bundle_pages b) = in_numbers (bundle_sheets b) (sheet_handed c.0) p handed (sym at) in
+      unwritten_apart s k lib b given m.met p m.stands (λ v j same. unwritten n un v j (same ∙ m.number)) (subst (λ l. In p l) (sym (pages_are I.core m.met m.file m.read)) (In-right p m.file.chain.index m.file.chain.blocks i)) page)
+
+  abbrev pub rf : ℕ → Option RawFile
+  rf = raw_file I J b
+
+  abbrev pub files : List RawFile
+  files = raw_files I J b
+
+  abbrev pub bs : List RawBlock
+  bs = raw_blocks I J h files
+
+  file_is : (n : ℕ) (r : Row) → row_at s.home n ≡ Some r → is_told I J b n ≡ true → rf n ≡ Some (told_file J b n false r)
+  file_is n r row t = ap (λ x. cond x (told_by I J b n (row_at s.home n) (row_at s.home n)) None) t ∙ ap (λ o. told_by I J b n o o) row
+
+  -- what is put into the bytes of a file that is told
+  put_is : (n : ℕ) (r : Row) → row_at s.home n ≡ Some r → is_told I J b n ≡ true → r.kind ≡ Regular → 1 ≤ n → n < 1 + s.home.core.inodes → (x : List ℕ) → with_blocks n bs x ≡ with_blocks n (told_blocks I J h n 0 (block_numbers J n (row_at J n))) x
+  put_is n r row t regular low high x =
+      blocks_in rf (raw_number I J b) (λ f. told_blocks_of I J h f f.kind) (λ f m y d. own_blocks I J h f m y d) s.home.core.inodes 1 n low high x
+      ∙ ap (λ o. with_blocks n (part_of (λ f. told_blocks_of I J h f f.kind) o) x) (file_is n r row t)
+      ∙ ap (λ kind. with_blocks n (told_blocks_of I J h (told_file J b n false r) kind) x) regular
+
+  bytes_stay : (n : ℕ) (r : Row) (row : row_at s.home n ≡ Some r) → is_written b n ≡ false → bytes_of J n r (writer_of s' n) Regular ≡ bytes_of I n r (writer_of s n) Regular
+  bytes_stay n r row un =
+      ap (λ z. bytes_of_sheets z (blocks_of J n r (writer_of s' n))) (size_stays n r row)
+      ∙ ap (bytes_of_sheets (size_of I n)) (other_writer s s' k lib b given J e n un J r ∙ blocks_stay n r row un (writer_of s n))
+
+  put_bytes : (n : ℕ) (r : Row) (row : row_at s.home n ≡ Some r) (t : Bool) → is_written b n ≡ t → r.kind ≡ Regular → with_blocks n (told_blocks I J h n 0 (block_numbers J n (row_at J n))) (bytes_of I n r (writer_of s n) Regular) ≡ bytes_of J n r (writer_of s' n) Regular
+  put_bytes n r row true wr regular = written_bytes n r row wr regular
+  put_bytes n r row false un regular =
+      let m = met_at I k.fit k.verifies n r row in
+      let none : told_blocks I J h n 0 (block_numbers J n (row_at J n)) ≡ [] =
+      told_none I J h n 0 (block_numbers J n (row_at J n))
+      (λ i page get.
+      let zero_i : 0 + i ≡ i = omega arith in
+      let at : slice_get m.file.chain.blocks i ≡ Some page = ap (λ l. slice_get l i) (sym (numbers_stay n r row)) ∙ get in
+      let was : slice_get (block_numbers I n (row_at I n)) (0 + i) ≡ Some page = ap (λ l. slice_get l (0 + i)) (numbers_were n r row) ∙ ap (slice_get m.file.chain.blocks) zero_i ∙ at in
+      same_told I J h n (0 + i) page was (size_stays n r row) ∙ clean_block n r row un page (get_in m.file.chain.blocks i page at)) in
+      ap (λ l. with_blocks n l (bytes_of I n r (writer_of s n) Regular)) none ∙ sym (bytes_stay n r row un)
+
+  bytes_case : (n : ℕ) (r : Row) (row : row_at s.home n ≡ Some r) → is_told I J b n ≡ true → 1 ≤ n → n < 1 + s.home.core.inodes → (kind : Kind) → r.kind ≡ kind → raw_bytes bs (told_file J b n false r) kind (bytes_of I n r (writer_of s n) kind) ≡ bytes_of J n r (writer_of s' n) kind
+  bytes_case n r row t low high Directory is = refl
+  bytes_case n r row t low high Regular is =
+      ap (with_blocks n bs) (resized_same (size_of J n) (bytes_of I n r (writer_of s n) Regular) (old_long s k whole n r row ∙ sym (size_stays n r row)))
+      ∙ put_is n r row t is low high (bytes_of I n r (writer_of s n) Regular)
+      ∙ put_bytes n r row (is_written b n) refl is
+
+  not_told : (n : ℕ) → is_told I J b n ≡ false → is_written b n ≡ false
+  not_told n t = (or_parts (is_written b n) (is_among n b.holds) (or_parts (is_written b n || is_among n b.holds) (is_some (row_at J n) && not (bytes_eq (name_by I n (row_at I n)) (name_by J n (row_at J n)))) t).0).0
+
+  node_case : (n : ℕ) (o : Option Row) → row_at s.home n ≡ o → 1 ≤ n → n < 1 + s.home.core.inodes → (t : Bool) → is_told I J b n ≡ t → node_by J n (writer_of s' n) o ≡ becomes bs (cond t (told_by I J b n o o) None) (node_by I n (writer_of s n) o)
+  node_case n None row low high true t = refl
+  node_case n None row low high false t = refl
+  node_case n (Some r) row low high false t = ap Some (same_node n r row (not_told n t))
+  node_case n (Some r) row low high true t =
+      ap (λ l. Some (node_with r (name_of J n r) l)) (sym (bytes_case n r row t low high r.kind refl))
+
+  pub node_settled : (n : ℕ) → node_in s' n ≡ node_by J n (writer_of s' n) (row_at s.home n)
+  node_settled n = ap (λ (i : Image). node_by i n (writer_of s' n) (row_at i n)) e.settles
+
+  -- each node after the release is what its file makes of it
+  pub refused_node : (n : ℕ) → 1 ≤ n → n < 1 + s.home.core.inodes → node_in s' n ≡ becomes bs (rf n) (node_in s n)
+  refused_node n low high = node_settled n ∙ node_case n (row_at s.home n) refl low high (is_told I J b n) refl
+
+  no_row : (n : ℕ) → (n < 1) ⊎ (1 + s.home.core.inodes ≤ n) → row_at s.home n ≡ None
+  no_row n out = by (row_at s.home n) refl
+    where
+      by : (o : Option Row) → row_at s.home n ≡ o → o ≡ None
+      by None row = refl
+      by (Some r) row =
+          let m = met_at (settled s) k.fit k.verifies n r row in
+          let q = met_numbered (settled s).core plain k.fit k.verifies.sound m.met m.stands in
+          let a = q.0 in
+          let c = q.1 in
+          let d = m.number in
+          absurd (elim out [ inl l ↦ omega (arith, l, a, d) | inr g ↦ omega (arith, g, c, d) ])
+
+  outside : (n : ℕ) → (n < 1) ⊎ (1 + s.home.core.inodes ≤ n) → node_in s' n ≡ node_in s n
+  outside n out = node_settled n ∙ ap (node_by J n (writer_of s' n)) (no_row n out) ∙ sym (ap (node_by I n (writer_of s n)) (no_row n out))
+
+  pub refused_nodes : nodes_of s' ≡ raw_nodes bs files (nodes_of s)
+  refused_nodes =
+      let count : s'.home.core.inodes ≡ s.home.core.inodes = ap (λ (i : Image). i.core.inodes) e.settles in
+      let l' = nodes_long s' in
+      let l : length (raw_nodes bs files (nodes_of s)) ≡ s.home.core.inodes + 1 = raw_length rf (raw_number I J b) bs s.home.core.inodes 1 (s.home.core.inodes + 1) (omega arith) (nodes_of s) (nodes_long s) in
+      nodes_same (nodes_of s') (raw_nodes bs files (nodes_of s)) (omega (arith, l, l', count))
+      (λ n.
+      let inner : 1 ≤ n → n < 1 + s.home.core.inodes → node_at (nodes_of s') n ≡ node_at (raw_nodes bs files (nodes_of s)) n =
+      λ low high.
+      node_is s' k' n ∙ refused_node n low high ∙ ap (becomes bs (rf n)) (sym (node_is s k n))
+      ∙ sym (raw_in rf (raw_number I J b) bs s.home.core.inodes 1 n low high (nodes_of s)) in
+      let outer : (n < 1) ⊎ (1 + s.home.core.inodes ≤ n) → node_at (nodes_of s') n ≡ node_at (raw_nodes bs files (nodes_of s)) n =
+      λ out.
+      node_is s' k' n ∙ outside n out ∙ sym (node_is s k n) ∙ sym (raw_out rf (raw_number I J b) bs s.home.core.inodes 1 n out (nodes_of s)) in
+      elim (cases_lt n 1) [
+        | inl zero_n ↦ outer (inl zero_n)
+        | inr low ↦
+            elim (cases_lt n (1 + s.home.core.inodes)) [
+              | inl high ↦ inner low high
+              | inr past ↦ outer (inr past)
+            ]
+      ])

@@ -1,0 +1,252 @@
+-- A refused release extends the history.
+use Rattle.std.proofs.Common.{◌≡◌, ℕ, ◌+◌, Bool, true, false, cond, ◌&&◌, not, eqb, List, [], ◌∷◌, map, length, Option, Some, None, sym, refl, ap, ◌∙◌, subst, inl, inr, ◌⊎◌, arith, filter, find}
+use Rattle.std.specs.Prelude.{MatchOption}
+use Rattle.std.specs.List.{AllByRecursion}
+use Rattle.std.proofs.lemmas.Bool.{and_parts, and_from, eqb-true, eq-eqb, both_ways, or_left, not-true}
+use Rattle.trio_nodes.specs.declared.grant.GrantKind.{GrantKind}
+use Rattle.trio_nodes.specs.declared.grant.GrantKind.TheVariants.{Write}
+use Rattle.trio_rights.specs.Row.{Row}
+use Rattle.trio_rights.specs.declared.kind.Kind.{Kind}
+use Rattle.trio_rights.specs.declared.kind.Kind.TheVariants.{Regular, Directory}
+use Rattle.trio_lists.specs.Lists.{In, is_among}
+use Rattle.trio_lists.specs.Counting.{count_up}
+use Rattle.trio_state.specs.Bundles.{Ends, refused_image}
+use Rattle.trio_state.specs.Given.{GivenTo}
+use Rattle.trio_layout.specs.Image.{Image, row_at}
+use Rattle.trio_state.specs.Kept.{Kept}
+use Rattle.trio_rights.specs.Bundle.{Written, Bundle, is_written}
+use Rattle.trio_state.specs.State.{OpenGrant, State, settled, creds_of}
+use Rattle.trio_state.specs.Tells.{Why}
+use Rattle.trio_state.specs.Step.{Release, Refused}
+use Rattle.trio_laws.proofs.Bundles.{Closed}
+use Rattle.trio_lists.proofs.Filters.{find-In, list_any-In, In-list_any, list_any-map}
+use Rattle.trio_surveys.proofs.Images.{some_of}
+use Rattle.trio_laws.proofs.StateFacts.{alone}
+use Rattle.trio_nodes.specs.declared.node.Node.{Node}
+use Rattle.trio_nodes.specs.declared.entry.Handed.{Handed}
+use Rattle.trio_nodes.specs.declared.entry.HandedFile.{HandedFile}
+use Rattle.trio_nodes.specs.declared.entry.RawBlock.{RawBlock}
+use Rattle.trio_nodes.specs.declared.entry.RawFile.{RawFile}
+use Rattle.trio_nodes.specs.Nodes.{Nodes, node_at, entry_in}
+use Rattle.trio_nodes.specs.Standing.{Standing, stands, is_others, is_given}
+use Rattle.trio_nodes.specs.GrantKinds.{same_kind}
+use Rattle.trio_nodes.specs.After.{bytes_in, raw_nodes}
+use Rattle.trio_nodes.specs.Legal.{IsWithinGrants, SameContent, HasRightsOf, HasPlaceOf, HasNameOf, LegalVerdict, BlocksAreKnown}
+use Rattle.trio_nodes.specs.Legal.{HasAllButBytesOf}
+use Rattle.trio_laws.specs.history.Stands.{size_of, bytes_of, node_of, node_by, nodes_of, standing_of, writer_of}
+use Rattle.trio_laws.specs.history.Entries.{bundle_handed, is_told, told_by, told_file, raw_file, raw_files, raw_blocks, raw_entry, refused_for}
+use Rattle.trio_laws.specs.history.Recorded.{LentWhole, IsMarked}
+use Rattle.trio_laws.proofs.history.Extends.{Makes, past_is}
+use Rattle.trio_laws.proofs.history.Facts.{node_is}
+use Rattle.trio_laws.proofs.history.OldBytes.{old_long}
+use Rattle.trio_laws.proofs.history.RawGiven.{given_grant, given_is, grants_end, handed_is, files_from}
+use Rattle.trio_laws.proofs.history.RawParts.{raw_number}
+use Rattle.trio_laws.proofs.history.RefusedNodes.{name_stays, size_stays, same_node, node_settled, refused_nodes}
+
+-- what holds of each of the files
+all_files : (P : RawFile → Type 0) (xs : List RawFile) → ((f : RawFile) → In f xs → P f) → AllByRecursion P xs
+all_files P [] h = tt
+all_files P (x ∷ xs) h = (h x (inl refl), all_files P xs (λ f i. h f (inr i)))
+
+one_of : (x y : Node) → Some x ≡ Some y → x ≡ y
+one_of x y e = cc e
+
+module _ (s s' : State) (k : Kept s) (k' : Kept s') (whole : LentWhole s) (whole' : LentWhole s') (lib : ℕ) (h : Handed) (given : GivenTo s lib (bundle_handed h)) (closed : Closed s lib (bundle_handed h)) (e : Ends s lib (bundle_handed h) (refused_image (settled s) (bundle_handed h)) s') (marked : (w : HandedFile) → In w h.writes → IsMarked s lib w) where
+  abbrev b : Bundle
+  b = bundle_handed h
+
+  abbrev image : Image
+  image = settled s
+
+  abbrev after : Image
+  after = refused_image image b
+
+  abbrev these : List RawFile
+  these = raw_files image after b
+
+  abbrev blocks : List RawBlock
+  blocks = raw_blocks image after h these
+
+  abbrev gs : List Standing
+  gs = map standing_of s.open_grants
+
+  -- a node before and after
+  was : (n : ℕ) → node_at (nodes_of s) n ≡ node_by image n (writer_of s n) (row_at s.home n)
+  was n = node_is s k n
+
+  is : (n : ℕ) → node_at (nodes_of s') n ≡ node_by after n (writer_of s' n) (row_at s.home n)
+  is n = node_is s' k' n ∙ node_settled s s' k k' whole lib h given closed e marked n
+
+  -- a live node, by its row
+  pub record Live (n : ℕ) (x : Node) : Type 0 where
+    pub row : Row
+    pub at : row_at s.home n ≡ Some row
+    pub before : x ≡ node_of image n (writer_of s n) row
+    pub now : node_at (nodes_of s') n ≡ Some (node_of after n (writer_of s' n) row)
+
+  live : (n : ℕ) (x : Node) → node_at (nodes_of s) n ≡ Some x → Live n x
+  live n x there = by (row_at s.home n) refl
+    where
+      by : (o : Option Row) → row_at s.home n ≡ o → Live n x
+      by None row = (let wrong : None ≡ Some x = sym (was n ∙ ap (node_by image n (writer_of s n)) row) ∙ there in absurd (cc wrong))
+      by (Some r) row = record {
+        row = r;
+        at = row;
+        before = sym (one_of (node_of image n (writer_of s n) r) x (sym (was n ∙ ap (node_by image n (writer_of s n)) row) ∙ there));
+        now = is n ∙ ap (node_by after n (writer_of s' n)) row;
+      }
+
+  -- every node keeps its place, name, kind and rights
+  entry_same : (dir n : ℕ) → entry_in dir (node_at (nodes_of s') n) ≡ entry_in dir (node_at (nodes_of s) n)
+  entry_same dir n = ap (entry_in dir) (is n) ∙ by (row_at s.home n) refl ∙ sym (ap (entry_in dir) (was n))
+    where
+      by : (o : Option Row) → row_at s.home n ≡ o → entry_in dir (node_by after n (writer_of s' n) o) ≡ entry_in dir (node_by image n (writer_of s n) o)
+      by None row = refl
+      by (Some r) row = ap (λ (l : List ℕ). cond (eqb r.parent dir) (Some (l, r.kind)) None) (name_stays s s' k k' whole lib h given closed e marked n r row)
+
+  unwritten_same : (n : ℕ) → is_written b n ≡ false → SameContent (nodes_of s) (nodes_of s') n
+  unwritten_same n un = record {
+    bytes = ap bytes_in (is n) ∙ by (row_at s.home n) refl ∙ sym (ap bytes_in (was n));
+    entries = λ m. entry_same n m;
+  }
+    where
+      by : (o : Option Row) → row_at s.home n ≡ o → bytes_in (node_by after n (writer_of s' n) o) ≡ bytes_in (node_by image n (writer_of s n) o)
+      by None row = refl
+      by (Some r) row = ap (λ (x : Node). x.bytes) (same_node s s' k k' whole lib h given closed e marked n r row un)
+
+  rights_same : (n : ℕ) (x : Node) → node_at (nodes_of s) n ≡ Some x → HasRightsOf x (node_at (nodes_of s') n)
+  rights_same n x there =
+      let l = live n x there in
+      let H : Node → Option Node → Type 0 = λ y o. HasRightsOf y o in
+      subst (λ o. H x o) (sym l.now) (subst (λ y. H y (Some (node_of after n (writer_of s' n) l.row))) (sym l.before) (refl, refl, refl, refl))
+
+  place_same : (n : ℕ) (x : Node) → node_at (nodes_of s) n ≡ Some x → HasPlaceOf x (node_at (nodes_of s') n)
+  place_same n x there =
+      let l = live n x there in
+      let H : Node → Option Node → Type 0 = λ y o. HasPlaceOf y o in
+      subst (λ o. H x o) (sym l.now) (subst (λ y. H y (Some (node_of after n (writer_of s' n) l.row))) (sym l.before) refl)
+
+  name_same : (n : ℕ) (x : Node) → node_at (nodes_of s) n ≡ Some x → HasNameOf x (node_at (nodes_of s') n)
+  name_same n x there =
+      let l = live n x there in
+      let H : Node → Option Node → Type 0 = λ y o. HasNameOf y o in
+      subst (λ o. H x o) (sym l.now) (subst (λ y. H y (Some (node_of after n (writer_of s' n) l.row))) (sym l.before) (refl, name_stays s s' k k' whole lib h given closed e marked n l.row l.at))
+
+  -- a grant stands on what is written, and no other library's
+  written_stands : (n : ℕ) → is_written b n ≡ true → stands gs lib n Write ≡ true
+  written_stands n wr =
+      let w = some_of (find (λ (w : Written). eqb w.ino n) b.writes) wr in
+      let f = find-In (λ (w : Written). eqb w.ino n) b.writes w.0 w.1 in
+      let l = given.writes w.0 f.0 in
+      let number : l.grant.ino ≡ n = l.ino ∙ eqb-true w.0.ino n f.1 in
+      list_any-map standing_of (λ (g : Standing). eqb g.lib lib && eqb g.ino n && same_kind g.kind Write) s.open_grants
+      ∙ In-list_any (λ (g : OpenGrant). eqb g.lib lib && eqb g.ino n && same_kind g.kind Write) l.grant s.open_grants l.is_open
+      (and_from (eqb l.grant.lib lib && eqb l.grant.ino n) (same_kind l.grant.kind Write)
+      (and_from (eqb l.grant.lib lib) (eqb l.grant.ino n) (eq-eqb l.grant.lib lib l.lib) (eq-eqb l.grant.ino n number))
+      (ap (λ (t : GrantKind). same_kind t Write) l.kind))
+
+  others_unwritten : (n : ℕ) → is_others gs lib n ≡ true → is_written b n ≡ false
+  others_unwritten n t = by (is_written b n) refl
+    where
+      by : (w : Bool) → is_written b n ≡ w → is_written b n ≡ false
+      by false wr = wr
+      by true wr =
+          let a = list_any-In (λ (g : OpenGrant). not (eqb g.lib lib) && eqb g.ino n) s.open_grants (sym (list_any-map standing_of (λ (g : Standing). not (eqb g.lib lib) && eqb g.ino n) s.open_grants) ∙ t) in
+          let p = and_parts (not (eqb a.0.lib lib)) (eqb a.0.ino n) a.2 in
+          let g = given_grant s k lib b given n (or_left (is_written b n) (is_among n b.holds) wr) in
+          let one : g.0 ≡ a.0 = alone s.open_grants g.0 a.0 k.apart g.1 a.1 g.4 (g.3 ∙ sym (eqb-true a.0.ino n p.1)) in
+          let mine : eqb a.0.lib lib ≡ true = eq-eqb a.0.lib lib (sym (ap (λ (x : OpenGrant). x.lib) one) ∙ g.2) in
+          absurd (both_ways (eqb a.0.lib lib) (not-true (eqb a.0.lib lib) p.0) mine)
+
+  within : IsWithinGrants gs (creds_of s lib) lib (nodes_of s) (nodes_of s')
+  within = record {
+    content = λ n x there. by_written n (is_written b n) refl;
+    name = λ n x there. inr (name_same n x there);
+    place = λ n x there. inr (place_same n x there);
+    rights = λ n x y there now. (let H : Option Node → Type 0 = λ o. HasRightsOf x o in subst H now (rights_same n x there));
+    others = λ n x there t. (rights_same n x there, place_same n x there, unwritten_same n (others_unwritten n t));
+    new = λ n y there now. absurd (none_new n y there now);
+  }
+    where
+      by_written : (n : ℕ) (w : Bool) → is_written b n ≡ w → (stands gs lib n Write ≡ true) ⊎ ((node_at (nodes_of s') n ≡ None) ⊎ SameContent (nodes_of s) (nodes_of s') n)
+      by_written n true wr = inl (written_stands n wr)
+      by_written n false un = inr (inr (unwritten_same n un))
+
+      none_new : (n : ℕ) (y : Node) → node_at (nodes_of s) n ≡ None → node_at (nodes_of s') n ≡ Some y → ⊥
+      none_new n y there now = by (row_at s.home n) refl
+        where
+          by : (o : Option Row) → row_at s.home n ≡ o → ⊥
+          by None row = (let wrong : None ≡ Some y = sym (is n ∙ ap (node_by after n (writer_of s' n)) row) ∙ now in absurd (cc wrong))
+          by (Some r) row = (let wrong : Some (node_of image n (writer_of s n) r) ≡ None = sym (was n ∙ ap (node_by image n (writer_of s n)) row) ∙ there in absurd (cc wrong))
+
+  -- ---- bytes
+
+  length_was : (n : ℕ) (r : Row) → row_at s.home n ≡ Some r → (kind : Kind) → kind ≡ Regular → length (bytes_of image n r (writer_of s n) kind) ≡ size_of after n
+  length_was n r row Regular t = old_long s k whole n r row ∙ sym (size_stays s s' k k' whole lib h given closed e marked n r row)
+  length_was n r row Directory t = absurd cc
+
+  length_same : (n : ℕ) (r : Row) → row_at s.home n ≡ Some r → (kind : Kind) → length (bytes_of after n r (writer_of s' n) kind) ≡ length (bytes_of image n r (writer_of s n) kind)
+  length_same n r row Directory = refl
+  length_same n r row Regular =
+      let row' : row_at s'.home n ≡ Some r = ap (λ (i : Image). row_at i n) e.settles ∙ row in
+      ap (λ (i : Image). length (bytes_of i n r (writer_of s' n) Regular)) (sym e.settles)
+      ∙ old_long s' k' whole' n r row'
+      ∙ ap (λ (i : Image). size_of i n) e.settles
+      ∙ sym (length_was n r row Regular refl)
+
+  judged : (why : Why) → LegalVerdict (refused_for why) (nodes_of s) (nodes_of s')
+  judged why n = by (row_at s.home n) refl
+    where
+      M : Option Node → Option Node → Type 0
+      M o o' = MatchOption o (o' ≡ None) (λ x. HasAllButBytesOf x o')
+
+      at_row : (o : Option Row) → row_at s.home n ≡ o → M (node_by image n (writer_of s n) o) (node_by after n (writer_of s' n) o)
+      at_row None row = refl
+      at_row (Some r) row = (
+        ap (λ (l : List ℕ). record { parent = r.parent; name = l; kind = r.kind; mode = r.mode; uid = r.uid; gid = r.gid; bytes = [] }) (name_stays s s' k k' whole lib h given closed e marked n r row),
+        length_same n r row r.kind,
+      )
+
+      by : (o : Option Row) → row_at s.home n ≡ o → M (node_at (nodes_of s) n) (node_at (nodes_of s') n)
+      by o row = subst (λ x. M x (node_at (nodes_of s') n)) (sym (was n)) (subst (λ y. M (node_by image n (writer_of s n) (row_at s.home n)) y) (sym (is n)) (at_row (row_at s.home n) refl))
+
+  -- a file of the entry, by its row
+  record Filed (m : ℕ) (f : RawFile) : Type 0 where
+    pub row : Row
+    pub at : row_at s.home m ≡ Some row
+    pub size : f.size ≡ size_of after m
+    pub kind : f.kind ≡ row.kind
+
+  filed : (m : ℕ) (f : RawFile) (t : Bool) (o : Option Row) → row_at s.home m ≡ o → cond t (told_by image after b m o o) None ≡ Some f → Filed m f
+  filed m f false o row q = absurd cc
+  filed m f true None row q = absurd cc
+  filed m f true (Some r) row q =
+      let same : told_file after b m false r ≡ f = cc q in
+      record { row = r; at = row; size = sym (ap (λ (x : RawFile). x.size) same); kind = sym (ap (λ (x : RawFile). x.kind) same) }
+
+  long_enough : (f : RawFile) → In f these → f.kind ≡ Regular → f.size ≡ length (bytes_in (node_at (nodes_of s) f.ino))
+  long_enough f i regular =
+      let q = files_from (raw_file image after b) (count_up 1 s.home.core.inodes) f i in
+      let number : f.ino ≡ q.0 = raw_number image after b q.0 f q.1 in
+      let r = filed q.0 f (is_told image after b q.0) (row_at s.home q.0) refl q.1 in
+      let bytes : bytes_in (node_at (nodes_of s) q.0) ≡ bytes_of image q.0 r.row (writer_of s q.0) r.row.kind = ap bytes_in (was q.0 ∙ ap (node_by image q.0 (writer_of s q.0)) r.at) in
+      r.size
+      ∙ sym (length_was q.0 r.row r.at r.row.kind (sym r.kind ∙ regular))
+      ∙ ap length (sym bytes)
+      ∙ ap (λ n. length (bytes_in (node_at (nodes_of s) n))) (sym number)
+
+  known : AllByRecursion (λ f. BlocksAreKnown blocks f (node_at (nodes_of s) f.ino)) these
+  known = all_files (λ f. BlocksAreKnown blocks f (node_at (nodes_of s) f.ino)) these (λ f i at regular inside. inr (let z = long_enough f i regular in omega (arith, z)))
+
+  pub refused_makes : (why : Why) → Makes s (Release lib b) (Refused why) s' (raw_entry image lib h (refused_for why) after)
+  refused_makes why = record {
+    legal = record {
+      given = λ n. given_is s k lib b given after n ∙ sym (handed_is h n);
+      within = subst (λ (ns : Nodes). IsWithinGrants gs (creds_of s lib) lib (nodes_of s) ns) (refused_nodes s s' k k' whole lib h given closed e marked) within;
+      judged = subst (λ (ns : Nodes). LegalVerdict (refused_for why) (nodes_of s) ns) (refused_nodes s s' k k' whole lib h given closed e marked) (judged why);
+      known = known;
+    };
+    comes = past_is s' (raw_nodes blocks these (nodes_of s)) (filter (λ (g : Standing). not (eqb g.lib lib && is_given these g.ino)) gs) (s.entries + 1) (refused_nodes s s' k k' whole lib h given closed e marked) (grants_end s k lib b given after s' e.grants) e.entries;
+    tells = refl;
+    says = refl;
+  }

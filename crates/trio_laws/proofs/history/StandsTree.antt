@@ -1,0 +1,179 @@
+-- A state stands for a tree.
+use Rattle.std.proofs.Common.{◌≡◌, ℕ, zero, suc, Bool, true, false, cond, List, [], ◌∷◌, ◌++◌, Option, Some, None, Ok, sym, refl, ap, ◌∙◌, subst, inl, inr, arith}
+use Rattle.std.specs.Str.{bytes_eq}
+use Rattle.std.proofs.lemmas.Bool.{both_ways, cases_eq}
+use Rattle.std.proofs.lemmas.Slice.Eq.{bytes_eq-Decides}
+use Rattle.trio_rights.specs.Row.{Row}
+use Rattle.trio_rights.specs.declared.kind.Kind.{Kind}
+use Rattle.trio_rights.specs.declared.kind.Kind.TheVariants.{Regular, Directory}
+use Rattle.trio_lists.specs.Lists.{In, gathered}
+use Rattle.trio_lists.proofs.Filters.{In-list_any, Ok-one}
+use Rattle.trio_lists.proofs.Members.{In-left, In-right, result_then-Ok}
+use Rattle.trio_layout.specs.Core.{Core, Location}
+use Rattle.trio_layout.specs.Entries.{Listed, has_name, place_of, repeated_name, unless_repeated, with_names_apart, page_entries, entries_of_kind}
+use Rattle.trio_layout.specs.Image.{Image, row_at}
+use Rattle.trio_layout.specs.Survey.{Met, plain, FileRead, file_of, survey, root_of, row_by}
+use Rattle.trio_surveys.specs.Tree.{Reaches}
+use Rattle.trio_surveys.proofs.Images.{met_numbered, one_met, read_met, root_is_met, row_at_is, row_met}
+use Rattle.trio_surveys.proofs.Local.{reads_from}
+use Rattle.trio_surveys.proofs.Reached.{survey_reached, reached_met}
+use Rattle.trio_surveys.proofs.Tree.{child_from}
+use Rattle.trio_nodes.specs.declared.node.Node.{Node}
+use Rattle.trio_nodes.specs.Nodes.{node_at}
+use Rattle.trio_onetree.specs.Tree.{IsDirectory, IsTree}
+use Rattle.trio_onetree.proofs.Children.{Names, one_node}
+use Rattle.trio_onetree.proofs.TreePut.{Found, found_at, found_child}
+use Rattle.trio_state.specs.Kept.{Kept}
+use Rattle.trio_state.specs.State.{State, settled}
+use Rattle.trio_laws.specs.history.Stands.{name_of, node_by, node_of, nodes_of, writer_of}
+use Rattle.trio_laws.specs.history.HistoryLaws.{StatesAreTrees}
+use Rattle.trio_laws.proofs.history.Facts.{Live, live, node_is}
+use Rattle.trio_laws.proofs.history.Listing.{Listing, listing, met_at, name_listed, tables_of}
+
+-- ---- names in a directory
+
+free_step : (b : Bool) (place : Location) (rest : Option Location) → cond b (Some place) rest ≡ None → (b ≡ false) × (rest ≡ None)
+free_step true place rest e = absurd cc
+free_step false place rest e = (refl, e)
+
+-- where no name comes again, no entry has the name of one that was seen
+not_seen : (seen ls : List Listed) (l x : Listed) → repeated_name seen ls ≡ None → In l ls → In x seen → x.entry.name ≡ l.entry.name → ⊥
+not_seen seen [] l x h i j e = absurd i
+not_seen seen (y ∷ ls) l x h (inl same) j e =
+    let f = free_step (has_name y.entry.name seen) (place_of y) (repeated_name (seen ++ y ∷ []) ls) h in
+    both_ways (has_name y.entry.name seen) f.0 (In-list_any (λ (z : Listed). bytes_eq z.entry.name y.entry.name) x seen j ((bytes_eq-Decides x.entry.name y.entry.name).1 (e ∙ ap (λ (z : Listed). z.entry.name) same)))
+not_seen seen (y ∷ ls) l x h (inr i) j e =
+    let f = free_step (has_name y.entry.name seen) (place_of y) (repeated_name (seen ++ y ∷ []) ls) h in
+    not_seen (seen ++ y ∷ []) ls l x f.1 i (In-left x seen (y ∷ []) j) e
+
+apart : (seen ls : List Listed) (l m : Listed) → repeated_name seen ls ≡ None → In l ls → In m ls → l.entry.name ≡ m.entry.name → l ≡ m
+apart seen [] l m h i j e = absurd i
+apart seen (y ∷ ls) l m h (inl a) (inl b) e = a ∙ sym b
+apart seen (y ∷ ls) l m h (inl a) (inr j) e =
+    let f = free_step (has_name y.entry.name seen) (place_of y) (repeated_name (seen ++ y ∷ []) ls) h in
+    absurd (not_seen (seen ++ y ∷ []) ls m y f.1 j (In-right y seen (y ∷ []) (inl refl)) (ap (λ (z : Listed). z.entry.name) (sym a) ∙ e))
+apart seen (y ∷ ls) l m h (inr i) (inl b) e =
+    let f = free_step (has_name y.entry.name seen) (place_of y) (repeated_name (seen ++ y ∷ []) ls) h in
+    absurd (not_seen (seen ++ y ∷ []) ls l y f.1 i (In-right y seen (y ∷ []) (inl refl)) (ap (λ (z : Listed). z.entry.name) (sym b) ∙ sym e))
+apart seen (y ∷ ls) l m h (inr i) (inr j) e =
+    let f = free_step (has_name y.entry.name seen) (place_of y) (repeated_name (seen ++ y ∷ []) ls) h in
+    apart (seen ++ y ∷ []) ls l m f.1 i j e
+
+unless_none : (ls es : List Listed) (o : Option Location) → repeated_name [] ls ≡ o → unless_repeated ls o ≡ Ok es → repeated_name [] es ≡ None
+unless_none ls es None h e = (let same : ls ≡ es = cc e in ap (repeated_name []) (sym same) ∙ h)
+unless_none ls es (Some place) h e = absurd cc
+
+entries_apart : (core : Core) (kind : Kind) (blocks : List ℕ) (es : List Listed) → entries_of_kind core kind blocks ≡ Ok es → repeated_name [] es ≡ None
+entries_apart core Regular blocks es e = (let none : [] ≡ es = cc e in ap (repeated_name []) (sym none))
+entries_apart core Directory blocks es e =
+    let r = result_then-Ok with_names_apart (gathered (page_entries core) blocks) es e in
+    unless_none r.0 es (repeated_name [] r.0) refl r.2
+
+-- ---- the nodes
+
+module _ (s : State) (k : Kept s) where
+  abbrev image : Image
+  image = settled s
+
+  abbrev core : Core
+  core = image.core
+
+  -- the node of a file that is met
+  met_node : (m : Met) → In m (survey core plain) → (r : Row) × (node_at (nodes_of s) m.ino ≡ Some (node_of image m.ino (writer_of s m.ino) r)) × (r.kind ≡ m.kind) × (r.parent ≡ m.parent)
+  met_node m i =
+      let f = read_met core plain k.fit k.verifies.sound m i in
+      let row : row_at s.home m.ino ≡ Some (row_by m f.0.body) = row_at_is core plain k.fit k.verifies.sound image (tables_of image k.fit k.verifies) m.ino ∙ row_met core plain k.fit k.verifies.sound m f.0 i f.1 in
+      (row_by m f.0.body, node_is s k m.ino ∙ ap (node_by image m.ino (writer_of s m.ino)) row, refl, refl)
+
+  root : (x : Node) × (node_at (nodes_of s) 1 ≡ Some x) × (x.kind ≡ Directory) × (x.parent ≡ 0)
+  root =
+      let r = met_node (root_of core) (root_is_met core plain k.fit k.verifies.sound) in
+      (node_of image 1 (writer_of s 1) r.0, r.1, r.2, r.3)
+
+  none : node_at (nodes_of s) 0 ≡ None
+  none = by (row_at s.home 0) refl
+    where
+      by : (o : Option Row) → row_at s.home 0 ≡ o → node_at (nodes_of s) 0 ≡ None
+      by None row = node_is s k 0 ∙ ap (node_by image 0 (writer_of s 0)) row
+      by (Some r) row =
+          let m = met_at image k.fit k.verifies 0 r row in
+          let low = (met_numbered core plain k.fit k.verifies.sound m.met m.stands).0 in
+          let number = m.number in absurd (omega (arith, low, number))
+
+  -- the directory of a file that isn't the root
+  directory_of : (n : ℕ) (x : Node) (l : Live s n x) (q : Listing core n l.row) → IsDirectory (node_at (nodes_of s) x.parent)
+  directory_of n x l q =
+      let p = met_node q.parent q.met in
+      let same : q.parent.ino ≡ x.parent = sym q.above ∙ ap (λ (y : Node). y.parent) (sym l.before) in
+      subst (λ d. IsDirectory (node_at (nodes_of s) d)) same (subst IsDirectory (sym p.1) (p.2 ∙ q.directory))
+
+  parents : (n : ℕ) (x : Node) → node_at (nodes_of s) n ≡ Some x → (n ≡ 1 → ⊥) → IsDirectory (node_at (nodes_of s) x.parent)
+  parents n x at other = (let l = live s k n x at in directory_of n x l (listing image k.fit k.verifies n l.row l.at other))
+
+  -- nothing else has the root's directory
+  no_sibling : (n : ℕ) (x : Node) → node_at (nodes_of s) n ≡ Some x → (n ≡ 1 → ⊥) → x.parent ≡ 0 → ⊥
+  no_sibling n x at other high =
+      there (node_at (nodes_of s) x.parent) (ap (node_at (nodes_of s)) high ∙ none) (parents n x at other)
+    where
+      there : (o : Option Node) → o ≡ None → IsDirectory o → ⊥
+      there None e is = is
+      there (Some z) e is = absurd cc
+
+  root_parent : (n : ℕ) (x : Node) → node_at (nodes_of s) n ≡ Some x → n ≡ 1 → x.parent ≡ 0
+  root_parent n x at one = ap (λ (z : Node). z.parent) (one_node (node_at (nodes_of s) 1) x root.0 (ap (node_at (nodes_of s)) (sym one) ∙ at) root.1) ∙ root.3
+
+  names : Names (nodes_of s)
+  names n m x y at bt parent name =
+      elim (cases_eq n 1) [
+        | inl first ↦
+            elim (cases_eq m 1) [
+              | inl second ↦ first ∙ sym second
+              | inr other ↦ absurd (no_sibling m y bt other (sym parent ∙ root_parent n x at first))
+            ]
+        | inr other ↦
+            elim (cases_eq m 1) [
+              | inl second ↦ absurd (no_sibling n x at other (parent ∙ root_parent m y bt second))
+              | inr another ↦
+                  let l = live s k n x at in
+                  let j = live s k m y bt in
+                  let p = listing image k.fit k.verifies n l.row l.at other in
+                  let q = listing image k.fit k.verifies m j.row j.at another in
+                  let dir : p.parent.ino ≡ q.parent.ino = sym p.above ∙ ap (λ (z : Node). z.parent) (sym l.before) ∙ parent ∙ ap (λ (z : Node). z.parent) j.before ∙ q.above in
+                  let met : p.parent ≡ q.parent = one_met core plain k.fit k.verifies.sound p.parent q.parent p.met q.met dir in
+                  let file : p.file ≡ q.file = Ok-one (file_of core p.parent) p.file q.file p.read (ap (file_of core) met ∙ q.read) in
+                  let listed : In q.entry p.file.entries = subst (λ (f : FileRead). In q.entry f.entries) (sym file) q.listed in
+                  let one : p.entry.entry.name ≡ q.entry.entry.name =
+                  sym (name_listed image k.fit k.verifies n l.row p other) ∙ ap (λ (z : Node). z.name) (sym l.before) ∙ name ∙ ap (λ (z : Node). z.name) j.before ∙ name_listed image k.fit k.verifies m j.row q another in
+                  let same : p.entry ≡ q.entry = apart [] p.file.entries p.entry q.entry (entries_apart core p.parent.kind p.file.chain.blocks p.file.entries (reads_from core p.parent p.file p.read).entries) p.listed listed one in
+                  sym p.number ∙ ap (λ (z : Listed). z.entry.ino) same ∙ q.number
+            ]
+      ]
+
+  -- each file that is reached from the root is found by names
+  reach : (steps : ℕ) (m : Met) → Reaches core plain steps m → Found (nodes_of s) m.ino
+  reach zero m e = ([], ap (λ (z : Met). Some z.ino) (sym e))
+  reach (suc steps) m d =
+      let c = child_from core plain d.0 m d.2 in
+      let there = met_node m (reached_met core plain k.fit.numbers k.verifies.sound (suc steps) m d) in
+      let parent : there.0.parent ≡ d.0.ino = there.3 ∙ ap (λ (z : Met). z.parent) c.is in
+      found_child (nodes_of s) names d.0.ino m.ino (name_of image m.ino there.0) (reach steps d.0 d.1)
+      (record { node = node_of image m.ino (writer_of s m.ino) there.0; at = there.1; parent = parent; name = refl })
+
+  found : (n : ℕ) (x : Node) → node_at (nodes_of s) n ≡ Some x → Found (nodes_of s) n
+  found n x at =
+      let l = live s k n x at in
+      let m = met_at image k.fit k.verifies n l.row l.at in
+      let way = survey_reached core plain m.met m.stands in
+      subst (Found (nodes_of s)) m.number (reach way.0 m.met way.2)
+
+  stands_tree : IsTree (nodes_of s)
+  stands_tree = record {
+    root = root;
+    none = none;
+    parents = parents;
+    names = names;
+    found = λ n x at. found_at (nodes_of s) root.0 n root.1 (found n x at);
+  }
+
+pub states_are_trees : StatesAreTrees
+states_are_trees s k = stands_tree s k

@@ -1,0 +1,35 @@
+-- Nodes with another at one number.
+use Rattle.std.proofs.Common.{◌≡◌, ℕ, zero, suc, ◌+◌, ◌<◌, ◌≤◌, [], ◌∷◌, length, Option, None, sym, refl, ap, ◌∙◌, inl, inr, arith, ext_get_or}
+use Rattle.std.proofs.lemmas.Bool.{cases_eq}
+use Rattle.trio_state.specs.State.{State}
+use Rattle.trio_state.specs.Kept.{Kept}
+use Rattle.trio_lists.proofs.Tabulated.{tabulated-length}
+use Rattle.trio_nodes.specs.declared.node.Node.{Node}
+use Rattle.trio_nodes.specs.Nodes.{Nodes, node_at, with_node}
+use Rattle.trio_nodes.proofs.NodeFacts.{with_node-same, with_node-else}
+use Rattle.trio_laws.specs.history.Stands.{node_in, nodes_of}
+use Rattle.trio_laws.proofs.history.Facts.{node_is}
+
+pub with_length : (nodes : Nodes) (n : ℕ) (v : Option Node) → n < length nodes → length (with_node nodes n v) ≡ length nodes
+with_length [] n v l = absurd (omega arith)
+with_length (x ∷ xs) zero v l = refl
+with_length (x ∷ xs) (suc n) v l = ap suc (with_length xs n v (omega arith))
+
+-- lists of one length that say the same of every number
+pub nodes_same : (a b : Nodes) → length a ≡ length b → ((n : ℕ) → node_at a n ≡ node_at b n) → a ≡ b
+nodes_same a b l h = ext_get_or None a b l (λ n x. h n)
+
+pub nodes_long : (s : State) → length (nodes_of s) ≡ s.home.core.inodes + 1
+nodes_long s = tabulated-length (node_in s) (s.home.core.inodes + 1)
+
+-- a state of which one node is another
+pub nodes_with : (s s' : State) → Kept s → Kept s' → s'.home.core.inodes ≡ s.home.core.inodes → (n : ℕ) (v : Option Node) → n ≤ s.home.core.inodes → node_in s' n ≡ v → ((m : ℕ) → (m ≡ n → ⊥) → node_in s' m ≡ node_in s m) → nodes_of s' ≡ with_node (nodes_of s) n v
+nodes_with s s' k k' count n v inside here else' =
+    let l = nodes_long s in
+    let l' = nodes_long s' in
+    let w = with_length (nodes_of s) n v (omega (arith, l, inside)) in
+    nodes_same (nodes_of s') (with_node (nodes_of s) n v) (omega (arith, l, l', w, count))
+    (λ m. elim (cases_eq m n) [
+      | inl same ↦ ap (node_at (nodes_of s')) same ∙ node_is s' k' n ∙ here ∙ sym (with_node-same (nodes_of s) n v) ∙ ap (node_at (with_node (nodes_of s) n v)) (sym same)
+      | inr differ ↦ node_is s' k' m ∙ else' m differ ∙ sym (node_is s k m) ∙ sym (with_node-else (nodes_of s) n m v differ)
+    ])
