@@ -5,12 +5,12 @@ use Rattle.std.specs.Option.{option_or}
 use Rattle.std.proofs.lemmas.List.{append-nil, length-append}
 use Rattle.std.proofs.lemmas.List.Concat.{flat_map-append}
 use Rattle.trio_rights.specs.Bundle.{bundle_pages}
-use Rattle.trio_lists.specs.Marked.{MarksJust}
 use Rattle.trio_layout.specs.Survey.{Met, FileRead, pages_in}
 use Rattle.trio_layout.specs.Case.{Case, file_in}
 use Rattle.trio_layout.specs.JudgedFiles.{pages_within}
 use Rattle.trio_layout.specs.Listing.{Listing, file_listed}
 use Rattle.trio_layout.specs.Rules.{file_keeps_rights}
+use Rattle.trio_judge.specs.Order.{AreMarked}
 use Rattle.trio_judge.specs.Listed.{blocks_listed, index_listed}
 use Rattle.trio_judge.specs.declared.walk.Walk.{Walk}
 use Rattle.trio_judge.specs.inner.Walk.{AreOwn, FirstForeign, HasListingRoom, Lists, Owns, Stands, body_keeps_rights, listing_of}
@@ -19,7 +19,7 @@ use Rattle.trio_judge.proofs.Noting.{files_still, foreign_block, foreign_index, 
 use Rattle.trio_judge.proofs.Listings.{listed_files, listed_pages, pages_few}
 
 -- the first foreign page, of the index pages and then the blocks
-pub first_of_both : (own before index blocks : List ℕ) (marks marks' : List Bool) (a b : Option ℕ) → FirstForeign own before index marks a → ((seen : List ℕ) → MarksJust marks seen → FirstForeign own seen blocks marks' b) → FirstForeign own before (index ++ blocks) marks' (option_or a b)
+pub first_of_both : (own before index blocks : List ℕ) (marks marks' : List Bool) (a b : Option ℕ) → FirstForeign own before index marks a → ((seen : List ℕ) → AreMarked own marks seen → FirstForeign own seen blocks marks' b) → FirstForeign own before (index ++ blocks) marks' (option_or a b)
 first_of_both own before index blocks marks marks' (Some page) b h k = foreign_index own before index blocks page h
 first_of_both own before index blocks marks marks' None (Some page) h k = foreign_block own before index blocks page (k (before ++ index) h.marked)
 first_of_both own before index blocks marks marks' None None h k = own_both own before index blocks marks marks' h (k (before ++ index) h.marked)
@@ -38,7 +38,7 @@ module _ (c : Case) (done es : List Met) (m : Met) (f : FileRead) (w : Walk) (e 
       owns_file c done es m l.owns (rw pages own.own_all) (rw pages own.new)
 
   -- it is listed
-  pub lists_file : (w' : Walk) (keeps : Bool) → keeps ≡ body_keeps_rights c m.ino f.body → w'.rights ≡ option_or w.rights (cond keeps None (Some (record { ino = m.ino; page = 0; slot = 0 }))) → w'.listing.listing ≡ record { held = w.listing.listing.held; files = w.listing.listing.files ++ file_listed m (Ok f); entries = w.listing.listing.entries } → w'.pages ≡ marks → w'.named ≡ w.named → Lists c (done ++ m ∷ []) es w'
+  pub lists_file : (w' : Walk) (keeps : Bool) → keeps ≡ body_keeps_rights c m.ino f.body → w'.rights ≡ option_or w.rights (cond keeps None (Some (record { ino = m.ino; page = 0; slot = 0 }))) → w'.listing.listing ≡ record { held = w.listing.listing.held; files = w.listing.listing.files ++ file_listed m (Ok f); entries = w.listing.listing.entries } → w'.pages.items ≡ marks → w'.named ≡ w.named → Lists c (done ++ m ∷ []) es w'
   lists_file w' keeps k r li pa na =
       let pages : flat_map (pages_within c) (done ++ m ∷ []) ≡ flat_map (pages_within c) done ++ (f.chain.index ++ f.chain.blocks) =
       flat_map-append (pages_within c) done (m ∷ []) ∙ ap (λ l. flat_map (pages_within c) done ++ l) (append-nil (pages_within c m) ∙ ap pages_in e) in

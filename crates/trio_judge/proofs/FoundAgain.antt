@@ -1,11 +1,12 @@
 -- Directories that list again what one before them lists.
-use Rattle.std.proofs.Common.{◌≡◌, ℕ, zero, suc, ◌+◌, ◌-◌, ◌<◌, ◌≤◌, ◌^◌, ◌⊎◌, eqb, min, Bool, true, false, ◌||◌, List, [], ◌∷◌, ◌++◌, length, map, get_or, set, replicate, take, Option, Some, None, Result, Ok, inl, inr, is_some, refl, sym, ap, ◌∙◌, subst, arith}
+use Rattle.std.proofs.Common.{◌≡◌, ℕ, zero, suc, ◌+◌, ◌-◌, ◌<◌, ◌≤◌, ◌^◌, ◌⊎◌, eqb, min, Bool, true, false, ◌&&◌, ◌||◌, List, [], ◌∷◌, ◌++◌, length, map, get_or, replicate, take, Option, Some, None, Result, Ok, inl, inr, is_some, refl, sym, ap, ◌∙◌, subst, arith}
 use Rattle.std.specs.List.{list_all, filter, flat_map}
-use Rattle.std.proofs.lemmas.Bool.{and_from, cases_eq}
+use Rattle.std.proofs.lemmas.Bool.{and_from, and_parts, cases_eq, false≢true, or_cases}
 use Rattle.std.proofs.lemmas.Bool.Decides.{nat_tests}
-use Rattle.std.proofs.lemmas.List.{append-nil, get_or-set_other, map-append, take_more}
+use Rattle.std.proofs.lemmas.List.{append-nil, length-replicate, map-append, take_more}
 use Rattle.std.proofs.lemmas.List.Concat.{flat_map-append}
 use Rattle.std.proofs.lemmas.List.Folds.{list_all-append}
+use Rattle.trio_rights.specs.Bundle.{bundle_pages}
 use Rattle.trio_rights.specs.declared.kind.Kind.TheVariants.{Directory}
 use Rattle.trio_lists.specs.Lists.{In, is_among, result_map, there_or}
 use Rattle.trio_lists.proofs.Filters.{In-filter, Ok-one, some_one}
@@ -25,6 +26,7 @@ use Rattle.trio_layout.specs.Survey.{FileRead, Met, children_in, first_listed, m
 use Rattle.trio_layout.specs.Within.{chain_within, entries_within, index_within}
 use Rattle.trio_layout.proofs.QueueLaws.{among-first_listed}
 use Rattle.trio_layout.proofs.WithinCore.{within_from, within_to}
+use Rattle.trio_judge.specs.Order.{is_marked}
 use Rattle.trio_judge.specs.Rooms.{file_in_room}
 use Rattle.trio_judge.specs.declared.room.PageRoom.{PageRoom}
 use Rattle.trio_judge.specs.declared.walk.Walk.{Walk}
@@ -33,6 +35,7 @@ use Rattle.trio_judge.specs.inner.Walk.{IsPassed, IsQueued, Stands, files_of, is
 use Rattle.trio_judge.proofs.FileNoted.{stands_still}
 use Rattle.trio_judge.proofs.IndexOnce.{index_once, index_page}
 use Rattle.trio_judge.proofs.Noting.{entries_still}
+use Rattle.trio_judge.proofs.Ordered.{none_marked}
 use Rattle.trio_judge.proofs.Visiting.{passed_more, queued_more}
 
 -- ---- a chain is known by its first index page
@@ -96,20 +99,26 @@ found_head c found m f first small dir e some bodies all = λ b chain same block
 
 -- ---- what is remembered
 
-mark_at : (n k : ℕ) (marks : List Bool) → (n ≡ k → ⊥) → get_or (set marks k true) n false ≡ get_or marks n false
-mark_at n k marks d = get_or-set_other marks k n true false d
-
-pub heads_more : (c : Case) (found : List ℕ) (heads : List Bool) (head : ℕ) → AreFoundHeads c found heads → IsFoundHead c found head → AreFoundHeads c found (set heads head true)
-heads_more c found heads head all one = λ n h.
-    elim (cases_eq n head) [
-      | inl same ↦ subst (IsFoundHead c found) (sym same) one
-      | inr differ ↦ all n (sym (mark_at n head heads differ) ∙ h)
-    ]
+pub heads_more : (c : Case) (found : List ℕ) (heads heads' : List Bool) (head : ℕ) → length heads' ≡ length heads → ((n : ℕ) → is_marked (bundle_pages c.bundle) heads' n ≡ (is_marked (bundle_pages c.bundle) heads n || (is_among head (bundle_pages c.bundle) && eqb head n))) → AreFoundHeads c found heads → IsFoundHead c found head → AreFoundHeads c found heads'
+heads_more c found heads heads' head len more all one = record {
+  places = len ∙ all.places;
+  each = λ n h.
+      elim (or_cases (is_marked (bundle_pages c.bundle) heads n) (is_among head (bundle_pages c.bundle) && eqb head n) (sym (more n) ∙ h)) [
+        | inl before ↦ all.each n before
+        | inr now ↦
+            let here = (and_parts (is_among head (bundle_pages c.bundle)) (eqb head n) now).1 in
+            let same : head ≡ n = grind (arith, nat_tests) in
+            subst (IsFoundHead c found) same one
+      ];
+}
 
 pub heads_later : (c : Case) (found found' : List ℕ) (heads : List Bool) → ((n : ℕ) → is_among n found ≡ true → is_among n found' ≡ true) → AreFoundHeads c found heads → AreFoundHeads c found' heads
-heads_later c found found' heads more all = λ n h b chain same some whole.
-    let a = all n h b chain same some whole in
-    record { entries = a.entries; read = a.read; bodies = a.bodies; known = λ l i k. more l.entry.ino (a.known l i k) }
+heads_later c found found' heads more all = record {
+  places = all.places;
+  each = λ n h b chain same some whole.
+      let a = all.each n h b chain same some whole in
+      record { entries = a.entries; read = a.read; bodies = a.bodies; known = λ l i k. more l.entry.ino (a.known l i k) };
+}
 
 -- ---- the queue
 
@@ -153,7 +162,7 @@ filter_seen c seen (e ∷ es) h = by (is_new c e) refl (filter_seen c seen es (�
 pub nothing_new : (c : Case) (fs : List Met) (heads : List Bool) (m : Met) → AreFoundHeads c (numbers fs) heads → IsListedBefore c heads m → NothingNew c fs m
 nothing_new c fs heads m all is =
     let core : Core = bundle_core c in
-    let a = all is.body.head is.head is.body is.chain refl is.blocks is.whole in
+    let a = all.each is.body.head is.head is.body is.chain refl is.blocks is.whole in
     let f : FileRead = record { body = is.body; chain = is.chain; entries = a.entries } in
     let entries : entries_within core m.kind is.chain.blocks ≡ Ok a.entries = ap (λ k. entries_within core k is.chain.blocks) is.directory ∙ a.read in
     let read : file_in c m ≡ Ok f = within_to core m f (record { body = is.reads; chain = is.whole; entries = entries }) in
@@ -194,14 +203,12 @@ pub found_of : (c : Case) (found : List ℕ) (m : Met) (f : FileRead) → file_i
 found_of c found m f e all = λ l i new.
     all (met_in plain m.ino l) (subst (In (met_in plain m.ino l)) (sym (ap (children_in plain m.ino) e)) (In-map (met_in plain m.ino) l f.entries i)) new
 
-no_marks_at : (n k : ℕ) → get_or (replicate n false) k false ≡ false
-no_marks_at zero k = refl
-no_marks_at (suc n) zero = refl
-no_marks_at (suc n) (suc k) = no_marks_at n k
-
 -- nothing is remembered
-pub no_heads : (c : Case) (found : List ℕ) (n : ℕ) → AreFoundHeads c found (replicate n false)
-no_heads c found n = λ head h. (let both : false ≡ true = sym (no_marks_at n head) ∙ h in absurd cc)
+pub no_heads : (c : Case) (found : List ℕ) → AreFoundHeads c found (replicate (length (bundle_pages c.bundle)) false)
+no_heads c found = record {
+  places = length-replicate _ _;
+  each = λ head h. absurd (false≢true (sym (none_marked (bundle_pages c.bundle) (length (bundle_pages c.bundle)) head) ∙ h));
+}
 
 -- ---- bodies
 

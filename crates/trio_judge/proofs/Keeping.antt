@@ -11,6 +11,7 @@ use Rattle.trio_layout.specs.Core.{page_of}
 use Rattle.trio_layout.specs.Case.{bundle_core}
 use Rattle.trio_judge.specs.Cases.{CaseShown, case_in}
 use Rattle.trio_judge.specs.Places.{bytes_at}
+use Rattle.trio_judge.specs.Order.{place_of}
 use Rattle.trio_judge.specs.Reading.{listed_seen}
 use Rattle.trio_judge.specs.declared.entries.DirEntry.{DirEntry}
 use Rattle.trio_judge.specs.declared.kept.KeptPages.{KeptPages}
@@ -123,7 +124,7 @@ number_is k kept page at p h s = rw (s.listed, s.page) at (h.numbered page)
 says_under : (inodes n page : ℕ) (es : List DirEntry) (bytes : List ℕ) (o : Option Span) (s : Span) → o ≡ Some s → n ≡ page → MatchOption o ⊤ (SaysEntries inodes n es bytes) → SaysEntries inodes page es bytes s
 says_under inodes n page es bytes o s e f h = rw (e, f) at h
 
-done_from : (k : CaseShown) (kept : KeptPages) (page at : ℕ) (p : KeptPage) (s : Span) (bytes : List ℕ) → page_of (bundle_core (case_in k)) page ≡ Some bytes → slice_get kept.table.items page ≡ Some at → slice_get kept.pages.items at ≡ Some p → p.entries ≡ Some s → SaysEntries k.inodes page kept.entries.items bytes s → IsDone k kept page
+done_from : (k : CaseShown) (kept : KeptPages) (page at : ℕ) (p : KeptPage) (s : Span) (bytes : List ℕ) → page_of (bundle_core (case_in k)) page ≡ Some bytes → place_of page kept.order.items ≡ Some at → slice_get kept.pages.items at ≡ Some p → p.entries ≡ Some s → SaysEntries k.inodes page kept.entries.items bytes s → IsDone k kept page
 done_from k kept page at p s bytes here listed stands read says = rw (here, listed, stands, read) says.says
 
 -- a block whose entries are kept
@@ -135,7 +136,7 @@ done_kept k kept page at p s h stands read =
     let says = says_under k.inodes p.no page kept.entries.items own.bytes p.entries s read number own.entries in
     done_from k kept page at p s own.bytes bytes stands.listed stands.page read says
 
-module _ (k : CaseShown) (old new : KeptPages) (at : ℕ) (p q : KeptPage) (keeps : KeepsPages k old) (stands : StandsAt old p.no at p) (table : new.table ≡ old.table) (pages : new.pages.items ≡ set old.pages.items at q) (grows : Grows old new) (number : q.no ≡ p.no) (kept : IsKept k new q) where
+module _ (k : CaseShown) (old new : KeptPages) (at : ℕ) (p q : KeptPage) (keeps : KeepsPages k old) (stands : StandsAt old p.no at p) (order : new.order ≡ old.order) (pages : new.pages.items ≡ set old.pages.items at q) (grows : Grows old new) (number : q.no ≡ p.no) (kept : IsKept k new q) where
   pages_still : List KeptPage
   pages_still = old.pages.items
 
@@ -166,7 +167,9 @@ module _ (k : CaseShown) (old new : KeptPages) (at : ℕ) (p q : KeptPage) (keep
 
   pub keeps_set : KeepsPages k new
   keeps_set = record {
-    numbered = λ page. rw table (numbered_at _ page (slice_get old.table.items page) (keeps.numbered page));
+    order = rw order keeps.order;
+    rising = rw order keeps.rising;
+    numbered = λ page. rw order (numbered_at _ page (place_of page old.order.items) (keeps.numbered page));
     each = each_at;
   }
 
@@ -178,16 +181,16 @@ module _ (k : CaseShown) (old new : KeptPages) (at : ℕ) (p q : KeptPage) (keep
   page_same None h = refl
   page_same (Some x) h = span_same x.entries h.bytes x.no h.entries
 
-  done_at : (s : Span) → q.entries ≡ Some s → (page : ℕ) (o : Option ℕ) → slice_get old.table.items page ≡ o → IsDone k old page → IsDone k new page
-  done_at s read page None e h = rw (table, e) (rw e at h)
+  done_at : (s : Span) → q.entries ≡ Some s → (page : ℕ) (o : Option ℕ) → place_of page old.order.items ≡ o → IsDone k old page → IsDone k new page
+  done_at s read page None e h = rw (order, e) (rw e at h)
   done_at s read page (Some j) e h =
       elim (cases_eq j at) [
-        | inl same ↦ done_kept k new page at q s keeps_set (record { listed = rw table (e ∙ ap Some same); page = here }) read
-        | inr differ ↦ rw (table, e, there j differ, page_same (slice_get old.pages.items j) (keeps.each j)) (rw e at h)
+        | inl same ↦ done_kept k new page at q s keeps_set (record { listed = rw order (e ∙ ap Some same); page = here }) read
+        | inr differ ↦ rw (order, e, there j differ, page_same (slice_get old.pages.items j) (keeps.each j)) (rw e at h)
       ]
 
   pub done_still : (s : Span) → q.entries ≡ Some s → (page : ℕ) → IsDone k old page → IsDone k new page
-  done_still s read page h = done_at s read page (slice_get old.table.items page) refl h
+  done_still s read page h = done_at s read page (place_of page old.order.items) refl h
 
 -- a page that wasn't read is counted
 pub index_unread : (kept : KeptPages) (at : ℕ) (p : KeptPage) → slice_get kept.pages.items at ≡ Some p → p.index ≡ None → 1 ≤ unread_index kept
@@ -205,7 +208,7 @@ pub behind : (n : ℕ) (old new : List DirEntry) → n ≡ length old → take n
 behind n old new e h = sym (take-append-drop n new) ∙ ap (λ x. x ++ drop n new) h
 
 -- a block that was just read: what is kept, what was done, and what is left
-module _ (k : CaseShown) (old new : KeptPages) (page at : ℕ) (p q : KeptPage) (s : Span) (keeps : KeepsPages k old) (stands : StandsAt old page at p) (table : new.table ≡ old.table) (pages : new.pages.items ≡ set old.pages.items at q) (same : q ≡ record p { entries = Some s }) (grows : Grows old new) (says : (bytes : List ℕ) → bytes_at k.bundle p.place ≡ Some bytes → SaysEntries k.inodes p.no new.entries.items bytes s) where
+module _ (k : CaseShown) (old new : KeptPages) (page at : ℕ) (p q : KeptPage) (s : Span) (keeps : KeepsPages k old) (stands : StandsAt old page at p) (order : new.order ≡ old.order) (pages : new.pages.items ≡ set old.pages.items at q) (same : q ≡ record p { entries = Some s }) (grows : Grows old new) (says : (bytes : List ℕ) → bytes_at k.bundle p.place ≡ Some bytes → SaysEntries k.inodes p.no new.entries.items bytes s) where
   was : IsKept k old p
   was = kept_at k old page at p keeps stands
 
@@ -225,12 +228,12 @@ module _ (k : CaseShown) (old new : KeptPages) (page at : ℕ) (p q : KeptPage) 
   })
 
   pub block_keeps : KeepsPages k new
-  block_keeps = keeps_set k old new at p q keeps own table pages grows (ap (λ x. x.no) same) kept
+  block_keeps = keeps_set k old new at p q keeps own order pages grows (ap (λ x. x.no) same) kept
 
   pub block_others : (other : ℕ) → IsDone k old other → IsDone k new other
-  block_others = done_still k old new at p q keeps own table pages grows (ap (λ x. x.no) same) kept s (ap (λ x. x.entries) same)
+  block_others = done_still k old new at p q keeps own order pages grows (ap (λ x. x.no) same) kept s (ap (λ x. x.entries) same)
 
   pub block_here : IsDone k new page
   block_here =
       done_kept k new page at q s block_keeps
-      (record { listed = rw table stands.listed; page = rw pages (slice_get-set_same old.pages.items at p q stands.page) }) (ap (λ x. x.entries) same)
+      (record { listed = rw order stands.listed; page = rw pages (slice_get-set_same old.pages.items at p q stands.page) }) (ap (λ x. x.entries) same)

@@ -13,6 +13,7 @@ mod Sorted
 mod Starting
 mod FoundAgain
 pub mod Gathers
+pub mod Ordered
 pub mod Keeping
 pub mod IndexOnce
 pub mod Chains

@@ -1,35 +1,29 @@
--- The pages of a bundle, one after another, and the table that tells where they stand.
-use Rattle.std.proofs.Common.{◌≡◌, ℕ, suc, zero, ◌+◌, ◌<◌, ◌≤◌, eqb, Bool, true, false, ◌||◌, not, cond, List, [], ◌∷◌, ◌++◌, length, set, get_or, map, take, replicate, Option, Some, None, nat_le, nat_lt, sym, refl, ap, ◌∙◌, append_assoc, inl, inr, arith}
-use Rattle.std.specs.Prelude.{count_by, is_some, slice_get, MatchOption}
+-- The pages of a bundle, one after another.
+use Rattle.std.proofs.Common.{◌≡◌, ℕ, ◌+◌, ◌<◌, ◌≤◌, Bool, true, not, cond, List, [], ◌∷◌, ◌++◌, length, get_or, map, take, Option, Some, None, nat_le, nat_lt, sym, refl, ap, ◌∙◌, append_assoc, inl, inr, arith}
+use Rattle.std.specs.Prelude.{count_by, is_some, slice_get}
 use Rattle.std.specs.List.{list_all, flat_map}
-use Rattle.std.specs.Option.{option_and_then, option_map}
-use Rattle.std.proofs.lemmas.Bool.{and_parts, cases_eq, lt-ltb, ltb-true}
-use Rattle.std.proofs.lemmas.Bool.Decides.{nat_tests}
+use Rattle.std.specs.Option.{option_map}
+use Rattle.std.proofs.lemmas.Bool.{and_parts, ltb-true}
 use Rattle.std.proofs.lemmas.List.{append-nil, map-append, take_more}
 use Rattle.std.proofs.lemmas.List.Concat.{flat_map-append}
-use Rattle.std.proofs.lemmas.List.Folds.{list_any-append}
 use Rattle.std.proofs.lemmas.List.Sums.{sum_by-cons}
-use Rattle.std.proofs.lemmas.Option.{get_or_from_slice_get, slice_get-get_or, slice_get_within, slice_get_past}
+use Rattle.std.proofs.lemmas.Option.{get_or_from_slice_get, slice_get_within}
 use Rattle.std.proofs.lemmas.Simd.{map-map}
 use Rattle.trio_rights.specs.Sheets.{Sheet}
 use Rattle.trio_rights.specs.Bundle.{bundle_pages}
-use Rattle.trio_lists.specs.Lists.{In, are_new, is_among}
-use Rattle.trio_lists.specs.Marked.{all_below}
+use Rattle.trio_lists.specs.Lists.{In, are_new}
 use Rattle.trio_layout.specs.declared.range.CoreRange.{CoreRange}
 use Rattle.trio_layout.specs.Range.{is_core}
 use Rattle.trio_layout.proofs.Walks.{pigeons}
-use Rattle.trio_lists.proofs.Members.{In-cases, In-map, list_all-In, list_all-each}
+use Rattle.trio_lists.proofs.Members.{In-cases, list_all-In}
 use Rattle.trio_lease.specs.Bundles.{Bundled}
 use Rattle.trio_lease.specs.Shown.{LentFile}
 use Rattle.trio_lease.specs.Views.{bundle_in, fresh_sheet, lent_sheet, written_in}
 use Rattle.trio_lease.specs.declared.parts.LentPage.{LentPage}
 use Rattle.trio_lease.specs.declared.parts.FreshParts.{FreshParts}
-use Rattle.trio_judge.specs.Rooms.{kept_page, IsUnread}
-use Rattle.trio_judge.specs.inner.Unread.{numbers_of, AreUnread, IsUnreadOf}
-use Rattle.trio_judge.specs.declared.kept.KeptPages.{KeptPages}
+use Rattle.trio_judge.specs.Rooms.{IsUnread}
+use Rattle.trio_judge.specs.inner.Unread.{numbers_of, AreUnread}
 use Rattle.trio_judge.specs.declared.kept.KeptPage.{KeptPage}
-use Rattle.trio_judge.proofs.Opening.{In-slice_get}
-use Rattle.trio_judge.proofs.Keeping.{slice_get-set_same, slice_get-set_other}
 
 pub numbers_of-append : (xs ys : List KeptPage) → numbers_of (xs ++ ys) ≡ numbers_of xs ++ numbers_of ys
 numbers_of-append xs ys = map-append (λ (p : KeptPage). p.no) xs ys
@@ -101,67 +95,11 @@ all_unread_index (p ∷ ps) h =
     let rest = all_unread_index ps (λ q i. h q (inr i)) in
     let c = sum_by-cons (λ (q : KeptPage). cond (not (is_some q.index)) 1 0) p ps in omega (arith, one, rest, c)
 
--- ---- the table
-
-or_false : (a b : Bool) → a ≡ false → b ≡ false → (a || (b || false)) ≡ false
-or_false true b h k = absurd cc
-or_false false true h k = absurd cc
-or_false false false h k = refl
-
-among_more : (ps : List KeptPage) (i page : ℕ) (p : KeptPage) → slice_get ps i ≡ Some p → (page ≡ p.no → ⊥) → is_among page (numbers_of (take i ps)) ≡ false → is_among page (numbers_of (take (i + 1) ps)) ≡ false
-among_more ps i page p at differ h =
-    let front : numbers_of (take (i + 1) ps) ≡ numbers_of (take i ps) ++ p.no ∷ [] =
-    ap numbers_of (take_more ps i p (slice_get_within ps i p at)) ∙ numbers_of-append (take i ps) (get_or ps i p ∷ [])
-    ∙ ap (λ (q : KeptPage). numbers_of (take i ps) ++ q.no ∷ []) (get_or_from_slice_get ps i p p at) in
-    let other : eqb p.no page ≡ false = grind (arith, nat_tests) in
-    ap (is_among page) front ∙ list_any-append (λ x. eqb x page) (numbers_of (take i ps)) (p.no ∷ []) ∙ or_false _ _ h other
-
-still : {A C : Type 0} (o : Option KeptPage) (page : ℕ) → MatchOption o A (λ q. q.no ≡ page) → (A → C) → MatchOption o C (λ q. q.no ≡ page)
-still None page h f = f h
-still (Some q) page h f = h
-
--- one page more is told
-pub tells_more : (ps : List KeptPage) (table : List ℕ) (i : ℕ) (p : KeptPage) → slice_get ps i ≡ Some p → p.no < length table → ((page : ℕ) → MatchOption (option_and_then (slice_get ps) (slice_get table page)) (is_among page (numbers_of (take i ps)) ≡ false) (λ q. q.no ≡ page)) → (page : ℕ) → MatchOption (option_and_then (slice_get ps) (slice_get (set table p.no i) page)) (is_among page (numbers_of (take (i + 1) ps)) ≡ false) (λ q. q.no ≡ page)
-tells_more ps table i p at small h page =
-    elim (cases_eq page p.no) [
-      | inl same ↦
-          let put : slice_get (set table p.no i) page ≡ Some i = ap (slice_get (set table p.no i)) same ∙ slice_get-set_same table p.no (get_or table p.no 0) i (slice_get-get_or table p.no 0 small) in
-          rw (put, at) (sym same)
-      | inr differ ↦
-          rw (slice_get-set_other table p.no page i differ) (still (option_and_then (slice_get ps) (slice_get table page)) page (h page) (among_more ps i page p at differ))
-    ]
-
-none_told : (ps : List KeptPage) (n most page : ℕ) → length ps ≤ most → option_and_then (slice_get ps) (slice_get (replicate n most) page) ≡ None
-none_told ps zero most page h = refl
-none_told ps (suc n) most zero h = slice_get_past ps most h
-none_told ps (suc n) most (suc page) h = none_told ps n most page h
-
--- a table that tells nothing
-pub tells_none : (ps : List KeptPage) (n most : ℕ) (page : ℕ) → length ps ≤ most → MatchOption (option_and_then (slice_get ps) (slice_get (replicate n most) page)) (is_among page [] ≡ false) (λ (q : KeptPage). q.no ≡ page)
-tells_none ps n most page h = rw (none_told ps n most page h) refl
-
 -- ---- how many pages there are
 
 core_below : (range : CoreRange) (x : ℕ) → is_core range x ≡ true → x < range.end
 core_below range x h = ltb-true x range.end (and_parts (nat_le range.first x) (nat_lt x range.end) h).1
 
-pub all_within : (range : CoreRange) (ns : List ℕ) → list_all (is_core range) ns ≡ true → all_below range.end ns ≡ true
-all_within range ns h = list_all-each (λ x. nat_lt x range.end) ns (λ x i. lt-ltb x range.end (core_below range x (list_all-In (is_core range) x ns h i)))
-
 -- different core pages are no more than there are pages
 pub few_pages : (range : CoreRange) (ns : List ℕ) → list_all (is_core range) ns ≡ true → are_new [] ns ≡ true → length ns ≤ range.end
 few_pages range ns core new = pigeons range.end ns new (λ x i. core_below range x (list_all-In (is_core range) x ns core i))
-
--- what the table tells of the bundle's pages
-pub told : (b : Bundled) (kept : KeptPages) → IsUnreadOf b kept → (page : ℕ) → MatchOption (kept_page kept page) (is_among page (bundle_pages (bundle_in b)) ≡ false) (λ p. p.no ≡ page)
-told b kept h page = still (kept_page kept page) page (h.table page) (λ e. sym (ap (is_among page) h.numbers) ∙ e)
-
--- the same of the page at a place
-pub small_at : (ps : List KeptPage) (i : ℕ) (d : KeptPage) (end n : ℕ) → i < length ps → all_below end (numbers_of ps) ≡ true → n ≡ end → (get_or ps i d).no < n
-small_at ps i d end n h within e =
-    let there = slice_get-get_or ps i d h in
-    let small = ltb-true (get_or ps i d).no end (list_all-In (λ x. nat_lt x end) (get_or ps i d).no (numbers_of ps) within (In-map (λ (p : KeptPage). p.no) (get_or ps i d) ps (In-slice_get ps i (get_or ps i d) there))) in
-    omega (arith, small, e)
-
-pub tells_at : (ps : List KeptPage) (table : List ℕ) (i : ℕ) (d : KeptPage) → i < length ps → (get_or ps i d).no < length table → ((page : ℕ) → MatchOption (option_and_then (slice_get ps) (slice_get table page)) (is_among page (numbers_of (take i ps)) ≡ false) (λ q. q.no ≡ page)) → (page : ℕ) → MatchOption (option_and_then (slice_get ps) (slice_get (set table (get_or ps i d).no i) page)) (is_among page (numbers_of (take (i + 1) ps)) ≡ false) (λ q. q.no ≡ page)
-tells_at ps table i d h small before page = tells_more ps table i (get_or ps i d) (slice_get-get_or ps i d h) small before page

@@ -1,5 +1,5 @@
 -- One entry more, and one file more.
-use Rattle.std.proofs.Common.{◌≡◌, ℕ, suc, ◌+◌, ◌<◌, ◌≤◌, ◌⊎◌, eqb, is_some, vec_capacity, Bool, true, false, not, cond, List, [], ◌∷◌, ◌++◌, length, map, get_or, set, take, Option, None, Some, Ok, inl, inr, refl, sym, ap, ◌∙◌, subst, append_assoc, arith}
+use Rattle.std.proofs.Common.{◌≡◌, ℕ, suc, ◌+◌, ◌<◌, ◌≤◌, ◌⊎◌, eqb, is_some, vec_capacity, vec_len, Bool, true, false, not, cond, List, [], ◌∷◌, ◌++◌, length, map, get_or, set, take, Option, None, Some, Ok, inl, inr, refl, sym, ap, ◌∙◌, subst, append_assoc, arith}
 use Rattle.std.specs.List.{list_all, flat_map, filter}
 use Rattle.std.specs.Option.{option_or}
 use Rattle.std.specs.Prelude.{MatchOption}
@@ -233,7 +233,7 @@ no_more (x ∷ xs) ys h i =
     let one : suc (length (without x ys)) ≡ length ys = shorter x ys (i x (inl refl)) in
     omega (arith, rest, one)
 
-pub ready_more : (c : Case) (w w' : Walk) (e : Met) → IsReady c w → HasMarks c w → files_of w' ≡ files_of w ++ e ∷ [] → is_among e.ino (numbers (files_of w)) ≡ false → is_new c e ≡ true → e.ino < length w.found → w'.found ≡ set w.found e.ino true → vec_capacity w.files ≤ vec_capacity w'.files → length w'.pages ≡ length w.pages → length w'.named ≡ length w.named → w'.listing.room ≡ w.listing.room → IsReady c w'
+pub ready_more : (c : Case) (w w' : Walk) (e : Met) → IsReady c w → HasMarks c w → files_of w' ≡ files_of w ++ e ∷ [] → is_among e.ino (numbers (files_of w)) ≡ false → is_new c e ≡ true → e.ino < length w.found → w'.found ≡ set w.found e.ino true → vec_capacity w.files ≤ vec_capacity w'.files → vec_len w'.pages ≡ vec_len w.pages → length w'.named ≡ length w.named → w'.listing.room ≡ w.listing.room → IsReady c w'
 ready_more c w w' e r m files unfound new h found places pages named room =
     let all : numbers (files_of w') ≡ numbers (files_of w) ++ e.ino ∷ [] = ap numbers files ∙ map_push (λ (x : Met). x.ino) (files_of w) e in
     record {

@@ -4,7 +4,7 @@ use Rattle.std.specs.Prelude.{⊤, is_some, slice_get, MatchOption}
 use Rattle.std.specs.List.{flat_map}
 use Rattle.std.specs.Option.{option_and_then, option_map}
 use Rattle.std.proofs.lemmas.Bool.{and_parts, ltb-true}
-use Rattle.std.proofs.lemmas.List.{get_or-set_same, get_or-set_other, length-set, length-replicate}
+use Rattle.std.proofs.lemmas.List.{get_or-set_same, get_or-set_other, length-map, length-set, length-replicate}
 use Rattle.std.proofs.lemmas.List.Sums.{count_by-le-length}
 use Rattle.trio_rights.specs.Sheets.{Sheet, sheet_numbers, with_pages}
 use Rattle.trio_rights.specs.Bundle.{bundle_pages, bundle_sheets}
@@ -27,6 +27,7 @@ use Rattle.trio_judge.specs.declared.kept.KeptPage.{KeptPage}
 use Rattle.trio_judge.specs.declared.places.PagePlace.{PagePlace}
 use Rattle.trio_judge.specs.declared.places.PagePlace.TheVariants.{Index, Block, Fresh}
 use Rattle.trio_judge.specs.declared.room.PageRoom.{PageRoom}
+use Rattle.trio_judge.proofs.Ordered.{not_ordered, order_length, order_rises, placed}
 
 -- ---- pages put in place
 
@@ -128,6 +129,11 @@ place_sheet b (Fresh at) n h =
 
 -- ---- the room
 
+-- it has each page of the bundle once
+pub page_count : (k : CaseShown) (room : PageRoom) → IsRoomFor k room → length room.kept.pages.items ≡ length (bundle_pages (bundle_in k.bundle))
+page_count k room made =
+    sym (length-map room.kept.pages.items (λ (p : KeptPage). p.no)) ∙ ap length (made.numbers ∙ made.order) ∙ order_length (bundle_pages (bundle_in k.bundle))
+
 module _ (k : CaseShown) (is : IsCase k.bundle k.range k.inodes) where
   here : (x : Sheet) → In x (bundle_sheets (bundle_in k.bundle)) → page_of (bundle_core (case_in k)) x.page ≡ Some x.bytes
   here x i =
@@ -152,8 +158,11 @@ module _ (k : CaseShown) (is : IsCase k.bundle k.range k.inodes) where
       }
 
   module _ (room : PageRoom) (made : IsRoomFor k room) where
-    numbered_at : (page : ℕ) (o : Option KeptPage) → MatchOption o (is_among page (bundle_pages (bundle_in k.bundle)) ≡ false) (λ p. p.no ≡ page) → MatchOption o (page_of (bundle_core (case_in k)) page ≡ None) (λ p. p.no ≡ page)
-    numbered_at page None h = absent page h
+    abbrev own : List ℕ
+    own = bundle_pages (bundle_in k.bundle)
+
+    numbered_at : (page : ℕ) (o : Option KeptPage) → MatchOption o (is_among page room.kept.order.items ≡ false) (λ p. p.no ≡ page) → MatchOption o (page_of (bundle_core (case_in k)) page ≡ None) (λ p. p.no ≡ page)
+    numbered_at page None h = absent page (not_ordered page own (rw made.order at h))
     numbered_at page (Some p) h = h
 
     each_at : (at : ℕ) (o : Option KeptPage) → slice_get room.kept.pages.items at ≡ o → MatchOption o ⊤ (IsKept k room.kept)
@@ -163,7 +172,9 @@ module _ (k : CaseShown) (is : IsCase k.bundle k.range k.inodes) where
     pub room_keeps : Keeps k room
     room_keeps = record {
       pages = record {
-        numbered = λ page. numbered_at page (kept_page room.kept page) (made.numbered page);
+        order = made.order;
+        rising = rw made.order (order_rises own is.pages);
+        numbered = λ page. numbered_at page (kept_page room.kept page) (rw made.numbers at (placed room.kept.pages.items page));
         each = λ at. each_at at (slice_get room.kept.pages.items at) refl;
       };
       space = made.space;
@@ -174,4 +185,4 @@ module _ (k : CaseShown) (is : IsCase k.bundle k.range k.inodes) where
     few_looks =
         let a = count_by-le-length (λ (p : KeptPage). not (is_some p.entries)) room.kept.pages.items in
         let c = count_by-le-length (λ (p : KeptPage). not (is_some p.index)) room.kept.pages.items in
-        let n = made.count in omega (arith, a, c, n)
+        let n = page_count k room made in omega (arith, a, c, n)

@@ -181,7 +181,7 @@ module _ (k : CaseShown) (b' : Bundled) (a : Alike k.bundle b') where
             owns = record { pages = refl; pages_once = refl; entries = refl; entries_once = refl };
             rights = subst (λ o. MatchOption o (KeepRights (case_in other) [] []) (RightsFail (case_in other) [] [])) (sym s.rights) (record { files = refl; entries = refl });
             listing = rw a.holds l.listing;
-            pages = l.pages;
+            pages = rw a.pages l.pages;
             named = l.named;
           });
         };
@@ -191,7 +191,7 @@ module _ (k : CaseShown) (b' : Bundled) (a : Alike k.bundle b') where
           own = λ n i. subst (In n) (sym own_same) (s.ready.own n i);
           found = s.ready.found;
           places = rw own_same s.ready.places;
-          pages = s.ready.pages;
+          pages = rw a.pages s.ready.pages;
           marks = elim s.ready.marks [
             | inl m ↦ inl (record { found = m.found; named = m.named })
             | inr regular ↦ inr regular
@@ -209,9 +209,9 @@ module _ (k : CaseShown) (b' : Bundled) (a : Alike k.bundle b') where
 
   pages_still : (room : PageRoom) → IsRoomFor k room → IsRoomFor other room
   pages_still room h = record {
-    numbered = λ page. rw a.pages (h.numbered page);
+    order = rw a.pages h.order;
+    numbers = h.numbers;
     each = λ p i. (let u : IsUnread k.bundle p = h.each p i in record { place = a.places p.place ∙ u.place; entries = u.entries; index = u.index });
-    count = rw a.pages h.count;
     space = h.space;
   }
 
@@ -222,5 +222,5 @@ room_still k number bytes room h =
     record {
       pages = pages_still k (with_bytes k.bundle number bytes) a room.pages h.pages;
       walk = starts_still k (with_bytes k.bundle number bytes) a room.walk h.walk;
-      heads = h.heads;
+      heads = rw a.pages h.heads;
     }

@@ -15,10 +15,12 @@ use Rattle.std.specs.Option.{option_and_then}
 use Rattle.trio_lease.specs.Views.{bundle_in}
 use Rattle.trio_layout.specs.Case.{Case, bundle_core}
 use Rattle.trio_judge.specs.Cases.{CaseShown, case_in}
+use Rattle.trio_judge.specs.Order.{in_order, place_of}
 use Rattle.trio_judge.specs.Rooms.{IsKept, KeepsPages, kept_page}
 use Rattle.trio_judge.specs.declared.kept.KeptPages.{KeptPages}
 use Rattle.trio_judge.specs.declared.kept.KeptPage.{KeptPage}
 use Rattle.trio_judge.specs.inner.Steps.{StandsAt}
+use Rattle.trio_judge.proofs.Ordered.{order_length, place_has}
 
 abbrev Pages : Type 0
 Pages = List (Option (List ℕ))
@@ -92,3 +94,13 @@ found_is_own k kept page (Some f) keeps h core =
     let k' = subst (λ o. MatchOption o ⊤ (IsKept k kept)) h.page (keeps.each f.0) in
     let there : page_of (bundle_core (case_in k)) page ≡ Some k'.bytes = ap (page_of (bundle_core (case_in k))) (sym no) ∙ k'.here in
     sym (ap is_some there) ∙ own_there (case_in k) page core
+
+-- the place of a page that is found, among the bundle's pages in rising order
+pub place_found : (k : CaseShown) (kept : KeptPages) (page at : ℕ) (p : KeptPage) → KeepsPages k kept → StandsAt kept page at p → place_of page (in_order (bundle_pages (bundle_in k.bundle))) ≡ Some at
+place_found k kept page at p keeps s = rw keeps.order at s.listed
+
+pub place_within : (k : CaseShown) (kept : KeptPages) (page at : ℕ) (p : KeptPage) → KeepsPages k kept → StandsAt kept page at p → at < length (bundle_pages (bundle_in k.bundle))
+place_within k kept page at p keeps s =
+    let own : List ℕ = bundle_pages (bundle_in k.bundle) in
+    let within = (place_has page (in_order own) at (place_found k kept page at p keeps s)).0 in
+    omega (arith, within, order_length own)

@@ -1,23 +1,38 @@
 -- One page more of a file.
-use Rattle.std.proofs.Common.{◌≡◌, ℕ, ◌+◌, ◌<◌, Bool, true, false, List, [], ◌++◌, length, get_or, set, take, drop, refl, sym, ap, ◌∙◌, ◌⊎◌}
+use Rattle.std.proofs.Common.{◌≡◌, ℕ, ◌+◌, ◌<◌, ◌&&◌, ◌||◌, eqb, Bool, true, false, not, inl, inr, List, [], ◌∷◌, ◌++◌, length, get_or, take, append_assoc, drop, refl, sym, ap, ◌∙◌, ◌⊎◌}
 use Rattle.std.proofs.lemmas.List.{append-nil, take_more, drop_more, take-append-drop}
 use Rattle.trio_lists.specs.Lists.{is_among}
-use Rattle.trio_lists.specs.Marked.{MarksJust}
-use Rattle.trio_lists.proofs.Marked.{MarksJust-more, are_new-more}
+use Rattle.trio_lists.proofs.Marked.{are_new-more, is_among-push}
+use Rattle.trio_judge.specs.Order.{is_marked, AreMarked}
 use Rattle.trio_judge.specs.inner.Walk.{AreOwn, IsForeign}
 use Rattle.trio_judge.proofs.Parts.{all-push}
 
-pub own_none : (own before : List ℕ) (marks : List Bool) → MarksJust marks before → AreOwn own before [] marks
+pub own_none : (own before : List ℕ) (marks : List Bool) → AreMarked own marks before → AreOwn own before [] marks
 own_none own before marks m = record { own_all = refl; new = refl; marked = rw (append-nil before) m }
 
-pub own_more : (own before pages : List ℕ) (marks : List Bool) (i : ℕ) → i < length pages → get_or pages i 0 < length marks → is_among (get_or pages i 0) own ≡ true → get_or marks (get_or pages i 0) false ≡ false → AreOwn own before (take i pages) marks → AreOwn own before (take (i + 1) pages) (set marks (get_or pages i 0) true)
-own_more own before pages marks i h l there new o =
-    let unseen : is_among (get_or pages i 0) (before ++ take i pages) ≡ false = sym (o.marked (get_or pages i 0) l) ∙ new in
+-- a page that was just marked
+pub own_more : (own before pages : List ℕ) (marks marks' : List Bool) (i : ℕ) → i < length pages → is_among (get_or pages i 0) own ≡ true → is_marked own marks (get_or pages i 0) ≡ false → ((other : ℕ) → is_marked own marks' other ≡ (is_marked own marks other || (is_among (get_or pages i 0) own && eqb (get_or pages i 0) other))) → AreOwn own before (take i pages) marks → AreOwn own before (take (i + 1) pages) marks'
+own_more own before pages marks marks' i h there new more o =
+    let page : ℕ = get_or pages i 0 in
+    let unseen : is_among page (before ++ take i pages) ≡ false = sym (o.marked page there) ∙ new in
+    let front : before ++ take (i + 1) pages ≡ (before ++ take i pages) ++ page ∷ [] = ap (λ l. before ++ l) (take_more pages i 0 h) ∙ sym (append_assoc before (take i pages) (page ∷ [])) in
     record {
-      own_all = rw (take_more pages i 0 h) (all-push (λ p. is_among p own) (take i pages) (get_or pages i 0) o.own_all there);
+      own_all = rw (take_more pages i 0 h) (all-push (λ p. is_among p own) (take i pages) page o.own_all there);
       new = are_new-more before pages i h ∙ rw (o.new, unseen) refl;
-      marked = MarksJust-more marks before pages i h l o.marked;
+      marked = λ other k. more other ∙ rw (there, o.marked other k) refl ∙ sym (ap (is_among other) front ∙ is_among-push other page (before ++ take i pages));
     }
+
+-- a page that gets no mark is foreign
+pub unmarked : (own before pages : List ℕ) (marks : List Bool) (i : ℕ) → AreOwn own before (take i pages) marks → (is_among (get_or pages i 0) own && not (is_marked own marks (get_or pages i 0))) ≡ false → (is_among (get_or pages i 0) own ≡ false) ⊎ (is_among (get_or pages i 0) (before ++ take i pages) ≡ true)
+unmarked own before pages marks i o h = by (is_among (get_or pages i 0) own) refl
+  where
+    seen : (b : Bool) → not b ≡ false → b ≡ true
+    seen true e = refl
+    seen false e = sym e
+
+    by : (b : Bool) → is_among (get_or pages i 0) own ≡ b → (b ≡ false) ⊎ (is_among (get_or pages i 0) (before ++ take i pages) ≡ true)
+    by true e = inr (sym (o.marked (get_or pages i 0) e) ∙ seen (is_marked own marks (get_or pages i 0)) (rw e at h))
+    by false e = inl refl
 
 pub foreign_here : (own before pages : List ℕ) (i : ℕ) → i < length pages → (is_among (get_or pages i 0) own ≡ false) ⊎ (is_among (get_or pages i 0) (before ++ take i pages) ≡ true) → IsForeign own before pages (get_or pages i 0)
 foreign_here own before pages i h f = record {

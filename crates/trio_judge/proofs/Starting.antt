@@ -1,10 +1,10 @@
 -- A walk before it begins.
-use Rattle.std.proofs.Common.{◌≡◌, ℕ, zero, suc, ◌+◌, ◌<◌, ◌≤◌, ◌⊎◌, Bool, true, false, ◌&&◌, ◌||◌, eqb, leb, ltb, List, [], ◌∷◌, ◌++◌, length, map, get_or, replicate, Option, None, Some, inl, inr, refl, sym, ap, ◌∙◌, subst, vec_capacity, arith}
+use Rattle.std.proofs.Common.{◌≡◌, ℕ, zero, suc, ◌+◌, ◌<◌, ◌≤◌, ◌⊎◌, Bool, true, false, ◌&&◌, ◌||◌, eqb, leb, ltb, List, [], ◌∷◌, ◌++◌, length, map, get_or, replicate, Option, None, Some, inl, inr, refl, sym, ap, ◌∙◌, subst, vec_capacity, vec_len, arith}
 use Rattle.std.specs.List.{list_all}
 use Rattle.std.proofs.lemmas.Bool.{and_parts}
 use Rattle.std.proofs.lemmas.Bool.Decides.{nat_tests}
 use Rattle.trio_rights.specs.Row.{Row, row_in}
-use Rattle.trio_rights.specs.Bundle.{Written}
+use Rattle.trio_rights.specs.Bundle.{Written, bundle_pages}
 use Rattle.trio_rights.specs.declared.kind.Kind.TheVariants.{Regular}
 use Rattle.trio_rights.specs.Kind.{same_kind}
 use Rattle.trio_lists.specs.Lists.{In, is_among, are_new}
@@ -24,6 +24,7 @@ use Rattle.trio_judge.specs.Cases.{CaseShown, case_in, lent_numbers, IsCase}
 use Rattle.trio_judge.specs.declared.walk.JudgedFile.{JudgedFile}
 use Rattle.trio_judge.specs.declared.walk.Walk.{Walk}
 use Rattle.trio_judge.specs.inner.Walk.{HasListingRoom, KeepRights, Lists, OwningFails, RightsFail, Starts, file_met, files_of, listing_of, own_numbers}
+use Rattle.trio_judge.proofs.Ordered.{are_unmarked}
 use Rattle.trio_judge.proofs.Sorted.{sorted-map}
 
 pub written_number : (w : Written) (o : Option Row) → (written_at w o).ino ≡ w.ino
@@ -93,8 +94,8 @@ written_once k fits =
     ∙ (and_parts (are_new [] (map (λ (f : LentFile). f.stands.ino) k.bundle.writes)) (are_new (map (λ (f : LentFile). f.stands.ino) k.bundle.writes) (map (λ h. h.ino) k.bundle.holds)) (sym (are_new-append [] (map (λ (f : LentFile). f.stands.ino) k.bundle.writes) (map (λ h. h.ino) k.bundle.holds)) ∙ fits.once)).0
 
 -- the walk that has passed no file
-pub starts : (k : CaseShown) (w : Walk) (n : ℕ) → IsCase k.bundle k.range k.inodes → files_of w ≡ written_files (case_in k) → length (own_numbers (case_in k)) ≤ vec_capacity w.files → (n ≡ k.inodes + 1) ⊎ ((n ≡ 0) × (list_all (λ m. same_kind m.kind Regular) (files_of w) ≡ true)) → MarksJust w.found (numbers (files_of w)) → length w.found ≡ n → w.named ≡ replicate n false → w.pages ≡ replicate k.range.end false → w.owning ≡ None → w.rights ≡ None → w.listing.listing ≡ listing_of (case_in k) [] [] → HasListingRoom (case_in k) w.listing.room → Starts (case_in k) w
-starts k w n fits files places sized found len named pages owning rights listing room =
+pub starts : (k : CaseShown) (w : Walk) (n : ℕ) → IsCase k.bundle k.range k.inodes → files_of w ≡ written_files (case_in k) → length (own_numbers (case_in k)) ≤ vec_capacity w.files → (n ≡ k.inodes + 1) ⊎ ((n ≡ 0) × (list_all (λ m. same_kind m.kind Regular) (files_of w) ≡ true)) → MarksJust w.found (numbers (files_of w)) → length w.found ≡ n → w.named ≡ replicate n false → w.pages.items ≡ replicate (length (bundle_pages (case_in k).bundle)) false → vec_len w.pages ≡ length (bundle_pages (case_in k).bundle) → w.owning ≡ None → w.rights ≡ None → w.listing.listing ≡ listing_of (case_in k) [] [] → HasListingRoom (case_in k) w.listing.room → Starts (case_in k) w
+starts k w n fits files places sized found len named pages many owning rights listing room =
     let c : Case = case_in k in
     let ns : numbers (files_of w) ≡ map (λ (x : Written). x.ino) (sorted_by (λ x. x.ino) c.bundle.writes) = ap numbers files ∙ written_numbers c in
     let fit : (x : ℕ) → In x (own_numbers c) → x < c.inodes + 1 =
@@ -112,7 +113,7 @@ starts k w n fits files places sized found len named pages owning rights listing
           owns = record { pages = refl; pages_once = refl; entries = refl; entries_once = refl };
           rights = subst (λ o. MatchOption o (KeepRights c [] []) (RightsFail c [] [])) (sym rights) (record { files = refl; entries = refl });
           listing = listing;
-          pages = rw pages (no_marks k.range.end);
+          pages = rw pages (are_unmarked (bundle_pages c.bundle) (length (bundle_pages c.bundle)));
           named = rw named (no_marks n);
         });
       };
@@ -122,7 +123,7 @@ starts k w n fits files places sized found len named pages owning rights listing
         own = own;
         found = found;
         places = places;
-        pages = ap length pages ∙ length-blank k.range.end;
+        pages = many;
         marks = elim sized [
           | inl all ↦ inl (record { found = len ∙ all; named = ap length named ∙ length-blank n ∙ all })
           | inr none ↦ inr none.1

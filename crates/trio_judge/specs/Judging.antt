@@ -1,5 +1,7 @@
 -- The room that a judgement needs.
-use Rattle.std.specs.Prelude.{◌≡◌, false, replicate}
+use Rattle.std.specs.Prelude.{◌≡◌, false, length, replicate}
+use Rattle.trio_rights.specs.Bundle.{bundle_pages}
+use Rattle.trio_lease.specs.Views.{bundle_in}
 use Rattle.trio_judge.specs.Cases.{CaseShown, case_in}
 use Rattle.trio_judge.specs.Rooms.{IsRoomFor}
 use Rattle.trio_judge.specs.inner.Walk.{Starts}
@@ -9,4 +11,4 @@ use Rattle.trio_judge.specs.declared.verdict.Room.{Room}
 pub record IsJudgeRoom (k : CaseShown) (room : Room) : Type 0 where
   pub pages : IsRoomFor k room.pages
   pub walk : Starts (case_in k) room.walk
-  pub heads : room.heads ≡ replicate k.range.end false
+  pub heads : room.heads.items ≡ replicate (length (bundle_pages (bundle_in k.bundle))) false

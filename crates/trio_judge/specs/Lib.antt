@@ -1,5 +1,6 @@
 pub mod Cases
 pub mod Places
+pub mod Order
 pub mod Rooms
 pub mod Reading
 pub mod Listed

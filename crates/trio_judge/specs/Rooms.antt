@@ -1,11 +1,11 @@
 -- What stands in the room of a judgement.
-use Rattle.std.specs.Prelude.{ℕ, ◌≡◌, ◌+◌, ◌*◌, ◌<◌, ◌≤◌, not, false, ⊤, List, [], map, length, take, drop, count_by, Option, None, Some, is_some, slice_get, vec_len, vec_capacity, MatchOption, Ok}
+use Rattle.std.specs.Prelude.{ℕ, ◌≡◌, ◌+◌, ◌*◌, ◌<◌, ◌≤◌, not, ⊤, List, [], map, length, take, drop, count_by, Option, None, Some, is_some, slice_get, vec_len, vec_capacity, MatchOption, Ok}
 use Rattle.std.specs.List.{flat_map}
 use Rattle.std.specs.Option.{option_and_then, option_map_or}
 use Rattle.trio_rights.specs.declared.kind.Kind.{Kind}
 use Rattle.trio_rights.specs.declared.kind.Kind.TheVariants.{Regular, Directory}
 use Rattle.trio_rights.specs.Bundle.{bundle_pages}
-use Rattle.trio_lists.specs.Lists.{In, is_among}
+use Rattle.trio_lists.specs.Lists.{In}
 use Rattle.trio_lease.specs.Bundles.{Bundled}
 use Rattle.trio_lease.specs.Views.{bundle_in}
 use Rattle.trio_layout.specs.declared.body.Body.{Body}
@@ -19,6 +19,7 @@ use Rattle.trio_layout.specs.Survey.{FileRead}
 use Rattle.trio_layout.specs.Case.{bundle_core}
 use Rattle.trio_judge.specs.Cases.{CaseShown, case_in}
 use Rattle.trio_judge.specs.Places.{bytes_at, number_at}
+use Rattle.trio_judge.specs.Order.{in_order, place_of, AreRising}
 use Rattle.trio_judge.specs.Reading.{listed_seen}
 use Rattle.trio_judge.specs.declared.room.PageRoom.{PageRoom}
 use Rattle.trio_judge.specs.declared.entries.DirEntry.{DirEntry}
@@ -33,7 +34,7 @@ part s xs = take s.len (drop s.from xs)
 
 -- the page of the bundle with this number; None where it is none of the bundle's
 abbrev pub kept_page : KeptPages → ℕ → Option KeptPage
-kept_page kept page = option_and_then (λ at. slice_get kept.pages.items at) (slice_get kept.table.items page)
+kept_page kept page = option_and_then (λ at. slice_get kept.pages.items at) (place_of page kept.order.items)
 
 -- the entries that were read on a page as a directory block; none where it wasn't read, or is none of the bundle's
 abbrev pub entries_kept : KeptPages → ℕ → List Listed
@@ -100,8 +101,10 @@ pub record IsKept (k : CaseShown) (kept : KeptPages) (p : KeptPage) : Type 0 whe
   pub entries : MatchOption p.entries ⊤ (SaysEntries k.inodes p.no kept.entries.items bytes)
   pub index : MatchOption p.index ⊤ (SaysIndex k.range kept.numbers.items bytes)
 
--- the pages of the bundle stand at their numbers, and what is kept of each is true of the case
+-- the pages of the bundle stand in the order of their numbers, and what is kept of each is true of the case
 pub record KeepsPages (k : CaseShown) (kept : KeptPages) : Type 0 where
+  pub order : kept.order.items ≡ in_order (bundle_pages (bundle_in k.bundle))
+  pub rising : AreRising kept.order.items
   pub numbered : (page : ℕ) → MatchOption (kept_page kept page) (page_of (bundle_core (case_in k)) page ≡ None) (λ p. p.no ≡ page)
   pub each : (at : ℕ) → MatchOption (slice_get kept.pages.items at) ⊤ (IsKept k kept)
 
@@ -120,7 +123,7 @@ pub record IsUnread (b : Bundled) (p : KeptPage) : Type 0 where
 -- A room made for this case, in which nothing was read yet. It goes by the numbers of the bundle's pages, whatever
 -- their bytes are.
 pub record IsRoomFor (k : CaseShown) (room : PageRoom) : Type 0 where
-  pub numbered : (page : ℕ) → MatchOption (kept_page room.kept page) (is_among page (bundle_pages (bundle_in k.bundle)) ≡ false) (λ p. p.no ≡ page)
+  pub order : room.kept.order.items ≡ in_order (bundle_pages (bundle_in k.bundle))
+  pub numbers : map (λ p. p.no) room.kept.pages.items ≡ room.kept.order.items
   pub each : (p : KeptPage) → In p room.kept.pages.items → IsUnread k.bundle p
-  pub count : length room.kept.pages.items ≡ length (bundle_pages (bundle_in k.bundle))
   pub space : HasSpace k.range room

@@ -1,7 +1,9 @@
 //! Directories that list again just what one before them lists.
 
-ghost use Rattle.std.specs.Prelude.{◌≡◌, ◌+◌, ◌<◌, ◌≤◌, ℕ, IfErr, IfOk, IsTrue, List, Err, Ok, OnOk, Some, true};
+ghost use Rattle.std.specs.Prelude.{◌≡◌, ◌+◌, ◌≤◌, ℕ, IfErr, IfOk, IsTrue, List, Err, Ok, OnOk, Some, length, true, vec_len};
 ghost use Rattle.std.specs.List.{flat_map, list_all};
+ghost use Rattle.trio_rights.specs.Bundle.{bundle_pages};
+ghost use Rattle.trio_lease.specs.Views.{bundle_in};
 ghost use Rattle.trio_layout.specs.Body.{body_of};
 ghost use Rattle.trio_layout.specs.Case.{file_in};
 ghost use Rattle.trio_layout.specs.JudgedFiles.{entries_in};
@@ -14,10 +16,10 @@ ghost use Rattle.trio_judge.specs.inner.Walk.{file_met};
 use crate::case::Case;
 use crate::chain::read_chain;
 use crate::entries::{DirEntry, FaultPlace};
+use crate::pages::{is_marked, mark};
 use crate::room::PageRoom;
 use crate::walk::JudgedFile;
 use trio_layout::{Body, CoreRange};
-use trio_marks::Marks;
 use trio_page::Reads;
 use trio_rights::Kind;
 
@@ -27,11 +29,12 @@ use trio_rights::Kind;
 pub(crate) fn is_listed_before(
     case: &Case,
     room: &mut PageRoom,
-    heads: &Marks,
+    heads: &[bool],
     file: &JudgedFile,
     reads: &mut Reads,
 ) -> Result<bool, FaultPlace>
     requires keeps { Keeps case.now room.old }
+    requires places { length heads.now ≡ length (bundle_pages (bundle_in case.now.bundle)) }
     ensures before { IfOk result (λ before. IsTrue before → IsListedBefore (case_in case.now) heads.now (file_met file.now)) }
     ensures bad { IfErr result (λ p. file_in (case_in case.now) (file_met file.now) ≡ Err (place_seen p)) }
     ensures keeps { Keeps case.now room.new }
@@ -41,7 +44,8 @@ pub(crate) fn is_listed_before(
     let Some(body) = Body::read(&file.body, file.kind, case.range()) else {
         return Err(FaultPlace { page: 0, slot: 0 });
     };
-    if file.kind == Kind::Regular || body.blocks() == 0 || !heads.has(body.head) {
+    let regular = file.kind == Kind::Regular;
+    if regular || body.blocks() == 0 || !is_marked(case, room, heads, body.head) {
         return Ok(false);
     }
     match read_chain(case, room, &body, reads) {
@@ -52,20 +56,17 @@ pub(crate) fn is_listed_before(
 
 /// Marks the first index page of a directory that was gone over, where the body in each of its
 /// entries is in the grammar.
-pub(crate) fn mark_head(case: &Case, room: &PageRoom, heads: &mut Marks, file: &JudgedFile)
+pub(crate) fn mark_head(case: &Case, room: &PageRoom, heads: &mut Vec<bool>, file: &JudgedFile)
     requires keeps { Keeps case.now room.now }
+    requires places { vec_len heads.old ≡ length (bundle_pages (bundle_in case.now.bundle)) }
     requires read { (body : Body) → body_of file.now.kind case.now.range file.now.body ≡ Some body → file_in (case_in case.now) (file_met file.now) ≡ Ok (file_in_room room.now file.now.kind body) }
-    ensures heads { (found : List ℕ) → AreFoundHeads (case_in case.now) found heads.old → AreAllFound (case_in case.now) found (entries_in (case_in case.now) (file_met file.now)) → AreFoundHeads (case_in case.now) found heads.new }
+    ensures heads { (found : List ℕ) → AreFoundHeads (case_in case.now) found heads.old.items → AreAllFound (case_in case.now) found (entries_in (case_in case.now) (file_met file.now)) → AreFoundHeads (case_in case.now) found heads.new.items }
 {
     let Some(body) = Body::read(&file.body, file.kind, case.range()) else {
         return;
     };
-    if file.kind == Kind::Directory
-        && body.blocks() > 0
-        && (body.head as usize) < heads.len()
-        && have_bodies(case, room)
-    {
-        let _new = heads.set(body.head);
+    if file.kind == Kind::Directory && body.blocks() > 0 && have_bodies(case, room) {
+        let _new = mark(case, room, heads, body.head);
     }
 }
 

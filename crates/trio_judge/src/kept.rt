@@ -1,14 +1,14 @@
 //! The pages of a bundle, with what they say as far as that was read.
 
-ghost use Rattle.std.specs.Prelude.{◌≡◌, ◌<◌, ◌≤◌, ◌++◌, [], true, None, Some, MatchOption, IfOk, OnOk, length, map, slice_get, slice_set, vec_len};
+ghost use Rattle.std.specs.Prelude.{◌≡◌, ◌≤◌, ◌++◌, [], true, None, Some, MatchOption, IfOk, OnOk, map, slice_get, vec_len};
 ghost use Rattle.std.specs.List.{list_all};
 ghost use Rattle.trio_rights.specs.Bundle.{bundle_pages};
 ghost use Rattle.trio_lists.specs.Lists.{are_new};
-ghost use Rattle.trio_lists.specs.Marked.{all_below};
 ghost use Rattle.trio_lease.specs.Bundles.{Bundled};
 ghost use Rattle.trio_lease.specs.Views.{bundle_in};
 ghost use Rattle.trio_layout.specs.Range.{is_core};
-ghost use Rattle.trio_judge.specs.inner.Unread.{numbers_of, AreUnread, IsUnreadOf, TellsPages};
+ghost use Rattle.trio_judge.specs.inner.Unread.{numbers_of, AreUnread, IsUnreadOf};
+ghost use Rattle.trio_judge.specs.Order.{in_order, AreRising};
 ghost use Rattle.trio_judge.specs.Reading.{listed_seen};
 ghost use Rattle.trio_judge.specs.Rooms.{entries_kept, kept_page, unread_blocks, HasPlaces, KeepsPages};
 ghost use Rattle.trio_judge.specs.inner.Steps.{StandsAt};
@@ -25,9 +25,9 @@ use trio_page::{NoMemory, PageNo};
 /// block its entries, as an index page its numbers and its link.
 #[derive(Drop)]
 pub(crate) struct KeptPages {
-    /// By page number, at which of `pages` it stands; past their end where it is none of the
-    /// bundle's.
-    pub table: Vec<u32>,
+    /// The numbers of the pages, in rising order.
+    pub order: Vec<u32>,
+    /// The pages, in the same order.
     pub pages: Vec<KeptPage>,
     /// The entries of the directory blocks that were read.
     pub entries: Vec<DirEntry>,
@@ -73,10 +73,10 @@ impl KeptPages {
         ensures places { IfOk result (λ kept. HasPlaces kept) }
         ensures count { IfOk result (λ kept. (vec_len kept.pages ≤ range.end) × (unread_blocks kept ≡ vec_len kept.pages)) }
     {
-        let pages = unread_pages(alloc, bundle)?;
+        let pages = sorted_pages(alloc, bundle)?;
         let count = pages.len();
         Ok(KeptPages {
-            table: table_of(alloc, &pages, range.end)?,
+            order: numbers_of(alloc, &pages)?,
             pages,
             entries: Vec::with_capacity(alloc, 16 * count)?,
             numbers: Vec::with_capacity(alloc, 511 * count)?,
@@ -86,9 +86,10 @@ impl KeptPages {
     /// The page of this number, and where it stands among the pages. `None` exactly where it is none
     /// of the bundle's.
     pub fn find(&self, no: u32) -> Option<(usize, KeptPage)>
+        requires { AreRising self.now.order.items }
         ensures { MatchOption result (kept_page self.now no ≡ None) (λ f. StandsAt self.now no f.0 f.1) }
     {
-        let at = *self.table.get(no as usize)? as usize;
+        let at = self.order.binary_search(&no).ok()?;
         Some((at, *self.pages.get(at)?))
     }
 
@@ -111,6 +112,27 @@ impl KeptPages {
             _ => &[],
         }
     }
+}
+
+/// The pages of a bundle in rising order of their numbers.
+fn sorted_pages(alloc: Global, bundle: &Bundle) -> Result<Vec<KeptPage>, NoMemory>
+    ensures numbers { IfOk result (λ v. numbers_of v.items ≡ in_order (bundle_pages (bundle_in bundle.now))) }
+    ensures unread { IfOk result (λ v. AreUnread bundle.now v.items) }
+{
+    let mut pages = unread_pages(alloc, bundle)?;
+    pages.sort_by_key(|page| page.no)?;
+    Ok(pages)
+}
+
+/// The numbers of these pages.
+fn numbers_of(alloc: Global, pages: &[KeptPage]) -> Result<Vec<u32>, NoMemory>
+    ensures { IfOk result (λ v. v.items ≡ numbers_of pages.now) }
+{
+    let mut numbers = Vec::with_capacity(alloc, pages.len())?;
+    for page in pages {
+        numbers.push(page.no)?;
+    }
+    Ok(numbers)
 }
 
 /// The pages of a bundle: of each write lease its index pages and then its blocks, and after them the
@@ -176,28 +198,4 @@ fn unread(no: PageNo, place: PagePlace) -> KeptPage
         entries: None,
         index: None,
     }
-}
-
-/// By page number, at which of the pages it stands; `u32::MAX`, past their end, where it is none of
-/// them.
-fn table_of(alloc: Global, pages: &[KeptPage], end: u32) -> Result<Vec<u32>, NoMemory>
-    requires few { length pages.now ≤ end }
-    requires within { all_below end (numbers_of pages.now) ≡ true }
-    ensures { IfOk result (λ t. TellsPages pages.now t.items) }
-{
-    let mut table = vec![in alloc; u32::MAX; end as usize]?;
-    let mut at = 0;
-    for page in pages {
-        note(&mut table, page, at);
-        at += 1;
-    }
-    Ok(table)
-}
-
-fn note(table: &mut Vec<u32>, page: &KeptPage, at: u32)
-    requires { page.now.no < vec_len table.old }
-    ensures noted { table.new.items ≡ slice_set table.old.items page.now.no at }
-    ensures len { vec_len table.new ≡ vec_len table.old }
-{
-    table[page.no as usize] = at;
 }

@@ -35,7 +35,7 @@ impl Walk {
         Ok(Walk {
             files,
             found,
-            pages: Marks::with(alloc, case.range().end)?,
+            pages: vec![in alloc; false; pages]?,
             named: Marks::with(alloc, numbers)?,
             listing: held_listing(alloc, case, pages, numbers)?,
             owning: None,

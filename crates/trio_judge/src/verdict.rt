@@ -13,7 +13,6 @@ use crate::listing::Listing;
 use crate::room::PageRoom;
 use crate::walk::{FaultAt, Walk};
 use std::alloc::Global;
-use trio_marks::Marks;
 use trio_page::{NoMemory, Reads};
 
 /// What the judge says of a bundle.
@@ -56,9 +55,9 @@ impl Verdict {
 pub struct Room {
     pages: PageRoom,
     walk: Walk,
-    /// By page, whether a directory whose chain begins with it was gone over, so that another one
-    /// needn't be.
-    heads: Marks,
+    /// In the order of the bundle's pages, whether a directory whose chain begins with the page was
+    /// gone over, so that another one needn't be.
+    heads: Vec<bool>,
 }
 
 impl Room {
@@ -67,8 +66,9 @@ impl Room {
         ensures { IfOk result (IsJudgeRoom case.now) }
     {
         let pages = PageRoom::with(alloc, case)?;
-        let walk = Walk::with(alloc, case, pages.kept.pages.len())?;
-        let heads = Marks::with(alloc, case.range().end)?;
+        let count = pages.kept.pages.len();
+        let walk = Walk::with(alloc, case, count)?;
+        let heads = vec![in alloc; false; count]?;
         Ok(Room { pages, walk, heads })
     }
 }

@@ -99,8 +99,8 @@ pub(crate) struct Walk {
     pub files: Vec<JudgedFile>,
     /// By inode number, whether it is one of these.
     pub found: Marks,
-    /// By page, whether a file passed lists it.
-    pub pages: Marks,
+    /// In the order of the bundle's pages, whether a file passed lists the page.
+    pub pages: Vec<bool>,
     /// By inode number, whether an entry passed names it.
     pub named: Marks,
     /// What is listed, up to the first fault of I2.
@@ -120,7 +120,7 @@ impl Walk {
         &mut self,
         case: &Case,
         room: &mut PageRoom,
-        heads: &mut Marks,
+        heads: &mut Vec<bool>,
         at: usize,
         reads: &mut Reads,
     ) -> Result<(), FaultAt>
@@ -129,12 +129,12 @@ impl Walk {
         requires queued { IsQueued (case_in case.now) at self.old }
         requires passed { IsPassed (case_in case.now) at self.old }
         requires ready { IsReady (case_in case.now) self.old }
-        requires heads { AreFoundHeads (case_in case.now) (numbers (files_of self.old)) heads.old }
+        requires heads { AreFoundHeads (case_in case.now) (numbers (files_of self.old)) heads.old.items }
         ensures keeps { Keeps case.now room.new }
         ensures queued { OnOk result (IsQueued (case_in case.now) (at + 1) self.new) }
         ensures passed { OnOk result (IsPassed (case_in case.now) (at + 1) self.new) }
         ensures ready { OnOk result (IsReady (case_in case.now) self.new) }
-        ensures heads { OnOk result (AreFoundHeads (case_in case.now) (numbers (files_of self.new)) heads.new) }
+        ensures heads { OnOk result (AreFoundHeads (case_in case.now) (numbers (files_of self.new)) heads.new.items) }
         ensures fault { IfErr result (λ p. BreaksGrammar (case_in case.now) p.ino (fault_place p)) }
         ensures looks { OnOk result (reads.new + looks_left room.new ≤ reads.old + looks_left room.old) }
         ensures last { reads.new ≤ reads.old + looks_left room.old }
@@ -159,7 +159,7 @@ impl Walk {
         &mut self,
         case: &Case,
         room: &mut PageRoom,
-        heads: &mut Marks,
+        heads: &mut Vec<bool>,
         file: &JudgedFile,
         at: usize,
         reads: &mut Reads,
@@ -170,12 +170,12 @@ impl Walk {
         requires queued { IsQueued (case_in case.now) at self.old }
         requires passed { IsPassed (case_in case.now) at self.old }
         requires ready { IsReady (case_in case.now) self.old }
-        requires heads { AreFoundHeads (case_in case.now) (numbers (files_of self.old)) heads.old }
+        requires heads { AreFoundHeads (case_in case.now) (numbers (files_of self.old)) heads.old.items }
         ensures keeps { Keeps case.now room.new }
         ensures queued { OnOk result (IsQueued (case_in case.now) (at + 1) self.new) }
         ensures passed { OnOk result (IsPassed (case_in case.now) (at + 1) self.new) }
         ensures ready { OnOk result (IsReady (case_in case.now) self.new) }
-        ensures heads { OnOk result (AreFoundHeads (case_in case.now) (numbers (files_of self.new)) heads.new) }
+        ensures heads { OnOk result (AreFoundHeads (case_in case.now) (numbers (files_of self.new)) heads.new.items) }
         ensures fault { IfErr result (λ p. BreaksGrammar (case_in case.now) p.ino (fault_place p)) }
         ensures looks { OnOk result (reads.new + looks_left room.new ≤ reads.old + looks_left room.old) }
         ensures last { reads.new ≤ reads.old + looks_left room.old }

@@ -1,7 +1,8 @@
 -- What is remembered of the directories passed, so that none that lists the same is gone over again. Cited by private functions alone.
-use Rattle.std.specs.Prelude.{ℕ, ◌≡◌, ◌<◌, Bool, true, false, List, Some, Ok, is_some, slice_index_or}
+use Rattle.std.specs.Prelude.{ℕ, ◌≡◌, ◌<◌, Bool, true, List, length, Some, Ok, is_some}
 use Rattle.std.specs.List.{list_all}
 use Rattle.trio_rights.specs.declared.kind.Kind.TheVariants.{Directory}
+use Rattle.trio_rights.specs.Bundle.{bundle_pages}
 use Rattle.trio_lists.specs.Lists.{In, is_among}
 use Rattle.trio_layout.specs.declared.body.Body.{Body}
 use Rattle.trio_layout.specs.declared.range.CoreRange.{CoreRange}
@@ -11,6 +12,7 @@ use Rattle.trio_layout.specs.Entries.{Listed}
 use Rattle.trio_layout.specs.Survey.{Met}
 use Rattle.trio_layout.specs.Case.{Case, bundle_core}
 use Rattle.trio_layout.specs.Within.{chain_of_within, entries_within}
+use Rattle.trio_judge.specs.Order.{is_marked}
 
 -- the body in the slot of an entry is in the grammar for the entry's kind
 abbrev pub has_body : CoreRange → Listed → Bool
@@ -33,9 +35,10 @@ abbrev pub IsFoundHead : Case → List ℕ → ℕ → Type 0
 IsFoundHead c found head =
     (b : Body) (chain : Chain) → b.head ≡ head → 0 < block_count b.size → chain_of_within (bundle_core c) b ≡ Ok chain → AreFound c found chain.blocks
 
--- and with each of the marked index pages
-abbrev pub AreFoundHeads : Case → List ℕ → List Bool → Type 0
-AreFoundHeads c found heads = (head : ℕ) → slice_index_or heads head false ≡ true → IsFoundHead c found head
+-- there is a mark for each page of the bundle, and so it is with each of the marked index pages
+pub record AreFoundHeads (c : Case) (found : List ℕ) (heads : List Bool) : Type 0 where
+  pub places : length heads ≡ length (bundle_pages c.bundle)
+  pub each : (head : ℕ) → is_marked (bundle_pages c.bundle) heads head ≡ true → IsFoundHead c found head
 
 -- a directory with a chain in the grammar that begins with a marked index page
 pub record IsListedBefore (c : Case) (heads : List Bool) (m : Met) : Type 0 where
@@ -45,4 +48,4 @@ pub record IsListedBefore (c : Case) (heads : List Bool) (m : Met) : Type 0 wher
   pub blocks : 0 < block_count body.size
   pub chain : Chain
   pub whole : chain_of_within (bundle_core c) body ≡ Ok chain
-  pub head : slice_index_or heads body.head false ≡ true
+  pub head : is_marked (bundle_pages c.bundle) heads body.head ≡ true

@@ -6,6 +6,7 @@ use Rattle.trio_layout.specs.Core.{page_of}
 use Rattle.trio_layout.specs.Within.{entries_where}
 use Rattle.trio_layout.specs.Case.{bundle_core}
 use Rattle.trio_judge.specs.Cases.{CaseShown, case_in}
+use Rattle.trio_judge.specs.Order.{place_of}
 use Rattle.trio_judge.specs.Reading.{place_seen}
 use Rattle.trio_judge.specs.Rooms.{entries_kept, SaysIndex}
 use Rattle.trio_judge.specs.declared.entries.FaultPlace.{FaultPlace}
@@ -17,7 +18,7 @@ use Rattle.trio_judge.specs.declared.chain.IndexRead.TheVariants.{Absent, Bad, N
 
 -- the page of this number stands at this place among the kept pages
 pub record StandsAt (kept : KeptPages) (no : ℕ) (at : ℕ) (p : KeptPage) : Type 0 where
-  pub listed : slice_get kept.table.items no ≡ Some at
+  pub listed : place_of no kept.order.items ≡ Some at
   pub page : slice_get kept.pages.items at ≡ Some p
 
 -- the bytes are outside the grammar as an index page with so many numbers and this place in the chain

@@ -1,5 +1,5 @@
 -- How far a walk over the judged files has come. Cited by private functions alone.
-use Rattle.std.specs.Prelude.{ℕ, ◌≡◌, ◌+◌, ◌*◌, ◌<◌, ◌≤◌, ◌==◌, ◌⊎◌, Bool, true, false, ◌&&◌, IsFalse, List, [], ◌∷◌, ◌++◌, length, map, take, drop, Option, None, MatchOption, is_ok, if◌then◌else◌, vec_capacity}
+use Rattle.std.specs.Prelude.{ℕ, ◌≡◌, ◌+◌, ◌*◌, ◌<◌, ◌≤◌, ◌==◌, ◌⊎◌, Bool, true, false, ◌&&◌, IsFalse, List, [], ◌∷◌, ◌++◌, length, map, take, drop, Option, None, MatchOption, is_ok, if◌then◌else◌, vec_capacity, vec_len}
 use Rattle.std.specs.List.{list_all, flat_map, filter}
 use Rattle.trio_rights.specs.declared.kind.Kind.TheVariants.{Regular}
 use Rattle.trio_rights.specs.Kind.{same_kind}
@@ -17,6 +17,7 @@ use Rattle.trio_layout.specs.Listing.{Listing, entry_listed, file_listed}
 use Rattle.trio_layout.specs.Rules.{entry_in_grammar, entry_is_own, entry_keeps_rights, file_keeps_rights, has_rights}
 use Rattle.trio_layout.specs.Broken.{BreaksOwning, BreaksRights}
 use Rattle.trio_layout.proofs.QueueLaws.{pass_many}
+use Rattle.trio_judge.specs.Order.{AreMarked}
 use Rattle.trio_judge.specs.declared.listing.ListingRoom.{ListingRoom}
 use Rattle.trio_judge.specs.declared.walk.JudgedFile.{JudgedFile}
 use Rattle.trio_judge.specs.declared.walk.FaultAt.{FaultAt}
@@ -58,7 +59,7 @@ pub record IsForeign (own before pages : List ℕ) (page : ℕ) : Type 0 where
 pub record AreOwn (own before pages : List ℕ) (marks : List Bool) : Type 0 where
   pub own_all : list_all (λ p. is_among p own) pages ≡ true
   pub new : are_new before pages ≡ true
-  pub marked : MarksJust marks (before ++ pages)
+  pub marked : AreMarked own marks (before ++ pages)
 
 -- the first of these pages that is foreign; none where all are the bundle's and new
 abbrev pub FirstForeign : List ℕ → List ℕ → List ℕ → List Bool → Option ℕ → Type 0
@@ -101,7 +102,7 @@ pub record Lists (c : Case) (done es : List Met) (w : Walk) : Type 0 where
   pub owns : Owns c done es
   pub rights : MatchOption w.rights (KeepRights c done es) (RightsFail c done es)
   pub listing : w.listing.listing ≡ listing_of c done es
-  pub pages : MarksJust w.pages (flat_map (pages_within c) done)
+  pub pages : AreMarked (bundle_pages c.bundle) w.pages.items (flat_map (pages_within c) done)
   pub named : MarksJust w.named (numbers es)
 
 -- a fault of I2 was found, or none so far
@@ -149,7 +150,7 @@ pub record IsReady (c : Case) (w : Walk) : Type 0 where
   pub own : (n : ℕ) → In n (numbers (files_of w)) → In n (own_numbers c)
   pub found : MarksJust w.found (numbers (files_of w))
   pub places : length (own_numbers c) ≤ vec_capacity w.files
-  pub pages : length w.pages ≡ c.range.end
+  pub pages : vec_len w.pages ≡ length (bundle_pages c.bundle)
   pub marks : HasMarks c w ⊎ (list_all (λ m. same_kind m.kind Regular) (files_of w) ≡ true)
   pub room : HasListingRoom c w.listing.room
 
@@ -164,7 +165,7 @@ pub record SameQueue (w w' : Walk) : Type 0 where
   pub files : w'.files ≡ w.files
   pub found : w'.found ≡ w.found
   pub named : length w'.named ≡ length w.named
-  pub pages : length w'.pages ≡ length w.pages
+  pub pages : vec_len w'.pages ≡ vec_len w.pages
   pub room : w'.listing.room ≡ w.listing.room
 
 -- what was found of the files and entries passed is as it was

@@ -1,4 +1,4 @@
-use Rattle.std.proofs.Common.{rules, ◌≡◌, ◌<◌, ◌^◌, true, Ok, Some, IsTrue, subst, sym, ap, ◌∙◌}
+use Rattle.std.proofs.Common.{rules, ◌≡◌, ◌<◌, ◌^◌, true, Ok, Some, IsTrue, ap, ◌∙◌, arith}
 use Rattle.std.specs.List.{list_all}
 use Rattle.trio_rights.specs.declared.kind.Kind.TheVariants.{Directory}
 use Rattle.trio_layout.specs.Body.{block_count, body_of}
@@ -6,7 +6,7 @@ use Rattle.trio_layout.specs.Case.{file_in}
 use Rattle.trio_layout.specs.Survey.{FileRead}
 use Rattle.trio_judge.specs.Cases.{case_in}
 use Rattle.trio_judge.specs.Rooms.{entries_in_room, file_in_room}
-use Rattle.trio_judge.specs.inner.Again.{AreFoundHeads, has_body}
+use Rattle.trio_judge.specs.inner.Again.{has_body}
 use Rattle.trio_judge.specs.inner.Walk.{file_met}
 use Rattle.trio_judge.proofs.FoundAgain.{found_head, found_of, heads_more}
 use Rattle.trio_judge.proofs.again.mark_head.Goals as goal
@@ -26,6 +26,6 @@ returns-then-have_bodies c =
     let yes : IsTrue c.have_bodies.result = search rules in
     let bodies : list_all (has_body c.args.case.now.range) f.entries ≡ true = ap (λ x. list_all (has_body c.args.case.now.range) (entries_in_room room x)) dir ∙ c.have_bodies.ensures yes in
     record {
-      heads = λ found all es. subst (AreFoundHeads k found) (sym c.set-new.ensures.marked)
-          (heads_more k found c.args.heads.now body.head all (found_head k found m f c.requires.keeps.first small dir read some bodies (found_of k found m f read es)));
+      heads = λ found all es.
+          heads_more k found c.args.heads.now.items c.mark-new.new.marks.items body.head (omega (arith, c.mark-new.ensures.len)) c.mark-new.ensures.marked all (found_head k found m f c.requires.keeps.first small dir read some bodies (found_of k found m f read es));
     }

@@ -23,7 +23,7 @@ returns-in-Ok-clause-keeps c =
     let page = c.in-Some.page in
     let old = c.args.kept.now in
     let q : KeptPage = record page { entries = Some c.in-Ok.span } in
-    let new : KeptPages = record { table = old.table; pages = with_item old.pages c.in-Some.at q; entries = c.read_page.new.entries; numbers = old.numbers } in
+    let new : KeptPages = record { order = old.order; pages = with_item old.pages c.in-Some.at q; entries = c.read_page.new.entries; numbers = old.numbers } in
     let grows : Grows old new = (drop (vec_len old.entries) new.entries.items, [], behind (vec_len old.entries) old.entries.items new.entries.items (omega arith) c.in-Ok.ensures.before, sym (append-nil old.numbers.items)) in
     block_keeps c.args.case.now old new c.args.no c.in-Some.at page q c.in-Ok.span c.requires.keeps c.in-Some.ensures refl refl refl grows
     (λ bytes h. rw c.inodes.ensures at (c.in-Ok.ensures.read bytes (ap (λ b. bytes_at b page.place) c.bundle.ensures.bundle ∙ h)))
@@ -33,7 +33,7 @@ returns-in-Ok-clause-others c =
     let page = c.in-Some.page in
     let old = c.args.kept.now in
     let q : KeptPage = record page { entries = Some c.in-Ok.span } in
-    let new : KeptPages = record { table = old.table; pages = with_item old.pages c.in-Some.at q; entries = c.read_page.new.entries; numbers = old.numbers } in
+    let new : KeptPages = record { order = old.order; pages = with_item old.pages c.in-Some.at q; entries = c.read_page.new.entries; numbers = old.numbers } in
     let grows : Grows old new = (drop (vec_len old.entries) new.entries.items, [], behind (vec_len old.entries) old.entries.items new.entries.items (omega arith) c.in-Ok.ensures.before, sym (append-nil old.numbers.items)) in
     block_others c.args.case.now old new c.args.no c.in-Some.at page q c.in-Ok.span c.requires.keeps c.in-Some.ensures refl refl refl grows
     (λ bytes h. rw c.inodes.ensures at (c.in-Ok.ensures.read bytes (ap (λ b. bytes_at b page.place) c.bundle.ensures.bundle ∙ h)))
@@ -43,7 +43,7 @@ returns-in-Ok-clause-here c =
     let page = c.in-Some.page in
     let old = c.args.kept.now in
     let q : KeptPage = record page { entries = Some c.in-Ok.span } in
-    let new : KeptPages = record { table = old.table; pages = with_item old.pages c.in-Some.at q; entries = c.read_page.new.entries; numbers = old.numbers } in
+    let new : KeptPages = record { order = old.order; pages = with_item old.pages c.in-Some.at q; entries = c.read_page.new.entries; numbers = old.numbers } in
     let grows : Grows old new = (drop (vec_len old.entries) new.entries.items, [], behind (vec_len old.entries) old.entries.items new.entries.items (omega arith) c.in-Ok.ensures.before, sym (append-nil old.numbers.items)) in
     block_here c.args.case.now old new c.args.no c.in-Some.at page q c.in-Ok.span c.requires.keeps c.in-Some.ensures refl refl refl grows
     (λ bytes h. rw c.inodes.ensures at (c.in-Ok.ensures.read bytes (ap (λ b. bytes_at b page.place) c.bundle.ensures.bundle ∙ h)))

@@ -1,12 +1,12 @@
-use Rattle.std.proofs.Common.{◌≡◌, ℕ, List, length, take}
+use Rattle.std.proofs.Common.{◌≡◌, ℕ, List, take, vec_len}
 use Rattle.trio_rights.specs.Bundle.{bundle_pages}
-use Rattle.trio_lists.specs.Marked.{MarksJust}
 use Rattle.trio_lease.specs.Views.{bundle_in}
+use Rattle.trio_judge.specs.Order.{AreMarked}
 use Rattle.trio_judge.specs.inner.Walk.{AreOwn}
 use Rattle.trio_judge.proofs.pages.mark_own.Given as goal
 
 abbrev pub invariant-loop-page : goal.invariant-loop-page
 invariant-loop-page l = record {
-  own : (before : List ℕ) → MarksJust l.fn.marks before → AreOwn (bundle_pages (bundle_in l.case.bundle)) before (take l.page-index l.pages) l.marks;
-  len : length l.marks ≡ length l.fn.marks;
+  own : (before : List ℕ) → AreMarked (bundle_pages (bundle_in l.case.bundle)) l.fn.marks.items before → AreOwn (bundle_pages (bundle_in l.case.bundle)) before (take l.page-index l.pages) l.marks.items;
+  len : vec_len l.marks ≡ vec_len l.fn.marks;
 }

@@ -42,6 +42,6 @@ loop-at-init c =
       queued = c.requires.walk.queued;
       passed = c.requires.walk.passed;
       ready = c.requires.walk.ready;
-      heads = subst (AreFoundHeads k (numbers (files_of w))) (sym c.requires.heads) (no_heads k (numbers (files_of w)) c.args.case.now.range.end);
+      heads = subst (AreFoundHeads k (numbers (files_of w))) (sym c.requires.heads) (no_heads k (numbers (files_of w)));
       looks = omega (arith, c.opened.ensures.looks);
     }

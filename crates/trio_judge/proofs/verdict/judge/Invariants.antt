@@ -14,7 +14,7 @@ invariant-loop-at l = record {
   queued : IsQueued (case_in l.case) l.at l.walk;
   passed : IsPassed (case_in l.case) l.at l.walk;
   ready : IsReady (case_in l.case) l.walk;
-  heads : AreFoundHeads (case_in l.case) (numbers (files_of l.walk)) l.heads;
+  heads : AreFoundHeads (case_in l.case) (numbers (files_of l.walk)) l.heads.items;
   looks : l.reads + looks_left l.pages ≤ l.fn.reads + 2 * length (bundle_pages (bundle_in l.case.bundle));
 }
 

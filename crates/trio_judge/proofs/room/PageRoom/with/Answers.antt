@@ -1,8 +1,5 @@
-use Rattle.std.proofs.Common.{◌≡◌, ◌∙◌, length, sym, ap, arith}
-use Rattle.std.proofs.lemmas.List.{length-map}
-use Rattle.trio_judge.specs.declared.kept.KeptPage.{KeptPage}
+use Rattle.std.proofs.Common.{◌≡◌, ap, arith}
 use Rattle.trio_layout.specs.Range.{core_count}
-use Rattle.trio_judge.proofs.Making.{told}
 use Rattle.trio_judge.proofs.room.PageRoom.with.Goals as goal
 
 pub returns : goal.returns
@@ -10,14 +7,12 @@ returns c =
     let b = c.args.case.now.bundle in
     let kept = c.in_ok-kept.kept in
     let made = rw c.bundle.ensures.bundle at c.in_ok-kept.ensures.made in
-    let numbers = made.numbers in
-    let many = length-map kept.pages.items (λ (p : KeptPage). p.no) in
     let core : core_count c.range-range.result ≡ core_count c.args.case.now.range = ap core_count c.range-range.ensures in
     let room = ap (λ s. s.room) c.in_ok-with.ensures in
     record {
-      numbered = told b kept made;
+      order = made.order;
+      numbers = made.numbers;
       each = made.each;
-      count = sym many ∙ ap length numbers;
       space = record {
         pages = c.in_ok-kept.ensures.places;
         index = omega (arith, core, c.saturating_sub-core.ensures, c.div_ceil.ensures, c.in_ok-with_capacity.ensures.capacity);

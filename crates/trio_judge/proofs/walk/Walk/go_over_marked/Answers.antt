@@ -11,4 +11,4 @@ returns-clause-heads c =
     let fs = files_of c.args.self.now in
     let fs' = files_of c.go_over.new.self in
     let es = entries_in k (file_met c.args.file.now) in
-    c.mark_head.ensures.heads (numbers fs') (heads_grown k fs fs' es c.in_ok-go_over.ensures.grows c.args.heads.now c.requires.heads) (all_grown k fs fs' es c.in_ok-go_over.ensures.grows)
+    c.mark_head.ensures.heads (numbers fs') (heads_grown k fs fs' es c.in_ok-go_over.ensures.grows c.args.heads.now.items c.requires.heads) (all_grown k fs fs' es c.in_ok-go_over.ensures.grows)

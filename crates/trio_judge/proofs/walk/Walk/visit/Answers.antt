@@ -14,7 +14,7 @@ pub returns-then-is_none-clause-heads : goal.returns-then-is_none-clause-heads
 returns-then-is_none-clause-heads c =
     let k = case_in c.args.case.now in
     let m = file_met c.index.result.now in
-    on_ok_then c.go_over.result (λ grows. heads_grown k (files_of c.args.self.now) (files_of c.go_over.new.self) (entries_in k m) grows c.args.heads.now c.requires.heads) c.go_over.ensures.grows
+    on_ok_then c.go_over.result (λ grows. heads_grown k (files_of c.args.self.now) (files_of c.go_over.new.self) (entries_in k m) grows c.args.heads.now.items c.requires.heads) c.go_over.ensures.grows
 
 pub returns-in-Ok-true-clause-queued : goal.returns-in-Ok-true-clause-queued
 returns-in-Ok-true-clause-queued c =
@@ -23,8 +23,8 @@ returns-in-Ok-true-clause-queued c =
     let m = file_met c.index.result.now in
     let inside : c.args.at < length (files_of w) = omega (arith, length-map w.files.items file_met) in
     let here : get_or (files_of w) c.args.at m ≡ m = get_or-map file_met w.files.items c.args.at c.index.result.now m (omega arith) ∙ ap file_met (sym c.index.ensures) in
-    let before : IsListedBefore k c.args.heads.now m = c.in-Ok-true.ensures.before (search rules) in
-    let again = nothing_new k (files_of w) c.args.heads.now m c.requires.heads before in
+    let before : IsListedBefore k c.args.heads.now.items m = rw c.deref.ensures.value at (c.in-Ok-true.ensures.before (search rules)) in
+    let again = nothing_new k (files_of w) c.args.heads.now.items m c.requires.heads before in
     queued_again k c.args.at w m inside here again c.requires.queued
 
 pub returns-in-Ok-true-clause-passed : goal.returns-in-Ok-true-clause-passed
@@ -34,8 +34,8 @@ returns-in-Ok-true-clause-passed c =
     let m = file_met c.index.result.now in
     let inside : c.args.at < length (files_of w) = omega (arith, length-map w.files.items file_met) in
     let here : get_or (files_of w) c.args.at m ≡ m = get_or-map file_met w.files.items c.args.at c.index.result.now m (omega arith) ∙ ap file_met (sym c.index.ensures) in
-    let before : IsListedBefore k c.args.heads.now m = c.in-Ok-true.ensures.before (search rules) in
-    let again = nothing_new k (files_of w) c.args.heads.now m c.requires.heads before in
+    let before : IsListedBefore k c.args.heads.now.items m = rw c.deref.ensures.value at (c.in-Ok-true.ensures.before (search rules)) in
+    let again = nothing_new k (files_of w) c.args.heads.now.items m c.requires.heads before in
     let broken : is_some w.owning ≡ true = search rules in
     passed_again k c.args.at w m inside here again broken c.requires.passed
 
