@@ -1,14 +1,13 @@
 -- What a file lists, within its image and its bundle.
-use Rattle.std.proofs.Common.{◌≡◌, ℕ, ◌+◌, ◌*◌, ◌≤◌, true, ltb, leb, List, [], ◌∷◌, ◌++◌, length, Result, Ok, Err, refl, ap, arith}
+use Rattle.std.proofs.Common.{◌≡◌, ℕ, ◌+◌, ◌*◌, ◌≤◌, true, ltb, List, [], ◌∷◌, ◌++◌, length, Result, Ok, Err, refl, ap, arith}
 use Rattle.std.specs.List.{list_all, flat_map}
 use Rattle.std.specs.Prelude.{nat_lt}
 use Rattle.std.proofs.lemmas.List.{append-nil, length-append, length-map}
 use Rattle.std.proofs.lemmas.List.Concat.{flat_map-append}
 use Rattle.std.proofs.lemmas.Bool.{and_parts}
 use Rattle.trio_rights.specs.Bundle.{bundle_pages}
-use Rattle.trio_lists.specs.Lists.{In, is_among}
-use Rattle.trio_lists.specs.Marked.{all_below}
-use Rattle.trio_lists.proofs.Members.{In-left, In-right, is_among-In, list_all-In, list_all-each}
+use Rattle.trio_lists.specs.Lists.{is_among}
+use Rattle.trio_lists.proofs.Members.{is_among-In, list_all-In, list_all-each}
 use Rattle.trio_layout.specs.Core.{Location}
 use Rattle.trio_layout.specs.Entries.{Listed}
 use Rattle.trio_layout.specs.Survey.{Met, FileRead, children_in, met_in, pages_in, plain}
@@ -16,21 +15,9 @@ use Rattle.trio_layout.specs.Case.{Case, bundle_core, file_in}
 use Rattle.trio_layout.specs.JudgedFiles.{entries_in, pages_within}
 use Rattle.trio_layout.specs.Listing.{ListedFile, file_listed}
 use Rattle.trio_layout.proofs.EntryNumbers.{AreInodes, AtMost, if_ok_at, is_inode, within_fit, within_most}
-use Rattle.trio_layout.proofs.WithinCore.{listed_within_core, within_from}
+use Rattle.trio_layout.proofs.WithinCore.{within_from}
 use Rattle.trio_judge.specs.inner.Walk.{Owns}
 use Rattle.trio_judge.proofs.Noting.{no_more}
-
--- the pages of a file are below the end of the core
-pub pages_below : (c : Case) (m : Met) (f : FileRead) (ps : List ℕ) → file_in c m ≡ Ok f → ((p : ℕ) → In p ps → In p (f.chain.index ++ f.chain.blocks)) → all_below c.range.end ps ≡ true
-pages_below c m f ps e within =
-    list_all-each (λ p. ltb p c.range.end) ps
-    (λ p i. (and_parts (leb c.range.first p) (ltb p c.range.end) (listed_within_core (bundle_core c) m f p e (within p i))).1)
-
-pub index_below : (c : Case) (m : Met) (f : FileRead) → file_in c m ≡ Ok f → all_below c.range.end f.chain.index ≡ true
-index_below c m f e = pages_below c m f f.chain.index e (λ p i. In-left p f.chain.index f.chain.blocks i)
-
-pub blocks_below : (c : Case) (m : Met) (f : FileRead) → file_in c m ≡ Ok f → all_below c.range.end f.chain.blocks ≡ true
-blocks_below c m f e = pages_below c m f f.chain.blocks e (λ p i. In-right p f.chain.index f.chain.blocks i)
 
 -- its entries have inode numbers of the image
 pub numbers_below : (c : Case) (m : Met) (f : FileRead) → file_in c m ≡ Ok f → list_all (λ l. nat_lt l.entry.ino (c.inodes + 1)) f.entries ≡ true
