@@ -1,3 +1,4 @@
 pub mod Joins
+pub mod Texts
 pub mod ByName
 pub mod Trees

@@ -1,4 +1,5 @@
 pub mod Report
 pub mod Answers
+pub mod Json
 pub mod Seen
 pub mod inner

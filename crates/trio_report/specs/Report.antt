@@ -22,9 +22,13 @@ tree_line l =
     decimal l.depth ++ codes " " ++ letter l.kind ++ codes " " ++ octal_of l.mode.0 ++ codes " " ++ decimal l.uid
     ++ codes " " ++ decimal l.gid ++ codes " " ++ decimal l.size ++ codes " " ++ escaped_of l.name ++ codes "\n"
 
--- the tree as text
+-- the tree as text, a line for each file
+abbrev pub tree_lines_text : List TreeLine → List ℕ
+tree_lines_text lines = flat_map tree_line lines
+
+-- the tree in a report, behind a line that says so
 abbrev pub tree_text : List TreeLine → List ℕ
-tree_text lines = codes "tree\n" ++ flat_map tree_line lines
+tree_text lines = codes "tree\n" ++ tree_lines_text lines
 
 -- live inode numbers, core pages that files own, and free core pages
 abbrev pub counts_text : Counts → List ℕ

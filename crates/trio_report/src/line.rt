@@ -2,10 +2,9 @@
 
 ghost use Rattle.std.specs.Prelude.{◌≡◌, ◌+◌, ◌%◌, ◌++◌, OnOk, codes};
 ghost use Rattle.std.specs.Fmt.{decimal};
-ghost use Rattle.std.specs.List.{flat_map};
 ghost use Rattle.trio_names.specs.Escaped.{escaped_of};
 ghost use Rattle.trio_rights.specs.Kind.{letter};
-ghost use Rattle.trio_report.specs.Report.{octal_of, tree_line, tree_text};
+ghost use Rattle.trio_report.specs.Report.{octal_of, tree_line, tree_lines_text, tree_text};
 ghost use Rattle.trio_report.specs.Seen.{name_seen};
 
 use crate::text::{put_escaped, put_text};
@@ -64,11 +63,13 @@ pub fn put_tree(alloc: Global, out: &mut Vec<u8>, lines: &[TreeLine]) -> Result<
     ensures { OnOk result (out.new.items ≡ out.old.items ++ tree_text lines.now) }
 {
     put_text(out, "tree\n")?;
-    put_lines(alloc, out, lines)
+    put_tree_lines(alloc, out, lines)
 }
 
-fn put_lines(alloc: Global, out: &mut Vec<u8>, lines: &[TreeLine]) -> Result<(), NoMemory>
-    ensures { OnOk result (out.new.items ≡ out.old.items ++ flat_map tree_line lines.now) }
+/// Appends a line `DEPTH KIND MODE UID GID SIZE NAME` for each file, as [`put_tree`] does behind its
+/// first line.
+pub fn put_tree_lines(alloc: Global, out: &mut Vec<u8>, lines: &[TreeLine]) -> Result<(), NoMemory>
+    ensures { OnOk result (out.new.items ≡ out.old.items ++ tree_lines_text lines.now) }
 {
     for line in lines {
         put_line(alloc, out, line)?;
@@ -105,7 +106,7 @@ fn put_owner(
     put_text(out, &format!(in alloc; " {uid} {gid} {size} ")?)
 }
 
-fn put_mode(out: &mut Vec<u8>, mode: Mode) -> Result<(), NoMemory>
+pub(crate) fn put_mode(out: &mut Vec<u8>, mode: Mode) -> Result<(), NoMemory>
     ensures { OnOk result (out.new.items ≡ out.old.items ++ octal_of mode.0) }
 {
     out.extend_from_slice(&[

@@ -68,6 +68,10 @@ fn deep_image_is_told(rt: HostRuntime) -> Result<(), Fail> {
         out.as_slice(),
         b"tree\n0 d 755 0 0 3 /\n1 f 644 0 0 0 B\n1 d 700 1001 5 2 a\\x20b\n2 d 644 0 0 0 A\n2 f 007 0 0 0 \\xFF\n1 f 644 0 0 0 b\n".as_slice()
     );
+    assert_eq!(rt;
+        tree_json(alloc, &lines)?.as_slice(),
+        b"[{\"depth\":0,\"gid\":0,\"kind\":\"d\",\"mode\":\"755\",\"name\":\"/\",\"size\":3,\"uid\":0},{\"depth\":1,\"gid\":0,\"kind\":\"f\",\"mode\":\"644\",\"name\":\"B\",\"size\":0,\"uid\":0},{\"depth\":1,\"gid\":5,\"kind\":\"d\",\"mode\":\"700\",\"name\":\"a\\\\x20b\",\"size\":2,\"uid\":1001},{\"depth\":2,\"gid\":0,\"kind\":\"d\",\"mode\":\"644\",\"name\":\"A\",\"size\":0,\"uid\":0},{\"depth\":2,\"gid\":0,\"kind\":\"f\",\"mode\":\"007\",\"name\":\"\\\\xFF\",\"size\":0,\"uid\":0},{\"depth\":1,\"gid\":0,\"kind\":\"f\",\"mode\":\"644\",\"name\":\"b\",\"size\":0,\"uid\":0}]\n".as_slice()
+    );
     Ok(())
 }
 
