@@ -4,12 +4,31 @@ use Rattle.trio_io.specs.Shelf.{Shelf, SinkSeen, Rose}
 use Rattle.trio_app.specs.declared.status.Status.{Status}
 use Rattle.trio_app.specs.declared.status.Status.TheVariants.{Done, Usage, ReadFault, WriteFault, NotBuilt}
 use Rattle.trio_app.specs.Status.{code_of}
-use Rattle.trio_app.specs.Command.{Command, new_image, check, turns, unbuilt, help, version, unknown, command_of}
+use Rattle.trio_app.specs.Command.{Command, new_image, check, tree, turns, unbuilt, help, version, unknown, command_of}
 use Rattle.trio_app.specs.New.{NewComesTo}
 use Rattle.trio_app.specs.Check.{CheckComesTo}
+use Rattle.trio_app.specs.Tree.{TreeComesTo}
 use Rattle.trio_app.specs.Turns.{TurnsComesTo}
+use Rattle.trio_app.specs.declared.words.TreeForm.{TreeForm}
 use Rattle.trio_app.specs.Main.{ComesTo, Main}
-use Rattle.trio_app.specs.Causes.{ReadFaultCause, WriteFaultCause}
+
+-- ---- the causes
+
+-- status 4 comes only where the read faults of a file that is read rose
+abbrev pub ReadFaultCause : Command → Shelf → Shelf → Type 0
+ReadFaultCause (check image) old new = Rose (old.read_faults image) (new.read_faults image)
+ReadFaultCause (tree image form) old new = Rose (old.read_faults image) (new.read_faults image)
+ReadFaultCause (turns image script out) old new =
+    Rose (old.read_faults image) (new.read_faults image) ⊎ Rose (old.read_faults script) (new.read_faults script)
+ReadFaultCause _ old new = ⊥
+
+-- status 5 comes only where the write faults of OUT or the faults of the sink rose
+abbrev pub WriteFaultCause : Command → Shelf → Shelf → ℕ → ℕ → Type 0
+WriteFaultCause (new_image out pages inodes) old new faults faults' =
+    Rose (old.write_faults out) (new.write_faults out) ⊎ Rose faults faults'
+WriteFaultCause (turns image script out) old new faults faults' =
+    Rose (old.write_faults out) (new.write_faults out) ⊎ Rose faults faults'
+WriteFaultCause _ old new faults faults' = Rose faults faults'
 
 -- ---- status 4
 
@@ -22,6 +41,10 @@ check_read_fault : (image : List ℕ) (old new : Shelf) (text : List ℕ) (statu
 check_read_fault image old new text ReadFault e comes = comes.0
 check_read_fault image old new text _ e comes = absurd (omega arith)
 
+tree_read_fault : (image : List ℕ) (form : TreeForm) (old new : Shelf) (text : List ℕ) (status : Status) → code_of status ≡ 4 → TreeComesTo image form old new text status → Rose (old.read_faults image) (new.read_faults image)
+tree_read_fault image form old new text ReadFault e comes = comes.0
+tree_read_fault image form old new text _ e comes = absurd (omega arith)
+
 new_read_fault : (out : List ℕ) (pages inodes : ℕ) (old new : Shelf) (text : List ℕ) (status : Status) → code_of status ≡ 4 → NewComesTo out pages inodes old new text status → ⊥
 new_read_fault out pages inodes old new text ReadFault e comes = comes
 new_read_fault out pages inodes old new text _ e comes = absurd (omega arith)
@@ -29,6 +52,7 @@ new_read_fault out pages inodes old new text _ e comes = absurd (omega arith)
 comes_read_fault : (command : Command) (old new : Shelf) (text : List ℕ) (status : Status) → code_of status ≡ 4 → ComesTo command old new text status → ReadFaultCause command old new
 comes_read_fault (new_image out pages inodes) old new text status e comes = new_read_fault out pages inodes old new text status e comes.comes_to
 comes_read_fault (check image) old new text status e comes = check_read_fault image old new text status e comes.comes_to
+comes_read_fault (tree image form) old new text status e comes = tree_read_fault image form old new text status e comes.comes_to
 comes_read_fault (turns image script out) old new text status e comes = turns_read_fault image script out old new text status e comes.comes_to
 comes_read_fault unbuilt old new text status e comes = let is : code_of status ≡ code_of NotBuilt = ap code_of comes.status_is in absurd (omega arith)
 comes_read_fault help old new text status e comes = let is : code_of status ≡ code_of Done = ap code_of comes.status_is in absurd (omega arith)
@@ -52,6 +76,10 @@ check_write_fault : (image : List ℕ) (old new : Shelf) (text : List ℕ) (stat
 check_write_fault image old new text WriteFault e comes = comes
 check_write_fault image old new text _ e comes = absurd (omega arith)
 
+tree_write_fault : (image : List ℕ) (form : TreeForm) (old new : Shelf) (text : List ℕ) (status : Status) → code_of status ≡ 5 → TreeComesTo image form old new text status → ⊥
+tree_write_fault image form old new text WriteFault e comes = comes
+tree_write_fault image form old new text _ e comes = absurd (omega arith)
+
 new_write_fault : (out : List ℕ) (pages inodes : ℕ) (old new : Shelf) (text : List ℕ) (status : Status) → code_of status ≡ 5 → NewComesTo out pages inodes old new text status → Rose (old.write_faults out) (new.write_faults out)
 new_write_fault out pages inodes old new text WriteFault e comes = comes.rose
 new_write_fault out pages inodes old new text _ e comes = absurd (omega arith)
@@ -59,6 +87,7 @@ new_write_fault out pages inodes old new text _ e comes = absurd (omega arith)
 comes_write_fault : (command : Command) (old new : Shelf) (text : List ℕ) (status : Status) (faults faults' : ℕ) → code_of status ≡ 5 → ComesTo command old new text status → WriteFaultCause command old new faults faults'
 comes_write_fault (new_image out pages inodes) old new text status faults faults' e comes = inl (new_write_fault out pages inodes old new text status e comes.comes_to)
 comes_write_fault (check image) old new text status faults faults' e comes = absurd (check_write_fault image old new text status e comes.comes_to)
+comes_write_fault (tree image form) old new text status faults faults' e comes = absurd (tree_write_fault image form old new text status e comes.comes_to)
 comes_write_fault (turns image script out) old new text status faults faults' e comes = inl (turns_write_fault image script out old new text status e comes.comes_to)
 comes_write_fault unbuilt old new text status faults faults' e comes = let is : code_of status ≡ code_of NotBuilt = ap code_of comes.status_is in absurd (omega arith)
 comes_write_fault help old new text status faults faults' e comes = let is : code_of status ≡ code_of Done = ap code_of comes.status_is in absurd (omega arith)
@@ -81,6 +110,7 @@ main_write_fault words old new out out' result main e =
 
 pub no_read_cause : (command : Command) (old new : Shelf) → ((q : List ℕ) → Rose (old.read_faults q) (new.read_faults q) → ⊥) → ReadFaultCause command old new → ⊥
 no_read_cause (check image) old new never rose = never image rose
+no_read_cause (tree image form) old new never rose = never image rose
 no_read_cause (turns image script out) old new never (inl rose) = never image rose
 no_read_cause (turns image script out) old new never (inr rose) = never script rose
 no_read_cause _ old new never cause = cause

@@ -6,13 +6,15 @@ use Rattle.trio_script.specs.Script.{unbuilt_line}
 use Rattle.trio_app.specs.declared.status.Status.{Status}
 use Rattle.trio_app.specs.declared.status.Status.TheVariants.{Done, NotVerified, Usage, ReadFault, WriteFault, NoMemory, TooLong, NotBuilt}
 use Rattle.trio_app.specs.Status.{code_of}
-use Rattle.trio_app.specs.Command.{Command, new_image, check, turns, unbuilt, help, version, unknown, command_of}
-use Rattle.trio_app.specs.Images.{ImageFails, ImageVerifies}
+use Rattle.trio_app.specs.Command.{Command, new_image, check, tree, turns, unbuilt, help, version, unknown, command_of}
+use Rattle.trio_app.specs.Images.{ImageFails, ImageStops, ImageVerifies}
 use Rattle.trio_app.specs.New.{NewComesTo}
 use Rattle.trio_app.specs.Check.{CheckComesTo}
+use Rattle.trio_app.specs.Tree.{TreeComesTo}
 use Rattle.trio_app.specs.Turns.{TurnsComesTo, TurnsDone}
+use Rattle.trio_app.specs.declared.words.TreeForm.{TreeForm}
 use Rattle.trio_app.specs.Main.{ComesTo, Main}
-use Rattle.trio_app.specs.Decided.{CheckDecides, Decides, EndsAsDecided, NewDecides, TellsImage, TellsNoImage, TellsScript, TellsTooLong, TurnsDecides}
+use Rattle.trio_app.specs.Decided.{ImageDecides, Decides, EndsAsDecided, NewDecides, TellsImage, TellsNoImage, TellsScript, TellsTooLong, TurnsDecides}
 
 -- ---- what a file tells is one thing
 
@@ -59,6 +61,29 @@ same_line name old line other bytes script told is = sym script.built ∙ ap unb
 not_both : (number : ℕ) → None ≡ Some number → ⊥
 not_both number e = absurd cc
 
+-- ---- what a command comes to that reads an image alone
+
+-- the image verifies, or there is none to work on
+abbrev ImageComesTo : List ℕ → Shelf → Shelf → List ℕ → Status → Type 0
+ImageComesTo image old new text Done = ImageVerifies image old
+ImageComesTo image old new text status = ImageStops image old new text status
+
+checked : (image : List ℕ) (old new : Shelf) (text : List ℕ) (status : Status) → CheckComesTo image old new text status → ImageComesTo image old new text status
+checked image old new text Done comes = record { image_bytes = comes.image_bytes; image_is = comes.image_is; within = comes.within; verifies = comes.verifies }
+checked image old new text NotVerified comes = comes
+checked image old new text ReadFault comes = comes
+checked image old new text NoMemory comes = comes
+checked image old new text TooLong comes = comes
+checked image old new text _ comes = absurd comes
+
+told : (image : List ℕ) (form : TreeForm) (old new : Shelf) (text : List ℕ) (status : Status) → TreeComesTo image form old new text status → ImageComesTo image old new text status
+told image form old new text Done comes = record { image_bytes = comes.image_bytes; image_is = comes.image_is; within = comes.within; verifies = comes.verifies }
+told image form old new text NotVerified comes = comes
+told image form old new text ReadFault comes = comes
+told image form old new text NoMemory comes = comes
+told image form old new text TooLong comes = comes
+told image form old new text _ comes = absurd comes
+
 -- ---- `turns`
 
 module _ (image script out : List ℕ) (old new : Shelf) (text : List ℕ) (reads : (q : List ℕ) → Rose (old.read_faults q) (new.read_faults q) → ⊥) (writes : (q : List ℕ) → Rose (old.write_faults q) (new.write_faults q) → ⊥) where
@@ -74,7 +99,7 @@ module _ (image script out : List ℕ) (old new : Shelf) (text : List ℕ) (read
   turns_done WriteFault valid built comes = absurd (writes out comes.rose)
   turns_done TooLong valid built (inl long) = absurd (valid_not_longer image old valid long.0)
   turns_done TooLong valid built (inr long) = absurd (script_not_longer script old None built long.0)
-  turns_done NotBuilt valid built comes = absurd (not_both comes.0 (same_line script old None (Some comes.0) comes.1.script_bytes built comes.1.script_is comes.1.line))
+  turns_done NotBuilt valid built comes = absurd (not_both comes.0 (same_line script old None (Some comes.0) comes.2.script_bytes built comes.2.script_is comes.2.built))
   turns_done _ valid built comes = absurd comes
 
   turns_not_verified : (status : Status) → TellsNoImage image old → TurnsComesTo image script out old new text status → (code_of status ≡ 1) ⊎ (code_of status ≡ 6)
@@ -86,7 +111,7 @@ module _ (image script out : List ℕ) (old new : Shelf) (text : List ℕ) (read
   turns_not_verified WriteFault failing comes = absurd (writes out comes.rose)
   turns_not_verified TooLong failing (inl long) = absurd (failing_not_longer image old failing long.0)
   turns_not_verified TooLong failing (inr long) = absurd (failing_not_valid image old failing long.1)
-  turns_not_verified NotBuilt failing comes = absurd (failing_not_valid image old failing comes.1.image_verifies)
+  turns_not_verified NotBuilt failing comes = absurd (failing_not_valid image old failing comes.1)
   turns_not_verified _ failing comes = absurd comes
 
   turns_image_long : (status : Status) → TellsTooLong 33554432 image old → TurnsComesTo image script out old new text status → (code_of status ≡ 7) ⊎ (code_of status ≡ 6)
@@ -97,7 +122,7 @@ module _ (image script out : List ℕ) (old new : Shelf) (text : List ℕ) (read
   turns_image_long ReadFault long (inl fault) = absurd (reads image fault.0)
   turns_image_long ReadFault long (inr fault) = absurd (reads script fault.0)
   turns_image_long WriteFault long comes = absurd (writes out comes.rose)
-  turns_image_long NotBuilt long comes = absurd (longer_not_valid image old long comes.1.image_verifies)
+  turns_image_long NotBuilt long comes = absurd (longer_not_valid image old long comes.1)
   turns_image_long _ long comes = absurd comes
 
   turns_script_long : (status : Status) → TellsImage image old → TellsTooLong 1048576 script old → TurnsComesTo image script out old new text status → (code_of status ≡ 7) ⊎ (code_of status ≡ 6)
@@ -108,7 +133,7 @@ module _ (image script out : List ℕ) (old new : Shelf) (text : List ℕ) (read
   turns_script_long ReadFault valid long (inl fault) = absurd (reads image fault.0)
   turns_script_long ReadFault valid long (inr fault) = absurd (reads script fault.0)
   turns_script_long WriteFault valid long comes = absurd (writes out comes.rose)
-  turns_script_long NotBuilt valid long comes = absurd (is_shorter 1048576 script old comes.1.script_bytes long comes.1.script_is comes.1.within)
+  turns_script_long NotBuilt valid long comes = absurd (is_shorter 1048576 script old comes.2.script_bytes long comes.2.script_is comes.2.within)
   turns_script_long _ valid long comes = absurd comes
 
   turns_not_built : (status : Status) (number : ℕ) → TellsImage image old → TellsScript script old (Some number) → TurnsComesTo image script out old new text status → (code_of status ≡ 8) ⊎ (code_of status ≡ 6)
@@ -131,37 +156,37 @@ module _ (image script out : List ℕ) (old new : Shelf) (text : List ℕ) (read
   turns_decided NotBuilt status d comes = turns_not_built status d.1.0 d.0 d.1.1 comes
   turns_decided _ status d comes = absurd d
 
-  -- ---- `check`
+  -- ---- `check` and `tree`
 
-  check_done : (status : Status) → TellsImage image old → CheckComesTo image old new text status → (code_of status ≡ 0) ⊎ (code_of status ≡ 6)
-  check_done Done valid comes = inl refl
-  check_done NoMemory valid comes = inr refl
-  check_done NotVerified valid comes = absurd (valid_not_failing image old text valid comes)
-  check_done ReadFault valid comes = absurd (reads image comes.0)
-  check_done TooLong valid comes = absurd (valid_not_longer image old valid comes.0)
-  check_done _ valid comes = absurd comes
+  image_done : (status : Status) → TellsImage image old → ImageComesTo image old new text status → (code_of status ≡ 0) ⊎ (code_of status ≡ 6)
+  image_done Done valid comes = inl refl
+  image_done NoMemory valid comes = inr refl
+  image_done NotVerified valid comes = absurd (valid_not_failing image old text valid comes)
+  image_done ReadFault valid comes = absurd (reads image comes.0)
+  image_done TooLong valid comes = absurd (valid_not_longer image old valid comes.0)
+  image_done _ valid comes = absurd comes
 
-  check_not_verified : (status : Status) → TellsNoImage image old → CheckComesTo image old new text status → (code_of status ≡ 1) ⊎ (code_of status ≡ 6)
-  check_not_verified NotVerified failing comes = inl refl
-  check_not_verified NoMemory failing comes = inr refl
-  check_not_verified Done failing comes = absurd (failing_not_valid image old failing (record { image_bytes = comes.image_bytes; image_is = comes.image_is; within = comes.within; verifies = comes.verifies }))
-  check_not_verified ReadFault failing comes = absurd (reads image comes.0)
-  check_not_verified TooLong failing comes = absurd (failing_not_longer image old failing comes.0)
-  check_not_verified _ failing comes = absurd comes
+  image_not_verified : (status : Status) → TellsNoImage image old → ImageComesTo image old new text status → (code_of status ≡ 1) ⊎ (code_of status ≡ 6)
+  image_not_verified NotVerified failing comes = inl refl
+  image_not_verified NoMemory failing comes = inr refl
+  image_not_verified Done failing comes = absurd (failing_not_valid image old failing comes)
+  image_not_verified ReadFault failing comes = absurd (reads image comes.0)
+  image_not_verified TooLong failing comes = absurd (failing_not_longer image old failing comes.0)
+  image_not_verified _ failing comes = absurd comes
 
-  check_too_long : (status : Status) → TellsTooLong 33554432 image old → CheckComesTo image old new text status → (code_of status ≡ 7) ⊎ (code_of status ≡ 6)
-  check_too_long TooLong long comes = inl refl
-  check_too_long NoMemory long comes = inr refl
-  check_too_long Done long comes = absurd (is_shorter 33554432 image old comes.image_bytes long comes.image_is comes.within)
-  check_too_long NotVerified long comes = absurd (longer_not_failing image old text long comes)
-  check_too_long ReadFault long comes = absurd (reads image comes.0)
-  check_too_long _ long comes = absurd comes
+  image_too_long : (status : Status) → TellsTooLong 33554432 image old → ImageComesTo image old new text status → (code_of status ≡ 7) ⊎ (code_of status ≡ 6)
+  image_too_long TooLong long comes = inl refl
+  image_too_long NoMemory long comes = inr refl
+  image_too_long Done long comes = absurd (longer_not_valid image old long comes)
+  image_too_long NotVerified long comes = absurd (longer_not_failing image old text long comes)
+  image_too_long ReadFault long comes = absurd (reads image comes.0)
+  image_too_long _ long comes = absurd comes
 
-  pub check_decided : (decided status : Status) → CheckDecides image old decided → CheckComesTo image old new text status → (code_of status ≡ code_of decided) ⊎ (code_of status ≡ 6)
-  check_decided Done status d comes = check_done status d comes
-  check_decided NotVerified status d comes = check_not_verified status d comes
-  check_decided TooLong status d comes = check_too_long status d comes
-  check_decided _ status d comes = absurd d
+  pub image_decided : (decided status : Status) → ImageDecides image old decided → ImageComesTo image old new text status → (code_of status ≡ code_of decided) ⊎ (code_of status ≡ 6)
+  image_decided Done status d comes = image_done status d comes
+  image_decided NotVerified status d comes = image_not_verified status d comes
+  image_decided TooLong status d comes = image_too_long status d comes
+  image_decided _ status d comes = absurd d
 
   -- ---- `new`
 
@@ -184,7 +209,8 @@ same_end end decided status d is = inl (ap code_of (is ∙ sym d))
 comes_decided : (command : Command) (old new : Shelf) (text : List ℕ) → ((q : List ℕ) → Rose (old.read_faults q) (new.read_faults q) → ⊥) → ((q : List ℕ) → Rose (old.write_faults q) (new.write_faults q) → ⊥)
     → (decided status : Status) → Decides command old decided → ComesTo command old new text status → (code_of status ≡ code_of decided) ⊎ (code_of status ≡ 6)
 comes_decided (new_image out pages inodes) old new text reads writes decided status d comes = new_decided out out out old new text reads writes pages inodes decided status d comes.comes_to
-comes_decided (check image) old new text reads writes decided status d comes = check_decided image image image old new text reads writes decided status d comes.comes_to
+comes_decided (check image) old new text reads writes decided status d comes = image_decided image image image old new text reads writes decided status d (checked image old new text status comes.comes_to)
+comes_decided (tree image form) old new text reads writes decided status d comes = image_decided image image image old new text reads writes decided status d (told image form old new text status comes.comes_to)
 comes_decided (turns image script out) old new text reads writes decided status d comes = turns_decided image script out old new text reads writes decided status d comes.comes_to
 comes_decided unbuilt old new text reads writes decided status d comes = same_end NotBuilt decided status d comes.status_is
 comes_decided help old new text reads writes decided status d comes = same_end Done decided status d comes.status_is

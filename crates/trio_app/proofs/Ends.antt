@@ -1,5 +1,5 @@
 -- How a run ends, and what the whole work comes to.
-use Rattle.std.proofs.Common.{◌≡◌, ℕ, zero, suc, ◌+◌, ◌<◌, ◌≤◌, ◌⊎◌, min, List, [], ◌∷◌, ◌++◌, length, take, get_or, Option, Bool, inl, inr, refl, sym, ap, subst, ◌∙◌, arith}
+use Rattle.std.proofs.Common.{◌≡◌, ℕ, zero, suc, ◌+◌, ◌<◌, ◌≤◌, ◌⊎◌, min, List, [], ◌∷◌, ◌++◌, length, take, get_or, Option, None, Bool, inl, inr, refl, sym, ap, subst, ◌∙◌, arith}
 use Rattle.std.proofs.lemmas.List.{append-nil, append_assoc}
 use Rattle.trio_io.specs.Shelf.{Shelf, OnlyReads, OnlyReplaces, Rose, told}
 use Rattle.trio_tables.specs.Out.{NoneOut}
@@ -31,14 +31,15 @@ use Rattle.trio_app.specs.declared.status.Status.{Status}
 use Rattle.trio_app.specs.declared.status.Status.TheVariants.{Done, NotVerified, Usage, ReadFault, WriteFault, NoMemory as StatusNoMemory, TooLong, NotBuilt}
 use Rattle.trio_app.specs.Check.{Check}
 use Rattle.trio_app.specs.Images.{ImageStops, OutKeeps}
-use Rattle.trio_app.specs.Inputs.{ReadsBoth}
+use Rattle.trio_app.specs.Inputs.{ReadsBoth, ReadsLines}
 use Rattle.trio_app.specs.Lines.{made_line, usage_line, valid_line, write_fault_line}
-use Rattle.trio_app.specs.New.{New, NewCounts}
+use Rattle.trio_app.specs.New.{New}
 use Rattle.trio_app.specs.Report.{answers_text, report_text, told_counts}
 use Rattle.trio_app.specs.inner.RunEnd.{IsRunEnd}
 use Rattle.trio_app.specs.inner.Saved.{IsSaved, SaveComesTo}
-use Rattle.trio_app.specs.inner.Stop.{ReadsScript}
-use Rattle.trio_app.specs.Turns.{InputsStop, Turns, TurnsComesTo, TurnsCounts, TurnsDone, TurnsWriteFault, libraries}
+use Rattle.trio_app.specs.Tree.{Tree}
+use Rattle.trio_app.specs.declared.words.TreeForm.{TreeForm}
+use Rattle.trio_app.specs.Turns.{InputsStop, Turns, TurnsComesTo, TurnsFaults, TurnsDone, TurnsWriteFault, libraries}
 use Rattle.trio_app.proofs.Headlines.{headline, no_page_out}
 use Rattle.trio_app.proofs.Trees.{tree_same}
 
@@ -98,8 +99,8 @@ image_again image again verified pages superblock =
 
 -- ---- the whole work
 
-counts_read : (image script out : List ℕ) (old new : Shelf) → ReadsBoth image script old new → TurnsCounts image script out old new
-counts_read image script out old new files = record {
+faults_read : (image script out : List ℕ) (old new : Shelf) → ReadsBoth image script old new → TurnsFaults image script out old new
+faults_read image script out old new files = record {
   reads_later = files.later;
   reads_others = files.others;
   writes = rw files.writes (record { later = λ q. omega arith; others = λ q ne. refl });
@@ -107,8 +108,8 @@ counts_read image script out old new files = record {
   tells = files.tells;
 }
 
-counts_replaced : (image script out : List ℕ) (old mid new : Shelf) → ReadsBoth image script old mid → OnlyReplaces out mid new → TurnsCounts image script out old new
-counts_replaced image script out old mid new files put = record {
+faults_replaced : (image script out : List ℕ) (old mid new : Shelf) → ReadsBoth image script old mid → OnlyReplaces out mid new → TurnsFaults image script out old new
+faults_replaced image script out old mid new files put = record {
   reads_later = rw put.reads files.later;
   reads_others = rw put.reads files.others;
   writes = rw (← files.writes) put.writes;
@@ -136,30 +137,30 @@ pub turns_stop : (image script out : List ℕ) (old new : Shelf) (text : List �
 turns_stop image script out old new text status why files = record {
   comes_to = stop_comes image script out old new text status why;
   keeps = stop_keeps image script out old new text status why files.held;
-  counts = counts_read image script out old new files;
+  faults = faults_read image script out old new files;
 }
 
 pub turns_no_memory : (image script out : List ℕ) (old new : Shelf) (text : List ℕ) (status : Status) → ReadsBoth image script old new → status ≡ StatusNoMemory → text ≡ [] → Turns image script out old new text status
 turns_no_memory image script out old new text status files is none =
-    rw (is, none) (record { comes_to = refl; keeps = files.held; counts = counts_read image script out old new files })
+    rw (is, none) (record { comes_to = refl; keeps = files.held; faults = faults_read image script out old new files })
 
 module _ (image script out : List ℕ) (old mid new : Shelf) (s : Superblock) (pages last : List (Option (List ℕ))) (lines : List ScriptLine) (report : List ℕ)
-    (image_read : Loads (old.held image) s pages) (script_read : ReadsScript script old lines) (files : ReadsBoth image script old mid) (end : IsRunEnd s pages lines report last) (put : OnlyReplaces out mid new) where
-  played_end : IsRunEnd s (pages_in s.pages image_read.bytes) (script_lines script_read.script_bytes) report last
+    (image_read : Loads (old.held image) s pages) (script_read : ReadsLines script old lines) (files : ReadsBoth image script old mid) (end : IsRunEnd s pages lines report last) (put : OnlyReplaces out mid new) where
+  played_end : IsRunEnd s (pages_in s.pages image_read.bytes) (script_lines script_read.read.script_bytes) report last
   played_end =
-      subst (λ ps. IsRunEnd s ps (script_lines script_read.script_bytes) report last) image_read.pages_are
+      subst (λ ps. IsRunEnd s ps (script_lines script_read.read.script_bytes) report last) image_read.pages_are
       (subst (λ ls. IsRunEnd s pages ls report last) script_read.lines_are end)
 
   done : (text : List ℕ) → IsSaved out last mid new → text ≡ report → TurnsDone image script out old new text
   done text saved is = record {
     image_bytes = image_read.bytes;
-    script_bytes = script_read.script_bytes;
+    script_bytes = script_read.read.script_bytes;
     image_is = image_read.told;
-    script_is = script_read.script_is;
+    script_is = script_read.read.script_is;
     image_within = image_read.within;
-    script_within = script_read.within;
+    script_within = script_read.read.within;
     image_verifies = image_read.verify;
-    script_built = script_read.built;
+    script_built = script_read.read.built;
     superblock = s;
     lengths = image_read.lengths;
     played = played_end.played;
@@ -171,36 +172,31 @@ module _ (image script out : List ℕ) (old mid new : Shelf) (s : Superblock) (p
     written_verifies = saved.verifies;
   }
 
-  fault : (text : List ℕ) → Rose (mid.write_faults out) (new.write_faults out) → text ≡ write_fault_line out → TurnsWriteFault image script out old new text
-  fault text rose line = record {
+  fault : (text : List ℕ) → Rose (mid.write_faults out) (new.write_faults out) → new.held out ≡ None → text ≡ write_fault_line out → TurnsWriteFault image script out old new text
+  fault text rose none line = record {
     image_verifies = record { image_bytes = image_read.bytes; image_is = image_read.told; within = image_read.within; verifies = image_read.verify };
-    script_bytes = script_read.script_bytes;
-    script_is = script_read.script_is;
-    script_within = script_read.within;
-    script_built = script_read.built;
+    script_read = script_read.read;
     rose = rw (← files.writes) rose;
+    untold = none;
     put = line;
   }
 
   pub turns_saved : (text : List ℕ) (status : Status) → SaveComesTo out last report mid new text status → Turns image script out old new text status
-  turns_saved text Done saved = record { comes_to = done text saved.0 saved.1; keeps = rw (← files.held) put.others; counts = counts_replaced image script out old mid new files put }
-  turns_saved text WriteFault saved = record { comes_to = fault text saved.0 saved.1; keeps = rw (← files.held) put.others; counts = counts_replaced image script out old mid new files put }
-  turns_saved text StatusNoMemory saved = record { comes_to = saved.1; keeps = saved.0 ∙ files.held; counts = counts_replaced image script out old mid new files put }
+  turns_saved text Done saved = record { comes_to = done text saved.0 saved.1; keeps = rw (← files.held) put.others; faults = faults_replaced image script out old mid new files put }
+  turns_saved text WriteFault saved = record { comes_to = fault text saved.0 saved.1 saved.2; keeps = rw (← files.held) put.others; faults = faults_replaced image script out old mid new files put }
+  turns_saved text StatusNoMemory saved = record { comes_to = saved.1; keeps = saved.0 ∙ files.held; faults = faults_replaced image script out old mid new files put }
   turns_saved text _ saved = absurd saved
 
 -- ---- a new image
 
-new_counts_rise : (out : List ℕ) (old new : Shelf) → OnlyReplaces out old new → NewCounts out old new
-new_counts_rise out old new put = record { reads = put.reads; writes = put.writes; serves = put.serves; tells = put.tells }
-
-nothing_rises : (out : List ℕ) (old new : Shelf) → new ≡ old → NewCounts out old new
-nothing_rises out old new same = rw same (record { reads = refl; writes = record { later = λ q. omega arith; others = λ q ne. refl }; serves = refl; tells = refl })
+nothing_changes : (out : List ℕ) (old : Shelf) → OnlyReplaces out old old
+nothing_changes out old = record { others = λ q ne. refl; reads = refl; writes = record { later = λ q. omega arith; others = λ q ne. refl }; serves = refl; tells = refl }
 
 pub new_no_memory : (out : List ℕ) (pages inodes : ℕ) (old : Shelf) (text : List ℕ) (status : Status) → status ≡ StatusNoMemory → text ≡ [] → New out pages inodes old old text status
-new_no_memory out pages inodes old text status is none = rw (is, none) (record { comes_to = refl; keeps = refl; counts = nothing_rises out old old refl })
+new_no_memory out pages inodes old text status is none = rw (is, none) (record { comes_to = refl; keeps = refl; files = nothing_changes out old })
 
 pub new_usage : (out : List ℕ) (pages inodes : ℕ) (old : Shelf) (text : List ℕ) (status : Status) → (Fits pages inodes → ⊥) → ((status ≡ Usage) × (text ≡ usage_line)) ⊎ ((status ≡ StatusNoMemory) × (text ≡ [])) → New out pages inodes old old text status
-new_usage out pages inodes old text status unfit (inl told) = rw (told.0, told.1) (record { comes_to = (unfit, refl); keeps = refl; counts = nothing_rises out old old refl })
+new_usage out pages inodes old text status unfit (inl told) = rw (told.0, told.1) (record { comes_to = (unfit, refl); keeps = refl; files = nothing_changes out old })
 new_usage out pages inodes old text status unfit (inr lacking) = new_no_memory out pages inodes old text status lacking.0 lacking.1
 
 module _ (out : List ℕ) (pages inodes : ℕ) (old new : Shelf) (s : Superblock) (image : List (Option (List ℕ))) (line : List ℕ)
@@ -209,10 +205,10 @@ module _ (out : List ℕ) (pages inodes : ℕ) (old new : Shelf) (s : Superblock
   new_saved text Done saved = record {
     comes_to = record { fits = fits; superblock = s; image = image; made = made; put = saved.1 ∙ line_is; written = saved.0.written; written_verifies = saved.0.verifies };
     keeps = put.others;
-    counts = new_counts_rise out old new put;
+    files = put;
   }
-  new_saved text WriteFault saved = record { comes_to = record { fits = fits; rose = saved.0; put = saved.1 }; keeps = put.others; counts = new_counts_rise out old new put }
-  new_saved text StatusNoMemory saved = record { comes_to = saved.1; keeps = saved.0; counts = new_counts_rise out old new put }
+  new_saved text WriteFault saved = record { comes_to = record { fits = fits; rose = saved.0; untold = saved.1; put = saved.2 }; keeps = put.others; files = put }
+  new_saved text StatusNoMemory saved = record { comes_to = saved.1; keeps = saved.0; files = put }
   new_saved text _ saved = absurd saved
 
 -- ---- an image that is checked
@@ -224,22 +220,14 @@ check_stop image old new text StatusNoMemory why files = record { comes_to = why
 check_stop image old new text TooLong why files = record { comes_to = why; files = files }
 check_stop image old new text _ why files = absurd why
 
-pub check_no_memory : (image : List ℕ) (old new : Shelf) (text : List ℕ) (status : Status) → status ≡ StatusNoMemory → text ≡ [] → OnlyReads image old new → Check image old new text status
-check_no_memory image old new text status is none files = rw (is, none) (record { comes_to = refl; files = files })
+-- ---- an image whose tree is told
 
-pub check_done : (image : List ℕ) (old new : Shelf) (s : Superblock) (pages : List (Option (List ℕ))) (text : List ℕ) → Loads (old.held image) s pages → OnlyReads image old new → text ≡ valid_line (told_counts (counts_of (image_in s pages))) → Check image old new text Done
-check_done image old new s pages text loads files line = record {
-  comes_to = record {
-    image_bytes = loads.bytes;
-    image_is = loads.told;
-    within = loads.within;
-    verifies = loads.verify;
-    superblock = s;
-    lengths = loads.lengths;
-    put = line ∙ ap (λ ps. valid_line (told_counts (counts_of (image_in s ps)))) loads.pages_are;
-  };
-  files = files;
-}
+pub tree_stop : (image : List ℕ) (form : TreeForm) (old new : Shelf) (text : List ℕ) (status : Status) → ImageStops image old new text status → OnlyReads image old new → Tree image form old new text status
+tree_stop image form old new text NotVerified why files = record { comes_to = why; files = files }
+tree_stop image form old new text ReadFault why files = record { comes_to = why; files = files }
+tree_stop image form old new text StatusNoMemory why files = record { comes_to = why; files = files }
+tree_stop image form old new text TooLong why files = record { comes_to = why; files = files }
+tree_stop image form old new text _ why files = absurd why
 
 -- ---- the answers
 

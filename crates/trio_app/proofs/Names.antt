@@ -4,12 +4,14 @@ use Rattle.std.specs.Prelude.{nat_le, codes, if◌then◌else◌}
 use Rattle.std.specs.Str.{bytes_eq}
 use Rattle.std.proofs.lemmas.List.Elements.{All-head, All-tail}
 use Rattle.trio_script.specs.Words.{number_of}
-use Rattle.trio_app.specs.Command.{Command, new_image, check, turns, unbuilt, help, version, unknown, command_of, gen_of, new_of}
+use Rattle.trio_app.specs.declared.words.TreeForm.TheVariants.{Lines, Json}
+use Rattle.trio_app.specs.Command.{Command, new_image, check, tree, turns, unbuilt, help, version, unknown, command_of, gen_of, new_of}
 
 -- this holds of each name of a file
 abbrev pub EachName : (List ℕ → Type 0) → Command → Type 0
 EachName P (new_image out pages inodes) = P out
 EachName P (check image) = P image
+EachName P (tree image form) = P image
 EachName P (turns image script out) = P image × P script × P out
 EachName P _ = Unit {0}
 
@@ -35,11 +37,12 @@ each_name P (w ∷ []) h =
     chosen P (bytes_eq w (codes "--help")) help (if bytes_eq w (codes "--version") then version else unknown) tt
     (chosen P (bytes_eq w (codes "--version")) version unknown tt tt)
 each_name P (w ∷ a ∷ []) h =
-    chosen P (bytes_eq w (codes "check")) (check a) (if bytes_eq w (codes "tree") then unbuilt else unknown) (All-head P a [] (All-tail P w (a ∷ []) h))
-    (chosen P (bytes_eq w (codes "tree")) unbuilt unknown tt tt)
+    let first : P a = All-head P a [] (All-tail P w (a ∷ []) h) in
+    chosen P (bytes_eq w (codes "check")) (check a) (if bytes_eq w (codes "tree") then tree a Lines else unknown) first
+    (chosen P (bytes_eq w (codes "tree")) (tree a Lines) unknown first tt)
 each_name P (w ∷ a ∷ b ∷ []) h =
-    chosen P (bytes_eq w (codes "tree")) (if bytes_eq b (codes "json") then unbuilt else unknown) (if bytes_eq w (codes "gen") then gen_of (number_of a) (number_of b) else unknown)
-    (chosen P (bytes_eq b (codes "json")) unbuilt unknown tt tt)
+    chosen P (bytes_eq w (codes "tree")) (if bytes_eq b (codes "json") then tree a Json else unknown) (if bytes_eq w (codes "gen") then gen_of (number_of a) (number_of b) else unknown)
+    (chosen P (bytes_eq b (codes "json")) (tree a Json) unknown (All-head P a (b ∷ []) (All-tail P w (a ∷ b ∷ []) h)) tt)
     (chosen P (bytes_eq w (codes "gen")) (gen_of (number_of a) (number_of b)) unknown (gen_names P (number_of a) (number_of b)) tt)
 each_name P (w ∷ a ∷ b ∷ d ∷ []) h =
     let rest : All P (a ∷ b ∷ d ∷ []) = All-tail P w (a ∷ b ∷ d ∷ []) h in

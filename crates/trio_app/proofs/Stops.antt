@@ -69,7 +69,7 @@ script_stops : (image script : List ℕ) (old mid new : Shelf) (s : Superblock) 
 script_stops image script old mid new s pages ReadFault loads first rose = inr (omega (arith, first.reads.later script, rose), image_verifies image old s pages loads, refl)
 script_stops image script old mid new s pages TooLong loads first longer = inr (rw (← first.held) longer, image_verifies image old s pages loads, refl)
 script_stops image script old mid new s pages (LineNotBuilt number) loads first line =
-    (number, record { image_verifies = image_verifies image old s pages loads; script_bytes = line.script_bytes; script_is = rw (← first.held) line.script_is; within = line.within; line = line.line }, refl)
+    (number, image_verifies image old s pages loads, record { script_bytes = line.script_bytes; script_is = rw (← first.held) line.script_is; within = line.within; built = line.built }, refl)
 script_stops image script old mid new s pages NoMemory loads first never = refl
 script_stops image script old mid new s pages _ loads first never = absurd never
 

@@ -2,6 +2,8 @@
 use Rattle.std.specs.Prelude.{ℕ, if◌then◌else◌, nat_le, ◌&&◌, List, [], ◌∷◌, Option, Some, codes}
 use Rattle.std.specs.Str.{bytes_eq}
 use Rattle.trio_script.specs.Words.{number_of}
+use Rattle.trio_app.specs.declared.words.TreeForm.{TreeForm}
+use Rattle.trio_app.specs.declared.words.TreeForm.TheVariants.{Lines, Json}
 
 -- what the words of the command line ask for
 pub data Command : Type 0 where
@@ -9,6 +11,8 @@ pub data Command : Type 0 where
   new_image : List ℕ → ℕ → ℕ → Command
   -- IMAGE
   check : List ℕ → Command
+  -- IMAGE, and the form in which its tree is put
+  tree : List ℕ → TreeForm → Command
   -- IMAGE, SCRIPT and OUT
   turns : List ℕ → List ℕ → List ℕ → Command
   -- a command of the table that isn't built
@@ -34,12 +38,12 @@ command_of_one word = if bytes_eq word (codes "--help") then help else if bytes_
 
 -- `check IMAGE`, `tree IMAGE`
 abbrev pub command_of_two : List ℕ → List ℕ → Command
-command_of_two word image = if bytes_eq word (codes "check") then check image else if bytes_eq word (codes "tree") then unbuilt else unknown
+command_of_two word image = if bytes_eq word (codes "check") then check image else if bytes_eq word (codes "tree") then tree image Lines else unknown
 
 -- `tree IMAGE json`, `gen NUMBER FILES`
 abbrev pub command_of_three : List ℕ → List ℕ → List ℕ → Command
 command_of_three word first second =
-    if bytes_eq word (codes "tree") then (if bytes_eq second (codes "json") then unbuilt else unknown)
+    if bytes_eq word (codes "tree") then (if bytes_eq second (codes "json") then tree first Json else unknown)
     else if bytes_eq word (codes "gen") then gen_of (number_of first) (number_of second)
     else unknown
 

@@ -7,7 +7,7 @@ use Rattle.trio_script.specs.Script.{unbuilt_line}
 use Rattle.trio_app.specs.declared.status.Status.{Status}
 use Rattle.trio_app.specs.declared.status.Status.TheVariants.{Done, NotVerified, Usage, TooLong, NotBuilt}
 use Rattle.trio_app.specs.Status.{code_of}
-use Rattle.trio_app.specs.Command.{Command, new_image, check, turns, unbuilt, help, version, unknown, command_of}
+use Rattle.trio_app.specs.Command.{Command, new_image, check, tree, turns, unbuilt, help, version, unknown, command_of}
 
 -- a file tells its bytes, and is over its limit
 pub record TellsTooLong (limit : ℕ) (name : List ℕ) (files : Shelf) : Type 0 where
@@ -43,11 +43,11 @@ NewDecides pages inodes Usage = Fits pages inodes → ⊥
 NewDecides pages inodes _ = ⊥
 
 -- what the bytes of IMAGE decide
-abbrev pub CheckDecides : List ℕ → Shelf → Status → Type 0
-CheckDecides image files Done = TellsImage image files
-CheckDecides image files NotVerified = TellsNoImage image files
-CheckDecides image files TooLong = TellsTooLong 33554432 image files
-CheckDecides image files _ = ⊥
+abbrev pub ImageDecides : List ℕ → Shelf → Status → Type 0
+ImageDecides image files Done = TellsImage image files
+ImageDecides image files NotVerified = TellsNoImage image files
+ImageDecides image files TooLong = TellsTooLong 33554432 image files
+ImageDecides image files _ = ⊥
 
 -- what the bytes of IMAGE decide, and where it verifies, those of SCRIPT
 abbrev pub TurnsDecides : List ℕ → List ℕ → Shelf → Status → Type 0
@@ -60,7 +60,8 @@ TurnsDecides image script files _ = ⊥
 -- that a command has this status is decided by its words and the bytes of its files
 abbrev pub Decides : Command → Shelf → Status → Type 0
 Decides (new_image out pages inodes) files status = NewDecides pages inodes status
-Decides (check image) files status = CheckDecides image files status
+Decides (check image) files status = ImageDecides image files status
+Decides (tree image form) files status = ImageDecides image files status
 Decides (turns image script out) files status = TurnsDecides image script files status
 Decides unbuilt files status = status ≡ NotBuilt
 Decides help files status = status ≡ Done

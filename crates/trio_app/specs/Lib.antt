@@ -5,11 +5,11 @@ pub mod Headline
 pub mod Images
 pub mod New
 pub mod Check
+pub mod Tree
 pub mod Turns
 pub mod Command
 pub mod Main
 pub mod Decided
 pub mod Request
 pub mod Inputs
-pub mod Causes
 pub mod inner

@@ -1,6 +1,6 @@
 -- What the words `new OUT PAGES INODES` do.
-use Rattle.std.specs.Prelude.{◌≡◌, ℕ, List, [], Option}
-use Rattle.trio_io.specs.Shelf.{Shelf, Rose, RisesAt, told}
+use Rattle.std.specs.Prelude.{◌≡◌, ℕ, List, [], Option, None}
+use Rattle.trio_io.specs.Shelf.{Shelf, OnlyReplaces, Rose, told}
 use Rattle.trio_layout.specs.declared.superblock.Superblock.{Superblock}
 use Rattle.trio_survey.specs.Stored.{BytesVerify, bytes_in}
 use Rattle.trio_image.specs.Made.{Fits, IsMade, new_counts}
@@ -19,10 +19,11 @@ pub record NewDone (out : List ℕ) (pages inodes : ℕ) (old new : Shelf) (text
   pub written : new.held out ≡ told old.tells (bytes_in image)
   pub written_verifies : BytesVerify (bytes_in image)
 
--- all was done but for the write, which failed
+-- all was done but for the write, which failed; what OUT holds isn't told then
 pub record NewWriteFault (out : List ℕ) (pages inodes : ℕ) (old new : Shelf) (text : List ℕ) : Type 0 where
   pub fits : Fits pages inodes
   pub rose : Rose (old.write_faults out) (new.write_faults out)
+  pub untold : new.held out ≡ None
   pub put : text ≡ write_fault_line out
 
 -- what it came to, by status, and the text that is then due
@@ -33,15 +34,8 @@ NewComesTo out pages inodes old new text WriteFault = NewWriteFault out pages in
 NewComesTo out pages inodes old new text NoMemory = text ≡ []
 NewComesTo out pages inodes old new text _ = ⊥
 
--- whose counts may rise
-pub record NewCounts (out : List ℕ) (old new : Shelf) : Type 0 where
-  pub reads : new.read_faults ≡ old.read_faults
-  pub writes : RisesAt out old.write_faults new.write_faults
-  pub serves : new.served ≡ old.served
-  pub tells : new.tells ≡ old.tells
-
--- what `new` came to, what it left as it was, and which counts may have risen
+-- what `new` came to, and what it left as it was; nothing but OUT and the count of its failed writes may have changed
 pub record New (out : List ℕ) (pages inodes : ℕ) (old new : Shelf) (text : List ℕ) (status : Status) : Type 0 where
   pub comes_to : NewComesTo out pages inodes old new text status
   pub keeps : OutKeeps out old new status
-  pub counts : NewCounts out old new
+  pub files : OnlyReplaces out old new

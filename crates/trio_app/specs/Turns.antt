@@ -13,6 +13,7 @@ use Rattle.trio_app.specs.Headline.{Headline}
 use Rattle.trio_app.specs.declared.status.Status.{Status}
 use Rattle.trio_app.specs.declared.status.Status.TheVariants.{Done, NotVerified, ReadFault, WriteFault, NoMemory, TooLong, NotBuilt}
 use Rattle.trio_app.specs.Images.{ImageVerifies, ImageFails, OutKeeps}
+use Rattle.trio_app.specs.Inputs.{ReadsScript}
 use Rattle.trio_app.specs.Lines.{read_fault_line, too_long_line, write_fault_line, not_built_line}
 use Rattle.trio_app.specs.Report.{report_text}
 
@@ -48,14 +49,6 @@ TurnsReadFault image script old new text =
     (Rose (old.read_faults image) (new.read_faults image) × (text ≡ read_fault_line image))
     ⊎ (Rose (old.read_faults script) (new.read_faults script) × ImageVerifies image old × (text ≡ read_fault_line script))
 
--- a line of the script isn't built
-pub record ReadsLine (image script : List ℕ) (old : Shelf) (number : ℕ) : Type 0 where
-  pub image_verifies : ImageVerifies image old
-  pub script_bytes : List ℕ
-  pub script_is : IsTold (old.held script) script_bytes
-  pub within : length script_bytes ≤ 1048576
-  pub line : unbuilt_line script_bytes ≡ Some number
-
 -- a file is over its limit: the image, or the script once the image was read and verifies
 abbrev pub TurnsTooLong : List ℕ → List ℕ → Shelf → List ℕ → Type 0
 TurnsTooLong image script old text =
@@ -68,17 +61,16 @@ InputsStop image script old new text NotVerified = ImageFails image old text
 InputsStop image script old new text ReadFault = TurnsReadFault image script old new text
 InputsStop image script old new text NoMemory = text ≡ []
 InputsStop image script old new text TooLong = TurnsTooLong image script old text
-InputsStop image script old new text NotBuilt = (number : ℕ) × ReadsLine image script old number × (text ≡ not_built_line number)
+InputsStop image script old new text NotBuilt =
+    (number : ℕ) × ImageVerifies image old × ReadsScript script old (Some number) × (text ≡ not_built_line number)
 InputsStop image script old new text _ = ⊥
 
--- all was done but for the write, which failed
+-- all was done but for the write, which failed; what OUT holds isn't told then
 pub record TurnsWriteFault (image script out : List ℕ) (old new : Shelf) (text : List ℕ) : Type 0 where
   pub image_verifies : ImageVerifies image old
-  pub script_bytes : List ℕ
-  pub script_is : IsTold (old.held script) script_bytes
-  pub script_within : length script_bytes ≤ 1048576
-  pub script_built : unbuilt_line script_bytes ≡ None
+  pub script_read : ReadsScript script old None
   pub rose : Rose (old.write_faults out) (new.write_faults out)
+  pub untold : new.held out ≡ None
   pub put : text ≡ write_fault_line out
 
 -- what it came to, by status, and the text that is then due
@@ -87,16 +79,16 @@ TurnsComesTo image script out old new text Done = TurnsDone image script out old
 TurnsComesTo image script out old new text WriteFault = TurnsWriteFault image script out old new text
 TurnsComesTo image script out old new text status = InputsStop image script old new text status
 
--- whose counts may rise
-pub record TurnsCounts (image script out : List ℕ) (old new : Shelf) : Type 0 where
+-- whose counts of faults may rise
+pub record TurnsFaults (image script out : List ℕ) (old new : Shelf) : Type 0 where
   pub reads_later : (q : List ℕ) → old.read_faults q ≤ new.read_faults q
   pub reads_others : (q : List ℕ) → q ≢ image → q ≢ script → new.read_faults q ≡ old.read_faults q
   pub writes : RisesAt out old.write_faults new.write_faults
   pub serves : new.served ≡ old.served
   pub tells : new.tells ≡ old.tells
 
--- what `turns` came to, what it left as it was, and which counts may have risen
+-- what `turns` came to, what it left as it was, and which counts of faults may have risen
 pub record Turns (image script out : List ℕ) (old new : Shelf) (text : List ℕ) (status : Status) : Type 0 where
   pub comes_to : TurnsComesTo image script out old new text status
   pub keeps : OutKeeps out old new status
-  pub counts : TurnsCounts image script out old new
+  pub faults : TurnsFaults image script out old new

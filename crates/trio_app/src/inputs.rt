@@ -3,9 +3,9 @@
 ghost use Rattle.std.specs.Prelude.{Contains, IfOk, IfErr};
 ghost use Rattle.trio_io.specs.Shelf.{OnlyReads};
 ghost use Rattle.trio_image.specs.Load.{Loads};
-ghost use Rattle.trio_app.specs.Inputs.{ReadsBoth};
+ghost use Rattle.trio_app.specs.Inputs.{ReadsBoth, ReadsLines};
 ghost use Rattle.trio_app.specs.Turns.{InputsStop};
-ghost use Rattle.trio_app.specs.inner.Stop.{ReadsScript, ScriptStop};
+ghost use Rattle.trio_app.specs.inner.Stop.{ScriptStop};
 
 use crate::images::read_image;
 use crate::{Outcome, Stop};
@@ -28,7 +28,7 @@ pub fn read_inputs<F: Files>(
     requires image { Contains (F.seen files.old).served image_name.now }
     requires script { Contains (F.seen files.old).served script_name.now }
     ensures image { IfOk result (λ r. Loads ((F.seen files.old).held image_name.now) r.0.superblock r.0.pages) }
-    ensures script { IfOk result (λ r. ReadsScript script_name.now (F.seen files.old) r.1.items) }
+    ensures script { IfOk result (λ r. ReadsLines script_name.now (F.seen files.old) r.1.items) }
     ensures stops { IfErr result (λ end. InputsStop image_name.now script_name.now (F.seen files.old) (F.seen files.new) end.text.items end.status) }
     ensures files { ReadsBoth image_name.now script_name.now (F.seen files.old) (F.seen files.new) }
 {
@@ -44,7 +44,7 @@ pub fn read_inputs<F: Files>(
 
 fn input_script<F: Files>(alloc: Global, name: &str, files: &mut F) -> Result<Vec<ScriptLine>, Stop>
     requires { Contains (F.seen files.old).served name.now }
-    ensures script { IfOk result (λ lines. ReadsScript name.now (F.seen files.old) lines.items) }
+    ensures script { IfOk result (λ lines. ReadsLines name.now (F.seen files.old) lines.items) }
     ensures stops { IfErr result (ScriptStop name.now (F.seen files.old) (F.seen files.new)) }
     ensures files { OnlyReads name.now (F.seen files.old) (F.seen files.new) }
 {

@@ -2,11 +2,13 @@
 //!
 //! - `trio new OUT PAGES INODES` makes an image.
 //! - `trio check IMAGE` says whether one verifies, and what it has in use.
+//! - `trio tree IMAGE` puts out its tree, and `trio tree IMAGE json` the same as JSON.
 //! - `trio turns IMAGE SCRIPT OUT` runs a script on an image, writes the image that is then settled,
 //!   and puts out a report.
 //!
 //! What it does and how it ends is the contract of [`trio_main`]: `specs/Main.antt` first, then
-//! `specs/Command.antt`, `specs/New.antt`, `specs/Check.antt` and `specs/Turns.antt`.
+//! `specs/Command.antt`, `specs/New.antt`, `specs/Check.antt`, `specs/Tree.antt` and
+//! `specs/Turns.antt`.
 //!
 //! [`trio_main`] is generic over the files, the sink and the gate. [`main`] hands it the host's,
 //! which no contract speaks of.
@@ -27,6 +29,7 @@ mod run;
 mod status;
 mod stop;
 mod sure;
+mod telling;
 mod threads;
 mod turns;
 mod words;
@@ -46,11 +49,12 @@ use std::thread::Threads;
 use std::vec::IntoIter;
 pub use stop::Stop;
 pub use sure::sure_main;
+pub use telling::tree;
 pub use threads::trio_main;
 use trio_io::{OpenGate, RealFiles, StdoutSink};
 use trio_page::NoMemory;
 pub use turns::turns;
-pub use words::{Request, read_words};
+pub use words::{Request, TreeForm, read_words};
 
 /// The same words once more.
 fn copy_words(alloc: Global, words: &[String]) -> Result<Vec<String>, NoMemory>

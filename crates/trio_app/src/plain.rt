@@ -7,7 +7,7 @@ ghost use Rattle.trio_app.specs.Main.{Main, Puts};
 ghost use Rattle.trio_app.specs.Status.{code_of};
 
 use crate::lines::{USAGE, VERSION};
-use crate::{Request, Status, check, new_image, read_words, turns};
+use crate::{Request, Status, check, new_image, read_words, tree, turns};
 use std::alloc::Global;
 use trio_io::{Files, Sink};
 
@@ -52,6 +52,10 @@ pub fn plain_main<F: Files, S: Sink>(
         }
         Request::Check { image } => {
             let outcome = check(alloc, image, files);
+            end(&outcome.text, outcome.status, out)
+        }
+        Request::Tree { image, form } => {
+            let outcome = tree(alloc, image, form, files);
             end(&outcome.text, outcome.status, out)
         }
         Request::Turns {

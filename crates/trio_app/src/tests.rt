@@ -12,8 +12,8 @@ use std::test::Fail;
 use std::thread::Threads;
 use trio_io::{FailingCalls, MemFiles, MemSink, OpenGate, SureFiles, SureSink};
 use trio_page::NoMemory;
-use trio_samples::Sample;
 use trio_samples::files::{one_file, root, three_files};
+use trio_samples::{Sample, SampleFile, directory, regular};
 
 const IMAGE_SIZE: usize = 131_072;
 
@@ -175,6 +175,20 @@ const CALLS: &[FailingCall] = &[
         (0, VALID, ("first.img", Kept::Image(IMAGE_SIZE))),
     ),
     (
+        &JSON_WORDS,
+        33,
+        (4, READ_FAULT, ("first.img", Kept::Image(IMAGE_SIZE))),
+    ),
+    (
+        &TREE_WORDS,
+        34,
+        (
+            0,
+            b"0 d 755 0 0 1 /\n1 f 644 0 0 5 f\n",
+            ("first.img", Kept::Image(IMAGE_SIZE)),
+        ),
+    ),
+    (
         &NEW,
         1,
         (5, b"write fault a.img\n", ("a.img", Kept::Bytes(65_536))),
@@ -183,6 +197,10 @@ const CALLS: &[FailingCall] = &[
 ];
 
 const CHECK: [&str; 2] = ["check", "first.img"];
+
+const TREE_WORDS: [&str; 2] = ["tree", "first.img"];
+
+const JSON_WORDS: [&str; 3] = ["tree", "first.img", "json"];
 
 const NEW: [&str; 4] = ["new", "a.img", "32", "64"];
 
@@ -354,7 +372,10 @@ fn is_checked<R: Threads + Wait + Sync + AllocGlobal>(
 ) -> Option<bool> {
     let image = changed(rt.alloc(), &new_image(rt)?, size, changes).ok()?;
     let left = run_over(rt, &CHECK, &image, b"", (0, 0)).ok()?;
-    Some(left.status == status && left.out.bytes() == text)
+    let tree = run_over(rt, &TREE_WORDS, &image, b"", (0, 0)).ok()?;
+    // an image that fails has no tree either
+    let is_refused = tree.status == status && (status == 0 || tree.out.bytes() == text);
+    Some(left.status == status && left.out.bytes() == text && is_refused)
 }
 
 #[test]
@@ -388,17 +409,14 @@ const COMMANDS: &[(&[&str], End)] = &[
         &["run", "first.img", "script", "o p"],
         (8, UNBUILT, ("o p", Kept::Before)),
     ),
+    (&["tree"], (2, USAGE, ("o p", Kept::Nothing))),
     (
-        &["tree", "first.img"],
-        (8, UNBUILT, ("first.img", Kept::Image(IMAGE_SIZE))),
-    ),
-    (
-        &["tree", "first.img", "json"],
-        (8, UNBUILT, ("first.img", Kept::Image(IMAGE_SIZE))),
-    ),
-    (
-        &["tree", "first.img", "xml"],
+        &["tree", "first.img", "JSON"],
         (2, USAGE, ("first.img", Kept::Image(IMAGE_SIZE))),
+    ),
+    (
+        &["tree", "first.img", "json", "o p"],
+        (2, USAGE, ("o p", Kept::Before)),
     ),
     (&["check"], (2, USAGE, ("o p", Kept::Nothing))),
     (
@@ -477,6 +495,47 @@ fn words_are_read(rt: HostRuntime) -> Result<(), Fail> {
         assert!(rt;
             ends(&rt, words, &whole, SCRIPT, 0, *end) == Some(true),
             "row {i}"
+        );
+    }
+    Ok(())
+}
+
+// Whether the tree of an image is told so.
+fn is_told_in<R: Threads + Wait + Sync + AllocGlobal>(
+    rt: &R,
+    words: &[&str],
+    image: &[u8],
+    text: &[u8],
+) -> Option<bool> {
+    let left = run_over(rt, words, image, b"", (0, 0)).ok()?;
+    Some(left.status == 0 && left.out.bytes() == text)
+}
+
+#[test]
+fn trees_are_told(rt: HostRuntime) -> Result<(), Fail> {
+    let alloc = rt.alloc();
+    // a file of the root, and the tree in both forms
+    let rows: [(SampleFile<'_>, &[u8], &[u8]); 2] = [
+        (
+            directory(2, 1, b"a"),
+            b"0 d 755 0 0 1 /\n1 d 755 0 0 0 a\n",
+            b"[{\"depth\":0,\"gid\":0,\"kind\":\"d\",\"mode\":\"755\",\"name\":\"/\",\"size\":1,\"uid\":0},{\"depth\":1,\"gid\":0,\"kind\":\"d\",\"mode\":\"755\",\"name\":\"a\",\"size\":0,\"uid\":0}]\n",
+        ),
+        (
+            regular(2, 1, b"\n\"\\\xFF", b"hello"),
+            b"0 d 755 0 0 1 /\n1 f 644 0 0 5 \\x0A\"\\x5C\\xFF\n",
+            b"[{\"depth\":0,\"gid\":0,\"kind\":\"d\",\"mode\":\"755\",\"name\":\"/\",\"size\":1,\"uid\":0},{\"depth\":1,\"gid\":0,\"kind\":\"f\",\"mode\":\"644\",\"name\":\"\\\\x0A\\\"\\\\x5C\\\\xFF\",\"size\":5,\"uid\":0}]\n",
+        ),
+    ];
+    for (file, lines, json) in rows {
+        let image = Sample::small(alloc, &[root(), file])?.bytes(alloc)?;
+        assert!(rt;
+            is_told_in(&rt, &TREE_WORDS, &image, lines) == Some(true),
+            "{lines:?}"
+        );
+        assert!(rt;
+            is_told_in(&rt, &JSON_WORDS, &image, json) == Some(true),
+            "{json:?}"
         );
     }
     Ok(())

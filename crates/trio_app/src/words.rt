@@ -4,13 +4,23 @@ ghost use Rattle.std.specs.Prelude.{◌≡◌, codes, if◌then◌else◌};
 ghost use Rattle.std.specs.Str.{bytes_eq};
 ghost use Rattle.trio_io.specs.Names.{texts_of};
 ghost use Rattle.trio_script.specs.Words.{number_of};
-ghost use Rattle.trio_app.specs.Command.{command_of, command_of_four, command_of_one, command_of_three, command_of_two, gen_of, new_of, unbuilt, unknown};
+ghost use Rattle.trio_app.specs.Command.{command_of, command_of_four, command_of_one, command_of_three, command_of_two, gen_of, new_of, tree, unknown};
+ghost use Rattle.trio_app.specs.declared.words.TreeForm.TheVariants.{Json};
 ghost use Rattle.trio_app.specs.Request.{command_in};
 
 use trio_script::read_number;
 
 /// The most files that `gen` makes.
 const FILES_LIMIT: u32 = 1000;
+
+/// In which form a tree is put.
+#[derive(Clone, Copy, Debug, PartialEq, Eq)]
+pub enum TreeForm {
+    /// A line for each file.
+    Lines,
+    /// JSON: an array with an object for each file.
+    Json,
+}
 
 /// A command with its words.
 #[derive(Drop)]
@@ -25,13 +35,18 @@ pub enum Request<'a> {
     Check {
         image: &'a str,
     },
+    /// `tree IMAGE`, `tree IMAGE json`.
+    Tree {
+        image: &'a str,
+        form: TreeForm,
+    },
     /// `turns IMAGE SCRIPT OUT`.
     Turns {
         image: &'a str,
         script: &'a str,
         out: &'a str,
     },
-    /// A command that isn't built: `tree`, `run` or `gen` with its words.
+    /// A command that isn't built: `run` or `gen` with its words.
     Unbuilt,
     /// `--help`.
     Help,
@@ -79,17 +94,20 @@ fn request_of_two<'a>(word: &str, image: &'a str) -> Request<'a>
     if word == "check" {
         Request::Check { image }
     } else if word == "tree" {
-        Request::Unbuilt
+        Request::Tree {
+            image,
+            form: TreeForm::Lines,
+        }
     } else {
         Request::Unknown
     }
 }
 
-fn request_of_three<'a>(word: &str, first: &str, second: &str) -> Request<'a>
+fn request_of_three<'a>(word: &str, first: &'a str, second: &str) -> Request<'a>
     ensures { command_in result ≡ command_of_three word.now first.now second.now }
 {
     if word == "tree" {
-        tree_request(second)
+        tree_request(first, second)
     } else if word == "gen" {
         gen_request(first, second)
     } else {
@@ -115,11 +133,14 @@ fn request_of_four<'a>(word: &str, first: &'a str, second: &'a str, third: &'a s
     }
 }
 
-fn tree_request<'a>(format: &str) -> Request<'a>
-    ensures { command_in result ≡ (if bytes_eq format.now (codes "json") then unbuilt else unknown) }
+fn tree_request<'a>(image: &'a str, form: &str) -> Request<'a>
+    ensures { command_in result ≡ (if bytes_eq form.now (codes "json") then tree image.now Json else unknown) }
 {
-    if format == "json" {
-        Request::Unbuilt
+    if form == "json" {
+        Request::Tree {
+            image,
+            form: TreeForm::Json,
+        }
     } else {
         Request::Unknown
     }

@@ -1,14 +1,13 @@
--- Why the work ends at a file that is read, and how that is told. Cited by private functions alone.
-use Rattle.std.specs.Prelude.{◌≡◌, ◌⊎◌, ℕ, ◌≤◌, List, [], None, Some, length, ⊤}
-use Rattle.trio_io.specs.Shelf.{Shelf, Rose, IsTold, IsLonger}
+-- Why the work ends at a file that is read, and how that is told. The top call's contract doesn't rest on it.
+use Rattle.std.specs.Prelude.{◌≡◌, ◌⊎◌, ℕ, List, [], Some, ⊤}
+use Rattle.trio_io.specs.Shelf.{Shelf, Rose, IsLonger}
 use Rattle.trio_image.specs.declared.fault.LoadFault.{LoadFault}
 use Rattle.trio_image.specs.declared.fault.LoadFault.TheVariants.{Length as LoadLength, BadSuper as LoadBadSuper, Fails as LoadFails, NoMemory as LoadNoMemory, ReadFault as LoadReadFault, TooLong as LoadTooLong}
-use Rattle.trio_script.specs.Script.{script_lines, unbuilt_line}
-use Rattle.trio_script.specs.declared.ScriptLine.{ScriptLine}
 use Rattle.trio_app.specs.declared.status.Status.{Status}
 use Rattle.trio_app.specs.declared.status.Status.TheVariants.{NotVerified, ReadFault as StatusReadFault, TooLong as StatusTooLong, NoMemory as StatusNoMemory, NotBuilt}
 use Rattle.trio_app.specs.declared.stop.Stop.{Stop}
 use Rattle.trio_app.specs.declared.stop.Stop.TheVariants.{ReadFault, TooLong, Length, BadSuper, Invalid, LineNotBuilt, NoMemory}
+use Rattle.trio_app.specs.Inputs.{ReadsScript}
 use Rattle.trio_app.specs.Lines.{length_line, bad_superblock_line, invalid_line, read_fault_line, too_long_line, not_built_line}
 
 abbrev pub status_of : Stop → Status
@@ -44,27 +43,10 @@ stop_of_loading LoadBadSuper = BadSuper
 stop_of_loading (LoadFails rule ino page slot) = Invalid rule
 stop_of_loading LoadNoMemory = NoMemory
 
--- ---- the script
-
--- the script was read, each line of it is built, and these are the lines that say something
-pub record ReadsScript (script : List ℕ) (old : Shelf) (lines : List ScriptLine) : Type 0 where
-  pub script_bytes : List ℕ
-  pub script_is : IsTold (old.held script) script_bytes
-  pub within : length script_bytes ≤ 1048576
-  pub built : unbuilt_line script_bytes ≡ None
-  pub lines_are : lines ≡ script_lines script_bytes
-
--- the script was read, and nothing is built for this line
-pub record HasUnbuiltLine (script : List ℕ) (old : Shelf) (number : ℕ) : Type 0 where
-  pub script_bytes : List ℕ
-  pub script_is : IsTold (old.held script) script_bytes
-  pub within : length script_bytes ≤ 1048576
-  pub line : unbuilt_line script_bytes ≡ Some number
-
 -- why there is no script to run
 abbrev pub ScriptStop : List ℕ → Shelf → Shelf → Stop → Type 0
 ScriptStop script old new ReadFault = Rose (old.read_faults script) (new.read_faults script)
 ScriptStop script old new TooLong = IsLonger 1048576 (old.held script)
-ScriptStop script old new (LineNotBuilt number) = HasUnbuiltLine script old number
+ScriptStop script old new (LineNotBuilt number) = ReadsScript script old (Some number)
 ScriptStop script old new NoMemory = ⊤
 ScriptStop script old new _ = ⊥

@@ -9,3 +9,11 @@ pub returns-in-Err-input_script-clause-stops : goal.returns-in-Err-input_script-
 returns-in-Err-input_script-clause-stops g c =
     script_stop c.args.image_name.now c.args.script_name.now (g.F.Files.seen c.args.files.now) (g.F.Files.seen c.read_image.new.files) (g.F.Files.seen c.input_script.new.files) c.in-Ok.image.superblock c.in-Ok.image.pages
     c.in-Err-input_script.stop c.outcome.result.text.items c.outcome.result.status c.in-Ok.ensures.image c.in-Ok.ensures.files c.in-Err-input_script.ensures.stops c.outcome.ensures
+
+pub returns-in-Ok-input_script-clause-script : goal.returns-in-Ok-input_script-clause-script
+returns-in-Ok-input_script-clause-script g c =
+    let lines = c.in-Ok-input_script.ensures.script in
+    record {
+      read = record { script_bytes = lines.read.script_bytes; script_is = rw (← c.in-Ok.ensures.files.held) lines.read.script_is; within = lines.read.within; built = lines.read.built };
+      lines_are = lines.lines_are;
+    }

@@ -18,6 +18,11 @@ check-outcome-requires g c =
     let served = (g.F.Files.seen c.args.files.now).served in
     subst (λ (command : Command). EachName (Contains served) command) (sym c.in-Check.ensures) (each_name (Contains served) (texts_of c.args.words.now) c.requires)
 
+pub tree-outcome-requires : goal.tree-outcome-requires
+tree-outcome-requires g c =
+    let served = (g.F.Files.seen c.args.files.now).served in
+    subst (λ (command : Command). EachName (Contains served) command) (sym c.in-Tree.ensures) (each_name (Contains served) (texts_of c.args.words.now) c.requires)
+
 pub turns-outcome-requires-clause-image : goal.turns-outcome-requires-clause-image
 turns-outcome-requires-clause-image g c =
     let served = (g.F.Files.seen c.args.files.now).served in
@@ -56,6 +61,18 @@ returns-in-Check-clause-main g c = record {
 
 pub returns-in-Check-clause-decided : goal.returns-in-Check-clause-decided
 returns-in-Check-clause-decided g c = main_decided _ _ _ _ _ _ (returns-in-Check-clause-main g c)
+
+pub returns-in-Tree-clause-main : goal.returns-in-Tree-clause-main
+returns-in-Tree-clause-main g c = record {
+  status = c.tree-outcome.result.status;
+  text = c.tree-outcome.result.text.items;
+  comes_to = rw (← c.in-Tree.ensures) c.tree-outcome.ensures;
+  puts = rw (← c.deref-in-Tree.ensures.value) c.end-in-Tree.ensures.puts;
+  unasked = rw (← c.deref-in-Tree.ensures.value) c.end-in-Tree.ensures.unasked;
+}
+
+pub returns-in-Tree-clause-decided : goal.returns-in-Tree-clause-decided
+returns-in-Tree-clause-decided g c = main_decided _ _ _ _ _ _ (returns-in-Tree-clause-main g c)
 
 pub returns-in-Turns-clause-main : goal.returns-in-Turns-clause-main
 returns-in-Turns-clause-main g c = record {

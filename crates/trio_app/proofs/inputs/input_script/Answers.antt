@@ -1,0 +1,11 @@
+use Rattle.trio_app.proofs.inputs.input_script.Goals as goal
+
+pub returns-in-Ok-read_script-clause-script : goal.returns-in-Ok-read_script-clause-script
+returns-in-Ok-read_script-clause-script g c =
+    let read = c.in-Ok-read_script.ensures in
+    let built = rw c.deref.ensures.value at read.built in
+    let lines = rw c.deref.ensures.value at read.lines in
+    record {
+      read = record { script_bytes = c.in-Ok.bytes.items; script_is = c.in-Ok.ensures.bytes; within = c.in-Ok.ensures.no_longer; built = built };
+      lines_are = lines;
+    }
