@@ -3,6 +3,7 @@ pub mod Wholes
 pub mod Views
 pub mod Starting
 pub mod Storing
+pub mod Moving
 pub mod StoredFacts
 pub mod LendLemmas
 pub mod Granting

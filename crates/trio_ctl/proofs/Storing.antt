@@ -29,8 +29,8 @@ use Rattle.trio_lists.proofs.Tabulated.{tabulated-length, tabulated-get}
 use Rattle.trio_surveys.proofs.Owned.{pages_are}
 use Rattle.trio_laws.proofs.Refusing.{read_listed}
 use Rattle.trio_laws.proofs.StateFacts.{tables as tables_of}
-use Rattle.trio_image.specs.Image.{is_whole_page, IsVerified, IsWholeImage, TablesAre}
-use Rattle.trio_ctl.specs.Ctl.{or_zero, superblock_for, with_zeros}
+use Rattle.trio_image.specs.Image.{is_whole_page, ImagePages, IsVerified, IsWholeImage, TablesAre}
+use Rattle.trio_ctl.specs.Ctl.{or_zero, superblock_for, with_zeros, TellsSettled}
 use Rattle.trio_allot.specs.Out.{OutByNumber}
 use Rattle.trio_ctl.proofs.AtHome.{IsAtHome, home_image, state_at_home}
 use Rattle.trio_image.specs.Front.{FillsPages, owner_count, shadow_count}
@@ -125,7 +125,7 @@ module _ (s : Superblock) (pages : List (Option (List ℕ))) (rows : List (Optio
       laid_whole s rows owners core_pages laid shadow_full owner_full
       (tabulated-all is_whole_page (λ n. or_zero (slice_index_or pages (s.first_core + n) None)) (s.pages - s.first_core) (λ n lt. core_whole (s.first_core + n) (omega arith) (omega arith)))
 
-  pub stored_superblock : HasSuperblock s stored
+  stored_superblock : HasSuperblock s stored
   stored_superblock = laid_superblock s rows owners core_pages laid
 
   tables : StoresTables s stored rows owners
@@ -166,20 +166,27 @@ module _ (s : Superblock) (pages : List (Option (List ℕ))) (rows : List (Optio
   zeros_at p lt = get_or-map or_zero pages p None None (omega (arith, k.count))
 
   -- and they store the image of the state, with zeros in place of what is out
-  pub stores_zeros : StoresImage s (with_zeros (settled now)) stored
+  stores_zeros : StoresImage s (with_zeros (settled now)) stored
   stores_zeros = record { count = stored_count; superblock = stored_first; tables = tables; core = λ p le lt. stored_core p le lt ∙ sym (zeros_at p lt) }
 
   -- where nothing is out, they store just that image
-  pub stores : NoneOut outs.pages → StoresImage s (settled now) stored
+  stores : NoneOut outs.pages → StoresImage s (settled now) stored
   stores none = record { count = stored_count; superblock = stored_first; tables = tables; core = λ p le lt. stored_core p le lt ∙ by_page p le lt (get_or pages p None) refl }
     where
       by_page : (p : ℕ) → s.first_core ≤ p → p < s.pages → (o : Option (List ℕ)) → get_or pages p None ≡ o → or_zero o ≡ o
       by_page p le lt None e = absurd (false≢true (sym (ap is_some (none p)) ∙ absent_out p le lt e))
       by_page p le lt (Some bytes) there = refl
 
-  pub superblock_is : s ≡ superblock_for (settled now).core
+  superblock_is : s ≡ superblock_for (settled now).core
   superblock_is = ap (λ (n : ℕ). record s { first_owner = n }) (superblock_facts s k.fits).first_owner
 
-pub stores_by : (s t : Superblock) (image : Image) (made pages : List (Option (List ℕ))) → t ≡ s → made ≡ pages → StoresImage s image pages → StoresImage t image made
-stores_by s t image made pages same is h =
-    subst (λ (x : Superblock). StoresImage x image made) (sym same) (subst (λ ps. StoresImage s image ps) (sym is) h)
+  -- so they tell what is settled
+  told : TellsSettled now (record { superblock = s; pages = stored })
+  told = record { superblock = superblock_is; zeros = stores_zeros; stores = stores; tables = stored_tables; verified = stored_verified }
+
+  -- and so does the image that is made of them
+  pub tells : (made : ImagePages) → made.pages ≡ stored → ((t : Superblock) → HasSuperblock t stored → made.superblock ≡ t) → TellsSettled now made
+  tells made pages superblock = tells_by made s stored (superblock s stored_superblock) pages told
+    where
+      tells_by : (made : ImagePages) (t : Superblock) (ps : List (Option (List ℕ))) → made.superblock ≡ t → made.pages ≡ ps → TellsSettled now (record { superblock = t; pages = ps }) → TellsSettled now made
+      tells_by made t ps same is h = subst (λ (x : ImagePages). TellsSettled now x) (rw (← same, ← is) refl) h

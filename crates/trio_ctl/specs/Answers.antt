@@ -55,6 +55,11 @@ TellsImage writer (Ok image) = writer ≡ None
 TellsImage writer (Err (Busy holder)) = writer ≡ Some holder
 TellsImage writer (Err NoImageMemory) = writer ≡ None
 
+-- the same of a call that gives something back with the fault
+abbrev pub TellsLastImage : {I B : Type 0} → Option Holder → Result I B → (B → ImageFault) → Type 0
+TellsLastImage writer (Ok image) fault = writer ≡ None
+TellsLastImage writer (Err back) fault = TellsImage {I = ℕ} writer (Err (fault back))
+
 -- A grant that is asked is admitted just where no open one excludes it; else the first that does is named.
 abbrev pub Admits : (Grant → Bool) → List Keyed → Result ℕ GrantFault → Type 0
 Admits excluding grants (Ok key) = first_with excluding grants ≡ None

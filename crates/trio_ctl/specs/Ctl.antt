@@ -15,8 +15,10 @@ use Rattle.trio_layout.specs.Superblock.{page_count}
 use Rattle.trio_layout.specs.Core.{Core}
 use Rattle.trio_layout.specs.Image.{Image, with_core_pages}
 use Rattle.trio_state.specs.Grants.{holder_of}
-use Rattle.trio_state.specs.State.{State}
-use Rattle.trio_tables.specs.Out.{lib_at}
+use Rattle.trio_state.specs.State.{State, settled}
+use Rattle.trio_tables.specs.Out.{NoneOut, lib_at}
+use Rattle.trio_survey.specs.Stored.{StoresImage}
+use Rattle.trio_image.specs.Image.{ImagePages, IsVerified, TablesAre}
 use Rattle.trio_commit.specs.declared.store.Store.{Store}
 use Rattle.trio_ctl.specs.Open.{Opened, grants_in, keyed}
 use Rattle.trio_ctl.specs.Stored.{IsStored}
@@ -64,3 +66,12 @@ or_zero None = Some (zeros 4096)
 -- an image with all zeros in place of the pages that are absent
 abbrev pub with_zeros : Image → Image
 with_zeros image = with_core_pages image (map or_zero image.core.pages)
+
+-- The image tells what is settled: its superblock has the settled sizes and the root's body, its pages store the settled image,
+-- all zero where one is out by allotment, its tables are the settled ones, and it verifies.
+pub record TellsSettled (s : State) (image : ImagePages) : Type 0 where
+  pub superblock : image.superblock ≡ superblock_for (settled s).core
+  pub zeros : StoresImage image.superblock (with_zeros (settled s)) image.pages
+  pub stores : NoneOut s.pages_out → StoresImage image.superblock (settled s) image.pages
+  pub tables : TablesAre image.superblock image.pages (settled s).rows (settled s).owners
+  pub verified : IsVerified image.superblock image.pages

@@ -1,19 +1,16 @@
 //! The settled image.
 
-ghost use Rattle.std.specs.Prelude.{◌≡◌, IfOk};
-ghost use Rattle.trio_tables.specs.Out.{NoneOut};
-ghost use Rattle.trio_image.specs.Image.{IsVerified, TablesAre};
+ghost use Rattle.std.specs.Prelude.{◌≡◌, IfErr, IfOk};
 ghost use Rattle.trio_state.specs.Kept.{Kept};
-ghost use Rattle.trio_state.specs.State.{settled};
-ghost use Rattle.trio_survey.specs.Stored.{StoresImage};
-ghost use Rattle.trio_ctl.specs.Answers.{TellsImage};
-ghost use Rattle.trio_ctl.specs.Ctl.{superblock_for, with_zeros, writer_of};
+ghost use Rattle.trio_ctl.specs.Answers.{TellsImage, TellsLastImage};
+ghost use Rattle.trio_ctl.specs.Ctl.{TellsSettled, writer_of};
 
 use crate::ctl::Ctl;
-use crate::stored::stored_pages;
+use crate::stored::{moved_pages, stored_pages};
+use trio_commit::Store;
 use trio_image::{Image, ImageParts};
 use trio_nodes::Holder;
-use trio_page::Home;
+use trio_page::{Home, NoMemory};
 
 /// Why a settled image isn't told.
 #[derive(Clone, Copy, Debug, PartialEq, Eq)]
@@ -30,11 +27,7 @@ impl Ctl {
     /// grant is out; `NoMemory`: there was no memory for the pages and the tables.
     pub fn image(&mut self) -> Result<Image, ImageFault>
         ensures answer { TellsImage (writer_of self.old.state) result }
-        ensures superblock { IfOk result (λ image. image.superblock ≡ superblock_for (settled self.old.state).core) }
-        ensures zeros { IfOk result (λ image. StoresImage image.superblock (with_zeros (settled self.old.state)) image.pages) }
-        ensures stores { NoneOut self.old.state.pages_out → IfOk result (λ image. StoresImage image.superblock (settled self.old.state) image.pages) }
-        ensures tables { IfOk result (λ image. TablesAre image.superblock image.pages (settled self.old.state).rows (settled self.old.state).owners) }
-        ensures verified { IfOk result (λ image. IsVerified image.superblock image.pages) }
+        ensures image { IfOk result (TellsSettled self.old.state) }
         ensures state { self.new.state ≡ self.old.state }
         ensures kept { Kept self.old.state }
     {
@@ -57,6 +50,38 @@ impl Ctl {
         let Ok(owners) = self.store.owners.copy(self.alloc) else {
             return Err(ImageFault::NoMemory);
         };
+        Ok(Image::of(ImageParts {
+            home: Home::of(pages),
+            rows,
+            owners,
+        }))
+    }
+
+    /// The settled image, as [`image`](Self::image) tells it, with the pages and the tables of the
+    /// controller, which ends. `Busy` exactly where a write grant is out; `NoMemory`: there was no
+    /// memory for the pages of the tables, or for those that are out. After either the controller
+    /// comes back, its state unchanged.
+    pub fn into_image(self) -> Result<Image, (Ctl, ImageFault)>
+        ensures answer { TellsLastImage (writer_of self.state) result (λ back. back.1) }
+        ensures image { IfOk result (TellsSettled self.state) }
+        ensures back { IfErr result (λ back. back.0.state ≡ self.state) }
+        ensures kept { Kept self.state }
+    {
+        let mut ctl = self;
+        if let Some(holder) = ctl.grants.writer() {
+            return Err((ctl, ImageFault::Busy(holder)));
+        }
+        let superblock = ctl.superblock();
+        let Ok(pages) = moved_pages(
+            ctl.alloc,
+            &mut ctl.store.home,
+            &superblock,
+            &ctl.store.rows,
+            &ctl.store.owners,
+        ) else {
+            return Err((ctl, ImageFault::NoMemory));
+        };
+        let Store { rows, owners, .. } = ctl.store;
         Ok(Image::of(ImageParts {
             home: Home::of(pages),
             rows,

@@ -1,17 +1,15 @@
 use Rattle.std.proofs.Common.{◌≡◌, arith, ap, length, subst, sym, ◌∙◌}
-use Rattle.trio_tables.specs.Out.{lib_at}
 use Rattle.trio_page.specs.Home.{Pages}
 use Rattle.trio_layout.proofs.Superblocks.{superblock_facts}
-use Rattle.trio_state.specs.State.{State, settled}
-use Rattle.trio_survey.specs.Stored.{HasSuperblock, StoresImage}
-use Rattle.trio_image.specs.Image.{IsVerified, TablesAre}
-use Rattle.trio_ctl.specs.Ctl.{superblock_for, with_zeros}
+use Rattle.trio_state.specs.State.{State}
+use Rattle.trio_image.specs.Image.{IsVerified}
+use Rattle.trio_ctl.specs.Ctl.{superblock_for, TellsSettled}
 use Rattle.trio_ctl.specs.Stored.{superblock_at_home}
 use Rattle.trio_ctl.specs.inner.Pages.{stored_pages}
 use Rattle.trio_layout.specs.declared.superblock.Superblock.{Superblock}
 use Rattle.trio_ctl.proofs.Views.{state_is}
 use Rattle.trio_ctl.proofs.AtHome.{at_home, same_state, writer_is}
-use Rattle.trio_ctl.proofs.Storing.{stored_count, stored_superblock, stored_tables, stored_verified, stores, stores_by, stores_zeros, superblock_is}
+use Rattle.trio_ctl.proofs.Storing.{stored_count, stored_tables, stored_verified, tells}
 use Rattle.trio_ctl.proofs.ctl.Ctl.image.Goals as goal
 
 pub returns-in-Some-clause-answer : goal.returns-in-Some-clause-answer
@@ -44,64 +42,18 @@ of-requires-2 c =
       rw (pages, c.in-Ok-copy.ensures, c.in-Ok-copy-2.ensures) (stored_tables (superblock_at_home s.store s.first_core) s.store.home.pages s.store.rows s.store.owners s.store.allotments s.libs.items s.history k made.shadow made.owner),
     )
 
-pub returns-clause-superblock : goal.returns-clause-superblock
-returns-clause-superblock c =
+pub returns-clause-image : goal.returns-clause-image
+returns-clause-image c =
     let s = c.self.inside in
     let none = sym c.writer.ensures ∙ c.in_default.is in
     let home = at_home s.store s.first_core s.grants s.files.items s.libs.items s.history c.self.invariant none in
-    let k = home.1 in
     let made = c.in-Ok.ensures in
     let sizes = c.superblock-superblock.ensures ∙ ap (λ (v : State). superblock_for v.home.core) (sym (state_is c.self.view_is)) in
     let laid = made.pages ∙ ap (λ (x : Superblock). stored_pages x s.store.home.pages s.store.rows s.store.owners) sizes in
     let pages = ap (λ (h : Pages). h.pages) c.of.ensures ∙ laid in
-    let has = subst (HasSuperblock (superblock_at_home s.store s.first_core)) (sym pages) (stored_superblock (superblock_at_home s.store s.first_core) s.store.home.pages s.store.rows s.store.owners s.store.allotments s.libs.items s.history k made.shadow made.owner) in
-    subst (λ (v : State). c.of-2.result.superblock ≡ superblock_for (settled v).core) (same_state s.store s.first_core s.grants s.files.items s.libs.items s.history c.self.invariant home.0 ∙ (state_is c.self.view_is))
-    (c.of-2.ensures.superblock (superblock_at_home s.store s.first_core) has ∙ superblock_is (superblock_at_home s.store s.first_core) s.store.home.pages s.store.rows s.store.owners s.store.allotments s.libs.items s.history k made.shadow made.owner)
-
-pub returns-clause-tables : goal.returns-clause-tables
-returns-clause-tables c =
-    let s = c.self.inside in
-    let none = sym c.writer.ensures ∙ c.in_default.is in
-    let home = at_home s.store s.first_core s.grants s.files.items s.libs.items s.history c.self.invariant none in
-    let k = home.1 in
-    let made = c.in-Ok.ensures in
-    let sizes = c.superblock-superblock.ensures ∙ ap (λ (v : State). superblock_for v.home.core) (sym (state_is c.self.view_is)) in
-    let laid = made.pages ∙ ap (λ (x : Superblock). stored_pages x s.store.home.pages s.store.rows s.store.owners) sizes in
-    let pages = ap (λ (h : Pages). h.pages) c.of.ensures ∙ laid in
-    let has = subst (HasSuperblock (superblock_at_home s.store s.first_core)) (sym pages) (stored_superblock (superblock_at_home s.store s.first_core) s.store.home.pages s.store.rows s.store.owners s.store.allotments s.libs.items s.history k made.shadow made.owner) in
-    subst (λ (v : State). TablesAre c.of-2.result.superblock c.of-2.result.pages (settled v).rows (settled v).owners) (same_state s.store s.first_core s.grants s.files.items s.libs.items s.history c.self.invariant home.0 ∙ (state_is c.self.view_is))
-    (rw (c.of-2.ensures.superblock (superblock_at_home s.store s.first_core) has, c.of-2.ensures.pages ∙ pages)
-    (stored_tables (superblock_at_home s.store s.first_core) s.store.home.pages s.store.rows s.store.owners s.store.allotments s.libs.items s.history k made.shadow made.owner))
-
-pub returns-clause-zeros : goal.returns-clause-zeros
-returns-clause-zeros c =
-    let s = c.self.inside in
-    let none = sym c.writer.ensures ∙ c.in_default.is in
-    let home = at_home s.store s.first_core s.grants s.files.items s.libs.items s.history c.self.invariant none in
-    let k = home.1 in
-    let made = c.in-Ok.ensures in
-    let sizes = c.superblock-superblock.ensures ∙ ap (λ (v : State). superblock_for v.home.core) (sym (state_is c.self.view_is)) in
-    let laid = made.pages ∙ ap (λ (x : Superblock). stored_pages x s.store.home.pages s.store.rows s.store.owners) sizes in
-    let pages = ap (λ (h : Pages). h.pages) c.of.ensures ∙ laid in
-    let has = subst (HasSuperblock (superblock_at_home s.store s.first_core)) (sym pages) (stored_superblock (superblock_at_home s.store s.first_core) s.store.home.pages s.store.rows s.store.owners s.store.allotments s.libs.items s.history k made.shadow made.owner) in
-    subst (λ (v : State). StoresImage c.of-2.result.superblock (with_zeros (settled v)) c.of-2.result.pages) (same_state s.store s.first_core s.grants s.files.items s.libs.items s.history c.self.invariant home.0 ∙ (state_is c.self.view_is))
-    (stores_by (superblock_at_home s.store s.first_core) c.of-2.result.superblock _ c.of-2.result.pages _ (c.of-2.ensures.superblock (superblock_at_home s.store s.first_core) has) (c.of-2.ensures.pages ∙ pages)
-    (stores_zeros (superblock_at_home s.store s.first_core) s.store.home.pages s.store.rows s.store.owners s.store.allotments s.libs.items s.history k made.shadow made.owner))
-
-pub returns-clause-stores : goal.returns-clause-stores
-returns-clause-stores c = λ nothing.
-    let s = c.self.inside in
-    let none = sym c.writer.ensures ∙ c.in_default.is in
-    let home = at_home s.store s.first_core s.grants s.files.items s.libs.items s.history c.self.invariant none in
-    let k = home.1 in
-    let made = c.in-Ok.ensures in
-    let sizes = c.superblock-superblock.ensures ∙ ap (λ (v : State). superblock_for v.home.core) (sym (state_is c.self.view_is)) in
-    let laid = made.pages ∙ ap (λ (x : Superblock). stored_pages x s.store.home.pages s.store.rows s.store.owners) sizes in
-    let pages = ap (λ (h : Pages). h.pages) c.of.ensures ∙ laid in
-    let has = subst (HasSuperblock (superblock_at_home s.store s.first_core)) (sym pages) (stored_superblock (superblock_at_home s.store s.first_core) s.store.home.pages s.store.rows s.store.owners s.store.allotments s.libs.items s.history k made.shadow made.owner) in
-    subst (λ (v : State). StoresImage c.of-2.result.superblock (settled v) c.of-2.result.pages) (same_state s.store s.first_core s.grants s.files.items s.libs.items s.history c.self.invariant home.0 ∙ (state_is c.self.view_is))
-    (stores_by (superblock_at_home s.store s.first_core) c.of-2.result.superblock _ c.of-2.result.pages _ (c.of-2.ensures.superblock (superblock_at_home s.store s.first_core) has) (c.of-2.ensures.pages ∙ pages)
-    (stores (superblock_at_home s.store s.first_core) s.store.home.pages s.store.rows s.store.owners s.store.allotments s.libs.items s.history k made.shadow made.owner (λ n. ap (λ (v : State). lib_at v.pages_out n) (state_is c.self.view_is) ∙ nothing n)))
+    subst (λ (v : State). TellsSettled v c.of-2.result) (same_state s.store s.first_core s.grants s.files.items s.libs.items s.history c.self.invariant home.0 ∙ state_is c.self.view_is)
+    (tells (superblock_at_home s.store s.first_core) s.store.home.pages s.store.rows s.store.owners s.store.allotments s.libs.items s.history home.1 made.shadow made.owner c.of-2.result
+    (c.of-2.ensures.pages ∙ pages) (λ t has. c.of-2.ensures.superblock t (rw pages has)))
 
 pub returns-clause-answer : goal.returns-clause-answer
 returns-clause-answer c =
