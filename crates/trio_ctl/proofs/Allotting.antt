@@ -36,18 +36,19 @@ use Rattle.trio_lists.proofs.Tabulated.{tabulated-length}
 use Rattle.trio_lists.proofs.Members.{In-left, is_among-In, map-In}
 use Rattle.trio_laws.proofs.Runs.{step_kept}
 use Rattle.trio_surveys.proofs.Sheets.{length-without}
-use Rattle.trio_laws.proofs.StateFacts.{lent_met, tables as tables_of}
+use Rattle.trio_laws.proofs.StateFacts.{lent_met, tables as tables_of, write_is}
 use Rattle.trio_ctl.specs.Answers.{allot_fault_answer}
 use Rattle.trio_commit.specs.declared.store.Store.{Store}
 use Rattle.trio_commit.specs.Store.{checkpoint_at, state_of, with_checkpoint}
-use Rattle.trio_ctl.specs.Ctl.{IsControlled}
+use Rattle.trio_ctl.specs.Ctl.{HaveKinds, IsControlled}
+use Rattle.trio_ctl.specs.Entries.{Entries, reads_among}
 use Rattle.trio_ctl.specs.Open.{Opened, grants_in}
 use Rattle.trio_ctl.specs.Stored.{IsStored, superblock_at_home}
 use Rattle.trio_allot.specs.Out.{OutByNumber, outs_with}
 
-module _ (s : Store) (first : ℕ) (table : List Keyed) (files : List Opened) (creds : List Creds) (entries : ℕ) (k : IsControlled s first table files creds entries) where
+module _ (s : Store) (first : ℕ) (table : List Keyed) (files : List Opened) (creds : List Creds) (entries : Entries) (k : IsControlled s first table files creds entries) where
   abbrev now : State
-  now = state_of s first (grants_in files) creds entries
+  now = state_of s first (grants_in files) creds entries.made
 
   abbrev pages : List (Option (List ℕ))
   pages = s.home.pages
@@ -80,13 +81,6 @@ module _ (s : Store) (first : ℕ) (table : List Keyed) (files : List Opened) (c
   pub numbers_placed : length outs.numbers ≡ length rows
   numbers_placed = kept_now.numbers_placed ∙ sym rows_long
 
-  -- only write grants are open
-  pub writes_all : (g : OpenGrant) → In g now.open_grants → g.kind ≡ Write
-  writes_all g i =
-      let h = map-In (with_checkpoint s.checkpoints.items) g (grants_in files) i in
-      let o = map-In (λ (o : Opened). o.grant) h.0 files h.1 in
-      ap (λ (x : OpenGrant). x.kind) h.2 ∙ ap (λ (x : OpenGrant). x.kind) o.2 ∙ k.writes o.0 o.1
-
   -- each free page is at home
   pub free_home : FreeAreHome owners outs.pages pages
   free_home p below free = by_page (slice_index_or pages p None) refl
@@ -113,7 +107,7 @@ module _ (s : Store) (first : ℕ) (table : List Keyed) (files : List Opened) (c
           lent_free lent =
               let q = list_any-In (λ g. is_write g.kind && is_among p (sheet_numbers (g.index ++ g.blocks))) now.open_grants lent in
               let parts = and_parts (is_write q.0.kind) (is_among p (sheet_numbers (q.0.index ++ q.0.blocks))) q.2 in
-              let kind : q.0.kind ≡ Write = writes_all q.0 q.1 in
+              let kind : q.0.kind ≡ Write = write_is q.0.kind parts.0 in
               let l = kept_now.lent q.0 q.1 kind in
               free_unlisted (settled now).core plain kept_now.fit kept_now.verifies.sound (settled now) (tables_of now kept_now) p owner_zero l.met l.stands
               (lent_met now kept_now q.0 q.1 kind p (is_among-In p (sheet_numbers (q.0.index ++ q.0.blocks)) parts.1))
@@ -129,10 +123,10 @@ module _ (s : Store) (first : ℕ) (table : List Keyed) (files : List Opened) (c
   unchanged_controlled s' same = subst (λ (t : Store). IsControlled t first table files creds entries) (sym same) k
 
   -- one entry more, and nothing else has changed
-  pub logged_controlled : (s' : Store) (entries' : ℕ) → s' ≡ s → entries' ≡ entries + 1 → IsControlled s' first table files creds entries'
+  pub logged_controlled : (s' : Store) (entries' : Entries) → s' ≡ s → entries' ≡ record entries { made = entries.made + 1 } → IsControlled s' first table files creds entries'
   logged_controlled s' entries' same next =
       subst (λ (t : Store). IsControlled t first table files creds entries') (sym same)
-      (subst (λ n. IsControlled s first table files creds n) (sym next) (record {
+      (subst (λ (n : Entries). IsControlled s first table files creds n) (sym next) (record {
         stored = record { fits = k.stored.fits; places = k.stored.places; of_grant = k.stored.of_grant; covers = k.stored.covers; kept = logged_kept now kept_now };
         no_zero = k.no_zero;
         some_libraries = k.some_libraries;
@@ -140,11 +134,14 @@ module _ (s : Store) (first : ℕ) (table : List Keyed) (files : List Opened) (c
         grants = k.grants;
         keys_once = k.keys_once;
         earlier = λ o i. (let e = k.earlier o i in omega (arith, e));
-        writes = k.writes;
+        promised = k.promised;
+        kinds = k.kinds;
       }))
 
-  pub logged_is : (s' : Store) (entries' : ℕ) → s' ≡ s → entries' ≡ entries + 1 → state_of s' first (grants_in files) creds entries' ≡ logged now
-  logged_is s' entries' same next = ap (λ (t : Store). state_of t first (grants_in files) creds entries') same ∙ ap (state_of s first (grants_in files) creds) next
+  pub logged_is : (s' : Store) (entries' : Entries) → s' ≡ s → entries' ≡ record entries { made = entries.made + 1 } → state_of s' first (grants_in files) creds entries'.made ≡ logged now
+  logged_is s' entries' same next =
+      ap (λ (t : Store). state_of t first (grants_in files) creds entries'.made) same
+      ∙ ap (λ (n : Entries). state_of s first (grants_in files) creds n.made) next
 
   module _ (lib : LibNo) (wanted many : ℕ) where
     abbrev ps : List ℕ
@@ -183,11 +180,11 @@ module _ (s : Store) (first : ℕ) (table : List Keyed) (files : List Opened) (c
 
     -- ---- given
 
-    module _ (s' : Store) (entries' : ℕ) (enough_pages : wanted ≤ length ps) (enough_numbers : many ≤ length ns)
+    module _ (s' : Store) (entries' : Entries) (enough_pages : wanted ≤ length ps) (enough_numbers : many ≤ length ns)
         (rest : s' ≡ record s { home = s'.home; allotments = s'.allotments })
-        (gone : s'.home.pages ≡ without_pages (take wanted ps) pages) (given : s'.allotments ≡ outs_with outs lib (take wanted ps) (take many ns)) (next : entries' ≡ entries + 1) where
+        (gone : s'.home.pages ≡ without_pages (take wanted ps) pages) (given : s'.allotments ≡ outs_with outs lib (take wanted ps) (take many ns)) (next : entries' ≡ record entries { made = entries.made + 1 }) where
       abbrev after : State
-      after = state_of s' first (grants_in files) creds entries'
+      after = state_of s' first (grants_in files) creds entries'.made
 
       long : length s'.home.pages ≡ length pages
       long = ap length gone ∙ length-without (take wanted ps) pages
@@ -203,11 +200,11 @@ module _ (s : Store) (first : ℕ) (table : List Keyed) (files : List Opened) (c
             entries = n;
           } in
           let away : List (Option (List ℕ)) = without_pages (take wanted ps) pages in
-          ap (λ (t : Store). S t s'.home.pages (length s'.home.pages) s'.allotments entries') rest
-          ∙ ap (λ x. S s x (length s'.home.pages) s'.allotments entries') gone
-          ∙ ap (λ x. S s away x s'.allotments entries') long
-          ∙ ap (λ (x : OutByNumber). S s away (length pages) x entries') given
-          ∙ ap (S s away (length pages) (outs_with outs lib (take wanted ps) (take many ns))) next
+          ap (λ (t : Store). S t s'.home.pages (length s'.home.pages) s'.allotments entries'.made) rest
+          ∙ ap (λ x. S s x (length s'.home.pages) s'.allotments entries'.made) gone
+          ∙ ap (λ x. S s away x s'.allotments entries'.made) long
+          ∙ ap (λ (x : OutByNumber). S s away (length pages) x entries'.made) given
+          ∙ ap (λ (n : Entries). S s away (length pages) (outs_with outs lib (take wanted ps) (take many ns)) n.made) next
 
       pub given_step : Step now (Allot lib.0 wanted many) (Given (take wanted ps) (take many ns)) after
       given_step =
@@ -224,7 +221,7 @@ module _ (s : Store) (first : ℕ) (table : List Keyed) (files : List Opened) (c
       same_checkpoints : (n : ℕ) → checkpoint_at s'.checkpoints.items n ≡ checkpoint_at s.checkpoints.items n
       same_checkpoints n = ap (λ (t : Store). checkpoint_at t.checkpoints.items n) rest
 
-      given_stored : IsStored s' first (grants_in files) creds entries'
+      given_stored : IsStored s' first (grants_in files) creds entries'.made
       given_stored = record {
         fits = subst (λ (x : Superblock). IsTrue (superblock_fits x)) (sym same_superblock) k.stored.fits;
         places = ap (λ (t : Store). length t.checkpoints.items) rest ∙ k.stored.places ∙ sym (ap (λ (t : Store). length t.rows) rest);
@@ -244,8 +241,9 @@ module _ (s : Store) (first : ℕ) (table : List Keyed) (files : List Opened) (c
         few_libraries = k.few_libraries;
         grants = k.grants;
         keys_once = k.keys_once;
-        earlier = λ o i. (let e = k.earlier o i in omega (arith, e, next));
-        writes = k.writes;
+        earlier = λ o i. (let e = k.earlier o i in let more = ap (λ (n : Entries). n.made) next in omega (arith, e, more));
+        promised = ap (λ (n : Entries). n.promised) next ∙ k.promised;
+        kinds = subst (λ (t : Store). HaveKinds t.rows files) (sym rest) k.kinds;
       }
         where
           not_zero : In 0 (take many ns) → ⊥

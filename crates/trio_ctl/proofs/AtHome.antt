@@ -1,30 +1,38 @@
 -- A controller of which nothing is lent: its settled image is the one at home.
-use Rattle.std.proofs.Common.{◌≡◌, ℕ, true, List, [], ◌∷◌, length, map, Option, None, IsTrue, inl, refl, sym, ap, subst, ◌∙◌}
-use Rattle.std.specs.List.{find}
+use Rattle.std.proofs.Common.{◌≡◌, ℕ, Bool, true, false, ◌&&◌, List, [], ◌∷◌, ◌++◌, length, map, Option, Some, None, IsTrue, inl, inr, refl, sym, ap, subst, ◌∙◌, arith}
+use Rattle.std.specs.Prelude.{if◌then◌else◌}
+use Rattle.std.proofs.lemmas.Bool.{and_parts, false≢true}
+use Rattle.std.specs.List.{find, flat_map}
 use Rattle.std.specs.Option.{option_map}
 use Rattle.trio_rights.specs.Row.{Row}
 use Rattle.trio_rights.specs.declared.rights.Creds.{Creds}
-use Rattle.trio_nodes.specs.declared.grant.GrantKind.TheVariants.{Write}
+use Rattle.trio_nodes.specs.declared.grant.GrantKind.{GrantKind}
+use Rattle.trio_nodes.specs.declared.grant.GrantKind.TheVariants.{Read, Write, Hold}
 use Rattle.trio_grants.specs.Grants.{Keyed, first_with, holder, is_write as writes_in_table}
 use Rattle.trio_layout.specs.declared.superblock.Superblock.{Superblock}
 use Rattle.trio_layout.specs.Superblock.{superblock_fits}
 use Rattle.trio_layout.specs.Core.{Core}
-use Rattle.trio_layout.specs.Image.{Image, IsFit}
+use Rattle.trio_layout.specs.Image.{Image, IsFit, with_core_pages}
+use Rattle.trio_layout.specs.Verifies.{Verifies}
 use Rattle.trio_layout.specs.Sound.{is_sound}
 use Rattle.trio_layout.specs.Survey.{plain, root_of}
 use Rattle.trio_surveys.proofs.Images.{read_met, root_is_met}
 use Rattle.trio_surveys.proofs.Local.{reads_from}
 use Rattle.trio_surveys.proofs.Owned.{body_sized}
-use Rattle.trio_lists.specs.Lists.{In}
+use Rattle.trio_lists.specs.Lists.{In, is_among}
+use Rattle.trio_lists.proofs.Filters.{list_any-In}
+use Rattle.trio_lists.proofs.Members.{map-In}
+use Rattle.trio_rights.specs.Sheets.{sheet_numbers, with_pages}
 use Rattle.trio_state.specs.Grants.{holder_of}
-use Rattle.trio_state.specs.Kept.{Kept}
+use Rattle.trio_state.specs.Kept.{Kept, is_lent}
 use Rattle.trio_state.specs.State.{OpenGrant, State, settled}
-use Rattle.trio_nodes.specs.GrantKinds.{is_write}
+use Rattle.trio_nodes.specs.GrantKinds.{is_write, same_kind}
 use Rattle.trio_survey.specs.Stored.{core_in}
 use Rattle.trio_checkpoint.specs.Covered.{Checkpointed}
 use Rattle.trio_commit.specs.declared.store.Store.{Store}
-use Rattle.trio_commit.specs.Store.{state_of, with_checkpoint}
+use Rattle.trio_commit.specs.Store.{covered_at, image_at_home, state_of, with_checkpoint}
 use Rattle.trio_ctl.specs.Ctl.{writer_of, IsControlled}
+use Rattle.trio_ctl.specs.Entries.{Entries}
 use Rattle.trio_ctl.specs.Open.{Opened, grants_in, keyed}
 use Rattle.trio_ctl.specs.Stored.{superblock_at_home}
 use Rattle.trio_allot.specs.Out.{OutByNumber}
@@ -56,27 +64,79 @@ root_sized core fit sound =
     let f = read_met core plain fit sound (root_of core) (root_is_met core plain fit sound) in
     body_sized (root_of core).kind core.range core.root f.0.body (reads_from core (root_of core) f.0 f.1).body
 
-writer_first : (cs : List (Option Checkpointed)) (files : List Opened) → ((o : Opened) → In o files → o.grant.kind ≡ Write)
+-- ---- nobody writes
+
+writer_first : (cs : List (Option Checkpointed)) (files : List Opened)
     → option_map holder (first_with writes_in_table (map keyed files)) ≡ option_map holder_of (find (λ (g : OpenGrant). is_write g.kind) (map (with_checkpoint cs) (grants_in files)))
-writer_first cs [] all = refl
-writer_first cs (o ∷ os) all =
-    let kind : o.grant.kind ≡ Write = all o (inl refl) in
-    rw kind refl
+writer_first cs [] = refl
+writer_first cs (o ∷ os) = by o.grant.kind (writer_first cs os)
+  where
+    by : (kind : GrantKind) → option_map holder (first_with writes_in_table (map keyed os)) ≡ option_map holder_of (find (λ (g : OpenGrant). is_write g.kind) (map (with_checkpoint cs) (grants_in os)))
+        → option_map holder (if same_kind kind Write then Some (keyed o).1 else first_with writes_in_table (map keyed os)) ≡ option_map holder_of (if is_write kind then Some (with_checkpoint cs o.grant) else find (λ (g : OpenGrant). is_write g.kind) (map (with_checkpoint cs) (grants_in os)))
+    by Read again = again
+    by Write again = refl
+    by Hold again = again
 
-nobody : (files : List Opened) → ((o : Opened) → In o files → o.grant.kind ≡ Write) → option_map holder (first_with writes_in_table (map keyed files)) ≡ None → files ≡ []
-nobody [] all none = refl
-nobody (o ∷ os) all none = (let kind : o.grant.kind ≡ Write = all o (inl refl) in absurd cc)
+no_writer : (files : List Opened) → option_map holder (first_with writes_in_table (map keyed files)) ≡ None → (g : OpenGrant) → In g (grants_in files) → is_write g.kind ≡ false
+no_writer [] none g i = absurd i
+no_writer (o ∷ os) none g i = by o.grant.kind refl (no_writer os) none i
+  where
+    by : (kind : GrantKind) → o.grant.kind ≡ kind → (option_map holder (first_with writes_in_table (map keyed os)) ≡ None → (g : OpenGrant) → In g (grants_in os) → is_write g.kind ≡ false)
+        → option_map holder (if same_kind kind Write then Some (keyed o).1 else first_with writes_in_table (map keyed os)) ≡ None → In g (grants_in (o ∷ os)) → is_write g.kind ≡ false
+    by Write e again none i = absurd cc
+    by Read e again none (inl same) = ap (λ (h : OpenGrant). is_write h.kind) same ∙ ap is_write e
+    by Read e again none (inr later) = again none g later
+    by Hold e again none (inl same) = ap (λ (h : OpenGrant). is_write h.kind) same ∙ ap is_write e
+    by Hold e again none (inr later) = again none g later
 
-module _ (s : Store) (first : ℕ) (table : List Keyed) (files : List Opened) (creds : List Creds) (entries : ℕ) (k : IsControlled s first table files creds entries) where
-  pub writer_is : option_map holder (first_with writes_in_table table) ≡ writer_of (state_of s first (grants_in files) creds entries)
-  writer_is = ap (λ t. option_map holder (first_with writes_in_table t)) k.grants ∙ writer_first s.checkpoints.items files k.writes
+no_checkpoints : (cs : List (Option Checkpointed)) (grants : List OpenGrant) → ((g : OpenGrant) → In g grants → is_write g.kind ≡ false) → flat_map (λ (g : OpenGrant). g.checkpoint) (map (with_checkpoint cs) grants) ≡ []
+no_checkpoints cs [] h = refl
+no_checkpoints cs (g ∷ gs) h =
+    ap (λ (t : Bool). (if t then covered_at cs g.ino else []) ++ flat_map (λ (x : OpenGrant). x.checkpoint) (map (with_checkpoint cs) gs)) (h g (inl refl))
+    ∙ no_checkpoints cs gs (λ x i. h x (inr i))
 
-  pub at_home : option_map holder (first_with writes_in_table table) ≡ None → (files ≡ []) × IsAtHome (superblock_at_home s first) s.home.pages s.rows s.owners s.allotments creds entries
-  at_home none =
-      let empty : files ≡ [] = nobody files k.writes (ap (λ t. option_map holder (first_with writes_in_table t)) (sym k.grants) ∙ none) in
-      let kept : Kept (state_at_home (superblock_at_home s first) s.home.pages s.rows s.owners s.allotments creds entries) = subst (λ fs. Kept (state_of s first (grants_in fs) creds entries)) empty k.stored.kept in
-      (empty, record { fits = k.stored.fits; root = root_sized (settled (state_of s first (grants_in files) creds entries)).core k.stored.kept.fit k.stored.kept.verifies.sound; count = refl; kept = kept })
+module _ (s : Store) (first : ℕ) (table : List Keyed) (files : List Opened) (creds : List Creds) (entries : Entries) (k : IsControlled s first table files creds entries) where
+  abbrev st : State
+  st = state_of s first (grants_in files) creds entries.made
 
-  -- the state of nothing lent, as it is of no open files
-  pub same_state : files ≡ [] → state_at_home (superblock_at_home s first) s.home.pages s.rows s.owners s.allotments creds entries ≡ state_of s first (grants_in files) creds entries
-  same_state empty = ap (λ fs. state_of s first (grants_in fs) creds entries) (sym empty)
+  abbrev alone : State
+  alone = state_at_home (superblock_at_home s first) s.home.pages s.rows s.owners s.allotments creds entries.made
+
+  pub writer_is : option_map holder (first_with writes_in_table table) ≡ writer_of (state_of s first (grants_in files) creds entries.made)
+  writer_is = ap (λ t. option_map holder (first_with writes_in_table t)) k.grants ∙ writer_first s.checkpoints.items files
+
+  module _ (none : option_map holder (first_with writes_in_table table) ≡ None) where
+    unwritten : (g : OpenGrant) → In g (grants_in files) → is_write g.kind ≡ false
+    unwritten = no_writer files (ap (λ t. option_map holder (first_with writes_in_table t)) (sym k.grants) ∙ none)
+
+    -- no checkpoint is kept, and so the settled image is the one at home
+    pub same_settled : settled (state_at_home (superblock_at_home s first) s.home.pages s.rows s.owners s.allotments creds entries.made) ≡ settled (state_of s first (grants_in files) creds entries.made)
+    same_settled = ap (λ xs. with_core_pages (image_at_home s first) (with_pages xs s.home.pages)) (sym (no_checkpoints s.checkpoints.items (grants_in files) unwritten))
+
+    not_lent : (page : ℕ) → is_lent st.open_grants page ≡ true → ⊥
+    not_lent page lent =
+        let q = list_any-In (λ (g : OpenGrant). is_write g.kind && is_among page (sheet_numbers (g.index ++ g.blocks))) st.open_grants lent in
+        let h = map-In (with_checkpoint s.checkpoints.items) q.0 (grants_in files) q.1 in
+        false≢true (sym (unwritten h.0 h.1) ∙ ap (λ (g : OpenGrant). is_write g.kind) (sym h.2) ∙ (and_parts (is_write q.0.kind) (is_among page (sheet_numbers (q.0.index ++ q.0.blocks))) q.2).0)
+
+    kept_alone : Kept (state_at_home (superblock_at_home s first) s.home.pages s.rows s.owners s.allotments creds entries.made)
+    kept_alone = record {
+      fit = subst (λ (x : Image). IsFit x.core) (sym same_settled) k.stored.kept.fit;
+      verifies = subst (λ (x : Image). Verifies x) (sym same_settled) k.stored.kept.verifies;
+      live = λ g i. absurd i;
+      apart = λ i j d a b. absurd (omega arith);
+      held = λ g i kind. absurd i;
+      lent = λ g i kind. absurd i;
+      checkpoints = λ g i. absurd i;
+      absent = λ page gone core. elim (k.stored.kept.absent page gone core) [
+        | inl lent ↦ absurd (not_lent page lent)
+        | inr out ↦ inr out
+      ];
+      pages_placed = k.stored.kept.pages_placed;
+      out_free = k.stored.kept.out_free;
+      numbers_placed = k.stored.kept.numbers_placed;
+      numbers_free = k.stored.kept.numbers_free;
+    }
+
+    pub at_home : IsAtHome (superblock_at_home s first) s.home.pages s.rows s.owners s.allotments creds entries.made
+    at_home = record { fits = k.stored.fits; root = root_sized (settled st).core k.stored.kept.fit k.stored.kept.verifies.sound; count = refl; kept = kept_alone }

@@ -1,6 +1,6 @@
 -- The case of a bundle that was given to a library of the controller.
-use Rattle.std.proofs.Common.{◌≡◌, ℕ, zero, suc, ◌+◌, ◌-◌, ◌<◌, ◌≤◌, true, ◌&&◌, leb, ltb, List, [], ◌∷◌, ◌++◌, length, map, Some, is_some, refl, sym, ap, subst, ◌∙◌, inl, arith}
-use Rattle.std.specs.Prelude.{is_none}
+use Rattle.std.proofs.Common.{◌≡◌, ℕ, zero, suc, ◌+◌, ◌-◌, ◌<◌, ◌≤◌, true, ◌&&◌, leb, ltb, List, [], ◌∷◌, ◌++◌, length, map, Some, is_some, refl, sym, ap, subst, ◌∙◌, inl, inr, arith}
+use Rattle.std.specs.Prelude.{None, is_none}
 use Rattle.std.specs.List.{list_all}
 use Rattle.std.proofs.lemmas.Bool.{and_from, le-leb, lt-ltb}
 use Rattle.trio_rights.specs.Kind.{same_kind}
@@ -9,11 +9,12 @@ use Rattle.trio_rights.specs.declared.kind.Kind.{Kind}
 use Rattle.trio_rights.specs.declared.kind.Kind.TheVariants.{Directory, Regular}
 use Rattle.trio_rights.specs.declared.rights.Creds.{Creds}
 use Rattle.trio_rights.specs.declared.rights.LibNo.{LibNo}
-use Rattle.trio_rights.specs.Bundle.{Bundle, bundle_pages}
-use Rattle.trio_nodes.specs.declared.grant.GrantKind.TheVariants.{Hold, Write}
+use Rattle.trio_rights.specs.Bundle.{Bundle, Written, bundle_pages}
 use Rattle.trio_grants.specs.Grants.{Keyed}
 use Rattle.trio_lists.specs.Lists.{In, are_new}
-use Rattle.trio_lists.proofs.Members.{In-map, list_all-each}
+use Rattle.trio_lists.proofs.Gathered.{new_beside}
+use Rattle.trio_lists.proofs.Marked.{are_new-append}
+use Rattle.trio_lists.proofs.Members.{In-map, list_all-each, map-In}
 use Rattle.trio_tables.specs.Out.{lib_at}
 use Rattle.trio_tables.proofs.OutLemmas.{within_some}
 use Rattle.trio_lease.specs.Bundles.{Bundled}
@@ -28,52 +29,73 @@ use Rattle.trio_layout.specs.Image.{settled_body}
 use Rattle.trio_layout.specs.Range.{is_core}
 use Rattle.trio_layout.specs.declared.range.CoreRange.{CoreRange}
 use Rattle.trio_layout.proofs.Superblocks.{superblock_facts}
+use Rattle.trio_state.specs.Bundles.{parted_hold}
 use Rattle.trio_state.specs.Given.{GivenTo}
-use Rattle.trio_state.specs.State.{State, creds_of, settled}
+use Rattle.trio_state.specs.State.{OpenGrant, State, creds_of, settled}
 use Rattle.trio_state.specs.Tells.{case_in}
+use Rattle.trio_laws.proofs.Bundles.{held_unwritten}
 use Rattle.trio_laws.proofs.judgement.CaseFacts.{new_dead, written_row}
 use Rattle.trio_judge.specs.Cases.{CaseShown, IsJudgeable, held_in, is_free_number, case_in as case_shown}
 use Rattle.trio_commit.specs.declared.store.Store.{Store}
-use Rattle.trio_commit.specs.Store.{state_of}
+use Rattle.trio_commit.specs.Store.{state_of, with_checkpoint}
 use Rattle.trio_ctl.specs.Ctl.{IsControlled}
+use Rattle.trio_ctl.specs.Entries.{Entries}
+use Rattle.trio_ctl.specs.HandedIn.{WereHeld}
 use Rattle.trio_ctl.specs.Open.{Opened, grants_in}
 use Rattle.trio_ctl.specs.Stored.{superblock_at_home}
-use Rattle.trio_ctl.proofs.Allotting.{writes_all}
-use Rattle.trio_ctl.proofs.Concluding.{judgeable}
+use Rattle.trio_ctl.proofs.Concluding.{judgeable, some_and}
 use Rattle.trio_ctl.proofs.Judging.{pages_core, pages_new, parents}
 
 same_self : (kind other : Kind) → kind ≡ other → same_kind kind other ≡ true
 same_self Regular other e = ap (same_kind Regular) (sym e)
 same_self Directory other e = ap (same_kind Directory) (sym e)
 
-append_none : (ns : List ℕ) → ns ++ [] ≡ ns
-append_none [] = refl
-append_none (n ∷ ns) = ap (λ l. n ∷ l) (append_none ns)
-
 written_inos : (fs : List LentFile) → map (λ f. f.stands.ino) fs ≡ map (λ w. w.ino) (map (λ f. written_in f.stands) fs)
 written_inos [] = refl
 written_inos (f ∷ fs) = ap (λ l. f.stands.ino ∷ l) (written_inos fs)
 
-no_holds : (hs : List HoldParts) → ((n : ℕ) → In n (map (λ h. h.ino) hs) → ⊥) → hs ≡ []
-no_holds [] h = refl
-no_holds (x ∷ hs) h = absurd (h x.ino (inl refl))
-
-module _ (s : Store) (first : ℕ) (table : List Keyed) (files : List Opened) (creds : List Creds) (entries : ℕ) (k : IsControlled s first table files creds entries)
-    (lib : LibNo) (bundle : Bundled) (given : GivenTo (state_of s first (grants_in files) creds entries) lib.0 (bundle_in bundle)) where
+module _ (s : Store) (first : ℕ) (table : List Keyed) (files : List Opened) (creds : List Creds) (entries : Entries) (k : IsControlled s first table files creds entries)
+    (lib : LibNo) (bundle : Bundled) (given : GivenTo (state_of s first (grants_in files) creds entries.made) lib.0 (bundle_in bundle))
+    (held : WereHeld (state_of s first (grants_in files) creds entries.made) lib.0 bundle.holds) (closed : parted_hold (state_of s first (grants_in files) creds entries.made) lib.0 (bundle_in bundle) ≡ None) where
   abbrev st : State
-  st = state_of s first (grants_in files) creds entries
+  st = state_of s first (grants_in files) creds entries.made
 
   abbrev b : Bundle
   b = bundle_in bundle
 
-  -- only write grants are open, so nothing is held
-  none_held : bundle.holds ≡ []
-  none_held =
-      no_holds bundle.holds
-      (λ n i.
-      let h = given.holds n i in
-      let wrong : Write ≡ Hold = sym (writes_all s first table files creds entries k h.grant h.is_open) ∙ h.kind in
-      absurd (cc wrong))
+  -- a held file is live, of the kind of its hold, with the settled body
+  held_kind : (h : HoldParts) → In h bundle.holds → has_kind h.kind (row_in s.rows h.ino) ≡ true
+  held_kind h i =
+      let q = held h i in
+      let g = map-In (with_checkpoint s.checkpoints.items) q.grant (grants_in files) q.is_open in
+      let o = map-In (λ (o : Opened). o.grant) g.0 files g.1 in
+      let kinds = k.kinds o.0 o.1 in
+      let number : o.0.grant.ino ≡ h.ino = sym (ap (λ (x : OpenGrant). x.ino) o.2) ∙ sym (ap (λ (x : OpenGrant). x.ino) g.2) ∙ q.ino in
+      let of : o.0.grant.of ≡ h.kind = sym (ap (λ (x : OpenGrant). x.of) o.2) ∙ sym (ap (λ (x : OpenGrant). x.of) g.2) ∙ q.of in
+      let r = some_and (row_in s.rows o.0.grant.ino) (λ r. r.kind ≡ o.0.grant.of) kinds in
+      ap (has_kind h.kind) (ap (row_in s.rows) (sym number) ∙ r.1) ∙ same_self h.kind r.0.kind (sym of ∙ sym r.2)
+
+  held_body : (h : HoldParts) → In h bundle.holds → h.body ≡ settled_body (settled st) h.ino
+  held_body h i =
+      let q = held h i in
+      sym q.body ∙ (k.stored.kept.held q.grant q.is_open q.kind).1 ∙ ap (settled_body (settled st)) q.ino
+
+  -- no file is both written and held
+  numbers_once : are_new [] (map (λ f. f.stands.ino) bundle.writes ++ map (λ h. h.ino) bundle.holds) ≡ true
+  numbers_once =
+      are_new-append [] (map (λ f. f.stands.ino) bundle.writes) (map (λ h. h.ino) bundle.holds)
+      ∙ and_from (are_new [] (map (λ f. f.stands.ino) bundle.writes)) (are_new (map (λ f. f.stands.ino) bundle.writes) (map (λ h. h.ino) bundle.holds))
+      (ap (are_new []) (written_inos bundle.writes) ∙ given.writes_once)
+      (new_beside (map (λ f. f.stands.ino) bundle.writes) (map (λ h. h.ino) bundle.holds) given.holds_once
+      (λ n i w.
+      let v = map-In (λ (x : Written). x.ino) n b.writes (subst (λ ns. In n ns) (written_inos bundle.writes) w) in
+      held_unwritten st k.stored.kept lib.0 b given n i v.0 v.1 (sym v.2)))
+
+  as_lent : (hs : List HoldParts) → ((h : HoldParts) → In h hs → h.body ≡ settled_body (settled st) h.ino) → map held_in hs ≡ map (λ n. record { ino = n; body = settled_body (settled st) n }) (map (λ h. h.ino) hs)
+  as_lent [] all = refl
+  as_lent (h ∷ hs) all =
+      ap (λ (body : List ℕ). record { ino = h.ino; body = body } ∷ map held_in hs) (all h (inl refl))
+      ∙ ap (λ (l : List Held). record { ino = h.ino; body = settled_body (settled st) h.ino } ∷ l) (as_lent hs (λ x i. all x (inr i)))
 
   low_first : 0 < first
   low_first =
@@ -82,7 +104,7 @@ module _ (s : Store) (first : ℕ) (table : List Keyed) (files : List Opened) (c
 
   pub case_judgeable : (range : CoreRange) (inodes : ℕ) → range ≡ st.home.core.range → length s.rows ≡ inodes + 1 → IsJudgeable bundle s.rows range inodes
   case_judgeable range inodes ranges table' =
-      let j = judgeable s first table files creds entries k lib b given in
+      let j = judgeable s first table files creds entries k lib b given closed in
       record {
         table = table';
         parents = parents st lib.0 b j;
@@ -90,11 +112,8 @@ module _ (s : Store) (first : ℕ) (table : List Keyed) (files : List Opened) (c
             (λ f i.
             let q = written_row st lib.0 b j (written_in f.stands) (In-map (λ (x : LentFile). written_in x.stands) f bundle.writes i) in
             ap (has_kind f.stands.kind) q.1 ∙ same_self f.stands.kind q.0.kind q.2);
-        held = ap (list_all (λ h. has_kind h.kind (row_in s.rows h.ino))) none_held;
-        once =
-            ap (λ hs. are_new [] (map (λ f. f.stands.ino) bundle.writes ++ map (λ h. h.ino) hs)) none_held
-            ∙ ap (are_new []) (append_none (map (λ f. f.stands.ino) bundle.writes) ∙ written_inos bundle.writes)
-            ∙ given.writes_once;
+        held = list_all-each (λ h. has_kind h.kind (row_in s.rows h.ino)) bundle.holds held_kind;
+        once = numbers_once;
         numbers = list_all-each (λ n. is_free_number s.rows inodes n.no) bundle.inodes
             (λ n i. free_number n.no (In-map (λ (x : InoParts). x.no) n bundle.inodes i));
         apart = given.numbers_once;
@@ -105,7 +124,7 @@ module _ (s : Store) (first : ℕ) (table : List Keyed) (files : List Opened) (c
     where
       free_number : (n : ℕ) → In n b.numbers → is_free_number s.rows inodes n ≡ true
       free_number n i =
-          let j = judgeable s first table files creds entries k lib b given in
+          let j = judgeable s first table files creds entries k lib b given closed in
           let below = within_some st.numbers_out n (ap is_some (given.numbers n i)) in
           let placed : length st.numbers_out ≡ (length s.rows - 1) + 1 = k.stored.kept.numbers_placed in
           let fits : n ≤ inodes = omega (arith, below, placed, table') in
@@ -121,8 +140,7 @@ module _ (s : Store) (first : ℕ) (table : List Keyed) (files : List Opened) (c
       → case_shown shown ≡ with_copied (case_in st lib.0 b)
   case_copied shown credentials range inodes creds' ranges table' is =
       let S : List Held → Creds → CoreRange → ℕ → Case = λ hs cs rg n. record { bundle = b; lent = hs; rows = copied_rows b s.rows; creds = cs; range = rg; inodes = n } in
-      let lent : map held_in bundle.holds ≡ (case_in st lib.0 b).lent =
-      ap (map held_in) none_held ∙ sym (ap (λ hs. map (λ n. record { ino = n; body = settled_body (settled st) n }) (map (λ h. h.ino) hs)) none_held) in
+      let lent : map held_in bundle.holds ≡ (case_in st lib.0 b).lent = as_lent bundle.holds held_body in
       let numbers : inodes ≡ length s.rows - 1 = omega (arith, table') in
       ap case_shown is
       ∙ ap (λ hs. S hs credentials range inodes) lent

@@ -8,13 +8,10 @@ use Rattle.std.proofs.lemmas.Bool.{and_from, and_parts, eq-eqb, false≢true, no
 use Rattle.std.proofs.lemmas.List.{append_assoc, map-append}
 use Rattle.std.proofs.lemmas.List.Elements.{filter-append}
 use Rattle.trio_rights.specs.declared.rights.LibNo.{LibNo}
-use Rattle.trio_rights.specs.Bundle.{Bundle, is_written}
-use Rattle.trio_nodes.specs.GrantKinds.{is_hold, is_write}
-use Rattle.trio_nodes.specs.declared.grant.GrantKind.{GrantKind}
-use Rattle.trio_nodes.specs.declared.grant.GrantKind.TheVariants.{Write}
+use Rattle.trio_rights.specs.Bundle.{Bundle}
 use Rattle.trio_grants.specs.Grants.{Keyed, HasKey, without}
 use Rattle.trio_lists.specs.Lists.{In, are_new, is_among}
-use Rattle.trio_lists.proofs.Filters.{filter-map, filter-same}
+use Rattle.trio_lists.proofs.Filters.{filter-map}
 use Rattle.trio_lists.proofs.Marked.{are_new-append}
 use Rattle.trio_lists.proofs.Members.{In-left, In-right}
 use Rattle.trio_lists.proofs.New.{are_new-before, are_new-fewer}
@@ -22,14 +19,13 @@ use Rattle.trio_surveys.proofs.Sheets.{not_among}
 use Rattle.trio_state.specs.Bundles.{is_in_bundle}
 use Rattle.trio_ctl.specs.Open.{Opened, grants_in, keyed}
 use Rattle.trio_ctl.specs.Stored.{grants_staying}
-use Rattle.trio_ctl.specs.inner.Closing.{ends_with}
 
 abbrev pub keys : List Opened → List ℕ
 keys files = map (λ o. o.key) files
 
 -- those that stay
 abbrev pub staying : LibNo → Bundle → List Opened → List Opened
-staying lib b files = filter (λ o. not (ends_with lib b o)) files
+staying lib b files = filter (λ o. not (is_in_bundle lib.0 b o.grant)) files
 
 none_without : (key : ℕ) (files : List Opened) → is_among key (keys files) ≡ false → without key (map keyed files) ≡ map keyed files
 none_without key [] e = refl
@@ -41,7 +37,7 @@ none_without key (o ∷ files) e = by (o.key == key) e (none_without key files)
     by false e again = ap (λ ks. keyed o ∷ ks) (again e)
 
 -- the keys of the others are other ones
-others : (kept rest : List Opened) (x : Opened) → IsTrue (are_new [] (keys (kept ++ x ∷ rest)))
+pub others : (kept rest : List Opened) (x : Opened) → IsTrue (are_new [] (keys (kept ++ x ∷ rest)))
     → (is_among x.key (keys kept) ≡ false) × (is_among x.key (keys rest) ≡ false) × IsTrue (are_new [] (keys (kept ++ rest)))
 others kept rest x once =
     let split : are_new [] (keys kept ++ x.key ∷ keys rest) ≡ true = ap (are_new []) (sym (map-append (λ (o : Opened). o.key) kept (x ∷ rest))) ∙ once in
@@ -53,7 +49,7 @@ others kept rest x once =
       ap (are_new []) (map-append (λ (o : Opened). o.key) kept rest) ∙ are_new-append [] (keys kept) (keys rest) ∙ and_from (are_new [] (keys kept)) (are_new (keys kept) (keys rest)) parts.0 weaker,
     )
 
-without_one : (kept rest : List Opened) (x : Opened) → IsTrue (are_new [] (keys (kept ++ x ∷ rest))) → without x.key (map keyed (kept ++ x ∷ rest)) ≡ map keyed (kept ++ rest)
+pub without_one : (kept rest : List Opened) (x : Opened) → IsTrue (are_new [] (keys (kept ++ x ∷ rest))) → without x.key (map keyed (kept ++ x ∷ rest)) ≡ map keyed (kept ++ rest)
 without_one kept rest x once =
     let apart = others kept rest x once in
     ap (without x.key) (map-append keyed kept (x ∷ rest))
@@ -63,7 +59,7 @@ without_one kept rest x once =
     ∙ ap (λ ks. map keyed kept ++ ks) (none_without x.key rest apart.1)
     ∙ sym (map-append keyed kept rest)
 
-found_one : (kept rest : List Opened) (x : Opened) → HasKey x.key (map keyed (kept ++ x ∷ rest))
+pub found_one : (kept rest : List Opened) (x : Opened) → HasKey x.key (map keyed (kept ++ x ∷ rest))
 found_one [] rest x = by (x.key == x.key) (eq-eqb x.key x.key refl)
   where
     by : (b : Bool) → b ≡ true → IsSome (option_map (λ (y : Keyed). y.1) (if b then Some (keyed x) else find (λ (y : Keyed). y.0 == x.key) (map keyed rest)))
@@ -84,10 +80,10 @@ module _ (lib : LibNo) (b : Bundle) (seen left : List Opened) (x : Opened) (gran
   pub has_key : HasKey x.key grants
   has_key = subst (HasKey x.key) (sym going.table) (found_one (staying lib b seen) left x)
 
-  stays_on : (t : Bool) → ends_with lib b x ≡ t → staying lib b (seen ++ x ∷ []) ≡ staying lib b seen ++ (if not t then x ∷ [] else [])
-  stays_on t e = filter-append (λ o. not (ends_with lib b o)) seen (x ∷ []) ∙ ap (λ t. staying lib b seen ++ (if not t then x ∷ [] else [])) e
+  stays_on : (t : Bool) → is_in_bundle lib.0 b x.grant ≡ t → staying lib b (seen ++ x ∷ []) ≡ staying lib b seen ++ (if not t then x ∷ [] else [])
+  stays_on t e = filter-append (λ o. not (is_in_bundle lib.0 b o.grant)) seen (x ∷ []) ∙ ap (λ t. staying lib b seen ++ (if not t then x ∷ [] else [])) e
 
-  pub going_ended : (after : List Keyed) → ends_with lib b x ≡ true → after ≡ without x.key grants → Going lib b (seen ++ x ∷ []) left after
+  pub going_ended : (after : List Keyed) → is_in_bundle lib.0 b x.grant ≡ true → after ≡ without x.key grants → Going lib b (seen ++ x ∷ []) left after
   going_ended after e ended =
       let none : staying lib b (seen ++ x ∷ []) ++ left ≡ staying lib b seen ++ left =
       ap (λ os. os ++ left) (stays_on true e) ∙ append_assoc (staying lib b seen) [] left in
@@ -96,7 +92,7 @@ module _ (lib : LibNo) (b : Bundle) (seen left : List Opened) (x : Opened) (gran
         once = subst (λ os. IsTrue (are_new [] (keys os))) (sym none) (others (staying lib b seen) left x going.once).2;
       }
 
-  pub going_kept : ends_with lib b x ≡ false → Going lib b (seen ++ x ∷ []) left grants
+  pub going_kept : is_in_bundle lib.0 b x.grant ≡ false → Going lib b (seen ++ x ∷ []) left grants
   going_kept e =
       let same : staying lib b (seen ++ x ∷ []) ++ left ≡ staying lib b seen ++ x ∷ left =
       ap (λ os. os ++ left) (stays_on false e) ∙ append_assoc (staying lib b seen) (x ∷ []) left in
@@ -105,19 +101,9 @@ module _ (lib : LibNo) (b : Bundle) (seen left : List Opened) (x : Opened) (gran
         once = subst (λ os. IsTrue (are_new [] (keys os))) (sym same) going.once;
       }
 
--- a write grant is of the bundle where its file is written
-write_ends : (lib : LibNo) (b : Bundle) (o : Opened) → o.grant.kind ≡ Write → ends_with lib b o ≡ is_in_bundle lib.0 b o.grant
-write_ends lib b o kind = ap (λ t. o.grant.lib == lib.0 && t) (sym (by o.grant.kind kind (is_written b o.grant.ino) (is_among o.grant.ino b.holds)))
-  where
-    by : (kind : GrantKind) → kind ≡ Write → (written held : Bool) → ((is_write kind && written) || (is_hold kind && held)) ≡ written
-    by kind e true held = rw e refl
-    by kind e false held = rw e refl
-
 -- the grants that stay, by the grants and by what is kept of them
-pub staying_grants : (lib : LibNo) (b : Bundle) (files : List Opened) → ((o : Opened) → In o files → o.grant.kind ≡ Write) → grants_in (staying lib b files) ≡ grants_staying lib.0 b (grants_in files)
-staying_grants lib b files writes =
-    ap grants_in (filter-same (λ o. not (ends_with lib b o)) (λ o. not (is_in_bundle lib.0 b o.grant)) files (λ o i. ap not (write_ends lib b o (writes o i))))
-    ∙ sym (filter-map (λ (o : Opened). o.grant) (λ g. not (is_in_bundle lib.0 b g)) files)
+pub staying_grants : (lib : LibNo) (b : Bundle) (files : List Opened) → grants_in (staying lib b files) ≡ grants_staying lib.0 b (grants_in files)
+staying_grants lib b files = sym (filter-map (λ (o : Opened). o.grant) (λ g. not (is_in_bundle lib.0 b g)) files)
 
 -- ---- the end of the grants, one after another
 
@@ -140,10 +126,10 @@ module _ (lib : LibNo) (b : Bundle) (files : List Opened) (i : ℕ) (x : Opened)
   pub next_key : HasKey x.key grants
   next_key = has_key lib b (take i files) (drop (i + 1) files) x grants here
 
-  pub next_ended : (after : List Keyed) → ends_with lib b x ≡ true → after ≡ without x.key grants → Going lib b (take (i + 1) files) (drop (i + 1) files) after
+  pub next_ended : (after : List Keyed) → is_in_bundle lib.0 b x.grant ≡ true → after ≡ without x.key grants → Going lib b (take (i + 1) files) (drop (i + 1) files) after
   next_ended after e ended = subst (λ seen. Going lib b seen (drop (i + 1) files) after) longer (going_ended lib b (take i files) (drop (i + 1) files) x grants here after e ended)
 
-  pub next_kept : ends_with lib b x ≡ false → Going lib b (take (i + 1) files) (drop (i + 1) files) grants
+  pub next_kept : is_in_bundle lib.0 b x.grant ≡ false → Going lib b (take (i + 1) files) (drop (i + 1) files) grants
   next_kept e = subst (λ seen. Going lib b seen (drop (i + 1) files) grants) longer (going_kept lib b (take i files) (drop (i + 1) files) x grants here e)
 
 pub going_ends : (lib : LibNo) (b : Bundle) (files : List Opened) (i : ℕ) (grants : List Keyed) → length files ≤ i → Going lib b (take i files) (drop i files) grants → grants ≡ map keyed (staying lib b files)

@@ -1,21 +1,26 @@
 -- A bundle that is put in place or rolled back: the end of a release is the step that the definitions say.
-use Rattle.std.proofs.Common.{◌≡◌, ℕ, ◌+◌, ◌<◌, ◌≤◌, Bool, true, false, ◌==◌, ◌&&◌, List, [], length, map, Option, Some, None, is_some, IsTrue, refl, sym, ap, subst, ◌∙◌, ◌⊎◌, inl, inr, arith}
-use Rattle.std.specs.Prelude.{IsFalse, MatchOption, not}
+use Rattle.std.proofs.Common.{◌≡◌, ℕ, suc, ◌+◌, ◌<◌, ◌≤◌, Bool, true, false, ◌==◌, ◌&&◌, ◌||◌, List, [], ◌∷◌, length, map, Option, Some, None, is_some, IsTrue, refl, sym, ap, subst, ◌∙◌, ◌⊎◌, inl, inr, arith}
+use Rattle.std.specs.Prelude.{IsFalse, MatchOption, if◌then◌else◌, not}
+use Rattle.std.specs.List.{filter}
+use Rattle.std.specs.Option.{IsSomeAnd}
 use Rattle.std.proofs.lemmas.List.{length-map}
-use Rattle.std.proofs.lemmas.Bool.{both_ways, cases_lt, false_from_ne_true, false≢true}
+use Rattle.std.proofs.lemmas.Bool.{and_parts, both_ways, cases_lt, false_from_ne_true, false≢true}
+use Rattle.trio_rights.specs.Row.{Row, row_in}
+use Rattle.trio_rights.specs.declared.kind.Kind.{Kind}
 use Rattle.trio_rights.specs.declared.rights.Creds.{Creds}
 use Rattle.trio_rights.specs.declared.rights.LibNo.{LibNo}
-use Rattle.trio_rights.specs.Bundle.{Bundle, bundle_pages, bundle_sheets}
+use Rattle.trio_rights.specs.Bundle.{Bundle, bundle_pages, bundle_sheets, is_written}
 use Rattle.trio_rights.specs.Sheets.{Sheet, sheet_numbers}
-use Rattle.trio_nodes.specs.GrantKinds.{is_hold}
+use Rattle.trio_nodes.specs.GrantKinds.{is_hold, is_read, is_write}
 use Rattle.trio_nodes.specs.declared.grant.GrantKind.{GrantKind}
-use Rattle.trio_nodes.specs.declared.grant.GrantKind.TheVariants.{Write}
+use Rattle.trio_nodes.specs.declared.grant.GrantKind.TheVariants.{Read, Write, Hold}
 use Rattle.trio_tables.specs.Out.{lib_at, with_all}
 use Rattle.trio_tables.proofs.OutLemmas.{length-with_all, lib_at-others, lib_at-set, within_some}
 use Rattle.trio_allot.specs.Out.{OutByNumber, outs_after}
 use Rattle.trio_grants.specs.Grants.{Keyed}
 use Rattle.trio_lists.specs.Lists.{In, are_new, is_among}
 use Rattle.trio_lists.proofs.Filters.{filter-In}
+use Rattle.trio_lists.proofs.Members.{In-map}
 use Rattle.trio_lists.proofs.Gathered.{filtered_new}
 use Rattle.trio_layout.specs.Accept.{is_accepted, next}
 use Rattle.trio_layout.specs.Broken.{Breaks}
@@ -31,26 +36,26 @@ use Rattle.trio_judge.specs.declared.verdict.Verdict.TheVariants.{Broken, Sound}
 use Rattle.trio_laws.proofs.judgement.CopiedBreaks.{grammar_told, owning_told, rights_told}
 use Rattle.trio_laws.proofs.judgement.CopiedRows.{copied_rows_suffice}
 use Rattle.trio_ctl.specs.inner.Outcomes.{IsVerdict}
-use Rattle.trio_state.specs.Bundles.{Ends, parted_hold, refused_image}
+use Rattle.trio_state.specs.Bundles.{Ends, is_in_bundle, parted_hold, refused_image}
 use Rattle.trio_state.specs.Given.{GivenTo}
-use Rattle.trio_state.specs.State.{State, creds_of, settled}
+use Rattle.trio_state.specs.State.{OpenGrant, State, creds_of, settled}
 use Rattle.trio_state.specs.Step.{Accepted, CtlAnswer, IsAccepted, IsRefused, Refused, Release, Step}
 use Rattle.trio_state.specs.Tells.{case_in}
+use Rattle.trio_laws.specs.Laws.{HasRightsOf}
 use Rattle.trio_laws.specs.RuleLaws.{IsJudgeable}
-use Rattle.trio_laws.proofs.Bundles.{unparted_from}
+use Rattle.trio_laws.proofs.RowSteps.{every_step_keeps_rows}
 use Rattle.trio_laws.proofs.judgement.Breaking.{breaks_where_not_met}
 use Rattle.trio_laws.proofs.judgement.Equivalence.{rules_are_accept}
 use Rattle.trio_commit.specs.declared.store.Store.{Store}
 use Rattle.trio_commit.specs.Bodies.{kept_children, page_changes, placed_files, with_children}
-use Rattle.trio_commit.specs.Store.{state_of}
-use Rattle.trio_ctl.specs.Ctl.{IsControlled}
+use Rattle.trio_commit.specs.Store.{state_of, with_checkpoint}
+use Rattle.trio_ctl.specs.Ctl.{HaveKinds, IsControlled}
+use Rattle.trio_ctl.specs.Entries.{Entries, reads_among}
 use Rattle.trio_ctl.specs.Open.{Opened, grants_in, keyed}
 use Rattle.trio_ctl.specs.Stored.{IsStored, grants_staying}
-use Rattle.trio_ctl.specs.inner.Closing.{ends_with}
-use Rattle.trio_ctl.proofs.Allotting.{writes_all}
 use Rattle.trio_ctl.proofs.AcceptedBundle.{AcceptedBundle, CanCommit, can_commit}
 use Rattle.trio_ctl.proofs.Committing.{Commits, Committed, committed}
-use Rattle.trio_ctl.proofs.StoredFacts.{HandedBundle}
+use Rattle.trio_ctl.proofs.StoredFacts.{Checkpoints, HandedBundle}
 use Rattle.trio_ctl.proofs.Looks.{few_looks}
 use Rattle.trio_ctl.proofs.RollingBack.{CanRollBack, RolledBack, RollsBack, can_roll_back, rolled_back}
 use Rattle.trio_ctl.proofs.ClosingFacts.{keys, staying, staying_grants}
@@ -105,32 +110,60 @@ still_in ns n outs none = by (is_among n ns) refl
                 let long = length-with_all None ns outs in
                 absurd (omega (arith, lt, long, le))
 
-unheld : (own held parted : Bool) → held ≡ false → (own && held && parted) ≡ false
-unheld true true parted e = absurd (false≢true (sym e))
-unheld true false parted e = refl
-unheld false held parted e = refl
+abbrev reads_with : List OpenGrant → OpenGrant → Bool → ℕ
+reads_with gs g t = length (if t then g ∷ filter (λ (h : OpenGrant). is_read h.kind) gs else filter (λ (h : OpenGrant). is_read h.kind) gs)
 
-no_hold : (kind : GrantKind) → kind ≡ Write → is_hold kind ≡ false
-no_hold kind e = ap is_hold e
+-- the reads among open grants, by what is kept of them
+pub reads_open : (cs : Checkpoints) (gs : List OpenGrant) → reads_among (map (with_checkpoint cs) gs) ≡ reads_among gs
+reads_open cs [] = refl
+reads_open cs (g ∷ gs) = by (is_read g.kind) (reads_open cs gs)
+  where
+    by : (t : Bool) → reads_among (map (with_checkpoint cs) gs) ≡ reads_among gs → reads_with (map (with_checkpoint cs) gs) (with_checkpoint cs g) t ≡ reads_with gs g t
+    by true again = ap suc again
+    by false again = again
 
-module _ (s : Store) (first : ℕ) (table : List Keyed) (files : List Opened) (creds : List Creds) (entries : ℕ) (k : IsControlled s first table files creds entries)
-    (lib : LibNo) (b : Bundle) (given : GivenTo (state_of s first (grants_in files) creds entries) lib.0 b) where
+-- what a row that is there has
+pub some_and : (o : Option Row) (P : Row → Type 0) → IsSomeAnd o P → (r : Row) × (o ≡ Some r) × P r
+some_and None P h = absurd h
+some_and (Some r) P h = (r, refl, h)
+
+kind_after : (r : Row) (o : Option Row) (of : Kind) → r.kind ≡ of → is_some o ≡ true → HasRightsOf r o → IsSomeAnd o (λ q. q.kind ≡ of)
+kind_after r None of e live rights = absurd (false≢true live)
+kind_after r (Some q) of e live rights = rights.0 ∙ e
+
+-- the reads among grants are among those that stay
+reads_stay : (lib : ℕ) (b : Bundle) (gs : List OpenGrant) → reads_among (grants_staying lib b gs) ≡ reads_among gs
+reads_stay lib b [] = refl
+reads_stay lib b (g ∷ gs) = by (is_in_bundle lib b g) refl (reads_stay lib b gs)
+  where
+    unread : (kind : GrantKind) (written held : Bool) → ((is_write kind && written) || (is_hold kind && held)) ≡ true → is_read kind ≡ false
+    unread Read written held e = absurd (false≢true e)
+    unread Write written held e = refl
+    unread Hold written held e = refl
+
+    here : (t : Bool) → reads_among (grants_staying lib b gs) ≡ reads_among gs → reads_with (grants_staying lib b gs) g t ≡ reads_with gs g t
+    here true again = ap suc again
+    here false again = again
+
+    by : (t : Bool) → is_in_bundle lib b g ≡ t → reads_among (grants_staying lib b gs) ≡ reads_among gs → reads_among (if not t then g ∷ grants_staying lib b gs else grants_staying lib b gs) ≡ reads_among (g ∷ gs)
+    by false e again = here (is_read g.kind) again
+    by true e again =
+        again
+        ∙ ap (reads_with gs g) (sym (unread g.kind (is_written b g.ino) (is_among g.ino b.holds) (and_parts (g.lib == lib) ((is_write g.kind && is_written b g.ino) || (is_hold g.kind && is_among g.ino b.holds)) e).1))
+
+module _ (s : Store) (first : ℕ) (table : List Keyed) (files : List Opened) (creds : List Creds) (entries : Entries) (k : IsControlled s first table files creds entries)
+    (lib : LibNo) (b : Bundle) (given : GivenTo (state_of s first (grants_in files) creds entries.made) lib.0 b) (closed : parted_hold (state_of s first (grants_in files) creds entries.made) lib.0 b ≡ None) where
   abbrev st : State
-  st = state_of s first (grants_in files) creds entries
-
-  pub unparted : parted_hold st lib.0 b ≡ None
-  unparted =
-      unparted_from st lib.0 b
-      (λ g i. unheld (g.lib == lib.0) (is_hold g.kind) _ (no_hold g.kind (writes_all s first table files creds entries k g i)))
+  st = state_of s first (grants_in files) creds entries.made
 
   pub judgeable : IsJudgeable st lib.0 b
-  judgeable = record { kept = k.stored.kept; given = given; closed = unparted }
+  judgeable = record { kept = k.stored.kept; given = given; closed = closed }
 
   pub accepted_from : IsTrue (meets_rules (case_in st lib.0 b)) → IsTrue (is_accepted (settled st) (creds_of st lib.0) b)
   accepted_from meets = (rules_are_accept st lib.0 b judgeable).0 meets
 
   abbrev pub handed : HandedBundle
-  handed = record { store = s; first_core = first; grants = grants_in files; creds = creds; entries = entries; lib = lib; bundle = b; stored = k.stored; given = given; closed = unparted }
+  handed = record { store = s; first_core = first; grants = grants_in files; creds = creds; entries = entries.made; lib = lib; bundle = b; stored = k.stored; given = given; closed = closed }
 
   -- ---- put in place
 
@@ -141,7 +174,7 @@ module _ (s : Store) (first : ℕ) (table : List Keyed) (files : List Opened) (c
     pub can_commit_it : CanCommit s lib b l
     can_commit_it = subst (CanCommit s lib b) (sym is) (can_commit accepted)
 
-    pub committed_it : (s' : Store) → Commits s s' b l → Committed s s' first (grants_in files) creds entries lib.0 b
+    pub committed_it : (s' : Store) → Commits s s' b l → Committed s s' first (grants_in files) creds entries.made lib.0 b
     committed_it s' commits = committed accepted s' (subst (Commits s s' b) is commits)
 
     -- home is looked at for kept children at most once a page of the bundle
@@ -156,7 +189,7 @@ module _ (s : Store) (first : ℕ) (table : List Keyed) (files : List Opened) (c
   pub can_roll_back_it : CanRollBack s lib b
   can_roll_back_it = can_roll_back handed
 
-  pub rolled_back_it : (s' : Store) → RollsBack s s' b → RolledBack s s' first (grants_in files) creds entries lib.0 b
+  pub rolled_back_it : (s' : Store) → RollsBack s s' b → RolledBack s s' first (grants_in files) creds entries.made lib.0 b
   rolled_back_it s' rolls = rolled_back handed s' rolls
 
   refused_from : (rule ino : ℕ) (place : Location) → Breaks (case_in st lib.0 b) rule ino place → IsFalse (is_accepted (settled st) (creds_of st lib.0) b)
@@ -166,40 +199,61 @@ module _ (s : Store) (first : ℕ) (table : List Keyed) (files : List Opened) (c
       false_from_ne_true (is_accepted (settled st) (creds_of st lib.0) b)
       (λ t. both_ways (meets_rules c) unmet ((rules_are_accept st lib.0 b judgeable).1 t))
 
-  module _ (s' : Store) (table' : List Keyed) (files' : List Opened) (entries' : ℕ) (stay : files' ≡ staying lib b files) (next' : entries' ≡ entries + 1) where
+  module _ (s' : Store) (table' : List Keyed) (files' : List Opened) (entries' : Entries) (stay : files' ≡ staying lib b files) (next' : entries' ≡ record entries { made = entries.made + 1 }) where
     grants_are : grants_in files' ≡ grants_staying lib.0 b (grants_in files)
-    grants_are = ap grants_in stay ∙ staying_grants lib b files k.writes
+    grants_are = ap grants_in stay ∙ staying_grants lib b files
 
     abbrev after : State
-    after = state_of s' first (grants_staying lib.0 b (grants_in files)) creds (entries + 1)
+    after = state_of s' first (grants_staying lib.0 b (grants_in files)) creds (entries.made + 1)
 
-    after_is : after ≡ state_of s' first (grants_in files') creds entries'
-    after_is = ap (λ gs. state_of s' first gs creds (entries + 1)) (sym grants_are) ∙ ap (state_of s' first (grants_in files') creds) (sym next')
+    after_is : after ≡ state_of s' first (grants_in files') creds entries'.made
+    after_is = ap (λ gs. state_of s' first gs creds (entries.made + 1)) (sym grants_are) ∙ ap (λ (n : Entries). state_of s' first (grants_in files') creds n.made) (sym next')
 
-    pub accepted_step : IsTrue (meets_rules (case_in st lib.0 b)) → Ends st lib.0 b (next (settled st) b) after → Step st (Release lib.0 b) Accepted (state_of s' first (grants_in files') creds entries')
+    pub accepted_step : IsTrue (meets_rules (case_in st lib.0 b)) → Ends st lib.0 b (next (settled st) b) after → Step st (Release lib.0 b) Accepted (state_of s' first (grants_in files') creds entries'.made)
     accepted_step meets ends =
         subst (λ (t : State). Step st (Release lib.0 b) Accepted t) after_is
-        (inl (IsAccepted unparted (accepted_from meets) refl ends))
+        (inl (IsAccepted closed (accepted_from meets) refl ends))
 
     pub refused_step : (rule ino page slot : ℕ) → Breaks (case_in st lib.0 b) rule ino (record { page = page; slot = slot }) → Ends st lib.0 b (refused_image (settled st) b) after
-        → Step st (Release lib.0 b) (Refused (record { rule = rule; ino = ino; page = page; slot = slot })) (state_of s' first (grants_in files') creds entries')
+        → Step st (Release lib.0 b) (Refused (record { rule = rule; ino = ino; page = page; slot = slot })) (state_of s' first (grants_in files') creds entries'.made)
     refused_step rule ino page slot breaks ends =
         let answer : CtlAnswer = Refused (record { rule = rule; ino = ino; page = page; slot = slot }) in
         subst (λ (t : State). Step st (Release lib.0 b) answer t) after_is
-        (inl (IsRefused unparted (refused_from rule ino (record { page = page; slot = slot }) breaks) (record { rule = rule; ino = ino; page = page; slot = slot }) refl breaks ends))
+        (inl (IsRefused closed (refused_from rule ino (record { page = page; slot = slot }) breaks) (record { rule = rule; ino = ino; page = page; slot = slot }) refl breaks ends))
 
-    pub ended_controlled : table' ≡ map keyed files' → s'.allotments ≡ outs_after s.allotments (sheet_numbers b.pages) b.numbers
-        → IsStored s' first (grants_staying lib.0 b (grants_in files)) creds (entries + 1) → IsControlled s' first table' files' creds entries'
-    ended_controlled keeps back stored = record {
-      stored = subst (λ n. IsStored s' first (grants_in files') creds n) (sym next') (subst (λ gs. IsStored s' first gs creds (entries + 1)) (sym grants_are) stored);
+    of_old : (o : Opened) → In o files' → In o files
+    of_old o i = (filter-In (λ o. not (is_in_bundle lib.0 b o.grant)) o files (subst (In o) stay i)).0
+
+    -- the files of the grants that stay are of their kinds
+    pub kinds_accepted : IsTrue (meets_rules (case_in st lib.0 b)) → Committed s s' first (grants_in files) creds entries.made lib.0 b → HaveKinds s'.rows files'
+    kinds_accepted meets done o i =
+        let was = some_and (row_in s.rows o.grant.ino) (λ r. r.kind ≡ o.grant.of) (k.kinds o (of_old o i)) in
+        let after : State = state_of s' first (grants_staying lib.0 b (grants_in files)) creds (entries.made + 1) in
+        let step : Step st (Release lib.0 b) Accepted after = inl (IsAccepted closed (accepted_from meets) refl done.ends) in
+        let open_then : In (with_checkpoint s'.checkpoints.items o.grant) after.open_grants =
+        In-map (with_checkpoint s'.checkpoints.items) o.grant (grants_staying lib.0 b (grants_in files)) (subst (In o.grant) grants_are (In-map (λ (x : Opened). x.grant) o files' i)) in
+        let live : is_some (row_in s'.rows o.grant.ino) ≡ true = done.stored.kept.live (with_checkpoint s'.checkpoints.items o.grant) open_then in
+        elim (every_step_keeps_rows st (Release lib.0 b) Accepted after o.grant.ino was.0 k.stored.kept given step was.1) [
+          | inl same ↦ subst (λ (x : Option Row). IsSomeAnd x (λ r. r.kind ≡ o.grant.of)) (sym same) was.2
+          | inr other ↦ elim other [
+            | inl held ↦ kind_after was.0 (row_in s'.rows o.grant.ino) o.grant.of was.2 live held.1
+            | inr wrong ↦ absurd wrong
+          ]
+        ]
+
+    pub kinds_refused : s'.rows ≡ s.rows → HaveKinds s'.rows files'
+    kinds_refused same = subst (λ rows. HaveKinds rows files') (sym same) (λ o i. k.kinds o (of_old o i))
+
+    pub ended_controlled : table' ≡ map keyed files' → HaveKinds s'.rows files' → s'.allotments ≡ outs_after s.allotments (sheet_numbers b.pages) b.numbers
+        → IsStored s' first (grants_staying lib.0 b (grants_in files)) creds (entries.made + 1) → IsControlled s' first table' files' creds entries'
+    ended_controlled keeps kinds back stored = record {
+      stored = subst (λ (n : Entries). IsStored s' first (grants_in files') creds n.made) (sym next') (subst (λ gs. IsStored s' first gs creds (entries.made + 1)) (sym grants_are) stored);
       no_zero = ap (λ (o : OutByNumber). lib_at o.numbers 0) back ∙ still_in b.numbers 0 s.allotments.numbers k.no_zero;
       some_libraries = k.some_libraries;
       few_libraries = k.few_libraries;
       grants = keeps;
-      keys_once = ap (λ fs. are_new [] (keys fs)) stay ∙ filtered_new (λ (o : Opened). o.key) (λ o. not (ends_with lib b o)) files k.keys_once;
-      earlier = λ o i. (let e = k.earlier o (of_old o i) in omega (arith, e, next'));
-      writes = λ o i. k.writes o (of_old o i);
+      keys_once = ap (λ fs. are_new [] (keys fs)) stay ∙ filtered_new (λ (o : Opened). o.key) (λ o. not (is_in_bundle lib.0 b o.grant)) files k.keys_once;
+      earlier = λ o i. (let e = k.earlier o (of_old o i) in let more = ap (λ (n : Entries). n.made) next' in omega (arith, e, more));
+      promised = ap (λ (n : Entries). n.promised) next' ∙ k.promised ∙ sym (reads_stay lib.0 b (grants_in files)) ∙ sym (ap reads_among grants_are);
+      kinds = kinds;
     }
-      where
-        of_old : (o : Opened) → In o files' → In o files
-        of_old o i = (filter-In (λ o. not (ends_with lib b o)) o files (subst (In o) stay i)).0

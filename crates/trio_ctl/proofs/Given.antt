@@ -1,4 +1,4 @@
--- A lease that was just granted may be handed in. Cited by tests alone.
+-- What was just granted may be handed in or given back. Cited by tests alone.
 use Rattle.std.proofs.Common.{◌≡◌, ℕ, List, [], ◌∷◌, ◌++◌, length, map, Option, Some, None, inl, inr, refl, sym, ap, subst, ◌∙◌}
 use Rattle.std.specs.Prelude.{Result, Ok, Err}
 use Rattle.std.specs.List.{flat_map}
@@ -6,24 +6,26 @@ use Rattle.std.specs.Option.{IsSomeAnd}
 use Rattle.trio_rights.specs.Row.{Row}
 use Rattle.trio_rights.specs.Bundle.{Bundle, Written, bundle_sheets}
 use Rattle.trio_rights.specs.Sheets.{Sheet, sheet_numbers}
-use Rattle.trio_nodes.specs.declared.grant.GrantKind.TheVariants.{Write}
+use Rattle.trio_nodes.specs.declared.grant.GrantKind.{GrantKind}
+use Rattle.trio_nodes.specs.declared.grant.GrantKind.TheVariants.{Read, Write}
 use Rattle.trio_nodes.specs.declared.answers.GrantFault.{GrantFault}
+use Rattle.trio_nodes.specs.declared.answers.GrantFault.TheVariants.{Busy as BusyGrant, Denied, NoMemory as NoGrantMemory, NoParent, NotLive}
 use Rattle.trio_lists.specs.Lists.{In}
 use Rattle.trio_lists.proofs.Members.{In-cases, In-right, flat_map-In}
-use Rattle.trio_lease.specs.Shown.{LentFile}
+use Rattle.trio_lease.specs.Shown.{LentFile, Shown}
 use Rattle.trio_lease.specs.Views.{lent_sheet, written_in}
-use Rattle.trio_lease.specs.declared.lease.Lease.TheVariants.{Write as WriteLent}
+use Rattle.trio_lease.specs.declared.lease.Lease.TheVariants.{Read as ReadLent, Write as WriteLent}
 use Rattle.trio_layout.specs.Chain.{Chain}
 use Rattle.trio_layout.specs.Core.{Core, Location}
 use Rattle.trio_layout.specs.Image.{IsFit, row_at}
 use Rattle.trio_layout.specs.Pages.{block_sheets, index_sheets, settled_chain, sheets_of}
 use Rattle.trio_surveys.proofs.Sheets.{sheets_in}
-use Rattle.trio_state.specs.Given.{GivenTo, WasLent}
+use Rattle.trio_state.specs.Given.{GivenTo, HasGrant, WasLent}
 use Rattle.trio_state.specs.Grants.{grant_fault, opened}
 use Rattle.trio_state.specs.Kept.{Kept}
 use Rattle.trio_state.specs.State.{OpenGrant, State, settled}
-use Rattle.trio_state.specs.Step.{Comes, Done, Grant, Granted, NoMemory, NotGranted, Step, granted_to}
-use Rattle.trio_ctl.specs.Open.{lease_of, untouched}
+use Rattle.trio_state.specs.Step.{Back, Comes, CtlAnswer, Done, Grant, Granted, NoMemory, NotGranted, Step, granted_to}
+use Rattle.trio_ctl.specs.Open.{lease_of, shown_of, untouched}
 use Rattle.trio_ctl.proofs.LendLemmas.{sheets_untouched}
 
 -- a lease alone, as a bundle
@@ -96,3 +98,45 @@ granted_is_given s s' ino f kept step lease =
           numbers_once = refl;
         } in
         (subst (λ (h : LentFile). GivenTo s' 1 (lease_alone h)) (sym is) given, ap (λ (t : State). t.creds) c.1)
+
+-- ---- what a grant and its end leave
+
+-- the libraries stay as they are
+pub creds_kept : (s : State) (lib ino : ℕ) (kind : GrantKind) (answer : CtlAnswer) (s' : State) → Step s (Grant lib ino kind) answer s' → s'.creds ≡ s.creds
+creds_kept s lib ino kind answer s' (inr none) = ap (λ (t : State). t.creds) none.2
+creds_kept s lib ino kind answer s' (inl does) = ap (λ (t : State). t.creds) does.1 ∙ by (grant_fault s lib ino kind) (row_at s.home ino)
+  where
+    by : (fault : Option GrantFault) (row : Option Row) → (granted_to s lib ino kind fault row).after.creds ≡ s.creds
+    by None None = refl
+    by None (Some r) = refl
+    by (Some (BusyGrant who)) row = refl
+    by (Some NotLive) row = refl
+    by (Some (Denied n)) row = refl
+    by (Some NoParent) row = refl
+    by (Some NoGrantMemory) row = refl
+
+pub creds_after_back : (s : State) (lib ino : ℕ) (answer : CtlAnswer) (s' : State) → Step s (Back lib ino) answer s' → s'.creds ≡ s.creds
+creds_after_back s lib ino answer s' (inr none) = ap (λ (t : State). t.creds) none.2
+creds_after_back s lib ino answer s' (inl does) = ap (λ (t : State). t.creds) does.1
+
+-- a file that was just lent for reading may be given back
+pub read_is_open : (s s' : State) (ino : ℕ) (f : Shown) → Step s (Grant 1 ino Read) (Granted 0) s'
+    → IsSomeAnd (row_at s.home ino) (λ r. ReadLent f ≡ ReadLent (shown_of (opened s 1 ino Read r)))
+    → HasGrant s' f.lib.0 f.ino Read
+read_is_open s s' ino f step lease =
+    elim step [
+      | inl does ↦ by (grant_fault s 1 ino Read) (row_at s.home ino) does lease
+      | inr none ↦ let wrong : Granted 0 ≡ NoMemory = none.1 in absurd (cc wrong)
+    ]
+  where
+    by : (fault : Option GrantFault) (row : Option Row) → Comes (granted_to s 1 ino Read fault row) (Granted 0) s'
+        → IsSomeAnd row (λ r. ReadLent f ≡ ReadLent (shown_of (opened s 1 ino Read r)))
+        → HasGrant s' f.lib.0 f.ino Read
+    by (Some fault) row c l = let wrong : Granted 0 ≡ NotGranted fault = c.0 in absurd (cc wrong)
+    by None None c l = let wrong : Granted 0 ≡ Done = c.0 in absurd (cc wrong)
+    by None (Some r) c l =
+        let g : OpenGrant = opened s 1 ino Read r in
+        let is : f ≡ shown_of g = cc l in
+        let stands : In g s'.open_grants = subst (λ (t : State). In g t.open_grants) (sym c.1) (In-right g s.open_grants (g ∷ []) (inl refl)) in
+        let has : HasGrant s' (shown_of g).lib.0 (shown_of g).ino Read = record { grant = g; is_open = stands; lib = refl; kind = refl; ino = refl } in
+        subst (λ (x : Shown). HasGrant s' x.lib.0 x.ino Read) (sym is) has

@@ -1,22 +1,23 @@
 -- A write grant of the controller is the step that the definitions say.
 use Rattle.std.proofs.Common.{◌≡◌, ◌≢◌, ℕ, zero, suc, ◌+◌, ◌-◌, ◌*◌, ◌<◌, Bool, true, false, not, ◌&&◌, ◌||◌, List, [], ◌∷◌, ◌++◌, length, map, get_or, Option, Some, None, is_some, slice_get, inl, inr, ◌⊎◌, refl, sym, ap, subst, ◌∙◌, arith}
 use Rattle.std.specs.Prelude.{◌==◌, Ok, Err, if◌then◌else◌, slice_set, IsTrue}
-use Rattle.std.specs.List.{find, filter}
-use Rattle.std.specs.Option.{option_map, option_map_or, option_and_then}
-use Rattle.std.proofs.lemmas.Bool.{eq-eqb, eqb-true, false≢true}
+use Rattle.std.specs.List.{find, filter, list_any}
+use Rattle.std.specs.Option.{IsSomeAnd, option_map, option_map_or, option_and_then}
+use Rattle.std.proofs.lemmas.Bool.{and_from, eq-eqb, eqb-true, false≢true}
 use Rattle.std.proofs.lemmas.List.{map-append, get_or-set_same, get_or-set_other, length-set}
 use Rattle.std.proofs.lemmas.List.Elements.{All-cons}
-use Rattle.trio_rights.specs.Row.{Row}
+use Rattle.trio_rights.specs.Row.{Row, row_in}
 use Rattle.trio_rights.specs.May.{denier}
 use Rattle.trio_rights.specs.declared.rights.Creds.{Creds}
 use Rattle.trio_rights.specs.declared.rights.LibNo.{LibNo}
-use Rattle.trio_rights.specs.declared.rights.Need.TheVariants.{Write as ToWrite}
-use Rattle.trio_nodes.specs.declared.grant.GrantKind.TheVariants.{Write}
+use Rattle.trio_rights.specs.declared.rights.Need.TheVariants.{Read as ToRead, Write as ToWrite}
+use Rattle.trio_nodes.specs.declared.grant.GrantKind.{GrantKind}
+use Rattle.trio_nodes.specs.declared.grant.GrantKind.TheVariants.{Read, Write, Hold}
 use Rattle.trio_nodes.specs.declared.grant.Holder.{Holder}
 use Rattle.trio_nodes.specs.declared.answers.GrantFault.{GrantFault}
 use Rattle.trio_nodes.specs.declared.answers.GrantFault.TheVariants.{Busy, Denied, NoMemory, NoParent, NotLive}
 use Rattle.trio_grants.specs.declared.grant.Grant.{Grant as TableGrant}
-use Rattle.trio_grants.specs.Grants.{Keyed, AllBelow, excludes, first_with, grant_under, holder}
+use Rattle.trio_grants.specs.Grants.{Keyed, AllBelow, excludes, first_with, grant_under, holder, is_grant}
 use Rattle.trio_layout.specs.declared.range.CoreRange.{CoreRange}
 use Rattle.trio_layout.specs.Body.{body_of}
 use Rattle.trio_layout.specs.Chain.{Chain, chain_of}
@@ -25,17 +26,17 @@ use Rattle.trio_lists.specs.Lists.{there_or, is_among, are_new, result_then, In}
 use Rattle.trio_layout.specs.Entries.{body_in_slot}
 use Rattle.trio_layout.specs.Range.{is_core}
 use Rattle.trio_lists.proofs.Marked.{are_new-push}
-use Rattle.trio_state.specs.Grants.{denied_or, excluding, grant_fault, holder_of, opened, opens, lent_pages}
-use Rattle.trio_nodes.specs.GrantKinds.{excludes_kind, is_write}
+use Rattle.trio_state.specs.Grants.{denied_or, excluding, grant_fault, has_parent_grant, holder_of, lent_pages, lent_sheets, opened, opens, told_children}
+use Rattle.trio_nodes.specs.GrantKinds.{excludes_kind, is_read, is_write, same_kind}
 use Rattle.trio_rights.specs.ByKind.{covers_blocks}
 use Rattle.trio_layout.specs.declared.superblock.Superblock.{Superblock}
 use Rattle.trio_layout.specs.Superblock.{page_count, superblock_fits}
 use Rattle.trio_layout.specs.Pages.{covered_of, index_sheets, block_sheets, settled_chain, sheets_of}
-use Rattle.trio_layout.specs.Image.{body_by_row, row_at, settled_body}
+use Rattle.trio_layout.specs.Image.{body_by_row, row_at, settled_body, with_core_pages}
 use Rattle.trio_state.specs.Kept.{Kept}
 use Rattle.trio_rights.specs.Sheets.{Sheet, sheet_numbers, without_pages}
 use Rattle.trio_state.specs.State.{OpenGrant, State, covered, creds_of, logged, settled}
-use Rattle.trio_state.specs.Step.{Grant, Granted, NotGranted, Step}
+use Rattle.trio_state.specs.Step.{Grant, Granted, NotGranted, Outcome, Step, granted_to}
 use Rattle.trio_tables.specs.Out.{lib_at}
 use Rattle.trio_checkpoint.specs.Covered.{Checkpointed, chain_in, core_of, covered_pages}
 use Rattle.trio_commit.specs.declared.store.Store.{Store}
@@ -47,10 +48,13 @@ use Rattle.trio_laws.proofs.Grants.{logged_kept}
 use Rattle.trio_surveys.proofs.Local.{chain_follows}
 use Rattle.trio_lists.proofs.Members.{In-flat, In-left, In-right, In-cases, In-map, map-In, list_all-each, result_then-Ok}
 use Rattle.trio_laws.proofs.Runs.{step_kept}
+use Rattle.trio_laws.proofs.StateFacts.{write_is}
 use Rattle.trio_surveys.proofs.SheetLaws.{page_at}
 use Rattle.trio_surveys.proofs.Sheets.{length-without, page_from, sheets_all}
 use Rattle.trio_ctl.specs.Answers.{grant_fault_answer, Admits}
-use Rattle.trio_ctl.specs.Ctl.{IsControlled}
+use Rattle.trio_ctl.specs.Ctl.{HaveKinds, IsControlled}
+use Rattle.trio_ctl.specs.Entries.{Entries, reads_among}
+use Rattle.trio_ctl.specs.inner.Denials.{denial}
 use Rattle.trio_ctl.specs.inner.Lending.{IsLendable, StandsSomewhere, body_standing, page_on, page_standing}
 use Rattle.trio_laws.specs.OutLaws.{without_checkpoint}
 use Rattle.trio_ctl.specs.Open.{Opened, grant_on, grants_in, keyed, lease_of}
@@ -61,10 +65,12 @@ use Rattle.trio_lists.proofs.Filters.{In-find, find-In}
 
 -- ---- who excludes
 
-first_excluding : (cs : Checkpoints) (lib : LibNo) (ino : ℕ) (files : List Opened)
-    → option_map holder (first_with (excludes lib ino Write) (map keyed files)) ≡ option_map holder_of (slice_get (filter (λ (g : OpenGrant). g.ino == ino && excludes_kind Write g.kind (g.lib == lib.0)) (map (with_checkpoint cs) (grants_in files))) 0)
-first_excluding cs lib ino [] = refl
-first_excluding cs lib ino (o ∷ os) = by (o.grant.ino == ino && true) (first_with (excludes lib ino Write) (map keyed os)) (filter (λ (g : OpenGrant). g.ino == ino && excludes_kind Write g.kind (g.lib == lib.0)) (map (with_checkpoint cs) (grants_in os))) (first_excluding cs lib ino os)
+first_excluding : (cs : Checkpoints) (lib : LibNo) (ino : ℕ) (kind : GrantKind) (files : List Opened)
+    → option_map holder (first_with (excludes lib ino kind) (map keyed files)) ≡ option_map holder_of (slice_get (filter (λ (g : OpenGrant). g.ino == ino && excludes_kind kind g.kind (g.lib == lib.0)) (map (with_checkpoint cs) (grants_in files))) 0)
+first_excluding cs lib ino kind [] = refl
+first_excluding cs lib ino kind (o ∷ os) =
+    by (o.grant.ino == ino && excludes_kind kind o.grant.kind (o.grant.lib == lib.0)) (first_with (excludes lib ino kind) (map keyed os)) (filter (λ (g : OpenGrant). g.ino == ino && excludes_kind kind g.kind (g.lib == lib.0)) (map (with_checkpoint cs) (grants_in os)))
+    (first_excluding cs lib ino kind os)
   where
     by : (b : Bool) (x : Option TableGrant) (ys : List OpenGrant) → option_map holder x ≡ option_map holder_of (slice_get ys 0) → option_map holder (if b then Some (keyed o).1 else x) ≡ option_map holder_of (slice_get (if b then with_checkpoint cs o.grant ∷ ys else ys) 0)
     by true x ys e = refl
@@ -81,21 +87,118 @@ map_none (Some g) e = absurd cc
 no_holder : (o : Option TableGrant) → o ≡ None → option_map holder o ≡ None
 no_holder o e = ap (option_map holder) e
 
-not_on : (lib : LibNo) (ino : ℕ) (files : List Opened) → first_with (excludes lib ino Write) (map keyed files) ≡ None → (o : Opened) → In o files → o.grant.ino ≢ ino
-not_on lib ino [] none o i = absurd i
-not_on lib ino (f ∷ fs) none o i = by (λ later j. not_on lib ino fs later o j) (f.grant.ino == ino) refl none i
+-- a write grant excludes each kind
+excludes_beside : (kind other : GrantKind) (own : Bool) → other ≡ Write → excludes_kind kind other own ≡ true
+excludes_beside Read other own e = ap (λ (k : GrantKind). excludes_kind Read k own) e
+excludes_beside Write other own e = refl
+excludes_beside Hold other own e = refl
+
+-- where no grant excludes one, no write grant is on the file
+not_written : (lib : LibNo) (ino : ℕ) (kind : GrantKind) (files : List Opened) → first_with (excludes lib ino kind) (map keyed files) ≡ None → (o : Opened) → In o files → o.grant.kind ≡ Write → o.grant.ino ≢ ino
+not_written lib ino kind [] none o i write = absurd i
+not_written lib ino kind (f ∷ fs) none o i write =
+    by (λ later j. not_written lib ino kind fs later o j write) (f.grant.ino == ino && excludes_kind kind f.grant.kind (f.grant.lib == lib.0)) refl none i
   where
-    by : (first_with (excludes lib ino Write) (map keyed fs) ≡ None → In o fs → o.grant.ino ≢ ino) → (b : Bool) → (f.grant.ino == ino) ≡ b → (if b && true then Some (keyed f).1 else first_with (excludes lib ino Write) (map keyed fs)) ≡ None → In o (f ∷ fs) → o.grant.ino ≢ ino
+    by : (first_with (excludes lib ino kind) (map keyed fs) ≡ None → In o fs → o.grant.ino ≢ ino) → (b : Bool) → (f.grant.ino == ino && excludes_kind kind f.grant.kind (f.grant.lib == lib.0)) ≡ b → (if b then Some (keyed f).1 else first_with (excludes lib ino kind) (map keyed fs)) ≡ None → In o (f ∷ fs) → o.grant.ino ≢ ino
     by again true test none i = absurd cc
-    by again false test none (inl here) = λ e. false≢true (sym test ∙ eq-eqb f.grant.ino ino (ap (λ (x : Opened). x.grant.ino) (sym here) ∙ e))
+    by again false test none (inl here) = λ e.
+        let number = eq-eqb f.grant.ino ino (ap (λ (x : Opened). x.grant.ino) (sym here) ∙ e) in
+        let excluded = excludes_beside kind f.grant.kind (f.grant.lib == lib.0) (ap (λ (x : Opened). x.grant.kind) (sym here) ∙ write) in
+        false≢true (sym test ∙ and_from (f.grant.ino == ino) (excludes_kind kind f.grant.kind (f.grant.lib == lib.0)) number excluded)
     by again false test none (inr later) = again none later
 
-fault_is : (s : State) (lib ino : ℕ) (r : Row) → row_at s.home ino ≡ Some r → denier s.home.rows (creds_of s lib) ino ToWrite ≡ None
-    → grant_fault s lib ino Write ≡ option_map (λ g. Busy (holder_of g)) (slice_get (excluding s lib ino Write) 0)
-fault_is s lib ino r row may =
-    let busy : Option GrantFault = option_map (λ g. Busy (holder_of g)) (slice_get (excluding s lib ino Write) 0) in
-    ap (λ (o : Option Row). if not (is_some o) then Some NotLive else denied_or (denier s.home.rows (creds_of s lib) ino ToWrite) busy) row
-    ∙ ap (λ d. denied_or d busy) may
+-- ---- why a grant is refused
+
+none_denies : (o : Option ℕ) → option_map Denied o ≡ None → o ≡ None
+none_denies None e = refl
+none_denies (Some n) e = absurd cc
+
+abbrev unless_parent : Bool → Option GrantFault
+unless_parent b = if b then None else Some NoParent
+
+has_parent : (b : Bool) → unless_parent b ≡ None → b ≡ true
+has_parent true e = refl
+has_parent false e = absurd cc
+
+abbrev busy_by : State → ℕ → ℕ → GrantKind → Option GrantFault
+busy_by s lib ino kind = option_map (λ g. Busy (holder_of g)) (slice_get (excluding s lib ino kind) 0)
+
+fault_is : (s : State) (lib ino : ℕ) (kind : GrantKind) (r : Row) → row_at s.home ino ≡ Some r → denial s lib ino kind ≡ None
+    → grant_fault s lib ino kind ≡ option_map (λ g. Busy (holder_of g)) (slice_get (excluding s lib ino kind) 0)
+fault_is s lib ino kind r row may = by kind may
+  where
+    live : (rest : Option GrantFault) → (if not (is_some (row_at s.home ino)) then Some NotLive else rest) ≡ rest
+    live rest = ap (λ (o : Option Row). if not (is_some o) then Some NotLive else rest) row
+
+    by : (kind : GrantKind) → denial s lib ino kind ≡ None → grant_fault s lib ino kind ≡ busy_by s lib ino kind
+    by Read may =
+        live (denied_or (denier s.home.rows (creds_of s lib) ino ToRead) (busy_by s lib ino Read))
+        ∙ ap (λ d. denied_or d (busy_by s lib ino Read)) (none_denies (denier s.home.rows (creds_of s lib) ino ToRead) may)
+    by Write may =
+        live (denied_or (denier s.home.rows (creds_of s lib) ino ToWrite) (busy_by s lib ino Write))
+        ∙ ap (λ d. denied_or d (busy_by s lib ino Write)) (none_denies (denier s.home.rows (creds_of s lib) ino ToWrite) may)
+    by Hold may =
+        let parent : Bool = has_parent_grant s lib (row_at s.home ino) in
+        live (if not parent then Some NoParent else busy_by s lib ino Hold)
+        ∙ ap (λ (b : Bool). if not b then Some NoParent else busy_by s lib ino Hold) (has_parent parent may)
+
+-- a denial is that of a number, or of a hold without its parent's grant; it is the fault of the grant
+denied_is : (s : State) (lib ino : ℕ) (kind : GrantKind) (r : Row) (fault : GrantFault) → row_at s.home ino ≡ Some r → denial s lib ino kind ≡ Some fault
+    → (grant_fault s lib ino kind ≡ Some fault) × (((n : ℕ) × (fault ≡ Denied n)) ⊎ (fault ≡ NoParent))
+denied_is s lib ino kind r fault row denies = by kind denies
+  where
+    live : (rest : Option GrantFault) → (if not (is_some (row_at s.home ino)) then Some NotLive else rest) ≡ rest
+    live rest = ap (λ (o : Option Row). if not (is_some o) then Some NotLive else rest) row
+
+    of_number : (o : Option ℕ) (other : Option GrantFault) → option_map Denied o ≡ Some fault → (denied_or o other ≡ Some fault) × (((n : ℕ) × (fault ≡ Denied n)) ⊎ (fault ≡ NoParent))
+    of_number None other e = absurd cc
+    of_number (Some n) other e = (e, inl (n, (let same : Some (Denied n) ≡ Some fault = e in sym (cc same))))
+
+    of_parent : (b : Bool) (other : Option GrantFault) → unless_parent b ≡ Some fault → ((if not b then Some NoParent else other) ≡ Some fault) × (((n : ℕ) × (fault ≡ Denied n)) ⊎ (fault ≡ NoParent))
+    of_parent true other e = absurd cc
+    of_parent false other e = (e, inr (let same : Some NoParent ≡ Some fault = e in sym (cc same)))
+
+    by : (kind : GrantKind) → denial s lib ino kind ≡ Some fault → (grant_fault s lib ino kind ≡ Some fault) × (((n : ℕ) × (fault ≡ Denied n)) ⊎ (fault ≡ NoParent))
+    by Read e = (let q = of_number (denier s.home.rows (creds_of s lib) ino ToRead) (busy_by s lib ino Read) e in (live (denied_or (denier s.home.rows (creds_of s lib) ino ToRead) (busy_by s lib ino Read)) ∙ q.0, q.1))
+    by Write e = (let q = of_number (denier s.home.rows (creds_of s lib) ino ToWrite) (busy_by s lib ino Write) e in (live (denied_or (denier s.home.rows (creds_of s lib) ino ToWrite) (busy_by s lib ino Write)) ∙ q.0, q.1))
+    by Hold e =
+        let other : Option GrantFault = busy_by s lib ino Hold in
+        let parent : Bool = has_parent_grant s lib (row_at s.home ino) in
+        let q = of_parent parent other e in
+        (live (if not parent then Some NoParent else other) ∙ q.0, q.1)
+
+-- a denial that is logged, or for which there is no memory, is a step
+pub denied_step : (s : State) (lib ino : ℕ) (kind : GrantKind) (r : Row) (fault told : GrantFault) (s' : State) → row_at s.home ino ≡ Some r → denial s lib ino kind ≡ Some fault
+    → ((told ≡ fault) × (s' ≡ logged s)) ⊎ ((told ≡ NoMemory) × (s' ≡ s)) → Step s (Grant lib ino kind) (grant_fault_answer told) s'
+denied_step s lib ino kind r fault told s' row denies (inr none) = inr (refl, ap grant_fault_answer none.0, none.1)
+denied_step s lib ino kind r fault told s' row denies (inl logs) =
+    let q = denied_is s lib ino kind r fault row denies in
+    elim q.1 [
+      | inl n ↦
+          let f : grant_fault s lib ino kind ≡ Some (Denied n.0) = q.0 ∙ ap Some n.1 in
+          let o = ap (λ x. granted_to s lib ino kind x (row_at s.home ino)) f in
+          inl (ap grant_fault_answer (logs.0 ∙ n.1) ∙ ap (λ (x : Outcome). x.answer) (sym o), logs.1 ∙ ap (λ (x : Outcome). x.after) (sym o))
+      | inr p ↦
+          let f : grant_fault s lib ino kind ≡ Some NoParent = q.0 ∙ ap Some p in
+          let o = ap (λ x. granted_to s lib ino kind x (row_at s.home ino)) f in
+          inl (ap grant_fault_answer (logs.0 ∙ p) ∙ ap (λ (x : Outcome). x.answer) (sym o), logs.1 ∙ ap (λ (x : Outcome). x.after) (sym o))
+    ]
+
+abbrev reads_with : List OpenGrant → OpenGrant → Bool → ℕ
+reads_with gs g t = length (if t then g ∷ filter (λ (h : OpenGrant). is_read h.kind) gs else filter (λ (h : OpenGrant). is_read h.kind) gs)
+
+-- the reads among some grants and one more
+reads_last : (gs : List OpenGrant) (g : OpenGrant) → reads_among gs + (if is_read g.kind then 1 else 0) ≡ reads_among (gs ++ g ∷ [])
+reads_last [] g = by (is_read g.kind)
+  where
+    by : (t : Bool) → 0 + (if t then 1 else 0) ≡ reads_with [] g t
+    by true = refl
+    by false = refl
+reads_last (h ∷ gs) g = by (is_read h.kind) (reads_last gs g)
+  where
+    by : (t : Bool) → reads_among gs + (if is_read g.kind then 1 else 0) ≡ reads_among (gs ++ g ∷ []) → reads_with gs h t + (if is_read g.kind then 1 else 0) ≡ reads_with (gs ++ g ∷ []) h t
+    by true again = omega (arith, again)
+    by false again = again
 
 -- the row of a live file has its place
 row_below : (rows : List (Option Row)) (n : ℕ) (r : Row) → get_or rows n None ≡ Some r → n < length rows
@@ -103,9 +206,9 @@ row_below [] n r e = absurd cc
 row_below (x ∷ rows) zero r e = omega arith
 row_below (x ∷ rows) (suc n) r e = (let l = row_below rows n r e in omega (arith, l))
 
-module _ (s : Store) (first : ℕ) (table : List Keyed) (files : List Opened) (creds : List Creds) (entries : ℕ) (k : IsControlled s first table files creds entries) where
+module _ (s : Store) (first : ℕ) (table : List Keyed) (files : List Opened) (creds : List Creds) (entries : Entries) (k : IsControlled s first table files creds entries) where
   abbrev st : State
-  st = state_of s first (grants_in files) creds entries
+  st = state_of s first (grants_in files) creds entries.made
 
   abbrev cs : Checkpoints
   cs = s.checkpoints.items
@@ -125,35 +228,63 @@ module _ (s : Store) (first : ℕ) (table : List Keyed) (files : List Opened) (c
   abbrev range : CoreRange
   range = record { first = first; end = length s.home.pages }
 
-  table_excluding : (lib : LibNo) (ino : ℕ) → option_map holder (first_with (excludes lib ino Write) table) ≡ option_map holder_of (slice_get (excluding st lib.0 ino Write) 0)
-  table_excluding lib ino = ap (λ t. option_map holder (first_with (excludes lib ino Write) t)) k.grants ∙ first_excluding cs lib ino files
+  table_excluding : (lib : LibNo) (ino : ℕ) (kind : GrantKind) → option_map holder (first_with (excludes lib ino kind) table) ≡ option_map holder_of (slice_get (excluding st lib.0 ino kind) 0)
+  table_excluding lib ino kind = ap (λ t. option_map holder (first_with (excludes lib ino kind) t)) k.grants ∙ first_excluding cs lib ino kind files
 
-  -- an open grant is on the file
-  pub busy_step : (lib : LibNo) (ino : ℕ) (r : Row) (who : Holder) → row_at st.home ino ≡ Some r → denier rows (creds_of st lib.0) ino ToWrite ≡ None
-      → option_map holder (first_with (excludes lib ino Write) table) ≡ Some who → Step st (Grant lib.0 ino Write) (NotGranted (Busy who)) st
-  busy_step lib ino r who row may answer =
-      let fault = fault_is st lib.0 ino r row may ∙ map_busy (slice_get (excluding st lib.0 ino Write) 0) who (sym (table_excluding lib ino) ∙ answer) in
+  -- the library's write grant on a file, in the table and among the open grants
+  pub parent_granted : (lib : LibNo) (r : Row) → is_some (first_with (is_grant lib r.parent Write) table) ≡ has_parent_grant st lib.0 (Some r)
+  parent_granted lib r = ap (λ t. is_some (first_with (is_grant lib r.parent Write) t)) k.grants ∙ each files
+    where
+      by : (o : Opened) (os : List Opened) (t : Bool) → is_some (first_with (is_grant lib r.parent Write) (map keyed os)) ≡ list_any (λ (g : OpenGrant). g.lib == lib.0 && g.ino == r.parent && is_write g.kind) (map (with_checkpoint cs) (grants_in os))
+          → is_some (if t then Some (keyed o).1 else first_with (is_grant lib r.parent Write) (map keyed os)) ≡ (t || list_any (λ (g : OpenGrant). g.lib == lib.0 && g.ino == r.parent && is_write g.kind) (map (with_checkpoint cs) (grants_in os)))
+      by o os true again = refl
+      by o os false again = again
+
+      same : (kind : GrantKind) → same_kind kind Write ≡ is_write kind
+      same Read = refl
+      same Write = refl
+      same Hold = refl
+
+      each : (os : List Opened) → is_some (first_with (is_grant lib r.parent Write) (map keyed os)) ≡ list_any (λ (g : OpenGrant). g.lib == lib.0 && g.ino == r.parent && is_write g.kind) (map (with_checkpoint cs) (grants_in os))
+      each [] = refl
+      each (o ∷ os) =
+          by o os (o.grant.lib == lib.0 && o.grant.ino == r.parent && same_kind o.grant.kind Write) (each os)
+          ∙ ap (λ (t : Bool). (o.grant.lib == lib.0 && o.grant.ino == r.parent && t) || list_any (λ (g : OpenGrant). g.lib == lib.0 && g.ino == r.parent && is_write g.kind) (map (with_checkpoint cs) (grants_in os))) (same o.grant.kind)
+
+  -- an open grant excludes the one asked
+  busy_step : (kind : GrantKind) (lib : LibNo) (ino : ℕ) (r : Row) (who : Holder) → row_at st.home ino ≡ Some r → denial st lib.0 ino kind ≡ None
+      → option_map holder (first_with (excludes lib ino kind) table) ≡ Some who → Step st (Grant lib.0 ino kind) (NotGranted (Busy who)) st
+  busy_step kind lib ino r who row may answer =
+      let fault = fault_is st lib.0 ino kind r row may ∙ map_busy (slice_get (excluding st lib.0 ino kind) 0) who (sym (table_excluding lib ino kind) ∙ answer) in
       inl (rw fault (refl, refl))
 
   -- the grant isn't admitted
-  pub refused_step : (lib : LibNo) (ino : ℕ) (r : Row) (fault : GrantFault) → row_at st.home ino ≡ Some r → denier rows (creds_of st lib.0) ino ToWrite ≡ None
-      → Admits (excludes lib ino Write) table (Err fault) → Step st (Grant lib.0 ino Write) (grant_fault_answer fault) st
-  refused_step lib ino r (Busy who) row may answer = busy_step lib ino r who row may answer
-  refused_step lib ino r NoMemory row may answer = inr (refl, refl, refl)
-  refused_step lib ino r NotLive row may answer = absurd answer
-  refused_step lib ino r (Denied n) row may answer = absurd answer
-  refused_step lib ino r NoParent row may answer = absurd answer
+  pub refused_step : (kind : GrantKind) (lib : LibNo) (ino : ℕ) (r : Row) (fault : GrantFault) → row_at st.home ino ≡ Some r → denial st lib.0 ino kind ≡ None
+      → Admits (excludes lib ino kind) table (Err fault) → Step st (Grant lib.0 ino kind) (grant_fault_answer fault) st
+  refused_step kind lib ino r (Busy who) row may answer = busy_step kind lib ino r who row may answer
+  refused_step kind lib ino r NoMemory row may answer = inr (refl, refl, refl)
+  refused_step kind lib ino r NotLive row may answer = absurd answer
+  refused_step kind lib ino r (Denied n) row may answer = absurd answer
+  refused_step kind lib ino r NoParent row may answer = absurd answer
 
-  module _ (lib : LibNo) (ino : ℕ) (r : Row) (row : row_at st.home ino ≡ Some r) (free : first_with (excludes lib ino Write) table ≡ None) where
-    no_file : (g : OpenGrant) → In g (grants_in files) → g.ino ≢ ino
-    no_file g i =
+  -- no grant excludes it, and it isn't denied
+  no_fault : (kind : GrantKind) (lib : LibNo) (ino : ℕ) (r : Row) → row_at st.home ino ≡ Some r → denial st lib.0 ino kind ≡ None → first_with (excludes lib ino kind) table ≡ None → grant_fault st lib.0 ino kind ≡ None
+  no_fault kind lib ino r row may free =
+      let none = map_none (slice_get (excluding st lib.0 ino kind) 0) (sym (table_excluding lib ino kind) ∙ no_holder (first_with (excludes lib ino kind) table) free) in
+      fault_is st lib.0 ino kind r row may ∙ ap (option_map (λ g. Busy (holder_of g))) none
+
+  -- ---- the pages of a file that is to be lent
+
+  module _ (kind : GrantKind) (lib : LibNo) (ino : ℕ) (r : Row) (row : row_at st.home ino ≡ Some r) (free : first_with (excludes lib ino kind) table ≡ None) where
+    no_file : (g : OpenGrant) → In g (grants_in files) → g.kind ≡ Write → g.ino ≢ ino
+    no_file g i write =
         let o = map-In (λ (o : Opened). o.grant) g files i in
-        subst (λ (h : OpenGrant). h.ino ≢ ino) (sym o.2) (not_on lib ino files (ap (first_with (excludes lib ino Write)) (sym k.grants) ∙ free) o.0 o.1)
+        subst (λ (h : OpenGrant). h.ino ≢ ino) (sym o.2) (not_written lib ino kind files (ap (first_with (excludes lib ino kind)) (sym k.grants) ∙ free) o.0 o.1 (ap (λ (h : OpenGrant). h.kind) (sym o.2) ∙ write))
 
-    no_grant : (g : OpenGrant) → In g st.open_grants → g.ino ≢ ino
-    no_grant g i =
+    no_grant : (g : OpenGrant) → In g st.open_grants → g.kind ≡ Write → g.ino ≢ ino
+    no_grant g i write =
         let h = map-In (with_checkpoint cs) g (grants_in files) i in
-        subst (λ (x : OpenGrant). x.ino ≢ ino) (sym h.2) (no_file h.0 h.1)
+        subst (λ (x : OpenGrant). x.ino ≢ ino) (sym h.2) (no_file h.0 h.1 (ap (λ (x : OpenGrant). x.kind) (sym h.2) ∙ write))
 
     abbrev home : (c : Chain) × (settled_chain (settled st) r.kind ino ≡ Ok c) × ((p : ℕ) → In p (c.index ++ c.blocks) → (bytes : List ℕ) × (slice_get pages p ≡ Some (Some bytes)) × (page_of core p ≡ Some bytes) × (is_core range p ≡ true)) × (are_new [] (c.index ++ c.blocks) ≡ true) × (length (settled_body (settled st) ino) ≡ 64)
     home = lendable_is_home st ino r kept_now row no_grant
@@ -182,7 +313,7 @@ module _ (s : Store) (first : ℕ) (table : List Keyed) (files : List Opened) (c
           once = home.3;
         })
 
-    pub grant_made : (body : List ℕ) → body ≡ settled_body (settled st) ino → grant_on (core_of pages range) lib.0 ino r.kind entries body chain ≡ opened st lib.0 ino Write r
+    pub grant_made : (body : List ℕ) → body ≡ settled_body (settled st) ino → grant_on (core_of pages range) lib.0 ino kind r.kind entries.made body chain ≡ record (opened st lib.0 ino kind r) { parent = 0; children = 0 }
     unfolding chain
     grant_made body is =
         let c = home.0 in
@@ -190,12 +321,12 @@ module _ (s : Store) (first : ℕ) (table : List Keyed) (files : List Opened) (c
         sheets_same (core_of pages range) core c.index (λ p i. page_same p (In-left p c.index c.blocks i)) ∙ ap (index_sheets core) (sym home.1) in
         let blocks : sheets_of (core_of pages range) c.blocks ≡ block_sheets core (settled_chain (settled st) r.kind ino) =
         sheets_same (core_of pages range) core c.blocks (λ p i. page_same p (In-right p c.index c.blocks i)) ∙ ap (block_sheets core) (sym home.1) in
-        let G : List ℕ → List Sheet → List Sheet → OpenGrant = λ b xs ys. record { lib = lib.0; ino = ino; kind = Write; of = r.kind; entry = entries; body = b; index = xs; blocks = ys; parent = 0; children = 0; checkpoint = covered Write r.kind xs ys } in
+        let G : List ℕ → List Sheet → List Sheet → OpenGrant = λ b xs ys. record { lib = lib.0; ino = ino; kind = kind; of = r.kind; entry = entries.made; body = b; index = lent_sheets kind xs; blocks = lent_sheets kind ys; parent = 0; children = 0; checkpoint = covered kind r.kind (lent_sheets kind xs) (lent_sheets kind ys) } in
         ap (λ b. G b (sheets_of (core_of pages range) c.index) (sheets_of (core_of pages range) c.blocks)) is
         ∙ ap (λ xs. G (settled_body (settled st) ino) xs (sheets_of (core_of pages range) c.blocks)) index
         ∙ ap (G (settled_body (settled st) ino) (index_sheets core (settled_chain (settled st) r.kind ino))) blocks
 
-    lent_are : (body : List ℕ) → lent_pages (grant_on (core_of pages range) lib.0 ino r.kind entries body chain) ≡ chain.index ++ chain.blocks
+    lent_are : (body : List ℕ) → lent_pages (grant_on (core_of pages range) lib.0 ino Write r.kind entries.made body chain) ≡ chain.index ++ chain.blocks
     unfolding chain
     lent_are body =
         let c = home.0 in
@@ -204,22 +335,106 @@ module _ (s : Store) (first : ℕ) (table : List Keyed) (files : List Opened) (c
         ∙ ap (λ l. l ++ sheet_numbers (sheets_of (core_of pages range) c.blocks)) (sheets_all (core_of pages range) c.index (λ p i. some p (In-left p c.index c.blocks i)))
         ∙ ap (λ l. c.index ++ l) (sheets_all (core_of pages range) c.blocks (λ p i. some p (In-right p c.index c.blocks i)))
 
+  -- ---- one grant more
+
+  module _ (kind : GrantKind) (lib : LibNo) (ino key : ℕ) (file : Opened) (table' : List Keyed) (files' : List Opened)
+      (new_keyed : keyed file ≡ (key, record { lib = lib; ino = ino; kind = kind; entry = entries.made })) (more : files' ≡ files ++ file ∷ []) where
+    pub table_is : (AllBelow entries.made table → table' ≡ table ++ (key, record { lib = lib; ino = ino; kind = kind; entry = entries.made }) ∷ []) → table' ≡ map keyed files'
+    table_is put =
+        put (subst (AllBelow entries.made) (sym k.grants) (all_below files k.earlier))
+        ∙ ap (λ l. l ++ (key, record { lib = lib; ino = ino; kind = kind; entry = entries.made }) ∷ []) k.grants
+        ∙ ap (λ x. map keyed files ++ x ∷ []) (sym new_keyed)
+        ∙ sym (map-append keyed files (file ∷ []))
+        ∙ ap (map keyed) (sym more)
+      where
+        all_below : (fs : List Opened) → ((o : Opened) → In o fs → o.grant.entry < entries.made) → AllBelow entries.made (map keyed fs)
+        all_below [] h = λ i d lt. absurd (omega arith)
+        all_below (f ∷ fs) h = All-cons (λ x. x.1.entry < entries.made) (keyed f) (map keyed fs) (h f (inl refl)) (all_below fs (λ o i. h o (inr i)))
+
+    pub keys_once_more : grant_under key table ≡ None → are_new [] (map (λ (o : Opened). o.key) files') ≡ true
+    keys_once_more unused =
+        ap (are_new []) keys_are ∙ are_new-push [] (map (λ (o : Opened). o.key) files) key
+        ∙ ap (λ b. b && not (is_among key (map (λ (o : Opened). o.key) files))) k.keys_once
+        ∙ ap not (none_under files (ap (grant_under key) (sym k.grants) ∙ unused))
+      where
+        none_under : (fs : List Opened) → grant_under key (map keyed fs) ≡ None → is_among key (map (λ o. o.key) fs) ≡ false
+        none_under [] none = refl
+        none_under (f ∷ fs) none = by (λ rest. none_under fs rest) (f.key == key) none
+          where
+            by : (grant_under key (map keyed fs) ≡ None → is_among key (map (λ (o : Opened). o.key) fs) ≡ false) → (b : Bool) → option_map (λ (x : Keyed). x.1) (if b then Some (keyed f) else find (λ (x : Keyed). x.0 == key) (map keyed fs)) ≡ None → (b || is_among key (map (λ o. o.key) fs)) ≡ false
+            by again true none = absurd cc
+            by again false none = again none
+
+        keys_are : map (λ (o : Opened). o.key) files' ≡ map (λ (o : Opened). o.key) files ++ key ∷ []
+        keys_are = ap (map (λ (o : Opened). o.key)) more ∙ map-append (λ (o : Opened). o.key) files (file ∷ []) ∙ ap (λ n. map (λ (o : Opened). o.key) files ++ n ∷ []) (ap (λ (x : Keyed). x.0) new_keyed)
+
+    -- an open grant is an earlier one, or the new one
+    pub by_file : (o : Opened) → In o files' → In o files ⊎ (o ≡ file)
+    by_file o i =
+        elim (In-cases o files (file ∷ []) (subst (In o) more i)) [
+          | inl old ↦ inl old
+          | inr one ↦ elim one [
+            | inl same ↦ inr same
+            | inr none ↦ absurd none
+          ]
+        ]
+
+    pub all_earlier : (entries' : ℕ) → entries' ≡ entries.made + 1 → (o : Opened) → In o files' → o.grant.entry < entries'
+    all_earlier entries' next o i =
+        elim (by_file o i) [
+          | inl old ↦ (let e = k.earlier o old in omega (arith, e, next))
+          | inr same ↦
+              let e : o.grant.entry ≡ entries.made = ap (λ (x : Opened). x.grant.entry) same ∙ ap (λ (x : Keyed). x.1.entry) new_keyed in
+              omega (arith, e, next)
+        ]
+
+    pub all_kinds : (r : Row) → row_at st.home ino ≡ Some r → file.grant.of ≡ r.kind → (o : Opened) → In o files' → IsSomeAnd (row_in rows o.grant.ino) (λ r. r.kind ≡ o.grant.of)
+    all_kinds r row of o i =
+        elim (by_file o i) [
+          | inl old ↦ k.kinds o old
+          | inr same ↦
+              let number : o.grant.ino ≡ ino = ap (λ (x : Opened). x.grant.ino) same ∙ ap (λ (x : Keyed). x.1.ino) new_keyed in
+              subst (λ (x : Option Row). IsSomeAnd x (λ r. r.kind ≡ o.grant.of)) (sym (ap (row_in rows) number ∙ row)) (sym of ∙ ap (λ (x : Opened). x.grant.of) (sym same))
+        ]
+
+    pub reads_more : (promised : ℕ) → promised ≡ (if is_read kind then entries.promised + 1 else entries.promised) → promised ≡ reads_among (grants_in files')
+    reads_more promised is =
+        let of_kind : is_read file.grant.kind ≡ is_read kind = ap (λ (x : Keyed). is_read x.1.kind) new_keyed in
+        is ∙ by (is_read kind) (entries.promised) refl
+        ∙ ap (λ (t : Bool). entries.promised + (if t then 1 else 0)) (sym of_kind)
+        ∙ ap (λ n. n + (if is_read file.grant.kind then 1 else 0)) k.promised
+        ∙ reads_last (grants_in files) file.grant
+        ∙ sym (ap reads_among (ap grants_in more ∙ map-append (λ (o : Opened). o.grant) files (file ∷ [])))
+      where
+        by : (t : Bool) (n : ℕ) → entries.promised ≡ n → (if t then n + 1 else n) ≡ n + (if t then 1 else 0)
+        by true n e = refl
+        by false n e = omega arith
+
+  -- ---- a file that is lent for writing
+
+  module _ (lib : LibNo) (ino : ℕ) (r : Row) (row : row_at st.home ino ≡ Some r) (free : first_with (excludes lib ino Write) table ≡ None) where
+    abbrev listed : Chain
+    listed = chain Write lib ino r row free
+
     -- the file is lent, and its checkpoint kept
-    module _ (key : ℕ) (body : List ℕ) (is : body ≡ settled_body (settled st) ino) (file : Opened) (checkpoint : Checkpointed) (s' : Store) (table' : List Keyed) (files' : List Opened) (entries' : ℕ)
-        (made : file ≡ record { key = key; grant = without_checkpoint (grant_on (core_of pages range) lib.0 ino r.kind entries body chain) })
+    module _ (key : ℕ) (body : List ℕ) (is : body ≡ settled_body (settled st) ino) (file : Opened) (checkpoint : Checkpointed) (s' : Store) (table' : List Keyed) (files' : List Opened) (entries' : Entries)
+        (made : file ≡ record { key = key; grant = without_checkpoint (grant_on (core_of pages range) lib.0 ino Write r.kind entries.made body (chain Write lib ino r row free)) })
         (covers : covered_pages checkpoint ≡ covered_of file.grant.of file.grant.index file.grant.blocks)
-        (gone : s'.home.pages ≡ without_pages (chain.index ++ chain.blocks) pages)
+        (gone : s'.home.pages ≡ without_pages ((chain Write lib ino r row free).index ++ (chain Write lib ino r row free).blocks) pages)
         (rest : s' ≡ record s { home = s'.home; checkpoints = s'.checkpoints })
         (kept_aside : s'.checkpoints.items ≡ slice_set cs ino (Some checkpoint))
-        (more : files' ≡ files ++ file ∷ []) (next : entries' ≡ entries + 1) where
+        (more : files' ≡ files ++ file ∷ []) (next : entries' ≡ record entries { made = entries.made + 1 }) where
       abbrev new : OpenGrant
       new = opened st lib.0 ino Write r
 
       grant_is : file.grant ≡ without_checkpoint new
-      grant_is = ap (λ (o : Opened). o.grant) made ∙ ap without_checkpoint (grant_made body is)
+      grant_is = ap (λ (o : Opened). o.grant) made ∙ ap without_checkpoint (grant_made Write lib ino r row free body is)
 
       pub lease_made : lease_of file.grant ≡ lease_of new
       lease_made = ap lease_of grant_is
+
+      counted : entries'.made ≡ entries.made + 1
+      counted = ap (λ (n : Entries). n.made) next
 
       placed : ino < length cs
       placed = (let l = row_below rows ino r row in omega (arith, l, k.stored.places))
@@ -244,13 +459,13 @@ module _ (s : Store) (first : ℕ) (table : List Keyed) (files : List Opened) (c
       open_are =
           ap (map (with_checkpoint s'.checkpoints.items)) grants_are
           ∙ map-append (with_checkpoint s'.checkpoints.items) (grants_in files) (file.grant ∷ [])
-          ∙ ap (λ l. l ++ with_checkpoint s'.checkpoints.items file.grant ∷ []) (checkpoints_same cs s'.checkpoints.items (grants_in files) (λ g i w. elsewhere g.ino (no_file g i)))
+          ∙ ap (λ l. l ++ with_checkpoint s'.checkpoints.items file.grant ∷ []) (checkpoints_same cs s'.checkpoints.items (grants_in files) (λ g i w. elsewhere g.ino (no_file Write lib ino r row free g i (write_is g.kind w))))
           ∙ ap (λ g. st.open_grants ++ g ∷ []) grant_covers
 
       many : length s'.home.pages ≡ length pages
-      many = ap length gone ∙ length-without (chain.index ++ chain.blocks) pages
+      many = ap length gone ∙ length-without (listed.index ++ listed.blocks) pages
 
-      pub after_is : state_of s' first (grants_in files') creds entries' ≡ opens st new
+      pub after_is : state_of s' first (grants_in files') creds entries'.made ≡ opens st new
       after_is =
           let S : Store → List (Option (List ℕ)) → ℕ → List OpenGrant → ℕ → State = λ (t : Store) ps e gs n. record {
             home = record { core = record { pages = ps; root = t.root; range = record { first = first; end = e }; inodes = length t.rows - 1 }; rows = t.rows; owners = t.owners };
@@ -260,21 +475,18 @@ module _ (s : Store) (first : ℕ) (table : List Keyed) (files : List Opened) (c
             creds = creds;
             entries = n;
           } in
-          let lent : chain.index ++ chain.blocks ≡ lent_pages new = sym (lent_are body) ∙ ap lent_pages (grant_made body is) in
+          let lent : listed.index ++ listed.blocks ≡ lent_pages new = sym (lent_are Write lib ino r row free body) ∙ ap lent_pages (grant_made Write lib ino r row free body is) in
           let away : List (Option (List ℕ)) = without_pages (lent_pages new) pages in
-          ap (λ (t : Store). S t s'.home.pages (length s'.home.pages) (map (with_checkpoint s'.checkpoints.items) (grants_in files')) entries') rest
-          ∙ ap (λ ps. S s ps (length s'.home.pages) (map (with_checkpoint s'.checkpoints.items) (grants_in files')) entries') (gone ∙ ap (λ l. without_pages l pages) lent)
-          ∙ ap (λ e. S s away e (map (with_checkpoint s'.checkpoints.items) (grants_in files')) entries') many
-          ∙ ap (λ gs. S s away (length pages) gs entries') open_are
-          ∙ ap (S s away (length pages) (st.open_grants ++ new ∷ [])) next
+          ap (λ (t : Store). S t s'.home.pages (length s'.home.pages) (map (with_checkpoint s'.checkpoints.items) (grants_in files')) entries'.made) rest
+          ∙ ap (λ ps. S s ps (length s'.home.pages) (map (with_checkpoint s'.checkpoints.items) (grants_in files')) entries'.made) (gone ∙ ap (λ l. without_pages l pages) lent)
+          ∙ ap (λ e. S s away e (map (with_checkpoint s'.checkpoints.items) (grants_in files')) entries'.made) many
+          ∙ ap (λ gs. S s away (length pages) gs entries'.made) open_are
+          ∙ ap (S s away (length pages) (st.open_grants ++ new ∷ [])) counted
 
-      pub granted_step : denier rows (creds_of st lib.0) ino ToWrite ≡ None → Step st (Grant lib.0 ino Write) (Granted 0) (state_of s' first (grants_in files') creds entries')
-      granted_step may =
-          let none = map_none (slice_get (excluding st lib.0 ino Write) 0) (sym (table_excluding lib ino) ∙ no_holder (first_with (excludes lib ino Write) table) free) in
-          let fault : grant_fault st lib.0 ino Write ≡ None = fault_is st lib.0 ino r row may ∙ ap (option_map (λ g. Busy (holder_of g))) none in
-          inl (rw (fault, row) (refl, after_is))
+      pub granted_step : denial st lib.0 ino Write ≡ None → Step st (Grant lib.0 ino Write) (Granted 0) (state_of s' first (grants_in files') creds entries'.made)
+      granted_step may = (let fault = no_fault Write lib ino r row may free in inl (rw (fault, row) (refl, after_is)))
 
-      new_keyed : keyed file ≡ (key, record { lib = lib; ino = ino; kind = Write; entry = entries })
+      new_keyed : keyed file ≡ (key, record { lib = lib; ino = ino; kind = Write; entry = entries.made })
       new_keyed = ap keyed made
 
       file_ino : file.grant.ino ≡ ino
@@ -305,7 +517,7 @@ module _ (s : Store) (first : ℕ) (table : List Keyed) (files : List Opened) (c
           let S : Store → ℕ → Superblock = λ (t : Store) e. record { pages = e; inodes = length t.rows - 1; first_owner = 1 + page_count (32 * (length t.rows - 1)); first_core = first; root = t.root } in
           ap (λ (t : Store). S t (length s'.home.pages)) rest ∙ ap (S s) many
 
-      granted_stored : CoversLent file.grant checkpoint → Kept (state_of s' first (grants_in files') creds entries') → IsStored s' first (grants_in files') creds entries'
+      granted_stored : CoversLent file.grant checkpoint → Kept (state_of s' first (grants_in files') creds entries'.made) → IsStored s' first (grants_in files') creds entries'.made
       granted_stored lent kept = record {
         fits = subst (λ (x : Superblock). IsTrue (superblock_fits x)) (sym same_superblock) k.stored.fits;
         places = ap length kept_aside ∙ length-set cs ino (Some checkpoint) ∙ k.stored.places ∙ sym (ap (λ (t : Store). length t.rows) rest);
@@ -313,7 +525,7 @@ module _ (s : Store) (first : ℕ) (table : List Keyed) (files : List Opened) (c
         covers = λ g i kind. elim (by_open g i) [
           | inl old ↦
               let q = k.stored.covers g old kind in
-              (q.0, elsewhere g.ino (no_file g old) ∙ q.1, q.2)
+              (q.0, elsewhere g.ino (no_file Write lib ino r row free g old kind) ∙ q.1, q.2)
           | inr same ↦ (checkpoint, ap (checkpoint_at s'.checkpoints.items) (ap (λ (x : OpenGrant). x.ino) same ∙ file_ino) ∙ here, subst (λ (x : OpenGrant). CoversLent x checkpoint) (sym same) lent)
         ];
         kept = kept;
@@ -326,57 +538,113 @@ module _ (s : Store) (first : ℕ) (table : List Keyed) (files : List Opened) (c
               (q.0, of_old q.0 q.1, q.2, q.3)
 
       -- what the controller keeps then
-      pub granted_controlled : denier rows (creds_of st lib.0) ino ToWrite ≡ None
-          → (AllBelow entries table → table' ≡ table ++ (key, record { lib = lib; ino = ino; kind = Write; entry = entries }) ∷ [])
+      pub granted_controlled : denial st lib.0 ino Write ≡ None
+          → (AllBelow entries.made table → table' ≡ table ++ (key, record { lib = lib; ino = ino; kind = Write; entry = entries.made }) ∷ [])
           → grant_under key table ≡ None → CoversLent file.grant checkpoint → IsControlled s' first table' files' creds entries'
       granted_controlled may put unused lent = record {
-        stored = granted_stored lent (step_kept st (state_of s' first (grants_in files') creds entries') (Grant lib.0 ino Write) (Granted 0) kept_now tt (granted_step may));
+        stored = granted_stored lent (step_kept st (state_of s' first (grants_in files') creds entries'.made) (Grant lib.0 ino Write) (Granted 0) kept_now tt (granted_step may));
         no_zero = ap (λ (t : Store). lib_at t.allotments.numbers 0) rest ∙ k.no_zero;
         some_libraries = k.some_libraries;
         few_libraries = k.few_libraries;
-        grants =
-            put (subst (AllBelow entries) (sym k.grants) (all_below files k.earlier))
-            ∙ ap (λ l. l ++ (key, record { lib = lib; ino = ino; kind = Write; entry = entries }) ∷ []) k.grants
-            ∙ ap (λ x. map keyed files ++ x ∷ []) (sym new_keyed)
-            ∙ sym (map-append keyed files (file ∷ []))
-            ∙ ap (map keyed) (sym more);
-        keys_once = once;
-        earlier = λ o i. elim (In-cases o files (file ∷ []) (subst (In o) more i)) [
-          | inl old ↦ (let e = k.earlier o old in omega (arith, e, next))
-          | inr here ↦ elim here [
-            | inl same ↦ (let e : o.grant.entry ≡ entries = ap (λ (x : Opened). x.grant.entry) (same ∙ made) in omega (arith, e, next))
-            | inr none ↦ absurd none
-          ]
-        ];
-        writes = λ o i. elim (In-cases o files (file ∷ []) (subst (In o) more i)) [
-          | inl old ↦ k.writes o old
-          | inr here ↦ elim here [
-            | inl same ↦ ap (λ (x : Opened). x.grant.kind) (same ∙ made)
-            | inr none ↦ absurd none
-          ]
-        ];
+        grants = table_is Write lib ino key file table' files' new_keyed more put;
+        keys_once = keys_once_more Write lib ino key file table' files' new_keyed more unused;
+        earlier = all_earlier Write lib ino key file table' files' new_keyed more entries'.made counted;
+        promised = reads_more Write lib ino key file table' files' new_keyed more entries'.promised (ap (λ (n : Entries). n.promised) next);
+        kinds = subst (λ (t : Store). HaveKinds t.rows files') (sym rest) (all_kinds Write lib ino key file table' files' new_keyed more r row (ap (λ (o : Opened). o.grant.of) made));
       }
-        where
-          all_below : (fs : List Opened) → ((o : Opened) → In o fs → o.grant.entry < entries) → AllBelow entries (map keyed fs)
-          all_below [] h = λ i d lt. absurd (omega arith)
-          all_below (f ∷ fs) h = All-cons (λ x. x.1.entry < entries) (keyed f) (map keyed fs) (h f (inl refl)) (all_below fs (λ o i. h o (inr i)))
 
-          none_under : (fs : List Opened) → grant_under key (map keyed fs) ≡ None → is_among key (map (λ o. o.key) fs) ≡ false
-          none_under [] none = refl
-          none_under (f ∷ fs) none = by (λ rest. none_under fs rest) (f.key == key) none
-            where
-              by : (grant_under key (map keyed fs) ≡ None → is_among key (map (λ (o : Opened). o.key) fs) ≡ false) → (b : Bool) → option_map (λ (x : Keyed). x.1) (if b then Some (keyed f) else find (λ (x : Keyed). x.0 == key) (map keyed fs)) ≡ None → (b || is_among key (map (λ o. o.key) fs)) ≡ false
-              by again true none = absurd cc
-              by again false none = again none
+  -- ---- a file that stays at home: it is copied, or held
 
-          keys_are : map (λ (o : Opened). o.key) files' ≡ map (λ (o : Opened). o.key) files ++ key ∷ []
-          keys_are = ap (map (λ (o : Opened). o.key)) more ∙ map-append (λ (o : Opened). o.key) files (file ∷ []) ∙ ap (λ n. map (λ (o : Opened). o.key) files ++ n ∷ []) (ap (λ (o : Opened). o.key) made)
+  module _ (kind : GrantKind) (plain : is_write kind ≡ false) (lib : LibNo) (ino : ℕ) (r : Row) (row : row_at st.home ino ≡ Some r) (free : first_with (excludes lib ino kind) table ≡ None)
+      (key : ℕ) (file : Opened) (s' : Store) (table' : List Keyed) (files' : List Opened) (entries' : Entries)
+      (made : file ≡ record { key = key; grant = opened st lib.0 ino kind r })
+      (same_pages : s'.home.pages ≡ pages) (rest : s' ≡ record s { home = s'.home })
+      (more : files' ≡ files ++ file ∷ []) (counted : entries'.made ≡ entries.made + 1) where
+    abbrev given : OpenGrant
+    given = opened st lib.0 ino kind r
 
-          once : are_new [] (map (λ (o : Opened). o.key) files') ≡ true
-          once =
-              ap (are_new []) keys_are ∙ are_new-push [] (map (λ (o : Opened). o.key) files) key
-              ∙ ap (λ b. b && not (is_among key (map (λ (o : Opened). o.key) files))) k.keys_once
-              ∙ ap not (none_under files (ap (grant_under key) (sym k.grants) ∙ unused))
+    bare : given.checkpoint ≡ []
+    bare = by kind plain
+      where
+        by : (kind : GrantKind) → is_write kind ≡ false → covered kind r.kind given.index given.blocks ≡ []
+        by Read e = refl
+        by Hold e = refl
+        by Write e = absurd (false≢true (sym e))
+
+    no_pages : lent_pages given ≡ []
+    no_pages = ap (λ (t : Bool). if t then sheet_numbers (given.index ++ given.blocks) else []) plain
+
+    uncovered_new : with_checkpoint cs file.grant ≡ given
+    uncovered_new =
+        ap (λ (o : Opened). with_checkpoint cs o.grant) made
+        ∙ ap (λ (t : Bool). record given { checkpoint = if t then covered_at cs ino else [] }) plain
+        ∙ ap (λ (xs : List Sheet). record given { checkpoint = xs }) (sym bare)
+
+    opens_one : map (with_checkpoint cs) (grants_in files') ≡ st.open_grants ++ given ∷ []
+    opens_one =
+        ap (λ fs. map (with_checkpoint cs) (grants_in fs)) more
+        ∙ ap (map (with_checkpoint cs)) (map-append (λ (o : Opened). o.grant) files (file ∷ []))
+        ∙ map-append (with_checkpoint cs) (grants_in files) (file.grant ∷ [])
+        ∙ ap (λ g. st.open_grants ++ g ∷ []) uncovered_new
+
+    -- the store is as it was, but for the count of looks
+    still : (P : Store → Type 0) → ((looked : ℕ) → P (record s { home = record { pages = pages; looked = looked } })) → P s'
+    still P h =
+        subst P (sym rest)
+        (subst (λ ps. P (record s { home = record { pages = ps; looked = s'.home.looked } })) (sym same_pages) (h s'.home.looked))
+
+    opens_it : state_of s' first (grants_in files') creds entries'.made ≡ opens st given
+    opens_it =
+        let S : List OpenGrant → List ℕ → ℕ → State = λ gs gone n. record st { home = with_core_pages st.home (without_pages gone pages); open_grants = gs; entries = n } in
+        still (λ t. state_of t first (grants_in files') creds entries'.made ≡ S (map (with_checkpoint cs) (grants_in files')) [] entries'.made) (λ looked. refl)
+        ∙ ap (λ gs. S gs [] entries'.made) opens_one
+        ∙ ap (λ gone. S (st.open_grants ++ given ∷ []) gone entries'.made) (sym no_pages)
+        ∙ ap (S (st.open_grants ++ given ∷ []) (lent_pages given)) counted
+
+    pub plain_step : (told : ℕ) → told ≡ told_children st.home ino kind → denial st lib.0 ino kind ≡ None → Step st (Grant lib.0 ino kind) (Granted told) (state_of s' first (grants_in files') creds entries'.made)
+    plain_step told children may = (let fault = no_fault kind lib ino r row may free in inl (rw (fault, row) (ap Granted children, opens_it)))
+
+    keyed_new : keyed file ≡ (key, record { lib = lib; ino = ino; kind = kind; entry = entries.made })
+    keyed_new = ap keyed made
+
+    stored_plain : Kept (state_of s' first (grants_in files') creds entries'.made) → IsStored s' first (grants_in files') creds entries'.made
+    stored_plain kept = record {
+      fits = still (λ t. IsTrue (superblock_fits (superblock_at_home t first))) (λ looked. k.stored.fits);
+      places = still (λ t. length t.checkpoints.items ≡ length t.rows) (λ looked. k.stored.places);
+      of_grant = still (λ t. (n : ℕ) (c : Checkpointed) → checkpoint_at t.checkpoints.items n ≡ Some c → (g : OpenGrant) × In g (grants_in files') × (g.kind ≡ Write) × (g.ino ≡ n)) (λ looked n c e. let q = k.stored.of_grant n c e in (q.0, was_open q.0 q.1, q.2, q.3));
+      covers = still (λ t. (g : OpenGrant) → In g (grants_in files') → g.kind ≡ Write → (c : Checkpointed) × (checkpoint_at t.checkpoints.items g.ino ≡ Some c) × CoversLent g c) (λ looked g i write. k.stored.covers g (write_was_open g i write) write);
+      kept = kept;
+    }
+      where
+        was_open : (g : OpenGrant) → In g (grants_in files) → In g (grants_in files')
+        was_open g i = subst (λ fs. In g (grants_in fs)) (sym more) (subst (In g) (sym (map-append (λ (o : Opened). o.grant) files (file ∷ []))) (In-left g (grants_in files) (file.grant ∷ []) i))
+
+        write_was_open : (g : OpenGrant) → In g (grants_in files') → g.kind ≡ Write → In g (grants_in files)
+        write_was_open g i write =
+            elim (In-cases g (grants_in files) (file.grant ∷ []) (subst (In g) (ap grants_in more ∙ map-append (λ (o : Opened). o.grant) files (file ∷ [])) i)) [
+              | inl old ↦ old
+              | inr one ↦ elim one [
+                | inl same ↦
+                    let kind_is : g.kind ≡ kind = ap (λ (x : OpenGrant). x.kind) same ∙ ap (λ (o : Opened). o.grant.kind) made in
+                    absurd (false≢true (sym plain ∙ ap is_write (sym kind_is ∙ write)))
+                | inr none ↦ absurd none
+              ]
+            ]
+
+    pub plain_controlled : (told : ℕ) → told ≡ told_children st.home ino kind → denial st lib.0 ino kind ≡ None
+        → (AllBelow entries.made table → table' ≡ table ++ (key, record { lib = lib; ino = ino; kind = kind; entry = entries.made }) ∷ [])
+        → grant_under key table ≡ None → entries'.promised ≡ (if is_read kind then entries.promised + 1 else entries.promised) → IsControlled s' first table' files' creds entries'
+    plain_controlled told children may put unused promise = record {
+      stored = stored_plain (step_kept st (state_of s' first (grants_in files') creds entries'.made) (Grant lib.0 ino kind) (Granted told) kept_now tt (plain_step told children may));
+      no_zero = still (λ t. lib_at t.allotments.numbers 0 ≡ None) (λ looked. k.no_zero);
+      some_libraries = k.some_libraries;
+      few_libraries = k.few_libraries;
+      grants = table_is kind lib ino key file table' files' keyed_new more put;
+      keys_once = keys_once_more kind lib ino key file table' files' keyed_new more unused;
+      earlier = all_earlier kind lib ino key file table' files' keyed_new more entries'.made counted;
+      promised = reads_more kind lib ino key file table' files' keyed_new more entries'.promised promise;
+      kinds = still (λ t. HaveKinds t.rows files') (λ looked. all_kinds kind lib ino key file table' files' keyed_new more r row (ap (λ (o : Opened). o.grant.of) made));
+    }
 
   -- ---- the settled body
 
@@ -454,7 +722,8 @@ module _ (s : Store) (first : ℕ) (table : List Keyed) (files : List Opened) (c
         grants = k.grants;
         keys_once = k.keys_once;
         earlier = k.earlier;
-        writes = k.writes;
+        promised = k.promised;
+        kinds = k.kinds;
       }
 
 pub kept_either : (s t : State) (P Q : Type 0) → Kept s → (P × (t ≡ logged s)) ⊎ (Q × (t ≡ s)) → Kept t

@@ -11,7 +11,7 @@ use Rattle.std.proofs.lemmas.List.Folds.{list_all-append}
 use Rattle.trio_rights.specs.declared.kind.Kind.{Kind}
 use Rattle.trio_rights.specs.declared.kind.Kind.TheVariants.{Regular, Directory}
 use Rattle.trio_rights.specs.declared.rights.LibNo.{LibNo}
-use Rattle.trio_nodes.specs.declared.grant.GrantKind.TheVariants.{Write}
+use Rattle.trio_nodes.specs.declared.grant.GrantKind.TheVariants.{Read, Write}
 use Rattle.trio_layout.specs.Chain.{Chain}
 use Rattle.trio_layout.specs.Core.{Core, Location, page_of}
 use Rattle.trio_layout.specs.Range.{is_core}
@@ -32,7 +32,7 @@ use Rattle.trio_surveys.proofs.Sheets.{Pages, without_apart}
 use Rattle.trio_lease.specs.Shown.{LentFile, Shown}
 use Rattle.trio_ctl.specs.inner.Lending.{IsLendable}
 use Rattle.trio_laws.specs.OutLaws.{without_checkpoint}
-use Rattle.trio_ctl.specs.Open.{Opened, grant_on, lease_of, untouched}
+use Rattle.trio_ctl.specs.Open.{Opened, grant_on, lease_of, shown_of, untouched}
 use Rattle.trio_ctl.specs.Stored.{CoversLent}
 
 pub sheets_untouched : (xs : List Sheet) → map lent_sheet (map untouched xs) ≡ xs
@@ -72,15 +72,11 @@ next_there pages now range ns i n lt is there new so_far =
     let t = there_at pages range ns i lt there in
     ap (λ m. is_some (get_or now m None)) e ∙ ap is_some (next_home pages now ns i lt new so_far ∙ t.2)
 
-pub next_lent : (pages now : List (Option (List ℕ))) (range : CoreRange) (ns : List ℕ) (i n : ℕ) (bytes : List ℕ) (before after : List LentPage) (page : LentPage) → i < length ns → n ≡ get_or ns i n → are_there (core_of pages range) ns ≡ true → are_new [] ns ≡ true → now ≡ without_pages (take i ns) pages
-    → get_or now n None ≡ Some bytes → page ≡ record { no = record { 0 = n }; page = bytes; touched = false } → before ≡ map untouched (sheets_of (core_of pages range) (take i ns)) → after ≡ before ++ page ∷ []
-    → after ≡ map untouched (sheets_of (core_of pages range) (take (i + 1) ns))
-next_lent pages now range ns i n bytes before after page lt is there new so_far had lent first more =
-    let core : Core = core_of pages range in
-    let e : n ≡ get_or ns i 0 = is ∙ get_or_default ns i n 0 lt in
-    let t = there_at pages range ns i lt there in
-    let same : Some t.0 ≡ Some bytes = sym (next_home pages now ns i lt new so_far ∙ t.2) ∙ ap (λ m. get_or now m None) (sym e) ∙ had in
-    let here : page_of core n ≡ Some bytes = ap (page_of core) e ∙ t.1 ∙ same in
+-- one page more of those that are lent, of which this is the next
+more_lent : (core : Core) (ns : List ℕ) (i n : ℕ) (bytes : List ℕ) (before after : List LentPage) (page : LentPage) → i < length ns → n ≡ get_or ns i n → page_of core n ≡ Some bytes
+    → page ≡ record { no = record { 0 = n }; page = bytes; touched = false } → before ≡ map untouched (sheets_of core (take i ns)) → after ≡ before ++ page ∷ []
+    → after ≡ map untouched (sheets_of core (take (i + 1) ns))
+more_lent core ns i n bytes before after page lt is here lent first more =
     let one : sheets_of core (n ∷ []) ≡ record { page = n; bytes = bytes } ∷ [] = ap (λ o. cons_option (option_map (λ bytes. record { page = n; bytes = bytes }) o) []) here in
     let up : i + 1 ≡ suc i = omega arith in
     let longer : take (i + 1) ns ≡ take i ns ++ n ∷ [] = ap (λ k. take k ns) up ∙ take-suc ns i n lt ∙ ap (λ m. take i ns ++ m ∷ []) (sym is) in
@@ -90,6 +86,33 @@ next_lent pages now range ns i n bytes before after page lt is there new so_far 
     ∙ ap (λ l. map untouched (sheets_of core (take i ns) ++ l)) (sym one)
     ∙ ap (map untouched) (sym (filter_map-append (λ page. option_map (λ bytes. record { page = page; bytes = bytes }) (page_of core page)) (take i ns) (n ∷ [])))
     ∙ ap (λ l. map untouched (sheets_of core l)) (sym longer)
+
+pub next_lent : (pages now : List (Option (List ℕ))) (range : CoreRange) (ns : List ℕ) (i n : ℕ) (bytes : List ℕ) (before after : List LentPage) (page : LentPage) → i < length ns → n ≡ get_or ns i n → are_there (core_of pages range) ns ≡ true → are_new [] ns ≡ true → now ≡ without_pages (take i ns) pages
+    → get_or now n None ≡ Some bytes → page ≡ record { no = record { 0 = n }; page = bytes; touched = false } → before ≡ map untouched (sheets_of (core_of pages range) (take i ns)) → after ≡ before ++ page ∷ []
+    → after ≡ map untouched (sheets_of (core_of pages range) (take (i + 1) ns))
+next_lent pages now range ns i n bytes before after page lt is there new so_far had lent first more =
+    let core : Core = core_of pages range in
+    let e : n ≡ get_or ns i 0 = is ∙ get_or_default ns i n 0 lt in
+    let t = there_at pages range ns i lt there in
+    let same : Some t.0 ≡ Some bytes = sym (next_home pages now ns i lt new so_far ∙ t.2) ∙ ap (λ m. get_or now m None) (sym e) ∙ had in
+    more_lent core ns i n bytes before after page lt is (ap (page_of core) e ∙ t.1 ∙ same) lent first more
+
+-- the next page that is copied is at home
+pub next_copy_there : (pages now : List (Option (List ℕ))) (range : CoreRange) (ns : List ℕ) (i n : ℕ) → i < length ns → n ≡ get_or ns i n → are_there (core_of pages range) ns ≡ true → now ≡ pages → is_some (get_or now n None) ≡ true
+next_copy_there pages now range ns i n lt is there same =
+    let e : n ≡ get_or ns i 0 = is ∙ get_or_default ns i n 0 lt in
+    let t = there_at pages range ns i lt there in
+    ap (λ ps. is_some (get_or ps n None)) same ∙ ap (λ m. is_some (get_or pages m None)) e ∙ ap is_some t.2
+
+pub next_copied : (pages now : List (Option (List ℕ))) (range : CoreRange) (ns : List ℕ) (i n : ℕ) (bytes : List ℕ) (before after : List LentPage) (page : LentPage) → i < length ns → n ≡ get_or ns i n → are_there (core_of pages range) ns ≡ true → now ≡ pages
+    → get_or now n None ≡ Some bytes → page ≡ record { no = record { 0 = n }; page = bytes; touched = false } → before ≡ map untouched (sheets_of (core_of pages range) (take i ns)) → after ≡ before ++ page ∷ []
+    → after ≡ map untouched (sheets_of (core_of pages range) (take (i + 1) ns))
+next_copied pages now range ns i n bytes before after page lt is there same had lent first more =
+    let core : Core = core_of pages range in
+    let e : n ≡ get_or ns i 0 = is ∙ get_or_default ns i n 0 lt in
+    let t = there_at pages range ns i lt there in
+    let one : Some t.0 ≡ Some bytes = sym t.2 ∙ ap (λ m. get_or pages m None) (sym e) ∙ ap (λ ps. get_or ps n None) (sym same) ∙ had in
+    more_lent core ns i n bytes before after page lt is (ap (page_of core) e ∙ t.1 ∙ one) lent first more
 
 without-append : (ns ms : List ℕ) (pages : List (Option (List ℕ))) → without_pages (ns ++ ms) pages ≡ without_pages ms (without_pages ns pages)
 without-append [] ms pages = refl
@@ -108,6 +131,9 @@ there_parts core xs ys all = and_parts (are_there core xs) (are_there core ys) (
 
 pub index_there : (core : Core) (c : Chain) → IsLendable core c → are_there core c.index ≡ true
 index_there core c l = (there_parts core c.index c.blocks l.there).0
+
+pub blocks_at_home : (core : Core) (c : Chain) → IsLendable core c → are_there core c.blocks ≡ true
+blocks_at_home core c l = (there_parts core c.index c.blocks l.there).1
 
 pub covered_there : (core : Core) (kind : Kind) (c : Chain) → IsLendable core c → are_there core (covered_numbers kind c.blocks) ≡ true
 covered_there core Regular c l = refl
@@ -158,23 +184,23 @@ both_gone pages now after c first second = second ∙ ap (without_pages c.blocks
 pub opened_is : (o : Opened) (key lib ino entry : ℕ) (of : Kind) (body : List ℕ) (index blocks : List LentPage) (core : Core) (c x : Chain)
     → o ≡ record { key = key; grant = record { lib = lib; ino = ino; kind = Write; of = of; entry = entry; body = body; index = map lent_sheet index; blocks = map lent_sheet blocks; parent = 0; children = 0; checkpoint = [] } }
     → index ≡ map untouched (sheets_of core c.index) → blocks ≡ map untouched (sheets_of core c.blocks) → c ≡ x
-    → o ≡ record { key = key; grant = without_checkpoint (grant_on core lib ino of entry body x) }
+    → o ≡ record { key = key; grant = without_checkpoint (grant_on core lib ino Write of entry body x) }
 opened_is o key lib ino entry of body index blocks core c x made first second same =
     let G : List Sheet → List Sheet → Opened = λ is bs. record { key = key; grant = record { lib = lib; ino = ino; kind = Write; of = of; entry = entry; body = body; index = is; blocks = bs; parent = 0; children = 0; checkpoint = [] } } in
     made
     ∙ ap (λ l. G l (map lent_sheet blocks)) (ap (map lent_sheet) first ∙ sheets_untouched (sheets_of core c.index))
     ∙ ap (G (sheets_of core c.index)) (ap (map lent_sheet) second ∙ sheets_untouched (sheets_of core c.blocks))
-    ∙ ap (λ (d : Chain). record { key = key; grant = without_checkpoint (grant_on core lib ino of entry body d) }) same
+    ∙ ap (λ (d : Chain). record { key = key; grant = without_checkpoint (grant_on core lib ino Write of entry body d) }) same
 
 -- the checkpoint is that of the grant
 pub checkpoint_is : (o : Opened) (key lib ino entry : ℕ) (of : Kind) (body : List ℕ) (core : Core) (k : Checkpointed)
-    → o ≡ record { key = key; grant = without_checkpoint (grant_on core lib ino of entry body k.chain) }
+    → o ≡ record { key = key; grant = without_checkpoint (grant_on core lib ino Write of entry body k.chain) }
     → covered_pages k ≡ covered_of of (sheets_of core k.chain.index) (sheets_of core k.chain.blocks)
     → covered_pages k ≡ covered_of o.grant.of o.grant.index o.grant.blocks
 checkpoint_is o key lib ino entry of body core k made told = told ∙ ap (λ (p : Opened). covered_of p.grant.of p.grant.index p.grant.blocks) (sym made)
 
 pub checkpoint_covers : (o : Opened) (key lib ino entry : ℕ) (of : Kind) (body : List ℕ) (core : Core) (k : Checkpointed)
-    → o ≡ record { key = key; grant = without_checkpoint (grant_on core lib ino of entry body k.chain) }
+    → o ≡ record { key = key; grant = without_checkpoint (grant_on core lib ino Write of entry body k.chain) }
     → k.index ≡ sheets_of core k.chain.index → k.blocks ≡ sheets_of core (covered_numbers of k.chain.blocks)
     → CoversLent o.grant k
 checkpoint_covers o key lib ino entry of body core k made first second =
@@ -197,6 +223,33 @@ lease_is o l key ino entry lib of body index blocks xs ys made first second leas
     ∙ ap (λ ps. S ps blocks) (again index xs first)
     ∙ ap (λ ps. S (map untouched (map lent_sheet index)) ps) (again blocks ys second)
     ∙ ap (λ (q : Opened). lease_of q.grant) (sym made)
+
+-- ---- the grant of a copied file, and its lease
+
+pub read_is : (o : Opened) (key lib ino entry : ℕ) (of : Kind) (body : List ℕ) (index blocks : List LentPage) (core : Core) (c x : Chain)
+    → o ≡ record { key = key; grant = record { lib = lib; ino = ino; kind = Read; of = of; entry = entry; body = body; index = map lent_sheet index; blocks = map lent_sheet blocks; parent = 0; children = 0; checkpoint = [] } }
+    → index ≡ map untouched (sheets_of core c.index) → blocks ≡ map untouched (sheets_of core c.blocks) → c ≡ x
+    → o ≡ record { key = key; grant = grant_on core lib ino Read of entry body x }
+read_is o key lib ino entry of body index blocks core c x made first second same =
+    let G : List Sheet → List Sheet → Opened = λ is bs. record { key = key; grant = record { lib = lib; ino = ino; kind = Read; of = of; entry = entry; body = body; index = is; blocks = bs; parent = 0; children = 0; checkpoint = [] } } in
+    made
+    ∙ ap (λ l. G l (map lent_sheet blocks)) (ap (map lent_sheet) first ∙ sheets_untouched (sheets_of core c.index))
+    ∙ ap (G (sheets_of core c.index)) (ap (map lent_sheet) second ∙ sheets_untouched (sheets_of core c.blocks))
+    ∙ ap (λ (d : Chain). record { key = key; grant = grant_on core lib ino Read of entry body d }) same
+
+pub shown_is : (o : Opened) (l : Shown) (key ino entry : ℕ) (lib : LibNo) (of : Kind) (body : List ℕ) (index blocks : List LentPage) (xs ys : List Sheet)
+    → o ≡ record { key = key; grant = record { lib = lib.0; ino = ino; kind = Read; of = of; entry = entry; body = body; index = map lent_sheet index; blocks = map lent_sheet blocks; parent = 0; children = 0; checkpoint = [] } }
+    → index ≡ map untouched xs → blocks ≡ map untouched ys
+    → l ≡ record { lib = lib; ino = ino; kind = of; entry = entry; body = body; index = index; blocks = blocks }
+    → l ≡ shown_of o.grant
+shown_is o l key ino entry lib of body index blocks xs ys made first second leased =
+    let S : List LentPage → List LentPage → Shown = λ is bs. record { lib = lib; ino = ino; kind = of; entry = entry; body = body; index = is; blocks = bs } in
+    let again : (ps : List LentPage) (zs : List Sheet) → ps ≡ map untouched zs → ps ≡ map untouched (map lent_sheet ps) =
+    λ ps zs e. e ∙ ap (map untouched) (sym (sheets_untouched zs) ∙ ap (map lent_sheet) (sym e)) in
+    leased
+    ∙ ap (λ ps. S ps blocks) (again index xs first)
+    ∙ ap (λ ps. S (map untouched (map lent_sheet index)) ps) (again blocks ys second)
+    ∙ ap (λ (q : Opened). shown_of q.grant) (sym made)
 
 pub read_or : Chain → Result Chain Location → Chain
 read_or c (Ok x) = x

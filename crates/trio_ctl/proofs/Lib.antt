@@ -20,3 +20,5 @@ pub mod Concluding
 pub mod Judging
 pub mod Cases
 pub mod Given
+pub mod GivingBack
+pub mod PartedHolds

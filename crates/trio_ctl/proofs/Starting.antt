@@ -26,6 +26,7 @@ use Rattle.trio_checkpoint.specs.Covered.{Checkpointed}
 use Rattle.trio_commit.specs.declared.store.Store.{Store}
 use Rattle.trio_commit.specs.Store.{checkpoint_at, state_of, with_checkpoint}
 use Rattle.trio_ctl.specs.Ctl.{IsControlled}
+use Rattle.trio_ctl.specs.Entries.{Entries, reads_among}
 use Rattle.trio_ctl.specs.Open.{Opened, grants_in, keyed}
 use Rattle.trio_ctl.specs.Stored.{superblock_at_home}
 use Rattle.trio_ctl.proofs.Wholes.{cond_there, whole_at, whole_none}
@@ -52,9 +53,9 @@ none_at k n cs e = ap (λ l. checkpoint_at l n) e ∙ nowhere k n
     nowhere (suc k) (suc n) = nowhere k n
 
 -- what the controller is at its start
-module _ (sb : Superblock) (pages : List (Option (List ℕ))) (s : Store) (first : ℕ) (files : List Opened) (creds : List Creds) (entries : ℕ) (v : IsVerified sb pages)
+module _ (sb : Superblock) (pages : List (Option (List ℕ))) (s : Store) (first : ℕ) (files : List Opened) (creds : List Creds) (entries : Entries) (v : IsVerified sb pages)
     (home : s.home.pages ≡ pages) (root : s.root ≡ sb.root) (rows : s.rows ≡ (image_in sb pages).rows) (owners : s.owners ≡ (image_in sb pages).owners)
-    (outs : s.allotments ≡ nothing_out sb.pages sb.inodes) (core : first ≡ sb.first_core) (empty : files ≡ []) (new : entries ≡ 0) where
+    (outs : s.allotments ≡ nothing_out sb.pages sb.inodes) (core : first ≡ sb.first_core) (empty : files ≡ []) (new : entries ≡ record { made = 0; promised = 0 }) where
   count : length s.home.pages ≡ sb.pages
   count = ap length home ∙ v.whole.count
 
@@ -64,7 +65,7 @@ module _ (sb : Superblock) (pages : List (Option (List ℕ))) (s : Store) (first
   numbers : length s.rows - 1 ≡ sb.inodes
   numbers = omega (arith, many)
 
-  pub state_started : state_of s first (grants_in files) creds entries ≡ start (image_in sb pages) creds
+  pub state_started : state_of s first (grants_in files) creds entries.made ≡ start (image_in sb pages) creds
   state_started =
       let S : List (Option (List ℕ)) → List ℕ → ℕ → ℕ → ℕ → List (Option Row) → List ℕ → List Opened → OutByNumber → State =
       λ ps rt f e n rs os fs (po : OutByNumber). record {
@@ -76,7 +77,7 @@ module _ (sb : Superblock) (pages : List (Option (List ℕ))) (s : Store) (first
         entries = 0;
       } in
       let image = image_in sb pages in
-      ap (state_of s first (grants_in files) creds) new
+      ap (λ (n : Entries). state_of s first (grants_in files) creds n.made) new
       ∙ ap (λ x. S x s.root first (length s.home.pages) (length s.rows - 1) s.rows s.owners files s.allotments) home
       ∙ ap (λ x. S pages x first (length s.home.pages) (length s.rows - 1) s.rows s.owners files s.allotments) root
       ∙ ap (λ x. S pages sb.root x (length s.home.pages) (length s.rows - 1) s.rows s.owners files s.allotments) core
@@ -113,7 +114,8 @@ module _ (sb : Superblock) (pages : List (Option (List ℕ))) (s : Store) (first
     grants = none ∙ ap (map keyed) (sym empty);
     keys_once = ap (λ fs. are_new [] (map (λ (o : Opened). o.key) fs)) empty;
     earlier = λ o i. absurd (no_file o i);
-    writes = λ o i. absurd (no_file o i);
+    promised = ap (λ (n : Entries). n.promised) new ∙ ap (λ fs. reads_among (grants_in fs)) (sym empty);
+    kinds = λ o i. absurd (no_file o i);
   }
     where
       not_there : (n : ℕ) (c : Checkpointed) → checkpoint_at s.checkpoints.items n ≡ Some c → ⊥

@@ -190,3 +190,13 @@ module _ (s : Superblock) (pages : List (Option (List ℕ))) (rows : List (Optio
     where
       tells_by : (made : ImagePages) (t : Superblock) (ps : List (Option (List ℕ))) → made.superblock ≡ t → made.pages ≡ ps → TellsSettled now (record { superblock = t; pages = ps }) → TellsSettled now made
       tells_by made t ps same is h = subst (λ (x : ImagePages). TellsSettled now x) (rw (← same, ← is) refl) h
+
+-- what tells the settled image of a state tells that of another that settles the same and has the same pages out
+pub tells_alike : (s v : State) (made : ImagePages) → settled s ≡ settled v → s.pages_out ≡ v.pages_out → TellsSettled s made → TellsSettled v made
+tells_alike s v made same outs t = record {
+  superblock = subst (λ (i : Image). made.superblock ≡ superblock_for i.core) same t.superblock;
+  zeros = subst (λ (i : Image). StoresImage made.superblock (with_zeros i) made.pages) same t.zeros;
+  stores = λ none. subst (λ (i : Image). StoresImage made.superblock i made.pages) same (t.stores (subst NoneOut (sym outs) none));
+  tables = subst (λ (i : Image). TablesAre made.superblock made.pages i.rows i.owners) same t.tables;
+  verified = t.verified;
+}

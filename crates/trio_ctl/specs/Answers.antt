@@ -5,6 +5,8 @@ use Rattle.trio_grants.specs.declared.grant.Grant.{Grant}
 use Rattle.trio_grants.specs.Grants.{Keyed, first_with, holder}
 use Rattle.trio_nodes.specs.declared.grant.Holder.{Holder}
 use Rattle.trio_lease.specs.declared.fresh.Allotted.{Allotted}
+use Rattle.trio_lease.specs.declared.lease.Lease.{Lease}
+use Rattle.trio_lease.specs.declared.lease.Lease.TheVariants.{Write as WriteLent, Read as ReadLent, Hold as HoldLent}
 use Rattle.trio_allot.specs.Out.{inode_numbers, page_numbers}
 use Rattle.trio_nodes.specs.declared.answers.AllotFault.{AllotFault}
 use Rattle.trio_nodes.specs.declared.answers.AllotFault.TheVariants.{NoPages as NoFreePages, NoInodes as NoFreeInodes, NoMemory as NoAllotMemory}
@@ -18,13 +20,18 @@ use Rattle.trio_state.specs.Step.{CtlAnswer, Granted, NotGranted, Given, NoPages
 use Rattle.trio_ctl.specs.declared.image.ImageFault.{ImageFault}
 use Rattle.trio_ctl.specs.declared.image.ImageFault.TheVariants.{Busy, NoMemory as NoImageMemory}
 
--- a write grant tells no children
 abbrev pub grant_fault_answer : GrantFault → CtlAnswer
 grant_fault_answer NoGrantMemory = NoMemory
 grant_fault_answer fault = NotGranted fault
 
-abbrev pub grant_answer : {L : Type 0} → Result L GrantFault → CtlAnswer
-grant_answer (Ok lease) = Granted 0
+-- a hold tells the number of the file's children, any other lease 0
+abbrev pub children_told : Lease → ℕ
+children_told (WriteLent lease) = 0
+children_told (ReadLent lease) = 0
+children_told (HoldLent hold) = hold.children
+
+abbrev pub grant_answer : Result Lease GrantFault → CtlAnswer
+grant_answer (Ok lease) = Granted (children_told lease)
 grant_answer (Err fault) = grant_fault_answer fault
 
 abbrev pub release_fault_answer : ReleaseFault → CtlAnswer

@@ -1,11 +1,11 @@
 -- What the controller keeps, as the state of which its steps speak.
 use Rattle.std.specs.Prelude.{◌≡◌, ℕ, ◌+◌, ◌*◌, ◌<◌, ◌≤◌, List, [], map, Option, None, Some, length, IsTrue}
 use Rattle.std.specs.List.{find}
-use Rattle.std.specs.Option.{option_map}
+use Rattle.std.specs.Option.{IsSomeAnd, option_map}
 use Rattle.trio_page.specs.Field.{zeros}
+use Rattle.trio_rights.specs.Row.{Row, row_in}
 use Rattle.trio_rights.specs.declared.rights.Creds.{Creds}
 use Rattle.trio_rights.specs.declared.rights.LibNo.{LibNo}
-use Rattle.trio_nodes.specs.declared.grant.GrantKind.TheVariants.{Write}
 use Rattle.trio_nodes.specs.declared.grant.Holder.{Holder}
 use Rattle.trio_nodes.specs.GrantKinds.{is_write}
 use Rattle.trio_grants.specs.Grants.{Keyed}
@@ -20,6 +20,7 @@ use Rattle.trio_tables.specs.Out.{NoneOut, lib_at}
 use Rattle.trio_survey.specs.Stored.{StoresImage}
 use Rattle.trio_image.specs.Image.{ImagePages, IsVerified, TablesAre}
 use Rattle.trio_commit.specs.declared.store.Store.{Store}
+use Rattle.trio_ctl.specs.Entries.{Entries, reads_among}
 use Rattle.trio_ctl.specs.Open.{Opened, grants_in, keyed}
 use Rattle.trio_ctl.specs.Stored.{IsStored}
 
@@ -38,17 +39,23 @@ pub record Controller : Type 0 where
   pub state : State
   pub looked : ℕ
 
+-- the file of each of these grants is live, and of the kind that the grant lent
+abbrev pub HaveKinds : List (Option Row) → List Opened → Type 0
+HaveKinds rows files = (o : Opened) → In o files → IsSomeAnd (row_in rows o.grant.ino) (λ r. r.kind ≡ o.grant.of)
+
 -- What holds of what the controller keeps: the store is that of the open grants, the number 0 isn't out, there are 1 to 16
--- libraries, and the table of grants has just the open ones, which are write grants of earlier entries under keys of their own.
-pub record IsControlled (s : Store) (first_core : ℕ) (table : List Keyed) (files : List Opened) (creds : List Creds) (entries : ℕ) : Type 0 where
-  pub stored : IsStored s first_core (grants_in files) creds entries
+-- libraries, the table of grants has just the open ones, which are of earlier entries under keys of their own, and an entry is
+-- promised for each open read grant; the file of each grant is of the grant's kind.
+pub record IsControlled (s : Store) (first_core : ℕ) (table : List Keyed) (files : List Opened) (creds : List Creds) (entries : Entries) : Type 0 where
+  pub stored : IsStored s first_core (grants_in files) creds entries.made
   pub no_zero : lib_at s.allotments.numbers 0 ≡ None
   pub some_libraries : 1 ≤ length creds
   pub few_libraries : length creds ≤ 16
   pub grants : table ≡ map keyed files
   pub keys_once : IsTrue (are_new [] (map (λ o. o.key) files))
-  pub earlier : (o : Opened) → In o files → o.grant.entry < entries
-  pub writes : (o : Opened) → In o files → o.grant.kind ≡ Write
+  pub earlier : (o : Opened) → In o files → o.grant.entry < entries.made
+  pub promised : entries.promised ≡ reads_among (grants_in files)
+  pub kinds : HaveKinds s.rows files
 
 -- the library is one of the controller's
 abbrev pub IsLibrary : LibNo → State → Type 0

@@ -1,5 +1,7 @@
+pub mod Entries
 pub mod Stored
 pub mod Ctl
 pub mod Open
+pub mod HandedIn
 pub mod Answers
 pub mod inner

@@ -1,5 +1,6 @@
-pub mod Closing
-pub mod Histories
+pub mod Denials
 pub mod Lending
 pub mod Outcomes
 pub mod Pages
+pub mod Parting
+pub mod Reads

@@ -29,7 +29,7 @@ impl Ctl {
         ensures was_kept { Kept self.old.state }
         ensures kept { Kept self.new.state }
     {
-        let Ok(()) = self.history.make_room() else {
+        let Ok(()) = self.history.make_room(1) else {
             return Err(AllotFault::NoMemory);
         };
         let given = self.store.allotments.take(

@@ -39,7 +39,7 @@ impl Model for Ctl {
     ghost Value = { Controller };
 
     ghost view = { λ c. record {
-      state = state_of c.store c.first_core (grants_in c.files.items) c.libs.items c.history;
+      state = state_of c.store c.first_core (grants_in c.files.items) c.libs.items c.history.made;
       looked = c.store.home.looked;
     } };
 

@@ -1,11 +1,10 @@
 //! Grants.
 
 ghost use Rattle.std.specs.Prelude.{◌≡◌, ◌⊎◌, ◌++◌, ◌∷◌, [], IfOk, OnErr, None, Some};
-ghost use Rattle.std.specs.Option.{IsSomeAnd};
-ghost use Rattle.trio_rights.specs.declared.rights.Need.TheVariants.{Write as ToWrite};
+ghost use Rattle.std.specs.Option.{IsSomeAnd, option_map};
 ghost use Rattle.trio_rights.specs.May.{denier};
 ghost use Rattle.trio_nodes.specs.declared.grant.GrantKind.TheVariants.{Write};
-ghost use Rattle.trio_nodes.specs.declared.answers.GrantFault.TheVariants.{NoMemory as NoGrantMemory};
+ghost use Rattle.trio_nodes.specs.declared.answers.GrantFault.TheVariants.{Denied as DeniedBy, NoMemory as NoGrantMemory};
 ghost use Rattle.trio_tables.specs.Row.{as_row};
 ghost use Rattle.trio_grants.specs.Grants.{AllBelow, HasKey, excludes, grant_under, without};
 ghost use Rattle.trio_layout.specs.Image.{row_at};
@@ -15,91 +14,106 @@ ghost use Rattle.trio_state.specs.State.{creds_of, logged};
 ghost use Rattle.trio_state.specs.Step.{Grant, Step};
 ghost use Rattle.trio_ctl.specs.Answers.{grant_answer, Admits};
 ghost use Rattle.trio_ctl.specs.Ctl.{IsLibrary};
-ghost use Rattle.trio_ctl.specs.Open.{lease_of};
+ghost use Rattle.trio_ctl.specs.Open.{lent_by};
+ghost use Rattle.trio_ctl.specs.inner.Denials.{denial};
 
 use crate::ctl::Ctl;
 use crate::lend::{GrantRequest, Loan, lend, settled_body};
 use trio_grants::{AdmitFault, GrantKey, GrantTable};
-use trio_lease::{Lease, WriteLease};
+use trio_lease::Lease;
 use trio_nodes::{GrantFault, GrantKind};
 use trio_page::NoMemory;
 use trio_rights::{LibNo, Need};
 use trio_tables::Row;
 
 impl Ctl {
-    /// Grants a live file to a library. A write grant lends the file's body, its index pages and its
-    /// blocks, which leave home by move; what it covers is kept aside. Only write grants are given
-    /// yet: that the kind is `Write` is the caller's condition until there are read grants and holds.
+    /// Grants a live file to a library.
     ///
-    /// `NotLive` exactly where no live file has the number; `Denied` exactly where a number on the
-    /// way from the root denies what is needed, the first such number; `Busy` exactly where an open
-    /// grant is on the file, with the one of the lowest entry. After `NoMemory`, which may come in
-    /// place of each of them, nothing changed; a history that has as many entries as a `u64` counts
-    /// has no memory for one more.
+    /// A write grant lends the file's body, its index pages and its blocks, which leave home by move;
+    /// what it covers is kept aside. A read grant lends copies of them, as they are settled, and room
+    /// is made for the entry of its end. A hold lends the settled body, and tells the directory that
+    /// lists the file and the number of its children.
+    ///
+    /// `NotLive` exactly where no live file has the number; `Denied`, of reading and writing, exactly
+    /// where a number on the way from the root denies what is needed, the first such number;
+    /// `NoParent`, of a hold, exactly where the library has no write grant on the file's directory;
+    /// `Busy` exactly where an open grant on the file excludes the one asked, with the one of the
+    /// lowest entry. After `NoMemory`, which may come in place of each of them, nothing changed; a
+    /// history that has or has promised as many entries as a `u64` counts has no memory for more.
     pub fn grant(&mut self, lib: LibNo, ino: u32, kind: GrantKind) -> Result<Lease, GrantFault>
         requires library { IsLibrary lib self.old.state }
-        requires write { kind ≡ Write }
         ensures step { Step self.old.state (Grant lib.0 ino kind) (grant_answer result) self.new.state }
         ensures lease { IfOk result (λ lease. IsSomeAnd (row_at self.old.state.home ino)
-            (λ r. lease ≡ Lease.Write (lease_of (opened self.old.state lib.0 ino kind r)))) }
-        ensures was_kept { Kept self.old.state }
-        ensures kept { Kept self.new.state }
-    {
-        match kind {
-            GrantKind::Write => match self.grant_write(lib, ino) {
-                Ok(lease) => Ok(Lease::Write(lease)),
-                Err(fault) => Err(fault),
-            },
-            GrantKind::Read | GrantKind::Hold => unreachable!(),
-        }
-    }
-
-    // lends a live file for writing
-    fn grant_write(&mut self, lib: LibNo, ino: u32) -> Result<WriteLease, GrantFault>
-        requires library { IsLibrary lib self.old.state }
-        ensures step { Step self.old.state (Grant lib.0 ino Write) (grant_answer result) self.new.state }
-        ensures lease { IfOk result (λ lease. IsSomeAnd (row_at self.old.state.home ino)
-            (λ r. lease ≡ lease_of (opened self.old.state lib.0 ino Write r))) }
+            (λ r. lease ≡ lent_by (opened self.old.state lib.0 ino kind r))) }
         ensures was_kept { Kept self.old.state }
         ensures kept { Kept self.new.state }
     {
         let Some(row) = self.store.rows.row(ino) else {
             return Err(self.log_refusal(GrantFault::NotLive));
         };
-        if let Err(denier) = self.store.rows.may(self.creds(lib), ino, Need::Write) {
-            return Err(self.log_refusal(GrantFault::Denied(denier)));
+        if let Some(fault) = self.denial(lib, ino, kind, &row) {
+            return Err(self.log_refusal(fault));
         }
-        self.lend_file(lib, ino, &row)
+        match kind {
+            GrantKind::Read => self.lend_copies(lib, ino, &row),
+            GrantKind::Write => self.lend_file(lib, ino, &row),
+            GrantKind::Hold => self.lend_hold(lib, ino, &row),
+        }
+    }
+
+    // why a live file that has this row isn't granted, whatever grants are open on it
+    fn denial(&self, lib: LibNo, ino: u32, kind: GrantKind, row: &Row) -> Option<GrantFault>
+        requires library { IsLibrary lib self.now.state }
+        requires live { row_at self.now.state.home ino ≡ Some (as_row row.now) }
+        ensures { result ≡ denial self.now.state lib.0 ino kind }
+    {
+        match kind {
+            GrantKind::Read => self.denied(lib, ino, Need::Read),
+            GrantKind::Write => self.denied(lib, ino, Need::Write),
+            GrantKind::Hold => self.parentless(lib, row),
+        }
+    }
+
+    // the first number on the way from the root that denies a library what it needs of a file
+    fn denied(&self, lib: LibNo, ino: u32, need: Need) -> Option<GrantFault>
+        requires library { IsLibrary lib self.now.state }
+        ensures { result ≡ option_map DeniedBy (denier self.now.state.home.rows (creds_of self.now.state lib.0) ino need) }
+    {
+        match self.store.rows.may(self.creds(lib), ino, need) {
+            Ok(()) => None,
+            Err(denier) => Some(GrantFault::Denied(denier)),
+        }
     }
 
     // one entry more in the history, for a refusal; or want of memory for it
     fn log_refusal(&mut self, fault: GrantFault) -> GrantFault
         ensures { ((result ≡ fault) × (self.new.state ≡ logged self.old.state)) ⊎ ((result ≡ NoGrantMemory) × (self.new.state ≡ self.old.state)) }
     {
-        if let Err(NoMemory) = self.history.make_room() {
+        if let Err(NoMemory) = self.history.make_room(1) {
             return GrantFault::NoMemory;
         }
         self.history.enter();
         fault
     }
 
-    // lends a file that has this row and denies nothing
-    fn lend_file(&mut self, lib: LibNo, ino: u32, row: &Row) -> Result<WriteLease, GrantFault>
+    // lends a file that has this row and isn't denied for writing
+    fn lend_file(&mut self, lib: LibNo, ino: u32, row: &Row) -> Result<Lease, GrantFault>
         requires library { IsLibrary lib self.old.state }
         requires live { row_at self.old.state.home ino ≡ Some (as_row row.now) }
-        requires may { denier self.old.state.home.rows (creds_of self.old.state lib.0) ino ToWrite ≡ None }
+        requires may { denial self.old.state lib.0 ino Write ≡ None }
         ensures step { Step self.old.state (Grant lib.0 ino Write) (grant_answer result) self.new.state }
-        ensures lease { IfOk result (λ lease. lease ≡ lease_of (opened self.old.state lib.0 ino Write (as_row row.now))) }
+        ensures lease { IfOk result (λ lease. lease
+            ≡ lent_by (opened self.old.state lib.0 ino Write (as_row row.now))) }
     {
         let range = self.range();
-        let Ok(()) = self.history.make_room() else {
+        let Ok(()) = self.history.make_room(1) else {
             return Err(GrantFault::NoMemory);
         };
         let Ok(()) = self.files.reserve(1) else {
             return Err(GrantFault::NoMemory);
         };
         let entry = self.history.next();
-        let key = match admit_writer(&mut self.grants, lib, ino, entry) {
+        let key = match admit(&mut self.grants, lib, ino, GrantKind::Write, entry) {
             Ok(key) => key,
             Err(fault) => return Err(fault),
         };
@@ -123,7 +137,7 @@ impl Ctl {
                 };
                 self.store.checkpoints[ino as usize] = Some(checkpoint);
                 self.history.enter();
-                Ok(lease)
+                Ok(Lease::Write(lease))
             }
             Err(NoMemory) => {
                 self.grants.end(key);
@@ -133,21 +147,22 @@ impl Ctl {
     }
 }
 
-// opens a write grant in the table, unless an open grant is on the file
-fn admit_writer(
+/// Opens a grant in the table, unless an open one excludes it.
+pub(crate) fn admit(
     grants: &mut GrantTable,
     lib: LibNo,
     ino: u32,
+    kind: GrantKind,
     entry: u64,
 ) -> Result<GrantKey, GrantFault>
-    ensures answer { Admits (excludes lib ino Write) grants.old result }
-    ensures opened { IfOk result (λ key. AllBelow entry grants.old → grants.new ≡ grants.old ++ (key, record { lib = lib; ino = ino; kind = Write; entry = entry }) ∷ []) }
+    ensures answer { Admits (excludes lib ino kind) grants.old result }
+    ensures opened { IfOk result (λ key. AllBelow entry grants.old → grants.new ≡ grants.old ++ (key, record { lib = lib; ino = ino; kind = kind; entry = entry }) ∷ []) }
     ensures there { IfOk result (λ key. HasKey key grants.new) }
     ensures new_key { IfOk result (λ key. grant_under key grants.old ≡ None) }
     ensures rest { IfOk result (λ key. without key grants.new ≡ grants.old) }
     ensures kept { OnErr result (grants.new ≡ grants.old) }
 {
-    match grants.admit(lib, ino, GrantKind::Write, entry) {
+    match grants.admit(lib, ino, kind, entry) {
         Ok(key) => Ok(key),
         Err(AdmitFault::Busy(holder)) => Err(GrantFault::Busy(holder)),
         Err(AdmitFault::NoMemory) => Err(GrantFault::NoMemory),

@@ -7,13 +7,14 @@ ghost use Rattle.trio_lists.specs.Lists.{are_new};
 ghost use Rattle.trio_layout.specs.Pages.{covered_of, sheets_of};
 ghost use Rattle.trio_rights.specs.Sheets.{without_pages};
 ghost use Rattle.trio_checkpoint.specs.Covered.{are_there, chain_in, core_of, covered_pages};
+ghost use Rattle.trio_nodes.specs.declared.grant.GrantKind.TheVariants.{Write};
 ghost use Rattle.trio_tables.specs.Row.{as_row};
 ghost use Rattle.trio_ctl.specs.inner.Lending.{IsLendable, StandsSomewhere, body_standing};
 ghost use Rattle.trio_ctl.specs.Stored.{CoversLent};
 ghost use Rattle.trio_laws.specs.OutLaws.{without_checkpoint};
 ghost use Rattle.trio_ctl.specs.Open.{grant_on, lease_of, untouched};
 
-use crate::open::OpenFile;
+use crate::open::{Lent, OpenFile};
 use std::alloc::Global;
 use std::snapshot::Snapshot;
 use trio_checkpoint::Checkpoint;
@@ -61,7 +62,7 @@ pub(crate) fn lend(
     requires chain { IsOk (chain_in (core_of home.old.pages range) asked.now.kind asked.now.body) }
     requires lendable { ForOk (chain_in (core_of home.old.pages range) asked.now.kind asked.now.body) (IsLendable (core_of home.old.pages range)) }
     ensures opened { IfOk result (λ loan. ForOk (chain_in (core_of home.old.pages range) asked.now.kind asked.now.body)
-        (λ chain. loan.file ≡ record { key = key; grant = without_checkpoint (grant_on (core_of home.old.pages range) asked.now.lib.0 asked.now.ino asked.now.kind asked.now.entry asked.now.body chain) })) }
+        (λ chain. loan.file ≡ record { key = key; grant = without_checkpoint (grant_on (core_of home.old.pages range) asked.now.lib.0 asked.now.ino Write asked.now.kind asked.now.entry asked.now.body chain) })) }
     ensures covered { IfOk result (λ loan. covered_pages loan.checkpoint ≡ covered_of loan.file.grant.of loan.file.grant.index loan.file.grant.blocks) }
     ensures covers { IfOk result (λ loan. CoversLent loan.file.grant loan.checkpoint) }
     ensures lease { IfOk result (λ loan. loan.lease ≡ lease_of loan.file.grant) }
@@ -104,7 +105,8 @@ pub(crate) fn lend(
         index,
         blocks,
     };
-    let file = OpenFile::of(key, Snapshot::of(&parts), asked.lib, asked.ino);
+    let lent = Lent::Write(Snapshot::of(&parts));
+    let file = OpenFile::of(key, lent, asked.lib, asked.ino);
     Ok(Loan {
         file,
         checkpoint,

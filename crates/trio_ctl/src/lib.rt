@@ -7,12 +7,16 @@
 mod allot;
 mod closing;
 mod ctl;
+mod give_back;
 mod grant;
 mod history;
+mod hold;
 mod image;
 mod lend;
 mod open;
 mod outcome;
+mod parted;
+mod read;
 mod release;
 mod start;
 mod stored;

@@ -1,17 +1,25 @@
-//! Open write grants.
+//! Open grants.
 
-ghost use Rattle.std.specs.Prelude.{◌≡◌, map, []};
-ghost use Rattle.trio_nodes.specs.declared.grant.GrantKind.TheVariants.{Write};
-ghost use Rattle.trio_lease.specs.Views.{lent_sheet};
+ghost use Rattle.std.specs.Prelude.{◌≡◌};
+ghost use Rattle.trio_ctl.specs.Open.{grant_kept};
 
 use std::marker::Model;
 use std::snapshot::Snapshot;
 use trio_grants::GrantKey;
-use trio_lease::WriteParts;
+use trio_lease::{HoldParts, ReadParts, WriteParts};
+use trio_nodes::GrantKind;
 use trio_rights::LibNo;
 
-/// A write grant that is open: its key in the table of grants, and whose it is. What is kept of the
-/// file while it is out stands in the store.
+/// What a grant lent, by its kind. It is told in proofs alone.
+#[derive(Drop)]
+pub(crate) enum Lent {
+    Read(Snapshot<ReadParts>),
+    Write(Snapshot<WriteParts>),
+    Hold(Snapshot<HoldParts>),
+}
+
+/// A grant that is open: its key in the table of grants, and whose it is. What is kept of a file
+/// that is out for writing stands in the store.
 ///
 /// Contracts see the key, and the open grant of `trio_state`'s `specs/State.antt` without a
 /// checkpoint.
@@ -20,55 +28,21 @@ pub(crate) struct OpenFile {
     key: GrantKey,
     lib: LibNo,
     ino: u32,
-    // what was lent, which is told in proofs alone
-    lent: Snapshot<WriteParts>,
+    lent: Lent,
 }
 
 impl Model for OpenFile {
-    ghost use Rattle.std.specs.Prelude.{map, []};
-    ghost use Rattle.trio_nodes.specs.declared.grant.GrantKind.TheVariants.{Write};
-    ghost use Rattle.trio_lease.specs.Views.{lent_sheet};
-    ghost use Rattle.trio_ctl.specs.Open.{Opened};
+    ghost use Rattle.trio_ctl.specs.Open.{Opened, grant_kept};
 
     ghost Value = { Opened };
 
-    ghost view = { λ o. record {
-      key = o.key;
-      grant = record {
-        lib = o.lib.0;
-        ino = o.ino;
-        kind = Write;
-        of = o.lent.value.kind;
-        entry = o.lent.value.entry;
-        body = o.lent.value.body;
-        index = map lent_sheet o.lent.value.index.items;
-        blocks = map lent_sheet o.lent.value.blocks.items;
-        parent = 0;
-        children = 0;
-        checkpoint = [];
-      };
-    } };
+    ghost view = { λ o. record { key = o.key; grant = grant_kept o.lib.0 o.ino o.lent } };
 }
 
 impl OpenFile {
     /// The grant of this key to a library, on the file of this number, which was lent.
-    pub(crate) fn of(key: GrantKey, lent: Snapshot<WriteParts>, lib: LibNo, ino: u32) -> OpenFile
-        ensures { result ≡ record {
-          key = key;
-          grant = record {
-            lib = lib.0;
-            ino = ino;
-            kind = Write;
-            of = lent.value.kind;
-            entry = lent.value.entry;
-            body = lent.value.body;
-            index = map lent_sheet lent.value.index.items;
-            blocks = map lent_sheet lent.value.blocks.items;
-            parent = 0;
-            children = 0;
-            checkpoint = [];
-          };
-        } }
+    pub(crate) fn of(key: GrantKey, lent: Lent, lib: LibNo, ino: u32) -> OpenFile
+        ensures { result ≡ record { key = key; grant = grant_kept lib.0 ino lent } }
     {
         OpenFile {
             key,
@@ -97,5 +71,16 @@ impl OpenFile {
         ensures { result ≡ self.now.grant.ino }
     {
         self.ino
+    }
+
+    /// The kind of the grant.
+    pub(crate) fn kind(&self) -> GrantKind
+        ensures { result ≡ self.now.grant.kind }
+    {
+        match self.lent {
+            Lent::Read(_) => GrantKind::Read,
+            Lent::Write(_) => GrantKind::Write,
+            Lent::Hold(_) => GrantKind::Hold,
+        }
     }
 }

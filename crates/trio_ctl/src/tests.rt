@@ -11,7 +11,7 @@ use trio_page::field::all_zero;
 use trio_page::{PageNo, Reads};
 use trio_rights::{Creds, LibNo};
 use trio_samples::files::{root, workload_tree};
-use trio_samples::{Sample, directory, put};
+use trio_samples::{Sample, directory, put, regular};
 
 // An image with an empty root, or with one that lists the directory `a` with inode number 2: page 3 is
 // the root's index page, page 4 its block.
@@ -92,9 +92,8 @@ fn lent(alloc: Global, uid: u32, ino: u32) -> Option<Result<bool, GrantFault>> {
 }
 
 // The uid, the file and the answer.
-const REQUESTS: [(u32, u32, Result<bool, GrantFault>); 5] = [
+const REQUESTS: [(u32, u32, Result<bool, GrantFault>); 4] = [
     (0, 3, Err(GrantFault::NotLive)),
-    (0, 9, Err(GrantFault::NotLive)),
     (5, 2, Err(GrantFault::Denied(2))),
     (5, 1, Err(GrantFault::Denied(1))),
     (0, 2, Ok(true)),
@@ -108,6 +107,144 @@ fn files_are_lent_or_refused(rt: HostRuntime) {
             "{ino} by uid {uid}"
         );
     }
+}
+
+// The image with the directory `a` and its file `f`, which has inode number 3.
+fn shared_bytes(alloc: Global) -> Option<Vec<u8>> {
+    let files = [root(), directory(2, 1, b"a"), regular(3, 2, b"f", b"text")];
+    Sample::small(alloc, &files).ok()?.bytes(alloc).ok()
+}
+
+// Two libraries of uid 0 over that image.
+fn shared(alloc: Global) -> Option<Ctl>
+    ensures { IfSome result (λ ctl. length ctl.state.creds ≡ 2) }
+{
+    let image = image_of(alloc, &shared_bytes(alloc)?)?;
+    let both = Creds { uid: 0, gid: 0 };
+    let libs = vec![in alloc; both, both].ok()?;
+    Ctl::start(alloc, image, libs).ok()
+}
+
+// What one of the two libraries is told that asks for a grant: `Ok` with the children that a hold
+// tells, else why not. What is lent is let go.
+fn asked(ctl: &mut Ctl, is_first: bool, ino: u32, kind: GrantKind) -> Result<u32, GrantFault>
+    requires { length ctl.old.state.creds ≡ 2 }
+    ensures { length ctl.new.state.creds ≡ 2 }
+{
+    let lib = LibNo(if is_first { 1 } else { 2 });
+    let lease = ctl.grant(lib, ino, kind)?;
+    let children = match &lease {
+        Lease::Hold(hold) => hold.children(),
+        Lease::Read(_) | Lease::Write(_) => 0,
+    };
+    lease.discard();
+    Ok(children)
+}
+
+// What the second of two requests is told.
+fn second_told(
+    alloc: Global,
+    first: (bool, u32, GrantKind),
+    second: (bool, u32, GrantKind),
+) -> Option<Result<u32, GrantFault>> {
+    let mut ctl = shared(alloc)?;
+    let (is_first, ino, kind) = first;
+    let _lent = asked(&mut ctl, is_first, ino, kind).ok()?;
+    let (is_first, ino, kind) = second;
+    Some(asked(&mut ctl, is_first, ino, kind))
+}
+
+fn busy(lib: u32, kind: GrantKind) -> Result<u32, GrantFault> {
+    Err(GrantFault::Busy(Holder {
+        lib: LibNo(lib),
+        kind,
+        entry: 0,
+    }))
+}
+
+#[test]
+fn grants_stand_beside_each_other_or_not(rt: HostRuntime) {
+    let read = GrantKind::Read;
+    let write = GrantKind::Write;
+    let hold = GrantKind::Hold;
+    // two requests, each of the first library or of the second, and what the second one is told
+    let rows = [
+        ((true, 3, read), (false, 3, read), Ok(0)),
+        ((true, 3, read), (true, 3, read), busy(1, read)),
+        ((true, 3, read), (false, 3, write), busy(1, read)),
+        ((true, 3, write), (false, 3, write), busy(1, write)),
+        ((true, 1, write), (true, 2, hold), Ok(1)),
+        (
+            (false, 1, write),
+            (true, 2, hold),
+            Err(GrantFault::NoParent),
+        ),
+    ];
+    for (first, second, told) in rows {
+        assert!(rt; second_told(rt.alloc(), first, second) == Some(told));
+    }
+}
+
+// Whether a reader is shown the file `f`, and a writer has it once the lease is back.
+fn read_and_given_back(alloc: Global) -> Option<bool> {
+    let mut ctl = shared(alloc)?;
+    let is_shown = shown_once(&mut ctl)?;
+    Some(is_shown && asked(&mut ctl, false, 3, GrantKind::Write) == Ok(0))
+}
+
+fn shown_once(ctl: &mut Ctl) -> Option<bool>
+    requires { length ctl.old.state.creds ≡ 2 }
+    ensures { IfSome result (λ _. length ctl.new.state.creds ≡ 2) }
+{
+    match ctl.grant(LibNo(1), 3, GrantKind::Read) {
+        Ok(Lease::Read(lease)) => {
+            let is_shown = lease
+                .block(0)
+                .is_some_and(|block| block.bytes().starts_with(b"text"));
+            ctl.give_back(lease);
+            Some(is_shown)
+        }
+        Ok(lease) => {
+            lease.discard();
+            None
+        }
+        Err(_) => None,
+    }
+}
+
+#[test]
+fn a_read_lease_is_given_back(rt: HostRuntime) {
+    assert!(rt; read_and_given_back(rt.alloc()) == Some(true));
+}
+
+// Whether a reader of the directory `a` is shown these bytes of its body.
+fn is_body_shown(ctl: &mut Ctl, body: &[u8]) -> bool
+    requires { length ctl.old.state.creds ≡ 2 }
+{
+    match ctl.grant(LibNo(2), 2, GrantKind::Read) {
+        Ok(lease) => {
+            let is_shown = match &lease {
+                Lease::Read(lease) => lease.body().as_slice() == body,
+                Lease::Write(_) | Lease::Hold(_) => false,
+            };
+            lease.discard();
+            is_shown
+        }
+        Err(_) => false,
+    }
+}
+
+// Whether that body, which is on page 4 in the image, is shown while the root is out with this page.
+fn is_shown_under_a_writer(alloc: Global) -> Option<bool> {
+    let bytes = shared_bytes(alloc)?;
+    let mut ctl = shared(alloc)?;
+    let _lent = asked(&mut ctl, true, 1, GrantKind::Write).ok()?;
+    Some(is_body_shown(&mut ctl, bytes.get(16_576..16_640)?))
+}
+
+#[test]
+fn a_reader_is_shown_the_settled_body(rt: HostRuntime) {
+    assert!(rt; is_shown_under_a_writer(rt.alloc()) == Some(true));
 }
 
 // Whether it is the root that is lent: its index page names its block, in which the entry of `a` stands.

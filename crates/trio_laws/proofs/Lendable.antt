@@ -1,9 +1,10 @@
--- The pages of a live file on which no grant is open are at home.
+-- The pages of a live file on which no write grant is open are at home.
 use Rattle.std.proofs.Common.{◌≡◌, ℕ, true, List, [], ◌++◌, length, Some, Ok, slice_get, sym, ap, ◌∙◌, subst}
 use Rattle.trio_rights.specs.Row.{Row}
 use Rattle.trio_layout.specs.Body.{body_of}
 use Rattle.trio_layout.specs.Chain.{Chain, chain_of}
 use Rattle.trio_layout.specs.Core.{Core, nowhere, page_of}
+use Rattle.trio_nodes.specs.declared.grant.GrantKind.TheVariants.{Write}
 use Rattle.trio_lists.specs.Lists.{there_or, In, are_new, result_then}
 use Rattle.trio_layout.specs.Range.{is_core}
 use Rattle.trio_layout.specs.Survey.{plain, survey, pages_of}
@@ -18,7 +19,7 @@ use Rattle.trio_surveys.proofs.Owned.{body_sized, pages_are, pages_new, sound_pa
 use Rattle.trio_surveys.proofs.Sheets.{page_there, with_pages_apart}
 use Rattle.trio_laws.proofs.StateFacts.{checkpoint_lent, lent_file, live_met, pages_there, tables}
 
-module _ (s : State) (k : Kept s) (ino : ℕ) (r : Row) (row : row_at s.home ino ≡ Some r) (free : (g : OpenGrant) → In g s.open_grants → g.ino ≡ ino → ⊥) where
+module _ (s : State) (k : Kept s) (ino : ℕ) (r : Row) (row : row_at s.home ino ≡ Some r) (free : (g : OpenGrant) → In g s.open_grants → g.kind ≡ Write → g.ino ≡ ino → ⊥) where
   abbrev core : Core
   core = (settled s).core
 
@@ -41,11 +42,11 @@ module _ (s : State) (k : Kept s) (ino : ℕ) (r : Row) (row : row_at s.home ino
   page_home : (p : ℕ) → In p (m.file.chain.index ++ m.file.chain.blocks) → (bytes : List ℕ) × (slice_get s.home.core.pages p ≡ Some (Some bytes)) × (page_of core p ≡ Some bytes) × (is_core s.home.core.range p ≡ true)
   page_home p i =
       let listed : In p (pages_of core m.met) = subst (λ l. In p l) (sym (pages_are core m.met m.file m.read)) i in
-      let none : (g : OpenGrant) → In g s.open_grants → g.ino ≡ m.met.ino → ⊥ = λ g j e. free g j (e ∙ m.number) in
-      let t = pages_there s k m.met p m.stands listed (λ g j w e. none g j e) in
+      let none : (g : OpenGrant) → In g s.open_grants → g.kind ≡ Write → g.ino ≡ m.met.ino → ⊥ = λ g j w e. free g j w (e ∙ m.number) in
+      let t = pages_there s k m.met p m.stands listed none in
       let q = page_there core p t.0 t.1 in
       let bare = with_pages_apart (checkpoints_of s.open_grants) s.home.core.pages p
-      (λ j. let c = checkpoint_lent s k p j in none c.0 c.1 (lent_file s k m.met p c.0 m.stands listed c.1 c.2 c.3)) in
+      (λ j. let c = checkpoint_lent s k p j in none c.0 c.1 c.2 (lent_file s k m.met p c.0 m.stands listed c.1 c.2 c.3)) in
       (t.0, sym bare ∙ q.1, t.1, q.0)
 
   pub at_home : (c : Chain) × (settled_chain (settled s) r.kind ino ≡ Ok c) × ((p : ℕ) → In p (c.index ++ c.blocks) → (bytes : List ℕ) × (slice_get s.home.core.pages p ≡ Some (Some bytes)) × (page_of core p ≡ Some bytes) × (is_core s.home.core.range p ≡ true)) × (are_new [] (c.index ++ c.blocks) ≡ true) × (length (settled_body (settled s) ino) ≡ 64)

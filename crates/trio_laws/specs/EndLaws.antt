@@ -54,11 +54,11 @@ RefusedSettles =
     → with_pages (checkpoints_of (grants_after s lib b)) (with_pages (uncovered (settled s) b ++ b.pages) (with_pages sheets s.home.core.pages))
     ≡ (refused_image (settled s) b).core.pages
 
--- What a file that is to be lent for writing has is at home: a live file on which no grant is open.
+-- What a file that is to be lent has is at home: a live file on which no write grant is open.
 abbrev pub LendableIsHome : Type 0
 LendableIsHome =
     (s : State) (ino : ℕ) (r : Row) → Kept s → row_at s.home ino ≡ Some r
-    → ((g : OpenGrant) → In g s.open_grants → g.ino ≢ ino)
+    → ((g : OpenGrant) → In g s.open_grants → g.kind ≡ Write → g.ino ≢ ino)
     → (c : Chain) × (settled_chain (settled s) r.kind ino ≡ Ok c)
     × ((p : ℕ) → In p (c.index ++ c.blocks) → (bytes : List ℕ) × (slice_get s.home.core.pages p ≡ Some (Some bytes)) × (page_of (settled s).core p ≡ Some bytes) × IsTrue (is_core s.home.core.range p))
     × IsTrue (are_new [] (c.index ++ c.blocks))

@@ -20,7 +20,7 @@ pub fn body_stands()
     ensures law { BodyStands }
 {}
 
-/// The index pages and blocks of a live file on which no grant is open are at home.
+/// The index pages and blocks of a live file on which no write grant is open are at home.
 pub fn lendable_is_home()
     ensures law { LendableIsHome }
 {}

@@ -71,4 +71,4 @@ returns-in-NoMemory-clause-step c =
     let i = c.self.inside in
     let kept = rw c.in-Err.is at c.take-given.ensures.kept in
     let same = still c.self.inside.store c.self.inside.first_core c.self.inside.grants c.self.inside.files.items c.self.inside.libs.items c.self.inside.history c.self.invariant _ refl kept.1 kept.0 in
-    inr (refl, ap allot_fault_answer c.in-NoMemory.is, ap (λ (t : Store). state_of t i.first_core (grants_in i.files.items) i.libs.items i.history) same ∙ state_is c.self.view_is)
+    inr (refl, ap allot_fault_answer c.in-NoMemory.is, ap (λ (t : Store). state_of t i.first_core (grants_in i.files.items) i.libs.items i.history.made) same ∙ state_is c.self.view_is)

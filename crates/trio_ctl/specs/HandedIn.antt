@@ -1,0 +1,20 @@
+-- What is handed in beside what the steps see of a bundle.
+use Rattle.std.specs.Prelude.{◌≡◌, ℕ, List}
+use Rattle.trio_nodes.specs.declared.grant.GrantKind.TheVariants.{Hold}
+use Rattle.trio_lease.specs.declared.parts.HoldParts.{HoldParts}
+use Rattle.trio_lists.specs.Lists.{In}
+use Rattle.trio_state.specs.State.{OpenGrant, State}
+
+-- a hold is that of an open hold of the library, and shows the kind and the body that it lent
+pub record WasHeld (s : State) (lib' : ℕ) (h : HoldParts) : Type 0 where
+  pub grant : OpenGrant
+  pub is_open : In grant s.open_grants
+  pub lib : grant.lib ≡ lib'
+  pub kind : grant.kind ≡ Hold
+  pub ino : grant.ino ≡ h.ino
+  pub of : grant.of ≡ h.kind
+  pub body : grant.body ≡ h.body
+
+-- each of these holds is so
+abbrev pub WereHeld : State → ℕ → List HoldParts → Type 0
+WereHeld s lib holds = (h : HoldParts) → In h holds → WasHeld s lib h

@@ -1,0 +1,49 @@
+//! The end of a read grant.
+
+ghost use Rattle.std.specs.Prelude.{◌≡◌};
+ghost use Rattle.std.specs.List.{position};
+ghost use Rattle.trio_nodes.specs.declared.grant.GrantKind.TheVariants.{Read};
+ghost use Rattle.trio_state.specs.Given.{HasGrant};
+ghost use Rattle.trio_state.specs.Kept.{Kept};
+ghost use Rattle.trio_state.specs.Step.{Back, Done, Step};
+ghost use Rattle.trio_ctl.specs.inner.Reads.{is_read_of};
+
+use crate::ctl::Ctl;
+use crate::open::OpenFile;
+use trio_lease::ReadLease;
+use trio_nodes::GrantKind;
+use trio_rights::LibNo;
+
+impl Ctl {
+    /// Ends the read grant of a lease, which this controller gave: the library that the lease names
+    /// has an open read grant on its file. Takes no memory: the room for its entry was made with the
+    /// grant.
+    pub fn give_back(&mut self, lease: ReadLease)
+        requires given { HasGrant self.old.state lease.lib.0 lease.ino Read }
+        ensures step { Step self.old.state (Back lease.lib.0 lease.ino) Done self.new.state }
+        ensures was_kept { Kept self.old.state }
+        ensures kept { Kept self.new.state }
+    {
+        let parts = lease.parts();
+        let Some(at) = place_of_read(&self.files, parts.lib, parts.ino) else {
+            unreachable!()
+        };
+        let file = self.files.remove(at);
+        self.grants.end(file.key());
+        self.history.enter_promised();
+    }
+}
+
+/// The place of the library's grant for reading a file.
+fn place_of_read(files: &[OpenFile], lib: LibNo, ino: u32) -> Option<usize>
+    ensures { result ≡ position (λ o. is_read_of lib.0 ino o.grant) files.now }
+{
+    files.iter().position(|file| is_read_of(lib, ino, file))
+}
+
+/// Whether the grant is the library's for reading the file.
+fn is_read_of(lib: LibNo, ino: u32, file: &OpenFile) -> bool
+    ensures { result ≡ is_read_of lib.0 ino file.now.grant }
+{
+    file.lib() == lib && file.ino() == ino && file.kind() == GrantKind::Read
+}

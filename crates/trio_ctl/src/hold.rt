@@ -1,0 +1,73 @@
+//! Holds.
+
+ghost use Rattle.std.specs.Prelude.{◌≡◌, IfOk, None, Some, if◌then◌else◌};
+ghost use Rattle.trio_layout.specs.Image.{row_at};
+ghost use Rattle.trio_nodes.specs.declared.answers.GrantFault.TheVariants.{NoParent as NoParentGrant};
+ghost use Rattle.trio_nodes.specs.declared.grant.GrantKind.TheVariants.{Hold};
+ghost use Rattle.trio_tables.specs.Row.{as_row};
+ghost use Rattle.trio_state.specs.Grants.{has_parent_grant, opened};
+ghost use Rattle.trio_state.specs.Step.{Grant, Step};
+ghost use Rattle.trio_ctl.specs.Answers.{grant_answer};
+ghost use Rattle.trio_ctl.specs.Ctl.{IsLibrary};
+ghost use Rattle.trio_ctl.specs.Open.{lent_by};
+ghost use Rattle.trio_ctl.specs.inner.Denials.{denial};
+
+use crate::ctl::Ctl;
+use crate::grant::admit;
+use crate::lend::settled_body;
+use crate::open::{Lent, OpenFile};
+use std::snapshot::Snapshot;
+use trio_lease::{HoldLease, HoldParts, Lease};
+use trio_nodes::{GrantFault, GrantKind};
+use trio_rights::LibNo;
+use trio_tables::Row;
+
+impl Ctl {
+    // why a file that has this row isn't held: the library has no write grant on its directory
+    pub(crate) fn parentless(&self, lib: LibNo, row: &Row) -> Option<GrantFault>
+        ensures { result ≡ (if has_parent_grant self.now.state lib.0 (Some (as_row row.now)) then None else Some NoParentGrant) }
+    {
+        if self.grants.has(lib, row.parent, GrantKind::Write) {
+            None
+        } else {
+            Some(GrantFault::NoParent)
+        }
+    }
+
+    // holds a file that has this row, and whose directory the library writes
+    pub(crate) fn lend_hold(&mut self, lib: LibNo, ino: u32, row: &Row) -> Result<Lease, GrantFault>
+        requires library { IsLibrary lib self.old.state }
+        requires live { row_at self.old.state.home ino ≡ Some (as_row row.now) }
+        requires may { denial self.old.state lib.0 ino Hold ≡ None }
+        ensures step { Step self.old.state (Grant lib.0 ino Hold) (grant_answer result) self.new.state }
+        ensures lease { IfOk result (λ lease. lease
+            ≡ lent_by (opened self.old.state lib.0 ino Hold (as_row row.now))) }
+    {
+        let Ok(()) = self.history.make_room(1) else {
+            return Err(GrantFault::NoMemory);
+        };
+        let Ok(()) = self.files.reserve(1) else {
+            return Err(GrantFault::NoMemory);
+        };
+        let entry = self.history.next();
+        let key = match admit(&mut self.grants, lib, ino, GrantKind::Hold, entry) {
+            Ok(key) => key,
+            Err(fault) => return Err(fault),
+        };
+        let parts = HoldParts {
+            lib,
+            ino,
+            kind: row.kind,
+            entry,
+            parent: row.parent,
+            body: settled_body(&mut self.store, ino, row),
+            children: self.store.rows.children(ino),
+        };
+        let lent = Lent::Hold(Snapshot::of(&parts));
+        let Ok(()) = self.files.push(OpenFile::of(key, lent, lib, ino)) else {
+            unreachable!()
+        };
+        self.history.enter();
+        Ok(Lease::Hold(HoldLease::of(parts)))
+    }
+}
