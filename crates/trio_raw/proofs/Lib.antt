@@ -1,5 +1,6 @@
 pub mod Places
 pub mod Poking
+pub mod Looks
 pub mod Taking
 pub mod Once
 pub mod Kept

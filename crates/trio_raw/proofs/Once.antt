@@ -52,7 +52,7 @@ module _ {X : Type 0} (number : X → ℕ) where
   without_all_in xs [] y i = i
   without_all_in xs (n ∷ names) y i = without_in xs n y (without_all_in (without number xs n) names y i)
 
-  without_new : (xs : List X) (n : ℕ) (seen : List ℕ) → are_new seen (map number xs) ≡ true → are_new seen (map number (without number xs n)) ≡ true
+  pub without_new : (xs : List X) (n : ℕ) (seen : List ℕ) → are_new seen (map number xs) ≡ true → are_new seen (map number (without number xs n)) ≡ true
   without_new [] n seen h = h
   without_new (x ∷ xs) n seen h =
       let parts = and_parts (not (is_among (number x) seen)) (are_new (seen ++ number x ∷ []) (map number xs)) h in
@@ -69,7 +69,7 @@ module _ {X : Type 0} (number : X → ℕ) where
   without_all_once xs (n ∷ names) h = without_all_once (without number xs n) names (without_new xs n [] h)
 
   -- and of a number that is named nothing is left
-  gone : (xs : List X) (n : ℕ) (y : X) → are_new [] (map number xs) ≡ true → In y (without number xs n) → number y ≡ n → ⊥
+  pub gone : (xs : List X) (n : ℕ) (y : X) → are_new [] (map number xs) ≡ true → In y (without number xs n) → number y ≡ n → ⊥
   gone [] n y h i e = i
   gone (x ∷ xs) n y h i e =
       let once = are_new-first (number x) (map number xs) h in

@@ -1,13 +1,13 @@
 -- Elements by their places: one that is changed, and the first of a number.
-use Rattle.std.proofs.Common.{◌≡◌, ℕ, suc, ◌+◌, ◌<◌, ◌≤◌, Bool, true, false, cond, not, ◌&&◌, ◌||◌, eqb, ltb, List, [], ◌∷◌, ◌++◌, length, drop, get_or, Option, Some, None, sym, refl, ap, ◌∙◌, subst, inl, inr, arith}
-use Rattle.std.specs.Prelude.{map, is_none, slice_get, slice_set}
+use Rattle.std.proofs.Common.{Bor, ◌≡◌, ℕ, suc, ◌+◌, ◌<◌, ◌≤◌, Bool, true, false, cond, not, ◌&&◌, eqb, ltb, List, [], ◌∷◌, ◌++◌, length, drop, get_or, Option, Some, None, sym, refl, ap, ◌∙◌, subst, inl, inr, arith}
+use Rattle.std.specs.Prelude.{map, is_some, slice_get, slice_set}
 use Rattle.std.specs.List.{find, list_all, cons_option, position, position_or_len, remove}
-use Rattle.std.specs.Option.{option_map, option_and_then}
-use Rattle.std.proofs.lemmas.Bool.{and_parts, and_from, or_left, or_right, eqb-true, ne_eqb, false≢true, ltb-true, ltb-false, cases_Bool, false_from_ne_true}
+use Rattle.std.specs.Option.{option_copied, option_map, option_and_then}
+use Rattle.std.proofs.lemmas.Bool.{eqb-true, ne_eqb, ltb-true, ltb-false, cases_Bool}
 use Rattle.std.proofs.lemmas.List.{append_assoc, drop_more, length-map, map-set}
 use Rattle.std.proofs.lemmas.List.Folds.{find_at}
 use Rattle.std.proofs.lemmas.Simd.{map-map}
-use Rattle.std.proofs.lemmas.Option.{slice_get-map, slice_get-get_or}
+use Rattle.std.proofs.lemmas.Option.{slice_get-map, slice_get-get_or, slice_get_past}
 use Rattle.trio_lists.specs.Lists.{In, is_among, are_new}
 use Rattle.trio_raw.specs.Has.{changed_at, changed_first, are_there, named, without, without_all}
 use Rattle.trio_lists.proofs.New.{are_new-first}
@@ -75,28 +75,6 @@ changed_first-none p f v xs e = ap (option_and_then (λ j. changed_at f j (map v
 
 -- ---- the first of a number
 
--- there is one exactly where its place is within the list
-pub among_within : {X : Type 0} (number : X → ℕ) (xs : List X) (n : ℕ) → is_among n (map number xs) ≡ true → position_or_len (λ x. eqb (number x) n) xs < length xs
-among_within number [] n e = absurd (false≢true e)
-among_within number (x ∷ xs) n e =
-    elim (cases_Bool (eqb (number x) n)) [
-      | inl t ↦ rw t (omega arith)
-      | inr f ↦
-          (let later : is_among n (map number xs) ≡ true = rw f at e in
-          let ih = among_within number xs n later in
-          rw f (omega (arith, ih)))
-    ]
-
-pub within_among : {X : Type 0} (number : X → ℕ) (xs : List X) (n : ℕ) → position_or_len (λ x. eqb (number x) n) xs < length xs → is_among n (map number xs) ≡ true
-within_among number [] n e = absurd (omega arith)
-within_among number (x ∷ xs) n e =
-    elim (cases_Bool (eqb (number x) n)) [
-      | inl t ↦ or_left (eqb (number x) n) (is_among n (map number xs)) t
-      | inr f ↦
-          (let here : 1 + position_or_len (λ x. eqb (number x) n) xs < suc (length xs) = rw f at e in
-          or_right (eqb (number x) n) (is_among n (map number xs)) (within_among number xs n (omega arith)))
-    ]
-
 -- the list without it is the list with its place removed
 pub without-remove : {X : Type 0} (number : X → ℕ) (xs : List X) (n : ℕ) → position_or_len (λ x. eqb (number x) n) xs < length xs → without number xs n ≡ remove xs (position_or_len (λ x. eqb (number x) n) xs)
 without-remove number [] n e = absurd (omega arith)
@@ -112,15 +90,9 @@ without-remove number (x ∷ xs) n e =
     ]
 
 -- the same by the place that a search answered
-pub place_missing : {X : Type 0} (number : X → ℕ) (xs : List X) (n : ℕ) → is_among n (map number xs) ≡ true → position (λ x. eqb (number x) n) xs ≡ None → ⊥
-place_missing number xs n there none =
-    let past = position_none (λ x. eqb (number x) n) xs none in
-    let within = among_within number xs n there in
-    absurd (omega (arith, past, within))
-
-pub place_there : {X : Type 0} (number : X → ℕ) (xs : List X) (n i : ℕ) → position (λ x. eqb (number x) n) xs ≡ Some i → is_among n (map number xs) ≡ true
-place_there number xs n i e =
-    let r = position_is (λ x. eqb (number x) n) xs i e in within_among number xs n (subst (λ k. k < length xs) r.0 r.1)
+pub place_missing : {X : Type 0} (number : X → ℕ) (xs : List X) (n : ℕ) → position (λ x. eqb (number x) n) xs ≡ None → find (λ x. eqb (number x) n) xs ≡ None
+place_missing number xs n none =
+    find_at (λ x. eqb (number x) n) xs ∙ slice_get_past xs (position_or_len (λ x. eqb (number x) n) xs) (position_none (λ x. eqb (number x) n) xs none)
 
 pub place_found : {X : Type 0} (number : X → ℕ) (xs : List X) (n i : ℕ) (x : X) → position (λ x. eqb (number x) n) xs ≡ Some i → x ≡ get_or xs i x → find (λ x. eqb (number x) n) xs ≡ Some x
 place_found number xs n i x e r =
@@ -145,48 +117,16 @@ module _ {X : Type 0} (number : X → ℕ) where
         | inr f ↦ rw f (ap (λ o. cond (eqb (number x) n) (Some x) o) (find-without xs n m d))
       ]
 
-  pub among-without : (xs : List X) (n m : ℕ) → (n ≡ m → ⊥) → is_among n (map number (without number xs m)) ≡ is_among n (map number xs)
-  among-without [] n m d = refl
-  among-without (x ∷ xs) n m d =
-      elim (cases_Bool (eqb (number x) m)) [
-        | inl t ↦
-            (let other : eqb (number x) n ≡ false = ne_eqb (number x) n (λ e. d (sym e ∙ eqb-true (number x) m t)) in
-            rw t (rw other refl))
-        | inr f ↦ rw f (ap (λ b. eqb (number x) n || b) (among-without xs n m d))
-      ]
-
   pub named-without : (xs : List X) (m : ℕ) (names : List ℕ) → (In m names → ⊥) → named number (without number xs m) names ≡ named number xs names
   named-without xs m [] d = refl
   named-without xs m (n ∷ names) d =
       ap (λ o. cons_option o (named number (without number xs m) names)) (find-without xs n m (λ e. d (inl (sym e))))
       ∙ ap (cons_option (find (λ x. eqb (number x) n) xs)) (named-without xs m names (λ i. d (inr i)))
 
-  pub all_there-without : (xs : List X) (m : ℕ) (names : List ℕ) → (In m names → ⊥) → list_all (λ k. is_among k (map number (without number xs m))) names ≡ list_all (λ k. is_among k (map number xs)) names
-  all_there-without xs m [] d = refl
-  all_there-without xs m (n ∷ names) d =
-      ap (λ b. b && list_all (λ k. is_among k (map number (without number xs m))) names) (among-without xs n m (λ e. d (inl (sym e))))
-      ∙ ap (λ b. is_among n (map number xs) && b) (all_there-without xs m names (λ i. d (inr i)))
-
-  -- the first that is named is there
-  pub first_there : (xs : List X) (n : ℕ) (names : List ℕ) → are_there number xs (n ∷ names) ≡ true → is_among n (map number xs) ≡ true
-  first_there xs n names h =
-      let parts = and_parts (list_all (λ k. is_among k (map number xs)) (n ∷ names)) (are_new [] (n ∷ names)) h in
-      (and_parts (is_among n (map number xs)) (list_all (λ k. is_among k (map number xs)) names) parts.0).0
-
-  -- and the others are so without it
-  pub rest_there : (xs : List X) (n : ℕ) (names : List ℕ) → are_there number xs (n ∷ names) ≡ true → are_there number (without number xs n) names ≡ true
-  rest_there xs n names h =
-      let parts = and_parts (list_all (λ k. is_among k (map number xs)) (n ∷ names)) (are_new [] (n ∷ names)) h in
-      let once = are_new-first n names parts.1 in
-      let all = (and_parts (is_among n (map number xs)) (list_all (λ k. is_among k (map number xs)) names) parts.0).1 in
-      and_from (list_all (λ k. is_among k (map number (without number xs n))) names) (are_new [] names) (all_there-without xs n names once.0 ∙ all) once.1
-
-  -- what is named is the first and then the others, found without it
-  pub named_first : (xs : List X) (n : ℕ) (names : List ℕ) (x : X) → are_there number xs (n ∷ names) ≡ true → find (λ x. eqb (number x) n) xs ≡ Some x → named number xs (n ∷ names) ≡ x ∷ named number (without number xs n) names
-  named_first xs n names x h e =
-      let parts = and_parts (list_all (λ k. is_among k (map number xs)) (n ∷ names)) (are_new [] (n ∷ names)) h in
-      let once = are_new-first n names parts.1 in
-      ap (λ o. cons_option o (named number xs names)) e ∙ ap (λ l. x ∷ l) (sym (named-without xs n names once.0))
+  -- what is named is the first, where there is one, and then the others, found without it
+  pub named-first : (xs : List X) (n : ℕ) (names : List ℕ) → are_new [] (n ∷ names) ≡ true → named number xs (n ∷ names) ≡ cons_option (find (λ x. eqb (number x) n) xs) (named number (without number xs n) names)
+  named-first xs n names once =
+      ap (cons_option (find (λ x. eqb (number x) n) xs)) (sym (named-without xs n names (are_new-first n names once).0))
 
 -- ---- the same of things as they are shown
 
@@ -224,54 +164,83 @@ without_all-map number v xs (n ∷ names) =
 
 -- ---- steps through the numbers that are named
 
--- one that is missing
-pub missing_at : {X : Type 0} (number : X → ℕ) (xs : List X) (names : List ℕ) (i : ℕ) → i < length names → list_all (λ k. is_among k (map number xs)) (drop i names) ≡ list_all (λ k. is_among k (map number xs)) names → is_none (position (λ x. eqb (number x) (get_or names i 0)) xs) ≡ true → are_there number xs names ≡ false
-missing_at number xs names i within same none =
-    let n : ℕ = get_or names i 0 in
-    let p : ℕ → Bool = λ k. is_among k (map number xs) in
-    let absent : is_among n (map number xs) ≡ false = false_from_ne_true (is_among n (map number xs)) (λ t. place_missing number xs n t (none_of (position (λ x. eqb (number x) n) xs) none)) in
-    let here : list_all p names ≡ false =
-    sym same ∙ ap (list_all p) (drop_more names i 0 within) ∙ ap (λ b. b && list_all p (drop (i + 1) names)) absent in
-    ap (λ b. b && are_new [] names) here
-  where
-    none_of : (o : Option ℕ) → is_none o ≡ true → o ≡ None
-    none_of None e = refl
-    none_of (Some j) e = absurd (false≢true e)
+-- how many are left without a first of a number, where there is one
+without-length : {X : Type 0} (number : X → ℕ) (xs : List X) (n : ℕ) (x : X) → find (λ y. eqb (number y) n) xs ≡ Some x → suc (length (without number xs n)) ≡ length xs
+without-length number [] n x e = absurd cc
+without-length number (y ∷ ys) n x e =
+    elim (cases_Bool (eqb (number y) n)) [
+      | inl t ↦ rw t refl
+      | inr f ↦
+          (let later : find (λ z. eqb (number z) n) ys ≡ Some x = rw f at e in
+          rw f (ap suc (without-length number ys n x later)))
+    ]
 
--- one that is there
-pub there_at : {X : Type 0} (number : X → ℕ) (xs : List X) (names : List ℕ) (i : ℕ) → i < length names → list_all (λ k. is_among k (map number xs)) (drop i names) ≡ list_all (λ k. is_among k (map number xs)) names → is_none (position (λ x. eqb (number x) (get_or names i 0)) xs) ≡ false → list_all (λ k. is_among k (map number xs)) (drop (i + 1) names) ≡ list_all (λ k. is_among k (map number xs)) names
-there_at number xs names i within same some =
-    let n : ℕ = get_or names i 0 in
-    let p : ℕ → Bool = λ k. is_among k (map number xs) in
-    let found : (j : ℕ) × (position (λ x. eqb (number x) n) xs ≡ Some j) = some_of (position (λ x. eqb (number x) n) xs) some in
-    let here : is_among n (map number xs) ≡ true = place_there number xs n found.0 found.1 in
-    ap (λ b. b && list_all p (drop (i + 1) names)) (sym here) ∙ ap (list_all p) (sym (drop_more names i 0 within)) ∙ same
-  where
-    some_of : (o : Option ℕ) → is_none o ≡ false → (j : ℕ) × (o ≡ Some j)
-    some_of None e = absurd (false≢true (sym e))
-    some_of (Some j) e = (j, refl)
+-- and all where there is none
+pub without-same : {X : Type 0} (number : X → ℕ) (xs : List X) (n : ℕ) → find (λ y. eqb (number y) n) xs ≡ None → without number xs n ≡ xs
+without-same number [] n e = refl
+without-same number (y ∷ ys) n e =
+    elim (cases_Bool (eqb (number y) n)) [
+      | inl t ↦ (let wrong : Some y ≡ None = rw t at e in absurd (cc wrong))
+      | inr f ↦
+          (let later : find (λ z. eqb (number z) n) ys ≡ None = rw f at e in
+          rw f (ap (λ l. y ∷ l) (without-same number ys n later)))
+    ]
 
--- one that is moved
-module _ {X : Type 0} (number : X → ℕ) (xs after : List X) (names : List ℕ) (i : ℕ) (within : i < length names) (there : are_there number xs (drop i names) ≡ true) (rest : after ≡ without number xs (get_or names i 0)) where
-  now_there : are_there number xs (get_or names i 0 ∷ drop (i + 1) names) ≡ true
-  now_there = ap (are_there number xs) (sym (drop_more names i 0 within)) ∙ there
+pub removed_count : {X : Type 0} (number : X → ℕ) (xs after : List X) (names : List ℕ) (i : ℕ) → after ≡ without number xs (get_or names i 0) → (x : X) → find (λ y. eqb (number y) (get_or names i 0)) xs ≡ Some x → suc (length after) ≡ length xs
+removed_count number xs after names i rest x found = ap (λ l. suc (length l)) rest ∙ without-length number xs (get_or names i 0) x found
 
-  pub there_now : is_among (get_or names i 0) (map number xs) ≡ true
-  there_now = first_there number xs (get_or names i 0) (drop (i + 1) names) now_there
+pub kept_count : {X : Type 0} (number : X → ℕ) (xs after : List X) (names : List ℕ) (i : ℕ) → after ≡ without number xs (get_or names i 0) → find (λ y. eqb (number y) (get_or names i 0)) xs ≡ None → length after ≡ length xs
+kept_count number xs after names i rest missing = ap length rest ∙ ap length (without-same number xs (get_or names i 0) missing)
 
-  pub there_more : are_there number after (drop (i + 1) names) ≡ true
-  there_more = ap (λ l. are_there number l (drop (i + 1) names)) rest ∙ rest_there number xs (get_or names i 0) (drop (i + 1) names) now_there
+-- a number that passes a test
+pub all_more : (p : ℕ → Bool) (names : List ℕ) (i : ℕ) → i < length names → list_all p (drop i names) ≡ list_all p names → p (get_or names i 0) ≡ true → list_all p (drop (i + 1) names) ≡ list_all p names
+all_more p names i within same pass =
+    ap (λ b. b && list_all p (drop (i + 1) names)) (sym pass) ∙ ap (list_all p) (sym (drop_more names i 0 within)) ∙ same
+
+-- one that fails it
+pub all_fails : (p : ℕ → Bool) (names : List ℕ) (i : ℕ) → i < length names → list_all p (drop i names) ≡ list_all p names → p (get_or names i 0) ≡ false → list_all p names ≡ false
+all_fails p names i within same fail =
+    sym same ∙ ap (list_all p) (drop_more names i 0 within) ∙ ap (λ b. b && list_all p (drop (i + 1) names)) fail
+
+pub copied_some : {X : Type 0} (o : Option (Bor X)) → is_some o ≡ is_some (option_copied o)
+copied_some None = refl
+copied_some (Some x) = refl
+
+-- a thing is found exactly where its number is among those of the things
+pub found_among : {X : Type 0} (number : X → ℕ) (xs : List X) (n : ℕ) → is_some (find (λ x. eqb (number x) n) xs) ≡ is_among n (map number xs)
+found_among number [] n = refl
+found_among number (x ∷ xs) n =
+    elim (cases_Bool (eqb (number x) n)) [
+      | inl t ↦ rw t refl
+      | inr f ↦ rw f (found_among number xs n)
+    ]
+
+module _ {X : Type 0} (number : X → ℕ) (xs after : List X) (names : List ℕ) (i : ℕ) (within : i < length names) (once : are_new [] (drop i names) ≡ true) (rest : after ≡ without number xs (get_or names i 0)) where
+  now_once : are_new [] (get_or names i 0 ∷ drop (i + 1) names) ≡ true
+  now_once = ap (are_new []) (sym (drop_more names i 0 within)) ∙ once
+
+  pub once_more : are_new [] (drop (i + 1) names) ≡ true
+  once_more = (are_new-first (get_or names i 0) (drop (i + 1) names) now_once).1
 
   pub left_more : without_all number after (drop (i + 1) names) ≡ without_all number xs (drop i names)
   left_more = ap (λ l. without_all number l (drop (i + 1) names)) rest ∙ ap (without_all number xs) (sym (drop_more names i 0 within))
 
+  named_more : named number xs (drop i names) ≡ cons_option (find (λ y. eqb (number y) (get_or names i 0)) xs) (named number after (drop (i + 1) names))
+  named_more =
+      ap (named number xs) (drop_more names i 0 within)
+      ∙ named-first number xs (get_or names i 0) (drop (i + 1) names) now_once
+      ∙ ap (λ l. cons_option (find (λ y. eqb (number y) (get_or names i 0)) xs) (named number l (drop (i + 1) names))) (sym rest)
+
+  -- one that isn't there
+  pub passed_more : find (λ y. eqb (number y) (get_or names i 0)) xs ≡ None → named number after (drop (i + 1) names) ≡ named number xs (drop i names)
+  passed_more missing = sym (named_more ∙ ap (λ o. cons_option o (named number after (drop (i + 1) names))) missing)
+
+  -- one that is moved
   pub moved_more : (before now : List X) (x : X) → find (λ y. eqb (number y) (get_or names i 0)) xs ≡ Some x → now ≡ before ++ x ∷ [] → now ++ named number after (drop (i + 1) names) ≡ before ++ named number xs (drop i names)
   moved_more before now x found is =
       ap (λ l. l ++ named number after (drop (i + 1) names)) is
       ∙ append_assoc before (x ∷ []) (named number after (drop (i + 1) names))
-      ∙ ap (λ l. before ++ x ∷ named number l (drop (i + 1) names)) rest
-      ∙ ap (λ l. before ++ l) (sym (named_first number xs (get_or names i 0) (drop (i + 1) names) x now_there found))
-      ∙ ap (λ l. before ++ named number xs l) (sym (drop_more names i 0 within))
+      ∙ ap (λ l. before ++ l) (sym (named_more ∙ ap (λ o. cons_option o (named number after (drop (i + 1) names))) found))
 
 -- the first that passes a test, changed or not
 pub first_changed : {X Y : Type 0} (p : Y → Bool) (f : Y → Option Y) (v : X → Y) (xs : List X) (i : ℕ) (old new : X) (done : Bool) → position (λ x. p (v x)) xs ≡ Some i → old ≡ get_or xs i old → f (v old) ≡ cond done (Some (v new)) None → changed_first p f (map v xs) ≡ cond done (Some (map v (slice_set xs i new))) None

@@ -8,7 +8,8 @@ use Rattle.trio_page.specs.Field.{with_part}
 use Rattle.trio_lease.specs.declared.parts.LentPage.{LentPage}
 use Rattle.trio_lease.specs.declared.parts.FreshParts.{FreshParts}
 use Rattle.trio_lease.specs.declared.parts.InoParts.{InoParts}
-use Rattle.trio_lease.specs.Shown.{LentFile, lent_at}
+use Rattle.trio_lease.specs.Shown.{LentFile, Shown, lent_at}
+use Rattle.trio_lease.specs.declared.parts.HoldParts.{HoldParts}
 use Rattle.trio_rights.specs.Sheets.{Sheet}
 use Rattle.trio_lease.specs.Views.{fresh_sheet, lent_sheet}
 use Rattle.trio_rights.specs.Bundle.{Written}
@@ -36,27 +37,27 @@ sheet_past offset new pages i past = changed_past (poked_sheet offset new) lent_
 -- ---- the things of a library
 
 -- the first file of a number, changed or not
-pub file_changed : (f : Written → Option Written) (leases : List LentFile) (pages : List Sheet) (numbers : List ℕ) (ino i : ℕ) (old new : LentFile) (done : Bool) → position (λ l. eqb l.stands.ino ino) leases ≡ Some i → old ≡ get_or leases i old → f (file_of old) ≡ cond done (Some (file_of new)) None → with_file f ino (record { files = map file_of leases; pages = pages; numbers = numbers }) ≡ cond done (Some (record { files = map file_of (slice_set leases i new); pages = pages; numbers = numbers })) None
-file_changed f leases pages numbers ino i old new done at is e =
-    let put : List Written → Has = λ files. record { files = files; pages = pages; numbers = numbers } in
+pub file_changed : (f : Written → Option Written) (leases : List LentFile) (reads : List Shown) (holds : List HoldParts) (pages : List Sheet) (numbers : List ℕ) (ino i : ℕ) (old new : LentFile) (done : Bool) → position (λ l. eqb l.stands.ino ino) leases ≡ Some i → old ≡ get_or leases i old → f (file_of old) ≡ cond done (Some (file_of new)) None → with_file f ino (record { files = map file_of leases; reads = reads; holds = holds; pages = pages; numbers = numbers }) ≡ cond done (Some (record { files = map file_of (slice_set leases i new); reads = reads; holds = holds; pages = pages; numbers = numbers })) None
+file_changed f leases reads holds pages numbers ino i old new done at is e =
+    let put : List Written → Has = λ files. record { files = files; reads = reads; holds = holds; pages = pages; numbers = numbers } in
     ap (option_map put) (first_changed (λ w. eqb w.ino ino) f file_of leases i old new done at is e)
     ∙ map_done put (map file_of (slice_set leases i new)) done
 
-pub file_missing : (f : Written → Option Written) (leases : List LentFile) (pages : List Sheet) (numbers : List ℕ) (ino : ℕ) → position (λ l. eqb l.stands.ino ino) leases ≡ None → with_file f ino (record { files = map file_of leases; pages = pages; numbers = numbers }) ≡ None
-file_missing f leases pages numbers ino at =
-    let put : List Written → Has = λ files. record { files = files; pages = pages; numbers = numbers } in
+pub file_missing : (f : Written → Option Written) (leases : List LentFile) (reads : List Shown) (holds : List HoldParts) (pages : List Sheet) (numbers : List ℕ) (ino : ℕ) → position (λ l. eqb l.stands.ino ino) leases ≡ None → with_file f ino (record { files = map file_of leases; reads = reads; holds = holds; pages = pages; numbers = numbers }) ≡ None
+file_missing f leases reads holds pages numbers ino at =
+    let put : List Written → Has = λ files. record { files = files; reads = reads; holds = holds; pages = pages; numbers = numbers } in
     ap (option_map put) (changed_first-none (λ w. eqb w.ino ino) f file_of leases at)
 
 -- the first allotted page of a number, changed or not
-pub fresh_changed : (f : Sheet → Option Sheet) (files : List Written) (fresh : List FreshParts) (numbers : List ℕ) (page i : ℕ) (old new : FreshParts) (done : Bool) → position (λ x. eqb x.no.0 page) fresh ≡ Some i → old ≡ get_or fresh i old → f (fresh_sheet old) ≡ cond done (Some (fresh_sheet new)) None → with_fresh f page (record { files = files; pages = map fresh_sheet fresh; numbers = numbers }) ≡ cond done (Some (record { files = files; pages = map fresh_sheet (slice_set fresh i new); numbers = numbers })) None
-fresh_changed f files fresh numbers page i old new done at is e =
-    let put : List Sheet → Has = λ pages. record { files = files; pages = pages; numbers = numbers } in
+pub fresh_changed : (f : Sheet → Option Sheet) (files : List Written) (reads : List Shown) (holds : List HoldParts) (fresh : List FreshParts) (numbers : List ℕ) (page i : ℕ) (old new : FreshParts) (done : Bool) → position (λ x. eqb x.no.0 page) fresh ≡ Some i → old ≡ get_or fresh i old → f (fresh_sheet old) ≡ cond done (Some (fresh_sheet new)) None → with_fresh f page (record { files = files; reads = reads; holds = holds; pages = map fresh_sheet fresh; numbers = numbers }) ≡ cond done (Some (record { files = files; reads = reads; holds = holds; pages = map fresh_sheet (slice_set fresh i new); numbers = numbers })) None
+fresh_changed f files reads holds fresh numbers page i old new done at is e =
+    let put : List Sheet → Has = λ pages. record { files = files; reads = reads; holds = holds; pages = pages; numbers = numbers } in
     ap (option_map put) (first_changed (λ x. eqb x.page page) f fresh_sheet fresh i old new done at is e)
     ∙ map_done put (map fresh_sheet (slice_set fresh i new)) done
 
-pub fresh_missing : (f : Sheet → Option Sheet) (files : List Written) (fresh : List FreshParts) (numbers : List ℕ) (page : ℕ) → position (λ x. eqb x.no.0 page) fresh ≡ None → with_fresh f page (record { files = files; pages = map fresh_sheet fresh; numbers = numbers }) ≡ None
-fresh_missing f files fresh numbers page at =
-    let put : List Sheet → Has = λ pages. record { files = files; pages = pages; numbers = numbers } in
+pub fresh_missing : (f : Sheet → Option Sheet) (files : List Written) (reads : List Shown) (holds : List HoldParts) (fresh : List FreshParts) (numbers : List ℕ) (page : ℕ) → position (λ x. eqb x.no.0 page) fresh ≡ None → with_fresh f page (record { files = files; reads = reads; holds = holds; pages = map fresh_sheet fresh; numbers = numbers }) ≡ None
+fresh_missing f files reads holds fresh numbers page at =
+    let put : List Sheet → Has = λ pages. record { files = files; reads = reads; holds = holds; pages = pages; numbers = numbers } in
     ap (option_map put) (changed_first-none (λ x. eqb x.page page) f fresh_sheet fresh at)
 
 -- ---- the same of the things themselves

@@ -8,22 +8,24 @@ use Rattle.trio_rights.specs.Row.{Row}
 use Rattle.trio_rights.specs.declared.rights.LibNo.{LibNo}
 use Rattle.trio_tables.specs.Free.{count_up}
 use Rattle.trio_tables.specs.Out.{is_out}
-use Rattle.trio_nodes.specs.declared.grant.GrantKind.TheVariants.{Write}
+use Rattle.trio_nodes.specs.declared.grant.GrantKind.{GrantKind}
+use Rattle.trio_nodes.specs.declared.grant.GrantKind.TheVariants.{Read, Write, Hold}
 use Rattle.trio_nodes.specs.declared.answers.GrantFault.{GrantFault}
-use Rattle.trio_nodes.specs.declared.answers.GrantFault.TheVariants.{Busy, NotLive}
+use Rattle.trio_nodes.specs.declared.answers.GrantFault.TheVariants.{Busy, NoParent, NotLive}
 use Rattle.trio_layout.specs.Chain.{Chain}
 use Rattle.trio_layout.specs.Core.{Core, Location, page_of}
 use Rattle.trio_lists.specs.Lists.{In, is_among, are_new}
 use Rattle.trio_rights.specs.Sheets.{Sheet}
 use Rattle.trio_layout.specs.Image.{row_at}
 use Rattle.trio_state.specs.State.{OpenGrant, State, settled, logged}
-use Rattle.trio_state.specs.Grants.{denied_by, denied_or, excluding, grant_fault, holder_of, opened}
+use Rattle.trio_state.specs.Grants.{denied_by, denied_or, excluding, grant_fault, holder_of, lacks_parent, lent_sheets, opened}
 use Rattle.trio_nodes.specs.GrantKinds.{excludes_kind}
 use Rattle.trio_layout.specs.Pages.{block_sheets, index_sheets, settled_chain, sheets_of}
 use Rattle.trio_state.specs.Allotments.{allots, free_pages, free_numbers}
-use Rattle.trio_state.specs.Step.{Granted, NotGranted, Given, NoPages, NoInodes, Done, Comes, granted_to}
+use Rattle.trio_state.specs.Step.{Granted, NotGranted, Given, NoPages, NoInodes, Comes, granted_to}
 use Rattle.trio_raw.specs.InHand.{InHand}
-use Rattle.trio_raw.specs.Laws.{GrantedIsInHand, GivenOutIsInHand, MayGoOut, lent_file, with_lent, with_allotted}
+use Rattle.trio_raw.specs.Held.{with_given}
+use Rattle.trio_raw.specs.Laws.{GrantedIsInHand, GivenOutIsInHand, MayGoOut, with_allotted}
 use Rattle.trio_lists.proofs.New.{is_among-not, are_new-fewer, are_new-take}
 use Rattle.trio_lists.proofs.Filters.{In-filter, filter-In}
 use Rattle.trio_lists.proofs.Members.{In-cases, In-left}
@@ -68,30 +70,48 @@ past_live : (live : Bool) (o : Option GrantFault) → live ≡ true → cond (no
 past_live true o l e = e
 past_live false o l e = absurd (false≢true l)
 
--- a write grant is given only where no grant on the file is open
-none_open : (s : State) (lib ino : ℕ) (r : Row) → row_at s.home ino ≡ Some r → grant_fault s lib ino Write ≡ None → (h : OpenGrant) → In h s.open_grants → h.ino ≡ ino → ⊥
-none_open s lib ino r row none h i e =
-    let rest : Option GrantFault = option_map (λ (g : OpenGrant). Busy (holder_of g)) (slice_get (excluding s lib ino Write) 0) in
-    let asked : denied_or (denied_by s lib ino Write) rest ≡ None = past_live (is_some (row_at s.home ino)) (denied_or (denied_by s lib ino Write) rest) (ap is_some row) none in
-    no_first (excluding s lib ino Write) h
-    (map_none (λ (g : OpenGrant). Busy (holder_of g)) (slice_get (excluding s lib ino Write) 0) (denied_none (denied_by s lib ino Write) rest asked))
-    (In-filter (λ (g : OpenGrant). eqb g.ino ino && excludes_kind Write g.kind (eqb g.lib lib)) h s.open_grants i
-    (and_from (eqb h.ino ino) true (eq-eqb h.ino ino e) refl))
+past_parent : (lacks : Bool) (o : Option GrantFault) → cond lacks (Some NoParent) o ≡ None → o ≡ None
+past_parent true o e = absurd cc
+past_parent false o e = e
+
+-- a grant of any kind is excluded by each of the same library
+own_excludes : (kind there : GrantKind) → excludes_kind kind there true ≡ true
+own_excludes Read Read = refl
+own_excludes Read Write = refl
+own_excludes Read Hold = refl
+own_excludes Write there = refl
+own_excludes Hold there = refl
+
+-- a grant is given only where the library has no grant on the file
+none_open : (s : State) (lib ino : ℕ) (kind : GrantKind) (r : Row) → row_at s.home ino ≡ Some r → grant_fault s lib ino kind ≡ None → (h : OpenGrant) → In h s.open_grants → h.lib ≡ lib → h.ino ≡ ino → ⊥
+none_open s lib ino kind r row none h i l e =
+    let busy : Option GrantFault = option_map (λ (g : OpenGrant). Busy (holder_of g)) (slice_get (excluding s lib ino kind) 0) in
+    let rest : Option GrantFault = cond (lacks_parent s lib ino kind) (Some NoParent) busy in
+    let asked : denied_or (denied_by s lib ino kind) rest ≡ None = past_live (is_some (row_at s.home ino)) (denied_or (denied_by s lib ino kind) rest) (ap is_some row) none in
+    let same : excludes_kind kind h.kind (eqb h.lib lib) ≡ true = ap (excludes_kind kind h.kind) (eq-eqb h.lib lib l) ∙ own_excludes kind h.kind in
+    no_first (excluding s lib ino kind) h
+    (map_none (λ (g : OpenGrant). Busy (holder_of g)) (slice_get (excluding s lib ino kind) 0)
+    (past_parent (lacks_parent s lib ino kind) busy (denied_none (denied_by s lib ino kind) rest asked)))
+    (In-filter (λ (g : OpenGrant). eqb g.ino ino && excludes_kind kind g.kind (eqb g.lib lib)) h s.open_grants i
+    (and_from (eqb h.ino ino) (excludes_kind kind h.kind (eqb h.lib lib)) (eq-eqb h.ino ino e) same))
+
+-- what a grant lends is of the settled image
+lent_full : (core : Core) (kind : GrantKind) (chain : Result Chain Location) (x : Sheet) → In x (lent_sheets kind (index_sheets core chain) ++ lent_sheets kind (block_sheets core chain)) → page_of core x.page ≡ Some x.bytes
+lent_full core Read chain x i = lent_there core chain x i
+lent_full core Write chain x i = lent_there core chain x i
+lent_full core Hold chain x i = absurd i
 
 pub granted_is_in_hand : GrantedIsInHand
-granted_is_in_hand s lib ino has children s' fit h comes = by_answer (grant_fault s lib ino Write) (row_at s.home ino) refl refl comes
+granted_is_in_hand s lib ino kind has children s' r lease fit h comes row is =
+    by_answer (grant_fault s lib ino kind) refl (subst (λ (o : Option Row). Comes (granted_to s lib ino kind (grant_fault s lib ino kind) o) (Granted children) s') row comes)
   where
-    by_answer : (fault : Option GrantFault) (row : Option Row) → grant_fault s lib ino Write ≡ fault → row_at s.home ino ≡ row → Comes (granted_to s lib ino Write fault row) (Granted children) s' → (r : Row) × (row_at s.home ino ≡ Some r) × InHand s' lib (with_lent has (lent_file (opened s lib ino Write r)))
-    by_answer (Some fault) row e f c = let wrong : Granted children ≡ NotGranted fault = c.0 in absurd (cc wrong)
-    by_answer None None e f c = let wrong : Granted children ≡ Done = c.0 in absurd (cc wrong)
-    by_answer None (Some r) e f c =
-        let g : OpenGrant = opened s lib ino Write r in (
-          r,
-          f,
-          subst (λ t. InHand t lib (with_lent has (lent_file g))) (sym c.1)
-              (lent_is_in_hand s lib has g h refl refl (none_open s lib ino r f e)
-              (λ x i. fit.full x.page x.bytes (lent_there (settled s).core (settled_chain (settled s) r.kind ino) x i))),
-        )
+    by_answer : (fault : Option GrantFault) → grant_fault s lib ino kind ≡ fault → Comes (granted_to s lib ino kind fault (Some r)) (Granted children) s' → InHand s' lib (with_given has lease)
+    by_answer (Some fault) e c = let wrong : Granted children ≡ NotGranted fault = c.0 in absurd (cc wrong)
+    by_answer None e c =
+        let g : OpenGrant = opened s lib ino kind r in
+        subst (λ t. InHand t lib (with_given has lease)) (sym c.1)
+        (lent_is_in_hand s lib has g lease h refl is (none_open s lib ino kind r row e)
+        (λ x i. fit.full x.page x.bytes (lent_full (settled s).core kind (settled_chain (settled s) r.kind ino) x i)))
 
 -- ---- allotments
 

@@ -1,5 +1,5 @@
 -- What a library has, each thing with all that it shows of itself.
-use Rattle.std.specs.Prelude.{ℕ, ◌==◌, List, [], Option, true}
+use Rattle.std.specs.Prelude.{ℕ, ◌==◌, List, [], ◌++◌, Option, true}
 use Rattle.std.specs.Option.{option_map}
 use Rattle.trio_lease.specs.Bundles.{Bundled}
 use Rattle.trio_lease.specs.Shown.{LentFile}
@@ -10,8 +10,8 @@ use Rattle.trio_nodes.specs.declared.spot.Spot.{Spot}
 use Rattle.trio_nodes.specs.declared.spot.Spot.TheVariants.{Body, Index, Block, Fresh}
 use Rattle.trio_raw.specs.Has.{changed_at, changed_first, named, poked_bytes, without_all}
 
--- the lent files, each as it stands and as it was lent, with the library, the entry and the marks of what was touched; and
--- the allotted pages and inode numbers, each with its library
+-- The files that are lent for writing, each as it stands and as it was lent, with the library, the entry and the marks of what
+-- was touched; and the allotted pages and inode numbers, each with its library. Read leases and holds stand whole in `Has`.
 pub record Things : Type 0 where
   pub leases : List LentFile
   pub pages : List FreshParts
@@ -86,4 +86,12 @@ things_left things inos pages numbers = record {
   leases = without_all (λ l. l.stands.ino) things.leases inos;
   pages = without_all (λ p. p.no.0) things.pages pages;
   numbers = without_all (λ n. n.no) things.numbers numbers;
+}
+
+-- the things with those of a bundle behind them
+abbrev pub things_back : Things → Bundled → Things
+things_back things b = record {
+  leases = things.leases ++ b.writes;
+  pages = things.pages ++ b.pages;
+  numbers = things.numbers ++ b.inodes;
 }

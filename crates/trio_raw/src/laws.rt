@@ -1,6 +1,6 @@
 //! The laws: the body of each function is empty, and its contract is the law.
 
-ghost use Rattle.trio_raw.specs.Laws.{AllWasGiven, AllottedIsInHand, GivenIsInHand, GivenOutIsInHand, GrantedIsInHand, LentIsInHand, NothingIsInHand, NothingIsLeft, PokedIsInHand, RestIsInHand, StaysInHand, TakenWasGiven};
+ghost use Rattle.trio_raw.specs.Laws.{AllWasGiven, AllottedIsInHand, GivenBackIsInHand, GivenIsInHand, GivenOutIsInHand, GrantedIsInHand, LentIsInHand, NothingIsInHand, NothingIsLeft, PokedIsInHand, PutBackIsInHand, RestIsInHand, StaysInHand, TakenWasGiven};
 
 /// In the first state of the controller a library that has nothing has only what was given to it.
 pub fn nothing_is_in_hand()
@@ -28,17 +28,27 @@ pub fn rest_is_in_hand()
     ensures law { RestIsInHand }
 {}
 
-/// Once the bundle of all has come to its end, nothing is left.
+/// Once the bundle of all has come to its end, nothing but read leases is left.
 pub fn nothing_is_left()
     ensures law { NothingIsLeft }
 {}
 
-/// A file that is lent for writing joins what a library has.
+/// What was taken and comes back was given, as before.
+pub fn put_back_is_in_hand()
+    ensures law { PutBackIsInHand }
+{}
+
+/// Once a read lease was given back, what is left is what was given and is still out.
+pub fn given_back_is_in_hand()
+    ensures law { GivenBackIsInHand }
+{}
+
+/// A lease that is given joins what a library has.
 pub fn lent_is_in_hand()
     ensures law { LentIsInHand }
 {}
 
-/// So does the file of each write grant that the controller gives.
+/// So does the lease of each grant that the controller gives.
 pub fn granted_is_in_hand()
     ensures law { GrantedIsInHand }
 {}
@@ -53,13 +63,14 @@ pub fn given_out_is_in_hand()
     ensures law { GivenOutIsInHand }
 {}
 
-/// What a library has was given to it in every state in which its write grants are open and its
+/// What a library has was given to it in every state in which its grants are open and its
 /// allotments out.
 pub fn stays_in_hand()
     ensures law { StaysInHand }
 {}
 
-/// What a library has was given to it in every state in which the bundle of all was.
+/// What a library has was given to it in every state in which the bundle of all was, and its read
+/// grants and holds are open.
 pub fn given_is_in_hand()
     ensures law { GivenIsInHand }
 {}

@@ -1,11 +1,12 @@
 //! Lent things by their numbers.
 
-ghost use Rattle.std.specs.Prelude.{◌≡◌, ◌+◌, ◌==◌, ◌≤◌, ◌++◌, ℕ, IsTrue, Some, [], length, map, vec_capacity, vec_len};
-ghost use Rattle.std.specs.List.{find, position};
+ghost use Rattle.std.specs.Prelude.{◌≡◌, ◌+◌, ◌==◌, ◌≤◌, ◌++◌, ◌&&◌, ◌||◌, ℕ, IsTrue, [], length, map, vec_capacity, vec_len};
+ghost use Rattle.std.specs.List.{find, list_all, position};
+ghost use Rattle.std.specs.Option.{option_copied};
 ghost use Rattle.trio_lists.specs.Lists.{are_new, is_among};
 ghost use Rattle.trio_raw.specs.Has.{are_there, named, without, without_all};
 
-use trio_lease::{FreshIno, FreshPage, WriteLease};
+use trio_lease::{FreshIno, FreshPage, HoldLease, ReadLease, WriteLease};
 
 /// A lent thing that goes by a number.
 pub(crate) trait Lent {
@@ -22,6 +23,30 @@ pub(crate) trait Lent {
 
 impl Lent for WriteLease {
     ghost number_of = { λ l. l.stands.ino };
+
+    fn number(&self) -> u32 {
+        self.ino()
+    }
+
+    fn let_go(self) {
+        self.discard();
+    }
+}
+
+impl Lent for ReadLease {
+    ghost number_of = { λ l. l.ino };
+
+    fn number(&self) -> u32 {
+        self.ino()
+    }
+
+    fn let_go(self) {
+        self.discard();
+    }
+}
+
+impl Lent for HoldLease {
+    ghost number_of = { λ h. h.ino };
 
     fn number(&self) -> u32 {
         self.ino()
@@ -63,6 +88,20 @@ pub(crate) fn place_of<T: Lent>(things: &[T], number: u32) -> Option<usize>
     things.iter().position(|thing| thing.number() == number)
 }
 
+/// The first thing of this number.
+pub(crate) fn thing_of<T: Lent>(things: &[T], number: u32) -> Option<&T>
+    ensures { option_copied result ≡ find (λ x. T.number_of x == number) things.now }
+{
+    things.iter().find(|thing| thing.number() == number)
+}
+
+/// Whether there is a thing of this number.
+fn has_one<T: Lent>(things: &[T], number: u32) -> bool
+    ensures { result ≡ is_among number (map T.number_of things.now) }
+{
+    thing_of(things, number).is_some()
+}
+
 /// Whether no number stands twice.
 fn are_once(numbers: &[u32]) -> bool
     ensures { result ≡ are_new [] numbers.now }
@@ -80,37 +119,51 @@ pub(crate) fn have_all<T: Lent>(things: &[T], numbers: &[u32]) -> bool
     ensures { result ≡ are_there T.number_of things.now numbers.now }
 {
     for number in numbers {
-        if place_of(things, *number).is_none() {
+        if !has_one(things, *number) {
             return false;
         }
     }
     are_once(numbers)
 }
 
-/// Takes the first thing of this number out of the list. There is one.
-fn take_one<T: Lent>(things: &mut Vec<T>, number: u32) -> T
-    requires { IsTrue (is_among number (map T.number_of things.old.items)) }
-    ensures taken { find (λ x. T.number_of x == number) things.old.items ≡ Some result }
+/// The same of things of two kinds.
+pub(crate) fn have_either<T: Lent, U: Lent>(things: &[T], others: &[U], numbers: &[u32]) -> bool
+    ensures { result ≡ (list_all (λ n. is_among n (map T.number_of things.now) || is_among n (map U.number_of others.now)) numbers.now && are_new [] numbers.now) }
+{
+    for number in numbers {
+        if !has_one(things, *number) && !has_one(others, *number) {
+            return false;
+        }
+    }
+    are_once(numbers)
+}
+
+/// Takes the first thing of this number out of the list, where there is one.
+pub(crate) fn take_one<T: Lent>(things: &mut Vec<T>, number: u32) -> Option<T>
+    ensures taken { result ≡ find (λ x. T.number_of x == number) things.old.items }
     ensures rest { things.new.items ≡ without T.number_of things.old.items number }
     ensures capacity { vec_capacity things.new ≡ vec_capacity things.old }
 {
-    let Some(i) = place_of(things, number) else {
-        unreachable!()
-    };
-    things.remove(i)
+    match place_of(things, number) {
+        Some(i) => Some(things.remove(i)),
+        None => None,
+    }
 }
 
-/// Moves the thing of each of these numbers from one list to the end of another, in the order of
-/// the numbers. All are there, and the other list has room for them.
+/// Moves the things of these numbers, where they are there, from one list to the end of another, in
+/// the order of the numbers. None of these stands twice, and the other list has room for them.
 pub(crate) fn move_all<T: Lent>(things: &mut Vec<T>, numbers: &[u32], taken: &mut Vec<T>)
-    requires there { IsTrue (are_there T.number_of things.old.items numbers.now) }
+    requires once { IsTrue (are_new [] numbers.now) }
     requires room { vec_len taken.old + length numbers.now ≤ vec_capacity taken.old }
     ensures taken { taken.new.items ≡ taken.old.items ++ named T.number_of things.old.items numbers.now }
     ensures rest { things.new.items ≡ without_all T.number_of things.old.items numbers.now }
+    ensures count { vec_len things.new + vec_len taken.new ≡ vec_len things.old + vec_len taken.old }
     ensures capacity { vec_capacity things.new ≡ vec_capacity things.old }
 {
     for number in numbers {
-        let thing = take_one(things, *number);
+        let Some(thing) = take_one(things, *number) else {
+            continue;
+        };
         if let Err(failed) = taken.push(thing) {
             failed.value.let_go();
             unreachable!()

@@ -1,17 +1,22 @@
 //! What one library has.
 
-ghost use Rattle.std.specs.Prelude.{◌≡◌, ◌+◌, ◌<◌, ◌++◌, ◌∷◌, ◌↔◌, [], Err, IfErr, IfOk, IfSome, IsFalse, IsNone, IsOk, IsTrue, None, OnErr, OnOk, Some, if◌then◌else◌, length, map};
+ghost use Rattle.std.specs.Prelude.{◌≡◌, ◌+◌, ◌<◌, ◌==◌, ◌++◌, ◌∷◌, ◌↔◌, [], Err, IfErr, IfOk, IfSome, IsFalse, IsNone, IsOk, IsTrue, None, OnErr, OnOk, Some, if◌then◌else◌, length, map};
+ghost use Rattle.std.specs.List.{find};
+ghost use Rattle.std.specs.Option.{option_copied};
 ghost use Rattle.trio_lease.specs.Views.{bundle_in, fresh_sheet};
-ghost use Rattle.trio_raw.specs.Has.{bundle_of, has_all_of, is_nothing, nothing, poked, poked_block, poked_body, poked_index, poked_sheet, rest_of, whole_bundle, with_file, with_fresh};
-ghost use Rattle.trio_raw.specs.Held.{HasSpare, HasRoomFor, NoPlaceLost, file_of};
-ghost use Rattle.trio_raw.specs.Things.{no_things, poked_allotted, poked_lease_block, poked_lease_body, poked_lease_index, poked_things, things_in, things_left, things_named, with_allotted_page, with_lease};
+ghost use Rattle.trio_raw.specs.Has.{bundle_of, bytes_at, has_all_of, has_read, is_nothing, named, nothing, only_reads, peeked, poked, poked_block, poked_body, poked_index, poked_sheet, rest_of, whole_bundle, with_file, with_fresh, without_read};
+ghost use Rattle.trio_raw.specs.Held.{HasPlaceFor, HasRoomFor, HasSpare, NoPlaceLost, file_of, things_given, with_back, with_given};
+ghost use Rattle.trio_raw.specs.Things.{no_things, poked_allotted, poked_lease_block, poked_lease_body, poked_lease_index, poked_things, things_back, things_in, things_left, things_named, with_allotted_page, with_lease};
 
-use crate::lent::{append_all, have_all, let_go_all, move_all, place_of};
+use crate::lent::{append_all, have_all, have_either, let_go_all, move_all, place_of, take_one};
+use crate::peek::{peek_bytes, shown_block, shown_body, shown_fresh, shown_index};
 use crate::poke::{poke_block, poke_body, poke_fresh, poke_index};
 use std::alloc::Global;
 use std::marker::Model;
 use std::mem;
-use trio_lease::{Allotted, Bundle, BundleParts, FreshIno, FreshPage, WriteLease};
+use trio_lease::{
+    Allotted, Bundle, BundleParts, FreshIno, FreshPage, HoldLease, Lease, ReadLease, WriteLease,
+};
 use trio_nodes::Spot;
 use trio_page::NoMemory;
 use trio_rights::LibNo;
@@ -25,8 +30,8 @@ pub enum RawFault {
     NoMemory,
 }
 
-/// The write leases, allotted pages and allotted inode numbers of one library, each kind in the
-/// order in which it came.
+/// The write leases, read leases, holds, allotted pages and allotted inode numbers of one library,
+/// each kind in the order in which it came.
 ///
 /// Contracts see the library, what it has in the words of the controller's steps (`Has`), the
 /// things themselves (`Things`) and, as `room`, how many of each kind have a place (`Held`).
@@ -34,6 +39,8 @@ pub struct Raw {
     alloc: Global,
     lib: LibNo,
     files: Vec<WriteLease>,
+    reads: Vec<ReadLease>,
+    holds: Vec<HoldLease>,
     pages: Vec<FreshPage>,
     inodes: Vec<FreshIno>,
 }
@@ -47,21 +54,23 @@ impl Model for Raw {
 
     ghost view = { λ r. record {
       lib = r.lib;
-      has = record { files = map file_of r.files.items; pages = map fresh_sheet r.pages.items; numbers = map (λ n. n.no) r.inodes.items };
+      has = record { files = map file_of r.files.items; reads = r.reads.items; holds = r.holds.items; pages = map fresh_sheet r.pages.items; numbers = map (λ n. n.no) r.inodes.items };
       things = record { leases = r.files.items; pages = r.pages.items; numbers = r.inodes.items };
-      room = record { files = vec_capacity r.files; pages = vec_capacity r.pages; numbers = vec_capacity r.inodes };
+      room = record { files = vec_capacity r.files; reads = vec_capacity r.reads; holds = vec_capacity r.holds; pages = vec_capacity r.pages; numbers = vec_capacity r.inodes };
     } };
 }
 
 impl Raw {
     /// A library that has nothing yet. It takes no memory.
     pub fn new(alloc: Global, lib: LibNo) -> Raw
-        ensures { result ≡ record { lib = lib; has = nothing; things = no_things; room = record { files = 0; pages = 0; numbers = 0 } } }
+        ensures { result ≡ record { lib = lib; has = nothing; things = no_things; room = record { files = 0; reads = 0; holds = 0; pages = 0; numbers = 0 } } }
     {
         Raw {
             alloc,
             lib,
             files: Vec::new(alloc),
+            reads: Vec::new(alloc),
+            holds: Vec::new(alloc),
             pages: Vec::new(alloc),
             inodes: Vec::new(alloc),
         }
@@ -74,8 +83,8 @@ impl Raw {
         self.lib
     }
 
-    /// Makes room for one more lease: after `Ok` the next [`add_lease`](Self::add_lease) answers
-    /// `Ok` and takes no memory.
+    /// Makes room for one more lease of any kind: after `Ok` the next [`add_lease`](Self::add_lease)
+    /// answers `Ok` and takes no memory.
     ///
     /// After [`NoMemory`] the library has what it had, and no less room.
     pub fn reserve_lease(&mut self) -> Result<(), NoMemory>
@@ -84,7 +93,9 @@ impl Raw {
         ensures grows { NoPlaceLost self.old.room self.new.room }
         ensures succeeds { HasSpare self.old 1 0 0 → IsOk result }
     {
-        self.files.reserve(1)
+        self.files.reserve(1)?;
+        self.reads.reserve(1)?;
+        self.holds.reserve(1)
     }
 
     /// Makes room for so many more pages and inode numbers: after `Ok` the next
@@ -101,20 +112,30 @@ impl Raw {
         self.inodes.reserve(inodes as usize)
     }
 
-    /// Adds a write lease as the last one. Where there is room for it
+    /// Adds a lease as the last one of its kind. Where there is room for it
     /// ([`reserve_lease`](Self::reserve_lease)), the answer is `Ok`.
     ///
     /// With [`NoMemory`] the lease comes back, and the library has what it had.
-    pub fn add_lease(&mut self, lease: WriteLease) -> Result<(), (WriteLease, NoMemory)>
-        ensures added { OnOk result (self.new ≡ record self.old { has = record self.old.has { files = self.old.has.files ++ file_of lease ∷ [] }; things = record self.old.things { leases = self.old.things.leases ++ lease ∷ [] }; room = self.new.room }) }
+    pub fn add_lease(&mut self, lease: Lease) -> Result<(), (Lease, NoMemory)>
+        ensures added { OnOk result (self.new ≡ record self.old { has = with_given self.old.has lease; things = things_given self.old.things lease; room = self.new.room }) }
         ensures kept { OnErr result (self.new ≡ record self.old { room = self.new.room }) }
         ensures back { IfErr result (λ e. e.0 ≡ lease) }
         ensures grows { NoPlaceLost self.old.room self.new.room }
         ensures succeeds { HasSpare self.old 1 0 0 → IsOk result }
     {
-        match self.files.push(lease) {
-            Ok(()) => Ok(()),
-            Err(failed) => Err((failed.value, NoMemory)),
+        match lease {
+            Lease::Write(lease) => match self.files.push(lease) {
+                Ok(()) => Ok(()),
+                Err(failed) => Err((Lease::Write(failed.value), NoMemory)),
+            },
+            Lease::Read(lease) => match self.reads.push(lease) {
+                Ok(()) => Ok(()),
+                Err(failed) => Err((Lease::Read(failed.value), NoMemory)),
+            },
+            Lease::Hold(lease) => match self.holds.push(lease) {
+                Ok(()) => Ok(()),
+                Err(failed) => Err((Lease::Hold(failed.value), NoMemory)),
+            },
         }
     }
 
@@ -141,8 +162,8 @@ impl Raw {
     }
 
     /// Writes these bytes at a spot, from an offset on, counted in bytes from the front of the body
-    /// or the page. `false` exactly where the library has no such thing or the bytes leave it, and
-    /// then nothing has changed.
+    /// or the page. `false` exactly where the library has no such write lease or allotted page, or
+    /// the bytes leave it, and then nothing has changed.
     pub fn poke(&mut self, at: Spot, offset: u32, bytes: &[u8]) -> bool
         ensures poked { poked self.old.has at offset bytes.now ≡ (if result then Some self.new.has else None) }
         ensures things { poked_things self.old.things at offset bytes.now ≡ (if result then Some self.new.things else None) }
@@ -205,14 +226,60 @@ impl Raw {
         }
     }
 
-    /// Takes the files, allotted pages and allotted inode numbers that are named out, as a bundle of
-    /// just these, each as it stands, in the order in which they are named, and with no hold.
+    /// The bytes of this length at a spot, from an offset on, counted in bytes from the front of the
+    /// body or the page. `None` exactly where the library has no such thing, or they leave it.
+    ///
+    /// Of a file it shows the write lease as it stands, or else the read lease as it was lent; a hold
+    /// shows the body alone.
+    pub fn peek(&self, at: Spot, offset: u32, len: u32) -> Option<&[u8]>
+        ensures { option_copied result ≡ peeked self.now.has at offset len }
+    {
+        peek_bytes(self.shown(at)?, offset, len)
+    }
+
+    /// All bytes at a spot.
+    fn shown(&self, at: Spot) -> Option<&[u8]>
+        ensures { option_copied result ≡ bytes_at self.now.has at }
+    {
+        match at {
+            Spot::Body(ino) => shown_body(&self.files, &self.reads, &self.holds, ino),
+            Spot::Index(ino, page) => shown_index(&self.files, &self.reads, ino, page),
+            Spot::Block(ino, block) => shown_block(&self.files, &self.reads, ino, block),
+            Spot::Fresh(page) => shown_fresh(&self.pages, page),
+        }
+    }
+
+    /// Takes the read lease on this file out, to be given back. `None` exactly where the library has
+    /// none on it.
+    pub fn back(&mut self, ino: u32) -> Option<ReadLease>
+        ensures lease { result ≡ find (λ r. r.ino == ino) self.old.has.reads }
+        ensures none { IsNone result ↔ IsFalse (has_read self.old.has ino) }
+        ensures rest { self.new ≡ record self.old { has = without_read self.old.has ino } }
+    {
+        take_one(&mut self.reads, ino)
+    }
+
+    /// Takes the last read lease out, to be given back. `None` exactly where the library has none.
+    pub fn last_read(&mut self) -> Option<ReadLease>
+        ensures lease { IfSome result (λ r. self.old.has.reads ≡ self.new.has.reads ++ r ∷ []) }
+        ensures none { IsNone result ↔ (self.old.has.reads ≡ []) }
+        ensures kept { IsNone result → self.new ≡ self.old }
+        ensures rest { self.new ≡ record self.old { has = record self.old.has { reads = self.new.has.reads } } }
+    {
+        self.reads.pop()
+    }
+
+    /// Takes the write leases and holds on the files that are named out, and the allotted pages and
+    /// inode numbers that are, as a bundle of just these, each as it stands, in the order in which
+    /// they are named. It may be put back ([`put_back`](Self::put_back)).
     ///
     /// Nothing changes on an error. [`RawFault::Absent`], exactly where one that is named isn't
-    /// there or is named twice. [`RawFault::NoMemory`]: there was no memory for the bundle.
+    /// there, as a file on which there is only a read lease, or is named twice. [`RawFault::NoMemory`]: there was no memory for the bundle.
     pub fn take(&mut self, inos: &[u32], pages: &[u32], inodes: &[u32]) -> Result<Bundle, RawFault>
         ensures bundle { IfOk result (λ b. bundle_in b ≡ bundle_of self.old.has inos.now pages.now inodes.now) }
         ensures things { IfOk result (λ b. things_in b ≡ things_named self.old.things inos.now pages.now inodes.now) }
+        ensures holds { IfOk result (λ b. b.holds ≡ named (λ h. h.ino) self.old.has.holds inos.now) }
+        ensures place { IfOk result (λ b. HasPlaceFor self.new b) }
         ensures rest { OnOk result (self.new ≡ record self.old { has = rest_of self.old.has inos.now pages.now inodes.now; things = things_left self.old.things inos.now pages.now inodes.now }) }
         ensures kept { OnErr result (self.new ≡ self.old) }
         ensures absent { result ≡ Err RawFault.Absent ↔ IsFalse (has_all_of self.old.has inos.now pages.now inodes.now) }
@@ -224,25 +291,48 @@ impl Raw {
             return Err(RawFault::NoMemory);
         };
         move_all(&mut self.files, inos, &mut parts.writes);
+        move_all(&mut self.holds, inos, &mut parts.holds);
         move_all(&mut self.pages, pages, &mut parts.pages);
         move_all(&mut self.inodes, inodes, &mut parts.inodes);
         Ok(Bundle::of(parts))
     }
 
-    /// Takes all that the library has, as one bundle, in the order in which it came, and with no
-    /// hold. `None` exactly where it has nothing. It takes no memory.
+    /// Puts back what [`take`](Self::take) took, each kind behind what is there.
+    pub fn put_back(&mut self, bundle: Bundle)
+        requires { HasPlaceFor self.old bundle }
+        ensures { self.new ≡ record self.old { has = with_back self.old.has bundle; things = things_back self.old.things bundle; room = self.new.room } }
+    {
+        let BundleParts {
+            writes,
+            holds,
+            pages,
+            inodes,
+        } = bundle.parts();
+        append_all(writes, &mut self.files);
+        append_all(holds, &mut self.holds);
+        append_all(pages, &mut self.pages);
+        append_all(inodes, &mut self.inodes);
+    }
+
+    /// Takes all that the library has but its read leases, as one bundle, in the order in which it
+    /// came. `None` exactly where it has nothing else. It takes no memory.
     pub fn take_all(&mut self) -> Option<Bundle>
         ensures bundle { IfSome result (λ b. bundle_in b ≡ whole_bundle self.old.has) }
+        ensures holds { IfSome result (λ b. b.holds ≡ self.old.has.holds) }
         ensures things { IfSome result (λ b. things_in b ≡ self.old.things) }
         ensures none { IsNone result ↔ IsTrue (is_nothing self.old.has) }
-        ensures left { self.new ≡ record self.old { has = nothing; things = no_things; room = self.new.room } }
+        ensures left { self.new ≡ record self.old { has = only_reads self.old.has; things = no_things; room = self.new.room } }
     {
-        if self.files.is_empty() && self.pages.is_empty() && self.inodes.is_empty() {
+        if self.files.is_empty()
+            && self.holds.is_empty()
+            && self.pages.is_empty()
+            && self.inodes.is_empty()
+        {
             return None;
         }
         Some(Bundle::of(BundleParts {
             writes: mem::replace(&mut self.files, Vec::new(self.alloc)),
-            holds: Vec::new(self.alloc),
+            holds: mem::replace(&mut self.holds, Vec::new(self.alloc)),
             pages: mem::replace(&mut self.pages, Vec::new(self.alloc)),
             inodes: mem::replace(&mut self.inodes, Vec::new(self.alloc)),
         }))
@@ -255,10 +345,14 @@ impl Raw {
             alloc: _,
             lib: _,
             files,
+            reads,
+            holds,
             pages,
             inodes,
         } = self;
         let_go_all(files);
+        let_go_all(reads);
+        let_go_all(holds);
         let_go_all(pages);
         let_go_all(inodes);
     }
@@ -267,7 +361,7 @@ impl Raw {
     fn has_all_of(&self, inos: &[u32], pages: &[u32], inodes: &[u32]) -> bool
         ensures { result ≡ has_all_of self.now.has inos.now pages.now inodes.now }
     {
-        if !have_all(&self.files, inos) {
+        if !have_either(&self.files, &self.holds, inos) {
             return false;
         }
         if !have_all(&self.pages, pages) {
@@ -277,7 +371,8 @@ impl Raw {
     }
 }
 
-/// The parts of a bundle that has nothing, with room for so many files, pages and inode numbers.
+/// The parts of a bundle that has nothing, with room for so many leases and as many holds, pages and
+/// inode numbers.
 fn room_for(
     alloc: Global,
     files: usize,
@@ -287,20 +382,23 @@ fn room_for(
     ensures { IfOk result (λ parts. HasRoomFor parts files pages inodes) }
 {
     let mut writes = Vec::new(alloc);
+    let mut holds = Vec::new(alloc);
     let mut fresh = Vec::new(alloc);
     let mut numbers = Vec::new(alloc);
     if writes.reserve(files).is_err()
+        || holds.reserve(files).is_err()
         || fresh.reserve(pages).is_err()
         || numbers.reserve(inodes).is_err()
     {
         writes.destroy_empty();
+        holds.destroy_empty();
         fresh.destroy_empty();
         numbers.destroy_empty();
         return Err(NoMemory);
     }
     Ok(BundleParts {
         writes,
-        holds: Vec::new(alloc),
+        holds,
         pages: fresh,
         inodes: numbers,
     })

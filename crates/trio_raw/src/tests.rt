@@ -4,7 +4,8 @@ use super::*;
 use std::alloc::Global;
 use std::test::Fail;
 use trio_lease::{
-    Allotted, Bundle, FreshIno, FreshPage, FreshParts, InoParts, LentPage, WriteLease, WriteParts,
+    Allotted, Bundle, FreshIno, FreshPage, FreshParts, HoldLease, HoldParts, InoParts, Lease,
+    LentPage, ReadLease, ReadParts, WriteLease, WriteParts,
 };
 use trio_nodes::Spot;
 use trio_page::{NoMemory, Page, PageNo};
@@ -18,11 +19,11 @@ fn lent_page(alloc: Global, no: u32) -> Result<LentPage, NoMemory> {
     })
 }
 
-/// A lease on this file with one index page and two blocks, all zero.
-fn lease_on(alloc: Global, ino: u32) -> Result<WriteLease, NoMemory> {
+/// A write lease on this file with one index page and two blocks, all zero.
+fn lease_on(alloc: Global, ino: u32) -> Result<Lease, NoMemory> {
     let index = vec![in alloc; lent_page(alloc, 20)?]?;
     let blocks = vec![in alloc; lent_page(alloc, 30)?, lent_page(alloc, 31)?]?;
-    Ok(WriteLease::of(WriteParts {
+    Ok(Lease::Write(WriteLease::of(WriteParts {
         lib: LibNo(2),
         ino,
         kind: Kind::Regular,
@@ -30,6 +31,34 @@ fn lease_on(alloc: Global, ino: u32) -> Result<WriteLease, NoMemory> {
         body: [0; 64],
         index,
         blocks,
+    })))
+}
+
+/// A read lease on this file with one index page and one block; each byte of the body is 5.
+fn read_on(alloc: Global, ino: u32) -> Result<Lease, NoMemory> {
+    let index = vec![in alloc; lent_page(alloc, 20)?]?;
+    let blocks = vec![in alloc; lent_page(alloc, 30)?]?;
+    Ok(Lease::Read(ReadLease::of(ReadParts {
+        lib: LibNo(2),
+        ino,
+        kind: Kind::Regular,
+        entry: 5,
+        body: [5; 64],
+        index,
+        blocks,
+    })))
+}
+
+/// A hold on this file of directory 1; each byte of its body is 6.
+fn hold_on(ino: u32) -> Lease {
+    Lease::Hold(HoldLease::of(HoldParts {
+        lib: LibNo(2),
+        ino,
+        kind: Kind::Directory,
+        entry: 5,
+        parent: 1,
+        body: [6; 64],
+        children: 3,
     }))
 }
 
@@ -64,7 +93,7 @@ fn allotted(alloc: Global) -> Result<Allotted, NoMemory> {
 }
 
 /// Adds a lease where there is room for it, and answers whether there was.
-fn add(raw: &mut Raw, lease: Result<WriteLease, NoMemory>) -> bool {
+fn add(raw: &mut Raw, lease: Result<Lease, NoMemory>) -> bool {
     let Ok(lease) = lease else { return false };
     if raw.reserve_lease().is_err() {
         lease.discard();
@@ -93,11 +122,14 @@ fn add_fresh(raw: &mut Raw, given: Result<Allotted, NoMemory>) -> bool {
     }
 }
 
-/// Library 2 with leases on files 7 and 8, page 50 and inode number 11.
+/// Library 2 with write leases on files 7 and 8, a read lease on file 5, a hold on file 6, page 50 and
+/// inode number 11.
 fn library(alloc: Global) -> Result<Raw, NoMemory> {
     let mut raw = Raw::new(alloc, LibNo(2));
     if add(&mut raw, lease_on(alloc, 7))
         && add(&mut raw, lease_on(alloc, 8))
+        && add(&mut raw, read_on(alloc, 5))
+        && add(&mut raw, Ok(hold_on(6)))
         && add_fresh(&mut raw, allotted(alloc))
     {
         return Ok(raw);
@@ -107,9 +139,9 @@ fn library(alloc: Global) -> Result<Raw, NoMemory> {
 }
 
 /// Of the first file in a bundle, its library, its entry where a `u32` has it, and 1 where its block
-/// 0 is marked as touched; then the inode numbers, page numbers and allotted inode numbers of the bundle,
-/// which has at most two of each. 0 is none. The bundle is let go.
-fn numbers_in(bundle: Bundle) -> [u32; 9] {
+/// 0 is marked as touched; then the numbers of the written files, the first held file, the pages and the
+/// allotted inode numbers of the bundle, which has at most two of each. 0 is none. The bundle is let go.
+fn numbers_in(bundle: Bundle) -> [u32; 10] {
     let first = bundle.writes().get(0);
     let numbers = [
         first.map_or(0, |file| file.lib().0),
@@ -117,6 +149,7 @@ fn numbers_in(bundle: Bundle) -> [u32; 9] {
         first.map_or(0, |file| u32::from(file.block_touched(0) == Some(true))),
         bundle.writes().get(0).map_or(0, |file| file.ino()),
         bundle.writes().get(1).map_or(0, |file| file.ino()),
+        bundle.holds().get(0).map_or(0, |hold| hold.ino()),
         bundle.pages().get(0).map_or(0, |page| page.no().0),
         bundle.pages().get(1).map_or(0, |page| page.no().0),
         bundle.inodes().get(0).map_or(0, |ino| ino.no()),
@@ -133,7 +166,7 @@ fn taken(
     inos: &[u32],
     pages: &[u32],
     inodes: &[u32],
-) -> Result<[u32; 9], RawFault> {
+) -> Result<[u32; 10], RawFault> {
     match raw.take(inos, pages, inodes) {
         Ok(bundle) => Ok(numbers_in(bundle)),
         Err(fault) => Err(fault),
@@ -141,7 +174,7 @@ fn taken(
 }
 
 /// The numbers in the bundle of all.
-fn all_taken(raw: &mut Raw, alloc: Global) -> Option<[u32; 9]> {
+fn all_taken(raw: &mut Raw, alloc: Global) -> Option<[u32; 10]> {
     match raw.take_all() {
         Some(bundle) => Some(numbers_in(bundle)),
         None => None,
@@ -209,11 +242,72 @@ fn what_is_not_there_is_not_written(rt: HostRuntime) -> Result<(), Fail> {
         Spot::Index(7, 1),
         Spot::Block(9, 0),
         Spot::Block(7, 2),
+        Spot::Body(5),
+        Spot::Block(5, 0),
+        Spot::Body(6),
         Spot::Fresh(30),
         Spot::Fresh(51),
     ] {
         assert!(rt; !raw.poke(at, 0, &[1]) && !raw.poke(at, 0, &[]));
     }
+    raw.discard();
+    Ok(())
+}
+
+/// The first of these bytes and how many there are.
+fn seen(bytes: Option<&[u8]>) -> Option<(u8, usize)> {
+    let bytes = bytes?;
+    Some((*bytes.get(0)?, bytes.len()))
+}
+
+#[test]
+fn each_lease_shows_what_it_has(rt: HostRuntime) -> Result<(), Fail> {
+    let mut raw = library(rt.alloc())?;
+    assert!(rt; raw.poke(Spot::Body(7), 63, &[1]) && raw.poke(Spot::Index(8, 0), 1, &[2]));
+    assert!(rt; raw.poke(Spot::Block(7, 1), 4095, &[3]) && raw.poke(Spot::Fresh(50), 9, &[4]));
+    for (at, offset, len, expected) in [
+        (Spot::Body(7), 63, 1, Some((1, 1))),
+        (Spot::Index(8, 0), 1, 4095, Some((2, 4095))),
+        (Spot::Block(7, 1), 4095, 1, Some((3, 1))),
+        (Spot::Fresh(50), 9, 2, Some((4, 2))),
+        (Spot::Body(5), 0, 64, Some((5, 64))),
+        (Spot::Index(5, 0), 0, 4096, Some((0, 4096))),
+        (Spot::Block(5, 0), 0, 4096, Some((0, 4096))),
+        (Spot::Body(6), 60, 4, Some((6, 4))),
+        (Spot::Body(7), 63, 2, None),
+        (Spot::Body(5), 0, 65, None),
+        (Spot::Block(7, 1), u32::MAX, u32::MAX, None),
+        (Spot::Index(6, 0), 0, 1, None),
+        (Spot::Block(6, 0), 0, 1, None),
+        (Spot::Block(5, 1), 0, 1, None),
+        (Spot::Body(9), 0, 1, None),
+        (Spot::Fresh(30), 0, 1, None),
+    ] {
+        assert!(rt; seen(raw.peek(at, offset, len)) == expected);
+    }
+    raw.discard();
+    Ok(())
+}
+
+/// Gives a read lease away, and answers the number of its file.
+fn let_go(lease: Option<ReadLease>) -> Option<u32> {
+    let lease = lease?;
+    let ino = lease.ino();
+    lease.discard();
+    Some(ino)
+}
+
+#[test]
+fn read_leases_are_given_back_and_not_handed_in(rt: HostRuntime) -> Result<(), Fail> {
+    let alloc = rt.alloc();
+    let mut raw = library(alloc)?;
+    assert!(rt; taken(&mut raw, alloc, &[5], &[], &[]) == Err(RawFault::Absent));
+    assert!(rt; let_go(raw.back(7)).is_none() && let_go(raw.back(6)).is_none());
+    assert!(rt; let_go(raw.back(5)) == Some(5));
+    assert!(rt; let_go(raw.back(5)).is_none() && let_go(raw.last_read()).is_none());
+    assert!(rt; add(&mut raw, read_on(alloc, 5)) && add(&mut raw, read_on(alloc, 4)));
+    assert!(rt; all_taken(&mut raw, alloc) == Some([2, 5, 0, 7, 8, 6, 50, 0, 11, 0]));
+    assert!(rt; let_go(raw.last_read()) == Some(4) && let_go(raw.last_read()) == Some(5));
     raw.discard();
     Ok(())
 }
@@ -224,13 +318,27 @@ fn one_of_two_is_taken(rt: HostRuntime) -> Result<(), Fail> {
     let mut raw = library(alloc)?;
     assert!(rt; raw.lib() == LibNo(2));
     assert!(rt; raw.poke(Spot::Block(8, 0), 0, &[1]));
-    assert!(rt; taken(&mut raw, alloc, &[9], &[], &[]) == Err(RawFault::Absent));
-    assert!(rt; taken(&mut raw, alloc, &[7], &[51], &[]) == Err(RawFault::Absent));
-    assert!(rt; taken(&mut raw, alloc, &[7], &[50], &[12]) == Err(RawFault::Absent));
-    assert!(rt; taken(&mut raw, alloc, &[7, 7], &[], &[]) == Err(RawFault::Absent));
-    assert!(rt; taken(&mut raw, alloc, &[8], &[50], &[]) == Ok([2, 5, 1, 8, 0, 50, 0, 0, 0]));
-    assert!(rt; all_taken(&mut raw, alloc) == Some([2, 5, 0, 7, 0, 0, 0, 11, 0]));
+    for (inos, pages, inodes) in [
+        (&[9], &[], &[]),
+        (&[7], &[51], &[]),
+        (&[7], &[50], &[12]),
+        (&[7, 7], &[], &[]),
+        (&[6, 7, 6], &[], &[]),
+    ] as [(&[u32], &[u32], &[u32]); 5]
+    {
+        assert!(rt; taken(&mut raw, alloc, inos, pages, inodes) == Err(RawFault::Absent));
+    }
+    assert!(rt; put_back_again(&mut raw, &[6, 7]) == Ok(()));
+    assert!(rt; taken(&mut raw, alloc, &[6, 8], &[50], &[]) == Ok([2, 5, 1, 8, 0, 6, 50, 0, 0, 0]));
+    assert!(rt; all_taken(&mut raw, alloc) == Some([2, 5, 0, 7, 0, 0, 0, 0, 11, 0]));
     raw.discard();
+    Ok(())
+}
+
+/// Takes these files and puts them back.
+fn put_back_again(raw: &mut Raw, inos: &[u32]) -> Result<(), RawFault> {
+    let bundle = raw.take(inos, &[], &[])?;
+    raw.put_back(bundle);
     Ok(())
 }
 
@@ -238,8 +346,8 @@ fn one_of_two_is_taken(rt: HostRuntime) -> Result<(), Fail> {
 fn all_is_taken_in_the_order_in_which_it_came(rt: HostRuntime) -> Result<(), Fail> {
     let alloc = rt.alloc();
     let mut raw = library(alloc)?;
-    assert!(rt; taken(&mut raw, alloc, &[], &[], &[]) == Ok([0; 9]));
-    assert!(rt; all_taken(&mut raw, alloc) == Some([2, 5, 0, 7, 8, 50, 0, 11, 0]));
+    assert!(rt; taken(&mut raw, alloc, &[], &[], &[]) == Ok([0; 10]));
+    assert!(rt; all_taken(&mut raw, alloc) == Some([2, 5, 0, 7, 8, 6, 50, 0, 11, 0]));
     assert!(rt; all_taken(&mut raw, alloc).is_none());
     raw.discard();
     Ok(())

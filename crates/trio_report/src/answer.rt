@@ -1,20 +1,22 @@
 //! What the lines of a script are answered.
 
-ghost use Rattle.std.specs.Prelude.{◌≡◌, ◌++◌, OnOk, codes};
+ghost use Rattle.std.specs.Prelude.{◌≡◌, ◌++◌, ◌<◌, OnOk, codes};
 ghost use Rattle.std.specs.List.{flat_map};
 ghost use Rattle.std.specs.Fmt.{decimal};
-ghost use Rattle.trio_report.specs.Answers.{after_comma, numbers_text, answer_text, answer_line, refused_text};
+ghost use Rattle.trio_report.specs.Answers.{after_comma, answer_line, answer_text, hex_byte, hex_digit, hex_text, numbers_text, refused_text};
 
 use crate::text::put_text;
 use std::alloc::Global;
-use trio_nodes::List;
+use trio_nodes::{Bytes, List};
 use trio_page::NoMemory;
 
 /// What a line of a script is answered.
 #[derive(Debug, PartialEq, Eq, Drop)]
 pub enum LineAnswer {
-    /// The grant was given.
+    /// The grant was given, to read or to write.
     Granted,
+    /// The hold was given, on a file of so many children.
+    GrantedHold { children: u32 },
     /// The grant wasn't given: no live file has this inode number.
     NotLive,
     /// The grant wasn't given: the file of this inode number denies it.
@@ -31,10 +33,17 @@ pub enum LineAnswer {
     NoInodes { wanted: u32, free: u32 },
     /// The bytes were written.
     Poked,
+    /// These bytes are there.
+    Seen(Bytes),
+    /// The read lease was given back.
+    GivenBack,
     /// The release was accepted.
     Accepted,
     /// The release was refused, by the rule of this number: 1 to 4 for I1 to I4.
     Refused(u8),
+    /// Nothing was released: of the hold on this file and the write lease on its parent the one was
+    /// handed in without the other.
+    NotClosed(u32),
     /// The library doesn't have what the line names.
     Absent,
 }
@@ -59,8 +68,11 @@ fn put_words(alloc: Global, out: &mut Vec<u8>, answer: &LineAnswer) -> Result<()
 {
     match answer {
         LineAnswer::Granted => put_text(out, "granted"),
+        LineAnswer::GrantedHold { children } => {
+            put_number(alloc, out, "granted children ", *children)
+        }
         LineAnswer::NotLive => put_text(out, "notlive"),
-        LineAnswer::Denied(ino) => put_denied(alloc, out, *ino),
+        LineAnswer::Denied(ino) => put_number(alloc, out, "denied ", *ino),
         LineAnswer::NoParent => put_text(out, "noparent"),
         LineAnswer::Busy => put_text(out, "busy"),
         LineAnswer::Allotted { pages, inodes } => put_allotted(
@@ -72,17 +84,47 @@ fn put_words(alloc: Global, out: &mut Vec<u8>, answer: &LineAnswer) -> Result<()
         LineAnswer::NoPages { wanted, free } => put_want(alloc, out, "nopages", *wanted, *free),
         LineAnswer::NoInodes { wanted, free } => put_want(alloc, out, "noinodes", *wanted, *free),
         LineAnswer::Poked => put_text(out, "poked"),
+        LineAnswer::Seen(bytes) => put_hex(out, bytes.as_slice()),
+        LineAnswer::GivenBack => put_text(out, "ok"),
         LineAnswer::Accepted => put_text(out, "accepted"),
         LineAnswer::Refused(rule) => put_refused(alloc, out, *rule),
+        LineAnswer::NotClosed(ino) => put_number(alloc, out, "notclosed ", *ino),
         LineAnswer::Absent => put_text(out, "absent"),
     }
 }
 
-fn put_denied(alloc: Global, out: &mut Vec<u8>, ino: u32) -> Result<(), NoMemory>
-    ensures { OnOk result (out.new.items ≡ out.old.items ++ (codes "denied " ++ decimal ino)) }
+fn put_number(alloc: Global, out: &mut Vec<u8>, words: &str, number: u32) -> Result<(), NoMemory>
+    ensures { OnOk result (out.new.items ≡ out.old.items ++ (words.now ++ decimal number)) }
 {
-    put_text(out, "denied ")?;
-    put_text(out, &format!(in alloc; "{ino}")?)
+    put_text(out, words)?;
+    put_text(out, &format!(in alloc; "{number}")?)
+}
+
+/// Appends two lower-case hexadecimal digits for each of these bytes.
+fn put_hex(out: &mut Vec<u8>, bytes: &[u8]) -> Result<(), NoMemory>
+    ensures { OnOk result (out.new.items ≡ out.old.items ++ hex_text bytes.now) }
+{
+    for byte in bytes {
+        put_hex_byte(out, *byte)?;
+    }
+    Ok(())
+}
+
+fn put_hex_byte(out: &mut Vec<u8>, byte: u8) -> Result<(), NoMemory>
+    ensures { OnOk result (out.new.items ≡ out.old.items ++ hex_byte byte) }
+{
+    out.extend_from_slice(&[hex_digit(byte / 16), hex_digit(byte % 16)])
+}
+
+fn hex_digit(value: u8) -> u8
+    requires { value < 16 }
+    ensures { result ≡ hex_digit value }
+{
+    if value < 10 {
+        b'0' + value
+    } else {
+        b'a' + (value - 10)
+    }
 }
 
 /// Appends the words for a refusal, as `refused I1`.

@@ -88,12 +88,22 @@ fn answers_are_told(rt: HostRuntime) -> Result<(), Fail> {
     put_answer(alloc, &mut out, 11, &LineAnswer::Poked)?;
     put_answer(alloc, &mut out, 12, &LineAnswer::Accepted)?;
     put_answer(alloc, &mut out, 13, &LineAnswer::Refused(4))?;
+    put_answer(
+        alloc,
+        &mut out,
+        14,
+        &LineAnswer::GrantedHold { children: 1 },
+    )?;
+    put_answer(alloc, &mut out, 15, &LineAnswer::NotClosed(12))?;
+    put_answer(alloc, &mut out, 16, &LineAnswer::GivenBack)?;
+    let bytes = List::from_vec([0, 9, 10, 0xa5, 0xff].to_vec(alloc)?);
+    put_answer(alloc, &mut out, 17, &LineAnswer::Seen(bytes))?;
     put_answer(alloc, &mut out, 16_384, &LineAnswer::Absent)?;
     put_end(alloc, &mut out, EndAnswer::Accepted)?;
     put_end(alloc, &mut out, EndAnswer::Refused(1))?;
     assert_eq!(rt;
         out.as_slice(),
-        b"2 granted\n3 notlive\n4 denied 12\n5 noparent\n10 busy\n11 poked\n12 accepted\n13 refused I4\n16384 absent\nend accepted\nend refused I1\n".as_slice()
+        b"2 granted\n3 notlive\n4 denied 12\n5 noparent\n10 busy\n11 poked\n12 accepted\n13 refused I4\n14 granted children 1\n15 notclosed 12\n16 ok\n17 00090aa5ff\n16384 absent\nend accepted\nend refused I1\n".as_slice()
     );
     Ok(())
 }

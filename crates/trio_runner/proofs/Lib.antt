@@ -1,3 +1,4 @@
+pub mod Leases
 pub mod Lines
 pub mod Runs
 pub mod Turns
@@ -7,3 +8,4 @@ pub mod Unchanged
 pub mod Left
 pub mod EndFree
 pub mod OnePlay
+pub mod Giving

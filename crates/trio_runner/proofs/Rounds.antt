@@ -14,6 +14,8 @@ use Rattle.trio_report.specs.declared.report.EndAnswer.{EndAnswer}
 use Rattle.trio_ctl.specs.Ctl.{IsLibrary}
 use Rattle.trio_runner.specs.Play.{Player, Plays, PlaysEnd, PlaysLine, at_start}
 use Rattle.trio_runner.specs.PlayLaws.{Stands}
+use Rattle.trio_runner.specs.EndFree.{AllInHand}
+use Rattle.trio_runner.proofs.EndFree.{line_in_hand}
 use Rattle.trio_runner.specs.Seen.{EndPlayed, IsReady, LinePlayed, LinesPlayed, ScriptPlayed, player}
 use Rattle.trio_runner.proofs.Creds.{step_creds}
 use Rattle.trio_runner.proofs.Lines.{IsAlone, IsAsked, line_end, line_stands}
@@ -33,7 +35,9 @@ ready_after said told s h s' h' ready l =
     let stands : Stands h.lib.0 (player s' h') = line_stands h.lib.0 (player s h) said told l.moves (player s' h') ready.stands l.line in
     let same : s'.creds ≡ s.creds = line_creds h.lib.0 (player s h) said told l.moves (player s' h') ready.stands l.line in
     let known : IsLibrary h.lib s' = (ready.library.0, subst (λ (cs : List Creds). h.lib.0 ≤ length cs) (sym same) ready.library.1) in
+    let all : AllInHand h.lib.0 (player s' h') = line_in_hand h.lib.0 (player s h) said told l.moves (player s' h') ready.all l.line in
     record {
+      all = subst (λ (n : LibNo). AllInHand n.0 (player s' h')) (sym l.lib) all;
       stands = subst (λ (n : LibNo). Stands n.0 (player s' h')) (sym l.lib) stands;
       library = subst (λ (n : LibNo). IsLibrary n s') (sym l.lib) known;
     }

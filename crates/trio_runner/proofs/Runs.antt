@@ -8,9 +8,11 @@ use Rattle.trio_script.specs.declared.line.RawLine.{RawLine}
 use Rattle.trio_script.specs.declared.ScriptLine.{ScriptLine}
 use Rattle.trio_report.specs.declared.answer.LineAnswer.{LineAnswer}
 use Rattle.trio_report.specs.declared.report.EndAnswer.{EndAnswer}
-use Rattle.trio_runner.specs.Play.{Player, PlaysLine, Plays, PlaysEnd, at_start, moves_of}
+use Rattle.trio_lease.specs.Shown.{Shown}
+use Rattle.trio_raw.specs.Has.{Has}
+use Rattle.trio_runner.specs.Play.{Player, PlaysLine, Plays, GivesBack, PlaysRelease, PlaysEnd, at_start, moves_of, without_reads}
 use Rattle.trio_runner.specs.PlayLaws.{Stands, PlaysMore, PlayedIsTrace, PlayedKeeps}
-use Rattle.trio_runner.proofs.Lines.{IsAlone, IsAsked, line_end, line_stands, end_cases, all_given, start_stands}
+use Rattle.trio_runner.proofs.Lines.{IsAlone, IsAsked, line_end, line_stands, end_cases, all_given, start_stands, reading, last_given, backs_stand, middle_stands}
 
 pub plays_more : PlaysMore
 plays_more lib p [] [] moves middle line told more p' plays last = record {
@@ -62,13 +64,33 @@ line_runs lib p said told moves p' h plays =
       | IsAsked event e given a ↦ subst (λ l. Runs p.state l p'.state) (sym a.moves_are) (record { trace = (refl, given, a.step, tt); last = refl })
     ]
 
--- the moves of the end
-end_runs : (lib : ℕ) (p : Player) (end : EndAnswer) (moves : List Move) (p' : Player) → Stands lib p → PlaysEnd lib p end moves p' → Runs p.state moves p'.state
-end_runs lib p end moves p' h plays =
+-- read leases that are given back
+back_runs : (lib : ℕ) (s : State) (has : Has) (xs rs : List Shown) (moves : List Move) (s' : State) → Stands lib (record { state = s; has = reading has (xs ++ rs) }) → GivesBack lib s rs moves s' → Runs s moves s'
+back_runs lib s has xs [] moves s' h b = none_runs s s' moves b.0 b.1
+back_runs lib s has xs (r ∷ rs) moves s' h b =
+    let joined : xs ++ r ∷ rs ≡ (xs ++ r ∷ []) ++ rs = sym (append_assoc xs (r ∷ []) rs) in
+    let stands = subst (λ l. Stands lib (record { state = s; has = reading has l })) joined h in
+    let before = back_runs lib s has (xs ++ r ∷ []) rs b.earlier b.middle stands b.before in
+    let middle = backs_stand lib s has (xs ++ r ∷ []) rs b.earlier b.middle stands b.before in
+    subst (λ l. Runs s l s') (sym b.moves_are)
+    (runs_on s b.middle s' b.earlier _ before (record { trace = (refl, last_given b.middle lib has xs r middle.in_hand, b.step, tt); last = refl }))
+
+-- the last release
+release_runs : (lib : ℕ) (p : Player) (end : EndAnswer) (moves : List Move) (p' : Player) → Stands lib p → PlaysRelease lib p end moves p' → Runs p.state moves p'.state
+release_runs lib p end moves p' h plays =
     elim (end_cases lib p end moves p' plays) [
       | inl a ↦ none_runs p.state p'.state moves a.moves_are (ap (λ (q : Player). q.state) a.same)
       | inr a ↦ subst (λ l. Runs p.state l p'.state) (sym a.moves_are) (record { trace = (refl, all_given lib p h, a.step, tt); last = refl })
     ]
+
+-- the moves of the end
+end_runs : (lib : ℕ) (p : Player) (end : EndAnswer) (moves : List Move) (p' : Player) → Stands lib p → PlaysEnd lib p end moves p' → Runs p.state moves p'.state
+end_runs lib p end moves p' h e =
+    let q : Player = record { state = e.middle; has = without_reads p.has } in
+    subst (λ l. Runs p.state l p'.state) (sym e.moves_are)
+    (runs_on p.state e.middle p'.state e.backs e.others
+    (back_runs lib p.state p.has [] p.has.reads e.backs e.middle h e.given_back)
+    (release_runs lib q end e.others p' (middle_stands lib p end moves p' h e) e.release))
 
 -- lines, one after another
 record Comes (lib : ℕ) (p : Player) (moves : List Move) (p' : Player) : Type 0 where

@@ -3,7 +3,7 @@ use Rattle.std.specs.Prelude.{◌≡◌, ℕ, List, [], map, Option, Some, IsTru
 use Rattle.trio_rights.specs.declared.rights.Creds.{Creds}
 use Rattle.trio_rights.specs.declared.rights.LibNo.{LibNo}
 use Rattle.trio_tables.specs.Out.{NoneOut, is_out, lib_at}
-use Rattle.trio_nodes.specs.declared.grant.GrantKind.TheVariants.{Write}
+use Rattle.trio_nodes.specs.declared.grant.GrantKind.TheVariants.{Read, Write, Hold}
 use Rattle.trio_lists.specs.Lists.{In}
 use Rattle.trio_rights.specs.Sheets.{sheet_numbers}
 use Rattle.trio_layout.specs.Image.{Image, IsFit}
@@ -18,11 +18,13 @@ pub record OutInHand (lib' : ℕ) (outs : List (Option LibNo)) (mine : List ℕ)
   pub lib : (n : ℕ) (l : LibNo) → lib_at outs n ≡ Some l → l.0 ≡ lib'
   pub number : (n : ℕ) → IsTrue (is_out outs n) → In n mine
 
--- every open grant is a write grant of the library, on a file that it has; and it has every page and every inode number that is out
+-- every open grant is one of the library, whose lease of that kind it has; and it has every page and every inode number that is
+-- out
 pub record AllInHand (lib' : ℕ) (p : Player) : Type 0 where
   pub lib : (g : OpenGrant) → In g p.state.open_grants → g.lib ≡ lib'
-  pub kind : (g : OpenGrant) → In g p.state.open_grants → g.kind ≡ Write
-  pub file : (g : OpenGrant) → In g p.state.open_grants → In g.ino (map (λ w. w.ino) p.has.files)
+  pub file : (g : OpenGrant) → In g p.state.open_grants → g.kind ≡ Write → In g.ino (map (λ w. w.ino) p.has.files)
+  pub read : (g : OpenGrant) → In g p.state.open_grants → g.kind ≡ Read → In g.ino (map (λ r. r.ino) p.has.reads)
+  pub hold : (g : OpenGrant) → In g p.state.open_grants → g.kind ≡ Hold → In g.ino (map (λ h. h.ino) p.has.holds)
   pub pages : OutInHand lib' p.state.pages_out (sheet_numbers p.has.pages)
   pub numbers : OutInHand lib' p.state.numbers_out p.has.numbers
 

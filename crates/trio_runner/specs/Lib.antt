@@ -1,3 +1,4 @@
+pub mod Lent
 pub mod Play
 pub mod PlayLaws
 pub mod Seen

@@ -1,11 +1,9 @@
 -- The laws of scripts: what they come to is a run of the controller.
 use Rattle.std.specs.Prelude.{◌≡◌, ℕ, List, [], ◌∷◌, ◌++◌}
 use Rattle.trio_rights.specs.declared.rights.Creds.{Creds}
-use Rattle.trio_nodes.specs.declared.grant.GrantKind.TheVariants.{Hold}
 use Rattle.trio_lists.specs.Lists.{In}
 use Rattle.trio_layout.specs.Image.{Image, IsFit}
 use Rattle.trio_layout.specs.Verifies.{Verifies}
-use Rattle.trio_state.specs.State.{OpenGrant, State}
 use Rattle.trio_state.specs.Kept.{Kept}
 use Rattle.trio_state.specs.Run.{start, IsWhole, Trace, Move}
 use Rattle.trio_raw.specs.InHand.{InHand}
@@ -15,15 +13,10 @@ use Rattle.trio_report.specs.declared.answer.LineAnswer.{LineAnswer}
 use Rattle.trio_report.specs.declared.report.EndAnswer.{EndAnswer}
 use Rattle.trio_runner.specs.Play.{Player, PlaysLine, Plays, PlaysEnd, Played, moves_of, at_start}
 
--- the library has no hold
-abbrev pub HasNoHold : ℕ → State → Type 0
-HasNoHold lib s = (g : OpenGrant) → In g s.open_grants → g.lib ≡ lib → g.kind ≡ Hold → ⊥
-
--- In the midst of a script the state is kept, and what the library has was given to it. It has no hold, since no line asks for one.
+-- in the midst of a script the state is kept, and what the library has was given to it
 pub record Stands (lib : ℕ) (p : Player) : Type 0 where
   pub kept : Kept p.state
   pub in_hand : InHand p.state lib p.has
-  pub no_hold : HasNoHold lib p.state
 
 -- so it is at the start, on an image that verifies with all its pages there
 abbrev pub StartStands : Type 0

@@ -10,16 +10,18 @@ use Rattle.trio_script.specs.declared.ScriptLine.{ScriptLine}
 use Rattle.trio_report.specs.declared.answer.LineAnswer.{LineAnswer}
 use Rattle.trio_report.specs.declared.report.EndAnswer.{EndAnswer}
 use Rattle.trio_ctl.specs.Ctl.{IsLibrary}
-use Rattle.trio_runner.specs.Play.{Player, PlaysLine, Plays, PlaysEnd, Played}
+use Rattle.trio_runner.specs.Play.{Player, PlaysLine, Plays, GivesBack, PlaysRelease, PlaysEnd, Played, without_reads}
 use Rattle.trio_runner.specs.PlayLaws.{Stands}
+use Rattle.trio_runner.specs.EndFree.{AllInHand}
 
 -- the controller's state beside what a library has
 abbrev pub player : State → Held → Player
 player s h = record { state = s; has = h.has }
 
--- a line may be played
+-- a line may be played: all that is out is in the library's hands
 pub record IsReady (s : State) (h : Held) : Type 0 where
   pub stands : Stands h.lib.0 (player s h)
+  pub all : AllInHand h.lib.0 (player s h)
   pub library : IsLibrary h.lib s
 
 -- a line was played, and told this
@@ -36,6 +38,19 @@ pub record LinesPlayed (lines : List ScriptLine) (s : State) (h : Held) (before 
   pub told : after ≡ before ++ tolds
   pub lib : h'.lib ≡ h.lib
   pub ready : IsReady s' h'
+
+-- all read leases of a library were given back, and it may be ended
+pub record AllGivenBack (s : State) (h : Held) (s' : State) (h' : Held) : Type 0 where
+  pub moves : List Move
+  pub given_back : GivesBack h.lib.0 s h.has.reads moves s'
+  pub has : h'.has ≡ without_reads h.has
+  pub lib : h'.lib ≡ h.lib
+  pub ready : IsReady s' h'
+
+-- all the rest was released
+pub record Released (end : EndAnswer) (s : State) (h : Held) (s' : State) (h' : Held) : Type 0 where
+  pub moves : List Move
+  pub release : PlaysRelease h.lib.0 (player s h) end moves (player s' h')
 
 -- a library came to its end
 pub record EndPlayed (end : EndAnswer) (s : State) (h : Held) (s' : State) (h' : Held) : Type 0 where

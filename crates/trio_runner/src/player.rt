@@ -1,24 +1,30 @@
 //! A library's lines, played.
 
-ghost use Rattle.std.specs.Prelude.{◌≡◌, ◌≤◌, ◌++◌, IfOk, OnOk, Some, length, map};
-ghost use Rattle.trio_state.specs.Given.{GivenTo};
+ghost use Rattle.std.specs.Prelude.{◌≡◌, ◌≤◌, ◌++◌, [], IfErr, IfOk, None, OnOk, Some, length, map};
+ghost use Rattle.std.specs.Option.{IsSomeAnd};
+ghost use Rattle.trio_nodes.specs.declared.grant.GrantKind.TheVariants.{Read};
+ghost use Rattle.trio_layout.specs.Image.{row_at};
+ghost use Rattle.trio_state.specs.Given.{GivenTo, HasGrant};
+ghost use Rattle.trio_state.specs.Grants.{children_of, opened};
+ghost use Rattle.trio_state.specs.Bundles.{parted_hold};
 ghost use Rattle.trio_allot.specs.Out.{inode_numbers, page_numbers};
 ghost use Rattle.trio_lease.specs.Views.{bundle_in, fresh_sheet};
 ghost use Rattle.trio_state.specs.Kept.{Kept};
 ghost use Rattle.trio_state.specs.Run.{start};
-ghost use Rattle.trio_state.specs.Step.{Release, Step};
-ghost use Rattle.trio_raw.specs.Held.{HasSpare, file_of};
-ghost use Rattle.trio_raw.specs.Laws.{with_lent};
-ghost use Rattle.trio_ctl.specs.Answers.{allot_fault_answer, verdict_of};
+ghost use Rattle.trio_state.specs.Step.{Back, Done, Grant, Release, Step};
+ghost use Rattle.trio_raw.specs.Held.{HasSpare, with_given};
+ghost use Rattle.trio_ctl.specs.Answers.{allot_fault_answer, release_answer, verdict_of};
 ghost use Rattle.trio_ctl.specs.Ctl.{IsLibrary};
-ghost use Rattle.trio_runner.specs.Play.{at_start, has_alone, told_alone, told_fault, told_of};
-ghost use Rattle.trio_runner.specs.PlayLaws.{HasNoHold};
-ghost use Rattle.trio_runner.specs.Seen.{EndPlayed, IsReady, LinePlayed, LinesPlayed, ScriptPlayed, player};
+ghost use Rattle.trio_runner.specs.Lent.{WereHeld, grant_told, lent_by, told_lease};
+ghost use Rattle.trio_runner.specs.Play.{at_start, has_alone, told_alone, told_fault, told_want};
+ghost use Rattle.trio_runner.specs.Seen.{AllGivenBack, EndPlayed, IsReady, LinePlayed, LinesPlayed, Released, ScriptPlayed, player};
 
 use std::alloc::Global;
 use trio_ctl::Ctl;
-use trio_lease::{Allotted, Bundle, FreshIno, FreshPage, Lease, WriteLease};
-use trio_nodes::{AllotFault, GrantFault, GrantKind, List, ReleaseAnswer, ReleaseFault, Spot};
+use trio_lease::{Allotted, Bundle, FreshIno, FreshPage, Lease, ReadLease};
+use trio_nodes::{
+    AllotFault, Bytes, GrantFault, GrantKind, List, ReleaseAnswer, ReleaseFault, Spot,
+};
 use trio_page::{NoMemory, Reads};
 use trio_raw::{Raw, RawFault};
 use trio_report::{EndAnswer, LineAnswer};
@@ -93,9 +99,11 @@ fn play_line(
     ensures { IfOk result (λ answer. LinePlayed line.now answer ctl.old.state raw.old ctl.new.state raw.new) }
 {
     match line {
-        RawLine::GrantWrite(ino) => play_grant(ctl, raw, *ino),
+        RawLine::Grant { ino, kind } => play_grant(ctl, raw, *ino, *kind),
+        RawLine::Back(ino) => Ok(play_back(ctl, raw, *ino)),
         RawLine::Allot { pages, inodes } => play_allot(alloc, ctl, raw, *pages, *inodes),
         RawLine::Poke { at, offset, bytes } => Ok(play_poke(raw, *at, *offset, bytes.as_slice())),
+        RawLine::Peek { at, offset, len } => play_peek(alloc, raw, *at, *offset, *len),
         RawLine::Release {
             inos,
             pages,
@@ -110,39 +118,79 @@ fn play_line(
     }
 }
 
-/// Asks for a write grant, and keeps the lease.
-fn play_grant(ctl: &mut Ctl, raw: &mut Raw, ino: u32) -> Result<LineAnswer, NoMemory>
+/// Asks for a grant, and keeps the lease.
+fn play_grant(
+    ctl: &mut Ctl,
+    raw: &mut Raw,
+    ino: u32,
+    kind: GrantKind,
+) -> Result<LineAnswer, NoMemory>
     requires { IsReady ctl.old.state raw.old }
-    ensures { IfOk result (λ answer. LinePlayed (RawLine.GrantWrite ino) answer ctl.old.state raw.old ctl.new.state raw.new) }
+    ensures { IfOk result (λ answer. LinePlayed (RawLine.Grant ino kind) answer ctl.old.state raw.old ctl.new.state raw.new) }
 {
     raw.reserve_lease()?;
-    match ctl.grant(raw.lib(), ino, GrantKind::Write) {
-        Ok(Lease::Write(lease)) => {
+    match ask_grant(ctl, raw.lib(), ino, kind) {
+        Ok(lease) => {
+            let answer = lease_answer(&lease);
             keep_lease(raw, lease);
-            Ok(LineAnswer::Granted)
-        }
-        // a write grant gives no other lease
-        Ok(Lease::Read(lease)) => {
-            lease.discard();
-            unreachable!()
-        }
-        Ok(Lease::Hold(lease)) => {
-            lease.discard();
-            unreachable!()
+            Ok(answer)
         }
         Err(fault) => fault_answer(fault),
     }
 }
 
+/// How a line is answered that was given this lease.
+fn lease_answer(lease: &Lease) -> LineAnswer
+    ensures { result ≡ told_lease lease.now }
+{
+    match lease {
+        Lease::Read(_) => LineAnswer::Granted,
+        Lease::Write(_) => LineAnswer::Granted,
+        Lease::Hold(hold) => LineAnswer::GrantedHold {
+            children: hold.children(),
+        },
+    }
+}
+
 /// Adds a lease, for which there is room.
-fn keep_lease(raw: &mut Raw, lease: WriteLease)
+fn keep_lease(raw: &mut Raw, lease: Lease)
     requires { HasSpare raw.old 1 0 0 }
-    ensures has { raw.new.has ≡ with_lent raw.old.has (file_of lease) }
+    ensures has { raw.new.has ≡ with_given raw.old.has lease }
     ensures lib { raw.new.lib ≡ raw.old.lib }
 {
     if let Err((lease, _no_memory)) = raw.add_lease(lease) {
         lease.discard();
         unreachable!()
+    }
+}
+
+/// Gives the read lease on this file back, where the library has one.
+fn play_back(ctl: &mut Ctl, raw: &mut Raw, ino: u32) -> LineAnswer
+    requires { IsReady ctl.old.state raw.old }
+    ensures { LinePlayed (RawLine.Back ino) result ctl.old.state raw.old ctl.new.state raw.new }
+{
+    match raw.back(ino) {
+        Some(lease) => {
+            give_back(ctl, lease);
+            LineAnswer::GivenBack
+        }
+        None => LineAnswer::Absent,
+    }
+}
+
+/// Shows bytes of what the library has. Nobody is asked.
+fn play_peek(
+    alloc: Global,
+    raw: &Raw,
+    at: Spot,
+    offset: u32,
+    len: u32,
+) -> Result<LineAnswer, NoMemory>
+    ensures { IfOk result (λ answer. answer ≡ told_alone raw.now.has (RawLine.Peek at offset len)) }
+{
+    match raw.peek(at, offset, len) {
+        Some(bytes) => Ok(LineAnswer::Seen(Bytes::copied(alloc, bytes)?)),
+        None => Ok(LineAnswer::Absent),
     }
 }
 
@@ -223,7 +271,7 @@ fn numbers_of_inodes(alloc: Global, inodes: &[FreshIno]) -> Result<Vec<u32>, NoM
 
 /// How a line is answered that wants more than is free. Want of memory is no answer.
 fn want_answer(fault: AllotFault) -> Result<LineAnswer, NoMemory>
-    ensures { IfOk result (λ answer. told_of (allot_fault_answer fault) ≡ Some answer) }
+    ensures { IfOk result (λ answer. told_want (allot_fault_answer fault) ≡ Some answer) }
 {
     match fault {
         AllotFault::NoPages { wanted, free } => Ok(LineAnswer::NoPages { wanted, free }),
@@ -261,16 +309,46 @@ fn play_release(
         Err(RawFault::Absent) => return Ok(LineAnswer::Absent),
         Err(RawFault::NoMemory) => return Err(NoMemory),
     };
-    match hand_in(ctl, raw.lib(), bundle)? {
-        ReleaseAnswer::Accepted => Ok(LineAnswer::Accepted),
-        ReleaseAnswer::Refused { rule, .. } => Ok(LineAnswer::Refused(rule)),
+    match hand_over(ctl, raw.lib(), bundle) {
+        Ok(ReleaseAnswer::Accepted) => Ok(LineAnswer::Accepted),
+        Ok(ReleaseAnswer::Refused { rule, .. }) => Ok(LineAnswer::Refused(rule)),
+        Err((bundle, fault)) => match fault {
+            ReleaseFault::NotClosed(ino) => {
+                raw.put_back(bundle);
+                Ok(LineAnswer::NotClosed(ino))
+            }
+            ReleaseFault::NoMemory => {
+                bundle.discard();
+                Err(NoMemory)
+            }
+        },
     }
 }
 
-/// Ends the library: all that it has is released in one bundle.
+/// Ends the library: its read leases are given back, and all the rest is released in one bundle.
 fn play_end(ctl: &mut Ctl, raw: &mut Raw) -> Result<EndAnswer, NoMemory>
     requires { IsReady ctl.old.state raw.old }
     ensures { IfOk result (λ end. EndPlayed end ctl.old.state raw.old ctl.new.state raw.new) }
+{
+    give_all_back(ctl, raw);
+    release_all(ctl, raw)
+}
+
+/// Gives all read leases back, the last one first.
+fn give_all_back(ctl: &mut Ctl, raw: &mut Raw)
+    requires { IsReady ctl.old.state raw.old }
+    ensures { AllGivenBack ctl.old.state raw.old ctl.new.state raw.new }
+{
+    while let Some(lease) = raw.last_read() {
+        give_back(ctl, lease);
+    }
+}
+
+/// Releases all that a library has which has no read lease.
+fn release_all(ctl: &mut Ctl, raw: &mut Raw) -> Result<EndAnswer, NoMemory>
+    requires ready { IsReady ctl.old.state raw.old }
+    requires no_read { raw.old.has.reads ≡ [] }
+    ensures { IfOk result (λ end. Released end ctl.old.state raw.old ctl.new.state raw.new) }
 {
     let Some(bundle) = raw.take_all() else {
         return Ok(EndAnswer::Nothing);
@@ -281,22 +359,55 @@ fn play_end(ctl: &mut Ctl, raw: &mut Raw) -> Result<EndAnswer, NoMemory>
     }
 }
 
-/// Hands in a bundle of a library that has no hold. So it comes to a verdict.
+/// Hands in the bundle of all that a library has out. So it comes to a verdict.
 fn hand_in(ctl: &mut Ctl, lib: LibNo, bundle: Bundle) -> Result<ReleaseAnswer, NoMemory>
     requires library { IsLibrary lib ctl.old.state }
     requires given { GivenTo ctl.old.state lib.0 (bundle_in bundle) }
-    requires no_hold { HasNoHold lib.0 ctl.old.state }
+    requires held { WereHeld ctl.old.state lib.0 bundle.holds }
+    requires closed { parted_hold ctl.old.state lib.0 (bundle_in bundle) ≡ None }
     ensures { IfOk result (λ answer. Step ctl.old.state (Release lib.0 (bundle_in bundle)) (verdict_of answer) ctl.new.state) }
 {
-    match ctl.release(lib, bundle, &mut Reads::new()) {
+    match hand_over(ctl, lib, bundle) {
         Ok(answer) => Ok(answer),
         Err((bundle, fault)) => {
             bundle.discard();
             match fault {
                 ReleaseFault::NoMemory => Err(NoMemory),
-                // only a hold can be missing
+                // the bundle parts no hold from its parent's write lease
                 ReleaseFault::NotClosed(_) => unreachable!(),
             }
         }
     }
+}
+
+/// Asks the controller for a grant.
+fn ask_grant(ctl: &mut Ctl, lib: LibNo, ino: u32, kind: GrantKind) -> Result<Lease, GrantFault>
+    requires { IsLibrary lib ctl.old.state }
+    ensures step { Step ctl.old.state (Grant lib.0 ino kind) (grant_told result) ctl.new.state }
+    ensures lease { IfOk result (λ lease. IsSomeAnd (row_at ctl.old.state.home ino) (λ r. lease ≡ lent_by r.parent (children_of ctl.old.state.home ino) (opened ctl.old.state lib.0 ino kind r))) }
+{
+    ctl.grant(lib, ino, kind)
+}
+
+/// Gives a read lease back to the controller.
+fn give_back(ctl: &mut Ctl, lease: ReadLease)
+    requires { HasGrant ctl.old.state lease.lib.0 lease.ino Read }
+    ensures { Step ctl.old.state (Back lease.lib.0 lease.ino) Done ctl.new.state }
+{
+    lease.discard();
+}
+
+/// Hands a bundle over to the controller.
+fn hand_over(
+    ctl: &mut Ctl,
+    lib: LibNo,
+    bundle: Bundle,
+) -> Result<ReleaseAnswer, (Bundle, ReleaseFault)>
+    requires library { IsLibrary lib ctl.old.state }
+    requires given { GivenTo ctl.old.state lib.0 (bundle_in bundle) }
+    requires held { WereHeld ctl.old.state lib.0 bundle.holds }
+    ensures step { Step ctl.old.state (Release lib.0 (bundle_in bundle)) (release_answer result (λ back. back.1)) ctl.new.state }
+    ensures back { IfErr result (λ back. back.0 ≡ bundle) }
+{
+    ctl.release(lib, bundle, &mut Reads::new())
 }

@@ -1,21 +1,40 @@
 -- What a line says, as its words.
-use Rattle.std.specs.Prelude.{ℕ, List, [], ◌∷◌, Option, None, Some, if◌then◌else◌, codes}
+use Rattle.std.specs.Prelude.{ℕ, nat_le, ◌&&◌, List, [], ◌∷◌, Option, None, Some, if◌then◌else◌, codes}
 use Rattle.std.specs.Str.{bytes_eq}
+use Rattle.trio_nodes.specs.declared.grant.GrantKind.{GrantKind}
+use Rattle.trio_nodes.specs.declared.grant.GrantKind.TheVariants.{Read, Write, Hold}
 use Rattle.trio_nodes.specs.declared.spot.Spot.{Spot}
 use Rattle.trio_nodes.specs.declared.spot.Spot.TheVariants.{Body, Index, Block, Fresh}
 use Rattle.trio_script.specs.declared.line.RawLine.{RawLine}
-use Rattle.trio_script.specs.declared.line.RawLine.TheVariants.{GrantWrite, Allot, Poke, Release}
+use Rattle.trio_script.specs.declared.line.RawLine.TheVariants.{Grant, Back, Allot, Poke, Peek, Release}
 use Rattle.trio_script.specs.Words.{words_of, number_of, hex_of, list_of}
 
--- a request for a write grant, where its number is one
-abbrev pub granted : Option ℕ → Option RawLine
-granted (Some ino) = Some (GrantWrite ino)
-granted None = None
+-- the kind of grant that a word names
+abbrev pub grant_kind : List ℕ → Option GrantKind
+grant_kind word =
+    if bytes_eq word (codes "read") then Some Read else
+    (if bytes_eq word (codes "write") then Some Write else
+    (if bytes_eq word (codes "hold") then Some Hold else None))
 
--- behind `grant`: `write INO`
+-- a request for a grant, where its number is one and its kind too
+abbrev pub granted : Option ℕ → Option GrantKind → Option RawLine
+granted (Some ino) (Some kind) = Some (Grant ino kind)
+granted _ _ = None
+
+-- behind `grant`: `read INO`, `write INO` or `hold INO`
 abbrev pub grant_in : List (List ℕ) → Option RawLine
-grant_in (right ∷ ino ∷ []) = if bytes_eq right (codes "write") then granted (number_of ino) else None
+grant_in (kind ∷ ino ∷ []) = granted (number_of ino) (grant_kind kind)
 grant_in _ = None
+
+-- a read lease that is given back, where its number is one
+abbrev pub given_back : Option ℕ → Option RawLine
+given_back (Some ino) = Some (Back ino)
+given_back None = None
+
+-- behind `back`: `INO`
+abbrev pub back_in : List (List ℕ) → Option RawLine
+back_in (ino ∷ []) = given_back (number_of ino)
+back_in _ = None
 
 -- a request for an allotment, where both numbers are
 abbrev pub allotted : Option ℕ → Option ℕ → Option RawLine
@@ -52,6 +71,22 @@ poke_in (place ∷ number ∷ offset ∷ hex ∷ []) = poked (whole_spot place (
 poke_in (place ∷ ino ∷ i ∷ offset ∷ hex ∷ []) = poked (part_spot place (number_of ino) (number_of i)) (number_of offset) (hex_of hex)
 poke_in _ = None
 
+-- how many bytes are to be shown: 1 to 4096
+abbrev pub seen_length : Option ℕ → Option ℕ
+seen_length (Some n) = if nat_le 1 n && nat_le n 4096 then Some n else None
+seen_length None = None
+
+-- bytes to be shown, where spot, offset and length are there
+abbrev pub peeked : Option Spot → Option ℕ → Option ℕ → Option RawLine
+peeked (Some at) (Some offset) (Some len) = Some (Peek at offset len)
+peeked _ _ _ = None
+
+-- behind `peek`: `body INO OFF LEN`, `index INO I OFF LEN`, `block INO I OFF LEN` or `fresh PAGE OFF LEN`
+abbrev pub peek_in : List (List ℕ) → Option RawLine
+peek_in (place ∷ number ∷ offset ∷ len ∷ []) = peeked (whole_spot place (number_of number)) (number_of offset) (seen_length (number_of len))
+peek_in (place ∷ ino ∷ i ∷ offset ∷ len ∷ []) = peeked (part_spot place (number_of ino) (number_of i)) (number_of offset) (seen_length (number_of len))
+peek_in _ = None
+
 -- what is to be handed in, where all three lists are
 abbrev pub released : Option (List ℕ) → Option (List ℕ) → Option (List ℕ) → Option RawLine
 released (Some inos) (Some pages) (Some inodes) = Some (Release inos pages inodes)
@@ -62,15 +97,17 @@ abbrev pub release_in : List (List ℕ) → Option RawLine
 release_in (inos ∷ pages ∷ inodes ∷ []) = released (list_of inos) (list_of pages) (list_of inodes)
 release_in _ = None
 
--- the four forms, by their first word
+-- the six forms, by their first word
 abbrev pub said_in : List (List ℕ) → Option RawLine
 said_in (command ∷ words) =
     if bytes_eq command (codes "grant") then grant_in words else
     (if bytes_eq command (codes "allot") then allot_in words else
     (if bytes_eq command (codes "poke") then poke_in words else
-    (if bytes_eq command (codes "release") then release_in words else None)))
+    (if bytes_eq command (codes "peek") then peek_in words else
+    (if bytes_eq command (codes "back") then back_in words else
+    (if bytes_eq command (codes "release") then release_in words else None)))))
 said_in [] = None
 
--- what a line says, where it has one of the four forms
+-- what a line says, where it has one of the six forms
 abbrev pub line_said : List ℕ → Option RawLine
 line_said line = said_in (words_of line)

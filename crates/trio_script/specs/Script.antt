@@ -30,7 +30,7 @@ names_library line = bytes_eq (take 4 line) (codes "lib ")
 abbrev pub is_library_line : List ℕ → Bool
 is_library_line line = bytes_eq line (codes "lib 1 raw 0 0")
 
--- a line that says something is built: the first such line is the library's, and each after it has one of the four forms
+-- a line that says something is built: the first such line is the library's, and each after it has one of the six forms
 abbrev pub is_built : Bool → List ℕ → Bool
 is_built begun line = if begun then is_some (line_said line) else is_library_line line
 
@@ -58,17 +58,17 @@ abbrev pub IsUnbuilt : List ℕ → ScriptFault → Type 0
 IsUnbuilt script (Unbuilt number) = unbuilt_line script ≡ Some number
 IsUnbuilt script NoMemory = ⊤
 
--- what a line says, with its number, where it has one of the four forms
+-- what a line says, with its number, where it has one of the six forms
 abbrev pub said_at : ℕ → Option RawLine → List ScriptLine
 said_at number (Some line) = record { number = number; line = line } ∷ []
 said_at number None = []
 
--- the lines from `number` on that have one of the four forms
+-- the lines from `number` on that have one of the six forms
 abbrev pub said_from : ℕ → List (List ℕ) → List ScriptLine
 said_from number [] = []
 said_from number (line ∷ lines) = said_at number (line_said line) ++ said_from (number + 1) lines
 
--- What a script says: its lines that have one of the four forms, with their numbers, counted from 1. Where the script is built,
+-- What a script says: its lines that have one of the six forms, with their numbers, counted from 1. Where the script is built,
 -- these are all lines that say something, but the library's.
 abbrev pub script_lines : List ℕ → List ScriptLine
 script_lines script = said_from 1 (lines_of script)

@@ -1,18 +1,27 @@
 //! What the lines of a hostile library say.
 
 ghost use Rattle.std.specs.Prelude.{◌≡◌, IfOk, map};
-ghost use Rattle.trio_script.specs.Said.{grant_in, allot_in, whole_spot, part_spot, poked, poke_in, released, release_in, said_in, line_said};
+ghost use Rattle.trio_script.specs.Said.{allot_in, back_in, grant_in, grant_kind, line_said, part_spot, peek_in, peeked, poke_in, poked, release_in, released, said_in, seen_length, whole_spot};
 
 use crate::word::{parts, read_hex, read_list, read_number};
 use std::alloc::Global;
-use trio_nodes::{Bytes, List, Spot};
+use trio_nodes::{Bytes, GrantKind, List, Spot};
 use trio_page::NoMemory;
+
+/// The most bytes that one line may show.
+const PEEK_LIMIT: u32 = 4096;
 
 /// What a line of a hostile library says.
 #[derive(Debug, PartialEq, Eq, Drop)]
 pub enum RawLine {
-    /// `grant write INO`: a write grant on this file is asked.
-    GrantWrite(u32),
+    /// `grant read INO`, `grant write INO` or `grant hold INO`: a grant of this kind on this file is
+    /// asked.
+    Grant {
+        ino: u32,
+        kind: GrantKind,
+    },
+    /// `back INO`: the read lease on this file is given back.
+    Back(u32),
     /// `allot PAGES INODES`: so many pages and inode numbers are asked.
     Allot {
         pages: u32,
@@ -25,8 +34,15 @@ pub enum RawLine {
         offset: u32,
         bytes: Bytes,
     },
-    /// `release INOS PAGES INODES`: these files, and these allotted pages and inode numbers, are
-    /// given back. No number stands twice in a list.
+    /// `peek` with the same spots, and `OFF LEN` behind them: so many bytes, 1 to 4096, are shown from
+    /// this byte on, counted from 0.
+    Peek {
+        at: Spot,
+        offset: u32,
+        len: u32,
+    },
+    /// `release INOS PAGES INODES`: the write leases and holds on these files, and these allotted pages
+    /// and inode numbers, are handed in. No number stands twice in a list.
     Release {
         inos: List<u32>,
         pages: List<u32>,
@@ -34,7 +50,7 @@ pub enum RawLine {
     },
 }
 
-/// What a line says, where it has one of the four forms of [`RawLine`].
+/// What a line says, where it has one of the forms of [`RawLine`].
 pub fn read_line(alloc: Global, line: &[u8]) -> Result<Option<RawLine>, NoMemory>
     ensures { IfOk result (λ said. said ≡ line_said line.now) }
 {
@@ -53,6 +69,10 @@ fn read_words(alloc: Global, words: &[&[u8]]) -> Result<Option<RawLine>, NoMemor
         Ok(read_allot(words))
     } else if *command == b"poke".as_slice() {
         read_poke(alloc, words)
+    } else if *command == b"peek".as_slice() {
+        Ok(read_peek(words))
+    } else if *command == b"back".as_slice() {
+        Ok(read_back(words))
     } else if *command == b"release".as_slice() {
         read_release(alloc, words)
     } else {
@@ -63,13 +83,33 @@ fn read_words(alloc: Global, words: &[&[u8]]) -> Result<Option<RawLine>, NoMemor
 fn read_grant(words: &[&[u8]]) -> Option<RawLine>
     ensures { result ≡ grant_in (map (λ word. word.now) words.now) }
 {
-    let [right, ino] = words else {
+    let [kind, ino] = words else {
         return None;
     };
-    if *right != b"write".as_slice() {
-        return None;
+    Some(RawLine::Grant {
+        ino: read_number(ino)?,
+        kind: grant_kind(kind)?,
+    })
+}
+
+fn grant_kind(word: &[u8]) -> Option<GrantKind>
+    ensures { result ≡ grant_kind word.now }
+{
+    match word {
+        b"read" => Some(GrantKind::Read),
+        b"write" => Some(GrantKind::Write),
+        b"hold" => Some(GrantKind::Hold),
+        _ => None,
     }
-    Some(RawLine::GrantWrite(read_number(ino)?))
+}
+
+fn read_back(words: &[&[u8]]) -> Option<RawLine>
+    ensures { result ≡ back_in (map (λ word. word.now) words.now) }
+{
+    let [ino] = words else {
+        return None;
+    };
+    Some(RawLine::Back(read_number(ino)?))
 }
 
 fn read_allot(words: &[&[u8]]) -> Option<RawLine>
@@ -102,6 +142,36 @@ fn read_poke(alloc: Global, words: &[&[u8]]) -> Result<Option<RawLine>, NoMemory
     }
 }
 
+fn read_peek(words: &[&[u8]]) -> Option<RawLine>
+    ensures { result ≡ peek_in (map (λ word. word.now) words.now) }
+{
+    match words {
+        [place, number, offset, len] => peeked(
+            whole_spot(place, read_number(number)),
+            read_number(offset),
+            seen_length(read_number(len)),
+        ),
+        [place, ino, i, offset, len] => peeked(
+            part_spot(place, read_number(ino), read_number(i)),
+            read_number(offset),
+            seen_length(read_number(len)),
+        ),
+        _ => None,
+    }
+}
+
+/// How many bytes a peek may show: 1 to 4096.
+fn seen_length(number: Option<u32>) -> Option<u32>
+    ensures { result ≡ seen_length number }
+{
+    let number = number?;
+    if 1 <= number && number <= PEEK_LIMIT {
+        Some(number)
+    } else {
+        None
+    }
+}
+
 fn whole_spot(place: &[u8], number: Option<u32>) -> Option<Spot>
     ensures { result ≡ whole_spot place.now number }
 {
@@ -131,6 +201,16 @@ fn poked(at: Option<Spot>, offset: Option<u32>, bytes: Option<Bytes>) -> Option<
         at: at?,
         offset: offset?,
         bytes: bytes?,
+    })
+}
+
+fn peeked(at: Option<Spot>, offset: Option<u32>, len: Option<u32>) -> Option<RawLine>
+    ensures { result ≡ peeked at offset len }
+{
+    Some(RawLine::Peek {
+        at: at?,
+        offset: offset?,
+        len: len?,
     })
 }
 

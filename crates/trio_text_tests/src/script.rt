@@ -1,5 +1,5 @@
 use std::alloc::Global;
-use trio_nodes::{List, Spot};
+use trio_nodes::{GrantKind, List, Spot};
 use trio_script::{RawLine, ScriptFault, ScriptLine, read_script};
 
 /// What a script says whose first line is the library's, and these bytes the second.
@@ -15,10 +15,12 @@ fn says(alloc: Global, text: &[u8], line: RawLine) -> Option<bool> {
     Some(second_line(alloc, text)? == Ok(wanted))
 }
 
-const GRANTS: &[(&str, u32)] = &[
-    ("grant write 2", 2),
-    ("grant write 0\n", 0),
-    ("grant write 4294967295", 4_294_967_295),
+const GRANTS: &[(&str, GrantKind, u32)] = &[
+    ("grant write 2", GrantKind::Write, 2),
+    ("grant write 0\n", GrantKind::Write, 0),
+    ("grant write 4294967295", GrantKind::Write, 4_294_967_295),
+    ("grant read 3", GrantKind::Read, 3),
+    ("grant hold 4", GrantKind::Hold, 4),
 ];
 
 const ALLOTS: &[(&str, u32, u32)] = &[
@@ -29,8 +31,11 @@ const ALLOTS: &[(&str, u32, u32)] = &[
 
 #[test]
 fn requests_are_read(rt: HostRuntime) {
-    for (text, ino) in GRANTS {
-        let line = RawLine::GrantWrite(*ino);
+    for (text, kind, ino) in GRANTS {
+        let line = RawLine::Grant {
+            ino: *ino,
+            kind: *kind,
+        };
         assert!(rt;
             says(rt.alloc(), text.as_bytes(), line) == Some(true),
             "{text}"
@@ -70,6 +75,29 @@ fn pokes_are_read(rt: HostRuntime) {
     }
 }
 
+const PEEKS: &[(&str, Spot, u32, u32)] = &[
+    ("peek body 5 16 2", Spot::Body(5), 16, 2),
+    ("peek index 5 1 8 4096", Spot::Index(5, 1), 8, 4096),
+    ("peek block 2 0 0 1\n", Spot::Block(2, 0), 0, 1),
+    ("peek fresh 9 4095 7", Spot::Fresh(9), 4095, 7),
+];
+
+#[test]
+fn peeks_and_backs_are_read(rt: HostRuntime) {
+    for (text, at, offset, len) in PEEKS {
+        let line = RawLine::Peek {
+            at: *at,
+            offset: *offset,
+            len: *len,
+        };
+        assert!(rt;
+            says(rt.alloc(), text.as_bytes(), line) == Some(true),
+            "{text}"
+        );
+    }
+    assert!(rt; says(rt.alloc(), b"back 7", RawLine::Back(7)) == Some(true));
+}
+
 /// The text, and the inode numbers of files, the page numbers and the inode numbers that it names.
 const RELEASES: &[(&str, &[u32], &[u32], &[u32])] = &[
     ("release - - -", &[], &[], &[]),
@@ -105,6 +133,14 @@ fn releases_are_read(rt: HostRuntime) {
     }
 }
 
+/// A write grant is asked on this file.
+fn write_grant(ino: u32) -> RawLine {
+    RawLine::Grant {
+        ino,
+        kind: GrantKind::Write,
+    }
+}
+
 /// Lines that have none of the forms.
 const UNBUILT: &[&str] = &[
     "grant",
@@ -122,7 +158,17 @@ const UNBUILT: &[&str] = &[
     "grant write 2\r",
     "grant  write 2",
     " grant write 2",
-    "grant read 2",
+    "grant reads 2",
+    "grant hold",
+    "back",
+    "back 2 3",
+    "back x",
+    "peek body 5 16",
+    "peek body 5 16 0",
+    "peek body 5 16 4097",
+    "peek index 5 16 1",
+    "peek block 2 0 0 1 1",
+    "peek fresh 9 0 ff",
     "Grant write 2",
     "allot",
     "allot 1",
@@ -194,11 +240,11 @@ fn numbers_lines(alloc: Global) -> Option<bool> {
     let wanted = vec![in alloc;
         ScriptLine {
             number: 4,
-            line: RawLine::GrantWrite(2),
+            line: write_grant(2),
         },
         ScriptLine {
             number: 6,
-            line: RawLine::GrantWrite(3),
+            line: write_grant(3),
         },
     ]
     .ok()?;

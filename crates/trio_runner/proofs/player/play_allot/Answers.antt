@@ -4,7 +4,7 @@ use Rattle.trio_lease.specs.Views.{fresh_sheet}
 use Rattle.trio_report.specs.declared.answer.LineAnswer.TheVariants.{Allotted}
 use Rattle.trio_script.specs.declared.line.RawLine.TheVariants.{Allot as AllotLine}
 use Rattle.trio_ctl.specs.Answers.{allot_fault_answer}
-use Rattle.trio_runner.specs.Play.{told_of}
+use Rattle.trio_runner.specs.Play.{told_want}
 use Rattle.trio_runner.specs.Seen.{LinePlayed}
 use Rattle.trio_runner.proofs.Turns.{allotted_played, if_both_ok, if_ok, unallotted_played}
 use Rattle.trio_runner.proofs.player.play_allot.Goals as goal
@@ -31,7 +31,7 @@ returns-in-Err c =
     let s' = c.allot.new.self.state in
     let h = c.args.raw.now in
     if_ok c.want_answer.result
-    (λ a. told_of (allot_fault_answer c.in-Err.fault) ≡ Some a)
+    (λ a. told_want (allot_fault_answer c.in-Err.fault) ≡ Some a)
     (λ a. LinePlayed (AllotLine c.args.pages c.args.inodes) a s h s' h)
     (λ a is. unallotted_played c.args.pages c.args.inodes c.in-Err.fault a s h s' is (search rules))
     c.want_answer.ensures

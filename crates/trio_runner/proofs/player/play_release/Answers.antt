@@ -1,48 +1,72 @@
 use Rattle.std.proofs.Common.{◌≡◌, ◌∙◌, ap, sym, subst, rules}
 use Rattle.trio_rights.specs.declared.rights.LibNo.{LibNo}
+use Rattle.trio_lease.specs.declared.parts.HoldParts.{HoldParts}
+use Rattle.trio_lease.specs.Bundles.{Bundled}
 use Rattle.trio_state.specs.Given.{GivenTo}
 use Rattle.trio_lease.specs.Views.{bundle_in}
-use Rattle.trio_state.specs.Step.{Accepted, Refused}
-use Rattle.trio_raw.specs.Held.{Held}
-use Rattle.trio_ctl.specs.Answers.{verdict_of}
-use Rattle.trio_runner.specs.PlayLaws.{HasNoHold}
-use Rattle.trio_runner.proofs.Turns.{taken_given, accepted_played, refused_played, verdict_step}
+use Rattle.trio_state.specs.Step.{Accepted, CtlAnswer, NotClosed, Refused, Release, Step}
+use Rattle.trio_raw.specs.Has.{rest_of}
+use Rattle.trio_raw.specs.Held.{Held, with_back}
+use Rattle.trio_raw.proofs.Once.{named_in}
+use Rattle.trio_ctl.specs.Answers.{release_fault_answer, verdict_of}
+use Rattle.trio_runner.specs.Lent.{WereHeld}
+use Rattle.trio_runner.proofs.Turns.{taken_given, accepted_played, refused_played, parted_played, back_is, answer_step, verdict_step}
 use Rattle.trio_runner.proofs.player.play_release.Goals as goal
 
-pub hand_in-requires-clause-given : goal.hand_in-requires-clause-given
-hand_in-requires-clause-given c =
+pub hand_over-requires-clause-given : goal.hand_over-requires-clause-given
+hand_over-requires-clause-given c =
     let s = c.args.ctl.now.state in
     let b = bundle_in c.in-Ok.bundle in
     let lib : c.lib.result ≡ c.args.raw.now.lib = c.lib.ensures ∙ ap (λ (h : Held). h.lib) c.in-Ok.ensures.rest in
     subst (λ (l : LibNo). GivenTo s l.0 b) (sym lib)
     (taken_given s c.args.raw.now c.args.inos.now c.args.pages.now c.args.inodes.now b c.requires (search rules) c.in-Ok.ensures.bundle)
 
-pub hand_in-requires-clause-no_hold : goal.hand_in-requires-clause-no_hold
-hand_in-requires-clause-no_hold c =
+pub hand_over-requires-clause-held : goal.hand_over-requires-clause-held
+hand_over-requires-clause-held c =
     let s = c.args.ctl.now.state in
-    let lib : c.lib.result ≡ c.args.raw.now.lib = c.lib.ensures ∙ ap (λ (h : Held). h.lib) c.in-Ok.ensures.rest in
-    subst (λ (l : LibNo). HasNoHold l.0 s) (sym lib) c.requires.stands.no_hold
+    let h = c.args.raw.now in
+    let lib : c.lib.result ≡ h.lib = c.lib.ensures ∙ ap (λ (x : Held). x.lib) c.in-Ok.ensures.rest in
+    let ino = λ (x : HoldParts). x.ino in
+    subst (λ (l : LibNo). WereHeld s l.0 c.in-Ok.bundle.holds) (sym lib)
+    (subst (λ xs. WereHeld s h.lib.0 xs) (sym c.in-Ok.ensures.holds) (λ x i. c.requires.stands.in_hand.holds x (named_in ino h.has.holds c.args.inos.now x i).0))
 
-pub returns-in-Accepted : goal.returns-in-Accepted
-returns-in-Accepted c =
+pub returns-in-Ok-Accepted : goal.returns-in-Ok-Accepted
+returns-in-Ok-Accepted c =
     let s = c.args.ctl.now.state in
-    let s' = c.hand_in.new.ctl.state in
+    let s' = c.hand_over.new.ctl.state in
     let b = bundle_in c.in-Ok.bundle in
     let h = c.args.raw.now in
     let left = c.in-Ok.ensures.rest in
     let lib : c.lib.result ≡ h.lib = c.lib.ensures ∙ ap (λ (x : Held). x.lib) left in
     accepted_played c.args.inos.now c.args.pages.now c.args.inodes.now s h s' c.take.new.self b (search rules) c.in-Ok.ensures.bundle
-    (verdict_step s s' c.lib.result h.lib b c.in_ok-hand_in.field-0 Accepted lib (ap verdict_of c.in-Accepted.is) c.in_ok-hand_in.ensures)
+    (answer_step s s' c.lib.result h.lib b Accepted lib (search rules))
     (ap (λ (x : Held). x.has) left) (ap (λ (x : Held). x.lib) left)
 
-pub returns-in-Refused : goal.returns-in-Refused
-returns-in-Refused c =
+pub returns-in-Ok-Refused : goal.returns-in-Ok-Refused
+returns-in-Ok-Refused c =
     let s = c.args.ctl.now.state in
-    let s' = c.hand_in.new.ctl.state in
+    let s' = c.hand_over.new.ctl.state in
     let b = bundle_in c.in-Ok.bundle in
     let h = c.args.raw.now in
     let left = c.in-Ok.ensures.rest in
     let lib : c.lib.result ≡ h.lib = c.lib.ensures ∙ ap (λ (x : Held). x.lib) left in
     refused_played c.args.inos.now c.args.pages.now c.args.inodes.now s h s' c.take.new.self b _ (search rules) c.in-Ok.ensures.bundle
-    (verdict_step s s' c.lib.result h.lib b c.in_ok-hand_in.field-0 (Refused _) lib (ap verdict_of c.in-Refused.is) c.in_ok-hand_in.ensures)
+    (verdict_step s s' c.lib.result h.lib b c.in-Ok-Refused.field-0 (Refused _) lib (ap verdict_of c.in-Ok-Refused.field-0-is) c.in-Ok-Refused.ensures.step)
     (ap (λ (x : Held). x.has) left) (ap (λ (x : Held). x.lib) left)
+
+pub returns-in-NotClosed : goal.returns-in-NotClosed
+returns-in-NotClosed c =
+    let s = c.args.ctl.now.state in
+    let s' = c.hand_over.new.ctl.state in
+    let b = bundle_in c.in-Ok.bundle in
+    let h = c.args.raw.now in
+    let left = c.in-Ok.ensures.rest in
+    let lib : c.lib.result ≡ h.lib = c.lib.ensures ∙ ap (λ (x : Held). x.lib) left in
+    let is : release_fault_answer c.in-Err.fault ≡ NotClosed c.in-NotClosed.ino = ap release_fault_answer c.in-NotClosed.is in
+    parted_played c.args.inos.now c.args.pages.now c.args.inodes.now c.in-NotClosed.ino s h s' c.put_back.new.self b (search rules) c.in-Ok.ensures.bundle
+    (answer_step s s' c.lib.result h.lib b (NotClosed c.in-NotClosed.ino) lib (subst (λ (a : CtlAnswer). Step s (Release c.lib.result.0 b) a s') is c.in-Err.ensures.step))
+    (ap (λ (x : Held). x.has) c.put_back.ensures
+    ∙ ap (λ (x : Held). with_back x.has c.in-Err.bundle) left
+    ∙ ap (λ (x : Bundled). with_back (rest_of h.has c.args.inos.now c.args.pages.now c.args.inodes.now) x) c.in-Err.ensures.back
+    ∙ back_is h.has c.args.inos.now c.args.pages.now c.args.inodes.now c.in-Ok.bundle c.in-Ok.ensures.bundle c.in-Ok.ensures.holds)
+    (ap (λ (x : Held). x.lib) c.put_back.ensures ∙ ap (λ (x : Held). x.lib) left)

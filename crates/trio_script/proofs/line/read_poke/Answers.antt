@@ -1,11 +1,11 @@
 use Rattle.std.proofs.Common.{sym, arith}
 use borrow.Author.Tests.{ltb-true, ltb-false}
-use Rattle.trio_script.proofs.Forms.{too_few, too_many}
+use Rattle.trio_script.proofs.Forms.{poke_too_few, poke_too_many}
 use Rattle.trio_script.proofs.line.read_poke.Goals as goal
 use Rattle.trio_script.proofs.line.read_poke.Goals.{in_default-via-then-words-lt4, in_default-via-else-words-lt4+else-words-lt5+else-words-lt6}
 
 pub returns-in_default : goal.returns-in_default
 returns-in_default c = elim c.in_default.branch [
-  | in_default-via-then-words-lt4 w ↦ sym (too_few _ c.args.words.now (omega (arith, ltb-true)))
-  | in_default-via-else-words-lt4+else-words-lt5+else-words-lt6 w ↦ sym (too_many _ c.args.words.now (omega (arith, ltb-false)))
+  | in_default-via-then-words-lt4 w ↦ sym (poke_too_few _ c.args.words.now (omega (arith, ltb-true)))
+  | in_default-via-else-words-lt4+else-words-lt5+else-words-lt6 w ↦ sym (poke_too_many _ c.args.words.now (omega (arith, ltb-false)))
 ]

@@ -13,7 +13,7 @@ returns-in-Some-clause-poked c =
     let at : position (λ l. eqb l.stands.ino c.args.ino) inside.files.items ≡ Some c.in-Some.i =
     rw (← c.deref.ensures.value) (sym c.place_of.ensures ∙ c.in-Some.is) in
     ap (λ (h : Held). with_file (poked_index c.args.page c.args.offset c.args.bytes.now) c.args.ino h.has) (sym c.self.view_is)
-    ∙ file_changed (poked_index c.args.page c.args.offset c.args.bytes.now) inside.files.items (map fresh_sheet inside.pages.items) (map (λ n. n.no) inside.inodes.items) c.args.ino c.in-Some.i c.index_mut.result.now c.poke_index.new.lease c.poke_index.result at c.index_mut.ensures.value c.poke_index.ensures.poked
+    ∙ file_changed (poked_index c.args.page c.args.offset c.args.bytes.now) inside.files.items inside.reads.items inside.holds.items (map fresh_sheet inside.pages.items) (map (λ n. n.no) inside.inodes.items) c.args.ino c.in-Some.i c.index_mut.result.now c.poke_index.new.lease c.poke_index.result at c.index_mut.ensures.value c.poke_index.ensures.poked
 
 pub returns-in-None-clause-poked : goal.returns-in-None-clause-poked
 returns-in-None-clause-poked c =
@@ -21,7 +21,7 @@ returns-in-None-clause-poked c =
     let at : position (λ l. eqb l.stands.ino c.args.ino) inside.files.items ≡ None =
     rw (← c.deref.ensures.value) (sym c.place_of.ensures ∙ c.in-None.is) in
     ap (λ (h : Held). with_file (poked_index c.args.page c.args.offset c.args.bytes.now) c.args.ino h.has) (sym c.self.view_is)
-    ∙ file_missing (poked_index c.args.page c.args.offset c.args.bytes.now) inside.files.items (map fresh_sheet inside.pages.items) (map (λ n. n.no) inside.inodes.items) c.args.ino at
+    ∙ file_missing (poked_index c.args.page c.args.offset c.args.bytes.now) inside.files.items inside.reads.items inside.holds.items (map fresh_sheet inside.pages.items) (map (λ n. n.no) inside.inodes.items) c.args.ino at
 
 pub returns-in-Some-clause-things : goal.returns-in-Some-clause-things
 returns-in-Some-clause-things c =
