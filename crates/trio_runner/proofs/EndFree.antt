@@ -23,7 +23,7 @@ use Rattle.trio_layout.specs.Image.{Image, row_at}
 use Rattle.trio_state.specs.State.{OpenGrant, State, logged}
 use Rattle.trio_nodes.specs.GrantKinds.{is_write, is_read, is_hold}
 use Rattle.trio_rights.specs.Bundle.{Written, Bundle, is_written}
-use Rattle.trio_state.specs.Grants.{children_of, given_back, grant_fault, opened, opens}
+use Rattle.trio_state.specs.Grants.{given_back, grant_fault, opened, opens}
 use Rattle.trio_state.specs.Allotments.{allots, free_pages, free_numbers, out_after, out_with}
 use Rattle.trio_state.specs.Bundles.{Ends, grants_after, is_in_bundle, lent_part}
 use Rattle.trio_state.specs.Step.{Event, Grant, Allot, Back, Release, Given, NoPages, NoInodes, Done, NotClosed, NoMemory, Comes, granted_to, grant_outcome, allot_outcome, ReleaseEnd, Parted, IsAccepted, IsRefused}
@@ -38,7 +38,7 @@ use Rattle.trio_script.specs.declared.line.RawLine.TheVariants.{Grant as GrantLi
 use Rattle.trio_script.specs.declared.ScriptLine.{ScriptLine}
 use Rattle.trio_report.specs.declared.answer.LineAnswer.{LineAnswer}
 use Rattle.trio_report.specs.declared.report.EndAnswer.{EndAnswer}
-use Rattle.trio_runner.specs.Lent.{lent_by}
+use Rattle.trio_ctl.specs.Open.{lent_by}
 use Rattle.trio_runner.specs.PlayLaws.{Stands}
 use Rattle.trio_runner.proofs.Leases.{lease_is}
 use Rattle.trio_runner.proofs.Lines.{backs_stand, back_after, last_left, line_stands, reading, start_stands}
@@ -164,8 +164,8 @@ grant_in_hand lib ino kind p told moves p' h a comes =
         (subst (SameNumbers p.has) (sym (a.has ∙ ap (has_after lib p.state p.has (GrantLine ino kind)) c.0)) (numbers_stay p.has))
     by_answer None None f c = absurd (not_told (told_of (GrantLine ino kind)) a.answer Done told c.0 a.told_is refl)
     by_answer None (Some r) f c =
-        let lease : Lease = lent_by r.parent (children_of p.state.home ino) (opened p.state lib ino kind r) in
-        one_more lib p p' (opened p.state lib ino kind r) lease h refl (lease_is p.state lib ino kind r r.parent (children_of p.state.home ino))
+        let lease : Lease = lent_by (opened p.state lib ino kind r) in
+        one_more lib p p' (opened p.state lib ino kind r) lease h refl (lease_is p.state lib ino kind r)
         c.1
         (a.has ∙ ap (has_after lib p.state p.has (GrantLine ino kind)) c.0 ∙ ap (has_lent lib p.state p.has ino kind) f)
 

@@ -11,8 +11,7 @@ use Rattle.trio_state.specs.State.{OpenGrant, State}
 use Rattle.trio_state.specs.Grants.{opened}
 use Rattle.trio_raw.specs.Held.{file_of}
 use Rattle.trio_raw.specs.Laws.{IsLeaseOf, lent_file}
-use Rattle.trio_ctl.specs.Open.{lease_of, untouched}
-use Rattle.trio_runner.specs.Lent.{lent_by}
+use Rattle.trio_ctl.specs.Open.{lease_of, lent_by, untouched}
 
 sheets_untouched : (xs : List Sheet) → map lent_sheet (map untouched xs) ≡ xs
 sheets_untouched [] = refl
@@ -26,7 +25,7 @@ lease_file g =
     let b = sheets_untouched g.blocks in
     ap (λ index. shown index (map lent_sheet (map untouched g.blocks))) a ∙ ap (shown g.index) b
 
-pub lease_is : (s : State) (lib ino : ℕ) (kind : GrantKind) (r : Row) (parent children : ℕ) → IsLeaseOf (opened s lib ino kind r) (lent_by parent children (opened s lib ino kind r))
-lease_is s lib ino Read r parent children = (refl, refl, refl)
-lease_is s lib ino Write r parent children = (refl, lease_file (opened s lib ino Write r))
-lease_is s lib ino Hold r parent children = (refl, refl, refl, refl)
+pub lease_is : (s : State) (lib ino : ℕ) (kind : GrantKind) (r : Row) → IsLeaseOf (opened s lib ino kind r) (lent_by (opened s lib ino kind r))
+lease_is s lib ino Read r = (refl, refl, refl)
+lease_is s lib ino Write r = (refl, lease_file (opened s lib ino Write r))
+lease_is s lib ino Hold r = (refl, refl, refl, refl)

@@ -13,11 +13,10 @@ use Rattle.trio_nodes.specs.declared.answers.GrantFault.{GrantFault}
 use Rattle.trio_lists.specs.Lists.{In, is_among, are_new}
 use Rattle.trio_lists.proofs.Marked.{are_new-append}
 use Rattle.trio_layout.specs.Image.{Image, row_at}
-use Rattle.trio_state.specs.State.{OpenGrant, State, logged}
+use Rattle.trio_state.specs.State.{State, logged}
 use Rattle.trio_state.specs.Kept.{Kept}
 use Rattle.trio_state.specs.Given.{GivenTo, GivenEvent, HasGrant}
-use Rattle.trio_rights.specs.Bundle.{Bundle}
-use Rattle.trio_state.specs.Grants.{children_of, given_back, grant_fault, opened, told_children}
+use Rattle.trio_state.specs.Grants.{given_back, grant_fault, opened, told_children}
 use Rattle.trio_state.specs.Allotments.{allots, free_pages, free_numbers}
 use Rattle.trio_state.specs.Bundles.{Ends}
 use Rattle.trio_state.specs.Step.{Event, Grant, Allot, Back, Release, CtlAnswer, Given, NoPages, NoInodes, Done, NotClosed, NoMemory, Comes, Step, Does, granted_to, grant_outcome, allot_outcome, ReleaseEnd, Parted, IsAccepted, IsRefused}
@@ -34,7 +33,7 @@ use Rattle.trio_script.specs.declared.line.RawLine.TheVariants.{Grant as GrantLi
 use Rattle.trio_report.specs.declared.answer.LineAnswer.{LineAnswer}
 use Rattle.trio_report.specs.declared.report.EndAnswer.{EndAnswer}
 use Rattle.trio_runner.proofs.Leases.{lease_is}
-use Rattle.trio_runner.specs.Lent.{lent_by}
+use Rattle.trio_ctl.specs.Open.{lent_by}
 use Rattle.trio_runner.specs.Play.{Player, Alone, Asks, PlaysLine, GivesBack, EndsAlone, EndsAll, PlaysRelease, PlaysEnd, without_reads, event_of, told_of, end_of, has_lent, has_after, has_alone, has_poked}
 use Rattle.trio_runner.specs.PlayLaws.{Stands, StartStands, LineStands, EndStands}
 
@@ -119,9 +118,9 @@ grant_stands lib ino kind p told moves p' h kept a comes =
         (a.has ∙ ap (has_after lib p.state p.has (GrantLine ino kind)) c.0)
     by_answer None None e f c = absurd (untold (GrantLine ino kind) a.answer Done told c.0 a.told_is refl)
     by_answer None (Some r) e f c =
-        let lease : Lease = lent_by r.parent (children_of p.state.home ino) (opened p.state lib ino kind r) in
+        let lease : Lease = lent_by (opened p.state lib ino kind r) in
         let lent = granted_is_in_hand p.state lib ino kind p.has (told_children p.state.home ino kind) p'.state r lease h.kept.fit h.in_hand
-        (subst (λ (x : CtlAnswer). Comes (grant_outcome p.state lib ino kind) x p'.state) c.0 comes) f (lease_is p.state lib ino kind r r.parent (children_of p.state.home ino)) in
+        (subst (λ (x : CtlAnswer). Comes (grant_outcome p.state lib ino kind) x p'.state) c.0 comes) f (lease_is p.state lib ino kind r) in
         record {
           kept = kept;
           in_hand = subst (InHand p'.state lib) (sym (a.has ∙ ap (has_after lib p.state p.has (GrantLine ino kind)) c.0 ∙ ap (has_lent lib p.state p.has ino kind) f)) lent;

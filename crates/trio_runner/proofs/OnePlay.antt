@@ -14,8 +14,7 @@ use Rattle.trio_laws.specs.Known.{Known, known, plain_state, refused_rule, SameA
 use Rattle.trio_laws.proofs.KnownSteps.{known_decides, same_event_same_answer}
 use Rattle.trio_raw.specs.Has.{Has, whole_bundle, is_nothing}
 use Rattle.trio_raw.specs.Held.{with_given}
-use Rattle.trio_state.specs.Grants.{children_of}
-use Rattle.trio_runner.specs.Lent.{lent_by}
+use Rattle.trio_ctl.specs.Open.{lent_by}
 use Rattle.trio_script.specs.declared.line.RawLine.{RawLine}
 use Rattle.trio_script.specs.declared.line.RawLine.TheVariants.{Grant as GrantLine, Allot as AllotLine, Back as BackLine, Poke, Peek, Release as ReleaseLine}
 use Rattle.trio_script.specs.declared.ScriptLine.{ScriptLine}
@@ -77,7 +76,7 @@ end_some a end is e = (let wrong : None ≡ Some end = sym (ap end_of e) ∙ is 
 has_lent_plain : (lib : ℕ) (s : State) (has : Has) (ino : ℕ) (kind : GrantKind) (o : Option Row)
     → has_lent lib (plain_state (known s)) has ino kind o ≡ has_lent lib s has ino kind o
 has_lent_plain lib s has ino kind None = refl
-has_lent_plain lib s has ino kind (Some r) = ap (λ (g : OpenGrant). with_given has (lent_by r.parent (children_of s.home ino) g))
+has_lent_plain lib s has ino kind (Some r) = ap (λ (g : OpenGrant). with_given has (lent_by g))
     ((known_decides s).openings lib ino kind r)
 
 has_after_plain : (lib : ℕ) (s : State) (has : Has) (said : RawLine) (a : CtlAnswer)

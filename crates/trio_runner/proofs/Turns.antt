@@ -29,7 +29,6 @@ use Rattle.trio_state.specs.Kept.{Kept}
 use Rattle.trio_raw.specs.InHand.{InHand}
 use Rattle.trio_runner.specs.EndFree.{AllInHand}
 use Rattle.trio_runner.proofs.EndFree.{in_written}
-use Rattle.trio_runner.specs.Lent.{children_told, given_by, lent_by, told_lease}
 use Rattle.trio_allot.specs.Out.{fresh_page, inode_numbers, page_numbers}
 use Rattle.trio_rights.specs.Sheets.{Sheet}
 use Rattle.trio_lease.specs.Views.{bundle_in, fresh_sheet}
@@ -37,7 +36,7 @@ use Rattle.trio_layout.specs.Image.{row_at}
 use Rattle.trio_state.specs.State.{OpenGrant, State}
 use Rattle.trio_rights.specs.Bundle.{Bundle, Written}
 use Rattle.trio_state.specs.Given.{GivenTo, HasGrant}
-use Rattle.trio_state.specs.Grants.{children_of, has_parent_grant, opened}
+use Rattle.trio_state.specs.Grants.{has_parent_grant, opened}
 use Rattle.trio_state.specs.Bundles.{is_parted, is_parent_written, lowest, parted_hold}
 use Rattle.trio_nodes.specs.GrantKinds.{is_hold, is_write}
 use Rattle.trio_state.specs.Step.{Event, Allot, Back, Grant, Release, CtlAnswer, Done, Given, Granted, Accepted, Refused, NotClosed, NoMemory, Step, Parted, IsAccepted, IsRefused}
@@ -51,11 +50,20 @@ use Rattle.trio_script.specs.declared.line.RawLine.TheVariants.{Grant as GrantLi
 use Rattle.trio_report.specs.declared.answer.LineAnswer.{LineAnswer}
 use Rattle.trio_report.specs.declared.answer.LineAnswer.TheVariants as answered
 use Rattle.trio_report.specs.declared.report.EndAnswer.{EndAnswer}
-use Rattle.trio_ctl.specs.Answers.{allot_fault_answer, grant_fault_answer, verdict_of}
-use Rattle.trio_runner.specs.Play.{Alone, Asks, EndsAll, end_of, has_after, has_lent, told_fault, told_grant, told_of, told_want}
+use Rattle.trio_ctl.specs.Answers.{allot_fault_answer, children_told, grant_fault_answer, verdict_of}
+use Rattle.trio_ctl.specs.HandedIn.{WereHeld}
+use Rattle.trio_ctl.specs.Open.{given_by, lent_by}
+use Rattle.trio_raw.specs.InHand.{WasHeld as HeldInHand}
+use Rattle.trio_runner.specs.Play.{Alone, Asks, EndsAll, end_of, has_after, has_lent, told_fault, told_grant, told_lease, told_of, told_want}
 use Rattle.trio_runner.specs.Seen.{IsReady, LinePlayed, Released, player}
 
 -- ---- bundles
+
+-- holds that are in hand are those of open grants
+pub were_held : (s : State) (lib : ℕ) (hs : List HoldParts) → ((x : HoldParts) → In x hs → HeldInHand s lib x) → WereHeld s lib hs
+were_held s lib hs in_hand x i =
+    let was : HeldInHand s lib x = in_hand x i in
+    record { grant = was.grant; is_open = was.is_open; lib = was.lib; kind = was.kind; ino = was.ino; of = was.of; body = was.body }
 
 -- a grant that parts a bundle is a hold of the library
 parted_is_hold : (s : State) (lib : ℕ) (b : Bundle) (g : OpenGrant) → is_parted s lib b g ≡ true → (g.lib ≡ lib) × (g.kind ≡ Hold) × ((if is_among g.ino b.holds then not (is_parent_written b (row_at s.home g.ino)) else is_parent_written b (row_at s.home g.ino)) ≡ true)
@@ -185,19 +193,19 @@ end_played answer end s h s' h' b is some e step none =
 -- ---- grants
 
 -- a lease of each kind is told as the grant of that kind is
-told_same : (kind : GrantKind) (parent children : ℕ) (g : OpenGrant) → told_grant kind (children_told (given_by kind parent children g)) ≡ told_lease (given_by kind parent children g)
-told_same Read parent children g = refl
-told_same Write parent children g = refl
-told_same Hold parent children g = refl
+told_same : (kind : GrantKind) (g : OpenGrant) → told_grant kind (children_told (given_by kind g)) ≡ told_lease (given_by kind g)
+told_same Read g = refl
+told_same Write g = refl
+told_same Hold g = refl
 
-pub grant_played : (ino : ℕ) (kind : GrantKind) (s : State) (h : Held) (s' : State) (h' : Held) (lease : Lease) → Step s (Grant h.lib.0 ino kind) (Granted (children_told lease)) s' → IsSomeAnd (row_at s.home ino) (λ r. lease ≡ lent_by r.parent (children_of s.home ino) (opened s h.lib.0 ino kind r)) → h'.has ≡ with_given h.has lease → h'.lib ≡ h.lib → LinePlayed (GrantLine ino kind) (told_lease lease) s h s' h'
+pub grant_played : (ino : ℕ) (kind : GrantKind) (s : State) (h : Held) (s' : State) (h' : Held) (lease : Lease) → Step s (Grant h.lib.0 ino kind) (Granted (children_told lease)) s' → IsSomeAnd (row_at s.home ino) (λ r. lease ≡ lent_by (opened s h.lib.0 ino kind r)) → h'.has ≡ with_given h.has lease → h'.lib ≡ h.lib → LinePlayed (GrantLine ino kind) (told_lease lease) s h s' h'
 grant_played ino kind s h s' h' lease step lent has lib = by_row (row_at s.home ino) refl lent
   where
-    by_row : (o : Option Row) → row_at s.home ino ≡ o → IsSomeAnd o (λ r. lease ≡ lent_by r.parent (children_of s.home ino) (opened s h.lib.0 ino kind r)) → LinePlayed (GrantLine ino kind) (told_lease lease) s h s' h'
+    by_row : (o : Option Row) → row_at s.home ino ≡ o → IsSomeAnd o (λ r. lease ≡ lent_by (opened s h.lib.0 ino kind r)) → LinePlayed (GrantLine ino kind) (told_lease lease) s h s' h'
     by_row None e l = absurd l
     by_row (Some r) e l =
         let g : OpenGrant = opened s h.lib.0 ino kind r in
-        let tells : told_grant kind (children_told lease) ≡ told_lease lease = subst (λ (x : Lease). told_grant kind (children_told x) ≡ told_lease x) (sym l) (told_same kind r.parent (children_of s.home ino) g) in
+        let tells : told_grant kind (children_told lease) ≡ told_lease lease = subst (λ (x : Lease). told_grant kind (children_told x) ≡ told_lease x) (sym l) (told_same kind g) in
         record {
           moves = _;
           line = record {

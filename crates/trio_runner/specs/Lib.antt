@@ -1,4 +1,3 @@
-pub mod Lent
 pub mod Play
 pub mod PlayLaws
 pub mod Seen

@@ -5,18 +5,20 @@ use Rattle.trio_rights.specs.declared.rights.Creds.{Creds}
 use Rattle.trio_rights.specs.Row.{Row}
 use Rattle.trio_nodes.specs.declared.grant.GrantKind.{GrantKind}
 use Rattle.trio_nodes.specs.declared.grant.GrantKind.TheVariants.{Read, Write, Hold}
+use Rattle.trio_lease.specs.declared.lease.Lease.{Lease}
+use Rattle.trio_lease.specs.declared.lease.Lease.TheVariants.{Read as ReadLent, Write as WriteLent, Hold as HoldLent}
 use Rattle.trio_lease.specs.Shown.{Shown}
 use Rattle.trio_nodes.specs.declared.answers.GrantFault.{GrantFault}
 use Rattle.trio_nodes.specs.declared.answers.GrantFault.TheVariants.{NotLive, Denied, NoParent, Busy, NoMemory as NoGrantMemory}
 use Rattle.trio_layout.specs.Image.{Image, row_at}
 use Rattle.trio_state.specs.State.{State}
-use Rattle.trio_state.specs.Grants.{children_of, opened}
+use Rattle.trio_state.specs.Grants.{opened}
 use Rattle.trio_state.specs.Step.{Event, Grant, Allot, Back, Release, CtlAnswer, Granted, NotGranted, Given, NoPages, NoInodes, Done, Accepted, Refused, NotClosed, Step}
 use Rattle.trio_state.specs.Run.{start, Move}
 use Rattle.trio_raw.specs.Has.{Has, nothing, poked, peeked, has_all_of, has_read, bundle_of, put_back, rest_of, whole_bundle, is_nothing, without_read}
 use Rattle.trio_raw.specs.Held.{with_given}
 use Rattle.trio_raw.specs.Laws.{with_allotted}
-use Rattle.trio_runner.specs.Lent.{lent_by}
+use Rattle.trio_ctl.specs.Open.{lent_by}
 use Rattle.trio_script.specs.declared.line.RawLine.{RawLine}
 use Rattle.trio_script.specs.declared.line.RawLine.TheVariants.{Grant as GrantLine, Allot as AllotLine, Back as BackLine, Poke, Peek, Release as ReleaseLine}
 use Rattle.trio_script.specs.declared.ScriptLine.{ScriptLine}
@@ -84,6 +86,12 @@ told_grant Read children = answered.Granted
 told_grant Write children = answered.Granted
 told_grant Hold children = answered.GrantedHold children
 
+-- how it is told by the lease itself
+abbrev pub told_lease : Lease → LineAnswer
+told_lease (ReadLent lease) = answered.Granted
+told_lease (WriteLent lease) = answered.Granted
+told_lease (HoldLent hold) = answered.GrantedHold hold.children
+
 -- how the controller's answer to a line is told; None for one that the line is never told, want of memory among them
 abbrev pub told_of : RawLine → CtlAnswer → Option LineAnswer
 told_of (GrantLine ino kind) (Granted children) = Some (told_grant kind children)
@@ -99,7 +107,7 @@ told_of said _ = None
 
 -- the things with the lease that a grant on a live file gives
 abbrev pub has_lent : ℕ → State → Has → ℕ → GrantKind → Option Row → Has
-has_lent lib s has ino kind (Some r) = with_given has (lent_by r.parent (children_of s.home ino) (opened s lib ino kind r))
+has_lent lib s has ino kind (Some r) = with_given has (lent_by (opened s lib ino kind r))
 has_lent lib s has ino kind None = has
 
 -- What the library has after the controller's answer in this state: a lease beside what it had; allotted pages, all zero, and

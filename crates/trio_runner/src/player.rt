@@ -15,8 +15,8 @@ ghost use Rattle.trio_state.specs.Step.{Back, Done, Grant, Release, Step};
 ghost use Rattle.trio_raw.specs.Held.{HasSpare, with_given};
 ghost use Rattle.trio_ctl.specs.Answers.{allot_fault_answer, release_answer, verdict_of};
 ghost use Rattle.trio_ctl.specs.Ctl.{IsLibrary};
-ghost use Rattle.trio_runner.specs.Lent.{WereHeld, grant_told, lent_by, told_lease};
-ghost use Rattle.trio_runner.specs.Play.{at_start, has_alone, told_alone, told_fault, told_want};
+ghost use Rattle.trio_ctl.specs.HandedIn.{WereHeld};
+ghost use Rattle.trio_runner.specs.Play.{at_start, has_alone, told_alone, told_fault, told_lease, told_want};
 ghost use Rattle.trio_runner.specs.Seen.{AllGivenBack, EndPlayed, IsReady, LinePlayed, LinesPlayed, Released, ScriptPlayed, player};
 
 use std::alloc::Global;
@@ -129,7 +129,7 @@ fn play_grant(
     ensures { IfOk result (λ answer. LinePlayed (RawLine.Grant ino kind) answer ctl.old.state raw.old ctl.new.state raw.new) }
 {
     raw.reserve_lease()?;
-    match ask_grant(ctl, raw.lib(), ino, kind) {
+    match ctl.grant(raw.lib(), ino, kind) {
         Ok(lease) => {
             let answer = lease_answer(&lease);
             keep_lease(raw, lease);
@@ -171,7 +171,7 @@ fn play_back(ctl: &mut Ctl, raw: &mut Raw, ino: u32) -> LineAnswer
 {
     match raw.back(ino) {
         Some(lease) => {
-            give_back(ctl, lease);
+            ctl.give_back(lease);
             LineAnswer::GivenBack
         }
         None => LineAnswer::Absent,
@@ -309,7 +309,7 @@ fn play_release(
         Err(RawFault::Absent) => return Ok(LineAnswer::Absent),
         Err(RawFault::NoMemory) => return Err(NoMemory),
     };
-    match hand_over(ctl, raw.lib(), bundle) {
+    match ctl.release(raw.lib(), bundle, &mut Reads::new()) {
         Ok(ReleaseAnswer::Accepted) => Ok(LineAnswer::Accepted),
         Ok(ReleaseAnswer::Refused { rule, .. }) => Ok(LineAnswer::Refused(rule)),
         Err((bundle, fault)) => match fault {
@@ -340,7 +340,7 @@ fn give_all_back(ctl: &mut Ctl, raw: &mut Raw)
     ensures { AllGivenBack ctl.old.state raw.old ctl.new.state raw.new }
 {
     while let Some(lease) = raw.last_read() {
-        give_back(ctl, lease);
+        ctl.give_back(lease);
     }
 }
 
@@ -367,7 +367,7 @@ fn hand_in(ctl: &mut Ctl, lib: LibNo, bundle: Bundle) -> Result<ReleaseAnswer, N
     requires closed { parted_hold ctl.old.state lib.0 (bundle_in bundle) ≡ None }
     ensures { IfOk result (λ answer. Step ctl.old.state (Release lib.0 (bundle_in bundle)) (verdict_of answer) ctl.new.state) }
 {
-    match hand_over(ctl, lib, bundle) {
+    match ctl.release(lib, bundle, &mut Reads::new()) {
         Ok(answer) => Ok(answer),
         Err((bundle, fault)) => {
             bundle.discard();
@@ -378,36 +378,4 @@ fn hand_in(ctl: &mut Ctl, lib: LibNo, bundle: Bundle) -> Result<ReleaseAnswer, N
             }
         }
     }
-}
-
-/// Asks the controller for a grant.
-fn ask_grant(ctl: &mut Ctl, lib: LibNo, ino: u32, kind: GrantKind) -> Result<Lease, GrantFault>
-    requires { IsLibrary lib ctl.old.state }
-    ensures step { Step ctl.old.state (Grant lib.0 ino kind) (grant_told result) ctl.new.state }
-    ensures lease { IfOk result (λ lease. IsSomeAnd (row_at ctl.old.state.home ino) (λ r. lease ≡ lent_by r.parent (children_of ctl.old.state.home ino) (opened ctl.old.state lib.0 ino kind r))) }
-{
-    ctl.grant(lib, ino, kind)
-}
-
-/// Gives a read lease back to the controller.
-fn give_back(ctl: &mut Ctl, lease: ReadLease)
-    requires { HasGrant ctl.old.state lease.lib.0 lease.ino Read }
-    ensures { Step ctl.old.state (Back lease.lib.0 lease.ino) Done ctl.new.state }
-{
-    lease.discard();
-}
-
-/// Hands a bundle over to the controller.
-fn hand_over(
-    ctl: &mut Ctl,
-    lib: LibNo,
-    bundle: Bundle,
-) -> Result<ReleaseAnswer, (Bundle, ReleaseFault)>
-    requires library { IsLibrary lib ctl.old.state }
-    requires given { GivenTo ctl.old.state lib.0 (bundle_in bundle) }
-    requires held { WereHeld ctl.old.state lib.0 bundle.holds }
-    ensures step { Step ctl.old.state (Release lib.0 (bundle_in bundle)) (release_answer result (λ back. back.1)) ctl.new.state }
-    ensures back { IfErr result (λ back. back.0 ≡ bundle) }
-{
-    ctl.release(lib, bundle, &mut Reads::new())
 }

@@ -7,12 +7,12 @@ use Rattle.trio_runner.proofs.player.give_all_back.Goals as goal
 
 pub give_back-requires : goal.give_back-requires
 give_back-requires c =
-    last_was_given c.args.ctl.now.state c.args.raw.now c.loop-lease.ctl.state c.loop-lease.raw c.last_read.new.self c.in-Some.lease c.requires c.loop-lease.invariant c.in-Some.ensures.lease
+    record { given = last_was_given c.args.ctl.now.state c.args.raw.now c.loop-lease.ctl.state c.loop-lease.raw c.last_read.new.self c.in-Some.lease c.requires c.loop-lease.invariant c.in-Some.ensures.lease }
 
 pub loop-lease-preserved : goal.loop-lease-preserved
 loop-lease-preserved c =
-    gives_more c.args.ctl.now.state c.args.raw.now c.loop-lease.ctl.state c.loop-lease.raw c.give_back.new.ctl.state c.last_read.new.self c.in-Some.lease c.requires c.loop-lease.invariant
-    c.in-Some.ensures.lease (ap (λ (h : Held). h.has) c.last_read.ensures.rest) (ap (λ (h : Held). h.lib) c.last_read.ensures.rest) c.give_back.ensures
+    gives_more c.args.ctl.now.state c.args.raw.now c.loop-lease.ctl.state c.loop-lease.raw c.give_back.new.self.state c.last_read.new.self c.in-Some.lease c.requires c.loop-lease.invariant
+    c.in-Some.ensures.lease (ap (λ (h : Held). h.has) c.last_read.ensures.rest) (ap (λ (h : Held). h.lib) c.last_read.ensures.rest) c.give_back.ensures.step
 
 pub returns : goal.returns
 returns c =

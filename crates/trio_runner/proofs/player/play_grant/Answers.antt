@@ -8,13 +8,13 @@ use Rattle.trio_runner.proofs.player.play_grant.Goals as goal
 pub returns-in-Ok : goal.returns-in-Ok
 returns-in-Ok c =
     rw c.lease_answer-answer.ensures
-    (grant_played c.args.ino c.args.kind c.args.ctl.now.state c.args.raw.now c.ask_grant.new.ctl.state c.keep_lease.new.raw c.in-Ok.lease
+    (grant_played c.args.ino c.args.kind c.args.ctl.now.state c.args.raw.now c.grant.new.self.state c.keep_lease.new.raw c.in-Ok.lease
     (search rules) (search rules) (search rules) (search rules))
 
 pub returns-in-Err : goal.returns-in-Err
 returns-in-Err c =
     let s = c.args.ctl.now.state in
-    let s' = c.ask_grant.new.ctl.state in
+    let s' = c.grant.new.self.state in
     let h' = c.reserve_lease.new.self in
     if_ok c.fault_answer.result
     (λ a. told_fault c.in-Err.fault ≡ Some a)

@@ -9,31 +9,31 @@ use Rattle.trio_raw.specs.Has.{rest_of}
 use Rattle.trio_raw.specs.Held.{Held, with_back}
 use Rattle.trio_raw.proofs.Once.{named_in}
 use Rattle.trio_ctl.specs.Answers.{release_fault_answer, verdict_of}
-use Rattle.trio_runner.specs.Lent.{WereHeld}
-use Rattle.trio_runner.proofs.Turns.{taken_given, accepted_played, refused_played, parted_played, back_is, answer_step, verdict_step}
+use Rattle.trio_ctl.specs.HandedIn.{WereHeld}
+use Rattle.trio_runner.proofs.Turns.{were_held, taken_given, accepted_played, refused_played, parted_played, back_is, answer_step, verdict_step}
 use Rattle.trio_runner.proofs.player.play_release.Goals as goal
 
-pub hand_over-requires-clause-given : goal.hand_over-requires-clause-given
-hand_over-requires-clause-given c =
+pub release-requires-clause-given : goal.release-requires-clause-given
+release-requires-clause-given c =
     let s = c.args.ctl.now.state in
     let b = bundle_in c.in-Ok.bundle in
     let lib : c.lib.result ≡ c.args.raw.now.lib = c.lib.ensures ∙ ap (λ (h : Held). h.lib) c.in-Ok.ensures.rest in
     subst (λ (l : LibNo). GivenTo s l.0 b) (sym lib)
     (taken_given s c.args.raw.now c.args.inos.now c.args.pages.now c.args.inodes.now b c.requires (search rules) c.in-Ok.ensures.bundle)
 
-pub hand_over-requires-clause-held : goal.hand_over-requires-clause-held
-hand_over-requires-clause-held c =
+pub release-requires-clause-held : goal.release-requires-clause-held
+release-requires-clause-held c =
     let s = c.args.ctl.now.state in
     let h = c.args.raw.now in
     let lib : c.lib.result ≡ h.lib = c.lib.ensures ∙ ap (λ (x : Held). x.lib) c.in-Ok.ensures.rest in
     let ino = λ (x : HoldParts). x.ino in
     subst (λ (l : LibNo). WereHeld s l.0 c.in-Ok.bundle.holds) (sym lib)
-    (subst (λ xs. WereHeld s h.lib.0 xs) (sym c.in-Ok.ensures.holds) (λ x i. c.requires.stands.in_hand.holds x (named_in ino h.has.holds c.args.inos.now x i).0))
+    (subst (λ xs. WereHeld s h.lib.0 xs) (sym c.in-Ok.ensures.holds) (were_held s h.lib.0 _ (λ x i. c.requires.stands.in_hand.holds x (named_in ino h.has.holds c.args.inos.now x i).0)))
 
 pub returns-in-Ok-Accepted : goal.returns-in-Ok-Accepted
 returns-in-Ok-Accepted c =
     let s = c.args.ctl.now.state in
-    let s' = c.hand_over.new.ctl.state in
+    let s' = c.release.new.self.state in
     let b = bundle_in c.in-Ok.bundle in
     let h = c.args.raw.now in
     let left = c.in-Ok.ensures.rest in
@@ -45,7 +45,7 @@ returns-in-Ok-Accepted c =
 pub returns-in-Ok-Refused : goal.returns-in-Ok-Refused
 returns-in-Ok-Refused c =
     let s = c.args.ctl.now.state in
-    let s' = c.hand_over.new.ctl.state in
+    let s' = c.release.new.self.state in
     let b = bundle_in c.in-Ok.bundle in
     let h = c.args.raw.now in
     let left = c.in-Ok.ensures.rest in
@@ -57,7 +57,7 @@ returns-in-Ok-Refused c =
 pub returns-in-NotClosed : goal.returns-in-NotClosed
 returns-in-NotClosed c =
     let s = c.args.ctl.now.state in
-    let s' = c.hand_over.new.ctl.state in
+    let s' = c.release.new.self.state in
     let b = bundle_in c.in-Ok.bundle in
     let h = c.args.raw.now in
     let left = c.in-Ok.ensures.rest in

@@ -11,8 +11,8 @@ use Rattle.trio_raw.specs.Held.{Held}
 use Rattle.trio_ctl.specs.Answers.{verdict_of}
 use Rattle.trio_report.specs.declared.report.EndAnswer.TheVariants.{Accepted as EndAccepted, Refused as EndRefused}
 use Rattle.trio_lease.specs.declared.parts.HoldParts.{HoldParts}
-use Rattle.trio_runner.specs.Lent.{WereHeld}
-use Rattle.trio_runner.proofs.Turns.{all_closed, all_given, end_played, verdict_step}
+use Rattle.trio_ctl.specs.HandedIn.{WereHeld}
+use Rattle.trio_runner.proofs.Turns.{were_held, all_closed, all_given, end_played, verdict_step}
 use Rattle.trio_runner.proofs.player.release_all.Goals as goal
 
 pub hand_in-requires-clause-given : goal.hand_in-requires-clause-given
@@ -28,7 +28,7 @@ hand_in-requires-clause-held c =
     let h = c.args.raw.now in
     let lib : c.lib.result ≡ h.lib = c.lib.ensures ∙ ap (λ (x : Held). x.lib) c.take_all.ensures.left in
     subst (λ (l : LibNo). WereHeld s l.0 c.in-Some.bundle.holds) (sym lib)
-    (subst (λ (xs : List HoldParts). WereHeld s h.lib.0 xs) (sym c.in-Some.ensures.holds) c.requires.ready.stands.in_hand.holds)
+    (subst (λ (xs : List HoldParts). WereHeld s h.lib.0 xs) (sym c.in-Some.ensures.holds) (were_held s h.lib.0 _ c.requires.ready.stands.in_hand.holds))
 
 pub hand_in-requires-clause-closed : goal.hand_in-requires-clause-closed
 hand_in-requires-clause-closed c =
