@@ -64,13 +64,13 @@ fn play_script(alloc: Global, bytes: &[u8], script: &[u8]) -> Option<Told> {
     })
 }
 
-/// Each answer that a line can have today, but for a refusal and those of an allotment.
+/// Lines of a library that may not write into the root, and what each is answered.
 #[test]
 fn lines_are_answered(rt: HostRuntime) -> Result<(), Fail> {
     let alloc = rt.alloc();
     let mut bytes = image_bytes(alloc).ok_or("memory")?;
     let script =
-        b"lib 1 raw 0 0\ngrant write 2\ngrant write 2\ngrant write 9\ngrant write 1\npoke block 2 0 1 75\npoke block 2 1 0 75\npoke body 9 0 00\nrelease 9 - -\nrelease 2 - -\npoke block 2 0 0 75\n";
+        b"lib 1 raw 0 0\ngrant write 2\ngrant write 2\ngrant write 9\ngrant write 1\npoke block 2 0 1 75\npoke block 2 1 0 75\npoke body 9 0 00\nrelease 9 - -\nrelease 2 - -\npoke block 2 0 0 75\ngrant hold 2\ngrant read 2\nback 2\nback 2\n";
     let told = play_script(alloc, &bytes, script).ok_or("a script")?;
     let wanted = [
         LineAnswer::Granted,
@@ -82,6 +82,10 @@ fn lines_are_answered(rt: HostRuntime) -> Result<(), Fail> {
         LineAnswer::Absent,
         LineAnswer::Absent,
         LineAnswer::Accepted,
+        LineAnswer::Absent,
+        LineAnswer::NoParent,
+        LineAnswer::Granted,
+        LineAnswer::GivenBack,
         LineAnswer::Absent,
     ];
     assert!(rt; told.answers.as_slice() == wanted.as_slice());
