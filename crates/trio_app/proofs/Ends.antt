@@ -24,7 +24,7 @@ use Rattle.trio_image.specs.Counts.{counts_in_tables, counts_of}
 use Rattle.trio_image.specs.Image.{ImagePages, IsVerified, TablesAre}
 use Rattle.trio_image.specs.Load.{Loads}
 use Rattle.trio_image.specs.Made.{Fits, IsMade, new_counts}
-use Rattle.trio_ctl.specs.Ctl.{superblock_for}
+use Rattle.trio_ctl.specs.Ctl.{superblock_for, writer_of}
 use Rattle.trio_runner.specs.Play.{Played}
 use Rattle.trio_runner.specs.Seen.{ScriptPlayed}
 use Rattle.trio_app.specs.declared.status.Status.{Status}
@@ -32,7 +32,7 @@ use Rattle.trio_app.specs.declared.status.Status.TheVariants.{Done, NotVerified,
 use Rattle.trio_app.specs.Check.{Check}
 use Rattle.trio_app.specs.Images.{ImageStops, OutKeeps}
 use Rattle.trio_app.specs.Inputs.{ReadsBoth, ReadsLines}
-use Rattle.trio_app.specs.Lines.{made_line, usage_line, valid_line, write_fault_line}
+use Rattle.trio_app.specs.Lines.{made_line, usage_line, write_fault_line}
 use Rattle.trio_app.specs.New.{New}
 use Rattle.trio_app.specs.Report.{answers_text, report_text, told_counts}
 use Rattle.trio_app.specs.inner.RunEnd.{IsRunEnd}
@@ -40,7 +40,7 @@ use Rattle.trio_app.specs.inner.Saved.{IsSaved, SaveComesTo}
 use Rattle.trio_app.specs.Tree.{Tree}
 use Rattle.trio_app.specs.declared.words.TreeForm.{TreeForm}
 use Rattle.trio_app.specs.Turns.{InputsStop, Turns, TurnsComesTo, TurnsFaults, TurnsDone, TurnsWriteFault, libraries}
-use Rattle.trio_app.proofs.Headlines.{headline, no_page_out}
+use Rattle.trio_app.proofs.Headlines.{headline, no_grant_open, no_page_out}
 use Rattle.trio_app.proofs.Trees.{tree_same}
 
 -- ---- a run
@@ -63,6 +63,15 @@ reported lines tolds seen end end' ctl t last report same ended tables is stores
     let counts : Counts = counts_of (image_in t last) in
     text ∙ ap (λ ts. T ts end' (tree_of (core_in t last)) counts) same ∙ ap (λ e. T tolds e (tree_of (core_in t last)) counts) ended
     ∙ ap (λ ls. T tolds end ls counts) tree ∙ ap (T tolds end (tree_of core)) (counts_same (settled ctl) t last tables)
+
+-- once a script was played nobody writes
+pub nobody_writes : (s : Superblock) (pages : List (Option (List ℕ))) (libs : List Creds) (first final : State) (lines : List ScriptLine) (none after : List LineAnswer) (end : EndAnswer)
+    → Kept first → libs ≡ libraries → first ≡ start (image_in s pages) libs → ScriptPlayed first.home first.creds lines none after end final → writer_of final ≡ None
+nobody_writes s pages libs first final lines none after end k libs_are started script =
+    let begun : first ≡ start (image_in s pages) libraries = started ∙ ap (start (image_in s pages)) libs_are in
+    let script' : ScriptPlayed (image_in s pages) libraries lines none after end final = subst (λ (f : State). ScriptPlayed f.home f.creds lines none after end final) begun script in
+    let free = no_grant_open (image_in s pages) libraries lines script'.played (subst Kept begun k) in
+    ap (λ gs. writer_of (record final { open_grants = gs })) (subst (λ (f : State). f.open_grants ≡ []) script'.last free)
 
 -- what a run comes to
 pub run_end : (s t : Superblock) (pages last : List (Option (List ℕ))) (libs : List Creds) (first final : State) (lines : List ScriptLine) (none after : List LineAnswer) (end : EndAnswer) (report : List ℕ)

@@ -1,5 +1,5 @@
 -- The claim, of a script that is played on an image that verifies.
-use Rattle.std.proofs.Common.{List, subst, inl, inr, sym, ap, ◌∙◌}
+use Rattle.std.proofs.Common.{◌≡◌, List, [], subst, inl, inr, sym, ap, ◌∙◌}
 use Rattle.std.specs.Prelude.{is_some}
 use Rattle.std.proofs.lemmas.Bool.{false≢true}
 use Rattle.trio_tables.specs.Out.{NoneOut}
@@ -54,6 +54,10 @@ started_whole image creds k = λ page gone core. elim (k.absent page gone core) 
 
 pub headline : (image : Image) (creds : List Creds) (lines : List ScriptLine) (played : Played image creds lines) → Kept (start image creds) → Headline image creds (moves_of played)
 headline image creds lines played k = headline_of image creds lines played k.fit k.verifies (started_whole image creds k)
+
+-- at its end no grant is open
+pub no_grant_open : (image : Image) (creds : List Creds) (lines : List ScriptLine) (played : Played image creds lines) → Kept (start image creds) → played.last.state.open_grants ≡ []
+no_grant_open image creds lines played k = (ends_free image creds lines played k.fit k.verifies (started_whole image creds k)).grants
 
 -- at its end no page is out
 pub no_page_out : (image : Image) (creds : List Creds) (lines : List ScriptLine) (played : Played image creds lines) → Kept (start image creds) → NoneOut played.last.state.pages_out

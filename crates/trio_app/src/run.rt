@@ -1,17 +1,18 @@
 //! The run of a script, its report and the image at its end.
 
-ghost use Rattle.std.specs.Prelude.{◌≡◌, ◌++◌, IfOk, OnOk};
+ghost use Rattle.std.specs.Prelude.{◌≡◌, ◌++◌, IfOk, None, OnOk};
 ghost use Rattle.trio_report.specs.declared.report.LibraryKind.TheVariants.{Raw};
 ghost use Rattle.trio_report.specs.Report.{counts_text, end_line, lib_heading, tree_text};
 ghost use Rattle.trio_survey.specs.Stored.{core_in, image_in};
 ghost use Rattle.trio_layout.specs.Tree.{tree_of};
 ghost use Rattle.trio_image.specs.Counts.{counts_of};
+ghost use Rattle.trio_ctl.specs.Ctl.{writer_of, TellsSettled};
 ghost use Rattle.trio_app.specs.Report.{answers_text, told_counts};
 ghost use Rattle.trio_app.specs.inner.RunEnd.{IsRunEnd};
 
 use crate::images::told_counts;
 use std::alloc::Global;
-use trio_ctl::Ctl;
+use trio_ctl::{Ctl, ImageFault};
 use trio_image::Image;
 use trio_page::{NoMemory, Reads};
 use trio_report::{
@@ -42,12 +43,23 @@ pub fn run(alloc: Global, image: Image, lines: &[ScriptLine]) -> Result<RunEnd, 
     };
     let mut answers = Vec::new(alloc);
     let end = play(alloc, &mut ctl, lines, &mut answers)?;
-    // at a script's end nothing is out, so this is want of memory
-    let Ok(last) = ctl.image() else {
-        return Err(NoMemory);
-    };
+    let last = last_image(ctl)?;
     let (report, image) = report(alloc, lines, &answers, end, last)?;
     Ok(RunEnd { report, image })
+}
+
+/// The image that is settled once nobody writes. The controller ends.
+fn last_image(ctl: Ctl) -> Result<Image, NoMemory>
+    requires { writer_of ctl.state ≡ None }
+    ensures { IfOk result (TellsSettled ctl.state) }
+{
+    match ctl.into_image() {
+        Ok(image) => Ok(image),
+        Err((_ctl, fault)) => match fault {
+            ImageFault::NoMemory => Err(NoMemory),
+            ImageFault::Busy(_) => unreachable!(),
+        },
+    }
 }
 
 /// The report of a run: the answers to its lines and that of its end, with the tree and the counts
