@@ -12,7 +12,7 @@ use std::test::Fail;
 use std::thread::Threads;
 use trio_io::{FailingCalls, MemFiles, MemSink, OpenGate, SureFiles, SureSink};
 use trio_page::NoMemory;
-use trio_samples::files::{one_file, root, three_files};
+use trio_samples::files::{one_file, root, six_directories, three_files};
 use trio_samples::{Sample, SampleFile, directory, regular};
 
 const IMAGE_SIZE: usize = 131_072;
@@ -904,6 +904,110 @@ const TREE_SESSIONS: &[Session] = &[
 fn directories_are_lent_and_what_is_free_is_allotted(rt: HostRuntime) -> Result<(), Fail> {
     let whole = tree_image(rt.alloc())?;
     for session in TREE_SESSIONS {
+        assert!(rt; plays(&rt, &whole, *session) == Some(true), "{}", session.0);
+    }
+    Ok(())
+}
+
+// What a library does with all three kinds of grant on `a` and `f`.
+const GRANT_SESSIONS: &[Session] = &[
+    // nobody writes what is read, a library reads it once, and a read lease is given back once
+    (
+        "grant read 3\ngrant read 3\ngrant write 3\nback 3\nback 3\ngrant write 3\ngrant read 3\ngrant read 9\npeek block 3 0 0 5\n",
+        "2 granted\n3 busy\n4 busy\n5 ok\n6 absent\n7 granted\n8 busy\n9 notlive\n10 68656c6c6f\nend accepted\n",
+        TREE,
+        SAME,
+    ),
+    // what is read is seen and not written, and isn't released; the directory is as its bytes were written
+    (
+        "grant read 3\npeek body 3 12 8\npeek index 3 0 0 4\npeek block 3 1 0 1\npoke block 3 0 0 4a\ngrant write 2\npoke block 2 0 208 ff\npeek block 2 0 208 1\npeek body 3 16 1\nrelease 3 - -\nback 3\npeek block 3 0 0 5\n",
+        "2 granted\n3 0700000005000000\n4 08000000\n5 absent\n6 absent\n7 granted\n8 poked\n9 ff\n10 05\n11 absent\n12 ok\n13 absent\nend accepted\n",
+        TREE,
+        SAME,
+    ),
+    // a held directory is dropped, with its child
+    (
+        "grant hold 2\ngrant write 1\ngrant hold 2\npoke block 1 0 0 00000000\nrelease 1,2 - -\n",
+        "2 noparent\n3 granted\n4 granted children 1\n5 poked\n6 refused I3\nend nothing\n",
+        TREE,
+        SAME,
+    ),
+    // a held file is dropped
+    (
+        "grant write 2\ngrant hold 3\npoke block 2 0 0 00000000\nrelease 2,3 - -\n",
+        "2 granted\n3 granted children 0\n4 poked\n5 accepted\nend nothing\n",
+        "tree\n0 d 755 0 0 1 /\n1 d 755 0 0 0 a\ninodes 2 pages 4 free 25\n",
+        Out::Part(24_576, 24_580, 0),
+    ),
+    // a held file is moved to the root, under another name
+    (
+        "grant write 1\ngrant write 2\ngrant hold 3\npoke block 2 0 0 00000000\npoke block 1 0 256 030000000101000067\npoke block 1 0 448 a4010000000000000000000007000000050000\nrelease 1,2,3 - -\n",
+        "2 granted\n3 granted\n4 granted children 0\n5 poked\n6 poked\n7 poked\n8 accepted\nend nothing\n",
+        "tree\n0 d 755 0 0 2 /\n1 d 755 0 0 0 a\n1 f 644 0 0 5 g\ninodes 3 pages 6 free 23\n",
+        Out::Part(32_768, 32_769, b'h'),
+    ),
+    // and with another size
+    (
+        "grant write 1\ngrant write 2\ngrant hold 3\npoke block 2 0 0 00000000\npoke block 1 0 256 030000000101000067\npoke block 1 0 448 a4010000000000000000000007000000040000\nrelease 1,2,3 - -\n",
+        "2 granted\n3 granted\n4 granted children 0\n5 poked\n6 poked\n7 poked\n8 refused I4\nend nothing\n",
+        TREE,
+        SAME,
+    ),
+    // a hold and the directory above it go together
+    (
+        "grant write 1\ngrant hold 2\nrelease 1 - -\nrelease 2 - -\npeek block 1 0 8 1\n",
+        "2 granted\n3 granted children 1\n4 notclosed 2\n5 notclosed 2\n6 61\nend accepted\n",
+        TREE,
+        SAME,
+    ),
+];
+
+#[test]
+fn grants_of_all_kinds(rt: HostRuntime) -> Result<(), Fail> {
+    let whole = tree_image(rt.alloc())?;
+    for session in GRANT_SESSIONS {
+        assert!(rt; plays(&rt, &whole, *session) == Some(true), "{}", session.0);
+    }
+    Ok(())
+}
+
+// `a`, `a/p` and `a/p/p1`, and `b`, `b/q` and `b/q/q1`: 2, 4, 5, 3, 6 and 7.
+fn deep_image(alloc: Global) -> Result<Vec<u8>, NoMemory> {
+    Sample::small(alloc, &six_directories())?.bytes(alloc)
+}
+
+const DEEP_TREE: &str =
+    "tree\n0 d 755 0 0 2 /\n1 d 755 0 0 1 a\n2 d 755 0 0 1 p\n3 d 755 0 0 0 p1\n1 d 755 0 0 1 b\n2 d 755 0 0 1 q\n3 d 755 0 0 0 q1\ninodes 7 pages 10 free 19\n";
+
+// What a library does that moves directories.
+const MOVES: &[Session] = &[
+    // `a` goes below itself
+    (
+        "grant write 1\ngrant write 4\ngrant hold 2\npoke block 1 0 0 00000000\npoke block 4 0 256 020000000201000061\npoke block 4 0 448 ed010000000000000000000005000000001000\nrelease 1,2,4 - -\n",
+        "2 granted\n3 granted\n4 granted children 1\n5 poked\n6 poked\n7 poked\n8 refused I3\nend nothing\n",
+        DEEP_TREE,
+        SAME,
+    ),
+    // `a` goes below `b`, and then `b` below `a`
+    (
+        "grant write 1\ngrant write 6\ngrant hold 2\npoke block 1 0 0 00000000\npoke block 6 0 256 020000000201000061\npoke block 6 0 448 ed010000000000000000000005000000001000\nrelease 1,2,6 - -\ngrant write 1\ngrant write 4\ngrant hold 3\npoke block 1 0 256 00000000\npoke block 4 0 256 030000000201000062\npoke block 4 0 448 ed010000000000000000000009000000001000\nrelease 1,3,4 - -\n",
+        "2 granted\n3 granted\n4 granted children 1\n5 poked\n6 poked\n7 poked\n8 accepted\n9 granted\n10 granted\n11 granted children 1\n12 poked\n13 poked\n14 poked\n15 refused I3\nend nothing\n",
+        "tree\n0 d 755 0 0 1 /\n1 d 755 0 0 1 b\n2 d 755 0 0 2 q\n3 d 755 0 0 1 a\n4 d 755 0 0 1 p\n5 d 755 0 0 0 p1\n3 d 755 0 0 0 q1\ninodes 7 pages 10 free 19\n",
+        Out::Part(0, 0, 0),
+    ),
+    // an entry goes to another slot and back to its own, and then stays away
+    (
+        "grant write 2\npoke block 2 0 256 040000000201000070\npoke block 2 0 448 ed010000000000000000000007000000001000\npoke block 2 0 0 00000000\npoke block 2 0 0 04000000\npoke block 2 0 256 00000000\nrelease 2 - -\ngrant write 2\npoke block 2 0 256 040000000201000070\npoke block 2 0 448 ed010000000000000000000007000000001000\npoke block 2 0 0 00000000\nrelease 2 - -\n",
+        "2 granted\n3 poked\n4 poked\n5 poked\n6 poked\n7 poked\n8 accepted\n9 granted\n10 poked\n11 poked\n12 poked\n13 refused I2\nend nothing\n",
+        DEEP_TREE,
+        Out::Part(0, 0, 0),
+    ),
+];
+
+#[test]
+fn directories_are_moved(rt: HostRuntime) -> Result<(), Fail> {
+    let whole = deep_image(rt.alloc())?;
+    for session in MOVES {
         assert!(rt; plays(&rt, &whole, *session) == Some(true), "{}", session.0);
     }
     Ok(())
