@@ -1,5 +1,5 @@
-//! What a turn costs without others in it, what the judge takes for bundles of many pages, and what it
-//! costs to check an image.
+//! What a turn costs without others in it, what the judge takes for bundles of many pages, what it
+//! costs to check an image, and what to tell a tree.
 //!
 //! - `trio_bench turn COUNT` takes a value out of its cell and gives it back COUNT times, and locks a
 //!   `Mutex` of std's with the same value COUNT times, all on one thread, five times over. It prints
@@ -10,6 +10,8 @@
 //! - `trio_bench workload IMAGE` writes an image of the shape and size in which the generator's
 //!   workload leaves one, and `trio_bench check IMAGE` loads and verifies an image and reads and sums
 //!   the bytes of its file, ten times over, and prints how often the second time goes into the first.
+//! - `trio_bench tree` tells trees of 1,000, 4,000 and 16,000 names, as lines and as JSON, each five
+//!   times over, and prints how often the time of the first goes into those of the others.
 //!
 //! It is measured and not proved; the figures of a run are in `docs/GATE.md`.
 #![tactic(auto)]
@@ -20,9 +22,11 @@ ghost use Rattle.trio_turn.specs.Seats.{cell, cell_of, has, IsSameSeat};
 mod bundles;
 mod checking;
 mod judging;
+mod trees;
 
 use crate::checking::{measure_check, write_workload};
 use crate::judging::measure_judge;
+use crate::trees::measure_tree;
 use std::alloc::Global;
 use std::rt::{Clock, Env};
 use std::sync::{Mutex, Wait};
@@ -114,6 +118,7 @@ enum Asked {
     /// So many turns.
     Turn(u64),
     Judge,
+    Tree,
     /// An image of this name is to be written.
     Workload(String),
     /// The image of this name.
@@ -129,6 +134,9 @@ fn read_words<R: Env + AllocGlobal>(rt: &R) -> io::Result<Option<Asked>> {
     };
     if what.as_str() == "judge" {
         return Ok(Some(Asked::Judge));
+    }
+    if what.as_str() == "tree" {
+        return Ok(Some(Asked::Tree));
     }
     let Some(count) = words.next() else {
         return Ok(None);
@@ -163,11 +171,12 @@ fn main(rt: HostRuntime) -> io::Result<()> {
     match read_words(&rt)? {
         Some(Asked::Turn(count)) => measure_turn(&rt, count),
         Some(Asked::Judge) => measure_judge(&rt),
+        Some(Asked::Tree) => measure_tree(&rt),
         Some(Asked::Workload(name)) => write_workload(&rt, &name),
         Some(Asked::Check(name)) => measure_check(&rt, &name),
         None => {
             println!(rt;
-                "usage: trio_bench turn COUNT\n       trio_bench judge\n       trio_bench workload IMAGE\n       trio_bench check IMAGE"
+                "usage: trio_bench turn COUNT\n       trio_bench judge\n       trio_bench workload IMAGE\n       trio_bench check IMAGE\n       trio_bench tree"
             )
         }
     }

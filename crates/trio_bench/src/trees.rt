@@ -1,0 +1,131 @@
+//! What it takes to tell the tree of an image, by the number of its names.
+
+use std::alloc::Global;
+use std::io;
+use std::rt::Clock;
+use std::time::Instant;
+use trio_layout::Superblock;
+use trio_page::{Home, Reads};
+use trio_report::{put_tree_lines, tree_json, tree_lines};
+use trio_samples::{Sample, SampleFile, directory, regular};
+
+/// The fastest of so many rounds counts.
+const ROUNDS: u32 = 5;
+
+/// How many directories the root has, which have the other names.
+const DIRECTORIES: u32 = 4;
+
+/// The least number of names, beside which the others stand.
+const LEAST: u32 = 1000;
+
+/// The nanoseconds in which a tree is told in its two forms.
+#[derive(Clone, Copy)]
+struct Times {
+    lines: u128,
+    json: u128,
+}
+
+/// Prints in which time trees of 1,000, 4,000 and 16,000 names are told, and how often the time of the
+/// first goes into that of each.
+pub fn measure_tree<R: Clock + Print + AllocGlobal>(rt: &R) -> io::Result<()> {
+    let Some(least) = times_of(rt, LEAST)? else {
+        return println!(rt; "out of memory");
+    };
+    for names in [LEAST, 4000, 16_000] {
+        match times_of(rt, names)? {
+            Some(times) => print_times(rt, names, times, least)?,
+            None => println!(rt; "{names} names: out of memory")?,
+        }
+    }
+    Ok(())
+}
+
+fn print_times<R: Print>(rt: &R, names: u32, times: Times, least: Times) -> io::Result<()> {
+    let lines = times.lines.saturating_mul(100) / least.lines.max(1);
+    let json = times.json.saturating_mul(100) / least.json.max(1);
+    println!(rt;
+        "{names} names: lines {} us, {}.{:02} times those of {LEAST}; JSON {} us, {}.{:02} times",
+        times.lines / 1000,
+        lines / 100,
+        lines % 100,
+        times.json / 1000,
+        json / 100,
+        json % 100
+    )
+}
+
+/// The times of the fastest rounds. `None` where memory is wanting.
+fn times_of<R: Clock + AllocGlobal>(rt: &R, names: u32) -> io::Result<Option<Times>> {
+    let alloc = rt.alloc();
+    let Some(sample) = sample_of(alloc, names) else {
+        return Ok(None);
+    };
+    let superblock = *sample.superblock();
+    let Ok(mut home) = sample.home(alloc) else {
+        return Ok(None);
+    };
+    let mut least = Times {
+        lines: u128::MAX,
+        json: u128::MAX,
+    };
+    for _ in 0..ROUNDS {
+        let start = Instant::now(rt)?;
+        if lines_of(alloc, &mut home, &superblock).is_none() {
+            return Ok(None);
+        }
+        least.lines = least.lines.min(start.elapsed(rt)?.as_nanos());
+        let start = Instant::now(rt)?;
+        if json_of(alloc, &mut home, &superblock).is_none() {
+            return Ok(None);
+        }
+        least.json = least.json.min(start.elapsed(rt)?.as_nanos());
+    }
+    Ok(Some(least))
+}
+
+fn lines_of(alloc: Global, home: &mut Home, superblock: &Superblock) -> Option<Vec<u8>> {
+    let lines = tree_lines(alloc, home, superblock, &mut Reads::new()).ok()?;
+    let mut text = Vec::new(alloc);
+    put_tree_lines(alloc, &mut text, &lines).ok()?;
+    Some(text)
+}
+
+fn json_of(alloc: Global, home: &mut Home, superblock: &Superblock) -> Option<Vec<u8>> {
+    let lines = tree_lines(alloc, home, superblock, &mut Reads::new()).ok()?;
+    tree_json(alloc, &lines).ok()
+}
+
+/// An image of so many names: the root has four directories, among which empty files are shared out. Their
+/// names lie in no order.
+fn sample_of(alloc: Global, names: u32) -> Option<Sample> {
+    let mut spelled = Vec::new(alloc);
+    for number in 0..names {
+        spelled.push(spelling(number)).ok()?;
+    }
+    let mut files = Vec::new(alloc);
+    files.push(directory(1, 0, b"")).ok()?;
+    for (number, name) in spelled.iter().enumerate() {
+        files.push(file_of(number as u32, name)).ok()?;
+    }
+    Sample::of(alloc, 8192, 16_384, &files).ok()
+}
+
+/// The file of this number, of which the first are the directories.
+fn file_of(number: u32, name: &[u8; 5]) -> SampleFile<'_> {
+    let ino = number.wrapping_add(2);
+    if number < DIRECTORIES {
+        return directory(ino, 1, name);
+    }
+    regular(ino, (number % DIRECTORIES).wrapping_add(2), name, b"")
+}
+
+/// Another five digits for each number below 2 ^ 16, in no order.
+fn spelling(number: u32) -> [u8; 5] {
+    let mut rest = number.wrapping_mul(40_503) % 65_536;
+    let mut digits = [b'0'; 5];
+    for digit in digits.iter_mut().rev() {
+        *digit = b'0'.wrapping_add((rest % 10) as u8);
+        rest /= 10;
+    }
+    digits
+}
