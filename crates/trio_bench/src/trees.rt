@@ -104,8 +104,10 @@ fn sample_of(alloc: Global, names: u32) -> Option<Sample> {
     }
     let mut files = Vec::new(alloc);
     files.push(directory(1, 0, b"")).ok()?;
-    for (number, name) in spelled.iter().enumerate() {
-        files.push(file_of(number as u32, name)).ok()?;
+    let mut number: u32 = 0;
+    for name in &spelled {
+        files.push(file_of(number, name)).ok()?;
+        number = number.wrapping_add(1);
     }
     Sample::of(alloc, 8192, 16_384, &files).ok()
 }
