@@ -939,6 +939,13 @@ const GRANT_SESSIONS: &[Session] = &[
         "tree\n0 d 755 0 0 1 /\n1 d 755 0 0 0 a\ninodes 2 pages 4 free 25\n",
         Out::Part(24_576, 24_580, 0),
     ),
+    // a held file is dropped, and the page that listed it is another file's index page
+    (
+        "allot 0 1\ngrant write 1\ngrant write 2\ngrant hold 3\npoke body 2 12 000000000000000000000000\npoke block 2 0 0 050000000000000000\npoke block 2 0 192 000000000000000000000000000000000000000000000000\npoke block 1 0 256 040000000101000067\npoke block 1 0 448 a40100000000000000000000060000000500000000000000\nrelease 1,2,3 - 4\n",
+        "2 allotted - 4\n3 granted\n4 granted\n5 granted children 0\n6 poked\n7 poked\n8 poked\n9 poked\n10 poked\n11 accepted\nend nothing\n",
+        "tree\n0 d 755 0 0 2 /\n1 d 755 0 0 0 a\n1 f 644 0 0 5 g\ninodes 3 pages 4 free 25\n",
+        Out::Part(24_577, 28_672, 0),
+    ),
     // a held file is moved to the root, under another name
     (
         "grant write 1\ngrant write 2\ngrant hold 3\npoke block 2 0 0 00000000\npoke block 1 0 256 030000000101000067\npoke block 1 0 448 a4010000000000000000000007000000050000\nrelease 1,2,3 - -\n",
