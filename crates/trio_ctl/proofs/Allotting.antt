@@ -24,7 +24,7 @@ use Rattle.trio_allot.specs.Free.{FreeAreHome, RefusesBoth}
 use Rattle.trio_state.specs.Allotments.{allots}
 use Rattle.trio_state.specs.Kept.{Kept, is_lent}
 use Rattle.trio_rights.specs.Sheets.{sheet_numbers, without_pages}
-use Rattle.trio_state.specs.State.{OpenGrant, State, logged, settled}
+use Rattle.trio_state.specs.State.{State, logged, settled}
 use Rattle.trio_nodes.specs.GrantKinds.{is_write}
 use Rattle.trio_state.specs.Step.{Allot, CtlAnswer, Given, NoInodes, NoPages, Outcome, Step, allot_outcome}
 use Rattle.trio_lists.proofs.Counting.{count_from}
@@ -33,7 +33,7 @@ use Rattle.trio_lists.proofs.Filters.{filter-In, list_any-In}
 use Rattle.trio_laws.proofs.Grants.{logged_kept}
 use Rattle.trio_surveys.proofs.Images.{free_is_low, free_unlisted}
 use Rattle.trio_lists.proofs.Tabulated.{tabulated-length}
-use Rattle.trio_lists.proofs.Members.{In-left, is_among-In, map-In}
+use Rattle.trio_lists.proofs.Members.{In-left, is_among-In}
 use Rattle.trio_laws.proofs.Runs.{step_kept}
 use Rattle.trio_surveys.proofs.Sheets.{length-without}
 use Rattle.trio_laws.proofs.StateFacts.{lent_met, tables as tables_of, write_is}
@@ -41,7 +41,7 @@ use Rattle.trio_ctl.specs.Answers.{allot_fault_answer}
 use Rattle.trio_commit.specs.declared.store.Store.{Store}
 use Rattle.trio_commit.specs.Store.{checkpoint_at, state_of, with_checkpoint}
 use Rattle.trio_ctl.specs.Ctl.{HaveKinds, IsControlled}
-use Rattle.trio_ctl.specs.Entries.{Entries, reads_among}
+use Rattle.trio_ctl.specs.Entries.{Entries}
 use Rattle.trio_ctl.specs.Open.{Opened, grants_in}
 use Rattle.trio_ctl.specs.Stored.{IsStored, superblock_at_home}
 use Rattle.trio_allot.specs.Out.{OutByNumber, outs_with}

@@ -1,5 +1,5 @@
 -- The end of a read grant is the step that the definitions say.
-use Rattle.std.proofs.Common.{◌≡◌, ◌≢◌, ℕ, zero, suc, ◌+◌, ◌-◌, ◌<◌, ◌≤◌, ◌==◌, ◌&&◌, Bool, true, false, List, [], ◌∷◌, ◌++◌, length, map, take, drop, get_or, AllPairs, Option, Some, None, IsTrue, inl, inr, ◌⊎◌, refl, sym, ap, subst, ◌∙◌, arith}
+use Rattle.std.proofs.Common.{◌≡◌, ◌≢◌, ℕ, zero, suc, ◌+◌, ◌-◌, ◌<◌, ◌≤◌, ◌==◌, ◌&&◌, Bool, true, false, List, [], ◌∷◌, ◌++◌, length, map, take, drop, get_or, AllPairs, Option, Some, None, IsTrue, inl, inr, refl, sym, ap, subst, ◌∙◌, arith}
 use Rattle.std.proofs.Math.Seq.{drop-cons}
 use Rattle.std.specs.Prelude.{if◌then◌else◌, nat_lt, not, slice_index_or}
 use Rattle.std.specs.List.{filter, position, position_or_len}
@@ -8,27 +8,24 @@ use Rattle.std.proofs.lemmas.List.{map-append, take-append-drop}
 use Rattle.std.proofs.lemmas.List.Quantifiers.{position-Some}
 use Rattle.std.proofs.lemmas.List.Sums.{fails_before_first}
 use Rattle.trio_rights.specs.declared.rights.Creds.{Creds}
-use Rattle.trio_rights.specs.declared.rights.LibNo.{LibNo}
-use Rattle.trio_nodes.specs.GrantKinds.{is_read, is_write}
+use Rattle.trio_nodes.specs.GrantKinds.{is_read}
 use Rattle.trio_nodes.specs.declared.grant.GrantKind.{GrantKind}
-use Rattle.trio_nodes.specs.declared.grant.GrantKind.TheVariants.{Read, Write, Hold}
+use Rattle.trio_nodes.specs.declared.grant.GrantKind.TheVariants.{Read, Write}
 use Rattle.trio_grants.specs.Grants.{Keyed, HasKey, without}
 use Rattle.trio_lists.specs.Lists.{In, are_new}
-use Rattle.trio_lists.proofs.Filters.{get_or-In}
 use Rattle.trio_lists.proofs.Members.{In-cases, In-left, In-map, In-right, map-In}
 use Rattle.trio_checkpoint.specs.Covered.{Checkpointed}
 use Rattle.trio_state.specs.Given.{HasGrant}
 use Rattle.trio_state.specs.Grants.{given_back}
-use Rattle.trio_state.specs.Kept.{Kept, MayBothStand}
+use Rattle.trio_state.specs.Kept.{MayBothStand}
 use Rattle.trio_state.specs.State.{OpenGrant, State}
 use Rattle.trio_state.specs.Step.{Back, Done, Step}
 use Rattle.trio_laws.proofs.Runs.{step_kept}
 use Rattle.trio_commit.specs.declared.store.Store.{Store}
-use Rattle.trio_commit.specs.Store.{checkpoint_at, state_of, with_checkpoint}
-use Rattle.trio_ctl.specs.Ctl.{HaveKinds, IsControlled}
+use Rattle.trio_commit.specs.Store.{state_of, with_checkpoint}
+use Rattle.trio_ctl.specs.Ctl.{IsControlled}
 use Rattle.trio_ctl.specs.Entries.{Entries, reads_among}
 use Rattle.trio_ctl.specs.Open.{Opened, grants_in, keyed}
-use Rattle.trio_ctl.specs.Stored.{CoversLent, IsStored}
 use Rattle.trio_ctl.specs.inner.Reads.{is_read_of}
 use Rattle.trio_ctl.proofs.ClosingFacts.{found_one, keys, others, without_one}
 

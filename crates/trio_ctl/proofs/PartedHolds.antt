@@ -1,5 +1,5 @@
 -- The lowest hold that is parted, by one walk over the open grants.
-use Rattle.std.proofs.Common.{◌≡◌, ℕ, zero, suc, ◌+◌, ◌<◌, ◌≤◌, ◌==◌, ◌||◌, Bool, true, false, List, [], ◌∷◌, length, map, drop, get_or, Option, Some, None, is_some, refl, sym, ap, ◌∙◌, inl, inr, ◌⊎◌, arith}
+use Rattle.std.proofs.Common.{◌≡◌, ℕ, zero, suc, ◌+◌, ◌<◌, ◌≤◌, ◌==◌, ◌||◌, Bool, true, false, List, [], ◌∷◌, length, map, drop, get_or, Option, Some, None, is_some, refl, sym, ap, ◌∙◌, arith}
 use Rattle.std.proofs.Math.Seq.{drop-cons}
 use Rattle.std.specs.Prelude.{if◌then◌else◌, nat_le}
 use Rattle.std.specs.List.{filter, find, list_any}
@@ -18,7 +18,6 @@ use Rattle.trio_commit.specs.Store.{state_of, with_checkpoint}
 use Rattle.trio_rights.specs.declared.rights.Creds.{Creds}
 use Rattle.trio_ctl.specs.Open.{Opened, grants_in}
 use Rattle.trio_ctl.specs.inner.Parting.{is_parted_by, lowest_parted}
-use Rattle.trio_ctl.proofs.StoredFacts.{Checkpoints}
 
 -- ---- what a bundle has
 

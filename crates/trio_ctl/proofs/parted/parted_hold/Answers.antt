@@ -2,7 +2,7 @@ use Rattle.std.proofs.Common.{◌+◌, ap, arith, drop, sym, ◌∙◌}
 use Rattle.trio_ctl.specs.inner.Parting.{lowest_parted}
 use Rattle.trio_state.specs.Bundles.{lower}
 use Rattle.trio_lease.specs.Views.{bundle_in}
-use Rattle.trio_ctl.proofs.PartedHolds.{lower_of, next_parted, next_whole, parted_ends}
+use Rattle.trio_ctl.proofs.PartedHolds.{lower_of, next_parted, next_whole}
 use Rattle.trio_ctl.proofs.parted.parted_hold.Goals.{then-is_parted, else-is_parted}
 use Rattle.trio_ctl.proofs.parted.parted_hold.Goals as goal
 

@@ -1,10 +1,9 @@
-use Rattle.std.proofs.Common.{◌≡◌, ◌+◌, ◌<◌, refl, ap, drop, subst, sym, take, ◌∙◌}
+use Rattle.std.proofs.Common.{◌+◌, ap, drop, subst, sym, take, ◌∙◌}
 use Rattle.std.specs.List.{position}
 use Rattle.trio_nodes.specs.declared.grant.GrantKind.TheVariants.{Read}
 use Rattle.trio_grants.specs.Grants.{HasKey, without}
 use Rattle.trio_lease.specs.Shown.{Shown}
 use Rattle.trio_state.specs.Given.{HasGrant}
-use Rattle.trio_state.specs.Kept.{Kept}
 use Rattle.trio_state.specs.State.{State}
 use Rattle.trio_ctl.specs.Open.{Opened}
 use Rattle.trio_ctl.specs.inner.Reads.{is_read_of}

@@ -1,4 +1,4 @@
-use Rattle.std.proofs.Common.{◌≡◌, arith, ap, length, subst, sym, ◌∙◌}
+use Rattle.std.proofs.Common.{arith, ap, length, subst, sym, ◌∙◌}
 use Rattle.trio_page.specs.Home.{Pages}
 use Rattle.trio_layout.proofs.Superblocks.{superblock_facts}
 use Rattle.trio_layout.specs.declared.superblock.Superblock.{Superblock}

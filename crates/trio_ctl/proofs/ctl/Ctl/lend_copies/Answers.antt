@@ -1,21 +1,19 @@
 use Rattle.std.proofs.Common.{◌≡◌, refl, Some, None, ap, length, sym, subst, ◌∙◌, ◌++◌, ◌∷◌, []}
 use Rattle.std.specs.Result.{IsOk}
-use Rattle.trio_nodes.specs.declared.grant.GrantKind.TheVariants.{Read, Hold}
+use Rattle.trio_nodes.specs.declared.grant.GrantKind.TheVariants.{Read}
 use Rattle.trio_tables.specs.Row.{as_row}
 use Rattle.trio_grants.specs.Grants.{AllBelow}
-use Rattle.trio_lease.specs.declared.lease.Lease.TheVariants.{Read as ReadLent, Hold as HoldLent}
+use Rattle.trio_lease.specs.declared.lease.Lease.TheVariants.{Read as ReadLent}
 use Rattle.trio_layout.specs.Core.{Core}
 use Rattle.trio_layout.specs.Image.{row_at}
 use Rattle.trio_layout.specs.declared.range.CoreRange.{CoreRange}
-use Rattle.trio_state.specs.Grants.{children_of, opened}
 use Rattle.trio_state.specs.State.{OpenGrant, State}
 use Rattle.trio_checkpoint.specs.Covered.{chain_in, core_of}
-use Rattle.trio_commit.specs.Store.{state_of}
 use Rattle.trio_commit.specs.declared.store.Store.{Store}
 use Rattle.trio_ctl.specs.Entries.{Entries}
 use Rattle.trio_ctl.specs.inner.Denials.{denial}
 use Rattle.trio_ctl.specs.inner.Lending.{IsLendable}
-use Rattle.trio_ctl.specs.Open.{Opened, grant_on, grants_in, hold_of, shown_of}
+use Rattle.trio_ctl.specs.Open.{Opened, grant_on, shown_of}
 use Rattle.trio_ctl.proofs.Views.{state_is}
 use Rattle.trio_ctl.proofs.Granting.{refused_step, stands_somewhere, body_is, chain, chain_home, lendable, grant_made, plain_controlled, plain_step, controlled_still}
 use Rattle.trio_ctl.proofs.ctl.Ctl.lend_copies.Goals as goal
