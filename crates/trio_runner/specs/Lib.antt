@@ -1,5 +1,6 @@
+pub mod Line
+pub mod Rounds
 pub mod Play
 pub mod PlayLaws
 pub mod Seen
-pub mod EndFree
-pub mod OnePlay
+pub mod inner

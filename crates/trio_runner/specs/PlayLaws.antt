@@ -1,57 +1,45 @@
--- The laws of scripts: what they come to is a run of the controller.
-use Rattle.std.specs.Prelude.{ℕ, List, [], ◌∷◌, ◌++◌}
-use Rattle.trio_rights.specs.declared.rights.Creds.{Creds}
+-- The laws of scripts: what they come to is a run of the controller, at whose end nothing is out, and it is determined.
+use Rattle.std.specs.Prelude.{◌≡◌, ◌≤◌, ℕ, List, [], ◌∷◌, ◌++◌, length, map}
 use Rattle.trio_lists.specs.Lists.{In}
+use Rattle.trio_tables.specs.Out.{NoneOut}
 use Rattle.trio_layout.specs.Image.{Image, IsFit}
 use Rattle.trio_layout.specs.Verifies.{Verifies}
 use Rattle.trio_state.specs.Kept.{Kept}
+use Rattle.trio_state.specs.State.{State, settled}
 use Rattle.trio_state.specs.Run.{start, IsWhole, Trace, Move}
-use Rattle.trio_raw.specs.InHand.{InHand}
-use Rattle.trio_script.specs.declared.line.RawLine.{RawLine}
-use Rattle.trio_script.specs.declared.ScriptLine.{ScriptLine}
-use Rattle.trio_report.specs.declared.answer.LineAnswer.{LineAnswer}
-use Rattle.trio_report.specs.declared.report.EndAnswer.{EndAnswer}
-use Rattle.trio_runner.specs.Play.{Player, PlaysLine, Plays, PlaysEnd, Played, moves_of, at_start}
+use Rattle.trio_script.specs.declared.ScriptLib.{ScriptLib}
+use Rattle.trio_runner.specs.Rounds.{Placed}
+use Rattle.trio_runner.specs.Play.{Players, TakesTurn, Plays, Played}
 
--- in the midst of a script the state is kept, and what the library has was given to it
-pub record Stands (lib : ℕ) (p : Player) : Type 0 where
-  pub kept : Kept p.state
-  pub in_hand : InHand p.state lib p.has
-
--- so it is at the start, on an image that verifies with all its pages there
-abbrev pub StartStands : Type 0
-StartStands =
-    (image : Image) (creds : List Creds)
-    → IsFit image.core → Verifies image → IsWhole image → Stands 1 (at_start image creds)
-
--- so it is after each line
-abbrev pub LineStands : Type 0
-LineStands =
-    (lib : ℕ) (p : Player) (said : RawLine) (told : LineAnswer) (moves : List Move) (p' : Player)
-    → Stands lib p → PlaysLine lib p said told moves p' → Stands lib p'
-
--- and after the end
-abbrev pub EndStands : Type 0
-EndStands =
-    (lib : ℕ) (p : Player) (end : EndAnswer) (moves : List Move) (p' : Player)
-    → Stands lib p → PlaysEnd lib p end moves p' → Stands lib p'
-
--- one line more, at the end
+-- one turn more, at the end
 abbrev pub PlaysMore : Type 0
 PlaysMore =
-    (lib : ℕ) (p : Player) (lines : List ScriptLine) (tolds : List LineAnswer) (moves : List Move) (middle : Player)
-    (line : ScriptLine) (told : LineAnswer) (more : List Move) (p' : Player)
-    → Plays lib p lines tolds moves middle → PlaysLine lib middle line.line told more p'
-    → Plays lib p (lines ++ line ∷ []) (tolds ++ told ∷ []) (moves ++ more) p'
+    (p : Players) (turns : List Placed) (moves : List Move) (middle : Players) (t : Placed) (more : List Move) (p' : Players)
+    → Plays p turns moves middle → TakesTurn middle t more p' → Plays p (turns ++ t ∷ []) (moves ++ more) p'
 
--- the moves of a whole script are a run of the controller, of events that hand in what was given
+-- the moves of a script are a run of the controller, of events that hand in what was given
 abbrev pub PlayedIsTrace : Type 0
-PlayedIsTrace =
-    (image : Image) (creds : List Creds) (lines : List ScriptLine) (played : Played image creds lines)
-    → IsFit image.core → Verifies image → IsWhole image → Trace (start image creds) (moves_of played)
+PlayedIsTrace = (image : Image) (libs : List ScriptLib) (played : Played image libs) → Trace (start image (map (λ l. l.creds) libs)) played.moves
 
--- so the states before and after each of them are kept
-abbrev pub PlayedKeeps : Type 0
-PlayedKeeps =
-    (image : Image) (creds : List Creds) (lines : List ScriptLine) (played : Played image creds lines) (m : Move)
-    → IsFit image.core → Verifies image → IsWhole image → In m (moves_of played) → Kept m.before × Kept m.after
+-- no grant is open, and no page and no inode number is out by allotment
+pub record NothingOut (s : State) : Type 0 where
+  pub grants : s.open_grants ≡ []
+  pub pages : NoneOut s.pages_out
+  pub numbers : NoneOut s.numbers_out
+
+-- at a script's end nothing is lent or out
+abbrev pub PlayedEndsFree : Type 0
+PlayedEndsFree =
+    (image : Image) (libs : List ScriptLib) (played : Played image libs)
+    → IsFit image.core → Verifies image → IsWhole image → NothingOut played.last.state
+
+-- two plays come to the same: what each library is told, and the image that is settled at the end
+pub record ComeToOne {image : Image} {libs : List ScriptLib} (a b : Played image libs) : Type 0 where
+  pub tolds : a.last.told ≡ b.last.told
+  pub settles : settled a.last.state ≡ settled b.last.state
+
+-- what a script is told, and the image at its end, are determined by the image at its beginning and the script
+abbrev pub PlayedIsOne : Type 0
+PlayedIsOne =
+    (image : Image) (libs : List ScriptLib) (a b : Played image libs)
+    → IsFit image.core → Verifies image → IsWhole image → ComeToOne a b

@@ -1,13 +1,17 @@
-//! Scripts, played: the lines of a library, one after another, on the controller ([`play`]).
+//! Scripts, played: the lines of up to sixteen libraries on one controller, in rounds ([`play`]).
 //!
-//! `specs/Play.antt` says what a script comes to: what each line asks of the controller, what it is
-//! told, and what the library has after it. `specs/Seen.antt` has what the contracts see. [`laws`]
-//! says that it is a run of the controller, in which each event hands in what was given.
+//! In a round each library in turn plays its next line, or its end where none is left. A line is
+//! played at the library's desk, whatever desk that is; what it comes to is said in
+//! `specs/Line.antt`, the order of the turns in `specs/Rounds.antt`, and the whole in
+//! `specs/Play.antt`. [`laws`] says that it is a run of the controller, at whose end nothing is out.
 #![tactic(auto)]
+
+ghost use Rattle.std.specs.Prelude.{◌≡◌};
 
 pub mod laws;
 mod player;
+mod rounds;
 #[cfg(test)]
 mod tests;
 
-pub use player::play;
+pub use rounds::{LibTold, play};
