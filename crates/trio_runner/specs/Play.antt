@@ -1,5 +1,6 @@
 -- What a script comes to: its libraries' turns on one controller, one after another.
 use Rattle.std.specs.Prelude.{◌≡◌, ℕ, ◌-◌, List, [], ◌∷◌, ◌++◌, map, Option, None, Some, slice_index_or, slice_set}
+use Rattle.trio_rights.specs.declared.rights.Creds.{Creds}
 use Rattle.trio_rights.specs.declared.rights.LibNo.{LibNo}
 use Rattle.trio_layout.specs.Image.{Image}
 use Rattle.trio_state.specs.State.{State}
@@ -80,10 +81,14 @@ abbrev pub Plays : Players → List Placed → List Move → Players → Type 0
 Plays p [] moves p' = (moves ≡ []) × (p' ≡ p)
 Plays p (t ∷ turns) moves p' = Next p t moves (λ middle others. Plays middle turns others p')
 
+-- the credentials of a script's libraries, in their order
+abbrev pub creds_in : List ScriptLib → List Creds
+creds_in libs = map (λ l. l.creds) libs
+
 -- at first nothing is out, no library has anything, and none was told anything
 abbrev pub at_start : Image → List ScriptLib → Players
 at_start image libs = record {
-  state = start image (map (λ l. l.creds) libs);
+  state = start image (creds_in libs);
   has = map (λ l. nothing) libs;
   told = map (λ l. untold) libs;
 }

@@ -1,5 +1,5 @@
 -- The laws of scripts: what they come to is a run of the controller, at whose end nothing is out, and it is determined.
-use Rattle.std.specs.Prelude.{◌≡◌, ◌≤◌, ℕ, List, [], ◌∷◌, ◌++◌, length, map}
+use Rattle.std.specs.Prelude.{◌≡◌, ◌≤◌, ℕ, List, [], ◌∷◌, ◌++◌, length}
 use Rattle.trio_lists.specs.Lists.{In}
 use Rattle.trio_tables.specs.Out.{NoneOut}
 use Rattle.trio_layout.specs.Image.{Image, IsFit}
@@ -9,7 +9,7 @@ use Rattle.trio_state.specs.State.{State, settled}
 use Rattle.trio_state.specs.Run.{start, IsWhole, Trace, Move}
 use Rattle.trio_script.specs.declared.ScriptLib.{ScriptLib}
 use Rattle.trio_runner.specs.Rounds.{Placed}
-use Rattle.trio_runner.specs.Play.{Players, TakesTurn, Plays, Played}
+use Rattle.trio_runner.specs.Play.{Players, TakesTurn, Plays, Played, creds_in}
 
 -- one turn more, at the end
 abbrev pub PlaysMore : Type 0
@@ -19,7 +19,7 @@ PlaysMore =
 
 -- the moves of a script are a run of the controller, of events that hand in what was given
 abbrev pub PlayedIsTrace : Type 0
-PlayedIsTrace = (image : Image) (libs : List ScriptLib) (played : Played image libs) → Trace (start image (map (λ l. l.creds) libs)) played.moves
+PlayedIsTrace = (image : Image) (libs : List ScriptLib) (played : Played image libs) → Trace (start image (creds_in libs)) played.moves
 
 -- no grant is open, and no page and no inode number is out by allotment
 pub record NothingOut (s : State) : Type 0 where
