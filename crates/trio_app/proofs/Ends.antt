@@ -12,12 +12,11 @@ use Rattle.trio_state.specs.State.{State, settled}
 use Rattle.trio_state.specs.Run.{start}
 use Rattle.trio_layout.specs.Tree.{TreeLine, tree_of}
 use Rattle.trio_script.specs.declared.ScriptLine.{ScriptLine}
-use Rattle.trio_script.specs.Script.{script_lines}
+use Rattle.trio_script.specs.declared.ScriptLib.{ScriptLib}
+use Rattle.trio_script.specs.Script.{script_libs}
 use Rattle.trio_report.specs.declared.answer.LineAnswer.{LineAnswer}
-use Rattle.trio_report.specs.declared.report.EndAnswer.{EndAnswer}
-use Rattle.trio_report.specs.declared.report.LibraryKind.TheVariants.{Raw}
 use Rattle.trio_report.specs.Answers.{answer_line}
-use Rattle.trio_report.specs.Report.{tree_text, counts_text, end_line, lib_heading}
+use Rattle.trio_report.specs.Report.{tree_text, counts_text}
 use Rattle.trio_rights.specs.declared.rights.Creds.{Creds}
 use Rattle.trio_image.specs.declared.counts.Counts.{Counts}
 use Rattle.trio_image.specs.Counts.{counts_in_tables, counts_of}
@@ -25,21 +24,21 @@ use Rattle.trio_image.specs.Image.{ImagePages, IsVerified, TablesAre}
 use Rattle.trio_image.specs.Load.{Loads}
 use Rattle.trio_image.specs.Made.{Fits, IsMade, new_counts}
 use Rattle.trio_ctl.specs.Ctl.{superblock_for, writer_of}
-use Rattle.trio_runner.specs.Play.{Played}
+use Rattle.trio_runner.specs.Play.{Heard, Played, creds_in}
 use Rattle.trio_runner.specs.Seen.{ScriptPlayed}
 use Rattle.trio_app.specs.declared.status.Status.{Status}
 use Rattle.trio_app.specs.declared.status.Status.TheVariants.{Done, NotVerified, Usage, ReadFault, WriteFault, NoMemory as StatusNoMemory, TooLong, NotBuilt}
 use Rattle.trio_app.specs.Check.{Check}
 use Rattle.trio_app.specs.Images.{ImageStops, OutKeeps}
-use Rattle.trio_app.specs.Inputs.{ReadsBoth, ReadsLines}
+use Rattle.trio_app.specs.Inputs.{ReadsBoth, ReadsLibraries}
 use Rattle.trio_app.specs.Lines.{made_line, usage_line, write_fault_line}
 use Rattle.trio_app.specs.New.{New}
-use Rattle.trio_app.specs.Report.{answers_text, report_text, told_counts}
+use Rattle.trio_app.specs.Report.{answers_text, lib_text, libs_text, report_text, told_counts}
 use Rattle.trio_app.specs.inner.RunEnd.{IsRunEnd}
 use Rattle.trio_app.specs.inner.Saved.{IsSaved, SaveComesTo}
 use Rattle.trio_app.specs.Tree.{Tree}
 use Rattle.trio_app.specs.declared.words.TreeForm.{TreeForm}
-use Rattle.trio_app.specs.Turns.{InputsStop, Turns, TurnsComesTo, TurnsFaults, TurnsDone, TurnsWriteFault, libraries}
+use Rattle.trio_app.specs.Turns.{InputsStop, Turns, TurnsComesTo, TurnsFaults, TurnsDone, TurnsWriteFault}
 use Rattle.trio_app.proofs.Headlines.{headline, no_grant_open, no_page_out}
 use Rattle.trio_app.proofs.Trees.{tree_same}
 
@@ -51,54 +50,53 @@ counts_same image t last tables =
     ap (λ rows. counts_in_tables rows (image_in t last).owners) (sym tables.rows_are) ∙ ap (counts_in_tables image.rows) (sym tables.owners_are)
 
 -- the text of a report, by the image that is settled at the end
-pub reported : (lines : List ScriptLine) (tolds seen : List LineAnswer) (end end' : EndAnswer) (ctl : State) (t : Superblock) (last : List (Option (List ℕ))) (report : List ℕ)
-    → seen ≡ tolds → end' ≡ end → TablesAre t last (settled ctl).rows (settled ctl).owners → t ≡ superblock_for (settled ctl).core → StoresImage t (settled ctl) last
-    → report ≡ lib_heading 1 Raw ++ answers_text lines seen ++ end_line end' ++ tree_text (tree_of (core_in t last)) ++ counts_text (told_counts (counts_of (image_in t last)))
-    → report ≡ report_text lines tolds end (settled ctl)
-reported lines tolds seen end end' ctl t last report same ended tables is stores text =
+pub reported : (libs : List ScriptLib) (tolds seen : List Heard) (ctl : State) (t : Superblock) (last : List (Option (List ℕ))) (report : List ℕ)
+    → seen ≡ tolds → TablesAre t last (settled ctl).rows (settled ctl).owners → t ≡ superblock_for (settled ctl).core → StoresImage t (settled ctl) last
+    → report ≡ libs_text 1 libs seen ++ tree_text (tree_of (core_in t last)) ++ counts_text (told_counts (counts_of (image_in t last)))
+    → report ≡ report_text libs tolds (settled ctl)
+reported libs tolds seen ctl t last report same tables is stores text =
     let core : Core = (settled ctl).core in
     let stored : StoresImage (superblock_for core) (settled ctl) last = subst (λ (x : Superblock). StoresImage x (settled ctl) last) is stores in
     let tree : tree_of (core_in t last) ≡ tree_of core = ap (λ (x : Superblock). tree_of (core_in x last)) is ∙ tree_same (superblock_for core) core.pages last stored.core in
-    let T : List LineAnswer → EndAnswer → List TreeLine → Counts → List ℕ = λ ts e lines' k. lib_heading 1 Raw ++ answers_text lines ts ++ end_line e ++ tree_text lines' ++ counts_text (told_counts k) in
+    let T : List Heard → List TreeLine → Counts → List ℕ = λ hs ls k. libs_text 1 libs hs ++ tree_text ls ++ counts_text (told_counts k) in
     let counts : Counts = counts_of (image_in t last) in
-    text ∙ ap (λ ts. T ts end' (tree_of (core_in t last)) counts) same ∙ ap (λ e. T tolds e (tree_of (core_in t last)) counts) ended
-    ∙ ap (λ ls. T tolds end ls counts) tree ∙ ap (T tolds end (tree_of core)) (counts_same (settled ctl) t last tables)
+    text ∙ ap (λ hs. T hs (tree_of (core_in t last)) counts) same
+    ∙ ap (λ ls. T tolds ls counts) tree ∙ ap (T tolds (tree_of core)) (counts_same (settled ctl) t last tables)
 
 -- once a script was played nobody writes
-pub nobody_writes : (s : Superblock) (pages : List (Option (List ℕ))) (libs : List Creds) (first final : State) (lines : List ScriptLine) (none after : List LineAnswer) (end : EndAnswer)
-    → Kept first → libs ≡ libraries → first ≡ start (image_in s pages) libs → ScriptPlayed first.home first.creds lines none after end final → writer_of final ≡ None
-nobody_writes s pages libs first final lines none after end k libs_are started script =
-    let begun : first ≡ start (image_in s pages) libraries = started ∙ ap (start (image_in s pages)) libs_are in
-    let script' : ScriptPlayed (image_in s pages) libraries lines none after end final = subst (λ (f : State). ScriptPlayed f.home f.creds lines none after end final) begun script in
-    let free = no_grant_open (image_in s pages) libraries lines script'.played (subst Kept begun k) in
+pub nobody_writes : (s : Superblock) (pages : List (Option (List ℕ))) (creds : List Creds) (first final : State) (libs : List ScriptLib) (tolds : List Heard)
+    → Kept first → creds ≡ creds_in libs → first ≡ start (image_in s pages) creds → ScriptPlayed first.home libs tolds final → writer_of final ≡ None
+nobody_writes s pages creds first final libs tolds k creds_are started script =
+    let begun : first ≡ start (image_in s pages) (creds_in libs) = started ∙ ap (start (image_in s pages)) creds_are in
+    let script' : ScriptPlayed (image_in s pages) libs tolds final = subst (λ (f : State). ScriptPlayed f.home libs tolds final) begun script in
+    let free = no_grant_open (image_in s pages) libs script'.played (subst Kept begun k) in
     ap (λ gs. writer_of (record final { open_grants = gs })) (subst (λ (f : State). f.open_grants ≡ []) script'.last free)
 
 -- what a run comes to
-pub run_end : (s t : Superblock) (pages last : List (Option (List ℕ))) (libs : List Creds) (first final : State) (lines : List ScriptLine) (none after : List LineAnswer) (end : EndAnswer) (report : List ℕ)
-    → Kept first → libs ≡ libraries → first ≡ start (image_in s pages) libs → none ≡ [] → ScriptPlayed first.home first.creds lines none after end final
+pub run_end : (s t : Superblock) (pages last : List (Option (List ℕ))) (creds : List Creds) (first final : State) (libs : List ScriptLib) (tolds : List Heard) (report : List ℕ)
+    → Kept first → creds ≡ creds_in libs → first ≡ start (image_in s pages) creds → ScriptPlayed first.home libs tolds final
     → TablesAre t last (settled final).rows (settled final).owners → t ≡ superblock_for (settled final).core → (NoneOut final.pages_out → StoresImage t (settled final) last)
-    → report ≡ lib_heading 1 Raw ++ answers_text lines after ++ end_line end ++ tree_text (tree_of (core_in t last)) ++ counts_text (told_counts (counts_of (image_in t last)))
-    → IsRunEnd s pages lines report last
-run_end s t pages last libs first final lines none after end report k libs_are started nothing script tables is stores text =
-    let begun : first ≡ start (image_in s pages) libraries = started ∙ ap (start (image_in s pages)) libs_are in
-    let script' : ScriptPlayed (image_in s pages) libraries lines none after end final = subst (λ (f : State). ScriptPlayed f.home f.creds lines none after end final) begun script in
-    let played : Played (image_in s pages) libraries lines = script'.played in
-    let seen : after ≡ played.tolds = script'.told ∙ ap (λ ns. ns ++ played.tolds) nothing in
-    let k' : Kept (start (image_in s pages) libraries) = subst Kept begun k in
-    let here : NoneOut final.pages_out = subst (λ (f : State). NoneOut f.pages_out) script'.last (no_page_out (image_in s pages) libraries lines played k') in
+    → report ≡ libs_text 1 libs tolds ++ tree_text (tree_of (core_in t last)) ++ counts_text (told_counts (counts_of (image_in t last)))
+    → IsRunEnd s pages libs report last
+run_end s t pages last creds first final libs tolds report k creds_are started script tables is stores text =
+    let begun : first ≡ start (image_in s pages) (creds_in libs) = started ∙ ap (start (image_in s pages)) creds_are in
+    let script' : ScriptPlayed (image_in s pages) libs tolds final = subst (λ (f : State). ScriptPlayed f.home libs tolds final) begun script in
+    let played : Played (image_in s pages) libs = script'.played in
+    let k' : Kept (start (image_in s pages) (creds_in libs)) = subst Kept begun k in
+    let here : NoneOut final.pages_out = subst (λ (f : State). NoneOut f.pages_out) script'.last (no_page_out (image_in s pages) libs played k') in
     let stored : StoresImage t (settled played.last.state) last = subst (λ (f : State). StoresImage t (settled f) last) (sym script'.last) (stores here) in
     let is' : t ≡ superblock_for (settled played.last.state).core = is ∙ ap (λ (f : State). superblock_for (settled f).core) (sym script'.last) in
     let tables' : TablesAre t last (settled played.last.state).rows (settled played.last.state).owners = subst (λ (f : State). TablesAre t last (settled f).rows (settled f).owners) (sym script'.last) tables in
     record {
       played = played;
-      headline = headline (image_in s pages) libraries lines played k';
-      put = reported lines played.tolds after played.end end played.last.state t last report seen (sym script'.end) tables' is' stored text;
+      headline = headline (image_in s pages) libs played k';
+      put = reported libs played.last.told tolds played.last.state t last report (sym script'.told) tables' is' stored text;
       stores = subst (λ (x : Superblock). StoresImage x (settled played.last.state) last) is' stored;
     }
 
 -- a text that was put together
-pub joined : (t0 t1 t2 t3 t4 t5 a b c d e : List ℕ) → t0 ≡ [] → t1 ≡ t0 ++ a → t2 ≡ t1 ++ b → t3 ≡ t2 ++ c → t4 ≡ t3 ++ d → t5 ≡ t4 ++ e → t5 ≡ a ++ b ++ c ++ d ++ e
-joined t0 t1 t2 t3 t4 t5 a b c d e e0 e1 e2 e3 e4 e5 = rw (e5, e4, e3, e2, e1, e0) refl
+pub joined : (t0 t1 t2 t3 a b c : List ℕ) → t0 ≡ [] → t1 ≡ t0 ++ a → t2 ≡ t1 ++ b → t3 ≡ t2 ++ c → t3 ≡ a ++ b ++ c
+joined t0 t1 t2 t3 a b c e0 e1 e2 e3 = rw (e3, e2, e1, e0) refl
 
 -- the image that was taken apart for its tree is put together again
 pub image_again : (image again : ImagePages) → IsVerified image.superblock image.pages → again.pages ≡ image.pages → ((s : Superblock) → HasSuperblock s image.pages → again.superblock ≡ s) → again ≡ image
@@ -153,12 +151,12 @@ pub turns_no_memory : (image script out : List ℕ) (old new : Shelf) (text : Li
 turns_no_memory image script out old new text status files is none =
     rw (is, none) (record { comes_to = refl; keeps = files.held; faults = faults_read image script out old new files })
 
-module _ (image script out : List ℕ) (old mid new : Shelf) (s : Superblock) (pages last : List (Option (List ℕ))) (lines : List ScriptLine) (report : List ℕ)
-    (image_read : Loads (old.held image) s pages) (script_read : ReadsLines script old lines) (files : ReadsBoth image script old mid) (end : IsRunEnd s pages lines report last) (put : OnlyReplaces out mid new) where
-  played_end : IsRunEnd s (pages_in s.pages image_read.bytes) (script_lines script_read.read.script_bytes) report last
+module _ (image script out : List ℕ) (old mid new : Shelf) (s : Superblock) (pages last : List (Option (List ℕ))) (libs : List ScriptLib) (report : List ℕ)
+    (image_read : Loads (old.held image) s pages) (script_read : ReadsLibraries script old libs) (files : ReadsBoth image script old mid) (end : IsRunEnd s pages libs report last) (put : OnlyReplaces out mid new) where
+  played_end : IsRunEnd s (pages_in s.pages image_read.bytes) (script_libs script_read.read.script_bytes) report last
   played_end =
-      subst (λ ps. IsRunEnd s ps (script_lines script_read.read.script_bytes) report last) image_read.pages_are
-      (subst (λ ls. IsRunEnd s pages ls report last) script_read.lines_are end)
+      subst (λ ps. IsRunEnd s ps (script_libs script_read.read.script_bytes) report last) image_read.pages_are
+      (subst (λ ls. IsRunEnd s pages ls report last) script_read.libs_are end)
 
   done : (text : List ℕ) → IsSaved out last mid new → text ≡ report → TurnsDone image script out old new text
   done text saved is = record {
@@ -268,3 +266,44 @@ answers_put lines answers i line answer old before after a b is same first more 
     ∙ append_assoc old (answers_text (take i lines) (take i answers)) L
     ∙ ap (λ bytes. old ++ bytes) (sym (answers_more lines answers i line answer a b (sym is) (sym same)))
     ∙ ap (λ n. old ++ answers_text (take n lines) (take n answers)) (sym up)
+
+-- ---- the libraries
+
+libs_more : (n : ℕ) (libs : List ScriptLib) (heards : List Heard) (i : ℕ) (lib : ScriptLib) (heard : Heard) → i < length libs → i < length heards → get_or libs i lib ≡ lib → get_or heards i heard ≡ heard
+    → libs_text n (take (suc i) libs) (take (suc i) heards) ≡ libs_text n (take i libs) (take i heards) ++ lib_text (n + i) lib heard
+libs_more n [] heards i lib heard a b is same = absurd (omega arith)
+libs_more n (l ∷ ls) [] i lib heard a b is same = absurd (omega arith)
+libs_more n (l ∷ ls) (h ∷ hs) zero lib heard a b is same =
+    let here : n ≡ n + 0 = omega arith in
+    ap (λ (x : ScriptLib). lib_text n x h ++ libs_text (n + 1) (take 0 ls) (take 0 hs)) is
+    ∙ ap (λ (x : Heard). lib_text n lib x ++ libs_text (n + 1) (take 0 ls) (take 0 hs)) same
+    ∙ append-nil (lib_text n lib heard)
+    ∙ ap (λ k. lib_text k lib heard) here
+libs_more n (l ∷ ls) (h ∷ hs) (suc i) lib heard a b is same =
+    let next : n + 1 + i ≡ n + suc i = omega arith in
+    ap (λ bytes. lib_text n l h ++ bytes) (libs_more (n + 1) ls hs i lib heard (omega arith) (omega arith) is same)
+    ∙ sym (append_assoc (lib_text n l h) (libs_text (n + 1) (take i ls) (take i hs)) (lib_text (n + 1 + i) lib heard))
+    ∙ ap (λ k. (lib_text n l h ++ libs_text (n + 1) (take i ls) (take i hs)) ++ lib_text k lib heard) next
+
+pub libs_all : (n : ℕ) (libs : List ScriptLib) (heards : List Heard) (i : ℕ) → min (length libs) (length heards) ≤ i → libs_text n (take i libs) (take i heards) ≡ libs_text n libs heards
+libs_all n [] heards zero h = refl
+libs_all n [] heards (suc i) h = refl
+libs_all n (l ∷ ls) [] zero h = refl
+libs_all n (l ∷ ls) [] (suc i) h = refl
+libs_all n (l ∷ ls) (t ∷ ts) zero h = absurd (omega arith)
+libs_all n (l ∷ ls) (t ∷ ts) (suc i) h = ap (λ bytes. lib_text n l t ++ bytes) (libs_all (n + 1) ls ts i (omega arith))
+
+pub libs_put : (libs : List ScriptLib) (heards : List Heard) (i : ℕ) (lib : ScriptLib) (heard : Heard) (old before after : List ℕ) → i < length libs → i < length heards → lib ≡ get_or libs i lib → heard ≡ get_or heards i heard
+    → before ≡ old ++ libs_text 1 (take i libs) (take i heards) → after ≡ before ++ lib_text (i + 1) (get_or libs i lib) (get_or heards i heard)
+    → after ≡ old ++ libs_text 1 (take (i + 1) libs) (take (i + 1) heards)
+libs_put libs heards i lib heard old before after a b is same first more =
+    let L : List ℕ = lib_text (1 + i) lib heard in
+    let up : i + 1 ≡ suc i = omega arith in
+    let one : i + 1 ≡ 1 + i = omega arith in
+    more ∙ ap (λ (l : ScriptLib). before ++ lib_text (i + 1) l (get_or heards i heard)) (sym is)
+    ∙ ap (λ (h : Heard). before ++ lib_text (i + 1) lib h) (sym same)
+    ∙ ap (λ k. before ++ lib_text k lib heard) one
+    ∙ ap (λ bytes. bytes ++ L) first
+    ∙ append_assoc old (libs_text 1 (take i libs) (take i heards)) L
+    ∙ ap (λ bytes. old ++ bytes) (sym (libs_more 1 libs heards i lib heard a b (sym is) (sym same)))
+    ∙ ap (λ n. old ++ libs_text 1 (take n libs) (take n heards)) (sym up)

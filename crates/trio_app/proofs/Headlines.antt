@@ -15,23 +15,25 @@ use Rattle.trio_laws.specs.Laws.{AnyRun}
 use Rattle.trio_laws.proofs.StateLaws.{every_state_is_kept, every_move_is_a_step, every_release_is_judged}
 use Rattle.trio_surveys.proofs.Trees.{image_is_tree}
 use Rattle.trio_laws.proofs.Verdicts.{refusal_keeps}
-use Rattle.trio_script.specs.declared.ScriptLine.{ScriptLine}
-use Rattle.trio_runner.specs.Play.{Played, moves_of}
+use Rattle.trio_laws.proofs.Isolation.{every_step_is_isolated}
+use Rattle.trio_laws.proofs.RowSteps.{every_step_keeps_rows}
+use Rattle.trio_script.specs.declared.ScriptLib.{ScriptLib}
+use Rattle.trio_runner.specs.Play.{Played, creds_in}
 use Rattle.trio_runner.proofs.EndFree.{ends_free}
 use Rattle.trio_runner.proofs.Runs.{played_is_trace}
 use Rattle.trio_app.specs.Headline.{Headline}
 use Rattle.trio_tables.proofs.OutLemmas.{lib_at-none_out}
 
-headline_of : (image : Image) (creds : List Creds) (lines : List ScriptLine) (played : Played image creds lines) → IsFit image.core → Verifies image → IsWhole image → Headline image creds (moves_of played)
-headline_of image creds lines played fit verifies whole =
+headline_of : (image : Image) (libs : List ScriptLib) (played : Played image libs) → IsFit image.core → Verifies image → IsWhole image → Headline image (creds_in libs) played.moves
+headline_of image libs played fit verifies whole =
     let run : AnyRun = record {
       image = image;
-      creds = creds;
-      moves = moves_of played;
+      creds = creds_in libs;
+      moves = played.moves;
       fit = fit;
       verifies = verifies;
       whole = whole;
-      trace = played_is_trace image creds lines played fit verifies whole;
+      trace = played_is_trace image libs played;
     } in
     let all = every_state_is_kept run in
     record {
@@ -46,19 +48,25 @@ headline_of image creds lines played fit verifies whole =
           let S : Event → Type 0 = λ event. Step m.before event m.answer m.after in
           let R : CtlAnswer → Type 0 = λ answer. Step m.before (Release lib b) answer m.after in
           refusal_keeps m.before lib b why m.after move.kept (subst G is move.given) (subst R told (subst S is move.step));
+      isolated = λ m n r i live none elsewhere.
+          let move = every_move_is_a_step run m i in
+          every_step_is_isolated m.before m.event m.answer m.after n r move.kept move.given move.step live none elsewhere;
+      rows = λ m n r i live.
+          let move = every_move_is_a_step run m i in
+          every_step_keeps_rows m.before m.event m.answer m.after n r move.kept move.given move.step live;
     }
 
 -- the image of a controller that has just started is whole
 started_whole : (image : Image) (creds : List Creds) → Kept (start image creds) → IsWhole image
 started_whole image creds k = λ page gone core. elim (k.absent page gone core) [ inl lent ↦ absurd (false≢true lent) | inr out ↦ absurd (false≢true (sym (ap is_some (lib_at-none_out image.core.range.end page)) ∙ out)) ]
 
-pub headline : (image : Image) (creds : List Creds) (lines : List ScriptLine) (played : Played image creds lines) → Kept (start image creds) → Headline image creds (moves_of played)
-headline image creds lines played k = headline_of image creds lines played k.fit k.verifies (started_whole image creds k)
+pub headline : (image : Image) (libs : List ScriptLib) (played : Played image libs) → Kept (start image (creds_in libs)) → Headline image (creds_in libs) played.moves
+headline image libs played k = headline_of image libs played k.fit k.verifies (started_whole image (creds_in libs) k)
 
 -- at its end no grant is open
-pub no_grant_open : (image : Image) (creds : List Creds) (lines : List ScriptLine) (played : Played image creds lines) → Kept (start image creds) → played.last.state.open_grants ≡ []
-no_grant_open image creds lines played k = (ends_free image creds lines played k.fit k.verifies (started_whole image creds k)).grants
+pub no_grant_open : (image : Image) (libs : List ScriptLib) (played : Played image libs) → Kept (start image (creds_in libs)) → played.last.state.open_grants ≡ []
+no_grant_open image libs played k = (ends_free image libs played k.fit k.verifies (started_whole image (creds_in libs) k)).grants
 
 -- at its end no page is out
-pub no_page_out : (image : Image) (creds : List Creds) (lines : List ScriptLine) (played : Played image creds lines) → Kept (start image creds) → NoneOut played.last.state.pages_out
-no_page_out image creds lines played k = (ends_free image creds lines played k.fit k.verifies (started_whole image creds k)).pages
+pub no_page_out : (image : Image) (libs : List ScriptLib) (played : Played image libs) → Kept (start image (creds_in libs)) → NoneOut played.last.state.pages_out
+no_page_out image libs played k = (ends_free image libs played k.fit k.verifies (started_whole image (creds_in libs) k)).pages

@@ -1,22 +1,25 @@
 -- What holds of a script's moves: the claim, of this run.
-use Rattle.std.specs.Prelude.{◌≡◌, ℕ, List}
+use Rattle.std.specs.Prelude.{◌≡◌, ℕ, List, Some}
+use Rattle.trio_rights.specs.Row.{Row}
 use Rattle.trio_rights.specs.declared.rights.Creds.{Creds}
 use Rattle.trio_lists.specs.Lists.{In}
-use Rattle.trio_layout.specs.Image.{Image}
+use Rattle.trio_layout.specs.Image.{Image, row_at}
 use Rattle.trio_state.specs.Kept.{Kept}
 use Rattle.trio_rights.specs.Bundle.{Bundle}
 use Rattle.trio_state.specs.Run.{start, Move, Trace}
 use Rattle.trio_state.specs.State.{settled}
 use Rattle.trio_state.specs.Tells.{Why}
 use Rattle.trio_state.specs.Step.{Release, Refused}
-use Rattle.trio_laws.specs.Laws.{IsVerdict, IsBack}
+use Rattle.trio_laws.specs.Laws.{IsVerdict, IsBack, IsUntouched, IsElsewhere, HasNone, RowGoes, library_of}
 use Rattle.trio_surveys.specs.Tree.{IsTree}
 
 -- The moves are a run of the controller from the image's state, of events that hand in what was given, with any bytes.
 -- The first state and the state after each move are kept: the settled image verifies. It is one connected tree, with
 -- each page owned once and rights as in the shadow table. A bundle is accepted exactly where the whole image with its
 -- bytes would be sound by an allowed change, and refused exactly where not; then what the checkpoints cover is back,
--- byte for byte.
+-- byte for byte. And libraries are apart: a live file on which a library has no open write grant and no hold is the same
+-- after each event of that library, but for a change of its mode and for a write grant on it; and the row of a live number
+-- stays, or its library holds the file, or changes its mode for the owner or for uid 0.
 pub record Headline (image : Image) (creds : List Creds) (moves : List Move) : Type 0 where
   pub run : Trace (start image creds) moves
   pub begins : Kept (start image creds) × IsTree image
@@ -28,3 +31,10 @@ pub record Headline (image : Image) (creds : List Creds) (moves : List Move) : T
   pub back :
       (m : Move) (lib : ℕ) (b : Bundle) (why : Why) → In m moves → m.event ≡ Release lib b → m.answer ≡ Refused why
       → IsBack m.before b m.after
+  pub isolated :
+      (m : Move) (n : ℕ) (r : Row) → In m moves → row_at (settled m.before) n ≡ Some r
+      → HasNone m.before (library_of m.event) n → IsElsewhere n m.event m.answer
+      → IsUntouched (settled m.before) (settled m.after) n
+  pub rows :
+      (m : Move) (n : ℕ) (r : Row) → In m moves → row_at (settled m.before) n ≡ Some r
+      → RowGoes m.before m.event n r (row_at (settled m.after) n)

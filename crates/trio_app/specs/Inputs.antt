@@ -1,8 +1,8 @@
 -- What reading an image and a script gives, and what it leaves of the files.
 use Rattle.std.specs.Prelude.{◌≡◌, ◌≢◌, ℕ, ◌≤◌, Option, None, List, length}
 use Rattle.trio_io.specs.Shelf.{Shelf, IsTold}
-use Rattle.trio_script.specs.Script.{script_lines, unbuilt_line}
-use Rattle.trio_script.specs.declared.ScriptLine.{ScriptLine}
+use Rattle.trio_script.specs.Script.{script_libs, unbuilt_line}
+use Rattle.trio_script.specs.declared.ScriptLib.{ScriptLib}
 
 -- the script was read, and this is the first line of it for which nothing is built, if there is one
 pub record ReadsScript (script : List ℕ) (old : Shelf) (unbuilt : Option ℕ) : Type 0 where
@@ -11,10 +11,12 @@ pub record ReadsScript (script : List ℕ) (old : Shelf) (unbuilt : Option ℕ) 
   pub within : length script_bytes ≤ 1048576
   pub built : unbuilt_line script_bytes ≡ unbuilt
 
--- the script was read, each line of it is built, and these are the lines that say something
-pub record ReadsLines (script : List ℕ) (old : Shelf) (lines : List ScriptLine) : Type 0 where
+-- the script was read, each line of it is built, and these are its libraries with their lines, 1 to 16 of them
+pub record ReadsLibraries (script : List ℕ) (old : Shelf) (libs : List ScriptLib) : Type 0 where
   pub read : ReadsScript script old None
-  pub lines_are : lines ≡ script_lines read.script_bytes
+  pub libs_are : libs ≡ script_libs read.script_bytes
+  pub some : 1 ≤ length libs
+  pub few : length libs ≤ 16
 
 -- nothing but the counts of failed reads of these two names may have risen
 pub record ReadsBoth (name other : List ℕ) (old new : Shelf) : Type 0 where

@@ -1,14 +1,13 @@
 -- What the words `turns IMAGE SCRIPT OUT` do.
-use Rattle.std.specs.Prelude.{◌≡◌, ◌≢◌, ◌⊎◌, ℕ, ◌≤◌, Option, Some, None, List, [], ◌∷◌, length}
+use Rattle.std.specs.Prelude.{◌≡◌, ◌≢◌, ◌⊎◌, ℕ, ◌≤◌, Option, Some, None, List, length}
 use Rattle.trio_io.specs.Shelf.{Shelf, Rose, RisesAt, IsTold, IsLonger, told}
-use Rattle.trio_rights.specs.declared.rights.Creds.{Creds}
 use Rattle.trio_layout.specs.declared.superblock.Superblock.{Superblock}
 use Rattle.trio_state.specs.State.{settled}
 use Rattle.trio_survey.specs.Stored.{BytesVerify, StoresImage, image_in, pages_in, bytes_in}
 use Rattle.trio_image.specs.Fault.{HasLength}
 use Rattle.trio_ctl.specs.Ctl.{superblock_for}
-use Rattle.trio_script.specs.Script.{script_lines, unbuilt_line}
-use Rattle.trio_runner.specs.Play.{Played, moves_of}
+use Rattle.trio_script.specs.Script.{script_libs, unbuilt_line}
+use Rattle.trio_runner.specs.Play.{Played, creds_in}
 use Rattle.trio_app.specs.Headline.{Headline}
 use Rattle.trio_app.specs.declared.status.Status.{Status}
 use Rattle.trio_app.specs.declared.status.Status.TheVariants.{Done, NotVerified, ReadFault, WriteFault, NoMemory, TooLong, NotBuilt}
@@ -16,10 +15,6 @@ use Rattle.trio_app.specs.Images.{ImageVerifies, ImageFails, OutKeeps}
 use Rattle.trio_app.specs.Inputs.{ReadsScript}
 use Rattle.trio_app.specs.Lines.{read_fault_line, too_long_line, write_fault_line, not_built_line}
 use Rattle.trio_app.specs.Report.{report_text}
-
--- the one library's credentials
-abbrev pub libraries : List Creds
-libraries = record { uid = 0; gid = 0 } ∷ []
 
 -- all was done with the bytes of both files
 pub record TurnsDone (image script out : List ℕ) (old new : Shelf) (text : List ℕ) : Type 0 where
@@ -34,9 +29,9 @@ pub record TurnsDone (image script out : List ℕ) (old new : Shelf) (text : Lis
   pub superblock : Superblock
   pub lengths : HasLength image_bytes superblock
   -- the script as it is played on the image, and what holds of each of its moves
-  pub played : Played (image_in superblock (pages_in superblock.pages image_bytes)) libraries (script_lines script_bytes)
-  pub headline : Headline (image_in superblock (pages_in superblock.pages image_bytes)) libraries (moves_of played)
-  pub put : text ≡ report_text (script_lines script_bytes) played.tolds played.end (settled played.last.state)
+  pub played : Played (image_in superblock (pages_in superblock.pages image_bytes)) (script_libs script_bytes)
+  pub headline : Headline (image_in superblock (pages_in superblock.pages image_bytes)) (creds_in (script_libs script_bytes)) played.moves
+  pub put : text ≡ report_text (script_libs script_bytes) played.last.told (settled played.last.state)
   -- the pages of the image that is settled at the end, and the file that has them
   pub pages : List (Option (List ℕ))
   pub stores : StoresImage (superblock_for (settled played.last.state).core) (settled played.last.state) pages

@@ -3,7 +3,7 @@
 ghost use Rattle.std.specs.Prelude.{Contains, IfOk, IfErr};
 ghost use Rattle.trio_io.specs.Shelf.{OnlyReads};
 ghost use Rattle.trio_image.specs.Load.{Loads};
-ghost use Rattle.trio_app.specs.Inputs.{ReadsBoth, ReadsLines};
+ghost use Rattle.trio_app.specs.Inputs.{ReadsBoth, ReadsLibraries};
 ghost use Rattle.trio_app.specs.Turns.{InputsStop};
 ghost use Rattle.trio_app.specs.inner.Stop.{ScriptStop};
 
@@ -12,23 +12,23 @@ use crate::{Outcome, Stop};
 use std::alloc::Global;
 use trio_image::Image;
 use trio_io::{Files, ReadWholeFault, read_whole};
-use trio_script::{ScriptFault, ScriptLine, read_script};
+use trio_script::{ScriptFault, ScriptLib, read_script};
 
 /// The most bytes that a script may have.
 pub const SCRIPT_LIMIT: usize = 1_048_576;
 
-/// Reads the image and then the script, and answers the image and the script's lines where both can
+/// Reads the image and then the script, and answers the image and the script's libraries where both can
 /// be run; else how the program ends, by the first cause why not.
 pub fn read_inputs<F: Files>(
     alloc: Global,
     image_name: &str,
     script_name: &str,
     files: &mut F,
-) -> Result<(Image, Vec<ScriptLine>), Outcome>
+) -> Result<(Image, Vec<ScriptLib>), Outcome>
     requires image { Contains (F.seen files.old).served image_name.now }
     requires script { Contains (F.seen files.old).served script_name.now }
     ensures image { IfOk result (λ r. Loads ((F.seen files.old).held image_name.now) r.0.superblock r.0.pages) }
-    ensures script { IfOk result (λ r. ReadsLines script_name.now (F.seen files.old) r.1.items) }
+    ensures script { IfOk result (λ r. ReadsLibraries script_name.now (F.seen files.old) r.1.items) }
     ensures stops { IfErr result (λ end. InputsStop image_name.now script_name.now (F.seen files.old) (F.seen files.new) end.text.items end.status) }
     ensures files { ReadsBoth image_name.now script_name.now (F.seen files.old) (F.seen files.new) }
 {
@@ -37,14 +37,14 @@ pub fn read_inputs<F: Files>(
         Err(end) => return Err(end),
     };
     match input_script(alloc, script_name, files) {
-        Ok(lines) => Ok((image, lines)),
+        Ok(libs) => Ok((image, libs)),
         Err(stop) => Err(stop.outcome(alloc, script_name)),
     }
 }
 
-fn input_script<F: Files>(alloc: Global, name: &str, files: &mut F) -> Result<Vec<ScriptLine>, Stop>
+fn input_script<F: Files>(alloc: Global, name: &str, files: &mut F) -> Result<Vec<ScriptLib>, Stop>
     requires { Contains (F.seen files.old).served name.now }
-    ensures script { IfOk result (λ lines. ReadsLines name.now (F.seen files.old) lines.items) }
+    ensures script { IfOk result (λ libs. ReadsLibraries name.now (F.seen files.old) libs.items) }
     ensures stops { IfErr result (ScriptStop name.now (F.seen files.old) (F.seen files.new)) }
     ensures files { OnlyReads name.now (F.seen files.old) (F.seen files.new) }
 {
@@ -55,7 +55,7 @@ fn input_script<F: Files>(alloc: Global, name: &str, files: &mut F) -> Result<Ve
         Err(ReadWholeFault::NoMemory) => return Err(Stop::NoMemory),
     };
     match read_script(alloc, &bytes) {
-        Ok(lines) => Ok(lines),
+        Ok(libs) => Ok(libs),
         Err(ScriptFault::Unbuilt(number)) => Err(Stop::LineNotBuilt(number)),
         Err(ScriptFault::NoMemory) => Err(Stop::NoMemory),
     }

@@ -1,13 +1,12 @@
 //! The run of a script, its report and the image at its end.
 
-ghost use Rattle.std.specs.Prelude.{◌≡◌, ◌++◌, IfOk, None, OnOk};
-ghost use Rattle.trio_report.specs.declared.report.LibraryKind.TheVariants.{Raw};
-ghost use Rattle.trio_report.specs.Report.{counts_text, end_line, lib_heading, tree_text};
+ghost use Rattle.std.specs.Prelude.{◌≡◌, ◌++◌, ◌≤◌, IfOk, None, OnOk, length};
+ghost use Rattle.trio_report.specs.Report.{counts_text, tree_text};
 ghost use Rattle.trio_survey.specs.Stored.{core_in, image_in};
 ghost use Rattle.trio_layout.specs.Tree.{tree_of};
 ghost use Rattle.trio_image.specs.Counts.{counts_of};
 ghost use Rattle.trio_ctl.specs.Ctl.{writer_of, TellsSettled};
-ghost use Rattle.trio_app.specs.Report.{answers_text, told_counts};
+ghost use Rattle.trio_app.specs.Report.{answers_text, lib_text, libs_text, told_counts};
 ghost use Rattle.trio_app.specs.inner.RunEnd.{IsRunEnd};
 
 use crate::images::told_counts;
@@ -16,12 +15,12 @@ use trio_ctl::{Ctl, ImageFault};
 use trio_image::Image;
 use trio_page::{NoMemory, Reads};
 use trio_report::{
-    EndAnswer, LibraryKind, LineAnswer, put_answer, put_counts, put_end, put_heading, put_tree,
+    LibraryKind, LineAnswer, put_answer, put_counts, put_end, put_heading, put_tree,
     tree_lines,
 };
-use trio_rights::{Creds, LibNo};
-use trio_runner::play;
-use trio_script::ScriptLine;
+use trio_rights::LibNo;
+use trio_runner::{LibTold, play};
+use trio_script::{ScriptLib, ScriptLine};
 
 /// What a run left.
 #[derive(Drop)]
@@ -32,19 +31,20 @@ pub struct RunEnd {
     pub image: Image,
 }
 
-/// Plays a script's lines on an image. `NoMemory`: there was no memory for the run or the report.
-pub fn run(alloc: Global, image: Image, lines: &[ScriptLine]) -> Result<RunEnd, NoMemory>
-    ensures { IfOk result (λ end. IsRunEnd image.superblock image.pages lines.now end.report.items end.image.pages) }
+/// Plays a script on an image. `NoMemory`: there was no memory for the run or the report.
+pub fn run(alloc: Global, image: Image, libs: &[ScriptLib]) -> Result<RunEnd, NoMemory>
+    requires some { 1 ≤ length libs.now }
+    requires few { length libs.now ≤ 16 }
+    ensures { IfOk result (λ end. IsRunEnd image.superblock image.pages libs.now end.report.items end.image.pages) }
 {
-    let root = Creds { uid: 0, gid: 0 };
-    let mut ctl = match Ctl::start(alloc, image, vec![in alloc; root]?) {
+    let creds = libs.iter().map(|lib| lib.creds).collect(alloc)?;
+    let mut ctl = match Ctl::start(alloc, image, creds) {
         Ok(ctl) => ctl,
         Err((_image, fault)) => return Err(fault),
     };
-    let mut answers = Vec::new(alloc);
-    let end = play(alloc, &mut ctl, lines, &mut answers)?;
+    let tolds = play(alloc, &mut ctl, libs)?;
     let last = last_image(ctl)?;
-    let (report, image) = report(alloc, lines, &answers, end, last)?;
+    let (report, image) = report(alloc, libs, &tolds, last)?;
     Ok(RunEnd { report, image })
 }
 
@@ -62,17 +62,17 @@ fn last_image(ctl: Ctl) -> Result<Image, NoMemory>
     }
 }
 
-/// The report of a run: the answers to its lines and that of its end, with the tree and the counts
-/// of the image at its end, which comes back.
+/// The report of a run: what each library was told, with the tree and the counts of the image at its
+/// end, which comes back.
 fn report(
     alloc: Global,
-    lines: &[ScriptLine],
-    answers: &[LineAnswer],
-    end: EndAnswer,
+    libs: &[ScriptLib],
+    tolds: &[LibTold],
     image: Image,
 ) -> Result<(Vec<u8>, Image), NoMemory>
+    requires few { length libs.now ≤ 16 }
     ensures image { IfOk result (λ r. r.1 ≡ image) }
-    ensures report { IfOk result (λ r. r.0.items ≡ lib_heading 1 Raw ++ answers_text lines.now answers.now ++ end_line end
+    ensures report { IfOk result (λ r. r.0.items ≡ libs_text 1 libs.now tolds.now
         ++ tree_text (tree_of (core_in image.superblock image.pages)) ++ counts_text (told_counts (counts_of (image_in image.superblock image.pages)))) }
 {
     let superblock = image.superblock();
@@ -80,12 +80,44 @@ fn report(
     let mut parts = image.into_parts();
     let tree = tree_lines(alloc, &mut parts.home, &superblock, &mut Reads::new())?;
     let mut text = Vec::new(alloc);
-    put_heading(alloc, &mut text, LibNo(1), LibraryKind::Raw)?;
-    put_answers(alloc, &mut text, lines, answers)?;
-    put_end(alloc, &mut text, end)?;
+    put_libraries(alloc, &mut text, libs, tolds)?;
     put_tree(alloc, &mut text, &tree)?;
     put_counts(alloc, &mut text, &counts)?;
     Ok((text, Image::of(parts)))
+}
+
+/// Appends the parts on the libraries, in their order.
+fn put_libraries(
+    alloc: Global,
+    text: &mut Vec<u8>,
+    libs: &[ScriptLib],
+    tolds: &[LibTold],
+) -> Result<(), NoMemory>
+    requires few { length libs.now ≤ 16 }
+    ensures { OnOk result (text.new.items ≡ text.old.items ++ libs_text 1 libs.now tolds.now) }
+{
+    for at in 0..libs.len().min(tolds.len()) {
+        put_library(alloc, text, LibNo(at as u32 + 1), &libs[at], &tolds[at])?;
+    }
+    Ok(())
+}
+
+/// Appends the part on a library: its heading, the answers to its lines, and that of its end.
+fn put_library(
+    alloc: Global,
+    text: &mut Vec<u8>,
+    number: LibNo,
+    lib: &ScriptLib,
+    told: &LibTold,
+) -> Result<(), NoMemory>
+    ensures { OnOk result (text.new.items ≡ text.old.items ++ lib_text number.0 lib.now told.now) }
+{
+    put_heading(alloc, text, number, LibraryKind::Raw)?;
+    put_answers(alloc, text, lib.lines.as_slice(), told.answers())?;
+    match told.end() {
+        Some(end) => put_end(alloc, text, end),
+        None => Ok(()),
+    }
 }
 
 /// Appends the answer to each line, behind the line's number.

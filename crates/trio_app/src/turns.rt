@@ -26,11 +26,11 @@ pub fn turns<F: Files>(
     requires out { Contains (F.seen files.old).served out_name.now }
     ensures { Turns image_name.now script_name.now out_name.now (F.seen files.old) (F.seen files.new) result.text.items result.status }
 {
-    let (image, lines) = match read_inputs(alloc, image_name, script_name, files) {
+    let (image, libs) = match read_inputs(alloc, image_name, script_name, files) {
         Ok(inputs) => inputs,
         Err(end) => return end,
     };
-    match run(alloc, image, &lines) {
+    match run(alloc, image, &libs) {
         Ok(end) => save_image(alloc, end.image, end.report, out_name, files),
         Err(_) => Outcome::no_memory(alloc),
     }

@@ -4,8 +4,10 @@ pub returns-in-Ok-read_script-clause-script : goal.returns-in-Ok-read_script-cla
 returns-in-Ok-read_script-clause-script g c =
     let read = c.in-Ok-read_script.ensures in
     let built = rw c.deref.ensures.value at read.built in
-    let lines = rw c.deref.ensures.value at read.lines in
+    let libs = rw c.deref.ensures.value at read.libs in
     record {
       read = record { script_bytes = c.in-Ok.bytes.items; script_is = c.in-Ok.ensures.bytes; within = c.in-Ok.ensures.no_longer; built = built };
-      lines_are = lines;
+      libs_are = libs;
+      some = read.some;
+      few = read.few;
     }

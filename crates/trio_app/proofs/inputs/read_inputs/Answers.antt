@@ -12,8 +12,10 @@ returns-in-Err-input_script-clause-stops g c =
 
 pub returns-in-Ok-input_script-clause-script : goal.returns-in-Ok-input_script-clause-script
 returns-in-Ok-input_script-clause-script g c =
-    let lines = c.in-Ok-input_script.ensures.script in
+    let libs = c.in-Ok-input_script.ensures.script in
     record {
-      read = record { script_bytes = lines.read.script_bytes; script_is = rw (← c.in-Ok.ensures.files.held) lines.read.script_is; within = lines.read.within; built = lines.read.built };
-      lines_are = lines.lines_are;
+      read = record { script_bytes = libs.read.script_bytes; script_is = rw (← c.in-Ok.ensures.files.held) libs.read.script_is; within = libs.read.within; built = libs.read.built };
+      libs_are = libs.libs_are;
+      some = libs.some;
+      few = libs.few;
     }

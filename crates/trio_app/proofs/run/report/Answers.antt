@@ -1,10 +1,9 @@
 use Rattle.std.proofs.Common.{◌≡◌, ◌++◌, ◌∙◌, ap}
 use Rattle.trio_survey.specs.Stored.{core_in}
 use Rattle.trio_layout.specs.Tree.{tree_of}
-use Rattle.trio_report.specs.declared.report.LibraryKind.TheVariants.{Raw}
-use Rattle.trio_report.specs.Report.{counts_text, end_line, lib_heading, tree_text}
+use Rattle.trio_report.specs.Report.{counts_text, tree_text}
 use Rattle.trio_report.specs.declared.report.Counts.{Counts as Totals}
-use Rattle.trio_app.specs.Report.{answers_text}
+use Rattle.trio_app.specs.Report.{libs_text}
 use Rattle.trio_app.proofs.Ends.{image_again, joined}
 use Rattle.trio_app.proofs.run.report.Goals as goal
 
@@ -25,9 +24,7 @@ returns-clause-report c =
     let tree : c.in_ok-tree.tree.items ≡ tree_of (core_in c.args.image.superblock c.args.image.pages) = rw (c.superblock-superblock.ensures.superblock, c.into_parts-parts.ensures.pages) at read in
     let told = c.in_ok-put_tree.ensures in
     let put = rw (c.deref.ensures.value, tree) at told in
-    let heading = c.in_ok-put_heading.ensures in
-    let answers = c.in_ok-put_answers.ensures in
-    let ended = c.in_ok-put_end.ensures in
+    let libraries = c.in_ok-put_libraries.ensures in
     let counts = c.in_ok-put_counts.ensures in
-    joined _ _ _ _ _ _ _ _ _ _ _ c.new-text.ensures.items heading answers ended put counts
-    ∙ ap (λ (k : Totals). lib_heading 1 Raw ++ answers_text c.args.lines.now c.args.answers.now ++ end_line c.args.end ++ tree_text (tree_of (core_in c.args.image.superblock c.args.image.pages)) ++ counts_text k) c.told_counts-counts.ensures
+    joined _ _ _ _ _ _ _ c.new-text.ensures.items libraries put counts
+    ∙ ap (λ (k : Totals). libs_text 1 c.args.libs.now c.args.tolds.now ++ tree_text (tree_of (core_in c.args.image.superblock c.args.image.pages)) ++ counts_text k) c.told_counts-counts.ensures

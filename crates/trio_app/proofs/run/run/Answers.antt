@@ -7,18 +7,16 @@ use Rattle.trio_app.proofs.run.run.Goals as goal
 pub last_image-requires : goal.last_image-requires
 last_image-requires c =
     let started = c.in-Ok.ensures in
-    nobody_writes c.args.image.superblock c.args.image.pages c.in_ok-vec.field-0.items c.in-Ok.ctl.state c.play.new.ctl.state c.args.lines.now
-    c.new-answers.result.items c.play.new.answers.items c.in_ok-end.end
-    started.kept c.in_ok-vec.ensures.items started.started c.in_ok-end.ensures
+    nobody_writes c.args.image.superblock c.args.image.pages c.in_ok-creds.creds.items c.in-Ok.ctl.state c.play.new.ctl.state c.args.libs.now c.in_ok-tolds.tolds.items
+    started.kept c.in_ok-creds.ensures started.started c.in_ok-tolds.ensures
 
 pub returns : goal.returns
 returns c =
     let told = c.in_ok-report.ensures.report in
     let text = rw c.deref.ensures.value at told in
     let started = c.in-Ok.ensures in
-    let played = c.in_ok-end.ensures in
     let image = c.in_ok-last.ensures in
-    subst (λ (last : ImagePages). IsRunEnd c.args.image.superblock c.args.image.pages c.args.lines.now c.in_ok-report.report.items last.pages) (sym c.in_ok-report.ensures.image)
-    (run_end c.args.image.superblock c.in_ok-last.last.superblock c.args.image.pages c.in_ok-last.last.pages c.in_ok-vec.field-0.items c.in-Ok.ctl.state c.play.new.ctl.state c.args.lines.now
-    c.new-answers.result.items c.play.new.answers.items c.in_ok-end.end c.in_ok-report.report.items
-    started.kept c.in_ok-vec.ensures.items started.started c.new-answers.ensures.items played image.tables image.superblock image.stores text)
+    subst (λ (last : ImagePages). IsRunEnd c.args.image.superblock c.args.image.pages c.args.libs.now c.in_ok-report.report.items last.pages) (sym c.in_ok-report.ensures.image)
+    (run_end c.args.image.superblock c.in_ok-last.last.superblock c.args.image.pages c.in_ok-last.last.pages c.in_ok-creds.creds.items c.in-Ok.ctl.state c.play.new.ctl.state c.args.libs.now
+    c.in_ok-tolds.tolds.items c.in_ok-report.report.items
+    started.kept c.in_ok-creds.ensures started.started c.in_ok-tolds.ensures image.tables image.superblock image.stores text)
