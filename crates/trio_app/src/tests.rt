@@ -261,7 +261,7 @@ const INPUTS: &[Input] = &[
     (
         IMAGE_SIZE,
         &[],
-        b"lib 1 raw 0 0\nlib 2 raw 0 0\n",
+        b"lib 1 raw 0 0\nlib 3 raw 0 0\n",
         8,
         b"not built line 2\n",
     ),
@@ -1079,15 +1079,15 @@ const SHARED_SESSIONS: &[Session] = &[
     ),
     // a read lease shows what was lent, also once another library was granted more in its place
     (
-        "lib 1 raw 0 0\ngrant read 2\npeek block 2 0 208 4\n# the other releases meanwhile\npeek block 2 0 208 4\npeek block 2 0 208 4\npeek block 2 0 208 4\nback 2\ngrant read 2\npeek block 2 0 208 4\nlib 2 raw 0 0\ngrant write 3\nallot 1 0\npoke body 3 16 0110000000000000\npoke index 3 0 8 0900000000000000\nrelease 3 9 -\n",
-        "lib 1 raw\n2 granted\n3 05000000\n5 05000000\n6 05000000\n7 05000000\n8 ok\n9 granted\n10 01100000\nend nothing\nlib 2 raw\n12 granted\n13 allotted 9 -\n14 poked\n15 poked\n16 accepted\nend nothing\n",
+        "lib 1 raw 0 0\ngrant read 2\npeek block 2 0 208 4\n# the other releases in the fifth round\npeek block 2 0 208 4\npeek block 2 0 208 4\npeek block 2 0 208 4\npeek block 2 0 208 4\nback 2\ngrant read 2\npeek block 2 0 208 4\nlib 2 raw 0 0\ngrant write 3\nallot 1 0\npoke body 3 16 0110000000000000\npoke index 3 0 8 0900000000000000\nrelease 3 9 -\n",
+        "lib 1 raw\n2 granted\n3 05000000\n5 05000000\n6 05000000\n7 05000000\n8 05000000\n9 ok\n10 granted\n11 01100000\nend nothing\nlib 2 raw\n13 granted\n14 allotted 9 -\n15 poked\n16 poked\n17 accepted\nend nothing\n",
         GROWN_TREE,
         Out::Part(0, 0, 0),
     ),
     // a directory that is lent for writing: a hold and a read lease on what it lists show the settled body
     (
-        "lib 1 raw 0 0\ngrant write 2\npoke block 2 0 192 ffffffffffffffff\ngrant hold 3\npeek body 3 0 2\nrelease 2,3 - -\nlib 2 raw 0 0\npeek body 3 0 2\ngrant read 3\npeek body 3 0 2\nback 3\npeek body 3 0 2\n",
-        "lib 1 raw\n2 granted\n3 poked\n4 granted children 0\n5 a401\n6 accepted\nend nothing\nlib 2 raw\n8 absent\n9 granted\n10 a401\n11 ok\n12 absent\nend nothing\n",
+        "lib 1 raw 0 0\ngrant write 2\npoke block 2 0 192 ffffffffffffffff\npeek fresh 9 0 1\npeek fresh 9 0 1\ngrant hold 3\npeek body 3 0 2\nrelease 2,3 - -\nlib 2 raw 0 0\npeek body 3 0 2\ngrant read 3\npeek body 3 0 2\nback 3\npeek body 3 0 2\n",
+        "lib 1 raw\n2 granted\n3 poked\n4 absent\n5 absent\n6 granted children 0\n7 a401\n8 accepted\nend nothing\nlib 2 raw\n10 absent\n11 granted\n12 a401\n13 ok\n14 absent\nend nothing\n",
         TREE,
         SAME,
     ),
@@ -1115,7 +1115,7 @@ const SHARED_SESSIONS: &[Session] = &[
     // each library has its own rights
     (
         "lib 1 raw 5 5\ngrant write 3\ngrant read 3\nmode 3 600\nlib 2 raw 0 0\ngrant write 3\n",
-        "lib 1 raw\n2 denied 3\n3 granted\n4 notowner\nend nothing\nlib 2 raw\n6 granted\nend accepted\n",
+        "lib 1 raw\n2 denied 3\n3 busy\n4 notowner\nend nothing\nlib 2 raw\n6 granted\nend accepted\n",
         TREE,
         SAME,
     ),
@@ -1144,13 +1144,15 @@ const MODE_SESSIONS: &[Session] = &[
     ),
 ];
 
+const LETTERS: &[u8] = b"abcdefghijklmnop";
+
 // Two directories, of which the first has a block of sixteen files.
 fn block_image(alloc: Global) -> Result<Vec<u8>, NoMemory> {
-    let mut sample = Sample::small(alloc, &[root(), directory(2, 1, b"a"), directory(3, 1, b"b")])?;
-    for k in 0..16_u8 {
-        sample.add(&regular(4 + u32::from(k), 2, &[b'a' + k], b""));
+    let mut files = vec![in alloc; root(), directory(2, 1, b"a"), directory(3, 1, b"b")]?;
+    for k in 0..16_usize {
+        files.push(regular(4 + k as u32, 2, &LETTERS[k..k + 1], b""))?;
     }
-    sample.bytes(alloc)
+    Sample::small(alloc, &files)?.bytes(alloc)
 }
 
 // The block goes from `a` to `b` as a whole, where each of its files is held.
