@@ -1059,29 +1059,26 @@ const ANOTHERS_FILE: Session = (
     Out::Part(0, 0, 0),
 );
 
-const SIZED_TREE: &str =
-    "tree\n0 d 755 0 0 1 /\n1 d 755 0 0 1 a\n2 f 644 0 0 4097 f\ninodes 3 pages 7 free 22\n";
-
 // What libraries do on `a` and `f` at once.
 const SHARED_SESSIONS: &[Session] = &[
     // one writes over the size of `f` in the directory's page, and the other gives `f` a size: whichever releases first
     (
         "lib 1 raw 0 0\ngrant write 2\npoke block 2 0 208 ffffffffffffffff\nrelease 2 - -\nlib 2 raw 0 0\ngrant write 3\nallot 1 0\npoke body 3 16 0110000000000000\npoke index 3 0 8 0900000000000000\nrelease 3 9 -\n",
         "lib 1 raw\n2 granted\n3 poked\n4 accepted\nend nothing\nlib 2 raw\n6 granted\n7 allotted 9 -\n8 poked\n9 poked\n10 accepted\nend nothing\n",
-        SIZED_TREE,
+        GROWN_TREE,
         Out::Part(0, 0, 0),
     ),
     (
         "lib 1 raw 0 0\ngrant write 2\npoke block 2 0 208 ffffffffffffffff\npeek body 2 0 2\npeek body 2 0 2\npeek body 2 0 2\nrelease 2 - -\nlib 2 raw 0 0\ngrant write 3\nallot 1 0\npoke body 3 16 0110000000000000\npoke index 3 0 8 0900000000000000\nrelease 3 9 -\n",
         "lib 1 raw\n2 granted\n3 poked\n4 ed01\n5 ed01\n6 ed01\n7 accepted\nend nothing\nlib 2 raw\n9 granted\n10 allotted 9 -\n11 poked\n12 poked\n13 accepted\nend nothing\n",
-        SIZED_TREE,
+        GROWN_TREE,
         Out::Part(0, 0, 0),
     ),
     // a read lease shows what was lent, also once another library was granted more in its place
     (
         "lib 1 raw 0 0\ngrant read 2\npeek block 2 0 208 4\n# the other releases in the fifth round\npeek block 2 0 208 4\npeek block 2 0 208 4\npeek block 2 0 208 4\npeek block 2 0 208 4\nback 2\ngrant read 2\npeek block 2 0 208 4\nlib 2 raw 0 0\ngrant write 3\nallot 1 0\npoke body 3 16 0110000000000000\npoke index 3 0 8 0900000000000000\nrelease 3 9 -\n",
         "lib 1 raw\n2 granted\n3 05000000\n5 05000000\n6 05000000\n7 05000000\n8 05000000\n9 ok\n10 granted\n11 01100000\nend nothing\nlib 2 raw\n13 granted\n14 allotted 9 -\n15 poked\n16 poked\n17 accepted\nend nothing\n",
-        SIZED_TREE,
+        GROWN_TREE,
         Out::Part(0, 0, 0),
     ),
     // a directory that is lent for writing: a hold and a read lease on what it lists show the settled body
