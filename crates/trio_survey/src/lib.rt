@@ -18,6 +18,7 @@ mod entries;
 mod fault;
 pub mod file;
 pub mod home;
+mod kept;
 pub mod laws;
 mod marks;
 mod names;
