@@ -5,7 +5,7 @@ ghost use Rattle.trio_layout.specs.Chain.{chain_of};
 ghost use Rattle.trio_layout.specs.Index.{index_of};
 ghost use Rattle.trio_survey.specs.Seen.{chain_seen, core_with, result_seen};
 ghost use Rattle.trio_layout.specs.Range.{core_count};
-ghost use Rattle.trio_survey.specs.inner.Kept.{unread, Keeps};
+ghost use Rattle.trio_survey.specs.inner.Kept.{kept_count, Keeps};
 ghost use Rattle.trio_survey.specs.inner.Steps.{AppendsIndex};
 
 use crate::file::FaultPlace;
@@ -23,6 +23,7 @@ pub struct ChainParts {
 
 /// Reads the chain of a body, or finds the first index page that can't be read. Each core page is
 /// looked at once at most.
+#[tactic(auto, using(crate::proofs::KeptPages::few_kept))]
 pub fn read_chain(
     alloc: Global,
     home: &mut Home,
@@ -35,7 +36,7 @@ pub fn read_chain(
     ensures reads { reads.new ≤ reads.old + core_count range }
     ensures looked { home.new.looked ≤ home.old.looked + core_count range }
 {
-    let mut kept = KeptPages::new(alloc, range)?;
+    let mut kept = KeptPages::none(alloc);
     read_chain_kept(alloc, home, range, body, &mut kept, reads)
 }
 
@@ -52,8 +53,8 @@ pub(crate) fn read_chain_kept(
     ensures pages { home.new.pages ≡ home.old.pages }
     ensures keeps { Keeps range home.old.pages kept.new.pages.items }
     ensures chain { (inodes : ℕ) → IfOk result (λ r. result_seen chain_seen r ≡ chain_of (core_with home.old.pages range inodes) body.now) }
-    ensures looks { reads.new + unread kept.new.pages.items ≤ reads.old + unread kept.old.pages.items }
-    ensures looked { home.new.looked + unread kept.new.pages.items ≤ home.old.looked + unread kept.old.pages.items }
+    ensures looks { reads.new + kept_count kept.old.pages.items ≤ reads.old + kept_count kept.new.pages.items }
+    ensures looked { home.new.looked + kept_count kept.old.pages.items ≤ home.old.looked + kept_count kept.new.pages.items }
 {
     let mut index = Vec::new(alloc);
     let mut blocks = Vec::new(alloc);

@@ -5,7 +5,7 @@ ghost use Rattle.trio_layout.specs.Entries.{listed_at, slot_bytes, entries_on, e
 ghost use Rattle.trio_lists.specs.Lists.{both};
 ghost use Rattle.trio_layout.specs.Slot.{slot_of};
 ghost use Rattle.trio_survey.specs.Seen.{core_with, listed_seen, result_seen};
-ghost use Rattle.trio_survey.specs.inner.Kept.{unread, Keeps};
+ghost use Rattle.trio_survey.specs.inner.Kept.{kept_count, Keeps};
 
 use crate::file::{EntryRead, FaultPlace};
 use crate::kept::KeptPages;
@@ -28,8 +28,8 @@ pub(crate) fn read_entries(
     requires keeps { Keeps range home.old.pages kept.old.pages.items }
     ensures pages { home.new.pages ≡ home.old.pages }
     ensures keeps { Keeps range home.old.pages kept.new.pages.items }
-    ensures looks { reads.new + unread kept.new.pages.items ≤ reads.old + unread kept.old.pages.items }
-    ensures looked { home.new.looked + unread kept.new.pages.items ≤ home.old.looked + unread kept.old.pages.items }
+    ensures looks { reads.new + kept_count kept.old.pages.items ≤ reads.old + kept_count kept.new.pages.items }
+    ensures looked { home.new.looked + kept_count kept.old.pages.items ≤ home.old.looked + kept_count kept.new.pages.items }
     ensures entries { IfOk result (λ r. result_seen (λ es. map listed_seen es.items) r ≡ entries_of (core_with home.old.pages range inodes) blocks.now) }
 {
     let mut entries = Vec::new(alloc);

@@ -5,7 +5,7 @@ ghost use Rattle.trio_layout.specs.Range.{core_count};
 ghost use Rattle.trio_layout.specs.Survey.{file_of};
 ghost use Rattle.trio_survey.specs.Seen.{core_with, met_seen, read_seen};
 ghost use Rattle.trio_survey.specs.Within.{inos, IsWithin};
-ghost use Rattle.trio_survey.specs.inner.Kept.{unread, Keeps};
+ghost use Rattle.trio_survey.specs.inner.Kept.{kept_count, Keeps};
 
 use crate::chain::{ChainParts, read_chain_kept};
 use crate::entries::read_entries;
@@ -69,6 +69,7 @@ pub struct FileParts {
 /// of one before it. What lies behind a fault isn't looked at.
 ///
 /// After [`NoMemory`] the pages are as they were, as they are after any answer.
+#[tactic(auto, using(crate::proofs::KeptPages::few_kept))]
 pub fn read_file(
     alloc: Global,
     home: &mut Home,
@@ -83,7 +84,7 @@ pub fn read_file(
     ensures reads { reads.new ≤ reads.old + core_count range }
     ensures looked { home.new.looked ≤ home.old.looked + core_count range }
 {
-    let mut kept = KeptPages::new(alloc, range)?;
+    let mut kept = KeptPages::none(alloc);
     read_file_kept(alloc, home, range, inodes, met, &mut kept, reads)
 }
 
@@ -101,15 +102,17 @@ pub(crate) fn read_file_kept(
     requires keeps { Keeps range home.old.pages kept.old.pages.items }
     ensures pages { home.new.pages ≡ home.old.pages }
     ensures keeps { Keeps range home.old.pages kept.new.pages.items }
-    ensures looks { reads.new + unread kept.new.pages.items ≤ reads.old + unread kept.old.pages.items }
-    ensures looked { home.new.looked + unread kept.new.pages.items ≤ home.old.looked + unread kept.old.pages.items }
+    ensures looks { reads.new + kept_count kept.old.pages.items ≤ reads.old + kept_count kept.new.pages.items }
+    ensures looked { home.new.looked + kept_count kept.old.pages.items ≤ home.old.looked + kept_count kept.new.pages.items }
     ensures file { IfOk result (λ r. read_seen r ≡ file_of (core_with home.old.pages range inodes) (met_seen met.now)) }
     ensures within { IfOk result (λ r. IfOk r (λ f. IsWithin range inodes f.index.items f.blocks.items (inos f.entries.items))) }
 {
     let Some(body) = Body::read(&met.body, met.kind, range) else {
         return Ok(Err(FaultPlace { page: 0, slot: 0 }));
     };
-    let ChainParts { index, blocks } = match read_chain_kept(alloc, home, range, &body, kept, reads)? {
+    let ChainParts { index, blocks } = match read_chain_kept(
+        alloc, home, range, &body, kept, reads,
+    )? {
         Ok(chain) => chain,
         Err(place) => return Ok(Err(place)),
     };

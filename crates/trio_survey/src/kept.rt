@@ -1,12 +1,12 @@
 //! The core pages that were looked at.
 
-ghost use Rattle.std.specs.Prelude.{◌≡◌, ◌+◌, ◌≤◌, ℕ, List, Option, None, IfOk, OnOk, slice_index_or};
+ghost use Rattle.std.specs.Prelude.{◌≡◌, ◌+◌, ◌<◌, ◌≤◌, ℕ, List, Option, None, OnOk, max, slice_index_or, vec_len};
 ghost use Rattle.std.specs.Option.{option_copied};
 ghost use Rattle.trio_layout.specs.Core.{page_of};
-ghost use Rattle.trio_layout.specs.Range.{core_count};
+ghost use Rattle.trio_layout.specs.declared.range.CoreRange.{CoreRange};
 ghost use Rattle.trio_page.specs.Home.{raised};
 ghost use Rattle.trio_survey.specs.Seen.{core_with};
-ghost use Rattle.trio_survey.specs.inner.Kept.{kept_page, unread, Keeps};
+ghost use Rattle.trio_survey.specs.inner.Kept.{kept_count, kept_page, Keeps};
 
 use std::alloc::Global;
 use trio_layout::CoreRange;
@@ -16,23 +16,33 @@ use trio_page::{Home, NoMemory, Page, PageNo, Reads};
 /// it is listed.
 #[derive(Drop)]
 pub(crate) struct KeptPages {
-    /// By the place of a page among the core pages. `None`: it wasn't looked at. `Some(None)`: it is
-    /// absent.
+    /// By the place of a page among the core pages. `None`: it wasn't looked at, nor was any past the
+    /// end. `Some(None)`: it is absent.
     pub pages: Vec<Option<Option<Page>>>,
 }
 
 impl KeptPages {
-    /// No page was looked at, and there is room for each of these.
-    pub fn new(alloc: Global, range: CoreRange) -> Result<KeptPages, NoMemory>
-        ensures keeps { IfOk result (λ kept. (pages : List (Option (List ℕ))) → Keeps range pages kept.pages.items) }
-        ensures unread { IfOk result (λ kept. unread kept.pages.items ≡ core_count range) }
+    /// No page was looked at. Takes no memory.
+    pub fn none(alloc: Global) -> KeptPages
+        ensures keeps { (range : CoreRange) → (pages : List (Option (List ℕ))) → Keeps range pages result.pages.items }
+        ensures count { kept_count result.pages.items ≡ 0 }
     {
-        let count = range.end.saturating_sub(range.first) as usize;
-        let mut pages = Vec::with_capacity(alloc, count)?;
-        for _ in 0..count {
-            pages.push(None)?;
+        KeptPages {
+            pages: Vec::new(alloc),
         }
-        Ok(KeptPages { pages })
+    }
+
+    /// Makes places up to this one. After [`NoMemory`] there are some of them.
+    fn reach(&mut self, place: usize) -> Result<(), NoMemory>
+        ensures same { (i : ℕ) → slice_index_or self.new.pages.items i None ≡ slice_index_or self.old.pages.items i None }
+        ensures count { kept_count self.new.pages.items ≡ kept_count self.old.pages.items }
+        ensures len { vec_len self.new.pages ≤ max (vec_len self.old.pages) (place + 1) }
+        ensures reached { OnOk result (place < vec_len self.new.pages) }
+    {
+        while self.pages.len() <= place {
+            self.pages.push(None)?;
+        }
+        Ok(())
     }
 
     /// Looks at a page and keeps it, unless it was looked at before or isn't a core page.
@@ -48,13 +58,14 @@ impl KeptPages {
         ensures pages { home.new.pages ≡ home.old.pages }
         ensures keeps { Keeps range home.old.pages self.new.pages.items }
         ensures kept { OnOk result (kept_page range self.new.pages.items page ≡ page_of (core_with home.old.pages range 0) page) }
-        ensures looks { reads.new + unread self.new.pages.items ≤ reads.old + unread self.old.pages.items }
-        ensures looked { home.new.looked + unread self.new.pages.items ≤ home.old.looked + unread self.old.pages.items }
+        ensures looks { reads.new + kept_count self.old.pages.items ≤ reads.old + kept_count self.new.pages.items }
+        ensures looked { home.new.looked + kept_count self.old.pages.items ≤ home.old.looked + kept_count self.new.pages.items }
     {
         if !range.has(u64::from(page)) {
             return Ok(());
         }
         let place = (page - range.first) as usize;
+        self.reach(place)?;
         if self.pages[place].is_some() {
             return Ok(());
         }

@@ -1,10 +1,9 @@
 //! The walk over the files that are met, level by level.
 
 ghost use Rattle.std.specs.Prelude.{◌≡◌, ◌+◌, ◌<◌, ◌≤◌, ℕ, List, Option, IfErr, IfOk, OnOk, vec_len};
-ghost use Rattle.trio_layout.specs.Range.{core_count};
 ghost use Rattle.trio_layout.specs.Survey.{Pick};
 ghost use Rattle.trio_survey.specs.Picks.{pick_of};
-ghost use Rattle.trio_survey.specs.inner.Kept.{unread, Keeps};
+ghost use Rattle.trio_survey.specs.inner.Kept.{kept_count, Keeps};
 ghost use Rattle.trio_survey.specs.inner.Walk.{file_repeat, framed, IsFault, WalkStands, WalkTables};
 
 use crate::enter::enter;
@@ -81,7 +80,7 @@ impl Walk {
         ensures tables { IfOk result (λ w. (pages : List (Option (List ℕ)))
             → WalkTables (framed pages frame.now) 0 w) }
         ensures keeps { IfOk result (λ w. (pages : List (Option (List ℕ))) → Keeps frame.now.range pages w.kept.pages.items) }
-        ensures unread { IfOk result (λ w. unread w.kept.pages.items ≡ core_count frame.now.range) }
+        ensures count { IfOk result (λ w. kept_count w.kept.pages.items ≡ 0) }
     {
         let root = MetFile {
             ino: 1,
@@ -100,7 +99,7 @@ impl Walk {
             repeated: None,
             rows: Shadow::new(alloc, frame.inodes)?,
             owners: Owners::new(alloc, frame.range.end, frame.range.first)?,
-            kept: KeptPages::new(alloc, frame.range)?,
+            kept: KeptPages::none(alloc),
         })
     }
 
@@ -123,8 +122,8 @@ impl Walk {
         ensures tables { OnOk result (WalkTables (framed home.old.pages frame.now) (at + 1) self.new) }
         ensures fault { IfErr result (IsFault (framed home.old.pages frame.now) (pick_of picks.now)) }
         ensures keeps { Keeps frame.now.range home.old.pages self.new.kept.pages.items }
-        ensures looks { reads.new + unread self.new.kept.pages.items ≤ reads.old + unread self.old.kept.pages.items }
-        ensures looked { home.new.looked + unread self.new.kept.pages.items ≤ home.old.looked + unread self.old.kept.pages.items }
+        ensures looks { reads.new + kept_count self.old.kept.pages.items ≤ reads.old + kept_count self.new.kept.pages.items }
+        ensures looked { home.new.looked + kept_count self.old.kept.pages.items ≤ home.old.looked + kept_count self.new.kept.pages.items }
     {
         let met = self.files[at];
         let file = match read_file_kept(

@@ -63,6 +63,7 @@ pub fn survey(
 
 /// As [`survey`], where an entry for whose number a body is picked at its place has that body in
 /// place of the bytes in its slot.
+#[tactic(auto, using(crate::proofs::KeptPages::few_kept))]
 pub fn survey_picked(
     alloc: Global,
     home: &mut Home,

@@ -1,7 +1,6 @@
 use Rattle.std.proofs.Common.{◌≡◌, ◌≤◌, ◌+◌, ◌-◌}
-use Rattle.trio_layout.specs.Range.{core_count}
 use Rattle.trio_survey.specs.Picks.{pick_of}
-use Rattle.trio_survey.specs.inner.Kept.{unread, Keeps}
+use Rattle.trio_survey.specs.inner.Kept.{kept_count, Keeps}
 use Rattle.trio_survey.specs.inner.Walk.{framed, WalkStands, WalkTables}
 use Rattle.trio_survey.proofs.whole.survey_picked.Given as goal
 
@@ -11,8 +10,8 @@ invariant-loop-at l = record {
   stands : WalkStands (framed l.initial.home.pages l.frame) (pick_of l.picks) l.at l.walk;
   tables : WalkTables (framed l.initial.home.pages l.frame) l.at l.walk;
   keeps : Keeps l.frame.range l.initial.home.pages l.walk.kept.pages.items;
-  looks : l.reads + unread l.walk.kept.pages.items ≤ l.fn.reads + core_count l.frame.range;
-  looked : l.home.looked + unread l.walk.kept.pages.items ≤ l.fn.home.looked + core_count l.frame.range;
+  looks : l.reads ≤ l.fn.reads + kept_count l.walk.kept.pages.items;
+  looked : l.home.looked ≤ l.fn.home.looked + kept_count l.walk.kept.pages.items;
 }
 
 abbrev pub decreases-loop-at : goal.decreases-loop-at
