@@ -3,8 +3,8 @@
 ghost use Rattle.std.specs.Prelude.{◌≡◌, ◌+◌, ◌≤◌, ℕ, IfOk};
 ghost use Rattle.trio_layout.specs.Chain.{chain_of};
 ghost use Rattle.trio_layout.specs.Index.{index_of};
-ghost use Rattle.trio_survey.specs.Seen.{chain_seen, core_with, result_seen};
 ghost use Rattle.trio_layout.specs.Range.{core_count};
+ghost use Rattle.trio_survey.specs.Seen.{chain_seen, core_with, result_seen};
 ghost use Rattle.trio_survey.specs.inner.Kept.{kept_count, Keeps};
 ghost use Rattle.trio_survey.specs.inner.Steps.{AppendsIndex};
 
