@@ -18,7 +18,8 @@ use trio_page::{Home, Reads};
 use trio_survey::verify_found;
 
 /// The image in a file, or the first cause for which there is none. The file is read from the front
-/// until its end or one byte past 33,554,432, straight into the image's pages.
+/// until its end or one byte past 33,554,432, straight into the image's pages. They are verified by one
+/// survey, which looks at each page once at most ([`verify_found`]), and the image keeps its tables.
 pub fn load<F: Files>(alloc: Global, files: &mut F, name: &str) -> Result<Image, LoadFault>
     requires { Contains (F.seen files.old).served name.now }
     ensures image { IfOk result (λ image. Loads ((F.seen files.old).held name.now) image.superblock image.pages) }
@@ -51,7 +52,8 @@ fn superblock_of(file: &FilePages) -> Result<Superblock, LoadFault>
 
 impl Image {
     /// The image of these pages, of which the first is this superblock; or, exactly where they don't
-    /// verify, why. After a fault the pages are gone.
+    /// verify, why. Each page is looked at once at most ([`verify_found`]). After a fault the pages are
+    /// gone.
     pub fn from_pages(alloc: Global, superblock: Superblock, home: Home) -> Result<Image, LoadFault>
         requires { IsWholeImage superblock home.pages }
         ensures image { IfOk result (λ image. image ≡ record { superblock = superblock; pages = home.pages }) }

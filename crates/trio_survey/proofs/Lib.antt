@@ -1,3 +1,4 @@
+pub mod KeptPages
 pub mod Chains
 pub mod Gathers
 pub mod Fits

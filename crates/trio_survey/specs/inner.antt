@@ -1,3 +1,4 @@
 pub mod Compared
+pub mod Kept
 pub mod Steps
 pub mod Walk

@@ -1,13 +1,15 @@
 //! The chain of a file: its index pages and the numbers of its blocks.
 
-ghost use Rattle.std.specs.Prelude.{◌≡◌, ◌≤◌, ℕ, IfOk};
+ghost use Rattle.std.specs.Prelude.{◌≡◌, ◌+◌, ◌≤◌, ℕ, IfOk};
 ghost use Rattle.trio_layout.specs.Chain.{chain_of};
 ghost use Rattle.trio_layout.specs.Index.{index_of};
+ghost use Rattle.trio_layout.specs.Range.{core_count};
 ghost use Rattle.trio_survey.specs.Seen.{chain_seen, core_with, result_seen};
+ghost use Rattle.trio_survey.specs.inner.Kept.{kept_count, Keeps};
 ghost use Rattle.trio_survey.specs.inner.Steps.{AppendsIndex};
 
 use crate::file::FaultPlace;
-use crate::home::core_page;
+use crate::kept::KeptPages;
 use std::alloc::Global;
 use trio_layout::{Body, CoreRange, IndexPage};
 use trio_page::{Home, NoMemory, Page, Reads};
@@ -19,7 +21,9 @@ pub struct ChainParts {
     pub blocks: Vec<u32>,
 }
 
-/// Reads the chain of a body, or finds the first index page that can't be read.
+/// Reads the chain of a body, or finds the first index page that can't be read. Each core page is
+/// looked at once at most.
+#[tactic(auto, using(crate::proofs::KeptPages::few_kept))]
 pub fn read_chain(
     alloc: Global,
     home: &mut Home,
@@ -29,6 +33,28 @@ pub fn read_chain(
 ) -> Result<Result<ChainParts, FaultPlace>, NoMemory>
     ensures pages { home.new.pages ≡ home.old.pages }
     ensures chain { (inodes : ℕ) → IfOk result (λ r. result_seen chain_seen r ≡ chain_of (core_with home.old.pages range inodes) body.now) }
+    ensures reads { reads.new ≤ reads.old + core_count range }
+    ensures looked { home.new.looked ≤ home.old.looked + core_count range }
+{
+    let mut kept = KeptPages::none(alloc);
+    read_chain_kept(alloc, home, range, body, &mut kept, reads)
+}
+
+/// As [`read_chain`], where no page that is kept is looked at.
+pub(crate) fn read_chain_kept(
+    alloc: Global,
+    home: &mut Home,
+    range: CoreRange,
+    body: &Body,
+    kept: &mut KeptPages,
+    reads: &mut Reads,
+) -> Result<Result<ChainParts, FaultPlace>, NoMemory>
+    requires keeps { Keeps range home.old.pages kept.old.pages.items }
+    ensures pages { home.new.pages ≡ home.old.pages }
+    ensures keeps { Keeps range home.old.pages kept.new.pages.items }
+    ensures chain { (inodes : ℕ) → IfOk result (λ r. result_seen chain_seen r ≡ chain_of (core_with home.old.pages range inodes) body.now) }
+    ensures looks { reads.new + kept_count kept.old.pages.items ≤ reads.old + kept_count kept.new.pages.items }
+    ensures looked { home.new.looked + kept_count kept.old.pages.items ≤ home.old.looked + kept_count kept.new.pages.items }
 {
     let mut index = Vec::new(alloc);
     let mut blocks = Vec::new(alloc);
@@ -36,7 +62,8 @@ pub fn read_chain(
     let mut at = body.head;
     while left > 0 {
         let fault = FaultPlace { page: at, slot: 0 };
-        let Some(page) = core_page(home, range, at, reads) else {
+        kept.look(alloc, home, range, at, reads)?;
+        let Some(page) = kept.page(range, at) else {
             return Ok(Err(fault));
         };
         let used = left.min(511) as u16;

@@ -1,34 +1,41 @@
 //! The entries of a directory.
 
-ghost use Rattle.std.specs.Prelude.{◌≡◌, ◌<◌, IfOk, map, drop, if◌then◌else◌};
+ghost use Rattle.std.specs.Prelude.{◌≡◌, ◌+◌, ◌<◌, ◌≤◌, IfOk, map, drop, if◌then◌else◌};
 ghost use Rattle.trio_layout.specs.Entries.{listed_at, slot_bytes, entries_on, entries_of};
 ghost use Rattle.trio_lists.specs.Lists.{both};
 ghost use Rattle.trio_layout.specs.Slot.{slot_of};
 ghost use Rattle.trio_survey.specs.Seen.{core_with, listed_seen, result_seen};
+ghost use Rattle.trio_survey.specs.inner.Kept.{kept_count, Keeps};
 
 use crate::file::{EntryRead, FaultPlace};
-use crate::home::core_page;
+use crate::kept::KeptPages;
 use crate::names::repeated_name;
 use std::alloc::Global;
 use trio_layout::{CoreRange, Slot, SlotRead};
 use trio_page::{Home, NoMemory, Page, Reads};
 
 /// Reads the entries of a directory of these blocks, or finds the first place that keeps them from
-/// being read.
-pub fn read_entries(
+/// being read. No page that is kept is looked at.
+pub(crate) fn read_entries(
     alloc: Global,
     home: &mut Home,
     range: CoreRange,
     inodes: u32,
     blocks: &[u32],
+    kept: &mut KeptPages,
     reads: &mut Reads,
 ) -> Result<Result<Vec<EntryRead>, FaultPlace>, NoMemory>
+    requires keeps { Keeps range home.old.pages kept.old.pages.items }
     ensures pages { home.new.pages ≡ home.old.pages }
+    ensures keeps { Keeps range home.old.pages kept.new.pages.items }
+    ensures looks { reads.new + kept_count kept.old.pages.items ≤ reads.old + kept_count kept.new.pages.items }
+    ensures looked { home.new.looked + kept_count kept.old.pages.items ≤ home.old.looked + kept_count kept.new.pages.items }
     ensures entries { IfOk result (λ r. result_seen (λ es. map listed_seen es.items) r ≡ entries_of (core_with home.old.pages range inodes) blocks.now) }
 {
     let mut entries = Vec::new(alloc);
     for no in blocks {
-        let Some(page) = core_page(home, range, *no, reads) else {
+        kept.look(alloc, home, range, *no, reads)?;
+        let Some(page) = kept.page(range, *no) else {
             return Ok(Err(FaultPlace { page: *no, slot: 0 }));
         };
         if let Err(place) = add_page_entries(page, *no, inodes, &mut entries)? {

@@ -10,6 +10,9 @@
 //!   (`specs/Sound.antt` of `trio_layout`) or the lowest rule that fails. [`survey_picked`] does so
 //!   with bodies that stand in place of the bytes in slots.
 //! - [`verify`] says whether an image verifies (`PagesVerify` of `specs/Stored.antt`).
+//!
+//! None of these calls looks at a page of the image twice, whatever the pages say: a core page that
+//! was looked at is kept as a copy until the call ends, for wherever it is listed again.
 #![tactic(auto)]
 
 pub mod chain;
@@ -18,6 +21,7 @@ mod entries;
 mod fault;
 pub mod file;
 pub mod home;
+mod kept;
 pub mod laws;
 mod marks;
 mod names;

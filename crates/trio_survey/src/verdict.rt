@@ -19,12 +19,15 @@ use trio_tables::{Owners, Shadow};
 /// `Ok` comes exactly where the image verifies. [`SurveyFault::Fails`] names the lowest of the rules
 /// 1, 2 and 5 that fails, with a place at which it does. A page that the superblock counts and that
 /// isn't at home fails where a file or a table wants it. The pages are as they were after any answer,
-/// and each look at one is counted.
+/// and each page of the image, that of the superblock and those of the tables among them, was looked
+/// at once at most.
 pub fn verify(alloc: Global, home: &mut Home, reads: &mut Reads) -> Result<(), SurveyFault>
     requires { IsSome (superblock_in home.old.pages) }
     ensures pages { home.new.pages ≡ home.old.pages }
     ensures verified { (s : Superblock) → HasSuperblock s home.old.pages → OnOk result (PagesVerify s home.old.pages) }
     ensures fails { (s : Superblock) → HasSuperblock s home.old.pages → IfErr result (IsDenied s home.old.pages) }
+    ensures reads { (s : Superblock) → HasSuperblock s home.old.pages → reads.new ≤ reads.old + s.pages }
+    ensures looked { (s : Superblock) → HasSuperblock s home.old.pages → home.new.looked ≤ home.old.looked + s.pages }
 {
     let _found = verify_found(alloc, home, reads)?;
     Ok(())
@@ -38,6 +41,8 @@ pub fn verify_found(alloc: Global, home: &mut Home, reads: &mut Reads) -> Result
     ensures rows { (s : Superblock) → HasSuperblock s home.old.pages → IfOk result (λ f. f.rows ≡ (image_in s home.old.pages).rows) }
     ensures owners { (s : Superblock) → HasSuperblock s home.old.pages → IfOk result (λ f. f.owners ≡ (image_in s home.old.pages).owners) }
     ensures fails { (s : Superblock) → HasSuperblock s home.old.pages → IfErr result (IsDenied s home.old.pages) }
+    ensures reads { (s : Superblock) → HasSuperblock s home.old.pages → reads.new ≤ reads.old + s.pages }
+    ensures looked { (s : Superblock) → HasSuperblock s home.old.pages → home.new.looked ≤ home.old.looked + s.pages }
 {
     let superblock = superblock(home, reads);
     let range = CoreRange {
@@ -62,6 +67,8 @@ fn superblock(home: &mut Home, reads: &mut Reads) -> Superblock
     ensures pages { home.new.pages ≡ home.old.pages }
     ensures sizes { HasSizes result }
     ensures only { (s : Superblock) → HasSuperblock s home.old.pages → result ≡ s }
+    ensures reads { reads.new ≤ reads.old + 1 }
+    ensures looked { home.new.looked ≤ home.old.looked + 1 }
 {
     let page = home.page(PageNo(0), reads).unwrap();
     Superblock::read(page).unwrap()
@@ -80,6 +87,8 @@ fn compare(
     ensures pages { home.new.pages ≡ home.old.pages }
     ensures stored { OnOk result (StoresTables superblock.now home.old.pages found.now.rows found.now.owners) }
     ensures fault { IfErr result (IsTableFault superblock.now home.old.pages found.now.rows found.now.owners) }
+    ensures reads { reads.new + 1 ≤ reads.old + superblock.now.first_core }
+    ensures looked { home.new.looked + 1 ≤ home.old.looked + superblock.now.first_core }
 {
     let &Superblock {
         first_owner,
@@ -115,6 +124,8 @@ fn row_fault(home: &mut Home, rows: &Shadow, first_owner: u32, reads: &mut Reads
     ensures stored { IfNone result ((k : ℕ) → 1 + k < first_owner
         → HasPage home.old.pages (1 + k) (page_at k (padded_to_pages (shadow_bytes rows.now)))) }
     ensures fault { IfSome result (HasRowFault first_owner home.old.pages rows.now) }
+    ensures reads { reads.new + 1 ≤ reads.old + first_owner }
+    ensures looked { home.new.looked + 1 ≤ home.old.looked + first_owner }
 {
     for k in 0..first_owner - 1 {
         if let Some(ino) = row_fault_at(home, rows, k, reads) {
@@ -130,6 +141,8 @@ fn row_fault_at(home: &mut Home, rows: &Shadow, k: u32, reads: &mut Reads) -> Op
     ensures pages { home.new.pages ≡ home.old.pages }
     ensures stored { IfNone result (HasPage home.old.pages (1 + k) (page_at k (padded_to_pages (shadow_bytes rows.now)))) }
     ensures fault { IfSome result (IsRowFault rows.now k (slice_index_or home.old.pages (1 + k) None)) }
+    ensures reads { reads.new ≤ reads.old + 1 }
+    ensures looked { home.new.looked ≤ home.old.looked + 1 }
 {
     match home.page(PageNo(1 + k), reads) {
         Some(page) => rows.differs_at(k, page),
@@ -153,6 +166,8 @@ fn owner_fault(
     ensures stored { IfNone result ((k : ℕ) → first_owner + k < first_core
         → HasPage home.old.pages (first_owner + k) (page_at k (padded_to_pages (owner_bytes owners.now)))) }
     ensures fault { IfSome result (HasOwnerFault first_owner first_core home.old.pages owners.now) }
+    ensures reads { reads.new + first_owner ≤ reads.old + first_core }
+    ensures looked { home.new.looked + first_owner ≤ home.old.looked + first_core }
 {
     for k in 0..first_core - first_owner {
         if let Some(page) = owner_fault_at(home, owners, first_owner, k, reads) {
@@ -174,6 +189,8 @@ fn owner_fault_at(
     ensures pages { home.new.pages ≡ home.old.pages }
     ensures stored { IfNone result (HasPage home.old.pages (first_owner + k) (page_at k (padded_to_pages (owner_bytes owners.now)))) }
     ensures fault { IfSome result (IsOwnerFault owners.now k (slice_index_or home.old.pages (first_owner + k) None)) }
+    ensures reads { reads.new ≤ reads.old + 1 }
+    ensures looked { home.new.looked ≤ home.old.looked + 1 }
 {
     match home.page(PageNo(first_owner + k), reads) {
         Some(page) => owners.differs_at(k, page),

@@ -3,11 +3,13 @@
 ghost use Rattle.std.specs.Prelude.{◌≡◌, ◌+◌, ◌<◌, ◌≤◌, ℕ, List, Option, IfErr, IfOk, OnOk, vec_len};
 ghost use Rattle.trio_layout.specs.Survey.{Pick};
 ghost use Rattle.trio_survey.specs.Picks.{pick_of};
+ghost use Rattle.trio_survey.specs.inner.Kept.{kept_count, Keeps};
 ghost use Rattle.trio_survey.specs.inner.Walk.{file_repeat, framed, IsFault, WalkStands, WalkTables};
 
 use crate::enter::enter;
 use crate::fault::SurveyFault;
-use crate::file::{FaultPlace, MetFile, read_file};
+use crate::file::{FaultPlace, MetFile, read_file_kept};
+use crate::kept::KeptPages;
 use crate::marks::{add_children, mark_new};
 use crate::picks::Picks;
 use std::alloc::Global;
@@ -62,6 +64,8 @@ pub struct Walk {
     pub repeated: Option<Repeated>,
     pub rows: Shadow,
     pub owners: Owners,
+    /// The core pages that were looked at.
+    pub kept: KeptPages,
 }
 
 impl Walk {
@@ -75,6 +79,8 @@ impl Walk {
             → WalkStands (framed pages frame.now) pick 0 w) }
         ensures tables { IfOk result (λ w. (pages : List (Option (List ℕ)))
             → WalkTables (framed pages frame.now) 0 w) }
+        ensures keeps { IfOk result (λ w. (pages : List (Option (List ℕ))) → Keeps frame.now.range pages w.kept.pages.items) }
+        ensures count { IfOk result (λ w. kept_count w.kept.pages.items ≡ 0) }
     {
         let root = MetFile {
             ino: 1,
@@ -93,6 +99,7 @@ impl Walk {
             repeated: None,
             rows: Shadow::new(alloc, frame.inodes)?,
             owners: Owners::new(alloc, frame.range.end, frame.range.first)?,
+            kept: KeptPages::none(alloc),
         })
     }
 
@@ -109,13 +116,25 @@ impl Walk {
         requires inside { at < vec_len self.old.files }
         requires stands { WalkStands (framed home.old.pages frame.now) (pick_of picks.now) at self.old }
         requires tables { WalkTables (framed home.old.pages frame.now) at self.old }
+        requires keeps { Keeps frame.now.range home.old.pages self.old.kept.pages.items }
         ensures pages { home.new.pages ≡ home.old.pages }
         ensures stands { OnOk result (WalkStands (framed home.old.pages frame.now) (pick_of picks.now) (at + 1) self.new) }
         ensures tables { OnOk result (WalkTables (framed home.old.pages frame.now) (at + 1) self.new) }
         ensures fault { IfErr result (IsFault (framed home.old.pages frame.now) (pick_of picks.now)) }
+        ensures keeps { Keeps frame.now.range home.old.pages self.new.kept.pages.items }
+        ensures looks { reads.new + kept_count self.old.kept.pages.items ≤ reads.old + kept_count self.new.kept.pages.items }
+        ensures looked { home.new.looked + kept_count self.old.kept.pages.items ≤ home.old.looked + kept_count self.new.kept.pages.items }
     {
         let met = self.files[at];
-        let file = match read_file(alloc, home, frame.range, frame.inodes, &met, reads)? {
+        let file = match read_file_kept(
+            alloc,
+            home,
+            frame.range,
+            frame.inodes,
+            &met,
+            &mut self.kept,
+            reads,
+        )? {
             Ok(file) => file,
             Err(place) => {
                 return Err(SurveyFault::Fails {

@@ -1,6 +1,7 @@
 //! The survey of a whole core.
 
-ghost use Rattle.std.specs.Prelude.{◌≡◌, ◌≤◌, IfErr, IfOk, OnOk};
+ghost use Rattle.std.specs.Prelude.{◌≡◌, ◌+◌, ◌≤◌, IfErr, IfOk, OnOk};
+ghost use Rattle.trio_layout.specs.Range.{core_count};
 ghost use Rattle.trio_layout.specs.Survey.{plain, survey};
 ghost use Rattle.trio_layout.specs.Sound.{IsSound, rows_table, owners_table};
 ghost use Rattle.trio_survey.specs.Answer.{core_of, IsRefused};
@@ -28,7 +29,8 @@ pub struct Found {
 /// of a sound core. `root` is the body of the root, `range` says which pages are core pages, and the
 /// inode numbers run from 1 up to `inodes`.
 ///
-/// Blocks of regular files aren't looked at.
+/// Blocks of regular files aren't looked at, and each core page is looked at once at most, however
+/// often it is listed.
 ///
 /// [`SurveyFault::Fails`] names the lowest of the rules 1 and 2 that fails, with a file and place at
 /// which it does; it comes exactly where the core isn't sound. The pages are as they were after any
@@ -52,6 +54,8 @@ pub fn survey(
     ensures owners { let core = core_of home.old.pages root.now range inodes in
         IfOk result (λ f. f.owners ≡ owners_table core (survey core plain)) }
     ensures fails { IfErr result (IsRefused (core_of home.old.pages root.now range inodes) plain) }
+    ensures reads { reads.new ≤ reads.old + core_count range }
+    ensures looked { home.new.looked ≤ home.old.looked + core_count range }
 {
     let picks = Picks::none(alloc);
     survey_picked(alloc, home, root, range, inodes, &picks, reads)
@@ -59,6 +63,7 @@ pub fn survey(
 
 /// As [`survey`], where an entry for whose number a body is picked at its place has that body in
 /// place of the bytes in its slot.
+#[tactic(auto, using(crate::proofs::KeptPages::few_kept))]
 pub fn survey_picked(
     alloc: Global,
     home: &mut Home,
@@ -79,6 +84,8 @@ pub fn survey_picked(
     ensures owners { let core = core_of home.old.pages root.now range inodes in
         IfOk result (λ f. f.owners ≡ owners_table core (survey core (pick_of picks.now))) }
     ensures fails { IfErr result (IsRefused (core_of home.old.pages root.now range inodes) (pick_of picks.now)) }
+    ensures reads { reads.new ≤ reads.old + core_count range }
+    ensures looked { home.new.looked ≤ home.old.looked + core_count range }
 {
     let frame = CoreFrame {
         root: *root,

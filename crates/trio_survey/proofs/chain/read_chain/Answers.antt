@@ -1,34 +1,4 @@
-use Rattle.std.proofs.Common.{◌≡◌, ◌-◌, ◌∙◌, Some, None, arith}
-use Rattle.trio_layout.specs.Core.{page_of}
-use Rattle.trio_survey.specs.Seen.{core_with}
-use Rattle.trio_survey.proofs.Chains.{no_page_at, no_index_at, one_index_more}
 use Rattle.trio_survey.proofs.chain.read_chain.Goals as goal
 
-pub returns-in_default-clause-chain : goal.returns-in_default-clause-chain
-returns-in_default-clause-chain c = λ inodes.
-    let core = core_with c.args.home.now.pages c.args.range inodes in
-    let turn = c.loop-left in
-    let gone : None ≡ page_of core turn.at = rw turn.invariant.same at c.in_default.ensures.page in
-    no_page_at core _ turn.left turn.at turn.index.items c.loop-left.blocks.items (omega arith) (turn.invariant.chain inodes) gone
-
-pub returns-in_default-2-clause-chain : goal.returns-in_default-2-clause-chain
-returns-in_default-2-clause-chain c = λ inodes.
-    let core = core_with c.args.home.now.pages c.args.range inodes in
-    let turn = c.loop-left in
-    let there : Some c.in-Some.page.now ≡ page_of core turn.at = rw turn.invariant.same at c.in-Some.ensures.page in
-    let bad = rw (c.in_default-2.is, c.min-used.ensures) at c.in_ok-next.ensures in
-    no_index_at core _ turn.left turn.at turn.index.items c.loop-left.blocks.items c.in-Some.page.now (omega arith) (turn.invariant.chain inodes) there bad
-
-pub loop-left-preserved : goal.loop-left-preserved
-loop-left-preserved c =
-    let turn = c.loop-left in
-    let read = rw (c.in-Some-2.is, c.min-used.ensures) at c.in_ok-next.ensures in
-    let fewer : turn.left - c.from-left.result ≡ turn.left - 511 = omega (arith, c.from-left.ensures, c.min-used.ensures) in
-    record {
-      same = c.core_page.follows.holds-at-none ∙ turn.invariant.same;
-      chain = λ inodes.
-          let core = core_with c.args.home.now.pages c.args.range inodes in
-          let there : Some c.in-Some.page.now ≡ page_of core turn.at = rw turn.invariant.same at c.in-Some.ensures.page in
-          let more = one_index_more core _ turn.left turn.at turn.index.items c.loop-left.blocks.items c.in-Some.page.now read.0 c.in-Some-2.next (omega arith) (turn.invariant.chain inodes) there read.1 in
-          rw (fewer, c.in_ok-push.ensures.items, read.2) more;
-    }
+pub read_chain_kept-requires : goal.read_chain_kept-requires
+read_chain_kept-requires c = record { keeps = c.none-kept.ensures.keeps c.args.range c.args.home.now.pages }

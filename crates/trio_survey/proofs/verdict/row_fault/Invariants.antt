@@ -1,4 +1,4 @@
-use Rattle.std.proofs.Common.{◌≡◌, ◌+◌, ◌<◌, ℕ}
+use Rattle.std.proofs.Common.{◌≡◌, ◌+◌, ◌<◌, ◌≤◌, ℕ}
 use Rattle.trio_survey.specs.Stored.{HasPage}
 use Rattle.trio_tables.specs.Stored.{padded_to_pages, page_at, shadow_bytes}
 use Rattle.trio_survey.proofs.verdict.row_fault.Given as goal
@@ -7,4 +7,6 @@ abbrev pub invariant-loop-k : goal.invariant-loop-k
 invariant-loop-k l = record {
   same : l.home.pages ≡ l.initial.home.pages;
   stored : (k : ℕ) → k < l.k → HasPage l.initial.home.pages (1 + k) (page_at k (padded_to_pages (shadow_bytes l.rows)));
+  reads : l.reads ≤ l.fn.reads + l.k;
+  looked : l.home.looked ≤ l.fn.home.looked + l.k;
 }

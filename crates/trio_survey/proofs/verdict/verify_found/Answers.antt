@@ -1,4 +1,4 @@
-use Rattle.std.proofs.Common.{◌≡◌, IfErr, ap, ◌∙◌, length, subst}
+use Rattle.std.proofs.Common.{◌≡◌, IfErr, ap, ◌∙◌, arith, length, subst}
 use Rattle.std.proofs.lemmas.Result.{err_from_is_err_and}
 use Rattle.trio_layout.specs.declared.superblock.Superblock.{Superblock}
 use Rattle.trio_layout.specs.Survey.{plain, survey}
@@ -65,3 +65,39 @@ returns-clause-owners c = λ s h.
     let owners = c.in_ok-found.found.owners in
     let here : owners ≡ (image_in own pages).owners = rw c.superblock-superblock.ensures.pages at c.in_ok-found.ensures.owners in
     subst (λ (x : Superblock). owners ≡ (image_in x pages).owners) (c.superblock-superblock.ensures.only s h) here
+
+pub returns-in_err-found-clause-reads : goal.returns-in_err-found-clause-reads
+returns-in_err-found-clause-reads c = λ s h.
+    let own = c.superblock-superblock in
+    let pages : own.result.pages ≡ s.pages = ap (λ x. x.pages) (own.ensures.only s h) in
+    omega (arith, pages, own.ensures.sizes.core, own.ensures.reads, c.survey.ensures.reads)
+
+pub returns-in_err-found-clause-looked : goal.returns-in_err-found-clause-looked
+returns-in_err-found-clause-looked c = λ s h.
+    let own = c.superblock-superblock in
+    let pages : own.result.pages ≡ s.pages = ap (λ x. x.pages) (own.ensures.only s h) in
+    omega (arith, pages, own.ensures.sizes.core, own.ensures.looked, c.survey.ensures.looked)
+
+pub returns-in_err-compare-clause-reads : goal.returns-in_err-compare-clause-reads
+returns-in_err-compare-clause-reads c = λ s h.
+    let own = c.superblock-superblock in
+    let pages : own.result.pages ≡ s.pages = ap (λ x. x.pages) (own.ensures.only s h) in
+    omega (arith, pages, own.ensures.sizes.core, own.ensures.reads, c.survey.ensures.reads, c.compare.ensures.reads)
+
+pub returns-in_err-compare-clause-looked : goal.returns-in_err-compare-clause-looked
+returns-in_err-compare-clause-looked c = λ s h.
+    let own = c.superblock-superblock in
+    let pages : own.result.pages ≡ s.pages = ap (λ x. x.pages) (own.ensures.only s h) in
+    omega (arith, pages, own.ensures.sizes.core, own.ensures.looked, c.survey.ensures.looked, c.compare.ensures.looked)
+
+pub returns-clause-reads : goal.returns-clause-reads
+returns-clause-reads c = λ s h.
+    let own = c.superblock-superblock in
+    let pages : own.result.pages ≡ s.pages = ap (λ x. x.pages) (own.ensures.only s h) in
+    omega (arith, pages, own.ensures.sizes.core, own.ensures.reads, c.survey.ensures.reads, c.compare.ensures.reads)
+
+pub returns-clause-looked : goal.returns-clause-looked
+returns-clause-looked c = λ s h.
+    let own = c.superblock-superblock in
+    let pages : own.result.pages ≡ s.pages = ap (λ x. x.pages) (own.ensures.only s h) in
+    omega (arith, pages, own.ensures.sizes.core, own.ensures.looked, c.survey.ensures.looked, c.compare.ensures.looked)

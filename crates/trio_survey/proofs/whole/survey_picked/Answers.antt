@@ -13,6 +13,9 @@ loop-at-init c =
       same = refl;
       stands = c.in_ok-walk.ensures.stands c.args.home.now.pages (pick_of c.args.picks.now);
       tables = c.in_ok-walk.ensures.tables c.args.home.now.pages;
+      keeps = c.in_ok-walk.ensures.keeps c.args.home.now.pages;
+      looks = omega (arith, c.in_ok-walk.ensures.count);
+      looked = omega (arith, c.in_ok-walk.ensures.count);
     }
 
 pub returns-in_err-visit-clause-fails : goal.returns-in_err-visit-clause-fails

@@ -1,5 +1,6 @@
-use Rattle.std.proofs.Common.{◌≡◌, ◌+◌, ◌-◌}
+use Rattle.std.proofs.Common.{◌≡◌, ◌≤◌, ◌+◌, ◌-◌}
 use Rattle.trio_survey.specs.Picks.{pick_of}
+use Rattle.trio_survey.specs.inner.Kept.{kept_count, Keeps}
 use Rattle.trio_survey.specs.inner.Walk.{framed, WalkStands, WalkTables}
 use Rattle.trio_survey.proofs.whole.survey_picked.Given as goal
 
@@ -8,6 +9,9 @@ invariant-loop-at l = record {
   same : l.home.pages ≡ l.initial.home.pages;
   stands : WalkStands (framed l.initial.home.pages l.frame) (pick_of l.picks) l.at l.walk;
   tables : WalkTables (framed l.initial.home.pages l.frame) l.at l.walk;
+  keeps : Keeps l.frame.range l.initial.home.pages l.walk.kept.pages.items;
+  looks : l.reads ≤ l.fn.reads + kept_count l.walk.kept.pages.items;
+  looked : l.home.looked ≤ l.fn.home.looked + kept_count l.walk.kept.pages.items;
 }
 
 abbrev pub decreases-loop-at : goal.decreases-loop-at
