@@ -8,7 +8,7 @@ use Rattle.trio_script.specs.Said.{library_said}
 use Rattle.trio_script.specs.Script.{is_next, is_silent, lib_with, names_library, own_lines, libs_from}
 use Rattle.trio_script.specs.inner.Taken.{Begins, Takes, count_of, libs_with}
 
--- behind the next one there are no more than 16
+-- fewer than 16 libraries began before the next one
 lt-is_next : (begun : ℕ) (line : Option LibLine) → is_next begun line ≡ true → begun < 16
 lt-is_next begun (Some line) e = grind (arith, nat_tests)
 lt-is_next begun None e = absurd cc

@@ -166,7 +166,7 @@ fn unbuilt(number: u32, begun: bool, rest: &[u8]) -> u32
     if named { number } else { 1 }
 }
 
-// whether a line of these bytes is a library's line
+// whether a line of these bytes names a library
 fn has_library(bytes: &[u8]) -> bool
     ensures { result ≡ list_any names_library (lines_of bytes.now) }
 {

@@ -284,7 +284,8 @@ fn bytes_are_counted(rt: HostRuntime) {
 }
 
 /// Each line that says something has its own number, and stands with the library that began last.
-const TWO_LIBS: &[u8] = b"#\nlib 1 raw 1001 5\n\ngrant write 2\n#\ngrant write 3\nlib 2 raw 0 4294967295\n#\n\nmode 3 700";
+const TWO_LIBS: &[u8] =
+    b"#\nlib 1 raw 1001 5\n\ngrant write 2\n#\ngrant write 3\nlib 2 raw 0 4294967295\n#\n\nmode 3 700";
 
 fn reads_two_libs(alloc: Global) -> Option<bool> {
     let first = vec![in alloc;
@@ -308,11 +309,7 @@ fn reads_two_libs(alloc: Global) -> Option<bool> {
         },
     ]
     .ok()?;
-    let wanted = vec![in alloc;
-        library(1001, 5, first),
-        library(0, 4_294_967_295, second),
-    ]
-    .ok()?;
+    let wanted = vec![in alloc; library(1001, 5, first), library(0, 4_294_967_295, second)].ok()?;
     Some(read_script(alloc, TWO_LIBS) == Ok(wanted))
 }
 
@@ -337,7 +334,8 @@ fn libraries_are_read(rt: HostRuntime) {
 /// built.
 fn count_libs(alloc: Global, count: u32) -> Option<Result<usize, ScriptFault>> {
     let mut script = Vec::new(alloc);
-    for number in 1..count + 1 {
+    for begun in 0..count {
+        let number = begun + 1;
         let line = format!(in alloc; "lib {number} raw 0 {number}\n").ok()?;
         script.extend_from_slice(line.as_bytes()).ok()?;
     }
