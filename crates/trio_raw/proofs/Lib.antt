@@ -1,2 +1,8 @@
 pub mod Places
 pub mod Once
+pub mod Names
+pub mod Standing
+pub mod Leases
+pub mod Kept
+pub mod Backing
+pub mod Asking

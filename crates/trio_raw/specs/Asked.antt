@@ -1,7 +1,6 @@
 -- What comes of a library's doings, by what its desk told it: what the library is answered, and what it has then.
 use Rattle.std.specs.Prelude.{◌≡◌, ◌⊎◌, ℕ, List, [], ◌∷◌, ◌++◌, IsTrue, IsFalse, IsErr, Option, Some, None, Result, Ok, Err, MatchOption}
 use Rattle.trio_rights.specs.declared.rights.LibNo.{LibNo}
-use Rattle.trio_page.specs.declared.page.PageNo.{PageNo}
 use Rattle.trio_nodes.specs.declared.answers.GrantFault.{GrantFault}
 use Rattle.trio_nodes.specs.declared.answers.GrantFault.TheVariants.{NoMemory as NoGrantMemory}
 use Rattle.trio_nodes.specs.declared.answers.AllotFault.{AllotFault}
@@ -37,13 +36,17 @@ AfterGrant has result has' told = ⊥
 abbrev pub NoGrant : Has → Result ℕ GrantFault → Has → Type 0
 NoGrant has result has' = (result ≡ Err NoGrantMemory) × (has' ≡ has)
 
--- After an allotment: all of it is kept; or all of it is let go for want of memory. (The error says nothing but that.)
+-- how an allotment is answered that wasn't given; want of memory is an error, which says nothing else
+abbrev pub IsRefusal : {E : Type 0} → AllotFault → Result AllotAnswer E → Type 0
+IsRefusal (NoPages wanted free) result = result ≡ Ok (RefusedAnswer (NoPages wanted free))
+IsRefusal (NoInodes wanted free) result = result ≡ Ok (RefusedAnswer (NoInodes wanted free))
+IsRefusal NoAllotMemory result = IsErr result
+
+-- After an allotment: all of it is kept; or all of it is let go for want of memory.
 abbrev pub AfterAllot : {E : Type 0} → LibNo → Has → Result AllotAnswer E → Has → Told → Type 0
 AfterAllot lib has result has' (Given pages numbers) =
     ((result ≡ Ok (GivenAnswer pages numbers)) × (has' ≡ keeps_allotted lib has pages numbers)) ⊎ (IsErr result × (has' ≡ has))
-AfterAllot lib has result has' (NotGiven (NoPages wanted free)) = (result ≡ Ok (RefusedAnswer (NoPages wanted free))) × (has' ≡ has)
-AfterAllot lib has result has' (NotGiven (NoInodes wanted free)) = (result ≡ Ok (RefusedAnswer (NoInodes wanted free))) × (has' ≡ has)
-AfterAllot lib has result has' (NotGiven NoAllotMemory) = IsErr result × (has' ≡ has)
+AfterAllot lib has result has' (NotGiven fault) = IsRefusal fault result × (has' ≡ has)
 AfterAllot lib has result has' told = ⊥
 
 -- after a read lease was given back: it is gone

@@ -5,7 +5,7 @@ ghost use Rattle.std.specs.Option.{option_copied};
 ghost use Rattle.trio_desk.specs.Out.{IsClosed, LibOut};
 ghost use Rattle.trio_desk.specs.Call.{Allot, Grant, Release, SetMode};
 ghost use Rattle.trio_desk.specs.Calls.{Calls, OneCall};
-ghost use Rattle.trio_raw.specs.Asked.{AfterAllot, AfterGrant, AfterMode, AfterRelease, Back, NoGrant, NoRelease, end_calls, raw_fault};
+ghost use Rattle.trio_raw.specs.Asked.{AfterAllot, AfterGrant, AfterMode, AfterRelease, Back, IsRefusal, NoGrant, NoRelease, end_calls, raw_fault};
 ghost use Rattle.trio_raw.specs.Has.{HasLeases, OnList, has_all_of, has_nothing, has_read, nothing, parcel_named, peeked, poked, whole_parcel, with_reads};
 
 use crate::back::give_all_back;
@@ -125,8 +125,7 @@ impl Raw {
     {
         match desk.allot(pages, inodes) {
             Ok(given) => self.things.add_allotted(self.alloc, given),
-            Err(AllotFault::NoMemory) => Err(NoMemory),
-            Err(fault) => Ok(AllotAnswer::Refused(fault)),
+            Err(fault) => refusal(fault),
         }
     }
 
@@ -141,13 +140,11 @@ impl Raw {
         ensures desk { (D.seen desk.new).lib ≡ (D.seen desk.old).lib }
         ensures lib { self.new.lib ≡ self.old.lib }
     {
-        match self.things.take_read(ino) {
-            Some(lease) => {
-                desk.give_back(lease);
-                Ok(())
-            }
-            None => Err(Absent),
-        }
+        let Some(lease) = self.things.take_read(ino) else {
+            return Err(Absent);
+        };
+        desk.give_back(lease);
+        Ok(())
     }
 
     /// Asks the desk to change the mode of a file, by its inode number. The faults are the desk's.
@@ -281,6 +278,18 @@ impl Raw {
             things,
         } = self;
         things.discard();
+    }
+}
+
+/// The fault of an allotment, as the library is answered.
+fn refusal(fault: AllotFault) -> Result<AllotAnswer, NoMemory>
+    ensures { IsRefusal fault result }
+{
+    match fault {
+        AllotFault::NoMemory => Err(NoMemory),
+        AllotFault::NoPages { .. } | AllotFault::NoInodes { .. } => {
+            Ok(AllotAnswer::Refused(fault))
+        }
     }
 }
 
