@@ -82,10 +82,10 @@ read_there has ino lease some =
     let r = find-In (λ (r : Shown). eqb r.ino ino) has.reads lease some in
     (r.0, eqb-true lease.ino ino r.1)
 
-pub ok_same : {X E : Type 0} {h a b : Has} (result : Result X E) → a ≡ b → OnOk result (h ≡ a) → OnOk result (h ≡ b)
-ok_same (Ok x) e k = k ∙ e
-ok_same (Err x) e k = tt
+pub ok_same : {X E : Type 0} (h a b : Has) (result : Result X E) → a ≡ b → OnOk result (h ≡ a) → OnOk result (h ≡ b)
+ok_same h a b (Ok x) e k = k ∙ e
+ok_same h a b (Err x) e k = tt
 
-pub err_same : {X E : Type 0} {h a b : Has} (result : Result X E) → a ≡ b → OnErr result (h ≡ a) → OnErr result (h ≡ b)
-err_same (Ok x) e k = tt
-err_same (Err x) e k = k ∙ e
+pub err_same : {X E : Type 0} (h a b : Has) (result : Result X E) → a ≡ b → OnErr result (h ≡ a) → OnErr result (h ≡ b)
+err_same h a b (Ok x) e k = tt
+err_same h a b (Err x) e k = k ∙ e

@@ -16,8 +16,8 @@ returns-in-Ok-clause-call g c =
     let e = c.add_allotted.ensures in
     Made (Given (page_numbers given.pages.items) (ino_numbers given.inodes.items)) c.in-Ok.ensures.called
     (allot_after seen.lib seen.out c.args.self.now.has c.add_allotted.new.self.has given c.add_allotted.result c.in-Ok.ensures.fresh e.answer
-    (ok_same c.add_allotted.result (ap (λ (h : Held). with_given h.has given) c.self.view_is) e.added)
-    (err_same c.add_allotted.result (ap (λ (h : Held). h.has) c.self.view_is) e.kept))
+    (ok_same c.add_allotted.new.self.has (with_given c.self.inside.things.has given) (with_given c.args.self.now.has given) c.add_allotted.result (ap (λ (h : Held). with_given h.has given) c.self.view_is) e.added)
+    (err_same c.add_allotted.new.self.has c.self.inside.things.has c.args.self.now.has c.add_allotted.result (ap (λ (h : Held). h.has) c.self.view_is) e.kept))
 
 pub returns-in-Ok-clause-stands : goal.returns-in-Ok-clause-stands
 returns-in-Ok-clause-stands g c =
@@ -27,8 +27,8 @@ returns-in-Ok-clause-stands g c =
     let e = c.add_allotted.ensures in
     stands_alike out' (with_allotted seen.out (page_numbers given.pages.items) (ino_numbers given.inodes.items)) c.add_allotted.new.self.has c.in-Ok.ensures.seen.out
     (allot_stands seen.lib seen.out c.args.self.now.has c.add_allotted.new.self.has given c.add_allotted.result c.in-Ok.ensures.fresh
-    (ok_same c.add_allotted.result (ap (λ (h : Held). with_given h.has given) c.self.view_is) e.added)
-    (err_same c.add_allotted.result (ap (λ (h : Held). h.has) c.self.view_is) e.kept) c.requires.stands)
+    (ok_same c.add_allotted.new.self.has (with_given c.self.inside.things.has given) (with_given c.args.self.now.has given) c.add_allotted.result (ap (λ (h : Held). with_given h.has given) c.self.view_is) e.added)
+    (err_same c.add_allotted.new.self.has c.self.inside.things.has c.args.self.now.has c.add_allotted.result (ap (λ (h : Held). h.has) c.self.view_is) e.kept) c.requires.stands)
 
 pub returns-in-Ok-clause-leases : goal.returns-in-Ok-clause-leases
 returns-in-Ok-clause-leases g c l =
@@ -38,8 +38,8 @@ returns-in-Ok-clause-leases g c l =
     let e = c.add_allotted.ensures in
     leases_alike out' (with_allotted out (page_numbers given.pages.items) (ino_numbers given.inodes.items)) c.add_allotted.new.self.has c.in-Ok.ensures.seen.out
     (allot_leases out c.args.self.now.has c.add_allotted.new.self.has given c.add_allotted.result
-    (ok_same c.add_allotted.result (ap (λ (h : Held). with_given h.has given) c.self.view_is) e.added)
-    (err_same c.add_allotted.result (ap (λ (h : Held). h.has) c.self.view_is) e.kept) l)
+    (ok_same c.add_allotted.new.self.has (with_given c.self.inside.things.has given) (with_given c.args.self.now.has given) c.add_allotted.result (ap (λ (h : Held). with_given h.has given) c.self.view_is) e.added)
+    (err_same c.add_allotted.new.self.has c.self.inside.things.has c.args.self.now.has c.add_allotted.result (ap (λ (h : Held). h.has) c.self.view_is) e.kept) l)
 
 pub returns-in-Err-clause-call : goal.returns-in-Err-clause-call
 returns-in-Err-clause-call g c = Made (NotGiven c.in-Err.fault) c.in-Err.ensures.called (c.refusal.ensures, refl)
