@@ -1,23 +1,15 @@
--- Elements by their places: one that is changed, and the first of a number.
-use Rattle.std.proofs.Common.{Bor, ◌≡◌, ℕ, suc, ◌+◌, ◌<◌, ◌≤◌, Bool, true, false, cond, not, ◌&&◌, eqb, ltb, List, [], ◌∷◌, ◌++◌, length, drop, get_or, Option, Some, None, sym, refl, ap, ◌∙◌, subst, inl, inr, arith}
-use Rattle.std.specs.Prelude.{map, is_some, slice_get, slice_set}
+-- The first things of their numbers, and steps through the numbers that are named.
+use Rattle.std.proofs.Common.{Bor, ◌≡◌, ℕ, suc, ◌+◌, ◌<◌, ◌≤◌, Bool, true, false, cond, ◌&&◌, eqb, ltb, List, [], ◌∷◌, ◌++◌, length, drop, get_or, Option, Some, None, sym, refl, ap, ◌∙◌, subst, inl, inr, arith}
+use Rattle.std.specs.Prelude.{map, is_some, slice_get}
 use Rattle.std.specs.List.{find, list_all, cons_option, position, position_or_len, remove}
-use Rattle.std.specs.Option.{option_copied, option_map, option_and_then}
+use Rattle.std.specs.Option.{option_copied}
 use Rattle.std.proofs.lemmas.Bool.{eqb-true, ne_eqb, ltb-true, ltb-false, cases_Bool}
 use Rattle.std.proofs.lemmas.List.{append_assoc, drop_more}
 use Rattle.std.proofs.lemmas.List.Folds.{find_at}
 use Rattle.std.proofs.lemmas.Option.{slice_get-get_or, slice_get_past}
 use Rattle.trio_lists.specs.Lists.{In, is_among, are_new}
-use Rattle.trio_raw.specs.Has.{changed_at, changed_first, named, without, without_all}
+use Rattle.trio_raw.specs.Has.{named, without, without_all}
 use Rattle.trio_lists.proofs.New.{are_new-first}
-
--- ---- an element that is changed
-
-pub changed_at-some : {X : Type 0} (f : X → Option X) (xs : List X) (i : ℕ) (x y : X) → slice_get xs i ≡ Some x → f x ≡ Some y → changed_at f i xs ≡ Some (slice_set xs i y)
-changed_at-some f xs i x y at e = ap (λ o. option_and_then (λ z. option_map (λ w. slice_set xs i w) (f z)) o) at ∙ ap (option_map (λ w. slice_set xs i w)) e
-
-pub changed_at-none : {X : Type 0} (f : X → Option X) (xs : List X) (i : ℕ) → slice_get xs i ≡ None → changed_at f i xs ≡ None
-changed_at-none f xs i at = ap (λ o. option_and_then (λ z. option_map (λ w. slice_set xs i w) (f z)) o) at
 
 -- ---- the first that passes a test
 
@@ -173,21 +165,3 @@ module _ {X : Type 0} (number : X → ℕ) (xs after : List X) (names : List ℕ
       ap (λ l. l ++ named number after (drop (i + 1) names)) is
       ∙ append_assoc before (x ∷ []) (named number after (drop (i + 1) names))
       ∙ ap (λ l. before ++ l) (sym (named_more ∙ ap (λ o. cons_option o (named number after (drop (i + 1) names))) found))
-
--- the first that passes a test, changed or not
-pub changed_first-some : {X : Type 0} (p : X → Bool) (f : X → Option X) (xs : List X) (i : ℕ) (old new : X) (done : Bool) → position p xs ≡ Some i → old ≡ get_or xs i old → f old ≡ cond done (Some new) None → changed_first p f xs ≡ cond done (Some (slice_set xs i new)) None
-changed_first-some {X} p f xs i old new done at is e = by_done done e
-  where
-    there : slice_get xs i ≡ Some old
-    there = slice_get-get_or xs i old (position_is p xs i at).1 ∙ ap Some (sym is)
-
-    first : changed_first p f xs ≡ changed_at f i xs
-    first = ap (option_and_then (λ j. changed_at f j xs)) at
-
-    by_done : (done : Bool) → f old ≡ cond done (Some new) None → changed_first p f xs ≡ cond done (Some (slice_set xs i new)) None
-    by_done true e = first ∙ changed_at-some f xs i old new there e
-    by_done false e = first ∙ ap (λ o. option_and_then (λ z. option_map (λ w. slice_set xs i w) (f z)) o) there ∙ ap (option_map (λ w. slice_set xs i w)) e
-
-pub map_done : {X Y : Type 0} (g : X → Y) (x : X) (done : Bool) → option_map g (cond done (Some x) None) ≡ cond done (Some (g x)) None
-map_done g x true = refl
-map_done g x false = refl

@@ -16,8 +16,8 @@ use Rattle.trio_lists.specs.Lists.{In, is_among, are_new}
 use Rattle.trio_lists.proofs.Filters.{In-filter}
 use Rattle.trio_lists.proofs.Members.{In-cases, In-left, In-map, In-right, map-In}
 use Rattle.trio_lists.proofs.New.{are_new-fewer, is_among-not}
-use Rattle.trio_desk.specs.Out.{LibOut, OutAlike, IsAllotted, IsFreshLease, IsLent, SameFile, WasGiven, file_numbers, hold_numbers, ino_numbers, new_ino, page_numbers, with_allotted, with_lease, without_parcel, without_read, zero_page}
-use Rattle.trio_raw.specs.Has.{Has, OnList, has_all_of, keeps_allotted, keeps_lease, named, parcel_named, read_numbers, rest_of, whole_parcel, with_parcel, with_reads, without, without_all} 
+use Rattle.trio_desk.specs.Out.{LibOut, OutAlike, IsFreshLease, IsLent, SameFile, WasGiven, file_numbers, hold_numbers, ino_numbers, new_ino, page_numbers, with_allotted, with_lease, without_parcel, without_read, zero_page}
+use Rattle.trio_raw.specs.Has.{Has, OnList, has_all_of, keeps_allotted, keeps_lease, parcel_named, read_numbers, rest_of, whole_parcel, with_parcel, with_reads, without}
 use Rattle.trio_raw.specs.Has.{without_read as has_without_read}
 use Rattle.trio_raw.proofs.Once.{back_in, back_once, gone, left_unnamed, named_in, named_once, once_more, without_all_in, without_all_once, without_in, without_new}
 use Rattle.trio_raw.proofs.Names.{names_once}

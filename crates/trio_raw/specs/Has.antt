@@ -219,10 +219,6 @@ whole_parcel has = record { writes = has.writes; holds = has.holds; pages = has.
 abbrev pub with_reads : Has → List Shown → Has
 with_reads has reads = record has { reads = reads }
 
--- its read leases alone
-abbrev pub only_reads : Has → Has
-only_reads has = record { writes = []; reads = has.reads; holds = []; pages = []; inodes = [] }
-
 -- it has nothing, but for read leases
 abbrev pub has_nothing : Has → Bool
 has_nothing has = length has.writes == 0 && length has.holds == 0 && length has.pages == 0 && length has.inodes == 0

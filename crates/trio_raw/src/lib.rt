@@ -14,6 +14,8 @@ mod lent;
 mod peek;
 mod poke;
 mod raw;
+#[cfg(test)]
+mod tests;
 mod things;
 
 pub use raw::{Absent, Raw, RawFault};

@@ -149,12 +149,7 @@ impl Raw {
 
     /// Asks the desk to change the mode of a file, by its inode number. The faults are the desk's.
     /// The library has what it had.
-    pub fn set_mode<D: Desk>(
-        &mut self,
-        desk: &mut D,
-        ino: u32,
-        mode: u16,
-    ) -> Result<(), ModeFault>
+    pub fn set_mode<D: Desk>(&mut self, desk: &mut D, ino: u32, mode: u16) -> Result<(), ModeFault>
         requires stands { OnList (D.seen desk.old).out self.old.has }
         ensures call { OneCall D.called desk.old (SetMode ino mode) desk.new
             (AfterMode self.old.has result self.new.has) ⊥ }
@@ -237,10 +232,7 @@ impl Raw {
     /// rest. It takes no memory of its own.
     ///
     /// [`NoMemory`] is the desk's. The library that comes back then has the rest, and no read lease.
-    pub fn end<D: Desk>(
-        self,
-        desk: &mut D,
-    ) -> Result<Option<ReleaseAnswer>, (Raw, NoMemory)>
+    pub fn end<D: Desk>(self, desk: &mut D) -> Result<Option<ReleaseAnswer>, (Raw, NoMemory)>
         requires stands { OnList (D.seen desk.old).out self.has }
         requires closed { IsClosed (D.seen desk.old).out (whole_parcel self.has) }
         ensures calls { Calls D.called desk.old (end_calls self.has result) desk.new }

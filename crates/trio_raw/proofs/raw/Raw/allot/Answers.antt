@@ -1,4 +1,4 @@
-use Rattle.std.proofs.Common.{refl, sym, ap, subst, ◌∙◌}
+use Rattle.std.proofs.Common.{refl, ap}
 use Rattle.trio_desk.specs.Out.{ino_numbers, page_numbers, with_allotted}
 use Rattle.trio_desk.specs.Call.{Given, NotGiven}
 use Rattle.trio_desk.specs.Calls.{Made}

@@ -1,13 +1,9 @@
 use Rattle.std.proofs.Common.{◌≡◌, None, Some, refl, sym, ap, subst, ◌∙◌}
-use Rattle.std.specs.Prelude.{IsErr, MatchOption}
 use Rattle.std.proofs.lemmas.Bool.{both_ways}
-use Rattle.trio_lists.specs.Lists.{In}
-use Rattle.trio_lease.specs.Shown.{Shown}
 use Rattle.trio_desk.specs.Out.{without_read as out_without_read}
-use Rattle.trio_desk.specs.Call.{Done, GiveBack}
-use Rattle.trio_desk.specs.Calls.{Made, OneCall}
-use Rattle.trio_raw.specs.Asked.{AfterBack}
-use Rattle.trio_raw.specs.Has.{Has, HasLeases, Held, OnList, has_read, read_on, without_read}
+use Rattle.trio_desk.specs.Call.{Done}
+use Rattle.trio_desk.specs.Calls.{Made}
+use Rattle.trio_raw.specs.Has.{HasLeases, Held, OnList, has_read, read_on, without_read}
 use Rattle.trio_raw.proofs.Asking.{back_none, read_none, read_some, read_there}
 use Rattle.trio_raw.proofs.Leases.{leases_same}
 use Rattle.trio_raw.proofs.Standing.{stands-back, stands_alike}

@@ -1,4 +1,4 @@
-use Rattle.std.proofs.Common.{◌≡◌, Ok, refl, sym, ap, subst, ◌∙◌}
+use Rattle.std.proofs.Common.{Ok, refl, sym, ap, subst, ◌∙◌}
 use Rattle.trio_desk.specs.Out.{with_lease}
 use Rattle.trio_desk.specs.Call.{Lent, NotLent}
 use Rattle.trio_desk.specs.Calls.{Made}
