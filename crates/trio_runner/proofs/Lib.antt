@@ -1,11 +1,9 @@
-pub mod Leases
-pub mod Lines
-pub mod Runs
-pub mod Turns
 pub mod Creds
-pub mod Rounds
-pub mod Unchanged
-pub mod Left
+pub mod Below
+pub mod Moves
+pub mod Plays
+pub mod Outs
+pub mod Held
+pub mod Orders
 pub mod EndFree
 pub mod OnePlay
-pub mod Giving

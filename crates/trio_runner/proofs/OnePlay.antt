@@ -1,286 +1,466 @@
 -- Two plays of one script on one image come to the same.
-use Rattle.std.proofs.Common.{◌≡◌, ◌≢◌, ℕ, true, false, List, [], ◌∷◌, ◌++◌, Option, Some, None, sym, refl, ap, ◌∙◌, subst, inl, inr, ◌⊎◌}
+use Rattle.std.proofs.Common.{◌≡◌, ◌≢◌, ℕ, ◌-◌, Bool, true, false, List, [], ◌∷◌, ◌++◌, Option, Some, None, sym, refl, ap, ◌∙◌, subst, inl, inr, get_or, set}
+use Rattle.std.specs.Prelude.{MatchBool, MatchOption}
+use Rattle.std.specs.Option.{IsSomeAnd, option_map}
 use Rattle.std.proofs.lemmas.Bool.{MatchBool-at_true, MatchBool-at_false, cases_Bool, false≢true}
 use Rattle.trio_rights.specs.Row.{Row}
+use Rattle.trio_rights.specs.declared.rights.LibNo.{LibNo}
 use Rattle.trio_nodes.specs.declared.grant.GrantKind.{GrantKind}
+use Rattle.trio_nodes.specs.declared.answers.GrantFault.{GrantFault}
+use Rattle.trio_nodes.specs.declared.answers.GrantFault.TheVariants.{NotLive, Denied, NoParent, Busy, NoMemory as NoGrantMemory}
+use Rattle.trio_nodes.specs.declared.answers.AllotFault.TheVariants.{NoPages as NoFreePages, NoInodes as NoFreeInodes, NoMemory as NoAllotMemory}
+use Rattle.trio_nodes.specs.declared.answers.ReleaseAnswer.{ReleaseAnswer}
+use Rattle.trio_nodes.specs.declared.answers.ReleaseAnswer.TheVariants.{Accepted as AcceptedParcel, Refused as RefusedParcel}
+use Rattle.trio_nodes.specs.declared.answers.ReleaseFault.TheVariants.{NotClosed as NotClosedParcel, NoMemory as NoReleaseMemory}
+use Rattle.trio_nodes.specs.declared.answers.ModeFault.TheVariants as unmoded
+use Rattle.trio_layout.specs.Image.{Image, IsFit, row_at}
 use Rattle.trio_lease.specs.Shown.{Shown}
-use Rattle.std.proofs.lemmas.List.{append_assoc}
-use Rattle.trio_layout.specs.Image.{row_at}
-use Rattle.trio_state.specs.State.{OpenGrant, State}
+use Rattle.trio_lease.specs.declared.lease.Lease.{Lease}
+use Rattle.trio_lease.specs.declared.lease.Lease.TheVariants.{Hold as HoldLent}
+use Rattle.trio_rights.specs.declared.kind.Kind.TheVariants.{Regular}
+use Rattle.trio_lists.specs.Lists.{In}
+use Rattle.trio_lists.proofs.Members.{In-cases}
+use Rattle.trio_desk.specs.Call.{Ask, Told, Grant, Allot, GiveBack, Release, SetMode, Lent, NotLent, Given, NotGiven, Done, Judged, NotJudged, ModeSet, NotModeSet}
+use Rattle.trio_desk.specs.Calls.{Call}
+use Rattle.trio_state.specs.State.{OpenGrant, State, settled}
+use Rattle.trio_state.specs.Kept.{Kept}
+use Rattle.trio_state.specs.Grants.{opened}
 use Rattle.trio_state.specs.Run.{Move}
 use Rattle.trio_state.specs.Tells.{Why}
-use Rattle.trio_state.specs.Step.{Event, Back, Release, CtlAnswer, Granted, NotGranted, Given, NoPages, NoInodes, Done, Accepted, Refused, NotClosed, Settled, ModeSet, NotModeSet, NoMemory, Step}
+use Rattle.trio_state.specs.Step.{Event, CtlAnswer, Step}
+use Rattle.trio_state.specs.Step as step
 use Rattle.trio_laws.specs.Known.{Known, known, plain_state, refused_rule, SameAnswer}
 use Rattle.trio_laws.proofs.KnownSteps.{known_decides, same_event_same_answer}
-use Rattle.trio_raw.specs.Has.{Has, whole_bundle, is_nothing}
-use Rattle.trio_raw.specs.Held.{with_given}
+use Rattle.trio_ctl.proofs.DeskSteps.{calls_keep}
 use Rattle.trio_ctl.specs.Open.{lent_by}
+use Rattle.trio_ctl.specs.Desk.{Happens, LeaseIs, answer_of, event_of}
+use Rattle.trio_raw.specs.Has.{Has, has_nothing, has_all_of, parcel_named, read_on, nothing, whole_parcel}
+use Rattle.trio_raw.specs.Asked.{back_calls, release_call}
 use Rattle.trio_script.specs.declared.line.RawLine.{RawLine}
-use Rattle.trio_script.specs.declared.line.RawLine.TheVariants.{Grant as GrantLine, Allot as AllotLine, Back as BackLine, Poke, Peek, Release as ReleaseLine}
-use Rattle.trio_script.specs.declared.ScriptLine.{ScriptLine}
+use Rattle.trio_script.specs.declared.line.RawLine.TheVariants.{Grant as GrantLine, Allot as AllotLine, Back as BackLine, Poke, Peek, Release as ReleaseLine, Mode as ModeLine}
+use Rattle.trio_script.specs.declared.ScriptLib.{ScriptLib}
 use Rattle.trio_report.specs.declared.answer.LineAnswer.{LineAnswer}
 use Rattle.trio_report.specs.declared.report.EndAnswer.{EndAnswer}
-use Rattle.trio_runner.specs.Play.{Player, PlaysLine, Plays, GivesBack, EndsAlone, EndsAll, PlaysRelease, PlaysEnd, without_reads, event_of, told_of, end_of, told_alone, has_alone, has_lent, has_after, at_start}
-use Rattle.trio_runner.specs.PlayLaws.{Stands}
-use Rattle.trio_runner.specs.OnePlay.{PlayedIsOne}
-use Rattle.trio_runner.proofs.Lines.{LineEnd, IsAlone, IsAsked, backs_stand, line_end, line_stands, middle_stands, never_told, reading, start_stands}
+use Rattle.trio_runner.specs.Line.{Alone, Asks, LineComes, EndsAlone, EndsAll, EndComes, ask_of, end_of, has_after, has_alone, told_alone, told_of}
+use Rattle.trio_runner.specs.Rounds.{Placed, Turn, Says, Ends, turns_of}
+use Rattle.trio_runner.specs.Play.{AreMoves, Heard, Played, Players, Plays, TakesTurn, TurnComes, at_start, has_of, told_to, untold}
+use Rattle.trio_runner.specs.PlayLaws.{ComeToOne, PlayedIsOne}
+use Rattle.trio_runner.specs.inner.Ready.{IsHeld}
+use Rattle.trio_runner.proofs.Moves.{Stands, moves_parted, moves_stand, no_move, one_move}
+use Rattle.trio_runner.proofs.Held.{held_stands, same_creds}
+use Rattle.trio_runner.proofs.EndFree.{start_held}
 
--- of two players the same is known, and the library has the same
-record Alike (p q : Player) : Type 0 where
-  known_same : known p.state ≡ known q.state
-  has_same : p.has ≡ q.has
+-- ---- answers
+
+-- two answers are the same, but for the file and the place that a refusal names
+data Alike : Told → Told → Type 0 where
+  Same : (told : Told) → Alike told told
+  BothRefused : (rule ino page slot ino' page' slot' : ℕ) → Alike (Judged (RefusedParcel rule ino page slot)) (Judged (RefusedParcel rule ino' page' slot'))
+
+-- what is told of alike answers is the same
+told_alike : (said : RawLine) (a b : Told) → Alike a b → told_of said a ≡ told_of said b
+told_alike said a b (Same told) = refl
+told_alike (GrantLine ino kind) a b (BothRefused rule i p s i' p' s') = refl
+told_alike (AllotLine wanted many) a b (BothRefused rule i p s i' p' s') = refl
+told_alike (BackLine ino) a b (BothRefused rule i p s i' p' s') = refl
+told_alike (Poke at offset bytes) a b (BothRefused rule i p s i' p' s') = refl
+told_alike (Peek at offset len) a b (BothRefused rule i p s i' p' s') = refl
+told_alike (ReleaseLine inos pages numbers) a b (BothRefused rule i p s i' p' s') = refl
+told_alike (ModeLine ino mode) a b (BothRefused rule i p s i' p' s') = refl
+
+has_alike : (lib : LibNo) (has : Has) (said : RawLine) (a b : Told) → Alike a b → has_after lib has said a ≡ has_after lib has said b
+has_alike lib has said a b (Same told) = refl
+has_alike lib has (GrantLine ino kind) a b (BothRefused rule i p s i' p' s') = refl
+has_alike lib has (AllotLine wanted many) a b (BothRefused rule i p s i' p' s') = refl
+has_alike lib has (BackLine ino) a b (BothRefused rule i p s i' p' s') = refl
+has_alike lib has (Poke at offset bytes) a b (BothRefused rule i p s i' p' s') = refl
+has_alike lib has (Peek at offset len) a b (BothRefused rule i p s i' p' s') = refl
+has_alike lib has (ReleaseLine inos pages numbers) a b (BothRefused rule i p s i' p' s') = refl
+has_alike lib has (ModeLine ino mode) a b (BothRefused rule i p s i' p' s') = refl
+
+-- the answer of a desk, by that of the controller, where it isn't want of memory; a lease is told beside it
+abbrev from : Lease → CtlAnswer → Told
+from lease (step.Granted children) = Lent lease
+from lease (step.NotGranted fault) = NotLent fault
+from lease (step.Given pages numbers) = Given pages numbers
+from lease (step.NoPages wanted free) = NotGiven (NoFreePages wanted free)
+from lease (step.NoInodes wanted free) = NotGiven (NoFreeInodes wanted free)
+from lease step.Done = Done
+from lease step.Accepted = Judged AcceptedParcel
+from lease (step.Refused why) = Judged (RefusedParcel why.rule why.ino why.page why.slot)
+from lease (step.NotClosed ino) = NotJudged (NotClosedParcel ino)
+from lease step.Settled = Done
+from lease step.ModeSet = ModeSet
+from lease (step.NotModeSet fault) = NotModeSet fault
+from lease step.NoMemory = Done
+
+-- an answer that isn't want of memory, and that lends this if it lends something, is told so
+abbrev Lends : Lease → Told → Type 0
+Lends lease (Lent l) = l ≡ lease
+Lends lease _ = Unit {0}
+
+told_from : (lease : Lease) (told : Told) → Lends lease told → answer_of told ≢ step.NoMemory → told ≡ from lease (answer_of told)
+told_from lease (Lent l) is some = ap Lent is
+told_from lease (NotLent NotLive) is some = refl
+told_from lease (NotLent (Denied n)) is some = refl
+told_from lease (NotLent NoParent) is some = refl
+told_from lease (NotLent (Busy h)) is some = refl
+told_from lease (NotLent NoGrantMemory) is some = absurd (some refl)
+told_from lease (Given pages numbers) is some = refl
+told_from lease (NotGiven (NoFreePages wanted free)) is some = refl
+told_from lease (NotGiven (NoFreeInodes wanted free)) is some = refl
+told_from lease (NotGiven NoAllotMemory) is some = absurd (some refl)
+told_from lease Done is some = refl
+told_from lease (Judged AcceptedParcel) is some = refl
+told_from lease (Judged (RefusedParcel rule ino page slot)) is some = refl
+told_from lease (NotJudged (NotClosedParcel n)) is some = refl
+told_from lease (NotJudged NoReleaseMemory) is some = absurd (some refl)
+told_from lease ModeSet is some = refl
+told_from lease (NotModeSet unmoded.NotLive) is some = refl
+told_from lease (NotModeSet unmoded.NotOwner) is some = refl
+told_from lease (NotModeSet unmoded.BadMode) is some = refl
+told_from lease (NotModeSet (unmoded.Busy h)) is some = refl
+told_from lease (NotModeSet unmoded.NoMemory) is some = absurd (some refl)
 
 -- a refusal has a cause
-refusal_why : (a : CtlAnswer) (rule : ℕ) → refused_rule a ≡ Some rule → (why : Why) × (a ≡ Refused why) × (why.rule ≡ rule)
-refusal_why (Refused why) rule e = (why, refl, cc e)
-refusal_why (Granted children) rule e = absurd (cc e)
-refusal_why (NotGranted fault) rule e = absurd (cc e)
-refusal_why (Given pages numbers) rule e = absurd (cc e)
-refusal_why (NoPages wanted free) rule e = absurd (cc e)
-refusal_why (NoInodes wanted free) rule e = absurd (cc e)
-refusal_why Done rule e = absurd (cc e)
-refusal_why Accepted rule e = absurd (cc e)
-refusal_why (NotClosed ino) rule e = absurd (cc e)
-refusal_why Settled rule e = absurd (cc e)
-refusal_why ModeSet rule e = absurd (cc e)
-refusal_why (NotModeSet fault) rule e = absurd (cc e)
-refusal_why NoMemory rule e = absurd (cc e)
+refusal_why : (a : CtlAnswer) (rule : ℕ) → refused_rule a ≡ Some rule → (why : Why) × (a ≡ step.Refused why) × (why.rule ≡ rule)
+refusal_why (step.Refused why) rule e = (why, refl, cc e)
+refusal_why (step.Granted children) rule e = absurd (cc e)
+refusal_why (step.NotGranted fault) rule e = absurd (cc e)
+refusal_why (step.Given pages numbers) rule e = absurd (cc e)
+refusal_why (step.NoPages wanted free) rule e = absurd (cc e)
+refusal_why (step.NoInodes wanted free) rule e = absurd (cc e)
+refusal_why step.Done rule e = absurd (cc e)
+refusal_why step.Accepted rule e = absurd (cc e)
+refusal_why (step.NotClosed ino) rule e = absurd (cc e)
+refusal_why step.Settled rule e = absurd (cc e)
+refusal_why step.ModeSet rule e = absurd (cc e)
+refusal_why (step.NotModeSet fault) rule e = absurd (cc e)
+refusal_why step.NoMemory rule e = absurd (cc e)
 
--- what goes by an answer, but for the place that a refusal names, is the same for two that are the same but for that
-by_answer : {X : Type 0} (f : CtlAnswer → X)
-    → ((why why' : Why) → why.rule ≡ why'.rule → f (Refused why) ≡ f (Refused why'))
-    → (a b : CtlAnswer) → SameAnswer a b → f a ≡ f b
-by_answer f same a b (inl e) = ap f e
-by_answer f same a b (inr r) =
+from_alike : (lease : Lease) (a b : CtlAnswer) → SameAnswer a b → Alike (from lease a) (from lease b)
+from_alike lease a b (inl e) = subst (λ x. Alike (from lease a) (from lease x)) e (Same (from lease a))
+from_alike lease a b (inr r) =
     let x = refusal_why a r.0 r.1 in
     let y = refusal_why b r.0 r.2 in
-    ap f x.1 ∙ same x.0 y.0 (x.2 ∙ sym y.2) ∙ sym (ap f y.1)
+    let rules : y.0.rule ≡ x.0.rule = y.2 ∙ sym x.2 in
+    let both : Alike (from lease (step.Refused x.0)) (from lease (step.Refused y.0)) =
+    subst (λ n. Alike (from lease (step.Refused x.0)) (Judged (RefusedParcel n y.0.ino y.0.page y.0.slot))) (sym rules)
+    (BothRefused x.0.rule x.0.ino x.0.page x.0.slot y.0.ino y.0.page y.0.slot) in
+    subst (λ c. Alike (from lease c) (from lease b)) (sym x.1) (subst (λ c. Alike (from lease (step.Refused x.0)) (from lease c)) (sym y.1) both)
 
-has_after-refused : (lib : ℕ) (s : State) (has : Has) (said : RawLine) (why why' : Why)
-    → has_after lib s has said (Refused why) ≡ has_after lib s has said (Refused why')
-has_after-refused lib s has (GrantLine ino kind) why why' = refl
-has_after-refused lib s has (BackLine ino) why why' = refl
-has_after-refused lib s has (Peek at offset len) why why' = refl
-has_after-refused lib s has (AllotLine pages numbers) why why' = refl
-has_after-refused lib s has (Poke at offset bytes) why why' = refl
-has_after-refused lib s has (ReleaseLine inos pages numbers) why why' = refl
+-- two answers that lend the same and are the same to the controller are alike
+answers_alike : (lease : Lease) (a b : Told) → Lends lease a → Lends lease b → answer_of a ≢ step.NoMemory → answer_of b ≢ step.NoMemory → SameAnswer (answer_of a) (answer_of b) → Alike a b
+answers_alike lease a b la lb some_a some_b same =
+    subst (λ x. Alike x b) (sym (told_from lease a la some_a))
+    (subst (λ x. Alike (from lease (answer_of a)) x) (sym (told_from lease b lb some_b)) (from_alike lease (answer_of a) (answer_of b) same))
 
--- what is told is no want of memory
-told_some : (said : RawLine) (a : CtlAnswer) (told : LineAnswer) → told_of said a ≡ Some told → a ≢ NoMemory
-told_some said a told is e = (let wrong : None ≡ Some told = sym (never_told said) ∙ sym (ap (told_of said) e) ∙ is in cc wrong)
+-- ---- lines
 
-end_some : (a : CtlAnswer) (end : EndAnswer) → end_of a ≡ Some end → a ≢ NoMemory
-end_some a end is e = (let wrong : None ≡ Some end = sym (ap end_of e) ∙ is in cc wrong)
+-- want of memory is told to no line
+no_grant_memory : (said : RawLine) → told_of said (NotLent NoGrantMemory) ≡ None
+no_grant_memory (GrantLine ino kind) = refl
+no_grant_memory (AllotLine wanted many) = refl
+no_grant_memory (BackLine ino) = refl
+no_grant_memory (Poke at offset bytes) = refl
+no_grant_memory (Peek at offset len) = refl
+no_grant_memory (ReleaseLine inos pages numbers) = refl
+no_grant_memory (ModeLine ino mode) = refl
 
--- what a grant lends goes by what is known
-has_lent_plain : (lib : ℕ) (s : State) (has : Has) (ino : ℕ) (kind : GrantKind) (o : Option Row)
-    → has_lent lib (plain_state (known s)) has ino kind o ≡ has_lent lib s has ino kind o
-has_lent_plain lib s has ino kind None = refl
-has_lent_plain lib s has ino kind (Some r) = ap (λ (g : OpenGrant). with_given has (lent_by g))
-    ((known_decides s).openings lib ino kind r)
+no_allot_memory : (said : RawLine) → told_of said (NotGiven NoAllotMemory) ≡ None
+no_allot_memory (GrantLine ino kind) = refl
+no_allot_memory (AllotLine wanted many) = refl
+no_allot_memory (BackLine ino) = refl
+no_allot_memory (Poke at offset bytes) = refl
+no_allot_memory (Peek at offset len) = refl
+no_allot_memory (ReleaseLine inos pages numbers) = refl
+no_allot_memory (ModeLine ino mode) = refl
 
-has_after_plain : (lib : ℕ) (s : State) (has : Has) (said : RawLine) (a : CtlAnswer)
-    → has_after lib (plain_state (known s)) has said a ≡ has_after lib s has said a
-has_after_plain lib s has (AllotLine pages numbers) a = refl
-has_after_plain lib s has (BackLine ino) a = refl
-has_after_plain lib s has (Poke at offset bytes) a = refl
-has_after_plain lib s has (Peek at offset len) a = refl
-has_after_plain lib s has (ReleaseLine inos pages numbers) a = refl
-has_after_plain lib s has (GrantLine ino kind) (Granted children) = has_lent_plain lib s has ino kind (row_at s.home ino)
-has_after_plain lib s has (GrantLine ino kind) (Refused why) = refl
-has_after_plain lib s has (GrantLine ino kind) (NotGranted fault) = refl
-has_after_plain lib s has (GrantLine ino kind) (Given pages numbers) = refl
-has_after_plain lib s has (GrantLine ino kind) (NoPages wanted free) = refl
-has_after_plain lib s has (GrantLine ino kind) (NoInodes wanted free) = refl
-has_after_plain lib s has (GrantLine ino kind) Done = refl
-has_after_plain lib s has (GrantLine ino kind) Accepted = refl
-has_after_plain lib s has (GrantLine ino kind) (NotClosed n) = refl
-has_after_plain lib s has (GrantLine ino kind) Settled = refl
-has_after_plain lib s has (GrantLine ino kind) ModeSet = refl
-has_after_plain lib s has (GrantLine ino kind) (NotModeSet fault) = refl
-has_after_plain lib s has (GrantLine ino kind) NoMemory = refl
+no_release_memory : (said : RawLine) → told_of said (NotJudged NoReleaseMemory) ≡ None
+no_release_memory (GrantLine ino kind) = refl
+no_release_memory (AllotLine wanted many) = refl
+no_release_memory (BackLine ino) = refl
+no_release_memory (Poke at offset bytes) = refl
+no_release_memory (Peek at offset len) = refl
+no_release_memory (ReleaseLine inos pages numbers) = refl
+no_release_memory (ModeLine ino mode) = refl
 
-has_after_same : (lib : ℕ) (p q : Player) (said : RawLine) (a b : CtlAnswer) → Alike p q → SameAnswer a b
-    → has_after lib p.state p.has said a ≡ has_after lib q.state q.has said b
-has_after_same lib p q said a b like e =
-    sym (has_after_plain lib p.state p.has said a)
-    ∙ ap (λ k. has_after lib (plain_state k) p.has said a) like.known_same
-    ∙ has_after_plain lib q.state p.has said a
-    ∙ ap (λ h. has_after lib q.state h said a) like.has_same
-    ∙ by_answer (has_after lib q.state q.has said) (λ why why' same. has_after-refused lib q.state q.has said why why') a b e
+no_mode_memory : (said : RawLine) → told_of said (NotModeSet unmoded.NoMemory) ≡ None
+no_mode_memory (GrantLine ino kind) = refl
+no_mode_memory (AllotLine wanted many) = refl
+no_mode_memory (BackLine ino) = refl
+no_mode_memory (Poke at offset bytes) = refl
+no_mode_memory (Peek at offset len) = refl
+no_mode_memory (ReleaseLine inos pages numbers) = refl
+no_mode_memory (ModeLine ino mode) = refl
 
--- a refusal is told by its rule
-told_rule : (said : RawLine) (why why' : Why) → why.rule ≡ why'.rule → told_of said (Refused why) ≡ told_of said (Refused why')
-told_rule (ReleaseLine inos pages numbers) why why' e = ap (λ rule. Some (LineAnswer.Refused rule)) e
-told_rule (GrantLine ino kind) why why' e = refl
-told_rule (AllotLine wanted many) why why' e = refl
-told_rule (BackLine ino) why why' e = refl
-told_rule (Poke at offset bytes) why why' e = refl
-told_rule (Peek at offset len) why why' e = refl
+told_some : (said : RawLine) (a : Told) (told : LineAnswer) → told_of said a ≡ Some told → answer_of a ≢ step.NoMemory
+told_some said (Lent l) told is e = absurd (cc e)
+told_some said (NotLent NotLive) told is e = absurd (cc e)
+told_some said (NotLent (Denied n)) told is e = absurd (cc e)
+told_some said (NotLent NoParent) told is e = absurd (cc e)
+told_some said (NotLent (Busy h)) told is e = absurd (cc e)
+told_some said (Given ps ns) told is e = absurd (cc e)
+told_some said (NotGiven (NoFreePages wanted free)) told is e = absurd (cc e)
+told_some said (NotGiven (NoFreeInodes wanted free)) told is e = absurd (cc e)
+told_some said Done told is e = absurd (cc e)
+told_some said (Judged AcceptedParcel) told is e = absurd (cc e)
+told_some said (Judged (RefusedParcel rule ino page slot)) told is e = absurd (cc e)
+told_some said (NotJudged (NotClosedParcel n)) told is e = absurd (cc e)
+told_some said ModeSet told is e = absurd (cc e)
+told_some said (NotModeSet unmoded.NotLive) told is e = absurd (cc e)
+told_some said (NotModeSet unmoded.NotOwner) told is e = absurd (cc e)
+told_some said (NotModeSet unmoded.BadMode) told is e = absurd (cc e)
+told_some said (NotModeSet (unmoded.Busy h)) told is e = absurd (cc e)
+told_some said (NotLent NoGrantMemory) told is e = (let wrong : None ≡ Some told = sym (no_grant_memory said) ∙ is in absurd (cc wrong))
+told_some said (NotGiven NoAllotMemory) told is e = (let wrong : None ≡ Some told = sym (no_allot_memory said) ∙ is in absurd (cc wrong))
+told_some said (NotJudged NoReleaseMemory) told is e = (let wrong : None ≡ Some told = sym (no_release_memory said) ∙ is in absurd (cc wrong))
+told_some said (NotModeSet unmoded.NoMemory) told is e = (let wrong : None ≡ Some told = sym (no_mode_memory said) ∙ is in absurd (cc wrong))
 
--- a line
-record OneLine (told told' : LineAnswer) (p' q' : Player) : Type 0 where
-  one_told : told ≡ told'
-  alike : Alike p' q'
+-- some lease
+no_lease : Lease
+no_lease = HoldLent (record { lib = record { 0 = 0 }; ino = 0; kind = Regular; entry = 0; parent = 0; body = []; children = 0 })
 
-one_line : (lib : ℕ) (p q : Player) (said : RawLine) (told told' : LineAnswer) (moves moves' : List Move) (p' q' : Player)
-    → Stands lib p → Stands lib q → Alike p q → PlaysLine lib p said told moves p'
-    → PlaysLine lib q said told' moves' q' → OneLine told told' p' q'
-one_line lib p q said told told' moves moves' p' q' h k like one two =
-    by_ends (line_end lib p said told moves p' h.in_hand one) (line_end lib q said told' moves' q' k.in_hand two)
+abbrev is_grant : RawLine → Bool
+is_grant (GrantLine ino kind) = true
+is_grant _ = false
+
+-- a line but one for a grant is lent nothing
+lent_none : (said : RawLine) (a : Told) (told : LineAnswer) → is_grant said ≡ false → told_of said a ≡ Some told → Lends no_lease a
+lent_none (GrantLine ino kind) (Lent l) told f is = absurd (false≢true (sym f))
+lent_none (AllotLine wanted many) (Lent l) told f is = absurd (cc is)
+lent_none (BackLine ino) (Lent l) told f is = absurd (cc is)
+lent_none (Poke at offset bytes) (Lent l) told f is = absurd (cc is)
+lent_none (Peek at offset len) (Lent l) told f is = absurd (cc is)
+lent_none (ReleaseLine inos pages numbers) (Lent l) told f is = absurd (cc is)
+lent_none (ModeLine ino mode) (Lent l) told f is = absurd (cc is)
+lent_none said (NotLent fault) told f is = tt
+lent_none said (Given ps ns) told f is = tt
+lent_none said (NotGiven fault) told f is = tt
+lent_none said Done told f is = tt
+lent_none said (Judged answer) told f is = tt
+lent_none said (NotJudged fault) told f is = tt
+lent_none said ModeSet told f is = tt
+lent_none said (NotModeSet fault) told f is = tt
+
+-- the lease that is told
+abbrev lease_in : Told → Lease
+lease_in (Lent l) = l
+lease_in _ = no_lease
+
+lends_own : (a : Told) → Lends (lease_in a) a
+lends_own (Lent l) = refl
+lends_own (NotLent fault) = tt
+lends_own (Given ps ns) = tt
+lends_own (NotGiven fault) = tt
+lends_own Done = tt
+lends_own (Judged answer) = tt
+lends_own (NotJudged fault) = tt
+lends_own ModeSet = tt
+lends_own (NotModeSet fault) = tt
+
+module _ (s t : State) (lib : LibNo) (same : known s ≡ known t) where
+  -- a grant lends the same from both
+  opened_same : (ino : ℕ) (kind : GrantKind) (r : Row) → opened s lib.0 ino kind r ≡ opened t lib.0 ino kind r
+  opened_same ino kind r =
+      sym ((known_decides s).openings lib.0 ino kind r) ∙ ap (λ k. opened (plain_state k) lib.0 ino kind r) same
+      ∙ (known_decides t).openings lib.0 ino kind r
+
+  row_same : (ino : ℕ) → row_at s.home ino ≡ row_at t.home ino
+  row_same ino = ap (λ (k : Known). row_at k.image ino) same
+
+  lease_same : (ino : ℕ) (kind : GrantKind) (a b : Lease) → LeaseIs s lib (Grant ino kind) (Lent a) → LeaseIs t lib (Grant ino kind) (Lent b) → a ≡ b
+  lease_same ino kind a b is js =
+      by (row_at s.home ino) is (subst (λ o. IsSomeAnd o (λ r. b ≡ lent_by (opened t lib.0 ino kind r))) (sym (row_same ino)) js)
+    where
+      by : (o : Option Row) → IsSomeAnd o (λ r. a ≡ lent_by (opened s lib.0 ino kind r)) → IsSomeAnd o (λ r. b ≡ lent_by (opened t lib.0 ino kind r)) → a ≡ b
+      by None is js = absurd is
+      by (Some r) is js = is ∙ ap lent_by (opened_same ino kind r) ∙ sym js
+
+  lends_same : (ino : ℕ) (kind : GrantKind) (a b : Told) → LeaseIs s lib (Grant ino kind) a → LeaseIs t lib (Grant ino kind) b → (l : Lease) × Lends l a × Lends l b
+  lends_same ino kind (Lent l) (Lent m) is js = (l, refl, sym (lease_same ino kind l m is js))
+  lends_same ino kind (Lent l) (NotLent fault) is js = (l, refl, tt)
+  lends_same ino kind (Lent l) (Given ps ns) is js = (l, refl, tt)
+  lends_same ino kind (Lent l) (NotGiven fault) is js = (l, refl, tt)
+  lends_same ino kind (Lent l) Done is js = (l, refl, tt)
+  lends_same ino kind (Lent l) (Judged answer) is js = (l, refl, tt)
+  lends_same ino kind (Lent l) (NotJudged fault) is js = (l, refl, tt)
+  lends_same ino kind (Lent l) ModeSet is js = (l, refl, tt)
+  lends_same ino kind (Lent l) (NotModeSet fault) is js = (l, refl, tt)
+  lends_same ino kind (NotLent fault) b is js = (lease_in b, tt, lends_own b)
+  lends_same ino kind (Given ps ns) b is js = (lease_in b, tt, lends_own b)
+  lends_same ino kind (NotGiven fault) b is js = (lease_in b, tt, lends_own b)
+  lends_same ino kind Done b is js = (lease_in b, tt, lends_own b)
+  lends_same ino kind (Judged answer) b is js = (lease_in b, tt, lends_own b)
+  lends_same ino kind (NotJudged fault) b is js = (lease_in b, tt, lends_own b)
+  lends_same ino kind ModeSet b is js = (lease_in b, tt, lends_own b)
+  lends_same ino kind (NotModeSet fault) b is js = (lease_in b, tt, lends_own b)
+
+  alike_line : (has : Has) (said : RawLine) (ask : Ask) (a b : Told) (told told' : LineAnswer) → ask_of has said ≡ Some ask → told_of said a ≡ Some told → told_of said b ≡ Some told' → LeaseIs s lib ask a → LeaseIs t lib ask b → SameAnswer (answer_of a) (answer_of b) → Alike a b
+  alike_line has (GrantLine ino kind) ask a b told told' e ta tb la lb one =
+      let is : Grant ino kind ≡ ask = cc e in
+      let lends = lends_same ino kind a b (subst (λ x. LeaseIs s lib x a) (sym is) la) (subst (λ x. LeaseIs t lib x b) (sym is) lb) in
+      answers_alike lends.0 a b lends.1 lends.2 (told_some (GrantLine ino kind) a told ta) (told_some (GrantLine ino kind) b told' tb) one
+  alike_line has (AllotLine wanted many) ask a b told told' e ta tb la lb one =
+      answers_alike no_lease a b (lent_none (AllotLine wanted many) a told refl ta) (lent_none (AllotLine wanted many) b told' refl tb) (told_some (AllotLine wanted many) a told ta) (told_some (AllotLine wanted many) b told' tb) one
+  alike_line has (BackLine ino) ask a b told told' e ta tb la lb one =
+      answers_alike no_lease a b (lent_none (BackLine ino) a told refl ta) (lent_none (BackLine ino) b told' refl tb) (told_some (BackLine ino) a told ta) (told_some (BackLine ino) b told' tb) one
+  alike_line has (Poke at offset bytes) ask a b told told' e ta tb la lb one =
+      answers_alike no_lease a b (lent_none (Poke at offset bytes) a told refl ta) (lent_none (Poke at offset bytes) b told' refl tb) (told_some (Poke at offset bytes) a told ta) (told_some (Poke at offset bytes) b told' tb) one
+  alike_line has (Peek at offset len) ask a b told told' e ta tb la lb one =
+      answers_alike no_lease a b (lent_none (Peek at offset len) a told refl ta) (lent_none (Peek at offset len) b told' refl tb) (told_some (Peek at offset len) a told ta) (told_some (Peek at offset len) b told' tb) one
+  alike_line has (ReleaseLine inos pages numbers) ask a b told told' e ta tb la lb one =
+      answers_alike no_lease a b (lent_none (ReleaseLine inos pages numbers) a told refl ta) (lent_none (ReleaseLine inos pages numbers) b told' refl tb) (told_some (ReleaseLine inos pages numbers) a told ta) (told_some (ReleaseLine inos pages numbers) b told' tb) one
+  alike_line has (ModeLine ino mode) ask a b told told' e ta tb la lb one =
+      answers_alike no_lease a b (lent_none (ModeLine ino mode) a told refl ta) (lent_none (ModeLine ino mode) b told' refl tb) (told_some (ModeLine ino mode) a told ta) (told_some (ModeLine ino mode) b told' tb) one
+
+-- two turns of a library come to the same
+record OneLine (s' t' : State) (has' has'' : Has) (told told' : LineAnswer) : Type 0 where
+  told_same : told ≡ told'
+  has_same : has' ≡ has''
+  known_same : known s' ≡ known t'
+
+one_line : (lib : LibNo) (said : RawLine) (s t : State) (has : Has) (calls calls' : List Call) (moves moves' : List Move) (told told' : LineAnswer) (s' t' : State) (has' has'' : Has) → Kept s → Kept t → known s ≡ known t → LineComes lib has said calls told has' → LineComes lib has said calls' told' has'' → AreMoves lib s calls moves s' → AreMoves lib t calls' moves' t' → OneLine s' t' has' has'' told told'
+one_line lib said s t has calls calls' moves moves' told told' s' t' has' has'' ks kt same one two am bm = by (ask_of has said) refl one two
   where
-    events : event_of lib p.has said ≡ event_of lib q.has said
-    events = ap (λ x. event_of lib x said) like.has_same
-
-    by_ends : LineEnd lib p said told moves p' → LineEnd lib q said told' moves' q' → OneLine told told' p' q'
-    by_ends (IsAlone e a) (IsAlone f b) = record {
-      one_told = a.told_is ∙ ap (λ x. told_alone x said) like.has_same ∙ sym b.told_is;
-      alike = record {
-        known_same = ap known a.state ∙ like.known_same ∙ sym (ap known b.state);
-        has_same = a.has ∙ ap (λ x. has_alone x said) like.has_same ∙ sym b.has;
-      };
+    by : (o : Option Ask) → ask_of has said ≡ o → MatchOption o (Alone has said calls told has') (λ ask. Asks lib has said ask calls told has') → MatchOption o (Alone has said calls' told' has'') (λ ask. Asks lib has said ask calls' told' has'') → OneLine s' t' has' has'' told told'
+    by None e a b = record {
+      told_same = a.told_is ∙ sym b.told_is;
+      has_same = a.has_is ∙ sym b.has_is;
+      known_same = ap known (no_move lib s moves s' (subst (λ (l : List Call). AreMoves lib s l moves s') a.calls_are am)) ∙ same
+          ∙ sym (ap known (no_move lib t moves' t' (subst (λ (l : List Call). AreMoves lib t l moves' t') b.calls_are bm)));
     }
-    by_ends (IsAlone e a) (IsAsked event f given b) =
-        (let wrong : None ≡ Some event = sym e ∙ events ∙ f in absurd (cc wrong))
-    by_ends (IsAsked event e given a) (IsAlone f b) =
-        (let wrong : Some event ≡ None = sym e ∙ events ∙ f in absurd (cc wrong))
-    by_ends (IsAsked event e given a) (IsAsked event' f given' b) =
-        let same : Some event' ≡ Some event = sym f ∙ sym events ∙ e in
-        let one_event : event' ≡ event = cc same in
-        let step : Step q.state event b.answer q'.state =
-        subst (λ x. Step q.state x b.answer q'.state) one_event b.step in
-        let r = same_event_same_answer p.state q.state event a.answer b.answer p'.state q'.state h.kept k.kept
-        like.known_same a.step step (told_some said a.answer told a.told_is) (told_some said b.answer told' b.told_is) in
-        let tolds : Some told ≡ Some told' =
-        sym a.told_is ∙ by_answer (told_of said) (told_rule said) a.answer b.answer r.0 ∙ b.told_is in
-        record {
-          one_told = cc tolds;
-          alike = record {
-            known_same = r.1;
-            has_same = a.has
-                ∙ has_after_same lib p q said a.answer b.answer like r.0 ∙ sym b.has;
-          };
-        }
+    by (Some ask) e a b =
+        let ha = one_move lib s (record { ask = ask; told = a.answer }) moves s' (subst (λ (l : List Call). AreMoves lib s l moves s') a.calls_are am) in
+        let hb = one_move lib t (record { ask = ask; told = b.answer }) moves' t' (subst (λ (l : List Call). AreMoves lib t l moves' t') b.calls_are bm) in
+        let r = same_event_same_answer s t (event_of lib ask) (answer_of a.answer) (answer_of b.answer) s' t' ks kt same ha.is_step hb.is_step
+        (told_some said a.answer told a.told_is) (told_some said b.answer told' b.told_is) in
+        let alike = alike_line s t lib same has said ask a.answer b.answer told told' e a.told_is b.told_is ha.lease hb.lease r.0 in
+        let tolds : Some told ≡ Some told' = sym a.told_is ∙ told_alike said a.answer b.answer alike ∙ b.told_is in
+        record { told_same = cc tolds; has_same = a.has_is ∙ has_alike lib has said a.answer b.answer alike ∙ sym b.has_is; known_same = r.1 }
 
--- lines, one after another
-record OnePart (lib : ℕ) (tolds tolds' : List LineAnswer) (p' q' : Player) : Type 0 where
-  one_told : tolds ≡ tolds'
-  alike : Alike p' q'
-  stands : Stands lib p'
-  stands' : Stands lib q'
+-- ---- ends
 
-one_part : (lib : ℕ) (p q : Player) (lines : List ScriptLine) (tolds tolds' : List LineAnswer) (moves moves' : List Move)
-    (p' q' : Player) → Stands lib p → Stands lib q → Alike p q → Plays lib p lines tolds moves p'
-    → Plays lib q lines tolds' moves' q' → OnePart lib tolds tolds' p' q'
-one_part lib p q [] [] [] moves moves' p' q' h k like one two = record {
-  one_told = refl;
-  alike = record {
-    known_same = ap (λ (x : Player). known x.state) one.1 ∙ like.known_same
-        ∙ sym (ap (λ (x : Player). known x.state) two.1);
-    has_same = ap (λ (x : Player). x.has) one.1 ∙ like.has_same ∙ sym (ap (λ (x : Player). x.has) two.1);
-  };
-  stands = subst (Stands lib) (sym one.1) h;
-  stands' = subst (Stands lib) (sym two.1) k;
-}
-one_part lib p q [] [] (u ∷ us) moves moves' p' q' h k like one two = absurd two
-one_part lib p q [] (t ∷ ts) tolds' moves moves' p' q' h k like one two = absurd one
-one_part lib p q (l ∷ lines) [] tolds' moves moves' p' q' h k like one two = absurd one
-one_part lib p q (l ∷ lines) (t ∷ ts) [] moves moves' p' q' h k like one two = absurd two
-one_part lib p q (l ∷ lines) (t ∷ ts) (u ∷ us) moves moves' p' q' h k like one two =
-    let first = one_line lib p q l.line t u one.first two.first one.middle two.middle h k like one.line two.line in
-    let rest =
-    one_part lib one.middle two.middle lines ts us one.others two.others p' q'
-    (line_stands lib p l.line t one.first one.middle h one.line)
-    (line_stands lib q l.line u two.first two.middle k two.line) first.alike one.rest two.rest in
-    record {
-      one_told = ap (λ x. x ∷ ts) first.one_told ∙ ap (λ l. u ∷ l) rest.one_told;
-      alike = rest.alike;
-      stands = rest.stands;
-      stands' = rest.stands';
-    }
+-- the same calls, none of which is answered by want of memory
+calls_known : (lib : LibNo) (calls : List Call) (s t : State) (moves moves' : List Move) (s' t' : State) → ((c : Call) → In c calls → answer_of c.told ≢ step.NoMemory) → Stands s → Stands t → known s ≡ known t → AreMoves lib s calls moves s' → AreMoves lib t calls moves' t' → known s' ≡ known t'
+calls_known lib [] s t moves moves' s' t' some hs ht same am bm = ap known (no_move lib s moves s' am) ∙ same ∙ sym (ap known (no_move lib t moves' t' bm))
+calls_known lib (c ∷ calls) s t [] moves' s' t' some hs ht same am bm = absurd am
+calls_known lib (c ∷ calls) s t (m ∷ moves) [] s' t' some hs ht same am bm = absurd bm
+calls_known lib (c ∷ calls) s t (m ∷ moves) (n ∷ moves') s' t' some hs ht same am bm =
+    let r = same_event_same_answer s t (event_of lib c.ask) (answer_of c.told) (answer_of c.told) m.after n.after hs.kept ht.kept same
+    am.1.is_step bm.1.is_step (some c (inl refl)) (some c (inl refl)) in
+    let ks = calls_keep s lib c.ask c.told m.after hs.kept hs.as_told am.1 in
+    let kt = calls_keep t lib c.ask c.told n.after ht.kept ht.as_told bm.1 in
+    calls_known lib calls m.after n.after moves moves' s' t' (λ x i. some x (inr i)) (record { kept = ks.0; as_told = ks.1 }) (record { kept = kt.0; as_told = kt.1 }) r.1 am.2 bm.2
 
--- the end
-record OneEnd (end end' : EndAnswer) (p' q' : Player) : Type 0 where
-  one_end : end ≡ end'
-  known_same : known p'.state ≡ known q'.state
-
--- the end, by whether the library has something
-end_by : (lib : ℕ) (p : Player) (end : EndAnswer) (moves : List Move) (p' : Player) → PlaysRelease lib p end moves p'
-    → ((is_nothing p.has ≡ true) × EndsAlone p end moves p') ⊎ ((is_nothing p.has ≡ false) × EndsAll lib p end moves p')
-end_by lib p end moves p' plays =
-    let Yes : Type 0 = EndsAlone p end moves p' in
-    let No : Type 0 = EndsAll lib p end moves p' in
-    elim (cases_Bool (is_nothing p.has)) [
-      | inl t ↦ inl (t, MatchBool-at_true Yes No t plays)
-      | inr f ↦ inr (f, MatchBool-at_false Yes No f plays)
+backs_done : (rs : List Shown) (c : Call) → In c (back_calls rs) → answer_of c.told ≢ step.NoMemory
+backs_done [] c i = absurd i
+backs_done (r ∷ rs) c i =
+    elim (In-cases c (back_calls rs) (record { ask = GiveBack r; told = Done } ∷ []) i) [
+      | inl j ↦ backs_done rs c j
+      | inr j ↦ elim j [
+        | inl e ↦ (λ wrong. (let w : step.Done ≡ step.NoMemory = ap (λ (x : Call). answer_of x.told) (sym e) ∙ wrong in absurd (cc w)))
+        | inr none ↦ absurd none
+      ]
     ]
 
-one_end_of : (lib : ℕ) (p q : Player) (end end' : EndAnswer) (moves moves' : List Move) (p' q' : Player)
-    → Stands lib p → Stands lib q → Alike p q → EndsAll lib p end moves p' → EndsAll lib q end' moves' q'
-    → OneEnd end end' p' q'
-one_end_of lib p q end end' moves moves' p' q' h k like a b =
-    let event : Event = Release lib (whole_bundle p.has) in
-    let step : Step q.state event b.answer q'.state =
-    subst (λ x. Step q.state (Release lib (whole_bundle x)) b.answer q'.state) (sym like.has_same) b.step in
-    let r = same_event_same_answer p.state q.state event a.answer b.answer p'.state q'.state h.kept k.kept
-    like.known_same a.step step (end_some a.answer end a.end_is) (end_some b.answer end' b.end_is) in
-    let ends : Some end ≡ Some end' = sym a.end_is
-    ∙ by_answer end_of (λ why why' e. ap (λ rule. Some (EndAnswer.Refused rule)) e) a.answer b.answer r.0 ∙ b.end_is in
-    record { one_end = cc ends; known_same = r.1 }
+judged_some : (x : ReleaseAnswer) → answer_of (Judged x) ≢ step.NoMemory
+judged_some AcceptedParcel e = absurd (cc e)
+judged_some (RefusedParcel rule ino page slot) e = absurd (cc e)
 
-one_release : (lib : ℕ) (p q : Player) (end end' : EndAnswer) (moves moves' : List Move) (p' q' : Player) → Stands lib p
-    → Stands lib q → Alike p q → PlaysRelease lib p end moves p' → PlaysRelease lib q end' moves' q' → OneEnd end end' p' q'
-one_release lib p q end end' moves moves' p' q' h k like one two =
-    by_ends (end_by lib p end moves p' one) (end_by lib q end' moves' q' two)
+-- how an end is told
+abbrev end_told : Told → Option EndAnswer
+end_told (Judged x) = Some (end_of x)
+end_told _ = None
+
+end_alike : (a b : Told) → Alike a b → end_told a ≡ end_told b
+end_alike a b (Same told) = refl
+end_alike a b (BothRefused rule i p s i' p' s') = refl
+
+record OneEnd (s' t' : State) (end end' : EndAnswer) : Type 0 where
+  end_same : end ≡ end'
+  known_same : known s' ≡ known t'
+
+one_end : (lib : LibNo) (s t : State) (has : Has) (calls calls' : List Call) (moves moves' : List Move) (end end' : EndAnswer) (s' t' : State) → Stands s → Stands t → known s ≡ known t → EndComes has calls end → EndComes has calls' end' → AreMoves lib s calls moves s' → AreMoves lib t calls' moves' t' → OneEnd s' t' end end'
+one_end lib s t has calls calls' moves moves' end end' s' t' hs ht same one two am bm = by (has_nothing has) one two
   where
-    there : is_nothing p.has ≡ is_nothing q.has
-    there = ap is_nothing like.has_same
-
-    by_ends : ((is_nothing p.has ≡ true) × EndsAlone p end moves p')
-        ⊎ ((is_nothing p.has ≡ false) × EndsAll lib p end moves p')
-        → ((is_nothing q.has ≡ true) × EndsAlone q end' moves' q')
-        ⊎ ((is_nothing q.has ≡ false) × EndsAll lib q end' moves' q') → OneEnd end end' p' q'
-    by_ends (inl a) (inl b) = record {
-      one_end = a.1.end_is ∙ sym b.1.end_is;
-      known_same = ap (λ (x : Player). known x.state) a.1.same ∙ like.known_same
-          ∙ sym (ap (λ (x : Player). known x.state) b.1.same);
+    by : (b : Bool) → MatchBool b (EndsAlone has calls end) (EndsAll has calls end) → MatchBool b (EndsAlone has calls' end') (EndsAll has calls' end') → OneEnd s' t' end end'
+    by true a b = record {
+      end_same = a.end_is ∙ sym b.end_is;
+      known_same = calls_known lib (back_calls has.reads) s t moves moves' s' t' (backs_done has.reads) hs ht same
+          (subst (λ (l : List Call). AreMoves lib s l moves s') a.calls_are am) (subst (λ (l : List Call). AreMoves lib t l moves' t') b.calls_are bm);
     }
-    by_ends (inl a) (inr b) = absurd (false≢true (sym b.0 ∙ sym there ∙ a.0))
-    by_ends (inr a) (inl b) = absurd (false≢true (sym a.0 ∙ there ∙ b.0))
-    by_ends (inr a) (inr b) = one_end_of lib p q end end' moves moves' p' q' h k like a.1 b.1
+    by false a b =
+        let x : Call = release_call has (Judged a.answer) in
+        let y : Call = release_call has (Judged b.answer) in
+        let p = moves_parted lib s (back_calls has.reads) (x ∷ []) moves s' (subst (λ (l : List Call). AreMoves lib s l moves s') a.calls_are am) in
+        let q = moves_parted lib t (back_calls has.reads) (y ∷ []) moves' t' (subst (λ (l : List Call). AreMoves lib t l moves' t') b.calls_are bm) in
+        let hp = moves_stand lib s (back_calls has.reads) p.first_moves p.middle hs p.before in
+        let hq = moves_stand lib t (back_calls has.reads) q.first_moves q.middle ht q.before in
+        let middle = calls_known lib (back_calls has.reads) s t p.first_moves q.first_moves p.middle q.middle (backs_done has.reads) hs ht same p.before q.before in
+        let ha = one_move lib p.middle x p.later_moves s' p.after in
+        let hb = one_move lib q.middle y q.later_moves t' q.after in
+        let r = same_event_same_answer p.middle q.middle (event_of lib x.ask) (answer_of x.told) (answer_of y.told) s' t' hp.kept hq.kept middle ha.is_step hb.is_step (judged_some a.answer) (judged_some b.answer) in
+        let alike : Alike (Judged a.answer) (Judged b.answer) = answers_alike no_lease (Judged a.answer) (Judged b.answer) tt tt (judged_some a.answer) (judged_some b.answer) r.0 in
+        let ends : Some (end_of a.answer) ≡ Some (end_of b.answer) = end_alike (Judged a.answer) (Judged b.answer) alike in
+        record { end_same = a.end_is ∙ cc ends ∙ sym b.end_is; known_same = r.1 }
 
--- read leases that are given back, of two players of whom the same is known
-one_back : (lib : ℕ) (s t : State) (has : Has) (xs rs : List Shown) (moves moves' : List Move) (s' t' : State)
-    → Stands lib (record { state = s; has = reading has (xs ++ rs) }) → Stands lib (record { state = t; has = reading has (xs ++ rs) })
-    → known s ≡ known t → GivesBack lib s rs moves s' → GivesBack lib t rs moves' t' → known s' ≡ known t'
-one_back lib s t has xs [] moves moves' s' t' h k same a b = ap known a.1 ∙ same ∙ sym (ap known b.1)
-one_back lib s t has xs (r ∷ rs) moves moves' s' t' h k same a b =
-    let joined : xs ++ r ∷ rs ≡ (xs ++ r ∷ []) ++ rs = sym (append_assoc xs (r ∷ []) rs) in
-    let h2 = subst (λ l. Stands lib (record { state = s; has = reading has l })) joined h in
-    let k2 = subst (λ l. Stands lib (record { state = t; has = reading has l })) joined k in
-    let before = one_back lib s t has (xs ++ r ∷ []) rs a.earlier b.earlier a.middle b.middle h2 k2 same a.before b.before in
-    let hm = backs_stand lib s has (xs ++ r ∷ []) rs a.earlier a.middle h2 a.before in
-    let km = backs_stand lib t has (xs ++ r ∷ []) rs b.earlier b.middle k2 b.before in
-    (same_event_same_answer a.middle b.middle (Back lib r.ino) Done Done s' t' hm.kept km.kept before a.step b.step (λ e. cc e) (λ e. cc e)).1
+-- ---- turns
 
-one_end : (lib : ℕ) (p q : Player) (end end' : EndAnswer) (moves moves' : List Move) (p' q' : Player) → Stands lib p
-    → Stands lib q → Alike p q → PlaysEnd lib p end moves p' → PlaysEnd lib q end' moves' q' → OneEnd end end' p' q'
-one_end lib p q end end' moves moves' p' q' h k like one two =
-    let same : q.has ≡ p.has = sym like.has_same in
-    let k2 : Stands lib (record { state = q.state; has = p.has }) = subst (λ x. Stands lib (record { state = q.state; has = x })) same k in
-    let backs : GivesBack lib q.state p.has.reads two.backs two.middle = subst (λ (x : Has). GivesBack lib q.state x.reads two.backs two.middle) same two.given_back in
-    let alike = one_back lib p.state q.state p.has [] p.has.reads one.backs two.backs one.middle two.middle h k2 like.known_same one.given_back backs in
-    one_release lib (record { state = one.middle; has = without_reads p.has }) (record { state = two.middle; has = without_reads q.has })
-    end end' one.others two.others p' q' (middle_stands lib p end moves p' h one) (middle_stands lib q end' moves' q' k two)
-    (record { known_same = alike; has_same = ap without_reads like.has_same }) one.release two.release
+record OneTurn (s' t' : State) (has' has'' : Has) (told' told'' : Heard) : Type 0 where
+  told_same : told' ≡ told''
+  has_same : has' ≡ has''
+  known_same : known s' ≡ known t'
+
+one_turn : (lib : LibNo) (turn : Turn) (s t : State) (has : Has) (told : Heard) (calls calls' : List Call) (moves moves' : List Move) (s' t' : State) (has' has'' : Has) (told' told'' : Heard) → Stands s → Stands t → known s ≡ known t → TurnComes lib turn has told calls has' told' → TurnComes lib turn has told calls' has'' told'' → AreMoves lib s calls moves s' → AreMoves lib t calls' moves' t' → OneTurn s' t' has' has'' told' told''
+one_turn lib (Says line) s t has told calls calls' moves moves' s' t' has' has'' told' told'' hs ht same a b am bm =
+    let r = one_line lib line.line s t has calls calls' moves moves' a.0 b.0 s' t' has' has'' hs.kept ht.kept same a.1 b.1 am bm in
+    record {
+      told_same = a.2 ∙ ap (λ (x : LineAnswer). record told { answers = told.answers ++ x ∷ [] }) r.told_same ∙ sym b.2;
+      has_same = r.has_same;
+      known_same = r.known_same;
+    }
+one_turn lib Ends s t has told calls calls' moves moves' s' t' has' has'' told' told'' hs ht same a b am bm =
+    let r = one_end lib s t has calls calls' moves moves' a.0 b.0 s' t' hs ht same a.1 b.1 am bm in
+    record {
+      told_same = a.3 ∙ ap (λ (x : EndAnswer). record told { end = Some x }) r.end_same ∙ sym b.3;
+      has_same = a.2 ∙ sym b.2;
+      known_same = r.known_same;
+    }
+
+-- of two players the same is known, and the libraries have and were told the same
+record AlikePlayers (p q : Players) : Type 0 where
+  known_same : known p.state ≡ known q.state
+  has_same : p.has ≡ q.has
+  told_same : p.told ≡ q.told
+
+one_play : (turns : List Placed) (p q : Players) (moves moves' : List Move) (p' q' : Players) → Stands p.state → Stands q.state → AlikePlayers p q → Plays p turns moves p' → Plays q turns moves' q' → AlikePlayers p' q'
+one_play [] p q moves moves' p' q' hp hq like one two =
+    subst (λ x. AlikePlayers x q') (sym one.1) (subst (AlikePlayers p) (sym two.1) like)
+one_play (u ∷ turns) p q moves moves' p' q' hp hq like one two =
+    let a : TakesTurn p u one.first one.middle = one.takes in
+    let b : TakesTurn q u two.first two.middle = two.takes in
+    let i : ℕ = u.lib.0 - 1 in
+    let has : has_of q u.lib ≡ has_of p u.lib = ap (λ (l : List Has). get_or l i nothing) (sym like.has_same) in
+    let told : told_to q u.lib ≡ told_to p u.lib = ap (λ (l : List Heard). get_or l i untold) (sym like.told_same) in
+    let comes : TurnComes u.lib u.turn (has_of p u.lib) (told_to p u.lib) b.calls b.has' b.told' =
+    subst (λ x. TurnComes u.lib u.turn (has_of p u.lib) x b.calls b.has' b.told') told
+    (subst (λ x. TurnComes u.lib u.turn x (told_to q u.lib) b.calls b.has' b.told') has b.comes) in
+    let r = one_turn u.lib u.turn p.state q.state (has_of p u.lib) (told_to p u.lib) a.calls b.calls one.first two.first one.middle.state two.middle.state
+    a.has' b.has' a.told' b.told' hp hq like.known_same a.comes comes a.happen b.happen in
+    let middle : AlikePlayers one.middle two.middle = record {
+      known_same = r.known_same;
+      has_same = a.has_is ∙ ap (λ (l : List Has). set l i a.has') like.has_same ∙ ap (λ (x : Has). set q.has i x) r.has_same ∙ sym b.has_is;
+      told_same = a.told_is ∙ ap (λ (l : List Heard). set l i a.told') like.told_same ∙ ap (λ (x : Heard). set q.told i x) r.told_same ∙ sym b.told_is;
+    } in
+    one_play turns one.middle two.middle one.others two.others p' q'
+    (moves_stand u.lib p.state a.calls one.first one.middle.state hp a.happen)
+    (moves_stand u.lib q.state b.calls two.first two.middle.state hq b.happen)
+    middle one.rest two.rest
 
 pub played_is_one : PlayedIsOne
-played_is_one image creds lines a b fit verifies whole =
-    let first = at_start image creds in
-    let begins = start_stands image creds fit verifies whole in
-    let part =
-    one_part 1 first first lines a.tolds b.tolds a.line_moves b.line_moves a.middle b.middle begins begins
-    (record { known_same = refl; has_same = refl }) a.lines_are b.lines_are in
-    let last = one_end 1 a.middle b.middle a.end b.end a.end_moves b.end_moves a.last b.last part.stands part.stands'
-    part.alike a.end_is b.end_is in
-    record { tolds = part.one_told; end = last.one_end; settles = ap (λ (k : Known). k.image) last.known_same }
+played_is_one image libs a b fit verifies whole =
+    let stands : Stands (at_start image libs).state = held_stands (at_start image libs) (start_held image libs fit verifies whole) in
+    let r = one_play (turns_of libs) (at_start image libs) (at_start image libs) a.moves b.moves a.last b.last stands stands
+    (record { known_same = refl; has_same = refl; told_same = refl }) a.plays b.plays in
+    record { tolds = r.told_same; settles = ap (λ (k : Known). k.image) r.known_same }

@@ -1,6 +1,5 @@
 -- What a line of a library comes to: what it asks of the library's desk, what it is told, and what the library has then.
-use Rattle.std.specs.Prelude.{◌≡◌, ℕ, ◌==◌, List, [], ◌∷◌, ◌++◌, MatchBool, MatchOption, Option, None, Some, if◌then◌else◌}
-use Rattle.std.specs.List.{find}
+use Rattle.std.specs.Prelude.{◌≡◌, ℕ, List, [], ◌∷◌, ◌++◌, MatchBool, MatchOption, Option, None, Some, if◌then◌else◌}
 use Rattle.std.specs.Option.{is_some, option_map}
 use Rattle.trio_rights.specs.declared.rights.LibNo.{LibNo}
 use Rattle.trio_nodes.specs.declared.grant.GrantKind.{GrantKind}
@@ -15,11 +14,10 @@ use Rattle.trio_nodes.specs.declared.answers.ReleaseFault.{ReleaseFault}
 use Rattle.trio_nodes.specs.declared.answers.ReleaseFault.TheVariants.{NotClosed, NoMemory as NoReleaseMemory}
 use Rattle.trio_nodes.specs.declared.answers.ModeFault.{ModeFault}
 use Rattle.trio_nodes.specs.declared.answers.ModeFault.TheVariants as unmoded
-use Rattle.trio_lease.specs.Shown.{Shown}
 use Rattle.trio_desk.specs.Call.{Ask, Told, Grant, Allot, GiveBack, Release, SetMode, Lent, NotLent, Given, NotGiven, Done, Judged, NotJudged, ModeSet, NotModeSet}
 use Rattle.trio_desk.specs.Calls.{Call}
-use Rattle.trio_raw.specs.Asked.{children_in}
-use Rattle.trio_raw.specs.Has.{Has, nothing, poked, peeked, has_all_of, has_nothing, parcel_named, rest_of, whole_parcel, with_parcel, without_read, keeps_lease, keeps_allotted}
+use Rattle.trio_raw.specs.Asked.{back_calls, children_in, release_call}
+use Rattle.trio_raw.specs.Has.{Has, poked, peeked, has_all_of, has_nothing, parcel_named, rest_of, with_parcel, read_on, without_read, keeps_lease, keeps_allotted}
 use Rattle.trio_script.specs.declared.line.RawLine.{RawLine}
 use Rattle.trio_script.specs.declared.line.RawLine.TheVariants.{Grant as GrantLine, Allot as AllotLine, Back as BackLine, Poke, Peek, Release as ReleaseLine, Mode as ModeLine}
 use Rattle.trio_report.specs.declared.answer.LineAnswer.{LineAnswer}
@@ -34,7 +32,7 @@ abbrev pub ask_of : Has → RawLine → Option Ask
 ask_of has (GrantLine ino kind) = Some (Grant ino kind)
 ask_of has (AllotLine pages numbers) = Some (Allot pages numbers)
 ask_of has (ModeLine ino mode) = Some (SetMode ino mode)
-ask_of has (BackLine ino) = option_map GiveBack (find (λ r. r.ino == ino) has.reads)
+ask_of has (BackLine ino) = option_map GiveBack (read_on has ino)
 ask_of has (ReleaseLine inos pages numbers) =
     if has_all_of has inos pages numbers then Some (Release (parcel_named has inos pages numbers)) else None
 ask_of has (Poke at offset bytes) = None
@@ -146,11 +144,6 @@ LineComes lib has said calls told has' =
 
 -- ---- the end
 
--- these read leases are given back, the last one first
-abbrev pub backs : List Shown → List Call
-backs [] = []
-backs (r ∷ rs) = backs rs ++ record { ask = GiveBack r; told = Done } ∷ []
-
 -- how the verdict on all the rest is told
 abbrev pub end_of : ReleaseAnswer → EndAnswer
 end_of Accepted = EndAccepted
@@ -158,13 +151,13 @@ end_of (Refused rule ino page slot) = EndRefused rule
 
 -- the end of a library that has nothing but read leases
 pub record EndsAlone (has : Has) (calls : List Call) (end : EndAnswer) : Type 0 where
-  pub calls_are : calls ≡ backs has.reads
+  pub calls_are : calls ≡ back_calls has.reads
   pub end_is : end ≡ Nothing
 
 -- the end of a library that has something else: all of it is released in one parcel
 pub record EndsAll (has : Has) (calls : List Call) (end : EndAnswer) : Type 0 where
   pub answer : ReleaseAnswer
-  pub calls_are : calls ≡ backs has.reads ++ record { ask = Release (whole_parcel has); told = Judged answer } ∷ []
+  pub calls_are : calls ≡ back_calls has.reads ++ release_call has (Judged answer) ∷ []
   pub end_is : end ≡ end_of answer
 
 -- what a library's end comes to: its read leases are given back, and then all the rest is released; it has nothing then

@@ -1,11 +1,10 @@
 -- What a script comes to: its libraries' turns on one controller, one after another.
-use Rattle.std.specs.Prelude.{◌≡◌, ℕ, ◌-◌, List, [], ◌∷◌, ◌++◌, map, Option, None, Some, slice_index_or, slice_set}
+use Rattle.std.specs.Prelude.{◌≡◌, ◌-◌, List, [], ◌∷◌, ◌++◌, map, Option, None, Some, slice_index_or, slice_set}
 use Rattle.trio_rights.specs.declared.rights.Creds.{Creds}
 use Rattle.trio_rights.specs.declared.rights.LibNo.{LibNo}
 use Rattle.trio_layout.specs.Image.{Image}
 use Rattle.trio_state.specs.State.{State}
 use Rattle.trio_state.specs.Run.{start, Move}
-use Rattle.trio_desk.specs.Call.{Ask, Told}
 use Rattle.trio_desk.specs.Calls.{Call}
 use Rattle.trio_ctl.specs.Desk.{Happens, event_of, answer_of}
 use Rattle.trio_raw.specs.Has.{Has, nothing}

@@ -1,10 +1,8 @@
 -- The laws of scripts: what they come to is a run of the controller, at whose end nothing is out, and it is determined.
 use Rattle.std.specs.Prelude.{◌≡◌, ◌≤◌, ℕ, List, [], ◌∷◌, ◌++◌, length}
-use Rattle.trio_lists.specs.Lists.{In}
 use Rattle.trio_tables.specs.Out.{NoneOut}
 use Rattle.trio_layout.specs.Image.{Image, IsFit}
 use Rattle.trio_layout.specs.Verifies.{Verifies}
-use Rattle.trio_state.specs.Kept.{Kept}
 use Rattle.trio_state.specs.State.{State, settled}
 use Rattle.trio_state.specs.Run.{start, IsWhole, Trace, Move}
 use Rattle.trio_script.specs.declared.ScriptLib.{ScriptLib}

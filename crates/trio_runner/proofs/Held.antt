@@ -1,0 +1,286 @@
+-- Between turns each library has all that is out to it, and nothing is out to anybody else.
+use Rattle.std.proofs.Common.{◌≡◌, ℕ, ◌-◌, ◌<◌, ◌≤◌, Bool, true, false, cond, ◌&&◌, eqb, List, [], ◌∷◌, ◌++◌, length, get_or, set, Option, Some, None, sym, refl, ap, ◌∙◌, subst, inl, inr, arith}
+use Rattle.std.proofs.Math.Dec.{eqb-suc-zero}
+use Rattle.std.specs.Prelude.{MatchOption, MatchBool}
+use Rattle.std.specs.Option.{IsSomeAnd, option_map}
+use Rattle.std.proofs.lemmas.Bool.{and_parts, both_ways, eq-eqb, eqb-true, false≢true, cases_Bool, MatchBool-at_true, MatchBool-at_false}
+use Rattle.std.proofs.lemmas.List.{append-nil, append_assoc, get_or-set_other, get_or-set_same, length-set}
+use Rattle.trio_rights.specs.declared.rights.LibNo.{LibNo}
+use Rattle.trio_rights.specs.declared.rights.Creds.{Creds}
+use Rattle.trio_rights.specs.Row.{Row}
+use Rattle.trio_lists.proofs.Filters.{find-In}
+use Rattle.trio_nodes.specs.declared.grant.GrantKind.{GrantKind}
+use Rattle.trio_nodes.specs.declared.grant.GrantKind.TheVariants.{Read, Write, Hold}
+use Rattle.trio_lease.specs.Shown.{Shown}
+use Rattle.trio_lease.specs.declared.lease.Lease.{Lease}
+use Rattle.trio_desk.specs.Out.{LibOut}
+use Rattle.trio_desk.specs.Out as out_words
+use Rattle.trio_desk.specs.Call.{Ask, Told, Grant, Allot, GiveBack, Release, SetMode, Lent, NotLent, Given, NotGiven, Done, Judged, NotJudged, ModeSet, NotModeSet}
+use Rattle.trio_desk.specs.Calls.{Call}
+use Rattle.trio_layout.specs.Image.{row_at}
+use Rattle.trio_state.specs.State.{OpenGrant, State}
+use Rattle.trio_state.specs.Kept.{Kept}
+use Rattle.trio_state.specs.Grants.{opened}
+use Rattle.trio_state.specs.Run.{Move}
+use Rattle.trio_ctl.specs.Ctl.{IsLibrary}
+use Rattle.trio_ctl.specs.Open.{given_by, lent_by}
+use Rattle.trio_ctl.specs.Desk.{Happens, out_of}
+use Rattle.trio_raw.specs.Has.{Has, nothing, has_all_of, has_nothing, parcel_named, poked, read_on, with_reads, without_read}
+use Rattle.trio_raw.specs.Asked.{back_calls, release_call}
+use Rattle.trio_script.specs.declared.line.RawLine.{RawLine}
+use Rattle.trio_script.specs.declared.line.RawLine.TheVariants.{Grant as GrantLine, Allot as AllotLine, Back as BackLine, Poke, Peek, Release as ReleaseLine, Mode as ModeLine}
+use Rattle.trio_report.specs.declared.answer.LineAnswer.{LineAnswer}
+use Rattle.trio_report.specs.declared.report.EndAnswer.{EndAnswer}
+use Rattle.trio_runner.specs.Line.{Alone, Asks, LineComes, EndsAlone, EndsAll, EndComes, has_after, has_alone, has_poked, told_of}
+use Rattle.trio_runner.specs.Rounds.{Placed, Turn, Says, Ends}
+use Rattle.trio_runner.specs.Play.{AreMoves, Heard, Players, TakesTurn, TurnComes, has_of}
+use Rattle.trio_runner.specs.inner.Ready.{HasAll, IsHeld}
+use Rattle.trio_runner.proofs.Below.{call_leaves}
+use Rattle.trio_runner.proofs.Moves.{Stands, moves_creds, moves_others, moves_parted, moves_stand, no_move, one_move}
+use Rattle.trio_runner.proofs.Outs.{AsLent, has_all-alike, has_all-allotted, has_all-back, has_all-last, has_all-lease, has_all-poked, has_all-rest, has_all-returned, has_all-whole}
+
+-- a lease stands as it was lent when it is given
+given_as_lent : (kind : GrantKind) (g : OpenGrant) → AsLent (given_by kind g)
+given_as_lent Read g = tt
+given_as_lent Write g = refl
+given_as_lent Hold g = tt
+
+lent_as_lent : (s : State) (lib ino : ℕ) (kind : GrantKind) (lease : Lease) (o : Option Row) → IsSomeAnd o (λ r. lease ≡ lent_by (opened s lib ino kind r)) → AsLent lease
+lent_as_lent s lib ino kind lease None is = absurd is
+lent_as_lent s lib ino kind lease (Some r) is = subst AsLent (sym is) (given_as_lent kind (opened s lib ino kind r))
+
+has_all-alone : (out : LibOut) (has : Has) (said : RawLine) → HasAll out has → HasAll out (has_alone has said)
+has_all-alone out has (GrantLine ino kind) h = h
+has_all-alone out has (AllotLine wanted many) h = h
+has_all-alone out has (BackLine ino) h = h
+has_all-alone out has (Peek at offset len) h = h
+has_all-alone out has (ReleaseLine inos pages numbers) h = h
+has_all-alone out has (ModeLine ino mode) h = h
+has_all-alone out has (Poke at offset bytes) h = by (poked has at offset bytes) refl
+  where
+    by : (o : Option Has) → poked has at offset bytes ≡ o → HasAll out (has_poked has o)
+    by None e = h
+    by (Some after) e = has_all-poked out has after at offset bytes e h
+
+-- ---- a line
+
+module _ (lib : LibNo) (s s' : State) (has has' : Has) (calls : List Call) (moves : List Move) (told : LineAnswer) (kept : Kept s) (all : HasAll (out_of s lib) has) (am : AreMoves lib s calls moves s') where
+  alone_held : (said : RawLine) → Alone has said calls told has' → HasAll (out_of s' lib) has'
+  alone_held said a =
+      let same : s' ≡ s = no_move lib s moves s' (subst (λ (l : List Call). AreMoves lib s l moves s') a.calls_are am) in
+      subst (HasAll (out_of s' lib)) (sym a.has_is) (subst (λ t. HasAll (out_of t lib) (has_alone has said)) (sym same) (has_all-alone (out_of s lib) has said all))
+
+  asked : (said : RawLine) (ask : Ask) (a : Asks lib has said ask calls told has') → Happens s lib ask a.answer s'
+  asked said ask a = one_move lib s (record { ask = ask; told = a.answer }) moves s' (subst (λ (l : List Call). AreMoves lib s l moves s') a.calls_are am)
+
+  -- what the library has then, by what the answer leaves out to it
+  abbrev Comes : RawLine → Ask → Told → Type 0
+  Comes said ask answer = told_of said answer ≡ Some told → Happens s lib ask answer s' → HasAll (out_of s' lib) (has_after lib has said answer)
+
+  grant_held : (ino : ℕ) (kind : GrantKind) (answer : Told) → Comes (GrantLine ino kind) (Grant ino kind) answer
+  grant_held ino kind (Lent lease) t h =
+      has_all-alike _ _ _ (call_leaves s lib s' (Grant ino kind) (Lent lease) tt kept h)
+      (has_all-lease (out_of s lib) has lease (lent_as_lent s lib.0 ino kind lease (row_at s.home ino) h.lease) all)
+  grant_held ino kind (NotLent fault) t h = has_all-alike _ _ _ (call_leaves s lib s' (Grant ino kind) (NotLent fault) tt kept h) all
+  grant_held ino kind (Given ps ns) t h = absurd (cc t)
+  grant_held ino kind (NotGiven fault) t h = absurd (cc t)
+  grant_held ino kind Done t h = absurd (cc t)
+  grant_held ino kind (Judged answer) t h = absurd (cc t)
+  grant_held ino kind (NotJudged fault) t h = absurd (cc t)
+  grant_held ino kind ModeSet t h = absurd (cc t)
+  grant_held ino kind (NotModeSet fault) t h = absurd (cc t)
+  allot_held : (wanted many : ℕ) (answer : Told) → Comes (AllotLine wanted many) (Allot wanted many) answer
+  allot_held wanted many (Given ps ns) t h =
+      has_all-alike _ _ _ (call_leaves s lib s' (Allot wanted many) (Given ps ns) tt kept h) (has_all-allotted lib (out_of s lib) has ps ns all)
+  allot_held wanted many (NotGiven fault) t h = has_all-alike _ _ _ (call_leaves s lib s' (Allot wanted many) (NotGiven fault) tt kept h) all
+  allot_held wanted many (Lent l) t h = absurd (cc t)
+  allot_held wanted many (NotLent fault) t h = absurd (cc t)
+  allot_held wanted many Done t h = absurd (cc t)
+  allot_held wanted many (Judged answer) t h = absurd (cc t)
+  allot_held wanted many (NotJudged fault) t h = absurd (cc t)
+  allot_held wanted many ModeSet t h = absurd (cc t)
+  allot_held wanted many (NotModeSet fault) t h = absurd (cc t)
+  back_held : (ino : ℕ) (lease : Shown) → lease.ino ≡ ino → (answer : Told) → Comes (BackLine ino) (GiveBack lease) answer
+  back_held ino lease e Done t h =
+      has_all-alike _ _ _ (call_leaves s lib s' (GiveBack lease) Done tt kept h)
+      (subst (λ n. HasAll (out_words.without_read (out_of s lib) n) (without_read has ino)) (sym e) (has_all-back (out_of s lib) has ino all))
+  back_held ino lease e (Lent l) t h = absurd (cc t)
+  back_held ino lease e (NotLent fault) t h = absurd (cc t)
+  back_held ino lease e (Given ps ns) t h = absurd (cc t)
+  back_held ino lease e (NotGiven fault) t h = absurd (cc t)
+  back_held ino lease e (Judged answer) t h = absurd (cc t)
+  back_held ino lease e (NotJudged fault) t h = absurd (cc t)
+  back_held ino lease e ModeSet t h = absurd (cc t)
+  back_held ino lease e (NotModeSet fault) t h = absurd (cc t)
+  release_held : (inos pages numbers : List ℕ) (answer : Told) → Comes (ReleaseLine inos pages numbers) (Release (parcel_named has inos pages numbers)) answer
+  release_held inos pages numbers (Judged answer) t h =
+      has_all-alike _ _ _ (call_leaves s lib s' (Release (parcel_named has inos pages numbers)) (Judged answer) tt kept h)
+      (has_all-rest (out_of s lib) has inos pages numbers all)
+  release_held inos pages numbers (NotJudged fault) t h =
+      has_all-alike _ _ _ (call_leaves s lib s' (Release (parcel_named has inos pages numbers)) (NotJudged fault) tt kept h)
+      (has_all-returned (out_of s lib) has inos pages numbers all)
+  release_held inos pages numbers (Lent l) t h = absurd (cc t)
+  release_held inos pages numbers (NotLent fault) t h = absurd (cc t)
+  release_held inos pages numbers (Given ps ns) t h = absurd (cc t)
+  release_held inos pages numbers (NotGiven fault) t h = absurd (cc t)
+  release_held inos pages numbers Done t h = absurd (cc t)
+  release_held inos pages numbers ModeSet t h = absurd (cc t)
+  release_held inos pages numbers (NotModeSet fault) t h = absurd (cc t)
+  mode_held : (ino mode : ℕ) (answer : Told) → Comes (ModeLine ino mode) (SetMode ino mode) answer
+  mode_held ino mode ModeSet t h = has_all-alike _ _ _ (call_leaves s lib s' (SetMode ino mode) ModeSet tt kept h) all
+  mode_held ino mode (NotModeSet fault) t h = has_all-alike _ _ _ (call_leaves s lib s' (SetMode ino mode) (NotModeSet fault) tt kept h) all
+  mode_held ino mode (Lent l) t h = absurd (cc t)
+  mode_held ino mode (NotLent fault) t h = absurd (cc t)
+  mode_held ino mode (Given ps ns) t h = absurd (cc t)
+  mode_held ino mode (NotGiven fault) t h = absurd (cc t)
+  mode_held ino mode Done t h = absurd (cc t)
+  mode_held ino mode (Judged answer) t h = absurd (cc t)
+  mode_held ino mode (NotJudged fault) t h = absurd (cc t)
+  -- what it has then
+  then_has : (said : RawLine) (ask : Ask) (a : Asks lib has said ask calls told has') → ((answer : Told) → Comes said ask answer) → HasAll (out_of s' lib) has'
+  then_has said ask a held = subst (HasAll (out_of s' lib)) (sym a.has_is) (held a.answer a.told_is (asked said ask a))
+
+  pub line_held : (said : RawLine) → LineComes lib has said calls told has' → HasAll (out_of s' lib) has'
+  line_held (GrantLine ino kind) a = then_has (GrantLine ino kind) (Grant ino kind) a (grant_held ino kind)
+  line_held (AllotLine wanted many) a = then_has (AllotLine wanted many) (Allot wanted many) a (allot_held wanted many)
+  line_held (ModeLine ino mode) a = then_has (ModeLine ino mode) (SetMode ino mode) a (mode_held ino mode)
+  line_held (Poke at offset bytes) a = alone_held (Poke at offset bytes) a
+  line_held (Peek at offset len) a = alone_held (Peek at offset len) a
+  line_held (BackLine ino) a = by (read_on has ino) refl a
+    where
+      said : RawLine
+      said = BackLine ino
+
+      by : (o : Option Shown) → read_on has ino ≡ o → MatchOption (option_map GiveBack o) (Alone has said calls told has') (λ ask. Asks lib has said ask calls told has') → HasAll (out_of s' lib) has'
+      by None e a = alone_held said a
+      by (Some lease) e a =
+          let found = find-In (λ (r : Shown). eqb r.ino ino) has.reads lease e in
+          then_has said (GiveBack lease) a (back_held ino lease (eqb-true lease.ino ino found.1))
+  line_held (ReleaseLine inos pages numbers) a = by (has_all_of has inos pages numbers) a
+    where
+      said : RawLine
+      said = ReleaseLine inos pages numbers
+
+      by : (b : Bool) → MatchOption (cond b (Some (Release (parcel_named has inos pages numbers))) None) (Alone has said calls told has') (λ ask. Asks lib has said ask calls told has') → HasAll (out_of s' lib) has'
+      by false a = alone_held said a
+      by true a = then_has said (Release (parcel_named has inos pages numbers)) a (release_held inos pages numbers)
+
+-- ---- an end
+
+-- once these read leases are given back, the others and all else that is out are there
+pub backs_held : (lib : LibNo) (has : Has) (xs rs : List Shown) (s : State) (moves : List Move) (s' : State) → Stands s → HasAll (out_of s lib) (with_reads has (xs ++ rs)) → AreMoves lib s (back_calls rs) moves s' → HasAll (out_of s' lib) (with_reads has xs)
+backs_held lib has xs [] s moves s' k h am =
+    subst (λ t. HasAll (out_of t lib) (with_reads has xs)) (sym (no_move lib s moves s' am)) (subst (λ l. HasAll (out_of s lib) (with_reads has l)) (append-nil xs) h)
+backs_held lib has xs (r ∷ rs) s moves s' k h am =
+    let joined : xs ++ r ∷ rs ≡ (xs ++ r ∷ []) ++ rs = sym (append_assoc xs (r ∷ []) rs) in
+    let p = moves_parted lib s (back_calls rs) (record { ask = GiveBack r; told = Done } ∷ []) moves s' am in
+    let before = backs_held lib has (xs ++ r ∷ []) rs s p.first_moves p.middle k (subst (λ l. HasAll (out_of s lib) (with_reads has l)) joined h) p.before in
+    let middle = moves_stand lib s (back_calls rs) p.first_moves p.middle k p.before in
+    let back = one_move lib p.middle (record { ask = GiveBack r; told = Done }) p.later_moves s' p.after in
+    has_all-alike _ _ _ (call_leaves p.middle lib s' (GiveBack r) Done tt middle.kept back)
+    (has_all-last (out_of p.middle lib) has xs r before)
+
+is_empty : {X : Type 0} (xs : List X) → eqb (length xs) 0 ≡ true → xs ≡ []
+is_empty [] e = refl
+is_empty (x ∷ xs) e = absurd (false≢true (sym (eqb-suc-zero (length xs)) ∙ e))
+
+-- where it has nothing but read leases, it has nothing once they are gone
+none_held : (out : LibOut) (has : Has) → has_nothing has ≡ true → HasAll out (with_reads has []) → HasAll out nothing
+none_held out has t h =
+    let writes : Bool = eqb (length has.writes) 0 in
+    let holds : Bool = eqb (length has.holds) 0 in
+    let pages : Bool = eqb (length has.pages) 0 in
+    let inodes : Bool = eqb (length has.inodes) 0 in
+    let all = and_parts (writes && holds && pages) inodes t in
+    let three = and_parts (writes && holds) pages all.0 in
+    let both = and_parts writes holds three.0 in
+    subst (λ (l : List _). HasAll out (record nothing { writes = l })) (is_empty has.writes both.0)
+    (subst (λ (l : List _). HasAll out (record nothing { writes = has.writes; holds = l })) (is_empty has.holds both.1)
+    (subst (λ (l : List _). HasAll out (record nothing { writes = has.writes; holds = has.holds; pages = l })) (is_empty has.pages three.1)
+    (subst (λ (l : List _). HasAll out (record nothing { writes = has.writes; holds = has.holds; pages = has.pages; inodes = l })) (is_empty has.inodes all.1) h)))
+
+pub end_held : (lib : LibNo) (s : State) (has : Has) (calls : List Call) (moves : List Move) (end : EndAnswer) (s' : State) → Stands s → HasAll (out_of s lib) has → EndComes has calls end → AreMoves lib s calls moves s' → HasAll (out_of s' lib) nothing
+end_held lib s has calls moves end s' k h comes am =
+    elim (cases_Bool (has_nothing has)) [
+      | inl t ↦
+          (let a : EndsAlone has calls end = MatchBool-at_true (EndsAlone has calls end) (EndsAll has calls end) t comes in
+          none_held (out_of s' lib) has t (backs_held lib has [] has.reads s moves s' k h (subst (λ (l : List Call). AreMoves lib s l moves s') a.calls_are am)))
+      | inr f ↦
+          (let a : EndsAll has calls end = MatchBool-at_false (EndsAlone has calls end) (EndsAll has calls end) f comes in
+          let last : Call = release_call has (Judged a.answer) in
+          let p = moves_parted lib s (back_calls has.reads) (last ∷ []) moves s' (subst (λ (l : List Call). AreMoves lib s l moves s') a.calls_are am) in
+          let middle = moves_stand lib s (back_calls has.reads) p.first_moves p.middle k p.before in
+          has_all-alike _ _ _ (call_leaves p.middle lib s' last.ask last.told tt middle.kept (one_move lib p.middle last p.later_moves s' p.after))
+          (has_all-whole (out_of p.middle lib) has (backs_held lib has [] has.reads s p.first_moves p.middle k h p.before)))
+    ]
+
+-- ---- a turn
+
+turn_held : (lib : LibNo) (turn : Turn) (s : State) (has : Has) (told : Heard) (calls : List Call) (moves : List Move) (s' : State) (has' : Has) (told' : Heard) → Stands s → HasAll (out_of s lib) has → TurnComes lib turn has told calls has' told' → AreMoves lib s calls moves s' → HasAll (out_of s' lib) has'
+turn_held lib (Says line) s has told calls moves s' has' told' k h c am = line_held lib s s' has has' calls moves c.0 k.kept h am line.line c.1
+turn_held lib Ends s has told calls moves s' has' told' k h c am = subst (HasAll (out_of s' lib)) (sym c.2) (end_held lib s has calls moves c.0 s' k h c.1 am)
+
+-- a library by its number
+pub same_library : (a b : LibNo) → a.0 ≡ b.0 → a ≡ b
+same_library a b e = ap (λ n. record { 0 = n }) e
+
+-- what is there after the change of one place
+pub set_own : {X : Type 0} (xs : List X) (lib : LibNo) (x d : X) → 1 ≤ lib.0 → lib.0 ≤ length xs → get_or (set xs (lib.0 - 1) x) (lib.0 - 1) d ≡ x
+set_own xs lib x d low high = get_or-set_same xs (lib.0 - 1) x d (omega (arith, low, high))
+
+pub set_other : {X : Type 0} (xs : List X) (lib other : LibNo) (x d : X) → 1 ≤ lib.0 → 1 ≤ other.0 → (other.0 ≡ lib.0 → ⊥) → get_or (set xs (lib.0 - 1) x) (other.0 - 1) d ≡ get_or xs (other.0 - 1) d
+set_other xs lib other x d low other_low apart =
+    get_or-set_other xs (lib.0 - 1) (other.0 - 1) x d (λ e. apart (omega (arith, low, other_low, e)))
+
+pub held_stands : (p : Players) → IsHeld p → Stands p.state
+held_stands p h = record { kept = h.kept; as_told = h.as_told }
+
+-- the libraries are the same after a turn
+pub same_creds : (p : Players) (t : Placed) (moves : List Move) (p' : Players) → TakesTurn p t moves p' → p'.state.creds ≡ p.state.creds
+same_creds p t moves p' takes = moves_creds t.lib p.state takes.calls moves p'.state takes.happen
+
+library_before : (other : LibNo) (s s' : State) → s'.creds ≡ s.creds → IsLibrary other s' → IsLibrary other s
+library_before other s s' e is = (is.0, subst (λ (cs : List Creds). other.0 ≤ length cs) e is.1)
+
+pub library_after : (other : LibNo) (s s' : State) → s'.creds ≡ s.creds → IsLibrary other s → IsLibrary other s'
+library_after other s s' e is = (is.0, subst (λ (cs : List Creds). other.0 ≤ length cs) (sym e) is.1)
+
+-- what its library has after a turn
+pub own_after : (p : Players) (t : Placed) (moves : List Move) (p' : Players) → IsHeld p → IsLibrary t.lib p.state → (takes : TakesTurn p t moves p') → has_of p' t.lib ≡ takes.has'
+own_after p t moves p' h is takes =
+    ap (λ (l : List Has). get_or l (t.lib.0 - 1) nothing) takes.has_is
+    ∙ set_own p.has t.lib takes.has' nothing is.0 (subst (λ n. t.lib.0 ≤ n) (sym h.has_places) is.1)
+
+-- and what another has
+pub other_after : (p : Players) (t : Placed) (moves : List Move) (p' : Players) (other : LibNo) → IsLibrary t.lib p.state → 1 ≤ other.0 → (other.0 ≡ t.lib.0 → ⊥) → TakesTurn p t moves p' → has_of p' other ≡ has_of p other
+other_after p t moves p' other is low apart takes =
+    ap (λ (l : List Has). get_or l (other.0 - 1) nothing) takes.has_is
+    ∙ set_other p.has t.lib other takes.has' nothing is.0 low apart
+
+pub held_after : (p : Players) (t : Placed) (moves : List Move) (p' : Players) → IsHeld p → IsLibrary t.lib p.state → TakesTurn p t moves p' → IsHeld p'
+held_after p t moves p' h is takes =
+    let stands = moves_stand t.lib p.state takes.calls moves p'.state (held_stands p h) takes.happen in
+    let creds = same_creds p t moves p' takes in
+    let others : (other : LibNo) → (other.0 ≡ t.lib.0 → ⊥) → out_of p'.state other ≡ out_of p.state other =
+    λ other apart. moves_others t.lib other p.state takes.calls moves p'.state apart (held_stands p h) takes.happen in
+    let own : HasAll (out_of p'.state t.lib) (has_of p' t.lib) =
+    subst (HasAll (out_of p'.state t.lib)) (sym (own_after p t moves p' h is takes))
+    (turn_held t.lib t.turn p.state (has_of p t.lib) _ takes.calls moves p'.state takes.has' takes.told' (held_stands p h) (h.all t.lib is) takes.comes takes.happen) in
+    record {
+      kept = stands.kept;
+      as_told = stands.as_told;
+      has_places = ap length takes.has_is ∙ length-set p.has (t.lib.0 - 1) takes.has' ∙ h.has_places ∙ ap length (sym creds);
+      told_places = ap length takes.told_is ∙ length-set p.told (t.lib.0 - 1) takes.told' ∙ h.told_places ∙ ap length (sym creds);
+      all = λ other there. elim (cases_Bool (eqb other.0 t.lib.0)) [
+        | inl e ↦ subst (λ l. HasAll (out_of p'.state l) (has_of p' l)) (sym (same_library other t.lib (eqb-true other.0 t.lib.0 e))) own
+        | inr f ↦
+            (let apart : other.0 ≡ t.lib.0 → ⊥ = λ e. both_ways (eqb other.0 t.lib.0) f (eq-eqb other.0 t.lib.0 e) in
+            let before = library_before other p.state p'.state creds there in
+            subst (λ (o : LibOut). HasAll o (has_of p' other)) (sym (others other apart))
+            (subst (HasAll (out_of p.state other)) (sym (other_after p t moves p' other is before.0 apart takes)) (h.all other before)))
+      ];
+      nobody_else = λ other none.
+          let before : IsLibrary other p.state → ⊥ = λ l. none (library_after other p.state p'.state creds l) in
+          let apart : other.0 ≡ t.lib.0 → ⊥ = λ e. before (subst (λ l. IsLibrary l p.state) (sym (same_library other t.lib e)) is) in
+          subst (λ (o : LibOut). HasAll o nothing) (sym (others other apart)) (h.nobody_else other before);
+    }

@@ -1,0 +1,132 @@
+-- Calls of a library as moves of the controller, and what they keep.
+use Rattle.std.proofs.Common.{◌≡◌, List, [], ◌∷◌, ◌++◌, sym, refl, ap, ◌∙◌, subst}
+use Rattle.trio_rights.specs.declared.rights.LibNo.{LibNo}
+use Rattle.trio_desk.specs.Call.{Ask, Told}
+use Rattle.trio_desk.specs.Calls.{Call, Calls}
+use Rattle.trio_state.specs.State.{State}
+use Rattle.trio_state.specs.Kept.{Kept}
+use Rattle.trio_state.specs.Given.{GivenEvent}
+use Rattle.trio_state.specs.Step.{Step}
+use Rattle.trio_state.specs.Run.{Move, Trace}
+use Rattle.trio_ctl.specs.Ctl.{AreAsTold}
+use Rattle.trio_ctl.specs.Desk.{Happens, answer_of, event_of, out_of}
+use Rattle.trio_runner.specs.Play.{AreMoves}
+use Rattle.trio_runner.proofs.Creds.{step_creds}
+use Rattle.trio_ctl.proofs.DeskSteps.{calls_keep, others_keep}
+
+-- the state is kept, and holds are as they told
+pub record Stands (s : State) : Type 0 where
+  pub kept : Kept s
+  pub as_told : AreAsTold s
+
+pub moves_stand : (lib : LibNo) (s : State) (calls : List Call) (moves : List Move) (s' : State) → Stands s → AreMoves lib s calls moves s' → Stands s'
+moves_stand lib s [] [] s' h a = subst Stands (sym a) h
+moves_stand lib s [] (m ∷ moves) s' h a = absurd a
+moves_stand lib s (c ∷ calls) [] s' h a = absurd a
+moves_stand lib s (c ∷ calls) (m ∷ moves) s' h a =
+    let k = calls_keep s lib c.ask c.told m.after h.kept h.as_told a.1 in
+    moves_stand lib m.after calls moves s' (record { kept = k.0; as_told = k.1 }) a.2
+
+pub moves_creds : (lib : LibNo) (s : State) (calls : List Call) (moves : List Move) (s' : State) → AreMoves lib s calls moves s' → s'.creds ≡ s.creds
+moves_creds lib s [] [] s' a = ap (λ (t : State). t.creds) a
+moves_creds lib s [] (m ∷ moves) s' a = absurd a
+moves_creds lib s (c ∷ calls) [] s' a = absurd a
+moves_creds lib s (c ∷ calls) (m ∷ moves) s' a =
+    moves_creds lib m.after calls moves s' a.2 ∙ step_creds s m.after (event_of lib c.ask) (answer_of c.told) a.1.is_step
+
+pub moves_others : (lib other : LibNo) (s : State) (calls : List Call) (moves : List Move) (s' : State) → (other.0 ≡ lib.0 → ⊥) → Stands s → AreMoves lib s calls moves s' → out_of s' other ≡ out_of s other
+moves_others lib other s [] [] s' apart h a = ap (λ t. out_of t other) a
+moves_others lib other s [] (m ∷ moves) s' apart h a = absurd a
+moves_others lib other s (c ∷ calls) [] s' apart h a = absurd a
+moves_others lib other s (c ∷ calls) (m ∷ moves) s' apart h a =
+    let k = calls_keep s lib c.ask c.told m.after h.kept h.as_told a.1 in
+    moves_others lib other m.after calls moves s' apart (record { kept = k.0; as_told = k.1 }) a.2
+    ∙ others_keep s lib other c.ask c.told m.after h.kept apart a.1
+
+-- calls one after others
+pub record Parted (lib : LibNo) (s : State) (first later : List Call) (moves : List Move) (s' : State) : Type 0 where
+  pub middle : State
+  pub first_moves : List Move
+  pub later_moves : List Move
+  pub before : AreMoves lib s first first_moves middle
+  pub after : AreMoves lib middle later later_moves s'
+
+pub moves_parted : (lib : LibNo) (s : State) (first later : List Call) (moves : List Move) (s' : State) → AreMoves lib s (first ++ later) moves s' → Parted lib s first later moves s'
+moves_parted lib s [] later moves s' a = record { middle = s; first_moves = []; later_moves = moves; before = refl; after = a }
+moves_parted lib s (c ∷ first) later [] s' a = absurd a
+moves_parted lib s (c ∷ first) later (m ∷ moves) s' a =
+    let p = moves_parted lib m.after first later moves s' a.2 in
+    record { middle = p.middle; first_moves = m ∷ p.first_moves; later_moves = p.later_moves; before = (a.0, a.1, p.before); after = p.after }
+
+-- one call alone
+pub one_move : (lib : LibNo) (s : State) (c : Call) (moves : List Move) (s' : State) → AreMoves lib s (c ∷ []) moves s' → Happens s lib c.ask c.told s'
+one_move lib s c [] s' a = absurd a
+one_move lib s c (m ∷ []) s' a = subst (Happens s lib c.ask c.told) (sym a.2) a.1
+one_move lib s c (m ∷ n ∷ moves) s' a = absurd a.2
+
+-- no call
+pub no_move : (lib : LibNo) (s : State) (moves : List Move) (s' : State) → AreMoves lib s [] moves s' → s' ≡ s
+no_move lib s [] s' a = a
+no_move lib s (m ∷ moves) s' a = absurd a
+
+-- ---- runs
+
+abbrev GivenIn : Move → Type 0
+GivenIn m = GivenEvent m.before m.event
+
+abbrev IsStep : Move → Type 0
+IsStep m = Step m.before m.event m.answer m.after
+
+abbrev pub last_of : State → List Move → State
+last_of s [] = s
+last_of s (m ∷ moves) = last_of m.after moves
+
+-- moves that are a run to this state
+pub record Runs (s : State) (moves : List Move) (s' : State) : Type 0 where
+  pub trace : Trace s moves
+  pub last : last_of s moves ≡ s'
+
+pub runs_on : (s middle s' : State) (moves more : List Move) → Runs s moves middle → Runs middle more s' → Runs s (moves ++ more) s'
+runs_on s middle s' [] more h k = subst (λ x. Runs x more s') (sym h.last) k
+runs_on s middle s' (m ∷ moves) more h k =
+    let rest : Runs m.after moves middle = record { trace = h.trace.3; last = h.last } in
+    let all = runs_on m.after middle s' moves more rest k in
+    record { trace = (h.trace.0, h.trace.1, h.trace.2, all.trace); last = all.last }
+
+pub moves_run : (lib : LibNo) (s : State) (calls : List Call) (moves : List Move) (s' : State) → AreMoves lib s calls moves s' → Runs s moves s'
+moves_run lib s [] [] s' a = record { trace = tt; last = sym a }
+moves_run lib s [] (m ∷ moves) s' a = absurd a
+moves_run lib s (c ∷ calls) [] s' a = absurd a
+moves_run lib s (c ∷ calls) (m ∷ moves) s' a =
+    let rest = moves_run lib m.after calls moves s' a.2 in
+    record {
+      trace = (ap (λ (x : Move). x.before) a.0,
+        subst (λ (x : Move). GivenIn x) (sym a.0) a.1.given,
+        subst (λ (x : Move). IsStep x) (sym a.0) a.1.is_step,
+        rest.trace);
+      last = rest.last;
+    }
+
+-- ---- calls of a desk
+
+-- a desk each of whose calls happens on what stands behind it, and keeps its reference and library
+module _ {D N : Type 0} (called : D → Ask → Told → D → Type 0) (state : D → State) (name : D → N) (lib : D → LibNo) (is : (d : D) (ask : Ask) (told : Told) (d' : D) → called d ask told d' → Happens (state d) (lib d) ask told (state d') × (name d' ≡ name d) × (lib d' ≡ lib d)) where
+  -- calls as moves
+  pub record MovesMade (d : D) (calls : List Call) (d' : D) : Type 0 where
+    pub moves : List Move
+    pub happen : AreMoves (lib d) (state d) calls moves (state d')
+    pub same : name d' ≡ name d
+    pub same_lib : lib d' ≡ lib d
+
+  pub moves_made : (calls : List Call) (d d' : D) → Calls called d calls d' → MovesMade d calls d'
+  moves_made [] d d' e = record { moves = []; happen = ap state e; same = ap name e; same_lib = ap lib e }
+  moves_made (c ∷ calls) d d' made =
+      let middle = made.0 in
+      let first = is d c.ask c.told middle made.1 in
+      let rest = moves_made calls middle d' made.2 in
+      record {
+        moves = record { before = state d; event = event_of (lib d) c.ask; answer = answer_of c.told; after = state middle } ∷ rest.moves;
+        happen = (refl, first.0, subst (λ l. AreMoves l (state middle) calls rest.moves (state d')) first.2 rest.happen);
+        same = rest.same ∙ first.1;
+        same_lib = rest.same_lib ∙ first.2;
+      }

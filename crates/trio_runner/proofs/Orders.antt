@@ -1,0 +1,188 @@
+-- The turns of each library in a script.
+use Rattle.std.proofs.Common.{◌≡◌, ℕ, zero, suc, ◌+◌, ◌<◌, ◌≤◌, Bool, true, false, cond, eqb, ltb, List, [], ◌∷◌, ◌++◌, length, Option, Some, None, sym, refl, ap, ◌∙◌, subst, inl, inr, ◌⊎◌, arith, ltb-true, ltb-false}
+use Rattle.std.specs.Prelude.{slice_get}
+use Rattle.std.proofs.lemmas.Bool.{eq-eqb, eqb-true, ne_eqb, cases_Bool}
+use Rattle.trio_lists.specs.Lists.{In}
+use Rattle.trio_lists.proofs.Members.{In-cases}
+use Rattle.trio_script.specs.declared.ScriptLine.{ScriptLine}
+use Rattle.trio_script.specs.declared.ScriptLib.{ScriptLib}
+use Rattle.trio_runner.specs.Rounds.{Turn, Says, Ends, Placed, course, courses_from, in_rounds, longest, placed, round_of, turn_list, turns_of}
+
+abbrev pub is_end : Turn → Bool
+is_end (Says line) = false
+is_end Ends = true
+
+-- whether a library has come to its end and took no turn since, where it stood so before these turns
+abbrev pub ended : ℕ → Bool → List Placed → Bool
+ended n b [] = b
+ended n b (t ∷ turns) = ended n (cond (eqb t.lib.0 n) (is_end t.turn) b) turns
+
+ended-append : (n : ℕ) (b : Bool) (xs ys : List Placed) → ended n b (xs ++ ys) ≡ ended n (ended n b xs) ys
+ended-append n b [] ys = refl
+ended-append n b (t ∷ xs) ys = ended-append n (cond (eqb t.lib.0 n) (is_end t.turn) b) xs ys
+
+-- ---- a course
+
+-- each turn of a course is its library's
+pub course_lib : (m : ℕ) (lines : List ScriptLine) (k : ℕ) (t : Placed) → slice_get (course m lines) k ≡ Some t → t.lib.0 ≡ m
+course_lib m [] zero t e = ap (λ (x : Placed). x.lib.0) (sym (some_is e))
+  where
+    some_is : Some (placed m Ends) ≡ Some t → placed m Ends ≡ t
+    some_is e = cc e
+course_lib m [] (suc k) t e = absurd (cc e)
+course_lib m (l ∷ lines) zero t e = ap (λ (x : Placed). x.lib.0) (sym (some_is e))
+  where
+    some_is : Some (placed m (Says l)) ≡ Some t → placed m (Says l) ≡ t
+    some_is e = cc e
+course_lib m (l ∷ lines) (suc k) t e = course_lib m lines k t e
+
+-- the end stands behind the lines, and nothing behind it
+pub course_end : (m : ℕ) (lines : List ScriptLine) → slice_get (course m lines) (length lines) ≡ Some (placed m Ends)
+course_end m [] = refl
+course_end m (l ∷ lines) = course_end m lines
+
+pub course_past : (m : ℕ) (lines : List ScriptLine) (k : ℕ) → length lines < k → slice_get (course m lines) k ≡ None
+course_past m [] zero lt = absurd (omega (arith, lt))
+course_past m [] (suc k) lt = refl
+course_past m (l ∷ lines) zero lt = absurd (omega (arith, lt))
+course_past m (l ∷ lines) (suc k) lt = course_past m lines k (omega (arith, lt))
+
+pub course_line : (m : ℕ) (lines : List ScriptLine) (k : ℕ) (line : ScriptLine) → slice_get lines k ≡ Some line → slice_get (course m lines) k ≡ Some (placed m (Says line))
+course_line m [] k line e = absurd (cc e)
+course_line m (l ∷ lines) zero line e = ap (λ (o : Option ScriptLine). turn_of o) e
+  where
+    turn_of : Option ScriptLine → Option Placed
+    turn_of None = None
+    turn_of (Some x) = Some (placed m (Says x))
+course_line m (l ∷ lines) (suc k) line e = course_line m lines k line e
+
+pub course_length : (m : ℕ) (lines : List ScriptLine) → length (course m lines) ≡ suc (length lines)
+course_length m [] = refl
+course_length m (l ∷ lines) = ap suc (course_length m lines)
+
+-- ---- a round
+
+-- the turn of another library changes nothing
+chunk_other : (n m : ℕ) (b : Bool) (o : Option Placed) (rest : List Placed) → (m ≡ n → ⊥) → ((t : Placed) → o ≡ Some t → t.lib.0 ≡ m) → ended n b (turn_list o ++ rest) ≡ ended n b rest
+chunk_other n m b None rest apart own = refl
+chunk_other n m b (Some t) rest apart own =
+    let f : eqb t.lib.0 n ≡ false = ne_eqb t.lib.0 n (λ e. apart (sym (own t refl) ∙ e)) in
+    ap (λ x. ended n (cond x (is_end t.turn) b) rest) f
+
+-- whether it has ended after the turn that it takes, if any
+abbrev pub ended_by : Bool → Option Placed → Bool
+ended_by b None = b
+ended_by b (Some t) = is_end t.turn
+
+chunk_own : (n : ℕ) (b : Bool) (o : Option Placed) (rest : List Placed) → ((t : Placed) → o ≡ Some t → t.lib.0 ≡ n) → ended n b (turn_list o ++ rest) ≡ ended n (ended_by b o) rest
+chunk_own n b None rest own = refl
+chunk_own n b (Some t) rest own = ap (λ x. ended n (cond x (is_end t.turn) b) rest) (eq-eqb t.lib.0 n (own t refl))
+
+-- the turns of later libraries change nothing
+round_later : (k n m : ℕ) (b : Bool) (libs : List ScriptLib) → n < m → ended n b (round_of k (courses_from m libs)) ≡ b
+round_later k n m b [] lt = refl
+round_later k n m b (l ∷ libs) lt =
+    chunk_other n m b (slice_get (course m l.lines) k) (round_of k (courses_from (m + 1) libs)) (λ e. absurd (omega (arith, lt, e))) (course_lib m l.lines k)
+    ∙ round_later k n (m + 1) b libs (omega (arith, lt))
+
+round_ended : (k n m i : ℕ) (b : Bool) (libs : List ScriptLib) (l : ScriptLib) → slice_get libs i ≡ Some l → n ≡ m + i → ended n b (round_of k (courses_from m libs)) ≡ ended_by b (slice_get (course n l.lines) k)
+round_ended k n m i b [] l e at = absurd (cc e)
+round_ended k n m zero b (x ∷ libs) l e at =
+    let same : x ≡ l = cc e in
+    let own : n ≡ m = omega (arith, at) in
+    subst (λ (y : ScriptLib). ended n b (round_of k (courses_from m (x ∷ libs))) ≡ ended_by b (slice_get (course n y.lines) k)) same
+    (subst (λ j. ended j b (round_of k (courses_from m (x ∷ libs))) ≡ ended_by b (slice_get (course j x.lines) k)) (sym own)
+    (chunk_own m b (slice_get (course m x.lines) k) (round_of k (courses_from (m + 1) libs)) (course_lib m x.lines k)
+    ∙ round_later k m (m + 1) (ended_by b (slice_get (course m x.lines) k)) libs (omega arith)))
+round_ended k n m (suc i) b (x ∷ libs) l e at =
+    chunk_other n m b (slice_get (course m x.lines) k) (round_of k (courses_from (m + 1) libs)) (λ f. absurd (omega (arith, at, f))) (course_lib m x.lines k)
+    ∙ round_ended k n (m + 1) i b libs l e (omega (arith, at))
+
+-- ---- all rounds
+
+rounds_ended : (rounds n i : ℕ) (libs : List ScriptLib) (l : ScriptLib) → slice_get libs i ≡ Some l → n ≡ 1 + i → length l.lines < rounds → ended n false (in_rounds rounds (courses_from 1 libs)) ≡ true
+rounds_ended zero n i libs l e at lt = absurd (omega (arith, lt))
+rounds_ended (suc k) n i libs l e at lt =
+    let before : Bool = ended n false (in_rounds k (courses_from 1 libs)) in
+    ended-append n false (in_rounds k (courses_from 1 libs)) (round_of k (courses_from 1 libs))
+    ∙ round_ended k n 1 i before libs l e at
+    ∙ by (cases_Bool (ltb (length l.lines) k)) (λ more. rounds_ended k n i libs l e at more)
+  where
+    by : (ltb (length l.lines) k ≡ true) ⊎ (ltb (length l.lines) k ≡ false) → (length l.lines < k → ended n false (in_rounds k (courses_from 1 libs)) ≡ true) → ended_by (ended n false (in_rounds k (courses_from 1 libs))) (slice_get (course n l.lines) k) ≡ true
+    by (inl t) earlier =
+        let more : length l.lines < k = ltb-true (length l.lines) k t in
+        ap (ended_by (ended n false (in_rounds k (courses_from 1 libs)))) (course_past n l.lines k more) ∙ earlier more
+    by (inr f) earlier =
+        let least : k ≤ length l.lines = ltb-false (length l.lines) k f in
+        let is : k ≡ length l.lines = omega (arith, lt, least) in
+        ap (λ j. ended_by (ended n false (in_rounds k (courses_from 1 libs))) (slice_get (course n l.lines) j)) is
+        ∙ ap (ended_by (ended n false (in_rounds k (courses_from 1 libs)))) (course_end n l.lines)
+
+-- the longest of some lists is at least as long as each of them
+longest_most : (m i : ℕ) (libs : List ScriptLib) (l : ScriptLib) → slice_get libs i ≡ Some l → length l.lines < longest (courses_from m libs)
+longest_most m i [] l e = absurd (cc e)
+longest_most m i (x ∷ libs) l e = by (cases_Bool (ltb rest (length (course m x.lines)))) i e (λ j f. longest_most (m + 1) j libs l f)
+  where
+    rest : ℕ
+    rest = longest (courses_from (m + 1) libs)
+
+    long : ℕ
+    long = length (course m x.lines)
+
+    is_long : long ≡ suc (length x.lines)
+    is_long = course_length m x.lines
+
+    by : (ltb rest long ≡ true) ⊎ (ltb rest long ≡ false) → (i : ℕ) → slice_get (x ∷ libs) i ≡ Some l → ((j : ℕ) → slice_get libs j ≡ Some l → length l.lines < rest) → length l.lines < cond (ltb rest long) long rest
+    by (inl t) zero e later =
+        let same : x ≡ l = cc e in
+        let first : length x.lines < long = omega (arith, is_long) in
+        rw t (subst (λ (y : ScriptLib). length y.lines < long) same first)
+    by (inl t) (suc j) e later =
+        let more : rest < long = ltb-true rest long t in
+        let there : length l.lines < rest = later j e in
+        let all : length l.lines < long = omega (arith, more, there) in rw t all
+    by (inr f) zero e later =
+        let same : x ≡ l = cc e in
+        let most : long ≤ rest = ltb-false rest long f in
+        let first : length x.lines < rest = omega (arith, is_long, most) in
+        rw f (subst (λ (y : ScriptLib). length y.lines < rest) same first)
+    by (inr f) (suc j) e later = rw f (later j e)
+
+-- at the end of a script each library has ended
+pub all_ended : (libs : List ScriptLib) (i : ℕ) (l : ScriptLib) → slice_get libs i ≡ Some l → ended (1 + i) false (turns_of libs) ≡ true
+all_ended libs i l e = rounds_ended (longest (courses_from 1 libs)) (1 + i) i libs l e refl (longest_most 1 i libs l e)
+
+-- ---- whose turns they are
+
+abbrev pub Within : ℕ → List ScriptLib → Placed → Type 0
+Within m libs t = (m ≤ t.lib.0) × (t.lib.0 < m + length libs)
+
+turn_within : (m : ℕ) (o : Option Placed) (t : Placed) → ((u : Placed) → o ≡ Some u → u.lib.0 ≡ m) → In t (turn_list o) → t.lib.0 ≡ m
+turn_within m None t own i = absurd i
+turn_within m (Some u) t own (inl e) = ap (λ (x : Placed). x.lib.0) e ∙ own u refl
+turn_within m (Some u) t own (inr none) = absurd none
+
+round_within : (k m : ℕ) (libs : List ScriptLib) (t : Placed) → In t (round_of k (courses_from m libs)) → Within m libs t
+round_within k m [] t i = absurd i
+round_within k m (l ∷ libs) t i =
+    elim (In-cases t (turn_list (slice_get (course m l.lines) k)) (round_of k (courses_from (m + 1) libs)) i) [
+      | inl j ↦
+          (let is = turn_within m (slice_get (course m l.lines) k) t (course_lib m l.lines k) j in
+          (omega (arith, is), omega (arith, is)))
+      | inr j ↦
+          (let w = round_within k (m + 1) libs t j in
+          let low : m + 1 ≤ t.lib.0 = w.0 in
+          let high : t.lib.0 < (m + 1) + length libs = w.1 in
+          (omega (arith, low), omega (arith, high)))
+    ]
+
+rounds_within : (rounds : ℕ) (libs : List ScriptLib) (t : Placed) → In t (in_rounds rounds (courses_from 1 libs)) → Within 1 libs t
+rounds_within zero libs t i = absurd i
+rounds_within (suc k) libs t i =
+    elim (In-cases t (in_rounds k (courses_from 1 libs)) (round_of k (courses_from 1 libs)) i) [
+      | inl j ↦ rounds_within k libs t j
+      | inr j ↦ round_within k 1 libs t j
+    ]
+
+pub turns_within : (libs : List ScriptLib) (t : Placed) → In t (turns_of libs) → Within 1 libs t
+turns_within libs t i = rounds_within (longest (courses_from 1 libs)) libs t i
