@@ -62,7 +62,7 @@ abbrev pub mode_fault_answer : ModeFault → CtlAnswer
 mode_fault_answer NoModeMemory = NoMemory
 mode_fault_answer fault = NotModeSet fault
 
-abbrev pub mode_answer : {A : Type 0} → Result A ModeFault → CtlAnswer
+abbrev pub mode_answer : Result (Unit {0}) ModeFault → CtlAnswer
 mode_answer (Ok done) = ModeSet
 mode_answer (Err fault) = mode_fault_answer fault
 

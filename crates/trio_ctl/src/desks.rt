@@ -60,6 +60,7 @@ impl<'a> Desk for PlainDesk<'a> {
         bundle: Bundle,
         reads: &mut Reads,
     ) -> Result<ReleaseAnswer, (Bundle, ReleaseFault)> {
+        self.ctl.is_as_told();
         self.ctl.release(self.lib, bundle, reads)
     }
 
