@@ -48,16 +48,16 @@ record IsLowest (xs : List ℕ) (n : ℕ) : Type 0 where
 
 lowest_of : (xs : List ℕ) (n : ℕ) → lowest xs ≡ Some n → IsLowest xs n
 lowest_of [] n e = absurd cc
-lowest_of (x ∷ xs) n e = by (lowest xs) refl e
+lowest_of (x ∷ xs) n e = by (lowest xs) refl (λ k some. lowest_of xs k some) e
   where
-    by : (o : Option ℕ) → lowest xs ≡ o → lower x o ≡ Some n → IsLowest (x ∷ xs) n
-    by None none e =
+    by : (o : Option ℕ) → lowest xs ≡ o → ((k : ℕ) → lowest xs ≡ Some k → IsLowest xs k) → lower x o ≡ Some n → IsLowest (x ∷ xs) n
+    by None none rest e =
         let is : x ≡ n = cc e in
         record {
           there = inl (sym is);
           least = λ m i. elim i [ inl same ↦ omega (arith, is, same) | inr later ↦ absurd (none_in xs none m later) ];
         }
-    by (Some k) some e = either (nat_le x k) refl (lowest_of xs k some) e
+    by (Some k) some rest e = either (nat_le x k) refl (rest k some) e
       where
         either : (t : Bool) → nat_le x k ≡ t → IsLowest xs k → Some (if t then x else k) ≡ Some n → IsLowest (x ∷ xs) n
         either true le r e =
@@ -145,7 +145,7 @@ module _ (s : State) (told : AreAsTold s) (lib : LibNo) (p : Parcel) where
         lowest = λ h i away.
             let w = behind hold_of is_hold s lib h i in
             let is = parted_is w.grant w.is_open (eq-eqb w.grant.lib lib.0 w.lib) (hold_is w.grant.kind w.kind) in
-            let low = elim (cases_Bool (apart_in w.grant)) [
+            let low : n ≤ w.grant.ino = elim (cases_Bool (apart_in w.grant)) [
               | inl t ↦ l.least w.grant.ino (In-map (λ (g : OpenGrant). g.ino) w.grant (filter (is_parted s lib.0 b) s.open_grants) (In-filter (is_parted s lib.0 b) w.grant s.open_grants w.is_open (is ∙ t)))
               | inr t ↦ absurd (away (subst (AreTogether p) (sym w.is) (together w.grant t)))
             ] in

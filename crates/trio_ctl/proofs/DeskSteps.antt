@@ -203,7 +203,7 @@ module _ (s : State) (lib : LibNo) where
         by false false c = absurd (none ps ns c.0)
 
         by_end : Step s (step.Allot lib.0 wanted many) (allot_fault_answer fault) s' → After (Allot wanted many) (NotGiven fault) s'
-        by_end (inr no) = subst (After (Allot wanted many) (NotGiven fault)) (sym no.2) same_out
+        by_end (inr want) = subst (After (Allot wanted many) (NotGiven fault)) (sym want.2) same_out
         by_end (inl d) = by (nat_lt (length (free_pages s)) wanted) (nat_lt (length (free_numbers s)) many) d
 
     pub allot_seen : (r : Result Allotted AllotFault) → Kept s → Step s (step.Allot lib.0 wanted many) (allot_answer r) s' → After (Allot wanted many) (allot_told r) s'
@@ -297,7 +297,7 @@ calls_keep s lib ask told s' k is_told h = (
 )
 
 -- what a library has out, by its open grants without their checkpoints
-lib_out : HasOut → LibOut
+abbrev lib_out : HasOut → LibOut
 lib_out has = record {
   writes = map shown_of (filter (λ g. is_write g.kind) has.grants);
   reads = map shown_of (filter (λ g. is_read g.kind) has.grants);

@@ -562,7 +562,7 @@ module _ (s : Store) (first : ℕ) (table : List Keyed) (files : List Opened) (c
         earlier = all_earlier Write lib ino key file table' files' new_keyed more entries'.made counted;
         promised = reads_more Write lib ino key file table' files' new_keyed more entries'.promised (ap (λ (n : Entries). n.promised) next);
         kinds = subst (λ (t : Store). HaveKinds t.rows files') (sym rest) (all_kinds Write lib ino key file table' files' new_keyed more r row (ap (λ (o : Opened). o.grant.of) made));
-        told = subst (λ (t : Store). HoldsAreTold t.rows (grants_in files')) (sym rest) (all_told Write lib ino key file table' files' new_keyed more r row (λ hold. no_hold (sym file_kind ∙ hold)));
+        told = subst (λ (t : Store). HoldsAreTold t.rows (grants_in files')) (sym rest) (all_told Write lib ino key file table' files' new_keyed more r row (λ hold. absurd (no_hold (sym file_kind ∙ hold))));
       }
 
   -- ---- a file that stays at home: it is copied, or held

@@ -59,6 +59,7 @@ impl Ctl {
     pub fn is_as_told(&self)
         ensures { AreAsTold self.now.state }
     {
+        let _ = &self.alloc;
     }
 
     // the credentials of a library

@@ -17,6 +17,7 @@ impl Ctl {
         ensures was_kept { Kept self.old.state }
         ensures kept { Kept self.new.state }
     {
+        let _ = &self.alloc;
         let _wanted = (lib, ino, mode);
         Err(ModeFault::NoMemory)
     }
