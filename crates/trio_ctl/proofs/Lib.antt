@@ -21,4 +21,5 @@ pub mod Judging
 pub mod Cases
 pub mod Given
 pub mod GivingBack
+pub mod Moding
 pub mod PartedHolds

@@ -13,6 +13,7 @@ mod history;
 mod hold;
 mod image;
 mod lend;
+mod mode;
 mod open;
 mod outcome;
 mod parted;
