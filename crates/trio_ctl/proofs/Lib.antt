@@ -28,4 +28,5 @@ pub mod Judging
 pub mod Cases
 pub mod Given
 pub mod GivingBack
+pub mod Moding
 pub mod PartedHolds
