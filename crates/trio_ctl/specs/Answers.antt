@@ -22,6 +22,7 @@ use Rattle.trio_state.specs.Step.{CtlAnswer, Granted, NotGranted, Given, NoPages
 use Rattle.trio_ctl.specs.declared.image.ImageFault.{ImageFault}
 use Rattle.trio_ctl.specs.declared.image.ImageFault.TheVariants.{Busy, NoMemory as NoImageMemory}
 
+-- a refused grant, as the steps have it; want of memory is an answer of its own, here and below
 abbrev pub grant_fault_answer : GrantFault → CtlAnswer
 grant_fault_answer NoGrantMemory = NoMemory
 grant_fault_answer fault = NotGranted fault
@@ -36,6 +37,7 @@ abbrev pub grant_answer : Result Lease GrantFault → CtlAnswer
 grant_answer (Ok lease) = Granted (children_told lease)
 grant_answer (Err fault) = grant_fault_answer fault
 
+-- that a bundle came back unjudged
 abbrev pub release_fault_answer : ReleaseFault → CtlAnswer
 release_fault_answer NoReleaseMemory = NoMemory
 release_fault_answer (NotClosedBundle ino) = NotClosed ino
@@ -49,6 +51,7 @@ abbrev pub release_answer : {B : Type 0} → Result ReleaseAnswer B → (B → R
 release_answer (Ok answer) fault = verdict_of answer
 release_answer (Err back) fault = release_fault_answer (fault back)
 
+-- that more is wanted than is free
 abbrev pub allot_fault_answer : AllotFault → CtlAnswer
 allot_fault_answer (NoFreePages wanted free) = NoPages wanted free
 allot_fault_answer (NoFreeInodes wanted free) = NoInodes wanted free
@@ -58,6 +61,7 @@ abbrev pub allot_answer : Result Allotted AllotFault → CtlAnswer
 allot_answer (Ok given) = Given (page_numbers given.pages.items) (inode_numbers given.inodes.items)
 allot_answer (Err fault) = allot_fault_answer fault
 
+-- a refused change of mode
 abbrev pub mode_fault_answer : ModeFault → CtlAnswer
 mode_fault_answer NoModeMemory = NoMemory
 mode_fault_answer fault = NotModeSet fault

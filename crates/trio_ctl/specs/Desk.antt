@@ -51,6 +51,7 @@ bundle_of b = record {
   numbers = map (λ n. n.no) b.inodes;
 }
 
+-- what a library asks, as the event that it is
 abbrev pub event_of : LibNo → Ask → Event
 event_of lib (Grant ino kind) = step.Grant lib.0 ino kind
 event_of lib (Allot pages numbers) = step.Allot lib.0 pages numbers
@@ -58,6 +59,7 @@ event_of lib (GiveBack lease) = step.Back lib.0 lease.ino
 event_of lib (Release parcel) = step.Release lib.0 (bundle_of parcel)
 event_of lib (SetMode ino mode) = step.SetMode lib.0 ino mode
 
+-- what it is told, as the controller's answer
 abbrev pub answer_of : Told → CtlAnswer
 answer_of (Lent lease) = step.Granted (children_told lease)
 answer_of (NotLent fault) = grant_fault_answer fault

@@ -32,16 +32,19 @@ pub record Parcel : Type 0 where
 abbrev pub parcel_of : Bundled → Parcel
 parcel_of b = record { writes = b.writes; holds = b.holds; pages = b.pages; inodes = b.inodes }
 
--- the inode numbers of files, as they stand, and of holds, and the numbers of pages and inodes
+-- the inode numbers of files, as they stand
 abbrev pub file_numbers : List LentFile → List ℕ
 file_numbers files = map (λ f. f.stands.ino) files
 
+-- of holds
 abbrev pub hold_numbers : List HoldParts → List ℕ
 hold_numbers holds = map (λ h. h.ino) holds
 
+-- the numbers of pages
 abbrev pub page_numbers : List FreshParts → List ℕ
 page_numbers pages = map (λ p. p.no.0) pages
 
+-- and of inodes
 abbrev pub ino_numbers : List InoParts → List ℕ
 ino_numbers inodes = map (λ n. n.no) inodes
 
@@ -133,10 +136,11 @@ IsFreshLease lib ino out (Write f) = IsFreshFile lib ino out f
 IsFreshLease lib ino out (Read f) = (f.lib ≡ lib) × (f.ino ≡ ino) × (In ino (map (λ r. r.ino) out.reads) → ⊥)
 IsFreshLease lib ino out (Hold h) = (h.lib ≡ lib) × (h.ino ≡ ino) × (In ino (hold_numbers out.holds) → ⊥)
 
--- a page and an inode number as they are allotted: the page is all zero
+-- a page as it is allotted: all zero
 abbrev pub zero_page : LibNo → ℕ → FreshParts
 zero_page lib n = record { lib = lib; no = record { 0 = n }; page = zeros 4096 }
 
+-- an inode number as it is allotted
 abbrev pub new_ino : LibNo → ℕ → InoParts
 new_ino lib n = record { lib = lib; no = n }
 

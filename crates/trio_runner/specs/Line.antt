@@ -58,7 +58,7 @@ told_grant Read children = answered.Granted
 told_grant Write children = answered.Granted
 told_grant Hold children = answered.GrantedHold children
 
--- refusals, as they are told; want of memory isn't
+-- how a refused grant is told; want of memory isn't
 abbrev pub told_fault : GrantFault → Option LineAnswer
 told_fault NotLive = Some answered.NotLive
 told_fault (Denied ino) = Some (answered.Denied ino)
@@ -66,15 +66,18 @@ told_fault NoParent = Some answered.NoParent
 told_fault (Busy holder) = Some answered.Busy
 told_fault NoGrantMemory = None
 
+-- how it is told that more is wanted than is free
 abbrev pub told_want : AllotFault → Option LineAnswer
 told_want (NoPages wanted free) = Some (answered.NoPages wanted free)
 told_want (NoInodes wanted free) = Some (answered.NoInodes wanted free)
 told_want NoAllotMemory = None
 
+-- how it is told that a parcel came back unjudged
 abbrev pub told_unjudged : ReleaseFault → Option LineAnswer
 told_unjudged (NotClosed ino) = Some (answered.NotClosed ino)
 told_unjudged NoReleaseMemory = None
 
+-- how a refused change of mode is told
 abbrev pub told_unmoded : ModeFault → Option LineAnswer
 told_unmoded unmoded.NotLive = Some answered.NotLive
 told_unmoded unmoded.NotOwner = Some answered.NotOwner

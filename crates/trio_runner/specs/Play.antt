@@ -29,10 +29,11 @@ pub record Players : Type 0 where
 abbrev pub untold : Heard
 untold = record { answers = []; end = None }
 
--- what library n has, and what it was told
+-- what a library has
 abbrev pub has_of : Players → LibNo → Has
 has_of p lib = slice_index_or p.has (lib.0 - 1) nothing
 
+-- what it was told
 abbrev pub told_to : Players → LibNo → Heard
 told_to p lib = slice_index_or p.told (lib.0 - 1) untold
 

@@ -15,6 +15,7 @@ pub record Placed : Type 0 where
   pub lib : LibNo
   pub turn : Turn
 
+-- a turn of library n
 abbrev pub placed : ℕ → Turn → Placed
 placed n t = record { lib = record { 0 = n }; turn = t }
 
