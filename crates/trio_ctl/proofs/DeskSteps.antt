@@ -1,7 +1,7 @@
 -- What is seen of a desk after each call of the controller, and what a call leaves of other libraries.
-use Rattle.std.proofs.Common.{◌≡◌, ◌≢◌, ℕ, ◌-◌, ◌≤◌, Bool, true, false, ◌==◌, ◌&&◌, IfOk, List, [], length, map, take, Option, Some, None, Result, Ok, Err, sym, refl, ap, ◌∙◌, subst, inl, inr}
+use Rattle.std.proofs.Common.{◌≡◌, ℕ, ◌-◌, ◌≤◌, Bool, true, false, ◌==◌, ◌&&◌, IfOk, List, length, map, take, Option, Some, None, Result, Ok, Err, sym, refl, ap, ◌∙◌, subst, inl, inr}
 use Rattle.std.specs.Prelude.{if◌then◌else◌, nat_lt, slice_index_or}
-use Rattle.std.specs.List.{filter, list_any}
+use Rattle.std.specs.List.{filter}
 use Rattle.std.specs.Option.{IsSomeAnd}
 use Rattle.std.proofs.lemmas.Bool.{and_from, and_parts, eq-eqb, eqb-true, false≢true}
 use Rattle.trio_rights.specs.Row.{Row}
@@ -14,7 +14,6 @@ use Rattle.trio_nodes.specs.declared.answers.AllotFault.TheVariants.{NoPages as 
 use Rattle.trio_nodes.specs.declared.answers.GrantFault.{GrantFault}
 use Rattle.trio_nodes.specs.declared.answers.GrantFault.TheVariants.{NotLive, Denied, NoParent, Busy, NoMemory as NoGrantMemory}
 use Rattle.trio_nodes.specs.declared.answers.ModeFault.{ModeFault}
-use Rattle.trio_nodes.specs.declared.answers.ModeFault.TheVariants.{NotLive as NotLiveMode, NotOwner, BadMode, Busy as BusyMode, NoMemory as NoModeMemory}
 use Rattle.trio_nodes.specs.declared.answers.ReleaseAnswer.{ReleaseAnswer}
 use Rattle.trio_nodes.specs.declared.answers.ReleaseAnswer.TheVariants.{Accepted as AcceptedBundle, Refused as RefusedBundle}
 use Rattle.trio_nodes.specs.declared.answers.ReleaseFault.{ReleaseFault}
@@ -28,12 +27,11 @@ use Rattle.trio_lease.specs.declared.lease.Lease.{Lease}
 use Rattle.trio_lease.specs.declared.parts.HoldParts.{HoldParts}
 use Rattle.trio_layout.specs.Image.{Image, row_at}
 use Rattle.trio_allot.specs.Out.{fresh_number, fresh_page}
-use Rattle.trio_desk.specs.Out.{IsFreshAllotment, IsFreshLease, LibOut, OutAlike, Parcel, ino_numbers, page_numbers, with_lease, without_parcel}
+use Rattle.trio_desk.specs.Out.{IsFreshAllotment, IsFreshLease, LibOut, OutAlike, Parcel, ino_numbers, page_numbers, with_lease}
 use Rattle.trio_desk.specs.Call.{Ask, Told, Grant, Allot, GiveBack, Release, SetMode, Lent, NotLent, Given, NotGiven, Done, Judged, NotJudged, ModeSet, NotModeSet, SeenAfter, allot_told, lease_told, mode_told, release_told}
 use Rattle.trio_state.specs.Allotments.{allots, free_numbers, free_pages}
 use Rattle.trio_state.specs.Bundles.{Ends}
-use Rattle.trio_state.specs.Given.{GivenEvent}
-use Rattle.trio_state.specs.Grants.{given_back, grant_fault, has_parent_grant, opened, opens}
+use Rattle.trio_state.specs.Grants.{grant_fault, has_parent_grant, opened, opens}
 use Rattle.trio_state.specs.Kept.{Kept}
 use Rattle.trio_state.specs.State.{OpenGrant, State, logged}
 use Rattle.trio_state.specs.Step.{Event, CtlAnswer, Comes, Does, Step, Outcome, ReleaseEnd, Parted, IsAccepted, IsRefused, allot_outcome, granted_to, mode_fault, moded_to}
@@ -46,8 +44,8 @@ use Rattle.trio_laws.proofs.Cases.{after_allot, after_no_grant, after_no_mode}
 use Rattle.trio_laws.proofs.OthersOut.{others_keep_out}
 use Rattle.trio_laws.proofs.Runs.{step_kept}
 use Rattle.trio_ctl.specs.Answers.{allot_answer, allot_fault_answer, children_told, grant_answer, grant_fault_answer, mode_answer, mode_fault_answer, release_answer, release_fault_answer, verdict_of}
-use Rattle.trio_ctl.specs.Ctl.{AreAsTold, IsLibrary}
-use Rattle.trio_ctl.specs.Desk.{Happens, LeaseIs, answer_of, bundle_of, desk_of, event_of, grants_of, out_of}
+use Rattle.trio_ctl.specs.Ctl.{IsLibrary}
+use Rattle.trio_ctl.specs.Desk.{LeaseIs, answer_of, bundle_of, desk_of, event_of, grants_of, out_of}
 use Rattle.trio_ctl.specs.DeskLaws.{CallsKeep, HoldsStand, LibrariesStay, OthersKeep}
 use Rattle.trio_ctl.specs.Open.{hold_of, lent_by, shown_of}
 use Rattle.trio_ctl.proofs.DeskFresh.{fresh_lease, numbers_may, pages_may}
