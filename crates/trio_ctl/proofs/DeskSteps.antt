@@ -56,21 +56,9 @@ use Rattle.trio_ctl.proofs.Told.{step_told}
 
 -- ---- answers, as the controller and the desk tell them
 
-pub lease_same : (r : Result Lease GrantFault) → grant_answer r ≡ answer_of (lease_told r)
-lease_same (Ok lease) = refl
-lease_same (Err fault) = refl
-
-pub allot_same : (r : Result Allotted AllotFault) → allot_answer r ≡ answer_of (allot_told r)
-allot_same (Ok given) = refl
-allot_same (Err fault) = refl
-
 pub release_same : {B : Type 0} (r : Result ReleaseAnswer B) (f : B → ReleaseFault) → release_answer r f ≡ answer_of (release_told r f)
 release_same (Ok answer) f = refl
 release_same (Err back) f = refl
-
-pub mode_same : (r : Result (Unit {0}) ModeFault) → mode_answer r ≡ answer_of (mode_told r)
-mode_same (Ok done) = refl
-mode_same (Err fault) = refl
 
 not_granted : (fault : GrantFault) (n : ℕ) → grant_fault_answer fault ≡ step.Granted n → ⊥
 not_granted NotLive n e = cc e
@@ -148,10 +136,6 @@ module _ (s : State) (lib : LibNo) where
         by (Some fault) row f at c is = let wrong : step.Granted (children_told lease) ≡ step.NotGranted fault = c.0 in absurd (cc wrong)
         by None None f at c is = absurd is
         by None (Some r) f at c is = subst (IsFreshLease lib ino (out_of s lib)) (sym is) (fresh_lease s lib ino kind r k at f)
-
-    pub lease_is : (r : Result Lease GrantFault) → IfOk r (λ lease. IsSomeAnd (row_at s.home ino) (λ r. lease ≡ lent_by (opened s lib.0 ino kind r))) → LeaseIs s lib (Grant ino kind) (lease_told r)
-    lease_is (Ok lease) is = is
-    lease_is (Err fault) is = tt
 
   -- allotments
   module _ (wanted many : ℕ) (s' : State) where
