@@ -57,15 +57,17 @@ impl Allotments {
         })
     }
 
-    // the library that has the page out; none past the image
-    pub(crate) fn page_lib(&self, no: PageNo) -> Option<LibNo>
+    /// The library that has the page out. `None` where it isn't out, as past the image. Takes no
+    /// memory.
+    pub fn page_lib(&self, no: PageNo) -> Option<LibNo>
         ensures { result ≡ lib_at self.now.pages no.0 }
     {
         *self.pages.get(no.0 as usize)?
     }
 
-    // the library that has the inode number out; none past the last one
-    pub(crate) fn number_lib(&self, ino: u32) -> Option<LibNo>
+    /// The library that has the inode number out. `None` where it isn't out, as past the last one.
+    /// Takes no memory.
+    pub fn number_lib(&self, ino: u32) -> Option<LibNo>
         ensures { result ≡ lib_at self.now.numbers ino }
     {
         *self.numbers.get(ino as usize)?

@@ -577,7 +577,7 @@ module _ (e : AcceptedBundle) (s' : Store) (is : Commits e.handed.store s' e.han
           (g.0, unwritten_stays e.handed.store e.handed.first_core e.handed.grants e.handed.creds e.handed.entries e.handed.stored e.handed.lib b e.handed.given g.0 g.1 g.2 (ap (is_written b) g.3 ∙ unjudged_unwritten n l.2), g.2, g.3);
       covers = λ g i w.
           let t = stays g i w in
-          (with_own_blocks g.ino (placed e) t.was, t.then', record { index = t.covers.index; blocks = own_numbers g.ino (placed e) t.was.blocks ∙ t.covers.blocks });
+          (with_own_blocks g.ino (placed e) t.was, t.then', record { chain = t.covers.chain; index = t.covers.index; blocks = own_numbers g.ino (placed e) t.was.blocks ∙ t.covers.blocks });
       kept = accepted_kept (now e) after e.handed.stored.kept e.handed.lib.0 (creds_of (now e) e.handed.lib.0) b e.handed.given (closed_unparted (now e) e.handed.lib.0 b e.handed.closed) e.accepted ends;
     };
   }

@@ -25,10 +25,11 @@ use Rattle.trio_rights.specs.Sheets.{Sheet, sheet_numbers, without_pages}
 use Rattle.trio_rights.specs.ByKind.{covers_blocks}
 use Rattle.trio_checkpoint.specs.Covered.{Checkpointed, are_there, core_of, covered_numbers, covered_pages}
 use Rattle.trio_lists.proofs.Filters.{get_or-In}
-use Rattle.trio_lists.proofs.Members.{In-is_among, list_all-In}
+use Rattle.trio_lists.proofs.Members.{In-is_among, In-left, In-right, list_all-In}
 use Rattle.trio_lists.proofs.New.{are_new-before, are_new-fewer}
 use Rattle.trio_surveys.proofs.SheetLaws.{page_at}
-use Rattle.trio_surveys.proofs.Sheets.{Pages, without_apart}
+use Rattle.trio_surveys.proofs.Images.{some_of}
+use Rattle.trio_surveys.proofs.Sheets.{Pages, sheets_all, without_apart}
 use Rattle.trio_lease.specs.Shown.{LentFile, Shown}
 use Rattle.trio_ctl.specs.inner.Lending.{IsLendable}
 use Rattle.trio_laws.specs.OutLaws.{without_checkpoint}
@@ -199,12 +200,22 @@ pub checkpoint_is : (o : Opened) (key lib ino entry : ℕ) (of : Kind) (body : L
     → covered_pages k ≡ covered_of o.grant.of o.grant.index o.grant.blocks
 checkpoint_is o key lib ino entry of body core k made told = told ∙ ap (λ (p : Opened). covered_of p.grant.of p.grant.index p.grant.blocks) (sym made)
 
+-- the sheets of a chain have its numbers
+numbers_there : (core : Core) (c : Chain) → IsLendable core c → record { index = sheet_numbers (sheets_of core c.index); blocks = sheet_numbers (sheets_of core c.blocks) } ≡ c
+numbers_there core c fit =
+    let C : List ℕ → List ℕ → Chain = λ xs ys. record { index = xs; blocks = ys } in
+    ap (λ xs. C xs (sheet_numbers (sheets_of core c.blocks))) (sheets_all core c.index (λ p i. there p (In-left p c.index c.blocks i)))
+    ∙ ap (C c.index) (sheets_all core c.blocks (λ p i. there p (In-right p c.index c.blocks i)))
+  where
+    there : (p : ℕ) → In p (c.index ++ c.blocks) → (bytes : List ℕ) × (page_of core p ≡ Some bytes)
+    there p i = some_of (page_of core p) (list_all-In (λ page. is_some (page_of core page)) p (c.index ++ c.blocks) fit.there i)
+
 pub checkpoint_covers : (o : Opened) (key lib ino entry : ℕ) (of : Kind) (body : List ℕ) (core : Core) (k : Checkpointed)
     → o ≡ record { key = key; grant = without_checkpoint (grant_on core lib ino Write of entry body k.chain) }
-    → k.index ≡ sheets_of core k.chain.index → k.blocks ≡ sheets_of core (covered_numbers of k.chain.blocks)
+    → k.index ≡ sheets_of core k.chain.index → k.blocks ≡ sheets_of core (covered_numbers of k.chain.blocks) → IsLendable core k.chain
     → CoversLent o.grant k
-checkpoint_covers o key lib ino entry of body core k made first second =
-    subst (λ (p : Opened). CoversLent p.grant k) (sym made) (record { index = ap sheet_numbers first; blocks = ap sheet_numbers second ∙ by_kind of })
+checkpoint_covers o key lib ino entry of body core k made first second fit =
+    subst (λ (p : Opened). CoversLent p.grant k) (sym made) (record { chain = sym (numbers_there core k.chain fit); index = ap sheet_numbers first; blocks = ap sheet_numbers second ∙ by_kind of })
   where
     by_kind : (kind : Kind) → sheet_numbers (sheets_of core (covered_numbers kind k.chain.blocks)) ≡ (if covers_blocks kind then sheet_numbers (sheets_of core k.chain.blocks) else [])
     by_kind Regular = refl

@@ -29,4 +29,5 @@ pub mod Cases
 pub mod Given
 pub mod GivingBack
 pub mod Moding
+pub mod Belonging
 pub mod PartedHolds

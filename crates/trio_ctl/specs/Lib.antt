@@ -3,6 +3,7 @@ pub mod Stored
 pub mod Ctl
 pub mod Open
 pub mod HandedIn
+pub mod Belonging
 pub mod Answers
 pub mod Desk
 pub mod DeskLaws

@@ -55,13 +55,13 @@ grant_kept lib ino (LentToHold parts) = record {
   lib = lib;
   ino = ino;
   kind = Hold;
-  of = parts.value.kind;
-  entry = parts.value.entry;
-  body = parts.value.body;
+  of = parts.kind;
+  entry = parts.entry;
+  body = parts.body;
   index = [];
   blocks = [];
-  parent = parts.value.parent;
-  children = parts.value.children;
+  parent = parts.parent;
+  children = parts.children;
   checkpoint = [];
 }
 

@@ -26,8 +26,10 @@ superblock_at_home s first_core = record {
   root = s.root;
 }
 
--- a checkpoint covers what the grant lent: its index pages, and a directory's blocks
+-- a checkpoint covers what the grant lent: its index pages, and a directory's blocks; and it has the numbers of all pages that
+-- the grant lent
 pub record CoversLent (g : OpenGrant) (c : Checkpointed) : Type 0 where
+  pub chain : c.chain ≡ record { index = sheet_numbers g.index; blocks = sheet_numbers g.blocks }
   pub index : sheet_numbers c.index ≡ sheet_numbers g.index
   pub blocks : sheet_numbers c.blocks ≡ (if covers_blocks g.of then sheet_numbers g.blocks else [])
 

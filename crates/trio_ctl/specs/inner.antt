@@ -1,3 +1,4 @@
+pub mod Belonging
 pub mod Denials
 pub mod Lending
 pub mod Modes

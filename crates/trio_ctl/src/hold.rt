@@ -16,7 +16,6 @@ use crate::ctl::Ctl;
 use crate::grant::admit;
 use crate::lend::settled_body;
 use crate::open::{Lent, OpenFile};
-use std::snapshot::Snapshot;
 use trio_lease::{HoldLease, HoldParts, Lease};
 use trio_nodes::{GrantFault, GrantKind};
 use trio_rights::LibNo;
@@ -63,11 +62,26 @@ impl Ctl {
             body: settled_body(&mut self.store, ino, row),
             children: self.store.rows.children(ino),
         };
-        let lent = Lent::Hold(Snapshot::of(&parts));
+        let lent = Lent::Hold(copied(&parts));
         let Ok(()) = self.files.push(OpenFile::of(key, lent, lib, ino)) else {
             unreachable!()
         };
         self.history.enter();
         Ok(Lease::Hold(HoldLease::of(parts)))
+    }
+}
+
+/// The same parts, to be kept.
+fn copied(parts: &HoldParts) -> HoldParts
+    ensures { result ≡ parts.now }
+{
+    HoldParts {
+        lib: parts.lib,
+        ino: parts.ino,
+        kind: parts.kind,
+        entry: parts.entry,
+        parent: parts.parent,
+        body: parts.body,
+        children: parts.children,
     }
 }

@@ -5,6 +5,7 @@
 #![tactic(auto)]
 
 mod allot;
+mod belongs;
 mod closing;
 mod ctl;
 pub mod desk_laws;

@@ -39,8 +39,8 @@ impl Ctl {
     /// directory, of whatever kind and library, with the one of the lowest entry: the first of these
     /// that applies. After each of them the image is as before. Each answer makes an entry in the
     /// history, but for `Busy` and `NoMemory`, after which nothing changed. `NoMemory` may come in
-    /// place of each other answer but `Busy`: a history that has or has promised as many entries as a
-    /// `u64` counts has no memory for more.
+    /// place of each other answer: a history that has or has promised as many entries as a `u64`
+    /// counts has no memory for more.
     pub fn set_mode(&mut self, lib: LibNo, ino: u32, mode: u16) -> Result<(), ModeFault>
         requires library { IsLibrary lib self.old.state }
         ensures step { Step self.old.state (SetMode lib.0 ino mode) (mode_answer result) self.new.state }

@@ -2,20 +2,22 @@
 
 ghost use Rattle.std.specs.Prelude.{◌≡◌};
 ghost use Rattle.trio_ctl.specs.Open.{grant_kept};
+ghost use Rattle.trio_ctl.specs.inner.Belonging.{is_hold_by};
 
 use std::marker::Model;
 use std::snapshot::Snapshot;
 use trio_grants::GrantKey;
-use trio_lease::{HoldParts, ReadParts, WriteParts};
+use trio_lease::{HoldLease, HoldParts, ReadParts, WriteParts};
 use trio_nodes::GrantKind;
 use trio_rights::LibNo;
 
-/// What a grant lent, by its kind. It is told in proofs alone.
+/// What a grant lent, by its kind. Of a lease it is told in proofs alone; a hold is kept as it was
+/// given.
 #[derive(Drop)]
 pub(crate) enum Lent {
     Read(Snapshot<ReadParts>),
     Write(Snapshot<WriteParts>),
-    Hold(Snapshot<HoldParts>),
+    Hold(HoldParts),
 }
 
 /// A grant that is open: its key in the table of grants, and whose it is. What is kept of a file
@@ -81,6 +83,25 @@ impl OpenFile {
             Lent::Read(_) => GrantKind::Read,
             Lent::Write(_) => GrantKind::Write,
             Lent::Hold(_) => GrantKind::Hold,
+        }
+    }
+
+    /// Whether the grant gave this hold to this library.
+    pub(crate) fn gave(&self, lib: LibNo, hold: &HoldLease) -> bool
+        ensures { result ≡ is_hold_by lib hold.now self.now.grant }
+    {
+        match &self.lent {
+            Lent::Hold(given) => {
+                self.lib == lib
+                    && hold.lib() == lib
+                    && self.ino == hold.ino()
+                    && given.kind == hold.kind()
+                    && given.entry == hold.entry()
+                    && given.parent == hold.parent()
+                    && given.body == *hold.body()
+                    && given.children == hold.children()
+            }
+            Lent::Read(_) | Lent::Write(_) => false,
         }
     }
 }

@@ -1,11 +1,13 @@
 ghost use Rattle.std.specs.Prelude.{◌≡◌, ◌∷◌, [], IfSome, length};
 ghost use Rattle.trio_lease.specs.Views.{bundle_in, written_in};
 
+mod desks;
+
 use super::*;
 use std::alloc::Global;
 use trio_image::{Counts, Image, load};
 use trio_io::SureFiles;
-use trio_lease::{Allotted, Bundle, Lease, WriteLease};
+use trio_lease::{Allotted, Bundle, FreshIno, FreshPage, Lease, WriteLease};
 use trio_nodes::{GrantFault, GrantKind, Holder, ModeFault, ReleaseAnswer};
 use trio_page::field::all_zero;
 use trio_page::{PageNo, Reads};
@@ -470,4 +472,128 @@ fn no_mode_is_changed_under_a_grant(rt: HostRuntime) {
     for (ino, kind, told) in rows {
         assert!(rt; mode_told(rt.alloc(), ino, kind) == Some(told));
     }
+}
+
+// Adds a lease that isn't for reading. Whether there was memory for it.
+fn add(bundle: &mut Bundle, lease: Lease) -> bool {
+    match lease {
+        Lease::Write(lease) => match bundle.add_write(lease) {
+            Ok(()) => true,
+            Err((lease, _)) => {
+                lease.discard();
+                false
+            }
+        },
+        Lease::Hold(hold) => match bundle.add_hold(hold) {
+            Ok(()) => true,
+            Err((hold, _)) => {
+                hold.discard();
+                false
+            }
+        },
+        Lease::Read(lease) => {
+            lease.discard();
+            false
+        }
+    }
+}
+
+fn add_pages(bundle: &mut Bundle, mut pages: Vec<FreshPage>) -> bool {
+    let mut is_added = true;
+    while let Some(page) = pages.pop() {
+        if let Err((page, _)) = bundle.add_page(page) {
+            page.discard();
+            is_added = false;
+        }
+    }
+    pages.destroy_empty();
+    is_added
+}
+
+fn add_inodes(bundle: &mut Bundle, mut inodes: Vec<FreshIno>) -> bool {
+    let mut is_added = true;
+    while let Some(inode) = inodes.pop() {
+        if let Err((inode, _)) = bundle.add_ino(inode) {
+            inode.discard();
+            is_added = false;
+        }
+    }
+    inodes.destroy_empty();
+    is_added
+}
+
+// Adds what the first library is lent that asks for a grant.
+fn add_lent(ctl: &mut Ctl, bundle: &mut Bundle, ino: u32, kind: GrantKind) -> bool
+    requires { length ctl.old.state.creds ≡ 2 }
+    ensures { length ctl.new.state.creds ≡ 2 }
+{
+    match ctl.grant(LibNo(1), ino, kind) {
+        Ok(lease) => add(bundle, lease),
+        Err(_) => false,
+    }
+}
+
+fn add_allotted(ctl: &mut Ctl, bundle: &mut Bundle) -> bool
+    requires { length ctl.old.state.creds ≡ 2 }
+    ensures { length ctl.new.state.creds ≡ 2 }
+{
+    match ctl.allot(LibNo(1), 2, 1) {
+        Ok(Allotted { pages, inodes }) => {
+            let has_pages = add_pages(bundle, pages);
+            add_inodes(bundle, inodes) && has_pages
+        }
+        Err(_) => false,
+    }
+}
+
+// What the first library is given: the directory `a` for writing, its file `f` to hold, two pages and a
+// number.
+fn given(alloc: Global, ctl: &mut Ctl) -> Option<Bundle>
+    requires { length ctl.old.state.creds ≡ 2 }
+    ensures { length ctl.new.state.creds ≡ 2 }
+{
+    let mut bundle = Bundle::new(alloc);
+    let is_given = add_lent(ctl, &mut bundle, 2, GrantKind::Write)
+        && add_lent(ctl, &mut bundle, 3, GrantKind::Hold)
+        && add_allotted(ctl, &mut bundle);
+    if is_given {
+        return Some(bundle);
+    }
+    bundle.discard();
+    None
+}
+
+// Whether the bundle belongs to the first library, and to the second. It is let go.
+fn owners_told(ctl: &Ctl, bundle: Bundle) -> (bool, bool)
+    requires { length ctl.now.state.creds ≡ 2 }
+{
+    let told = (
+        ctl.belongs(LibNo(1), &bundle),
+        ctl.belongs(LibNo(2), &bundle),
+    );
+    bundle.discard();
+    told
+}
+
+// The same of what a controller gave, of a controller that gave nothing, and of one that gave the same
+// by later entries.
+fn belongings_told(alloc: Global) -> Option<[(bool, bool); 3]> {
+    let mut ctl = shared(alloc)?;
+    let bundle = given(alloc, &mut ctl)?;
+    let here = owners_told(&ctl, bundle);
+    let empty = shared(alloc)?;
+    let mut other = shared(alloc)?;
+    let bundle = given(alloc, &mut other)?;
+    let elsewhere = owners_told(&empty, bundle);
+    let mut later = shared(alloc)?;
+    let _refused = asked(&mut later, true, 9, GrantKind::Read);
+    let bundle = given(alloc, &mut later)?;
+    let by_others = owners_told(&other, bundle);
+    Some([here, elsewhere, by_others])
+}
+
+#[test]
+fn a_bundle_belongs_to_whom_it_was_given(rt: HostRuntime) {
+    let told = belongings_told(rt.alloc());
+    assert!(rt; told == Some([(true, false), (false, false), (false, false)]));
 }

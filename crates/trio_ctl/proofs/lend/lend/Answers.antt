@@ -71,7 +71,7 @@ returns-clause-covers c =
     let second = rw (c.block_numbers-2.ensures, blocks_same c.args.home.now.pages c.take_pages.new.home.pages c.args.range chain gone fit) at c.take_pages-2.ensures.lent in
     let made = rw c.of.ensures at c.of-file.ensures in
     let made' = opened_is c.of-file.result c.args.key asked.lib.0 asked.ino asked.entry asked.kind asked.body _ _ core chain chain made first second refl in
-    checkpoint_covers c.of-file.result c.args.key asked.lib.0 asked.ino asked.entry asked.kind asked.body core c.in_ok-checkpoint.checkpoint made' told.index told.blocks
+    checkpoint_covers c.of-file.result c.args.key asked.lib.0 asked.ino asked.entry asked.kind asked.body core c.in_ok-checkpoint.checkpoint made' told.index told.blocks fit
 
 pub returns-clause-lease : goal.returns-clause-lease
 returns-clause-lease c =

@@ -42,11 +42,11 @@ invariant_of-self-2 c =
     let body = c.settled_body.ensures.body ∙ body_is i.store i.first_core i.grants i.files.items i.libs.items i.history c.self.invariant c.args.ino r live in
     let free = c.in-Ok-admit.ensures.answer in
     let key = c.in-Ok-admit.key in
-    let file = c.of-2.result in
+    let file = c.of.result in
     let H : ℕ → List ℕ → ℕ → Opened = λ n b m. record { key = key; grant = record { lib = c.args.lib.0; ino = c.args.ino; kind = Hold; of = r.kind; entry = n; body = b; index = []; blocks = []; parent = r.parent; children = m; checkpoint = [] } } in
     let counted_children = c.children.ensures ∙ ap (λ (t : Store). child_count c.args.ino t.rows) c.settled_body.ensures.rest in
     let at_home : List ℕ = settled_body (settled (state_of i.store i.first_core (grants_in i.files.items) i.libs.items i.history.made)) c.args.ino in
-    let first = rw c.of.ensures at c.of-2.ensures in
+    let first = rw c.copied.ensures at c.of.ensures in
     let made = first ∙ ap (λ n. H n c.settled_body.result c.children.result) c.next-entry.ensures ∙ ap (λ b. H i.history.made b c.children.result) body ∙ ap (H i.history.made at_home) counted_children in
     let rest = ap (λ (t : Store). record t { home = c.settled_body.new.store.home }) c.settled_body.ensures.rest in
     let more = c.in-Ok-push.ensures.items ∙ ap (λ fs. fs ++ file ∷ []) c.in-Ok-reserve.ensures.items in
@@ -63,17 +63,17 @@ returns-clause-step c =
     let body = c.settled_body.ensures.body ∙ body_is i.store i.first_core i.grants i.files.items i.libs.items i.history c.self.invariant c.args.ino r live in
     let free = c.in-Ok-admit.ensures.answer in
     let key = c.in-Ok-admit.key in
-    let file = c.of-2.result in
+    let file = c.of.result in
     let H : ℕ → List ℕ → ℕ → Opened = λ n b m. record { key = key; grant = record { lib = c.args.lib.0; ino = c.args.ino; kind = Hold; of = r.kind; entry = n; body = b; index = []; blocks = []; parent = r.parent; children = m; checkpoint = [] } } in
     let counted_children = c.children.ensures ∙ ap (λ (t : Store). child_count c.args.ino t.rows) c.settled_body.ensures.rest in
     let at_home : List ℕ = settled_body (settled (state_of i.store i.first_core (grants_in i.files.items) i.libs.items i.history.made)) c.args.ino in
-    let first = rw c.of.ensures at c.of-2.ensures in
+    let first = rw c.copied.ensures at c.of.ensures in
     let made = first ∙ ap (λ n. H n c.settled_body.result c.children.result) c.next-entry.ensures ∙ ap (λ b. H i.history.made b c.children.result) body ∙ ap (H i.history.made at_home) counted_children in
     let rest = ap (λ (t : Store). record t { home = c.settled_body.new.store.home }) c.settled_body.ensures.rest in
     let more = c.in-Ok-push.ensures.items ∙ ap (λ fs. fs ++ file ∷ []) c.in-Ok-reserve.ensures.items in
     let counted = ap (λ (n : Entries). n.made) c.enter.ensures in
     rw (← (state_is c.self.view_is))
-    (plain_step i.store i.first_core i.grants i.files.items i.libs.items i.history c.self.invariant Hold refl c.args.lib c.args.ino r live free key file _ c.admit.new.grants c.push.new.self.items c.enter.new.self made c.settled_body.ensures.pages c.settled_body.ensures.rest more counted c.of-3.result.children (ap (λ (h : HoldParts). h.children) c.of-3.ensures ∙ counted_children) may)
+    (plain_step i.store i.first_core i.grants i.files.items i.libs.items i.history c.self.invariant Hold refl c.args.lib c.args.ino r live free key file _ c.admit.new.grants c.push.new.self.items c.enter.new.self made c.settled_body.ensures.pages c.settled_body.ensures.rest more counted c.of-2.result.children (ap (λ (h : HoldParts). h.children) c.of-2.ensures ∙ counted_children) may)
 
 pub returns-clause-lease : goal.returns-clause-lease
 returns-clause-lease c =
@@ -84,15 +84,15 @@ returns-clause-lease c =
     let body = c.settled_body.ensures.body ∙ body_is i.store i.first_core i.grants i.files.items i.libs.items i.history c.self.invariant c.args.ino r live in
     let free = c.in-Ok-admit.ensures.answer in
     let key = c.in-Ok-admit.key in
-    let file = c.of-2.result in
+    let file = c.of.result in
     let H : ℕ → List ℕ → ℕ → Opened = λ n b m. record { key = key; grant = record { lib = c.args.lib.0; ino = c.args.ino; kind = Hold; of = r.kind; entry = n; body = b; index = []; blocks = []; parent = r.parent; children = m; checkpoint = [] } } in
     let counted_children = c.children.ensures ∙ ap (λ (t : Store). child_count c.args.ino t.rows) c.settled_body.ensures.rest in
     let at_home : List ℕ = settled_body (settled (state_of i.store i.first_core (grants_in i.files.items) i.libs.items i.history.made)) c.args.ino in
-    let first = rw c.of.ensures at c.of-2.ensures in
+    let first = rw c.copied.ensures at c.of.ensures in
     let made = first ∙ ap (λ n. H n c.settled_body.result c.children.result) c.next-entry.ensures ∙ ap (λ b. H i.history.made b c.children.result) body ∙ ap (H i.history.made at_home) counted_children in
     let rest = ap (λ (t : Store). record t { home = c.settled_body.new.store.home }) c.settled_body.ensures.rest in
     let more = c.in-Ok-push.ensures.items ∙ ap (λ fs. fs ++ file ∷ []) c.in-Ok-reserve.ensures.items in
     let counted = ap (λ (n : Entries). n.made) c.enter.ensures in
     let P : ℕ → List ℕ → ℕ → HoldParts = λ n b m. record { lib = c.args.lib; ino = c.args.ino; kind = r.kind; entry = n; parent = r.parent; body = b; children = m } in
     rw (← (state_is c.self.view_is))
-    (ap HoldLent (c.of-3.ensures ∙ ap (λ n. P n c.settled_body.result c.children.result) c.next-entry.ensures ∙ ap (λ b. P i.history.made b c.children.result) body ∙ ap (P i.history.made (settled_body (settled (state_of i.store i.first_core (grants_in i.files.items) i.libs.items i.history.made)) c.args.ino)) counted_children))
+    (ap HoldLent (c.of-2.ensures ∙ ap (λ n. P n c.settled_body.result c.children.result) c.next-entry.ensures ∙ ap (λ b. P i.history.made b c.children.result) body ∙ ap (P i.history.made (settled_body (settled (state_of i.store i.first_core (grants_in i.files.items) i.libs.items i.history.made)) c.args.ino)) counted_children))
