@@ -3,7 +3,7 @@ use Rattle.std.specs.Prelude.{ℕ, ◌+◌, ◌/◌, ◌%◌, nat_lt, List, [], 
 use Rattle.std.specs.List.{flat_map}
 use Rattle.std.specs.Fmt.{decimal}
 use Rattle.trio_report.specs.declared.answer.LineAnswer.{LineAnswer}
-use Rattle.trio_report.specs.declared.answer.LineAnswer.TheVariants.{Granted, GrantedHold, NotLive, Denied, NoParent, Busy, Allotted, NoPages, NoInodes, Poked, Seen, GivenBack, Accepted, Refused, NotClosed, Absent}
+use Rattle.trio_report.specs.declared.answer.LineAnswer.TheVariants.{Granted, GrantedHold, NotLive, Denied, NoParent, Busy, Allotted, NoPages, NoInodes, Poked, Seen, GivenBack, Accepted, Refused, NotClosed, Absent, ModeSet, NotOwner, BadMode}
 
 -- a number that isn't the first of its list
 abbrev pub after_comma : ℕ → List ℕ
@@ -48,6 +48,9 @@ answer_text Accepted = codes "accepted"
 answer_text (Refused rule) = refused_text rule
 answer_text (NotClosed ino) = codes "notclosed " ++ decimal ino
 answer_text Absent = codes "absent"
+answer_text ModeSet = codes "ok"
+answer_text NotOwner = codes "notowner"
+answer_text BadMode = codes "badmode"
 
 -- the line that says what the line of this number is answered
 abbrev pub answer_line : ℕ → LineAnswer → List ℕ

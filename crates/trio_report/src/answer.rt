@@ -17,13 +17,13 @@ pub enum LineAnswer {
     Granted,
     /// The hold was given, on a file of so many children.
     GrantedHold { children: u32 },
-    /// The grant wasn't given: no live file has this inode number.
+    /// The grant wasn't given, or the mode wasn't changed: no live file has this inode number.
     NotLive,
     /// The grant wasn't given: the file of this inode number denies it.
     Denied(u32),
     /// The grant wasn't given: it needs a write grant on the file's parent, and there is none.
     NoParent,
-    /// The grant wasn't given: an open grant excludes it.
+    /// The grant wasn't given, or the mode wasn't changed: an open grant excludes it.
     Busy,
     /// These pages and inode numbers were allotted.
     Allotted { pages: List<u32>, inodes: List<u32> },
@@ -46,6 +46,13 @@ pub enum LineAnswer {
     NotClosed(u32),
     /// The library doesn't have what the line names.
     Absent,
+    /// The file has the mode that was asked.
+    ModeSet,
+    /// The mode wasn't changed: the file is the root, or the library acts neither for its user nor
+    /// for the user 0.
+    NotOwner,
+    /// The mode wasn't changed: it is above 0o777.
+    BadMode,
 }
 
 /// Appends what the line of this number is answered as a line, as `3 granted` or
@@ -90,6 +97,9 @@ fn put_words(alloc: Global, out: &mut Vec<u8>, answer: &LineAnswer) -> Result<()
         LineAnswer::Refused(rule) => put_refused(alloc, out, *rule),
         LineAnswer::NotClosed(ino) => put_number(alloc, out, "notclosed ", *ino),
         LineAnswer::Absent => put_text(out, "absent"),
+        LineAnswer::ModeSet => put_text(out, "ok"),
+        LineAnswer::NotOwner => put_text(out, "notowner"),
+        LineAnswer::BadMode => put_text(out, "badmode"),
     }
 }
 

@@ -99,11 +99,15 @@ fn answers_are_told(rt: HostRuntime) -> Result<(), Fail> {
     let bytes = List::from_vec([0, 9, 10, 0xa5, 0xff].to_vec(alloc)?);
     put_answer(alloc, &mut out, 17, &LineAnswer::Seen(bytes))?;
     put_answer(alloc, &mut out, 16_384, &LineAnswer::Absent)?;
+    put_heading(alloc, &mut out, LibNo(16), LibraryKind::Raw)?;
+    put_answer(alloc, &mut out, 18, &LineAnswer::ModeSet)?;
+    put_answer(alloc, &mut out, 19, &LineAnswer::NotOwner)?;
+    put_answer(alloc, &mut out, 20, &LineAnswer::BadMode)?;
     put_end(alloc, &mut out, EndAnswer::Accepted)?;
     put_end(alloc, &mut out, EndAnswer::Refused(1))?;
     assert_eq!(rt;
         out.as_slice(),
-        b"2 granted\n3 notlive\n4 denied 12\n5 noparent\n10 busy\n11 poked\n12 accepted\n13 refused I4\n14 granted children 1\n15 notclosed 12\n16 ok\n17 00090aa5ff\n16384 absent\nend accepted\nend refused I1\n".as_slice()
+        b"2 granted\n3 notlive\n4 denied 12\n5 noparent\n10 busy\n11 poked\n12 accepted\n13 refused I4\n14 granted children 1\n15 notclosed 12\n16 ok\n17 00090aa5ff\n16384 absent\nlib 16 raw\n18 ok\n19 notowner\n20 badmode\nend accepted\nend refused I1\n".as_slice()
     );
     Ok(())
 }

@@ -1,4 +1,5 @@
 pub mod Forms
+pub mod Libraries
 pub mod Lines
 pub mod Numbers
 pub mod Numerals

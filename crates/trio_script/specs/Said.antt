@@ -5,9 +5,25 @@ use Rattle.trio_nodes.specs.declared.grant.GrantKind.{GrantKind}
 use Rattle.trio_nodes.specs.declared.grant.GrantKind.TheVariants.{Read, Write, Hold}
 use Rattle.trio_nodes.specs.declared.spot.Spot.{Spot}
 use Rattle.trio_nodes.specs.declared.spot.Spot.TheVariants.{Body, Index, Block, Fresh}
+use Rattle.trio_script.specs.declared.library.LibLine.{LibLine}
 use Rattle.trio_script.specs.declared.line.RawLine.{RawLine}
-use Rattle.trio_script.specs.declared.line.RawLine.TheVariants.{Grant, Back, Allot, Poke, Peek, Release}
-use Rattle.trio_script.specs.Words.{words_of, number_of, hex_of, list_of}
+use Rattle.trio_script.specs.declared.line.RawLine.TheVariants.{Grant, Back, Allot, Poke, Peek, Release, Mode}
+use Rattle.trio_script.specs.Words.{words_of, number_of, mode_of, hex_of, list_of}
+
+-- a library's line, where its number, uid and gid are numbers
+abbrev pub named : Option ℕ → Option ℕ → Option ℕ → Option LibLine
+named (Some number) (Some uid) (Some gid) = Some (record { number = number; creds = record { uid = uid; gid = gid } })
+named _ _ _ = None
+
+-- `lib N raw UID GID`
+abbrev pub library_in : List (List ℕ) → Option LibLine
+library_in (command ∷ number ∷ kind ∷ uid ∷ gid ∷ []) =
+    if bytes_eq command (codes "lib") && bytes_eq kind (codes "raw") then named (number_of number) (number_of uid) (number_of gid) else None
+library_in _ = None
+
+-- which library a line begins, and with which credentials
+abbrev pub library_said : List ℕ → Option LibLine
+library_said line = library_in (words_of line)
 
 -- the kind of grant that a word names
 abbrev pub grant_kind : List ℕ → Option GrantKind
@@ -97,7 +113,17 @@ abbrev pub release_in : List (List ℕ) → Option RawLine
 release_in (inos ∷ pages ∷ inodes ∷ []) = released (list_of inos) (list_of pages) (list_of inodes)
 release_in _ = None
 
--- the six forms, by their first word
+-- a change of a file's mode, where its number and the mode are there
+abbrev pub mode_set : Option ℕ → Option ℕ → Option RawLine
+mode_set (Some ino) (Some mode) = Some (Mode ino mode)
+mode_set _ _ = None
+
+-- behind `mode`: `INO MODE`
+abbrev pub mode_in : List (List ℕ) → Option RawLine
+mode_in (ino ∷ mode ∷ []) = mode_set (number_of ino) (mode_of mode)
+mode_in _ = None
+
+-- the seven forms, by their first word
 abbrev pub said_in : List (List ℕ) → Option RawLine
 said_in (command ∷ words) =
     if bytes_eq command (codes "grant") then grant_in words else
@@ -105,9 +131,10 @@ said_in (command ∷ words) =
     (if bytes_eq command (codes "poke") then poke_in words else
     (if bytes_eq command (codes "peek") then peek_in words else
     (if bytes_eq command (codes "back") then back_in words else
-    (if bytes_eq command (codes "release") then release_in words else None)))))
+    (if bytes_eq command (codes "release") then release_in words else
+    (if bytes_eq command (codes "mode") then mode_in words else None))))))
 said_in [] = None
 
--- what a line says, where it has one of the six forms
+-- what a line says, where it has one of the seven forms
 abbrev pub line_said : List ℕ → Option RawLine
 line_said line = said_in (words_of line)

@@ -11,10 +11,10 @@ words_of line = slice_split (λ b. b == 32) line
 abbrev pub is_digit : ℕ → Bool
 is_digit b = nat_le 48 b && nat_le b 57
 
--- the number that decimal digits write, after the digits of another
-abbrev pub digits_after : ℕ → List ℕ → ℕ
-digits_after n [] = n
-digits_after n (b ∷ bytes) = digits_after (n * 10 + (b - 48)) bytes
+-- the number that digits of this base write, after the digits of another
+abbrev pub digits_after : ℕ → ℕ → List ℕ → ℕ
+digits_after base n [] = n
+digits_after base n (b ∷ bytes) = digits_after base (n * base + (b - 48)) bytes
 
 -- digits, the first of which is a zero (48) only where it is the only one
 abbrev pub is_numeral : List ℕ → Bool
@@ -22,7 +22,19 @@ is_numeral word = list_all is_digit word && nat_lt 0 (length word) && (length wo
 
 -- a number: a numeral of at most 4,294,967,295
 abbrev pub number_of : List ℕ → Option ℕ
-number_of word = if is_numeral word && nat_lt (digits_after 0 word) (2 ^ 32) then Some (digits_after 0 word) else None
+number_of word = if is_numeral word && nat_lt (digits_after 10 0 word) (2 ^ 32) then Some (digits_after 10 0 word) else None
+
+-- an octal digit, 0 (48) to 7 (55)
+abbrev pub is_octal_digit : ℕ → Bool
+is_octal_digit b = nat_le 48 b && nat_le b 55
+
+-- 1 to 4 octal digits
+abbrev pub is_octal : List ℕ → Bool
+is_octal word = list_all is_octal_digit word && nat_lt 0 (length word) && nat_le (length word) 4
+
+-- a mode: 1 to 4 octal digits, of which the first may be a zero
+abbrev pub mode_of : List ℕ → Option ℕ
+mode_of word = if is_octal word then Some (digits_after 8 0 word) else None
 
 -- a hexadecimal digit: 0 (48) to 9 (57), or a (97) to f (102)
 abbrev pub is_hex_digit : ℕ → Bool

@@ -2,38 +2,57 @@
 //!
 //! A script is bytes. Lines end with the byte 10, which the last line may lack. A line without bytes
 //! and a line that begins with `#` say nothing, but count. The first line that says something is
-//! `lib 1 raw 0 0`. After it come lines of a hostile library, each a [`RawLine`]; any other line is one
-//! for which nothing is built yet. There are at most [`LINE_LIMIT`] lines.
+//! `lib 1 raw UID GID`, and a line `lib N raw UID GID` begins library N: the numbers are 1, 2, 3 and so
+//! on, at most [`LIB_LIMIT`]. Behind it come the lines of this library, which nobody trusts, each a
+//! [`RawLine`]. Any other line is one for which nothing is built yet. There are at most [`LINE_LIMIT`]
+//! lines.
 //!
 //! The words of a line are separated by one space. A number is decimal, without a sign and without a
-//! leading zero, and at most 4,294,967,295. Bytes are 1 to 4096, two lower-case hexadecimal digits
-//! each. A list is numbers joined by commas, none of them twice, or `-` where it is empty.
+//! leading zero, and at most 4,294,967,295. A mode is 1 to 4 octal digits. Bytes are 1 to 4096, two
+//! lower-case hexadecimal digits each. A list is numbers joined by commas, none of them twice, or `-`
+//! where it is empty.
 //!
 //! `specs/Script.antt`, `specs/Said.antt` and `specs/Words.antt` have these rules as functions of the
 //! bytes. A script is read in a time that grows with its length, but for the lists: one of k numbers
 //! takes a time of k log k. Beside the answer, memory is taken for the words of one line at a time.
 #![tactic(auto)]
 
-ghost use Rattle.std.specs.Prelude.{◌≡◌, ◌∷◌, ◌<◌, length, IfOk, MatchOption, MatchResult, None, Some};
+ghost use Rattle.std.specs.Prelude.{◌≡◌, ◌∷◌, ◌<◌, ◌≤◌, length, is_some, IfOk, MatchOption, MatchResult, None, Some};
 ghost use Rattle.std.specs.List.{list_any};
 ghost use Rattle.trio_script.specs.inner.Ends.{EndsLine, IsPlain};
-ghost use Rattle.trio_script.specs.Script.{lines_of, is_silent, names_library, is_library_line, unbuilt_line, unbuilt_at, script_lines, IsUnbuilt};
-ghost use Rattle.trio_script.specs.inner.Taken.{Takes};
+ghost use Rattle.trio_script.specs.Script.{lines_of, is_silent, names_library, unbuilt_line, script_libs, IsUnbuilt};
+ghost use Rattle.trio_script.specs.inner.Taken.{Begins, Takes, unbuilt_at};
 
+mod library;
 mod line;
 mod word;
 
+use library::{Begun, begun_count, close, is_next, read_library};
 pub use line::RawLine;
 use line::read_line;
 use std::alloc::Global;
+use trio_nodes::List;
 /// Want of memory.
 pub use trio_page::NoMemory;
+use trio_rights::Creds;
 pub use word::read_number;
+
+/// The most libraries that a script may have.
+pub const LIB_LIMIT: usize = 16;
 
 /// The most lines that a script may have.
 pub const LINE_LIMIT: u32 = 16_384;
 
-/// A line of a script that says something, but the library's.
+/// A library of a script: its credentials, and its lines, in their order.
+#[derive(Debug, PartialEq, Eq, Drop)]
+pub struct ScriptLib {
+    /// Whom the library acts for, as its line says.
+    pub creds: Creds,
+    /// The lines that say something, from the library's own up to the next library's.
+    pub lines: List<ScriptLine>,
+}
+
+/// A line of a script that says something, but those that begin libraries.
 #[derive(Debug, PartialEq, Eq, Drop)]
 pub struct ScriptLine {
     /// The line's number, counted from 1.
@@ -45,7 +64,7 @@ pub struct ScriptLine {
 #[derive(Clone, Copy, Debug, PartialEq, Eq)]
 pub enum ScriptFault {
     /// The first line for which nothing is built has this number, counted from 1. A script without a
-    /// library's line has it at line 1.
+    /// line that names a library has it at line 1.
     Unbuilt(u32),
     /// Want of memory, which may come in place of any other answer.
     NoMemory,
@@ -61,44 +80,44 @@ impl From<NoMemory> for ScriptFault {
     }
 }
 
-/// Reads a script, in one pass over its bytes. `Ok` comes only where each line is built, with what
-/// the lines say in their order.
+/// Reads a script, in one pass over its bytes. `Ok` comes only where each line is built, with its
+/// 1 to 16 libraries in the order of their numbers: library N stands at index N - 1.
 ///
-/// A line is a library's line where it begins with `lib` and a space. A script without such a line
+/// A line names a library where it begins with `lib` and a space. A script without such a line
 /// is answered by line 1, also where another line isn't built. Else the answer is the number of the
-/// first line that isn't built; line 16,385 is never built.
-pub fn read_script(alloc: Global, bytes: &[u8]) -> Result<Vec<ScriptLine>, ScriptFault>
+/// first line that isn't built: a line of no form, a library's line whose number isn't the next or is
+/// above 16, a line before the first library's, or line 16,385.
+pub fn read_script(alloc: Global, bytes: &[u8]) -> Result<Vec<ScriptLib>, ScriptFault>
     ensures built { MatchResult result (λ _. unbuilt_line bytes.now ≡ None) (IsUnbuilt bytes.now) }
-    ensures lines { IfOk result (λ lines. lines.items ≡ script_lines bytes.now) }
+    ensures libs { IfOk result (λ libs. libs.items ≡ script_libs bytes.now) }
+    ensures some { IfOk result (λ libs. 1 ≤ length libs.items) }
+    ensures few { IfOk result (λ libs. length libs.items ≤ 16) }
 {
-    let mut lines = Vec::new(alloc);
+    let mut begun = None;
     let mut rest = bytes;
     let mut number = 1;
-    let mut begun = false;
     while !rest.is_empty() {
         let (line, after) = cut_line(rest);
-        if !take_line(alloc, number, &mut begun, line, &mut lines)? {
-            return Err(ScriptFault::Unbuilt(unbuilt(number, begun, rest)));
+        if !take_line(alloc, number, line, &mut begun)? {
+            return Err(ScriptFault::Unbuilt(unbuilt(number, begun.is_some(), rest)));
         }
         number += 1;
         rest = after;
     }
-    if begun {
-        Ok(lines)
-    } else {
-        Err(ScriptFault::Unbuilt(1))
+    if begun.is_none() {
+        return Err(ScriptFault::Unbuilt(1));
     }
+    Ok(close(alloc, begun)?)
 }
 
 // takes the next line, or answers false where it isn't built
 fn take_line(
     alloc: Global,
     number: u32,
-    begun: &mut bool,
     line: &[u8],
-    lines: &mut Vec<ScriptLine>,
+    begun: &mut Option<Begun>,
 ) -> Result<bool, NoMemory>
-    ensures { IfOk result (Takes number line.now begun.old begun.new lines.old.items lines.new.items) }
+    ensures { IfOk result (Takes number line.now begun.old begun.new) }
 {
     if number > LINE_LIMIT {
         return Ok(false);
@@ -106,17 +125,37 @@ fn take_line(
     if is_silent(line) {
         return Ok(true);
     }
-    if !*begun {
-        *begun = is_library_line(line);
-        return Ok(*begun);
+    if names_library(line) {
+        return begin_library(alloc, line, begun);
     }
+    let Some(begun) = begun else {
+        return Ok(false);
+    };
     match read_line(alloc, line)? {
         Some(line) => {
-            lines.push(ScriptLine { number, line })?;
+            begun.add(ScriptLine { number, line })?;
             Ok(true)
         }
         None => Ok(false),
     }
+}
+
+// begins the library of this line, or answers false where it isn't the next
+fn begin_library(alloc: Global, line: &[u8], begun: &mut Option<Begun>) -> Result<bool, NoMemory>
+    ensures { IfOk result (Begins line.now begun.old begun.new) }
+{
+    let Some(library) = read_library(alloc, line)? else {
+        return Ok(false);
+    };
+    if !is_next(begun_count(begun), &library) {
+        return Ok(false);
+    }
+    *begun = Some(Begun {
+        whole: close(alloc, begun.take())?,
+        creds: library.creds,
+        lines: Vec::new(alloc),
+    });
+    Ok(true)
 }
 
 // where a script isn't built whose first line that isn't built has this number; `rest` begins with it
@@ -127,7 +166,7 @@ fn unbuilt(number: u32, begun: bool, rest: &[u8]) -> u32
     if named { number } else { 1 }
 }
 
-// whether a line of these bytes is a library's line
+// whether a line of these bytes names a library
 fn has_library(bytes: &[u8]) -> bool
     ensures { result ≡ list_any names_library (lines_of bytes.now) }
 {
@@ -170,10 +209,4 @@ fn names_library(line: &[u8]) -> bool
     ensures { result ≡ names_library line.now }
 {
     line.starts_with(b"lib ")
-}
-
-fn is_library_line(line: &[u8]) -> bool
-    ensures { result ≡ is_library_line line.now }
-{
-    line == b"lib 1 raw 0 0".as_slice()
 }

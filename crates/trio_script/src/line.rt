@@ -1,9 +1,9 @@
 //! What the lines of a hostile library say.
 
 ghost use Rattle.std.specs.Prelude.{◌≡◌, IfOk, map};
-ghost use Rattle.trio_script.specs.Said.{allot_in, back_in, grant_in, grant_kind, line_said, part_spot, peek_in, peeked, poke_in, poked, release_in, released, said_in, seen_length, whole_spot};
+ghost use Rattle.trio_script.specs.Said.{allot_in, back_in, grant_in, grant_kind, line_said, mode_in, part_spot, peek_in, peeked, poke_in, poked, release_in, released, said_in, seen_length, whole_spot};
 
-use crate::word::{parts, read_hex, read_list, read_number};
+use crate::word::{parts, read_hex, read_list, read_mode, read_number};
 use std::alloc::Global;
 use trio_nodes::{Bytes, GrantKind, List, Spot};
 use trio_page::NoMemory;
@@ -48,6 +48,11 @@ pub enum RawLine {
         pages: List<u32>,
         inodes: List<u32>,
     },
+    /// `mode INO MODE`: the file's mode shall be this, at most 0o7777.
+    Mode {
+        ino: u32,
+        mode: u16,
+    },
 }
 
 /// What a line says, where it has one of the forms of [`RawLine`].
@@ -75,6 +80,8 @@ fn read_words(alloc: Global, words: &[&[u8]]) -> Result<Option<RawLine>, NoMemor
         Ok(read_back(words))
     } else if *command == b"release".as_slice() {
         read_release(alloc, words)
+    } else if *command == b"mode".as_slice() {
+        Ok(read_mode_line(words))
     } else {
         Ok(None)
     }
@@ -238,5 +245,17 @@ fn released(
         inos: inos?,
         pages: pages?,
         inodes: inodes?,
+    })
+}
+
+fn read_mode_line(words: &[&[u8]]) -> Option<RawLine>
+    ensures { result ≡ mode_in (map (λ word. word.now) words.now) }
+{
+    let [ino, mode] = words else {
+        return None;
+    };
+    Some(RawLine::Mode {
+        ino: read_number(ino)?,
+        mode: read_mode(mode)?,
     })
 }

@@ -1,14 +1,17 @@
 //! The words of a line: numbers, bytes in hexadecimal digits, and lists of numbers.
 
-ghost use Rattle.std.specs.Prelude.{◌≡◌, ◌==◌, ◌<◌, ◌^◌, ◌%◌, nat_lt, IfOk, IsTrue, length, map, None, Some, [], if◌then◌else◌};
+ghost use Rattle.std.specs.Prelude.{◌≡◌, ◌==◌, ◌<◌, ◌^◌, ◌%◌, ◌≤◌, nat_lt, IfOk, IsTrue, length, map, None, Some, [], if◌then◌else◌};
 ghost use Rattle.std.specs.List.{slice_split, list_all};
 ghost use Rattle.std.specs.Option.{option_map};
-ghost use Rattle.trio_script.specs.Words.{is_digit, digits_after, is_numeral, number_of, is_hex_digit, hex_value, is_hex, hex_bytes, hex_of, numbers_of, are_new, list_of};
+ghost use Rattle.trio_script.specs.Words.{is_digit, digits_after, is_numeral, number_of, is_octal_digit, is_octal, mode_of, is_hex_digit, hex_value, is_hex, hex_bytes, hex_of, numbers_of, are_new, list_of};
 
 use std::alloc::Global;
 use std::collections::BTreeSet;
 use trio_nodes::{Bytes, List};
 use trio_page::NoMemory;
+
+/// The most octal digits that a mode may have.
+const MODE_LIMIT: usize = 4;
 
 /// The most bytes that a word may write in hexadecimal digits.
 const HEX_LIMIT: usize = 4096;
@@ -51,7 +54,7 @@ fn is_digit(byte: u8) -> bool
 
 fn digits_value(digits: &[u8]) -> Option<u32>
     requires { IsTrue (list_all is_digit digits.now) }
-    ensures { result ≡ (if nat_lt (digits_after 0 digits.now) (2 ^ 32) then Some (digits_after 0 digits.now) else None) }
+    ensures { result ≡ (if nat_lt (digits_after 10 0 digits.now) (2 ^ 32) then Some (digits_after 10 0 digits.now) else None) }
 {
     let mut number: u32 = 0;
     for digit in digits {
@@ -60,6 +63,47 @@ fn digits_value(digits: &[u8]) -> Option<u32>
             .checked_add(u32::from(*digit - b'0'))?;
     }
     Some(number)
+}
+
+/// The mode that a word is: 1 to 4 octal digits, so at most 0o7777.
+pub fn read_mode(word: &[u8]) -> Option<u16>
+    ensures { result ≡ mode_of word.now }
+{
+    if is_octal(word) {
+        Some(octal_value(word))
+    } else {
+        None
+    }
+}
+
+fn is_octal(word: &[u8]) -> bool
+    ensures { result ≡ is_octal word.now }
+{
+    all_octal_digits(word) && !word.is_empty() && word.len() <= MODE_LIMIT
+}
+
+fn all_octal_digits(word: &[u8]) -> bool
+    ensures { result ≡ list_all is_octal_digit word.now }
+{
+    word.iter().all(|b| is_octal_digit(*b))
+}
+
+fn is_octal_digit(byte: u8) -> bool
+    ensures { result ≡ is_octal_digit byte }
+{
+    matches!(byte, b'0'..=b'7')
+}
+
+fn octal_value(digits: &[u8]) -> u16
+    requires octal { IsTrue (list_all is_octal_digit digits.now) }
+    requires short { length digits.now ≤ 4 }
+    ensures { result ≡ digits_after 8 0 digits.now }
+{
+    let mut mode = 0;
+    for digit in digits {
+        mode = mode * 8 + u16::from(*digit - b'0');
+    }
+    mode
 }
 
 /// The bytes that a word writes: two lower-case hexadecimal digits for each of 1 to 4096 bytes.

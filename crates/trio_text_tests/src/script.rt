@@ -1,9 +1,18 @@
 use std::alloc::Global;
 use trio_nodes::{GrantKind, List, Spot};
-use trio_script::{RawLine, ScriptFault, ScriptLine, read_script};
+use trio_rights::Creds;
+use trio_script::{RawLine, ScriptFault, ScriptLib, ScriptLine, read_script};
+
+/// A library of a script, by its user, its group and its lines.
+fn library(uid: u32, gid: u32, lines: Vec<ScriptLine>) -> ScriptLib {
+    ScriptLib {
+        creds: Creds { uid, gid },
+        lines: List::from_vec(lines),
+    }
+}
 
 /// What a script says whose first line is the library's, and these bytes the second.
-fn second_line(alloc: Global, line: &[u8]) -> Option<Result<Vec<ScriptLine>, ScriptFault>> {
+fn second_line(alloc: Global, line: &[u8]) -> Option<Result<Vec<ScriptLib>, ScriptFault>> {
     let mut script = b"lib 1 raw 0 0\n".to_vec(alloc).ok()?;
     script.extend_from_slice(line).ok()?;
     Some(read_script(alloc, &script))
@@ -11,7 +20,8 @@ fn second_line(alloc: Global, line: &[u8]) -> Option<Result<Vec<ScriptLine>, Scr
 
 /// Whether the second line says just this.
 fn says(alloc: Global, text: &[u8], line: RawLine) -> Option<bool> {
-    let wanted = vec![in alloc; ScriptLine { number: 2, line }].ok()?;
+    let lines = vec![in alloc; ScriptLine { number: 2, line }].ok()?;
+    let wanted = vec![in alloc; library(0, 0, lines)].ok()?;
     Some(second_line(alloc, text)? == Ok(wanted))
 }
 
@@ -133,6 +143,31 @@ fn releases_are_read(rt: HostRuntime) {
     }
 }
 
+/// The text, the inode number and the mode.
+const MODES: &[(&str, u32, u16)] = &[
+    ("mode 2 700", 2, 0o700),
+    ("mode 2 1000", 2, 0o1000),
+    ("mode 2 7777\n", 2, 0o7777),
+    ("mode 0 0", 0, 0),
+    ("mode 4294967295 0644", 4_294_967_295, 0o644),
+    ("mode 3 00", 3, 0),
+    ("mode 3 7", 3, 7),
+];
+
+#[test]
+fn modes_are_read(rt: HostRuntime) {
+    for (text, ino, mode) in MODES {
+        let line = RawLine::Mode {
+            ino: *ino,
+            mode: *mode,
+        };
+        assert!(rt;
+            says(rt.alloc(), text.as_bytes(), line) == Some(true),
+            "{text}"
+        );
+    }
+}
+
 /// A write grant is asked on this file.
 fn write_grant(ino: u32) -> RawLine {
     RawLine::Grant {
@@ -199,6 +234,20 @@ const UNBUILT: &[&str] = &[
     "release ,2 - -",
     "release 2,03 - -",
     "release -,2 - -",
+    "mode",
+    "mode 2",
+    "mode 2 ",
+    "mode 2 8",
+    "mode 2 709",
+    "mode 2 00700",
+    "mode 2 10000",
+    "mode 2 -700",
+    "mode 2 7a",
+    "mode 02 700",
+    "mode - 700",
+    "mode 2 700 700",
+    "mode 4294967296 700",
+    "chmod /f 700",
 ];
 
 fn is_unbuilt(alloc: Global, line: &[u8]) -> Option<bool> {
@@ -234,10 +283,12 @@ fn bytes_are_counted(rt: HostRuntime) {
     assert!(rt; counts_bytes(rt.alloc()) == Some(true));
 }
 
-/// Each line that says something has its own number.
-fn numbers_lines(alloc: Global) -> Option<bool> {
-    let script = b"#\nlib 1 raw 0 0\n\ngrant write 2\n#\ngrant write 3\n";
-    let wanted = vec![in alloc;
+/// Each line that says something has its own number, and stands with the library that began last.
+const TWO_LIBS: &[u8] =
+    b"#\nlib 1 raw 1001 5\n\ngrant write 2\n#\ngrant write 3\nlib 2 raw 0 4294967295\n#\n\nmode 3 700";
+
+fn reads_two_libs(alloc: Global) -> Option<bool> {
+    let first = vec![in alloc;
         ScriptLine {
             number: 4,
             line: write_grant(2),
@@ -248,12 +299,58 @@ fn numbers_lines(alloc: Global) -> Option<bool> {
         },
     ]
     .ok()?;
-    Some(read_script(alloc, script) == Ok(wanted))
+    let second = vec![in alloc;
+        ScriptLine {
+            number: 10,
+            line: RawLine::Mode {
+                ino: 3,
+                mode: 0o700,
+            },
+        },
+    ]
+    .ok()?;
+    let wanted = vec![in alloc; library(1001, 5, first), library(0, 4_294_967_295, second)].ok()?;
+    Some(read_script(alloc, TWO_LIBS) == Ok(wanted))
+}
+
+/// Libraries without a line of their own.
+fn reads_bare_libs(alloc: Global) -> Option<bool> {
+    let wanted = vec![in alloc;
+        library(3, 4, Vec::new(alloc)),
+        library(5, 6, Vec::new(alloc)),
+        library(7, 8, Vec::new(alloc)),
+    ]
+    .ok()?;
+    Some(read_script(alloc, b"lib 1 raw 3 4\nlib 2 raw 5 6\n#\nlib 3 raw 7 8\n\n") == Ok(wanted))
 }
 
 #[test]
-fn lines_are_numbered(rt: HostRuntime) {
-    assert!(rt; numbers_lines(rt.alloc()) == Some(true));
+fn libraries_are_read(rt: HostRuntime) {
+    assert!(rt; reads_two_libs(rt.alloc()) == Some(true));
+    assert!(rt; reads_bare_libs(rt.alloc()) == Some(true));
+}
+
+/// How many libraries are read of a script with so many, a line for each, or the line that isn't
+/// built.
+fn count_libs(alloc: Global, count: u32) -> Option<Result<usize, ScriptFault>> {
+    let mut script = Vec::new(alloc);
+    for begun in 0..count {
+        let number = begun + 1;
+        let line = format!(in alloc; "lib {number} raw 0 {number}\n").ok()?;
+        script.extend_from_slice(line.as_bytes()).ok()?;
+    }
+    match read_script(alloc, &script) {
+        Ok(libs) => Some(Ok(libs.len())),
+        Err(fault) => Some(Err(fault)),
+    }
+}
+
+#[test]
+fn libraries_are_counted(rt: HostRuntime) {
+    assert!(rt; count_libs(rt.alloc(), 2) == Some(Ok(2)));
+    assert!(rt; count_libs(rt.alloc(), 16) == Some(Ok(16)));
+    assert!(rt; count_libs(rt.alloc(), 17) == Some(Err(ScriptFault::Unbuilt(17))));
+    assert!(rt; count_libs(rt.alloc(), 18) == Some(Err(ScriptFault::Unbuilt(17))));
 }
 
 /// Scripts, and the number of the first line that isn't built, or 0.
@@ -265,17 +362,41 @@ const SCRIPTS: &[(&str, u32)] = &[
     ("lib 1 raw 0 0\n", 0),
     ("# first\n\nlib 1 raw 0 0\n", 0),
     ("lib 1 raw 0 0\n#last\n\n#", 0),
-    ("lib 1 raw 0 0\nlib 2 raw 0 0\n", 2),
+    ("lib 1 raw 4294967295 4294967295\n", 0),
+    ("lib 1 raw 0 4294967296\n", 1),
+    ("\nlib 1 raw 4294967296 0\n", 2),
+    ("\nlib 1 raw 0\n", 2),
+    ("\nlib 1 raw 0 0 0\n", 2),
+    ("\nlib 1 raw 0 00\n", 2),
+    ("\nlib 1 raw 01 0\n", 2),
+    ("\nlib 1 raw -1 0\n", 2),
+    ("\nlib 01 raw 0 0\n", 2),
+    ("\nlib 0 raw 0 0\n", 2),
+    ("\nlib 2 raw 0 0\nlib 1 raw 0 0\n", 2),
+    ("\nlib 1 Raw 0 0\n", 2),
+    ("\nlib  1 raw 0 0\n", 2),
+    ("\nlib 1 keyval 0 0\n", 2),
+    ("\nlib \n", 2),
+    ("\nlib\n", 1),
+    ("\nlib\nlib 1 raw 0 0\n", 2),
+    ("lib 1 raw 0 0\nlib 2 raw 0 0\n", 0),
+    ("lib 1 raw 0 0\nlib 2 raw 5\n", 2),
+    ("lib 1 raw 0 0\nlib 2 raw 5 5\nlib 4 raw 0 0\nx\n", 3),
+    ("lib 1 raw 0 0\nlib 2 raw 5 5\nlib 2 raw 5 5\n", 3),
+    ("lib 1 raw 0 0\nlib 2 raw 5 5\n\nlib 1 raw 0 0\n", 4),
+    ("lib 1 raw 0 0\nlib 2 honest 0 0\nlib 3 raw 0 0\n", 2),
+    ("lib 1 raw 0 0\nlib\n", 2),
     ("lib 1 raw 0 0\n#\nlib 1 raw 0 0", 3),
     ("lib 1 raw 0 0\n\ngrant write 2\nsettle\n", 4),
     ("#\nsettle\nlib 1 raw 0 0\n", 2),
     ("#\nsettle\nstat /\n", 1),
     ("#\nallot 1 0\nlib 1 raw 0 0\n", 2),
     ("#\nallot 1 0\n", 1),
+    ("lib 1 honest 0 0\n", 1),
     ("\n\nlib 1 honest 0 0\n", 3),
+    ("\nlib 1 honest 0 0\nlib 1 raw 0 0\n", 2),
     ("\nlib 1 raw 0 0 \n", 2),
     ("\nlib 1 raw 0 0\r\n", 2),
-    ("\nlib 1 raw 0 00\n", 2),
     ("\n lib 1 raw 0 0\n", 1),
     ("lib 1 raw 0 0\n \n", 2),
     ("\nlibrary\n", 1),

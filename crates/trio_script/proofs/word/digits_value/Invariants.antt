@@ -5,5 +5,5 @@ use Rattle.trio_script.proofs.word.digits_value.Given as goal
 abbrev pub invariant-loop-digit : goal.invariant-loop-digit
 invariant-loop-digit l = record {
   small : l.number < 2 ^ 32;
-  read : digits_after 0 l.digits ≡ digits_after l.number (drop l.digit-index l.digits);
+  read : digits_after 10 0 l.digits ≡ digits_after 10 l.number (drop l.digit-index l.digits);
 }

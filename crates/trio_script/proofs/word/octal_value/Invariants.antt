@@ -1,0 +1,9 @@
+use Rattle.std.proofs.Common.{◌≡◌, ◌<◌, ◌^◌, drop}
+use Rattle.trio_script.specs.Words.{digits_after}
+use Rattle.trio_script.proofs.word.octal_value.Given as goal
+
+abbrev pub invariant-loop-digit : goal.invariant-loop-digit
+invariant-loop-digit l = record {
+  small : l.mode < 8 ^ l.digit-index;
+  read : digits_after 8 0 l.digits ≡ digits_after 8 l.mode (drop l.digit-index l.digits);
+}
