@@ -1,8 +1,8 @@
 pub mod Places
-pub mod Poking
-pub mod Looks
-pub mod Taking
 pub mod Once
+pub mod Names
+pub mod Standing
+pub mod Leases
 pub mod Kept
-pub mod InHand
-pub mod Steps
+pub mod Backing
+pub mod Asking

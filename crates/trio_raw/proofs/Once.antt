@@ -2,12 +2,20 @@
 use Rattle.std.proofs.Common.{◌≡◌, ℕ, true, not, eqb, List, [], ◌∷◌, ◌++◌, Option, Some, None, sym, refl, ap, ◌∙◌, subst, inl, inr, ◌⊎◌}
 use Rattle.std.specs.Prelude.{map}
 use Rattle.std.specs.List.{find, cons_option}
-use Rattle.std.proofs.lemmas.Bool.{and_parts, and_from, eqb-true, eq-eqb, both_ways, cases_Bool}
+use Rattle.std.proofs.lemmas.Bool.{and_parts, and_from, eqb-true, eq-eqb, both_ways, cases_Bool, not_from_false}
+use Rattle.std.proofs.lemmas.List.{map-append}
 use Rattle.trio_lists.specs.Lists.{In, is_among, are_new}
 use Rattle.trio_raw.specs.Has.{named, without, without_all}
 use Rattle.trio_lists.proofs.Filters.{find-In}
-use Rattle.trio_lists.proofs.New.{are_new-first, are_new-fewer}
-use Rattle.trio_lists.proofs.Members.{In-left, In-map}
+use Rattle.trio_lists.proofs.New.{are_new-first, are_new-fewer, is_among-not}
+use Rattle.trio_lists.proofs.Gathered.{new_beside}
+use Rattle.trio_lists.proofs.Marked.{are_new-append}
+use Rattle.trio_lists.proofs.Members.{In-cases, In-left, In-map, map-In}
+use Rattle.trio_raw.proofs.Places.{named-first}
+
+-- numbers that stand once, and more that stand once and apart
+pub once_more : (xs ys : List ℕ) → are_new [] xs ≡ true → are_new xs ys ≡ true → are_new [] (xs ++ ys) ≡ true
+once_more xs ys h k = are_new-append [] xs ys ∙ and_from (are_new [] xs) (are_new xs ys) h k
 
 module _ {X : Type 0} (number : X → ℕ) where
   -- what is named is one of the things, and of a number that is named
@@ -89,3 +97,65 @@ module _ {X : Type 0} (number : X → ℕ) where
   all_gone xs [] y h i j = j
   all_gone xs (n ∷ names) y h i (inl e) = gone xs n y h (without_all_in (without number xs n) names y i) e
   all_gone xs (n ∷ names) y h i (inr j) = all_gone (without number xs n) names y (without_new xs n [] h) i j
+
+  -- what is there is left or named
+  in_without : (xs : List X) (n : ℕ) (y : X) → In y xs → In y (without number xs n) ⊎ (find (λ x. eqb (number x) n) xs ≡ Some y)
+  in_without [] n y i = absurd i
+  in_without (x ∷ xs) n y i =
+      elim (cases_Bool (eqb (number x) n)) [
+        | inl t ↦ elim i [
+          | inl e ↦ inr (rw t (ap Some (sym e)))
+          | inr j ↦ inl (rw t j)
+        ]
+        | inr f ↦ elim i [
+          | inl e ↦ inl (rw f (inl e))
+          | inr j ↦ elim (in_without xs n y j) [
+            | inl a ↦ inl (rw f (inr a))
+            | inr b ↦ inr (rw f b)
+          ]
+        ]
+      ]
+
+  In-cons_option : (o : Option X) (y : X) (ys : List X) → In y ys → In y (cons_option o ys)
+  In-cons_option None y ys i = i
+  In-cons_option (Some x) y ys i = inr i
+
+  pub left_or_named : (xs : List X) (names : List ℕ) (y : X) → are_new [] names ≡ true → In y xs → In y (without_all number xs names) ⊎ In y (named number xs names)
+  left_or_named xs [] y once i = inl i
+  left_or_named xs (n ∷ names) y once i =
+      let first = named-first number xs n names once in
+      elim (in_without xs n y i) [
+        | inl j ↦ elim (left_or_named (without number xs n) names y (are_new-first n names once).1 j) [
+          | inl a ↦ inl a
+          | inr b ↦ inr (subst (In y) (sym first) (In-cons_option (find (λ x. eqb (number x) n) xs) y (named number (without number xs n) names) b))
+        ]
+        | inr e ↦ inr (subst (In y) (sym first) (subst (λ o. In y (cons_option o (named number (without number xs n) names))) (sym e) (inl refl)))
+      ]
+
+  -- of what is left no number is that of something named
+  pub left_unnamed : (xs : List X) (names : List ℕ) (y : X) → are_new [] (map number xs) ≡ true → In y (without_all number xs names) → not (is_among (number y) (map number (named number xs names))) ≡ true
+  left_unnamed xs names y once i =
+      not_from_false (is_among (number y) (map number (named number xs names)))
+      (is_among-not (number y) (map number (named number xs names)) (λ j.
+      let r = map-In number (number y) (named number xs names) j in
+      let k = named_in xs names r.0 r.1 in
+      all_gone xs names y once i (subst (λ m. In m names) (sym r.2) k.1)))
+
+  -- all once, in another order
+  pub back_once : (xs : List X) (names : List ℕ) → are_new [] names ≡ true → are_new [] (map number xs) ≡ true → are_new [] (map number (without_all number xs names ++ named number xs names)) ≡ true
+  back_once xs names names_once once =
+      let rest = map number (without_all number xs names) in
+      let back = map number (named number xs names) in
+      ap (are_new []) (map-append number (without_all number xs names) (named number xs names))
+      ∙ once_more rest back (without_all_once xs names once)
+      (new_beside rest back (named_once xs names [] names_once) (λ n i j.
+      let r = map-In number n (without_all number xs names) j in
+      let s = map-In number n (named number xs names) i in
+      let k = named_in xs names s.0 s.1 in
+      all_gone xs names r.0 once r.1 (subst (λ m. In m names) (sym s.2 ∙ r.2) k.1)))
+
+  pub back_in : (xs : List X) (names : List ℕ) (y : X) → In y (without_all number xs names ++ named number xs names) → In y xs
+  back_in xs names y i = elim (In-cases y (without_all number xs names) (named number xs names) i) [
+    | inl a ↦ without_all_in xs names y a
+    | inr b ↦ (named_in xs names y b).0
+  ]

@@ -1,52 +1,17 @@
--- Elements by their places: one that is changed, and the first of a number.
-use Rattle.std.proofs.Common.{Bor, ◌≡◌, ℕ, suc, ◌+◌, ◌<◌, ◌≤◌, Bool, true, false, cond, not, ◌&&◌, eqb, ltb, List, [], ◌∷◌, ◌++◌, length, drop, get_or, Option, Some, None, sym, refl, ap, ◌∙◌, subst, inl, inr, arith}
-use Rattle.std.specs.Prelude.{map, is_some, slice_get, slice_set}
+-- The first things of their numbers, and steps through the numbers that are named.
+use Rattle.std.proofs.Common.{Bor, ◌≡◌, ℕ, suc, ◌+◌, ◌<◌, ◌≤◌, Bool, true, false, cond, ◌&&◌, eqb, ltb, List, [], ◌∷◌, ◌++◌, length, drop, get_or, Option, Some, None, sym, refl, ap, ◌∙◌, subst, inl, inr, arith}
+use Rattle.std.specs.Prelude.{map, is_some, slice_get}
 use Rattle.std.specs.List.{find, list_all, cons_option, position, position_or_len, remove}
-use Rattle.std.specs.Option.{option_copied, option_map, option_and_then}
+use Rattle.std.specs.Option.{option_copied}
 use Rattle.std.proofs.lemmas.Bool.{eqb-true, ne_eqb, ltb-true, ltb-false, cases_Bool}
-use Rattle.std.proofs.lemmas.List.{append_assoc, drop_more, length-map, map-set}
+use Rattle.std.proofs.lemmas.List.{append_assoc, drop_more}
 use Rattle.std.proofs.lemmas.List.Folds.{find_at}
-use Rattle.std.proofs.lemmas.Simd.{map-map}
-use Rattle.std.proofs.lemmas.Option.{slice_get-map, slice_get-get_or, slice_get_past}
+use Rattle.std.proofs.lemmas.Option.{slice_get-get_or, slice_get_past}
 use Rattle.trio_lists.specs.Lists.{In, is_among, are_new}
-use Rattle.trio_raw.specs.Has.{changed_at, changed_first, are_there, named, without, without_all}
+use Rattle.trio_raw.specs.Has.{named, without, without_all}
 use Rattle.trio_lists.proofs.New.{are_new-first}
 
--- ---- an element that is changed
-
--- what an element becomes, the list becomes
-pub changed_map : {X Y : Type 0} (f : Y → Option Y) (v : X → Y) (xs : List X) (i : ℕ) (x y : X) → slice_get xs i ≡ Some x → f (v x) ≡ Some (v y) → changed_at f i (map v xs) ≡ Some (map v (slice_set xs i y))
-changed_map {X} {Y} f v xs i x y at e =
-    ap (λ (o : Option Y). option_and_then (λ z. option_map (λ w. slice_set (map v xs) i w) (f z)) o) (slice_get-map v xs i ∙ ap (option_map v) at)
-    ∙ ap (option_map (λ w. slice_set (map v xs) i w)) e
-    ∙ ap Some (sym (map-set v xs i y))
-
-pub changed_refused : {X Y : Type 0} (f : Y → Option Y) (v : X → Y) (xs : List X) (i : ℕ) (x : X) → slice_get xs i ≡ Some x → f (v x) ≡ None → changed_at f i (map v xs) ≡ None
-changed_refused {X} {Y} f v xs i x at e =
-    ap (λ (o : Option Y). option_and_then (λ z. option_map (λ w. slice_set (map v xs) i w) (f z)) o) (slice_get-map v xs i ∙ ap (option_map v) at)
-    ∙ ap (option_map (λ w. slice_set (map v xs) i w)) e
-
-pub changed_past : {X Y : Type 0} (f : Y → Option Y) (v : X → Y) (xs : List X) (i : ℕ) → slice_get xs i ≡ None → changed_at f i (map v xs) ≡ None
-changed_past {X} {Y} f v xs i at =
-    ap (λ (o : Option Y). option_and_then (λ z. option_map (λ w. slice_set (map v xs) i w) (f z)) o) (slice_get-map v xs i ∙ ap (option_map v) at)
-
--- the same of a list that is seen as it is
-pub changed_at-some : {X : Type 0} (f : X → Option X) (xs : List X) (i : ℕ) (x y : X) → slice_get xs i ≡ Some x → f x ≡ Some y → changed_at f i xs ≡ Some (slice_set xs i y)
-changed_at-some f xs i x y at e = ap (λ o. option_and_then (λ z. option_map (λ w. slice_set xs i w) (f z)) o) at ∙ ap (option_map (λ w. slice_set xs i w)) e
-
-pub changed_at-none : {X : Type 0} (f : X → Option X) (xs : List X) (i : ℕ) → slice_get xs i ≡ None → changed_at f i xs ≡ None
-changed_at-none f xs i at = ap (λ o. option_and_then (λ z. option_map (λ w. slice_set xs i w) (f z)) o) at
-
 -- ---- the first that passes a test
-
-place-map : {X Y : Type 0} (p : Y → Bool) (v : X → Y) (xs : List X) → position_or_len p (map v xs) ≡ position_or_len (λ x. p (v x)) xs
-place-map p v [] = refl
-place-map p v (x ∷ xs) = ap (λ k. cond (not (p (v x))) (1 + k) 0) (place-map p v xs)
-
-pub position-map : {X Y : Type 0} (p : Y → Bool) (v : X → Y) (xs : List X) → position p (map v xs) ≡ position (λ x. p (v x)) xs
-position-map p v xs =
-    ap (λ k. cond (ltb k (length (map v xs))) (Some k) None) (place-map p v xs)
-    ∙ ap (λ n. cond (ltb (position_or_len (λ x. p (v x)) xs) n) (Some (position_or_len (λ x. p (v x)) xs)) None) (length-map xs v)
 
 -- the place is that of the first
 pub position_is : {X : Type 0} (p : X → Bool) (xs : List X) (i : ℕ) → position p xs ≡ Some i → (i ≡ position_or_len p xs) × (i < length xs)
@@ -65,13 +30,6 @@ position_none p xs e =
       | inl t ↦ (let wrong : Some (position_or_len p xs) ≡ None = rw t at e in absurd cc)
       | inr f ↦ ltb-false (position_or_len p xs) (length xs) f
     ]
-
--- a change of the first is one at its place
-pub changed_first-at : {X Y : Type 0} (p : Y → Bool) (f : Y → Option Y) (v : X → Y) (xs : List X) (i : ℕ) → position (λ x. p (v x)) xs ≡ Some i → changed_first p f (map v xs) ≡ changed_at f i (map v xs)
-changed_first-at p f v xs i e = ap (option_and_then (λ j. changed_at f j (map v xs))) (position-map p v xs ∙ e)
-
-pub changed_first-none : {X Y : Type 0} (p : Y → Bool) (f : Y → Option Y) (v : X → Y) (xs : List X) → position (λ x. p (v x)) xs ≡ None → changed_first p f (map v xs) ≡ None
-changed_first-none p f v xs e = ap (option_and_then (λ j. changed_at f j (map v xs))) (position-map p v xs ∙ e)
 
 -- ---- the first of a number
 
@@ -127,40 +85,6 @@ module _ {X : Type 0} (number : X → ℕ) where
   pub named-first : (xs : List X) (n : ℕ) (names : List ℕ) → are_new [] (n ∷ names) ≡ true → named number xs (n ∷ names) ≡ cons_option (find (λ x. eqb (number x) n) xs) (named number (without number xs n) names)
   named-first xs n names once =
       ap (cons_option (find (λ x. eqb (number x) n) xs)) (sym (named-without xs n names (are_new-first n names once).0))
-
--- ---- the same of things as they are shown
-
-pub find-map : {X Y : Type 0} (p : Y → Bool) (v : X → Y) (xs : List X) → find p (map v xs) ≡ option_map v (find (λ x. p (v x)) xs)
-find-map p v [] = refl
-find-map p v (x ∷ xs) =
-    elim (cases_Bool (p (v x))) [
-      | inl t ↦ rw t refl
-      | inr f ↦ rw f (find-map p v xs)
-    ]
-
-cons-map : {X Y : Type 0} (v : X → Y) (o : Option X) (xs : List X) → cons_option (option_map v o) (map v xs) ≡ map v (cons_option o xs)
-cons-map v None xs = refl
-cons-map v (Some x) xs = refl
-
-pub named-map : {X Y : Type 0} (number : Y → ℕ) (v : X → Y) (xs : List X) (names : List ℕ) → named number (map v xs) names ≡ map v (named (λ x. number (v x)) xs names)
-named-map number v xs [] = refl
-named-map number v xs (n ∷ names) =
-    ap (λ o. cons_option o (named number (map v xs) names)) (find-map (λ y. eqb (number y) n) v xs)
-    ∙ ap (cons_option (option_map v (find (λ x. eqb (number (v x)) n) xs))) (named-map number v xs names)
-    ∙ cons-map v (find (λ x. eqb (number (v x)) n) xs) (named (λ x. number (v x)) xs names)
-
-pub without-map : {X Y : Type 0} (number : Y → ℕ) (v : X → Y) (xs : List X) (n : ℕ) → without number (map v xs) n ≡ map v (without (λ x. number (v x)) xs n)
-without-map number v [] n = refl
-without-map number v (x ∷ xs) n =
-    elim (cases_Bool (eqb (number (v x)) n)) [
-      | inl t ↦ rw t refl
-      | inr f ↦ rw f (ap (λ l. v x ∷ l) (without-map number v xs n))
-    ]
-
-pub without_all-map : {X Y : Type 0} (number : Y → ℕ) (v : X → Y) (xs : List X) (names : List ℕ) → without_all number (map v xs) names ≡ map v (without_all (λ x. number (v x)) xs names)
-without_all-map number v xs [] = refl
-without_all-map number v xs (n ∷ names) =
-    ap (λ l. without_all number l names) (without-map number v xs n) ∙ without_all-map number v (without (λ x. number (v x)) xs n) names
 
 -- ---- steps through the numbers that are named
 
@@ -241,31 +165,3 @@ module _ {X : Type 0} (number : X → ℕ) (xs after : List X) (names : List ℕ
       ap (λ l. l ++ named number after (drop (i + 1) names)) is
       ∙ append_assoc before (x ∷ []) (named number after (drop (i + 1) names))
       ∙ ap (λ l. before ++ l) (sym (named_more ∙ ap (λ o. cons_option o (named number after (drop (i + 1) names))) found))
-
--- the first that passes a test, changed or not
-pub first_changed : {X Y : Type 0} (p : Y → Bool) (f : Y → Option Y) (v : X → Y) (xs : List X) (i : ℕ) (old new : X) (done : Bool) → position (λ x. p (v x)) xs ≡ Some i → old ≡ get_or xs i old → f (v old) ≡ cond done (Some (v new)) None → changed_first p f (map v xs) ≡ cond done (Some (map v (slice_set xs i new))) None
-first_changed {X} p f v xs i old new done at is e = by_done done e
-  where
-    there : slice_get xs i ≡ Some old
-    there = slice_get-get_or xs i old (position_is (λ (x : X). p (v x)) xs i at).1 ∙ ap Some (sym is)
-
-    by_done : (done : Bool) → f (v old) ≡ cond done (Some (v new)) None → changed_first p f (map v xs) ≡ cond done (Some (map v (slice_set xs i new))) None
-    by_done true e = changed_first-at p f v xs i at ∙ changed_map f v xs i old new there e
-    by_done false e = changed_first-at p f v xs i at ∙ changed_refused f v xs i old there e
-
-pub map_done : {X Y : Type 0} (g : X → Y) (x : X) (done : Bool) → option_map g (cond done (Some x) None) ≡ cond done (Some (g x)) None
-map_done g x true = refl
-map_done g x false = refl
-
--- what is named is there as it is shown
-pub there-map : {X Y : Type 0} (number : Y → ℕ) (v : X → Y) (xs : List X) (names : List ℕ) → are_there number (map v xs) names ≡ are_there (λ x. number (v x)) xs names
-there-map number v xs names = ap (λ l. list_all (λ n. is_among n l) names && are_new [] names) (map-map number v xs)
-
-map-same : {X : Type 0} (xs : List X) → map (λ x. x) xs ≡ xs
-map-same [] = refl
-map-same (x ∷ xs) = ap (λ ys. x ∷ ys) (map-same xs)
-
--- the same of a list that is seen as it is
-pub changed_first-some : {X : Type 0} (p : X → Bool) (f : X → Option X) (xs : List X) (i : ℕ) (old new : X) (done : Bool) → position p xs ≡ Some i → old ≡ get_or xs i old → f old ≡ cond done (Some new) None → changed_first p f xs ≡ cond done (Some (slice_set xs i new)) None
-changed_first-some p f xs i old new done at is e =
-    ap (changed_first p f) (sym (map-same xs)) ∙ first_changed p f (λ x. x) xs i old new done at is e ∙ ap (λ ys. cond done (Some ys) None) (map-same (slice_set xs i new))

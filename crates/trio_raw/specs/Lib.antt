@@ -1,5 +1,3 @@
 pub mod Has
-pub mod Held
-pub mod InHand
-pub mod Laws
-pub mod Things
+pub mod Asked
+pub mod inner

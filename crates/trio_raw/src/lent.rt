@@ -1,12 +1,14 @@
 //! Lent things by their numbers.
 
-ghost use Rattle.std.specs.Prelude.{◌≡◌, ◌+◌, ◌==◌, ◌≤◌, ◌++◌, ◌&&◌, ◌||◌, ℕ, IsTrue, [], length, map, vec_capacity, vec_len};
+ghost use Rattle.std.specs.Prelude.{◌≡◌, ◌+◌, ◌==◌, ◌≤◌, ◌++◌, ◌&&◌, ◌||◌, ℕ, IfOk, IsTrue, [], length, map, vec_capacity, vec_len};
 ghost use Rattle.std.specs.List.{find, list_all, position};
 ghost use Rattle.std.specs.Option.{option_copied};
 ghost use Rattle.trio_lists.specs.Lists.{are_new, is_among};
 ghost use Rattle.trio_raw.specs.Has.{are_there, named, without, without_all};
 
+use std::alloc::Global;
 use trio_lease::{FreshIno, FreshPage, HoldLease, ReadLease, WriteLease};
+use trio_page::NoMemory;
 
 /// A lent thing that goes by a number.
 pub(crate) trait Lent {
@@ -100,6 +102,17 @@ fn has_one<T: Lent>(things: &[T], number: u32) -> bool
     ensures { result ≡ is_among number (map T.number_of things.now) }
 {
     thing_of(things, number).is_some()
+}
+
+/// The numbers of these things, in their order.
+pub(crate) fn numbers_of<T: Lent>(alloc: Global, things: &[T]) -> Result<Vec<u32>, NoMemory>
+    ensures { IfOk result (λ numbers. numbers.items ≡ map T.number_of things.now) }
+{
+    let mut numbers = Vec::new(alloc);
+    for thing in things {
+        numbers.push(thing.number())?;
+    }
+    Ok(numbers)
 }
 
 /// Whether no number stands twice.

@@ -1,22 +1,21 @@
-//! What a library has of what the controller gave out, and what it may do with it.
+//! A library that nobody checks, over its desk.
 //!
 //! A [`Raw`] keeps the write leases, read leases, holds, allotted pages and allotted inode numbers of
-//! one library. It writes any bytes at any [`Spot`](trio_nodes::Spot) of what is its own to write, as
-//! a library does that nobody checks, looks at any bytes of what it has, and gathers write leases,
-//! holds, pages and numbers into a bundle to hand in. It calls no controller.
+//! one library. It writes any bytes at any [`Spot`](trio_nodes::Spot) of what is its own to write,
+//! looks at any bytes of what it has, and asks its [`Desk`](trio_desk::Desk) for grants, allotments,
+//! changes of mode and verdicts on what it hands in: one call of the desk for each call of its own.
 //!
-//! `specs/Has.antt` says what a library has and what each call makes of it, over plain lists;
-//! `specs/Held.antt` has what contracts see of a [`Raw`]. `specs/InHand.antt` ties what a library
-//! has to the state of the controller that gave it, and [`laws`] says that the tie holds through
-//! all that either of them does.
+//! `specs/Has.antt` says what a library has, what it may do with it, and how it stands on the desk's
+//! list of what is out; `specs/Asked.antt` says what each call comes to, by what the desk tells.
 #![tactic(auto)]
 
-pub mod laws;
+mod back;
 mod lent;
 mod peek;
 mod poke;
 mod raw;
 #[cfg(test)]
 mod tests;
+mod things;
 
-pub use raw::{Raw, RawFault};
+pub use raw::{Absent, Raw, RawFault};

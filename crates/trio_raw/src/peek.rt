@@ -1,10 +1,10 @@
 //! Bytes of lent things, looked at.
 
-ghost use Rattle.std.specs.Prelude.{◌≡◌, ◌==◌, map};
+ghost use Rattle.std.specs.Prelude.{◌≡◌, ◌==◌};
 ghost use Rattle.std.specs.List.{find};
-ghost use Rattle.std.specs.Option.{option_and_then, option_copied, option_map, option_or};
+ghost use Rattle.std.specs.Option.{option_and_then, option_copied, option_map};
 ghost use Rattle.trio_lease.specs.Shown.{page_at};
-ghost use Rattle.trio_raw.specs.Has.{peeked_bytes};
+ghost use Rattle.trio_raw.specs.Has.{body_of, lent_as, nothing, peeked_bytes};
 
 use crate::lent::thing_of;
 use trio_lease::{FreshPage, HoldLease, ReadLease, WriteLease};
@@ -30,7 +30,7 @@ pub(crate) fn shown_body<'a>(
     holds: &'a [HoldLease],
     ino: u32,
 ) -> Option<&'a [u8]>
-    ensures { option_copied result ≡ option_or (option_map (λ l. l.stands.body) (find (λ l. l.stands.ino == ino) files.now)) (option_or (option_map (λ r. r.body) (find (λ r. r.ino == ino) reads.now)) (option_map (λ h. h.body) (find (λ h. h.ino == ino) holds.now))) }
+    ensures { option_copied result ≡ body_of (record nothing { writes = files.now; reads = reads.now; holds = holds.now }) ino }
 {
     if let Some(lease) = thing_of(files, ino) {
         return Some(lease.body());
@@ -50,7 +50,7 @@ pub(crate) fn shown_index<'a>(
     ino: u32,
     page: u32,
 ) -> Option<&'a [u8]>
-    ensures { option_copied result ≡ option_and_then (λ pages. page_at pages page) (option_or (option_map (λ l. l.stands.index) (find (λ l. l.stands.ino == ino) files.now)) (option_map (λ r. r.index) (find (λ r. r.ino == ino) reads.now))) }
+    ensures { option_copied result ≡ option_and_then (λ f. page_at f.index page) (lent_as (record nothing { writes = files.now; reads = reads.now }) ino) }
 {
     let shown = match thing_of(files, ino) {
         Some(lease) => lease.index(page as usize),
@@ -66,7 +66,7 @@ pub(crate) fn shown_block<'a>(
     ino: u32,
     block: u32,
 ) -> Option<&'a [u8]>
-    ensures { option_copied result ≡ option_and_then (λ pages. page_at pages block) (option_or (option_map (λ l. l.stands.blocks) (find (λ l. l.stands.ino == ino) files.now)) (option_map (λ r. r.blocks) (find (λ r. r.ino == ino) reads.now))) }
+    ensures { option_copied result ≡ option_and_then (λ f. page_at f.blocks block) (lent_as (record nothing { writes = files.now; reads = reads.now }) ino) }
 {
     let shown = match thing_of(files, ino) {
         Some(lease) => lease.block(block as usize),

@@ -1,10 +1,7 @@
 //! Bytes written into lent things.
 
 ghost use Rattle.std.specs.Prelude.{◌≡◌, ◌+◌, IsFalse, None, Some, if◌then◌else◌, length, nat_le};
-ghost use Rattle.trio_lease.specs.Views.{fresh_sheet};
-ghost use Rattle.trio_raw.specs.Has.{poked_body, poked_block, poked_index, poked_sheet};
-ghost use Rattle.trio_raw.specs.Held.{file_of};
-ghost use Rattle.trio_raw.specs.Things.{poked_allotted, poked_lease_block, poked_lease_body, poked_lease_index};
+ghost use Rattle.trio_raw.specs.Has.{poked_block, poked_body, poked_fresh, poked_index};
 
 use trio_lease::{FreshPage, WriteLease};
 use trio_page::PAGE_SIZE;
@@ -22,8 +19,7 @@ fn fits(offset: u32, bytes: &[u8], size: usize) -> bool
 
 /// Writes bytes into the file's body. `false` where they leave it; then nothing has changed.
 pub(crate) fn poke_body(lease: &mut WriteLease, offset: u32, bytes: &[u8]) -> bool
-    ensures poked { poked_body offset bytes.now (file_of lease.old) ≡ (if result then Some (file_of lease.new) else None) }
-    ensures thing { poked_lease_body offset bytes.now lease.old ≡ (if result then Some lease.new else None) }
+    ensures poked { poked_body offset bytes.now lease.old ≡ (if result then Some lease.new else None) }
     ensures kept { IsFalse result → lease.new ≡ lease.old }
 {
     if !fits(offset, bytes, BODY_SIZE) {
@@ -36,8 +32,7 @@ pub(crate) fn poke_body(lease: &mut WriteLease, offset: u32, bytes: &[u8]) -> bo
 /// Writes bytes into index page `i` of the file. `false` where there is no such page, or they leave
 /// it; then nothing has changed.
 pub(crate) fn poke_index(lease: &mut WriteLease, i: u32, offset: u32, bytes: &[u8]) -> bool
-    ensures poked { poked_index i offset bytes.now (file_of lease.old) ≡ (if result then Some (file_of lease.new) else None) }
-    ensures thing { poked_lease_index i offset bytes.now lease.old ≡ (if result then Some lease.new else None) }
+    ensures poked { poked_index i offset bytes.now lease.old ≡ (if result then Some lease.new else None) }
     ensures kept { IsFalse result → lease.new ≡ lease.old }
 {
     if !fits(offset, bytes, PAGE_SIZE) {
@@ -55,8 +50,7 @@ pub(crate) fn poke_index(lease: &mut WriteLease, i: u32, offset: u32, bytes: &[u
 /// Writes bytes into block `i` of the file. `false` where there is no such page, or they leave it;
 /// then nothing has changed.
 pub(crate) fn poke_block(lease: &mut WriteLease, i: u32, offset: u32, bytes: &[u8]) -> bool
-    ensures poked { poked_block i offset bytes.now (file_of lease.old) ≡ (if result then Some (file_of lease.new) else None) }
-    ensures thing { poked_lease_block i offset bytes.now lease.old ≡ (if result then Some lease.new else None) }
+    ensures poked { poked_block i offset bytes.now lease.old ≡ (if result then Some lease.new else None) }
     ensures kept { IsFalse result → lease.new ≡ lease.old }
 {
     if !fits(offset, bytes, PAGE_SIZE) {
@@ -73,8 +67,7 @@ pub(crate) fn poke_block(lease: &mut WriteLease, i: u32, offset: u32, bytes: &[u
 
 /// Writes bytes into an allotted page. `false` where they leave it; then nothing has changed.
 pub(crate) fn poke_fresh(page: &mut FreshPage, offset: u32, bytes: &[u8]) -> bool
-    ensures poked { poked_sheet offset bytes.now (fresh_sheet page.old) ≡ (if result then Some (fresh_sheet page.new) else None) }
-    ensures thing { poked_allotted offset bytes.now page.old ≡ (if result then Some page.new else None) }
+    ensures poked { poked_fresh offset bytes.now page.old ≡ (if result then Some page.new else None) }
     ensures kept { IsFalse result → page.new ≡ page.old }
 {
     if !fits(offset, bytes, PAGE_SIZE) {

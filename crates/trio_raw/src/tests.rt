@@ -1,15 +1,19 @@
 ghost use Rattle.std.specs.Prelude.{◌≤◌};
 
 use super::*;
+use crate::things::Things;
 use std::alloc::Global;
 use std::test::Fail;
+use trio_desk::Desk;
 use trio_lease::{
     Allotted, Bundle, FreshIno, FreshPage, FreshParts, HoldLease, HoldParts, InoParts, Lease,
     LentPage, ReadLease, ReadParts, WriteLease, WriteParts,
 };
-use trio_nodes::Spot;
-use trio_page::{NoMemory, Page, PageNo};
-use trio_rights::{Kind, LibNo};
+use trio_nodes::{
+    AllotAnswer, AllotFault, GrantFault, GrantKind, ModeFault, ReleaseAnswer, ReleaseFault, Spot,
+};
+use trio_page::{NoMemory, Page, PageNo, Reads};
+use trio_rights::{Creds, Kind, LibNo};
 
 fn lent_page(alloc: Global, no: u32) -> Result<LentPage, NoMemory> {
     Ok(LentPage {
@@ -93,49 +97,121 @@ fn allotted(alloc: Global) -> Result<Allotted, NoMemory> {
 }
 
 /// Adds a lease where there is room for it, and answers whether there was.
-fn add(raw: &mut Raw, lease: Result<Lease, NoMemory>) -> bool {
+fn add(things: &mut Things, lease: Result<Lease, NoMemory>) -> bool {
     let Ok(lease) = lease else { return false };
-    if raw.reserve_lease().is_err() {
+    if things.reserve_lease().is_err() {
         lease.discard();
         return false;
     }
-    if let Err((lease, _)) = raw.add_lease(lease) {
-        lease.discard();
-        unreachable!()
-    }
+    let _children = things.add_lease(lease);
     true
 }
 
-/// Adds what was allotted where there is room for it, and answers whether there was.
-fn add_fresh(raw: &mut Raw, given: Result<Allotted, NoMemory>) -> bool {
+/// Adds what was allotted where there is room for it. Answers whether there was, and the answer
+/// tells its numbers.
+fn add_fresh(things: &mut Things, alloc: Global, given: Result<Allotted, NoMemory>) -> bool {
     let Ok(given) = given else { return false };
-    if raw.reserve_allotted(1, 1).is_err() {
-        given.discard();
-        return false;
-    }
-    match raw.add_allotted(given) {
-        Ok(()) => true,
-        Err((given, _)) => {
-            given.discard();
-            false
+    match things.add_allotted(alloc, given) {
+        Ok(AllotAnswer::Given { pages, inodes }) => {
+            pages.as_slice() == [50].as_slice() && inodes.as_slice() == [11].as_slice()
         }
+        _ => false,
     }
 }
 
-/// Library 2 with write leases on files 7 and 8, a read lease on file 5, a hold on file 6, page 50 and
-/// inode number 11.
-fn library(alloc: Global) -> Result<Raw, NoMemory> {
-    let mut raw = Raw::new(alloc, LibNo(2));
-    if add(&mut raw, lease_on(alloc, 7))
-        && add(&mut raw, lease_on(alloc, 8))
-        && add(&mut raw, read_on(alloc, 5))
-        && add(&mut raw, Ok(hold_on(6)))
-        && add_fresh(&mut raw, allotted(alloc))
+/// Write leases on files 7 and 8, a read lease on file 5, a hold on file 6, page 50 and inode
+/// number 11.
+fn some_things(alloc: Global) -> Result<Things, NoMemory> {
+    let mut things = Things::new(alloc);
+    if add(&mut things, lease_on(alloc, 7))
+        && add(&mut things, lease_on(alloc, 8))
+        && add(&mut things, read_on(alloc, 5))
+        && add(&mut things, Ok(hold_on(6)))
+        && add_fresh(&mut things, alloc, allotted(alloc))
     {
-        return Ok(raw);
+        return Ok(things);
     }
-    raw.discard();
+    things.discard();
     Err(NoMemory)
+}
+
+/// Writes at a spot of this size: its first byte becomes 1 and its last 2. Answers whether just
+/// what stays within it was written.
+fn poke_ends(things: &mut Things, at: Spot, size: u32) -> bool
+    requires { (4 ≤ size) × (size ≤ 4096) }
+{
+    things.poke(at, 0, &[1])
+        && things.poke(at, size - 2, &[3, 2])
+        && things.poke(at, size, &[])
+        && !things.poke(at, size, &[4])
+        && !things.poke(at, size - 1, &[4, 4])
+        && !things.poke(at, u32::MAX, &[4])
+}
+
+/// The first of these bytes and how many there are.
+fn seen(bytes: Option<&[u8]>) -> Option<(u8, usize)> {
+    let bytes = bytes?;
+    Some((*bytes.get(0)?, bytes.len()))
+}
+
+#[test]
+fn bytes_stay_within_their_spot(rt: HostRuntime) -> Result<(), Fail> {
+    let mut things = some_things(rt.alloc())?;
+    for (at, size) in [
+        (Spot::Body(8), 64),
+        (Spot::Index(8, 0), 4096),
+        (Spot::Block(8, 1), 4096),
+        (Spot::Fresh(50), 4096),
+    ] {
+        assert!(rt; poke_ends(&mut things, at, size));
+        assert!(rt; seen(things.peek(at, 0, size)) == Some((1, size as usize)));
+        assert!(rt; seen(things.peek(at, size - 1, 1)) == Some((2, 1)));
+    }
+    assert!(rt; seen(things.peek(Spot::Block(8, 0), 0, 4096)) == Some((0, 4096)));
+    assert!(rt; seen(things.peek(Spot::Body(7), 0, 64)) == Some((0, 64)));
+    for at in [
+        Spot::Body(9),
+        Spot::Index(7, 1),
+        Spot::Block(7, 2),
+        Spot::Body(5),
+        Spot::Body(6),
+        Spot::Fresh(30),
+    ] {
+        assert!(rt; !things.poke(at, 0, &[1]) && !things.poke(at, 0, &[]));
+    }
+    things.discard();
+    Ok(())
+}
+
+#[test]
+fn each_lease_shows_what_it_has(rt: HostRuntime) -> Result<(), Fail> {
+    let mut things = some_things(rt.alloc())?;
+    assert!(rt; things.poke(Spot::Body(7), 63, &[1]) && things.poke(Spot::Index(8, 0), 1, &[2]));
+    assert!(rt;
+        things.poke(Spot::Block(7, 1), 4095, &[3]) && things.poke(Spot::Fresh(50), 9, &[4])
+    );
+    for (at, offset, len, expected) in [
+        (Spot::Body(7), 63, 1, Some((1, 1))),
+        (Spot::Index(8, 0), 1, 4095, Some((2, 4095))),
+        (Spot::Block(7, 1), 4095, 1, Some((3, 1))),
+        (Spot::Fresh(50), 9, 2, Some((4, 2))),
+        (Spot::Body(5), 0, 64, Some((5, 64))),
+        (Spot::Index(5, 0), 0, 4096, Some((0, 4096))),
+        (Spot::Block(5, 0), 0, 4096, Some((0, 4096))),
+        (Spot::Body(6), 60, 4, Some((6, 4))),
+        (Spot::Body(7), 63, 2, None),
+        (Spot::Body(5), 0, 65, None),
+        (Spot::Block(7, 1), u32::MAX, u32::MAX, None),
+        (Spot::Index(6, 0), 0, 1, None),
+        (Spot::Block(6, 0), 0, 1, None),
+        (Spot::Block(5, 1), 0, 1, None),
+        (Spot::Body(9), 0, 1, None),
+        (Spot::Fresh(30), 0, 1, None),
+    ] {
+        assert!(rt; seen(things.peek(at, offset, len)) == expected);
+    }
+    things.discard();
+    Ok(())
 }
 
 /// Of the first file in a bundle, its library, its entry where a `u32` has it, and 1 where its block
@@ -159,133 +235,36 @@ fn numbers_in(bundle: Bundle) -> [u32; 10] {
     numbers
 }
 
-/// The numbers in the bundle that is taken.
-fn taken(
-    raw: &mut Raw,
-    alloc: Global,
-    inos: &[u32],
-    pages: &[u32],
-    inodes: &[u32],
-) -> Result<[u32; 10], RawFault> {
-    match raw.take(inos, pages, inodes) {
-        Ok(bundle) => Ok(numbers_in(bundle)),
-        Err(fault) => Err(fault),
-    }
-}
-
-/// The numbers in the bundle of all.
-fn all_taken(raw: &mut Raw, alloc: Global) -> Option<[u32; 10]> {
-    match raw.take_all() {
-        Some(bundle) => Some(numbers_in(bundle)),
-        None => None,
-    }
-}
-
-/// The first and the last byte of a page.
-fn ends_of(page: Option<&Page>) -> Option<[u8; 2]> {
-    let bytes = page?.bytes();
-    Some([bytes[0], bytes[4095]])
-}
-
-/// The first and the last byte of each part of file `i` of a bundle: its body, its index page and
-/// its blocks.
-fn file_ends(bundle: &Bundle, i: usize) -> Option<[[u8; 2]; 4]> {
-    let file = bundle.writes().get(i)?;
-    let body = file.body();
-    Some([
-        [body[0], body[63]],
-        ends_of(file.index(0))?,
-        ends_of(file.block(0))?,
-        ends_of(file.block(1))?,
-    ])
-}
-
-/// Writes at a spot of this size: its first byte becomes 1 and its last 2. Answers whether just
-/// what stays within it was written.
-fn poke_ends(raw: &mut Raw, at: Spot, size: u32) -> bool
-    requires { (4 ≤ size) × (size ≤ 4096) }
-{
-    raw.poke(at, 0, &[1])
-        && raw.poke(at, size - 2, &[3, 2])
-        && raw.poke(at, size, &[])
-        && !raw.poke(at, size, &[4])
-        && !raw.poke(at, size - 1, &[4, 4])
-        && !raw.poke(at, u32::MAX, &[4])
-}
-
 #[test]
-fn bytes_stay_within_their_spot(rt: HostRuntime) -> Result<(), Fail> {
-    let mut raw = library(rt.alloc())?;
-    assert!(rt; poke_ends(&mut raw, Spot::Body(8), 64));
-    assert!(rt; poke_ends(&mut raw, Spot::Index(8, 0), 4096));
-    assert!(rt; poke_ends(&mut raw, Spot::Block(8, 1), 4096));
-    assert!(rt; poke_ends(&mut raw, Spot::Fresh(50), 4096));
-    let all = raw.take_all();
-    raw.discard();
-    let Some(bundle) = all else {
-        return Err("nothing is there".into());
+fn what_is_named_is_taken_and_put_back(rt: HostRuntime) -> Result<(), Fail> {
+    let alloc = rt.alloc();
+    let mut things = some_things(alloc)?;
+    assert!(rt; things.poke(Spot::Block(8, 0), 0, &[1]));
+    for (inos, pages, inodes) in [
+        (&[9], &[], &[]),
+        (&[5], &[], &[]),
+        (&[7], &[51], &[]),
+        (&[7], &[50], &[12]),
+        (&[7, 7], &[], &[]),
+        (&[6, 7, 6], &[], &[]),
+    ] as [(&[u32], &[u32], &[u32]); 6]
+    {
+        assert!(rt; !things.has_all_of(inos, pages, inodes));
+    }
+    assert!(rt; things.has_all_of(&[6, 7], &[50], &[]));
+    let Ok(bundle) = things.take(alloc, &[6, 7], &[50], &[]) else {
+        things.discard();
+        return Err("no memory".into());
     };
-    assert!(rt; file_ends(&bundle, 0) == Some([[0, 0], [0, 0], [0, 0], [0, 0]]));
-    assert!(rt; file_ends(&bundle, 1) == Some([[1, 2], [1, 2], [0, 0], [1, 2]]));
-    let fresh = bundle.pages().get(0).map(|page| page.page());
-    assert!(rt; ends_of(fresh) == Some([1, 2]));
-    bundle.discard();
-    Ok(())
-}
-
-#[test]
-fn what_is_not_there_is_not_written(rt: HostRuntime) -> Result<(), Fail> {
-    let mut raw = library(rt.alloc())?;
-    for at in [
-        Spot::Body(9),
-        Spot::Index(9, 0),
-        Spot::Index(7, 1),
-        Spot::Block(9, 0),
-        Spot::Block(7, 2),
-        Spot::Body(5),
-        Spot::Block(5, 0),
-        Spot::Body(6),
-        Spot::Fresh(30),
-        Spot::Fresh(51),
-    ] {
-        assert!(rt; !raw.poke(at, 0, &[1]) && !raw.poke(at, 0, &[]));
+    assert!(rt; !things.has_all_of(&[7], &[], &[]) && things.has_all_of(&[8], &[], &[11]));
+    things.put_back(bundle);
+    assert!(rt; let_go(things.take_read(5)) == Some(5));
+    if let Some(lease) = things.last_read() {
+        lease.discard();
+        things.discard();
+        return Err("a read lease is left".into());
     }
-    raw.discard();
-    Ok(())
-}
-
-/// The first of these bytes and how many there are.
-fn seen(bytes: Option<&[u8]>) -> Option<(u8, usize)> {
-    let bytes = bytes?;
-    Some((*bytes.get(0)?, bytes.len()))
-}
-
-#[test]
-fn each_lease_shows_what_it_has(rt: HostRuntime) -> Result<(), Fail> {
-    let mut raw = library(rt.alloc())?;
-    assert!(rt; raw.poke(Spot::Body(7), 63, &[1]) && raw.poke(Spot::Index(8, 0), 1, &[2]));
-    assert!(rt; raw.poke(Spot::Block(7, 1), 4095, &[3]) && raw.poke(Spot::Fresh(50), 9, &[4]));
-    for (at, offset, len, expected) in [
-        (Spot::Body(7), 63, 1, Some((1, 1))),
-        (Spot::Index(8, 0), 1, 4095, Some((2, 4095))),
-        (Spot::Block(7, 1), 4095, 1, Some((3, 1))),
-        (Spot::Fresh(50), 9, 2, Some((4, 2))),
-        (Spot::Body(5), 0, 64, Some((5, 64))),
-        (Spot::Index(5, 0), 0, 4096, Some((0, 4096))),
-        (Spot::Block(5, 0), 0, 4096, Some((0, 4096))),
-        (Spot::Body(6), 60, 4, Some((6, 4))),
-        (Spot::Body(7), 63, 2, None),
-        (Spot::Body(5), 0, 65, None),
-        (Spot::Block(7, 1), u32::MAX, u32::MAX, None),
-        (Spot::Index(6, 0), 0, 1, None),
-        (Spot::Block(6, 0), 0, 1, None),
-        (Spot::Block(5, 1), 0, 1, None),
-        (Spot::Body(9), 0, 1, None),
-        (Spot::Fresh(30), 0, 1, None),
-    ] {
-        assert!(rt; seen(raw.peek(at, offset, len)) == expected);
-    }
-    raw.discard();
+    assert!(rt; numbers_in(things.into_bundle()) == [2, 5, 1, 8, 7, 6, 50, 0, 11, 0]);
     Ok(())
 }
 
@@ -297,58 +276,81 @@ fn let_go(lease: Option<ReadLease>) -> Option<u32> {
     Some(ino)
 }
 
-#[test]
-fn read_leases_are_given_back_and_not_handed_in(rt: HostRuntime) -> Result<(), Fail> {
-    let alloc = rt.alloc();
-    let mut raw = library(alloc)?;
-    assert!(rt; taken(&mut raw, alloc, &[5], &[], &[]) == Err(RawFault::Absent));
-    assert!(rt; let_go(raw.back(7)).is_none() && let_go(raw.back(6)).is_none());
-    assert!(rt; let_go(raw.back(5)) == Some(5));
-    assert!(rt; let_go(raw.back(5)).is_none() && let_go(raw.last_read()).is_none());
-    assert!(rt; add(&mut raw, read_on(alloc, 5)) && add(&mut raw, read_on(alloc, 4)));
-    assert!(rt; all_taken(&mut raw, alloc) == Some([2, 5, 0, 7, 8, 6, 50, 0, 11, 0]));
-    assert!(rt; let_go(raw.last_read()) == Some(4) && let_go(raw.last_read()) == Some(5));
-    raw.discard();
-    Ok(())
+/// A desk of library 2 that gives nothing, and counts how often it was asked.
+#[derive(Drop)]
+struct Closed {
+    asked: u32,
 }
 
-#[test]
-fn one_of_two_is_taken(rt: HostRuntime) -> Result<(), Fail> {
-    let alloc = rt.alloc();
-    let mut raw = library(alloc)?;
-    assert!(rt; raw.lib() == LibNo(2));
-    assert!(rt; raw.poke(Spot::Block(8, 0), 0, &[1]));
-    for (inos, pages, inodes) in [
-        (&[9], &[], &[]),
-        (&[7], &[51], &[]),
-        (&[7], &[50], &[12]),
-        (&[7, 7], &[], &[]),
-        (&[6, 7, 6], &[], &[]),
-    ] as [(&[u32], &[u32], &[u32]); 5]
-    {
-        assert!(rt; taken(&mut raw, alloc, inos, pages, inodes) == Err(RawFault::Absent));
+impl Desk for Closed {
+    ghost use Rattle.std.specs.Prelude.{⊤, []};
+
+    ghost seen = { λ d. record { lib = record { 0 = 2 }; creds = record { uid = 0; gid = 0 }; out = record { writes = []; reads = []; holds = []; pages = []; numbers = [] } } };
+
+    ghost called = { λ d ask told d'. ⊤ };
+
+    fn creds(&self) -> Creds {
+        Creds { uid: 0, gid: 0 }
     }
-    assert!(rt; put_back_again(&mut raw, &[6, 7]) == Ok(()));
-    assert!(rt; taken(&mut raw, alloc, &[6, 8], &[50], &[]) == Ok([2, 5, 1, 8, 0, 6, 50, 0, 0, 0]));
-    assert!(rt; all_taken(&mut raw, alloc) == Some([2, 5, 0, 7, 0, 0, 0, 0, 11, 0]));
-    raw.discard();
-    Ok(())
+
+    fn grant(&mut self, _ino: u32, _kind: GrantKind) -> Result<Lease, GrantFault> {
+        self.asked = self.asked.saturating_add(1);
+        Err(GrantFault::NotLive)
+    }
+
+    fn allot(&mut self, pages: u32, _inodes: u32) -> Result<Allotted, AllotFault> {
+        self.asked = self.asked.saturating_add(1);
+        Err(AllotFault::NoPages {
+            wanted: pages,
+            free: 0,
+        })
+    }
+
+    fn give_back(&mut self, lease: ReadLease) {
+        lease.discard();
+    }
+
+    fn release(
+        &mut self,
+        bundle: Bundle,
+        _reads: &mut Reads,
+    ) -> Result<ReleaseAnswer, (Bundle, ReleaseFault)> {
+        self.asked = self.asked.saturating_add(1);
+        bundle.discard();
+        Ok(ReleaseAnswer::Accepted)
+    }
+
+    fn set_mode(&mut self, _ino: u32, _mode: u16) -> Result<(), ModeFault> {
+        self.asked = self.asked.saturating_add(1);
+        Err(ModeFault::NotOwner)
+    }
 }
 
-/// Takes these files and puts them back.
-fn put_back_again(raw: &mut Raw, inos: &[u32]) -> Result<(), RawFault> {
-    let bundle = raw.take(inos, &[], &[])?;
-    raw.put_back(bundle);
-    Ok(())
+/// Whether the answer is that just so many pages were wanted and none is free.
+fn lacks(answer: Result<AllotAnswer, NoMemory>, pages: u32) -> bool {
+    matches!(&answer, Ok(AllotAnswer::Refused(AllotFault::NoPages { wanted, free: 0 })) if *wanted == pages)
 }
 
 #[test]
-fn all_is_taken_in_the_order_in_which_it_came(rt: HostRuntime) -> Result<(), Fail> {
-    let alloc = rt.alloc();
-    let mut raw = library(alloc)?;
-    assert!(rt; taken(&mut raw, alloc, &[], &[], &[]) == Ok([0; 10]));
-    assert!(rt; all_taken(&mut raw, alloc) == Some([2, 5, 0, 7, 8, 6, 50, 0, 11, 0]));
-    assert!(rt; all_taken(&mut raw, alloc).is_none());
-    raw.discard();
+fn a_desk_is_asked_once_or_not_at_all(rt: HostRuntime) -> Result<(), Fail> {
+    let mut desk = Closed { asked: 0 };
+    let mut raw = Raw::new(rt.alloc(), LibNo(2));
+    assert!(rt; raw.lib() == LibNo(2));
+    assert!(rt; raw.grant(&mut desk, 3, GrantKind::Write) == Err(GrantFault::NotLive));
+    assert!(rt; desk.asked == 1);
+    assert!(rt; lacks(raw.allot(&mut desk, 5, 1), 5) && desk.asked == 2);
+    assert!(rt; raw.set_mode(&mut desk, 3, 0o700) == Err(ModeFault::NotOwner) && desk.asked == 3);
+    assert!(rt; raw.back(&mut desk, 3) == Err(Absent) && desk.asked == 3);
+    assert!(rt; raw.release(&mut desk, &[3], &[], &[]) == Err(RawFault::Absent));
+    assert!(rt; desk.asked == 3);
+    assert!(rt; raw.release(&mut desk, &[], &[], &[]) == Ok(ReleaseAnswer::Accepted));
+    assert!(rt; desk.asked == 4);
+    match raw.end(&mut desk) {
+        Ok(answer) => assert!(rt; answer.is_none() && desk.asked == 4),
+        Err((raw, _)) => {
+            raw.discard();
+            return Err("the library has something".into());
+        }
+    }
     Ok(())
 }

@@ -1,5 +1,0 @@
-use Rattle.trio_raw.proofs.Steps.{given_out_is_in_hand}
-use Rattle.trio_raw.proofs.laws.given_out_is_in_hand.Goals as goal
-
-pub returns : goal.returns
-returns c = record { law = given_out_is_in_hand }

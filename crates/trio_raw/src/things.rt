@@ -1,0 +1,382 @@
+//! Lent things, kept.
+
+ghost use Rattle.std.specs.Prelude.{◌≡◌, ◌∷◌, ◌++◌, ◌+◌, ◌==◌, [], IfOk, IfSome, IsFalse, IsNone, IsTrue, None, OnErr, OnOk, Some, if◌then◌else◌, map};
+ghost use Rattle.std.specs.Option.{option_copied};
+ghost use Rattle.trio_nodes.specs.declared.entry.AllotAnswer.TheVariants.{Given};
+ghost use Rattle.trio_desk.specs.Out.{ino_numbers, page_numbers, parcel_of};
+ghost use Rattle.trio_raw.specs.Asked.{children_in};
+ghost use Rattle.trio_raw.specs.Has.{bytes_at, has_all_of, has_nothing, keeps_lease, nothing, parcel_named, peeked, poked, poked_block, poked_body, poked_fresh, poked_index, read_on, rest_of, whole_parcel, with_file, with_fresh, with_parcel, with_reads, without_read};
+ghost use Rattle.trio_raw.specs.inner.Stock.{HasPlaceFor, HasRoomFor, HasSpare, with_given};
+
+use crate::lent::{
+    append_all, have_all, have_either, let_go_all, move_all, numbers_of, place_of, take_one,
+};
+use crate::peek::{peek_bytes, shown_block, shown_body, shown_fresh, shown_index};
+use crate::poke::{poke_block, poke_body, poke_fresh, poke_index};
+use std::alloc::Global;
+use std::marker::Model;
+use trio_lease::{
+    Allotted, Bundle, BundleParts, FreshIno, FreshPage, HoldLease, Lease, ReadLease, WriteLease,
+};
+use trio_nodes::{AllotAnswer, List, Spot};
+use trio_page::NoMemory;
+
+/// Write leases, read leases, holds, allotted pages and allotted inode numbers, each kind in the
+/// order in which it came.
+///
+/// Contracts see what is had and, as `room`, how many of each kind have a place (`Stock`).
+pub(crate) struct Things {
+    writes: Vec<WriteLease>,
+    reads: Vec<ReadLease>,
+    holds: Vec<HoldLease>,
+    pages: Vec<FreshPage>,
+    inodes: Vec<FreshIno>,
+}
+
+impl Model for Things {
+    ghost use Rattle.std.specs.Prelude.{vec_capacity};
+    ghost use Rattle.trio_raw.specs.inner.Stock.{Stock};
+
+    ghost Value = { Stock };
+
+    ghost view = { λ t. record {
+      has = record { writes = t.writes.items; reads = t.reads.items; holds = t.holds.items; pages = t.pages.items; inodes = t.inodes.items };
+      room = record { writes = vec_capacity t.writes; reads = vec_capacity t.reads; holds = vec_capacity t.holds; pages = vec_capacity t.pages; inodes = vec_capacity t.inodes };
+    } };
+}
+
+impl Things {
+    /// Nothing. It takes no memory.
+    pub(crate) fn new(alloc: Global) -> Things
+        ensures { result.has ≡ nothing }
+    {
+        Things {
+            writes: Vec::new(alloc),
+            reads: Vec::new(alloc),
+            holds: Vec::new(alloc),
+            pages: Vec::new(alloc),
+            inodes: Vec::new(alloc),
+        }
+    }
+
+    /// Makes room for one more lease of any kind. After [`NoMemory`] too nothing else has changed.
+    pub(crate) fn reserve_lease(&mut self) -> Result<(), NoMemory>
+        ensures kept { self.new.has ≡ self.old.has }
+        ensures room { OnOk result (HasSpare self.new) }
+    {
+        self.writes.reserve(1)?;
+        self.reads.reserve(1)?;
+        self.holds.reserve(1)
+    }
+
+    /// Adds a lease as the last one of its kind. Returns the number of children that it tells.
+    pub(crate) fn add_lease(&mut self, lease: Lease) -> u32
+        requires { HasSpare self.old }
+        ensures children { result ≡ children_in lease }
+        ensures added { self.new.has ≡ keeps_lease self.old.has lease }
+    {
+        match lease {
+            Lease::Write(lease) => {
+                self.writes.push_reserved(lease);
+                0
+            }
+            Lease::Read(lease) => {
+                self.reads.push_reserved(lease);
+                0
+            }
+            Lease::Hold(lease) => {
+                let children = lease.children();
+                self.holds.push_reserved(lease);
+                children
+            }
+        }
+    }
+
+    /// Adds what an allotment gave, as the last pages and numbers. Returns their numbers.
+    ///
+    /// With [`NoMemory`] all that was given is let go, and nothing has changed.
+    pub(crate) fn add_allotted(
+        &mut self,
+        alloc: Global,
+        given: Allotted,
+    ) -> Result<AllotAnswer, NoMemory>
+        ensures answer { IfOk result (λ answer. answer ≡ Given (page_numbers given.pages.items) (ino_numbers given.inodes.items)) }
+        ensures added { OnOk result (self.new.has ≡ with_given self.old.has given) }
+        ensures kept { OnErr result (self.new.has ≡ self.old.has) }
+    {
+        let Ok(answer) = answer_of(alloc, &given) else {
+            given.discard();
+            return Err(NoMemory);
+        };
+        if self.pages.reserve(given.pages.len()).is_err()
+            || self.inodes.reserve(given.inodes.len()).is_err()
+        {
+            given.discard();
+            return Err(NoMemory);
+        }
+        let Allotted { pages, inodes } = given;
+        append_all(pages, &mut self.pages);
+        append_all(inodes, &mut self.inodes);
+        Ok(answer)
+    }
+
+    /// Writes these bytes at a spot, from an offset on. `false` exactly where there is no such write
+    /// lease or allotted page, or the bytes leave it, and then nothing has changed.
+    pub(crate) fn poke(&mut self, at: Spot, offset: u32, bytes: &[u8]) -> bool
+        ensures poked { poked self.old.has at offset bytes.now ≡ (if result then Some self.new.has else None) }
+        ensures kept { IsFalse result → self.new.has ≡ self.old.has }
+    {
+        match at {
+            Spot::Body(ino) => self.poke_body(ino, offset, bytes),
+            Spot::Index(ino, page) => self.poke_index(ino, page, offset, bytes),
+            Spot::Block(ino, block) => self.poke_block(ino, block, offset, bytes),
+            Spot::Fresh(page) => self.poke_fresh(page, offset, bytes),
+        }
+    }
+
+    fn poke_body(&mut self, ino: u32, offset: u32, bytes: &[u8]) -> bool
+        ensures poked { with_file (poked_body offset bytes.now) ino self.old.has ≡ (if result then Some self.new.has else None) }
+        ensures kept { IsFalse result → self.new.has ≡ self.old.has }
+    {
+        match place_of(&self.writes, ino) {
+            Some(i) => poke_body(&mut self.writes[i], offset, bytes),
+            None => false,
+        }
+    }
+
+    fn poke_index(&mut self, ino: u32, page: u32, offset: u32, bytes: &[u8]) -> bool
+        ensures poked { with_file (poked_index page offset bytes.now) ino self.old.has ≡ (if result then Some self.new.has else None) }
+        ensures kept { IsFalse result → self.new.has ≡ self.old.has }
+    {
+        match place_of(&self.writes, ino) {
+            Some(i) => poke_index(&mut self.writes[i], page, offset, bytes),
+            None => false,
+        }
+    }
+
+    fn poke_block(&mut self, ino: u32, block: u32, offset: u32, bytes: &[u8]) -> bool
+        ensures poked { with_file (poked_block block offset bytes.now) ino self.old.has ≡ (if result then Some self.new.has else None) }
+        ensures kept { IsFalse result → self.new.has ≡ self.old.has }
+    {
+        match place_of(&self.writes, ino) {
+            Some(i) => poke_block(&mut self.writes[i], block, offset, bytes),
+            None => false,
+        }
+    }
+
+    fn poke_fresh(&mut self, page: u32, offset: u32, bytes: &[u8]) -> bool
+        ensures poked { with_fresh (poked_fresh offset bytes.now) page self.old.has ≡ (if result then Some self.new.has else None) }
+        ensures kept { IsFalse result → self.new.has ≡ self.old.has }
+    {
+        match place_of(&self.pages, page) {
+            Some(i) => poke_fresh(&mut self.pages[i], offset, bytes),
+            None => false,
+        }
+    }
+
+    /// The bytes of this length at a spot, from an offset on. `None` exactly where there is no such
+    /// thing, or they leave it.
+    pub(crate) fn peek(&self, at: Spot, offset: u32, len: u32) -> Option<&[u8]>
+        ensures { option_copied result ≡ peeked self.now.has at offset len }
+    {
+        peek_bytes(self.shown(at)?, offset, len)
+    }
+
+    /// All bytes at a spot.
+    fn shown(&self, at: Spot) -> Option<&[u8]>
+        ensures { option_copied result ≡ bytes_at self.now.has at }
+    {
+        match at {
+            Spot::Body(ino) => shown_body(&self.writes, &self.reads, &self.holds, ino),
+            Spot::Index(ino, page) => shown_index(&self.writes, &self.reads, ino, page),
+            Spot::Block(ino, block) => shown_block(&self.writes, &self.reads, ino, block),
+            Spot::Fresh(page) => shown_fresh(&self.pages, page),
+        }
+    }
+
+    /// Takes the first read lease on this file out. `None` exactly where there is none.
+    pub(crate) fn take_read(&mut self, ino: u32) -> Option<ReadLease>
+        ensures lease { result ≡ read_on self.old.has ino }
+        ensures rest { self.new.has ≡ without_read self.old.has ino }
+    {
+        take_one(&mut self.reads, ino)
+    }
+
+    /// Takes the last read lease out. `None` exactly where there is none.
+    pub(crate) fn last_read(&mut self) -> Option<ReadLease>
+        ensures lease { IfSome result (λ r. self.old.has.reads ≡ self.new.has.reads ++ r ∷ []) }
+        ensures none { IsNone result → self.old.has.reads ≡ [] }
+        ensures rest { self.new.has ≡ with_reads self.old.has self.new.has.reads }
+        ensures kept { IsNone result → self.new.has ≡ self.old.has }
+    {
+        self.reads.pop()
+    }
+
+    /// Whether all that is named is there, each named once: a write lease or a hold on each file, and
+    /// the allotted pages and inode numbers.
+    pub(crate) fn has_all_of(&self, inos: &[u32], pages: &[u32], inodes: &[u32]) -> bool
+        ensures { result ≡ has_all_of self.now.has inos.now pages.now inodes.now }
+    {
+        if !have_either(&self.writes, &self.holds, inos) {
+            return false;
+        }
+        if !have_all(&self.pages, pages) {
+            return false;
+        }
+        have_all(&self.inodes, inodes)
+    }
+
+    /// Takes all that is named out, as a bundle of just these in the order in which they are named.
+    /// It has its places, and may be put back ([`put_back`](Self::put_back)).
+    ///
+    /// After [`NoMemory`] nothing has changed.
+    pub(crate) fn take(
+        &mut self,
+        alloc: Global,
+        inos: &[u32],
+        pages: &[u32],
+        inodes: &[u32],
+    ) -> Result<Bundle, NoMemory>
+        requires { IsTrue (has_all_of self.old.has inos.now pages.now inodes.now) }
+        ensures parcel { IfOk result (λ b. parcel_of b ≡ parcel_named self.old.has inos.now pages.now inodes.now) }
+        ensures place { IfOk result (λ b. HasPlaceFor self.new (parcel_of b)) }
+        ensures rest { OnOk result (self.new.has ≡ rest_of self.old.has inos.now pages.now inodes.now) }
+        ensures kept { OnErr result (self.new.has ≡ self.old.has) }
+    {
+        let mut parts = room_for(alloc, inos.len(), pages.len(), inodes.len())?;
+        move_all(&mut self.writes, inos, &mut parts.writes);
+        move_all(&mut self.holds, inos, &mut parts.holds);
+        move_all(&mut self.pages, pages, &mut parts.pages);
+        move_all(&mut self.inodes, inodes, &mut parts.inodes);
+        Ok(Bundle::of(parts))
+    }
+
+    /// Puts back what [`take`](Self::take) took, each kind behind what is there.
+    pub(crate) fn put_back(&mut self, bundle: Bundle)
+        requires { HasPlaceFor self.old (parcel_of bundle) }
+        ensures { self.new.has ≡ with_parcel self.old.has (parcel_of bundle) }
+    {
+        let BundleParts {
+            writes,
+            holds,
+            pages,
+            inodes,
+        } = bundle.parts();
+        append_all(writes, &mut self.writes);
+        append_all(holds, &mut self.holds);
+        append_all(pages, &mut self.pages);
+        append_all(inodes, &mut self.inodes);
+    }
+
+    /// Whether there is nothing but read leases.
+    pub(crate) fn has_nothing(&self) -> bool
+        ensures { result ≡ has_nothing self.now.has }
+    {
+        self.writes.is_empty()
+            && self.holds.is_empty()
+            && self.pages.is_empty()
+            && self.inodes.is_empty()
+    }
+
+    /// All of it as one bundle, in the order in which it came, where there is no read lease. It takes
+    /// no memory.
+    pub(crate) fn into_bundle(self) -> Bundle
+        requires { self.has.reads ≡ [] }
+        ensures { parcel_of result ≡ whole_parcel self.has }
+    {
+        let Things {
+            writes,
+            reads,
+            holds,
+            pages,
+            inodes,
+        } = self;
+        reads.destroy_empty();
+        Bundle::of(BundleParts {
+            writes,
+            holds,
+            pages,
+            inodes,
+        })
+    }
+
+    /// What a bundle has. It takes no memory.
+    pub(crate) fn of_bundle(alloc: Global, bundle: Bundle) -> Things
+        ensures { result.has ≡ record { writes = bundle.writes; reads = []; holds = bundle.holds; pages = bundle.pages; inodes = bundle.inodes } }
+    {
+        let BundleParts {
+            writes,
+            holds,
+            pages,
+            inodes,
+        } = bundle.parts();
+        Things {
+            writes,
+            reads: Vec::new(alloc),
+            holds,
+            pages,
+            inodes,
+        }
+    }
+
+    /// Lets all of it go. It stays out for good.
+    pub(crate) fn discard(self) {
+        let Things {
+            writes,
+            reads,
+            holds,
+            pages,
+            inodes,
+        } = self;
+        let_go_all(writes);
+        let_go_all(reads);
+        let_go_all(holds);
+        let_go_all(pages);
+        let_go_all(inodes);
+    }
+}
+
+/// The answer to an allotment that gave this.
+fn answer_of(alloc: Global, given: &Allotted) -> Result<AllotAnswer, NoMemory>
+    ensures { IfOk result (λ answer. answer ≡ Given (page_numbers given.now.pages.items) (ino_numbers given.now.inodes.items)) }
+{
+    let pages = numbers_of(alloc, &given.pages)?;
+    let inodes = numbers_of(alloc, &given.inodes)?;
+    Ok(AllotAnswer::Given {
+        pages: List::from_vec(pages),
+        inodes: List::from_vec(inodes),
+    })
+}
+
+/// The parts of a bundle that has nothing, with room for so many leases and as many holds, pages and
+/// inode numbers.
+fn room_for(
+    alloc: Global,
+    files: usize,
+    pages: usize,
+    inodes: usize,
+) -> Result<BundleParts, NoMemory>
+    ensures { IfOk result (λ parts. HasRoomFor parts files pages inodes) }
+{
+    let mut writes = Vec::new(alloc);
+    let mut holds = Vec::new(alloc);
+    let mut fresh = Vec::new(alloc);
+    let mut numbers = Vec::new(alloc);
+    if writes.reserve(files).is_err()
+        || holds.reserve(files).is_err()
+        || fresh.reserve(pages).is_err()
+        || numbers.reserve(inodes).is_err()
+    {
+        writes.destroy_empty();
+        holds.destroy_empty();
+        fresh.destroy_empty();
+        numbers.destroy_empty();
+        return Err(NoMemory);
+    }
+    Ok(BundleParts {
+        writes,
+        holds,
+        pages: fresh,
+        inodes: numbers,
+    })
+}
