@@ -40,7 +40,7 @@ use Rattle.trio_laws.proofs.StateFacts.{lent_met, tables as tables_of, write_is}
 use Rattle.trio_ctl.specs.Answers.{allot_fault_answer}
 use Rattle.trio_commit.specs.declared.store.Store.{Store}
 use Rattle.trio_commit.specs.Store.{checkpoint_at, state_of, with_checkpoint}
-use Rattle.trio_ctl.specs.Ctl.{HaveKinds, IsControlled}
+use Rattle.trio_ctl.specs.Ctl.{HaveKinds, HoldsAreTold, IsControlled}
 use Rattle.trio_ctl.specs.Entries.{Entries}
 use Rattle.trio_ctl.specs.Open.{Opened, grants_in}
 use Rattle.trio_ctl.specs.Stored.{IsStored, superblock_at_home}
@@ -136,6 +136,7 @@ module _ (s : Store) (first : ℕ) (table : List Keyed) (files : List Opened) (c
         earlier = λ o i. (let e = k.earlier o i in omega (arith, e));
         promised = k.promised;
         kinds = k.kinds;
+        told = k.told;
       }))
 
   pub logged_is : (s' : Store) (entries' : Entries) → s' ≡ s → entries' ≡ record entries { made = entries.made + 1 } → state_of s' first (grants_in files) creds entries'.made ≡ logged now
@@ -244,6 +245,7 @@ module _ (s : Store) (first : ℕ) (table : List Keyed) (files : List Opened) (c
         earlier = λ o i. (let e = k.earlier o i in let more = ap (λ (n : Entries). n.made) next in omega (arith, e, more));
         promised = ap (λ (n : Entries). n.promised) next ∙ k.promised;
         kinds = subst (λ (t : Store). HaveKinds t.rows files) (sym rest) k.kinds;
+        told = subst (λ (t : Store). HoldsAreTold t.rows (grants_in files)) (sym rest) k.told;
       }
         where
           not_zero : In 0 (take many ns) → ⊥

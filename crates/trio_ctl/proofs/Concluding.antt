@@ -20,7 +20,7 @@ use Rattle.trio_allot.specs.Out.{OutByNumber, outs_after}
 use Rattle.trio_grants.specs.Grants.{Keyed}
 use Rattle.trio_lists.specs.Lists.{In, are_new, is_among}
 use Rattle.trio_lists.proofs.Filters.{filter-In}
-use Rattle.trio_lists.proofs.Members.{In-map}
+use Rattle.trio_lists.proofs.Members.{In-map, map-In}
 use Rattle.trio_lists.proofs.Gathered.{filtered_new}
 use Rattle.trio_layout.specs.Accept.{is_accepted, next}
 use Rattle.trio_layout.specs.Broken.{Breaks}
@@ -49,7 +49,7 @@ use Rattle.trio_laws.proofs.judgement.Equivalence.{rules_are_accept}
 use Rattle.trio_commit.specs.declared.store.Store.{Store}
 use Rattle.trio_commit.specs.Bodies.{kept_children, page_changes, placed_files, with_children}
 use Rattle.trio_commit.specs.Store.{state_of, with_checkpoint}
-use Rattle.trio_ctl.specs.Ctl.{HaveKinds, IsControlled}
+use Rattle.trio_ctl.specs.Ctl.{HaveKinds, HoldsAreTold, IsControlled}
 use Rattle.trio_ctl.specs.Entries.{Entries, reads_among}
 use Rattle.trio_ctl.specs.Open.{Opened, grants_in, keyed}
 use Rattle.trio_ctl.specs.Stored.{IsStored, grants_staying}
@@ -59,6 +59,7 @@ use Rattle.trio_ctl.proofs.StoredFacts.{Checkpoints, HandedBundle}
 use Rattle.trio_ctl.proofs.Looks.{few_looks}
 use Rattle.trio_ctl.proofs.RollingBack.{CanRollBack, RolledBack, RollsBack, can_roll_back, rolled_back}
 use Rattle.trio_ctl.proofs.ClosingFacts.{keys, staying, staying_grants}
+use Rattle.trio_ctl.proofs.Told.{accepted_told, told_kept, told_open}
 
 -- what the judge says of a case by the copied rows it says of the case
 pub verdict_told : (s : State) (lib : ℕ) (b : Bundle) → IsJudgeable s lib b → (v : Verdict) → IsVerdict (with_copied (case_in s lib b)) v → IsVerdict (case_in s lib b) v
@@ -224,8 +225,11 @@ module _ (s : Store) (first : ℕ) (table : List Keyed) (files : List Opened) (c
     of_old : (o : Opened) → In o files' → In o files
     of_old o i = (filter-In (λ o. not (is_in_bundle lib.0 b o.grant)) o files (subst (In o) stay i)).0
 
-    -- the files of the grants that stay are of their kinds
-    pub kinds_accepted : IsTrue (meets_rules (case_in st lib.0 b)) → Committed s s' first (grants_in files) creds entries.made lib.0 b → HaveKinds s'.rows files'
+    -- the files of the grants that stay are of their kinds, and holds among these grants told their directories
+    abbrev pub StandFiles : Type 0
+    StandFiles = HaveKinds s'.rows files' × HoldsAreTold s'.rows (grants_in files')
+
+    kinds_accepted : IsTrue (meets_rules (case_in st lib.0 b)) → Committed s s' first (grants_in files) creds entries.made lib.0 b → HaveKinds s'.rows files'
     kinds_accepted meets done o i =
         let was = some_and (row_in s.rows o.grant.ino) (λ r. r.kind ≡ o.grant.of) (k.kinds o (of_old o i)) in
         let after : State = state_of s' first (grants_staying lib.0 b (grants_in files)) creds (entries.made + 1) in
@@ -241,12 +245,26 @@ module _ (s : Store) (first : ℕ) (table : List Keyed) (files : List Opened) (c
           ]
         ]
 
-    pub kinds_refused : s'.rows ≡ s.rows → HaveKinds s'.rows files'
-    kinds_refused same = subst (λ rows. HaveKinds rows files') (sym same) (λ o i. k.kinds o (of_old o i))
+    pub stand_accepted : IsTrue (meets_rules (case_in st lib.0 b)) → Committed s s' first (grants_in files) creds entries.made lib.0 b → StandFiles
+    stand_accepted meets done = (
+      kinds_accepted meets done,
+      subst (HoldsAreTold s'.rows) (sym grants_are)
+      (told_kept s'.rows s'.checkpoints.items (grants_staying lib.0 b (grants_in files))
+      (accepted_told st after k.stored.kept lib.0 b (told_open s.rows s.checkpoints.items (grants_in files) k.told) given (accepted_from meets) done.ends)),
+    )
 
-    pub ended_controlled : table' ≡ map keyed files' → HaveKinds s'.rows files' → s'.allotments ≡ outs_after s.allotments (sheet_numbers b.pages) b.numbers
+    pub stand_refused : s'.rows ≡ s.rows → StandFiles
+    stand_refused same = (
+      subst (λ rows. HaveKinds rows files') (sym same) (λ o i. k.kinds o (of_old o i)),
+      subst (λ rows. HoldsAreTold rows (grants_in files')) (sym same)
+      (λ g i hold.
+      let o = map-In (λ (o : Opened). o.grant) g files' i in
+      k.told g (subst (λ (x : OpenGrant). In x (grants_in files)) (sym o.2) (In-map (λ (o : Opened). o.grant) o.0 files (of_old o.0 o.1))) hold),
+    )
+
+    pub ended_controlled : table' ≡ map keyed files' → StandFiles → s'.allotments ≡ outs_after s.allotments (sheet_numbers b.pages) b.numbers
         → IsStored s' first (grants_staying lib.0 b (grants_in files)) creds (entries.made + 1) → IsControlled s' first table' files' creds entries'
-    ended_controlled keeps kinds back stored = record {
+    ended_controlled keeps stand back stored = record {
       stored = subst (λ (n : Entries). IsStored s' first (grants_in files') creds n.made) (sym next') (subst (λ gs. IsStored s' first gs creds (entries.made + 1)) (sym grants_are) stored);
       no_zero = ap (λ (o : OutByNumber). lib_at o.numbers 0) back ∙ still_in b.numbers 0 s.allotments.numbers k.no_zero;
       some_libraries = k.some_libraries;
@@ -255,5 +273,6 @@ module _ (s : Store) (first : ℕ) (table : List Keyed) (files : List Opened) (c
       keys_once = ap (λ fs. are_new [] (keys fs)) stay ∙ filtered_new (λ (o : Opened). o.key) (λ o. not (is_in_bundle lib.0 b o.grant)) files k.keys_once;
       earlier = λ o i. (let e = k.earlier o (of_old o i) in let more = ap (λ (n : Entries). n.made) next' in omega (arith, e, more));
       promised = ap (λ (n : Entries). n.promised) next' ∙ k.promised ∙ sym (reads_stay lib.0 b (grants_in files)) ∙ sym (ap reads_among grants_are);
-      kinds = kinds;
+      kinds = stand.0;
+      told = stand.1;
     }

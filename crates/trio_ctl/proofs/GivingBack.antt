@@ -244,4 +244,5 @@ module _ (s : Store) (first : ℕ) (table : List Keyed) (files : List Opened) (c
           let then' : reads_among (grants_in files') ≡ reads_among (grants_in kept ++ grants_in rest) = ap reads_among (ap grants_in left ∙ parts kept rest) in
           omega (arith, less, all, one, then');
       kinds = λ o i. k.kinds o (was_file o i);
+      told = λ g i hold. k.told g (was_open g i) hold;
     }

@@ -52,13 +52,14 @@ use Rattle.trio_laws.proofs.StateFacts.{write_is}
 use Rattle.trio_surveys.proofs.SheetLaws.{page_at}
 use Rattle.trio_surveys.proofs.Sheets.{length-without, page_from, sheets_all}
 use Rattle.trio_ctl.specs.Answers.{grant_fault_answer, Admits}
-use Rattle.trio_ctl.specs.Ctl.{HaveKinds, IsControlled}
+use Rattle.trio_ctl.specs.Ctl.{HaveKinds, HoldsAreTold, IsControlled}
 use Rattle.trio_ctl.specs.Entries.{Entries, reads_among}
 use Rattle.trio_ctl.specs.inner.Denials.{denial}
 use Rattle.trio_ctl.specs.inner.Lending.{IsLendable, StandsSomewhere, body_standing, page_on, page_standing}
 use Rattle.trio_laws.specs.OutLaws.{without_checkpoint}
 use Rattle.trio_ctl.specs.Open.{Opened, grant_on, grants_in, keyed, lease_of}
 use Rattle.trio_ctl.specs.Stored.{CoversLent, IsStored, superblock_at_home}
+use Rattle.trio_ctl.proofs.Told.{parent_told, told_more}
 use Rattle.trio_ctl.proofs.LendLemmas.{same_chain, sheets_same}
 use Rattle.trio_ctl.proofs.StoredFacts.{Checkpoints, checkpoints_same}
 use Rattle.trio_lists.proofs.Filters.{In-find, find-In}
@@ -397,6 +398,13 @@ module _ (s : Store) (first : ℕ) (table : List Keyed) (files : List Opened) (c
               subst (λ (x : Option Row). IsSomeAnd x (λ r. r.kind ≡ o.grant.of)) (sym (ap (row_in rows) number ∙ row)) (sym of ∙ ap (λ (x : Opened). x.grant.of) (sym same))
         ]
 
+    pub all_told : (r : Row) → row_at st.home ino ≡ Some r → (file.grant.kind ≡ Hold → file.grant.parent ≡ r.parent) → HoldsAreTold rows (grants_in files')
+    all_told r row parent =
+        let number : file.grant.ino ≡ ino = ap (λ (x : Keyed). x.1.ino) new_keyed in
+        subst (HoldsAreTold rows) (sym (ap grants_in more ∙ map-append (λ (o : Opened). o.grant) files (file ∷ [])))
+        (told_more rows (grants_in files) file.grant k.told
+        (λ hold. subst (λ (x : Option Row). IsSomeAnd x (λ r. file.grant.parent ≡ r.parent)) (sym (ap (row_in rows) number ∙ row)) (parent hold)))
+
     pub reads_more : (promised : ℕ) → promised ≡ (if is_read kind then entries.promised + 1 else entries.promised) → promised ≡ reads_among (grants_in files')
     reads_more promised is =
         let of_kind : is_read file.grant.kind ≡ is_read kind = ap (λ (x : Keyed). is_read x.1.kind) new_keyed in
@@ -517,6 +525,9 @@ module _ (s : Store) (first : ℕ) (table : List Keyed) (files : List Opened) (c
           let S : Store → ℕ → Superblock = λ (t : Store) e. record { pages = e; inodes = length t.rows - 1; first_owner = 1 + page_count (32 * (length t.rows - 1)); first_core = first; root = t.root } in
           ap (λ (t : Store). S t (length s'.home.pages)) rest ∙ ap (S s) many
 
+      no_hold : Write ≡ Hold → ⊥
+      no_hold e = absurd cc
+
       granted_stored : CoversLent file.grant checkpoint → Kept (state_of s' first (grants_in files') creds entries'.made) → IsStored s' first (grants_in files') creds entries'.made
       granted_stored lent kept = record {
         fits = subst (λ (x : Superblock). IsTrue (superblock_fits x)) (sym same_superblock) k.stored.fits;
@@ -551,6 +562,7 @@ module _ (s : Store) (first : ℕ) (table : List Keyed) (files : List Opened) (c
         earlier = all_earlier Write lib ino key file table' files' new_keyed more entries'.made counted;
         promised = reads_more Write lib ino key file table' files' new_keyed more entries'.promised (ap (λ (n : Entries). n.promised) next);
         kinds = subst (λ (t : Store). HaveKinds t.rows files') (sym rest) (all_kinds Write lib ino key file table' files' new_keyed more r row (ap (λ (o : Opened). o.grant.of) made));
+        told = subst (λ (t : Store). HoldsAreTold t.rows (grants_in files')) (sym rest) (all_told Write lib ino key file table' files' new_keyed more r row (λ hold. absurd (no_hold (sym file_kind ∙ hold))));
       }
 
   -- ---- a file that stays at home: it is copied, or held
@@ -644,6 +656,7 @@ module _ (s : Store) (first : ℕ) (table : List Keyed) (files : List Opened) (c
       earlier = all_earlier kind lib ino key file table' files' keyed_new more entries'.made counted;
       promised = reads_more kind lib ino key file table' files' keyed_new more entries'.promised promise;
       kinds = still (λ t. HaveKinds t.rows files') (λ looked. all_kinds kind lib ino key file table' files' keyed_new more r row (ap (λ (o : Opened). o.grant.of) made));
+      told = still (λ t. HoldsAreTold t.rows (grants_in files')) (λ looked. all_told kind lib ino key file table' files' keyed_new more r row (λ hold. ap (λ (o : Opened). o.grant.parent) made ∙ parent_told r kind (sym (ap (λ (o : Opened). o.grant.kind) made) ∙ hold)));
     }
 
   -- ---- the settled body
@@ -724,6 +737,7 @@ module _ (s : Store) (first : ℕ) (table : List Keyed) (files : List Opened) (c
         earlier = k.earlier;
         promised = k.promised;
         kinds = k.kinds;
+        told = k.told;
       }
 
 pub kept_either : (s t : State) (P Q : Type 0) → Kept s → (P × (t ≡ logged s)) ⊎ (Q × (t ≡ s)) → Kept t

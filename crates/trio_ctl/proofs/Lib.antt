@@ -1,6 +1,13 @@
 pub mod AtHome
 pub mod Wholes
 pub mod Views
+pub mod Told
+pub mod DeskLists
+pub mod DeskOuts
+pub mod DeskGiven
+pub mod DeskFresh
+pub mod DeskClosed
+pub mod DeskSteps
 pub mod Starting
 pub mod Storing
 pub mod Moving
@@ -21,4 +28,5 @@ pub mod Judging
 pub mod Cases
 pub mod Given
 pub mod GivingBack
+pub mod Moding
 pub mod PartedHolds

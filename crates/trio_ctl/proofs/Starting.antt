@@ -116,6 +116,7 @@ module _ (sb : Superblock) (pages : List (Option (List ℕ))) (s : Store) (first
     earlier = λ o i. absurd (no_file o i);
     promised = ap (λ (n : Entries). n.promised) new ∙ ap (λ fs. reads_among (grants_in fs)) (sym empty);
     kinds = λ o i. absurd (no_file o i);
+    told = λ g i hold. absurd (nobody g i);
   }
     where
       not_there : (n : ℕ) (c : Checkpointed) → checkpoint_at s.checkpoints.items n ≡ Some c → ⊥

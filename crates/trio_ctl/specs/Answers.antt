@@ -12,11 +12,13 @@ use Rattle.trio_nodes.specs.declared.answers.AllotFault.{AllotFault}
 use Rattle.trio_nodes.specs.declared.answers.AllotFault.TheVariants.{NoPages as NoFreePages, NoInodes as NoFreeInodes, NoMemory as NoAllotMemory}
 use Rattle.trio_nodes.specs.declared.answers.GrantFault.{GrantFault}
 use Rattle.trio_nodes.specs.declared.answers.GrantFault.TheVariants.{Busy as BusyGrant, NoMemory as NoGrantMemory}
+use Rattle.trio_nodes.specs.declared.answers.ModeFault.{ModeFault}
+use Rattle.trio_nodes.specs.declared.answers.ModeFault.TheVariants.{NoMemory as NoModeMemory}
 use Rattle.trio_nodes.specs.declared.answers.ReleaseAnswer.{ReleaseAnswer}
 use Rattle.trio_nodes.specs.declared.answers.ReleaseAnswer.TheVariants.{Accepted as AcceptedBundle, Refused as RefusedBundle}
 use Rattle.trio_nodes.specs.declared.answers.ReleaseFault.{ReleaseFault}
 use Rattle.trio_nodes.specs.declared.answers.ReleaseFault.TheVariants.{NotClosed as NotClosedBundle, NoMemory as NoReleaseMemory}
-use Rattle.trio_state.specs.Step.{CtlAnswer, Granted, NotGranted, Given, NoPages, NoInodes, Accepted, Refused, NotClosed, NoMemory}
+use Rattle.trio_state.specs.Step.{CtlAnswer, Granted, NotGranted, Given, NoPages, NoInodes, Accepted, Refused, NotClosed, ModeSet, NotModeSet, NoMemory}
 use Rattle.trio_ctl.specs.declared.image.ImageFault.{ImageFault}
 use Rattle.trio_ctl.specs.declared.image.ImageFault.TheVariants.{Busy, NoMemory as NoImageMemory}
 
@@ -55,6 +57,14 @@ allot_fault_answer NoAllotMemory = NoMemory
 abbrev pub allot_answer : Result Allotted AllotFault → CtlAnswer
 allot_answer (Ok given) = Given (page_numbers given.pages.items) (inode_numbers given.inodes.items)
 allot_answer (Err fault) = allot_fault_answer fault
+
+abbrev pub mode_fault_answer : ModeFault → CtlAnswer
+mode_fault_answer NoModeMemory = NoMemory
+mode_fault_answer fault = NotModeSet fault
+
+abbrev pub mode_answer : Result (Unit {0}) ModeFault → CtlAnswer
+mode_answer (Ok done) = ModeSet
+mode_answer (Err fault) = mode_fault_answer fault
 
 -- a settled image is told just where nobody writes; else the first writer is named
 abbrev pub TellsImage : {I : Type 0} → Option Holder → Result I ImageFault → Type 0

@@ -6,6 +6,7 @@ use Rattle.trio_page.specs.Field.{zeros}
 use Rattle.trio_rights.specs.Row.{Row, row_in}
 use Rattle.trio_rights.specs.declared.rights.Creds.{Creds}
 use Rattle.trio_rights.specs.declared.rights.LibNo.{LibNo}
+use Rattle.trio_nodes.specs.declared.grant.GrantKind.TheVariants.{Hold}
 use Rattle.trio_nodes.specs.declared.grant.Holder.{Holder}
 use Rattle.trio_nodes.specs.GrantKinds.{is_write}
 use Rattle.trio_grants.specs.Grants.{Keyed}
@@ -15,7 +16,7 @@ use Rattle.trio_layout.specs.Superblock.{page_count}
 use Rattle.trio_layout.specs.Core.{Core}
 use Rattle.trio_layout.specs.Image.{Image, with_core_pages}
 use Rattle.trio_state.specs.Grants.{holder_of}
-use Rattle.trio_state.specs.State.{State, settled}
+use Rattle.trio_state.specs.State.{OpenGrant, State, settled}
 use Rattle.trio_tables.specs.Out.{NoneOut, lib_at}
 use Rattle.trio_survey.specs.Stored.{StoresImage}
 use Rattle.trio_image.specs.Image.{ImagePages, IsVerified, TablesAre}
@@ -43,9 +44,18 @@ pub record Controller : Type 0 where
 abbrev pub HaveKinds : List (Option Row) → List Opened → Type 0
 HaveKinds rows files = (o : Opened) → In o files → IsSomeAnd (row_in rows o.grant.ino) (λ r. r.kind ≡ o.grant.of)
 
+-- each hold among these grants told the directory that the row of its file names
+abbrev pub HoldsAreTold : List (Option Row) → List OpenGrant → Type 0
+HoldsAreTold rows grants =
+    (g : OpenGrant) → In g grants → g.kind ≡ Hold → IsSomeAnd (row_in rows g.ino) (λ r. g.parent ≡ r.parent)
+
+-- each open hold told the directory that its file's row still names
+abbrev pub AreAsTold : State → Type 0
+AreAsTold s = HoldsAreTold s.home.rows s.open_grants
+
 -- What holds of what the controller keeps: the store is that of the open grants, the number 0 isn't out, there are 1 to 16
 -- libraries, the table of grants has just the open ones, which are of earlier entries under keys of their own, and an entry is
--- promised for each open read grant; the file of each grant is of the grant's kind.
+-- promised for each open read grant; the file of each grant is of the grant's kind, and each hold told its directory.
 pub record IsControlled (s : Store) (first_core : ℕ) (table : List Keyed) (files : List Opened) (creds : List Creds) (entries : Entries) : Type 0 where
   pub stored : IsStored s first_core (grants_in files) creds entries.made
   pub no_zero : lib_at s.allotments.numbers 0 ≡ None
@@ -56,6 +66,7 @@ pub record IsControlled (s : Store) (first_core : ℕ) (table : List Keyed) (fil
   pub earlier : (o : Opened) → In o files → o.grant.entry < entries.made
   pub promised : entries.promised ≡ reads_among (grants_in files)
   pub kinds : HaveKinds s.rows files
+  pub told : HoldsAreTold s.rows (grants_in files)
 
 -- the library is one of the controller's
 abbrev pub IsLibrary : LibNo → State → Type 0

@@ -4,4 +4,6 @@ pub mod Ctl
 pub mod Open
 pub mod HandedIn
 pub mod Answers
+pub mod Desk
+pub mod DeskLaws
 pub mod inner

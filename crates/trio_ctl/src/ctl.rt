@@ -2,7 +2,7 @@
 
 ghost use Rattle.std.specs.Prelude.{◌≡◌};
 ghost use Rattle.trio_state.specs.State.{creds_of};
-ghost use Rattle.trio_ctl.specs.Ctl.{IsLibrary, superblock_for};
+ghost use Rattle.trio_ctl.specs.Ctl.{AreAsTold, IsLibrary, superblock_for};
 
 use crate::history::History;
 use crate::open::OpenFile;
@@ -53,6 +53,13 @@ impl Ctl {
         ensures { result ≡ self.now.looked }
     {
         self.store.home.looked()
+    }
+
+    /// Each open hold told the directory that the row of its file still names. Nothing is done.
+    pub fn is_as_told(&self)
+        ensures { AreAsTold self.now.state }
+    {
+        let _ = &self.alloc;
     }
 
     // the credentials of a library

@@ -187,7 +187,7 @@ fn standing_body(store: &mut Store, row: &Row) -> [u8; 64]
 }
 
 /// The body in a slot of a directory page.
-fn body_on(page: &Page, slot: u16) -> [u8; 64]
+pub(crate) fn body_on(page: &Page, slot: u16) -> [u8; 64]
     requires { slot < 16 }
     ensures { result ≡ body_in_slot slot page.now }
 {

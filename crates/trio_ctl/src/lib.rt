@@ -7,12 +7,15 @@
 mod allot;
 mod closing;
 mod ctl;
+pub mod desk_laws;
+mod desks;
 mod give_back;
 mod grant;
 mod history;
 mod hold;
 mod image;
 mod lend;
+mod mode;
 mod open;
 mod outcome;
 mod parted;
@@ -22,6 +25,7 @@ mod start;
 mod stored;
 
 pub use ctl::Ctl;
+pub use desks::PlainDesk;
 pub use image::ImageFault;
 
 #[cfg(test)]

@@ -6,12 +6,12 @@ use std::alloc::Global;
 use trio_image::{Counts, Image, load};
 use trio_io::SureFiles;
 use trio_lease::{Allotted, Bundle, Lease, WriteLease};
-use trio_nodes::{GrantFault, GrantKind, Holder, ReleaseAnswer};
+use trio_nodes::{GrantFault, GrantKind, Holder, ModeFault, ReleaseAnswer};
 use trio_page::field::all_zero;
 use trio_page::{PageNo, Reads};
-use trio_rights::{Creds, LibNo};
+use trio_rights::{Creds, LibNo, Mode};
 use trio_samples::files::{root, workload_tree};
-use trio_samples::{Sample, directory, put, regular};
+use trio_samples::{Sample, SampleFile, directory, put, regular};
 
 // An image with an empty root, or with one that lists the directory `a` with inode number 2: page 3 is
 // the root's index page, page 4 its block.
@@ -387,4 +387,87 @@ fn looks_at_few(alloc: Global) -> Option<bool> {
 #[test]
 fn a_release_looks_at_its_bundle_alone(rt: HostRuntime) {
     assert!(rt; looks_at_few(rt.alloc()) == Some(true));
+}
+
+// The image with the directory `a` and its file `f`, which has inode number 3 and is of uid 5, and has
+// this mode.
+fn moded_bytes(alloc: Global, mode: u16) -> Option<Vec<u8>> {
+    let file = SampleFile {
+        mode: Mode(mode),
+        ..regular(3, 2, b"f", b"text").owned(5, 0)
+    };
+    let files = [root(), directory(2, 1, b"a"), file];
+    Sample::small(alloc, &files).ok()?.bytes(alloc).ok()
+}
+
+const WITH_FILE: Counts = Counts {
+    inodes: 3,
+    pages: 6,
+    free: 23,
+};
+
+// What a library of this uid is answered that changes a mode, and whether `f` has mode `then` after it.
+fn moded(
+    alloc: Global,
+    uid: u32,
+    ino: u32,
+    mode: u16,
+    then: u16,
+) -> Option<(Result<(), ModeFault>, bool)> {
+    let mut ctl = started(alloc, &moded_bytes(alloc, 0o644)?, uid)?;
+    let told = ctl.set_mode(LibNo(1), ino, mode);
+    let is_so = stores(alloc, &mut ctl, &moded_bytes(alloc, then)?, WITH_FILE)?;
+    Some((told, is_so))
+}
+
+// The uid, the file, the mode, the answer, and the mode of `f` then: where several causes stand
+// together, the first is told.
+const MODE_CHANGES: [(u32, u32, u16, Result<(), ModeFault>, u16); 7] = [
+    (6, 4, 0o1000, Err(ModeFault::NotLive), 0o644),
+    (0, 1, 0o700, Err(ModeFault::NotOwner), 0o644),
+    (6, 3, 0o1000, Err(ModeFault::NotOwner), 0o644),
+    (5, 2, 0o700, Err(ModeFault::NotOwner), 0o644),
+    (5, 3, 0o1000, Err(ModeFault::BadMode), 0o644),
+    (5, 3, 0o777, Ok(()), 0o777),
+    (0, 3, 0, Ok(()), 0),
+];
+
+#[test]
+fn modes_are_changed_or_not(rt: HostRuntime) {
+    for (uid, ino, mode, told, then) in &MODE_CHANGES {
+        assert!(rt;
+            moded(rt.alloc(), *uid, *ino, *mode, *then) == Some((*told, true)),
+            "{ino} by uid {uid}"
+        );
+    }
+}
+
+// What the second library is told that changes the mode of `f`, while the first has a grant.
+fn mode_told(alloc: Global, ino: u32, kind: GrantKind) -> Option<Result<(), ModeFault>> {
+    let mut ctl = shared(alloc)?;
+    let _lent = asked(&mut ctl, true, ino, kind).ok()?;
+    Some(ctl.set_mode(LibNo(2), 3, 0o600))
+}
+
+fn busy_for_modes(kind: GrantKind) -> Result<(), ModeFault> {
+    Err(ModeFault::Busy(Holder {
+        lib: LibNo(1),
+        kind,
+        entry: 0,
+    }))
+}
+
+#[test]
+fn no_mode_is_changed_under_a_grant(rt: HostRuntime) {
+    let read = GrantKind::Read;
+    let write = GrantKind::Write;
+    let rows = [
+        (3, read, busy_for_modes(read)),
+        (2, read, busy_for_modes(read)),
+        (2, write, busy_for_modes(write)),
+        (1, write, Ok(())),
+    ];
+    for (ino, kind, told) in rows {
+        assert!(rt; mode_told(rt.alloc(), ino, kind) == Some(told));
+    }
 }

@@ -17,7 +17,7 @@ use Rattle.trio_ctl.specs.Open.{grants_in}
 use Rattle.trio_ctl.proofs.ClosingFacts.{staying}
 use Rattle.trio_ctl.proofs.Committing.{Commits}
 use Rattle.trio_ctl.proofs.RollingBack.{RollsBack}
-use Rattle.trio_ctl.proofs.Concluding.{accepted_step, can_commit_it, can_roll_back_it, committed_it, ended_controlled, few_changes, kinds_accepted, kinds_refused, reads_open, refused_step, rolled_back_it}
+use Rattle.trio_ctl.proofs.Concluding.{accepted_step, can_commit_it, can_roll_back_it, committed_it, ended_controlled, few_changes, stand_accepted, stand_refused, reads_open, refused_step, rolled_back_it}
 use Rattle.trio_ctl.proofs.Views.{state_is}
 use Rattle.trio_ctl.proofs.ctl.Ctl.conclude.Goals as goal
 
@@ -176,8 +176,8 @@ invariant_of-self c =
     let commits : Commits i.store c.commit.new.self b l = record { home = done.home; checkpoints = done.checkpoints; root = done.root; rows = done.rows; owners = done.owners; sizes = done.sizes; allotments = done.allotments } in
     let ended = committed_it i.store i.first_core i.grants i.files.items i.libs.items i.history c.self.invariant c.args.lib b given closed l meets listed c.commit.new.self commits in
     let stay = c.end_files.ensures.files ∙ ap (λ (x : Bundled). staying c.args.lib (bundle_in x) i.files.items) same in
-    let kinds = kinds_accepted i.store i.first_core i.grants i.files.items i.libs.items i.history c.self.invariant c.args.lib b given closed c.commit.new.self c.end_files.new.grants c.end_files.new.files.items c.enter.new.self stay c.enter.ensures meets ended in
-    ended_controlled i.store i.first_core i.grants i.files.items i.libs.items i.history c.self.invariant c.args.lib b given closed c.commit.new.self c.end_files.new.grants c.end_files.new.files.items c.enter.new.self stay c.enter.ensures c.end_files.ensures.table kinds done.allotments ended.stored
+    let stand = stand_accepted i.store i.first_core i.grants i.files.items i.libs.items i.history c.self.invariant c.args.lib b given closed c.commit.new.self c.end_files.new.grants c.end_files.new.files.items c.enter.new.self stay c.enter.ensures meets ended in
+    ended_controlled i.store i.first_core i.grants i.files.items i.libs.items i.history c.self.invariant c.args.lib b given closed c.commit.new.self c.end_files.new.grants c.end_files.new.files.items c.enter.new.self stay c.enter.ensures c.end_files.ensures.table stand done.allotments ended.stored
 
 pub invariant_of-self-in-Refused : goal.invariant_of-self-in-Refused
 invariant_of-self-in-Refused c =
@@ -190,8 +190,8 @@ invariant_of-self-in-Refused c =
     let rolls : RollsBack i.store c.roll_back.new.self b = record { home = done.home; checkpoints = done.checkpoints; allotments = done.allotments; root = done.root; rows = done.rows; owners = done.owners } in
     let ended = rolled_back_it i.store i.first_core i.grants i.files.items i.libs.items i.history c.self.invariant c.args.lib b given closed c.roll_back.new.self rolls in
     let stay = c.end_files.ensures.files ∙ ap (λ (x : Bundled). staying c.args.lib (bundle_in x) i.files.items) same in
-    let kinds = kinds_refused i.store i.first_core i.grants i.files.items i.libs.items i.history c.self.invariant c.args.lib b given closed c.roll_back.new.self c.end_files.new.grants c.end_files.new.files.items c.enter.new.self stay c.enter.ensures done.rows in
-    ended_controlled i.store i.first_core i.grants i.files.items i.libs.items i.history c.self.invariant c.args.lib b given closed c.roll_back.new.self c.end_files.new.grants c.end_files.new.files.items c.enter.new.self stay c.enter.ensures c.end_files.ensures.table kinds done.allotments ended.stored
+    let stand = stand_refused i.store i.first_core i.grants i.files.items i.libs.items i.history c.self.invariant c.args.lib b given closed c.roll_back.new.self c.end_files.new.grants c.end_files.new.files.items c.enter.new.self stay c.enter.ensures done.rows in
+    ended_controlled i.store i.first_core i.grants i.files.items i.libs.items i.history c.self.invariant c.args.lib b given closed c.roll_back.new.self c.end_files.new.grants c.end_files.new.files.items c.enter.new.self stay c.enter.ensures c.end_files.ensures.table stand done.allotments ended.stored
 
 pub returns-in-Accepted-clause-step : goal.returns-in-Accepted-clause-step
 returns-in-Accepted-clause-step c =
@@ -275,8 +275,8 @@ returns-in-Accepted-clause-kept c =
     let commits : Commits i.store c.commit.new.self b l = record { home = done.home; checkpoints = done.checkpoints; root = done.root; rows = done.rows; owners = done.owners; sizes = done.sizes; allotments = done.allotments } in
     let ended = committed_it i.store i.first_core i.grants i.files.items i.libs.items i.history c.self.invariant c.args.lib b given closed l meets listed c.commit.new.self commits in
     let stay = c.end_files.ensures.files ∙ ap (λ (x : Bundled). staying c.args.lib (bundle_in x) i.files.items) same in
-    let kinds = kinds_accepted i.store i.first_core i.grants i.files.items i.libs.items i.history c.self.invariant c.args.lib b given closed c.commit.new.self c.end_files.new.grants c.end_files.new.files.items c.enter.new.self stay c.enter.ensures meets ended in
-    (ended_controlled i.store i.first_core i.grants i.files.items i.libs.items i.history c.self.invariant c.args.lib b given closed c.commit.new.self c.end_files.new.grants c.end_files.new.files.items c.enter.new.self stay c.enter.ensures c.end_files.ensures.table kinds done.allotments ended.stored).stored.kept
+    let stand = stand_accepted i.store i.first_core i.grants i.files.items i.libs.items i.history c.self.invariant c.args.lib b given closed c.commit.new.self c.end_files.new.grants c.end_files.new.files.items c.enter.new.self stay c.enter.ensures meets ended in
+    (ended_controlled i.store i.first_core i.grants i.files.items i.libs.items i.history c.self.invariant c.args.lib b given closed c.commit.new.self c.end_files.new.grants c.end_files.new.files.items c.enter.new.self stay c.enter.ensures c.end_files.ensures.table stand done.allotments ended.stored).stored.kept
 
 pub returns-in-Refused-clause-kept : goal.returns-in-Refused-clause-kept
 returns-in-Refused-clause-kept c =
@@ -289,8 +289,8 @@ returns-in-Refused-clause-kept c =
     let rolls : RollsBack i.store c.roll_back.new.self b = record { home = done.home; checkpoints = done.checkpoints; allotments = done.allotments; root = done.root; rows = done.rows; owners = done.owners } in
     let ended = rolled_back_it i.store i.first_core i.grants i.files.items i.libs.items i.history c.self.invariant c.args.lib b given closed c.roll_back.new.self rolls in
     let stay = c.end_files.ensures.files ∙ ap (λ (x : Bundled). staying c.args.lib (bundle_in x) i.files.items) same in
-    let kinds = kinds_refused i.store i.first_core i.grants i.files.items i.libs.items i.history c.self.invariant c.args.lib b given closed c.roll_back.new.self c.end_files.new.grants c.end_files.new.files.items c.enter.new.self stay c.enter.ensures done.rows in
-    (ended_controlled i.store i.first_core i.grants i.files.items i.libs.items i.history c.self.invariant c.args.lib b given closed c.roll_back.new.self c.end_files.new.grants c.end_files.new.files.items c.enter.new.self stay c.enter.ensures c.end_files.ensures.table kinds done.allotments ended.stored).stored.kept
+    let stand = stand_refused i.store i.first_core i.grants i.files.items i.libs.items i.history c.self.invariant c.args.lib b given closed c.roll_back.new.self c.end_files.new.grants c.end_files.new.files.items c.enter.new.self stay c.enter.ensures done.rows in
+    (ended_controlled i.store i.first_core i.grants i.files.items i.libs.items i.history c.self.invariant c.args.lib b given closed c.roll_back.new.self c.end_files.new.grants c.end_files.new.files.items c.enter.new.self stay c.enter.ensures c.end_files.ensures.table stand done.allotments ended.stored).stored.kept
 
 pub enter-requires : goal.enter-requires
 enter-requires c =

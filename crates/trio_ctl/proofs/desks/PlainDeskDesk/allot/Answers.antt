@@ -1,0 +1,17 @@
+use Rattle.std.proofs.Common.{refl, subst}
+use Rattle.trio_state.specs.Step.{Step}
+use Rattle.trio_state.specs.Step as step
+use Rattle.trio_ctl.proofs.DeskSteps.{allot_fresh, allot_same, allot_seen, library_stays}
+use Rattle.trio_ctl.proofs.desks.PlainDeskDesk.allot.Goals as goal
+
+pub returns-clause-seen : goal.returns-clause-seen
+returns-clause-seen c =
+    let d = c.args.self.now in
+    let e = c.allot.ensures in
+    allot_seen d.ctl.now.state d.lib c.args.pages c.args.inodes c.allot.new.self.state c.allot.result e.was_kept e.step
+
+pub returns-clause-fresh : goal.returns-clause-fresh
+returns-clause-fresh c =
+    let d = c.args.self.now in
+    let e = c.allot.ensures in
+    allot_fresh d.ctl.now.state d.lib c.args.pages c.args.inodes c.allot.new.self.state c.allot.result e.was_kept e.step e.pages e.inodes

@@ -1,0 +1,17 @@
+use Rattle.std.proofs.Common.{refl, subst}
+use Rattle.trio_state.specs.Step.{Step}
+use Rattle.trio_state.specs.Step as step
+use Rattle.trio_ctl.proofs.DeskSteps.{grant_fresh, grant_seen, lease_is, lease_same, library_stays}
+use Rattle.trio_ctl.proofs.desks.PlainDeskDesk.grant.Goals as goal
+
+pub returns-clause-seen : goal.returns-clause-seen
+returns-clause-seen c =
+    let d = c.args.self.now in
+    let e = c.grant.ensures in
+    grant_seen d.ctl.now.state d.lib c.args.ino c.args.kind c.grant.new.self.state c.grant.result e.step e.lease
+
+pub returns-clause-lease : goal.returns-clause-lease
+returns-clause-lease c =
+    let d = c.args.self.now in
+    let e = c.grant.ensures in
+    grant_fresh d.ctl.now.state d.lib c.args.ino c.args.kind c.grant.new.self.state c.grant.result e.was_kept e.step e.lease

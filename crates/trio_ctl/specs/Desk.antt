@@ -1,0 +1,82 @@
+-- The controller as one library sees it: what a state has out to the library, and a call of its desk as a step.
+use Rattle.std.specs.Prelude.{◌≡◌, ⊤, ℕ, ◌==◌, Bool, ◌&&◌, List, map}
+use Rattle.std.specs.List.{filter}
+use Rattle.std.specs.Option.{IsSomeAnd}
+use Rattle.trio_rights.specs.declared.rights.LibNo.{LibNo}
+use Rattle.trio_rights.specs.Bundle.{Bundle}
+use Rattle.trio_nodes.specs.GrantKinds.{is_hold, is_read, is_write}
+use Rattle.trio_nodes.specs.declared.grant.GrantKind.{GrantKind}
+use Rattle.trio_lease.specs.Views.{fresh_sheet, written_in}
+use Rattle.trio_layout.specs.Image.{row_at}
+use Rattle.trio_desk.specs.Out.{LibOut, Parcel}
+use Rattle.trio_desk.specs.Call.{Ask, Told, DeskSeen, Grant, Allot, GiveBack, Release, SetMode, Lent, NotLent, Given, NotGiven, Done, Judged, NotJudged, ModeSet, NotModeSet}
+use Rattle.trio_state.specs.State.{OpenGrant, State, creds_of}
+use Rattle.trio_state.specs.Grants.{opened}
+use Rattle.trio_state.specs.Given.{GivenEvent}
+use Rattle.trio_state.specs.Step.{Event, CtlAnswer, Step}
+use Rattle.trio_state.specs.Step as step
+use Rattle.trio_laws.specs.OutLaws.{numbers_to}
+use Rattle.trio_ctl.specs.Answers.{allot_fault_answer, children_told, grant_fault_answer, mode_fault_answer, release_fault_answer, verdict_of}
+use Rattle.trio_ctl.specs.Open.{hold_of, lent_by, shown_of}
+
+-- ---- what a library has out
+
+-- its open grants of one kind, in the order of their entries
+abbrev pub grants_of : (GrantKind → Bool) → LibNo → List OpenGrant → List OpenGrant
+grants_of is_kind lib grants = filter (λ g. g.lib == lib.0 && is_kind g.kind) grants
+
+-- What its open grants lent, by their kind, each as it was lent; and the pages and inode numbers that are allotted to it, in
+-- rising order.
+abbrev pub out_of : State → LibNo → LibOut
+out_of s lib = record {
+  writes = map shown_of (grants_of is_write lib s.open_grants);
+  reads = map shown_of (grants_of is_read lib s.open_grants);
+  holds = map hold_of (grants_of is_hold lib s.open_grants);
+  pages = numbers_to s.pages_out lib.0;
+  numbers = numbers_to s.numbers_out lib.0;
+}
+
+-- what is seen of its desk
+abbrev pub desk_of : State → LibNo → DeskSeen
+desk_of s lib = record { lib = lib; creds = creds_of s lib.0; out = out_of s lib }
+
+-- ---- a call as an event, and what is told as an answer
+
+-- a parcel, as the steps see a bundle that has it
+abbrev pub bundle_of : Parcel → Bundle
+bundle_of b = record {
+  writes = map (λ f. written_in f.stands) b.writes;
+  holds = map (λ h. h.ino) b.holds;
+  pages = map fresh_sheet b.pages;
+  numbers = map (λ n. n.no) b.inodes;
+}
+
+abbrev pub event_of : LibNo → Ask → Event
+event_of lib (Grant ino kind) = step.Grant lib.0 ino kind
+event_of lib (Allot pages numbers) = step.Allot lib.0 pages numbers
+event_of lib (GiveBack lease) = step.Back lib.0 lease.ino
+event_of lib (Release parcel) = step.Release lib.0 (bundle_of parcel)
+event_of lib (SetMode ino mode) = step.SetMode lib.0 ino mode
+
+abbrev pub answer_of : Told → CtlAnswer
+answer_of (Lent lease) = step.Granted (children_told lease)
+answer_of (NotLent fault) = grant_fault_answer fault
+answer_of (Given pages numbers) = step.Given pages numbers
+answer_of (NotGiven fault) = allot_fault_answer fault
+answer_of Done = step.Done
+answer_of (Judged answer) = verdict_of answer
+answer_of (NotJudged fault) = release_fault_answer fault
+answer_of ModeSet = step.ModeSet
+answer_of (NotModeSet fault) = mode_fault_answer fault
+
+-- a lease that is told is the one that the grant lends which this state opens
+abbrev pub LeaseIs : State → LibNo → Ask → Told → Type 0
+LeaseIs s lib (Grant ino kind) (Lent lease) = IsSomeAnd (row_at s.home ino) (λ r. lease ≡ lent_by (opened s lib.0 ino kind r))
+LeaseIs s lib ask told = ⊤
+
+-- From s one call of the library: it hands in what was given, it is one step of the controller, and what it lends is what that
+-- step lends.
+pub record Happens (s : State) (lib : LibNo) (ask : Ask) (told : Told) (s' : State) : Type 0 where
+  pub given : GivenEvent s (event_of lib ask)
+  pub is_step : Step s (event_of lib ask) (answer_of told) s'
+  pub lease : LeaseIs s lib ask told

@@ -1,0 +1,34 @@
+-- The laws of several libraries on one controller, each at its desk.
+use Rattle.std.specs.Prelude.{◌≡◌, map}
+use Rattle.trio_rights.specs.declared.rights.LibNo.{LibNo}
+use Rattle.trio_lists.specs.Lists.{In}
+use Rattle.trio_lease.specs.declared.parts.HoldParts.{HoldParts}
+use Rattle.trio_desk.specs.Call.{Ask, Told}
+use Rattle.trio_state.specs.State.{State}
+use Rattle.trio_state.specs.Kept.{Kept}
+use Rattle.trio_ctl.specs.Ctl.{AreAsTold, IsLibrary}
+use Rattle.trio_ctl.specs.Desk.{Happens, out_of}
+
+-- a call of one library leaves what another has out
+abbrev pub OthersKeep : Type 0
+OthersKeep =
+    (s : State) (lib other : LibNo) (ask : Ask) (told : Told) (s' : State)
+    → Kept s → (other.0 ≡ lib.0 → ⊥) → Happens s lib ask told s' → out_of s' other ≡ out_of s other
+
+-- no library comes or goes in a call
+abbrev pub LibrariesStay : Type 0
+LibrariesStay =
+    (s : State) (lib other : LibNo) (ask : Ask) (told : Told) (s' : State)
+    → Happens s lib ask told s' → IsLibrary other s → IsLibrary other s'
+
+-- a call leaves the state kept, and each hold as it told
+abbrev pub CallsKeep : Type 0
+CallsKeep =
+    (s : State) (lib : LibNo) (ask : Ask) (told : Told) (s' : State)
+    → Kept s → AreAsTold s → Happens s lib ask told s' → Kept s' × AreAsTold s'
+
+-- the directory that a hold of a library told is lent to it for writing
+abbrev pub HoldsStand : Type 0
+HoldsStand =
+    (s : State) (lib : LibNo) (h : HoldParts)
+    → Kept s → AreAsTold s → In h (out_of s lib).holds → In h.parent (map (λ w. w.ino) (out_of s lib).writes)

@@ -1,0 +1,24 @@
+//! The laws of desks on one controller: the body of each function is empty, and its contract is the
+//! law.
+
+ghost use Rattle.trio_ctl.specs.DeskLaws.{CallsKeep, HoldsStand, LibrariesStay, OthersKeep};
+
+/// A call of one library leaves what another has out.
+pub fn others_keep()
+    ensures law { OthersKeep }
+{}
+
+/// No library of the controller comes or goes in a call.
+pub fn libraries_stay()
+    ensures law { LibrariesStay }
+{}
+
+/// A call leaves the state kept, and each open hold told the directory that lists its file.
+pub fn calls_keep()
+    ensures law { CallsKeep }
+{}
+
+/// The directory that an open hold of a library told is lent to that library for writing.
+pub fn holds_stand()
+    ensures law { HoldsStand }
+{}
