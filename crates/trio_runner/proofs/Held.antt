@@ -35,7 +35,7 @@ use Rattle.trio_runner.specs.Line.{Alone, Asks, LineComes, EndsAlone, EndsAll, E
 use Rattle.trio_runner.specs.Rounds.{Placed, Turn, Says, Ends}
 use Rattle.trio_runner.specs.Play.{AreMoves, Heard, Players, TakesTurn, TurnComes, has_of}
 use Rattle.trio_runner.specs.inner.Ready.{HasAll, IsHeld}
-use Rattle.trio_runner.proofs.Below.{call_leaves}
+use Rattle.trio_runner.proofs.CallLeaves.{call_leaves}
 use Rattle.trio_runner.proofs.Moves.{Stands, moves_creds, moves_others, moves_parted, moves_stand, no_move, one_move}
 use Rattle.trio_runner.proofs.Outs.{AsLent, has_all-alike, has_all-allotted, has_all-back, has_all-last, has_all-lease, has_all-poked, has_all-rest, has_all-returned, has_all-whole}
 
@@ -239,7 +239,7 @@ held_stands p h = record { kept = h.kept; as_told = h.as_told }
 pub same_creds : (p : Players) (t : Placed) (moves : List Move) (p' : Players) → TakesTurn p t moves p' → p'.state.creds ≡ p.state.creds
 same_creds p t moves p' takes = moves_creds t.lib p.state takes.calls moves p'.state takes.happen
 
-library_before : (other : LibNo) (s s' : State) → s'.creds ≡ s.creds → IsLibrary other s' → IsLibrary other s
+pub library_before : (other : LibNo) (s s' : State) → s'.creds ≡ s.creds → IsLibrary other s' → IsLibrary other s
 library_before other s s' e is = (is.0, subst (λ (cs : List Creds). other.0 ≤ length cs) e is.1)
 
 pub library_after : (other : LibNo) (s s' : State) → s'.creds ≡ s.creds → IsLibrary other s → IsLibrary other s'
