@@ -16,9 +16,9 @@ use Rattle.trio_nodes.specs.declared.entry.AllotAnswer.{AllotAnswer}
 use Rattle.trio_nodes.specs.declared.entry.AllotAnswer.TheVariants.{Given as GivenAnswer, Refused as RefusedAnswer}
 use Rattle.trio_lease.specs.Shown.{Shown}
 use Rattle.trio_desk.specs.Call.{Ask, Told, Grant, Allot, GiveBack, Release, SetMode, Lent, NotLent, Given, NotGiven, Done, Judged, NotJudged, ModeSet, NotModeSet}
-use Rattle.trio_desk.specs.Calls.{Call, Calls, OneCall, Made, NotMade}
-use Rattle.trio_raw.specs.Asked.{AfterAllot, AfterBack, AfterGrant, AfterMode, AfterRelease, Back, IsRefusal, NoGrant, NoRelease, children_in, raw_fault}
-use Rattle.trio_raw.specs.Has.{Has, Held, OnList, nothing, has_all_of, keeps_allotted, parcel_named, read_on}
+use Rattle.trio_desk.specs.Calls.{Call, OneCall, Made, NotMade}
+use Rattle.trio_raw.specs.Asked.{AfterAllot, AfterBack, AfterGrant, AfterMode, AfterRelease, Back, IsRefusal, NoGrant, NoRelease, children_in}
+use Rattle.trio_raw.specs.Has.{Has, OnList, nothing, has_all_of, keeps_allotted, parcel_named, read_on}
 use Rattle.trio_raw.specs.declared.raw.RawFault.{RawFault}
 use Rattle.trio_raw.specs.declared.raw.RawFault.TheVariants.{Absent, NotClosed, NoMemory}
 use Rattle.trio_script.specs.declared.line.RawLine.{RawLine}

@@ -1,14 +1,14 @@
 -- At a script's end nothing is lent or out.
 use Rattle.std.proofs.Common.{◌≡◌, ℕ, zero, suc, ◌+◌, ◌-◌, ◌<◌, ◌≤◌, Bool, true, false, cond, eqb, leb, ◌&&◌, List, [], ◌∷◌, length, map, Option, Some, None, sym, refl, ap, ◌∙◌, subst, inl, inr, arith, leb-true, le-leb}
 use Rattle.std.specs.Prelude.{slice_get}
-use Rattle.std.proofs.lemmas.Bool.{and_from, both_ways, eq-eqb, eqb-true, false≢true, cases_Bool}
+use Rattle.std.proofs.lemmas.Bool.{and_from, both_ways, eq-eqb, eqb-true, false≢true}
 use Rattle.std.proofs.lemmas.List.{length-map}
 use Rattle.trio_rights.specs.declared.rights.LibNo.{LibNo}
 use Rattle.trio_rights.specs.declared.rights.Creds.{Creds}
 use Rattle.trio_lists.specs.Lists.{In}
 use Rattle.trio_lists.proofs.Filters.{In-filter}
 use Rattle.trio_lists.proofs.Members.{In-map}
-use Rattle.trio_tables.specs.Out.{NoneOut, lib_at, none_out}
+use Rattle.trio_tables.specs.Out.{lib_at, none_out}
 use Rattle.trio_tables.proofs.OutLemmas.{lib_at-none_out}
 use Rattle.trio_nodes.specs.declared.grant.GrantKind.{GrantKind}
 use Rattle.trio_nodes.specs.declared.grant.GrantKind.TheVariants.{Read, Write, Hold}
@@ -27,7 +27,7 @@ use Rattle.trio_ctl.proofs.DeskOuts.{In-numbers_to, numbers_to-In}
 use Rattle.trio_raw.specs.Has.{Has, nothing}
 use Rattle.trio_script.specs.declared.ScriptLib.{ScriptLib}
 use Rattle.trio_runner.specs.Rounds.{Turn, Says, Ends, Placed, turns_of}
-use Rattle.trio_runner.specs.Play.{Played, Players, Plays, TakesTurn, TurnComes, at_start, creds_in, has_of, told_to}
+use Rattle.trio_runner.specs.Play.{Players, Plays, TakesTurn, TurnComes, at_start, creds_in, has_of, told_to}
 use Rattle.trio_runner.specs.PlayLaws.{NothingOut, PlayedEndsFree}
 use Rattle.trio_runner.specs.inner.Ready.{HasAll, IsHeld}
 use Rattle.trio_runner.proofs.Held.{held_after, library_after, other_after, own_after, same_creds, same_library}

@@ -1,7 +1,7 @@
 -- Between turns each library has all that is out to it, and nothing is out to anybody else.
-use Rattle.std.proofs.Common.{◌≡◌, ℕ, ◌-◌, ◌<◌, ◌≤◌, Bool, true, false, cond, ◌&&◌, eqb, List, [], ◌∷◌, ◌++◌, length, get_or, set, Option, Some, None, sym, refl, ap, ◌∙◌, subst, inl, inr, arith}
+use Rattle.std.proofs.Common.{◌≡◌, ℕ, ◌-◌, ◌≤◌, Bool, true, false, cond, ◌&&◌, eqb, List, [], ◌∷◌, ◌++◌, length, get_or, set, Option, Some, None, sym, refl, ap, ◌∙◌, subst, inl, inr, arith}
 use Rattle.std.proofs.Math.Dec.{eqb-suc-zero}
-use Rattle.std.specs.Prelude.{MatchOption, MatchBool}
+use Rattle.std.specs.Prelude.{MatchOption}
 use Rattle.std.specs.Option.{IsSomeAnd, option_map}
 use Rattle.std.proofs.lemmas.Bool.{and_parts, both_ways, eq-eqb, eqb-true, false≢true, cases_Bool, MatchBool-at_true, MatchBool-at_false}
 use Rattle.std.proofs.lemmas.List.{append-nil, append_assoc, get_or-set_other, get_or-set_same, length-set}
@@ -89,6 +89,7 @@ module _ (lib : LibNo) (s s' : State) (has has' : Has) (calls : List Call) (move
   grant_held ino kind (NotJudged fault) t h = absurd (cc t)
   grant_held ino kind ModeSet t h = absurd (cc t)
   grant_held ino kind (NotModeSet fault) t h = absurd (cc t)
+
   allot_held : (wanted many : ℕ) (answer : Told) → Comes (AllotLine wanted many) (Allot wanted many) answer
   allot_held wanted many (Given ps ns) t h =
       has_all-alike _ _ _ (call_leaves s lib s' (Allot wanted many) (Given ps ns) tt kept h) (has_all-allotted lib (out_of s lib) has ps ns all)
@@ -100,6 +101,7 @@ module _ (lib : LibNo) (s s' : State) (has has' : Has) (calls : List Call) (move
   allot_held wanted many (NotJudged fault) t h = absurd (cc t)
   allot_held wanted many ModeSet t h = absurd (cc t)
   allot_held wanted many (NotModeSet fault) t h = absurd (cc t)
+
   back_held : (ino : ℕ) (lease : Shown) → lease.ino ≡ ino → (answer : Told) → Comes (BackLine ino) (GiveBack lease) answer
   back_held ino lease e Done t h =
       has_all-alike _ _ _ (call_leaves s lib s' (GiveBack lease) Done tt kept h)
@@ -112,6 +114,7 @@ module _ (lib : LibNo) (s s' : State) (has has' : Has) (calls : List Call) (move
   back_held ino lease e (NotJudged fault) t h = absurd (cc t)
   back_held ino lease e ModeSet t h = absurd (cc t)
   back_held ino lease e (NotModeSet fault) t h = absurd (cc t)
+
   release_held : (inos pages numbers : List ℕ) (answer : Told) → Comes (ReleaseLine inos pages numbers) (Release (parcel_named has inos pages numbers)) answer
   release_held inos pages numbers (Judged answer) t h =
       has_all-alike _ _ _ (call_leaves s lib s' (Release (parcel_named has inos pages numbers)) (Judged answer) tt kept h)
@@ -126,6 +129,7 @@ module _ (lib : LibNo) (s s' : State) (has has' : Has) (calls : List Call) (move
   release_held inos pages numbers Done t h = absurd (cc t)
   release_held inos pages numbers ModeSet t h = absurd (cc t)
   release_held inos pages numbers (NotModeSet fault) t h = absurd (cc t)
+
   mode_held : (ino mode : ℕ) (answer : Told) → Comes (ModeLine ino mode) (SetMode ino mode) answer
   mode_held ino mode ModeSet t h = has_all-alike _ _ _ (call_leaves s lib s' (SetMode ino mode) ModeSet tt kept h) all
   mode_held ino mode (NotModeSet fault) t h = has_all-alike _ _ _ (call_leaves s lib s' (SetMode ino mode) (NotModeSet fault) tt kept h) all
@@ -136,6 +140,7 @@ module _ (lib : LibNo) (s s' : State) (has has' : Has) (calls : List Call) (move
   mode_held ino mode Done t h = absurd (cc t)
   mode_held ino mode (Judged answer) t h = absurd (cc t)
   mode_held ino mode (NotJudged fault) t h = absurd (cc t)
+
   -- what it has then
   then_has : (said : RawLine) (ask : Ask) (a : Asks lib has said ask calls told has') → ((answer : Told) → Comes said ask answer) → HasAll (out_of s' lib) has'
   then_has said ask a held = subst (HasAll (out_of s' lib)) (sym a.has_is) (held a.answer a.told_is (asked said ask a))

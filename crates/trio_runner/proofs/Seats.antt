@@ -1,6 +1,6 @@
 -- Turns of a round, one library after another.
-use Rattle.std.proofs.Common.{◌≡◌, ℕ, zero, suc, ◌+◌, ◌-◌, ◌<◌, ◌≤◌, List, [], ◌∷◌, ◌++◌, length, map, get_or, set, take, Option, Some, None, sym, refl, ap, ◌∙◌, subst, inl, inr, arith, eqb, take-suc}
-use Rattle.std.specs.Prelude.{slice_get, MatchOption}
+use Rattle.std.proofs.Common.{◌≡◌, ℕ, zero, suc, ◌+◌, ◌-◌, ◌<◌, List, [], ◌∷◌, ◌++◌, length, map, get_or, set, take, Option, Some, None, sym, refl, ap, ◌∙◌, subst, inl, inr, arith, eqb, take-suc}
+use Rattle.std.specs.Prelude.{slice_get}
 use Rattle.std.proofs.Math.Seq.{map-set_same}
 use Rattle.std.proofs.lemmas.Bool.{both_ways, eq-eqb, eqb-true, cases_Bool}
 use Rattle.std.proofs.lemmas.Grind.{flat_map-append}
@@ -10,9 +10,7 @@ use Rattle.trio_lists.specs.Lists.{In, tabulated}
 use Rattle.trio_lists.proofs.Tabulated.{tabulated-get, tabulated-length}
 use Rattle.trio_lists.proofs.Members.{map-In}
 use Rattle.trio_lease.specs.Shown.{Shown}
-use Rattle.trio_lease.specs.declared.parts.HoldParts.{HoldParts}
 use Rattle.trio_desk.specs.Out.{LibOut, IsClosed, file_numbers}
-use Rattle.trio_desk.specs.Calls.{Call}
 use Rattle.trio_layout.specs.Image.{Image}
 use Rattle.trio_state.specs.State.{State}
 use Rattle.trio_state.specs.Kept.{Kept}
@@ -24,9 +22,9 @@ use Rattle.trio_raw.specs.Has.{Has, Held, OnList, nothing, whole_parcel}
 use Rattle.trio_script.specs.declared.ScriptLine.{ScriptLine}
 use Rattle.trio_script.specs.declared.ScriptLib.{ScriptLib}
 use Rattle.trio_runner.specs.Rounds.{Turn, Placed, course, courses_from, in_rounds, round_of, turn_list, turns_of}
-use Rattle.trio_runner.specs.Play.{AreMoves, Heard, Players, Plays, TakesTurn, TurnComes, at_start, creds_in, has_of, told_to, untold}
+use Rattle.trio_runner.specs.Play.{Heard, Players, Plays, TakesTurn, TurnComes, at_start, creds_in, has_of, told_to, untold}
 use Rattle.trio_runner.specs.Seen.{ScriptPlayed}
-use Rattle.trio_runner.specs.inner.Ready.{AreSeated, HasAll, IsHeld, IsReady, Took, TookNext, TookTurn, idle, players}
+use Rattle.trio_runner.specs.inner.Ready.{AreSeated, HasAll, IsReady, Took, TookNext, TookTurn, idle, players}
 use Rattle.trio_runner.proofs.EndFree.{start_stands}
 use Rattle.trio_runner.proofs.Held.{held_after, held_stands, library_before, other_after, own_after, same_creds, same_library}
 use Rattle.trio_runner.proofs.Calling.{nothing_on_list}

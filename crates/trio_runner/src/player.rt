@@ -9,7 +9,8 @@ ghost use Rattle.trio_runner.specs.inner.Calling.{EndCalled, LineCalled};
 use std::alloc::Global;
 use trio_desk::Desk;
 use trio_nodes::{
-    AllotAnswer, AllotFault, Bytes, GrantFault, GrantKind, ModeFault, ReleaseAnswer, Spot};
+    AllotAnswer, AllotFault, Bytes, GrantFault, GrantKind, ModeFault, ReleaseAnswer, Spot,
+};
 use trio_page::NoMemory;
 use trio_raw::{Absent, Raw, RawFault};
 use trio_report::{EndAnswer, LineAnswer};

@@ -232,12 +232,7 @@ fn take_line(
 }
 
 /// Ends a library, and keeps the answer.
-fn take_end(
-    alloc: Global,
-    ctl: &mut Ctl,
-    raw: &mut Raw,
-    told: &mut LibTold,
-) -> Result<(), NoMemory>
+fn take_end(alloc: Global, ctl: &mut Ctl, raw: &mut Raw, told: &mut LibTold) -> Result<(), NoMemory>
     requires library { IsLibrary raw.old.lib ctl.old.state }
     requires stands { OnList (out_of ctl.old.state raw.old.lib) raw.old.has }
     requires closed { IsClosed (out_of ctl.old.state raw.old.lib) (whole_parcel raw.old.has) }

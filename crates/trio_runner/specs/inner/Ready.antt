@@ -1,5 +1,5 @@
 -- What holds between the turns of a script. Cited by private functions alone.
-use Rattle.std.specs.Prelude.{◌≡◌, ℕ, ◌+◌, List, [], length, map, MatchOption, Option}
+use Rattle.std.specs.Prelude.{◌≡◌, ℕ, ◌+◌, List, length, map, MatchOption, Option}
 use Rattle.trio_rights.specs.declared.rights.LibNo.{LibNo}
 use Rattle.trio_lists.specs.Lists.{In, tabulated}
 use Rattle.trio_lease.specs.Shown.{Shown}

@@ -39,11 +39,12 @@ loop-at-preserved c =
     let now = players c.loop-at.ctl.state raws tolds in
     let after = players c.play_turn.new.ctl.state (slice_set raws at c.play_turn.new.raw) (slice_set tolds at c.play_turn.new.told) in
     let before = round_of c.args.round (take at (courses_from 1 libs)) in
-    let own = subst (λ (l : List ScriptLine). Took now (turn_list (slice_get (course (at + 1) l) c.args.round)) after) (c.as_slice-lines.ensures ∙ ap (λ (l : ScriptLib). l.lines) (sym c.index-libs-at.is)) took in
-    (subst (λ ts. Took start ts after) (sym (round_more c.args.round at libs c.index-libs-at.result c.loop-at-test.true c.index-libs-at.is))
-    (took_more start before now (turn_list (slice_get (course (at + 1) c.index-libs-at.result.lines) c.args.round)) after c.loop-at.invariant.0 own),
-    seated_after libs raws tolds c.loop-at.invariant.1 at c.loop-at-test.true raw c.index_mut.ensures.value told c.index_mut-in-loop-at.ensures.value
-    c.loop-at.ctl.state c.loop-at.invariant.0.ready c.play_turn.new.ctl.state c.play_turn.new.raw c.play_turn.new.told c.in_ok-play_turn.ensures.lib)
+    let own = subst (λ (l : List ScriptLine). Took now (turn_list (slice_get (course (at + 1) l) c.args.round)) after) (c.as_slice-lines.ensures ∙ ap (λ (l : ScriptLib). l.lines) (sym c.index-libs-at.is)) took in (
+      subst (λ ts. Took start ts after) (sym (round_more c.args.round at libs c.index-libs-at.result c.loop-at-test.true c.index-libs-at.is))
+          (took_more start before now (turn_list (slice_get (course (at + 1) c.index-libs-at.result.lines) c.args.round)) after c.loop-at.invariant.0 own),
+      seated_after libs raws tolds c.loop-at.invariant.1 at c.loop-at-test.true raw c.index_mut.ensures.value told c.index_mut-in-loop-at.ensures.value
+          c.loop-at.ctl.state c.loop-at.invariant.0.ready c.play_turn.new.ctl.state c.play_turn.new.raw c.play_turn.new.told c.in_ok-play_turn.ensures.lib,
+    )
 
 pub returns-clause-took : goal.returns-clause-took
 returns-clause-took c =
