@@ -1,14 +1,14 @@
 -- At a script's end nothing is lent or out.
 use Rattle.std.proofs.Common.{◌≡◌, ℕ, zero, suc, ◌+◌, ◌-◌, ◌<◌, ◌≤◌, Bool, true, false, cond, eqb, leb, ◌&&◌, List, [], ◌∷◌, length, map, Option, Some, None, sym, refl, ap, ◌∙◌, subst, inl, inr, arith, leb-true, le-leb}
 use Rattle.std.specs.Prelude.{slice_get}
-use Rattle.std.proofs.lemmas.Bool.{and_from, both_ways, eq-eqb, eqb-true, false≢true, cases_Bool}
+use Rattle.std.proofs.lemmas.Bool.{and_from, both_ways, eq-eqb, eqb-true, false≢true}
 use Rattle.std.proofs.lemmas.List.{length-map}
 use Rattle.trio_rights.specs.declared.rights.LibNo.{LibNo}
 use Rattle.trio_rights.specs.declared.rights.Creds.{Creds}
 use Rattle.trio_lists.specs.Lists.{In}
 use Rattle.trio_lists.proofs.Filters.{In-filter}
 use Rattle.trio_lists.proofs.Members.{In-map}
-use Rattle.trio_tables.specs.Out.{NoneOut, lib_at, none_out}
+use Rattle.trio_tables.specs.Out.{lib_at, none_out}
 use Rattle.trio_tables.proofs.OutLemmas.{lib_at-none_out}
 use Rattle.trio_nodes.specs.declared.grant.GrantKind.{GrantKind}
 use Rattle.trio_nodes.specs.declared.grant.GrantKind.TheVariants.{Read, Write, Hold}
@@ -16,6 +16,7 @@ use Rattle.trio_nodes.specs.GrantKinds.{is_hold, is_read, is_write}
 use Rattle.trio_layout.specs.Image.{Image, IsFit}
 use Rattle.trio_layout.specs.Verifies.{Verifies}
 use Rattle.trio_state.specs.State.{OpenGrant, State}
+use Rattle.trio_state.specs.Kept.{Kept}
 use Rattle.trio_state.specs.Run.{start, IsWhole, Move}
 use Rattle.trio_laws.specs.OutLaws.{numbers_to}
 use Rattle.trio_laws.proofs.Runs.{start_kept}
@@ -26,7 +27,7 @@ use Rattle.trio_ctl.proofs.DeskOuts.{In-numbers_to, numbers_to-In}
 use Rattle.trio_raw.specs.Has.{Has, nothing}
 use Rattle.trio_script.specs.declared.ScriptLib.{ScriptLib}
 use Rattle.trio_runner.specs.Rounds.{Turn, Says, Ends, Placed, turns_of}
-use Rattle.trio_runner.specs.Play.{Played, Players, Plays, TakesTurn, TurnComes, at_start, has_of, told_to}
+use Rattle.trio_runner.specs.Play.{Players, Plays, TakesTurn, TurnComes, at_start, creds_in, has_of, told_to}
 use Rattle.trio_runner.specs.PlayLaws.{NothingOut, PlayedEndsFree}
 use Rattle.trio_runner.specs.inner.Ready.{HasAll, IsHeld}
 use Rattle.trio_runner.proofs.Held.{held_after, library_after, other_after, own_after, same_creds, same_library}
@@ -50,17 +51,20 @@ start_has_all image creds lib has = record {
   numbers = λ n i. absurd (no_numbers (image.core.inodes + 1) lib.0 n i);
 }
 
-pub start_held : (image : Image) (libs : List ScriptLib) → IsFit image.core → Verifies image → IsWhole image → IsHeld (at_start image libs)
-start_held image libs fit verifies whole =
-    let creds : List Creds = map (λ (l : ScriptLib). l.creds) libs in
+pub start_stands : (image : Image) (libs : List ScriptLib) → Kept (start image (creds_in libs)) → IsHeld (at_start image libs)
+start_stands image libs kept =
+    let creds : List Creds = creds_in libs in
     record {
-      kept = start_kept image creds fit verifies whole;
+      kept = kept;
       as_told = λ g i. absurd i;
       has_places = length-map libs _ ∙ sym (length-map libs _);
       told_places = length-map libs _ ∙ sym (length-map libs _);
       all = λ lib is. start_has_all image creds lib (has_of (at_start image libs) lib);
       nobody_else = λ lib none. start_has_all image creds lib nothing;
     }
+
+pub start_held : (image : Image) (libs : List ScriptLib) → IsFit image.core → Verifies image → IsWhole image → IsHeld (at_start image libs)
+start_held image libs fit verifies whole = start_stands image libs (start_kept image (creds_in libs) fit verifies whole)
 
 -- ---- turns
 

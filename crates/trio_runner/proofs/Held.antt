@@ -1,7 +1,7 @@
 -- Between turns each library has all that is out to it, and nothing is out to anybody else.
-use Rattle.std.proofs.Common.{◌≡◌, ℕ, ◌-◌, ◌<◌, ◌≤◌, Bool, true, false, cond, ◌&&◌, eqb, List, [], ◌∷◌, ◌++◌, length, get_or, set, Option, Some, None, sym, refl, ap, ◌∙◌, subst, inl, inr, arith}
+use Rattle.std.proofs.Common.{◌≡◌, ℕ, ◌-◌, ◌≤◌, Bool, true, false, cond, ◌&&◌, eqb, List, [], ◌∷◌, ◌++◌, length, get_or, set, Option, Some, None, sym, refl, ap, ◌∙◌, subst, inl, inr, arith}
 use Rattle.std.proofs.Math.Dec.{eqb-suc-zero}
-use Rattle.std.specs.Prelude.{MatchOption, MatchBool}
+use Rattle.std.specs.Prelude.{MatchOption}
 use Rattle.std.specs.Option.{IsSomeAnd, option_map}
 use Rattle.std.proofs.lemmas.Bool.{and_parts, both_ways, eq-eqb, eqb-true, false≢true, cases_Bool, MatchBool-at_true, MatchBool-at_false}
 use Rattle.std.proofs.lemmas.List.{append-nil, append_assoc, get_or-set_other, get_or-set_same, length-set}
@@ -35,7 +35,7 @@ use Rattle.trio_runner.specs.Line.{Alone, Asks, LineComes, EndsAlone, EndsAll, E
 use Rattle.trio_runner.specs.Rounds.{Placed, Turn, Says, Ends}
 use Rattle.trio_runner.specs.Play.{AreMoves, Heard, Players, TakesTurn, TurnComes, has_of}
 use Rattle.trio_runner.specs.inner.Ready.{HasAll, IsHeld}
-use Rattle.trio_runner.proofs.Below.{call_leaves}
+use Rattle.trio_runner.proofs.CallLeaves.{call_leaves}
 use Rattle.trio_runner.proofs.Moves.{Stands, moves_creds, moves_others, moves_parted, moves_stand, no_move, one_move}
 use Rattle.trio_runner.proofs.Outs.{AsLent, has_all-alike, has_all-allotted, has_all-back, has_all-last, has_all-lease, has_all-poked, has_all-rest, has_all-returned, has_all-whole}
 
@@ -89,6 +89,7 @@ module _ (lib : LibNo) (s s' : State) (has has' : Has) (calls : List Call) (move
   grant_held ino kind (NotJudged fault) t h = absurd (cc t)
   grant_held ino kind ModeSet t h = absurd (cc t)
   grant_held ino kind (NotModeSet fault) t h = absurd (cc t)
+
   allot_held : (wanted many : ℕ) (answer : Told) → Comes (AllotLine wanted many) (Allot wanted many) answer
   allot_held wanted many (Given ps ns) t h =
       has_all-alike _ _ _ (call_leaves s lib s' (Allot wanted many) (Given ps ns) tt kept h) (has_all-allotted lib (out_of s lib) has ps ns all)
@@ -100,6 +101,7 @@ module _ (lib : LibNo) (s s' : State) (has has' : Has) (calls : List Call) (move
   allot_held wanted many (NotJudged fault) t h = absurd (cc t)
   allot_held wanted many ModeSet t h = absurd (cc t)
   allot_held wanted many (NotModeSet fault) t h = absurd (cc t)
+
   back_held : (ino : ℕ) (lease : Shown) → lease.ino ≡ ino → (answer : Told) → Comes (BackLine ino) (GiveBack lease) answer
   back_held ino lease e Done t h =
       has_all-alike _ _ _ (call_leaves s lib s' (GiveBack lease) Done tt kept h)
@@ -112,6 +114,7 @@ module _ (lib : LibNo) (s s' : State) (has has' : Has) (calls : List Call) (move
   back_held ino lease e (NotJudged fault) t h = absurd (cc t)
   back_held ino lease e ModeSet t h = absurd (cc t)
   back_held ino lease e (NotModeSet fault) t h = absurd (cc t)
+
   release_held : (inos pages numbers : List ℕ) (answer : Told) → Comes (ReleaseLine inos pages numbers) (Release (parcel_named has inos pages numbers)) answer
   release_held inos pages numbers (Judged answer) t h =
       has_all-alike _ _ _ (call_leaves s lib s' (Release (parcel_named has inos pages numbers)) (Judged answer) tt kept h)
@@ -126,6 +129,7 @@ module _ (lib : LibNo) (s s' : State) (has has' : Has) (calls : List Call) (move
   release_held inos pages numbers Done t h = absurd (cc t)
   release_held inos pages numbers ModeSet t h = absurd (cc t)
   release_held inos pages numbers (NotModeSet fault) t h = absurd (cc t)
+
   mode_held : (ino mode : ℕ) (answer : Told) → Comes (ModeLine ino mode) (SetMode ino mode) answer
   mode_held ino mode ModeSet t h = has_all-alike _ _ _ (call_leaves s lib s' (SetMode ino mode) ModeSet tt kept h) all
   mode_held ino mode (NotModeSet fault) t h = has_all-alike _ _ _ (call_leaves s lib s' (SetMode ino mode) (NotModeSet fault) tt kept h) all
@@ -136,6 +140,7 @@ module _ (lib : LibNo) (s s' : State) (has has' : Has) (calls : List Call) (move
   mode_held ino mode Done t h = absurd (cc t)
   mode_held ino mode (Judged answer) t h = absurd (cc t)
   mode_held ino mode (NotJudged fault) t h = absurd (cc t)
+
   -- what it has then
   then_has : (said : RawLine) (ask : Ask) (a : Asks lib has said ask calls told has') → ((answer : Told) → Comes said ask answer) → HasAll (out_of s' lib) has'
   then_has said ask a held = subst (HasAll (out_of s' lib)) (sym a.has_is) (held a.answer a.told_is (asked said ask a))
@@ -239,7 +244,7 @@ held_stands p h = record { kept = h.kept; as_told = h.as_told }
 pub same_creds : (p : Players) (t : Placed) (moves : List Move) (p' : Players) → TakesTurn p t moves p' → p'.state.creds ≡ p.state.creds
 same_creds p t moves p' takes = moves_creds t.lib p.state takes.calls moves p'.state takes.happen
 
-library_before : (other : LibNo) (s s' : State) → s'.creds ≡ s.creds → IsLibrary other s' → IsLibrary other s
+pub library_before : (other : LibNo) (s s' : State) → s'.creds ≡ s.creds → IsLibrary other s' → IsLibrary other s
 library_before other s s' e is = (is.0, subst (λ (cs : List Creds). other.0 ≤ length cs) e is.1)
 
 pub library_after : (other : LibNo) (s s' : State) → s'.creds ≡ s.creds → IsLibrary other s → IsLibrary other s'

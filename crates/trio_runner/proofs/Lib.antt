@@ -1,5 +1,5 @@
 pub mod Creds
-pub mod Below
+pub mod CallLeaves
 pub mod Moves
 pub mod Plays
 pub mod Outs
@@ -7,3 +7,5 @@ pub mod Held
 pub mod Orders
 pub mod EndFree
 pub mod OnePlay
+pub mod Calling
+pub mod Seats

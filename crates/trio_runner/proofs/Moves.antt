@@ -100,10 +100,12 @@ moves_run lib s (c ∷ calls) [] s' a = absurd a
 moves_run lib s (c ∷ calls) (m ∷ moves) s' a =
     let rest = moves_run lib m.after calls moves s' a.2 in
     record {
-      trace = (ap (λ (x : Move). x.before) a.0,
+      trace = (
+        ap (λ (x : Move). x.before) a.0,
         subst (λ (x : Move). GivenIn x) (sym a.0) a.1.given,
         subst (λ (x : Move). IsStep x) (sym a.0) a.1.is_step,
-        rest.trace);
+        rest.trace,
+      );
       last = rest.last;
     }
 

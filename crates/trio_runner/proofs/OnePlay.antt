@@ -1,28 +1,27 @@
 -- Two plays of one script on one image come to the same.
 use Rattle.std.proofs.Common.{◌≡◌, ◌≢◌, ℕ, ◌-◌, Bool, true, false, List, [], ◌∷◌, ◌++◌, Option, Some, None, sym, refl, ap, ◌∙◌, subst, inl, inr, get_or, set}
 use Rattle.std.specs.Prelude.{MatchBool, MatchOption}
-use Rattle.std.specs.Option.{IsSomeAnd, option_map}
-use Rattle.std.proofs.lemmas.Bool.{MatchBool-at_true, MatchBool-at_false, cases_Bool, false≢true}
+use Rattle.std.specs.Option.{IsSomeAnd}
+use Rattle.std.proofs.lemmas.Bool.{false≢true}
 use Rattle.trio_rights.specs.Row.{Row}
 use Rattle.trio_rights.specs.declared.rights.LibNo.{LibNo}
 use Rattle.trio_nodes.specs.declared.grant.GrantKind.{GrantKind}
-use Rattle.trio_nodes.specs.declared.answers.GrantFault.{GrantFault}
 use Rattle.trio_nodes.specs.declared.answers.GrantFault.TheVariants.{NotLive, Denied, NoParent, Busy, NoMemory as NoGrantMemory}
 use Rattle.trio_nodes.specs.declared.answers.AllotFault.TheVariants.{NoPages as NoFreePages, NoInodes as NoFreeInodes, NoMemory as NoAllotMemory}
 use Rattle.trio_nodes.specs.declared.answers.ReleaseAnswer.{ReleaseAnswer}
 use Rattle.trio_nodes.specs.declared.answers.ReleaseAnswer.TheVariants.{Accepted as AcceptedParcel, Refused as RefusedParcel}
 use Rattle.trio_nodes.specs.declared.answers.ReleaseFault.TheVariants.{NotClosed as NotClosedParcel, NoMemory as NoReleaseMemory}
 use Rattle.trio_nodes.specs.declared.answers.ModeFault.TheVariants as unmoded
-use Rattle.trio_layout.specs.Image.{Image, IsFit, row_at}
+use Rattle.trio_layout.specs.Image.{row_at}
 use Rattle.trio_lease.specs.Shown.{Shown}
 use Rattle.trio_lease.specs.declared.lease.Lease.{Lease}
 use Rattle.trio_lease.specs.declared.lease.Lease.TheVariants.{Hold as HoldLent}
 use Rattle.trio_rights.specs.declared.kind.Kind.TheVariants.{Regular}
 use Rattle.trio_lists.specs.Lists.{In}
 use Rattle.trio_lists.proofs.Members.{In-cases}
-use Rattle.trio_desk.specs.Call.{Ask, Told, Grant, Allot, GiveBack, Release, SetMode, Lent, NotLent, Given, NotGiven, Done, Judged, NotJudged, ModeSet, NotModeSet}
+use Rattle.trio_desk.specs.Call.{Ask, Told, Grant, GiveBack, Lent, NotLent, Given, NotGiven, Done, Judged, NotJudged, ModeSet, NotModeSet}
 use Rattle.trio_desk.specs.Calls.{Call}
-use Rattle.trio_state.specs.State.{OpenGrant, State, settled}
+use Rattle.trio_state.specs.State.{State}
 use Rattle.trio_state.specs.Kept.{Kept}
 use Rattle.trio_state.specs.Grants.{opened}
 use Rattle.trio_state.specs.Run.{Move}
@@ -33,21 +32,19 @@ use Rattle.trio_laws.specs.Known.{Known, known, plain_state, refused_rule, SameA
 use Rattle.trio_laws.proofs.KnownSteps.{known_decides, same_event_same_answer}
 use Rattle.trio_ctl.proofs.DeskSteps.{calls_keep}
 use Rattle.trio_ctl.specs.Open.{lent_by}
-use Rattle.trio_ctl.specs.Desk.{Happens, LeaseIs, answer_of, event_of}
-use Rattle.trio_raw.specs.Has.{Has, has_nothing, has_all_of, parcel_named, read_on, nothing, whole_parcel}
+use Rattle.trio_ctl.specs.Desk.{LeaseIs, answer_of, event_of}
+use Rattle.trio_raw.specs.Has.{Has, has_nothing, nothing}
 use Rattle.trio_raw.specs.Asked.{back_calls, release_call}
 use Rattle.trio_script.specs.declared.line.RawLine.{RawLine}
 use Rattle.trio_script.specs.declared.line.RawLine.TheVariants.{Grant as GrantLine, Allot as AllotLine, Back as BackLine, Poke, Peek, Release as ReleaseLine, Mode as ModeLine}
-use Rattle.trio_script.specs.declared.ScriptLib.{ScriptLib}
 use Rattle.trio_report.specs.declared.answer.LineAnswer.{LineAnswer}
 use Rattle.trio_report.specs.declared.report.EndAnswer.{EndAnswer}
-use Rattle.trio_runner.specs.Line.{Alone, Asks, LineComes, EndsAlone, EndsAll, EndComes, ask_of, end_of, has_after, has_alone, told_alone, told_of}
+use Rattle.trio_runner.specs.Line.{Alone, Asks, LineComes, EndsAlone, EndsAll, EndComes, ask_of, end_of, has_after, told_of}
 use Rattle.trio_runner.specs.Rounds.{Placed, Turn, Says, Ends, turns_of}
-use Rattle.trio_runner.specs.Play.{AreMoves, Heard, Played, Players, Plays, TakesTurn, TurnComes, at_start, has_of, told_to, untold}
-use Rattle.trio_runner.specs.PlayLaws.{ComeToOne, PlayedIsOne}
-use Rattle.trio_runner.specs.inner.Ready.{IsHeld}
+use Rattle.trio_runner.specs.Play.{AreMoves, Heard, Players, Plays, TakesTurn, TurnComes, at_start, has_of, told_to, untold}
+use Rattle.trio_runner.specs.PlayLaws.{PlayedIsOne}
 use Rattle.trio_runner.proofs.Moves.{Stands, moves_parted, moves_stand, no_move, one_move}
-use Rattle.trio_runner.proofs.Held.{held_stands, same_creds}
+use Rattle.trio_runner.proofs.Held.{held_stands}
 use Rattle.trio_runner.proofs.EndFree.{start_held}
 
 -- ---- answers

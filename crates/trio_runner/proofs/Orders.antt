@@ -1,7 +1,8 @@
 -- The turns of each library in a script.
-use Rattle.std.proofs.Common.{◌≡◌, ℕ, zero, suc, ◌+◌, ◌<◌, ◌≤◌, Bool, true, false, cond, eqb, ltb, List, [], ◌∷◌, ◌++◌, length, Option, Some, None, sym, refl, ap, ◌∙◌, subst, inl, inr, ◌⊎◌, arith, ltb-true, ltb-false}
+use Rattle.std.proofs.Common.{◌≡◌, ℕ, zero, suc, ◌+◌, ◌<◌, ◌≤◌, max, Bool, true, false, cond, eqb, ltb, List, [], ◌∷◌, ◌++◌, length, Option, Some, None, sym, refl, ap, ◌∙◌, subst, inl, inr, ◌⊎◌, arith, ltb-true, ltb-false, get_or, drop, drop-cons, nat_cmp, is_lt, Less, Equal, Greater}
+use Rattle.std.specs.Ordering.{ord_max}
 use Rattle.std.specs.Prelude.{slice_get}
-use Rattle.std.proofs.lemmas.Bool.{eq-eqb, eqb-true, ne_eqb, cases_Bool}
+use Rattle.std.proofs.lemmas.Bool.{eq-eqb, ne_eqb, cases_Bool}
 use Rattle.trio_lists.specs.Lists.{In}
 use Rattle.trio_lists.proofs.Members.{In-cases}
 use Rattle.trio_script.specs.declared.ScriptLine.{ScriptLine}
@@ -121,32 +122,45 @@ rounds_ended (suc k) n i libs l e at lt =
 -- the longest of some lists is at least as long as each of them
 longest_most : (m i : ℕ) (libs : List ScriptLib) (l : ScriptLib) → slice_get libs i ≡ Some l → length l.lines < longest (courses_from m libs)
 longest_most m i [] l e = absurd (cc e)
-longest_most m i (x ∷ libs) l e = by (cases_Bool (ltb rest (length (course m x.lines)))) i e (λ j f. longest_most (m + 1) j libs l f)
+longest_most m zero (x ∷ libs) l e =
+    let same : x ≡ l = cc e in
+    let long : length (course m x.lines) ≡ suc (length x.lines) = course_length m x.lines in
+    subst (λ (y : ScriptLib). length y.lines < longest (courses_from m (x ∷ libs))) same (omega (arith, long))
+longest_most m (suc j) (x ∷ libs) l e = (let rest = longest_most (m + 1) j libs l e in omega (arith, rest))
+
+-- whatever the number of the first one
+pub longest_any : (m n : ℕ) (libs : List ScriptLib) → longest (courses_from m libs) ≡ longest (courses_from n libs)
+longest_any m n [] = refl
+longest_any m n (l ∷ libs) =
+    ap (λ k. max k (longest (courses_from (m + 1) libs))) (course_length m l.lines ∙ sym (course_length n l.lines))
+    ∙ ap (max (length (course n l.lines))) (longest_any (m + 1) (n + 1) libs)
+
+-- the longest of some, and of one more before them
+pub longest_first : (count m : ℕ) (l : ScriptLib) (libs : List ScriptLib) → max (max count (length l.lines + 1)) (longest (courses_from m libs)) ≡ max count (longest (courses_from m (l ∷ libs)))
+longest_first count m l libs =
+    let long : length (course m l.lines) ≡ suc (length l.lines) = course_length m l.lines in
+    let any : longest (courses_from m libs) ≡ longest (courses_from (m + 1) libs) = longest_any m (m + 1) libs in
+    omega (arith, long, any)
+
+-- the greater of two numbers, as `max` finds it
+max_is : (a b : ℕ) → ord_max nat_cmp a b ≡ max a b
+max_is a b = by (cases_Bool (ltb b a))
   where
-    rest : ℕ
-    rest = longest (courses_from (m + 1) libs)
+    tie : (same : Bool) → a ≤ b → cond (is_lt (cond same Equal Greater)) a b ≡ max a b
+    tie true l = omega (arith, l)
+    tie false l = omega (arith, l)
 
-    long : ℕ
-    long = length (course m x.lines)
+    by : (ltb b a ≡ true) ⊎ (ltb b a ≡ false) → cond (is_lt (cond (ltb b a) Less (cond (eqb b a) Equal Greater))) a b ≡ max a b
+    by (inl t) = (let l : b < a = ltb-true b a t in rw t (omega (arith, l)))
+    by (inr f) = rw f (tie (eqb b a) (ltb-false b a f))
 
-    is_long : long ≡ suc (length x.lines)
-    is_long = course_length m x.lines
-
-    by : (ltb rest long ≡ true) ⊎ (ltb rest long ≡ false) → (i : ℕ) → slice_get (x ∷ libs) i ≡ Some l → ((j : ℕ) → slice_get libs j ≡ Some l → length l.lines < rest) → length l.lines < cond (ltb rest long) long rest
-    by (inl t) zero e later =
-        let same : x ≡ l = cc e in
-        let first : length x.lines < long = omega (arith, is_long) in
-        rw t (subst (λ (y : ScriptLib). length y.lines < long) same first)
-    by (inl t) (suc j) e later =
-        let more : rest < long = ltb-true rest long t in
-        let there : length l.lines < rest = later j e in
-        let all : length l.lines < long = omega (arith, more, there) in rw t all
-    by (inr f) zero e later =
-        let same : x ≡ l = cc e in
-        let most : long ≤ rest = ltb-false rest long f in
-        let first : length x.lines < rest = omega (arith, is_long, most) in
-        rw f (subst (λ (y : ScriptLib). length y.lines < rest) same first)
-    by (inr f) (suc j) e later = rw f (later j e)
+pub longest_step : (libs : List ScriptLib) (i count count' : ℕ) (l : ScriptLib) (lines : List ScriptLine) → i < length libs → l ≡ get_or libs i l → lines ≡ l.lines → count' ≡ ord_max nat_cmp count (length lines + 1) → max count (longest (courses_from 1 (drop i libs))) ≡ longest (courses_from 1 libs) → max count' (longest (courses_from 1 (drop (i + 1) libs))) ≡ longest (courses_from 1 libs)
+longest_step libs i count count' l lines lt there own e before =
+    let next : suc i ≡ i + 1 = omega arith in
+    let split : drop i libs ≡ l ∷ drop (i + 1) libs = drop-cons libs i l lt ∙ ap (λ x. x ∷ drop (suc i) libs) (sym there) ∙ ap (λ n. l ∷ drop n libs) next in
+    let count_is : count' ≡ max count (length l.lines + 1) = e ∙ max_is count (length lines + 1) ∙ ap (λ (x : List ScriptLine). max count (length x + 1)) own in
+    ap (λ n. max n (longest (courses_from 1 (drop (i + 1) libs)))) count_is
+    ∙ longest_first count 1 l (drop (i + 1) libs) ∙ ap (λ x. max count (longest (courses_from 1 x))) (sym split) ∙ before
 
 -- at the end of a script each library has ended
 pub all_ended : (libs : List ScriptLib) (i : ℕ) (l : ScriptLib) → slice_get libs i ≡ Some l → ended (1 + i) false (turns_of libs) ≡ true

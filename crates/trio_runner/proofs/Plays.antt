@@ -1,7 +1,6 @@
 -- Turns, one after another, and their moves.
-use Rattle.std.proofs.Common.{◌≡◌, List, [], ◌∷◌, ◌++◌, sym, refl, ap, ◌∙◌, subst}
+use Rattle.std.proofs.Common.{List, [], ◌∷◌, ◌++◌, sym, refl, ap, ◌∙◌, subst}
 use Rattle.std.proofs.lemmas.List.{append_assoc, append-nil}
-use Rattle.trio_state.specs.State.{State}
 use Rattle.trio_state.specs.Run.{Move}
 use Rattle.trio_runner.specs.Rounds.{Placed}
 use Rattle.trio_runner.specs.Play.{Players, Plays, TakesTurn}

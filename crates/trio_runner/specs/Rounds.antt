@@ -1,5 +1,5 @@
 -- The order in which the libraries of a script take their turns.
-use Rattle.std.specs.Prelude.{ℕ, zero, suc, ◌+◌, nat_lt, List, [], ◌∷◌, ◌++◌, length, map, Option, None, Some, if◌then◌else◌, slice_get}
+use Rattle.std.specs.Prelude.{ℕ, zero, suc, ◌+◌, max, List, [], ◌∷◌, ◌++◌, length, map, Option, None, Some, slice_get}
 use Rattle.std.specs.List.{flat_map}
 use Rattle.trio_rights.specs.declared.rights.LibNo.{LibNo}
 use Rattle.trio_script.specs.declared.ScriptLine.{ScriptLine}
@@ -45,7 +45,7 @@ in_rounds (suc k) courses = in_rounds k courses ++ round_of k courses
 -- the length of the longest list
 abbrev pub longest : {X : Type 0} → List (List X) → ℕ
 longest [] = 0
-longest (xs ∷ xss) = (let rest = longest xss in if nat_lt rest (length xs) then length xs else rest)
+longest (xs ∷ xss) = max (length xs) (longest xss)
 
 -- all turns of a script, in the order in which they are taken: as many rounds as the longest course has turns
 abbrev pub turns_of : List ScriptLib → List Placed

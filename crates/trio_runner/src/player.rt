@@ -1,7 +1,7 @@
 //! A library's line and its end, played at its desk.
 
 ghost use Rattle.std.specs.Prelude.{◌≡◌, IfOk, Some};
-ghost use Rattle.trio_desk.specs.Out.{IsClosed};
+ghost use Rattle.trio_desk.specs.Out.{IsClosed, LibOut};
 ghost use Rattle.trio_raw.specs.Has.{OnList, whole_parcel};
 ghost use Rattle.trio_runner.specs.Line.{end_of, has_alone, told_alone, told_fault, told_grant, told_unmoded, told_want};
 ghost use Rattle.trio_runner.specs.inner.Calling.{EndCalled, LineCalled};
@@ -9,7 +9,8 @@ ghost use Rattle.trio_runner.specs.inner.Calling.{EndCalled, LineCalled};
 use std::alloc::Global;
 use trio_desk::Desk;
 use trio_nodes::{
-    AllotAnswer, AllotFault, Bytes, GrantFault, GrantKind, ModeFault, ReleaseAnswer, Spot};
+    AllotAnswer, AllotFault, Bytes, GrantFault, GrantKind, ModeFault, ReleaseAnswer, Spot,
+};
 use trio_page::NoMemory;
 use trio_raw::{Absent, Raw, RawFault};
 use trio_report::{EndAnswer, LineAnswer};
@@ -26,6 +27,7 @@ pub(crate) fn play_line<D: Desk>(
     requires stands { OnList (D.seen desk.old).out raw.old.has }
     requires lib { (D.seen desk.old).lib ≡ raw.old.lib }
     ensures line { IfOk result (λ told. LineCalled D.called desk.old raw.old.lib raw.old.has line.now told desk.new raw.new.has) }
+    ensures stands { OnList (D.seen desk.new).out raw.new.has }
     ensures lib { raw.new.lib ≡ raw.old.lib }
 {
     match line {
@@ -58,6 +60,7 @@ fn play_grant<D: Desk>(
 ) -> Result<LineAnswer, NoMemory>
     requires { OnList (D.seen desk.old).out raw.old.has }
     ensures line { IfOk result (λ told. LineCalled D.called desk.old raw.old.lib raw.old.has (RawLine.Grant ino kind) told desk.new raw.new.has) }
+    ensures stands { OnList (D.seen desk.new).out raw.new.has }
     ensures lib { raw.new.lib ≡ raw.old.lib }
 {
     match raw.grant(desk, ino, kind) {
@@ -93,6 +96,7 @@ fn fault_answer(fault: GrantFault) -> Result<LineAnswer, NoMemory>
 fn play_back<D: Desk>(desk: &mut D, raw: &mut Raw, ino: u32) -> LineAnswer
     requires { OnList (D.seen desk.old).out raw.old.has }
     ensures line { LineCalled D.called desk.old raw.old.lib raw.old.has (RawLine.Back ino) result desk.new raw.new.has }
+    ensures stands { OnList (D.seen desk.new).out raw.new.has }
     ensures lib { raw.new.lib ≡ raw.old.lib }
 {
     match raw.back(desk, ino) {
@@ -111,6 +115,7 @@ fn play_allot<D: Desk>(
     requires stands { OnList (D.seen desk.old).out raw.old.has }
     requires lib { (D.seen desk.old).lib ≡ raw.old.lib }
     ensures line { IfOk result (λ told. LineCalled D.called desk.old raw.old.lib raw.old.has (RawLine.Allot pages inodes) told desk.new raw.new.has) }
+    ensures stands { OnList (D.seen desk.new).out raw.new.has }
     ensures lib { raw.new.lib ≡ raw.old.lib }
 {
     match raw.allot(desk, pages, inodes)? {
@@ -139,6 +144,7 @@ fn play_mode<D: Desk>(
 ) -> Result<LineAnswer, NoMemory>
     requires { OnList (D.seen desk.old).out raw.old.has }
     ensures line { IfOk result (λ told. LineCalled D.called desk.old raw.old.lib raw.old.has (RawLine.Mode ino mode) told desk.new raw.new.has) }
+    ensures stands { OnList (D.seen desk.new).out raw.new.has }
     ensures lib { raw.new.lib ≡ raw.old.lib }
 {
     match raw.set_mode(desk, ino, mode) {
@@ -164,6 +170,7 @@ fn mode_answer(fault: ModeFault) -> Result<LineAnswer, NoMemory>
 fn play_poke(raw: &mut Raw, at: Spot, offset: u32, bytes: &[u8]) -> LineAnswer
     ensures answer { result ≡ told_alone raw.old.has (RawLine.Poke at offset bytes.now) }
     ensures has { raw.new.has ≡ has_alone raw.old.has (RawLine.Poke at offset bytes.now) }
+    ensures stands { (out : LibOut) → OnList out raw.old.has → OnList out raw.new.has }
     ensures lib { raw.new.lib ≡ raw.old.lib }
 {
     if raw.poke(at, offset, bytes) {
@@ -199,6 +206,7 @@ fn play_release<D: Desk>(
 ) -> Result<LineAnswer, NoMemory>
     requires { OnList (D.seen desk.old).out raw.old.has }
     ensures line { IfOk result (λ told. LineCalled D.called desk.old raw.old.lib raw.old.has (RawLine.Release inos.now pages.now inodes.now) told desk.new raw.new.has) }
+    ensures stands { OnList (D.seen desk.new).out raw.new.has }
     ensures lib { raw.new.lib ≡ raw.old.lib }
 {
     match raw.release(desk, inos, pages, inodes) {

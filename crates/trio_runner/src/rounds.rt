@@ -1,13 +1,17 @@
 //! The libraries of a script, in rounds on one controller.
 
-ghost use Rattle.std.specs.Prelude.{◌≡◌, ◌+◌, ◌-◌, ◌<◌, ◌≤◌, ◌++◌, ◌∷◌, [], IfOk, OnOk, length, map, replicate, slice_get, take};
+ghost use Rattle.std.specs.Prelude.{◌≡◌, ◌≤◌, ◌++◌, ◌∷◌, [], IfOk, OnOk, Some, length, slice_get};
+ghost use Rattle.trio_lists.specs.Lists.{tabulated};
+ghost use Rattle.trio_desk.specs.Out.{IsClosed};
 ghost use Rattle.trio_state.specs.Kept.{Kept};
 ghost use Rattle.trio_state.specs.Run.{start};
 ghost use Rattle.trio_ctl.specs.Ctl.{IsLibrary};
-ghost use Rattle.trio_runner.specs.Play.{at_start};
-ghost use Rattle.trio_runner.specs.Rounds.{courses_from, in_rounds, longest, round_of};
+ghost use Rattle.trio_ctl.specs.Desk.{out_of};
+ghost use Rattle.trio_raw.specs.Has.{OnList, whole_parcel};
+ghost use Rattle.trio_runner.specs.Play.{creds_in, untold};
+ghost use Rattle.trio_runner.specs.Rounds.{Ends, Says, course, courses_from, longest, round_of, turns_of};
 ghost use Rattle.trio_runner.specs.Seen.{ScriptPlayed};
-ghost use Rattle.trio_runner.specs.inner.Ready.{AreNumbered, IsReady, Took, players};
+ghost use Rattle.trio_runner.specs.inner.Ready.{AreSeated, IsReady, Took, TookNext, TookTurn, idle, players};
 
 use crate::player::{play_end, play_line};
 use std::alloc::Global;
@@ -51,27 +55,45 @@ impl LibTold {
         self.end
     }
 
+    /// A library that was told nothing yet.
+    fn untold(alloc: Global) -> LibTold
+        ensures { result ≡ untold }
+    {
+        LibTold {
+            answers: Vec::new(alloc),
+            end: None,
+        }
+    }
+
+    /// One more line is answered.
     fn hears(&mut self, answer: LineAnswer) -> Result<(), NoMemory>
         ensures { OnOk result (self.new ≡ record self.old { answers = self.old.answers ++ answer ∷ [] }) }
     {
         self.answers.push(answer)?;
         Ok(())
     }
+
+    /// The end is answered.
+    fn hears_end(&mut self, answer: EndAnswer)
+        ensures { self.new ≡ record self.old { end = Some answer } }
+    {
+        self.end = Some(answer);
+    }
 }
 
 /// Plays a script on a controller that has just started, with the script's credentials: in each round
 /// each library in turn plays its next line, or its end where none is left, until all have ended.
-/// Answers what each library was told, in the order of the libraries.
+/// Returns what each library was told, in the order of the libraries.
 ///
 /// On want of memory what the libraries had stays out for good.
 pub fn play(alloc: Global, ctl: &mut Ctl, libs: &[ScriptLib]) -> Result<Vec<LibTold>, NoMemory>
     requires kept { Kept ctl.old.state }
-    requires started { ctl.old.state ≡ start ctl.old.state.home (map (λ l. l.creds) libs.now) }
+    requires started { ctl.old.state ≡ start ctl.old.state.home (creds_in libs.now) }
     requires few { length libs.now ≤ 16 }
     ensures { IfOk result (λ tolds. ScriptPlayed ctl.old.state.home libs.now tolds.items ctl.new.state) }
 {
-    let mut tolds = untold(alloc, libs.len())?;
-    let mut raws = idle(alloc, libs.len())?;
+    let mut tolds = none_told(alloc, libs.len())?;
+    let mut raws = idle_libraries(alloc, libs.len())?;
     let played = play_rounds(alloc, ctl, libs, &mut raws, &mut tolds);
     discard_all(raws);
     played?;
@@ -79,23 +101,26 @@ pub fn play(alloc: Global, ctl: &mut Ctl, libs: &[ScriptLib]) -> Result<Vec<LibT
 }
 
 /// So many libraries that were told nothing yet.
-fn untold(alloc: Global, count: usize) -> Result<Vec<LibTold>, NoMemory> {
+fn none_told(alloc: Global, count: usize) -> Result<Vec<LibTold>, NoMemory>
+    ensures { IfOk result (λ tolds. tolds.items ≡ tabulated (λ k. untold) count) }
+{
     let mut tolds = Vec::with_capacity(alloc, count)?;
     for _n in 0..count {
-        tolds.push(LibTold {
-            answers: Vec::new(alloc),
-            end: None,
-        })?;
+        tolds.push(LibTold::untold(alloc))?;
     }
     Ok(tolds)
 }
 
 /// So many libraries that have nothing yet, numbered from 1.
-fn idle(alloc: Global, count: usize) -> Result<Vec<Raw>, NoMemory>
+fn idle_libraries(alloc: Global, count: usize) -> Result<Vec<Raw>, NoMemory>
     requires { count ≤ 16 }
+    ensures { IfOk result (λ raws. raws.items ≡ tabulated idle count) }
 {
     let mut raws = Vec::new(alloc);
-    raws.reserve(count)?;
+    if raws.reserve(count).is_err() {
+        raws.destroy_empty();
+        return Err(NoMemory);
+    }
     for n in 0..count {
         raws.push_reserved(Raw::new(alloc, LibNo(n as u32 + 1)));
     }
@@ -117,7 +142,11 @@ fn play_rounds(
     libs: &[ScriptLib],
     raws: &mut Vec<Raw>,
     tolds: &mut Vec<LibTold>,
-) -> Result<(), NoMemory> {
+) -> Result<(), NoMemory>
+    requires ready { IsReady (players ctl.old.state raws.old.items tolds.old.items) }
+    requires seated { AreSeated libs.now raws.old.items tolds.old.items }
+    ensures { OnOk result (Took (players ctl.old.state raws.old.items tolds.old.items) (turns_of libs.now) (players ctl.new.state raws.new.items tolds.new.items)) }
+{
     for round in 0..round_count(libs) {
         play_round(alloc, ctl, libs, round, raws, tolds)?;
     }
@@ -143,7 +172,12 @@ fn play_round(
     round: usize,
     raws: &mut Vec<Raw>,
     tolds: &mut Vec<LibTold>,
-) -> Result<(), NoMemory> {
+) -> Result<(), NoMemory>
+    requires ready { IsReady (players ctl.old.state raws.old.items tolds.old.items) }
+    requires seated { AreSeated libs.now raws.old.items tolds.old.items }
+    ensures took { OnOk result (Took (players ctl.old.state raws.old.items tolds.old.items) (round_of round (courses_from 1 libs.now)) (players ctl.new.state raws.new.items tolds.new.items)) }
+    ensures seated { OnOk result (AreSeated libs.now raws.new.items tolds.new.items) }
+{
     for at in 0..libs.len() {
         let lines = libs[at].lines.as_slice();
         play_turn(alloc, ctl, lines, round, &mut raws[at], &mut tolds[at])?;
@@ -160,7 +194,13 @@ fn play_turn(
     round: usize,
     raw: &mut Raw,
     told: &mut LibTold,
-) -> Result<(), NoMemory> {
+) -> Result<(), NoMemory>
+    requires library { IsLibrary raw.old.lib ctl.old.state }
+    requires stands { OnList (out_of ctl.old.state raw.old.lib) raw.old.has }
+    requires closed { IsClosed (out_of ctl.old.state raw.old.lib) (whole_parcel raw.old.has) }
+    ensures turn { OnOk result (TookNext raw.old.lib (slice_get (course raw.old.lib.0 lines.now) round) ctl.old.state raw.old.has told.old ctl.new.state raw.new.has told.new) }
+    ensures lib { raw.new.lib ≡ raw.old.lib }
+{
     match lines.get(round) {
         Some(line) => take_line(alloc, ctl, raw, line, told),
         None => {
@@ -180,22 +220,29 @@ fn take_line(
     raw: &mut Raw,
     line: &ScriptLine,
     told: &mut LibTold,
-) -> Result<(), NoMemory> {
+) -> Result<(), NoMemory>
+    requires library { IsLibrary raw.old.lib ctl.old.state }
+    requires stands { OnList (out_of ctl.old.state raw.old.lib) raw.old.has }
+    ensures turn { OnOk result (TookTurn raw.old.lib (Says line.now) ctl.old.state raw.old.has told.old ctl.new.state raw.new.has told.new) }
+    ensures lib { raw.new.lib ≡ raw.old.lib }
+{
     let mut desk = PlainDesk::of(ctl, raw.lib());
     let answer = play_line(alloc, &mut desk, raw, &line.line)?;
     told.hears(answer)
 }
 
 /// Ends a library, and keeps the answer.
-fn take_end(
-    alloc: Global,
-    ctl: &mut Ctl,
-    raw: &mut Raw,
-    told: &mut LibTold,
-) -> Result<(), NoMemory> {
+fn take_end(alloc: Global, ctl: &mut Ctl, raw: &mut Raw, told: &mut LibTold) -> Result<(), NoMemory>
+    requires library { IsLibrary raw.old.lib ctl.old.state }
+    requires stands { OnList (out_of ctl.old.state raw.old.lib) raw.old.has }
+    requires closed { IsClosed (out_of ctl.old.state raw.old.lib) (whole_parcel raw.old.has) }
+    ensures turn { OnOk result (TookTurn raw.old.lib Ends ctl.old.state raw.old.has told.old ctl.new.state raw.new.has told.new) }
+    ensures lib { raw.new.lib ≡ raw.old.lib }
+{
     let lib = raw.lib();
     let mut desk = PlainDesk::of(ctl, lib);
     let ending = mem::replace(raw, Raw::new(alloc, lib));
-    told.end = Some(play_end(&mut desk, ending)?);
+    let answer = play_end(&mut desk, ending)?;
+    told.hears_end(answer);
     Ok(())
 }

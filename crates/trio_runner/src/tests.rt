@@ -1,5 +1,8 @@
 //! Scripts on an image of 32 pages and 64 inode numbers: the root, with index page 3 and block 4,
-//! lists the regular file `f`, inode number 2, with index page 5 and block 6. Library 1 owns `f`.
+//! lists the regular file `f`, inode number 2, with index page 5 and block 6, owned by uid 5.
+
+ghost use Rattle.std.specs.Prelude.{◌≡◌, IfSome};
+ghost use Rattle.trio_runner.specs.Play.{creds_in};
 
 use super::*;
 use std::alloc::Global;
@@ -8,12 +11,11 @@ use trio_ctl::Ctl;
 use trio_image::{Image, load};
 use trio_io::SureFiles;
 use trio_nodes::List;
-use trio_page::NoMemory;
 use trio_report::{EndAnswer, LineAnswer};
 use trio_rights::Creds;
 use trio_samples::files::root;
 use trio_samples::{Sample, put, regular};
-use trio_script::read_script;
+use trio_script::{ScriptLib, read_script};
 
 /// Where the block of `f` begins in the image.
 const BLOCK: usize = 24_576;
@@ -27,11 +29,10 @@ fn image_bytes(alloc: Global) -> Option<Vec<u8>> {
         .ok()
 }
 
-/// What a script came to, and the image at its end.
+/// What the libraries of a script were told, and the image at its end.
 #[derive(Drop)]
 struct Told {
-    answers: Vec<LineAnswer>,
-    end: Result<EndAnswer, NoMemory>,
+    libs: Vec<LibTold>,
     image: Option<Vec<u8>>,
 }
 
@@ -45,23 +46,33 @@ fn image_of(alloc: Global, bytes: &[u8]) -> Option<Image> {
     load(alloc, &mut files, "a.img").ok()
 }
 
-// plays a script on an image, for a library of uid and gid 5
+// the credentials of a script's libraries, in their order
+fn script_creds(alloc: Global, libs: &[ScriptLib]) -> Option<Vec<Creds>>
+    ensures { IfSome result (λ creds. creds.items ≡ creds_in libs.now) }
+{
+    let mut creds = Vec::new(alloc);
+    for lib in libs {
+        creds.push(lib.creds).ok()?;
+    }
+    Some(creds)
+}
+
+// plays a script on an image
 fn play_script(alloc: Global, bytes: &[u8], script: &[u8]) -> Option<Told> {
-    let lines = read_script(alloc, script).ok()?;
+    let Ok(libs) = read_script(alloc, script) else {
+        return None;
+    };
     let image = image_of(alloc, bytes)?;
-    let creds = vec![in alloc; Creds { uid: 5, gid: 5 }].ok()?;
-    let mut ctl = Ctl::start(alloc, image, creds).ok()?;
-    let mut answers = Vec::new(alloc);
-    let end = play(alloc, &mut ctl, &lines, &mut answers);
+    let creds = script_creds(alloc, &libs)?;
+    let Ok(mut ctl) = Ctl::start(alloc, image, creds) else {
+        return None;
+    };
+    let tolds = play(alloc, &mut ctl, &libs).ok()?;
     let image = match ctl.image() {
         Ok(image) => image.into_bytes(alloc).ok(),
         Err(_) => None,
     };
-    Some(Told {
-        answers,
-        end,
-        image,
-    })
+    Some(Told { libs: tolds, image })
 }
 
 /// Lines of a library that may not write into the root, and what each is answered.
@@ -70,10 +81,11 @@ fn lines_are_answered(rt: HostRuntime) -> Result<(), Fail> {
     let alloc = rt.alloc();
     let mut bytes = image_bytes(alloc).ok_or("memory")?;
     let script =
-        b"lib 1 raw 0 0\ngrant write 2\ngrant write 2\ngrant write 9\ngrant write 1\npoke block 2 0 1 75\npoke block 2 1 0 75\npoke body 9 0 00\nrelease 9 - -\nrelease 2 - -\npoke block 2 0 0 75\ngrant hold 2\ngrant read 2\nback 2\nback 2\n";
+        b"lib 1 raw 5 5\ngrant write 2\ngrant write 2\nmode 2 644\ngrant write 9\ngrant write 1\npoke block 2 0 1 75\npoke block 2 1 0 75\npoke body 9 0 00\nrelease 9 - -\nrelease 2 - -\npoke block 2 0 0 75\ngrant hold 2\ngrant read 2\nback 2\nback 2\nmode 1 700\nmode 2 1000\nmode 2 644\n";
     let told = play_script(alloc, &bytes, script).ok_or("a script")?;
     let wanted = [
         LineAnswer::Granted,
+        LineAnswer::Busy,
         LineAnswer::Busy,
         LineAnswer::NotLive,
         LineAnswer::Denied(1),
@@ -87,10 +99,36 @@ fn lines_are_answered(rt: HostRuntime) -> Result<(), Fail> {
         LineAnswer::Granted,
         LineAnswer::GivenBack,
         LineAnswer::Absent,
+        LineAnswer::NotOwner,
+        LineAnswer::BadMode,
+        LineAnswer::ModeSet,
     ];
-    assert!(rt; told.answers.as_slice() == wanted.as_slice());
-    assert!(rt; told.end == Ok(EndAnswer::Nothing));
+    assert!(rt; told.libs.len() == 1);
+    assert!(rt; told.libs[0].answers() == wanted.as_slice());
+    assert!(rt; told.libs[0].end() == Some(EndAnswer::Nothing));
     // `hullo` stands in the block now, and nothing else has changed
+    put(&mut bytes, BLOCK + 1, b"u");
+    assert!(rt; told.image == Some(bytes));
+    Ok(())
+}
+
+/// Two libraries that want the same file: the second finds it busy in the first round, and has it in
+/// the next one, in which the first gave it up just before. The first ends in the third round, the
+/// second in the fourth, with the file still in its hands.
+#[test]
+fn libraries_take_turns(rt: HostRuntime) -> Result<(), Fail> {
+    let alloc = rt.alloc();
+    let mut bytes = image_bytes(alloc).ok_or("memory")?;
+    let script =
+        b"lib 1 raw 5 5\ngrant write 2\nrelease 2 - -\nlib 2 raw 0 0\ngrant write 2\ngrant write 2\npoke block 2 0 1 75\n";
+    let told = play_script(alloc, &bytes, script).ok_or("a script")?;
+    let first = [LineAnswer::Granted, LineAnswer::Accepted];
+    let second = [LineAnswer::Busy, LineAnswer::Granted, LineAnswer::Poked];
+    assert!(rt; told.libs.len() == 2);
+    assert!(rt; told.libs[0].answers() == first.as_slice());
+    assert!(rt; told.libs[0].end() == Some(EndAnswer::Nothing));
+    assert!(rt; told.libs[1].answers() == second.as_slice());
+    assert!(rt; told.libs[1].end() == Some(EndAnswer::Accepted));
     put(&mut bytes, BLOCK + 1, b"u");
     assert!(rt; told.image == Some(bytes));
     Ok(())

@@ -1,5 +1,5 @@
 -- A line and an end over any desk. Cited by private functions alone.
-use Rattle.std.specs.Prelude.{◌≡◌, List}
+use Rattle.std.specs.Prelude.{List}
 use Rattle.trio_rights.specs.declared.rights.LibNo.{LibNo}
 use Rattle.trio_desk.specs.Call.{Ask, Told}
 use Rattle.trio_desk.specs.Calls.{Call, Calls}

@@ -1,7 +1,7 @@
 -- What holds between the turns of a script. Cited by private functions alone.
-use Rattle.std.specs.Prelude.{◌≡◌, ℕ, ◌+◌, List, [], length, map, None, Some, MatchOption, Option, slice_get}
+use Rattle.std.specs.Prelude.{◌≡◌, ℕ, ◌+◌, List, length, map, MatchOption, Option}
 use Rattle.trio_rights.specs.declared.rights.LibNo.{LibNo}
-use Rattle.trio_lists.specs.Lists.{In}
+use Rattle.trio_lists.specs.Lists.{In, tabulated}
 use Rattle.trio_lease.specs.Shown.{Shown}
 use Rattle.trio_lease.specs.declared.parts.HoldParts.{HoldParts}
 use Rattle.trio_desk.specs.Out.{LibOut, file_numbers, hold_numbers, page_numbers, ino_numbers}
@@ -12,6 +12,7 @@ use Rattle.trio_state.specs.Run.{Move}
 use Rattle.trio_ctl.specs.Ctl.{AreAsTold, IsLibrary}
 use Rattle.trio_ctl.specs.Desk.{out_of}
 use Rattle.trio_raw.specs.Has.{Has, Held, OnList, nothing, read_numbers}
+use Rattle.trio_script.specs.declared.ScriptLib.{ScriptLib}
 use Rattle.trio_runner.specs.Rounds.{Placed, Turn}
 use Rattle.trio_runner.specs.Play.{AreMoves, Heard, Players, Plays, TurnComes, has_of}
 
@@ -41,9 +42,14 @@ pub record IsReady (p : Players) : Type 0 where
 abbrev pub players : State → List Held → List Heard → Players
 players s raws tolds = record { state = s; has = map (λ h. h.has) raws; told = tolds }
 
--- library n is the n-th
-abbrev pub AreNumbered : List Held → Type 0
-AreNumbered raws = (k : ℕ) (h : Held) → slice_get raws k ≡ Some h → h.lib.0 ≡ k + 1
+-- the library at place k of a script, from 0 on, with nothing yet
+abbrev pub idle : ℕ → Held
+idle k = record { lib = record { 0 = k + 1 }; has = nothing }
+
+-- there is a place for each library of a script, and library n is the n-th
+pub record AreSeated (libs : List ScriptLib) (raws : List Held) (tolds : List Heard) : Type 0 where
+  pub numbered : map (λ h. h.lib) raws ≡ map (λ h. h.lib) (tabulated idle (length libs))
+  pub told_count : length tolds ≡ length libs
 
 -- these turns were taken
 pub record Took (p : Players) (turns : List Placed) (p' : Players) : Type 0 where
@@ -60,6 +66,6 @@ pub record TookTurn (lib : LibNo) (turn : Turn) (s : State) (has : Has) (told : 
   pub on_list : OnList (out_of s' lib) has'
 
 -- it did so, where a turn is left; else nothing changed
-abbrev pub TookNext : LibNo → Option Turn → State → Has → Heard → State → Has → Heard → Type 0
-TookNext lib turn s has told s' has' told' =
-    MatchOption turn ((s' ≡ s) × (has' ≡ has) × (told' ≡ told)) (λ t. TookTurn lib t s has told s' has' told')
+abbrev pub TookNext : LibNo → Option Placed → State → Has → Heard → State → Has → Heard → Type 0
+TookNext lib next s has told s' has' told' =
+    MatchOption next ((s' ≡ s) × (has' ≡ has) × (told' ≡ told)) (λ t. TookTurn lib t.turn s has told s' has' told')
