@@ -15,8 +15,7 @@ use trio_ctl::{Ctl, ImageFault};
 use trio_image::Image;
 use trio_page::{NoMemory, Reads};
 use trio_report::{
-    LibraryKind, LineAnswer, put_answer, put_counts, put_end, put_heading, put_tree,
-    tree_lines,
+    LibraryKind, LineAnswer, put_answer, put_counts, put_end, put_heading, put_tree, tree_lines,
 };
 use trio_rights::LibNo;
 use trio_runner::{LibTold, play};

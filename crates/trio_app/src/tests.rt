@@ -1186,8 +1186,20 @@ fn crowd<R: Threads + Wait + Sync + AllocGlobal>(rt: &R, image: &[u8], count: u3
     let mut report = Vec::new(alloc);
     for n in 1..=count {
         let line = 2 * n;
-        script.extend_from_slice(format!(in alloc; "lib {n} raw {n} 0\ngrant read 2\n").ok()?.as_bytes()).ok()?;
-        report.extend_from_slice(format!(in alloc; "lib {n} raw\n{line} granted\nend nothing\n").ok()?.as_bytes()).ok()?;
+        script
+            .extend_from_slice(
+                format!(in alloc; "lib {n} raw {n} 0\ngrant read 2\n")
+                    .ok()?
+                    .as_bytes(),
+            )
+            .ok()?;
+        report
+            .extend_from_slice(
+                format!(in alloc; "lib {n} raw\n{line} granted\nend nothing\n")
+                    .ok()?
+                    .as_bytes(),
+            )
+            .ok()?;
     }
     if count > 16 {
         let left = run_over(rt, &WORDS, image, &script, (0, 0)).ok()?;
@@ -1200,18 +1212,32 @@ fn crowd<R: Threads + Wait + Sync + AllocGlobal>(rt: &R, image: &[u8], count: u3
 #[test]
 fn several_libraries(rt: HostRuntime) -> Result<(), Fail> {
     let deep = deep_image(rt.alloc())?;
-    assert!(rt; all_play(&rt, &deep, CROSSED_MOVES) == Some(true), "crossed moves");
+    assert!(rt;
+        all_play(&rt, &deep, CROSSED_MOVES) == Some(true),
+        "crossed moves"
+    );
     let shared = shared_image(rt.alloc())?;
-    assert!(rt; all_play(&rt, &shared, ANOTHERS_FILE) == Some(true), "another's file");
+    assert!(rt;
+        all_play(&rt, &shared, ANOTHERS_FILE) == Some(true),
+        "another's file"
+    );
     let whole = tree_image(rt.alloc())?;
     for session in SHARED_SESSIONS {
-        assert!(rt; all_play(&rt, &whole, *session) == Some(true), "{}", session.0);
+        assert!(rt;
+            all_play(&rt, &whole, *session) == Some(true),
+            "{}",
+            session.0
+        );
     }
     assert!(rt; crowd(&rt, &whole, 16) == Some(true), "sixteen");
     assert!(rt; crowd(&rt, &whole, 17) == Some(true), "seventeen");
     let block = block_image(rt.alloc())?;
     for session in BLOCK_MOVES {
-        assert!(rt; all_play(&rt, &block, *session) == Some(true), "{}", session.0);
+        assert!(rt;
+            all_play(&rt, &block, *session) == Some(true),
+            "{}",
+            session.0
+        );
     }
     Ok(())
 }
@@ -1220,7 +1246,11 @@ fn several_libraries(rt: HostRuntime) -> Result<(), Fail> {
 fn modes_are_changed(rt: HostRuntime) -> Result<(), Fail> {
     let one = Sample::small(rt.alloc(), &[root(), directory(2, 1, b"a")])?.bytes(rt.alloc())?;
     for session in MODE_SESSIONS {
-        assert!(rt; all_play(&rt, &one, *session) == Some(true), "{}", session.0);
+        assert!(rt;
+            all_play(&rt, &one, *session) == Some(true),
+            "{}",
+            session.0
+        );
     }
     Ok(())
 }

@@ -22,7 +22,7 @@ use Rattle.trio_desk.specs.Out.{AreTogether, IsClosed, IsLowestParted, Parcel, f
 use Rattle.trio_desk.specs.Call.{NotJudged, TellsClosed, release_told}
 use Rattle.trio_state.specs.Bundles.{is_parent_written, is_parted, lower, lowest, parted_hold}
 use Rattle.trio_state.specs.State.{OpenGrant, State}
-use Rattle.trio_state.specs.Step.{CtlAnswer, Step, ReleaseEnd, Parted, IsAccepted, IsRefused}
+use Rattle.trio_state.specs.Step.{CtlAnswer, Step, Parted, IsAccepted, IsRefused}
 use Rattle.trio_state.specs.Step as step
 use Rattle.trio_laws.proofs.Bundles.{unparted_at}
 use Rattle.trio_ctl.specs.Answers.{release_answer, release_fault_answer, verdict_of}

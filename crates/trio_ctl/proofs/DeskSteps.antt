@@ -34,7 +34,7 @@ use Rattle.trio_state.specs.Bundles.{Ends}
 use Rattle.trio_state.specs.Grants.{grant_fault, has_parent_grant, opened, opens}
 use Rattle.trio_state.specs.Kept.{Kept}
 use Rattle.trio_state.specs.State.{OpenGrant, State, logged}
-use Rattle.trio_state.specs.Step.{Event, CtlAnswer, Comes, Does, Step, Outcome, ReleaseEnd, Parted, IsAccepted, IsRefused, allot_outcome, granted_to, mode_fault, moded_to}
+use Rattle.trio_state.specs.Step.{Event, CtlAnswer, Comes, Step, Outcome, Parted, IsAccepted, IsRefused, granted_to, mode_fault, moded_to}
 use Rattle.trio_state.specs.Step as step
 use Rattle.trio_state.specs.Tells.{Why}
 use Rattle.trio_laws.specs.Laws.{library_of}
@@ -45,7 +45,7 @@ use Rattle.trio_laws.proofs.OthersOut.{others_keep_out}
 use Rattle.trio_laws.proofs.Runs.{step_kept}
 use Rattle.trio_ctl.specs.Answers.{allot_answer, allot_fault_answer, children_told, grant_answer, grant_fault_answer, mode_answer, mode_fault_answer, release_answer, release_fault_answer, verdict_of}
 use Rattle.trio_ctl.specs.Ctl.{IsLibrary}
-use Rattle.trio_ctl.specs.Desk.{LeaseIs, answer_of, bundle_of, desk_of, event_of, grants_of, out_of}
+use Rattle.trio_ctl.specs.Desk.{answer_of, bundle_of, desk_of, event_of, grants_of, out_of}
 use Rattle.trio_ctl.specs.DeskLaws.{CallsKeep, HoldsStand, LibrariesStay, OthersKeep}
 use Rattle.trio_ctl.specs.Open.{hold_of, lent_by, shown_of}
 use Rattle.trio_ctl.proofs.DeskFresh.{fresh_lease, numbers_may, pages_may}

@@ -8,7 +8,7 @@ ghost use Rattle.trio_tables.specs.Row.{as_row};
 ghost use Rattle.trio_state.specs.Grants.{holder_of};
 ghost use Rattle.trio_state.specs.Kept.{Kept};
 ghost use Rattle.trio_state.specs.State.{logged};
-ghost use Rattle.trio_state.specs.Step.{SetMode, Step, mode_excluding};
+ghost use Rattle.trio_state.specs.Step.{SetMode, Step};
 ghost use Rattle.trio_ctl.specs.Answers.{mode_answer};
 ghost use Rattle.trio_ctl.specs.Ctl.{IsLibrary};
 ghost use Rattle.trio_ctl.specs.inner.Modes.{is_around, mode_denial, with_mode_at, with_mode_in, with_row_mode};

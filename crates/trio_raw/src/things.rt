@@ -1,6 +1,6 @@
 //! Lent things, kept.
 
-ghost use Rattle.std.specs.Prelude.{◌≡◌, ◌∷◌, ◌++◌, ◌+◌, ◌==◌, [], IfOk, IfSome, IsFalse, IsNone, IsTrue, None, OnErr, OnOk, Some, if◌then◌else◌, map};
+ghost use Rattle.std.specs.Prelude.{◌≡◌, ◌∷◌, ◌++◌, ◌+◌, [], IfOk, IfSome, IsFalse, IsNone, IsTrue, None, OnErr, OnOk, Some, if◌then◌else◌};
 ghost use Rattle.std.specs.Option.{option_copied};
 ghost use Rattle.trio_nodes.specs.declared.entry.AllotAnswer.TheVariants.{Given};
 ghost use Rattle.trio_desk.specs.Out.{ino_numbers, page_numbers, parcel_of};

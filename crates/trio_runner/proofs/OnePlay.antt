@@ -26,7 +26,7 @@ use Rattle.trio_state.specs.Kept.{Kept}
 use Rattle.trio_state.specs.Grants.{opened}
 use Rattle.trio_state.specs.Run.{Move}
 use Rattle.trio_state.specs.Tells.{Why}
-use Rattle.trio_state.specs.Step.{Event, CtlAnswer, Step}
+use Rattle.trio_state.specs.Step.{CtlAnswer, Step}
 use Rattle.trio_state.specs.Step as step
 use Rattle.trio_laws.specs.Known.{Known, known, plain_state, refused_rule, SameAnswer}
 use Rattle.trio_laws.proofs.KnownSteps.{known_decides, same_event_same_answer}

@@ -6,8 +6,6 @@
 //! `specs/Play.antt`. [`laws`] says that it is a run of the controller, at whose end nothing is out.
 #![tactic(auto)]
 
-ghost use Rattle.std.specs.Prelude.{◌≡◌};
-
 pub mod laws;
 mod player;
 mod rounds;

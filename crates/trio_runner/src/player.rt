@@ -3,7 +3,7 @@
 ghost use Rattle.std.specs.Prelude.{◌≡◌, IfOk, Some};
 ghost use Rattle.trio_desk.specs.Out.{IsClosed, LibOut};
 ghost use Rattle.trio_raw.specs.Has.{OnList, whole_parcel};
-ghost use Rattle.trio_runner.specs.Line.{end_of, has_alone, told_alone, told_fault, told_grant, told_unmoded, told_want};
+ghost use Rattle.trio_runner.specs.Line.{has_alone, told_alone, told_fault, told_grant, told_unmoded, told_want};
 ghost use Rattle.trio_runner.specs.inner.Calling.{EndCalled, LineCalled};
 
 use std::alloc::Global;

@@ -1,6 +1,6 @@
 //! The libraries of a script: the lines that begin them, and those that began.
 
-ghost use Rattle.std.specs.Prelude.{◌≡◌, ◌≤◌, [], IfOk, OnOk, Some, map};
+ghost use Rattle.std.specs.Prelude.{◌≡◌, [], IfOk, OnOk, Some, map};
 ghost use Rattle.trio_script.specs.Said.{library_in, library_said, named};
 ghost use Rattle.trio_script.specs.Script.{is_next};
 ghost use Rattle.trio_script.specs.inner.Taken.{Adds, count_of, libs_with};

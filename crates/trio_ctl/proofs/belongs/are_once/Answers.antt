@@ -1,4 +1,4 @@
-use Rattle.std.proofs.Common.{◌≡◌, ◌==◌, ◌+◌, ◌&&◌, Bool, [], ap, arith, drop, false, map, not, sym, take, true, ◌∙◌}
+use Rattle.std.proofs.Common.{◌≡◌, ◌==◌, ◌+◌, ◌&&◌, Bool, ap, arith, drop, false, map, not, sym, take, true, ◌∙◌}
 use Rattle.std.specs.List.{list_any}
 use Rattle.trio_lists.specs.Lists.{are_new}
 use Rattle.trio_ctl.proofs.Belonging.{once_at}
