@@ -1,5 +1,5 @@
 -- What the words `turns IMAGE SCRIPT OUT` do.
-use Rattle.std.specs.Prelude.{◌≡◌, ◌≢◌, ◌⊎◌, ℕ, ◌≤◌, Option, Some, None, List, length}
+use Rattle.std.specs.Prelude.{◌≡◌, ◌≢◌, ◌⊎◌, ℕ, ◌≤◌, Option, Some, None, List, [], length}
 use Rattle.trio_io.specs.Shelf.{Shelf, Rose, RisesAt, IsTold, IsLonger, told}
 use Rattle.trio_layout.specs.declared.superblock.Superblock.{Superblock}
 use Rattle.trio_state.specs.State.{settled}
