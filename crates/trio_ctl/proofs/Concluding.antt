@@ -249,17 +249,17 @@ module _ (s : Store) (first : ℕ) (table : List Keyed) (files : List Opened) (c
     stand_accepted meets done = (
       kinds_accepted meets done,
       subst (HoldsAreTold s'.rows) (sym grants_are)
-      (told_kept s'.rows s'.checkpoints.items (grants_staying lib.0 b (grants_in files))
-      (accepted_told st after k.stored.kept lib.0 b (told_open s.rows s.checkpoints.items (grants_in files) k.told) given (accepted_from meets) done.ends)),
+          (told_kept s'.rows s'.checkpoints.items (grants_staying lib.0 b (grants_in files))
+          (accepted_told st after k.stored.kept lib.0 b (told_open s.rows s.checkpoints.items (grants_in files) k.told) given (accepted_from meets) done.ends)),
     )
 
     pub stand_refused : s'.rows ≡ s.rows → StandFiles
     stand_refused same = (
       subst (λ rows. HaveKinds rows files') (sym same) (λ o i. k.kinds o (of_old o i)),
       subst (λ rows. HoldsAreTold rows (grants_in files')) (sym same)
-      (λ g i hold.
-      let o = map-In (λ (o : Opened). o.grant) g files' i in
-      k.told g (subst (λ (x : OpenGrant). In x (grants_in files)) (sym o.2) (In-map (λ (o : Opened). o.grant) o.0 files (of_old o.0 o.1))) hold),
+          (λ g i hold.
+          let o = map-In (λ (o : Opened). o.grant) g files' i in
+          k.told g (subst (λ (x : OpenGrant). In x (grants_in files)) (sym o.2) (In-map (λ (o : Opened). o.grant) o.0 files (of_old o.0 o.1))) hold),
     )
 
     pub ended_controlled : table' ≡ map keyed files' → StandFiles → s'.allotments ≡ outs_after s.allotments (sheet_numbers b.pages) b.numbers

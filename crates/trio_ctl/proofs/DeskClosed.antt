@@ -1,9 +1,9 @@
 -- Which parcels are closed, by what the library has out.
 use Rattle.std.proofs.Common.{◌≡◌, ℕ, ◌≤◌, Bool, true, false, not, ◌==◌, ◌&&◌, List, [], ◌∷◌, map, Option, Some, None, Result, Ok, Err, sym, refl, ap, ◌∙◌, subst, inl, inr, arith}
-use Rattle.std.specs.Prelude.{◌↔◌, if◌then◌else◌, nat_le}
+use Rattle.std.specs.Prelude.{if◌then◌else◌, nat_le}
 use Rattle.std.specs.List.{filter}
 use Rattle.std.specs.Option.{IsSomeAnd}
-use Rattle.std.proofs.lemmas.Bool.{and_parts, cases_Bool, eq-eqb, eqb-true, false≢true, leb-false, leb-true}
+use Rattle.std.proofs.lemmas.Bool.{and_parts, cases_Bool, eq-eqb, false≢true, leb-false, leb-true}
 use Rattle.trio_rights.specs.Bundle.{Bundle, is_written}
 use Rattle.trio_rights.specs.Row.{Row}
 use Rattle.trio_rights.specs.declared.rights.LibNo.{LibNo}
@@ -19,7 +19,7 @@ use Rattle.trio_lists.proofs.Members.{In-is_among, In-map, is_among-In, map-In}
 use Rattle.trio_lease.specs.declared.parts.HoldParts.{HoldParts}
 use Rattle.trio_layout.specs.Image.{row_at}
 use Rattle.trio_desk.specs.Out.{AreTogether, IsClosed, IsLowestParted, Parcel, file_numbers, hold_numbers}
-use Rattle.trio_desk.specs.Call.{Judged, NotJudged, TellsClosed, release_told}
+use Rattle.trio_desk.specs.Call.{NotJudged, TellsClosed, release_told}
 use Rattle.trio_state.specs.Bundles.{is_parent_written, is_parted, lower, lowest, parted_hold}
 use Rattle.trio_state.specs.State.{OpenGrant, State}
 use Rattle.trio_state.specs.Step.{CtlAnswer, Step, ReleaseEnd, Parted, IsAccepted, IsRefused}

@@ -1,11 +1,10 @@
 -- What the controller gives is new to the library that gets it.
-use Rattle.std.proofs.Common.{◌≡◌, ℕ, zero, suc, ◌+◌, ◌-◌, ◌<◌, ◌≤◌, Bool, true, false, cond, not, ◌==◌, ◌&&◌, List, [], ◌∷◌, ◌++◌, map, length, take, Option, Some, None, Result, Ok, Err, is_some, sym, refl, ap, ◌∙◌, subst, inl, inr, arith, append-nil}
+use Rattle.std.proofs.Common.{◌≡◌, ℕ, zero, suc, ◌+◌, ◌-◌, ◌<◌, ◌≤◌, Bool, true, false, cond, not, ◌==◌, ◌&&◌, List, [], ◌∷◌, ◌++◌, map, length, take, Option, Some, None, Result, Ok, Err, is_some, sym, refl, ap, ◌∙◌, inl, inr, arith, append-nil}
 use Rattle.std.specs.Prelude.{slice_get, slice_index}
 use Rattle.std.specs.List.{filter}
 use Rattle.std.specs.Option.{option_map}
 use Rattle.std.proofs.lemmas.Bool.{and_parts, and_from, both_ways, cases_Bool, eq-eqb, false≢true, not-true, not_from_false}
 use Rattle.trio_rights.specs.Row.{Row}
-use Rattle.trio_rights.specs.Sheets.{Sheet}
 use Rattle.trio_rights.specs.declared.rights.LibNo.{LibNo}
 use Rattle.trio_nodes.specs.GrantKinds.{excludes_kind, is_hold, is_read, is_write}
 use Rattle.trio_nodes.specs.declared.answers.GrantFault.{GrantFault}
@@ -15,7 +14,7 @@ use Rattle.trio_nodes.specs.declared.grant.GrantKind.TheVariants.{Read, Write, H
 use Rattle.trio_lists.specs.Lists.{In, are_new, is_among}
 use Rattle.trio_lists.proofs.Counting.{count_from}
 use Rattle.trio_lists.proofs.Filters.{In-filter, filter-In}
-use Rattle.trio_lists.proofs.Members.{In-cases, In-left, In-right, map-In}
+use Rattle.trio_lists.proofs.Members.{In-cases, In-left, map-In}
 use Rattle.trio_lists.proofs.New.{are_new-beside, are_new-fewer, are_new-take, is_among-not}
 use Rattle.trio_lists.proofs.Tabulated.{tabulated-length}
 use Rattle.trio_tables.specs.Free.{count_up}

@@ -1,6 +1,5 @@
 -- What a desk is handed in was given by the controller.
-use Rattle.std.proofs.Common.{◌≡◌, ℕ, Bool, true, ◌==◌, ◌&&◌, List, [], ◌++◌, map, length, sym, refl, ap, ◌∙◌, subst, inl, inr}
-use Rattle.std.specs.Prelude.{IsTrue}
+use Rattle.std.proofs.Common.{◌≡◌, Bool, true, ◌==◌, ◌&&◌, List, [], ◌++◌, map, length, sym, ap, ◌∙◌, subst, inl, inr}
 use Rattle.std.specs.List.{flat_map}
 use Rattle.std.proofs.lemmas.Bool.{and_parts, eqb-true}
 use Rattle.std.proofs.lemmas.Simd.{map-map}
@@ -10,7 +9,7 @@ use Rattle.trio_rights.specs.Sheets.{Sheet, sheet_numbers}
 use Rattle.trio_rights.specs.declared.rights.LibNo.{LibNo}
 use Rattle.trio_nodes.specs.GrantKinds.{is_hold, is_read, is_write}
 use Rattle.trio_nodes.specs.declared.grant.GrantKind.{GrantKind}
-use Rattle.trio_nodes.specs.declared.grant.GrantKind.TheVariants.{Read, Write, Hold}
+use Rattle.trio_nodes.specs.declared.grant.GrantKind.TheVariants.{Read}
 use Rattle.trio_lists.specs.Lists.{In, are_new}
 use Rattle.trio_lists.proofs.Filters.{filter-In}
 use Rattle.trio_lists.proofs.Members.{In-cases, flat_map-In, map-In}

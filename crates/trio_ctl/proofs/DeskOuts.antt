@@ -16,9 +16,8 @@ use Rattle.trio_lists.specs.Lists.{In, is_among}
 use Rattle.trio_lists.proofs.Counting.{count_in}
 use Rattle.trio_lists.proofs.Filters.{In-filter, filter-In, filter-filter}
 use Rattle.trio_lists.proofs.Members.{In-cases, In-left, In-right, In-is_among, is_among-In}
-use Rattle.trio_lists.proofs.New.{is_among-not}
 use Rattle.trio_tables.specs.Free.{count_up}
-use Rattle.trio_tables.specs.Out.{lib_at, with_all}
+use Rattle.trio_tables.specs.Out.{lib_at}
 use Rattle.trio_tables.proofs.OutLemmas.{length-with_all, lib_at-others, lib_at-set, within_some}
 use Rattle.trio_layout.specs.Image.{Image}
 use Rattle.trio_lease.specs.Shown.{Shown}

@@ -1,7 +1,7 @@
 -- What is seen of a desk after each call of the controller, and what a call leaves of other libraries.
-use Rattle.std.proofs.Common.{◌≡◌, ◌≢◌, ℕ, ◌-◌, ◌≤◌, Bool, true, false, ◌==◌, ◌&&◌, IfOk, List, [], length, map, take, Option, Some, None, Result, Ok, Err, sym, refl, ap, ◌∙◌, subst, inl, inr}
+use Rattle.std.proofs.Common.{◌≡◌, ℕ, ◌-◌, ◌≤◌, Bool, true, false, ◌==◌, ◌&&◌, IfOk, List, length, map, take, Option, Some, None, Result, Ok, Err, sym, refl, ap, ◌∙◌, subst, inl, inr}
 use Rattle.std.specs.Prelude.{if◌then◌else◌, nat_lt, slice_index_or}
-use Rattle.std.specs.List.{filter, list_any}
+use Rattle.std.specs.List.{filter}
 use Rattle.std.specs.Option.{IsSomeAnd}
 use Rattle.std.proofs.lemmas.Bool.{and_from, and_parts, eq-eqb, eqb-true, false≢true}
 use Rattle.trio_rights.specs.Row.{Row}
@@ -14,7 +14,6 @@ use Rattle.trio_nodes.specs.declared.answers.AllotFault.TheVariants.{NoPages as 
 use Rattle.trio_nodes.specs.declared.answers.GrantFault.{GrantFault}
 use Rattle.trio_nodes.specs.declared.answers.GrantFault.TheVariants.{NotLive, Denied, NoParent, Busy, NoMemory as NoGrantMemory}
 use Rattle.trio_nodes.specs.declared.answers.ModeFault.{ModeFault}
-use Rattle.trio_nodes.specs.declared.answers.ModeFault.TheVariants.{NotLive as NotLiveMode, NotOwner, BadMode, Busy as BusyMode, NoMemory as NoModeMemory}
 use Rattle.trio_nodes.specs.declared.answers.ReleaseAnswer.{ReleaseAnswer}
 use Rattle.trio_nodes.specs.declared.answers.ReleaseAnswer.TheVariants.{Accepted as AcceptedBundle, Refused as RefusedBundle}
 use Rattle.trio_nodes.specs.declared.answers.ReleaseFault.{ReleaseFault}
@@ -28,12 +27,11 @@ use Rattle.trio_lease.specs.declared.lease.Lease.{Lease}
 use Rattle.trio_lease.specs.declared.parts.HoldParts.{HoldParts}
 use Rattle.trio_layout.specs.Image.{Image, row_at}
 use Rattle.trio_allot.specs.Out.{fresh_number, fresh_page}
-use Rattle.trio_desk.specs.Out.{IsFreshAllotment, IsFreshLease, LibOut, OutAlike, Parcel, ino_numbers, page_numbers, with_lease, without_parcel}
+use Rattle.trio_desk.specs.Out.{IsFreshAllotment, IsFreshLease, LibOut, OutAlike, Parcel, ino_numbers, page_numbers, with_lease}
 use Rattle.trio_desk.specs.Call.{Ask, Told, Grant, Allot, GiveBack, Release, SetMode, Lent, NotLent, Given, NotGiven, Done, Judged, NotJudged, ModeSet, NotModeSet, SeenAfter, allot_told, lease_told, mode_told, release_told}
 use Rattle.trio_state.specs.Allotments.{allots, free_numbers, free_pages}
 use Rattle.trio_state.specs.Bundles.{Ends}
-use Rattle.trio_state.specs.Given.{GivenEvent}
-use Rattle.trio_state.specs.Grants.{given_back, grant_fault, has_parent_grant, opened, opens}
+use Rattle.trio_state.specs.Grants.{grant_fault, has_parent_grant, opened, opens}
 use Rattle.trio_state.specs.Kept.{Kept}
 use Rattle.trio_state.specs.State.{OpenGrant, State, logged}
 use Rattle.trio_state.specs.Step.{Event, CtlAnswer, Comes, Does, Step, Outcome, ReleaseEnd, Parted, IsAccepted, IsRefused, allot_outcome, granted_to, mode_fault, moded_to}
@@ -46,8 +44,8 @@ use Rattle.trio_laws.proofs.Cases.{after_allot, after_no_grant, after_no_mode}
 use Rattle.trio_laws.proofs.OthersOut.{others_keep_out}
 use Rattle.trio_laws.proofs.Runs.{step_kept}
 use Rattle.trio_ctl.specs.Answers.{allot_answer, allot_fault_answer, children_told, grant_answer, grant_fault_answer, mode_answer, mode_fault_answer, release_answer, release_fault_answer, verdict_of}
-use Rattle.trio_ctl.specs.Ctl.{AreAsTold, IsLibrary}
-use Rattle.trio_ctl.specs.Desk.{Happens, LeaseIs, answer_of, bundle_of, desk_of, event_of, grants_of, out_of}
+use Rattle.trio_ctl.specs.Ctl.{IsLibrary}
+use Rattle.trio_ctl.specs.Desk.{LeaseIs, answer_of, bundle_of, desk_of, event_of, grants_of, out_of}
 use Rattle.trio_ctl.specs.DeskLaws.{CallsKeep, HoldsStand, LibrariesStay, OthersKeep}
 use Rattle.trio_ctl.specs.Open.{hold_of, lent_by, shown_of}
 use Rattle.trio_ctl.proofs.DeskFresh.{fresh_lease, numbers_may, pages_may}
@@ -58,21 +56,9 @@ use Rattle.trio_ctl.proofs.Told.{step_told}
 
 -- ---- answers, as the controller and the desk tell them
 
-pub lease_same : (r : Result Lease GrantFault) → grant_answer r ≡ answer_of (lease_told r)
-lease_same (Ok lease) = refl
-lease_same (Err fault) = refl
-
-pub allot_same : (r : Result Allotted AllotFault) → allot_answer r ≡ answer_of (allot_told r)
-allot_same (Ok given) = refl
-allot_same (Err fault) = refl
-
 pub release_same : {B : Type 0} (r : Result ReleaseAnswer B) (f : B → ReleaseFault) → release_answer r f ≡ answer_of (release_told r f)
 release_same (Ok answer) f = refl
 release_same (Err back) f = refl
-
-pub mode_same : (r : Result (Unit {0}) ModeFault) → mode_answer r ≡ answer_of (mode_told r)
-mode_same (Ok done) = refl
-mode_same (Err fault) = refl
 
 not_granted : (fault : GrantFault) (n : ℕ) → grant_fault_answer fault ≡ step.Granted n → ⊥
 not_granted NotLive n e = cc e
@@ -150,10 +136,6 @@ module _ (s : State) (lib : LibNo) where
         by (Some fault) row f at c is = let wrong : step.Granted (children_told lease) ≡ step.NotGranted fault = c.0 in absurd (cc wrong)
         by None None f at c is = absurd is
         by None (Some r) f at c is = subst (IsFreshLease lib ino (out_of s lib)) (sym is) (fresh_lease s lib ino kind r k at f)
-
-    pub lease_is : (r : Result Lease GrantFault) → IfOk r (λ lease. IsSomeAnd (row_at s.home ino) (λ r. lease ≡ lent_by (opened s lib.0 ino kind r))) → LeaseIs s lib (Grant ino kind) (lease_told r)
-    lease_is (Ok lease) is = is
-    lease_is (Err fault) is = tt
 
   -- allotments
   module _ (wanted many : ℕ) (s' : State) where

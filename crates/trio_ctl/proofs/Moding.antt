@@ -1,26 +1,22 @@
 -- A change of mode of the controller is the step that the definitions say.
-use Rattle.std.proofs.Common.{◌≡◌, ◌≢◌, ℕ, zero, suc, ◌+◌, ◌-◌, ◌*◌, ◌<◌, ◌≤◌, Bool, true, false, cond, not, ◌&&◌, ◌||◌, eqb, ltb, List, [], ◌∷◌, length, map, get_or, set, set-set, Option, Some, None, is_some, slice_get, inl, inr, ◌⊎◌, refl, sym, ap, subst, ◌∙◌, arith}
-use Rattle.std.specs.Prelude.{◌==◌, if◌then◌else◌, nat_lt, slice_index_or, slice_set, IsSome, IsTrue}
+use Rattle.std.proofs.Common.{◌≡◌, ◌≢◌, ℕ, ◌+◌, ◌-◌, ◌*◌, ◌<◌, ◌≤◌, Bool, true, false, not, ◌||◌, List, [], ◌∷◌, length, map, get_or, Option, Some, None, is_some, slice_get, inl, inr, ◌⊎◌, refl, sym, ap, subst, ◌∙◌, arith}
+use Rattle.std.specs.Prelude.{◌==◌, if◌then◌else◌, nat_lt, slice_index_or, slice_set, IsTrue}
 use Rattle.std.specs.List.{find, filter}
 use Rattle.std.specs.Option.{option_map, option_map_or, option_and_then, IsSomeAnd}
-use Rattle.std.proofs.lemmas.Bool.{eq-eqb, eqb-true, eqb-false, ne_eqb, false≢true, or_parts}
-use Rattle.std.proofs.lemmas.List.{get_or-set_same, get_or-set_other, length-set}
-use Rattle.trio_page.specs.Home.{Pages}
-use Rattle.trio_rights.specs.Row.{Row, row_in}
+use Rattle.std.proofs.lemmas.Bool.{eq-eqb, ne_eqb, false≢true}
+use Rattle.std.proofs.lemmas.List.{get_or-set_other, length-set}
+use Rattle.trio_rights.specs.Row.{Row}
 use Rattle.trio_rights.specs.declared.rights.Creds.{Creds}
 use Rattle.trio_rights.specs.declared.rights.LibNo.{LibNo}
 use Rattle.trio_nodes.specs.declared.answers.ModeFault.{ModeFault}
 use Rattle.trio_nodes.specs.declared.answers.ModeFault.TheVariants.{BadMode, Busy, NoMemory as NoModeMemory, NotLive, NotOwner}
-use Rattle.trio_nodes.specs.declared.grant.GrantKind.TheVariants.{Write}
 use Rattle.trio_nodes.specs.declared.grant.Holder.{Holder}
-use Rattle.trio_grants.specs.declared.grant.Grant.{Grant as TableGrant}
 use Rattle.trio_grants.specs.Grants.{Keyed, first_with, holder, is_on}
 use Rattle.trio_lists.specs.Lists.{In}
-use Rattle.trio_lists.proofs.Members.{In-map, map-In}
+use Rattle.trio_lists.proofs.Members.{In-map}
 use Rattle.trio_layout.specs.Accept.{with_body_at, with_body_in}
-use Rattle.trio_layout.specs.Core.{Core, page_of}
 use Rattle.trio_layout.specs.Entries.{body_in_slot}
-use Rattle.trio_layout.specs.Image.{Image, body_by_row, row_at, settled_body}
+use Rattle.trio_layout.specs.Image.{body_by_row, row_at, settled_body}
 use Rattle.trio_layout.specs.Mode.{body_put, body_with_mode, image_with_mode, row_with_mode}
 use Rattle.trio_layout.specs.Range.{is_core}
 use Rattle.trio_layout.specs.Superblock.{page_count, superblock_fits}
@@ -38,7 +34,7 @@ use Rattle.trio_laws.proofs.Modes.{MayChange, may_change}
 use Rattle.trio_laws.proofs.Runs.{step_kept}
 use Rattle.trio_laws.proofs.StateFacts.{live_met}
 use Rattle.trio_commit.specs.declared.store.Store.{Store}
-use Rattle.trio_commit.specs.Store.{checkpoint_at, image_at_home, state_of, with_checkpoint}
+use Rattle.trio_commit.specs.Store.{checkpoint_at, state_of, with_checkpoint}
 use Rattle.trio_ctl.specs.Answers.{mode_fault_answer}
 use Rattle.trio_ctl.specs.Ctl.{HaveKinds, IsControlled}
 use Rattle.trio_ctl.specs.Entries.{Entries}

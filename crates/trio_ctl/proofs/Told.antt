@@ -1,7 +1,6 @@
 -- Each open hold told the directory that the row of its file still names: so it is after every step.
-use Rattle.std.proofs.Common.{◌≡◌, ℕ, ◌<◌, Bool, true, false, not, ◌==◌, ◌&&◌, List, [], ◌∷◌, ◌++◌, length, map, get_or, Option, Some, None, is_some, sym, refl, ap, ◌∙◌, subst, inl, inr, ◌⊎◌}
+use Rattle.std.proofs.Common.{◌≡◌, ℕ, ◌<◌, true, false, not, ◌==◌, ◌&&◌, List, [], ◌∷◌, ◌++◌, length, map, get_or, Option, Some, None, is_some, sym, refl, ap, ◌∙◌, subst, inl, inr, ◌⊎◌}
 use Rattle.std.specs.Prelude.{slice_set}
-use Rattle.std.specs.List.{filter}
 use Rattle.std.specs.Option.{IsSomeAnd}
 use Rattle.std.proofs.lemmas.Bool.{cases_eq, cases_lt, false≢true, not-true}
 use Rattle.std.proofs.lemmas.List.{get_or_past, get_or-set_same, get_or-set_other}
@@ -20,12 +19,12 @@ use Rattle.trio_layout.specs.Image.{Image, row_at}
 use Rattle.trio_layout.specs.Mode.{image_with_mode, row_with_mode}
 use Rattle.trio_layout.specs.Proposed.{proposed, proposed_pick}
 use Rattle.trio_surveys.proofs.Images.{row_at_is}
-use Rattle.trio_state.specs.State.{OpenGrant, State, creds_of, logged, settled}
+use Rattle.trio_state.specs.State.{OpenGrant, State, creds_of, settled}
 use Rattle.trio_state.specs.Grants.{grant_fault, opened, told_parent}
 use Rattle.trio_state.specs.Bundles.{Ends, grants_after, is_in_bundle, lent_part, refused_image}
 use Rattle.trio_state.specs.Given.{GivenEvent, GivenTo}
 use Rattle.trio_state.specs.Kept.{Kept}
-use Rattle.trio_state.specs.Step.{Event, Grant, Allot, Back, Release, Settle, SetMode, CtlAnswer, Step, ReleaseEnd, Parted, IsAccepted, IsRefused, granted_to, mode_fault, moded_to}
+use Rattle.trio_state.specs.Step.{Event, Grant, Allot, Back, Release, Settle, SetMode, CtlAnswer, Step, Parted, IsAccepted, IsRefused, granted_to, mode_fault, moded_to}
 use Rattle.trio_laws.specs.OutLaws.{without_checkpoint}
 use Rattle.trio_laws.proofs.Bundles.{outside_unheld}
 use Rattle.trio_laws.proofs.Cases.{after_allot, after_no_grant, after_no_mode}

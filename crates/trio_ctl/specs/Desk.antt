@@ -1,5 +1,5 @@
 -- The controller as one library sees it: what a state has out to the library, and a call of its desk as a step.
-use Rattle.std.specs.Prelude.{◌≡◌, ⊤, ℕ, ◌==◌, Bool, ◌&&◌, List, map}
+use Rattle.std.specs.Prelude.{◌≡◌, ⊤, ◌==◌, Bool, ◌&&◌, List, map}
 use Rattle.std.specs.List.{filter}
 use Rattle.std.specs.Option.{IsSomeAnd}
 use Rattle.trio_rights.specs.declared.rights.LibNo.{LibNo}

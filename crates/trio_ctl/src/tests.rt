@@ -1,6 +1,8 @@
 ghost use Rattle.std.specs.Prelude.{◌≡◌, ◌∷◌, [], IfSome, length};
 ghost use Rattle.trio_lease.specs.Views.{bundle_in, written_in};
 
+mod desks;
+
 use super::*;
 use std::alloc::Global;
 use trio_image::{Counts, Image, load};

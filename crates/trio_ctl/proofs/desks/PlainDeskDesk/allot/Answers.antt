@@ -1,7 +1,4 @@
-use Rattle.std.proofs.Common.{refl, subst}
-use Rattle.trio_state.specs.Step.{Step}
-use Rattle.trio_state.specs.Step as step
-use Rattle.trio_ctl.proofs.DeskSteps.{allot_fresh, allot_same, allot_seen, library_stays}
+use Rattle.trio_ctl.proofs.DeskSteps.{allot_fresh, allot_seen}
 use Rattle.trio_ctl.proofs.desks.PlainDeskDesk.allot.Goals as goal
 
 pub returns-clause-seen : goal.returns-clause-seen

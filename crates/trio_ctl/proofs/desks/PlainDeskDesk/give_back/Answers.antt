@@ -1,10 +1,10 @@
-use Rattle.std.proofs.Common.{ap, refl, subst, sym}
+use Rattle.std.proofs.Common.{refl, subst, sym}
 use Rattle.trio_nodes.specs.declared.grant.GrantKind.TheVariants.{Read}
 use Rattle.trio_state.specs.Given.{HasGrant}
 use Rattle.trio_state.specs.Step.{Step}
 use Rattle.trio_state.specs.Step as step
 use Rattle.trio_ctl.proofs.DeskGiven.{read_by}
-use Rattle.trio_ctl.proofs.DeskSteps.{back_seen, library_stays}
+use Rattle.trio_ctl.proofs.DeskSteps.{back_seen}
 use Rattle.trio_ctl.proofs.desks.PlainDeskDesk.give_back.Goals as goal
 
 pub give_back-requires : goal.give_back-requires

@@ -1,7 +1,4 @@
-use Rattle.std.proofs.Common.{refl, subst}
-use Rattle.trio_state.specs.Step.{Step}
-use Rattle.trio_state.specs.Step as step
-use Rattle.trio_ctl.proofs.DeskSteps.{grant_fresh, grant_seen, lease_is, lease_same, library_stays}
+use Rattle.trio_ctl.proofs.DeskSteps.{grant_fresh, grant_seen}
 use Rattle.trio_ctl.proofs.desks.PlainDeskDesk.grant.Goals as goal
 
 pub returns-clause-seen : goal.returns-clause-seen

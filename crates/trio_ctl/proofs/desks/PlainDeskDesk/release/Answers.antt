@@ -5,7 +5,7 @@ use Rattle.trio_state.specs.Step as step
 use Rattle.trio_ctl.specs.Desk.{bundle_of}
 use Rattle.trio_ctl.proofs.DeskClosed.{closed_told}
 use Rattle.trio_ctl.proofs.DeskGiven.{given_to, were_held}
-use Rattle.trio_ctl.proofs.DeskSteps.{library_stays, release_same, release_seen}
+use Rattle.trio_ctl.proofs.DeskSteps.{release_same, release_seen}
 use Rattle.trio_ctl.proofs.desks.PlainDeskDesk.release.Goals as goal
 
 pub release-requires-clause-given : goal.release-requires-clause-given

@@ -1,7 +1,4 @@
-use Rattle.std.proofs.Common.{refl, subst}
-use Rattle.trio_state.specs.Step.{Step}
-use Rattle.trio_state.specs.Step as step
-use Rattle.trio_ctl.proofs.DeskSteps.{library_stays, mode_result_seen, mode_same}
+use Rattle.trio_ctl.proofs.DeskSteps.{mode_result_seen}
 use Rattle.trio_ctl.proofs.desks.PlainDeskDesk.set_mode.Goals as goal
 
 pub returns-clause-seen : goal.returns-clause-seen
