@@ -58,7 +58,6 @@ start_stands image libs kept =
       kept = kept;
       as_told = λ g i. absurd i;
       has_places = length-map libs _ ∙ sym (length-map libs _);
-      told_places = length-map libs _ ∙ sym (length-map libs _);
       all = λ lib is. start_has_all image creds lib (has_of (at_start image libs) lib);
       nobody_else = λ lib none. start_has_all image creds lib nothing;
     }

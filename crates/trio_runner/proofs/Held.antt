@@ -275,7 +275,6 @@ held_after p t moves p' h is takes =
       kept = stands.kept;
       as_told = stands.as_told;
       has_places = ap length takes.has_is ∙ length-set p.has (t.lib.0 - 1) takes.has' ∙ h.has_places ∙ ap length (sym creds);
-      told_places = ap length takes.told_is ∙ length-set p.told (t.lib.0 - 1) takes.told' ∙ h.told_places ∙ ap length (sym creds);
       all = λ other there. elim (cases_Bool (eqb other.0 t.lib.0)) [
         | inl e ↦ subst (λ l. HasAll (out_of p'.state l) (has_of p' l)) (sym (same_library other t.lib (eqb-true other.0 t.lib.0 e))) own
         | inr f ↦

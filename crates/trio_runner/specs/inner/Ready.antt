@@ -29,7 +29,6 @@ pub record IsHeld (p : Players) : Type 0 where
   pub kept : Kept p.state
   pub as_told : AreAsTold p.state
   pub has_places : length p.has ≡ length p.state.creds
-  pub told_places : length p.told ≡ length p.state.creds
   pub all : (lib : LibNo) → IsLibrary lib p.state → HasAll (out_of p.state lib) (has_of p lib)
   pub nobody_else : (lib : LibNo) → (IsLibrary lib p.state → ⊥) → HasAll (out_of p.state lib) nothing
 

@@ -1,12 +1,17 @@
-use Rattle.std.proofs.Common.{List, ◌+◌, ◌≤◌, sym, ap, ◌∙◌, subst}
+use Rattle.std.proofs.Common.{List, ◌+◌, ◌≤◌, sym, ap, ◌∙◌, subst, arith}
 use Rattle.std.specs.Prelude.{slice_get, slice_set, take}
 use Rattle.std.proofs.lemmas.List.{take_all}
 use Rattle.trio_script.specs.declared.ScriptLine.{ScriptLine}
 use Rattle.trio_script.specs.declared.ScriptLib.{ScriptLib}
 use Rattle.trio_runner.specs.Rounds.{course, courses_from, round_of, turn_list}
 use Rattle.trio_runner.specs.inner.Ready.{Took, players}
-use Rattle.trio_runner.proofs.Seats.{courses_length, round_more, seat_closed, seat_library, seat_next, seat_stands, seated_after, took_more}
+use Rattle.trio_runner.proofs.Seats.{courses_length, raws_count, round_more, seat_closed, seat_library, seat_next, seat_stands, seated_after, took_more}
 use Rattle.trio_runner.proofs.rounds.play_round.Goals as goal
+
+pub index_mut-requires : goal.index_mut-requires
+index_mut-requires c =
+    let count = raws_count c.args.libs.now c.loop-at.raws.items c.loop-at.tolds.items c.loop-at.invariant.1 in
+    omega (arith, count, c.loop-at-test.true, c.loop-at.raws.ok.0)
 
 pub play_turn-requires-clause-library : goal.play_turn-requires-clause-library
 play_turn-requires-clause-library c =
