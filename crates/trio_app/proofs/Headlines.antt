@@ -20,7 +20,7 @@ use Rattle.trio_laws.proofs.RowSteps.{every_step_keeps_rows}
 use Rattle.trio_script.specs.declared.ScriptLib.{ScriptLib}
 use Rattle.trio_runner.specs.Play.{Played, creds_in}
 use Rattle.trio_runner.proofs.EndFree.{ends_free}
-use Rattle.trio_runner.proofs.Runs.{played_is_trace}
+use Rattle.trio_runner.proofs.Plays.{played_is_trace}
 use Rattle.trio_app.specs.Headline.{Headline}
 use Rattle.trio_tables.proofs.OutLemmas.{lib_at-none_out}
 
