@@ -1,6 +1,7 @@
 -- How a run ends, and what the whole work comes to.
 use Rattle.std.proofs.Common.{◌≡◌, ℕ, zero, suc, ◌+◌, ◌<◌, ◌≤◌, ◌⊎◌, min, List, [], ◌∷◌, ◌++◌, length, take, get_or, Option, None, Bool, inl, inr, refl, sym, ap, subst, ◌∙◌, arith}
-use Rattle.std.proofs.lemmas.List.{append-nil, append_assoc}
+use Rattle.std.proofs.Math.Seq.{take-suc}
+use Rattle.std.proofs.lemmas.List.{append-nil, append_assoc, map-append}
 use Rattle.trio_io.specs.Shelf.{Shelf, OnlyReads, OnlyReplaces, Rose, told}
 use Rattle.trio_tables.specs.Out.{NoneOut}
 use Rattle.trio_layout.specs.Core.{Core}
@@ -294,16 +295,33 @@ libs_all n (l ∷ ls) (t ∷ ts) zero h = absurd (omega arith)
 libs_all n (l ∷ ls) (t ∷ ts) (suc i) h = ap (λ bytes. lib_text n l t ++ bytes) (libs_all (n + 1) ls ts i (omega arith))
 
 pub libs_put : (libs : List ScriptLib) (heards : List Heard) (i : ℕ) (lib : ScriptLib) (heard : Heard) (old before after : List ℕ) → i < length libs → i < length heards → lib ≡ get_or libs i lib → heard ≡ get_or heards i heard
-    → before ≡ old ++ libs_text 1 (take i libs) (take i heards) → after ≡ before ++ lib_text (i + 1) (get_or libs i lib) (get_or heards i heard)
+    → before ≡ old ++ libs_text 1 (take i libs) (take i heards) → after ≡ before ++ lib_text (i + 1) lib heard
     → after ≡ old ++ libs_text 1 (take (i + 1) libs) (take (i + 1) heards)
 libs_put libs heards i lib heard old before after a b is same first more =
     let L : List ℕ = lib_text (1 + i) lib heard in
     let up : i + 1 ≡ suc i = omega arith in
     let one : i + 1 ≡ 1 + i = omega arith in
-    more ∙ ap (λ (l : ScriptLib). before ++ lib_text (i + 1) l (get_or heards i heard)) (sym is)
-    ∙ ap (λ (h : Heard). before ++ lib_text (i + 1) lib h) (sym same)
-    ∙ ap (λ k. before ++ lib_text k lib heard) one
+    more ∙ ap (λ k. before ++ lib_text k lib heard) one
     ∙ ap (λ bytes. bytes ++ L) first
     ∙ append_assoc old (libs_text 1 (take i libs) (take i heards)) L
     ∙ ap (λ bytes. old ++ bytes) (sym (libs_more 1 libs heards i lib heard a b (sym is) (sym same)))
     ∙ ap (λ n. old ++ libs_text 1 (take n libs) (take n heards)) (sym up)
+
+-- ---- the start
+
+-- a controller that has just started has the image at home
+pub started_on : (s : State) (image : Image) (creds : List Creds) (libs : List ScriptLib) → s ≡ start image creds → creds ≡ creds_in libs → s ≡ start s.home (creds_in libs)
+started_on s image creds libs started same =
+    let whole : s ≡ start image (creds_in libs) = started ∙ ap (start image) same in
+    whole ∙ ap (λ i. start i (creds_in libs)) (sym (ap (λ (x : State). x.home) whole))
+
+-- the credentials of one library more
+pub creds_more : (libs : List ScriptLib) (i : ℕ) (lib : ScriptLib) (before after : List Creds) → i < length libs → get_or libs i lib ≡ lib
+    → before ≡ creds_in (take i libs) → after ≡ before ++ lib.creds ∷ [] → after ≡ creds_in (take (i + 1) libs)
+creds_more libs i lib before after lt is first more =
+    let up : suc i ≡ i + 1 = omega arith in
+    more ∙ ap (λ cs. cs ++ lib.creds ∷ []) first
+    ∙ sym (map-append (λ (l : ScriptLib). l.creds) (take i libs) (lib ∷ []))
+    ∙ ap (λ (l : ScriptLib). creds_in (take i libs ++ l ∷ [])) (sym is)
+    ∙ ap creds_in (sym (take-suc libs i lib lt))
+    ∙ ap (λ n. creds_in (take n libs)) up

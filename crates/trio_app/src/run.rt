@@ -6,6 +6,7 @@ ghost use Rattle.trio_survey.specs.Stored.{core_in, image_in};
 ghost use Rattle.trio_layout.specs.Tree.{tree_of};
 ghost use Rattle.trio_image.specs.Counts.{counts_of};
 ghost use Rattle.trio_ctl.specs.Ctl.{writer_of, TellsSettled};
+ghost use Rattle.trio_runner.specs.Play.{creds_in};
 ghost use Rattle.trio_app.specs.Report.{answers_text, lib_text, libs_text, told_counts};
 ghost use Rattle.trio_app.specs.inner.RunEnd.{IsRunEnd};
 
@@ -17,7 +18,7 @@ use trio_page::{NoMemory, Reads};
 use trio_report::{
     LibraryKind, LineAnswer, put_answer, put_counts, put_end, put_heading, put_tree, tree_lines,
 };
-use trio_rights::LibNo;
+use trio_rights::{Creds, LibNo};
 use trio_runner::{LibTold, play};
 use trio_script::{ScriptLib, ScriptLine};
 
@@ -36,8 +37,7 @@ pub fn run(alloc: Global, image: Image, libs: &[ScriptLib]) -> Result<RunEnd, No
     requires few { length libs.now ≤ 16 }
     ensures { IfOk result (λ end. IsRunEnd image.superblock image.pages libs.now end.report.items end.image.pages) }
 {
-    let creds = libs.iter().map(|lib| lib.creds).collect(alloc)?;
-    let mut ctl = match Ctl::start(alloc, image, creds) {
+    let mut ctl = match Ctl::start(alloc, image, creds_of(alloc, libs)?) {
         Ok(ctl) => ctl,
         Err((_image, fault)) => return Err(fault),
     };
@@ -45,6 +45,17 @@ pub fn run(alloc: Global, image: Image, libs: &[ScriptLib]) -> Result<RunEnd, No
     let last = last_image(ctl)?;
     let (report, image) = report(alloc, libs, &tolds, last)?;
     Ok(RunEnd { report, image })
+}
+
+/// The credentials of the libraries, in their order.
+fn creds_of(alloc: Global, libs: &[ScriptLib]) -> Result<Vec<Creds>, NoMemory>
+    ensures { IfOk result (λ creds. creds.items ≡ creds_in libs.now) }
+{
+    let mut creds = Vec::with_capacity(alloc, libs.len())?;
+    for lib in libs {
+        creds.push(lib.creds)?;
+    }
+    Ok(creds)
 }
 
 /// The image that is settled once nobody writes. The controller ends.
