@@ -4,16 +4,13 @@ use super::*;
 use crate::things::Things;
 use std::alloc::Global;
 use std::test::Fail;
-use trio_desk::Desk;
 use trio_lease::{
     Allotted, Bundle, FreshIno, FreshPage, FreshParts, HoldLease, HoldParts, InoParts, Lease,
     LentPage, ReadLease, ReadParts, WriteLease, WriteParts,
 };
-use trio_nodes::{
-    AllotAnswer, AllotFault, GrantFault, GrantKind, ModeFault, ReleaseAnswer, ReleaseFault, Spot,
-};
-use trio_page::{NoMemory, Page, PageNo, Reads};
-use trio_rights::{Creds, Kind, LibNo};
+use trio_nodes::{AllotAnswer, Spot};
+use trio_page::{NoMemory, Page, PageNo};
+use trio_rights::{Kind, LibNo};
 
 fn lent_page(alloc: Global, no: u32) -> Result<LentPage, NoMemory> {
     Ok(LentPage {
@@ -274,83 +271,4 @@ fn let_go(lease: Option<ReadLease>) -> Option<u32> {
     let ino = lease.ino();
     lease.discard();
     Some(ino)
-}
-
-/// A desk of library 2 that gives nothing, and counts how often it was asked.
-#[derive(Drop)]
-struct Closed {
-    asked: u32,
-}
-
-impl Desk for Closed {
-    ghost use Rattle.std.specs.Prelude.{⊤, []};
-
-    ghost seen = { λ d. record { lib = record { 0 = 2 }; creds = record { uid = 0; gid = 0 }; out = record { writes = []; reads = []; holds = []; pages = []; numbers = [] } } };
-
-    ghost called = { λ d ask told d'. ⊤ };
-
-    fn creds(&self) -> Creds {
-        Creds { uid: 0, gid: 0 }
-    }
-
-    fn grant(&mut self, _ino: u32, _kind: GrantKind) -> Result<Lease, GrantFault> {
-        self.asked = self.asked.saturating_add(1);
-        Err(GrantFault::NotLive)
-    }
-
-    fn allot(&mut self, pages: u32, _inodes: u32) -> Result<Allotted, AllotFault> {
-        self.asked = self.asked.saturating_add(1);
-        Err(AllotFault::NoPages {
-            wanted: pages,
-            free: 0,
-        })
-    }
-
-    fn give_back(&mut self, lease: ReadLease) {
-        lease.discard();
-    }
-
-    fn release(
-        &mut self,
-        bundle: Bundle,
-        _reads: &mut Reads,
-    ) -> Result<ReleaseAnswer, (Bundle, ReleaseFault)> {
-        self.asked = self.asked.saturating_add(1);
-        bundle.discard();
-        Ok(ReleaseAnswer::Accepted)
-    }
-
-    fn set_mode(&mut self, _ino: u32, _mode: u16) -> Result<(), ModeFault> {
-        self.asked = self.asked.saturating_add(1);
-        Err(ModeFault::NotOwner)
-    }
-}
-
-/// Whether the answer is that just so many pages were wanted and none is free.
-fn lacks(answer: Result<AllotAnswer, NoMemory>, pages: u32) -> bool {
-    matches!(&answer, Ok(AllotAnswer::Refused(AllotFault::NoPages { wanted, free: 0 })) if *wanted == pages)
-}
-
-#[test]
-fn a_desk_is_asked_once_or_not_at_all(rt: HostRuntime) -> Result<(), Fail> {
-    let mut desk = Closed { asked: 0 };
-    let mut raw = Raw::new(rt.alloc(), LibNo(2));
-    assert!(rt; raw.lib() == LibNo(2));
-    assert!(rt; raw.grant(&mut desk, 3, GrantKind::Write) == Err(GrantFault::NotLive));
-    assert!(rt; desk.asked == 1);
-    assert!(rt; lacks(raw.allot(&mut desk, 5, 1), 5) && desk.asked == 2);
-    assert!(rt; raw.set_mode(&mut desk, 3, 0o700) == Err(ModeFault::NotOwner) && desk.asked == 3);
-    assert!(rt; raw.back(&mut desk, 3) == Err(Absent) && desk.asked == 3);
-    assert!(rt; raw.release(&mut desk, &[3], &[], &[]) == Err(RawFault::Absent));
-    assert!(rt; desk.asked == 3);
-    assert!(rt; raw.release(&mut desk, &[], &[], &[]) == Ok(ReleaseAnswer::Accepted));
-    assert!(rt; desk.asked == 4);
-    match raw.end(&mut desk) {
-        Ok(answer) => assert!(rt; answer.is_none() && desk.asked == 4),
-        Err((raw, _)) => {
-            raw.discard();
-            return Err("the library has something".into());
-        }
-    }
-    Ok(())
 }
