@@ -2,13 +2,13 @@
 use Rattle.std.proofs.Common.{◌≡◌, ℕ, zero, suc, ◌+◌, ◌<◌, Bool, true, false, not, ◌&&◌, List, [], ◌∷◌, ◌++◌, length, map, take, drop, get_or, Option, Some, None, IsTrue, inl, inr, refl, sym, ap, subst, ◌∙◌, arith}
 use Rattle.std.proofs.Math.Seq.{drop-cons, take-suc}
 use Rattle.std.specs.Prelude.{◌==◌}
-use Rattle.std.specs.List.{find, list_all, list_any, flat_map}
+use Rattle.std.specs.List.{list_all, list_any, flat_map}
 use Rattle.std.specs.Option.{IsSomeAnd, option_map}
 use Rattle.std.specs.Str.{bytes_eq}
 use Rattle.std.proofs.lemmas.Bool.{and_from, and_parts, eq-eqb, eqb-true, false≢true}
 use Rattle.std.proofs.lemmas.List.{map-append}
 use Rattle.std.proofs.lemmas.Slice.Eq.{bytes_eq-Decides}
-use Rattle.trio_rights.specs.Bundle.{Bundle, Written}
+use Rattle.trio_rights.specs.Bundle.{Written}
 use Rattle.trio_rights.specs.Kind.{same_kind}
 use Rattle.trio_rights.specs.Row.{Row, row_in}
 use Rattle.trio_rights.specs.Sheets.{Sheet, sheet_numbers}
@@ -18,7 +18,6 @@ use Rattle.trio_rights.specs.declared.rights.LibNo.{LibNo}
 use Rattle.trio_nodes.specs.GrantKinds.{is_hold, is_write}
 use Rattle.trio_nodes.specs.declared.grant.GrantKind.{GrantKind}
 use Rattle.trio_nodes.specs.declared.grant.GrantKind.TheVariants.{Read, Write, Hold}
-use Rattle.trio_nodes.specs.declared.grant.Holder.{Holder}
 use Rattle.trio_grants.specs.declared.grant.Grant.{Grant as TableGrant}
 use Rattle.trio_grants.specs.Grants.{Keyed, first_with, holder, is_on}
 use Rattle.trio_lease.specs.Bundles.{Bundled}
@@ -37,14 +36,14 @@ use Rattle.trio_tables.specs.Out.{lib_at}
 use Rattle.trio_surveys.proofs.Alike.{same_kind_is}
 use Rattle.trio_laws.proofs.StateFacts.{write_alone, write_is}
 use Rattle.trio_laws.proofs.judgement.RuleParts.{same_kind_from}
-use Rattle.trio_state.specs.Given.{GivenTo, HasGrant, WasLent}
+use Rattle.trio_state.specs.Given.{GivenTo, WasLent}
 use Rattle.trio_state.specs.State.{OpenGrant, State}
 use Rattle.trio_commit.specs.declared.store.Store.{Store}
 use Rattle.trio_commit.specs.Store.{checkpoint_at, state_of, with_checkpoint}
 use Rattle.trio_ctl.specs.Belonging.{AreWhole, Belongs, IsHoldOf, IsLeaseOf, IsNumberOf, IsPageOf, lent_numbers}
 use Rattle.trio_ctl.specs.Ctl.{IsControlled}
 use Rattle.trio_ctl.specs.Entries.{Entries}
-use Rattle.trio_ctl.specs.HandedIn.{WasHeld, WereHeld}
+use Rattle.trio_ctl.specs.HandedIn.{WereHeld}
 use Rattle.trio_ctl.specs.Open.{Opened, grants_in, hold_of, keyed}
 use Rattle.trio_ctl.specs.inner.Belonging.{are_given_by, are_numbered, has_pages_of, is_held_by, is_hold_by, is_lease_by, is_number_by, is_numbered, is_out_to, is_page_by, stand_once, writes_since}
 

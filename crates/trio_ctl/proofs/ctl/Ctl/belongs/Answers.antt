@@ -1,4 +1,4 @@
-use Rattle.std.proofs.Common.{List, ap, sym, true, ◌∙◌}
+use Rattle.std.proofs.Common.{List, ap, sym, ◌∙◌}
 use Rattle.std.proofs.lemmas.Bool.{false≢true}
 use Rattle.trio_ctl.specs.Open.{Opened}
 use Rattle.trio_ctl.specs.inner.Belonging.{are_given_by}
