@@ -272,6 +272,14 @@ const INPUTS: &[Input] = &[
         8,
         b"not built line 3\n",
     ),
+    // a seventeenth library
+    (
+        IMAGE_SIZE,
+        &[],
+        b"lib 1 raw 1 0\ngrant read 2\nlib 2 raw 2 0\ngrant read 2\nlib 3 raw 3 0\ngrant read 2\nlib 4 raw 4 0\ngrant read 2\nlib 5 raw 5 0\ngrant read 2\nlib 6 raw 6 0\ngrant read 2\nlib 7 raw 7 0\ngrant read 2\nlib 8 raw 8 0\ngrant read 2\nlib 9 raw 9 0\ngrant read 2\nlib 10 raw 10 0\ngrant read 2\nlib 11 raw 11 0\ngrant read 2\nlib 12 raw 12 0\ngrant read 2\nlib 13 raw 13 0\ngrant read 2\nlib 14 raw 14 0\ngrant read 2\nlib 15 raw 15 0\ngrant read 2\nlib 16 raw 16 0\ngrant read 2\nlib 17 raw 17 0\ngrant read 2\n",
+        8,
+        b"not built line 33\n",
+    ),
     // a page is named twice
     (
         IMAGE_SIZE,
@@ -1116,6 +1124,13 @@ const SHARED_SESSIONS: &[Session] = &[
         TREE,
         SAME,
     ),
+    // sixteen libraries read at once
+    (
+        "lib 1 raw 1 0\ngrant read 2\nlib 2 raw 2 0\ngrant read 2\nlib 3 raw 3 0\ngrant read 2\nlib 4 raw 4 0\ngrant read 2\nlib 5 raw 5 0\ngrant read 2\nlib 6 raw 6 0\ngrant read 2\nlib 7 raw 7 0\ngrant read 2\nlib 8 raw 8 0\ngrant read 2\nlib 9 raw 9 0\ngrant read 2\nlib 10 raw 10 0\ngrant read 2\nlib 11 raw 11 0\ngrant read 2\nlib 12 raw 12 0\ngrant read 2\nlib 13 raw 13 0\ngrant read 2\nlib 14 raw 14 0\ngrant read 2\nlib 15 raw 15 0\ngrant read 2\nlib 16 raw 16 0\ngrant read 2\n",
+        "lib 1 raw\n2 granted\nend nothing\nlib 2 raw\n4 granted\nend nothing\nlib 3 raw\n6 granted\nend nothing\nlib 4 raw\n8 granted\nend nothing\nlib 5 raw\n10 granted\nend nothing\nlib 6 raw\n12 granted\nend nothing\nlib 7 raw\n14 granted\nend nothing\nlib 8 raw\n16 granted\nend nothing\nlib 9 raw\n18 granted\nend nothing\nlib 10 raw\n20 granted\nend nothing\nlib 11 raw\n22 granted\nend nothing\nlib 12 raw\n24 granted\nend nothing\nlib 13 raw\n26 granted\nend nothing\nlib 14 raw\n28 granted\nend nothing\nlib 15 raw\n30 granted\nend nothing\nlib 16 raw\n32 granted\nend nothing\n",
+        TREE,
+        SAME,
+    ),
 ];
 
 // `a` in the root, and nothing else.
@@ -1179,48 +1194,8 @@ fn all_play<R: Threads + Wait + Sync + AllocGlobal>(
     reports(rt, image, script.as_bytes(), &report, wanted)
 }
 
-// So many libraries, of which each reads `a` in its one line.
-fn crowd<R: Threads + Wait + Sync + AllocGlobal>(rt: &R, image: &[u8], count: u32) -> Option<bool> {
-    let alloc = rt.alloc();
-    let mut script = Vec::new(alloc);
-    let mut report = Vec::new(alloc);
-    for n in 1..=count {
-        let line = 2 * n;
-        script
-            .extend_from_slice(
-                format!(in alloc; "lib {n} raw {n} 0\ngrant read 2\n")
-                    .ok()?
-                    .as_bytes(),
-            )
-            .ok()?;
-        report
-            .extend_from_slice(
-                format!(in alloc; "lib {n} raw\n{line} granted\nend nothing\n")
-                    .ok()?
-                    .as_bytes(),
-            )
-            .ok()?;
-    }
-    if count > 16 {
-        let left = run_over(rt, &WORDS, image, &script, (0, 0)).ok()?;
-        return Some(left.status == 8 && left.out.bytes() == b"not built line 33\n".as_slice());
-    }
-    report.extend_from_slice(TREE.as_bytes()).ok()?;
-    reports(rt, image, &script, &report, SAME)
-}
-
 #[test]
-fn several_libraries(rt: HostRuntime) -> Result<(), Fail> {
-    let deep = deep_image(rt.alloc())?;
-    assert!(rt;
-        all_play(&rt, &deep, CROSSED_MOVES) == Some(true),
-        "crossed moves"
-    );
-    let shared = shared_image(rt.alloc())?;
-    assert!(rt;
-        all_play(&rt, &shared, ANOTHERS_FILE) == Some(true),
-        "another's file"
-    );
+fn libraries_are_apart(rt: HostRuntime) -> Result<(), Fail> {
     let whole = tree_image(rt.alloc())?;
     for session in SHARED_SESSIONS {
         assert!(rt;
@@ -1229,8 +1204,25 @@ fn several_libraries(rt: HostRuntime) -> Result<(), Fail> {
             session.0
         );
     }
-    assert!(rt; crowd(&rt, &whole, 16) == Some(true), "sixteen");
-    assert!(rt; crowd(&rt, &whole, 17) == Some(true), "seventeen");
+    Ok(())
+}
+
+#[test]
+fn moves_of_two_libraries_cross(rt: HostRuntime) -> Result<(), Fail> {
+    let deep = deep_image(rt.alloc())?;
+    assert!(rt; all_play(&rt, &deep, CROSSED_MOVES) == Some(true));
+    Ok(())
+}
+
+#[test]
+fn a_new_file_is_its_librarys(rt: HostRuntime) -> Result<(), Fail> {
+    let shared = shared_image(rt.alloc())?;
+    assert!(rt; all_play(&rt, &shared, ANOTHERS_FILE) == Some(true));
+    Ok(())
+}
+
+#[test]
+fn a_block_is_moved_as_a_whole(rt: HostRuntime) -> Result<(), Fail> {
     let block = block_image(rt.alloc())?;
     for session in BLOCK_MOVES {
         assert!(rt;
