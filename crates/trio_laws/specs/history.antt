@@ -3,3 +3,4 @@ pub mod Entries
 pub mod Replays
 pub mod Recorded
 pub mod HistoryLaws
+pub mod ToldLaws

@@ -15,6 +15,7 @@ mod entry;
 mod grant;
 mod list;
 mod node;
+mod note;
 mod spot;
 #[cfg(test)]
 mod tests;
@@ -27,6 +28,7 @@ pub use entry::{
 pub use grant::{GrantKind, Holder};
 pub use list::{Bytes, List};
 pub use node::{Node, Nodes};
+pub use note::Note;
 pub use spot::Spot;
 /// Want of memory: the answer of a call that asks for memory and finds none.
 pub use std::alloc::AllocError as NoMemory;

@@ -8,3 +8,4 @@ pub mod Kept
 pub mod Given
 pub mod Run
 pub mod ImageNodes
+pub mod Listed
