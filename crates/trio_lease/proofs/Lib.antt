@@ -1,2 +1,3 @@
 pub mod Places
 pub mod OtherBytes
+pub mod Untouched

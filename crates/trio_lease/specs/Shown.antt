@@ -1,6 +1,7 @@
 -- What a lease shows of its file.
-use Rattle.std.specs.Prelude.{ℕ, Bool, true, false, List, [], Option, slice_get, slice_index_or, slice_set}
+use Rattle.std.specs.Prelude.{◌≡◌, ◌⊎◌, ℕ, Bool, true, false, List, [], Option, slice_get, slice_index_or, slice_set}
 use Rattle.std.specs.Option.{option_map}
+use Rattle.trio_lists.specs.Lists.{In}
 use Rattle.trio_page.specs.declared.page.PageNo.{PageNo}
 use Rattle.trio_rights.specs.declared.rights.LibNo.{LibNo}
 use Rattle.trio_rights.specs.declared.kind.Kind.{Kind}
@@ -22,6 +23,10 @@ pub record Shown : Type 0 where
 pub record LentFile : Type 0 where
   pub stands : Shown
   pub lent : Shown
+
+-- each block that isn't marked as touched is as it was lent
+abbrev pub KeepsUntouched : LentFile → Type 0
+KeepsUntouched f = (p : LentPage) → In p f.stands.blocks → (p.touched ≡ true) ⊎ In p f.lent.blocks
 
 -- what the parts of a write lease show
 abbrev pub shown : WriteParts → Shown

@@ -57,6 +57,8 @@ enum PagePlace {
 }
 
 impl Bundle {
+    ghost use Rattle.trio_lists.specs.Lists.{In};
+    ghost use Rattle.trio_lease.specs.Shown.{KeepsUntouched, LentFile};
     ghost use Rattle.trio_lease.specs.contracts.bundle.Bundle.{the_row};
 
     /// The empty bundle. It takes no memory.
@@ -220,6 +222,16 @@ impl Bundle {
         ensures { result.now ≡ self.now.writes }
     {
         &self.writes
+    }
+
+    /// Tells what is so of every lease, of each write lease of the bundle: a block that isn't marked
+    /// as touched is as it was lent.
+    pub fn keeps_untouched(&self)
+        ensures { (f : LentFile) → In f self.now.writes → KeepsUntouched f }
+    {
+        for lease in &self.writes {
+            lease.keeps_untouched();
+        }
     }
 
     /// The holds, in the order in which they were added.

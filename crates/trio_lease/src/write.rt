@@ -19,7 +19,8 @@ use trio_rights::{Kind, LibNo};
 ///
 /// Contracts see the file twice (`LentFile`): `stands` is what the lease has now, `lent` is what it
 /// was made of. Each call that changes a byte says so of `stands`, and none changes `lent`, the
-/// number of pages, or their numbers in the image.
+/// number of pages, or their numbers in the image. A block that isn't marked as touched is as it was
+/// lent ([`keeps_untouched`](Self::keeps_untouched)).
 pub struct WriteLease {
     lib: LibNo,
     ino: u32,
@@ -32,14 +33,17 @@ pub struct WriteLease {
 }
 
 impl Model for WriteLease {
-    ghost use Rattle.trio_lease.specs.Shown.{LentFile, shown};
+    ghost use Rattle.trio_lease.specs.Shown.{LentFile, KeepsUntouched, shown};
 
     ghost Value = { LentFile };
 
     ghost view = { λ l. record { stands = record { lib = l.lib; ino = l.ino; kind = l.kind; entry = l.entry; body = l.body; index = l.index; blocks = l.blocks }; lent = shown l.lent.value } };
+
+    ghost invariant = { λ l. KeepsUntouched (record { stands = record { lib = l.lib; ino = l.ino; kind = l.kind; entry = l.entry; body = l.body; index = l.index; blocks = l.blocks }; lent = shown l.lent.value }) };
 }
 
 impl WriteLease {
+    ghost use Rattle.trio_lease.specs.Shown.{KeepsUntouched};
     ghost use Rattle.trio_lease.specs.contracts.write.WriteLease.{the_row};
 
     /// The lease that has these parts, and shows them as lent.
@@ -96,6 +100,13 @@ impl WriteLease {
     /// Lets the lease go. Its grant stays out for good, so that others find the file busy.
     pub fn discard(self) {
         let _parts = self.parts();
+    }
+
+    /// Tells what is so of every lease: each block that isn't marked as touched is as it was lent.
+    pub fn keeps_untouched(&self)
+        ensures { KeepsUntouched self.now }
+    {
+        let _blocks = &self.blocks;
     }
 
     /// The file's inode number.

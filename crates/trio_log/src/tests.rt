@@ -4,7 +4,7 @@ use std::test::Fail;
 use trio_names::{Name, Path};
 use trio_nodes::{
     Answer, Bytes, Call, Done, Entry, Handed, List, ModeFault, Node, Nodes, RawBlock, RawFile,
-    ReleaseAnswer, Reply,
+    ReleaseAnswer, Reply, SharedBytes,
 };
 use trio_rights::{Creds, Kind, LibNo, Mode};
 
@@ -54,7 +54,7 @@ fn nothing_handed(alloc: Global) -> Handed {
 }
 
 fn block(alloc: Global, ino: u32, at: u32, bytes: &[u8]) -> Result<RawBlock, Fail> {
-    let bytes = Bytes::copied(alloc, bytes)?;
+    let bytes = SharedBytes::copied(alloc, bytes)?;
     Ok(RawBlock { ino, at, bytes })
 }
 
