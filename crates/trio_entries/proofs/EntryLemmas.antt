@@ -1,32 +1,22 @@
 -- What the entry of a judged directory tells, by its slot.
-use Rattle.std.proofs.Common.{◌≡◌, ℕ, Bool, true, false, not, ◌&&◌, cond, List, [], Option, None, Some, refl, sym, ap, ◌∙◌, subst}
-use Rattle.std.specs.Option.{option_map, option_map_or}
-use Rattle.std.specs.Prelude.{unwrap_or}
+use Rattle.std.proofs.Common.{◌≡◌, ℕ, true, false, not, ◌&&◌, cond, List, Option, None, sym, ap, ◌∙◌, subst}
+use Rattle.std.specs.Option.{option_map}
 use Rattle.std.specs.Str.{bytes_eq}
 use Rattle.trio_rights.specs.Row.{Row}
 use Rattle.trio_rights.specs.declared.kind.Kind.TheVariants.{Regular}
 use Rattle.trio_judge.specs.declared.listing.ListedEntry.{ListedEntry as EntryData}
 use Rattle.trio_layout.specs.declared.slot.EntryPart.{EntryPart}
-use Rattle.trio_layout.specs.declared.slot.SlotRead.{SlotRead}
 use Rattle.trio_layout.specs.declared.slot.SlotRead.TheVariants.{Entry}
 use Rattle.trio_layout.specs.Case.{Case}
-use Rattle.trio_layout.specs.Entries.{slot_bytes}
 use Rattle.trio_layout.specs.Listing.{Listing, ListedEntry}
 use Rattle.trio_layout.specs.Slot.{slot_of}
 use Rattle.trio_layout.specs.Tables.{row_after}
-use Rattle.trio_nodes.specs.declared.entry.RawFile.{RawFile}
 use Rattle.trio_state.specs.Listed.{Notes, entry_name, entry_size, entry_slot, is_handed, is_untold, noted_name, told_entry, told_row}
-use Rattle.trio_entries.specs.inner.Slots.{IsReadable}
 use Rattle.trio_entries.proofs.FileLemmas.{entry_is}
 
 -- what stands past the end of a list of entries
 abbrev pub no_entry : EntryData
 no_entry = record { ino = 0; kind = Regular; dir = 0; page = 0; slot = 0; kept = false }
-
--- the slot of an entry is an entry
-pub slot_says : (c : Case) (e : ListedEntry) (slot : List ℕ) → IsReadable c e → slot ≡ entry_slot c e → (part : EntryPart) × (slot_of c.inodes slot ≡ Entry part)
-slot_says c e slot r is =
-    (r.part, ap (slot_of c.inodes) is ∙ ap (λ o. slot_of c.inodes (option_map_or (slot_bytes e.slot) o [])) r.here ∙ r.says)
 
 -- its name is that of the entry
 pub part_named : (c : Case) (e : ListedEntry) (slot : List ℕ) (part : EntryPart) → slot ≡ entry_slot c e → Entry part ≡ slot_of c.inodes slot → part.name ≡ entry_name c e

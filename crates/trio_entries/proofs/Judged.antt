@@ -1,6 +1,6 @@
 -- What the rules on a bundle give of its listing.
-use Rattle.std.proofs.Common.{◌≡◌, ℕ, Bool, true, false, ◌&&◌, List, [], ◌∷◌, map, Option, None, Some, refl, sym, ap, ◌∙◌, subst}
-use Rattle.std.specs.Prelude.{is_some, slice_index_or}
+use Rattle.std.proofs.Common.{◌≡◌, true, ◌&&◌, List, [], ◌∷◌, map, Option, None, Some, refl, ap, ◌∙◌, subst}
+use Rattle.std.specs.Prelude.{is_some}
 use Rattle.std.specs.List.{list_all}
 use Rattle.std.proofs.lemmas.Bool.{and_parts}
 use Rattle.trio_rights.specs.Bundle.{bundle_pages}
@@ -16,11 +16,10 @@ use Rattle.trio_layout.specs.JudgedFiles.{judged_entries, judged_pages}
 use Rattle.trio_layout.specs.Listing.{Listing, ListedEntry, entry_listed, listing}
 use Rattle.trio_layout.specs.Rules.{entry_is_own, meets_grammar, meets_owning, meets_rights, meets_rules}
 use Rattle.trio_layout.specs.Survey.{Met, numbers}
-use Rattle.trio_judge.specs.Cases.{CaseShown, IsJudgeable, case_in}
+use Rattle.trio_judge.specs.Cases.{CaseShown}
 use Rattle.trio_state.specs.Listed.{Notes}
 use Rattle.trio_entries.specs.Telling.{whole_case, AreNoted}
 use Rattle.trio_entries.specs.inner.Finding.{AreWrittenNoted, IsToldBy}
-use Rattle.trio_entries.specs.inner.Slots.{IsReadable}
 use Rattle.trio_entries.proofs.Finding.{find-first}
 use Rattle.trio_entries.proofs.Reading.{listed_readable}
 
@@ -53,6 +52,6 @@ live kind None h = absurd cc
 live kind (Some r) h = refl
 
 -- the written files are live, and so noted
-pub written_noted : (k : CaseShown) (rows : List (Option Row)) (notes : Notes) → IsJudgeable k.bundle rows k.range k.inodes → AreNoted rows notes → AreWrittenNoted k notes
+pub written_noted : (k : CaseShown) (rows : List (Option Row)) (notes : Notes) → list_all (λ (x : LentFile). has_kind x.stands.kind (row_in rows x.stands.ino)) k.bundle.writes ≡ true → AreNoted rows notes → AreWrittenNoted k notes
 written_noted k rows notes fits noted =
-    λ f i. noted f.stands.ino (live f.stands.kind (row_in rows f.stands.ino) (list_all-In (λ (x : LentFile). has_kind x.stands.kind (row_in rows x.stands.ino)) f k.bundle.writes fits.written i))
+    λ f i. noted f.stands.ino (live f.stands.kind (row_in rows f.stands.ino) (list_all-In (λ (x : LentFile). has_kind x.stands.kind (row_in rows x.stands.ino)) f k.bundle.writes fits i))

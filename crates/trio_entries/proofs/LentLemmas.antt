@@ -1,5 +1,5 @@
 -- The blocks that a file was lent with.
-use Rattle.std.proofs.Common.{◌≡◌, ◌∙◌, ℕ, ◌+◌, eqb, List, [], ◌∷◌, ◌++◌, get_or, map, take, Option, None, Some, ap, refl, sym}
+use Rattle.std.proofs.Common.{◌≡◌, ◌∙◌, ℕ, ◌+◌, eqb, List, [], ◌∷◌, ◌++◌, get_or, map, take, Option, None, Some, ap, refl}
 use Rattle.std.specs.Prelude.{slice_get}
 use Rattle.std.specs.List.{find}
 use Rattle.std.specs.Option.{option_map, option_map_or}

@@ -1,11 +1,9 @@
 -- The entries of a listing stand in slots of the bundle's pages.
-use Rattle.std.proofs.Common.{◌≡◌, ℕ, zero, suc, ◌+◌, ◌*◌, ◌<◌, ◌≤◌, Bool, true, false, cond, List, [], ◌∷◌, ◌++◌, map, Option, None, Some, Result, Ok, Err, refl, sym, ap, ◌∙◌, subst, inl, inr, arith}
-use Rattle.std.specs.List.{flat_map}
+use Rattle.std.proofs.Common.{◌≡◌, ℕ, zero, suc, ◌<◌, List, [], ◌∷◌, Option, None, Some, Result, Ok, Err, refl, sym, ap, ◌∙◌, subst, inl, inr, arith}
 use Rattle.trio_rights.specs.declared.kind.Kind.{Kind}
 use Rattle.trio_rights.specs.declared.kind.Kind.TheVariants.{Regular, Directory}
-use Rattle.trio_lists.specs.Lists.{In, both, gathered, gathered_below, result_then}
-use Rattle.trio_lists.proofs.Members.{In-cases, In-map, both-Ok, flat_map-In, map-In, result_then-Ok}
-use Rattle.trio_layout.specs.declared.slot.EntryPart.{EntryPart}
+use Rattle.trio_lists.specs.Lists.{In, gathered, gathered_below}
+use Rattle.trio_lists.proofs.Members.{In-cases, both-Ok, flat_map-In, map-In, result_then-Ok}
 use Rattle.trio_layout.specs.declared.slot.SlotRead.{SlotRead}
 use Rattle.trio_layout.specs.declared.slot.SlotRead.TheVariants.{Empty, Entry, Bad}
 use Rattle.trio_layout.specs.Case.{Case, bundle_core, file_in}

@@ -1,14 +1,13 @@
 //! What a release tells of blocks.
 
-ghost use Rattle.std.specs.Prelude.{◌≡◌, ◌+◌, ◌*◌, ◌<◌, ◌==◌, ◌++◌, ◌||◌, ℕ, List, None, Option, Some, IfOk, OnOk, false, map, min, nat_lt, not, slice_get};
-ghost use Rattle.std.specs.List.{find};
-ghost use Rattle.std.specs.Option.{option_copied, option_map, option_map_or};
+ghost use Rattle.std.specs.Prelude.{◌≡◌, ◌+◌, ◌==◌, ◌++◌, List, Option, IfOk, OnOk, false, map, slice_get};
+ghost use Rattle.std.specs.Option.{option_copied, option_map_or};
 ghost use Rattle.trio_rights.specs.Row.{Row};
 ghost use Rattle.trio_lease.specs.Bundles.{Bundled};
 ghost use Rattle.trio_lease.specs.Views.{bundle_in};
 ghost use Rattle.trio_judge.specs.Places.{bytes_at};
 ghost use Rattle.trio_nodes.specs.declared.entry.Handed.{Handed as HandedSeen};
-ghost use Rattle.trio_state.specs.Listed.{accepted_blocks, block_told, blocks_listed_of, blocks_of_kind, changed_blocks, is_block_changed, is_marked, lent_blocks, noted_size, refused_blocks};
+ghost use Rattle.trio_state.specs.Listed.{accepted_blocks, block_told, blocks_listed_of, blocks_of_kind, changed_blocks, is_block_changed, lent_blocks, refused_blocks};
 ghost use Rattle.trio_entries.specs.Handed.{handed_in};
 ghost use Rattle.trio_entries.specs.Telling.{whole_case};
 ghost use Rattle.trio_entries.specs.inner.Finding.{ArePlaces, IsFinderOf, IsMarkedBy};

@@ -1,9 +1,11 @@
 //! What a release tells, by its bundle, its listing and what is noted.
 
-ghost use Rattle.std.specs.Prelude.{◌≡◌, IfOk, IsTrue};
+ghost use Rattle.std.specs.Prelude.{◌≡◌, IfOk, IsTrue, true};
+ghost use Rattle.std.specs.List.{list_all};
+ghost use Rattle.trio_rights.specs.Row.{row_in};
+ghost use Rattle.trio_layout.specs.Allowed.{has_kind};
 ghost use Rattle.trio_layout.specs.Listing.{listing as listing_of};
 ghost use Rattle.trio_layout.specs.Rules.{meets_rules};
-ghost use Rattle.trio_judge.specs.Cases.{IsJudgeable};
 ghost use Rattle.trio_state.specs.Listed.{accepted_blocks, accepted_files, refused_blocks, refused_files};
 ghost use Rattle.trio_entries.specs.Handed.{handed_in};
 ghost use Rattle.trio_entries.specs.Telling.{whole_case, AreNoted};
@@ -42,7 +44,7 @@ pub fn accepted(
     notes: &Notes,
     handed: &Handed,
 ) -> Result<Told, NoMemory>
-    requires judgeable { IsJudgeable case.now.bundle rows.now case.now.range case.now.inodes }
+    requires live { list_all (λ f. has_kind f.stands.kind (row_in rows.now f.stands.ino)) case.now.bundle.writes ≡ true }
     requires rules { IsTrue (meets_rules (whole_case case.now rows.now)) }
     requires listed { listing.now.listing ≡ listing_of (whole_case case.now rows.now) }
     requires noted { AreNoted rows.now notes.now }

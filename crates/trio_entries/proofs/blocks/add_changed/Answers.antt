@@ -1,4 +1,4 @@
-use Rattle.std.proofs.Common.{◌≡◌, ◌∙◌, ◌+◌, ◌++◌, ◌∷◌, [], List, Vec, Global, ap, drop, get_or, sym}
+use Rattle.std.proofs.Common.{◌∙◌, ◌+◌, ◌++◌, ◌∷◌, [], Vec, Global, ap, drop, get_or, sym}
 use Rattle.trio_nodes.specs.declared.entry.RawBlock.{RawBlock}
 use Rattle.trio_state.specs.Listed.{block_told, changed_blocks, is_block_changed}
 use Rattle.trio_entries.specs.Telling.{whole_case}

@@ -1,4 +1,4 @@
-use Rattle.std.proofs.Common.{◌≡◌, ◌∙◌, Option, ℕ, [], ap, eqb, false, sym}
+use Rattle.std.proofs.Common.{◌∙◌, [], ap, eqb, false, sym}
 use Rattle.std.specs.Prelude.{slice_get}
 use Rattle.std.specs.Option.{option_map, option_map_or}
 use Rattle.trio_lease.specs.Shown.{LentFile}

@@ -1,6 +1,5 @@
-use Rattle.std.proofs.Common.{◌≡◌, ◌∙◌, Result, Ok, Err, ap, sym, []}
+use Rattle.std.proofs.Common.{◌∙◌, ap, sym, []}
 use Rattle.std.specs.Option.{option_map_or}
-use Rattle.std.proofs.Common.{rules}
 use Rattle.trio_lease.specs.Shown.{LentFile}
 use Rattle.trio_entries.proofs.LentLemmas.{block_numbers, lent_blocks_are}
 use Rattle.trio_entries.proofs.blocks.lent_blocks.Goals as goal

@@ -1,5 +1,4 @@
-use Rattle.std.proofs.Common.{◌∙◌, List, ℕ, None, Some, [], ap, sym}
-use Rattle.std.specs.List.{find}
+use Rattle.std.proofs.Common.{◌∙◌, None, Some, [], ap, sym}
 use Rattle.std.specs.Option.{option_map, option_map_or}
 use Rattle.trio_layout.specs.Listing.{ListedFile}
 use Rattle.trio_entries.proofs.Finding.{map_or_is, place_within, placed}

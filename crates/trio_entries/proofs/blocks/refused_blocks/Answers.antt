@@ -1,9 +1,9 @@
-use Rattle.std.proofs.Common.{◌≡◌, ◌∙◌, ◌++◌, List, ℕ, ap, arith}
+use Rattle.std.proofs.Common.{◌∙◌, ◌++◌, List, ℕ, ap, arith}
 use Rattle.std.specs.List.{flat_map}
 use Rattle.std.proofs.lemmas.List.{take_all}
 use Rattle.trio_lease.specs.Views.{bundle_in}
 use Rattle.trio_nodes.specs.declared.entry.RawFile.{RawFile}
-use Rattle.trio_state.specs.Listed.{blocks_listed_of, blocks_of_kind, lent_blocks}
+use Rattle.trio_state.specs.Listed.{blocks_of_kind, lent_blocks}
 use Rattle.trio_entries.specs.Telling.{whole_case}
 use Rattle.trio_entries.proofs.Turns.{told_more}
 use Rattle.trio_entries.proofs.blocks.refused_blocks.Goals as goal

@@ -1,7 +1,6 @@
-use Rattle.std.proofs.Common.{rules, ◌≡◌, ◌∙◌, ◌++◌, map, ap}
+use Rattle.std.proofs.Common.{rules, ◌≡◌, ◌∙◌, ◌++◌, ap}
 use Rattle.std.specs.List.{filter_map}
 use Rattle.std.proofs.lemmas.List.Sorted.{answers_always}
-use Rattle.trio_rights.specs.Bundle.{Written}
 use Rattle.trio_lists.specs.Sorting.{sorted_by}
 use Rattle.trio_lease.specs.Views.{bundle_in}
 use Rattle.trio_judge.proofs.Sorted.{sorted_by_key}

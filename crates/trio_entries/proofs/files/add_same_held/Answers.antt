@@ -1,12 +1,10 @@
-use Rattle.std.proofs.Common.{◌≡◌, ◌∙◌, ◌++◌, List, get_or, map, sym, ap, subst, arith}
+use Rattle.std.proofs.Common.{◌∙◌, ◌++◌, ap, arith}
 use Rattle.std.specs.List.{filter_map}
 use Rattle.std.proofs.lemmas.List.{take_all}
-use Rattle.trio_lists.specs.Lists.{In}
 use Rattle.trio_entries.specs.Telling.{whole_case}
-use Rattle.trio_entries.proofs.Adding.{added, filter_map-map, get-In}
+use Rattle.trio_entries.proofs.Adding.{added, filter_map-map}
 use Rattle.trio_lease.specs.Bundles.{Bundled}
 use Rattle.trio_lease.specs.declared.parts.HoldParts.{HoldParts}
-use Rattle.trio_rights.specs.Row.{row_in}
 use Rattle.trio_state.specs.Listed.{told_same}
 use Rattle.trio_entries.proofs.files.add_same_held.Goals as goal
 

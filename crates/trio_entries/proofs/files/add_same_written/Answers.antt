@@ -1,9 +1,8 @@
-use Rattle.std.proofs.Common.{◌≡◌, ◌∙◌, ◌++◌, List, get_or, map, sym, ap, subst, arith}
+use Rattle.std.proofs.Common.{◌∙◌, ◌++◌, map, ap, arith}
 use Rattle.std.specs.List.{filter_map}
 use Rattle.std.proofs.lemmas.List.{take_all}
-use Rattle.trio_lists.specs.Lists.{In}
 use Rattle.trio_entries.specs.Telling.{whole_case}
-use Rattle.trio_entries.proofs.Adding.{added, filter_map-map, get-In}
+use Rattle.trio_entries.proofs.Adding.{added, filter_map-map}
 use Rattle.trio_lease.specs.Bundles.{Bundled}
 use Rattle.trio_lease.specs.Shown.{LentFile}
 use Rattle.trio_lease.specs.Views.{written_in}

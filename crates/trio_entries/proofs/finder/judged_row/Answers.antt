@@ -1,4 +1,4 @@
-use Rattle.std.proofs.Common.{◌∙◌, None, Some, ap, map, sym}
+use Rattle.std.proofs.Common.{◌∙◌, None, ap, sym}
 use Rattle.std.specs.Prelude.{slice_get}
 use Rattle.std.specs.Option.{option_and_then, option_map}
 use Rattle.trio_layout.specs.Listing.{ListedFile}

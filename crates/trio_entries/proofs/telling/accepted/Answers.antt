@@ -11,7 +11,7 @@ accepted_files-requires-clause-entries c =
 
 pub accepted_files-requires-clause-written : goal.accepted_files-requires-clause-written
 accepted_files-requires-clause-written c =
-    written_noted c.args.case.now c.args.rows.now c.args.notes.now c.requires.judgeable c.requires.noted
+    written_noted c.args.case.now c.args.rows.now c.args.notes.now c.requires.live c.requires.noted
 
 pub returns-clause-blocks : goal.returns-clause-blocks
 returns-clause-blocks c =

@@ -1,4 +1,4 @@
-use Rattle.std.proofs.Common.{◌≡◌, ◌∙◌, ℕ, List, Some, ap, cond, drop, sym}
+use Rattle.std.proofs.Common.{◌∙◌, ℕ, List, Some, ap, cond, drop, sym}
 use Rattle.std.specs.Prelude.{unwrap_or}
 use Rattle.trio_lists.specs.Lists.{is_among}
 use Rattle.trio_lease.specs.Views.{bundle_in}
