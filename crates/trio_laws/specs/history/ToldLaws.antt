@@ -1,5 +1,5 @@
 -- The laws of what a release tells: its entry by the bundle and its listing alone, and the notes of live files.
-use Rattle.std.specs.Prelude.{◌≡◌, ℕ, ◌+◌, None, Option, IsTrue}
+use Rattle.std.specs.Prelude.{◌≡◌, ℕ, ◌+◌, IsTrue}
 use Rattle.std.specs.Option.{option_map}
 use Rattle.trio_rights.specs.Row.{Row}
 use Rattle.trio_lists.specs.Lists.{tabulated}
