@@ -36,3 +36,4 @@ pub mod SettledNodes
 pub mod NotesFacts
 pub mod NotesSteps
 pub mod NotesAccepted
+pub mod NotesStart

@@ -1,7 +1,12 @@
 //! The laws of what is noted of live files, their names and sizes: the body of each function is empty,
 //! and its contract is the law.
 
-ghost use Rattle.trio_laws.specs.history.ToldLaws.{RefusedNotes, ReleaseNotes, StepsKeepNotes};
+ghost use Rattle.trio_laws.specs.history.ToldLaws.{RefusedNotes, ReleaseNotes, StartNotes, StepsKeepNotes};
+
+/// At the start the notes are as the rows of the image tell them.
+pub fn start_notes()
+    ensures law { StartNotes }
+{}
 
 /// After an accepted release the notes are those that its files tell.
 pub fn release_notes()
