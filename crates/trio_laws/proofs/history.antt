@@ -33,3 +33,7 @@ pub mod Grows
 pub mod Isolates
 pub mod StandsTree
 pub mod SettledNodes
+pub mod NotesFacts
+pub mod NotesSteps
+pub mod NotesAccepted
+pub mod NotesStart

@@ -11,5 +11,6 @@ pub mod ends;
 pub mod histories;
 pub mod known;
 pub mod laws;
+pub mod notes;
 pub mod outs;
 pub mod rules;
