@@ -14,3 +14,4 @@ pub mod laws;
 pub mod notes;
 pub mod outs;
 pub mod rules;
+pub mod told;
