@@ -85,11 +85,13 @@ first_slot-gap (Some m ∷ slots) =
     ]
 
 -- one slot that was read, on the way to the gap
-pub gap_read : (slots : List Slot) (at : ℕ) (slot : Slot) → at ≤ gap slots → at < length slots → slot ≡ get_or slots at slot → is_some slot ≡ true → at + 1 ≤ gap slots
+pub gap_read : (slots : List Slot) (at : ℕ) (slot : Slot) → at ≤ gap slots → at < length slots → slot ≡ get_or slots at slot → is_some slot ≡ true
+    → at + 1 ≤ gap slots
 gap_read slots at None le lt is some = absurd (false≢true some)
 gap_read slots at (Some name) le lt is some = gap_passes slots at name le (slice_get_read slots (length slots) at (Some name) refl lt is)
 
-pub gap_read_here : (slots : List Slot) (at : ℕ) (slot : Slot) → at ≤ gap slots → at < length slots → slot ≡ get_or slots at slot → is_some slot ≡ false → at ≡ gap slots
+pub gap_read_here : (slots : List Slot) (at : ℕ) (slot : Slot) → at ≤ gap slots → at < length slots → slot ≡ get_or slots at slot
+    → is_some slot ≡ false → at ≡ gap slots
 gap_read_here slots at None le lt is none = gap_here slots at le (slice_get_read slots (length slots) at None refl lt is)
 gap_read_here slots at (Some name) le lt is none = absurd (false≢true (sym none))
 

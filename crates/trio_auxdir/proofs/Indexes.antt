@@ -23,7 +23,8 @@ slot_is slots n name e =
       | inr past ↦ absurd (none-some name (sym (get_or_past slots n None past) ∙ e))
     ]
 
-pub found_at : (slots : List Slot) (order : List ℕ) (name : List ℕ) (at : ℕ) → IsIndex slots order → IsAt (slot_at slots) order name at → slot_with name slots ≡ Some (nth order at)
+pub found_at : (slots : List Slot) (order : List ℕ) (name : List ℕ) (at : ℕ) → IsIndex slots order → IsAt (slot_at slots) order name at
+    → slot_with name slots ≡ Some (nth order at)
 found_at slots order name at is there = slot_found name slots (nth order at) (slot_is slots (nth order at) name there.same) is.differ
 
 absent_by : (slots : List Slot) (order : List ℕ) (name : List ℕ) (at : ℕ) → IsIndex slots order → IsGap (slot_at slots) order name at
@@ -38,7 +39,8 @@ absent_by slots order name at is gap (Some n) e =
       | inr from ↦ absurd (less_itself name (subst (λ (x : List ℕ). IsLess name x) same (gap.above there.0 from there.1)))
     ]
 
-pub absent_at : (slots : List Slot) (order : List ℕ) (name : List ℕ) (at : ℕ) → IsIndex slots order → IsGap (slot_at slots) order name at → slot_with name slots ≡ None
+pub absent_at : (slots : List Slot) (order : List ℕ) (name : List ℕ) (at : ℕ) → IsIndex slots order → IsGap (slot_at slots) order name at
+    → slot_with name slots ≡ None
 absent_at slots order name at is gap = absent_by slots order name at is gap (slot_with name slots) refl
 
 -- a name that is nowhere isn't found, and any other is
@@ -54,7 +56,8 @@ meets slots order name (Err at) is some gap = absurd (false≢true (sym (ap is_s
 
 -- ---- one slot changed
 
-pub index_put : (slots : List Slot) (order : List ℕ) (n at : ℕ) (name : List ℕ) → IsIndex slots order → slice_get slots n ≡ Some None → slot_with name slots ≡ None
+pub index_put : (slots : List Slot) (order : List ℕ) (n at : ℕ) (name : List ℕ) → IsIndex slots order → slice_get slots n ≡ Some None
+    → slot_with name slots ≡ None
     → IsGap (slot_at slots) order name at → IsIndex (set slots n (Some name)) (insert order at n)
 index_put slots order n at name is empty none gap = record {
   sorted =
@@ -66,7 +69,8 @@ index_put slots order n at name is empty none gap = record {
 pub number_within : (slots : List Slot) (order : List ℕ) (name : List ℕ) (at : ℕ) → IsAt (slot_at slots) order name at → nth order at < length slots
 number_within slots order name at there = slice_get_within slots (nth order at) (Some name) (slot_is slots (nth order at) name there.same)
 
-pub index_emptied : (slots : List Slot) (order : List ℕ) (n at : ℕ) (name : List ℕ) → IsIndex slots order → IsAt (slot_at slots) order name at → nth order at ≡ n
+pub index_emptied : (slots : List Slot) (order : List ℕ) (n at : ℕ) (name : List ℕ) → IsIndex slots order → IsAt (slot_at slots) order name at
+    → nth order at ≡ n
     → IsIndex (set slots n None) (remove order at)
 index_emptied slots order n at name is there number = record {
   sorted =
@@ -125,7 +129,8 @@ unfolding slots_on
 new_on inodes k page slots lt differ =
     let f : ℕ → Slot = slot_on inodes page in
     let r = tabulated_split f k 16 lt in
-    let all : slots ++ tabulated f 16 ≡ (slots ++ tabulated f k) ++ f k ∷ r.0 = ap (λ (x : List Slot). slots ++ x) r.1 ∙ sym (append_assoc slots (tabulated f k) (f k ∷ r.0)) in
+    let all : slots ++ tabulated f 16 ≡ (slots ++ tabulated f k) ++ f k ∷ r.0 = ap (λ (x : List Slot). slots ++ x) r.1
+    ∙ sym (append_assoc slots (tabulated f k) (f k ∷ r.0)) in
     new_by (f k) (slots ++ tabulated f k) r.0 (subst NamesDiffer all differ)
 
 -- one slot more

@@ -27,14 +27,9 @@ no_place name slots e = none (slot_with name slots) e where
   none None e = refl
   none (Some n) e = absurd (none-some (place_at n) (sym e))
 
-pub some_place : (name : List ℕ) (slots : List Slot) → IsSome (place_of name slots) → IsSome (slot_with name slots)
-some_place name slots e = some (slot_with name slots) e where
-  some : (o : Option ℕ) → IsSome (option_map place_at o) → IsSome o
-  some None e = e
-  some (Some n) e = e
-
 -- the slot of a name, by its place
-pub set-with_slot : (name : List ℕ) (slot : Slot) (slots : List Slot) (n : ℕ) → slot_with name slots ≡ Some n → set slots n slot ≡ with_slot (place_of name slots) slot slots
+pub set-with_slot : (name : List ℕ) (slot : Slot) (slots : List Slot) (n : ℕ) → slot_with name slots ≡ Some n
+    → set slots n slot ≡ with_slot (place_of name slots) slot slots
 set-with_slot name slot slots n e =
     ap (λ (k : ℕ). set slots k slot) (sym (slot_number-place_at n)) ∙ sym (ap (λ (o : Option ℕ). with_slot (option_map place_at o) slot slots) e)
 
@@ -60,26 +55,20 @@ kept_same slots new order order' first is e same = record {
   few = omega (arith, is.few, ap length e);
 }
 
-pub kept_empties : (slots new : List Slot) (order : List ℕ) (first : ℕ) → IsKept slots order first → new ≡ slots ++ replicate 16 None → length slots + 16 ≤ 2 ^ 32 → IsKept new order first
+pub kept_empties : (slots new : List Slot) (order : List ℕ) (first : ℕ) → IsKept slots order first → new ≡ slots ++ replicate 16 None
+    → length slots + 16 ≤ 2 ^ 32 → IsKept new order first
 kept_empties slots new order first is e few = record {
   index = subst (λ (x : List Slot). IsIndex x order) (sym e) (index_empties 16 slots order is.index);
   at_gap = is.at_gap ∙ sym (gap-empties slots 16) ∙ ap gap (sym e);
   few = omega (arith, few, ap length e, length-append slots (replicate 16 None), length-replicate {A = Slot} 16 None);
 }
 
-pub kept_put : (slots new : List Slot) (order order' : List ℕ) (first n : ℕ) (name : List ℕ) → IsKept slots order first → slice_get slots n ≡ Some None → n ≢ first
+pub kept_put : (slots new : List Slot) (order order' : List ℕ) (first n : ℕ) (name : List ℕ) → IsKept slots order first
+    → slice_get slots n ≡ Some None → n ≢ first
     → new ≡ set slots n (Some name) → IsIndex new order' → IsKept new order' first
 kept_put slots new order order' first n name is at ne e index = record {
   index = index;
   at_gap = is.at_gap ∙ sym (gap-put name slots n at (λ same. ne (same ∙ sym is.at_gap))) ∙ ap gap (sym e);
-  few = omega (arith, is.few, ap length e, length-set slots n (Some name));
-}
-
-pub kept_put_first : (slots new : List Slot) (order order' : List ℕ) (first first' n : ℕ) (name : List ℕ) → IsKept slots order first
-    → new ≡ set slots n (Some name) → IsIndex new order' → first' ≡ gap new → IsKept new order' first'
-kept_put_first slots new order order' first first' n name is e index at = record {
-  index = index;
-  at_gap = at;
   few = omega (arith, is.few, ap length e, length-set slots n (Some name));
 }
 
@@ -105,9 +94,10 @@ kept_renamed slots last order order' first n name to is at e index = record {
 -- ---- where each name stands afterwards
 
 pub place_at-slot_number : (place : Place) → place.slot < 16 → place_at (slot_number place) ≡ place
-place_at-slot_number place lt = same_place ((16 * place.block + place.slot) / 16) ((16 * place.block + place.slot) % 16) place (omega (arith, lt)) (omega (arith, lt)) where
-  same_place : (b s : ℕ) (p : Place) → b ≡ p.block → s ≡ p.slot → record { block = b; slot = s } ≡ p
-  same_place b s p e f = rw (e, f) refl
+place_at-slot_number place lt =
+    same_place ((16 * place.block + place.slot) / 16) ((16 * place.block + place.slot) % 16) place (omega (arith, lt)) (omega (arith, lt)) where
+      same_place : (b s : ℕ) (p : Place) → b ≡ p.block → s ≡ p.slot → record { block = b; slot = s } ≡ p
+      same_place b s p e f = rw (e, f) refl
 
 option_map-cond : {X Y : Type 0} (f : X → Y) (b : Bool) (o p : Option X) → option_map f (cond b o p) ≡ cond b (option_map f o) (option_map f p)
 option_map-cond f true o p = refl
@@ -122,7 +112,8 @@ place_of-empties slots new n name e = ap (place_of name) e ∙ ap (option_map pl
     nowhere (suc n) = ap (option_map suc) (nowhere n)
   slot_with-empties n (slot ∷ slots) = rw (slot_with-empties n slots) refl
 
-pub place_of-put : (slots new : List Slot) (place : Place) (name other : List ℕ) → place.slot < 16 → slice_get slots (slot_number place) ≡ Some None → place_of name slots ≡ None
+pub place_of-put : (slots new : List Slot) (place : Place) (name other : List ℕ) → place.slot < 16
+    → slice_get slots (slot_number place) ≡ Some None → place_of name slots ≡ None
     → new ≡ set slots (slot_number place) (Some name) → place_of other new ≡ cond (bytes_eq name other) (Some place) (place_of other slots)
 place_of-put slots new place name other lt at none e =
     let n : ℕ = slot_number place in
@@ -136,8 +127,10 @@ place_of-emptied slots new n name other differ at e =
     ap (place_of other) e ∙ ap (option_map place_at) (slot_with-emptied name other slots n (slot_there name slots n at) differ)
     ∙ option_map-cond place_at (bytes_eq name other) None (slot_with other slots)
 
-pub place_of-renamed : (slots new last : List Slot) (n : ℕ) (name to other : List ℕ) → NamesDiffer slots → slot_with name slots ≡ Some n → slot_with to slots ≡ None
-    → new ≡ set slots n None → last ≡ set new n (Some to) → place_of other last ≡ cond (bytes_eq to other) (place_of name slots) (cond (bytes_eq name other) None (place_of other slots))
+pub place_of-renamed : (slots new last : List Slot) (n : ℕ) (name to other : List ℕ) → NamesDiffer slots → slot_with name slots ≡ Some n
+    → slot_with to slots ≡ None
+    → new ≡ set slots n None → last ≡ set new n (Some to)
+    → place_of other last ≡ cond (bytes_eq to other) (place_of name slots) (cond (bytes_eq name other) None (place_of other slots))
 place_of-renamed slots new last n name to other differ at none e f =
     let at' : slice_get new n ≡ Some None = ap (λ (x : List Slot). slice_get x n) e ∙ slice_get-set slots n None (number_within name slots n at) in
     let none' : slot_with to new ≡ None = ap (slot_with to) e ∙ nowhere_emptied to slots n none in

@@ -96,7 +96,8 @@ zeros_empty inodes =
 
 length-slots_of : (inodes : ℕ) (pages : List (List ℕ)) → length (slots_of inodes pages) ≡ 16 * length pages
 length-slots_of inodes [] = refl
-length-slots_of inodes (p ∷ pages) = omega (arith, length-append (slots_on inodes p) (slots_of inodes pages), length-slots_on inodes p, length-slots_of inodes pages)
+length-slots_of inodes (p ∷ pages) =
+    omega (arith, length-append (slots_on inodes p) (slots_of inodes pages), length-slots_on inodes p, length-slots_of inodes pages)
 
 pub slot_block : SlotHasItsBlock
 slot_block inodes pages place slot lt at =

@@ -22,7 +22,8 @@ nowhere-append name (slot ∷ slots) more none later =
     let a = absent name slot slots none in
     absent_from name slot (slots ++ more) a.here (nowhere-append name slots more a.later later)
 
-pub nowhere_more : (name : List ℕ) (f : ℕ → Slot) (k : ℕ) → slot_with name (tabulated f k) ≡ None → has_name name (f k) ≡ false → slot_with name (tabulated f (k + 1)) ≡ None
+pub nowhere_more : (name : List ℕ) (f : ℕ → Slot) (k : ℕ) → slot_with name (tabulated f k) ≡ None → has_name name (f k) ≡ false
+    → slot_with name (tabulated f (k + 1)) ≡ None
 nowhere_more name f k none here =
     subst (λ (x : List Slot). slot_with name x ≡ None) (more_on f [] k)
     (nowhere-append name (tabulated f k) (f k ∷ []) none (absent_from name (f k) [] here refl))
@@ -31,11 +32,13 @@ differ_by : (slot : Slot) (slots : List Slot) → NamesDiffer slots → IfSome s
 differ_by None slots differ new = differ-push slots differ
 differ_by (Some name) slots differ new = differ-push_name name slots new differ
 
-both_new : (slot : Slot) (slots more : List Slot) → IfSome slot (λ name. slot_with name slots ≡ None) → IfSome slot (λ name. slot_with name more ≡ None) → IfSome slot (λ name. slot_with name (slots ++ more) ≡ None)
+both_new : (slot : Slot) (slots more : List Slot) → IfSome slot (λ name. slot_with name slots ≡ None)
+    → IfSome slot (λ name. slot_with name more ≡ None) → IfSome slot (λ name. slot_with name (slots ++ more) ≡ None)
 both_new None slots more apart first = tt
 both_new (Some name) slots more apart first = nowhere-append name slots more apart first
 
-pub differ_more : (f : ℕ → Slot) (slots : List Slot) (k : ℕ) → NamesDiffer (slots ++ tabulated f k) → IfSome (f k) (λ name. slot_with name slots ≡ None) → IfSome (f k) (λ name. slot_with name (tabulated f k) ≡ None)
+pub differ_more : (f : ℕ → Slot) (slots : List Slot) (k : ℕ) → NamesDiffer (slots ++ tabulated f k)
+    → IfSome (f k) (λ name. slot_with name slots ≡ None) → IfSome (f k) (λ name. slot_with name (tabulated f k) ≡ None)
     → NamesDiffer (slots ++ tabulated f (k + 1))
 differ_more f slots k differ apart first =
     subst NamesDiffer (more_on f slots k) (differ_by (f k) (slots ++ tabulated f k) differ (both_new (f k) slots (tabulated f k) apart first))
@@ -50,7 +53,8 @@ listed_ok page slot body Empty ne = refl
 listed_ok page slot body (Entry e) ne = refl
 listed_ok page slot body Bad ne = absurd (ne refl)
 
-pub read_more : (inodes : ℕ) (page : List ℕ) (k : ℕ) → is_ok (gathered_below (slot_entries inodes 0 page) k) ≡ true → slot_of inodes (slot_bytes k page) ≢ Bad → is_ok (gathered_below (slot_entries inodes 0 page) (k + 1)) ≡ true
+pub read_more : (inodes : ℕ) (page : List ℕ) (k : ℕ) → is_ok (gathered_below (slot_entries inodes 0 page) k) ≡ true
+    → slot_of inodes (slot_bytes k page) ≢ Bad → is_ok (gathered_below (slot_entries inodes 0 page) (k + 1)) ≡ true
 read_more inodes page k all ne =
     let next : suc k ≡ k + 1 = omega arith in
     subst (λ (n : ℕ). is_ok (gathered_below (slot_entries inodes 0 page) n) ≡ true) next

@@ -41,7 +41,8 @@ absent name slot slots e =
     let p = absent_by (has_name name slot) (slot_with name slots) e in
     record { here = p.0; later = p.1 }
 
-pub absent_from : (name : List ℕ) (slot : Slot) (slots : List Slot) → has_name name slot ≡ false → slot_with name slots ≡ None → slot_with name (slot ∷ slots) ≡ None
+pub absent_from : (name : List ℕ) (slot : Slot) (slots : List Slot) → has_name name slot ≡ false → slot_with name slots ≡ None
+    → slot_with name (slot ∷ slots) ≡ None
 absent_from name slot slots here later = rw (here, later) refl
 
 -- a slot that has the name shows that it is somewhere
@@ -53,7 +54,8 @@ somewhere name (slot ∷ slots) zero at none =
 somewhere name (slot ∷ slots) (suc i) at none = somewhere name slots i at (absent name slot slots none).later
 
 -- the slot that is found has the name
-found_by : (name : List ℕ) (slot : Slot) (slots : List Slot) (b : Bool) (o : Option ℕ) (i : ℕ) → has_name name slot ≡ b → ((k : ℕ) → o ≡ Some k → slice_get slots k ≡ Some (Some name))
+found_by : (name : List ℕ) (slot : Slot) (slots : List Slot) (b : Bool) (o : Option ℕ) (i : ℕ) → has_name name slot ≡ b → ((k : ℕ) → o ≡ Some k
+    → slice_get slots k ≡ Some (Some name))
     → cond b (Some 0) (option_map suc o) ≡ Some i → slice_get (slot ∷ slots) i ≡ Some (Some name)
 found_by name None slots true o i is later e = absurd (false≢true is)
 found_by name (Some other) slots true o i is later e =
@@ -100,7 +102,8 @@ gone_choice true false o apart = refl
 gone_choice false c o apart = refl
 
 -- a name that another slot has isn't that of a first one
-other_name : (name q : List ℕ) (slot : Slot) (slots : List Slot) (i : ℕ) → slice_get slots i ≡ Some (Some name) → NamesDiffer (slot ∷ slots) → name ≡ q → has_name q slot ≡ false
+other_name : (name q : List ℕ) (slot : Slot) (slots : List Slot) (i : ℕ) → slice_get slots i ≡ Some (Some name) → NamesDiffer (slot ∷ slots)
+    → name ≡ q → has_name q slot ≡ false
 other_name name q None slots i at differ is = refl
 other_name name q (Some m) slots i at differ is =
     false_from_ne_true (bytes_eq m q)
@@ -154,7 +157,8 @@ differ-emptied (slot ∷ slots) zero differ = differ_later slot slots differ
 differ-emptied (None ∷ slots) (suc i) differ = differ-emptied slots i differ
 differ-emptied (Some m ∷ slots) (suc i) differ = (nowhere_emptied m slots i differ.0, differ-emptied slots i differ.1)
 
-pub differ-put : (name : List ℕ) (slots : List Slot) (i : ℕ) → slice_get slots i ≡ Some None → slot_with name slots ≡ None → NamesDiffer slots → NamesDiffer (set slots i (Some name))
+pub differ-put : (name : List ℕ) (slots : List Slot) (i : ℕ) → slice_get slots i ≡ Some None → slot_with name slots ≡ None → NamesDiffer slots
+    → NamesDiffer (set slots i (Some name))
 differ-put name [] i at none differ = tt
 differ-put name (slot ∷ slots) zero at none differ = ((absent name slot slots none).later, differ_later slot slots differ)
 differ-put name (None ∷ slots) (suc i) at none differ = differ-put name slots i at none' differ where
@@ -171,7 +175,8 @@ pub slot_with-push : (q : List ℕ) (slots : List Slot) → slot_with q (slots +
 slot_with-push q [] = refl
 slot_with-push q (slot ∷ slots) = rw (slot_with-push q slots) refl
 
-pub slot_with-push_name : (name q : List ℕ) (slots : List Slot) → slot_with name slots ≡ None → slot_with q (slots ++ Some name ∷ []) ≡ cond (bytes_eq name q) (Some (length slots)) (slot_with q slots)
+pub slot_with-push_name : (name q : List ℕ) (slots : List Slot) → slot_with name slots ≡ None
+    → slot_with q (slots ++ Some name ∷ []) ≡ cond (bytes_eq name q) (Some (length slots)) (slot_with q slots)
 slot_with-push_name name q [] none = refl
 slot_with-push_name name q (slot ∷ slots) none =
     let a = absent name slot slots none in

@@ -46,7 +46,8 @@ same_some slot new e some = some_by new (name_of slot) (e ∙ some_name slot som
 -- ---- one comparison more
 
 -- a name that is below stands before where the other belongs, and all before it do
-pub below_more : (slot : ℕ → Slot) (order : List ℕ) (name : List ℕ) (middle : ℕ) → IsOrder slot order → middle < length order → IsLess (nth_name slot order middle) name
+pub below_more : (slot : ℕ → Slot) (order : List ℕ) (name : List ℕ) (middle : ℕ) → IsOrder slot order → middle < length order
+    → IsLess (nth_name slot order middle) name
     → (k : ℕ) → k < middle + 1 → IsLess (nth_name slot order k) name
 below_more slot order name middle is lt less k before =
     elim (cases_lt k middle) [
@@ -90,7 +91,8 @@ order_same slot new order is same = record {
 -- ---- a name that isn't there is put into an empty slot
 
 module _ (slot new : ℕ → Slot) (order : List ℕ) (at n : ℕ) (name : List ℕ)
-    (is : IsOrder slot order) (empty : slot n ≡ None) (put : new n ≡ Some name) (others : (k : ℕ) → k ≢ n → new k ≡ slot k) (gap : IsGap slot order name at) where
+    (is : IsOrder slot order) (empty : slot n ≡ None) (put : new n ≡ Some name) (others : (k : ℕ) → k ≢ n
+    → new k ≡ slot k) (gap : IsGap slot order name at) where
   put-kept : (k : ℕ) → k < length order → new (nth order k) ≡ slot (nth order k)
   put-kept k lt = others (nth order k) (λ e. none_by (slot (nth order k)) (ap slot e ∙ empty) (is.named k lt))
 
@@ -136,13 +138,16 @@ module _ (slot new : ℕ → Slot) (order : List ℕ) (at n : ℕ) (name : List 
                   let behind = ap name_of (put-above (k - 1) k (omega (arith, from, ne)) (omega (arith, from, ne)) (omega (arith, from, ne, within))) in
                   let last : k - 1 < length order = omega (arith, from, ne, within) in
                   elim (cases_lt j at) [
-                    | inl before ↦ less (nth_name slot order j) (nth_name slot order (k - 1)) (ap name_of (put-below j before)) behind (is.rising j (k - 1) (omega (arith, before, from, ne)) last)
+                    | inl before ↦ less (nth_name slot order j) (nth_name slot order (k - 1)) (ap name_of (put-below j before)) behind (is.rising j
+                        (k - 1) (omega (arith, before, from, ne)) last)
                     | inr from' ↦
                         elim (cases_eq j at) [
-                          | inl same ↦ less name (nth_name slot order (k - 1)) (ap name_of (put-here j same)) behind (gap.above (k - 1) (omega (arith, from, ne)) last)
+                          | inl same ↦ less name (nth_name slot order (k - 1)) (ap name_of (put-here j same)) behind (gap.above (k - 1) (omega
+                              (arith, from, ne)) last)
                           | inr ne' ↦
                               less (nth_name slot order (j - 1)) (nth_name slot order (k - 1))
-                              (ap name_of (put-above (j - 1) j (omega (arith, from', ne')) (omega (arith, from', ne')) (omega (arith, from', ne', lt, within)))) behind
+                              (ap name_of (put-above (j - 1) j (omega (arith, from', ne')) (omega (arith, from', ne')) (omega
+                              (arith, from', ne', lt, within)))) behind
                               (is.rising (j - 1) (k - 1) (omega (arith, from', ne', lt)) last)
                         ]
                   ]

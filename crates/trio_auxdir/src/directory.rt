@@ -45,7 +45,11 @@ impl Model for HashedDir {
 
     ghost Value = { Directory };
 
-    ghost view = { λ d. record { inodes = d.inodes; slots = d.slots.items; room = record { slots = min (vec_capacity d.slots) (2 ^ 32); names = spare d.order } } };
+    ghost view = { λ d. record {
+      inodes = d.inodes;
+      slots = d.slots.items;
+      room = record { slots = min (vec_capacity d.slots) (2 ^ 32); names = spare d.order };
+    } };
 
     ghost invariant = { λ d. IsKept d.slots.items d.order.items d.first };
 }
@@ -146,9 +150,13 @@ impl HashedDir {
         requires slot { place.slot < 16 }
         requires empty { slice_get self.old.slots (slot_number place) ≡ Some None }
         requires room { 0 < self.old.room.names }
-        ensures added { self.new ≡ record self.old { slots = slice_set self.old.slots (slot_number place) (Some name); room = record self.old.room { names = self.new.room.names } } }
+        ensures added { self.new ≡ record self.old {
+          slots = slice_set self.old.slots (slot_number place) (Some name);
+          room = record self.old.room { names = self.new.room.names };
+        } }
         ensures names { self.old.room.names ≤ self.new.room.names + 1 }
-        ensures found { (other : List ℕ) → place_of other self.new.slots ≡ (if bytes_eq name other then Some place else place_of other self.old.slots) }
+        ensures found { (other : List ℕ) → place_of other self.new.slots ≡
+            (if bytes_eq name other then Some place else place_of other self.old.slots) }
     {
         let number = place.number();
         put_name(&mut self.slots, &mut self.order, number, name);
@@ -160,9 +168,13 @@ impl HashedDir {
     /// Tells that the slot of a name that is there was emptied. Takes no memory.
     pub fn remove(&mut self, name: &Name)
         requires there { IsSome (place_of name.now self.old.slots) }
-        ensures removed { self.new ≡ record self.old { slots = with_slot (place_of name.now self.old.slots) None self.old.slots; room = record self.old.room { names = self.new.room.names } } }
+        ensures removed { self.new ≡ record self.old {
+          slots = with_slot (place_of name.now self.old.slots) None self.old.slots;
+          room = record self.old.room { names = self.new.room.names };
+        } }
         ensures names { self.old.room.names ≤ self.new.room.names }
-        ensures found { (other : List ℕ) → place_of other self.new.slots ≡ (if bytes_eq name.now other then None else place_of other self.old.slots) }
+        ensures found { (other : List ℕ) → place_of other self.new.slots ≡
+            (if bytes_eq name.now other then None else place_of other self.old.slots) }
     {
         let number = clear_name(&mut self.slots, &mut self.order, name);
         self.first = self.first.min(number);
@@ -174,9 +186,13 @@ impl HashedDir {
         requires there { IsSome (place_of from.now self.old.slots) }
         requires new { place_of to self.old.slots ≡ None }
         requires room { 0 < self.old.room.names }
-        ensures renamed { self.new ≡ record self.old { slots = with_slot (place_of from.now self.old.slots) (Some to) self.old.slots; room = record self.old.room { names = self.new.room.names } } }
+        ensures renamed { self.new ≡ record self.old {
+          slots = with_slot (place_of from.now self.old.slots) (Some to) self.old.slots;
+          room = record self.old.room { names = self.new.room.names };
+        } }
         ensures names { self.old.room.names ≤ self.new.room.names + 1 }
-        ensures found { (other : List ℕ) → place_of other self.new.slots ≡ (if bytes_eq to other then place_of from.now self.old.slots else (if bytes_eq from.now other then None else place_of other self.old.slots)) }
+        ensures found { (other : List ℕ) → place_of other self.new.slots ≡
+            (if bytes_eq to other then place_of from.now self.old.slots else (if bytes_eq from.now other then None else place_of other self.old.slots)) }
     {
         let number = clear_name(&mut self.slots, &mut self.order, from);
         put_name(&mut self.slots, &mut self.order, number, to);

@@ -55,7 +55,8 @@ by_page core page used last i (Some p) is e =
       bytes = p;
       there = is;
       numbers = ap (λ (j : Index). j.numbers) (sym t.1);
-      within = ap (λ (j : Index). list_all (is_core core.range) j.numbers) (sym t.1) ∙ (and_parts (length x.numbers == used) (list_all (is_core core.range) x.numbers) both).1;
+      within = ap (λ (j : Index). list_all (is_core core.range) j.numbers) (sym t.1)
+          ∙ (and_parts (length x.numbers == used) (list_all (is_core core.range) x.numbers) both).1;
     }
 
 -- ---- one step of a chain
@@ -67,11 +68,13 @@ record Step (page : ℕ) (r : Result Index Location) (q : Index → Result Chain
   later : q index ≡ Ok rest
   same : with_index page index rest ≡ c
 
-by_rest : (page : ℕ) (i : Index) (q : Index → Result Chain Location) (d : Result Chain Location) (c : Chain) → q i ≡ d → result_map (with_index page i) d ≡ Ok c → Step page (Ok i) q c
+by_rest : (page : ℕ) (i : Index) (q : Index → Result Chain Location) (d : Result Chain Location) (c : Chain) → q i ≡ d
+    → result_map (with_index page i) d ≡ Ok c → Step page (Ok i) q c
 by_rest page i q (Err place) c is e = absurd cc
 by_rest page i q (Ok d) c is e = record { index = i; rest = d; first = refl; later = is; same = same_ok (with_index page i d) c e }
 
-by_step : (page : ℕ) (r : Result Index Location) (q : Index → Result Chain Location) (c : Chain) → result_then (λ i. result_map (with_index page i) (q i)) r ≡ Ok c → Step page r q c
+by_step : (page : ℕ) (r : Result Index Location) (q : Index → Result Chain Location) (c : Chain)
+    → result_then (λ i. result_map (with_index page i) (q i)) r ≡ Ok c → Step page r q c
 by_step page (Err place) q c e = absurd cc
 by_step page (Ok i) q c e = by_rest page i q (q i) c refl e
 
@@ -79,7 +82,8 @@ by_step page (Ok i) q c e = by_rest page i q (q i) c refl e
 
 numbers_in-tabulated : (n : ℕ) (bytes : List ℕ) → numbers_in n bytes ≡ tabulated (λ k. number_at w64 (8 * k) bytes) n
 numbers_in-tabulated n bytes =
-    ext_get_or 0 (numbers_in n bytes) (tabulated (λ k. number_at w64 (8 * k) bytes) n) (length-numbers_in n bytes ∙ sym (tabulated-length (λ k. number_at w64 (8 * k) bytes) n))
+    ext_get_or 0 (numbers_in n bytes) (tabulated (λ k. number_at w64 (8 * k) bytes) n) (length-numbers_in n bytes
+    ∙ sym (tabulated-length (λ k. number_at w64 (8 * k) bytes) n))
     (λ i lt.
     let within : i < n = omega (arith, lt, length-numbers_in n bytes) in
     numbers_in-at n i bytes within ∙ sym (tabulated-get (λ k. number_at w64 (8 * k) bytes) n i 0 within))
@@ -103,15 +107,18 @@ first_numbers p ps k lt = block_number-at (p ∷ ps) k k 0 (omega (arith, lt)) (
 later_numbers : (p : List ℕ) (ps : List (List ℕ)) (i k : ℕ) → i ≡ 511 + k → block_number (p ∷ ps) i ≡ block_number ps k
 later_numbers p ps i k e = block_number-at (p ∷ ps) i (k % 511) (suc (k / 511)) (omega (arith, e)) (omega (arith, e))
 
-named_join : (range : CoreRange) (p : List ℕ) (ps : List (List ℕ)) (blocks : ℕ) (numbers rest : List ℕ) → range.end ≤ 2 ^ 32 → numbers ≡ numbers_in (min blocks 511) p
+named_join : (range : CoreRange) (p : List ℕ) (ps : List (List ℕ)) (blocks : ℕ) (numbers rest : List ℕ) → range.end ≤ 2 ^ 32
+    → numbers ≡ numbers_in (min blocks 511) p
     → list_all (is_core range) numbers ≡ true → Named rest (blocks - 511) ps → Named (numbers ++ rest) blocks (p ∷ ps)
 named_join range p ps blocks numbers rest small is within later =
     let u : ℕ = min blocks 511 in
     let r : ℕ = blocks - 511 in
     let F : ℕ → ℕ = block_number (p ∷ ps) in
     let e : blocks ≡ u + r = omega arith in
-    let front : numbers ≡ tabulated F u = is ∙ numbers_in-tabulated u p ∙ tabulated-same_below F (λ k. number_at w64 (8 * k) p) u (λ k lt. sym (first_numbers p ps k (omega (arith, lt)))) in
-    let back : rest ≡ tabulated (λ k. F (u + k)) r = later.is ∙ tabulated-same_below (λ k. F (u + k)) (block_number ps) r (λ k lt. sym (later_numbers p ps (u + k) k (omega (arith, lt)))) in
+    let front : numbers ≡ tabulated F u = is ∙ numbers_in-tabulated u p
+    ∙ tabulated-same_below F (λ k. number_at w64 (8 * k) p) u (λ k lt. sym (first_numbers p ps k (omega (arith, lt)))) in
+    let back : rest ≡ tabulated (λ k. F (u + k)) r = later.is
+    ∙ tabulated-same_below (λ k. F (u + k)) (block_number ps) r (λ k lt. sym (later_numbers p ps (u + k) k (omega (arith, lt)))) in
     record {
       is = ap (λ (x : List ℕ). x ++ rest) front ∙ ap (λ (x : List ℕ). tabulated F u ++ x) back ∙ sym (tabulated-add F u r) ∙ ap (tabulated F) (sym e);
       names = record {

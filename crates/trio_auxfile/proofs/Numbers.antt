@@ -46,7 +46,8 @@ unfolding block_index
 blocks_cut n m old new le same = tabulated-same_below (block_number old) (block_number new) m same ∙ sym (take-tabulated (block_number old) m n le)
 
 -- a number at another place of the same page
-other_place : (a b number : ℕ) (page : List ℕ) → length page ≡ 4096 → a < 511 → b < 511 → b ≢ a → number_at w64 (8 * b) (with_number w64 (8 * a) number page) ≡ number_at w64 (8 * b) page
+other_place : (a b number : ℕ) (page : List ℕ) → length page ≡ 4096 → a < 511 → b < 511 → b ≢ a
+    → number_at w64 (8 * b) (with_number w64 (8 * a) number page) ≡ number_at w64 (8 * b) page
 other_place a b number page len la lb ne =
     elim (cases_lt b a) [
       | inl below ↦ number_at-below w64 w64 (8 * a) (8 * b) number page (omega (arith, len, la)) (omega arith)

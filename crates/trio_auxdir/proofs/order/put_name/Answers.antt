@@ -23,4 +23,5 @@ returns-clause-index c =
     let gap = rw (c.unwrap_err-at.ensures, c.deref.ensures.value, c.deref-2.ensures.value) at c.position.ensures.absent in
     let inserted = rw c.unwrap.ensures at c.insert-inserted.ensures.items in
     rw inserted
-    (index_put c.args.slots.now.items c.args.order.now.items c.args.number c.unwrap_err-at.result c.args.name c.requires.index c.requires.empty c.requires.new gap)
+    (index_put c.args.slots.now.items c.args.order.now.items c.args.number c.unwrap_err-at.result c.args.name c.requires.index c.requires.empty
+    c.requires.new gap)

@@ -12,7 +12,8 @@ first_from-self-inside-requires c =
 pub invariant_of-self-else-number-self : goal.invariant_of-self-else-number-self
 invariant_of-self-else-number-self c =
     let empty = rw (← c.number-number.ensures, ← c.self.view_is) at c.requires.empty in
-    kept_put c.self.inside.slots.items c.put_name.new.slots.items c.self.inside.order.items c.put_name.new.order.items c.self.inside.first c.number-number.result c.args.name
+    kept_put c.self.inside.slots.items c.put_name.new.slots.items c.self.inside.order.items c.put_name.new.order.items c.self.inside.first
+    c.number-number.result c.args.name
     c.self.invariant empty c.if-number-self.false c.put_name.ensures.slots c.put_name.ensures.index
 
 pub returns-then-number-self-clause-found : goal.returns-then-number-self-clause-found

@@ -6,7 +6,9 @@ pub invariant_of-self : goal.invariant_of-self
 invariant_of-self c =
     let room = rw (← c.self.view_is) at c.requires.room in
     let few : length c.self.inside.slots.items + 16 ≤ 2 ^ 32 = omega (arith, room) in
-    kept_empties c.self.inside.slots.items c.add_empties.new.slots.items c.self.inside.order.items c.self.inside.first c.self.invariant c.add_empties.ensures.slots few
+    kept_empties c.self.inside.slots.items c.add_empties.new.slots.items c.self.inside.order.items c.self.inside.first c.self.invariant
+    c.add_empties.ensures.slots few
 
 pub returns-clause-found : goal.returns-clause-found
-returns-clause-found c = λ name. rw (← c.self.view_is) (place_of-empties c.self.inside.slots.items c.add_empties.new.slots.items 16 name c.add_empties.ensures.slots)
+returns-clause-found c =
+    λ name. rw (← c.self.view_is) (place_of-empties c.self.inside.slots.items c.add_empties.new.slots.items 16 name c.add_empties.ensures.slots)
