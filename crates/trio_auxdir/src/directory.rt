@@ -72,13 +72,14 @@ impl HashedDir {
     }
 
     /// Tells of one further block, with its entries: each of its slots is in the grammar, and its
-    /// names differ from each other and from those that are there. With [`NoMemory`] nothing was
-    /// told.
+    /// names differ from each other and from those that are there. Where there is room for 16 slots
+    /// and as many names already, the answer is `Ok`. With [`NoMemory`] nothing was told.
     pub fn scan(&mut self, block: &Page) -> Result<(), NoMemory>
         requires read { IsTrue (is_directory_page self.old.inodes block.now) }
         requires differ { NamesDiffer (self.old.slots ++ slots_on self.old.inodes block.now) }
         ensures told { OnOk result (self.new ≡ record self.old { slots = self.old.slots ++ slots_on self.old.inodes block.now; room = self.new.room }) }
         ensures kept { OnErr result (self.new ≡ record self.old { room = self.new.room }) }
+        ensures succeeds { length self.old.slots + 16 ≤ self.old.room.slots → 16 ≤ self.old.room.names → IsOk result }
     {
         if self.slots.len() > SLOT_LIMIT - 16 {
             return Err(NoMemory);
