@@ -1,5 +1,6 @@
 pub mod Counts
 pub mod Others
+pub mod Steps
 pub mod Namings
 pub mod Climbing
 pub mod Edges

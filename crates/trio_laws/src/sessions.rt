@@ -3,7 +3,7 @@
 ghost use Rattle.trio_laws.specs.session.Bundles.{EdgesFollow, NowIsListed, ShownSpares};
 ghost use Rattle.trio_laws.specs.session.Calls.{CallKeeps, LookKeeps, NothingIsReady};
 ghost use Rattle.trio_laws.specs.session.Grants.{HoldShows, LeaseShows};
-ghost use Rattle.trio_laws.specs.session.Others.{AgreesIsStable, AgreesThrough};
+ghost use Rattle.trio_laws.specs.session.Others.{AgreesIsStable, AgreesThrough, MovesLeaveLeases, StepLeavesLeases};
 ghost use Rattle.trio_laws.specs.session.Settles.{
   AcceptedIsShown,
   PlacesStay,
@@ -24,6 +24,13 @@ pub fn leases_show()
 pub fn others_leave_leases()
     ensures law { AgreesIsStable }
     ensures through { AgreesThrough }
+{}
+
+/// A step of another library, whatever that hands in, leaves what leases show: their grants are
+/// open, the nodes agree and the rows name the slots; and so do any moves of others.
+pub fn moves_leave_leases()
+    ensures step { StepLeavesLeases }
+    ensures moves { MovesLeaveLeases }
 {}
 
 /// Where a bundle shows one tree in the place of another, it meets the rule on the edges of the tree.

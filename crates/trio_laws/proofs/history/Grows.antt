@@ -142,7 +142,7 @@ does_whole s k (Release lib b) answer s' d w = release_whole s lib b answer s' d
 does_whole s k (Settle lib b) answer s' d w = ends_whole s lib b (next (settled s) b) s' d.3 w
 does_whole s k (SetMode lib ino mode) answer s' d w = subst LentWhole (sym d.1) (mode_whole s ino mode (mode_fault s lib ino mode (row_at s.home ino)) w)
 
-step_whole : (s : State) (k : Kept s) (event : Event) (answer : CtlAnswer) (s' : State) → Step s event answer s' → LentWhole s → LentWhole s'
+pub step_whole : (s : State) (k : Kept s) (event : Event) (answer : CtlAnswer) (s' : State) → Step s event answer s' → LentWhole s → LentWhole s'
 step_whole s k event answer s' (inl does) w = does_whole s k event answer s' does w
 step_whole s k event answer s' (inr none) w = subst LentWhole (sym none.2) w
 

@@ -206,7 +206,7 @@ module _ (nodes : Nodes) (grants : List Standing) (lib : ℕ) (sizes : Sizes) (r
       (λ h i. (let x = rights_there (rights_in h.kind h.body) (node_at nodes h.ino) (a.holds h i).rights in spare h.ino x.0 x.1 (stand.holds h i)))
       a
 
-  raw_agrees : (creds : Creds) (by : ℕ) (nodes' : Nodes) → (by ≡ lib → ⊥) → NoHoldOnRoot grants → IsWithinGrants grants creds by nodes nodes' → Agrees sizes root lent nodes'
+  pub raw_agrees : (creds : Creds) (by : ℕ) (nodes' : Nodes) → (by ≡ lib → ⊥) → NoHoldOnRoot grants → IsWithinGrants grants creds by nodes nodes' → Agrees sizes root lent nodes'
   raw_agrees creds by nodes' other no_hold w =
       agrees_spared nodes' root_rights (λ n x y e f. w.rights n x y e f)
       (λ n x e s. spared_by grants by nodes nodes' n x e (others_here grants lib by n other s) w.others)
