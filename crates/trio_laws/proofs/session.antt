@@ -9,6 +9,7 @@ pub mod Listed
 pub mod Rows
 pub mod Leases
 pub mod Accepting
+pub mod Moments
 pub mod Calls
 pub mod AcceptedNames
 pub mod AcceptedBytes

@@ -6,8 +6,11 @@ ghost use Rattle.trio_laws.specs.session.Grants.{HoldShows, LeaseShows};
 ghost use Rattle.trio_laws.specs.session.Others.{AgreesIsStable, AgreesThrough, MovesLeaveLeases, StepLeavesLeases};
 ghost use Rattle.trio_laws.specs.session.Settles.{
   AcceptedIsShown,
+  MomentLasts,
+  MomentLastsBack,
   PlacesStay,
   ReadyIsAccepted,
+  ReadyIsAcceptedThrough,
   ReadyIsLegal,
   SettleEndsInCalls,
 };
@@ -48,9 +51,18 @@ pub fn now_is_listed()
     ensures law { NowIsListed }
 {}
 
-/// What is ready is accepted, in every kept state whose nodes and rows agree with the leases.
+/// A state whose nodes and rows agree with what a library hands in goes on to agree through every step
+/// of others, and as the library gives back its read leases.
+pub fn moment_lasts()
+    ensures others { MomentLasts }
+    ensures back { MomentLastsBack }
+{}
+
+/// What is ready is accepted, in every kept state whose nodes and rows agree with the leases; and so it
+/// is after any moves of others.
 pub fn ready_is_accepted()
     ensures law { ReadyIsAccepted }
+    ensures through { ReadyIsAcceptedThrough }
 {}
 
 /// What an accepted bundle makes of the nodes is just what it shows; and it leaves the places of

@@ -92,7 +92,7 @@ does_creds s (Release lib b) answer s' d = release_creds s lib b answer s' d
 does_creds s (Settle lib b) answer s' d = d.3.creds
 does_creds s (SetMode lib ino mode) answer s' d = ap (λ (x : State). x.creds) d.1 ∙ mode_creds s ino mode (mode_fault s lib ino mode (row_at s.home ino))
 
-step_creds : (s : State) (event : Event) (answer : CtlAnswer) (s' : State) → Step s event answer s' → s'.creds ≡ s.creds
+pub step_creds : (s : State) (event : Event) (answer : CtlAnswer) (s' : State) → Step s event answer s' → s'.creds ≡ s.creds
 step_creds s event answer s' (inl does) = does_creds s event answer s' does
 step_creds s event answer s' (inr none) = ap (λ (x : State). x.creds) none.2
 

@@ -1,5 +1,5 @@
 -- What a settle comes to: what is ready is accepted, and ends in the nodes in which its calls end.
-use Rattle.std.specs.Prelude.{◌≡◌, ℕ, List, Some, IsTrue}
+use Rattle.std.specs.Prelude.{◌≡◌, ◌≢◌, ℕ, List, map, Some, IsTrue}
 use Rattle.trio_rights.specs.Row.{Row}
 use Rattle.trio_rights.specs.Bundle.{Bundle}
 use Rattle.trio_lists.specs.Lists.{In}
@@ -13,17 +13,21 @@ use Rattle.trio_nodes.specs.Nodes.{node_at, SameNodes}
 use Rattle.trio_nodes.specs.After.{batch_nodes}
 use Rattle.trio_nodes.specs.Legal.{LegalBatch}
 use Rattle.trio_state.specs.State.{OpenGrant, State, settled, creds_of}
-use Rattle.trio_state.specs.Given.{HasNoRead}
+use Rattle.trio_state.specs.Given.{GivenEvent, HasNoRead}
 use Rattle.trio_state.specs.Bundles.{Ends}
-use Rattle.trio_state.specs.Step.{Step, Settle, Settled}
+use Rattle.trio_state.specs.Run.{Move, Trace}
+use Rattle.trio_state.specs.Step.{Event, Back, Settle, CtlAnswer, Settled, Step}
 use Rattle.trio_state.specs.Tells.{case_in}
 use Rattle.trio_desk.specs.Out.{Parcel}
-use Rattle.trio_desk.specs.Agrees.{Agrees, HasPlaces}
+use Rattle.trio_desk.specs.Agrees.{Agrees, AllStand, HasPlaces}
 use Rattle.trio_desk.specs.Shows.{node_now}
 use Rattle.trio_desk.specs.Ready.{Library, Ready, bundle_of, leases_in}
 use Rattle.trio_desk.specs.Among.{IsForeign}
+use Rattle.trio_laws.specs.Laws.{library_of}
 use Rattle.trio_laws.specs.RuleLaws.{IsJudgeable}
-use Rattle.trio_laws.specs.history.Stands.{nodes_of, past_of}
+use Rattle.trio_laws.specs.history.Recorded.{LentWhole}
+use Rattle.trio_laws.specs.history.Stands.{nodes_of, past_of, standing_of}
+use Rattle.trio_laws.specs.session.Others.{state_after}
 
 -- a hold is that of an open grant, with the body that this lent
 pub record WasHeld (s : State) (h : HoldParts) : Type 0 where
@@ -55,6 +59,30 @@ ReadyIsAccepted =
     (s : State) (library : Library) (b : Parcel) (back : List Shown) (calls : List Done)
     → IsMoment s library b back → Ready library b back calls
     → IsTrue (is_accepted (settled s) (creds_of s (lib_of library)) (bundle_of b))
+
+-- Such a moment lasts through a step of another library, as long as the grants of the leases are open, and these stay open.
+abbrev pub MomentLasts : Type 0
+MomentLasts =
+    (s : State) (event : Event) (answer : CtlAnswer) (s' : State) (library : Library) (b : Parcel) (back : List Shown)
+    → LentWhole s → GivenEvent s event → Step s event answer s' → library_of event ≢ lib_of library
+    → AllStand (map standing_of s.open_grants) (lib_of library) (leases_in b back) → IsMoment s library b back
+    → IsMoment s' library b back × AllStand (map standing_of s'.open_grants) (lib_of library) (leases_in b back)
+
+-- And through the library's own giving back of a read lease, which comes before a settle.
+abbrev pub MomentLastsBack : Type 0
+MomentLastsBack =
+    (s : State) (ino : ℕ) (answer : CtlAnswer) (s' : State) (library : Library) (b : Parcel) (back : List Shown)
+    → GivenEvent s (Back (lib_of library) ino) → Step s (Back (lib_of library) ino) answer s'
+    → IsMoment s library b back → IsMoment s' library b back
+
+-- So what is ready is accepted whatever moves of others come between.
+abbrev pub ReadyIsAcceptedThrough : Type 0
+ReadyIsAcceptedThrough =
+    (s : State) (moves : List Move) (library : Library) (b : Parcel) (back : List Shown) (calls : List Done)
+    → IsMoment s library b back → AllStand (map standing_of s.open_grants) (lib_of library) (leases_in b back) → LentWhole s
+    → Trace s moves → ((m : Move) → In m moves → library_of m.event ≢ lib_of library) → Ready library b back calls
+    → let end = state_after s moves in
+    IsTrue (is_accepted (settled end) (creds_of end (lib_of library)) (bundle_of b))
 
 -- What an accepted bundle makes of the nodes, by a settle or by a release: just what it shows.
 abbrev pub AcceptedIsShown : Type 0
