@@ -1,1 +1,9 @@
 pub mod Pages
+pub mod Reading
+pub mod Finding
+pub mod Adding
+pub mod FileLemmas
+pub mod EntryLemmas
+pub mod LentLemmas
+pub mod Turns
+pub mod Judged

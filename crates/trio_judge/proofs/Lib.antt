@@ -9,7 +9,7 @@ mod OwnPages
 mod FileNoted
 mod Visiting
 mod Ending
-mod Sorted
+pub mod Sorted
 mod Starting
 mod FoundAgain
 pub mod Gathers

@@ -21,12 +21,13 @@ use Rattle.trio_layout.specs.Case.{bundle_core}
 use Rattle.trio_layout.specs.Range.{is_core}
 use Rattle.trio_judge.specs.Cases.{CaseShown, IsCase, case_in}
 use Rattle.trio_judge.specs.Places.{bytes_at, number_at}
-use Rattle.trio_judge.specs.Rooms.{kept_page, looks_left, IsKept, IsRoomFor, IsUnread, Keeps}
+use Rattle.trio_judge.specs.Rooms.{kept_page, looks_left, IsKept, IsRoomFor, IsUnread, Keeps, KeepsPages}
 use Rattle.trio_judge.specs.declared.kept.KeptPages.{KeptPages}
 use Rattle.trio_judge.specs.declared.kept.KeptPage.{KeptPage}
 use Rattle.trio_judge.specs.declared.places.PagePlace.{PagePlace}
 use Rattle.trio_judge.specs.declared.places.PagePlace.TheVariants.{Index, Block, Fresh}
 use Rattle.trio_judge.specs.declared.room.PageRoom.{PageRoom}
+use Rattle.trio_judge.specs.inner.Unread.{IsUnreadOf}
 use Rattle.trio_judge.proofs.Ordered.{not_ordered, order_length, order_rises, placed}
 
 -- ---- pages put in place
@@ -157,26 +158,31 @@ module _ (k : CaseShown) (is : IsCase k.bundle k.range k.inodes) where
         index = rw u.index tt;
       }
 
-  module _ (room : PageRoom) (made : IsRoomFor k room) where
+  -- what is kept of pages of which nothing was read yet
+  module _ (kept : KeptPages) (made : IsUnreadOf k.bundle kept) where
     abbrev own : List ℕ
     own = bundle_pages (bundle_in k.bundle)
 
-    numbered_at : (page : ℕ) (o : Option KeptPage) → MatchOption o (is_among page room.kept.order.items ≡ false) (λ p. p.no ≡ page) → MatchOption o (page_of (bundle_core (case_in k)) page ≡ None) (λ p. p.no ≡ page)
+    numbered_at : (page : ℕ) (o : Option KeptPage) → MatchOption o (is_among page kept.order.items ≡ false) (λ p. p.no ≡ page) → MatchOption o (page_of (bundle_core (case_in k)) page ≡ None) (λ p. p.no ≡ page)
     numbered_at page None h = absent page (not_ordered page own (rw made.order at h))
     numbered_at page (Some p) h = h
 
-    each_at : (at : ℕ) (o : Option KeptPage) → slice_get room.kept.pages.items at ≡ o → MatchOption o ⊤ (IsKept k room.kept)
+    each_at : (at : ℕ) (o : Option KeptPage) → slice_get kept.pages.items at ≡ o → MatchOption o ⊤ (IsKept k kept)
     each_at at None e = tt
-    each_at at (Some p) e = kept_unread room.kept p (made.each p (In-slice_get room.kept.pages.items at p e))
+    each_at at (Some p) e = kept_unread kept p (made.each p (In-slice_get kept.pages.items at p e))
 
+    pub keeps_unread : KeepsPages k kept
+    keeps_unread = record {
+      order = made.order;
+      rising = rw made.order (order_rises own is.pages);
+      numbered = λ page. numbered_at page (kept_page kept page) (rw made.numbers at (placed kept.pages.items page));
+      each = λ at. each_at at (slice_get kept.pages.items at) refl;
+    }
+
+  module _ (room : PageRoom) (made : IsRoomFor k room) where
     pub room_keeps : Keeps k room
     room_keeps = record {
-      pages = record {
-        order = made.order;
-        rising = rw made.order (order_rises own is.pages);
-        numbered = λ page. numbered_at page (kept_page room.kept page) (rw made.numbers at (placed room.kept.pages.items page));
-        each = λ at. each_at at (slice_get room.kept.pages.items at) refl;
-      };
+      pages = keeps_unread room.kept (record { order = made.order; numbers = made.numbers; each = made.each });
       space = made.space;
       first = ltb-true 0 k.range.first is.first;
     }

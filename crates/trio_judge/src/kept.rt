@@ -83,6 +83,19 @@ impl KeptPages {
         })
     }
 
+    /// The pages of a bundle, none of which was read yet, without a place for what they may say.
+    pub fn unread(alloc: Global, bundle: &Bundle) -> Result<KeptPages, NoMemory>
+        ensures { IfOk result (λ kept. IsUnreadOf bundle.now kept) }
+    {
+        let pages = sorted_pages(alloc, bundle)?;
+        Ok(KeptPages {
+            order: numbers_of(alloc, &pages)?,
+            pages,
+            entries: Vec::new(alloc),
+            numbers: Vec::new(alloc),
+        })
+    }
+
     /// The page of this number, and where it stands among the pages. `None` exactly where it is none
     /// of the bundle's.
     pub fn find(&self, no: u32) -> Option<(usize, KeptPage)>

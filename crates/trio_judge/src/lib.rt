@@ -7,6 +7,7 @@
 //!   bundle's pages say, so that none is looked at more than once as a directory block, and once as
 //!   an index page.
 //! - A [`Listing`] is what a bundle proposes, without its pages.
+//! - A [`PageIndex`] finds a page of the bundle by its number.
 #![tactic(auto)]
 
 mod again;
@@ -14,6 +15,7 @@ mod case;
 mod chain;
 mod entries;
 mod file;
+mod index;
 mod kept;
 mod listing;
 mod names;
@@ -27,5 +29,7 @@ mod verdict;
 mod walk;
 
 pub use case::Case;
+pub use index::PageIndex;
 pub use listing::{ListedEntry, ListedFile, Listing, ListingRoom};
+pub use places::PagePlace;
 pub use verdict::{Room, Verdict, judge};

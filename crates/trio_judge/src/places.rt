@@ -10,7 +10,7 @@ use trio_page::{Page, Reads};
 
 /// The place of a page in its bundle.
 #[derive(Clone, Copy)]
-pub(crate) enum PagePlace {
+pub enum PagePlace {
     /// An index page of a write lease: which lease, and which page.
     Index(usize, usize),
     /// A block of a write lease: which lease, and which page.
@@ -28,7 +28,8 @@ pub(crate) fn look<'a>(bundle: &'a Bundle, place: PagePlace, reads: &mut Reads) 
     page_at(bundle, place)
 }
 
-fn page_at(bundle: &Bundle, place: PagePlace) -> Option<&Page>
+/// The page at this place.
+pub(crate) fn page_at(bundle: &Bundle, place: PagePlace) -> Option<&Page>
     ensures { option_copied result ≡ bytes_at bundle.now place }
 {
     match place {

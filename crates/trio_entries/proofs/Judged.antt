@@ -1,0 +1,58 @@
+-- What the rules on a bundle give of its listing.
+use Rattle.std.proofs.Common.{◌≡◌, ℕ, Bool, true, false, ◌&&◌, List, [], ◌∷◌, map, Option, None, Some, refl, sym, ap, ◌∙◌, subst}
+use Rattle.std.specs.Prelude.{is_some, slice_index_or}
+use Rattle.std.specs.List.{list_all}
+use Rattle.std.proofs.lemmas.Bool.{and_parts}
+use Rattle.trio_rights.specs.Bundle.{bundle_pages}
+use Rattle.trio_rights.specs.Row.{Row, row_in}
+use Rattle.trio_rights.specs.declared.kind.Kind.{Kind}
+use Rattle.trio_lists.specs.Lists.{In, are_new, is_among}
+use Rattle.trio_lists.proofs.Members.{list_all-In}
+use Rattle.trio_lease.specs.Shown.{LentFile}
+use Rattle.trio_layout.specs.Allowed.{has_kind}
+use Rattle.trio_layout.specs.Case.{Case}
+use Rattle.trio_layout.specs.Edges.{meets_edges}
+use Rattle.trio_layout.specs.JudgedFiles.{judged_entries, judged_pages}
+use Rattle.trio_layout.specs.Listing.{Listing, ListedEntry, entry_listed, listing}
+use Rattle.trio_layout.specs.Rules.{entry_is_own, meets_grammar, meets_owning, meets_rights, meets_rules}
+use Rattle.trio_layout.specs.Survey.{Met, numbers}
+use Rattle.trio_judge.specs.Cases.{CaseShown, IsJudgeable, case_in}
+use Rattle.trio_state.specs.Listed.{Notes}
+use Rattle.trio_entries.specs.Telling.{whole_case, AreNoted}
+use Rattle.trio_entries.specs.inner.Finding.{AreWrittenNoted, IsToldBy}
+use Rattle.trio_entries.specs.inner.Slots.{IsReadable}
+use Rattle.trio_entries.proofs.Finding.{find-first}
+use Rattle.trio_entries.proofs.Reading.{listed_readable}
+
+entry_numbers : (c : Case) (ms : List Met) → map (λ (e : ListedEntry). e.ino) (map (entry_listed c) ms) ≡ numbers ms
+entry_numbers c [] = refl
+entry_numbers c (m ∷ ms) = ap (λ ns. m.ino ∷ ns) (entry_numbers c ms)
+
+-- no number is listed twice
+listed_once : (c : Case) → meets_rules c ≡ true → are_new [] (map (λ (e : ListedEntry). e.ino) (listing c).entries) ≡ true
+listed_once c h =
+    let three = (and_parts (meets_grammar c && meets_owning c && meets_edges (listing c) c.rows) (meets_rights c) h).0 in
+    let two = (and_parts (meets_grammar c && meets_owning c) (meets_edges (listing c) c.rows) three).0 in
+    let owning = (and_parts (meets_grammar c) (meets_owning c) two).1 in
+    let once = (and_parts (list_all (λ page. is_among page (bundle_pages c.bundle)) (judged_pages c) && are_new [] (judged_pages c) && list_all (entry_is_own c) (judged_entries c)) (are_new [] (numbers (judged_entries c))) owning).1 in
+    ap (are_new []) (entry_numbers c (judged_entries c)) ∙ once
+
+-- each entry of the listing can be read, and is the first of its number
+pub told_by : (k : CaseShown) (rows : List (Option Row)) (l : Listing) → l ≡ listing (whole_case k rows) → meets_rules (whole_case k rows) ≡ true → IsToldBy k l
+told_by k rows l is h =
+    λ e i.
+    let c = whole_case k rows in
+    let j : In e (listing c).entries = subst (λ (x : Listing). In e x.entries) is i in
+    let r = listed_readable c e j in (
+      record { slot = r.slot; bytes = r.bytes; here = r.here; part = r.part; says = r.says },
+      rw is (find-first (λ (x : ListedEntry). x.ino) (listing c).entries e (listed_once c h) j),
+    )
+
+live : (kind : Kind) (o : Option Row) → has_kind kind o ≡ true → is_some o ≡ true
+live kind None h = absurd cc
+live kind (Some r) h = refl
+
+-- the written files are live, and so noted
+pub written_noted : (k : CaseShown) (rows : List (Option Row)) (notes : Notes) → IsJudgeable k.bundle rows k.range k.inodes → AreNoted rows notes → AreWrittenNoted k notes
+written_noted k rows notes fits noted =
+    λ f i. noted f.stands.ino (live f.stands.kind (row_in rows f.stands.ino) (list_all-In (λ (x : LentFile). has_kind x.stands.kind (row_in rows x.stands.ino)) f k.bundle.writes fits.written i))

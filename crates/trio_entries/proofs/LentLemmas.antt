@@ -1,0 +1,47 @@
+-- The blocks that a file was lent with.
+use Rattle.std.proofs.Common.{◌≡◌, ◌∙◌, ℕ, ◌+◌, eqb, List, [], ◌∷◌, ◌++◌, get_or, map, take, Option, None, Some, ap, refl, sym}
+use Rattle.std.specs.Prelude.{slice_get}
+use Rattle.std.specs.List.{find}
+use Rattle.std.specs.Option.{option_map, option_map_or}
+use Rattle.std.proofs.lemmas.List.{map-append, take_more}
+use Rattle.std.proofs.lemmas.Option.{get_or_from_slice_get, slice_get_within}
+use Rattle.trio_rights.specs.Bundle.{Written}
+use Rattle.trio_rights.specs.Sheets.{sheet_numbers}
+use Rattle.trio_lease.specs.Bundles.{Bundled}
+use Rattle.trio_lease.specs.Shown.{LentFile, no_at}
+use Rattle.trio_lease.specs.Views.{bundle_in, lent_sheet, written_in}
+use Rattle.trio_lease.specs.declared.parts.LentPage.{LentPage}
+use Rattle.trio_state.specs.Listed.{lent_blocks}
+use Rattle.trio_entries.proofs.FileLemmas.{slice_get-map}
+use Rattle.trio_entries.proofs.Finding.{find-map}
+
+abbrev pub block_numbers : List LentPage → List ℕ
+block_numbers pages = map (λ p. p.no.0) pages
+
+sheets_are : (pages : List LentPage) → sheet_numbers (map lent_sheet pages) ≡ block_numbers pages
+sheets_are [] = refl
+sheets_are (p ∷ ps) = ap (λ ns. p.no.0 ∷ ns) (sheets_are ps)
+
+-- by the lease on the file
+pub lent_blocks_are : (b : Bundled) (n : ℕ) → lent_blocks (bundle_in b) n ≡ option_map_or (λ (f : LentFile). block_numbers f.stands.blocks) (find (λ (f : LentFile). eqb f.stands.ino n) b.writes) []
+lent_blocks_are b n =
+    ap (λ o. option_map_or (λ (w : Written). sheet_numbers w.blocks) o []) (find-map (λ (f : LentFile). written_in f.stands) (λ (w : Written). eqb w.ino n) b.writes)
+    ∙ of (find (λ (f : LentFile). eqb f.stands.ino n) b.writes)
+  where
+    of : (o : Option LentFile) → option_map_or (λ (w : Written). sheet_numbers w.blocks) (option_map (λ (f : LentFile). written_in f.stands) o) [] ≡ option_map_or (λ (f : LentFile). block_numbers f.stands.blocks) o []
+    of None = refl
+    of (Some f) = sheets_are f.stands.blocks
+
+-- the number at a position
+pub block_number_at : (pages : List LentPage) (at : ℕ) → slice_get (block_numbers pages) at ≡ option_map (λ no. no.0) (no_at pages at)
+block_number_at pages at = slice_get-map (λ (p : LentPage). p.no.0) pages at ∙ of (slice_get pages at)
+  where
+    of : (o : Option LentPage) → option_map (λ (p : LentPage). p.no.0) o ≡ option_map (λ no. no.0) (option_map (λ (p : LentPage). p.no) o)
+    of None = refl
+    of (Some p) = refl
+
+-- one page more
+pub one_number_more : (pages : List LentPage) (i : ℕ) (p : LentPage) → slice_get pages i ≡ Some p → block_numbers (take (i + 1) pages) ≡ block_numbers (take i pages) ++ p.no.0 ∷ []
+one_number_more pages i p at =
+    ap block_numbers (take_more pages i p (slice_get_within pages i p at)) ∙ map-append (λ (q : LentPage). q.no.0) (take i pages) (get_or pages i p ∷ [])
+    ∙ ap (λ (q : LentPage). block_numbers (take i pages) ++ q.no.0 ∷ []) (get_or_from_slice_get pages i p p at)

@@ -1,0 +1,16 @@
+use Rattle.std.proofs.Common.{◌≡◌, ◌∙◌, Result, Ok, Err, ap, sym, []}
+use Rattle.std.specs.Option.{option_map_or}
+use Rattle.std.proofs.Common.{rules}
+use Rattle.trio_lease.specs.Shown.{LentFile}
+use Rattle.trio_entries.proofs.LentLemmas.{block_numbers, lent_blocks_are}
+use Rattle.trio_entries.proofs.blocks.lent_blocks.Goals as goal
+
+pub returns-in-Some : goal.returns-in-Some
+returns-in-Some c =
+    let lent = lent_blocks_are c.args.case.now.bundle c.args.ino ∙ ap (λ o. option_map_or (λ (f : LentFile). block_numbers f.stands.blocks) o []) (sym c.in-Some.ensures) in
+    rw lent c.lease_blocks.ensures
+
+pub returns-in-None : goal.returns-in-None
+returns-in-None c =
+    let none = lent_blocks_are c.args.case.now.bundle c.args.ino ∙ ap (λ o. option_map_or (λ (f : LentFile). block_numbers f.stands.blocks) o []) (sym c.in-None.ensures) in
+    rw none c.new.ensures.items

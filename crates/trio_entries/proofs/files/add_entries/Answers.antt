@@ -1,0 +1,37 @@
+use Rattle.std.proofs.Common.{◌≡◌, ◌∙◌, ◌++◌, List, get_or, map, sym, ap, subst, arith}
+use Rattle.std.specs.List.{filter_map}
+use Rattle.std.proofs.lemmas.List.{get_or_default, take_all}
+use Rattle.trio_lists.specs.Lists.{In}
+use Rattle.trio_entries.specs.Telling.{whole_case}
+use Rattle.trio_entries.proofs.EntryLemmas.{no_entry}
+use Rattle.trio_entries.proofs.Adding.{added, filter_map-map, get-In}
+use Rattle.trio_lists.proofs.Members.{In-map}
+use Rattle.trio_layout.specs.Listing.{ListedEntry}
+use Rattle.trio_judge.specs.Listed.{entry_seen}
+use Rattle.trio_judge.specs.declared.listing.ListedEntry.{ListedEntry as EntryData}
+use Rattle.trio_state.specs.Listed.{told_entry}
+use Rattle.trio_entries.proofs.files.add_entries.Goals as goal
+
+pub told_entry-file-requires-clause-readable : goal.told_entry-file-requires-clause-readable
+told_entry-file-requires-clause-readable c =
+    let entries = c.entries-entry-items.result.now in
+    let entry = get_or entries c.loop-entry.entry-index no_entry in
+    let item = In-map entry_seen entry entries (get-In entries c.loop-entry.entry-index no_entry c.loop-entry-test.true) in
+    (c.requires.entries (entry_seen entry) (subst (λ (es : List ListedEntry). In (entry_seen entry) es) c.entries-entry-items.ensures item)).0
+
+pub told_entry-file-requires-clause-first : goal.told_entry-file-requires-clause-first
+told_entry-file-requires-clause-first c =
+    let entries = c.entries-entry-items.result.now in
+    let entry = get_or entries c.loop-entry.entry-index no_entry in
+    let item = In-map entry_seen entry entries (get-In entries c.loop-entry.entry-index no_entry c.loop-entry-test.true) in
+    (c.requires.entries (entry_seen entry) (subst (λ (es : List ListedEntry). In (entry_seen entry) es) c.entries-entry-items.ensures item)).1
+
+pub loop-entry-preserved : goal.loop-entry-preserved
+loop-entry-preserved c =
+    added (λ (e : EntryData). told_entry (whole_case c.args.case.now c.args.rows.now) c.args.listing.now.listing c.args.notes.now (entry_seen e)) c.entries-entry-items.result.now c.loop-entry.entry-index (get_or c.entries-entry-items.result.now c.loop-entry.entry-index no_entry) c.args.files.now.items c.loop-entry.files.items c.add.new.files.items c.told_entry-file.result c.loop-entry-test.true (get_or_default c.entries-entry-items.result.now c.loop-entry.entry-index no_entry _ c.loop-entry-test.true) c.loop-entry.invariant c.told_entry-file.ensures c.in_ok-add.ensures
+
+pub returns : goal.returns
+returns c =
+    let F = λ (e : EntryData). told_entry (whole_case c.args.case.now c.args.rows.now) c.args.listing.now.listing c.args.notes.now (entry_seen e) in
+    c.loop-entry.invariant ∙ ap (λ l. c.args.files.now.items ++ filter_map F l) (take_all c.loop-entry.entry-index c.entries-entry-items.result.now (omega arith))
+    ∙ ap (λ l. c.args.files.now.items ++ l) (filter_map-map (told_entry (whole_case c.args.case.now c.args.rows.now) c.args.listing.now.listing c.args.notes.now) entry_seen c.entries-entry-items.result.now ∙ ap (filter_map (told_entry (whole_case c.args.case.now c.args.rows.now) c.args.listing.now.listing c.args.notes.now)) c.entries-entry-items.ensures)

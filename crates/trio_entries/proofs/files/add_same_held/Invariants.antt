@@ -1,0 +1,9 @@
+use Rattle.std.proofs.Common.{◌≡◌, ◌++◌, take}
+use Rattle.std.specs.List.{filter_map}
+use Rattle.trio_state.specs.Listed.{told_same}
+use Rattle.trio_entries.specs.Telling.{whole_case}
+use Rattle.trio_entries.proofs.files.add_same_held.Given as goal
+
+abbrev pub invariant-loop-hold : goal.invariant-loop-hold
+invariant-loop-hold l =
+    l.files.items ≡ l.fn.files.items ++ filter_map (λ h. told_same (whole_case l.case l.rows) l.notes h.ino) (take l.hold-index l.hold-items)

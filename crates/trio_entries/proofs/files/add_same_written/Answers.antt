@@ -1,0 +1,23 @@
+use Rattle.std.proofs.Common.{◌≡◌, ◌∙◌, ◌++◌, List, get_or, map, sym, ap, subst, arith}
+use Rattle.std.specs.List.{filter_map}
+use Rattle.std.proofs.lemmas.List.{take_all}
+use Rattle.trio_lists.specs.Lists.{In}
+use Rattle.trio_entries.specs.Telling.{whole_case}
+use Rattle.trio_entries.proofs.Adding.{added, filter_map-map, get-In}
+use Rattle.trio_lease.specs.Bundles.{Bundled}
+use Rattle.trio_lease.specs.Shown.{LentFile}
+use Rattle.trio_lease.specs.Views.{written_in}
+use Rattle.trio_rights.specs.Bundle.{Written}
+use Rattle.trio_state.specs.Listed.{told_same}
+use Rattle.trio_entries.proofs.files.add_same_written.Goals as goal
+
+pub loop-lease-preserved : goal.loop-lease-preserved
+loop-lease-preserved c =
+    added (λ (f : LentFile). told_same (whole_case c.args.case.now c.args.rows.now) c.args.notes.now f.stands.ino) c.writes-lease-items.result.now c.loop-lease.lease-index c.lease-item.result c.args.files.now.items c.loop-lease.files.items c.add.new.files.items c.told_noted-file.result c.loop-lease-test.true c.lease-item.is c.loop-lease.invariant (c.told_noted-file.ensures ∙ ap (told_same (whole_case c.args.case.now c.args.rows.now) c.args.notes.now) c.ino.ensures) c.in_ok-add.ensures
+
+pub returns : goal.returns
+returns c =
+    let F = λ (f : LentFile). told_same (whole_case c.args.case.now c.args.rows.now) c.args.notes.now f.stands.ino in
+    let all = take_all c.loop-lease.lease-index c.writes-lease-items.result.now (omega arith) ∙ c.writes-lease-items.ensures ∙ ap (λ (b : Bundled). b.writes) c.bundle.ensures.bundle in
+    c.loop-lease.invariant ∙ ap (λ l. c.args.files.now.items ++ filter_map F l) all
+    ∙ ap (λ l. c.args.files.now.items ++ l) (filter_map-map (λ (w : Written). told_same (whole_case c.args.case.now c.args.rows.now) c.args.notes.now w.ino) (λ (f : LentFile). written_in f.stands) c.args.case.now.bundle.writes ∙ filter_map-map (told_same (whole_case c.args.case.now c.args.rows.now) c.args.notes.now) (λ (w : Written). w.ino) (map (λ (f : LentFile). written_in f.stands) c.args.case.now.bundle.writes))

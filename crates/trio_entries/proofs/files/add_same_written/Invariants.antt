@@ -1,0 +1,9 @@
+use Rattle.std.proofs.Common.{◌≡◌, ◌++◌, take}
+use Rattle.std.specs.List.{filter_map}
+use Rattle.trio_state.specs.Listed.{told_same}
+use Rattle.trio_entries.specs.Telling.{whole_case}
+use Rattle.trio_entries.proofs.files.add_same_written.Given as goal
+
+abbrev pub invariant-loop-lease : goal.invariant-loop-lease
+invariant-loop-lease l =
+    l.files.items ≡ l.fn.files.items ++ filter_map (λ f. told_same (whole_case l.case l.rows) l.notes f.stands.ino) (take l.lease-index l.lease-items)

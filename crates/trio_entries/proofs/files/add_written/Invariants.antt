@@ -1,0 +1,10 @@
+use Rattle.std.proofs.Common.{◌≡◌, ◌++◌, take}
+use Rattle.std.specs.List.{filter_map}
+use Rattle.trio_lease.specs.Views.{written_in}
+use Rattle.trio_state.specs.Listed.{told_written}
+use Rattle.trio_entries.specs.Telling.{whole_case}
+use Rattle.trio_entries.proofs.files.add_written.Given as goal
+
+abbrev pub invariant-loop-lease : goal.invariant-loop-lease
+invariant-loop-lease l =
+    l.files.items ≡ l.fn.files.items ++ filter_map (λ f. told_written (whole_case l.case l.rows) l.listing.listing l.notes (written_in f.stands)) (take l.lease-index l.lease-items)

@@ -1,0 +1,7 @@
+use Rattle.std.proofs.Common.{ap, ◌∙◌}
+use Rattle.std.specs.Prelude.{is_some}
+use Rattle.trio_entries.proofs.FileLemmas.{listed_by_dir}
+use Rattle.trio_entries.proofs.told.is_listed.Goals as goal
+
+pub returns : goal.returns
+returns c = c.is_some.ensures ∙ ap is_some c.dir.ensures ∙ listed_by_dir c.args.listing.now.listing c.args.ino

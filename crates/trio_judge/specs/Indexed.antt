@@ -1,0 +1,8 @@
+-- An index of a bundle's pages.
+use Rattle.trio_judge.specs.Cases.{CaseShown}
+use Rattle.trio_judge.specs.Rooms.{KeepsPages}
+use Rattle.trio_judge.specs.declared.index.PageIndex.{PageIndex}
+
+-- the index has each page of the case's bundle at its place
+abbrev pub IsIndexOf : CaseShown → PageIndex → Type 0
+IsIndexOf k index = KeepsPages k index.kept
