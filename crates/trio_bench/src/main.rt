@@ -1,5 +1,5 @@
 //! What a turn costs without others in it, what the judge takes for bundles of many pages, what it
-//! costs to check an image, and what to tell a tree.
+//! costs to check an image, what to tell a tree, and what to keep the index of a directory.
 //!
 //! - `trio_bench turn COUNT` takes a value out of its cell and gives it back COUNT times, and locks a
 //!   `Mutex` of std's with the same value COUNT times, all on one thread, five times over. It prints
@@ -12,6 +12,9 @@
 //!   the bytes of its file, ten times over, and prints how often the second time goes into the first.
 //! - `trio_bench tree` tells trees of 1,000, 4,000 and 16,000 names, as lines and as JSON, each five
 //!   times over, and prints how often the time of the first goes into those of the others.
+//! - `trio_bench names` adds 8,000 names to the index of a directory, finds each, renames it and
+//!   removes it, twenty times over, and prints how often the time of plain names goes into that of
+//!   names which are chosen to be slow.
 //!
 //! It is measured and not proved; the figures of a run are in `docs/GATE.md`.
 #![tactic(auto)]
@@ -22,10 +25,12 @@ ghost use Rattle.trio_turn.specs.Seats.{cell, cell_of, has, IsSameSeat};
 mod bundles;
 mod checking;
 mod judging;
+mod names;
 mod trees;
 
 use crate::checking::{measure_check, write_workload};
 use crate::judging::measure_judge;
+use crate::names::measure_names;
 use crate::trees::measure_tree;
 use std::alloc::Global;
 use std::rt::{Clock, Env};
@@ -119,6 +124,7 @@ enum Asked {
     Turn(u64),
     Judge,
     Tree,
+    Names,
     /// An image of this name is to be written.
     Workload(String),
     /// The image of this name.
@@ -137,6 +143,9 @@ fn read_words<R: Env + AllocGlobal>(rt: &R) -> io::Result<Option<Asked>> {
     }
     if what.as_str() == "tree" {
         return Ok(Some(Asked::Tree));
+    }
+    if what.as_str() == "names" {
+        return Ok(Some(Asked::Names));
     }
     let Some(count) = words.next() else {
         return Ok(None);
@@ -172,11 +181,12 @@ fn main(rt: HostRuntime) -> io::Result<()> {
         Some(Asked::Turn(count)) => measure_turn(&rt, count),
         Some(Asked::Judge) => measure_judge(&rt),
         Some(Asked::Tree) => measure_tree(&rt),
+        Some(Asked::Names) => measure_names(&rt),
         Some(Asked::Workload(name)) => write_workload(&rt, &name),
         Some(Asked::Check(name)) => measure_check(&rt, &name),
         None => {
             println!(rt;
-                "usage: trio_bench turn COUNT\n       trio_bench judge\n       trio_bench workload IMAGE\n       trio_bench check IMAGE\n       trio_bench tree"
+                "usage: trio_bench turn COUNT\n       trio_bench judge\n       trio_bench workload IMAGE\n       trio_bench check IMAGE\n       trio_bench tree\n       trio_bench names"
             )
         }
     }

@@ -5,5 +5,6 @@ pub mod Superblocks
 pub mod Images
 pub mod Refused
 pub mod NodeParts
+pub mod NoteParts
 pub mod Storing
 pub mod Made

@@ -5,14 +5,15 @@ ghost use Rattle.trio_layout.specs.declared.superblock.Superblock.{Superblock};
 ghost use Rattle.trio_survey.specs.Stored.{image_in, HasSuperblock};
 ghost use Rattle.trio_image.specs.Counts.{counts_of};
 ghost use Rattle.trio_image.specs.Image.{IsVerified, TablesAre};
-ghost use Rattle.trio_state.specs.ImageNodes.{nodes_of};
+ghost use Rattle.trio_state.specs.ImageNodes.{nodes_of, notes_by_rows};
 
 use crate::counts::{Counts, counts_in};
 use crate::nodes::nodes_in;
+use crate::notes::notes_in;
 use std::alloc::Global;
 use std::marker::Model;
 use trio_layout::Superblock;
-use trio_nodes::Nodes;
+use trio_nodes::{Nodes, Note};
 use trio_page::{Home, NoMemory, PageNo, Reads};
 use trio_tables::{Owners, Shadow};
 
@@ -102,6 +103,21 @@ impl Image {
         ensures image { self.new ≡ self.old }
     {
         nodes_in(
+            alloc,
+            &mut self.parts.home,
+            &self.superblock,
+            &self.parts.rows,
+        )
+    }
+
+    /// The name and the size of each live file by inode number, from 0 on, which is no file's. Of each
+    /// file its slot alone is looked at, and none of its pages. The image stays as it was.
+    /// `NoMemory`: there was no memory for the list.
+    pub fn notes(&mut self, alloc: Global) -> Result<Vec<Option<Note>>, NoMemory>
+        ensures notes { let image = image_in self.old.superblock self.old.pages in IfOk result (λ notes. notes.items ≡ notes_by_rows image.core image.rows) }
+        ensures image { self.new ≡ self.old }
+    {
+        notes_in(
             alloc,
             &mut self.parts.home,
             &self.superblock,

@@ -7,7 +7,8 @@
 //! - [`Image::save`] makes its bytes the content of a file, which is read again as that image, and
 //!   [`Image::into_bytes`] gives them.
 //! - [`Image::counts`] tells what an image has in use, and [`Image::nodes`] its files as the nodes of
-//!   a tree, with the bytes of regular files (`nodes_of` of `trio_state`'s `specs/ImageNodes.antt`).
+//!   a tree, with the bytes of regular files (`nodes_of` of `trio_state`'s `specs/ImageNodes.antt`);
+//!   [`Image::notes`] tells their names and sizes alone (`notes_by_rows` there).
 //! - [`make`] makes a new image, whose one file is an empty root (`IsMade` of `specs/Made.antt`).
 //! - [`front_pages`] stores a superblock and tables as the pages before the core.
 //!
@@ -22,6 +23,7 @@ mod image;
 mod loading;
 mod making;
 mod nodes;
+mod notes;
 mod reading;
 mod saving;
 

@@ -81,7 +81,7 @@ fn node_of(
     })
 }
 
-fn core_range(superblock: &Superblock) -> CoreRange
+pub(crate) fn core_range(superblock: &Superblock) -> CoreRange
     ensures { result ≡ record { first = superblock.now.first_core; end = superblock.now.pages } }
 {
     CoreRange {
@@ -91,7 +91,7 @@ fn core_range(superblock: &Superblock) -> CoreRange
 }
 
 /// The bytes of the slot at a place. `None` where no such page is, as for the root.
-fn slot_at(home: &mut Home, range: CoreRange, page: u32, slot: u16) -> Option<[u8; 256]>
+pub(crate) fn slot_at(home: &mut Home, range: CoreRange, page: u32, slot: u16) -> Option<[u8; 256]>
     ensures pages { home.new.pages ≡ home.old.pages }
     ensures slot { unwrap_or result [] ≡ bytes_at_place (core_with home.old.pages range 0) page slot }
     ensures whole { IfSome result (λ bytes. length bytes ≡ 256) }
@@ -114,7 +114,7 @@ fn slot_on(page: &Page, slot: u16) -> Option<[u8; 256]>
 }
 
 /// The name that a slot has; a hyphen where it has none.
-fn name_in(slot: &Option<[u8; 256]>, inodes: u32) -> Name
+pub(crate) fn name_in(slot: &Option<[u8; 256]>, inodes: u32) -> Name
     ensures { result ≡ name_said (slot_of inodes (unwrap_or slot.now [])) }
 {
     match slot {
@@ -133,7 +133,7 @@ fn hyphen() -> Name
 }
 
 /// The body of a file: the root's own, or the one in its slot.
-fn body_at(root: &[u8; 64], ino: u32, slot: &Option<[u8; 256]>) -> Option<[u8; 64]>
+pub(crate) fn body_at(root: &[u8; 64], ino: u32, slot: &Option<[u8; 256]>) -> Option<[u8; 64]>
     ensures { unwrap_or result [] ≡ (if ino == 1 then root.now else drop 192 (unwrap_or slot.now [])) }
 {
     if ino == 1 {

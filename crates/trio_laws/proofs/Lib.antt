@@ -35,3 +35,4 @@ pub mod HeldFiles
 pub mod KnownSteps
 pub mod judgement
 mod history
+mod session

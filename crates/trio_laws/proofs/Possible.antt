@@ -68,7 +68,7 @@ get-spread (x ∷ before) (y ∷ after) e (suc p) = get-spread before after (ome
 
 module _ (s : State) (k : Kept s) (lib : ℕ) (b : Bundle) (given : GivenTo s lib b) where
   -- a refused bundle can end
-  refused_ends : (s' : State) × Ends s lib b (refused_image (settled s) b) s'
+  pub refused_ends : (s' : State) × Ends s lib b (refused_image (settled s) b) s'
   refused_ends =
       let mine : List OpenGrant = filter (is_in_bundle lib b) s.open_grants in
       let sheets : List Sheet = checkpoints_of mine in

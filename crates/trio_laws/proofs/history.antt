@@ -33,3 +33,14 @@ pub mod Grows
 pub mod Isolates
 pub mod StandsTree
 pub mod SettledNodes
+pub mod NotesFacts
+pub mod NotesSteps
+pub mod NotesAccepted
+pub mod NotesStart
+pub mod RisingKeys
+pub mod ToldNoted
+pub mod AcceptedNames
+pub mod ToldBlocks
+pub mod RefusedTold
+pub mod AcceptedTold
+pub mod AcceptedBlocks

@@ -6,3 +6,4 @@ pub mod ContentLaws
 pub mod Known
 pub mod RuleLaws
 pub mod history
+pub mod session

@@ -14,7 +14,7 @@ use Rattle.trio_nodes.specs.Nodes.{Nodes, node_at, find_named}
 use Rattle.trio_nodes.specs.Walk.{Path, is_root, dir_of, name_of, is_directory, lacks, enter_node, enter, and_then, need_at, walk_from, walk, walk_into}
 use Rattle.trio_nodes.specs.Found.{found_from, path_found, then_found}
 use Rattle.trio_nodes.specs.Apply.{Applied, refused, reached, of_node, at_file, in_directory, listed_in, is_done}
-use Rattle.trio_onetree.specs.Tree.{IsDirectory}
+use Rattle.trio_nodes.specs.Tree.{IsDirectory}
 
 -- ---- a path with its last name
 

@@ -10,7 +10,7 @@ use Rattle.trio_nodes.specs.declared.node.Node.{Node}
 use Rattle.trio_nodes.specs.Nodes.{Nodes, node_at, find_named, is_named, is_in, count_in}
 use Rattle.trio_nodes.specs.Walk.{Path}
 use Rattle.trio_nodes.specs.Found.{found_from, path_found, then_found}
-use Rattle.trio_onetree.specs.Tree.{IsTree}
+use Rattle.trio_nodes.specs.Tree.{IsTree}
 
 -- the directory lists this file by this name
 pub record Child (nodes : Nodes) (dir : ℕ) (name' : List ℕ) (n : ℕ) : Type 0 where
@@ -122,15 +122,16 @@ found-each nodes P step (name ∷ path) at n e p =
 -- ---- no file has two paths
 
 -- the names from a file up to the root
-abbrev Up : Nodes → ℕ → Path → Type 0
+abbrev pub Up : Nodes → ℕ → Path → Type 0
 Up nodes n [] = n ≡ 1
 Up nodes n (name ∷ names) = (x : Node) × (node_at nodes n ≡ Some x) × (x.name ≡ name) × Up nodes x.parent names
 
-abbrev turned : Path → Path → Path
+-- the names of a path on a way up, the last one first
+abbrev pub turned : Path → Path → Path
 turned [] seen = seen
 turned (name ∷ names) seen = turned names (name ∷ seen)
 
-found-up : (nodes : Nodes) (path : Path) (at n : ℕ) (seen : Path) → found_from nodes at path ≡ Some n → Up nodes at seen → Up nodes n (turned path seen)
+pub found-up : (nodes : Nodes) (path : Path) (at n : ℕ) (seen : Path) → found_from nodes at path ≡ Some n → Up nodes at seen → Up nodes n (turned path seen)
 found-up nodes [] at n seen e u = (let same : at ≡ n = cc e in subst (λ m. Up nodes m seen) same u)
 found-up nodes (name ∷ path) at n seen e u =
     let s = then_found-Some (find_named nodes at name) (λ child. found_from nodes child path) n e in
@@ -139,7 +140,7 @@ found-up nodes (name ∷ path) at n seen e u =
 
 module _ (nodes : Nodes) (tree : IsTree nodes) where
   -- nothing lists the root
-  root_unlisted : (n : ℕ) (name : List ℕ) (names : Path) → n ≡ 1 → Up nodes n (name ∷ names) → ⊥
+  pub root_unlisted : (n : ℕ) (name : List ℕ) (names : Path) → n ≡ 1 → Up nodes n (name ∷ names) → ⊥
   root_unlisted n name names one u =
       let same : u.0 ≡ tree.root.0 = one_node (node_at nodes 1) u.0 tree.root.0 (ap (node_at nodes) (sym one) ∙ u.1) tree.root.1 in
       let zero_up : Up nodes 0 names = subst (λ m. Up nodes m names) (ap (λ (x : Node). x.parent) same ∙ tree.root.3) u.3 in
@@ -149,7 +150,7 @@ module _ (nodes : Nodes) (tree : IsTree nodes) where
       nowhere [] u = absurd cc
       nowhere (name ∷ names) u = (let wrong : None ≡ Some u.0 = sym tree.none ∙ u.1 in absurd (cc wrong))
 
-  up_one : (n : ℕ) (p q : Path) → Up nodes n p → Up nodes n q → p ≡ q
+  pub up_one : (n : ℕ) (p q : Path) → Up nodes n p → Up nodes n q → p ≡ q
   up_one n [] [] a b = refl
   up_one n [] (y ∷ q) a b = absurd (root_unlisted n y q a b)
   up_one n (x ∷ p) [] a b = absurd (root_unlisted n x p b a)

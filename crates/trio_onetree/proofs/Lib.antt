@@ -6,5 +6,5 @@ mod Listing
 pub mod Children
 pub mod TreePut
 mod CallCases
-mod TreeStays
+pub mod TreeStays
 mod Changes

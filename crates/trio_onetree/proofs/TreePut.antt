@@ -8,7 +8,7 @@ use Rattle.trio_nodes.specs.Nodes.{Nodes, node_at, with_node, find_named}
 use Rattle.trio_nodes.specs.Walk.{Path}
 use Rattle.trio_nodes.specs.Found.{found_from, path_found}
 use Rattle.trio_nodes.proofs.NodeFacts.{with_node-same, with_node-else}
-use Rattle.trio_onetree.specs.Tree.{IsDirectory, IsTree}
+use Rattle.trio_nodes.specs.Tree.{IsDirectory, IsTree}
 use Rattle.trio_onetree.proofs.Children.{Child, Names, one_node, find_named-Child, Child-find_named, then_found-Some, found-more, found-one, found-each, one_path, path_found-is}
 
 -- a path leads to the file

@@ -21,7 +21,7 @@ use Rattle.trio_nodes.specs.Found.{found_from}
 use Rattle.trio_nodes.specs.Apply.{Applied, refused, done, in_directory, listed_in, largest_size, resized, put_at, new_node, make, write, read, truncate, unlink, rmdir, rename, list, size_of, stat, chmod, applied, is_done}
 use Rattle.trio_nodes.specs.After.{call_nodes}
 use Rattle.trio_nodes.specs.Legal.{MadeFits}
-use Rattle.trio_onetree.specs.Tree.{IsDirectory, IsTree}
+use Rattle.trio_nodes.specs.Tree.{IsDirectory, IsTree}
 use Rattle.trio_onetree.specs.CallLaws.{TreeStays, TreeStaysThrough}
 use Rattle.trio_onetree.proofs.Children.{Child, one_node, find_named-Child, Child-is_some, child-counts, found-more, found-one, one_path, found_live}
 use Rattle.trio_onetree.proofs.TreePut.{Fits, tree_put, tree_same, tree_without}

@@ -15,7 +15,7 @@ use Rattle.trio_nodes.specs.Found.{path_found}
 use Rattle.trio_nodes.specs.Apply.{Apply, is_done, new_node, put_at, resized}
 use Rattle.trio_nodes.specs.After.{batch_nodes, moded_node}
 use Rattle.trio_nodes.specs.Legal.{LegalCalls, MadeFits}
-use Rattle.trio_onetree.specs.Tree.{IsTree}
+use Rattle.trio_nodes.specs.Tree.{IsTree}
 
 -- ---- what a call changes
 

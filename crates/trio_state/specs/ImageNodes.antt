@@ -1,4 +1,4 @@
--- The nodes of an image: the tree that its rows tell, with the bytes of regular files.
+-- The nodes of an image: the tree that its rows tell, with the bytes of regular files; and the notes of its live files.
 use Rattle.std.specs.Prelude.{ℕ, ◌==◌, List, [], ◌∷◌, take, length, Option, None, Some, Result, Ok, Err, if◌then◌else◌, unwrap_or}
 use Rattle.std.specs.List.{flat_map}
 use Rattle.std.specs.Option.{option_map, option_map_or}
@@ -9,13 +9,14 @@ use Rattle.trio_rights.specs.Row.{Row, row_in}
 use Rattle.trio_layout.specs.declared.body.Body.{Body}
 use Rattle.trio_layout.specs.declared.slot.SlotRead.{SlotRead}
 use Rattle.trio_layout.specs.declared.slot.SlotRead.TheVariants.{Empty, Entry, Bad}
-use Rattle.trio_layout.specs.Body.{body_of}
+use Rattle.trio_layout.specs.Body.{body_at, body_of}
 use Rattle.trio_layout.specs.Chain.{Chain, chain_of}
 use Rattle.trio_layout.specs.Core.{Core, Location, page_of}
 use Rattle.trio_layout.specs.Entries.{slot_bytes}
 use Rattle.trio_layout.specs.Image.{Image, body_at_place}
 use Rattle.trio_layout.specs.Slot.{slot_of}
 use Rattle.trio_nodes.specs.declared.node.Node.{Node}
+use Rattle.trio_nodes.specs.declared.note.Note.{Note}
 use Rattle.trio_nodes.specs.Nodes.{Nodes}
 
 -- the bytes of the slot at a place; none where no such page is
@@ -74,3 +75,11 @@ nodes_by_rows core rows = tabulated (λ n. option_map (node_by_row core n) (row_
 -- the nodes of an image
 abbrev pub nodes_of : Image → Nodes
 nodes_of image = nodes_by_rows image.core image.rows
+
+-- what is noted of a live number, by its row: its name, and the size that its body says
+abbrev pub note_by_row : Core → ℕ → Row → Note
+note_by_row core n r = record { name = name_by_row core r; size = (body_at (body_of_row core n r)).size }
+
+-- the same of each number of the table, from 0 on
+abbrev pub notes_by_rows : Core → List (Option Row) → List (Option Note)
+notes_by_rows core rows = tabulated (λ n. option_map (note_by_row core n) (row_in rows n)) (length rows)

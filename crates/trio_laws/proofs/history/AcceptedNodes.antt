@@ -57,7 +57,7 @@ use Rattle.trio_laws.proofs.history.Still.{node_with}
 use Rattle.trio_laws.proofs.history.Told.{Count, block_bytes, told_put}
 use Rattle.trio_laws.proofs.history.Untouched.{handed_same}
 use Rattle.trio_laws.proofs.history.WithNode.{nodes_same, nodes_long}
-use Rattle.trio_laws.proofs.history.Writers.{writes, other_writer, no_writer}
+use Rattle.trio_laws.proofs.history.Writers.{writes, other_writer, no_writer, dead_writer}
 use Rattle.trio_surveys.proofs.Local.{reads_from}
 
 module _ (s s' : State) (k : Kept s) (k' : Kept s') (whole : LentWhole s) (lib : ℕ) (h : Handed) (given : GivenTo s lib (bundle_handed h)) (accepted : is_accepted (settled s) (creds_of s lib) (bundle_handed h) ≡ true) (e : Ends s lib (bundle_handed h) (next (settled s) (bundle_handed h)) s') (marked : (w : HandedFile) → In w h.writes → IsMarked s lib w) where
@@ -177,17 +177,6 @@ module _ (s s' : State) (k : Kept s) (k' : Kept s') (whole : LentWhole s) (lib :
       ∙ sym new_is
 
   -- a new one had no blocks, so all are listed
-  dead_writer : (n : ℕ) → row_at s.home n ≡ None → writer_of s n ≡ None
-  dead_writer n dead = by (writer_of s n) refl
-    where
-      by : (o : Option OpenGrant) → writer_of s n ≡ o → o ≡ None
-      by None f = refl
-      by (Some g) f =
-          let q = find-In (writes n) s.open_grants g f in
-          let ino : g.ino ≡ n = eqb-true g.ino n (and_parts (eqb g.ino n) (is_write g.kind) q.1).0 in
-          let live : is_some (row_at s.home n) ≡ true = ap (λ j. is_some (row_at s.home j)) (sym ino) ∙ k.live g q.0 in
-          absurd (false≢true (sym (ap is_some dead) ∙ live))
-
   pub dead_unwritten : (n : ℕ) → row_at s.home n ≡ None → is_written b n ≡ false
   dead_unwritten n dead =
       false_from_ne_true (is_written b n)
@@ -202,7 +191,7 @@ module _ (s s' : State) (k : Kept s) (k' : Kept s') (whole : LentWhole s) (lib :
   new_put : (n : ℕ) (r : Row) (row : row_at after n ≡ Some r) → row_at s.home n ≡ None → lists_own b proposed_core (at_now n r row).met ≡ true → r.kind ≡ Regular → with_blocks n (told_blocks image after h n 0 (block_numbers after n (row_at after n))) (resized (size_of after n) []) ≡ bytes_of after n r (writer_of s' n) Regular
   new_put n r row dead own regular =
       own_put n r row own regular
-      (other_writer s s' k lib b given after e n (dead_unwritten n dead) after r ∙ ap (blocks_of after n r) (dead_writer n dead)) []
+      (other_writer s s' k lib b given after e n (dead_unwritten n dead) after r ∙ ap (blocks_of after n r) (dead_writer s k n dead)) []
       (λ i page get t.
       let u = unlisted_is image after h n (0 + i) page t in
       let wrong : slice_get (block_numbers image n None) (0 + i) ≡ Some page = ap (λ o. slice_get (block_numbers image n o) (0 + i)) (sym dead) ∙ u.same in

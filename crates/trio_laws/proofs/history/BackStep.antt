@@ -60,7 +60,7 @@ module _ (s : State) (k : Kept s) (lib ino : ℕ) (given : HasGrant s lib ino Re
       let p = and_parts (eqb g.lib lib && eqb g.ino ino) (is_read g.kind) (not-false (eqb g.lib lib && eqb g.ino ino && is_read g.kind) out) in
       and_right (eqb g.ino n) (is_write g.kind) (read_unwritten g.kind p.1)))
 
-  back_nodes : nodes_of (given_back s lib ino) ≡ nodes_of s
+  pub back_nodes : nodes_of (given_back s lib ino) ≡ nodes_of s
   back_nodes = nodes_by_one s (given_back s lib ino) refl one
 
   pub back_extends : (x : Beside) (answer : CtlAnswer) (s' : State) → (answer ≡ Done) × (s' ≡ given_back s lib ino) → Extends s x (Back lib ino) answer s'

@@ -92,7 +92,7 @@ does_creds s (Release lib b) answer s' d = release_creds s lib b answer s' d
 does_creds s (Settle lib b) answer s' d = d.3.creds
 does_creds s (SetMode lib ino mode) answer s' d = ap (λ (x : State). x.creds) d.1 ∙ mode_creds s ino mode (mode_fault s lib ino mode (row_at s.home ino))
 
-step_creds : (s : State) (event : Event) (answer : CtlAnswer) (s' : State) → Step s event answer s' → s'.creds ≡ s.creds
+pub step_creds : (s : State) (event : Event) (answer : CtlAnswer) (s' : State) → Step s event answer s' → s'.creds ≡ s.creds
 step_creds s event answer s' (inl does) = does_creds s event answer s' does
 step_creds s event answer s' (inr none) = ap (λ (x : State). x.creds) none.2
 
@@ -142,7 +142,7 @@ does_whole s k (Release lib b) answer s' d w = release_whole s lib b answer s' d
 does_whole s k (Settle lib b) answer s' d w = ends_whole s lib b (next (settled s) b) s' d.3 w
 does_whole s k (SetMode lib ino mode) answer s' d w = subst LentWhole (sym d.1) (mode_whole s ino mode (mode_fault s lib ino mode (row_at s.home ino)) w)
 
-step_whole : (s : State) (k : Kept s) (event : Event) (answer : CtlAnswer) (s' : State) → Step s event answer s' → LentWhole s → LentWhole s'
+pub step_whole : (s : State) (k : Kept s) (event : Event) (answer : CtlAnswer) (s' : State) → Step s event answer s' → LentWhole s → LentWhole s'
 step_whole s k event answer s' (inl does) w = does_whole s k event answer s' does w
 step_whole s k event answer s' (inr none) w = subst LentWhole (sym none.2) w
 

@@ -36,7 +36,7 @@ page_touched x = record { no = x.page; bytes = x.bytes; touched = true }
 abbrev file_touched : Written → HandedFile
 file_touched w = record { ino = w.ino; kind = w.kind; body = w.body; index = map page_touched w.index; blocks = map page_touched w.blocks }
 
-abbrev all_touched : Bundle → Handed
+abbrev pub all_touched : Bundle → Handed
 all_touched b = record { writes = map file_touched b.writes; holds = b.holds; pages = map page_touched b.pages; numbers = b.numbers }
 
 pages_back : (xs : List Sheet) → map sheet_handed (map page_touched xs) ≡ xs
@@ -52,13 +52,13 @@ files_back : (ws : List Written) → map written_handed (map file_touched ws) �
 files_back [] = refl
 files_back (w ∷ ws) = ap (λ (x : Written). x ∷ map written_handed (map file_touched ws)) (file_back w) ∙ ap (λ l. w ∷ l) (files_back ws)
 
-bundle_back : (b : Bundle) → bundle_handed (all_touched b) ≡ b
+pub bundle_back : (b : Bundle) → bundle_handed (all_touched b) ≡ b
 bundle_back b =
     ap (λ (l : List Written). record b { writes = l; pages = map sheet_handed (map page_touched b.pages) }) (files_back b.writes)
     ∙ ap (λ (l : List Sheet). record b { pages = l }) (pages_back b.pages)
 
 -- so nothing is asked of what was lent
-all_marked : (s : State) (lib : ℕ) (b : Bundle) (f : HandedFile) → In f (all_touched b).writes → IsMarked s lib f
+pub all_marked : (s : State) (lib : ℕ) (b : Bundle) (f : HandedFile) → In f (all_touched b).writes → IsMarked s lib f
 all_marked s lib b f i g p open_grant mine own j =
     let w = map-In file_touched f b.writes i in
     let q = map-In page_touched p w.0.blocks (subst (λ (z : HandedFile). In p z.blocks) w.2 j) in
@@ -109,13 +109,13 @@ module _ (s : State) (answer : CtlAnswer) (s' : State) where
 
 -- ---- by the event
 
-abbrev bare : Bundle → Beside
+abbrev pub bare : Bundle → Beside
 bare b = record { handed = all_touched b; calls = []; call = None }
 
-abbrev empty : Bundle
+abbrev pub empty : Bundle
 empty = record { writes = []; holds = []; pages = []; numbers = [] }
 
-no_call : (s : State) (creds : Creds) (ino mode : ℕ) (said : Result (Unit {0}) ModeFault) → LegalChmod (past_of s) creds ino mode said None
+pub no_call : (s : State) (creds : Creds) (ino mode : ℕ) (said : Result (Unit {0}) ModeFault) → LegalChmod (past_of s) creds ino mode said None
 no_call s creds ino mode (Ok done) = tt
 no_call s creds ino mode (Err fault) = tt
 

@@ -122,13 +122,13 @@ module _ (s : State) (k : Kept s) (n mode : ℕ) (r : Row) (row : row_at s.home 
       let b = (met_numbered (settled s).core plain k.fit k.verifies.sound m.met m.stands).1 in
       let e = m.number in omega (arith, b, e)
 
-  row_here : row_at s'.home n ≡ Some (record r { mode = record { 0 = mode } })
+  pub row_here : row_at s'.home n ≡ Some (record r { mode = record { 0 = mode } })
   row_here =
       let long : length s.home.rows ≡ s.home.core.inodes + 1 = ap length k.verifies.rows ∙ tabulated-length (row_of (settled s).core (survey (settled s).core plain)) (s.home.core.inodes + 1) in
       let i = inside in
       get_or-set_same s.home.rows n (row_with_mode mode (row_at s.home n)) None (omega (arith, long, i)) ∙ ap (row_with_mode mode) row
 
-  row_else : (j : ℕ) → (j ≡ n → ⊥) → row_at s'.home j ≡ row_at s.home j
+  pub row_else : (j : ℕ) → (j ≡ n → ⊥) → row_at s'.home j ≡ row_at s.home j
   row_else j d = get_or-set_other s.home.rows n j (row_with_mode mode (row_at s.home n)) None d
 
   bytes_now : (j : ℕ) (x x' : Row) → row_at s.home j ≡ Some x → row_at now j ≡ Some x' → bytes_of now j x' (writer_of s j) x.kind ≡ bytes_of (settled s) j x (writer_of s j) x.kind

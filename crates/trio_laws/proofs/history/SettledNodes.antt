@@ -56,7 +56,7 @@ module _ (s : State) (k : Kept s) (none : (g : OpenGrant) → In g s.open_grants
       find_none (λ (g : OpenGrant). eqb g.ino n && is_write g.kind) s.open_grants
       (λ g i. ap (λ b. eqb g.ino n && b) (unwritten g.kind (none g i)) ∙ and-false (eqb g.ino n))
 
-  name_is : (n : ℕ) (r : Row) → row_at image n ≡ Some r → name_by_row core r ≡ name_of image n r
+  pub name_is : (n : ℕ) (r : Row) → row_at image n ≡ Some r → name_by_row core r ≡ name_of image n r
   name_is n r row =
       elim (cases_eq n 1) [
         | inl one ↦
@@ -71,7 +71,7 @@ module _ (s : State) (k : Kept s) (none : (g : OpenGrant) → In g s.open_grants
             ap (λ o. name_said (slot_of core.inodes (option_map_or (slot_bytes r.slot) o []))) l.there ∙ ap name_said l.says ∙ sym (name_listed image k.fit k.verifies n r l other)
       ]
 
-  body_is : (n : ℕ) (r : Row) (row : row_at image n ≡ Some r) → body_of_row core n r ≡ (met_at image k.fit k.verifies n r row).met.body
+  pub body_is : (n : ℕ) (r : Row) (row : row_at image n ≡ Some r) → body_of_row core n r ≡ (met_at image k.fit k.verifies n r row).met.body
   body_is n r row = ap (λ o. cond (eqb n 1) core.root (body_by_row core o)) (sym row) ∙ body_met image k.fit k.verifies n r row
 
   content_is : (n : ℕ) (r : Row) (row : row_at image n ≡ Some r) (t : Kind) → r.kind ≡ t → content_of core t (body_of_row core n r) ≡ bytes_of image n r None t

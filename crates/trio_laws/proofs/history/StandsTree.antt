@@ -20,7 +20,7 @@ use Rattle.trio_surveys.proofs.Reached.{survey_reached, reached_met}
 use Rattle.trio_surveys.proofs.Tree.{child_from}
 use Rattle.trio_nodes.specs.declared.node.Node.{Node}
 use Rattle.trio_nodes.specs.Nodes.{node_at}
-use Rattle.trio_onetree.specs.Tree.{IsDirectory, IsTree}
+use Rattle.trio_nodes.specs.Tree.{IsDirectory, IsTree}
 use Rattle.trio_onetree.proofs.Children.{Names, one_node}
 use Rattle.trio_onetree.proofs.TreePut.{Found, found_at, found_child}
 use Rattle.trio_state.specs.Kept.{Kept}

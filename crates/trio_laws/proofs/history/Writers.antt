@@ -1,11 +1,11 @@
 -- Who writes a file once a bundle has come to its end.
-use Rattle.std.proofs.Common.{◌≡◌, ℕ, Bool, true, false, cond, ◌&&◌, ◌||◌, not, eqb, List, [], ◌∷◌, map, Option, Some, None, sym, refl, ap, ◌∙◌, inl, inr, ◌⊎◌, find, option_map}
+use Rattle.std.proofs.Common.{◌≡◌, ℕ, Bool, true, false, cond, ◌&&◌, ◌||◌, not, eqb, List, [], ◌∷◌, map, Option, Some, None, is_some, sym, refl, ap, ◌∙◌, inl, inr, ◌⊎◌, find, option_map}
 use Rattle.std.proofs.lemmas.Bool.{and_parts, and_from, eqb-true, eq-eqb, not-false, false≢true, false_from_ne_true, or_left}
 use Rattle.trio_nodes.specs.declared.grant.GrantKind.{GrantKind}
 use Rattle.trio_nodes.specs.declared.grant.GrantKind.TheVariants.{Read, Write, Hold}
 use Rattle.trio_rights.specs.Row.{Row}
 use Rattle.trio_lists.specs.Lists.{In, is_among}
-use Rattle.trio_layout.specs.Image.{Image}
+use Rattle.trio_layout.specs.Image.{Image, row_at}
 use Rattle.trio_state.specs.State.{OpenGrant, State}
 use Rattle.trio_nodes.specs.GrantKinds.{is_write, is_hold}
 use Rattle.trio_state.specs.Kept.{Kept}
@@ -53,6 +53,18 @@ write_unheld : (t : GrantKind) → t ≡ Write → is_hold t ≡ false
 write_unheld Write e = refl
 write_unheld Read e = absurd cc
 write_unheld Hold e = absurd cc
+
+-- no one writes a number that isn't live
+pub dead_writer : (s : State) → Kept s → (n : ℕ) → row_at s.home n ≡ None → writer_of s n ≡ None
+dead_writer s k n dead = by (writer_of s n) refl
+  where
+    by : (o : Option OpenGrant) → writer_of s n ≡ o → o ≡ None
+    by None f = refl
+    by (Some g) f =
+        let q = find-In (writes n) s.open_grants g f in
+        let ino : g.ino ≡ n = eqb-true g.ino n (and_parts (eqb g.ino n) (is_write g.kind) q.1).0 in
+        let live : is_some (row_at s.home n) ≡ true = ap (λ j. is_some (row_at s.home j)) (sym ino) ∙ k.live g q.0 in
+        absurd (false≢true (sym (ap is_some dead) ∙ live))
 
 module _ (s s' : State) (k : Kept s) (lib : ℕ) (b : Bundle) (given : GivenTo s lib b) (image : Image) (e : Ends s lib b image s') (n : ℕ) where
   stays : OpenGrant → Bool

@@ -89,7 +89,7 @@ module _ (s : State) (lib : ℕ) (b : Bundle) (j : IsJudgeable s lib b) (acc : i
   made_from m (Ok g) f (inl e) = (g, refl, e)
   made_from m (Ok g) f (inr no') = absurd no'
 
-  file_from : (f : ListedFile) → In f (listing c).files → (m : Met) × (g : FileRead) × In m (judged_files c) × (file_within (bundle_core c) m ≡ Ok g) × (f ≡ record { ino = m.ino; row = row_by m g.body; index = g.chain.index; blocks = g.chain.blocks })
+  pub file_from : (f : ListedFile) → In f (listing c).files → (m : Met) × (g : FileRead) × In m (judged_files c) × (file_within (bundle_core c) m ≡ Ok g) × (f ≡ record { ino = m.ino; row = row_by m g.body; index = g.chain.index; blocks = g.chain.blocks })
   file_from f i =
       let q = flat_map-In (λ m. file_listed m (file_within (bundle_core c) m)) f (judged_files c) i in
       let g = made_from q.0 (file_within (bundle_core c) q.0) f q.2 in
@@ -98,7 +98,7 @@ module _ (s : State) (lib : ℕ) (b : Bundle) (j : IsJudgeable s lib b) (acc : i
   abbrev made : Met → FileRead → ListedFile
   made m g = record { ino = m.ino; row = row_by m g.body; index = g.chain.index; blocks = g.chain.blocks }
 
-  file_to : (m : Met) (g : FileRead) → In m (judged_files c) → file_within (bundle_core c) m ≡ Ok g → In (made m g) (listing c).files
+  pub file_to : (m : Met) (g : FileRead) → In m (judged_files c) → file_within (bundle_core c) m ≡ Ok g → In (made m g) (listing c).files
   file_to m g i e =
       In-flat (λ m. file_listed m (file_within (bundle_core c) m)) m (made m g) (judged_files c) i (subst (λ r. In (made m g) (file_listed m r)) (sym e) (inl refl))
 
@@ -110,7 +110,7 @@ module _ (s : State) (lib : ℕ) (b : Bundle) (j : IsJudgeable s lib b) (acc : i
       row_met core pick (fit s lib b j acc) (sound s lib b j acc) m r.file (judged_met s lib b j acc m i) r.whole ∙ ap (λ (f : FileRead). Some (row_by m f.body)) same
 
   -- a held file that is met is listed by a judged directory
-  held_is_listed : (m : Met) → In m files → In m.ino b.holds → (e : Met) × In e (judged_entries c) × (e.ino ≡ m.ino)
+  pub held_is_listed : (m : Met) → In m files → In m.ino b.holds → (e : Met) × In e (judged_entries c) × (e.ino ≡ m.ino)
   held_is_listed m i held =
       elim (met_cases core pick (fit s lib b j acc).numbers (sound s lib b j acc) m i) [
         | inl z ↦ absurd (root_unheld s lib b j (subst (λ n. In n b.holds) (ap (λ (x : Met). x.ino) z) held))

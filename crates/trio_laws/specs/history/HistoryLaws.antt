@@ -18,7 +18,7 @@ use Rattle.trio_laws.specs.Laws.{library_of}
 use Rattle.trio_laws.specs.OutLaws.{out_of}
 use Rattle.trio_laws.specs.Known.{known}
 use Rattle.trio_nodes.specs.declared.entry.Entry.{Entry}
-use Rattle.trio_onetree.specs.Tree.{IsTree}
+use Rattle.trio_nodes.specs.Tree.{IsTree}
 use Rattle.trio_laws.specs.history.Entries.{Beside}
 use Rattle.trio_laws.specs.history.Replays.{IsLibrary, Replays, known_from, out_in}
 use Rattle.trio_laws.specs.history.Recorded.{Recorded, IsRecorded, BesideFits, begun, grown}

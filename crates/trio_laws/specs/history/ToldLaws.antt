@@ -1,9 +1,11 @@
 -- The laws of what a release tells: its entry by the bundle and its listing alone, and the notes of live files.
-use Rattle.std.specs.Prelude.{◌≡◌, ℕ, ◌+◌, None, Option, IsTrue}
+use Rattle.std.specs.Prelude.{◌≡◌, ◌<◌, ℕ, ◌+◌, List, IsTrue}
 use Rattle.std.specs.Option.{option_map}
 use Rattle.trio_rights.specs.Row.{Row}
+use Rattle.trio_rights.specs.declared.rights.Creds.{Creds}
 use Rattle.trio_lists.specs.Lists.{tabulated}
-use Rattle.trio_layout.specs.Image.{Image, row_at}
+use Rattle.trio_layout.specs.Image.{Image, IsFit, row_at}
+use Rattle.trio_layout.specs.Verifies.{Verifies}
 use Rattle.trio_layout.specs.Accept.{is_accepted, next}
 use Rattle.trio_layout.specs.Listing.{listing}
 use Rattle.trio_nodes.specs.declared.answers.ReleaseAnswer.{ReleaseAnswer}
@@ -13,8 +15,10 @@ use Rattle.trio_nodes.specs.declared.entry.Handed.{Handed}
 use Rattle.trio_nodes.specs.declared.note.Note.{Note}
 use Rattle.trio_state.specs.Bundles.{refused_image}
 use Rattle.trio_state.specs.Given.{GivenEvent}
+use Rattle.trio_state.specs.ImageNodes.{notes_by_rows}
 use Rattle.trio_state.specs.Kept.{Kept}
 use Rattle.trio_state.specs.Listed.{Notes, accepted_blocks, accepted_files, notes_after, refused_blocks, refused_files}
+use Rattle.trio_state.specs.Run.{start, IsWhole}
 use Rattle.trio_state.specs.State.{State, settled, creds_of}
 use Rattle.trio_state.specs.Step.{Event, Release, Settle, CtlAnswer, Step}
 use Rattle.trio_state.specs.Tells.{case_in}
@@ -73,3 +77,9 @@ abbrev pub StepsKeepNotes : Type 0
 StepsKeepNotes =
     (s : State) (event : Event) (answer : CtlAnswer) (s' : State)
     → Kept s → GivenEvent s event → EndsNone event → Step s event answer s' → notes_of (settled s') ≡ notes_of (settled s)
+
+-- At the start they are as the rows of the image tell them. Page 0, which has the superblock, is no core page.
+abbrev pub StartNotes : Type 0
+StartNotes =
+    (image : Image) (creds : List Creds) → IsFit image.core → Verifies image → IsWhole image → 0 < image.core.range.first
+    → notes_of (settled (start image creds)) ≡ notes_by_rows image.core image.rows

@@ -1,0 +1,7 @@
+pub mod SlotLists
+pub mod Gaps
+pub mod Sought
+pub mod Indexes
+pub mod Kept
+pub mod PageSlots
+pub mod Scans

@@ -1,0 +1,5 @@
+pub mod Slots
+pub mod Places
+pub mod Directory
+pub mod Laws
+pub mod inner

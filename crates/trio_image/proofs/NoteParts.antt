@@ -1,0 +1,25 @@
+-- The parts of a note as they are read.
+use Rattle.std.proofs.Common.{◌≡◌, ℕ, suc, ◌+◌, List, [], ◌∷◌, ◌++◌, refl, sym, ap, ◌∙◌, arith}
+use Rattle.std.specs.Int.{w64}
+use Rattle.trio_lists.specs.Lists.{tabulated}
+use Rattle.trio_page.specs.Field.{number_at}
+use Rattle.trio_rights.specs.Row.{Row}
+use Rattle.trio_layout.specs.Body.{body_at}
+use Rattle.trio_layout.specs.Core.{Core}
+use Rattle.trio_state.specs.ImageNodes.{body_of_row, name_by_row, note_by_row}
+
+-- no bytes say no size
+pub size-nothing : 0 ≡ number_at w64 16 []
+unfolding number_at
+size-nothing = refl
+
+-- a note by its parts
+pub note-parts : (core : Core) (n : ℕ) (r : Row) (name : List ℕ) (size : ℕ) → name ≡ name_by_row core r → size ≡ (body_at (body_of_row core n r)).size
+    → record { name = name; size = size } ≡ note_by_row core n r
+note-parts core n r name size a b = rw (a, b) refl
+
+-- one number more
+pub tabulated-pushed : {X : Type 0} (f : ℕ → X) (n : ℕ) (x : X) (xs : List X) → xs ≡ tabulated f n → x ≡ f n → xs ++ x ∷ [] ≡ tabulated f (n + 1)
+tabulated-pushed f n x xs is e =
+    let s : n + 1 ≡ suc n = omega arith in
+    ap (λ l. l ++ x ∷ []) is ∙ ap (λ y. tabulated f n ++ y ∷ []) e ∙ ap (tabulated f) (sym s)

@@ -1,0 +1,194 @@
+-- The blocks that a release tells of a file, by the images before and after and by the bundle.
+use Rattle.std.proofs.Common.{◌≡◌, ℕ, suc, ◌+◌, ◌*◌, ◌<◌, ◌≤◌, Bool, true, false, cond, ◌&&◌, ◌||◌, not, eqb, ltb, leb, ltb-true, min, List, [], ◌∷◌, ◌++◌, length, Option, Some, None, Ok, slice_get, sym, refl, ap, ◌∙◌, subst, inl, inr, arith, unwrap_or, flat_map}
+use Rattle.std.specs.Prelude.{is_some, map, replicate, slice_index}
+use Rattle.std.specs.List.{list_any}
+use Rattle.std.specs.Option.{option_map_or}
+use Rattle.std.proofs.lemmas.List.{length-replicate}
+use Rattle.std.proofs.lemmas.Bool.{and_parts, eqb-true, false_from_ne_true}
+use Rattle.trio_lists.specs.Lists.{In, are_new}
+use Rattle.trio_lists.proofs.Filters.{list_any-In}
+use Rattle.trio_lists.proofs.Gathered.{one_keyed}
+use Rattle.trio_lists.proofs.Marked.{are_new-append}
+use Rattle.trio_lists.proofs.Members.{In-cases, In-left, In-right, In-flat, In-map, flat_map-In, map-In}
+use Rattle.trio_lists.proofs.New.{are_new-fewer}
+use Rattle.trio_rights.specs.Row.{Row}
+use Rattle.trio_rights.specs.Bundle.{Written, Bundle, bundle_pages, bundle_sheets}
+use Rattle.trio_rights.specs.Sheets.{Sheet, sheet_numbers, with_pages}
+use Rattle.trio_layout.specs.Case.{Case, bundle_core}
+use Rattle.trio_layout.specs.Core.{Core, page_of}
+use Rattle.trio_layout.specs.Image.{Image, row_at}
+use Rattle.trio_layout.specs.Range.{is_core}
+use Rattle.trio_layout.specs.Survey.{Met, FileRead, file_of, pages_of, plain, survey}
+use Rattle.trio_surveys.proofs.Cores.{listed_is_core}
+use Rattle.trio_surveys.proofs.Images.{free_unlisted, one_met}
+use Rattle.trio_surveys.proofs.Owned.{index_apart, page_owner, pages_are, pages_new, sound_parts}
+use Rattle.trio_surveys.proofs.Sheets.{page_from, place_there, with_pages_known}
+use Rattle.trio_nodes.specs.declared.entry.Handed.{Handed}
+use Rattle.trio_nodes.specs.declared.entry.HandedFile.{HandedFile}
+use Rattle.trio_nodes.specs.declared.entry.HandedPage.{HandedPage}
+use Rattle.trio_nodes.specs.declared.entry.RawBlock.{RawBlock}
+use Rattle.trio_nodes.specs.declared.entry.RawFile.{RawFile}
+use Rattle.trio_state.specs.Listed.{Notes, block_told, changed_blocks, is_block_changed, lent_blocks, noted_size}
+use Rattle.trio_state.specs.State.{State, settled}
+use Rattle.trio_state.specs.Tells.{case_in}
+use Rattle.trio_laws.specs.RuleLaws.{IsJudgeable}
+use Rattle.trio_laws.specs.history.Entries.{block_numbers, blocks_in as chain_blocks, bundle_handed, is_block_told, is_touched, sheet_handed, told_blocks, written_handed}
+use Rattle.trio_laws.specs.history.Stands.{size_of}
+use Rattle.trio_laws.proofs.Bundles.{Unwritten, in_numbers, unwritten_apart}
+use Rattle.trio_laws.proofs.Checkpoints.{one_sheet}
+use Rattle.trio_laws.proofs.StateFacts.{tables}
+use Rattle.trio_laws.proofs.history.Listing.{chain_met, met_at}
+
+-- ---- block by block
+
+step : (t u : Bool) (x y : RawBlock) (xs ys : List RawBlock) → t ≡ u → x ≡ y → xs ≡ ys → cond t (x ∷ xs) xs ≡ cond u (y ∷ ys) ys
+step t u x y xs ys e f g = ap (λ q. cond q (x ∷ xs) xs) e ∙ ap (λ z. cond u (z ∷ xs) xs) f ∙ ap (λ l. cond u (y ∷ l) l) g
+
+-- the same are told where each is told alike, and with the same bytes
+pub same_blocks : (before after : Image) (c : Case) (notes : Notes) (h : Handed) (f : RawFile) (at : ℕ) (pages : List ℕ)
+    → ((i page : ℕ) → slice_get pages i ≡ Some page → (is_block_told before after h f.ino (at + i) page ≡ is_block_changed c notes h f (at + i) page) × (page_of after.core page ≡ page_of (bundle_core c) page))
+    → told_blocks before after h f.ino at pages ≡ changed_blocks c notes h f at pages
+same_blocks before after c notes h f at [] alike = refl
+same_blocks before after c notes h f at (p ∷ ps) alike =
+    let here : at + 0 ≡ at = omega arith in
+    let a = alike 0 p refl in
+    step (is_block_told before after h f.ino at p) (is_block_changed c notes h f at p)
+    (record { ino = f.ino; at = at; bytes = unwrap_or (page_of after.core p) [] }) (block_told c f.ino at p)
+    (told_blocks before after h f.ino (at + 1) ps) (changed_blocks c notes h f (at + 1) ps)
+    (ap (λ m. is_block_told before after h f.ino m p) (sym here) ∙ a.0 ∙ ap (λ m. is_block_changed c notes h f m p) here)
+    (ap (λ o. record { ino = f.ino; at = at; bytes = unwrap_or o [] }) a.1)
+    (same_blocks before after c notes h f (at + 1) ps
+    (λ i page get.
+    let there : (at + 1) + i ≡ at + suc i = omega arith in
+    let r = alike (suc i) page get in
+    (ap (λ m. is_block_told before after h f.ino m page) there ∙ r.0 ∙ ap (λ m. is_block_changed c notes h f m page) (sym there), r.1)))
+
+-- a block is told alike where the blocks and sizes are those that the bundle and the notes say
+pub told_alike : (before after : Image) (c : Case) (notes : Notes) (h : Handed) (f : RawFile) (at page : ℕ)
+    → block_numbers before f.ino (row_at before f.ino) ≡ lent_blocks c.bundle f.ino
+    → size_of before f.ino ≡ noted_size notes f.ino → size_of after f.ino ≡ f.size
+    → is_block_told before after h f.ino at page ≡ is_block_changed c notes h f at page
+told_alike before after c notes h f at page blocks was is =
+    let n : ℕ = f.ino in
+    ap (λ l. is_touched h page || not (option_map_or (λ q. eqb q page) (slice_get l at) false) || ltb (size_of before n) (min (size_of after n) (4096 * at + 4096))) blocks
+    ∙ ap (λ z. is_touched h page || not (option_map_or (λ q. eqb q page) (slice_get (lent_blocks c.bundle n) at) false) || ltb z (min (size_of after n) (4096 * at + 4096))) was
+    ∙ ap (λ z. is_touched h page || not (option_map_or (λ q. eqb q page) (slice_get (lent_blocks c.bundle n) at) false) || ltb (noted_size notes n) (min z (4096 * at + 4096))) is
+
+-- where no page stood there, a block is told
+always : (t u : Bool) → (t || true || u) ≡ true
+always true u = refl
+always false u = refl
+
+pub told_new : (before after : Image) (c : Case) (notes : Notes) (h : Handed) (f : RawFile) (at page : ℕ)
+    → block_numbers before f.ino (row_at before f.ino) ≡ [] → lent_blocks c.bundle f.ino ≡ []
+    → is_block_told before after h f.ino at page ≡ is_block_changed c notes h f at page
+told_new before after c notes h f at page was lent =
+    let n : ℕ = f.ino in
+    ap (λ l. is_touched h page || not (option_map_or (λ q. eqb q page) (slice_get l at) false) || ltb (size_of before n) (min (size_of after n) (4096 * at + 4096))) was
+    ∙ always (is_touched h page) (ltb (size_of before n) (min (size_of after n) (4096 * at + 4096)))
+    ∙ sym (always (is_touched h page) (ltb (noted_size notes n) (min f.size (4096 * at + 4096))))
+    ∙ ap (λ l. is_touched h page || not (option_map_or (λ q. eqb q page) (slice_get l at) false) || ltb (noted_size notes n) (min f.size (4096 * at + 4096))) (sym lent)
+
+module _ (s : State) (lib : ℕ) (h : Handed) (j : IsJudgeable s lib (bundle_handed h)) where
+  abbrev b : Bundle
+  b = bundle_handed h
+
+  abbrev I : Image
+  I = settled s
+
+  abbrev C : Core
+  C = (settled s).core
+
+  abbrev cb : Core
+  cb = bundle_core (case_in s lib (bundle_handed h))
+
+  -- the blocks that a file had
+  pub numbers_were : (n : ℕ) (r : Row) (row : row_at (settled s) n ≡ Some r) → block_numbers (settled s) n (row_at (settled s) n) ≡ (met_at (settled s) j.kept.fit j.kept.verifies n r row).file.chain.blocks
+  numbers_were n r row = ap (block_numbers I n) row ∙ ap chain_blocks (chain_met I j.kept.fit j.kept.verifies n r row)
+
+  -- those of a written file are those that it was lent with
+  pub blocks_lent : (w : Written) → In w (bundle_handed h).writes → (r : Row) (row : row_at (settled s) w.ino ≡ Some r) → sheet_numbers w.blocks ≡ (met_at (settled s) j.kept.fit j.kept.verifies w.ino r row).file.chain.blocks
+  blocks_lent w i r row =
+      let g = j.given.writes w i in
+      let l = j.kept.lent g.grant g.is_open g.kind in
+      let m = met_at I j.kept.fit j.kept.verifies w.ino r row in
+      let same : l.met ≡ m.met = one_met C plain j.kept.fit j.kept.verifies.sound l.met m.met l.stands m.stands (l.number ∙ g.ino ∙ sym m.number) in
+      let read : Ok l.file ≡ Ok m.file = sym l.read ∙ ap (file_of C) same ∙ m.read in
+      let file : l.file ≡ m.file = cc read in
+      g.blocks ∙ l.blocks ∙ ap (λ (f : FileRead). f.chain.blocks) file
+
+  -- no block of a file that isn't written was handed in
+  pub clean_block : (n : ℕ) (r : Row) (row : row_at (settled s) n ≡ Some r) → Unwritten (bundle_handed h) n → (p : ℕ) → In p (met_at (settled s) j.kept.fit j.kept.verifies n r row).file.chain.blocks → is_touched h p ≡ false
+  clean_block n r row un p i =
+      let m = met_at I j.kept.fit j.kept.verifies n r row in
+      false_from_ne_true (is_touched h p)
+      (λ t.
+      let w = list_any-In (λ (f : HandedFile). list_any (λ (c : HandedPage). eqb c.no p && c.touched) f.blocks) h.writes t in
+      let c = list_any-In (λ (c : HandedPage). eqb c.no p && c.touched) w.0.blocks w.2 in
+      let at : c.0.no ≡ p = eqb-true c.0.no p (and_parts (eqb c.0.no p) c.0.touched c.2).0 in
+      let handed : In (sheet_handed c.0) (bundle_sheets b) =
+      In-left (sheet_handed c.0) (flat_map (λ (w : Written). w.index ++ w.blocks) b.writes) b.pages
+      (In-flat (λ (w : Written). w.index ++ w.blocks) (written_handed w.0) (sheet_handed c.0) b.writes (In-map written_handed w.0 h.writes w.1)
+      (In-right (sheet_handed c.0) (map sheet_handed w.0.index) (map sheet_handed w.0.blocks) (In-map sheet_handed c.0 w.0.blocks c.1))) in
+      let page : In p (bundle_pages b) = in_numbers (bundle_sheets b) (sheet_handed c.0) p handed (sym at) in
+      unwritten_apart s j.kept lib b j.given m.met p m.stands (λ v k same. un v k (same ∙ m.number)) (subst (λ l. In p l) (sym (pages_are C m.met m.file m.read)) (In-right p m.file.chain.index m.file.chain.blocks i)) page)
+
+  -- ---- the page of a lent block is handed in once
+
+  blocks_new : (m : Met) (f : FileRead) → In m (survey C plain) → file_of C m ≡ Ok f → are_new [] f.chain.blocks ≡ true
+  blocks_new m f i read =
+      let all : are_new [] (f.chain.index ++ f.chain.blocks) ≡ true = ap (are_new []) (sym (pages_are C m f read)) ∙ pages_new C (survey C plain) m (sound_parts C plain j.kept.verifies.sound).paged i in
+      are_new-fewer [] f.chain.index f.chain.blocks (λ n k. absurd k) (and_parts (are_new [] f.chain.index) (are_new f.chain.index f.chain.blocks) (sym (are_new-append [] f.chain.index f.chain.blocks) ∙ all)).1
+
+  one_handed : (w : Written) → In w b.writes → (x : Sheet) → In x w.blocks → (y : Sheet) → In y (bundle_sheets b) → y.page ≡ x.page → y.bytes ≡ x.bytes
+  one_handed w i x a y k at =
+      let g = j.given.writes w i in
+      let l = j.kept.lent g.grant g.is_open g.kind in
+      let paged = (sound_parts C plain j.kept.verifies.sound).paged in
+      let chain : sheet_numbers w.blocks ≡ l.file.chain.blocks = g.blocks ∙ l.blocks in
+      let mine : In x.page l.file.chain.blocks = subst (λ ps. In x.page ps) chain (in_numbers w.blocks x x.page a refl) in
+      let listed : In x.page (pages_of C l.met) = subst (λ ps. In x.page ps) (sym (pages_are C l.met l.file l.read)) (In-right x.page l.file.chain.index l.file.chain.blocks mine) in
+      elim (In-cases y (flat_map (λ (w : Written). w.index ++ w.blocks) b.writes) b.pages k) [
+        | inr fresh ↦
+            let o = j.given.pages y.page (in_numbers b.pages y y.page fresh refl) in
+            let z : slice_index s.home.owners x.page ≡ 0 = ap (slice_index s.home.owners) (sym at) ∙ j.kept.out_free y.page (ap is_some o) in
+            absurd (free_unlisted C plain j.kept.fit j.kept.verifies.sound (settled s) (tables s j.kept) x.page z l.met l.stands listed)
+        | inl own ↦
+            let v = flat_map-In (λ (w : Written). w.index ++ w.blocks) y b.writes own in
+            let g' = j.given.writes v.0 v.1 in
+            let l' = j.kept.lent g'.grant g'.is_open g'.kind in
+            elim (In-cases y v.0.index v.0.blocks v.2) [
+              | inl index ↦
+                  let number : In x.page l'.file.chain.index = subst (λ q. In q l'.file.chain.index) at (subst (λ ps. In y.page ps) (g'.index ∙ l'.index) (in_numbers v.0.index y y.page index refl)) in
+                  absurd (index_apart C (survey C plain) l'.met l.met l'.file l.file x.page paged l'.stands l.stands l'.read l.read number mine)
+              | inr block ↦
+                  let number : In x.page l'.file.chain.blocks = subst (λ q. In q l'.file.chain.blocks) at (subst (λ ps. In y.page ps) (g'.blocks ∙ l'.blocks) (in_numbers v.0.blocks y y.page block refl)) in
+                  let theirs : In x.page (pages_of C l'.met) = subst (λ ps. In x.page ps) (sym (pages_are C l'.met l'.file l'.read)) (In-right x.page l'.file.chain.index l'.file.chain.blocks number) in
+                  let same : l'.met ≡ l.met = page_owner C (survey C plain) l'.met l.met x.page paged l'.stands l.stands theirs listed in
+                  let ino : v.0.ino ≡ w.ino = sym (l'.number ∙ g'.ino) ∙ ap (λ (m : Met). m.ino) same ∙ l.number ∙ g.ino in
+                  let one : v.0 ≡ w = one_keyed (λ (z : Written). z.ino) b.writes v.0 w j.given.writes_once v.1 i ino in
+                  let there : In y w.blocks = subst (λ (z : Written). In y z.blocks) one block in
+                  let new : are_new [] (sheet_numbers w.blocks) ≡ true = ap (are_new []) chain ∙ blocks_new l.met l.file l.stands l.read in
+                  ap (λ (z : Sheet). z.bytes) (one_sheet [] w.blocks y x new there a at)
+            ]
+      ]
+
+  -- so it has the same bytes wherever it is put in place among pages of the bundle
+  pub block_alike : (w : Written) → In w (bundle_handed h).writes → (core : Core) (ss : List Sheet) (pages : List (Option (List ℕ))) → core.range ≡ (settled s).core.range → core.pages ≡ with_pages ss pages → (settled s).core.range.end ≤ length pages → ((y : Sheet) → In y ss → In y (bundle_sheets (bundle_handed h))) → (p : ℕ) → In p (sheet_numbers w.blocks) → In p (sheet_numbers ss) → page_of core p ≡ page_of (bundle_core (case_in s lib (bundle_handed h))) p
+  block_alike w i core ss pages range placed long sub p mine there =
+      let x = map-In (λ (z : Sheet). z.page) p w.blocks mine in
+      let at : x.0.page ≡ p = sym x.2 in
+      let g = j.given.writes w i in
+      let l = j.kept.lent g.grant g.is_open g.kind in
+      let block : In p l.file.chain.blocks = subst (λ ps. In p ps) (g.blocks ∙ l.blocks) mine in
+      let listed : In p (pages_of C l.met) = subst (λ ps. In p ps) (sym (pages_are C l.met l.file l.read)) (In-right p l.file.chain.index l.file.chain.blocks block) in
+      let c : is_core C.range p ≡ true = listed_is_core C l.met l.file p l.read listed in
+      let low : p < C.range.end = ltb-true p C.range.end (and_parts (leb C.range.first p) (ltb p C.range.end) c).1 in
+      let nothing : Option (List ℕ) = None in
+      let blanks : List (Option (List ℕ)) = replicate C.range.end None in
+      let here = place_there pages p (omega (arith, low, long)) in
+      let alone = place_there blanks p (omega (arith, low, length-replicate C.range.end nothing)) in
+      let handed : In p (bundle_pages b) = in_numbers (bundle_sheets b) x.0 p (In-left x.0 (flat_map (λ (w : Written). w.index ++ w.blocks) b.writes) b.pages (In-flat (λ (w : Written). w.index ++ w.blocks) w x.0 b.writes i (In-right x.0 w.index w.blocks x.1))) (sym at) in
+      let now : slice_get core.pages p ≡ Some (Some x.0.bytes) = ap (λ l. slice_get l p) placed ∙ with_pages_known ss pages p x.0.bytes here.0 there (λ y k on. one_handed w i x.0 x.1 y (sub y k) (on ∙ sym at)) here.1 in
+      let then : slice_get cb.pages p ≡ Some (Some x.0.bytes) = with_pages_known (bundle_sheets b) blanks p x.0.bytes alone.0 handed (λ y k on. one_handed w i x.0 x.1 y k (on ∙ sym at)) alone.1 in
+      page_from core p x.0.bytes (ap (λ q. is_core q p) range ∙ c) now ∙ sym (page_from cb p x.0.bytes c then)

@@ -1,0 +1,17 @@
+pub mod Counts
+pub mod Others
+pub mod Steps
+pub mod Namings
+pub mod Climbing
+pub mod Edges
+pub mod Spares
+pub mod Listed
+pub mod Rows
+pub mod Leases
+pub mod Accepting
+pub mod Moments
+pub mod Calls
+pub mod AcceptedNames
+pub mod AcceptedBytes
+pub mod AcceptedShown
+pub mod Settling

@@ -1,0 +1,187 @@
+-- After an accepted bundle: the bytes of its own files, and of those that stay as they were.
+use Rattle.std.proofs.Common.{◌≡◌, ℕ, true, false, eqb, Option, Some, None, Ok, sym, refl, ap, ◌∙◌, subst, inl, inr, take, List, []}
+use Rattle.std.specs.Prelude.{is_some, map}
+use Rattle.std.specs.List.{find}
+use Rattle.std.specs.Option.{option_and_then, unwrap_or}
+use Rattle.std.proofs.lemmas.Bool.{eqb-true, eq-eqb, false_from_ne_true}
+use Rattle.trio_rights.specs.Row.{Row}
+use Rattle.trio_rights.specs.Bundle.{Bundle, Written, is_written}
+use Rattle.trio_rights.specs.declared.kind.Kind.{Kind}
+use Rattle.trio_rights.specs.declared.kind.Kind.TheVariants.{Regular, Directory}
+use Rattle.trio_lists.specs.Lists.{In}
+use Rattle.trio_lists.proofs.Members.{In-right, flat_map-same, map-In}
+use Rattle.trio_lists.proofs.Filters.{find-In, In-find, some_one}
+use Rattle.trio_layout.specs.Core.{Core, page_of}
+use Rattle.trio_layout.specs.Survey.{Met, Pick, FileRead, plain, survey, file_of}
+use Rattle.trio_layout.specs.Sound.{is_sound}
+use Rattle.trio_layout.specs.Image.{Image, IsFit, row_at, settled_body}
+use Rattle.trio_layout.specs.Pages.{block_sheets, settled_chain, sheets_of}
+use Rattle.trio_layout.specs.Verifies.{Verifies}
+use Rattle.trio_layout.specs.Accept.{is_accepted, next}
+use Rattle.trio_layout.specs.Proposed.{proposed, proposed_pick}
+use Rattle.trio_layout.specs.Case.{Case, case_of, bundle_core}
+use Rattle.trio_layout.specs.Within.{file_within}
+use Rattle.trio_layout.specs.JudgedFiles.{judged_files}
+use Rattle.trio_layout.proofs.WithinCore.{listed_within_core}
+use Rattle.trio_state.specs.State.{State, settled, creds_of}
+use Rattle.trio_state.specs.Bundles.{Ends}
+use Rattle.trio_surveys.specs.Reading.{picked_entry}
+use Rattle.trio_surveys.proofs.BundlePages.{there_same}
+use Rattle.trio_surveys.proofs.Picked.{file_put, survey_put}
+use Rattle.trio_desk.specs.Shows.{bytes_read, bytes_now}
+use Rattle.trio_laws.specs.RuleLaws.{IsJudgeable}
+use Rattle.trio_laws.specs.history.Stands.{size_of, blocks_of, bytes_of, bytes_of_sheets, writer_of}
+use Rattle.trio_laws.proofs.Bundles.{Unwritten, unwritten_finds, written_from}
+use Rattle.trio_laws.proofs.history.AcceptedFiles.{fitJ, verifiesJ, now, kept_follows, plain_block, plain_page}
+use Rattle.trio_laws.proofs.history.Blocks.{flat_sheets}
+use Rattle.trio_laws.proofs.history.Follows.{bytes_follow, chain_read, size_read}
+use Rattle.trio_laws.proofs.history.Writers.{other_writer, no_writer, dead_writer}
+use Rattle.trio_laws.proofs.judgement.CaseFacts.{new_dead, written_find, written_row}
+use Rattle.trio_laws.proofs.judgement.JudgedFacts.{one_judged}
+use Rattle.trio_laws.proofs.judgement.MeetingEdges.{met_side, same_file}
+use Rattle.trio_laws.proofs.judgement.Sides.{Outside}
+use Rattle.trio_laws.proofs.judgement.Taking.{fit, sound, judged_met, reads}
+use Rattle.trio_laws.proofs.session.Spares.{judged_own}
+
+-- bytes that are replaced, or not
+abbrev pub bytes_after : Option (List ℕ) → List ℕ → List ℕ
+bytes_after None old = old
+bytes_after (Some bytes) old = bytes
+
+module _ (s s' : State) (lib : ℕ) (b : Bundle) (j : IsJudgeable s lib b) (acc : is_accepted (settled s) (creds_of s lib) b ≡ true) (ends : Ends s lib b (next (settled s) b) s') where
+  abbrev c : Case
+  c = case_of (settled s) (creds_of s lib) b
+
+  abbrev core : Core
+  core = proposed (settled s) b
+
+  abbrev pick : Pick
+  pick = proposed_pick (settled s) b
+
+  abbrev after : Image
+  after = next (settled s) b
+
+  abbrev Fit : IsFit (proposed (settled s) b)
+  Fit = fit s lib b j acc
+
+  abbrev Sound : is_sound core pick ≡ true
+  Sound = sound s lib b j acc
+
+  fit' : IsFit (next (settled s) b).core
+  fit' = fitJ s j.kept lib (creds_of s lib) b j.given acc
+
+  verifies' : Verifies (next (settled s) b)
+  verifies' = verifiesJ s j.kept lib (creds_of s lib) b j.given acc
+
+  -- the bytes of a file then
+  abbrev bytes_then : ℕ → Row → List ℕ
+  bytes_then n r = bytes_of after n r (writer_of s' n) r.kind
+
+  -- and before
+  abbrev bytes_before : ℕ → Row → List ℕ
+  bytes_before n r = bytes_of (settled s) n r (writer_of s n) r.kind
+
+  -- ---- a judged file
+
+  dead_unwritten : (n : ℕ) → row_at (settled s) n ≡ None → is_written b n ≡ false
+  dead_unwritten n dead =
+      false_from_ne_true (is_written b n)
+      (λ y.
+      let w = written_find s lib b j n y in
+      let r = written_row s lib b j w.0 w.1 in
+      let wrong : None ≡ Some r.0 = sym dead ∙ ap (row_at (settled s)) (sym w.2) ∙ r.1 in absurd (cc wrong))
+
+  -- no one has it for writing then
+  free_blocks : (m : Met) → In m (judged_files c) → (r : Row) → blocks_of after m.ino r (writer_of s' m.ino) ≡ block_sheets after.core (settled_chain after r.kind m.ino)
+  free_blocks m i r =
+      elim (judged_own c m i) [
+        | inl w ↦ ap (blocks_of after m.ino r) (no_writer s s' j.kept lib b j.given after ends m.ino (written_from b m.ino w))
+        | inr new ↦
+            let dead : row_at (settled s) m.ino ≡ None = new_dead s lib b j m.ino new in
+            other_writer s s' j.kept lib b j.given after ends m.ino (dead_unwritten m.ino dead) after r ∙ ap (blocks_of after m.ino r) (dead_writer s j.kept m.ino dead)
+      ]
+
+  -- a block of a regular one has the bundle's bytes
+  own_page : (m : Met) (i : In m (judged_files c)) (p : ℕ) → m.kind ≡ Regular → In p (reads s lib b j acc m i).file.chain.blocks → page_of after.core p ≡ page_of (bundle_core c) p
+  own_page m i p regular l =
+      let r = reads s lib b j acc m i in
+      let k = In-right p r.file.chain.index r.file.chain.blocks l in
+      plain_page s j.kept lib (creds_of s lib) b j.given acc m r.file p (judged_met s lib b j acc m i) r.whole (plain_block m.kind r.file p regular l)
+      ∙ there_same (settled s) (creds_of s lib) b j.kept.fit.long p (listed_within_core (bundle_core c) m r.file p r.within k) (r.own p k)
+
+  read_now : (m : Met) (i : In m (judged_files c)) → bytes_now c m.ino ≡ bytes_read (bundle_core c) m.kind (Ok (reads s lib b j acc m i).file)
+  read_now m i =
+      let f = In-find (λ (x : Met). eqb x.ino m.ino) (judged_files c) m i (eq-eqb m.ino m.ino refl) in
+      let g = find-In (λ (x : Met). eqb x.ino m.ino) (judged_files c) f.0 f.1 in
+      let same : f.0 ≡ m = one_judged s lib b j f.0 m g.0 i (eqb-true f.0.ino m.ino g.1) in
+      ap (option_and_then (λ (x : Met). bytes_read (bundle_core c) x.kind (file_within (bundle_core c) x))) (f.1 ∙ ap (λ (x : Met). Some x) same)
+      ∙ ap (bytes_read (bundle_core c) m.kind) (reads s lib b j acc m i).within
+
+  pub judged_bytes : (m : Met) → In m (judged_files c) → (r : Row) → row_at after m.ino ≡ Some r → r.kind ≡ m.kind → (old : List ℕ) → (m.kind ≡ Directory → old ≡ [])
+      → bytes_then m.ino r ≡ bytes_after (bytes_now c m.ino) old
+  judged_bytes m i r row kind old none =
+      ap (bytes_of after m.ino r (writer_of s' m.ino)) kind ∙ by m.kind refl ∙ sym (ap (λ o. bytes_after o old) (read_now m i))
+    where
+      by : (q : Kind) → m.kind ≡ q → bytes_of after m.ino r (writer_of s' m.ino) q ≡ bytes_after (bytes_read (bundle_core c) q (Ok (reads s lib b j acc m i).file)) old
+      by Directory d = sym (none d)
+      by Regular d =
+          let f = (reads s lib b j acc m i).file in
+          let met = judged_met s lib b j acc m i in
+          let placed : FileRead = record { body = f.body; chain = f.chain; entries = map (picked_entry pick m.ino) f.entries } in
+          let stands : In m (survey after.core plain) = subst (λ l. In m l) (sym (survey_put core pick Fit Sound)) met in
+          let put : file_of after.core m ≡ Ok placed = file_put core pick Fit Sound m f met (reads s lib b j acc m i).whole in
+          ap (bytes_of_sheets (size_of after m.ino)) (free_blocks m i r)
+          ∙ ap (λ o. bytes_of_sheets (size_of after m.ino) (block_sheets after.core o)) (chain_read after fit' verifies' m placed stands put r row)
+          ∙ ap (λ z. bytes_of_sheets z (sheets_of after.core f.chain.blocks)) (size_read after fit' verifies' m placed stands put r row)
+          ∙ ap (take f.body.size) (flat_sheets after f.chain.blocks)
+          ∙ ap (take f.body.size)
+          (flat_map-same (λ p. unwrap_or (page_of after.core p) []) (λ p. unwrap_or (page_of (bundle_core c) p) []) f.chain.blocks
+          (λ p l. ap (λ o. unwrap_or o []) (own_page m i p d l)))
+
+  -- ---- a file that stays as it was
+
+  -- a live file, with its kind and its settled body, that isn't written
+  abbrev StaysAs : Met → Type 0
+  StaysAs m = (q : Row) × (row_at (settled s) m.ino ≡ Some q) × (m.kind ≡ q.kind) × (m.body ≡ settled_body (settled s) m.ino) × Unwritten b m.ino
+
+  pub outside_bytes : (m : Met) → In m (survey core pick) → (o : Outside s lib b j (reads s lib b j acc) m) → (r : Row) → row_at after m.ino ≡ Some r → r.kind ≡ o.row.kind
+      → bytes_then m.ino r ≡ bytes_before m.ino o.row
+  outside_bytes m i o r row kind = ap (bytes_of after m.ino r (writer_of s' m.ino)) kind ∙ by o.row.kind refl
+    where
+      by : (q : Kind) → o.row.kind ≡ q → bytes_of after m.ino r (writer_of s' m.ino) q ≡ bytes_of (settled s) m.ino o.row (writer_of s m.ino) q
+      by Directory d = refl
+      by Regular d =
+          let w = now s j.kept lib (creds_of s lib) b j.given acc m.ino r row in
+          let same : w.met ≡ m = same_file s lib b j acc w.met m w.stands i w.number in
+          let stays : StaysAs w.met = subst StaysAs (sym same) (o.row, o.is_row, o.kind, o.body, o.unwritten) in
+          let f = kept_follows s j.kept lib (creds_of s lib) b j.given acc m.ino o.row r o.is_row row stays in
+          ap (bytes_of_sheets (size_of after m.ino)) (other_writer s s' j.kept lib b j.given after ends m.ino (ap is_some (unwritten_finds b m.ino o.unwritten)) after r)
+          ∙ bytes_follow (settled s) after j.kept.fit fit' j.kept.verifies verifies' m.ino o.row r o.is_row row f (writer_of s m.ino) Regular d
+
+  -- the bundle has no bytes of it
+  outside_unread : (m : Met) → Outside s lib b j (reads s lib b j acc) m → bytes_now c m.ino ≡ None
+  outside_unread m o = by (find (λ (x : Met). eqb x.ino m.ino) (judged_files c)) refl
+    where
+      by : (z : Option Met) → find (λ (x : Met). eqb x.ino m.ino) (judged_files c) ≡ z → option_and_then (λ (x : Met). bytes_read (bundle_core c) x.kind (file_within (bundle_core c) x)) z ≡ None
+      by None h = refl
+      by (Some x) h =
+          let f = find-In (λ (x : Met). eqb x.ino m.ino) (judged_files c) x h in
+          let is : x.ino ≡ m.ino = eqb-true x.ino m.ino f.1 in
+          elim (judged_own c x f.0) [
+            | inl w ↦ (let k = map-In (λ (w : Written). w.ino) x.ino b.writes w in absurd (o.unwritten k.0 k.1 (sym k.2 ∙ is)))
+            | inr new ↦ (let wrong : None ≡ Some o.row = sym (new_dead s lib b j x.ino new) ∙ ap (row_at (settled s)) is ∙ o.is_row in absurd (cc wrong))
+          ]
+
+  -- ---- any file that was there
+
+  pub live_bytes : (m : Met) (r r' : Row) → In m (survey core pick) → row_at (settled s) m.ino ≡ Some r → row_at after m.ino ≡ Some r' → r'.kind ≡ m.kind → r.kind ≡ m.kind
+      → bytes_then m.ino r' ≡ bytes_after (bytes_now c m.ino) (bytes_before m.ino r)
+  live_bytes m r r' i row row' kind' kind =
+      elim (met_side s lib b j acc m i) [
+        | inl k ↦ judged_bytes m k r' row' kind' (bytes_before m.ino r) (λ d. ap (bytes_of (settled s) m.ino r (writer_of s m.ino)) (kind ∙ d))
+        | inr o ↦
+            let same : o.row ≡ r = some_one (row_at (settled s) m.ino) o.row r o.is_row row in
+            outside_bytes m i o r' row' (kind' ∙ o.kind)
+            ∙ ap (bytes_before m.ino) same
+            ∙ sym (ap (λ z. bytes_after z (bytes_before m.ino r)) (outside_unread m o))
+      ]

@@ -1,0 +1,111 @@
+-- A call that is noted keeps what a session would hand in ready.
+use Rattle.std.proofs.Common.{◌≡◌, ℕ, suc, zero, ◌&&◌, eqb, is_ok, List, [], ◌∷◌, ◌++◌, Option, Some, None, sym, refl, ap, ◌∙◌, subst, inl, inr}
+use Rattle.std.specs.List.{flat_map, find, list_all}
+use Rattle.std.specs.Option.{option_map, option_and_then}
+use Rattle.std.proofs.lemmas.Bool.{false≢true}
+use Rattle.trio_rights.specs.Row.{Row}
+use Rattle.trio_rights.specs.declared.rights.Creds.{Creds}
+use Rattle.trio_lists.specs.Lists.{In, is_among, are_new}
+use Rattle.trio_lists.proofs.Members.{In-left}
+use Rattle.trio_layout.specs.Survey.{Met, Front, numbers, descend}
+use Rattle.trio_lease.specs.Shown.{Shown}
+use Rattle.trio_rights.specs.Bundle.{bundle_pages}
+use Rattle.trio_layout.specs.Case.{Case, bundle_core}
+use Rattle.trio_layout.specs.Within.{file_within}
+use Rattle.trio_layout.specs.JudgedFiles.{fronts, new_entries, judged_files, entries_in, pages_within}
+use Rattle.trio_layout.specs.Rules.{entry_in_grammar, entry_is_own, entry_keeps_rights, file_keeps_rights}
+use Rattle.trio_nodes.specs.declared.node.Node.{Node}
+use Rattle.trio_nodes.specs.declared.call.Done.{Done}
+use Rattle.trio_nodes.specs.Nodes.{Nodes, node_at}
+use Rattle.trio_nodes.specs.Apply.{Apply}
+use Rattle.trio_nodes.specs.After.{call_nodes, batch_nodes}
+use Rattle.trio_nodes.specs.Legal.{MadeFits, LegalCalls}
+use Rattle.trio_desk.specs.Shows.{Naming, namings_in, bytes_read, with_bytes, node_left, Shows}
+use Rattle.trio_desk.specs.Ready.{Library, ArePossible, lent_files, parcel_case}
+use Rattle.trio_desk.specs.Edits.{InHand, nothing}
+use Rattle.trio_laws.specs.session.Calls.{CallKeeps, LookKeeps, NothingIsReady}
+
+-- ---- one call more
+
+batch_more : (creds : Creds) (calls : List Done) (d : Done) (nodes : Nodes) → batch_nodes creds (calls ++ d ∷ []) nodes ≡ call_nodes creds (batch_nodes creds calls nodes) d
+batch_more creds [] d nodes = refl
+batch_more creds (c ∷ cs) d nodes = batch_more creds cs d (call_nodes creds nodes c)
+
+reply_more : (creds : Creds) (calls : List Done) (d : Done) (nodes : Nodes) → LegalCalls creds nodes calls
+    → Apply (batch_nodes creds calls nodes) creds d.call d.made d.reply (call_nodes creds (batch_nodes creds calls nodes) d) → MadeFits (batch_nodes creds calls nodes) d
+    → LegalCalls creds nodes (calls ++ d ∷ [])
+reply_more creds [] d nodes c a m = (a, m, tt)
+reply_more creds (x ∷ xs) d nodes c a m = (c.0, c.1, reply_more creds xs d (call_nodes creds nodes x) c.2 a m)
+
+pub call_keeps : CallKeeps
+call_keeps library h h' calls d change more edit does comes nodes rows possible =
+    let was = comes nodes rows (more nodes rows possible) in
+    let n1 : Nodes = batch_nodes library.desk.creds calls nodes in
+    let call = does nodes n1 rows possible was.1 in
+    let after = edit nodes n1 rows possible was.1 in
+    let end : batch_nodes library.desk.creds (calls ++ d ∷ []) nodes ≡ change n1 = batch_more library.desk.creds calls d nodes ∙ call.2 in (
+      reply_more library.desk.creds calls d nodes was.0 call.0 call.1,
+      subst (λ k. Shows (parcel_case library.sizes library.desk.creds rows h'.parcel) nodes k) (sym end) after,
+    )
+
+-- ---- nothing in hand
+
+no_fronts : (kids : Met → List Met) (k : ℕ) → fronts kids [] k ≡ record { passed = []; level = [] }
+no_fronts kids zero = refl
+no_fronts kids (suc k) = ap (descend kids) (no_fronts kids k)
+
+bytes_same : (o : Option Node) → option_map (with_bytes None) o ≡ o
+bytes_same None = refl
+bytes_same (Some x) = refl
+
+module _ (library : Library) (rows : List (Option Row)) where
+  abbrev c0 : Case
+  c0 = parcel_case library.sizes library.desk.creds rows nothing
+
+  none_judged : judged_files c0 ≡ []
+  unfolding judged_files
+  none_judged = ap (λ (w : Front). w.passed) (no_fronts (new_entries c0) (suc c0.inodes))
+
+  nothing_shows : (nodes : Nodes) → Shows c0 nodes nodes
+  nothing_shows nodes = record {
+    grammar =
+        ap (λ (js : List Met). list_all (λ m. is_ok (file_within (bundle_core c0) m)) js && list_all (entry_in_grammar c0) (flat_map (entries_in c0) js)) none_judged;
+    owning =
+        ap (λ (js : List Met). list_all (λ page. is_among page (bundle_pages c0.bundle)) (flat_map (pages_within c0) js) && are_new [] (flat_map (pages_within c0) js)
+        && list_all (entry_is_own c0) (flat_map (entries_in c0) js) && are_new [] (numbers (flat_map (entries_in c0) js))) none_judged;
+    rights =
+        ap (λ (js : List Met). list_all (entry_keeps_rights c0) (flat_map (entries_in c0) js) && list_all (λ m. file_keeps_rights c0 m (file_within (bundle_core c0) m)) js) none_judged;
+    each =
+        λ n. sym (ap (λ (js : List Met). option_map (with_bytes (option_and_then (λ m. bytes_read (bundle_core c0) m.kind (file_within (bundle_core c0) m)) (find (λ (m : Met). eqb m.ino n) js)))
+        (node_left c0 n (find (λ (e : Naming). eqb e.listed.entry.ino n) (flat_map (λ (m : Met). namings_in m.ino (file_within (bundle_core c0) m)) js)) (node_at nodes n))) none_judged
+        ∙ bytes_same (node_at nodes n));
+    whole = λ n x e i. absurd (false≢true (sym (ap (λ (js : List Met). is_among x.parent (numbers js)) none_judged) ∙ i));
+  }
+
+pub nothing_is_ready : NothingIsReady
+nothing_is_ready library back nodes rows possible = (tt, nothing_shows library rows nodes)
+
+-- ---- looks
+
+in_before : (f : Shown) (xs ys zs : List Shown) → In f (xs ++ ys) → In f (xs ++ (ys ++ zs))
+in_before f [] ys zs i = In-left f ys zs i
+in_before f (x ∷ xs) ys zs (inl e) = inl e
+in_before f (x ∷ xs) ys zs (inr i) = inr (in_before f xs ys zs i)
+
+-- what is possible with more files for reading was possible without
+fewer : (library : Library) (h : InHand) (more : List Shown) (nodes : Nodes) (rows : List (Option Row)) → ArePossible library h.parcel (h.back ++ more) nodes rows → ArePossible library h.parcel h.back nodes rows
+fewer library h more nodes rows p = record {
+  tree = p.tree;
+  agrees = record {
+    root_is = p.agrees.root_is;
+    files = λ f i. p.agrees.files f (in_before f (lent_files h.parcel.writes) h.back more i);
+    holds = p.agrees.holds;
+  };
+  none = p.none;
+  same = p.same;
+  places = λ f l i. p.places f l (in_before f (lent_files h.parcel.writes) h.back more i);
+}
+
+pub look_keeps : LookKeeps
+look_keeps library h more calls d does comes =
+    call_keeps library h (record { parcel = h.parcel; back = h.back ++ more }) calls d (λ n. n) (fewer library h more) (λ nodes nodes' rows p s. s) does comes

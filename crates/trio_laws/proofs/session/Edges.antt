@@ -1,0 +1,344 @@
+-- Where a bundle shows a tree in the place of a tree, it meets rule I3.
+use Rattle.std.proofs.Common.{◌≡◌, ℕ, suc, ◌<◌, ◌≤◌, Bool, true, false, cond, not, ◌&&◌, ◌||◌, ltb, ltb-true, ◌+◌, List, [], ◌∷◌, length, Option, Some, None, Ok, sym, refl, ap, ◌∙◌, subst, inl, inr, ◌⊎◌, arith}
+use Rattle.std.specs.Prelude.{is_some}
+use Rattle.std.specs.List.{list_any, list_all}
+use Rattle.std.specs.Option.{option_map, option_map_or}
+use Rattle.std.proofs.lemmas.Bool.{cases_Bool, cases_eq, and_parts, and_from, or_cases, or_left, or_right, eqb-true, false≢true, not_from_false, false_from_ne_true}
+use Rattle.trio_rights.specs.Row.{Row, row_in, is_child}
+use Rattle.trio_lists.specs.Lists.{In, is_among}
+use Rattle.trio_layout.specs.Core.{Core}
+use Rattle.trio_layout.specs.Survey.{Met, FileRead, numbers}
+use Rattle.trio_lists.proofs.Members.{In-map, In-is_among, is_among-In, list_all-In, list_all-each}
+use Rattle.trio_surveys.proofs.Images.{some_of}
+use Rattle.trio_layout.specs.Case.{Case, bundle_core}
+use Rattle.trio_layout.specs.Within.{file_within, entries_within}
+use Rattle.trio_layout.specs.JudgedFiles.{judged_files, judged_entries}
+use Rattle.trio_layout.specs.Listing.{ListedEntry, listing, is_kept}
+use Rattle.trio_layout.specs.Rules.{entry_is_own}
+use Rattle.trio_layout.specs.Edges.{climbs, climbs_clear, proposed_parent, is_listed, is_listed_kept, has_file, stays_listed, keeps_children, leaves_none, is_moved, comes_to_root, meets_edges}
+use Rattle.trio_nodes.specs.declared.node.Node.{Node}
+use Rattle.trio_nodes.specs.Nodes.{Nodes, node_at}
+use Rattle.trio_nodes.specs.Tree.{IsDirectory, IsTree}
+use Rattle.trio_desk.specs.Agrees.{Said, row_says, node_says}
+use Rattle.trio_desk.specs.Shows.{Naming, naming_of, bytes_now, with_bytes, placed, made_by, node_listed, node_left, Shows}
+use Rattle.trio_desk.specs.Among.{written_numbers, IsAmong}
+use Rattle.trio_laws.specs.session.Bundles.{EdgesFollow}
+use Rattle.trio_laws.proofs.session.Namings.{met_of, naming_is, listed_naming, parent_listed, parent_unlisted}
+use Rattle.trio_layout.proofs.EntryNumbers.{AreInodes, if_ok_at, is_inode, within_fit}
+use Rattle.trio_layout.proofs.WithinCore.{within_from}
+use Rattle.trio_layout.specs.Entries.{Listed}
+use Rattle.trio_surveys.proofs.OwnFiles.{place_parts}
+use Rattle.trio_surveys.proofs.RowsLaw.{row_there}
+use Rattle.trio_lists.proofs.Filters.{list_any-In, some_one}
+use Rattle.trio_laws.proofs.judgement.Allowing.{up_to_from}
+use Rattle.trio_laws.proofs.judgement.ListingFacts.{held_from, held_to, has_file_at, is_listed_by, kept_by}
+use Rattle.trio_laws.proofs.session.Climbing.{way_of, way_short, way_climbs}
+use Rattle.trio_surveys.proofs.Climbing.{climbs_past, climbs_more}
+
+-- an option in a list stands at a number
+in_rows : (rows : List (Option Row)) (r : Row) → In (Some r) rows → (n : ℕ) × (row_in rows n ≡ Some r)
+in_rows [] r i = absurd i
+in_rows (x ∷ xs) r (inl e) = (0, sym e)
+in_rows (x ∷ xs) r (inr i) = let k = in_rows xs r i in (suc k.0, k.1)
+
+-- the numbers that a directory names are numbers of the table
+listed_within : (core : Core) (m : Met) (f : FileRead) (l : Listed) → file_within core m ≡ Ok f → In l f.entries → l.entry.ino < core.inodes + 1
+listed_within core m f l e i =
+    let w = within_from core m f e in
+    let all : AreInodes core.inodes f.entries = if_ok_at (entries_within core m.kind f.chain.blocks) f.entries (AreInodes core.inodes) w.entries (within_fit core m.kind f.chain.blocks) in
+    let one = list_all-In (λ (x : Listed). is_inode core.inodes x.entry.ino) l f.entries all i in
+    ltb-true l.entry.ino (core.inodes + 1) (and_parts (ltb 0 l.entry.ino) (ltb l.entry.ino (core.inodes + 1)) one).1
+
+module _ (c : Case) (nodes nodes' : Nodes) (tree : IsTree nodes) (tree' : IsTree nodes') (a : IsAmong c nodes) (s : Shows c nodes nodes') where
+  -- ---- rows and nodes
+
+  said_node : (o : Option Row) (p : Option Node) (r : Row) → option_map row_says o ≡ option_map node_says p → o ≡ Some r → (x : Node) × (p ≡ Some x) × (r.parent ≡ x.parent)
+  said_node None p r e t = absurd (let wrong : None ≡ Some r = t in cc)
+  said_node (Some q) None r e t = absurd (let wrong : Some (row_says q) ≡ None = e in cc)
+  said_node (Some q) (Some x) r e t =
+      let same : q ≡ r = (let t' : Some q ≡ Some r = t in cc t') in
+      let says : row_says q ≡ node_says x = (let e' : Some (row_says q) ≡ Some (node_says x) = e in cc e') in
+      (x, refl, sym (ap (λ (z : Row). z.parent) same) ∙ ap (λ (z : Said). z.parent) says)
+
+  -- a live number has a node, with the row's parent
+  pub row_node : (n : ℕ) (r : Row) → row_in c.rows n ≡ Some r → (x : Node) × (node_at nodes n ≡ Some x) × (r.parent ≡ x.parent)
+  row_node n r e = said_node (row_in c.rows n) (node_at nodes n) r (a.same n) e
+
+  said_row : (o : Option Row) (p : Option Node) (x : Node) → option_map row_says o ≡ option_map node_says p → p ≡ Some x → (r : Row) × (o ≡ Some r) × (r.parent ≡ x.parent)
+  said_row o None x e t = absurd (let wrong : None ≡ Some x = t in cc)
+  said_row None (Some y) x e t = absurd (let wrong : None ≡ Some (node_says y) = e in cc)
+  said_row (Some q) (Some y) x e t =
+      let same : y ≡ x = (let t' : Some y ≡ Some x = t in cc t') in
+      let says : row_says q ≡ node_says y = (let e' : Some (row_says q) ≡ Some (node_says y) = e in cc e') in
+      (q, refl, ap (λ (z : Said). z.parent) says ∙ ap (λ (z : Node). z.parent) same)
+
+  pub node_row : (n : ℕ) (x : Node) → node_at nodes n ≡ Some x → (r : Row) × (row_in c.rows n ≡ Some r) × (r.parent ≡ x.parent)
+  node_row n x e = said_row (row_in c.rows n) (node_at nodes n) x (a.same n) e
+
+  no_zero : (o : Option Node) → node_at nodes 0 ≡ o → (x : Node) → o ≡ Some x → ⊥
+  no_zero o e x t = let wrong : None ≡ Some x = sym tree.none ∙ e ∙ t in cc
+
+  pub live_above : (n : ℕ) → is_some (row_in c.rows n) ≡ true → n ≡ 0 → ⊥
+  live_above n y e =
+      let r = some_of (row_in c.rows n) y in
+      let x = row_node n r.0 r.1 in no_zero (Some x.0) (ap (node_at nodes) (sym e) ∙ x.1) x.0 refl
+
+  -- ---- what becomes of a number
+
+  parent_with : (o : Option (List ℕ)) (x : Node) → (with_bytes o x).parent ≡ x.parent
+  parent_with None x = refl
+  parent_with (Some bytes) x = refl
+
+  -- what is listed is there, in the directory that lists it
+  listed_left : (e : Naming) (o : Option Node) → (x : Node) × (node_listed e o ≡ Some x) × (x.parent ≡ e.directory)
+  listed_left e None = (made_by e, refl, refl)
+  listed_left e (Some x) = (placed e x, refl, refl)
+
+  pub listed_now : (n : ℕ) (e : Naming) → naming_of c n ≡ Some e → (x : Node) × (node_at nodes' n ≡ Some x) × (x.parent ≡ e.directory)
+  listed_now n e h =
+      let l = listed_left e (node_at nodes n) in
+      let is : node_at nodes' n ≡ Some (with_bytes (bytes_now c n) l.0) =
+      s.each n ∙ ap (λ o. option_map (with_bytes (bytes_now c n)) (node_left c n o (node_at nodes n))) h ∙ ap (option_map (with_bytes (bytes_now c n))) l.1 in
+      (with_bytes (bytes_now c n) l.0, is, parent_with (bytes_now c n) l.0 ∙ l.2)
+
+  pub unlisted_now : (n : ℕ) → naming_of c n ≡ None → node_at nodes' n ≡ option_map (with_bytes (bytes_now c n)) (cond (is_among n c.bundle.holds) None (node_at nodes n))
+  unlisted_now n h = s.each n ∙ ap (λ o. option_map (with_bytes (bytes_now c n)) (node_left c n o (node_at nodes n))) h
+
+  pub held_gone : (n : ℕ) → naming_of c n ≡ None → In n c.bundle.holds → node_at nodes' n ≡ None
+  held_gone n h i =
+      unlisted_now n h ∙ ap (λ b. option_map (with_bytes (bytes_now c n)) (cond b None (node_at nodes n))) (In-is_among n c.bundle.holds i)
+
+  pub left_now : (n : ℕ) (x : Node) → naming_of c n ≡ None → is_among n c.bundle.holds ≡ false → node_at nodes n ≡ Some x → (y : Node) × (node_at nodes' n ≡ Some y) × (y.parent ≡ x.parent)
+  left_now n x h free t = (
+    with_bytes (bytes_now c n) x,
+    unlisted_now n h ∙ ap (λ b. option_map (with_bytes (bytes_now c n)) (cond b None (node_at nodes n))) free ∙ ap (option_map (with_bytes (bytes_now c n))) t,
+    parent_with (bytes_now c n) x,
+  )
+
+  -- where nothing lists it and it is there, it was
+  pub was_there : (n : ℕ) (y : Node) → naming_of c n ≡ None → node_at nodes' n ≡ Some y → (x : Node) × (node_at nodes n ≡ Some x) × (y.parent ≡ x.parent)
+  was_there n y h t = by (is_among n c.bundle.holds) (node_at nodes n) refl (sym (unlisted_now n h) ∙ t)
+    where
+      by : (b : Bool) (o : Option Node) → node_at nodes n ≡ o → option_map (with_bytes (bytes_now c n)) (cond b None o) ≡ Some y → (x : Node) × (node_at nodes n ≡ Some x) × (y.parent ≡ x.parent)
+      by true o e w = absurd (let wrong : None ≡ Some y = w in cc)
+      by false None e w = absurd (let wrong : None ≡ Some y = w in cc)
+      by false (Some x) e w =
+          let w' : Some (with_bytes (bytes_now c n) x) ≡ Some y = w in
+          let same : with_bytes (bytes_now c n) x ≡ y = cc w' in
+          (x, e, sym (ap (λ (z : Node). z.parent) same) ∙ parent_with (bytes_now c n) x)
+
+  -- ---- whose an entry is
+
+  owning_parts : (list_all (entry_is_own c) (judged_entries c)) ≡ true
+  owning_parts =
+      let p = and_parts _ _ s.owning in
+      let q = and_parts _ (list_all (entry_is_own c) (judged_entries c)) p.0 in q.1
+
+  pub own : (n : ℕ) (e : Naming) → naming_of c n ≡ Some e → (is_kept c (met_of e) ≡ true) ⊎ (In n c.bundle.holds ⊎ In n c.bundle.numbers)
+  unfolding met_of
+  own n e h =
+      let i = naming_is c n e h in
+      let o : entry_is_own c (met_of e) ≡ true = list_all-In (entry_is_own c) (met_of e) (judged_entries c) owning_parts i.met in
+      elim (or_cases (is_kept c (met_of e) || is_among e.listed.entry.ino c.bundle.holds) (is_among e.listed.entry.ino c.bundle.numbers) o) [
+        | inl p ↦
+            elim (or_cases (is_kept c (met_of e)) (is_among e.listed.entry.ino c.bundle.holds) p) [
+              | inl k ↦ inl k
+              | inr q ↦ inr (inl (subst (λ m. In m c.bundle.holds) i.number (is_among-In e.listed.entry.ino c.bundle.holds q)))
+            ]
+        | inr q ↦ inr (inr (subst (λ m. In m c.bundle.numbers) i.number (is_among-In e.listed.entry.ino c.bundle.numbers q)))
+      ]
+
+  pub new_dead : (n : ℕ) (r : Row) → row_in c.rows n ≡ Some r → In n c.bundle.numbers → ⊥
+  new_dead n r e i = let wrong : None ≡ Some r = sym (a.new n i) ∙ e in cc
+
+  -- ---- no recorded child is lost
+
+  -- a kept child is listed so
+  kept_listed : (n : ℕ) (e : Naming) → naming_of c n ≡ Some e → is_kept c (met_of e) ≡ true → is_listed_kept (listing c) n ≡ true
+  unfolding met_of
+  kept_listed n e h k =
+      let i = naming_is c n e h in
+      kept_by c (met_of e) n i.met i.number k
+
+  file_judged : (p : ℕ) → has_file (listing c) p ≡ true → is_among p (numbers (judged_files c)) ≡ true
+  file_judged p y =
+      let m = has_file_at c p y in
+      In-is_among p (numbers (judged_files c)) (subst (λ k. In k (numbers (judged_files c))) m.2 (In-map (λ (x : Met). x.ino) m.0 (judged_files c) m.1))
+
+  child_stays : (n : ℕ) (r : Row) → row_in c.rows n ≡ Some r → has_file (listing c) r.parent ≡ true → (is_among n (listing c).held ≡ false) → is_listed_kept (listing c) n ≡ true
+  child_stays n r e f free = by (naming_of c n) refl
+    where
+      not_held : In n c.bundle.holds → ⊥
+      not_held i = false≢true (sym free ∙ In-is_among n (listing c).held (held_to c n i))
+
+      by : (o : Option Naming) → naming_of c n ≡ o → is_listed_kept (listing c) n ≡ true
+      by (Some x) h =
+          elim (own n x h) [
+            | inl k ↦ kept_listed n x h k
+            | inr (inl i) ↦ absurd (not_held i)
+            | inr (inr i) ↦ absurd (new_dead n r e i)
+          ]
+      by None h =
+          let x = row_node n r e in
+          let y = left_now n x.0 h (false_from_ne_true (is_among n c.bundle.holds) (λ t. not_held (is_among-In n c.bundle.holds t))) x.1 in
+          let j : is_among y.0.parent (numbers (judged_files c)) ≡ true = ap (λ p. is_among p (numbers (judged_files c))) (y.2 ∙ sym x.2) ∙ file_judged r.parent f in
+          let there : is_some (naming_of c n) ≡ true = s.whole n y.0 y.1 j in
+          absurd (false≢true (ap is_some (sym h) ∙ there))
+
+  stays : (n : ℕ) (o : Option Row) → row_in c.rows n ≡ o → stays_listed (listing c) n o ≡ true
+  stays n None e = refl
+  stays n (Some r) e =
+      elim (cases_Bool (has_file (listing c) r.parent)) [
+        | inr no' ↦ or_left (not (has_file (listing c) r.parent) || is_among n (listing c).held) (is_listed_kept (listing c) n) (or_left (not (has_file (listing c) r.parent)) (is_among n (listing c).held) (not_from_false (has_file (listing c) r.parent) no'))
+        | inl yes' ↦
+            elim (cases_Bool (is_among n (listing c).held)) [
+              | inl held ↦ or_left (not (has_file (listing c) r.parent) || is_among n (listing c).held) (is_listed_kept (listing c) n) (or_right (not (has_file (listing c) r.parent)) (is_among n (listing c).held) held)
+              | inr free ↦ or_right (not (has_file (listing c) r.parent) || is_among n (listing c).held) (is_listed_kept (listing c) n) (child_stays n r e yes' free)
+            ]
+      ]
+
+  children_kept : keeps_children (listing c) c.rows ≡ true
+  children_kept = up_to_from (λ n. stays_listed (listing c) n (row_in c.rows n)) (length c.rows) (λ n low high. stays n (row_in c.rows n) refl)
+
+  -- ---- no held file is dropped over its children
+
+  is_there : (n : ℕ) (e : Naming) → naming_of c n ≡ Some e → is_listed (listing c) n ≡ true
+  unfolding met_of
+  is_there n e h =
+      let i = naming_is c n e h in
+      is_listed_by c (met_of e) n i.met i.number
+
+  pub kept_parent : (m : ℕ) (e : Naming) (r : Row) → naming_of c m ≡ Some e → row_in c.rows m ≡ Some r → is_kept c (met_of e) ≡ true → r.parent ≡ e.directory
+  unfolding met_of
+  kept_parent m e r h t k =
+      let i = naming_is c m e h in
+      let q = place_parts e.directory e.listed.page e.listed.slot (row_in c.rows e.listed.entry.ino) k in
+      let same : q.0 ≡ r = some_one (row_in c.rows m) q.0 r (ap (row_in c.rows) (sym i.number) ∙ q.1) t in
+      ap (λ (z : Row). z.parent) (sym same) ∙ q.2
+
+  -- whatever lies in a directory that is gone
+  lies_nowhere : (n m : ℕ) (y : Node) → (n ≡ 0 → ⊥) → node_at nodes' n ≡ None → node_at nodes' m ≡ Some y → y.parent ≡ n → ⊥
+  lies_nowhere n m y high gone there p =
+      elim (cases_eq m 1) [
+        | inl one ↦
+            let same : y ≡ tree'.root.0 = (let w : Some y ≡ Some tree'.root.0 = sym there ∙ ap (node_at nodes') one ∙ tree'.root.1 in cc w) in
+            high (sym p ∙ ap (λ (z : Node). z.parent) same ∙ tree'.root.3)
+        | inr d ↦
+            subst IsDirectory (ap (node_at nodes') p ∙ gone) (tree'.parents m y there d)
+      ]
+
+  no_child : (n m : ℕ) (r : Row) → In n c.bundle.holds → naming_of c n ≡ None → row_in c.rows m ≡ Some r → r.parent ≡ n → ⊥
+  no_child n m r i h t p = by (naming_of c m) refl
+    where
+      high : n ≡ 0 → ⊥
+      high = live_above n (a.held n i)
+
+      gone : node_at nodes' n ≡ None
+      gone = held_gone n h i
+
+      held_too : In m c.bundle.holds → ⊥
+      held_too j = a.apart n i (subst (λ k. In k (written_numbers c)) p (a.closed m r j t))
+
+      by : (o : Option Naming) → naming_of c m ≡ o → ⊥
+      by (Some e) g =
+          let y = listed_now m e g in
+          elim (own m e g) [
+            | inl k ↦ lies_nowhere n m y.0 high gone y.1 (y.2 ∙ sym (kept_parent m e r g t k) ∙ p)
+            | inr (inl j) ↦ held_too j
+            | inr (inr j) ↦ new_dead m r t j
+          ]
+      by None g =
+          let x = row_node m r t in
+          let y = left_now m x.0 g (false_from_ne_true (is_among m c.bundle.holds) (λ w. held_too (is_among-In m c.bundle.holds w))) x.1 in
+          lies_nowhere n m y.0 high gone y.1 (y.2 ∙ sym x.2 ∙ p)
+
+  child_row : (n : ℕ) (o : Option Row) → is_child n o ≡ true → (r : Row) × (o ≡ Some r) × (r.parent ≡ n)
+  child_row n None e = absurd (false≢true e)
+  child_row n (Some r) e = (r, refl, eqb-true r.parent n e)
+
+  held_left : (n : ℕ) → In n c.bundle.holds → leaves_none (listing c) c.rows n ≡ true
+  held_left n i = by (naming_of c n) refl
+    where
+      by : (o : Option Naming) → naming_of c n ≡ o → leaves_none (listing c) c.rows n ≡ true
+      by (Some e) h = or_left (is_listed (listing c) n) (not (list_any (is_child n) c.rows)) (is_there n e h)
+      by None h =
+          or_right (is_listed (listing c) n) (not (list_any (is_child n) c.rows))
+          (not_from_false (list_any (is_child n) c.rows)
+          (false_from_ne_true (list_any (is_child n) c.rows)
+          (λ y.
+          let o = list_any-In (is_child n) c.rows y in
+          let r = child_row n o.0 o.2 in
+          let m = in_rows c.rows r.0 (subst (λ z. In z c.rows) r.1 o.1) in
+          no_child n m.0 r.0 i h m.1 r.2)))
+
+  none_dropped : list_all (leaves_none (listing c) c.rows) (listing c).held ≡ true
+  none_dropped = list_all-each (leaves_none (listing c) c.rows) (listing c).held (λ n i. held_left n (held_from c n i))
+
+  -- ---- no directory is moved below itself
+
+  parent_now : (n : ℕ) (y : Node) → node_at nodes' n ≡ Some y → (n ≡ 1 → ⊥) → proposed_parent (listing c) c.rows n ≡ y.parent
+  parent_now n y t d = by (naming_of c n) refl
+    where
+      by : (o : Option Naming) → naming_of c n ≡ o → proposed_parent (listing c) c.rows n ≡ y.parent
+      by (Some e) h =
+          let l = listed_now n e h in
+          let same : l.0 ≡ y = (let w : Some l.0 ≡ Some y = sym l.1 ∙ t in cc w) in
+          parent_listed c n e h ∙ sym l.2 ∙ ap (λ (z : Node). z.parent) same
+      by None h =
+          let x = was_there n y h t in
+          let r = node_row n x.0 x.1 in
+          parent_unlisted c n h ∙ ap (λ o. option_map_or (λ (q : Row). q.parent) o 0) r.1 ∙ r.2 ∙ sym x.2
+
+  inside_now : (n : ℕ) (y : Node) → node_at nodes' n ≡ Some y → n < length c.rows
+  inside_now n y t = by (naming_of c n) refl
+    where
+      by : (o : Option Naming) → naming_of c n ≡ o → n < length c.rows
+      by (Some e) h =
+          let i = naming_is c n e h in
+          let l : e.listed.entry.ino < c.inodes + 1 = listed_within (bundle_core c) i.judged_by i.file e.listed i.read i.entry in
+          let number = i.number in
+          let many = a.many in
+          omega (arith, l, number, many)
+      by None h =
+          let x = was_there n y h t in
+          let r = node_row n x.0 x.1 in row_there c.rows n (ap is_some r.1)
+
+  held_below_root : (n : ℕ) → In n c.bundle.holds → n ≡ 1 → ⊥
+  held_below_root n i e =
+      let r = some_of (row_in c.rows n) (a.held n i) in
+      let x = row_node n r.0 r.1 in
+      let same : x.0 ≡ tree.root.0 = (let w : Some x.0 ≡ Some tree.root.0 = sym x.1 ∙ ap (node_at nodes) e ∙ tree.root.1 in cc w) in
+      let top : r.0.parent ≡ 0 = x.2 ∙ ap (λ (z : Node). z.parent) same ∙ tree.root.3 in
+      live_above 0 (a.written 0 (subst (λ k. In k (written_numbers c)) top (a.closed n r.0 i r.1))) refl
+
+  moved_climbs : (e : ListedEntry) → In e (listing c).entries → In e.ino c.bundle.holds
+      → climbs_clear (proposed_parent (listing c) c.rows) e.ino (length c.rows) (proposed_parent (listing c) c.rows e.ino) ≡ true
+  moved_climbs e i held =
+      let parent : ℕ → ℕ = proposed_parent (listing c) c.rows in
+      let w = listed_naming c e i in
+      let y = listed_now e.ino w.0 w.1 in
+      let way = way_of nodes' tree' e.ino y.0 y.1 in
+      let short : length way.0 < length c.rows = way_short nodes' tree' (length c.rows) inside_now e.ino way.0 way.1 in
+      let climb : climbs parent (length way.0) e.ino ≡ true = way_climbs nodes' tree' parent parent_now e.ino way.0 way.1 in
+      let more : length way.0 ≤ length c.rows = omega (arith, short) in
+      climbs_past parent e.ino (length c.rows) (held_below_root e.ino held) (climbs_more parent (length way.0) (length c.rows) e.ino more climb)
+
+  all_come : list_all (comes_to_root (listing c) c.rows) (listing c).entries ≡ true
+  all_come = list_all-each (comes_to_root (listing c) c.rows) (listing c).entries (λ e i. by e i (is_moved (listing c) c.rows e) refl)
+    where
+      by : (e : ListedEntry) → In e (listing c).entries → (b : Bool) → is_moved (listing c) c.rows e ≡ b → comes_to_root (listing c) c.rows e ≡ true
+      by e i false m = or_left (not (is_moved (listing c) c.rows e)) _ (not_from_false (is_moved (listing c) c.rows e) m)
+      by e i true m =
+          let p = and_parts (is_among e.ino (listing c).held && not e.kept) _ m in
+          let q = and_parts (is_among e.ino (listing c).held) (not e.kept) p.0 in
+          or_right (not (is_moved (listing c) c.rows e)) _
+          (moved_climbs e i (held_from c e.ino (is_among-In e.ino (listing c).held q.0)))
+
+  pub edges_met : meets_edges (listing c) c.rows ≡ true
+  edges_met =
+      and_from (keeps_children (listing c) c.rows && list_all (leaves_none (listing c) c.rows) (listing c).held) (list_all (comes_to_root (listing c) c.rows) (listing c).entries)
+      (and_from (keeps_children (listing c) c.rows) (list_all (leaves_none (listing c) c.rows) (listing c).held) children_kept none_dropped)
+      all_come
+
+pub edges_follow : EdgesFollow
+edges_follow c nodes nodes' tree tree' a s = edges_met c nodes nodes' tree tree' a s

@@ -1,0 +1,261 @@
+-- What a lease shows is true of the nodes at its grant.
+use Rattle.std.proofs.Common.{◌≡◌, ℕ, true, cond, eqb, List, [], ◌∷◌, ◌++◌, take, Option, Some, None, Ok, sym, refl, ap, ◌∙◌, subst, inl, inr, arith}
+use Rattle.std.specs.Prelude.{map}
+use Rattle.std.specs.List.{find, flat_map, cons_option}
+use Rattle.std.specs.Option.{option_map}
+use Rattle.std.proofs.lemmas.Bool.{cases_eq, eqb-true, eq-eqb, ne_eqb}
+use Rattle.trio_rights.specs.Row.{Row, row_in, is_child}
+use Rattle.trio_rights.specs.Sheets.{Sheet}
+use Rattle.trio_rights.specs.declared.kind.Kind.{Kind}
+use Rattle.trio_rights.specs.declared.kind.Kind.TheVariants.{Regular, Directory}
+use Rattle.trio_rights.specs.declared.rights.Mode.{Mode}
+use Rattle.trio_lists.specs.Lists.{In, gathered, both, there_or}
+use Rattle.trio_lists.proofs.Members.{result_then-Ok, there_or-Ok, both-Ok}
+use Rattle.trio_lists.proofs.Filters.{find-In, In-find, Ok-one}
+use Rattle.trio_layout.specs.declared.body.Body.{Body}
+use Rattle.trio_layout.specs.Body.{body_at}
+use Rattle.trio_layout.specs.Core.{Core, at_page, page_of}
+use Rattle.trio_layout.specs.Entries.{Listed, entries_on, page_entries, entries_of_kind}
+use Rattle.trio_layout.specs.Image.{Image, row_at, settled_body}
+use Rattle.trio_layout.specs.Pages.{sheets_of, settled_chain, block_sheets}
+use Rattle.trio_layout.specs.Proposed.{is_place_of}
+use Rattle.trio_layout.specs.Survey.{Met, FileRead, plain, met_in, survey, children, file_of, row_by}
+use Rattle.trio_lease.specs.Shown.{Shown}
+use Rattle.trio_lease.specs.Views.{lent_sheet}
+use Rattle.trio_lease.specs.declared.parts.LentPage.{LentPage}
+use Rattle.trio_nodes.specs.declared.grant.GrantKind.TheVariants.{Read, Write, Hold}
+use Rattle.trio_nodes.specs.declared.node.Node.{Node}
+use Rattle.trio_nodes.specs.Nodes.{Nodes, node_at, is_in, count_in}
+use Rattle.trio_nodes.specs.Tree.{IsTree}
+use Rattle.trio_onetree.proofs.Children.{one_node}
+use Rattle.trio_state.specs.Kept.{Kept}
+use Rattle.trio_state.specs.State.{State, settled}
+use Rattle.trio_surveys.proofs.Images.{MetAt, met_numbered, one_met, read_met, row_at_is, row_met}
+use Rattle.trio_surveys.proofs.Local.{reads_from}
+use Rattle.trio_surveys.proofs.OwnFiles.{place_from}
+use Rattle.trio_surveys.proofs.Places.{gathers_directory}
+use Rattle.trio_surveys.proofs.Reached.{child_met, no_root_listed}
+use Rattle.trio_surveys.proofs.Tree.{child_has}
+use Rattle.trio_desk.specs.Contents.{Sizes, Rights, rights_of, rights_in, ShownEntry, entry_of_node, entry_of_listed, entries_shown, entries_or_none, entries_lent, bytes_shown}
+use Rattle.trio_desk.specs.Agrees.{Said, row_says, node_says, HasRights, HasContent, HasFile, HasPlaces}
+use Rattle.trio_laws.specs.history.Stands.{name_of, size_of, blocks_of, bytes_of, bytes_of_sheets, node_by, node_of, writer_of, nodes_of}
+use Rattle.trio_laws.specs.session.Grants.{LeaseShows, HoldShows}
+use Rattle.trio_laws.proofs.history.Facts.{live, node_is}
+use Rattle.trio_laws.proofs.history.Follows.{body_is_at, name_at_entry}
+use Rattle.trio_laws.proofs.history.Listing.{met_at, body_met, chain_met, listing, tables_of}
+use Rattle.trio_laws.proofs.history.StandsTree.{states_are_trees}
+use Rattle.trio_laws.proofs.session.Counts.{count_pair}
+use Rattle.trio_laws.proofs.session.Rows.{rows_say}
+
+-- ---- lent pages and the pages of a core
+
+no_more : (x : LentPage) (xs : List LentPage) → map lent_sheet (x ∷ xs) ≡ [] → ⊥
+no_more x xs e = let wrong : lent_sheet x ∷ map lent_sheet xs ≡ [] = e in cc
+
+lent_entries : (core : Core) (pages : List ℕ) (blocks : List LentPage) (es : List Listed) → map lent_sheet blocks ≡ sheets_of core pages → gathered (page_entries core) pages ≡ Ok es
+    → gathered (λ (p : LentPage). entries_on core.inodes p.no.0 p.page) blocks ≡ Ok es
+lent_entries core [] [] es e g = g
+lent_entries core [] (x ∷ xs) es e g = absurd (no_more x xs e)
+lent_entries core (p ∷ ps) blocks es e g =
+    let h = both-Ok (page_entries core p) (gathered (page_entries core) ps) es g in
+    let t = result_then-Ok (entries_on core.inodes p) (there_or (at_page p) (page_of core p)) h.0 h.2 in
+    let there : page_of core p ≡ Some t.0 = there_or-Ok (at_page p) (page_of core p) t.0 t.1 in
+    let sheets : map lent_sheet blocks ≡ record { page = p; bytes = t.0 } ∷ sheets_of core ps =
+    e ∙ ap (λ o. cons_option (option_map (λ bytes. record { page = p; bytes = bytes }) o) (sheets_of core ps)) there in
+    by blocks t.0 h.0 h.1 h.2 t.2 sheets (λ ys k. lent_entries core ps ys h.1 k h.3) h.4
+  where
+    by : (blocks : List LentPage) (bytes : List ℕ) (xs ys : List Listed) → page_entries core p ≡ Ok xs → entries_on core.inodes p bytes ≡ Ok xs
+        → map lent_sheet blocks ≡ record { page = p; bytes = bytes } ∷ sheets_of core ps
+        → ((ys' : List LentPage) → map lent_sheet ys' ≡ sheets_of core ps → gathered (λ (q : LentPage). entries_on core.inodes q.no.0 q.page) ys' ≡ Ok ys)
+        → xs ++ ys ≡ es → gathered (λ (q : LentPage). entries_on core.inodes q.no.0 q.page) blocks ≡ Ok es
+    by [] bytes xs ys a o m k j = absurd (let wrong : [] ≡ record { page = p; bytes = bytes } ∷ sheets_of core ps = m in cc)
+    by (z ∷ zs) bytes xs ys a o m k j =
+        let m' : lent_sheet z ∷ map lent_sheet zs ≡ record { page = p; bytes = bytes } ∷ sheets_of core ps = m in
+        let head : lent_sheet z ≡ record { page = p; bytes = bytes } = cc m' in
+        let tail : map lent_sheet zs ≡ sheets_of core ps = cc m' in
+        let first : entries_on core.inodes z.no.0 z.page ≡ Ok xs = ap (λ (x : Sheet). entries_on core.inodes x.page x.bytes) head ∙ o in
+        ap (λ r. both r (gathered (λ (q : LentPage). entries_on core.inodes q.no.0 q.page) zs)) first ∙ ap (both (Ok xs)) (k zs tail) ∙ ap Ok j
+
+lent_bytes : (blocks : List LentPage) → flat_map (λ (p : LentPage). p.page) blocks ≡ flat_map (λ (x : Sheet). x.bytes) (map lent_sheet blocks)
+lent_bytes [] = refl
+lent_bytes (x ∷ xs) = ap (λ l. x.page ++ l) (lent_bytes xs)
+
+module _ (s : State) (k : Kept s) (ino : ℕ) (r : Row) (row : row_at s.home ino ≡ Some r) where
+  abbrev image : Image
+  image = settled s
+
+  abbrev core : Core
+  core = (settled s).core
+
+  abbrev nodes : Nodes
+  nodes = nodes_of s
+
+  abbrev file : MetAt (settled s).core plain ino r
+  file = met_at (settled s) k.fit k.verifies ino r row
+
+  tree : IsTree (nodes_of s)
+  tree = states_are_trees s k
+
+  kind_is : r.kind ≡ file.met.kind
+  kind_is = ap (λ (x : Row). x.kind) file.row
+
+  node_here : node_at nodes ino ≡ Some (node_of image ino (writer_of s ino) r)
+  node_here = node_is s k ino ∙ ap (node_by image ino (writer_of s ino)) row
+
+  rights_are : (n : ℕ) (kind : Kind) (bytes : List ℕ) → n ≡ ino → kind ≡ r.kind → bytes ≡ settled_body (settled s) ino → HasRights (rights_in kind bytes) (node_at nodes n)
+  rights_are n kind bytes number same body =
+      let spelled : body_at bytes ≡ file.file.body =
+      ap body_at (body ∙ body_met (settled s) k.fit k.verifies ino r row)
+      ∙ body_is_at file.met.kind core.range file.met.body file.file.body (reads_from core file.met file.file file.read).body in
+      let mode : r.mode ≡ (body_at bytes).mode = ap (λ (x : Row). x.mode) file.row ∙ ap (λ (x : Body). x.mode) (sym spelled) in
+      let uid : r.uid ≡ (body_at bytes).uid = ap (λ (x : Row). x.uid) file.row ∙ ap (λ (x : Body). x.uid) (sym spelled) in
+      let gid : r.gid ≡ (body_at bytes).gid = ap (λ (x : Row). x.gid) file.row ∙ ap (λ (x : Body). x.gid) (sym spelled) in
+      let F : Kind → Mode → ℕ → ℕ → Option Rights = λ q m u g. Some (record { kind = q; mode = m; uid = u; gid = g }) in
+      ap (λ m. option_map rights_of (node_at nodes m)) number ∙ ap (option_map rights_of) node_here
+      ∙ ap (λ q. F q r.mode r.uid r.gid) (sym same) ∙ ap (λ m. F kind m r.uid r.gid) mode ∙ ap (λ u. F kind (body_at bytes).mode u r.gid) uid
+      ∙ ap (F kind (body_at bytes).mode (body_at bytes).uid) gid
+
+  not_zero : ino ≡ 0 → ⊥
+  not_zero none =
+      let low = (met_numbered core plain k.fit k.verifies.sound file.met file.stands).0 in
+      let number = file.number in omega (arith, low, number, none)
+
+  -- ---- a directory
+
+  module _ (directory : r.kind ≡ Directory) where
+    gathers : gathered (page_entries core) file.file.chain.blocks ≡ Ok file.file.entries
+    gathers =
+        (gathers_directory core file.file.chain.blocks file.file.entries
+        (ap (λ q. entries_of_kind core q file.file.chain.blocks) (sym directory ∙ kind_is) ∙ (reads_from core file.met file.file file.read).entries)).0
+
+    -- the file of an entry
+    abbrev child : Listed → Met
+    child l = met_in plain file.met.ino l
+
+    kid : (l : Listed) → In l file.file.entries → In (child l) (children core plain file.met)
+    kid l i = child_has core plain file.met file.file l file.read i
+
+    child_stands : (l : Listed) → In l file.file.entries → In (child l) (survey core plain)
+    child_stands l i = child_met core plain k.fit.numbers k.verifies.sound file.met (child l) file.stands (kid l i)
+
+    child_row : (l : Listed) → In l file.file.entries → (f : FileRead) × (file_of core (child l) ≡ Ok f) × (row_at s.home l.entry.ino ≡ Some (row_by (child l) f.body))
+    child_row l i =
+        let f = read_met core plain k.fit k.verifies.sound (child l) (child_stands l i) in
+        (f.0, f.1, row_at_is core plain k.fit k.verifies.sound image (tables_of image k.fit k.verifies) l.entry.ino ∙ row_met core plain k.fit k.verifies.sound (child l) f.0 (child_stands l i) f.1)
+
+    place_is : (l : Listed) → In l file.file.entries → is_place_of ino l.page l.slot (row_at s.home l.entry.ino) ≡ true
+    place_is l i =
+        let q = child_row l i in place_from ino l.page l.slot (row_at s.home l.entry.ino) (row_by (child l) q.0.body) q.2 file.number refl refl
+
+    -- what an entry shows is true of its node
+    entry_is : (l : Listed) → In l file.file.entries → entry_of_node ino (node_at nodes l.entry.ino) ≡ Some (entry_of_listed l)
+    entry_is l i =
+        let q = child_row l i in
+        let z : Row = row_by (child l) q.0.body in
+        let x : Node = node_of image l.entry.ino (writer_of s l.entry.ino) z in
+        let below : l.entry.ino ≡ 1 → ⊥ = λ one. no_root_listed core plain k.fit.numbers k.verifies.sound file.met (child l) file.stands (kid l i) one in
+        let name : name_of image l.entry.ino z ≡ l.entry.name = name_at_entry image file.met file.file l l.entry.ino z file.read i below refl refl in
+        let body : q.0.body ≡ body_at l.body = sym (body_is_at l.entry.kind core.range l.body q.0.body (reads_from core (child l) q.0 q.1).body) in
+        let F : List ℕ → Body → Option ShownEntry = λ n b. Some (record { name = n; rights = record { kind = l.entry.kind; mode = b.mode; uid = b.uid; gid = b.gid } }) in
+        ap (entry_of_node ino) (node_is s k l.entry.ino ∙ ap (node_by image l.entry.ino (writer_of s l.entry.ino)) q.2)
+        ∙ ap (λ t. cond t (F x.name q.0.body) None) (eq-eqb file.met.ino ino file.number)
+        ∙ ap (λ n. F n q.0.body) name ∙ ap (F l.entry.name) body
+
+    -- a node in the directory is that of an entry
+    none_other : (n : ℕ) → find (λ (l : Listed). eqb l.entry.ino n) file.file.entries ≡ None → entry_of_node ino (node_at nodes n) ≡ None
+    none_other n h = by (node_at nodes n) refl
+      where
+        here : (x : Node) → node_at nodes n ≡ Some x → x.parent ≡ ino → ⊥
+        here x e p =
+            elim (cases_eq n 1) [
+              | inl one ↦
+                  let same : x ≡ tree.root.0 = one_node (node_at nodes 1) x tree.root.0 (ap (node_at nodes) (sym one) ∙ e) tree.root.1 in
+                  not_zero (sym p ∙ ap (λ (z : Node). z.parent) same ∙ tree.root.3)
+              | inr d ↦
+                  let l = live s k n x e in
+                  let q = listing image k.fit k.verifies n l.row l.at d in
+                  let number : q.parent.ino ≡ file.met.ino = sym q.above ∙ ap (λ (z : Node). z.parent) (sym l.before) ∙ p ∙ sym file.number in
+                  let same : q.parent ≡ file.met = one_met core plain k.fit k.verifies.sound q.parent file.met q.met file.stands number in
+                  let read : q.file ≡ file.file = Ok-one (file_of core q.parent) q.file file.file q.read (ap (file_of core) same ∙ file.read) in
+                  let i : In q.entry file.file.entries = subst (λ (z : FileRead). In q.entry z.entries) read q.listed in
+                  let g = In-find (λ (y : Listed). eqb y.entry.ino n) file.file.entries q.entry i (eq-eqb q.entry.entry.ino n q.number) in
+                  let wrong : None ≡ Some g.0 = sym h ∙ g.1 in absurd (cc wrong)
+            ]
+
+        by : (o : Option Node) → node_at nodes n ≡ o → entry_of_node ino o ≡ None
+        by None e = refl
+        by (Some x) e = ap (λ t. cond t (Some (record { name = x.name; rights = rights_of x })) None) (ne_eqb x.parent ino (here x e))
+
+    entry_for : (n : ℕ) → entry_of_node ino (node_at nodes n) ≡ option_map entry_of_listed (find (λ (l : Listed). eqb l.entry.ino n) file.file.entries)
+    entry_for n = by (find (λ (l : Listed). eqb l.entry.ino n) file.file.entries) refl
+      where
+        by : (o : Option Listed) → find (λ (l : Listed). eqb l.entry.ino n) file.file.entries ≡ o → entry_of_node ino (node_at nodes n) ≡ option_map entry_of_listed o
+        by None h = none_other n h
+        by (Some l) h =
+            let f = find-In (λ (y : Listed). eqb y.entry.ino n) file.file.entries l h in
+            ap (λ m. entry_of_node ino (node_at nodes m)) (sym (eqb-true l.entry.ino n f.1)) ∙ entry_is l f.0
+
+  -- ---- the lease
+
+  module _ (sizes : Sizes) (same_sizes : sizes.inodes ≡ s.home.core.inodes) (f : Shown) (number : f.ino ≡ ino) (kind : f.kind ≡ r.kind)
+      (body : f.body ≡ settled_body (settled s) ino) (blocks : map lent_sheet f.blocks ≡ block_sheets core (settled_chain (settled s) r.kind ino)) (alone : writer_of s ino ≡ None) where
+    sheets : map lent_sheet f.blocks ≡ sheets_of core file.file.chain.blocks
+    sheets = blocks ∙ ap (block_sheets core) (chain_met (settled s) k.fit k.verifies ino r row)
+
+    entries_are : r.kind ≡ Directory → entries_shown sizes f ≡ file.file.entries
+    entries_are directory =
+        ap (λ q. entries_lent sizes.inodes q f.blocks) (kind ∙ directory)
+        ∙ ap (λ n. entries_or_none (gathered (λ (p : LentPage). entries_on n p.no.0 p.page) f.blocks)) same_sizes
+        ∙ ap entries_or_none (lent_entries core file.file.chain.blocks f.blocks file.file.entries sheets (gathers directory))
+
+    content : (q : Kind) → f.kind ≡ q → HasContent sizes nodes f q
+    content Directory d = λ n.
+        ap (λ i. entry_of_node i (node_at nodes n)) number ∙ entry_for (sym kind ∙ d) n
+        ∙ sym (ap (λ ls. option_map entry_of_listed (find (λ (l : Listed). eqb l.entry.ino n) ls)) (entries_are (sym kind ∙ d)))
+    content Regular d =
+        let same : bytes_of (settled s) ino r (writer_of s ino) r.kind ≡ bytes_shown f =
+        ap (bytes_of (settled s) ino r (writer_of s ino)) (sym kind ∙ d)
+        ∙ ap (λ w. bytes_of_sheets (size_of (settled s) ino) (blocks_of (settled s) ino r w)) alone
+        ∙ ap (λ ls. bytes_of_sheets (size_of (settled s) ino) ls) (sym blocks)
+        ∙ ap (λ l. take (body_at l).size (flat_map (λ (x : Sheet). x.bytes) (map lent_sheet f.blocks))) (sym body)
+        ∙ ap (take (body_at f.body).size) (sym (lent_bytes f.blocks)) in
+        ap (λ n. option_map (λ (x : Node). x.bytes) (node_at nodes n)) number ∙ ap (option_map (λ (x : Node). x.bytes)) (node_here) ∙ ap (λ l. Some l) same
+
+    places : HasPlaces sizes (record { files = f ∷ []; holds = [] }) s.home.rows
+    places g l (inr i) j = absurd i
+    places g l (inl e) j =
+        let j' : In l (entries_shown sizes f) = subst (λ x. In l (entries_shown sizes x)) e j in
+        ap (λ (x : Shown). is_place_of x.ino l.page l.slot (row_at s.home l.entry.ino)) e
+        ∙ ap (λ i. is_place_of i l.page l.slot (row_at s.home l.entry.ino)) number ∙ by f.kind refl j'
+      where
+        by : (q : Kind) → f.kind ≡ q → In l (entries_shown sizes f) → is_place_of ino l.page l.slot (row_at s.home l.entry.ino) ≡ true
+        by Directory d i = place_is (sym kind ∙ d) l (subst (λ ls. In l ls) (entries_are (sym kind ∙ d)) i)
+        by Regular d i = absurd (subst (λ ls. In l ls) (ap (λ q. entries_lent sizes.inodes q f.blocks) d) i)
+
+    shown_true : HasFile sizes nodes f × HasPlaces sizes (record { files = f ∷ []; holds = [] }) s.home.rows
+    shown_true = (record { rights = rights_are f.ino f.kind f.body number kind body; content = content f.kind refl }, places)
+
+pub leases_show : LeaseShows
+leases_show s lib ino Read r sizes f k row lends alone same l = shown_true s k ino r row sizes same f l.ino l.kind l.body l.blocks alone
+leases_show s lib ino Write r sizes f k row lends alone same l = shown_true s k ino r row sizes same f l.ino l.kind l.body l.blocks alone
+leases_show s lib ino Hold r sizes f k row lends alone same l = absurd lends
+
+-- ---- holds
+
+child_said : (ino : ℕ) (o : Option Row) (p : Option Node) → option_map row_says o ≡ option_map node_says p → is_in ino p ≡ is_child ino o
+child_said ino None None e = refl
+child_said ino None (Some x) e = absurd (let wrong : None ≡ Some (node_says x) = e in cc)
+child_said ino (Some q) None e = absurd (let wrong : Some (row_says q) ≡ None = e in cc)
+child_said ino (Some q) (Some x) e =
+    let e' : Some (row_says q) ≡ Some (node_says x) = e in
+    let says : row_says q ≡ node_says x = cc e' in
+    ap (λ (z : Said). eqb z.parent ino) (sym says)
+
+pub holds_show : HoldShows
+holds_show s lib ino r h k row l = record {
+  rights = rights_are s k ino r row h.ino h.kind h.body l.ino l.kind l.body;
+  children =
+      ap (count_in (nodes_of s)) l.ino
+      ∙ count_pair (is_in ino) (is_child ino) refl refl (nodes_of s) s.home.rows (λ n. child_said ino (row_in s.home.rows n) (node_at (nodes_of s) n) (rows_say s k n))
+      ∙ sym l.children;
+}

@@ -1,0 +1,100 @@
+-- What a session reads in its own directories is true of the nodes that it shows.
+use Rattle.std.proofs.Common.{◌≡◌, ℕ, Bool, true, false, cond, not, ◌&&◌, ◌||◌, eqb, List, Option, Some, None, sym, refl, ap, ◌∙◌, subst, inl, inr, ◌⊎◌}
+use Rattle.std.specs.Prelude.{is_some}
+use Rattle.std.specs.List.{list_all}
+use Rattle.std.specs.Option.{option_map}
+use Rattle.std.specs.Str.{bytes_eq}
+use Rattle.std.proofs.lemmas.Bool.{and_parts, or_cases, ne_eqb, false≢true, not_from_true, both_ways}
+use Rattle.trio_rights.specs.Row.{Row, row_in}
+use Rattle.trio_rights.specs.declared.kind.Kind.{Kind}
+use Rattle.trio_lists.specs.Lists.{In, is_among}
+use Rattle.trio_layout.specs.Survey.{numbers}
+use Rattle.trio_layout.specs.Allowed.{has_kind}
+use Rattle.trio_lists.proofs.Members.{list_all-In, In-is_among}
+use Rattle.trio_laws.proofs.judgement.RuleParts.{has_kind_is}
+use Rattle.trio_layout.specs.Case.{Case}
+use Rattle.trio_layout.specs.JudgedFiles.{judged_files, judged_entries}
+use Rattle.trio_layout.specs.Listing.{is_kept}
+use Rattle.trio_layout.specs.Rules.{entry_keeps_rights, lent_body}
+use Rattle.trio_nodes.specs.declared.node.Node.{Node}
+use Rattle.trio_nodes.specs.Nodes.{Nodes, node_at, entry_in}
+use Rattle.trio_nodes.specs.Tree.{IsTree}
+use Rattle.trio_desk.specs.Agrees.{Said, row_says, node_says}
+use Rattle.trio_desk.specs.Shows.{Naming, naming_of, bytes_now, with_bytes, placed, made_by, node_listed, node_left, Shows}
+use Rattle.trio_desk.specs.Among.{IsAmong}
+use Rattle.trio_desk.specs.Edits.{listed_now}
+use Rattle.trio_laws.specs.session.Bundles.{NowIsListed}
+use Rattle.trio_laws.proofs.session.Edges.{own, node_row, new_dead}
+use Rattle.trio_laws.proofs.session.Namings.{met_of, naming_is}
+
+-- a node that is listed with this kind
+pub record IsListedAs (o : Option Node) (e : Naming) : Type 0 where
+  pub node : Node
+  pub there : o ≡ Some node
+  pub parent : node.parent ≡ e.directory
+  pub name : node.name ≡ e.listed.entry.name
+  pub kind : node.kind ≡ e.listed.entry.kind
+
+with_as : (o : Option (List ℕ)) (e : Naming) (x : Node) → x.parent ≡ e.directory → x.name ≡ e.listed.entry.name → x.kind ≡ e.listed.entry.kind → IsListedAs (Some (with_bytes o x)) e
+with_as None e x a b c = record { node = x; there = refl; parent = a; name = b; kind = c }
+with_as (Some bytes) e x a b c = record { node = record x { bytes = bytes }; there = refl; parent = a; name = b; kind = c }
+
+module _ (c : Case) (nodes nodes' : Nodes) (tree : IsTree nodes) (tree' : IsTree nodes') (a : IsAmong c nodes) (s : Shows c nodes nodes') where
+  keeps : (e : Naming) (n : ℕ) → naming_of c n ≡ Some e → entry_keeps_rights c (met_of e) ≡ true
+  keeps e n h =
+      let i = naming_is c n e h in
+      list_all-In (entry_keeps_rights c) (met_of e) (judged_entries c) (and_parts (list_all (entry_keeps_rights c) (judged_entries c)) _ s.rights).0 i.met
+
+  -- the entry of a live file has its row's kind
+  kind_kept : (e : Naming) (n : ℕ) (r : Row) → naming_of c n ≡ Some e → row_in c.rows n ≡ Some r → e.listed.entry.kind ≡ r.kind
+  unfolding met_of
+  kind_kept e n r h row =
+      let i = naming_is c n e h in
+      let there : row_in c.rows e.listed.entry.ino ≡ Some r = ap (row_in c.rows) i.number ∙ row in
+      by (is_kept c (met_of e)) there (own c nodes nodes' tree tree' a s n e h) refl (keeps e n h) i.number
+    where
+      by : (t : Bool) → row_in c.rows e.listed.entry.ino ≡ Some r → (is_kept c (met_of e) ≡ true) ⊎ (In n c.bundle.holds ⊎ In n c.bundle.numbers) → is_kept c (met_of e) ≡ t
+          → cond t (has_kind e.listed.entry.kind (row_in c.rows e.listed.entry.ino)) (not (is_among e.listed.entry.ino c.bundle.holds) || (has_kind e.listed.entry.kind (row_in c.rows e.listed.entry.ino) && bytes_eq e.listed.body (lent_body c e.listed.entry.ino))) ≡ true
+          → e.listed.entry.ino ≡ n → e.listed.entry.kind ≡ r.kind
+      by true there o t k number = has_kind_is e.listed.entry.kind (row_in c.rows e.listed.entry.ino) r there k
+      by false there (inl y) t k number = absurd (both_ways (is_kept c (met_of e)) t y)
+      by false there (inr (inr new)) t k number = absurd (new_dead c nodes nodes' tree tree' a s n r row new)
+      by false there (inr (inl held)) t k number =
+          elim (or_cases (not (is_among e.listed.entry.ino c.bundle.holds)) _ k) [
+            | inl free ↦
+                let among : is_among e.listed.entry.ino c.bundle.holds ≡ true = In-is_among e.listed.entry.ino c.bundle.holds (subst (λ m. In m c.bundle.holds) (sym number) held) in
+                absurd (false≢true (sym (not_from_true (is_among e.listed.entry.ino c.bundle.holds) among) ∙ free))
+            | inr both ↦ has_kind_is e.listed.entry.kind (row_in c.rows e.listed.entry.ino) r there (and_parts (has_kind e.listed.entry.kind (row_in c.rows e.listed.entry.ino)) _ both).0
+          ]
+
+  listed_as : (e : Naming) (n : ℕ) → naming_of c n ≡ Some e → IsListedAs (node_at nodes' n) e
+  listed_as e n h =
+      subst (λ o. IsListedAs o e) (sym (s.each n ∙ ap (λ o. option_map (with_bytes (bytes_now c n)) (node_left c n o (node_at nodes n))) h)) (by (node_at nodes n) refl)
+    where
+      by : (o : Option Node) → node_at nodes n ≡ o → IsListedAs (option_map (with_bytes (bytes_now c n)) (node_listed e o)) e
+      by None t = with_as (bytes_now c n) e (made_by e) refl refl refl
+      by (Some x) t =
+          let r = node_row c nodes nodes' tree tree' a s n x t in
+          let same : option_map row_says (row_in c.rows n) ≡ option_map node_says (node_at nodes n) = a.same n in
+          let says : Some (row_says r.0) ≡ Some (node_says x) = sym (ap (option_map row_says) r.1) ∙ same ∙ ap (option_map node_says) t in
+          let said : row_says r.0 ≡ node_says x = cc says in
+          with_as (bytes_now c n) e (placed e x) refl refl (ap (λ (z : Said). z.rights.kind) (sym said) ∙ sym (kind_kept e n r.0 h r.1))
+
+  listed_in : (directory n : ℕ) → is_among directory (numbers (judged_files c)) ≡ true → (o : Option Naming) → naming_of c n ≡ o → entry_in directory (node_at nodes' n) ≡ listed_now directory o
+  listed_in directory n i (Some e) h =
+      let l = listed_as e n h in
+      let F : ℕ → List ℕ → Kind → Option (List ℕ × Kind) = λ p m q. cond (eqb p directory) (Some (m, q)) None in
+      ap (entry_in directory) l.there ∙ ap (λ p. F p l.node.name l.node.kind) l.parent ∙ ap (λ m. F e.directory m l.node.kind) l.name ∙ ap (F e.directory e.listed.entry.name) l.kind
+  listed_in directory n i None h = by (node_at nodes' n) refl
+    where
+      by : (o : Option Node) → node_at nodes' n ≡ o → entry_in directory o ≡ None
+      by None t = refl
+      by (Some y) t =
+          let F : Option (List ℕ × Kind) = Some (y.name, y.kind) in
+          ap (λ b. cond b F None)
+          (ne_eqb y.parent directory
+          (λ p. (let there : is_some (naming_of c n) ≡ true = s.whole n y t (ap (λ k. is_among k (numbers (judged_files c))) p ∙ i) in
+          false≢true (ap is_some (sym h) ∙ there))))
+
+pub now_is_listed : NowIsListed
+now_is_listed c nodes nodes' tree tree' a s directory n i = listed_in c nodes nodes' tree tree' a s directory n i (naming_of c n) refl

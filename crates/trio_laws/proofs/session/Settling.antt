@@ -1,0 +1,93 @@
+-- What a settle comes to, and that the history allows it.
+use Rattle.std.proofs.Common.{◌≡◌, ℕ, true, false, not, ◌&&◌, eqb, sym, refl, ap, ◌∙◌, subst, inl, inr}
+use Rattle.std.specs.Prelude.{map}
+use Rattle.std.proofs.lemmas.Bool.{false_from_ne_true, and_parts, eqb-true, eq-eqb, false≢true, not_from_true}
+use Rattle.trio_rights.specs.declared.rights.Creds.{Creds}
+use Rattle.trio_nodes.specs.declared.grant.GrantKind.{GrantKind}
+use Rattle.trio_nodes.specs.declared.grant.GrantKind.TheVariants.{Read, Write, Hold}
+use Rattle.trio_lists.specs.Lists.{In}
+use Rattle.trio_rights.specs.Bundle.{Bundle, Written}
+use Rattle.trio_layout.specs.Proposed.{proposed, proposed_pick}
+use Rattle.trio_layout.specs.Image.{Image, row_at}
+use Rattle.trio_surveys.proofs.Images.{row_at_is}
+use Rattle.trio_laws.proofs.Survivors.{unheld_row}
+use Rattle.trio_laws.proofs.judgement.Taking.{fit, sound}
+use Rattle.trio_state.specs.Given.{HasGrant}
+use Rattle.trio_state.specs.State.{OpenGrant, State, settled, creds_of}
+use Rattle.trio_nodes.specs.GrantKinds.{is_read}
+use Rattle.trio_desk.specs.Ready.{bundle_of}
+use Rattle.trio_state.specs.Step.{Step, Settle, Settled, NoMemory}
+use Rattle.trio_layout.specs.Accept.{is_accepted, next}
+use Rattle.trio_state.specs.Bundles.{Ends}
+use Rattle.trio_laws.proofs.StateFacts.{alone}
+use Rattle.trio_layout.specs.Case.{Case, case_of}
+use Rattle.trio_laws.specs.RuleLaws.{IsJudgeable}
+use Rattle.trio_nodes.specs.Nodes.{Nodes}
+use Rattle.trio_nodes.specs.Standing.{Standing, is_others}
+use Rattle.trio_nodes.specs.After.{batch_nodes}
+use Rattle.trio_nodes.specs.Legal.{SparesOthers, KeepsRights, LegalCalls}
+use Rattle.trio_laws.specs.history.Stands.{nodes_of, standing_of}
+use Rattle.trio_desk.specs.Among.{IsForeign}
+use Rattle.trio_laws.specs.session.Settles.{SettleEndsInCalls, ReadyIsLegal, PlacesStay}
+use Rattle.trio_laws.proofs.history.StandsTree.{states_are_trees}
+use Rattle.trio_lists.proofs.Filters.{list_any-In, list_any-map}
+use Rattle.trio_lists.proofs.Members.{map-In}
+use Rattle.trio_laws.proofs.session.AcceptedShown.{accepted_is_shown}
+use Rattle.trio_laws.proofs.session.Spares.{shown_spares}
+use Rattle.trio_laws.proofs.session.Accepting.{closed_hold, written_grant, among, replies_then, shown_then, tree_then}
+
+settled_end : (s s' : State) (lib : ℕ) (b : Bundle) → Step s (Settle lib b) Settled s' → (is_accepted (settled s) (creds_of s lib) b ≡ true) × Ends s lib b (next (settled s) b) s'
+settled_end s s' lib b (inl d) = (d.2, d.3)
+settled_end s s' lib b (inr n) = absurd (let wrong : Settled ≡ NoMemory = n.1 in cc)
+
+pub settle_ends_in_calls : SettleEndsInCalls
+settle_ends_in_calls s s' library b back calls m ready step n =
+    let lib : ℕ = library.desk.lib.0 in
+    let e = settled_end s s' lib (bundle_of b) step in
+    accepted_is_shown s s' lib (bundle_of b) m.judgeable e.0 e.1 n ∙ sym ((shown_then s library b back calls m ready).each n)
+
+read_is : (k : GrantKind) → is_read k ≡ true → k ≡ Read
+read_is Read e = refl
+read_is Write e = absurd (false≢true e)
+read_is Hold e = absurd (false≢true e)
+
+module _ (s : State) (lib : ℕ) (b : Bundle) (j : IsJudgeable s lib b) where
+  -- two grants on one file of which one is no read grant are one
+  not_both : (n : ℕ) (g : OpenGrant) (kind : GrantKind) (h : HasGrant s lib n kind) → is_read kind ≡ false → In g s.open_grants → g.ino ≡ n → (g.lib ≡ lib → ⊥) → ⊥
+  not_both n g kind h quiet i ino other =
+      let same : h.grant ≡ g = alone s.open_grants h.grant g j.kept.apart h.is_open i (ap is_read h.kind ∙ quiet) (h.ino ∙ sym ino) in
+      other (sym (ap (λ (x : OpenGrant). x.lib) same) ∙ h.lib)
+
+  foreign_by : (n : ℕ) → is_others (map standing_of s.open_grants) lib n ≡ true → IsForeign (case_of (settled s) (creds_of s lib) b) n
+  foreign_by n o =
+      let g = list_any-In (λ (x : OpenGrant). not (eqb x.lib lib) && eqb x.ino n) s.open_grants (sym (list_any-map standing_of (λ (x : Standing). not (eqb x.lib lib) && eqb x.ino n) s.open_grants) ∙ o) in
+      let p = and_parts (not (eqb g.0.lib lib)) (eqb g.0.ino n) g.2 in
+      let ino : g.0.ino ≡ n = eqb-true g.0.ino n p.1 in
+      let other : g.0.lib ≡ lib → ⊥ = λ e. false≢true (sym (not_from_true (eqb g.0.lib lib) (eq-eqb g.0.lib lib e)) ∙ p.0) in (
+        λ w. not_both n g.0 Write (written_grant s lib b j n w) refl g.1 ino other,
+        λ h. not_both n g.0 Hold (j.given.holds n h) refl g.1 ino other,
+      )
+
+pub ready_is_legal : ReadyIsLegal
+ready_is_legal s library b back calls m ready none =
+    let lib : ℕ = library.desk.lib.0 in
+    let after : Creds → Nodes = λ c. batch_nodes c calls (nodes_of s) in
+    let c : Case = case_of (settled s) (creds_of s lib) (bundle_of b) in
+    let t = shown_spares c (nodes_of s) (after library.desk.creds) (states_are_trees s m.judgeable.kept) (tree_then s library b back calls m ready) (among s lib (bundle_of b) m.judgeable) (shown_then s library b back calls m ready) in
+    let spares : SparesOthers (map standing_of s.open_grants) lib (nodes_of s) (after library.desk.creds) = λ n x e o. t.1 n x e (foreign_by s lib (bundle_of b) m.judgeable n o) in
+    record {
+      done = subst (λ k. LegalCalls k (nodes_of s) calls) m.creds (replies_then s library b back calls m ready);
+      reads = λ g i mine.
+          let h = map-In standing_of g s.open_grants i in
+          ap (λ (x : Standing). is_read x.kind) h.2
+          ∙ false_from_ne_true (is_read h.0.kind) (λ y. none h.0 h.1 (sym (ap (λ (x : Standing). x.lib) h.2) ∙ mine) (read_is h.0.kind y));
+      rights = subst (λ k. KeepsRights (nodes_of s) (after k)) m.creds t.0;
+      others = subst (λ k. SparesOthers (map standing_of s.open_grants) lib (nodes_of s) (after k)) m.creds spares;
+    }
+
+pub places_stay : PlacesStay
+places_stay s s' lib b j acc ends directory n r foreign row parent =
+    let unheld : In n b.holds → ⊥ = λ i. foreign.0 (subst (λ k. In k (map (λ (w : Written). w.ino) b.writes)) parent (closed_hold s lib b j n r i row)) in
+    ap (λ (x : Image). row_at x n) ends.settles
+    ∙ row_at_is (proposed (settled s) b) (proposed_pick (settled s) b) (fit s lib b j acc) (sound s lib b j acc) (next (settled s) b) (record { rows = refl; owners = refl }) n
+    ∙ unheld_row s j.kept lib (creds_of s lib) b j.given acc n r row unheld

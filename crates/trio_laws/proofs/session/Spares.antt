@@ -1,0 +1,193 @@
+-- What a settle leaves of others.
+use Rattle.std.proofs.Common.{◌≡◌, ℕ, Bool, true, false, cond, eqb, List, Option, Some, None, sym, refl, ap, ◌∙◌, subst, inl, inr, ◌⊎◌}
+use Rattle.std.specs.Prelude.{is_some}
+use Rattle.std.specs.List.{find}
+use Rattle.std.specs.Option.{option_map, option_and_then}
+use Rattle.std.proofs.lemmas.Bool.{cases_Bool, eqb-true, ne_eqb, false≢true, false_from_ne_true}
+use Rattle.trio_rights.specs.Row.{Row, row_in}
+use Rattle.trio_lists.specs.Lists.{In, is_among}
+use Rattle.trio_layout.specs.Survey.{Met, Front}
+use Rattle.trio_rights.specs.Bundle.{Written}
+use Rattle.trio_lists.proofs.Members.{In-map, map-In, flat_map-In, is_among-In}
+use Rattle.trio_lists.proofs.Filters.{find-In, filter-In}
+use Rattle.trio_layout.specs.Case.{Case, bundle_core}
+use Rattle.trio_layout.specs.Within.{file_within}
+use Rattle.trio_layout.specs.JudgedFiles.{fronts, written_met, written_files, entries_in, new_entries, judged_files}
+use Rattle.trio_layout.proofs.Walks.{fronts_listed}
+use Rattle.trio_lists.specs.Sorting.{sorted_by}
+use Rattle.trio_lists.proofs.Sorting.{sorted_in}
+use Rattle.trio_laws.proofs.judgement.JudgedFacts.{written_ino}
+use Rattle.trio_nodes.specs.declared.node.Node.{Node}
+use Rattle.trio_nodes.specs.Nodes.{Nodes, node_at, entry_in}
+use Rattle.trio_nodes.specs.After.{bytes_in}
+use Rattle.trio_nodes.specs.Legal.{HasRightsOf, HasPlaceOf, SameContent}
+use Rattle.trio_nodes.specs.Tree.{IsTree}
+use Rattle.trio_desk.specs.Shows.{Naming, naming_of, bytes_read, bytes_now, with_bytes, placed, node_listed, node_left, Shows}
+use Rattle.trio_desk.specs.Among.{written_numbers, IsAmong, IsForeign}
+use Rattle.trio_laws.specs.session.Bundles.{ShownSpares}
+use Rattle.trio_laws.proofs.session.Namings.{naming_is}
+use Rattle.trio_laws.proofs.session.Edges.{row_node, node_row, listed_now, unlisted_now, held_gone, own, new_dead, kept_parent}
+
+-- ---- whose the judged files are
+
+-- a judged file is written, or has one of the bundle's numbers
+pub judged_own : (c : Case) (m : Met) → In m (judged_files c) → In m.ino (written_numbers c) ⊎ In m.ino c.bundle.numbers
+unfolding judged_files
+judged_own c m i =
+    elim (fronts_listed (new_entries c) (written_files c) c.inodes m i) [
+      | inl first ↦
+          let w = map-In (written_met c) m (sorted_by (λ (w : Written). w.ino) c.bundle.writes) first in
+          let j = In-map (λ (w : Written). w.ino) w.0 c.bundle.writes (sorted_in (λ (w : Written). w.ino) w.0 c.bundle.writes w.1) in
+          let number : w.0.ino ≡ m.ino = sym (written_ino c w.0) ∙ sym (ap (λ (x : Met). x.ino) w.2) in
+          inl (subst (λ n. In n (written_numbers c)) number j)
+      | inr child ↦
+          let w : Front = fronts (new_entries c) (written_files c) c.inodes in
+          let x = flat_map-In (new_entries c) m w.passed child in
+          inr (is_among-In m.ino c.bundle.numbers (filter-In (λ (e : Met). is_among e.ino c.bundle.numbers) m (entries_in c x.0) x.2).1)
+    ]
+
+-- ---- nodes with other bytes
+
+rights_with : (o : Option (List ℕ)) (x : Node) → HasRightsOf x (Some (with_bytes o x))
+rights_with None x = (refl, refl, refl, refl)
+rights_with (Some bytes) x = (refl, refl, refl, refl)
+
+rights_placed : (o : Option (List ℕ)) (e : Naming) (x : Node) → HasRightsOf x (Some (with_bytes o (placed e x)))
+rights_placed None e x = (refl, refl, refl, refl)
+rights_placed (Some bytes) e x = (refl, refl, refl, refl)
+
+entry_with : (n : ℕ) (o : Option (List ℕ)) (x : Option Node) → entry_in n (option_map (with_bytes o) x) ≡ entry_in n x
+entry_with n o None = refl
+entry_with n None (Some x) = refl
+entry_with n (Some bytes) (Some x) = refl
+
+-- a node in another directory is no entry here
+elsewhere : (n : ℕ) (o : Option Node) → ((x : Node) → o ≡ Some x → x.parent ≡ n → ⊥) → entry_in n o ≡ None
+elsewhere n None d = refl
+elsewhere n (Some x) d = ap (λ b. cond b (Some (x.name, x.kind)) None) (ne_eqb x.parent n (d x refl))
+
+module _ (c : Case) (nodes nodes' : Nodes) (tree : IsTree nodes) (tree' : IsTree nodes') (a : IsAmong c nodes) (s : Shows c nodes nodes') where
+  some_one : (o : Option Node) (x y : Node) → o ≡ Some x → o ≡ Some y → x ≡ y
+  some_one o x y e f = (let h : Some x ≡ Some y = sym e ∙ f in cc h)
+
+  -- what becomes of a live file, whole
+  now_of : (n : ℕ) (x y : Node) → node_at nodes n ≡ Some x → node_at nodes' n ≡ Some y → HasRightsOf x (Some y)
+  now_of n x y e f = by (naming_of c n) (is_among n c.bundle.holds) refl refl
+    where
+      whole : (o : Option Naming) → naming_of c n ≡ o → Some y ≡ option_map (with_bytes (bytes_now c n)) (node_left c n o (Some x))
+      whole o h = sym f ∙ s.each n ∙ ap (λ q. option_map (with_bytes (bytes_now c n)) (node_left c n q (node_at nodes n))) h ∙ ap (λ q. option_map (with_bytes (bytes_now c n)) (node_left c n o q)) e
+
+      by : (o : Option Naming) (b : Bool) → naming_of c n ≡ o → is_among n c.bundle.holds ≡ b → HasRightsOf x (Some y)
+      by (Some g) b h t =
+          let w : Some y ≡ Some (with_bytes (bytes_now c n) (placed g x)) = whole (Some g) h in
+          subst (λ z. HasRightsOf x z) (sym w) (rights_placed (bytes_now c n) g x)
+      by None true h t =
+          let w : Some y ≡ None = whole None h ∙ ap (λ q. option_map (with_bytes (bytes_now c n)) (cond q None (Some x))) t in absurd cc
+      by None false h t =
+          let w : Some y ≡ Some (with_bytes (bytes_now c n) x) = whole None h ∙ ap (λ q. option_map (with_bytes (bytes_now c n)) (cond q None (Some x))) t in
+          subst (λ z. HasRightsOf x z) (sym w) (rights_with (bytes_now c n) x)
+
+  -- a directory of the bundle is no foreign one that lives
+  not_judged : (n : ℕ) (x : Node) → node_at nodes n ≡ Some x → (r : Row) → row_in c.rows n ≡ Some r → IsForeign c n → (m : Met) → In m (judged_files c) → m.ino ≡ n → ⊥
+  not_judged n x e r t foreign m i is =
+      elim (judged_own c m i) [
+        | inl w ↦ foreign.0 (subst (λ k. In k (written_numbers c)) is w)
+        | inr k ↦ new_dead c nodes nodes' tree tree' a s n r t (subst (λ q. In q c.bundle.numbers) is k)
+      ]
+
+  module _ (n : ℕ) (x : Node) (e : node_at nodes n ≡ Some x) (r : Row) (t : row_in c.rows n ≡ Some r) (same : r.parent ≡ x.parent) (foreign : IsForeign c n) where
+    no_bytes : bytes_now c n ≡ None
+    no_bytes = by (find (λ (m : Met). eqb m.ino n) (judged_files c)) refl
+      where
+        by : (o : Option Met) → find (λ (m : Met). eqb m.ino n) (judged_files c) ≡ o → option_and_then (λ (m : Met). bytes_read (bundle_core c) m.kind (file_within (bundle_core c) m)) o ≡ None
+        by None h = refl
+        by (Some m) h =
+            let f = find-In (λ (m : Met). eqb m.ino n) (judged_files c) m h in
+            absurd (not_judged n x e r t foreign m f.0 (eqb-true m.ino n f.1))
+
+    free : is_among n c.bundle.holds ≡ false
+    free = false_from_ne_true (is_among n c.bundle.holds) (λ y. foreign.1 (is_among-In n c.bundle.holds y))
+
+    -- it stays, in its directory, with its bytes
+    stays_there : (y : Node) × (node_at nodes' n ≡ Some y) × (y.parent ≡ x.parent) × (y.bytes ≡ x.bytes)
+    stays_there = by (naming_of c n) refl
+      where
+        by : (o : Option Naming) → naming_of c n ≡ o → (y : Node) × (node_at nodes' n ≡ Some y) × (y.parent ≡ x.parent) × (y.bytes ≡ x.bytes)
+        by (Some g) h =
+            let now : node_at nodes' n ≡ Some (placed g x) =
+            s.each n ∙ ap (λ q. option_map (with_bytes (bytes_now c n)) (node_left c n q (node_at nodes n))) h ∙ ap (λ q. option_map (with_bytes (bytes_now c n)) (node_listed g q)) e
+            ∙ ap (λ q. Some (with_bytes q (placed g x))) no_bytes in
+            let parent : g.directory ≡ x.parent =
+            elim (own c nodes nodes' tree tree' a s n g h) [
+              | inl k ↦ sym (kept_parent c nodes nodes' tree tree' a s n g r h t k) ∙ same
+              | inr (inl i) ↦ absurd (foreign.1 i)
+              | inr (inr i) ↦ absurd (new_dead c nodes nodes' tree tree' a s n r t i)
+            ] in
+            (placed g x, now, parent, refl)
+        by None h =
+            let now : node_at nodes' n ≡ Some x =
+            unlisted_now c nodes nodes' tree tree' a s n h ∙ ap (λ b. option_map (with_bytes (bytes_now c n)) (cond b None (node_at nodes n))) free
+            ∙ ap (option_map (with_bytes (bytes_now c n))) e ∙ ap (λ q. Some (with_bytes q x)) no_bytes in
+            (x, now, refl, refl)
+
+    -- a directory that lists an entry of the bundle isn't this one
+    not_here : (m : ℕ) (g : Naming) → naming_of c m ≡ Some g → g.directory ≡ n → ⊥
+    not_here m g h is =
+        let i = naming_is c m g h in
+        not_judged n x e r t foreign i.judged_by i.among (sym i.directory ∙ is)
+
+    held_elsewhere : (m : ℕ) (y : Node) → In m c.bundle.holds → node_at nodes m ≡ Some y → y.parent ≡ n → ⊥
+    held_elsewhere m y i f p = by (row_in c.rows m) refl (a.held m i)
+      where
+        by : (o : Option Row) → row_in c.rows m ≡ o → is_some o ≡ true → ⊥
+        by None q z = false≢true z
+        by (Some q) w z =
+            let l = row_node c nodes nodes' tree tree' a s m q w in
+            let one : l.0 ≡ y = some_one (node_at nodes m) l.0 y l.1 f in
+            foreign.0 (subst (λ k. In k (written_numbers c)) (l.2 ∙ ap (λ (v : Node). v.parent) one ∙ p) (a.closed m q i w))
+
+    entry_kept : (m : ℕ) → entry_in n (node_at nodes' m) ≡ entry_in n (node_at nodes m)
+    entry_kept m = by (naming_of c m) refl
+      where
+        by : (o : Option Naming) → naming_of c m ≡ o → entry_in n (node_at nodes' m) ≡ entry_in n (node_at nodes m)
+        by (Some g) h =
+            let l = listed_now c nodes nodes' tree tree' a s m g h in
+            let after : entry_in n (node_at nodes' m) ≡ None =
+            elsewhere n (node_at nodes' m) (λ y f p. not_here m g h (sym l.2 ∙ ap (λ (z : Node). z.parent) (some_one (node_at nodes' m) l.0 y l.1 f) ∙ p)) in
+            let before : entry_in n (node_at nodes m) ≡ None =
+            elsewhere n (node_at nodes m)
+            (λ y f p.
+            let q = node_row c nodes nodes' tree tree' a s m y f in
+            elim (own c nodes nodes' tree tree' a s m g h) [
+              | inl k ↦ not_here m g h (sym (kept_parent c nodes nodes' tree tree' a s m g q.0 h q.1 k) ∙ q.2 ∙ p)
+              | inr (inl i) ↦ held_elsewhere m y i f p
+              | inr (inr i) ↦ new_dead c nodes nodes' tree tree' a s m q.0 q.1 i
+            ]) in
+            after ∙ sym before
+        by None h =
+            elim (cases_Bool (is_among m c.bundle.holds)) [
+              | inl y ↦
+                  ap (entry_in n) (held_gone c nodes nodes' tree tree' a s m h (is_among-In m c.bundle.holds y))
+                  ∙ sym (elsewhere n (node_at nodes m) (λ z f p. held_elsewhere m z (is_among-In m c.bundle.holds y) f p))
+              | inr no' ↦
+                  ap (entry_in n)
+                  (unlisted_now c nodes nodes' tree tree' a s m h ∙ ap (λ b. option_map (with_bytes (bytes_now c m)) (cond b None (node_at nodes m))) no')
+                  ∙ entry_with n (bytes_now c m) (node_at nodes m)
+            ]
+
+  spared : (n : ℕ) (x : Node) → node_at nodes n ≡ Some x → IsForeign c n → HasRightsOf x (node_at nodes' n) × HasPlaceOf x (node_at nodes' n) × SameContent nodes nodes' n
+  spared n x e foreign =
+      let r = node_row c nodes nodes' tree tree' a s n x e in
+      let y = stays_there n x e r.0 r.1 r.2 foreign in
+      let P : Option Node → Type 0 = λ o. HasPlaceOf x o in
+      let R : Option Node → Type 0 = λ o. HasRightsOf x o in (
+        subst R (sym y.1) (now_of n x y.0 e y.1),
+        subst P (sym y.1) y.2,
+        record {
+          bytes = ap bytes_in y.1 ∙ y.3 ∙ sym (ap bytes_in e);
+          entries = entry_kept n x e r.0 r.1 r.2 foreign;
+        },
+      )
+
+pub shown_spares : ShownSpares
+shown_spares c nodes nodes' tree tree' a s = (now_of c nodes nodes' tree tree' a s, spared c nodes nodes' tree tree' a s)

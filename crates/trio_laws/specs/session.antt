@@ -1,0 +1,5 @@
+pub mod Grants
+pub mod Others
+pub mod Bundles
+pub mod Settles
+pub mod Calls
