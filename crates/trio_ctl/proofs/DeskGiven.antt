@@ -23,7 +23,7 @@ use Rattle.trio_state.specs.Given.{GivenTo, HasGrant, WasAllotted, WasLent}
 use Rattle.trio_state.specs.State.{OpenGrant, State}
 use Rattle.trio_laws.proofs.StateFacts.{write_is}
 use Rattle.trio_ctl.specs.Desk.{bundle_of, grants_of, out_of}
-use Rattle.trio_ctl.specs.HandedIn.{WasHeld, WereHeld}
+use Rattle.trio_ctl.specs.HandedIn.{WasHeld, WereHeld, WereLent}
 use Rattle.trio_ctl.specs.Open.{hold_of, shown_of, untouched}
 use Rattle.trio_ctl.proofs.DeskOuts.{hold_is, numbers_to-In, read_is}
 
@@ -134,3 +134,17 @@ given_to s lib p g = record {
   pages_once = ap (are_new []) (map-map (λ (x : Sheet). x.page) fresh_sheet p.pages) ∙ g.pages_once;
   numbers_once = g.numbers_once;
 }
+
+-- each write lease of a parcel shows as lent what an open write grant of the library lent
+pub were_lent : (s : State) (lib : LibNo) (p : Parcel) → WasGiven (out_of s lib) p → WereLent s lib.0 p.writes
+were_lent s lib p g f i =
+    let l = g.writes f i in
+    let w = behind shown_of is_write s lib f.lent l.lent in
+    record {
+      grant = w.grant;
+      is_open = w.is_open;
+      lib = w.lib;
+      kind = write_is w.grant.kind w.kind;
+      ino = ap (λ (x : Shown). x.ino) (sym w.is) ∙ sym l.same.ino;
+      lent = w.is;
+    }

@@ -25,6 +25,7 @@ use Rattle.trio_state.specs.Grants.{grant_fault, opened}
 use Rattle.trio_state.specs.Kept.{Kept}
 use Rattle.trio_state.specs.State.{OpenGrant, State, settled}
 use Rattle.trio_state.specs.Step.{Back, Comes, CtlAnswer, Done, Grant, Granted, NoMemory, NotGranted, Step, granted_to}
+use Rattle.trio_ctl.specs.HandedIn.{WasLentAs}
 use Rattle.trio_ctl.specs.Open.{lease_of, shown_of, untouched}
 use Rattle.trio_ctl.proofs.LendLemmas.{sheets_untouched}
 
@@ -140,3 +141,30 @@ read_is_open s s' ino f step lease =
         let stands : In g s'.open_grants = subst (λ (t : State). In g t.open_grants) (sym c.1) (In-right g s.open_grants (g ∷ []) (inl refl)) in
         let has : HasGrant s' (shown_of g).lib.0 (shown_of g).ino Read = record { grant = g; is_open = stands; lib = refl; kind = refl; ino = refl } in
         subst (λ (x : Shown). HasGrant s' x.lib.0 x.ino Read) (sym is) has
+
+-- and shows what it was lent
+pub granted_is_lent : (s s' : State) (ino : ℕ) (f : LentFile) → Step s (Grant 1 ino Write) (Granted 0) s'
+    → IsSomeAnd (row_at s.home ino) (λ r. WriteLent f ≡ WriteLent (lease_of (opened s 1 ino Write r)))
+    → WasLentAs s' 1 f
+granted_is_lent s s' ino f step lease =
+    elim step [
+      | inl does ↦ by (grant_fault s 1 ino Write) (row_at s.home ino) does lease
+      | inr none ↦ let wrong : Granted 0 ≡ NoMemory = none.1 in absurd (cc wrong)
+    ]
+  where
+    by : (fault : Option GrantFault) (row : Option Row) → Comes (granted_to s 1 ino Write fault row) (Granted 0) s'
+        → IsSomeAnd row (λ r. WriteLent f ≡ WriteLent (lease_of (opened s 1 ino Write r)))
+        → WasLentAs s' 1 f
+    by (Some fault) row c l = let wrong : Granted 0 ≡ NotGranted fault = c.0 in absurd (cc wrong)
+    by None None c l = let wrong : Granted 0 ≡ Done = c.0 in absurd (cc wrong)
+    by None (Some r) c l =
+        let g : OpenGrant = opened s 1 ino Write r in
+        let is : f ≡ lease_of g = cc l in
+        record {
+          grant = g;
+          is_open = subst (λ (t : State). In g t.open_grants) (sym c.1) (In-right g s.open_grants (g ∷ []) (inl refl));
+          lib = refl;
+          kind = refl;
+          ino = ap (λ (x : LentFile). x.stands.ino) (sym is);
+          lent = ap (λ (x : LentFile). x.lent) is;
+        }

@@ -202,7 +202,7 @@ reads_last (h ∷ gs) g = by (is_read h.kind) (reads_last gs g)
     by false again = again
 
 -- the row of a live file has its place
-row_below : (rows : List (Option Row)) (n : ℕ) (r : Row) → get_or rows n None ≡ Some r → n < length rows
+pub row_below : (rows : List (Option Row)) (n : ℕ) (r : Row) → get_or rows n None ≡ Some r → n < length rows
 row_below [] n r e = absurd cc
 row_below (x ∷ rows) zero r e = omega arith
 row_below (x ∷ rows) (suc n) r e = (let l = row_below rows n r e in omega (arith, l))

@@ -31,3 +31,6 @@ pub mod GivingBack
 pub mod Moding
 pub mod Belonging
 pub mod PartedHolds
+mod Recording
+mod RecordedReleases
+mod DeskLogs

@@ -7,6 +7,7 @@ use Rattle.trio_rights.specs.Row.{Row, row_in}
 use Rattle.trio_rights.specs.declared.rights.Creds.{Creds}
 use Rattle.trio_rights.specs.declared.rights.LibNo.{LibNo}
 use Rattle.trio_nodes.specs.declared.grant.GrantKind.TheVariants.{Hold}
+use Rattle.trio_nodes.specs.declared.entry.Entry.{Entry}
 use Rattle.trio_nodes.specs.declared.grant.Holder.{Holder}
 use Rattle.trio_nodes.specs.GrantKinds.{is_write}
 use Rattle.trio_grants.specs.Grants.{Keyed}
@@ -35,10 +36,25 @@ superblock_for core = record {
   root = core.root;
 }
 
--- what contracts see of the controller: its state, and how often home was looked at
-pub record Controller : Type 0 where
+-- what is seen of the registry: its state, how often home was looked at, and how many entries are promised
+pub record Registered : Type 0 where
   pub state : State
   pub looked : ℕ
+  pub promised : ℕ
+
+-- how much is made ready for entries: for so many, beside those that are promised, and so many bytes
+pub record Spare : Type 0 where
+  pub entries : ℕ
+  pub bytes : ℕ
+
+-- what contracts see of the controller: its state, the image that it began from, its log, how often home was looked at, and what is
+-- spare
+pub record Controller : Type 0 where
+  pub state : State
+  pub first : Image
+  pub log : List Entry
+  pub looked : ℕ
+  pub spare : Spare
 
 -- the file of each of these grants is live, and of the kind that the grant lent
 abbrev pub HaveKinds : List (Option Row) → List Opened → Type 0

@@ -1,12 +1,15 @@
 -- The controller as one library sees it: what a state has out to the library, and a call of its desk as a step.
-use Rattle.std.specs.Prelude.{◌≡◌, ⊤, ◌==◌, Bool, ◌&&◌, List, map}
+use Rattle.std.specs.Prelude.{◌≡◌, ⊤, ◌==◌, Bool, ◌&&◌, List, ◌++◌, map}
 use Rattle.std.specs.List.{filter}
 use Rattle.std.specs.Option.{IsSomeAnd}
 use Rattle.trio_rights.specs.declared.rights.LibNo.{LibNo}
 use Rattle.trio_rights.specs.Bundle.{Bundle}
 use Rattle.trio_nodes.specs.GrantKinds.{is_hold, is_read, is_write}
 use Rattle.trio_nodes.specs.declared.grant.GrantKind.{GrantKind}
+use Rattle.trio_lease.specs.Bundles.{Bundled}
 use Rattle.trio_lease.specs.Views.{fresh_sheet, written_in}
+use Rattle.trio_nodes.specs.declared.entry.Entry.{Entry}
+use Rattle.trio_laws.specs.history.Entries.{Beside}
 use Rattle.trio_layout.specs.Image.{row_at}
 use Rattle.trio_desk.specs.Out.{LibOut, Parcel}
 use Rattle.trio_desk.specs.Call.{Ask, Told, DeskSeen, Grant, Allot, GiveBack, Release, SetMode, Lent, NotLent, Given, NotGiven, Done, Judged, NotJudged, ModeSet, NotModeSet}
@@ -17,6 +20,8 @@ use Rattle.trio_state.specs.Step.{Event, CtlAnswer, Step}
 use Rattle.trio_state.specs.Step as step
 use Rattle.trio_laws.specs.OutLaws.{numbers_to}
 use Rattle.trio_ctl.specs.Answers.{allot_fault_answer, children_told, grant_fault_answer, mode_fault_answer, release_fault_answer, verdict_of}
+use Rattle.trio_ctl.specs.Ctl.{Controller}
+use Rattle.trio_ctl.specs.Logged.{alone, entries_made, with_bundle}
 use Rattle.trio_ctl.specs.Open.{hold_of, lent_by, shown_of}
 
 -- ---- what a library has out
@@ -70,6 +75,34 @@ answer_of (Judged answer) = verdict_of answer
 answer_of (NotJudged fault) = release_fault_answer fault
 answer_of ModeSet = step.ModeSet
 answer_of (NotModeSet fault) = mode_fault_answer fault
+
+-- ---- what a call logs
+
+-- a parcel, as a bundle without room for more
+abbrev pub bundled_of : Parcel → Bundled
+bundled_of b = record {
+  writes = b.writes;
+  holds = b.holds;
+  pages = b.pages;
+  inodes = b.inodes;
+  room = record { writes = 0; holds = 0; pages = 0; inodes = 0 };
+}
+
+-- what is told beside what is asked: of a release the bundle as it is handed in
+abbrev pub beside_of : Ask → Beside
+beside_of (Release parcel) = with_bundle (bundled_of parcel)
+beside_of ask = alone
+
+-- the entry that a call of a library makes, if it makes one
+abbrev pub entries_told : State → LibNo → Ask → Told → List Entry
+entries_told s lib ask told = entries_made s (beside_of ask) (event_of lib ask) (answer_of told)
+
+-- a call adds its entry to the log of the controller, and leaves the image that the controller began from
+pub record LogsCall (old : Controller) (lib : LibNo) (ask : Ask) (told : Told) (new : Controller) : Type 0 where
+  pub log : new.log ≡ old.log ++ entries_told old.state lib ask told
+  pub first : new.first ≡ old.first
+
+-- ---- a call as a step
 
 -- a lease that is told is the one that the grant lends which this state opens
 abbrev pub LeaseIs : State → LibNo → Ask → Told → Type 0

@@ -1,9 +1,11 @@
 -- What is handed in beside what the steps see of a bundle.
 use Rattle.std.specs.Prelude.{◌≡◌, ℕ, List}
-use Rattle.trio_nodes.specs.declared.grant.GrantKind.TheVariants.{Hold}
+use Rattle.trio_nodes.specs.declared.grant.GrantKind.TheVariants.{Hold, Write}
+use Rattle.trio_lease.specs.Shown.{LentFile}
 use Rattle.trio_lease.specs.declared.parts.HoldParts.{HoldParts}
 use Rattle.trio_lists.specs.Lists.{In}
 use Rattle.trio_state.specs.State.{OpenGrant, State}
+use Rattle.trio_ctl.specs.Open.{shown_of}
 
 -- a hold is that of an open hold of the library, and shows the kind and the body that it lent
 pub record WasHeld (s : State) (lib' : ℕ) (h : HoldParts) : Type 0 where
@@ -18,3 +20,16 @@ pub record WasHeld (s : State) (lib' : ℕ) (h : HoldParts) : Type 0 where
 -- each of these holds is so
 abbrev pub WereHeld : State → ℕ → List HoldParts → Type 0
 WereHeld s lib holds = (h : HoldParts) → In h holds → WasHeld s lib h
+
+-- a write lease shows as lent what an open write grant of the library lent
+pub record WasLentAs (s : State) (lib' : ℕ) (f : LentFile) : Type 0 where
+  pub grant : OpenGrant
+  pub is_open : In grant s.open_grants
+  pub lib : grant.lib ≡ lib'
+  pub kind : grant.kind ≡ Write
+  pub ino : grant.ino ≡ f.stands.ino
+  pub lent : f.lent ≡ shown_of grant
+
+-- each of these leases does so
+abbrev pub WereLent : State → ℕ → List LentFile → Type 0
+WereLent s lib files = (f : LentFile) → In f files → WasLentAs s lib f

@@ -4,6 +4,7 @@ pub mod Ctl
 pub mod Open
 pub mod HandedIn
 pub mod Belonging
+pub mod Logged
 pub mod Answers
 pub mod Desk
 pub mod DeskLaws

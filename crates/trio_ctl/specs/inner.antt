@@ -6,3 +6,4 @@ pub mod Outcomes
 pub mod Pages
 pub mod Parting
 pub mod Reads
+pub mod Telling

@@ -7,20 +7,14 @@ ghost use Rattle.trio_state.specs.Step.{Allot, Step};
 ghost use Rattle.trio_ctl.specs.Answers.{allot_answer};
 ghost use Rattle.trio_ctl.specs.Ctl.{IsLibrary};
 
-use crate::ctl::Ctl;
+use crate::registry::Registry;
 use trio_lease::Allotted;
 use trio_nodes::AllotFault;
 use trio_page::Reads;
 use trio_rights::LibNo;
 
-impl Ctl {
-    /// Allots free pages and inode numbers to a library, so many of each as it asks for: the lowest
-    /// ones, in their order, and each page all zero. They stay out until they are handed in.
-    ///
-    /// `NoPages` exactly where more pages are wanted than are free; `NoInodes` exactly where enough
-    /// pages are free, and more inode numbers are wanted than are; each tells both numbers. After
-    /// `NoMemory`, which may come in place of each of them, nothing changed; a history that has as
-    /// many entries as a `u64` counts has no memory for one more.
+impl Registry {
+    /// Allots free pages and inode numbers to a library, as [`Ctl::allot`](crate::Ctl::allot) says.
     pub fn allot(&mut self, lib: LibNo, pages: u32, inodes: u32) -> Result<Allotted, AllotFault>
         requires library { IsLibrary lib self.old.state }
         ensures step { Step self.old.state (Allot lib.0 pages inodes) (allot_answer result) self.new.state }
@@ -28,6 +22,7 @@ impl Ctl {
         ensures inodes { IfOk result (λ given. given.inodes.items ≡ map (fresh_number lib) (inode_numbers given.inodes.items)) }
         ensures was_kept { Kept self.old.state }
         ensures kept { Kept self.new.state }
+        ensures promised { self.new.promised ≡ self.old.promised }
     {
         let Ok(()) = self.history.make_room(1) else {
             return Err(AllotFault::NoMemory);

@@ -14,8 +14,8 @@ ghost use Rattle.trio_ctl.specs.Ctl.{IsLibrary};
 ghost use Rattle.trio_ctl.specs.HandedIn.{WereHeld};
 ghost use Rattle.trio_ctl.specs.inner.Belonging.{are_given_by, are_numbered, has_pages_of, is_held_by, is_lease_by, is_number_by, is_numbered, is_out_to, is_page_by, stand_once, writes_since};
 
-use crate::ctl::Ctl;
 use crate::open::OpenFile;
+use crate::registry::Registry;
 use trio_allot::Allotments;
 use trio_checkpoint::Checkpoint;
 use trio_commit::Store;
@@ -26,15 +26,8 @@ use trio_page::{Page, PageNo};
 use trio_rights::{Kind, LibNo};
 use trio_tables::Shadow;
 
-impl Ctl {
-    /// Whether all of a bundle was given by this controller to this library and is out, each thing
-    /// once: each write lease by a write grant that is open, whose file, kind, entry and page numbers
-    /// it shows; each hold by a hold that is open, just as it was given; each page and each inode
-    /// number by an allotment. Of a write lease the bytes may have changed, and what it shows as lent
-    /// is not looked at.
-    ///
-    /// So a bundle of which this is true may be released. Takes no memory, and looks at no page at
-    /// home.
+impl Registry {
+    /// Whether all of a bundle was given to this library, as [`Ctl::belongs`](crate::Ctl::belongs) says.
     pub fn belongs(&self, lib: LibNo, bundle: &Bundle) -> bool
         requires library { IsLibrary lib self.now.state }
         ensures exactly { IsTrue result ↔ Belongs self.now.state lib.0 bundle.now }

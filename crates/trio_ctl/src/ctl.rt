@@ -1,65 +1,126 @@
-//! What a controller keeps.
+//! The controller.
 
-ghost use Rattle.std.specs.Prelude.{◌≡◌};
+ghost use Rattle.std.specs.Prelude.{◌≡◌, ◌≤◌, ◌+◌, ◌↔◌, [], IfErr, IfOk, IsTrue, OnOk, length, vec_len};
+ghost use Rattle.trio_lease.specs.Views.{bundle_in};
+ghost use Rattle.trio_state.specs.Given.{GivenTo};
+ghost use Rattle.trio_state.specs.Kept.{Kept};
+ghost use Rattle.trio_state.specs.Run.{start};
 ghost use Rattle.trio_state.specs.State.{creds_of};
-ghost use Rattle.trio_ctl.specs.Ctl.{AreAsTold, IsLibrary, superblock_for};
+ghost use Rattle.trio_laws.specs.history.Recorded.{IsRecorded};
+ghost use Rattle.trio_survey.specs.Stored.{image_in};
+ghost use Rattle.trio_ctl.specs.Answers.{TellsImage, TellsLastImage};
+ghost use Rattle.trio_ctl.specs.Belonging.{Belongs};
+ghost use Rattle.trio_ctl.specs.Ctl.{AreAsTold, IsLibrary, TellsSettled, writer_of};
+ghost use Rattle.trio_ctl.specs.HandedIn.{WereHeld};
+ghost use Rattle.trio_ctl.specs.Logged.{recorded};
 
-use crate::history::History;
-use crate::open::OpenFile;
+use crate::image::ImageFault;
+use crate::registry::Registry;
 use std::alloc::Global;
 use std::marker::Model;
-use trio_commit::Store;
-use trio_grants::GrantTable;
-use trio_layout::{CoreRange, Superblock};
+use std::snapshot::Snapshot;
+use trio_entries::Notes;
+use trio_image::Image;
+use trio_lease::Bundle;
+use trio_log::Log;
+use trio_page::NoMemory;
 use trio_rights::{Creds, LibNo};
 
 /// The controller of one image: what it keeps of the image, the grants that are open, the
-/// credentials of its libraries, and its history.
+/// credentials of its libraries, and its log.
 ///
 /// Contracts see a `Controller` of `specs/Ctl.antt`: the `State` of which the controller's steps
-/// speak, which is always kept, and how often a page at home was looked at.
+/// speak, which is always kept; the image that it began from and the log, which is always legal from
+/// that image's nodes to those for which the state stands, and replays to the state (`HasHistory`);
+/// how often a page at home was looked at; and what is spare.
 #[derive(Drop)]
 pub struct Ctl {
-    pub(crate) alloc: Global,
-    pub(crate) store: Store,
-    pub(crate) first_core: u32,
-    pub(crate) grants: GrantTable,
-    // the open grants, in the order of the entries that opened them
-    pub(crate) files: Vec<OpenFile>,
-    // library n has the n-th, counted from 1
-    pub(crate) libs: Vec<Creds>,
-    pub(crate) history: History,
+    pub(crate) registry: Registry,
+    pub(crate) log: Log,
+    // the name and the size of each live file
+    pub(crate) notes: Notes,
+    // memory that is made ready for the entries to come
+    pub(crate) spare: Vec<u8>,
+    pub(crate) first: Snapshot<Image>,
 }
 
 impl Model for Ctl {
-    ghost use Rattle.trio_commit.specs.Store.{state_of};
-    ghost use Rattle.trio_ctl.specs.Open.{grants_in};
-    ghost use Rattle.trio_ctl.specs.Ctl.{Controller, IsControlled};
+    ghost use Rattle.std.specs.Prelude.{◌+◌, ◌-◌, length, vec_capacity};
+    ghost use Rattle.trio_survey.specs.Stored.{image_in};
+    ghost use Rattle.trio_ctl.specs.Ctl.{Controller};
+    ghost use Rattle.trio_ctl.specs.Logged.{HasHistory};
 
     ghost Value = { Controller };
 
     ghost view = { λ c. record {
-      state = state_of c.store c.first_core (grants_in c.files.items) c.libs.items c.history.made;
-      looked = c.store.home.looked;
+      state = c.registry.state;
+      first = image_in c.first.value.superblock c.first.value.pages;
+      log = c.log.entries;
+      looked = c.registry.looked;
+      spare = record { entries = c.log.room - (length c.log.entries + c.registry.promised); bytes = vec_capacity c.spare };
     } };
 
-    ghost invariant = { λ c. IsControlled c.store c.first_core c.grants c.files.items c.libs.items c.history };
+    ghost invariant = { λ c. HasHistory (image_in c.first.value.superblock c.first.value.pages) c.registry.state c.registry.promised c.log c.notes };
 }
 
 impl Ctl {
+    /// The controller of an image, with nothing lent, for 1 to 16 libraries, of which the n-th has
+    /// the n-th credentials. `NoMemory`: there was no memory for its tables; the image comes back.
+    pub fn start(alloc: Global, image: Image, libs: Vec<Creds>) -> Result<Ctl, (Image, NoMemory)>
+        requires some { 1 ≤ vec_len libs }
+        requires few { vec_len libs ≤ 16 }
+        ensures started { IfOk result (λ ctl. ctl.state ≡ start (image_in image.superblock image.pages) libs.items) }
+        ensures first { IfOk result (λ ctl. ctl.first ≡ image_in image.superblock image.pages) }
+        ensures log { IfOk result (λ ctl. ctl.log ≡ []) }
+        ensures kept { IfOk result (λ ctl. Kept ctl.state) }
+        ensures back { IfErr result (λ back. back.0 ≡ image) }
+    {
+        let mut image = image;
+        let _superblock = image.superblock();
+        let first = Snapshot::of(&image);
+        let Ok(notes) = image.notes(alloc) else {
+            return Err((image, NoMemory));
+        };
+        match Registry::start(alloc, image, libs) {
+            Ok(registry) => Ok(Ctl {
+                registry,
+                log: Log::new(alloc),
+                notes: Notes::of(notes),
+                spare: Vec::new(alloc),
+                first,
+            }),
+            Err(back) => Err(back),
+        }
+    }
+
     /// How often a page at home was looked at, as home itself counts. At 2^64 - 1 it may have been
     /// more.
     pub fn looked(&self) -> u64
         ensures { result ≡ self.now.looked }
     {
-        self.store.home.looked()
+        self.registry.looked()
+    }
+
+    /// The entries that its calls have made, in their order.
+    pub fn log(&self) -> &Log
+        ensures { result.now.entries ≡ self.now.log }
+    {
+        &self.log
+    }
+
+    /// Its log is legal from the nodes of the image that it began from to those for which its state
+    /// stands, and replays from that image to the state. Nothing is done.
+    pub fn is_recorded(&self)
+        ensures { IsRecorded (recorded self.now.first self.now.state self.now.log) }
+    {
+        let _ = &self.log;
     }
 
     /// Each open hold told the directory that the row of its file still names. Nothing is done.
     pub fn is_as_told(&self)
         ensures { AreAsTold self.now.state }
     {
-        let _ = &self.alloc;
+        self.registry.is_as_told();
     }
 
     // the credentials of a library
@@ -67,31 +128,91 @@ impl Ctl {
         requires { IsLibrary lib self.now.state }
         ensures { result ≡ creds_of self.now.state lib.0 }
     {
-        self.libs[lib.0 as usize - 1]
+        self.registry.creds(lib)
     }
 
-    // which pages are core pages
-    pub(crate) fn range(&self) -> CoreRange
-        ensures { result ≡ self.now.state.home.core.range }
+    /// Makes room for so many entries, beside those that are promised, and so many bytes of what they
+    /// have; what was spare before stays so. After `NoMemory` at least as much is spare as before.
+    pub fn make_room(&mut self, entries: u64, bytes: u64) -> Result<(), NoMemory>
+        ensures entries { OnOk result (entries ≤ self.new.spare.entries) }
+        ensures bytes { OnOk result (bytes ≤ self.new.spare.bytes) }
+        ensures kept_entries { self.old.spare.entries ≤ self.new.spare.entries }
+        ensures kept_bytes { self.old.spare.bytes ≤ self.new.spare.bytes }
+        ensures rest { self.new ≡ record self.old { spare = self.new.spare } }
     {
-        CoreRange {
-            first: self.first_core,
-            end: self.store.home.len() as u32,
-        }
+        make_places(&mut self.log, self.registry.promised(), entries)?;
+        self.spare.reserve(bytes as usize)
     }
 
-    // the superblock of the image, with the body of the root as it stands
-    pub(crate) fn superblock(&self) -> Superblock
-        ensures { result ≡ superblock_for self.now.state.home.core }
+    /// Whether all of a bundle was given by this controller to this library and is out, each thing
+    /// once: each write lease by a write grant that is open, whose file, kind, entry and page numbers
+    /// it shows; each hold by a hold that is open, just as it was given; each page and each inode
+    /// number by an allotment. Of a write lease the bytes may have changed, and what it shows as lent
+    /// is not looked at.
+    ///
+    /// Takes no memory, and looks at no page at home.
+    pub fn belongs(&self, lib: LibNo, bundle: &Bundle) -> bool
+        requires library { IsLibrary lib self.now.state }
+        ensures exactly { IsTrue result ↔ Belongs self.now.state lib.0 bundle.now }
+        ensures given { IsTrue result → GivenTo self.now.state lib.0 (bundle_in bundle.now) × WereHeld self.now.state lib.0 bundle.now.holds }
     {
-        let inodes = self.store.rows.inodes();
-        let root = self.store.root;
-        Superblock {
-            pages: self.store.home.len() as u32,
-            inodes,
-            first_owner: 1 + self.store.rows.table_pages(),
-            first_core: self.first_core,
-            root,
+        self.registry.belongs(lib, bundle)
+    }
+
+    /// The settled image: its pages are just those that store it, with copies of the core pages, and
+    /// all zero where one is out by allotment. The state is unchanged. `Busy` exactly where a write
+    /// grant is out; `NoMemory`: there was no memory for the pages and the tables.
+    pub fn image(&mut self) -> Result<Image, ImageFault>
+        ensures answer { TellsImage (writer_of self.old.state) result }
+        ensures image { IfOk result (TellsSettled self.old.state) }
+        ensures rest { self.new ≡ record self.old { looked = self.new.looked } }
+        ensures kept { Kept self.old.state }
+    {
+        self.registry.image()
+    }
+
+    /// The settled image, as [`image`](Self::image) tells it, with the pages and the tables of the
+    /// controller, which ends. `Busy` exactly where a write grant is out; `NoMemory`: there was no
+    /// memory for the pages of the tables, or for those that are out. After either the controller
+    /// comes back, its state and its log unchanged.
+    pub fn into_image(self) -> Result<Image, (Ctl, ImageFault)>
+        ensures answer { TellsLastImage (writer_of self.state) result (λ back. back.1) }
+        ensures image { IfOk result (TellsSettled self.state) }
+        ensures back { IfErr result (λ back. back.0.state ≡ self.state) }
+        ensures log { IfErr result (λ back. (back.0.log ≡ self.log) × (back.0.first ≡ self.first)) }
+        ensures kept { Kept self.state }
+    {
+        let Ctl {
+            registry,
+            log,
+            notes,
+            spare,
+            first,
+        } = self;
+        match registry.into_image() {
+            Ok(image) => Ok(image),
+            Err((registry, fault)) => {
+                let ctl = Ctl {
+                    registry,
+                    log,
+                    notes,
+                    spare,
+                    first,
+                };
+                Err((ctl, fault))
+            }
         }
     }
+}
+
+/// Makes places in a log for so many entries, beside those that are promised.
+pub(crate) fn make_places(log: &mut Log, promised: u64, more: u64) -> Result<(), NoMemory>
+    ensures kept { log.new.entries ≡ log.old.entries }
+    ensures grows { log.old.room ≤ log.new.room }
+    ensures room { OnOk result (length log.new.entries + promised + more ≤ log.new.room) }
+{
+    let Some(places) = promised.checked_add(more) else {
+        return Err(NoMemory);
+    };
+    log.reserve(places)
 }

@@ -2,7 +2,7 @@
 
 ghost use Rattle.std.specs.Prelude.{◌≡◌};
 ghost use Rattle.trio_ctl.specs.Ctl.{IsLibrary};
-ghost use Rattle.trio_ctl.specs.Desk.{Happens, desk_of};
+ghost use Rattle.trio_ctl.specs.Desk.{Happens, LogsCall, desk_of};
 
 use crate::ctl::Ctl;
 use trio_desk::Desk;
@@ -37,7 +37,7 @@ impl<'a> PlainDesk<'a> {
 impl<'a> Desk for PlainDesk<'a> {
     ghost seen = { λ d. desk_of d.ctl.now.state d.lib };
 
-    ghost called = { λ d ask told d'. Happens d.ctl.now.state d.lib ask told d'.ctl.now.state × (d'.ctl.ghost_name ≡ d.ctl.ghost_name) × (d'.lib ≡ d.lib) };
+    ghost called = { λ d ask told d'. Happens d.ctl.now.state d.lib ask told d'.ctl.now.state × (d'.ctl.ghost_name ≡ d.ctl.ghost_name) × (d'.lib ≡ d.lib) × LogsCall d.ctl.now d.lib ask told d'.ctl.now };
 
     fn creds(&self) -> Creds {
         self.ctl.creds(self.lib)

@@ -1,6 +1,6 @@
 //! The end of a read grant.
 
-ghost use Rattle.std.specs.Prelude.{◌≡◌};
+ghost use Rattle.std.specs.Prelude.{◌≡◌, ◌+◌};
 ghost use Rattle.std.specs.List.{position};
 ghost use Rattle.trio_nodes.specs.declared.grant.GrantKind.TheVariants.{Read};
 ghost use Rattle.trio_state.specs.Given.{HasGrant};
@@ -8,21 +8,20 @@ ghost use Rattle.trio_state.specs.Kept.{Kept};
 ghost use Rattle.trio_state.specs.Step.{Back, Done, Step};
 ghost use Rattle.trio_ctl.specs.inner.Reads.{is_read_of};
 
-use crate::ctl::Ctl;
 use crate::open::OpenFile;
+use crate::registry::Registry;
 use trio_lease::ReadLease;
 use trio_nodes::GrantKind;
 use trio_rights::LibNo;
 
-impl Ctl {
-    /// Ends the read grant of a lease, which this controller gave: the library that the lease names
-    /// has an open read grant on its file. Takes no memory: the room for its entry was made with the
-    /// grant.
+impl Registry {
+    /// Ends the read grant of a lease, as [`Ctl::give_back`](crate::Ctl::give_back) says.
     pub fn give_back(&mut self, lease: ReadLease)
         requires given { HasGrant self.old.state lease.lib.0 lease.ino Read }
         ensures step { Step self.old.state (Back lease.lib.0 lease.ino) Done self.new.state }
         ensures was_kept { Kept self.old.state }
         ensures kept { Kept self.new.state }
+        ensures promised { self.new.promised + 1 ≡ self.old.promised }
     {
         let parts = lease.parts();
         let Some(at) = place_of_read(&self.files, parts.lib, parts.ino) else {

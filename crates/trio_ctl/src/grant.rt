@@ -1,6 +1,6 @@
 //! Grants.
 
-ghost use Rattle.std.specs.Prelude.{◌≡◌, ◌⊎◌, ◌++◌, ◌∷◌, [], IfOk, OnErr, None, Some};
+ghost use Rattle.std.specs.Prelude.{◌≡◌, ◌+◌, ◌≤◌, ◌⊎◌, ◌++◌, ◌∷◌, [], IfOk, OnErr, None, Some};
 ghost use Rattle.std.specs.Option.{IsSomeAnd, option_map};
 ghost use Rattle.trio_rights.specs.May.{denier};
 ghost use Rattle.trio_nodes.specs.declared.grant.GrantKind.TheVariants.{Write};
@@ -17,8 +17,8 @@ ghost use Rattle.trio_ctl.specs.Ctl.{IsLibrary};
 ghost use Rattle.trio_ctl.specs.Open.{lent_by};
 ghost use Rattle.trio_ctl.specs.inner.Denials.{denial};
 
-use crate::ctl::Ctl;
 use crate::lend::{GrantRequest, Loan, lend, settled_body};
+use crate::registry::Registry;
 use trio_grants::{AdmitFault, GrantKey, GrantTable};
 use trio_lease::Lease;
 use trio_nodes::{GrantFault, GrantKind};
@@ -26,20 +26,8 @@ use trio_page::NoMemory;
 use trio_rights::{LibNo, Need};
 use trio_tables::Row;
 
-impl Ctl {
-    /// Grants a live file to a library.
-    ///
-    /// A write grant lends the file's body, its index pages and its blocks, which leave home by move;
-    /// what it covers is kept aside. A read grant lends copies of them, as they are settled, and room
-    /// is made for the entry of its end. A hold lends the settled body, and tells the directory that
-    /// lists the file and the number of its children.
-    ///
-    /// `NotLive` exactly where no live file has the number; `Denied`, of reading and writing, exactly
-    /// where a number on the way from the root denies what is needed, the first such number;
-    /// `NoParent`, of a hold, exactly where the library has no write grant on the file's directory;
-    /// `Busy` exactly where an open grant on the file excludes the one asked, with the one of the
-    /// lowest entry. After `NoMemory`, which may come in place of each of them, nothing changed; a
-    /// history that has or has promised as many entries as a `u64` counts has no memory for more.
+impl Registry {
+    /// Grants a live file to a library, as [`Ctl::grant`](crate::Ctl::grant) says.
     pub fn grant(&mut self, lib: LibNo, ino: u32, kind: GrantKind) -> Result<Lease, GrantFault>
         requires library { IsLibrary lib self.old.state }
         ensures step { Step self.old.state (Grant lib.0 ino kind) (grant_answer result) self.new.state }
@@ -47,6 +35,7 @@ impl Ctl {
             (λ r. lease ≡ lent_by (opened self.old.state lib.0 ino kind r))) }
         ensures was_kept { Kept self.old.state }
         ensures kept { Kept self.new.state }
+        ensures promised { self.new.promised ≤ self.old.promised + 1 }
     {
         let Some(row) = self.store.rows.row(ino) else {
             return Err(self.log_refusal(GrantFault::NotLive));
@@ -87,7 +76,8 @@ impl Ctl {
 
     // one entry more in the history, for a refusal; or want of memory for it
     fn log_refusal(&mut self, fault: GrantFault) -> GrantFault
-        ensures { ((result ≡ fault) × (self.new.state ≡ logged self.old.state)) ⊎ ((result ≡ NoGrantMemory) × (self.new.state ≡ self.old.state)) }
+        ensures answer { ((result ≡ fault) × (self.new.state ≡ logged self.old.state)) ⊎ ((result ≡ NoGrantMemory) × (self.new.state ≡ self.old.state)) }
+        ensures promised { self.new.promised ≡ self.old.promised }
     {
         if let Err(NoMemory) = self.history.make_room(1) {
             return GrantFault::NoMemory;
@@ -104,6 +94,7 @@ impl Ctl {
         ensures step { Step self.old.state (Grant lib.0 ino Write) (grant_answer result) self.new.state }
         ensures lease { IfOk result (λ lease. lease
             ≡ lent_by (opened self.old.state lib.0 ino Write (as_row row.now))) }
+        ensures promised { self.new.promised ≡ self.old.promised }
     {
         let range = self.range();
         let Ok(()) = self.history.make_room(1) else {

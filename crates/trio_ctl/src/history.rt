@@ -43,6 +43,13 @@ impl History {
         self.entries
     }
 
+    /// How many entries are promised.
+    pub(crate) fn promised(&self) -> u64
+        ensures { result ≡ self.now.promised }
+    {
+        self.promised
+    }
+
     /// Makes room for so many entries more, beside those that are promised. `NoMemory`: there is
     /// none, as where there would be more entries than a `u64` counts. Nothing is entered yet.
     pub(crate) fn make_room(&self, more: u64) -> Result<(), NoMemory>

@@ -1,6 +1,6 @@
 //! Holds.
 
-ghost use Rattle.std.specs.Prelude.{◌≡◌, IfOk, None, Some, if◌then◌else◌};
+ghost use Rattle.std.specs.Prelude.{◌≡◌, ◌+◌, ◌≤◌, IfOk, None, Some, if◌then◌else◌};
 ghost use Rattle.trio_layout.specs.Image.{row_at};
 ghost use Rattle.trio_nodes.specs.declared.answers.GrantFault.TheVariants.{NoParent as NoParentGrant};
 ghost use Rattle.trio_nodes.specs.declared.grant.GrantKind.TheVariants.{Hold};
@@ -12,16 +12,16 @@ ghost use Rattle.trio_ctl.specs.Ctl.{IsLibrary};
 ghost use Rattle.trio_ctl.specs.Open.{lent_by};
 ghost use Rattle.trio_ctl.specs.inner.Denials.{denial};
 
-use crate::ctl::Ctl;
 use crate::grant::admit;
 use crate::lend::settled_body;
 use crate::open::{Lent, OpenFile};
+use crate::registry::Registry;
 use trio_lease::{HoldLease, HoldParts, Lease};
 use trio_nodes::{GrantFault, GrantKind};
 use trio_rights::LibNo;
 use trio_tables::Row;
 
-impl Ctl {
+impl Registry {
     // why a file that has this row isn't held: the library has no write grant on its directory
     pub(crate) fn parentless(&self, lib: LibNo, row: &Row) -> Option<GrantFault>
         ensures { result ≡ (if has_parent_grant self.now.state lib.0 (Some (as_row row.now)) then None else Some NoParentGrant) }
@@ -41,6 +41,7 @@ impl Ctl {
         ensures step { Step self.old.state (Grant lib.0 ino Hold) (grant_answer result) self.new.state }
         ensures lease { IfOk result (λ lease. lease
             ≡ lent_by (opened self.old.state lib.0 ino Hold (as_row row.now))) }
+        ensures promised { self.new.promised ≡ self.old.promised }
     {
         let Ok(()) = self.history.make_room(1) else {
             return Err(GrantFault::NoMemory);

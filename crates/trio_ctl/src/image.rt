@@ -5,7 +5,7 @@ ghost use Rattle.trio_state.specs.Kept.{Kept};
 ghost use Rattle.trio_ctl.specs.Answers.{TellsImage, TellsLastImage};
 ghost use Rattle.trio_ctl.specs.Ctl.{TellsSettled, writer_of};
 
-use crate::ctl::Ctl;
+use crate::registry::Registry;
 use crate::stored::{moved_pages, stored_pages};
 use trio_commit::Store;
 use trio_image::{Image, ImageParts};
@@ -21,14 +21,13 @@ pub enum ImageFault {
     NoMemory,
 }
 
-impl Ctl {
-    /// The settled image: its pages are just those that store it, with copies of the core pages, and
-    /// all zero where one is out by allotment. The state is unchanged. `Busy` exactly where a write
-    /// grant is out; `NoMemory`: there was no memory for the pages and the tables.
+impl Registry {
+    /// The settled image, as [`Ctl::image`](crate::Ctl::image) says.
     pub fn image(&mut self) -> Result<Image, ImageFault>
         ensures answer { TellsImage (writer_of self.old.state) result }
         ensures image { IfOk result (TellsSettled self.old.state) }
         ensures state { self.new.state ≡ self.old.state }
+        ensures promised { self.new.promised ≡ self.old.promised }
         ensures kept { Kept self.old.state }
     {
         if let Some(holder) = self.grants.writer() {
@@ -57,14 +56,13 @@ impl Ctl {
         }))
     }
 
-    /// The settled image, as [`image`](Self::image) tells it, with the pages and the tables of the
-    /// controller, which ends. `Busy` exactly where a write grant is out; `NoMemory`: there was no
-    /// memory for the pages of the tables, or for those that are out. After either the controller
-    /// comes back, its state unchanged.
-    pub fn into_image(self) -> Result<Image, (Ctl, ImageFault)>
+    /// The settled image with the pages of the registry, as [`Ctl::into_image`](crate::Ctl::into_image)
+    /// says.
+    pub fn into_image(self) -> Result<Image, (Registry, ImageFault)>
         ensures answer { TellsLastImage (writer_of self.state) result (λ back. back.1) }
         ensures image { IfOk result (TellsSettled self.state) }
         ensures back { IfErr result (λ back. back.0.state ≡ self.state) }
+        ensures promised { IfErr result (λ back. back.0.promised ≡ self.promised) }
         ensures kept { Kept self.state }
     {
         let mut ctl = self;

@@ -13,9 +13,9 @@ ghost use Rattle.trio_ctl.specs.Answers.{mode_answer};
 ghost use Rattle.trio_ctl.specs.Ctl.{IsLibrary};
 ghost use Rattle.trio_ctl.specs.inner.Modes.{is_around, mode_denial, with_mode_at, with_mode_in, with_row_mode};
 
-use crate::ctl::Ctl;
 use crate::lend::body_on;
 use crate::open::OpenFile;
+use crate::registry::Registry;
 use trio_commit::Store;
 use trio_nodes::{Holder, ModeFault};
 use trio_page::field::{put_bytes_in, put_u16_in};
@@ -26,26 +26,14 @@ use trio_tables::Row;
 /// The inode number of the root.
 const ROOT: u32 = 1;
 
-impl Ctl {
-    /// Changes the mode of a live file, for its owner or for uid 0.
-    ///
-    /// After `Ok` the row of the file has this mode, and so has the copy in its body: the one in the
-    /// slot of the directory page that lists the file. Nobody has the file or its directory out then,
-    /// so that page is at home.
-    ///
-    /// `NotLive` exactly where no live file has the number; `NotOwner` exactly where it is the root's,
-    /// whose mode nobody changes, or the library's uid is neither the file's nor 0; `BadMode` exactly
-    /// where the mode is above `0o777`; `Busy` exactly where a grant is open on the file or on its
-    /// directory, of whatever kind and library, with the one of the lowest entry: the first of these
-    /// that applies. After each of them the image is as before. Each answer makes an entry in the
-    /// history, but for `Busy` and `NoMemory`, after which nothing changed. `NoMemory` may come in
-    /// place of each other answer: a history that has or has promised as many entries as a `u64`
-    /// counts has no memory for more.
+impl Registry {
+    /// Changes the mode of a live file, as [`Ctl::set_mode`](crate::Ctl::set_mode) says.
     pub fn set_mode(&mut self, lib: LibNo, ino: u32, mode: u16) -> Result<(), ModeFault>
         requires library { IsLibrary lib self.old.state }
         ensures step { Step self.old.state (SetMode lib.0 ino mode) (mode_answer result) self.new.state }
         ensures was_kept { Kept self.old.state }
         ensures kept { Kept self.new.state }
+        ensures promised { self.new.promised ≡ self.old.promised }
     {
         let Some(row) = self.store.rows.row(ino) else {
             return Err(self.log_mode_refusal(ModeFault::NotLive));
@@ -89,7 +77,8 @@ impl Ctl {
 
     // one entry more in the history, for a refusal; or want of memory for it
     fn log_mode_refusal(&mut self, fault: ModeFault) -> ModeFault
-        ensures { ((result ≡ fault) × (self.new.state ≡ logged self.old.state)) ⊎ ((result ≡ NoModeMemory) × (self.new.state ≡ self.old.state)) }
+        ensures answer { ((result ≡ fault) × (self.new.state ≡ logged self.old.state)) ⊎ ((result ≡ NoModeMemory) × (self.new.state ≡ self.old.state)) }
+        ensures promised { self.new.promised ≡ self.old.promised }
     {
         if let Err(NoMemory) = self.history.make_room(1) {
             return ModeFault::NoMemory;

@@ -1,6 +1,6 @@
 //! Read grants: lending copies of a file, and their end.
 
-ghost use Rattle.std.specs.Prelude.{◌≡◌, IfOk, IsOk, IsSome, IsTrue, None, false, Some, map, slice_index_or};
+ghost use Rattle.std.specs.Prelude.{◌≡◌, ◌+◌, ◌≤◌, IfOk, IsOk, IsSome, IsTrue, None, false, Some, map, slice_index_or};
 ghost use Rattle.std.specs.Result.{ForOk};
 ghost use Rattle.trio_layout.specs.Image.{row_at};
 ghost use Rattle.trio_layout.specs.Pages.{sheets_of};
@@ -15,10 +15,10 @@ ghost use Rattle.trio_ctl.specs.Open.{grant_on, lent_by, shown_of, untouched};
 ghost use Rattle.trio_ctl.specs.inner.Denials.{denial};
 ghost use Rattle.trio_ctl.specs.inner.Lending.{IsLendable};
 
-use crate::ctl::Ctl;
 use crate::grant::admit;
 use crate::lend::{GrantRequest, settled_body};
 use crate::open::{Lent, OpenFile};
+use crate::registry::Registry;
 use std::alloc::Global;
 use std::snapshot::Snapshot;
 use trio_checkpoint::Checkpoint;
@@ -30,7 +30,7 @@ use trio_page::{Home, NoMemory, PageNo, Reads};
 use trio_rights::LibNo;
 use trio_tables::Row;
 
-impl Ctl {
+impl Registry {
     // lends copies of a file that has this row and isn't denied for reading
     pub(crate) fn lend_copies(
         &mut self,
@@ -44,6 +44,7 @@ impl Ctl {
         ensures step { Step self.old.state (Grant lib.0 ino Read) (grant_answer result) self.new.state }
         ensures lease { IfOk result (λ lease. lease
             ≡ lent_by (opened self.old.state lib.0 ino Read (as_row row.now))) }
+        ensures promised { self.new.promised ≤ self.old.promised + 1 }
     {
         let range = self.range();
         // for the entry of the grant, and for that of its end

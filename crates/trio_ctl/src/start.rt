@@ -5,8 +5,8 @@ ghost use Rattle.trio_state.specs.Kept.{Kept};
 ghost use Rattle.trio_state.specs.Run.{start};
 ghost use Rattle.trio_survey.specs.Stored.{image_in};
 
-use crate::ctl::Ctl;
 use crate::history::History;
+use crate::registry::Registry;
 use std::alloc::Global;
 use trio_allot::Allotments;
 use trio_checkpoint::Checkpoint;
@@ -16,14 +16,18 @@ use trio_image::{Image, ImageParts};
 use trio_page::NoMemory;
 use trio_rights::Creds;
 
-impl Ctl {
-    /// The controller of an image, with nothing lent, for 1 to 16 libraries, of which the n-th has
-    /// the n-th credentials. `NoMemory`: there was no memory for its tables; the image comes back.
-    pub fn start(alloc: Global, image: Image, libs: Vec<Creds>) -> Result<Ctl, (Image, NoMemory)>
+impl Registry {
+    /// The registry of an image, as [`Ctl::start`](crate::Ctl::start) says.
+    pub fn start(
+        alloc: Global,
+        image: Image,
+        libs: Vec<Creds>,
+    ) -> Result<Registry, (Image, NoMemory)>
         requires some { 1 ≤ vec_len libs }
         requires few { vec_len libs ≤ 16 }
         ensures started { IfOk result (λ ctl. ctl.state ≡ start (image_in image.superblock image.pages) libs.items) }
         ensures kept { IfOk result (λ ctl. Kept ctl.state) }
+        ensures promised { IfOk result (λ ctl. ctl.promised ≡ 0) }
         ensures back { IfErr result (λ back. back.0 ≡ image) }
     {
         let superblock = image.superblock();
@@ -35,7 +39,7 @@ impl Ctl {
         };
         let root = superblock.root;
         let ImageParts { home, rows, owners } = image.into_parts();
-        Ok(Ctl {
+        Ok(Registry {
             alloc,
             store: Store {
                 home,

@@ -339,7 +339,8 @@ fn the_lowest_free_are_allotted(rt: HostRuntime) {
 
 // The lease alone, as a bundle.
 fn bundled(alloc: Global, lease: WriteLease) -> Option<Bundle>
-    ensures { IfSome result (λ bundle. bundle_in bundle ≡ record { writes = written_in lease.stands ∷ []; holds = []; pages = []; numbers = [] }) }
+    ensures has { IfSome result (λ bundle. bundle_in bundle ≡ record { writes = written_in lease.stands ∷ []; holds = []; pages = []; numbers = [] }) }
+    ensures lease { IfSome result (λ bundle. bundle.writes ≡ lease ∷ []) }
 {
     let mut bundle = Bundle::new(alloc);
     match bundle.add_write(lease) {

@@ -34,5 +34,5 @@ pub mod Away
 pub mod HeldFiles
 pub mod KnownSteps
 pub mod judgement
-mod history
+pub mod history
 mod session

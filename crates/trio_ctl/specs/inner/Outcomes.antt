@@ -6,6 +6,8 @@ use Rattle.trio_layout.specs.Listing.{listing}
 use Rattle.trio_layout.specs.Rules.{meets_rules}
 use Rattle.trio_judge.specs.Verdicts.{HasListing, IsLowest, is_sound, meets_three}
 use Rattle.trio_judge.specs.declared.verdict.Verdict.{Verdict}
+use Rattle.trio_nodes.specs.declared.answers.ReleaseAnswer.{ReleaseAnswer}
+use Rattle.trio_nodes.specs.declared.answers.ReleaseAnswer.TheVariants.{Accepted as AcceptedBundle, Refused as RefusedBundle}
 use Rattle.trio_ctl.specs.declared.outcome.Outcome.{Outcome}
 use Rattle.trio_ctl.specs.declared.outcome.Outcome.TheVariants.{Accepted, Refused}
 
@@ -14,6 +16,11 @@ pub record IsVerdict (c : Case) (v : Verdict) : Type 0 where
   pub sound : is_sound v ≡ meets_three c
   pub lowest : IsLowest c v
   pub listed : HasListing c v
+
+-- the verdict of an outcome
+abbrev pub verdict_on : Outcome → ReleaseAnswer
+verdict_on (Accepted l) = AcceptedBundle
+verdict_on (Refused rule ino page slot) = RefusedBundle rule ino page slot
 
 -- the four rules hold, and this is the listing; or this rule is the lowest that fails, and does so at this file and place
 abbrev pub IsOutcome : Case → Outcome → Type 0

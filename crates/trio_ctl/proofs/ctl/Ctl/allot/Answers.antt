@@ -1,74 +1,35 @@
-use Rattle.std.proofs.Common.{◌∙◌, map, refl, take, ap, sym, inr}
-use Rattle.trio_page.specs.Home.{Pages}
-use Rattle.trio_tables.specs.Free.{free_pages}
-use Rattle.trio_ctl.specs.Answers.{allot_fault_answer}
-use Rattle.trio_allot.specs.Out.{fresh_number, fresh_page, inode_numbers, page_numbers}
-use Rattle.trio_commit.specs.declared.store.Store.{Store}
-use Rattle.trio_commit.specs.Store.{state_of}
-use Rattle.trio_ctl.specs.Open.{grants_in}
-use Rattle.trio_allot.proofs.Taking.{numbers_given}
-use Rattle.trio_ctl.proofs.Views.{state_is}
-use Rattle.trio_ctl.proofs.Allotting.{free_home, given_controlled, given_step, logged_controlled, logged_is, numbers_placed, pages_placed, refused_step, still, unchanged_controlled}
-use Rattle.trio_ctl.proofs.Outs.{pages_given, without_is}
+use Rattle.std.proofs.Common.{◌++◌, [], ◌∷◌, List, ap, append-nil, subst, sym, ◌∙◌}
+use Rattle.trio_log.specs.Logged.{Logged}
+use Rattle.trio_nodes.specs.declared.entry.Entry.{Entry}
+use Rattle.trio_nodes.specs.declared.entry.Entry.TheVariants as entry
+use Rattle.trio_state.specs.State.{State}
+use Rattle.trio_state.specs.Step.{Allot}
+use Rattle.trio_laws.specs.history.Replays.{IsLibrary}
+use Rattle.trio_ctl.proofs.Recording.{after_call, allot_entries, one_room, same_room}
+use Rattle.trio_ctl.proofs.Views.{seen_state}
 use Rattle.trio_ctl.proofs.ctl.Ctl.allot.Goals as goal
 
-pub take-given-requires-clause-page_count : goal.take-given-requires-clause-page_count
-take-given-requires-clause-page_count c = pages_placed c.self.inside.store c.self.inside.first_core c.self.inside.grants c.self.inside.files.items c.self.inside.libs.items c.self.inside.history c.self.invariant
-
-pub take-given-requires-clause-inode_count : goal.take-given-requires-clause-inode_count
-take-given-requires-clause-inode_count c = numbers_placed c.self.inside.store c.self.inside.first_core c.self.inside.grants c.self.inside.files.items c.self.inside.libs.items c.self.inside.history c.self.invariant
-
-pub take-given-requires-clause-there : goal.take-given-requires-clause-there
-take-given-requires-clause-there c = free_home c.self.inside.store c.self.inside.first_core c.self.inside.grants c.self.inside.files.items c.self.inside.libs.items c.self.inside.history c.self.invariant
-
-pub invariant_of-self : goal.invariant_of-self
-invariant_of-self c =
+pub invariant_of-self-in-Some : goal.invariant_of-self-in-Some
+invariant_of-self-in-Some c =
     let i = c.self.inside in
-    let gone = ap (λ (h : Pages). h.pages) c.in-Ok-given.ensures.home ∙ sym (without_is (take c.args.pages (free_pages i.store.owners i.store.allotments.pages)) i.store.home.pages) in
-    given_controlled c.self.inside.store c.self.inside.first_core c.self.inside.grants c.self.inside.files.items c.self.inside.libs.items c.self.inside.history c.self.invariant c.args.lib c.args.pages c.args.inodes (record i.store { home = c.take-given.new.home; allotments = c.take-given.new.self }) c.enter.new.self c.in-Ok-given.ensures.enough_pages c.in-Ok-given.ensures.enough_inodes refl gone c.in-Ok-given.ensures.out c.enter.ensures
+    let s = i.registry.state in
+    let lib = c.args.lib in
+    let e = entry.Allot lib c.args.pages c.args.inodes c.in-Some.answer in
+    let library = subst (λ (v : State). IsLibrary v.creds lib.0) (sym (seen_state c.self.view_is)) c.requires.library in
+    let told = sym c.in-Some.is ∙ c.allot_told.ensures in
+    let pushed = ap (λ (l : Logged). l.entries) c.push.ensures ∙ ap (λ (l : List Entry). l ++ e ∷ []) c.make_places.ensures.kept ∙ sym (ap (λ (l : List Entry). i.log.entries ++ l) (allot_entries s lib c.args.pages c.args.inodes c.allot-result.result _ told)) in
+    let places = rw (c.promised.ensures) at c.in-Ok.ensures.room in
+    after_call _ s c.allot-result.new.self.state i.registry.promised c.allot-result.new.self.promised i.log c.push.new.self i.notes (Allot lib.0 c.args.pages c.args.inodes) _ c.self.invariant c.allot-result.ensures.was_kept library tt tt c.allot-result.ensures.step tt pushed
+    (rw c.push.ensures (one_room c.make_places.new.log.entries e i.registry.promised c.allot-result.new.self.promised c.make_places.new.log.room places c.allot-result.ensures.promised))
 
-pub returns-in-Ok-given-clause-step : goal.returns-in-Ok-given-clause-step
-returns-in-Ok-given-clause-step c =
+pub invariant_of-self-in_default-allot_told : goal.invariant_of-self-in_default-allot_told
+invariant_of-self-in_default-allot_told c =
     let i = c.self.inside in
-    let gone = ap (λ (h : Pages). h.pages) c.in-Ok-given.ensures.home ∙ sym (without_is (take c.args.pages (free_pages i.store.owners i.store.allotments.pages)) i.store.home.pages) in
-    let pages = ap page_numbers c.in-Ok-given.ensures.pages ∙ pages_given c.args.lib _ in
-    let inodes = ap inode_numbers c.in-Ok-given.ensures.inodes ∙ numbers_given c.args.lib _ in
-    rw (← (state_is c.self.view_is), pages, inodes)
-    (given_step c.self.inside.store c.self.inside.first_core c.self.inside.grants c.self.inside.files.items c.self.inside.libs.items c.self.inside.history c.self.invariant c.args.lib c.args.pages c.args.inodes (record i.store { home = c.take-given.new.home; allotments = c.take-given.new.self }) c.enter.new.self c.in-Ok-given.ensures.enough_pages c.in-Ok-given.ensures.enough_inodes refl gone c.in-Ok-given.ensures.out c.enter.ensures)
-
-pub returns-in-Ok-given-clause-pages : goal.returns-in-Ok-given-clause-pages
-returns-in-Ok-given-clause-pages c = c.in-Ok-given.ensures.pages ∙ ap (map (fresh_page c.args.lib)) (sym (ap page_numbers c.in-Ok-given.ensures.pages ∙ pages_given c.args.lib _))
-
-pub returns-in-Ok-given-clause-inodes : goal.returns-in-Ok-given-clause-inodes
-returns-in-Ok-given-clause-inodes c = c.in-Ok-given.ensures.inodes ∙ ap (map (fresh_number c.args.lib)) (sym (ap inode_numbers c.in-Ok-given.ensures.inodes ∙ numbers_given c.args.lib _))
-
-pub returns-in-Ok-given-clause-kept : goal.returns-in-Ok-given-clause-kept
-returns-in-Ok-given-clause-kept c =
-    let i = c.self.inside in
-    let gone = ap (λ (h : Pages). h.pages) c.in-Ok-given.ensures.home ∙ sym (without_is (take c.args.pages (free_pages i.store.owners i.store.allotments.pages)) i.store.home.pages) in
-    (given_controlled c.self.inside.store c.self.inside.first_core c.self.inside.grants c.self.inside.files.items c.self.inside.libs.items c.self.inside.history c.self.invariant c.args.lib c.args.pages c.args.inodes (record i.store { home = c.take-given.new.home; allotments = c.take-given.new.self }) c.enter.new.self c.in-Ok-given.ensures.enough_pages c.in-Ok-given.ensures.enough_inodes refl gone c.in-Ok-given.ensures.out c.enter.ensures).stored.kept
-
-pub invariant_of-self-in-NoPages : goal.invariant_of-self-in-NoPages
-invariant_of-self-in-NoPages c =
-    let kept = rw c.in-Err.is at c.take-given.ensures.kept in
-    let same = still c.self.inside.store c.self.inside.first_core c.self.inside.grants c.self.inside.files.items c.self.inside.libs.items c.self.inside.history c.self.invariant _ refl kept.1 kept.0 in
-    logged_controlled c.self.inside.store c.self.inside.first_core c.self.inside.grants c.self.inside.files.items c.self.inside.libs.items c.self.inside.history c.self.invariant _ _ same c.enter-in-NoPages.ensures
-
-pub returns-in-NoPages-clause-step : goal.returns-in-NoPages-clause-step
-returns-in-NoPages-clause-step c =
-    let kept = rw c.in-Err.is at c.take-given.ensures.kept in
-    let same = still c.self.inside.store c.self.inside.first_core c.self.inside.grants c.self.inside.files.items c.self.inside.libs.items c.self.inside.history c.self.invariant _ refl kept.1 kept.0 in
-    rw (← (state_is c.self.view_is), logged_is c.self.inside.store c.self.inside.first_core c.self.inside.grants c.self.inside.files.items c.self.inside.libs.items c.self.inside.history c.self.invariant _ _ same c.enter-in-NoPages.ensures)
-    (refused_step c.self.inside.store c.self.inside.first_core c.self.inside.grants c.self.inside.files.items c.self.inside.libs.items c.self.inside.history c.self.invariant c.args.lib c.args.pages c.args.inodes c.in-Err.fault c.in-NoPages.is (rw c.in-Err.is at c.take-given.ensures.refused))
-
-pub invariant_of-self-in-NoMemory : goal.invariant_of-self-in-NoMemory
-invariant_of-self-in-NoMemory c =
-    let kept = rw c.in-Err.is at c.take-given.ensures.kept in
-    unchanged_controlled c.self.inside.store c.self.inside.first_core c.self.inside.grants c.self.inside.files.items c.self.inside.libs.items c.self.inside.history c.self.invariant _ (still c.self.inside.store c.self.inside.first_core c.self.inside.grants c.self.inside.files.items c.self.inside.libs.items c.self.inside.history c.self.invariant _ refl kept.1 kept.0)
-
-pub returns-in-NoMemory-clause-step : goal.returns-in-NoMemory-clause-step
-returns-in-NoMemory-clause-step c =
-    let i = c.self.inside in
-    let kept = rw c.in-Err.is at c.take-given.ensures.kept in
-    let same = still c.self.inside.store c.self.inside.first_core c.self.inside.grants c.self.inside.files.items c.self.inside.libs.items c.self.inside.history c.self.invariant _ refl kept.1 kept.0 in
-    inr (refl, ap allot_fault_answer c.in-NoMemory.is, ap (λ (t : Store). state_of t i.first_core (grants_in i.files.items) i.libs.items i.history.made) same ∙ state_is c.self.view_is)
+    let s = i.registry.state in
+    let lib = c.args.lib in
+    let library = subst (λ (v : State). IsLibrary v.creds lib.0) (sym (seen_state c.self.view_is)) c.requires.library in
+    let told = sym c.in_default-allot_told.is ∙ c.allot_told.ensures in
+    let same = c.make_places.ensures.kept ∙ sym (append-nil i.log.entries) ∙ sym (ap (λ (l : List Entry). i.log.entries ++ l) (allot_entries s lib c.args.pages c.args.inodes c.allot-result.result _ told)) in
+    let places = rw (c.promised.ensures) at c.in-Ok.ensures.room in
+    after_call _ s c.allot-result.new.self.state i.registry.promised c.allot-result.new.self.promised i.log c.make_places.new.log i.notes (Allot lib.0 c.args.pages c.args.inodes) _ c.self.invariant c.allot-result.ensures.was_kept library tt tt c.allot-result.ensures.step tt same
+    (same_room c.make_places.new.log.entries i.registry.promised c.allot-result.new.self.promised c.make_places.new.log.room places c.allot-result.ensures.promised)

@@ -1,38 +1,35 @@
-use Rattle.std.proofs.Common.{◌≡◌, Some, subst, sym, ap, ◌∙◌}
-use Rattle.std.specs.Option.{option_map}
-use Rattle.trio_tables.specs.Row.{as_row}
-use Rattle.trio_nodes.specs.declared.grant.GrantKind.TheVariants.{Read, Write, Hold}
-use Rattle.trio_state.specs.Kept.{Kept}
+use Rattle.std.proofs.Common.{◌++◌, [], ◌∷◌, List, ap, append-nil, subst, sym, ◌∙◌}
+use Rattle.trio_log.specs.Logged.{Logged}
+use Rattle.trio_nodes.specs.declared.entry.Entry.{Entry}
+use Rattle.trio_nodes.specs.declared.entry.Entry.TheVariants as entry
 use Rattle.trio_state.specs.State.{State}
-use Rattle.trio_layout.specs.Image.{row_at}
 use Rattle.trio_state.specs.Step.{Grant}
-use Rattle.trio_laws.proofs.Runs.{step_kept}
-use Rattle.trio_ctl.proofs.Views.{state_is}
-use Rattle.trio_ctl.proofs.Granting.{denied_step, kept_either}
+use Rattle.trio_laws.specs.history.Replays.{IsLibrary}
+use Rattle.trio_ctl.proofs.Recording.{after_call, grant_entries, no_more_room, one_more_room}
+use Rattle.trio_ctl.proofs.Views.{seen_state}
 use Rattle.trio_ctl.proofs.ctl.Ctl.grant.Goals as goal
 
-pub returns-in_default-clause-kept : goal.returns-in_default-clause-kept
-returns-in_default-clause-kept c =
-    kept_either c.args.self.now.state c.log_refusal.new.self.state _ _ (subst Kept (state_is c.self.view_is) c.self.invariant.stored.kept) c.log_refusal.ensures
+pub invariant_of-self-in-Some : goal.invariant_of-self-in-Some
+invariant_of-self-in-Some c =
+    let i = c.self.inside in
+    let s = i.registry.state in
+    let lib = c.args.lib in
+    let e = entry.Grant lib c.args.ino c.args.kind c.in-Some.answer in
+    let library = subst (λ (v : State). IsLibrary v.creds lib.0) (sym (seen_state c.self.view_is)) c.requires.library in
+    let told = sym c.in-Some.is ∙ c.grant_told.ensures in
+    let pushed = ap (λ (l : Logged). l.entries) c.push.ensures ∙ ap (λ (l : List Entry). l ++ e ∷ []) c.make_places.ensures.kept ∙ sym (ap (λ (l : List Entry). i.log.entries ++ l) (grant_entries s lib c.args.ino c.args.kind c.grant-result.result _ told)) in
+    let places = rw (c.promised.ensures) at c.in-Ok.ensures.room in
+    after_call _ s c.grant-result.new.self.state i.registry.promised c.grant-result.new.self.promised i.log c.push.new.self i.notes (Grant lib.0 c.args.ino c.args.kind) _ c.self.invariant c.grant-result.ensures.was_kept library tt tt c.grant-result.ensures.step tt pushed
+    (rw c.push.ensures (one_more_room c.make_places.new.log.entries e i.registry.promised c.grant-result.new.self.promised c.make_places.new.log.room places c.grant-result.ensures.promised))
 
-pub returns-in-Some-denial-clause-kept : goal.returns-in-Some-denial-clause-kept
-returns-in-Some-denial-clause-kept c =
-    kept_either c.args.self.now.state c.log_refusal-in-Some-denial.new.self.state _ _ (subst Kept (state_is c.self.view_is) c.self.invariant.stored.kept) c.log_refusal-in-Some-denial.ensures
-
-pub returns-in-Read-clause-kept : goal.returns-in-Read-clause-kept
-returns-in-Read-clause-kept c =
-    step_kept c.args.self.now.state c.lend_copies.new.self.state (Grant c.args.lib.0 c.args.ino Read) _ (subst Kept (state_is c.self.view_is) c.self.invariant.stored.kept) tt c.lend_copies.ensures.step
-
-pub returns-in-Write-clause-kept : goal.returns-in-Write-clause-kept
-returns-in-Write-clause-kept c =
-    step_kept c.args.self.now.state c.lend_file.new.self.state (Grant c.args.lib.0 c.args.ino Write) _ (subst Kept (state_is c.self.view_is) c.self.invariant.stored.kept) tt c.lend_file.ensures.step
-
-pub returns-in-Hold-clause-kept : goal.returns-in-Hold-clause-kept
-returns-in-Hold-clause-kept c =
-    step_kept c.args.self.now.state c.lend_hold.new.self.state (Grant c.args.lib.0 c.args.ino Hold) _ (subst Kept (state_is c.self.view_is) c.self.invariant.stored.kept) tt c.lend_hold.ensures.step
-
-pub returns-in-Some-denial-clause-step : goal.returns-in-Some-denial-clause-step
-returns-in-Some-denial-clause-step c =
-    let r = as_row c.in-Some.row in
-    let live = subst (λ (v : State). row_at v.home c.args.ino ≡ Some r) (state_is c.self.view_is) (sym c.row.ensures ∙ ap (option_map as_row) c.in-Some.is) in
-    denied_step c.args.self.now.state c.args.lib.0 c.args.ino c.args.kind r c.in-Some-denial.fault c.log_refusal-in-Some-denial.result c.log_refusal-in-Some-denial.new.self.state live (sym c.denial.ensures ∙ c.in-Some-denial.is) c.log_refusal-in-Some-denial.ensures
+pub invariant_of-self-in_default-grant_told : goal.invariant_of-self-in_default-grant_told
+invariant_of-self-in_default-grant_told c =
+    let i = c.self.inside in
+    let s = i.registry.state in
+    let lib = c.args.lib in
+    let library = subst (λ (v : State). IsLibrary v.creds lib.0) (sym (seen_state c.self.view_is)) c.requires.library in
+    let told = sym c.in_default-grant_told.is ∙ c.grant_told.ensures in
+    let same = c.make_places.ensures.kept ∙ sym (append-nil i.log.entries) ∙ sym (ap (λ (l : List Entry). i.log.entries ++ l) (grant_entries s lib c.args.ino c.args.kind c.grant-result.result _ told)) in
+    let places = rw (c.promised.ensures) at c.in-Ok.ensures.room in
+    after_call _ s c.grant-result.new.self.state i.registry.promised c.grant-result.new.self.promised i.log c.make_places.new.log i.notes (Grant lib.0 c.args.ino c.args.kind) _ c.self.invariant c.grant-result.ensures.was_kept library tt tt c.grant-result.ensures.step tt same
+    (no_more_room c.make_places.new.log.entries i.registry.promised c.grant-result.new.self.promised c.make_places.new.log.room places c.grant-result.ensures.promised)

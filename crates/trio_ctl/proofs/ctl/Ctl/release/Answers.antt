@@ -1,87 +1,113 @@
-use Rattle.std.proofs.Common.{◌≡◌, None, Some, inl, ap, refl, sym, subst, ◌∙◌}
+use Rattle.std.proofs.Common.{◌≡◌, ◌++◌, [], ◌∷◌, List, None, ap, append-nil, refl, subst, sym, ◌∙◌}
 use Rattle.trio_lease.specs.Bundles.{Bundled}
 use Rattle.trio_lease.specs.Views.{bundle_in}
+use Rattle.trio_log.specs.Logged.{Logged}
+use Rattle.trio_nodes.specs.declared.answers.ReleaseAnswer.{ReleaseAnswer}
+use Rattle.trio_nodes.specs.declared.entry.Entry.{Entry}
+use Rattle.trio_nodes.specs.declared.entry.Entry.TheVariants as entry
 use Rattle.trio_layout.specs.Case.{Case}
-use Rattle.trio_layout.specs.Copied.{with_copied}
-use Rattle.trio_judge.specs.Cases.{case_in as case_shown}
 use Rattle.trio_state.specs.Bundles.{parted_hold}
 use Rattle.trio_state.specs.Given.{GivenTo}
+use Rattle.trio_state.specs.Kept.{Kept}
 use Rattle.trio_state.specs.State.{State}
-use Rattle.trio_state.specs.Step.{Parted, Release, Step}
+use Rattle.trio_state.specs.Step.{Release, Step}
 use Rattle.trio_state.specs.Tells.{case_in}
-use Rattle.trio_commit.specs.Store.{state_of}
-use Rattle.trio_ctl.specs.Answers.{verdict_of}
-use Rattle.trio_ctl.specs.Open.{grants_in}
-use Rattle.trio_ctl.specs.Entries.{HasRoom, entries_of}
-use Rattle.trio_ctl.specs.inner.Parting.{lowest_parted}
-use Rattle.trio_ctl.proofs.Concluding.{reads_open}
-use Rattle.trio_ctl.proofs.PartedHolds.{parted_is}
-use Rattle.trio_ctl.specs.inner.Outcomes.{IsOutcome, IsVerdict}
-use Rattle.trio_ctl.proofs.Concluding.{judgeable, verdict_told}
-use Rattle.trio_ctl.proofs.Judging.{leaves}
-use Rattle.trio_ctl.proofs.Views.{state_is}
+use Rattle.trio_laws.specs.RuleLaws.{IsJudgeable}
+use Rattle.trio_laws.specs.history.Replays.{IsLibrary}
+use Rattle.trio_entries.specs.Handed.{handed_in}
+use Rattle.trio_survey.specs.Stored.{image_in}
+use Rattle.trio_ctl.specs.Answers.{release_fault_answer, verdict_of}
+use Rattle.trio_ctl.specs.Ctl.{Controller}
+use Rattle.trio_ctl.specs.HandedIn.{WereLent}
+use Rattle.trio_ctl.specs.Logged.{HasHistory, entries_made, with_bundle}
+use Rattle.trio_ctl.specs.inner.Outcomes.{IsOutcome, verdict_on}
+use Rattle.trio_ctl.specs.inner.Telling.{TellsOutcome, noted_by}
+use Rattle.trio_ctl.proofs.Recording.{one_room}
+use Rattle.trio_ctl.proofs.RecordedReleases.{after_release, are_noted, release_entries, whole_is}
+use Rattle.trio_ctl.proofs.Views.{seen_state}
 use Rattle.trio_ctl.proofs.ctl.Ctl.release.Goals as goal
 
-pub outcome_of-outcome-requires : goal.outcome_of-outcome-requires
-outcome_of-outcome-requires c =
-    let i = c.self.inside in
-    let lib = c.args.lib in
-    let b = bundle_in c.args.bundle in
-    let st = state_of i.store i.first_core (grants_in i.files.items) i.libs.items i.history.made in
-    let same = state_is c.self.view_is in
-    let given = subst (λ (v : State). GivenTo v lib.0 b) (sym same) c.requires.given in
-    let closed = sym (parted_is i.store i.first_core i.files.items i.libs.items i.history.made lib.0 b) ∙ sym (ap (lowest_parted i.store.rows lib.0 b) c.deref.ensures.value) ∙ sym c.parted_hold.ensures ∙ c.in_default.is in
-    let j = judgeable i.store i.first_core i.grants i.files.items i.libs.items i.history c.self.invariant lib b given closed in
-    let copied = c.in-Ok-case_of.ensures.case ∙ ap (λ (v : State). with_copied (case_in v lib.0 b)) (sym same) in
-    let said : IsVerdict (case_shown c.in-Ok-case_of.made.0) c.judge-verdict.result = record { sound = c.judge-verdict.ensures.sound; lowest = c.judge-verdict.ensures.lowest; listed = c.judge-verdict.ensures.listing } in
-    let verdict : IsVerdict (case_in st lib.0 b) c.judge-verdict.result = verdict_told st lib.0 b j c.judge-verdict.result (subst (λ (x : Case). IsVerdict x c.judge-verdict.result) copied said) in
-    (case_in st lib.0 b, verdict, refl, leaves st lib.0 b j c.self.invariant.no_zero)
+pub returns-in-Err-clause-step : goal.returns-in-Err-clause-step
+returns-in-Err-clause-step c =
+    subst (λ (v : State). Step v (Release c.args.lib.0 (bundle_in c.args.bundle)) (release_fault_answer c.in-Err.back.1) c.self.inside.registry.state) (seen_state c.self.view_is) c.in-Err.ensures.fault
 
-pub conclude-requires-clause-outcome : goal.conclude-requires-clause-outcome
-conclude-requires-clause-outcome c =
+pub told-requires-clause-noted : goal.told-requires-clause-noted
+told-requires-clause-noted c = are_noted c.self.inside.registry.state c.rows-rows.result.now c.self.inside.notes c.self.invariant.all.kept c.rows-rows.ensures c.self.invariant.noted
+
+pub invariant_of-self-2 : goal.invariant_of-self-2
+invariant_of-self-2 c =
     let i = c.self.inside in
+    let s = i.registry.state in
     let lib = c.args.lib in
-    let b = bundle_in c.args.bundle in
-    let st = state_of i.store i.first_core (grants_in i.files.items) i.libs.items i.history.made in
-    let same = state_is c.self.view_is in
-    let given = subst (λ (v : State). GivenTo v lib.0 b) (sym same) c.requires.given in
-    let closed = sym (parted_is i.store i.first_core i.files.items i.libs.items i.history.made lib.0 b) ∙ sym (ap (lowest_parted i.store.rows lib.0 b) c.deref.ensures.value) ∙ sym c.parted_hold.ensures ∙ c.in_default.is in
-    let j = judgeable i.store i.first_core i.grants i.files.items i.libs.items i.history c.self.invariant lib b given closed in
-    let copied = c.in-Ok-case_of.ensures.case ∙ ap (λ (v : State). with_copied (case_in v lib.0 b)) (sym same) in
-    let said : IsVerdict (case_shown c.in-Ok-case_of.made.0) c.judge-verdict.result = record { sound = c.judge-verdict.ensures.sound; lowest = c.judge-verdict.ensures.lowest; listed = c.judge-verdict.ensures.listing } in
-    let verdict : IsVerdict (case_in st lib.0 b) c.judge-verdict.result = verdict_told st lib.0 b j c.judge-verdict.result (subst (λ (x : Case). IsVerdict x c.judge-verdict.result) copied said) in
-    let outcome : IsOutcome (case_in st lib.0 b) c.outcome_of-outcome.result = c.outcome_of-outcome.ensures (case_in st lib.0 b) verdict refl in
-    subst (λ (x : Bundled). IsOutcome (case_in c.args.self.now.state lib.0 (bundle_in x)) c.outcome_of-outcome.result) (sym c.in-Ok-case_of.ensures.bundle)
-    (subst (λ (v : State). IsOutcome (case_in v lib.0 b) c.outcome_of-outcome.result) same outcome)
+    let b = c.args.bundle in
+    let seen = seen_state c.self.view_is in
+    let k = c.in-Ok-judged.judged.0 in
+    let o = c.in-Ok-judged.judged.1 in
+    let was = c.in-Ok-judged.ensures in
+    let given = subst (λ (v : State). GivenTo v lib.0 (bundle_in b)) (sym seen) c.requires.given in
+    let j : IsJudgeable s lib.0 (bundle_in b) = record { kept = c.self.invariant.all.kept; given = given; closed = was.closed refl } in
+    let whole = whole_is k s lib.0 (bundle_in b) c.rows-rows.result.now was.rows c.rows-rows.ensures in
+    let handed : c.in-Ok-copied.handed ≡ handed_in b = c.in-Ok-copied.ensures ∙ ap handed_in (c.bundle.ensures.bundle ∙ was.case) in
+    let told =
+        subst (λ h. TellsOutcome (case_in s lib.0 (bundle_in b)) i.notes h o c.in-Ok-told.told) handed
+        (subst (λ (x : Case). TellsOutcome x i.notes c.in-Ok-copied.handed o c.in-Ok-told.told) whole c.in-Ok-told.ensures)
+    in
+    let verdict = c.conclude-verdict.ensures.verdict in
+    let files = c.in-Ok-told.told.files in
+    let blocks = c.in-Ok-told.told.blocks in
+    let pushed =
+        ap (λ (l : Logged). l.entries) c.push.ensures
+        ∙ ap (λ (l : List Entry). l ++ entry.Raw lib c.conclude-verdict.result files blocks c.in-Ok-copied.handed ∷ []) c.make_places.ensures.kept
+        ∙ ap (λ v. i.log.entries ++ entry.Raw lib v files blocks c.in-Ok-copied.handed ∷ []) verdict
+        ∙ ap (λ h. i.log.entries ++ entry.Raw lib (verdict_on o) files blocks h ∷ []) handed
+    in
+    let library = subst (λ (v : State). IsLibrary v.creds lib.0) (sym seen) c.requires.library in
+    let lent = subst (λ (v : State). WereLent v lib.0 b.writes) (sym seen) c.requires.lent in
+    let step =
+        subst (λ v. Step s (Release lib.0 (bundle_in b)) (verdict_of v) c.conclude-verdict.new.self.state) verdict
+        (subst (λ (x : Bundled). Step s (Release lib.0 (bundle_in x)) (verdict_of c.conclude-verdict.result) c.conclude-verdict.new.self.state) was.case c.conclude-verdict.ensures.step)
+    in
+    let noted = c.note.ensures ∙ ap (λ fs. noted_by c.conclude-verdict.result fs i.notes) c.as_slice.ensures ∙ ap (λ v. noted_by v files i.notes) verdict in
+    let places = rw (c.promised.ensures) at c.in-Ok.ensures.room in
+    subst (λ n. HasHistory (image_in i.first.value.superblock i.first.value.pages) c.conclude-verdict.new.self.state n c.push.new.self c.note.new.notes) (sym c.conclude-verdict.ensures.promised)
+    (after_release _ s c.conclude-verdict.new.self.state i.registry.promised i.log c.push.new.self i.notes c.note.new.notes lib b o c.in-Ok-told.told c.self.invariant j library lent c.keeps_untouched.ensures was.outcome told step noted pushed (rw c.push.ensures (one_room c.make_places.new.log.entries (entry.Raw lib c.conclude-verdict.result files blocks c.in-Ok-copied.handed) i.registry.promised i.registry.promised c.make_places.new.log.room places refl)))
 
 pub returns-clause-step : goal.returns-clause-step
 returns-clause-step c =
-    subst (λ (x : Bundled). Step c.args.self.now.state (Release c.args.lib.0 (bundle_in x)) (verdict_of c.conclude.result) c.conclude.new.self.state) c.in-Ok-case_of.ensures.bundle c.conclude.ensures.step
+    let lib = c.args.lib in
+    subst (λ (v : State). Step v (Release lib.0 (bundle_in c.args.bundle)) (verdict_of c.conclude-verdict.result) c.conclude-verdict.new.self.state) (seen_state c.self.view_is)
+    (subst (λ (x : Bundled). Step c.self.inside.registry.state (Release lib.0 (bundle_in x)) (verdict_of c.conclude-verdict.result) c.conclude-verdict.new.self.state) c.in-Ok-judged.ensures.case c.conclude-verdict.ensures.step)
 
-pub returns-in-Some-clause-step : goal.returns-in-Some-clause-step
-returns-in-Some-clause-step c =
+pub returns-clause-logs : goal.returns-clause-logs
+returns-clause-logs c =
     let i = c.self.inside in
-    let b = bundle_in c.args.bundle in
-    let parted = sym (parted_is i.store i.first_core i.files.items i.libs.items i.history.made c.args.lib.0 b) ∙ sym (ap (lowest_parted i.store.rows c.args.lib.0 b) c.deref.ensures.value) ∙ sym c.parted_hold.ensures ∙ c.in-Some.is in
-    inl (Parted _ (subst (λ (v : State). parted_hold v c.args.lib.0 b ≡ Some c.in-Some.ino) (state_is c.self.view_is) parted) refl refl)
-
-pub case_of-requires-clause-closed : goal.case_of-requires-clause-closed
-case_of-requires-clause-closed c =
-    let i = c.self.inside in
-    let b = bundle_in c.args.bundle in
-    let closed = sym (parted_is i.store i.first_core i.files.items i.libs.items i.history.made c.args.lib.0 b) ∙ sym (ap (lowest_parted i.store.rows c.args.lib.0 b) c.deref.ensures.value) ∙ sym c.parted_hold.ensures ∙ c.in_default.is in
-    subst (λ (v : State). parted_hold v c.args.lib.0 b ≡ None) (state_is c.self.view_is) closed
-
-pub conclude-requires-clause-closed : goal.conclude-requires-clause-closed
-conclude-requires-clause-closed c =
-    let i = c.self.inside in
-    let b = bundle_in c.args.bundle in
-    let closed = sym (parted_is i.store i.first_core i.files.items i.libs.items i.history.made c.args.lib.0 b) ∙ sym (ap (lowest_parted i.store.rows c.args.lib.0 b) c.deref.ensures.value) ∙ sym c.parted_hold.ensures ∙ c.in_default.is in
-    subst (λ (x : Bundled). parted_hold c.args.self.now.state c.args.lib.0 (bundle_in x) ≡ None) (sym c.in-Ok-case_of.ensures.bundle)
-    (subst (λ (v : State). parted_hold v c.args.lib.0 b ≡ None) (state_is c.self.view_is) closed)
-
-pub conclude-requires-clause-room : goal.conclude-requires-clause-room
-conclude-requires-clause-room c =
-    let i = c.self.inside in
-    subst (λ (v : State). HasRoom (entries_of v) 1) (state_is c.self.view_is)
-    (subst (λ n. HasRoom (record { made = i.history.made; promised = n }) 1) (c.self.invariant.promised ∙ sym (reads_open i.store.checkpoints.items (grants_in i.files.items))) c.in-Ok.ensures)
+    let s = i.registry.state in
+    let lib = c.args.lib in
+    let b = c.args.bundle in
+    let seen = seen_state c.self.view_is in
+    let k = c.in-Ok-judged.judged.0 in
+    let o = c.in-Ok-judged.judged.1 in
+    let was = c.in-Ok-judged.ensures in
+    let given = subst (λ (v : State). GivenTo v lib.0 (bundle_in b)) (sym seen) c.requires.given in
+    let j : IsJudgeable s lib.0 (bundle_in b) = record { kept = c.self.invariant.all.kept; given = given; closed = was.closed refl } in
+    let whole = whole_is k s lib.0 (bundle_in b) c.rows-rows.result.now was.rows c.rows-rows.ensures in
+    let handed : c.in-Ok-copied.handed ≡ handed_in b = c.in-Ok-copied.ensures ∙ ap handed_in (c.bundle.ensures.bundle ∙ was.case) in
+    let told =
+        subst (λ h. TellsOutcome (case_in s lib.0 (bundle_in b)) i.notes h o c.in-Ok-told.told) handed
+        (subst (λ (x : Case). TellsOutcome x i.notes c.in-Ok-copied.handed o c.in-Ok-told.told) whole c.in-Ok-told.ensures)
+    in
+    let verdict = c.conclude-verdict.ensures.verdict in
+    let files = c.in-Ok-told.told.files in
+    let blocks = c.in-Ok-told.told.blocks in
+    let pushed =
+        ap (λ (l : Logged). l.entries) c.push.ensures
+        ∙ ap (λ (l : List Entry). l ++ entry.Raw lib c.conclude-verdict.result files blocks c.in-Ok-copied.handed ∷ []) c.make_places.ensures.kept
+        ∙ ap (λ v. i.log.entries ++ entry.Raw lib v files blocks c.in-Ok-copied.handed ∷ []) verdict
+        ∙ ap (λ h. i.log.entries ++ entry.Raw lib (verdict_on o) files blocks h ∷ []) handed
+    in
+    let made =
+        pushed ∙ sym (ap (λ (l : List Entry). i.log.entries ++ l) (release_entries s lib b o c.in-Ok-told.told i.notes j was.outcome c.self.invariant.noted told))
+        ∙ ap (λ v. i.log.entries ++ entries_made s (with_bundle b) (Release lib.0 (bundle_in b)) (verdict_of v)) (sym verdict)
+        ∙ ap (λ (x : Controller). x.log ++ entries_made x.state (with_bundle b) (Release lib.0 (bundle_in b)) (verdict_of c.conclude-verdict.result)) c.self.view_is
+    in
+    record { log = made; first = ap (λ (x : Controller). x.first) c.self.view_is }

@@ -1,81 +1,35 @@
-use Rattle.std.proofs.Common.{◌≡◌, None, Some, ap, refl, subst, sym, ◌∙◌}
-use Rattle.std.specs.List.{find}
-use Rattle.std.specs.Option.{option_map}
-use Rattle.trio_layout.specs.Image.{row_at}
-use Rattle.trio_tables.specs.Row.{as_row}
-use Rattle.trio_state.specs.Grants.{holder_of}
-use Rattle.trio_state.specs.Kept.{Kept}
+use Rattle.std.proofs.Common.{◌++◌, [], ◌∷◌, List, None, ap, append-nil, subst, sym, ◌∙◌}
+use Rattle.trio_log.specs.Logged.{Logged}
+use Rattle.trio_nodes.specs.declared.entry.Entry.{Entry}
+use Rattle.trio_nodes.specs.declared.entry.Entry.TheVariants as entry
 use Rattle.trio_state.specs.State.{State}
-use Rattle.trio_ctl.specs.inner.Modes.{is_around, mode_denial}
-use Rattle.trio_ctl.proofs.Granting.{kept_either}
-use Rattle.trio_ctl.proofs.Moding.{busy_step, live_within, moded_controlled, moded_step, page_there, slot_within}
-use Rattle.trio_ctl.proofs.Views.{state_is}
+use Rattle.trio_state.specs.Step.{SetMode}
+use Rattle.trio_laws.specs.history.Replays.{IsLibrary}
+use Rattle.trio_ctl.proofs.Recording.{after_call, mode_entries, one_room, same_room}
+use Rattle.trio_ctl.proofs.Views.{seen_state}
 use Rattle.trio_ctl.proofs.ctl.Ctl.set_mode.Goals as goal
 
-pub returns-in_default-clause-kept : goal.returns-in_default-clause-kept
-returns-in_default-clause-kept c =
-    kept_either c.args.self.now.state c.log_mode_refusal.new.self.state _ _ (subst Kept (state_is c.self.view_is) c.self.invariant.stored.kept) c.log_mode_refusal.ensures
-
-pub returns-in-Some-mode_denial-clause-kept : goal.returns-in-Some-mode_denial-clause-kept
-returns-in-Some-mode_denial-clause-kept c =
-    kept_either c.args.self.now.state c.log_mode_refusal-in-Some-mode_denial.new.self.state _ _ (subst Kept (state_is c.self.view_is) c.self.invariant.stored.kept) c.log_mode_refusal-in-Some-mode_denial.ensures
-
-pub returns-in-Some-holder_around-clause-step : goal.returns-in-Some-holder_around-clause-step
-returns-in-Some-holder_around-clause-step c =
-    let r = as_row c.in-Some.row in
-    let live = subst (λ (v : State). row_at v.home c.args.ino ≡ Some r) (state_is c.self.view_is) (sym c.row.ensures ∙ ap (option_map as_row) c.in-Some.is) in
-    busy_step c.args.self.now.state c.args.lib.0 c.args.ino c.args.mode r c.in-Some-holder_around.holder c.args.self.now.state live (sym c.mode_denial.ensures ∙ c.in_default-mode_denial.is) (sym c.holder_around.ensures ∙ c.in-Some-holder_around.is) refl
-
-pub put_mode-requires-clause-live : goal.put_mode-requires-clause-live
-put_mode-requires-clause-live c =
+pub invariant_of-self-in-Some : goal.invariant_of-self-in-Some
+invariant_of-self-in-Some c =
     let i = c.self.inside in
-    let r = as_row c.in-Some.row in
-    let live = sym c.row.ensures ∙ ap (option_map as_row) c.in-Some.is in
-    let may = subst (λ (v : State). mode_denial v c.args.lib.0 c.args.ino c.args.mode r ≡ None) (sym (state_is c.self.view_is)) (sym c.mode_denial.ensures ∙ c.in_default-mode_denial.is) in
-    let free = subst (λ (v : State). option_map holder_of (find (is_around c.args.ino r.parent) v.open_grants) ≡ None) (sym (state_is c.self.view_is)) (sym c.holder_around.ensures ∙ c.in_default-holder_around.is) in
-    live_within i.store i.first_core i.grants i.files.items i.libs.items i.history c.self.invariant c.args.lib c.args.ino c.args.mode r live may free
+    let s = i.registry.state in
+    let lib = c.args.lib in
+    let e = entry.Mode lib c.args.ino c.args.mode c.in-Some.answer None in
+    let library = subst (λ (v : State). IsLibrary v.creds lib.0) (sym (seen_state c.self.view_is)) c.requires.library in
+    let told = sym c.in-Some.is ∙ c.mode_told.ensures in
+    let pushed = ap (λ (l : Logged). l.entries) c.push.ensures ∙ ap (λ (l : List Entry). l ++ e ∷ []) c.make_places.ensures.kept ∙ sym (ap (λ (l : List Entry). i.log.entries ++ l) (mode_entries s lib c.args.ino c.args.mode c.set_mode-result.result _ told)) in
+    let places = rw (c.promised.ensures) at c.in-Ok.ensures.room in
+    after_call _ s c.set_mode-result.new.self.state i.registry.promised c.set_mode-result.new.self.promised i.log c.push.new.self i.notes (SetMode lib.0 c.args.ino c.args.mode) _ c.self.invariant c.set_mode-result.ensures.was_kept library tt tt c.set_mode-result.ensures.step (λ said e. tt) pushed
+    (rw c.push.ensures (one_room c.make_places.new.log.entries e i.registry.promised c.set_mode-result.new.self.promised c.make_places.new.log.room places c.set_mode-result.ensures.promised))
 
-pub put_mode-requires-clause-slot : goal.put_mode-requires-clause-slot
-put_mode-requires-clause-slot c =
+pub invariant_of-self-in_default-mode_told : goal.invariant_of-self-in_default-mode_told
+invariant_of-self-in_default-mode_told c =
     let i = c.self.inside in
-    let r = as_row c.in-Some.row in
-    let live = sym c.row.ensures ∙ ap (option_map as_row) c.in-Some.is in
-    let may = subst (λ (v : State). mode_denial v c.args.lib.0 c.args.ino c.args.mode r ≡ None) (sym (state_is c.self.view_is)) (sym c.mode_denial.ensures ∙ c.in_default-mode_denial.is) in
-    let free = subst (λ (v : State). option_map holder_of (find (is_around c.args.ino r.parent) v.open_grants) ≡ None) (sym (state_is c.self.view_is)) (sym c.holder_around.ensures ∙ c.in_default-holder_around.is) in
-    slot_within i.store i.first_core i.grants i.files.items i.libs.items i.history c.self.invariant c.args.lib c.args.ino c.args.mode r live may free
-
-pub put_mode-requires-clause-there : goal.put_mode-requires-clause-there
-put_mode-requires-clause-there c =
-    let i = c.self.inside in
-    let r = as_row c.in-Some.row in
-    let live = sym c.row.ensures ∙ ap (option_map as_row) c.in-Some.is in
-    let may = subst (λ (v : State). mode_denial v c.args.lib.0 c.args.ino c.args.mode r ≡ None) (sym (state_is c.self.view_is)) (sym c.mode_denial.ensures ∙ c.in_default-mode_denial.is) in
-    let free = subst (λ (v : State). option_map holder_of (find (is_around c.args.ino r.parent) v.open_grants) ≡ None) (sym (state_is c.self.view_is)) (sym c.holder_around.ensures ∙ c.in_default-holder_around.is) in
-    page_there i.store i.first_core i.grants i.files.items i.libs.items i.history c.self.invariant c.args.lib c.args.ino c.args.mode r live may free
-
-pub invariant_of-self : goal.invariant_of-self
-invariant_of-self c =
-    let i = c.self.inside in
-    let r = as_row c.in-Some.row in
-    let live = sym c.row.ensures ∙ ap (option_map as_row) c.in-Some.is in
-    let may = subst (λ (v : State). mode_denial v c.args.lib.0 c.args.ino c.args.mode r ≡ None) (sym (state_is c.self.view_is)) (sym c.mode_denial.ensures ∙ c.in_default-mode_denial.is) in
-    let free = subst (λ (v : State). option_map holder_of (find (is_around c.args.ino r.parent) v.open_grants) ≡ None) (sym (state_is c.self.view_is)) (sym c.holder_around.ensures ∙ c.in_default-holder_around.is) in
-    moded_controlled i.store i.first_core i.grants i.files.items i.libs.items i.history c.self.invariant c.args.lib c.args.ino c.args.mode r live may free c.put_mode.new.store c.enter.new.self c.put_mode.ensures.pages c.put_mode.ensures.rest c.enter.ensures
-
-pub returns-clause-step : goal.returns-clause-step
-returns-clause-step c =
-    let i = c.self.inside in
-    let r = as_row c.in-Some.row in
-    let live = sym c.row.ensures ∙ ap (option_map as_row) c.in-Some.is in
-    let may = subst (λ (v : State). mode_denial v c.args.lib.0 c.args.ino c.args.mode r ≡ None) (sym (state_is c.self.view_is)) (sym c.mode_denial.ensures ∙ c.in_default-mode_denial.is) in
-    let free = subst (λ (v : State). option_map holder_of (find (is_around c.args.ino r.parent) v.open_grants) ≡ None) (sym (state_is c.self.view_is)) (sym c.holder_around.ensures ∙ c.in_default-holder_around.is) in
-    rw (← (state_is c.self.view_is)) (moded_step i.store i.first_core i.grants i.files.items i.libs.items i.history c.self.invariant c.args.lib c.args.ino c.args.mode r live may free c.put_mode.new.store c.enter.new.self c.put_mode.ensures.pages c.put_mode.ensures.rest c.enter.ensures)
-
-pub returns-clause-kept : goal.returns-clause-kept
-returns-clause-kept c =
-    let i = c.self.inside in
-    let r = as_row c.in-Some.row in
-    let live = sym c.row.ensures ∙ ap (option_map as_row) c.in-Some.is in
-    let may = subst (λ (v : State). mode_denial v c.args.lib.0 c.args.ino c.args.mode r ≡ None) (sym (state_is c.self.view_is)) (sym c.mode_denial.ensures ∙ c.in_default-mode_denial.is) in
-    let free = subst (λ (v : State). option_map holder_of (find (is_around c.args.ino r.parent) v.open_grants) ≡ None) (sym (state_is c.self.view_is)) (sym c.holder_around.ensures ∙ c.in_default-holder_around.is) in
-    (moded_controlled i.store i.first_core i.grants i.files.items i.libs.items i.history c.self.invariant c.args.lib c.args.ino c.args.mode r live may free c.put_mode.new.store c.enter.new.self c.put_mode.ensures.pages c.put_mode.ensures.rest c.enter.ensures).stored.kept
+    let s = i.registry.state in
+    let lib = c.args.lib in
+    let library = subst (λ (v : State). IsLibrary v.creds lib.0) (sym (seen_state c.self.view_is)) c.requires.library in
+    let told = sym c.in_default-mode_told.is ∙ c.mode_told.ensures in
+    let same = c.make_places.ensures.kept ∙ sym (append-nil i.log.entries) ∙ sym (ap (λ (l : List Entry). i.log.entries ++ l) (mode_entries s lib c.args.ino c.args.mode c.set_mode-result.result _ told)) in
+    let places = rw (c.promised.ensures) at c.in-Ok.ensures.room in
+    after_call _ s c.set_mode-result.new.self.state i.registry.promised c.set_mode-result.new.self.promised i.log c.make_places.new.log i.notes (SetMode lib.0 c.args.ino c.args.mode) _ c.self.invariant c.set_mode-result.ensures.was_kept library tt tt c.set_mode-result.ensures.step (λ said e. tt) same
+    (same_room c.make_places.new.log.entries i.registry.promised c.set_mode-result.new.self.promised c.make_places.new.log.room places c.set_mode-result.ensures.promised)

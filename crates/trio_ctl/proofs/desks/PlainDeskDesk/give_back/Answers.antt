@@ -4,6 +4,7 @@ use Rattle.trio_state.specs.Given.{HasGrant}
 use Rattle.trio_state.specs.Step.{Step}
 use Rattle.trio_state.specs.Step as step
 use Rattle.trio_ctl.proofs.DeskGiven.{read_by}
+use Rattle.trio_ctl.proofs.DeskLogs.{back_logs}
 use Rattle.trio_ctl.proofs.DeskSteps.{back_seen}
 use Rattle.trio_ctl.proofs.desks.PlainDeskDesk.give_back.Goals as goal
 
@@ -24,6 +25,7 @@ returns-clause-called c =
       },
       refl,
       refl,
+      back_logs d.ctl.now d.lib c.args.lease c.give_back.new.self by.1 c.give_back.ensures.logs,
     )
 
 pub returns-clause-seen : goal.returns-clause-seen

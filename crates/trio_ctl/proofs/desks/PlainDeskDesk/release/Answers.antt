@@ -4,7 +4,8 @@ use Rattle.trio_state.specs.Step.{Step}
 use Rattle.trio_state.specs.Step as step
 use Rattle.trio_ctl.specs.Desk.{bundle_of}
 use Rattle.trio_ctl.proofs.DeskClosed.{closed_told}
-use Rattle.trio_ctl.proofs.DeskGiven.{given_to, were_held}
+use Rattle.trio_ctl.proofs.DeskGiven.{given_to, were_held, were_lent}
+use Rattle.trio_ctl.proofs.DeskLogs.{release_logs}
 use Rattle.trio_ctl.proofs.DeskSteps.{release_same, release_seen}
 use Rattle.trio_ctl.proofs.desks.PlainDeskDesk.release.Goals as goal
 
@@ -13,6 +14,9 @@ release-requires-clause-given c = given_to c.args.self.now.ctl.now.state c.args.
 
 pub release-requires-clause-held : goal.release-requires-clause-held
 release-requires-clause-held c = were_held c.args.self.now.ctl.now.state c.args.self.now.lib (parcel_of c.args.bundle) c.requires
+
+pub release-requires-clause-lent : goal.release-requires-clause-lent
+release-requires-clause-lent c = were_lent c.args.self.now.ctl.now.state c.args.self.now.lib (parcel_of c.args.bundle) c.requires
 
 pub returns-clause-called : goal.returns-clause-called
 returns-clause-called c =
@@ -24,6 +28,7 @@ returns-clause-called c =
       },
       refl,
       refl,
+      release_logs d.ctl.now d.lib c.args.bundle c.release.result (λ back. back.1) c.release.new.self c.release.ensures.logs,
     )
 
 pub returns-clause-seen : goal.returns-clause-seen

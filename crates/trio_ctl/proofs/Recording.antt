@@ -1,0 +1,154 @@
+-- Each call of the controller leaves all recorded, its entry too.
+use Rattle.std.proofs.Common.{◌≡◌, ◌⊎◌, ◌+◌, ◌≤◌, ◌<◌, ◌==◌, ℕ, Bool, true, false, List, [], ◌∷◌, ◌++◌, length, length-append, Option, Some, None, Result, Ok, Err, inl, inr, refl, sym, ap, subst, ◌∙◌, arith}
+use Rattle.std.specs.List.{filter}
+use Rattle.std.proofs.lemmas.Bool.{eq-eqb, eqb-true, eqb-false}
+use Rattle.trio_lists.specs.Lists.{In}
+use Rattle.trio_lists.proofs.Filters.{In-filter}
+use Rattle.trio_lists.proofs.Members.{In-map}
+use Rattle.trio_layout.proofs.Superblocks.{superblock_facts}
+use Rattle.trio_layout.specs.declared.superblock.Superblock.{Superblock}
+use Rattle.trio_rights.specs.declared.rights.Creds.{Creds}
+use Rattle.trio_survey.specs.Stored.{image_in}
+use Rattle.trio_image.specs.Image.{IsVerified}
+use Rattle.trio_state.specs.ImageNodes.{notes_by_rows}
+use Rattle.trio_state.specs.Run.{IsWhole, start}
+use Rattle.trio_lease.specs.declared.fresh.Allotted.{Allotted}
+use Rattle.trio_lease.specs.declared.lease.Lease.{Lease}
+use Rattle.trio_layout.specs.Image.{Image}
+use Rattle.trio_log.specs.Logged.{Logged}
+use Rattle.trio_nodes.specs.declared.answers.AllotFault.{AllotFault}
+use Rattle.trio_nodes.specs.declared.answers.AllotFault.TheVariants as unallotted
+use Rattle.trio_nodes.specs.declared.answers.GrantFault.{GrantFault}
+use Rattle.trio_nodes.specs.declared.answers.GrantFault.TheVariants as ungranted
+use Rattle.trio_nodes.specs.declared.answers.ModeFault.{ModeFault}
+use Rattle.trio_nodes.specs.declared.answers.ModeFault.TheVariants as unmoded
+use Rattle.trio_nodes.specs.declared.entry.AllotAnswer.{AllotAnswer}
+use Rattle.trio_nodes.specs.declared.entry.Entry.{Entry}
+use Rattle.trio_nodes.specs.declared.entry.Entry.TheVariants as entry
+use Rattle.trio_nodes.specs.declared.entry.GrantAnswer.{GrantAnswer}
+use Rattle.trio_nodes.specs.declared.grant.GrantKind.{GrantKind}
+use Rattle.trio_rights.specs.declared.rights.LibNo.{LibNo}
+use Rattle.trio_state.specs.Given.{GivenEvent, HasGrant}
+use Rattle.trio_state.specs.Kept.{Kept}
+use Rattle.trio_state.specs.Listed.{Notes}
+use Rattle.trio_state.specs.State.{OpenGrant, State, settled}
+use Rattle.trio_state.specs.Step.{Event, Grant, Allot, Back, SetMode, CtlAnswer, Step}
+use Rattle.trio_laws.specs.Laws.{library_of}
+use Rattle.trio_laws.specs.OutLaws.{HasOut, grants_to, out_of, without_checkpoint}
+use Rattle.trio_laws.specs.history.Entries.{Beside}
+use Rattle.trio_laws.specs.history.Recorded.{IsRecorded, BesideFits}
+use Rattle.trio_laws.specs.history.Replays.{IsLibrary}
+use Rattle.trio_laws.specs.history.ToldLaws.{EndsNone, notes_of}
+use Rattle.trio_laws.proofs.OthersOut.{others_keep_out}
+use Rattle.trio_laws.proofs.history.Begins.{history_begins}
+use Rattle.trio_laws.proofs.history.Grows.{history_grows, step_creds}
+use Rattle.trio_laws.proofs.history.NotesStart.{start_notes}
+use Rattle.trio_laws.proofs.history.NotesSteps.{steps_keep_notes}
+use Rattle.trio_ctl.proofs.Starting.{image_kept}
+use Rattle.trio_ctl.proofs.Wholes.{whole_none}
+use Rattle.trio_ctl.specs.Answers.{allot_answer, grant_answer, mode_answer}
+use Rattle.trio_ctl.specs.Logged.{AreMine, HasHistory, alone, entries_made, recorded}
+use Rattle.trio_ctl.specs.inner.Telling.{allot_told, grant_told, mode_told}
+
+-- ---- grants of libraries alone
+
+pub still_mine : (s : State) (event : Event) (answer : CtlAnswer) (s' : State) → Kept s → GivenEvent s event → Step s event answer s' → IsLibrary s.creds (library_of event) → AreMine s → AreMine s'
+still_mine s event answer s' k given step its mine = λ lib. by lib (library_of event == lib) refl (mine lib)
+  where
+    creds : s'.creds ≡ s.creds
+    creds = step_creds s event answer s' step
+
+    by : (lib : ℕ) (t : Bool) → (library_of event == lib) ≡ t → IsLibrary s.creds lib ⊎ (grants_to s.open_grants lib ≡ []) → IsLibrary s'.creds lib ⊎ (grants_to s'.open_grants lib ≡ [])
+    by lib true e m = inl (subst (λ c. IsLibrary c lib) (sym creds) (subst (λ n. IsLibrary s.creds n) (eqb-true (library_of event) lib e) its))
+    by lib false e (inl l) = inl (subst (λ c. IsLibrary c lib) (sym creds) l)
+    by lib false e (inr none) =
+        inr (ap (λ (o : HasOut). o.grants) (others_keep_out s event answer s' lib k given step (eqb-false (library_of event) lib e)) ∙ none)
+
+-- ---- a call that ends no bundle
+
+pub grown : (first : Image) (s s' : State) (log log' : List Entry) (x : Beside) (event : Event) (answer : CtlAnswer) → IsRecorded (recorded first s log) → IsLibrary s.creds (library_of event) → GivenEvent s event → Step s event answer s' → BesideFits s x event answer s' → log' ≡ log ++ entries_made s x event answer → IsRecorded (recorded first s' log')
+grown first s s' log log' x event answer r its given step fits e =
+    subst (λ l. IsRecorded (recorded first s' l)) (sym e) (history_grows (recorded first s log) x event answer s' r its given step fits)
+
+-- ---- entries of answers
+
+-- a log with the entry of this answer, if it makes one
+abbrev with_told : {A : Type 0} → (A → Entry) → Option A → List Entry
+with_told f None = []
+with_told f (Some a) = f a ∷ []
+
+pub grant_entries : (s : State) (lib : LibNo) (ino : ℕ) (kind : GrantKind) (said : Result Lease GrantFault) (told : Option GrantAnswer) → told ≡ grant_told said → entries_made s alone (Grant lib.0 ino kind) (grant_answer said) ≡ with_told (entry.Grant lib ino kind) told
+grant_entries s lib ino kind (Ok lease) told e = ap (with_told (entry.Grant lib ino kind)) (sym e)
+grant_entries s lib ino kind (Err ungranted.NotLive) told e = ap (with_told (entry.Grant lib ino kind)) (sym e)
+grant_entries s lib ino kind (Err (ungranted.Denied by)) told e = ap (with_told (entry.Grant lib ino kind)) (sym e)
+grant_entries s lib ino kind (Err ungranted.NoParent) told e = ap (with_told (entry.Grant lib ino kind)) (sym e)
+grant_entries s lib ino kind (Err (ungranted.Busy holder)) told e = ap (with_told (entry.Grant lib ino kind)) (sym e)
+grant_entries s lib ino kind (Err ungranted.NoMemory) told e = ap (with_told (entry.Grant lib ino kind)) (sym e)
+
+pub allot_entries : (s : State) (lib : LibNo) (pages inodes : ℕ) (said : Result Allotted AllotFault) (told : Option AllotAnswer) → told ≡ allot_told said → entries_made s alone (Allot lib.0 pages inodes) (allot_answer said) ≡ with_told (entry.Allot lib pages inodes) told
+allot_entries s lib pages inodes (Ok given) told e = ap (with_told (entry.Allot lib pages inodes)) (sym e)
+allot_entries s lib pages inodes (Err (unallotted.NoPages wanted free)) told e = ap (with_told (entry.Allot lib pages inodes)) (sym e)
+allot_entries s lib pages inodes (Err (unallotted.NoInodes wanted free)) told e = ap (with_told (entry.Allot lib pages inodes)) (sym e)
+allot_entries s lib pages inodes (Err unallotted.NoMemory) told e = ap (with_told (entry.Allot lib pages inodes)) (sym e)
+
+pub mode_entries : (s : State) (lib : LibNo) (ino mode : ℕ) (said : Result (Unit {0}) ModeFault) (told : Option (Result (Unit {0}) ModeFault)) → told ≡ mode_told said → entries_made s alone (SetMode lib.0 ino mode) (mode_answer said) ≡ with_told (λ a. entry.Mode lib ino mode a None) told
+mode_entries s lib ino mode (Ok done) told e = ap (with_told (λ a. entry.Mode lib ino mode a None)) (sym e)
+mode_entries s lib ino mode (Err unmoded.NotLive) told e = ap (with_told (λ a. entry.Mode lib ino mode a None)) (sym e)
+mode_entries s lib ino mode (Err unmoded.NotOwner) told e = ap (with_told (λ a. entry.Mode lib ino mode a None)) (sym e)
+mode_entries s lib ino mode (Err unmoded.BadMode) told e = ap (with_told (λ a. entry.Mode lib ino mode a None)) (sym e)
+mode_entries s lib ino mode (Err (unmoded.Busy holder)) told e = ap (with_told (λ a. entry.Mode lib ino mode a None)) (sym e)
+mode_entries s lib ino mode (Err unmoded.NoMemory) told e = ap (with_told (λ a. entry.Mode lib ino mode a None)) (sym e)
+
+-- ---- what holds after a call that ends no bundle
+
+pub after_call : (first : Image) (s s' : State) (promised promised' : ℕ) (log log' : Logged) (notes : Notes) (event : Event) (answer : CtlAnswer) → HasHistory first s promised log notes → Kept s → IsLibrary s.creds (library_of event) → GivenEvent s event → EndsNone event → Step s event answer s' → BesideFits s alone event answer s' → log'.entries ≡ log.entries ++ entries_made s alone event answer → length log'.entries + promised' ≤ log'.room → HasHistory first s' promised' log' notes
+after_call first s s' promised promised' log log' notes event answer h k its given none step fits e room = record {
+  all = grown first s s' log.entries log'.entries alone event answer h.all its given step fits e;
+  room = room;
+  mine = still_mine s event answer s' k given step its h.mine;
+  noted = h.noted ∙ sym (steps_keep_notes s event answer s' k given none step);
+}
+
+-- one entry more, for which there were two places, and at most one promised more
+pub one_more_room : (es : List Entry) (e : Entry) (p p' room : ℕ) → length es + p + 2 ≤ room → p' ≤ p + 1 → length (es ++ e ∷ []) + p' ≤ room
+one_more_room es e p p' room places few = (let n = length-append es (e ∷ []) in omega (arith, n, places, few))
+
+pub no_more_room : (es : List Entry) (p p' room : ℕ) → length es + p + 2 ≤ room → p' ≤ p + 1 → length es + p' ≤ room
+no_more_room es p p' room places few = omega (arith, places, few)
+
+-- one entry, for which there was a place
+pub one_room : (es : List Entry) (e : Entry) (p p' room : ℕ) → length es + p + 1 ≤ room → p' ≡ p → length (es ++ e ∷ []) + p' ≤ room
+one_room es e p p' room places same = (let n = length-append es (e ∷ []) in omega (arith, n, places, same))
+
+pub same_room : (es : List Entry) (p p' room : ℕ) → length es + p + 1 ≤ room → p' ≡ p → length es + p' ≤ room
+same_room es p p' room places same = omega (arith, places, same)
+
+-- the entry of an end that was promised
+pub promised_room : (es : List Entry) (e : Entry) (p p' room : ℕ) → length es + p ≤ room → p' + 1 ≡ p → length (es ++ e ∷ []) + p' ≤ room
+promised_room es e p p' room places one = (let n = length-append es (e ∷ []) in omega (arith, n, places, one))
+
+-- a library that has an open grant is one of the controller's
+pub grants_library : (s : State) (lib ino : ℕ) (kind : GrantKind) → AreMine s → HasGrant s lib ino kind → IsLibrary s.creds lib
+grants_library s lib ino kind mine g = by (mine lib)
+  where
+    by : IsLibrary s.creds lib ⊎ (grants_to s.open_grants lib ≡ []) → IsLibrary s.creds lib
+    by (inl is) = is
+    by (inr none) =
+        let there = In-map without_checkpoint g.grant (filter (λ x. x.lib == lib) s.open_grants) (In-filter (λ (x : OpenGrant). x.lib == lib) g.grant s.open_grants g.is_open (eq-eqb g.grant.lib lib g.lib)) in
+        absurd (subst (λ (l : List OpenGrant). In (without_checkpoint g.grant) l) none there)
+
+-- ---- the start
+
+pub begins : (sb : Superblock) (pages : List (Option (List ℕ))) (creds : List Creds) (log : Logged) (notes : Notes) → IsVerified sb pages → log.entries ≡ [] → notes ≡ notes_by_rows (image_in sb pages).core (image_in sb pages).rows → HasHistory (image_in sb pages) (start (image_in sb pages) creds) 0 log notes
+begins sb pages creds log notes v empty noted =
+    let image = image_in sb pages in
+    let k = image_kept sb pages creds v in
+    let whole : IsWhole image = λ p gone core. whole_none pages p v.whole.whole gone in
+    let facts = superblock_facts sb v.whole.superblock.read.fits in
+    let positive : 0 < image.core.range.first = omega (arith, facts.first_owner, facts.first_core) in
+    record {
+      all = subst (λ l. IsRecorded (recorded image (start image creds) l)) (sym empty) (history_begins image creds k.fit k.verifies whole);
+      room = (let n : length log.entries ≡ 0 = ap (λ (l : List Entry). length l) empty in omega (arith, n));
+      mine = λ lib. inr refl;
+      noted = noted ∙ sym (start_notes image creds k.fit k.verifies whole positive);
+    }

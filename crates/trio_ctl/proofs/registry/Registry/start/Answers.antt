@@ -1,0 +1,34 @@
+use Rattle.std.proofs.Common.{◌+◌, None, arith, ap, ◌∙◌}
+use Rattle.std.specs.Prelude.{replicate}
+use Rattle.trio_layout.specs.declared.superblock.Superblock.{Superblock}
+use Rattle.trio_allot.specs.Out.{nothing_out}
+use Rattle.trio_ctl.proofs.Starting.{started, state_started}
+use Rattle.trio_ctl.proofs.registry.Registry.start.Goals as goal
+
+pub invariant_of-result : goal.invariant_of-result
+invariant_of-result c =
+    let image = c.args.image in
+    let parts = c.into_parts-home.ensures in
+    let same = c.superblock-superblock.ensures.superblock in
+    started image.superblock image.pages _ _ _ c.args.libs.items _ parts.verified parts.pages (ap (λ (x : Superblock). x.root) same) parts.tables.rows_are parts.tables.owners_are
+    (c.in-Ok.ensures ∙ ap (λ (x : Superblock). nothing_out x.pages x.inodes) same) (ap (λ (x : Superblock). x.first_core) same) c.new-3.ensures.items c.new-4.ensures
+    _ (c.in-Ok-no_checkpoints.ensures ∙ ap (λ (x : Superblock). replicate (x.inodes + 1) None) same) c.new-2.ensures (omega arith) (omega arith)
+
+pub returns-clause-started : goal.returns-clause-started
+returns-clause-started c =
+    let image = c.args.image in
+    let made = c.into_parts-home.result in
+    let parts = c.into_parts-home.ensures in
+    let same = c.superblock-superblock.ensures.superblock in
+    state_started image.superblock image.pages (record { home = made.home; root = c.superblock-superblock.result.root; rows = made.rows; owners = made.owners; allotments = c.in-Ok.allotments; checkpoints = c.in-Ok-no_checkpoints.checkpoints }) _ _ c.args.libs.items _ parts.verified parts.pages (ap (λ (x : Superblock). x.root) same) parts.tables.rows_are parts.tables.owners_are
+    (c.in-Ok.ensures ∙ ap (λ (x : Superblock). nothing_out x.pages x.inodes) same) (ap (λ (x : Superblock). x.first_core) same) c.new-3.ensures.items c.new-4.ensures
+
+pub returns-clause-kept : goal.returns-clause-kept
+returns-clause-kept c =
+    let image = c.args.image in
+    let made = c.into_parts-home.result in
+    let parts = c.into_parts-home.ensures in
+    let same = c.superblock-superblock.ensures.superblock in
+    (started image.superblock image.pages (record { home = made.home; root = c.superblock-superblock.result.root; rows = made.rows; owners = made.owners; allotments = c.in-Ok.allotments; checkpoints = c.in-Ok-no_checkpoints.checkpoints }) c.superblock-superblock.result.first_core c.new-3.result.items c.args.libs.items c.new-4.result parts.verified parts.pages (ap (λ (x : Superblock). x.root) same) parts.tables.rows_are parts.tables.owners_are
+    (c.in-Ok.ensures ∙ ap (λ (x : Superblock). nothing_out x.pages x.inodes) same) (ap (λ (x : Superblock). x.first_core) same) c.new-3.ensures.items c.new-4.ensures
+    c.new-2.result (c.in-Ok-no_checkpoints.ensures ∙ ap (λ (x : Superblock). replicate (x.inodes + 1) None) same) c.new-2.ensures (omega arith) (omega arith)).stored.kept

@@ -1,0 +1,52 @@
+-- The log that a controller keeps beside its state.
+use Rattle.std.specs.Prelude.{◌≡◌, ◌⊎◌, ℕ, ◌+◌, ◌≤◌, List, [], ◌++◌, None, length}
+use Rattle.std.specs.Option.{option_to_list}
+use Rattle.trio_lease.specs.Bundles.{Bundled}
+use Rattle.trio_layout.specs.Image.{Image}
+use Rattle.trio_nodes.specs.declared.entry.Entry.{Entry}
+use Rattle.trio_nodes.specs.declared.entry.Handed.{Handed}
+use Rattle.trio_log.specs.Logged.{Logged}
+use Rattle.trio_entries.specs.Handed.{handed_in}
+use Rattle.trio_state.specs.Listed.{Notes}
+use Rattle.trio_state.specs.State.{State, settled}
+use Rattle.trio_laws.specs.OutLaws.{grants_to}
+use Rattle.trio_state.specs.Step.{Event, CtlAnswer}
+use Rattle.trio_laws.specs.history.Entries.{Beside, entry_of}
+use Rattle.trio_laws.specs.history.Recorded.{Recorded, IsRecorded}
+use Rattle.trio_laws.specs.history.Replays.{IsLibrary}
+use Rattle.trio_laws.specs.history.Stands.{nodes_of}
+use Rattle.trio_laws.specs.history.ToldLaws.{notes_of}
+use Rattle.trio_ctl.specs.Ctl.{Controller}
+
+-- nothing is told beside an event that hands in no bundle
+abbrev pub alone : Beside
+alone = record { handed = record { writes = []; holds = []; pages = []; numbers = [] }; calls = []; call = None }
+
+-- beside a release, the bundle is told as it is handed in
+abbrev pub with_bundle : Bundled → Beside
+with_bundle b = record { handed = handed_in b; calls = []; call = None }
+
+-- the entry that an event and its answer make, if they make one
+abbrev pub entries_made : State → Beside → Event → CtlAnswer → List Entry
+entries_made s x event answer = option_to_list (entry_of s x event answer)
+
+-- A call adds to the log the entry that its event and answer make, and nothing else, and leaves the image that the controller began from.
+pub record Logs (old : Controller) (x : Beside) (event : Event) (answer : CtlAnswer) (new : Controller) : Type 0 where
+  pub log : new.log ≡ old.log ++ entries_made old.state x event answer
+  pub first : new.first ≡ old.first
+
+-- what is recorded of a controller that began from this image
+abbrev pub recorded : Image → State → List Entry → Recorded
+recorded first s log = record { first = first; state = s; nodes = nodes_of s; log = log }
+
+-- each open grant is of one of the libraries
+abbrev pub AreMine : State → Type 0
+AreMine s = (lib : ℕ) → IsLibrary s.creds lib ⊎ (grants_to s.open_grants lib ≡ [])
+
+-- What holds of the log and of the notes: all is recorded, there are places for the entries that are promised, each open grant is of
+-- one of the libraries, and the notes are of the files of the settled image.
+pub record HasHistory (first : Image) (s : State) (promised : ℕ) (log : Logged) (notes : Notes) : Type 0 where
+  pub all : IsRecorded (recorded first s log.entries)
+  pub room : length log.entries + promised ≤ log.room
+  pub mine : AreMine s
+  pub noted : notes ≡ notes_of (settled s)

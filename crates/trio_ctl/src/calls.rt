@@ -1,0 +1,187 @@
+//! The calls that hand in no bundle, each with its entry in the log.
+
+ghost use Rattle.std.specs.Prelude.{◌≡◌, IfOk, map};
+ghost use Rattle.std.specs.Option.{IsSomeAnd};
+ghost use Rattle.trio_allot.specs.Out.{fresh_number, fresh_page, inode_numbers, page_numbers};
+ghost use Rattle.trio_layout.specs.Image.{row_at};
+ghost use Rattle.trio_nodes.specs.declared.grant.GrantKind.TheVariants.{Read};
+ghost use Rattle.trio_state.specs.Given.{HasGrant};
+ghost use Rattle.trio_state.specs.Grants.{opened};
+ghost use Rattle.trio_state.specs.Kept.{Kept};
+ghost use Rattle.trio_state.specs.Step.{Allot, Back, Done, Grant, SetMode, Step};
+ghost use Rattle.trio_ctl.specs.Answers.{allot_answer, grant_answer, mode_answer};
+ghost use Rattle.trio_ctl.specs.Ctl.{IsLibrary};
+ghost use Rattle.trio_ctl.specs.Logged.{Logs, alone};
+ghost use Rattle.trio_ctl.specs.Open.{lent_by};
+ghost use Rattle.trio_ctl.specs.inner.Telling.{HasRoomFrom, allot_told, grant_told, mode_told};
+
+use crate::ctl::{Ctl, make_places};
+use crate::numbers::Numbers;
+use trio_lease::{Allotted, Lease, ReadLease};
+use trio_nodes::{AllotAnswer, AllotFault, Entry, GrantAnswer, GrantFault, GrantKind, ModeFault};
+use trio_rights::LibNo;
+
+impl Ctl {
+    /// Grants a live file to a library.
+    ///
+    /// A write grant lends the file's body, its index pages and its blocks, which leave home by move;
+    /// what it covers is kept aside. A read grant lends copies of them, as they are settled, and room
+    /// is made for the entry of its end. A hold lends the settled body, and tells the directory that
+    /// lists the file and the number of its children.
+    ///
+    /// `NotLive` exactly where no live file has the number; `Denied`, of reading and writing, exactly
+    /// where a number on the way from the root denies what is needed, the first such number;
+    /// `NoParent`, of a hold, exactly where the library has no write grant on the file's directory;
+    /// `Busy` exactly where an open grant on the file excludes the one asked, with the one of the
+    /// lowest entry. After `NoMemory`, which may come in place of each of them, nothing changed; a
+    /// log that has or has promised as many entries as a `u64` counts has no memory for more.
+    pub fn grant(&mut self, lib: LibNo, ino: u32, kind: GrantKind) -> Result<Lease, GrantFault>
+        requires library { IsLibrary lib self.old.state }
+        ensures step { Step self.old.state (Grant lib.0 ino kind) (grant_answer result) self.new.state }
+        ensures logs { Logs self.old alone (Grant lib.0 ino kind) (grant_answer result) self.new }
+        ensures lease { IfOk result (λ lease. IsSomeAnd (row_at self.old.state.home ino)
+            (λ r. lease ≡ lent_by (opened self.old.state lib.0 ino kind r))) }
+        ensures was_kept { Kept self.old.state }
+        ensures kept { Kept self.new.state }
+    {
+        // for the entry of the grant, and for that of its end
+        let Ok(()) = make_places(&mut self.log, self.registry.promised(), 2) else {
+            return Err(GrantFault::NoMemory);
+        };
+        let result = self.registry.grant(lib, ino, kind);
+        if let Some(answer) = grant_told(&result) {
+            self.log.push(Entry::Grant {
+                lib,
+                ino,
+                kind,
+                answer,
+            });
+        }
+        result
+    }
+
+    /// Allots free pages and inode numbers to a library, so many of each as it asks for: the lowest
+    /// ones, in their order, and each page all zero. They stay out until they are handed in.
+    ///
+    /// `NoPages` exactly where more pages are wanted than are free; `NoInodes` exactly where enough
+    /// pages are free, and more inode numbers are wanted than are; each tells both numbers. After
+    /// `NoMemory`, which may come in place of each of them, nothing changed; a log that has as many
+    /// entries as a `u64` counts has no memory for one more.
+    pub fn allot(&mut self, lib: LibNo, pages: u32, inodes: u32) -> Result<Allotted, AllotFault>
+        requires library { IsLibrary lib self.old.state }
+        ensures step { Step self.old.state (Allot lib.0 pages inodes) (allot_answer result) self.new.state }
+        ensures logs { Logs self.old alone (Allot lib.0 pages inodes) (allot_answer result) self.new }
+        ensures pages { IfOk result (λ given. given.pages.items ≡ map (fresh_page lib) (page_numbers given.pages.items)) }
+        ensures inodes { IfOk result (λ given. given.inodes.items ≡ map (fresh_number lib) (inode_numbers given.inodes.items)) }
+        ensures was_kept { Kept self.old.state }
+        ensures kept { Kept self.new.state }
+    {
+        let Ok(()) = make_places(&mut self.log, self.registry.promised(), 1) else {
+            return Err(AllotFault::NoMemory);
+        };
+        let alloc = self.registry.alloc();
+        let most_pages = pages.min(self.registry.free_pages());
+        let most_inodes = inodes.min(self.registry.free_inodes());
+        let Ok(numbers) = Numbers::with(alloc, most_pages, most_inodes) else {
+            return Err(AllotFault::NoMemory);
+        };
+        let result = self.registry.allot(lib, pages, inodes);
+        if let Some(answer) = allot_told(numbers, &result) {
+            self.log.push(Entry::Allot {
+                lib,
+                pages,
+                inodes,
+                answer,
+            });
+        }
+        result
+    }
+
+    /// Ends the read grant of a lease, which this controller gave: the library that the lease names
+    /// has an open read grant on its file. Takes no memory: the room for its entry was made with the
+    /// grant.
+    pub fn give_back(&mut self, lease: ReadLease)
+        requires given { HasGrant self.old.state lease.lib.0 lease.ino Read }
+        ensures step { Step self.old.state (Back lease.lib.0 lease.ino) Done self.new.state }
+        ensures logs { Logs self.old alone (Back lease.lib.0 lease.ino) Done self.new }
+        ensures was_kept { Kept self.old.state }
+        ensures kept { Kept self.new.state }
+    {
+        let lib = lease.lib();
+        let ino = lease.ino();
+        self.registry.give_back(lease);
+        self.log.push(Entry::Back { lib, ino });
+    }
+
+    /// Changes the mode of a live file, for its owner or for uid 0.
+    ///
+    /// After `Ok` the row of the file has this mode, and so has the copy in its body: the one in the
+    /// slot of the directory page that lists the file. Nobody has the file or its directory out then,
+    /// so that page is at home.
+    ///
+    /// `NotLive` exactly where no live file has the number; `NotOwner` exactly where it is the root's,
+    /// whose mode nobody changes, or the library's uid is neither the file's nor 0; `BadMode` exactly
+    /// where the mode is above `0o777`; `Busy` exactly where a grant is open on the file or on its
+    /// directory, of whatever kind and library, with the one of the lowest entry: the first of these
+    /// that applies. After each of them the image is as before. Each answer makes an entry in the
+    /// log, but for `Busy` and `NoMemory`, after which nothing changed. `NoMemory` may come in place
+    /// of each other answer: a log that has or has promised as many entries as a `u64` counts has no
+    /// memory for more.
+    pub fn set_mode(&mut self, lib: LibNo, ino: u32, mode: u16) -> Result<(), ModeFault>
+        requires library { IsLibrary lib self.old.state }
+        ensures step { Step self.old.state (SetMode lib.0 ino mode) (mode_answer result) self.new.state }
+        ensures logs { Logs self.old alone (SetMode lib.0 ino mode) (mode_answer result) self.new }
+        ensures was_kept { Kept self.old.state }
+        ensures kept { Kept self.new.state }
+    {
+        let Ok(()) = make_places(&mut self.log, self.registry.promised(), 1) else {
+            return Err(ModeFault::NoMemory);
+        };
+        let result = self.registry.set_mode(lib, ino, mode);
+        if let Some(answer) = mode_told(result) {
+            self.log.push(Entry::Mode {
+                lib,
+                ino,
+                mode,
+                answer,
+                call: None,
+            });
+        }
+        result
+    }
+}
+
+// what the log tells of a grant; Busy and want of memory make no entry
+fn grant_told(said: &Result<Lease, GrantFault>) -> Option<GrantAnswer>
+    ensures { result ≡ grant_told said.now }
+{
+    match said {
+        Ok(Lease::Hold(hold)) => Some(GrantAnswer::Granted(hold.children())),
+        Ok(_) => Some(GrantAnswer::Granted(0)),
+        Err(GrantFault::Busy(_) | GrantFault::NoMemory) => None,
+        Err(fault) => Some(GrantAnswer::Refused(*fault)),
+    }
+}
+
+// what the log tells of a change of mode; Busy and want of memory make no entry
+fn mode_told(said: Result<(), ModeFault>) -> Option<Result<(), ModeFault>>
+    ensures { result ≡ mode_told said }
+{
+    match said {
+        Err(ModeFault::Busy(_) | ModeFault::NoMemory) => None,
+        _ => Some(said),
+    }
+}
+
+// what the log tells of an allotment, in lists that have room for its numbers; want of memory makes no
+// entry
+fn allot_told(to: Numbers, said: &Result<Allotted, AllotFault>) -> Option<AllotAnswer>
+    requires { HasRoomFrom to said.now }
+    ensures { result ≡ allot_told said.now }
+{
+    match said {
+        Ok(given) => Some(to.of(given)),
+        Err(AllotFault::NoMemory) => None,
+        Err(fault) => Some(AllotAnswer::Refused(*fault)),
+    }
+}
