@@ -45,7 +45,6 @@ use Rattle.trio_laws.proofs.history.NotesFacts.{noted_at}
 use Rattle.trio_laws.specs.history.ToldLaws.{note_of, notes_of}
 use Rattle.std.specs.Option.{option_map}
 use Rattle.trio_lists.proofs.Tabulated.{tabulated-length}
-
 use Rattle.trio_layout.specs.Survey.{plain, row_of, survey}
 use Rattle.trio_ctl.proofs.Granting.{row_below}
 use Rattle.trio_laws.proofs.StateFacts.{write_alone}

@@ -49,23 +49,23 @@ invariant_of-self-2 c =
     let whole = whole_is k s lib.0 (bundle_in b) c.rows-rows.result.now was.rows c.rows-rows.ensures in
     let handed : c.in-Ok-copied.handed ≡ handed_in b = c.in-Ok-copied.ensures ∙ ap handed_in (c.bundle.ensures.bundle ∙ was.case) in
     let told =
-        subst (λ h. TellsOutcome (case_in s lib.0 (bundle_in b)) i.notes h o c.in-Ok-told.told) handed
-        (subst (λ (x : Case). TellsOutcome x i.notes c.in-Ok-copied.handed o c.in-Ok-told.told) whole c.in-Ok-told.ensures)
+    subst (λ h. TellsOutcome (case_in s lib.0 (bundle_in b)) i.notes h o c.in-Ok-told.told) handed
+    (subst (λ (x : Case). TellsOutcome x i.notes c.in-Ok-copied.handed o c.in-Ok-told.told) whole c.in-Ok-told.ensures)
     in
     let verdict = c.conclude-verdict.ensures.verdict in
     let files = c.in-Ok-told.told.files in
     let blocks = c.in-Ok-told.told.blocks in
     let pushed =
-        ap (λ (l : Logged). l.entries) c.push.ensures
-        ∙ ap (λ (l : List Entry). l ++ entry.Raw lib c.conclude-verdict.result files blocks c.in-Ok-copied.handed ∷ []) c.make_places.ensures.kept
-        ∙ ap (λ v. i.log.entries ++ entry.Raw lib v files blocks c.in-Ok-copied.handed ∷ []) verdict
-        ∙ ap (λ h. i.log.entries ++ entry.Raw lib (verdict_on o) files blocks h ∷ []) handed
+    ap (λ (l : Logged). l.entries) c.push.ensures
+    ∙ ap (λ (l : List Entry). l ++ entry.Raw lib c.conclude-verdict.result files blocks c.in-Ok-copied.handed ∷ []) c.make_places.ensures.kept
+    ∙ ap (λ v. i.log.entries ++ entry.Raw lib v files blocks c.in-Ok-copied.handed ∷ []) verdict
+    ∙ ap (λ h. i.log.entries ++ entry.Raw lib (verdict_on o) files blocks h ∷ []) handed
     in
     let library = subst (λ (v : State). IsLibrary v.creds lib.0) (sym seen) c.requires.library in
     let lent = subst (λ (v : State). WereLent v lib.0 b.writes) (sym seen) c.requires.lent in
     let step =
-        subst (λ v. Step s (Release lib.0 (bundle_in b)) (verdict_of v) c.conclude-verdict.new.self.state) verdict
-        (subst (λ (x : Bundled). Step s (Release lib.0 (bundle_in x)) (verdict_of c.conclude-verdict.result) c.conclude-verdict.new.self.state) was.case c.conclude-verdict.ensures.step)
+    subst (λ v. Step s (Release lib.0 (bundle_in b)) (verdict_of v) c.conclude-verdict.new.self.state) verdict
+    (subst (λ (x : Bundled). Step s (Release lib.0 (bundle_in x)) (verdict_of c.conclude-verdict.result) c.conclude-verdict.new.self.state) was.case c.conclude-verdict.ensures.step)
     in
     let noted = c.note.ensures ∙ ap (λ fs. noted_by c.conclude-verdict.result fs i.notes) c.as_slice.ensures ∙ ap (λ v. noted_by v files i.notes) verdict in
     let places = rw (c.promised.ensures) at c.in-Ok.ensures.room in
@@ -93,21 +93,21 @@ returns-clause-logs c =
     let whole = whole_is k s lib.0 (bundle_in b) c.rows-rows.result.now was.rows c.rows-rows.ensures in
     let handed : c.in-Ok-copied.handed ≡ handed_in b = c.in-Ok-copied.ensures ∙ ap handed_in (c.bundle.ensures.bundle ∙ was.case) in
     let told =
-        subst (λ h. TellsOutcome (case_in s lib.0 (bundle_in b)) i.notes h o c.in-Ok-told.told) handed
-        (subst (λ (x : Case). TellsOutcome x i.notes c.in-Ok-copied.handed o c.in-Ok-told.told) whole c.in-Ok-told.ensures)
+    subst (λ h. TellsOutcome (case_in s lib.0 (bundle_in b)) i.notes h o c.in-Ok-told.told) handed
+    (subst (λ (x : Case). TellsOutcome x i.notes c.in-Ok-copied.handed o c.in-Ok-told.told) whole c.in-Ok-told.ensures)
     in
     let verdict = c.conclude-verdict.ensures.verdict in
     let files = c.in-Ok-told.told.files in
     let blocks = c.in-Ok-told.told.blocks in
     let pushed =
-        ap (λ (l : Logged). l.entries) c.push.ensures
-        ∙ ap (λ (l : List Entry). l ++ entry.Raw lib c.conclude-verdict.result files blocks c.in-Ok-copied.handed ∷ []) c.make_places.ensures.kept
-        ∙ ap (λ v. i.log.entries ++ entry.Raw lib v files blocks c.in-Ok-copied.handed ∷ []) verdict
-        ∙ ap (λ h. i.log.entries ++ entry.Raw lib (verdict_on o) files blocks h ∷ []) handed
+    ap (λ (l : Logged). l.entries) c.push.ensures
+    ∙ ap (λ (l : List Entry). l ++ entry.Raw lib c.conclude-verdict.result files blocks c.in-Ok-copied.handed ∷ []) c.make_places.ensures.kept
+    ∙ ap (λ v. i.log.entries ++ entry.Raw lib v files blocks c.in-Ok-copied.handed ∷ []) verdict
+    ∙ ap (λ h. i.log.entries ++ entry.Raw lib (verdict_on o) files blocks h ∷ []) handed
     in
     let made =
-        pushed ∙ sym (ap (λ (l : List Entry). i.log.entries ++ l) (release_entries s lib b o c.in-Ok-told.told i.notes j was.outcome c.self.invariant.noted told))
-        ∙ ap (λ v. i.log.entries ++ entries_made s (with_bundle b) (Release lib.0 (bundle_in b)) (verdict_of v)) (sym verdict)
-        ∙ ap (λ (x : Controller). x.log ++ entries_made x.state (with_bundle b) (Release lib.0 (bundle_in b)) (verdict_of c.conclude-verdict.result)) c.self.view_is
+    pushed ∙ sym (ap (λ (l : List Entry). i.log.entries ++ l) (release_entries s lib b o c.in-Ok-told.told i.notes j was.outcome c.self.invariant.noted told))
+    ∙ ap (λ v. i.log.entries ++ entries_made s (with_bundle b) (Release lib.0 (bundle_in b)) (verdict_of v)) (sym verdict)
+    ∙ ap (λ (x : Controller). x.log ++ entries_made x.state (with_bundle b) (Release lib.0 (bundle_in b)) (verdict_of c.conclude-verdict.result)) c.self.view_is
     in
     record { log = made; first = ap (λ (x : Controller). x.first) c.self.view_is }
