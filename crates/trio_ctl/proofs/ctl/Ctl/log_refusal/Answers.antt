@@ -1,8 +1,0 @@
-use Rattle.std.proofs.Common.{refl}
-use Rattle.trio_ctl.proofs.Allotting.{logged_controlled}
-use Rattle.trio_ctl.proofs.ctl.Ctl.log_refusal.Goals as goal
-
-pub invariant_of-self : goal.invariant_of-self
-invariant_of-self c =
-    let i = c.self.inside in
-    logged_controlled i.store i.first_core i.grants i.files.items i.libs.items i.history c.self.invariant i.store c.enter.new.self refl c.enter.ensures
