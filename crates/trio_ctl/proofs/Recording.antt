@@ -31,14 +31,14 @@ use Rattle.trio_rights.specs.declared.rights.LibNo.{LibNo}
 use Rattle.trio_state.specs.Given.{GivenEvent, HasGrant}
 use Rattle.trio_state.specs.Kept.{Kept}
 use Rattle.trio_state.specs.Listed.{Notes}
-use Rattle.trio_state.specs.State.{OpenGrant, State, settled}
-use Rattle.trio_state.specs.Step.{Event, Grant, Allot, Back, SetMode, CtlAnswer, Step}
+use Rattle.trio_state.specs.State.{OpenGrant, State}
+use Rattle.trio_state.specs.Step.{Event, Grant, Allot, SetMode, CtlAnswer, Step}
 use Rattle.trio_laws.specs.Laws.{library_of}
-use Rattle.trio_laws.specs.OutLaws.{HasOut, grants_to, out_of, without_checkpoint}
+use Rattle.trio_laws.specs.OutLaws.{HasOut, grants_to, without_checkpoint}
 use Rattle.trio_laws.specs.history.Entries.{Beside}
 use Rattle.trio_laws.specs.history.Recorded.{IsRecorded, BesideFits}
 use Rattle.trio_laws.specs.history.Replays.{IsLibrary}
-use Rattle.trio_laws.specs.history.ToldLaws.{EndsNone, notes_of}
+use Rattle.trio_laws.specs.history.ToldLaws.{EndsNone}
 use Rattle.trio_laws.proofs.OthersOut.{others_keep_out}
 use Rattle.trio_laws.proofs.history.Begins.{history_begins}
 use Rattle.trio_laws.proofs.history.Grows.{history_grows, step_creds}

@@ -4,7 +4,6 @@ use Rattle.std.specs.Option.{option_to_list}
 use Rattle.trio_lease.specs.Bundles.{Bundled}
 use Rattle.trio_layout.specs.Image.{Image}
 use Rattle.trio_nodes.specs.declared.entry.Entry.{Entry}
-use Rattle.trio_nodes.specs.declared.entry.Handed.{Handed}
 use Rattle.trio_log.specs.Logged.{Logged}
 use Rattle.trio_entries.specs.Handed.{handed_in}
 use Rattle.trio_state.specs.Listed.{Notes}

@@ -1,5 +1,4 @@
 use Rattle.std.proofs.Common.{refl, subst, sym}
-use Rattle.trio_log.specs.Logged.{Logged}
 use Rattle.trio_nodes.specs.declared.grant.GrantKind.TheVariants.{Read}
 use Rattle.trio_state.specs.Given.{HasGrant}
 use Rattle.trio_state.specs.State.{State}

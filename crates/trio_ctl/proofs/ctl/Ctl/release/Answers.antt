@@ -1,14 +1,11 @@
-use Rattle.std.proofs.Common.{◌≡◌, ◌++◌, [], ◌∷◌, List, None, ap, append-nil, refl, subst, sym, ◌∙◌}
+use Rattle.std.proofs.Common.{◌≡◌, ◌++◌, [], ◌∷◌, List, ap, refl, subst, sym, ◌∙◌}
 use Rattle.trio_lease.specs.Bundles.{Bundled}
 use Rattle.trio_lease.specs.Views.{bundle_in}
 use Rattle.trio_log.specs.Logged.{Logged}
-use Rattle.trio_nodes.specs.declared.answers.ReleaseAnswer.{ReleaseAnswer}
 use Rattle.trio_nodes.specs.declared.entry.Entry.{Entry}
 use Rattle.trio_nodes.specs.declared.entry.Entry.TheVariants as entry
 use Rattle.trio_layout.specs.Case.{Case}
-use Rattle.trio_state.specs.Bundles.{parted_hold}
 use Rattle.trio_state.specs.Given.{GivenTo}
-use Rattle.trio_state.specs.Kept.{Kept}
 use Rattle.trio_state.specs.State.{State}
 use Rattle.trio_state.specs.Step.{Release, Step}
 use Rattle.trio_state.specs.Tells.{case_in}
@@ -20,7 +17,7 @@ use Rattle.trio_ctl.specs.Answers.{release_fault_answer, verdict_of}
 use Rattle.trio_ctl.specs.Ctl.{Controller}
 use Rattle.trio_ctl.specs.HandedIn.{WereLent}
 use Rattle.trio_ctl.specs.Logged.{HasHistory, entries_made, with_bundle}
-use Rattle.trio_ctl.specs.inner.Outcomes.{IsOutcome, verdict_on}
+use Rattle.trio_ctl.specs.inner.Outcomes.{verdict_on}
 use Rattle.trio_ctl.specs.inner.Telling.{TellsOutcome, noted_by}
 use Rattle.trio_ctl.proofs.Recording.{one_room}
 use Rattle.trio_ctl.proofs.RecordedReleases.{after_release, are_noted, release_entries, whole_is}

@@ -1,4 +1,4 @@
-use Rattle.std.proofs.Common.{◌≡◌, ap, subst, sym, ◌∙◌}
+use Rattle.std.proofs.Common.{ap, subst, sym, ◌∙◌}
 use Rattle.trio_image.specs.Image.{ImagePages}
 use Rattle.trio_state.specs.Run.{start}
 use Rattle.trio_state.specs.State.{State}

@@ -1,5 +1,4 @@
 use Rattle.std.proofs.Common.{◌≡◌, None, Some, inl, ap, refl, sym, subst, ◌∙◌}
-use Rattle.trio_lease.specs.Bundles.{Bundled}
 use Rattle.trio_lease.specs.Views.{bundle_in}
 use Rattle.trio_layout.specs.Case.{Case}
 use Rattle.trio_layout.specs.Copied.{with_copied}
@@ -7,10 +6,9 @@ use Rattle.trio_judge.specs.Cases.{case_in as case_shown}
 use Rattle.trio_state.specs.Bundles.{parted_hold}
 use Rattle.trio_state.specs.Given.{GivenTo}
 use Rattle.trio_state.specs.State.{State}
-use Rattle.trio_state.specs.Step.{Parted, Release, Step}
+use Rattle.trio_state.specs.Step.{Parted}
 use Rattle.trio_state.specs.Tells.{case_in}
 use Rattle.trio_commit.specs.Store.{state_of}
-use Rattle.trio_ctl.specs.Answers.{verdict_of}
 use Rattle.trio_ctl.specs.Open.{grants_in}
 use Rattle.trio_ctl.specs.Entries.{HasRoom, entries_of}
 use Rattle.trio_ctl.specs.inner.Parting.{lowest_parted}
