@@ -1,11 +1,19 @@
 -- What one library has out: what it was lent and allotted, and has neither handed in nor given back.
-use Rattle.std.specs.Prelude.{◌≡◌, ◌↔◌, ℕ, ◌≤◌, ◌==◌, not, IsTrue, List, [], ◌∷◌, ◌++◌, map, length}
-use Rattle.std.specs.List.{filter}
+use Rattle.std.specs.Prelude.{◌≡◌, ◌↔◌, ℕ, ◌≤◌, ◌==◌, not, IsTrue, List, [], ◌∷◌, ◌++◌, map, length, replicate, None, Some, Ok}
+use Rattle.std.specs.List.{filter, flat_map}
+use Rattle.std.specs.Result.{is_ok}
 use Rattle.trio_page.specs.Field.{zeros}
 use Rattle.trio_rights.specs.declared.rights.LibNo.{LibNo}
+use Rattle.trio_rights.specs.Sheets.{with_pages}
+use Rattle.trio_layout.specs.Range.{is_core}
+use Rattle.trio_layout.specs.Body.{body_at, body_of}
+use Rattle.trio_layout.specs.Core.{Core}
+use Rattle.trio_layout.specs.Chain.{chain_of}
+use Rattle.trio_layout.specs.Entries.{entries_of_kind}
 use Rattle.trio_lists.specs.Lists.{In, is_among, are_new}
 use Rattle.trio_lease.specs.Shown.{Shown, LentFile}
 use Rattle.trio_lease.specs.Bundles.{Bundled}
+use Rattle.trio_lease.specs.Views.{lent_sheet}
 use Rattle.trio_lease.specs.declared.fresh.Allotted.{Allotted}
 use Rattle.trio_lease.specs.declared.lease.Lease.{Lease}
 use Rattle.trio_lease.specs.declared.lease.Lease.TheVariants.{Write, Read, Hold}
@@ -13,6 +21,7 @@ use Rattle.trio_lease.specs.declared.parts.LentPage.{LentPage}
 use Rattle.trio_lease.specs.declared.parts.HoldParts.{HoldParts}
 use Rattle.trio_lease.specs.declared.parts.FreshParts.{FreshParts}
 use Rattle.trio_lease.specs.declared.parts.InoParts.{InoParts}
+use Rattle.trio_desk.specs.Contents.{Sizes}
 
 -- files lent for writing and for reading, each as it was lent; holds; and the numbers of allotted pages and inodes
 pub record LibOut : Type 0 where
@@ -68,9 +77,17 @@ with_lease out (Hold h) = record out { holds = out.holds ++ h ∷ [] }
 abbrev pub with_allotted : LibOut → List ℕ → List ℕ → LibOut
 with_allotted out pages numbers = record out { pages = out.pages ++ pages; numbers = out.numbers ++ numbers }
 
+-- nothing is out
+abbrev pub nothing_out : LibOut
+nothing_out = record { writes = []; reads = []; holds = []; pages = []; numbers = [] }
+
 -- the read lease on a file is back
 abbrev pub without_read : LibOut → ℕ → LibOut
 without_read out ino = record out { reads = filter (λ r. not (r.ino == ino)) out.reads }
+
+-- so are these read leases
+abbrev pub without_reads : LibOut → List Shown → LibOut
+without_reads out back = record out { reads = filter (λ r. not (is_among r.ino (map (λ f. f.ino) back))) out.reads }
 
 -- all of a parcel is back
 abbrev pub without_parcel : LibOut → Parcel → LibOut
@@ -121,20 +138,59 @@ pub record WasGiven (out : LibOut) (b : Parcel) : Type 0 where
 
 -- ---- what is given
 
--- a file that a grant lends for writing: as it was lent, with whole pages, and no other lease on it is out
-pub record IsFreshFile (lib' : LibNo) (ino' : ℕ) (out : LibOut) (f : LentFile) : Type 0 where
+-- the numbers of lent pages, in their order
+abbrev pub lent_numbers : List LentPage → List ℕ
+lent_numbers pages = map (λ p. p.no.0) pages
+
+-- the numbers of a file's pages: of its index pages, and then of its blocks
+abbrev pub numbers_of_file : Shown → List ℕ
+numbers_of_file f = lent_numbers f.index ++ lent_numbers f.blocks
+
+-- a core that has just the pages that a lease shows, each at its number
+abbrev pub lent_core : Sizes → Shown → Core
+lent_core sizes f = record {
+  pages = with_pages (map lent_sheet (f.index ++ f.blocks)) (replicate sizes.range.end None);
+  root = [];
+  range = sizes.range;
+  inodes = sizes.inodes;
+}
+
+-- A file as a lease gives it: its pages are whole and differ; its body and its chain are in the grammar, and the chain's index pages and
+-- blocks are those that are lent, in their order; and the slots of a directory are in the grammar, its names apart.
+pub record IsWellLent (sizes : Sizes) (f : Shown) : Type 0 where
+  pub index : AreWhole f.index
+  pub blocks : AreWhole f.blocks
+  pub once : IsTrue (are_new [] (numbers_of_file f))
+  pub body : body_of f.kind sizes.range f.body ≡ Some (body_at f.body)
+  pub chain : chain_of (lent_core sizes f) (body_at f.body) ≡ Ok (record { index = lent_numbers f.index; blocks = lent_numbers f.blocks })
+  pub entries : IsTrue (is_ok (entries_of_kind (lent_core sizes f) f.kind (lent_numbers f.blocks)))
+
+-- the numbers of the files on which something is out
+abbrev pub files_out : LibOut → List ℕ
+files_out out = map (λ w. w.ino) out.writes ++ map (λ r. r.ino) out.reads ++ hold_numbers out.holds
+
+-- the numbers of the pages that are out to be written: lent ones and allotted ones
+abbrev pub pages_out : LibOut → List ℕ
+pages_out out = flat_map numbers_of_file out.writes ++ out.pages
+
+-- a file that a grant lends for writing: as it was lent, and its pages are none that are out
+pub record IsFreshFile (lib' : LibNo) (ino' : ℕ) (sizes : Sizes) (out : LibOut) (f : LentFile) : Type 0 where
   pub lib : f.lent.lib ≡ lib'
   pub ino : f.lent.ino ≡ ino'
   pub as_lent : f.stands ≡ f.lent
-  pub index : AreWhole f.stands.index
-  pub blocks : AreWhole f.stands.blocks
-  pub new : In ino' (map (λ w. w.ino) out.writes) → ⊥
+  pub well : IsWellLent sizes f.lent
+  pub apart : (n : ℕ) → In n (numbers_of_file f.lent) → In n (pages_out out) → ⊥
 
--- a lease that a grant gives on a file: the library's, and no other one of its kind on the file is out
-abbrev pub IsFreshLease : LibNo → ℕ → LibOut → Lease → Type 0
-IsFreshLease lib ino out (Write f) = IsFreshFile lib ino out f
-IsFreshLease lib ino out (Read f) = (f.lib ≡ lib) × (f.ino ≡ ino) × (In ino (map (λ r. r.ino) out.reads) → ⊥)
-IsFreshLease lib ino out (Hold h) = (h.lib ≡ lib) × (h.ino ≡ ino) × (In ino (hold_numbers out.holds) → ⊥)
+-- the lease that a grant gives on a file is the library's
+abbrev pub IsLeaseFor : LibNo → ℕ → Sizes → LibOut → Lease → Type 0
+IsLeaseFor lib ino sizes out (Write f) = IsFreshFile lib ino sizes out f
+IsLeaseFor lib ino sizes out (Read f) = (f.lib ≡ lib) × (f.ino ≡ ino) × IsWellLent sizes f
+IsLeaseFor lib ino sizes out (Hold h) = (h.lib ≡ lib) × (h.ino ≡ ino) × (body_of h.kind sizes.range h.body ≡ Some (body_at h.body))
+
+-- and nothing else on the file is out
+pub record IsFreshLease (lib : LibNo) (ino : ℕ) (sizes : Sizes) (out : LibOut) (lease : Lease) : Type 0 where
+  pub is : IsLeaseFor lib ino sizes out lease
+  pub new : In ino (files_out out) → ⊥
 
 -- a page as it is allotted: all zero
 abbrev pub zero_page : LibNo → ℕ → FreshParts
@@ -144,12 +200,19 @@ zero_page lib n = record { lib = lib; no = record { 0 = n }; page = zeros 4096 }
 abbrev pub new_ino : LibNo → ℕ → InoParts
 new_ino lib n = record { lib = lib; no = n }
 
--- what an allotment gives: pages all zero, and no number twice or out already
-pub record IsFreshAllotment (lib : LibNo) (out : LibOut) (given : Allotted) : Type 0 where
+-- What an allotment gives: core pages, all zero, and inode numbers, none twice or out already; the number of the root is none of them.
+pub record IsFreshAllotment (lib : LibNo) (sizes : Sizes) (out : LibOut) (given : Allotted) : Type 0 where
   pub pages_are : given.pages.items ≡ map (zero_page lib) (page_numbers given.pages.items)
   pub inodes_are : given.inodes.items ≡ map (new_ino lib) (ino_numbers given.inodes.items)
-  pub pages : IsTrue (are_new out.pages (page_numbers given.pages.items))
+  pub core : (n : ℕ) → In n (page_numbers given.pages.items) → IsTrue (is_core sizes.range n)
+  pub range : (n : ℕ) → In n (ino_numbers given.inodes.items) → (2 ≤ n) × (n ≤ sizes.inodes)
+  pub pages : IsTrue (are_new (pages_out out) (page_numbers given.pages.items))
   pub numbers : IsTrue (are_new out.numbers (ino_numbers given.inodes.items))
+
+-- an allotment has as many pages and numbers as were asked
+pub record HasWanted (wanted_pages wanted_numbers : ℕ) (given : Allotted) : Type 0 where
+  pub pages : length given.pages.items ≡ wanted_pages
+  pub numbers : length given.inodes.items ≡ wanted_numbers
 
 -- ---- closed parcels
 

@@ -112,6 +112,17 @@ impl GrantTable {
         let _ended = self.grants.remove(key.0);
     }
 
+    /// The open grant of this key, as others are told of it. `None` exactly where there is none.
+    /// Takes no memory.
+    pub fn holder_under(&self, key: GrantKey) -> Option<Holder>
+        ensures { result ≡ option_map holder (grant_under key self.now) }
+    {
+        match self.grants.get(key.0) {
+            Some(grant) => Some(grant.holder()),
+            None => None,
+        }
+    }
+
     /// The open grant of lowest entry on the file `ino`, among those not of the library `but`.
     /// `None` exactly where there is none. Takes no memory.
     pub fn holder_of(&self, ino: u32, but: Option<LibNo>) -> Option<Holder>

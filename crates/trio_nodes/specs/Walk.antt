@@ -20,6 +20,7 @@ use Rattle.trio_nodes.specs.Nodes.{Nodes, node_at, find_named}
 abbrev pub Path : Type 0
 Path = List (List ℕ)
 
+-- the path is the root's, which has no names
 abbrev pub is_root : Path → Bool
 is_root [] = true
 is_root (name ∷ names) = false

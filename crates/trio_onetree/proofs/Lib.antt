@@ -8,3 +8,4 @@ pub mod TreePut
 mod CallCases
 pub mod TreeStays
 mod Changes
+pub mod Lengths
