@@ -18,6 +18,7 @@ use Rattle.trio_state.specs.Allotments.{out_after, has_none_out}
 use Rattle.trio_state.specs.Bundles.{is_parent_written, is_parted, lower, lowest, parted_hold, is_in_bundle, has_all}
 use Rattle.trio_nodes.specs.GrantKinds.{is_hold, is_write, is_read}
 use Rattle.trio_state.specs.Given.{GivenTo}
+use Rattle.trio_state.specs.Grants.{has_parent_grant}
 use Rattle.trio_layout.specs.Image.{IsFit, settled_body, row_at}
 use Rattle.trio_state.specs.Kept.{Kept}
 use Rattle.trio_rights.specs.Bundle.{Written, Bundle, bundle_sheets, bundle_pages, is_written}
@@ -25,7 +26,7 @@ use Rattle.trio_layout.specs.Proposed.{kept_body, is_place_of, proposed, propose
 use Rattle.trio_rights.specs.Sheets.{Sheet, sheet_numbers, with_pages}
 use Rattle.trio_state.specs.State.{OpenGrant, State, settled}
 use Rattle.trio_surveys.proofs.Images.{met_numbered, owner_listed, root_or_listed}
-use Rattle.trio_lists.proofs.Filters.{In-find, find-In, Ok-one, In-filter, filter-none}
+use Rattle.trio_lists.proofs.Filters.{In-find, find-In, list_any-In, Ok-one, In-filter, filter-none}
 use Rattle.trio_surveys.proofs.Local.{reads_from, chain_follows}
 use Rattle.trio_lists.proofs.Members.{In-left, In-cases, flat_map-In, map-In, In-map, is_among-In, In-is_among, list_all-In}
 use Rattle.trio_surveys.proofs.Owned.{pages_are}
@@ -103,23 +104,68 @@ hold_in_bundle Write a w h e t = absurd cc
 pub hold_reads : (kind : GrantKind) → kind ≡ Hold → is_read kind ≡ false
 hold_reads kind e = ap is_read e
 
--- a bundle of all that the library has is closed
-pub closed_all : (s : State) (lib : ℕ) (b : Bundle) → has_all s lib b ≡ true → Closed s lib b
-closed_all s lib b all g r i kind mine row written =
+-- each grant of the library, but one for reading, is in a bundle of all that it has
+pub own_in_all : (s : State) (lib : ℕ) (b : Bundle) (g : OpenGrant) → has_all s lib b ≡ true → In g s.open_grants → g.lib ≡ lib → is_read g.kind ≡ false → is_in_bundle lib b g ≡ true
+own_in_all s lib b g all i mine quiet =
     let grants : Bool = list_all (λ (g : OpenGrant). not (eqb g.lib lib) || is_read g.kind || is_in_bundle lib b g) s.open_grants in
     let pages : Bool = has_none_out lib (out_after s.pages_out (sheet_numbers b.pages)) in
-    let numbers : Bool = has_none_out lib (out_after s.numbers_out b.numbers) in
-    let p = and_parts (grants && pages) numbers all in
+    let p = and_parts (grants && pages) (has_none_out lib (out_after s.numbers_out b.numbers)) all in
     let q = and_parts grants pages p.0 in
     let t = list_all-In (λ (g : OpenGrant). not (eqb g.lib lib) || is_read g.kind || is_in_bundle lib b g) g s.open_grants q.0 i in
     elim (or_cases (not (eqb g.lib lib) || is_read g.kind) (is_in_bundle lib b g) t) [
-      | inr own ↦ is_among-In g.ino b.holds (hold_in_bundle g.kind (eqb g.lib lib) (is_written b g.ino) (is_among g.ino b.holds) kind own)
+      | inr own ↦ own
       | inl other ↦
           elim (or_cases (not (eqb g.lib lib)) (is_read g.kind) other) [
             | inl apart ↦ absurd (both_ways (eqb g.lib lib) (not-true (eqb g.lib lib) apart) (eq-eqb g.lib lib mine))
-            | inr read ↦ (let no : false ≡ true = sym (ap is_read kind) ∙ read in absurd (false≢true no))
+            | inr read ↦ absurd (false≢true (sym quiet ∙ read))
           ]
     ]
+
+-- a bundle of all that the library has is closed
+pub closed_all : (s : State) (lib : ℕ) (b : Bundle) → has_all s lib b ≡ true → Closed s lib b
+closed_all s lib b all g r i kind mine row written =
+    is_among-In g.ino b.holds (hold_in_bundle g.kind (eqb g.lib lib) (is_written b g.ino) (is_among g.ino b.holds) kind (own_in_all s lib b g all i mine (hold_reads g.kind kind)))
+
+-- none of its holds is parted from the lease on the directory
+pub unparted_all : (s : State) (k : Kept s) (lib : ℕ) (b : Bundle) → has_all s lib b ≡ true → parted_hold s lib b ≡ None
+unparted_all s k lib b all =
+    unparted_from s lib b
+    (λ g i. false_from_ne_true (is_parted s lib b g)
+    (λ t.
+    let p = and_parts (eqb g.lib lib && is_hold g.kind) (cond (is_among g.ino b.holds) (not (is_parent_written b (row_at s.home g.ino))) (is_parent_written b (row_at s.home g.ino))) t in
+    let q = and_parts (eqb g.lib lib) (is_hold g.kind) p.0 in
+    let mine : g.lib ≡ lib = eqb-true g.lib lib q.0 in
+    let kind : g.kind ≡ Hold = hold_is g.kind q.1 in
+    let held : is_among g.ino b.holds ≡ true = hold_in_bundle g.kind (eqb g.lib lib) (is_written b g.ino) (is_among g.ino b.holds) kind (own_in_all s lib b g all i mine (hold_reads g.kind kind)) in
+    let no : not (is_parent_written b (row_at s.home g.ino)) ≡ true = ap (λ c. cond c (not (is_parent_written b (row_at s.home g.ino))) (is_parent_written b (row_at s.home g.ino))) (sym held) ∙ p.1 in
+    both_ways (is_parent_written b (row_at s.home g.ino)) (not-true (is_parent_written b (row_at s.home g.ino)) no)
+    (parent_in_all (row_at s.home g.ino) (subst (λ l. has_parent_grant s l (row_at s.home g.ino) ≡ true) mine (k.held g i kind).0))))
+  where
+    hold_is : (t : GrantKind) → is_hold t ≡ true → t ≡ Hold
+    hold_is Hold e = refl
+    hold_is Read e = absurd (false≢true e)
+    hold_is Write e = absurd (false≢true e)
+
+    write_quiet : (t : GrantKind) → is_write t ≡ true → is_read t ≡ false
+    write_quiet Write e = refl
+    write_quiet Read e = absurd (false≢true e)
+    write_quiet Hold e = absurd (false≢true e)
+
+    write_in_bundle : (t : GrantKind) (a w h : Bool) → is_write t ≡ true → (a && ((is_write t && w) || (is_hold t && h))) ≡ true → w ≡ true
+    write_in_bundle Write true true h e q = refl
+    write_in_bundle Write true false h e q = absurd (false≢true q)
+    write_in_bundle Write false w h e q = absurd (false≢true q)
+    write_in_bundle Read a w h e q = absurd (false≢true e)
+    write_in_bundle Hold a w h e q = absurd (false≢true e)
+
+    parent_in_all : (o : Option Row) → has_parent_grant s lib o ≡ true → is_parent_written b o ≡ true
+    parent_in_all None e = absurd (false≢true e)
+    parent_in_all (Some r) e =
+        let w = list_any-In (λ (x : OpenGrant). eqb x.lib lib && eqb x.ino r.parent && is_write x.kind) s.open_grants e in
+        let p = and_parts (eqb w.0.lib lib && eqb w.0.ino r.parent) (is_write w.0.kind) w.2 in
+        let q = and_parts (eqb w.0.lib lib) (eqb w.0.ino r.parent) p.0 in
+        ap (is_written b) (sym (eqb-true w.0.ino r.parent q.1))
+        ∙ write_in_bundle w.0.kind (eqb w.0.lib lib) (is_written b w.0.ino) (is_among w.0.ino b.holds) p.1 (own_in_all s lib b w.0 all w.1 (eqb-true w.0.lib lib q.0) (write_quiet w.0.kind p.1))
 
 module _ (s : State) (k : Kept s) (lib : ℕ) (b : Bundle) (given : GivenTo s lib b) where
   -- a held file is not written

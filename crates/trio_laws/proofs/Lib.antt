@@ -35,4 +35,4 @@ pub mod HeldFiles
 pub mod KnownSteps
 pub mod judgement
 pub mod history
-mod session
+pub mod session

@@ -1,5 +1,12 @@
 pub mod Grants
 pub mod Others
+pub mod Lent
 pub mod Bundles
 pub mod Settles
 pub mod Calls
+pub mod Takes
+pub mod FileEdits
+pub mod Sees
+pub mod FileCalls
+pub mod Chains
+pub mod Listed

@@ -3,6 +3,7 @@
 ghost use Rattle.trio_laws.specs.session.Bundles.{EdgesFollow, NowIsListed, ShownSpares};
 ghost use Rattle.trio_laws.specs.session.Calls.{CallKeeps, LookKeeps, NothingIsReady};
 ghost use Rattle.trio_laws.specs.session.Grants.{HoldShows, LeaseShows};
+ghost use Rattle.trio_laws.specs.session.Lent.{LeasesStayTrue, LentStaysTrue, StepKeepsLent, StepKeepsRoot};
 ghost use Rattle.trio_laws.specs.session.Others.{AgreesIsStable, AgreesThrough, MovesLeaveLeases, StepLeavesLeases};
 ghost use Rattle.trio_laws.specs.session.Settles.{
   AcceptedIsShown,
@@ -13,6 +14,7 @@ ghost use Rattle.trio_laws.specs.session.Settles.{
   ReadyIsAcceptedThrough,
   ReadyIsLegal,
   SettleEndsInCalls,
+  SettleIsRecorded,
 };
 
 /// What a lease for reading or writing shows is true of the nodes at its grant, the places of its
@@ -72,9 +74,11 @@ pub fn accepted_is_shown()
     ensures places { PlacesStay }
 {}
 
-/// After a settle of what is ready the state stands for the nodes in which the calls end.
+/// After a settle of what is ready the state stands for the nodes in which the calls end; and all stays
+/// recorded, its entry too.
 pub fn settle_ends_in_calls()
     ensures law { SettleEndsInCalls }
+    ensures recorded { SettleIsRecorded }
 {}
 
 /// The entry of a settle of what is ready is legal: kinds and rights stay, and others are spared.
@@ -95,4 +99,17 @@ pub fn call_keeps()
 /// A call that changes nothing keeps a session ready, with any files taken for reading.
 pub fn look_keeps()
     ensures law { LookKeeps }
+{}
+
+/// What open grants lent is true of the nodes and rows through each step, and so in every state to
+/// which a log replays from an image that verifies; and all that a library has out holds at once.
+pub fn leases_stay_true()
+    ensures step { StepKeepsLent }
+    ensures replays { LentStaysTrue }
+    ensures all { LeasesStayTrue }
+{}
+
+/// No step changes the sizes of the image or the rights of its root.
+pub fn root_stays()
+    ensures law { StepKeepsRoot }
 {}

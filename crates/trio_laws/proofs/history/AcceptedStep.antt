@@ -409,6 +409,13 @@ module _ (s s' : State) (k : Kept s) (k' : Kept s') (whole : LentWhole s) (lib :
       let p = and_parts (eqb r.uid (creds_of s lib).uid) (eqb r.gid (creds_of s lib).gid) has in
       (eqb-true r.uid (creds_of s lib).uid p.0, eqb-true r.gid (creds_of s lib).gid p.1)
 
+  -- what is neither written nor held keeps its rights and its content
+  pub outside_same : (n : ℕ) (x : Node) → node_at (nodes_of s) n ≡ Some x → is_written b n ≡ false → is_among n b.holds ≡ false → HasRightsOf x (node_at (nodes_of s') n) × SameContent (nodes_of s) (nodes_of s') n
+  outside_same n x there unwritten unheld =
+      let l = live s k n x there in
+      let row' = unheld_row n l.row l.at unheld in
+      (has_rights n x l l.row row', content_stays n l.row l.row (stays_at n l.row l.row l.at row' unwritten))
+
   pub within : IsWithinGrants gs (creds_of s lib) lib (nodes_of s) (nodes_of s')
   within = record {
     content = λ n x there. content_by n x there (is_written b n) refl;
@@ -417,9 +424,8 @@ module _ (s s' : State) (k : Kept s) (k' : Kept s') (whole : LentWhole s) (lib :
     rights = λ n x y there there'. rights_cases n x y there there' (row_at after n) refl;
     others = λ n x there t.
         let o = others_out n t in
-        let l = live s k n x there in
-        let row' = unheld_row n l.row l.at o.1 in
-        (has_rights n x l l.row row', place_by n x there o.1, content_stays n l.row l.row (stays_at n l.row l.row l.at row' o.0));
+        let same = outside_same n x there o.0 o.1 in
+        (same.0, place_by n x there o.1, same.1);
     new = λ n y none there'. new_cases n y none there' (row_at s.home n) (row_at after n) refl refl;
   }
     where

@@ -124,7 +124,7 @@ module _ (s : State) (k : Kept s) (w : LentWhole s) (answer : CtlAnswer) (s' : S
   by_step x event given step fits settles =
       by_option s answer s' (entry_of s x event answer) event (step_extends s x event answer s' k w given step fits) settles
 
-  isolated : (event : Event) → GivenEvent s event → Step s event answer s' → Isolated s event s'
+  pub isolated : (event : Event) → GivenEvent s event → Step s event answer s' → Isolated s event s'
   isolated (Grant lib ino kind) given step = by_step (bare empty) (Grant lib ino kind) given step tt (λ l b e. absurd cc)
   isolated (Allot lib count many) given step = by_step (bare empty) (Allot lib count many) given step tt (λ l b e. absurd cc)
   isolated (Back lib ino) given step = by_step (bare empty) (Back lib ino) given step tt (λ l b e. absurd cc)

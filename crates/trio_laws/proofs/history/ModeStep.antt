@@ -52,7 +52,7 @@ module _ (s : State) (k : Kept s) (lib ino mode : ℕ) (x : Beside) where
   node_row : (o : Option Row) → row_at s.home ino ≡ o → node_at (nodes_of s) ino ≡ node_by (settled s) ino (writer_of s ino) o
   node_row o row = node_is s k ino ∙ ap (node_by (settled s) ino (writer_of s ino)) row
 
-  none_on : (n : ℕ) → ((g : OpenGrant) → In g s.open_grants → g.ino ≡ n → ⊥) → stands_on (map standing_of s.open_grants) n ≡ false
+  pub none_on : (n : ℕ) → ((g : OpenGrant) → In g s.open_grants → g.ino ≡ n → ⊥) → stands_on (map standing_of s.open_grants) n ≡ false
   none_on n free =
       list_any-map standing_of (λ (g : Standing). eqb g.ino n) s.open_grants
       ∙ any_none (λ (g : OpenGrant). eqb g.ino n) s.open_grants (λ g i. ne_eqb g.ino n (free g i))

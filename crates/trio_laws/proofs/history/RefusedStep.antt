@@ -104,7 +104,7 @@ module _ (s s' : State) (k : Kept s) (k' : Kept s') (whole : LentWhole s) (whole
       by None row = refl
       by (Some r) row = ap (λ (l : List ℕ). cond (eqb r.parent dir) (Some (l, r.kind)) None) (name_stays s s' k k' whole lib h given closed e marked n r row)
 
-  unwritten_same : (n : ℕ) → is_written b n ≡ false → SameContent (nodes_of s) (nodes_of s') n
+  pub unwritten_same : (n : ℕ) → is_written b n ≡ false → SameContent (nodes_of s) (nodes_of s') n
   unwritten_same n un = record {
     bytes = ap bytes_in (is n) ∙ by (row_at s.home n) refl ∙ sym (ap bytes_in (was n));
     entries = λ m. entry_same n m;
@@ -114,7 +114,7 @@ module _ (s s' : State) (k : Kept s) (k' : Kept s') (whole : LentWhole s) (whole
       by None row = refl
       by (Some r) row = ap (λ (x : Node). x.bytes) (same_node s s' k k' whole lib h given closed e marked n r row un)
 
-  rights_same : (n : ℕ) (x : Node) → node_at (nodes_of s) n ≡ Some x → HasRightsOf x (node_at (nodes_of s') n)
+  pub rights_same : (n : ℕ) (x : Node) → node_at (nodes_of s) n ≡ Some x → HasRightsOf x (node_at (nodes_of s') n)
   rights_same n x there =
       let l = live n x there in
       let H : Node → Option Node → Type 0 = λ y o. HasRightsOf y o in

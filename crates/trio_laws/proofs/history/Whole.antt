@@ -9,7 +9,7 @@ use Rattle.trio_lists.proofs.Filters.{filter-In}
 use Rattle.trio_lists.proofs.Members.{In-map, map-In}
 use Rattle.trio_laws.specs.history.Recorded.{LentWhole}
 
-lent_member : (gs hs : List OpenGrant) (g : OpenGrant) → map lent_part gs ≡ map lent_part hs → In g gs → (h : OpenGrant) × In h hs × (lent_part g ≡ lent_part h)
+pub lent_member : (gs hs : List OpenGrant) (g : OpenGrant) → map lent_part gs ≡ map lent_part hs → In g gs → (h : OpenGrant) × In h hs × (lent_part g ≡ lent_part h)
 lent_member gs hs g e i =
     let a : In (lent_part g) (map lent_part hs) = subst (λ l. In (lent_part g) l) e (In-map lent_part g gs i) in
     let r = map-In lent_part (lent_part g) hs a in (r.0, r.1, r.2)

@@ -27,21 +27,21 @@ use Rattle.trio_lists.specs.Sorting.{sorted_by}
 use Rattle.trio_lists.proofs.Sorting.{in_sorted, sorted_in, sorted_new}
 use Rattle.trio_laws.proofs.judgement.CaseFacts.{live_bounds, written_row, new_not_live}
 
-written_ino_at : (w : Written) (o : Option Row) → (written_at w o).ino ≡ w.ino
+pub written_ino_at : (w : Written) (o : Option Row) → (written_at w o).ino ≡ w.ino
 written_ino_at w None = refl
 written_ino_at w (Some r) = refl
 
 pub written_ino : (c : Case) (w : Written) → (written_met c w).ino ≡ w.ino
 written_ino c w = written_ino_at w (row_in c.rows w.ino)
 
-written_kind_at : (w : Written) (o : Option Row) → (written_at w o).kind ≡ w.kind
+pub written_kind_at : (w : Written) (o : Option Row) → (written_at w o).kind ≡ w.kind
 written_kind_at w None = refl
 written_kind_at w (Some r) = refl
 
 pub written_kind : (c : Case) (w : Written) → (written_met c w).kind ≡ w.kind
 written_kind c w = written_kind_at w (row_in c.rows w.ino)
 
-written_body_at : (w : Written) (o : Option Row) → (written_at w o).body ≡ w.body
+pub written_body_at : (w : Written) (o : Option Row) → (written_at w o).body ≡ w.body
 written_body_at w None = refl
 written_body_at w (Some r) = refl
 

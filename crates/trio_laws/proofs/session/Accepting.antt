@@ -1,5 +1,5 @@
 -- What is ready is accepted.
-use Rattle.std.proofs.Common.{◌≡◌, ℕ, true, ◌&&◌, List, [], ◌∷◌, Some, sym, refl, ap, ◌∙◌, subst, inl, inr}
+use Rattle.std.proofs.Common.{◌≡◌, ℕ, true, ◌&&◌, List, Some, sym, ap, ◌∙◌, subst}
 use Rattle.std.specs.Prelude.{map, is_some, IsTrue}
 use Rattle.std.proofs.lemmas.Bool.{and_from}
 use Rattle.trio_rights.specs.Row.{Row}
@@ -13,7 +13,8 @@ use Rattle.trio_lease.specs.declared.parts.HoldParts.{HoldParts}
 use Rattle.trio_layout.specs.Image.{Image, row_at, settled_body}
 use Rattle.trio_rights.specs.Bundle.{Bundle, Written}
 use Rattle.trio_state.specs.State.{State, settled, creds_of}
-use Rattle.trio_desk.specs.Ready.{bundle_of, Library, Ready, ArePossible, HasNone, parcel_case}
+use Rattle.trio_desk.specs.Call.{DeskSeen}
+use Rattle.trio_desk.specs.Ready.{bundle_of, Ready, ArePossible, HasNone, parcel_case}
 use Rattle.trio_state.specs.Given.{HasGrant}
 use Rattle.trio_lists.proofs.Members.{In-map, map-In}
 use Rattle.trio_layout.specs.Case.{Case, Held, case_of}
@@ -33,6 +34,7 @@ use Rattle.trio_laws.specs.session.Settles.{WasHeld, IsMoment, ReadyIsAccepted}
 use Rattle.trio_onetree.proofs.TreeStays.{tree_stays_through}
 use Rattle.std.proofs.lemmas.Simd.{map-map}
 use Rattle.trio_laws.proofs.session.Edges.{edges_follow}
+use Rattle.trio_laws.proofs.session.Starts.{map-each}
 use Rattle.trio_laws.proofs.history.StandsTree.{states_are_trees}
 use Rattle.trio_laws.proofs.session.Rows.{rows_many, rows_say}
 use Rattle.trio_laws.proofs.history.Facts.{node_is}
@@ -62,14 +64,9 @@ module _ (s : State) (lib : ℕ) (b : Bundle) (j : IsJudgeable s lib b) where
     apart = λ n i k. (let w = map-In (λ (x : Written). x.ino) n b.writes k in held_apart s lib b j n i w.0 w.1 (sym w.2));
     closed = closed_hold;
     new = new_dead s lib b j;
-    many = rows_many s j.kept;
   }
 
 -- ---- the case of what is handed in is that of the state
-
-map_same : {X Y : Type 0} (f g : X → Y) (xs : List X) → ((x : X) → In x xs → f x ≡ g x) → map f xs ≡ map g xs
-map_same f g [] h = refl
-map_same f g (x ∷ xs) h = ap (λ y. y ∷ map f xs) (h x (inl refl)) ∙ ap (λ l. g x ∷ l) (map_same f g xs (λ y i. h y (inr i)))
 
 abbrev held_in : HoldParts → Held
 held_in h = record { ino = h.ino; body = h.body }
@@ -77,27 +74,27 @@ held_in h = record { ino = h.ino; body = h.body }
 abbrev held_at : Image → ℕ → Held
 held_at image n = record { ino = n; body = settled_body image n }
 
-module _ (s : State) (library : Library) (b : Parcel) (back : List Shown) (calls : List Done) (m : IsMoment s library b back) (ready : Ready library b back calls) where
+module _ (s : State) (desk : DeskSeen) (b : Parcel) (back : List Shown) (calls : List Done) (m : IsMoment s desk b back) (ready : Ready desk b back calls) where
   abbrev lib : ℕ
-  lib = library.desk.lib.0
+  lib = desk.lib.0
 
   abbrev creds : Creds
-  creds = library.desk.creds
+  creds = desk.creds
 
   body_of_hold : (h : HoldParts) → WasHeld s h → h.body ≡ settled_body (settled s) h.ino
   body_of_hold h w = w.body ∙ (m.judgeable.kept.held w.grant w.is_open w.kind).1 ∙ ap (settled_body (settled s)) w.ino
 
   lent_bodies : map held_in b.holds ≡ map (held_at (settled s)) (bundle_of b).holds
   lent_bodies =
-      map_same held_in (λ h. held_at (settled s) h.ino) b.holds (λ h i. (let to : List ℕ → Held = λ body. record { ino = h.ino; body = body } in ap to (body_of_hold h (m.holds h i))))
+      map-each held_in (λ h. held_at (settled s) h.ino) b.holds (λ h i. (let to : List ℕ → Held = λ body. record { ino = h.ino; body = body } in ap to (body_of_hold h (m.holds h i))))
       ∙ sym (map-map (held_at (settled s)) (λ (h : HoldParts). h.ino) b.holds)
 
-  case_same : parcel_case library.sizes creds s.home.rows b ≡ case_of (settled s) (creds_of s lib) (bundle_of b)
+  case_same : parcel_case desk.sizes creds s.home.rows b ≡ case_of (settled s) (creds_of s lib) (bundle_of b)
   case_same =
-      let a : List Held → Case = λ l. record { bundle = bundle_of b; lent = l; rows = s.home.rows; creds = creds; range = library.sizes.range; inodes = library.sizes.inodes } in
+      let a : List Held → Case = λ l. record { bundle = bundle_of b; lent = l; rows = s.home.rows; creds = creds; range = desk.sizes.range; inodes = desk.sizes.inodes } in
       let l : List Held = map (held_at (settled s)) (bundle_of b).holds in
-      let c : Creds → Case = λ x. record { bundle = bundle_of b; lent = l; rows = s.home.rows; creds = x; range = library.sizes.range; inodes = library.sizes.inodes } in
-      let r : CoreRange → Case = λ x. record { bundle = bundle_of b; lent = l; rows = s.home.rows; creds = creds_of s lib; range = x; inodes = library.sizes.inodes } in
+      let c : Creds → Case = λ x. record { bundle = bundle_of b; lent = l; rows = s.home.rows; creds = x; range = desk.sizes.range; inodes = desk.sizes.inodes } in
+      let r : CoreRange → Case = λ x. record { bundle = bundle_of b; lent = l; rows = s.home.rows; creds = creds_of s lib; range = x; inodes = desk.sizes.inodes } in
       let i : ℕ → Case = λ x. record { bundle = bundle_of b; lent = l; rows = s.home.rows; creds = creds_of s lib; range = s.home.core.range; inodes = x } in
       ap a lent_bodies ∙ ap c m.creds ∙ ap r m.range ∙ ap i m.inodes
 
@@ -105,7 +102,7 @@ module _ (s : State) (library : Library) (b : Parcel) (back : List Shown) (calls
   none_new n i =
       node_is s m.judgeable.kept n ∙ ap (node_by (settled s) n (writer_of s n)) (new_dead s lib (bundle_of b) m.judgeable n i)
 
-  possible : ArePossible library b back (nodes_of s) s.home.rows
+  possible : ArePossible desk b back (nodes_of s) s.home.rows
   possible = record { tree = states_are_trees s m.judgeable.kept; agrees = m.agrees; none = none_new; same = rows_say s m.judgeable.kept; places = m.places }
 
   pub replies_then : LegalCalls creds (nodes_of s) calls
@@ -123,11 +120,11 @@ module _ (s : State) (library : Library) (b : Parcel) (back : List Shown) (calls
   rules_met =
       let c : Case = case_of (settled s) (creds_of s lib) (bundle_of b) in
       let t = shown_then in
-      let edges : meets_edges (listing c) c.rows ≡ true = edges_follow c (nodes_of s) _ (states_are_trees s m.judgeable.kept) tree_then (among s lib (bundle_of b) m.judgeable) t in
+      let edges : meets_edges (listing c) c.rows ≡ true = edges_follow c (nodes_of s) _ (states_are_trees s m.judgeable.kept) tree_then (among s lib (bundle_of b) m.judgeable) t (rows_many s m.judgeable.kept) in
       and_from (meets_grammar c && meets_owning c && meets_edges (listing c) c.rows) (meets_rights c)
       (and_from (meets_grammar c && meets_owning c) (meets_edges (listing c) c.rows) (and_from (meets_grammar c) (meets_owning c) t.grammar t.owning) edges)
       t.rights
 
 pub ready_is_accepted : ReadyIsAccepted
-ready_is_accepted s library b back calls m ready =
-    rules_allow s library.desk.lib.0 (bundle_of b) m.judgeable (rules_met s library b back calls m ready)
+ready_is_accepted s desk b back calls m ready =
+    rules_allow s desk.lib.0 (bundle_of b) m.judgeable (rules_met s desk b back calls m ready)

@@ -21,9 +21,13 @@ use Rattle.trio_nodes.specs.Apply.{Apply}
 use Rattle.trio_nodes.specs.After.{call_nodes, batch_nodes}
 use Rattle.trio_nodes.specs.Legal.{MadeFits, LegalCalls}
 use Rattle.trio_desk.specs.Shows.{Naming, namings_in, bytes_read, with_bytes, node_left, Shows}
-use Rattle.trio_desk.specs.Ready.{Library, ArePossible, lent_files, parcel_case}
-use Rattle.trio_desk.specs.Edits.{InHand, nothing}
+use Rattle.trio_desk.specs.Call.{DeskSeen}
+use Rattle.trio_desk.specs.Ready.{ArePossible, lent_files, parcel_case}
+use Rattle.trio_nodes.specs.Tree.{IsTree}
+use Rattle.trio_onetree.proofs.TreeStays.{tree_stays_through}
+use Rattle.trio_desk.specs.Edits.{InHand, MayShow, nothing}
 use Rattle.trio_laws.specs.session.Calls.{CallKeeps, LookKeeps, NothingIsReady}
+use Rattle.trio_laws.proofs.session.Again.{possible_with_less}
 
 -- ---- one call more
 
@@ -38,14 +42,16 @@ reply_more creds [] d nodes c a m = (a, m, tt)
 reply_more creds (x ∷ xs) d nodes c a m = (c.0, c.1, reply_more creds xs d (call_nodes creds nodes x) c.2 a m)
 
 pub call_keeps : CallKeeps
-call_keeps library h h' calls d change more edit does comes nodes rows possible =
+call_keeps desk h h' calls d change more edit does comes nodes rows possible =
     let was = comes nodes rows (more nodes rows possible) in
-    let n1 : Nodes = batch_nodes library.desk.creds calls nodes in
-    let call = does nodes n1 rows possible was.1 in
-    let after = edit nodes n1 rows possible was.1 in
-    let end : batch_nodes library.desk.creds (calls ++ d ∷ []) nodes ≡ change n1 = batch_more library.desk.creds calls d nodes ∙ call.2 in (
-      reply_more library.desk.creds calls d nodes was.0 call.0 call.1,
-      subst (λ k. Shows (parcel_case library.sizes library.desk.creds rows h'.parcel) nodes k) (sym end) after,
+    let n1 : Nodes = batch_nodes desk.creds calls nodes in
+    let tree : IsTree n1 = tree_stays_through nodes desk.creds calls possible.tree was.0 in
+    let may : MayShow desk h h' nodes n1 rows = record { possible = possible; tree = tree; shows = was.1 } in
+    let call = does nodes n1 rows may in
+    let after = edit nodes n1 rows may in
+    let end : batch_nodes desk.creds (calls ++ d ∷ []) nodes ≡ change n1 = batch_more desk.creds calls d nodes ∙ call.2 in (
+      reply_more desk.creds calls d nodes was.0 call.0 call.1,
+      subst (λ k. Shows (parcel_case desk.sizes desk.creds rows h'.parcel) nodes k) (sym end) after,
     )
 
 -- ---- nothing in hand
@@ -58,9 +64,9 @@ bytes_same : (o : Option Node) → option_map (with_bytes None) o ≡ o
 bytes_same None = refl
 bytes_same (Some x) = refl
 
-module _ (library : Library) (rows : List (Option Row)) where
+module _ (desk : DeskSeen) (rows : List (Option Row)) where
   abbrev c0 : Case
-  c0 = parcel_case library.sizes library.desk.creds rows nothing
+  c0 = parcel_case desk.sizes desk.creds rows nothing
 
   none_judged : judged_files c0 ≡ []
   unfolding judged_files
@@ -83,7 +89,7 @@ module _ (library : Library) (rows : List (Option Row)) where
   }
 
 pub nothing_is_ready : NothingIsReady
-nothing_is_ready library back nodes rows possible = (tt, nothing_shows library rows nodes)
+nothing_is_ready desk back nodes rows possible = (tt, nothing_shows desk rows nodes)
 
 -- ---- looks
 
@@ -93,19 +99,10 @@ in_before f (x ∷ xs) ys zs (inl e) = inl e
 in_before f (x ∷ xs) ys zs (inr i) = inr (in_before f xs ys zs i)
 
 -- what is possible with more files for reading was possible without
-fewer : (library : Library) (h : InHand) (more : List Shown) (nodes : Nodes) (rows : List (Option Row)) → ArePossible library h.parcel (h.back ++ more) nodes rows → ArePossible library h.parcel h.back nodes rows
-fewer library h more nodes rows p = record {
-  tree = p.tree;
-  agrees = record {
-    root_is = p.agrees.root_is;
-    files = λ f i. p.agrees.files f (in_before f (lent_files h.parcel.writes) h.back more i);
-    holds = p.agrees.holds;
-  };
-  none = p.none;
-  same = p.same;
-  places = λ f l i. p.places f l (in_before f (lent_files h.parcel.writes) h.back more i);
-}
+pub fewer : (desk : DeskSeen) (h : InHand) (more : List Shown) (nodes : Nodes) (rows : List (Option Row)) → ArePossible desk h.parcel (h.back ++ more) nodes rows → ArePossible desk h.parcel h.back nodes rows
+fewer desk h more =
+    possible_with_less desk h.parcel h.parcel h.back (h.back ++ more) (λ f i. in_before f (lent_files h.parcel.writes) h.back more i) (λ k i. i) (λ n i. i)
 
 pub look_keeps : LookKeeps
-look_keeps library h more calls d does comes =
-    call_keeps library h (record { parcel = h.parcel; back = h.back ++ more }) calls d (λ n. n) (fewer library h more) (λ nodes nodes' rows p s. s) does comes
+look_keeps desk h more calls d does comes =
+    call_keeps desk h (record { parcel = h.parcel; back = h.back ++ more }) calls d (λ n. n) (fewer desk h more) (λ nodes nodes' rows may. may.shows) does comes

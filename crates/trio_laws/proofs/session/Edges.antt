@@ -289,15 +289,14 @@ module _ (c : Case) (nodes nodes' : Nodes) (tree : IsTree nodes) (tree' : IsTree
           let r = node_row n x.0 x.1 in
           parent_unlisted c n h ∙ ap (λ o. option_map_or (λ (q : Row). q.parent) o 0) r.1 ∙ r.2 ∙ sym x.2
 
-  inside_now : (n : ℕ) (y : Node) → node_at nodes' n ≡ Some y → n < length c.rows
-  inside_now n y t = by (naming_of c n) refl
+  inside_now : length c.rows ≡ c.inodes + 1 → (n : ℕ) (y : Node) → node_at nodes' n ≡ Some y → n < length c.rows
+  inside_now many n y t = by (naming_of c n) refl
     where
       by : (o : Option Naming) → naming_of c n ≡ o → n < length c.rows
       by (Some e) h =
           let i = naming_is c n e h in
           let l : e.listed.entry.ino < c.inodes + 1 = listed_within (bundle_core c) i.judged_by i.file e.listed i.read i.entry in
           let number = i.number in
-          let many = a.many in
           omega (arith, l, number, many)
       by None h =
           let x = was_there n y h t in
@@ -311,20 +310,20 @@ module _ (c : Case) (nodes nodes' : Nodes) (tree : IsTree nodes) (tree' : IsTree
       let top : r.0.parent ≡ 0 = x.2 ∙ ap (λ (z : Node). z.parent) same ∙ tree.root.3 in
       live_above 0 (a.written 0 (subst (λ k. In k (written_numbers c)) top (a.closed n r.0 i r.1))) refl
 
-  moved_climbs : (e : ListedEntry) → In e (listing c).entries → In e.ino c.bundle.holds
+  moved_climbs : length c.rows ≡ c.inodes + 1 → (e : ListedEntry) → In e (listing c).entries → In e.ino c.bundle.holds
       → climbs_clear (proposed_parent (listing c) c.rows) e.ino (length c.rows) (proposed_parent (listing c) c.rows e.ino) ≡ true
-  moved_climbs e i held =
+  moved_climbs many e i held =
       let parent : ℕ → ℕ = proposed_parent (listing c) c.rows in
       let w = listed_naming c e i in
       let y = listed_now e.ino w.0 w.1 in
       let way = way_of nodes' tree' e.ino y.0 y.1 in
-      let short : length way.0 < length c.rows = way_short nodes' tree' (length c.rows) inside_now e.ino way.0 way.1 in
+      let short : length way.0 < length c.rows = way_short nodes' tree' (length c.rows) (inside_now many) e.ino way.0 way.1 in
       let climb : climbs parent (length way.0) e.ino ≡ true = way_climbs nodes' tree' parent parent_now e.ino way.0 way.1 in
       let more : length way.0 ≤ length c.rows = omega (arith, short) in
       climbs_past parent e.ino (length c.rows) (held_below_root e.ino held) (climbs_more parent (length way.0) (length c.rows) e.ino more climb)
 
-  all_come : list_all (comes_to_root (listing c) c.rows) (listing c).entries ≡ true
-  all_come = list_all-each (comes_to_root (listing c) c.rows) (listing c).entries (λ e i. by e i (is_moved (listing c) c.rows e) refl)
+  all_come : length c.rows ≡ c.inodes + 1 → list_all (comes_to_root (listing c) c.rows) (listing c).entries ≡ true
+  all_come many = list_all-each (comes_to_root (listing c) c.rows) (listing c).entries (λ e i. by e i (is_moved (listing c) c.rows e) refl)
     where
       by : (e : ListedEntry) → In e (listing c).entries → (b : Bool) → is_moved (listing c) c.rows e ≡ b → comes_to_root (listing c) c.rows e ≡ true
       by e i false m = or_left (not (is_moved (listing c) c.rows e)) _ (not_from_false (is_moved (listing c) c.rows e) m)
@@ -332,13 +331,13 @@ module _ (c : Case) (nodes nodes' : Nodes) (tree : IsTree nodes) (tree' : IsTree
           let p = and_parts (is_among e.ino (listing c).held && not e.kept) _ m in
           let q = and_parts (is_among e.ino (listing c).held) (not e.kept) p.0 in
           or_right (not (is_moved (listing c) c.rows e)) _
-          (moved_climbs e i (held_from c e.ino (is_among-In e.ino (listing c).held q.0)))
+          (moved_climbs many e i (held_from c e.ino (is_among-In e.ino (listing c).held q.0)))
 
-  pub edges_met : meets_edges (listing c) c.rows ≡ true
-  edges_met =
+  pub edges_met : length c.rows ≡ c.inodes + 1 → meets_edges (listing c) c.rows ≡ true
+  edges_met many =
       and_from (keeps_children (listing c) c.rows && list_all (leaves_none (listing c) c.rows) (listing c).held) (list_all (comes_to_root (listing c) c.rows) (listing c).entries)
       (and_from (keeps_children (listing c) c.rows) (list_all (leaves_none (listing c) c.rows) (listing c).held) children_kept none_dropped)
-      all_come
+      (all_come many)
 
 pub edges_follow : EdgesFollow
-edges_follow c nodes nodes' tree tree' a s = edges_met c nodes nodes' tree tree' a s
+edges_follow c nodes nodes' tree tree' a s many = edges_met c nodes nodes' tree tree' a s many

@@ -102,7 +102,7 @@ module _ (s : State) (k : Kept s) (ino : ℕ) (r : Row) (row : row_at s.home ino
   node_here : node_at nodes ino ≡ Some (node_of image ino (writer_of s ino) r)
   node_here = node_is s k ino ∙ ap (node_by image ino (writer_of s ino)) row
 
-  rights_are : (n : ℕ) (kind : Kind) (bytes : List ℕ) → n ≡ ino → kind ≡ r.kind → bytes ≡ settled_body (settled s) ino → HasRights (rights_in kind bytes) (node_at nodes n)
+  pub rights_are : (n : ℕ) (kind : Kind) (bytes : List ℕ) → n ≡ ino → kind ≡ r.kind → bytes ≡ settled_body (settled s) ino → HasRights (rights_in kind bytes) (node_at nodes n)
   rights_are n kind bytes number same body =
       let spelled : body_at bytes ≡ file.file.body =
       ap body_at (body ∙ body_met (settled s) k.fit k.verifies ino r row)

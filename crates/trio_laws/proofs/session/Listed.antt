@@ -67,7 +67,7 @@ module _ (c : Case) (nodes nodes' : Nodes) (tree : IsTree nodes) (tree' : IsTree
             | inr both ↦ has_kind_is e.listed.entry.kind (row_in c.rows e.listed.entry.ino) r there (and_parts (has_kind e.listed.entry.kind (row_in c.rows e.listed.entry.ino)) _ both).0
           ]
 
-  listed_as : (e : Naming) (n : ℕ) → naming_of c n ≡ Some e → IsListedAs (node_at nodes' n) e
+  pub listed_as : (e : Naming) (n : ℕ) → naming_of c n ≡ Some e → IsListedAs (node_at nodes' n) e
   listed_as e n h =
       subst (λ o. IsListedAs o e) (sym (s.each n ∙ ap (λ o. option_map (with_bytes (bytes_now c n)) (node_left c n o (node_at nodes n))) h)) (by (node_at nodes n) refl)
     where

@@ -25,7 +25,8 @@ use Rattle.trio_state.specs.State.{OpenGrant, State, settled, creds_of}
 use Rattle.trio_state.specs.Step.{Event, Grant, Allot, Back, Release, Settle, SetMode, CtlAnswer, Step, Does, ReleaseEnd, Parted, IsAccepted, IsRefused, granted_to, moded_to, mode_fault}
 use Rattle.trio_desk.specs.Agrees.{Agrees, AllStand}
 use Rattle.trio_desk.specs.Out.{Parcel}
-use Rattle.trio_desk.specs.Ready.{Library, bundle_of, leases_in}
+use Rattle.trio_desk.specs.Call.{DeskSeen}
+use Rattle.trio_desk.specs.Ready.{bundle_of, leases_in}
 use Rattle.trio_laws.specs.Laws.{library_of}
 use Rattle.trio_laws.specs.RuleLaws.{IsJudgeable}
 use Rattle.trio_laws.specs.history.Recorded.{LentWhole}
@@ -83,7 +84,7 @@ does_sizes s (Release lib b) answer s' d = release_sizes s lib b answer s' d
 does_sizes s (Settle lib b) answer s' d = ends_sizes s s' lib b (next (settled s) b) refl refl d.3
 does_sizes s (SetMode lib ino mode) answer s' d = subst (SameSizes s) (sym d.1) (mode_sizes s ino mode (mode_fault s lib ino mode (row_at s.home ino)))
 
-step_sizes : (s : State) (event : Event) (answer : CtlAnswer) (s' : State) → Step s event answer s' → SameSizes s s'
+pub step_sizes : (s : State) (event : Event) (answer : CtlAnswer) (s' : State) → Step s event answer s' → SameSizes s s'
 step_sizes s event answer s' (inl does) = does_sizes s event answer s' does
 step_sizes s event answer s' (inr none) = subst (SameSizes s) (sym none.2) (here s)
 
@@ -107,10 +108,10 @@ creds_then : (s s' : State) (lib : ℕ) → s'.creds ≡ s.creds → creds_of s 
 creds_then s s' lib e = ap (λ (l : List Creds). get_or l (lib - 1) (record { uid = 0; gid = 0 })) (sym e)
 
 pub moment_lasts : MomentLasts
-moment_lasts s event answer s' library b back w given step apart stand m =
-    let lib : ℕ = library.desk.lib.0 in
+moment_lasts s event answer s' desk b back w given step apart stand m =
+    let lib : ℕ = desk.lib.0 in
     let k : Kept s = m.judgeable.kept in
-    let h = step_leaves_leases s event answer s' lib library.sizes library.root (leases_in b back) k w given step apart (record { stand = stand; agrees = m.agrees; places = m.places }) in
+    let h = step_leaves_leases s event answer s' lib desk.sizes desk.root (leases_in b back) k w given step apart (record { stand = stand; agrees = m.agrees; places = m.places }) in
     let z = step_sizes s event answer s' step in
     let l = other_step_leaves s s' lib event answer k given step apart in (
       record {
@@ -129,21 +130,21 @@ moment_lasts s event answer s' library b back w given step apart stand m =
       h.stand,
     )
 
-moments_last : (s : State) (moves : List Move) (library : Library) (b : Parcel) (back : List Shown)
-    → IsMoment s library b back → AllStand (map standing_of s.open_grants) library.desk.lib.0 (leases_in b back) → LentWhole s
-    → Trace s moves → ((m : Move) → In m moves → library_of m.event ≡ library.desk.lib.0 → ⊥) → IsMoment (state_after s moves) library b back
-moments_last s [] library b back m stand w trace others = m
-moments_last s (x ∷ moves) library b back m stand w trace others =
-    let lib : ℕ = library.desk.lib.0 in
-    let m0 = subst (λ (t : State). IsMoment t library b back) (sym trace.0) m in
+moments_last : (s : State) (moves : List Move) (desk : DeskSeen) (b : Parcel) (back : List Shown)
+    → IsMoment s desk b back → AllStand (map standing_of s.open_grants) desk.lib.0 (leases_in b back) → LentWhole s
+    → Trace s moves → ((m : Move) → In m moves → library_of m.event ≡ desk.lib.0 → ⊥) → IsMoment (state_after s moves) desk b back
+moments_last s [] desk b back m stand w trace others = m
+moments_last s (x ∷ moves) desk b back m stand w trace others =
+    let lib : ℕ = desk.lib.0 in
+    let m0 = subst (λ (t : State). IsMoment t desk b back) (sym trace.0) m in
     let stand0 = subst (λ (t : State). AllStand (map standing_of t.open_grants) lib (leases_in b back)) (sym trace.0) stand in
     let w0 : LentWhole x.before = subst LentWhole (sym trace.0) w in
-    let n = moment_lasts x.before x.event x.answer x.after library b back w0 trace.1 trace.2 (others x (inl refl)) stand0 m0 in
-    moments_last x.after moves library b back n.0 n.1 (step_whole x.before m0.judgeable.kept x.event x.answer x.after trace.2 w0) trace.3 (λ y i. others y (inr i))
+    let n = moment_lasts x.before x.event x.answer x.after desk b back w0 trace.1 trace.2 (others x (inl refl)) stand0 m0 in
+    moments_last x.after moves desk b back n.0 n.1 (step_whole x.before m0.judgeable.kept x.event x.answer x.after trace.2 w0) trace.3 (λ y i. others y (inr i))
 
 pub ready_is_accepted_through : ReadyIsAcceptedThrough
-ready_is_accepted_through s moves library b back calls m stand w trace others ready =
-    ready_is_accepted (state_after s moves) library b back calls (moments_last s moves library b back m stand w trace others) ready
+ready_is_accepted_through s moves desk b back calls m stand w trace others ready =
+    ready_is_accepted (state_after s moves) desk b back calls (moments_last s moves desk b back m stand w trace others) ready
 
 -- ---- give backs
 
@@ -181,10 +182,10 @@ module _ (s : State) (lib ino : ℕ) where
   closed_then : (mine : ℕ) (b : Bundle) → parted_hold s mine b ≡ None → parted_hold (given_back s lib ino) mine b ≡ None
   closed_then mine b none = unparted_from (given_back s lib ino) mine b (λ g i. unparted_at s mine b g none (filter-In stays g s.open_grants i).0)
 
-back_moment : (s : State) (ino : ℕ) (library : Library) (b : Parcel) (back : List Shown) → HasGrant s library.desk.lib.0 ino Read → Kept (given_back s library.desk.lib.0 ino)
-    → IsMoment s library b back → IsMoment (given_back s library.desk.lib.0 ino) library b back
-back_moment s ino library b back given k' m =
-    let lib : ℕ = library.desk.lib.0 in
+back_moment : (s : State) (ino : ℕ) (desk : DeskSeen) (b : Parcel) (back : List Shown) → HasGrant s desk.lib.0 ino Read → Kept (given_back s desk.lib.0 ino)
+    → IsMoment s desk b back → IsMoment (given_back s desk.lib.0 ino) desk b back
+back_moment s ino desk b back given k' m =
+    let lib : ℕ = desk.lib.0 in
     let j = m.judgeable in
     record {
       judgeable = record { kept = k'; given = given_then s lib ino lib (bundle_of b) j.given; closed = closed_then s lib ino lib (bundle_of b) j.closed };
@@ -198,13 +199,13 @@ back_moment s ino library b back given k' m =
         ino = w.ino;
         body = w.body;
       });
-      agrees = subst (λ (n : Nodes). Agrees library.sizes library.root (leases_in b back) n) (sym (back_nodes s j.kept lib ino given)) m.agrees;
+      agrees = subst (λ (n : Nodes). Agrees desk.sizes desk.root (leases_in b back) n) (sym (back_nodes s j.kept lib ino given)) m.agrees;
       places = m.places;
     }
 
 pub moment_lasts_back : MomentLastsBack
-moment_lasts_back s ino answer s' library b back given (inr none) m = subst (λ (t : State). IsMoment t library b back) (sym none.2) m
-moment_lasts_back s ino answer s' library b back given (inl does) m =
-    let lib : ℕ = library.desk.lib.0 in
+moment_lasts_back s ino answer s' desk b back given (inr none) m = subst (λ (t : State). IsMoment t desk b back) (sym none.2) m
+moment_lasts_back s ino answer s' desk b back given (inl does) m =
+    let lib : ℕ = desk.lib.0 in
     let k' : Kept (given_back s lib ino) = subst Kept does.1 (step_kept s s' (Back lib ino) answer m.judgeable.kept given (inl does)) in
-    subst (λ (t : State). IsMoment t library b back) (sym does.1) (back_moment s ino library b back given k' m)
+    subst (λ (t : State). IsMoment t desk b back) (sym does.1) (back_moment s ino desk b back given k' m)

@@ -23,7 +23,7 @@ use Rattle.trio_nodes.specs.After.{batch_nodes, moded_node, moded_nodes, creds_i
 use Rattle.trio_nodes.specs.Legal.{Past, past_after, LegalCalls, SameContent, HasRightsOf, HasPlaceOf, SparesOthers, IsWithinGrants, is_owner, parent_in, KeepsRights}
 use Rattle.trio_nodes.specs.Tree.{IsTree}
 use Rattle.trio_desk.specs.Contents.{Sizes, Rights, rights_of, rights_in, ShownEntry, entry_of_node}
-use Rattle.trio_desk.specs.Agrees.{Leases, Agrees, HasRights, HasContent, HasStanding, AllStand}
+use Rattle.trio_desk.specs.Agrees.{Leases, Agrees, HasRights, HasContent, HasFile, HasHeld, HasStanding, AllStand}
 use Rattle.trio_laws.specs.Laws.{library_of}
 use Rattle.trio_laws.specs.session.Others.{NoHoldOnRoot, AgreesIsStable, AgreesThrough}
 use Rattle.trio_laws.specs.history.Entries.{event_of}
@@ -55,7 +55,7 @@ rights_same x y h =
     ∙ ap (λ (u : ℕ). record { kind = x.kind; mode = x.mode; uid = u; gid = y.gid }) h.2
     ∙ ap (λ (g : ℕ). record { kind = x.kind; mode = x.mode; uid = x.uid; gid = g }) h.3
 
-has_rights : (rights : Rights) (o o' : Option Node) → ((x : Node) → o ≡ Some x → HasRightsOf x o') → HasRights rights o → HasRights rights o'
+pub has_rights : (rights : Rights) (o o' : Option Node) → ((x : Node) → o ≡ Some x → HasRightsOf x o') → HasRights rights o → HasRights rights o'
 has_rights rights None o' s h = absurd (let wrong : None ≡ Some rights = h in cc)
 has_rights rights (Some x) None s h = absurd (s x refl)
 has_rights rights (Some x) (Some y) s h = ap (λ r. Some r) (rights_same x y (s x refl)) ∙ h
@@ -114,30 +114,32 @@ module _ (nodes nodes' : Nodes) where
   content_on sizes f Directory s e c = λ n. e n ∙ c n
   content_on sizes f Regular s e c = bytes_same_in (node_at nodes f.ino) (node_at nodes' f.ino) _ s.content.bytes s.rights c
 
+  pub file_on : (sizes : Sizes) (f : Shown) → IsSpared nodes nodes' f.ino → SameEntries nodes nodes' f.ino → HasFile sizes nodes f → HasFile sizes nodes' f
+  file_on sizes f s e h = record {
+    rights = has_rights (rights_in f.kind f.body) (node_at nodes f.ino) (node_at nodes' f.ino) s.rights h.rights;
+    content = content_on sizes f f.kind s e h.content;
+  }
+
+  pub held_on : (h : HoldParts) → IsSpared nodes nodes' h.ino → HasHeld nodes h → HasHeld nodes' h
+  held_on h s w = record {
+    rights = has_rights (rights_in h.kind h.body) (node_at nodes h.ino) (node_at nodes' h.ino) s.rights w.rights;
+    children =
+        count_pair (is_in h.ino) (is_in h.ino) refl refl nodes' nodes
+        (λ m. in_by h.ino (node_at nodes' m) ∙ ap is_some (s.content.entries m) ∙ sym (in_by h.ino (node_at nodes m))) ∙ w.children;
+  }
+
   agrees_on : (sizes : Sizes) (root : Rights) (lent : Leases) → HasRights root (node_at nodes' 1)
       → ((f : Shown) → In f lent.files → IsSpared nodes nodes' f.ino) → ((f : Shown) → In f lent.files → SameEntries nodes nodes' f.ino)
       → ((h : HoldParts) → In h lent.holds → IsSpared nodes nodes' h.ino)
       → Agrees sizes root lent nodes → Agrees sizes root lent nodes'
   agrees_on sizes root lent root_is files entries holds a = record {
     root_is = root_is;
-    files =
-        λ f i. (let s = files f i in let h = a.files f i in
-        record {
-          rights = has_rights (rights_in f.kind f.body) (node_at nodes f.ino) (node_at nodes' f.ino) s.rights h.rights;
-          content = content_on sizes f f.kind s (entries f i) h.content;
-        });
-    holds =
-        λ h i. (let s = holds h i in let w = a.holds h i in
-        record {
-          rights = has_rights (rights_in h.kind h.body) (node_at nodes h.ino) (node_at nodes' h.ino) s.rights w.rights;
-          children =
-              count_pair (is_in h.ino) (is_in h.ino) refl refl nodes' nodes
-              (λ m. in_by h.ino (node_at nodes' m) ∙ ap is_some (s.content.entries m) ∙ sym (in_by h.ino (node_at nodes m))) ∙ w.children;
-        });
+    files = λ f i. file_on sizes f (files f i) (entries f i) (a.files f i);
+    holds = λ h i. held_on h (holds h i) (a.holds h i);
   }
 
   -- where kinds and rights stay, entries do
-  keep_entries : KeepsRights nodes nodes' → (n : ℕ) → IsSpared nodes nodes' n → SameEntries nodes nodes' n
+  pub keep_entries : KeepsRights nodes nodes' → (n : ℕ) → IsSpared nodes nodes' n → SameEntries nodes nodes' n
   keep_entries keep n s = λ m. entry_same n (node_at nodes m) (node_at nodes' m) (s.content.entries m) (keep m)
 
 -- ---- grants that stand
@@ -251,7 +253,7 @@ moded_listed : (directory mode : ℕ) (o : Option Node) → (parent_in o ≡ dir
 moded_listed directory mode None d = refl
 moded_listed directory mode (Some x) d = unlisted_entry directory (record x { mode = record { 0 = mode } }) d ∙ sym (unlisted_entry directory x d)
 
-owner_not_root : (creds : Creds) (ino : ℕ) (o : Option Node) → is_owner creds ino o ≡ true → ino ≡ 1 → ⊥
+pub owner_not_root : (creds : Creds) (ino : ℕ) (o : Option Node) → is_owner creds ino o ≡ true → ino ≡ 1 → ⊥
 owner_not_root creds ino None e is = false≢true e
 owner_not_root creds ino (Some x) e is =
     let parts = and_parts (not (eqb ino 1)) (eqb creds.uid 0 || eqb creds.uid x.uid) e in
@@ -262,16 +264,19 @@ not_standing : (grants : List Standing) (lib ino n : ℕ) → stands_on grants i
 not_standing grants lib ino n none s e =
     false≢true (sym none ∙ In-list_any (λ g. eqb g.ino ino) s.grant grants s.among (eq-eqb s.grant.ino ino (s.on ∙ e)))
 
-module _ (nodes : Nodes) (grants : List Standing) (lib : ℕ) (sizes : Sizes) (root : Rights) (lent : Leases) (ino mode : ℕ)
-    (stand : AllStand grants lib lent) (a : Agrees sizes root lent nodes)
-    (not_root : ino ≡ 1 → ⊥) (free : stands_on grants ino ≡ false) (directory_free : stands_on grants (parent_in (node_at nodes ino)) ≡ false) where
+module _ (nodes : Nodes) (ino mode : ℕ) where
+  pub moded_else : (m : ℕ) → (m ≡ ino → ⊥) → node_at (moded_nodes ino mode nodes) m ≡ node_at nodes m
+  moded_else m d = with_node-else nodes ino m (moded_node mode (node_at nodes ino)) d
+
+module _ (nodes : Nodes) (grants : List Standing) (lib : ℕ) (ino mode : ℕ)
+    (free : stands_on grants ino ≡ false) (directory_free : stands_on grants (parent_in (node_at nodes ino)) ≡ false) where
   moded_other : (m : ℕ) → (m ≡ ino → ⊥) → node_at (moded_nodes ino mode nodes) m ≡ node_at nodes m
-  moded_other m d = with_node-else nodes ino m (moded_node mode (node_at nodes ino)) d
+  moded_other = moded_else nodes ino mode
 
   moded_here : node_at (moded_nodes ino mode nodes) ino ≡ moded_node mode (node_at nodes ino)
   moded_here = with_node-same nodes ino (moded_node mode (node_at nodes ino))
 
-  moded_spares : (n : ℕ) → HasStanding grants lib n → IsSpared nodes (moded_nodes ino mode nodes) n
+  pub moded_spares : (n : ℕ) → HasStanding grants lib n → IsSpared nodes (moded_nodes ino mode nodes) n
   moded_spares n s =
       let apart : n ≡ ino → ⊥ = not_standing grants lib ino n free s in
       record {
@@ -286,7 +291,7 @@ module _ (nodes : Nodes) (grants : List Standing) (lib : ℕ) (sizes : Sizes) (r
         };
       }
 
-  moded_entries : (n : ℕ) → HasStanding grants lib n → SameEntries nodes (moded_nodes ino mode nodes) n
+  pub moded_entries : (n : ℕ) → HasStanding grants lib n → SameEntries nodes (moded_nodes ino mode nodes) n
   moded_entries n s m =
       elim (cases_eq m ino) [
         | inl is ↦
@@ -295,11 +300,12 @@ module _ (nodes : Nodes) (grants : List Standing) (lib : ℕ) (sizes : Sizes) (r
         | inr d ↦ ap (entry_of_node n) (moded_other m d)
       ]
 
-  moded_agrees : Agrees sizes root lent (moded_nodes ino mode nodes)
-  moded_agrees =
-      agrees_on nodes (moded_nodes ino mode nodes) sizes root lent
-      (ap (option_map rights_of) (moded_other 1 (λ e. not_root (sym e))) ∙ a.root_is)
-      (λ f i. moded_spares f.ino (stand.files f i)) (λ f i. moded_entries f.ino (stand.files f i)) (λ h i. moded_spares h.ino (stand.holds h i)) a
+  module _ (sizes : Sizes) (root : Rights) (lent : Leases) (stand : AllStand grants lib lent) (a : Agrees sizes root lent nodes) (not_root : ino ≡ 1 → ⊥) where
+    moded_agrees : Agrees sizes root lent (moded_nodes ino mode nodes)
+    moded_agrees =
+        agrees_on nodes (moded_nodes ino mode nodes) sizes root lent
+        (ap (option_map rights_of) (moded_other 1 (λ e. not_root (sym e))) ∙ a.root_is)
+        (λ f i. moded_spares f.ino (stand.files f i)) (λ f i. moded_entries f.ino (stand.files f i)) (λ h i. moded_spares h.ino (stand.holds h i)) a
 
 pub agrees_is_stable : AgreesIsStable
 agrees_is_stable libs p (Grant by ino kind answer) lib sizes root lent t no_hold legal other stand a = (a, all_stand p (Grant by ino kind answer) lib other lent stand)
@@ -316,8 +322,7 @@ agrees_is_stable libs p (Batch by calls handed) lib sizes root lent t no_hold le
 agrees_is_stable libs p (ModeSet by ino mode (Err fault) call) lib sizes root lent t no_hold legal other stand a =
     (a, all_stand p (ModeSet by ino mode (Err fault) call) lib other lent stand)
 agrees_is_stable libs p (ModeSet by ino mode (Ok done) call) lib sizes root lent t no_hold legal other stand a = (
-  moded_agrees p.nodes p.grants lib sizes root lent ino mode stand a
-      (owner_not_root (creds_in libs by.0) ino (node_at p.nodes ino) legal.0.0) legal.0.2 legal.0.3,
+  moded_agrees p.nodes p.grants lib ino mode legal.0.2 legal.0.3 sizes root lent stand a (owner_not_root (creds_in libs by.0) ino (node_at p.nodes ino) legal.0.0),
   all_stand p (ModeSet by ino mode (Ok done) call) lib other lent stand,
 )
 

@@ -1,7 +1,7 @@
 -- What a settle comes to, and that the history allows it.
-use Rattle.std.proofs.Common.{◌≡◌, ℕ, true, false, not, ◌&&◌, eqb, sym, refl, ap, ◌∙◌, subst, inl, inr}
-use Rattle.std.specs.Prelude.{map}
-use Rattle.std.proofs.lemmas.Bool.{false_from_ne_true, and_parts, eqb-true, eq-eqb, false≢true, not_from_true}
+use Rattle.std.proofs.Common.{◌≡◌, ℕ, List, arith, true, false, not, ◌&&◌, eqb, sym, refl, ap, ◌∙◌, subst, inl, inr}
+use Rattle.std.specs.Prelude.{None, is_some, map}
+use Rattle.std.proofs.lemmas.Bool.{cases_eq, false_from_ne_true, and_parts, eqb-true, eq-eqb, false≢true, not_from_true}
 use Rattle.trio_rights.specs.declared.rights.Creds.{Creds}
 use Rattle.trio_nodes.specs.declared.grant.GrantKind.{GrantKind}
 use Rattle.trio_nodes.specs.declared.grant.GrantKind.TheVariants.{Read, Write, Hold}
@@ -15,7 +15,16 @@ use Rattle.trio_laws.proofs.judgement.Taking.{fit, sound}
 use Rattle.trio_state.specs.Given.{HasGrant}
 use Rattle.trio_state.specs.State.{OpenGrant, State, settled, creds_of}
 use Rattle.trio_nodes.specs.GrantKinds.{is_read}
-use Rattle.trio_desk.specs.Ready.{bundle_of}
+use Rattle.trio_desk.specs.Call.{DeskSeen}
+use Rattle.trio_desk.specs.Out.{Parcel}
+use Rattle.trio_desk.specs.Ready.{Ready, bundle_of}
+use Rattle.trio_lease.specs.Shown.{Shown}
+use Rattle.trio_nodes.specs.declared.call.Done.{Done}
+use Rattle.trio_onetree.proofs.Lengths.{IsNumbered, batch_length}
+use Rattle.trio_tables.proofs.OutLemmas.{within_some}
+use Rattle.trio_laws.specs.history.Entries.{Beside}
+use Rattle.trio_laws.proofs.history.Grows.{history_grows}
+use Rattle.trio_laws.proofs.history.WithNode.{nodes_long, nodes_same}
 use Rattle.trio_state.specs.Step.{Step, Settle, Settled, NoMemory}
 use Rattle.trio_layout.specs.Accept.{is_accepted, next}
 use Rattle.trio_state.specs.Bundles.{Ends}
@@ -28,7 +37,7 @@ use Rattle.trio_nodes.specs.After.{batch_nodes}
 use Rattle.trio_nodes.specs.Legal.{SparesOthers, KeepsRights, LegalCalls}
 use Rattle.trio_laws.specs.history.Stands.{nodes_of, standing_of}
 use Rattle.trio_desk.specs.Among.{IsForeign}
-use Rattle.trio_laws.specs.session.Settles.{SettleEndsInCalls, ReadyIsLegal, PlacesStay}
+use Rattle.trio_laws.specs.session.Settles.{IsMoment, SettleEndsInCalls, SettleIsRecorded, ReadyIsLegal, PlacesStay}
 use Rattle.trio_laws.proofs.history.StandsTree.{states_are_trees}
 use Rattle.trio_lists.proofs.Filters.{list_any-In, list_any-map}
 use Rattle.trio_lists.proofs.Members.{map-In}
@@ -40,11 +49,30 @@ settled_end : (s s' : State) (lib : ℕ) (b : Bundle) → Step s (Settle lib b) 
 settled_end s s' lib b (inl d) = (d.2, d.3)
 settled_end s s' lib b (inr n) = absurd (let wrong : Settled ≡ NoMemory = n.1 in cc)
 
+-- each file that the calls make has one of the numbers that there are
+numbered : (s : State) (desk : DeskSeen) (b : Parcel) (back : List Shown) (calls : List Done) → IsMoment s desk b back → Ready desk b back calls → (d : Done) → In d calls → IsNumbered (nodes_of s) d
+numbered s desk b back calls m ready d i =
+    elim (cases_eq d.made 0) [
+      | inl none ↦ inl none
+      | inr made ↦
+          let out = m.judgeable.given.numbers d.made (ready.made d i made) in
+          let below = within_some s.numbers_out d.made (ap is_some out) in
+          let places = m.judgeable.kept.numbers_placed in
+          let long = nodes_long s in
+          inr (omega (arith, below, places, long))
+    ]
+
 pub settle_ends_in_calls : SettleEndsInCalls
-settle_ends_in_calls s s' library b back calls m ready step n =
-    let lib : ℕ = library.desk.lib.0 in
+settle_ends_in_calls s s' desk b back calls m ready step =
+    let lib : ℕ = desk.lib.0 in
     let e = settled_end s s' lib (bundle_of b) step in
-    accepted_is_shown s s' lib (bundle_of b) m.judgeable e.0 e.1 n ∙ sym ((shown_then s library b back calls m ready).each n)
+    let after : Nodes = batch_nodes desk.creds calls (nodes_of s) in
+    let long = nodes_long s in
+    let long' = nodes_long s' in
+    let many : s'.home.core.inodes ≡ s.home.core.inodes = ap (λ (i : Image). i.core.inodes) e.1.settles in
+    let same = batch_length (nodes_of s) desk.creds calls (states_are_trees s m.judgeable.kept) (replies_then s desk b back calls m ready) (numbered s desk b back calls m ready) in
+    nodes_same (nodes_of s') after (omega (arith, long, long', many, same))
+    (λ n. accepted_is_shown s s' lib (bundle_of b) m.judgeable e.0 e.1 n ∙ sym ((shown_then s desk b back calls m ready).each n))
 
 read_is : (k : GrantKind) → is_read k ≡ true → k ≡ Read
 read_is Read e = refl
@@ -69,14 +97,14 @@ module _ (s : State) (lib : ℕ) (b : Bundle) (j : IsJudgeable s lib b) where
       )
 
 pub ready_is_legal : ReadyIsLegal
-ready_is_legal s library b back calls m ready none =
-    let lib : ℕ = library.desk.lib.0 in
+ready_is_legal s desk b back calls m ready none =
+    let lib : ℕ = desk.lib.0 in
     let after : Creds → Nodes = λ c. batch_nodes c calls (nodes_of s) in
     let c : Case = case_of (settled s) (creds_of s lib) (bundle_of b) in
-    let t = shown_spares c (nodes_of s) (after library.desk.creds) (states_are_trees s m.judgeable.kept) (tree_then s library b back calls m ready) (among s lib (bundle_of b) m.judgeable) (shown_then s library b back calls m ready) in
-    let spares : SparesOthers (map standing_of s.open_grants) lib (nodes_of s) (after library.desk.creds) = λ n x e o. t.1 n x e (foreign_by s lib (bundle_of b) m.judgeable n o) in
+    let t = shown_spares c (nodes_of s) (after desk.creds) (states_are_trees s m.judgeable.kept) (tree_then s desk b back calls m ready) (among s lib (bundle_of b) m.judgeable) (shown_then s desk b back calls m ready) in
+    let spares : SparesOthers (map standing_of s.open_grants) lib (nodes_of s) (after desk.creds) = λ n x e o. t.1 n x e (foreign_by s lib (bundle_of b) m.judgeable n o) in
     record {
-      done = subst (λ k. LegalCalls k (nodes_of s) calls) m.creds (replies_then s library b back calls m ready);
+      done = subst (λ k. LegalCalls k (nodes_of s) calls) m.creds (replies_then s desk b back calls m ready);
       reads = λ g i mine.
           let h = map-In standing_of g s.open_grants i in
           ap (λ (x : Standing). is_read x.kind) h.2
@@ -84,6 +112,16 @@ ready_is_legal s library b back calls m ready none =
       rights = subst (λ k. KeepsRights (nodes_of s) (after k)) m.creds t.0;
       others = subst (λ k. SparesOthers (map standing_of s.open_grants) lib (nodes_of s) (after k)) m.creds spares;
     }
+
+pub settle_is_recorded : SettleIsRecorded
+settle_is_recorded r s' desk b back calls h i mine m ready none is marked step =
+    let s : State = r.state in
+    let lib : ℕ = desk.lib.0 in
+    let x : Beside = record { handed = h; calls = calls; call = None } in
+    let legal : LegalCalls (creds_of s lib) (nodes_of s) calls = subst (λ k. LegalCalls k (nodes_of s) calls) m.creds (replies_then s desk b back calls m ready) in
+    let ends : nodes_of s' ≡ batch_nodes (creds_of s lib) calls (nodes_of s) =
+    settle_ends_in_calls s s' desk b back calls m ready step ∙ ap (λ k. batch_nodes k calls (nodes_of s)) m.creds in
+    history_grows r x (Settle lib (bundle_of b)) Settled s' i mine (m.judgeable.given, none) step (is, marked, legal, ends)
 
 pub places_stay : PlacesStay
 places_stay s s' lib b j acc ends directory n r foreign row parent =

@@ -96,7 +96,7 @@ module _ (c : Case) (nodes nodes' : Nodes) (tree : IsTree nodes) (tree' : IsTree
       ]
 
   module _ (n : ℕ) (x : Node) (e : node_at nodes n ≡ Some x) (r : Row) (t : row_in c.rows n ≡ Some r) (same : r.parent ≡ x.parent) (foreign : IsForeign c n) where
-    no_bytes : bytes_now c n ≡ None
+    pub no_bytes : bytes_now c n ≡ None
     no_bytes = by (find (λ (m : Met). eqb m.ino n) (judged_files c)) refl
       where
         by : (o : Option Met) → find (λ (m : Met). eqb m.ino n) (judged_files c) ≡ o → option_and_then (λ (m : Met). bytes_read (bundle_core c) m.kind (file_within (bundle_core c) m)) o ≡ None

@@ -47,7 +47,7 @@ use Rattle.trio_laws.proofs.session.Others.{agrees_is_stable, raw_agrees}
 
 module _ (s : State) (k : Kept s) where
   -- a library with a hold has a write grant on the directory
-  parent_grant : (g : OpenGrant) (r : Row) → In g s.open_grants → g.kind ≡ Hold → row_at s.home g.ino ≡ Some r
+  pub parent_grant : (g : OpenGrant) (r : Row) → In g s.open_grants → g.kind ≡ Hold → row_at s.home g.ino ≡ Some r
       → (p : OpenGrant) × In p s.open_grants × (p.lib ≡ g.lib) × (p.ino ≡ r.parent) × (p.kind ≡ Write)
   parent_grant g r i kind row =
       let has : has_parent_grant s g.lib (Some r) ≡ true = ap (has_parent_grant s g.lib) (sym row) ∙ (k.held g i kind).0 in
@@ -57,7 +57,7 @@ module _ (s : State) (k : Kept s) where
       (p.0, p.1, eqb-true p.0.lib g.lib b.0, eqb-true p.0.ino r.parent b.1, write_is p.0.kind a.1)
 
   -- the file of an open grant has a node
-  live_node : (g : OpenGrant) → In g s.open_grants → (r : Row) × (row_at s.home g.ino ≡ Some r) × (node_at (nodes_of s) g.ino ≡ Some (node_of (settled s) g.ino (writer_of s g.ino) r))
+  pub live_node : (g : OpenGrant) → In g s.open_grants → (r : Row) × (row_at s.home g.ino ≡ Some r) × (node_at (nodes_of s) g.ino ≡ Some (node_of (settled s) g.ino (writer_of s g.ino) r))
   live_node g i =
       let r = some_of (row_at s.home g.ino) (k.live g i) in
       (r.0, r.1, node_is s k g.ino ∙ ap (node_by (settled s) g.ino (writer_of s g.ino)) r.1)

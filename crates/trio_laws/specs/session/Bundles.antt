@@ -1,5 +1,5 @@
 -- What follows where a bundle shows one tree in the place of another.
-use Rattle.std.specs.Prelude.{◌≡◌, ℕ, Some, IsTrue}
+use Rattle.std.specs.Prelude.{◌≡◌, ℕ, ◌+◌, length, Some, IsTrue}
 use Rattle.trio_lists.specs.Lists.{is_among}
 use Rattle.trio_layout.specs.Survey.{numbers}
 use Rattle.trio_layout.specs.Case.{Case}
@@ -14,11 +14,11 @@ use Rattle.trio_desk.specs.Shows.{Shows, naming_of}
 use Rattle.trio_desk.specs.Among.{IsAmong, IsForeign}
 use Rattle.trio_desk.specs.Edits.{listed_now}
 
--- It meets rule I3.
+-- It meets rule I3, where there is a row for each number.
 abbrev pub EdgesFollow : Type 0
 EdgesFollow =
     (c : Case) (nodes nodes' : Nodes) → IsTree nodes → IsTree nodes' → IsAmong c nodes → Shows c nodes nodes'
-    → IsTrue (meets_edges (listing c) c.rows)
+    → length c.rows ≡ c.inodes + 1 → IsTrue (meets_edges (listing c) c.rows)
 
 -- Every file that stays keeps its kind and rights, and one that is none of the bundle's keeps all but its name, its content too.
 abbrev pub ShownSpares : Type 0

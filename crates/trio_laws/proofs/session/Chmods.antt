@@ -1,0 +1,225 @@
+-- A chmod whose walk comes to a file is done for the owner or uid 0, and denied to all others; so it is replied as a change of mode is
+-- answered.
+use Rattle.std.proofs.Common.{◌≡◌, ◌≢◌, ℕ, Bool, true, false, not, ◌==◌, ◌&&◌, ◌||◌, List, [], Option, Some, None, Result, Ok, Err, sym, refl, ap, ◌∙◌, subst, inl, inr}
+use Rattle.std.specs.Prelude.{if◌then◌else◌}
+use Rattle.std.specs.Option.{ok_or, option_map}
+use Rattle.std.proofs.lemmas.Bool.{ne_eqb, false≢true}
+use Rattle.trio_rights.specs.declared.rights.Creds.{Creds}
+use Rattle.trio_rights.specs.declared.rights.Mode.{Mode}
+use Rattle.trio_rights.specs.declared.rights.Need.{Need}
+use Rattle.trio_nodes.specs.declared.node.Node.{Node}
+use Rattle.trio_nodes.specs.declared.call.Answer.TheVariants.{Done}
+use Rattle.trio_nodes.specs.declared.call.Call.{Call}
+use Rattle.trio_nodes.specs.declared.call.Call.TheVariants.{Mkdir, Create, Write, Read, Truncate, Unlink, Rmdir, Rename, List as ListNames, Stat, Chmod}
+use Rattle.trio_nodes.specs.declared.call.Reply.{Reply}
+use Rattle.trio_nodes.specs.declared.call.Reply.TheVariants.{Ok as Replied, NotFound, NotDir, Denied}
+use Rattle.trio_nodes.specs.Apply.{Applied, Apply, applied, done, listed_in, of_node, reached, refused}
+use Rattle.trio_nodes.specs.After.{moded_nodes, moded_node}
+use Rattle.trio_nodes.specs.Nodes.{Nodes, find_named, node_at, with_node}
+use Rattle.trio_nodes.specs.Tree.{IsTree}
+use Rattle.trio_nodes.specs.Walk.{Path, and_then, dir_of, enter, enter_node, is_root, is_directory, lacks, name_of, need_at, walk, walk_into}
+use Rattle.trio_onetree.proofs.Children.{Child, find_named-Child}
+use Rattle.trio_nodes.specs.Legal.{LegalChmod, is_owner}
+use Rattle.trio_nodes.specs.declared.answers.ModeFault.{ModeFault}
+use Rattle.trio_nodes.specs.declared.answers.ModeFault.TheVariants.{NotLive, NotOwner, BadMode, Busy, NoMemory as OutOfMemory}
+use Rattle.trio_lease.specs.Shown.{Shown}
+use Rattle.trio_desk.specs.Agrees.{Agrees}
+use Rattle.trio_desk.specs.Call.{DeskSeen}
+use Rattle.trio_desk.specs.Ready.{Moded, TellsChmod, chmod_walk, moded_in}
+use Rattle.trio_state.specs.Kept.{Kept}
+use Rattle.trio_state.specs.State.{State, creds_of}
+use Rattle.trio_state.specs.Step.{CtlAnswer, ModeSet, NoMemory, NotModeSet, SetMode, Step}
+use Rattle.trio_laws.specs.history.Entries.{Beside, mode_said}
+use Rattle.trio_laws.specs.history.Recorded.{CallFits}
+use Rattle.trio_laws.specs.history.Stands.{nodes_of, past_of}
+use Rattle.trio_laws.proofs.history.Extends.{Extends}
+use Rattle.trio_laws.proofs.history.ModeStep.{mode_extends}
+use Rattle.trio_laws.proofs.history.StandsTree.{states_are_trees}
+
+-- ---- the directory to which a walk comes is there
+
+abbrev Enters : Nodes → ℕ → Type 0
+Enters nodes dir = (y : Node) × (node_at nodes dir ≡ Some y)
+
+enters_node : (creds : Creds) (need : Need) (nodes : Nodes) (n dir : ℕ) (o : Option Node) → node_at nodes n ≡ o → enter_node creds need n o ≡ Ok dir → Enters nodes dir
+enters_node creds need nodes n dir None at e = absurd cc
+enters_node creds need nodes n dir (Some x) at e = by (not (is_directory x.kind)) (lacks creds need x) e
+  where
+    by : (a b : Bool) → (if a then Err NotDir else (if b then Err Denied else Ok n)) ≡ Ok dir → Enters nodes dir
+    by true b e = absurd cc
+    by false true e = absurd cc
+    by false false e = let same : n ≡ dir = cc e in subst (Enters nodes) same (x, at)
+
+enters : (creds : Creds) (need : Need) (nodes : Nodes) (w : Result ℕ Reply) (dir : ℕ) → and_then w (enter nodes creds need) ≡ Ok dir → Enters nodes dir
+enters creds need nodes (Err r) dir e = absurd cc
+enters creds need nodes (Ok n) dir e = enters_node creds need nodes n dir (node_at nodes n) refl e
+
+-- ---- a chmod
+
+abbrev as_moded : Mode → ℕ → Moded
+as_moded m n = record { ino = n; mode = m.0 }
+
+module _ (nodes : Nodes) (creds : Creds) (ino mode : ℕ) where
+  -- what the call comes to where the node is there
+  abbrev outcome : Bool → Node → Applied
+  outcome mine x = if not mine then refused nodes Denied else done (with_node nodes ino (Some (record x { mode = record { 0 = mode } }))) Done
+
+  abbrev owns : Node → Bool
+  owns x = creds.uid == x.uid || creds.uid == 0
+
+  abbrev on_node : Mode → ℕ → Node → Applied
+  on_node m n x = if not (creds.uid == x.uid || creds.uid == 0) then refused nodes Denied else done (with_node nodes n (Some (record x { mode = m }))) Done
+
+  listed : (path : Path) (m : Mode) (dir : ℕ) (o : Option ℕ) (x : Node) → node_at nodes ino ≡ Some x → option_map (as_moded m) o ≡ Some (record { ino = ino; mode = mode })
+      → reached nodes (ok_or o NotFound) (λ n. of_node nodes (node_at nodes n) (on_node m n)) ≡ outcome (owns x) x
+  listed path m dir None x at e = absurd cc
+  listed path m dir (Some n) x at e =
+      let got : Moded = as_moded m n in
+      let is : Some got ≡ Some (record { ino = ino; mode = mode }) = e in
+      let both : got ≡ record { ino = ino; mode = mode } = cc is in
+      let number : n ≡ ino = ap (λ (w : Moded). w.ino) both in
+      let bits : m.0 ≡ mode = ap (λ (w : Moded). w.mode) both in
+      ap (λ k. of_node nodes (node_at nodes k) (on_node m k)) number
+      ∙ ap (λ o. of_node nodes o (on_node m ino)) at
+      ∙ ap (λ k. on_node (record { 0 = k }) ino x) bits
+
+  walked : (path : Path) (m : Mode) (root : Bool) (w : Result ℕ Reply) (x : Node) → node_at nodes ino ≡ Some x
+      → (if root then None else moded_in nodes (name_of path) m w) ≡ Some (record { ino = ino; mode = mode })
+      → (if root then refused nodes Denied else reached nodes w (λ dir. listed_in nodes dir path (on_node m))) ≡ outcome (owns x) x
+  walked path m true w x at e = absurd cc
+  walked path m false (Err r) x at e = absurd cc
+  walked path m false (Ok dir) x at e = listed path m dir (find_named nodes dir (name_of path)) x at e
+
+  chmod_is : (call : Call) (x : Node) → node_at nodes ino ≡ Some x → chmod_walk nodes creds call ≡ Some (record { ino = ino; mode = mode }) → applied nodes creds call 0 ≡ outcome (owns x) x
+  chmod_is (Chmod path m) x at e = walked path m (is_root path) (walk_into nodes creds [] (dir_of path)) x at e
+  chmod_is (Mkdir path m) x at e = absurd cc
+  chmod_is (Create path m) x at e = absurd cc
+  chmod_is (Write path place bytes) x at e = absurd cc
+  chmod_is (Read path place len) x at e = absurd cc
+  chmod_is (Truncate path size) x at e = absurd cc
+  chmod_is (Unlink path) x at e = absurd cc
+  chmod_is (Rmdir path) x at e = absurd cc
+  chmod_is (Rename from to) x at e = absurd cc
+  chmod_is (ListNames path from) x at e = absurd cc
+  chmod_is (Stat path) x at e = absurd cc
+
+  -- ---- a walk comes to a file, and not to the root
+
+  -- the file is there, and another than the root
+  record IsFile : Type 0 where
+    node : Node
+    at : node_at nodes ino ≡ Some node
+    apart : ino ≢ 1
+
+  file_in : (name : List ℕ) (m : Mode) (w : Result ℕ Reply) → IsTree nodes → ((dir : ℕ) → w ≡ Ok dir → Enters nodes dir)
+      → moded_in nodes name m w ≡ Some (record { ino = ino; mode = mode }) → IsFile
+  file_in name m (Err r) tree there e = absurd cc
+  file_in name m (Ok dir) tree there e = by (find_named nodes dir name) refl e
+    where
+      by : (o : Option ℕ) → find_named nodes dir name ≡ o → option_map (as_moded m) o ≡ Some (record { ino = ino; mode = mode }) → IsFile
+      by None f e = absurd cc
+      by (Some n) f e =
+          let got : Moded = as_moded m n in
+          let is : Some got ≡ Some (record { ino = ino; mode = mode }) = e in
+          let both : got ≡ record { ino = ino; mode = mode } = cc is in
+          let number : n ≡ ino = ap (λ (w : Moded). w.ino) both in
+          let c = find_named-Child nodes dir name n f in
+          let r = tree.root in
+          let at : node_at nodes ino ≡ Some c.node = ap (node_at nodes) (sym number) ∙ c.at in
+          record {
+            node = c.node;
+            at = at;
+            apart = λ one.
+                let same : Some c.node ≡ Some r.0 = sym at ∙ ap (node_at nodes) one ∙ r.1 in
+                let node : c.node ≡ r.0 = cc same in
+                let zero : dir ≡ 0 = sym c.parent ∙ ap (λ (x : Node). x.parent) node ∙ r.3 in
+                let d = there dir refl in
+                let wrong : None ≡ Some d.0 = sym tree.none ∙ ap (node_at nodes) (sym zero) ∙ d.1 in
+                cc wrong;
+          }
+
+  file_by : (path : Path) (m : Mode) (root : Bool) → IsTree nodes → (if root then None else moded_in nodes (name_of path) m (walk_into nodes creds [] (dir_of path))) ≡ Some (record { ino = ino; mode = mode }) → IsFile
+  file_by path m true tree e = absurd cc
+  file_by path m false tree e =
+      file_in (name_of path) m (walk_into nodes creds [] (dir_of path)) tree (λ dir w. enters creds (need_at [] (dir_of path)) nodes (walk nodes creds [] (dir_of path)) dir w) e
+
+  file_of : (call : Call) → IsTree nodes → chmod_walk nodes creds call ≡ Some (record { ino = ino; mode = mode }) → IsFile
+  file_of (Chmod path m) tree e = file_by path m (is_root path) tree e
+  file_of (Mkdir path m) tree e = absurd cc
+  file_of (Create path m) tree e = absurd cc
+  file_of (Write path place bytes) tree e = absurd cc
+  file_of (Read path place len) tree e = absurd cc
+  file_of (Truncate path size) tree e = absurd cc
+  file_of (Unlink path) tree e = absurd cc
+  file_of (Rmdir path) tree e = absurd cc
+  file_of (Rename from to) tree e = absurd cc
+  file_of (ListNames path from) tree e = absurd cc
+  file_of (Stat path) tree e = absurd cc
+
+  -- ---- as the answer says
+
+  owner_owns : (a b c : Bool) → (not a && (b || c)) ≡ true → (c || b) ≡ true
+  owner_owns true b c e = absurd (false≢true e)
+  owner_owns false b true e = refl
+  owner_owns false true false e = refl
+  owner_owns false false false e = absurd (false≢true e)
+
+  other_owns : (a b c : Bool) → a ≡ false → (not a && (b || c)) ≡ false → (c || b) ≡ false
+  other_owns true b c n e = absurd (false≢true (sym n))
+  other_owns false true c n e = absurd (false≢true (sym e))
+  other_owns false false true n e = absurd (false≢true (sym e))
+  other_owns false false false n e = refl
+
+  chmod_done : (call : Call) → chmod_walk nodes creds call ≡ Some (record { ino = ino; mode = mode }) → is_owner creds ino (node_at nodes ino) ≡ true → Apply nodes creds call 0 (Replied Done) (moded_nodes ino mode nodes)
+  chmod_done call w owner = by (node_at nodes ino) refl owner
+    where
+      by : (o : Option Node) → node_at nodes ino ≡ o → is_owner creds ino o ≡ true → Apply nodes creds call 0 (Replied Done) (moded_nodes ino mode nodes)
+      by None at own = absurd (false≢true own)
+      by (Some x) at own =
+          let mine : owns x ≡ true = owner_owns (ino == 1) (creds.uid == 0) (creds.uid == x.uid) own in
+          let is = chmod_is call x at w ∙ ap (λ t. outcome t x) mine in
+          inl (ap (λ (a : Applied). a.reply) (sym is), ap (λ o. with_node nodes ino (moded_node mode o)) at ∙ ap (λ (a : Applied). a.nodes) (sym is))
+
+  chmod_denied : (call : Call) → IsTree nodes → chmod_walk nodes creds call ≡ Some (record { ino = ino; mode = mode }) → is_owner creds ino (node_at nodes ino) ≡ false → Apply nodes creds call 0 Denied nodes
+  chmod_denied call tree w other =
+      let f = file_of call tree w in
+      let apart : (ino == 1) ≡ false = ne_eqb ino 1 f.apart in
+      let own : (not (ino == 1) && (creds.uid == 0 || creds.uid == f.node.uid)) ≡ false = sym (ap (is_owner creds ino) f.at) ∙ other in
+      let mine : owns f.node ≡ false = other_owns (ino == 1) (creds.uid == 0) (creds.uid == f.node.uid) apart own in
+      let is = chmod_is call f.node f.at w ∙ ap (λ t. outcome t f.node) mine in
+      inl (ap (λ (a : Applied). a.reply) (sym is), ap (λ (a : Applied). a.nodes) (sym is))
+
+-- ---- a call that is told beside a change of mode
+
+-- nothing is told beside it
+abbrev silent : Beside
+silent = record { handed = record { writes = []; holds = []; pages = []; numbers = [] }; calls = []; call = None }
+
+module _ (s : State) (k : Kept s) (lib ino mode : ℕ) where
+  owner_done : (answer : CtlAnswer) (s' : State) → Step s (SetMode lib ino mode) answer s' → answer ≡ ModeSet → is_owner (creds_of s lib) ino (node_at (nodes_of s) ino) ≡ true
+  owner_done answer s' (inr none) e = let wrong : ModeSet ≡ NoMemory = sym e ∙ none.1 in absurd (cc wrong)
+  owner_done answer s' (inl d) e = (subst (λ a. Extends s silent (SetMode lib ino mode) a s') e (mode_extends s k lib ino mode silent answer s' d (λ said e. tt))).legal.0.0
+
+  owner_denied : (answer : CtlAnswer) (s' : State) → Step s (SetMode lib ino mode) answer s' → answer ≡ NotModeSet NotOwner → is_owner (creds_of s lib) ino (node_at (nodes_of s) ino) ≡ false
+  owner_denied answer s' (inr none) e = let wrong : NotModeSet NotOwner ≡ NoMemory = sym e ∙ none.1 in absurd (cc wrong)
+  owner_denied answer s' (inl d) e = (subst (λ a. Extends s silent (SetMode lib ino mode) a s') e (mode_extends s k lib ino mode silent answer s' d (λ said e. tt))).legal.0
+
+  -- a call that is the change, by the walk that the leases show, is replied as the answer says
+  pub call_fits : (desk : DeskSeen) (back : List Shown) (call : Option Call) (answer : CtlAnswer) (s' : State) → Step s (SetMode lib ino mode) answer s' → desk.creds ≡ creds_of s lib
+      → Agrees desk.sizes desk.root (record { files = back; holds = [] }) (nodes_of s) → TellsChmod desk back ino mode call → CallFits s lib ino mode call answer
+  call_fits desk back None answer s' step same agrees tells = λ said e. tt
+  call_fits desk back (Some call) answer s' step same agrees tells = λ said e. by said e
+    where
+      tree : IsTree (nodes_of s)
+      tree = states_are_trees s k
+
+      w : chmod_walk (nodes_of s) (creds_of s lib) call ≡ Some (record { ino = ino; mode = mode })
+      w = subst (λ c. chmod_walk (nodes_of s) c call ≡ Some (record { ino = ino; mode = mode })) same (tells (nodes_of s) tree agrees)
+
+      by : (said : Result (Unit {0}) ModeFault) → answer ≡ mode_said said → LegalChmod (past_of s) (creds_of s lib) ino mode said (Some call)
+      by (Ok done) e = chmod_done (nodes_of s) (creds_of s lib) ino mode call w (owner_done answer s' step e)
+      by (Err NotOwner) e = chmod_denied (nodes_of s) (creds_of s lib) ino mode call tree w (owner_denied answer s' step e)
+      by (Err NotLive) e = tt
+      by (Err BadMode) e = tt
+      by (Err (Busy holder)) e = tt
+      by (Err OutOfMemory) e = tt

@@ -1,0 +1,261 @@
+-- How a walk and the calls on a regular file are decided by what a session sees.
+use Rattle.std.proofs.Common.{◌≡◌, ℕ, Bool, true, false, cond, not, ◌&&◌, ◌+◌, [], ◌∷◌, ◌++◌, length, take, drop, Some, None, Result, Ok, Err, sym, refl, ap, ◌∙◌, subst, inl, inr, ◌⊎◌}
+use Rattle.std.specs.Prelude.{MatchBool, nat_lt}
+use Rattle.std.specs.Option.{ok_or, option_map}
+use Rattle.std.proofs.lemmas.Bool.{false≢true}
+use Rattle.trio_rights.specs.declared.kind.Kind.TheVariants.{Regular}
+use Rattle.trio_rights.specs.declared.rights.Creds.{Creds}
+use Rattle.trio_rights.specs.declared.rights.Need.TheVariants.{Read as ToRead, Write as ToWrite}
+use Rattle.trio_nodes.specs.declared.node.Node.{Node}
+use Rattle.trio_nodes.specs.declared.call.Answer.TheVariants.{Done as IsDone, Count, Bytes, Stat as IsStat}
+use Rattle.trio_nodes.specs.declared.call.Call.{Call}
+use Rattle.trio_nodes.specs.declared.call.Call.TheVariants.{Mkdir, Create, Write, Read, Truncate, Unlink, Rmdir, Rename, List as ListNames, Stat, Chmod}
+use Rattle.trio_nodes.specs.declared.call.Done.{Done}
+use Rattle.trio_nodes.specs.declared.call.Reply.{Reply}
+use Rattle.trio_nodes.specs.declared.call.Reply.TheVariants.{NotFound, NotDir, IsDir, Denied, TooLarge}
+use Rattle.trio_nodes.specs.Nodes.{Nodes, node_at, count_in, find_named, with_node}
+use Rattle.trio_nodes.specs.Walk.{Path, and_then, enter_node, is_directory, lacks, need_at, walk, walk_from}
+use Rattle.trio_nodes.specs.Apply.{Applied, LacksRoom, applied, at_file, done, is_done, largest_size, makes_file, of_node, put_at, reached, refused, resized, size_of, wants_pages}
+use Rattle.trio_nodes.specs.After.{call_nodes, lacks_room}
+use Rattle.trio_nodes.specs.Legal.{MadeFits}
+use Rattle.trio_desk.specs.Contents.{Rights, rights_of}
+use Rattle.trio_desk.specs.Call.{DeskSeen}
+use Rattle.trio_desk.specs.Edits.{DoesCall}
+use Rattle.trio_laws.specs.session.FileEdits.{node_with}
+use Rattle.trio_laws.specs.session.FileCalls.{DoneByBytes, EntersBy, RefusedByCheck, RefusedByWalk, RefusedForRoom, StatsDirectory, WalksBy, answer_of, changed_by, enters, file_path, gives, refusal}
+use Rattle.trio_lists.proofs.Filters.{some_one}
+use Rattle.trio_laws.proofs.session.LentNodes.{mapped}
+
+-- ---- walks
+
+pub enters_by : EntersBy
+enters_by nodes creds need n r e =
+    let x = mapped rights_of (node_at nodes n) r e in
+    ap (enter_node creds need n) x.1 ∙ ap (enters creds need n) x.2
+
+pub walks_by : WalksBy
+walks_by nodes creds writes passed at name names r found e f =
+    ap (λ q. and_then q next) (enters_by nodes creds (need_at writes passed) at r e) ∙ by (not (is_directory r.kind)) (not (gives creds (need_at writes passed) r))
+  where
+    on : ℕ → Result ℕ Reply
+    on child = walk_from nodes creds writes (passed ++ name ∷ []) child names
+
+    next : ℕ → Result ℕ Reply
+    next dir = and_then (ok_or (find_named nodes dir name) NotFound) (λ child. walk_from nodes creds writes (passed ++ name ∷ []) child names)
+
+    by : (t v : Bool) → and_then (cond t (Err NotDir) (cond v (Err Denied) (Ok at))) next ≡ and_then (cond t (Err NotDir) (cond v (Err Denied) (Ok at))) (λ dir. and_then (ok_or found NotFound) (λ child. walk_from nodes creds writes (passed ++ name ∷ []) child names))
+    by true v = refl
+    by false true = refl
+    by false false = ap (λ q. and_then (ok_or q NotFound) (λ child. walk_from nodes creds writes (passed ++ name ∷ []) child names)) f
+
+-- ---- calls
+
+-- what a call on a file makes of the file to which its walk came
+abbrev step : Nodes → Creds → Call → ℕ → Node → Applied
+step nodes creds (Write path at bytes) n x =
+    cond (is_directory x.kind) (refused nodes IsDir)
+    (cond (lacks creds ToWrite x) (refused nodes Denied)
+    (cond (nat_lt largest_size (at + length bytes)) (refused nodes TooLarge)
+    (done (with_node nodes n (Some (record x { bytes = put_at at bytes x.bytes }))) (Count (length bytes)))))
+step nodes creds (Read path at len) n x =
+    cond (is_directory x.kind) (refused nodes IsDir) (cond (lacks creds ToRead x) (refused nodes Denied) (done nodes (Bytes (take len (drop at x.bytes)))))
+step nodes creds (Truncate path size) n x =
+    cond (is_directory x.kind) (refused nodes IsDir)
+    (cond (lacks creds ToWrite x) (refused nodes Denied)
+    (cond (nat_lt largest_size size) (refused nodes TooLarge) (done (with_node nodes n (Some (record x { bytes = resized size x.bytes }))) IsDone)))
+step nodes creds (Stat path) n x = cond (lacks creds ToRead x) (refused nodes Denied) (done nodes (IsStat x.kind x.mode x.uid x.gid (size_of nodes n x)))
+step nodes creds _ n x = refused nodes NotFound
+
+-- a call on a file goes where its walk goes
+goes : (nodes : Nodes) (creds : Creds) (call : Call) (made : ℕ) (path : Path) → file_path call ≡ Some path → applied nodes creds call made ≡ at_file nodes creds path (step nodes creds call)
+goes nodes creds (Write p at bytes) made path e = (let same : p ≡ path = (let t : Some p ≡ Some path = e in cc t) in ap (λ q. at_file nodes creds q (step nodes creds (Write p at bytes))) same)
+goes nodes creds (Read p at len) made path e = (let same : p ≡ path = (let t : Some p ≡ Some path = e in cc t) in ap (λ q. at_file nodes creds q (step nodes creds (Read p at len))) same)
+goes nodes creds (Truncate p size) made path e = (let same : p ≡ path = (let t : Some p ≡ Some path = e in cc t) in ap (λ q. at_file nodes creds q (step nodes creds (Truncate p size))) same)
+goes nodes creds (Stat p) made path e = (let same : p ≡ path = (let t : Some p ≡ Some path = e in cc t) in ap (λ q. at_file nodes creds q (step nodes creds (Stat p))) same)
+goes nodes creds (Mkdir p m) made path e = absurd (let wrong : None ≡ Some path = e in cc wrong)
+goes nodes creds (Create p m) made path e = absurd (let wrong : None ≡ Some path = e in cc wrong)
+goes nodes creds (Unlink p) made path e = absurd (let wrong : None ≡ Some path = e in cc wrong)
+goes nodes creds (Rmdir p) made path e = absurd (let wrong : None ≡ Some path = e in cc wrong)
+goes nodes creds (Rename p q) made path e = absurd (let wrong : None ≡ Some path = e in cc wrong)
+goes nodes creds (ListNames p n) made path e = absurd (let wrong : None ≡ Some path = e in cc wrong)
+goes nodes creds (Chmod p m) made path e = absurd (let wrong : None ≡ Some path = e in cc wrong)
+
+makes_none : (call : Call) (path : Path) → file_path call ≡ Some path → makes_file call ≡ false
+makes_none (Write p at bytes) path e = refl
+makes_none (Read p at len) path e = refl
+makes_none (Truncate p size) path e = refl
+makes_none (Stat p) path e = refl
+makes_none (Unlink p) path e = refl
+makes_none (Rmdir p) path e = refl
+makes_none (Rename p q) path e = refl
+makes_none (ListNames p n) path e = refl
+makes_none (Chmod p m) path e = refl
+makes_none (Mkdir p m) path e = absurd (let wrong : None ≡ Some path = e in cc wrong)
+makes_none (Create p m) path e = absurd (let wrong : None ≡ Some path = e in cc wrong)
+
+module _ (desk : DeskSeen) (d : Done) (nodes : Nodes) (path : Path) (is : file_path d.call ≡ Some path) (none : d.made ≡ 0) where
+  made_fits : MadeFits nodes d
+  made_fits =
+      let P : Bool → Type 0 = λ t. MatchBool t ((node_at nodes d.made ≡ None) × (d.made ≡ 0 → ⊥)) (d.made ≡ 0) in
+      subst P (sym (ap (λ t. t && is_done d.reply) (makes_none d.call path is))) none
+
+  -- the call makes this of the nodes, with this reply
+  does_by : (a : Applied) → applied nodes desk.creds d.call d.made ≡ a → d.reply ≡ a.reply → (lacks_room d.reply ≡ false) ⊎ (a.nodes ≡ nodes) → DoesCall desk d nodes a.nodes
+  does_by a e r room =
+      let after : call_nodes desk.creds nodes d ≡ a.nodes =
+      ap (λ (z : Applied). cond (lacks_room d.reply) nodes z.nodes) e
+      ∙ elim room [ inl t ↦ ap (λ t. cond t nodes a.nodes) t | inr same ↦ by (lacks_room d.reply) same ] in
+      (inl (r ∙ sym (ap (λ (z : Applied). z.reply) e), after ∙ sym (ap (λ (z : Applied). z.nodes) e)), made_fits, after)
+    where
+      by : (t : Bool) → a.nodes ≡ nodes → cond t nodes a.nodes ≡ a.nodes
+      by true s = sym s
+      by false s = refl
+
+  by_walk : walk nodes desk.creds [] path ≡ Err d.reply → DoesCall desk d nodes nodes
+  by_walk w =
+      does_by (refused nodes d.reply)
+      (goes nodes desk.creds d.call d.made path is ∙ ap (λ q. reached nodes q (λ n. of_node nodes (node_at nodes n) (step nodes desk.creds d.call n))) w)
+      refl (inr refl)
+
+  module _ (n : ℕ) (w : walk nodes desk.creds [] path ≡ Ok n) (x : Node) (at : node_at nodes n ≡ Some x) where
+    comes : applied nodes desk.creds d.call d.made ≡ step nodes desk.creds d.call n x
+    comes =
+        goes nodes desk.creds d.call d.made path is
+        ∙ ap (λ q. reached nodes q (λ n. of_node nodes (node_at nodes n) (step nodes desk.creds d.call n))) w
+        ∙ ap (λ q. of_node nodes q (step nodes desk.creds d.call n)) at
+
+-- ---- checks, one after another
+
+module _ (nodes : Nodes) (good : Applied) where
+  first_refuses : (a reply : Reply) (s : Bool) → cond s (Some a) None ≡ Some reply → cond s (refused nodes a) good ≡ refused nodes reply
+  first_refuses a reply true e = ap (refused nodes) (let k : Some a ≡ Some reply = e in cc k)
+  first_refuses a reply false e = absurd (let wrong : None ≡ Some reply = e in cc wrong)
+
+  first_passes : (a : Reply) (s : Bool) → cond s (Some a) None ≡ None → cond s (refused nodes a) good ≡ good
+  first_passes a true e = absurd (let wrong : Some a ≡ None = e in cc wrong)
+  first_passes a false e = refl
+
+  two_refuse : (a b reply : Reply) (s t : Bool) → cond s (Some a) (cond t (Some b) None) ≡ Some reply → cond s (refused nodes a) (cond t (refused nodes b) good) ≡ refused nodes reply
+  two_refuse a b reply true t e = ap (refused nodes) (let k : Some a ≡ Some reply = e in cc k)
+  two_refuse a b reply false t e = first_refuses b reply t e
+
+  two_pass : (a b : Reply) (s t : Bool) → cond s (Some a) (cond t (Some b) None) ≡ None → cond s (refused nodes a) (cond t (refused nodes b) good) ≡ good
+  two_pass a b true t e = absurd (let wrong : Some a ≡ None = e in cc wrong)
+  two_pass a b false t e = first_passes b t e
+
+  three_refuse : (a b c reply : Reply) (s t v : Bool) → cond s (Some a) (cond t (Some b) (cond v (Some c) None)) ≡ Some reply → cond s (refused nodes a) (cond t (refused nodes b) (cond v (refused nodes c) good)) ≡ refused nodes reply
+  three_refuse a b c reply true t v e = ap (refused nodes) (let k : Some a ≡ Some reply = e in cc k)
+  three_refuse a b c reply false t v e = two_refuse b c reply t v e
+
+  three_pass : (a b c : Reply) (s t v : Bool) → cond s (Some a) (cond t (Some b) (cond v (Some c) None)) ≡ None → cond s (refused nodes a) (cond t (refused nodes b) (cond v (refused nodes c) good)) ≡ good
+  three_pass a b c true t v e = absurd (let wrong : Some a ≡ None = e in cc wrong)
+  three_pass a b c false t v e = two_pass b c t v e
+
+-- what refuses at the file, refuses the step
+step_refused : (nodes : Nodes) (creds : Creds) (call : Call) (n : ℕ) (x : Node) (reply : Reply) → refusal creds (rights_of x) call ≡ Some reply → step nodes creds call n x ≡ refused nodes reply
+step_refused nodes creds (Write p at bytes) n x reply e =
+    three_refuse nodes (done (with_node nodes n (Some (record x { bytes = put_at at bytes x.bytes }))) (Count (length bytes))) IsDir Denied TooLarge reply (is_directory x.kind) (lacks creds ToWrite x) (nat_lt largest_size (at + length bytes)) e
+step_refused nodes creds (Read p at len) n x reply e =
+    two_refuse nodes (done nodes (Bytes (take len (drop at x.bytes)))) IsDir Denied reply (is_directory x.kind) (lacks creds ToRead x) e
+step_refused nodes creds (Truncate p size) n x reply e =
+    three_refuse nodes (done (with_node nodes n (Some (record x { bytes = resized size x.bytes }))) IsDone) IsDir Denied TooLarge reply (is_directory x.kind) (lacks creds ToWrite x) (nat_lt largest_size size) e
+step_refused nodes creds (Stat p) n x reply e =
+    first_refuses nodes (done nodes (IsStat x.kind x.mode x.uid x.gid (size_of nodes n x))) Denied reply (lacks creds ToRead x) e
+step_refused nodes creds (Mkdir p m) n x reply e = absurd (let wrong : None ≡ Some reply = e in cc wrong)
+step_refused nodes creds (Create p m) n x reply e = absurd (let wrong : None ≡ Some reply = e in cc wrong)
+step_refused nodes creds (Unlink p) n x reply e = absurd (let wrong : None ≡ Some reply = e in cc wrong)
+step_refused nodes creds (Rmdir p) n x reply e = absurd (let wrong : None ≡ Some reply = e in cc wrong)
+step_refused nodes creds (Rename p q) n x reply e = absurd (let wrong : None ≡ Some reply = e in cc wrong)
+step_refused nodes creds (ListNames p m) n x reply e = absurd (let wrong : None ≡ Some reply = e in cc wrong)
+step_refused nodes creds (Chmod p m) n x reply e = absurd (let wrong : None ≡ Some reply = e in cc wrong)
+
+-- where nothing refuses, it is done
+step_done : (nodes : Nodes) (creds : Creds) (call : Call) (n : ℕ) (x : Node) (path : Path) → file_path call ≡ Some path → node_at nodes n ≡ Some x → x.kind ≡ Regular → refusal creds (rights_of x) call ≡ None
+    → step nodes creds call n x ≡ done (changed_by call n x.bytes nodes) (answer_of (rights_of x) x.bytes (length x.bytes) call)
+step_done nodes creds (Write p at bytes) n x path is there kind e =
+    three_pass nodes (done (with_node nodes n (Some (record x { bytes = put_at at bytes x.bytes }))) (Count (length bytes))) IsDir Denied TooLarge (is_directory x.kind) (lacks creds ToWrite x) (nat_lt largest_size (at + length bytes)) e
+    ∙ ap (λ q. done (with_node nodes n (option_map (node_with (put_at at bytes x.bytes)) q)) (Count (length bytes))) (sym there)
+step_done nodes creds (Read p at len) n x path is there kind e =
+    two_pass nodes (done nodes (Bytes (take len (drop at x.bytes)))) IsDir Denied (is_directory x.kind) (lacks creds ToRead x) e
+step_done nodes creds (Truncate p size) n x path is there kind e =
+    three_pass nodes (done (with_node nodes n (Some (record x { bytes = resized size x.bytes }))) IsDone) IsDir Denied TooLarge (is_directory x.kind) (lacks creds ToWrite x) (nat_lt largest_size size) e
+    ∙ ap (λ q. done (with_node nodes n (option_map (node_with (resized size x.bytes)) q)) IsDone) (sym there)
+step_done nodes creds (Stat p) n x path is there kind e =
+    first_passes nodes (done nodes (IsStat x.kind x.mode x.uid x.gid (size_of nodes n x))) Denied (lacks creds ToRead x) e
+    ∙ ap (λ k. done nodes (IsStat x.kind x.mode x.uid x.gid (cond (is_directory k) (count_in nodes n) (length x.bytes)))) kind
+step_done nodes creds (Mkdir p m) n x path is there kind e = absurd (let wrong : None ≡ Some path = is in cc wrong)
+step_done nodes creds (Create p m) n x path is there kind e = absurd (let wrong : None ≡ Some path = is in cc wrong)
+step_done nodes creds (Unlink p) n x path is there kind e = absurd (let wrong : None ≡ Some path = is in cc wrong)
+step_done nodes creds (Rmdir p) n x path is there kind e = absurd (let wrong : None ≡ Some path = is in cc wrong)
+step_done nodes creds (Rename p q) n x path is there kind e = absurd (let wrong : None ≡ Some path = is in cc wrong)
+step_done nodes creds (ListNames p m) n x path is there kind e = absurd (let wrong : None ≡ Some path = is in cc wrong)
+step_done nodes creds (Chmod p m) n x path is there kind e = absurd (let wrong : None ≡ Some path = is in cc wrong)
+
+-- and one that wants pages would be done, were there room
+step_is_done : (nodes : Nodes) (creds : Creds) (call : Call) (n : ℕ) (x : Node) (path : Path) → file_path call ≡ Some path → wants_pages call ≡ true → refusal creds (rights_of x) call ≡ None → is_done (step nodes creds call n x).reply ≡ true
+step_is_done nodes creds (Write p at bytes) n x path is wants e =
+    ap (λ (a : Applied). is_done a.reply)
+    (three_pass nodes (done (with_node nodes n (Some (record x { bytes = put_at at bytes x.bytes }))) (Count (length bytes))) IsDir Denied TooLarge (is_directory x.kind) (lacks creds ToWrite x) (nat_lt largest_size (at + length bytes)) e)
+step_is_done nodes creds (Truncate p size) n x path is wants e =
+    ap (λ (a : Applied). is_done a.reply)
+    (three_pass nodes (done (with_node nodes n (Some (record x { bytes = resized size x.bytes }))) IsDone) IsDir Denied TooLarge (is_directory x.kind) (lacks creds ToWrite x) (nat_lt largest_size size) e)
+step_is_done nodes creds (Read p at len) n x path is wants e = absurd (false≢true wants)
+step_is_done nodes creds (Stat p) n x path is wants e = absurd (false≢true wants)
+step_is_done nodes creds (Mkdir p m) n x path is wants e = absurd (let wrong : None ≡ Some path = is in cc wrong)
+step_is_done nodes creds (Create p m) n x path is wants e = absurd (let wrong : None ≡ Some path = is in cc wrong)
+step_is_done nodes creds (Unlink p) n x path is wants e = absurd (let wrong : None ≡ Some path = is in cc wrong)
+step_is_done nodes creds (Rmdir p) n x path is wants e = absurd (let wrong : None ≡ Some path = is in cc wrong)
+step_is_done nodes creds (Rename p q) n x path is wants e = absurd (let wrong : None ≡ Some path = is in cc wrong)
+step_is_done nodes creds (ListNames p m) n x path is wants e = absurd (let wrong : None ≡ Some path = is in cc wrong)
+step_is_done nodes creds (Chmod p m) n x path is wants e = absurd (let wrong : None ≡ Some path = is in cc wrong)
+
+-- ---- the laws
+
+pub refused_by_walk : RefusedByWalk
+refused_by_walk desk d nodes path is w none = by_walk desk d nodes path is none w
+
+pub refused_by_check : RefusedByCheck
+refused_by_check desk d nodes path n r is w has e none =
+    let x = mapped rights_of (node_at nodes n) r has in
+    does_by desk d nodes path is none (refused nodes d.reply)
+    (comes desk d nodes path is none n w x.0 x.1 ∙ step_refused nodes desk.creds d.call n x.0 d.reply (ap (λ q. refusal desk.creds q d.call) x.2 ∙ e))
+    refl (inr refl)
+
+pub done_by_bytes : DoneByBytes
+done_by_bytes desk d nodes path n r old is w has kind bytes e reply none =
+    let x = mapped rights_of (node_at nodes n) r has in
+    let y = mapped (λ (z : Node). z.bytes) (node_at nodes n) old bytes in
+    let one : y.0 ≡ x.0 = some_one (node_at nodes n) y.0 x.0 y.1 x.1 in
+    let content : x.0.bytes ≡ old = sym (ap (λ (z : Node). z.bytes) one) ∙ y.2 in
+    let regular : x.0.kind ≡ Regular = ap (λ (z : Rights). z.kind) x.2 ∙ kind in
+    does_by desk d nodes path is none (done (changed_by d.call n old nodes) (answer_of r old (length old) d.call))
+    (comes desk d nodes path is none n w x.0 x.1
+    ∙ step_done nodes desk.creds d.call n x.0 path is x.1 regular (ap (λ q. refusal desk.creds q d.call) x.2 ∙ e)
+    ∙ ap (λ l. done (changed_by d.call n l nodes) (answer_of (rights_of x.0) l (length l) d.call)) content
+    ∙ ap (λ q. done (changed_by d.call n old nodes) (answer_of q old (length old) d.call)) x.2)
+    reply (inl (ap lacks_room reply))
+
+pub stats_directory : StatsDirectory
+stats_directory desk d nodes path n r count is w has dir many e reply none =
+    let x = mapped rights_of (node_at nodes n) r has in
+    let p : file_path d.call ≡ Some path = ap file_path is in
+    let size : size_of nodes n x.0 ≡ count = ap (λ t. cond t (count_in nodes n) (length x.0.bytes)) (ap (λ (z : Rights). is_directory z.kind) x.2 ∙ dir) ∙ many in
+    let free : refusal desk.creds (rights_of x.0) (Stat path) ≡ None = ap (λ q. refusal desk.creds q (Stat path)) x.2 ∙ sym (ap (refusal desk.creds r) is) ∙ e in
+    does_by desk d nodes path p none (done nodes (answer_of r [] count d.call))
+    (comes desk d nodes path p none n w x.0 x.1
+    ∙ ap (λ c. step nodes desk.creds c n x.0) is
+    ∙ first_passes nodes (done nodes (IsStat x.0.kind x.0.mode x.0.uid x.0.gid (size_of nodes n x.0))) Denied (lacks desk.creds ToRead x.0) free
+    ∙ ap (λ s. done nodes (answer_of (rights_of x.0) [] s (Stat path))) size
+    ∙ ap (λ q. done nodes (answer_of q [] count (Stat path))) x.2
+    ∙ ap (λ c. done nodes (answer_of r [] count c)) (sym is))
+    reply (inr refl)
+
+pub refused_for_room : RefusedForRoom
+refused_for_room desk d nodes path n r wanted free is wants w has e reply less none =
+    let x = mapped rights_of (node_at nodes n) r has in
+    let a : applied nodes desk.creds d.call d.made ≡ step nodes desk.creds d.call n x.0 = comes desk d nodes path is none n w x.0 x.1 in
+    let could : is_done (applied nodes desk.creds d.call d.made).reply ≡ true =
+    ap (λ (z : Applied). is_done z.reply) a ∙ step_is_done nodes desk.creds d.call n x.0 path is wants (ap (λ q. refusal desk.creds q d.call) x.2 ∙ e) in
+    let stays : call_nodes desk.creds nodes d ≡ nodes = ap (λ t. cond t nodes (applied nodes desk.creds d.call d.made).nodes) (ap lacks_room reply) in
+    let lacks' : LacksRoom d.call d.reply = subst (λ q. LacksRoom d.call q) (sym reply) (wants, less) in
+    (inr (lacks', could, stays), made_fits desk d nodes path is none, stays)

@@ -1,0 +1,209 @@
+-- A file as a lease gives it, read among the pages of a bundle.
+use Rattle.std.proofs.Common.{◌≡◌, ℕ, true, false, cond, not, List, [], ◌∷◌, ◌++◌, take, Option, Some, None, Ok, append_assoc, sym, refl, ap, ◌∙◌, subst, inl, inr}
+use Rattle.std.specs.Prelude.{map}
+use Rattle.std.specs.List.{flat_map}
+use Rattle.std.specs.Option.{unwrap_or}
+use Rattle.std.specs.Str.{bytes_eq}
+use Rattle.std.proofs.lemmas.Bool.{and_from, false_from_ne_true, false≢true, not_from_false}
+use Rattle.std.proofs.lemmas.List.{map-append}
+use Rattle.std.proofs.lemmas.Simd.{map-map}
+use Rattle.std.proofs.lemmas.Slice.Eq.{bytes_eq-Decides}
+use Rattle.trio_rights.specs.Row.{Row, row_in}
+use Rattle.trio_rights.specs.declared.kind.Kind.{Kind}
+use Rattle.trio_rights.specs.declared.kind.Kind.TheVariants.{Regular, Directory}
+use Rattle.trio_rights.specs.Sheets.{Sheet, sheet_numbers}
+use Rattle.trio_lists.specs.Lists.{In, are_new, both, gathered, is_among, result_then, there_or}
+use Rattle.trio_lists.proofs.Members.{In-left, In-right, In-map, map-In, is_among-In, is_ok-Ok}
+use Rattle.trio_lists.proofs.Filters.{In-list_any, some_one}
+use Rattle.trio_layout.specs.declared.slot.EntryPart.{EntryPart}
+use Rattle.trio_layout.specs.declared.slot.SlotRead.TheVariants.{Entry}
+use Rattle.trio_layout.specs.Range.{is_core}
+use Rattle.trio_layout.specs.Body.{body_at, body_of}
+use Rattle.trio_layout.specs.Core.{at_page, page_of}
+use Rattle.trio_layout.specs.Entries.{Listed, body_in_slot, slot_bytes, entries_on, entries_of_kind, has_name, page_entries, place_of, repeated_name}
+use Rattle.trio_layout.specs.Slot.{slot_of}
+use Rattle.trio_layout.specs.Proposed.{is_place_of}
+use Rattle.trio_layout.specs.Survey.{Met, FileRead, file_of, pages_in}
+use Rattle.trio_layout.specs.Within.{file_within}
+use Rattle.trio_lease.specs.Shown.{Shown}
+use Rattle.trio_lease.specs.Views.{lent_sheet}
+use Rattle.trio_lease.specs.declared.parts.LentPage.{LentPage}
+use Rattle.trio_surveys.proofs.Cores.{listed_is_core}
+use Rattle.trio_surveys.proofs.Local.{reads_to}
+use Rattle.trio_surveys.proofs.OwnFiles.{place_parts}
+use Rattle.trio_surveys.proofs.Places.{gathers_directory, placed_from}
+use Rattle.trio_surveys.proofs.Within.{file_part}
+use Rattle.trio_desk.specs.Contents.{Sizes, bytes_shown, entries_lent, entries_or_none, entries_shown}
+use Rattle.trio_desk.specs.Out.{IsWellLent, lent_core, lent_numbers, numbers_of_file}
+use Rattle.trio_desk.specs.Shows.{bytes_read, pages_bytes}
+use Rattle.trio_laws.proofs.session.Reading.{core_of, file_as_before, page_kept, sheet_there}
+
+-- the pages of a lease, as pages of a bundle
+abbrev pub lent_sheets : Shown → List Sheet
+lent_sheets f = map lent_sheet (f.index ++ f.blocks)
+
+pub lent_sheet_numbers : (f : Shown) → sheet_numbers (lent_sheets f) ≡ numbers_of_file f
+lent_sheet_numbers f = map-map (λ (x : Sheet). x.page) lent_sheet (f.index ++ f.blocks) ∙ map-append (λ (p : LentPage). p.no.0) f.index f.blocks
+
+-- numbers differ where names differ, and a number has one name
+pub numbers_by_names : (seen ls : List Listed) → repeated_name seen ls ≡ None → ((l k : Listed) → In l (seen ++ ls) → In k (seen ++ ls) → l.entry.ino ≡ k.entry.ino → l.entry.name ≡ k.entry.name) → are_new (map (λ l. l.entry.ino) seen) (map (λ l. l.entry.ino) ls) ≡ true
+numbers_by_names seen [] e same = refl
+numbers_by_names seen (l ∷ ls) e same =
+    let number : Listed → ℕ = λ l. l.entry.ino in
+    let apart : has_name l.entry.name seen ≡ false =
+    false_from_ne_true (has_name l.entry.name seen)
+    (λ t. (let wrong : Some (place_of l) ≡ None = sym (ap (λ b. cond b (Some (place_of l)) (repeated_name (seen ++ l ∷ []) ls)) t) ∙ e in absurd (cc wrong))) in
+    let out : is_among l.entry.ino (map number seen) ≡ false =
+    false_from_ne_true (is_among l.entry.ino (map number seen))
+    (λ t.
+    let k = map-In number l.entry.ino seen (is_among-In l.entry.ino (map number seen) t) in
+    let named : k.0.entry.name ≡ l.entry.name = same k.0 l (In-left k.0 seen (l ∷ ls) k.1) (In-right l seen (l ∷ ls) (inl refl)) (sym k.2) in
+    false≢true (sym apart ∙ In-list_any (λ (x : Listed). bytes_eq x.entry.name l.entry.name) k.0 seen k.1 (ap (λ n. bytes_eq n l.entry.name) named ∙ (bytes_eq-Decides l.entry.name l.entry.name).1 refl))) in
+    let on : repeated_name (seen ++ l ∷ []) ls ≡ None = sym (ap (λ b. cond b (Some (place_of l)) (repeated_name (seen ++ l ∷ []) ls)) apart) ∙ e in
+    let rest = numbers_by_names (seen ++ l ∷ []) ls on
+    (λ a b i j k. same a b (subst (λ z. In a z) (append_assoc seen (l ∷ []) ls) i) (subst (λ z. In b z) (append_assoc seen (l ∷ []) ls) j) k) in
+    and_from (not (is_among l.entry.ino (map number seen))) (are_new (map number seen ++ l.entry.ino ∷ []) (map number ls))
+    (not_from_false (is_among l.entry.ino (map number seen)) out)
+    (ap (λ z. are_new z (map number ls)) (sym (map-append number seen (l ∷ []))) ∙ rest)
+
+pub listed_same : (l k : Listed) → l.entry ≡ k.entry → l.page ≡ k.page → l.slot ≡ k.slot → l.body ≡ k.body → l ≡ k
+listed_same l k entry page slot body =
+    ap (λ (x : EntryPart). record { entry = x; page = l.page; slot = l.slot; body = l.body }) entry
+    ∙ ap (λ (x : ℕ). record { entry = k.entry; page = x; slot = l.slot; body = l.body }) page
+    ∙ ap (λ (x : ℕ). record { entry = k.entry; page = k.page; slot = x; body = l.body }) slot
+    ∙ ap (λ (x : List ℕ). record { entry = k.entry; page = k.page; slot = k.slot; body = x }) body
+
+module _ (sizes : Sizes) (f : Shown) (well : IsWellLent sizes f) where
+  -- its entries, as they are read
+  pub lent_entries : (es : List Listed) × (entries_of_kind (lent_core sizes f) f.kind (lent_numbers f.blocks) ≡ Ok es)
+  lent_entries = is_ok-Ok (entries_of_kind (lent_core sizes f) f.kind (lent_numbers f.blocks)) well.entries
+
+  -- what it reads
+  pub lent_file : FileRead
+  lent_file = record { body = body_at f.body; chain = record { index = lent_numbers f.index; blocks = lent_numbers f.blocks }; entries = lent_entries.0 }
+
+  pub lent_file-body : lent_file.body ≡ body_at f.body
+  unfolding lent_file
+  lent_file-body = refl
+
+  pub lent_file-pages : lent_file.chain.index ++ lent_file.chain.blocks ≡ numbers_of_file f
+  unfolding lent_file
+  lent_file-pages = refl
+
+  module _ (m : Met) (kind : m.kind ≡ f.kind) (body : m.body ≡ f.body) where
+    lent_whole : file_of (lent_core sizes f) m ≡ Ok lent_file
+    unfolding lent_file
+    lent_whole =
+        reads_to (lent_core sizes f) m lent_file (record {
+          body = ap (λ k. body_of k sizes.range m.body) kind ∙ ap (body_of f.kind sizes.range) body ∙ well.body;
+          chain = well.chain;
+          entries = ap (λ k. entries_of_kind (lent_core sizes f) k (lent_numbers f.blocks)) kind ∙ lent_entries.1;
+        })
+
+    lent_is_core : (p : ℕ) → In p (numbers_of_file f) → is_core sizes.range p ≡ true
+    lent_is_core p i =
+        listed_is_core (lent_core sizes f) m lent_file p lent_whole
+        (subst (λ r. In p (pages_in r)) (sym lent_whole) (subst (λ l. In p l) (sym lent_file-pages) i))
+
+    lent_once : are_new [] (sheet_numbers (lent_sheets f)) ≡ true
+    lent_once = ap (are_new []) (lent_sheet_numbers f) ∙ well.once
+
+    lent_page : (q : LentPage) → In q (f.index ++ f.blocks) → page_of (lent_core sizes f) q.no.0 ≡ Some q.page
+    lent_page q i =
+        let j : In (lent_sheet q) (lent_sheets f) = In-map lent_sheet q (f.index ++ f.blocks) i in
+        let k : In q.no.0 (numbers_of_file f) = subst (λ l. In q.no.0 l) (map-append (λ (p : LentPage). p.no.0) f.index f.blocks) (In-map (λ (p : LentPage). p.no.0) q (f.index ++ f.blocks) i) in
+        sheet_there sizes.range sizes.inodes (lent_sheets f) (lent_sheet q) lent_once j (lent_is_core q.no.0 k)
+
+    lent_within : file_within (lent_core sizes f) m ≡ Ok lent_file
+    lent_within =
+        file_part (lent_core sizes f) m lent_file lent_whole
+        (λ p i.
+        let k : In p (map (λ (q : LentPage). q.no.0) (f.index ++ f.blocks)) = subst (λ l. In p l) (lent_file-pages ∙ sym (map-append (λ (q : LentPage). q.no.0) f.index f.blocks)) i in
+        let q = map-In (λ (q : LentPage). q.no.0) p (f.index ++ f.blocks) k in
+        (q.0.page, ap (page_of (lent_core sizes f)) q.2 ∙ lent_page q.0 q.1))
+
+    blocks_gather : (ps : List LentPage) → ((q : LentPage) → In q ps → page_of (lent_core sizes f) q.no.0 ≡ Some q.page) → gathered (page_entries (lent_core sizes f)) (lent_numbers ps) ≡ gathered (λ p. entries_on sizes.inodes p.no.0 p.page) ps
+    blocks_gather [] there = refl
+    blocks_gather (q ∷ qs) there =
+        ap (λ o. both (result_then (entries_on sizes.inodes q.no.0) (there_or (at_page q.no.0) o)) (gathered (page_entries (lent_core sizes f)) (lent_numbers qs))) (there q (inl refl))
+        ∙ ap (both (entries_on sizes.inodes q.no.0 q.page)) (blocks_gather qs (λ p i. there p (inr i)))
+
+    -- the entries that are read are those that the lease shows
+    pub lent_entries_are : lent_file.entries ≡ entries_shown sizes f
+    unfolding lent_file
+    lent_entries_are = by f.kind refl lent_entries.0 lent_entries.1
+      where
+        by : (k : Kind) → f.kind ≡ k → (es : List Listed) → entries_of_kind (lent_core sizes f) f.kind (lent_numbers f.blocks) ≡ Ok es → es ≡ entries_shown sizes f
+        by Regular t es e =
+            let none : Ok [] ≡ Ok es = sym (ap (λ k. entries_of_kind (lent_core sizes f) k (lent_numbers f.blocks)) t) ∙ e in
+            let same : [] ≡ es = cc none in
+            sym same ∙ sym (ap (λ k. entries_lent sizes.inodes k f.blocks) t)
+        by Directory t es e =
+            let d : entries_of_kind (lent_core sizes f) Directory (lent_numbers f.blocks) ≡ Ok es = sym (ap (λ k. entries_of_kind (lent_core sizes f) k (lent_numbers f.blocks)) t) ∙ e in
+            let g = (gathers_directory (lent_core sizes f) (lent_numbers f.blocks) es d).0 in
+            let there : gathered (λ p. entries_on sizes.inodes p.no.0 p.page) f.blocks ≡ Ok es = sym (blocks_gather f.blocks (λ q i. lent_page q (In-right q f.index f.blocks i))) ∙ g in
+            sym (ap entries_or_none there) ∙ sym (ap (λ k. entries_lent sizes.inodes k f.blocks) t)
+
+    -- two entries at one place are one
+    same_entry : (rows : List (Option Row)) → ((l : Listed) → In l lent_file.entries → is_place_of f.ino l.page l.slot (row_in rows l.entry.ino) ≡ true) → (l k : Listed) → In l lent_file.entries → In k lent_file.entries → l.entry.ino ≡ k.entry.ino → l ≡ k
+    unfolding lent_file
+    same_entry rows places l k i j same =
+        let p = place_parts f.ino l.page l.slot (row_in rows l.entry.ino) (places l i) in
+        let q = place_parts f.ino k.page k.slot (row_in rows k.entry.ino) (places k j) in
+        let row : p.0 ≡ q.0 = some_one (row_in rows k.entry.ino) p.0 q.0 (ap (row_in rows) (sym same) ∙ p.1) q.1 in
+        let page : l.page ≡ k.page = sym p.3 ∙ ap (λ (r : Row). r.page) row ∙ q.3 in
+        let slot : l.slot ≡ k.slot = sym p.4 ∙ ap (λ (r : Row). r.slot) row ∙ q.4 in
+        let a = placed_from (lent_core sizes f) f.kind (lent_numbers f.blocks) lent_entries.0 l lent_entries.1 i in
+        let b = placed_from (lent_core sizes f) f.kind (lent_numbers f.blocks) lent_entries.0 k lent_entries.1 j in
+        let bytes : a.bytes ≡ b.bytes = some_one (page_of (lent_core sizes f) k.page) a.bytes b.bytes (ap (page_of (lent_core sizes f)) (sym page) ∙ a.page) b.page in
+        let says : Entry l.entry ≡ Entry k.entry =
+        sym a.says ∙ ap (λ n. slot_of sizes.inodes (slot_bytes n a.bytes)) slot ∙ ap (λ y. slot_of sizes.inodes (slot_bytes k.slot y)) bytes ∙ b.says in
+        let entry : l.entry ≡ k.entry = cc says in
+        let body : l.body ≡ k.body = a.body ∙ ap (λ n. body_in_slot n a.bytes) slot ∙ ap (body_in_slot k.slot) bytes ∙ sym b.body in
+        listed_same l k entry page slot body
+
+    pub lent_entry_one : (rows : List (Option Row)) → ((l : Listed) → In l lent_file.entries → is_place_of f.ino l.page l.slot (row_in rows l.entry.ino) ≡ true) → (l k : Listed) → In l lent_file.entries → In k lent_file.entries → l.entry.ino ≡ k.entry.ino → l ≡ k
+    lent_entry_one rows places l k i j same = same_entry rows places l k i j same
+
+    -- the entries of a directory have names apart
+    pub lent_names : repeated_name [] lent_file.entries ≡ None
+    unfolding lent_file
+    lent_names = by f.kind refl lent_entries.0 lent_entries.1
+      where
+        by : (k : Kind) → f.kind ≡ k → (es : List Listed) → entries_of_kind (lent_core sizes f) f.kind (lent_numbers f.blocks) ≡ Ok es → repeated_name [] es ≡ None
+        by Regular t es e =
+            let none : Ok [] ≡ Ok es = sym (ap (λ k. entries_of_kind (lent_core sizes f) k (lent_numbers f.blocks)) t) ∙ e in
+            let same : [] ≡ es = cc none in sym (ap (repeated_name []) same)
+        by Directory t es e =
+            (gathers_directory (lent_core sizes f) (lent_numbers f.blocks) es (sym (ap (λ k. entries_of_kind (lent_core sizes f) k (lent_numbers f.blocks)) t) ∙ e)).1
+
+    pub lent_numbers_new : (rows : List (Option Row)) → ((l : Listed) → In l lent_file.entries → is_place_of f.ino l.page l.slot (row_in rows l.entry.ino) ≡ true) → are_new [] (map (λ l. l.entry.ino) lent_file.entries) ≡ true
+    lent_numbers_new rows places =
+        numbers_by_names [] lent_file.entries lent_names (λ l k i j e. ap (λ (x : Listed). x.entry.name) (same_entry rows places l k i j e))
+
+    -- ---- among the pages of a bundle
+
+    module _ (sheets : List Sheet) (once : are_new [] (sheet_numbers sheets) ≡ true) (sub : (x : Sheet) → In x (lent_sheets f) → In x sheets) where
+      lent_kept : (p : ℕ) → In p (numbers_of_file f) → page_of (core_of sizes.range sizes.inodes sheets) p ≡ page_of (lent_core sizes f) p
+      lent_kept p i = page_kept sizes.range sizes.inodes (lent_sheets f) sheets p lent_once once sub (subst (λ l. In p l) (sym (lent_sheet_numbers f)) i)
+
+      pub lent_reads : file_within (core_of sizes.range sizes.inodes sheets) m ≡ Ok lent_file
+      lent_reads =
+          file_as_before (lent_core sizes f) (core_of sizes.range sizes.inodes sheets).pages m lent_file lent_within
+          (λ p i. lent_kept p (subst (λ l. In p l) lent_file-pages i))
+
+      there_bytes : (ps : List LentPage) → ((q : LentPage) → In q ps → page_of (core_of sizes.range sizes.inodes sheets) q.no.0 ≡ Some q.page) → pages_bytes (core_of sizes.range sizes.inodes sheets) (lent_numbers ps) ≡ flat_map (λ p. p.page) ps
+      there_bytes [] there = refl
+      there_bytes (q ∷ qs) there =
+          ap (λ o. unwrap_or o [] ++ pages_bytes (core_of sizes.range sizes.inodes sheets) (lent_numbers qs)) (there q (inl refl))
+          ∙ ap (λ l. q.page ++ l) (there_bytes qs (λ p i. there p (inr i)))
+
+      pub lent_bytes : bytes_read (core_of sizes.range sizes.inodes sheets) Regular (Ok lent_file) ≡ Some (bytes_shown f)
+      unfolding lent_file
+      lent_bytes =
+          ap (λ l. Some (take (body_at f.body).size l))
+          (there_bytes f.blocks
+          (λ q i.
+          let j : In q (f.index ++ f.blocks) = In-right q f.index f.blocks i in
+          let k : In q.no.0 (numbers_of_file f) = subst (λ l. In q.no.0 l) (map-append (λ (p : LentPage). p.no.0) f.index f.blocks) (In-map (λ (p : LentPage). p.no.0) q (f.index ++ f.blocks) j) in
+          lent_kept q.no.0 k ∙ lent_page q j))

@@ -1,0 +1,120 @@
+-- A file reads the same where the pages that it lists are the same; and which bytes a page of a bundle has.
+use Rattle.std.proofs.Common.{◌≡◌, ℕ, suc, zero, ◌<◌, true, cond, eqb, leb, ltb, min, ◌-◌, List, [], ◌∷◌, ◌++◌, length, Option, Some, None, Ok, slice_get, sym, refl, ap, ◌∙◌, subst, inl, inr, arith}
+use Rattle.std.specs.Prelude.{replicate}
+use Rattle.std.specs.Option.{unwrap_or, option_and_then}
+use Rattle.std.proofs.lemmas.List.{length-replicate}
+use Rattle.std.proofs.lemmas.Bool.{and_parts, ltb-true, cases_Bool}
+use Rattle.trio_rights.specs.declared.kind.Kind.{Kind}
+use Rattle.trio_rights.specs.declared.kind.Kind.TheVariants.{Regular, Directory}
+use Rattle.trio_rights.specs.Sheets.{Sheet, sheet_numbers, with_pages}
+use Rattle.trio_lists.specs.Lists.{In, are_new, both, gathered, result_map, result_then, there_or}
+use Rattle.trio_lists.proofs.Members.{In-left, In-right, In-map, map-In, result_map-Ok, result_then-Ok, flat_map-same}
+use Rattle.trio_lists.proofs.Gathered.{one_keyed}
+use Rattle.trio_layout.specs.declared.range.CoreRange.{CoreRange}
+use Rattle.trio_layout.specs.Range.{is_core}
+use Rattle.trio_layout.specs.Body.{block_count}
+use Rattle.trio_layout.specs.Chain.{Chain, index_count, with_index}
+use Rattle.trio_layout.specs.Core.{Core, at_page, page_of}
+use Rattle.trio_layout.specs.Entries.{with_names_apart}
+use Rattle.trio_layout.specs.Index.{Index, index_of}
+use Rattle.trio_layout.specs.Survey.{FileRead, Met}
+use Rattle.trio_layout.specs.Within.{chain_within, entries_where, entries_within, file_within, index_within}
+use Rattle.trio_layout.proofs.WithinCore.{rest_of, within_from, within_to}
+use Rattle.trio_surveys.proofs.Sheets.{Pages, page_from, place_there, with_pages_known}
+use Rattle.trio_surveys.proofs.SheetLaws.{page_of_at}
+use Rattle.trio_surveys.specs.Reading.{with_other}
+use Rattle.trio_desk.specs.Shows.{pages_bytes}
+
+module _ (core : Core) (pages : Pages) where
+  abbrev other : Core
+  other = with_other core pages
+
+  -- this page is the same in both
+  abbrev Same : ℕ → Type 0
+  Same p = page_of (with_other core pages) p ≡ page_of core p
+
+  index_step : (n blocks at : ℕ) (c : Chain) (o : Option (List ℕ)) → ((i : Index) (r : Chain) → rest_of core n blocks i ≡ Ok r → ((p : ℕ) → In p r.index → Same p) → rest_of other n blocks i ≡ Ok r) → index_within core at (min blocks 511) (eqb n 0) (rest_of core n blocks) o ≡ Ok c → ((p : ℕ) → In p c.index → Same p)
+      → Same at × (index_within other at (min blocks 511) (eqb n 0) (rest_of other n blocks) o ≡ Ok c)
+  index_step n blocks at c None more e same =
+      let k : record { index = at ∷ []; blocks = [] } ≡ c = cc e in
+      (same at (subst (λ (x : Chain). In at x.index) k (inl refl)), e)
+  index_step n blocks at c (Some bytes) more e same =
+      let used : ℕ = min blocks 511 in
+      let s1 = result_then-Ok (λ i. result_map (with_index at i) (rest_of core n blocks i)) (there_or (at_page at) (index_of used (eqb n 0) core.range bytes)) c e in
+      let x : Index = s1.0 in
+      let s2 = result_map-Ok (with_index at x) (rest_of core n blocks x) c s1.2 in
+      let idx : at ∷ s2.0.index ≡ c.index = ap (λ (y : Chain). y.index) s2.2 in
+      let rest = more x s2.0 s2.1 (λ p i. same p (subst (λ l. In p l) idx (inr i))) in (
+        same at (subst (λ l. In at l) idx (inl refl)),
+        ap (result_then (λ i. result_map (with_index at i) (rest_of other n blocks i))) s1.1
+            ∙ ap (result_map (with_index at x)) rest
+            ∙ ap Ok s2.2,
+      )
+
+  chain_same : (n blocks at : ℕ) (c : Chain) → chain_within core n blocks at ≡ Ok c → ((p : ℕ) → In p c.index → Same p) → chain_within other n blocks at ≡ Ok c
+  chain_same zero blocks at c e same = e
+  chain_same (suc n) blocks at c e same =
+      let s = index_step n blocks at c (page_of core at) (λ i r k t. chain_same n (blocks - 511) i.next r k t) e same in
+      ap (index_within other at (min blocks 511) (eqb n 0) (rest_of other n blocks)) s.0 ∙ s.1
+
+  gathered_same : (blocks : List ℕ) → ((p : ℕ) → In p blocks → Same p) → gathered (λ page. entries_where core.inodes page (page_of other page)) blocks ≡ gathered (λ page. entries_where core.inodes page (page_of core page)) blocks
+  gathered_same [] h = refl
+  gathered_same (b ∷ bs) h =
+      ap (λ o. both (entries_where core.inodes b o) (gathered (λ page. entries_where core.inodes page (page_of other page)) bs)) (h b (inl refl))
+      ∙ ap (both (entries_where core.inodes b (page_of core b))) (gathered_same bs (λ p i. h p (inr i)))
+
+  entries_same : (kind : Kind) (blocks : List ℕ) → ((p : ℕ) → In p blocks → Same p) → entries_within other kind blocks ≡ entries_within core kind blocks
+  entries_same Regular blocks h = refl
+  entries_same Directory blocks h = ap (result_then with_names_apart) (gathered_same blocks h)
+
+  -- a file reads as before where the pages that it lists are as before
+  pub file_as_before : (m : Met) (f : FileRead) → file_within core m ≡ Ok f → ((p : ℕ) → In p (f.chain.index ++ f.chain.blocks) → page_of (with_other core pages) p ≡ page_of core p) → file_within (with_other core pages) m ≡ Ok f
+  file_as_before m f e same =
+      let r = within_from core m f e in
+      within_to other m f (record {
+        body = r.body;
+        chain = chain_same (index_count (block_count f.body.size)) (block_count f.body.size) f.body.head f.chain r.chain (λ p i. same p (In-left p f.chain.index f.chain.blocks i));
+        entries = entries_same m.kind f.chain.blocks (λ p i. same p (In-right p f.chain.index f.chain.blocks i)) ∙ r.entries;
+      })
+
+  -- and so do the bytes of blocks
+  pub bytes_as_before : (blocks : List ℕ) → ((p : ℕ) → In p blocks → page_of (with_other core pages) p ≡ page_of core p) → pages_bytes (with_other core pages) blocks ≡ pages_bytes core blocks
+  bytes_as_before blocks same =
+      flat_map-same (λ page. unwrap_or (page_of other page) []) (λ page. unwrap_or (page_of core page) []) blocks (λ p i. ap (λ o. unwrap_or o []) (same p i))
+
+-- ---- the pages of a bundle
+
+-- a core that has these pages alone
+abbrev pub core_of : CoreRange → ℕ → List Sheet → Core
+core_of range inodes sheets = record { pages = with_pages sheets (replicate range.end None); root = []; range = range; inodes = inodes }
+
+-- where each number stands once, a core page of them has its bytes
+pub sheet_there : (range : CoreRange) (inodes : ℕ) (ss : List Sheet) (x : Sheet) → are_new [] (sheet_numbers ss) ≡ true → In x ss → is_core range x.page ≡ true → page_of (core_of range inodes ss) x.page ≡ Some x.bytes
+sheet_there range inodes ss x once i core =
+    let none : Option (List ℕ) = None in
+    let blanks : Pages = replicate range.end none in
+    let below : x.page < range.end = ltb-true x.page range.end (and_parts (leb range.first x.page) (ltb x.page range.end) core).1 in
+    let l : x.page < length blanks = omega (arith, below, length-replicate range.end none) in
+    let o = place_there blanks x.page l in
+    page_from (core_of range inodes ss) x.page x.bytes core
+    (with_pages_known ss blanks x.page x.bytes o.0 (In-map (λ (y : Sheet). y.page) x ss i)
+    (λ y j e. ap (λ (z : Sheet). z.bytes) (one_keyed (λ (z : Sheet). z.page) ss y x once j i e)) o.1)
+
+-- a page of a bundle is the same in a bundle with more pages
+pub page_kept : (range : CoreRange) (inodes : ℕ) (ss more : List Sheet) (p : ℕ) → are_new [] (sheet_numbers ss) ≡ true → are_new [] (sheet_numbers more) ≡ true → ((x : Sheet) → In x ss → In x more) → In p (sheet_numbers ss)
+    → page_of (core_of range inodes more) p ≡ page_of (core_of range inodes ss) p
+page_kept range inodes ss more p once once' sub i =
+    let q = map-In (λ (y : Sheet). y.page) p ss i in
+    elim (cases_Bool (is_core range p)) [
+      | inl core ↦
+          let core' : is_core range q.0.page ≡ true = ap (is_core range) (sym q.2) ∙ core in
+          ap (page_of (core_of range inodes more)) q.2
+          ∙ sheet_there range inodes more q.0 once' (sub q.0 q.1) core'
+          ∙ sym (sheet_there range inodes ss q.0 once q.1 core')
+          ∙ ap (page_of (core_of range inodes ss)) (sym q.2)
+      | inr out ↦
+          page_of_at (core_of range inodes more) p
+          ∙ ap (λ b. cond b (option_and_then (λ x. x) (slice_get (core_of range inodes more).pages p)) None) out
+          ∙ ap (λ b. cond b (option_and_then (λ x. x) (slice_get (core_of range inodes ss).pages p)) None) (sym out)
+          ∙ sym (page_of_at (core_of range inodes ss) p)
+    ]

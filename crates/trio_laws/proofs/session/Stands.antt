@@ -1,0 +1,116 @@
+-- What is in hand reads the same whatever the rows say.
+use Rattle.std.proofs.Common.{◌≡◌, ℕ, eqb, List, [], ◌∷◌, ◌++◌, Option, Some, None, Result, sym, refl, ap, ◌∙◌, subst, inl, inr}
+use Rattle.std.specs.Prelude.{map}
+use Rattle.std.specs.List.{filter, find, flat_map}
+use Rattle.std.proofs.lemmas.List.Concat.{flat_map-append}
+use Rattle.trio_rights.specs.Row.{Row, row_in}
+use Rattle.trio_rights.specs.declared.kind.Kind.{Kind}
+use Rattle.trio_rights.specs.declared.rights.Creds.{Creds}
+use Rattle.trio_rights.specs.Bundle.{Bundle, Written}
+use Rattle.trio_lists.specs.Lists.{In, is_among}
+use Rattle.trio_lists.specs.Sorting.{sorted_by}
+use Rattle.trio_lists.proofs.Members.{In-flat, flat_map-In}
+use Rattle.trio_layout.specs.Core.{Core, Location}
+use Rattle.trio_layout.specs.Survey.{Met, FileRead, plain, numbers, pages_in, children_in}
+use Rattle.trio_layout.specs.Case.{Case, Held, bundle_core}
+use Rattle.trio_layout.specs.Within.{file_within}
+use Rattle.trio_layout.specs.JudgedFiles.{judged_files, judged_pages, written_at, written_files, written_met}
+use Rattle.trio_desk.specs.Contents.{Sizes}
+use Rattle.trio_desk.specs.Shows.{Naming, naming_of, namings_in}
+use Rattle.trio_laws.proofs.judgement.JudgedFacts.{written_ino_at, written_kind_at}
+use Rattle.trio_laws.proofs.session.Ruled.{case_with}
+use Rattle.trio_laws.proofs.session.Starts.{Share, shared}
+
+-- a written file reads the same wherever its row places it
+pub written_alike : (core : Core) (w : Written) (one two : Option Row) → file_within core (written_at w one) ≡ file_within core (written_at w two)
+unfolding file_within
+written_alike core w None None = refl
+written_alike core w None (Some r) = refl
+written_alike core w (Some r) None = refl
+written_alike core w (Some r) (Some q) = refl
+
+number_alike : (w : Written) (one two : Option Row) → (written_at w one).ino ≡ (written_at w two).ino
+number_alike w one two = written_ino_at w one ∙ sym (written_ino_at w two)
+
+kind_alike : (w : Written) (one two : Option Row) → (written_at w one).kind ≡ (written_at w two).kind
+kind_alike w one two = written_kind_at w one ∙ sym (written_kind_at w two)
+
+-- what is said of a file by its number, its kind and what it reads
+abbrev pub ByReading : Type 0 → Type 0
+ByReading X = ℕ → Kind → Result FileRead Location → List X
+
+-- a file's number, its kind and what it reads
+pub record Read : Type 0 where
+  pub ino : ℕ
+  pub kind : Kind
+  pub reads : Result FileRead Location
+
+abbrev pub read_of : Core → Met → Read
+read_of core m = record { ino = m.ino; kind = m.kind; reads = file_within core m }
+
+module _ (sizes : Sizes) (creds : Creds) (rows rows' : List (Option Row)) (b : Bundle) (lent : List Held) where
+  abbrev c : Case
+  c = case_with sizes creds rows b lent
+
+  abbrev c' : Case
+  c' = case_with sizes creds rows' b lent
+
+  abbrev core : Core
+  core = bundle_core (case_with sizes creds rows b lent)
+
+  module _ {X : Type 0} (g : ByReading X) where
+    said : Met → List X
+    said m = g m.ino m.kind (file_within core m)
+
+    start_alike : (w : Written) → g (written_met c' w).ino (written_met c' w).kind (file_within core (written_met c' w)) ≡ g (written_met c w).ino (written_met c w).kind (file_within core (written_met c w))
+    start_alike w =
+        let one : Option Row = row_in rows' w.ino in
+        let two : Option Row = row_in rows w.ino in
+        ap (λ n. g n (written_at w one).kind (file_within core (written_at w one))) (number_alike w one two)
+        ∙ ap (λ k. g (written_at w two).ino k (file_within core (written_at w one))) (kind_alike w one two)
+        ∙ ap (λ r. g (written_at w two).ino (written_at w two).kind r) (written_alike core w one two)
+
+    starts_alike : (ws : List Written) → flat_map (λ m. g m.ino m.kind (file_within core m)) (map (written_met c') ws) ≡ flat_map (λ m. g m.ino m.kind (file_within core m)) (map (written_met c) ws)
+    starts_alike [] = refl
+    starts_alike (w ∷ ws) =
+        ap (λ l. l ++ flat_map (λ m. g m.ino m.kind (file_within core m)) (map (written_met c') ws)) (start_alike w)
+        ∙ ap (λ l. g (written_met c w).ino (written_met c w).kind (file_within core (written_met c w)) ++ l) (starts_alike ws)
+
+  numbers_alike : (ws : List Written) → numbers (map (written_met c') ws) ≡ numbers (map (written_met c) ws)
+  numbers_alike [] = refl
+  numbers_alike (w ∷ ws) =
+      ap (λ n. n ∷ numbers (map (written_met c') ws)) (number_alike w (row_in rows' w.ino) (row_in rows w.ino))
+      ∙ ap (λ l. (written_met c w).ino ∷ l) (numbers_alike ws)
+
+  pub share : Share sizes creds creds rows rows' b b lent lent
+  share =
+      let ws : List Written = sorted_by (λ (w : Written). w.ino) b.writes in
+      shared sizes creds creds rows rows' b b lent lent
+      (starts_alike (λ n k r. filter (λ (e : Met). is_among e.ino b.numbers) (children_in plain n r)) ws)
+      (λ n i. ap (is_among n) (numbers_alike ws))
+      (λ m i l. refl)
+
+  -- so what is said of all judged files by their reading is the same
+  pub judged_alike : {X : Type 0} (g : ByReading X) → flat_map (λ m. g m.ino m.kind (file_within (bundle_core (case_with sizes creds rows b lent)) m)) (judged_files (case_with sizes creds rows' b lent)) ≡ flat_map (λ m. g m.ino m.kind (file_within (bundle_core (case_with sizes creds rows b lent)) m)) (judged_files (case_with sizes creds rows b lent))
+  judged_alike {X} g =
+      let G : Met → List X = λ m. g m.ino m.kind (file_within core m) in
+      ap (flat_map G) share.new
+      ∙ flat_map-append G (written_files c') share.rest
+      ∙ ap (λ l. l ++ flat_map G share.rest) (starts_alike g (sorted_by (λ (w : Written). w.ino) b.writes))
+      ∙ sym (flat_map-append G (written_files c) share.rest)
+      ∙ ap (flat_map G) (sym share.old)
+
+  pub named_alike : (n : ℕ) → naming_of (case_with sizes creds rows' b lent) n ≡ naming_of (case_with sizes creds rows b lent) n
+  named_alike n = ap (find (λ (e : Naming). eqb e.listed.entry.ino n)) (judged_alike (λ k kind r. namings_in k r))
+
+  -- a file that is judged is one whatever the rows say
+  pub judged_there : (m : Met) → In m (judged_files (case_with sizes creds rows' b lent)) → (x : Met) × In x (judged_files (case_with sizes creds rows b lent)) × (read_of (bundle_core (case_with sizes creds rows b lent)) x ≡ read_of (bundle_core (case_with sizes creds rows b lent)) m)
+  judged_there m i =
+      let G : ByReading Read = λ n k r. record { ino = n; kind = k; reads = r } ∷ [] in
+      let j = subst (λ l. In (read_of core m) l) (judged_alike G) (In-flat (λ x. G x.ino x.kind (file_within core x)) m (read_of core m) (judged_files c') i (inl refl)) in
+      let q = flat_map-In (λ x. G x.ino x.kind (file_within core x)) (read_of core m) (judged_files c) j in
+      (q.0, q.1, elim q.2 [ inl e ↦ sym e | inr no' ↦ absurd no' ])
+
+  -- so are the pages that they list
+  pub pages_alike : judged_pages (case_with sizes creds rows' b lent) ≡ judged_pages (case_with sizes creds rows b lent)
+  pages_alike = judged_alike (λ n kind r. pages_in r)

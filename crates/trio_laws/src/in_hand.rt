@@ -1,0 +1,124 @@
+//! The laws of what a session has in hand: the body of each function is empty, and its contract is
+//! the law.
+
+ghost use Rattle.trio_laws.specs.session.Chains.{BytesCut, BytesGrow, BytesMany, BytesPut, NamedReads, ReadsNamed, SharesStay};
+ghost use Rattle.trio_laws.specs.session.FileCalls.{
+  DoneByBytes,
+  EntersBy,
+  RefusedByCheck,
+  RefusedByWalk,
+  RefusedForRoom,
+  StatsDirectory,
+  WalksBy,
+};
+ghost use Rattle.trio_laws.specs.session.FileEdits.{FileEditShows};
+ghost use Rattle.trio_laws.specs.session.Listed.{
+  ListedAfterAllotment,
+  ListedAfterEdit,
+  ListedAfterHold,
+  ListedAfterWrite,
+  ListedAreInHand,
+  TakingKeeps,
+};
+ghost use Rattle.trio_laws.specs.session.Sees.{SeesEntryRights, SeesJudged, SeesLease, SeesLent, SeesMade, SeesRoot, SeesUntouched, SeesWritten, UntouchedReads};
+ghost use Rattle.trio_laws.specs.session.Takes.{BecomesThrough, FreshIsFree, FreshIsNew, FreshIsUntouched, NothingIsInOrder, TakesAllotment, TakesHold, TakesReads, TakesWrite};
+
+/// A session begins in order.
+pub fn begins_in_order()
+    ensures law { NothingIsInOrder }
+{}
+
+/// What is taken and edited one after another is as one taking and edit.
+pub fn becomes_through()
+    ensures law { BecomesThrough }
+{}
+
+/// A write lease that is taken, of a regular file or a directory, shows the same nodes.
+pub fn takes_write()
+    ensures law { TakesWrite }
+{}
+
+/// So does a hold on a file that a directory in hand lists.
+pub fn takes_hold()
+    ensures law { TakesHold }
+{}
+
+/// So do read leases.
+pub fn takes_reads()
+    ensures law { TakesReads }
+{}
+
+/// So do allotted pages and numbers.
+pub fn takes_allotment()
+    ensures law { TakesAllotment }
+{}
+
+/// What calls come to is what is shown after a taking too.
+pub fn taking_keeps()
+    ensures law { TakingKeeps }
+{}
+
+/// Which pages the judged files list, and how takings and edits change that.
+pub fn lists_pages()
+    ensures hand { ListedAreInHand }
+    ensures write { ListedAfterWrite }
+    ensures hold { ListedAfterHold }
+    ensures allotment { ListedAfterAllotment }
+    ensures edit { ListedAfterEdit }
+{}
+
+/// What a desk gives is none of what is in hand: a write lease, a hold, and allotted pages.
+pub fn fresh_is_none_in_hand()
+    ensures writes { FreshIsUntouched }
+    ensures holds { FreshIsFree }
+    ensures pages { FreshIsNew }
+{}
+
+/// Where one written regular file is edited, that file alone of the nodes that are shown has other
+/// bytes: those that it now reads.
+pub fn file_edit_shows()
+    ensures law { FileEditShows }
+{}
+
+/// What leases show, what the session's own directories read and what its written files read is
+/// true of the nodes that it shows.
+pub fn sees_nodes()
+    ensures root { SeesRoot }
+    ensures lease { SeesLease }
+    ensures rights { SeesEntryRights }
+    ensures lent { SeesLent }
+    ensures judged { SeesJudged }
+    ensures made { SeesMade }
+    ensures written { SeesWritten }
+    ensures untouched { SeesUntouched }
+    ensures reads { UntouchedReads }
+{}
+
+/// A directory is entered by its kind and rights, and a walk goes on by what a name is found to be.
+pub fn walks_by_sight()
+    ensures enters { EntersBy }
+    ensures step { WalksBy }
+{}
+
+/// A write, a read, a truncation or a stat is decided by its walk, and by the rights and the bytes of
+/// the file to which that comes; or there is no room for it.
+pub fn decides_file_calls()
+    ensures walk { RefusedByWalk }
+    ensures check { RefusedByCheck }
+    ensures bytes { DoneByBytes }
+    ensures directory { StatsDirectory }
+    ensures room { RefusedForRoom }
+{}
+
+/// A regular file reads by its index pages, each of which names its share of the blocks, and a share
+/// stays however the chain grows or is cut behind it; and the bytes of blocks that grow, are cut or are
+/// put.
+pub fn chains_read()
+    ensures named { ReadsNamed }
+    ensures reads { NamedReads }
+    ensures stay { SharesStay }
+    ensures many { BytesMany }
+    ensures cut { BytesCut }
+    ensures grow { BytesGrow }
+    ensures put { BytesPut }
+{}
