@@ -117,8 +117,8 @@ module _ (s : Store) (first : ℕ) (table : List Keyed) (files : List Opened) (c
         numbers = list_all-each (λ n. is_free_number s.rows inodes n.no) bundle.inodes
             (λ n i. free_number n.no (In-map (λ (x : InoParts). x.no) n bundle.inodes i));
         apart = given.numbers_once;
-        core = ap (λ rg. list_all (is_core rg) (bundle_pages b)) ranges ∙ pages_core st lib.0 b j;
-        pages = pages_new st lib.0 b j;
+        core = ap (λ rg. list_all (is_core rg) (bundle_pages b)) ranges ∙ pages_core st lib.0 b j.kept j.given;
+        pages = pages_new st lib.0 b j.kept j.given;
         first = lt-ltb 0 range.first (subst (λ (rg : CoreRange). 0 < rg.first) (sym ranges) low_first);
       }
     where

@@ -27,7 +27,8 @@ use Rattle.trio_state.specs.Step as step
 use Rattle.trio_laws.proofs.Bundles.{unparted_at}
 use Rattle.trio_ctl.specs.Answers.{release_answer, release_fault_answer, verdict_of}
 use Rattle.trio_ctl.specs.Ctl.{AreAsTold}
-use Rattle.trio_ctl.specs.Desk.{bundle_of, grants_of, out_of}
+use Rattle.trio_desk.specs.Ready.{bundle_of}
+use Rattle.trio_ctl.specs.Desk.{grants_of, out_of}
 use Rattle.trio_ctl.specs.Open.{hold_of}
 use Rattle.trio_ctl.proofs.DeskGiven.{behind}
 use Rattle.trio_ctl.proofs.DeskOuts.{hold_is, written_among}

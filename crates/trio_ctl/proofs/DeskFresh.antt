@@ -1,9 +1,11 @@
 -- What the controller gives is new to the library that gets it.
-use Rattle.std.proofs.Common.{◌≡◌, ℕ, zero, suc, ◌+◌, ◌-◌, ◌<◌, ◌≤◌, Bool, true, false, cond, not, ◌==◌, ◌&&◌, List, [], ◌∷◌, ◌++◌, map, length, take, Option, Some, None, Result, Ok, Err, is_some, sym, refl, ap, ◌∙◌, inl, inr, arith, append-nil}
-use Rattle.std.specs.Prelude.{slice_get, slice_index}
-use Rattle.std.specs.List.{filter}
+use Rattle.std.proofs.Common.{◌≡◌, ℕ, zero, suc, ◌+◌, ◌-◌, ◌<◌, ◌≤◌, ◌≢◌, Bool, true, false, cond, not, ◌==◌, ◌&&◌, List, [], ◌∷◌, ◌++◌, map, length, take, Option, Some, None, Result, is_some, sym, refl, ap, ◌∙◌, subst, inl, inr, arith, append-nil}
+use Rattle.std.specs.Prelude.{if◌then◌else◌, nat_le, nat_lt, slice_get, slice_index}
+use Rattle.std.specs.List.{filter, flat_map}
 use Rattle.std.specs.Option.{option_map}
-use Rattle.std.proofs.lemmas.Bool.{and_parts, and_from, both_ways, cases_Bool, eq-eqb, false≢true, not-true, not_from_false}
+use Rattle.std.proofs.lemmas.List.{map-append}
+use Rattle.std.proofs.lemmas.Simd.{map-map}
+use Rattle.std.proofs.lemmas.Bool.{and_parts, and_from, both_ways, cases_Bool, eq-eqb, false≢true, le-leb, lt-ltb, ltb-false, not-true, not_from_false}
 use Rattle.trio_rights.specs.Row.{Row}
 use Rattle.trio_rights.specs.declared.rights.LibNo.{LibNo}
 use Rattle.trio_nodes.specs.GrantKinds.{excludes_kind, is_hold, is_read, is_write}
@@ -14,29 +16,43 @@ use Rattle.trio_nodes.specs.declared.grant.GrantKind.TheVariants.{Read, Write, H
 use Rattle.trio_lists.specs.Lists.{In, are_new, is_among}
 use Rattle.trio_lists.proofs.Counting.{count_from}
 use Rattle.trio_lists.proofs.Filters.{In-filter, filter-In}
-use Rattle.trio_lists.proofs.Members.{In-cases, In-left, map-In}
+use Rattle.trio_lists.proofs.Members.{In-cases, In-left, flat_map-In, map-In}
 use Rattle.trio_lists.proofs.New.{are_new-beside, are_new-fewer, are_new-take, is_among-not}
-use Rattle.trio_lists.proofs.Tabulated.{tabulated-length}
+use Rattle.trio_lists.proofs.Tabulated.{tabulated-get, tabulated-length}
 use Rattle.trio_tables.specs.Free.{count_up}
 use Rattle.trio_tables.specs.Out.{is_out}
 use Rattle.trio_layout.specs.Chain.{Chain}
-use Rattle.trio_layout.specs.Core.{Core, Location}
-use Rattle.trio_layout.specs.Image.{IsFit, row_at}
-use Rattle.trio_layout.specs.Pages.{block_sheets, index_sheets, settled_chain, sheets_of}
-use Rattle.trio_surveys.proofs.Sheets.{sheets_in}
+use Rattle.trio_layout.specs.Core.{Location}
+use Rattle.trio_layout.specs.Image.{row_at, settled_body}
+use Rattle.trio_layout.specs.Pages.{block_sheets, index_sheets, settled_chain}
+use Rattle.trio_layout.specs.Range.{is_core}
+use Rattle.trio_layout.specs.Survey.{owner_of, pages_of, plain, survey}
+use Rattle.trio_surveys.proofs.Owned.{pages_are}
+use Rattle.trio_rights.specs.Sheets.{Sheet, sheet_numbers}
+use Rattle.trio_lease.specs.Views.{lent_sheet}
 use Rattle.trio_lease.specs.Shown.{Shown}
 use Rattle.trio_lease.specs.declared.parts.HoldParts.{HoldParts}
 use Rattle.trio_lease.specs.declared.parts.LentPage.{LentPage}
-use Rattle.trio_desk.specs.Out.{AreWhole, IsFreshLease}
+use Rattle.trio_desk.specs.Out.{IsFreshLease, IsWellLent, files_out, hold_numbers, lent_numbers, numbers_of_file, pages_out}
 use Rattle.trio_state.specs.Allotments.{free_numbers, free_pages}
 use Rattle.trio_state.specs.Grants.{denied_by, denied_or, excluding, grant_fault, holder_of, lacks_parent, opened}
 use Rattle.trio_state.specs.Kept.{Kept}
 use Rattle.trio_state.specs.State.{OpenGrant, State, settled}
 use Rattle.trio_laws.specs.OutLaws.{numbers_to}
+use Rattle.trio_laws.specs.session.Lent.{sizes_of}
+use Rattle.trio_laws.specs.history.Stands.{node_by, writer_of}
+use Rattle.trio_laws.proofs.Allots.{number_free, page_free}
+use Rattle.trio_laws.proofs.StateFacts.{lent_file, lent_met, tables, write_is}
+use Rattle.trio_laws.proofs.history.Facts.{node_is}
+use Rattle.trio_laws.proofs.history.StandsTree.{states_are_trees}
+use Rattle.trio_surveys.proofs.Images.{free_unlisted}
+use Rattle.trio_laws.proofs.history.Listing.{met_at}
 use Rattle.trio_ctl.specs.Desk.{grants_of, out_of}
 use Rattle.trio_ctl.specs.Open.{hold_of, lent_by, shown_of, untouched}
 use Rattle.trio_ctl.proofs.DeskGiven.{behind}
 use Rattle.trio_ctl.proofs.DeskOuts.{numbers_to-In}
+use Rattle.trio_ctl.proofs.LendLemmas.{sheets_untouched}
+use Rattle.trio_ctl.proofs.WellLent.{good_body, numbers_are, well_lent}
 
 -- ---- grants
 
@@ -68,32 +84,29 @@ own_excludes Read Hold = refl
 own_excludes Write there = refl
 own_excludes Hold there = refl
 
--- a grant is given only where the library has no grant on the file
-none_open : (s : State) (lib ino : ℕ) (kind : GrantKind) (r : Row) → row_at s.home ino ≡ Some r → grant_fault s lib ino kind ≡ None → (h : OpenGrant) → In h s.open_grants → h.lib ≡ lib → h.ino ≡ ino → ⊥
-none_open s lib ino kind r row none h i l e =
+-- and by each that writes
+write_excludes : (kind there : GrantKind) (own : Bool) → there ≡ Write → excludes_kind kind there own ≡ true
+write_excludes Read there own e = ap (λ t. excludes_kind Read t own) e
+write_excludes Write there own e = refl
+write_excludes Hold there own e = refl
+
+-- a grant is given only where no grant on the file excludes it
+none_excludes : (s : State) (lib ino : ℕ) (kind : GrantKind) (r : Row) → row_at s.home ino ≡ Some r → grant_fault s lib ino kind ≡ None → (h : OpenGrant) → In h s.open_grants → excludes_kind kind h.kind (h.lib == lib) ≡ true → h.ino ≡ ino → ⊥
+none_excludes s lib ino kind r row none h i excludes e =
     let busy : Option GrantFault = option_map (λ (g : OpenGrant). Busy (holder_of g)) (slice_get (excluding s lib ino kind) 0) in
     let rest : Option GrantFault = cond (lacks_parent s lib ino kind) (Some NoParent) busy in
     let asked : denied_or (denied_by s lib ino kind) rest ≡ None = past_live (is_some (row_at s.home ino)) (denied_or (denied_by s lib ino kind) rest) (ap is_some row) none in
-    let same : excludes_kind kind h.kind (h.lib == lib) ≡ true = ap (excludes_kind kind h.kind) (eq-eqb h.lib lib l) ∙ own_excludes kind h.kind in
     no_first (excluding s lib ino kind) h
     (map_none (λ (g : OpenGrant). Busy (holder_of g)) (slice_get (excluding s lib ino kind) 0)
     (past_parent (lacks_parent s lib ino kind) busy (denied_none (denied_by s lib ino kind) rest asked)))
     (In-filter (λ (g : OpenGrant). g.ino == ino && excludes_kind kind g.kind (g.lib == lib)) h s.open_grants i
-    (and_from (h.ino == ino) (excludes_kind kind h.kind (h.lib == lib)) (eq-eqb h.ino ino e) same))
+    (and_from (h.ino == ino) (excludes_kind kind h.kind (h.lib == lib)) (eq-eqb h.ino ino e) excludes))
 
--- a lent page of the settled image is whole
-whole_of : (core : Core) (ns : List ℕ) → IsFit core → AreWhole (map untouched (sheets_of core ns))
-whole_of core ns fit p i =
-    let m = map-In untouched p (sheets_of core ns) i in
-    ap (λ (q : LentPage). length q.page) m.2 ∙ fit.full m.0.page m.0.bytes (sheets_in core ns m.0 m.1).1
+none_open : (s : State) (lib ino : ℕ) (kind : GrantKind) (r : Row) → row_at s.home ino ≡ Some r → grant_fault s lib ino kind ≡ None → (h : OpenGrant) → In h s.open_grants → h.lib ≡ lib → h.ino ≡ ino → ⊥
+none_open s lib ino kind r row none h i l e = none_excludes s lib ino kind r row none h i (ap (excludes_kind kind h.kind) (eq-eqb h.lib lib l) ∙ own_excludes kind h.kind) e
 
-whole_index : (core : Core) (chain : Result Chain Location) → IsFit core → AreWhole (map untouched (index_sheets core chain))
-whole_index core (Ok c) fit = whole_of core c.index fit
-whole_index core (Err p) fit = λ q i. absurd i
-
-whole_blocks : (core : Core) (chain : Result Chain Location) → IsFit core → AreWhole (map untouched (block_sheets core chain))
-whole_blocks core (Ok c) fit = whole_of core c.blocks fit
-whole_blocks core (Err p) fit = λ q i. absurd i
+none_writes : (s : State) (lib ino : ℕ) (kind : GrantKind) (r : Row) → row_at s.home ino ≡ Some r → grant_fault s lib ino kind ≡ None → (h : OpenGrant) → In h s.open_grants → h.kind ≡ Write → h.ino ≡ ino → ⊥
+none_writes s lib ino kind r row none h i w e = none_excludes s lib ino kind r row none h i (write_excludes kind h.kind (h.lib == lib) w) e
 
 -- none that is seen of the library's grants of a kind is on the file
 none_seen : {Y : Type 0} (v : OpenGrant → Y) (number : Y → ℕ) (is_kind : GrantKind → Bool) (s : State) (lib : LibNo) (ino : ℕ) → ((g : OpenGrant) → number (v g) ≡ g.ino)
@@ -103,17 +116,82 @@ none_seen v number is_kind s lib ino numbered none i =
     let w = behind v is_kind s lib m.0 m.1 in
     none w.grant w.is_open w.lib (sym (numbered w.grant) ∙ sym (ap number w.is) ∙ sym m.2)
 
-pub fresh_lease : (s : State) (lib : LibNo) (ino : ℕ) (kind : GrantKind) (r : Row) → Kept s → row_at s.home ino ≡ Some r → grant_fault s lib.0 ino kind ≡ None → IsFreshLease lib ino (out_of s lib) (lent_by (opened s lib.0 ino kind r))
-fresh_lease s lib ino Write r k row none = record {
-  lib = refl;
-  ino = refl;
-  as_lent = refl;
-  index = whole_index (settled s).core (settled_chain (settled s) r.kind ino) k.fit;
-  blocks = whole_blocks (settled s).core (settled_chain (settled s) r.kind ino) k.fit;
-  new = none_seen shown_of (λ (w : Shown). w.ino) is_write s lib ino (λ g. refl) (none_open s lib.0 ino Write r row none);
+-- nothing is out to the library on the file
+none_out : (s : State) (lib : LibNo) (ino : ℕ) → ((h : OpenGrant) → In h s.open_grants → h.lib ≡ lib.0 → h.ino ≡ ino → ⊥) → In ino (files_out (out_of s lib)) → ⊥
+none_out s lib ino none i =
+    let out = out_of s lib in
+    let writes = map (λ (w : Shown). w.ino) out.writes in
+    let reads = map (λ (r : Shown). r.ino) out.reads in
+    elim (In-cases ino (writes ++ reads) (hold_numbers out.holds) i) [
+      | inl a ↦ elim (In-cases ino writes reads a) [
+        | inl w ↦ none_seen shown_of (λ (w : Shown). w.ino) is_write s lib ino (λ g. refl) none w
+        | inr r ↦ none_seen shown_of (λ (w : Shown). w.ino) is_read s lib ino (λ g. refl) none r
+      ]
+      | inr h ↦ none_seen hold_of (λ (h : HoldParts). h.ino) is_hold s lib ino (λ g. refl) none h
+    ]
+
+-- the pages that a grant lent, by its lease
+shown_numbers : (g : OpenGrant) → numbers_of_file (shown_of g) ≡ sheet_numbers (g.index ++ g.blocks)
+shown_numbers g =
+    ap (λ ns. ns ++ lent_numbers (map untouched g.blocks)) (untouched_numbers g.index) ∙ ap (λ ns. sheet_numbers g.index ++ ns) (untouched_numbers g.blocks)
+    ∙ sym (map-append (λ (x : Sheet). x.page) g.index g.blocks)
+  where
+    untouched_numbers : (xs : List Sheet) → lent_numbers (map untouched xs) ≡ sheet_numbers xs
+    untouched_numbers xs = map-map (λ (p : LentPage). p.no.0) untouched xs
+
+module _ (s : State) (lib : LibNo) (ino : ℕ) (kind : GrantKind) (r : Row) (k : Kept s) (row : row_at s.home ino ≡ Some r) (none : grant_fault s lib.0 ino kind ≡ None) where
+  abbrev chain : Result Chain Location
+  chain = settled_chain (settled s) r.kind ino
+
+  -- a lease of the file's pages
+  module _ (f : Shown) (of : f.kind ≡ r.kind) (body : f.body ≡ settled_body (settled s) ino) (index : map lent_sheet f.index ≡ index_sheets (settled s).core chain) (blocks : map lent_sheet f.blocks ≡ block_sheets (settled s).core chain) where
+    well : IsWellLent (sizes_of s) f
+    well = well_lent s k ino r row (none_writes s lib.0 ino kind r row none) f of body index blocks
+
+    -- its pages are none that are out to be written
+    apart : (n : ℕ) → In n (numbers_of_file f) → In n (pages_out (out_of s lib)) → ⊥
+    apart n i j =
+        let core = (settled s).core in
+        let file = met_at (settled s) k.fit k.verifies ino r row in
+        let own : In n (file.file.chain.index ++ file.file.chain.blocks) = subst (λ ns. In n ns) (numbers_are s k ino r row (none_writes s lib.0 ino kind r row none) f of body index blocks) i in
+        let listed : In n (pages_of core file.met) = subst (λ ns. In n ns) (sym (pages_are core file.met file.file file.read)) own in
+        elim (In-cases n (flat_map numbers_of_file (out_of s lib).writes) (out_of s lib).pages j) [
+          | inl lent ↦
+              (let w = flat_map-In numbers_of_file n (out_of s lib).writes lent in
+              let b = behind shown_of is_write s lib w.0 w.1 in
+              let there : In n (sheet_numbers (b.grant.index ++ b.grant.blocks)) = subst (λ ns. In n ns) (ap numbers_of_file b.is ∙ shown_numbers b.grant) w.2 in
+              none_writes s lib.0 ino kind r row none b.grant b.is_open (write_is b.grant.kind b.kind) (lent_file s k file.met n b.grant file.stands listed b.is_open (write_is b.grant.kind b.kind) there ∙ file.number))
+          | inr given ↦
+              free_unlisted core plain k.fit k.verifies.sound (settled s) (tables s k) n (k.out_free n (ap is_some (numbers_to-In s.pages_out lib.0 n given))) file.met file.stands listed
+        ]
+
+pub fresh_lease : (s : State) (lib : LibNo) (ino : ℕ) (kind : GrantKind) (r : Row) → Kept s → row_at s.home ino ≡ Some r → grant_fault s lib.0 ino kind ≡ None → IsFreshLease lib ino (sizes_of s) (out_of s lib) (lent_by (opened s lib.0 ino kind r))
+fresh_lease s lib ino Write r k row none =
+    let f : Shown = shown_of (opened s lib.0 ino Write r) in
+    let core = (settled s).core in
+    let chain = settled_chain (settled s) r.kind ino in
+    record {
+      is = record {
+        lib = refl;
+        ino = refl;
+        as_lent = refl;
+        well = well s lib ino Write r k row none f refl refl (sheets_untouched (index_sheets core chain)) (sheets_untouched (block_sheets core chain));
+        apart = apart s lib ino Write r k row none f refl refl (sheets_untouched (index_sheets core chain)) (sheets_untouched (block_sheets core chain));
+      };
+      new = none_out s lib ino (none_open s lib.0 ino Write r row none);
+    }
+fresh_lease s lib ino Read r k row none =
+    let f : Shown = shown_of (opened s lib.0 ino Read r) in
+    let core = (settled s).core in
+    let chain = settled_chain (settled s) r.kind ino in
+    record {
+      is = (refl, refl, well s lib ino Read r k row none f refl refl (sheets_untouched (index_sheets core chain)) (sheets_untouched (block_sheets core chain)));
+      new = none_out s lib ino (none_open s lib.0 ino Read r row none);
+    }
+fresh_lease s lib ino Hold r k row none = record {
+  is = (refl, refl, good_body s k ino r row);
+  new = none_out s lib ino (none_open s lib.0 ino Hold r row none);
 }
-fresh_lease s lib ino Read r k row none = (refl, refl, none_seen shown_of (λ (w : Shown). w.ino) is_read s lib ino (λ g. refl) (none_open s lib.0 ino Read r row none))
-fresh_lease s lib ino Hold r k row none = (refl, refl, none_seen hold_of (λ (h : HoldParts). h.ino) is_hold s lib ino (λ g. refl) (none_open s lib.0 ino Hold r row none))
 
 -- ---- allotments
 
@@ -174,3 +252,63 @@ numbers_may s lib many k =
     let long : length s.home.rows ≡ s.home.core.inodes + 1 = ap length k.verifies.rows ∙ tabulated-length _ (s.home.core.inodes + 1) in
     let placed = k.numbers_placed in
     free_may s.numbers_out lib.0 (λ n. not (is_some (row_at s.home n))) 1 (length s.home.rows - 1) many (omega (arith, long, placed))
+
+-- what may go out lies on core pages, and has no number of the root
+module _ (s : State) (lib : LibNo) (k : Kept s) where
+  -- a page that nobody owns is a core page
+  free_core : (n : ℕ) → n < length s.home.owners → slice_index s.home.owners n ≡ 0 → is_core s.home.core.range n ≡ true
+  free_core n lt free =
+      let range = s.home.core.range in
+      let owner : ℕ → ℕ = λ page. if nat_lt page range.first then 0xFFFFFFFF else owner_of (settled s).core (survey (settled s).core plain) page in
+      let long : length s.home.owners ≡ range.end = ap length k.verifies.owners ∙ tabulated-length owner range.end in
+      let below : n < range.end = omega (arith, lt, long) in
+      let at : owner n ≡ 0 = sym (tabulated-get owner range.end n 0 below) ∙ ap (λ (l : List ℕ). slice_index l n) (sym k.verifies.owners) ∙ free in
+      elim (cases_Bool (nat_lt n range.first)) [
+        | inl low ↦
+            (let wrong : 0xFFFFFFFF ≡ 0 = sym (ap (λ t. if t then 0xFFFFFFFF else owner_of (settled s).core (survey (settled s).core plain) n) low) ∙ at in
+            absurd (omega (arith, wrong)))
+        | inr high ↦
+            (let from = ltb-false n range.first high in
+            and_from (nat_le range.first n) (nat_lt n range.end) (le-leb range.first n from) (lt-ltb n range.end below))
+      ]
+
+  -- the root is live
+  root_live : row_at s.home 1 ≡ None → ⊥
+  root_live dead =
+      let r = (states_are_trees s k).root in
+      let wrong : None ≡ Some r.0 = sym (ap (node_by (settled s) 1 (writer_of s 1)) dead) ∙ sym (node_is s k 1) ∙ r.1 in
+      cc wrong
+
+  module _ (count : ℕ) where
+    abbrev ps : List ℕ
+    ps = take count (free_pages s)
+
+    pub pages_core : (n : ℕ) → In n ps → is_core s.home.core.range n ≡ true
+    pages_core n i =
+        let f = filter-In (λ x. slice_index s.home.owners x == 0 && not (is_out s.pages_out x)) n (count_up 0 (length s.home.owners - 0)) (take_in count (free_pages s) n i) in
+        let b = (count_from 0 (length s.home.owners - 0) n f.0).1 in
+        free_core n (omega (arith, b)) (page_free s lib.0 count 0 n i).0
+
+    -- and no grant lent one of them for writing
+    pub pages_new : are_new (pages_out (out_of s lib)) ps ≡ true
+    pages_new = are_new-beside (flat_map numbers_of_file (out_of s lib).writes) (out_of s lib).pages ps (pages_may s lib count k).new lent
+      where
+        lent : (n : ℕ) → In n ps → In n (flat_map numbers_of_file (out_of s lib).writes) → ⊥
+        lent n i j =
+            let w = flat_map-In numbers_of_file n (out_of s lib).writes j in
+            let b = behind shown_of is_write s lib w.0 w.1 in
+            let kind = write_is b.grant.kind b.kind in
+            let there : In n (sheet_numbers (b.grant.index ++ b.grant.blocks)) = subst (λ ns. In n ns) (ap numbers_of_file b.is ∙ shown_numbers b.grant) w.2 in
+            let l = k.lent b.grant b.is_open kind in
+            free_unlisted (settled s).core plain k.fit k.verifies.sound (settled s) (tables s k) n (page_free s lib.0 count 0 n i).0 l.met l.stands (lent_met s k b.grant b.is_open kind n there)
+
+  pub numbers_range : (many n : ℕ) → In n (take many (free_numbers s)) → (2 ≤ n) × (n ≤ s.home.core.inodes)
+  numbers_range many n i =
+      let f = filter-In (λ x. not (is_some (row_at s.home x)) && not (is_out s.numbers_out x)) n (count_up 1 (length s.home.rows - 1)) (take_in many (free_numbers s) n i) in
+      let b = count_from 1 (length s.home.rows - 1) n f.0 in
+      let low = b.0 in
+      let high = b.1 in
+      let long : length s.home.rows ≡ s.home.core.inodes + 1 = ap length k.verifies.rows ∙ tabulated-length _ (s.home.core.inodes + 1) in
+      let dead = (number_free s lib.0 0 many n i).0 in
+      let other : n ≢ 1 = λ one. root_live (ap (row_at s.home) (sym one) ∙ dead) in
+      (omega (arith, low, other), omega (arith, high, long))

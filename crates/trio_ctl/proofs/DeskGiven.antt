@@ -22,7 +22,8 @@ use Rattle.trio_desk.specs.Out.{AreWhole, IsLent, Parcel, WasGiven}
 use Rattle.trio_state.specs.Given.{GivenTo, HasGrant, WasAllotted, WasLent}
 use Rattle.trio_state.specs.State.{OpenGrant, State}
 use Rattle.trio_laws.proofs.StateFacts.{write_is}
-use Rattle.trio_ctl.specs.Desk.{bundle_of, grants_of, out_of}
+use Rattle.trio_desk.specs.Ready.{bundle_of}
+use Rattle.trio_ctl.specs.Desk.{grants_of, out_of}
 use Rattle.trio_ctl.specs.HandedIn.{WasHeld, WereHeld, WereLent}
 use Rattle.trio_ctl.specs.Open.{hold_of, shown_of, untouched}
 use Rattle.trio_ctl.proofs.DeskOuts.{hold_is, numbers_to-In, read_is}

@@ -31,7 +31,8 @@ use Rattle.trio_state.specs.Grants.{given_back, opens}
 use Rattle.trio_state.specs.State.{OpenGrant, State}
 use Rattle.trio_laws.specs.OutLaws.{numbers_to}
 use Rattle.trio_laws.proofs.StateFacts.{write_is}
-use Rattle.trio_ctl.specs.Desk.{bundle_of, grants_of, out_of}
+use Rattle.trio_desk.specs.Ready.{bundle_of}
+use Rattle.trio_ctl.specs.Desk.{grants_of, out_of}
 use Rattle.trio_ctl.specs.Open.{given_by, hold_of, lent_by, shown_of}
 use Rattle.trio_ctl.proofs.DeskLists.{and-true, filter-seen, filter-through, found-among, or-false}
 
@@ -125,7 +126,7 @@ given_numbers outs lib ns within n = (to, from)
         ]
 
 -- numbers come back
-left_numbers : (outs : List (Option LibNo)) (lib : ℕ) (these : List ℕ) (n : ℕ) → In n (numbers_to (out_after outs these) lib) ↔ In n (filter (λ m. not (is_among m these)) (numbers_to outs lib))
+pub left_numbers : (outs : List (Option LibNo)) (lib : ℕ) (these : List ℕ) (n : ℕ) → In n (numbers_to (out_after outs these) lib) ↔ In n (filter (λ m. not (is_among m these)) (numbers_to outs lib))
 left_numbers outs lib these n = (to, from)
   where
     to : In n (numbers_to (out_after outs these) lib) → In n (filter (λ m. not (is_among m these)) (numbers_to outs lib))

@@ -26,6 +26,8 @@ use Rattle.trio_layout.specs.Survey.{FileRead, Met, pages_of, plain, row_by, sur
 use Rattle.trio_surveys.proofs.Cores.{listed_is_core}
 use Rattle.trio_surveys.proofs.Images.{free_is_low, free_unlisted}
 use Rattle.trio_surveys.proofs.Owned.{pages_are, sound_parts}
+use Rattle.trio_state.specs.Given.{GivenTo}
+use Rattle.trio_state.specs.Kept.{Kept}
 use Rattle.trio_state.specs.State.{State, settled}
 use Rattle.trio_state.specs.Tells.{case_in}
 use Rattle.trio_tables.specs.Out.{lib_at}
@@ -47,7 +49,7 @@ no_kind : (o : Option Row) → ((r : Row) → o ≡ Some r → r.kind ≡ Direct
 no_kind None h = refl
 no_kind (Some r) h = ap (same_kind Regular) (h r refl)
 
-module _ (s : State) (lib : ℕ) (b : Bundle) (j : IsJudgeable s lib b) where
+module _ (s : State) (lib : ℕ) (b : Bundle) (kept : Kept s) (given : GivenTo s lib b) where
   abbrev core : Core
   core = (settled s).core
 
@@ -56,11 +58,11 @@ module _ (s : State) (lib : ℕ) (b : Bundle) (j : IsJudgeable s lib b) where
 
   -- ---- the pages of a bundle
 
-  lent_are : (w : Written) (i : In w b.writes) → own w ≡ pages_of core (j.kept.lent (j.given.writes w i).grant (j.given.writes w i).is_open (j.given.writes w i).kind).met
+  lent_are : (w : Written) (i : In w b.writes) → own w ≡ pages_of core (kept.lent (given.writes w i).grant (given.writes w i).is_open (given.writes w i).kind).met
   lent_are w i =
-      let g = j.given.writes w i in
-      let l = j.kept.lent g.grant g.is_open g.kind in
-      written_same s j.kept lib b j.given w i
+      let g = given.writes w i in
+      let l = kept.lent g.grant g.is_open g.kind in
+      written_same s kept lib b given w i
       ∙ map-append (λ (x : Sheet). x.page) g.grant.index g.grant.blocks
       ∙ ap (λ l. l ++ sheet_numbers g.grant.blocks) l.index
       ∙ ap (λ x. l.file.chain.index ++ x) l.blocks
@@ -68,27 +70,27 @@ module _ (s : State) (lib : ℕ) (b : Bundle) (j : IsJudgeable s lib b) where
 
   lent_new : (w : Written) → In w b.writes → are_new [] (own w) ≡ true
   lent_new w i =
-      let g = j.given.writes w i in
-      let l = j.kept.lent g.grant g.is_open g.kind in
-      ap (are_new []) (lent_are w i) ∙ each_new (pages_of core) (survey core plain) l.met (sound_parts core plain j.kept.verifies.sound).paged l.stands
+      let g = given.writes w i in
+      let l = kept.lent g.grant g.is_open g.kind in
+      ap (are_new []) (lent_are w i) ∙ each_new (pages_of core) (survey core plain) l.met (sound_parts core plain kept.verifies.sound).paged l.stands
 
   one_writer : (w v : Written) (p : ℕ) → In w b.writes → In v b.writes → In p (own w) → In p (own v) → w.ino ≡ v.ino
   one_writer w v p i k a c =
-      let g = j.given.writes w i in
-      let h = j.given.writes v k in
-      let l = j.kept.lent g.grant g.is_open g.kind in
-      let same : h.grant.ino ≡ l.met.ino = lent_file s j.kept l.met p h.grant l.stands (subst (λ ns. In p ns) (lent_are w i) a) h.is_open h.kind (written_lent s j.kept lib b j.given v k p c) in
+      let g = given.writes w i in
+      let h = given.writes v k in
+      let l = kept.lent g.grant g.is_open g.kind in
+      let same : h.grant.ino ≡ l.met.ino = lent_file s kept l.met p h.grant l.stands (subst (λ ns. In p ns) (lent_are w i) a) h.is_open h.kind (written_lent s kept lib b given v k p c) in
       sym g.ino ∙ sym l.number ∙ sym same ∙ h.ino
 
   zero_owner : (p : ℕ) → In p (sheet_numbers b.pages) → slice_index s.home.owners p ≡ 0
-  zero_owner p i = j.kept.out_free p (ap is_some (j.given.pages p i))
+  zero_owner p i = kept.out_free p (ap is_some (given.pages p i))
 
   allotted_apart : (p : ℕ) → In p (sheet_numbers b.pages) → In p (flat_map own b.writes) → ⊥
   allotted_apart p i a =
       let w = flat_map-In own p b.writes a in
-      let g = j.given.writes w.0 w.1 in
-      let l = j.kept.lent g.grant g.is_open g.kind in
-      free_unlisted core plain j.kept.fit j.kept.verifies.sound (settled s) (tables s j.kept) p (zero_owner p i) l.met l.stands (subst (λ ns. In p ns) (lent_are w.0 w.1) w.2)
+      let g = given.writes w.0 w.1 in
+      let l = kept.lent g.grant g.is_open g.kind in
+      free_unlisted core plain kept.fit kept.verifies.sound (settled s) (tables s kept) p (zero_owner p i) l.met l.stands (subst (λ ns. In p ns) (lent_are w.0 w.1) w.2)
 
   -- no page stands in the bundle twice
   pub pages_new : are_new [] (bundle_pages b) ≡ true
@@ -97,8 +99,8 @@ module _ (s : State) (lib : ℕ) (b : Bundle) (j : IsJudgeable s lib b) where
       ap (are_new []) (map-append (λ (x : Sheet). x.page) (flat_map F b.writes) b.pages ∙ ap (λ l. l ++ sheet_numbers b.pages) (numbers_flat_map F b.writes))
       ∙ are_new-append [] (flat_map own b.writes) (sheet_numbers b.pages)
       ∙ and_from (are_new [] (flat_map own b.writes)) (are_new (flat_map own b.writes) (sheet_numbers b.pages))
-      (gathered_new (λ (w : Written). w.ino) own b.writes j.given.writes_once lent_new one_writer)
-      (new_beside (flat_map own b.writes) (sheet_numbers b.pages) j.given.pages_once allotted_apart)
+      (gathered_new (λ (w : Written). w.ino) own b.writes given.writes_once lent_new one_writer)
+      (new_beside (flat_map own b.writes) (sheet_numbers b.pages) given.pages_once allotted_apart)
 
   -- each page of the bundle is a core page
   pub pages_core : list_all (is_core core.range) (bundle_pages b) ≡ true
@@ -106,18 +108,19 @@ module _ (s : State) (lib : ℕ) (b : Bundle) (j : IsJudgeable s lib b) where
     where
       each : (p : ℕ) → In p (bundle_pages b) → is_core core.range p ≡ true
       each p i =
-          elim (bundle_page s j.kept lib b j.given p i) [
+          elim (bundle_page s kept lib b given p i) [
             | inl a ↦
-                let out = within_some s.pages_out p (ap is_some (j.given.pages p a)) in
-                let below : p < core.range.end = (let placed = j.kept.pages_placed in omega (arith, out, placed)) in
-                let low = free_is_low core plain j.kept.fit j.kept.verifies.sound (settled s) (tables s j.kept) p (zero_owner p a) below in
+                let out = within_some s.pages_out p (ap is_some (given.pages p a)) in
+                let below : p < core.range.end = (let placed = kept.pages_placed in omega (arith, out, placed)) in
+                let low = free_is_low core plain kept.fit kept.verifies.sound (settled s) (tables s kept) p (zero_owner p a) below in
                 and_from (leb core.range.first p) (ltb p core.range.end) (le-leb core.range.first p low) (lt-ltb p core.range.end below)
             | inr w ↦
-                let g = j.given.writes w.0 w.1 in
-                let l = j.kept.lent g.grant g.is_open g.kind in
+                let g = given.writes w.0 w.1 in
+                let l = kept.lent g.grant g.is_open g.kind in
                 listed_is_core core l.met l.file p l.read (subst (λ ns. In p ns) (lent_are w.0 w.1) w.2)
           ]
 
+module _ (s : State) (lib : ℕ) (b : Bundle) (j : IsJudgeable s lib b) where
   -- ---- parents
 
   -- a row's parent is a live directory, but for that of the root

@@ -5,9 +5,11 @@ pub mod Told
 pub mod DeskLists
 pub mod DeskOuts
 pub mod DeskGiven
+pub mod WellLent
 pub mod DeskFresh
 pub mod DeskClosed
 pub mod DeskSteps
+pub mod LeasesBack
 pub mod Starting
 pub mod Storing
 pub mod Moving
@@ -31,6 +33,10 @@ pub mod GivingBack
 pub mod Moding
 pub mod Belonging
 pub mod PartedHolds
+pub mod Rooms
 mod Recording
 mod RecordedReleases
 mod DeskLogs
+mod ModeCalls
+mod Settling
+mod DeskCauses

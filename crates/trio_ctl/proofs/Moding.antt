@@ -3,17 +3,21 @@ use Rattle.std.proofs.Common.{◌≡◌, ◌≢◌, ℕ, ◌+◌, ◌-◌, ◌*�
 use Rattle.std.specs.Prelude.{◌==◌, if◌then◌else◌, nat_lt, slice_index_or, slice_set, IsTrue}
 use Rattle.std.specs.List.{find, filter}
 use Rattle.std.specs.Option.{option_map, option_map_or, option_and_then, IsSomeAnd}
-use Rattle.std.proofs.lemmas.Bool.{eq-eqb, ne_eqb, false≢true}
+use Rattle.std.proofs.lemmas.Bool.{eq-eqb, ne_eqb}
 use Rattle.std.proofs.lemmas.List.{get_or-set_other, length-set}
 use Rattle.trio_rights.specs.Row.{Row}
 use Rattle.trio_rights.specs.declared.rights.Creds.{Creds}
 use Rattle.trio_rights.specs.declared.rights.LibNo.{LibNo}
 use Rattle.trio_nodes.specs.declared.answers.ModeFault.{ModeFault}
-use Rattle.trio_nodes.specs.declared.answers.ModeFault.TheVariants.{BadMode, Busy, NoMemory as NoModeMemory, NotLive, NotOwner}
+use Rattle.trio_nodes.specs.declared.answers.ModeFault.TheVariants.{BadMode, Busy, NotOwner}
 use Rattle.trio_nodes.specs.declared.grant.Holder.{Holder}
-use Rattle.trio_grants.specs.Grants.{Keyed, first_with, holder, is_on}
-use Rattle.trio_lists.specs.Lists.{In}
+use Rattle.trio_grants.specs.Grants.{Keyed, grant_under, holder}
+use Rattle.trio_grants.specs.declared.grant.Grant.{Grant}
+use Rattle.trio_lists.specs.Lists.{In, are_new}
+use Rattle.trio_lists.proofs.Filters.{find-In}
 use Rattle.trio_lists.proofs.Members.{In-map}
+use Rattle.trio_lists.proofs.New.{are_new-first}
+use Rattle.trio_lease.specs.Shown.{Shown}
 use Rattle.trio_layout.specs.Accept.{with_body_at, with_body_in}
 use Rattle.trio_layout.specs.Entries.{body_in_slot}
 use Rattle.trio_layout.specs.Image.{body_by_row, row_at, settled_body}
@@ -28,22 +32,23 @@ use Rattle.trio_surveys.proofs.SheetLaws.{page_at}
 use Rattle.trio_state.specs.Grants.{holder_of}
 use Rattle.trio_state.specs.Kept.{Kept}
 use Rattle.trio_state.specs.State.{OpenGrant, State, creds_of, logged, settled}
-use Rattle.trio_state.specs.Step.{ModeSet, NotModeSet, Outcome, SetMode, Step, mode_excluding, mode_fault, moded_to}
+use Rattle.trio_state.specs.Step.{ModeSet, Outcome, SetMode, Step, mode_excluding, mode_fault, moded_to}
 use Rattle.trio_laws.proofs.EndLaws.{body_stands}
 use Rattle.trio_laws.proofs.Modes.{MayChange, may_change}
 use Rattle.trio_laws.proofs.Runs.{step_kept}
 use Rattle.trio_laws.proofs.StateFacts.{live_met}
 use Rattle.trio_commit.specs.declared.store.Store.{Store}
 use Rattle.trio_commit.specs.Store.{checkpoint_at, state_of, with_checkpoint}
-use Rattle.trio_ctl.specs.Answers.{mode_fault_answer}
+use Rattle.trio_ctl.specs.Backs.{all_back}
 use Rattle.trio_ctl.specs.Ctl.{HaveKinds, IsControlled}
 use Rattle.trio_ctl.specs.Entries.{Entries}
 use Rattle.trio_ctl.specs.Open.{Opened, grants_in, keyed}
 use Rattle.trio_ctl.specs.Stored.{IsStored, superblock_at_home}
+use Rattle.trio_ctl.proofs.LeasesBack.{all_back_is, find-fused}
 use Rattle.trio_ctl.proofs.Told.{step_told, told_kept, told_open}
-use Rattle.trio_ctl.specs.inner.Modes.{is_around, mode_denial, with_mode_at, with_mode_in, with_row_mode}
+use Rattle.trio_ctl.specs.inner.Modes.{is_around, is_back, mode_denial, stays_around, with_mode_at, with_mode_in, with_row_mode}
 
--- ---- the first grant on a file or its directory
+-- ---- the first grant around a file that stays
 
 first_filtered : (p : OpenGrant → Bool) (gs : List OpenGrant) → slice_get (filter p gs) 0 ≡ find p gs
 first_filtered p [] = refl
@@ -53,48 +58,26 @@ first_filtered p (g ∷ gs) = by (p g) (first_filtered p gs)
     by true again = refl
     by false again = again
 
-module _ (cs : List (Option Checkpointed)) (ino parent : ℕ) where
-  abbrev around : OpenGrant → Bool
-  around g = is_around ino parent g
+find_map : {X Y : Type 0} (p : Y → Bool) (f : X → Y) (xs : List X) → find p (map f xs) ≡ option_map f (find (λ x. p (f x)) xs)
+find_map p f [] = refl
+find_map p f (x ∷ xs) = by (p (f x)) (find_map p f xs)
+  where
+    by : (t : Bool) → find p (map f xs) ≡ option_map f (find (λ x. p (f x)) xs) → (if t then Some (f x) else find p (map f xs)) ≡ option_map f (if t then Some x else find (λ x. p (f x)) xs)
+    by true again = refl
+    by false again = again
 
-  abbrev open_of : List Opened → List OpenGrant
-  open_of files = map (with_checkpoint cs) (grants_in files)
-
-  none_around : (files : List Opened) → find (λ (o : Opened). around o.grant) files ≡ None → find around (open_of files) ≡ None
-  none_around [] none = refl
-  none_around (o ∷ os) none = by (around o.grant) (none_around os) none
-    where
-      by : (t : Bool) → (find (λ (o : Opened). around o.grant) os ≡ None → find around (open_of os) ≡ None) → (if t then Some o else find (λ (o : Opened). around o.grant) os) ≡ None → (if t then Some (with_checkpoint cs o.grant) else find around (open_of os)) ≡ None
-      by true again none = absurd cc
-      by false again none = again none
-
-  abbrev number_in : Option Opened → Option ℕ
-  number_in o = option_map (λ (x : Opened). x.grant.ino) o
-
-  -- the number of the first is one of the two
-  same_around : (a b : ℕ) → a ≡ b → (a == ino || a == parent) ≡ (b == ino || b == parent)
-  same_around a b e = ap (λ (n : ℕ). n == ino || n == parent) e
-
-  number_around : (files : List Opened) (n : ℕ) → number_in (find (λ (o : Opened). around o.grant) files) ≡ Some n → (n == ino || n == parent) ≡ true
-  number_around [] n e = absurd cc
-  number_around (o ∷ os) n e = by (λ e. number_around os n e) (around o.grant) refl e
-    where
-      by : (number_in (find (λ (o : Opened). around o.grant) os) ≡ Some n → (n == ino || n == parent) ≡ true) → (t : Bool) → around o.grant ≡ t → number_in (if t then Some o else find (λ (o : Opened). around o.grant) os) ≡ Some n → (n == ino || n == parent) ≡ true
-      by again true is e = (let same : o.grant.ino ≡ n = cc e in same_around n o.grant.ino (sym same) ∙ is)
-      by again false is e = again e
-
-  first_around : (files : List Opened) (n : ℕ) → number_in (find (λ (o : Opened). around o.grant) files) ≡ Some n
-      → option_map holder (first_with (is_on n None) (map keyed files)) ≡ option_map holder_of (find around (open_of files))
-  first_around [] n e = absurd cc
-  first_around (o ∷ os) n e = by (λ e. first_around os n e) (around o.grant) refl e
-    where
-      by : (number_in (find (λ (o : Opened). around o.grant) os) ≡ Some n → option_map holder (first_with (is_on n None) (map keyed os)) ≡ option_map holder_of (find around (open_of os)))
-          → (t : Bool) → around o.grant ≡ t → number_in (if t then Some o else find (λ (o : Opened). around o.grant) os) ≡ Some n
-          → option_map holder (if o.grant.ino == n then Some (keyed o).1 else first_with (is_on n None) (map keyed os)) ≡ option_map holder_of (if t then Some (with_checkpoint cs o.grant) else find around (open_of os))
-      by again true is e = ap (λ (t : Bool). option_map holder (if t then Some (keyed o).1 else first_with (is_on n None) (map keyed os))) (eq-eqb o.grant.ino n cc)
-      by again false is e =
-          let other : o.grant.ino ≡ n → ⊥ = λ same. false≢true (sym is ∙ same_around o.grant.ino n same ∙ number_around os n e) in
-          ap (λ (t : Bool). option_map holder (if t then Some (keyed o).1 else first_with (is_on n None) (map keyed os))) (ne_eqb o.grant.ino n other) ∙ again e
+-- the grant under the key of one of the files
+under_key : (files : List Opened) → are_new [] (map (λ (o : Opened). o.key) files) ≡ true → (o : Opened) → In o files → grant_under o.key (map keyed files) ≡ Some (keyed o).1
+under_key [] once o i = absurd i
+under_key (x ∷ xs) once o i =
+    let first = are_new-first x.key (map (λ (o : Opened). o.key) xs) once in
+    let at : Bool → Option Grant = λ t. option_map (λ (y : Keyed). y.1) (if t then Some (keyed x) else find (λ (y : Keyed). y.0 == o.key) (map keyed xs)) in
+    elim i [
+      | inl same ↦ ap at (eq-eqb x.key o.key (ap (λ (y : Opened). y.key) (sym same))) ∙ ap (λ (y : Opened). Some (keyed y).1) (sym same)
+      | inr later ↦
+          (let other : x.key ≢ o.key = λ e. first.0 (subst (λ n. In n (map (λ (y : Opened). y.key) xs)) (sym e) (In-map (λ (y : Opened). y.key) o xs later)) in
+          ap at (ne_eqb x.key o.key other) ∙ under_key xs first.1 o later)
+    ]
 
 -- ---- why a mode isn't changed
 
@@ -111,56 +94,56 @@ undenied_by true big rest e = absurd cc
 undenied_by false true rest e = absurd cc
 undenied_by false false rest e = refl
 
-map_busy : (o : Option OpenGrant) (who : Holder) → option_map holder_of o ≡ Some who → option_map (λ g. Busy (holder_of g)) o ≡ Some (Busy who)
-map_busy None who e = absurd cc
-map_busy (Some g) who e = ap (option_map Busy) e
+-- the first grant that refuses it, as it is told
+pub busy_told : (o : Option OpenGrant) (who : Holder) → option_map holder_of o ≡ Some who → option_map (λ g. Busy (holder_of g)) o ≡ Some (Busy who)
+busy_told None who e = absurd cc
+busy_told (Some g) who e = ap (option_map Busy) e
 
-map_none : (o : Option OpenGrant) → option_map holder_of o ≡ None → o ≡ None
-map_none None e = refl
-map_none (Some g) e = absurd cc
+pub none_told : (o : Option OpenGrant) → option_map holder_of o ≡ None → option_map (λ g. Busy (holder_of g)) o ≡ None
+none_told None e = refl
+none_told (Some g) e = absurd cc
 
-module _ (s : State) (lib ino mode : ℕ) where
+-- what refuses a change before any grant does, refuses it whatever grants are open
+plain_by : (other big : Bool) (rest rest' : Option ModeFault) (fault : ModeFault) → (rest ≡ Some fault → ⊥) → denial_by other big rest ≡ Some fault → denial_by other big rest' ≡ Some fault
+plain_by true big rest rest' fault none e = e
+plain_by false true rest rest' fault none e = e
+plain_by false false rest rest' fault none e = absurd (none e)
+
+module _ (s : State) (lib : LibNo) (ino mode : ℕ) (back : List Shown) where
   abbrev other_than : Row → Bool
-  other_than r = ino == 1 || not ((creds_of s lib).uid == 0 || (creds_of s lib).uid == r.uid)
+  other_than r = ino == 1 || not ((creds_of s lib.0).uid == 0 || (creds_of s lib.0).uid == r.uid)
 
-  -- a step with a fault
-  faulty : (o : Option Row) (fault told : ModeFault) (s' after : State) → row_at s.home ino ≡ o → mode_fault s lib ino mode o ≡ Some fault → (moded_to s ino mode (Some fault)).after ≡ after
-      → mode_fault_answer fault ≡ NotModeSet fault → told ≡ fault → s' ≡ after → Step s (SetMode lib ino mode) (mode_fault_answer told) s'
-  faulty o fault told s' after row is to said same then' =
-      let f : mode_fault s lib ino mode (row_at s.home ino) ≡ Some fault = ap (mode_fault s lib ino mode) row ∙ is in
-      let out = ap (moded_to s ino mode) f in
-      inl (ap mode_fault_answer same ∙ said ∙ ap (λ (x : Outcome). x.answer) (sym out), then' ∙ sym to ∙ ap (λ (x : Outcome). x.after) (sym out))
+  abbrev stays : OpenGrant → Bool
+  stays g = not (is_back lib.0 back g)
 
-  -- no such file
-  pub unlive_step : (told : ModeFault) (s' : State) → row_at s.home ino ≡ None
-      → ((told ≡ NotLive) × (s' ≡ logged s)) ⊎ ((told ≡ NoModeMemory) × (s' ≡ s)) → Step s (SetMode lib ino mode) (mode_fault_answer told) s'
-  unlive_step told s' row (inr none) = inr (refl, ap mode_fault_answer none.0, none.1)
-  unlive_step told s' row (inl logs) = faulty None NotLive told s' (logged s) row refl refl refl logs.0 logs.1
+  abbrev left : State
+  left = record s { open_grants = filter stays s.open_grants; entries = s.entries + length back }
 
-  -- not the owner's, or no mode
-  pub denied_step : (r : Row) (fault told : ModeFault) (s' : State) → row_at s.home ino ≡ Some r → mode_denial s lib ino mode r ≡ Some fault
-      → ((told ≡ fault) × (s' ≡ logged s)) ⊎ ((told ≡ NoModeMemory) × (s' ≡ s)) → Step s (SetMode lib ino mode) (mode_fault_answer told) s'
-  denied_step r fault told s' row denies (inr none) = inr (refl, ap mode_fault_answer none.0, none.1)
-  denied_step r fault told s' row denies (inl logs) =
-      let q = denied_by (other_than r) (nat_lt 511 mode) (option_map (λ g. Busy (holder_of g)) (mode_excluding s ino r)) fault denies in
-      elim q.1 [
-        | inl owner ↦ faulty (Some r) NotOwner told s' (logged s) row (q.0 ∙ ap Some owner) refl refl (logs.0 ∙ owner) logs.1
-        | inr big ↦ faulty (Some r) BadMode told s' (logged s) row (q.0 ∙ ap Some big) refl refl (logs.0 ∙ big) logs.1
-      ]
+  abbrev busy : Option OpenGrant → Option ModeFault
+  busy o = option_map (λ g. Busy (holder_of g)) o
 
-  fault_is : (r : Row) → mode_denial s lib ino mode r ≡ None → mode_fault s lib ino mode (Some r) ≡ option_map (λ g. Busy (holder_of g)) (find (is_around ino r.parent) s.open_grants)
-  fault_is r may =
-      undenied_by (other_than r) (nat_lt 511 mode) (option_map (λ g. Busy (holder_of g)) (mode_excluding s ino r)) may
-      ∙ ap (option_map (λ g. Busy (holder_of g))) (first_filtered (is_around ino r.parent) s.open_grants)
+  -- once the leases are back
+  at_back : (o : Option Row) → mode_fault (all_back s lib back) lib.0 ino mode o ≡ mode_fault left lib.0 ino mode o
+  at_back o = ap (λ (t : State). mode_fault t lib.0 ino mode o) (all_back_is s lib back)
 
-  -- a grant is out
-  pub busy_step : (r : Row) (who : Holder) (s' : State) → row_at s.home ino ≡ Some r → mode_denial s lib ino mode r ≡ None → option_map holder_of (find (is_around ino r.parent) s.open_grants) ≡ Some who → s' ≡ s
-      → Step s (SetMode lib ino mode) (NotModeSet (Busy who)) s'
-  busy_step r who s' row may held same =
-      faulty (Some r) (Busy who) (Busy who) s' s row (fault_is r may ∙ map_busy (find (is_around ino r.parent) s.open_grants) who held) refl refl refl same
+  pub denied_back : (r : Row) (fault : ModeFault) → mode_denial s lib.0 ino mode r ≡ Some fault → mode_fault (all_back s lib back) lib.0 ino mode (Some r) ≡ Some fault
+  denied_back r fault e = at_back (Some r) ∙ (denied_by (other_than r) (nat_lt 511 mode) (busy (mode_excluding left ino r)) fault e).0
 
-  pub free_fault : (r : Row) → mode_denial s lib ino mode r ≡ None → option_map holder_of (find (is_around ino r.parent) s.open_grants) ≡ None → mode_fault s lib ino mode (Some r) ≡ None
-  free_fault r may free = fault_is r may ∙ ap (option_map (λ g. Busy (holder_of g))) (map_none (find (is_around ino r.parent) s.open_grants) free)
+  pub free_back : (r : Row) → mode_denial s lib.0 ino mode r ≡ None → mode_fault (all_back s lib back) lib.0 ino mode (Some r) ≡ busy (find (stays_around lib.0 ino r.parent back) s.open_grants)
+  free_back r may =
+      at_back (Some r)
+      ∙ undenied_by (other_than r) (nat_lt 511 mode) (busy (mode_excluding left ino r)) may
+      ∙ ap busy (first_filtered (is_around ino r.parent) (filter stays s.open_grants) ∙ find-fused (is_around ino r.parent) stays s.open_grants)
+
+  -- a fault that names no grant is one before the leases are back, too
+  pub plain_fault : (o : Option Row) (fault : ModeFault) → ((holder : Holder) → fault ≡ Busy holder → ⊥) → mode_fault (all_back s lib back) lib.0 ino mode o ≡ Some fault → mode_fault s lib.0 ino mode o ≡ Some fault
+  plain_fault None fault plain e = e
+  plain_fault (Some r) fault plain e =
+      plain_by (other_than r) (nat_lt 511 mode) (busy (mode_excluding left ino r)) (busy (mode_excluding s ino r)) fault (none (mode_excluding left ino r)) (sym (at_back (Some r)) ∙ e)
+    where
+      none : (o : Option OpenGrant) → busy o ≡ Some fault → ⊥
+      none None e = cc e
+      none (Some g) e = plain (holder_of g) (let is : Some (Busy (holder_of g)) ≡ Some fault = e in sym (cc is))
 
 -- a page that is there on a core page
 core_there : (t : Bool) (o : Option (List ℕ)) (bytes : List ℕ) → (if t then o else None) ≡ Some bytes → t ≡ true
@@ -177,22 +160,43 @@ module _ (s : Store) (first : ℕ) (table : List Keyed) (files : List Opened) (c
   kept_now : Kept st
   kept_now = k.stored.kept
 
-  -- the first grant around a file, in the table and among the open grants
-  pub holder_around : (ino parent n : ℕ) → option_map (λ (o : Opened). o.grant.ino) (find (λ (o : Opened). is_around ino parent o.grant) files) ≡ Some n
-      → option_map holder (first_with (is_on n None) table) ≡ option_map holder_of (find (is_around ino parent) st.open_grants)
-  holder_around ino parent n e = ap (λ t. option_map holder (first_with (is_on n None) t)) k.grants ∙ first_around cs ino parent files n e
-
-  pub nobody_around : (ino parent : ℕ) → option_map (λ (o : Opened). o.grant.ino) (find (λ (o : Opened). is_around ino parent o.grant) files) ≡ None
-      → None ≡ option_map holder_of (find (is_around ino parent) st.open_grants)
-  nobody_around ino parent e = sym (ap (option_map holder_of) (none_around cs ino parent files (unmapped (find (λ (o : Opened). is_around ino parent o.grant) files) e)))
+  -- the first open grant around a file that stays is that of the first file
+  open_found : (lib ino parent : ℕ) (back : List Shown) → find (stays_around lib ino parent back) st.open_grants ≡ option_map (λ (o : Opened). with_checkpoint cs o.grant) (find (λ (o : Opened). stays_around lib ino parent back o.grant) files)
+  open_found lib ino parent back =
+      find_map (stays_around lib ino parent back) (with_checkpoint cs) (grants_in files)
+      ∙ ap (option_map (with_checkpoint cs)) (find_map (λ (g : OpenGrant). stays_around lib ino parent back g) (λ (o : Opened). o.grant) files)
+      ∙ twice (find (λ (o : Opened). stays_around lib ino parent back o.grant) files)
     where
-      unmapped : (o : Option Opened) → option_map (λ (o : Opened). o.grant.ino) o ≡ None → o ≡ None
+      twice : (o : Option Opened) → option_map (with_checkpoint cs) (option_map (λ (o : Opened). o.grant) o) ≡ option_map (λ (o : Opened). with_checkpoint cs o.grant) o
+      twice None = refl
+      twice (Some o) = refl
+
+  -- the first grant around a file that stays, in the table and among the open grants
+  pub holder_around : (lib ino parent : ℕ) (back : List Shown) (key : ℕ) → option_map (λ (o : Opened). o.key) (find (λ (o : Opened). stays_around lib ino parent back o.grant) files) ≡ Some key
+      → option_map holder (grant_under key table) ≡ option_map holder_of (find (stays_around lib ino parent back) st.open_grants)
+  holder_around lib ino parent back key e = by (find (λ (o : Opened). stays_around lib ino parent back o.grant) files) refl e
+    where
+      by : (o : Option Opened) → find (λ (o : Opened). stays_around lib ino parent back o.grant) files ≡ o → option_map (λ (o : Opened). o.key) o ≡ Some key → option_map holder (grant_under key table) ≡ option_map holder_of (find (stays_around lib ino parent back) st.open_grants)
+      by None f e = absurd cc
+      by (Some o) f e =
+          let same : o.key ≡ key = cc e in
+          ap (λ t. option_map holder (grant_under key t)) k.grants
+          ∙ ap (λ n. option_map holder (grant_under n (map keyed files))) (sym same)
+          ∙ ap (option_map holder) (under_key files k.keys_once o (find-In (λ (o : Opened). stays_around lib ino parent back o.grant) files o f).0)
+          ∙ sym (ap (option_map holder_of) (open_found lib ino parent back ∙ ap (option_map (λ (o : Opened). with_checkpoint cs o.grant)) f))
+
+  pub nobody_around : (lib ino parent : ℕ) (back : List Shown) → option_map (λ (o : Opened). o.key) (find (λ (o : Opened). stays_around lib ino parent back o.grant) files) ≡ None
+      → None ≡ option_map holder_of (find (stays_around lib ino parent back) st.open_grants)
+  nobody_around lib ino parent back e =
+      sym (ap (option_map holder_of) (open_found lib ino parent back) ∙ ap (λ o. option_map holder_of (option_map (λ (o : Opened). with_checkpoint cs o.grant) o)) (unmapped (find (λ (o : Opened). stays_around lib ino parent back o.grant) files) e))
+    where
+      unmapped : (o : Option Opened) → option_map (λ (o : Opened). o.key) o ≡ None → o ≡ None
       unmapped None e = refl
       unmapped (Some o) e = absurd cc
 
-  module _ (lib : LibNo) (ino mode : ℕ) (r : Row) (row : row_at st.home ino ≡ Some r) (may : mode_denial st lib.0 ino mode r ≡ None) (free : option_map holder_of (find (is_around ino r.parent) st.open_grants) ≡ None) where
-    abbrev change : MayChange st lib.0 ino mode r
-    change = may_change st lib.0 ino mode r (free_fault st lib.0 ino mode r may free)
+  module _ (lib ino mode : ℕ) (r : Row) (row : row_at st.home ino ≡ Some r) (none : mode_fault st lib ino mode (Some r) ≡ None) where
+    abbrev change : MayChange st lib ino mode r
+    change = may_change st lib ino mode r none
 
     -- the number of the file is in the table
     pub live_within : (0 < ino) × (ino < length s.rows)
@@ -258,7 +262,7 @@ module _ (s : Store) (first : ℕ) (table : List Keyed) (files : List Opened) (c
       rows_long : length moded ≡ length s.rows
       rows_long = length-set s.rows ino (Some (with_row_mode mode r))
 
-      after_is : after ≡ logged (record st { home = image_with_mode st.home ino mode })
+      pub after_is : after ≡ logged (record st { home = image_with_mode st.home ino mode })
       after_is =
           let S : Store → List (Option (List ℕ)) → ℕ → ℕ → ℕ → State = λ (t : Store) ps e n made. record {
             home = record { core = record { pages = ps; root = t.root; range = record { first = first; end = e }; inodes = n - 1 }; rows = t.rows; owners = t.owners };
@@ -278,9 +282,9 @@ module _ (s : Store) (first : ℕ) (table : List Keyed) (files : List Opened) (c
           ∙ ap (λ ps. S (T moded) ps (length s.home.pages) (length s.rows) (entries.made + 1)) pages_are
           ∙ ap (λ rs. S (T rs) (body_put (row_at st.home ino) (body_with_mode mode (settled_body st.home ino)) s.home.pages) (length s.home.pages) (length s.rows) (entries.made + 1)) to
 
-      pub moded_step : Step st (SetMode lib.0 ino mode) ModeSet after
+      moded_step : Step st (SetMode lib ino mode) ModeSet after
       moded_step =
-          let f : mode_fault st lib.0 ino mode (row_at st.home ino) ≡ None = ap (mode_fault st lib.0 ino mode) row ∙ free_fault st lib.0 ino mode r may free in
+          let f : mode_fault st lib ino mode (row_at st.home ino) ≡ None = ap (mode_fault st lib ino mode) row ∙ none in
           let out = ap (moded_to st ino mode) f in
           inl (ap (λ (x : Outcome). x.answer) (sym out), after_is ∙ ap (λ (x : Outcome). x.after) (sym out))
 
@@ -298,7 +302,7 @@ module _ (s : Store) (first : ℕ) (table : List Keyed) (files : List Opened) (c
         places = ap (λ (t : Store). length t.checkpoints.items) rest ∙ k.stored.places ∙ sym (ap (λ (t : Store). length t.rows) rest ∙ rows_long);
         of_grant = λ n c e. k.stored.of_grant n c (sym (same_checkpoints n) ∙ e);
         covers = λ g i kind. (let q = k.stored.covers g i kind in (q.0, same_checkpoints g.ino ∙ q.1, q.2));
-        kept = step_kept st after (SetMode lib.0 ino mode) ModeSet kept_now tt moded_step;
+        kept = step_kept st after (SetMode lib ino mode) ModeSet kept_now tt moded_step;
       }
 
       -- the file of each grant is another
@@ -319,5 +323,5 @@ module _ (s : Store) (first : ℕ) (table : List Keyed) (files : List Opened) (c
         earlier = λ o i. (let e = k.earlier o i in let more = ap (λ (n : Entries). n.made) next in omega (arith, e, more));
         promised = ap (λ (n : Entries). n.promised) next ∙ k.promised;
         kinds = subst (λ (t : Store). HaveKinds t.rows files) (sym rest) moded_kinds;
-        told = told_kept s'.rows s'.checkpoints.items (grants_in files) (step_told st (told_open s.rows cs (grants_in files) k.told) (SetMode lib.0 ino mode) ModeSet after kept_now tt moded_step);
+        told = told_kept s'.rows s'.checkpoints.items (grants_in files) (step_told st (told_open s.rows cs (grants_in files) k.told) (SetMode lib ino mode) ModeSet after kept_now tt moded_step);
       }

@@ -53,6 +53,7 @@ use Rattle.trio_laws.proofs.history.NotesSteps.{refused_notes}
 use Rattle.trio_laws.proofs.history.AcceptedBlocks.{accepted_is_listed}
 use Rattle.trio_laws.proofs.history.RefusedTold.{refused_is_listed}
 use Rattle.trio_laws.proofs.judgement.Equivalence.{rules_are_accept}
+use Rattle.trio_laws.proofs.session.Lent.{step_keeps_lent}
 use Rattle.trio_ctl.specs.Answers.{verdict_of}
 use Rattle.trio_ctl.specs.HandedIn.{WasLentAs, WereLent}
 use Rattle.trio_ctl.specs.Logged.{HasHistory, entries_made, with_bundle}
@@ -214,7 +215,7 @@ pub noted_refused : (s s' : State) (lib : ℕ) (b : Bundled) (why : Why) (notes 
 noted_refused s s' lib b why notes j noted step =
     noted ∙ sym (subst (SameNotes s lib) (handed_is b) (refused_notes s lib (handed_in b)) j) ∙ ap notes_of (sym (settles_refused s lib (bundle_in b) why s' step))
 
-noted_then : (s s' : State) (lib : LibNo) (b : Bundled) (outcome : Outcome) (told : Told) (notes : Notes) → IsJudgeable s lib.0 (bundle_in b) → IsOutcome (case_in s lib.0 (bundle_in b)) outcome → notes ≡ notes_of (settled s) → TellsOutcome (case_in s lib.0 (bundle_in b)) notes (handed_in b) outcome told → Step s (Release lib.0 (bundle_in b)) (verdict_of (verdict_on outcome)) s' → noted_by (verdict_on outcome) told.files notes ≡ notes_of (settled s')
+pub noted_then : (s s' : State) (lib : LibNo) (b : Bundled) (outcome : Outcome) (told : Told) (notes : Notes) → IsJudgeable s lib.0 (bundle_in b) → IsOutcome (case_in s lib.0 (bundle_in b)) outcome → notes ≡ notes_of (settled s) → TellsOutcome (case_in s lib.0 (bundle_in b)) notes (handed_in b) outcome told → Step s (Release lib.0 (bundle_in b)) (verdict_of (verdict_on outcome)) s' → noted_by (verdict_on outcome) told.files notes ≡ notes_of (settled s')
 noted_then s s' lib b (OutAccepted l) told notes j o noted t step = noted_accepted s s' lib.0 b l told notes j o noted t step
 noted_then s s' lib b (OutRefused rule ino page slot) told notes j o noted t step =
     noted_refused s s' lib.0 b (record { rule = rule; ino = ino; page = page; slot = slot }) notes j noted step
@@ -228,6 +229,7 @@ after_release first s s' promised log log' notes notes' lib b outcome told h j i
       (e ∙ sym (ap (λ (l : List Entry). log.entries ++ l) (release_entries s lib b outcome told notes j o h.noted t)));
   room = room;
   mine = still_mine s (Release lib.0 (bundle_in b)) _ s' j.kept j.given step its h.mine;
+  lent = step_keeps_lent s (Release lib.0 (bundle_in b)) _ s' j.kept h.all.whole j.given step h.lent;
   noted = noted' ∙ noted_then s s' lib b outcome told notes j o h.noted t step;
 }
 

@@ -1,5 +1,5 @@
 -- Each call of the controller leaves all recorded, its entry too.
-use Rattle.std.proofs.Common.{◌≡◌, ◌⊎◌, ◌+◌, ◌≤◌, ◌<◌, ◌==◌, ℕ, Bool, true, false, List, [], ◌∷◌, ◌++◌, length, length-append, Option, Some, None, Result, Ok, Err, inl, inr, refl, sym, ap, subst, ◌∙◌, arith}
+use Rattle.std.proofs.Common.{◌≡◌, ◌⊎◌, ◌+◌, ◌≤◌, ◌<◌, ◌==◌, ℕ, Bool, true, false, List, [], ◌∷◌, ◌++◌, append_assoc, append-nil, length, length-append, Option, Some, None, Result, Ok, Err, inl, inr, refl, sym, ap, subst, ◌∙◌, arith}
 use Rattle.std.specs.List.{filter}
 use Rattle.std.proofs.lemmas.Bool.{eq-eqb, eqb-true, eqb-false}
 use Rattle.trio_lists.specs.Lists.{In}
@@ -12,6 +12,7 @@ use Rattle.trio_survey.specs.Stored.{image_in}
 use Rattle.trio_image.specs.Image.{IsVerified}
 use Rattle.trio_state.specs.ImageNodes.{notes_by_rows}
 use Rattle.trio_state.specs.Run.{IsWhole, start}
+use Rattle.trio_lease.specs.Shown.{Shown}
 use Rattle.trio_lease.specs.declared.fresh.Allotted.{Allotted}
 use Rattle.trio_lease.specs.declared.lease.Lease.{Lease}
 use Rattle.trio_layout.specs.Image.{Image}
@@ -20,8 +21,6 @@ use Rattle.trio_nodes.specs.declared.answers.AllotFault.{AllotFault}
 use Rattle.trio_nodes.specs.declared.answers.AllotFault.TheVariants as unallotted
 use Rattle.trio_nodes.specs.declared.answers.GrantFault.{GrantFault}
 use Rattle.trio_nodes.specs.declared.answers.GrantFault.TheVariants as ungranted
-use Rattle.trio_nodes.specs.declared.answers.ModeFault.{ModeFault}
-use Rattle.trio_nodes.specs.declared.answers.ModeFault.TheVariants as unmoded
 use Rattle.trio_nodes.specs.declared.entry.AllotAnswer.{AllotAnswer}
 use Rattle.trio_nodes.specs.declared.entry.Entry.{Entry}
 use Rattle.trio_nodes.specs.declared.entry.Entry.TheVariants as entry
@@ -29,10 +28,11 @@ use Rattle.trio_nodes.specs.declared.entry.GrantAnswer.{GrantAnswer}
 use Rattle.trio_nodes.specs.declared.grant.GrantKind.{GrantKind}
 use Rattle.trio_rights.specs.declared.rights.LibNo.{LibNo}
 use Rattle.trio_state.specs.Given.{GivenEvent, HasGrant}
+use Rattle.trio_state.specs.Grants.{given_back}
 use Rattle.trio_state.specs.Kept.{Kept}
 use Rattle.trio_state.specs.Listed.{Notes}
 use Rattle.trio_state.specs.State.{OpenGrant, State}
-use Rattle.trio_state.specs.Step.{Event, Grant, Allot, SetMode, CtlAnswer, Step}
+use Rattle.trio_state.specs.Step.{Event, Grant, Allot, Back, Done, CtlAnswer, Step}
 use Rattle.trio_laws.specs.Laws.{library_of}
 use Rattle.trio_laws.specs.OutLaws.{HasOut, grants_to, without_checkpoint}
 use Rattle.trio_laws.specs.history.Entries.{Beside}
@@ -40,15 +40,17 @@ use Rattle.trio_laws.specs.history.Recorded.{IsRecorded, BesideFits}
 use Rattle.trio_laws.specs.history.Replays.{IsLibrary}
 use Rattle.trio_laws.specs.history.ToldLaws.{EndsNone}
 use Rattle.trio_laws.proofs.OthersOut.{others_keep_out}
-use Rattle.trio_laws.proofs.history.Begins.{history_begins}
+use Rattle.trio_laws.proofs.history.Begins.{history_begins, history_is_legal}
 use Rattle.trio_laws.proofs.history.Grows.{history_grows, step_creds}
 use Rattle.trio_laws.proofs.history.NotesStart.{start_notes}
 use Rattle.trio_laws.proofs.history.NotesSteps.{steps_keep_notes}
+use Rattle.trio_laws.proofs.session.Lent.{step_keeps_lent}
 use Rattle.trio_ctl.proofs.Starting.{image_kept}
 use Rattle.trio_ctl.proofs.Wholes.{whole_none}
-use Rattle.trio_ctl.specs.Answers.{allot_answer, grant_answer, mode_answer}
+use Rattle.trio_ctl.specs.Answers.{allot_answer, grant_answer}
+use Rattle.trio_ctl.specs.Backs.{AreBack, all_back, back_entries}
 use Rattle.trio_ctl.specs.Logged.{AreMine, HasHistory, alone, entries_made, recorded}
-use Rattle.trio_ctl.specs.inner.Telling.{allot_told, grant_told, mode_told}
+use Rattle.trio_ctl.specs.inner.Telling.{allot_told, grant_told}
 
 -- ---- grants of libraries alone
 
@@ -69,6 +71,13 @@ still_mine s event answer s' k given step its mine = λ lib. by lib (library_of 
 pub grown : (first : Image) (s s' : State) (log log' : List Entry) (x : Beside) (event : Event) (answer : CtlAnswer) → IsRecorded (recorded first s log) → IsLibrary s.creds (library_of event) → GivenEvent s event → Step s event answer s' → BesideFits s x event answer s' → log' ≡ log ++ entries_made s x event answer → IsRecorded (recorded first s' log')
 grown first s s' log log' x event answer r its given step fits e =
     subst (λ l. IsRecorded (recorded first s' l)) (sym e) (history_grows (recorded first s log) x event answer s' r its given step fits)
+
+-- ---- the number of the next entry
+
+-- the log has as many entries as the state counts
+pub next_entry : (first : Image) (s : State) (promised : ℕ) (log : Logged) (notes : Notes) (es : List Entry) (n : ℕ) → HasHistory first s promised log notes → n ≡ length es → es ≡ log.entries → n ≡ s.entries
+next_entry first s promised log notes es n h len same =
+    len ∙ ap (λ (l : List Entry). length l) same ∙ (history_is_legal (recorded first s log.entries) h.all).1
 
 -- ---- entries of answers
 
@@ -91,23 +100,35 @@ allot_entries s lib pages inodes (Err (unallotted.NoPages wanted free)) told e =
 allot_entries s lib pages inodes (Err (unallotted.NoInodes wanted free)) told e = ap (with_told (entry.Allot lib pages inodes)) (sym e)
 allot_entries s lib pages inodes (Err unallotted.NoMemory) told e = ap (with_told (entry.Allot lib pages inodes)) (sym e)
 
-pub mode_entries : (s : State) (lib : LibNo) (ino mode : ℕ) (said : Result (Unit {0}) ModeFault) (told : Option (Result (Unit {0}) ModeFault)) → told ≡ mode_told said → entries_made s alone (SetMode lib.0 ino mode) (mode_answer said) ≡ with_told (λ a. entry.Mode lib ino mode a None) told
-mode_entries s lib ino mode (Ok done) told e = ap (with_told (λ a. entry.Mode lib ino mode a None)) (sym e)
-mode_entries s lib ino mode (Err unmoded.NotLive) told e = ap (with_told (λ a. entry.Mode lib ino mode a None)) (sym e)
-mode_entries s lib ino mode (Err unmoded.NotOwner) told e = ap (with_told (λ a. entry.Mode lib ino mode a None)) (sym e)
-mode_entries s lib ino mode (Err unmoded.BadMode) told e = ap (with_told (λ a. entry.Mode lib ino mode a None)) (sym e)
-mode_entries s lib ino mode (Err (unmoded.Busy holder)) told e = ap (with_told (λ a. entry.Mode lib ino mode a None)) (sym e)
-mode_entries s lib ino mode (Err unmoded.NoMemory) told e = ap (with_told (λ a. entry.Mode lib ino mode a None)) (sym e)
-
 -- ---- what holds after a call that ends no bundle
 
-pub after_call : (first : Image) (s s' : State) (promised promised' : ℕ) (log log' : Logged) (notes : Notes) (event : Event) (answer : CtlAnswer) → HasHistory first s promised log notes → Kept s → IsLibrary s.creds (library_of event) → GivenEvent s event → EndsNone event → Step s event answer s' → BesideFits s alone event answer s' → log'.entries ≡ log.entries ++ entries_made s alone event answer → length log'.entries + promised' ≤ log'.room → HasHistory first s' promised' log' notes
-after_call first s s' promised promised' log log' notes event answer h k its given none step fits e room = record {
-  all = grown first s s' log.entries log'.entries alone event answer h.all its given step fits e;
+pub after_told : (first : Image) (s s' : State) (promised promised' : ℕ) (log log' : Logged) (notes : Notes) (x : Beside) (event : Event) (answer : CtlAnswer) → HasHistory first s promised log notes → Kept s → IsLibrary s.creds (library_of event) → GivenEvent s event → EndsNone event → Step s event answer s' → BesideFits s x event answer s' → log'.entries ≡ log.entries ++ entries_made s x event answer → length log'.entries + promised' ≤ log'.room → HasHistory first s' promised' log' notes
+after_told first s s' promised promised' log log' notes x event answer h k its given none step fits e room = record {
+  all = grown first s s' log.entries log'.entries x event answer h.all its given step fits e;
   room = room;
   mine = still_mine s event answer s' k given step its h.mine;
+  lent = step_keeps_lent s event answer s' k h.all.whole given step h.lent;
   noted = h.noted ∙ sym (steps_keep_notes s event answer s' k given none step);
 }
+
+-- where nothing is told beside it
+pub after_call : (first : Image) (s s' : State) (promised promised' : ℕ) (log log' : Logged) (notes : Notes) (event : Event) (answer : CtlAnswer) → HasHistory first s promised log notes → Kept s → IsLibrary s.creds (library_of event) → GivenEvent s event → EndsNone event → Step s event answer s' → BesideFits s alone event answer s' → log'.entries ≡ log.entries ++ entries_made s alone event answer → length log'.entries + promised' ≤ log'.room → HasHistory first s' promised' log' notes
+after_call first s s' promised promised' log log' notes event answer h k its given none step fits e room = after_told first s s' promised promised' log log' notes alone event answer h k its given none step fits e room
+
+-- after read leases are given back, one after another
+pub backs_history : (first : Image) (s : State) (lib : LibNo) (back : List Shown) (promised promised' : ℕ) (log log' : Logged) (notes : Notes) → HasHistory first s promised log notes → IsLibrary s.creds lib.0 → AreBack s lib back → log'.entries ≡ log.entries ++ back_entries lib back → promised' + length back ≡ promised → length log'.entries + promised' ≤ log'.room → HasHistory first (all_back s lib back) promised' log' notes
+backs_history first s lib [] promised promised' log log' notes h its b given less room = record {
+  all = subst (λ es. IsRecorded (recorded first s es)) (sym (given ∙ append-nil log.entries)) h.all;
+  room = room;
+  mine = h.mine;
+  lent = h.lent;
+  noted = h.noted;
+}
+backs_history first s lib (f ∷ fs) promised promised' log log' notes h its b given less room =
+    let mid : Logged = record { entries = log.entries ++ entry.Back lib f.ino ∷ []; room = length (log.entries ++ entry.Back lib f.ino ∷ []) + (promised' + length fs) } in
+    backs_history first (given_back s lib.0 f.ino) lib fs (promised' + length fs) promised' mid log' notes
+    (after_call first s (given_back s lib.0 f.ino) promised (promised' + length fs) log mid notes (Back lib.0 f.ino) Done h h.all.kept its b.0 tt (inl (refl, refl)) tt refl (omega arith))
+    its b.1 (given ∙ sym (append_assoc log.entries (entry.Back lib f.ino ∷ []) (back_entries lib fs))) refl room
 
 -- one entry more, for which there were two places, and at most one promised more
 pub one_more_room : (es : List Entry) (e : Entry) (p p' room : ℕ) → length es + p + 2 ≤ room → p' ≤ p + 1 → length (es ++ e ∷ []) + p' ≤ room
@@ -150,5 +171,6 @@ begins sb pages creds log notes v empty noted =
       all = subst (λ l. IsRecorded (recorded image (start image creds) l)) (sym empty) (history_begins image creds k.fit k.verifies whole);
       room = (let n : length log.entries ≡ 0 = ap (λ (l : List Entry). length l) empty in omega (arith, n));
       mine = λ lib. inr refl;
+      lent = record { files = λ g f i. absurd i; holds = λ g h i. absurd i };
       noted = noted ∙ sym (start_notes image creds k.fit k.verifies whole positive);
     }

@@ -1,10 +1,14 @@
 -- What contracts see of the controller.
-use Rattle.std.proofs.Common.{◌≡◌, ap}
+use Rattle.std.proofs.Common.{◌≡◌, ℕ, ap, sym, ◌∙◌}
 use Rattle.trio_ctl.specs.Ctl.{Controller, Registered}
 
 -- the state of what is seen
 pub state_is : {a b : Registered} → a ≡ b → a.state ≡ b.state
 state_is e = ap (λ (x : Registered). x.state) e
+
+-- the number of the next entry, by what is seen
+pub next_is : {a b : Registered} {n : ℕ} → n ≡ b.state.entries → a ≡ b → n ≡ a.state.entries
+next_is next e = next ∙ ap (λ (x : Registered). x.state.entries) (sym e)
 
 -- the state of what is seen of the controller
 pub seen_state : {a b : Controller} → a ≡ b → a.state ≡ b.state

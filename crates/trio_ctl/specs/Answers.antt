@@ -18,7 +18,7 @@ use Rattle.trio_nodes.specs.declared.answers.ReleaseAnswer.{ReleaseAnswer}
 use Rattle.trio_nodes.specs.declared.answers.ReleaseAnswer.TheVariants.{Accepted as AcceptedBundle, Refused as RefusedBundle}
 use Rattle.trio_nodes.specs.declared.answers.ReleaseFault.{ReleaseFault}
 use Rattle.trio_nodes.specs.declared.answers.ReleaseFault.TheVariants.{NotClosed as NotClosedBundle, NoMemory as NoReleaseMemory}
-use Rattle.trio_state.specs.Step.{CtlAnswer, Granted, NotGranted, Given, NoPages, NoInodes, Accepted, Refused, NotClosed, ModeSet, NotModeSet, NoMemory}
+use Rattle.trio_state.specs.Step.{CtlAnswer, Granted, NotGranted, Given, NoPages, NoInodes, Accepted, Refused, NotClosed, NotModeSet, NoMemory}
 use Rattle.trio_ctl.specs.declared.image.ImageFault.{ImageFault}
 use Rattle.trio_ctl.specs.declared.image.ImageFault.TheVariants.{Busy, NoMemory as NoImageMemory}
 
@@ -65,10 +65,6 @@ allot_answer (Err fault) = allot_fault_answer fault
 abbrev pub mode_fault_answer : ModeFault → CtlAnswer
 mode_fault_answer NoModeMemory = NoMemory
 mode_fault_answer fault = NotModeSet fault
-
-abbrev pub mode_answer : Result (Unit {0}) ModeFault → CtlAnswer
-mode_answer (Ok done) = ModeSet
-mode_answer (Err fault) = mode_fault_answer fault
 
 -- a settled image is told just where nobody writes; else the first writer is named
 abbrev pub TellsImage : {I : Type 0} → Option Holder → Result I ImageFault → Type 0

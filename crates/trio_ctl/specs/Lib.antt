@@ -3,9 +3,11 @@ pub mod Stored
 pub mod Ctl
 pub mod Open
 pub mod HandedIn
+pub mod Room
 pub mod Belonging
 pub mod Logged
 pub mod Answers
+pub mod Backs
 pub mod Desk
 pub mod DeskLaws
 pub mod inner

@@ -1,8 +1,10 @@
 -- The log that a controller keeps beside its state.
-use Rattle.std.specs.Prelude.{◌≡◌, ◌⊎◌, ℕ, ◌+◌, ◌≤◌, List, [], ◌++◌, None, length}
+use Rattle.std.specs.Prelude.{◌≡◌, ◌⊎◌, ℕ, ◌+◌, ◌≤◌, List, [], ◌++◌, Option, None, length}
 use Rattle.std.specs.Option.{option_to_list}
 use Rattle.trio_lease.specs.Bundles.{Bundled}
 use Rattle.trio_layout.specs.Image.{Image}
+use Rattle.trio_nodes.specs.declared.call.Call.{Call}
+use Rattle.trio_nodes.specs.declared.call.Done.{Done}
 use Rattle.trio_nodes.specs.declared.entry.Entry.{Entry}
 use Rattle.trio_log.specs.Logged.{Logged}
 use Rattle.trio_entries.specs.Handed.{handed_in}
@@ -15,15 +17,24 @@ use Rattle.trio_laws.specs.history.Recorded.{Recorded, IsRecorded}
 use Rattle.trio_laws.specs.history.Replays.{IsLibrary}
 use Rattle.trio_laws.specs.history.Stands.{nodes_of}
 use Rattle.trio_laws.specs.history.ToldLaws.{notes_of}
+use Rattle.trio_laws.specs.session.Lent.{LentIsTrue}
 use Rattle.trio_ctl.specs.Ctl.{Controller}
 
--- nothing is told beside an event that hands in no bundle
-abbrev pub alone : Beside
-alone = record { handed = record { writes = []; holds = []; pages = []; numbers = [] }; calls = []; call = None }
+-- beside a change of mode, its call is told, if it has one
+abbrev pub with_call : Option Call → Beside
+with_call call = record { handed = record { writes = []; holds = []; pages = []; numbers = [] }; calls = []; call = call }
 
--- beside a release, the bundle is told as it is handed in
+-- nothing is told beside any other event that hands in no bundle
+abbrev pub alone : Beside
+alone = with_call None
+
+-- beside a settle, the bundle is told as it is handed in, and the calls
+abbrev pub with_calls : Bundled → List Done → Beside
+with_calls b calls = record { handed = handed_in b; calls = calls; call = None }
+
+-- beside a release, the bundle alone
 abbrev pub with_bundle : Bundled → Beside
-with_bundle b = record { handed = handed_in b; calls = []; call = None }
+with_bundle b = with_calls b []
 
 -- the entry that an event and its answer make, if they make one
 abbrev pub entries_made : State → Beside → Event → CtlAnswer → List Entry
@@ -43,9 +54,10 @@ abbrev pub AreMine : State → Type 0
 AreMine s = (lib : ℕ) → IsLibrary s.creds lib ⊎ (grants_to s.open_grants lib ≡ [])
 
 -- What holds of the log and of the notes: all is recorded, there are places for the entries that are promised, each open grant is of
--- one of the libraries, and the notes are of the files of the settled image.
+-- one of the libraries, what the open grants lent is true, and the notes are of the files of the settled image.
 pub record HasHistory (first : Image) (s : State) (promised : ℕ) (log : Logged) (notes : Notes) : Type 0 where
   pub all : IsRecorded (recorded first s log.entries)
   pub room : length log.entries + promised ≤ log.room
   pub mine : AreMine s
+  pub lent : LentIsTrue s
   pub noted : notes ≡ notes_of (settled s)

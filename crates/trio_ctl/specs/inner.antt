@@ -6,4 +6,5 @@ pub mod Outcomes
 pub mod Pages
 pub mod Parting
 pub mod Reads
+pub mod Room
 pub mod Telling

@@ -15,7 +15,14 @@ use trio_rights::LibNo;
 
 impl Registry {
     /// Allots free pages and inode numbers to a library, as [`Ctl::allot`](crate::Ctl::allot) says.
-    pub fn allot(&mut self, lib: LibNo, pages: u32, inodes: u32) -> Result<Allotted, AllotFault>
+    pub fn allot(
+        &mut self,
+        entry: u64,
+        lib: LibNo,
+        pages: u32,
+        inodes: u32,
+    ) -> Result<Allotted, AllotFault>
+        requires entry { entry ≡ self.old.state.entries }
         requires library { IsLibrary lib self.old.state }
         ensures step { Step self.old.state (Allot lib.0 pages inodes) (allot_answer result) self.new.state }
         ensures pages { IfOk result (λ given. given.pages.items ≡ map (fresh_page lib) (page_numbers given.pages.items)) }
@@ -24,7 +31,7 @@ impl Registry {
         ensures kept { Kept self.new.state }
         ensures promised { self.new.promised ≡ self.old.promised }
     {
-        let Ok(()) = self.history.make_room(1) else {
+        let Ok(()) = self.history.make_room(entry, 1) else {
             return Err(AllotFault::NoMemory);
         };
         let given = self.store.allotments.take(
@@ -38,14 +45,14 @@ impl Registry {
         );
         match given {
             Ok(given) => {
-                self.history.enter();
+                self.history.enter(entry);
                 Ok(given)
             }
             // want of memory makes no entry
             Err(fault) => match fault {
                 AllotFault::NoMemory => Err(fault),
                 AllotFault::NoPages { .. } | AllotFault::NoInodes { .. } => {
-                    self.history.enter();
+                    self.history.enter(entry);
                     Err(fault)
                 }
             },

@@ -1,4 +1,4 @@
-//! The calls that hand in no bundle, each with its entry in the log.
+//! Grants, allotments and give backs, each with its entry in the log.
 
 ghost use Rattle.std.specs.Prelude.{◌≡◌, IfOk, map};
 ghost use Rattle.std.specs.Option.{IsSomeAnd};
@@ -8,17 +8,17 @@ ghost use Rattle.trio_nodes.specs.declared.grant.GrantKind.TheVariants.{Read};
 ghost use Rattle.trio_state.specs.Given.{HasGrant};
 ghost use Rattle.trio_state.specs.Grants.{opened};
 ghost use Rattle.trio_state.specs.Kept.{Kept};
-ghost use Rattle.trio_state.specs.Step.{Allot, Back, Done, Grant, SetMode, Step};
-ghost use Rattle.trio_ctl.specs.Answers.{allot_answer, grant_answer, mode_answer};
+ghost use Rattle.trio_state.specs.Step.{Allot, Back, Done, Grant, Step};
+ghost use Rattle.trio_ctl.specs.Answers.{allot_answer, grant_answer};
 ghost use Rattle.trio_ctl.specs.Ctl.{IsLibrary};
 ghost use Rattle.trio_ctl.specs.Logged.{Logs, alone};
 ghost use Rattle.trio_ctl.specs.Open.{lent_by};
-ghost use Rattle.trio_ctl.specs.inner.Telling.{HasRoomFrom, allot_told, grant_told, mode_told};
+ghost use Rattle.trio_ctl.specs.inner.Telling.{HasRoomFrom, allot_told, grant_told};
 
 use crate::ctl::{Ctl, make_places};
 use crate::numbers::Numbers;
 use trio_lease::{Allotted, Lease, ReadLease};
-use trio_nodes::{AllotAnswer, AllotFault, Entry, GrantAnswer, GrantFault, GrantKind, ModeFault};
+use trio_nodes::{AllotAnswer, AllotFault, Entry, GrantAnswer, GrantFault, GrantKind};
 use trio_rights::LibNo;
 
 impl Ctl {
@@ -48,7 +48,7 @@ impl Ctl {
         let Ok(()) = make_places(&mut self.log, self.registry.promised(), 2) else {
             return Err(GrantFault::NoMemory);
         };
-        let result = self.registry.grant(lib, ino, kind);
+        let result = self.registry.grant(self.log.len(), lib, ino, kind);
         if let Some(answer) = grant_told(&result) {
             self.log.push(Entry::Grant {
                 lib,
@@ -85,7 +85,7 @@ impl Ctl {
         let Ok(numbers) = Numbers::with(alloc, most_pages, most_inodes) else {
             return Err(AllotFault::NoMemory);
         };
-        let result = self.registry.allot(lib, pages, inodes);
+        let result = self.registry.allot(self.log.len(), lib, pages, inodes);
         if let Some(answer) = allot_told(numbers, &result) {
             self.log.push(Entry::Allot {
                 lib,
@@ -109,45 +109,8 @@ impl Ctl {
     {
         let lib = lease.lib();
         let ino = lease.ino();
-        self.registry.give_back(lease);
+        self.registry.give_back(self.log.len(), lease);
         self.log.push(Entry::Back { lib, ino });
-    }
-
-    /// Changes the mode of a live file, for its owner or for uid 0.
-    ///
-    /// After `Ok` the row of the file has this mode, and so has the copy in its body: the one in the
-    /// slot of the directory page that lists the file. Nobody has the file or its directory out then,
-    /// so that page is at home.
-    ///
-    /// `NotLive` exactly where no live file has the number; `NotOwner` exactly where it is the root's,
-    /// whose mode nobody changes, or the library's uid is neither the file's nor 0; `BadMode` exactly
-    /// where the mode is above `0o777`; `Busy` exactly where a grant is open on the file or on its
-    /// directory, of whatever kind and library, with the one of the lowest entry: the first of these
-    /// that applies. After each of them the image is as before. Each answer makes an entry in the
-    /// log, but for `Busy` and `NoMemory`, after which nothing changed. `NoMemory` may come in place
-    /// of each other answer: a log that has or has promised as many entries as a `u64` counts has no
-    /// memory for more.
-    pub fn set_mode(&mut self, lib: LibNo, ino: u32, mode: u16) -> Result<(), ModeFault>
-        requires library { IsLibrary lib self.old.state }
-        ensures step { Step self.old.state (SetMode lib.0 ino mode) (mode_answer result) self.new.state }
-        ensures logs { Logs self.old alone (SetMode lib.0 ino mode) (mode_answer result) self.new }
-        ensures was_kept { Kept self.old.state }
-        ensures kept { Kept self.new.state }
-    {
-        let Ok(()) = make_places(&mut self.log, self.registry.promised(), 1) else {
-            return Err(ModeFault::NoMemory);
-        };
-        let result = self.registry.set_mode(lib, ino, mode);
-        if let Some(answer) = mode_told(result) {
-            self.log.push(Entry::Mode {
-                lib,
-                ino,
-                mode,
-                answer,
-                call: None,
-            });
-        }
-        result
     }
 }
 
@@ -160,16 +123,6 @@ fn grant_told(said: &Result<Lease, GrantFault>) -> Option<GrantAnswer>
         Ok(_) => Some(GrantAnswer::Granted(0)),
         Err(GrantFault::Busy(_) | GrantFault::NoMemory) => None,
         Err(fault) => Some(GrantAnswer::Refused(*fault)),
-    }
-}
-
-// what the log tells of a change of mode; Busy and want of memory make no entry
-fn mode_told(said: Result<(), ModeFault>) -> Option<Result<(), ModeFault>>
-    ensures { result ≡ mode_told said }
-{
-    match said {
-        Err(ModeFault::Busy(_) | ModeFault::NoMemory) => None,
-        _ => Some(said),
     }
 }
 

@@ -1,18 +1,20 @@
 //! The controller.
 
-ghost use Rattle.std.specs.Prelude.{◌≡◌, ◌≤◌, ◌+◌, ◌↔◌, [], IfErr, IfOk, IsTrue, OnOk, length, vec_len};
+ghost use Rattle.std.specs.Prelude.{◌≡◌, ◌≤◌, ◌+◌, ◌↔◌, ℕ, [], IfErr, IfOk, IsTrue, OnOk, length, vec_len};
 ghost use Rattle.trio_lease.specs.Views.{bundle_in};
 ghost use Rattle.trio_state.specs.Given.{GivenTo};
 ghost use Rattle.trio_state.specs.Kept.{Kept};
 ghost use Rattle.trio_state.specs.Run.{start};
 ghost use Rattle.trio_state.specs.State.{creds_of};
 ghost use Rattle.trio_laws.specs.history.Recorded.{IsRecorded};
+ghost use Rattle.trio_laws.specs.session.Lent.{LentIsTrue};
 ghost use Rattle.trio_survey.specs.Stored.{image_in};
 ghost use Rattle.trio_ctl.specs.Answers.{TellsImage, TellsLastImage};
 ghost use Rattle.trio_ctl.specs.Belonging.{Belongs};
 ghost use Rattle.trio_ctl.specs.Ctl.{AreAsTold, IsLibrary, TellsSettled, writer_of};
 ghost use Rattle.trio_ctl.specs.HandedIn.{WereHeld};
 ghost use Rattle.trio_ctl.specs.Logged.{recorded};
+ghost use Rattle.trio_ctl.specs.Room.{room_for};
 
 use crate::image::ImageFault;
 use crate::registry::Registry;
@@ -123,6 +125,13 @@ impl Ctl {
         self.registry.is_as_told();
     }
 
+    /// What each open grant lent is true of the nodes and rows of its state. Nothing is done.
+    pub fn is_as_lent(&self)
+        ensures { LentIsTrue self.now.state }
+    {
+        let _ = &self.log;
+    }
+
     // the credentials of a library
     pub(crate) fn creds(&self, lib: LibNo) -> Creds
         requires { IsLibrary lib self.now.state }
@@ -142,6 +151,25 @@ impl Ctl {
     {
         make_places(&mut self.log, self.registry.promised(), entries)?;
         self.spare.reserve(bytes as usize)
+    }
+
+    /// What one release of a bundle needs at most, in bytes: 4 for each page and each inode number of
+    /// the image, 16384 for each page of the bundle, and 1024 for the release itself and for each write
+    /// lease, hold and inode number in it. The bundle belongs to one of the libraries
+    /// ([`belongs`](Self::belongs)).
+    ///
+    /// That is room for the judgement and, whatever the verdict, for the entry: for bodies and pages as
+    /// they are handed in, once each, since the blocks that the entry tells share the bytes of their
+    /// pages; and for the files that it tells, of which each page can name 16. It speaks of the bytes of
+    /// which [`make_room`](Self::make_room) speaks; no clause says yet that a release that has so many
+    /// to spare wants no memory.
+    ///
+    /// Takes no memory.
+    pub fn room(&self, bundle: &Bundle) -> u64
+        requires { (lib : ℕ) × Belongs self.now.state lib bundle.now }
+        ensures { result ≡ room_for self.now.state.home.core (bundle_in bundle.now) }
+    {
+        self.registry.room(bundle)
     }
 
     /// Whether all of a bundle was given by this controller to this library and is out, each thing

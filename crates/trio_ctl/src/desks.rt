@@ -7,8 +7,10 @@ ghost use Rattle.trio_ctl.specs.Desk.{Happens, LogsCall, desk_of};
 use crate::ctl::Ctl;
 use trio_desk::Desk;
 use trio_lease::{Allotted, Bundle, Lease, ReadLease};
-use trio_nodes::{AllotFault, GrantFault, GrantKind, ModeFault, ReleaseAnswer, ReleaseFault};
-use trio_page::Reads;
+use trio_nodes::{
+    AllotFault, Call, Done, GrantFault, GrantKind, ModeFault, ReleaseAnswer, ReleaseFault,
+};
+use trio_page::{NoMemory, Reads};
 use trio_rights::{Creds, LibNo};
 
 /// The desk of one library over a controller that nobody else reaches meanwhile: each of its calls is
@@ -44,6 +46,7 @@ impl<'a> Desk for PlainDesk<'a> {
     }
 
     fn grant(&mut self, ino: u32, kind: GrantKind) -> Result<Lease, GrantFault> {
+        self.ctl.is_as_lent();
         self.ctl.grant(self.lib, ino, kind)
     }
 
@@ -61,10 +64,27 @@ impl<'a> Desk for PlainDesk<'a> {
         reads: &mut Reads,
     ) -> Result<ReleaseAnswer, (Bundle, ReleaseFault)> {
         self.ctl.is_as_told();
+        self.ctl.is_recorded();
         self.ctl.release(self.lib, bundle, reads)
     }
 
-    fn set_mode(&mut self, ino: u32, mode: u16) -> Result<(), ModeFault> {
-        self.ctl.set_mode(self.lib, ino, mode)
+    fn settle(
+        &mut self,
+        bundle: Bundle,
+        back: Vec<ReadLease>,
+        calls: Vec<Done>,
+    ) -> Result<(), (Bundle, Vec<ReadLease>, Vec<Done>, NoMemory)> {
+        self.ctl.is_recorded();
+        self.ctl.settle(self.lib, bundle, back, calls)
+    }
+
+    fn set_mode(
+        &mut self,
+        ino: u32,
+        mode: u16,
+        back: Vec<ReadLease>,
+        call: Option<Call>,
+    ) -> Result<(), (Vec<ReadLease>, Option<Call>, ModeFault)> {
+        self.ctl.set_mode(self.lib, ino, mode, back, call)
     }
 }

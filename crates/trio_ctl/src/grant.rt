@@ -28,7 +28,14 @@ use trio_tables::Row;
 
 impl Registry {
     /// Grants a live file to a library, as [`Ctl::grant`](crate::Ctl::grant) says.
-    pub fn grant(&mut self, lib: LibNo, ino: u32, kind: GrantKind) -> Result<Lease, GrantFault>
+    pub fn grant(
+        &mut self,
+        entry: u64,
+        lib: LibNo,
+        ino: u32,
+        kind: GrantKind,
+    ) -> Result<Lease, GrantFault>
+        requires entry { entry ≡ self.old.state.entries }
         requires library { IsLibrary lib self.old.state }
         ensures step { Step self.old.state (Grant lib.0 ino kind) (grant_answer result) self.new.state }
         ensures lease { IfOk result (λ lease. IsSomeAnd (row_at self.old.state.home ino)
@@ -38,15 +45,15 @@ impl Registry {
         ensures promised { self.new.promised ≤ self.old.promised + 1 }
     {
         let Some(row) = self.store.rows.row(ino) else {
-            return Err(self.log_refusal(GrantFault::NotLive));
+            return Err(self.log_refusal(entry, GrantFault::NotLive));
         };
         if let Some(fault) = self.denial(lib, ino, kind, &row) {
-            return Err(self.log_refusal(fault));
+            return Err(self.log_refusal(entry, fault));
         }
         match kind {
-            GrantKind::Read => self.lend_copies(lib, ino, &row),
-            GrantKind::Write => self.lend_file(lib, ino, &row),
-            GrantKind::Hold => self.lend_hold(lib, ino, &row),
+            GrantKind::Read => self.lend_copies(entry, lib, ino, &row),
+            GrantKind::Write => self.lend_file(entry, lib, ino, &row),
+            GrantKind::Hold => self.lend_hold(entry, lib, ino, &row),
         }
     }
 
@@ -75,19 +82,27 @@ impl Registry {
     }
 
     // one entry more in the history, for a refusal; or want of memory for it
-    fn log_refusal(&mut self, fault: GrantFault) -> GrantFault
+    fn log_refusal(&mut self, entry: u64, fault: GrantFault) -> GrantFault
+        requires { entry ≡ self.old.state.entries }
         ensures answer { ((result ≡ fault) × (self.new.state ≡ logged self.old.state)) ⊎ ((result ≡ NoGrantMemory) × (self.new.state ≡ self.old.state)) }
         ensures promised { self.new.promised ≡ self.old.promised }
     {
-        if let Err(NoMemory) = self.history.make_room(1) {
+        if let Err(NoMemory) = self.history.make_room(entry, 1) {
             return GrantFault::NoMemory;
         }
-        self.history.enter();
+        self.history.enter(entry);
         fault
     }
 
     // lends a file that has this row and isn't denied for writing
-    fn lend_file(&mut self, lib: LibNo, ino: u32, row: &Row) -> Result<Lease, GrantFault>
+    fn lend_file(
+        &mut self,
+        entry: u64,
+        lib: LibNo,
+        ino: u32,
+        row: &Row,
+    ) -> Result<Lease, GrantFault>
+        requires entry { entry ≡ self.old.state.entries }
         requires library { IsLibrary lib self.old.state }
         requires live { row_at self.old.state.home ino ≡ Some (as_row row.now) }
         requires may { denial self.old.state lib.0 ino Write ≡ None }
@@ -97,13 +112,12 @@ impl Registry {
         ensures promised { self.new.promised ≡ self.old.promised }
     {
         let range = self.range();
-        let Ok(()) = self.history.make_room(1) else {
+        let Ok(()) = self.history.make_room(entry, 1) else {
             return Err(GrantFault::NoMemory);
         };
         let Ok(()) = self.files.reserve(1) else {
             return Err(GrantFault::NoMemory);
         };
-        let entry = self.history.next();
         let key = match admit(&mut self.grants, lib, ino, GrantKind::Write, entry) {
             Ok(key) => key,
             Err(fault) => return Err(fault),
@@ -127,7 +141,7 @@ impl Registry {
                     unreachable!()
                 };
                 self.store.checkpoints[ino as usize] = Some(checkpoint);
-                self.history.enter();
+                self.history.enter(entry);
                 Ok(Lease::Write(lease))
             }
             Err(NoMemory) => {

@@ -1,17 +1,19 @@
-//! The history of a controller.
+//! What a registry knows of the history of its controller.
 
 ghost use Rattle.std.specs.Prelude.{◌≡◌, ◌+◌, ◌-◌, ◌<◌, IfOk};
 ghost use Rattle.trio_ctl.specs.Entries.{HasRoom};
 
 use std::marker::Model;
+use std::snapshot::Snapshot;
 use trio_page::NoMemory;
 
-/// The entries that a controller has made, and those that it has promised: how many they are.
+/// How many entries a controller has promised beside those in its log.
 ///
-/// Contracts see both counts.
+/// The log has the count of the entries that were made: each call is handed it, and no copy of it is
+/// kept. Contracts see both counts.
 #[derive(Drop)]
 pub(crate) struct History {
-    entries: u64,
+    made: Snapshot<u64>,
     promised: u64,
 }
 
@@ -20,9 +22,9 @@ impl Model for History {
 
     ghost Value = { Entries };
 
-    ghost view = { λ h. record { made = h.entries; promised = h.promised } };
+    ghost view = { λ h. record { made = h.made.value; promised = h.promised } };
 
-    ghost invariant = { λ h. HasRoom (record { made = h.entries; promised = h.promised }) 0 };
+    ghost invariant = { λ h. HasRoom (record { made = h.made.value; promised = h.promised }) 0 };
 }
 
 impl History {
@@ -31,16 +33,9 @@ impl History {
         ensures { result ≡ record { made = 0; promised = 0 } }
     {
         History {
-            entries: 0,
+            made: Snapshot::of(&0),
             promised: 0,
         }
-    }
-
-    /// The number that the next entry gets, counted from 0.
-    pub(crate) fn next(&self) -> u64
-        ensures { result ≡ self.now.made }
-    {
-        self.entries
     }
 
     /// How many entries are promised.
@@ -50,40 +45,45 @@ impl History {
         self.promised
     }
 
-    /// Makes room for so many entries more, beside those that are promised. `NoMemory`: there is
-    /// none, as where there would be more entries than a `u64` counts. Nothing is entered yet.
-    pub(crate) fn make_room(&self, more: u64) -> Result<(), NoMemory>
+    /// Makes room for so many entries more after those that the log has, beside those that are
+    /// promised. `NoMemory`: there is none, as where there would be more entries than a `u64` counts.
+    /// Nothing is entered yet.
+    pub(crate) fn make_room(&self, made: u64, more: u64) -> Result<(), NoMemory>
+        requires { made ≡ self.now.made }
         ensures { IfOk result (λ _. HasRoom self.now more) }
     {
-        if more > u64::MAX - self.entries - self.promised {
+        if more > u64::MAX - made - self.promised {
             return Err(NoMemory);
         }
         Ok(())
     }
 
-    /// Makes an entry, for which there is room. Takes no memory.
-    pub(crate) fn enter(&mut self)
-        requires { HasRoom self.old 1 }
+    /// Makes an entry, for which there is room, after those that the log has. Takes no memory.
+    pub(crate) fn enter(&mut self, made: u64)
+        requires made { made ≡ self.old.made }
+        requires room { HasRoom self.old 1 }
         ensures { self.new ≡ record self.old { made = self.old.made + 1 } }
     {
-        self.entries += 1;
+        self.made = Snapshot::of(&(made + 1));
     }
 
     /// Makes an entry and promises another, for both of which there is room. Takes no memory.
-    pub(crate) fn enter_with_promise(&mut self)
-        requires { HasRoom self.old 2 }
+    pub(crate) fn enter_with_promise(&mut self, made: u64)
+        requires made { made ≡ self.old.made }
+        requires room { HasRoom self.old 2 }
         ensures { self.new ≡ record { made = self.old.made + 1; promised = self.old.promised + 1 } }
     {
-        self.entries += 1;
+        self.made = Snapshot::of(&(made + 1));
         self.promised += 1;
     }
 
     /// Makes an entry that was promised. Takes no memory.
-    pub(crate) fn enter_promised(&mut self)
-        requires { 0 < self.old.promised }
+    pub(crate) fn enter_promised(&mut self, made: u64)
+        requires made { made ≡ self.old.made }
+        requires promised { 0 < self.old.promised }
         ensures { self.new ≡ record { made = self.old.made + 1; promised = self.old.promised - 1 } }
     {
         self.promised -= 1;
-        self.entries += 1;
+        self.made = Snapshot::of(&(made + 1));
     }
 }

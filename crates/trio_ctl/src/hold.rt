@@ -34,7 +34,14 @@ impl Registry {
     }
 
     // holds a file that has this row, and whose directory the library writes
-    pub(crate) fn lend_hold(&mut self, lib: LibNo, ino: u32, row: &Row) -> Result<Lease, GrantFault>
+    pub(crate) fn lend_hold(
+        &mut self,
+        entry: u64,
+        lib: LibNo,
+        ino: u32,
+        row: &Row,
+    ) -> Result<Lease, GrantFault>
+        requires entry { entry ≡ self.old.state.entries }
         requires library { IsLibrary lib self.old.state }
         requires live { row_at self.old.state.home ino ≡ Some (as_row row.now) }
         requires may { denial self.old.state lib.0 ino Hold ≡ None }
@@ -43,13 +50,12 @@ impl Registry {
             ≡ lent_by (opened self.old.state lib.0 ino Hold (as_row row.now))) }
         ensures promised { self.new.promised ≡ self.old.promised }
     {
-        let Ok(()) = self.history.make_room(1) else {
+        let Ok(()) = self.history.make_room(entry, 1) else {
             return Err(GrantFault::NoMemory);
         };
         let Ok(()) = self.files.reserve(1) else {
             return Err(GrantFault::NoMemory);
         };
-        let entry = self.history.next();
         let key = match admit(&mut self.grants, lib, ino, GrantKind::Hold, entry) {
             Ok(key) => key,
             Err(fault) => return Err(fault),
@@ -67,7 +73,7 @@ impl Registry {
         let Ok(()) = self.files.push(OpenFile::of(key, lent, lib, ino)) else {
             unreachable!()
         };
-        self.history.enter();
+        self.history.enter(entry);
         Ok(Lease::Hold(HoldLease::of(parts)))
     }
 }

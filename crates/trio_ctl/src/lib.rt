@@ -8,6 +8,7 @@
 #![tactic(auto)]
 
 mod allot;
+mod backs;
 mod belongs;
 mod calls;
 mod closing;
@@ -21,6 +22,7 @@ mod hold;
 mod image;
 mod lend;
 mod mode;
+mod modes;
 mod numbers;
 mod open;
 mod outcome;
@@ -29,12 +31,11 @@ mod read;
 mod registry;
 mod release;
 mod releases;
+mod room;
+mod settle;
 mod start;
 mod stored;
 
 pub use ctl::Ctl;
 pub use desks::PlainDesk;
 pub use image::ImageFault;
-
-#[cfg(test)]
-mod tests;

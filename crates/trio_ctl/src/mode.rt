@@ -1,23 +1,27 @@
 //! Changes of mode.
 
-ghost use Rattle.std.specs.Prelude.{◌≡◌, ◌==◌, ◌⊎◌, ◌||◌, ◌<◌, None, Some, IsSome, length, slice_index_or, slice_set};
-ghost use Rattle.std.specs.List.{find};
+ghost use Rattle.std.specs.Prelude.{◌≡◌, ◌==◌, ◌&&◌, ◌<◌, ℕ, None, Some, IfOk, IsSome, length, slice_index_or, slice_set};
+ghost use Rattle.std.specs.List.{find, list_any};
 ghost use Rattle.std.specs.Option.{option_map};
-ghost use Rattle.trio_nodes.specs.declared.answers.ModeFault.TheVariants.{NoMemory as NoModeMemory};
+ghost use Rattle.trio_layout.specs.Image.{row_at};
+ghost use Rattle.trio_nodes.specs.GrantKinds.{is_read};
 ghost use Rattle.trio_tables.specs.Row.{as_row};
 ghost use Rattle.trio_state.specs.Grants.{holder_of};
 ghost use Rattle.trio_state.specs.Kept.{Kept};
 ghost use Rattle.trio_state.specs.State.{logged};
-ghost use Rattle.trio_state.specs.Step.{SetMode, Step};
-ghost use Rattle.trio_ctl.specs.Answers.{mode_answer};
+ghost use Rattle.trio_state.specs.Step.{mode_fault, moded_to};
+ghost use Rattle.trio_ctl.specs.Backs.{all_back};
 ghost use Rattle.trio_ctl.specs.Ctl.{IsLibrary};
-ghost use Rattle.trio_ctl.specs.inner.Modes.{is_around, mode_denial, with_mode_at, with_mode_in, with_row_mode};
+ghost use Rattle.trio_ctl.specs.Entries.{HasRoom};
+ghost use Rattle.trio_ctl.specs.inner.Modes.{is_around, is_back, mode_denial, stays_around, with_mode_at, with_mode_in, with_row_mode};
 
 use crate::lend::body_on;
 use crate::open::OpenFile;
 use crate::registry::Registry;
 use trio_commit::Store;
-use trio_nodes::{Holder, ModeFault};
+use trio_grants::GrantKey;
+use trio_lease::ReadLease;
+use trio_nodes::{GrantKind, Holder, ModeFault};
 use trio_page::field::{put_bytes_in, put_u16_in};
 use trio_page::{NoMemory, Page, PageNo, Reads};
 use trio_rights::{LibNo, Mode};
@@ -27,29 +31,63 @@ use trio_tables::Row;
 const ROOT: u32 = 1;
 
 impl Registry {
-    /// Changes the mode of a live file, as [`Ctl::set_mode`](crate::Ctl::set_mode) says.
-    pub fn set_mode(&mut self, lib: LibNo, ino: u32, mode: u16) -> Result<(), ModeFault>
-        requires library { IsLibrary lib self.old.state }
-        ensures step { Step self.old.state (SetMode lib.0 ino mode) (mode_answer result) self.new.state }
+    /// Why the mode of a file isn't changed once these read leases of the library are back. `None`
+    /// where nothing stands against it.
+    pub(crate) fn mode_fault(
+        &self,
+        lib: LibNo,
+        ino: u32,
+        mode: u16,
+        back: &[ReadLease],
+    ) -> Option<ModeFault>
+        requires library { IsLibrary lib self.now.state }
+        ensures { result ≡ mode_fault (all_back self.now.state lib back.now) lib.0 ino mode (row_at self.now.state.home ino) }
+    {
+        let Some(row) = self.store.rows.row(ino) else {
+            return Some(ModeFault::NotLive);
+        };
+        if let Some(fault) = self.mode_denial(lib, ino, mode, &row) {
+            return Some(fault);
+        }
+        match self.holder_around(lib, ino, row.parent, back) {
+            Some(holder) => Some(ModeFault::Busy(holder)),
+            None => None,
+        }
+    }
+
+    /// Makes room for the entry of a change of mode, whose number is that of the next one.
+    pub(crate) fn make_mode_room(&self, entry: u64) -> Result<(), NoMemory>
+        requires entry { entry ≡ self.now.state.entries }
+        ensures { IfOk result (λ _. HasRoom (record { made = self.now.state.entries; promised = self.now.promised }) 1) }
+    {
+        self.history.make_room(entry, 1)
+    }
+
+    /// Refuses a change of mode: the history has one entry more, for which there is room.
+    pub(crate) fn refuse_mode(&mut self, entry: u64)
+        requires entry { entry ≡ self.old.state.entries }
+        requires room { HasRoom (record { made = self.old.state.entries; promised = self.old.promised }) 1 }
+        ensures state { self.new.state ≡ logged self.old.state }
+        ensures promised { self.new.promised ≡ self.old.promised }
         ensures was_kept { Kept self.old.state }
-        ensures kept { Kept self.new.state }
+    {
+        self.history.enter(entry);
+    }
+
+    /// Changes the mode of a live file, as some library may; there is room for its entry. Takes no
+    /// memory.
+    pub(crate) fn change_mode(&mut self, entry: u64, ino: u32, mode: u16)
+        requires entry { entry ≡ self.old.state.entries }
+        requires free { (by : ℕ) × (mode_fault self.old.state by ino mode (row_at self.old.state.home ino) ≡ None) }
+        requires room { HasRoom (record { made = self.old.state.entries; promised = self.old.promised }) 1 }
+        ensures state { self.new.state ≡ (moded_to self.old.state ino mode None).after }
         ensures promised { self.new.promised ≡ self.old.promised }
     {
         let Some(row) = self.store.rows.row(ino) else {
-            return Err(self.log_mode_refusal(ModeFault::NotLive));
-        };
-        if let Some(fault) = self.mode_denial(lib, ino, mode, &row) {
-            return Err(self.log_mode_refusal(fault));
-        }
-        if let Some(holder) = self.holder_around(ino, row.parent) {
-            return Err(ModeFault::Busy(holder));
-        }
-        let Ok(()) = self.history.make_room(1) else {
-            return Err(ModeFault::NoMemory);
+            unreachable!()
         };
         put_mode(&mut self.store, ino, &row, mode);
-        self.history.enter();
-        Ok(())
+        self.history.enter(entry);
     }
 
     // why the mode of a live file that has this row isn't changed, whatever grants are open
@@ -67,33 +105,52 @@ impl Registry {
         None
     }
 
-    // the first open grant on a file or on the directory of this number
-    fn holder_around(&self, ino: u32, parent: u32) -> Option<Holder>
-        ensures { result ≡ option_map holder_of (find (is_around ino parent) self.now.state.open_grants) }
+    // the first grant on a file or on the directory of this number that stays open when these leases of
+    // the library are given back
+    fn holder_around(&self, lib: LibNo, ino: u32, parent: u32, back: &[ReadLease]) -> Option<Holder>
+        ensures { result ≡ option_map holder_of (find (stays_around lib.0 ino parent back.now) self.now.state.open_grants) }
     {
-        let held = held_around(&self.files, ino, parent)?;
-        self.grants.holder_of(held, None)
-    }
-
-    // one entry more in the history, for a refusal; or want of memory for it
-    fn log_mode_refusal(&mut self, fault: ModeFault) -> ModeFault
-        ensures answer { ((result ≡ fault) × (self.new.state ≡ logged self.old.state)) ⊎ ((result ≡ NoModeMemory) × (self.new.state ≡ self.old.state)) }
-        ensures promised { self.new.promised ≡ self.old.promised }
-    {
-        if let Err(NoMemory) = self.history.make_room(1) {
-            return ModeFault::NoMemory;
+        match key_around(&self.files, lib, ino, parent, back) {
+            Some(key) => self.grants.holder_under(key),
+            None => None,
         }
-        self.history.enter();
-        fault
     }
 }
 
-/// The number of the file of the first grant that is on one of two files.
-fn held_around(files: &[OpenFile], ino: u32, parent: u32) -> Option<u32>
-    ensures { result ≡ option_map (λ o. o.grant.ino) (find (λ o. is_around ino parent o.grant) files.now) }
+/// The key of the first grant that is on one of two files and stays when these leases of a library
+/// are given back.
+fn key_around(
+    files: &[OpenFile],
+    lib: LibNo,
+    ino: u32,
+    parent: u32,
+    back: &[ReadLease],
+) -> Option<GrantKey>
+    ensures { result ≡ option_map (λ o. o.key) (find (λ o. stays_around lib.0 ino parent back.now o.grant) files.now) }
 {
-    let file = files.iter().find(|file| is_around(ino, parent, file))?;
-    Some(file.ino())
+    let file = files.iter().find(|file| is_around(ino, parent, file) && !is_back(lib, back, file))?;
+    Some(file.key())
+}
+
+/// Whether the grant is the library's for reading one of the files of these leases.
+fn is_back(lib: LibNo, back: &[ReadLease], file: &OpenFile) -> bool
+    ensures { result ≡ is_back lib.0 back.now file.now.grant }
+{
+    is_read_by(lib, file) && has_lease(back, file.ino())
+}
+
+/// Whether the grant is the library's for reading its file.
+fn is_read_by(lib: LibNo, file: &OpenFile) -> bool
+    ensures { result ≡ (file.now.grant.lib == lib.0 && is_read file.now.grant.kind) }
+{
+    file.lib() == lib && file.kind() == GrantKind::Read
+}
+
+/// Whether one of these leases is on the file of this number.
+fn has_lease(back: &[ReadLease], ino: u32) -> bool
+    ensures { result ≡ list_any (λ f. ino == f.ino) back.now }
+{
+    back.iter().any(|lease| ino == lease.ino())
 }
 
 /// Whether the grant is on one of two files.

@@ -34,10 +34,12 @@ impl Registry {
     // lends copies of a file that has this row and isn't denied for reading
     pub(crate) fn lend_copies(
         &mut self,
+        entry: u64,
         lib: LibNo,
         ino: u32,
         row: &Row,
     ) -> Result<Lease, GrantFault>
+        requires entry { entry ≡ self.old.state.entries }
         requires library { IsLibrary lib self.old.state }
         requires live { row_at self.old.state.home ino ≡ Some (as_row row.now) }
         requires may { denial self.old.state lib.0 ino Read ≡ None }
@@ -48,13 +50,12 @@ impl Registry {
     {
         let range = self.range();
         // for the entry of the grant, and for that of its end
-        let Ok(()) = self.history.make_room(2) else {
+        let Ok(()) = self.history.make_room(entry, 2) else {
             return Err(GrantFault::NoMemory);
         };
         let Ok(()) = self.files.reserve(1) else {
             return Err(GrantFault::NoMemory);
         };
-        let entry = self.history.next();
         let key = match admit(&mut self.grants, lib, ino, GrantKind::Read, entry) {
             Ok(key) => key,
             Err(fault) => return Err(fault),
@@ -73,7 +74,7 @@ impl Registry {
                     lease.discard();
                     unreachable!()
                 };
-                self.history.enter_with_promise();
+                self.history.enter_with_promise(entry);
                 Ok(Lease::Read(lease))
             }
             Err(NoMemory) => {

@@ -16,7 +16,8 @@ use trio_rights::{Creds, LibNo};
 use trio_tables::Shadow;
 
 /// What the controller keeps of one image, the grants that are open, and the credentials of its
-/// libraries. Its calls are the controller's steps; it keeps no log of them, but counts the entries.
+/// libraries. Its calls are the controller's steps; it keeps no log of them, and is handed the number of
+/// the next entry.
 ///
 /// Contracts see a `Registered` of `specs/Ctl.antt`: the `State` of which the steps speak, which is
 /// always kept, how often a page at home was looked at, and how many entries are promised.

@@ -32,10 +32,12 @@ impl Registry {
     /// With a fault the bundle comes back.
     pub(crate) fn judged(
         &self,
+        entry: u64,
         lib: LibNo,
         bundle: Bundle,
         reads: &mut Reads,
     ) -> Result<(Case, Outcome), (Bundle, ReleaseFault)>
+        requires entry { entry ≡ self.now.state.entries }
         requires library { IsLibrary lib self.now.state }
         requires given { GivenTo self.now.state lib.0 (bundle_in bundle) }
         requires held { WereHeld self.now.state lib.0 bundle.holds }
@@ -52,7 +54,7 @@ impl Registry {
         if let Some(ino) = parted_hold(&self.files, &self.store.rows, lib, &bundle) {
             return Err((bundle, ReleaseFault::NotClosed(ino)));
         }
-        let Ok(()) = self.history.make_room(1) else {
+        let Ok(()) = self.history.make_room(entry, 1) else {
             return Err((bundle, ReleaseFault::NoMemory));
         };
         let (case, room) = match self.case_of(lib, bundle) {
@@ -98,11 +100,13 @@ impl Registry {
     /// no memory.
     pub(crate) fn conclude(
         &mut self,
+        entry: u64,
         lib: LibNo,
         case: Case,
         outcome: Outcome,
         reads: &mut Reads,
     ) -> ReleaseAnswer
+        requires entry { entry ≡ self.old.state.entries }
         requires room { HasRoom (entries_of self.old.state) 1 }
         requires given { GivenTo self.old.state lib.0 (bundle_in case.bundle) }
         requires closed { parted_hold self.old.state lib.0 (bundle_in case.bundle) ≡ None }
@@ -116,7 +120,7 @@ impl Registry {
         ensures promised { self.new.promised ≡ self.old.promised }
     {
         end_files(&mut self.files, &mut self.grants, lib, &case);
-        self.history.enter();
+        self.history.enter(entry);
         let bundle = case.into_bundle();
         match outcome {
             Outcome::Accepted(listing) => {

@@ -70,7 +70,8 @@ impl Ctl {
             return Err((bundle, ReleaseFault::NoMemory));
         };
         bundle.keeps_untouched();
-        let (case, outcome) = match self.registry.judged(lib, bundle, reads) {
+        let entry = self.log.len();
+        let (case, outcome) = match self.registry.judged(entry, lib, bundle, reads) {
             Ok(judged) => judged,
             Err(back) => return Err(back),
         };
@@ -82,7 +83,7 @@ impl Ctl {
         let Ok(told) = told(alloc, rows, &self.notes, &case, &outcome, &handed) else {
             return Err((case.into_bundle(), ReleaseFault::NoMemory));
         };
-        let verdict = self.registry.conclude(lib, case, outcome, reads);
+        let verdict = self.registry.conclude(entry, lib, case, outcome, reads);
         let Told { files, blocks } = told;
         note(&mut self.notes, verdict, files.as_slice());
         self.log.push(Entry::Raw {
@@ -98,7 +99,7 @@ impl Ctl {
 
 // what the entry of a judged release tells beside its bundle; nothing has changed yet, and all memory of
 // the entry is taken
-fn told(
+pub(crate) fn told(
     alloc: Global,
     rows: &Shadow,
     notes: &Notes,
@@ -119,7 +120,7 @@ fn told(
 }
 
 // notes what the files of a release tell, if it was accepted
-fn note(notes: &mut Notes, verdict: ReleaseAnswer, files: &[RawFile])
+pub(crate) fn note(notes: &mut Notes, verdict: ReleaseAnswer, files: &[RawFile])
     ensures { notes.new ≡ noted_by verdict files.now notes.old }
 {
     match verdict {

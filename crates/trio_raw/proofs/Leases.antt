@@ -11,6 +11,7 @@ use Rattle.trio_lease.specs.declared.parts.HoldParts.{HoldParts}
 use Rattle.trio_lists.specs.Lists.{In, is_among, are_new}
 use Rattle.trio_lists.proofs.Filters.{filter-In}
 use Rattle.trio_lists.proofs.Members.{In-cases, In-is_among, In-left, In-map, In-right, map-In}
+use Rattle.trio_desk.specs.Contents.{Sizes}
 use Rattle.trio_desk.specs.Out.{LibOut, OutAlike, IsFreshLease, file_numbers, hold_numbers, with_lease, without_parcel}
 use Rattle.trio_raw.specs.Has.{Has, HasLeases, has_all_of, keeps_lease, named, parcel_named, rest_of, with_parcel, without_all}
 use Rattle.trio_raw.proofs.Once.{left_or_named}
@@ -37,13 +38,13 @@ more f g outs xs x y e h z i =
       | inr b ↦ In-right (f z) (map g xs) (g y ∷ []) (elim b [ inl s ↦ inl (ap f s ∙ sym e) | inr k ↦ absurd k ])
     ])
 
-pub leases-lease : (lib : LibNo) (ino : ℕ) (out : LibOut) (has : Has) (lease : Lease) → IsFreshLease lib ino out lease → HasLeases out has → HasLeases (with_lease out lease) (keeps_lease has lease)
-leases-lease lib ino out has (Write f) fresh h = record {
-  writes = more (λ (w : Shown). w.ino) (λ (x : LentFile). x.stands.ino) out.writes has.writes f.lent f (ap (λ (s : Shown). s.ino) fresh.as_lent) h.writes;
+pub leases-lease : (lib : LibNo) (ino : ℕ) (sizes : Sizes) (out : LibOut) (has : Has) (lease : Lease) → IsFreshLease lib ino sizes out lease → HasLeases out has → HasLeases (with_lease out lease) (keeps_lease has lease)
+leases-lease lib ino sizes out has (Write f) fresh h = record {
+  writes = more (λ (w : Shown). w.ino) (λ (x : LentFile). x.stands.ino) out.writes has.writes f.lent f (ap (λ (s : Shown). s.ino) fresh.is.as_lent) h.writes;
   holds = h.holds;
 }
-leases-lease lib ino out has (Read r) fresh h = record { writes = h.writes; holds = h.holds }
-leases-lease lib ino out has (Hold k) fresh h = record {
+leases-lease lib ino sizes out has (Read r) fresh h = record { writes = h.writes; holds = h.holds }
+leases-lease lib ino sizes out has (Hold k) fresh h = record {
   writes = h.writes;
   holds = more (λ (x : HoldParts). x.ino) (λ (x : HoldParts). x.ino) out.holds has.holds k k refl h.holds;
 }

@@ -16,7 +16,8 @@ use Rattle.trio_lists.specs.Lists.{In, is_among, are_new}
 use Rattle.trio_lists.proofs.Filters.{In-filter}
 use Rattle.trio_lists.proofs.Members.{In-cases, In-left, In-map, In-right, map-In}
 use Rattle.trio_lists.proofs.New.{are_new-fewer, is_among-not}
-use Rattle.trio_desk.specs.Out.{LibOut, OutAlike, IsFreshLease, IsLent, SameFile, WasGiven, file_numbers, hold_numbers, ino_numbers, new_ino, page_numbers, with_allotted, with_lease, without_parcel, without_read, zero_page}
+use Rattle.trio_desk.specs.Contents.{Sizes}
+use Rattle.trio_desk.specs.Out.{AreWhole, LibOut, OutAlike, IsFreshLease, IsLent, SameFile, WasGiven, file_numbers, files_out, hold_numbers, ino_numbers, new_ino, page_numbers, with_allotted, with_lease, without_parcel, without_read, zero_page}
 use Rattle.trio_raw.specs.Has.{Has, OnList, has_all_of, keeps_allotted, keeps_lease, parcel_named, read_numbers, rest_of, whole_parcel, with_parcel, with_reads, without}
 use Rattle.trio_raw.specs.Has.{without_read as has_without_read}
 use Rattle.trio_raw.proofs.Once.{back_in, back_once, gone, left_unnamed, named_in, named_once, once_more, without_all_in, without_all_once, without_in, without_new}
@@ -67,8 +68,27 @@ new_hold out has n h new i =
     let r = map-In (λ (k : HoldParts). k.ino) n has.holds i in
     new (subst (λ m. In m (hold_numbers out.holds)) (sym r.2) (In-map (λ (k : HoldParts). k.ino) r.0 out.holds (h.holds r.0 r.1)))
 
-pub stands-lease : (lib : LibNo) (ino : ℕ) (out : LibOut) (has : Has) (lease : Lease) → OnList out has → IsFreshLease lib ino out lease → OnList (with_lease out lease) (keeps_lease has lease)
-stands-lease lib ino out has (Write f) h fresh = record {
+-- nothing is out on a file, so no lease of any kind is
+new_write : (out : LibOut) (n : ℕ) → (In n (files_out out) → ⊥) → In n (map (λ (w : Shown). w.ino) out.writes) → ⊥
+new_write out n new i =
+    let writes = map (λ (w : Shown). w.ino) out.writes in
+    let reads = map (λ (r : Shown). r.ino) out.reads in
+    new (In-left n (writes ++ reads) (hold_numbers out.holds) (In-left n writes reads i))
+
+no_read : (out : LibOut) (n : ℕ) → (In n (files_out out) → ⊥) → In n (read_numbers out.reads) → ⊥
+no_read out n new i =
+    let writes = map (λ (w : Shown). w.ino) out.writes in
+    let reads = map (λ (r : Shown). r.ino) out.reads in
+    new (In-left n (writes ++ reads) (hold_numbers out.holds) (In-right n writes reads i))
+
+no_hold : (out : LibOut) (n : ℕ) → (In n (files_out out) → ⊥) → In n (hold_numbers out.holds) → ⊥
+no_hold out n new i =
+    let writes = map (λ (w : Shown). w.ino) out.writes in
+    let reads = map (λ (r : Shown). r.ino) out.reads in
+    new (In-right n (writes ++ reads) (hold_numbers out.holds) i)
+
+pub stands-lease : (lib : LibNo) (ino : ℕ) (sizes : Sizes) (out : LibOut) (has : Has) (lease : Lease) → OnList out has → IsFreshLease lib ino sizes out lease → OnList (with_lease out lease) (keeps_lease has lease)
+stands-lease lib ino sizes out has (Write f) h fresh = record {
   writes = λ x i. elim (In-cases x has.writes (f ∷ []) i) [
     | inl a ↦ lent_still out x (f.lent ∷ []) (with_lease out (Write f)) refl (h.writes x a)
     | inr b ↦
@@ -76,9 +96,9 @@ stands-lease lib ino out has (Write f) h fresh = record {
           | inl e ↦
               subst (IsLent (with_lease out (Write f))) (sym e) (record {
                 lent = In-right f.lent out.writes (f.lent ∷ []) (inl refl);
-                same = subst (λ s. SameFile s f.lent) (sym fresh.as_lent) (same_file f.lent);
-                index = fresh.index;
-                blocks = fresh.blocks;
+                same = subst (λ s. SameFile s f.lent) (sym fresh.is.as_lent) (same_file f.lent);
+                index = subst (λ (s : Shown). AreWhole s.index) (sym fresh.is.as_lent) fresh.is.well.index;
+                blocks = subst (λ (s : Shown). AreWhole s.blocks) (sym fresh.is.as_lent) fresh.is.well.blocks;
               })
           | inr k ↦ absurd k
         ]
@@ -90,13 +110,13 @@ stands-lease lib ino out has (Write f) h fresh = record {
   writes_once =
       ap (are_new []) (map-append (λ (x : LentFile). x.stands.ino) has.writes (f ∷ []))
       ∙ once_more (file_numbers has.writes) (f.stands.ino ∷ []) h.writes_once
-      (one_new (file_numbers has.writes) f.stands.ino (λ i. new_file out has ino h fresh.new (subst (λ n. In n (file_numbers has.writes)) (ap (λ (s : Shown). s.ino) fresh.as_lent ∙ fresh.ino) i)));
+      (one_new (file_numbers has.writes) f.stands.ino (λ i. new_file out has ino h (new_write out ino fresh.new) (subst (λ n. In n (file_numbers has.writes)) (ap (λ (s : Shown). s.ino) fresh.is.as_lent ∙ fresh.is.ino) i)));
   reads_once = h.reads_once;
   holds_once = h.holds_once;
   pages_once = h.pages_once;
   numbers_once = h.numbers_once;
 }
-stands-lease lib ino out has (Read f) h fresh = record {
+stands-lease lib ino sizes out has (Read f) h fresh = record {
   writes = λ x i. let l = h.writes x i in record { lent = l.lent; same = l.same; index = l.index; blocks = l.blocks };
   reads = λ x i. elim (In-cases x has.reads (f ∷ []) i) [
     | inl a ↦ In-left x out.reads (f ∷ []) (h.reads x a)
@@ -109,12 +129,12 @@ stands-lease lib ino out has (Read f) h fresh = record {
   reads_once =
       ap (are_new []) (map-append (λ (x : Shown). x.ino) has.reads (f ∷ []))
       ∙ once_more (read_numbers has.reads) (f.ino ∷ []) h.reads_once
-      (one_new (read_numbers has.reads) f.ino (λ i. new_read out has ino h fresh.2 (subst (λ n. In n (read_numbers has.reads)) fresh.1 i)));
+      (one_new (read_numbers has.reads) f.ino (λ i. new_read out has ino h (no_read out ino fresh.new) (subst (λ n. In n (read_numbers has.reads)) fresh.is.1 i)));
   holds_once = h.holds_once;
   pages_once = h.pages_once;
   numbers_once = h.numbers_once;
 }
-stands-lease lib ino out has (Hold k) h fresh = record {
+stands-lease lib ino sizes out has (Hold k) h fresh = record {
   writes = λ x i. let l = h.writes x i in record { lent = l.lent; same = l.same; index = l.index; blocks = l.blocks };
   reads = h.reads;
   holds = λ x i. elim (In-cases x has.holds (k ∷ []) i) [
@@ -128,7 +148,7 @@ stands-lease lib ino out has (Hold k) h fresh = record {
   holds_once =
       ap (are_new []) (map-append (λ (x : HoldParts). x.ino) has.holds (k ∷ []))
       ∙ once_more (hold_numbers has.holds) (k.ino ∷ []) h.holds_once
-      (one_new (hold_numbers has.holds) k.ino (λ i. new_hold out has ino h fresh.2 (subst (λ n. In n (hold_numbers has.holds)) fresh.1 i)));
+      (one_new (hold_numbers has.holds) k.ino (λ i. new_hold out has ino h (no_hold out ino fresh.new) (subst (λ n. In n (hold_numbers has.holds)) fresh.is.1 i)));
   pages_once = h.pages_once;
   numbers_once = h.numbers_once;
 }

@@ -147,18 +147,24 @@ impl Raw {
         Ok(())
     }
 
-    /// Asks the desk to change the mode of a file, by its inode number. The faults are the desk's.
-    /// The library has what it had.
+    /// Asks the desk to change the mode of a file, by its inode number, with no lease given back and no
+    /// call told. The faults are the desk's. The library has what it had.
     pub fn set_mode<D: Desk>(&mut self, desk: &mut D, ino: u32, mode: u16) -> Result<(), ModeFault>
         requires stands { OnList (D.seen desk.old).out self.old.has }
-        ensures call { OneCall D.called desk.old (SetMode ino mode) desk.new
+        ensures call { OneCall D.called desk.old (SetMode ino mode [] None) desk.new
             (AfterMode self.old.has result self.new.has) ⊥ }
         ensures stands { OnList (D.seen desk.new).out self.new.has }
         ensures leases { HasLeases (D.seen desk.old).out self.old.has → HasLeases (D.seen desk.new).out self.new.has }
         ensures desk { (D.seen desk.new).lib ≡ (D.seen desk.old).lib }
         ensures lib { self.new.lib ≡ self.old.lib }
     {
-        desk.set_mode(ino, mode)
+        match desk.set_mode(ino, mode, Vec::new(self.alloc), None) {
+            Ok(()) => Ok(()),
+            Err((back, _, fault)) => {
+                back.destroy_empty();
+                Err(fault)
+            }
+        }
     }
 
     /// Writes these bytes at a spot, from an offset on, counted in bytes from the front of the body

@@ -7,8 +7,6 @@ use Rattle.trio_nodes.specs.declared.answers.AllotFault.{AllotFault}
 use Rattle.trio_nodes.specs.declared.answers.AllotFault.TheVariants.{NoMemory as NoAllotMemory}
 use Rattle.trio_nodes.specs.declared.answers.GrantFault.{GrantFault}
 use Rattle.trio_nodes.specs.declared.answers.GrantFault.TheVariants.{Busy as BusyGrant, NoMemory as NoGrantMemory}
-use Rattle.trio_nodes.specs.declared.answers.ModeFault.{ModeFault}
-use Rattle.trio_nodes.specs.declared.answers.ModeFault.TheVariants.{Busy as BusyMode, NoMemory as NoModeMemory}
 use Rattle.trio_nodes.specs.declared.entry.AllotAnswer.{AllotAnswer}
 use Rattle.trio_nodes.specs.declared.entry.AllotAnswer.TheVariants.{Given, Refused as NotGiven}
 use Rattle.trio_nodes.specs.declared.entry.GrantAnswer.{GrantAnswer}
@@ -37,13 +35,6 @@ abbrev pub allot_told : Result Allotted AllotFault → Option AllotAnswer
 allot_told (Ok given) = Some (Given (page_numbers given.pages.items) (inode_numbers given.inodes.items))
 allot_told (Err NoAllotMemory) = None
 allot_told (Err fault) = Some (NotGiven fault)
-
--- of a change of mode; Busy and want of memory make no entry
-abbrev pub mode_told : Result (Unit {0}) ModeFault → Option (Result (Unit {0}) ModeFault)
-mode_told (Ok done) = Some (Ok done)
-mode_told (Err (BusyMode holder)) = None
-mode_told (Err NoModeMemory) = None
-mode_told (Err fault) = Some (Err fault)
 
 -- both lists are empty and have room for so many
 pub record HasRoomFor (pages' inodes' : ℕ) (n : Numbers) : Type 0 where

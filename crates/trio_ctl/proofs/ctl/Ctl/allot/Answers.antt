@@ -5,9 +5,12 @@ use Rattle.trio_nodes.specs.declared.entry.Entry.TheVariants as entry
 use Rattle.trio_state.specs.State.{State}
 use Rattle.trio_state.specs.Step.{Allot}
 use Rattle.trio_laws.specs.history.Replays.{IsLibrary}
-use Rattle.trio_ctl.proofs.Recording.{after_call, allot_entries, one_room, same_room}
+use Rattle.trio_ctl.proofs.Recording.{after_call, allot_entries, next_entry, one_room, same_room}
 use Rattle.trio_ctl.proofs.Views.{seen_state}
 use Rattle.trio_ctl.proofs.ctl.Ctl.allot.Goals as goal
+
+pub allot-result-requires-clause-entry : goal.allot-result-requires-clause-entry
+allot-result-requires-clause-entry c = next_entry _ _ _ _ _ _ _ c.self.invariant c.len.ensures c.make_places.ensures.kept
 
 pub invariant_of-self-in-Some : goal.invariant_of-self-in-Some
 invariant_of-self-in-Some c =

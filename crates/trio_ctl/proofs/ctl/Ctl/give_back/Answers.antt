@@ -3,9 +3,12 @@ use Rattle.trio_nodes.specs.declared.grant.GrantKind.TheVariants.{Read}
 use Rattle.trio_state.specs.Given.{HasGrant}
 use Rattle.trio_state.specs.State.{State}
 use Rattle.trio_state.specs.Step.{Back, Done}
-use Rattle.trio_ctl.proofs.Recording.{after_call, grants_library, promised_room}
+use Rattle.trio_ctl.proofs.Recording.{after_call, grants_library, next_entry, promised_room}
 use Rattle.trio_ctl.proofs.Views.{seen_state}
 use Rattle.trio_ctl.proofs.ctl.Ctl.give_back.Goals as goal
+
+pub give_back-requires-clause-entry : goal.give_back-requires-clause-entry
+give_back-requires-clause-entry c = next_entry _ _ _ _ _ _ _ c.self.invariant c.len.ensures refl
 
 pub invariant_of-self : goal.invariant_of-self
 invariant_of-self c =

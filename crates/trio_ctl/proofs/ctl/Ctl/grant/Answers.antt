@@ -5,9 +5,12 @@ use Rattle.trio_nodes.specs.declared.entry.Entry.TheVariants as entry
 use Rattle.trio_state.specs.State.{State}
 use Rattle.trio_state.specs.Step.{Grant}
 use Rattle.trio_laws.specs.history.Replays.{IsLibrary}
-use Rattle.trio_ctl.proofs.Recording.{after_call, grant_entries, no_more_room, one_more_room}
+use Rattle.trio_ctl.proofs.Recording.{after_call, grant_entries, next_entry, no_more_room, one_more_room}
 use Rattle.trio_ctl.proofs.Views.{seen_state}
 use Rattle.trio_ctl.proofs.ctl.Ctl.grant.Goals as goal
+
+pub grant-result-requires-clause-entry : goal.grant-result-requires-clause-entry
+grant-result-requires-clause-entry c = next_entry _ _ _ _ _ _ _ c.self.invariant c.len.ensures c.make_places.ensures.kept
 
 pub invariant_of-self-in-Some : goal.invariant_of-self-in-Some
 invariant_of-self-in-Some c =

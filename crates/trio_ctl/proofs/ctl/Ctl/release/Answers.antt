@@ -19,10 +19,13 @@ use Rattle.trio_ctl.specs.HandedIn.{WereLent}
 use Rattle.trio_ctl.specs.Logged.{HasHistory, entries_made, with_bundle}
 use Rattle.trio_ctl.specs.inner.Outcomes.{verdict_on}
 use Rattle.trio_ctl.specs.inner.Telling.{TellsOutcome, noted_by}
-use Rattle.trio_ctl.proofs.Recording.{one_room}
+use Rattle.trio_ctl.proofs.Recording.{next_entry, one_room}
 use Rattle.trio_ctl.proofs.RecordedReleases.{after_release, are_noted, release_entries, whole_is}
 use Rattle.trio_ctl.proofs.Views.{seen_state}
 use Rattle.trio_ctl.proofs.ctl.Ctl.release.Goals as goal
+
+pub judged-requires-clause-entry : goal.judged-requires-clause-entry
+judged-requires-clause-entry c = next_entry _ _ _ _ _ _ _ c.self.invariant c.len-entry.ensures c.make_places.ensures.kept
 
 pub returns-in-Err-clause-step : goal.returns-in-Err-clause-step
 returns-in-Err-clause-step c =
@@ -30,6 +33,9 @@ returns-in-Err-clause-step c =
 
 pub told-requires-clause-noted : goal.told-requires-clause-noted
 told-requires-clause-noted c = are_noted c.self.inside.registry.state c.rows-rows.result.now c.self.inside.notes c.self.invariant.all.kept c.rows-rows.ensures c.self.invariant.noted
+
+pub conclude-verdict-requires-clause-entry : goal.conclude-verdict-requires-clause-entry
+conclude-verdict-requires-clause-entry c = next_entry _ _ _ _ _ _ _ c.self.invariant c.len-entry.ensures c.make_places.ensures.kept
 
 pub invariant_of-self-2 : goal.invariant_of-self-2
 invariant_of-self-2 c =

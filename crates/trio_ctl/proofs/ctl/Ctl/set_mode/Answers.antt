@@ -1,35 +1,238 @@
-use Rattle.std.proofs.Common.{◌++◌, [], ◌∷◌, List, None, ap, append-nil, subst, sym, ◌∙◌}
+use Rattle.std.proofs.Common.{◌≡◌, ◌+◌, ◌++◌, ◌∷◌, [], ℕ, List, Ok, Err, ap, arith, length, refl, subst, sym, ◌∙◌}
+use Rattle.trio_lease.specs.Shown.{Shown}
+use Rattle.trio_layout.specs.Image.{row_at}
 use Rattle.trio_log.specs.Logged.{Logged}
+use Rattle.trio_nodes.specs.declared.answers.ModeFault.TheVariants.{Busy, NoMemory}
 use Rattle.trio_nodes.specs.declared.entry.Entry.{Entry}
 use Rattle.trio_nodes.specs.declared.entry.Entry.TheVariants as entry
+use Rattle.trio_desk.specs.Call.{ModeSet, NotModeSet, SetMode}
+use Rattle.trio_desk.specs.Ready.{AreLent, TellsChmod}
 use Rattle.trio_state.specs.State.{State}
-use Rattle.trio_state.specs.Step.{SetMode}
+use Rattle.trio_state.specs.Step.{mode_fault}
 use Rattle.trio_laws.specs.history.Replays.{IsLibrary}
-use Rattle.trio_ctl.proofs.Recording.{after_call, mode_entries, one_room, same_room}
+use Rattle.trio_ctl.specs.Backs.{all_back, back_entries}
+use Rattle.trio_ctl.specs.Ctl.{Controller}
+use Rattle.trio_ctl.specs.Desk.{Happens, desk_of, out_of}
+use Rattle.trio_ctl.specs.inner.Modes.{busy_holder}
+use Rattle.trio_ctl.proofs.LeasesBack.{all_back_is, are_back, backs_whose}
+use Rattle.trio_ctl.proofs.ModeCalls.{busy_told, fault_told, free_at, happens_moded, happens_refused, happens_wants, moded_history, moded_logs, moded_room, plain_call, plain_refusal, plain_told, refused_history}
+use Rattle.trio_ctl.proofs.Recording.{next_entry, one_room}
 use Rattle.trio_ctl.proofs.Views.{seen_state}
 use Rattle.trio_ctl.proofs.ctl.Ctl.set_mode.Goals as goal
 
-pub invariant_of-self-in-Some : goal.invariant_of-self-in-Some
-invariant_of-self-in-Some c =
-    let i = c.self.inside in
-    let s = i.registry.state in
-    let lib = c.args.lib in
-    let e = entry.Mode lib c.args.ino c.args.mode c.in-Some.answer None in
-    let library = subst (λ (v : State). IsLibrary v.creds lib.0) (sym (seen_state c.self.view_is)) c.requires.library in
-    let told = sym c.in-Some.is ∙ c.mode_told.ensures in
-    let pushed = ap (λ (l : Logged). l.entries) c.push.ensures ∙ ap (λ (l : List Entry). l ++ e ∷ []) c.make_places.ensures.kept ∙ sym (ap (λ (l : List Entry). i.log.entries ++ l) (mode_entries s lib c.args.ino c.args.mode c.set_mode-result.result _ told)) in
-    let places = rw (c.promised.ensures) at c.in-Ok.ensures.room in
-    after_call _ s c.set_mode-result.new.self.state i.registry.promised c.set_mode-result.new.self.promised i.log c.push.new.self i.notes (SetMode lib.0 c.args.ino c.args.mode) _ c.self.invariant c.set_mode-result.ensures.was_kept library tt tt c.set_mode-result.ensures.step (λ said e. tt) pushed
-    (rw c.push.ensures (one_room c.make_places.new.log.entries e i.registry.promised c.set_mode-result.new.self.promised c.make_places.new.log.room places c.set_mode-result.ensures.promised))
+pub make_mode_room-requires : goal.make_mode_room-requires
+make_mode_room-requires c = record { entry = next_entry _ _ _ _ _ _ _ c.self.invariant c.len.ensures c.make_places.ensures.kept }
 
-pub invariant_of-self-in_default-mode_told : goal.invariant_of-self-in_default-mode_told
-invariant_of-self-in_default-mode_told c =
+pub refuse_mode-requires-clause-entry : goal.refuse_mode-requires-clause-entry
+refuse_mode-requires-clause-entry c = next_entry _ _ _ _ _ _ _ c.self.invariant c.len-in-Some-fault.ensures c.make_places.ensures.kept
+
+pub give_back_all-requires-clause-entry : goal.give_back_all-requires-clause-entry
+give_back_all-requires-clause-entry c = next_entry _ _ _ _ _ _ _ c.self.invariant refl c.make_places.ensures.kept
+
+pub returns-in-Some-clause-happens : goal.returns-in-Some-clause-happens
+returns-in-Some-clause-happens c =
     let i = c.self.inside in
     let s = i.registry.state in
     let lib = c.args.lib in
-    let library = subst (λ (v : State). IsLibrary v.creds lib.0) (sym (seen_state c.self.view_is)) c.requires.library in
-    let told = sym c.in_default-mode_told.is ∙ c.mode_told.ensures in
-    let same = c.make_places.ensures.kept ∙ sym (append-nil i.log.entries) ∙ sym (ap (λ (l : List Entry). i.log.entries ++ l) (mode_entries s lib c.args.ino c.args.mode c.set_mode-result.result _ told)) in
-    let places = rw (c.promised.ensures) at c.in-Ok.ensures.room in
-    after_call _ s c.set_mode-result.new.self.state i.registry.promised c.set_mode-result.new.self.promised i.log c.make_places.new.log i.notes (SetMode lib.0 c.args.ino c.args.mode) _ c.self.invariant c.set_mode-result.ensures.was_kept library tt tt c.set_mode-result.ensures.step (λ said e. tt) same
-    (same_room c.make_places.new.log.entries i.registry.promised c.set_mode-result.new.self.promised c.make_places.new.log.room places c.set_mode-result.ensures.promised)
+    let back = c.args.back.items in
+    let same = seen_state c.self.view_is in
+    let lent = subst (λ (v : State). AreLent (out_of v lib) back) (sym same) c.requires.lent in
+    let at = sym (ap (λ (l : List Shown). mode_fault (all_back s lib l) lib.0 c.args.ino c.args.mode (row_at s.home c.args.ino)) c.deref.ensures.value) ∙ sym c.mode_fault-fault.ensures in
+    let holder = c.in-Some.holder in
+    let fault = at ∙ busy_told c.mode_fault-fault.result holder (sym c.busy_holder.ensures ∙ c.in-Some.is) in
+    let told = NotModeSet (Busy holder) in
+    let ask = SetMode c.args.ino c.args.mode back c.args.call in
+    subst (λ (v : State). Happens v lib ask told v) same (happens_refused s lib c.args.ino c.args.mode back c.args.call lent (Busy holder) s fault refl)
+
+pub returns-in_default-make_places-clause-happens : goal.returns-in_default-make_places-clause-happens
+returns-in_default-make_places-clause-happens c =
+    let i = c.self.inside in
+    let s = i.registry.state in
+    let lib = c.args.lib in
+    let back = c.args.back.items in
+    let same = seen_state c.self.view_is in
+    let lent = subst (λ (v : State). AreLent (out_of v lib) back) (sym same) c.requires.lent in
+    let at = sym (ap (λ (l : List Shown). mode_fault (all_back s lib l) lib.0 c.args.ino c.args.mode (row_at s.home c.args.ino)) c.deref.ensures.value) ∙ sym c.mode_fault-fault.ensures in
+    subst (λ (v : State). Happens v lib (SetMode c.args.ino c.args.mode back c.args.call) (NotModeSet NoMemory) s) same (happens_wants s lib c.args.ino c.args.mode back c.args.call lent)
+
+pub returns-in_default-make_mode_room-clause-happens : goal.returns-in_default-make_mode_room-clause-happens
+returns-in_default-make_mode_room-clause-happens c =
+    let i = c.self.inside in
+    let s = i.registry.state in
+    let lib = c.args.lib in
+    let back = c.args.back.items in
+    let same = seen_state c.self.view_is in
+    let lent = subst (λ (v : State). AreLent (out_of v lib) back) (sym same) c.requires.lent in
+    let at = sym (ap (λ (l : List Shown). mode_fault (all_back s lib l) lib.0 c.args.ino c.args.mode (row_at s.home c.args.ino)) c.deref.ensures.value) ∙ sym c.mode_fault-fault.ensures in
+    subst (λ (v : State). Happens v lib (SetMode c.args.ino c.args.mode back c.args.call) (NotModeSet NoMemory) s) same (happens_wants s lib c.args.ino c.args.mode back c.args.call lent)
+
+pub invariant_of-self-in-Some-fault : goal.invariant_of-self-in-Some-fault
+invariant_of-self-in-Some-fault c =
+    let i = c.self.inside in
+    let s = i.registry.state in
+    let lib = c.args.lib in
+    let back = c.args.back.items in
+    let same = seen_state c.self.view_is in
+    let lent = subst (λ (v : State). AreLent (out_of v lib) back) (sym same) c.requires.lent in
+    let at = sym (ap (λ (l : List Shown). mode_fault (all_back s lib l) lib.0 c.args.ino c.args.mode (row_at s.home c.args.ino)) c.deref.ensures.value) ∙ sym c.mode_fault-fault.ensures in
+    let f = c.in-Some-fault.fault in
+    let fault = at ∙ c.in-Some-fault.is in
+    let none = ap busy_holder (sym c.in-Some-fault.is) ∙ sym c.busy_holder.ensures ∙ c.in_default.is in
+    let library = subst (λ (v : State). IsLibrary v.creds lib.0) (sym same) c.requires.library in
+    let tells = subst (λ (v : State). TellsChmod (desk_of v lib) back c.args.ino c.args.mode c.args.call) (sym same) c.requires.chmod in
+    let places = rw c.promised.ensures at c.in-Ok.ensures.room in
+    refused_history s lib c.args.ino c.args.mode back c.args.call _ i.registry.promised i.log i.notes c.self.invariant c.self.invariant.all.kept library lent tells f c.refuse_mode.new.self.state c.refuse_mode.new.self.promised c.push.new.self (plain_told f none) fault c.refuse_mode.ensures.state
+    (ap (λ (l : Logged). l.entries) c.push.ensures ∙ ap (λ (l : List Entry). l ++ entry.Mode lib c.args.ino c.args.mode (Err f) c.args.call ∷ []) c.make_places.ensures.kept)
+    (rw c.push.ensures (one_room c.make_places.new.log.entries (entry.Mode lib c.args.ino c.args.mode (Err f) c.args.call) i.registry.promised c.refuse_mode.new.self.promised c.make_places.new.log.room places c.refuse_mode.ensures.promised))
+
+pub returns-in-Some-fault-clause-kept : goal.returns-in-Some-fault-clause-kept
+returns-in-Some-fault-clause-kept c =
+    let i = c.self.inside in
+    let s = i.registry.state in
+    let lib = c.args.lib in
+    let back = c.args.back.items in
+    let same = seen_state c.self.view_is in
+    let lent = subst (λ (v : State). AreLent (out_of v lib) back) (sym same) c.requires.lent in
+    let at = sym (ap (λ (l : List Shown). mode_fault (all_back s lib l) lib.0 c.args.ino c.args.mode (row_at s.home c.args.ino)) c.deref.ensures.value) ∙ sym c.mode_fault-fault.ensures in
+    let f = c.in-Some-fault.fault in
+    let fault = at ∙ c.in-Some-fault.is in
+    let none = ap busy_holder (sym c.in-Some-fault.is) ∙ sym c.busy_holder.ensures ∙ c.in_default.is in
+    let library = subst (λ (v : State). IsLibrary v.creds lib.0) (sym same) c.requires.library in
+    let tells = subst (λ (v : State). TellsChmod (desk_of v lib) back c.args.ino c.args.mode c.args.call) (sym same) c.requires.chmod in
+    let places = rw c.promised.ensures at c.in-Ok.ensures.room in
+    (refused_history s lib c.args.ino c.args.mode back c.args.call _ i.registry.promised i.log i.notes c.self.invariant c.self.invariant.all.kept library lent tells f c.refuse_mode.new.self.state c.refuse_mode.new.self.promised c.push.new.self (plain_told f none) fault c.refuse_mode.ensures.state
+    (ap (λ (l : Logged). l.entries) c.push.ensures ∙ ap (λ (l : List Entry). l ++ entry.Mode lib c.args.ino c.args.mode (Err f) c.args.call ∷ []) c.make_places.ensures.kept)
+    (rw c.push.ensures (one_room c.make_places.new.log.entries (entry.Mode lib c.args.ino c.args.mode (Err f) c.args.call) i.registry.promised c.refuse_mode.new.self.promised c.make_places.new.log.room places c.refuse_mode.ensures.promised))).all.kept
+
+pub returns-in-Some-fault-clause-happens : goal.returns-in-Some-fault-clause-happens
+returns-in-Some-fault-clause-happens c =
+    let i = c.self.inside in
+    let s = i.registry.state in
+    let lib = c.args.lib in
+    let back = c.args.back.items in
+    let same = seen_state c.self.view_is in
+    let lent = subst (λ (v : State). AreLent (out_of v lib) back) (sym same) c.requires.lent in
+    let at = sym (ap (λ (l : List Shown). mode_fault (all_back s lib l) lib.0 c.args.ino c.args.mode (row_at s.home c.args.ino)) c.deref.ensures.value) ∙ sym c.mode_fault-fault.ensures in
+    let f = c.in-Some-fault.fault in
+    let fault = at ∙ c.in-Some-fault.is in
+    let none = ap busy_holder (sym c.in-Some-fault.is) ∙ sym c.busy_holder.ensures ∙ c.in_default.is in
+    let told = fault_told (all_back s lib back) lib.0 c.args.ino c.args.mode (row_at s.home c.args.ino) f fault in
+    subst (λ (v : State). Happens v lib (SetMode c.args.ino c.args.mode back c.args.call) (NotModeSet f) c.refuse_mode.new.self.state) same
+    (happens_refused s lib c.args.ino c.args.mode back c.args.call lent f c.refuse_mode.new.self.state fault (c.refuse_mode.ensures.state ∙ plain_refusal s f none told))
+
+pub returns-in-Some-fault-clause-call : goal.returns-in-Some-fault-clause-call
+returns-in-Some-fault-clause-call c =
+    let i = c.self.inside in
+    let s = i.registry.state in
+    let lib = c.args.lib in
+    let back = c.args.back.items in
+    let same = seen_state c.self.view_is in
+    let lent = subst (λ (v : State). AreLent (out_of v lib) back) (sym same) c.requires.lent in
+    let at = sym (ap (λ (l : List Shown). mode_fault (all_back s lib l) lib.0 c.args.ino c.args.mode (row_at s.home c.args.ino)) c.deref.ensures.value) ∙ sym c.mode_fault-fault.ensures in
+    let f = c.in-Some-fault.fault in
+    let fault = at ∙ c.in-Some-fault.is in
+    let none = ap busy_holder (sym c.in-Some-fault.is) ∙ sym c.busy_holder.ensures ∙ c.in_default.is in
+    plain_call c.args.call f none (fault_told (all_back s lib back) lib.0 c.args.ino c.args.mode (row_at s.home c.args.ino) f fault)
+
+pub give_back_all-requires-clause-given : goal.give_back_all-requires-clause-given
+give_back_all-requires-clause-given c =
+    let i = c.self.inside in
+    let s = i.registry.state in
+    let lib = c.args.lib in
+    let back = c.args.back.items in
+    let same = seen_state c.self.view_is in
+    let lent = subst (λ (v : State). AreLent (out_of v lib) back) (sym same) c.requires.lent in
+    let at = sym (ap (λ (l : List Shown). mode_fault (all_back s lib l) lib.0 c.args.ino c.args.mode (row_at s.home c.args.ino)) c.deref.ensures.value) ∙ sym c.mode_fault-fault.ensures in
+    are_back s lib back lent
+
+pub give_back_all-requires-clause-whose : goal.give_back_all-requires-clause-whose
+give_back_all-requires-clause-whose c =
+    let i = c.self.inside in
+    let s = i.registry.state in
+    let lib = c.args.lib in
+    let back = c.args.back.items in
+    let same = seen_state c.self.view_is in
+    let lent = subst (λ (v : State). AreLent (out_of v lib) back) (sym same) c.requires.lent in
+    let at = sym (ap (λ (l : List Shown). mode_fault (all_back s lib l) lib.0 c.args.ino c.args.mode (row_at s.home c.args.ino)) c.deref.ensures.value) ∙ sym c.mode_fault-fault.ensures in
+    backs_whose s lib back lent
+
+pub change_mode-requires-clause-free : goal.change_mode-requires-clause-free
+change_mode-requires-clause-free c =
+    let i = c.self.inside in
+    let s = i.registry.state in
+    let lib = c.args.lib in
+    let back = c.args.back.items in
+    let same = seen_state c.self.view_is in
+    let lent = subst (λ (v : State). AreLent (out_of v lib) back) (sym same) c.requires.lent in
+    let at = sym (ap (λ (l : List Shown). mode_fault (all_back s lib l) lib.0 c.args.ino c.args.mode (row_at s.home c.args.ino)) c.deref.ensures.value) ∙ sym c.mode_fault-fault.ensures in
+    let free = at ∙ c.in_default-fault.is in
+    (lib.0, free_at s lib c.args.ino c.args.mode back c.args.call c.give_back_all.new.registry.state c.give_back_all.ensures.state free)
+
+pub change_mode-requires-clause-room : goal.change_mode-requires-clause-room
+change_mode-requires-clause-room c =
+    let i = c.self.inside in
+    let s = i.registry.state in
+    let n = ap (λ (v : State). v.entries) (c.give_back_all.ensures.state ∙ all_back_is s c.args.lib c.args.back.items) in
+    let p = c.give_back_all.ensures.promised in
+    let room = c.in-Ok-make_mode_room.ensures in
+    omega (arith, n, p, room)
+
+pub invariant_of-self-2 : goal.invariant_of-self-2
+invariant_of-self-2 c =
+    let i = c.self.inside in
+    let s = i.registry.state in
+    let lib = c.args.lib in
+    let back = c.args.back.items in
+    let same = seen_state c.self.view_is in
+    let lent = subst (λ (v : State). AreLent (out_of v lib) back) (sym same) c.requires.lent in
+    let at = sym (ap (λ (l : List Shown). mode_fault (all_back s lib l) lib.0 c.args.ino c.args.mode (row_at s.home c.args.ino)) c.deref.ensures.value) ∙ sym c.mode_fault-fault.ensures in
+    let free = at ∙ c.in_default-fault.is in
+    let library = subst (λ (v : State). IsLibrary v.creds lib.0) (sym same) c.requires.library in
+    let tells = subst (λ (v : State). TellsChmod (desk_of v lib) back c.args.ino c.args.mode c.args.call) (sym same) c.requires.chmod in
+    let places = rw c.promised.ensures at c.in-Ok.ensures.room in
+    let less : c.change_mode.new.self.promised + length back ≡ i.registry.promised = ap (λ (n : ℕ). n + length back) c.change_mode.ensures.promised ∙ c.give_back_all.ensures.promised in
+    moded_history s lib c.args.ino c.args.mode back c.args.call _ i.registry.promised i.log i.notes c.self.invariant c.self.invariant.all.kept library lent tells c.give_back_all.new.registry.state c.change_mode.new.self.state c.give_back_all.new.log c.push-2.new.self c.change_mode.new.self.promised
+    c.give_back_all.ensures.state (c.give_back_all.ensures.log ∙ ap (λ (l : List Entry). l ++ back_entries lib back) c.make_places.ensures.kept) less
+    (free_at s lib c.args.ino c.args.mode back c.args.call c.give_back_all.new.registry.state c.give_back_all.ensures.state free) c.change_mode.ensures.state (ap (λ (l : Logged). l.entries) c.push-2.ensures)
+    (moded_room lib back i.log c.make_places.new.log c.give_back_all.new.log c.push-2.new.self (entry.Mode lib c.args.ino c.args.mode (Ok tt) c.args.call) i.registry.promised c.change_mode.new.self.promised c.make_places.ensures.kept places c.give_back_all.ensures.log c.give_back_all.ensures.room less c.push-2.ensures)
+
+pub returns-clause-kept : goal.returns-clause-kept
+returns-clause-kept c =
+    let i = c.self.inside in
+    let s = i.registry.state in
+    let lib = c.args.lib in
+    let back = c.args.back.items in
+    let same = seen_state c.self.view_is in
+    let lent = subst (λ (v : State). AreLent (out_of v lib) back) (sym same) c.requires.lent in
+    let at = sym (ap (λ (l : List Shown). mode_fault (all_back s lib l) lib.0 c.args.ino c.args.mode (row_at s.home c.args.ino)) c.deref.ensures.value) ∙ sym c.mode_fault-fault.ensures in
+    let free = at ∙ c.in_default-fault.is in
+    let library = subst (λ (v : State). IsLibrary v.creds lib.0) (sym same) c.requires.library in
+    let tells = subst (λ (v : State). TellsChmod (desk_of v lib) back c.args.ino c.args.mode c.args.call) (sym same) c.requires.chmod in
+    let places = rw c.promised.ensures at c.in-Ok.ensures.room in
+    let less : c.change_mode.new.self.promised + length back ≡ i.registry.promised = ap (λ (n : ℕ). n + length back) c.change_mode.ensures.promised ∙ c.give_back_all.ensures.promised in
+    (moded_history s lib c.args.ino c.args.mode back c.args.call _ i.registry.promised i.log i.notes c.self.invariant c.self.invariant.all.kept library lent tells c.give_back_all.new.registry.state c.change_mode.new.self.state c.give_back_all.new.log c.push-2.new.self c.change_mode.new.self.promised
+    c.give_back_all.ensures.state (c.give_back_all.ensures.log ∙ ap (λ (l : List Entry). l ++ back_entries lib back) c.make_places.ensures.kept) less
+    (free_at s lib c.args.ino c.args.mode back c.args.call c.give_back_all.new.registry.state c.give_back_all.ensures.state free) c.change_mode.ensures.state (ap (λ (l : Logged). l.entries) c.push-2.ensures)
+    (moded_room lib back i.log c.make_places.new.log c.give_back_all.new.log c.push-2.new.self (entry.Mode lib c.args.ino c.args.mode (Ok tt) c.args.call) i.registry.promised c.change_mode.new.self.promised c.make_places.ensures.kept places c.give_back_all.ensures.log c.give_back_all.ensures.room less c.push-2.ensures)).all.kept
+
+pub returns-clause-happens : goal.returns-clause-happens
+returns-clause-happens c =
+    let i = c.self.inside in
+    let s = i.registry.state in
+    let lib = c.args.lib in
+    let back = c.args.back.items in
+    let same = seen_state c.self.view_is in
+    let lent = subst (λ (v : State). AreLent (out_of v lib) back) (sym same) c.requires.lent in
+    let at = sym (ap (λ (l : List Shown). mode_fault (all_back s lib l) lib.0 c.args.ino c.args.mode (row_at s.home c.args.ino)) c.deref.ensures.value) ∙ sym c.mode_fault-fault.ensures in
+    let free = at ∙ c.in_default-fault.is in
+    subst (λ (v : State). Happens v lib (SetMode c.args.ino c.args.mode back c.args.call) ModeSet c.change_mode.new.self.state) same
+    (happens_moded s lib c.args.ino c.args.mode back c.args.call lent c.give_back_all.new.registry.state c.change_mode.new.self.state c.give_back_all.ensures.state free c.change_mode.ensures.state)
+
+pub returns-clause-logs : goal.returns-clause-logs
+returns-clause-logs c =
+    let lib = c.args.lib in
+    let back = c.args.back.items in
+    moded_logs c.args.self.now _ lib c.args.ino c.args.mode back c.args.call
+    (ap (λ (l : Logged). l.entries) c.push-2.ensures
+    ∙ ap (λ (l : List Entry). l ++ entry.Mode lib c.args.ino c.args.mode (Ok tt) c.args.call ∷ []) (c.give_back_all.ensures.log ∙ ap (λ (l : List Entry). l ++ back_entries lib back) (c.make_places.ensures.kept ∙ ap (λ (x : Controller). x.log) c.self.view_is)))
+    (ap (λ (x : Controller). x.first) c.self.view_is)

@@ -1,4 +1,4 @@
-use Rattle.trio_ctl.proofs.DeskSteps.{allot_fresh, allot_seen}
+use Rattle.trio_ctl.proofs.DeskSteps.{allot_fresh, allot_seen, allot_wanted}
 use Rattle.trio_ctl.proofs.desks.PlainDeskDesk.allot.Goals as goal
 
 pub returns-clause-seen : goal.returns-clause-seen
@@ -12,3 +12,9 @@ returns-clause-fresh c =
     let d = c.args.self.now in
     let e = c.allot.ensures in
     allot_fresh d.ctl.now.state d.lib c.args.pages c.args.inodes c.allot.new.self.state c.allot.result e.was_kept e.step e.pages e.inodes
+
+pub returns-clause-wanted : goal.returns-clause-wanted
+returns-clause-wanted c =
+    let d = c.args.self.now in
+    let e = c.allot.ensures in
+    allot_wanted d.ctl.now.state d.lib c.args.pages c.args.inodes c.allot.new.self.state c.allot.result e.step

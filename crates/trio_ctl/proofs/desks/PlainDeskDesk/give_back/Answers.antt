@@ -22,6 +22,7 @@ returns-clause-called c =
         given = by.0;
         is_step = subst (λ n. Step d.ctl.now.state (step.Back n c.args.lease.ino) step.Done c.give_back.new.self.state) by.1 c.give_back.ensures.step;
         lease = tt;
+        back = tt;
       },
       refl,
       refl,

@@ -2,7 +2,7 @@ use Rattle.std.proofs.Common.{refl, subst}
 use Rattle.trio_desk.specs.Out.{parcel_of}
 use Rattle.trio_state.specs.Step.{Step}
 use Rattle.trio_state.specs.Step as step
-use Rattle.trio_ctl.specs.Desk.{bundle_of}
+use Rattle.trio_desk.specs.Ready.{bundle_of}
 use Rattle.trio_ctl.proofs.DeskClosed.{closed_told}
 use Rattle.trio_ctl.proofs.DeskGiven.{given_to, were_held, were_lent}
 use Rattle.trio_ctl.proofs.DeskLogs.{release_logs}
@@ -25,6 +25,7 @@ returns-clause-called c =
         given = given_to d.ctl.now.state d.lib (parcel_of c.args.bundle) c.requires;
         is_step = subst (λ a. Step d.ctl.now.state (step.Release d.lib.0 (bundle_of (parcel_of c.args.bundle))) a c.release.new.self.state) (release_same c.release.result (λ back. back.1)) c.release.ensures.step;
         lease = tt;
+        back = tt;
       },
       refl,
       refl,
@@ -34,7 +35,7 @@ returns-clause-called c =
 pub returns-clause-seen : goal.returns-clause-seen
 returns-clause-seen c =
     let d = c.args.self.now in
-    release_seen d.ctl.now.state d.lib (parcel_of c.args.bundle) c.release.new.self.state c.release.result (λ back. back.1) c.release.ensures.step
+    release_seen d.ctl.now.state d.lib (parcel_of c.args.bundle) c.release.new.self.state c.release.result (λ back. back.1) c.release.ensures.was_kept c.is_recorded.ensures.whole (given_to d.ctl.now.state d.lib (parcel_of c.args.bundle) c.requires) c.release.ensures.step
 
 pub returns-clause-closed : goal.returns-clause-closed
 returns-clause-closed c =

@@ -1,7 +1,18 @@
-use Rattle.trio_ctl.proofs.DeskSteps.{mode_result_seen}
+use Rattle.trio_desk.specs.Call.{SetMode, mode_told}
+use Rattle.trio_ctl.proofs.DeskSteps.{libraries_stay, mode_holder, mode_seen}
 use Rattle.trio_ctl.proofs.desks.PlainDeskDesk.set_mode.Goals as goal
 
 pub returns-clause-seen : goal.returns-clause-seen
 returns-clause-seen c =
     let d = c.args.self.now in
-    mode_result_seen d.ctl.now.state d.lib c.args.ino c.args.mode c.set_mode.result c.set_mode.new.self.state c.set_mode.ensures.step
+    mode_seen d.ctl.now.state d.lib c.args.ino c.args.mode c.args.back.items c.args.call c.set_mode.new.self.state c.set_mode.result (λ came. came.2) c.set_mode.ensures.happens
+
+pub returns-clause-holder : goal.returns-clause-holder
+returns-clause-holder c =
+    let d = c.args.self.now in
+    mode_holder d.ctl.now.state d.lib c.args.ino c.args.mode c.args.back.items c.args.call c.set_mode.new.self.state c.set_mode.result (λ came. came.2) c.set_mode.ensures.happens
+
+pub invariant_of-self : goal.invariant_of-self
+invariant_of-self c =
+    let d = c.args.self.now in
+    record { is_library = libraries_stay d.ctl.now.state d.lib d.lib (SetMode c.args.ino c.args.mode c.args.back.items c.args.call) (mode_told c.set_mode.result (λ came. came.2)) c.set_mode.new.self.state c.set_mode.ensures.happens d.is_library }

@@ -292,8 +292,8 @@ returns-in-Refused-clause-kept c =
     let stand = stand_refused i.store i.first_core i.grants i.files.items i.libs.items i.history c.self.invariant c.args.lib b given closed c.roll_back.new.self c.end_files.new.grants c.end_files.new.files.items c.enter.new.self stay c.enter.ensures done.rows in
     (ended_controlled i.store i.first_core i.grants i.files.items i.libs.items i.history c.self.invariant c.args.lib b given closed c.roll_back.new.self c.end_files.new.grants c.end_files.new.files.items c.enter.new.self stay c.enter.ensures c.end_files.ensures.table stand done.allotments ended.stored).stored.kept
 
-pub enter-requires : goal.enter-requires
-enter-requires c =
+pub enter-requires-clause-room : goal.enter-requires-clause-room
+enter-requires-clause-room c =
     let i = c.self.inside in
     subst (λ n. HasRoom (record { made = i.history.made; promised = n }) 1) (reads_open i.store.checkpoints.items (grants_in i.files.items) ∙ sym c.self.invariant.promised)
     (subst (λ (v : State). HasRoom (entries_of v) 1) (sym (state_is c.self.view_is)) c.requires.room)

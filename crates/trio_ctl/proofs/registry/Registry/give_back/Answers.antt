@@ -35,8 +35,8 @@ end-requires c =
     let split = found_split lib ino i.files.items at c.remove-file.result found c.remove-file.ensures.value in
     subst (λ n. HasKey n i.grants) (sym c.key.ensures) (key_there i.store i.first_core i.grants i.files.items i.libs.items i.history c.self.invariant lib ino (take at i.files.items) (drop (at + 1) i.files.items) c.remove-file.result split.0 split.1)
 
-pub enter_promised-requires : goal.enter_promised-requires
-enter_promised-requires c =
+pub enter_promised-requires-clause-promised : goal.enter_promised-requires-clause-promised
+enter_promised-requires-clause-promised c =
     let i = c.self.inside in
     let lib = c.args.lease.lib.0 in
     let ino = c.args.lease.ino in

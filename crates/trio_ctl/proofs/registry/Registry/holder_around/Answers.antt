@@ -1,21 +1,20 @@
-use Rattle.std.proofs.Common.{◌≡◌, List, None, ap, rules, sym, ◌∙◌}
+use Rattle.std.proofs.Common.{List, ap, sym, ◌∙◌}
 use Rattle.std.specs.List.{find}
 use Rattle.std.specs.Option.{option_map}
 use Rattle.trio_ctl.specs.Open.{Opened}
-use Rattle.trio_ctl.specs.inner.Modes.{is_around}
+use Rattle.trio_ctl.specs.inner.Modes.{stays_around}
 use Rattle.trio_ctl.proofs.Moding.{holder_around, nobody_around}
 use Rattle.trio_ctl.proofs.Views.{state_is}
 use Rattle.trio_ctl.proofs.registry.Registry.holder_around.Goals as goal
 
-pub returns-in_err-held : goal.returns-in_err-held
-returns-in_err-held c =
+pub returns-in-Some : goal.returns-in-Some
+returns-in-Some c =
     let i = c.self.inside in
-    let none = sym (ap (λ (fs : List Opened). option_map (λ (o : Opened). o.grant.ino) (find (λ (o : Opened). is_around c.args.ino c.args.parent o.grant) fs)) c.deref.ensures.value) ∙ sym c.held_around.ensures ∙ c.in_err-held.was in
-    let nothing : c.from_residual.result ≡ None = search rules in
-    rw (← (state_is c.self.view_is)) (nothing ∙ nobody_around i.store i.first_core i.grants i.files.items i.libs.items i.history c.self.invariant c.args.ino c.args.parent none)
+    let one = sym (ap (λ (fs : List Opened). option_map (λ (o : Opened). o.key) (find (λ (o : Opened). stays_around c.args.lib.0 c.args.ino c.args.parent c.args.back.now o.grant) fs)) c.deref.ensures.value) ∙ sym c.key_around.ensures ∙ c.in-Some.is in
+    rw (← (state_is c.self.view_is)) (c.holder_under.ensures ∙ holder_around i.store i.first_core i.grants i.files.items i.libs.items i.history c.self.invariant c.args.lib.0 c.args.ino c.args.parent c.args.back.now c.in-Some.key one)
 
-pub returns : goal.returns
-returns c =
+pub returns-in-None : goal.returns-in-None
+returns-in-None c =
     let i = c.self.inside in
-    let one = sym (ap (λ (fs : List Opened). option_map (λ (o : Opened). o.grant.ino) (find (λ (o : Opened). is_around c.args.ino c.args.parent o.grant) fs)) c.deref.ensures.value) ∙ sym c.held_around.ensures ∙ c.in_ok-held.was in
-    rw (← (state_is c.self.view_is)) (c.holder_of.ensures ∙ holder_around i.store i.first_core i.grants i.files.items i.libs.items i.history c.self.invariant c.args.ino c.args.parent c.in_ok-held.held one)
+    let none = sym (ap (λ (fs : List Opened). option_map (λ (o : Opened). o.key) (find (λ (o : Opened). stays_around c.args.lib.0 c.args.ino c.args.parent c.args.back.now o.grant) fs)) c.deref.ensures.value) ∙ sym c.key_around.ensures ∙ c.in-None.is in
+    rw (← (state_is c.self.view_is)) (nobody_around i.store i.first_core i.grants i.files.items i.libs.items i.history c.self.invariant c.args.lib.0 c.args.ino c.args.parent c.args.back.now none)

@@ -14,7 +14,7 @@ use Rattle.trio_ctl.specs.Entries.{Entries}
 use Rattle.trio_ctl.specs.inner.Denials.{denial}
 use Rattle.trio_ctl.specs.inner.Lending.{IsLendable}
 use Rattle.trio_ctl.specs.Open.{Opened, grant_on, shown_of}
-use Rattle.trio_ctl.proofs.Views.{state_is}
+use Rattle.trio_ctl.proofs.Views.{next_is, state_is}
 use Rattle.trio_ctl.proofs.Granting.{refused_step, stands_somewhere, body_is, chain, chain_home, lendable, grant_made, plain_controlled, plain_step, controlled_still}
 use Rattle.trio_ctl.proofs.registry.Registry.lend_copies.Goals as goal
 
@@ -78,14 +78,14 @@ invariant_of-self-in-Ok-copied_file c =
     let key = c.in-Ok-admit.key in
     let copy = c.in-Ok-copied_file.copy in
     let made = c.in-Ok-copied_file.ensures.opened ch read
-    ∙ ap (λ (k : Core). record { key = key; grant = grant_on k c.args.lib.0 c.args.ino Read r.kind c.next-entry.result c.settled_body.result ch }) cores
-    ∙ ap (λ n. record { key = key; grant = grant_on (core_of i.store.home.pages range) c.args.lib.0 c.args.ino Read r.kind n c.settled_body.result ch }) c.next-entry.ensures
+    ∙ ap (λ (k : Core). record { key = key; grant = grant_on k c.args.lib.0 c.args.ino Read r.kind c.args.entry c.settled_body.result ch }) cores
+    ∙ ap (λ n. record { key = key; grant = grant_on (core_of i.store.home.pages range) c.args.lib.0 c.args.ino Read r.kind n c.settled_body.result ch }) (next_is c.requires.entry c.self.view_is)
     ∙ ap (λ (g : OpenGrant). record { key = key; grant = g }) (grant_made i.store i.first_core i.grants i.files.items i.libs.items i.history c.self.invariant Read c.args.lib c.args.ino r live free c.settled_body.result body) in
     let pages = c.copied_file.ensures.pages ∙ c.settled_body.ensures.pages in
     let rest = ap (λ (t : Store). record t { home = c.copied_file.new.home }) c.settled_body.ensures.rest in
     let more = c.in-Ok-push.ensures.items ∙ ap (λ fs. fs ++ copy.0 ∷ []) c.in-Ok-reserve.ensures.items in
     let counted = ap (λ (n : Entries). n.made) c.enter_with_promise.ensures in
-    let put = subst (λ n. AllBelow n i.grants → c.admit.new.grants ≡ i.grants ++ (key, record { lib = c.args.lib; ino = c.args.ino; kind = Read; entry = n }) ∷ []) c.next-entry.ensures c.in-Ok-admit.ensures.opened in
+    let put = subst (λ n. AllBelow n i.grants → c.admit.new.grants ≡ i.grants ++ (key, record { lib = c.args.lib; ino = c.args.ino; kind = Read; entry = n }) ∷ []) (next_is c.requires.entry c.self.view_is) c.in-Ok-admit.ensures.opened in
     plain_controlled i.store i.first_core i.grants i.files.items i.libs.items i.history c.self.invariant Read refl c.args.lib c.args.ino r live free key copy.0 _ c.admit.new.grants c.push.new.self.items c.enter_with_promise.new.self made pages rest more counted 0 refl may put c.in-Ok-admit.ensures.new_key (ap (λ (n : Entries). n.promised) c.enter_with_promise.ensures)
 
 pub invariant_of-self-in-Err-copied_file : goal.invariant_of-self-in-Err-copied_file
@@ -110,8 +110,8 @@ returns-in-Ok-push-clause-step c =
     let key = c.in-Ok-admit.key in
     let copy = c.in-Ok-copied_file.copy in
     let made = c.in-Ok-copied_file.ensures.opened ch read
-    ∙ ap (λ (k : Core). record { key = key; grant = grant_on k c.args.lib.0 c.args.ino Read r.kind c.next-entry.result c.settled_body.result ch }) cores
-    ∙ ap (λ n. record { key = key; grant = grant_on (core_of i.store.home.pages range) c.args.lib.0 c.args.ino Read r.kind n c.settled_body.result ch }) c.next-entry.ensures
+    ∙ ap (λ (k : Core). record { key = key; grant = grant_on k c.args.lib.0 c.args.ino Read r.kind c.args.entry c.settled_body.result ch }) cores
+    ∙ ap (λ n. record { key = key; grant = grant_on (core_of i.store.home.pages range) c.args.lib.0 c.args.ino Read r.kind n c.settled_body.result ch }) (next_is c.requires.entry c.self.view_is)
     ∙ ap (λ (g : OpenGrant). record { key = key; grant = g }) (grant_made i.store i.first_core i.grants i.files.items i.libs.items i.history c.self.invariant Read c.args.lib c.args.ino r live free c.settled_body.result body) in
     let pages = c.copied_file.ensures.pages ∙ c.settled_body.ensures.pages in
     let rest = ap (λ (t : Store). record t { home = c.copied_file.new.home }) c.settled_body.ensures.rest in
@@ -136,8 +136,8 @@ returns-in-Ok-push-clause-lease c =
     let key = c.in-Ok-admit.key in
     let copy = c.in-Ok-copied_file.copy in
     let made = c.in-Ok-copied_file.ensures.opened ch read
-    ∙ ap (λ (k : Core). record { key = key; grant = grant_on k c.args.lib.0 c.args.ino Read r.kind c.next-entry.result c.settled_body.result ch }) cores
-    ∙ ap (λ n. record { key = key; grant = grant_on (core_of i.store.home.pages range) c.args.lib.0 c.args.ino Read r.kind n c.settled_body.result ch }) c.next-entry.ensures
+    ∙ ap (λ (k : Core). record { key = key; grant = grant_on k c.args.lib.0 c.args.ino Read r.kind c.args.entry c.settled_body.result ch }) cores
+    ∙ ap (λ n. record { key = key; grant = grant_on (core_of i.store.home.pages range) c.args.lib.0 c.args.ino Read r.kind n c.settled_body.result ch }) (next_is c.requires.entry c.self.view_is)
     ∙ ap (λ (g : OpenGrant). record { key = key; grant = g }) (grant_made i.store i.first_core i.grants i.files.items i.libs.items i.history c.self.invariant Read c.args.lib c.args.ino r live free c.settled_body.result body) in
     let pages = c.copied_file.ensures.pages ∙ c.settled_body.ensures.pages in
     let rest = ap (λ (t : Store). record t { home = c.copied_file.new.home }) c.settled_body.ensures.rest in

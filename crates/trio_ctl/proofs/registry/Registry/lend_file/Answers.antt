@@ -17,7 +17,7 @@ use Rattle.trio_ctl.specs.inner.Lending.{IsLendable}
 use Rattle.trio_laws.specs.OutLaws.{without_checkpoint}
 use Rattle.trio_ctl.specs.Open.{grant_on}
 use Rattle.trio_ctl.specs.inner.Denials.{denial}
-use Rattle.trio_ctl.proofs.Views.{state_is}
+use Rattle.trio_ctl.proofs.Views.{next_is, state_is}
 use Rattle.trio_ctl.proofs.Granting.{refused_step, stands_somewhere, body_is, chain, chain_home, lendable, granted_controlled, granted_step, lease_made, controlled_still}
 use Rattle.trio_ctl.proofs.registry.Registry.lend_file.Goals as goal
 
@@ -79,13 +79,13 @@ invariant_of-self-in-Ok-lend c =
     let key = c.in-Ok-admit.key in
     let loan = c.in-Ok-lend.loan in
     let made = c.in-Ok-lend.ensures.opened ch read'
-    ∙ ap (λ (k : Core). record { key = key; grant = without_checkpoint (grant_on k c.args.lib.0 c.args.ino Write r.kind c.next-entry.result c.settled_body.result ch) }) cores
-    ∙ ap (λ n. record { key = key; grant = without_checkpoint (grant_on (core_of i.store.home.pages range) c.args.lib.0 c.args.ino Write r.kind n c.settled_body.result ch) }) c.next-entry.ensures in
+    ∙ ap (λ (k : Core). record { key = key; grant = without_checkpoint (grant_on k c.args.lib.0 c.args.ino Write r.kind c.args.entry c.settled_body.result ch) }) cores
+    ∙ ap (λ n. record { key = key; grant = without_checkpoint (grant_on (core_of i.store.home.pages range) c.args.lib.0 c.args.ino Write r.kind n c.settled_body.result ch) }) (next_is c.requires.entry c.self.view_is) in
     let gone = c.in-Ok-lend.ensures.pages ch read' ∙ ap (without_pages (ch.index ++ ch.blocks)) c.settled_body.ensures.pages in
     let more = c.in-Ok-push.ensures.items ∙ ap (λ fs. fs ++ loan.file ∷ []) c.in-Ok-reserve.ensures.items in
     let aside = ap (λ (t : Store). slice_set t.checkpoints.items c.args.ino (Some loan.checkpoint)) c.settled_body.ensures.rest in
     let rest = ap (λ (t : Store). record t { home = c.lend.new.home; checkpoints = with_item c.settled_body.new.store.checkpoints c.args.ino (Some loan.checkpoint) }) c.settled_body.ensures.rest in
-    let put = subst (λ n. AllBelow n i.grants → c.admit.new.grants ≡ i.grants ++ (key, record { lib = c.args.lib; ino = c.args.ino; kind = Write; entry = n }) ∷ []) c.next-entry.ensures c.in-Ok-admit.ensures.opened in
+    let put = subst (λ n. AllBelow n i.grants → c.admit.new.grants ≡ i.grants ++ (key, record { lib = c.args.lib; ino = c.args.ino; kind = Write; entry = n }) ∷ []) (next_is c.requires.entry c.self.view_is) c.in-Ok-admit.ensures.opened in
     granted_controlled i.store i.first_core i.grants i.files.items i.libs.items i.history c.self.invariant c.args.lib c.args.ino r live free key c.settled_body.result body loan.file loan.checkpoint _ c.admit.new.grants c.push.new.self.items c.enter.new.self made c.in-Ok-lend.ensures.covered gone rest aside more c.enter.ensures may put c.in-Ok-admit.ensures.new_key c.in-Ok-lend.ensures.covers
 
 pub invariant_of-self-in-Err-lend : goal.invariant_of-self-in-Err-lend
@@ -111,8 +111,8 @@ returns-in-Ok-push-clause-step c =
     let key = c.in-Ok-admit.key in
     let loan = c.in-Ok-lend.loan in
     let made = c.in-Ok-lend.ensures.opened ch read'
-    ∙ ap (λ (k : Core). record { key = key; grant = without_checkpoint (grant_on k c.args.lib.0 c.args.ino Write r.kind c.next-entry.result c.settled_body.result ch) }) cores
-    ∙ ap (λ n. record { key = key; grant = without_checkpoint (grant_on (core_of i.store.home.pages range) c.args.lib.0 c.args.ino Write r.kind n c.settled_body.result ch) }) c.next-entry.ensures in
+    ∙ ap (λ (k : Core). record { key = key; grant = without_checkpoint (grant_on k c.args.lib.0 c.args.ino Write r.kind c.args.entry c.settled_body.result ch) }) cores
+    ∙ ap (λ n. record { key = key; grant = without_checkpoint (grant_on (core_of i.store.home.pages range) c.args.lib.0 c.args.ino Write r.kind n c.settled_body.result ch) }) (next_is c.requires.entry c.self.view_is) in
     let gone = c.in-Ok-lend.ensures.pages ch read' ∙ ap (without_pages (ch.index ++ ch.blocks)) c.settled_body.ensures.pages in
     let more = c.in-Ok-push.ensures.items ∙ ap (λ fs. fs ++ loan.file ∷ []) c.in-Ok-reserve.ensures.items in
     let aside = ap (λ (t : Store). slice_set t.checkpoints.items c.args.ino (Some loan.checkpoint)) c.settled_body.ensures.rest in
@@ -136,8 +136,8 @@ returns-in-Ok-push-clause-lease c =
     let key = c.in-Ok-admit.key in
     let loan = c.in-Ok-lend.loan in
     let made = c.in-Ok-lend.ensures.opened ch read'
-    ∙ ap (λ (k : Core). record { key = key; grant = without_checkpoint (grant_on k c.args.lib.0 c.args.ino Write r.kind c.next-entry.result c.settled_body.result ch) }) cores
-    ∙ ap (λ n. record { key = key; grant = without_checkpoint (grant_on (core_of i.store.home.pages range) c.args.lib.0 c.args.ino Write r.kind n c.settled_body.result ch) }) c.next-entry.ensures in
+    ∙ ap (λ (k : Core). record { key = key; grant = without_checkpoint (grant_on k c.args.lib.0 c.args.ino Write r.kind c.args.entry c.settled_body.result ch) }) cores
+    ∙ ap (λ n. record { key = key; grant = without_checkpoint (grant_on (core_of i.store.home.pages range) c.args.lib.0 c.args.ino Write r.kind n c.settled_body.result ch) }) (next_is c.requires.entry c.self.view_is) in
     let gone = c.in-Ok-lend.ensures.pages ch read' ∙ ap (without_pages (ch.index ++ ch.blocks)) c.settled_body.ensures.pages in
     let more = c.in-Ok-push.ensures.items ∙ ap (λ fs. fs ++ loan.file ∷ []) c.in-Ok-reserve.ensures.items in
     let aside = ap (λ (t : Store). slice_set t.checkpoints.items c.args.ino (Some loan.checkpoint)) c.settled_body.ensures.rest in

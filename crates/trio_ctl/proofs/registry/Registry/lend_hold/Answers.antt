@@ -11,7 +11,7 @@ use Rattle.trio_commit.specs.declared.store.Store.{Store}
 use Rattle.trio_ctl.specs.Entries.{Entries}
 use Rattle.trio_ctl.specs.inner.Denials.{denial}
 use Rattle.trio_ctl.specs.Open.{Opened, grants_in}
-use Rattle.trio_ctl.proofs.Views.{state_is}
+use Rattle.trio_ctl.proofs.Views.{next_is, state_is}
 use Rattle.trio_ctl.proofs.Granting.{refused_step, stands_somewhere, body_is, plain_controlled, plain_step}
 use Rattle.trio_tables.specs.Tables.{child_count}
 use Rattle.trio_ctl.proofs.registry.Registry.lend_hold.Goals as goal
@@ -47,11 +47,11 @@ invariant_of-self-2 c =
     let counted_children = c.children.ensures ∙ ap (λ (t : Store). child_count c.args.ino t.rows) c.settled_body.ensures.rest in
     let at_home : List ℕ = settled_body (settled (state_of i.store i.first_core (grants_in i.files.items) i.libs.items i.history.made)) c.args.ino in
     let first = rw c.copied.ensures at c.of.ensures in
-    let made = first ∙ ap (λ n. H n c.settled_body.result c.children.result) c.next-entry.ensures ∙ ap (λ b. H i.history.made b c.children.result) body ∙ ap (H i.history.made at_home) counted_children in
+    let made = first ∙ ap (λ n. H n c.settled_body.result c.children.result) (next_is c.requires.entry c.self.view_is) ∙ ap (λ b. H i.history.made b c.children.result) body ∙ ap (H i.history.made at_home) counted_children in
     let rest = ap (λ (t : Store). record t { home = c.settled_body.new.store.home }) c.settled_body.ensures.rest in
     let more = c.in-Ok-push.ensures.items ∙ ap (λ fs. fs ++ file ∷ []) c.in-Ok-reserve.ensures.items in
     let counted = ap (λ (n : Entries). n.made) c.enter.ensures in
-    let put = subst (λ n. AllBelow n i.grants → c.admit.new.grants ≡ i.grants ++ (key, record { lib = c.args.lib; ino = c.args.ino; kind = Hold; entry = n }) ∷ []) c.next-entry.ensures c.in-Ok-admit.ensures.opened in
+    let put = subst (λ n. AllBelow n i.grants → c.admit.new.grants ≡ i.grants ++ (key, record { lib = c.args.lib; ino = c.args.ino; kind = Hold; entry = n }) ∷ []) (next_is c.requires.entry c.self.view_is) c.in-Ok-admit.ensures.opened in
     plain_controlled i.store i.first_core i.grants i.files.items i.libs.items i.history c.self.invariant Hold refl c.args.lib c.args.ino r live free key file _ c.admit.new.grants c.push.new.self.items c.enter.new.self made c.settled_body.ensures.pages c.settled_body.ensures.rest more counted c.children.result counted_children may put c.in-Ok-admit.ensures.new_key (ap (λ (n : Entries). n.promised) c.enter.ensures)
 
 pub returns-clause-step : goal.returns-clause-step
@@ -68,7 +68,7 @@ returns-clause-step c =
     let counted_children = c.children.ensures ∙ ap (λ (t : Store). child_count c.args.ino t.rows) c.settled_body.ensures.rest in
     let at_home : List ℕ = settled_body (settled (state_of i.store i.first_core (grants_in i.files.items) i.libs.items i.history.made)) c.args.ino in
     let first = rw c.copied.ensures at c.of.ensures in
-    let made = first ∙ ap (λ n. H n c.settled_body.result c.children.result) c.next-entry.ensures ∙ ap (λ b. H i.history.made b c.children.result) body ∙ ap (H i.history.made at_home) counted_children in
+    let made = first ∙ ap (λ n. H n c.settled_body.result c.children.result) (next_is c.requires.entry c.self.view_is) ∙ ap (λ b. H i.history.made b c.children.result) body ∙ ap (H i.history.made at_home) counted_children in
     let rest = ap (λ (t : Store). record t { home = c.settled_body.new.store.home }) c.settled_body.ensures.rest in
     let more = c.in-Ok-push.ensures.items ∙ ap (λ fs. fs ++ file ∷ []) c.in-Ok-reserve.ensures.items in
     let counted = ap (λ (n : Entries). n.made) c.enter.ensures in
@@ -89,10 +89,10 @@ returns-clause-lease c =
     let counted_children = c.children.ensures ∙ ap (λ (t : Store). child_count c.args.ino t.rows) c.settled_body.ensures.rest in
     let at_home : List ℕ = settled_body (settled (state_of i.store i.first_core (grants_in i.files.items) i.libs.items i.history.made)) c.args.ino in
     let first = rw c.copied.ensures at c.of.ensures in
-    let made = first ∙ ap (λ n. H n c.settled_body.result c.children.result) c.next-entry.ensures ∙ ap (λ b. H i.history.made b c.children.result) body ∙ ap (H i.history.made at_home) counted_children in
+    let made = first ∙ ap (λ n. H n c.settled_body.result c.children.result) (next_is c.requires.entry c.self.view_is) ∙ ap (λ b. H i.history.made b c.children.result) body ∙ ap (H i.history.made at_home) counted_children in
     let rest = ap (λ (t : Store). record t { home = c.settled_body.new.store.home }) c.settled_body.ensures.rest in
     let more = c.in-Ok-push.ensures.items ∙ ap (λ fs. fs ++ file ∷ []) c.in-Ok-reserve.ensures.items in
     let counted = ap (λ (n : Entries). n.made) c.enter.ensures in
     let P : ℕ → List ℕ → ℕ → HoldParts = λ n b m. record { lib = c.args.lib; ino = c.args.ino; kind = r.kind; entry = n; parent = r.parent; body = b; children = m } in
     rw (← (state_is c.self.view_is))
-    (ap HoldLent (c.of-2.ensures ∙ ap (λ n. P n c.settled_body.result c.children.result) c.next-entry.ensures ∙ ap (λ b. P i.history.made b c.children.result) body ∙ ap (P i.history.made (settled_body (settled (state_of i.store i.first_core (grants_in i.files.items) i.libs.items i.history.made)) c.args.ino)) counted_children))
+    (ap HoldLent (c.of-2.ensures ∙ ap (λ n. P n c.settled_body.result c.children.result) (next_is c.requires.entry c.self.view_is) ∙ ap (λ b. P i.history.made b c.children.result) body ∙ ap (P i.history.made (settled_body (settled (state_of i.store i.first_core (grants_in i.files.items) i.libs.items i.history.made)) c.args.ino)) counted_children))

@@ -15,7 +15,7 @@ returns-in-Ok-clause-call g c =
     let given = c.in-Ok.given in
     let e = c.add_allotted.ensures in
     Made (Given (page_numbers given.pages.items) (ino_numbers given.inodes.items)) c.in-Ok.ensures.called
-    (allot_after seen.lib seen.out c.args.self.now.has c.add_allotted.new.self.has given c.add_allotted.result c.in-Ok.ensures.fresh e.answer
+    (allot_after seen.lib seen.sizes seen.out c.args.self.now.has c.add_allotted.new.self.has given c.add_allotted.result c.in-Ok.ensures.fresh e.answer
     (ok_same c.add_allotted.new.self.has (with_given c.self.inside.things.has given) (with_given c.args.self.now.has given) c.add_allotted.result (ap (λ (h : Held). with_given h.has given) c.self.view_is) e.added)
     (err_same c.add_allotted.new.self.has c.self.inside.things.has c.args.self.now.has c.add_allotted.result (ap (λ (h : Held). h.has) c.self.view_is) e.kept))
 
@@ -26,7 +26,7 @@ returns-in-Ok-clause-stands g c =
     let given = c.in-Ok.given in
     let e = c.add_allotted.ensures in
     stands_alike out' (with_allotted seen.out (page_numbers given.pages.items) (ino_numbers given.inodes.items)) c.add_allotted.new.self.has c.in-Ok.ensures.seen.out
-    (allot_stands seen.lib seen.out c.args.self.now.has c.add_allotted.new.self.has given c.add_allotted.result c.in-Ok.ensures.fresh
+    (allot_stands seen.lib seen.sizes seen.out c.args.self.now.has c.add_allotted.new.self.has given c.add_allotted.result c.in-Ok.ensures.fresh
     (ok_same c.add_allotted.new.self.has (with_given c.self.inside.things.has given) (with_given c.args.self.now.has given) c.add_allotted.result (ap (λ (h : Held). with_given h.has given) c.self.view_is) e.added)
     (err_same c.add_allotted.new.self.has c.self.inside.things.has c.args.self.now.has c.add_allotted.result (ap (λ (h : Held). h.has) c.self.view_is) e.kept) c.requires.stands)
 

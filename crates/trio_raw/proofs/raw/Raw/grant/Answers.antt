@@ -22,7 +22,7 @@ returns-in-Ok-clause-stands g c =
     let has = c.args.self.now.has in
     subst (OnList out') (sym kept)
     (stands_alike out' (with_lease seen.out c.in-Ok.lease) (keeps_lease has c.in-Ok.lease) c.in-Ok.ensures.seen.out
-    (stands-lease seen.lib c.args.ino seen.out has c.in-Ok.lease c.requires.stands c.in-Ok.ensures.lease))
+    (stands-lease seen.lib c.args.ino seen.sizes seen.out has c.in-Ok.lease c.requires.stands c.in-Ok.ensures.lease))
 
 pub returns-in-Ok-clause-leases : goal.returns-in-Ok-clause-leases
 returns-in-Ok-clause-leases g c l =
@@ -33,7 +33,7 @@ returns-in-Ok-clause-leases g c l =
     let has = c.args.self.now.has in
     subst (HasLeases out') (sym kept)
     (leases_alike out' (with_lease seen.out c.in-Ok.lease) (keeps_lease has c.in-Ok.lease) c.in-Ok.ensures.seen.out
-    (leases-lease seen.lib c.args.ino seen.out has c.in-Ok.lease c.in-Ok.ensures.lease l))
+    (leases-lease seen.lib c.args.ino seen.sizes seen.out has c.in-Ok.lease c.in-Ok.ensures.lease l))
 
 pub returns-in-Err-clause-call : goal.returns-in-Err-clause-call
 returns-in-Err-clause-call g c =

@@ -1,6 +1,6 @@
 use Rattle.std.proofs.Common.{refl}
 use Rattle.trio_ctl.proofs.Allotting.{logged_controlled}
-use Rattle.trio_ctl.proofs.registry.Registry.log_mode_refusal.Goals as goal
+use Rattle.trio_ctl.proofs.registry.Registry.refuse_mode.Goals as goal
 
 pub invariant_of-self : goal.invariant_of-self
 invariant_of-self c =

@@ -1,0 +1,102 @@
+-- What a refused grant tells is true of the nodes at which it is refused.
+use Rattle.std.proofs.Common.{◌≡◌, ℕ, true, map, Some, None, Result, Ok, Err, is_some, sym, ap, ◌∙◌, inl, inr}
+use Rattle.std.specs.Prelude.{◌&&◌, ◌==◌}
+use Rattle.std.proofs.lemmas.Bool.{and_from, both_ways, eq-eqb, false≢true, not-true}
+use Rattle.trio_rights.specs.declared.rights.LibNo.{LibNo}
+use Rattle.trio_lists.specs.Lists.{In}
+use Rattle.trio_lists.proofs.Filters.{In-list_any}
+use Rattle.trio_lists.proofs.Members.{In-cases, In-map, map-In}
+use Rattle.trio_lease.specs.Shown.{Shown}
+use Rattle.trio_lease.specs.declared.lease.Lease.{Lease}
+use Rattle.trio_nodes.specs.GrantKinds.{is_write, same_kind}
+use Rattle.trio_nodes.specs.declared.answers.GrantFault.{GrantFault}
+use Rattle.trio_nodes.specs.declared.answers.GrantFault.TheVariants.{NotLive, Denied, NoParent, Busy, NoMemory as NoGrantMemory}
+use Rattle.trio_nodes.specs.declared.grant.GrantKind.{GrantKind}
+use Rattle.trio_nodes.specs.declared.grant.GrantKind.TheVariants.{Read, Write, Hold}
+use Rattle.trio_nodes.specs.declared.node.Node.{Node}
+use Rattle.trio_nodes.specs.Nodes.{node_at}
+use Rattle.trio_nodes.specs.Standing.{Standing}
+use Rattle.trio_nodes.specs.Legal.{lacks_directory, parent_stands}
+use Rattle.trio_desk.specs.Call.{Grant, lease_told}
+use Rattle.trio_desk.specs.Refusals.{IsCause, TellsCause, leases_out}
+use Rattle.trio_state.specs.Kept.{Kept}
+use Rattle.trio_state.specs.State.{State, creds_of, settled}
+use Rattle.trio_state.specs.Step.{Step}
+use Rattle.trio_state.specs.Step as step
+use Rattle.trio_laws.specs.history.Stands.{node_by, nodes_of, standing_of, writer_of}
+use Rattle.trio_laws.specs.session.Lent.{AreLentTo, LentIsTrue}
+use Rattle.trio_laws.proofs.StateFacts.{write_is}
+use Rattle.trio_laws.proofs.history.Facts.{node_is}
+use Rattle.trio_laws.proofs.history.GrantStep.{grant_extends}
+use Rattle.trio_laws.proofs.history.StandsTree.{states_are_trees}
+use Rattle.trio_laws.proofs.session.Lent.{leases_stay_true}
+use Rattle.trio_laws.proofs.session.Rows.{rows_say}
+use Rattle.trio_ctl.specs.Answers.{grant_answer, grant_fault_answer}
+use Rattle.trio_ctl.specs.Desk.{desk_of, out_of}
+use Rattle.trio_ctl.specs.Logged.{alone}
+use Rattle.trio_ctl.specs.Open.{shown_of}
+use Rattle.trio_ctl.proofs.DeskGiven.{behind}
+use Rattle.trio_ctl.proofs.DeskOuts.{numbers_to-In}
+use Rattle.trio_ctl.proofs.Settling.{hold_lent, read_lent, write_lent}
+
+-- all that is out is the library's, each as it was lent
+all_lent : (s : State) (lib : LibNo) → AreLentTo s lib.0 (leases_out (out_of s lib))
+all_lent s lib = record {
+  files = λ f i. elim (In-cases f (out_of s lib).writes (out_of s lib).reads i) [ inl w ↦ write_lent s lib f w | inr r ↦ read_lent s lib f r ];
+  holds = λ h i. hold_lent s lib h i;
+}
+
+-- a file that is out for writing has a write grant of the library that stands
+writes_stand : (s : State) (lib : LibNo) (x : Node) → In x.parent (map (λ (w : Shown). w.ino) (out_of s lib).writes) → parent_stands (map standing_of s.open_grants) lib.0 (Some x) ≡ true
+writes_stand s lib x i =
+    let m = map-In (λ (w : Shown). w.ino) x.parent (out_of s lib).writes i in
+    let b = behind shown_of is_write s lib m.0 m.1 in
+    let on : b.grant.ino ≡ x.parent = ap (λ (w : Shown). w.ino) (sym b.is) ∙ sym m.2 in
+    let mine : (b.grant.lib == lib.0) ≡ true = eq-eqb b.grant.lib lib.0 b.lib in
+    let here : (b.grant.ino == x.parent) ≡ true = eq-eqb b.grant.ino x.parent on in
+    let writes : same_kind b.grant.kind Write ≡ true = ap (λ t. same_kind t Write) (write_is b.grant.kind b.kind) in
+    In-list_any (λ (g : Standing). g.lib == lib.0 && g.ino == x.parent && same_kind g.kind Write) (standing_of b.grant) (map standing_of s.open_grants)
+    (In-map standing_of b.grant s.open_grants b.is_open)
+    (and_from (b.grant.lib == lib.0 && b.grant.ino == x.parent) (same_kind b.grant.kind Write) (and_from (b.grant.lib == lib.0) (b.grant.ino == x.parent) mine here) writes)
+
+module _ (s : State) (k : Kept s) (lib : LibNo) (ino : ℕ) (kind : GrantKind) where
+  abbrev Cause : GrantFault → Type 0
+  Cause fault = IsCause (nodes_of s) (creds_of s lib.0) (out_of s lib) ino kind fault
+
+  -- an allotted number has no node
+  none_allotted : (n : ℕ) → In n (out_of s lib).numbers → node_at (nodes_of s) n ≡ None
+  none_allotted n i =
+      node_is s k n ∙ ap (node_by (settled s) n (writer_of s n)) (k.numbers_free n (ap is_some (numbers_to-In s.numbers_out lib.0 n i)))
+
+  no_parent : (t : GrantKind) → lacks_directory (map standing_of s.open_grants) lib.0 t (node_at (nodes_of s) ino) ≡ true → Cause NoParent
+  no_parent Read e x at i = absurd (false≢true e)
+  no_parent Write e x at i = absurd (false≢true e)
+  no_parent Hold e x at i =
+      let stands = parent_stands (map standing_of s.open_grants) lib.0 (node_at (nodes_of s) ino) in
+      both_ways stands (not-true stands e) (ap (parent_stands (map standing_of s.open_grants) lib.0) at ∙ writes_stand s lib x i)
+
+  -- the entry of a refusal is legal, so its cause is true
+  cause_is : (fault : GrantFault) (s' : State) → Step s (step.Grant lib.0 ino kind) (grant_fault_answer fault) s' → Cause fault
+  cause_is (Busy holder) s' st = tt
+  cause_is NoGrantMemory s' st = tt
+  cause_is NotLive s' (inl d) = (grant_extends s k lib.0 ino kind alone (step.NotGranted NotLive) s' d).legal
+  cause_is NotLive s' (inr none) = let wrong : step.NotGranted NotLive ≡ step.NoMemory = none.1 in absurd (cc wrong)
+  cause_is (Denied by) s' (inl d) = (grant_extends s k lib.0 ino kind alone (step.NotGranted (Denied by)) s' d).legal
+  cause_is (Denied by) s' (inr none) = let wrong : step.NotGranted (Denied by) ≡ step.NoMemory = none.1 in absurd (cc wrong)
+  cause_is NoParent s' (inl d) = no_parent kind (grant_extends s k lib.0 ino kind alone (step.NotGranted NoParent) s' d).legal
+  cause_is NoParent s' (inr none) = let wrong : step.NotGranted NoParent ≡ step.NoMemory = none.1 in absurd (cc wrong)
+
+  pub grant_cause : LentIsTrue s → (r : Result Lease GrantFault) (s' : State) → Step s (step.Grant lib.0 ino kind) (grant_answer r) s' → TellsCause (desk_of s lib) (Grant ino kind) (lease_told r)
+  grant_cause t (Ok lease) s' st = tt
+  grant_cause t (Err fault) s' st =
+      let here = leases_stay_true s lib.0 (leases_out (out_of s lib)) k t (all_lent s lib) in
+      record {
+        nodes = nodes_of s;
+        rows = s.home.rows;
+        tree = states_are_trees s k;
+        agrees = here.agrees;
+        none = none_allotted;
+        same = rows_say s k;
+        places = here.places;
+        cause = cause_is fault s' st;
+      }

@@ -1,0 +1,110 @@
+-- How many things a bundle has that belongs to a library: each is of a table that has a place for each number.
+use Rattle.std.proofs.Common.{◌≡◌, ℕ, ◌+◌, ◌-◌, ◌<◌, ◌≤◌, List, [], ◌∷◌, ◌++◌, length, map, drop, get_or, suc, is_some, refl, sym, ap, subst, ◌∙◌, arith}
+use Rattle.std.proofs.Math.Seq.{drop-cons}
+use Rattle.std.specs.List.{flat_map}
+use Rattle.std.proofs.lemmas.List.{length-append, length-map}
+use Rattle.trio_rights.specs.Bundle.{Bundle, Written, bundle_pages, bundle_sheets}
+use Rattle.trio_rights.specs.Sheets.{Sheet}
+use Rattle.trio_lease.specs.Bundles.{Bundled}
+use Rattle.trio_lease.specs.Shown.{LentFile}
+use Rattle.trio_lease.specs.Views.{bundle_in, fresh_sheet, lent_sheet, written_in}
+use Rattle.trio_lists.specs.Lists.{In}
+use Rattle.trio_lists.proofs.Members.{map-In}
+use Rattle.trio_layout.proofs.Walks.{pigeons}
+use Rattle.trio_judge.proofs.Making.{few_pages}
+use Rattle.trio_tables.proofs.OutLemmas.{within_some}
+use Rattle.trio_state.specs.Given.{GivenTo}
+use Rattle.trio_state.specs.Kept.{Kept}
+use Rattle.trio_state.specs.State.{State}
+use Rattle.trio_rights.specs.declared.rights.Creds.{Creds}
+use Rattle.trio_lease.specs.declared.parts.HoldParts.{HoldParts}
+use Rattle.trio_lease.specs.declared.parts.InoParts.{InoParts}
+use Rattle.trio_layout.proofs.Superblocks.{superblock_facts}
+use Rattle.trio_grants.specs.Grants.{Keyed}
+use Rattle.trio_commit.specs.declared.store.Store.{Store}
+use Rattle.trio_commit.specs.Store.{state_of}
+use Rattle.trio_ctl.specs.Belonging.{Belongs}
+use Rattle.trio_ctl.specs.Ctl.{IsControlled}
+use Rattle.trio_ctl.specs.Entries.{Entries}
+use Rattle.trio_ctl.specs.Open.{Opened, grants_in}
+use Rattle.trio_ctl.specs.Stored.{superblock_at_home}
+use Rattle.trio_ctl.proofs.Belonging.{given_belongs}
+use Rattle.trio_ctl.specs.inner.Room.{pages_shown}
+use Rattle.trio_ctl.proofs.Judging.{pages_core, pages_new}
+
+-- ---- how many pages the leases and the allotments show
+
+shown_of : (fs : List LentFile) → length (flat_map (λ (w : Written). w.index ++ w.blocks) (map (λ f. written_in f.stands) fs)) ≡ pages_shown fs
+shown_of [] = refl
+shown_of (f ∷ fs) =
+    let w = written_in f.stands in
+    let rest = flat_map (λ (v : Written). v.index ++ v.blocks) (map (λ (x : LentFile). written_in x.stands) fs) in
+    let split = length-append (w.index ++ w.blocks) rest in
+    let own = length-append w.index w.blocks in
+    let again = shown_of fs in
+    omega (arith, split, own, again, length-map f.stands.index lent_sheet, length-map f.stands.blocks lent_sheet)
+
+pub page_total : (b : Bundled) → length (bundle_pages (bundle_in b)) ≡ length b.pages + pages_shown b.writes
+page_total b =
+    let lent = flat_map (λ (w : Written). w.index ++ w.blocks) (map (λ (x : LentFile). written_in x.stands) b.writes) in
+    let sheets = length-map (bundle_sheets (bundle_in b)) (λ (x : Sheet). x.page) in
+    let split = length-append lent (map fresh_sheet b.pages) in
+    omega (arith, sheets, split, shown_of b.writes, length-map b.pages fresh_sheet)
+
+-- one lease after another
+pub shown_next : (fs : List LentFile) (i : ℕ) (d f : LentFile) → i < length fs → f ≡ get_or fs i d → pages_shown (drop i fs) ≡ length f.stands.index + length f.stands.blocks + pages_shown (drop (i + 1) fs)
+shown_next fs i d f lt is =
+    ap pages_shown (drop-cons fs i d lt)
+    ∙ ap (λ (x : LentFile). length x.stands.index + length x.stands.blocks + pages_shown (drop (suc i) fs)) (sym is)
+    ∙ ap (λ k. length f.stands.index + length f.stands.blocks + pages_shown (drop k fs)) (let up : suc i ≡ i + 1 = omega arith in up)
+
+-- ---- what is given is no more than its table has
+
+module _ (s : State) (kept : Kept s) (lib : ℕ) (b : Bundle) (given : GivenTo s lib b) where
+  pub pages_few : length (bundle_pages b) ≤ s.home.core.range.end
+  pages_few = few_pages s.home.core.range (bundle_pages b) (pages_core s lib b kept given) (pages_new s lib b kept given)
+
+  pub writes_few : length b.writes ≤ length s.home.rows
+  writes_few =
+      let few = pigeons (length s.home.rows) (map (λ (w : Written). w.ino) b.writes) given.writes_once below in
+      let n = length-map b.writes (λ (w : Written). w.ino) in
+      omega (arith, few, n)
+    where
+      below : (x : ℕ) → In x (map (λ (w : Written). w.ino) b.writes) → x < length s.home.rows
+      below x i =
+          let w = map-In (λ (w : Written). w.ino) x b.writes i in
+          let g = given.writes w.0 w.1 in
+          subst (λ n. n < length s.home.rows) (g.ino ∙ sym w.2) (within_some s.home.rows g.grant.ino (kept.live g.grant g.is_open))
+
+  pub holds_few : length b.holds ≤ length s.home.rows
+  holds_few = pigeons (length s.home.rows) b.holds given.holds_once (λ x i.
+      let g = given.holds x i in
+      subst (λ n. n < length s.home.rows) g.ino (within_some s.home.rows g.grant.ino (kept.live g.grant g.is_open)))
+
+  pub numbers_few : length b.numbers ≤ s.home.core.inodes + 1
+  numbers_few =
+      let few = pigeons (length s.numbers_out) b.numbers given.numbers_once (λ x i. within_some s.numbers_out x (ap is_some (given.numbers x i))) in
+      let placed = kept.numbers_placed in
+      omega (arith, few, placed)
+
+-- ---- of a registry
+
+module _ (s : Store) (first : ℕ) (table : List Keyed) (files : List Opened) (creds : List Creds) (entries : Entries) (k : IsControlled s first table files creds entries) (b : Bundled) where
+  abbrev st : State
+  st = state_of s first (grants_in files) creds entries.made
+
+  -- how many things there are in a bundle that belongs to a library
+  pub counts_few : (lib : ℕ) → Belongs st lib b → (length (bundle_pages (bundle_in b)) ≤ 8192) × (length b.writes ≤ 16385) × (length b.holds ≤ 16385) × (length b.inodes ≤ 16385)
+  counts_few lib t =
+      let kept = k.stored.kept in
+      let given = given_belongs st lib b t in
+      let facts = superblock_facts (superblock_at_home s first) k.stored.fits in
+      let sized : (length s.home.pages ≤ 8192) × (length s.rows - 1 ≤ 16384) = (facts.pages, facts.inodes) in
+      let pages = pages_few st kept lib (bundle_in b) given in
+      let writes = writes_few st kept lib (bundle_in b) given in
+      let holds = holds_few st kept lib (bundle_in b) given in
+      let numbers = numbers_few st kept lib (bundle_in b) given in
+      let w = length-map b.writes (λ (f : LentFile). written_in f.stands) in
+      let h = length-map b.holds (λ (x : HoldParts). x.ino) in
+      let n = length-map b.inodes (λ (x : InoParts). x.no) in
+      (omega (arith, pages, sized), omega (arith, writes, w, sized), omega (arith, holds, h, sized), omega (arith, numbers, n, sized))

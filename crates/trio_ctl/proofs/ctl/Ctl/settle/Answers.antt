@@ -1,0 +1,215 @@
+use Rattle.std.proofs.Common.{◌≡◌, ◌+◌, ◌≤◌, ◌++◌, [], ◌∷◌, List, ℕ, length, ap, append_assoc, refl, subst, sym, ◌∙◌, arith}
+use Rattle.trio_lease.specs.Bundles.{Bundled}
+use Rattle.trio_lease.specs.Views.{bundle_in}
+use Rattle.trio_log.specs.Logged.{Logged}
+use Rattle.trio_nodes.specs.declared.entry.Entry.{Entry}
+use Rattle.trio_nodes.specs.declared.entry.Entry.TheVariants as entry
+use Rattle.trio_layout.specs.Case.{Case}
+use Rattle.trio_desk.specs.Call.{NotSettled, Settle as SettleAsked, Settled as IsSettled}
+use Rattle.trio_desk.specs.Out.{parcel_of}
+use Rattle.trio_desk.specs.Ready.{Ready}
+use Rattle.trio_state.specs.Bundles.{parted_hold}
+use Rattle.trio_state.specs.Given.{GivenTo}
+use Rattle.trio_state.specs.State.{State}
+use Rattle.trio_state.specs.Step.{Release, Step}
+use Rattle.trio_state.specs.Tells.{case_in}
+use Rattle.trio_laws.specs.history.Replays.{IsLibrary}
+use Rattle.trio_entries.specs.Handed.{handed_in}
+use Rattle.trio_survey.specs.Stored.{image_in}
+use Rattle.trio_ctl.specs.Answers.{verdict_of}
+use Rattle.trio_ctl.specs.Backs.{all_back, back_entries}
+use Rattle.trio_ctl.specs.Ctl.{Controller}
+use Rattle.trio_ctl.specs.Desk.{Happens, desk_of}
+use Rattle.trio_ctl.specs.Entries.{HasRoom, entries_of}
+use Rattle.trio_ctl.specs.Logged.{HasHistory}
+use Rattle.trio_ctl.specs.inner.Outcomes.{IsOutcome}
+use Rattle.trio_ctl.specs.inner.Telling.{TellsOutcome, noted_by}
+use Rattle.trio_ctl.proofs.DeskGiven.{given_to, were_held, were_lent}
+use Rattle.trio_ctl.proofs.LeasesBack.{backs_whose}
+use Rattle.trio_ctl.proofs.Recording.{next_entry, one_room}
+use Rattle.trio_ctl.proofs.RecordedReleases.{are_noted, whole_is}
+use Rattle.trio_ctl.proofs.Settling.{after_settle, back_in_turn, case_then, judgeable_then, lent_reads, not_settled, places_then, room_then, settled_then}
+use Rattle.trio_ctl.proofs.Views.{seen_state}
+use Rattle.trio_ctl.proofs.ctl.Ctl.settle.Goals as goal
+
+pub judged-requires-clause-entry : goal.judged-requires-clause-entry
+judged-requires-clause-entry c = next_entry _ _ _ _ _ _ _ c.self.invariant c.len.ensures c.make_places.ensures.kept
+
+pub give_back_all-requires-clause-entry : goal.give_back_all-requires-clause-entry
+give_back_all-requires-clause-entry c = next_entry _ _ _ _ _ _ _ c.self.invariant refl c.make_places.ensures.kept
+
+pub judged-requires-clause-given : goal.judged-requires-clause-given
+judged-requires-clause-given c =
+    let ready = subst (λ (v : State). Ready (desk_of v c.args.lib) (parcel_of c.args.bundle) c.args.back.items c.args.calls.items) (sym (seen_state c.self.view_is)) c.requires.ready in
+    given_to c.self.inside.registry.state c.args.lib (parcel_of c.args.bundle) ready.all.given
+
+pub judged-requires-clause-held : goal.judged-requires-clause-held
+judged-requires-clause-held c =
+    let ready = subst (λ (v : State). Ready (desk_of v c.args.lib) (parcel_of c.args.bundle) c.args.back.items c.args.calls.items) (sym (seen_state c.self.view_is)) c.requires.ready in
+    were_held c.self.inside.registry.state c.args.lib (parcel_of c.args.bundle) ready.all.given
+
+pub returns-in_default-clause-happens : goal.returns-in_default-clause-happens
+returns-in_default-clause-happens c =
+    let s = c.self.inside.registry.state in
+    let seen = seen_state c.self.view_is in
+    let ready = subst (λ (v : State). Ready (desk_of v c.args.lib) (parcel_of c.args.bundle) c.args.back.items c.args.calls.items) (sym seen) c.requires.ready in
+    subst (λ (v : State). Happens v c.args.lib (SettleAsked (parcel_of c.args.bundle) c.args.back.items c.args.calls.items) NotSettled s) seen
+    (not_settled s c.args.lib c.args.bundle c.args.back.items c.args.calls.items c.self.invariant.all.kept c.self.invariant.lent ready)
+
+pub returns-in-Err-clause-happens : goal.returns-in-Err-clause-happens
+returns-in-Err-clause-happens c =
+    let s = c.self.inside.registry.state in
+    let seen = seen_state c.self.view_is in
+    let ready = subst (λ (v : State). Ready (desk_of v c.args.lib) (parcel_of c.args.bundle) c.args.back.items c.args.calls.items) (sym seen) c.requires.ready in
+    subst (λ (v : State). Happens v c.args.lib (SettleAsked (parcel_of c.args.bundle) c.args.back.items c.args.calls.items) NotSettled s) seen
+    (not_settled s c.args.lib c.args.bundle c.args.back.items c.args.calls.items c.self.invariant.all.kept c.self.invariant.lent ready)
+
+pub returns-in_default-copied-clause-happens : goal.returns-in_default-copied-clause-happens
+returns-in_default-copied-clause-happens c =
+    let s = c.self.inside.registry.state in
+    let seen = seen_state c.self.view_is in
+    let ready = subst (λ (v : State). Ready (desk_of v c.args.lib) (parcel_of c.args.bundle) c.args.back.items c.args.calls.items) (sym seen) c.requires.ready in
+    subst (λ (v : State). Happens v c.args.lib (SettleAsked (parcel_of c.args.bundle) c.args.back.items c.args.calls.items) NotSettled s) seen
+    (not_settled s c.args.lib c.args.bundle c.args.back.items c.args.calls.items c.self.invariant.all.kept c.self.invariant.lent ready)
+
+pub returns-in_default-told-clause-happens : goal.returns-in_default-told-clause-happens
+returns-in_default-told-clause-happens c =
+    let s = c.self.inside.registry.state in
+    let seen = seen_state c.self.view_is in
+    let ready = subst (λ (v : State). Ready (desk_of v c.args.lib) (parcel_of c.args.bundle) c.args.back.items c.args.calls.items) (sym seen) c.requires.ready in
+    subst (λ (v : State). Happens v c.args.lib (SettleAsked (parcel_of c.args.bundle) c.args.back.items c.args.calls.items) NotSettled s) seen
+    (not_settled s c.args.lib c.args.bundle c.args.back.items c.args.calls.items c.self.invariant.all.kept c.self.invariant.lent ready)
+
+pub told-requires-clause-noted : goal.told-requires-clause-noted
+told-requires-clause-noted c = are_noted c.self.inside.registry.state c.rows-rows.result.now c.self.inside.notes c.self.invariant.all.kept c.rows-rows.ensures c.self.invariant.noted
+
+pub give_back_all-requires-clause-given : goal.give_back_all-requires-clause-given
+give_back_all-requires-clause-given c =
+    let ready = subst (λ (v : State). Ready (desk_of v c.args.lib) (parcel_of c.args.bundle) c.args.back.items c.args.calls.items) (sym (seen_state c.self.view_is)) c.requires.ready in
+    back_in_turn c.self.inside.registry.state c.args.lib (parcel_of c.args.bundle) c.args.back.items ready.all
+
+pub give_back_all-requires-clause-whose : goal.give_back_all-requires-clause-whose
+give_back_all-requires-clause-whose c =
+    let ready = subst (λ (v : State). Ready (desk_of v c.args.lib) (parcel_of c.args.bundle) c.args.back.items c.args.calls.items) (sym (seen_state c.self.view_is)) c.requires.ready in
+    backs_whose c.self.inside.registry.state c.args.lib c.args.back.items (lent_reads c.self.inside.registry.state c.args.lib (parcel_of c.args.bundle) c.args.back.items ready.all)
+
+pub conclude-verdict-requires-clause-room : goal.conclude-verdict-requires-clause-room
+conclude-verdict-requires-clause-room c =
+    let s = c.self.inside.registry.state in
+    let ready = subst (λ (v : State). Ready (desk_of v c.args.lib) (parcel_of c.args.bundle) c.args.back.items c.args.calls.items) (sym (seen_state c.self.view_is)) c.requires.ready in
+    subst (λ (v : State). HasRoom (entries_of v) 1) (sym c.give_back_all.ensures.state)
+    (room_then s c.args.lib c.args.back.items (back_in_turn s c.args.lib (parcel_of c.args.bundle) c.args.back.items ready.all) (c.in-Ok-judged.ensures.room refl))
+
+pub conclude-verdict-requires-clause-given : goal.conclude-verdict-requires-clause-given
+conclude-verdict-requires-clause-given c =
+    let s = c.self.inside.registry.state in
+    let lib = c.args.lib in
+    let ready = subst (λ (v : State). Ready (desk_of v lib) (parcel_of c.args.bundle) c.args.back.items c.args.calls.items) (sym (seen_state c.self.view_is)) c.requires.ready in
+    let j = judgeable_then s lib c.args.bundle c.args.back.items c.args.calls.items c.self.invariant.all.kept c.self.invariant.lent ready in
+    subst (λ (v : State). GivenTo v lib.0 (bundle_in c.in-Ok-judged.judged.0.bundle)) (sym c.give_back_all.ensures.state)
+    (subst (λ (x : Bundled). GivenTo (all_back s lib c.args.back.items) lib.0 (bundle_in x)) (sym c.in-Ok-judged.ensures.case) j.given)
+
+pub conclude-verdict-requires-clause-closed : goal.conclude-verdict-requires-clause-closed
+conclude-verdict-requires-clause-closed c =
+    let s = c.self.inside.registry.state in
+    let lib = c.args.lib in
+    let ready = subst (λ (v : State). Ready (desk_of v lib) (parcel_of c.args.bundle) c.args.back.items c.args.calls.items) (sym (seen_state c.self.view_is)) c.requires.ready in
+    let j = judgeable_then s lib c.args.bundle c.args.back.items c.args.calls.items c.self.invariant.all.kept c.self.invariant.lent ready in
+    ap (λ (v : State). parted_hold v lib.0 (bundle_in c.in-Ok-judged.judged.0.bundle)) c.give_back_all.ensures.state
+    ∙ ap (λ (x : Bundled). parted_hold (all_back s lib c.args.back.items) lib.0 (bundle_in x)) c.in-Ok-judged.ensures.case ∙ j.closed
+
+pub conclude-verdict-requires-clause-outcome : goal.conclude-verdict-requires-clause-outcome
+conclude-verdict-requires-clause-outcome c =
+    let s = c.self.inside.registry.state in
+    let lib = c.args.lib in
+    let b = c.args.bundle in
+    let ready = subst (λ (v : State). Ready (desk_of v lib) (parcel_of b) c.args.back.items c.args.calls.items) (sym (seen_state c.self.view_is)) c.requires.ready in
+    let same : case_in s lib.0 (bundle_in b) ≡ case_in c.give_back_all.new.registry.state lib.0 (bundle_in c.in-Ok-judged.judged.0.bundle) =
+    sym (case_then s lib c.args.back.items (bundle_in b) c.self.invariant.all.kept (back_in_turn s lib (parcel_of b) c.args.back.items ready.all))
+    ∙ ap (λ (v : State). case_in v lib.0 (bundle_in b)) (sym c.give_back_all.ensures.state)
+    ∙ ap (λ (x : Bundled). case_in c.give_back_all.new.registry.state lib.0 (bundle_in x)) (sym c.in-Ok-judged.ensures.case) in
+    subst (λ (x : Case). IsOutcome x c.in-Ok-judged.judged.1) same c.in-Ok-judged.ensures.outcome
+
+pub invariant_of-self-2 : goal.invariant_of-self-2
+invariant_of-self-2 c =
+    let i = c.self.inside in
+    let s = i.registry.state in
+    let lib = c.args.lib in
+    let b = c.args.bundle in
+    let back = c.args.back.items in
+    let calls = c.args.calls.items in
+    let seen = seen_state c.self.view_is in
+    let ready = subst (λ (v : State). Ready (desk_of v lib) (parcel_of b) back calls) (sym seen) c.requires.ready in
+    let library = subst (λ (v : State). IsLibrary v.creds lib.0) (sym seen) c.requires.library in
+    let k = c.in-Ok-judged.judged.0 in
+    let o = c.in-Ok-judged.judged.1 in
+    let was = c.in-Ok-judged.ensures in
+    let whole = whole_is k s lib.0 (bundle_in b) c.rows-rows.result.now was.rows c.rows-rows.ensures in
+    let handed : c.in-Ok-copied.handed ≡ handed_in b = c.in-Ok-copied.ensures ∙ ap handed_in (c.bundle.ensures.bundle ∙ was.case) in
+    let told =
+    subst (λ h. TellsOutcome (case_in s lib.0 (bundle_in b)) i.notes h o c.in-Ok-told.told) handed
+    (subst (λ (x : Case). TellsOutcome x i.notes c.in-Ok-copied.handed o c.in-Ok-told.told) whole c.in-Ok-told.ensures)
+    in
+    let result = c.conclude-verdict.result in
+    let after = c.conclude-verdict.new.self.state in
+    let step =
+    subst (λ (x : Bundled). Step (all_back s lib back) (Release lib.0 (bundle_in x)) (verdict_of result) after) was.case
+    (subst (λ (v : State). Step v (Release lib.0 (bundle_in k.bundle)) (verdict_of result) after) c.give_back_all.ensures.state c.conclude-verdict.ensures.step)
+    in
+    let noted = c.note.ensures ∙ ap (λ fs. noted_by result fs i.notes) c.as_slice.ensures in
+    let mid = c.give_back_all.new.log in
+    let backs = c.give_back_all.ensures.log ∙ ap (λ (l : List Entry). l ++ back_entries lib back) c.make_places.ensures.kept in
+    let pushed =
+    ap (λ (l : Logged). l.entries) c.push.ensures
+    ∙ ap (λ ds. mid.entries ++ entry.Batch lib ds c.in-Ok-copied.handed ∷ []) c.from_vec.ensures
+    ∙ ap (λ h. mid.entries ++ entry.Batch lib calls h ∷ []) handed
+    in
+    let p' = c.give_back_all.new.registry.promised in
+    let places = rw (c.promised.ensures) at c.in-Ok.ensures.room in
+    let left = places_then c.make_places.new.log.entries lib back i.registry.promised p' c.make_places.new.log.room places c.give_back_all.ensures.promised in
+    let here = subst (λ (es : List Entry). length es + p' + 1 ≤ c.make_places.new.log.room) (sym c.give_back_all.ensures.log) left in
+    let room : length mid.entries + p' + 1 ≤ mid.room = subst (λ (n : ℕ). length mid.entries + p' + 1 ≤ n) (sym c.give_back_all.ensures.room) here in
+    let less : length mid.entries + p' ≤ mid.room = omega (arith, room) in
+    subst (λ n. HasHistory (image_in i.first.value.superblock i.first.value.pages) after n c.push.new.self c.note.new.notes) (sym c.conclude-verdict.ensures.promised)
+    (after_settle s lib b back calls c.self.invariant.all.kept c.self.invariant.lent ready (image_in i.first.value.superblock i.first.value.pages) after i.registry.promised p' i.log mid c.push.new.self i.notes c.note.new.notes o c.in-Ok-told.told result
+    c.self.invariant library (were_lent s lib (parcel_of b) ready.all.given) c.keeps_untouched.ensures was.outcome told c.conclude-verdict.ensures.verdict step noted backs c.give_back_all.ensures.promised less pushed
+    (rw c.push.ensures (one_room mid.entries (entry.Batch lib c.from_vec.result c.in-Ok-copied.handed) p' p' mid.room room refl)))
+
+pub returns-clause-happens : goal.returns-clause-happens
+returns-clause-happens c =
+    let s = c.self.inside.registry.state in
+    let lib = c.args.lib in
+    let b = c.args.bundle in
+    let back = c.args.back.items in
+    let calls = c.args.calls.items in
+    let seen = seen_state c.self.view_is in
+    let ready = subst (λ (v : State). Ready (desk_of v lib) (parcel_of b) back calls) (sym seen) c.requires.ready in
+    let result = c.conclude-verdict.result in
+    let after = c.conclude-verdict.new.self.state in
+    let step =
+    subst (λ (x : Bundled). Step (all_back s lib back) (Release lib.0 (bundle_in x)) (verdict_of result) after) c.in-Ok-judged.ensures.case
+    (subst (λ (v : State). Step v (Release lib.0 (bundle_in c.in-Ok-judged.judged.0.bundle)) (verdict_of result) after) c.give_back_all.ensures.state c.conclude-verdict.ensures.step)
+    in
+    subst (λ (v : State). Happens v lib (SettleAsked (parcel_of b) back calls) IsSettled after) seen
+    (settled_then s lib b back calls c.self.invariant.all.kept c.self.invariant.lent ready after result step)
+
+pub returns-clause-logs : goal.returns-clause-logs
+returns-clause-logs c =
+    let i = c.self.inside in
+    let lib = c.args.lib in
+    let b = c.args.bundle in
+    let back = c.args.back.items in
+    let calls = c.args.calls.items in
+    let was = c.in-Ok-judged.ensures in
+    let handed : c.in-Ok-copied.handed ≡ handed_in b = c.in-Ok-copied.ensures ∙ ap handed_in (c.bundle.ensures.bundle ∙ was.case) in
+    let mid = c.give_back_all.new.log in
+    let batch : Entry = entry.Batch lib calls (handed_in b) in
+    let made =
+    ap (λ (l : Logged). l.entries) c.push.ensures
+    ∙ ap (λ ds. mid.entries ++ entry.Batch lib ds c.in-Ok-copied.handed ∷ []) c.from_vec.ensures
+    ∙ ap (λ h. mid.entries ++ entry.Batch lib calls h ∷ []) handed
+    ∙ ap (λ (l : List Entry). l ++ batch ∷ []) (c.give_back_all.ensures.log ∙ ap (λ (l : List Entry). l ++ back_entries lib back) c.make_places.ensures.kept)
+    ∙ append_assoc i.log.entries (back_entries lib back) (batch ∷ [])
+    ∙ ap (λ (x : Controller). x.log ++ (back_entries lib back ++ batch ∷ [])) c.self.view_is
+    in
+    record { log = made; first = ap (λ (x : Controller). x.first) c.self.view_is }

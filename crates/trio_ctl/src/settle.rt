@@ -1,0 +1,87 @@
+//! Settles, each with its entries in the log.
+
+ghost use Rattle.std.specs.Prelude.{◌≡◌, ◌≤◌, ◌+◌, IfErr, length};
+ghost use Rattle.trio_rights.specs.Bundle.{bundle_pages};
+ghost use Rattle.trio_lease.specs.Views.{bundle_in};
+ghost use Rattle.trio_desk.specs.Call.{Settle, settle_told};
+ghost use Rattle.trio_desk.specs.Out.{parcel_of};
+ghost use Rattle.trio_desk.specs.Ready.{Ready};
+ghost use Rattle.trio_state.specs.Kept.{Kept};
+ghost use Rattle.trio_ctl.specs.Ctl.{IsLibrary};
+ghost use Rattle.trio_ctl.specs.Desk.{Happens, LogsCall, desk_of};
+
+use crate::backs::give_back_all;
+use crate::ctl::{Ctl, make_places};
+use crate::releases::{note, told};
+use trio_entries::Told;
+use trio_entries::handed::copied;
+use trio_lease::{Bundle, ReadLease};
+use trio_nodes::{Done, Entry, List};
+use trio_page::{NoMemory, Reads};
+use trio_rights::LibNo;
+
+impl Ctl {
+    /// Takes all that a library has out, and the calls that come to what it shows: the write leases,
+    /// the holds and what is allotted in a bundle, and the read leases.
+    ///
+    /// The read leases are given back first, each with its entry in the log. What is ready is
+    /// accepted: the image that the bundle proposes is settled then, the grants and allotments of the
+    /// library have ended, and what no file has is free. One `Batch` stands in the log, with the calls
+    /// and the bundle as it was handed in; the nodes after it are those in which the calls end.
+    ///
+    /// After `NoMemory` nothing changed, and all of it comes back; a log that has as many entries as a
+    /// `u64` counts has no memory for one more.
+    ///
+    /// Home is looked at as by a [`release`](Self::release) of the bundle.
+    pub fn settle(
+        &mut self,
+        lib: LibNo,
+        bundle: Bundle,
+        back: Vec<ReadLease>,
+        calls: Vec<Done>,
+    ) -> Result<(), (Bundle, Vec<ReadLease>, Vec<Done>, NoMemory)>
+        requires library { IsLibrary lib self.old.state }
+        requires ready { Ready (desk_of self.old.state lib) (parcel_of bundle) back.items calls.items }
+        ensures happens { Happens self.old.state lib (Settle (parcel_of bundle) back.items calls.items) (settle_told result) self.new.state }
+        ensures logs { LogsCall self.old lib (Settle (parcel_of bundle) back.items calls.items) (settle_told result) self.new }
+        ensures bundle { IfErr result (λ came. came.0 ≡ bundle) }
+        ensures leases { IfErr result (λ came. came.1 ≡ back) }
+        ensures calls { IfErr result (λ came. came.2 ≡ calls) }
+        ensures looked { self.new.looked ≤ self.old.looked + length (bundle_pages (bundle_in bundle)) + length (bundle_in bundle).writes }
+        ensures was_kept { Kept self.old.state }
+        ensures kept { Kept self.new.state }
+    {
+        let Ok(()) = make_places(&mut self.log, self.registry.promised(), 1) else {
+            return Err((bundle, back, calls, NoMemory));
+        };
+        bundle.keeps_untouched();
+        let mut reads = Reads::new();
+        let (case, outcome) = match self
+            .registry
+            .judged(self.log.len(), lib, bundle, &mut reads)
+        {
+            Ok(judged) => judged,
+            Err((bundle, _)) => return Err((bundle, back, calls, NoMemory)),
+        };
+        let alloc = self.registry.alloc();
+        let Ok(handed) = copied(alloc, case.bundle()) else {
+            return Err((case.into_bundle(), back, calls, NoMemory));
+        };
+        let rows = self.registry.rows();
+        let Ok(told) = told(alloc, rows, &self.notes, &case, &outcome, &handed) else {
+            return Err((case.into_bundle(), back, calls, NoMemory));
+        };
+        give_back_all(&mut self.registry, &mut self.log, lib, back);
+        let verdict = self
+            .registry
+            .conclude(self.log.len(), lib, case, outcome, &mut reads);
+        let Told { files, blocks } = told;
+        note(&mut self.notes, verdict, files.as_slice());
+        self.log.push(Entry::Batch {
+            lib,
+            calls: List::from_vec(calls),
+            handed,
+        });
+        Ok(())
+    }
+}
