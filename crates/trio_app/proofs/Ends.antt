@@ -7,6 +7,9 @@ use Rattle.trio_tables.specs.Out.{NoneOut}
 use Rattle.trio_layout.specs.Core.{Core}
 use Rattle.trio_layout.specs.declared.superblock.Superblock.{Superblock}
 use Rattle.trio_layout.specs.Image.{Image}
+use Rattle.trio_layout.proofs.Superblocks.{superblock_facts}
+use Rattle.trio_nodes.specs.declared.entry.Entry.{Entry}
+use Rattle.trio_laws.specs.history.Recorded.{IsRecorded}
 use Rattle.trio_state.specs.Kept.{Kept}
 use Rattle.trio_survey.specs.Stored.{HasSuperblock, StoresImage, core_in, image_in, bytes_in, pages_in}
 use Rattle.trio_state.specs.State.{State, settled}
@@ -25,6 +28,7 @@ use Rattle.trio_image.specs.Image.{ImagePages, IsVerified, TablesAre}
 use Rattle.trio_image.specs.Load.{Loads}
 use Rattle.trio_image.specs.Made.{Fits, IsMade, new_counts}
 use Rattle.trio_ctl.specs.Ctl.{superblock_for, writer_of}
+use Rattle.trio_ctl.specs.Logged.{recorded}
 use Rattle.trio_runner.specs.Play.{Heard, Played, creds_in}
 use Rattle.trio_runner.specs.Seen.{ScriptPlayed}
 use Rattle.trio_app.specs.declared.status.Status.{Status}
@@ -40,7 +44,7 @@ use Rattle.trio_app.specs.inner.Saved.{IsSaved, SaveComesTo}
 use Rattle.trio_app.specs.Tree.{Tree}
 use Rattle.trio_app.specs.declared.words.TreeForm.{TreeForm}
 use Rattle.trio_app.specs.Turns.{InputsStop, Turns, TurnsComesTo, TurnsFaults, TurnsDone, TurnsWriteFault}
-use Rattle.trio_app.proofs.Headlines.{headline, no_grant_open, no_page_out}
+use Rattle.trio_app.proofs.Headlines.{headline, no_grant_open, no_page_out, stored_log}
 use Rattle.trio_app.proofs.Trees.{tree_same}
 
 -- ---- a run
@@ -65,32 +69,43 @@ reported libs tolds seen ctl t last report same tables is stores text =
     ∙ ap (λ ls. T tolds ls counts) tree ∙ ap (T tolds (tree_of core)) (counts_same (settled ctl) t last tables)
 
 -- once a script was played nobody writes
-pub nobody_writes : (s : Superblock) (pages : List (Option (List ℕ))) (creds : List Creds) (first final : State) (libs : List ScriptLib) (tolds : List Heard)
-    → Kept first → creds ≡ creds_in libs → first ≡ start (image_in s pages) creds → ScriptPlayed first.home libs tolds final → writer_of final ≡ None
-nobody_writes s pages creds first final libs tolds k creds_are started script =
+pub nobody_writes : (s : Superblock) (pages : List (Option (List ℕ))) (creds : List Creds) (first final : State) (libs : List ScriptLib) (tolds : List Heard) (log : List Entry)
+    → Kept first → creds ≡ creds_in libs → first ≡ start (image_in s pages) creds → ScriptPlayed first.home libs tolds final log → writer_of final ≡ None
+nobody_writes s pages creds first final libs tolds log k creds_are started script =
     let begun : first ≡ start (image_in s pages) (creds_in libs) = started ∙ ap (start (image_in s pages)) creds_are in
-    let script' : ScriptPlayed (image_in s pages) libs tolds final = subst (λ (f : State). ScriptPlayed f.home libs tolds final) begun script in
+    let script' : ScriptPlayed (image_in s pages) libs tolds final log = subst (λ (f : State). ScriptPlayed f.home libs tolds final log) begun script in
     let free = no_grant_open (image_in s pages) libs script'.played (subst Kept begun k) in
     ap (λ gs. writer_of (record final { open_grants = gs })) (subst (λ (f : State). f.open_grants ≡ []) script'.last free)
 
+-- page 0 of an image that verifies has the superblock, and so is no core page
+first_low : (s : Superblock) (pages : List (Option (List ℕ))) → IsVerified s pages → 0 < s.first_core
+first_low s pages v = (let facts = superblock_facts s v.whole.superblock.read.fits in omega (arith, facts.first_owner, facts.first_core))
+
 -- what a run comes to
-pub run_end : (s t : Superblock) (pages last : List (Option (List ℕ))) (creds : List Creds) (first final : State) (libs : List ScriptLib) (tolds : List Heard) (report : List ℕ)
-    → Kept first → creds ≡ creds_in libs → first ≡ start (image_in s pages) creds → ScriptPlayed first.home libs tolds final
-    → TablesAre t last (settled final).rows (settled final).owners → t ≡ superblock_for (settled final).core → (NoneOut final.pages_out → StoresImage t (settled final) last)
+pub run_end : (s t : Superblock) (pages last : List (Option (List ℕ))) (creds : List Creds) (first final : State) (begins : Image) (log : List Entry) (libs : List ScriptLib) (tolds : List Heard) (report : List ℕ)
+    → IsVerified s pages → Kept first → creds ≡ creds_in libs → first ≡ start (image_in s pages) creds → ScriptPlayed first.home libs tolds final log
+    → begins ≡ image_in s pages → IsRecorded (recorded begins final log)
+    → IsVerified t last → TablesAre t last (settled final).rows (settled final).owners → t ≡ superblock_for (settled final).core → (NoneOut final.pages_out → StoresImage t (settled final) last)
     → report ≡ libs_text 1 libs tolds ++ tree_text (tree_of (core_in t last)) ++ counts_text (told_counts (counts_of (image_in t last)))
     → IsRunEnd s pages libs report last
-run_end s t pages last creds first final libs tolds report k creds_are started script tables is stores text =
+run_end s t pages last creds first final begins log libs tolds report verified k creds_are started script begins_are r last_verified tables is stores text =
     let begun : first ≡ start (image_in s pages) (creds_in libs) = started ∙ ap (start (image_in s pages)) creds_are in
-    let script' : ScriptPlayed (image_in s pages) libs tolds final = subst (λ (f : State). ScriptPlayed f.home libs tolds final) begun script in
+    let script' : ScriptPlayed (image_in s pages) libs tolds final log = subst (λ (f : State). ScriptPlayed f.home libs tolds final log) begun script in
     let played : Played (image_in s pages) libs = script'.played in
     let k' : Kept (start (image_in s pages) (creds_in libs)) = subst Kept begun k in
     let here : NoneOut final.pages_out = subst (λ (f : State). NoneOut f.pages_out) script'.last (no_page_out (image_in s pages) libs played k') in
     let stored : StoresImage t (settled played.last.state) last = subst (λ (f : State). StoresImage t (settled f) last) (sym script'.last) (stores here) in
     let is' : t ≡ superblock_for (settled played.last.state).core = is ∙ ap (λ (f : State). superblock_for (settled f).core) (sym script'.last) in
     let tables' : TablesAre t last (settled played.last.state).rows (settled played.last.state).owners = subst (λ (f : State). TablesAre t last (settled f).rows (settled f).owners) (sym script'.last) tables in
+    let r' : IsRecorded (recorded (image_in s pages) played.last.state played.last.log) =
+    subst (λ (f : State). IsRecorded (recorded (image_in s pages) f played.last.log)) (sym script'.last)
+    (subst (λ (l : List Entry). IsRecorded (recorded (image_in s pages) final l)) (sym script'.log_is)
+    (subst (λ (i : Image). IsRecorded (recorded i final log)) begins_are r)) in
+    let last_first : 0 < (settled played.last.state).core.range.first = subst (λ (x : Superblock). 0 < x.first_core) is' (first_low t last last_verified) in
     record {
       played = played;
       headline = headline (image_in s pages) libs played k';
+      log = stored_log (image_in s pages) libs played (first_low s pages verified) last_first k' r';
       put = reported libs played.last.told tolds played.last.state t last report (sym script'.told) tables' is' stored text;
       stores = subst (λ (x : Superblock). StoresImage x (settled played.last.state) last) is' stored;
     }
@@ -173,6 +188,7 @@ module _ (image script out : List ℕ) (old mid new : Shelf) (s : Superblock) (p
     lengths = image_read.lengths;
     played = played_end.played;
     headline = played_end.headline;
+    log = played_end.log;
     put = is ∙ played_end.put;
     pages = last;
     stores = played_end.stores;

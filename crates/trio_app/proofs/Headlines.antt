@@ -1,27 +1,41 @@
 -- The claim, of a script that is played on an image that verifies.
-use Rattle.std.proofs.Common.{◌≡◌, List, [], subst, inl, inr, sym, ap, ◌∙◌}
+use Rattle.std.proofs.Common.{◌≡◌, ◌≢◌, ◌<◌, List, [], subst, inl, inr, sym, ap, ◌∙◌}
 use Rattle.std.specs.Prelude.{is_some}
 use Rattle.std.proofs.lemmas.Bool.{false≢true}
 use Rattle.trio_tables.specs.Out.{NoneOut}
 use Rattle.trio_rights.specs.declared.rights.Creds.{Creds}
+use Rattle.trio_lists.specs.Lists.{In}
+use Rattle.trio_nodes.specs.declared.grant.GrantKind.TheVariants.{Write}
+use Rattle.trio_nodes.specs.Legal.{Legal}
+use Rattle.trio_nodes.specs.Nodes.{Nodes}
 use Rattle.trio_layout.specs.Image.{Image, IsFit}
 use Rattle.trio_state.specs.Kept.{Kept}
 use Rattle.trio_state.specs.Run.{IsWhole, start}
 use Rattle.trio_layout.specs.Verifies.{Verifies}
-use Rattle.trio_state.specs.State.{settled}
+use Rattle.trio_state.specs.State.{OpenGrant, State, settled}
+use Rattle.trio_state.specs.ImageNodes.{nodes_of}
 use Rattle.trio_state.specs.Given.{GivenEvent}
 use Rattle.trio_state.specs.Step.{Event, CtlAnswer, Release, Step}
 use Rattle.trio_laws.specs.Laws.{AnyRun}
+use Rattle.trio_laws.specs.history.Recorded.{IsRecorded}
+use Rattle.trio_laws.specs.history.Replays.{Replays}
+use Rattle.trio_laws.specs.history.Stands.{nodes_of as state_nodes}
+use Rattle.trio_laws.proofs.history.Begins.{history_is_legal}
+use Rattle.trio_laws.proofs.history.SettledNodes.{settled_nodes}
 use Rattle.trio_laws.proofs.StateLaws.{every_state_is_kept, every_move_is_a_step, every_release_is_judged}
 use Rattle.trio_surveys.proofs.Trees.{image_is_tree}
 use Rattle.trio_laws.proofs.Verdicts.{refusal_keeps}
 use Rattle.trio_laws.proofs.Isolation.{every_step_is_isolated}
 use Rattle.trio_laws.proofs.RowSteps.{every_step_keeps_rows}
 use Rattle.trio_script.specs.declared.ScriptLib.{ScriptLib}
-use Rattle.trio_runner.specs.Play.{Played, creds_in}
-use Rattle.trio_runner.proofs.EndFree.{ends_free}
+use Rattle.trio_ctl.specs.Logged.{recorded}
+use Rattle.trio_runner.specs.Rounds.{turns_of}
+use Rattle.trio_runner.specs.Play.{Played, at_start, creds_in}
+use Rattle.trio_runner.proofs.EndFree.{ends_free, plays_creds}
+use Rattle.trio_runner.proofs.Logs.{played_is_logged}
 use Rattle.trio_runner.proofs.Plays.{played_is_trace}
-use Rattle.trio_app.specs.Headline.{Headline}
+use Rattle.trio_runner.proofs.Printed.{played_is_printed}
+use Rattle.trio_app.specs.Headline.{Headline, StoredLog}
 use Rattle.trio_tables.proofs.OutLemmas.{lib_at-none_out}
 
 headline_of : (image : Image) (libs : List ScriptLib) (played : Played image libs) → IsFit image.core → Verifies image → IsWhole image → Headline image (creds_in libs) played.moves
@@ -70,3 +84,22 @@ no_grant_open image libs played k = (ends_free image libs played k.fit k.verifie
 -- at its end no page is out
 pub no_page_out : (image : Image) (libs : List ScriptLib) (played : Played image libs) → Kept (start image (creds_in libs)) → NoneOut played.last.state.pages_out
 no_page_out image libs played k = (ends_free image libs played k.fit k.verifies (started_whole image (creds_in libs) k)).pages
+
+-- the log of a controller that played a script; page 0, which has the superblock, is no core page
+pub stored_log : (image : Image) (libs : List ScriptLib) (played : Played image libs) → 0 < image.core.range.first → 0 < (settled played.last.state).core.range.first → Kept (start image (creds_in libs)) → IsRecorded (recorded image played.last.state played.last.log) → StoredLog image libs played
+stored_log image libs played first last_first k r =
+    let last : State = played.last.state in
+    let creds : last.creds ≡ creds_in libs = plays_creds (at_start image libs) (turns_of libs) played.moves played.last played.plays in
+    let nobody : (g : OpenGrant) → In g last.open_grants → g.kind ≢ Write = λ g i. absurd (subst (In g) (no_grant_open image libs played k) i) in
+    let begins : nodes_of image ≡ state_nodes (start image (creds_in libs)) = settled_nodes (start image (creds_in libs)) k (λ g i. absurd i) first in
+    let ends : nodes_of (settled last) ≡ state_nodes last = settled_nodes last r.kept nobody last_first in
+    let legal : Legal (state_nodes (start image last.creds)) last.creds played.last.log (state_nodes last) = (history_is_legal (recorded image last played.last.log) r).0 in
+    record {
+      entries = played_is_logged image libs played;
+      replays = subst (λ (cs : List Creds). Replays image cs played.last.log last) creds r.replays;
+      legal =
+          subst (λ (ns : Nodes). Legal ns (creds_in libs) played.last.log (nodes_of (settled last))) (sym begins)
+          (subst (λ (ns : Nodes). Legal (state_nodes (start image (creds_in libs))) (creds_in libs) played.last.log ns) (sym ends)
+          (subst (λ (cs : List Creds). Legal (state_nodes (start image cs)) cs played.last.log (state_nodes last)) creds legal));
+      printed = played_is_printed image libs played;
+    }

@@ -8,7 +8,7 @@ use Rattle.trio_image.specs.Fault.{HasLength}
 use Rattle.trio_ctl.specs.Ctl.{superblock_for}
 use Rattle.trio_script.specs.Script.{script_libs, unbuilt_line}
 use Rattle.trio_runner.specs.Play.{Played, creds_in}
-use Rattle.trio_app.specs.Headline.{Headline}
+use Rattle.trio_app.specs.Headline.{Headline, StoredLog}
 use Rattle.trio_app.specs.declared.status.Status.{Status}
 use Rattle.trio_app.specs.declared.status.Status.TheVariants.{Done, NotVerified, ReadFault, WriteFault, NoMemory, TooLong, NotBuilt}
 use Rattle.trio_app.specs.Images.{ImageVerifies, ImageFails, OutKeeps}
@@ -28,9 +28,10 @@ pub record TurnsDone (image script out : List ℕ) (old new : Shelf) (text : Lis
   pub script_built : unbuilt_line script_bytes ≡ None
   pub superblock : Superblock
   pub lengths : HasLength image_bytes superblock
-  -- the script as it is played on the image, and what holds of each of its moves
+  -- the script as it is played on the image, what holds of each of its moves, and what holds of the log that was stored
   pub played : Played (image_in superblock (pages_in superblock.pages image_bytes)) (script_libs script_bytes)
   pub headline : Headline (image_in superblock (pages_in superblock.pages image_bytes)) (creds_in (script_libs script_bytes)) played.moves
+  pub log : StoredLog (image_in superblock (pages_in superblock.pages image_bytes)) (script_libs script_bytes) played
   pub put : text ≡ report_text (script_libs script_bytes) played.last.told (settled played.last.state)
   -- the pages of the image that is settled at the end, and the file that has them
   pub pages : List (Option (List ℕ))

@@ -8,7 +8,8 @@
 //!
 //! What it does and how it ends is the contract of [`trio_main`]: `specs/Main.antt` first, then
 //! `specs/Command.antt`, `specs/New.antt`, `specs/Check.antt`, `specs/Tree.antt` and
-//! `specs/Turns.antt`.
+//! `specs/Turns.antt`, with the claim of a run and what its controller's log says in
+//! `specs/Headline.antt`.
 //!
 //! [`trio_main`] is generic over the files, the sink and the gate. [`main`] hands it the host's,
 //! which no contract speaks of.

@@ -31,17 +31,20 @@ pub struct RunEnd {
     pub image: Image,
 }
 
-/// Plays a script on an image. `NoMemory`: there was no memory for the run or the report.
+/// Plays a script on an image. The log that the run's controller stores is legal, and the answers in
+/// the report print its entries. `NoMemory`: there was no memory for the run or the report.
 pub fn run(alloc: Global, image: Image, libs: &[ScriptLib]) -> Result<RunEnd, NoMemory>
     requires some { 1 ≤ length libs.now }
     requires few { length libs.now ≤ 16 }
     ensures { IfOk result (λ end. IsRunEnd image.superblock image.pages libs.now end.report.items end.image.pages) }
 {
+    let _superblock = image.superblock();
     let mut ctl = match Ctl::start(alloc, image, creds_of(alloc, libs)?) {
         Ok(ctl) => ctl,
         Err((_image, fault)) => return Err(fault),
     };
     let tolds = play(alloc, &mut ctl, libs)?;
+    ctl.is_recorded();
     let last = last_image(ctl)?;
     let (report, image) = report(alloc, libs, &tolds, last)?;
     Ok(RunEnd { report, image })

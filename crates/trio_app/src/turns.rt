@@ -12,6 +12,9 @@ use trio_io::Files;
 
 /// Runs a script on an image, writes the image that is then settled, and says what is to be put.
 ///
+/// What is promised of the run, of each of its moves and of the log that its controller stored, is in
+/// `specs/Headline.antt`.
+///
 /// The image is read and judged first, then the script. All that takes memory comes before the
 /// image is written, so after [`Status::NoMemory`](crate::Status::NoMemory) nothing was written.
 pub fn turns<F: Files>(

@@ -2,6 +2,7 @@
 use Rattle.std.proofs.Common.{◌≡◌, ℕ, Bool, true, false, cond, List, length, take, sym, subst, inl, inr}
 use Rattle.std.specs.Prelude.{nat_lt, Ok, Err, ⊤}
 use Rattle.trio_rights.specs.declared.rights.LibNo.{LibNo}
+use Rattle.trio_nodes.specs.declared.answers.ModeFault.TheVariants.{NoMemory as NoModeMemory}
 use Rattle.trio_nodes.specs.declared.answers.ReleaseFault.TheVariants.{NoMemory as NoReleaseMemory}
 use Rattle.trio_desk.specs.Out.{LibOut, OutAlike, with_allotted}
 use Rattle.trio_desk.specs.Call.{Ask, Told, Grant, Allot, GiveBack, Release, SetMode, Lent, NotLent, Given, NotGiven, Done, Judged, NotJudged, ModeSet, NotModeSet, out_after}
@@ -13,7 +14,7 @@ use Rattle.trio_state.specs.Step as step
 use Rattle.trio_ctl.specs.Desk.{Happens, out_of}
 use Rattle.trio_ctl.proofs.DeskFresh.{numbers_may, pages_may}
 use Rattle.trio_ctl.proofs.DeskOuts.{allotted_out}
-use Rattle.trio_ctl.proofs.DeskSteps.{allot_seen, back_seen, grant_seen, mode_result_seen, release_seen}
+use Rattle.trio_ctl.proofs.DeskSteps.{allot_seen, back_seen, grant_seen, mode_seen, release_out}
 
 -- an answer that such an ask can have
 abbrev pub Fits : Ask → Told → Type 0
@@ -24,8 +25,8 @@ Fits (Allot pages numbers) (NotGiven fault) = ⊤
 Fits (GiveBack lease) Done = ⊤
 Fits (Release parcel) (Judged answer) = ⊤
 Fits (Release parcel) (NotJudged fault) = ⊤
-Fits (SetMode ino mode) ModeSet = ⊤
-Fits (SetMode ino mode) (NotModeSet fault) = ⊤
+Fits (SetMode ino mode back call) ModeSet = ⊤
+Fits (SetMode ino mode back call) (NotModeSet fault) = ⊤
 Fits ask told = ⊥
 
 module _ (s : State) (lib : LibNo) (s' : State) where
@@ -69,43 +70,8 @@ module _ (s : State) (lib : LibNo) (s' : State) where
   call_leaves (Allot pages numbers) (Given ps ns) f kept h = allotted_after pages numbers ps ns kept h.is_step
   call_leaves (Allot pages numbers) (NotGiven fault) f kept h = (allot_seen s lib pages numbers s' (Err fault) kept h.is_step).out
   call_leaves (GiveBack lease) Done f kept h = (back_seen s lib lease s' h.is_step).out
-  call_leaves (Release parcel) (Judged answer) f kept h = (release_seen s lib parcel s' {B = Unit {0}} (Ok answer) (λ x. NoReleaseMemory) h.is_step).out
-  call_leaves (Release parcel) (NotJudged fault) f kept h = (release_seen s lib parcel s' {B = Unit {0}} (Err tt) (λ x. fault) h.is_step).out
-  call_leaves (SetMode ino mode) ModeSet f kept h = (mode_result_seen s lib ino mode (Ok tt) s' h.is_step).out
-  call_leaves (SetMode ino mode) (NotModeSet fault) f kept h = (mode_result_seen s lib ino mode (Err fault) s' h.is_step).out
-  call_leaves (Grant ino kind) (Given ps ns) f kept h = absurd f
-  call_leaves (Grant ino kind) (NotGiven fault) f kept h = absurd f
-  call_leaves (Grant ino kind) Done f kept h = absurd f
-  call_leaves (Grant ino kind) (Judged answer) f kept h = absurd f
-  call_leaves (Grant ino kind) (NotJudged fault) f kept h = absurd f
-  call_leaves (Grant ino kind) ModeSet f kept h = absurd f
-  call_leaves (Grant ino kind) (NotModeSet fault) f kept h = absurd f
-  call_leaves (Allot pages numbers) (Lent l) f kept h = absurd f
-  call_leaves (Allot pages numbers) (NotLent fault) f kept h = absurd f
-  call_leaves (Allot pages numbers) Done f kept h = absurd f
-  call_leaves (Allot pages numbers) (Judged answer) f kept h = absurd f
-  call_leaves (Allot pages numbers) (NotJudged fault) f kept h = absurd f
-  call_leaves (Allot pages numbers) ModeSet f kept h = absurd f
-  call_leaves (Allot pages numbers) (NotModeSet fault) f kept h = absurd f
-  call_leaves (GiveBack lease) (Lent l) f kept h = absurd f
-  call_leaves (GiveBack lease) (NotLent fault) f kept h = absurd f
-  call_leaves (GiveBack lease) (Given ps ns) f kept h = absurd f
-  call_leaves (GiveBack lease) (NotGiven fault) f kept h = absurd f
-  call_leaves (GiveBack lease) (Judged answer) f kept h = absurd f
-  call_leaves (GiveBack lease) (NotJudged fault) f kept h = absurd f
-  call_leaves (GiveBack lease) ModeSet f kept h = absurd f
-  call_leaves (GiveBack lease) (NotModeSet fault) f kept h = absurd f
-  call_leaves (Release parcel) (Lent l) f kept h = absurd f
-  call_leaves (Release parcel) (NotLent fault) f kept h = absurd f
-  call_leaves (Release parcel) (Given ps ns) f kept h = absurd f
-  call_leaves (Release parcel) (NotGiven fault) f kept h = absurd f
-  call_leaves (Release parcel) Done f kept h = absurd f
-  call_leaves (Release parcel) ModeSet f kept h = absurd f
-  call_leaves (Release parcel) (NotModeSet fault) f kept h = absurd f
-  call_leaves (SetMode ino mode) (Lent l) f kept h = absurd f
-  call_leaves (SetMode ino mode) (NotLent fault) f kept h = absurd f
-  call_leaves (SetMode ino mode) (Given ps ns) f kept h = absurd f
-  call_leaves (SetMode ino mode) (NotGiven fault) f kept h = absurd f
-  call_leaves (SetMode ino mode) Done f kept h = absurd f
-  call_leaves (SetMode ino mode) (Judged answer) f kept h = absurd f
-  call_leaves (SetMode ino mode) (NotJudged fault) f kept h = absurd f
+  call_leaves (Release parcel) (Judged answer) f kept h = release_out s lib parcel s' {B = Unit {0}} (Ok answer) (λ x. NoReleaseMemory) h.is_step
+  call_leaves (Release parcel) (NotJudged fault) f kept h = release_out s lib parcel s' {B = Unit {0}} (Err tt) (λ x. fault) h.is_step
+  call_leaves (SetMode ino mode back call) ModeSet f kept h = (mode_seen s lib ino mode back call s' {A = Unit {0}} {B = Unit {0}} (Ok tt) (λ x. NoModeMemory) h).out
+  call_leaves (SetMode ino mode back call) (NotModeSet fault) f kept h = (mode_seen s lib ino mode back call s' {A = Unit {0}} {B = Unit {0}} (Err tt) (λ x. fault) h).out
+  call_leaves ask told f kept h = absurd f

@@ -15,8 +15,8 @@ use Rattle.trio_nodes.specs.declared.answers.ModeFault.{ModeFault}
 use Rattle.trio_nodes.specs.declared.entry.AllotAnswer.{AllotAnswer}
 use Rattle.trio_nodes.specs.declared.entry.AllotAnswer.TheVariants.{Given as GivenAnswer, Refused as RefusedAnswer}
 use Rattle.trio_lease.specs.Shown.{Shown}
-use Rattle.trio_desk.specs.Call.{Ask, Told, Grant, Allot, GiveBack, Release, SetMode, Lent, NotLent, Given, NotGiven, Done, Judged, NotJudged, ModeSet, NotModeSet}
-use Rattle.trio_desk.specs.Calls.{Call, OneCall, Made, NotMade}
+use Rattle.trio_desk.specs.Call.{Ask, Told, Grant, Allot, GiveBack, Release, SetMode, Lent, NotLent, Given, NotGiven, Done, Judged, NotJudged, Settled, NotSettled, ModeSet, NotModeSet}
+use Rattle.trio_desk.specs.Calls.{Call, Calls, OneCall, Made, NotMade}
 use Rattle.trio_raw.specs.Asked.{AfterAllot, AfterBack, AfterGrant, AfterMode, AfterRelease, Back, IsRefusal, NoGrant, NoRelease, children_in}
 use Rattle.trio_raw.specs.Has.{Has, OnList, nothing, has_all_of, keeps_allotted, parcel_named, read_on}
 use Rattle.trio_raw.specs.declared.raw.RawFault.{RawFault}
@@ -28,11 +28,12 @@ use Rattle.trio_report.specs.declared.answer.LineAnswer.TheVariants as answered
 use Rattle.trio_runner.specs.Line.{Alone, Asks, ask_of, has_after, told_fault, told_grant, told_of, told_unmoded, told_verdict, told_want}
 use Rattle.trio_report.specs.declared.report.EndAnswer.{EndAnswer}
 use Rattle.trio_script.specs.declared.ScriptLine.{ScriptLine}
-use Rattle.trio_state.specs.State.{State}
+use Rattle.trio_state.specs.Run.{Move}
 use Rattle.trio_desk.specs.Out.{LibOut}
-use Rattle.trio_ctl.specs.Desk.{Happens, out_of}
+use Rattle.trio_ctl.specs.Ctl.{Controller}
+use Rattle.trio_ctl.specs.Desk.{Happens, LogsCall, out_of}
 use Rattle.trio_runner.specs.Rounds.{Says, Ends}
-use Rattle.trio_runner.specs.Play.{AreMoves, Heard}
+use Rattle.trio_runner.specs.Play.{AreMoves, Heard, entries_of}
 use Rattle.trio_runner.specs.inner.Calling.{LineCalled, EndCalled}
 use Rattle.trio_runner.specs.inner.Ready.{TookTurn}
 use Rattle.trio_runner.proofs.Moves.{moves_made}
@@ -113,17 +114,19 @@ module _ {D : Type 0} (called : D → Ask → Told → D → Type 0) (d d' : D) 
   grant_called ino kind r told (Made (Judged answer) c after) is = absurd after
   grant_called ino kind r told (Made (NotJudged fault) c after) is = absurd after
   grant_called ino kind r told (Made ModeSet c after) is = absurd after
+  grant_called ino kind r told (Made Settled c after) is = absurd after
+  grant_called ino kind r told (Made NotSettled c after) is = absurd after
   grant_called ino kind r told (Made (NotModeSet fault) c after) is = absurd after
   grant_called ino kind r told (NotMade same alone) is =
       let t : GrantTold kind (Err NoGrantMemory) told = subst (λ x. GrantTold kind x told) alone.0 is in absurd (cc t)
 
-  pub mode_called : (ino mode : ℕ) (r : Result Unit ModeFault) (told : LineAnswer) → OneCall called d (SetMode ino mode) d' (AfterMode has r has') ⊥ → ModeTold r told → Comes (ModeLine ino mode) told
+  pub mode_called : (ino mode : ℕ) (r : Result Unit ModeFault) (told : LineAnswer) → OneCall called d (SetMode ino mode [] None) d' (AfterMode has r has') ⊥ → ModeTold r told → Comes (ModeLine ino mode) told
   mode_called ino mode r told (Made ModeSet c after) is =
       let t : ModeTold (Ok tt) told = subst (λ x. ModeTold x told) after.0 is in
-      asked (ModeLine ino mode) (SetMode ino mode) ModeSet told refl c (ap Some (sym t)) after.1
+      asked (ModeLine ino mode) (SetMode ino mode [] None) ModeSet told refl c (ap Some (sym t)) after.1
   mode_called ino mode r told (Made (NotModeSet fault) c after) is =
       let t : ModeTold (Err fault) told = subst (λ x. ModeTold x told) after.0 is in
-      asked (ModeLine ino mode) (SetMode ino mode) (NotModeSet fault) told refl c t after.1
+      asked (ModeLine ino mode) (SetMode ino mode [] None) (NotModeSet fault) told refl c t after.1
   mode_called ino mode r told (Made (Lent lease) c after) is = absurd after
   mode_called ino mode r told (Made (NotLent fault) c after) is = absurd after
   mode_called ino mode r told (Made (Given ps ns) c after) is = absurd after
@@ -131,6 +134,8 @@ module _ {D : Type 0} (called : D → Ask → Told → D → Type 0) (d d' : D) 
   mode_called ino mode r told (Made Done c after) is = absurd after
   mode_called ino mode r told (Made (Judged answer) c after) is = absurd after
   mode_called ino mode r told (Made (NotJudged fault) c after) is = absurd after
+  mode_called ino mode r told (Made Settled c after) is = absurd after
+  mode_called ino mode r told (Made NotSettled c after) is = absurd after
   mode_called ino mode r told (NotMade same alone) is = absurd alone
 
   back_asked : (E : Type 0) (ino : ℕ) (lease : Shown) (u : Unit) → read_on has ino ≡ Some lease → OneCall called d (GiveBack lease) d' (AfterBack {E = E} has ino (Ok u) has') ⊥ → Comes (BackLine ino) answered.GivenBack
@@ -142,6 +147,8 @@ module _ {D : Type 0} (called : D → Ask → Told → D → Type 0) (d d' : D) 
   back_asked E ino lease u e (Made (Judged answer) c after) = absurd after
   back_asked E ino lease u e (Made (NotJudged fault) c after) = absurd after
   back_asked E ino lease u e (Made ModeSet c after) = absurd after
+  back_asked E ino lease u e (Made Settled c after) = absurd after
+  back_asked E ino lease u e (Made NotSettled c after) = absurd after
   back_asked E ino lease u e (Made (NotModeSet fault) c after) = absurd after
   back_asked E ino lease u e (NotMade same alone) = absurd alone
 
@@ -177,6 +184,8 @@ module _ {D : Type 0} (called : D → Ask → Told → D → Type 0) (d d' : D) 
   allot_called E seen_lib pages numbers answer told same_lib (Made (Judged verdict) c after) t = absurd after
   allot_called E seen_lib pages numbers answer told same_lib (Made (NotJudged fault) c after) t = absurd after
   allot_called E seen_lib pages numbers answer told same_lib (Made ModeSet c after) t = absurd after
+  allot_called E seen_lib pages numbers answer told same_lib (Made Settled c after) t = absurd after
+  allot_called E seen_lib pages numbers answer told same_lib (Made NotSettled c after) t = absurd after
   allot_called E seen_lib pages numbers answer told same_lib (Made (NotModeSet fault) c after) t = absurd after
   allot_called E seen_lib pages numbers answer told same_lib (NotMade same alone) t = absurd alone
 
@@ -209,6 +218,8 @@ module _ {D : Type 0} (called : D → Ask → Told → D → Type 0) (d d' : D) 
       by (Made (NotGiven fault) c after) = absurd after
       by (Made Done c after) = absurd after
       by (Made ModeSet c after) = absurd after
+      by (Made Settled c after) = absurd after
+      by (Made NotSettled c after) = absurd after
       by (Made (NotModeSet fault) c after) = absurd after
       by (NotMade same alone) =
           elim alone.0 [
@@ -218,32 +229,52 @@ module _ {D : Type 0} (called : D → Ask → Told → D → Type 0) (d d' : D) 
 
 -- ---- turns over the controller
 
--- a desk each of whose calls happens on what stands behind it, and keeps its reference and library
-module _ {D N : Type 0} (called : D → Ask → Told → D → Type 0) (state : D → State) (name : D → N) (lib : D → LibNo) (is : (d : D) (ask : Ask) (told : Told) (d' : D) → called d ask told d' → Happens (state d) (lib d) ask told (state d') × (name d' ≡ name d) × (lib d' ≡ lib d)) where
+-- a desk each of whose calls happens on the controller behind it and is logged there, and keeps its reference and library
+module _ {D N : Type 0} (called : D → Ask → Told → D → Type 0) (ctl : D → Controller) (name : D → N) (lib : D → LibNo) (is : (d : D) (ask : Ask) (told : Told) (d' : D) → called d ask told d' → Happens (ctl d).state (lib d) ask told (ctl d').state × (name d' ≡ name d) × (lib d' ≡ lib d) × LogsCall (ctl d) (lib d) ask told (ctl d')) where
   pub line_name : (d d' : D) (own : LibNo) (has : Has) (said : RawLine) (told : LineAnswer) (has' : Has) → LineCalled called d own has said told d' has' → name d' ≡ name d
-  line_name d d' own has said told has' l = (moves_made called state name lib is l.calls d d' l.made).same
+  line_name d d' own has said told has' l = (moves_made called ctl name lib is l.calls d d' l.made).same
 
   pub end_name : (d d' : D) (has : Has) (end : EndAnswer) → EndCalled called d has end d' → name d' ≡ name d
-  end_name d d' has end l = (moves_made called state name lib is l.calls d d' l.made).same
+  end_name d d' has end l = (moves_made called ctl name lib is l.calls d d' l.made).same
 
-  pub line_took : (d d' : D) (own : LibNo) (s s' : State) (has : Has) (line : ScriptLine) (answer : LineAnswer) (has' : Has) (told told' : Heard) → lib d ≡ own → state d ≡ s → s' ≡ state d' → LineCalled called d own has line.line answer d' has' → OnList (out_of (state d') (lib d')) has' → told' ≡ record told { answers = told.answers ++ answer ∷ [] } → TookTurn own (Says line) s has told s' has' told'
-  line_took d d' own s s' has line answer has' told told' of at to l on heard =
-      let m = moves_made called state name lib is l.calls d d' l.made in
+  -- what these calls of the library made of one controller, they made of another name of it
+  record Happened (own : LibNo) (x x' : Controller) (calls : List Call) : Type 0 where
+    moves : List Move
+    happen : AreMoves own x.state calls moves x'.state
+    log_is : x'.log ≡ x.log ++ entries_of own calls moves
+    first : x'.first ≡ x.first
+
+  happened : (d d' : D) (own : LibNo) (x x' : Controller) (calls : List Call) → lib d ≡ own → ctl d ≡ x → x' ≡ ctl d' → Calls called d calls d' → Happened own x x' calls
+  happened d d' own x x' calls of at to made =
+      let m = moves_made called ctl name lib is calls d d' made in
+      subst (λ y. Happened own x y calls) (sym to)
+      (subst (λ y. Happened own y (ctl d') calls) at
+      (subst (λ (l : LibNo). Happened l (ctl d) (ctl d') calls) of
+      (record { moves = m.moves; happen = m.happen; log_is = m.log_is; first = m.first })))
+
+  pub line_took : (d d' : D) (own : LibNo) (x x' : Controller) (has : Has) (line : ScriptLine) (answer : LineAnswer) (has' : Has) (told told' : Heard) → lib d ≡ own → ctl d ≡ x → x' ≡ ctl d' → LineCalled called d own has line.line answer d' has' → OnList (out_of (ctl d').state (lib d')) has' → told' ≡ record told { answers = told.answers ++ answer ∷ [] } → TookTurn own (Says line) x has told x' has' told'
+  line_took d d' own x x' has line answer has' told told' of at to l on heard =
+      let m = moves_made called ctl name lib is l.calls d d' l.made in
+      let h = happened d d' own x x' l.calls of at to l.made in
       record {
         calls = l.calls;
-        moves = m.moves;
+        moves = h.moves;
         comes = (answer, l.comes, heard);
-        happen = subst (λ x. AreMoves own s l.calls m.moves x) (sym to) (subst (λ x. AreMoves own x l.calls m.moves (state d')) at (subst (λ (x : LibNo). AreMoves x (state d) l.calls m.moves (state d')) of m.happen));
-        on_list = subst (λ x. OnList (out_of x own) has') (sym to) (subst (λ (x : LibNo). OnList (out_of (state d') x) has') (m.same_lib ∙ of) on);
+        happen = h.happen;
+        log_is = h.log_is;
+        first = h.first;
+        on_list = subst (λ (y : Controller). OnList (out_of y.state own) has') (sym to) (subst (λ (n : LibNo). OnList (out_of (ctl d').state n) has') (m.same_lib ∙ of) on);
       }
 
-  pub end_took : (d d' : D) (own : LibNo) (s s' : State) (has : Has) (end : EndAnswer) (has' : Has) (told told' : Heard) → lib d ≡ own → state d ≡ s → s' ≡ state d' → has' ≡ nothing → EndCalled called d has end d' → told' ≡ record told { end = Some end } → TookTurn own Ends s has told s' has' told'
-  end_took d d' own s s' has end has' told told' of at to none l heard =
-      let m = moves_made called state name lib is l.calls d d' l.made in
+  pub end_took : (d d' : D) (own : LibNo) (x x' : Controller) (has : Has) (end : EndAnswer) (has' : Has) (told told' : Heard) → lib d ≡ own → ctl d ≡ x → x' ≡ ctl d' → has' ≡ nothing → EndCalled called d has end d' → told' ≡ record told { end = Some end } → TookTurn own Ends x has told x' has' told'
+  end_took d d' own x x' has end has' told told' of at to none l heard =
+      let h = happened d d' own x x' l.calls of at to l.made in
       record {
         calls = l.calls;
-        moves = m.moves;
+        moves = h.moves;
         comes = (end, l.comes, none, heard);
-        happen = subst (λ x. AreMoves own s l.calls m.moves x) (sym to) (subst (λ x. AreMoves own x l.calls m.moves (state d')) at (subst (λ (x : LibNo). AreMoves x (state d) l.calls m.moves (state d')) of m.happen));
-        on_list = subst (OnList (out_of s' own)) (sym none) (nothing_on_list (out_of s' own));
+        happen = h.happen;
+        log_is = h.log_is;
+        first = h.first;
+        on_list = subst (OnList (out_of x'.state own)) (sym none) (nothing_on_list (out_of x'.state own));
       }

@@ -145,7 +145,7 @@ within_some (x ∷ xs) zero lt = (x, refl)
 within_some (x ∷ xs) (suc i) lt = within_some xs i (omega (arith, lt))
 
 -- the credentials at the end
-plays_creds : (p : Players) (turns : List Placed) (moves : List Move) (p' : Players) → Plays p turns moves p' → p'.state.creds ≡ p.state.creds
+pub plays_creds : (p : Players) (turns : List Placed) (moves : List Move) (p' : Players) → Plays p turns moves p' → p'.state.creds ≡ p.state.creds
 plays_creds p [] moves p' plays = ap (λ (q : Players). q.state.creds) plays.1
 plays_creds p (t ∷ turns) moves p' plays =
     plays_creds plays.middle turns plays.others p' plays.rest ∙ same_creds p t plays.first plays.middle plays.takes

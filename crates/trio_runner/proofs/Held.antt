@@ -15,7 +15,7 @@ use Rattle.trio_lease.specs.Shown.{Shown}
 use Rattle.trio_lease.specs.declared.lease.Lease.{Lease}
 use Rattle.trio_desk.specs.Out.{LibOut}
 use Rattle.trio_desk.specs.Out as out_words
-use Rattle.trio_desk.specs.Call.{Ask, Told, Grant, Allot, GiveBack, Release, SetMode, Lent, NotLent, Given, NotGiven, Done, Judged, NotJudged, ModeSet, NotModeSet}
+use Rattle.trio_desk.specs.Call.{Ask, Told, Grant, Allot, GiveBack, Release, SetMode, Lent, NotLent, Given, NotGiven, Done, Judged, NotJudged, Settled, NotSettled, ModeSet, NotModeSet}
 use Rattle.trio_desk.specs.Calls.{Call}
 use Rattle.trio_layout.specs.Image.{row_at}
 use Rattle.trio_state.specs.State.{OpenGrant, State}
@@ -25,6 +25,7 @@ use Rattle.trio_state.specs.Run.{Move}
 use Rattle.trio_ctl.specs.Ctl.{IsLibrary}
 use Rattle.trio_ctl.specs.Open.{given_by, lent_by}
 use Rattle.trio_ctl.specs.Desk.{Happens, out_of}
+use Rattle.trio_raw.proofs.Asking.{mode_alike}
 use Rattle.trio_raw.specs.Has.{Has, nothing, has_all_of, has_nothing, parcel_named, poked, read_on, with_reads, without_read}
 use Rattle.trio_raw.specs.Asked.{back_calls, release_call}
 use Rattle.trio_script.specs.declared.line.RawLine.{RawLine}
@@ -88,6 +89,8 @@ module _ (lib : LibNo) (s s' : State) (has has' : Has) (calls : List Call) (move
   grant_held ino kind (Judged answer) t h = absurd (cc t)
   grant_held ino kind (NotJudged fault) t h = absurd (cc t)
   grant_held ino kind ModeSet t h = absurd (cc t)
+  grant_held ino kind Settled t h = absurd (cc t)
+  grant_held ino kind NotSettled t h = absurd (cc t)
   grant_held ino kind (NotModeSet fault) t h = absurd (cc t)
 
   allot_held : (wanted many : ℕ) (answer : Told) → Comes (AllotLine wanted many) (Allot wanted many) answer
@@ -100,6 +103,8 @@ module _ (lib : LibNo) (s s' : State) (has has' : Has) (calls : List Call) (move
   allot_held wanted many (Judged answer) t h = absurd (cc t)
   allot_held wanted many (NotJudged fault) t h = absurd (cc t)
   allot_held wanted many ModeSet t h = absurd (cc t)
+  allot_held wanted many Settled t h = absurd (cc t)
+  allot_held wanted many NotSettled t h = absurd (cc t)
   allot_held wanted many (NotModeSet fault) t h = absurd (cc t)
 
   back_held : (ino : ℕ) (lease : Shown) → lease.ino ≡ ino → (answer : Told) → Comes (BackLine ino) (GiveBack lease) answer
@@ -113,6 +118,8 @@ module _ (lib : LibNo) (s s' : State) (has has' : Has) (calls : List Call) (move
   back_held ino lease e (Judged answer) t h = absurd (cc t)
   back_held ino lease e (NotJudged fault) t h = absurd (cc t)
   back_held ino lease e ModeSet t h = absurd (cc t)
+  back_held ino lease e Settled t h = absurd (cc t)
+  back_held ino lease e NotSettled t h = absurd (cc t)
   back_held ino lease e (NotModeSet fault) t h = absurd (cc t)
 
   release_held : (inos pages numbers : List ℕ) (answer : Told) → Comes (ReleaseLine inos pages numbers) (Release (parcel_named has inos pages numbers)) answer
@@ -128,11 +135,13 @@ module _ (lib : LibNo) (s s' : State) (has has' : Has) (calls : List Call) (move
   release_held inos pages numbers (NotGiven fault) t h = absurd (cc t)
   release_held inos pages numbers Done t h = absurd (cc t)
   release_held inos pages numbers ModeSet t h = absurd (cc t)
+  release_held inos pages numbers Settled t h = absurd (cc t)
+  release_held inos pages numbers NotSettled t h = absurd (cc t)
   release_held inos pages numbers (NotModeSet fault) t h = absurd (cc t)
 
-  mode_held : (ino mode : ℕ) (answer : Told) → Comes (ModeLine ino mode) (SetMode ino mode) answer
-  mode_held ino mode ModeSet t h = has_all-alike _ _ _ (call_leaves s lib s' (SetMode ino mode) ModeSet tt kept h) all
-  mode_held ino mode (NotModeSet fault) t h = has_all-alike _ _ _ (call_leaves s lib s' (SetMode ino mode) (NotModeSet fault) tt kept h) all
+  mode_held : (ino mode : ℕ) (answer : Told) → Comes (ModeLine ino mode) (SetMode ino mode [] None) answer
+  mode_held ino mode ModeSet t h = has_all-alike (out_of s lib) (out_of s' lib) has (mode_alike (out_of s lib) (out_of s' lib) [] refl (call_leaves s lib s' (SetMode ino mode [] None) ModeSet tt kept h)) all
+  mode_held ino mode (NotModeSet fault) t h = has_all-alike _ _ _ (call_leaves s lib s' (SetMode ino mode [] None) (NotModeSet fault) tt kept h) all
   mode_held ino mode (Lent l) t h = absurd (cc t)
   mode_held ino mode (NotLent fault) t h = absurd (cc t)
   mode_held ino mode (Given ps ns) t h = absurd (cc t)
@@ -140,6 +149,8 @@ module _ (lib : LibNo) (s s' : State) (has has' : Has) (calls : List Call) (move
   mode_held ino mode Done t h = absurd (cc t)
   mode_held ino mode (Judged answer) t h = absurd (cc t)
   mode_held ino mode (NotJudged fault) t h = absurd (cc t)
+  mode_held ino mode Settled t h = absurd (cc t)
+  mode_held ino mode NotSettled t h = absurd (cc t)
 
   -- what it has then
   then_has : (said : RawLine) (ask : Ask) (a : Asks lib has said ask calls told has') → ((answer : Told) → Comes said ask answer) → HasAll (out_of s' lib) has'
@@ -148,7 +159,7 @@ module _ (lib : LibNo) (s s' : State) (has has' : Has) (calls : List Call) (move
   pub line_held : (said : RawLine) → LineComes lib has said calls told has' → HasAll (out_of s' lib) has'
   line_held (GrantLine ino kind) a = then_has (GrantLine ino kind) (Grant ino kind) a (grant_held ino kind)
   line_held (AllotLine wanted many) a = then_has (AllotLine wanted many) (Allot wanted many) a (allot_held wanted many)
-  line_held (ModeLine ino mode) a = then_has (ModeLine ino mode) (SetMode ino mode) a (mode_held ino mode)
+  line_held (ModeLine ino mode) a = then_has (ModeLine ino mode) (SetMode ino mode [] None) a (mode_held ino mode)
   line_held (Poke at offset bytes) a = alone_held (Poke at offset bytes) a
   line_held (Peek at offset len) a = alone_held (Peek at offset len) a
   line_held (BackLine ino) a = by (read_on has ino) refl a

@@ -1,7 +1,8 @@
-pub mod Creds
 pub mod CallLeaves
+mod Plain
 pub mod Moves
 pub mod Plays
+pub mod Logs
 pub mod Outs
 pub mod Held
 pub mod Orders
@@ -9,3 +10,4 @@ pub mod EndFree
 pub mod OnePlay
 pub mod Calling
 pub mod Seats
+pub mod Printed

@@ -1,18 +1,20 @@
 -- Calls of a library as moves of the controller, and what they keep.
-use Rattle.std.proofs.Common.{◌≡◌, List, [], ◌∷◌, ◌++◌, sym, refl, ap, ◌∙◌, subst}
+use Rattle.std.proofs.Common.{◌≡◌, List, [], ◌∷◌, ◌++◌, sym, refl, ap, ◌∙◌, subst, inl, inr}
+use Rattle.std.proofs.lemmas.List.{append-nil, append_assoc}
 use Rattle.trio_rights.specs.declared.rights.LibNo.{LibNo}
 use Rattle.trio_desk.specs.Call.{Ask, Told}
 use Rattle.trio_desk.specs.Calls.{Call, Calls}
+use Rattle.trio_nodes.specs.declared.entry.Entry.{Entry}
 use Rattle.trio_state.specs.State.{State}
 use Rattle.trio_state.specs.Kept.{Kept}
 use Rattle.trio_state.specs.Given.{GivenEvent}
 use Rattle.trio_state.specs.Step.{Step}
 use Rattle.trio_state.specs.Run.{Move, Trace}
-use Rattle.trio_ctl.specs.Ctl.{AreAsTold}
-use Rattle.trio_ctl.specs.Desk.{Happens, answer_of, event_of, out_of}
-use Rattle.trio_runner.specs.Play.{AreMoves}
-use Rattle.trio_runner.proofs.Creds.{step_creds}
-use Rattle.trio_ctl.proofs.DeskSteps.{calls_keep, others_keep}
+use Rattle.trio_ctl.specs.Ctl.{AreAsTold, Controller}
+use Rattle.trio_ctl.specs.Desk.{Happens, LogsCall, answer_of, entries_told, event_of, out_of}
+use Rattle.trio_runner.specs.Play.{AreMoves, entries_of}
+use Rattle.trio_ctl.proofs.DeskSteps.{calls_keep, happens_creds, others_keep, plain_step}
+use Rattle.trio_runner.proofs.Plain.{ArePlain, plain_given}
 
 -- the state is kept, and holds are as they told
 pub record Stands (s : State) : Type 0 where
@@ -32,7 +34,7 @@ moves_creds lib s [] [] s' a = ap (λ (t : State). t.creds) a
 moves_creds lib s [] (m ∷ moves) s' a = absurd a
 moves_creds lib s (c ∷ calls) [] s' a = absurd a
 moves_creds lib s (c ∷ calls) (m ∷ moves) s' a =
-    moves_creds lib m.after calls moves s' a.2 ∙ step_creds s m.after (event_of lib c.ask) (answer_of c.told) a.1.is_step
+    moves_creds lib m.after calls moves s' a.2 ∙ happens_creds s lib c.ask c.told m.after a.1
 
 pub moves_others : (lib other : LibNo) (s : State) (calls : List Call) (moves : List Move) (s' : State) → (other.0 ≡ lib.0 → ⊥) → Stands s → AreMoves lib s calls moves s' → out_of s' other ≡ out_of s other
 moves_others lib other s [] [] s' apart h a = ap (λ t. out_of t other) a
@@ -50,13 +52,22 @@ pub record Parted (lib : LibNo) (s : State) (first later : List Call) (moves : L
   pub later_moves : List Move
   pub before : AreMoves lib s first first_moves middle
   pub after : AreMoves lib middle later later_moves s'
+  pub entries : entries_of lib (first ++ later) moves ≡ entries_of lib first first_moves ++ entries_of lib later later_moves
 
 pub moves_parted : (lib : LibNo) (s : State) (first later : List Call) (moves : List Move) (s' : State) → AreMoves lib s (first ++ later) moves s' → Parted lib s first later moves s'
-moves_parted lib s [] later moves s' a = record { middle = s; first_moves = []; later_moves = moves; before = refl; after = a }
+moves_parted lib s [] later moves s' a = record { middle = s; first_moves = []; later_moves = moves; before = refl; after = a; entries = refl }
 moves_parted lib s (c ∷ first) later [] s' a = absurd a
 moves_parted lib s (c ∷ first) later (m ∷ moves) s' a =
     let p = moves_parted lib m.after first later moves s' a.2 in
-    record { middle = p.middle; first_moves = m ∷ p.first_moves; later_moves = p.later_moves; before = (a.0, a.1, p.before); after = p.after }
+    let own : List Entry = entries_told m.before lib c.ask c.told in
+    record {
+      middle = p.middle;
+      first_moves = m ∷ p.first_moves;
+      later_moves = p.later_moves;
+      before = (a.0, a.1, p.before);
+      after = p.after;
+      entries = ap (λ l. own ++ l) p.entries ∙ sym (append_assoc own (entries_of lib first p.first_moves) (entries_of lib later p.later_moves));
+    }
 
 -- one call alone
 pub one_move : (lib : LibNo) (s : State) (c : Call) (moves : List Move) (s' : State) → AreMoves lib s (c ∷ []) moves s' → Happens s lib c.ask c.told s'
@@ -93,17 +104,17 @@ runs_on s middle s' (m ∷ moves) more h k =
     let all = runs_on m.after middle s' moves more rest k in
     record { trace = (h.trace.0, h.trace.1, h.trace.2, all.trace); last = all.last }
 
-pub moves_run : (lib : LibNo) (s : State) (calls : List Call) (moves : List Move) (s' : State) → AreMoves lib s calls moves s' → Runs s moves s'
-moves_run lib s [] [] s' a = record { trace = tt; last = sym a }
-moves_run lib s [] (m ∷ moves) s' a = absurd a
-moves_run lib s (c ∷ calls) [] s' a = absurd a
-moves_run lib s (c ∷ calls) (m ∷ moves) s' a =
-    let rest = moves_run lib m.after calls moves s' a.2 in
+pub moves_run : (lib : LibNo) (s : State) (calls : List Call) (moves : List Move) (s' : State) → ArePlain calls → AreMoves lib s calls moves s' → Runs s moves s'
+moves_run lib s [] [] s' p a = record { trace = tt; last = sym a }
+moves_run lib s [] (m ∷ moves) s' p a = absurd a
+moves_run lib s (c ∷ calls) [] s' p a = absurd a
+moves_run lib s (c ∷ calls) (m ∷ moves) s' p a =
+    let rest = moves_run lib m.after calls moves s' (λ x i. p x (inr i)) a.2 in
     record {
       trace = (
         ap (λ (x : Move). x.before) a.0,
-        subst (λ (x : Move). GivenIn x) (sym a.0) a.1.given,
-        subst (λ (x : Move). IsStep x) (sym a.0) a.1.is_step,
+        subst (λ (x : Move). GivenIn x) (sym a.0) (plain_given s lib c.ask c.told m.after (p c (inl refl)) a.1),
+        subst (λ (x : Move). IsStep x) (sym a.0) (plain_step s lib c.ask c.told m.after (p c (inl refl)) a.1),
         rest.trace,
       );
       last = rest.last;
@@ -111,24 +122,38 @@ moves_run lib s (c ∷ calls) (m ∷ moves) s' a =
 
 -- ---- calls of a desk
 
--- a desk each of whose calls happens on what stands behind it, and keeps its reference and library
-module _ {D N : Type 0} (called : D → Ask → Told → D → Type 0) (state : D → State) (name : D → N) (lib : D → LibNo) (is : (d : D) (ask : Ask) (told : Told) (d' : D) → called d ask told d' → Happens (state d) (lib d) ask told (state d') × (name d' ≡ name d) × (lib d' ≡ lib d)) where
+-- a desk each of whose calls happens on the controller behind it and is logged there, and keeps its reference and library
+module _ {D N : Type 0} (called : D → Ask → Told → D → Type 0) (ctl : D → Controller) (name : D → N) (lib : D → LibNo) (is : (d : D) (ask : Ask) (told : Told) (d' : D) → called d ask told d' → Happens (ctl d).state (lib d) ask told (ctl d').state × (name d' ≡ name d) × (lib d' ≡ lib d) × LogsCall (ctl d) (lib d) ask told (ctl d')) where
   -- calls as moves
   pub record MovesMade (d : D) (calls : List Call) (d' : D) : Type 0 where
     pub moves : List Move
-    pub happen : AreMoves (lib d) (state d) calls moves (state d')
+    pub happen : AreMoves (lib d) (ctl d).state calls moves (ctl d').state
+    pub log_is : (ctl d').log ≡ (ctl d).log ++ entries_of (lib d) calls moves
+    pub first : (ctl d').first ≡ (ctl d).first
     pub same : name d' ≡ name d
     pub same_lib : lib d' ≡ lib d
 
   pub moves_made : (calls : List Call) (d d' : D) → Calls called d calls d' → MovesMade d calls d'
-  moves_made [] d d' e = record { moves = []; happen = ap state e; same = ap name e; same_lib = ap lib e }
+  moves_made [] d d' e = record {
+    moves = [];
+    happen = ap (λ x. (ctl x).state) e;
+    log_is = ap (λ x. (ctl x).log) e ∙ sym (append-nil (ctl d).log);
+    first = ap (λ x. (ctl x).first) e;
+    same = ap name e;
+    same_lib = ap lib e;
+  }
   moves_made (c ∷ calls) d d' made =
       let middle = made.0 in
       let first = is d c.ask c.told middle made.1 in
       let rest = moves_made calls middle d' made.2 in
+      let own : List Entry = entries_told (ctl d).state (lib d) c.ask c.told in
       record {
-        moves = record { before = state d; event = event_of (lib d) c.ask; answer = answer_of c.told; after = state middle } ∷ rest.moves;
-        happen = (refl, first.0, subst (λ l. AreMoves l (state middle) calls rest.moves (state d')) first.2 rest.happen);
+        moves = record { before = (ctl d).state; event = event_of (lib d) c.ask; answer = answer_of c.told; after = (ctl middle).state } ∷ rest.moves;
+        happen = (refl, first.0, subst (λ l. AreMoves l (ctl middle).state calls rest.moves (ctl d').state) first.2 rest.happen);
+        log_is = rest.log_is ∙ ap (λ l. l ++ entries_of (lib middle) calls rest.moves) first.3.log
+            ∙ append_assoc (ctl d).log own (entries_of (lib middle) calls rest.moves)
+            ∙ ap (λ l. (ctl d).log ++ (own ++ entries_of l calls rest.moves)) first.2;
+        first = rest.first ∙ first.3.first;
         same = rest.same ∙ first.1;
         same_lib = rest.same_lib ∙ first.2;
       }

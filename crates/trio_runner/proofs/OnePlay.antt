@@ -19,7 +19,7 @@ use Rattle.trio_lease.specs.declared.lease.Lease.TheVariants.{Hold as HoldLent}
 use Rattle.trio_rights.specs.declared.kind.Kind.TheVariants.{Regular}
 use Rattle.trio_lists.specs.Lists.{In}
 use Rattle.trio_lists.proofs.Members.{In-cases}
-use Rattle.trio_desk.specs.Call.{Ask, Told, Grant, GiveBack, Lent, NotLent, Given, NotGiven, Done, Judged, NotJudged, ModeSet, NotModeSet}
+use Rattle.trio_desk.specs.Call.{Ask, Told, Grant, GiveBack, Lent, NotLent, Given, NotGiven, Done, Judged, NotJudged, Settled, NotSettled, ModeSet, NotModeSet}
 use Rattle.trio_desk.specs.Calls.{Call}
 use Rattle.trio_state.specs.State.{State}
 use Rattle.trio_state.specs.Kept.{Kept}
@@ -30,7 +30,8 @@ use Rattle.trio_state.specs.Step.{CtlAnswer, Step}
 use Rattle.trio_state.specs.Step as step
 use Rattle.trio_laws.specs.Known.{Known, known, plain_state, refused_rule, SameAnswer}
 use Rattle.trio_laws.proofs.KnownSteps.{known_decides, same_event_same_answer}
-use Rattle.trio_ctl.proofs.DeskSteps.{calls_keep}
+use Rattle.trio_ctl.proofs.DeskSteps.{calls_keep, plain_step}
+use Rattle.trio_runner.proofs.Plain.{ArePlain, ask_plain, backs_plain}
 use Rattle.trio_ctl.specs.Open.{lent_by}
 use Rattle.trio_ctl.specs.Desk.{LeaseIs, answer_of, event_of}
 use Rattle.trio_raw.specs.Has.{Has, has_nothing, nothing}
@@ -86,7 +87,7 @@ from lease step.Done = Done
 from lease step.Accepted = Judged AcceptedParcel
 from lease (step.Refused why) = Judged (RefusedParcel why.rule why.ino why.page why.slot)
 from lease (step.NotClosed ino) = NotJudged (NotClosedParcel ino)
-from lease step.Settled = Done
+from lease step.Settled = Settled
 from lease step.ModeSet = ModeSet
 from lease (step.NotModeSet fault) = NotModeSet fault
 from lease step.NoMemory = Done
@@ -113,6 +114,8 @@ told_from lease (Judged (RefusedParcel rule ino page slot)) is some = refl
 told_from lease (NotJudged (NotClosedParcel n)) is some = refl
 told_from lease (NotJudged NoReleaseMemory) is some = absurd (some refl)
 told_from lease ModeSet is some = refl
+told_from lease Settled is some = refl
+told_from lease NotSettled is some = absurd (some refl)
 told_from lease (NotModeSet unmoded.NotLive) is some = refl
 told_from lease (NotModeSet unmoded.NotOwner) is some = refl
 told_from lease (NotModeSet unmoded.BadMode) is some = refl
@@ -191,6 +194,15 @@ no_mode_memory (Peek at offset len) = refl
 no_mode_memory (ReleaseLine inos pages numbers) = refl
 no_mode_memory (ModeLine ino mode) = refl
 
+no_settle_memory : (said : RawLine) → told_of said NotSettled ≡ None
+no_settle_memory (GrantLine ino kind) = refl
+no_settle_memory (AllotLine wanted many) = refl
+no_settle_memory (BackLine ino) = refl
+no_settle_memory (Poke at offset bytes) = refl
+no_settle_memory (Peek at offset len) = refl
+no_settle_memory (ReleaseLine inos pages numbers) = refl
+no_settle_memory (ModeLine ino mode) = refl
+
 told_some : (said : RawLine) (a : Told) (told : LineAnswer) → told_of said a ≡ Some told → answer_of a ≢ step.NoMemory
 told_some said (Lent l) told is e = absurd (cc e)
 told_some said (NotLent NotLive) told is e = absurd (cc e)
@@ -205,6 +217,8 @@ told_some said (Judged AcceptedParcel) told is e = absurd (cc e)
 told_some said (Judged (RefusedParcel rule ino page slot)) told is e = absurd (cc e)
 told_some said (NotJudged (NotClosedParcel n)) told is e = absurd (cc e)
 told_some said ModeSet told is e = absurd (cc e)
+told_some said Settled told is e = absurd (cc e)
+told_some said NotSettled told is e = (let wrong : None ≡ Some told = sym (no_settle_memory said) ∙ is in absurd (cc wrong))
 told_some said (NotModeSet unmoded.NotLive) told is e = absurd (cc e)
 told_some said (NotModeSet unmoded.NotOwner) told is e = absurd (cc e)
 told_some said (NotModeSet unmoded.BadMode) told is e = absurd (cc e)
@@ -238,6 +252,8 @@ lent_none said Done told f is = tt
 lent_none said (Judged answer) told f is = tt
 lent_none said (NotJudged fault) told f is = tt
 lent_none said ModeSet told f is = tt
+lent_none said Settled told f is = tt
+lent_none said NotSettled told f is = tt
 lent_none said (NotModeSet fault) told f is = tt
 
 -- the lease that is told
@@ -254,6 +270,8 @@ lends_own Done = tt
 lends_own (Judged answer) = tt
 lends_own (NotJudged fault) = tt
 lends_own ModeSet = tt
+lends_own Settled = tt
+lends_own NotSettled = tt
 lends_own (NotModeSet fault) = tt
 
 module _ (s t : State) (lib : LibNo) (same : known s ≡ known t) where
@@ -283,6 +301,8 @@ module _ (s t : State) (lib : LibNo) (same : known s ≡ known t) where
   lends_same ino kind (Lent l) (Judged answer) is js = (l, refl, tt)
   lends_same ino kind (Lent l) (NotJudged fault) is js = (l, refl, tt)
   lends_same ino kind (Lent l) ModeSet is js = (l, refl, tt)
+  lends_same ino kind (Lent l) Settled is js = (l, refl, tt)
+  lends_same ino kind (Lent l) NotSettled is js = (l, refl, tt)
   lends_same ino kind (Lent l) (NotModeSet fault) is js = (l, refl, tt)
   lends_same ino kind (NotLent fault) b is js = (lease_in b, tt, lends_own b)
   lends_same ino kind (Given ps ns) b is js = (lease_in b, tt, lends_own b)
@@ -291,6 +311,8 @@ module _ (s t : State) (lib : LibNo) (same : known s ≡ known t) where
   lends_same ino kind (Judged answer) b is js = (lease_in b, tt, lends_own b)
   lends_same ino kind (NotJudged fault) b is js = (lease_in b, tt, lends_own b)
   lends_same ino kind ModeSet b is js = (lease_in b, tt, lends_own b)
+  lends_same ino kind Settled b is js = (lease_in b, tt, lends_own b)
+  lends_same ino kind NotSettled b is js = (lease_in b, tt, lends_own b)
   lends_same ino kind (NotModeSet fault) b is js = (lease_in b, tt, lends_own b)
 
   alike_line : (has : Has) (said : RawLine) (ask : Ask) (a b : Told) (told told' : LineAnswer) → ask_of has said ≡ Some ask → told_of said a ≡ Some told → told_of said b ≡ Some told' → LeaseIs s lib ask a → LeaseIs t lib ask b → SameAnswer (answer_of a) (answer_of b) → Alike a b
@@ -330,7 +352,8 @@ one_line lib said s t has calls calls' moves moves' told told' s' t' has' has'' 
     by (Some ask) e a b =
         let ha = one_move lib s (record { ask = ask; told = a.answer }) moves s' (subst (λ (l : List Call). AreMoves lib s l moves s') a.calls_are am) in
         let hb = one_move lib t (record { ask = ask; told = b.answer }) moves' t' (subst (λ (l : List Call). AreMoves lib t l moves' t') b.calls_are bm) in
-        let r = same_event_same_answer s t (event_of lib ask) (answer_of a.answer) (answer_of b.answer) s' t' ks kt same ha.is_step hb.is_step
+        let r = same_event_same_answer s t (event_of lib ask) (answer_of a.answer) (answer_of b.answer) s' t' ks kt same
+        (plain_step s lib ask a.answer s' (ask_plain has said ask e) ha) (plain_step t lib ask b.answer t' (ask_plain has said ask e) hb)
         (told_some said a.answer told a.told_is) (told_some said b.answer told' b.told_is) in
         let alike = alike_line s t lib same has said ask a.answer b.answer told told' e a.told_is b.told_is ha.lease hb.lease r.0 in
         let tolds : Some told ≡ Some told' = sym a.told_is ∙ told_alike said a.answer b.answer alike ∙ b.told_is in
@@ -339,16 +362,16 @@ one_line lib said s t has calls calls' moves moves' told told' s' t' has' has'' 
 -- ---- ends
 
 -- the same calls, none of which is answered by want of memory
-calls_known : (lib : LibNo) (calls : List Call) (s t : State) (moves moves' : List Move) (s' t' : State) → ((c : Call) → In c calls → answer_of c.told ≢ step.NoMemory) → Stands s → Stands t → known s ≡ known t → AreMoves lib s calls moves s' → AreMoves lib t calls moves' t' → known s' ≡ known t'
-calls_known lib [] s t moves moves' s' t' some hs ht same am bm = ap known (no_move lib s moves s' am) ∙ same ∙ sym (ap known (no_move lib t moves' t' bm))
-calls_known lib (c ∷ calls) s t [] moves' s' t' some hs ht same am bm = absurd am
-calls_known lib (c ∷ calls) s t (m ∷ moves) [] s' t' some hs ht same am bm = absurd bm
-calls_known lib (c ∷ calls) s t (m ∷ moves) (n ∷ moves') s' t' some hs ht same am bm =
+calls_known : (lib : LibNo) (calls : List Call) (s t : State) (moves moves' : List Move) (s' t' : State) → ((c : Call) → In c calls → answer_of c.told ≢ step.NoMemory) → ArePlain calls → Stands s → Stands t → known s ≡ known t → AreMoves lib s calls moves s' → AreMoves lib t calls moves' t' → known s' ≡ known t'
+calls_known lib [] s t moves moves' s' t' some plain hs ht same am bm = ap known (no_move lib s moves s' am) ∙ same ∙ sym (ap known (no_move lib t moves' t' bm))
+calls_known lib (c ∷ calls) s t [] moves' s' t' some plain hs ht same am bm = absurd am
+calls_known lib (c ∷ calls) s t (m ∷ moves) [] s' t' some plain hs ht same am bm = absurd bm
+calls_known lib (c ∷ calls) s t (m ∷ moves) (n ∷ moves') s' t' some plain hs ht same am bm =
     let r = same_event_same_answer s t (event_of lib c.ask) (answer_of c.told) (answer_of c.told) m.after n.after hs.kept ht.kept same
-    am.1.is_step bm.1.is_step (some c (inl refl)) (some c (inl refl)) in
+    (plain_step s lib c.ask c.told m.after (plain c (inl refl)) am.1) (plain_step t lib c.ask c.told n.after (plain c (inl refl)) bm.1) (some c (inl refl)) (some c (inl refl)) in
     let ks = calls_keep s lib c.ask c.told m.after hs.kept hs.as_told am.1 in
     let kt = calls_keep t lib c.ask c.told n.after ht.kept ht.as_told bm.1 in
-    calls_known lib calls m.after n.after moves moves' s' t' (λ x i. some x (inr i)) (record { kept = ks.0; as_told = ks.1 }) (record { kept = kt.0; as_told = kt.1 }) r.1 am.2 bm.2
+    calls_known lib calls m.after n.after moves moves' s' t' (λ x i. some x (inr i)) (λ x i. plain x (inr i)) (record { kept = ks.0; as_told = ks.1 }) (record { kept = kt.0; as_told = kt.1 }) r.1 am.2 bm.2
 
 backs_done : (rs : List Shown) (c : Call) → In c (back_calls rs) → answer_of c.told ≢ step.NoMemory
 backs_done [] c i = absurd i
@@ -384,7 +407,7 @@ one_end lib s t has calls calls' moves moves' end end' s' t' hs ht same one two 
     by : (b : Bool) → MatchBool b (EndsAlone has calls end) (EndsAll has calls end) → MatchBool b (EndsAlone has calls' end') (EndsAll has calls' end') → OneEnd s' t' end end'
     by true a b = record {
       end_same = a.end_is ∙ sym b.end_is;
-      known_same = calls_known lib (back_calls has.reads) s t moves moves' s' t' (backs_done has.reads) hs ht same
+      known_same = calls_known lib (back_calls has.reads) s t moves moves' s' t' (backs_done has.reads) (backs_plain has.reads) hs ht same
           (subst (λ (l : List Call). AreMoves lib s l moves s') a.calls_are am) (subst (λ (l : List Call). AreMoves lib t l moves' t') b.calls_are bm);
     }
     by false a b =
@@ -394,10 +417,10 @@ one_end lib s t has calls calls' moves moves' end end' s' t' hs ht same one two 
         let q = moves_parted lib t (back_calls has.reads) (y ∷ []) moves' t' (subst (λ (l : List Call). AreMoves lib t l moves' t') b.calls_are bm) in
         let hp = moves_stand lib s (back_calls has.reads) p.first_moves p.middle hs p.before in
         let hq = moves_stand lib t (back_calls has.reads) q.first_moves q.middle ht q.before in
-        let middle = calls_known lib (back_calls has.reads) s t p.first_moves q.first_moves p.middle q.middle (backs_done has.reads) hs ht same p.before q.before in
+        let middle = calls_known lib (back_calls has.reads) s t p.first_moves q.first_moves p.middle q.middle (backs_done has.reads) (backs_plain has.reads) hs ht same p.before q.before in
         let ha = one_move lib p.middle x p.later_moves s' p.after in
         let hb = one_move lib q.middle y q.later_moves t' q.after in
-        let r = same_event_same_answer p.middle q.middle (event_of lib x.ask) (answer_of x.told) (answer_of y.told) s' t' hp.kept hq.kept middle ha.is_step hb.is_step (judged_some a.answer) (judged_some b.answer) in
+        let r = same_event_same_answer p.middle q.middle (event_of lib x.ask) (answer_of x.told) (answer_of y.told) s' t' hp.kept hq.kept middle (plain_step p.middle lib x.ask x.told s' refl ha) (plain_step q.middle lib y.ask y.told t' refl hb) (judged_some a.answer) (judged_some b.answer) in
         let alike : Alike (Judged a.answer) (Judged b.answer) = answers_alike no_lease (Judged a.answer) (Judged b.answer) tt tt (judged_some a.answer) (judged_some b.answer) r.0 in
         let ends : Some (end_of a.answer) ≡ Some (end_of b.answer) = end_alike (Judged a.answer) (Judged b.answer) alike in
         record { end_same = a.end_is ∙ cc ends ∙ sym b.end_is; known_same = r.1 }

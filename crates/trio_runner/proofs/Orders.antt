@@ -1,8 +1,11 @@
 -- The turns of each library in a script.
-use Rattle.std.proofs.Common.{◌≡◌, ℕ, zero, suc, ◌+◌, ◌<◌, ◌≤◌, max, Bool, true, false, cond, eqb, ltb, List, [], ◌∷◌, ◌++◌, length, Option, Some, None, sym, refl, ap, ◌∙◌, subst, inl, inr, ◌⊎◌, arith, ltb-true, ltb-false, get_or, drop, drop-cons, nat_cmp, is_lt, Less, Equal, Greater}
+use Rattle.std.proofs.Common.{◌≡◌, ℕ, zero, suc, ◌+◌, ◌<◌, ◌≤◌, max, Bool, true, false, cond, eqb, ltb, List, [], ◌∷◌, ◌++◌, length, Option, Some, None, sym, refl, ap, ◌∙◌, subst, inl, inr, ◌⊎◌, arith, ltb-true, ltb-false, get_or, drop, drop-cons, take, nat_cmp, is_lt, Less, Equal, Greater}
 use Rattle.std.specs.Ordering.{ord_max}
 use Rattle.std.specs.Prelude.{slice_get}
+use Rattle.std.specs.List.{filter}
 use Rattle.std.proofs.lemmas.Bool.{eq-eqb, ne_eqb, cases_Bool}
+use Rattle.std.proofs.lemmas.List.{append-nil, take_all}
+use Rattle.std.proofs.lemmas.List.Elements.{filter-append}
 use Rattle.trio_lists.specs.Lists.{In}
 use Rattle.trio_lists.proofs.Members.{In-cases}
 use Rattle.trio_script.specs.declared.ScriptLine.{ScriptLine}
@@ -200,3 +203,68 @@ rounds_within (suc k) libs t i =
 
 pub turns_within : (libs : List ScriptLib) (t : Placed) → In t (turns_of libs) → Within 1 libs t
 turns_within libs t i = rounds_within (longest (courses_from 1 libs)) libs t i
+
+-- ---- the turns of one library
+
+abbrev pub own_turns : ℕ → List Placed → List Placed
+own_turns n turns = filter (λ t. eqb t.lib.0 n) turns
+
+own_chunk : (n : ℕ) (o : Option Placed) → ((t : Placed) → o ≡ Some t → t.lib.0 ≡ n) → own_turns n (turn_list o) ≡ turn_list o
+own_chunk n None own = refl
+own_chunk n (Some t) own = ap (λ b. cond b (t ∷ []) []) (eq-eqb t.lib.0 n (own t refl))
+
+others_chunk : (n m : ℕ) (o : Option Placed) → (m ≡ n → ⊥) → ((t : Placed) → o ≡ Some t → t.lib.0 ≡ m) → own_turns n (turn_list o) ≡ []
+others_chunk n m None apart own = refl
+others_chunk n m (Some t) apart own = ap (λ b. cond b (t ∷ []) []) (ne_eqb t.lib.0 n (λ e. apart (sym (own t refl) ∙ e)))
+
+-- a round has none of a library before the first one
+round_none : (k n m : ℕ) (libs : List ScriptLib) → n < m → own_turns n (round_of k (courses_from m libs)) ≡ []
+round_none k n m [] lt = refl
+round_none k n m (l ∷ libs) lt =
+    let first : List Placed = turn_list (slice_get (course m l.lines) k) in
+    let rest : List Placed = round_of k (courses_from (m + 1) libs) in
+    filter-append (λ (t : Placed). eqb t.lib.0 n) first rest
+    ∙ ap (λ x. x ++ own_turns n rest) (others_chunk n m (slice_get (course m l.lines) k) (λ e. absurd (omega (arith, lt, e))) (course_lib m l.lines k))
+    ∙ round_none k n (m + 1) libs (omega (arith, lt))
+
+round_own : (k n m i : ℕ) (libs : List ScriptLib) (l : ScriptLib) → slice_get libs i ≡ Some l → n ≡ m + i → own_turns n (round_of k (courses_from m libs)) ≡ turn_list (slice_get (course n l.lines) k)
+round_own k n m i [] l e at = absurd (cc e)
+round_own k n m zero (x ∷ libs) l e at =
+    let same : x ≡ l = cc e in
+    let own : m ≡ n = omega (arith, at) in
+    let first : List Placed = turn_list (slice_get (course m x.lines) k) in
+    let rest : List Placed = round_of k (courses_from (m + 1) libs) in
+    filter-append (λ (t : Placed). eqb t.lib.0 n) first rest
+    ∙ ap (λ y. y ++ own_turns n rest) (own_chunk n (slice_get (course m x.lines) k) (λ t is. course_lib m x.lines k t is ∙ own))
+    ∙ ap (λ y. first ++ y) (round_none k n (m + 1) libs (omega (arith, own)))
+    ∙ append-nil first
+    ∙ ap (λ j. turn_list (slice_get (course j x.lines) k)) own
+    ∙ ap (λ (y : ScriptLib). turn_list (slice_get (course n y.lines) k)) same
+round_own k n m (suc i) (x ∷ libs) l e at =
+    let first : List Placed = turn_list (slice_get (course m x.lines) k) in
+    let rest : List Placed = round_of k (courses_from (m + 1) libs) in
+    filter-append (λ (t : Placed). eqb t.lib.0 n) first rest
+    ∙ ap (λ y. y ++ own_turns n rest) (others_chunk n m (slice_get (course m x.lines) k) (λ f. absurd (omega (arith, at, f))) (course_lib m x.lines k))
+    ∙ round_own k n (m + 1) i libs l e (omega (arith, at))
+
+-- so many elements, and one more
+take_one_more : (k : ℕ) (xs : List Placed) → take (suc k) xs ≡ take k xs ++ turn_list (slice_get xs k)
+take_one_more zero [] = refl
+take_one_more (suc k) [] = refl
+take_one_more zero (x ∷ xs) = refl
+take_one_more (suc k) (x ∷ xs) = ap (λ l. x ∷ l) (take_one_more k xs)
+
+rounds_own : (rounds n i : ℕ) (libs : List ScriptLib) (l : ScriptLib) → slice_get libs i ≡ Some l → n ≡ 1 + i → own_turns n (in_rounds rounds (courses_from 1 libs)) ≡ take rounds (course n l.lines)
+rounds_own zero n i libs l e at = refl
+rounds_own (suc k) n i libs l e at =
+    filter-append (λ (t : Placed). eqb t.lib.0 n) (in_rounds k (courses_from 1 libs)) (round_of k (courses_from 1 libs))
+    ∙ ap (λ x. x ++ own_turns n (round_of k (courses_from 1 libs))) (rounds_own k n i libs l e at)
+    ∙ ap (λ x. take k (course n l.lines) ++ x) (round_own k n 1 i libs l e at)
+    ∙ sym (take_one_more k (course n l.lines))
+
+-- the turns that a library takes in a script are its course
+pub turns_own : (libs : List ScriptLib) (i : ℕ) (l : ScriptLib) → slice_get libs i ≡ Some l → own_turns (1 + i) (turns_of libs) ≡ course (1 + i) l.lines
+turns_own libs i l e =
+    let long : length l.lines < longest (courses_from 1 libs) = longest_most 1 i libs l e in
+    let all : length (course (1 + i) l.lines) ≡ suc (length l.lines) = course_length (1 + i) l.lines in
+    rounds_own (longest (courses_from 1 libs)) (1 + i) i libs l e refl ∙ take_all (longest (courses_from 1 libs)) (course (1 + i) l.lines) (omega (arith, long, all))

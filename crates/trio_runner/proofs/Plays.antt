@@ -3,9 +3,10 @@ use Rattle.std.proofs.Common.{List, [], ◌∷◌, ◌++◌, sym, refl, ap, ◌�
 use Rattle.std.proofs.lemmas.List.{append_assoc, append-nil}
 use Rattle.trio_state.specs.Run.{Move}
 use Rattle.trio_runner.specs.Rounds.{Placed}
-use Rattle.trio_runner.specs.Play.{Players, Plays, TakesTurn}
+use Rattle.trio_runner.specs.Play.{Players, Plays, TakesTurn, has_of, told_to}
 use Rattle.trio_runner.specs.PlayLaws.{PlayedIsTrace, PlaysMore}
 use Rattle.trio_runner.proofs.Moves.{Runs, moves_run, runs_on}
+use Rattle.trio_runner.proofs.Plain.{turn_plain}
 
 pub plays_more : PlaysMore
 plays_more p [] moves middle t more p' plays takes = record {
@@ -31,7 +32,8 @@ plays_run p [] moves p' plays =
 plays_run p (t ∷ turns) moves p' plays =
     subst (λ l. Runs p.state l p'.state) (sym plays.moves_are)
     (runs_on p.state plays.middle.state p'.state plays.first plays.others
-    (moves_run t.lib p.state plays.takes.calls plays.first plays.middle.state plays.takes.happen)
+    (moves_run t.lib p.state plays.takes.calls plays.first plays.middle.state
+    (turn_plain t.lib t.turn (has_of p t.lib) (told_to p t.lib) plays.takes.calls plays.takes.has' plays.takes.told' plays.takes.comes) plays.takes.happen)
     (plays_run plays.middle turns plays.others p' plays.rest))
 
 pub played_is_trace : PlayedIsTrace

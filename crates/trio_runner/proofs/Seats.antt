@@ -11,11 +11,12 @@ use Rattle.trio_lists.proofs.Tabulated.{tabulated-get, tabulated-length}
 use Rattle.trio_lists.proofs.Members.{map-In}
 use Rattle.trio_lease.specs.Shown.{Shown}
 use Rattle.trio_desk.specs.Out.{LibOut, IsClosed, file_numbers}
+use Rattle.trio_nodes.specs.declared.entry.Entry.{Entry}
 use Rattle.trio_layout.specs.Image.{Image}
 use Rattle.trio_state.specs.State.{State}
 use Rattle.trio_state.specs.Kept.{Kept}
 use Rattle.trio_state.specs.Run.{start, Move}
-use Rattle.trio_ctl.specs.Ctl.{AreAsTold, IsLibrary}
+use Rattle.trio_ctl.specs.Ctl.{AreAsTold, Controller, IsLibrary}
 use Rattle.trio_ctl.specs.Desk.{out_of}
 use Rattle.trio_ctl.proofs.DeskSteps.{holds_stand}
 use Rattle.trio_raw.specs.Has.{Has, Held, OnList, nothing, whole_parcel}
@@ -24,7 +25,7 @@ use Rattle.trio_script.specs.declared.ScriptLib.{ScriptLib}
 use Rattle.trio_runner.specs.Rounds.{Turn, Placed, course, courses_from, in_rounds, round_of, turn_list, turns_of}
 use Rattle.trio_runner.specs.Play.{Heard, Players, Plays, TakesTurn, TurnComes, at_start, creds_in, has_of, told_to, untold}
 use Rattle.trio_runner.specs.Seen.{ScriptPlayed}
-use Rattle.trio_runner.specs.inner.Ready.{AreSeated, HasAll, IsReady, Took, TookNext, TookTurn, idle, players}
+use Rattle.trio_runner.specs.inner.Ready.{AreSeated, HasAll, IsReady, Table, Took, TookNext, TookTurn, idle, players, table}
 use Rattle.trio_runner.proofs.EndFree.{start_stands}
 use Rattle.trio_runner.proofs.Held.{held_after, held_stands, library_before, other_after, own_after, same_creds, same_library}
 use Rattle.trio_runner.proofs.Calling.{nothing_on_list}
@@ -74,21 +75,23 @@ plays_append p (t ∷ xs) moves q ys more r one two = record {
   moves_are = ap (λ l. l ++ more) one.moves_are ∙ append_assoc one.first one.others more;
 }
 
-pub took_none : (p : Players) → IsReady p → Took p [] p
-took_none p h = record { moves = []; plays = (refl, refl); ready = h }
+pub took_none : (a : Table) → IsReady a.players → Took a [] a
+took_none a h = record { moves = []; plays = (refl, refl); first = refl; ready = h }
 
-pub took_more : (p : Players) (xs : List Placed) (q : Players) (ys : List Placed) (r : Players) → Took p xs q → Took q ys r → Took p (xs ++ ys) r
-took_more p xs q ys r one two = record {
+pub took_more : (a : Table) (xs : List Placed) (b : Table) (ys : List Placed) (c : Table) → Took a xs b → Took b ys c → Took a (xs ++ ys) c
+took_more a xs b ys c one two = record {
   moves = one.moves ++ two.moves;
-  plays = plays_append p xs one.moves q ys two.moves r one.plays two.plays;
+  plays = plays_append a.players xs one.moves b.players ys two.moves c.players one.plays two.plays;
+  first = two.first ∙ one.first;
   ready = two.ready;
 }
 
-took_one : (p : Players) (t : Placed) (moves : List Move) (p' : Players) → IsReady p → IsLibrary t.lib p.state → (takes : TakesTurn p t moves p') → OnList (out_of p'.state t.lib) takes.has' → Took p (t ∷ []) p'
-took_one p t moves p' h is takes on = record {
+took_one : (a : Table) (t : Placed) (moves : List Move) (b : Table) → IsReady a.players → IsLibrary t.lib a.players.state → (takes : TakesTurn a.players t moves b.players) → b.first ≡ a.first → OnList (out_of b.players.state t.lib) takes.has' → Took a (t ∷ []) b
+took_one a t moves b h is takes first on = record {
   moves = moves;
-  plays = plays_more p [] [] p t moves p' (refl, refl) takes;
-  ready = ready_after p t moves p' h is takes on;
+  plays = plays_more a.players [] [] a.players t moves b.players (refl, refl) takes;
+  first = first;
+  ready = ready_after a.players t moves b.players h is takes on;
 }
 
 -- so many rounds, and one more
@@ -121,70 +124,75 @@ module _ (libs : List ScriptLib) (raws : List Held) (tolds : List Heard) (seated
     seat_place : h.lib.0 - 1 ≡ at
     seat_place = (let n : h.lib.0 ≡ at + 1 = ap (λ (l : LibNo). l.0) seat_lib in omega (arith, n))
 
-    module _ (s : State) where
-      pub seat_has : has_of (players s raws tolds) h.lib ≡ h.has
+    module _ (x : Controller) where
+      pub seat_has : has_of (players x raws tolds) h.lib ≡ h.has
       seat_has =
-          ap (λ n. get_or (map (λ (x : Held). x.has) raws) n nothing) seat_place
-          ∙ get_or-map (λ (x : Held). x.has) raws at h nothing in_raws ∙ ap (λ (x : Held). x.has) (sym there)
+          ap (λ n. get_or (map (λ (y : Held). y.has) raws) n nothing) seat_place
+          ∙ get_or-map (λ (y : Held). y.has) raws at h nothing in_raws ∙ ap (λ (y : Held). y.has) (sym there)
 
-      pub seat_told : told_to (players s raws tolds) h.lib ≡ t
+      pub seat_told : told_to (players x raws tolds) h.lib ≡ t
       seat_told = ap (λ n. get_or tolds n untold) seat_place ∙ get_or_default tolds at untold t in_tolds ∙ sym told
 
-      module _ (ready : IsReady (players s raws tolds)) where
-        pub seat_library : IsLibrary h.lib s
+      module _ (ready : IsReady (players x raws tolds)) where
+        pub seat_library : IsLibrary h.lib x.state
         seat_library =
             let n : h.lib.0 ≡ at + 1 = ap (λ (l : LibNo). l.0) seat_lib in
-            let places : length (map (λ (x : Held). x.has) raws) ≡ length s.creds = ready.held.has_places in
-            let many : length (map (λ (x : Held). x.has) raws) ≡ length raws = length-map raws (λ (x : Held). x.has) in
+            let places : length (map (λ (y : Held). y.has) raws) ≡ length x.state.creds = ready.held.has_places in
+            let many : length (map (λ (y : Held). y.has) raws) ≡ length raws = length-map raws (λ (y : Held). y.has) in
             let lt : at < length raws = in_raws in
             (omega (arith, n), omega (arith, n, places, many, lt))
 
-        pub seat_stands : OnList (out_of s h.lib) h.has
-        seat_stands = subst (OnList (out_of s h.lib)) seat_has (ready.on_list h.lib seat_library)
+        pub seat_stands : OnList (out_of x.state h.lib) h.has
+        seat_stands = subst (OnList (out_of x.state h.lib)) seat_has (ready.on_list h.lib seat_library)
 
-        pub seat_closed : IsClosed (out_of s h.lib) (whole_parcel h.has)
+        pub seat_closed : IsClosed (out_of x.state h.lib) (whole_parcel h.has)
         seat_closed =
-            all_closed s h.lib h.has ready.held.kept ready.held.as_told
-            (subst (HasAll (out_of s h.lib)) seat_has (ready.held.all h.lib seat_library))
+            all_closed x.state h.lib h.has ready.held.kept ready.held.as_told
+            (subst (HasAll (out_of x.state h.lib)) seat_has (ready.held.all h.lib seat_library))
 
         -- one library's turn
-        module _ (s' : State) (h' : Held) (t' : Heard) (same_lib : h'.lib ≡ h.lib) where
-          abbrev pub after : Players
-          after = players s' (set raws at h') (set tolds at t')
+        module _ (x' : Controller) (h' : Held) (t' : Heard) (same_lib : h'.lib ≡ h.lib) where
+          abbrev before : Table
+          before = table x raws tolds
 
-          pub seat_took : (turn : Turn) → TookTurn h.lib turn s h.has t s' h'.has t' → Took (players s raws tolds) (record { lib = h.lib; turn = turn } ∷ []) after
+          abbrev pub after : Table
+          after = table x' (set raws at h') (set tolds at t')
+
+          pub seat_took : (turn : Turn) → TookTurn h.lib turn x h.has t x' h'.has t' → Took before (record { lib = h.lib; turn = turn } ∷ []) after
           seat_took turn took =
-              took_one (players s raws tolds) (record { lib = h.lib; turn = turn }) took.moves after ready seat_library
+              took_one before (record { lib = h.lib; turn = turn }) took.moves after ready seat_library
               (record {
                 calls = took.calls;
                 has' = h'.has;
                 told' = t';
-                comes = subst (λ x. TurnComes h.lib turn x (told_to (players s raws tolds) h.lib) took.calls h'.has t') (sym seat_has)
-                    (subst (λ x. TurnComes h.lib turn h.has x took.calls h'.has t') (sym seat_told) took.comes);
+                comes = subst (λ y. TurnComes h.lib turn y (told_to (players x raws tolds) h.lib) took.calls h'.has t') (sym seat_has)
+                    (subst (λ y. TurnComes h.lib turn h.has y took.calls h'.has t') (sym seat_told) took.comes);
                 happen = took.happen;
-                has_is = map-set (λ (x : Held). x.has) raws at h' ∙ ap (λ n. set (map (λ (x : Held). x.has) raws) n h'.has) (sym seat_place);
+                log_is = took.log_is;
+                has_is = map-set (λ (y : Held). y.has) raws at h' ∙ ap (λ n. set (map (λ (y : Held). y.has) raws) n h'.has) (sym seat_place);
                 told_is = ap (λ n. set tolds n t') (sym seat_place);
-              }) took.on_list
+              }) took.first took.on_list
 
           -- it was passed over
-          seat_same : s' ≡ s → h'.has ≡ h.has → t' ≡ t → after ≡ players s raws tolds
+          seat_same : x' ≡ x → h'.has ≡ h.has → t' ≡ t → after ≡ before
           seat_same a b c =
-              let has : map (λ (x : Held). x.has) (set raws at h') ≡ map (λ (x : Held). x.has) raws =
-              map-set_same (λ (x : Held). x.has) raws at h' h (b ∙ ap (λ (x : Held). x.has) there) in
+              let has : map (λ (y : Held). y.has) (set raws at h') ≡ map (λ (y : Held). y.has) raws =
+              map-set_same (λ (y : Held). y.has) raws at h' h (b ∙ ap (λ (y : Held). y.has) there) in
               let heard : set tolds at t' ≡ tolds = set_is tolds at t' t c told in
-              ap (λ x. record { state = x; has = map (λ (y : Held). y.has) (set raws at h'); told = set tolds at t' }) a
-              ∙ ap (λ x. record { state = s; has = x; told = set tolds at t' }) has
-              ∙ ap (λ x. record { state = s; has = map (λ (y : Held). y.has) raws; told = x }) heard
+              let of : Controller → List Has → List Heard → Table = λ y hs ts. record { first = y.first; players = record { state = y.state; log = y.log; has = hs; told = ts } } in
+              ap (λ y. of y (map (λ (z : Held). z.has) (set raws at h')) (set tolds at t')) a
+              ∙ ap (λ hs. of x hs (set tolds at t')) has
+              ∙ ap (of x (map (λ (z : Held). z.has) raws)) heard
 
-          pub seat_next : (lines : List ScriptLine) (round : ℕ) → TookNext h.lib (slice_get (course h.lib.0 lines) round) s h.has t s' h'.has t' → Took (players s raws tolds) (turn_list (slice_get (course (at + 1) lines) round)) after
+          pub seat_next : (lines : List ScriptLine) (round : ℕ) → TookNext h.lib (slice_get (course h.lib.0 lines) round) x h.has t x' h'.has t' → Took before (turn_list (slice_get (course (at + 1) lines) round)) after
           seat_next lines round next =
-              subst (λ (n : ℕ). Took (players s raws tolds) (turn_list (slice_get (course n lines) round)) after) (ap (λ (l : LibNo). l.0) seat_lib)
+              subst (λ (n : ℕ). Took before (turn_list (slice_get (course n lines) round)) after) (ap (λ (l : LibNo). l.0) seat_lib)
               (by (slice_get (course h.lib.0 lines) round) (course_lib h.lib.0 lines round) next)
             where
-              by : (o : Option Placed) → ((u : Placed) → o ≡ Some u → u.lib.0 ≡ h.lib.0) → TookNext h.lib o s h.has t s' h'.has t' → Took (players s raws tolds) (turn_list o) after
-              by None own n = subst (Took (players s raws tolds) []) (sym (seat_same n.0 n.1 n.2)) (took_none (players s raws tolds) ready)
+              by : (o : Option Placed) → ((u : Placed) → o ≡ Some u → u.lib.0 ≡ h.lib.0) → TookNext h.lib o x h.has t x' h'.has t' → Took before (turn_list o) after
+              by None own n = subst (Took before []) (sym (seat_same n.0 n.1 n.2)) (took_none before ready)
               by (Some u) own n =
-                  subst (λ (l : LibNo). Took (players s raws tolds) (record { lib = l; turn = u.turn } ∷ []) after) (sym (same_library u.lib h.lib (own u refl)))
+                  subst (λ (l : LibNo). Took before (record { lib = l; turn = u.turn } ∷ []) after) (sym (same_library u.lib h.lib (own u refl)))
                   (seat_took u.turn n)
 
           pub seated_after : AreSeated libs (set raws at h') (set tolds at t')
@@ -235,13 +243,15 @@ same_each : {X Y : Type 0} (y : Y) (xs : List X) → tabulated (λ k. y) (length
 same_each y [] = refl
 same_each y (x ∷ xs) = sym (same_ends y (length xs)) ∙ ap (λ l. y ∷ l) (same_each y xs)
 
-pub script_start : (s : State) (libs : List ScriptLib) → s ≡ start s.home (creds_in libs) → players s (tabulated idle (length libs)) (tabulated (λ k. untold) (length libs)) ≡ at_start s.home libs
-script_start s libs started =
+pub script_start : (x : Controller) (libs : List ScriptLib) → x.state ≡ start x.state.home (creds_in libs) → x.log ≡ [] → players x (tabulated idle (length libs)) (tabulated (λ k. untold) (length libs)) ≡ at_start x.state.home libs
+script_start x libs started unlogged =
     let has : map (λ (h : Held). h.has) (tabulated idle (length libs)) ≡ map (λ l. nothing) libs =
     tabulated-map (λ (h : Held). h.has) idle (length libs) ∙ same_each nothing libs in
-    ap (λ x. record { state = x; has = map (λ (h : Held). h.has) (tabulated idle (length libs)); told = tabulated (λ k. untold) (length libs) }) started
-    ∙ ap (λ x. record { state = start s.home (creds_in libs); has = x; told = tabulated (λ k. untold) (length libs) }) has
-    ∙ ap (λ x. record { state = start s.home (creds_in libs); has = map (λ l. nothing) libs; told = x }) (same_each untold libs)
+    let of : State → List Entry → List Has → List Heard → Players = λ s log hs ts. record { state = s; log = log; has = hs; told = ts } in
+    ap (λ s. of s x.log (map (λ (h : Held). h.has) (tabulated idle (length libs))) (tabulated (λ k. untold) (length libs))) started
+    ∙ ap (λ log. of (start x.state.home (creds_in libs)) log (map (λ (h : Held). h.has) (tabulated idle (length libs))) (tabulated (λ k. untold) (length libs))) unlogged
+    ∙ ap (λ hs. of (start x.state.home (creds_in libs)) [] hs (tabulated (λ k. untold) (length libs))) has
+    ∙ ap (of (start x.state.home (creds_in libs)) [] (map (λ l. nothing) libs)) (same_each untold libs)
 
 nothing_each : {X : Type 0} (xs : List X) (n : ℕ) → get_or (map (λ x. nothing) xs) n nothing ≡ nothing
 nothing_each [] n = refl
@@ -255,25 +265,26 @@ script_ready image libs kept = record {
 }
 
 -- so it is once the libraries are made
-pub players_ready : (s : State) (libs : List ScriptLib) (raws : List Held) (tolds : List Heard) → Kept s → s ≡ start s.home (creds_in libs) → raws ≡ tabulated idle (length libs) → tolds ≡ tabulated (λ k. untold) (length libs) → IsReady (players s raws tolds)
-players_ready s libs raws tolds kept started a b =
-    subst (λ l. IsReady (players s l tolds)) (sym a)
-    (subst (λ l. IsReady (players s (tabulated idle (length libs)) l)) (sym b)
-    (subst IsReady (sym (script_start s libs started)) (script_ready s.home libs (subst Kept started kept))))
+pub players_ready : (x : Controller) (libs : List ScriptLib) (raws : List Held) (tolds : List Heard) → Kept x.state → x.state ≡ start x.state.home (creds_in libs) → x.log ≡ [] → raws ≡ tabulated idle (length libs) → tolds ≡ tabulated (λ k. untold) (length libs) → IsReady (players x raws tolds)
+players_ready x libs raws tolds kept started unlogged a b =
+    subst (λ l. IsReady (players x l tolds)) (sym a)
+    (subst (λ l. IsReady (players x (tabulated idle (length libs)) l)) (sym b)
+    (subst IsReady (sym (script_start x libs started unlogged)) (script_ready x.state.home libs (subst Kept started kept))))
 
 pub players_seated : (libs : List ScriptLib) (raws : List Held) (tolds : List Heard) → raws ≡ tabulated idle (length libs) → tolds ≡ tabulated (λ k. untold) (length libs) → AreSeated libs raws tolds
 players_seated libs raws tolds a b = record { numbered = ap (map (λ (h : Held). h.lib)) a; told_count = ap length b ∙ tabulated-length (λ k. untold) (length libs) }
 
-pub script_played : (s : State) (libs : List ScriptLib) (raws : List Held) (tolds : List Heard) (s' : State) (raws' : List Held) (tolds' : List Heard) → s ≡ start s.home (creds_in libs) → raws ≡ tabulated idle (length libs) → tolds ≡ tabulated (λ k. untold) (length libs) → Took (players s raws tolds) (turns_of libs) (players s' raws' tolds') → ScriptPlayed s.home libs tolds' s'
-script_played s libs raws tolds s' raws' tolds' started a b took =
-    let begin : players s raws tolds ≡ at_start s.home libs =
-    ap (λ l. players s l tolds) a ∙ ap (λ l. players s (tabulated idle (length libs)) l) b ∙ script_start s libs started in
+pub script_played : (x : Controller) (libs : List ScriptLib) (raws : List Held) (tolds : List Heard) (x' : Controller) (raws' : List Held) (tolds' : List Heard) → x.state ≡ start x.state.home (creds_in libs) → x.log ≡ [] → raws ≡ tabulated idle (length libs) → tolds ≡ tabulated (λ k. untold) (length libs) → Took (table x raws tolds) (turns_of libs) (table x' raws' tolds') → ScriptPlayed x.state.home libs tolds' x'.state x'.log
+script_played x libs raws tolds x' raws' tolds' started unlogged a b took =
+    let begin : players x raws tolds ≡ at_start x.state.home libs =
+    ap (λ l. players x l tolds) a ∙ ap (λ l. players x (tabulated idle (length libs)) l) b ∙ script_start x libs started unlogged in
     record {
       played = record {
         moves = took.moves;
-        last = players s' raws' tolds';
-        plays = subst (λ p. Plays p (turns_of libs) took.moves (players s' raws' tolds')) begin took.plays;
+        last = players x' raws' tolds';
+        plays = subst (λ p. Plays p (turns_of libs) took.moves (players x' raws' tolds')) begin took.plays;
       };
       told = refl;
       last = refl;
+      log_is = refl;
     }

@@ -31,7 +31,7 @@ use Rattle.trio_report.specs.declared.report.EndAnswer.TheVariants.{Nothing, Acc
 abbrev pub ask_of : Has → RawLine → Option Ask
 ask_of has (GrantLine ino kind) = Some (Grant ino kind)
 ask_of has (AllotLine pages numbers) = Some (Allot pages numbers)
-ask_of has (ModeLine ino mode) = Some (SetMode ino mode)
+ask_of has (ModeLine ino mode) = Some (SetMode ino mode [] None)
 ask_of has (BackLine ino) = option_map GiveBack (read_on has ino)
 ask_of has (ReleaseLine inos pages numbers) =
     if has_all_of has inos pages numbers then Some (Release (parcel_named has inos pages numbers)) else None

@@ -1,13 +1,16 @@
--- The laws of scripts: what they come to is a run of the controller, at whose end nothing is out, and it is determined.
+-- The laws of scripts: what they come to is a run of the controller, at whose end nothing is out, and it is determined; the log is
+-- the entries of that run, which the answers print.
 use Rattle.std.specs.Prelude.{◌≡◌, List, [], ◌∷◌, ◌++◌}
 use Rattle.trio_tables.specs.Out.{NoneOut}
+use Rattle.trio_rights.specs.declared.rights.LibNo.{LibNo}
 use Rattle.trio_layout.specs.Image.{Image, IsFit}
 use Rattle.trio_layout.specs.Verifies.{Verifies}
 use Rattle.trio_state.specs.State.{State, settled}
 use Rattle.trio_state.specs.Run.{start, IsWhole, Trace, Move}
 use Rattle.trio_script.specs.declared.ScriptLib.{ScriptLib}
 use Rattle.trio_runner.specs.Rounds.{Placed}
-use Rattle.trio_runner.specs.Play.{Players, TakesTurn, Plays, Played, creds_in}
+use Rattle.trio_runner.specs.Play.{IsLibraryOf, Players, TakesTurn, Plays, Played, creds_in, told_to}
+use Rattle.trio_runner.specs.Logged.{AreEntries, Prints, entries_by}
 
 -- one turn more, at the end
 abbrev pub PlaysMore : Type 0
@@ -41,3 +44,13 @@ abbrev pub PlayedIsOne : Type 0
 PlayedIsOne =
     (image : Image) (libs : List ScriptLib) (a b : Played image libs)
     → IsFit image.core → Verifies image → IsWhole image → ComeToOne a b
+
+-- the log of a script is the entries of its moves, in their order
+abbrev pub PlayedIsLogged : Type 0
+PlayedIsLogged = (image : Image) (libs : List ScriptLib) (played : Played image libs) → AreEntries played.moves played.last.log
+
+-- and the answers of each library print its entries
+abbrev pub PlayedIsPrinted : Type 0
+PlayedIsPrinted =
+    (image : Image) (libs : List ScriptLib) (played : Played image libs) (lib : LibNo) (l : ScriptLib) → IsLibraryOf libs lib l
+    → Prints l.lines (told_to played.last lib) (entries_by lib played.last.log)

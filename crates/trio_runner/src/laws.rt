@@ -1,6 +1,6 @@
 //! The laws: the body of each function is empty, and its contract is the law.
 
-ghost use Rattle.trio_runner.specs.PlayLaws.{PlayedEndsFree, PlayedIsOne, PlayedIsTrace, PlaysMore};
+ghost use Rattle.trio_runner.specs.PlayLaws.{PlayedEndsFree, PlayedIsLogged, PlayedIsOne, PlayedIsPrinted, PlayedIsTrace, PlaysMore};
 
 /// What turns come to, and one turn more, is what all of them come to.
 pub fn plays_more()
@@ -22,4 +22,12 @@ pub fn ends_free()
 /// by the image at its beginning and the script.
 pub fn played_is_one()
     ensures law { PlayedIsOne }
+{}
+
+/// The log at a script's end is the entries of all that the script asked, in its order; and what each
+/// library was told prints its entries, each once and in their order: the answers of its lines but for
+/// those that make no entry, and that of its end where it had more than read leases to give back.
+pub fn played_is_logged()
+    ensures entries { PlayedIsLogged }
+    ensures printed { PlayedIsPrinted }
 {}

@@ -3,7 +3,8 @@
 //! In a round each library in turn plays its next line, or its end where none is left. A line is
 //! played at the library's desk, whatever desk that is; what it comes to is said in
 //! `specs/Line.antt`, the order of the turns in `specs/Rounds.antt`, and the whole in
-//! `specs/Play.antt`. [`laws`] says that it is a run of the controller, at whose end nothing is out.
+//! `specs/Play.antt`. [`laws`] says that it is a run of the controller, at whose end nothing is out, and
+//! that the controller's log is the entries of that run, which the answers print (`specs/Logged.antt`).
 #![tactic(auto)]
 
 pub mod laws;

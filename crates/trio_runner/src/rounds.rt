@@ -11,7 +11,7 @@ ghost use Rattle.trio_raw.specs.Has.{OnList, whole_parcel};
 ghost use Rattle.trio_runner.specs.Play.{creds_in, untold};
 ghost use Rattle.trio_runner.specs.Rounds.{Ends, Says, course, courses_from, longest, round_of, turns_of};
 ghost use Rattle.trio_runner.specs.Seen.{ScriptPlayed};
-ghost use Rattle.trio_runner.specs.inner.Ready.{AreSeated, IsReady, Took, TookNext, TookTurn, idle, players};
+ghost use Rattle.trio_runner.specs.inner.Ready.{AreSeated, IsReady, Took, TookNext, TookTurn, idle, players, table};
 
 use crate::player::{play_end, play_line};
 use std::alloc::Global;
@@ -83,14 +83,17 @@ impl LibTold {
 
 /// Plays a script on a controller that has just started, with the script's credentials: in each round
 /// each library in turn plays its next line, or its end where none is left, until all have ended.
-/// Returns what each library was told, in the order of the libraries.
+/// Returns what each library was told, in the order of the libraries. The controller's log is then
+/// the entries of all that was asked, in its order.
 ///
 /// On want of memory what the libraries had stays out for good.
 pub fn play(alloc: Global, ctl: &mut Ctl, libs: &[ScriptLib]) -> Result<Vec<LibTold>, NoMemory>
     requires kept { Kept ctl.old.state }
     requires started { ctl.old.state ≡ start ctl.old.state.home (creds_in libs.now) }
+    requires unlogged { ctl.old.log ≡ [] }
     requires few { length libs.now ≤ 16 }
-    ensures { IfOk result (λ tolds. ScriptPlayed ctl.old.state.home libs.now tolds.items ctl.new.state) }
+    ensures script { IfOk result (λ tolds. ScriptPlayed ctl.old.state.home libs.now tolds.items ctl.new.state ctl.new.log) }
+    ensures first { OnOk result (ctl.new.first ≡ ctl.old.first) }
 {
     let mut tolds = none_told(alloc, libs.len())?;
     let mut raws = idle_libraries(alloc, libs.len())?;
@@ -143,9 +146,9 @@ fn play_rounds(
     raws: &mut Vec<Raw>,
     tolds: &mut Vec<LibTold>,
 ) -> Result<(), NoMemory>
-    requires ready { IsReady (players ctl.old.state raws.old.items tolds.old.items) }
+    requires ready { IsReady (players ctl.old raws.old.items tolds.old.items) }
     requires seated { AreSeated libs.now raws.old.items tolds.old.items }
-    ensures { OnOk result (Took (players ctl.old.state raws.old.items tolds.old.items) (turns_of libs.now) (players ctl.new.state raws.new.items tolds.new.items)) }
+    ensures { OnOk result (Took (table ctl.old raws.old.items tolds.old.items) (turns_of libs.now) (table ctl.new raws.new.items tolds.new.items)) }
 {
     for round in 0..round_count(libs) {
         play_round(alloc, ctl, libs, round, raws, tolds)?;
@@ -173,9 +176,9 @@ fn play_round(
     raws: &mut Vec<Raw>,
     tolds: &mut Vec<LibTold>,
 ) -> Result<(), NoMemory>
-    requires ready { IsReady (players ctl.old.state raws.old.items tolds.old.items) }
+    requires ready { IsReady (players ctl.old raws.old.items tolds.old.items) }
     requires seated { AreSeated libs.now raws.old.items tolds.old.items }
-    ensures took { OnOk result (Took (players ctl.old.state raws.old.items tolds.old.items) (round_of round (courses_from 1 libs.now)) (players ctl.new.state raws.new.items tolds.new.items)) }
+    ensures took { OnOk result (Took (table ctl.old raws.old.items tolds.old.items) (round_of round (courses_from 1 libs.now)) (table ctl.new raws.new.items tolds.new.items)) }
     ensures seated { OnOk result (AreSeated libs.now raws.new.items tolds.new.items) }
 {
     for at in 0..libs.len() {
@@ -198,7 +201,7 @@ fn play_turn(
     requires library { IsLibrary raw.old.lib ctl.old.state }
     requires stands { OnList (out_of ctl.old.state raw.old.lib) raw.old.has }
     requires closed { IsClosed (out_of ctl.old.state raw.old.lib) (whole_parcel raw.old.has) }
-    ensures turn { OnOk result (TookNext raw.old.lib (slice_get (course raw.old.lib.0 lines.now) round) ctl.old.state raw.old.has told.old ctl.new.state raw.new.has told.new) }
+    ensures turn { OnOk result (TookNext raw.old.lib (slice_get (course raw.old.lib.0 lines.now) round) ctl.old raw.old.has told.old ctl.new raw.new.has told.new) }
     ensures lib { raw.new.lib ≡ raw.old.lib }
 {
     match lines.get(round) {
@@ -223,7 +226,7 @@ fn take_line(
 ) -> Result<(), NoMemory>
     requires library { IsLibrary raw.old.lib ctl.old.state }
     requires stands { OnList (out_of ctl.old.state raw.old.lib) raw.old.has }
-    ensures turn { OnOk result (TookTurn raw.old.lib (Says line.now) ctl.old.state raw.old.has told.old ctl.new.state raw.new.has told.new) }
+    ensures turn { OnOk result (TookTurn raw.old.lib (Says line.now) ctl.old raw.old.has told.old ctl.new raw.new.has told.new) }
     ensures lib { raw.new.lib ≡ raw.old.lib }
 {
     let mut desk = PlainDesk::of(ctl, raw.lib());
@@ -236,7 +239,7 @@ fn take_end(alloc: Global, ctl: &mut Ctl, raw: &mut Raw, told: &mut LibTold) -> 
     requires library { IsLibrary raw.old.lib ctl.old.state }
     requires stands { OnList (out_of ctl.old.state raw.old.lib) raw.old.has }
     requires closed { IsClosed (out_of ctl.old.state raw.old.lib) (whole_parcel raw.old.has) }
-    ensures turn { OnOk result (TookTurn raw.old.lib Ends ctl.old.state raw.old.has told.old ctl.new.state raw.new.has told.new) }
+    ensures turn { OnOk result (TookTurn raw.old.lib Ends ctl.old raw.old.has told.old ctl.new raw.new.has told.new) }
     ensures lib { raw.new.lib ≡ raw.old.lib }
 {
     let lib = raw.lib();

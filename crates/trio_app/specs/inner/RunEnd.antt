@@ -6,13 +6,14 @@ use Rattle.trio_survey.specs.Stored.{StoresImage, image_in}
 use Rattle.trio_ctl.specs.Ctl.{superblock_for}
 use Rattle.trio_script.specs.declared.ScriptLib.{ScriptLib}
 use Rattle.trio_runner.specs.Play.{Played, creds_in}
-use Rattle.trio_app.specs.Headline.{Headline}
+use Rattle.trio_app.specs.Headline.{Headline, StoredLog}
 use Rattle.trio_app.specs.Report.{report_text}
 
--- this script was played on an image of these pages, with this report, and these pages are of the image that is settled at the
--- end
+-- this script was played on an image of these pages, with this report and a log, and these pages are of the image that is settled
+-- at the end
 pub record IsRunEnd (s : Superblock) (pages : List (Option (List ℕ))) (libs : List ScriptLib) (report : List ℕ) (last : List (Option (List ℕ))) : Type 0 where
   pub played : Played (image_in s pages) libs
   pub headline : Headline (image_in s pages) (creds_in libs) played.moves
+  pub log : StoredLog (image_in s pages) libs played
   pub put : report ≡ report_text libs played.last.told (settled played.last.state)
   pub stores : StoresImage (superblock_for (settled played.last.state).core) (settled played.last.state) last

@@ -1,20 +1,20 @@
 -- What holds between the turns of a script. Cited by private functions alone.
-use Rattle.std.specs.Prelude.{◌≡◌, ℕ, ◌+◌, List, length, map, MatchOption, Option}
+use Rattle.std.specs.Prelude.{◌≡◌, ℕ, ◌+◌, List, ◌++◌, length, map, MatchOption, Option}
 use Rattle.trio_rights.specs.declared.rights.LibNo.{LibNo}
 use Rattle.trio_lists.specs.Lists.{In, tabulated}
 use Rattle.trio_lease.specs.Shown.{Shown}
 use Rattle.trio_lease.specs.declared.parts.HoldParts.{HoldParts}
 use Rattle.trio_desk.specs.Out.{LibOut, file_numbers, hold_numbers, page_numbers, ino_numbers}
 use Rattle.trio_desk.specs.Calls.{Call}
-use Rattle.trio_state.specs.State.{State}
+use Rattle.trio_layout.specs.Image.{Image}
 use Rattle.trio_state.specs.Kept.{Kept}
 use Rattle.trio_state.specs.Run.{Move}
-use Rattle.trio_ctl.specs.Ctl.{AreAsTold, IsLibrary}
+use Rattle.trio_ctl.specs.Ctl.{AreAsTold, Controller, IsLibrary}
 use Rattle.trio_ctl.specs.Desk.{out_of}
 use Rattle.trio_raw.specs.Has.{Has, Held, OnList, nothing, read_numbers}
 use Rattle.trio_script.specs.declared.ScriptLib.{ScriptLib}
 use Rattle.trio_runner.specs.Rounds.{Placed, Turn}
-use Rattle.trio_runner.specs.Play.{AreMoves, Heard, Players, Plays, TurnComes, has_of}
+use Rattle.trio_runner.specs.Play.{AreMoves, Heard, Players, Plays, TurnComes, entries_of, has_of}
 
 -- the library has all that is out to it
 pub record HasAll (out : LibOut) (has : Has) : Type 0 where
@@ -38,8 +38,17 @@ pub record IsReady (p : Players) : Type 0 where
   pub on_list : (lib : LibNo) → IsLibrary lib p.state → OnList (out_of p.state lib) (has_of p lib)
 
 -- how it stands with the controller and these libraries
-abbrev pub players : State → List Held → List Heard → Players
-players s raws tolds = record { state = s; has = map (λ h. h.has) raws; told = tolds }
+abbrev pub players : Controller → List Held → List Heard → Players
+players ctl raws tolds = record { state = ctl.state; log = ctl.log; has = map (λ h. h.has) raws; told = tolds }
+
+-- how it stands, and the image that the controller began from
+pub record Table : Type 0 where
+  pub first : Image
+  pub players : Players
+
+-- the same of the controller and these libraries
+abbrev pub table : Controller → List Held → List Heard → Table
+table ctl raws tolds = record { first = ctl.first; players = players ctl raws tolds }
 
 -- the library at place k of a script, from 0 on, with nothing yet
 abbrev pub idle : ℕ → Held
@@ -51,20 +60,23 @@ pub record AreSeated (libs : List ScriptLib) (raws : List Held) (tolds : List He
   pub told_count : length tolds ≡ length libs
 
 -- these turns were taken
-pub record Took (p : Players) (turns : List Placed) (p' : Players) : Type 0 where
+pub record Took (a : Table) (turns : List Placed) (b : Table) : Type 0 where
   pub moves : List Move
-  pub plays : Plays p turns moves p'
-  pub ready : IsReady p'
+  pub plays : Plays a.players turns moves b.players
+  pub first : b.first ≡ a.first
+  pub ready : IsReady b.players
 
 -- a library took a turn, and what it has then is out to it
-pub record TookTurn (lib : LibNo) (turn : Turn) (s : State) (has : Has) (told : Heard) (s' : State) (has' : Has) (told' : Heard) : Type 0 where
+pub record TookTurn (lib : LibNo) (turn : Turn) (ctl : Controller) (has : Has) (told : Heard) (ctl' : Controller) (has' : Has) (told' : Heard) : Type 0 where
   pub calls : List Call
   pub moves : List Move
   pub comes : TurnComes lib turn has told calls has' told'
-  pub happen : AreMoves lib s calls moves s'
-  pub on_list : OnList (out_of s' lib) has'
+  pub happen : AreMoves lib ctl.state calls moves ctl'.state
+  pub log_is : ctl'.log ≡ ctl.log ++ entries_of lib calls moves
+  pub first : ctl'.first ≡ ctl.first
+  pub on_list : OnList (out_of ctl'.state lib) has'
 
 -- it did so, where a turn is left; else nothing changed
-abbrev pub TookNext : LibNo → Option Placed → State → Has → Heard → State → Has → Heard → Type 0
-TookNext lib next s has told s' has' told' =
-    MatchOption next ((s' ≡ s) × (has' ≡ has) × (told' ≡ told)) (λ t. TookTurn lib t.turn s has told s' has' told')
+abbrev pub TookNext : LibNo → Option Placed → Controller → Has → Heard → Controller → Has → Heard → Type 0
+TookNext lib next ctl has told ctl' has' told' =
+    MatchOption next ((ctl' ≡ ctl) × (has' ≡ has) × (told' ≡ told)) (λ t. TookTurn lib t.turn ctl has told ctl' has' told')

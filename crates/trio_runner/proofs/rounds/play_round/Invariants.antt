@@ -1,9 +1,9 @@
 use Rattle.std.proofs.Common.{take}
 use Rattle.trio_runner.specs.Rounds.{courses_from, round_of}
-use Rattle.trio_runner.specs.inner.Ready.{AreSeated, Took, players}
+use Rattle.trio_runner.specs.inner.Ready.{AreSeated, Took, table}
 use Rattle.trio_runner.proofs.rounds.play_round.Given as goal
 
 abbrev pub invariant-loop-at : goal.invariant-loop-at
 invariant-loop-at l =
-    Took (players l.fn.ctl.state l.fn.raws.items l.fn.tolds.items) (round_of l.round (take l.at (courses_from 1 l.libs))) (players l.ctl.state l.raws.items l.tolds.items)
+    Took (table l.fn.ctl l.fn.raws.items l.fn.tolds.items) (round_of l.round (take l.at (courses_from 1 l.libs))) (table l.ctl l.raws.items l.tolds.items)
     × AreSeated l.libs l.raws.items l.tolds.items

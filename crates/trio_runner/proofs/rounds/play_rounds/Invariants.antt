@@ -1,8 +1,8 @@
 use Rattle.trio_runner.specs.Rounds.{courses_from, in_rounds}
-use Rattle.trio_runner.specs.inner.Ready.{AreSeated, Took, players}
+use Rattle.trio_runner.specs.inner.Ready.{AreSeated, Took, table}
 use Rattle.trio_runner.proofs.rounds.play_rounds.Given as goal
 
 abbrev pub invariant-loop-round : goal.invariant-loop-round
 invariant-loop-round l =
-    Took (players l.fn.ctl.state l.fn.raws.items l.fn.tolds.items) (in_rounds l.round (courses_from 1 l.libs)) (players l.ctl.state l.raws.items l.tolds.items)
+    Took (table l.fn.ctl l.fn.raws.items l.fn.tolds.items) (in_rounds l.round (courses_from 1 l.libs)) (table l.ctl l.raws.items l.tolds.items)
     × AreSeated l.libs l.raws.items l.tolds.items

@@ -19,9 +19,9 @@ pub returns-clause-turn : goal.returns-clause-turn
 returns-clause-turn c =
     let desk = c.of-desk in
     let called = c.in_ok-answer.ensures in
-    let name = end_name _ (λ d. d.ctl.now.state) (λ d. d.ctl.ghost_name) (λ d. d.lib) (λ d a t d' h. (h.0, h.1, h.2)) desk.result c.play_end.new.desk _ _ called in
+    let name = end_name _ (λ d. d.ctl.now) (λ d. d.ctl.ghost_name) (λ d. d.lib) (λ d a t d' h. h) desk.result c.play_end.new.desk _ _ called in
     let after = c.ctl-1.given.1 (sym desk.ensures.same_reference ∙ sym name) in
-    subst (λ (h : Held). TookTurn c.args.raw.now.lib Ends c.args.ctl.now.state h.has c.args.told.now c.ctl-1.given.0.state c.replace-ending.new.dest.has c.hears_end.new.self) c.replace-ending.ensures.value
-    (end_took _ (λ d. d.ctl.now.state) (λ d. d.ctl.ghost_name) (λ d. d.lib) (λ d a t d' h. (h.0, h.1, h.2)) desk.result c.play_end.new.desk c.args.raw.now.lib c.args.ctl.now.state _ c.replace-ending.result.has c.in_ok-answer.answer _ _ _
-    (desk.ensures.lib ∙ c.lib-lib.ensures) (ap (λ (x : Controller). x.state) desk.ensures.ctl) (ap (λ (x : Controller). x.state) after)
+    subst (λ (h : Held). TookTurn c.args.raw.now.lib Ends c.args.ctl.now h.has c.args.told.now c.ctl-1.given.0 c.replace-ending.new.dest.has c.hears_end.new.self) c.replace-ending.ensures.value
+    (end_took _ (λ d. d.ctl.now) (λ d. d.ctl.ghost_name) (λ d. d.lib) (λ d a t d' h. h) desk.result c.play_end.new.desk c.args.raw.now.lib c.args.ctl.now _ c.replace-ending.result.has c.in_ok-answer.answer _ _ _
+    (desk.ensures.lib ∙ c.lib-lib.ensures) desk.ensures.ctl after
     (ap (λ (h : Held). h.has) (c.replace-ending.ensures.after ∙ c.new.ensures)) called c.hears_end.ensures)

@@ -1,0 +1,81 @@
+-- What the lines of a library ask gives no lease back before it.
+use Rattle.std.proofs.Common.{◌≡◌, Bool, true, false, cond, List, [], ◌∷◌, ◌++◌, Option, Some, None, sym, refl, ap, ◌∙◌, subst, inl, inr}
+use Rattle.std.specs.Prelude.{MatchBool, MatchOption}
+use Rattle.std.specs.Option.{option_map}
+use Rattle.trio_lists.specs.Lists.{In}
+use Rattle.trio_lists.proofs.Members.{In-cases}
+use Rattle.trio_lease.specs.Shown.{Shown}
+use Rattle.trio_rights.specs.declared.rights.LibNo.{LibNo}
+use Rattle.trio_desk.specs.Call.{Ask, Told, Allot, Done, GiveBack, Grant, Judged, Release, SetMode}
+use Rattle.trio_desk.specs.Calls.{Call}
+use Rattle.trio_state.specs.State.{State}
+use Rattle.trio_state.specs.Given.{GivenEvent}
+use Rattle.trio_ctl.specs.Backs.{all_back}
+use Rattle.trio_ctl.specs.Desk.{Happens, event_of, handed_back}
+use Rattle.trio_ctl.proofs.DeskSteps.{IsPlain}
+use Rattle.trio_raw.specs.Has.{Has, has_all_of, has_nothing, parcel_named, read_on}
+use Rattle.trio_raw.specs.Asked.{back_calls, release_call}
+use Rattle.trio_script.specs.declared.line.RawLine.{RawLine}
+use Rattle.trio_script.specs.declared.line.RawLine.TheVariants.{Grant as GrantLine, Allot as AllotLine, Back as BackLine, Poke, Peek, Release as ReleaseLine, Mode as ModeLine}
+use Rattle.trio_report.specs.declared.answer.LineAnswer.{LineAnswer}
+use Rattle.trio_report.specs.declared.report.EndAnswer.{EndAnswer}
+use Rattle.trio_runner.specs.Line.{Alone, Asks, LineComes, EndsAlone, EndsAll, EndComes, ask_of}
+use Rattle.trio_runner.specs.Play.{Heard, TurnComes}
+use Rattle.trio_runner.specs.Rounds.{Turn, Says, Ends}
+
+-- each of these calls is so
+abbrev pub ArePlain : List Call → Type 0
+ArePlain calls = (c : Call) → In c calls → IsPlain c.ask
+
+-- what such a call hands in was given
+pub plain_given : (s : State) (lib : LibNo) (ask : Ask) (told : Told) (s' : State) → IsPlain ask → Happens s lib ask told s' → GivenEvent s (event_of lib ask)
+plain_given s lib ask told s' p h = subst (λ (l : List Shown). GivenEvent (all_back s lib l) (event_of lib ask)) p h.given
+
+pub ask_plain : (has : Has) (said : RawLine) (ask : Ask) → ask_of has said ≡ Some ask → IsPlain ask
+ask_plain has (GrantLine ino kind) ask e = let is : Grant ino kind ≡ ask = cc e in subst IsPlain is refl
+ask_plain has (AllotLine pages numbers) ask e = let is : Allot pages numbers ≡ ask = cc e in subst IsPlain is refl
+ask_plain has (ModeLine ino mode) ask e = let is : SetMode ino mode [] None ≡ ask = cc e in subst IsPlain is refl
+ask_plain has (BackLine ino) ask e = by (read_on has ino) e
+  where
+    by : (o : Option Shown) → option_map GiveBack o ≡ Some ask → IsPlain ask
+    by None e = absurd (cc e)
+    by (Some lease) e = let is : GiveBack lease ≡ ask = cc e in subst IsPlain is refl
+ask_plain has (ReleaseLine inos pages numbers) ask e = by (has_all_of has inos pages numbers) e
+  where
+    by : (b : Bool) → cond b (Some (Release (parcel_named has inos pages numbers))) None ≡ Some ask → IsPlain ask
+    by false e = absurd (cc e)
+    by true e = let is : Release (parcel_named has inos pages numbers) ≡ ask = cc e in subst IsPlain is refl
+ask_plain has (Poke at offset bytes) ask e = absurd (cc e)
+ask_plain has (Peek at offset len) ask e = absurd (cc e)
+
+pub backs_plain : (rs : List Shown) → ArePlain (back_calls rs)
+backs_plain [] c i = absurd i
+backs_plain (r ∷ rs) c i =
+    elim (In-cases c (back_calls rs) (record { ask = GiveBack r; told = Done } ∷ []) i) [
+      | inl j ↦ backs_plain rs c j
+      | inr j ↦ elim j [ inl e ↦ ap (λ (x : Call). handed_back x.ask) e | inr none ↦ absurd none ]
+    ]
+
+line_plain : (lib : LibNo) (has : Has) (said : RawLine) (calls : List Call) (told : LineAnswer) (has' : Has) → LineComes lib has said calls told has' → ArePlain calls
+line_plain lib has said calls told has' comes = by (ask_of has said) refl comes
+  where
+    by : (o : Option Ask) → ask_of has said ≡ o → MatchOption o (Alone has said calls told has') (λ ask. Asks lib has said ask calls told has') → ArePlain calls
+    by None e a c i = absurd (subst (λ (l : List Call). In c l) a.calls_are i)
+    by (Some ask) e a c i =
+        elim (subst (λ (l : List Call). In c l) a.calls_are i) [ inl same ↦ ap (λ (x : Call). handed_back x.ask) same ∙ ask_plain has said ask e | inr none ↦ absurd none ]
+
+end_plain : (has : Has) (calls : List Call) (end : EndAnswer) → EndComes has calls end → ArePlain calls
+end_plain has calls end comes = by (has_nothing has) comes
+  where
+    by : (b : Bool) → MatchBool b (EndsAlone has calls end) (EndsAll has calls end) → ArePlain calls
+    by true a c i = backs_plain has.reads c (subst (λ (l : List Call). In c l) a.calls_are i)
+    by false a c i =
+        elim (In-cases c (back_calls has.reads) (release_call has (Judged a.answer) ∷ []) (subst (λ (l : List Call). In c l) a.calls_are i)) [
+          | inl j ↦ backs_plain has.reads c j
+          | inr j ↦ elim j [ inl e ↦ ap (λ (x : Call). handed_back x.ask) e | inr none ↦ absurd none ]
+        ]
+
+-- the calls of a turn
+pub turn_plain : (lib : LibNo) (turn : Turn) (has : Has) (told : Heard) (calls : List Call) (has' : Has) (told' : Heard) → TurnComes lib turn has told calls has' told' → ArePlain calls
+turn_plain lib (Says line) has told calls has' told' comes = line_plain lib has line.line calls comes.0 has' comes.1
+turn_plain lib Ends has told calls has' told' comes = end_plain has calls comes.0 comes.1
