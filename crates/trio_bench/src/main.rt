@@ -1,5 +1,6 @@
 //! What a turn costs without others in it, what the judge takes for bundles of many pages, what it
-//! costs to check an image, what to tell a tree, and what to keep the index of a directory.
+//! costs to check an image, what to tell a tree, what to keep the index of a directory, and what memory
+//! a release takes.
 //!
 //! - `trio_bench turn COUNT` takes a value out of its cell and gives it back COUNT times, and locks a
 //!   `Mutex` of std's with the same value COUNT times, all on one thread, five times over. It prints
@@ -15,6 +16,8 @@
 //! - `trio_bench names` adds 8,000 names to the index of a directory, finds each, renames it and
 //!   removes it, twenty times over, and prints how often the time of plain names goes into that of
 //!   names which are chosen to be slow.
+//! - `trio_bench log` releases the largest bundle of an image, and prints the peak of memory beside the
+//!   size of the image.
 //!
 //! It is measured and not proved; the figures of a run are in `docs/GATE.md`.
 #![tactic(auto)]
@@ -25,11 +28,13 @@ ghost use Rattle.trio_turn.specs.Seats.{cell, cell_of, has, IsSameSeat};
 mod bundles;
 mod checking;
 mod judging;
+mod logging;
 mod names;
 mod trees;
 
 use crate::checking::{measure_check, write_workload};
 use crate::judging::measure_judge;
+use crate::logging::measure_log;
 use crate::names::measure_names;
 use crate::trees::measure_tree;
 use std::alloc::Global;
@@ -125,6 +130,7 @@ enum Asked {
     Judge,
     Tree,
     Names,
+    Log,
     /// An image of this name is to be written.
     Workload(String),
     /// The image of this name.
@@ -146,6 +152,9 @@ fn read_words<R: Env + AllocGlobal>(rt: &R) -> io::Result<Option<Asked>> {
     }
     if what.as_str() == "names" {
         return Ok(Some(Asked::Names));
+    }
+    if what.as_str() == "log" {
+        return Ok(Some(Asked::Log));
     }
     let Some(count) = words.next() else {
         return Ok(None);
@@ -182,11 +191,12 @@ fn main(rt: HostRuntime) -> io::Result<()> {
         Some(Asked::Judge) => measure_judge(&rt),
         Some(Asked::Tree) => measure_tree(&rt),
         Some(Asked::Names) => measure_names(&rt),
+        Some(Asked::Log) => measure_log(&rt),
         Some(Asked::Workload(name)) => write_workload(&rt, &name),
         Some(Asked::Check(name)) => measure_check(&rt, &name),
         None => {
             println!(rt;
-                "usage: trio_bench turn COUNT\n       trio_bench judge\n       trio_bench workload IMAGE\n       trio_bench check IMAGE\n       trio_bench tree\n       trio_bench names"
+                "usage: trio_bench turn COUNT\n       trio_bench judge\n       trio_bench workload IMAGE\n       trio_bench check IMAGE\n       trio_bench tree\n       trio_bench names\n       trio_bench log"
             )
         }
     }

@@ -1,0 +1,289 @@
+//! What the log says of scripts, what it replays to, and what an image is told meanwhile.
+
+ghost use Rattle.std.specs.Prelude.{◌≡◌, IfSome};
+ghost use Rattle.trio_runner.specs.Play.{creds_in};
+
+use crate::images::{Start, image_bytes, image_of};
+use crate::lines::put_log;
+use std::alloc::Global;
+use trio_ctl::Ctl;
+use trio_log::replay;
+use trio_nodes::Nodes;
+use trio_rights::{Creds, Kind, Mode};
+use trio_runner::play;
+use trio_script::{ScriptLib, read_script};
+
+/// The credentials of a script's libraries, in their order.
+fn script_creds(alloc: Global, libs: &[ScriptLib]) -> Option<Vec<Creds>>
+    ensures { IfSome result (λ creds. creds.items ≡ creds_in libs.now) }
+{
+    let mut creds = Vec::new(alloc);
+    for lib in libs {
+        creds.push(lib.creds).ok()?;
+    }
+    Some(creds)
+}
+
+/// The controller after a script on an image.
+fn played(alloc: Global, start: Start, script: &str) -> Option<Ctl> {
+    let Ok(libs) = read_script(alloc, script.as_bytes()) else {
+        return None;
+    };
+    let image = image_of(alloc, &image_bytes(alloc, start).ok()?)?;
+    let creds = script_creds(alloc, &libs)?;
+    let Ok(mut ctl) = Ctl::start(alloc, image, creds) else {
+        return None;
+    };
+    let _tolds = play(alloc, &mut ctl, &libs).ok()?;
+    Some(ctl)
+}
+
+/// The log of a script on an image, in lines.
+fn log_text(alloc: Global, start: Start, script: &str) -> Option<String> {
+    let ctl = played(alloc, start, script)?;
+    let mut text = String::new(alloc);
+    put_log(alloc, &mut text, ctl.log().entries()).ok()?;
+    Some(text)
+}
+
+/// The two crossed moves: `/a/p` below `/b/q/q1`, and `/b/q` below `/a/p/p1`.
+const CROSSED_MOVES: &str =
+    "lib 1 raw 0 0\ngrant write 2\ngrant hold 4\ngrant write 7\nallot 2 0\npoke block 2 0 0 00000000\npoke body 7 12 0d0000000010000000000000\npoke fresh 13 0 0e00000000000000\npoke fresh 14 0 040000000201000070\npoke fresh 14 192 ed0100000000000000000000070000000010000000000000\nrelease 2,4,7 13,14 -\nlib 2 raw 0 0\ngrant write 3\ngrant hold 6\ngrant write 5\nallot 2 0\npoke block 3 0 0 00000000\npoke body 5 12 0f0000000010000000000000\npoke fresh 15 0 1000000000000000\npoke fresh 16 0 060000000201000071\npoke fresh 16 192 ed01000000000000000000000b0000000010000000000000\nrelease 3,5,6 15,16 -\n";
+
+/// A script on an image, and the log's lines.
+type Row = (Start, &'static str, &'static str);
+
+const ROWS: &[Row] = &[
+    // a byte of a file
+    (
+        Start::OneFile,
+        "lib 1 raw 0 0\ngrant write 3\npoke block 3 0 0 4a\nrelease 3 - -\n",
+        "1 grant write 3 granted 0\n\
+         1 raw accepted\n \
+         file 3 given 2 f regular 644 0 0 5\n \
+         block 3 0 4a656c6c6f of 4096\n \
+         writes 3: 7 8* holds - pages - numbers -\n",
+    ),
+    // and a size that its one block doesn't have: the file stands as before, but for its bytes
+    (
+        Start::OneFile,
+        "lib 1 raw 0 0\ngrant write 3\npoke block 3 0 0 4a\npoke body 3 16 0110000000000000\nrelease 3 - -\n",
+        "1 grant write 3 granted 0\n\
+         1 raw refused I1\n \
+         file 3 given 2 f regular 644 0 0 5\n \
+         block 3 0 4a656c6c6f of 4096\n \
+         writes 3: 7 8* holds - pages - numbers -\n",
+    ),
+    // a page that isn't handed in, and that is: then the size counts more of the block that stays
+    (
+        Start::OneFile,
+        "lib 1 raw 0 0\nallot 1 0\ngrant write 3\npoke body 3 16 0110000000000000\npoke index 3 0 8 0900000000000000\nrelease 3 - -\ngrant write 3\npoke body 3 16 0110000000000000\npoke index 3 0 8 0900000000000000\nrelease 3 9 -\n",
+        "1 allot 1 0 given 9 -\n\
+         1 grant write 3 granted 0\n\
+         1 raw refused I2\n \
+         file 3 given 2 f regular 644 0 0 5\n \
+         writes 3: 7 8 holds - pages - numbers -\n\
+         1 grant write 3 granted 0\n\
+         1 raw accepted\n \
+         file 3 given 2 f regular 644 0 0 4097\n \
+         block 3 0 68656c6c6f of 4096\n \
+         block 3 1  of 4096\n \
+         writes 3: 7 8 holds - pages 9 numbers -\n",
+    ),
+    // a new file of a name that stands there
+    (
+        Start::OneFile,
+        "lib 1 raw 0 0\nallot 0 1\ngrant write 2\npoke block 2 0 256 040000000101000066\npoke block 2 0 448 a401\nrelease 2 - 4\n",
+        "1 allot 0 1 given - 4\n\
+         1 grant write 2 granted 0\n\
+         1 raw refused I1\n \
+         file 2 given 1 a directory 755 0 0 4096\n \
+         writes 2: 5 6* holds - pages - numbers 4\n",
+    ),
+    // and of another
+    (
+        Start::OneFile,
+        "lib 1 raw 0 0\nallot 0 1\ngrant write 2\npoke block 2 0 256 04000000010200006666\npoke block 2 0 448 a401\nrelease 2 - 4\n",
+        "1 allot 0 1 given - 4\n\
+         1 grant write 2 granted 0\n\
+         1 raw accepted\n \
+         file 2 given 1 a directory 755 0 0 4096\n \
+         file 4 2 ff regular 644 0 0 0\n \
+         writes 2: 5 6* holds - pages - numbers 4\n",
+    ),
+    // a file of another directory
+    (
+        Start::TwoDirectories,
+        "lib 1 raw 0 0\nallot 2 0\ngrant write 4\npoke body 4 12 090000000010000000000000\npoke fresh 9 0 0a00000000000000\npoke fresh 10 0 030000000101000067\npoke fresh 10 192 a401\nrelease 4 9,10 -\n",
+        "1 allot 2 0 given 9,10 -\n\
+         1 grant write 4 granted 0\n\
+         1 raw refused I2\n \
+         file 4 given 1 b directory 755 0 0 0\n \
+         writes 4: - - holds - pages 9,10 numbers -\n",
+    ),
+    // a new file of another owner; what was allotted again is handed in at the end
+    (
+        Start::OpenDirectory,
+        "lib 1 raw 5 5\nallot 2 1\ngrant write 2\npoke body 2 12 050000000010000000000000\npoke fresh 5 0 0600000000000000\npoke fresh 6 0 030000000101000078\npoke fresh 6 192 a401\nrelease 2 5,6 3\nallot 2 0\npeek fresh 5 0 8\n",
+        "1 allot 2 1 given 5,6 3\n\
+         1 grant write 2 granted 0\n\
+         1 raw refused I4\n \
+         file 2 given 1 t directory 777 0 0 0\n \
+         writes 2: - - holds - pages 5,6 numbers 3\n\
+         1 allot 2 0 given 5,6 -\n\
+         1 raw accepted\n \
+         writes - holds - pages 5,6 numbers -\n",
+    ),
+    // two libraries by turns, of which the first moves, and the second is refused for it
+    (
+        Start::SixDirectories,
+        CROSSED_MOVES,
+        "1 grant write 2 granted 0\n\
+         2 grant write 3 granted 0\n\
+         1 grant hold 4 granted 1\n\
+         2 grant hold 6 granted 1\n\
+         1 grant write 7 granted 0\n\
+         2 grant write 5 granted 0\n\
+         1 allot 2 0 given 13,14 -\n\
+         2 allot 2 0 given 15,16 -\n\
+         1 raw accepted\n \
+         file 2 given 1 a directory 755 0 0 4096\n \
+         file 4 given 7 p directory 755 0 0 4096\n \
+         file 7 given 6 q1 directory 755 0 0 4096\n \
+         writes 2: 5 6* 7: - - holds 4 pages 13,14 numbers -\n\
+         2 raw refused I3\n \
+         file 3 given 1 b directory 755 0 0 4096\n \
+         file 5 given 4 p1 directory 755 0 0 0\n \
+         file 6 given 3 q directory 755 0 0 4096\n \
+         writes 3: 9 10* 5: - - holds 6 pages 15,16 numbers -\n",
+    ),
+    // a directory's writer writes over the size of its child, before that grows and after
+    (
+        Start::OneFile,
+        "lib 1 raw 0 0\ngrant write 2\npoke block 2 0 208 ffffffffffffffff\nrelease 2 - -\nlib 2 raw 0 0\ngrant write 3\nallot 1 0\npoke body 3 16 0110000000000000\npoke index 3 0 8 0900000000000000\nrelease 3 9 -\n",
+        "1 grant write 2 granted 0\n\
+         2 grant write 3 granted 0\n\
+         2 allot 1 0 given 9 -\n\
+         1 raw accepted\n \
+         file 2 given 1 a directory 755 0 0 4096\n \
+         writes 2: 5 6* holds - pages - numbers -\n\
+         2 raw accepted\n \
+         file 3 given 2 f regular 644 0 0 4097\n \
+         block 3 0 68656c6c6f of 4096\n \
+         block 3 1  of 4096\n \
+         writes 3: 7 8 holds - pages 9 numbers -\n",
+    ),
+    (
+        Start::OneFile,
+        "lib 1 raw 0 0\ngrant write 2\npoke block 2 0 208 ffffffffffffffff\npeek body 2 0 2\npeek body 2 0 2\npeek body 2 0 2\nrelease 2 - -\nlib 2 raw 0 0\ngrant write 3\nallot 1 0\npoke body 3 16 0110000000000000\npoke index 3 0 8 0900000000000000\nrelease 3 9 -\n",
+        "1 grant write 2 granted 0\n\
+         2 grant write 3 granted 0\n\
+         2 allot 1 0 given 9 -\n\
+         2 raw accepted\n \
+         file 3 given 2 f regular 644 0 0 4097\n \
+         block 3 0 68656c6c6f of 4096\n \
+         block 3 1  of 4096\n \
+         writes 3: 7 8 holds - pages 9 numbers -\n\
+         1 raw accepted\n \
+         file 2 given 1 a directory 755 0 0 4096\n \
+         writes 2: 5 6* holds - pages - numbers -\n",
+    ),
+    // a directory that has a file is dropped
+    (
+        Start::OneFile,
+        "lib 1 raw 0 0\ngrant write 1\ngrant hold 2\npoke block 1 0 0 00000000\nrelease 1,2 - -\n",
+        "1 grant write 1 granted 0\n\
+         1 grant hold 2 granted 1\n\
+         1 raw refused I3\n \
+         file 1 given 0 - directory 755 0 0 4096\n \
+         file 2 given 1 a directory 755 0 0 4096\n \
+         writes 1: 3 4* holds 2 pages - numbers -\n",
+    ),
+    // each refusal of a grant and of a mode
+    (
+        Start::OneDirectory,
+        "lib 1 raw 5 5\ngrant write 1\ngrant hold 2\ngrant read 9\nmode 2 700\n",
+        "1 grant write 1 denied 1\n\
+         1 grant hold 2 noparent\n\
+         1 grant read 9 notlive\n\
+         1 mode 2 700 notowner\n",
+    ),
+    // what is busy and what isn't closed makes no entry
+    (
+        Start::OneDirectory,
+        "lib 1 raw 0 0\nmode 2 1000\ngrant write 1\ngrant hold 2\nmode 2 700\nrelease 1 - -\nrelease 1,2 - -\nmode 2 700\n",
+        "1 mode 2 1000 badmode\n\
+         1 grant write 1 granted 0\n\
+         1 grant hold 2 granted 0\n\
+         1 raw accepted\n \
+         file 1 given 0 - directory 755 0 0 4096\n \
+         file 2 given 1 a directory 755 0 0 0\n \
+         writes 1: 3 4 holds 2 pages - numbers -\n\
+         1 mode 2 700 ok\n",
+    ),
+    // a read lease is given back
+    (
+        Start::OneFile,
+        "lib 1 raw 0 0\ngrant read 3\nback 3\nallot 30 0\n",
+        "1 grant read 3 granted 0\n1 back 3\n1 allot 30 0 nopages 30 23\n",
+    ),
+];
+
+#[test]
+fn the_log_has_what_was_done(rt: HostRuntime) {
+    for (start, script, lines) in ROWS {
+        let text = log_text(rt.alloc(), *start, script);
+        assert!(rt; text.as_deref() == Some(*lines), "{script}");
+    }
+}
+
+/// The inode number, the parent and the name of each directory after the crossed moves.
+const MOVED: &[(u32, u32, &[u8])] = &[
+    (1, 0, b"-"),
+    (2, 1, b"a"),
+    (3, 1, b"b"),
+    (4, 7, b"p"),
+    (5, 4, b"p1"),
+    (6, 3, b"q"),
+    (7, 6, b"q1"),
+];
+
+/// Whether a directory of mode 755 has this number, this parent and this name.
+fn is_there(nodes: &Nodes, (ino, parent, name): (u32, u32, &[u8])) -> bool {
+    match nodes.get(ino) {
+        Some(node) => {
+            let is_named = node.parent == parent && node.name.as_bytes() == name;
+            let is_alike = node.kind == Kind::Directory && node.mode == Mode(0o755);
+            is_named
+                && is_alike
+                && node.uid == 0
+                && node.gid == 0
+                && node.bytes.as_slice().is_empty()
+        }
+        None => false,
+    }
+}
+
+/// What the log of a script replays to, for two libraries of uid 0.
+fn replayed(alloc: Global, start: Start, script: &str) -> Option<Nodes> {
+    let ctl = played(alloc, start, script)?;
+    let mut image = image_of(alloc, &image_bytes(alloc, start).ok()?)?;
+    let first = image.nodes(alloc).ok()?;
+    let both = Creds { uid: 0, gid: 0 };
+    replay(alloc, first, &[both, both], ctl.log()).ok()
+}
+
+/// Whether the crossed moves replay to this tree, and to no other file.
+fn moves_are_replayed(alloc: Global) -> Option<bool> {
+    let nodes = replayed(alloc, Start::SixDirectories, CROSSED_MOVES)?;
+    let mut is_so = nodes.get(8).is_none();
+    for row in MOVED {
+        is_so = is_so && is_there(&nodes, *row);
+    }
+    Some(is_so)
+}
+
+#[test]
+fn crossed_moves_are_replayed(rt: HostRuntime) {
+    assert!(rt; moves_are_replayed(rt.alloc()) == Some(true));
+}
