@@ -1,0 +1,269 @@
+-- A session after a grant.
+use Rattle.std.proofs.Common.{◌≡◌, ℕ, ◌+◌, ◌&&◌, Bool, true, false, not, IsTrue, List, [], ◌∷◌, ◌++◌, length, take, Some, sym, refl, ap, ◌∙◌, subst, inl, inr, arith}
+use Rattle.std.specs.Prelude.{map, slice_get}
+use Rattle.std.specs.Option.{option_map_or}
+use Rattle.std.proofs.lemmas.List.{length-append, length-map, map-append, append-nil}
+use Rattle.std.proofs.Math.Seq.{take-length}
+use Rattle.trio_lists.specs.Lists.{In, are_new, is_among}
+use Rattle.trio_lists.proofs.Members.{In-left, In-cases, In-map, map-In}
+use Rattle.trio_lists.proofs.New.{is_among-not}
+use Rattle.trio_lists.proofs.Marked.{are_new-push}
+use Rattle.trio_layout.specs.Chain.{Chain, index_count}
+use Rattle.trio_layout.specs.Body.{block_count, body_at as body_says}
+use Rattle.trio_lease.specs.Shown.{Shown, LentFile}
+use Rattle.trio_lease.specs.declared.lease.Lease.{Lease}
+use Rattle.trio_lease.specs.declared.lease.Lease.TheVariants.{Write, Read, Hold}
+use Rattle.trio_lease.specs.declared.parts.HoldParts.{HoldParts}
+use Rattle.trio_lease.specs.declared.parts.FreshParts.{FreshParts}
+use Rattle.trio_rights.specs.declared.rights.LibNo.{LibNo}
+use Rattle.trio_desk.specs.Contents.{Sizes}
+use Rattle.trio_desk.specs.Out.{LibOut, Parcel, IsFreshLease, IsWellLent, files_out, file_numbers, hold_numbers, page_numbers, lent_numbers, numbers_of_file, lent_core}
+use Rattle.trio_session.specs.Layout.{size_in}
+use Rattle.trio_session.specs.inner.Places.{AreApart, IsFile, HasChain, chain_at, chain_laid, body_at, sheet_at}
+use Rattle.trio_session.specs.inner.Inside.{AreLaid, HasLent, chains_laid}
+use Rattle.trio_session.specs.inner.Giving.{with_leased, IsNewLaid, LaidLeased}
+use Rattle.trio_session.specs.declared.laid.PagePlace.{PagePlace}
+use Rattle.trio_session.specs.declared.laid.PagePlace.TheVariants.{Index, Block, Fresh}
+use Rattle.trio_session.specs.declared.laid.Laid.{Laid}
+use Rattle.trio_session.proofs.Lists.{In-slice_get}
+use Rattle.trio_session.proofs.Given.{apart_file, page_out, push_at, left_at}
+use Rattle.trio_session.proofs.Lengths.{chain_lengths}
+use Rattle.trio_session.proofs.Chains.{chain_there}
+use Rattle.trio_session.specs.inner.Places.{fresh_number}
+use Rattle.trio_session.specs.Asked.{lent_chain, with_lease}
+use Rattle.trio_session.specs.inner.Giving.{reads_leased}
+use Rattle.trio_session.specs.Seen.{SessionSeen, Room, IsOn, has_out}
+use Rattle.trio_desk.specs.Out.{with_lease as desk_lease}
+use Rattle.trio_desk.specs.Call.{DeskSeen, SeenAfter, Grant, Lent}
+use Rattle.trio_nodes.specs.declared.grant.GrantKind.{GrantKind}
+use Rattle.trio_layout.specs.Range.{is_core}
+use Rattle.trio_session.proofs.Desks.{alike_trans}
+use Rattle.trio_lease.specs.declared.parts.LentPage.{LentPage}
+
+-- holds have no pages
+sheet_same : (b : Parcel) (hs : List HoldParts) (place : PagePlace) → sheet_at (record b { holds = hs }) place ≡ sheet_at b place
+sheet_same b hs (Index file at) = refl
+sheet_same b hs (Block file at) = refl
+sheet_same b hs (Fresh at) = refl
+
+apart_holds : (b : Parcel) (hs : List HoldParts) → AreApart b → AreApart (record b { holds = hs })
+apart_holds b hs apart = record {
+  pages = λ p q x y ex ey same. apart.pages p q x y (sym (sheet_same b hs p) ∙ ex) (sym (sheet_same b hs q) ∙ ey) same;
+  files = apart.files;
+}
+
+-- a file that the session has is out
+file_out : (b : Parcel) (out : LibOut) (n : ℕ) → out.writes ≡ map (λ f. f.lent) b.writes → ((i : ℕ) (f : LentFile) → slice_get b.writes i ≡ Some f → HasLent f)
+    → In n (file_numbers b.writes) → In n (files_out out)
+file_out b out n writes same i =
+    let f = map-In (λ (g : LentFile). g.stands.ino) n b.writes i in
+    let at = In-slice_get f.0 b.writes f.1 in
+    let lent : In f.0.lent out.writes = subst (In f.0.lent) (sym writes) (In-map (λ (g : LentFile). g.lent) f.0 b.writes f.1) in
+    let number : f.0.lent.ino ≡ n = sym (same at.0 f.0 at.1).ino ∙ sym f.2 in
+    let here : In n (map (λ w. w.ino) out.writes) = subst (λ m. In m (map (λ (w : Shown). w.ino) out.writes)) number (In-map (λ (w : Shown). w.ino) f.0.lent out.writes lent) in
+    In-left n (map (λ w. w.ino) out.writes ++ map (λ r. r.ino) out.reads) (hold_numbers out.holds) (In-left n (map (λ w. w.ino) out.writes) (map (λ r. r.ino) out.reads) here)
+
+and_both : (a b : Bool) → a ≡ true → b ≡ true → (a && b) ≡ true
+and_both a b ea eb = rw (ea, eb) refl
+
+pub lease_apart : (b : Parcel) (lease : Lease) (lib : LibNo) (ino : ℕ) (sizes : Sizes) (out : LibOut) → AreApart b → IsFreshLease lib ino sizes out lease
+    → out.writes ≡ map (λ f. f.lent) b.writes → ((n : ℕ) → In n (page_numbers b.pages) → In n out.pages)
+    → ((i : ℕ) (f : LentFile) → slice_get b.writes i ≡ Some f → HasLent f) → AreApart (with_leased b lease)
+lease_apart b (Write f) lib ino sizes out apart fresh writes pages same =
+    let is = fresh.is in
+    let numbers : numbers_of_file f.lent ≡ numbers_of_file f.stands = ap numbers_of_file (sym is.as_lent) in
+    let number : f.stands.ino ≡ ino = ap (λ (g : Shown). g.ino) is.as_lent ∙ is.ino in
+    let none : is_among f.stands.ino (file_numbers b.writes) ≡ false =
+    is_among-not f.stands.ino (file_numbers b.writes) (λ i. fresh.new (subst (λ n. In n (files_out out)) number (file_out b out f.stands.ino writes same i))) in
+    apart_file b f apart (subst (λ ns. are_new [] ns ≡ true) numbers is.well.once)
+    (λ place x e i. is.apart x.page (subst (In x.page) (sym numbers) i) (page_out b out writes pages same place x e))
+    (ap (are_new []) (map-append (λ (g : LentFile). g.stands.ino) b.writes (f ∷ [])) ∙ are_new-push [] (file_numbers b.writes) f.stands.ino
+    ∙ and_both (are_new [] (file_numbers b.writes)) (not (is_among f.stands.ino (file_numbers b.writes))) apart.files (ap not none))
+lease_apart b (Read f) lib ino sizes out apart fresh writes pages same = apart
+lease_apart b (Hold h) lib ino sizes out apart fresh writes pages same = apart_holds b (b.holds ++ h ∷ []) apart
+
+-- the chain of a new file is that which was lent
+new_chain : (f : LentFile) (ps : List FreshParts) (l : Laid) → f.stands ≡ f.lent → IsNewLaid f l → chain_laid f.stands ps l ≡ lent_chain f
+new_chain f ps l as_lent new =
+    let c : ℕ → ℕ → List ℕ → List ℕ → Chain = λ ik bk im bm. record {
+      index = take ik (lent_numbers f.stands.index) ++ map (fresh_number ps) im;
+      blocks = take bk (lent_numbers f.stands.blocks) ++ map (fresh_number ps) bm;
+    } in
+    let li : l.index_kept ≡ length (lent_numbers f.stands.index) = new.index_kept ∙ sym (length-map f.stands.index (λ (p : LentPage). p.no.0)) in
+    let lb : l.blocks_kept ≡ length (lent_numbers f.stands.blocks) = new.blocks_kept ∙ sym (length-map f.stands.blocks (λ (p : LentPage). p.no.0)) in
+    let whole : (ns : List ℕ) → take (length ns) ns ++ [] ≡ ns = λ ns. append-nil (take (length ns) ns) ∙ take-length ns in
+    ap (λ x. c x l.blocks_kept l.index_more.items l.blocks_more.items) li
+    ∙ ap (λ x. c (length (lent_numbers f.stands.index)) x l.index_more.items l.blocks_more.items) lb
+    ∙ ap (λ x. c (length (lent_numbers f.stands.index)) (length (lent_numbers f.stands.blocks)) x l.blocks_more.items) new.index_more
+    ∙ ap (λ x. c (length (lent_numbers f.stands.index)) (length (lent_numbers f.stands.blocks)) [] x) new.blocks_more
+    ∙ ap (λ ns. record (c (length (lent_numbers f.stands.index)) (length (lent_numbers f.stands.blocks)) [] []) { index = ns }) (whole (lent_numbers f.stands.index))
+    ∙ ap (λ ns. record { index = lent_numbers f.stands.index; blocks = ns }) (whole (lent_numbers f.stands.blocks))
+    ∙ ap (λ (g : Shown). record { index = lent_numbers g.index; blocks = lent_numbers g.blocks }) as_lent
+
+pub chains_push : (fs : List LentFile) (ps : List FreshParts) (ls : List Laid) (f : LentFile) (l : Laid) → length ls ≡ length fs
+    → chains_laid (fs ++ f ∷ []) ps (ls ++ l ∷ []) ≡ chains_laid fs ps ls ++ chain_laid f.stands ps l ∷ []
+chains_push [] ps [] f l e = refl
+chains_push [] ps (m ∷ ls) f l e = absurd (omega arith)
+chains_push (g ∷ fs) ps [] f l e = absurd (omega arith)
+chains_push (g ∷ fs) ps (m ∷ ls) f l e = ap (λ cs. chain_laid g.stands ps m ∷ cs) (chains_push fs ps ls f l (omega arith))
+
+-- where the pages of files stand, with one more file
+file_push : (b : Parcel) (f : LentFile) (i : ℕ) (l : Laid) → IsFile b i l → IsFile (record b { writes = b.writes ++ f ∷ [] }) i l
+file_push b f i l is = record { lent = is.lent; there = left_at b.writes (f ∷ []) i is.lent is.there; laid = is.laid }
+
+chain_push : (b : Parcel) (f : LentFile) (i : ℕ) (l : Laid) → IsFile b i l → chain_at (record b { writes = b.writes ++ f ∷ [] }) i l ≡ chain_at b i l
+chain_push b f i l is =
+    chain_there (record b { writes = b.writes ++ f ∷ [] }) i l is.lent (left_at b.writes (f ∷ []) i is.lent is.there) ∙ sym (chain_there b i l is.lent is.there)
+
+body_push : (b : Parcel) (f : LentFile) (i : ℕ) (l : Laid) → IsFile b i l → body_at (record b { writes = b.writes ++ f ∷ [] }) i ≡ body_at b i
+body_push b f i l is =
+    ap (λ o. option_map_or (λ (g : LentFile). g.stands.body) o []) (left_at b.writes (f ∷ []) i is.lent is.there)
+    ∙ sym (ap (λ o. option_map_or (λ (g : LentFile). g.stands.body) o []) is.there)
+
+last_at : {X : Type 0} (xs : List X) (x : X) → slice_get (xs ++ x ∷ []) (length xs) ≡ Some x
+last_at [] x = refl
+last_at (y ∷ ys) x = last_at ys x
+
+pub write_laid : (b : Parcel) (ls : List Laid) (f : LentFile) (l : Laid) (sizes : Sizes) → f.stands ≡ f.lent → IsWellLent sizes f.lent → IsNewLaid f l → AreLaid b ls
+    → AreLaid (record b { writes = b.writes ++ f ∷ [] }) (ls ++ l ∷ [])
+write_laid b ls f l sizes as_lent well new are = record {
+  beside = length-append ls (l ∷ []) ∙ ap (λ n. n + 1) are.beside ∙ sym (length-append b.writes (f ∷ []));
+  same = λ i g e. elim (push_at b.writes f i g e) [
+    | inl h ↦ are.same i g h
+    | inr h ↦ subst HasLent h.1 (record { ino = ap (λ (s : Shown). s.ino) as_lent; numbers = ap numbers_of_file as_lent })
+  ];
+  each = λ i m e. elim (push_at ls l i m e) [
+    | inl h ↦ file_push b f i m (are.each i m h)
+    | inr h ↦ subst (λ n. IsFile b' n m) (sym h.0) (subst (IsFile b' (length ls)) h.1 here)
+  ];
+  chains = λ i m e. elim (push_at ls l i m e) [
+    | inl h ↦
+        let is = are.each i m h in
+        record {
+          blocks = ap (λ (c : Chain). length c.blocks) (chain_push b f i m is) ∙ (are.chains i m h).blocks ∙ ap (λ body. block_count (size_in body)) (sym (body_push b f i m is));
+          index = ap (λ (c : Chain). length c.index) (chain_push b f i m is) ∙ (are.chains i m h).index ∙ ap (λ body. index_count (block_count (size_in body))) (sym (body_push b f i m is));
+        }
+    | inr h ↦ subst (λ n. HasChain b' n m) (sym h.0) (subst (HasChain b' (length ls)) h.1 counts)
+  ];
+}
+  where
+    b' : Parcel
+    b' = record b { writes = b.writes ++ f ∷ [] }
+
+    there : slice_get b'.writes (length ls) ≡ Some f
+    there = ap (slice_get (b.writes ++ f ∷ [])) are.beside ∙ last_at b.writes f
+
+    here : IsFile b' (length ls) l
+    here = record {
+      lent = f;
+      there = there;
+      laid = record {
+        index = omega (arith, new.index_kept);
+        blocks = omega (arith, new.blocks_kept);
+        narrow_index = (let none : length l.index_more.items ≡ 0 = ap length new.index_more in omega (arith, none, new.index_narrow));
+        narrow_blocks = (let none : length l.blocks_more.items ≡ 0 = ap length new.blocks_more in omega (arith, none, new.blocks_narrow));
+        index_there = λ at i. absurd (subst (In at) new.index_more i);
+        blocks_there = λ at i. absurd (subst (In at) new.blocks_more i);
+      };
+    }
+
+    body : body_at b' (length ls) ≡ f.lent.body
+    body = ap (λ o. option_map_or (λ (g : LentFile). g.stands.body) o []) there ∙ ap (λ (s : Shown). s.body) as_lent
+
+    lengths : (length (lent_numbers f.lent.index) ≡ index_count (block_count (size_in f.lent.body))) × (index_count (block_count (size_in f.lent.body)) ≡ index_count (block_count (size_in f.lent.body)) → length (lent_numbers f.lent.blocks) ≡ block_count (size_in f.lent.body))
+    lengths = chain_lengths (lent_core sizes f.lent) (index_count (block_count (size_in f.lent.body))) (block_count (size_in f.lent.body)) (body_says f.lent.body).head (record { index = lent_numbers f.lent.index; blocks = lent_numbers f.lent.blocks }) well.chain
+
+    chain : chain_at b' (length ls) l ≡ lent_chain f
+    chain = chain_there b' (length ls) l f there ∙ new_chain f b.pages l as_lent new
+
+    counts : HasChain b' (length ls) l
+    counts = record {
+      blocks = ap (λ (c : Chain). length c.blocks) chain ∙ lengths.1 refl ∙ ap (λ x. block_count (size_in x)) (sym body);
+      index = ap (λ (c : Chain). length c.index) chain ∙ lengths.0 ∙ ap (λ x. index_count (block_count (size_in x))) (sym body);
+    }
+
+pub lease_laid : (b : Parcel) (ls ls' : List Laid) (lease : Lease) (lib : LibNo) (ino : ℕ) (sizes : Sizes) (out : LibOut) → IsFreshLease lib ino sizes out lease → LaidLeased ls lease ls'
+    → AreLaid b ls → AreLaid (with_leased b lease) ls'
+lease_laid b ls ls' (Write f) lib ino sizes out fresh new are =
+    subst (AreLaid (record b { writes = b.writes ++ f ∷ [] })) (sym new.2) (write_laid b ls f new.0 sizes fresh.is.as_lent fresh.is.well new.1 are)
+lease_laid b ls ls' (Read f) lib ino sizes out fresh new are = subst (AreLaid b) (sym new) are
+lease_laid b ls ls' (Hold h) lib ino sizes out fresh new are = subst (AreLaid (record b { holds = b.holds ++ h ∷ [] })) (sym new) (record {
+  beside = are.beside;
+  same = are.same;
+  each = λ i l e. let is = are.each i l e in record { lent = is.lent; there = is.there; laid = is.laid };
+  chains = λ i l e. let has = are.chains i l e in record { blocks = has.blocks; index = has.index };
+})
+
+pub lease_pages : (b : Parcel) (lease : Lease) → (with_leased b lease).pages ≡ b.pages
+lease_pages b (Write f) = refl
+lease_pages b (Read f) = refl
+lease_pages b (Hold h) = refl
+
+-- the session with the lease, as its parts say
+pub lease_view : (s : SessionSeen) (ls ls' : List Laid) (lease : Lease) (lib : LibNo) (ino : ℕ) (sizes : Sizes) (out : LibOut) → IsFreshLease lib ino sizes out lease → LaidLeased ls lease ls'
+    → AreLaid s.parcel ls → s.chains ≡ chains_laid s.parcel.writes s.parcel.pages ls
+    → record s { parcel = with_leased s.parcel lease; chains = chains_laid (with_leased s.parcel lease).writes (with_leased s.parcel lease).pages ls'; reads = reads_leased s.reads lease }
+    ≡ with_lease s lease
+lease_view s ls ls' (Write f) lib ino sizes out fresh new are e =
+    ap (λ cs. record s { parcel = with_leased s.parcel (Write f); chains = cs })
+    (ap (chains_laid (s.parcel.writes ++ f ∷ []) s.parcel.pages) new.2 ∙ chains_push s.parcel.writes s.parcel.pages ls f new.0 are.beside
+    ∙ ap (λ c. chains_laid s.parcel.writes s.parcel.pages ls ++ c ∷ []) (new_chain f s.parcel.pages new.0 fresh.is.as_lent new.1)
+    ∙ ap (λ cs. cs ++ lent_chain f ∷ []) (sym e))
+lease_view s ls ls' (Read f) lib ino sizes out fresh new are e =
+    ap (λ cs. record s { chains = cs; reads = s.reads ++ f ∷ [] }) (ap (chains_laid s.parcel.writes s.parcel.pages) new ∙ sym e)
+lease_view s ls ls' (Hold h) lib ino sizes out fresh new are e =
+    ap (λ cs. record s { parcel = with_leased s.parcel (Hold h); chains = cs }) (ap (chains_laid s.parcel.writes s.parcel.pages) new ∙ sym e)
+
+-- and on its desk
+pub lease_on : (d d' : DeskSeen) (ino : ℕ) (kind : GrantKind) (s : SessionSeen) (lease : Lease) (room : Room)
+    → SeenAfter d (Grant ino kind) (Lent lease) d' → IsFreshLease d.lib ino d.sizes d.out lease → IsOn d s → IsOn d' (record (with_lease s lease) { room = room })
+lease_on d d' ino kind s (Write f) room seen fresh on = record {
+  lib = on.lib ∙ sym seen.lib;
+  creds = on.creds ∙ sym seen.creds;
+  out = alike_trans d'.out (desk_lease d.out (Write f)) (has_out (with_lease s (Write f))) seen.out (record {
+    writes = ap (λ ws. ws ++ f.lent ∷ []) on.out.writes ∙ sym (map-append (λ (g : LentFile). g.lent) s.parcel.writes (f ∷ []));
+    reads = on.out.reads;
+    holds = on.out.holds;
+    pages = on.out.pages;
+    numbers = on.out.numbers;
+  });
+  writes = λ g i. subst (λ (z : Sizes). IsWellLent z g) (sym seen.sizes)
+      (elim (In-cases g (map (λ (h : LentFile). h.lent) s.parcel.writes) (f.lent ∷ []) (subst (In g) (map-append (λ (h : LentFile). h.lent) s.parcel.writes (f ∷ [])) i)) [
+        | inl h ↦ on.writes g h
+        | inr h ↦ elim h [ inl e ↦ subst (IsWellLent d.sizes) (sym e) fresh.is.well | inr k ↦ absurd k ]
+      ]);
+  reads = λ g i. subst (λ (z : Sizes). IsWellLent z g) (sym seen.sizes) (on.reads g i);
+  core = λ n i. subst (λ (z : Sizes). IsTrue (is_core z.range n)) (sym seen.sizes) (on.core n i);
+}
+lease_on d d' ino kind s (Read f) room seen fresh on = record {
+  lib = on.lib ∙ sym seen.lib;
+  creds = on.creds ∙ sym seen.creds;
+  out = alike_trans d'.out (desk_lease d.out (Read f)) (has_out (with_lease s (Read f))) seen.out (record {
+    writes = on.out.writes;
+    reads = ap (λ rs. rs ++ f ∷ []) on.out.reads;
+    holds = on.out.holds;
+    pages = on.out.pages;
+    numbers = on.out.numbers;
+  });
+  writes = λ g i. subst (λ (z : Sizes). IsWellLent z g) (sym seen.sizes) (on.writes g i);
+  reads = λ g i. subst (λ (z : Sizes). IsWellLent z g) (sym seen.sizes)
+      (elim (In-cases g s.reads (f ∷ []) i) [
+        | inl h ↦ on.reads g h
+        | inr h ↦ elim h [ inl e ↦ subst (IsWellLent d.sizes) (sym e) fresh.is.2 | inr k ↦ absurd k ]
+      ]);
+  core = λ n i. subst (λ (z : Sizes). IsTrue (is_core z.range n)) (sym seen.sizes) (on.core n i);
+}
+lease_on d d' ino kind s (Hold h) room seen fresh on = record {
+  lib = on.lib ∙ sym seen.lib;
+  creds = on.creds ∙ sym seen.creds;
+  out = alike_trans d'.out (desk_lease d.out (Hold h)) (has_out (with_lease s (Hold h))) seen.out (record {
+    writes = on.out.writes;
+    reads = on.out.reads;
+    holds = ap (λ hs. hs ++ h ∷ []) on.out.holds;
+    pages = on.out.pages;
+    numbers = on.out.numbers;
+  });
+  writes = λ g i. subst (λ (z : Sizes). IsWellLent z g) (sym seen.sizes) (on.writes g i);
+  reads = λ g i. subst (λ (z : Sizes). IsWellLent z g) (sym seen.sizes) (on.reads g i);
+  core = λ n i. subst (λ (z : Sizes). IsTrue (is_core z.range n)) (sym seen.sizes) (on.core n i);
+}

@@ -1,0 +1,24 @@
+use Rattle.std.proofs.Common.{◌++◌, List, ap, ◌∙◌, refl}
+use Rattle.trio_lease.specs.Bundles.{bundled}
+use Rattle.trio_lease.specs.declared.parts.FreshParts.{FreshParts}
+use Rattle.trio_lease.specs.declared.parts.InoParts.{InoParts}
+use Rattle.trio_desk.specs.Out.{Parcel, parcel_of}
+use Rattle.trio_session.specs.inner.Giving.{Gave, Refused}
+use Rattle.trio_session.proofs.giving.allot_into.Goals as goal
+
+pub returns-in-Ok : goal.returns-in-Ok
+returns-in-Ok g c =
+    let p : Parcel = parcel_of (bundled c.args.parts.now) in
+    let given = c.in-Ok.given in
+    let view : List FreshParts → List InoParts → Parcel = λ ps ns. record p { pages = ps; inodes = ns } in
+    let pages = c.append_pages.ensures ∙ ap (λ ps. ps ++ given.pages.items) c.reserve.ensures.items in
+    let inodes = c.append_inodes.ensures ∙ ap (λ ns. ns ++ given.inodes.items) c.reserve-else-is_err.ensures.items in
+    Gave given c.in-Ok.ensures.called c.in-Ok.ensures.seen c.in-Ok.ensures.fresh
+    (ap (λ ps. view ps c.append_inodes.new.inodes.items) pages ∙ ap (view (p.pages ++ given.pages.items)) inodes) refl
+
+pub returns-in-Err : goal.returns-in-Err
+returns-in-Err g c =
+    let p : Parcel = parcel_of (bundled c.args.parts.now) in
+    let view : List FreshParts → List InoParts → Parcel = λ ps ns. record p { pages = ps; inodes = ns } in
+    Refused c.in-Err.fault c.in-Err.ensures.called c.in-Err.ensures.seen
+    (ap (λ ps. view ps c.reserve-else-is_err.new.self.items) c.reserve.ensures.items ∙ ap (view p.pages) c.reserve-else-is_err.ensures.items) refl

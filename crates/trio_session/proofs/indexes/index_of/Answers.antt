@@ -1,0 +1,24 @@
+use Rattle.std.proofs.Common.{sym, ap, ◌∙◌}
+use Rattle.std.specs.Option.{option_copied}
+use Rattle.trio_session.proofs.Dirs.{page_apart, page_read, page_told, pages_end}
+use Rattle.trio_session.proofs.indexes.index_of.Goals as goal
+
+pub scan-requires-clause-read : goal.scan-requires-clause-read
+scan-requires-clause-read c =
+    page_read c.args.lease.now c.loop-k.dir c.loop-k.k c.in-Some.page.now c.requires c.loop-k.invariant.inodes (sym c.block.ensures ∙ ap option_copied c.in-Some.is)
+
+pub scan-requires-clause-differ : goal.scan-requires-clause-differ
+scan-requires-clause-differ c =
+    page_apart c.args.lease.now c.loop-k.dir c.loop-k.k c.in-Some.page.now c.requires c.loop-k.invariant.inodes c.loop-k.invariant.slots
+    (sym c.block.ensures ∙ ap option_copied c.in-Some.is)
+
+pub returns-in-None : goal.returns-in-None
+returns-in-None c =
+    pages_end c.args.lease.now c.loop-k.dir c.loop-k.k c.loop-k.invariant.inodes c.loop-k.invariant.slots (sym c.block.ensures ∙ ap option_copied c.in-None.is)
+
+pub loop-k-preserved : goal.loop-k-preserved
+loop-k-preserved c = record {
+  inodes = ap (λ d. d.inodes) c.in_ok-scan-in-Some.ensures.told ∙ c.loop-k.invariant.inodes;
+  slots = ap (λ d. d.slots) c.in_ok-scan-in-Some.ensures.told
+      ∙ page_told c.args.lease.now c.loop-k.dir c.loop-k.k c.in-Some.page.now c.loop-k.invariant.inodes c.loop-k.invariant.slots (sym c.block.ensures ∙ ap option_copied c.in-Some.is);
+}

@@ -1,0 +1,8 @@
+use Rattle.trio_session.proofs.Chains.{block_kept, block_more}
+use Rattle.trio_session.proofs.laid.Laid.block_place.Goals as goal
+
+pub returns-then-k-self : goal.returns-then-k-self
+returns-then-k-self c b is = block_kept b c.args.file c.args.self.now c.args.k is c.if-k-self.true
+
+pub returns-else-k-self : goal.returns-else-k-self
+returns-else-k-self c b is = block_more b c.args.file c.args.self.now c.args.k c.index-at.result.now is c.if-k-self.false c.requires c.index-at.ensures

@@ -1,0 +1,49 @@
+use Rattle.std.proofs.Common.{◌≡◌, eqb, true, false, cond, Some, None, sym, ap, ◌∙◌, subst}
+use Rattle.std.specs.List.{find}
+use Rattle.std.specs.Option.{option_copied}
+use Rattle.trio_page.specs.Home.{raised}
+use Rattle.trio_lists.specs.Lists.{In, is_among}
+use Rattle.trio_lists.proofs.Members.{In-is_among}
+use Rattle.trio_lists.proofs.New.{is_among-not}
+use Rattle.trio_session.specs.Seen.{SessionSeen, place_shown, read_file}
+use Rattle.trio_session.specs.contracts.session.Session.{the_view}
+use Rattle.trio_session.specs.declared.indexes.IndexedDir.{IndexedDir}
+use Rattle.trio_session.proofs.Dirs.{dir_among, dir_found, dir_missed, place_missed}
+use Rattle.trio_session.proofs.session.Session.find.Goals as goal
+
+pub returns-in-Some-clause-place : goal.returns-in-Some-clause-place
+returns-in-Some-clause-place c =
+    let found : find (λ (d : IndexedDir). eqb d.ino c.args.dir) c.self.inside.dirs.items ≡ Some c.in-Some.indexed.now =
+    ap (find (λ (d : IndexedDir). eqb d.ino c.args.dir)) (sym c.deref.ensures.value) ∙ sym c.index_on.ensures ∙ ap option_copied c.in-Some.is in
+    c.find.ensures.place ∙ dir_found c.self.inside.reads.items c.self.inside.dirs.items c.args.dir c.args.name.now c.in-Some.indexed.now c.self.invariant.3 found
+    ∙ ap (λ (s : SessionSeen). place_shown s c.args.dir c.args.name.now) c.self.view_is
+
+pub returns-in-Some-clause-counted : goal.returns-in-Some-clause-counted
+returns-in-Some-clause-counted c =
+    let dirs = c.self.inside.dirs.items in
+    let v : SessionSeen = the_view c.self.inside in
+    let found : find (λ (d : IndexedDir). eqb d.ino c.args.dir) dirs ≡ Some c.in-Some.indexed.now =
+    ap (find (λ (d : IndexedDir). eqb d.ino c.args.dir)) (sym c.deref.ensures.value) ∙ sym c.index_on.ensures ∙ ap option_copied c.in-Some.is in
+    let among : is_among c.args.dir v.indexed ≡ true = In-is_among c.args.dir v.indexed (dir_among dirs c.args.dir c.in-Some.indexed.now found) in
+    ap (λ n. record v { finds = n }) c.find.ensures.counted
+    ∙ sym (ap (λ b. record v { finds = cond b (raised v.finds) v.finds }) among)
+    ∙ ap (λ (s : SessionSeen). record s { finds = cond (is_among c.args.dir s.indexed) (raised s.finds) s.finds }) c.self.view_is
+
+pub returns-in-None-clause-place : goal.returns-in-None-clause-place
+returns-in-None-clause-place c =
+    let dirs = c.self.inside.dirs.items in
+    let missed : find (λ (d : IndexedDir). eqb d.ino c.args.dir) dirs ≡ None =
+    ap (find (λ (d : IndexedDir). eqb d.ino c.args.dir)) (sym c.deref.ensures.value) ∙ sym c.index_on.ensures ∙ ap option_copied c.in-None.is in
+    place_missed (read_file c.args.self.now c.args.dir) c.args.name.now
+    (λ f e dir. dir_missed dirs c.args.dir missed (subst (λ (s : SessionSeen). In c.args.dir s.indexed) (sym c.self.view_is) (c.requires f e dir)))
+
+pub returns-in-None-clause-counted : goal.returns-in-None-clause-counted
+returns-in-None-clause-counted c =
+    let dirs = c.self.inside.dirs.items in
+    let v : SessionSeen = the_view c.self.inside in
+    let missed : find (λ (d : IndexedDir). eqb d.ino c.args.dir) dirs ≡ None =
+    ap (find (λ (d : IndexedDir). eqb d.ino c.args.dir)) (sym c.deref.ensures.value) ∙ sym c.index_on.ensures ∙ ap option_copied c.in-None.is in
+    let among : is_among c.args.dir v.indexed ≡ false = is_among-not c.args.dir v.indexed (dir_missed dirs c.args.dir missed) in
+    let s = c.args.self.now in
+    let none : is_among c.args.dir s.indexed ≡ false = ap (λ (x : SessionSeen). is_among c.args.dir x.indexed) (sym c.self.view_is) ∙ among in
+    sym (ap (λ b. record s { finds = cond b (raised s.finds) s.finds }) none)

@@ -1,0 +1,42 @@
+use Rattle.std.proofs.Common.{◌≡◌, Ok, Err, inr, sym, ◌∙◌}
+use Rattle.trio_desk.specs.Call.{Grant}
+use Rattle.trio_desk.specs.Calls.{OneCall, Made, NotMade}
+use Rattle.trio_nodes.specs.declared.answers.GrantFault.TheVariants.{NoMemory as NoGrantMemory}
+use Rattle.trio_session.specs.Asked.{TellsGrant}
+use Rattle.trio_session.specs.inner.Giving.{AfterGrant, NoGrant}
+use Rattle.trio_session.proofs.Desks.{indexed_or_not, may_read, need_denied, need_granted, on_indexed, same_but}
+use Rattle.trio_session.proofs.session.Session.need.Goals as goal
+
+pub index-requires : goal.index-requires
+index-requires g c = may_read (g.D.Desk.seen c.args.desk.now) c.args.self.now c.args.ino c.requires
+
+pub index-requires-in-Ok : goal.index-requires-in-Ok
+index-requires-in-Ok g c = may_read (g.D.Desk.seen c.lend.new.desk) c.lend.new.self c.args.ino c.lend.ensures.on
+
+pub returns-then-serves-clause-on : goal.returns-then-serves-clause-on
+returns-then-serves-clause-on g c = on_indexed (g.D.Desk.seen c.args.desk.now) c.args.self.now c.index.new.self c.index.ensures.kept c.requires
+
+pub returns-in-Ok-clause-on : goal.returns-in-Ok-clause-on
+returns-in-Ok-clause-on g c = on_indexed (g.D.Desk.seen c.lend.new.desk) c.lend.new.self c.index-in-Ok.new.self c.index-in-Ok.ensures.kept c.lend.ensures.on
+
+pub returns-in-Ok-clause-call : goal.returns-in-Ok-clause-call
+returns-in-Ok-clause-call g c =
+    let s = c.args.self.now in
+    let t = c.lend.new.self in
+    let s' = c.index-in-Ok.new.self in
+    let call : OneCall g.D.Desk.called c.args.desk.now (Grant c.args.ino c.args.kind) c.lend.new.desk (λ told. TellsGrant (g.D.Desk.seen c.args.desk.now) c.args.ino c.args.kind told (g.D.Desk.seen c.lend.new.desk) × AfterGrant s (Ok tt) t told) (NoGrant s (Ok tt) t) = c.in-Ok.ensures.call in
+    elim call [
+      | Made told called after ↦ Made told called (after.0, need_granted s t s' c.index-in-Ok.result told after.1 c.index-in-Ok.ensures.kept c.index-in-Ok.ensures.more (indexed_or_not c.index-in-Ok.result c.index-in-Ok.ensures.fault), sym c.serves.ensures ∙ c.if-serves.false)
+      | NotMade same none ↦ absurd (let e : Ok tt ≡ Err NoGrantMemory = none.0 in cc e)
+    ]
+
+pub returns-in-Err-clause-call : goal.returns-in-Err-clause-call
+returns-in-Err-clause-call g c =
+    let s = c.args.self.now in
+    let t = c.lend.new.self in
+    let why = c.in-Err.fault in
+    let call : OneCall g.D.Desk.called c.args.desk.now (Grant c.args.ino c.args.kind) c.lend.new.desk (λ told. TellsGrant (g.D.Desk.seen c.args.desk.now) c.args.ino c.args.kind told (g.D.Desk.seen c.lend.new.desk) × AfterGrant s (Err why) t told) (NoGrant s (Err why) t) = c.in-Err.ensures.call in
+    elim call [
+      | Made told called after ↦ Made told called (after.0, need_denied s t why told after.1, sym c.serves.ensures ∙ c.if-serves.false)
+      | NotMade same none ↦ NotMade same (inr none.0, same_but s t none.1)
+    ]

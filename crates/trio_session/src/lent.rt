@@ -1,0 +1,86 @@
+//! Bytes written into lent things.
+
+ghost use Rattle.std.specs.Prelude.{◌≡◌, ◌+◌, ◌≤◌, ◌<◌, ◌++◌, length, vec_capacity};
+ghost use Rattle.trio_page.specs.Field.{with_part};
+ghost use Rattle.trio_lease.specs.Shown.{lent_at, with_page, with_touched};
+ghost use Rattle.trio_session.specs.Layout.{body_sized};
+
+use trio_lease::{FreshIno, FreshPage, WriteLease};
+use trio_page::field::{put_bytes_in, put_u32_in, put_u64_in};
+
+/// Writes bytes into index page `at` of the lease.
+pub(crate) fn put_in_index(lease: &mut WriteLease, at: usize, offset: usize, bytes: &[u8])
+    requires page { at < length lease.old.stands.index }
+    requires within { offset + length bytes.now ≤ 4096 }
+    ensures { lease.new ≡ record lease.old {
+      stands = record lease.old.stands {
+        index = with_page lease.old.stands.index at (with_part offset bytes.now (lent_at lease.old.stands.index at).page);
+      };
+    } }
+{
+    let page = lease.index_mut(at).unwrap();
+    put_bytes_in(page.bytes_mut(), offset, bytes);
+}
+
+/// Writes bytes into block `at` of the lease, which is marked as touched.
+pub(crate) fn put_in_block(lease: &mut WriteLease, at: usize, offset: usize, bytes: &[u8])
+    requires page { at < length lease.old.stands.blocks }
+    requires within { offset + length bytes.now ≤ 4096 }
+    ensures { lease.new ≡ record lease.old {
+      stands = record lease.old.stands {
+        blocks = with_touched lease.old.stands.blocks at (with_part offset bytes.now (lent_at lease.old.stands.blocks at).page);
+      };
+    } }
+{
+    let page = lease.block_mut(at).unwrap();
+    put_bytes_in(page.bytes_mut(), offset, bytes);
+}
+
+/// Writes bytes into an allotted page.
+pub(crate) fn put_in_fresh(page: &mut FreshPage, offset: usize, bytes: &[u8])
+    requires { offset + length bytes.now ≤ 4096 }
+    ensures { page.new ≡ record page.old { page = with_part offset bytes.now page.old.page } }
+{
+    put_bytes_in(page.page_mut().bytes_mut(), offset, bytes);
+}
+
+/// Writes the head and the size of the file.
+pub(crate) fn put_sizes(lease: &mut WriteLease, head: u32, size: u64)
+    ensures written { lease.new ≡ record lease.old { stands = record lease.old.stands { body = body_sized head size lease.old.stands.body } } }
+    ensures whole { length lease.old.stands.body ≡ 64 }
+{
+    let _whole = lease.body();
+    let body = lease.body_mut();
+    put_u32_in(body, 12, head);
+    put_u64_in(body, 16, size);
+}
+
+/// Moves allotted pages to the end of a list that has room for them.
+pub(crate) fn append_pages(mut more: Vec<FreshPage>, pages: &mut Vec<FreshPage>)
+    requires { length pages.old.items + length more.items ≤ vec_capacity pages.old }
+    ensures { pages.new.items ≡ pages.old.items ++ more.items }
+{
+    if pages.append(&mut more).is_err() {
+        while let Some(page) = more.pop() {
+            page.discard();
+        }
+        more.destroy_empty();
+        unreachable!()
+    }
+    more.destroy_empty();
+}
+
+/// Moves allotted inode numbers to the end of a list that has room for them.
+pub(crate) fn append_inodes(mut more: Vec<FreshIno>, inodes: &mut Vec<FreshIno>)
+    requires { length inodes.old.items + length more.items ≤ vec_capacity inodes.old }
+    ensures { inodes.new.items ≡ inodes.old.items ++ more.items }
+{
+    if inodes.append(&mut more).is_err() {
+        while let Some(ino) = more.pop() {
+            ino.discard();
+        }
+        more.destroy_empty();
+        unreachable!()
+    }
+    more.destroy_empty();
+}
