@@ -1,0 +1,10 @@
+//! The calls of an honest library on files.
+//!
+//! [`file_call`] writes, reads, resizes or looks at the file at a path, over what its session has.
+//! `specs/Asks.antt` says which calls of the desk that makes, and how it ends.
+#![tactic(auto)]
+
+mod calls;
+mod files;
+
+pub use calls::{Outcome, file_call};

@@ -1,0 +1,8 @@
+mod Possible
+mod Taking
+mod Readings
+mod Entering
+mod Slots
+mod Children
+mod Stepping
+mod Walking
