@@ -1,8 +1,0 @@
-mod Possible
-mod Taking
-mod Readings
-mod Entering
-mod Slots
-mod Children
-mod Stepping
-mod Walking
