@@ -2,6 +2,8 @@
 
 ghost use Rattle.std.specs.Prelude.{◌≡◌, ◌∷◌, [], IfSome, length};
 ghost use Rattle.trio_lease.specs.Views.{bundle_in, written_in};
+ghost use Rattle.trio_desk.specs.Out.{OutAlike, nothing_out};
+ghost use Rattle.trio_ctl.specs.Desk.{out_of};
 
 use crate::images::{Start, image_bytes, image_of};
 use std::alloc::Global;
@@ -14,9 +16,10 @@ use trio_page::{PageNo, Reads};
 use trio_rights::{Creds, LibNo};
 use trio_samples::put;
 
-// A controller over the image of these bytes, for one library of this uid.
-fn started(alloc: Global, bytes: &[u8], uid: u32) -> Option<Ctl>
-    ensures { IfSome result (λ ctl. length ctl.state.creds ≡ 1) }
+/// A controller over the image of these bytes, for one library of this uid, which has nothing out.
+pub fn started(alloc: Global, bytes: &[u8], uid: u32) -> Option<Ctl>
+    ensures one { IfSome result (λ ctl. length ctl.state.creds ≡ 1) }
+    ensures nothing { IfSome result (λ ctl. OutAlike (out_of ctl.state (record { 0 = 1 })) nothing_out) }
 {
     let image = image_of(alloc, bytes)?;
     let libs = vec![in alloc; Creds { uid, gid: 0 }].ok()?;

@@ -1,6 +1,7 @@
 //! Entries of a log as lines of text.
 
 use std::alloc::Global;
+use trio_ctl::Ctl;
 use trio_nodes::{
     AllotAnswer, AllotFault, Entry, GrantAnswer, GrantFault, GrantKind, Handed, HandedPage,
     ModeFault, RawBlock, RawFile, ReleaseAnswer,
@@ -8,9 +9,17 @@ use trio_nodes::{
 use trio_page::NoMemory;
 use trio_rights::Kind;
 
-/// Appends the lines of these entries, as `1 grant write 3 granted 0` or `1 raw accepted` with a line
-/// for each file, for each block and for the bundle behind it.
-pub fn put_log(alloc: Global, out: &mut String, entries: &[Entry]) -> Result<(), NoMemory> {
+/// The log of a controller, in lines.
+pub fn log_lines(alloc: Global, ctl: &Ctl) -> Option<String> {
+    let mut text = String::new(alloc);
+    put_log(alloc, &mut text, ctl.log().entries()).ok()?;
+    Some(text)
+}
+
+/// Appends the lines of these entries, as `1 grant write 3 granted 0`; `1 raw accepted` with a line for
+/// each file, for each block and for the bundle behind it; or `1 batch 2`, of two calls, with a line for
+/// the bundle.
+fn put_log(alloc: Global, out: &mut String, entries: &[Entry]) -> Result<(), NoMemory> {
     for entry in entries {
         put_entry(alloc, out, entry)?;
     }
@@ -68,7 +77,11 @@ fn put_entry(alloc: Global, out: &mut String, entry: &Entry) -> Result<(), NoMem
                 &format!(in alloc; "{} mode {ino} {mode:o} {word}\n", lib.0)?,
             )
         }
-        Entry::Batch { lib, .. } => put(out, &format!(in alloc; "{} batch\n", lib.0)?),
+        Entry::Batch { lib, calls, handed } => {
+            let count = calls.as_slice().len();
+            put(out, &format!(in alloc; "{} batch {count}\n", lib.0)?)?;
+            put_handed(alloc, out, handed)
+        }
     }
 }
 

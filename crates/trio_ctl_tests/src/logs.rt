@@ -4,7 +4,7 @@ ghost use Rattle.std.specs.Prelude.{◌≡◌, IfSome};
 ghost use Rattle.trio_runner.specs.Play.{creds_in};
 
 use crate::images::{Start, image_bytes, image_of};
-use crate::lines::put_log;
+use crate::lines::log_lines;
 use std::alloc::Global;
 use trio_ctl::Ctl;
 use trio_log::replay;
@@ -40,10 +40,7 @@ fn played(alloc: Global, start: Start, script: &str) -> Option<Ctl> {
 
 /// The log of a script on an image, in lines.
 fn log_text(alloc: Global, start: Start, script: &str) -> Option<String> {
-    let ctl = played(alloc, start, script)?;
-    let mut text = String::new(alloc);
-    put_log(alloc, &mut text, ctl.log().entries()).ok()?;
-    Some(text)
+    log_lines(alloc, &played(alloc, start, script)?)
 }
 
 /// The two crossed moves: `/a/p` below `/b/q/q1`, and `/b/q` below `/a/p/p1`.

@@ -35,7 +35,7 @@ use Rattle.trio_runner.proofs.Orders.{Within, all_ended, ended, is_end, turns_wi
 
 -- ---- the start
 
-no_numbers : (count lib n : ℕ) → In n (numbers_to (none_out count) lib) → ⊥
+pub no_numbers : (count lib n : ℕ) → In n (numbers_to (none_out count) lib) → ⊥
 no_numbers count lib n i =
     let was : lib_at (none_out count) n ≡ Some (record { 0 = lib }) = numbers_to-In (none_out count) lib n i in
     let wrong : None ≡ Some (record { 0 = lib }) = sym (lib_at-none_out count n) ∙ was in

@@ -1,0 +1,167 @@
+//! Read leases that a library hands in: with a settle, and with a change of mode.
+
+ghost use Rattle.std.specs.Prelude.{◌≡◌, ◌∷◌, [], IfSome};
+ghost use Rattle.trio_lists.specs.Lists.{In};
+ghost use Rattle.trio_lease.specs.declared.lease.Lease.TheVariants.{Read};
+ghost use Rattle.trio_desk.specs.Out.{OutAlike, nothing_out, with_lease};
+
+use crate::calls::started;
+use crate::images::{Start, image_bytes};
+use crate::lines::log_lines;
+use std::alloc::Global;
+use trio_ctl::PlainDesk;
+use trio_desk::Desk;
+use trio_lease::{Bundle, Lease, ReadLease};
+use trio_nodes::{GrantKind, Holder, ModeFault};
+use trio_rights::LibNo;
+
+// A lease to read a file, where the desk gives one.
+fn read_lease<D: Desk>(desk: &mut D, ino: u32) -> Option<ReadLease>
+    ensures { IfSome result (λ lease. OutAlike (D.seen desk.new).out (with_lease (D.seen desk.old).out (Read lease))) }
+{
+    match desk.grant(ino, GrantKind::Read) {
+        Ok(Lease::Read(lease)) => Some(lease),
+        Ok(lease) => {
+            lease.discard();
+            None
+        }
+        Err(_) => None,
+    }
+}
+
+// The lease alone, as a list.
+fn listed(alloc: Global, lease: ReadLease) -> Option<Vec<ReadLease>>
+    ensures { IfSome result (λ back. back.items ≡ lease ∷ []) }
+{
+    let mut back = Vec::new(alloc);
+    match back.push(lease) {
+        Ok(()) => Some(back),
+        Err(failed) => {
+            failed.value.discard();
+            back.destroy_empty();
+            None
+        }
+    }
+}
+
+fn let_go(mut back: Vec<ReadLease>) {
+    while let Some(lease) = back.pop() {
+        lease.discard();
+    }
+    back.destroy_empty();
+}
+
+// Takes a file for reading, and hands the lease in with a settle that has nothing else.
+fn settle_reader<D: Desk>(alloc: Global, desk: &mut D, ino: u32) -> Option<()>
+    requires { OutAlike (D.seen desk.old).out nothing_out }
+{
+    let lease = read_lease(desk, ino)?;
+    let back = listed(alloc, lease)?;
+    match desk.settle(Bundle::new(alloc), back, Vec::new(alloc)) {
+        Ok(()) => Some(()),
+        Err((bundle, back, _calls, _fault)) => {
+            bundle.discard();
+            let_go(back);
+            None
+        }
+    }
+}
+
+// Asks for a file to write it, and lets it go.
+fn take_for_writing<D: Desk>(desk: &mut D, ino: u32) {
+    if let Ok(lease) = desk.grant(ino, GrantKind::Write) {
+        lease.discard();
+    }
+}
+
+// The log of a reader of the file `f` that settles, and that writes it then.
+fn settled_log(alloc: Global) -> Option<String> {
+    let mut ctl = started(alloc, &image_bytes(alloc, Start::OneFile).ok()?, 0)?;
+    let mut desk = PlainDesk::of(&mut ctl, LibNo(1));
+    settle_reader(alloc, &mut desk, 3)?;
+    take_for_writing(&mut desk, 3);
+    log_lines(alloc, &ctl)
+}
+
+const SETTLED: &str = "1 grant read 3 granted 0\n\
+    1 back 3\n\
+    1 batch 0\n \
+    writes - holds - pages - numbers -\n\
+    1 grant write 3 granted 0\n";
+
+#[test]
+fn a_settle_gives_read_leases_back(rt: HostRuntime) {
+    let log = settled_log(rt.alloc());
+    assert!(rt; log.as_deref() == Some(SETTLED));
+}
+
+// Hands the lease in with a change of the mode of the file 3; where it comes back, it is given back.
+fn hand_in<D: Desk>(alloc: Global, desk: &mut D, lease: ReadLease) -> Option<Result<(), ModeFault>>
+    requires { In lease (D.seen desk.old).out.reads }
+{
+    let back = listed(alloc, lease)?;
+    match desk.set_mode(3, 0o600, back, None) {
+        Ok(()) => Some(Ok(())),
+        Err((mut back, _call, fault)) => {
+            if let Some(lease) = back.pop() {
+                desk.give_back(lease);
+            }
+            back.destroy_empty();
+            Some(Err(fault))
+        }
+    }
+}
+
+// Takes two files for reading, keeps the lease on the first, and hands in that on the second.
+fn change_mode<D: Desk>(
+    alloc: Global,
+    desk: &mut D,
+    kept: u32,
+    handed: u32,
+) -> Option<Result<(), ModeFault>> {
+    read_lease(desk, kept)?.discard();
+    let lease = read_lease(desk, handed)?;
+    hand_in(alloc, desk, lease)
+}
+
+// The lease that is kept and the one that is handed in; what a change of the mode of `f` is told, and
+// the log then.
+type Row = (u32, u32, Result<(), ModeFault>, &'static str);
+
+const HOLDER: Holder = Holder {
+    lib: LibNo(1),
+    kind: GrantKind::Read,
+    entry: 0,
+};
+
+const ROWS: &[Row] = &[
+    // the lease on the directory `a` is handed in
+    (
+        1,
+        2,
+        Ok(()),
+        "1 grant read 1 granted 0\n1 grant read 2 granted 0\n1 back 2\n1 mode 3 600 ok\n",
+    ),
+    // it is kept: the other one comes back
+    (
+        2,
+        1,
+        Err(ModeFault::Busy(HOLDER)),
+        "1 grant read 2 granted 0\n1 grant read 1 granted 0\n1 back 1\n",
+    ),
+];
+
+fn is_told(alloc: Global, row: &Row) -> Option<bool> {
+    let (kept, handed, wanted, log) = *row;
+    let mut ctl = started(alloc, &image_bytes(alloc, Start::OneFile).ok()?, 0)?;
+    let mut desk = PlainDesk::of(&mut ctl, LibNo(1));
+    let told = change_mode(alloc, &mut desk, kept, handed)?;
+    Some(told == wanted && log_lines(alloc, &ctl)?.as_str() == log)
+}
+
+#[test]
+fn a_change_of_mode_takes_read_leases(rt: HostRuntime) {
+    for row in ROWS {
+        assert!(rt; is_told(rt.alloc(), row) == Some(true));
+    }
+}
