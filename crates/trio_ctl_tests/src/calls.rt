@@ -424,12 +424,15 @@ fn room_where_it_belongs(ctl: &Ctl, bundle: &Bundle) -> Option<u64>
 
 fn room_of_file(alloc: Global) -> Option<u64> {
     let bytes = image_bytes(alloc, Start::OneFile).ok()?;
-    room_of(alloc, &mut started(alloc, &bytes, 0)?, 3)
+    let mut ctl = started(alloc, &bytes, 0)?;
+    let room = room_of(alloc, &mut ctl, 3)?;
+    ctl.make_room(1, room).ok()?;
+    Some(room)
 }
 
 // 4 bytes for each of 32 pages and 64 numbers, 16384 for each of two pages, and 1024 for the release and
 // for its lease.
 #[test]
-fn a_release_needs_room(rt: HostRuntime) {
+fn room_is_told_and_made(rt: HostRuntime) {
     assert!(rt; room_of_file(rt.alloc()) == Some(35_200));
 }
