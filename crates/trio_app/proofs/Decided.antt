@@ -2,9 +2,10 @@
 use Rattle.std.proofs.Common.{◌≡◌, ◌⊎◌, ℕ, List, Option, inl, inr, refl, Some, None, length, ◌≤◌, ap, sym, subst, ◌∙◌, arith}
 use Rattle.trio_io.specs.Shelf.{Shelf, SinkSeen, Rose, IsLonger, IsTold}
 use Rattle.trio_survey.specs.Stored.{BytesVerify}
-use Rattle.trio_script.specs.Script.{unbuilt_line}
+use Rattle.trio_script.specs.Script.{bad_line, script_libs}
+use Rattle.trio_runner.specs.Built.{unbuilt_line}
 use Rattle.trio_app.specs.declared.status.Status.{Status}
-use Rattle.trio_app.specs.declared.status.Status.TheVariants.{Done, NotVerified, Usage, ReadFault, WriteFault, NoMemory, TooLong, NotBuilt}
+use Rattle.trio_app.specs.declared.status.Status.TheVariants.{Done, NotVerified, Usage, BadScript, ReadFault, WriteFault, NoMemory, TooLong, NotBuilt}
 use Rattle.trio_app.specs.Status.{code_of}
 use Rattle.trio_app.specs.Command.{Command, new_image, check, tree, turns, unbuilt, help, version, unknown, command_of}
 use Rattle.trio_app.specs.Images.{ImageFails, ImageStops, ImageVerifies}
@@ -14,7 +15,7 @@ use Rattle.trio_app.specs.Tree.{TreeComesTo}
 use Rattle.trio_app.specs.Turns.{TurnsComesTo, TurnsDone}
 use Rattle.trio_app.specs.declared.words.TreeForm.{TreeForm}
 use Rattle.trio_app.specs.Main.{ComesTo, Main}
-use Rattle.trio_app.specs.Decided.{ImageDecides, Decides, EndsAsDecided, NewDecides, TellsImage, TellsNoImage, TellsScript, TellsTooLong, TurnsDecides}
+use Rattle.trio_app.specs.Decided.{ImageDecides, Decides, EndsAsDecided, NewDecides, TellsImage, TellsBadLine, TellsNoImage, TellsScript, TellsTooLong, TurnsDecides}
 
 -- ---- what a file tells is one thing
 
@@ -52,14 +53,26 @@ longer_not_failing name old text long failing = is_shorter 33554432 name old fai
 
 -- ---- a script
 
+not_both : (number : ℕ) → None ≡ Some number → ⊥
+not_both number e = absurd cc
+
 script_not_longer : (name : List ℕ) (old : Shelf) (line : Option ℕ) → TellsScript name old line → IsLonger 1048576 (old.held name) → ⊥
 script_not_longer name old line script longer = is_longer 1048576 (old.held name) script.bytes script.tells script.within longer
 
-same_line : (name : List ℕ) (old : Shelf) (line other : Option ℕ) (bytes : List ℕ) → TellsScript name old line → IsTold (old.held name) bytes → unbuilt_line bytes ≡ other → line ≡ other
-same_line name old line other bytes script told is = sym script.built ∙ ap unbuilt_line (same_bytes (old.held name) script.bytes bytes script.tells told) ∙ is
+bad_not_longer : (name : List ℕ) (old : Shelf) (line : ℕ) → TellsBadLine name old line → IsLonger 1048576 (old.held name) → ⊥
+bad_not_longer name old line script longer = is_longer 1048576 (old.held name) script.bytes script.tells script.within longer
 
-not_both : (number : ℕ) → None ≡ Some number → ⊥
-not_both number e = absurd cc
+same_line : (name : List ℕ) (old : Shelf) (line other : Option ℕ) (bytes : List ℕ) → TellsScript name old line → IsTold (old.held name) bytes → unbuilt_line (script_libs bytes) ≡ other → line ≡ other
+same_line name old line other bytes script told is = sym script.built ∙ ap (λ b. unbuilt_line (script_libs b)) (same_bytes (old.held name) script.bytes bytes script.tells told) ∙ is
+
+-- a script is good or bad
+good_not_bad : (name : List ℕ) (old : Shelf) (line : Option ℕ) (number : ℕ) (bytes : List ℕ) → TellsScript name old line → IsTold (old.held name) bytes → bad_line bytes ≡ Some number → ⊥
+good_not_bad name old line number bytes script told is =
+    not_both number (sym script.good ∙ ap bad_line (same_bytes (old.held name) script.bytes bytes script.tells told) ∙ is)
+
+bad_not_good : (name : List ℕ) (old : Shelf) (number : ℕ) (bytes : List ℕ) → TellsBadLine name old number → IsTold (old.held name) bytes → bad_line bytes ≡ None → ⊥
+bad_not_good name old number bytes script told is =
+    not_both number (sym is ∙ ap bad_line (sym (same_bytes (old.held name) script.bytes bytes script.tells told)) ∙ script.bad)
 
 -- ---- what a command comes to that reads an image alone
 
@@ -99,6 +112,7 @@ module _ (image script out : List ℕ) (old new : Shelf) (text : List ℕ) (read
   turns_done WriteFault valid built comes = absurd (writes out comes.rose)
   turns_done TooLong valid built (inl long) = absurd (valid_not_longer image old valid long.0)
   turns_done TooLong valid built (inr long) = absurd (script_not_longer script old None built long.0)
+  turns_done BadScript valid built comes = absurd (good_not_bad script old None comes.0 comes.2.script_bytes built comes.2.script_is comes.2.bad)
   turns_done NotBuilt valid built comes = absurd (not_both comes.0 (same_line script old None (Some comes.0) comes.2.script_bytes built comes.2.script_is comes.2.built))
   turns_done _ valid built comes = absurd comes
 
@@ -111,6 +125,7 @@ module _ (image script out : List ℕ) (old new : Shelf) (text : List ℕ) (read
   turns_not_verified WriteFault failing comes = absurd (writes out comes.rose)
   turns_not_verified TooLong failing (inl long) = absurd (failing_not_longer image old failing long.0)
   turns_not_verified TooLong failing (inr long) = absurd (failing_not_valid image old failing long.1)
+  turns_not_verified BadScript failing comes = absurd (failing_not_valid image old failing comes.1)
   turns_not_verified NotBuilt failing comes = absurd (failing_not_valid image old failing comes.1)
   turns_not_verified _ failing comes = absurd comes
 
@@ -122,6 +137,7 @@ module _ (image script out : List ℕ) (old new : Shelf) (text : List ℕ) (read
   turns_image_long ReadFault long (inl fault) = absurd (reads image fault.0)
   turns_image_long ReadFault long (inr fault) = absurd (reads script fault.0)
   turns_image_long WriteFault long comes = absurd (writes out comes.rose)
+  turns_image_long BadScript long comes = absurd (longer_not_valid image old long comes.1)
   turns_image_long NotBuilt long comes = absurd (longer_not_valid image old long comes.1)
   turns_image_long _ long comes = absurd comes
 
@@ -133,6 +149,7 @@ module _ (image script out : List ℕ) (old new : Shelf) (text : List ℕ) (read
   turns_script_long ReadFault valid long (inl fault) = absurd (reads image fault.0)
   turns_script_long ReadFault valid long (inr fault) = absurd (reads script fault.0)
   turns_script_long WriteFault valid long comes = absurd (writes out comes.rose)
+  turns_script_long BadScript valid long comes = absurd (is_shorter 1048576 script old comes.2.script_bytes long comes.2.script_is comes.2.within)
   turns_script_long NotBuilt valid long comes = absurd (is_shorter 1048576 script old comes.2.script_bytes long comes.2.script_is comes.2.within)
   turns_script_long _ valid long comes = absurd comes
 
@@ -146,13 +163,28 @@ module _ (image script out : List ℕ) (old new : Shelf) (text : List ℕ) (read
   turns_not_built WriteFault number valid line comes = absurd (writes out comes.rose)
   turns_not_built TooLong number valid line (inl long) = absurd (valid_not_longer image old valid long.0)
   turns_not_built TooLong number valid line (inr long) = absurd (script_not_longer script old (Some number) line long.0)
+  turns_not_built BadScript number valid line comes = absurd (good_not_bad script old (Some number) comes.0 comes.2.script_bytes line comes.2.script_is comes.2.bad)
   turns_not_built _ number valid line comes = absurd comes
+
+  turns_bad : (status : Status) (number : ℕ) → TellsImage image old → TellsBadLine script old number → TurnsComesTo image script out old new text status → (code_of status ≡ 3) ⊎ (code_of status ≡ 6)
+  turns_bad BadScript number valid line comes = inl refl
+  turns_bad NoMemory number valid line comes = inr refl
+  turns_bad Done number valid line comes = absurd (bad_not_good script old number comes.script_bytes line comes.script_is comes.script_good)
+  turns_bad NotVerified number valid line comes = absurd (valid_not_failing image old text valid comes)
+  turns_bad ReadFault number valid line (inl fault) = absurd (reads image fault.0)
+  turns_bad ReadFault number valid line (inr fault) = absurd (reads script fault.0)
+  turns_bad WriteFault number valid line comes = absurd (writes out comes.rose)
+  turns_bad TooLong number valid line (inl long) = absurd (valid_not_longer image old valid long.0)
+  turns_bad TooLong number valid line (inr long) = absurd (bad_not_longer script old number line long.0)
+  turns_bad NotBuilt number valid line comes = absurd (bad_not_good script old number comes.2.script_bytes line comes.2.script_is comes.2.good)
+  turns_bad _ number valid line comes = absurd comes
 
   pub turns_decided : (decided status : Status) → TurnsDecides image script old decided → TurnsComesTo image script out old new text status → (code_of status ≡ code_of decided) ⊎ (code_of status ≡ 6)
   turns_decided Done status d comes = turns_done status d.0 d.1 comes
   turns_decided NotVerified status d comes = turns_not_verified status d comes
   turns_decided TooLong status (inl d) comes = turns_image_long status d comes
   turns_decided TooLong status (inr d) comes = turns_script_long status d.0 d.1 comes
+  turns_decided BadScript status d comes = turns_bad status d.1.0 d.0 d.1.1 comes
   turns_decided NotBuilt status d comes = turns_not_built status d.1.0 d.0 d.1.1 comes
   turns_decided _ status d comes = absurd d
 

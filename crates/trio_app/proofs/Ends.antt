@@ -1,7 +1,7 @@
 -- How a run ends, and what the whole work comes to.
-use Rattle.std.proofs.Common.{◌≡◌, ℕ, zero, suc, ◌+◌, ◌<◌, ◌≤◌, ◌⊎◌, min, List, [], ◌∷◌, ◌++◌, length, take, get_or, Option, None, Bool, inl, inr, refl, sym, ap, subst, ◌∙◌, arith}
+use Rattle.std.proofs.Common.{◌≡◌, ℕ, zero, suc, ◌+◌, ◌<◌, ◌≤◌, ◌⊎◌, min, List, [], ◌∷◌, ◌++◌, length, map, take, get_or, Option, None, Bool, inl, inr, refl, sym, ap, subst, ◌∙◌, arith}
 use Rattle.std.proofs.Math.Seq.{take-suc}
-use Rattle.std.proofs.lemmas.List.{append-nil, append_assoc, map-append}
+use Rattle.std.proofs.lemmas.List.{append-nil, append_assoc, get_or-map, length-map, map-append}
 use Rattle.trio_io.specs.Shelf.{Shelf, OnlyReads, OnlyReplaces, Rose, told}
 use Rattle.trio_tables.specs.Out.{NoneOut}
 use Rattle.trio_layout.specs.Core.{Core}
@@ -15,7 +15,6 @@ use Rattle.trio_survey.specs.Stored.{HasSuperblock, StoresImage, core_in, image_
 use Rattle.trio_state.specs.State.{State, settled}
 use Rattle.trio_state.specs.Run.{start}
 use Rattle.trio_layout.specs.Tree.{TreeLine, tree_of}
-use Rattle.trio_script.specs.declared.ScriptLine.{ScriptLine}
 use Rattle.trio_script.specs.declared.ScriptLib.{ScriptLib}
 use Rattle.trio_script.specs.Script.{script_libs}
 use Rattle.trio_report.specs.declared.answer.LineAnswer.{LineAnswer}
@@ -32,7 +31,7 @@ use Rattle.trio_ctl.specs.Logged.{recorded}
 use Rattle.trio_runner.specs.Play.{Heard, Played, creds_in}
 use Rattle.trio_runner.specs.Seen.{ScriptPlayed}
 use Rattle.trio_app.specs.declared.status.Status.{Status}
-use Rattle.trio_app.specs.declared.status.Status.TheVariants.{Done, NotVerified, Usage, ReadFault, WriteFault, NoMemory as StatusNoMemory, TooLong, NotBuilt}
+use Rattle.trio_app.specs.declared.status.Status.TheVariants.{Done, NotVerified, Usage, BadScript, ReadFault, WriteFault, NoMemory as StatusNoMemory, TooLong, NotBuilt}
 use Rattle.trio_app.specs.Check.{Check}
 use Rattle.trio_app.specs.Images.{ImageStops, OutKeeps}
 use Rattle.trio_app.specs.Inputs.{ReadsBoth, ReadsLibraries}
@@ -145,6 +144,7 @@ stop_comes image script out old new text NotVerified why = why
 stop_comes image script out old new text ReadFault why = why
 stop_comes image script out old new text StatusNoMemory why = why
 stop_comes image script out old new text TooLong why = why
+stop_comes image script out old new text BadScript why = why
 stop_comes image script out old new text NotBuilt why = why
 stop_comes image script out old new text _ why = absurd why
 
@@ -153,6 +153,7 @@ stop_keeps image script out old new text NotVerified why same = same
 stop_keeps image script out old new text ReadFault why same = same
 stop_keeps image script out old new text StatusNoMemory why same = same
 stop_keeps image script out old new text TooLong why same = same
+stop_keeps image script out old new text BadScript why same = same
 stop_keeps image script out old new text NotBuilt why same = same
 stop_keeps image script out old new text _ why same = absurd why
 
@@ -183,6 +184,7 @@ module _ (image script out : List ℕ) (old mid new : Shelf) (s : Superblock) (p
     image_within = image_read.within;
     script_within = script_read.read.within;
     image_verifies = image_read.verify;
+    script_good = script_read.read.good;
     script_built = script_read.read.built;
     superblock = s;
     lengths = image_read.lengths;
@@ -255,34 +257,44 @@ tree_stop image form old new text _ why files = absurd why
 
 -- ---- the answers
 
-answers_more : (lines : List ScriptLine) (tolds : List LineAnswer) (i : ℕ) (line : ScriptLine) (answer : LineAnswer) → i < length lines → i < length tolds → get_or lines i line ≡ line → get_or tolds i answer ≡ answer
-    → answers_text (take (suc i) lines) (take (suc i) tolds) ≡ answers_text (take i lines) (take i tolds) ++ answer_line line.number answer
-answers_more [] tolds i line answer a b is same = absurd (omega arith)
-answers_more (l ∷ ls) [] i line answer a b is same = absurd (omega arith)
-answers_more (l ∷ ls) (t ∷ ts) zero line answer a b is same =
-    ap (λ (x : ScriptLine). answer_line x.number t ++ answers_text (take 0 ls) (take 0 ts)) is ∙ ap (λ x. answer_line line.number x ++ answers_text (take 0 ls) (take 0 ts)) same ∙ append-nil (answer_line line.number answer)
-answers_more (l ∷ ls) (t ∷ ts) (suc i) line answer a b is same =
-    ap (λ bytes. answer_line l.number t ++ bytes) (answers_more ls ts i line answer (omega arith) (omega arith) is same)
-    ∙ sym (append_assoc (answer_line l.number t) (answers_text (take i ls) (take i ts)) (answer_line line.number answer))
+answers_more : (numbers : List ℕ) (tolds : List LineAnswer) (i : ℕ) (number : ℕ) (answer : LineAnswer) → i < length numbers → i < length tolds → get_or numbers i number ≡ number → get_or tolds i answer ≡ answer
+    → answers_text (take (suc i) numbers) (take (suc i) tolds) ≡ answers_text (take i numbers) (take i tolds) ++ answer_line number answer
+answers_more [] tolds i number answer a b is same = absurd (omega arith)
+answers_more (l ∷ ls) [] i number answer a b is same = absurd (omega arith)
+answers_more (l ∷ ls) (t ∷ ts) zero number answer a b is same =
+    ap (λ x. answer_line x t ++ answers_text (take 0 ls) (take 0 ts)) is ∙ ap (λ x. answer_line number x ++ answers_text (take 0 ls) (take 0 ts)) same ∙ append-nil (answer_line number answer)
+answers_more (l ∷ ls) (t ∷ ts) (suc i) number answer a b is same =
+    ap (λ bytes. answer_line l t ++ bytes) (answers_more ls ts i number answer (omega arith) (omega arith) is same)
+    ∙ sym (append_assoc (answer_line l t) (answers_text (take i ls) (take i ts)) (answer_line number answer))
 
-pub answers_all : (lines : List ScriptLine) (tolds : List LineAnswer) (i : ℕ) → min (length lines) (length tolds) ≤ i → answers_text (take i lines) (take i tolds) ≡ answers_text lines tolds
+answers_all : (numbers : List ℕ) (tolds : List LineAnswer) (i : ℕ) → min (length numbers) (length tolds) ≤ i → answers_text (take i numbers) (take i tolds) ≡ answers_text numbers tolds
 answers_all [] tolds zero h = refl
 answers_all [] tolds (suc i) h = refl
 answers_all (l ∷ ls) [] zero h = refl
 answers_all (l ∷ ls) [] (suc i) h = refl
 answers_all (l ∷ ls) (t ∷ ts) zero h = absurd (omega arith)
-answers_all (l ∷ ls) (t ∷ ts) (suc i) h = ap (λ bytes. answer_line l.number t ++ bytes) (answers_all ls ts i (omega arith))
+answers_all (l ∷ ls) (t ∷ ts) (suc i) h = ap (λ bytes. answer_line l t ++ bytes) (answers_all ls ts i (omega arith))
 
-pub answers_put : (lines : List ScriptLine) (answers : List LineAnswer) (i : ℕ) (line : ScriptLine) (answer : LineAnswer) (old before after : List ℕ) → i < length lines → i < length answers → line ≡ get_or lines i line → answer ≡ get_or answers i answer
-    → before ≡ old ++ answers_text (take i lines) (take i answers) → after ≡ before ++ answer_line (get_or lines i line).number answer
-    → after ≡ old ++ answers_text (take (i + 1) lines) (take (i + 1) answers)
-answers_put lines answers i line answer old before after a b is same first more =
-    let L : List ℕ = answer_line line.number answer in
-    let up : i + 1 ≡ suc i = omega arith in
-    more ∙ ap (λ (l : ScriptLine). before ++ answer_line l.number answer) (sym is) ∙ ap (λ bytes. bytes ++ L) first
-    ∙ append_assoc old (answers_text (take i lines) (take i answers)) L
-    ∙ ap (λ bytes. old ++ bytes) (sym (answers_more lines answers i line answer a b (sym is) (sym same)))
-    ∙ ap (λ n. old ++ answers_text (take n lines) (take n answers)) (sym up)
+-- the answers to lines, by their numbers
+module _ {L : Type 0} (number : L → ℕ) where
+  pub answers_put : (lines : List L) (answers : List LineAnswer) (i : ℕ) (line : L) (answer : LineAnswer) (old before after : List ℕ) → i < length lines → i < length answers → line ≡ get_or lines i line → answer ≡ get_or answers i answer
+      → before ≡ old ++ answers_text (take i (map number lines)) (take i answers) → after ≡ before ++ answer_line (number line) answer
+      → after ≡ old ++ answers_text (take (i + 1) (map number lines)) (take (i + 1) answers)
+  answers_put lines answers i line answer old before after a b is same first more =
+      let numbers : List ℕ = map number lines in
+      let L : List ℕ = answer_line (number line) answer in
+      let up : i + 1 ≡ suc i = omega arith in
+      let many : length numbers ≡ length lines = length-map lines number in
+      let at : get_or numbers i (number line) ≡ number line = get_or-map number lines i line (number line) a ∙ ap number (sym is) in
+      more ∙ ap (λ bytes. bytes ++ L) first
+      ∙ append_assoc old (answers_text (take i numbers) (take i answers)) L
+      ∙ ap (λ bytes. old ++ bytes) (sym (answers_more numbers answers i (number line) answer (omega (arith, a, many)) b at (sym same)))
+      ∙ ap (λ n. old ++ answers_text (take n numbers) (take n answers)) (sym up)
+
+  pub answers_done : (lines : List L) (answers : List LineAnswer) (i : ℕ) → min (length lines) (length answers) ≤ i → answers_text (take i (map number lines)) (take i answers) ≡ answers_text (map number lines) answers
+  answers_done lines answers i h =
+      let many : length (map number lines) ≡ length lines = length-map lines number in
+      answers_all (map number lines) answers i (omega (arith, h, many))
 
 -- ---- the libraries
 

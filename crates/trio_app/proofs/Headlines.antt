@@ -30,7 +30,7 @@ use Rattle.trio_laws.proofs.RowSteps.{every_step_keeps_rows}
 use Rattle.trio_script.specs.declared.ScriptLib.{ScriptLib}
 use Rattle.trio_ctl.specs.Logged.{recorded}
 use Rattle.trio_runner.specs.Rounds.{turns_of}
-use Rattle.trio_runner.specs.Play.{Played, at_start, creds_in}
+use Rattle.trio_runner.specs.Play.{Played, creds_in}
 use Rattle.trio_runner.proofs.EndFree.{ends_free, plays_creds}
 use Rattle.trio_runner.proofs.Logs.{played_is_logged}
 use Rattle.trio_runner.proofs.Plays.{played_is_trace}
@@ -89,7 +89,7 @@ no_page_out image libs played k = (ends_free image libs played k.fit k.verifies 
 pub stored_log : (image : Image) (libs : List ScriptLib) (played : Played image libs) → 0 < image.core.range.first → 0 < (settled played.last.state).core.range.first → Kept (start image (creds_in libs)) → IsRecorded (recorded image played.last.state played.last.log) → StoredLog image libs played
 stored_log image libs played first last_first k r =
     let last : State = played.last.state in
-    let creds : last.creds ≡ creds_in libs = plays_creds (at_start image libs) (turns_of libs) played.moves played.last played.plays in
+    let creds : last.creds ≡ creds_in libs = plays_creds played.first (turns_of libs) played.moves played.last played.plays ∙ ap (λ (s : State). s.creds) played.begins.state in
     let nobody : (g : OpenGrant) → In g last.open_grants → g.kind ≢ Write = λ g i. absurd (subst (In g) (no_grant_open image libs played k) i) in
     let begins : nodes_of image ≡ state_nodes (start image (creds_in libs)) = settled_nodes (start image (creds_in libs)) k (λ g i. absurd i) first in
     let ends : nodes_of (settled last) ≡ state_nodes last = settled_nodes last r.kept nobody last_first in

@@ -3,9 +3,10 @@ use Rattle.std.specs.Prelude.{◌≡◌, ◌⊎◌, ℕ, ◌<◌, ◌≤◌, Lis
 use Rattle.trio_io.specs.Shelf.{Shelf, SinkSeen, Rose}
 use Rattle.trio_survey.specs.Stored.{BytesVerify}
 use Rattle.trio_image.specs.Made.{Fits}
-use Rattle.trio_script.specs.Script.{unbuilt_line}
+use Rattle.trio_script.specs.Script.{bad_line, script_libs}
+use Rattle.trio_runner.specs.Built.{unbuilt_line}
 use Rattle.trio_app.specs.declared.status.Status.{Status}
-use Rattle.trio_app.specs.declared.status.Status.TheVariants.{Done, NotVerified, Usage, TooLong, NotBuilt}
+use Rattle.trio_app.specs.declared.status.Status.TheVariants.{Done, NotVerified, Usage, BadScript, TooLong, NotBuilt}
 use Rattle.trio_app.specs.Status.{code_of}
 use Rattle.trio_app.specs.Command.{Command, new_image, check, tree, turns, unbuilt, help, version, unknown, command_of}
 
@@ -29,12 +30,20 @@ pub record TellsNoImage (name : List ℕ) (files : Shelf) : Type 0 where
   pub within : length bytes ≤ 33554432
   pub fails : BytesVerify bytes → ⊥
 
--- a file tells a script, and this is the first line of it that isn't built, if there is one
+-- a file tells a script, and this is the first line of it that is outside the grammar
+pub record TellsBadLine (name : List ℕ) (files : Shelf) (line : ℕ) : Type 0 where
+  pub bytes : List ℕ
+  pub tells : files.held name ≡ Some bytes
+  pub within : length bytes ≤ 1048576
+  pub bad : bad_line bytes ≡ Some line
+
+-- a file tells a script each line of which is in the grammar, and this is the first one that isn't built, if there is one
 pub record TellsScript (name : List ℕ) (files : Shelf) (line : Option ℕ) : Type 0 where
   pub bytes : List ℕ
   pub tells : files.held name ≡ Some bytes
   pub within : length bytes ≤ 1048576
-  pub built : unbuilt_line bytes ≡ line
+  pub good : bad_line bytes ≡ None
+  pub built : unbuilt_line (script_libs bytes) ≡ line
 
 -- what PAGES and INODES decide
 abbrev pub NewDecides : ℕ → ℕ → Status → Type 0
@@ -54,6 +63,7 @@ abbrev pub TurnsDecides : List ℕ → List ℕ → Shelf → Status → Type 0
 TurnsDecides image script files Done = TellsImage image files × TellsScript script files None
 TurnsDecides image script files NotVerified = TellsNoImage image files
 TurnsDecides image script files TooLong = TellsTooLong 33554432 image files ⊎ (TellsImage image files × TellsTooLong 1048576 script files)
+TurnsDecides image script files BadScript = TellsImage image files × ((number : ℕ) × TellsBadLine script files number)
 TurnsDecides image script files NotBuilt = TellsImage image files × ((number : ℕ) × TellsScript script files (Some number))
 TurnsDecides image script files _ = ⊥
 

@@ -1,15 +1,24 @@
 -- What reading an image and a script gives, and what it leaves of the files.
-use Rattle.std.specs.Prelude.{◌≡◌, ◌≢◌, ℕ, ◌≤◌, Option, None, List, length}
+use Rattle.std.specs.Prelude.{◌≡◌, ◌≢◌, ℕ, ◌≤◌, Option, None, Some, List, length}
 use Rattle.trio_io.specs.Shelf.{Shelf, IsTold}
-use Rattle.trio_script.specs.Script.{script_libs, unbuilt_line}
+use Rattle.trio_script.specs.Script.{bad_line, script_libs}
 use Rattle.trio_script.specs.declared.ScriptLib.{ScriptLib}
+use Rattle.trio_runner.specs.Built.{unbuilt_line}
 
--- the script was read, and this is the first line of it for which nothing is built, if there is one
+-- the script was read, and this is the first line of it that is outside the grammar
+pub record ReadsBadLine (script : List ℕ) (old : Shelf) (number : ℕ) : Type 0 where
+  pub script_bytes : List ℕ
+  pub script_is : IsTold (old.held script) script_bytes
+  pub within : length script_bytes ≤ 1048576
+  pub bad : bad_line script_bytes ≡ Some number
+
+-- the script was read, each line of it is in the grammar, and this is the first one for which nothing is built, if there is one
 pub record ReadsScript (script : List ℕ) (old : Shelf) (unbuilt : Option ℕ) : Type 0 where
   pub script_bytes : List ℕ
   pub script_is : IsTold (old.held script) script_bytes
   pub within : length script_bytes ≤ 1048576
-  pub built : unbuilt_line script_bytes ≡ unbuilt
+  pub good : bad_line script_bytes ≡ None
+  pub built : unbuilt_line (script_libs script_bytes) ≡ unbuilt
 
 -- the script was read, each line of it is built, and these are its libraries with their lines, 1 to 16 of them
 pub record ReadsLibraries (script : List ℕ) (old : Shelf) (libs : List ScriptLib) : Type 0 where

@@ -1,12 +1,14 @@
 -- The report of a run, by the image that is settled at its end.
-use Rattle.std.specs.Prelude.{ℕ, ◌+◌, List, [], ◌∷◌, ◌++◌, Option, None, Some}
+use Rattle.std.specs.Prelude.{ℕ, ◌+◌, List, [], ◌∷◌, ◌++◌, map, Option, None, Some}
 use Rattle.trio_layout.specs.Image.{Image}
 use Rattle.trio_layout.specs.Tree.{tree_of}
 use Rattle.trio_image.specs.declared.counts.Counts.{Counts}
 use Rattle.trio_image.specs.Counts.{counts_of}
 use Rattle.trio_script.specs.declared.ScriptLib.{ScriptLib}
-use Rattle.trio_script.specs.declared.ScriptLine.{ScriptLine}
-use Rattle.trio_report.specs.declared.report.LibraryKind.TheVariants.{Raw}
+use Rattle.trio_script.specs.declared.Lines.{Lines}
+use Rattle.trio_script.specs.declared.Lines.TheVariants.{Raw as RawLines, Honest as HonestLines}
+use Rattle.trio_report.specs.declared.report.LibraryKind.{LibraryKind}
+use Rattle.trio_report.specs.declared.report.LibraryKind.TheVariants.{Raw, Honest}
 use Rattle.trio_report.specs.declared.report.EndAnswer.{EndAnswer}
 use Rattle.trio_report.specs.Answers.{answer_line}
 use Rattle.trio_report.specs.Report.{counts_text, end_line, lib_heading, tree_text}
@@ -19,9 +21,19 @@ abbrev pub told_counts : Counts → Totals
 told_counts counts = record { inodes = counts.inodes; pages = counts.pages; free = counts.free }
 
 -- the answer to each line, behind the line's number
-abbrev pub answers_text : List ScriptLine → List LineAnswer → List ℕ
-answers_text (line ∷ lines) (told ∷ tolds) = answer_line line.number told ++ answers_text lines tolds
+abbrev pub answers_text : List ℕ → List LineAnswer → List ℕ
+answers_text (number ∷ numbers) (told ∷ tolds) = answer_line number told ++ answers_text numbers tolds
 answers_text _ _ = []
+
+-- the kind of a library, by its lines
+abbrev pub kind_of : Lines → LibraryKind
+kind_of (RawLines lines) = Raw
+kind_of (HonestLines lines) = Honest
+
+-- the numbers of its lines
+abbrev pub numbers_of : Lines → List ℕ
+numbers_of (RawLines lines) = map (λ l. l.number) lines
+numbers_of (HonestLines lines) = map (λ l. l.number) lines
 
 -- the line that tells a library's end, once it has come
 abbrev pub ended_text : Option EndAnswer → List ℕ
@@ -30,7 +42,7 @@ ended_text (Some end) = end_line end
 
 -- the part on library n: its heading, the answers to its lines, and that of its end
 abbrev pub lib_text : ℕ → ScriptLib → Heard → List ℕ
-lib_text n lib heard = lib_heading n Raw ++ answers_text lib.lines heard.answers ++ ended_text heard.end
+lib_text n lib heard = lib_heading n (kind_of lib.lines) ++ answers_text (numbers_of lib.lines) heard.answers ++ ended_text heard.end
 
 -- the parts on libraries, of which the first has this number, in their order
 abbrev pub libs_text : ℕ → List ScriptLib → List Heard → List ℕ

@@ -6,14 +6,15 @@ use Rattle.trio_state.specs.State.{settled}
 use Rattle.trio_survey.specs.Stored.{BytesVerify, StoresImage, image_in, pages_in, bytes_in}
 use Rattle.trio_image.specs.Fault.{HasLength}
 use Rattle.trio_ctl.specs.Ctl.{superblock_for}
-use Rattle.trio_script.specs.Script.{script_libs, unbuilt_line}
+use Rattle.trio_script.specs.Script.{bad_line, script_libs}
+use Rattle.trio_runner.specs.Built.{unbuilt_line}
 use Rattle.trio_runner.specs.Play.{Played, creds_in}
 use Rattle.trio_app.specs.Headline.{Headline, StoredLog}
 use Rattle.trio_app.specs.declared.status.Status.{Status}
-use Rattle.trio_app.specs.declared.status.Status.TheVariants.{Done, NotVerified, ReadFault, WriteFault, NoMemory, TooLong, NotBuilt}
+use Rattle.trio_app.specs.declared.status.Status.TheVariants.{Done, NotVerified, BadScript, ReadFault, WriteFault, NoMemory, TooLong, NotBuilt}
 use Rattle.trio_app.specs.Images.{ImageVerifies, ImageFails, OutKeeps}
-use Rattle.trio_app.specs.Inputs.{ReadsScript}
-use Rattle.trio_app.specs.Lines.{read_fault_line, too_long_line, write_fault_line, not_built_line}
+use Rattle.trio_app.specs.Inputs.{ReadsBadLine, ReadsScript}
+use Rattle.trio_app.specs.Lines.{read_fault_line, too_long_line, write_fault_line, not_built_line, script_line}
 use Rattle.trio_app.specs.Report.{report_text}
 
 -- all was done with the bytes of both files
@@ -25,7 +26,8 @@ pub record TurnsDone (image script out : List ℕ) (old new : Shelf) (text : Lis
   pub image_within : length image_bytes ≤ 33554432
   pub script_within : length script_bytes ≤ 1048576
   pub image_verifies : BytesVerify image_bytes
-  pub script_built : unbuilt_line script_bytes ≡ None
+  pub script_good : bad_line script_bytes ≡ None
+  pub script_built : unbuilt_line (script_libs script_bytes) ≡ None
   pub superblock : Superblock
   pub lengths : HasLength image_bytes superblock
   -- the script as it is played on the image, what holds of each of its moves, and what holds of the log that was stored
@@ -57,6 +59,8 @@ InputsStop image script old new text NotVerified = ImageFails image old text
 InputsStop image script old new text ReadFault = TurnsReadFault image script old new text
 InputsStop image script old new text NoMemory = text ≡ []
 InputsStop image script old new text TooLong = TurnsTooLong image script old text
+InputsStop image script old new text BadScript =
+    (number : ℕ) × ImageVerifies image old × ReadsBadLine script old number × (text ≡ script_line number)
 InputsStop image script old new text NotBuilt =
     (number : ℕ) × ImageVerifies image old × ReadsScript script old (Some number) × (text ≡ not_built_line number)
 InputsStop image script old new text _ = ⊥

@@ -2,7 +2,7 @@
 
 ghost use Rattle.std.specs.Prelude.{◌≡◌, ◌++◌, codes, IfOk};
 ghost use Rattle.trio_names.specs.Escaped.{escaped_of};
-ghost use Rattle.trio_app.specs.Lines.{invalid_line, length_line, made_line, not_built_line, valid_line};
+ghost use Rattle.trio_app.specs.Lines.{invalid_line, length_line, made_line, not_built_line, script_line, valid_line};
 
 use std::alloc::Global;
 use trio_names::escaped;
@@ -44,6 +44,14 @@ pub fn invalid_line(alloc: Global, rule: u8) -> Result<Vec<u8>, NoMemory>
         return b"invalid tables\n".to_vec(alloc);
     }
     let line = format!(in alloc; "invalid I{rule}\n")?;
+    Ok(line.into_bytes())
+}
+
+/// The line that names a line of a script that is outside the grammar.
+pub fn bad_line_text(alloc: Global, number: u32) -> Result<Vec<u8>, NoMemory>
+    ensures { IfOk result (λ line. line.items ≡ script_line number) }
+{
+    let line = format!(in alloc; "script line {number}\n")?;
     Ok(line.into_bytes())
 }
 

@@ -6,8 +6,9 @@ ghost use Rattle.trio_survey.specs.Stored.{core_in, image_in};
 ghost use Rattle.trio_layout.specs.Tree.{tree_of};
 ghost use Rattle.trio_image.specs.Counts.{counts_of};
 ghost use Rattle.trio_ctl.specs.Ctl.{writer_of, TellsSettled};
+ghost use Rattle.trio_runner.specs.Built.{unbuilt_line};
 ghost use Rattle.trio_runner.specs.Play.{creds_in};
-ghost use Rattle.trio_app.specs.Report.{answers_text, lib_text, libs_text, told_counts};
+ghost use Rattle.trio_app.specs.Report.{answers_text, kind_of, lib_text, libs_text, numbers_of, told_counts};
 ghost use Rattle.trio_app.specs.inner.RunEnd.{IsRunEnd};
 
 use crate::images::told_counts;
@@ -20,7 +21,7 @@ use trio_report::{
 };
 use trio_rights::{Creds, LibNo};
 use trio_runner::{LibTold, play};
-use trio_script::{ScriptLib, ScriptLine};
+use trio_script::{HonestLine, Lines, RawLine, ScriptLib, ScriptLine};
 
 /// What a run left.
 #[derive(Drop)]
@@ -36,6 +37,7 @@ pub struct RunEnd {
 pub fn run(alloc: Global, image: Image, libs: &[ScriptLib]) -> Result<RunEnd, NoMemory>
     requires some { 1 ≤ length libs.now }
     requires few { length libs.now ≤ 16 }
+    requires built { unbuilt_line libs.now ≡ None }
     ensures { IfOk result (λ end. IsRunEnd image.superblock image.pages libs.now end.report.items end.image.pages) }
 {
     let _superblock = image.superblock();
@@ -125,11 +127,21 @@ fn put_library(
 ) -> Result<(), NoMemory>
     ensures { OnOk result (text.new.items ≡ text.old.items ++ lib_text number.0 lib.now told.now) }
 {
-    put_heading(alloc, text, number, LibraryKind::Raw)?;
-    put_answers(alloc, text, lib.lines.as_slice(), told.answers())?;
+    put_heading(alloc, text, number, kind_of(&lib.lines))?;
+    put_answers(alloc, text, &lib.lines, told.answers())?;
     match told.end() {
         Some(end) => put_end(alloc, text, end),
         None => Ok(()),
+    }
+}
+
+/// The kind of a library, by its lines.
+fn kind_of(lines: &Lines) -> LibraryKind
+    ensures { result ≡ kind_of lines.now }
+{
+    match lines {
+        Lines::Raw(_) => LibraryKind::Raw,
+        Lines::Honest(_) => LibraryKind::Honest,
     }
 }
 
@@ -137,10 +149,38 @@ fn put_library(
 fn put_answers(
     alloc: Global,
     text: &mut Vec<u8>,
-    lines: &[ScriptLine],
+    lines: &Lines,
     answers: &[LineAnswer],
 ) -> Result<(), NoMemory>
-    ensures { OnOk result (text.new.items ≡ text.old.items ++ answers_text lines.now answers.now) }
+    ensures { OnOk result (text.new.items ≡ text.old.items ++ answers_text (numbers_of lines.now) answers.now) }
+{
+    match lines {
+        Lines::Raw(lines) => put_raw_answers(alloc, text, lines.as_slice(), answers),
+        Lines::Honest(lines) => put_honest_answers(alloc, text, lines.as_slice(), answers),
+    }
+}
+
+fn put_raw_answers(
+    alloc: Global,
+    text: &mut Vec<u8>,
+    lines: &[ScriptLine<RawLine>],
+    answers: &[LineAnswer],
+) -> Result<(), NoMemory>
+    ensures { OnOk result (text.new.items ≡ text.old.items ++ answers_text (numbers_of (Lines.Raw lines.now)) answers.now) }
+{
+    for at in 0..lines.len().min(answers.len()) {
+        put_answer(alloc, text, lines[at].number, &answers[at])?;
+    }
+    Ok(())
+}
+
+fn put_honest_answers(
+    alloc: Global,
+    text: &mut Vec<u8>,
+    lines: &[ScriptLine<HonestLine>],
+    answers: &[LineAnswer],
+) -> Result<(), NoMemory>
+    ensures { OnOk result (text.new.items ≡ text.old.items ++ answers_text (numbers_of (Lines.Honest lines.now)) answers.now) }
 {
     for at in 0..lines.len().min(answers.len()) {
         put_answer(alloc, text, lines[at].number, &answers[at])?;

@@ -14,6 +14,8 @@ pub enum Status {
     NotVerified,
     /// The words are no command, or PAGES and INODES are out of their limits.
     Usage,
+    /// A line of the script is outside its grammar.
+    BadScript,
     /// A file could not be read.
     ReadFault,
     /// OUT could not be written, or the text could not be put.
@@ -35,6 +37,7 @@ impl Status {
             Status::Done => 0,
             Status::NotVerified => 1,
             Status::Usage => 2,
+            Status::BadScript => 3,
             Status::ReadFault => 4,
             Status::WriteFault => 5,
             Status::NoMemory => 6,

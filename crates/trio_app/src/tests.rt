@@ -252,41 +252,71 @@ const INPUTS: &[Input] = &[
     // an owner of a free page, and a row that differs
     (IMAGE_SIZE, &[(8220, 2)], b"", 1, b"invalid tables\n"),
     (IMAGE_SIZE, &[(4130, 0xa5)], SCRIPT, 1, b"invalid tables\n"),
-    // a directory of five bytes, also where the script isn't built
+    // a directory of five bytes, also where the script is bad
     (IMAGE_SIZE, &[(16_388, 2)], SCRIPT, 1, b"invalid I1\n"),
     (IMAGE_SIZE, &[(16_388, 2)], b"", 1, b"invalid I1\n"),
     // a slot outside the grammar
     (IMAGE_SIZE, &[(16_390, 1)], SCRIPT, 1, b"invalid I1\n"),
-    (IMAGE_SIZE, &[], b"", 8, b"not built line 1\n"),
+    (IMAGE_SIZE, &[], b"", 3, b"script line 1\n"),
     (
         IMAGE_SIZE,
         &[],
         b"lib 1 raw 0 0\nlib 3 raw 0 0\n",
-        8,
-        b"not built line 2\n",
+        3,
+        b"script line 2\n",
     ),
     (
         IMAGE_SIZE,
         &[],
         b"lib 1 raw 0 0\n\nallot 1",
+        3,
+        b"script line 3\n",
+    ),
+    // a line of the other kind of library
+    (
+        IMAGE_SIZE,
+        &[],
+        b"lib 1 honest 0 0\nstat /\ngrant read 1\n",
+        3,
+        b"script line 3\n",
+    ),
+    (
+        IMAGE_SIZE,
+        &[],
+        b"lib 1 raw 0 0\nstat /\n",
+        3,
+        b"script line 2\n",
+    ),
+    // calls that aren't of a file, also where a later line is bad
+    (
+        IMAGE_SIZE,
+        &[],
+        b"lib 1 honest 0 0\nstat /f\nsettle\nmkdir /a 755\nlist / 0\n",
         8,
-        b"not built line 3\n",
+        b"not built line 4\n",
+    ),
+    (
+        IMAGE_SIZE,
+        &[],
+        b"lib 1 raw 0 0\nlib 2 honest 0 0\nchmod /f 600\nmkdir a 755\n",
+        3,
+        b"script line 4\n",
     ),
     // a seventeenth library
     (
         IMAGE_SIZE,
         &[],
         b"lib 1 raw 1 0\ngrant read 2\nlib 2 raw 2 0\ngrant read 2\nlib 3 raw 3 0\ngrant read 2\nlib 4 raw 4 0\ngrant read 2\nlib 5 raw 5 0\ngrant read 2\nlib 6 raw 6 0\ngrant read 2\nlib 7 raw 7 0\ngrant read 2\nlib 8 raw 8 0\ngrant read 2\nlib 9 raw 9 0\ngrant read 2\nlib 10 raw 10 0\ngrant read 2\nlib 11 raw 11 0\ngrant read 2\nlib 12 raw 12 0\ngrant read 2\nlib 13 raw 13 0\ngrant read 2\nlib 14 raw 14 0\ngrant read 2\nlib 15 raw 15 0\ngrant read 2\nlib 16 raw 16 0\ngrant read 2\nlib 17 raw 17 0\ngrant read 2\n",
-        8,
-        b"not built line 33\n",
+        3,
+        b"script line 33\n",
     ),
     // a page is named twice
     (
         IMAGE_SIZE,
         &[],
         b"lib 1 raw 0 0\nallot 1 0\nrelease - 7,7 -\n",
-        8,
-        b"not built line 3\n",
+        3,
+        b"script line 3\n",
     ),
     (IMAGE_SIZE, &[], b"# nothing else\nlib 1 raw 0 0", 0, REPORT),
 ];
@@ -412,7 +442,7 @@ const COMMANDS: &[(&[&str], End)] = &[
     ),
     (
         &["turns", "first.img", "first.img", "o p"],
-        (8, b"not built line 1\n", ("o p", Kept::Before)),
+        (3, b"script line 1\n", ("o p", Kept::Before)),
     ),
     (
         &["run", "first.img", "script", "o p"],
@@ -1133,6 +1163,44 @@ const SHARED_SESSIONS: &[Session] = &[
     ),
 ];
 
+// What honest libraries do on `a` and `f`, beside raw ones and beside each other.
+const HONEST_SESSIONS: &[Session] = &[
+    // the read lease is settled before the write, with the first call
+    (
+        "lib 1 honest 0 0\nread /a/f 0 10\nwrite /a/f 4096 x\nstat /a/f\ntruncate /a/f 33554433\ntruncate /a/f 33554432\n",
+        "lib 1 honest\n2 ok 5 hello\n3 ok 1\n4 ok f 644 0 0 4097\n5 toolarge\n6 nospace 8206 22\nend settled 4\n",
+        GROWN_TREE,
+        Out::Part(32_773, 36_864, 0),
+    ),
+    // what a raw library wrote is read, and what of it was refused isn't seen
+    (
+        "lib 1 raw 0 0\ngrant write 3\npoke block 3 0 0 4a\nrelease 3 - -\nlib 2 honest 0 0\nstat /\nstat /a\nstat /a\nread /a/f 0 5\n",
+        "lib 1 raw\n2 granted\n3 poked\n4 accepted\nend nothing\nlib 2 honest\n6 ok d 755 0 0 1\n7 ok d 755 0 0 1\n8 ok d 755 0 0 1\n9 ok 5 Jello\nend settled 4\n",
+        TREE,
+        Out::Part(32_768, 32_769, b'J'),
+    ),
+    (
+        "lib 1 raw 0 0\ngrant write 3\npoke block 3 0 0 4a\npoke body 3 16 0110000000000000\nrelease 3 - -\nlib 2 honest 0 0\nstat /a/f\nsettle\nstat /a\nstat /\nstat /a/f\nread /a/f 0 5\n",
+        "lib 1 raw\n2 granted\n3 poked\n4 poked\n5 refused I1\nend nothing\nlib 2 honest\n7 busy\n8 settled 0\n9 ok d 755 0 0 1\n10 ok d 755 0 0 1\n11 ok f 644 0 0 5\n12 ok 5 Jello\nend settled 4\n",
+        TREE,
+        Out::Part(32_768, 32_769, b'J'),
+    ),
+    // one finds the file busy until the other has settled
+    (
+        "lib 1 honest 0 0\nwrite /a/f 0 J\nstat /a/f\nlib 2 honest 0 0\nwrite /a/f 1 y\nread /a/f 0 5\nsettle\nwrite /a/f 1 y\nread /a/f 0 5\n",
+        "lib 1 honest\n2 ok 1\n3 ok f 644 0 0 5\nend settled 2\nlib 2 honest\n5 busy\n6 busy\n7 settled 0\n8 ok 1\n9 ok 5 Jyllo\nend settled 2\n",
+        TREE,
+        Out::Part(32_769, 32_770, b'y'),
+    ),
+    // each has its own rights, and refused calls are settled as well
+    (
+        "lib 1 honest 5 5\nread /a/f 0 5\nwrite /a/f 0 J\ntruncate /a/f 3\nread /a 0 5\nstat /a\nread /a/g 0 5\nread /a/f/g 0 5\nsettle\nlib 2 honest 0 0\nread /a/f 0 5\nwrite /a/f 0 J\ntruncate /a/f 3\nsettle\nread /a/f 0 5\nwrite / 0 x\n",
+        "lib 1 honest\n2 ok 5 hello\n3 denied\n4 denied\n5 isdir\n6 ok d 755 0 0 1\n7 notfound\n8 notdir\n9 settled 7\nend settled 0\nlib 2 honest\n11 ok 5 hello\n12 busy\n13 busy\n14 settled 0\n15 ok 5 hello\n16 isdir\nend settled 2\n",
+        TREE,
+        SAME,
+    ),
+];
+
 // `a` in the root, and nothing else.
 const MODE_SESSIONS: &[Session] = &[
     (
@@ -1198,6 +1266,19 @@ fn all_play<R: Threads + Wait + Sync + AllocGlobal>(
 fn libraries_are_apart(rt: HostRuntime) -> Result<(), Fail> {
     let whole = tree_image(rt.alloc())?;
     for session in SHARED_SESSIONS {
+        assert!(rt;
+            all_play(&rt, &whole, *session) == Some(true),
+            "{}",
+            session.0
+        );
+    }
+    Ok(())
+}
+
+#[test]
+fn honest_libraries_call(rt: HostRuntime) -> Result<(), Fail> {
+    let whole = tree_image(rt.alloc())?;
+    for session in HONEST_SESSIONS {
         assert!(rt;
             all_play(&rt, &whole, *session) == Some(true),
             "{}",

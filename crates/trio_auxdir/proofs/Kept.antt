@@ -1,5 +1,5 @@
 -- What ties the fields of a hashed directory together, after one call.
-use Rattle.std.proofs.Common.{◌≡◌, ◌≢◌, ℕ, zero, suc, ◌+◌, ◌*◌, ◌/◌, ◌%◌, ◌<◌, ◌≤◌, ◌^◌, min, cond, Bool, true, false, List, [], ◌∷◌, ◌++◌, length, set, replicate, Option, None, Some, refl, sym, ap, subst, ◌∙◌, arith}
+use Rattle.std.proofs.Common.{◌≡◌, ◌≢◌, ℕ, zero, suc, ◌+◌, ◌*◌, ◌/◌, ◌%◌, ◌<◌, ◌^◌, min, cond, Bool, true, false, List, [], ◌∷◌, ◌++◌, length, set, replicate, Option, None, Some, refl, sym, ap, subst, ◌∙◌, arith}
 use Rattle.std.specs.Prelude.{slice_get}
 use Rattle.std.specs.Option.{option_map}
 use Rattle.std.specs.Str.{bytes_eq}
@@ -56,7 +56,7 @@ kept_same slots new order order' first is e same = record {
 }
 
 pub kept_empties : (slots new : List Slot) (order : List ℕ) (first : ℕ) → IsKept slots order first → new ≡ slots ++ replicate 16 None
-    → length slots + 16 ≤ 2 ^ 32 → IsKept new order first
+    → length slots + 16 < 2 ^ 32 → IsKept new order first
 kept_empties slots new order first is e few = record {
   index = subst (λ (x : List Slot). IsIndex x order) (sym e) (index_empties 16 slots order is.index);
   at_gap = is.at_gap ∙ sym (gap-empties slots 16) ∙ ap gap (sym e);

@@ -5,3 +5,4 @@ pub mod Indexes
 pub mod Kept
 pub mod PageSlots
 pub mod Scans
+pub mod Counted

@@ -58,7 +58,7 @@ flat_map-set f (x ∷ xs) (suc b) s y d v len lt small e =
 
 -- ---- slots
 
-length-slots_on : (inodes : ℕ) (page : List ℕ) → length (slots_on inodes page) ≡ 16
+pub length-slots_on : (inodes : ℕ) (page : List ℕ) → length (slots_on inodes page) ≡ 16
 unfolding slots_on
 length-slots_on inodes page = tabulated-length (slot_on inodes page) 16
 
@@ -94,7 +94,7 @@ zeros_empty inodes =
     let bytes : slot_bytes k (zeros 4096) ≡ zeros 256 = slice-zeros 4096 (256 * k) (256 * k + 256) (omega arith) ∙ ap zeros size in
     zero_empty inodes (zeros 4096) k (ap (number_at w32 0) bytes ∙ number32_zeros 0 256 (omega arith)))
 
-length-slots_of : (inodes : ℕ) (pages : List (List ℕ)) → length (slots_of inodes pages) ≡ 16 * length pages
+pub length-slots_of : (inodes : ℕ) (pages : List (List ℕ)) → length (slots_of inodes pages) ≡ 16 * length pages
 length-slots_of inodes [] = refl
 length-slots_of inodes (p ∷ pages) =
     omega (arith, length-append (slots_on inodes p) (slots_of inodes pages), length-slots_on inodes p, length-slots_of inodes pages)

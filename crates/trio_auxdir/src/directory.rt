@@ -1,6 +1,8 @@
 //! Hashed directories.
 
 ghost use Rattle.std.specs.Prelude.{◌≡◌, ℕ, List, if◌then◌else◌, ◌+◌, ◌<◌, ◌≤◌, ◌++◌, [], None, Some, IfSome, IsOk, IsSome, IsTrue, OnErr, OnOk, length, replicate, slice_get, slice_set};
+ghost use Rattle.std.specs.List.{filter};
+ghost use Rattle.std.specs.Option.{is_some};
 ghost use Rattle.std.specs.Str.{bytes_eq};
 ghost use Rattle.trio_page.specs.Home.{raised};
 ghost use Rattle.trio_auxdir.specs.Directory.{Directory, HasRoom, NoRoomLost};
@@ -15,8 +17,8 @@ use std::marker::Model;
 use trio_names::Name;
 use trio_page::{NoMemory, Page};
 
-// slots are numbered by 32 bits
-const SLOT_LIMIT: usize = 0x1_0000_0000;
+// slots are numbered and counted by 32 bits, 16 to a block
+const SLOT_LIMIT: usize = 0xFFFF_FFF0;
 
 /// The index of one directory: where each name stands, and the first empty slot.
 ///
@@ -39,7 +41,7 @@ pub struct HashedDir {
 }
 
 impl Model for HashedDir {
-    ghost use Rattle.std.specs.Prelude.{min, vec_capacity, ◌^◌};
+    ghost use Rattle.std.specs.Prelude.{min, vec_capacity, ◌^◌, ◌-◌};
     ghost use Rattle.trio_auxdir.specs.Directory.{Directory};
     ghost use Rattle.trio_auxdir.specs.inner.Index.{IsKept, spare};
 
@@ -48,7 +50,7 @@ impl Model for HashedDir {
     ghost view = { λ d. record {
       inodes = d.inodes;
       slots = d.slots.items;
-      room = record { slots = min (vec_capacity d.slots) (2 ^ 32); names = spare d.order };
+      room = record { slots = min (vec_capacity d.slots) (2 ^ 32 - 16); names = spare d.order };
     } };
 
     ghost invariant = { λ d. IsKept d.slots.items d.order.items d.first };
@@ -115,6 +117,13 @@ impl HashedDir {
         } else {
             None
         }
+    }
+
+    /// How many names there are. It takes the same time whatever the directory.
+    pub fn len(&self) -> u32
+        ensures { result ≡ length (filter is_some self.now.slots) }
+    {
+        self.order.len() as u32
     }
 
     /// Makes room: after `Ok` one [`grow`](Self::grow) and one [`add`](Self::add) or

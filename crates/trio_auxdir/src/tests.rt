@@ -111,12 +111,13 @@ fn eight_thousand_names(rt: HostRuntime) -> Result<(), Fail> {
         assert!(rt; dir.find(&old, &mut finds) == Some(place_at(i)));
         assert!(rt; turn(&mut dir, &mut finds, &old, new)? == Some(place_at(i)));
     }
+    assert!(rt; dir.len() == 8000);
     for i in 0..8000u32 {
         let name = numbered(b'm', i)?;
         assert!(rt; take(&mut dir, &mut finds, &name) == Some(place_at(i)));
         assert!(rt; dir.find(&name, &mut finds).is_none());
     }
-    assert!(rt; dir.first_empty() == Some(place_at(0)));
+    assert!(rt; dir.len() == 0 && dir.first_empty() == Some(place_at(0)));
     assert!(rt; finds.count() == 48_000);
     Ok(())
 }

@@ -12,8 +12,8 @@ use trio_nodes::{Bytes, GrantKind, List, Spot};
 use trio_page::NoMemory;
 use trio_report::LineAnswer;
 use trio_rights::Creds;
-use trio_runner::play;
-use trio_script::{RawLine, ScriptLib, ScriptLine};
+use trio_runner::{play, unbuilt_line};
+use trio_script::{Lines, RawLine, ScriptLib, ScriptLine};
 
 /// The pages of the image, of 4096 bytes each, and its inode numbers.
 const PAGES: u32 = 8192;
@@ -86,11 +86,14 @@ fn released(alloc: Global) -> Option<Ctl> {
     let Ok(mut ctl) = Ctl::start(alloc, image, creds) else {
         return None;
     };
-    let tolds = play(alloc, &mut ctl, &libs).ok()?;
-    if tolds.first()?.answers().last() != Some(&LineAnswer::Accepted) {
+    if unbuilt_line(&libs).is_some() {
         return None;
     }
-    Some(ctl)
+    let tolds = play(alloc, &mut ctl, &libs).ok()?;
+    match tolds.first()?.answers().last() {
+        Some(LineAnswer::Accepted) => Some(ctl),
+        _ => None,
+    }
 }
 
 /// The credentials of a script's libraries, in their order.
@@ -114,19 +117,19 @@ fn script(alloc: Global) -> Result<Vec<ScriptLib>, NoMemory>
     add_release(alloc, &mut lines)?;
     let lib = ScriptLib {
         creds: Creds { uid: 0, gid: 0 },
-        lines: List::from_vec(lines),
+        lines: Lines::Raw(List::from_vec(lines)),
     };
     Ok(vec![in alloc; lib]?)
 }
 
-fn add(lines: &mut Vec<ScriptLine>, line: RawLine) -> Result<(), NoMemory> {
+fn add(lines: &mut Vec<ScriptLine<RawLine>>, line: RawLine) -> Result<(), NoMemory> {
     lines.push(ScriptLine { number: 0, line })?;
     Ok(())
 }
 
 fn add_poke(
     alloc: Global,
-    lines: &mut Vec<ScriptLine>,
+    lines: &mut Vec<ScriptLine<RawLine>>,
     at: Spot,
     offset: u32,
     bytes: &[u8],
@@ -136,7 +139,7 @@ fn add_poke(
 }
 
 /// The root lists the file `f` of number 2, in a block of its own.
-fn add_root(alloc: Global, lines: &mut Vec<ScriptLine>) -> Result<(), NoMemory> {
+fn add_root(alloc: Global, lines: &mut Vec<ScriptLine<RawLine>>) -> Result<(), NoMemory> {
     let pages = PAGES - ROOT_INDEX;
     add(lines, RawLine::Allot { pages, inodes: 1 })?;
     let kind = GrantKind::Write;
@@ -161,7 +164,7 @@ fn add_root(alloc: Global, lines: &mut Vec<ScriptLine>) -> Result<(), NoMemory> 
 /// The first index page of a file and its size, as a body has them.
 fn add_chain(
     alloc: Global,
-    lines: &mut Vec<ScriptLine>,
+    lines: &mut Vec<ScriptLine<RawLine>>,
     at: Spot,
     offset: u32,
     index: u32,
@@ -174,7 +177,7 @@ fn add_chain(
 }
 
 /// The index pages of the file.
-fn add_file(alloc: Global, lines: &mut Vec<ScriptLine>) -> Result<(), NoMemory> {
+fn add_file(alloc: Global, lines: &mut Vec<ScriptLine<RawLine>>) -> Result<(), NoMemory> {
     for page in FILE_INDEX..FIRST_BLOCK {
         let bytes = index_page(alloc, page)?;
         add_poke(alloc, lines, Spot::Fresh(page), 0, &bytes)?;
@@ -195,7 +198,7 @@ fn index_page(alloc: Global, page: u32) -> Result<Vec<u8>, NoMemory> {
     Ok(bytes)
 }
 
-fn add_release(alloc: Global, lines: &mut Vec<ScriptLine>) -> Result<(), NoMemory> {
+fn add_release(alloc: Global, lines: &mut Vec<ScriptLine<RawLine>>) -> Result<(), NoMemory> {
     let mut pages = Vec::new(alloc);
     for page in ROOT_INDEX..PAGES {
         pages.push(page)?;

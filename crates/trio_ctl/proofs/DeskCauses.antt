@@ -1,7 +1,10 @@
--- What a refused grant tells is true of the nodes at which it is refused.
-use Rattle.std.proofs.Common.{◌≡◌, ℕ, true, map, Some, None, Result, Ok, Err, is_some, sym, ap, ◌∙◌, inl, inr}
+-- What a grant tells is true of the nodes at which it is given or refused.
+use Rattle.std.proofs.Common.{◌≡◌, ℕ, true, map, IfOk, Option, Some, None, Result, Ok, Err, is_some, sym, refl, ap, ◌∙◌, inl, inr}
 use Rattle.std.specs.Prelude.{◌&&◌, ◌==◌}
 use Rattle.std.proofs.lemmas.Bool.{and_from, both_ways, eq-eqb, false≢true, not-true}
+use Rattle.std.specs.Option.{IsSomeAnd, option_map}
+use Rattle.trio_rights.specs.Row.{Row}
+use Rattle.trio_rights.specs.declared.kind.Kind.{Kind}
 use Rattle.trio_rights.specs.declared.rights.LibNo.{LibNo}
 use Rattle.trio_lists.specs.Lists.{In}
 use Rattle.trio_lists.proofs.Filters.{In-list_any}
@@ -18,9 +21,11 @@ use Rattle.trio_nodes.specs.Nodes.{node_at}
 use Rattle.trio_nodes.specs.Standing.{Standing}
 use Rattle.trio_nodes.specs.Legal.{lacks_directory, parent_stands}
 use Rattle.trio_desk.specs.Call.{Grant, lease_told}
-use Rattle.trio_desk.specs.Refusals.{IsCause, TellsCause, leases_out}
+use Rattle.trio_desk.specs.Refusals.{IsCause, TellsCause, file_kind, leases_out}
+use Rattle.trio_layout.specs.Image.{row_at}
 use Rattle.trio_state.specs.Kept.{Kept}
-use Rattle.trio_state.specs.State.{State, creds_of, settled}
+use Rattle.trio_state.specs.Grants.{opened}
+use Rattle.trio_state.specs.State.{OpenGrant, State, creds_of, settled}
 use Rattle.trio_state.specs.Step.{Step}
 use Rattle.trio_state.specs.Step as step
 use Rattle.trio_laws.specs.history.Stands.{node_by, nodes_of, standing_of, writer_of}
@@ -34,7 +39,7 @@ use Rattle.trio_laws.proofs.session.Rows.{rows_say}
 use Rattle.trio_ctl.specs.Answers.{grant_answer, grant_fault_answer}
 use Rattle.trio_ctl.specs.Desk.{desk_of, out_of}
 use Rattle.trio_ctl.specs.Logged.{alone}
-use Rattle.trio_ctl.specs.Open.{shown_of}
+use Rattle.trio_ctl.specs.Open.{given_by, lent_by, shown_of}
 use Rattle.trio_ctl.proofs.DeskGiven.{behind}
 use Rattle.trio_ctl.proofs.DeskOuts.{numbers_to-In}
 use Rattle.trio_ctl.proofs.Settling.{hold_lent, read_lent, write_lent}
@@ -59,6 +64,11 @@ writes_stand s lib x i =
     (In-map standing_of b.grant s.open_grants b.is_open)
     (and_from (b.grant.lib == lib.0 && b.grant.ino == x.parent) (same_kind b.grant.kind Write) (and_from (b.grant.lib == lib.0) (b.grant.ino == x.parent) mine here) writes)
 
+file_kind-given_by : (kind : GrantKind) (g : OpenGrant) → file_kind (given_by kind g) ≡ g.of
+file_kind-given_by Read g = refl
+file_kind-given_by Write g = refl
+file_kind-given_by Hold g = refl
+
 module _ (s : State) (k : Kept s) (lib : LibNo) (ino : ℕ) (kind : GrantKind) where
   abbrev Cause : GrantFault → Type 0
   Cause fault = IsCause (nodes_of s) (creds_of s lib.0) (out_of s lib) ino kind fault
@@ -68,12 +78,12 @@ module _ (s : State) (k : Kept s) (lib : LibNo) (ino : ℕ) (kind : GrantKind) w
   none_allotted n i =
       node_is s k n ∙ ap (node_by (settled s) n (writer_of s n)) (k.numbers_free n (ap is_some (numbers_to-In s.numbers_out lib.0 n i)))
 
-  no_parent : (t : GrantKind) → lacks_directory (map standing_of s.open_grants) lib.0 t (node_at (nodes_of s) ino) ≡ true → Cause NoParent
-  no_parent Read e x at i = absurd (false≢true e)
-  no_parent Write e x at i = absurd (false≢true e)
-  no_parent Hold e x at i =
+  no_parent : (t : GrantKind) → kind ≡ t → lacks_directory (map standing_of s.open_grants) lib.0 t (node_at (nodes_of s) ino) ≡ true → Cause NoParent
+  no_parent Read is e = absurd (false≢true e)
+  no_parent Write is e = absurd (false≢true e)
+  no_parent Hold is e =
       let stands = parent_stands (map standing_of s.open_grants) lib.0 (node_at (nodes_of s) ino) in
-      both_ways stands (not-true stands e) (ap (parent_stands (map standing_of s.open_grants) lib.0) at ∙ writes_stand s lib x i)
+      (is, λ x at i. both_ways stands (not-true stands e) (ap (parent_stands (map standing_of s.open_grants) lib.0) at ∙ writes_stand s lib x i))
 
   -- the entry of a refusal is legal, so its cause is true
   cause_is : (fault : GrantFault) (s' : State) → Step s (step.Grant lib.0 ino kind) (grant_fault_answer fault) s' → Cause fault
@@ -83,12 +93,38 @@ module _ (s : State) (k : Kept s) (lib : LibNo) (ino : ℕ) (kind : GrantKind) w
   cause_is NotLive s' (inr none) = let wrong : step.NotGranted NotLive ≡ step.NoMemory = none.1 in absurd (cc wrong)
   cause_is (Denied by) s' (inl d) = (grant_extends s k lib.0 ino kind alone (step.NotGranted (Denied by)) s' d).legal
   cause_is (Denied by) s' (inr none) = let wrong : step.NotGranted (Denied by) ≡ step.NoMemory = none.1 in absurd (cc wrong)
-  cause_is NoParent s' (inl d) = no_parent kind (grant_extends s k lib.0 ino kind alone (step.NotGranted NoParent) s' d).legal
+  cause_is NoParent s' (inl d) = no_parent kind refl (grant_extends s k lib.0 ino kind alone (step.NotGranted NoParent) s' d).legal
   cause_is NoParent s' (inr none) = let wrong : step.NotGranted NoParent ≡ step.NoMemory = none.1 in absurd (cc wrong)
 
-  pub grant_cause : LentIsTrue s → (r : Result Lease GrantFault) (s' : State) → Step s (step.Grant lib.0 ino kind) (grant_answer r) s' → TellsCause (desk_of s lib) (Grant ino kind) (lease_told r)
-  grant_cause t (Ok lease) s' st = tt
-  grant_cause t (Err fault) s' st =
+  -- what is lent by a grant on the file
+  abbrev IsLentOn : Lease → Type 0
+  IsLentOn lease = IsSomeAnd (row_at s.home ino) (λ r. lease ≡ lent_by (opened s lib.0 ino kind r))
+
+  -- the node of the file has the kind of what is lent
+  kind_is : (lease : Lease) → IsLentOn lease → option_map (λ x. x.kind) (node_at (nodes_of s) ino) ≡ Some (file_kind lease)
+  kind_is lease is = by (row_at s.home ino) refl is
+    where
+      by : (o : Option Row) → row_at s.home ino ≡ o → IsSomeAnd o (λ r. lease ≡ lent_by (opened s lib.0 ino kind r)) → option_map (λ x. x.kind) (node_at (nodes_of s) ino) ≡ Some (file_kind lease)
+      by None at is = absurd is
+      by (Some r) at is =
+          let g : OpenGrant = opened s lib.0 ino kind r in
+          let lent : file_kind lease ≡ r.kind = ap file_kind is ∙ file_kind-given_by kind g in
+          ap (option_map (λ (x : Node). x.kind)) (node_is s k ino ∙ ap (node_by (settled s) ino (writer_of s ino)) at) ∙ ap (λ (t : Kind). Some t) (sym lent)
+
+  pub grant_cause : LentIsTrue s → (r : Result Lease GrantFault) (s' : State) → Step s (step.Grant lib.0 ino kind) (grant_answer r) s' → IfOk r IsLentOn → TellsCause (desk_of s lib) (Grant ino kind) (lease_told r)
+  grant_cause t (Ok lease) s' st is =
+      let here = leases_stay_true s lib.0 (leases_out (out_of s lib)) k t (all_lent s lib) in
+      record {
+        nodes = nodes_of s;
+        rows = s.home.rows;
+        tree = states_are_trees s k;
+        agrees = here.agrees;
+        none = none_allotted;
+        same = rows_say s k;
+        places = here.places;
+        kind = kind_is lease is;
+      }
+  grant_cause t (Err fault) s' st is =
       let here = leases_stay_true s lib.0 (leases_out (out_of s lib)) k t (all_lent s lib) in
       record {
         nodes = nodes_of s;

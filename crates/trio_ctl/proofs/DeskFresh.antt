@@ -195,11 +195,11 @@ fresh_lease s lib ino Hold r k row none = record {
 
 -- ---- allotments
 
-take_in : (n : ℕ) (xs : List ℕ) (x : ℕ) → In x (take n xs) → In x xs
-take_in zero xs x i = absurd i
-take_in (suc n) [] x i = i
-take_in (suc n) (y ∷ ys) x (inl e) = inl e
-take_in (suc n) (y ∷ ys) x (inr i) = inr (take_in n ys x i)
+pub take-In : (n : ℕ) (xs : List ℕ) (x : ℕ) → In x (take n xs) → In x xs
+take-In zero xs x i = absurd i
+take-In (suc n) [] x i = i
+take-In (suc n) (y ∷ ys) x (inl e) = inl e
+take-In (suc n) (y ∷ ys) x (inr i) = inr (take-In n ys x i)
 
 filter_new : (p : ℕ → Bool) (seen xs : List ℕ) → are_new seen xs ≡ true → are_new seen (filter p xs) ≡ true
 filter_new p seen [] h = refl
@@ -231,7 +231,7 @@ free_may : (outs : List (Option LibNo)) (lib : ℕ) (test : ℕ → Bool) (from 
 free_may outs lib test from n count fits =
     let free : List ℕ = filter (λ x. test x && not (is_out outs x)) (count_up from n) in
     let member : (x : ℕ) → In x (take count free) → In x (count_up from n) × ((test x && not (is_out outs x)) ≡ true) =
-    λ x i. filter-In (λ y. test y && not (is_out outs y)) x (count_up from n) (take_in count free x i) in
+    λ x i. filter-In (λ y. test y && not (is_out outs y)) x (count_up from n) (take-In count free x i) in
     let once : are_new [] (take count free) ≡ true = are_new-take count [] free (filter_new (λ x. test x && not (is_out outs x)) [] (count_up from n) (count_new from n [] (λ x i. absurd i))) in
     record {
       placed = λ x i. (let lt = (count_from from n x (member x i).0).1 in omega (arith, lt, fits));
@@ -285,7 +285,7 @@ module _ (s : State) (lib : LibNo) (k : Kept s) where
 
     pub pages_core : (n : ℕ) → In n ps → is_core s.home.core.range n ≡ true
     pages_core n i =
-        let f = filter-In (λ x. slice_index s.home.owners x == 0 && not (is_out s.pages_out x)) n (count_up 0 (length s.home.owners - 0)) (take_in count (free_pages s) n i) in
+        let f = filter-In (λ x. slice_index s.home.owners x == 0 && not (is_out s.pages_out x)) n (count_up 0 (length s.home.owners - 0)) (take-In count (free_pages s) n i) in
         let b = (count_from 0 (length s.home.owners - 0) n f.0).1 in
         free_core n (omega (arith, b)) (page_free s lib.0 count 0 n i).0
 
@@ -304,7 +304,7 @@ module _ (s : State) (lib : LibNo) (k : Kept s) where
 
   pub numbers_range : (many n : ℕ) → In n (take many (free_numbers s)) → (2 ≤ n) × (n ≤ s.home.core.inodes)
   numbers_range many n i =
-      let f = filter-In (λ x. not (is_some (row_at s.home x)) && not (is_out s.numbers_out x)) n (count_up 1 (length s.home.rows - 1)) (take_in many (free_numbers s) n i) in
+      let f = filter-In (λ x. not (is_some (row_at s.home x)) && not (is_out s.numbers_out x)) n (count_up 1 (length s.home.rows - 1)) (take-In many (free_numbers s) n i) in
       let b = count_from 1 (length s.home.rows - 1) n f.0 in
       let low = b.0 in
       let high = b.1 in
@@ -312,3 +312,9 @@ module _ (s : State) (lib : LibNo) (k : Kept s) where
       let dead = (number_free s lib.0 0 many n i).0 in
       let other : n ≢ 1 = λ one. root_live (ap (row_at s.home) (sym one) ∙ dead) in
       (omega (arith, low, other), omega (arith, high, long))
+
+  -- and nothing is out on one of them: what is out is live
+  pub numbers_unlent : (many n : ℕ) → In n (take many (free_numbers s)) → In n (files_out (out_of s lib)) → ⊥
+  numbers_unlent many n i =
+      none_out s lib n (λ h o l e.
+      both_ways (is_some (row_at s.home h.ino)) (ap is_some (ap (row_at s.home) e ∙ (number_free s lib.0 0 many n i).0)) (k.live h o))

@@ -1,10 +1,10 @@
 -- What is seen of a desk after each call of the controller, and what a call leaves of other libraries.
-use Rattle.std.proofs.Common.{◌≡◌, ℕ, ◌+◌, ◌-◌, ◌≤◌, ◌⊎◌, not, Bool, true, false, ◌==◌, ◌&&◌, IfOk, List, length, map, take, Option, Some, None, Result, Ok, Err, sym, refl, ap, ◌∙◌, subst, inl, inr, length-take-le, ltb-false}
+use Rattle.std.proofs.Common.{◌≡◌, ℕ, ◌+◌, ◌-◌, ◌≤◌, ◌⊎◌, not, Bool, true, false, ◌==◌, ◌&&◌, IfOk, List, length, map, take, Option, Some, None, Result, Ok, Err, sym, refl, ap, ◌∙◌, subst, inl, inr, length-take-le, ltb-false, arith}
 use Rattle.std.specs.Prelude.{[], ◌∷◌, ◌++◌, ◌||◌, if◌then◌else◌, is_some, nat_lt, slice_get, slice_index_or}
 use Rattle.std.specs.List.{filter}
 use Rattle.std.specs.Option.{IsSomeAnd, option_map}
 use Rattle.std.proofs.lemmas.List.{length-map}
-use Rattle.std.proofs.lemmas.Bool.{and_from, and_parts, eq-eqb, eqb-true, false≢true}
+use Rattle.std.proofs.lemmas.Bool.{and_from, and_parts, eq-eqb, eqb-true, false≢true, ltb-true}
 use Rattle.trio_rights.specs.Row.{Row}
 use Rattle.trio_rights.specs.declared.rights.Creds.{Creds}
 use Rattle.trio_rights.specs.declared.rights.LibNo.{LibNo}
@@ -33,10 +33,13 @@ use Rattle.trio_lease.specs.declared.parts.HoldParts.{HoldParts}
 use Rattle.trio_lease.specs.declared.parts.InoParts.{InoParts}
 use Rattle.trio_lease.specs.declared.parts.FreshParts.{FreshParts}
 use Rattle.trio_layout.specs.Image.{row_at}
+use Rattle.trio_tables.specs.Free.{is_free_number, is_free_page}
 use Rattle.trio_allot.specs.Out.{fresh_number, fresh_page}
 use Rattle.trio_desk.specs.Ready.{bundle_of}
-use Rattle.trio_desk.specs.Out.{HasWanted, IsFreshAllotment, IsFreshLease, LibOut, OutAlike, Parcel, files_out, ino_numbers, page_numbers, pages_out, with_lease, without_reads}
-use Rattle.trio_desk.specs.Call.{Ask, Told, Grant, Allot, GiveBack, Release, Settle, SetMode, Lent, NotLent, Given, NotGiven, Done, Judged, NotJudged, NotSettled, ModeSet, NotModeSet, SeenAfter, TellsHolder, allot_told, lease_told, mode_told, out_after, release_told}
+use Rattle.trio_desk.specs.Out.{AreRising, HasWanted, IsFreshAllotment, IsFreshLease, LibOut, OutAlike, Parcel, files_out, ino_numbers, kind_lent, page_numbers, pages_out, with_lease, without_reads}
+use Rattle.trio_desk.specs.Contents.{Rights, Sizes}
+use Rattle.trio_desk.specs.Call.{Ask, DeskSeen, Told, Grant, Allot, GiveBack, Release, Settle, SetMode, Lent, NotLent, Given, NotGiven, Done, Judged, NotJudged, NotSettled, ModeSet, NotModeSet, SeenAfter, TellsHolder, allot_told, lease_told, mode_told, out_after, release_told}
+use Rattle.trio_desk.specs.Refusals.{TellsLack}
 use Rattle.trio_state.specs.Allotments.{allots, free_numbers, free_pages}
 use Rattle.trio_state.specs.Given.{GivenEvent, GivenTo}
 use Rattle.trio_state.specs.Grants.{denied_by, denied_or, excluding, given_back, grant_fault, has_parent_grant, holder_of, lacks_parent, opened, opens}
@@ -49,23 +52,25 @@ use Rattle.trio_laws.specs.Laws.{library_of}
 use Rattle.trio_laws.specs.OutLaws.{HasOut, numbers_to, without_checkpoint}
 use Rattle.trio_laws.specs.OutLaws.{out_of as has_out}
 use Rattle.trio_laws.specs.history.Recorded.{LentWhole}
-use Rattle.trio_laws.specs.session.Lent.{sizes_of}
+use Rattle.trio_laws.specs.session.Lent.{root_of, sizes_of}
 use Rattle.trio_laws.proofs.Cases.{after_allot, after_no_grant, after_no_mode}
 use Rattle.trio_laws.proofs.OthersOut.{others_keep_out}
 use Rattle.trio_laws.proofs.Runs.{step_kept}
+use Rattle.trio_laws.proofs.history.Grows.{step_whole}
 use Rattle.trio_laws.proofs.session.Lent.{step_keeps_root}
 use Rattle.trio_ctl.specs.Answers.{allot_answer, allot_fault_answer, children_told, grant_answer, grant_fault_answer, mode_fault_answer, release_answer, release_fault_answer, verdict_of}
 use Rattle.trio_ctl.specs.Ctl.{AreAsTold, IsLibrary}
 use Rattle.trio_ctl.specs.Backs.{all_back}
 use Rattle.trio_ctl.specs.Desk.{CallStep, Happens, after_mode_refusal, answer_of, desk_of, event_of, grants_of, handed_back, out_of}
-use Rattle.trio_ctl.specs.DeskLaws.{CallsKeep, HoldsStand, LibrariesStay, OthersKeep}
-use Rattle.trio_ctl.specs.Open.{hold_of, lent_by, shown_of}
+use Rattle.trio_ctl.specs.DeskLaws.{CallsKeep, CallsLeaveWhole, HoldsStand, LibrariesStay, OthersKeep, OthersSee}
+use Rattle.trio_ctl.specs.Open.{given_by, hold_of, lent_by, shown_of}
 use Rattle.trio_ctl.specs.inner.Modes.{is_back}
 use Rattle.trio_ctl.proofs.LeasesBack.{all_back_is, backs_kept, backs_leave, backs_told, left_out}
 use Rattle.trio_ctl.proofs.Granting.{kept_either}
-use Rattle.trio_ctl.proofs.DeskFresh.{fresh_lease, numbers_may, numbers_range, pages_core, pages_may, pages_new}
+use Rattle.trio_ctl.proofs.DeskFresh.{fresh_lease, numbers_may, numbers_range, numbers_unlent, pages_core, pages_may, pages_new}
 use Rattle.trio_ctl.proofs.DeskGiven.{behind}
 use Rattle.trio_ctl.proofs.DeskLists.{filter-both}
+use Rattle.trio_ctl.proofs.DeskRising.{AreRising-numbers_where}
 use Rattle.trio_ctl.proofs.DeskOuts.{alike, allotted_out, back_out, ended_out, granted_out, hold_is}
 use Rattle.trio_ctl.proofs.Told.{step_told}
 
@@ -81,6 +86,11 @@ not_granted (Denied m) n e = cc e
 not_granted NoParent n e = cc e
 not_granted (Busy holder) n e = cc e
 not_granted NoGrantMemory n e = cc e
+
+kind_lent-given_by : (kind : GrantKind) (g : OpenGrant) → kind_lent (given_by kind g) ≡ kind
+kind_lent-given_by Read g = refl
+kind_lent-given_by Write g = refl
+kind_lent-given_by Hold g = refl
 
 -- ---- holders
 
@@ -213,6 +223,15 @@ module _ (s : State) (lib : LibNo) where
         by None None f at c is = absurd is
         by None (Some r) f at c is = subst (IsFreshLease lib ino (sizes_of s) (out_of s lib)) (sym is) (fresh_lease s lib ino kind r k at f)
 
+    -- a lease is of the kind that was asked
+    pub grant_kind : (r : Result Lease GrantFault) → IfOk r (λ lease. IsSomeAnd (row_at s.home ino) (λ r. lease ≡ lent_by (opened s lib.0 ino kind r))) → IfOk r (λ lease. kind_lent lease ≡ kind)
+    grant_kind (Err fault) is = tt
+    grant_kind (Ok lease) is = by (row_at s.home ino) is
+      where
+        by : (row : Option Row) → IsSomeAnd row (λ r. lease ≡ lent_by (opened s lib.0 ino kind r)) → kind_lent lease ≡ kind
+        by None is = absurd is
+        by (Some r) is = ap kind_lent is ∙ kind_lent-given_by kind (opened s lib.0 ino kind r)
+
   -- what the library has a grant on is out to it
   open_out : (t : State) (g : OpenGrant) → In g t.open_grants → g.lib ≡ lib.0 → In g.ino (files_out (out_of t lib))
   open_out t g i mine = by g.kind refl
@@ -342,6 +361,7 @@ module _ (s : State) (lib : LibNo) where
           range = λ n i. numbers_range s lib k many n (subst (λ l. In n l) g.numbers_are i);
           pages = ap (are_new (pages_out (out_of s lib))) g.pages_are ∙ pages_new s lib k wanted;
           numbers = ap (are_new (numbers_to s.numbers_out lib.0)) g.numbers_are ∙ (numbers_may s lib many k).new;
+          unlent = λ n i. numbers_unlent s lib k many n (subst (λ l. In n l) g.numbers_are i);
         }
 
     pub allot_wanted : (r : Result Allotted AllotFault) → Step s (step.Allot lib.0 wanted many) (allot_answer r) s' → IfOk r (HasWanted wanted many)
@@ -351,7 +371,43 @@ module _ (s : State) (lib : LibNo) where
         record {
           pages = sym (length-map given.pages.items (λ (p : FreshParts). p.no.0)) ∙ ap length g.pages_are ∙ g.many_pages;
           numbers = sym (length-map given.inodes.items (λ (n : InoParts). n.no)) ∙ ap length g.numbers_are ∙ g.many_numbers;
+          pages_rise = subst AreRising (sym g.pages_are) (AreRising-numbers_where wanted (is_free_page s.home.owners s.pages_out) 0 (length s.home.owners));
+          numbers_rise = subst AreRising (sym g.numbers_are) (AreRising-numbers_where many (is_free_number s.home.rows s.numbers_out) 1 (length s.home.rows));
         }
+
+    -- a refusal says which is short, and by how much
+    abbrev Lacks : AllotFault → Type 0
+    Lacks fault = TellsLack (Allot wanted many) (NotGiven fault)
+
+    lacks_pages : (w f : ℕ) → Step s (step.Allot lib.0 wanted many) (step.NoPages w f) s' → Lacks (NoFreePages w f)
+    lacks_pages w f (inr none) = let wrong : step.NoPages w f ≡ step.NoMemory = none.1 in absurd (cc wrong)
+    lacks_pages w f (inl d) = by (nat_lt (length (free_pages s)) wanted) (nat_lt (length (free_numbers s)) many) refl d
+      where
+        by : (a b : Bool) → nat_lt (length (free_pages s)) wanted ≡ a → Comes (outcome_by a b) (step.NoPages w f) s' → Lacks (NoFreePages w f)
+        by true b short c =
+            let is : step.NoPages w f ≡ step.NoPages wanted (length (free_pages s)) = c.0 in
+            let asked : w ≡ wanted = cc is in
+            let free : f ≡ length (free_pages s) = cc is in (asked, omega (arith, asked, free, ltb-true (length (free_pages s)) wanted short))
+        by false true enough c = let wrong : step.NoPages w f ≡ step.NoInodes many (length (free_numbers s)) = c.0 in absurd (cc wrong)
+        by false false enough c = let wrong : step.NoPages w f ≡ step.Given ps ns = c.0 in absurd (cc wrong)
+
+    lacks_numbers : (w f : ℕ) → Step s (step.Allot lib.0 wanted many) (step.NoInodes w f) s' → Lacks (NoFreeInodes w f)
+    lacks_numbers w f (inr none) = let wrong : step.NoInodes w f ≡ step.NoMemory = none.1 in absurd (cc wrong)
+    lacks_numbers w f (inl d) = by (nat_lt (length (free_pages s)) wanted) (nat_lt (length (free_numbers s)) many) refl d
+      where
+        by : (a b : Bool) → nat_lt (length (free_numbers s)) many ≡ b → Comes (outcome_by a b) (step.NoInodes w f) s' → Lacks (NoFreeInodes w f)
+        by true b p c = let wrong : step.NoInodes w f ≡ step.NoPages wanted (length (free_pages s)) = c.0 in absurd (cc wrong)
+        by false true short c =
+            let is : step.NoInodes w f ≡ step.NoInodes many (length (free_numbers s)) = c.0 in
+            let asked : w ≡ many = cc is in
+            let free : f ≡ length (free_numbers s) = cc is in (asked, omega (arith, asked, free, ltb-true (length (free_numbers s)) many short))
+        by false false plenty c = let wrong : step.NoInodes w f ≡ step.Given ps ns = c.0 in absurd (cc wrong)
+
+    pub allot_lack : (r : Result Allotted AllotFault) → Step s (step.Allot lib.0 wanted many) (allot_answer r) s' → TellsLack (Allot wanted many) (allot_told r)
+    allot_lack (Ok given) st = tt
+    allot_lack (Err (NoFreePages w f)) st = lacks_pages w f st
+    allot_lack (Err (NoFreeInodes w f)) st = lacks_numbers w f st
+    allot_lack (Err NoAllotMemory) st = tt
 
   -- a read lease that is given back
   pub back_seen : (lease : Shown) (s' : State) → Step s (step.Back lib.0 lease.ino) step.Done s' → After (GiveBack lease) Done s'
@@ -549,6 +605,49 @@ others_keep s lib other ask told s' k apart h = by (came s lib ask told s' h.is_
         )) (k, refl) h.back in
         step_leaves t s' (event_of lib ask) (answer_of told) other q.0 h.given st (λ e. apart (sym e ∙ whose lib ask)) ∙ q.1
     by (Stayed e) = stayed (λ u. out_of u other ≡ out_of s other) s s' e refl refl
+
+pub backs_whole : (s : State) (lib : LibNo) (back : List Shown) → LentWhole s → LentWhole (all_back s lib back)
+backs_whole s lib back w =
+    subst LentWhole (sym (all_back_is s lib back)) (λ g x i j. w g x (filter-In (λ (g : OpenGrant). not (is_back lib.0 back g)) g s.open_grants i).0 j)
+
+pub calls_leave_whole : CallsLeaveWhole
+calls_leave_whole s lib ask told s' k w h = by (came s lib ask told s' h.is_step)
+  where
+    by : Came s lib ask told s' → LentWhole s'
+    by (Stepped st) =
+        let t = all_back s lib (handed_back ask) in
+        step_whole t (backs_kept s lib (handed_back ask) k h.back) (event_of lib ask) (answer_of told) s' st (backs_whole s lib (handed_back ask) w)
+    by (Stayed e) = stayed LentWhole s s' e w w
+
+-- the sizes of the image, and the rights of its root
+abbrev SameImage : State → State → Type 0
+SameImage s t = (sizes_of t ≡ sizes_of s) × (root_of t ≡ root_of s)
+
+happens_image : (s : State) (lib : LibNo) (ask : Ask) (told : Told) (s' : State) → Kept s → LentWhole s → Happens s lib ask told s' → SameImage s s'
+happens_image s lib ask told s' k w h = by (came s lib ask told s' h.is_step)
+  where
+    by : Came s lib ask told s' → SameImage s s'
+    by (Stepped st) =
+        let t = all_back s lib (handed_back ask) in
+        let same = step_keeps_root t (event_of lib ask) (answer_of told) s' (backs_kept s lib (handed_back ask) k h.back) (backs_whole s lib (handed_back ask) w) h.given st in
+        let back : SameImage s t = subst (SameImage s) (sym (all_back_is s lib (handed_back ask))) (refl, refl) in
+        (same.0 ∙ back.0, same.1 ∙ back.1)
+    by (Stayed e) = stayed (SameImage s) s s' e (refl, refl) (refl, refl)
+
+pub others_see : OthersSee
+others_see s lib other ask told s' k w apart h =
+    let same = happens_image s lib ask told s' k w h in
+    let creds = creds_same s.creds s'.creds other.0 (happens_creds s lib ask told s' h) in
+    let out = others_keep s lib other ask told s' k apart h in
+    seen_same (desk_of s' other) (desk_of s other) refl creds out same.0 same.1
+  where
+    seen_same : (d e : DeskSeen) → d.lib ≡ e.lib → d.creds ≡ e.creds → d.out ≡ e.out → d.sizes ≡ e.sizes → d.root ≡ e.root → d ≡ e
+    seen_same d e lib creds out sizes root =
+        ap (λ (x : LibNo). record { lib = x; creds = d.creds; out = d.out; sizes = d.sizes; root = d.root }) lib
+        ∙ ap (λ (x : Creds). record { lib = e.lib; creds = x; out = d.out; sizes = d.sizes; root = d.root }) creds
+        ∙ ap (λ (x : LibOut). record { lib = e.lib; creds = e.creds; out = x; sizes = d.sizes; root = d.root }) out
+        ∙ ap (λ (x : Sizes). record { lib = e.lib; creds = e.creds; out = e.out; sizes = x; root = d.root }) sizes
+        ∙ ap (λ (x : Rights). record { lib = e.lib; creds = e.creds; out = e.out; sizes = e.sizes; root = x }) root
 
 pub holds_stand : HoldsStand
 holds_stand s lib h k told i =

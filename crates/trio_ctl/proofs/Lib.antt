@@ -7,6 +7,7 @@ pub mod DeskOuts
 pub mod DeskGiven
 pub mod WellLent
 pub mod DeskFresh
+mod DeskRising
 pub mod DeskClosed
 pub mod DeskSteps
 pub mod LeasesBack
@@ -38,5 +39,5 @@ mod Recording
 mod RecordedReleases
 mod DeskLogs
 mod ModeCalls
-mod Settling
+pub mod Settling
 mod DeskCauses

@@ -6,14 +6,21 @@ use Rattle.trio_lease.specs.declared.parts.HoldParts.{HoldParts}
 use Rattle.trio_desk.specs.Call.{Ask, Told}
 use Rattle.trio_state.specs.State.{State}
 use Rattle.trio_state.specs.Kept.{Kept}
+use Rattle.trio_laws.specs.history.Recorded.{LentWhole}
 use Rattle.trio_ctl.specs.Ctl.{AreAsTold, IsLibrary}
-use Rattle.trio_ctl.specs.Desk.{Happens, out_of}
+use Rattle.trio_ctl.specs.Desk.{Happens, desk_of, out_of}
 
 -- a call of one library leaves what another has out
 abbrev pub OthersKeep : Type 0
 OthersKeep =
     (s : State) (lib other : LibNo) (ask : Ask) (told : Told) (s' : State)
     → Kept s → (other.0 ≡ lib.0 → ⊥) → Happens s lib ask told s' → out_of s' other ≡ out_of s other
+
+-- and all that is seen of another's desk
+abbrev pub OthersSee : Type 0
+OthersSee =
+    (s : State) (lib other : LibNo) (ask : Ask) (told : Told) (s' : State)
+    → Kept s → LentWhole s → (other.0 ≡ lib.0 → ⊥) → Happens s lib ask told s' → desk_of s' other ≡ desk_of s other
 
 -- no library comes or goes in a call
 abbrev pub LibrariesStay : Type 0
@@ -26,6 +33,12 @@ abbrev pub CallsKeep : Type 0
 CallsKeep =
     (s : State) (lib : LibNo) (ask : Ask) (told : Told) (s' : State)
     → Kept s → AreAsTold s → Happens s lib ask told s' → Kept s' × AreAsTold s'
+
+-- each block that is lent stays a whole page in a call
+abbrev pub CallsLeaveWhole : Type 0
+CallsLeaveWhole =
+    (s : State) (lib : LibNo) (ask : Ask) (told : Told) (s' : State)
+    → Kept s → LentWhole s → Happens s lib ask told s' → LentWhole s'
 
 -- the directory that a hold of a library told is lent to it for writing
 abbrev pub HoldsStand : Type 0

@@ -2,12 +2,13 @@
 
 ghost use Rattle.std.specs.Prelude.{◌≡◌, ◌≤◌, ◌+◌, ◌↔◌, ℕ, [], IfErr, IfOk, IsTrue, OnOk, length, vec_len};
 ghost use Rattle.trio_lease.specs.Views.{bundle_in};
+ghost use Rattle.trio_desk.specs.Contents.{AreWithinLimits};
 ghost use Rattle.trio_state.specs.Given.{GivenTo};
 ghost use Rattle.trio_state.specs.Kept.{Kept};
 ghost use Rattle.trio_state.specs.Run.{start};
 ghost use Rattle.trio_state.specs.State.{creds_of};
 ghost use Rattle.trio_laws.specs.history.Recorded.{IsRecorded};
-ghost use Rattle.trio_laws.specs.session.Lent.{LentIsTrue};
+ghost use Rattle.trio_laws.specs.session.Lent.{LentIsTrue, sizes_of};
 ghost use Rattle.trio_survey.specs.Stored.{image_in};
 ghost use Rattle.trio_ctl.specs.Answers.{TellsImage, TellsLastImage};
 ghost use Rattle.trio_ctl.specs.Belonging.{Belongs};
@@ -123,6 +124,13 @@ impl Ctl {
         ensures { AreAsTold self.now.state }
     {
         self.registry.is_as_told();
+    }
+
+    /// The sizes of the image are within the limits of every image. Nothing is done.
+    pub fn is_within_limits(&self)
+        ensures { AreWithinLimits (sizes_of self.now.state) }
+    {
+        self.registry.is_within_limits();
     }
 
     /// What each open grant lent is true of the nodes and rows of its state. Nothing is done.

@@ -42,6 +42,7 @@ impl<'a> Desk for PlainDesk<'a> {
     ghost called = { λ d ask told d'. Happens d.ctl.now.state d.lib ask told d'.ctl.now.state × (d'.ctl.ghost_name ≡ d.ctl.ghost_name) × (d'.lib ≡ d.lib) × LogsCall d.ctl.now d.lib ask told d'.ctl.now };
 
     fn creds(&self) -> Creds {
+        self.ctl.is_within_limits();
         self.ctl.creds(self.lib)
     }
 

@@ -1,8 +1,10 @@
 //! What a controller keeps of its image, and the grants that are open.
 
 ghost use Rattle.std.specs.Prelude.{◌≡◌, length};
+ghost use Rattle.trio_desk.specs.Contents.{AreWithinLimits};
 ghost use Rattle.trio_state.specs.Allotments.{free_numbers, free_pages};
 ghost use Rattle.trio_state.specs.State.{creds_of};
+ghost use Rattle.trio_laws.specs.session.Lent.{sizes_of};
 ghost use Rattle.trio_ctl.specs.Ctl.{AreAsTold, IsLibrary, superblock_for};
 
 use crate::history::History;
@@ -62,6 +64,13 @@ impl Registry {
     /// Each open hold told the directory that the row of its file still names. Nothing is done.
     pub fn is_as_told(&self)
         ensures { AreAsTold self.now.state }
+    {
+        let _ = &self.alloc;
+    }
+
+    /// The sizes of the image are within the limits of every image. Nothing is done.
+    pub fn is_within_limits(&self)
+        ensures { AreWithinLimits (sizes_of self.now.state) }
     {
         let _ = &self.alloc;
     }

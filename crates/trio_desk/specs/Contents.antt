@@ -1,5 +1,5 @@
 -- What a lease shows of its file: rights, and the entries of a directory or the bytes of a regular file.
-use Rattle.std.specs.Prelude.{ℕ, ◌==◌, List, [], take, Option, None, Some, if◌then◌else◌, Result, Ok, Err}
+use Rattle.std.specs.Prelude.{ℕ, ◌≤◌, ◌==◌, List, [], take, Option, None, Some, if◌then◌else◌, Result, Ok, Err}
 use Rattle.std.specs.List.{flat_map}
 use Rattle.trio_rights.specs.declared.kind.Kind.{Kind}
 use Rattle.trio_rights.specs.declared.kind.Kind.TheVariants.{Regular, Directory}
@@ -17,6 +17,11 @@ use Rattle.trio_nodes.specs.declared.node.Node.{Node}
 pub record Sizes : Type 0 where
   pub range : CoreRange
   pub inodes : ℕ
+
+-- No image has more than 8192 pages or 16,384 inode numbers.
+pub record AreWithinLimits (sizes : Sizes) : Type 0 where
+  pub pages : sizes.range.end ≤ 8192
+  pub inodes : sizes.inodes ≤ 16384
 
 -- the kind of a file and its rights
 pub record Rights : Type 0 where

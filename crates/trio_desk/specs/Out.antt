@@ -1,5 +1,5 @@
 -- What one library has out: what it was lent and allotted, and has neither handed in nor given back.
-use Rattle.std.specs.Prelude.{◌≡◌, ◌↔◌, ℕ, ◌≤◌, ◌==◌, not, IsTrue, List, [], ◌∷◌, ◌++◌, map, length, replicate, None, Some, Ok}
+use Rattle.std.specs.Prelude.{◌≡◌, ◌↔◌, ℕ, ◌≤◌, ◌<◌, ◌==◌, not, IsTrue, List, [], ◌∷◌, ◌++◌, map, length, replicate, None, Some, Ok}
 use Rattle.std.specs.List.{filter, flat_map}
 use Rattle.std.specs.Result.{is_ok}
 use Rattle.trio_page.specs.Field.{zeros}
@@ -17,6 +17,8 @@ use Rattle.trio_lease.specs.Views.{lent_sheet}
 use Rattle.trio_lease.specs.declared.fresh.Allotted.{Allotted}
 use Rattle.trio_lease.specs.declared.lease.Lease.{Lease}
 use Rattle.trio_lease.specs.declared.lease.Lease.TheVariants.{Write, Read, Hold}
+use Rattle.trio_nodes.specs.declared.grant.GrantKind.{GrantKind}
+use Rattle.trio_nodes.specs.declared.grant.GrantKind.TheVariants.{Write as ToWrite, Read as ToRead, Hold as ToHold}
 use Rattle.trio_lease.specs.declared.parts.LentPage.{LentPage}
 use Rattle.trio_lease.specs.declared.parts.HoldParts.{HoldParts}
 use Rattle.trio_lease.specs.declared.parts.FreshParts.{FreshParts}
@@ -181,6 +183,12 @@ pub record IsFreshFile (lib' : LibNo) (ino' : ℕ) (sizes : Sizes) (out : LibOut
   pub well : IsWellLent sizes f.lent
   pub apart : (n : ℕ) → In n (numbers_of_file f.lent) → In n (pages_out out) → ⊥
 
+-- the kind of the grant by which a lease is lent
+abbrev pub kind_lent : Lease → GrantKind
+kind_lent (Write f) = ToWrite
+kind_lent (Read f) = ToRead
+kind_lent (Hold h) = ToHold
+
 -- the lease that a grant gives on a file is the library's
 abbrev pub IsLeaseFor : LibNo → ℕ → Sizes → LibOut → Lease → Type 0
 IsLeaseFor lib ino sizes out (Write f) = IsFreshFile lib ino sizes out f
@@ -200,7 +208,8 @@ zero_page lib n = record { lib = lib; no = record { 0 = n }; page = zeros 4096 }
 abbrev pub new_ino : LibNo → ℕ → InoParts
 new_ino lib n = record { lib = lib; no = n }
 
--- What an allotment gives: core pages, all zero, and inode numbers, none twice or out already; the number of the root is none of them.
+-- What an allotment gives: core pages, all zero, and inode numbers, none twice or out already; the number of the root is none of them,
+-- nor that of a file on which something is out.
 pub record IsFreshAllotment (lib : LibNo) (sizes : Sizes) (out : LibOut) (given : Allotted) : Type 0 where
   pub pages_are : given.pages.items ≡ map (zero_page lib) (page_numbers given.pages.items)
   pub inodes_are : given.inodes.items ≡ map (new_ino lib) (ino_numbers given.inodes.items)
@@ -208,11 +217,19 @@ pub record IsFreshAllotment (lib : LibNo) (sizes : Sizes) (out : LibOut) (given 
   pub range : (n : ℕ) → In n (ino_numbers given.inodes.items) → (2 ≤ n) × (n ≤ sizes.inodes)
   pub pages : IsTrue (are_new (pages_out out) (page_numbers given.pages.items))
   pub numbers : IsTrue (are_new out.numbers (ino_numbers given.inodes.items))
+  pub unlent : (n : ℕ) → In n (ino_numbers given.inodes.items) → In n (files_out out) → ⊥
 
--- an allotment has as many pages and numbers as were asked
+-- each of these numbers is above those before it
+abbrev pub AreRising : List ℕ → Type 0
+AreRising [] = Unit {0}
+AreRising (n ∷ ns) = ((m : ℕ) → In m ns → n < m) × AreRising ns
+
+-- an allotment has as many pages and numbers as were asked, and both in rising order
 pub record HasWanted (wanted_pages wanted_numbers : ℕ) (given : Allotted) : Type 0 where
   pub pages : length given.pages.items ≡ wanted_pages
   pub numbers : length given.inodes.items ≡ wanted_numbers
+  pub pages_rise : AreRising (page_numbers given.pages.items)
+  pub numbers_rise : AreRising (ino_numbers given.inodes.items)
 
 -- ---- closed parcels
 

@@ -2,10 +2,11 @@
 
 ghost use Rattle.std.specs.Prelude.{◌≡◌, IfErr, IfOk};
 ghost use Rattle.trio_lists.specs.Lists.{In};
-ghost use Rattle.trio_desk.specs.Out.{HasWanted, IsFreshAllotment, IsFreshLease, WasGiven, parcel_of};
+ghost use Rattle.trio_desk.specs.Out.{HasWanted, IsFreshAllotment, IsFreshLease, WasGiven, kind_lent, parcel_of};
 ghost use Rattle.trio_desk.specs.Call.{Allot, Ask, DeskSeen, Done as GivenBack, GiveBack, Grant, Release, SeenAfter, SetMode, Settle, TellsClosed, TellsHolder, Told, allot_told, call_back, lease_told, mode_told, release_told, settle_told};
+ghost use Rattle.trio_desk.specs.Contents.{AreWithinLimits};
 ghost use Rattle.trio_desk.specs.Ready.{AreLent, Ready, TellsChmod};
-ghost use Rattle.trio_desk.specs.Refusals.{TellsCause};
+ghost use Rattle.trio_desk.specs.Refusals.{TellsCause, TellsLack};
 
 use trio_lease::{Allotted, Bundle, Lease, ReadLease};
 use trio_nodes::{
@@ -31,7 +32,8 @@ pub trait Desk {
 
     /// The credentials of the library.
     fn creds(&self) -> Creds
-        ensures { result ≡ (seen self.now).creds };
+        ensures creds { result ≡ (seen self.now).creds }
+        ensures limits { AreWithinLimits (seen self.now).sizes };
 
     /// Asks for a grant of this kind on a file, by its inode number.
     fn grant(&mut self, ino: u32, kind: GrantKind) -> Result<Lease, GrantFault>
@@ -39,14 +41,16 @@ pub trait Desk {
         ensures seen { SeenAfter (seen self.old) (Grant ino kind) (lease_told result) (seen self.new) }
         ensures holder { TellsHolder (seen self.old).lib (seen self.old).out (Grant ino kind) (lease_told result) }
         ensures cause { TellsCause (seen self.old) (Grant ino kind) (lease_told result) }
-        ensures lease { IfOk result (IsFreshLease (seen self.old).lib ino (seen self.old).sizes (seen self.old).out) };
+        ensures lease { IfOk result (IsFreshLease (seen self.old).lib ino (seen self.old).sizes (seen self.old).out) }
+        ensures kind { IfOk result (λ lease. kind_lent lease ≡ kind) };
 
     /// Asks for so many pages and inode numbers.
     fn allot(&mut self, pages: u32, inodes: u32) -> Result<Allotted, AllotFault>
         ensures called { called self.old (Allot pages inodes) (allot_told result) self.new }
         ensures seen { SeenAfter (seen self.old) (Allot pages inodes) (allot_told result) (seen self.new) }
         ensures fresh { IfOk result (IsFreshAllotment (seen self.old).lib (seen self.old).sizes (seen self.old).out) }
-        ensures wanted { IfOk result (HasWanted pages inodes) };
+        ensures wanted { IfOk result (HasWanted pages inodes) }
+        ensures lack { TellsLack (Allot pages inodes) (allot_told result) };
 
     /// Ends the read grant of a lease, which is out. It takes no memory.
     fn give_back(&mut self, lease: ReadLease)

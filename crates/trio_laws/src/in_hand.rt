@@ -13,6 +13,9 @@ ghost use Rattle.trio_laws.specs.session.FileCalls.{
 };
 ghost use Rattle.trio_laws.specs.session.FileEdits.{FileEditShows};
 ghost use Rattle.trio_laws.specs.session.Listed.{
+  JudgedAfterAllotment,
+  JudgedAfterHold,
+  JudgedAfterWrite,
   ListedAfterAllotment,
   ListedAfterEdit,
   ListedAfterHold,
@@ -65,6 +68,13 @@ pub fn lists_pages()
     ensures hold { ListedAfterHold }
     ensures allotment { ListedAfterAllotment }
     ensures edit { ListedAfterEdit }
+{}
+
+/// Which files are judged after more was taken, and what they read.
+pub fn judges_taken()
+    ensures write { JudgedAfterWrite }
+    ensures hold { JudgedAfterHold }
+    ensures allotment { JudgedAfterAllotment }
 {}
 
 /// What a desk gives is none of what is in hand: a write lease, a hold, and allotted pages.

@@ -8,13 +8,16 @@
 #![tactic(auto)]
 
 pub mod contents;
+pub mod dir_calls;
 pub mod ends;
 pub mod histories;
 pub mod in_hand;
+pub mod judged_edits;
 pub mod known;
 pub mod laws;
 pub mod notes;
 pub mod outs;
 pub mod rules;
 pub mod sessions;
+pub mod slot_edits;
 pub mod told;

@@ -97,6 +97,10 @@ module _ (nodes : Nodes) (creds : Creds) (writes : List Path) where
       (λ dir. and_then-Undone (ok_or (find_named nodes dir name) NotFound) (λ child. walk_from nodes creds writes (passed ++ name ∷ []) child path) (ok_or-Undone (find_named nodes dir name)) (λ child. walk_from-Undone path (passed ++ name ∷ []) child))
       reply e
 
+  pub walk_into-Undone : (path : Path) → Undone (walk_into nodes creds writes path)
+  walk_into-Undone path =
+      and_then-Undone (walk nodes creds writes path) (enter nodes creds (need_at writes path)) (walk_from-Undone path [] 1) (λ m. enter_node-Undone creds (need_at writes path) m (node_at nodes m))
+
   -- a walk that comes to a live file has found it, and the root was live
   root_live : (path : Path) (n : ℕ) (x : Node) → walk nodes creds writes path ≡ Ok n → node_at nodes n ≡ Some x → is_some (node_at nodes 1) ≡ true
   root_live [] n x e at = (let same : 1 ≡ n = cc e in ap (λ m. is_some (node_at nodes m)) same ∙ ap is_some at)
@@ -159,8 +163,7 @@ module _ (nodes : Nodes) (creds : Creds) (Q : Applied → Type 0) (none : (reply
 
   pub on_directory : (writes : List Path) (path : Path) (f : ℕ → Applied) → ((dir : ℕ) → Entered nodes creds writes (dir_of path) dir → Q (f dir)) → Q (in_directory nodes creds writes path f)
   on_directory writes path f goes =
-      on_reached (walk_into nodes creds writes (dir_of path)) f
-      (and_then-Undone (walk nodes creds writes (dir_of path)) (enter nodes creds (need_at writes (dir_of path))) (walk_from-Undone nodes creds writes (dir_of path) [] 1) (λ m. enter_node-Undone creds (need_at writes (dir_of path)) m (node_at nodes m)))
+      on_reached (walk_into nodes creds writes (dir_of path)) f (walk_into-Undone nodes creds writes (dir_of path))
       (λ dir w. goes dir (walk_into-Ok nodes creds writes (dir_of path) dir w))
 
   pub on_listed : (dir : ℕ) (path : Path) (f : ℕ → Node → Applied) → ((n : ℕ) (x : Node) → find_named nodes dir (name_of path) ≡ Some n → node_at nodes n ≡ Some x → Q (f n x)) → Q (listed_in nodes dir path f)

@@ -1,11 +1,11 @@
-mod PathFacts
+pub mod PathFacts
 mod WalkFacts
 mod Setting
 mod Outcomes
 mod Listing
 pub mod Children
 pub mod TreePut
-mod CallCases
+pub mod CallCases
 pub mod TreeStays
 mod Changes
 pub mod Lengths

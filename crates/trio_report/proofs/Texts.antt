@@ -9,7 +9,7 @@ use Rattle.serde_json.specs.Written.{has_float, items_have_float}
 use Rattle.trio_names.specs.Escaped.{IsVisible}
 use Rattle.trio_layout.specs.Tree.{TreeLine}
 use Rattle.trio_report.specs.Json.{json_of_line, json_of_lines}
-use Rattle.trio_report.specs.Report.{octal_of}
+use Rattle.trio_report.specs.Octal.{octal_of}
 
 ascii : (bytes : List ℕ) → All IsVisible bytes → (i : ℕ) → slice_index bytes i < 128
 ascii [] visible i = omega arith

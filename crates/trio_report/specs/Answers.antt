@@ -2,8 +2,9 @@
 use Rattle.std.specs.Prelude.{ℕ, ◌+◌, ◌/◌, ◌%◌, nat_lt, List, [], ◌∷◌, ◌++◌, if◌then◌else◌, codes}
 use Rattle.std.specs.List.{flat_map}
 use Rattle.std.specs.Fmt.{decimal}
+use Rattle.trio_report.specs.Replies.{reply_text}
 use Rattle.trio_report.specs.declared.answer.LineAnswer.{LineAnswer}
-use Rattle.trio_report.specs.declared.answer.LineAnswer.TheVariants.{Granted, GrantedHold, NotLive, Denied, NoParent, Busy, Allotted, NoPages, NoInodes, Poked, Seen, GivenBack, Accepted, Refused, NotClosed, Absent, ModeSet, NotOwner, BadMode}
+use Rattle.trio_report.specs.declared.answer.LineAnswer.TheVariants.{Granted, GrantedHold, NotLive, Denied, NoParent, Busy, Allotted, NoPages, NoInodes, Poked, Seen, GivenBack, Accepted, Refused, NotClosed, Absent, ModeSet, NotOwner, BadMode, Replied, Settled}
 
 -- a number that isn't the first of its list
 abbrev pub after_comma : ℕ → List ℕ
@@ -17,6 +18,10 @@ numbers_text (n ∷ ns) = decimal n ++ flat_map after_comma ns
 -- the words for a refusal name its rule
 abbrev pub refused_text : ℕ → List ℕ
 refused_text rule = codes "refused I" ++ decimal rule
+
+-- the words for a settle say how many calls it handed in
+abbrev pub settled_text : ℕ → List ℕ
+settled_text count = codes "settled " ++ decimal count
 
 -- a lower-case hexadecimal digit, 0 (48) to 9 and a (97) to f
 abbrev pub hex_digit : ℕ → ℕ
@@ -51,6 +56,8 @@ answer_text Absent = codes "absent"
 answer_text ModeSet = codes "ok"
 answer_text NotOwner = codes "notowner"
 answer_text BadMode = codes "badmode"
+answer_text (Replied reply) = reply_text reply
+answer_text (Settled count) = settled_text count
 
 -- the line that says what the line of this number is answered
 abbrev pub answer_line : ℕ → LineAnswer → List ℕ

@@ -6,7 +6,7 @@ use Rattle.serde_json.specs.Written.{compact_text}
 use Rattle.trio_names.specs.Escaped.{escaped_of}
 use Rattle.trio_rights.specs.Kind.{letter}
 use Rattle.trio_layout.specs.Tree.{TreeLine}
-use Rattle.trio_report.specs.Report.{octal_of}
+use Rattle.trio_report.specs.Octal.{octal_of}
 
 -- a file as an object: kind, mode and name are texts, as the tree's text has them, and the keys are in byte order
 abbrev pub json_of_line : TreeLine → Data

@@ -1,5 +1,7 @@
 pub mod Report
 pub mod Answers
+pub mod Replies
+pub mod Octal
 pub mod Json
 pub mod Seen
 pub mod inner

@@ -1,20 +1,17 @@
 -- The report as text.
-use Rattle.std.specs.Prelude.{ℕ, ◌+◌, ◌/◌, ◌%◌, List, [], ◌∷◌, ◌++◌, codes}
+use Rattle.std.specs.Prelude.{ℕ, List, ◌++◌, codes}
 use Rattle.std.specs.List.{flat_map}
 use Rattle.std.specs.Fmt.{decimal}
 use Rattle.trio_names.specs.Escaped.{escaped_of}
 use Rattle.trio_rights.specs.Kind.{letter}
 use Rattle.trio_layout.specs.Tree.{TreeLine}
-use Rattle.trio_report.specs.Answers.{refused_text}
+use Rattle.trio_report.specs.Answers.{refused_text, settled_text}
+use Rattle.trio_report.specs.Octal.{octal_of}
 use Rattle.trio_report.specs.declared.report.Counts.{Counts}
 use Rattle.trio_report.specs.declared.report.LibraryKind.{LibraryKind}
-use Rattle.trio_report.specs.declared.report.LibraryKind.TheVariants.{Raw}
+use Rattle.trio_report.specs.declared.report.LibraryKind.TheVariants.{Raw, Honest}
 use Rattle.trio_report.specs.declared.report.EndAnswer.{EndAnswer}
-use Rattle.trio_report.specs.declared.report.EndAnswer.TheVariants.{Nothing, Accepted, Refused}
-
--- three octal digits
-abbrev pub octal_of : ℕ → List ℕ
-octal_of mode = (48 + mode / 64 % 8) ∷ (48 + mode / 8 % 8) ∷ (48 + mode % 8) ∷ []
+use Rattle.trio_report.specs.declared.report.EndAnswer.TheVariants.{Nothing, Accepted, Refused, Settled}
 
 -- the root's name is printed as the slash that it is, every other name escaped, which a slash in no name needs
 abbrev pub tree_line : TreeLine → List ℕ
@@ -37,6 +34,7 @@ counts_text c = codes "inodes " ++ decimal c.inodes ++ codes " pages " ++ decima
 -- the word for a library's kind
 abbrev pub library_word : LibraryKind → List ℕ
 library_word Raw = codes "raw"
+library_word Honest = codes "honest"
 
 -- the line that begins the report on a library
 abbrev pub lib_heading : ℕ → LibraryKind → List ℕ
@@ -47,6 +45,7 @@ abbrev pub end_text : EndAnswer → List ℕ
 end_text Nothing = codes "nothing"
 end_text Accepted = codes "accepted"
 end_text (Refused rule) = refused_text rule
+end_text (Settled count) = settled_text count
 
 -- the line that ends the report on a library
 abbrev pub end_line : EndAnswer → List ℕ

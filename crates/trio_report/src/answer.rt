@@ -3,15 +3,16 @@
 ghost use Rattle.std.specs.Prelude.{◌≡◌, ◌++◌, ◌<◌, OnOk, codes};
 ghost use Rattle.std.specs.List.{flat_map};
 ghost use Rattle.std.specs.Fmt.{decimal};
-ghost use Rattle.trio_report.specs.Answers.{after_comma, answer_line, answer_text, hex_byte, hex_digit, hex_text, numbers_text, refused_text};
+ghost use Rattle.trio_report.specs.Answers.{after_comma, answer_line, answer_text, hex_byte, hex_digit, hex_text, numbers_text, refused_text, settled_text};
 
+use crate::reply::put_reply;
 use crate::text::put_text;
 use std::alloc::Global;
-use trio_nodes::{Bytes, List};
+use trio_nodes::{Bytes, List, Reply};
 use trio_page::NoMemory;
 
 /// What a line of a script is answered.
-#[derive(Debug, PartialEq, Eq, Drop)]
+#[derive(Drop)]
 pub enum LineAnswer {
     /// The grant was given, to read or to write.
     Granted,
@@ -23,7 +24,8 @@ pub enum LineAnswer {
     Denied(u32),
     /// The grant wasn't given: it needs a write grant on the file's parent, and there is none.
     NoParent,
-    /// The grant wasn't given, or the mode wasn't changed: an open grant excludes it.
+    /// The grant wasn't given, the mode wasn't changed, or the call wasn't done: an open grant
+    /// excludes it.
     Busy,
     /// These pages and inode numbers were allotted.
     Allotted { pages: List<u32>, inodes: List<u32> },
@@ -53,6 +55,10 @@ pub enum LineAnswer {
     NotOwner,
     /// The mode wasn't changed: it is above 0o777.
     BadMode,
+    /// A call of an honest library was replied this.
+    Replied(Reply),
+    /// An honest library handed in so many calls.
+    Settled(u32),
 }
 
 /// Appends what the line of this number is answered as a line, as `3 granted` or
@@ -100,10 +106,18 @@ fn put_words(alloc: Global, out: &mut Vec<u8>, answer: &LineAnswer) -> Result<()
         LineAnswer::ModeSet => put_text(out, "ok"),
         LineAnswer::NotOwner => put_text(out, "notowner"),
         LineAnswer::BadMode => put_text(out, "badmode"),
+        LineAnswer::Replied(reply) => put_reply(alloc, out, reply),
+        LineAnswer::Settled(count) => put_settled(alloc, out, *count),
     }
 }
 
-fn put_number(alloc: Global, out: &mut Vec<u8>, words: &str, number: u32) -> Result<(), NoMemory>
+/// Appends these words and a number.
+pub(crate) fn put_number(
+    alloc: Global,
+    out: &mut Vec<u8>,
+    words: &str,
+    number: u32,
+) -> Result<(), NoMemory>
     ensures { OnOk result (out.new.items ≡ out.old.items ++ (words.now ++ decimal number)) }
 {
     put_text(out, words)?;
@@ -145,6 +159,13 @@ pub(crate) fn put_refused(alloc: Global, out: &mut Vec<u8>, rule: u8) -> Result<
     put_text(out, &format!(in alloc; "{rule}")?)
 }
 
+/// Appends the words for a settle, as `settled 4`.
+pub(crate) fn put_settled(alloc: Global, out: &mut Vec<u8>, count: u32) -> Result<(), NoMemory>
+    ensures { OnOk result (out.new.items ≡ out.old.items ++ settled_text count) }
+{
+    put_number(alloc, out, "settled ", count)
+}
+
 fn put_allotted(
     alloc: Global,
     out: &mut Vec<u8>,
@@ -159,7 +180,8 @@ fn put_allotted(
     put_numbers(alloc, out, inodes)
 }
 
-fn put_want(
+/// Appends a word, what was wanted and what is free, as `nopages 30 25`.
+pub(crate) fn put_want(
     alloc: Global,
     out: &mut Vec<u8>,
     word: &str,

@@ -4,7 +4,7 @@ ghost use Rattle.std.specs.Prelude.{◌≡◌, IfOk, All, string_bytes};
 ghost use Rattle.serde_json.specs.View.{view};
 ghost use Rattle.trio_names.specs.Escaped.{escaped_of, IsVisible};
 ghost use Rattle.trio_report.specs.Json.{json_of_line, json_of_lines, tree_json};
-ghost use Rattle.trio_report.specs.Report.{octal_of};
+ghost use Rattle.trio_report.specs.Octal.{octal_of};
 ghost use Rattle.trio_report.specs.Seen.{name_seen};
 
 use crate::line::{TreeLine, TreeName, put_mode};

@@ -6,7 +6,8 @@
 //! - [`put_heading`], [`put_end`], [`put_tree`], [`put_tree_lines`] and [`put_counts`] append text to
 //!   bytes. `specs/Report.antt` has the text of each.
 //! - [`tree_json`] gives a tree as JSON, built and printed by `serde_json`. `specs/Json.antt` has it.
-//! - [`put_answer`] appends what a line of a script is answered. `specs/Answers.antt` has its text.
+//! - [`put_answer`] appends what a line of a script is answered. `specs/Answers.antt` has its text, and
+//!   `specs/Replies.antt` that of what calls are replied.
 //!
 //! What puts text takes memory for it. After [`NoMemory`] a part of the text may have been appended.
 #![tactic(auto)]
@@ -14,6 +15,7 @@
 mod answer;
 mod json;
 mod line;
+mod reply;
 mod report;
 mod text;
 mod tree;

@@ -4,7 +4,8 @@ ghost use Rattle.std.specs.Prelude.{◌≡◌, ◌+◌, ◌%◌, ◌++◌, OnOk,
 ghost use Rattle.std.specs.Fmt.{decimal};
 ghost use Rattle.trio_names.specs.Escaped.{escaped_of};
 ghost use Rattle.trio_rights.specs.Kind.{letter};
-ghost use Rattle.trio_report.specs.Report.{octal_of, tree_line, tree_lines_text, tree_text};
+ghost use Rattle.trio_report.specs.Octal.{octal_of};
+ghost use Rattle.trio_report.specs.Report.{tree_line, tree_lines_text, tree_text};
 ghost use Rattle.trio_report.specs.Seen.{name_seen};
 
 use crate::text::{put_escaped, put_text};

@@ -3,7 +3,7 @@
 ghost use Rattle.std.specs.Prelude.{◌≡◌, ◌++◌, OnOk};
 ghost use Rattle.trio_report.specs.Report.{library_word, lib_heading, end_text, end_line, counts_text};
 
-use crate::answer::put_refused;
+use crate::answer::{put_refused, put_settled};
 use crate::text::put_text;
 use std::alloc::Global;
 use trio_page::NoMemory;
@@ -14,6 +14,8 @@ use trio_rights::LibNo;
 pub enum LibraryKind {
     /// A library that asks the controller itself, and may write any bytes.
     Raw,
+    /// A library whose calls go through a session.
+    Honest,
 }
 
 impl LibraryKind {
@@ -22,6 +24,7 @@ impl LibraryKind {
     {
         match self {
             LibraryKind::Raw => "raw",
+            LibraryKind::Honest => "honest",
         }
     }
 }
@@ -35,6 +38,8 @@ pub enum EndAnswer {
     Accepted,
     /// What was given back for it was refused, by the rule of this number: 1 to 4 for I1 to I4.
     Refused(u8),
+    /// An honest library handed in so many calls.
+    Settled(u32),
 }
 
 /// Appends the line that begins the report on a library, as `lib 1 raw`.
@@ -68,6 +73,7 @@ fn put_end_words(alloc: Global, out: &mut Vec<u8>, answer: EndAnswer) -> Result<
         EndAnswer::Nothing => put_text(out, "nothing"),
         EndAnswer::Accepted => put_text(out, "accepted"),
         EndAnswer::Refused(rule) => put_refused(alloc, out, rule),
+        EndAnswer::Settled(count) => put_settled(alloc, out, count),
     }
 }
 

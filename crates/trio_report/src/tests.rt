@@ -2,9 +2,10 @@
 
 use super::*;
 use std::test::Fail;
-use trio_nodes::List;
+use trio_names::Name;
+use trio_nodes::{Answer, List, Reply};
 use trio_page::Reads;
-use trio_rights::{LibNo, Mode};
+use trio_rights::{Kind, LibNo, Mode};
 use trio_samples::files::{one_file, root};
 use trio_samples::{Sample, SampleFile, directory, regular};
 
@@ -141,6 +142,87 @@ fn allotments_are_told(rt: HostRuntime) -> Result<(), Fail> {
     assert_eq!(rt;
         out.as_slice(),
         b"7 allotted 9 -\n7 allotted - 0,12,4294967295\n7 nopages 30 25\n7 noinodes 64 0\n".as_slice()
+    );
+    Ok(())
+}
+
+/// Replies of calls that were done: counts, bytes that are escaped, names with their kinds, and what a
+/// file is.
+#[test]
+fn replies_are_told(rt: HostRuntime) -> Result<(), Fail> {
+    let alloc = rt.alloc();
+    let names = vec![in alloc;
+        (Name::read(b"a b")?, Kind::Directory),
+        (Name::read(b"f\xff")?, Kind::Regular),
+    ]?;
+    let answers = vec![in alloc;
+        Answer::Done,
+        Answer::Count(4096),
+        Answer::Bytes(List::new(alloc)),
+        Answer::Bytes(List::from_vec(b"hello \\".to_vec(alloc)?)),
+        Answer::Names {
+            count: 0,
+            names: List::new(alloc),
+        },
+        Answer::Names {
+            count: 66,
+            names: List::from_vec(names),
+        },
+        Answer::Stat {
+            kind: Kind::Regular,
+            mode: Mode(0o644),
+            uid: 1001,
+            gid: 5,
+            size: 4097,
+        },
+        Answer::Stat {
+            kind: Kind::Directory,
+            mode: Mode(0o007),
+            uid: 0,
+            gid: 4_294_967_295,
+            size: 0,
+        },
+    ]?;
+    let mut out = Vec::new(alloc);
+    for answer in answers {
+        put_answer(alloc, &mut out, 3, &LineAnswer::Replied(Reply::Ok(answer)))?;
+    }
+    assert_eq!(rt;
+        out.as_slice(),
+        b"3 ok\n3 ok 4096\n3 ok 0\n3 ok 7 hello\\x20\\x5C\n3 ok 0\n3 ok 66 a\\x20b/ f\\xFF\n3 ok f 644 1001 5 4097\n3 ok d 007 0 4294967295 0\n".as_slice()
+    );
+    Ok(())
+}
+
+/// Replies of calls that were refused, and settles.
+#[test]
+fn refusals_are_told(rt: HostRuntime) -> Result<(), Fail> {
+    let alloc = rt.alloc();
+    let replies = vec![in alloc;
+        Reply::NotFound,
+        Reply::Exists,
+        Reply::NotDir,
+        Reply::IsDir,
+        Reply::NotEmpty,
+        Reply::Denied,
+        Reply::IntoItself,
+        Reply::NoSpace {
+            wanted: 8206,
+            free: 22
+        },
+        Reply::NoInodes { wanted: 1, free: 0 },
+        Reply::TooLarge,
+    ]?;
+    let mut out = Vec::new(alloc);
+    put_heading(alloc, &mut out, LibNo(2), LibraryKind::Honest)?;
+    for reply in replies {
+        put_answer(alloc, &mut out, 8, &LineAnswer::Replied(reply))?;
+    }
+    put_answer(alloc, &mut out, 9, &LineAnswer::Settled(10))?;
+    put_end(alloc, &mut out, EndAnswer::Settled(0))?;
+    assert_eq!(rt;
+        out.as_slice(),
+        b"lib 2 honest\n8 notfound\n8 exists\n8 notdir\n8 isdir\n8 notempty\n8 denied\n8 intoitself\n8 nospace 8206 22\n8 noinodes 1 0\n8 toolarge\n9 settled 10\nend settled 0\n".as_slice()
     );
     Ok(())
 }

@@ -1,5 +1,5 @@
 -- What each line comes to at a desk.
-use Rattle.std.proofs.Common.{◌≡◌, ℕ, List, [], ◌∷◌, ◌++◌, Option, Some, None, Result, Ok, Err, IfOk, OnOk, IsErr, sym, refl, ap, ◌∙◌, subst, inl, inr}
+use Rattle.std.proofs.Common.{◌≡◌, ℕ, List, [], ◌∷◌, ◌++◌, length, Option, Some, None, Result, Ok, Err, IfOk, OnOk, IsErr, sym, refl, ap, ◌∙◌, subst, inl, inr}
 use Rattle.std.specs.Prelude.{MatchOption, IsFalse, if◌then◌else◌}
 use Rattle.std.proofs.lemmas.Bool.{false≢true, true_from_ne_false}
 use Rattle.std.specs.Option.{option_map}
@@ -28,12 +28,20 @@ use Rattle.trio_report.specs.declared.answer.LineAnswer.TheVariants as answered
 use Rattle.trio_runner.specs.Line.{Alone, Asks, ask_of, has_after, told_fault, told_grant, told_of, told_unmoded, told_verdict, told_want}
 use Rattle.trio_report.specs.declared.report.EndAnswer.{EndAnswer}
 use Rattle.trio_script.specs.declared.ScriptLine.{ScriptLine}
+use Rattle.trio_script.specs.declared.honest.HonestLine.{HonestLine}
+use Rattle.trio_session.specs.Seen.{SessionSeen}
+use Rattle.trio_edit_laws.specs.Calls.{MayCall}
+use Rattle.trio_walk.specs.Asks.{Settles}
+use Rattle.trio_report.specs.declared.report.EndAnswer.TheVariants.{Settled as EndSettled}
 use Rattle.trio_state.specs.Run.{Move}
 use Rattle.trio_desk.specs.Out.{LibOut}
 use Rattle.trio_ctl.specs.Ctl.{Controller}
-use Rattle.trio_ctl.specs.Desk.{Happens, LogsCall, out_of}
-use Rattle.trio_runner.specs.Rounds.{Says, Ends}
-use Rattle.trio_runner.specs.Play.{AreMoves, Heard, entries_of}
+use Rattle.trio_ctl.specs.Desk.{Happens, LogsCall, desk_of, out_of}
+use Rattle.trio_runner.specs.Rounds.{Says, SaysHonest, Ends}
+use Rattle.trio_runner.specs.Honest.{HonestComes, Noted, unnoted}
+use Rattle.trio_runner.specs.Moves.{AreMoves, entries_of}
+use Rattle.trio_runner.specs.Play.{Heard, InSession, Things, TurnComes, with_answer, with_end}
+use Rattle.trio_runner.proofs.Noting.{begins, line_noted, settle_noted}
 use Rattle.trio_runner.specs.inner.Calling.{LineCalled, EndCalled}
 use Rattle.trio_runner.specs.inner.Ready.{TookTurn}
 use Rattle.trio_runner.proofs.Moves.{moves_made}
@@ -252,7 +260,7 @@ module _ {D N : Type 0} (called : D → Ask → Told → D → Type 0) (ctl : D 
       (subst (λ (l : LibNo). Happened l (ctl d) (ctl d') calls) of
       (record { moves = m.moves; happen = m.happen; log_is = m.log_is; first = m.first })))
 
-  pub line_took : (d d' : D) (own : LibNo) (x x' : Controller) (has : Has) (line : ScriptLine) (answer : LineAnswer) (has' : Has) (told told' : Heard) → lib d ≡ own → ctl d ≡ x → x' ≡ ctl d' → LineCalled called d own has line.line answer d' has' → OnList (out_of (ctl d').state (lib d')) has' → told' ≡ record told { answers = told.answers ++ answer ∷ [] } → TookTurn own (Says line) x has told x' has' told'
+  pub line_took : (d d' : D) (own : LibNo) (x x' : Controller) (has : Has) (line : ScriptLine RawLine) (answer : LineAnswer) (has' : Has) (told told' : Heard) → lib d ≡ own → ctl d ≡ x → x' ≡ ctl d' → LineCalled called d own has line.line answer d' has' → OnList (out_of (ctl d').state (lib d')) has' → told' ≡ with_answer told answer → TookTurn own (Says line) x (Things has) told x' (Things has') told'
   line_took d d' own x x' has line answer has' told told' of at to l on heard =
       let m = moves_made called ctl name lib is l.calls d d' l.made in
       let h = happened d d' own x x' l.calls of at to l.made in
@@ -263,10 +271,10 @@ module _ {D N : Type 0} (called : D → Ask → Told → D → Type 0) (ctl : D 
         happen = h.happen;
         log_is = h.log_is;
         first = h.first;
-        on_list = subst (λ (y : Controller). OnList (out_of y.state own) has') (sym to) (subst (λ (n : LibNo). OnList (out_of (ctl d').state n) has') (m.same_lib ∙ of) on);
+        goes = subst (λ (y : Controller). OnList (out_of y.state own) has') (sym to) (subst (λ (n : LibNo). OnList (out_of (ctl d').state n) has') (m.same_lib ∙ of) on);
       }
 
-  pub end_took : (d d' : D) (own : LibNo) (x x' : Controller) (has : Has) (end : EndAnswer) (has' : Has) (told told' : Heard) → lib d ≡ own → ctl d ≡ x → x' ≡ ctl d' → has' ≡ nothing → EndCalled called d has end d' → told' ≡ record told { end = Some end } → TookTurn own Ends x has told x' has' told'
+  pub end_took : (d d' : D) (own : LibNo) (x x' : Controller) (has : Has) (end : EndAnswer) (has' : Has) (told told' : Heard) → lib d ≡ own → ctl d ≡ x → x' ≡ ctl d' → has' ≡ nothing → EndCalled called d has end d' → told' ≡ with_end told end → TookTurn own Ends x (Things has) told x' (Things has') told'
   end_took d d' own x x' has end has' told told' of at to none l heard =
       let h = happened d d' own x x' l.calls of at to l.made in
       record {
@@ -276,5 +284,49 @@ module _ {D N : Type 0} (called : D → Ask → Told → D → Type 0) (ctl : D 
         happen = h.happen;
         log_is = h.log_is;
         first = h.first;
-        on_list = subst (OnList (out_of x'.state own)) (sym none) (nothing_on_list (out_of x'.state own));
+        goes = subst (OnList (out_of x'.state own)) (sym none) (nothing_on_list (out_of x'.state own));
+      }
+
+  -- a line of a session, and its settle
+  pub honest_name : (d d' : D) (s s' : SessionSeen) (line : HonestLine) (told : LineAnswer) → HonestComes called (λ y. desk_of (ctl y).state (lib y)) d s line told d' s' → name d' ≡ name d
+  honest_name d d' s s' line told c =
+      (line_noted called ctl name lib is (lib d) (ctl d) (name d) d d' s s' line told (begins called ctl name lib is (lib d) (ctl d) (name d) d refl refl refl) c).2.same
+
+  pub honest_lib : (d d' : D) (s s' : SessionSeen) (line : HonestLine) (told : LineAnswer) → HonestComes called (λ y. desk_of (ctl y).state (lib y)) d s line told d' s' → lib d' ≡ lib d
+  honest_lib d d' s s' line told c =
+      (line_noted called ctl name lib is (lib d) (ctl d) (name d) d d' s s' line told (begins called ctl name lib is (lib d) (ctl d) (name d) d refl refl refl) c).2.same_lib
+
+  pub settle_name : (d d' : D) (s s' : SessionSeen) → Settles called d s d' s' → name d' ≡ name d
+  settle_name d d' s s' c =
+      (settle_noted called ctl name lib is (lib d) (ctl d) (name d) d d' s s' (begins called ctl name lib is (lib d) (ctl d) (name d) d refl refl refl) c).2.same
+
+  pub honest_took : (d d' : D) (own : LibNo) (x x' : Controller) (s : SessionSeen) (line : ScriptLine HonestLine) (answer : LineAnswer) (s' : SessionSeen) (told told' : Heard) → lib d ≡ own → ctl d ≡ x → x' ≡ ctl d'
+      → HonestComes called (λ y. desk_of (ctl y).state (lib y)) d s line.line answer d' s' → MayCall (desk_of (ctl d').state (lib d')) s' → told' ≡ with_answer told answer → TookTurn own (SaysHonest line) x (InSession s) told x' (InSession s') told'
+  honest_took d d' own x x' s line answer s' told told' of at to c may heard =
+      let n = line_noted called ctl name lib is own x (name d) d d' s s' line.line answer (begins called ctl name lib is own x (name d) d at refl of) c in
+      let end : x'.state ≡ n.0.state = ap (λ (y : Controller). y.state) to ∙ n.2.state in
+      record {
+        calls = n.0.calls;
+        moves = n.0.moves;
+        comes = subst (λ st. TurnComes own (SaysHonest line) (unnoted x.state) (InSession s) told (record { state = st; calls = n.0.calls; moves = n.0.moves }) (InSession s') told') (sym end) (answer, n.1, heard);
+        happen = subst (λ st. AreMoves own x.state n.0.calls n.0.moves st) (sym end) n.2.happen;
+        log_is = ap (λ (y : Controller). y.log) to ∙ n.2.log_is;
+        first = ap (λ (y : Controller). y.first) to ∙ n.2.first;
+        goes = subst (λ (y : Controller). MayCall (desk_of y.state own) s') (sym to) (subst (λ l. MayCall (desk_of (ctl d').state l) s') n.2.same_lib may);
+      }
+
+  pub settle_took : (d d' : D) (own : LibNo) (x x' : Controller) (s s' : SessionSeen) (count : ℕ) (told told' : Heard) → lib d ≡ own → ctl d ≡ x → x' ≡ ctl d'
+      → Settles called d s d' s' → count ≡ length s.calls → MayCall (desk_of (ctl d').state (lib d')) s' → told' ≡ with_end told (EndSettled count) → TookTurn own Ends x (InSession s) told x' (InSession s') told'
+  settle_took d d' own x x' s s' count told told' of at to c counts may heard =
+      let n = settle_noted called ctl name lib is own x (name d) d d' s s' (begins called ctl name lib is own x (name d) d at refl of) c in
+      let end : x'.state ≡ n.0.state = ap (λ (y : Controller). y.state) to ∙ n.2.state in
+      record {
+        calls = n.0.calls;
+        moves = n.0.moves;
+        comes = subst (λ st. TurnComes own Ends (unnoted x.state) (InSession s) told (record { state = st; calls = n.0.calls; moves = n.0.moves }) (InSession s') told') (sym end)
+            (n.1, heard ∙ ap (λ k. with_end told (EndSettled k)) counts);
+        happen = subst (λ st. AreMoves own x.state n.0.calls n.0.moves st) (sym end) n.2.happen;
+        log_is = ap (λ (y : Controller). y.log) to ∙ n.2.log_is;
+        first = ap (λ (y : Controller). y.first) to ∙ n.2.first;
+        goes = subst (λ (y : Controller). MayCall (desk_of y.state own) s') (sym to) (subst (λ l. MayCall (desk_of (ctl d').state l) s') n.2.same_lib may);
       }

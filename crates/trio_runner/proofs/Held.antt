@@ -1,5 +1,5 @@
 -- Between turns each library has all that is out to it, and nothing is out to anybody else.
-use Rattle.std.proofs.Common.{◌≡◌, ℕ, ◌-◌, ◌≤◌, Bool, true, false, cond, ◌&&◌, eqb, List, [], ◌∷◌, ◌++◌, length, get_or, set, Option, Some, None, sym, refl, ap, ◌∙◌, subst, inl, inr, arith}
+use Rattle.std.proofs.Common.{◌≡◌, ℕ, ◌-◌, Ok, ◌≤◌, Bool, true, false, cond, ◌&&◌, eqb, List, [], ◌∷◌, ◌++◌, length, get_or, set, Option, Some, None, sym, refl, ap, ◌∙◌, subst, inl, inr, arith}
 use Rattle.std.proofs.Math.Dec.{eqb-suc-zero}
 use Rattle.std.specs.Prelude.{MatchOption}
 use Rattle.std.specs.Option.{IsSomeAnd, option_map}
@@ -8,14 +8,16 @@ use Rattle.std.proofs.lemmas.List.{append-nil, append_assoc, get_or-set_other, g
 use Rattle.trio_rights.specs.declared.rights.LibNo.{LibNo}
 use Rattle.trio_rights.specs.declared.rights.Creds.{Creds}
 use Rattle.trio_rights.specs.Row.{Row}
+use Rattle.trio_lists.specs.Lists.{In}
 use Rattle.trio_lists.proofs.Filters.{find-In}
 use Rattle.trio_nodes.specs.declared.grant.GrantKind.{GrantKind}
 use Rattle.trio_nodes.specs.declared.grant.GrantKind.TheVariants.{Read, Write, Hold}
 use Rattle.trio_lease.specs.Shown.{Shown}
 use Rattle.trio_lease.specs.declared.lease.Lease.{Lease}
-use Rattle.trio_desk.specs.Out.{LibOut}
+use Rattle.trio_desk.specs.Call.{DeskSeen}
+use Rattle.trio_desk.specs.Out.{LibOut, OutAlike, nothing_out as no_lib_out}
 use Rattle.trio_desk.specs.Out as out_words
-use Rattle.trio_desk.specs.Call.{Ask, Told, Grant, Allot, GiveBack, Release, SetMode, Lent, NotLent, Given, NotGiven, Done, Judged, NotJudged, Settled, NotSettled, ModeSet, NotModeSet}
+use Rattle.trio_desk.specs.Call.{Ask, Told, Grant, Allot, GiveBack, Release, SetMode, Settle, SeenAfter, Lent, NotLent, Given, NotGiven, Done, Judged, NotJudged, Settled, NotSettled, ModeSet, NotModeSet}
 use Rattle.trio_desk.specs.Calls.{Call}
 use Rattle.trio_layout.specs.Image.{row_at}
 use Rattle.trio_state.specs.State.{OpenGrant, State}
@@ -24,7 +26,7 @@ use Rattle.trio_state.specs.Grants.{opened}
 use Rattle.trio_state.specs.Run.{Move}
 use Rattle.trio_ctl.specs.Ctl.{IsLibrary}
 use Rattle.trio_ctl.specs.Open.{given_by, lent_by}
-use Rattle.trio_ctl.specs.Desk.{Happens, out_of}
+use Rattle.trio_ctl.specs.Desk.{Happens, desk_of, out_of}
 use Rattle.trio_raw.proofs.Asking.{mode_alike}
 use Rattle.trio_raw.specs.Has.{Has, nothing, has_all_of, has_nothing, parcel_named, poked, read_on, with_reads, without_read}
 use Rattle.trio_raw.specs.Asked.{back_calls, release_call}
@@ -33,9 +35,18 @@ use Rattle.trio_script.specs.declared.line.RawLine.TheVariants.{Grant as GrantLi
 use Rattle.trio_report.specs.declared.answer.LineAnswer.{LineAnswer}
 use Rattle.trio_report.specs.declared.report.EndAnswer.{EndAnswer}
 use Rattle.trio_runner.specs.Line.{Alone, Asks, LineComes, EndsAlone, EndsAll, EndComes, has_after, has_alone, has_poked, told_of}
-use Rattle.trio_runner.specs.Rounds.{Placed, Turn, Says, Ends}
-use Rattle.trio_runner.specs.Play.{AreMoves, Heard, Players, TakesTurn, TurnComes, has_of}
-use Rattle.trio_runner.specs.inner.Ready.{HasAll, IsHeld}
+use Rattle.trio_script.specs.declared.honest.HonestLine.{HonestLine}
+use Rattle.trio_script.specs.declared.honest.HonestLine.TheVariants.{Call as CallLine, Settle as SettleLine}
+use Rattle.trio_session.specs.Seen.{SessionSeen, emptied}
+use Rattle.trio_edit_laws.specs.Calls.{MayCall}
+use Rattle.trio_edit_laws.proofs.Called.{begins_to_call, may_be_settled}
+use Rattle.trio_walk.specs.Asks.{Settles}
+use Rattle.trio_ctl.proofs.Settling.{settle_seen}
+use Rattle.trio_runner.specs.Rounds.{Placed, Turn, Says, SaysHonest, Ends}
+use Rattle.trio_runner.specs.Honest.{HonestComes, Noted, Notes, sees, unnoted}
+use Rattle.trio_runner.specs.Moves.{AreMoves}
+use Rattle.trio_runner.specs.Play.{Heard, Players, Share, TakesTurn, Things, InSession, TurnComes, share_of, told_to}
+use Rattle.trio_runner.specs.inner.Ready.{HasAll, HoldsAll, IsHeld}
 use Rattle.trio_runner.proofs.CallLeaves.{call_leaves}
 use Rattle.trio_runner.proofs.Moves.{Stands, moves_creds, moves_others, moves_parted, moves_stand, no_move, one_move}
 use Rattle.trio_runner.proofs.Outs.{AsLent, has_all-alike, has_all-allotted, has_all-back, has_all-last, has_all-lease, has_all-poked, has_all-rest, has_all-returned, has_all-whole}
@@ -230,11 +241,66 @@ end_held lib s has calls moves end s' k h comes am =
           (has_all-whole (out_of p.middle lib) has (backs_held lib has [] has.reads s p.first_moves p.middle k h p.before)))
     ]
 
+-- ---- a settle
+
+-- a library to which nothing is out has all of it with nothing
+pub none_all : (out : LibOut) → OutAlike out no_lib_out → HasAll out nothing
+none_all out o = record {
+  writes = λ w i. absurd (subst (λ l. In w l) o.writes i);
+  reads = λ r i. absurd (subst (λ l. In r l) o.reads i);
+  holds = λ h i. absurd (subst (λ l. In h l) o.holds i);
+  pages = λ n i. absurd ((o.pages n).0 i);
+  numbers = λ n i. absurd ((o.numbers n).0 i);
+}
+
+module _ (lib : LibNo) (s : State) (x x' : SessionSeen) (d' : Noted) (stands : Stands s) (may : MayCall (desk_of s lib) x) (t : Settles (Notes lib) (unnoted s) x d' x') where
+  seen_then : SeenAfter (desk_of s lib) (Settle x.parcel x.reads x.calls) Settled (desk_of d'.state lib)
+  seen_then =
+      settle_seen {A = Unit {0}} {B = Unit {0}} s d'.state lib x.parcel x.reads x.calls (Ok tt) stands.kept stands.whole (may_be_settled (desk_of s lib) x may) t.made.happens
+
+  pub nothing_settled : HasAll (out_of d'.state lib) nothing
+  nothing_settled = none_all (out_of d'.state lib) seen_then.out
+
+  pub settled_may : MayCall (desk_of d'.state lib) x'
+  settled_may =
+      begins_to_call (desk_of d'.state lib) x'
+      (record {
+        lib = ap (λ (y : SessionSeen). y.lib) t.empty ∙ may.edits.on.lib;
+        creds = ap (λ (y : SessionSeen). y.creds) t.empty ∙ may.edits.on.creds ∙ sym seen_then.creds;
+        out = seen_then.out;
+        empty = subst (λ (y : SessionSeen). y ≡ emptied y) (sym t.empty) refl;
+      })
+
 -- ---- a turn
 
-turn_held : (lib : LibNo) (turn : Turn) (s : State) (has : Has) (told : Heard) (calls : List Call) (moves : List Move) (s' : State) (has' : Has) (told' : Heard) → Stands s → HasAll (out_of s lib) has → TurnComes lib turn has told calls has' told' → AreMoves lib s calls moves s' → HasAll (out_of s' lib) has'
-turn_held lib (Says line) s has told calls moves s' has' told' k h c am = line_held lib s s' has has' calls moves c.0 k.kept h am line.line c.1
-turn_held lib Ends s has told calls moves s' has' told' k h c am = subst (HasAll (out_of s' lib)) (sym c.2) (end_held lib s has calls moves c.0 s' k h c.1 am)
+honest_held : (lib : LibNo) (s : State) (x : SessionSeen) (line : HonestLine) (told : LineAnswer) (d' : Noted) (x' : SessionSeen) → Stands s → MayCall (desk_of s lib) x → HonestComes (Notes lib) (sees lib) (unnoted s) x line told d' x' → MayCall (desk_of d'.state lib) x'
+honest_held lib s x (CallLine k) told d' x' stands may c = c.may
+honest_held lib s x SettleLine told d' x' stands may c = settled_may lib s x x' d' stands may c.0
+
+turn_held : (lib : LibNo) (turn : Turn) (s : State) (share : Share) (told : Heard) (d' : Noted) (share' : Share) (told' : Heard) → Stands s → HoldsAll s lib share → TurnComes lib turn (unnoted s) share told d' share' told' → AreMoves lib s d'.calls d'.moves d'.state → HoldsAll d'.state lib share'
+turn_held lib (Says line) s (Things has) told d' (Things has') told' k h c am = line_held lib s d'.state has has' d'.calls d'.moves c.0 k.kept h am line.line c.1
+turn_held lib (SaysHonest line) s (InSession x) told d' (InSession x') told' k h c am = honest_held lib s x line.line c.0 d' x' k h c.1
+turn_held lib Ends s (Things has) told d' (Things has') told' k h c am = subst (HasAll (out_of d'.state lib)) (sym c.2) (end_held lib s has d'.calls d'.moves c.0 d'.state k h c.1 am)
+turn_held lib Ends s (InSession x) told d' (InSession x') told' k h c am = settled_may lib s x x' d' k h c.0
+turn_held lib turn s share told d' share' told' k h c am = absurd c
+
+abbrev pub is_end : Turn → Bool
+is_end (Says line) = false
+is_end (SaysHonest line) = false
+is_end Ends = true
+
+-- after its end nothing is out to a library
+pub end_none : (lib : LibNo) (turn : Turn) (s : State) (share : Share) (told : Heard) (d' : Noted) (share' : Share) (told' : Heard) → is_end turn ≡ true → Stands s → HoldsAll s lib share → TurnComes lib turn (unnoted s) share told d' share' told' → AreMoves lib s d'.calls d'.moves d'.state → HasAll (out_of d'.state lib) nothing
+end_none lib (Says line) s share told d' share' told' e k h c am = absurd (false≢true e)
+end_none lib (SaysHonest line) s share told d' share' told' e k h c am = absurd (false≢true e)
+end_none lib Ends s (Things has) told d' (Things has') told' e k h c am = end_held lib s has d'.calls d'.moves c.0 d'.state k h c.1 am
+end_none lib Ends s (InSession x) told d' (InSession x') told' e k h c am = nothing_settled lib s x x' d' k h c.0
+end_none lib Ends s share told d' share' told' e k h c am = absurd c
+
+-- what is seen of its desk stays for a library, and so all that it has
+pub holds_same : (s s' : State) (lib : LibNo) (share : Share) → desk_of s' lib ≡ desk_of s lib → HoldsAll s lib share → HoldsAll s' lib share
+holds_same s s' lib (Things has) same h = subst (λ (o : LibOut). HasAll o has) (sym (ap (λ (d : DeskSeen). d.out) same)) h
+holds_same s s' lib (InSession x) same h = subst (λ (d : DeskSeen). MayCall d x) (sym same) h
 
 -- a library by its number
 pub same_library : (a b : LibNo) → a.0 ≡ b.0 → a ≡ b
@@ -249,7 +315,7 @@ set_other xs lib other x d low other_low apart =
     get_or-set_other xs (lib.0 - 1) (other.0 - 1) x d (λ e. apart (omega (arith, low, other_low, e)))
 
 pub held_stands : (p : Players) → IsHeld p → Stands p.state
-held_stands p h = record { kept = h.kept; as_told = h.as_told }
+held_stands p h = record { kept = h.kept; as_told = h.as_told; whole = h.whole }
 
 -- the libraries are the same after a turn
 pub same_creds : (p : Players) (t : Placed) (moves : List Move) (p' : Players) → TakesTurn p t moves p' → p'.state.creds ≡ p.state.creds
@@ -261,41 +327,48 @@ library_before other s s' e is = (is.0, subst (λ (cs : List Creds). other.0 ≤
 pub library_after : (other : LibNo) (s s' : State) → s'.creds ≡ s.creds → IsLibrary other s → IsLibrary other s'
 library_after other s s' e is = (is.0, subst (λ (cs : List Creds). other.0 ≤ length cs) (sym e) is.1)
 
+-- the controller after a turn, with its calls and moves
+abbrev pub noted_of : (p' : Players) (calls : List Call) (moves : List Move) → Noted
+noted_of p' calls moves = record { state = p'.state; calls = calls; moves = moves }
+
 -- what its library has after a turn
-pub own_after : (p : Players) (t : Placed) (moves : List Move) (p' : Players) → IsHeld p → IsLibrary t.lib p.state → (takes : TakesTurn p t moves p') → has_of p' t.lib ≡ takes.has'
+pub own_after : (p : Players) (t : Placed) (moves : List Move) (p' : Players) → IsHeld p → IsLibrary t.lib p.state → (takes : TakesTurn p t moves p') → share_of p' t.lib ≡ takes.share'
 own_after p t moves p' h is takes =
-    ap (λ (l : List Has). get_or l (t.lib.0 - 1) nothing) takes.has_is
-    ∙ set_own p.has t.lib takes.has' nothing is.0 (subst (λ n. t.lib.0 ≤ n) (sym h.has_places) is.1)
+    ap (λ (l : List Share). get_or l (t.lib.0 - 1) (Things nothing)) takes.shares_are
+    ∙ set_own p.shares t.lib takes.share' (Things nothing) is.0 (subst (λ n. t.lib.0 ≤ n) (sym h.places) is.1)
 
 -- and what another has
-pub other_after : (p : Players) (t : Placed) (moves : List Move) (p' : Players) (other : LibNo) → IsLibrary t.lib p.state → 1 ≤ other.0 → (other.0 ≡ t.lib.0 → ⊥) → TakesTurn p t moves p' → has_of p' other ≡ has_of p other
-other_after p t moves p' other is low apart takes =
-    ap (λ (l : List Has). get_or l (other.0 - 1) nothing) takes.has_is
-    ∙ set_other p.has t.lib other takes.has' nothing is.0 low apart
+pub other_after : (p : Players) (t : Placed) (moves : List Move) (p' : Players) (other : LibNo) → 1 ≤ t.lib.0 → 1 ≤ other.0 → (other.0 ≡ t.lib.0 → ⊥) → TakesTurn p t moves p' → share_of p' other ≡ share_of p other
+other_after p t moves p' other low other_low apart takes =
+    ap (λ (l : List Share). get_or l (other.0 - 1) (Things nothing)) takes.shares_are
+    ∙ set_other p.shares t.lib other takes.share' (Things nothing) low other_low apart
+
+-- what is seen of another's desk stays in a turn
+pub others_seen : (p : Players) (t : Placed) (moves : List Move) (p' : Players) (other : LibNo) → IsHeld p → (other.0 ≡ t.lib.0 → ⊥) → TakesTurn p t moves p' → desk_of p'.state other ≡ desk_of p.state other
+others_seen p t moves p' other h apart takes = moves_others t.lib other p.state takes.calls moves p'.state apart (held_stands p h) takes.happen
 
 pub held_after : (p : Players) (t : Placed) (moves : List Move) (p' : Players) → IsHeld p → IsLibrary t.lib p.state → TakesTurn p t moves p' → IsHeld p'
 held_after p t moves p' h is takes =
     let stands = moves_stand t.lib p.state takes.calls moves p'.state (held_stands p h) takes.happen in
     let creds = same_creds p t moves p' takes in
-    let others : (other : LibNo) → (other.0 ≡ t.lib.0 → ⊥) → out_of p'.state other ≡ out_of p.state other =
-    λ other apart. moves_others t.lib other p.state takes.calls moves p'.state apart (held_stands p h) takes.happen in
-    let own : HasAll (out_of p'.state t.lib) (has_of p' t.lib) =
-    subst (HasAll (out_of p'.state t.lib)) (sym (own_after p t moves p' h is takes))
-    (turn_held t.lib t.turn p.state (has_of p t.lib) _ takes.calls moves p'.state takes.has' takes.told' (held_stands p h) (h.all t.lib is) takes.comes takes.happen) in
+    let own : HoldsAll p'.state t.lib (share_of p' t.lib) =
+    subst (HoldsAll p'.state t.lib) (sym (own_after p t moves p' h is takes))
+    (turn_held t.lib t.turn p.state (share_of p t.lib) (told_to p t.lib) (noted_of p' takes.calls moves) takes.share' takes.told' (held_stands p h) (h.all t.lib is) takes.comes takes.happen) in
     record {
       kept = stands.kept;
       as_told = stands.as_told;
-      has_places = ap length takes.has_is ∙ length-set p.has (t.lib.0 - 1) takes.has' ∙ h.has_places ∙ ap length (sym creds);
+      whole = stands.whole;
+      places = ap length takes.shares_are ∙ length-set p.shares (t.lib.0 - 1) takes.share' ∙ h.places ∙ ap length (sym creds);
       all = λ other there. elim (cases_Bool (eqb other.0 t.lib.0)) [
-        | inl e ↦ subst (λ l. HasAll (out_of p'.state l) (has_of p' l)) (sym (same_library other t.lib (eqb-true other.0 t.lib.0 e))) own
+        | inl e ↦ subst (λ l. HoldsAll p'.state l (share_of p' l)) (sym (same_library other t.lib (eqb-true other.0 t.lib.0 e))) own
         | inr f ↦
             (let apart : other.0 ≡ t.lib.0 → ⊥ = λ e. both_ways (eqb other.0 t.lib.0) f (eq-eqb other.0 t.lib.0 e) in
             let before = library_before other p.state p'.state creds there in
-            subst (λ (o : LibOut). HasAll o (has_of p' other)) (sym (others other apart))
-            (subst (HasAll (out_of p.state other)) (sym (other_after p t moves p' other is before.0 apart takes)) (h.all other before)))
+            holds_same p.state p'.state other (share_of p' other) (others_seen p t moves p' other h apart takes)
+            (subst (HoldsAll p.state other) (sym (other_after p t moves p' other is.0 before.0 apart takes)) (h.all other before)))
       ];
       nobody_else = λ other none.
           let before : IsLibrary other p.state → ⊥ = λ l. none (library_after other p.state p'.state creds l) in
           let apart : other.0 ≡ t.lib.0 → ⊥ = λ e. before (subst (λ l. IsLibrary l p.state) (sym (same_library other t.lib e)) is) in
-          subst (λ (o : LibOut). HasAll o nothing) (sym (others other apart)) (h.nobody_else other before);
+          subst (λ (o : LibOut). HasAll o nothing) (sym (ap (λ (d : DeskSeen). d.out) (others_seen p t moves p' other h apart takes))) (h.nobody_else other before);
     }

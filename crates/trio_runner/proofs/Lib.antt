@@ -1,6 +1,10 @@
 pub mod CallLeaves
+mod Sessions
 mod Plain
 pub mod Moves
+mod Noting
+mod Batches
+mod Spelled
 pub mod Plays
 pub mod Logs
 pub mod Outs

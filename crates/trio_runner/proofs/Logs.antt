@@ -8,7 +8,8 @@ use Rattle.trio_state.specs.State.{State}
 use Rattle.trio_state.specs.Run.{Move}
 use Rattle.trio_ctl.specs.Desk.{entries_told}
 use Rattle.trio_runner.specs.Rounds.{Placed, turns_of}
-use Rattle.trio_runner.specs.Play.{AreMoves, Players, Plays, TakesTurn, at_start, entries_of}
+use Rattle.trio_runner.specs.Moves.{AreMoves, entries_of}
+use Rattle.trio_runner.specs.Play.{Players, Plays, TakesTurn}
 use Rattle.trio_runner.specs.Logged.{AreEntries}
 use Rattle.trio_runner.specs.PlayLaws.{PlayedIsLogged}
 
@@ -51,5 +52,5 @@ plays_entries p (t ∷ turns) moves p' plays =
 
 pub played_is_logged : PlayedIsLogged
 played_is_logged image libs played =
-    let adds = plays_entries (at_start image libs) (turns_of libs) played.moves played.last played.plays in
-    subst (AreEntries played.moves) (sym adds.log_is) adds.of
+    let adds = plays_entries played.first (turns_of libs) played.moves played.last played.plays in
+    subst (AreEntries played.moves) (sym (adds.log_is ∙ ap (λ l. l ++ adds.entries) played.begins.log)) adds.of

@@ -11,23 +11,30 @@ use Rattle.trio_state.specs.Given.{GivenEvent}
 use Rattle.trio_state.specs.Step.{Step}
 use Rattle.trio_state.specs.Run.{Move, Trace}
 use Rattle.trio_ctl.specs.Ctl.{AreAsTold, Controller}
-use Rattle.trio_ctl.specs.Desk.{Happens, LogsCall, answer_of, entries_told, event_of, out_of}
-use Rattle.trio_runner.specs.Play.{AreMoves, entries_of}
-use Rattle.trio_ctl.proofs.DeskSteps.{calls_keep, happens_creds, others_keep, plain_step}
-use Rattle.trio_runner.proofs.Plain.{ArePlain, plain_given}
+use Rattle.trio_ctl.specs.Desk.{Happens, LogsCall, answer_of, desk_of, entries_told, event_of}
+use Rattle.trio_runner.specs.Moves.{AreMoves, entries_of}
+use Rattle.trio_laws.specs.history.Recorded.{LentWhole}
+use Rattle.trio_ctl.proofs.DeskSteps.{calls_keep, calls_leave_whole, happens_creds, others_see, plain_step}
+use Rattle.trio_runner.proofs.Sessions.{ArePlain}
+use Rattle.trio_runner.proofs.Plain.{plain_given}
 
--- the state is kept, and holds are as they told
+-- the state is kept, holds are as they told, and lent blocks are whole pages
 pub record Stands (s : State) : Type 0 where
   pub kept : Kept s
   pub as_told : AreAsTold s
+  pub whole : LentWhole s
+
+pub call_stands : (s : State) (lib : LibNo) (ask : Ask) (told : Told) (s' : State) → Stands s → Happens s lib ask told s' → Stands s'
+call_stands s lib ask told s' h is =
+    let k = calls_keep s lib ask told s' h.kept h.as_told is in
+    record { kept = k.0; as_told = k.1; whole = calls_leave_whole s lib ask told s' h.kept h.whole is }
 
 pub moves_stand : (lib : LibNo) (s : State) (calls : List Call) (moves : List Move) (s' : State) → Stands s → AreMoves lib s calls moves s' → Stands s'
 moves_stand lib s [] [] s' h a = subst Stands (sym a) h
 moves_stand lib s [] (m ∷ moves) s' h a = absurd a
 moves_stand lib s (c ∷ calls) [] s' h a = absurd a
 moves_stand lib s (c ∷ calls) (m ∷ moves) s' h a =
-    let k = calls_keep s lib c.ask c.told m.after h.kept h.as_told a.1 in
-    moves_stand lib m.after calls moves s' (record { kept = k.0; as_told = k.1 }) a.2
+    moves_stand lib m.after calls moves s' (call_stands s lib c.ask c.told m.after h a.1) a.2
 
 pub moves_creds : (lib : LibNo) (s : State) (calls : List Call) (moves : List Move) (s' : State) → AreMoves lib s calls moves s' → s'.creds ≡ s.creds
 moves_creds lib s [] [] s' a = ap (λ (t : State). t.creds) a
@@ -36,14 +43,14 @@ moves_creds lib s (c ∷ calls) [] s' a = absurd a
 moves_creds lib s (c ∷ calls) (m ∷ moves) s' a =
     moves_creds lib m.after calls moves s' a.2 ∙ happens_creds s lib c.ask c.told m.after a.1
 
-pub moves_others : (lib other : LibNo) (s : State) (calls : List Call) (moves : List Move) (s' : State) → (other.0 ≡ lib.0 → ⊥) → Stands s → AreMoves lib s calls moves s' → out_of s' other ≡ out_of s other
-moves_others lib other s [] [] s' apart h a = ap (λ t. out_of t other) a
+-- what is seen of another's desk stays
+pub moves_others : (lib other : LibNo) (s : State) (calls : List Call) (moves : List Move) (s' : State) → (other.0 ≡ lib.0 → ⊥) → Stands s → AreMoves lib s calls moves s' → desk_of s' other ≡ desk_of s other
+moves_others lib other s [] [] s' apart h a = ap (λ t. desk_of t other) a
 moves_others lib other s [] (m ∷ moves) s' apart h a = absurd a
 moves_others lib other s (c ∷ calls) [] s' apart h a = absurd a
 moves_others lib other s (c ∷ calls) (m ∷ moves) s' apart h a =
-    let k = calls_keep s lib c.ask c.told m.after h.kept h.as_told a.1 in
-    moves_others lib other m.after calls moves s' apart (record { kept = k.0; as_told = k.1 }) a.2
-    ∙ others_keep s lib other c.ask c.told m.after h.kept apart a.1
+    moves_others lib other m.after calls moves s' apart (call_stands s lib c.ask c.told m.after h a.1) a.2
+    ∙ others_see s lib other c.ask c.told m.after h.kept h.whole apart a.1
 
 -- calls one after others
 pub record Parted (lib : LibNo) (s : State) (first later : List Call) (moves : List Move) (s' : State) : Type 0 where
@@ -68,6 +75,23 @@ moves_parted lib s (c ∷ first) later (m ∷ moves) s' a =
       after = p.after;
       entries = ap (λ l. own ++ l) p.entries ∙ sym (append_assoc own (entries_of lib first p.first_moves) (entries_of lib later p.later_moves));
     }
+
+-- calls, and others after them
+pub moves_joined : (lib : LibNo) (s : State) (first later : List Call) (moves more : List Move) (middle s' : State) → AreMoves lib s first moves middle → AreMoves lib middle later more s' → AreMoves lib s (first ++ later) (moves ++ more) s'
+moves_joined lib s [] later [] more middle s' a b = subst (λ x. AreMoves lib x later more s') a b
+moves_joined lib s [] later (m ∷ moves) more middle s' a b = absurd a
+moves_joined lib s (c ∷ first) later [] more middle s' a b = absurd a
+moves_joined lib s (c ∷ first) later (m ∷ moves) more middle s' a b = (a.0, a.1, moves_joined lib m.after first later moves more middle s' a.2 b)
+
+-- and the entries of both
+pub entries_joined : (lib : LibNo) (s : State) (first later : List Call) (moves more : List Move) (middle : State) → AreMoves lib s first moves middle → entries_of lib (first ++ later) (moves ++ more) ≡ entries_of lib first moves ++ entries_of lib later more
+entries_joined lib s [] later [] more middle a = refl
+entries_joined lib s [] later (m ∷ moves) more middle a = absurd a
+entries_joined lib s (c ∷ first) later [] more middle a = absurd a
+entries_joined lib s (c ∷ first) later (m ∷ moves) more middle a =
+    let own : List Entry = entries_told m.before lib c.ask c.told in
+    ap (λ l. own ++ l) (entries_joined lib m.after first later moves more middle a.2)
+    ∙ sym (append_assoc own (entries_of lib first moves) (entries_of lib later more))
 
 -- one call alone
 pub one_move : (lib : LibNo) (s : State) (c : Call) (moves : List Move) (s' : State) → AreMoves lib s (c ∷ []) moves s' → Happens s lib c.ask c.told s'

@@ -1,6 +1,6 @@
--- Two plays of one script on one image come to the same.
-use Rattle.std.proofs.Common.{◌≡◌, ◌≢◌, ℕ, ◌-◌, Bool, true, false, List, [], ◌∷◌, ◌++◌, Option, Some, None, sym, refl, ap, ◌∙◌, subst, inl, inr, get_or, set}
-use Rattle.std.specs.Prelude.{MatchBool, MatchOption}
+-- Two plays of one script of raw libraries on one image come to the same.
+use Rattle.std.proofs.Common.{◌≡◌, ◌≢◌, ℕ, zero, suc, ◌+◌, ◌<◌, length, arith, ◌-◌, Bool, true, false, List, [], ◌∷◌, Option, Some, None, sym, refl, ap, ◌∙◌, subst, inl, inr, get_or, set}
+use Rattle.std.specs.Prelude.{MatchBool, MatchOption, slice_get}
 use Rattle.std.specs.Option.{IsSomeAnd}
 use Rattle.std.proofs.lemmas.Bool.{false≢true}
 use Rattle.trio_rights.specs.Row.{Row}
@@ -30,8 +30,8 @@ use Rattle.trio_state.specs.Step.{CtlAnswer, Step}
 use Rattle.trio_state.specs.Step as step
 use Rattle.trio_laws.specs.Known.{Known, known, plain_state, refused_rule, SameAnswer}
 use Rattle.trio_laws.proofs.KnownSteps.{known_decides, same_event_same_answer}
-use Rattle.trio_ctl.proofs.DeskSteps.{calls_keep, plain_step}
-use Rattle.trio_runner.proofs.Plain.{ArePlain, ask_plain, backs_plain}
+use Rattle.trio_ctl.proofs.DeskSteps.{plain_step}
+use Rattle.trio_runner.proofs.Plain.{ask_plain, backs_plain}
 use Rattle.trio_ctl.specs.Open.{lent_by}
 use Rattle.trio_ctl.specs.Desk.{LeaseIs, answer_of, event_of}
 use Rattle.trio_raw.specs.Has.{Has, has_nothing, nothing}
@@ -41,12 +41,18 @@ use Rattle.trio_script.specs.declared.line.RawLine.TheVariants.{Grant as GrantLi
 use Rattle.trio_report.specs.declared.answer.LineAnswer.{LineAnswer}
 use Rattle.trio_report.specs.declared.report.EndAnswer.{EndAnswer}
 use Rattle.trio_runner.specs.Line.{Alone, Asks, LineComes, EndsAlone, EndsAll, EndComes, ask_of, end_of, has_after, told_of}
+use Rattle.trio_script.specs.declared.Lines.{Lines}
+use Rattle.trio_script.specs.declared.Lines.TheVariants.{Raw as RawLines, Honest as HonestLines}
+use Rattle.trio_rights.specs.declared.rights.Creds.{Creds}
 use Rattle.trio_runner.specs.Rounds.{Placed, Turn, Says, Ends, turns_of}
-use Rattle.trio_runner.specs.Play.{AreMoves, Heard, Players, Plays, TakesTurn, TurnComes, at_start, has_of, told_to, untold}
-use Rattle.trio_runner.specs.PlayLaws.{PlayedIsOne}
-use Rattle.trio_runner.proofs.Moves.{Stands, moves_parted, moves_stand, no_move, one_move}
-use Rattle.trio_runner.proofs.Held.{held_stands}
-use Rattle.trio_runner.proofs.EndFree.{start_held}
+use Rattle.trio_runner.specs.Honest.{Noted, unnoted}
+use Rattle.trio_runner.specs.Moves.{AreMoves}
+use Rattle.trio_runner.specs.Play.{BeginsWith, Heard, IsLibraryOf, Players, Plays, Share, TakesTurn, Things, InSession, TurnComes, share_of, told_to, untold, with_answer, with_end}
+use Rattle.trio_runner.specs.PlayLaws.{IsRaw, PlayedIsOne}
+use Rattle.trio_runner.proofs.Sessions.{ArePlain}
+use Rattle.trio_runner.proofs.Moves.{Stands, call_stands, moves_parted, moves_stand, no_move, one_move}
+use Rattle.trio_runner.proofs.Held.{held_stands, noted_of}
+use Rattle.trio_runner.proofs.EndFree.{start_held, within_some}
 
 -- ---- answers
 
@@ -369,9 +375,8 @@ calls_known lib (c ∷ calls) s t (m ∷ moves) [] s' t' some plain hs ht same a
 calls_known lib (c ∷ calls) s t (m ∷ moves) (n ∷ moves') s' t' some plain hs ht same am bm =
     let r = same_event_same_answer s t (event_of lib c.ask) (answer_of c.told) (answer_of c.told) m.after n.after hs.kept ht.kept same
     (plain_step s lib c.ask c.told m.after (plain c (inl refl)) am.1) (plain_step t lib c.ask c.told n.after (plain c (inl refl)) bm.1) (some c (inl refl)) (some c (inl refl)) in
-    let ks = calls_keep s lib c.ask c.told m.after hs.kept hs.as_told am.1 in
-    let kt = calls_keep t lib c.ask c.told n.after ht.kept ht.as_told bm.1 in
-    calls_known lib calls m.after n.after moves moves' s' t' (λ x i. some x (inr i)) (λ x i. plain x (inr i)) (record { kept = ks.0; as_told = ks.1 }) (record { kept = kt.0; as_told = kt.1 }) r.1 am.2 bm.2
+    calls_known lib calls m.after n.after moves moves' s' t' (λ x i. some x (inr i)) (λ x i. plain x (inr i))
+    (call_stands s lib c.ask c.told m.after hs am.1) (call_stands t lib c.ask c.told n.after ht bm.1) r.1 am.2 bm.2
 
 backs_done : (rs : List Shown) (c : Call) → In c (back_calls rs) → answer_of c.told ≢ step.NoMemory
 backs_done [] c i = absurd i
@@ -427,31 +432,70 @@ one_end lib s t has calls calls' moves moves' end end' s' t' hs ht same one two 
 
 -- ---- turns
 
-record OneTurn (s' t' : State) (has' has'' : Has) (told' told'' : Heard) : Type 0 where
+-- two raw libraries have the same
+abbrev ShareAlike : Share → Share → Type 0
+ShareAlike (Things a) (Things b) = a ≡ b
+ShareAlike a b = ⊥
+
+record OneTurn (s' t' : State) (share' share'' : Share) (told' told'' : Heard) : Type 0 where
   told_same : told' ≡ told''
-  has_same : has' ≡ has''
+  shares_alike : ShareAlike share' share''
   known_same : known s' ≡ known t'
 
-one_turn : (lib : LibNo) (turn : Turn) (s t : State) (has : Has) (told : Heard) (calls calls' : List Call) (moves moves' : List Move) (s' t' : State) (has' has'' : Has) (told' told'' : Heard) → Stands s → Stands t → known s ≡ known t → TurnComes lib turn has told calls has' told' → TurnComes lib turn has told calls' has'' told'' → AreMoves lib s calls moves s' → AreMoves lib t calls' moves' t' → OneTurn s' t' has' has'' told' told''
-one_turn lib (Says line) s t has told calls calls' moves moves' s' t' has' has'' told' told'' hs ht same a b am bm =
-    let r = one_line lib line.line s t has calls calls' moves moves' a.0 b.0 s' t' has' has'' hs.kept ht.kept same a.1 b.1 am bm in
+one_turn : (lib : LibNo) (turn : Turn) (s t : State) (share share2 : Share) (told : Heard) (d' e' : Noted) (share' share'' : Share) (told' told'' : Heard) → Stands s → Stands t → known s ≡ known t → ShareAlike share share2 → TurnComes lib turn (unnoted s) share told d' share' told' → TurnComes lib turn (unnoted t) share2 told e' share'' told'' → AreMoves lib s d'.calls d'.moves d'.state → AreMoves lib t e'.calls e'.moves e'.state → OneTurn d'.state e'.state share' share'' told' told''
+one_turn lib (Says line) s t (Things has) (Things has2) told d' e' (Things has') (Things has'') told' told'' hs ht same alike a b am bm =
+    let b1 = subst (λ (h : Has). LineComes lib h line.line e'.calls b.0 has'') (sym alike) b.1 in
+    let r = one_line lib line.line s t has d'.calls e'.calls d'.moves e'.moves a.0 b.0 d'.state e'.state has' has'' hs.kept ht.kept same a.1 b1 am bm in
     record {
-      told_same = a.2 ∙ ap (λ (x : LineAnswer). record told { answers = told.answers ++ x ∷ [] }) r.told_same ∙ sym b.2;
-      has_same = r.has_same;
+      told_same = a.2 ∙ ap (with_answer told) r.told_same ∙ sym b.2;
+      shares_alike = r.has_same;
       known_same = r.known_same;
     }
-one_turn lib Ends s t has told calls calls' moves moves' s' t' has' has'' told' told'' hs ht same a b am bm =
-    let r = one_end lib s t has calls calls' moves moves' a.0 b.0 s' t' hs ht same a.1 b.1 am bm in
+one_turn lib Ends s t (Things has) (Things has2) told d' e' (Things has') (Things has'') told' told'' hs ht same alike a b am bm =
+    let b1 = subst (λ (h : Has). EndComes h e'.calls b.0) (sym alike) b.1 in
+    let r = one_end lib s t has d'.calls e'.calls d'.moves e'.moves a.0 b.0 d'.state e'.state hs ht same a.1 b1 am bm in
     record {
-      told_same = a.3 ∙ ap (λ (x : EndAnswer). record told { end = Some x }) r.end_same ∙ sym b.3;
-      has_same = a.2 ∙ sym b.2;
+      told_same = a.3 ∙ ap (with_end told) r.end_same ∙ sym b.3;
+      shares_alike = a.2 ∙ sym b.2;
       known_same = r.known_same;
     }
+one_turn lib (Says line) s t (Things has) (Things has2) told d' e' (Things has') (InSession y) told' told'' hs ht same alike a b am bm = absurd b
+one_turn lib Ends s t (Things has) (Things has2) told d' e' (Things has') (InSession y) told' told'' hs ht same alike a b am bm = absurd b
+one_turn lib turn s t (InSession x) share2 told d' e' share' share'' told' told'' hs ht same alike a b am bm = absurd alike
+one_turn lib turn s t (Things has) (InSession y) told d' e' share' share'' told' told'' hs ht same alike a b am bm = absurd alike
+one_turn lib turn s t share share2 told d' e' share' share'' told' told'' hs ht same alike a b am bm = absurd a
 
--- of two players the same is known, and the libraries have and were told the same
+-- libraries that have the same, one by one
+abbrev AllAlike : List Share → List Share → Type 0
+AllAlike [] [] = Unit {0}
+AllAlike (x ∷ xs) (y ∷ ys) = ShareAlike x y × AllAlike xs ys
+AllAlike [] (y ∷ ys) = ⊥
+AllAlike (x ∷ xs) [] = ⊥
+
+alike_at : (xs ys : List Share) (i : ℕ) → AllAlike xs ys → ShareAlike (get_or xs i (Things nothing)) (get_or ys i (Things nothing))
+alike_at [] [] i all = refl
+alike_at [] (y ∷ ys) i all = absurd all
+alike_at (x ∷ xs) [] i all = absurd all
+alike_at (x ∷ xs) (y ∷ ys) zero all = all.0
+alike_at (x ∷ xs) (y ∷ ys) (suc i) all = alike_at xs ys i all.1
+
+alike_set : (xs ys : List Share) (i : ℕ) (x y : Share) → AllAlike xs ys → ShareAlike x y → AllAlike (set xs i x) (set ys i y)
+alike_set [] [] i x y all one = tt
+alike_set [] (b ∷ ys) i x y all one = absurd all
+alike_set (a ∷ xs) [] i x y all one = absurd all
+alike_set (a ∷ xs) (b ∷ ys) zero x y all one = (one, all.1)
+alike_set (a ∷ xs) (b ∷ ys) (suc i) x y all one = (all.0, alike_set xs ys i x y all.1 one)
+
+alike_each : (xs ys : List Share) → length xs ≡ length ys → ((i : ℕ) → i < length xs → ShareAlike (get_or xs i (Things nothing)) (get_or ys i (Things nothing))) → AllAlike xs ys
+alike_each [] [] e h = tt
+alike_each [] (y ∷ ys) e h = absurd (omega (arith, e))
+alike_each (x ∷ xs) [] e h = absurd (omega (arith, e))
+alike_each (x ∷ xs) (y ∷ ys) e h = (h 0 (omega arith), alike_each xs ys (omega (arith, e)) (λ i lt. h (suc i) (omega (arith, lt))))
+
+-- of two players the same is known, and the libraries, all raw, have and were told the same
 record AlikePlayers (p q : Players) : Type 0 where
   known_same : known p.state ≡ known q.state
-  has_same : p.has ≡ q.has
+  shares_alike : AllAlike p.shares q.shares
   told_same : p.told ≡ q.told
 
 one_play : (turns : List Placed) (p q : Players) (moves moves' : List Move) (p' q' : Players) → Stands p.state → Stands q.state → AlikePlayers p q → Plays p turns moves p' → Plays q turns moves' q' → AlikePlayers p' q'
@@ -461,16 +505,14 @@ one_play (u ∷ turns) p q moves moves' p' q' hp hq like one two =
     let a : TakesTurn p u one.first one.middle = one.takes in
     let b : TakesTurn q u two.first two.middle = two.takes in
     let i : ℕ = u.lib.0 - 1 in
-    let has : has_of q u.lib ≡ has_of p u.lib = ap (λ (l : List Has). get_or l i nothing) (sym like.has_same) in
     let told : told_to q u.lib ≡ told_to p u.lib = ap (λ (l : List Heard). get_or l i untold) (sym like.told_same) in
-    let comes : TurnComes u.lib u.turn (has_of p u.lib) (told_to p u.lib) b.calls b.has' b.told' =
-    subst (λ x. TurnComes u.lib u.turn (has_of p u.lib) x b.calls b.has' b.told') told
-    (subst (λ x. TurnComes u.lib u.turn x (told_to q u.lib) b.calls b.has' b.told') has b.comes) in
-    let r = one_turn u.lib u.turn p.state q.state (has_of p u.lib) (told_to p u.lib) a.calls b.calls one.first two.first one.middle.state two.middle.state
-    a.has' b.has' a.told' b.told' hp hq like.known_same a.comes comes a.happen b.happen in
+    let comes : TurnComes u.lib u.turn (unnoted q.state) (share_of q u.lib) (told_to p u.lib) (noted_of two.middle b.calls two.first) b.share' b.told' =
+    subst (λ x. TurnComes u.lib u.turn (unnoted q.state) (share_of q u.lib) x (noted_of two.middle b.calls two.first) b.share' b.told') told b.comes in
+    let r = one_turn u.lib u.turn p.state q.state (share_of p u.lib) (share_of q u.lib) (told_to p u.lib) (noted_of one.middle a.calls one.first) (noted_of two.middle b.calls two.first)
+    a.share' b.share' a.told' b.told' hp hq like.known_same (alike_at p.shares q.shares i like.shares_alike) a.comes comes a.happen b.happen in
     let middle : AlikePlayers one.middle two.middle = record {
       known_same = r.known_same;
-      has_same = a.has_is ∙ ap (λ (l : List Has). set l i a.has') like.has_same ∙ ap (λ (x : Has). set q.has i x) r.has_same ∙ sym b.has_is;
+      shares_alike = subst (λ x. AllAlike x two.middle.shares) (sym a.shares_are) (subst (AllAlike (set p.shares i a.share')) (sym b.shares_are) (alike_set p.shares q.shares i a.share' b.share' like.shares_alike r.shares_alike));
       told_same = a.told_is ∙ ap (λ (l : List Heard). set l i a.told') like.told_same ∙ ap (λ (x : Heard). set q.told i x) r.told_same ∙ sym b.told_is;
     } in
     one_play turns one.middle two.middle one.others two.others p' q'
@@ -478,9 +520,26 @@ one_play (u ∷ turns) p q moves moves' p' q' hp hq like one two =
     (moves_stand u.lib q.state b.calls two.first two.middle.state hq b.happen)
     middle one.rest two.rest
 
+begun_alike : (lib : LibNo) (creds : Creds) (lines : Lines) (a b : Share) → IsRaw lines → BeginsWith lib creds lines a → BeginsWith lib creds lines b → ShareAlike a b
+begun_alike lib creds (RawLines lines) a b raw x y = subst (λ (s : Share). ShareAlike s b) (sym x) (subst (ShareAlike (Things nothing)) (sym y) refl)
+begun_alike lib creds (HonestLines lines) a b raw x y = absurd raw
+
 pub played_is_one : PlayedIsOne
-played_is_one image libs a b fit verifies whole =
-    let stands : Stands (at_start image libs).state = held_stands (at_start image libs) (start_held image libs fit verifies whole) in
-    let r = one_play (turns_of libs) (at_start image libs) (at_start image libs) a.moves b.moves a.last b.last stands stands
-    (record { known_same = refl; has_same = refl; told_same = refl }) a.plays b.plays in
+played_is_one image libs a b raw fit verifies whole =
+    let p : Players = a.first in
+    let q : Players = b.first in
+    let same : p.state ≡ q.state = a.begins.state ∙ sym b.begins.state in
+    let shares : AllAlike p.shares q.shares =
+    alike_each p.shares q.shares (a.begins.places ∙ sym b.begins.places)
+    (λ i lt.
+    (let many : length p.shares ≡ length libs = a.begins.places in
+    let w = within_some libs i (omega (arith, lt, many)) in
+    let lib : LibNo = record { 0 = i + 1 } in
+    let at : i + 1 - 1 ≡ i = omega arith in
+    let is : IsLibraryOf libs lib w.0 = (omega arith, ap (slice_get libs) at ∙ w.1) in
+    subst (λ k. ShareAlike (get_or p.shares k (Things nothing)) (get_or q.shares k (Things nothing))) at
+    (begun_alike lib w.0.creds w.0.lines (share_of p lib) (share_of q lib) (raw lib w.0 is) (a.begins.begins lib w.0 is) (b.begins.begins lib w.0 is)))) in
+    let r = one_play (turns_of libs) p q a.moves b.moves a.last b.last
+    (held_stands p (start_held image libs p a.begins fit verifies whole)) (held_stands q (start_held image libs q b.begins fit verifies whole))
+    (record { known_same = ap known same; shares_alike = shares; told_same = a.begins.told ∙ sym b.begins.told }) a.plays b.plays in
     record { tolds = r.told_same; settles = ap (λ (k : Known). k.image) r.known_same }

@@ -1,20 +1,16 @@
 -- The turns of each library in a script.
-use Rattle.std.proofs.Common.{◌≡◌, ℕ, zero, suc, ◌+◌, ◌<◌, ◌≤◌, max, Bool, true, false, cond, eqb, ltb, List, [], ◌∷◌, ◌++◌, length, Option, Some, None, sym, refl, ap, ◌∙◌, subst, inl, inr, ◌⊎◌, arith, ltb-true, ltb-false, get_or, drop, drop-cons, take, nat_cmp, is_lt, Less, Equal, Greater}
+use Rattle.std.proofs.Common.{◌≡◌, ℕ, zero, suc, ◌+◌, ◌<◌, ◌≤◌, max, Bool, true, false, cond, eqb, ltb, List, [], ◌∷◌, ◌++◌, length, map, Option, Some, None, sym, refl, ap, ◌∙◌, subst, inl, inr, ◌⊎◌, arith, ltb-true, ltb-false, get_or, drop, drop-cons, take, nat_cmp, is_lt, Less, Equal, Greater}
 use Rattle.std.specs.Ordering.{ord_max}
 use Rattle.std.specs.Prelude.{slice_get}
 use Rattle.std.specs.List.{filter}
 use Rattle.std.proofs.lemmas.Bool.{eq-eqb, ne_eqb, cases_Bool}
-use Rattle.std.proofs.lemmas.List.{append-nil, take_all}
+use Rattle.std.proofs.lemmas.List.{append-nil, length-map, take_all}
 use Rattle.std.proofs.lemmas.List.Elements.{filter-append}
 use Rattle.trio_lists.specs.Lists.{In}
 use Rattle.trio_lists.proofs.Members.{In-cases}
-use Rattle.trio_script.specs.declared.ScriptLine.{ScriptLine}
 use Rattle.trio_script.specs.declared.ScriptLib.{ScriptLib}
-use Rattle.trio_runner.specs.Rounds.{Turn, Says, Ends, Placed, course, courses_from, in_rounds, longest, placed, round_of, turn_list, turns_of}
-
-abbrev pub is_end : Turn → Bool
-is_end (Says line) = false
-is_end Ends = true
+use Rattle.trio_runner.specs.Rounds.{Turn, Ends, Placed, course, courses_from, in_rounds, line_turns, longest, placed, round_of, turn_list, turns_of}
+use Rattle.trio_runner.proofs.Held.{is_end}
 
 -- whether a library has come to its end and took no turn since, where it stood so before these turns
 abbrev pub ended : ℕ → Bool → List Placed → Bool
@@ -28,7 +24,7 @@ ended-append n b (t ∷ xs) ys = ended-append n (cond (eqb t.lib.0 n) (is_end t.
 -- ---- a course
 
 -- each turn of a course is its library's
-pub course_lib : (m : ℕ) (lines : List ScriptLine) (k : ℕ) (t : Placed) → slice_get (course m lines) k ≡ Some t → t.lib.0 ≡ m
+pub course_lib : (m : ℕ) (lines : List Turn) (k : ℕ) (t : Placed) → slice_get (course m lines) k ≡ Some t → t.lib.0 ≡ m
 course_lib m [] zero t e = ap (λ (x : Placed). x.lib.0) (sym (some_is e))
   where
     some_is : Some (placed m Ends) ≡ Some t → placed m Ends ≡ t
@@ -36,31 +32,68 @@ course_lib m [] zero t e = ap (λ (x : Placed). x.lib.0) (sym (some_is e))
 course_lib m [] (suc k) t e = absurd (cc e)
 course_lib m (l ∷ lines) zero t e = ap (λ (x : Placed). x.lib.0) (sym (some_is e))
   where
-    some_is : Some (placed m (Says l)) ≡ Some t → placed m (Says l) ≡ t
+    some_is : Some (placed m l) ≡ Some t → placed m l ≡ t
     some_is e = cc e
 course_lib m (l ∷ lines) (suc k) t e = course_lib m lines k t e
 
 -- the end stands behind the lines, and nothing behind it
-pub course_end : (m : ℕ) (lines : List ScriptLine) → slice_get (course m lines) (length lines) ≡ Some (placed m Ends)
+pub course_end : (m : ℕ) (lines : List Turn) → slice_get (course m lines) (length lines) ≡ Some (placed m Ends)
 course_end m [] = refl
 course_end m (l ∷ lines) = course_end m lines
 
-pub course_past : (m : ℕ) (lines : List ScriptLine) (k : ℕ) → length lines < k → slice_get (course m lines) k ≡ None
+pub course_past : (m : ℕ) (lines : List Turn) (k : ℕ) → length lines < k → slice_get (course m lines) k ≡ None
 course_past m [] zero lt = absurd (omega (arith, lt))
 course_past m [] (suc k) lt = refl
 course_past m (l ∷ lines) zero lt = absurd (omega (arith, lt))
 course_past m (l ∷ lines) (suc k) lt = course_past m lines k (omega (arith, lt))
 
-pub course_line : (m : ℕ) (lines : List ScriptLine) (k : ℕ) (line : ScriptLine) → slice_get lines k ≡ Some line → slice_get (course m lines) k ≡ Some (placed m (Says line))
-course_line m [] k line e = absurd (cc e)
-course_line m (l ∷ lines) zero line e = ap (λ (o : Option ScriptLine). turn_of o) e
+pub course_line : (m : ℕ) (turns : List Turn) (k : ℕ) (turn : Turn) → slice_get turns k ≡ Some turn → slice_get (course m turns) k ≡ Some (placed m turn)
+course_line m [] k turn e = absurd (cc e)
+course_line m (l ∷ turns) zero turn e = ap (λ (o : Option Turn). turn_of o) e
   where
-    turn_of : Option ScriptLine → Option Placed
+    turn_of : Option Turn → Option Placed
     turn_of None = None
-    turn_of (Some x) = Some (placed m (Says x))
-course_line m (l ∷ lines) (suc k) line e = course_line m lines k line e
+    turn_of (Some x) = Some (placed m x)
+course_line m (l ∷ turns) (suc k) turn e = course_line m turns k turn e
 
-pub course_length : (m : ℕ) (lines : List ScriptLine) → length (course m lines) ≡ suc (length lines)
+-- the turns of lines
+map_at : {L : Type 0} (f : L → Turn) (lines : List L) (k : ℕ) (line : L) → slice_get lines k ≡ Some line → slice_get (map f lines) k ≡ Some (f line)
+map_at f [] k line e = absurd (cc e)
+map_at f (l ∷ lines) zero line e = (let same : l ≡ line = cc e in ap (λ x. Some (f x)) same)
+map_at f (l ∷ lines) (suc k) line e = map_at f lines k line e
+
+pub get_is : {L : Type 0} (lines : List L) (k : ℕ) (line : L) → k < length lines → line ≡ get_or lines k line → slice_get lines k ≡ Some line
+get_is [] k line lt is = absurd (omega (arith, lt))
+get_is (l ∷ lines) zero line lt is = ap Some (sym is)
+get_is (l ∷ lines) (suc k) line lt is = get_is lines k line (omega (arith, lt)) is
+
+pub get_none : {L : Type 0} (lines : List L) (k : ℕ) → length lines ≤ k → slice_get lines k ≡ None
+get_none [] k le = refl
+get_none (l ∷ lines) zero le = absurd (omega (arith, le))
+get_none (l ∷ lines) (suc k) le = get_none lines k (omega (arith, le))
+
+none_past : {L : Type 0} (lines : List L) (k : ℕ) → slice_get lines k ≡ None → length lines ≤ k
+none_past [] k e = omega arith
+none_past (l ∷ lines) zero e = absurd (cc e)
+none_past (l ∷ lines) (suc k) e = (let rest = none_past lines k e in omega (arith, rest))
+
+pub line_turn : {L : Type 0} (f : L → Turn) (m : ℕ) (lines : List L) (k : ℕ) (line : L) → slice_get lines k ≡ Some line → slice_get (course m (map f lines)) k ≡ Some (placed m (f line))
+line_turn f m lines k line e = course_line m (map f lines) k (f line) (map_at f lines k line e)
+
+pub end_turn : {L : Type 0} (f : L → Turn) (m : ℕ) (lines : List L) (k : ℕ) → k ≡ length lines → slice_get (course m (map f lines)) k ≡ Some (placed m Ends)
+end_turn f m lines k e = ap (slice_get (course m (map f lines))) (e ∙ sym (length-map lines f)) ∙ course_end m (map f lines)
+
+pub past_turn : {L : Type 0} (f : L → Turn) (m : ℕ) (lines : List L) (k : ℕ) → slice_get lines k ≡ None → (k ≡ length lines → ⊥) → slice_get (course m (map f lines)) k ≡ None
+past_turn f m lines k e apart =
+    let many : length (map f lines) ≡ length lines = length-map lines f in
+    let least : length lines ≤ k = none_past lines k e in
+    course_past m (map f lines) k
+    (elim (cases_Bool (ltb (length lines) k)) [
+      | inl t ↦ (let lt : length lines < k = ltb-true (length lines) k t in omega (arith, many, lt))
+      | inr g ↦ (let le : k ≤ length lines = ltb-false (length lines) k g in absurd (apart (omega (arith, least, le))))
+    ])
+
+pub course_length : (m : ℕ) (lines : List Turn) → length (course m lines) ≡ suc (length lines)
 course_length m [] = refl
 course_length m (l ∷ lines) = ap suc (course_length m lines)
 
@@ -86,62 +119,62 @@ chunk_own n b (Some t) rest own = ap (λ x. ended n (cond x (is_end t.turn) b) r
 round_later : (k n m : ℕ) (b : Bool) (libs : List ScriptLib) → n < m → ended n b (round_of k (courses_from m libs)) ≡ b
 round_later k n m b [] lt = refl
 round_later k n m b (l ∷ libs) lt =
-    chunk_other n m b (slice_get (course m l.lines) k) (round_of k (courses_from (m + 1) libs)) (λ e. absurd (omega (arith, lt, e))) (course_lib m l.lines k)
+    chunk_other n m b (slice_get (course m (line_turns l.lines)) k) (round_of k (courses_from (m + 1) libs)) (λ e. absurd (omega (arith, lt, e))) (course_lib m (line_turns l.lines) k)
     ∙ round_later k n (m + 1) b libs (omega (arith, lt))
 
-round_ended : (k n m i : ℕ) (b : Bool) (libs : List ScriptLib) (l : ScriptLib) → slice_get libs i ≡ Some l → n ≡ m + i → ended n b (round_of k (courses_from m libs)) ≡ ended_by b (slice_get (course n l.lines) k)
+round_ended : (k n m i : ℕ) (b : Bool) (libs : List ScriptLib) (l : ScriptLib) → slice_get libs i ≡ Some l → n ≡ m + i → ended n b (round_of k (courses_from m libs)) ≡ ended_by b (slice_get (course n (line_turns l.lines)) k)
 round_ended k n m i b [] l e at = absurd (cc e)
 round_ended k n m zero b (x ∷ libs) l e at =
     let same : x ≡ l = cc e in
     let own : n ≡ m = omega (arith, at) in
-    subst (λ (y : ScriptLib). ended n b (round_of k (courses_from m (x ∷ libs))) ≡ ended_by b (slice_get (course n y.lines) k)) same
-    (subst (λ j. ended j b (round_of k (courses_from m (x ∷ libs))) ≡ ended_by b (slice_get (course j x.lines) k)) (sym own)
-    (chunk_own m b (slice_get (course m x.lines) k) (round_of k (courses_from (m + 1) libs)) (course_lib m x.lines k)
-    ∙ round_later k m (m + 1) (ended_by b (slice_get (course m x.lines) k)) libs (omega arith)))
+    subst (λ (y : ScriptLib). ended n b (round_of k (courses_from m (x ∷ libs))) ≡ ended_by b (slice_get (course n (line_turns y.lines)) k)) same
+    (subst (λ j. ended j b (round_of k (courses_from m (x ∷ libs))) ≡ ended_by b (slice_get (course j (line_turns x.lines)) k)) (sym own)
+    (chunk_own m b (slice_get (course m (line_turns x.lines)) k) (round_of k (courses_from (m + 1) libs)) (course_lib m (line_turns x.lines) k)
+    ∙ round_later k m (m + 1) (ended_by b (slice_get (course m (line_turns x.lines)) k)) libs (omega arith)))
 round_ended k n m (suc i) b (x ∷ libs) l e at =
-    chunk_other n m b (slice_get (course m x.lines) k) (round_of k (courses_from (m + 1) libs)) (λ f. absurd (omega (arith, at, f))) (course_lib m x.lines k)
+    chunk_other n m b (slice_get (course m (line_turns x.lines)) k) (round_of k (courses_from (m + 1) libs)) (λ f. absurd (omega (arith, at, f))) (course_lib m (line_turns x.lines) k)
     ∙ round_ended k n (m + 1) i b libs l e (omega (arith, at))
 
 -- ---- all rounds
 
-rounds_ended : (rounds n i : ℕ) (libs : List ScriptLib) (l : ScriptLib) → slice_get libs i ≡ Some l → n ≡ 1 + i → length l.lines < rounds → ended n false (in_rounds rounds (courses_from 1 libs)) ≡ true
+rounds_ended : (rounds n i : ℕ) (libs : List ScriptLib) (l : ScriptLib) → slice_get libs i ≡ Some l → n ≡ 1 + i → length (line_turns l.lines) < rounds → ended n false (in_rounds rounds (courses_from 1 libs)) ≡ true
 rounds_ended zero n i libs l e at lt = absurd (omega (arith, lt))
 rounds_ended (suc k) n i libs l e at lt =
     let before : Bool = ended n false (in_rounds k (courses_from 1 libs)) in
     ended-append n false (in_rounds k (courses_from 1 libs)) (round_of k (courses_from 1 libs))
     ∙ round_ended k n 1 i before libs l e at
-    ∙ by (cases_Bool (ltb (length l.lines) k)) (λ more. rounds_ended k n i libs l e at more)
+    ∙ by (cases_Bool (ltb (length (line_turns l.lines)) k)) (λ more. rounds_ended k n i libs l e at more)
   where
-    by : (ltb (length l.lines) k ≡ true) ⊎ (ltb (length l.lines) k ≡ false) → (length l.lines < k → ended n false (in_rounds k (courses_from 1 libs)) ≡ true) → ended_by (ended n false (in_rounds k (courses_from 1 libs))) (slice_get (course n l.lines) k) ≡ true
+    by : (ltb (length (line_turns l.lines)) k ≡ true) ⊎ (ltb (length (line_turns l.lines)) k ≡ false) → (length (line_turns l.lines) < k → ended n false (in_rounds k (courses_from 1 libs)) ≡ true) → ended_by (ended n false (in_rounds k (courses_from 1 libs))) (slice_get (course n (line_turns l.lines)) k) ≡ true
     by (inl t) earlier =
-        let more : length l.lines < k = ltb-true (length l.lines) k t in
-        ap (ended_by (ended n false (in_rounds k (courses_from 1 libs)))) (course_past n l.lines k more) ∙ earlier more
+        let more : length (line_turns l.lines) < k = ltb-true (length (line_turns l.lines)) k t in
+        ap (ended_by (ended n false (in_rounds k (courses_from 1 libs)))) (course_past n (line_turns l.lines) k more) ∙ earlier more
     by (inr f) earlier =
-        let least : k ≤ length l.lines = ltb-false (length l.lines) k f in
-        let is : k ≡ length l.lines = omega (arith, lt, least) in
-        ap (λ j. ended_by (ended n false (in_rounds k (courses_from 1 libs))) (slice_get (course n l.lines) j)) is
-        ∙ ap (ended_by (ended n false (in_rounds k (courses_from 1 libs)))) (course_end n l.lines)
+        let least : k ≤ length (line_turns l.lines) = ltb-false (length (line_turns l.lines)) k f in
+        let is : k ≡ length (line_turns l.lines) = omega (arith, lt, least) in
+        ap (λ j. ended_by (ended n false (in_rounds k (courses_from 1 libs))) (slice_get (course n (line_turns l.lines)) j)) is
+        ∙ ap (ended_by (ended n false (in_rounds k (courses_from 1 libs)))) (course_end n (line_turns l.lines))
 
 -- the longest of some lists is at least as long as each of them
-longest_most : (m i : ℕ) (libs : List ScriptLib) (l : ScriptLib) → slice_get libs i ≡ Some l → length l.lines < longest (courses_from m libs)
+longest_most : (m i : ℕ) (libs : List ScriptLib) (l : ScriptLib) → slice_get libs i ≡ Some l → length (line_turns l.lines) < longest (courses_from m libs)
 longest_most m i [] l e = absurd (cc e)
 longest_most m zero (x ∷ libs) l e =
     let same : x ≡ l = cc e in
-    let long : length (course m x.lines) ≡ suc (length x.lines) = course_length m x.lines in
-    subst (λ (y : ScriptLib). length y.lines < longest (courses_from m (x ∷ libs))) same (omega (arith, long))
+    let long : length (course m (line_turns x.lines)) ≡ suc (length (line_turns x.lines)) = course_length m (line_turns x.lines) in
+    subst (λ (y : ScriptLib). length (line_turns y.lines) < longest (courses_from m (x ∷ libs))) same (omega (arith, long))
 longest_most m (suc j) (x ∷ libs) l e = (let rest = longest_most (m + 1) j libs l e in omega (arith, rest))
 
 -- whatever the number of the first one
 pub longest_any : (m n : ℕ) (libs : List ScriptLib) → longest (courses_from m libs) ≡ longest (courses_from n libs)
 longest_any m n [] = refl
 longest_any m n (l ∷ libs) =
-    ap (λ k. max k (longest (courses_from (m + 1) libs))) (course_length m l.lines ∙ sym (course_length n l.lines))
-    ∙ ap (max (length (course n l.lines))) (longest_any (m + 1) (n + 1) libs)
+    ap (λ k. max k (longest (courses_from (m + 1) libs))) (course_length m (line_turns l.lines) ∙ sym (course_length n (line_turns l.lines)))
+    ∙ ap (max (length (course n (line_turns l.lines)))) (longest_any (m + 1) (n + 1) libs)
 
 -- the longest of some, and of one more before them
-pub longest_first : (count m : ℕ) (l : ScriptLib) (libs : List ScriptLib) → max (max count (length l.lines + 1)) (longest (courses_from m libs)) ≡ max count (longest (courses_from m (l ∷ libs)))
+pub longest_first : (count m : ℕ) (l : ScriptLib) (libs : List ScriptLib) → max (max count (length (line_turns l.lines) + 1)) (longest (courses_from m libs)) ≡ max count (longest (courses_from m (l ∷ libs)))
 longest_first count m l libs =
-    let long : length (course m l.lines) ≡ suc (length l.lines) = course_length m l.lines in
+    let long : length (course m (line_turns l.lines)) ≡ suc (length (line_turns l.lines)) = course_length m (line_turns l.lines) in
     let any : longest (courses_from m libs) ≡ longest (courses_from (m + 1) libs) = longest_any m (m + 1) libs in
     omega (arith, long, any)
 
@@ -157,11 +190,11 @@ max_is a b = by (cases_Bool (ltb b a))
     by (inl t) = (let l : b < a = ltb-true b a t in rw t (omega (arith, l)))
     by (inr f) = rw f (tie (eqb b a) (ltb-false b a f))
 
-pub longest_step : (libs : List ScriptLib) (i count count' : ℕ) (l : ScriptLib) (lines : List ScriptLine) → i < length libs → l ≡ get_or libs i l → lines ≡ l.lines → count' ≡ ord_max nat_cmp count (length lines + 1) → max count (longest (courses_from 1 (drop i libs))) ≡ longest (courses_from 1 libs) → max count' (longest (courses_from 1 (drop (i + 1) libs))) ≡ longest (courses_from 1 libs)
+pub longest_step : (libs : List ScriptLib) (i count count' : ℕ) (l : ScriptLib) (lines : ℕ) → i < length libs → l ≡ get_or libs i l → lines ≡ length (line_turns l.lines) → count' ≡ ord_max nat_cmp count (lines + 1) → max count (longest (courses_from 1 (drop i libs))) ≡ longest (courses_from 1 libs) → max count' (longest (courses_from 1 (drop (i + 1) libs))) ≡ longest (courses_from 1 libs)
 longest_step libs i count count' l lines lt there own e before =
     let next : suc i ≡ i + 1 = omega arith in
     let split : drop i libs ≡ l ∷ drop (i + 1) libs = drop-cons libs i l lt ∙ ap (λ x. x ∷ drop (suc i) libs) (sym there) ∙ ap (λ n. l ∷ drop n libs) next in
-    let count_is : count' ≡ max count (length l.lines + 1) = e ∙ max_is count (length lines + 1) ∙ ap (λ (x : List ScriptLine). max count (length x + 1)) own in
+    let count_is : count' ≡ max count (length (line_turns l.lines) + 1) = e ∙ max_is count (lines + 1) ∙ ap (λ k. max count (k + 1)) own in
     ap (λ n. max n (longest (courses_from 1 (drop (i + 1) libs)))) count_is
     ∙ longest_first count 1 l (drop (i + 1) libs) ∙ ap (λ x. max count (longest (courses_from 1 x))) (sym split) ∙ before
 
@@ -182,9 +215,9 @@ turn_within m (Some u) t own (inr none) = absurd none
 round_within : (k m : ℕ) (libs : List ScriptLib) (t : Placed) → In t (round_of k (courses_from m libs)) → Within m libs t
 round_within k m [] t i = absurd i
 round_within k m (l ∷ libs) t i =
-    elim (In-cases t (turn_list (slice_get (course m l.lines) k)) (round_of k (courses_from (m + 1) libs)) i) [
+    elim (In-cases t (turn_list (slice_get (course m (line_turns l.lines)) k)) (round_of k (courses_from (m + 1) libs)) i) [
       | inl j ↦
-          (let is = turn_within m (slice_get (course m l.lines) k) t (course_lib m l.lines k) j in
+          (let is = turn_within m (slice_get (course m (line_turns l.lines)) k) t (course_lib m (line_turns l.lines) k) j in
           (omega (arith, is), omega (arith, is)))
       | inr j ↦
           (let w = round_within k (m + 1) libs t j in
@@ -221,30 +254,30 @@ others_chunk n m (Some t) apart own = ap (λ b. cond b (t ∷ []) []) (ne_eqb t.
 round_none : (k n m : ℕ) (libs : List ScriptLib) → n < m → own_turns n (round_of k (courses_from m libs)) ≡ []
 round_none k n m [] lt = refl
 round_none k n m (l ∷ libs) lt =
-    let first : List Placed = turn_list (slice_get (course m l.lines) k) in
+    let first : List Placed = turn_list (slice_get (course m (line_turns l.lines)) k) in
     let rest : List Placed = round_of k (courses_from (m + 1) libs) in
     filter-append (λ (t : Placed). eqb t.lib.0 n) first rest
-    ∙ ap (λ x. x ++ own_turns n rest) (others_chunk n m (slice_get (course m l.lines) k) (λ e. absurd (omega (arith, lt, e))) (course_lib m l.lines k))
+    ∙ ap (λ x. x ++ own_turns n rest) (others_chunk n m (slice_get (course m (line_turns l.lines)) k) (λ e. absurd (omega (arith, lt, e))) (course_lib m (line_turns l.lines) k))
     ∙ round_none k n (m + 1) libs (omega (arith, lt))
 
-round_own : (k n m i : ℕ) (libs : List ScriptLib) (l : ScriptLib) → slice_get libs i ≡ Some l → n ≡ m + i → own_turns n (round_of k (courses_from m libs)) ≡ turn_list (slice_get (course n l.lines) k)
+round_own : (k n m i : ℕ) (libs : List ScriptLib) (l : ScriptLib) → slice_get libs i ≡ Some l → n ≡ m + i → own_turns n (round_of k (courses_from m libs)) ≡ turn_list (slice_get (course n (line_turns l.lines)) k)
 round_own k n m i [] l e at = absurd (cc e)
 round_own k n m zero (x ∷ libs) l e at =
     let same : x ≡ l = cc e in
     let own : m ≡ n = omega (arith, at) in
-    let first : List Placed = turn_list (slice_get (course m x.lines) k) in
+    let first : List Placed = turn_list (slice_get (course m (line_turns x.lines)) k) in
     let rest : List Placed = round_of k (courses_from (m + 1) libs) in
     filter-append (λ (t : Placed). eqb t.lib.0 n) first rest
-    ∙ ap (λ y. y ++ own_turns n rest) (own_chunk n (slice_get (course m x.lines) k) (λ t is. course_lib m x.lines k t is ∙ own))
+    ∙ ap (λ y. y ++ own_turns n rest) (own_chunk n (slice_get (course m (line_turns x.lines)) k) (λ t is. course_lib m (line_turns x.lines) k t is ∙ own))
     ∙ ap (λ y. first ++ y) (round_none k n (m + 1) libs (omega (arith, own)))
     ∙ append-nil first
-    ∙ ap (λ j. turn_list (slice_get (course j x.lines) k)) own
-    ∙ ap (λ (y : ScriptLib). turn_list (slice_get (course n y.lines) k)) same
+    ∙ ap (λ j. turn_list (slice_get (course j (line_turns x.lines)) k)) own
+    ∙ ap (λ (y : ScriptLib). turn_list (slice_get (course n (line_turns y.lines)) k)) same
 round_own k n m (suc i) (x ∷ libs) l e at =
-    let first : List Placed = turn_list (slice_get (course m x.lines) k) in
+    let first : List Placed = turn_list (slice_get (course m (line_turns x.lines)) k) in
     let rest : List Placed = round_of k (courses_from (m + 1) libs) in
     filter-append (λ (t : Placed). eqb t.lib.0 n) first rest
-    ∙ ap (λ y. y ++ own_turns n rest) (others_chunk n m (slice_get (course m x.lines) k) (λ f. absurd (omega (arith, at, f))) (course_lib m x.lines k))
+    ∙ ap (λ y. y ++ own_turns n rest) (others_chunk n m (slice_get (course m (line_turns x.lines)) k) (λ f. absurd (omega (arith, at, f))) (course_lib m (line_turns x.lines) k))
     ∙ round_own k n (m + 1) i libs l e (omega (arith, at))
 
 -- so many elements, and one more
@@ -254,17 +287,17 @@ take_one_more (suc k) [] = refl
 take_one_more zero (x ∷ xs) = refl
 take_one_more (suc k) (x ∷ xs) = ap (λ l. x ∷ l) (take_one_more k xs)
 
-rounds_own : (rounds n i : ℕ) (libs : List ScriptLib) (l : ScriptLib) → slice_get libs i ≡ Some l → n ≡ 1 + i → own_turns n (in_rounds rounds (courses_from 1 libs)) ≡ take rounds (course n l.lines)
+rounds_own : (rounds n i : ℕ) (libs : List ScriptLib) (l : ScriptLib) → slice_get libs i ≡ Some l → n ≡ 1 + i → own_turns n (in_rounds rounds (courses_from 1 libs)) ≡ take rounds (course n (line_turns l.lines))
 rounds_own zero n i libs l e at = refl
 rounds_own (suc k) n i libs l e at =
     filter-append (λ (t : Placed). eqb t.lib.0 n) (in_rounds k (courses_from 1 libs)) (round_of k (courses_from 1 libs))
     ∙ ap (λ x. x ++ own_turns n (round_of k (courses_from 1 libs))) (rounds_own k n i libs l e at)
-    ∙ ap (λ x. take k (course n l.lines) ++ x) (round_own k n 1 i libs l e at)
-    ∙ sym (take_one_more k (course n l.lines))
+    ∙ ap (λ x. take k (course n (line_turns l.lines)) ++ x) (round_own k n 1 i libs l e at)
+    ∙ sym (take_one_more k (course n (line_turns l.lines)))
 
 -- the turns that a library takes in a script are its course
-pub turns_own : (libs : List ScriptLib) (i : ℕ) (l : ScriptLib) → slice_get libs i ≡ Some l → own_turns (1 + i) (turns_of libs) ≡ course (1 + i) l.lines
+pub turns_own : (libs : List ScriptLib) (i : ℕ) (l : ScriptLib) → slice_get libs i ≡ Some l → own_turns (1 + i) (turns_of libs) ≡ course (1 + i) (line_turns l.lines)
 turns_own libs i l e =
-    let long : length l.lines < longest (courses_from 1 libs) = longest_most 1 i libs l e in
-    let all : length (course (1 + i) l.lines) ≡ suc (length l.lines) = course_length (1 + i) l.lines in
-    rounds_own (longest (courses_from 1 libs)) (1 + i) i libs l e refl ∙ take_all (longest (courses_from 1 libs)) (course (1 + i) l.lines) (omega (arith, long, all))
+    let long : length (line_turns l.lines) < longest (courses_from 1 libs) = longest_most 1 i libs l e in
+    let all : length (course (1 + i) (line_turns l.lines)) ≡ suc (length (line_turns l.lines)) = course_length (1 + i) (line_turns l.lines) in
+    rounds_own (longest (courses_from 1 libs)) (1 + i) i libs l e refl ∙ take_all (longest (courses_from 1 libs)) (course (1 + i) (line_turns l.lines)) (omega (arith, long, all))

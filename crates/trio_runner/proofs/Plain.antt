@@ -20,12 +20,11 @@ use Rattle.trio_script.specs.declared.line.RawLine.TheVariants.{Grant as GrantLi
 use Rattle.trio_report.specs.declared.answer.LineAnswer.{LineAnswer}
 use Rattle.trio_report.specs.declared.report.EndAnswer.{EndAnswer}
 use Rattle.trio_runner.specs.Line.{Alone, Asks, LineComes, EndsAlone, EndsAll, EndComes, ask_of}
-use Rattle.trio_runner.specs.Play.{Heard, TurnComes}
-use Rattle.trio_runner.specs.Rounds.{Turn, Says, Ends}
-
--- each of these calls is so
-abbrev pub ArePlain : List Call → Type 0
-ArePlain calls = (c : Call) → In c calls → IsPlain c.ask
+use Rattle.trio_runner.specs.Honest.{Noted, Notes, sees, unnoted}
+use Rattle.trio_runner.specs.Play.{Heard, Players, Share, TakesTurn, Things, InSession, TurnComes, share_of, told_to}
+use Rattle.trio_runner.specs.Rounds.{Placed, Turn, Says, SaysHonest, Ends}
+use Rattle.trio_runner.proofs.Sessions.{ArePlain, line_keeps, notes_plain, settle_keeps}
+use Rattle.trio_state.specs.Run.{Move}
 
 -- what such a call hands in was given
 pub plain_given : (s : State) (lib : LibNo) (ask : Ask) (told : Told) (s' : State) → IsPlain ask → Happens s lib ask told s' → GivenEvent s (event_of lib ask)
@@ -75,7 +74,18 @@ end_plain has calls end comes = by (has_nothing has) comes
           | inr j ↦ elim j [ inl e ↦ ap (λ (x : Call). handed_back x.ask) e | inr none ↦ absurd none ]
         ]
 
+none_plain : ArePlain []
+none_plain c i = absurd i
+
 -- the calls of a turn
-pub turn_plain : (lib : LibNo) (turn : Turn) (has : Has) (told : Heard) (calls : List Call) (has' : Has) (told' : Heard) → TurnComes lib turn has told calls has' told' → ArePlain calls
-turn_plain lib (Says line) has told calls has' told' comes = line_plain lib has line.line calls comes.0 has' comes.1
-turn_plain lib Ends has told calls has' told' comes = end_plain has calls comes.0 comes.1
+comes_plain : (lib : LibNo) (turn : Turn) (s : State) (share : Share) (told : Heard) (d' : Noted) (share' : Share) (told' : Heard) → TurnComes lib turn (unnoted s) share told d' share' told' → ArePlain d'.calls
+comes_plain lib (Says line) s (Things has) told d' (Things has') told' comes = line_plain lib has line.line d'.calls comes.0 has' comes.1
+comes_plain lib (SaysHonest line) s (InSession x) told d' (InSession x') told' comes =
+    line_keeps (Notes lib) (sees lib) (λ (d : Noted). ArePlain d.calls) (notes_plain lib) (unnoted s) d' x x' line.line comes.0 comes.1 none_plain
+comes_plain lib Ends s (Things has) told d' (Things has') told' comes = end_plain has d'.calls comes.0 comes.1
+comes_plain lib Ends s (InSession x) told d' (InSession x') told' comes =
+    settle_keeps (Notes lib) (sees lib) (λ (d : Noted). ArePlain d.calls) (notes_plain lib) (unnoted s) d' x x' comes.0 none_plain
+comes_plain lib turn s share told d' share' told' comes = absurd comes
+
+pub turn_plain : (p : Players) (t : Placed) (moves : List Move) (p' : Players) (takes : TakesTurn p t moves p') → ArePlain takes.calls
+turn_plain p t moves p' takes = comes_plain t.lib t.turn p.state (share_of p t.lib) (told_to p t.lib) (record { state = p'.state; calls = takes.calls; moves = moves }) takes.share' takes.told' takes.comes

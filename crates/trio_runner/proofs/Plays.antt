@@ -3,7 +3,9 @@ use Rattle.std.proofs.Common.{List, [], ◌∷◌, ◌++◌, sym, refl, ap, ◌�
 use Rattle.std.proofs.lemmas.List.{append_assoc, append-nil}
 use Rattle.trio_state.specs.Run.{Move}
 use Rattle.trio_runner.specs.Rounds.{Placed}
-use Rattle.trio_runner.specs.Play.{Players, Plays, TakesTurn, has_of, told_to}
+use Rattle.trio_state.specs.Run.{Trace}
+use Rattle.trio_state.specs.State.{State}
+use Rattle.trio_runner.specs.Play.{Players, Plays, TakesTurn}
 use Rattle.trio_runner.specs.PlayLaws.{PlayedIsTrace, PlaysMore}
 use Rattle.trio_runner.proofs.Moves.{Runs, moves_run, runs_on}
 use Rattle.trio_runner.proofs.Plain.{turn_plain}
@@ -33,8 +35,9 @@ plays_run p (t ∷ turns) moves p' plays =
     subst (λ l. Runs p.state l p'.state) (sym plays.moves_are)
     (runs_on p.state plays.middle.state p'.state plays.first plays.others
     (moves_run t.lib p.state plays.takes.calls plays.first plays.middle.state
-    (turn_plain t.lib t.turn (has_of p t.lib) (told_to p t.lib) plays.takes.calls plays.takes.has' plays.takes.told' plays.takes.comes) plays.takes.happen)
+    (turn_plain p t plays.first plays.middle plays.takes) plays.takes.happen)
     (plays_run plays.middle turns plays.others p' plays.rest))
 
 pub played_is_trace : PlayedIsTrace
-played_is_trace image libs played = (plays_run _ _ played.moves played.last played.plays).trace
+played_is_trace image libs played =
+    subst (λ (s : State). Trace s played.moves) played.begins.state (plays_run played.first _ played.moves played.last played.plays).trace

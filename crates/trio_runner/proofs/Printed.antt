@@ -1,11 +1,12 @@
 -- What a library was told prints the entries that it made.
 use Rattle.std.proofs.Common.{◌≡◌, ℕ, zero, suc, ◌+◌, ◌-◌, ◌<◌, ◌≤◌, Bool, true, false, cond, eqb, List, [], ◌∷◌, ◌++◌, length, map, get_or, Option, Some, None, sym, refl, ap, ◌∙◌, subst, inl, inr, arith}
 use Rattle.std.specs.Prelude.{MatchBool, MatchOption}
-use Rattle.std.specs.List.{filter, AllByRecursion}
+use Rattle.std.specs.List.{filter, filter_map, flat_map, AllByRecursion}
 use Rattle.std.specs.Option.{is_some, option_map}
 use Rattle.std.proofs.lemmas.Bool.{both_ways, eq-eqb, ne_eqb}
 use Rattle.std.proofs.lemmas.List.{append-nil, append_assoc, length-append, length-map, length-set, map-append}
-use Rattle.std.proofs.lemmas.List.Elements.{filter-append}
+use Rattle.std.proofs.lemmas.List.Elements.{filter-append, filter_map-append}
+use Rattle.std.proofs.lemmas.Grind.{flat_map-append}
 use Rattle.std.proofs.lemmas.Option.{slice_get_within}
 use Rattle.trio_rights.specs.declared.rights.LibNo.{LibNo}
 use Rattle.trio_lists.specs.Lists.{In}
@@ -21,6 +22,7 @@ use Rattle.trio_nodes.specs.declared.answers.ReleaseFault.TheVariants.{NotClosed
 use Rattle.trio_nodes.specs.declared.answers.ModeFault.TheVariants as unmoded
 use Rattle.trio_nodes.specs.declared.entry.Entry.{Entry}
 use Rattle.trio_lease.specs.Shown.{Shown}
+use Rattle.trio_nodes.specs.declared.call.Reply.{Reply}
 use Rattle.trio_lease.specs.declared.lease.Lease.{Lease}
 use Rattle.trio_lease.specs.declared.lease.Lease.TheVariants.{Read as ReadLent, Write as WriteLent, Hold as HoldLent}
 use Rattle.trio_desk.specs.Out.{Parcel}
@@ -32,9 +34,15 @@ use Rattle.trio_laws.specs.Laws.{library_of}
 use Rattle.trio_laws.specs.history.Entries.{event_of as event_told}
 use Rattle.trio_ctl.specs.Answers.{children_told}
 use Rattle.trio_ctl.specs.Desk.{entries_told}
-use Rattle.trio_raw.specs.Has.{Has, has_all_of, has_nothing, parcel_named, peeked, poked, read_on, whole_parcel}
+use Rattle.trio_raw.specs.Has.{Has, nothing, has_all_of, has_nothing, parcel_named, peeked, poked, read_on, whole_parcel}
 use Rattle.trio_raw.specs.Asked.{back_calls, children_in, release_call}
+use Rattle.trio_script.specs.declared.Lines.TheVariants.{Raw as RawLines, Honest as HonestLines}
+use Rattle.trio_script.specs.declared.Lines.{Lines}
 use Rattle.trio_script.specs.declared.ScriptLine.{ScriptLine}
+use Rattle.trio_script.specs.declared.honest.HonestLine.{HonestLine}
+use Rattle.trio_session.specs.Seen.{SessionSeen}
+use Rattle.trio_nodes.specs.declared.call.Done as done
+use Rattle.trio_rights.specs.declared.rights.Creds.{Creds}
 use Rattle.trio_script.specs.declared.ScriptLib.{ScriptLib}
 use Rattle.trio_script.specs.declared.line.RawLine.{RawLine}
 use Rattle.trio_script.specs.declared.line.RawLine.TheVariants.{Grant as GrantLine, Allot as AllotLine, Back as BackLine, Poke, Peek, Release as ReleaseLine, Mode as ModeLine}
@@ -42,17 +50,16 @@ use Rattle.trio_report.specs.declared.answer.LineAnswer.{LineAnswer}
 use Rattle.trio_report.specs.declared.answer.LineAnswer.TheVariants as answered
 use Rattle.trio_report.specs.declared.report.EndAnswer.{EndAnswer}
 use Rattle.trio_runner.specs.Line.{Alone, Asks, LineComes, EndsAlone, EndsAll, EndComes, ask_of, end_of, told_alone, told_grant, told_of, told_seen}
-use Rattle.trio_runner.specs.Rounds.{Placed, Turn, Says, Ends, course, placed, turns_of}
-use Rattle.trio_runner.specs.Play.{AreMoves, Heard, Players, Plays, TakesTurn, TurnComes, at_start, entries_of, has_of, told_to, untold}
-use Rattle.trio_runner.specs.Logged.{IsBack, Prints, end_printed, end_with_entry, entries_by, has_entry, printed}
+use Rattle.trio_runner.specs.Rounds.{Placed, Turn, Says, SaysHonest, Ends, course, line_turns, placed, turns_of}
+use Rattle.trio_runner.specs.Honest.{HonestComes, Noted, Notes, sees, unnoted}
+use Rattle.trio_runner.specs.Moves.{AreMoves, entries_of}
+use Rattle.trio_runner.specs.Play.{AtStart, BeginsWith, Heard, IsLibraryOf, Players, Plays, Share, TakesTurn, Things, InSession, TurnComes, share_of, told_to, untold, with_answer, with_end}
+use Rattle.trio_runner.specs.Logged.{HonestPrints, IsBack, LineMakes, LinesMake, Prints, RawPrints, end_printed, end_with_entry, entries_by, has_entry, printed, replies_in, reply_told}
 use Rattle.trio_runner.specs.PlayLaws.{PlayedIsPrinted}
+use Rattle.trio_runner.proofs.Batches.{AreBy, HonestMade, SettleMade, honest_made, settle_made}
 use Rattle.trio_runner.proofs.Moves.{moves_parted}
-use Rattle.trio_runner.proofs.Held.{set_other, set_own}
+use Rattle.trio_runner.proofs.Held.{noted_of, set_other, set_own}
 use Rattle.trio_runner.proofs.Orders.{own_turns, turns_own, turns_within}
-
--- these entries are all of the library
-abbrev AreBy : LibNo → List Entry → Type 0
-AreBy lib es = (e : Entry) → In e es → library_of (event_told e) ≡ lib.0
 
 filter-all : {X : Type 0} (p : X → Bool) (xs : List X) → ((x : X) → In x xs → p x ≡ true) → filter p xs ≡ xs
 filter-all p [] h = refl
@@ -319,47 +326,29 @@ end_made lib s has calls moves end s' comes am = by (has_nothing has) comes
 
 -- ---- turns
 
--- before its end, with so many lines to come, a library's answers print the entries of its lines
-record LinesPrint (all left : ℕ) (heard : Heard) (es : List Entry) : Type 0 where
-  count : length heard.answers + left ≡ all
-  lines : map printed es ≡ map Some (filter has_entry heard.answers)
-
-line_prints : (all left : ℕ) (lib : LibNo) (heard : Heard) (es more : List Entry) (told : LineAnswer) → LinesPrint all (suc left) heard es → LineMade lib more told → LinesPrint all left (record heard { answers = heard.answers ++ told ∷ [] }) (es ++ more)
-line_prints all left lib heard es more told h m = record {
-  count = (let n : length (heard.answers ++ told ∷ []) ≡ length heard.answers + 1 = length-append heard.answers (told ∷ []) in omega (arith, n, h.count));
-  lines = map-append printed es more ∙ ap (λ l. l ++ map printed more) h.lines ∙ ap (λ l. map Some (filter has_entry heard.answers) ++ l) m.prints
-      ∙ sym (map-append Some (filter has_entry heard.answers) (filter has_entry (told ∷ [])))
-      ∙ ap (map Some) (sym (filter-append has_entry heard.answers (told ∷ [])));
-}
-
-end_prints : (lines : List ScriptLine) (lib : LibNo) (heard : Heard) (es more : List Entry) (end : EndAnswer) → LinesPrint (length lines) 0 heard es → EndMade lib more end → Prints lines (record heard { end = Some end }) (es ++ more)
-end_prints lines lib heard es more end h m = record {
-  each = (let n : length heard.answers + 0 ≡ length lines = h.count in omega (arith, n));
-  end = end;
-  end_is = refl;
-  of_lines = es;
-  of_backs = m.of_backs;
-  of_end = m.of_end;
-  entries_are = ap (λ l. es ++ l) m.entries_are ∙ sym (append_assoc es m.of_backs m.of_end);
-  lines_print = h.lines;
-  backs = m.backs;
-  end_prints = m.ends;
-}
-
 -- the entries of a turn are its library's
-turn_own : (lib : LibNo) (turn : Turn) (s : State) (has : Has) (told : Heard) (calls : List Call) (moves : List Move) (s' : State) (has' : Has) (told' : Heard) → TurnComes lib turn has told calls has' told' → AreMoves lib s calls moves s' → AreBy lib (entries_of lib calls moves)
-turn_own lib (Says line) s has told calls moves s' has' told' c am = (line_made lib line.line s has calls moves c.0 s' has' c.1 am).own
-turn_own lib Ends s has told calls moves s' has' told' c am = (end_made lib s has calls moves c.0 s' c.1 am).own
+turn_own : (lib : LibNo) (turn : Turn) (s : State) (share : Share) (told : Heard) (d' : Noted) (share' : Share) (told' : Heard) → TurnComes lib turn (unnoted s) share told d' share' told' → AreMoves lib s d'.calls d'.moves d'.state → AreBy lib (entries_of lib d'.calls d'.moves)
+turn_own lib (Says line) s (Things has) told d' (Things has') told' c am = (line_made lib line.line s has d'.calls d'.moves c.0 d'.state has' c.1 am).own
+turn_own lib (SaysHonest line) s (InSession x) told d' (InSession x') told' c am = (honest_made lib s x x' d' line.line c.0 c.1).own
+turn_own lib Ends s (Things has) told d' (Things has') told' c am = (end_made lib s has d'.calls d'.moves c.0 d'.state c.1 am).own
+turn_own lib Ends s (InSession x) told d' (InSession x') told' c am = (settle_made lib s x x' d' c.0).own
+turn_own lib turn s share told d' share' told' c am = absurd c
 
 module _ (p : Players) (t : Placed) (moves : List Move) (p' : Players) (takes : TakesTurn p t moves p') where
   of_its_library : AreBy t.lib (entries_of t.lib takes.calls moves)
-  of_its_library = turn_own t.lib t.turn p.state (has_of p t.lib) (told_to p t.lib) takes.calls moves p'.state takes.has' takes.told' takes.comes takes.happen
+  of_its_library = turn_own t.lib t.turn p.state (share_of p t.lib) (told_to p t.lib) (noted_of p' takes.calls moves) takes.share' takes.told' takes.comes takes.happen
 
   as_many : length p'.told ≡ length p.told
   as_many = ap length takes.told_is ∙ length-set p.told (t.lib.0 - 1) takes.told'
 
+  as_many_shares : length p'.shares ≡ length p.shares
+  as_many_shares = ap length takes.shares_are ∙ length-set p.shares (t.lib.0 - 1) takes.share'
+
   own_told : 1 ≤ t.lib.0 → t.lib.0 ≤ length p.told → told_to p' t.lib ≡ takes.told'
   own_told low high = ap (λ (l : List Heard). get_or l (t.lib.0 - 1) untold) takes.told_is ∙ set_own p.told t.lib takes.told' untold low high
+
+  own_share : 1 ≤ t.lib.0 → t.lib.0 ≤ length p.shares → share_of p' t.lib ≡ takes.share'
+  own_share low high = ap (λ (l : List Share). get_or l (t.lib.0 - 1) (Things nothing)) takes.shares_are ∙ set_own p.shares t.lib takes.share' (Things nothing) low high
 
   own_log : entries_by t.lib p'.log ≡ entries_by t.lib p.log ++ entries_of t.lib takes.calls moves
   own_log =
@@ -371,6 +360,9 @@ module _ (p : Players) (t : Placed) (moves : List Move) (p' : Players) (takes : 
     other_told : 1 ≤ t.lib.0 → 1 ≤ other.0 → told_to p' other ≡ told_to p other
     other_told low other_low = ap (λ (l : List Heard). get_or l (other.0 - 1) untold) takes.told_is ∙ set_other p.told t.lib other takes.told' untold low other_low apart
 
+    other_share : 1 ≤ t.lib.0 → 1 ≤ other.0 → share_of p' other ≡ share_of p other
+    other_share low other_low = ap (λ (l : List Share). get_or l (other.0 - 1) (Things nothing)) takes.shares_are ∙ set_other p.shares t.lib other takes.share' (Things nothing) low other_low apart
+
     other_log : entries_by other p'.log ≡ entries_by other p.log
     other_log =
         ap (entries_by other) takes.log_is
@@ -378,24 +370,7 @@ module _ (p : Players) (t : Placed) (moves : List Move) (p' : Players) (takes : 
         ∙ ap (λ l. entries_by other p.log ++ l) (by_other t.lib other (entries_of t.lib takes.calls moves) of_its_library (λ e. apart (sym e)))
         ∙ append-nil (entries_by other p.log)
 
-  module _ (low : 1 ≤ t.lib.0) (high : t.lib.0 ≤ length p.told) where
-    turn_says : (all left : ℕ) (line : ScriptLine) → LinesPrint all (suc left) (told_to p t.lib) (entries_by t.lib p.log) → t.turn ≡ Says line → LinesPrint all left (told_to p' t.lib) (entries_by t.lib p'.log)
-    turn_says all left line before e =
-        let c = subst (λ (u : Turn). TurnComes t.lib u (has_of p t.lib) (told_to p t.lib) takes.calls takes.has' takes.told') e takes.comes in
-        let made = line_made t.lib line.line p.state (has_of p t.lib) takes.calls moves c.0 p'.state takes.has' c.1 takes.happen in
-        subst (λ x. LinesPrint all left x (entries_by t.lib p'.log)) (sym (own_told low high ∙ c.2))
-        (subst (λ l. LinesPrint all left (record (told_to p t.lib) { answers = (told_to p t.lib).answers ++ c.0 ∷ [] }) l) (sym own_log)
-        (line_prints all left t.lib (told_to p t.lib) (entries_by t.lib p.log) (entries_of t.lib takes.calls moves) c.0 before made))
-
-    turn_ends : (lines : List ScriptLine) → LinesPrint (length lines) 0 (told_to p t.lib) (entries_by t.lib p.log) → t.turn ≡ Ends → Prints lines (told_to p' t.lib) (entries_by t.lib p'.log)
-    turn_ends lines before e =
-        let c = subst (λ (u : Turn). TurnComes t.lib u (has_of p t.lib) (told_to p t.lib) takes.calls takes.has' takes.told') e takes.comes in
-        let made = end_made t.lib p.state (has_of p t.lib) takes.calls moves c.0 p'.state c.1 takes.happen in
-        subst (λ x. Prints lines x (entries_by t.lib p'.log)) (sym (own_told low high ∙ c.3))
-        (subst (λ l. Prints lines (record (told_to p t.lib) { end = Some c.0 }) l) (sym own_log)
-        (end_prints lines t.lib (told_to p t.lib) (entries_by t.lib p.log) (entries_of t.lib takes.calls moves) c.0 before made))
-
--- ---- a script
+-- ---- a course
 
 abbrev AreNumbered : List Placed → Type 0
 AreNumbered turns = (t : Placed) → In t turns → 1 ≤ t.lib.0
@@ -419,70 +394,269 @@ plays_others p (t ∷ turns) moves p' lib low numbered none plays =
           log = (rest none).log ∙ other_log p t plays.first plays.middle plays.takes lib apart;
         }
 
--- the library's own turn, the first of these, and what comes of those after it
-module _ (all : List ScriptLine) (lib : LibNo) (p : Players) (t : Placed) (turns : List Placed) (moves : List Move) (middle p' : Players) (others : List Move) (takes : TakesTurn p t moves middle) (plays : Plays middle turns others p')
-    (low : 1 ≤ lib.0) (high : lib.0 ≤ length p.told) (numbered : AreNumbered (t ∷ turns)) where
-  within : t.lib ≡ lib → t.lib.0 ≤ length p.told
-  within is = subst (λ (n : LibNo). n.0 ≤ length p.told) (sym is) high
+-- What holds before the rest of a library's turns, and once it has ended, by what it has, was told and logged: each of its turns
+-- leads on.
+module _ (lib : LibNo) (Before : List Turn → Share → Heard → List Entry → Type 0) (After : Heard → List Entry → Type 0)
+    (line : (turn : Turn) (left : List Turn) (s : State) (share : Share) (told : Heard) (es : List Entry) (d' : Noted) (share' : Share) (told' : Heard) → Before (turn ∷ left) share told es → TurnComes lib turn (unnoted s) share told d' share' told' → AreMoves lib s d'.calls d'.moves d'.state → Before left share' told' (es ++ entries_of lib d'.calls d'.moves))
+    (end : (s : State) (share : Share) (told : Heard) (es : List Entry) (d' : Noted) (share' : Share) (told' : Heard) → Before [] share told es → TurnComes lib Ends (unnoted s) share told d' share' told' → AreMoves lib s d'.calls d'.moves d'.state → After told' (es ++ entries_of lib d'.calls d'.moves)) where
+  abbrev Now : List Turn → Players → Type 0
+  Now left p = Before left (share_of p lib) (told_to p lib) (entries_by lib p.log)
 
-  ended_prints : LinesPrint (length all) 0 (told_to p lib) (entries_by lib p.log) → t ≡ placed lib.0 Ends → own_turns lib.0 turns ≡ [] → Prints all (told_to p' lib) (entries_by lib p'.log)
-  ended_prints before first none =
-      let is : t.lib ≡ lib = ap (λ (x : Placed). x.lib) first in
-      let ended = turn_ends p t moves middle takes (numbered t (inl refl)) (within is) all
-      (subst (λ n. LinesPrint (length all) 0 (told_to p n) (entries_by n p.log)) (sym is) before) (ap (λ (x : Placed). x.turn) first) in
-      let rest = plays_others middle turns others p' lib low (λ u i. numbered u (inr i)) none plays in
-      subst (λ x. Prints all x (entries_by lib p'.log)) (sym rest.told)
-      (subst (λ x. Prints all (told_to middle lib) x) (sym rest.log)
-      (subst (λ n. Prints all (told_to middle n) (entries_by n middle.log)) is ended))
+  abbrev Then : Players → Type 0
+  Then p = After (told_to p lib) (entries_by lib p.log)
 
-  said_prints : (left : ℕ) (line : ScriptLine) → LinesPrint (length all) (suc left) (told_to p lib) (entries_by lib p.log) → t ≡ placed lib.0 (Says line) → LinesPrint (length all) left (told_to middle lib) (entries_by lib middle.log)
-  said_prints left line before first =
-      let is : t.lib ≡ lib = ap (λ (x : Placed). x.lib) first in
-      subst (λ n. LinesPrint (length all) left (told_to middle n) (entries_by n middle.log)) is
-      (turn_says p t moves middle takes (numbered t (inl refl)) (within is) (length all) left line
-      (subst (λ n. LinesPrint (length all) (suc left) (told_to p n) (entries_by n p.log)) (sym is) before) (ap (λ (x : Placed). x.turn) first))
+  -- its own turn
+  module _ (p : Players) (t : Placed) (moves : List Move) (p' : Players) (takes : TakesTurn p t moves p') (is : t.lib ≡ lib) (low : 1 ≤ lib.0) (high : lib.0 ≤ length p.told) (places : lib.0 ≤ length p.shares) where
+    abbrev then' : Noted
+    then' = noted_of p' takes.calls moves
 
-  abbrev Rest : Type 0
-  Rest = (ls : List ScriptLine) → own_turns lib.0 turns ≡ course lib.0 ls → LinesPrint (length all) (length ls) (told_to middle lib) (entries_by lib middle.log) → Prints all (told_to p' lib) (entries_by lib p'.log)
+    own_comes : TurnComes lib t.turn (unnoted p.state) (share_of p lib) (told_to p lib) then' takes.share' takes.told'
+    own_comes = subst (λ l. TurnComes l t.turn (unnoted p.state) (share_of p l) (told_to p l) then' takes.share' takes.told') is takes.comes
 
-  own_prints : (lines : List ScriptLine) → t ∷ own_turns lib.0 turns ≡ course lib.0 lines → LinesPrint (length all) (length lines) (told_to p lib) (entries_by lib p.log) → Rest → Prints all (told_to p' lib) (entries_by lib p'.log)
-  own_prints [] e before rest = (let first : t ≡ placed lib.0 Ends = cc e in let none : own_turns lib.0 turns ≡ [] = cc e in ended_prints before first none)
-  own_prints (l ∷ ls) e before rest =
-      let first : t ≡ placed lib.0 (Says l) = cc e in
-      let own : own_turns lib.0 turns ≡ course lib.0 ls = cc e in
-      rest ls own (said_prints (length ls) l before first)
+    own_moves : AreMoves lib p.state takes.calls moves p'.state
+    own_moves = subst (λ l. AreMoves l p.state takes.calls moves p'.state) is takes.happen
 
-  turn_prints : (b : Bool) (lines : List ScriptLine) → eqb t.lib.0 lib.0 ≡ b → cond b (t ∷ own_turns lib.0 turns) (own_turns lib.0 turns) ≡ course lib.0 lines → LinesPrint (length all) (length lines) (told_to p lib) (entries_by lib p.log) → Rest → Prints all (told_to p' lib) (entries_by lib p'.log)
-  turn_prints true lines e own before rest = own_prints lines own before rest
-  turn_prints false lines f own before rest =
-      let apart : lib.0 ≡ t.lib.0 → ⊥ = λ e. both_ways (eqb t.lib.0 lib.0) f (eq-eqb t.lib.0 lib.0 (sym e)) in
-      rest lines own
-      (subst (λ x. LinesPrint (length all) (length lines) x (entries_by lib middle.log)) (sym (other_told p t moves middle takes lib apart (numbered t (inl refl)) low))
-      (subst (λ x. LinesPrint (length all) (length lines) (told_to p lib) x) (sym (other_log p t moves middle takes lib apart)) before))
+    low_own : 1 ≤ t.lib.0
+    low_own = subst (λ (l : LibNo). 1 ≤ l.0) (sym is) low
 
--- a library's answers print its entries once the rest of its course was played
-plays_prints : (all : List ScriptLine) (p : Players) (turns : List Placed) (moves : List Move) (p' : Players) (lib : LibNo) (lines : List ScriptLine) → 1 ≤ lib.0 → lib.0 ≤ length p.told → AreNumbered turns → own_turns lib.0 turns ≡ course lib.0 lines → LinesPrint (length all) (length lines) (told_to p lib) (entries_by lib p.log) → Plays p turns moves p' → Prints all (told_to p' lib) (entries_by lib p'.log)
-plays_prints all p [] moves p' lib [] low high numbered own before plays = absurd (cc own)
-plays_prints all p [] moves p' lib (l ∷ lines) low high numbered own before plays = absurd (cc own)
-plays_prints all p (t ∷ turns) moves p' lib lines low high numbered own before plays =
-    let places : lib.0 ≤ length plays.middle.told = subst (λ n. lib.0 ≤ n) (sym (as_many p t plays.first plays.middle plays.takes)) high in
-    turn_prints all lib p t turns plays.first plays.middle p' plays.others plays.takes plays.rest low high numbered (eqb t.lib.0 lib.0) lines refl own before
-    (λ ls e b. plays_prints all plays.middle turns plays.others p' lib ls low places (λ u i. numbered u (inr i)) e b plays.rest)
+    then_told : told_to p' lib ≡ takes.told'
+    then_told = ap (told_to p') (sym is) ∙ own_told p t moves p' takes low_own (subst (λ (l : LibNo). l.0 ≤ length p.told) (sym is) high)
+
+    then_share : share_of p' lib ≡ takes.share'
+    then_share = ap (share_of p') (sym is) ∙ own_share p t moves p' takes low_own (subst (λ (l : LibNo). l.0 ≤ length p.shares) (sym is) places)
+
+    then_log : entries_by lib p'.log ≡ entries_by lib p.log ++ entries_of lib takes.calls moves
+    then_log = subst (λ l. entries_by l p'.log ≡ entries_by l p.log ++ entries_of l takes.calls moves) is (own_log p t moves p' takes)
+
+    line_taken : (turn : Turn) (left : List Turn) → t.turn ≡ turn → Now (turn ∷ left) p → Now left p'
+    line_taken turn left e now =
+        let c = subst (λ u. TurnComes lib u (unnoted p.state) (share_of p lib) (told_to p lib) then' takes.share' takes.told') e own_comes in
+        let next = line turn left p.state (share_of p lib) (told_to p lib) (entries_by lib p.log) then' takes.share' takes.told' now c own_moves in
+        subst (λ x. Before left x (told_to p' lib) (entries_by lib p'.log)) (sym then_share)
+        (subst (λ x. Before left takes.share' x (entries_by lib p'.log)) (sym then_told)
+        (subst (λ x. Before left takes.share' takes.told' x) (sym then_log) next))
+
+    end_taken : t.turn ≡ Ends → Now [] p → Then p'
+    end_taken e now =
+        let c = subst (λ u. TurnComes lib u (unnoted p.state) (share_of p lib) (told_to p lib) then' takes.share' takes.told') e own_comes in
+        let next = end p.state (share_of p lib) (told_to p lib) (entries_by lib p.log) then' takes.share' takes.told' now c own_moves in
+        subst (λ x. After x (entries_by lib p'.log)) (sym then_told) (subst (After takes.told') (sym then_log) next)
+
+  -- a library's turns, among those of others
+  plays_prints : (p : Players) (turns : List Placed) (moves : List Move) (p' : Players) (left : List Turn) → 1 ≤ lib.0 → lib.0 ≤ length p.told → lib.0 ≤ length p.shares → AreNumbered turns → own_turns lib.0 turns ≡ course lib.0 left → Now left p → Plays p turns moves p' → Then p'
+  plays_prints p [] moves p' [] low high places numbered own now plays = absurd (cc own)
+  plays_prints p [] moves p' (l ∷ left) low high places numbered own now plays = absurd (cc own)
+  plays_prints p (t ∷ turns) moves p' left low high places numbered own now plays =
+      by (eqb t.lib.0 lib.0) refl left own now
+      (λ ls e n. plays_prints plays.middle turns plays.others p' ls low (subst (λ n. lib.0 ≤ n) (sym (as_many p t plays.first plays.middle plays.takes)) high)
+      (subst (λ n. lib.0 ≤ n) (sym (as_many_shares p t plays.first plays.middle plays.takes)) places) (λ u i. numbered u (inr i)) e n plays.rest)
+    where
+      Rest : Type 0
+      Rest = (ls : List Turn) → own_turns lib.0 turns ≡ course lib.0 ls → Now ls plays.middle → Then p'
+
+      mine : (ls : List Turn) → t ∷ own_turns lib.0 turns ≡ course lib.0 ls → Now ls p → Rest → Then p'
+      mine [] e now rest =
+          let first : t ≡ placed lib.0 Ends = cc e in
+          let none : own_turns lib.0 turns ≡ [] = cc e in
+          let done = end_taken p t plays.first plays.middle plays.takes (ap (λ (x : Placed). x.lib) first) low high places (ap (λ (x : Placed). x.turn) first) now in
+          let others = plays_others plays.middle turns plays.others p' lib low (λ u i. numbered u (inr i)) none plays.rest in
+          subst (λ x. After x (entries_by lib p'.log)) (sym others.told) (subst (λ x. After (told_to plays.middle lib) x) (sym others.log) done)
+      mine (l ∷ ls) e now rest =
+          let first : t ≡ placed lib.0 l = cc e in
+          let more : own_turns lib.0 turns ≡ course lib.0 ls = cc e in
+          rest ls more (line_taken p t plays.first plays.middle plays.takes (ap (λ (x : Placed). x.lib) first) low high places l ls (ap (λ (x : Placed). x.turn) first) now)
+
+      by : (b : Bool) → eqb t.lib.0 lib.0 ≡ b → (ls : List Turn) → cond b (t ∷ own_turns lib.0 turns) (own_turns lib.0 turns) ≡ course lib.0 ls → Now ls p → Rest → Then p'
+      by true is ls e now rest = mine ls e now rest
+      by false f ls e now rest =
+          let apart : lib.0 ≡ t.lib.0 → ⊥ = λ q. both_ways (eqb t.lib.0 lib.0) f (eq-eqb t.lib.0 lib.0 (sym q)) in
+          let first : 1 ≤ t.lib.0 = numbered t (inl refl) in
+          rest ls e
+          (subst (λ x. Before ls x (told_to plays.middle lib) (entries_by lib plays.middle.log)) (sym (other_share p t plays.first plays.middle plays.takes lib apart first low))
+          (subst (λ x. Before ls (share_of p lib) x (entries_by lib plays.middle.log)) (sym (other_told p t plays.first plays.middle plays.takes lib apart first low))
+          (subst (λ x. Before ls (share_of p lib) (told_to p lib) x) (sym (other_log p t plays.first plays.middle plays.takes lib apart)) now)))
+
+-- ---- a raw library
+
+module _ (lib : LibNo) (all : List (ScriptLine RawLine)) where
+  -- before its end a library's answers print the entries of its lines
+  record RawBefore (left : List Turn) (share : Share) (heard : Heard) (es : List Entry) : Type 0 where
+    things : Has
+    share_is : share ≡ Things things
+    lines_left : List (ScriptLine RawLine)
+    left_are : left ≡ map Says lines_left
+    count : length heard.answers + length lines_left ≡ length all
+    lines : map printed es ≡ map Some (filter has_entry heard.answers)
+
+  raw_said : (line : ScriptLine RawLine) (ls : List (ScriptLine RawLine)) (left : List Turn) (s : State) (share : Share) (told : Heard) (es : List Entry) (d' : Noted) (share' : Share) (told' : Heard) → left ≡ map Says ls → length told.answers + suc (length ls) ≡ length all → map printed es ≡ map Some (filter has_entry told.answers)
+      → TurnComes lib (Says line) (unnoted s) share told d' share' told' → AreMoves lib s d'.calls d'.moves d'.state → RawBefore left share' told' (es ++ entries_of lib d'.calls d'.moves)
+  raw_said line ls left s (Things has) told es d' (Things has') told' e count lines c am =
+      let made = line_made lib line.line s has d'.calls d'.moves c.0 d'.state has' c.1 am in
+      let more : List Entry = entries_of lib d'.calls d'.moves in
+      subst (λ (h : Heard). RawBefore left (Things has') h (es ++ more)) (sym c.2)
+      (record {
+        things = has';
+        share_is = refl;
+        lines_left = ls;
+        left_are = e;
+        count = (let n : length (told.answers ++ c.0 ∷ []) ≡ length told.answers + 1 = length-append told.answers (c.0 ∷ []) in omega (arith, n, count));
+        lines = map-append printed es more ∙ ap (λ l. l ++ map printed more) lines ∙ ap (λ l. map Some (filter has_entry told.answers) ++ l) made.prints
+            ∙ sym (map-append Some (filter has_entry told.answers) (filter has_entry (c.0 ∷ [])))
+            ∙ ap (map Some) (sym (filter-append has_entry told.answers (c.0 ∷ [])));
+      })
+  raw_said line ls left s share told es d' share' told' e count lines c am = absurd c
+
+  raw_line : (turn : Turn) (left : List Turn) (s : State) (share : Share) (told : Heard) (es : List Entry) (d' : Noted) (share' : Share) (told' : Heard) → RawBefore (turn ∷ left) share told es → TurnComes lib turn (unnoted s) share told d' share' told' → AreMoves lib s d'.calls d'.moves d'.state → RawBefore left share' told' (es ++ entries_of lib d'.calls d'.moves)
+  raw_line turn left s share told es d' share' told' b c am = by b.lines_left b.left_are b.count
+    where
+      by : (ls : List (ScriptLine RawLine)) → turn ∷ left ≡ map Says ls → length told.answers + length ls ≡ length all → RawBefore left share' told' (es ++ entries_of lib d'.calls d'.moves)
+      by [] e count = absurd (cc e)
+      by (line ∷ ls) e count =
+          let is : turn ≡ Says line = cc e in
+          let rest : left ≡ map Says ls = cc e in
+          raw_said line ls left s share told es d' share' told' rest count b.lines (subst (λ u. TurnComes lib u (unnoted s) share told d' share' told') is c) am
+
+  no_says : (ls : List (ScriptLine RawLine)) → [] ≡ map Says ls → length ls ≡ 0
+  no_says [] e = refl
+  no_says (l ∷ ls) e = absurd (cc e)
+
+  raw_end : (s : State) (share : Share) (told : Heard) (es : List Entry) (d' : Noted) (share' : Share) (told' : Heard) → RawBefore [] share told es → TurnComes lib Ends (unnoted s) share told d' share' told' → AreMoves lib s d'.calls d'.moves d'.state → RawPrints all told' (es ++ entries_of lib d'.calls d'.moves)
+  raw_end s (Things has) told es d' (Things has') told' b c am =
+      let m = end_made lib s has d'.calls d'.moves c.0 d'.state c.1 am in
+      let left : length b.lines_left ≡ 0 = no_says b.lines_left b.left_are in
+      let count : length told.answers + length b.lines_left ≡ length all = b.count in
+      subst (λ (h : Heard). RawPrints all h (es ++ entries_of lib d'.calls d'.moves)) (sym c.3)
+      (record {
+        each = omega (arith, left, count);
+        end = c.0;
+        end_is = refl;
+        of_lines = es;
+        of_backs = m.of_backs;
+        of_end = m.of_end;
+        entries_are = ap (λ l. es ++ l) m.entries_are ∙ sym (append_assoc es m.of_backs m.of_end);
+        lines_print = b.lines;
+        backs = m.backs;
+        end_prints = m.ends;
+      })
+  raw_end s (InSession x) told es d' share' told' b c am = absurd (cc (b.share_is))
+  raw_end s (Things has) told es d' (InSession x) told' b c am = absurd c
+
+-- ---- an honest library
+
+-- lines, and one more
+lines_more : (lines : List (ScriptLine HonestLine)) (answers : List LineAnswer) (es own : List Entry) (line : ScriptLine HonestLine) (told : LineAnswer) → LinesMake lines answers es → LineMakes line.line told own → LinesMake (lines ++ line ∷ []) (answers ++ told ∷ []) (es ++ own)
+lines_more [] [] es own line told l m = (own, [], m, refl, ap (λ x. x ++ own) l ∙ sym (append-nil own))
+lines_more [] (a ∷ answers) es own line told l m = absurd l
+lines_more (k ∷ lines) [] es own line told l m = absurd l
+lines_more (k ∷ lines) (a ∷ answers) es own line told l m =
+    (l.0, l.1 ++ own, l.2, lines_more lines answers l.1 own line told l.3 m, ap (λ x. x ++ own) l.4 ∙ append_assoc l.0 l.1 own)
+
+module _ (lib : LibNo) (all : List (ScriptLine HonestLine)) where
+  -- Before its end a library's answers are the replies that its entries tell, and those of the calls that its session still has.
+  record HonestBefore (left : List Turn) (share : Share) (heard : Heard) (es : List Entry) : Type 0 where
+    session : SessionSeen
+    share_is : share ≡ InSession session
+    lines_done : List (ScriptLine HonestLine)
+    lines_left : List (ScriptLine HonestLine)
+    all_are : all ≡ lines_done ++ lines_left
+    left_are : left ≡ map SaysHonest lines_left
+    replies : flat_map replies_in es ++ map (λ (d : done.Done). d.reply) session.calls ≡ filter_map reply_told heard.answers
+    made : LinesMake lines_done heard.answers es
+
+  honest_said : (line : ScriptLine HonestLine) (done' ls : List (ScriptLine HonestLine)) (left : List Turn) (s : State) (share : Share) (told : Heard) (es : List Entry) (d' : Noted) (share' : Share) (told' : Heard) → HonestBefore (SaysHonest line ∷ left) share told es → left ≡ map SaysHonest ls → all ≡ done' ++ line ∷ ls → LinesMake done' told.answers es
+      → TurnComes lib (SaysHonest line) (unnoted s) share told d' share' told' → HonestBefore left share' told' (es ++ entries_of lib d'.calls d'.moves)
+  honest_said line done' ls left s (InSession x) told es d' (InSession x') told' b e whole made c =
+      let h : HonestMade lib x x' line.line c.0 (entries_of lib d'.calls d'.moves) = honest_made lib s x x' d' line.line c.0 c.1 in
+      let more : List Entry = entries_of lib d'.calls d'.moves in
+      let is : b.session ≡ x = (let q : InSession x ≡ InSession b.session = b.share_is in cc q) in
+      let old : List Reply = flat_map replies_in es in
+      let of : SessionSeen → List Reply = λ (y : SessionSeen). map (λ (d : done.Done). d.reply) y.calls in
+      subst (λ (y : Heard). HonestBefore left (InSession x') y (es ++ more)) (sym c.2)
+      (record {
+        session = x';
+        share_is = refl;
+        lines_done = done' ++ line ∷ [];
+        lines_left = ls;
+        all_are = whole ∙ sym (append_assoc done' (line ∷ []) ls);
+        left_are = e;
+        replies = ap (λ l. l ++ of x') (flat_map-append replies_in es more) ∙ append_assoc old (flat_map replies_in more) (of x') ∙ ap (λ l. old ++ l) h.tells
+            ∙ sym (append_assoc old (of x) (filter_map reply_told (c.0 ∷ []))) ∙ ap (λ (y : SessionSeen). (old ++ of y) ++ filter_map reply_told (c.0 ∷ [])) (sym is)
+            ∙ ap (λ l. l ++ filter_map reply_told (c.0 ∷ [])) b.replies ∙ sym (filter_map-append reply_told told.answers (c.0 ∷ []));
+        made = lines_more done' told.answers es more line c.0 made h.makes;
+      })
+  honest_said line done' ls left s share told es d' share' told' b e whole made c = absurd c
+
+  honest_line : (turn : Turn) (left : List Turn) (s : State) (share : Share) (told : Heard) (es : List Entry) (d' : Noted) (share' : Share) (told' : Heard) → HonestBefore (turn ∷ left) share told es → TurnComes lib turn (unnoted s) share told d' share' told' → AreMoves lib s d'.calls d'.moves d'.state → HonestBefore left share' told' (es ++ entries_of lib d'.calls d'.moves)
+  honest_line turn left s share told es d' share' told' b c am = by b.lines_left b.left_are b.all_are
+    where
+      by : (ls : List (ScriptLine HonestLine)) → turn ∷ left ≡ map SaysHonest ls → all ≡ b.lines_done ++ ls → HonestBefore left share' told' (es ++ entries_of lib d'.calls d'.moves)
+      by [] e whole = absurd (cc e)
+      by (line ∷ ls) e whole =
+          let is : turn ≡ SaysHonest line = cc e in
+          let rest : left ≡ map SaysHonest ls = cc e in
+          honest_said line b.lines_done ls left s share told es d' share' told' (subst (λ u. HonestBefore (u ∷ left) share told es) is b) rest whole b.made
+          (subst (λ u. TurnComes lib u (unnoted s) share told d' share' told') is c)
+
+  no_calls : (ls : List (ScriptLine HonestLine)) → [] ≡ map SaysHonest ls → ls ≡ []
+  no_calls [] e = refl
+  no_calls (l ∷ ls) e = absurd (cc e)
+
+  honest_end : (s : State) (share : Share) (told : Heard) (es : List Entry) (d' : Noted) (share' : Share) (told' : Heard) → HonestBefore [] share told es → TurnComes lib Ends (unnoted s) share told d' share' told' → AreMoves lib s d'.calls d'.moves d'.state → HonestPrints all told' (es ++ entries_of lib d'.calls d'.moves)
+  honest_end s (InSession x) told es d' (InSession x') told' b c am =
+      let m : SettleMade lib x.calls (entries_of lib d'.calls d'.moves) = settle_made lib s x x' d' c.0 in
+      let more : List Entry = entries_of lib d'.calls d'.moves in
+      let is : b.session ≡ x = (let q : InSession x ≡ InSession b.session = b.share_is in cc q) in
+      let of : SessionSeen → List Reply = λ (y : SessionSeen). map (λ (d : done.Done). d.reply) y.calls in
+      let whole : all ≡ b.lines_done = b.all_are ∙ ap (λ l. b.lines_done ++ l) (no_calls b.lines_left b.left_are) ∙ append-nil b.lines_done in
+      subst (λ (y : Heard). HonestPrints all y (es ++ more)) (sym c.1)
+      (record {
+        count = length x.calls;
+        end_is = refl;
+        of_lines = es;
+        of_end = more;
+        entries_are = refl;
+        replies = flat_map-append replies_in es more ∙ ap (λ l. flat_map replies_in es ++ l) m.tells ∙ ap (λ (y : SessionSeen). flat_map replies_in es ++ of y) (sym is) ∙ b.replies;
+        lines_make = subst (λ ls. LinesMake ls told.answers es) (sym whole) b.made;
+        end_makes = m.settles;
+      })
+  honest_end s (Things has) told es d' share' told' b c am = absurd (cc (b.share_is))
+  honest_end s (InSession x) told es d' (Things has) told' b c am = absurd c
+
+-- ---- a script
 
 untold_each : {X : Type 0} (xs : List X) (n : ℕ) → get_or (map (λ x. untold) xs) n untold ≡ untold
 untold_each [] n = refl
 untold_each (x ∷ xs) zero = refl
 untold_each (x ∷ xs) (suc n) = untold_each xs n
 
+module _ (p p' : Players) (turns : List Placed) (moves : List Move) (lib : LibNo) (low : 1 ≤ lib.0) (high : lib.0 ≤ length p.told) (places : lib.0 ≤ length p.shares) (numbered : AreNumbered turns)
+    (told : told_to p lib ≡ untold) (log : entries_by lib p.log ≡ []) (plays : Plays p turns moves p') where
+  lines_print : (creds : Creds) (lines : Lines) → own_turns lib.0 turns ≡ course lib.0 (line_turns lines) → BeginsWith lib creds lines (share_of p lib) → Prints lines (told_to p' lib) (entries_by lib p'.log)
+  lines_print creds (RawLines lines) own begins =
+      let at_first : RawBefore lib lines (map Says lines) (Things nothing) untold [] = record { things = nothing; share_is = refl; lines_left = lines; left_are = refl; count = omega arith; lines = refl } in
+      plays_prints lib (RawBefore lib lines) (RawPrints lines) (raw_line lib lines) (raw_end lib lines) p turns moves p' (map Says lines) low high places numbered own
+      (subst (λ x. RawBefore lib lines (map Says lines) x (told_to p lib) (entries_by lib p.log)) (sym begins)
+      (subst (λ x. RawBefore lib lines (map Says lines) (Things nothing) x (entries_by lib p.log)) (sym told)
+      (subst (RawBefore lib lines (map Says lines) (Things nothing) untold) (sym log) at_first))) plays
+  lines_print creds (HonestLines lines) own begins =
+      let at_first : HonestBefore lib lines (map SaysHonest lines) (share_of p lib) untold [] =
+      record { session = _; share_is = begins.1; lines_done = []; lines_left = lines; all_are = refl; left_are = refl; replies = refl; made = refl } in
+      plays_prints lib (HonestBefore lib lines) (HonestPrints lines) (honest_line lib lines) (honest_end lib lines) p turns moves p' (map SaysHonest lines) low high places numbered own
+      (subst (λ x. HonestBefore lib lines (map SaysHonest lines) (share_of p lib) x (entries_by lib p.log)) (sym told)
+      (subst (HonestBefore lib lines (map SaysHonest lines) (share_of p lib) untold) (sym log) at_first)) plays
+
 pub played_is_printed : PlayedIsPrinted
 played_is_printed image libs played lib l is =
     let low : 1 ≤ lib.0 = is.0 in
+    let begins : AtStart image libs played.first = played.begins in
     let within : lib.0 - 1 < length libs = slice_get_within libs (lib.0 - 1) l is.1 in
-    let places : length (map (λ (x : ScriptLib). untold) libs) ≡ length libs = length-map libs _ in
-    let high : lib.0 ≤ length (map (λ (x : ScriptLib). untold) libs) = omega (arith, low, within, places) in
+    let many : length played.first.told ≡ length libs = ap length begins.told ∙ length-map libs _ in
+    let shares : length played.first.shares ≡ length libs = begins.places in
     let number : 1 + (lib.0 - 1) ≡ lib.0 = omega (arith, low) in
-    let own : own_turns lib.0 (turns_of libs) ≡ course lib.0 l.lines =
-    subst (λ n. own_turns n (turns_of libs) ≡ course n l.lines) number (turns_own libs (lib.0 - 1) l is.1) in
-    let told : told_to (at_start image libs) lib ≡ untold = untold_each libs (lib.0 - 1) in
-    plays_prints l.lines (at_start image libs) (turns_of libs) played.moves played.last lib l.lines low high (λ t i. (turns_within libs t i).0) own
-    (subst (λ (h : Heard). LinesPrint (length l.lines) (length l.lines) h []) (sym told) (record { count = omega arith; lines = refl })) played.plays
+    let own : own_turns lib.0 (turns_of libs) ≡ course lib.0 (line_turns l.lines) =
+    subst (λ n. own_turns n (turns_of libs) ≡ course n (line_turns l.lines)) number (turns_own libs (lib.0 - 1) l is.1) in
+    let told : told_to played.first lib ≡ untold = ap (λ (hs : List Heard). get_or hs (lib.0 - 1) untold) begins.told ∙ untold_each libs (lib.0 - 1) in
+    let high : lib.0 ≤ length played.first.told = omega (arith, low, within, many) in
+    let places : lib.0 ≤ length played.first.shares = omega (arith, low, within, shares) in
+    lines_print played.first played.last (turns_of libs) played.moves lib low high places (λ t i. (turns_within libs t i).0) told (ap (entries_by lib) begins.log) played.plays
+    l.creds l.lines own (begins.begins lib l is)

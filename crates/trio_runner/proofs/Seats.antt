@@ -1,15 +1,19 @@
 -- Turns of a round, one library after another.
-use Rattle.std.proofs.Common.{◌≡◌, ℕ, zero, suc, ◌+◌, ◌-◌, ◌<◌, List, [], ◌∷◌, ◌++◌, length, map, get_or, set, take, Option, Some, None, sym, refl, ap, ◌∙◌, subst, inl, inr, arith, eqb, take-suc}
+use Rattle.std.proofs.Common.{◌≡◌, ℕ, zero, suc, ◌+◌, ◌-◌, ◌<◌, ◌≤◌, not, cond, Bool, true, false, length-take-le, List, [], ◌∷◌, ◌++◌, length, map, get_or, set, take, Option, Some, None, sym, refl, ap, ◌∙◌, subst, inl, inr, arith, eqb, take-suc}
 use Rattle.std.specs.Prelude.{slice_get}
+use Rattle.std.specs.List.{find}
+use Rattle.std.specs.Option.{option_map, option_or}
 use Rattle.std.proofs.Math.Seq.{map-set_same}
 use Rattle.std.proofs.lemmas.Bool.{both_ways, eq-eqb, eqb-true, cases_Bool}
 use Rattle.std.proofs.lemmas.Grind.{flat_map-append}
 use Rattle.std.proofs.lemmas.List.{append-nil, append_assoc, get_or-map, get_or_default, length-map, length-set, map-append, map-set, set-get_or}
 use Rattle.trio_rights.specs.declared.rights.LibNo.{LibNo}
 use Rattle.trio_lists.specs.Lists.{In, tabulated}
-use Rattle.trio_lists.proofs.Tabulated.{tabulated-get, tabulated-length}
+use Rattle.trio_lists.proofs.Tabulated.{tabulated-length}
 use Rattle.trio_lists.proofs.Members.{map-In}
 use Rattle.trio_lease.specs.Shown.{Shown}
+use Rattle.trio_rights.specs.declared.rights.Creds.{Creds}
+use Rattle.trio_desk.specs.Call.{DeskSeen}
 use Rattle.trio_desk.specs.Out.{LibOut, IsClosed, file_numbers}
 use Rattle.trio_nodes.specs.declared.entry.Entry.{Entry}
 use Rattle.trio_layout.specs.Image.{Image}
@@ -17,19 +21,26 @@ use Rattle.trio_state.specs.State.{State}
 use Rattle.trio_state.specs.Kept.{Kept}
 use Rattle.trio_state.specs.Run.{start, Move}
 use Rattle.trio_ctl.specs.Ctl.{AreAsTold, Controller, IsLibrary}
-use Rattle.trio_ctl.specs.Desk.{out_of}
+use Rattle.trio_ctl.specs.Desk.{desk_of, out_of}
 use Rattle.trio_ctl.proofs.DeskSteps.{holds_stand}
-use Rattle.trio_raw.specs.Has.{Has, Held, OnList, nothing, whole_parcel}
+use Rattle.trio_raw.specs.Has.{Has, OnList, nothing, whole_parcel}
+use Rattle.trio_edit_laws.specs.Calls.{MayCall}
+use Rattle.trio_script.specs.declared.Lines.{Lines}
+use Rattle.trio_script.specs.declared.Lines.TheVariants.{Raw as RawLines, Honest as HonestLines}
 use Rattle.trio_script.specs.declared.ScriptLine.{ScriptLine}
+use Rattle.trio_script.specs.declared.honest.HonestLine.{HonestLine}
 use Rattle.trio_script.specs.declared.ScriptLib.{ScriptLib}
-use Rattle.trio_runner.specs.Rounds.{Turn, Placed, course, courses_from, in_rounds, round_of, turn_list, turns_of}
-use Rattle.trio_runner.specs.Play.{Heard, Players, Plays, TakesTurn, TurnComes, at_start, creds_in, has_of, told_to, untold}
+use Rattle.trio_runner.specs.declared.players.Player.{Player}
+use Rattle.trio_runner.specs.declared.players.Player.TheVariants.{Raw, Honest}
+use Rattle.trio_runner.specs.Built.{is_built, unbuilt_in, unbuilt_line}
+use Rattle.trio_runner.specs.Honest.{Noted, unnoted}
+use Rattle.trio_runner.specs.Rounds.{Turn, Placed, course, courses_from, in_rounds, line_turns, round_of, turn_list, turns_of}
+use Rattle.trio_runner.specs.Play.{AtStart, BeginsWith, Heard, Players, Plays, Share, TakesTurn, Things, InSession, TurnComes, creds_in, share_of, told_to, untold}
 use Rattle.trio_runner.specs.Seen.{ScriptPlayed}
-use Rattle.trio_runner.specs.inner.Ready.{AreSeated, HasAll, IsReady, Table, Took, TookNext, TookTurn, idle, players, table}
-use Rattle.trio_runner.proofs.EndFree.{start_stands}
-use Rattle.trio_runner.proofs.Held.{held_after, held_stands, library_before, other_after, own_after, same_creds, same_library}
+use Rattle.trio_runner.specs.inner.Ready.{AreNew, AreSeated, GoesOn, HasAll, HasClosed, HoldsAll, IsHeld, IsNew, IsReady, Table, Took, TookNext, TookTurn, has_honest, is_honest, lib_in, numbers_from, players, share_in, table}
+use Rattle.trio_runner.proofs.EndFree.{script_library, start_stands}
+use Rattle.trio_runner.proofs.Held.{held_after, library_before, other_after, others_seen, own_after, same_creds, same_library}
 use Rattle.trio_runner.proofs.Calling.{nothing_on_list}
-use Rattle.trio_runner.proofs.Moves.{moves_others}
 use Rattle.trio_runner.proofs.Orders.{course_lib}
 use Rattle.trio_runner.proofs.Plays.{plays_more}
 
@@ -40,24 +51,33 @@ set_is xs at x y e there = ap (set xs at) (e ∙ there) ∙ set-get_or xs at y
 -- ---- between turns
 
 -- all that a library has is closed, since it has all that is out to it
-pub all_closed : (s : State) (lib : LibNo) (has : Has) → Kept s → AreAsTold s → HasAll (out_of s lib) has → IsClosed (out_of s lib) (whole_parcel has)
+all_closed : (s : State) (lib : LibNo) (has : Has) → Kept s → AreAsTold s → HasAll (out_of s lib) has → IsClosed (out_of s lib) (whole_parcel has)
 all_closed s lib has kept told all h i =
     let parent = holds_stand s lib h kept told i in
     let w = map-In (λ (x : Shown). x.ino) h.parent (out_of s lib).writes parent in
     ((λ x. subst (λ n. In n (file_numbers has.writes)) (sym w.2) (all.writes w.0 w.1)), (λ x. all.holds h i))
 
-pub ready_after : (p : Players) (t : Placed) (moves : List Move) (p' : Players) → IsReady p → IsLibrary t.lib p.state → (takes : TakesTurn p t moves p') → OnList (out_of p'.state t.lib) takes.has' → IsReady p'
-ready_after p t moves p' h is takes on = record {
+share_closed : (s : State) (lib : LibNo) (share : Share) → Kept s → AreAsTold s → HoldsAll s lib share → HasClosed s lib share
+share_closed s lib (Things has) kept told all = all_closed s lib has kept told all
+share_closed s lib (InSession x) kept told all = tt
+
+-- what is seen of its desk stays, and so a library may go on
+goes_same : (s s' : State) (lib : LibNo) (share : Share) → desk_of s' lib ≡ desk_of s lib → GoesOn s lib share → GoesOn s' lib share
+goes_same s s' lib (Things has) same g = subst (λ (o : LibOut). OnList o has) (sym (ap (λ (d : DeskSeen). d.out) same)) g
+goes_same s s' lib (InSession x) same g = subst (λ (d : DeskSeen). MayCall d x) (sym same) g
+
+pub ready_after : (p : Players) (t : Placed) (moves : List Move) (p' : Players) → IsReady p → IsLibrary t.lib p.state → (takes : TakesTurn p t moves p') → GoesOn p'.state t.lib takes.share' → IsReady p'
+ready_after p t moves p' h is takes goes = record {
   held = held_after p t moves p' h.held is takes;
-  on_list = λ other there. elim (cases_Bool (eqb other.0 t.lib.0)) [
+  goes = λ other there. elim (cases_Bool (eqb other.0 t.lib.0)) [
     | inl e ↦
-        subst (λ l. OnList (out_of p'.state l) (has_of p' l)) (sym (same_library other t.lib (eqb-true other.0 t.lib.0 e)))
-        (subst (OnList (out_of p'.state t.lib)) (sym (own_after p t moves p' h.held is takes)) on)
+        subst (λ l. GoesOn p'.state l (share_of p' l)) (sym (same_library other t.lib (eqb-true other.0 t.lib.0 e)))
+        (subst (GoesOn p'.state t.lib) (sym (own_after p t moves p' h.held is takes)) goes)
     | inr f ↦
         (let apart : other.0 ≡ t.lib.0 → ⊥ = λ e. both_ways (eqb other.0 t.lib.0) f (eq-eqb other.0 t.lib.0 e) in
         let before = library_before other p.state p'.state (same_creds p t moves p' takes) there in
-        subst (λ (o : LibOut). OnList o (has_of p' other)) (sym (moves_others t.lib other p.state takes.calls moves p'.state apart (held_stands p h.held) takes.happen))
-        (subst (OnList (out_of p.state other)) (sym (other_after p t moves p' other is before.0 apart takes)) (h.on_list other before)))
+        goes_same p.state p'.state other (share_of p' other) (others_seen p t moves p' other h.held apart takes)
+        (subst (GoesOn p.state other) (sym (other_after p t moves p' other is.0 before.0 apart takes)) (h.goes other before)))
   ];
 }
 
@@ -86,7 +106,7 @@ took_more a xs b ys c one two = record {
   ready = two.ready;
 }
 
-took_one : (a : Table) (t : Placed) (moves : List Move) (b : Table) → IsReady a.players → IsLibrary t.lib a.players.state → (takes : TakesTurn a.players t moves b.players) → b.first ≡ a.first → OnList (out_of b.players.state t.lib) takes.has' → Took a (t ∷ []) b
+took_one : (a : Table) (t : Placed) (moves : List Move) (b : Table) → IsReady a.players → IsLibrary t.lib a.players.state → (takes : TakesTurn a.players t moves b.players) → b.first ≡ a.first → GoesOn b.players.state t.lib takes.share' → Took a (t ∷ []) b
 took_one a t moves b h is takes first on = record {
   moves = moves;
   plays = plays_more a.players [] [] a.players t moves b.players (refl, refl) takes;
@@ -100,104 +120,119 @@ rounds_more k courses = (let e : k + 1 ≡ suc k = omega arith in ap (λ n. in_r
 
 -- ---- places
 
-module _ (libs : List ScriptLib) (raws : List Held) (tolds : List Heard) (seated : AreSeated libs raws tolds) where
-  pub raws_count : length raws ≡ length libs
-  raws_count =
-      sym (length-map raws (λ (h : Held). h.lib)) ∙ ap length seated.numbered
-      ∙ length-map (tabulated idle (length libs)) (λ (h : Held). h.lib) ∙ tabulated-length idle (length libs)
+numbers_at : (n k at : ℕ) (d : LibNo) → at < k → get_or (numbers_from n k) at d ≡ record { 0 = n + at }
+numbers_at n zero at d lt = absurd (omega (arith, lt))
+numbers_at n (suc k) zero d lt = (let e : n ≡ n + 0 = omega arith in ap (λ m. record { 0 = m }) e)
+numbers_at n (suc k) (suc at) d lt =
+    let e : (n + 1) + at ≡ n + suc at = omega arith in
+    numbers_at (n + 1) k at d (omega (arith, lt)) ∙ ap (λ m. record { 0 = m }) e
 
-  module _ (at : ℕ) (within : at < length libs) (h : Held) (there : h ≡ get_or raws at h) (t : Heard) (told : t ≡ get_or tolds at t) where
-    in_raws : at < length raws
-    in_raws = subst (λ n. at < n) (sym raws_count) within
+numbers_length : (n k : ℕ) → length (numbers_from n k) ≡ k
+numbers_length n zero = refl
+numbers_length n (suc k) = ap suc (numbers_length (n + 1) k)
+
+module _ (libs : List ScriptLib) (all : List Player) (tolds : List Heard) (seated : AreSeated libs all tolds) where
+  pub all_count : length all ≡ length libs
+  all_count = sym (length-map all lib_in) ∙ ap length seated.numbers ∙ numbers_length 1 (length libs)
+
+  module _ (at : ℕ) (within : at < length libs) (h : Player) (there : h ≡ get_or all at h) (t : Heard) (told : t ≡ get_or tolds at t) where
+    in_all : at < length all
+    in_all = subst (λ n. at < n) (sym all_count) within
 
     in_tolds : at < length tolds
     in_tolds = subst (λ n. at < n) (sym seated.told_count) within
 
-    pub seat_lib : h.lib ≡ record { 0 = at + 1 }
+    pub seat_lib : lib_in h ≡ record { 0 = at + 1 }
     seat_lib =
-        let many : at < length (tabulated idle (length libs)) = subst (λ n. at < n) (sym (tabulated-length idle (length libs))) within in
-        ap (λ (x : Held). x.lib) there ∙ sym (get_or-map (λ (x : Held). x.lib) raws at h h.lib in_raws)
-        ∙ ap (λ (l : List LibNo). get_or l at h.lib) seated.numbered
-        ∙ get_or-map (λ (x : Held). x.lib) (tabulated idle (length libs)) at h h.lib many
-        ∙ ap (λ (x : Held). x.lib) (tabulated-get idle (length libs) at h within)
+        let n : 1 + at ≡ at + 1 = omega arith in
+        ap lib_in there ∙ sym (get_or-map lib_in all at h (lib_in h) in_all)
+        ∙ ap (λ (l : List LibNo). get_or l at (lib_in h)) seated.numbers
+        ∙ numbers_at 1 (length libs) at (lib_in h) within ∙ ap (λ m. record { 0 = m }) n
 
-    seat_place : h.lib.0 - 1 ≡ at
-    seat_place = (let n : h.lib.0 ≡ at + 1 = ap (λ (l : LibNo). l.0) seat_lib in omega (arith, n))
+    pub seat_kind : (l : ScriptLib) → l ≡ get_or libs at l → is_honest h ≡ has_honest l.lines
+    seat_kind l is =
+        ap is_honest there ∙ sym (get_or-map is_honest all at h (is_honest h) in_all)
+        ∙ ap (λ (x : List Bool). get_or x at (is_honest h)) seated.kinds
+        ∙ get_or-map (λ (y : ScriptLib). has_honest y.lines) libs at l (is_honest h) within ∙ ap (λ (y : ScriptLib). has_honest y.lines) (sym is)
+
+    seat_place : (lib_in h).0 - 1 ≡ at
+    seat_place = (let n : (lib_in h).0 ≡ at + 1 = ap (λ (l : LibNo). l.0) seat_lib in omega (arith, n))
 
     module _ (x : Controller) where
-      pub seat_has : has_of (players x raws tolds) h.lib ≡ h.has
-      seat_has =
-          ap (λ n. get_or (map (λ (y : Held). y.has) raws) n nothing) seat_place
-          ∙ get_or-map (λ (y : Held). y.has) raws at h nothing in_raws ∙ ap (λ (y : Held). y.has) (sym there)
+      pub seat_share : share_of (players x all tolds) (lib_in h) ≡ share_in h
+      seat_share =
+          ap (λ n. get_or (map share_in all) n (Things nothing)) seat_place
+          ∙ get_or-map share_in all at h (Things nothing) in_all ∙ ap share_in (sym there)
 
-      pub seat_told : told_to (players x raws tolds) h.lib ≡ t
+      pub seat_told : told_to (players x all tolds) (lib_in h) ≡ t
       seat_told = ap (λ n. get_or tolds n untold) seat_place ∙ get_or_default tolds at untold t in_tolds ∙ sym told
 
-      module _ (ready : IsReady (players x raws tolds)) where
-        pub seat_library : IsLibrary h.lib x.state
+      module _ (ready : IsReady (players x all tolds)) where
+        pub seat_library : IsLibrary (lib_in h) x.state
         seat_library =
-            let n : h.lib.0 ≡ at + 1 = ap (λ (l : LibNo). l.0) seat_lib in
-            let places : length (map (λ (y : Held). y.has) raws) ≡ length x.state.creds = ready.held.has_places in
-            let many : length (map (λ (y : Held). y.has) raws) ≡ length raws = length-map raws (λ (y : Held). y.has) in
-            let lt : at < length raws = in_raws in
+            let n : (lib_in h).0 ≡ at + 1 = ap (λ (l : LibNo). l.0) seat_lib in
+            let places : length (map share_in all) ≡ length x.state.creds = ready.held.places in
+            let many : length (map share_in all) ≡ length all = length-map all share_in in
+            let lt : at < length all = in_all in
             (omega (arith, n), omega (arith, n, places, many, lt))
 
-        pub seat_stands : OnList (out_of x.state h.lib) h.has
-        seat_stands = subst (OnList (out_of x.state h.lib)) seat_has (ready.on_list h.lib seat_library)
+        pub seat_goes : GoesOn x.state (lib_in h) (share_in h)
+        seat_goes = subst (GoesOn x.state (lib_in h)) seat_share (ready.goes (lib_in h) seat_library)
 
-        pub seat_closed : IsClosed (out_of x.state h.lib) (whole_parcel h.has)
+        pub seat_closed : HasClosed x.state (lib_in h) (share_in h)
         seat_closed =
-            all_closed x.state h.lib h.has ready.held.kept ready.held.as_told
-            (subst (HasAll (out_of x.state h.lib)) seat_has (ready.held.all h.lib seat_library))
+            share_closed x.state (lib_in h) (share_in h) ready.held.kept ready.held.as_told
+            (subst (HoldsAll x.state (lib_in h)) seat_share (ready.held.all (lib_in h) seat_library))
 
         -- one library's turn
-        module _ (x' : Controller) (h' : Held) (t' : Heard) (same_lib : h'.lib ≡ h.lib) where
+        module _ (x' : Controller) (h' : Player) (t' : Heard) (same_lib : lib_in h' ≡ lib_in h) (same_kind : is_honest h' ≡ is_honest h) where
           abbrev before : Table
-          before = table x raws tolds
+          before = table x all tolds
 
           abbrev pub after : Table
-          after = table x' (set raws at h') (set tolds at t')
+          after = table x' (set all at h') (set tolds at t')
 
-          pub seat_took : (turn : Turn) → TookTurn h.lib turn x h.has t x' h'.has t' → Took before (record { lib = h.lib; turn = turn } ∷ []) after
+          pub seat_took : (turn : Turn) → TookTurn (lib_in h) turn x (share_in h) t x' (share_in h') t' → Took before (record { lib = lib_in h; turn = turn } ∷ []) after
           seat_took turn took =
-              took_one before (record { lib = h.lib; turn = turn }) took.moves after ready seat_library
+              let then' : Noted = record { state = x'.state; calls = took.calls; moves = took.moves } in
+              took_one before (record { lib = lib_in h; turn = turn }) took.moves after ready seat_library
               (record {
                 calls = took.calls;
-                has' = h'.has;
+                share' = share_in h';
                 told' = t';
-                comes = subst (λ y. TurnComes h.lib turn y (told_to (players x raws tolds) h.lib) took.calls h'.has t') (sym seat_has)
-                    (subst (λ y. TurnComes h.lib turn h.has y took.calls h'.has t') (sym seat_told) took.comes);
+                comes = subst (λ y. TurnComes (lib_in h) turn (unnoted x.state) y (told_to (players x all tolds) (lib_in h)) then' (share_in h') t') (sym seat_share)
+                    (subst (λ y. TurnComes (lib_in h) turn (unnoted x.state) (share_in h) y then' (share_in h') t') (sym seat_told) took.comes);
                 happen = took.happen;
                 log_is = took.log_is;
-                has_is = map-set (λ (y : Held). y.has) raws at h' ∙ ap (λ n. set (map (λ (y : Held). y.has) raws) n h'.has) (sym seat_place);
+                shares_are = map-set share_in all at h' ∙ ap (λ n. set (map share_in all) n (share_in h')) (sym seat_place);
                 told_is = ap (λ n. set tolds n t') (sym seat_place);
-              }) took.first took.on_list
+              }) took.first took.goes
 
           -- it was passed over
-          seat_same : x' ≡ x → h'.has ≡ h.has → t' ≡ t → after ≡ before
+          seat_same : x' ≡ x → share_in h' ≡ share_in h → t' ≡ t → after ≡ before
           seat_same a b c =
-              let has : map (λ (y : Held). y.has) (set raws at h') ≡ map (λ (y : Held). y.has) raws =
-              map-set_same (λ (y : Held). y.has) raws at h' h (b ∙ ap (λ (y : Held). y.has) there) in
+              let shares : map share_in (set all at h') ≡ map share_in all = map-set_same share_in all at h' h (b ∙ ap share_in there) in
               let heard : set tolds at t' ≡ tolds = set_is tolds at t' t c told in
-              let of : Controller → List Has → List Heard → Table = λ y hs ts. record { first = y.first; players = record { state = y.state; log = y.log; has = hs; told = ts } } in
-              ap (λ y. of y (map (λ (z : Held). z.has) (set raws at h')) (set tolds at t')) a
-              ∙ ap (λ hs. of x hs (set tolds at t')) has
-              ∙ ap (of x (map (λ (z : Held). z.has) raws)) heard
+              let of : Controller → List Share → List Heard → Table = λ y hs ts. record { first = y.first; players = record { state = y.state; log = y.log; shares = hs; told = ts } } in
+              ap (λ y. of y (map share_in (set all at h')) (set tolds at t')) a
+              ∙ ap (λ hs. of x hs (set tolds at t')) shares
+              ∙ ap (of x (map share_in all)) heard
 
-          pub seat_next : (lines : List ScriptLine) (round : ℕ) → TookNext h.lib (slice_get (course h.lib.0 lines) round) x h.has t x' h'.has t' → Took before (turn_list (slice_get (course (at + 1) lines) round)) after
-          seat_next lines round next =
-              subst (λ (n : ℕ). Took before (turn_list (slice_get (course n lines) round)) after) (ap (λ (l : LibNo). l.0) seat_lib)
-              (by (slice_get (course h.lib.0 lines) round) (course_lib h.lib.0 lines round) next)
+          pub seat_next : (turns : List Turn) (round : ℕ) → TookNext (record { 0 = at + 1 }) (slice_get (course (at + 1) turns) round) x (share_in h) t x' (share_in h') t' → Took before (turn_list (slice_get (course (at + 1) turns) round)) after
+          seat_next turns round next =
+              by (slice_get (course (at + 1) turns) round) (course_lib (at + 1) turns round) next
             where
-              by : (o : Option Placed) → ((u : Placed) → o ≡ Some u → u.lib.0 ≡ h.lib.0) → TookNext h.lib o x h.has t x' h'.has t' → Took before (turn_list o) after
+              by : (o : Option Placed) → ((u : Placed) → o ≡ Some u → u.lib.0 ≡ at + 1) → TookNext (record { 0 = at + 1 }) o x (share_in h) t x' (share_in h') t' → Took before (turn_list o) after
               by None own n = subst (Took before []) (sym (seat_same n.0 n.1 n.2)) (took_none before ready)
               by (Some u) own n =
-                  subst (λ (l : LibNo). Took before (record { lib = l; turn = u.turn } ∷ []) after) (sym (same_library u.lib h.lib (own u refl)))
-                  (seat_took u.turn n)
+                  let number : u.lib.0 ≡ (lib_in h).0 = own u refl ∙ ap (λ (l : LibNo). l.0) (sym seat_lib) in
+                  subst (λ (l : LibNo). Took before (record { lib = l; turn = u.turn } ∷ []) after) (sym (same_library u.lib (lib_in h) number))
+                  (seat_took u.turn (subst (λ (l : LibNo). TookTurn l u.turn x (share_in h) t x' (share_in h') t') (sym seat_lib) n))
 
-          pub seated_after : AreSeated libs (set raws at h') (set tolds at t')
+          pub seated_after : AreSeated libs (set all at h') (set tolds at t')
           seated_after = record {
-            numbered = map-set_same (λ (x : Held). x.lib) raws at h' h (same_lib ∙ ap (λ (x : Held). x.lib) there) ∙ seated.numbered;
+            numbers = map-set_same lib_in all at h' h (same_lib ∙ ap lib_in there) ∙ seated.numbers;
+            kinds = map-set_same is_honest all at h' h (same_kind ∙ ap is_honest there) ∙ seated.kinds;
             told_count = length-set tolds at t' ∙ seated.told_count;
           }
 
@@ -207,33 +242,29 @@ pub courses_length : (m : ℕ) (libs : List ScriptLib) → length (courses_from 
 courses_length m [] = refl
 courses_length m (l ∷ libs) = ap suc (courses_length (m + 1) libs)
 
-course_at : (m at : ℕ) (libs : List ScriptLib) (l : ScriptLib) (d : List Placed) → at < length libs → l ≡ get_or libs at l → get_or (courses_from m libs) at d ≡ course (m + at) l.lines
+course_at : (m at : ℕ) (libs : List ScriptLib) (l : ScriptLib) (d : List Placed) → at < length libs → l ≡ get_or libs at l → get_or (courses_from m libs) at d ≡ course (m + at) (line_turns l.lines)
 course_at m at [] l d lt is = absurd (omega (arith, lt))
 course_at m zero (x ∷ libs) l d lt is =
-    let n : m ≡ m + 0 = omega arith in ap (λ k. course k x.lines) n ∙ ap (λ (y : ScriptLib). course (m + 0) y.lines) (sym is)
+    let n : m ≡ m + 0 = omega arith in ap (λ k. course k (line_turns x.lines)) n ∙ ap (λ (y : ScriptLib). course (m + 0) (line_turns y.lines)) (sym is)
 course_at m (suc at) (x ∷ libs) l d lt is =
     let n : (m + 1) + at ≡ m + suc at = omega arith in
-    course_at (m + 1) at libs l d (omega (arith, lt)) is ∙ ap (λ k. course k l.lines) n
+    course_at (m + 1) at libs l d (omega (arith, lt)) is ∙ ap (λ k. course k (line_turns l.lines)) n
 
 -- the turns of a round up to one library's, and that one
-pub round_more : (k at : ℕ) (libs : List ScriptLib) (l : ScriptLib) → at < length libs → l ≡ get_or libs at l → round_of k (take (at + 1) (courses_from 1 libs)) ≡ round_of k (take at (courses_from 1 libs)) ++ turn_list (slice_get (course (at + 1) l.lines) k)
+pub round_more : (k at : ℕ) (libs : List ScriptLib) (l : ScriptLib) → at < length libs → l ≡ get_or libs at l → round_of k (take (at + 1) (courses_from 1 libs)) ≡ round_of k (take at (courses_from 1 libs)) ++ turn_list (slice_get (course (at + 1) (line_turns l.lines)) k)
 round_more k at libs l lt is =
     let courses : List (List Placed) = courses_from 1 libs in
     let n : at + 1 ≡ suc at = omega arith in
     let one : 1 + at ≡ at + 1 = omega arith in
-    let own : List Placed = course (at + 1) l.lines in
+    let own : List Placed = course (at + 1) (line_turns l.lines) in
     let turns : List Placed → List Placed = λ (c : List Placed). turn_list (slice_get c k) in
     ap (λ j. round_of k (take j courses)) n
     ∙ ap (round_of k) (take-suc courses at [] (subst (λ j. at < j) (sym (courses_length 1 libs)) lt))
-    ∙ ap (λ c. round_of k (take at courses ++ c ∷ [])) (course_at 1 at libs l [] lt is ∙ ap (λ j. course j l.lines) one)
+    ∙ ap (λ c. round_of k (take at courses ++ c ∷ [])) (course_at 1 at libs l [] lt is ∙ ap (λ j. course j (line_turns l.lines)) one)
     ∙ flat_map-append turns (take at courses) (own ∷ [])
     ∙ ap (λ x. round_of k (take at courses) ++ x) (append-nil (turns own))
 
 -- ---- a whole script
-
-tabulated-map : {X Y : Type 0} (f : X → Y) (g : ℕ → X) (n : ℕ) → map f (tabulated g n) ≡ tabulated (λ k. f (g k)) n
-tabulated-map f g zero = refl
-tabulated-map f g (suc n) = map-append f (tabulated g n) (g n ∷ []) ∙ ap (λ l. l ++ f (g n) ∷ []) (tabulated-map f g n)
 
 same_ends : {Y : Type 0} (y : Y) (n : ℕ) → y ∷ tabulated (λ k. y) n ≡ tabulated (λ k. y) n ++ y ∷ []
 same_ends y zero = refl
@@ -243,48 +274,134 @@ same_each : {X Y : Type 0} (y : Y) (xs : List X) → tabulated (λ k. y) (length
 same_each y [] = refl
 same_each y (x ∷ xs) = sym (same_ends y (length xs)) ∙ ap (λ l. y ∷ l) (same_each y xs)
 
-pub script_start : (x : Controller) (libs : List ScriptLib) → x.state ≡ start x.state.home (creds_in libs) → x.log ≡ [] → players x (tabulated idle (length libs)) (tabulated (λ k. untold) (length libs)) ≡ at_start x.state.home libs
-script_start x libs started unlogged =
-    let has : map (λ (h : Held). h.has) (tabulated idle (length libs)) ≡ map (λ l. nothing) libs =
-    tabulated-map (λ (h : Held). h.has) idle (length libs) ∙ same_each nothing libs in
-    let of : State → List Entry → List Has → List Heard → Players = λ s log hs ts. record { state = s; log = log; has = hs; told = ts } in
-    ap (λ s. of s x.log (map (λ (h : Held). h.has) (tabulated idle (length libs))) (tabulated (λ k. untold) (length libs))) started
-    ∙ ap (λ log. of (start x.state.home (creds_in libs)) log (map (λ (h : Held). h.has) (tabulated idle (length libs))) (tabulated (λ k. untold) (length libs))) unlogged
-    ∙ ap (λ hs. of (start x.state.home (creds_in libs)) [] hs (tabulated (λ k. untold) (length libs))) has
-    ∙ ap (of (start x.state.home (creds_in libs)) [] (map (λ l. nothing) libs)) (same_each untold libs)
+-- ---- new libraries
 
-nothing_each : {X : Type 0} (xs : List X) (n : ℕ) → get_or (map (λ x. nothing) xs) n nothing ≡ nothing
-nothing_each [] n = refl
-nothing_each (x ∷ xs) zero = refl
-nothing_each (x ∷ xs) (suc n) = nothing_each xs n
+new_more : (n : ℕ) (libs : List ScriptLib) (all : List Player) (l : ScriptLib) (p : Player) → AreNew n libs all → IsNew (record { 0 = n + length libs }) l p → AreNew n (libs ++ l ∷ []) (all ++ p ∷ [])
+new_more n [] [] l p a is = (let e : n + 0 ≡ n = omega arith in subst (λ m. IsNew (record { 0 = m }) l p) e is, tt)
+new_more n [] (q ∷ all) l p a is = absurd a
+new_more n (k ∷ libs) [] l p a is = absurd a
+new_more n (k ∷ libs) (q ∷ all) l p a is =
+    (a.0, new_more (n + 1) libs all l p a.1 (let e : n + suc (length libs) ≡ (n + 1) + length libs = omega arith in subst (λ m. IsNew (record { 0 = m }) l p) e is))
 
-pub script_ready : (image : Image) (libs : List ScriptLib) → Kept (start image (creds_in libs)) → IsReady (at_start image libs)
-script_ready image libs kept = record {
-  held = start_stands image libs kept;
-  on_list = λ lib is. subst (OnList (out_of (start image (creds_in libs)) lib)) (sym (nothing_each libs (lib.0 - 1))) (nothing_on_list (out_of (start image (creds_in libs)) lib));
-}
+-- the next one is made
+pub new_next : (libs : List ScriptLib) (all : List Player) (at : ℕ) (l : ScriptLib) (p : Player) → at < length libs → l ≡ get_or libs at l → AreNew 1 (take at libs) all → IsNew (record { 0 = at + 1 }) l p → AreNew 1 (take (at + 1) libs) (all ++ p ∷ [])
+new_next libs all at l p lt is a new =
+    let n : at + 1 ≡ suc at = omega arith in
+    let long : length (take at libs) ≡ at = length-take-le at libs (omega (arith, lt)) in
+    let number : at + 1 ≡ 1 + length (take at libs) = omega (arith, long) in
+    subst (λ (x : List ScriptLib). AreNew 1 x (all ++ p ∷ [])) (sym (ap (λ m. take m libs) n ∙ take-suc libs at l lt ∙ ap (λ y. take at libs ++ y ∷ []) (sym is)))
+    (new_more 1 (take at libs) all l p a (subst (λ m. IsNew (record { 0 = m }) l p) number new))
 
--- so it is once the libraries are made
-pub players_ready : (x : Controller) (libs : List ScriptLib) (raws : List Held) (tolds : List Heard) → Kept x.state → x.state ≡ start x.state.home (creds_in libs) → x.log ≡ [] → raws ≡ tabulated idle (length libs) → tolds ≡ tabulated (λ k. untold) (length libs) → IsReady (players x raws tolds)
-players_ready x libs raws tolds kept started unlogged a b =
-    subst (λ l. IsReady (players x l tolds)) (sym a)
-    (subst (λ l. IsReady (players x (tabulated idle (length libs)) l)) (sym b)
-    (subst IsReady (sym (script_start x libs started unlogged)) (script_ready x.state.home libs (subst Kept started kept))))
+new_numbers : (n : ℕ) (libs : List ScriptLib) (all : List Player) → AreNew n libs all → map lib_in all ≡ numbers_from n (length libs)
+new_numbers n [] [] a = refl
+new_numbers n [] (p ∷ all) a = absurd a
+new_numbers n (l ∷ libs) [] a = absurd a
+new_numbers n (l ∷ libs) (p ∷ all) a = ap (λ (x : LibNo). x ∷ map lib_in all) a.0.0 ∙ ap (λ x. record { 0 = n } ∷ x) (new_numbers (n + 1) libs all a.1)
 
-pub players_seated : (libs : List ScriptLib) (raws : List Held) (tolds : List Heard) → raws ≡ tabulated idle (length libs) → tolds ≡ tabulated (λ k. untold) (length libs) → AreSeated libs raws tolds
-players_seated libs raws tolds a b = record { numbered = ap (map (λ (h : Held). h.lib)) a; told_count = ap length b ∙ tabulated-length (λ k. untold) (length libs) }
+kind_begun : (lib : LibNo) (creds : Creds) (lines : Lines) (p : Player) → BeginsWith lib creds lines (share_in p) → is_honest p ≡ has_honest lines
+kind_begun lib creds (RawLines lines) (Raw raw) b = refl
+kind_begun lib creds (RawLines lines) (Honest x) b = absurd (cc b)
+kind_begun lib creds (HonestLines lines) (Honest x) b = refl
+kind_begun lib creds (HonestLines lines) (Raw raw) b = absurd (cc (b.1))
 
-pub script_played : (x : Controller) (libs : List ScriptLib) (raws : List Held) (tolds : List Heard) (x' : Controller) (raws' : List Held) (tolds' : List Heard) → x.state ≡ start x.state.home (creds_in libs) → x.log ≡ [] → raws ≡ tabulated idle (length libs) → tolds ≡ tabulated (λ k. untold) (length libs) → Took (table x raws tolds) (turns_of libs) (table x' raws' tolds') → ScriptPlayed x.state.home libs tolds' x'.state x'.log
-script_played x libs raws tolds x' raws' tolds' started unlogged a b took =
-    let begin : players x raws tolds ≡ at_start x.state.home libs =
-    ap (λ l. players x l tolds) a ∙ ap (λ l. players x (tabulated idle (length libs)) l) b ∙ script_start x libs started unlogged in
-    record {
-      played = record {
-        moves = took.moves;
-        last = players x' raws' tolds';
-        plays = subst (λ p. Plays p (turns_of libs) took.moves (players x' raws' tolds')) begin took.plays;
-      };
+new_kinds : (n : ℕ) (libs : List ScriptLib) (all : List Player) → AreNew n libs all → map is_honest all ≡ map (λ l. has_honest l.lines) libs
+new_kinds n [] [] a = refl
+new_kinds n [] (p ∷ all) a = absurd a
+new_kinds n (l ∷ libs) [] a = absurd a
+new_kinds n (l ∷ libs) (p ∷ all) a =
+    ap (λ b. b ∷ map is_honest all) (kind_begun (record { 0 = n }) l.creds l.lines p a.0.1) ∙ ap (λ x. has_honest l.lines ∷ x) (new_kinds (n + 1) libs all a.1)
+
+new_share : (n : ℕ) (libs : List ScriptLib) (all : List Player) (k : ℕ) (l : ScriptLib) → AreNew n libs all → slice_get libs k ≡ Some l → BeginsWith (record { 0 = n + k }) l.creds l.lines (get_or (map share_in all) k (Things nothing))
+new_share n [] all k l a e = absurd (cc e)
+new_share n (x ∷ libs) [] k l a e = absurd a
+new_share n (x ∷ libs) (p ∷ all) zero l a e =
+    let same : x ≡ l = cc e in
+    let m : n ≡ n + 0 = omega arith in
+    subst (λ (y : ScriptLib). BeginsWith (record { 0 = n + 0 }) y.creds y.lines (share_in p)) same
+    (subst (λ i. BeginsWith (record { 0 = i }) x.creds x.lines (share_in p)) m a.0.1)
+new_share n (x ∷ libs) (p ∷ all) (suc k) l a e =
+    let m : (n + 1) + k ≡ n + suc k = omega arith in
+    subst (λ i. BeginsWith (record { 0 = i }) l.creds l.lines (get_or (map share_in all) k (Things nothing))) m (new_share (n + 1) libs all k l a.1 e)
+
+new_length : (n : ℕ) (libs : List ScriptLib) (all : List Player) → AreNew n libs all → length all ≡ length libs
+new_length n [] [] a = refl
+new_length n [] (p ∷ all) a = absurd a
+new_length n (l ∷ libs) [] a = absurd a
+new_length n (l ∷ libs) (p ∷ all) a = ap suc (new_length (n + 1) libs all a.1)
+
+-- ---- a script begins
+
+module _ (x : Controller) (libs : List ScriptLib) (all : List Player) (tolds : List Heard) (new : AreNew 1 libs all) (none : tolds ≡ tabulated (λ k. untold) (length libs)) where
+  pub players_seated : AreSeated libs all tolds
+  players_seated = record {
+    numbers = new_numbers 1 libs all new;
+    kinds = new_kinds 1 libs all new;
+    told_count = ap length none ∙ tabulated-length (λ k. untold) (length libs);
+  }
+
+  module _ (started : x.state ≡ start x.state.home (creds_in libs)) (unlogged : x.log ≡ []) where
+    script_start : AtStart x.state.home libs (players x all tolds)
+    script_start = record {
+      state = started;
+      log = unlogged;
+      places = length-map all share_in ∙ new_length 1 libs all new;
+      begins = λ lib l is.
+          let low : 1 ≤ lib.0 = is.0 in
+          let number : 1 + (lib.0 - 1) ≡ lib.0 = omega (arith, low) in
+          subst (λ n. BeginsWith (record { 0 = n }) l.creds l.lines (share_of (players x all tolds) lib)) number (new_share 1 libs all (lib.0 - 1) l new is.1);
+      told = none ∙ same_each untold libs;
+    }
+
+    begun_goes : (lib : LibNo) (own : Creds) (lines : Lines) (share : Share) → BeginsWith lib own lines share → HoldsAll x.state lib share → GoesOn x.state lib share
+    begun_goes lib own (RawLines lines) share b h = subst (GoesOn x.state lib) (sym b) (nothing_on_list (out_of x.state lib))
+    begun_goes lib own (HonestLines lines) share b h = subst (GoesOn x.state lib) (sym b.1) (subst (HoldsAll x.state lib) b.1 h)
+
+    pub players_ready : Kept x.state → IsReady (players x all tolds)
+    players_ready kept =
+        let held : IsHeld (players x all tolds) = start_stands x.state.home libs (players x all tolds) script_start (subst Kept started kept) in
+        record {
+          held = held;
+          goes = λ lib is.
+              let l = script_library x.state.home libs lib (subst (λ s. IsLibrary lib s) started is) in
+              begun_goes lib l.0.creds l.0.lines (share_of (players x all tolds) lib) (script_start.begins lib l.0 l.1) (held.all lib is);
+        }
+
+    pub script_played : (x' : Controller) (all' : List Player) (tolds' : List Heard) → Took (table x all tolds) (turns_of libs) (table x' all' tolds') → ScriptPlayed x.state.home libs tolds' x'.state x'.log
+    script_played x' all' tolds' took = record {
+      played = record { first = players x all tolds; begins = script_start; moves = took.moves; last = players x' all' tolds'; plays = took.plays };
       told = refl;
       last = refl;
       log_is = refl;
     }
+
+-- ---- what is built
+
+-- each library of a script that is built is
+pub built_at : (libs : List ScriptLib) (at : ℕ) (l : ScriptLib) → at < length libs → l ≡ get_or libs at l → unbuilt_line libs ≡ None → unbuilt_in l.lines ≡ None
+built_at [] at l lt is e = absurd (omega (arith, lt))
+built_at (x ∷ libs) zero l lt is e = ap (λ (y : ScriptLib). unbuilt_in y.lines) is ∙ none_first (unbuilt_in x.lines) (unbuilt_line libs) e
+  where
+    none_first : (a b : Option ℕ) → option_or a b ≡ None → a ≡ None
+    none_first None b e = refl
+    none_first (Some n) b e = absurd (cc e)
+built_at (x ∷ libs) (suc at) l lt is e = built_at libs at l (omega (arith, lt)) is (none_later (unbuilt_in x.lines) (unbuilt_line libs) e)
+  where
+    none_later : (a b : Option ℕ) → option_or a b ≡ None → b ≡ None
+    none_later None b e = e
+    none_later (Some n) b e = absurd (cc e)
+
+-- each line of a library that is built is
+pub line_built : (lines : List (ScriptLine HonestLine)) (at : ℕ) (line : ScriptLine HonestLine) → slice_get lines at ≡ Some line → unbuilt_in (HonestLines lines) ≡ None → is_built line.line ≡ true
+line_built [] at line e none = absurd (cc e)
+line_built (l ∷ lines) zero line e none =
+    let same : l ≡ line = cc e in
+    subst (λ (x : ScriptLine HonestLine). is_built x.line ≡ true) same (first (is_built l.line) none)
+  where
+    first : (b : Bool) → option_map (λ (x : ScriptLine HonestLine). x.number) (cond (not b) (Some l) (find (λ (x : ScriptLine HonestLine). not (is_built x.line)) lines)) ≡ None → b ≡ true
+    first true e = refl
+    first false e = absurd (cc e)
+line_built (l ∷ lines) (suc at) line e none = line_built lines at line e (later (is_built l.line) none)
+  where
+    later : (b : Bool) → option_map (λ (x : ScriptLine HonestLine). x.number) (cond (not b) (Some l) (find (λ (x : ScriptLine HonestLine). not (is_built x.line)) lines)) ≡ None → unbuilt_in (HonestLines lines) ≡ None
+    later true e = e
+    later false e = absurd (cc e)

@@ -1,21 +1,29 @@
 -- The log of a script: which entries its moves make, and which of a library's entries its answers print.
-use Rattle.std.specs.Prelude.{◌≡◌, ◌==◌, ⊤, Bool, true, false, List, [], ◌∷◌, ◌++◌, length, map, Option, Some, None, Ok, Err}
-use Rattle.std.specs.List.{filter, AllByRecursion}
+use Rattle.std.specs.Prelude.{◌≡◌, ◌==◌, ⊤, ℕ, Bool, true, false, List, [], ◌∷◌, ◌++◌, length, map, Option, Some, None, Ok, Err}
+use Rattle.std.specs.List.{filter, filter_map, flat_map, AllByRecursion}
 use Rattle.trio_rights.specs.declared.rights.LibNo.{LibNo}
 use Rattle.trio_nodes.specs.declared.entry.GrantAnswer.TheVariants.{Granted, Refused as NotGranted}
 use Rattle.trio_nodes.specs.declared.entry.AllotAnswer.TheVariants.{Given, Refused as NotGiven}
+use Rattle.trio_nodes.specs.declared.call.Done.{Done}
+use Rattle.trio_nodes.specs.declared.call.Reply.{Reply}
 use Rattle.trio_nodes.specs.declared.entry.Entry.{Entry}
+use Rattle.trio_nodes.specs.declared.entry.Handed.{Handed}
 use Rattle.trio_nodes.specs.declared.entry.Entry.TheVariants.{Grant, Allot, Back, Raw, Batch, Mode}
 use Rattle.trio_desk.specs.Call.{Ask, Told}
 use Rattle.trio_state.specs.Run.{Move}
 use Rattle.trio_laws.specs.Laws.{library_of}
 use Rattle.trio_laws.specs.history.Entries.{event_of as event_told}
 use Rattle.trio_ctl.specs.Desk.{event_of, answer_of, entries_told}
+use Rattle.trio_script.specs.declared.Lines.{Lines}
+use Rattle.trio_script.specs.declared.Lines.TheVariants.{Raw as RawLines, Honest as HonestLines}
+use Rattle.trio_script.specs.declared.line.RawLine.{RawLine}
 use Rattle.trio_script.specs.declared.ScriptLine.{ScriptLine}
+use Rattle.trio_script.specs.declared.honest.HonestLine.{HonestLine}
+use Rattle.trio_script.specs.declared.honest.HonestLine.TheVariants.{Call as CallLine, Settle as SettleLine}
 use Rattle.trio_report.specs.declared.answer.LineAnswer.{LineAnswer}
 use Rattle.trio_report.specs.declared.answer.LineAnswer.TheVariants as answered
 use Rattle.trio_report.specs.declared.report.EndAnswer.{EndAnswer}
-use Rattle.trio_report.specs.declared.report.EndAnswer.TheVariants.{Nothing}
+use Rattle.trio_report.specs.declared.report.EndAnswer.TheVariants.{Nothing, Settled as EndSettled}
 use Rattle.trio_runner.specs.Line.{told_grant, told_fault, told_want, told_verdict, told_unmoded, end_of}
 use Rattle.trio_runner.specs.Play.{Heard}
 
@@ -78,10 +86,10 @@ abbrev pub IsBack : Entry → Type 0
 IsBack (Back lib ino) = ⊤
 IsBack _ = ⊥
 
--- Each line of a library was answered, and its end, and the answers print its entries, each once and in their order. First come
+-- Each line of a raw library was answered, and its end, and the answers print its entries, each once and in their order. First come
 -- the entries of its lines: what they print is the answers, without those that have no entry. Then come the read leases that its
 -- end gave back, which nothing prints, and last the release of its end, if it had anything else: what that prints is the end's answer.
-pub record Prints (lines : List ScriptLine) (heard : Heard) (entries : List Entry) : Type 0 where
+pub record RawPrints (lines : List (ScriptLine RawLine)) (heard : Heard) (entries : List Entry) : Type 0 where
   pub each : length heard.answers ≡ length lines
   pub end : EndAnswer
   pub end_is : heard.end ≡ Some end
@@ -92,3 +100,56 @@ pub record Prints (lines : List ScriptLine) (heard : Heard) (entries : List Entr
   pub lines_print : map printed of_lines ≡ map Some (filter has_entry heard.answers)
   pub backs : AllByRecursion IsBack of_backs
   pub end_prints : map end_printed of_end ≡ map Some (end_with_entry end)
+
+-- ---- an honest library
+
+-- the replies of the calls that an entry tells
+abbrev pub replies_in : Entry → List Reply
+replies_in (Batch lib calls handed) = map (λ d. d.reply) calls
+replies_in _ = []
+
+-- the reply that an answer is: all are, but Busy and the count of a settle
+abbrev pub reply_told : LineAnswer → Option Reply
+reply_told (answered.Replied reply) = Some reply
+reply_told _ = None
+
+-- the entries of a settle of so many calls: those of the read leases that are given back, and then its batch
+pub record IsSettle (count : ℕ) (entries : List Entry) : Type 0 where
+  pub of_backs : List Entry
+  pub backs : AllByRecursion IsBack of_backs
+  pub lib : LibNo
+  pub calls : List Done
+  pub handed : Handed
+  pub entries_are : entries ≡ of_backs ++ Batch lib calls handed ∷ []
+  pub counts : count ≡ length calls
+
+-- the entries of a line: those of a settle are a settle of as many calls as it was told
+abbrev pub LineMakes : HonestLine → LineAnswer → List Entry → Type 0
+LineMakes (CallLine call) told entries = ⊤
+LineMakes SettleLine (answered.Settled count) entries = IsSettle count entries
+LineMakes SettleLine told entries = ⊥
+
+-- the entries of lines that were answered so, one after another
+abbrev pub LinesMake : List (ScriptLine HonestLine) → List LineAnswer → List Entry → Type 0
+LinesMake [] [] entries = entries ≡ []
+LinesMake (line ∷ lines) (told ∷ answers) entries =
+    (own : List Entry) × (others : List Entry) × LineMakes line.line told own × LinesMake lines answers others × (entries ≡ own ++ others)
+LinesMake [] (told ∷ answers) entries = ⊥
+LinesMake (line ∷ lines) [] entries = ⊥
+
+-- Each line of an honest library was answered, and its end. The answers but Busy and the counts are the replies of the calls that
+-- its entries tell, each once and in their order. And each count, that of the end too, is that of the calls of its settle.
+pub record HonestPrints (lines : List (ScriptLine HonestLine)) (heard : Heard) (entries : List Entry) : Type 0 where
+  pub count : ℕ
+  pub end_is : heard.end ≡ Some (EndSettled count)
+  pub of_lines : List Entry
+  pub of_end : List Entry
+  pub entries_are : entries ≡ of_lines ++ of_end
+  pub replies : flat_map replies_in entries ≡ filter_map reply_told heard.answers
+  pub lines_make : LinesMake lines heard.answers of_lines
+  pub end_makes : IsSettle count of_end
+
+-- what a library was told prints its entries, by the kind of its lines
+abbrev pub Prints : Lines → Heard → List Entry → Type 0
+Prints (RawLines lines) heard entries = RawPrints lines heard entries
+Prints (HonestLines lines) heard entries = HonestPrints lines heard entries

@@ -1,12 +1,14 @@
--- The laws of scripts: what they come to is a run of the controller, at whose end nothing is out, and it is determined; the log is
--- the entries of that run, which the answers print.
-use Rattle.std.specs.Prelude.{◌≡◌, List, [], ◌∷◌, ◌++◌}
+-- The laws of scripts: what they come to is a run of the controller, at whose end nothing is out, and, where all libraries are raw, it
+-- is determined; the log is the entries of that run, which the answers print.
+use Rattle.std.specs.Prelude.{◌≡◌, ⊤, List, [], ◌∷◌, ◌++◌}
 use Rattle.trio_tables.specs.Out.{NoneOut}
 use Rattle.trio_rights.specs.declared.rights.LibNo.{LibNo}
 use Rattle.trio_layout.specs.Image.{Image, IsFit}
 use Rattle.trio_layout.specs.Verifies.{Verifies}
 use Rattle.trio_state.specs.State.{State, settled}
 use Rattle.trio_state.specs.Run.{start, IsWhole, Trace, Move}
+use Rattle.trio_script.specs.declared.Lines.{Lines}
+use Rattle.trio_script.specs.declared.Lines.TheVariants.{Raw, Honest}
 use Rattle.trio_script.specs.declared.ScriptLib.{ScriptLib}
 use Rattle.trio_runner.specs.Rounds.{Placed}
 use Rattle.trio_runner.specs.Play.{IsLibraryOf, Players, TakesTurn, Plays, Played, creds_in, told_to}
@@ -39,11 +41,21 @@ pub record ComeToOne {image : Image} {libs : List ScriptLib} (a b : Played image
   pub tolds : a.last.told ≡ b.last.told
   pub settles : settled a.last.state ≡ settled b.last.state
 
--- what a script is told, and the image at its end, are determined by the image at its beginning and the script
+-- lines of a raw library
+abbrev pub IsRaw : Lines → Type 0
+IsRaw (Raw lines) = ⊤
+IsRaw (Honest lines) = ⊥
+
+-- a script of raw libraries alone
+abbrev pub AllRaw : List ScriptLib → Type 0
+AllRaw libs = (lib : LibNo) (l : ScriptLib) → IsLibraryOf libs lib l → IsRaw l.lines
+
+-- of scripts of raw libraries alone: what such a script is told, and the image at its end, are determined by the image at its
+-- beginning and the script
 abbrev pub PlayedIsOne : Type 0
 PlayedIsOne =
     (image : Image) (libs : List ScriptLib) (a b : Played image libs)
-    → IsFit image.core → Verifies image → IsWhole image → ComeToOne a b
+    → AllRaw libs → IsFit image.core → Verifies image → IsWhole image → ComeToOne a b
 
 -- the log of a script is the entries of its moves, in their order
 abbrev pub PlayedIsLogged : Type 0

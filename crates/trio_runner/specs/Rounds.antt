@@ -2,12 +2,17 @@
 use Rattle.std.specs.Prelude.{ℕ, zero, suc, ◌+◌, max, List, [], ◌∷◌, ◌++◌, length, map, Option, None, Some, slice_get}
 use Rattle.std.specs.List.{flat_map}
 use Rattle.trio_rights.specs.declared.rights.LibNo.{LibNo}
+use Rattle.trio_script.specs.declared.Lines.{Lines}
+use Rattle.trio_script.specs.declared.Lines.TheVariants.{Raw, Honest}
+use Rattle.trio_script.specs.declared.line.RawLine.{RawLine}
 use Rattle.trio_script.specs.declared.ScriptLine.{ScriptLine}
+use Rattle.trio_script.specs.declared.honest.HonestLine.{HonestLine}
 use Rattle.trio_script.specs.declared.ScriptLib.{ScriptLib}
 
--- a turn of a library: its next line, or its end
+-- a turn of a library: its next line, of a raw or of an honest library, or its end
 pub data Turn : Type 0 where
-  Says : (line : ScriptLine) → Turn
+  Says : (line : ScriptLine RawLine) → Turn
+  SaysHonest : (line : ScriptLine HonestLine) → Turn
   Ends : Turn
 
 -- a turn, and whose it is
@@ -19,14 +24,19 @@ pub record Placed : Type 0 where
 abbrev pub placed : ℕ → Turn → Placed
 placed n t = record { lib = record { 0 = n }; turn = t }
 
+-- the turns of lines
+abbrev pub line_turns : Lines → List Turn
+line_turns (Raw lines) = map Says lines
+line_turns (Honest lines) = map SaysHonest lines
+
 -- the course of a library: its lines, and then its end
-abbrev pub course : ℕ → List ScriptLine → List Placed
-course n lines = map (λ line. placed n (Says line)) lines ++ placed n Ends ∷ []
+abbrev pub course : ℕ → List Turn → List Placed
+course n turns = map (placed n) turns ++ placed n Ends ∷ []
 
 -- the courses of libraries, of which the first has this number
 abbrev pub courses_from : ℕ → List ScriptLib → List (List Placed)
 courses_from n [] = []
-courses_from n (l ∷ libs) = course n l.lines ∷ courses_from (n + 1) libs
+courses_from n (l ∷ libs) = course n (line_turns l.lines) ∷ courses_from (n + 1) libs
 
 -- a turn, where there is one
 abbrev pub turn_list : Option Placed → List Placed

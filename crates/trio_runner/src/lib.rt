@@ -1,16 +1,22 @@
 //! Scripts, played: the lines of up to sixteen libraries on one controller, in rounds ([`play`]).
 //!
 //! In a round each library in turn plays its next line, or its end where none is left. A line is
-//! played at the library's desk, whatever desk that is; what it comes to is said in
-//! `specs/Line.antt`, the order of the turns in `specs/Rounds.antt`, and the whole in
+//! played at the library's desk, whatever desk that is: a raw library's as it stands, and an honest
+//! one's by the library's session. What they come to is said in `specs/Line.antt` and
+//! `specs/Honest.antt`, the order of the turns in `specs/Rounds.antt`, and the whole in
 //! `specs/Play.antt`. [`laws`] says that it is a run of the controller, at whose end nothing is out, and
 //! that the controller's log is the entries of that run, which the answers print (`specs/Logged.antt`).
 #![tactic(auto)]
 
+mod built;
+mod copies;
+mod honest;
 pub mod laws;
 mod player;
+mod players;
 mod rounds;
 #[cfg(test)]
 mod tests;
 
+pub use built::unbuilt_line;
 pub use rounds::{LibTold, play};

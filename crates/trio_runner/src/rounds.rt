@@ -1,19 +1,23 @@
 //! The libraries of a script, in rounds on one controller.
 
-ghost use Rattle.std.specs.Prelude.{◌≡◌, ◌≤◌, ◌++◌, ◌∷◌, [], IfOk, OnOk, Some, length, slice_get};
+ghost use Rattle.std.specs.Prelude.{◌≡◌, ◌<◌, ◌≤◌, ◌++◌, ◌∷◌, [], true, IfOk, OnOk, None, Some, length, slice_get};
 ghost use Rattle.trio_lists.specs.Lists.{tabulated};
 ghost use Rattle.trio_desk.specs.Out.{IsClosed};
 ghost use Rattle.trio_state.specs.Kept.{Kept};
 ghost use Rattle.trio_state.specs.Run.{start};
 ghost use Rattle.trio_ctl.specs.Ctl.{IsLibrary};
-ghost use Rattle.trio_ctl.specs.Desk.{out_of};
+ghost use Rattle.trio_ctl.specs.Desk.{desk_of, out_of};
 ghost use Rattle.trio_raw.specs.Has.{OnList, whole_parcel};
-ghost use Rattle.trio_runner.specs.Play.{creds_in, untold};
-ghost use Rattle.trio_runner.specs.Rounds.{Ends, Says, course, courses_from, longest, round_of, turns_of};
+ghost use Rattle.trio_edit_laws.specs.Calls.{MayCall};
+ghost use Rattle.trio_runner.specs.Built.{is_built, unbuilt_in, unbuilt_line};
+ghost use Rattle.trio_runner.specs.Play.{InSession, Things, creds_in, untold, with_answer, with_end};
+ghost use Rattle.trio_runner.specs.Rounds.{Ends, Says, SaysHonest, course, courses_from, line_turns, longest, round_of, turns_of};
 ghost use Rattle.trio_runner.specs.Seen.{ScriptPlayed};
-ghost use Rattle.trio_runner.specs.inner.Ready.{AreSeated, IsReady, Took, TookNext, TookTurn, idle, players, table};
+ghost use Rattle.trio_runner.specs.inner.Ready.{AreSeated, GoesOn, HasClosed, IsReady, Took, TookNext, TookTurn, has_honest, is_honest, lib_in, players, share_in, table};
 
+use crate::honest::{play_honest, play_settle};
 use crate::player::{play_end, play_line};
+use crate::players::{Player, discard_all, new_players};
 use std::alloc::Global;
 use std::marker::Model;
 use std::mem;
@@ -22,7 +26,8 @@ use trio_page::NoMemory;
 use trio_raw::Raw;
 use trio_report::{EndAnswer, LineAnswer};
 use trio_rights::LibNo;
-use trio_script::{ScriptLib, ScriptLine};
+use trio_script::{HonestLine, Lines, RawLine, ScriptLib, ScriptLine};
+use trio_session::Session;
 
 /// What a library of a script was told: the answers to its lines, in their order, and what its end
 /// was answered, once it has come.
@@ -67,7 +72,7 @@ impl LibTold {
 
     /// One more line is answered.
     fn hears(&mut self, answer: LineAnswer) -> Result<(), NoMemory>
-        ensures { OnOk result (self.new ≡ record self.old { answers = self.old.answers ++ answer ∷ [] }) }
+        ensures { OnOk result (self.new ≡ with_answer self.old answer) }
     {
         self.answers.push(answer)?;
         Ok(())
@@ -75,7 +80,7 @@ impl LibTold {
 
     /// The end is answered.
     fn hears_end(&mut self, answer: EndAnswer)
-        ensures { self.new ≡ record self.old { end = Some answer } }
+        ensures { self.new ≡ with_end self.old answer }
     {
         self.end = Some(answer);
     }
@@ -86,19 +91,22 @@ impl LibTold {
 /// Returns what each library was told, in the order of the libraries. The controller's log is then
 /// the entries of all that was asked, in its order.
 ///
-/// On want of memory what the libraries had stays out for good.
+/// Of honest libraries it plays settles and calls of files; [`unbuilt_line`](crate::unbuilt_line)
+/// tells whether a script has other lines. On want of memory what the libraries had stays out for
+/// good.
 pub fn play(alloc: Global, ctl: &mut Ctl, libs: &[ScriptLib]) -> Result<Vec<LibTold>, NoMemory>
     requires kept { Kept ctl.old.state }
     requires started { ctl.old.state ≡ start ctl.old.state.home (creds_in libs.now) }
     requires unlogged { ctl.old.log ≡ [] }
     requires few { length libs.now ≤ 16 }
+    requires built { unbuilt_line libs.now ≡ None }
     ensures script { IfOk result (λ tolds. ScriptPlayed ctl.old.state.home libs.now tolds.items ctl.new.state ctl.new.log) }
     ensures first { OnOk result (ctl.new.first ≡ ctl.old.first) }
 {
     let mut tolds = none_told(alloc, libs.len())?;
-    let mut raws = idle_libraries(alloc, libs.len())?;
-    let played = play_rounds(alloc, ctl, libs, &mut raws, &mut tolds);
-    discard_all(raws);
+    let mut all = new_players(alloc, libs)?;
+    let played = play_rounds(alloc, ctl, libs, &mut all, &mut tolds);
+    discard_all(all);
     played?;
     Ok(tolds)
 }
@@ -114,44 +122,22 @@ fn none_told(alloc: Global, count: usize) -> Result<Vec<LibTold>, NoMemory>
     Ok(tolds)
 }
 
-/// So many libraries that have nothing yet, numbered from 1.
-fn idle_libraries(alloc: Global, count: usize) -> Result<Vec<Raw>, NoMemory>
-    requires { count ≤ 16 }
-    ensures { IfOk result (λ raws. raws.items ≡ tabulated idle count) }
-{
-    let mut raws = Vec::new(alloc);
-    if raws.reserve(count).is_err() {
-        raws.destroy_empty();
-        return Err(NoMemory);
-    }
-    for n in 0..count {
-        raws.push_reserved(Raw::new(alloc, LibNo(n as u32 + 1)));
-    }
-    Ok(raws)
-}
-
-/// Lets all that libraries have go.
-fn discard_all(mut raws: Vec<Raw>) {
-    while let Some(raw) = raws.pop() {
-        raw.discard();
-    }
-    raws.destroy_empty();
-}
-
 /// Plays all rounds: one more than the longest library has lines.
 fn play_rounds(
     alloc: Global,
     ctl: &mut Ctl,
     libs: &[ScriptLib],
-    raws: &mut Vec<Raw>,
+    all: &mut Vec<Player>,
     tolds: &mut Vec<LibTold>,
 ) -> Result<(), NoMemory>
-    requires ready { IsReady (players ctl.old raws.old.items tolds.old.items) }
-    requires seated { AreSeated libs.now raws.old.items tolds.old.items }
-    ensures { OnOk result (Took (table ctl.old raws.old.items tolds.old.items) (turns_of libs.now) (table ctl.new raws.new.items tolds.new.items)) }
+    requires few { length libs.now ≤ 16 }
+    requires built { unbuilt_line libs.now ≡ None }
+    requires ready { IsReady (players ctl.old all.old.items tolds.old.items) }
+    requires seated { AreSeated libs.now all.old.items tolds.old.items }
+    ensures { OnOk result (Took (table ctl.old all.old.items tolds.old.items) (turns_of libs.now) (table ctl.new all.new.items tolds.new.items)) }
 {
     for round in 0..round_count(libs) {
-        play_round(alloc, ctl, libs, round, raws, tolds)?;
+        play_round(alloc, ctl, libs, round, all, tolds)?;
     }
     Ok(())
 }
@@ -162,9 +148,19 @@ fn round_count(libs: &[ScriptLib]) -> usize
 {
     let mut count = 0;
     for lib in libs {
-        count = count.max(lib.lines.as_slice().len() + 1);
+        count = count.max(line_count(&lib.lines) + 1);
     }
     count
+}
+
+fn line_count(lines: &Lines) -> usize
+    ensures count { result ≡ length (line_turns lines.now) }
+    ensures few { result < 18446744073709551615 }
+{
+    match lines {
+        Lines::Raw(lines) => lines.as_slice().len(),
+        Lines::Honest(lines) => lines.as_slice().len(),
+    }
 }
 
 /// Plays one round, counted from 0.
@@ -173,17 +169,20 @@ fn play_round(
     ctl: &mut Ctl,
     libs: &[ScriptLib],
     round: usize,
-    raws: &mut Vec<Raw>,
+    all: &mut Vec<Player>,
     tolds: &mut Vec<LibTold>,
 ) -> Result<(), NoMemory>
-    requires ready { IsReady (players ctl.old raws.old.items tolds.old.items) }
-    requires seated { AreSeated libs.now raws.old.items tolds.old.items }
-    ensures took { OnOk result (Took (table ctl.old raws.old.items tolds.old.items) (round_of round (courses_from 1 libs.now)) (table ctl.new raws.new.items tolds.new.items)) }
-    ensures seated { OnOk result (AreSeated libs.now raws.new.items tolds.new.items) }
+    requires few { length libs.now ≤ 16 }
+    requires built { unbuilt_line libs.now ≡ None }
+    requires ready { IsReady (players ctl.old all.old.items tolds.old.items) }
+    requires seated { AreSeated libs.now all.old.items tolds.old.items }
+    ensures took { OnOk result (Took (table ctl.old all.old.items tolds.old.items) (round_of round (courses_from 1 libs.now)) (table ctl.new all.new.items tolds.new.items)) }
+    ensures seated { OnOk result (AreSeated libs.now all.new.items tolds.new.items) }
 {
     for at in 0..libs.len() {
-        let lines = libs[at].lines.as_slice();
-        play_turn(alloc, ctl, lines, round, &mut raws[at], &mut tolds[at])?;
+        let lines = &libs[at].lines;
+        let lib = LibNo(at as u32 + 1);
+        play_turn(alloc, ctl, lib, lines, round, &mut all[at], &mut tolds[at])?;
     }
     Ok(())
 }
@@ -193,7 +192,50 @@ fn play_round(
 fn play_turn(
     alloc: Global,
     ctl: &mut Ctl,
-    lines: &[ScriptLine],
+    lib: LibNo,
+    lines: &Lines,
+    round: usize,
+    player: &mut Player,
+    told: &mut LibTold,
+) -> Result<(), NoMemory>
+    requires lib { lib_in player.old ≡ lib }
+    requires kind { is_honest player.old ≡ has_honest lines.now }
+    requires built { unbuilt_in lines.now ≡ None }
+    requires library { IsLibrary lib ctl.old.state }
+    requires goes { GoesOn ctl.old.state lib (share_in player.old) }
+    requires closed { HasClosed ctl.old.state lib (share_in player.old) }
+    ensures turn { OnOk result (TookNext lib (slice_get (course lib.0 (line_turns lines.now)) round)
+        ctl.old (share_in player.old) told.old ctl.new (share_in player.new) told.new) }
+    ensures lib { OnOk result (lib_in player.new ≡ lib) }
+    ensures same_kind { OnOk result (is_honest player.new ≡ is_honest player.old) }
+{
+    match (lines, player) {
+        (Lines::Raw(lines), Player::Raw(raw)) => raw_turn(
+            alloc,
+            ctl,
+            lines.as_slice(),
+            round,
+            raw,
+            told,
+        ),
+        (Lines::Honest(lines), Player::Honest(session)) => honest_turn(
+            alloc,
+            ctl,
+            lib,
+            lines.as_slice(),
+            round,
+            session,
+            told,
+        ),
+        _ => unreachable!(),
+    }
+}
+
+/// Plays a raw library's turn of a round.
+fn raw_turn(
+    alloc: Global,
+    ctl: &mut Ctl,
+    lines: &[ScriptLine<RawLine>],
     round: usize,
     raw: &mut Raw,
     told: &mut LibTold,
@@ -201,7 +243,8 @@ fn play_turn(
     requires library { IsLibrary raw.old.lib ctl.old.state }
     requires stands { OnList (out_of ctl.old.state raw.old.lib) raw.old.has }
     requires closed { IsClosed (out_of ctl.old.state raw.old.lib) (whole_parcel raw.old.has) }
-    ensures turn { OnOk result (TookNext raw.old.lib (slice_get (course raw.old.lib.0 lines.now) round) ctl.old raw.old.has told.old ctl.new raw.new.has told.new) }
+    ensures turn { OnOk result (TookNext raw.old.lib (slice_get (course raw.old.lib.0 (line_turns (Lines.Raw lines.now))) round)
+        ctl.old (Things raw.old.has) told.old ctl.new (Things raw.new.has) told.new) }
     ensures lib { raw.new.lib ≡ raw.old.lib }
 {
     match lines.get(round) {
@@ -221,12 +264,12 @@ fn take_line(
     alloc: Global,
     ctl: &mut Ctl,
     raw: &mut Raw,
-    line: &ScriptLine,
+    line: &ScriptLine<RawLine>,
     told: &mut LibTold,
 ) -> Result<(), NoMemory>
     requires library { IsLibrary raw.old.lib ctl.old.state }
     requires stands { OnList (out_of ctl.old.state raw.old.lib) raw.old.has }
-    ensures turn { OnOk result (TookTurn raw.old.lib (Says line.now) ctl.old raw.old.has told.old ctl.new raw.new.has told.new) }
+    ensures turn { OnOk result (TookTurn raw.old.lib (Says line.now) ctl.old (Things raw.old.has) told.old ctl.new (Things raw.new.has) told.new) }
     ensures lib { raw.new.lib ≡ raw.old.lib }
 {
     let mut desk = PlainDesk::of(ctl, raw.lib());
@@ -239,7 +282,7 @@ fn take_end(alloc: Global, ctl: &mut Ctl, raw: &mut Raw, told: &mut LibTold) -> 
     requires library { IsLibrary raw.old.lib ctl.old.state }
     requires stands { OnList (out_of ctl.old.state raw.old.lib) raw.old.has }
     requires closed { IsClosed (out_of ctl.old.state raw.old.lib) (whole_parcel raw.old.has) }
-    ensures turn { OnOk result (TookTurn raw.old.lib Ends ctl.old raw.old.has told.old ctl.new raw.new.has told.new) }
+    ensures turn { OnOk result (TookTurn raw.old.lib Ends ctl.old (Things raw.old.has) told.old ctl.new (Things raw.new.has) told.new) }
     ensures lib { raw.new.lib ≡ raw.old.lib }
 {
     let lib = raw.lib();
@@ -247,5 +290,75 @@ fn take_end(alloc: Global, ctl: &mut Ctl, raw: &mut Raw, told: &mut LibTold) -> 
     let ending = mem::replace(raw, Raw::new(alloc, lib));
     let answer = play_end(&mut desk, ending)?;
     told.hears_end(answer);
+    Ok(())
+}
+
+/// Plays an honest library's turn of a round.
+fn honest_turn(
+    alloc: Global,
+    ctl: &mut Ctl,
+    lib: LibNo,
+    lines: &[ScriptLine<HonestLine>],
+    round: usize,
+    session: &mut Session,
+    told: &mut LibTold,
+) -> Result<(), NoMemory>
+    requires built { unbuilt_in (Lines.Honest lines.now) ≡ None }
+    requires lib { session.old.lib ≡ lib }
+    requires library { IsLibrary lib ctl.old.state }
+    requires may { MayCall (desk_of ctl.old.state lib) session.old }
+    ensures turn { OnOk result (TookNext lib (slice_get (course lib.0 (line_turns (Lines.Honest lines.now))) round)
+        ctl.old (InSession session.old) told.old ctl.new (InSession session.new) told.new) }
+    ensures lib { OnOk result (session.new.lib ≡ lib) }
+{
+    match lines.get(round) {
+        Some(line) => take_call(alloc, ctl, lib, session, line, told),
+        None => {
+            if round == lines.len() {
+                take_settle(ctl, lib, session, told)
+            } else {
+                Ok(())
+            }
+        }
+    }
+}
+
+/// Plays a line of an honest library, and keeps its answer.
+fn take_call(
+    alloc: Global,
+    ctl: &mut Ctl,
+    lib: LibNo,
+    session: &mut Session,
+    line: &ScriptLine<HonestLine>,
+    told: &mut LibTold,
+) -> Result<(), NoMemory>
+    requires built { is_built line.now.line ≡ true }
+    requires lib { session.old.lib ≡ lib }
+    requires library { IsLibrary lib ctl.old.state }
+    requires may { MayCall (desk_of ctl.old.state lib) session.old }
+    ensures turn { OnOk result (TookTurn lib (SaysHonest line.now) ctl.old (InSession session.old) told.old ctl.new (InSession session.new) told.new) }
+    ensures lib { OnOk result (session.new.lib ≡ lib) }
+{
+    let mut desk = PlainDesk::of(ctl, lib);
+    let answer = play_honest(alloc, &mut desk, session, &line.line)?;
+    told.hears(answer)
+}
+
+/// Ends an honest library by a settle, and keeps the answer.
+fn take_settle(
+    ctl: &mut Ctl,
+    lib: LibNo,
+    session: &mut Session,
+    told: &mut LibTold,
+) -> Result<(), NoMemory>
+    requires lib { session.old.lib ≡ lib }
+    requires library { IsLibrary lib ctl.old.state }
+    requires may { MayCall (desk_of ctl.old.state lib) session.old }
+    ensures turn { OnOk result (TookTurn lib Ends ctl.old (InSession session.old) told.old ctl.new (InSession session.new) told.new) }
+    ensures lib { OnOk result (session.new.lib ≡ lib) }
+{
+    let mut desk = PlainDesk::of(ctl, lib);
+    let count = play_settle(&mut desk, session)?;
+    told.hears_end(EndAnswer::Settled(count));
     Ok(())
 }

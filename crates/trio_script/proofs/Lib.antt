@@ -1,5 +1,7 @@
+pub mod Cuts
+pub mod Escapes
 pub mod Forms
 pub mod Libraries
-pub mod Lines
 pub mod Numbers
 pub mod Numerals
+pub mod Paths

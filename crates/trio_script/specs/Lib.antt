@@ -1,4 +1,6 @@
 pub mod Script
 pub mod Said
+pub mod Honest
 pub mod Words
+pub mod Laws
 pub mod inner

@@ -1,27 +1,35 @@
--- What a line says, as its words.
+-- What a library's line and the lines of a raw library say, as their words.
 use Rattle.std.specs.Prelude.{ℕ, nat_le, ◌&&◌, List, [], ◌∷◌, Option, None, Some, if◌then◌else◌, codes}
 use Rattle.std.specs.Str.{bytes_eq}
 use Rattle.trio_nodes.specs.declared.grant.GrantKind.{GrantKind}
 use Rattle.trio_nodes.specs.declared.grant.GrantKind.TheVariants.{Read, Write, Hold}
 use Rattle.trio_nodes.specs.declared.spot.Spot.{Spot}
 use Rattle.trio_nodes.specs.declared.spot.Spot.TheVariants.{Body, Index, Block, Fresh}
+use Rattle.trio_script.specs.declared.library.LibKind.{LibKind}
+use Rattle.trio_script.specs.declared.library.LibKind.TheVariants.{Raw as RawKind, Honest as HonestKind}
 use Rattle.trio_script.specs.declared.library.LibLine.{LibLine}
 use Rattle.trio_script.specs.declared.line.RawLine.{RawLine}
 use Rattle.trio_script.specs.declared.line.RawLine.TheVariants.{Grant, Back, Allot, Poke, Peek, Release, Mode}
 use Rattle.trio_script.specs.Words.{words_of, number_of, mode_of, hex_of, list_of}
 
--- a library's line, where its number, uid and gid are numbers
-abbrev pub named : Option ℕ → Option ℕ → Option ℕ → Option LibLine
-named (Some number) (Some uid) (Some gid) = Some (record { number = number; creds = record { uid = uid; gid = gid } })
-named _ _ _ = None
+-- the kind of library that a word names
+abbrev pub library_kind : List ℕ → Option LibKind
+library_kind word =
+    if bytes_eq word (codes "raw") then Some RawKind else
+    (if bytes_eq word (codes "honest") then Some HonestKind else None)
 
--- `lib N raw UID GID`
+-- a library's line, where its number, uid and gid are numbers, and its kind is one
+abbrev pub named : Option ℕ → Option LibKind → Option ℕ → Option ℕ → Option LibLine
+named (Some number) (Some kind) (Some uid) (Some gid) = Some (record { number = number; kind = kind; creds = record { uid = uid; gid = gid } })
+named _ _ _ _ = None
+
+-- `lib N KIND UID GID`, with the kind `raw` or `honest`
 abbrev pub library_in : List (List ℕ) → Option LibLine
 library_in (command ∷ number ∷ kind ∷ uid ∷ gid ∷ []) =
-    if bytes_eq command (codes "lib") && bytes_eq kind (codes "raw") then named (number_of number) (number_of uid) (number_of gid) else None
+    if bytes_eq command (codes "lib") then named (number_of number) (library_kind kind) (number_of uid) (number_of gid) else None
 library_in _ = None
 
--- which library a line begins, and with which credentials
+-- which library a line begins, of which kind, and with which credentials
 abbrev pub library_said : List ℕ → Option LibLine
 library_said line = library_in (words_of line)
 
@@ -135,6 +143,6 @@ said_in (command ∷ words) =
     (if bytes_eq command (codes "mode") then mode_in words else None))))))
 said_in [] = None
 
--- what a line says, where it has one of the seven forms
+-- what a line of a raw library says, where it has one of the seven forms
 abbrev pub line_said : List ℕ → Option RawLine
 line_said line = said_in (words_of line)

@@ -2,17 +2,20 @@
 //!
 //! A script is bytes. Lines end with the byte 10, which the last line may lack. A line without bytes
 //! and a line that begins with `#` say nothing, but count. The first line that says something is
-//! `lib 1 raw UID GID`, and a line `lib N raw UID GID` begins library N: the numbers are 1, 2, 3 and so
-//! on, at most [`LIB_LIMIT`]. Behind it come the lines of this library, which nobody trusts, each a
-//! [`RawLine`]. Any other line is one for which nothing is built yet. There are at most [`LINE_LIMIT`]
-//! lines.
+//! `lib 1 KIND UID GID`, and a line `lib N KIND UID GID` begins library N: the numbers are 1, 2, 3 and
+//! so on, at most [`LIB_LIMIT`]. The kind is `raw`, for a library that nobody trusts, or `honest`, for
+//! one whose calls go through a session. Behind it come the lines of this library, each a [`RawLine`]
+//! or an [`HonestLine`]. There are at most [`LINE_LIMIT`] lines.
 //!
 //! The words of a line are separated by one space. A number is decimal, without a sign and without a
 //! leading zero, and at most 4,294,967,295. A mode is 1 to 4 octal digits. Bytes are 1 to 4096, two
 //! lower-case hexadecimal digits each. A list is numbers joined by commas, none of them twice, or `-`
-//! where it is empty.
+//! where it is empty. A text word has bytes from 0x21 to 0x7E: a backslash, `x` and two upper-case
+//! hexadecimal digits stand for the byte that they write, and each other byte for itself, but no
+//! backslash stands otherwise. A path is a text word that stands for the bytes of a path, a slash
+//! before each name or a slash alone.
 //!
-//! `specs/Script.antt`, `specs/Said.antt` and `specs/Words.antt` have these rules as functions of the
+//! `specs/Script.antt`, `specs/Said.antt`, `specs/Honest.antt` and `specs/Words.antt` have these rules as functions of the
 //! bytes. A script is read in a time that grows with its length, but for the lists: one of k numbers
 //! takes a time of k log k. Beside the answer, memory is taken for the words of one line at a time.
 #![tactic(auto)]
@@ -20,16 +23,20 @@
 ghost use Rattle.std.specs.Prelude.{◌≡◌, ◌∷◌, ◌<◌, ◌≤◌, length, is_some, IfOk, MatchOption, MatchResult, None, Some};
 ghost use Rattle.std.specs.List.{list_any};
 ghost use Rattle.trio_script.specs.inner.Ends.{EndsLine, IsPlain};
-ghost use Rattle.trio_script.specs.Script.{lines_of, is_silent, names_library, unbuilt_line, script_libs, IsUnbuilt};
-ghost use Rattle.trio_script.specs.inner.Taken.{Begins, Takes, unbuilt_at};
+ghost use Rattle.trio_script.specs.Script.{lines_of, is_silent, names_library, bad_line, script_libs, IsFault};
+ghost use Rattle.trio_script.specs.inner.Taken.{Begins, Takes, bad_at};
 
+mod honest;
+mod laws;
 mod library;
 mod line;
+mod text;
 mod word;
 
-use library::{Begun, begun_count, close, is_next, read_library};
+pub use honest::HonestLine;
+pub use laws::escaped_is_read;
+use library::{Begun, BegunLines, begun_count, close, is_next, read_library};
 pub use line::RawLine;
-use line::read_line;
 use std::alloc::Global;
 use trio_nodes::List;
 /// Want of memory.
@@ -43,29 +50,37 @@ pub const LIB_LIMIT: usize = 16;
 /// The most lines that a script may have.
 pub const LINE_LIMIT: u32 = 16_384;
 
-/// A library of a script: its credentials, and its lines, in their order.
-#[derive(Debug, PartialEq, Eq, Drop)]
+/// A library of a script: whom it acts for, and what its lines say.
+#[derive(Drop)]
 pub struct ScriptLib {
     /// Whom the library acts for, as its line says.
     pub creds: Creds,
-    /// The lines that say something, from the library's own up to the next library's.
-    pub lines: List<ScriptLine>,
+    pub lines: Lines,
+}
+
+/// The lines of a library that say something, from its own up to the next library's, by its kind.
+#[derive(Drop)]
+pub enum Lines {
+    /// Of a library that nobody trusts.
+    Raw(List<ScriptLine<RawLine>>),
+    /// Of a library whose calls go through a session.
+    Honest(List<ScriptLine<HonestLine>>),
 }
 
 /// A line of a script that says something, but those that begin libraries.
 #[derive(Debug, PartialEq, Eq, Drop)]
-pub struct ScriptLine {
+pub struct ScriptLine<L> {
     /// The line's number, counted from 1.
     pub number: u32,
-    pub line: RawLine,
+    pub line: L,
 }
 
 /// Why a script was not read.
 #[derive(Clone, Copy, Debug, PartialEq, Eq)]
 pub enum ScriptFault {
-    /// The first line for which nothing is built has this number, counted from 1. A script without a
-    /// line that names a library has it at line 1.
-    Unbuilt(u32),
+    /// The first line outside the grammar has this number, counted from 1. A script without a line
+    /// that names a library is bad at line 1.
+    BadLine(u32),
     /// Want of memory, which may come in place of any other answer.
     NoMemory,
 }
@@ -80,15 +95,15 @@ impl From<NoMemory> for ScriptFault {
     }
 }
 
-/// Reads a script, in one pass over its bytes. `Ok` comes only where each line is built, with its
+/// Reads a script, in one pass over its bytes. `Ok` comes only where no line is bad, with its
 /// 1 to 16 libraries in the order of their numbers: library N stands at index N - 1.
 ///
 /// A line names a library where it begins with `lib` and a space. A script without such a line
-/// is answered by line 1, also where another line isn't built. Else the answer is the number of the
-/// first line that isn't built: a line of no form, a library's line whose number isn't the next or is
-/// above 16, a line before the first library's, or line 16,385.
+/// is bad at line 1, also where another line is bad. Else the answer is the number of the first bad
+/// line: a line that has no form of its library's kind, a library's line whose number isn't the next or
+/// is above 16, a line before the first library's, or line 16,385.
 pub fn read_script(alloc: Global, bytes: &[u8]) -> Result<Vec<ScriptLib>, ScriptFault>
-    ensures built { MatchResult result (λ _. unbuilt_line bytes.now ≡ None) (IsUnbuilt bytes.now) }
+    ensures good { MatchResult result (λ _. bad_line bytes.now ≡ None) (IsFault bytes.now) }
     ensures libs { IfOk result (λ libs. libs.items ≡ script_libs bytes.now) }
     ensures some { IfOk result (λ libs. 1 ≤ length libs.items) }
     ensures few { IfOk result (λ libs. length libs.items ≤ 16) }
@@ -99,18 +114,18 @@ pub fn read_script(alloc: Global, bytes: &[u8]) -> Result<Vec<ScriptLib>, Script
     while !rest.is_empty() {
         let (line, after) = cut_line(rest);
         if !take_line(alloc, number, line, &mut begun)? {
-            return Err(ScriptFault::Unbuilt(unbuilt(number, begun.is_some(), rest)));
+            return Err(ScriptFault::BadLine(bad_line(number, begun.is_some(), rest)));
         }
         number += 1;
         rest = after;
     }
     if begun.is_none() {
-        return Err(ScriptFault::Unbuilt(1));
+        return Err(ScriptFault::BadLine(1));
     }
     Ok(close(alloc, begun)?)
 }
 
-// takes the next line, or answers false where it isn't built
+// takes the next line, or answers false where it is bad
 fn take_line(
     alloc: Global,
     number: u32,
@@ -131,13 +146,7 @@ fn take_line(
     let Some(begun) = begun else {
         return Ok(false);
     };
-    match read_line(alloc, line)? {
-        Some(line) => {
-            begun.add(ScriptLine { number, line })?;
-            Ok(true)
-        }
-        None => Ok(false),
-    }
+    begun.take_line(alloc, number, line)
 }
 
 // begins the library of this line, or answers false where it isn't the next
@@ -153,14 +162,14 @@ fn begin_library(alloc: Global, line: &[u8], begun: &mut Option<Begun>) -> Resul
     *begun = Some(Begun {
         whole: close(alloc, begun.take())?,
         creds: library.creds,
-        lines: Vec::new(alloc),
+        lines: BegunLines::new(alloc, library.kind),
     });
     Ok(true)
 }
 
-// where a script isn't built whose first line that isn't built has this number; `rest` begins with it
-fn unbuilt(number: u32, begun: bool, rest: &[u8]) -> u32
-    ensures { result ≡ unbuilt_at number begun (lines_of rest.now) }
+// where a script is bad whose first bad line has this number; `rest` begins with it
+fn bad_line(number: u32, begun: bool, rest: &[u8]) -> u32
+    ensures { result ≡ bad_at number begun (lines_of rest.now) }
 {
     let named = begun || has_library(rest);
     if named { number } else { 1 }

@@ -1,22 +1,34 @@
 //! The libraries of a script: the lines that begin them, and those that began.
 
-ghost use Rattle.std.specs.Prelude.{◌≡◌, [], IfOk, OnOk, Some, map};
-ghost use Rattle.trio_script.specs.Said.{library_in, library_said, named};
-ghost use Rattle.trio_script.specs.Script.{is_next};
-ghost use Rattle.trio_script.specs.inner.Taken.{Adds, count_of, libs_with};
+ghost use Rattle.std.specs.Prelude.{◌≡◌, ◌++◌, IfOk, OnOk, Some, is_some, map};
+ghost use Rattle.trio_script.specs.Said.{library_in, library_kind, library_said, named};
+ghost use Rattle.trio_script.specs.Script.{is_next, said_at};
+ghost use Rattle.trio_script.specs.inner.Taken.{TakesForm, TakesOwn, count_of, libs_as, lines_seen, no_lines};
 
+use crate::honest::{HonestLine, read_honest};
+use crate::line::{RawLine, read_line};
 use crate::word::{parts, read_number};
-use crate::{LIB_LIMIT, ScriptLib, ScriptLine};
+use crate::{LIB_LIMIT, Lines, ScriptLib, ScriptLine};
 use std::alloc::Global;
 use trio_nodes::List;
 use trio_page::NoMemory;
 use trio_rights::Creds;
 
-/// What a library's line says: `lib N raw UID GID`.
+/// What kind of library a line begins.
+#[derive(Clone, Copy)]
+pub enum LibKind {
+    /// `raw`: its lines are those of [`RawLine`].
+    Raw,
+    /// `honest`: its lines are those of [`HonestLine`].
+    Honest,
+}
+
+/// What a library's line says: `lib N KIND UID GID`.
 #[derive(Clone, Copy)]
 pub struct LibLine {
     /// The library's number.
     pub number: u32,
+    pub kind: LibKind,
     /// Whom the library acts for.
     pub creds: Creds,
 }
@@ -34,18 +46,41 @@ fn library_in(words: &[&[u8]]) -> Option<LibLine>
     let [command, number, kind, uid, gid] = words else {
         return None;
     };
-    if *command == b"lib".as_slice() && *kind == b"raw".as_slice() {
-        named(read_number(number), read_number(uid), read_number(gid))
+    if *command == b"lib".as_slice() {
+        named(
+            read_number(number),
+            library_kind(kind),
+            read_number(uid),
+            read_number(gid),
+        )
     } else {
         None
     }
 }
 
-fn named(number: Option<u32>, uid: Option<u32>, gid: Option<u32>) -> Option<LibLine>
-    ensures { result ≡ named number uid gid }
+fn library_kind(word: &[u8]) -> Option<LibKind>
+    ensures { result ≡ library_kind word.now }
+{
+    if word == b"raw".as_slice() {
+        Some(LibKind::Raw)
+    } else if word == b"honest".as_slice() {
+        Some(LibKind::Honest)
+    } else {
+        None
+    }
+}
+
+fn named(
+    number: Option<u32>,
+    kind: Option<LibKind>,
+    uid: Option<u32>,
+    gid: Option<u32>,
+) -> Option<LibLine>
+    ensures { result ≡ named number kind uid gid }
 {
     Some(LibLine {
         number: number?,
+        kind: kind?,
         creds: Creds {
             uid: uid?,
             gid: gid?,
@@ -58,17 +93,70 @@ fn named(number: Option<u32>, uid: Option<u32>, gid: Option<u32>) -> Option<LibL
 pub struct Begun {
     pub whole: Vec<ScriptLib>,
     pub creds: Creds,
-    pub lines: Vec<ScriptLine>,
+    pub lines: BegunLines,
 }
 
 impl Begun {
-    /// Puts a line behind the last library's.
-    pub fn add(&mut self, line: ScriptLine) -> Result<(), NoMemory>
-        ensures { OnOk result (Adds line self.old self.new) }
+    /// Puts what a line says behind the last library's lines, or answers false where it has no form of
+    /// that library's kind.
+    pub fn take_line(&mut self, alloc: Global, number: u32, line: &[u8]) -> Result<bool, NoMemory>
+        ensures { IfOk result (TakesOwn number line.now self.old self.new) }
     {
-        self.lines.push(line)?;
-        Ok(())
+        self.lines.take_line(alloc, number, line)
     }
+}
+
+/// What was read of a library's lines, by its kind.
+#[derive(Drop)]
+pub enum BegunLines {
+    Raw(Vec<ScriptLine<RawLine>>),
+    Honest(Vec<ScriptLine<HonestLine>>),
+}
+
+impl BegunLines {
+    /// No lines of a library of this kind.
+    pub fn new(alloc: Global, kind: LibKind) -> BegunLines
+        ensures { lines_seen result ≡ no_lines kind }
+    {
+        match kind {
+            LibKind::Raw => BegunLines::Raw(Vec::new(alloc)),
+            LibKind::Honest => BegunLines::Honest(Vec::new(alloc)),
+        }
+    }
+
+    fn take_line(&mut self, alloc: Global, number: u32, line: &[u8]) -> Result<bool, NoMemory>
+        ensures { IfOk result (TakesForm number line.now self.old self.new) }
+    {
+        match self {
+            BegunLines::Raw(lines) => put_line(lines, number, read_line(alloc, line)?),
+            BegunLines::Honest(lines) => put_line(lines, number, read_honest(alloc, line)?),
+        }
+    }
+
+    fn close(self) -> Lines
+        ensures { result ≡ lines_seen self }
+    {
+        match self {
+            BegunLines::Raw(lines) => Lines::Raw(List::from_vec(lines)),
+            BegunLines::Honest(lines) => Lines::Honest(List::from_vec(lines)),
+        }
+    }
+}
+
+// puts a line with its number behind the others, where there is one
+fn put_line<L: Drop>(
+    lines: &mut Vec<ScriptLine<L>>,
+    number: u32,
+    said: Option<L>,
+) -> Result<bool, NoMemory>
+    ensures answer { IfOk result (λ answer. answer ≡ is_some said) }
+    ensures lines { OnOk result (lines.new.items ≡ lines.old.items ++ said_at number said) }
+{
+    let Some(line) = said else {
+        return Ok(false);
+    };
+    lines.push(ScriptLine { number, line })?;
+    Ok(true)
 }
 
 /// How many libraries began.
@@ -90,7 +178,7 @@ pub fn is_next(begun: usize, line: &LibLine) -> bool
 
 /// The libraries that began, with the lines that they have.
 pub fn close(alloc: Global, begun: Option<Begun>) -> Result<Vec<ScriptLib>, NoMemory>
-    ensures { IfOk result (λ libs. libs.items ≡ libs_with begun []) }
+    ensures { IfOk result (λ libs. libs.items ≡ libs_as begun) }
 {
     let Some(
         Begun {
@@ -104,7 +192,7 @@ pub fn close(alloc: Global, begun: Option<Begun>) -> Result<Vec<ScriptLib>, NoMe
     };
     whole.push(ScriptLib {
         creds,
-        lines: List::from_vec(lines),
+        lines: lines.close(),
     })?;
     Ok(whole)
 }

@@ -46,7 +46,8 @@ fn all_digits(word: &[u8]) -> bool
     word.iter().all(|b| is_digit(*b))
 }
 
-fn is_digit(byte: u8) -> bool
+/// Whether a byte is a decimal digit.
+pub fn is_digit(byte: u8) -> bool
     ensures { result ≡ is_digit byte }
 {
     matches!(byte, b'0'..=b'9')

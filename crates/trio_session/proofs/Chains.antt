@@ -1,21 +1,24 @@
 -- The chain of a file, by the places of its pages.
-use Rattle.std.proofs.Common.{◌≡◌, ℕ, suc, zero, ◌+◌, ◌-◌, ◌<◌, ◌≤◌, false, List, [], ◌∷◌, ◌++◌, length, take, get_or, Some, sym, refl, ap, ◌∙◌, subst, arith}
+use Rattle.std.proofs.Common.{◌≡◌, ℕ, suc, zero, ◌+◌, ◌-◌, ◌<◌, ◌≤◌, true, false, List, [], ◌∷◌, ◌++◌, length, take, get_or, Some, sym, refl, ap, ◌∙◌, subst, arith}
 use Rattle.std.specs.Prelude.{map, slice_get}
-use Rattle.std.specs.Option.{option_map, option_map_or}
+use Rattle.std.specs.Option.{is_some, option_map, option_map_or}
 use Rattle.std.proofs.lemmas.Option.{slice_get-map, get_or_from_slice_get}
 use Rattle.std.proofs.lemmas.List.{get_or-map, length-map, length-append, get_or_append_left, get_or-append-add, get_or-take, length-take-le}
 use Rattle.trio_lists.specs.Lists.{In}
 use Rattle.trio_lists.proofs.Filters.{get_or-In}
 use Rattle.trio_layout.specs.Chain.{Chain}
-use Rattle.trio_lease.specs.Shown.{LentFile}
+use Rattle.trio_lease.specs.Shown.{Shown}
 use Rattle.trio_lease.specs.Views.{lent_sheet, fresh_sheet}
 use Rattle.trio_lease.specs.declared.parts.LentPage.{LentPage}
 use Rattle.trio_lease.specs.declared.parts.FreshParts.{FreshParts}
 use Rattle.trio_desk.specs.Out.{Parcel, lent_numbers, page_numbers}
-use Rattle.trio_session.specs.inner.Places.{IsAt, IsFile, chain_at, chain_laid, fresh_number}
+use Rattle.trio_session.specs.inner.Places.{IsAt, IsFile, chain_at, chain_laid, fresh_number, lease_of, shown_at}
+use Rattle.trio_session.specs.declared.laid.PagePlace.{PagePlace}
+use Rattle.trio_session.specs.declared.laid.FilePlace.{FilePlace}
+use Rattle.trio_session.specs.declared.laid.FilePlace.TheVariants.{Leased, InSlot}
 use Rattle.trio_session.specs.declared.laid.PagePlace.TheVariants.{Index, Block, Fresh}
 use Rattle.trio_session.specs.declared.laid.Laid.{Laid}
-use Rattle.trio_session.proofs.Places.{index_at, block_at, fresh_at}
+use Rattle.trio_session.proofs.Places.{index_at, block_at, fresh_at, lent_parts, slot_parts}
 
 -- numbers behind the first of others
 pub kept_number : (ns ms : List ℕ) (kept k : ℕ) → kept ≤ length ns → k < kept → get_or (take kept ns ++ ms) k 0 ≡ get_or ns k 0
@@ -41,8 +44,16 @@ no_lent : LentPage
 no_lent = record { no = record { 0 = 0 }; page = []; touched = false }
 
 -- the chain of a file that is there
-pub chain_there : (b : Parcel) (file : ℕ) (l : Laid) (f : LentFile) → slice_get b.writes file ≡ Some f → chain_at b file l ≡ chain_laid f.stands b.pages l
-chain_there b file l f e = ap (λ o. option_map_or (λ (f : LentFile). chain_laid f.stands b.pages l) o (record { index = []; blocks = [] })) e
+pub chain_there : (b : Parcel) (file : FilePlace) (l : Laid) (f : Shown) → shown_at b file ≡ Some f → chain_at b file l ≡ chain_laid f b.pages l
+chain_there b file l f e = ap (λ o. option_map_or (λ (g : Shown). chain_laid g b.pages l) o (record { index = []; blocks = [] })) e
+
+-- a file in a slot has no page that was lent
+pub none_lent : (b : Parcel) (page : PagePlace) (slot : ℕ) (l : Laid) (is : IsFile b (InSlot page slot) l) → (l.index_kept ≡ 0) × (l.blocks_kept ≡ 0)
+none_lent b page slot l is =
+    let s = slot_parts b page slot is.shown is.there in
+    let index : l.index_kept ≤ 0 = subst (λ (f : Shown). l.index_kept ≤ length f.index) (sym s.2) is.laid.index in
+    let blocks : l.blocks_kept ≤ 0 = subst (λ (f : Shown). l.blocks_kept ≤ length f.blocks) (sym s.2) is.laid.blocks in
+    (omega (arith, index), omega (arith, blocks))
 
 -- an element within a list
 in_list : {X : Type 0} (xs : List X) (i : ℕ) → i < length xs → (x : X) × (slice_get xs i ≡ Some x)
@@ -65,48 +76,54 @@ fresh_is b ats i at lt e' all =
     }
 
 -- where block k of a file stands, and its index page i
-pub block_kept : (b : Parcel) (file : ℕ) (l : Laid) (k : ℕ) → IsFile b file l → k < l.blocks_kept → IsAt b (Block file k) (get_or (chain_at b file l).blocks k 0)
-block_kept b file l k is lt =
-    let f = is.lent in
-    let within : k < length f.stands.blocks = (let le = is.laid.blocks in omega (arith, le)) in
-    let r = in_list f.stands.blocks k within in
-    let ns = lent_numbers f.stands.blocks in
+pub block_kept : (b : Parcel) (file : FilePlace) (l : Laid) (k : ℕ) → IsFile b file l → k < l.blocks_kept → IsAt b (Block (lease_of file) k) (get_or (chain_at b file l).blocks k 0)
+block_kept b (InSlot page slot) l k is lt = absurd (let none = (none_lent b page slot l is).1 in omega (arith, none, lt))
+block_kept b (Leased at) l k is lt =
+    let f = is.shown in
+    let lent = lent_parts b at f is.there in
+    let within : k < length f.blocks = (let le = is.laid.blocks in omega (arith, le)) in
+    let r = in_list f.blocks k within in
+    let page : slice_get lent.0.stands.blocks k ≡ Some r.0 = ap (λ (g : Shown). slice_get g.blocks k) lent.2 ∙ r.1 in
+    let ns = lent_numbers f.blocks in
     let le : l.blocks_kept ≤ length ns = rw length-map is.laid.blocks in
     record {
       sheet = lent_sheet r.0;
-      there = block_at b file k f r.0 is.there r.1;
-      number = sym (ap (λ (c : Chain). get_or c.blocks k 0) (chain_there b file l f is.there) ∙ kept_number ns (map (fresh_number b.pages) l.blocks_more.items) l.blocks_kept k le lt ∙ lent_number f.stands.blocks k r.0 r.1);
+      there = block_at b at k lent.0 r.0 lent.1 page;
+      number = sym (ap (λ (c : Chain). get_or c.blocks k 0) (chain_there b (Leased at) l f is.there) ∙ kept_number ns (map (fresh_number b.pages) l.blocks_more.items) l.blocks_kept k le lt ∙ lent_number f.blocks k r.0 r.1);
     }
 
-pub block_more : (b : Parcel) (file : ℕ) (l : Laid) (k at : ℕ) → IsFile b file l → l.blocks_kept ≤ k → k < l.blocks_kept + length l.blocks_more.items
+pub block_more : (b : Parcel) (file : FilePlace) (l : Laid) (k at : ℕ) → IsFile b file l → l.blocks_kept ≤ k → k < l.blocks_kept + length l.blocks_more.items
     → at ≡ get_or l.blocks_more.items (k - l.blocks_kept) at → IsAt b (Fresh at) (get_or (chain_at b file l).blocks k 0)
 block_more b file l k at is ge lt e =
-    let f = is.lent in
-    let ns = lent_numbers f.stands.blocks in
+    let f = is.shown in
+    let ns = lent_numbers f.blocks in
     let le : l.blocks_kept ≤ length ns = rw length-map is.laid.blocks in
     let within : k - l.blocks_kept < length l.blocks_more.items = omega arith in
     let number : get_or (chain_at b file l).blocks k 0 ≡ get_or (map (fresh_number b.pages) l.blocks_more.items) (k - l.blocks_kept) 0 =
     ap (λ (c : Chain). get_or c.blocks k 0) (chain_there b file l f is.there) ∙ more_number ns (map (fresh_number b.pages) l.blocks_more.items) l.blocks_kept k le ge in
     subst (IsAt b (Fresh at)) (sym number) (fresh_is b l.blocks_more.items (k - l.blocks_kept) at within e is.laid.blocks_there)
 
-pub index_kept : (b : Parcel) (file : ℕ) (l : Laid) (k : ℕ) → IsFile b file l → k < l.index_kept → IsAt b (Index file k) (get_or (chain_at b file l).index k 0)
-index_kept b file l k is lt =
-    let f = is.lent in
-    let within : k < length f.stands.index = (let le = is.laid.index in omega (arith, le)) in
-    let r = in_list f.stands.index k within in
-    let ns = lent_numbers f.stands.index in
+pub index_kept : (b : Parcel) (file : FilePlace) (l : Laid) (k : ℕ) → IsFile b file l → k < l.index_kept → IsAt b (Index (lease_of file) k) (get_or (chain_at b file l).index k 0)
+index_kept b (InSlot page slot) l k is lt = absurd (let none = (none_lent b page slot l is).0 in omega (arith, none, lt))
+index_kept b (Leased at) l k is lt =
+    let f = is.shown in
+    let lent = lent_parts b at f is.there in
+    let within : k < length f.index = (let le = is.laid.index in omega (arith, le)) in
+    let r = in_list f.index k within in
+    let page : slice_get lent.0.stands.index k ≡ Some r.0 = ap (λ (g : Shown). slice_get g.index k) lent.2 ∙ r.1 in
+    let ns = lent_numbers f.index in
     let le : l.index_kept ≤ length ns = rw length-map is.laid.index in
     record {
       sheet = lent_sheet r.0;
-      there = index_at b file k f r.0 is.there r.1;
-      number = sym (ap (λ (c : Chain). get_or c.index k 0) (chain_there b file l f is.there) ∙ kept_number ns (map (fresh_number b.pages) l.index_more.items) l.index_kept k le lt ∙ lent_number f.stands.index k r.0 r.1);
+      there = index_at b at k lent.0 r.0 lent.1 page;
+      number = sym (ap (λ (c : Chain). get_or c.index k 0) (chain_there b (Leased at) l f is.there) ∙ kept_number ns (map (fresh_number b.pages) l.index_more.items) l.index_kept k le lt ∙ lent_number f.index k r.0 r.1);
     }
 
-pub index_more : (b : Parcel) (file : ℕ) (l : Laid) (k at : ℕ) → IsFile b file l → l.index_kept ≤ k → k < l.index_kept + length l.index_more.items
+pub index_more : (b : Parcel) (file : FilePlace) (l : Laid) (k at : ℕ) → IsFile b file l → l.index_kept ≤ k → k < l.index_kept + length l.index_more.items
     → at ≡ get_or l.index_more.items (k - l.index_kept) at → IsAt b (Fresh at) (get_or (chain_at b file l).index k 0)
 index_more b file l k at is ge lt e =
-    let f = is.lent in
-    let ns = lent_numbers f.stands.index in
+    let f = is.shown in
+    let ns = lent_numbers f.index in
     let le : l.index_kept ≤ length ns = rw length-map is.laid.index in
     let within : k - l.index_kept < length l.index_more.items = omega arith in
     let number : get_or (chain_at b file l).index k 0 ≡ get_or (map (fresh_number b.pages) l.index_more.items) (k - l.index_kept) 0 =
@@ -114,22 +131,26 @@ index_more b file l k at is ge lt e =
     subst (IsAt b (Fresh at)) (sym number) (fresh_is b l.index_more.items (k - l.index_kept) at within e is.laid.index_there)
 
 -- how long the chain is
-pub blocks_length : (b : Parcel) (file : ℕ) (l : Laid) → IsFile b file l → length (chain_at b file l).blocks ≡ l.blocks_kept + length l.blocks_more.items
+pub blocks_length : (b : Parcel) (file : FilePlace) (l : Laid) → IsFile b file l → length (chain_at b file l).blocks ≡ l.blocks_kept + length l.blocks_more.items
 blocks_length b file l is =
-    let f = is.lent in
-    let ns = lent_numbers f.stands.blocks in
+    let f = is.shown in
+    let ns = lent_numbers f.blocks in
     let le : l.blocks_kept ≤ length ns = rw length-map is.laid.blocks in
     ap (λ (c : Chain). length c.blocks) (chain_there b file l f is.there)
     ∙ length-append (take l.blocks_kept ns) (map (fresh_number b.pages) l.blocks_more.items)
     ∙ ap (λ n. n + length (map (fresh_number b.pages) l.blocks_more.items)) (length-take-le l.blocks_kept ns le)
     ∙ ap (λ n. l.blocks_kept + n) (length-map l.blocks_more.items (fresh_number b.pages))
 
-pub index_length : (b : Parcel) (file : ℕ) (l : Laid) → IsFile b file l → length (chain_at b file l).index ≡ l.index_kept + length l.index_more.items
+pub index_length : (b : Parcel) (file : FilePlace) (l : Laid) → IsFile b file l → length (chain_at b file l).index ≡ l.index_kept + length l.index_more.items
 index_length b file l is =
-    let f = is.lent in
-    let ns = lent_numbers f.stands.index in
+    let f = is.shown in
+    let ns = lent_numbers f.index in
     let le : l.index_kept ≤ length ns = rw length-map is.laid.index in
     ap (λ (c : Chain). length c.index) (chain_there b file l f is.there)
     ∙ length-append (take l.index_kept ns) (map (fresh_number b.pages) l.index_more.items)
     ∙ ap (λ n. n + length (map (fresh_number b.pages) l.index_more.items)) (length-take-le l.index_kept ns le)
     ∙ ap (λ n. l.index_kept + n) (length-map l.index_more.items (fresh_number b.pages))
+
+-- a file that is laid is there
+pub there_some : (b : Parcel) (file : FilePlace) (l : Laid) → IsFile b file l → is_some (shown_at b file) ≡ true
+there_some b file l is = ap is_some is.there

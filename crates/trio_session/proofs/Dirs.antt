@@ -9,6 +9,7 @@ use Rattle.std.proofs.lemmas.List.{take-append-drop}
 use Rattle.std.proofs.lemmas.Option.{slice_get-map}
 use Rattle.std.proofs.lemmas.Grind.{flat_map-append}
 use Rattle.trio_lists.specs.Lists.{In}
+use Rattle.trio_lists.proofs.Filters.{find-In}
 use Rattle.trio_lists.proofs.Members.{In-cases, In-left, In-map, In-right, map-In}
 use Rattle.trio_lease.specs.Shown.{Shown, page_at}
 use Rattle.trio_lease.specs.declared.parts.LentPage.{LentPage}
@@ -36,15 +37,6 @@ found_by x z false r q e h = h e
 pub find-left : {X : Type 0} (p : X → Bool) (xs ys : List X) (x : X) → find p xs ≡ Some x → find p (xs ++ ys) ≡ Some x
 find-left p [] ys x e = absurd (let t : None ≡ Some x = e in cc t)
 find-left p (z ∷ zs) ys x e = found_by x z (p z) (find p zs) (find p (zs ++ ys)) e (find-left p zs ys x)
-
-there_by : {X : Type 0} (p : X → Bool) (x z : X) (zs : List X) (b : Bool) → p z ≡ b → cond b (Some z) (find p zs) ≡ Some x → (find p zs ≡ Some x → In x zs × (p x ≡ true))
-    → In x (z ∷ zs) × (p x ≡ true)
-there_by p x z zs true h e rest = (let same : z ≡ x = cc e in (inl (sym same), ap p (sym same) ∙ h))
-there_by p x z zs false h e rest = (let r = rest e in (inr r.0, r.1))
-
-pub find-In : {X : Type 0} (p : X → Bool) (xs : List X) (x : X) → find p xs ≡ Some x → In x xs × (p x ≡ true)
-find-In p [] x e = absurd (let t : None ≡ Some x = e in cc t)
-find-In p (z ∷ zs) x e = there_by p x z zs (p z) refl e (find-In p zs x)
 
 missed_by : {X : Type 0} (z : X) (b : Bool) (r : Option X) → cond b (Some z) r ≡ None → (b ≡ false) × (r ≡ None)
 missed_by z true r e = absurd (let t : Some z ≡ None = e in cc t)
@@ -88,16 +80,6 @@ pub copied_some : {X : Type 0} (o : Option (Bor X)) (q : Option X) → is_some o
 copied_some None q s e = absurd (let t : false ≡ true = s in cc t)
 copied_some (Some x) q s e = sym (ap is_some e)
 
--- the first index of a number is that of its lease
-pub dir_found : (reads : List Shown) (dirs : List IndexedDir) (n : ℕ) (name : List ℕ) (d : IndexedDir) → AreIndexed reads dirs → find (λ x. eqb x.ino n) dirs ≡ Some d
-    → place_in_slots name d.dir.slots ≡ option_and_then (λ f. place_of f.kind f name) (lease_on reads n)
-dir_found reads dirs n name d are e =
-    let at = find-In (λ (x : IndexedDir). eqb x.ino n) dirs d e in
-    let is : IsIndexed reads d = are d at.0 in
-    let there : lease_on reads n ≡ Some is.lease = ap (lease_on reads) (sym (eqb-true d.ino n at.1)) ∙ is.there in
-    ap (place_in_slots name) is.index.slots
-    ∙ sym (ap (option_and_then (λ (f : Shown). place_of f.kind f name)) there ∙ ap (λ k. place_of k is.lease name) is.directory)
-
 pub dir_among : (dirs : List IndexedDir) (n : ℕ) (d : IndexedDir) → find (λ x. eqb x.ino n) dirs ≡ Some d → In n (map (λ x. x.ino) dirs)
 dir_among dirs n d e =
     let at = find-In (λ (x : IndexedDir). eqb x.ino n) dirs d e in
@@ -114,64 +96,3 @@ pub dir_missed : (dirs : List IndexedDir) (n : ℕ) → find (λ x. eqb x.ino n)
 dir_missed dirs n e i =
     let d = map-In (λ (x : IndexedDir). x.ino) n dirs i in
     false≢true (sym (find-not (λ (x : IndexedDir). eqb x.ino n) dirs d.0 e d.1) ∙ eq-eqb d.0.ino n (sym d.2))
-
-none_of : (k : Kind) (f : Shown) (name : List ℕ) → (k ≡ Directory → ⊥) → None ≡ place_of k f name
-none_of Directory f name not = absurd (not refl)
-none_of Regular f name not = refl
-
-pub place_missed : (o : Option Shown) (name : List ℕ) → ((f : Shown) → o ≡ Some f → f.kind ≡ Directory → ⊥) → None ≡ option_and_then (λ f. place_of f.kind f name) o
-place_missed None name not = refl
-place_missed (Some f) name not = none_of f.kind f name (not f refl)
-
--- ---- an index is made
-
--- the first of some slots
-slot_with-front : (name : List ℕ) (xs ys : List (Option (List ℕ))) → slot_with name (xs ++ ys) ≡ None → slot_with name xs ≡ None
-slot_with-front name [] ys e = refl
-slot_with-front name (x ∷ xs) ys e =
-    let a = absent name x (xs ++ ys) e in absent_from name x xs a.here (slot_with-front name xs ys a.later)
-
-differ-front : (xs ys : List (Option (List ℕ))) → NamesDiffer (xs ++ ys) → NamesDiffer xs
-differ-front [] ys differ = tt
-differ-front (None ∷ xs) ys differ = differ-front xs ys differ
-differ-front (Some name ∷ xs) ys differ = (slot_with-front name xs ys differ.0, differ-front xs ys differ.1)
-
--- the slots of one page more
-slots_more : (pages : List (List ℕ)) (k : ℕ) (page : List ℕ) → slice_get pages k ≡ Some page
-    → slots_of every_number (take k pages) ++ slots_on every_number page ≡ slots_of every_number (take (suc k) pages)
-slots_more [] k page e = absurd (let t : None ≡ Some page = e in cc t)
-slots_more (p ∷ pages) zero page e = (let same : p ≡ page = (let t : Some p ≡ Some page = e in cc t) in rw (same, append-nil) refl)
-slots_more (p ∷ pages) (suc k) page e = rw append_assoc (ap (λ xs. slots_on every_number p ++ xs) (slots_more pages k page e))
-
-all_taken : (pages : List (List ℕ)) (k : ℕ) → slice_get pages k ≡ None → take k pages ≡ pages
-all_taken [] zero e = refl
-all_taken [] (suc k) e = refl
-all_taken (p ∷ pages) zero e = absurd (let t : Some p ≡ None = e in cc t)
-all_taken (p ∷ pages) (suc k) e = ap (λ ps. p ∷ ps) (all_taken pages k e)
-
-page_there : (f : Shown) (k : ℕ) (o : Option (List ℕ)) → page_at f.blocks k ≡ o → slice_get (dir_pages f) k ≡ o
-page_there f k o e = slice_get-map (λ (p : LentPage). p.page) f.blocks k ∙ e
-
--- a page that an index is told of next
-pub page_read : (f : Shown) (d : Index) (k : ℕ) (page : List ℕ) → AreRead (dir_pages f) → d.inodes ≡ every_number → page_at f.blocks k ≡ Some page
-    → IsTrue (is_directory_page d.inodes page)
-page_read f d k page are e at = rw e (are.each page (slice_get-In (dir_pages f) k page (page_there f k (Some page) at)))
-
-pub page_apart : (f : Shown) (d : Index) (k : ℕ) (page : List ℕ) → AreRead (dir_pages f) → d.inodes ≡ every_number
-    → d.slots ≡ slots_of every_number (take k (dir_pages f)) → page_at f.blocks k ≡ Some page → NamesDiffer (d.slots ++ slots_on d.inodes page)
-page_apart f d k page are e es at =
-    let pages = dir_pages f in
-    let whole : slots_of every_number (take (suc k) pages) ++ slots_of every_number (drop (suc k) pages) ≡ slots_of every_number pages =
-    sym (flat_map-append (slots_on every_number) (take (suc k) pages) (drop (suc k) pages)) ∙ ap (slots_of every_number) (take-append-drop (suc k) pages) in
-    rw (e, es, slots_more pages k page (page_there f k (Some page) at))
-    (differ-front (slots_of every_number (take (suc k) pages)) (slots_of every_number (drop (suc k) pages)) (subst NamesDiffer (sym whole) are.differ))
-
--- and what it has then
-pub page_told : (f : Shown) (d : Index) (k : ℕ) (page : List ℕ) → d.inodes ≡ every_number → d.slots ≡ slots_of every_number (take k (dir_pages f))
-    → page_at f.blocks k ≡ Some page → d.slots ++ slots_on d.inodes page ≡ slots_of every_number (take (k + 1) (dir_pages f))
-page_told f d k page e es at =
-    let next : suc k ≡ k + 1 = omega arith in
-    rw (e, es) (slots_more (dir_pages f) k page (page_there f k (Some page) at) ∙ ap (λ n. slots_of every_number (take n (dir_pages f))) next)
-
-pub pages_end : (f : Shown) (d : Index) (k : ℕ) → d.inodes ≡ every_number → d.slots ≡ slots_of every_number (take k (dir_pages f)) → page_at f.blocks k ≡ None → IsIndexOf f d
-pages_end f d k e es at = record { inodes = e; slots = es ∙ ap (slots_of every_number) (all_taken (dir_pages f) k (page_there f k None at)) }

@@ -11,14 +11,16 @@ use Rattle.trio_page.specs.Field.{zeros}
 use Rattle.trio_layout.specs.Body.{block_count}
 use Rattle.trio_layout.specs.Chain.{Chain, index_count}
 use Rattle.trio_desk.specs.Out.{Parcel, lent_numbers, page_numbers}
-use Rattle.trio_session.specs.Layout.{blocks_under, body_sized, chain_grown, gap, grown_file, growth, linked, new_index, numbered, put_bytes, size_in, with_body}
-use Rattle.trio_session.specs.inner.Places.{IsFile, HasChain, body_at, ino_at, chain_at, fresh_number}
+use Rattle.trio_session.specs.Layout.{blocks_under, body_sized, chain_grown, gap, growth, linked, new_index, numbered, put_bytes, size_in, with_body_at}
+use Rattle.trio_session.specs.inner.Found.{GrowDone, MayGrowAt, taken_from}
+use Rattle.trio_session.specs.inner.Places.{IsFile, HasChain, IsWholeAt, body_at, home_at, chain_at, fresh_number}
+use Rattle.trio_session.specs.declared.laid.FilePlace.{FilePlace}
+use Rattle.trio_session.specs.declared.laid.FilePlace.TheVariants.{Leased}
 use Rattle.trio_session.specs.declared.laid.Laid.{Laid}
 use Rattle.trio_session.proofs.Lists.{count_take, length-count_up}
-use Rattle.trio_session.proofs.Stays.{chain_bodied}
+use Rattle.trio_session.proofs.Stays.{body_leaves, chain_left, file_left, home_left}
 use Rattle.trio_session.proofs.Chains.{chain_there, index_length, blocks_length}
-use Rattle.trio_session.proofs.Sessions.{Keeps, blocks_keep, keeps_then}
-use Rattle.trio_session.proofs.Edited.{Edited, body_bodied, edited, file_bodied, linked_keep, numbered_keep, size_sized}
+use Rattle.trio_session.proofs.Edited.{Keeps, blocks_keep, keeps_chain, keeps_file, keeps_then, linked_keep, numbered_keep, size_sized}
 
 -- the places of c blocks and of the index pages that name them: behind those that are there, allotted pages from a place on
 pub record IsGrown (from c : ℕ) (l l' : Laid) : Type 0 where
@@ -37,11 +39,11 @@ numbers_grown ns pages kept kept' from n more more' le ek em =
     ∙ ap (λ m. take kept ns ++ m) (map-append g more (count_up from n) ∙ ap (λ m. map g more ++ m) (count_take pages from n le))
     ∙ sym (append_assoc (take kept ns) (map g more) (take n (drop from pages)))
 
-pub chain_at_grown : (from c : ℕ) (b : Parcel) (file : ℕ) (l l' : Laid) → IsFile b file l → length (chain_at b file l).index ≡ index_count (length (chain_at b file l).blocks)
+pub chain_at_grown : (from c : ℕ) (b : Parcel) (file : FilePlace) (l l' : Laid) → IsFile b file l → length (chain_at b file l).index ≡ index_count (length (chain_at b file l).blocks)
     → from + growth (length (chain_at b file l).blocks) c ≤ length b.pages → IsGrown from c l l'
     → chain_at b file l' ≡ chain_grown (chain_at b file l) c (take (growth (length (chain_at b file l).blocks) c) (drop from (page_numbers b.pages)))
 chain_at_grown from c b file l l' is has le done =
-    let f = is.lent.stands in
+    let f = is.shown in
     let pages = page_numbers b.pages in
     let old = chain_at b file l in
     let mi = index_count c - (l.index_kept + length l.index_more.items) in
@@ -69,10 +71,10 @@ chain_at_grown from c b file l l' is has le done =
     let blocks = take l.blocks_kept (lent_numbers f.blocks) ++ map (fresh_number b.pages) l.blocks_more.items in
     let index' = numbers_grown (lent_numbers f.index) pages l.index_kept l'.index_kept from mi l.index_more.items l'.index_more.items index_le done.index_kept done.index in
     let blocks' = numbers_grown (lent_numbers f.blocks) pages l.blocks_kept l'.blocks_kept (from + mi) mb l.blocks_more.items l'.blocks_more.items blocks_le done.blocks_kept done.blocks in
-    chain_there b file l' is.lent is.there
+    chain_there b file l' is.shown is.there
     ∙ ap (λ i. chain i (take l'.blocks_kept (lent_numbers f.blocks) ++ map (fresh_number b.pages) l'.blocks_more.items)) (index' ∙ ap (λ m. index ++ m) first)
     ∙ ap (chain (index ++ take more taken)) (blocks' ∙ ap (λ m. blocks ++ m) rest)
-    ∙ sym (ap (λ (ch : Chain). chain (ch.index ++ take more taken) (ch.blocks ++ drop more taken)) (chain_there b file l is.lent is.there))
+    ∙ sym (ap (λ (ch : Chain). chain (ch.index ++ take more taken) (ch.blocks ++ drop more taken)) (chain_there b file l is.shown is.there))
 
 -- how many places there are after a growth
 index_grown : (from c : ℕ) (l l' : Laid) → IsGrown from c l l' → l'.index_kept + length l'.index_more.items ≡ (l.index_kept + length l.index_more.items) + (index_count c - (l.index_kept + length l.index_more.items))
@@ -88,7 +90,7 @@ blocks_grown from c l l' done =
     let len = ap (λ (xs : List ℕ). length xs) done.blocks ∙ length-append l.blocks_more.items (count_up at n) ∙ ap (λ m. length l.blocks_more.items + m) (length-count_up at n) in
     omega (arith, len, done.blocks_kept)
 
-pub file_grown : (from c : ℕ) (b : Parcel) (file : ℕ) (l l' : Laid) → IsFile b file l → length (chain_at b file l).index ≡ index_count (length (chain_at b file l).blocks)
+pub file_grown : (from c : ℕ) (b : Parcel) (file : FilePlace) (l l' : Laid) → IsFile b file l → length (chain_at b file l).index ≡ index_count (length (chain_at b file l).blocks)
     → from + growth (length (chain_at b file l).blocks) c ≤ length b.pages → c < 18446744073709551616 → IsGrown from c l l' → IsFile b file l'
 file_grown from c b file l l' is has le lt done =
     let mi = index_count c - (l.index_kept + length l.index_more.items) in
@@ -99,8 +101,9 @@ file_grown from c b file l l' is has le lt done =
     let index_many = index_grown from c l l' done in
     let blocks_many = blocks_grown from c l l' done in
     record {
-      lent = is.lent;
+      shown = is.shown;
       there = is.there;
+      slot = is.slot;
       laid = record {
         index = rw done.index_kept is.laid.index;
         blocks = rw done.blocks_kept is.laid.blocks;
@@ -118,7 +121,7 @@ file_grown from c b file l l' is has le lt done =
     }
 
 -- the chain after a growth is as long as the new size says
-pub has_grown : (b b' : Parcel) (file size from : ℕ) (l l' : Laid) → IsFile b file l → IsFile b file l' → HasChain b file l → IsGrown from (block_count size) l l'
+pub has_grown : (b b' : Parcel) (file : FilePlace) (size from : ℕ) (l l' : Laid) → IsFile b file l → IsFile b file l' → HasChain b file l → IsGrown from (block_count size) l l'
     → size_in (body_at b file) ≤ size → chain_at b' file l' ≡ chain_at b file l' → size_in (body_at b' file) ≡ size → HasChain b' file l'
 has_grown b b' file size from l l' is is' has done le chain size_is =
     let c = block_count size in
@@ -137,125 +140,98 @@ has_grown b b' file size from l l' is is' has done le chain size_is =
 
 -- ---- a growth as a whole
 
--- the pages that a growth takes, from a place on
-abbrev pub taken_from : Parcel → ℕ → Laid → ℕ → ℕ → List ℕ
-taken_from b file l size from = take (growth (length (chain_at b file l).blocks) (block_count size)) (drop from (page_numbers b.pages))
-
--- what it makes of the file and its chain
-pub record GrowDone (b b' : Parcel) (file size from : ℕ) (l l' : Laid) : Type 0 where
-  pub edit : b' ≡ grown_file (ino_at b file) (chain_at b file l) (body_at b file) size (taken_from b file l size from) b
-  pub chain : chain_at b' file l' ≡ chain_grown (chain_at b file l) (block_count size) (taken_from b file l size from)
-  pub laid : IsFile b' file l'
-  pub has : HasChain b' file l'
-  pub others : (i : ℕ) → i ≢ file → body_at b' i ≡ body_at b i
-
--- what may be asked of a file that grows
-pub record MayGrow (b : Parcel) (file size from : ℕ) (l : Laid) : Type 0 where
-  pub laid : IsFile b file l
-  pub has : HasChain b file l
-  pub more : size_in (body_at b file) ≤ size
-  pub pages : from + growth (length (chain_at b file l).blocks) (block_count size) ≤ length b.pages
-  pub narrow : size < 18446744073709551616
-
 -- what its steps make of what was in hand
-pub record GrowSteps (b zeroed links named b' : Parcel) (file size from head : ℕ) (l l' : Laid) : Type 0 where
+pub record GrowSteps (b zeroed links named b' : Parcel) (size from head next : ℕ) (file : FilePlace) (l l' : Laid) : Type 0 where
   pub gap : zeroed ≡ put_bytes (chain_at b file l).blocks (size_in (body_at b file)) (zeros (gap (size_in (body_at b file)) size)) b
   pub places : IsGrown from (block_count size) l l'
   pub ends : links ≡ linked (drop (length (chain_at b file l).index - 1) (chain_at zeroed file l').index) zeroed
   pub names : named ≡ numbered (chain_at links file l').index (length (chain_at b file l).blocks) (drop (length (chain_at b file l).blocks) (chain_at links file l').blocks) links
   pub first : head ≡ get_or (chain_at named file l').index 0 0
-  pub body : b' ≡ with_body (ino_at named file) (body_sized head size (body_at named file)) named
-  pub whole : length (body_at named file) ≡ 64
-  pub others : (i : ℕ) → i ≢ file → body_at b' i ≡ body_at named i
+  pub body : b' ≡ with_body_at (home_at named file) (body_sized head size (body_at b file)) named
+  pub has_body : body_at b' file ≡ body_sized head size (body_at b file)
+  pub whole : length (body_at b file) ≡ 64
+  pub page : IsWholeAt b file
+  pub behind : next ≡ from + growth (length (chain_at b file l).blocks) (block_count size)
+  pub others : (i : ℕ) → Leased i ≢ file → body_at b' (Leased i) ≡ body_at named (Leased i)
 
-pub bytes_keep : (b zeroed : Parcel) (blocks : List ℕ) (at : ℕ) (new : List ℕ) → zeroed ≡ put_bytes blocks at new b → Keeps b zeroed []
-bytes_keep b zeroed blocks at new e = subst (λ x. Keeps b x []) (sym e) (blocks_keep blocks (at / 4096) (blocks_under at (length new)) at new b [])
+pub bytes_keep : (b zeroed : Parcel) (blocks : List ℕ) (at : ℕ) (new : List ℕ) → zeroed ≡ put_bytes blocks at new b → Keeps b zeroed
+bytes_keep b zeroed blocks at new e = subst (Keeps b) (sym e) (blocks_keep blocks (at / 4096) (blocks_under at (length new)) at new b)
 
-pub links_grown : (b zeroed links : Parcel) (xs : List ℕ) → Keeps b zeroed [] → links ≡ linked xs zeroed → Keeps b links []
-links_grown b zeroed links xs keeps e = keeps_then b zeroed links [] keeps (subst (λ x. Keeps zeroed x []) (sym e) (linked_keep xs zeroed []))
+pub links_grown : (b zeroed links : Parcel) (xs : List ℕ) → Keeps b zeroed → links ≡ linked xs zeroed → Keeps b links
+links_grown b zeroed links xs keeps e = keeps_then b zeroed links keeps (subst (Keeps zeroed) (sym e) (linked_keep xs zeroed))
 
-pub names_grown : (b links named : Parcel) (index : List ℕ) (k : ℕ) (xs : List ℕ) → Keeps b links [] → named ≡ numbered index k xs links → Keeps b named []
-names_grown b links named index k xs keeps e = keeps_then b links named [] keeps (subst (λ x. Keeps links x []) (sym e) (numbered_keep index k xs links []))
+pub names_grown : (b links named : Parcel) (index : List ℕ) (k : ℕ) (xs : List ℕ) → Keeps b links → named ≡ numbered index k xs links → Keeps b named
+names_grown b links named index k xs keeps e = keeps_then b links named keeps (subst (Keeps links) (sym e) (numbered_keep index k xs links))
 
 -- as many index pages as the blocks take
-pub index_enough : (b : Parcel) (file : ℕ) (l : Laid) → HasChain b file l → length (chain_at b file l).index ≡ index_count (length (chain_at b file l).blocks)
+pub index_enough : (b : Parcel) (file : FilePlace) (l : Laid) → HasChain b file l → length (chain_at b file l).index ≡ index_count (length (chain_at b file l).blocks)
 index_enough b file l has = has.index ∙ ap index_count (sym has.blocks)
 
-pub grown_is_file : (b : Parcel) (file size from : ℕ) (l l' : Laid) → MayGrow b file size from l → IsGrown from (block_count size) l l' → IsFile b file l'
-grown_is_file b file size from l l' may places =
-    file_grown from (block_count size) b file l l' may.laid (index_enough b file l may.has) may.pages (let lt = may.narrow in omega (arith, lt)) places
+pub grown_is_file : (b : Parcel) (size from : ℕ) (file : FilePlace) (l l' : Laid) → MayGrowAt b size from file l → size < 18446744073709551616 → IsGrown from (block_count size) l l' → IsFile b file l'
+grown_is_file b size from file l l' may lt places =
+    file_grown from (block_count size) b file l l' may.laid (index_enough b file l may.has) may.pages (omega (arith, lt)) places
 
-pub grow_done : (b zeroed links named b' : Parcel) (file size from head : ℕ) (l l' : Laid) → MayGrow b file size from l
-    → GrowSteps b zeroed links named b' file size from head l l' → GrowDone b b' file size from l l'
-grow_done b zeroed links named b' file size from head l l' may steps =
+pub grow_done : (b zeroed links named b' : Parcel) (size from head next : ℕ) (file : FilePlace) (l l' : Laid) → MayGrowAt b size from file l → size < 18446744073709551616
+    → GrowSteps b zeroed links named b' size from head next file l l' → GrowDone b b' size from next file l l'
+grow_done b zeroed links named b' size from head next file l l' may lt steps =
     let c = block_count size in
     let chain = chain_at b file l in
-    let taken = taken_from b file l size from in
+    let taken = taken_from b size from file l in
     let chain' = chain_grown chain c taken in
-    let ino = ino_at b file in
+    let home = home_at b file in
     let body = body_at b file in
     let count = length chain.blocks in
     let back = length chain.index - 1 in
-    let is' = grown_is_file b file size from l l' may steps.places in
+    let is' = grown_is_file b size from file l l' may lt steps.places in
     let zeros_keep = bytes_keep b zeroed chain.blocks (size_in body) (zeros (gap (size_in body) size)) steps.gap in
     let ends_keep = links_grown b zeroed links (drop back (chain_at zeroed file l').index) zeros_keep steps.ends in
     let keeps = names_grown b links named (chain_at links file l').index count (drop count (chain_at links file l').blocks) ends_keep steps.names in
     let grown_is : chain_at b file l' ≡ chain' = chain_at_grown from c b file l l' may.laid (index_enough b file l may.has) may.pages steps.places in
-    let places : chain_at named file l' ≡ chain' = keeps.chain file l' ∙ grown_is in
+    let places : chain_at named file l' ≡ chain' = keeps_chain b named file l' keeps ∙ grown_is in
     let head_is : head ≡ get_or chain'.index 0 0 = steps.first ∙ ap (λ (ch : Chain). get_or ch.index 0 0) places in
     let gap_filled = put_bytes chain.blocks (size_in body) (zeros (gap (size_in body) size)) b in
     let links_is : links ≡ linked (drop back chain'.index) gap_filled =
-    steps.ends ∙ ap (λ (ch : Chain). linked (drop back ch.index) zeroed) (zeros_keep.chain file l' ∙ grown_is) ∙ ap (linked (drop back chain'.index)) steps.gap in
+    steps.ends ∙ ap (λ (ch : Chain). linked (drop back ch.index) zeroed) (keeps_chain b zeroed file l' zeros_keep ∙ grown_is) ∙ ap (linked (drop back chain'.index)) steps.gap in
     let rest : drop count chain'.blocks ≡ drop (new_index count c) taken = drop-append_seam chain.blocks (drop (new_index count c) taken) in
     let named_is : named ≡ numbered chain'.index count (drop (new_index count c) taken) (linked (drop back chain'.index) gap_filled) =
     steps.names
-    ∙ ap (λ (ch : Chain). numbered ch.index count (drop count ch.blocks) links) (ends_keep.chain file l' ∙ grown_is)
+    ∙ ap (λ (ch : Chain). numbered ch.index count (drop count ch.blocks) links) (keeps_chain b links file l' ends_keep ∙ grown_is)
     ∙ ap (λ xs. numbered chain'.index count xs links) rest
     ∙ ap (numbered chain'.index count (drop (new_index count c) taken)) links_is in
-    let w = body_sized head size (body_at named file) in
-    let there = keeps.file file l may.laid in
-    let chain_is : chain_at b' file l' ≡ chain_at b file l' = ap (λ x. chain_at x file l') steps.body ∙ chain_bodied (ino_at named file) w named file l' ∙ keeps.chain file l' in
-    let size_is : size_in (body_at b' file) ≡ size =
-    ap (λ x. size_in (body_at x file)) steps.body ∙ ap size_in (body_bodied w named file there.lent there.there) ∙ size_sized head size (body_at named file) steps.whole may.narrow in
+    let w = body_sized head size body in
+    let left = body_leaves (home_at named file) w named in
+    let chain_is : chain_at b' file l' ≡ chain_at b file l' =
+    ap (λ x. chain_at x file l') steps.body ∙ chain_left named (with_body_at (home_at named file) w named) file l' left ∙ keeps_chain b named file l' keeps in
+    let size_is : size_in (body_at b' file) ≡ size = ap size_in steps.has_body ∙ size_sized head size body steps.whole lt in
+    let index_len = index_length b file l may.laid in
+    let blocks_len = blocks_length b file l may.laid in
+    let mi : index_count c - (l.index_kept + length l.index_more.items) ≡ new_index count c = ap (λ n. index_count c - n) (sym index_len ∙ index_enough b file l may.has) in
+    let mb : c - (l.blocks_kept + length l.blocks_more.items) ≡ c - count = ap (λ n. c - n) (sym blocks_len) in
     record {
       edit = steps.body
-          ∙ ap (λ n. with_body n w named) (keeps.ino file)
-          ∙ ap (λ x. with_body ino (body_sized head size x) named) (keeps.body file)
-          ∙ ap (λ h. with_body ino (body_sized h size body) named) head_is
-          ∙ ap (with_body ino (body_sized (get_or chain'.index 0 0) size body)) named_is;
+          ∙ ap (λ h. with_body_at h w named) (home_left b named file keeps.leaves)
+          ∙ ap (λ h. with_body_at home (body_sized h size body) named) head_is
+          ∙ ap (with_body_at home (body_sized (get_or chain'.index 0 0) size body)) named_is;
       chain = chain_is ∙ grown_is;
-      laid = subst (λ x. IsFile x file l') (sym steps.body) (file_bodied (ino_at named file) w named file l' (keeps.file file l' is'));
+      laid = subst (λ x. IsFile x file l') (sym steps.body) (file_left named (with_body_at (home_at named file) w named) file l' left (keeps_file b named file l' keeps is'));
       has = has_grown b b' file size from l l' may.laid is' may.has steps.places may.more chain_is size_is;
+      sized = size_is;
+      full = steps.whole;
+      whole = steps.page;
+      ends = steps.behind;
+      index = steps.places.index ∙ ap (λ n. l.index_more.items ++ count_up from n) mi;
+      blocks = steps.places.blocks ∙ ap (λ n. l.blocks_more.items ++ count_up (from + n) (c - (l.blocks_kept + length l.blocks_more.items))) mi
+          ∙ ap (λ n. l.blocks_more.items ++ count_up (from + new_index count c) n) mb;
       others = λ i ne. steps.others i ne ∙ keeps.body i;
     }
 
--- what a growth keeps of a session
-pub grow_edited : (b b' : Parcel) (file size : ℕ) (taken : List ℕ) (l : Laid) (ls : List Laid) → b' ≡ grown_file (ino_at b file) (chain_at b file l) (body_at b file) size taken b
-    → ((i : ℕ) → i ≢ file → body_at b' i ≡ body_at b i) → Edited file b b' ls
-grow_edited b b' file size taken l ls e others =
-    let c = block_count size in
-    let chain = chain_at b file l in
-    let chain' = chain_grown chain c taken in
-    let count = length chain.blocks in
-    let old = size_in (body_at b file) in
-    let new = zeros (gap old size) in
-    let zeroed = put_bytes chain.blocks old new b in
-    let back = drop (length chain.index - 1) chain'.index in
-    let links = linked back zeroed in
-    let rest = drop (new_index count c) taken in
-    let named = numbered chain'.index count rest links in
-    let w = body_sized (get_or chain'.index 0 0) size (body_at b file) in
-    let first = keeps_then b zeroed links ls (blocks_keep chain.blocks (old / 4096) (blocks_under old (length new)) old new b ls) (linked_keep back zeroed ls) in
-    let keeps = keeps_then b links named ls first (numbered_keep chain'.index count rest links ls) in
-    subst (λ x. Edited file b x ls) (sym e) (edited file (ino_at b file) w b named ls keeps (λ i ne. ap (λ x. body_at x i) (sym e) ∙ others i ne))
-
 -- after a growth there are index pages enough for the blocks
-pub grown_enough : (b x : Parcel) (file size from : ℕ) (l l' : Laid) → MayGrow b file size from l → IsGrown from (block_count size) l l' → Keeps b x []
+pub grown_enough : (b x : Parcel) (size from : ℕ) (file : FilePlace) (l l' : Laid) → MayGrowAt b size from file l → size < 18446744073709551616 → IsGrown from (block_count size) l l' → Keeps b x
     → length (chain_at x file l').blocks ≤ 511 * length (chain_at x file l').index
-grown_enough b x file size from l l' may places keeps =
-    let is' = grown_is_file b file size from l l' may places in
-    let index_many = ap (λ (ch : Chain). length ch.index) (keeps.chain file l') ∙ index_length b file l' is' ∙ index_grown from (block_count size) l l' places in
-    let blocks_many = ap (λ (ch : Chain). length ch.blocks) (keeps.chain file l') ∙ blocks_length b file l' is' ∙ blocks_grown from (block_count size) l l' places in
+grown_enough b x size from file l l' may lt places keeps =
+    let is' = grown_is_file b size from file l l' may lt places in
+    let index_many = ap (λ (ch : Chain). length ch.index) (keeps_chain b x file l' keeps) ∙ index_length b file l' is' ∙ index_grown from (block_count size) l l' places in
+    let blocks_many = ap (λ (ch : Chain). length ch.blocks) (keeps_chain b x file l' keeps) ∙ blocks_length b file l' is' ∙ blocks_grown from (block_count size) l l' places in
     let index_len = index_length b file l may.laid in
     let blocks_len = blocks_length b file l may.laid in
     let many : length (chain_at b file l).blocks ≡ (size_in (body_at b file) + 4095) / 4096 = may.has.blocks in
@@ -264,7 +240,7 @@ grown_enough b x file size from l l' may places keeps =
     omega (arith, index_many, blocks_many, index_len, blocks_len, many, pages, more)
 
 -- the place behind the pages that a growth takes
-pub next_place : (from c : ℕ) (b : Parcel) (file : ℕ) (l : Laid) → IsFile b file l → length (chain_at b file l).index ≡ index_count (length (chain_at b file l).blocks)
+pub next_place : (from c : ℕ) (b : Parcel) (file : FilePlace) (l : Laid) → IsFile b file l → length (chain_at b file l).index ≡ index_count (length (chain_at b file l).blocks)
     → from + (index_count c - (l.index_kept + length l.index_more.items)) + (c - (l.blocks_kept + length l.blocks_more.items)) ≡ from + growth (length (chain_at b file l).blocks) c
 next_place from c b file l is has =
     let mi = index_count c - (l.index_kept + length l.index_more.items) in

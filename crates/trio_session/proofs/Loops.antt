@@ -6,14 +6,15 @@ use Rattle.trio_layout.specs.Chain.{Chain}
 use Rattle.trio_desk.specs.Out.{Parcel}
 use Rattle.trio_session.specs.Layout.{with_page, with_number_in, with_block_number, put_block, put_blocks, linked, numbered, unnamed, unlinked}
 use Rattle.trio_session.specs.inner.Places.{IsFile, chain_at}
+use Rattle.trio_session.specs.declared.laid.FilePlace.{FilePlace}
 use Rattle.trio_session.specs.declared.laid.Laid.{Laid}
 use Rattle.trio_session.proofs.Stays.{chain_stays, file_stays}
 
 -- after a page was written the file and its chain are as before
-pub file_still : (b b' : Parcel) (file : ℕ) (l : Laid) (n : ℕ) (w : List ℕ) → b' ≡ with_page n w b → IsFile b file l → IsFile b' file l
+pub file_still : (b b' : Parcel) (file : FilePlace) (l : Laid) (n : ℕ) (w : List ℕ) → b' ≡ with_page n w b → IsFile b file l → IsFile b' file l
 file_still b b' file l n w e is = subst (λ x. IsFile x file l) (sym e) (file_stays n w b file l is)
 
-pub chain_still : (b b' : Parcel) (file : ℕ) (l : Laid) (n : ℕ) (w : List ℕ) (c : Chain) → b' ≡ with_page n w b → chain_at b file l ≡ c → chain_at b' file l ≡ c
+pub chain_still : (b b' : Parcel) (file : FilePlace) (l : Laid) (n : ℕ) (w : List ℕ) (c : Chain) → b' ≡ with_page n w b → chain_at b file l ≡ c → chain_at b' file l ≡ c
 chain_still b b' file l n w c e is = ap (λ x. chain_at x file l) e ∙ chain_stays n w b file l ∙ is
 
 pub put_step : (blocks : List ℕ) (k end at : ℕ) (bytes : List ℕ) (b b' : Parcel) → k < end → b' ≡ put_block blocks k at bytes b

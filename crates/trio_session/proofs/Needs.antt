@@ -19,7 +19,11 @@ use Rattle.trio_rights.specs.declared.rights.LibNo.{LibNo}
 use Rattle.trio_desk.specs.Contents.{Sizes}
 use Rattle.trio_desk.specs.Out.{LibOut, Parcel, IsFreshLease, IsWellLent, files_out, file_numbers, hold_numbers, page_numbers, lent_numbers, numbers_of_file, lent_core}
 use Rattle.trio_session.specs.Layout.{size_in}
-use Rattle.trio_session.specs.inner.Places.{AreApart, IsFile, HasChain, chain_at, chain_laid, body_at, sheet_at}
+use Rattle.trio_session.specs.inner.Places.{AreApart, IsFile, HasChain, chain_at, chain_laid, body_at, sheet_at, shown_at}
+use Rattle.trio_rights.specs.Sheets.{Sheet}
+use Rattle.trio_session.specs.declared.laid.FilePlace.TheVariants.{Leased}
+use Rattle.trio_session.proofs.More.{More, file_more, has_more}
+use Rattle.trio_session.proofs.Places.{block_at, block_parts, index_at, index_parts, shown_at-Leased}
 use Rattle.trio_session.specs.inner.Inside.{AreLaid, HasLent, chains_laid}
 use Rattle.trio_session.specs.inner.Giving.{with_leased, IsNewLaid, LaidLeased}
 use Rattle.trio_session.specs.declared.laid.PagePlace.{PagePlace}
@@ -53,7 +57,7 @@ apart_holds b hs apart = record {
 }
 
 -- a file that the session has is out
-file_out : (b : Parcel) (out : LibOut) (n : ℕ) → out.writes ≡ map (λ f. f.lent) b.writes → ((i : ℕ) (f : LentFile) → slice_get b.writes i ≡ Some f → HasLent f)
+pub file_out : (b : Parcel) (out : LibOut) (n : ℕ) → out.writes ≡ map (λ f. f.lent) b.writes → ((i : ℕ) (f : LentFile) → slice_get b.writes i ≡ Some f → HasLent f)
     → In n (file_numbers b.writes) → In n (files_out out)
 file_out b out n writes same i =
     let f = map-In (λ (g : LentFile). g.stands.ino) n b.writes i in
@@ -83,7 +87,7 @@ lease_apart b (Read f) lib ino sizes out apart fresh writes pages same = apart
 lease_apart b (Hold h) lib ino sizes out apart fresh writes pages same = apart_holds b (b.holds ++ h ∷ []) apart
 
 -- the chain of a new file is that which was lent
-new_chain : (f : LentFile) (ps : List FreshParts) (l : Laid) → f.stands ≡ f.lent → IsNewLaid f l → chain_laid f.stands ps l ≡ lent_chain f
+pub new_chain : (f : LentFile) (ps : List FreshParts) (l : Laid) → f.stands ≡ f.lent → IsNewLaid f l → chain_laid f.stands ps l ≡ lent_chain f
 new_chain f ps l as_lent new =
     let c : ℕ → ℕ → List ℕ → List ℕ → Chain = λ ik bk im bm. record {
       index = take ik (lent_numbers f.stands.index) ++ map (fresh_number ps) im;
@@ -107,20 +111,23 @@ chains_push [] ps (m ∷ ls) f l e = absurd (omega arith)
 chains_push (g ∷ fs) ps [] f l e = absurd (omega arith)
 chains_push (g ∷ fs) ps (m ∷ ls) f l e = ap (λ cs. chain_laid g.stands ps m ∷ cs) (chains_push fs ps ls f l (omega arith))
 
--- where the pages of files stand, with one more file
-file_push : (b : Parcel) (f : LentFile) (i : ℕ) (l : Laid) → IsFile b i l → IsFile (record b { writes = b.writes ++ f ∷ [] }) i l
-file_push b f i l is = record { lent = is.lent; there = left_at b.writes (f ∷ []) i is.lent is.there; laid = is.laid }
+-- what was there is there, with one more file, or with other holds
+pub push_more : (b : Parcel) (f : LentFile) → More b (record b { writes = b.writes ++ f ∷ [] })
+push_more b f = record { sheets = sheets b f; leases = λ at g e. left_at b.writes (f ∷ []) at g e; numbers = λ at lt. refl; within = λ at lt. lt }
+  where
+    sheets : (b : Parcel) (f : LentFile) (place : PagePlace) (x : Sheet) → sheet_at b place ≡ Some x → sheet_at (record b { writes = b.writes ++ f ∷ [] }) place ≡ Some x
+    sheets b f (Index file at) x e =
+        let r = index_parts b file at x e in
+        index_at (record b { writes = b.writes ++ f ∷ [] }) file at r.0 r.1 (left_at b.writes (f ∷ []) file r.0 r.2) r.3 ∙ ap Some r.4
+    sheets b f (Block file at) x e =
+        let r = block_parts b file at x e in
+        block_at (record b { writes = b.writes ++ f ∷ [] }) file at r.0 r.1 (left_at b.writes (f ∷ []) file r.0 r.2) r.3 ∙ ap Some r.4
+    sheets b f (Fresh at) x e = e
 
-chain_push : (b : Parcel) (f : LentFile) (i : ℕ) (l : Laid) → IsFile b i l → chain_at (record b { writes = b.writes ++ f ∷ [] }) i l ≡ chain_at b i l
-chain_push b f i l is =
-    chain_there (record b { writes = b.writes ++ f ∷ [] }) i l is.lent (left_at b.writes (f ∷ []) i is.lent is.there) ∙ sym (chain_there b i l is.lent is.there)
+pub holds_more : (b : Parcel) (hs : List HoldParts) → More b (record b { holds = hs })
+holds_more b hs = record { sheets = λ place x e. sheet_same b hs place ∙ e; leases = λ at g e. e; numbers = λ at lt. refl; within = λ at lt. lt }
 
-body_push : (b : Parcel) (f : LentFile) (i : ℕ) (l : Laid) → IsFile b i l → body_at (record b { writes = b.writes ++ f ∷ [] }) i ≡ body_at b i
-body_push b f i l is =
-    ap (λ o. option_map_or (λ (g : LentFile). g.stands.body) o []) (left_at b.writes (f ∷ []) i is.lent is.there)
-    ∙ sym (ap (λ o. option_map_or (λ (g : LentFile). g.stands.body) o []) is.there)
-
-last_at : {X : Type 0} (xs : List X) (x : X) → slice_get (xs ++ x ∷ []) (length xs) ≡ Some x
+pub last_at : {X : Type 0} (xs : List X) (x : X) → slice_get (xs ++ x ∷ []) (length xs) ≡ Some x
 last_at [] x = refl
 last_at (y ∷ ys) x = last_at ys x
 
@@ -133,17 +140,12 @@ write_laid b ls f l sizes as_lent well new are = record {
     | inr h ↦ subst HasLent h.1 (record { ino = ap (λ (s : Shown). s.ino) as_lent; numbers = ap numbers_of_file as_lent })
   ];
   each = λ i m e. elim (push_at ls l i m e) [
-    | inl h ↦ file_push b f i m (are.each i m h)
-    | inr h ↦ subst (λ n. IsFile b' n m) (sym h.0) (subst (IsFile b' (length ls)) h.1 here)
+    | inl h ↦ file_more b b' (push_more b f) (Leased i) m (are.each i m h)
+    | inr h ↦ subst (λ n. IsFile b' (Leased n) m) (sym h.0) (subst (IsFile b' (Leased (length ls))) h.1 here)
   ];
   chains = λ i m e. elim (push_at ls l i m e) [
-    | inl h ↦
-        let is = are.each i m h in
-        record {
-          blocks = ap (λ (c : Chain). length c.blocks) (chain_push b f i m is) ∙ (are.chains i m h).blocks ∙ ap (λ body. block_count (size_in body)) (sym (body_push b f i m is));
-          index = ap (λ (c : Chain). length c.index) (chain_push b f i m is) ∙ (are.chains i m h).index ∙ ap (λ body. index_count (block_count (size_in body))) (sym (body_push b f i m is));
-        }
-    | inr h ↦ subst (λ n. HasChain b' n m) (sym h.0) (subst (HasChain b' (length ls)) h.1 counts)
+    | inl h ↦ has_more b b' (push_more b f) (Leased i) m (are.each i m h) (are.chains i m h)
+    | inr h ↦ subst (λ n. HasChain b' (Leased n) m) (sym h.0) (subst (HasChain b' (Leased (length ls))) h.1 counts)
   ];
 }
   where
@@ -153,10 +155,14 @@ write_laid b ls f l sizes as_lent well new are = record {
     there : slice_get b'.writes (length ls) ≡ Some f
     there = ap (slice_get (b.writes ++ f ∷ [])) are.beside ∙ last_at b.writes f
 
-    here : IsFile b' (length ls) l
+    shown : shown_at b' (Leased (length ls)) ≡ Some f.stands
+    shown = shown_at-Leased b' (length ls) f there
+
+    here : IsFile b' (Leased (length ls)) l
     here = record {
-      lent = f;
-      there = there;
+      shown = f.stands;
+      there = shown;
+      slot = tt;
       laid = record {
         index = omega (arith, new.index_kept);
         blocks = omega (arith, new.blocks_kept);
@@ -167,16 +173,16 @@ write_laid b ls f l sizes as_lent well new are = record {
       };
     }
 
-    body : body_at b' (length ls) ≡ f.lent.body
-    body = ap (λ o. option_map_or (λ (g : LentFile). g.stands.body) o []) there ∙ ap (λ (s : Shown). s.body) as_lent
+    body : body_at b' (Leased (length ls)) ≡ f.lent.body
+    body = ap (λ o. option_map_or (λ (g : Shown). g.body) o []) shown ∙ ap (λ (s : Shown). s.body) as_lent
 
     lengths : (length (lent_numbers f.lent.index) ≡ index_count (block_count (size_in f.lent.body))) × (index_count (block_count (size_in f.lent.body)) ≡ index_count (block_count (size_in f.lent.body)) → length (lent_numbers f.lent.blocks) ≡ block_count (size_in f.lent.body))
     lengths = chain_lengths (lent_core sizes f.lent) (index_count (block_count (size_in f.lent.body))) (block_count (size_in f.lent.body)) (body_says f.lent.body).head (record { index = lent_numbers f.lent.index; blocks = lent_numbers f.lent.blocks }) well.chain
 
-    chain : chain_at b' (length ls) l ≡ lent_chain f
-    chain = chain_there b' (length ls) l f there ∙ new_chain f b.pages l as_lent new
+    chain : chain_at b' (Leased (length ls)) l ≡ lent_chain f
+    chain = chain_there b' (Leased (length ls)) l f.stands shown ∙ new_chain f b.pages l as_lent new
 
-    counts : HasChain b' (length ls) l
+    counts : HasChain b' (Leased (length ls)) l
     counts = record {
       blocks = ap (λ (c : Chain). length c.blocks) chain ∙ lengths.1 refl ∙ ap (λ x. block_count (size_in x)) (sym body);
       index = ap (λ (c : Chain). length c.index) chain ∙ lengths.0 ∙ ap (λ x. index_count (block_count (size_in x))) (sym body);
@@ -190,8 +196,8 @@ lease_laid b ls ls' (Read f) lib ino sizes out fresh new are = subst (AreLaid b)
 lease_laid b ls ls' (Hold h) lib ino sizes out fresh new are = subst (AreLaid (record b { holds = b.holds ++ h ∷ [] })) (sym new) (record {
   beside = are.beside;
   same = are.same;
-  each = λ i l e. let is = are.each i l e in record { lent = is.lent; there = is.there; laid = is.laid };
-  chains = λ i l e. let has = are.chains i l e in record { blocks = has.blocks; index = has.index };
+  each = λ i l e. file_more b (record b { holds = b.holds ++ h ∷ [] }) (holds_more b (b.holds ++ h ∷ [])) (Leased i) l (are.each i l e);
+  chains = λ i l e. has_more b (record b { holds = b.holds ++ h ∷ [] }) (holds_more b (b.holds ++ h ∷ [])) (Leased i) l (are.each i l e) (are.chains i l e);
 })
 
 pub lease_pages : (b : Parcel) (lease : Lease) → (with_leased b lease).pages ≡ b.pages

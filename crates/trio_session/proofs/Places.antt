@@ -7,6 +7,7 @@ use Rattle.std.proofs.lemmas.Bool.{eqb-true, eq-eqb}
 use Rattle.std.proofs.Common.{IsTrue, get_or, length, ◌<◌}
 use Rattle.std.specs.Option.{is_some}
 use Rattle.std.proofs.lemmas.Option.{slice_get-map, get_or_from_slice_get, slice_get-get_or}
+use Rattle.std.proofs.lemmas.List.{length-set, get_or-set_same}
 use Rattle.std.proofs.lemmas.Simd.{map-map}
 use denote.Bor.{Bor}
 use Rattle.trio_page.specs.declared.page.Page.{Page}
@@ -17,14 +18,16 @@ use Rattle.trio_lists.proofs.Members.{In-left, In-right, In-cases, In-flat, flat
 use Rattle.trio_lists.proofs.Filters.{find-In, In-find}
 use Rattle.trio_rights.specs.Sheets.{Sheet}
 use Rattle.trio_rights.specs.Bundle.{Written, bundle_sheets}
-use Rattle.trio_lease.specs.Shown.{LentFile, lent_at, page_at as lent_bytes, with_touched, with_page as lent_with}
+use Rattle.trio_lease.specs.Shown.{LentFile, Shown, lent_at, page_at as lent_bytes, with_touched, with_page as lent_with}
 use Rattle.trio_lease.specs.Views.{lent_sheet, fresh_sheet, written_in}
 use Rattle.trio_lease.specs.declared.parts.LentPage.{LentPage}
 use Rattle.trio_lease.specs.declared.parts.FreshParts.{FreshParts}
 use Rattle.trio_desk.specs.Out.{Parcel}
 use Rattle.trio_desk.specs.Ready.{bundle_of}
-use Rattle.trio_session.specs.Layout.{page_in, with_page, index_with, block_with, fresh_with, file_with, with_body, body_with, body_sized}
-use Rattle.trio_session.specs.inner.Places.{AreApart, number_at, sheet_at, ino_at, body_at}
+use Rattle.trio_session.specs.Layout.{page_in, with_page, index_with, block_with, fresh_with, file_with, with_body, body_with}
+use Rattle.trio_layout.specs.Entries.{body_in_slot}
+use Rattle.trio_session.specs.inner.Places.{AreApart, number_at, sheet_at, ino_at, body_at, shown_at, slot_file}
+use Rattle.trio_session.specs.declared.laid.FilePlace.TheVariants.{Leased, InSlot}
 use Rattle.trio_session.specs.declared.laid.PagePlace.{PagePlace}
 use Rattle.trio_session.specs.declared.laid.PagePlace.TheVariants.{Index, Block, Fresh}
 use Rattle.trio_session.proofs.Lists.{map_same, set_map, once_at, map_alike, slice_get-In, In-slice_get, if_same, if_other, set_beside}
@@ -407,7 +410,7 @@ then_map : {Y : Type 0} (h : LentFile → LentFile) (g : LentFile → Option Y) 
 then_map h g None same = refl
 then_map h g (Some f) same = same f
 
-with_body-at : (ino : ℕ) (w : List ℕ) (b : Parcel) (place : PagePlace) → sheet_at (with_body ino w b) place ≡ sheet_at b place
+pub with_body-at : (ino : ℕ) (w : List ℕ) (b : Parcel) (place : PagePlace) → sheet_at (with_body ino w b) place ≡ sheet_at b place
 unfolding with_body
 with_body-at ino w b (Index file at) =
     let g : LentFile → Option LentPage = λ f. slice_get f.stands.index at in
@@ -427,28 +430,105 @@ apart_body ino w b apart = record {
       (sym (map-map (λ (f : LentFile). f.stands.ino) (body_with ino w) b.writes ∙ map_alike (λ f. (body_with ino w f).stands.ino) (λ f. f.stands.ino) b.writes (body_with-ino ino w))) apart.files;
 }
 
-pub body_put : (b : Parcel) (file head size : ℕ) (r q : LentFile) → AreApart b → file < length b.writes → r ≡ get_or b.writes file r
-    → q ≡ record r { stands = record r.stands { body = body_sized head size r.stands.body } }
-    → record b { writes = slice_set b.writes file q } ≡ with_body (ino_at b file) (body_sized head size (body_at b file)) b
+pub body_put : (b : Parcel) (at : ℕ) (w : List ℕ) (r q : LentFile) → AreApart b → at < length b.writes → r ≡ get_or b.writes at r
+    → q ≡ record r { stands = record r.stands { body = w } }
+    → record b { writes = slice_set b.writes at q } ≡ with_body (ino_at b at) w b
 unfolding with_body
-body_put b file head size r q apart lt e eq =
-    let ef : slice_get b.writes file ≡ Some r = slice_get-get_or b.writes file r lt ∙ ap Some (sym e) in
-    let w = body_sized head size r.stands.body in
+body_put b at w r q apart lt e eq =
+    let ef : slice_get b.writes at ≡ Some r = slice_get-get_or b.writes at r lt ∙ ap Some (sym e) in
     let ino = r.stands.ino in
-    let number : ino_at b file ≡ ino = ap (λ o. option_map_or (λ (f : LentFile). f.stands.ino) o 0) ef in
-    let body : body_at b file ≡ r.stands.body = ap (λ o. option_map_or (λ (f : LentFile). f.stands.body) o []) ef in
+    let number : ino_at b at ≡ ino = ap (λ o. option_map_or (λ (f : LentFile). f.stands.ino) o 0) ef in
     let mine : body_with ino w r ≡ record r { stands = record r.stands { body = w } } = if_same ino ino (record r { stands = record r.stands { body = w } }) r refl in
-    let files : slice_set b.writes file (body_with ino w r) ≡ map (body_with ino w) b.writes = set_map (body_with ino w) b.writes file r ef (λ j g eg ne.
-    if_other g.stands.ino ino (record g { stands = record g.stands { body = w } }) g (λ s. ne (once_at (λ (f : LentFile). f.stands.ino) b.writes j file g r apart.files eg ef s))) in
-    ap (λ x. record b { writes = slice_set b.writes file x }) (eq ∙ sym mine)
+    let files : slice_set b.writes at (body_with ino w r) ≡ map (body_with ino w) b.writes = set_map (body_with ino w) b.writes at r ef (λ j g eg ne.
+    if_other g.stands.ino ino (record g { stands = record g.stands { body = w } }) g (λ s. ne (once_at (λ (f : LentFile). f.stands.ino) b.writes j at g r apart.files eg ef s))) in
+    ap (λ x. record b { writes = slice_set b.writes at x }) (eq ∙ sym mine)
     ∙ ap (λ fs. record b { writes = fs }) files
-    ∙ ap (λ x. with_body ino (body_sized head size x) b) (sym body)
-    ∙ ap (λ n. with_body n (body_sized head size (body_at b file)) b) (sym number)
+    ∙ ap (λ n. with_body n w b) (sym number)
 
 -- the body of the file at a place, and those of the others after it was written
-pub body_there : (b : Parcel) (file : ℕ) (r : LentFile) → file < length b.writes → r ≡ get_or b.writes file r → body_at b file ≡ r.stands.body
-body_there b file r lt e =
-    ap (λ o. option_map_or (λ (f : LentFile). f.stands.body) o []) (slice_get-get_or b.writes file r lt ∙ ap Some (sym e))
+pub body_set : (b : Parcel) (at : ℕ) (q : LentFile) → at < length b.writes → body_at (record b { writes = slice_set b.writes at q }) (Leased at) ≡ q.stands.body
+body_set b at q lt =
+    let within : at < length (slice_set b.writes at q) = rw length-set lt in
+    ap (λ o. option_map_or (λ (f : Shown). f.body) (option_map (λ (f : LentFile). f.stands) o) [])
+    (slice_get-get_or (slice_set b.writes at q) at q within ∙ ap Some (get_or-set_same b.writes at q q lt))
 
-pub body_others : (b : Parcel) (file i : ℕ) (q : LentFile) → i ≢ file → body_at (record b { writes = slice_set b.writes file q }) i ≡ body_at b i
-body_others b file i q ne = ap (λ o. option_map_or (λ (f : LentFile). f.stands.body) o []) (set_beside b.writes file i q ne)
+pub body_others : (b : Parcel) (at i : ℕ) (q : LentFile) → i ≢ at → body_at (record b { writes = slice_set b.writes at q }) (Leased i) ≡ body_at b (Leased i)
+body_others b at i q ne = ap (λ o. option_map_or (λ (f : Shown). f.body) (option_map (λ (f : LentFile). f.stands) o) []) (set_beside b.writes at i q ne)
+
+-- ---- files by their places
+
+-- a written file
+pub lent_parts : (b : Parcel) (at : ℕ) (s : Shown) → shown_at b (Leased at) ≡ Some s → (f : LentFile) × (slice_get b.writes at ≡ Some f) × (f.stands ≡ s)
+lent_parts b at s e = map_some (λ (f : LentFile). f.stands) (slice_get b.writes at) s e
+
+pub shown_at-Leased : (b : Parcel) (at : ℕ) (f : LentFile) → slice_get b.writes at ≡ Some f → shown_at b (Leased at) ≡ Some f.stands
+shown_at-Leased b at f e = ap (option_map (λ (g : LentFile). g.stands)) e
+
+-- a file in a slot
+pub slot_parts : (b : Parcel) (page : PagePlace) (slot : ℕ) (s : Shown) → shown_at b (InSlot page slot) ≡ Some s
+    → (x : Sheet) × (sheet_at b page ≡ Some x) × (slot_file (body_in_slot slot x.bytes) ≡ s)
+slot_parts b page slot s e = map_some (λ (x : Sheet). slot_file (body_in_slot slot x.bytes)) (sheet_at b page) s e
+
+pub shown_at-InSlot : (b : Parcel) (page : PagePlace) (slot : ℕ) (x : Sheet) → sheet_at b page ≡ Some x → shown_at b (InSlot page slot) ≡ Some (slot_file (body_in_slot slot x.bytes))
+shown_at-InSlot b page slot x e = ap (option_map (λ (y : Sheet). slot_file (body_in_slot slot y.bytes))) e
+
+-- each place has a page of the same number after a write
+pub number_stays : (n : ℕ) (w : List ℕ) (b : Parcel) (place : PagePlace)
+    → option_map (λ x. x.page) (sheet_at (with_page n w b) place) ≡ option_map (λ x. x.page) (sheet_at b place)
+unfolding with_page
+number_stays n w b (Index file at) =
+    ap (λ o. option_map (λ (x : Sheet). x.page) (option_map lent_sheet (option_and_then (λ (f : LentFile). slice_get f.stands.index at) o))) (slice_get-map (file_with n w) b.writes file)
+    ∙ by (slice_get b.writes file)
+  where
+    page : (o : Option LentPage) → option_map (λ (x : Sheet). x.page) (option_map lent_sheet (option_map (index_with n w) o)) ≡ option_map (λ (x : Sheet). x.page) (option_map lent_sheet o)
+    page None = refl
+    page (Some p) = ap (λ m. Some m.0) (index_with-no n w p)
+
+    by : (o : Option LentFile) → option_map (λ (x : Sheet). x.page) (option_map lent_sheet (option_and_then (λ (f : LentFile). slice_get f.stands.index at) (option_map (file_with n w) o)))
+        ≡ option_map (λ (x : Sheet). x.page) (option_map lent_sheet (option_and_then (λ (f : LentFile). slice_get f.stands.index at) o))
+    by None = refl
+    by (Some f) = ap (λ o. option_map (λ (x : Sheet). x.page) (option_map lent_sheet o)) (slice_get-map (index_with n w) f.stands.index at) ∙ page (slice_get f.stands.index at)
+number_stays n w b (Block file at) =
+    ap (λ o. option_map (λ (x : Sheet). x.page) (option_map lent_sheet (option_and_then (λ (f : LentFile). slice_get f.stands.blocks at) o))) (slice_get-map (file_with n w) b.writes file)
+    ∙ by (slice_get b.writes file)
+  where
+    page : (o : Option LentPage) → option_map (λ (x : Sheet). x.page) (option_map lent_sheet (option_map (block_with n w) o)) ≡ option_map (λ (x : Sheet). x.page) (option_map lent_sheet o)
+    page None = refl
+    page (Some p) = ap (λ m. Some m.0) (block_with-no n w p)
+
+    by : (o : Option LentFile) → option_map (λ (x : Sheet). x.page) (option_map lent_sheet (option_and_then (λ (f : LentFile). slice_get f.stands.blocks at) (option_map (file_with n w) o)))
+        ≡ option_map (λ (x : Sheet). x.page) (option_map lent_sheet (option_and_then (λ (f : LentFile). slice_get f.stands.blocks at) o))
+    by None = refl
+    by (Some f) = ap (λ o. option_map (λ (x : Sheet). x.page) (option_map lent_sheet o)) (slice_get-map (block_with n w) f.stands.blocks at) ∙ page (slice_get f.stands.blocks at)
+number_stays n w b (Fresh at) =
+    ap (λ o. option_map (λ (x : Sheet). x.page) (option_map fresh_sheet o)) (slice_get-map (fresh_with n w) b.pages at) ∙ by (slice_get b.pages at)
+  where
+    by : (o : Option FreshParts) → option_map (λ (x : Sheet). x.page) (option_map fresh_sheet (option_map (fresh_with n w) o)) ≡ option_map (λ (x : Sheet). x.page) (option_map fresh_sheet o)
+    by None = refl
+    by (Some p) = ap (λ m. Some m.0) (fresh_with-no n w p)
+
+-- what is said of a page by its number alone
+pub number_at-map : (b b' : Parcel) (place : PagePlace) → option_map (λ x. x.page) (sheet_at b' place) ≡ option_map (λ x. x.page) (sheet_at b place) → number_at b' place ≡ number_at b place
+number_at-map b b' place e = sym (by (sheet_at b' place)) ∙ ap (λ o. option_map_or (λ n. n) o 0) e ∙ by (sheet_at b place)
+  where
+    by : (o : Option Sheet) → option_map_or (λ n. n) (option_map (λ (x : Sheet). x.page) o) 0 ≡ option_map_or (λ (x : Sheet). x.page) o 0
+    by None = refl
+    by (Some x) = refl
+
+-- a page that is there is there after a write, with the same number
+pub still_there : (b b' : Parcel) (place : PagePlace) (x : Sheet) → option_map (λ x. x.page) (sheet_at b' place) ≡ option_map (λ x. x.page) (sheet_at b place) → sheet_at b place ≡ Some x
+    → (y : Sheet) × (sheet_at b' place ≡ Some y) × (y.page ≡ x.page)
+still_there b b' place x e there = map_some (λ (y : Sheet). y.page) (sheet_at b' place) x.page (e ∙ ap (option_map (λ (y : Sheet). y.page)) there)
+
+-- the body in a slot of the page at a place
+pub body_at-InSlot : (b : Parcel) (page : PagePlace) (slot : ℕ) → AreApart b → IsTrue (is_some (shown_at b (InSlot page slot)))
+    → body_at b (InSlot page slot) ≡ body_in_slot slot (page_in b (number_at b page))
+body_at-InSlot b page slot apart there = by (sheet_at b page) refl there
+  where
+    by : (o : Option Sheet) → sheet_at b page ≡ o → IsTrue (is_some (option_map (λ (x : Sheet). slot_file (body_in_slot slot x.bytes)) o))
+        → body_at b (InSlot page slot) ≡ body_in_slot slot (page_in b (number_at b page))
+    by None e k = absurd (let t : false ≡ true = k in cc t)
+    by (Some x) e k =
+        ap (λ o. option_map_or (λ (f : Shown). f.body) (option_map (λ (x : Sheet). slot_file (body_in_slot slot x.bytes)) o) []) e
+        ∙ ap (body_in_slot slot) (sym (page_at b page x apart e))
+        ∙ ap (λ n. body_in_slot slot (page_in b n)) (sym (ap (λ o. option_map_or (λ (s : Sheet). s.page) o 0) e))

@@ -1,11 +1,12 @@
 -- A session after an allotment.
-use Rattle.std.proofs.Common.{◌≡◌, ℕ, zero, suc, ◌<◌, IsTrue, List, [], ◌∷◌, ◌++◌, length, get_or, Some, sym, refl, ap, ◌∙◌, subst, inl, inr, arith}
+use Rattle.std.proofs.Common.{◌≡◌, ℕ, zero, suc, ◌<◌, IsTrue, List, [], ◌∷◌, ◌++◌, length, get_or, Option, Some, sym, refl, ap, ◌∙◌, subst, inl, inr, arith}
 use Rattle.std.specs.Prelude.{map, take, slice_get}
+use Rattle.std.specs.Option.{option_map_or}
 use Rattle.std.proofs.lemmas.List.{length-append, length-map, map-append, get_or_append_left}
 use Rattle.trio_lists.specs.Lists.{In}
 use Rattle.trio_lists.proofs.Members.{In-left, In-right, In-cases}
 use Rattle.trio_lists.proofs.New.{are_new-before, are_new-fewer}
-use Rattle.trio_layout.specs.Chain.{Chain}
+use Rattle.trio_layout.specs.Chain.{Chain, index_count}
 use Rattle.trio_lease.specs.Shown.{Shown, LentFile}
 use Rattle.trio_lease.specs.declared.fresh.Allotted.{Allotted}
 use Rattle.trio_lease.specs.declared.parts.FreshParts.{FreshParts}
@@ -13,11 +14,20 @@ use Rattle.trio_lease.specs.declared.parts.InoParts.{InoParts}
 use Rattle.trio_desk.specs.Out.{LibOut, Parcel, IsFreshAllotment, lent_numbers, page_numbers, ino_numbers, pages_out}
 use Rattle.trio_desk.specs.Contents.{Sizes}
 use Rattle.trio_rights.specs.declared.rights.LibNo.{LibNo}
-use Rattle.trio_session.specs.inner.Places.{AreApart, IsLaid, IsFile, chain_at, chain_laid, fresh_number}
+use Rattle.trio_session.specs.inner.Places.{AreApart, HasChain, IsAt, IsLaid, IsFile, body_at, chain_at, chain_laid, fresh_number, number_at, sheet_at, shown_at}
+use Rattle.trio_rights.specs.Sheets.{Sheet}
+use Rattle.trio_layout.specs.Body.{block_count}
+use Rattle.trio_session.specs.Layout.{page_in, size_in}
+use Rattle.trio_session.specs.declared.laid.FilePlace.{FilePlace}
+use Rattle.trio_session.specs.declared.laid.FilePlace.TheVariants.{InSlot, Leased}
+use Rattle.trio_session.specs.declared.laid.PagePlace.{PagePlace}
+use Rattle.trio_session.specs.declared.laid.PagePlace.TheVariants.{Block, Fresh, Index}
+use Rattle.trio_session.proofs.More.{More, chain_more, file_more, has_more}
+use Rattle.trio_session.proofs.Places.{fresh_at, fresh_parts, shown_at-Leased}
 use Rattle.trio_session.specs.inner.Inside.{AreLaid, HasLent, chains_laid}
 use Rattle.trio_session.specs.inner.Giving.{with_given}
 use Rattle.trio_session.specs.declared.laid.Laid.{Laid}
-use Rattle.trio_session.proofs.Given.{apart_pages, page_out}
+use Rattle.trio_session.proofs.Given.{apart_pages, left_at, page_out}
 use Rattle.trio_session.proofs.Chains.{chain_there}
 use Rattle.trio_session.proofs.Desks.{alike_trans}
 use Rattle.trio_layout.specs.Range.{is_core}
@@ -26,64 +36,49 @@ use Rattle.trio_session.specs.Asked.{with_allotted as session_allotted}
 use Rattle.trio_desk.specs.Call.{Allot, Given, DeskSeen, SeenAfter}
 use Rattle.trio_session.specs.Seen.{SessionSeen, Room, IsOn, has_out}
 
--- places of allotted pages, with more behind these
-numbers_more : (ps more : List FreshParts) (ats : List ℕ) → ((at : ℕ) → In at ats → at < length ps) → map (fresh_number (ps ++ more)) ats ≡ map (fresh_number ps) ats
-numbers_more ps more [] all = refl
-numbers_more ps more (at ∷ ats) all =
-    let lt : at < length (page_numbers ps) = rw length-map (all at (inl refl)) in
-    let one : fresh_number (ps ++ more) at ≡ fresh_number ps at =
-    ap (λ ns. get_or ns at 0) (map-append (λ (p : FreshParts). p.no.0) ps more) ∙ get_or_append_left (page_numbers ps) (page_numbers more) 0 at lt in
-    ap (λ n. n ∷ map (fresh_number (ps ++ more)) ats) one ∙ ap (λ ns. fresh_number ps at ∷ ns) (numbers_more ps more ats (λ x i. all x (inr i)))
+-- what was there is there
+pub given_more : (b : Parcel) (given : Allotted) → More b (with_given b given)
+given_more b given = record {
+  sheets = sheet_more b given;
+  leases = λ at f e. e;
+  numbers = λ at lt.
+      let within : at < length (page_numbers b.pages) = rw length-map lt in
+      ap (λ ns. get_or ns at 0) (map-append (λ (p : FreshParts). p.no.0) b.pages given.pages.items) ∙ get_or_append_left (page_numbers b.pages) (page_numbers given.pages.items) 0 at within;
+  within = λ at lt. (let len = length-append b.pages given.pages.items in omega (arith, lt, len));
+}
+  where
+    sheet_more : (b : Parcel) (given : Allotted) (place : PagePlace) (x : Sheet) → sheet_at b place ≡ Some x → sheet_at (with_given b given) place ≡ Some x
+    sheet_more b given (Index file at) x e = e
+    sheet_more b given (Block file at) x e = e
+    sheet_more b given (Fresh at) x e =
+        let p = fresh_parts b at x e in
+        fresh_at (with_given b given) at p.0 (left_at b.pages given.pages.items at p.0 p.1) ∙ ap Some p.2
 
-chain_more : (f : Shown) (ps more : List FreshParts) (l : Laid) → IsLaid f ps l → chain_laid f (ps ++ more) l ≡ chain_laid f ps l
-chain_more f ps more l is =
-    ap (λ ns. record (chain_laid f (ps ++ more) l) { index = take l.index_kept (lent_numbers f.index) ++ ns }) (numbers_more ps more l.index_more.items is.index_there)
-    ∙ ap (λ ns. record (chain_laid f ps l) { blocks = take l.blocks_kept (lent_numbers f.blocks) ++ ns }) (numbers_more ps more l.blocks_more.items is.blocks_there)
+-- the chains of written files stay
+chains_more : (b : Parcel) (given : Allotted) (fs : List LentFile) (ls : List Laid)
+    → ((i : ℕ) (f : LentFile) (l : Laid) → slice_get fs i ≡ Some f → slice_get ls i ≡ Some l → IsLaid f.stands b.pages l) → chains_laid fs (with_given b given).pages ls ≡ chains_laid fs b.pages ls
+chains_more b given [] ls all = refl
+chains_more b given (f ∷ fs) [] all = refl
+chains_more b given (f ∷ fs) (l ∷ ls) all =
+    ap (λ c. c ∷ chains_laid fs (with_given b given).pages ls) (chain_more b (with_given b given) (given_more b given) f.stands l (all zero f l refl refl))
+    ∙ ap (λ cs. chain_laid f.stands b.pages l ∷ cs) (chains_more b given fs ls (λ i g m eg em. all (suc i) g m eg em))
 
-pub chains_more : (fs : List LentFile) (ps more : List FreshParts) (ls : List Laid)
-    → ((i : ℕ) (f : LentFile) (l : Laid) → slice_get fs i ≡ Some f → slice_get ls i ≡ Some l → IsLaid f.stands ps l) → chains_laid fs (ps ++ more) ls ≡ chains_laid fs ps ls
-chains_more [] ps more ls all = refl
-chains_more (f ∷ fs) ps more [] all = refl
-chains_more (f ∷ fs) ps more (l ∷ ls) all =
-    ap (λ c. c ∷ chains_laid fs (ps ++ more) ls) (chain_more f.stands ps more l (all zero f l refl refl))
-    ∙ ap (λ cs. chain_laid f.stands ps l ∷ cs) (chains_more fs ps more ls (λ i g m eg em. all (suc i) g m eg em))
-
--- the file at a place is one
-one_file : (b : Parcel) (i : ℕ) (l : Laid) (f : LentFile) → IsFile b i l → slice_get b.writes i ≡ Some f → IsLaid f.stands b.pages l
-one_file b i l f is e =
-    let same : is.lent ≡ f = (let t : Some is.lent ≡ Some f = sym is.there ∙ e in cc t) in
-    subst (λ (g : LentFile). IsLaid g.stands b.pages l) same is.laid
+laid_at : (b : Parcel) (ls : List Laid) (i : ℕ) (l : Laid) (f : LentFile) → AreLaid b ls → slice_get ls i ≡ Some l → slice_get b.writes i ≡ Some f → IsLaid f.stands b.pages l
+laid_at b ls i l f are el ef =
+    let is = are.each i l el in
+    let both : Some is.shown ≡ Some f.stands = sym is.there ∙ shown_at-Leased b i f ef in
+    let same : is.shown ≡ f.stands = cc both in
+    subst (λ g. IsLaid g b.pages l) same is.laid
 
 pub given_chains : (b : Parcel) (ls : List Laid) (given : Allotted) → AreLaid b ls → chains_laid (with_given b given).writes (with_given b given).pages ls ≡ chains_laid b.writes b.pages ls
-given_chains b ls given are = chains_more b.writes b.pages given.pages.items ls (λ i f l ef el. one_file b i l f (are.each i l el) ef)
-
-file_more : (b : Parcel) (given : Allotted) (i : ℕ) (l : Laid) → IsFile b i l → IsFile (with_given b given) i l
-file_more b given i l is = record {
-  lent = is.lent;
-  there = is.there;
-  laid = record {
-    index = is.laid.index;
-    blocks = is.laid.blocks;
-    narrow_index = is.laid.narrow_index;
-    narrow_blocks = is.laid.narrow_blocks;
-    index_there = λ at h. (let lt = is.laid.index_there at h in let len = length-append b.pages given.pages.items in omega (arith, lt, len));
-    blocks_there = λ at h. (let lt = is.laid.blocks_there at h in let len = length-append b.pages given.pages.items in omega (arith, lt, len));
-  };
-}
-
-chain_at_more : (b : Parcel) (given : Allotted) (i : ℕ) (l : Laid) → IsFile b i l → chain_at (with_given b given) i l ≡ chain_at b i l
-chain_at_more b given i l is =
-    chain_there (with_given b given) i l is.lent is.there ∙ chain_more is.lent.stands b.pages given.pages.items l is.laid ∙ sym (chain_there b i l is.lent is.there)
+given_chains b ls given are = chains_more b given b.writes ls (λ i f l ef el. laid_at b ls i l f are el ef)
 
 pub given_laid : (b : Parcel) (ls : List Laid) (given : Allotted) → AreLaid b ls → AreLaid (with_given b given) ls
 given_laid b ls given are = record {
   beside = are.beside;
   same = are.same;
-  each = λ i l e. file_more b given i l (are.each i l e);
-  chains = λ i l e. record {
-    blocks = ap (λ (c : Chain). length c.blocks) (chain_at_more b given i l (are.each i l e)) ∙ (are.chains i l e).blocks;
-    index = ap (λ (c : Chain). length c.index) (chain_at_more b given i l (are.each i l e)) ∙ (are.chains i l e).index;
-  };
+  each = λ i l e. file_more b (with_given b given) (given_more b given) (Leased i) l (are.each i l e);
+  chains = λ i l e. has_more b (with_given b given) (given_more b given) (Leased i) l (are.each i l e) (are.chains i l e);
 }
 
 pub given_apart : (b : Parcel) (given : Allotted) (lib : LibNo) (sizes : Sizes) (out : LibOut) → AreApart b → IsFreshAllotment lib sizes out given

@@ -1,16 +1,20 @@
 -- What comes of a session's calls of its desk, by what the desk told it.
-use Rattle.std.specs.Prelude.{◌≡◌, ◌⊎◌, ⊤, ℕ, Bool, IsTrue, IsErr, List, [], ◌∷◌, ◌++◌, map, length, Result, Ok, Err}
+use Rattle.std.specs.Prelude.{◌≡◌, ◌⊎◌, ⊤, ℕ, Bool, IsTrue, IsErr, List, [], ◌∷◌, ◌++◌, map, length, Option, Some, Result, Ok, Err}
 use Rattle.trio_layout.specs.Chain.{Chain}
 use Rattle.trio_lists.specs.Lists.{In}
-use Rattle.trio_lease.specs.Shown.{LentFile}
+use Rattle.trio_lease.specs.Shown.{LentFile, Shown}
 use Rattle.trio_lease.specs.declared.lease.Lease.{Lease}
 use Rattle.trio_lease.specs.declared.lease.Lease.TheVariants.{Write, Read, Hold}
 use Rattle.trio_nodes.specs.declared.answers.GrantFault.{GrantFault}
 use Rattle.trio_nodes.specs.declared.answers.GrantFault.TheVariants.{NoMemory as NoGrantMemory}
+use Rattle.trio_nodes.specs.declared.call.Call.{Call}
+use Rattle.trio_nodes.specs.declared.answers.ModeFault.{ModeFault}
 use Rattle.trio_nodes.specs.declared.answers.AllotFault.{AllotFault}
 use Rattle.trio_nodes.specs.declared.answers.AllotFault.TheVariants.{NoMemory as NoAllotMemory}
-use Rattle.trio_desk.specs.Out.{IsFreshLease, lent_numbers, zero_page, new_ino}
-use Rattle.trio_desk.specs.Call.{DeskSeen, Grant, SeenAfter, TellsHolder, Told, Lent, NotLent, Given, NotGiven, Settled, NotSettled}
+use Rattle.trio_desk.specs.Out.{HasWanted, IsFreshAllotment, IsFreshLease, ino_numbers, kind_lent, lent_numbers, new_ino, page_numbers, zero_page}
+use Rattle.trio_desk.specs.Refusals.{TellsCause, TellsLack}
+use Rattle.trio_lease.specs.declared.fresh.Allotted.{Allotted}
+use Rattle.trio_desk.specs.Call.{Allot, DeskSeen, Grant, SeenAfter, SetMode, TellsHolder, Told, Lent, NotLent, Given, NotGiven, ModeSet, NotModeSet, Settled, NotSettled, call_back}
 use Rattle.trio_nodes.specs.declared.grant.GrantKind.{GrantKind}
 use Rattle.trio_session.specs.Seen.{SessionSeen, emptied}
 
@@ -39,16 +43,30 @@ pub record SameBut (s s' : SessionSeen) : Type 0 where
   pub same : s' ≡ record s { indexed = s'.indexed; room = s'.room }
   pub indexed : (n : ℕ) → In n s.indexed → In n s'.indexed
 
--- a lease is a new one on the file
-abbrev pub FitsAsk : DeskSeen → ℕ → Told → Type 0
-FitsAsk desk ino (Lent lease) = IsFreshLease desk.lib ino desk.sizes desk.out lease
-FitsAsk desk ino told = ⊤
+-- a lease is a new one on the file, and of the kind that was asked
+abbrev pub FitsAsk : DeskSeen → ℕ → GrantKind → Told → Type 0
+FitsAsk desk ino kind (Lent lease) = IsFreshLease desk.lib ino desk.sizes desk.out lease × (kind_lent lease ≡ kind)
+FitsAsk desk ino kind told = ⊤
 
 -- What is known of an answer to a grant, from the desk as it was to the desk as it is.
 pub record TellsGrant (desk : DeskSeen) (ino : ℕ) (kind : GrantKind) (told : Told) (desk' : DeskSeen) : Type 0 where
   pub seen : SeenAfter desk (Grant ino kind) told desk'
   pub holder : TellsHolder desk.lib desk.out (Grant ino kind) told
-  pub fits : FitsAsk desk ino told
+  pub cause : TellsCause desk (Grant ino kind) told
+  pub fits : FitsAsk desk ino kind told
+
+-- these pages and numbers are those of a new allotment of as many as were asked
+abbrev pub FitsWant : DeskSeen → ℕ → ℕ → Told → Type 0
+FitsWant desk wanted_pages wanted_numbers (Given pages numbers) =
+    (given : Allotted) × IsFreshAllotment desk.lib desk.sizes desk.out given × HasWanted wanted_pages wanted_numbers given
+    × (pages ≡ page_numbers given.pages.items) × (numbers ≡ ino_numbers given.inodes.items)
+FitsWant desk wanted_pages wanted_numbers told = ⊤
+
+-- and of an answer to an allotment
+pub record TellsAllotment (desk : DeskSeen) (pages numbers : ℕ) (told : Told) (desk' : DeskSeen) : Type 0 where
+  pub seen : SeenAfter desk (Allot pages numbers) told desk'
+  pub lack : TellsLack (Allot pages numbers) told
+  pub fits : FitsWant desk pages numbers told
 
 -- after a grant that was asked: the lease is kept, also where there was no memory for its index
 abbrev pub AfterNeed : SessionSeen → Result Unit GrantFault → SessionSeen → Told → Type 0
@@ -74,8 +92,24 @@ AfterWant s result s' told = ⊥
 abbrev pub NoWant : SessionSeen → Result Unit AllotFault → SessionSeen → Type 0
 NoWant s result s' = (result ≡ Err NoAllotMemory) × IsSame s s'
 
+-- what was told of a settle, by how it ended
+abbrev pub settle_end : {A E : Type 0} → Result A E → Told
+settle_end (Ok count) = Settled
+settle_end (Err fault) = NotSettled
+
 -- after a settle: the session is empty, and the answer is the number of calls handed in; or all is as before
 abbrev pub AfterSettle : {E : Type 0} → SessionSeen → Result ℕ E → SessionSeen → Told → Type 0
 AfterSettle s result s' Settled = (result ≡ Ok (length s.calls)) × (s' ≡ record (emptied s) { room = s'.room })
 AfterSettle s result s' NotSettled = IsErr result × (s' ≡ s)
 AfterSettle s result s' told = ⊥
+
+-- What is known of an answer to a change of mode, with which read leases and a call are handed in.
+pub record TellsMode (desk : DeskSeen) (ino mode : ℕ) (back : List Shown) (call : Call) (told : Told) (desk' : DeskSeen) : Type 0 where
+  pub seen : SeenAfter desk (SetMode ino mode back (Some call)) told desk'
+  pub holder : TellsHolder desk.lib desk.out (SetMode ino mode back (Some call)) told
+
+-- after a change of mode: the session is empty; or all is as before, and the call comes back where none stands in the history
+abbrev pub AfterMode : SessionSeen → Call → Result Unit (Option Call × ModeFault) → SessionSeen → Told → Type 0
+AfterMode s call result s' ModeSet = (result ≡ Ok tt) × (s' ≡ record (emptied s) { room = s'.room })
+AfterMode s call result s' (NotModeSet fault) = (result ≡ Err (call_back (Some call) fault, fault)) × (s' ≡ s)
+AfterMode s call result s' told = ⊥

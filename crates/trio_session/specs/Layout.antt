@@ -1,5 +1,5 @@
--- The layout of an honest library's edits: which bytes of the pages in hand change, and how, when a regular file grows, is cut or is
--- written. Nothing else of what is in hand changes.
+-- The layout of an honest library's edits: which bytes of the pages in hand change, and how, when a file grows, is cut or is written,
+-- and when a slot of a directory is filled, cleared or gets another name. Nothing else of what is in hand changes.
 use Rattle.std.specs.Prelude.{ℕ, zero, suc, true, ◌+◌, ◌-◌, ◌*◌, ◌/◌, ◌%◌, ◌==◌, List, [], ◌∷◌, ◌++◌, map, take, drop, length, max, min, slice_index, slice_range, if◌then◌else◌}
 use Rattle.std.specs.Int.{w32, w64}
 use Rattle.std.specs.List.{find}
@@ -8,6 +8,8 @@ use Rattle.trio_page.specs.Field.{number_at, with_number, with_part, zeros}
 use Rattle.trio_rights.specs.Bundle.{bundle_sheets}
 use Rattle.trio_layout.specs.Body.{block_count}
 use Rattle.trio_layout.specs.Chain.{Chain, index_count}
+use Rattle.trio_layout.specs.Slot.{entry_bytes}
+use Rattle.trio_layout.specs.declared.slot.EntryPart.{EntryPart}
 use Rattle.trio_lease.specs.Shown.{LentFile}
 use Rattle.trio_lease.specs.declared.parts.LentPage.{LentPage}
 use Rattle.trio_lease.specs.declared.parts.FreshParts.{FreshParts}
@@ -53,8 +55,38 @@ with_number_in n at value b = with_page n (with_number w64 at value (page_in b n
 abbrev pub body_with : ℕ → List ℕ → LentFile → LentFile
 body_with ino body f = if f.stands.ino == ino then record f { stands = record f.stands { body = body } } else f
 
+-- what is in hand, where the file of this inode number has this body
 unfoldable pub with_body : ℕ → List ℕ → Parcel → Parcel
 with_body ino body b = record b { writes = map (body_with ino body) b.writes }
+
+-- what is in hand, where the page of this number has these bytes from an offset on
+abbrev pub with_part_in : ℕ → ℕ → List ℕ → Parcel → Parcel
+with_part_in n at part b = with_page n (with_part at part (page_in b n)) b
+
+-- Where the body of a file stands: with its write lease, by the file's inode number; or, of a file that the session made, in a slot of a
+-- page of its directory.
+pub data Home : Type 0 where
+  Leased : (ino : ℕ) → Home
+  InSlot : (page slot : ℕ) → Home
+
+-- what is in hand, where the body that stands here has these 64 bytes
+abbrev pub with_body_at : Home → List ℕ → Parcel → Parcel
+with_body_at (Leased ino) body b = with_body ino body b
+with_body_at (InSlot page slot) body b = with_part_in page (256 * slot + 192) body b
+
+-- ---- slots
+
+-- A slot is filled: its entry part and its body are written whole.
+abbrev pub filled : ℕ → ℕ → EntryPart → List ℕ → Parcel → Parcel
+filled page slot e body b = with_part_in page (256 * slot) (entry_bytes e ++ body) b
+
+-- A slot is cleared: its inode number becomes zero, and the rest stays.
+abbrev pub cleared : ℕ → ℕ → Parcel → Parcel
+cleared page slot b = with_part_in page (256 * slot) (zeros 4) b
+
+-- The entry in a slot gets another name: its entry part is written anew, and the body stays.
+abbrev pub retitled : ℕ → ℕ → EntryPart → Parcel → Parcel
+retitled page slot e b = with_part_in page (256 * slot) (entry_bytes e) b
 
 -- ---- bodies
 
@@ -96,10 +128,11 @@ put_bytes blocks at new b = put_blocks blocks (at / 4096) (blocks_under at (leng
 
 -- ---- growth
 
--- how many pages a growth from b to c blocks takes, and how many of them become index pages
+-- how many index pages a growth from b to c blocks takes
 abbrev pub new_index : ℕ → ℕ → ℕ
 new_index b c = index_count c - index_count b
 
+-- and how many pages in all, blocks and index pages
 abbrev pub growth : ℕ → ℕ → ℕ
 growth b c = (c - b) + new_index b c
 
@@ -130,14 +163,14 @@ gap old size = min (size - old) ((4096 - old % 4096) % 4096)
 
 -- A file of this chain and body grows to a size, by the pages taken: the bytes between are zero, the new index pages are linked
 -- behind the others, the new blocks are named, and the body has the new size and names the first index page.
-abbrev pub grown_file : ℕ → Chain → List ℕ → ℕ → List ℕ → Parcel → Parcel
-grown_file ino chain body size taken b =
+abbrev pub grown_file : Home → Chain → List ℕ → ℕ → List ℕ → Parcel → Parcel
+grown_file home chain body size taken b =
     let old = size_in body in
     let chain' = chain_grown chain (block_count size) taken in
     let zeroed = put_bytes chain.blocks old (zeros (gap old size)) b in
     let links = linked (drop (length chain.index - 1) chain'.index) zeroed in
     let named = numbered chain'.index (length chain.blocks) (drop (new_index (length chain.blocks) (block_count size)) taken) links in
-    with_body ino (body_sized (slice_index chain'.index 0) size body) named
+    with_body_at home (body_sized (slice_index chain'.index 0) size body) named
 
 -- ---- cutting
 
@@ -157,9 +190,9 @@ unlinked (n ∷ rest) b = unlinked rest (with_number_in n 4088 0 b)
 
 -- A file of this chain and body is cut to a size: the numbers of the blocks that are dropped become zero, and so does each link to
 -- an index page that is dropped and the links of these; the body has the new size, and names no index page where no block is left.
-abbrev pub cut_file : ℕ → Chain → List ℕ → ℕ → Parcel → Parcel
-cut_file ino chain body size b =
+abbrev pub cut_file : Home → Chain → List ℕ → ℕ → Parcel → Parcel
+cut_file home chain body size b =
     let c = block_count size in
     let named = unnamed chain.index c (length chain.blocks - c) b in
     let links = unlinked (drop (index_count c - 1) chain.index) named in
-    with_body ino (body_sized (slice_index (chain_cut chain c).index 0) size body) links
+    with_body_at home (body_sized (slice_index (chain_cut chain c).index 0) size body) links

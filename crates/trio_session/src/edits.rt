@@ -1,20 +1,21 @@
-//! Edits of one written file, by its place among the written files.
+//! Edits of one file, by its place.
 
-ghost use Rattle.std.specs.Prelude.{◌≡◌, ◌≢◌, ℕ, ◌+◌, ◌-◌, ◌*◌, ◌/◌, ◌%◌, ◌^◌, ◌<◌, ◌≤◌, ◌++◌, length, drop, take, slice_index, vec_capacity, vec_len};
+ghost use Rattle.std.specs.Prelude.{◌≡◌, ◌≢◌, ℕ, ◌+◌, ◌-◌, ◌*◌, ◌/◌, ◌%◌, ◌^◌, ◌<◌, ◌≤◌, ◌++◌, length, drop, take, slice_index, vec_capacity, vec_len, IsSome};
 ghost use Rattle.trio_lists.specs.Counting.{count_up};
 ghost use Rattle.trio_page.specs.Field.{zeros};
 ghost use Rattle.trio_layout.specs.Body.{block_count};
 ghost use Rattle.trio_layout.specs.Chain.{index_count};
 ghost use Rattle.trio_desk.specs.Out.{page_numbers};
-ghost use Rattle.trio_session.specs.Layout.{chain_cut, chain_grown, cut_file, grown_file, growth, linked, numbered, put_blocks, put_bytes, put_block, size_in, unlinked, unnamed, with_block_number, with_number_in};
-ghost use Rattle.trio_session.specs.inner.Places.{HasChain, IsFile, body_at, chain_at, ino_at, room_laid};
+ghost use Rattle.trio_session.specs.Layout.{body_sized, chain_cut, chain_grown, cut_file, grown_file, growth, linked, numbered, put_blocks, put_bytes, put_block, size_in, unlinked, unnamed, with_block_number, with_number_in};
+ghost use Rattle.trio_session.specs.inner.Found.{CutDone, GrowDone, MayCutAt, MayGrowAt};
+ghost use Rattle.trio_session.specs.inner.Places.{IsFile, IsSlot, body_at, chain_at, shown_at};
 
-use crate::laid::{Laid, PER_INDEX, index_count};
+use crate::laid::{FilePlace, Laid, PER_INDEX, index_count};
 use crate::stock::Stock;
-use trio_page::field::u64_in;
+use trio_page::field::{put_u32_in, put_u64_in, u64_in};
 
 /// Writes what falls on block `k` of bytes that are written from `at` on.
-fn put_block(stock: &mut Stock, laid: &Laid, file: usize, k: usize, at: usize, bytes: &[u8])
+fn put_block(stock: &mut Stock, laid: &Laid, file: FilePlace, k: usize, at: usize, bytes: &[u8])
     requires file { IsFile stock.old file laid.now }
     requires block { k < length (chain_at stock.old file laid.now).blocks }
     requires from { at < 4096 * k + 4096 }
@@ -30,7 +31,7 @@ fn put_block(stock: &mut Stock, laid: &Laid, file: usize, k: usize, at: usize, b
 }
 
 /// Writes bytes into the file from `at` on.
-pub(crate) fn put_bytes(stock: &mut Stock, laid: &Laid, file: usize, at: usize, bytes: &[u8])
+pub(crate) fn put_bytes(stock: &mut Stock, laid: &Laid, file: FilePlace, at: usize, bytes: &[u8])
     requires file { IsFile stock.old file laid.now }
     requires within { at + length bytes.now ≤ 4096 * length (chain_at stock.old file laid.now).blocks }
     requires fits { at + length bytes.now < 2 ^ 64 }
@@ -45,7 +46,7 @@ pub(crate) fn put_bytes(stock: &mut Stock, laid: &Laid, file: usize, at: usize, 
 }
 
 /// Writes so many zero bytes into the file from `at` on.
-fn put_zeros(stock: &mut Stock, laid: &Laid, file: usize, at: usize, count: usize)
+fn put_zeros(stock: &mut Stock, laid: &Laid, file: FilePlace, at: usize, count: usize)
     requires file { IsFile stock.old file laid.now }
     requires short { count ≤ 4096 }
     requires within { at + count ≤ 4096 * length (chain_at stock.old file laid.now).blocks }
@@ -57,7 +58,7 @@ fn put_zeros(stock: &mut Stock, laid: &Laid, file: usize, at: usize, count: usiz
 }
 
 /// Writes a link into index page `i`.
-fn link(stock: &mut Stock, laid: &Laid, file: usize, i: usize, number: u32)
+fn link(stock: &mut Stock, laid: &Laid, file: FilePlace, i: usize, number: u32)
     requires file { IsFile stock.old file laid.now }
     requires page { i < length (chain_at stock.old file laid.now).index }
     ensures { stock.new ≡ with_number_in (slice_index (chain_at stock.old file laid.now).index i) 4088 number stock.old }
@@ -67,7 +68,7 @@ fn link(stock: &mut Stock, laid: &Laid, file: usize, i: usize, number: u32)
 }
 
 /// Writes the number of block `k` into its index page.
-fn name_block(stock: &mut Stock, laid: &Laid, file: usize, k: usize, number: u32)
+fn name_block(stock: &mut Stock, laid: &Laid, file: FilePlace, k: usize, number: u32)
     requires file { IsFile stock.old file laid.now }
     requires page { k / 511 < length (chain_at stock.old file laid.now).index }
     ensures { stock.new ≡ with_block_number (chain_at stock.old file laid.now).index k number stock.old }
@@ -77,7 +78,7 @@ fn name_block(stock: &mut Stock, laid: &Laid, file: usize, k: usize, number: u32
 }
 
 /// Links each index page from `from` on behind the one before it.
-fn link_from(stock: &mut Stock, laid: &Laid, file: usize, from: usize)
+fn link_from(stock: &mut Stock, laid: &Laid, file: FilePlace, from: usize)
     requires { IsFile stock.old file laid.now }
     ensures { stock.new ≡ linked (drop (from - 1) (chain_at stock.old file laid.now).index) stock.old }
 {
@@ -89,7 +90,7 @@ fn link_from(stock: &mut Stock, laid: &Laid, file: usize, from: usize)
 }
 
 /// Names each block from `from` on in its index page.
-fn name_from(stock: &mut Stock, laid: &Laid, file: usize, from: usize)
+fn name_from(stock: &mut Stock, laid: &Laid, file: FilePlace, from: usize)
     requires file { IsFile stock.old file laid.now }
     requires index { length (chain_at stock.old file laid.now).blocks ≤ 511 * length (chain_at stock.old file laid.now).index }
     ensures { stock.new ≡ numbered (chain_at stock.old file laid.now).index from (drop from (chain_at stock.old file laid.now).blocks) stock.old }
@@ -102,7 +103,7 @@ fn name_from(stock: &mut Stock, laid: &Laid, file: usize, from: usize)
 }
 
 /// Takes the names of the blocks from `from` on out of their index pages.
-fn unname_from(stock: &mut Stock, laid: &Laid, file: usize, from: usize)
+fn unname_from(stock: &mut Stock, laid: &Laid, file: FilePlace, from: usize)
     requires file { IsFile stock.old file laid.now }
     requires index { length (chain_at stock.old file laid.now).blocks ≤ 511 * length (chain_at stock.old file laid.now).index }
     ensures { stock.new ≡ unnamed (chain_at stock.old file laid.now).index from (length (chain_at stock.old file laid.now).blocks - from) stock.old }
@@ -113,7 +114,7 @@ fn unname_from(stock: &mut Stock, laid: &Laid, file: usize, from: usize)
 }
 
 /// Takes the links of the index pages from `from` on.
-fn unlink_from(stock: &mut Stock, laid: &Laid, file: usize, from: usize)
+fn unlink_from(stock: &mut Stock, laid: &Laid, file: FilePlace, from: usize)
     requires { IsFile stock.old file laid.now }
     ensures { stock.new ≡ unlinked (drop from (chain_at stock.old file laid.now).index) stock.old }
 {
@@ -123,7 +124,7 @@ fn unlink_from(stock: &mut Stock, laid: &Laid, file: usize, from: usize)
 }
 
 /// The number of the file's first index page, 0 where it has none.
-fn head_of(stock: &Stock, laid: &Laid, file: usize) -> u32
+fn head_of(stock: &Stock, laid: &Laid, file: FilePlace) -> u32
     requires { IsFile stock.now file laid.now }
     ensures { result ≡ slice_index (chain_at stock.now file laid.now).index 0 }
 {
@@ -134,11 +135,22 @@ fn head_of(stock: &Stock, laid: &Laid, file: usize) -> u32
 }
 
 /// The size of the file in bytes.
-pub(crate) fn size_of(stock: &Stock, file: usize) -> usize
-    requires { file < length stock.now.writes }
+pub(crate) fn size_of(stock: &Stock, file: FilePlace) -> usize
+    requires there { IsSome (shown_at stock.now file) }
+    requires slot { IsSlot file }
     ensures { result ≡ size_in (body_at stock.now file) }
 {
-    u64_in(stock.writes[file].body(), 16) as usize
+    u64_in(stock.body(file), 16) as usize
+}
+
+/// A body with another head and size.
+fn with_sizes(body: &[u8; 64], head: u32, size: u64) -> [u8; 64]
+    ensures { result ≡ body_sized head size body.now }
+{
+    let mut sized = *body;
+    put_u32_in(&mut sized, 12, head);
+    put_u64_in(&mut sized, 16, size);
+    sized
 }
 
 /// The file grows to a size, by the allotted pages from place `from` on. Returns the place behind
@@ -146,27 +158,17 @@ pub(crate) fn size_of(stock: &Stock, file: usize) -> usize
 pub(crate) fn grow_file(
     stock: &mut Stock,
     laid: &mut Laid,
-    file: usize,
+    file: FilePlace,
     size: usize,
     from: usize,
 ) -> usize
-    requires file { IsFile stock.old file laid.old }
-    requires chain { HasChain stock.old file laid.old }
-    requires size { size_in (body_at stock.old file) ≤ size }
-    requires pages { from + growth (length (chain_at stock.old file laid.old).blocks) (block_count size) ≤ length stock.old.pages }
-    requires room { block_count size ≤ room_laid laid.old }
-    ensures file { stock.new ≡ grown_file (ino_at stock.old file) (chain_at stock.old file laid.old) (body_at stock.old file) size
-        (take (growth (length (chain_at stock.old file laid.old).blocks) (block_count size)) (drop from (page_numbers stock.old.pages))) stock.old }
-    ensures chain { chain_at stock.new file laid.new ≡ chain_grown (chain_at stock.old file laid.old) (block_count size)
-        (take (growth (length (chain_at stock.old file laid.old).blocks) (block_count size)) (drop from (page_numbers stock.old.pages))) }
-    ensures laid { IsFile stock.new file laid.new }
-    ensures has { HasChain stock.new file laid.new }
-    ensures next { result ≡ from + growth (length (chain_at stock.old file laid.old).blocks) (block_count size) }
-    ensures others { (i : ℕ) → i ≢ file → body_at stock.new i ≡ body_at stock.old i }
+    requires { MayGrowAt stock.old size from file laid.old }
+    ensures { GrowDone stock.old stock.new size from result file laid.old laid.new }
 {
     // the pages are in memory, so no place among them is beyond 64 bits
     let _pages = stock.pages_len();
-    let old = size_of(stock, file);
+    let body = *stock.body(file);
+    let old = u64_in(&body, 16) as usize;
     let blocks = laid.blocks_len();
     let index = laid.index_len();
     let gap = (size - old).min((4096 - old % 4096) % 4096);
@@ -175,25 +177,20 @@ pub(crate) fn grow_file(
     link_from(stock, laid, file, index);
     name_from(stock, laid, file, blocks);
     let head = head_of(stock, laid, file);
-    stock.put_sizes(file, head, size as u64);
+    stock.put_body(file, &with_sizes(&body, head, size as u64));
     next
 }
 
 /// The file is cut to a size.
-pub(crate) fn cut_file(stock: &mut Stock, laid: &mut Laid, file: usize, size: usize)
-    requires file { IsFile stock.old file laid.old }
-    requires chain { HasChain stock.old file laid.old }
-    requires size { size ≤ size_in (body_at stock.old file) }
-    ensures file { stock.new ≡ cut_file (ino_at stock.old file) (chain_at stock.old file laid.old) (body_at stock.old file) size stock.old }
-    ensures chain { chain_at stock.new file laid.new ≡ chain_cut (chain_at stock.old file laid.old) (block_count size) }
-    ensures laid { IsFile stock.new file laid.new }
-    ensures has { HasChain stock.new file laid.new }
-    ensures others { (i : ℕ) → i ≢ file → body_at stock.new i ≡ body_at stock.old i }
+pub(crate) fn cut_file(stock: &mut Stock, laid: &mut Laid, file: FilePlace, size: usize)
+    requires { MayCutAt stock.old size file laid.old }
+    ensures { CutDone stock.old stock.new size file laid.old laid.new }
 {
+    let body = *stock.body(file);
     let blocks = size.div_ceil(4096);
     unname_from(stock, laid, file, blocks);
     unlink_from(stock, laid, file, index_count(blocks).saturating_sub(1));
     laid.cut(blocks);
     let head = head_of(stock, laid, file);
-    stock.put_sizes(file, head, size as u64);
+    stock.put_body(file, &with_sizes(&body, head, size as u64));
 }

@@ -1,11 +1,11 @@
-//! Where the pages of a written file stand.
+//! Where files and their pages stand.
 
 ghost use Rattle.std.specs.Prelude.{◌≡◌, ◌+◌, ◌-◌, ◌^◌, min, ◌/◌, ◌<◌, ◌≤◌, ◌++◌, ◌∷◌, [], ℕ, OnOk, length, slice_index, slice_index_or, take, vec_capacity, vec_len};
 ghost use Rattle.trio_lists.specs.Counting.{count_up};
 ghost use Rattle.trio_layout.specs.Chain.{index_count};
 ghost use Rattle.trio_lease.specs.Shown.{LentFile};
 ghost use Rattle.trio_desk.specs.Out.{Parcel, lent_numbers};
-ghost use Rattle.trio_session.specs.inner.Places.{IsAt, IsFile, chain_at, room_laid};
+ghost use Rattle.trio_session.specs.inner.Places.{IsAt, IsFile, chain_at, lease_of, room_laid};
 
 use std::alloc::Global;
 use trio_lease::WriteLease;
@@ -33,8 +33,31 @@ pub(crate) enum PagePlace {
     Fresh { at: usize },
 }
 
-/// Where the index pages and the blocks of one written file stand, in their order: the first of those
-/// that were lent, and then allotted pages, by their places among these.
+/// A file in hand, by where its body stands: a written one by its place among these, counted from 0;
+/// or one that the session made, by the place of a page of its directory and a slot of that page.
+#[derive(Clone, Copy)]
+pub(crate) enum FilePlace {
+    /// The file of write lease `at`.
+    Leased { at: usize },
+    /// The file in slot `slot`, 0 to 15, of a page.
+    InSlot { page: PagePlace, slot: usize },
+}
+
+impl FilePlace {
+    /// The place of the file's write lease. A file that was made has none, and no page that was lent
+    /// with it: the answer then says nothing.
+    fn lease(self) -> usize
+        ensures { result ≡ lease_of self }
+    {
+        match self {
+            FilePlace::Leased { at } => at,
+            FilePlace::InSlot { .. } => 0,
+        }
+    }
+}
+
+/// Where the index pages and the blocks of one file stand, in their order: the first of those that
+/// were lent, and then allotted pages, by their places among these.
 #[derive(Drop)]
 pub(crate) struct Laid {
     pub(crate) index_kept: usize,
@@ -61,13 +84,31 @@ impl Laid {
         }
     }
 
+    /// Of a file without pages. It takes no memory.
+    pub(crate) fn new(alloc: Global) -> Laid
+        ensures index_kept { result.index_kept ≡ 0 }
+        ensures blocks_kept { result.blocks_kept ≡ 0 }
+        ensures index_more { result.index_more.items ≡ [] }
+        ensures blocks_more { result.blocks_more.items ≡ [] }
+    {
+        Laid {
+            index_kept: 0,
+            blocks_kept: 0,
+            index_more: Vec::new(alloc),
+            blocks_more: Vec::new(alloc),
+        }
+    }
+
     /// Where index page `i` of the file stands.
-    pub(crate) fn index_place(&self, file: usize, i: usize) -> PagePlace
+    pub(crate) fn index_place(&self, file: FilePlace, i: usize) -> PagePlace
         requires { i < self.now.index_kept + length self.now.index_more.items }
         ensures { (b : Parcel) → IsFile b file self.now → IsAt b result (slice_index (chain_at b file self.now).index i) }
     {
         if i < self.index_kept {
-            PagePlace::Index { file, at: i }
+            PagePlace::Index {
+                file: file.lease(),
+                at: i,
+            }
         } else {
             let at = self.index_more[i - self.index_kept];
             PagePlace::Fresh { at }
@@ -75,12 +116,15 @@ impl Laid {
     }
 
     /// Where block `k` of the file stands.
-    pub(crate) fn block_place(&self, file: usize, k: usize) -> PagePlace
+    pub(crate) fn block_place(&self, file: FilePlace, k: usize) -> PagePlace
         requires { k < self.now.blocks_kept + length self.now.blocks_more.items }
         ensures { (b : Parcel) → IsFile b file self.now → IsAt b result (slice_index (chain_at b file self.now).blocks k) }
     {
         if k < self.blocks_kept {
-            PagePlace::Block { file, at: k }
+            PagePlace::Block {
+                file: file.lease(),
+                at: k,
+            }
         } else {
             let at = self.blocks_more[k - self.blocks_kept];
             PagePlace::Fresh { at }
@@ -148,6 +192,7 @@ impl Laid {
         ensures index { self.new.index_more.items ≡ self.old.index_more.items }
         ensures blocks { self.new.blocks_more.items ≡ self.old.blocks_more.items }
         ensures room { OnOk result (blocks ≤ room_laid self.new) }
+        ensures more { room_laid self.old ≤ room_laid self.new }
     {
         let more = index_count(blocks)
             .saturating_sub(self.index_kept)

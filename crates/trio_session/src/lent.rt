@@ -3,10 +3,9 @@
 ghost use Rattle.std.specs.Prelude.{◌≡◌, ◌+◌, ◌≤◌, ◌<◌, ◌++◌, length, vec_capacity};
 ghost use Rattle.trio_page.specs.Field.{with_part};
 ghost use Rattle.trio_lease.specs.Shown.{lent_at, with_page, with_touched};
-ghost use Rattle.trio_session.specs.Layout.{body_sized};
 
 use trio_lease::{FreshIno, FreshPage, WriteLease};
-use trio_page::field::{put_bytes_in, put_u32_in, put_u64_in};
+use trio_page::field::put_bytes_in;
 
 /// Writes bytes into index page `at` of the lease.
 pub(crate) fn put_in_index(lease: &mut WriteLease, at: usize, offset: usize, bytes: &[u8])
@@ -44,15 +43,11 @@ pub(crate) fn put_in_fresh(page: &mut FreshPage, offset: usize, bytes: &[u8])
     put_bytes_in(page.page_mut().bytes_mut(), offset, bytes);
 }
 
-/// Writes the head and the size of the file.
-pub(crate) fn put_sizes(lease: &mut WriteLease, head: u32, size: u64)
-    ensures written { lease.new ≡ record lease.old { stands = record lease.old.stands { body = body_sized head size lease.old.stands.body } } }
-    ensures whole { length lease.old.stands.body ≡ 64 }
+/// Writes the body of the file.
+pub(crate) fn put_lent_body(lease: &mut WriteLease, body: &[u8; 64])
+    ensures { lease.new ≡ record lease.old { stands = record lease.old.stands { body = body.now } } }
 {
-    let _whole = lease.body();
-    let body = lease.body_mut();
-    put_u32_in(body, 12, head);
-    put_u64_in(body, 16, size);
+    *lease.body_mut() = *body;
 }
 
 /// Moves allotted pages to the end of a list that has room for them.

@@ -1,36 +1,28 @@
 //! Sessions.
 
-ghost use Rattle.std.specs.Prelude.{◌≡◌, ◌+◌, ◌≤◌, ◌<◌, ◌++◌, ◌∷◌, [], ℕ, IfErr, IfOk, IsOk, IsSome, IsFalse, IsTrue, MatchOption, OnOk, length, slice_get, slice_index_or, ◌==◌, Some, if◌then◌else◌};
+ghost use Rattle.std.specs.Prelude.{ℕ, List, Option, vec_capacity, ◌≡◌, ◌+◌, ◌≤◌, ◌<◌, ◌++◌, ◌∷◌, [], IsOk, IsSome, IsTrue, MatchOption, OnOk, None, length, slice_get, slice_index_or, ◌==◌, Some, if◌then◌else◌};
 ghost use Rattle.std.specs.List.{find};
 ghost use Rattle.std.specs.Option.{option_copied, option_map};
+ghost use Rattle.trio_auxdir.specs.Places.{place_of as place_at_name};
 ghost use Rattle.trio_lists.specs.Lists.{In, is_among};
 ghost use Rattle.trio_page.specs.Home.{raised};
-ghost use Rattle.trio_layout.specs.Body.{block_count};
 ghost use Rattle.trio_lease.specs.Shown.{Shown};
-ghost use Rattle.trio_desk.specs.Call.{Allot, Grant, Settle};
-ghost use Rattle.trio_desk.specs.Calls.{OneCall};
 ghost use Rattle.trio_desk.specs.Edits.{nothing};
-ghost use Rattle.trio_desk.specs.Ready.{Ready};
-ghost use Rattle.trio_session.specs.Asked.{AfterNeed, AfterSettle, AfterWant, NoNeed, NoWant, TellsGrant};
-ghost use Rattle.trio_session.specs.inner.Giving.{AfterGrant, NoGrant};
-ghost use Rattle.trio_session.specs.inner.Indexes.{MayBeRead};
-ghost use Rattle.trio_session.specs.Layout.{growth, page_in, size_in};
-ghost use Rattle.trio_session.specs.Seen.{IsOn, IsOpen, block_shown, body_in, body_shown, chain_in, children_shown, cut, entry_shown, grant_in, grown, no_chain, place_shown, put, read_file, room_in, serves, spare_number, spare_pages, written_file};
+ghost use Rattle.trio_session.specs.inner.Found.{IsRelaid, IsThere, Roomier};
+ghost use Rattle.trio_session.specs.inner.Made.{FindsFile};
+ghost use Rattle.trio_session.specs.Seen.{IsOpenDir, KeepsRoom, MadeFile, block_shown, body_shown, chain_in, children_shown, empty_shown, entry_shown, grant_in, kind_shown, lower, made_file, no_chain, open_kind, place_of, place_shown, read_file, room_in, spare_number, used_numbers};
 
-use crate::edits::{cut_file, grow_file, put_bytes, size_of};
-use crate::giving::{allot_into, grant_into};
-use crate::indexes::{IndexedDir, index_of, index_on};
-use crate::laid::{Laid, index_count};
-use crate::stock::Stock;
+use crate::indexes::{IndexedDir, index_on, reserve_index};
+use crate::laid::{FilePlace, Laid};
+use crate::made::{Made, file_among, made_of};
+use crate::stock::{Stock, lower};
 use std::alloc::Global;
 use std::marker::Model;
-use std::mem::replace;
 use trio_auxdir::{Finds, Place};
-use trio_desk::Desk;
 use trio_layout::{EntryPart, Slot, SlotRead};
 use trio_lease::ReadLease;
 use trio_names::Name;
-use trio_nodes::{AllotFault, Done, GrantFault, GrantKind};
+use trio_nodes::{Done, GrantKind};
 use trio_page::{NoMemory, Page};
 use trio_rights::{Creds, Kind, LibNo};
 
@@ -42,31 +34,36 @@ const CALLS_LIMIT: usize = 0xFFFF_FFFF;
 /// Contracts see it as plain data (`SessionSeen` of `specs/Seen.antt`). A file is named by its inode
 /// number; sizes and offsets are in bytes, and blocks are counted from 0. Calls that take a desk have
 /// the condition that the desk's list of what is out is just what the session has, and keep it so
-/// (`IsOn`).
+/// (`IsOn`). A change of mode is no part of a settle: it is asked of the desk at once, where nothing
+/// but read leases is in hand.
 pub struct Session {
-    alloc: Global,
+    pub(crate) alloc: Global,
     lib: LibNo,
     creds: Creds,
-    stock: Stock,
+    pub(crate) stock: Stock,
     // beside the write leases
-    laid: Vec<Laid>,
-    reads: Vec<ReadLease>,
-    // of directories that are lent for reading
-    dirs: Vec<IndexedDir>,
-    calls: Vec<Done>,
+    pub(crate) laid: Vec<Laid>,
+    pub(crate) made: Vec<Made>,
+    // files that were made and whose slots were cleared since
+    pub(crate) cleared: Vec<Made>,
+    pub(crate) reads: Vec<ReadLease>,
+    // of directories that are lent or were made
+    pub(crate) dirs: Vec<IndexedDir>,
+    pub(crate) calls: Vec<Done>,
     // so many allotted pages, the first ones, are put in place
-    placed: usize,
+    pub(crate) placed: usize,
     finds: Finds,
 }
 
 impl Model for Session {
-    ghost use Rattle.std.specs.Prelude.{◌≤◌, ◌<◌, ◌^◌, ◌-◌, length, map, min, vec_capacity};
+    ghost use Rattle.std.specs.Prelude.{◌≤◌, ◌<◌, ◌^◌, ◌+◌, ◌-◌, length, map, min, vec_capacity};
+    ghost use Rattle.std.specs.List.{filter};
     ghost use Rattle.trio_session.specs.Seen.{SessionSeen};
 
     ghost Value = { SessionSeen };
 
     ghost use Rattle.trio_session.specs.inner.Inside.{AreLaid, chains_laid};
-    ghost use Rattle.trio_session.specs.inner.Indexes.{AreIndexed};
+    ghost use Rattle.trio_session.specs.inner.Made.{AreDirs, AreMade, dir_numbers, has_names, has_slots, made_room, made_seen};
     ghost use Rattle.trio_session.specs.inner.Places.{room_laid};
 
     ghost view = { λ s. record {
@@ -74,21 +71,34 @@ impl Model for Session {
       creds = s.creds;
       parcel = s.stock;
       chains = chains_laid s.stock.writes s.stock.pages s.laid.items;
+      made = map (made_seen s.stock) s.made.items;
+      cleared = map (made_seen s.stock) s.cleared.items;
       reads = s.reads.items;
       calls = s.calls.items;
       placed = s.placed;
-      indexed = map (λ d. d.ino) s.dirs.items;
+      indexed = dir_numbers s.dirs.items;
       finds = s.finds;
-      room = record { calls = min (vec_capacity s.calls) (2 ^ 32 - 1); blocks = map room_laid s.laid.items };
+      room = record {
+        calls = min (vec_capacity s.calls) (2 ^ 32 - 1);
+        blocks = map room_laid s.laid.items;
+        made_blocks = map (λ m. room_laid m.laid) s.made.items;
+        made = made_room s.made s.cleared;
+        slots = dir_numbers (filter has_slots s.dirs.items);
+        names = dir_numbers (filter has_names s.dirs.items);
+      };
     } };
 
-    ghost invariant = { λ s. AreLaid s.stock s.laid.items × (s.placed ≤ length s.stock.pages) × (length s.calls.items < 2 ^ 32) × AreIndexed s.reads.items s.dirs.items };
+    ghost invariant = { λ s.
+        AreLaid s.stock s.laid.items × (s.placed ≤ length s.stock.pages) × (length s.calls.items < 2 ^ 32)
+        × AreMade s.placed s.reads.items (record { parcel = s.stock; laid = s.laid.items; made = s.made.items; cleared = s.cleared.items })
+        × AreDirs s.reads.items (record { parcel = s.stock; laid = s.laid.items; made = s.made.items; cleared = s.cleared.items }) s.dirs.items
+        × (length s.made.items + length s.cleared.items ≤ vec_capacity s.cleared) };
 }
 
 impl Session {
     /// A session that has nothing yet. It takes no memory.
     pub fn new(alloc: Global, lib: LibNo, creds: Creds) -> Session
-        ensures { result ≡ record { lib = lib; creds = creds; parcel = nothing; chains = []; reads = []; calls = []; placed = 0; indexed = []; finds = 0; room = result.room } }
+        ensures { result ≡ record { lib = lib; creds = creds; parcel = nothing; chains = []; made = []; cleared = []; reads = []; calls = []; placed = 0; indexed = []; finds = 0; room = result.room } }
     {
         Session {
             alloc,
@@ -96,60 +106,13 @@ impl Session {
             creds,
             stock: Stock::new(alloc),
             laid: Vec::new(alloc),
+            made: Vec::new(alloc),
+            cleared: Vec::new(alloc),
             reads: Vec::new(alloc),
             dirs: Vec::new(alloc),
             calls: Vec::new(alloc),
             placed: 0,
             finds: Finds::new(),
-        }
-    }
-
-    /// Hands in all that the session has, with the calls done, and gives its read leases back before.
-    /// Returns the number of calls; the session is then empty. [`NoMemory`] is the desk's, and leaves
-    /// it as it was.
-    pub fn settle<D: Desk>(&mut self, desk: &mut D) -> Result<u32, NoMemory>
-        requires on { IsOn (D.seen desk.old) self.old }
-        requires ready { Ready (D.seen desk.old) self.old.parcel self.old.reads self.old.calls }
-        ensures call { OneCall D.called desk.old (Settle self.old.parcel self.old.reads self.old.calls) desk.new
-            (AfterSettle self.old result self.new) ⊥ }
-        ensures on { IsOn (D.seen desk.new) self.new }
-    {
-        let alloc = self.alloc;
-        let count = self.calls.len() as u32;
-        let bundle = replace(&mut self.stock, Stock::new(alloc)).into_bundle();
-        let reads = replace(&mut self.reads, Vec::new(alloc));
-        let calls = replace(&mut self.calls, Vec::new(alloc));
-        match desk.settle(bundle, reads, calls) {
-            Ok(()) => {
-                self.laid.clear();
-                self.dirs.clear();
-                self.placed = 0;
-                Ok(count)
-            }
-            Err((bundle, reads, calls, fault)) => {
-                replace(&mut self.stock, Stock::of_bundle(bundle)).discard();
-                replace(&mut self.reads, reads).destroy_empty();
-                self.calls = calls;
-                Err(fault)
-            }
-        }
-    }
-
-    /// Settles, and ends the session. With [`NoMemory`] the session comes back as it was.
-    pub fn end<D: Desk>(self, desk: &mut D) -> Result<u32, (Session, NoMemory)>
-        requires on { IsOn (D.seen desk.old) self }
-        requires ready { Ready (D.seen desk.old) self.parcel self.reads self.calls }
-        ensures count { IfOk result (λ n. n ≡ length self.calls) }
-        ensures back { IfErr result (λ back. back.0 ≡ self) }
-        ensures on { IfErr result (λ back. IsOn (D.seen desk.new) back.0) }
-    {
-        let mut session = self;
-        match session.settle(desk) {
-            Ok(count) => {
-                session.discard();
-                Ok(count)
-            }
-            Err(fault) => Err((session, fault)),
         }
     }
 
@@ -162,6 +125,8 @@ impl Session {
             creds: _,
             stock,
             laid: _,
+            made: _,
+            cleared: _,
             mut reads,
             dirs: _,
             calls: _,
@@ -176,18 +141,45 @@ impl Session {
     }
 
     /// The first read lease on this file.
-    fn read_on(&self, ino: u32) -> Option<&ReadLease>
+    pub(crate) fn read_on(&self, ino: u32) -> Option<&ReadLease>
         ensures { option_copied result ≡ find (λ f. f.ino == ino) self.now.reads }
     {
         self.reads.iter().find(|lease| lease.ino() == ino)
     }
 
-    /// The kind of the grant that the session has on a file, the strongest. `None` exactly where it
-    /// has none.
+    /// Where a file stands that the session writes or made. `None` exactly where it has no such file.
+    pub(crate) fn file_on(&self, ino: u32) -> Option<(FilePlace, &Laid)>
+        ensures { FindsFile self.now ino (option_map (λ o. (o.0, o.1.now)) result) }
+    {
+        file_among(&self.stock, &self.laid, &self.made, ino)
+    }
+
+    /// The kind of a file that the session writes or made. `None` exactly where it has no such file.
+    pub(crate) fn open_kind(&self, ino: u32) -> Option<Kind>
+        ensures { result ≡ open_kind self.now ino }
+    {
+        match made_of(&self.made, ino) {
+            Some(at) => Some(self.made[at].kind),
+            None => Some(self.stock.write_on(ino)?.kind()),
+        }
+    }
+
+    /// The kind of a file that the session writes or made, or has for reading.
+    pub fn kind(&self, ino: u32) -> Option<Kind>
+        ensures { result ≡ kind_shown self.now ino }
+    {
+        match self.open_kind(ino) {
+            Some(kind) => Some(kind),
+            None => Some(self.read_on(ino)?.kind()),
+        }
+    }
+
+    /// The kind of the grant that the session has on a file, the strongest; for writing on a file that
+    /// it made. `None` exactly where it has none.
     pub fn has(&self, ino: u32) -> Option<GrantKind>
         ensures { result ≡ grant_in self.now ino }
     {
-        if self.stock.write_on(ino).is_some() {
+        if self.open_kind(ino).is_some() {
             return Some(GrantKind::Write);
         }
         if self.stock.hold_on(ino).is_some() {
@@ -200,13 +192,13 @@ impl Session {
         }
     }
 
-    /// The 64 bytes of a file's body as they stand, or as a read lease or a hold lent them. `None`
-    /// exactly where the session has no grant on the file.
+    /// The 64 bytes of a file's body: as they stand where the session writes or made it, or as a read
+    /// lease or a hold lent them. `None` exactly where the session has no such file.
     pub fn body(&self, ino: u32) -> Option<&[u8; 64]>
         ensures { option_copied result ≡ body_shown self.now ino }
     {
-        if let Some(lease) = self.stock.write_on(ino) {
-            return Some(lease.body());
+        if let Some((file, _)) = self.file_on(ino) {
+            return Some(self.stock.body(file));
         }
         if let Some(lease) = self.read_on(ino) {
             return Some(lease.body());
@@ -215,42 +207,39 @@ impl Session {
         Some(hold.body())
     }
 
-    /// Block `i` of a file as it stands, or as a read lease lent it. `None` exactly where the session
-    /// has no such block.
+    /// Block `i` of a file: as it stands where the session writes or made it, or as a read lease lent
+    /// it. `None` exactly where the session has no such block.
     pub fn block(&self, ino: u32, i: u32) -> Option<&Page>
         ensures { option_copied result ≡ block_shown self.now ino i }
     {
-        match self.stock.file_of(ino) {
-            Some(file) => self.written_block(file, i as usize),
+        match self.file_on(ino) {
+            Some((file, laid)) => self.stock.block(laid, file, i as usize),
             None => self.read_on(ino)?.block(i as usize),
         }
     }
 
-    /// Block `k` of a written file.
-    fn written_block(&self, file: usize, k: usize) -> Option<&Page>
-        requires { file < length self.now.parcel.writes }
-        ensures { option_copied result ≡ option_map (page_in self.now.parcel) (slice_get (slice_index_or self.now.chains file no_chain).blocks k) }
-    {
-        let laid = &self.laid[file];
-        if k < laid.blocks_len() {
-            Some(self.stock.page(laid.block_place(file, k)))
-        } else {
-            None
-        }
-    }
-
-    /// Where a name stands in a directory that is lent for reading, by the directory's index. `None`
-    /// exactly where the session has no such lease, or the name isn't there. A look-up in an index is
-    /// counted.
+    /// Where a name stands in a directory that the session writes, made or has for reading, by the
+    /// directory's index. `None` exactly where the session has no such directory, or the name isn't
+    /// there. A look-up in an index is counted.
     pub fn find(&mut self, dir: u32, name: &Name) -> Option<Place>
-        requires { (f : Shown) → read_file self.old dir ≡ Some f → f.kind ≡ Kind.Directory → In dir self.old.indexed }
+        requires { kind_shown self.old dir ≡ Some Kind.Directory → In dir self.old.indexed }
         ensures place { result ≡ place_shown self.old dir name.now }
         ensures counted { self.new ≡ record self.old { finds = (if is_among dir self.old.indexed then raised self.old.finds else self.old.finds) } }
     {
+        let kind = self.kind(dir);
         match index_on(&self.dirs, dir) {
-            Some(indexed) => indexed.dir.find(name, &mut self.finds),
+            Some(indexed) => in_directory(kind, indexed.dir.find(name, &mut self.finds)),
             None => None,
         }
+    }
+
+    /// The first empty slot of a directory that the session writes or made, in the order of block and
+    /// slot. `None` exactly where no slot is empty.
+    pub fn first_empty(&self, dir: u32) -> Option<Place>
+        requires { IsOpenDir self.now dir }
+        ensures { result ≡ empty_shown self.now dir }
+    {
+        index_on(&self.dirs, dir)?.dir.first_empty()
     }
 
     /// How many look-ups in indexes were counted. A settle leaves the count.
@@ -274,126 +263,49 @@ impl Session {
         }
     }
 
-    /// How many entries a held directory has; 0 for a held regular file. `None` exactly where the
-    /// session has no hold on the file.
+    /// How many entries a directory has that the session holds or made; 0 of a regular file. `None`
+    /// exactly where it neither holds nor made the file.
     pub fn children(&self, ino: u32) -> Option<u32>
+        requires { (m : MadeFile) → made_file self.now ino ≡ Some m → m.kind ≡ Kind.Directory → In ino self.now.indexed }
         ensures { result ≡ children_shown self.now ino }
     {
-        Some(self.stock.hold_on(ino)?.children())
+        match made_of(&self.made, ino) {
+            Some(at) => match self.made[at].kind {
+                Kind::Regular => Some(0),
+                Kind::Directory => Some(index_on(&self.dirs, ino)?.dir.len()),
+            },
+            None => Some(self.stock.hold_on(ino)?.children()),
+        }
     }
 
-    /// The lowest of the allotted inode numbers. `None` exactly where there is none.
+    /// The lowest of the allotted inode numbers that no edit has put in place. `None` exactly where
+    /// there is none.
     pub fn spare_ino(&self) -> Option<u32>
         ensures { result ≡ spare_number self.now }
     {
-        self.stock.lowest_ino()
+        let mut best = None;
+        for allotted in self.stock.inodes() {
+            best = self.lower_spare(best, allotted.no());
+        }
+        best
     }
 
-    /// Whether a lease that the session has serves this need.
-    fn serves(&self, ino: u32, kind: GrantKind) -> bool
-        ensures { result ≡ serves self.now ino kind }
+    /// The lower of two numbers, where there is a first and no edit has put the second in place.
+    fn lower_spare(&self, best: Option<u32>, ino: u32) -> Option<u32>
+        ensures { result ≡ (if is_among ino (used_numbers self.now) then best else lower best ino) }
     {
-        let written = self.stock.write_on(ino).is_some();
-        match kind {
-            GrantKind::Write => written,
-            GrantKind::Hold => self.stock.hold_on(ino).is_some(),
-            GrantKind::Read => written || self.read_on(ino).is_some(),
+        if self.is_used(ino) {
+            best
+        } else {
+            Some(lower(best, ino))
         }
     }
 
-    /// Sees to it that the session has a grant of this kind on a file, and a directory that is lent
-    /// for reading its index. Where a lease serves, the desk isn't asked: one of this kind, and for
-    /// reading one for writing too.
-    ///
-    /// The faults are the desk's. [`GrantFault::NoMemory`] also comes, without a call, where there is
-    /// no room for a lease, and where there is none for an index: the lease is then kept without it.
-    pub fn need<D: Desk>(
-        &mut self,
-        desk: &mut D,
-        ino: u32,
-        kind: GrantKind,
-    ) -> Result<(), GrantFault>
-        requires { IsOn (D.seen desk.old) self.old }
-        ensures call { OneCall D.called desk.old (Grant ino kind) desk.new
-            (λ told. TellsGrant (D.seen desk.old) ino kind told (D.seen desk.new) × AfterNeed self.old result self.new told × IsFalse (serves self.old ino kind))
-            (NoNeed (serves self.old ino kind) self.old result self.new) }
-        ensures asked { IsTrue (serves self.old ino kind) → desk.new ≡ desk.old }
-        ensures indexed { IsOk result → (f : Shown) → read_file self.new ino ≡ Some f → f.kind ≡ Kind.Directory → In ino self.new.indexed }
-        ensures on { IsOn (D.seen desk.new) self.new }
+    /// Whether an edit has put the number in place.
+    fn is_used(&self, ino: u32) -> bool
+        ensures { result ≡ is_among ino (used_numbers self.now) }
     {
-        if self.serves(ino, kind) {
-            return self.index(ino);
-        }
-        match self.lend(desk, ino, kind) {
-            Ok(()) => self.index(ino),
-            Err(fault) => Err(fault),
-        }
-    }
-
-    /// Asks the desk for a grant of this kind on a file, and keeps the lease.
-    fn lend<D: Desk>(&mut self, desk: &mut D, ino: u32, kind: GrantKind) -> Result<(), GrantFault>
-        requires { IsOn (D.seen desk.old) self.old }
-        ensures call { OneCall D.called desk.old (Grant ino kind) desk.new
-            (λ told. TellsGrant (D.seen desk.old) ino kind told (D.seen desk.new) × AfterGrant self.old result self.new told) (NoGrant self.old result self.new) }
-        ensures on { IsOn (D.seen desk.new) self.new }
-    {
-        let mut parts = replace(&mut self.stock, Stock::new(self.alloc)).into_parts();
-        let answer = grant_into(
-            self.alloc,
-            &mut parts,
-            &mut self.laid,
-            &mut self.reads,
-            desk,
-            ino,
-            kind,
-        );
-        replace(&mut self.stock, Stock::of_parts(parts)).discard();
-        answer
-    }
-
-    /// Makes the index of a file, if it is a directory that is lent for reading and has none yet.
-    fn index(&mut self, ino: u32) -> Result<(), GrantFault>
-        requires { MayBeRead self.old.reads ino }
-        ensures kept { self.new ≡ record self.old { indexed = self.new.indexed } }
-        ensures more { (n : ℕ) → In n self.old.indexed → In n self.new.indexed }
-        ensures done { OnOk result ((f : Shown) → read_file self.new ino ≡ Some f → f.kind ≡ Kind.Directory → In ino self.new.indexed) }
-        ensures fault { IfErr result (λ fault. fault ≡ GrantFault.NoMemory) }
-    {
-        if index_on(&self.dirs, ino).is_some() {
-            return Ok(());
-        }
-        let Some(lease) = self.read_on(ino) else {
-            return Ok(());
-        };
-        match lease.kind() {
-            Kind::Regular => Ok(()),
-            Kind::Directory => {
-                let Ok(dir) = index_of(self.alloc, lease) else {
-                    return Err(GrantFault::NoMemory);
-                };
-                if self.dirs.reserve(1).is_err() {
-                    return Err(GrantFault::NoMemory);
-                }
-                self.dirs.push_reserved(IndexedDir { ino, dir });
-                Ok(())
-            }
-        }
-    }
-
-    /// Asks the desk for so many pages and inode numbers, and keeps them as the last ones.
-    ///
-    /// The faults are the desk's. [`AllotFault::NoMemory`] also comes, without a call, where there is
-    /// no room for them. After a fault the session has what it had.
-    pub fn want<D: Desk>(&mut self, desk: &mut D, pages: u32, inodes: u32) -> Result<(), AllotFault>
-        requires { IsOn (D.seen desk.old) self.old }
-        ensures call { OneCall D.called desk.old (Allot pages inodes) desk.new
-            (AfterWant self.old result self.new) (NoWant self.old result self.new) }
-        ensures on { IsOn (D.seen desk.new) self.new }
-    {
-        let mut parts = replace(&mut self.stock, Stock::new(self.alloc)).into_parts();
-        let answer = allot_into(&mut parts, desk, pages, inodes);
-        replace(&mut self.stock, Stock::of_parts(parts)).discard();
-        answer
+        made_of(&self.made, ino).is_some() || made_of(&self.cleared, ino).is_some()
     }
 
     /// Makes room for one call done. After [`NoMemory`] too nothing else has changed.
@@ -402,6 +314,7 @@ impl Session {
         ensures room { OnOk result (length self.new.calls < self.new.room.calls) }
         ensures grows { self.old.room.calls ≤ self.new.room.calls }
         ensures succeeds { length self.old.calls < self.old.room.calls → IsOk result }
+        ensures keeps { KeepsRoom self.old self.new }
     {
         if self.calls.len() >= CALLS_LIMIT {
             return Err(NoMemory);
@@ -426,49 +339,68 @@ impl Session {
         self.calls.pop()
     }
 
-    /// Makes room for edits by which a file that the session has for writing comes to so many blocks.
-    /// After [`NoMemory`] too nothing else has changed.
+    /// Makes room for one file more that the session makes. After [`NoMemory`] too nothing else has
+    /// changed.
+    pub fn reserve_made(&mut self) -> Result<(), NoMemory>
+        ensures kept { self.new ≡ record self.old { room = record self.old.room { made = self.new.room.made } } }
+        ensures room { OnOk result (length self.new.made < self.new.room.made) }
+        ensures grows { self.old.room.made ≤ self.new.room.made }
+    {
+        self.made.reserve(1)?;
+        self.cleared.reserve(self.made.len() + 1)
+    }
+
+    /// Makes room for edits by which a file that the session has for writing, or made, comes to so many
+    /// blocks; of a directory with its index also for one block and one name more in the index. After
+    /// [`NoMemory`] too nothing else has changed.
     pub fn reserve(&mut self, ino: u32, blocks: u32) -> Result<(), NoMemory>
-        requires { IsSome (written_file self.old ino) }
-        ensures kept { self.new ≡ record self.old { room = record self.old.room { blocks = self.new.room.blocks } } }
+        requires { IsSome (open_kind self.old ino) }
+        ensures kept { self.new ≡ record self.old { room = self.new.room } }
         ensures room { OnOk result (blocks ≤ room_in self.new ino) }
+        ensures slots { OnOk result (In ino self.old.indexed → In ino self.new.room.slots) }
+        ensures names { OnOk result (In ino self.old.indexed → In ino self.new.room.names) }
+        ensures keeps { KeepsRoom self.old self.new }
     {
-        let file = self.stock.file_of(ino).unwrap();
-        self.laid[file].reserve(blocks as usize)
+        reserve_one(
+            &self.stock,
+            &mut self.laid,
+            &mut self.made,
+            ino,
+            blocks as usize,
+        )?;
+        reserve_index(&mut self.dirs, ino)
     }
+}
 
-    /// A regular file grows to a size, by the first of the allotted pages that are not put in place.
-    pub fn grow(&mut self, ino: u32, size: u64)
-        requires open { IsOpen self.old ino }
-        requires size { size_in (body_in self.old ino) ≤ size }
-        requires pages { growth (length (chain_in self.old ino).blocks) (block_count size) ≤ length (spare_pages self.old) }
-        requires room { block_count size ≤ room_in self.old ino }
-        ensures { self.new ≡ record (grown ino size self.old) { room = self.new.room } }
-    {
-        let file = self.stock.file_of(ino).unwrap();
-        let laid = &mut self.laid[file];
-        self.placed = grow_file(&mut self.stock, laid, file, size as usize, self.placed);
+/// Makes room for the file of this number, among those that are written and those that were made, to
+/// come to so many blocks.
+fn reserve_one(
+    stock: &Stock,
+    laid: &mut Vec<Laid>,
+    made: &mut Vec<Made>,
+    ino: u32,
+    blocks: usize,
+) -> Result<(), NoMemory>
+    requires there { IsThere stock.now made.old.items ino }
+    requires beside { length laid.old.items ≡ length stock.now.writes }
+    ensures relaid { IsRelaid (Roomier blocks result) stock.now laid.old.items made.old.items ino laid.new.items made.new.items }
+    ensures places { vec_capacity made.new ≡ vec_capacity made.old }
+{
+    match made_of(made, ino) {
+        Some(at) => made[at].laid.reserve(blocks),
+        None => {
+            let at = stock.file_of(ino).unwrap();
+            laid[at].reserve(blocks)
+        }
     }
+}
 
-    /// A regular file is cut to a size. What it gives up stays in hand, and isn't used again.
-    pub fn cut(&mut self, ino: u32, size: u64)
-        requires open { IsOpen self.old ino }
-        requires size { size ≤ size_in (body_in self.old ino) }
-        ensures { self.new ≡ record (cut ino size self.old) { room = self.new.room } }
-    {
-        let file = self.stock.file_of(ino).unwrap();
-        cut_file(&mut self.stock, &mut self.laid[file], file, size as usize);
-    }
-
-    /// Writes bytes into a regular file from `at` on, within its size. It takes no memory.
-    pub fn put(&mut self, ino: u32, at: u64, bytes: &[u8])
-        requires open { IsOpen self.old ino }
-        requires within { at + length bytes.now ≤ size_in (body_in self.old ino) }
-        ensures { self.new ≡ put ino at bytes.now self.old }
-    {
-        let file = self.stock.file_of(ino).unwrap();
-        // the size is a number of 64 bits, and the bytes stay within it
-        let _size = size_of(&self.stock, file);
-        put_bytes(&mut self.stock, &self.laid[file], file, at as usize, bytes);
+/// The place of a name in a directory; a file of another kind has no names.
+fn in_directory(kind: Option<Kind>, place: Option<Place>) -> Option<Place>
+    ensures { (slots : List (Option (List ℕ))) (name : List ℕ) → place ≡ place_at_name name slots → result ≡ place_of kind slots name }
+{
+    match kind {
+        Some(Kind::Directory) => place,
+        Some(Kind::Regular) | None => None,
     }
 }

@@ -1,19 +1,21 @@
 //! What is handed in: leases, allotted pages and inode numbers.
 
-ghost use Rattle.std.specs.Prelude.{◌≡◌, ◌≢◌, ℕ, ◌+◌, ◌≤◌, ◌<◌, [], length, IsSome, ◌==◌, min};
+ghost use Rattle.std.specs.Prelude.{◌≡◌, ◌≢◌, ℕ, ◌+◌, ◌≤◌, ◌<◌, [], length, IsSome, ◌==◌, min, slice_get};
 ghost use Rattle.std.specs.List.{find, position};
-ghost use Rattle.std.specs.Option.{option_copied, option_map_or};
+ghost use Rattle.std.specs.Option.{option_copied, option_map, option_map_or};
 ghost use Rattle.trio_desk.specs.Out.{ino_numbers, parcel_of};
-ghost use Rattle.trio_session.specs.Seen.{lowest};
+ghost use Rattle.trio_lists.specs.Lists.{is_among};
+ghost use Rattle.trio_layout.specs.Entries.{body_in_slot};
 ghost use Rattle.trio_page.specs.Field.{with_part};
 ghost use Rattle.trio_desk.specs.Edits.{nothing};
 ghost use Rattle.trio_lease.specs.Bundles.{bundled};
-ghost use Rattle.trio_session.specs.Layout.{body_sized, page_in, with_body, with_number_in, with_page};
+ghost use Rattle.trio_session.specs.Layout.{page_in, with_body, with_body_at, with_number_in, with_page};
+ghost use Rattle.trio_session.specs.declared.laid.FilePlace.TheVariants.{Leased};
 ghost use Rattle.trio_session.specs.declared.laid.PagePlace.TheVariants.{Block, Fresh, Index};
-ghost use Rattle.trio_session.specs.inner.Places.{body_at, ino_at, number_at, sheet_at};
+ghost use Rattle.trio_session.specs.inner.Places.{IsFile, IsSlot, IsWholeAt, body_at, chain_at, home_at, ino_at, number_at, sheet_at, shown_at};
 
-use crate::laid::PagePlace;
-use crate::lent::{put_in_block, put_in_fresh, put_in_index, put_sizes};
+use crate::laid::{FilePlace, Laid, PagePlace};
+use crate::lent::{put_in_block, put_in_fresh, put_in_index, put_lent_body};
 use std::alloc::Global;
 use std::marker::Model;
 use trio_lease::{Bundle, BundleParts, FreshIno, FreshPage, HoldLease, WriteLease};
@@ -85,15 +87,25 @@ impl Stock {
         self.holds.iter().find(|lease| lease.ino() == ino)
     }
 
-    /// The lowest of the allotted inode numbers.
-    pub(crate) fn lowest_ino(&self) -> Option<u32>
-        ensures { result ≡ lowest (ino_numbers self.now.inodes) }
+    /// The inode numbers that were allotted.
+    pub(crate) fn inodes(&self) -> &[FreshIno]
+        ensures { result.now ≡ self.now.inodes }
     {
-        let mut best = None;
-        for ino in &self.inodes {
-            best = Some(lower(best, ino.no()));
-        }
-        best
+        &self.inodes
+    }
+
+    /// Whether a number is one of the allotted inode numbers.
+    pub(crate) fn has_ino(&self, ino: u32) -> bool
+        ensures { result ≡ is_among ino (ino_numbers self.now.inodes) }
+    {
+        self.ino_place(ino).is_some()
+    }
+
+    /// The place of the first of the allotted inode numbers that is this one.
+    fn ino_place(&self, ino: u32) -> Option<usize>
+        ensures { result ≡ position (λ n. n.no == ino) self.now.inodes }
+    {
+        self.inodes.iter().position(|allotted| allotted.no() == ino)
     }
 
     /// All of it as one bundle. It takes no memory.
@@ -188,6 +200,18 @@ impl Stock {
         }
     }
 
+    /// Block `k` of the file at a place.
+    pub(crate) fn block(&self, laid: &Laid, file: FilePlace, k: usize) -> Option<&Page>
+        requires { IsFile self.now file laid.now }
+        ensures { option_copied result ≡ option_map (page_in self.now) (slice_get (chain_at self.now file laid.now).blocks k) }
+    {
+        if k < laid.blocks_len() {
+            Some(self.page(laid.block_place(file, k)))
+        } else {
+            None
+        }
+    }
+
     /// The number of the page at a place.
     pub(crate) fn number(&self, place: PagePlace) -> PageNo
         requires { IsSome (sheet_at self.now place) }
@@ -246,23 +270,72 @@ impl Stock {
         self.put_part(place, offset, &value.to_le_bytes());
     }
 
-    /// Writes the head and the size of a written file.
-    pub(crate) fn put_sizes(&mut self, file: usize, head: u32, size: u64)
-        requires { file < length self.old.writes }
-        ensures written { self.new ≡ with_body (ino_at self.old file) (body_sized head size (body_at self.old file)) self.old }
-        ensures whole { length (body_at self.old file) ≡ 64 }
-        ensures others { (i : ℕ) → i ≢ file → body_at self.new i ≡ body_at self.old i }
+    /// The body of the file at a place.
+    pub(crate) fn body(&self, file: FilePlace) -> &[u8; 64]
+        requires there { IsSome (shown_at self.now file) }
+        requires slot { IsSlot file }
+        ensures body { result.now ≡ body_at self.now file }
+        ensures len { length (body_at self.now file) ≡ 64 }
+        ensures whole { IsWholeAt self.now file }
     {
-        put_sizes(&mut self.writes[file], head, size);
+        match file {
+            FilePlace::Leased { at } => self.writes[at].body(),
+            FilePlace::InSlot { page, slot } => {
+                // a look into the stock, in which no page stands at two places
+                let _pages = self.pages.len();
+                body_on(self.page(page), slot)
+            }
+        }
+    }
+
+    /// Writes the body of the file at a place.
+    pub(crate) fn put_body(&mut self, file: FilePlace, body: &[u8; 64])
+        requires there { IsSome (shown_at self.old file) }
+        requires slot { IsSlot file }
+        ensures written { self.new ≡ with_body_at (home_at self.old file) body.now self.old }
+        ensures has { body_at self.new file ≡ body.now }
+        ensures others { (i : ℕ) → Leased i ≢ file → body_at self.new (Leased i) ≡ body_at self.old (Leased i) }
+    {
+        match file {
+            FilePlace::Leased { at } => self.put_lent_body(at, body),
+            FilePlace::InSlot { page, slot } => {
+                // a look into the stock, in which no page stands at two places
+                let _pages = self.pages.len();
+                let _whole = self.page(page).bytes();
+                self.put_part(page, 256 * slot + 192, body)
+            }
+        }
+    }
+
+    /// Writes the body of a written file.
+    fn put_lent_body(&mut self, at: usize, body: &[u8; 64])
+        requires { at < length self.old.writes }
+        ensures written { self.new ≡ with_body (ino_at self.old at) body.now self.old }
+        ensures has { body_at self.new (Leased at) ≡ body.now }
+        ensures others { (i : ℕ) → i ≢ at → body_at self.new (Leased i) ≡ body_at self.old (Leased i) }
+    {
+        put_lent_body(&mut self.writes[at], body);
     }
 }
 
 /// The lower of two numbers, where there is a first.
-fn lower(best: Option<u32>, no: u32) -> u32
+pub(crate) fn lower(best: Option<u32>, no: u32) -> u32
     ensures { result ≡ option_map_or (λ m. min m no) best no }
 {
     match best {
         Some(number) => number.min(no),
         None => no,
     }
+}
+
+/// The body in a slot of a page.
+fn body_on(page: &Page, slot: usize) -> &[u8; 64]
+    requires { slot < 16 }
+    ensures body { result.now ≡ body_in_slot slot page.now }
+    ensures len { length (body_in_slot slot page.now) ≡ 64 }
+    ensures whole { length page.now ≡ 4096 }
+{
+    page.bytes()[256 * slot + 192..256 * slot + 256]
+        .as_array()
+        .unwrap()
 }

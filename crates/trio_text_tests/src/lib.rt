@@ -3,6 +3,8 @@
 #![tactic(auto)]
 
 #[cfg(test)]
+mod honest;
+#[cfg(test)]
 mod io;
 #[cfg(test)]
 mod script;

@@ -1,13 +1,13 @@
 use std::alloc::Global;
 use trio_nodes::{GrantKind, List, Spot};
 use trio_rights::Creds;
-use trio_script::{RawLine, ScriptFault, ScriptLib, ScriptLine, read_script};
+use trio_script::{Lines, RawLine, ScriptFault, ScriptLib, ScriptLine, read_script};
 
-/// A library of a script, by its user, its group and its lines.
-fn library(uid: u32, gid: u32, lines: Vec<ScriptLine>) -> ScriptLib {
-    ScriptLib {
-        creds: Creds { uid, gid },
-        lines: List::from_vec(lines),
+/// Whether a raw library of a script has this user, this group and these lines.
+fn is_raw(library: &ScriptLib, uid: u32, gid: u32, lines: &[ScriptLine<RawLine>]) -> bool {
+    match &library.lines {
+        Lines::Raw(read) => library.creds == Creds { uid, gid } && read.as_slice() == lines,
+        Lines::Honest(_) => false,
     }
 }
 
@@ -21,8 +21,8 @@ fn second_line(alloc: Global, line: &[u8]) -> Option<Result<Vec<ScriptLib>, Scri
 /// Whether the second line says just this.
 fn says(alloc: Global, text: &[u8], line: RawLine) -> Option<bool> {
     let lines = vec![in alloc; ScriptLine { number: 2, line }].ok()?;
-    let wanted = vec![in alloc; library(0, 0, lines)].ok()?;
-    Some(second_line(alloc, text)? == Ok(wanted))
+    let libs = second_line(alloc, text)?.ok()?;
+    Some(libs.len() == 1 && is_raw(&libs[0], 0, 0, &lines))
 }
 
 const GRANTS: &[(&str, GrantKind, u32)] = &[
@@ -176,8 +176,8 @@ fn write_grant(ino: u32) -> RawLine {
     }
 }
 
-/// Lines that have none of the forms.
-const UNBUILT: &[&str] = &[
+/// Lines that have none of the forms of a raw library's.
+const BAD: &[&str] = &[
     "grant",
     "grant write",
     "grant write 02",
@@ -248,19 +248,19 @@ const UNBUILT: &[&str] = &[
     "mode 2 700 700",
     "mode 4294967296 700",
     "chmod /f 700",
+    "stat /",
+    "read /f 0 1",
+    "settle",
 ];
 
-fn is_unbuilt(alloc: Global, line: &[u8]) -> Option<bool> {
-    Some(second_line(alloc, line)?.err() == Some(ScriptFault::Unbuilt(2)))
+fn is_bad(alloc: Global, line: &[u8]) -> Option<bool> {
+    Some(second_line(alloc, line)?.err() == Some(ScriptFault::BadLine(2)))
 }
 
 #[test]
-fn other_lines_are_unbuilt(rt: HostRuntime) {
-    for line in UNBUILT {
-        assert!(rt;
-            is_unbuilt(rt.alloc(), line.as_bytes()) == Some(true),
-            "{line}"
-        );
+fn other_lines_are_bad(rt: HostRuntime) {
+    for line in BAD {
+        assert!(rt; is_bad(rt.alloc(), line.as_bytes()) == Some(true), "{line}");
     }
 }
 
@@ -275,7 +275,7 @@ fn counts_bytes(alloc: Global) -> Option<bool> {
     };
     let is_read = says(alloc, &line, poke)?;
     line.extend_from_slice(b"77").ok()?;
-    Some(is_read && is_unbuilt(alloc, &line)?)
+    Some(is_read && is_bad(alloc, &line)?)
 }
 
 #[test]
@@ -309,19 +309,24 @@ fn reads_two_libs(alloc: Global) -> Option<bool> {
         },
     ]
     .ok()?;
-    let wanted = vec![in alloc; library(1001, 5, first), library(0, 4_294_967_295, second)].ok()?;
-    Some(read_script(alloc, TWO_LIBS) == Ok(wanted))
+    let libs = read_script(alloc, TWO_LIBS).ok()?;
+    Some(
+        libs.len() == 2
+            && is_raw(&libs[0], 1001, 5, &first)
+            && is_raw(&libs[1], 0, 4_294_967_295, &second),
+    )
 }
 
 /// Libraries without a line of their own.
 fn reads_bare_libs(alloc: Global) -> Option<bool> {
-    let wanted = vec![in alloc;
-        library(3, 4, Vec::new(alloc)),
-        library(5, 6, Vec::new(alloc)),
-        library(7, 8, Vec::new(alloc)),
-    ]
-    .ok()?;
-    Some(read_script(alloc, b"lib 1 raw 3 4\nlib 2 raw 5 6\n#\nlib 3 raw 7 8\n\n") == Ok(wanted))
+    let script = b"lib 1 raw 3 4\nlib 2 raw 5 6\n#\nlib 3 raw 7 8\n\n";
+    let libs = read_script(alloc, script).ok()?;
+    Some(
+        libs.len() == 3
+            && is_raw(&libs[0], 3, 4, &[])
+            && is_raw(&libs[1], 5, 6, &[])
+            && is_raw(&libs[2], 7, 8, &[]),
+    )
 }
 
 #[test]
@@ -330,8 +335,7 @@ fn libraries_are_read(rt: HostRuntime) {
     assert!(rt; reads_bare_libs(rt.alloc()) == Some(true));
 }
 
-/// How many libraries are read of a script with so many, a line for each, or the line that isn't
-/// built.
+/// How many libraries are read of a script with so many, a line for each, or the first bad line.
 fn count_libs(alloc: Global, count: u32) -> Option<Result<usize, ScriptFault>> {
     let mut script = Vec::new(alloc);
     for begun in 0..count {
@@ -349,11 +353,11 @@ fn count_libs(alloc: Global, count: u32) -> Option<Result<usize, ScriptFault>> {
 fn libraries_are_counted(rt: HostRuntime) {
     assert!(rt; count_libs(rt.alloc(), 2) == Some(Ok(2)));
     assert!(rt; count_libs(rt.alloc(), 16) == Some(Ok(16)));
-    assert!(rt; count_libs(rt.alloc(), 17) == Some(Err(ScriptFault::Unbuilt(17))));
-    assert!(rt; count_libs(rt.alloc(), 18) == Some(Err(ScriptFault::Unbuilt(17))));
+    assert!(rt; count_libs(rt.alloc(), 17) == Some(Err(ScriptFault::BadLine(17))));
+    assert!(rt; count_libs(rt.alloc(), 18) == Some(Err(ScriptFault::BadLine(17))));
 }
 
-/// Scripts, and the number of the first line that isn't built, or 0.
+/// Scripts, and the number of the first bad line, or 0.
 const SCRIPTS: &[(&str, u32)] = &[
     ("", 1),
     ("\n", 1),
@@ -384,7 +388,7 @@ const SCRIPTS: &[(&str, u32)] = &[
     ("lib 1 raw 0 0\nlib 2 raw 5 5\nlib 4 raw 0 0\nx\n", 3),
     ("lib 1 raw 0 0\nlib 2 raw 5 5\nlib 2 raw 5 5\n", 3),
     ("lib 1 raw 0 0\nlib 2 raw 5 5\n\nlib 1 raw 0 0\n", 4),
-    ("lib 1 raw 0 0\nlib 2 honest 0 0\nlib 3 raw 0 0\n", 2),
+    ("lib 1 raw 0 0\nlib 2 honest 0 0\nlib 3 raw 0 0\n", 0),
     ("lib 1 raw 0 0\nlib\n", 2),
     ("lib 1 raw 0 0\n#\nlib 1 raw 0 0", 3),
     ("lib 1 raw 0 0\n\ngrant write 2\nsettle\n", 4),
@@ -392,9 +396,9 @@ const SCRIPTS: &[(&str, u32)] = &[
     ("#\nsettle\nstat /\n", 1),
     ("#\nallot 1 0\nlib 1 raw 0 0\n", 2),
     ("#\nallot 1 0\n", 1),
-    ("lib 1 honest 0 0\n", 1),
-    ("\n\nlib 1 honest 0 0\n", 3),
-    ("\nlib 1 honest 0 0\nlib 1 raw 0 0\n", 2),
+    ("lib 1 honest 0 0\n", 0),
+    ("\n\nlib 1 honest 0 0\n", 0),
+    ("\nlib 1 honest 0 0\nlib 1 raw 0 0\n", 3),
     ("\nlib 1 raw 0 0 \n", 2),
     ("\nlib 1 raw 0 0\r\n", 2),
     ("\n lib 1 raw 0 0\n", 1),
@@ -402,13 +406,27 @@ const SCRIPTS: &[(&str, u32)] = &[
     ("\nlibrary\n", 1),
     ("grant write 2\nlib 1 raw 0 0\n", 1),
     ("lib 1 raw 0 0\ngrant write 2\ngrant write x\nsettle\n", 3),
+    ("lib 1 other 0 0\n", 1),
+    ("\nlib 1 honest 0\n", 2),
+    ("\nlib 1 Honest 0 0\n", 2),
+    ("\nlib 1 honestly 0 0\n", 2),
+    ("\nlib 1 honest raw 0 0\n", 2),
+    ("lib 1 honest 0 0\nlib 3 honest 0 0\n", 2),
+    ("lib 1 honest 0 0\nsettle\nlib 2 raw 0 0\nsettle\n", 4),
+    ("lib 1 raw 0 0\nback 2\nlib 2 honest 0 0\nback 2\n", 4),
+    (
+        "lib 1 honest 0 0\nstat /\nlib 2 raw 0 0\nback 1\nlib 3 honest 1 1\n#\nstat /",
+        0,
+    ),
+    ("lib 1 honest 0 0\nmkdir a 755\nsettle 1\n", 2),
+    ("stat /\nlib 1 honest 0 0\n", 1),
 ];
 
-/// The number of the line that isn't built, or 0.
-fn unbuilt(alloc: Global, script: &[u8]) -> Option<u32> {
+/// The number of the first bad line, or 0.
+fn bad_line(alloc: Global, script: &[u8]) -> Option<u32> {
     match read_script(alloc, script) {
         Ok(_) => Some(0),
-        Err(ScriptFault::Unbuilt(number)) => Some(number),
+        Err(ScriptFault::BadLine(number)) => Some(number),
         Err(ScriptFault::NoMemory) => None,
     }
 }
@@ -417,24 +435,24 @@ fn unbuilt(alloc: Global, script: &[u8]) -> Option<u32> {
 fn scripts_are_read(rt: HostRuntime) {
     for (script, line) in SCRIPTS {
         assert!(rt;
-            unbuilt(rt.alloc(), script.as_bytes()) == Some(*line),
+            bad_line(rt.alloc(), script.as_bytes()) == Some(*line),
             "{script}"
         );
     }
 }
 
-/// The line that isn't built where the library's line, of 14 bytes, and lines without bytes make up a
+/// The first bad line where the library's line, of 14 bytes, and lines without bytes make up a
 /// script of so many, and these follow.
-fn unbuilt_behind(alloc: Global, length: usize, last: &[u8]) -> Option<u32> {
+fn bad_line_behind(alloc: Global, length: usize, last: &[u8]) -> Option<u32> {
     let mut script = b"lib 1 raw 0 0\n".to_vec(alloc).ok()?;
     script.resize(length, b'\n').ok()?;
     script.extend_from_slice(last).ok()?;
-    unbuilt(alloc, &script)
+    bad_line(alloc, &script)
 }
 
 #[test]
 fn lines_are_counted(rt: HostRuntime) {
-    assert!(rt; unbuilt_behind(rt.alloc(), 14 + 16_383, b"") == Some(0));
-    assert!(rt; unbuilt_behind(rt.alloc(), 14 + 16_383, b"\n") == Some(16_385));
-    assert!(rt; unbuilt_behind(rt.alloc(), 14 + 16_383, b"\nx") == Some(16_385));
+    assert!(rt; bad_line_behind(rt.alloc(), 14 + 16_383, b"") == Some(0));
+    assert!(rt; bad_line_behind(rt.alloc(), 14 + 16_383, b"\n") == Some(16_385));
+    assert!(rt; bad_line_behind(rt.alloc(), 14 + 16_383, b"\nx") == Some(16_385));
 }

@@ -64,4 +64,4 @@ gap (Some name ∷ slots) = suc (gap slots)
 pub record IsKept (slots : List (Option (List ℕ))) (order : List ℕ) (first : ℕ) : Type 0 where
   pub index : IsIndex slots order
   pub at_gap : first ≡ gap slots
-  pub few : length slots ≤ 2 ^ 32
+  pub few : length slots < 2 ^ 32

@@ -31,11 +31,11 @@ use Rattle.trio_laws.proofs.session.Again.{possible_with_less}
 
 -- ---- one call more
 
-batch_more : (creds : Creds) (calls : List Done) (d : Done) (nodes : Nodes) → batch_nodes creds (calls ++ d ∷ []) nodes ≡ call_nodes creds (batch_nodes creds calls nodes) d
+pub batch_more : (creds : Creds) (calls : List Done) (d : Done) (nodes : Nodes) → batch_nodes creds (calls ++ d ∷ []) nodes ≡ call_nodes creds (batch_nodes creds calls nodes) d
 batch_more creds [] d nodes = refl
 batch_more creds (c ∷ cs) d nodes = batch_more creds cs d (call_nodes creds nodes c)
 
-reply_more : (creds : Creds) (calls : List Done) (d : Done) (nodes : Nodes) → LegalCalls creds nodes calls
+pub reply_more : (creds : Creds) (calls : List Done) (d : Done) (nodes : Nodes) → LegalCalls creds nodes calls
     → Apply (batch_nodes creds calls nodes) creds d.call d.made d.reply (call_nodes creds (batch_nodes creds calls nodes) d) → MadeFits (batch_nodes creds calls nodes) d
     → LegalCalls creds nodes (calls ++ d ∷ [])
 reply_more creds [] d nodes c a m = (a, m, tt)

@@ -48,7 +48,7 @@ share_behind core page index blocks k s =
           ∙ ap of (sym numbers);
     }
 
-named_chain : (core : Core) (index blocks : List ℕ) → length blocks ≤ 511 * length index → ((k : ℕ) → k < length index → NamesShare core index blocks k)
+pub named_chain : (core : Core) (index blocks : List ℕ) → length blocks ≤ 511 * length index → ((k : ℕ) → k < length index → NamesShare core index blocks k)
     → chain_within core (length index) (length blocks) (slice_index_or index 0 0) ≡ Ok (record { index = index; blocks = blocks })
 named_chain core [] [] l each = refl
 named_chain core [] (x ∷ xs) l each = absurd (omega arith)

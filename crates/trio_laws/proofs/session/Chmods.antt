@@ -18,7 +18,7 @@ use Rattle.trio_nodes.specs.After.{moded_nodes, moded_node}
 use Rattle.trio_nodes.specs.Nodes.{Nodes, find_named, node_at, with_node}
 use Rattle.trio_nodes.specs.Tree.{IsTree}
 use Rattle.trio_nodes.specs.Walk.{Path, and_then, dir_of, enter, enter_node, is_root, is_directory, lacks, name_of, need_at, walk, walk_into}
-use Rattle.trio_onetree.proofs.Children.{Child, find_named-Child}
+use Rattle.trio_onetree.proofs.Children.{find_named-Child}
 use Rattle.trio_nodes.specs.Legal.{LegalChmod, is_owner}
 use Rattle.trio_nodes.specs.declared.answers.ModeFault.{ModeFault}
 use Rattle.trio_nodes.specs.declared.answers.ModeFault.TheVariants.{NotLive, NotOwner, BadMode, Busy, NoMemory as OutOfMemory}

@@ -3,6 +3,7 @@ use Rattle.std.proofs.Common.{◌≡◌, ℕ, suc, ◌<◌, ◌≤◌, true, not
 use Rattle.std.proofs.lemmas.Bool.{and_from, or_right, eq-eqb, not_from_false}
 use Rattle.trio_lists.specs.Lists.{In, is_among, are_new}
 use Rattle.trio_lists.proofs.Members.{In-cases}
+use Rattle.trio_lists.proofs.Filters.{some_one}
 use Rattle.trio_lists.proofs.New.{is_among-not}
 use Rattle.trio_layout.proofs.Walks.{pigeons}
 use Rattle.trio_layout.specs.Edges.{climbs}
@@ -46,6 +47,26 @@ module _ (nodes : Nodes) (tree : IsTree nodes) where
       let long : length r.0 ≡ suc (length names) = ap length same in
       let less : length r.0 ≤ length names = r.2 in
       omega (arith, long, less)
+
+  -- no node is its own parent
+  pub own_parent : (n : ℕ) (x : Node) → node_at nodes n ≡ Some x → x.parent ≡ n → ⊥
+  unfolding on_way
+  own_parent n x at own =
+      let w = way_of n x at in by w.0 w.1
+    where
+      first : (q : ℕ) (names : Path) (w : Up nodes q names) → In q (on_way q names w)
+      first q [] w = inl refl
+      first q (name ∷ names) w = inl refl
+
+      by : (names : Path) → Up nodes n names → ⊥
+      by [] w =
+          let same : x ≡ tree.root.0 = some_one (node_at nodes 1) x tree.root.0 (ap (node_at nodes) (sym w) ∙ at) tree.root.1 in
+          let zero' : 0 ≡ 1 = sym (ap (λ (z : Node). z.parent) same ∙ tree.root.3) ∙ own ∙ w in
+          absurd (cc zero')
+      by (name ∷ names) w =
+          let same : w.0 ≡ x = some_one (node_at nodes n) w.0 x w.1 at in
+          let up : w.0.parent ≡ n = ap (λ (z : Node). z.parent) same ∙ own in
+          not_again n name names w (subst (λ k. In k (on_way w.0.parent names w.3)) up (first w.0.parent names w.3))
 
   way_new : (n : ℕ) (names : Path) (w : Up nodes n names) (seen : List ℕ) → ((q : ℕ) → In q (on_way n names w) → In q seen → ⊥) → are_new seen (on_way n names w) ≡ true
   unfolding on_way

@@ -12,7 +12,7 @@ use Rattle.trio_nodes.specs.declared.call.Call.{Call}
 use Rattle.trio_nodes.specs.declared.call.Call.TheVariants.{Mkdir, Create, Write, Read, Truncate, Unlink, Rmdir, Rename, List as ListNames, Stat, Chmod}
 use Rattle.trio_nodes.specs.declared.call.Done.{Done}
 use Rattle.trio_nodes.specs.declared.call.Reply.{Reply}
-use Rattle.trio_nodes.specs.declared.call.Reply.TheVariants.{NotFound, NotDir, IsDir, Denied, TooLarge}
+use Rattle.trio_nodes.specs.declared.call.Reply.TheVariants.{Ok as Replied, NotFound, Exists, NotDir, IsDir, NotEmpty, Denied, IntoItself, NoSpace, NoInodes, TooLarge}
 use Rattle.trio_nodes.specs.Nodes.{Nodes, node_at, count_in, find_named, with_node}
 use Rattle.trio_nodes.specs.Walk.{Path, and_then, enter_node, is_directory, lacks, need_at, walk, walk_from}
 use Rattle.trio_nodes.specs.Apply.{Applied, LacksRoom, applied, at_file, done, is_done, largest_size, makes_file, of_node, put_at, reached, refused, resized, size_of, wants_pages}
@@ -93,23 +93,49 @@ makes_none (Chmod p m) path e = refl
 makes_none (Mkdir p m) path e = absurd (let wrong : None ≡ Some path = e in cc wrong)
 makes_none (Create p m) path e = absurd (let wrong : None ≡ Some path = e in cc wrong)
 
-module _ (desk : DeskSeen) (d : Done) (nodes : Nodes) (path : Path) (is : file_path d.call ≡ Some path) (none : d.made ≡ 0) where
-  made_fits : MadeFits nodes d
-  made_fits =
-      let P : Bool → Type 0 = λ t. MatchBool t ((node_at nodes d.made ≡ None) × (d.made ≡ 0 → ⊥)) (d.made ≡ 0) in
-      subst P (sym (ap (λ t. t && is_done d.reply) (makes_none d.call path is))) none
+-- a call that makes no file, by what it is or by its reply, has no number
+pub makes_nothing : (nodes : Nodes) (d : Done) → (makes_file d.call && is_done d.reply) ≡ false → d.made ≡ 0 → MadeFits nodes d
+makes_nothing nodes d e none =
+    let P : Bool → Type 0 = λ t. MatchBool t ((node_at nodes d.made ≡ None) × (d.made ≡ 0 → ⊥)) (d.made ≡ 0) in subst P (sym e) none
 
+module _ (desk : DeskSeen) (d : Done) (nodes : Nodes) (made : MadeFits nodes d) where
   -- the call makes this of the nodes, with this reply
-  does_by : (a : Applied) → applied nodes desk.creds d.call d.made ≡ a → d.reply ≡ a.reply → (lacks_room d.reply ≡ false) ⊎ (a.nodes ≡ nodes) → DoesCall desk d nodes a.nodes
-  does_by a e r room =
+  pub does_as : (a : Applied) → applied nodes desk.creds d.call d.made ≡ a → d.reply ≡ a.reply → (lacks_room d.reply ≡ false) ⊎ (a.nodes ≡ nodes) → DoesCall desk d nodes a.nodes
+  does_as a e r room =
       let after : call_nodes desk.creds nodes d ≡ a.nodes =
       ap (λ (z : Applied). cond (lacks_room d.reply) nodes z.nodes) e
       ∙ elim room [ inl t ↦ ap (λ t. cond t nodes a.nodes) t | inr same ↦ by (lacks_room d.reply) same ] in
-      (inl (r ∙ sym (ap (λ (z : Applied). z.reply) e), after ∙ sym (ap (λ (z : Applied). z.nodes) e)), made_fits, after)
+      (inl (r ∙ sym (ap (λ (z : Applied). z.reply) e), after ∙ sym (ap (λ (z : Applied). z.nodes) e)), made, after)
     where
       by : (t : Bool) → a.nodes ≡ nodes → cond t nodes a.nodes ≡ a.nodes
       by true s = sym s
       by false s = refl
+
+  -- it would be done, but there is no room for it
+  pub lacks_as : LacksRoom d.call d.reply → is_done (applied nodes desk.creds d.call d.made).reply ≡ true → DoesCall desk d nodes nodes
+  lacks_as lacks' could =
+      let stays : call_nodes desk.creds nodes d ≡ nodes = ap (λ t. cond t nodes (applied nodes desk.creds d.call d.made).nodes) (room d.reply lacks') in
+      (inr (lacks', could, stays), made, stays)
+    where
+      room : (reply : Reply) → LacksRoom d.call reply → lacks_room reply ≡ true
+      room (NoSpace wanted free) l = refl
+      room (NoInodes wanted free) l = refl
+      room (Replied answer) l = absurd l
+      room NotFound l = absurd l
+      room Exists l = absurd l
+      room NotDir l = absurd l
+      room IsDir l = absurd l
+      room NotEmpty l = absurd l
+      room Denied l = absurd l
+      room IntoItself l = absurd l
+      room TooLarge l = absurd l
+
+module _ (desk : DeskSeen) (d : Done) (nodes : Nodes) (path : Path) (is : file_path d.call ≡ Some path) (none : d.made ≡ 0) where
+  made_fits : MadeFits nodes d
+  made_fits = makes_nothing nodes d (ap (λ t. t && is_done d.reply) (makes_none d.call path is)) none
+
+  does_by : (a : Applied) → applied nodes desk.creds d.call d.made ≡ a → d.reply ≡ a.reply → (lacks_room d.reply ≡ false) ⊎ (a.nodes ≡ nodes) → DoesCall desk d nodes a.nodes
+  does_by = does_as desk d nodes made_fits
 
   by_walk : walk nodes desk.creds [] path ≡ Err d.reply → DoesCall desk d nodes nodes
   by_walk w =
@@ -127,27 +153,27 @@ module _ (desk : DeskSeen) (d : Done) (nodes : Nodes) (path : Path) (is : file_p
 -- ---- checks, one after another
 
 module _ (nodes : Nodes) (good : Applied) where
-  first_refuses : (a reply : Reply) (s : Bool) → cond s (Some a) None ≡ Some reply → cond s (refused nodes a) good ≡ refused nodes reply
+  pub first_refuses : (a reply : Reply) (s : Bool) → cond s (Some a) None ≡ Some reply → cond s (refused nodes a) good ≡ refused nodes reply
   first_refuses a reply true e = ap (refused nodes) (let k : Some a ≡ Some reply = e in cc k)
   first_refuses a reply false e = absurd (let wrong : None ≡ Some reply = e in cc wrong)
 
-  first_passes : (a : Reply) (s : Bool) → cond s (Some a) None ≡ None → cond s (refused nodes a) good ≡ good
+  pub first_passes : (a : Reply) (s : Bool) → cond s (Some a) None ≡ None → cond s (refused nodes a) good ≡ good
   first_passes a true e = absurd (let wrong : Some a ≡ None = e in cc wrong)
   first_passes a false e = refl
 
-  two_refuse : (a b reply : Reply) (s t : Bool) → cond s (Some a) (cond t (Some b) None) ≡ Some reply → cond s (refused nodes a) (cond t (refused nodes b) good) ≡ refused nodes reply
+  pub two_refuse : (a b reply : Reply) (s t : Bool) → cond s (Some a) (cond t (Some b) None) ≡ Some reply → cond s (refused nodes a) (cond t (refused nodes b) good) ≡ refused nodes reply
   two_refuse a b reply true t e = ap (refused nodes) (let k : Some a ≡ Some reply = e in cc k)
   two_refuse a b reply false t e = first_refuses b reply t e
 
-  two_pass : (a b : Reply) (s t : Bool) → cond s (Some a) (cond t (Some b) None) ≡ None → cond s (refused nodes a) (cond t (refused nodes b) good) ≡ good
+  pub two_pass : (a b : Reply) (s t : Bool) → cond s (Some a) (cond t (Some b) None) ≡ None → cond s (refused nodes a) (cond t (refused nodes b) good) ≡ good
   two_pass a b true t e = absurd (let wrong : Some a ≡ None = e in cc wrong)
   two_pass a b false t e = first_passes b t e
 
-  three_refuse : (a b c reply : Reply) (s t v : Bool) → cond s (Some a) (cond t (Some b) (cond v (Some c) None)) ≡ Some reply → cond s (refused nodes a) (cond t (refused nodes b) (cond v (refused nodes c) good)) ≡ refused nodes reply
+  pub three_refuse : (a b c reply : Reply) (s t v : Bool) → cond s (Some a) (cond t (Some b) (cond v (Some c) None)) ≡ Some reply → cond s (refused nodes a) (cond t (refused nodes b) (cond v (refused nodes c) good)) ≡ refused nodes reply
   three_refuse a b c reply true t v e = ap (refused nodes) (let k : Some a ≡ Some reply = e in cc k)
   three_refuse a b c reply false t v e = two_refuse b c reply t v e
 
-  three_pass : (a b c : Reply) (s t v : Bool) → cond s (Some a) (cond t (Some b) (cond v (Some c) None)) ≡ None → cond s (refused nodes a) (cond t (refused nodes b) (cond v (refused nodes c) good)) ≡ good
+  pub three_pass : (a b c : Reply) (s t v : Bool) → cond s (Some a) (cond t (Some b) (cond v (Some c) None)) ≡ None → cond s (refused nodes a) (cond t (refused nodes b) (cond v (refused nodes c) good)) ≡ good
   three_pass a b c true t v e = absurd (let wrong : Some a ≡ None = e in cc wrong)
   three_pass a b c false t v e = two_pass b c t v e
 
@@ -256,6 +282,4 @@ refused_for_room desk d nodes path n r wanted free is wants w has e reply less n
     let a : applied nodes desk.creds d.call d.made ≡ step nodes desk.creds d.call n x.0 = comes desk d nodes path is none n w x.0 x.1 in
     let could : is_done (applied nodes desk.creds d.call d.made).reply ≡ true =
     ap (λ (z : Applied). is_done z.reply) a ∙ step_is_done nodes desk.creds d.call n x.0 path is wants (ap (λ q. refusal desk.creds q d.call) x.2 ∙ e) in
-    let stays : call_nodes desk.creds nodes d ≡ nodes = ap (λ t. cond t nodes (applied nodes desk.creds d.call d.made).nodes) (ap lacks_room reply) in
-    let lacks' : LacksRoom d.call d.reply = subst (λ q. LacksRoom d.call q) (sym reply) (wants, less) in
-    (inr (lacks', could, stays), made_fits desk d nodes path is none, stays)
+    lacks_as desk d nodes (made_fits desk d nodes path is none) (subst (λ q. LacksRoom d.call q) (sym reply) (wants, less)) could

@@ -44,7 +44,7 @@ module _ (desk : DeskSeen) (h : InHand) (given : WasGiven desk.out h.parcel) whe
       In-right n (map (λ (w : Shown). w.ino) desk.out.writes ++ map (λ (r : Shown). r.ino) desk.out.reads) (hold_numbers desk.out.holds)
       (subst (λ m. In m (hold_numbers desk.out.holds)) (sym k.2) (In-map (λ (k : HoldParts). k.ino) k.0 desk.out.holds (given.holds k.0 k.1)))
 
-  page_out : (n : ℕ) → In n (pages_in_hand h) → In n (pages_out desk.out)
+  pub page_out : (n : ℕ) → In n (pages_in_hand h) → In n (pages_out desk.out)
   page_out n i =
       let sheets : List Sheet = flat_map (λ (w : Written). w.index ++ w.blocks) (map (λ (x : LentFile). written_in x.stands) h.parcel.writes) in
       let j : In n (map (λ (x : Sheet). x.page) sheets ++ map (λ (x : Sheet). x.page) (map fresh_sheet h.parcel.pages)) =

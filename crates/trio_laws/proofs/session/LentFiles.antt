@@ -86,6 +86,10 @@ module _ (sizes : Sizes) (f : Shown) (well : IsWellLent sizes f) where
   unfolding lent_file
   lent_file-body = refl
 
+  pub lent_file-chain : lent_file.chain ≡ record { index = lent_numbers f.index; blocks = lent_numbers f.blocks }
+  unfolding lent_file
+  lent_file-chain = refl
+
   pub lent_file-pages : lent_file.chain.index ++ lent_file.chain.blocks ≡ numbers_of_file f
   unfolding lent_file
   lent_file-pages = refl
@@ -108,7 +112,7 @@ module _ (sizes : Sizes) (f : Shown) (well : IsWellLent sizes f) where
     lent_once : are_new [] (sheet_numbers (lent_sheets f)) ≡ true
     lent_once = ap (are_new []) (lent_sheet_numbers f) ∙ well.once
 
-    lent_page : (q : LentPage) → In q (f.index ++ f.blocks) → page_of (lent_core sizes f) q.no.0 ≡ Some q.page
+    pub lent_page : (q : LentPage) → In q (f.index ++ f.blocks) → page_of (lent_core sizes f) q.no.0 ≡ Some q.page
     lent_page q i =
         let j : In (lent_sheet q) (lent_sheets f) = In-map lent_sheet q (f.index ++ f.blocks) i in
         let k : In q.no.0 (numbers_of_file f) = subst (λ l. In q.no.0 l) (map-append (λ (p : LentPage). p.no.0) f.index f.blocks) (In-map (λ (p : LentPage). p.no.0) q (f.index ++ f.blocks) i) in
@@ -143,6 +147,14 @@ module _ (sizes : Sizes) (f : Shown) (well : IsWellLent sizes f) where
             let g = (gathers_directory (lent_core sizes f) (lent_numbers f.blocks) es d).0 in
             let there : gathered (λ p. entries_on sizes.inodes p.no.0 p.page) f.blocks ≡ Ok es = sym (blocks_gather f.blocks (λ q i. lent_page q (In-right q f.index f.blocks i))) ∙ g in
             sym (ap entries_or_none there) ∙ sym (ap (λ k. entries_lent sizes.inodes k f.blocks) t)
+
+    -- a directory's entries gather from its pages
+    pub lent_gathers : f.kind ≡ Directory → gathered (λ p. entries_on sizes.inodes p.no.0 p.page) f.blocks ≡ Ok (entries_shown sizes f)
+    unfolding lent_file
+    lent_gathers t =
+        let d : entries_of_kind (lent_core sizes f) Directory (lent_numbers f.blocks) ≡ Ok lent_entries.0 = sym (ap (λ k. entries_of_kind (lent_core sizes f) k (lent_numbers f.blocks)) t) ∙ lent_entries.1 in
+        let g = (gathers_directory (lent_core sizes f) (lent_numbers f.blocks) lent_entries.0 d).0 in
+        sym (blocks_gather f.blocks (λ q i. lent_page q (In-right q f.index f.blocks i))) ∙ g ∙ ap Ok lent_entries_are
 
     -- two entries at one place are one
     same_entry : (rows : List (Option Row)) → ((l : Listed) → In l lent_file.entries → is_place_of f.ino l.page l.slot (row_in rows l.entry.ino) ≡ true) → (l k : Listed) → In l lent_file.entries → In k lent_file.entries → l.entry.ino ≡ k.entry.ino → l ≡ k

@@ -5,8 +5,7 @@ use Rattle.trio_rights.specs.Bundle.{Bundle}
 use Rattle.std.specs.Prelude.{map}
 use Rattle.trio_lists.specs.Lists.{In, are_new}
 use Rattle.trio_lists.proofs.Members.{flat_map-In}
-use Rattle.trio_layout.specs.Survey.{pages_in}
-use Rattle.trio_layout.specs.Case.{Case, Held}
+use Rattle.trio_layout.specs.Case.{Held}
 use Rattle.trio_layout.specs.JudgedFiles.{judged_files, judged_pages, pages_within}
 use Rattle.trio_nodes.specs.Nodes.{Nodes}
 use Rattle.trio_nodes.specs.After.{batch_nodes}
@@ -16,17 +15,16 @@ use Rattle.trio_desk.specs.Call.{DeskSeen}
 use Rattle.trio_desk.specs.Ready.{bundle_of}
 use Rattle.trio_desk.specs.Edits.{InHand}
 use Rattle.trio_laws.specs.session.Takes.{case_in_hand, with_allotment, with_write}
-use Rattle.trio_laws.specs.session.Listed.{ListedAfterAllotment, ListedAfterEdit, ListedAfterHold, ListedAfterWrite, ListedAreInHand, TakingKeeps, listed_in_hand}
+use Rattle.trio_laws.specs.session.Listed.{ListedAfterAllotment, ListedAfterHold, ListedAfterWrite, ListedAreInHand, TakingKeeps, listed_in_hand}
 use Rattle.trio_laws.proofs.session.Again.{judged_page}
-use Rattle.trio_laws.proofs.session.FileEdits as edits
 use Rattle.trio_laws.proofs.session.Ruled.{case_with, owning_parts}
-use Rattle.trio_laws.proofs.session.Stands.{Read, judged_there, pages_alike}
+use Rattle.trio_laws.proofs.session.Stands.{pages_alike}
 use Rattle.trio_laws.proofs.session.TakenHold.{held_by}
 use Rattle.trio_laws.proofs.session.TakenMore as more
 use Rattle.trio_laws.proofs.session.TakenWrite as write
 
 -- whatever the rows say
-stands : (desk : DeskSeen) (h : InHand) (rows : List (Option Row)) → listed_in_hand desk h ≡ judged_pages (case_in_hand desk rows h)
+pub stands : (desk : DeskSeen) (h : InHand) (rows : List (Option Row)) → listed_in_hand desk h ≡ judged_pages (case_in_hand desk rows h)
 stands desk h rows = pages_alike desk.sizes desk.creds rows [] (bundle_of h.parcel) (map held_by h.parcel.holds)
 
 pub listed_are_in_hand : ListedAreInHand
@@ -61,18 +59,6 @@ listed_after_allotment desk h given nodes nodes' rows new v =
     ∙ ap (λ (x : Bundle). judged_pages (case_with desk.sizes desk.creds rows x lent)) (more.bundle_is desk h given v.order new)
     ∙ more.listed_then desk h given v.order new nodes nodes' rows v.shows
     ∙ sym (stands desk h rows)
-
-pub listed_after_edit : ListedAfterEdit
-listed_after_edit desk h h' f body file nodes nodes' rows page u v i =
-    let j : In page (judged_pages (case_in_hand desk rows h')) = subst (λ l. In page l) (stands desk h' rows) i in
-    let k = subst (λ (x : Case). In page (judged_pages x)) (edits.case_is desk h h' f body file v.order u rows) j in
-    elim (edits.listed_then desk h h' f body file v.order u nodes nodes' rows v.shows page k) [
-      | inl own ↦ inl own
-      | inr other ↦
-          let x = judged_there desk.sizes desk.creds [] rows (bundle_of h.parcel) (map held_by h.parcel.holds) other.0 other.1.0 in
-          let same : x.0.ino ≡ other.0.ino = ap (λ (z : Read). z.ino) x.2 in
-          inr (x.0, x.1, λ e. other.1.1 (sym same ∙ e), subst (λ r. In page (pages_in r)) (sym (ap (λ (z : Read). z.reads) x.2)) other.2)
-    ]
 
 pub taking_keeps : TakingKeeps
 taking_keeps desk h h' calls t comes nodes rows possible =

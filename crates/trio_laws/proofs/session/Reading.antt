@@ -51,7 +51,7 @@ module _ (core : Core) (pages : Pages) where
             ∙ ap Ok s2.2,
       )
 
-  chain_same : (n blocks at : ℕ) (c : Chain) → chain_within core n blocks at ≡ Ok c → ((p : ℕ) → In p c.index → Same p) → chain_within other n blocks at ≡ Ok c
+  pub chain_same : (n blocks at : ℕ) (c : Chain) → chain_within core n blocks at ≡ Ok c → ((p : ℕ) → In p c.index → Same p) → chain_within other n blocks at ≡ Ok c
   chain_same zero blocks at c e same = e
   chain_same (suc n) blocks at c e same =
       let s = index_step n blocks at c (page_of core at) (λ i r k t. chain_same n (blocks - 511) i.next r k t) e same in

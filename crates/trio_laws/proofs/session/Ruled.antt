@@ -46,7 +46,7 @@ listed_pages f = f.chain.index ++ f.chain.blocks
 abbrev pub met_entries : Met → FileRead → List Met
 met_entries m f = map (met_in plain m.ino) f.entries
 
-naming_from : (directory : ℕ) (r : Result FileRead Location) (e : Naming) → In e (namings_in directory r) → (f : FileRead) × (r ≡ Ok f) × (l : Listed) × In l f.entries × (e ≡ record { directory = directory; listed = l })
+pub naming_from : (directory : ℕ) (r : Result FileRead Location) (e : Naming) → In e (namings_in directory r) → (f : FileRead) × (r ≡ Ok f) × (l : Listed) × In l f.entries × (e ≡ record { directory = directory; listed = l })
 naming_from directory (Err place) e i = absurd i
 naming_from directory (Ok f) e i =
     let q = map-In (λ (l : Listed). record { directory = directory; listed = l }) e f.entries i in (f, refl, q.0, q.1, q.2)

@@ -43,18 +43,18 @@ use Rattle.trio_surveys.proofs.Images.{same_met, some_of}
 use Rattle.trio_desk.specs.Contents.{Rights, ShownEntry, bytes_shown, entries_shown, entry_of_node, rights_in, rights_of}
 use Rattle.trio_desk.specs.Agrees.{HasContent, HasFile, HasRights, Said, node_says, row_says}
 use Rattle.trio_desk.specs.Call.{DeskSeen}
-use Rattle.trio_desk.specs.Out.{IsWellLent, numbers_of_file}
+use Rattle.trio_desk.specs.Out.{IsWellLent, lent_numbers}
 use Rattle.trio_desk.specs.Among.{IsAmong, IsForeign}
 use Rattle.trio_desk.specs.Shows.{Naming, Shows, bytes_now, bytes_read, made_by, naming_of, namings_in, node_left, node_listed, placed, with_bytes}
 use Rattle.trio_desk.specs.Ready.{ArePossible, bundle_of, lent_files}
 use Rattle.trio_desk.specs.Edits.{InHand, MayShow}
 use Rattle.trio_laws.specs.session.Takes.{IsInOrder, case_in_hand}
-use Rattle.trio_laws.specs.session.FileEdits.{bare_file, bytes_listed, core_in_hand, pages_listed, read_in_hand}
+use Rattle.trio_laws.specs.session.FileEdits.{bare_file, bytes_listed, core_in_hand, read_in_hand}
 use Rattle.trio_laws.specs.session.Sees.{IsLeaseIn, IsView, IsLeftAlone, Lists, SeesEntryRights, SeesJudged, SeesLease, SeesLent, SeesMade, SeesRoot, SeesUntouched, SeesWritten, UntouchedReads}
 use Rattle.trio_laws.proofs.session.Again.{hand_files_once, said_alike}
 use Rattle.trio_laws.proofs.session.FileEdits.{bare_at, body_stands, written_among}
 use Rattle.trio_laws.proofs.session.Edges.{node_row}
-use Rattle.trio_laws.proofs.session.LentFiles.{lent_bytes, lent_entries_are, lent_file, lent_file-body, lent_file-pages, lent_numbers_new, lent_reads, lent_sheets}
+use Rattle.trio_laws.proofs.session.LentFiles.{lent_bytes, lent_entries_are, lent_file, lent_file-body, lent_file-chain, lent_numbers_new, lent_reads, lent_sheets}
 use Rattle.trio_laws.proofs.session.Listed.{listed_as}
 use Rattle.trio_laws.proofs.session.Namings.{naming_is}
 use Rattle.trio_laws.proofs.session.Ruled.{case_with, naming_once, owning_parts}
@@ -392,7 +392,9 @@ module _ (desk : DeskSeen) (h : InHand) (f : LentFile) (o : IsInOrder desk h) (i
 
   untouched_reads_here :
       (file : FileRead) × (read_in_hand desk h (bare_file f.stands) ≡ Ok file)
-      × (file.body ≡ body_at f.lent.body) × (pages_listed file ≡ numbers_of_file f.lent) × (file.entries ≡ entries_shown desk.sizes f.lent)
+      × (file.body ≡ body_at f.lent.body)
+      × (file.chain ≡ record { index = lent_numbers f.lent.index; blocks = lent_numbers f.lent.blocks })
+      × (file.entries ≡ entries_shown desk.sizes f.lent)
       × (f.lent.kind ≡ Regular → bytes_listed (core_in_hand desk h) file ≡ bytes_shown f.lent)
   untouched_reads_here =
       let m : Met = written_at (bare_file f.stands) None in
@@ -400,7 +402,7 @@ module _ (desk : DeskSeen) (h : InHand) (f : LentFile) (o : IsInOrder desk h) (i
         lent_file desk.sizes f.lent well,
         lent_reads desk.sizes f.lent well m bare_kind bare_body sheets o.pages untouched_in,
         lent_file-body desk.sizes f.lent well,
-        lent_file-pages desk.sizes f.lent well,
+        lent_file-chain desk.sizes f.lent well,
         lent_entries_are desk.sizes f.lent well m bare_kind bare_body,
         λ t.
             let read : Some (bytes_listed (core_in_hand desk h) (lent_file desk.sizes f.lent well)) ≡ Some (bytes_shown f.lent) = lent_bytes desk.sizes f.lent well m bare_kind bare_body sheets o.pages untouched_in in cc read,

@@ -9,7 +9,7 @@ use Rattle.trio_rights.specs.declared.rights.Creds.{Creds}
 use Rattle.trio_rights.specs.Bundle.{Bundle, Written}
 use Rattle.trio_lists.specs.Lists.{In, is_among}
 use Rattle.trio_lists.specs.Sorting.{sorted_by}
-use Rattle.trio_lists.proofs.Members.{In-flat, flat_map-In}
+use Rattle.trio_lists.proofs.Members.{In-cases, In-flat, In-map, In-right, flat_map-In}
 use Rattle.trio_layout.specs.Core.{Core, Location}
 use Rattle.trio_layout.specs.Survey.{Met, FileRead, plain, numbers, pages_in, children_in}
 use Rattle.trio_layout.specs.Case.{Case, Held, bundle_core}
@@ -19,7 +19,7 @@ use Rattle.trio_desk.specs.Contents.{Sizes}
 use Rattle.trio_desk.specs.Shows.{Naming, naming_of, namings_in}
 use Rattle.trio_laws.proofs.judgement.JudgedFacts.{written_ino_at, written_kind_at}
 use Rattle.trio_laws.proofs.session.Ruled.{case_with}
-use Rattle.trio_laws.proofs.session.Starts.{Share, shared}
+use Rattle.trio_laws.proofs.session.Starts.{Share, shared, start_from, start_judged, start_number, start_to}
 
 -- a written file reads the same wherever its row places it
 pub written_alike : (core : Core) (w : Written) (one two : Option Row) → file_within core (written_at w one) ≡ file_within core (written_at w two)
@@ -114,3 +114,44 @@ module _ (sizes : Sizes) (creds : Creds) (rows rows' : List (Option Row)) (b : B
   -- so are the pages that they list
   pub pages_alike : judged_pages (case_with sizes creds rows' b lent) ≡ judged_pages (case_with sizes creds rows b lent)
   pages_alike = judged_alike (λ n kind r. pages_in r)
+
+-- ---- one judged file, in two cases that differ in their rows
+
+-- the same file, wherever the rows place it
+pub record IsAlike (y z : Met) : Type 0 where
+  pub ino : z.ino ≡ y.ino
+  pub kind : z.kind ≡ y.kind
+  pub reads : (core : Core) → file_within core z ≡ file_within core y
+
+pub judged_also : (sizes : Sizes) (creds : Creds) (one two : List (Option Row)) (b : Bundle) (lent : List Held) (y : Met) → In y (judged_files (case_with sizes creds one b lent)) → (z : Met) × In z (judged_files (case_with sizes creds two b lent)) × IsAlike y z
+judged_also sizes creds one two b lent y i =
+    let c : Case = case_with sizes creds one b lent in
+    let c' : Case = case_with sizes creds two b lent in
+    let both = share sizes creds one two b lent in
+    elim (In-cases y (written_files c) both.rest (subst (λ l. In y l) both.old i)) [
+      | inr later ↦ (y, subst (λ l. In y l) (sym both.new) (In-right y (written_files c') both.rest later), record { ino = refl; kind = refl; reads = λ core. refl })
+      | inl start ↦
+          let q = start_from c y start in
+          let w : Written = q.0 in
+          let o : Option Row = row_in one w.ino in
+          let p : Option Row = row_in two w.ino in (
+            written_met c' w,
+            start_judged c' (written_met c' w) (start_to c' w q.1),
+            record {
+              ino = number_alike w p o ∙ sym (ap (λ (x : Met). x.ino) q.2);
+              kind = kind_alike w p o ∙ sym (ap (λ (x : Met). x.kind) q.2);
+              reads = λ core. written_alike core w p o ∙ sym (ap (file_within core) q.2);
+            },
+          )
+    ]
+
+-- a judged file that isn't written is one whatever the rows say
+pub judged_made : (sizes : Sizes) (creds : Creds) (one two : List (Option Row)) (b : Bundle) (lent : List Held) (x : Met) → In x (judged_files (case_with sizes creds one b lent)) → (In x.ino (map (λ (w : Written). w.ino) b.writes) → ⊥) → In x (judged_files (case_with sizes creds two b lent))
+judged_made sizes creds one two b lent x i unwritten =
+    let c : Case = case_with sizes creds one b lent in
+    let c' : Case = case_with sizes creds two b lent in
+    let both = share sizes creds one two b lent in
+    elim (In-cases x (written_files c) both.rest (subst (λ l. In x l) both.old i)) [
+      | inl start ↦ absurd (unwritten (start_number c x.ino (In-map (λ (m : Met). m.ino) x (written_files c) start)))
+      | inr later ↦ subst (λ l. In x l) (sym both.new) (In-right x (written_files c') both.rest later)
+    ]

@@ -52,15 +52,18 @@ pub start_judged : (c : Case) (m : Met) → In m (written_files c) → In m (jud
 unfolding judged_files
 start_judged c m i = starts_met (new_entries c) (written_files c) c.inodes m i
 
--- where each written file stands once, so does each judged file
-pub judged_once : (c : Case) → are_new [] (map (λ (w : Written). w.ino) c.bundle.writes) ≡ true → are_new [] (numbers (judged_files c)) ≡ true
-unfolding judged_files
-judged_once c once =
-    fronts_new (new_entries c) (written_files c) (ap (are_new []) (same (sorted_by (λ (w : Written). w.ino) c.bundle.writes)) ∙ sorted_new (λ (w : Written). w.ino) c.bundle.writes once) c.inodes
+-- where each written file stands once, so does each file with which the walk begins
+pub starts_once : (c : Case) → are_new [] (map (λ (w : Written). w.ino) c.bundle.writes) ≡ true → are_new [] (numbers (written_files c)) ≡ true
+starts_once c once = ap (are_new []) (same (sorted_by (λ (w : Written). w.ino) c.bundle.writes)) ∙ sorted_new (λ (w : Written). w.ino) c.bundle.writes once
   where
     same : (ws : List Written) → numbers (map (written_met c) ws) ≡ map (λ (w : Written). w.ino) ws
     same [] = refl
     same (w ∷ ws) = ap (λ n. n ∷ numbers (map (written_met c) ws)) (written_ino c w) ∙ ap (λ l. w.ino ∷ l) (same ws)
+
+-- and each judged file
+pub judged_once : (c : Case) → are_new [] (map (λ (w : Written). w.ino) c.bundle.writes) ≡ true → are_new [] (numbers (judged_files c)) ≡ true
+unfolding judged_files
+judged_once c once = fronts_new (new_entries c) (written_files c) (starts_once c once) c.inodes
 
 pub new_entry : (c : Case) (x e : Met) → In e (new_entries c x) → In e (entries_in c x) × In e.ino c.bundle.numbers
 new_entry c x e i =

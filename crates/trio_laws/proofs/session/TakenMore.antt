@@ -14,7 +14,8 @@ use Rattle.trio_lists.proofs.Members.{In-flat, In-left, In-right, In-cases, In-i
 use Rattle.trio_lists.proofs.Filters.{filter-same}
 use Rattle.trio_lists.proofs.Marked.{are_new-append}
 use Rattle.trio_layout.specs.Survey.{Met, numbers, pages_in}
-use Rattle.trio_layout.specs.Case.{Case, Held}
+use Rattle.trio_layout.specs.Case.{Case, Held, bundle_core}
+use Rattle.trio_layout.specs.Within.{file_within}
 use Rattle.trio_layout.specs.JudgedFiles.{entries_in, judged_entries, judged_files, new_entries, written_files, judged_pages, pages_within}
 use Rattle.trio_layout.specs.Listing.{is_kept}
 use Rattle.trio_layout.specs.Rules.{entry_is_own}
@@ -99,7 +100,7 @@ module _ (desk : DeskSeen) (h : InHand) (given : Allotted) (o : IsInOrder desk h
   sheets_are : bundle_sheets more ≡ bundle_sheets hand ++ map fresh_sheet given.pages.items
   sheets_are = sym (append_assoc (flat_map (λ (w : Written). w.index ++ w.blocks) hand.writes) hand.pages (map fresh_sheet given.pages.items))
 
-  sub : (x : Sheet) → In x (bundle_sheets hand) → In x (bundle_sheets more)
+  pub sub : (x : Sheet) → In x (bundle_sheets hand) → In x (bundle_sheets more)
   sub x i = subst (λ l. In x l) (sym sheets_are) (In-left x (bundle_sheets hand) (map fresh_sheet given.pages.items) i)
 
   once : are_new [] (bundle_pages hand) ≡ true
@@ -131,7 +132,7 @@ module _ (desk : DeskSeen) (h : InHand) (given : Allotted) (o : IsInOrder desk h
     a = o.among nodes rows (less nodes rows may.possible)
 
     -- no entry names a number that is allotted now
-    unlisted : (e : Met) → In e (judged_entries c) → In e.ino numbers' → In e.ino hand.numbers
+    pub unlisted : (e : Met) → In e (judged_entries c) → In e.ino numbers' → In e.ino hand.numbers
     unlisted e i n =
         let gone : row_in rows e.ino ≡ None = dead nodes rows may.possible e.ino n in
         elim (or_cases (is_kept c e || is_among e.ino hand.holds) (is_among e.ino hand.numbers) (entry_own desk.sizes desk.creds rows hand more lent lent nodes nodes' s e i)) [
@@ -163,8 +164,12 @@ module _ (desk : DeskSeen) (h : InHand) (given : Allotted) (o : IsInOrder desk h
         shared desk.sizes desk.creds desk.creds rows rows hand more lent lent
         (flat_map-same (new_entries c2) (new_entries c) (written_files c) (λ m i. kids_again m (start_judged c m i))) (λ n i. refl) (λ m i l. kids_again m i)
 
-    judged_same : judged_files c2 ≡ judged_files c
+    pub judged_same : judged_files c2 ≡ judged_files c
     judged_same = share.new ∙ sym share.old
+
+    -- and each reads the same
+    pub old_reads : (m : Met) → In m (judged_files c) → file_within (bundle_core c2) m ≡ file_within (bundle_core c) m
+    old_reads m i = read_again desk.sizes desk.creds rows hand more lent lent nodes nodes' s once pages_once sub m i
 
     -- the same pages are listed
     pub listed_then : judged_pages c2 ≡ judged_pages c

@@ -103,7 +103,7 @@ module _ (desk : DeskSeen) (h : InHand) (f : LentFile) (o : IsInOrder desk h) (u
   abbrev front : List Sheet
   front = flat_map (λ (x : Written). x.index ++ x.blocks) b.writes
 
-  sub : (x : Sheet) → In x (bundle_sheets b) → In x (bundle_sheets b2)
+  pub sub : (x : Sheet) → In x (bundle_sheets b) → In x (bundle_sheets b2)
   sub x i =
       subst (λ l. In x l) (sym sheets_are)
       (elim (In-cases x front b.pages i) [
@@ -111,7 +111,7 @@ module _ (desk : DeskSeen) (h : InHand) (f : LentFile) (o : IsInOrder desk h) (u
         | inr p ↦ In-right x (front ++ lent_sheets f.lent) b.pages p
       ])
 
-  lent_sub : (x : Sheet) → In x (lent_sheets f.lent) → In x (bundle_sheets b2)
+  pub lent_sub : (x : Sheet) → In x (lent_sheets f.lent) → In x (bundle_sheets b2)
   lent_sub x i = subst (λ l. In x l) (sym sheets_are) (In-left x (front ++ lent_sheets f.lent) b.pages (In-right x front (lent_sheets f.lent) i))
 
   pages_are : (xs ys : List Sheet) → sheet_numbers (xs ++ ys) ≡ sheet_numbers xs ++ sheet_numbers ys
@@ -236,7 +236,7 @@ module _ (desk : DeskSeen) (h : InHand) (f : LentFile) (o : IsInOrder desk h) (u
   number : M.ino ≡ taken.ino
   number = written_ino c2 taken
 
-  reads : file_within (bundle_core c2) M ≡ Ok F
+  pub reads : file_within (bundle_core c2) M ≡ Ok F
   reads =
       lent_reads desk.sizes f.lent u.well M (written_kind c2 taken) (written_body c2 taken) (bundle_sheets more) (pages_once desk h f o u) (lent_sub desk h f o u)
 
@@ -260,7 +260,7 @@ module _ (desk : DeskSeen) (h : InHand) (f : LentFile) (o : IsInOrder desk h) (u
   met_listed e i = map-In (met_in plain M.ino) e F.entries i
 
   -- each entry has its node
-  listed_node : (l : Listed) → In l F.entries → (x : Node) × (node_at nodes l.entry.ino ≡ Some x) × (x.parent ≡ f.lent.ino) × (x.name ≡ l.entry.name) × (rights_of x ≡ rights_in l.entry.kind l.body)
+  pub listed_node : (l : Listed) → In l F.entries → (x : Node) × (node_at nodes l.entry.ino ≡ Some x) × (x.parent ≡ f.lent.ino) × (x.name ≡ l.entry.name) × (rights_of x ≡ rights_in l.entry.kind l.body)
   listed_node l i =
       entry_node desk.sizes f.lent u.well rows (λ l j. may.possible.places f.lent l (file_in_hand desk h f o u) j) nodes has l (subst (λ z. In l z) entries_are i)
 
@@ -317,7 +317,7 @@ module _ (desk : DeskSeen) (h : InHand) (f : LentFile) (o : IsInOrder desk h) (u
   abbrev Old : Met → Type 0
   Old m = In m (judged_files c)
 
-  judged_from : (m : Met) → In m (judged_files c2) → New m ⊎ Old m
+  pub judged_from : (m : Met) → In m (judged_files c2) → New m ⊎ Old m
   judged_from m i =
       elim (In-cases m (written_files c2) share.rest (subst (λ l. In m l) share.new i)) [
         | inl start ↦
@@ -329,7 +329,7 @@ module _ (desk : DeskSeen) (h : InHand) (f : LentFile) (o : IsInOrder desk h) (u
         | inr later ↦ inr (subst (λ l. In m l) (sym share.old) (In-right m (written_files c) share.rest later))
       ]
 
-  judged_to : (m : Met) → In m (judged_files c) → In m (judged_files c2)
+  pub judged_to : (m : Met) → In m (judged_files c) → In m (judged_files c2)
   judged_to m i =
       elim (In-cases m (written_files c) share.rest (subst (λ l. In m l) share.old i)) [
         | inl start ↦
@@ -580,6 +580,10 @@ module _ (desk : DeskSeen) (h : InHand) (f : LentFile) (o : IsInOrder desk h) (u
 
   pub shown : Shows c2 nodes nodes'
   shown = shows_by desk.sizes desk.creds rows hand more lent lent New Old further nodes nodes' s nodes' each whole
+
+  -- what was judged before reads the same
+  pub old_reads : (m : Met) → In m (judged_files c) → file_within (bundle_core c2) m ≡ file_within (bundle_core c) m
+  old_reads m i = read_again desk.sizes desk.creds rows hand more lent lent nodes nodes' s once (pages_once desk h f o u) (sub desk h f o u) m i
 
   -- the pages that are listed then
   pub listed_then : (q : ℕ) → In q (judged_pages c2) → In q (judged_pages c) ⊎ In q (numbers_of_file f.lent)

@@ -1,9 +1,12 @@
 -- What a session sees of the nodes that it shows: what its leases and its own pages say is true of them.
-use Rattle.std.specs.Prelude.{◌≡◌, ℕ, List, length, Option, Some, Ok}
+use Rattle.std.specs.Prelude.{◌≡◌, ℕ, not, List, length, Option, None, Some, Ok}
 use Rattle.std.specs.List.{find}
 use Rattle.std.specs.Option.{option_map}
 use Rattle.std.specs.Str.{bytes_eq}
-use Rattle.trio_rights.specs.Row.{Row}
+use Rattle.trio_rights.specs.Row.{Row, row_in}
+use Rattle.trio_rights.specs.May.{ancestors, row_permits}
+use Rattle.trio_rights.specs.declared.rights.Creds.{Creds}
+use Rattle.trio_rights.specs.declared.rights.Need.TheVariants.{Read as ToRead}
 use Rattle.trio_rights.specs.declared.kind.Kind.TheVariants.{Regular}
 use Rattle.trio_lists.specs.Lists.{In}
 use Rattle.trio_layout.specs.Body.{body_at}
@@ -14,14 +17,15 @@ use Rattle.trio_layout.specs.JudgedFiles.{judged_files}
 use Rattle.trio_lease.specs.Shown.{Shown, LentFile}
 use Rattle.trio_nodes.specs.declared.node.Node.{Node}
 use Rattle.trio_nodes.specs.Nodes.{Nodes, node_at, count_in, find_named}
+use Rattle.trio_nodes.specs.Legal.{rights_rows}
 use Rattle.trio_desk.specs.Contents.{bytes_shown, entries_shown, rights_in, rights_of}
 use Rattle.trio_desk.specs.Agrees.{HasFile, HasRights}
 use Rattle.trio_desk.specs.Call.{DeskSeen}
-use Rattle.trio_desk.specs.Out.{IsWellLent, file_numbers, hold_numbers, ino_numbers, numbers_of_file}
+use Rattle.trio_desk.specs.Out.{IsWellLent, file_numbers, hold_numbers, ino_numbers, lent_numbers}
 use Rattle.trio_desk.specs.Ready.{leases_in}
 use Rattle.trio_desk.specs.Edits.{InHand, MayShow, TakesMore}
 use Rattle.trio_laws.specs.session.Takes.{IsInOrder, case_as_stands}
-use Rattle.trio_laws.specs.session.FileEdits.{bare_file, bytes_listed, core_in_hand, pages_listed, read_in_hand}
+use Rattle.trio_laws.specs.session.FileEdits.{bare_file, bytes_listed, core_in_hand, read_in_hand}
 
 -- What was in hand is in order, and more may be in hand by now; these nodes and rows are possible, and those nodes are shown.
 pub record IsView (desk : DeskSeen) (h h' : InHand) (nodes nodes' : Nodes) (rows : List (Option Row)) : Type 0 where
@@ -94,13 +98,15 @@ SeesUntouched =
     → IsView desk h h' nodes nodes' rows → In f h.parcel.writes → f.stands ≡ f.lent → IsWellLent desk.sizes f.lent
     → Lists nodes' f.lent.ino (entries_shown desk.sizes f.lent)
 
--- So do its body, its pages and its bytes read as they were lent.
+-- So do its body, the chain of its pages, its entries and its bytes read as they were lent.
 abbrev pub UntouchedReads : Type 0
 UntouchedReads =
     (desk : DeskSeen) (h : InHand) (f : LentFile)
     → IsInOrder desk h → In f h.parcel.writes → f.stands ≡ f.lent → IsWellLent desk.sizes f.lent
     → (file : FileRead) × (read_in_hand desk h (bare_file f.stands) ≡ Ok file)
-    × (file.body ≡ body_at f.lent.body) × (pages_listed file ≡ numbers_of_file f.lent) × (file.entries ≡ entries_shown desk.sizes f.lent)
+    × (file.body ≡ body_at f.lent.body)
+    × (file.chain ≡ record { index = lent_numbers f.lent.index; blocks = lent_numbers f.lent.blocks })
+    × (file.entries ≡ entries_shown desk.sizes f.lent)
     × (f.lent.kind ≡ Regular → bytes_listed (core_in_hand desk h) file ≡ bytes_shown f.lent)
 
 -- An entry of such a directory that names a file that was made has, as a node, the rights of its slot.
@@ -111,6 +117,12 @@ SeesMade =
     → In m (judged_files (case_as_stands desk h)) → file_in (case_as_stands desk h) m ≡ Ok file
     → In l file.entries → In l.entry.ino (ino_numbers h.parcel.inodes)
     → HasRights (rights_in l.entry.kind l.body) (node_at nodes' l.entry.ino)
+
+-- each directory above a file gives reading
+abbrev pub AboveIsOpen : Nodes → Creds → ℕ → Type 0
+AboveIsOpen nodes creds n =
+    (steps : ℕ)
+    → find (λ k. not (row_permits creds ToRead (row_in (rights_rows nodes) k))) (ancestors (rights_rows nodes) steps (row_in (rights_rows nodes) n)) ≡ None
 
 -- ---- written files
 

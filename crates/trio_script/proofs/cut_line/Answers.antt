@@ -1,4 +1,4 @@
-use Rattle.trio_script.proofs.Lines.{line_cut, last_line}
+use Rattle.trio_script.proofs.Cuts.{line_cut, last_line}
 use Rattle.trio_script.proofs.cut_line.Goals as goal
 
 pub returns-in-Some-clause-lines : goal.returns-in-Some-clause-lines

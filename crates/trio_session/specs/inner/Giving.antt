@@ -12,7 +12,8 @@ use Rattle.trio_nodes.specs.declared.answers.GrantFault.TheVariants.{NoMemory as
 use Rattle.trio_session.specs.declared.laid.Laid.{Laid}
 use Rattle.trio_session.specs.Seen.{SessionSeen}
 use Rattle.trio_session.specs.Asked.{IsSame, with_lease}
-use Rattle.trio_desk.specs.Out.{Parcel, IsFreshAllotment, IsFreshLease, page_numbers, ino_numbers}
+use Rattle.trio_desk.specs.Out.{HasWanted, Parcel, IsFreshAllotment, IsFreshLease, kind_lent, page_numbers, ino_numbers}
+use Rattle.trio_desk.specs.Refusals.{TellsCause, TellsLack}
 use Rattle.trio_desk.specs.Call.{Ask, Allot, Grant, Told, Given, NotGiven, Lent, NotLent, DeskSeen, SeenAfter, TellsHolder}
 
 -- with all that was allotted behind the rest
@@ -23,10 +24,10 @@ with_given p given = record p { pages = p.pages ++ given.pages.items; inodes = p
 pub data Allots {D : Type 0} (called : D → Ask → Told → D → Type 0) (seen : D → DeskSeen) (d : D) (pages numbers : ℕ) (d' : D) (p p' : Parcel) (result : Result Unit AllotFault) : Type 0 where
   Gave : (given : Allotted) → called d (Allot pages numbers) (Given (page_numbers given.pages.items) (ino_numbers given.inodes.items)) d'
       → SeenAfter (seen d) (Allot pages numbers) (Given (page_numbers given.pages.items) (ino_numbers given.inodes.items)) (seen d')
-      → IsFreshAllotment (seen d).lib (seen d).sizes (seen d).out given → p' ≡ with_given p given → result ≡ Ok tt
+      → IsFreshAllotment (seen d).lib (seen d).sizes (seen d).out given → HasWanted pages numbers given → p' ≡ with_given p given → result ≡ Ok tt
       → Allots called seen d pages numbers d' p p' result
   Refused : (fault : AllotFault) → called d (Allot pages numbers) (NotGiven fault) d' → SeenAfter (seen d) (Allot pages numbers) (NotGiven fault) (seen d')
-      → p' ≡ p → result ≡ Err fault → Allots called seen d pages numbers d' p p' result
+      → TellsLack (Allot pages numbers) (NotGiven fault) → p' ≡ p → result ≡ Err fault → Allots called seen d pages numbers d' p p' result
   Unasked : d' ≡ d → p' ≡ p → result ≡ Err NoAllotMemory → Allots called seen d pages numbers d' p p' result
 
 -- ---- leases
@@ -60,10 +61,11 @@ LaidLeased ls other ls' = ls' ≡ ls
 pub data Grants {D : Type 0} (called : D → Ask → Told → D → Type 0) (seen : D → DeskSeen) (d : D) (ino : ℕ) (kind : GrantKind) (d' : D)
     (p p' : Parcel) (reads reads' : List Shown) (ls ls' : List Laid) (result : Result Unit GrantFault) : Type 0 where
   Granted : (lease : Lease) → called d (Grant ino kind) (Lent lease) d' → SeenAfter (seen d) (Grant ino kind) (Lent lease) (seen d')
-      → IsFreshLease (seen d).lib ino (seen d).sizes (seen d).out lease → p' ≡ with_leased p lease → reads' ≡ reads_leased reads lease → LaidLeased ls lease ls'
+      → IsFreshLease (seen d).lib ino (seen d).sizes (seen d).out lease → kind_lent lease ≡ kind → TellsCause (seen d) (Grant ino kind) (Lent lease)
+      → p' ≡ with_leased p lease → reads' ≡ reads_leased reads lease → LaidLeased ls lease ls'
       → result ≡ Ok tt → Grants called seen d ino kind d' p p' reads reads' ls ls' result
   Denied : (fault : GrantFault) → called d (Grant ino kind) (NotLent fault) d' → SeenAfter (seen d) (Grant ino kind) (NotLent fault) (seen d') → TellsHolder (seen d).lib (seen d).out (Grant ino kind) (NotLent fault)
-      → p' ≡ p → reads' ≡ reads → ls' ≡ ls → result ≡ Err fault → Grants called seen d ino kind d' p p' reads reads' ls ls' result
+      → TellsCause (seen d) (Grant ino kind) (NotLent fault) → p' ≡ p → reads' ≡ reads → ls' ≡ ls → result ≡ Err fault → Grants called seen d ino kind d' p p' reads reads' ls ls' result
   NoPlace : d' ≡ d → p' ≡ p → reads' ≡ reads → ls' ≡ ls → result ≡ Err NoGrantMemory → Grants called seen d ino kind d' p p' reads reads' ls ls' result
 
 -- ---- the session after a grant

@@ -5,6 +5,7 @@ use Rattle.trio_lease.specs.Shown.{LentFile}
 use Rattle.trio_lease.specs.declared.parts.FreshParts.{FreshParts}
 use Rattle.trio_desk.specs.Out.{Parcel, numbers_of_file}
 use Rattle.trio_session.specs.inner.Places.{IsFile, HasChain, chain_laid}
+use Rattle.trio_session.specs.declared.laid.FilePlace.TheVariants.{Leased}
 use Rattle.trio_session.specs.declared.laid.Laid.{Laid}
 
 -- the chains of files, each by where its pages stand
@@ -22,5 +23,5 @@ pub record HasLent (f : LentFile) : Type 0 where
 pub record AreLaid (b : Parcel) (laid : List Laid) : Type 0 where
   pub beside : length laid ≡ length b.writes
   pub same : (i : ℕ) (f : LentFile) → slice_get b.writes i ≡ Some f → HasLent f
-  pub each : (i : ℕ) (l : Laid) → slice_get laid i ≡ Some l → IsFile b i l
-  pub chains : (i : ℕ) (l : Laid) → slice_get laid i ≡ Some l → HasChain b i l
+  pub each : (i : ℕ) (l : Laid) → slice_get laid i ≡ Some l → IsFile b (Leased i) l
+  pub chains : (i : ℕ) (l : Laid) → slice_get laid i ≡ Some l → HasChain b (Leased i) l

@@ -1,4 +1,4 @@
-use Rattle.trio_laws.proofs.session.FileEdits.{file_edit_shows}
+use Rattle.trio_laws.proofs.session.WrittenEdits.{file_edit_shows}
 use Rattle.trio_laws.proofs.in_hand.file_edit_shows.Goals as goal
 
 pub returns : goal.returns

@@ -5,5 +5,5 @@ use Rattle.trio_runner.proofs.rounds.play_round.Given as goal
 
 abbrev pub invariant-loop-at : goal.invariant-loop-at
 invariant-loop-at l =
-    Took (table l.fn.ctl l.fn.raws.items l.fn.tolds.items) (round_of l.round (take l.at (courses_from 1 l.libs))) (table l.ctl l.raws.items l.tolds.items)
-    × AreSeated l.libs l.raws.items l.tolds.items
+    Took (table l.fn.ctl l.fn.all.items l.fn.tolds.items) (round_of l.round (take l.at (courses_from 1 l.libs))) (table l.ctl l.all.items l.tolds.items)
+    × AreSeated l.libs l.all.items l.tolds.items

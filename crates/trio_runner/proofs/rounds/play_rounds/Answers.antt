@@ -7,9 +7,9 @@ use Rattle.trio_runner.proofs.rounds.play_rounds.Goals as goal
 pub loop-round-preserved : goal.loop-round-preserved
 loop-round-preserved c =
     let courses = courses_from 1 c.args.libs.now in
-    let start = table c.args.ctl.now c.args.raws.now.items c.args.tolds.now.items in
-    let now = table c.loop-round.ctl c.loop-round.raws.items c.loop-round.tolds.items in
-    let after = table c.play_round.new.ctl c.play_round.new.raws.items c.play_round.new.tolds.items in (
+    let start = table c.args.ctl.now c.args.all.now.items c.args.tolds.now.items in
+    let now = table c.loop-round.ctl c.loop-round.all.items c.loop-round.tolds.items in
+    let after = table c.play_round.new.ctl c.play_round.new.all.items c.play_round.new.tolds.items in (
       subst (λ ts. Took start ts after) (sym (rounds_more c.loop-round.round courses))
           (took_more start (in_rounds c.loop-round.round courses) now (round_of c.loop-round.round courses) after c.loop-round.invariant.0 c.in_ok-play_round.ensures.took),
       c.in_ok-play_round.ensures.seated,

@@ -3,6 +3,7 @@ use Rattle.trio_desk.specs.Out.{IsClosed}
 use Rattle.trio_ctl.specs.Ctl.{Controller}
 use Rattle.trio_ctl.specs.Desk.{out_of}
 use Rattle.trio_raw.specs.Has.{Held, whole_parcel}
+use Rattle.trio_runner.specs.Play.{Things}
 use Rattle.trio_runner.specs.Rounds.{Ends}
 use Rattle.trio_runner.specs.inner.Ready.{TookTurn}
 use Rattle.trio_runner.proofs.Calling.{end_name, end_took}
@@ -21,7 +22,7 @@ returns-clause-turn c =
     let called = c.in_ok-answer.ensures in
     let name = end_name _ (λ d. d.ctl.now) (λ d. d.ctl.ghost_name) (λ d. d.lib) (λ d a t d' h. h) desk.result c.play_end.new.desk _ _ called in
     let after = c.ctl-1.given.1 (sym desk.ensures.same_reference ∙ sym name) in
-    subst (λ (h : Held). TookTurn c.args.raw.now.lib Ends c.args.ctl.now h.has c.args.told.now c.ctl-1.given.0 c.replace-ending.new.dest.has c.hears_end.new.self) c.replace-ending.ensures.value
+    subst (λ (h : Held). TookTurn c.args.raw.now.lib Ends c.args.ctl.now (Things h.has) c.args.told.now c.ctl-1.given.0 (Things c.replace-ending.new.dest.has) c.hears_end.new.self) c.replace-ending.ensures.value
     (end_took _ (λ d. d.ctl.now) (λ d. d.ctl.ghost_name) (λ d. d.lib) (λ d a t d' h. h) desk.result c.play_end.new.desk c.args.raw.now.lib c.args.ctl.now _ c.replace-ending.result.has c.in_ok-answer.answer _ _ _
     (desk.ensures.lib ∙ c.lib-lib.ensures) desk.ensures.ctl after
     (ap (λ (h : Held). h.has) (c.replace-ending.ensures.after ∙ c.new.ensures)) called c.hears_end.ensures)

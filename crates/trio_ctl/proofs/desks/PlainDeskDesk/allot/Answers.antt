@@ -1,4 +1,4 @@
-use Rattle.trio_ctl.proofs.DeskSteps.{allot_fresh, allot_seen, allot_wanted}
+use Rattle.trio_ctl.proofs.DeskSteps.{allot_fresh, allot_lack, allot_seen, allot_wanted}
 use Rattle.trio_ctl.proofs.desks.PlainDeskDesk.allot.Goals as goal
 
 pub returns-clause-seen : goal.returns-clause-seen
@@ -18,3 +18,8 @@ returns-clause-wanted c =
     let d = c.args.self.now in
     let e = c.allot.ensures in
     allot_wanted d.ctl.now.state d.lib c.args.pages c.args.inodes c.allot.new.self.state c.allot.result e.step
+
+pub returns-clause-lack : goal.returns-clause-lack
+returns-clause-lack c =
+    let d = c.args.self.now in
+    allot_lack d.ctl.now.state d.lib c.args.pages c.args.inodes c.allot.new.self.state c.allot.result c.allot.ensures.step

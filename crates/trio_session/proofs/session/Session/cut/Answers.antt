@@ -1,83 +1,102 @@
-use Rattle.std.proofs.Common.{◌≡◌, ◌<◌, List, ap, sym, ◌∙◌, length, eqb}
-use Rattle.std.specs.Prelude.{IsTrue, map, slice_index_or, slice_set}
-use Rattle.std.specs.List.{position}
-use Rattle.std.specs.Option.{is_some, option_map_or}
+use Rattle.std.proofs.Common.{◌≡◌, ◌≤◌, ◌<◌, ℕ, List, Some, length, ap, refl, subst, sym, ◌∙◌}
+use Rattle.std.specs.Prelude.{map}
+use Rattle.std.specs.Option.{is_some}
+use Rattle.std.proofs.lemmas.List.{length-map}
+use Rattle.trio_rights.specs.declared.kind.Kind.TheVariants.{Regular}
 use Rattle.trio_layout.specs.Body.{block_count}
 use Rattle.trio_layout.specs.Chain.{Chain}
-use Rattle.trio_lease.specs.Shown.{LentFile}
 use Rattle.trio_desk.specs.Out.{Parcel}
-use Rattle.trio_session.specs.Layout.{chain_cut, cut_file}
-use Rattle.trio_session.specs.Seen.{SessionSeen, body_in, chain_in, chains_with, cut, no_chain}
-use Rattle.trio_session.specs.inner.Places.{body_at, chain_at, room_laid}
-use Rattle.trio_session.specs.inner.Inside.{chains_laid}
+use Rattle.trio_session.specs.Layout.{Home, chain_cut, cut_file, size_in}
+use Rattle.trio_session.specs.Seen.{MadeFile, SessionSeen, body_in, chain_in, cut, home_in, with_chain}
+use Rattle.trio_session.specs.inner.Found.{CutDone, IsRelaid}
+use Rattle.trio_session.specs.inner.Made.{made_seen}
+use Rattle.trio_session.specs.inner.Places.{body_at, chain_at}
 use Rattle.trio_session.specs.contracts.session.Session.{the_view}
-use Rattle.trio_session.proofs.Found.{position-some}
-use Rattle.trio_session.proofs.Sessions.{body_of_file, chain_laid_at, file_chain, file_laid, ino_of_file, place_within}
-use Rattle.trio_session.proofs.Cuts.{cut_edited}
+use Rattle.trio_session.proofs.Chained.{IsAnew, kind_one, laid_relaid, made_many, relaid_as, relaid_edit, shown_anew}
+use Rattle.trio_session.proofs.Insides.{files_in, view_shows}
+use Rattle.trio_session.proofs.Opens.{has_file, is_there, leaves_place, made_left, pages_left, shows_view}
+use Rattle.trio_session.proofs.Resized.{cut_leaves_files, kept_cut}
 use Rattle.trio_session.proofs.session.Session.cut.Goals as goal
 
-pub unwrap-file-requires : goal.unwrap-file-requires
-unwrap-file-requires c =
-    let at : IsTrue (is_some (position (λ (f : LentFile). eqb f.stands.ino c.args.ino) c.args.self.now.parcel.writes)) =
-    position-some (λ (f : LentFile). eqb f.stands.ino c.args.ino) (λ (f : LentFile). f.stands) c.args.self.now.parcel.writes c.requires.open.file c.requires.open.there in
-    rw c.file_of.ensures (rw (ap (λ (s : SessionSeen). s.parcel) c.self.view_is) at)
+pub cut_one-requires-clause-there : goal.cut_one-requires-clause-there
+cut_one-requires-clause-there c =
+    let s = c.self.inside in
+    is_there c.args.self.now (files_in s) c.args.ino (shows_view c.args.self.now s c.self.view_is) (ap is_some c.requires.open)
 
-pub cut_file-requires-clause-file : goal.cut_file-requires-clause-file
-cut_file-requires-clause-file c =
-    let b = c.self.inside.stock in
-    let file = c.unwrap-file.result in
-    let at = sym c.file_of.ensures ∙ c.unwrap-file.ensures in
-    let lt : file < length c.self.inside.laid.items = rw c.self.invariant.0.beside (place_within b c.args.ino file at) in
-    file_laid b c.self.inside.laid.items file c.index_mut.result.now c.self.invariant.0 lt c.index_mut.ensures.value
-
-pub cut_file-requires-clause-chain : goal.cut_file-requires-clause-chain
-cut_file-requires-clause-chain c =
-    let b = c.self.inside.stock in
-    let file = c.unwrap-file.result in
-    let at = sym c.file_of.ensures ∙ c.unwrap-file.ensures in
-    let lt : file < length c.self.inside.laid.items = rw c.self.invariant.0.beside (place_within b c.args.ino file at) in
-    file_chain b c.self.inside.laid.items file c.index_mut.result.now c.self.invariant.0 lt c.index_mut.ensures.value
-
-pub cut_file-requires-clause-size : goal.cut_file-requires-clause-size
-cut_file-requires-clause-size c =
-    let b = c.self.inside.stock in
-    let file = c.unwrap-file.result in
-    let at = sym c.file_of.ensures ∙ c.unwrap-file.ensures in
-    rw (sym (body_of_file b c.args.ino file at)) (rw (ap (λ (s : SessionSeen). body_in s c.args.ino) c.self.view_is) c.requires.size)
+pub cut_one-requires-clause-may : goal.cut_one-requires-clause-may
+cut_one-requires-clause-may c = λ file l found.
+    let s = c.self.inside in
+    let here = has_file c.args.self.now s c.args.ino file l c.self.view_is c.self.invariant found in
+    record { laid = here.is; has = here.has; less = subst (λ w. c.args.size ≤ size_in w) (sym here.body) c.requires.size }
 
 pub invariant_of-self : goal.invariant_of-self
 invariant_of-self c =
-    let keeps = cut_edited c.self.inside.stock c.cut_file.new.stock c.unwrap-file.result c.args.size c.index_mut.result.now c.self.inside.laid.items c.cut_file.ensures.file c.cut_file.ensures.others in
-    (keeps.laid c.cut_file.new.laid c.self.invariant.0 c.cut_file.ensures.laid c.cut_file.ensures.has, rw keeps.pages c.self.invariant.1, c.self.invariant.2, c.self.invariant.3)
-
-pub returns : goal.returns
-unfolding cut
-returns c =
-    let b = c.self.inside.stock in
-    let b' = c.cut_file.new.stock in
-    let ls = c.self.inside.laid.items in
-    let file = c.unwrap-file.result in
-    let l = c.index_mut.result.now in
-    let l' = c.cut_file.new.laid in
+    let s = c.self.inside in
+    let v = c.args.self.now in
     let ino = c.args.ino in
     let size = c.args.size in
-    let at = sym c.file_of.ensures ∙ c.unwrap-file.ensures in
-    let lt : file < length ls = rw c.self.invariant.0.beside (place_within b ino file at) in
-    let is = file_laid b ls file l c.self.invariant.0 lt c.index_mut.ensures.value in
-    let keeps = cut_edited b b' file size l ls c.cut_file.ensures.file c.cut_file.ensures.others in
-    let all = chains_laid b.writes b.pages ls in
-    let s = the_view c.self.inside in
-    let chain : chain_in s ino ≡ chain_at b file l =
-    ap (λ o. option_map_or (λ i. slice_index_or all i no_chain) o no_chain) at ∙ chain_laid_at b ls file l c.self.invariant.0 lt c.index_mut.ensures.value in
-    let body : body_in s ino ≡ body_at b file = body_of_file b ino file at in
-    let chains : chains_laid b'.writes b'.pages (slice_set ls file l') ≡ chains_with s ino (chain_cut (chain_in s ino) (block_count size)) =
-    keeps.chains l' c.cut_file.ensures.laid lt
-    ∙ ap (slice_set all file) (c.cut_file.ensures.chain ∙ sym (ap (λ (ch : Chain). chain_cut ch (block_count size)) chain))
-    ∙ sym (ap (λ o. option_map_or (λ i. slice_set all i (chain_cut (chain_in s ino) (block_count size))) o all) at) in
-    let parcel : b' ≡ cut_file ino (chain_in s ino) (body_in s ino) size b =
-    c.cut_file.ensures.file
-    ∙ ap (λ n. cut_file n (chain_at b file l) (body_at b file) size b) (ino_of_file b ino file l at is)
-    ∙ sym (ap (λ (ch : Chain). cut_file ino ch (body_at b file) size b) chain)
-    ∙ sym (ap (λ w. cut_file ino (chain_in s ino) w size b) body) in
-    let view : Parcel → List Chain → SessionSeen = λ p cs. record s { parcel = p; chains = cs; room = record s.room { blocks = map room_laid (slice_set ls file l') } } in
-    rw (← c.self.view_is) (ap (view b') chains ∙ ap (λ p. view p (chains_with s ino (chain_cut (chain_in s ino) (block_count size)))) parcel)
+    let b = s.stock in
+    let b' = c.cut_one.new.stock in
+    let ls' = c.cut_one.new.laid.items in
+    let ms' = c.cut_one.new.made.items in
+    let shows = shows_view v s c.self.view_is in
+    let leaves = cut_leaves_files b b' size s.laid.items ls' s.made.items ms' ino c.cut_one.ensures.relaid in
+    let there = is_there v (files_in s) ino shows (ap is_some c.requires.open) in
+    let kept = kept_cut s.placed s.reads.items b b' s.laid.items ls' s.made.items ms' s.cleared.items s.dirs.items size ino c.self.invariant.0 c.self.invariant.3 c.self.invariant.4 c.cut_one.ensures.relaid
+    (kind_one v s.placed s.reads.items (files_in s) ino Regular shows c.self.invariant.0 c.self.invariant.3 there c.requires.open) in
+    let chain = chain_cut (chain_in v ino) (block_count size) in
+    let anew = relaid_as (CutDone b b' size) (IsAnew b b' chain) b s.laid.items ls' s.made.items ms' ino (λ file l l' found done. record {
+      is = done.laid;
+      has = done.has;
+      now = done.chain ∙ ap (λ (ch : Chain). chain_cut ch (block_count size)) (has_file v s ino file l c.self.view_is c.self.invariant found).chain;
+      others = done.others;
+    }) c.cut_one.ensures.relaid in (
+      laid_relaid b b' s.laid.items ls' s.made.items ms' ino chain leaves c.self.invariant.0 anew,
+      rw (pages_left b b' leaves) c.self.invariant.1,
+      c.self.invariant.2,
+      kept.0,
+      kept.1,
+      rw (made_many (CutDone b b' size) b s.laid.items ls' s.made.items ms' ino c.cut_one.ensures.relaid) c.self.invariant.5,
+    )
+
+pub returns-clause-kept : goal.returns-clause-kept
+unfolding cut
+returns-clause-kept c =
+    let s = c.self.inside in
+    let v = c.args.self.now in
+    let u = the_view s in
+    let ino = c.args.ino in
+    let size = c.args.size in
+    let b = s.stock in
+    let b' = c.cut_one.new.stock in
+    let ls' = c.cut_one.new.laid.items in
+    let ms' = c.cut_one.new.made.items in
+    let leaves = cut_leaves_files b b' size s.laid.items ls' s.made.items ms' ino c.cut_one.ensures.relaid in
+    let chain = chain_cut (chain_in u ino) (block_count size) in
+    let anew = relaid_as (CutDone b b' size) (IsAnew b b' chain) b s.laid.items ls' s.made.items ms' ino (λ file l l' found done. record {
+      is = done.laid;
+      has = done.has;
+      now = done.chain ∙ ap (λ (ch : Chain). chain_cut ch (block_count size)) (has_file u s ino file l refl c.self.invariant found).chain;
+      others = done.others;
+    }) c.cut_one.ensures.relaid in
+    let ks = map (made_seen b') s.cleared.items in
+    let one : SessionSeen = record u { cleared = ks } in
+    let now = record s { stock = b'; laid = c.cut_one.new.laid; made = c.cut_one.new.made } in
+    let room = (the_view now).room in
+    let gone = made_left b b' s.cleared.items leaves in
+    let shown = shown_anew one s.reads.items (files_in s) b' ls' ms' ino chain (record { parcel = refl; chains = refl; made = refl; cleared = gone }) c.self.invariant.0 c.self.invariant.3.numbered leaves anew in
+    let edit = relaid_edit (CutDone b b' size) b s.laid.items ls' s.made.items ms' ino c.cut_one.ensures.relaid in
+    let here = has_file u s ino edit.0 edit.1 refl c.self.invariant edit.3 in
+    let parcel : b' ≡ cut_file (home_in u ino) (chain_in u ino) (body_in u ino) size b =
+    edit.4.edit ∙ ap (λ h. cut_file h (chain_at b edit.0 edit.1) (body_at b edit.0) size b) here.home
+    ∙ ap (λ (ch : Chain). cut_file (home_in u ino) ch (body_at b edit.0) size b) here.chain ∙ ap (λ w. cut_file (home_in u ino) (chain_in u ino) w size b) here.body in
+    ap (λ (x : SessionSeen). record x { parcel = b'; room = room }) (shown ∙ ap (λ k. with_chain ino chain (record u { cleared = k })) gone)
+    ∙ ap (λ (p : Parcel). record (with_chain ino chain u) { parcel = p; room = room }) parcel
+    ∙ ap (λ (x : SessionSeen). record (cut ino size x) { room = room }) c.self.view_is
+
+pub returns-clause-place : goal.returns-clause-place
+returns-clause-place c =
+    let s = c.self.inside in
+    let b' = c.cut_one.new.stock in
+    let many = made_many (CutDone s.stock b' c.args.size) s.stock s.laid.items c.cut_one.new.laid.items s.made.items c.cut_one.new.made.items c.args.ino c.cut_one.ensures.relaid in
+    leaves_place c.args.self.now s b' c.cut_one.new.made c.self.view_is (length-map c.cut_one.new.made.items (made_seen b') ∙ many) c.cut_one.ensures.places

@@ -1,22 +1,25 @@
-use Rattle.std.proofs.Common.{◌≡◌, eqb, true, false, cond, Some, None, sym, ap, ◌∙◌, subst}
+use Rattle.std.proofs.Common.{◌≡◌, Bool, true, false, eqb, cond, None, Some, List, ap, subst, sym, ◌∙◌}
 use Rattle.std.specs.List.{find}
 use Rattle.std.specs.Option.{option_copied}
 use Rattle.trio_page.specs.Home.{raised}
 use Rattle.trio_lists.specs.Lists.{In, is_among}
 use Rattle.trio_lists.proofs.Members.{In-is_among}
 use Rattle.trio_lists.proofs.New.{is_among-not}
-use Rattle.trio_session.specs.Seen.{SessionSeen, place_shown, read_file}
+use Rattle.trio_session.specs.Seen.{SessionSeen, kind_shown, place_of}
 use Rattle.trio_session.specs.contracts.session.Session.{the_view}
 use Rattle.trio_session.specs.declared.indexes.IndexedDir.{IndexedDir}
-use Rattle.trio_session.proofs.Dirs.{dir_among, dir_found, dir_missed, place_missed}
+use Rattle.trio_session.proofs.Dirs.{dir_among, dir_missed}
+use Rattle.trio_session.proofs.Indexed.{dir_index, index_missing, place_of-index, place_of-missing}
 use Rattle.trio_session.proofs.session.Session.find.Goals as goal
 
 pub returns-in-Some-clause-place : goal.returns-in-Some-clause-place
 returns-in-Some-clause-place c =
-    let found : find (λ (d : IndexedDir). eqb d.ino c.args.dir) c.self.inside.dirs.items ≡ Some c.in-Some.indexed.now =
-    ap (find (λ (d : IndexedDir). eqb d.ino c.args.dir)) (sym c.deref.ensures.value) ∙ sym c.index_on.ensures ∙ ap option_copied c.in-Some.is in
-    c.find.ensures.place ∙ dir_found c.self.inside.reads.items c.self.inside.dirs.items c.args.dir c.args.name.now c.in-Some.indexed.now c.self.invariant.3 found
-    ∙ ap (λ (s : SessionSeen). place_shown s c.args.dir c.args.name.now) c.self.view_is
+    let v = c.args.self.now in
+    let s = c.self.inside in
+    let slots = c.in-Some.indexed.now.dir.slots in
+    c.in_directory.ensures slots c.args.name.now c.find.ensures.place ∙ ap (λ k. place_of k slots c.args.name.now) c.kind-kind.ensures
+    ∙ place_of-index v c.args.dir slots c.args.name.now
+    (λ shown. dir_index v s c.args.dir c.index_on.result c.deref.result.now c.in-Some.indexed c.self.view_is c.self.invariant shown c.deref.ensures.value c.index_on.ensures c.in-Some.is)
 
 pub returns-in-Some-clause-counted : goal.returns-in-Some-clause-counted
 returns-in-Some-clause-counted c =
@@ -31,11 +34,8 @@ returns-in-Some-clause-counted c =
 
 pub returns-in-None-clause-place : goal.returns-in-None-clause-place
 returns-in-None-clause-place c =
-    let dirs = c.self.inside.dirs.items in
-    let missed : find (λ (d : IndexedDir). eqb d.ino c.args.dir) dirs ≡ None =
-    ap (find (λ (d : IndexedDir). eqb d.ino c.args.dir)) (sym c.deref.ensures.value) ∙ sym c.index_on.ensures ∙ ap option_copied c.in-None.is in
-    place_missed (read_file c.args.self.now c.args.dir) c.args.name.now
-    (λ f e dir. dir_missed dirs c.args.dir missed (subst (λ (s : SessionSeen). In c.args.dir s.indexed) (sym c.self.view_is) (c.requires f e dir)))
+    place_of-missing c.args.self.now c.args.dir c.args.name.now (λ shown.
+    index_missing c.args.self.now c.self.inside c.args.dir c.index_on.result c.deref.result.now c.self.view_is (c.requires shown) c.deref.ensures.value c.index_on.ensures c.in-None.is)
 
 pub returns-in-None-clause-counted : goal.returns-in-None-clause-counted
 returns-in-None-clause-counted c =

@@ -1,143 +1,163 @@
-use Rattle.std.proofs.Common.{◌≡◌, ◌+◌, ◌<◌, ◌≤◌, ℕ, List, ap, drop, take, sym, subst, ◌∙◌, length, eqb}
-use Rattle.std.specs.Prelude.{IsTrue, map, slice_index_or, slice_set}
-use Rattle.std.specs.List.{position}
-use Rattle.std.specs.Option.{is_some, option_map, option_map_or}
-use Rattle.std.proofs.lemmas.Option.{get_or_from_slice_get, slice_get-map}
+use Rattle.std.proofs.Common.{◌≡◌, ◌+◌, ◌-◌, ◌%◌, ◌≤◌, ◌<◌, ℕ, List, Some, length, drop, take, ap, refl, subst, sym, ◌∙◌, inl, inr, arith}
+use Rattle.std.specs.Option.{is_some}
 use Rattle.trio_layout.specs.Body.{block_count}
 use Rattle.trio_layout.specs.Chain.{Chain}
-use Rattle.trio_lease.specs.Shown.{LentFile}
-use Rattle.trio_desk.specs.Out.{Parcel, page_numbers}
-use Rattle.trio_session.specs.Layout.{chain_grown, grown_file, growth}
-use Rattle.trio_session.specs.Seen.{SessionSeen, body_in, chain_in, chains_with, grown, no_chain, room_in, spare_pages}
-use Rattle.trio_session.specs.inner.Places.{body_at, chain_at, room_laid}
-use Rattle.trio_session.specs.inner.Inside.{chains_laid}
+use Rattle.trio_desk.specs.Out.{page_numbers}
+use Rattle.trio_session.specs.Layout.{growth, size_in}
+use Rattle.trio_session.specs.Seen.{SessionSeen, chain_in, open_kind, spare_pages}
+use Rattle.trio_session.specs.inner.Found.{MayGrowAt}
+use Rattle.trio_session.specs.inner.Places.{chain_at, room_laid}
+use Rattle.trio_session.proofs.Grows.{within_spare}
+use Rattle.trio_session.proofs.Insides.{files_in}
+use Rattle.trio_session.proofs.Opens.{has_file, is_there, may_grow, open_some, shows_view}
+use Rattle.std.specs.Prelude.{map}
+use Rattle.std.specs.Option.{option_map}
+use Rattle.std.proofs.lemmas.List.{length-map}
+use Rattle.trio_lists.specs.Lists.{In}
+use Rattle.trio_desk.specs.Out.{Parcel}
+use Rattle.trio_session.specs.Layout.{chain_grown, grown_file}
+use Rattle.trio_session.specs.Seen.{body_in, grown, home_in, with_chain}
+use Rattle.trio_session.specs.inner.Found.{GrowDone}
+use Rattle.trio_session.specs.inner.Made.{FindsFile, IsFileOn, dir_numbers, made_seen}
+use Rattle.trio_session.specs.inner.Places.{body_at}
 use Rattle.trio_session.specs.contracts.session.Session.{the_view}
-use Rattle.trio_session.proofs.Found.{position-some}
-use Rattle.trio_session.proofs.Sessions.{body_of_file, chain_laid_at, file_chain, file_laid, ino_of_file, laid_at, place_within}
-use Rattle.trio_session.proofs.Grows.{grow_edited, within_spare}
+use Rattle.trio_session.proofs.Chained.{IsAnew, made_many, relaid_as, relaid_edit, shown_anew}
+use Rattle.trio_session.proofs.Chains.{blocks_length}
+use Rattle.trio_session.proofs.Growing.{IsGrowth, dir_place, growth_inside, growth_leaves, indexed_grown}
+use Rattle.trio_session.proofs.Opens.{leaves_place, made_left}
+use Rattle.trio_session.proofs.Rooms.{names_told, numbers_told, slots_told}
 use Rattle.trio_session.proofs.session.Session.grow.Goals as goal
 
-pub unwrap-file-requires : goal.unwrap-file-requires
-unwrap-file-requires c =
-    let at : IsTrue (is_some (position (λ (f : LentFile). eqb f.stands.ino c.args.ino) c.args.self.now.parcel.writes)) =
-    position-some (λ (f : LentFile). eqb f.stands.ino c.args.ino) (λ (f : LentFile). f.stands) c.args.self.now.parcel.writes c.requires.open.file c.requires.open.there in
-    rw c.file_of.ensures (rw (ap (λ (s : SessionSeen). s.parcel) c.self.view_is) at)
+pub grow_one-self-inside-requires-clause-there : goal.grow_one-self-inside-requires-clause-there
+grow_one-self-inside-requires-clause-there c =
+    let s = c.self.inside in
+    is_there c.args.self.now (files_in s) c.args.ino (shows_view c.args.self.now s c.self.view_is) (open_some c.args.self.now c.args.ino c.args.size c.requires.open)
 
-pub grow_file-self-inside-requires-clause-file : goal.grow_file-self-inside-requires-clause-file
-grow_file-self-inside-requires-clause-file c =
-    let b = c.self.inside.stock in
-    let file = c.unwrap-file.result in
-    let at = sym c.file_of.ensures ∙ c.unwrap-file.ensures in
-    let lt : file < length c.self.inside.laid.items = rw c.self.invariant.0.beside (place_within b c.args.ino file at) in
-    file_laid b c.self.inside.laid.items file c.index_mut-laid.result.now c.self.invariant.0 lt c.index_mut-laid.ensures.value
+pub grow_one-self-inside-requires-clause-may : goal.grow_one-self-inside-requires-clause-may
+grow_one-self-inside-requires-clause-may c = λ file l found.
+    may_grow c.args.self.now c.self.inside c.args.ino c.args.size file l c.self.view_is c.self.invariant found c.requires.size c.requires.pages c.requires.room
 
-pub grow_file-self-inside-requires-clause-chain : goal.grow_file-self-inside-requires-clause-chain
-grow_file-self-inside-requires-clause-chain c =
-    let b = c.self.inside.stock in
-    let file = c.unwrap-file.result in
-    let at = sym c.file_of.ensures ∙ c.unwrap-file.ensures in
-    let lt : file < length c.self.inside.laid.items = rw c.self.invariant.0.beside (place_within b c.args.ino file at) in
-    file_chain b c.self.inside.laid.items file c.index_mut-laid.result.now c.self.invariant.0 lt c.index_mut-laid.ensures.value
-
-pub grow_file-self-inside-requires-clause-size : goal.grow_file-self-inside-requires-clause-size
-grow_file-self-inside-requires-clause-size c =
-    let b = c.self.inside.stock in
-    let file = c.unwrap-file.result in
-    let at = sym c.file_of.ensures ∙ c.unwrap-file.ensures in
-    rw (sym (body_of_file b c.args.ino file at)) (rw (ap (λ (s : SessionSeen). body_in s c.args.ino) c.self.view_is) c.requires.size)
-
-pub grow_file-self-inside-requires-clause-pages : goal.grow_file-self-inside-requires-clause-pages
-grow_file-self-inside-requires-clause-pages c =
-    let b = c.self.inside.stock in
-    let ls = c.self.inside.laid.items in
-    let file = c.unwrap-file.result in
-    let l = c.index_mut-laid.result.now in
-    let at = sym c.file_of.ensures ∙ c.unwrap-file.ensures in
-    let lt : file < length ls = rw c.self.invariant.0.beside (place_within b c.args.ino file at) in
-    let all = chains_laid b.writes b.pages ls in
-    let chain : chain_in (the_view c.self.inside) c.args.ino ≡ chain_at b file l =
-    ap (λ o. option_map_or (λ i. slice_index_or all i no_chain) o no_chain) at ∙ chain_laid_at b ls file l c.self.invariant.0 lt c.index_mut-laid.ensures.value in
-    let enough : growth (length (chain_in (the_view c.self.inside) c.args.ino).blocks) (block_count c.args.size) ≤ length (spare_pages (the_view c.self.inside)) =
-    subst (λ (s : SessionSeen). growth (length (chain_in s c.args.ino).blocks) (block_count c.args.size) ≤ length (spare_pages s)) (sym c.self.view_is) c.requires.pages in
-    within_spare b c.self.inside.placed (growth (length (chain_at b file l).blocks) (block_count c.args.size)) c.self.invariant.1
-    (subst (λ (ch : Chain). growth (length ch.blocks) (block_count c.args.size) ≤ length (drop c.self.inside.placed (page_numbers b.pages))) chain enough)
-
-pub grow_file-self-inside-requires-clause-room : goal.grow_file-self-inside-requires-clause-room
-grow_file-self-inside-requires-clause-room c =
-    let b = c.self.inside.stock in
-    let ls = c.self.inside.laid.items in
-    let file = c.unwrap-file.result in
-    let l = c.index_mut-laid.result.now in
-    let at = sym c.file_of.ensures ∙ c.unwrap-file.ensures in
-    let lt : file < length ls = rw c.self.invariant.0.beside (place_within b c.args.ino file at) in
-    let there = laid_at ls file l lt c.index_mut-laid.ensures.value in
-    let room : room_in (the_view c.self.inside) c.args.ino ≡ room_laid l =
-    ap (λ o. option_map_or (λ i. slice_index_or (map room_laid ls) i 0) o 0) at
-    ∙ get_or_from_slice_get (map room_laid ls) file (room_laid l) 0 (slice_get-map room_laid ls file ∙ ap (option_map room_laid) there) in
-    let enough : block_count c.args.size ≤ room_in (the_view c.self.inside) c.args.ino =
-    subst (λ (s : SessionSeen). block_count c.args.size ≤ room_in s c.args.ino) (sym c.self.view_is) c.requires.room in
-    subst (λ n. block_count c.args.size ≤ n) room enough
+pub tell_growth-requires-clause-place : goal.tell_growth-requires-clause-place
+tell_growth-requires-clause-place c = λ directory more.
+    subst (λ (x : SessionSeen). In c.args.ino x.room.slots) (sym c.self.view_is)
+    (dir_place c.args.self.now c.args.ino c.args.size c.requires.open (sym c.open_kind.ensures ∙ c.unwrap-kind.ensures ∙ ap Some directory))
 
 pub invariant_of-self : goal.invariant_of-self
 invariant_of-self c =
-    let b = c.self.inside.stock in
-    let b' = c.grow_file-self-inside.new.stock in
-    let ls = c.self.inside.laid.items in
-    let file = c.unwrap-file.result in
-    let l = c.index_mut-laid.result.now in
-    let at = sym c.file_of.ensures ∙ c.unwrap-file.ensures in
-    let lt : file < length ls = rw c.self.invariant.0.beside (place_within b c.args.ino file at) in
-    let all = chains_laid b.writes b.pages ls in
-    let chain : chain_in (the_view c.self.inside) c.args.ino ≡ chain_at b file l =
-    ap (λ o. option_map_or (λ i. slice_index_or all i no_chain) o no_chain) at ∙ chain_laid_at b ls file l c.self.invariant.0 lt c.index_mut-laid.ensures.value in
-    let wanted = growth (length (chain_at b file l).blocks) (block_count c.args.size) in
-    let enough : growth (length (chain_in (the_view c.self.inside) c.args.ino).blocks) (block_count c.args.size) ≤ length (spare_pages (the_view c.self.inside)) =
-    subst (λ (s : SessionSeen). growth (length (chain_in s c.args.ino).blocks) (block_count c.args.size) ≤ length (spare_pages s)) (sym c.self.view_is) c.requires.pages in
-    let within = within_spare b c.self.inside.placed wanted c.self.invariant.1
-    (subst (λ (ch : Chain). growth (length ch.blocks) (block_count c.args.size) ≤ length (drop c.self.inside.placed (page_numbers b.pages))) chain enough) in
-    let keeps = grow_edited b b' file c.args.size (take wanted (drop c.self.inside.placed (page_numbers b.pages))) l ls c.grow_file-self-inside.ensures.file c.grow_file-self-inside.ensures.others in (
-      keeps.laid c.grow_file-self-inside.new.laid c.self.invariant.0 c.grow_file-self-inside.ensures.laid c.grow_file-self-inside.ensures.has,
-      rw keeps.pages (rw c.grow_file-self-inside.ensures.next within),
-      c.self.invariant.2,
-      c.self.invariant.3,
-    )
-
-pub returns : goal.returns
-unfolding grown
-returns c =
-    let b = c.self.inside.stock in
-    let b' = c.grow_file-self-inside.new.stock in
-    let ls = c.self.inside.laid.items in
-    let file = c.unwrap-file.result in
-    let l = c.index_mut-laid.result.now in
-    let l' = c.grow_file-self-inside.new.laid in
+    let s = c.self.inside in
+    let v = c.args.self.now in
     let ino = c.args.ino in
     let size = c.args.size in
-    let placed = c.self.inside.placed in
-    let at = sym c.file_of.ensures ∙ c.unwrap-file.ensures in
-    let lt : file < length ls = rw c.self.invariant.0.beside (place_within b ino file at) in
-    let is = file_laid b ls file l c.self.invariant.0 lt c.index_mut-laid.ensures.value in
-    let all = chains_laid b.writes b.pages ls in
-    let s = the_view c.self.inside in
-    let spare = drop placed (page_numbers b.pages) in
+    let k = c.unwrap-kind.result in
+    let next = c.grow_one-self-inside.result in
+    let b' = c.grow_one-self-inside.new.stock in
+    let ls' = c.grow_one-self-inside.new.laid.items in
+    let ms' = c.grow_one-self-inside.new.made.items in
+    let ds' = c.tell_growth.new.dirs.items in
+    let on : IsFileOn v ino c.unwrap.result.0 c.unwrap.result.1.now = subst (λ o. FindsFile v ino (option_map (λ o. (o.0, o.1.now)) o)) c.unwrap.ensures c.file_on.ensures in
+    let len : length (chain_in v ino).blocks ≡ c.blocks_len.result =
+    ap (λ (ch : Chain). length ch.blocks) (sym on.chain) ∙ blocks_length v.parcel c.unwrap.result.0 c.unwrap.result.1.now on.is_file ∙ sym c.blocks_len.ensures in
+    let count : c.div_ceil.result ≡ block_count size = omega (arith, c.div_ceil.ensures) in
+    let more = c.div_ceil.result - c.blocks_len.result in
+    let g : IsGrowth v s ino size k next b' ls' ms' ds' more = record {
+      view = c.self.view_is;
+      is = c.self.invariant;
+      may = c.requires.open;
+      kind = sym c.open_kind.ensures ∙ c.unwrap-kind.ensures;
+      size_more = c.requires.size;
+      pages = c.requires.pages;
+      room = c.requires.room;
+      relaid = c.grow_one-self-inside.ensures.relaid;
+      many = ap (λ n. n - c.blocks_len.result) count ∙ ap (λ n. block_count size - n) (sym len);
+      told = c.tell_growth.ensures;
+    } in
+    growth_inside v s ino size k next b' ls' ms' ds' more g
+
+pub returns-clause-room : goal.returns-clause-room
+returns-clause-room c =
+    let s = c.self.inside in
+    let k = c.unwrap-kind.result in
+    record {
+      calls = ap (λ (x : SessionSeen). x.room.calls) c.self.view_is;
+      slots = λ n apart i. slots_told k (c.div_ceil.result - c.blocks_len.result) s.dirs.items c.tell_growth.new.dirs.items c.args.ino n c.tell_growth.ensures apart (subst (λ (x : SessionSeen). In n x.room.slots) (sym c.self.view_is) i);
+      names = λ n apart i. names_told k (c.div_ceil.result - c.blocks_len.result) s.dirs.items c.tell_growth.new.dirs.items c.args.ino n c.self.invariant.4.once c.tell_growth.ensures (subst (λ (x : SessionSeen). In n x.room.names) (sym c.self.view_is) i);
+    }
+
+pub returns-clause-names : goal.returns-clause-names
+returns-clause-names c = λ i.
+    names_told c.unwrap-kind.result (c.div_ceil.result - c.blocks_len.result) c.self.inside.dirs.items c.tell_growth.new.dirs.items c.args.ino c.args.ino c.self.invariant.4.once c.tell_growth.ensures
+    (subst (λ (x : SessionSeen). In c.args.ino x.room.names) (sym c.self.view_is) i)
+
+pub returns-clause-place : goal.returns-clause-place
+returns-clause-place c =
+    let s = c.self.inside in
+    let b' = c.grow_one-self-inside.new.stock in
+    let done = GrowDone s.stock b' c.args.size s.placed c.grow_one-self-inside.result in
+    let many = made_many done s.stock s.laid.items c.grow_one-self-inside.new.laid.items s.made.items c.grow_one-self-inside.new.made.items c.args.ino c.grow_one-self-inside.ensures.relaid in
+    leaves_place c.args.self.now s b' c.grow_one-self-inside.new.made c.self.view_is (length-map c.grow_one-self-inside.new.made.items (made_seen b') ∙ many) c.grow_one-self-inside.ensures.places
+
+pub returns-clause-kept : goal.returns-clause-kept
+unfolding grown
+returns-clause-kept c =
+    let s = c.self.inside in
+    let v = c.args.self.now in
+    let ino = c.args.ino in
+    let size = c.args.size in
+    let k = c.unwrap-kind.result in
+    let next = c.grow_one-self-inside.result in
+    let b' = c.grow_one-self-inside.new.stock in
+    let ls' = c.grow_one-self-inside.new.laid.items in
+    let ms' = c.grow_one-self-inside.new.made.items in
+    let ds' = c.tell_growth.new.dirs.items in
+    let on : IsFileOn v ino c.unwrap.result.0 c.unwrap.result.1.now = subst (λ o. FindsFile v ino (option_map (λ o. (o.0, o.1.now)) o)) c.unwrap.ensures c.file_on.ensures in
+    let len : length (chain_in v ino).blocks ≡ c.blocks_len.result =
+    ap (λ (ch : Chain). length ch.blocks) (sym on.chain) ∙ blocks_length v.parcel c.unwrap.result.0 c.unwrap.result.1.now on.is_file ∙ sym c.blocks_len.ensures in
+    let count : c.div_ceil.result ≡ block_count size = omega (arith, c.div_ceil.ensures) in
+    let more = c.div_ceil.result - c.blocks_len.result in
+    let g : IsGrowth v s ino size k next b' ls' ms' ds' more = record {
+      view = c.self.view_is;
+      is = c.self.invariant;
+      may = c.requires.open;
+      kind = sym c.open_kind.ensures ∙ c.unwrap-kind.ensures;
+      size_more = c.requires.size;
+      pages = c.requires.pages;
+      room = c.requires.room;
+      relaid = c.grow_one-self-inside.ensures.relaid;
+      many = ap (λ n. n - c.blocks_len.result) count ∙ ap (λ n. block_count size - n) (sym len);
+      told = c.tell_growth.ensures;
+    } in
+    let u = the_view s in
+    let b = s.stock in
     let count = block_count size in
+    let spare = drop s.placed (page_numbers b.pages) in
     let wanted : Chain → ℕ = λ ch. growth (length ch.blocks) count in
-    let keeps = grow_edited b b' file size (take (wanted (chain_at b file l)) spare) l ls c.grow_file-self-inside.ensures.file c.grow_file-self-inside.ensures.others in
-    let chain : chain_at b file l ≡ chain_in s ino =
-    sym (ap (λ o. option_map_or (λ i. slice_index_or all i no_chain) o no_chain) at ∙ chain_laid_at b ls file l c.self.invariant.0 lt c.index_mut-laid.ensures.value) in
-    let body : body_at b file ≡ body_in s ino = sym (body_of_file b ino file at) in
     let now : Chain → Chain = λ ch. chain_grown ch count (take (wanted ch) spare) in
-    let chains : chains_laid b'.writes b'.pages (slice_set ls file l') ≡ chains_with s ino (now (chain_in s ino)) =
-    keeps.chains l' c.grow_file-self-inside.ensures.laid lt
-    ∙ ap (slice_set all file) (c.grow_file-self-inside.ensures.chain ∙ ap now chain)
-    ∙ sym (ap (λ o. option_map_or (λ i. slice_set all i (now (chain_in s ino))) o all) at) in
-    let parcel : b' ≡ grown_file ino (chain_in s ino) (body_in s ino) size (take (wanted (chain_in s ino)) spare) b =
-    c.grow_file-self-inside.ensures.file
-    ∙ ap (λ n. grown_file n (chain_at b file l) (body_at b file) size (take (wanted (chain_at b file l)) spare) b) (ino_of_file b ino file l at is)
-    ∙ ap (λ ch. grown_file ino ch (body_at b file) size (take (wanted ch) spare) b) chain
-    ∙ ap (λ w. grown_file ino (chain_in s ino) w size (take (wanted (chain_in s ino)) spare) b) body in
-    let next : c.grow_file-self-inside.result ≡ placed + wanted (chain_in s ino) = c.grow_file-self-inside.ensures.next ∙ ap (λ ch. placed + wanted ch) chain in
-    let view : Parcel → List Chain → ℕ → SessionSeen = λ p cs n. record s { parcel = p; chains = cs; placed = n; room = record s.room { blocks = map room_laid (slice_set ls file l') } } in
-    rw (← c.self.view_is) (ap (λ cs. view b' cs c.grow_file-self-inside.result) chains
-    ∙ ap (λ p. view p (chains_with s ino (now (chain_in s ino))) c.grow_file-self-inside.result) parcel
-    ∙ ap (view (grown_file ino (chain_in s ino) (body_in s ino) size (take (wanted (chain_in s ino)) spare) b) (chains_with s ino (now (chain_in s ino)))) next)
+    let chain = now (chain_in u ino) in
+    let leaves = growth_leaves v s ino size k next b' ls' ms' ds' more g in
+    let relaid = c.grow_one-self-inside.ensures.relaid in
+    let done = GrowDone b b' size s.placed next in
+    let anew = relaid_as done (IsAnew b b' chain) b s.laid.items ls' s.made.items ms' ino (λ file l l' found is. record {
+      is = is.laid;
+      has = is.has;
+      now = is.chain ∙ ap now (has_file u s ino file l refl c.self.invariant found).chain;
+      others = is.others;
+    }) relaid in
+    let ks = map (made_seen b') s.cleared.items in
+    let one : SessionSeen = record u { cleared = ks } in
+    let all = record s { stock = b'; laid = c.grow_one-self-inside.new.laid; made = c.grow_one-self-inside.new.made; dirs = c.tell_growth.new.dirs; placed = next } in
+    let room = (the_view all).room in
+    let gone = made_left b b' s.cleared.items leaves in
+    let shown = shown_anew one s.reads.items (files_in s) b' ls' ms' ino chain (record { parcel = refl; chains = refl; made = refl; cleared = gone }) c.self.invariant.0 c.self.invariant.3.numbered leaves anew in
+    let edit = relaid_edit done b s.laid.items ls' s.made.items ms' ino relaid in
+    let here = has_file u s ino edit.0 edit.1 refl c.self.invariant edit.3 in
+    let parcel : b' ≡ grown_file (home_in u ino) (chain_in u ino) (body_in u ino) size (take (wanted (chain_in u ino)) spare) b =
+    edit.4.edit
+    ∙ ap (λ h. grown_file h (chain_at b edit.0 edit.1) (body_at b edit.0) size (take (wanted (chain_at b edit.0 edit.1)) spare) b) here.home
+    ∙ ap (λ (ch : Chain). grown_file (home_in u ino) ch (body_at b edit.0) size (take (wanted ch) spare) b) here.chain
+    ∙ ap (λ w. grown_file (home_in u ino) (chain_in u ino) w size (take (wanted (chain_in u ino)) spare) b) here.body in
+    let placed : next ≡ s.placed + wanted (chain_in u ino) = edit.4.ends ∙ ap (λ (ch : Chain). s.placed + wanted ch) here.chain in
+    ap (λ (x : SessionSeen). record x { parcel = b'; placed = next; indexed = dir_numbers ds'; room = room }) (shown ∙ ap (λ q. with_chain ino chain (record u { cleared = q })) gone)
+    ∙ ap (λ (p : Parcel). record (with_chain ino chain u) { parcel = p; placed = next; indexed = dir_numbers ds'; room = room }) parcel
+    ∙ ap (λ n. record (with_chain ino chain u) { parcel = grown_file (home_in u ino) (chain_in u ino) (body_in u ino) size (take (wanted (chain_in u ino)) spare) b; placed = n; indexed = dir_numbers ds'; room = room }) placed
+    ∙ indexed_grown u ino size ds' room (numbers_told k more s.dirs.items ds' ino c.tell_growth.ensures)
+    ∙ ap (λ (x : SessionSeen). record (grown ino size x) { room = room }) c.self.view_is

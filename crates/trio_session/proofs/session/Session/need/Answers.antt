@@ -1,10 +1,12 @@
-use Rattle.std.proofs.Common.{◌≡◌, Ok, Err, inr, sym, ◌∙◌}
+use Rattle.std.proofs.Common.{◌≡◌, IsTrue, Ok, Err, inr, refl, sym, ◌∙◌}
 use Rattle.trio_desk.specs.Call.{Grant}
 use Rattle.trio_desk.specs.Calls.{OneCall, Made, NotMade}
 use Rattle.trio_nodes.specs.declared.answers.GrantFault.TheVariants.{NoMemory as NoGrantMemory}
 use Rattle.trio_session.specs.Asked.{TellsGrant}
 use Rattle.trio_session.specs.inner.Giving.{AfterGrant, NoGrant}
-use Rattle.trio_session.proofs.Desks.{indexed_or_not, may_read, need_denied, need_granted, on_indexed, same_but}
+use Rattle.trio_session.proofs.Desks.{but_indexed, indexed_or_not, may_read, need_denied, need_granted, on_indexed, same_but}
+use Rattle.trio_session.proofs.Serves.{serves-but, serves-granted}
+use Rattle.trio_session.specs.Seen.{serves}
 use Rattle.trio_session.proofs.session.Session.need.Goals as goal
 
 pub index-requires : goal.index-requires
@@ -40,3 +42,23 @@ returns-in-Err-clause-call g c =
       | Made told called after ↦ Made told called (after.0, need_denied s t why told after.1, sym c.serves.ensures ∙ c.if-serves.false)
       | NotMade same none ↦ NotMade same (inr none.0, same_but s t none.1)
     ]
+
+pub returns-then-serves-clause-served : goal.returns-then-serves-clause-served
+returns-then-serves-clause-served g c =
+    let s = c.args.self.now in
+    let s' = c.index.new.self in
+    λ ok. serves-but s s' c.args.ino c.args.kind (but_indexed s s s' refl c.index.ensures.kept c.index.ensures.more) ∙ sym c.serves.ensures ∙ c.if-serves.true
+
+pub returns-in-Ok-clause-served : goal.returns-in-Ok-clause-served
+returns-in-Ok-clause-served g c =
+    let s = c.args.self.now in
+    let t = c.lend.new.self in
+    let s' = c.index-in-Ok.new.self in
+    let d = g.D.Desk.seen c.args.desk.now in
+    let d' = g.D.Desk.seen c.lend.new.desk in
+    let call : OneCall g.D.Desk.called c.args.desk.now (Grant c.args.ino c.args.kind) c.lend.new.desk (λ told. TellsGrant d c.args.ino c.args.kind told d' × AfterGrant s (Ok tt) t told) (NoGrant s (Ok tt) t) = c.in-Ok.ensures.call in
+    let lent : IsTrue (serves t c.args.ino c.args.kind) = (elim call [
+      | Made told called after ↦ serves-granted d d' s t c.args.ino c.args.kind told after.0 after.1
+      | NotMade same none ↦ absurd (let e : Ok tt ≡ Err NoGrantMemory = none.0 in cc e)
+    ]) in
+    λ ok. serves-but t s' c.args.ino c.args.kind (but_indexed t t s' refl c.index-in-Ok.ensures.kept c.index-in-Ok.ensures.more) ∙ lent

@@ -1,80 +1,127 @@
-use Rattle.std.proofs.Common.{◌≡◌, ◌+◌, ◌/◌, ◌<◌, ◌≤◌, List, ap, sym, subst, ◌∙◌, length, arith, eqb}
-use Rattle.std.specs.Prelude.{IsTrue, slice_index_or}
-use Rattle.std.specs.List.{position}
-use Rattle.std.specs.Option.{is_some, option_map_or}
+use Rattle.std.proofs.Common.{◌≡◌, ◌+◌, ◌*◌, ◌/◌, ◌≤◌, ◌<◌, List, Some, length, ap, refl, subst, sym, ◌∙◌, arith}
+use Rattle.std.specs.Option.{is_some, option_map}
+use Rattle.trio_rights.specs.declared.kind.Kind.{Kind}
+use Rattle.trio_rights.specs.declared.kind.Kind.TheVariants.{Regular}
 use Rattle.trio_layout.specs.Chain.{Chain}
-use Rattle.trio_lease.specs.Shown.{LentFile}
 use Rattle.trio_desk.specs.Out.{Parcel}
 use Rattle.trio_session.specs.Layout.{blocks_under, put_bytes, size_in}
-use Rattle.trio_session.specs.Seen.{SessionSeen, body_in, chain_in, no_chain, put}
+use Rattle.trio_session.specs.Seen.{SessionSeen, chain_in, put}
+use Rattle.trio_session.specs.inner.Made.{OneFile}
 use Rattle.trio_session.specs.inner.Places.{body_at, chain_at}
-use Rattle.trio_session.specs.inner.Inside.{chains_laid}
+use Rattle.trio_session.specs.declared.laid.FilePlace.{FilePlace}
+use Rattle.trio_session.specs.declared.laid.Laid.{Laid}
 use Rattle.trio_session.specs.contracts.session.Session.{the_view}
-use Rattle.trio_session.proofs.Found.{position-some}
-use Rattle.trio_session.proofs.Sessions.{Keeps, blocks_keep, body_of_file, place_within, within_chain, file_laid, file_chain, chain_laid_at}
+use Rattle.trio_session.proofs.Chains.{there_some}
+use Rattle.trio_session.proofs.Edited.{Keeps, blocks_keep}
+use Rattle.trio_session.proofs.Insides.{files_in}
+use Rattle.trio_session.proofs.Kept.{kept_put}
+use Rattle.trio_session.proofs.Opens.{finds_in, finds_some, found_at, has_file, pages_left, shows_view, view_left}
+use Rattle.trio_session.proofs.Sessions.{laid_left, within_chain}
 use Rattle.trio_session.proofs.session.Session.put.Goals as goal
 
 pub unwrap-file-requires : goal.unwrap-file-requires
 unwrap-file-requires c =
-    let at : IsTrue (is_some (position (λ (f : LentFile). eqb f.stands.ino c.args.ino) c.args.self.now.parcel.writes)) =
-    position-some (λ (f : LentFile). eqb f.stands.ino c.args.ino) (λ (f : LentFile). f.stands) c.args.self.now.parcel.writes c.requires.open.file c.requires.open.there in
-    rw c.file_of.ensures (rw (ap (λ (s : SessionSeen). s.parcel) c.self.view_is) at)
+    let s = c.self.inside in
+    let v = c.args.self.now in
+    let ino = c.args.ino in
+    let finds = finds_in s ino (option_map (λ o. (o.0, o.1.now)) c.file_among.result) c.deref.result.now c.deref-2.result.now c.deref.ensures.value c.deref-2.ensures.value c.file_among.ensures in
+    finds_some v (files_in s) ino c.file_among.result (shows_view v s c.self.view_is) finds (ap is_some c.requires.open)
 
-pub size_of-size-requires : goal.size_of-size-requires
-size_of-size-requires c = place_within c.self.inside.stock c.args.ino c.unwrap-file.result (sym c.file_of.ensures ∙ c.unwrap-file.ensures)
+pub size_of-size-requires-clause-there : goal.size_of-size-requires-clause-there
+size_of-size-requires-clause-there c =
+    let s = c.self.inside in
+    let v = c.args.self.now in
+    let ino = c.args.ino in
+    let finds = finds_in s ino (option_map (λ o. (o.0, o.1.now)) c.file_among.result) c.deref.result.now c.deref-2.result.now c.deref.ensures.value c.deref-2.ensures.value c.file_among.ensures in
+    let file = c.unwrap-file.result.0 in
+    let l = c.unwrap-file.result.1.now in
+    let here = has_file v s ino file l c.self.view_is c.self.invariant (found_at s.stock s.laid.items s.made.items ino c.file_among.result c.unwrap-file.result finds c.unwrap-file.ensures) in
+    there_some s.stock file l here.is
+
+pub size_of-size-requires-clause-slot : goal.size_of-size-requires-clause-slot
+size_of-size-requires-clause-slot c =
+    let s = c.self.inside in
+    let v = c.args.self.now in
+    let ino = c.args.ino in
+    let finds = finds_in s ino (option_map (λ o. (o.0, o.1.now)) c.file_among.result) c.deref.result.now c.deref-2.result.now c.deref.ensures.value c.deref-2.ensures.value c.file_among.ensures in
+    let file = c.unwrap-file.result.0 in
+    let l = c.unwrap-file.result.1.now in
+    let here = has_file v s ino file l c.self.view_is c.self.invariant (found_at s.stock s.laid.items s.made.items ino c.file_among.result c.unwrap-file.result finds c.unwrap-file.ensures) in
+    here.is.slot
 
 pub put_bytes-requires-clause-file : goal.put_bytes-requires-clause-file
 put_bytes-requires-clause-file c =
-    let b = c.self.inside.stock in
-    let file = c.unwrap-file.result in
-    let at = sym c.file_of.ensures ∙ c.unwrap-file.ensures in
-    let lt : file < length c.self.inside.laid.items = rw c.self.invariant.0.beside (place_within b c.args.ino file at) in
-    file_laid b c.self.inside.laid.items file c.index.result.now c.self.invariant.0 lt c.index.ensures
+    let s = c.self.inside in
+    let v = c.args.self.now in
+    let ino = c.args.ino in
+    let finds = finds_in s ino (option_map (λ o. (o.0, o.1.now)) c.file_among.result) c.deref.result.now c.deref-2.result.now c.deref.ensures.value c.deref-2.ensures.value c.file_among.ensures in
+    let file = c.unwrap-file.result.0 in
+    let l = c.unwrap-file.result.1.now in
+    let here = has_file v s ino file l c.self.view_is c.self.invariant (found_at s.stock s.laid.items s.made.items ino c.file_among.result c.unwrap-file.result finds c.unwrap-file.ensures) in
+    here.is
 
 pub put_bytes-requires-clause-within : goal.put_bytes-requires-clause-within
 put_bytes-requires-clause-within c =
-    let b = c.self.inside.stock in
-    let file = c.unwrap-file.result in
-    let at = sym c.file_of.ensures ∙ c.unwrap-file.ensures in
-    let lt : file < length c.self.inside.laid.items = rw c.self.invariant.0.beside (place_within b c.args.ino file at) in
-    let within : c.args.at + length c.args.bytes.now ≤ size_in (body_at b file) =
-    rw (sym (body_of_file b c.args.ino file at)) (rw (ap (λ (s : SessionSeen). body_in s c.args.ino) c.self.view_is) c.requires.within) in
-    within_chain b file c.index.result.now (c.args.at + length c.args.bytes.now) (file_chain b c.self.inside.laid.items file c.index.result.now c.self.invariant.0 lt c.index.ensures) within
+    let s = c.self.inside in
+    let v = c.args.self.now in
+    let ino = c.args.ino in
+    let finds = finds_in s ino (option_map (λ o. (o.0, o.1.now)) c.file_among.result) c.deref.result.now c.deref-2.result.now c.deref.ensures.value c.deref-2.ensures.value c.file_among.ensures in
+    let file = c.unwrap-file.result.0 in
+    let l = c.unwrap-file.result.1.now in
+    let here = has_file v s ino file l c.self.view_is c.self.invariant (found_at s.stock s.laid.items s.made.items ino c.file_among.result c.unwrap-file.result finds c.unwrap-file.ensures) in
+    let within : c.args.at + length c.args.bytes.now ≤ size_in (body_at s.stock file) = subst (λ w. c.args.at + length c.args.bytes.now ≤ size_in w) (sym here.body) c.requires.within in
+    within_chain s.stock file l (c.args.at + length c.args.bytes.now) here.has within
 
 pub put_bytes-requires-clause-fits : goal.put_bytes-requires-clause-fits
 put_bytes-requires-clause-fits c =
-    let b = c.self.inside.stock in
-    let file = c.unwrap-file.result in
-    let at = sym c.file_of.ensures ∙ c.unwrap-file.ensures in
-    let within : c.args.at + length c.args.bytes.now ≤ size_in (body_at b file) =
-    rw (sym (body_of_file b c.args.ino file at)) (rw (ap (λ (s : SessionSeen). body_in s c.args.ino) c.self.view_is) c.requires.within) in
+    let s = c.self.inside in
+    let v = c.args.self.now in
+    let ino = c.args.ino in
+    let finds = finds_in s ino (option_map (λ o. (o.0, o.1.now)) c.file_among.result) c.deref.result.now c.deref-2.result.now c.deref.ensures.value c.deref-2.ensures.value c.file_among.ensures in
+    let file = c.unwrap-file.result.0 in
+    let l = c.unwrap-file.result.1.now in
+    let here = has_file v s ino file l c.self.view_is c.self.invariant (found_at s.stock s.laid.items s.made.items ino c.file_among.result c.unwrap-file.result finds c.unwrap-file.ensures) in
+    let within : c.args.at + length c.args.bytes.now ≤ size_in (body_at s.stock file) = subst (λ w. c.args.at + length c.args.bytes.now ≤ size_in w) (sym here.body) c.requires.within in
     omega (arith, within, c.size_of-size.ensures, c.size_of-size.type_inv)
 
 pub invariant_of-self : goal.invariant_of-self
 invariant_of-self c =
-    let b = c.self.inside.stock in
+    let s = c.self.inside in
+    let v = c.args.self.now in
+    let ino = c.args.ino in
+    let finds = finds_in s ino (option_map (λ o. (o.0, o.1.now)) c.file_among.result) c.deref.result.now c.deref-2.result.now c.deref.ensures.value c.deref-2.ensures.value c.file_among.ensures in
+    let file = c.unwrap-file.result.0 in
+    let l = c.unwrap-file.result.1.now in
+    let here = has_file v s ino file l c.self.view_is c.self.invariant (found_at s.stock s.laid.items s.made.items ino c.file_among.result c.unwrap-file.result finds c.unwrap-file.ensures) in
+    let at = c.args.at in
+    let new = c.args.bytes.now in
     let b' = c.put_bytes.new.stock in
-    let ls = c.self.inside.laid.items in
-    let blocks = (chain_at b c.unwrap-file.result c.index.result.now).blocks in
-    let keeps : Keeps b b' ls = subst (λ x. Keeps b x ls) (sym c.put_bytes.ensures) (blocks_keep blocks (c.args.at / 4096) (blocks_under c.args.at (length c.args.bytes.now)) c.args.at c.args.bytes.now b ls) in
-    (keeps.laid c.self.invariant.0, rw keeps.pages c.self.invariant.1, c.self.invariant.2, c.self.invariant.3)
+    let blocks = (chain_at s.stock file l).blocks in
+    let keeps : Keeps s.stock b' = subst (Keeps s.stock) (sym c.put_bytes.ensures) (blocks_keep blocks (at / 4096) (blocks_under at (length new)) at new s.stock) in
+    let within : at + length new ≤ size_in (body_at s.stock file) = subst (λ w. at + length new ≤ size_in w) (sym here.body) c.requires.within in
+    let x = here.found.one in
+    let same : chain_at s.stock x.file x.laid ≡ chain_at s.stock file l = ap (λ f. chain_at s.stock f x.laid) here.found.place ∙ ap (chain_at s.stock file) here.found.laid in
+    let regular : x.kind ≡ Regular = (let t : Some x.kind ≡ Some Regular = sym here.found.kind ∙ c.requires.open in cc t) in
+    let kept = kept_put s.placed s.reads.items s.stock b' s.laid.items s.made.items s.cleared.items s.dirs.items x at new c.self.invariant.0 c.self.invariant.3 c.self.invariant.4 here.found.is regular
+    (subst (λ (ch : Chain). at + length new ≤ 4096 * length ch.blocks) (sym same) (within_chain s.stock file l (at + length new) here.has within))
+    (c.put_bytes.ensures ∙ ap (λ (ch : Chain). put_bytes ch.blocks at new s.stock) (sym same)) in
+    (laid_left s.stock b' s.laid.items keeps.leaves keeps.body c.self.invariant.0, rw (pages_left s.stock b' keeps.leaves) c.self.invariant.1, c.self.invariant.2, kept.0, kept.1, c.self.invariant.5)
 
 pub returns : goal.returns
 unfolding put
 returns c =
-    let b = c.self.inside.stock in
+    let s = c.self.inside in
+    let v = c.args.self.now in
+    let ino = c.args.ino in
+    let finds = finds_in s ino (option_map (λ o. (o.0, o.1.now)) c.file_among.result) c.deref.result.now c.deref-2.result.now c.deref.ensures.value c.deref-2.ensures.value c.file_among.ensures in
+    let file = c.unwrap-file.result.0 in
+    let l = c.unwrap-file.result.1.now in
+    let here = has_file v s ino file l c.self.view_is c.self.invariant (found_at s.stock s.laid.items s.made.items ino c.file_among.result c.unwrap-file.result finds c.unwrap-file.ensures) in
+    let at = c.args.at in
+    let new = c.args.bytes.now in
     let b' = c.put_bytes.new.stock in
-    let ls = c.self.inside.laid.items in
-    let file = c.unwrap-file.result in
-    let l = c.index.result.now in
-    let at = sym c.file_of.ensures ∙ c.unwrap-file.ensures in
-    let lt : file < length ls = rw c.self.invariant.0.beside (place_within b c.args.ino file at) in
-    let blocks = (chain_at b file l).blocks in
-    let keeps : Keeps b b' ls = subst (λ x. Keeps b x ls) (sym c.put_bytes.ensures) (blocks_keep blocks (c.args.at / 4096) (blocks_under c.args.at (length c.args.bytes.now)) c.args.at c.args.bytes.now b ls) in
-    let chain : chain_in (the_view c.self.inside) c.args.ino ≡ chain_at b file l =
-    ap (λ o. option_map_or (λ i. slice_index_or (chains_laid b.writes b.pages ls) i no_chain) o no_chain) at ∙ chain_laid_at b ls file l c.self.invariant.0 lt c.index.ensures in
-    let view : Parcel → List Chain → SessionSeen = λ p cs. record (the_view c.self.inside) { parcel = p; chains = cs } in
-    rw (← c.self.view_is)
-    (ap (view b') keeps.chains
-    ∙ ap (λ p. view p (chains_laid b.writes b.pages ls)) c.put_bytes.ensures
-    ∙ ap (λ (ch : Chain). view (put_bytes ch.blocks c.args.at c.args.bytes.now b) (chains_laid b.writes b.pages ls)) (sym chain))
+    let blocks = (chain_at s.stock file l).blocks in
+    let keeps : Keeps s.stock b' = subst (Keeps s.stock) (sym c.put_bytes.ensures) (blocks_keep blocks (at / 4096) (blocks_under at (length new)) at new s.stock) in
+    view_left s b' keeps.leaves
+    ∙ ap (λ (b : Parcel). record (the_view s) { parcel = b }) (c.put_bytes.ensures ∙ ap (λ (ch : Chain). put_bytes ch.blocks at new s.stock) (here.chain ∙ ap (λ (x : SessionSeen). chain_in x ino) (sym c.self.view_is)))
+    ∙ ap (λ (x : SessionSeen). put ino at new x) c.self.view_is

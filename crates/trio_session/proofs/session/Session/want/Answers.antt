@@ -5,13 +5,16 @@ use Rattle.trio_lists.specs.Lists.{In}
 use Rattle.trio_desk.specs.Out.{Parcel, parcel_of, page_numbers, ino_numbers}
 use Rattle.trio_session.specs.Seen.{SessionSeen, IsOn, has_out}
 use Rattle.trio_session.specs.inner.Places.{AreApart}
-use Rattle.trio_session.specs.inner.Indexes.{AreIndexed}
+use Rattle.trio_session.specs.inner.Made.{AreDirs, AreMade}
 use Rattle.trio_session.specs.inner.Inside.{AreLaid}
 use Rattle.trio_session.specs.inner.Giving.{Allots, Gave, Refused, Unasked, with_given}
-use Rattle.trio_session.proofs.Wants.{given_apart, given_laid, given_chains, given_view, given_on}
+use Rattle.std.specs.Prelude.{◌+◌, vec_capacity}
+use Rattle.trio_session.proofs.Allotted.{kept_given, view_given}
+use Rattle.trio_session.proofs.Kept.{files_of}
+use Rattle.trio_session.proofs.Wants.{given_apart, given_laid, given_view, given_on}
 use Rattle.trio_session.proofs.Desks.{on_still}
 use Rattle.trio_session.specs.contracts.session.Session.{the_view}
-use Rattle.trio_session.specs.Asked.{AfterWant, NoWant}
+use Rattle.trio_session.specs.Asked.{AfterWant, NoWant, TellsAllotment}
 use Rattle.trio_desk.specs.Call.{Allot, Given, NotGiven}
 use Rattle.trio_desk.specs.Calls.{OneCall, Made, NotMade}
 use Rattle.trio_session.proofs.session.Session.want.Goals as goal
@@ -30,10 +33,10 @@ of_parts-requires g c =
     let on : IsOn seen c.args.self.now = c.requires in
     let apart : AreApart p = subst AreApart c.replace.ensures.value c.into_parts-parts.ensures.apart in
     elim (subst (λ q. Allots g.D.Desk.called g.D.Desk.seen c.args.desk.now c.args.pages c.args.inodes c.allot_into-answer.new.desk q p' c.allot_into-answer.result) old c.allot_into-answer.ensures) [
-      | Gave given called seen' fresh kept ok ↦ subst AreApart (sym kept) (given_apart p given seen.lib seen.sizes seen.out apart fresh
+      | Gave given called seen' fresh wanted kept ok ↦ subst AreApart (sym kept) (given_apart p given seen.lib seen.sizes seen.out apart fresh
           (on.out.writes ∙ ap (λ (s : SessionSeen). (has_out s).writes) (sym c.self.view_is))
           (λ n i. (on.out.pages n).1 (subst (λ (s : SessionSeen). In n (has_out s).pages) c.self.view_is i)) c.self.invariant.0.same)
-      | Refused fault called seen' kept err ↦ subst AreApart (sym kept) apart
+      | Refused fault called seen' lack kept err ↦ subst AreApart (sym kept) apart
       | Unasked same kept err ↦ subst AreApart (sym kept) apart
     ]
 
@@ -42,17 +45,27 @@ invariant_of-self g c =
     let p = c.self.inside.stock in
     let p' = parcel_of (bundled c.allot_into-answer.new.parts) in
     let ls = c.self.inside.laid.items in
+    let ms = c.self.inside.made.items in
+    let cs = c.self.inside.cleared.items in
+    let ds = c.self.inside.dirs.items in
+    let reads = c.self.inside.reads.items in
     let seen = g.D.Desk.seen c.args.desk.now in
     let old : parcel_of (bundled c.into_parts-parts.result) ≡ p = c.into_parts-parts.ensures.parts ∙ c.replace.ensures.value in
     let now : c.replace-2.new.dest ≡ p' = c.replace-2.ensures.after ∙ c.of_parts.ensures in
-    let view : Parcel → SessionSeen = λ x. the_view (record c.self.inside { stock = x }) in
-    let room = (view p).room in
-    subst (λ (x : Parcel). AreLaid x ls × (c.self.inside.placed ≤ length x.pages) × (length c.self.inside.calls.items < 4294967296) × AreIndexed c.self.inside.reads.items c.self.inside.dirs.items) (sym now)
+    let on : IsOn seen c.args.self.now = c.requires in
+    let P : Parcel → Type 0 = λ x. AreLaid x ls × (c.self.inside.placed ≤ length x.pages) × (length c.self.inside.calls.items < 4294967296) × AreMade c.self.inside.placed reads (files_of x ls ms cs)
+    × AreDirs reads (files_of x ls ms cs) ds × (length ms + length cs ≤ vec_capacity c.self.inside.cleared) in
+    subst P (sym now)
     (elim (subst (λ q. Allots g.D.Desk.called g.D.Desk.seen c.args.desk.now c.args.pages c.args.inodes c.allot_into-answer.new.desk q p' c.allot_into-answer.result) old c.allot_into-answer.ensures) [
-      | Gave given called seen' fresh kept ok ↦ subst (λ (x : Parcel). AreLaid x ls × (c.self.inside.placed ≤ length x.pages) × (length c.self.inside.calls.items < 4294967296) × AreIndexed c.self.inside.reads.items c.self.inside.dirs.items) (sym kept)
-          (given_laid p ls given c.self.invariant.0, (let le = c.self.invariant.1 in let len = length-append p.pages given.pages.items in omega (arith, le, len)), c.self.invariant.2, c.self.invariant.3)
-      | Refused fault called seen' kept err ↦ subst (λ (x : Parcel). AreLaid x ls × (c.self.inside.placed ≤ length x.pages) × (length c.self.inside.calls.items < 4294967296) × AreIndexed c.self.inside.reads.items c.self.inside.dirs.items) (sym kept) c.self.invariant
-      | Unasked same kept err ↦ subst (λ (x : Parcel). AreLaid x ls × (c.self.inside.placed ≤ length x.pages) × (length c.self.inside.calls.items < 4294967296) × AreIndexed c.self.inside.reads.items c.self.inside.dirs.items) (sym kept) c.self.invariant
+      | Gave given called seen' fresh wanted kept ok ↦
+          let apart = given_apart p given seen.lib seen.sizes seen.out c.self.invariant.3.apart fresh
+          (on.out.writes ∙ ap (λ (s : SessionSeen). (has_out s).writes) (sym c.self.view_is))
+          (λ n i. (on.out.pages n).1 (subst (λ (s : SessionSeen). In n (has_out s).pages) c.self.view_is i)) c.self.invariant.0.same in
+          let both = kept_given c.self.inside.placed reads p ls ms cs given c.self.invariant.0 c.self.invariant.3 apart ds seen.lib seen.sizes seen.out fresh c.self.invariant.4 in
+          let more : c.self.inside.placed ≤ length (with_given p given).pages = (let le = c.self.invariant.1 in let len = length-append p.pages given.pages.items in omega (arith, le, len)) in
+          subst P (sym kept) (given_laid p ls given c.self.invariant.0, more, c.self.invariant.2, both.0, both.1, c.self.invariant.5)
+      | Refused fault called seen' lack kept err ↦ subst P (sym kept) c.self.invariant
+      | Unasked same kept err ↦ subst P (sym kept) c.self.invariant
     ])
 
 pub returns-clause-call : goal.returns-clause-call
@@ -60,23 +73,35 @@ returns-clause-call g c =
     let p = c.self.inside.stock in
     let p' = parcel_of (bundled c.allot_into-answer.new.parts) in
     let ls = c.self.inside.laid.items in
+    let ms = c.self.inside.made.items in
+    let cs = c.self.inside.cleared.items in
+    let reads = c.self.inside.reads.items in
     let seen = g.D.Desk.seen c.args.desk.now in
     let old : parcel_of (bundled c.into_parts-parts.result) ≡ p = c.into_parts-parts.ensures.parts ∙ c.replace.ensures.value in
     let now : c.replace-2.new.dest ≡ p' = c.replace-2.ensures.after ∙ c.of_parts.ensures in
     let view : Parcel → SessionSeen = λ x. the_view (record c.self.inside { stock = x }) in
     let room = (view p).room in
     let s = c.args.self.now in
+    let on : IsOn seen s = c.requires in
+    let d' = g.D.Desk.seen c.allot_into-answer.new.desk in
     subst (λ (x : Parcel). OneCall g.D.Desk.called c.args.desk.now (Allot c.args.pages c.args.inodes) c.allot_into-answer.new.desk
-    (AfterWant s c.allot_into-answer.result (view x)) (NoWant s c.allot_into-answer.result (view x))) (sym now)
+    (λ told. TellsAllotment seen c.args.pages c.args.inodes told d' × AfterWant s c.allot_into-answer.result (view x) told) (NoWant s c.allot_into-answer.result (view x))) (sym now)
     (elim (subst (λ q. Allots g.D.Desk.called g.D.Desk.seen c.args.desk.now c.args.pages c.args.inodes c.allot_into-answer.new.desk q p' c.allot_into-answer.result) old c.allot_into-answer.ensures) [
-      | Gave given called seen' fresh kept ok ↦ Made (Given (page_numbers given.pages.items) (ino_numbers given.inodes.items)) called (
-        ok,
-        ap view kept
-            ∙ ap (λ cs. record (view p) { parcel = with_given p given; chains = cs }) (given_chains p ls given c.self.invariant.0)
-            ∙ ap (λ (x : SessionSeen). record x { parcel = with_given x.parcel given; room = room }) c.self.view_is
-            ∙ ap (λ (x : SessionSeen). record x { room = room }) (given_view s given seen.lib seen.sizes seen.out fresh c.requires.lib),
-      )
-      | Refused fault called seen' kept err ↦ Made (NotGiven fault) called (err, ap view kept ∙ same_room g c)
+      | Gave given called seen' fresh wanted kept ok ↦
+          let apart = given_apart p given seen.lib seen.sizes seen.out c.self.invariant.3.apart fresh
+          (on.out.writes ∙ ap (λ (s : SessionSeen). (has_out s).writes) (sym c.self.view_is))
+          (λ n i. (on.out.pages n).1 (subst (λ (s : SessionSeen). In n (has_out s).pages) c.self.view_is i)) c.self.invariant.0.same in
+          Made (Given (page_numbers given.pages.items) (ino_numbers given.inodes.items)) called (
+            record { seen = seen'; lack = tt; fits = (given, fresh, wanted, refl, refl) },
+            (
+              ok,
+              ap view kept
+                  ∙ view_given c.self.inside given c.self.invariant apart
+                  ∙ ap (λ (x : SessionSeen). record x { parcel = with_given x.parcel given; room = room }) c.self.view_is
+                  ∙ ap (λ (x : SessionSeen). record x { room = room }) (given_view s given seen.lib seen.sizes seen.out fresh c.requires.lib),
+            ),
+          )
+      | Refused fault called seen' lack kept err ↦ Made (NotGiven fault) called (record { seen = seen'; lack = lack; fits = tt }, (err, ap view kept ∙ same_room g c))
       | Unasked same kept err ↦ NotMade same (err, ap view kept ∙ same_room g c)
     ])
 
@@ -84,7 +109,6 @@ pub returns-clause-on : goal.returns-clause-on
 returns-clause-on g c =
     let p = c.self.inside.stock in
     let p' = parcel_of (bundled c.allot_into-answer.new.parts) in
-    let ls = c.self.inside.laid.items in
     let seen = g.D.Desk.seen c.args.desk.now in
     let old : parcel_of (bundled c.into_parts-parts.result) ≡ p = c.into_parts-parts.ensures.parts ∙ c.replace.ensures.value in
     let now : c.replace-2.new.dest ≡ p' = c.replace-2.ensures.after ∙ c.of_parts.ensures in
@@ -95,11 +119,12 @@ returns-clause-on g c =
     let on : IsOn seen s = c.requires in
     subst (λ (x : Parcel). IsOn d' (view x)) (sym now)
     (elim (subst (λ q. Allots g.D.Desk.called g.D.Desk.seen c.args.desk.now c.args.pages c.args.inodes c.allot_into-answer.new.desk q p' c.allot_into-answer.result) old c.allot_into-answer.ensures) [
-      | Gave given called seen' fresh kept ok ↦
-          let cs = (view (with_given p given)).chains in
-          subst (λ (x : Parcel). IsOn d' (view x)) (sym kept)
-          (subst (IsOn d') (sym (ap (λ (x : SessionSeen). record x { parcel = with_given x.parcel given; chains = cs; room = room }) c.self.view_is))
-          (given_on seen d' c.args.pages c.args.inodes s given cs room seen' fresh on))
-      | Refused fault called seen' kept err ↦ subst (IsOn d') (sym (ap view kept ∙ c.self.view_is)) (on_still seen d' (Allot c.args.pages c.args.inodes) (NotGiven fault) s seen' refl on)
+      | Gave given called seen' fresh wanted kept ok ↦
+          let apart = given_apart p given seen.lib seen.sizes seen.out c.self.invariant.3.apart fresh
+          (on.out.writes ∙ ap (λ (s : SessionSeen). (has_out s).writes) (sym c.self.view_is))
+          (λ n i. (on.out.pages n).1 (subst (λ (s : SessionSeen). In n (has_out s).pages) c.self.view_is i)) c.self.invariant.0.same in
+          subst (IsOn d') (sym (ap view kept ∙ view_given c.self.inside given c.self.invariant apart ∙ ap (λ (x : SessionSeen). record x { parcel = with_given x.parcel given; room = room }) c.self.view_is))
+          (given_on seen d' c.args.pages c.args.inodes s given s.chains room seen' fresh on)
+      | Refused fault called seen' lack kept err ↦ subst (IsOn d') (sym (ap view kept ∙ c.self.view_is)) (on_still seen d' (Allot c.args.pages c.args.inodes) (NotGiven fault) s seen' refl on)
       | Unasked same kept err ↦ subst (IsOn d') (sym (ap view kept ∙ c.self.view_is)) (subst (λ d. IsOn (g.D.Desk.seen d) s) (sym same) on)
     ])

@@ -1,6 +1,0 @@
-use Rattle.std.proofs.Common.{◌≡◌, ◌++◌, take}
-use Rattle.trio_app.specs.Report.{answers_text}
-use Rattle.trio_app.proofs.run.put_answers.Given as goal
-
-abbrev pub invariant-loop-at : goal.invariant-loop-at
-invariant-loop-at l = l.text.items ≡ l.fn.text.items ++ answers_text (take l.at l.lines) (take l.at l.answers)

@@ -1,0 +1,160 @@
+-- A call on one name, from its walk into the directory of its path on.
+use Rattle.std.proofs.Common.{◌≡◌, ℕ, true, false, cond, List, [], ◌∷◌, ◌++◌, Option, Some, None, Result, Ok, Err, sym, refl, ap, ◌∙◌, subst, inl}
+use Rattle.std.specs.Prelude.{map, is_some}
+use Rattle.std.proofs.lemmas.List.{append-nil, map-append}
+use Rattle.trio_rights.specs.declared.kind.Kind.{Kind}
+use Rattle.trio_rights.specs.declared.kind.Kind.TheVariants.{Directory, Regular}
+use Rattle.trio_rights.specs.declared.rights.Creds.{Creds}
+use Rattle.trio_nodes.specs.declared.grant.GrantKind.TheVariants.{Write as ToWrite}
+use Rattle.trio_nodes.specs.declared.call.Call.{Call}
+use Rattle.trio_nodes.specs.declared.call.Done.{Done}
+use Rattle.trio_nodes.specs.declared.call.Reply.TheVariants.{Denied, IsDir}
+use Rattle.trio_lease.specs.Shown.{Shown}
+use Rattle.std.specs.Option.{option_map, option_or}
+use Rattle.trio_nodes.specs.Nodes.{Nodes}
+use Rattle.trio_nodes.specs.Walk.{Path, dir_of, is_root, need_at, walk_into}
+use Rattle.trio_nodes.specs.After.{batch_nodes}
+use Rattle.trio_desk.specs.Call.{Ask, DeskSeen, Told}
+use Rattle.trio_desk.specs.Calls as desk_calls
+use Rattle.trio_desk.specs.Ready.{ArePossible}
+use Rattle.trio_laws.specs.session.DirCalls.{ComesInto, early_refusal, name_path, write_paths}
+use Rattle.trio_laws.proofs.session.DirCalls.{name_refused_by_walk, needs_write}
+use Rattle.trio_session.specs.Seen.{IsOpenDir, SessionSeen, open_kind, read_file}
+use Rattle.trio_edit_laws.specs.Calls.{MayCall}
+use Rattle.trio_walk.specs.declared.walks.WalkEnd.{WalkEnd}
+use Rattle.trio_walk.specs.declared.walks.WalkEnd.TheVariants.{At, Reply as IsReply, Busy as IsBusyWalk, NoMemory as NoWalkMemory}
+use Rattle.trio_walk.specs.Needs.{Needed, asked, into_needs, kind_for, reached_by}
+use Rattle.trio_walk.specs.Walks.{InAllShown, IsHad, IsStopped, MayWalk, Walked, WalksInto, WalksTo, Way, lent_call, need_of, served_by, shows_root}
+use Rattle.trio_walk.specs.Asks.{IsAlike, grant_ask, took}
+use Rattle.trio_walk.specs.declared.outcome.Outcome.{Outcome}
+use Rattle.trio_calls_dir.specs.declared.replies.Replied as replied
+use Rattle.trio_calls_dir.specs.declared.stops.Stop.{Stop}
+use Rattle.trio_calls_dir.specs.Asks.{dir_needs}
+use Rattle.trio_calls_dir.specs.inner.Goes.{Goes, StopsBy, Went, number_made, removing, try_ends}
+use Rattle.trio_calls_dir.proofs.Alike.{alike_then}
+use Rattle.trio_calls_dir.proofs.Ends.{BeginsWith, stop_goes}
+use Rattle.trio_calls_dir.proofs.Then.{asked_then, asks_lent, goes_on}
+use Rattle.trio_calls_dir.proofs.Walked.{way_went}
+
+-- ---- calls on one name
+
+-- the call is on this path's name alone, and the directory of the path is written
+pub record IsOneName (call : Call) (path : Path) : Type 0 where
+  pub on : name_path call ≡ Some path
+  pub early : early_refusal call ≡ None
+  pub writes : write_paths call ≡ dir_of path ∷ []
+
+pub removing_one : (kind : Kind) (path : Path) → is_root path ≡ false → IsOneName (removing kind path) path
+removing_one Directory path e = record { on = refl; early = ap (λ b. cond b (Some Denied) None) e; writes = refl }
+removing_one Regular path e = record { on = refl; early = ap (λ b. cond b (Some IsDir) None) e; writes = refl }
+
+-- a directory that is had for writing is open
+pub open_had : (s : SessionSeen) (dir : ℕ) → IsHad s dir ToWrite → IsOpenDir s dir
+open_had s dir h = record { directory = by (open_kind s dir) refl; index = h.indexed }
+  where
+    by : (o : Option Kind) → open_kind s dir ≡ o → open_kind s dir ≡ Some Directory
+    by (Some k) e =
+        let same : Some k ≡ Some Directory = sym (ap (λ o. option_or o (option_map (λ (f : Shown). f.kind) (read_file s dir))) e) ∙ h.directory in
+        e ∙ same
+    by None e = absurd (let wrong : false ≡ true = sym (ap is_some e) ∙ h.served in cc wrong)
+
+pub open_into : (s : SessionSeen) (path : Path) (dir : ℕ) → IsHad s dir (kind_for (need_at (path ∷ []) path)) → IsOpenDir s dir
+open_into s path dir h = open_had s dir (subst (λ n. IsHad s dir (kind_for n)) (needs_write (path ∷ []) path (inl refl)) h)
+
+-- the walk with the paths that are meant
+pub walked_as : {D : Type 0} (called : D → Ask → Told → D → Type 0) (seen : D → DeskSeen) (d : D) (s : SessionSeen) (d1 : D) (s1 : SessionSeen) (p q dir : Path) → p ≡ dir → q ≡ dir → (end : WalkEnd)
+    → Walked called seen d s (WalksInto (seen d1) s (p ∷ []) q end) end d1 s1 → Walked called seen d s (WalksInto (seen d1) s (dir ∷ []) dir end) end d1 s1
+walked_as called seen d s d1 s1 p q dir ep eq end w =
+    subst (λ (x : Path). Walked called seen d s (WalksInto (seen d1) s (dir ∷ []) x end) end d1 s1) eq
+    (subst (λ (x : Path). Walked called seen d s (WalksInto (seen d1) s (x ∷ []) q end) end d1 s1) ep w)
+
+pub had_as : (s : SessionSeen) (p q dir : Path) → p ≡ dir → q ≡ dir → (n : ℕ) → IsHad s n (kind_for (need_at (p ∷ []) q)) → IsOpenDir s n
+had_as s p q dir ep eq n h =
+    open_into s dir n (subst (λ (x : Path). IsHad s n (kind_for (need_at (dir ∷ []) x))) eq (subst (λ (x : Path). IsHad s n (kind_for (need_at (x ∷ []) q))) ep h))
+
+pub open_alike : (s s' : SessionSeen) (dir k : ℕ) → s' ≡ record s { finds = k } → IsOpenDir s dir → IsOpenDir s' dir
+open_alike s s' dir k e o = subst (λ (q : SessionSeen). IsOpenDir q dir) (sym e) (record { directory = o.directory; index = o.index })
+
+module _ {D : Type 0} (called : D → Ask → Told → D → Type 0) (seen : D → DeskSeen) (d : D) (s : SessionSeen) (call : Call) (path : Path) (one : IsOneName call path) (may : MayCall (seen d) s) (d1 : D) (s1 : SessionSeen)
+    (F : Nodes → ℕ → List Needed)
+    (needs_are : (now : Nodes) (creds : Creds) → dir_needs now creds (shows_root s) call
+    ≡ into_needs now creds (shows_root s) (dir_of path ∷ []) (dir_of path) ++ reached_by (walk_into now creds (dir_of path ∷ []) (dir_of path)) (F now)) where
+  abbrev first : Nodes → List Needed
+  first now = into_needs now (seen d1).creds (shows_root s) (dir_of path ∷ []) (dir_of path)
+
+  abbrev ending : WalkEnd → Type 0
+  ending end = Walked called seen d s (WalksInto (seen d1) s (dir_of path ∷ []) (dir_of path) end) end d1 s1
+
+  -- ---- where the walk has entered the directory
+
+  module _ (dir : ℕ) (w : ending (At dir)) (walks : MayWalk (seen d1) s1) (s2 : SessionSeen) (near : IsAlike s1 s2) where
+    went1 : Went called seen d s (map lent_call w.more) d1 s1
+    went1 = way_went called seen d s w.more d1 s1 may (subst (λ l. Way called seen d s w.more l d1 s1) w.ends.0 w.way) walks
+
+    pub went_into : Went called seen d s (map lent_call w.more) d1 s2
+    went_into = record {
+      each = went1.each;
+      made = went1.made;
+      alike = alike_then (took s (map (λ (c : desk_calls.Call). c.told) (map lent_call w.more))) s1 s2 went1.alike near;
+      calls = ap (λ (q : SessionSeen). q.calls) near ∙ went1.calls;
+      same = went1.same;
+      more = λ nodes rows p. went1.more nodes rows (subst (λ (q : SessionSeen). ArePossible (seen d1) q.parcel q.reads nodes rows) near p);
+    }
+
+    walked_to : InAllShown (seen d1) s1 (λ now. walk_into now (seen d1).creds (dir_of path ∷ []) (dir_of path) ≡ Ok dir)
+    walked_to nodes rows p = (w.shown nodes rows p).walks
+
+    over : (P : Nodes → Type 0) → InAllShown (seen d1) s1 P → InAllShown (seen d1) s2 P
+    over P h nodes rows p =
+        subst (λ (cs : List Done). P (batch_nodes (seen d1).creds cs nodes)) (sym (ap (λ (q : SessionSeen). q.calls) near))
+        (h nodes rows (subst (λ (q : SessionSeen). ArePossible (seen d1) q.parcel q.reads nodes rows) near p))
+
+    pub comes_into : InAllShown (seen d1) s2 (λ now. ComesInto now (seen d1).creds call path dir)
+    comes_into =
+        over (λ now. ComesInto now (seen d1).creds call path dir)
+        (λ nodes rows p. record {
+          on = one.on;
+          early = one.early;
+          into = ap (λ ws. walk_into (batch_nodes (seen d1).creds s1.calls nodes) (seen d1).creds ws (dir_of path)) one.writes ∙ walked_to nodes rows p;
+        })
+
+    wanted : InAllShown (seen d1) s1 (λ now. map grant_ask (asked (served_by s) (dir_needs now (seen d1).creds (shows_root s) call)) ≡ map (λ (c : desk_calls.Call). c.ask) (map lent_call w.more) ++ map grant_ask (asked (served_by s2) (F now dir)))
+    wanted nodes rows p =
+        let now : Nodes = batch_nodes (seen d1).creds s1.calls nodes in
+        let these : asked (served_by s) (first now) ≡ map need_of w.more = (w.shown nodes rows p).asks ∙ ap (λ l. map need_of w.more ++ l) w.ends.1 ∙ append-nil (map need_of w.more) in
+        let whole : dir_needs now (seen d1).creds (shows_root s) call ≡ first now ++ F now dir =
+        needs_are now (seen d1).creds ∙ ap (λ r. first now ++ reached_by r (F now)) (walked_to nodes rows p) in
+        let served : asked (served_by s1) (F now dir) ≡ asked (served_by s2) (F now dir) = sym (ap (λ (q : SessionSeen). asked (served_by q) (F now dir)) near) in
+        ap (λ l. map grant_ask (asked (served_by s) l)) whole
+        ∙ ap (map grant_ask) (asked_then s s1 w.more w.way.took w.way.as_lent (first now) (F now dir) these ∙ ap (λ l. map need_of w.more ++ l) served)
+        ∙ map-append grant_ask (map need_of w.more) (asked (served_by s2) (F now dir))
+        ∙ ap (λ l. l ++ map grant_ask (asked (served_by s2) (F now dir))) (asks_lent w.more)
+
+    -- what is done in the directory goes with the walk
+    pub one_goes : (end : Outcome) (number : ℕ) (d' : D) (s' : SessionSeen) → Goes called seen d1 s2 call (λ now. F now dir) end number d' s'
+        → Goes called seen d s call (λ now. dir_needs now (seen d').creds (shows_root s) call) end number d' s'
+    one_goes end number d' s' goes =
+        subst (λ (k : Creds). Goes called seen d s call (λ now. dir_needs now k (shows_root s) call) end number d' s') (sym goes.same.creds)
+        (goes_on called seen d d1 d' s s2 s' call (map lent_call w.more) went_into end number (λ now. dir_needs now (seen d1).creds (shows_root s) call) (λ now. F now dir)
+        (over (λ now. map grant_ask (asked (served_by s) (dir_needs now (seen d1).creds (shows_root s) call)) ≡ map (λ (c : desk_calls.Call). c.ask) (map lent_call w.more) ++ map grant_ask (asked (served_by s2) (F now dir))) wanted) goes)
+
+  -- ---- where it has come to no file
+
+  begins_with : (end : WalkEnd) (now : Nodes) → WalksTo end (walk_into now (seen d1).creds (dir_of path ∷ []) (dir_of path)) → BeginsWith end (first now) (dir_needs now (seen d1).creds (shows_root s) call)
+  begins_with (IsReply reply) now e = needs_are now (seen d1).creds ∙ ap (λ r. first now ++ reached_by r (F now)) e ∙ append-nil (first now)
+  begins_with (At n) now e = (reached_by (walk_into now (seen d1).creds (dir_of path ∷ []) (dir_of path)) (F now), needs_are now (seen d1).creds)
+  begins_with (IsBusyWalk holder) now e = (reached_by (walk_into now (seen d1).creds (dir_of path ∷ []) (dir_of path)) (F now), needs_are now (seen d1).creds)
+  begins_with NoWalkMemory now e = (reached_by (walk_into now (seen d1).creds (dir_of path ∷ []) (dir_of path)) (F now), needs_are now (seen d1).creds)
+
+  pub one_stops : (end : WalkEnd) (w : ending end) → MayWalk (seen d1) s1 → (s2 : SessionSeen) → s2 ≡ record s1 { room = s2.room } → IsStopped end → (result : Result replied.Replied Stop) → StopsBy end result s2
+      → Goes called seen d s call (λ now. dir_needs now (seen d1).creds (shows_root s) call) (try_ends result) (number_made result) d1 s2
+  one_stops end w walks s2 kept st result by =
+      stop_goes called seen d s call first (λ now. dir_needs now (seen d1).creds (shows_root s) call) may d1 s1 s2 (WalksInto (seen d1) s (dir_of path ∷ []) (dir_of path) end) end w walks kept st
+      (λ nodes rows p. (w.shown nodes rows p).asks)
+      (λ nodes rows p. begins_with end (batch_nodes (seen d1).creds s1.calls nodes) (w.shown nodes rows p).walks)
+      (λ reply is nodes rows p.
+      let now : Nodes = batch_nodes (seen d1).creds s1.calls nodes in
+      let walked : walk_into now (seen d1).creds (dir_of path ∷ []) (dir_of path) ≡ Err reply = subst (λ e. WalksTo e (walk_into now (seen d1).creds (dir_of path ∷ []) (dir_of path))) is (w.shown nodes rows p).walks in
+      name_refused_by_walk (seen d1) (record { call = call; reply = reply; made = 0 }) now path one.on one.early
+      (ap (λ ws. walk_into now (seen d1).creds ws (dir_of path)) one.writes ∙ walked) refl)
+      result by

@@ -1,0 +1,428 @@
+-- A file that is had goes with its slot, where it has no entries.
+use Rattle.std.proofs.Common.{◌≡◌, ℕ, zero, suc, ◌+◌, ◌<◌, arith, Bool, true, false, cond, eqb, ltb, ltb-false, List, [], ◌∷◌, ◌++◌, length, Option, Some, None, Result, Ok, Err, sym, refl, ap, ◌∙◌, subst, inl, inr}
+use Rattle.std.specs.Prelude.{MatchResult, ◌*◌, count_by, is_some, not}
+use Rattle.std.specs.Option.{option_map, option_map_or, option_or}
+use Rattle.std.proofs.lemmas.Simd.{map-map}
+use Rattle.std.proofs.lemmas.Bool.{cases_eq, eqb-true, false≢true}
+use Rattle.std.proofs.lemmas.List.Sums.{sum_by-cons}
+use Rattle.trio_lists.specs.Lists.{In}
+use Rattle.trio_lists.proofs.Filters.{find-In, some_one}
+use Rattle.trio_lists.proofs.Members.{In-cases}
+use Rattle.trio_auxdir.specs.declared.place.Place.{Place}
+use Rattle.trio_page.specs.Field.{with_part, zeros}
+use Rattle.trio_rights.specs.Row.{Row}
+use Rattle.trio_rights.specs.declared.kind.Kind.{Kind}
+use Rattle.trio_rights.specs.declared.kind.Kind.TheVariants.{Directory, Regular}
+use Rattle.trio_rights.specs.declared.rights.Creds.{Creds}
+use Rattle.trio_lease.specs.Shown.{LentFile, Shown}
+use Rattle.trio_lease.specs.declared.parts.HoldParts.{HoldParts}
+use Rattle.trio_nodes.specs.declared.call.Answer.TheVariants.{Done as IsDone}
+use Rattle.trio_nodes.specs.declared.call.Call.{Call}
+use Rattle.trio_nodes.specs.declared.call.Call.TheVariants.{Rmdir, Unlink}
+use Rattle.trio_nodes.specs.declared.call.Done.{Done}
+use Rattle.trio_nodes.specs.declared.call.Reply.{Reply}
+use Rattle.trio_nodes.specs.declared.call.Reply.TheVariants.{Ok as IsReplied, IsDir, NotDir, NotEmpty}
+use Rattle.trio_nodes.specs.declared.node.Node.{Node}
+use Rattle.trio_nodes.specs.Nodes.{Nodes, count_in, find_named, is_in, node_at, with_node}
+use Rattle.trio_nodes.specs.Tree.{IsDirectory, IsTree}
+use Rattle.trio_nodes.specs.Walk.{Path, dir_of, is_directory, name_of, walk_into}
+use Rattle.trio_nodes.specs.After.{batch_nodes}
+use Rattle.trio_nodes.specs.Apply.{applied, is_done}
+use Rattle.trio_nodes.specs.Legal.{LegalCalls}
+use Rattle.trio_onetree.proofs.Children.{child-counts, find_named-Child}
+use Rattle.trio_onetree.proofs.TreePut.{tree_without}
+use Rattle.trio_desk.specs.Call.{Ask, DeskSeen, Told}
+use Rattle.trio_desk.specs.Contents.{rights_of}
+use Rattle.trio_desk.specs.Edits.{DoesCall, MayShow}
+use Rattle.trio_desk.specs.Agrees.{Agrees, HasPlaces}
+use Rattle.trio_desk.specs.Out.{Parcel, ino_numbers}
+use Rattle.trio_desk.specs.Ready.{ArePossible, ComesToShown, leases_in, parcel_case}
+use Rattle.trio_desk.specs.Shows.{Shows}
+use Rattle.trio_laws.specs.session.DirCalls.{ComesInto, write_paths}
+use Rattle.trio_laws.proofs.session.Calls.{batch_more, reply_more}
+use Rattle.trio_laws.proofs.session.DirCalls.{refused_at_entry, removes_entry}
+use Rattle.trio_session.specs.Layout.{cleared as cleared_slot, file_with, page_in, with_page}
+use Rattle.trio_session.specs.Seen.{MadeFile, Room, SessionSeen, block_number, children_shown, clear, entry_count, held_file, in_hand, made_children, made_file, number_shown, open_kind, place_shown, slots_shown, without_made, written_file}
+use Rattle.trio_edit_laws.specs.Calls.{MayCall}
+use Rattle.trio_edit_laws.specs.DirLaws.{Changes, LeavesCleared, StaysTree}
+use Rattle.trio_edit_laws.proofs.Shown.{shown_by}
+use Rattle.trio_edit_laws.proofs.directories.Cleared.{clear_leaves, clear_shows}
+use Rattle.trio_edit_laws.proofs.directories.Sees.{sees_directory}
+use Rattle.trio_walk.specs.declared.met.Met.{Met}
+use Rattle.trio_walk.specs.Walks.{InAllShown}
+use Rattle.trio_walk.specs.Asks.{IsAlike, noted}
+use Rattle.trio_walk.specs.declared.outcome.Outcome.TheVariants.{Replied}
+use Rattle.trio_calls_dir.specs.declared.replies.Replied as replied
+use Rattle.trio_calls_dir.specs.declared.stops.Stop.{Stop}
+use Rattle.trio_calls_dir.specs.declared.stops.Stop.TheVariants.{NoMemory as LacksMemory}
+use Rattle.trio_calls_dir.specs.Asks.{ComesBy, ComesTo, Target, edited, made_by, wants_of}
+use Rattle.trio_calls_dir.specs.inner.Goes.{Goes, IsRefusedAs, number_made, removing, try_ends}
+use Rattle.trio_calls_dir.proofs.Alike.{alike_room, alike_then, may_alike}
+use Rattle.trio_calls_dir.proofs.Ends.{edit_called, lacks, refused_goes}
+use Rattle.trio_calls_dir.proofs.RemovesCount.{held_count}
+use Rattle.trio_calls_dir.proofs.RemovesTake.{MayClear}
+use Rattle.trio_calls_dir.proofs.Then.{edited_alike}
+
+-- ---- entries that are counted
+
+-- where some are counted there is one
+counted_one : (p : Option Node → Bool) (xs : Nodes) → 0 < count_by p xs → (n : ℕ) × (p (node_at xs n) ≡ true)
+counted_one p [] l = absurd (omega (arith, l))
+counted_one p (x ∷ xs) l = by (counted_one p xs) (p x) refl
+  where
+    by : (0 < count_by p xs → (n : ℕ) × (p (node_at xs n) ≡ true)) → (b : Bool) → p x ≡ b → (n : ℕ) × (p (node_at (x ∷ xs) n) ≡ true)
+    by later true e = (0, e)
+    by later false e =
+        let c : count_by p (x ∷ xs) ≡ cond (p x) 1 0 + count_by p xs = sum_by-cons (λ y. cond (p y) 1 0) x xs in
+        let here : ◌≡◌ {A = ℕ} (cond (p x) 1 0) 0 = ap (λ t. cond t 1 0) e in
+        let rest = later (omega (arith, l, c, here)) in (suc rest.0, rest.1)
+
+pub above_none : (k : ℕ) → (k ≡ 0 → ⊥) → 0 < k
+above_none zero not0 = absurd (not0 refl)
+above_none (suc k) not0 = omega arith
+
+-- a number above 0
+some_above : (k : ℕ) → 0 < k → ltb 0 k ≡ true
+some_above k some = by (ltb 0 k) refl
+  where
+    by : (b : Bool) → ltb 0 k ≡ b → b ≡ true
+    by true e = refl
+    by false e = (let none = ltb-false 0 k e in absurd (omega (arith, none, some)))
+
+-- a regular file has no entries
+regular_leaf : (nodes : Nodes) → IsTree nodes → (n : ℕ) (x : Node) → node_at nodes n ≡ Some x → x.kind ≡ Regular → (m : ℕ) (z : Node) → node_at nodes m ≡ Some z → z.parent ≡ n → ⊥
+regular_leaf nodes tree n x at kind m z there parent =
+    elim (cases_eq m 1) [
+      | inl one ↦
+          let r = tree.root in
+          let same : z ≡ r.0 = some_one (node_at nodes 1) z r.0 (ap (node_at nodes) (sym one) ∙ there) r.1 in
+          let low : n ≡ 0 = sym parent ∙ ap (λ (q : Node). q.parent) same ∙ r.3 in
+          let wrong : None ≡ Some x = sym tree.none ∙ ap (node_at nodes) (sym low) ∙ at in cc wrong
+      | inr other ↦
+          let is : IsDirectory (node_at nodes n) = subst (λ k. IsDirectory (node_at nodes k)) parent (tree.parents m z there other) in
+          let directory : x.kind ≡ Directory = subst IsDirectory at is in
+          let wrong : Regular ≡ Directory = sym kind ∙ directory in cc wrong
+    ]
+
+-- ---- leases after a slot was cleared
+
+leases_with : (n : ℕ) (w : List ℕ) (b : Parcel) (back : List Shown) → leases_in (with_page n w b) back ≡ leases_in b back
+unfolding with_page
+leases_with n w b back = ap (λ l. record { files = l ++ back; holds = b.holds }) (map-map (λ (f : LentFile). f.lent) (file_with n w) b.writes)
+
+-- bytes that are written leave what is possible
+possible_with : (desk : DeskSeen) (n : ℕ) (w : List ℕ) (b : Parcel) (back : List Shown) (nodes : Nodes) (rows : List (Option Row)) → ArePossible desk (with_page n w b) back nodes rows → ArePossible desk b back nodes rows
+unfolding with_page
+possible_with desk n w b back nodes rows p = record {
+  tree = p.tree;
+  agrees = subst (λ q. Agrees desk.sizes desk.root q nodes) (leases_with n w b back) p.agrees;
+  none = p.none;
+  same = p.same;
+  places = subst (λ q. HasPlaces desk.sizes q rows) (leases_with n w b back) p.places;
+}
+
+possible_clear : (desk : DeskSeen) (s : SessionSeen) (dir : ℕ) (name : List ℕ) (place : Place) → place_shown s dir name ≡ Some place → (nodes : Nodes) (rows : List (Option Row))
+    → ArePossible desk (clear dir name s).parcel (clear dir name s).reads nodes rows → ArePossible desk s.parcel s.reads nodes rows
+unfolding clear
+possible_clear desk s dir name place there nodes rows p =
+    possible_with desk (block_number s dir place.block) (with_part (256 * place.slot) (zeros 4) (page_in s.parcel (block_number s dir place.block))) s.parcel s.reads nodes rows
+    (subst
+    (λ (o : Option Place). (let q : SessionSeen = option_map_or (λ at. record (without_made (number_shown s dir at) s) { parcel = cleared_slot (block_number s dir at.block) at.slot s.parcel }) o s in ArePossible desk q.parcel q.reads nodes rows))
+    there p)
+
+-- ---- what the call does to the file
+
+does_remove : (desk : DeskSeen) (kind : Kind) (path : Path) (now : Nodes) (dir n : ℕ) (x : Node) → ComesInto now desk.creds (removing kind path) path dir → find_named now dir (name_of path) ≡ Some n
+    → node_at now n ≡ Some x → x.kind ≡ kind → (kind ≡ Directory → count_in now n ≡ 0) → DoesCall desk (record { call = removing kind path; reply = IsReplied IsDone; made = 0 }) now (with_node now n None)
+does_remove desk Directory path now dir n x comes found at is none =
+    removes_entry desk (record { call = Rmdir path; reply = IsReplied IsDone; made = 0 }) now path dir n (rights_of x) 0 comes refl found (ap (option_map rights_of) at) (none refl)
+    (ap (λ k. cond {A = Option Reply} (not (is_directory k)) (Some NotDir) None) is) refl refl
+does_remove desk Regular path now dir n x comes found at is none =
+    removes_entry desk (record { call = Unlink path; reply = IsReplied IsDone; made = 0 }) now path dir n (rights_of x) (count_in now n) comes refl found (ap (option_map rights_of) at) refl
+    (ap (λ k. cond {A = Option Reply} (is_directory k) (Some IsDir) None) is) refl refl
+
+-- one with entries isn't removed
+refuses_full : (desk : DeskSeen) (path : Path) (now : Nodes) (dir n count : ℕ) (x : Node) → ComesInto now desk.creds (Rmdir path) path dir → find_named now dir (name_of path) ≡ Some n
+    → node_at now n ≡ Some x → x.kind ≡ Directory → count_in now n ≡ count → 0 < count → IsRefusedAs desk (Rmdir path) NotEmpty now
+refuses_full desk path now dir n count x comes found at is many some =
+    refused_at_entry desk (record { call = Rmdir path; reply = NotEmpty; made = 0 }) now path dir n (rights_of x) count comes found (ap (option_map rights_of) at) many
+    (ap (λ k. cond {A = Option Reply} (not (is_directory k)) (Some NotDir) (cond (ltb 0 count) (Some NotEmpty) None)) is ∙ ap (λ b. cond {A = Option Reply} b (Some NotEmpty) None) (some_above count some)) refl
+
+leaves_kind : (kind : Kind) (path : Path) (creds : Creds) (t : Target) (s : SessionSeen) → edited creds (removing kind path) t s ≡ clear t.dir (name_of path) s
+leaves_kind Directory path creds t s = refl
+leaves_kind Regular path creds t s = refl
+
+made_none : (kind : Kind) (path : Path) (t : Target) → ◌≡◌ {A = ℕ} 0 (made_by (removing kind path) t)
+made_none Directory path t = refl
+made_none Regular path t = refl
+
+wants_kind : (kind : Kind) (path : Path) (now : Nodes) (creds : Creds) (t : Target) (s : SessionSeen) → wants_of now creds (removing kind path) t s ≡ []
+wants_kind Directory path now creds t s = by (is_done (applied now creds (Rmdir path) 0).reply)
+  where
+    by : (b : Bool) → cond {A = List Ask} b [] [] ≡ []
+    by true = refl
+    by false = refl
+wants_kind Regular path now creds t s = by (is_done (applied now creds (Unlink path) 0).reply)
+  where
+    by : (b : Bool) → cond {A = List Ask} b [] [] ≡ []
+    by true = refl
+    by false = refl
+
+comes_kind : (kind : Kind) (path : Path) (now : Nodes) (creds : Creds) (t : Target) → walk_into now creds (write_paths (removing kind path)) (dir_of path) ≡ Ok t.dir → ComesTo t now creds (removing kind path)
+comes_kind Directory path now creds t e = e
+comes_kind Regular path now creds t e = e
+
+module _ (desk : DeskSeen) (s : SessionSeen) (call : Call) (path : Path) (dir : ℕ) (file : Met) (m : MayClear desk s call path dir file) where
+  abbrev shown_at : Nodes → Nodes
+  shown_at nodes = batch_nodes desk.creds s.calls nodes
+
+  shown_now : InAllShown desk s (λ now. (nodes : Nodes) × (rows : List (Option Row)) × MayShow desk (in_hand s) (in_hand s) nodes now rows)
+  shown_now nodes rows p = (nodes, rows, shown_by desk (in_hand s) (in_hand s) s.calls nodes rows (λ n q z. z) m.may.comes p)
+
+  -- a file that was made has the kind that was met
+  made_kind : (f : MadeFile) → made_file s file.ino ≡ Some f → InAllShown desk s (λ now. f.kind ≡ file.kind)
+  made_kind f e nodes rows p =
+      let x = m.node nodes rows p in
+      let opens : open_kind s file.ino ≡ Some f.kind = ap (λ (o : Option MadeFile). option_or (option_map (λ (z : MadeFile). z.kind) o) (option_map (λ z. z.kind) (written_file s file.ino))) e in
+      let same : Some x.0.kind ≡ Some f.kind = sym (ap (option_map (λ (z : Node). z.kind)) x.1) ∙ m.walks.kinds file.ino f.kind opens nodes rows p in
+      let is : x.0.kind ≡ f.kind = cc same in sym is ∙ x.2
+
+  module _ (k : ℕ) (children : children_shown s file.ino ≡ Some k) where
+    -- of a held file the hold tells how many entries it has
+    held_has : made_file s file.ino ≡ None → InAllShown desk s (λ now. count_in now file.ino ≡ k)
+    held_has none nodes rows p = by (held_file s file.ino) refl
+      where
+        by : (o : Option HoldParts) → held_file s file.ino ≡ o → count_in (shown_at nodes) file.ino ≡ k
+        by None e =
+            let wrong : None ≡ Some k =
+            sym (ap (λ (q : Option MadeFile). option_or (option_map (made_children s) q) (option_map (λ (h : HoldParts). h.children) (held_file s file.ino))) none
+            ∙ ap (λ (q : Option HoldParts). option_map (λ (h : HoldParts). h.children) q) e) ∙ children in absurd (cc wrong)
+        by (Some h) e =
+            let i = find-In (λ (z : HoldParts). eqb z.ino file.ino) s.parcel.holds h e in
+            let same : Some h.children ≡ Some k =
+            sym (ap (λ (q : Option MadeFile). option_or (option_map (made_children s) q) (option_map (λ (z : HoldParts). z.children) (held_file s file.ino))) none
+            ∙ ap (λ (q : Option HoldParts). option_map (λ (z : HoldParts). z.children) q) e) ∙ children in
+            let v = shown_now nodes rows p in
+            let is : h.children ≡ k = cc same in
+            ap (count_in (shown_at nodes)) (sym (eqb-true h.ino file.ino i.1))
+            ∙ held_count desk (in_hand s) (in_hand s) v.0 (shown_at nodes) v.1 h (record { order = m.may.edits.order; more = λ n q z. z; shows = v.2 }) i.0
+            ∙ is
+
+    made_has : (f : MadeFile) → made_file s file.ino ≡ Some f → made_children s f ≡ k
+    made_has f e =
+        let same : Some (made_children s f) ≡ Some k =
+        sym (ap (λ (q : Option MadeFile). option_or (option_map (made_children s) q) (option_map (λ (h : HoldParts). h.children) (held_file s file.ino))) e) ∙ children in cc same
+
+    -- so many entries a directory has
+    dir_has : file.kind ≡ Directory → InAllShown desk s (λ now. count_in now file.ino ≡ k)
+    dir_has is nodes rows p = by (made_file s file.ino) refl
+      where
+        by : (o : Option MadeFile) → made_file s file.ino ≡ o → count_in (shown_at nodes) file.ino ≡ k
+        by None e = held_has e nodes rows p
+        by (Some f) e =
+            let kind : f.kind ≡ Directory = made_kind f e nodes rows p ∙ is in
+            let number : f.ino ≡ file.ino = eqb-true f.ino file.ino (find-In (λ (z : MadeFile). eqb z.ino file.ino) s.made f e).1 in
+            let opens : open_kind s file.ino ≡ Some Directory =
+            ap (λ (o : Option MadeFile). option_or (option_map (λ (z : MadeFile). z.kind) o) (option_map (λ z. z.kind) (written_file s file.ino))) e ∙ ap Some kind in
+            let v = shown_now nodes rows p in
+            (sees_directory desk s file.ino v.0 (shown_at nodes) v.1 m.may.edits opens v.2).count
+            ∙ ap (λ n. entry_count (slots_shown s n)) (sym number)
+            ∙ sym (ap (λ q. cond (is_directory q) (entry_count (slots_shown s f.ino)) 0) kind)
+            ∙ made_has f e
+
+    -- and a regular file none
+    regular_has : file.kind ≡ Regular → 0 < k → InAllShown desk s (λ now. ⊥)
+    regular_has is some nodes rows p = by (made_file s file.ino) refl
+      where
+        by : (o : Option MadeFile) → made_file s file.ino ≡ o → ⊥
+        by None e =
+            let many = held_has e nodes rows p in
+            let x = m.node nodes rows p in
+            let one = counted_one (is_in file.ino) (shown_at nodes) (subst (λ n. 0 < n) (sym many) some) in
+            let v = shown_now nodes rows p in
+            child one.0 (node_at (shown_at nodes) one.0) refl one.1 v.2.tree x
+          where
+            child : (n : ℕ) (o : Option Node) → node_at (shown_at nodes) n ≡ o → is_in file.ino (node_at (shown_at nodes) n) ≡ true → IsTree (shown_at nodes)
+                → (x : Node) × (node_at (shown_at nodes) file.ino ≡ Some x) × (x.kind ≡ file.kind) → ⊥
+            child n None at t tree x = false≢true (sym (ap (is_in file.ino) at) ∙ t)
+            child n (Some z) at t tree x =
+                regular_leaf (shown_at nodes) tree file.ino x.0 x.1 (x.2 ∙ is) n z at (eqb-true z.parent file.ino (sym (ap (is_in file.ino) at) ∙ t))
+        by (Some f) e =
+            let kind : f.kind ≡ Regular = made_kind f e nodes rows p ∙ is in
+            let none : ◌≡◌ {A = ℕ} 0 k = sym (ap (λ q. cond (is_directory q) (entry_count (slots_shown s f.ino)) 0) kind) ∙ made_has f e in
+            omega (arith, none, some)
+
+    -- a file that has entries isn't removed
+    full : 0 < k → InAllShown desk s (IsRefusedAs desk call NotEmpty)
+    full some nodes rows p = by file.kind refl
+      where
+        by : (q : Kind) → file.kind ≡ q → IsRefusedAs desk call NotEmpty (shown_at nodes)
+        by Regular is = absurd (regular_has is some nodes rows p)
+        by Directory is =
+            let call_is : call ≡ Rmdir path = m.call ∙ ap (λ q. removing q path) is in
+            let x = m.node nodes rows p in
+            subst (λ (c : Call). IsRefusedAs desk c NotEmpty (shown_at nodes)) (sym call_is)
+            (refuses_full desk path (shown_at nodes) dir file.ino k x.0 (subst (λ (c : Call). ComesInto (shown_at nodes) desk.creds c path dir) call_is (m.comes nodes rows p)) (m.named nodes rows p) x.1 (x.2 ∙ is)
+            (dir_has is nodes rows p) some)
+
+  -- ---- one without entries
+
+  module _ (children : children_shown s file.ino ≡ Some 0) where
+    leaf : InAllShown desk s (λ now. (n : ℕ) (z : Node) → node_at now n ≡ Some z → z.parent ≡ file.ino → ⊥)
+    leaf nodes rows p n z at parent = by file.kind refl
+      where
+        by : (q : Kind) → file.kind ≡ q → ⊥
+        by Directory is =
+            let none = dir_has 0 children is nodes rows p in
+            let some = child-counts (shown_at nodes) file.ino n z at parent in omega (arith, none, some)
+        by Regular is =
+            let x = m.node nodes rows p in
+            regular_leaf (shown_at nodes) (shown_now nodes rows p).2.tree file.ino x.0 x.1 (x.2 ∙ is) n z at parent
+
+    -- the root isn't removed
+    not_root : InAllShown desk s (λ now. file.ino ≡ 1 → ⊥)
+    not_root nodes rows p one =
+        let tree : IsTree (shown_at nodes) = (shown_now nodes rows p).2.tree in
+        let c = find_named-Child (shown_at nodes) dir (name_of path) file.ino (m.named nodes rows p) in
+        let r = tree.root in
+        let same : c.node ≡ r.0 = some_one (node_at (shown_at nodes) 1) c.node r.0 (ap (node_at (shown_at nodes)) (sym one) ∙ c.at) r.1 in
+        let low : dir ≡ 0 = sym c.parent ∙ ap (λ (q : Node). q.parent) same ∙ r.3 in
+        let has = m.walks.kinds dir Directory m.opens.directory nodes rows p in
+        let wrong : None ≡ Some Directory = sym (ap (option_map (λ (q : Node). q.kind)) (ap (node_at (shown_at nodes)) low ∙ tree.none)) ∙ has in cc wrong
+
+    does : InAllShown desk s (λ now. DoesCall desk (record { call = call; reply = IsReplied IsDone; made = 0 }) now (with_node now file.ino None))
+    does nodes rows p =
+        let x = m.node nodes rows p in
+        subst (λ (c : Call). DoesCall desk (record { call = c; reply = IsReplied IsDone; made = 0 }) (shown_at nodes) (with_node (shown_at nodes) file.ino None)) (sym m.call)
+        (does_remove desk file.kind path (shown_at nodes) dir file.ino x.0 (subst (λ (c : Call). ComesInto (shown_at nodes) desk.creds c path dir) m.call (m.comes nodes rows p)) (m.named nodes rows p) x.1 x.2
+        (λ is. dir_has 0 children is nodes rows p))
+
+    abbrev then' : SessionSeen
+    then' = clear dir (name_of path) s
+
+    stays : StaysTree desk s (clear dir (name_of path) s) (λ nodes. with_node nodes m.entry.ino None)
+    stays nodes nodes' rows shows =
+        let p = possible_clear desk s dir (name_of path) m.place m.there nodes rows shows.possible in
+        let was = m.may.comes nodes rows p in
+        tree_without nodes' shows.tree m.entry.ino (λ one. not_root nodes rows p (m.number ∙ one))
+        (λ n z at parent. leaf nodes rows p n z (was.1.each n ∙ sym (shows.shows.each n) ∙ at) (parent ∙ sym m.number))
+
+    changes : Changes desk s (clear dir (name_of path) s) (λ nodes. with_node nodes m.entry.ino None)
+    changes = clear_shows desk s dir m.place m.entry (name_of path) m.may.edits m.opens m.there m.says (ap (children_shown s) (sym m.number) ∙ children) stays
+
+    left : LeavesCleared s (clear dir (name_of path) s) dir m.place m.entry.ino
+    left = clear_leaves desk s dir m.place m.entry (name_of path) m.may.edits m.opens m.there m.says
+
+    calls_are : (clear dir (name_of path) s).calls ≡ s.calls
+    calls_are = ap (λ (q : SessionSeen). q.calls) left.files.same
+
+    noted_comes : ComesToShown desk then'.parcel then'.reads (then'.calls ++ record { call = call; reply = IsReplied IsDone; made = 0 } ∷ [])
+    noted_comes nodes rows p =
+        let done : Done = record { call = call; reply = IsReplied IsDone; made = 0 } in
+        let q = changes.becomes.more nodes rows p in
+        let was = m.may.comes nodes rows q in
+        let it = does nodes rows q in
+        let shown = shown_by desk (in_hand s) (in_hand then') s.calls nodes rows changes.becomes.more m.may.comes p in
+        let end : batch_nodes desk.creds (s.calls ++ done ∷ []) nodes ≡ with_node (shown_at nodes) m.entry.ino None =
+        batch_more desk.creds s.calls done nodes ∙ it.2 ∙ ap (λ n. with_node (shown_at nodes) n None) m.number in
+        subst
+        (λ (cs : List Done). LegalCalls desk.creds nodes (cs ++ record { call = call; reply = IsReplied IsDone; made = 0 } ∷ [])
+        × Shows (parcel_case desk.sizes desk.creds rows then'.parcel) nodes (batch_nodes desk.creds (cs ++ record { call = call; reply = IsReplied IsDone; made = 0 } ∷ []) nodes)) (sym calls_are) (
+          reply_more desk.creds s.calls done nodes was.0 it.0 it.1,
+          subst (λ (k : Nodes). Shows (parcel_case desk.sizes desk.creds rows then'.parcel) nodes k) (sym end) (changes.becomes.shows nodes (shown_at nodes) rows shown),
+        )
+
+    -- with its note the session may go on
+    may_noted : MayCall desk (noted call (IsReplied IsDone) 0 (clear dir (name_of path) s))
+    may_noted = record {
+      edits = edit_called desk then' (then'.calls ++ record { call = call; reply = IsReplied IsDone; made = 0 } ∷ []) changes.may;
+      comes = noted_comes;
+      made = λ x i some.
+          elim (In-cases x then'.calls (record { call = call; reply = IsReplied IsDone; made = 0 } ∷ []) i) [
+            | inl old ↦ subst (λ l. In x.made (ino_numbers l)) (sym left.files.inodes) (m.may.made x (subst (λ (cs : List Done). In x cs) calls_are old) some)
+            | inr (inl e) ↦ absurd (some (ap (λ (y : Done). y.made) e))
+            | inr (inr none) ↦ absurd none
+          ];
+      spent = left.files.pages ∙ m.may.spent;
+      spent_numbers = left.numbers ∙ m.may.spent_numbers;
+    }
+
+-- ---- the end of the try
+
+pub room_kept : (s s' : SessionSeen) (room : Room) → s' ≡ record s { room = room } → s' ≡ record s { room = s'.room }
+room_kept s s' room e = e ∙ ap (λ (r : Room). record s { room = r }) (sym (ap (λ (q : SessionSeen). q.room) e))
+
+pub room_after : (s s1 s2 : SessionSeen) (room : Room) → s1 ≡ record s { room = room } → length s1.calls < s1.room.calls → s2.room.calls ≡ s1.room.calls → length s.calls < s2.room.calls
+room_after s s1 s2 room first less same =
+    subst (λ n. length s.calls < n) (sym same) (subst (λ (cs : List Done). length cs < s1.room.calls) (ap (λ (q : SessionSeen). q.calls) first) less)
+
+-- a slot that is cleared once there is room for the call
+pub cleared_alike : (s s1 s2 : SessionSeen) (room : Room) (dir : ℕ) (path : Path) (name : List ℕ) → s1 ≡ record s { room = room } → name ≡ name_of path → s2 ≡ record (clear dir name s1) { room = s2.room }
+    → IsAlike (clear dir (name_of path) s) s2
+cleared_alike s s1 s2 room dir path name first is kept =
+    alike_then (clear dir (name_of path) s) (clear dir (name_of path) s1) s2
+    (edited_alike s.creds (Unlink path) (record { dir = dir; new_dir = 0; ino = 0 }) s s1 (alike_room s s1 (room_kept s s1 room first)))
+    (alike_room (clear dir (name_of path) s1) s2 (subst (λ (z : List ℕ). s2 ≡ record (clear dir z s1) { room = s2.room }) is kept))
+
+module _ {D : Type 0} (called : D → Ask → Told → D → Type 0) (seen : D → DeskSeen) (d : D) (s : SessionSeen) (call : Call) (path : Path) (dir : ℕ) (file : Met) (m : MayClear (seen d) s call path dir file) where
+  module _ (children : children_shown s file.ino ≡ Some 0) (s3 : SessionSeen) (near : IsAlike (clear dir (name_of path) s) s3) (room : length s.calls < s3.room.calls) where
+    abbrev target : Target
+    target = record { dir = dir; new_dir = 0; ino = 0 }
+
+    calls3 : s3.calls ≡ s.calls
+    calls3 = ap (λ (q : SessionSeen). q.calls) near ∙ calls_are (seen d) s call path dir file m children
+
+    back3 : (nodes : Nodes) (rows : List (Option Row)) → ArePossible (seen d) s3.parcel s3.reads nodes rows → ArePossible (seen d) s.parcel s.reads nodes rows
+    back3 nodes rows p =
+        (changes (seen d) s call path dir file m children).becomes.more nodes rows (subst (λ (q : SessionSeen). ArePossible (seen d) q.parcel q.reads nodes rows) near p)
+
+    over3 : (P : Nodes → Type 0) → InAllShown (seen d) s P → InAllShown (seen d) s3 P
+    over3 P h nodes rows p = subst (λ (cs : List Done). P (batch_nodes (seen d).creds cs nodes)) (sym calls3) (h nodes rows (back3 nodes rows p))
+
+    done_goes : Goes called seen d s call (λ now. []) (Replied (IsReplied IsDone)) 0 d s3
+    done_goes = let creds : Creds = (seen d).creds in record {
+      target = target;
+      given = [];
+      last = [];
+      each = λ c i. absurd i;
+      made = refl;
+      ends = refl;
+      leaves = subst (λ (q : SessionSeen). IsAlike q s3) (sym (ap (λ (c : Call). edited creds c target s) m.call ∙ leaves_kind file.kind path creds target s)) near;
+      numbered = made_none file.kind path target ∙ sym (ap (λ (c : Call). made_by c target) m.call);
+      calls = calls3;
+      same = record { lib = refl; creds = refl; sizes = refl; root = refl };
+      comes =
+          over3 (λ now. ComesBy (Replied (IsReplied IsDone)) target now (seen d).creds call)
+          (λ nodes rows p h.
+          let now : Nodes = batch_nodes (seen d).creds s.calls nodes in
+          subst (λ (c : Call). ComesTo target now creds c) (sym m.call)
+          (comes_kind file.kind path now creds target (subst (λ (c : Call). walk_into now creds (write_paths c) (dir_of path) ≡ Ok dir) m.call (m.comes nodes rows p).into)));
+      asks = λ nodes rows p.
+          let now : Nodes = batch_nodes creds s3.calls nodes in
+          ap (λ (c : Call). wants_of now creds c target s) m.call ∙ wants_kind file.kind path now creds target s;
+      more = back3;
+      after = (
+        may_alike (seen d) (noted call (IsReplied IsDone) 0 (clear dir (name_of path) s)) (noted call (IsReplied IsDone) 0 s3) (ap (noted call (IsReplied IsDone) 0) near)
+            (may_noted (seen d) s call path dir file m children),
+        subst (λ (cs : List Done). length cs < s3.room.calls) (sym calls3) room,
+        tt,
+        λ n. absurd n,
+      );
+    }
+
+  pub there_some : is_some (place_shown s dir (name_of path)) ≡ true
+  there_some = ap is_some m.there
+
+  pub cleared_goes : children_shown s file.ino ≡ Some 0 → (s3 : SessionSeen) (result : Result replied.Replied Stop)
+      → MatchResult result
+      (λ r. (r ≡ record { reply = IsReplied IsDone; made = 0 }) × IsAlike (clear dir (name_of path) s) s3 × (length s.calls < s3.room.calls))
+      (λ stop. (stop ≡ LacksMemory) × (s3 ≡ record s { room = s3.room }))
+      → Goes called seen d s call (λ now. []) (try_ends result) (number_made result) d s3
+  cleared_goes children s3 (Ok r) e = subst (λ (x : replied.Replied). Goes called seen d s call (λ now. []) (Replied x.reply) x.made d s3) (sym e.0) (done_goes children s3 e.1 e.2)
+  cleared_goes children s3 (Err stop) e = subst (λ x. Goes called seen d s call (λ now. []) (try_ends (Err x)) 0 d s3) (sym e.0) (lacks called seen d s s3 call (λ now. []) m.may e.1)
+
+  pub full_goes : (k : ℕ) → children_shown s file.ino ≡ Some k → 0 < k → (s3 : SessionSeen) → s3 ≡ record s { room = s3.room } → (result : Result replied.Replied Stop)
+      → MatchResult result (λ r. (r ≡ record { reply = NotEmpty; made = 0 }) × (length s3.calls < s3.room.calls)) (λ stop. stop ≡ LacksMemory)
+      → Goes called seen d s call (λ now. []) (try_ends result) (number_made result) d s3
+  full_goes k children some s3 kept result ends =
+      refused_goes called seen d s s3 call (λ now. []) m.may kept (λ nodes rows p. refl) NotEmpty tt (full (seen d) s call path dir file m k children some) result ends

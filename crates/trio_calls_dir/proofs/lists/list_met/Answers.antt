@@ -1,0 +1,15 @@
+use Rattle.std.proofs.Common.{◌≡◌, Some, ap, sym, ◌∙◌}
+use Rattle.trio_rights.specs.declared.rights.Creds.{Creds}
+use Rattle.trio_calls_dir.specs.inner.Lists.{met_refusal}
+use Rattle.trio_calls_dir.proofs.ListsMet.{met_refused}
+use Rattle.trio_calls_dir.proofs.lists.list_met.Goals as goal
+
+pub returns-in-Some-clause-goes : goal.returns-in-Some-clause-goes
+returns-in-Some-clause-goes g c path comes =
+    let e : met_refusal (g.D.Desk.seen c.args.desk.now).creds c.args.met ≡ Some c.in-Some.reply = sym (c.refusal.ensures ∙ ap (λ (k : Creds). met_refusal k c.args.met) c.creds.ensures.creds) ∙ c.in-Some.is in
+    met_refused g.D.Desk.called g.D.Desk.seen c.args.desk.now c.args.session.now c.refused.new.session path c.args.from c.args.met c.requires.may c.requires.met comes c.refused.ensures.kept c.in-Some.reply e c.refused.result
+    c.refused.ensures.ends
+
+pub list_unrefused-requires-clause-unrefused : goal.list_unrefused-requires-clause-unrefused
+list_unrefused-requires-clause-unrefused g c =
+    sym (c.refusal.ensures ∙ ap (λ (k : Creds). met_refusal k c.args.met) c.creds.ensures.creds) ∙ c.in-None.is

@@ -1,0 +1,199 @@
+-- The calls of the desk that one call on a directory makes, and how it ends: Mkdir, Create, Unlink, Rmdir, Rename and List.
+use Rattle.std.specs.Prelude.{◌≡◌, ℕ, ◌+◌, ◌==◌, Bool, IsTrue, List, [], ◌∷◌, ◌++◌, map, length, is_some, Option, None, Ok, if◌then◌else◌}
+use Rattle.std.specs.Option.{option_map, option_map_or, option_or}
+use Rattle.trio_rights.specs.declared.kind.Kind.{Kind}
+use Rattle.trio_rights.specs.declared.kind.Kind.TheVariants.{Directory, Regular}
+use Rattle.trio_rights.specs.declared.rights.Creds.{Creds}
+use Rattle.trio_rights.specs.declared.rights.Mode.{Mode}
+use Rattle.trio_rights.specs.declared.rights.Need.TheVariants.{Read as ToRead}
+use Rattle.trio_layout.specs.Body.{body_bytes}
+use Rattle.trio_lease.specs.declared.parts.HoldParts.{HoldParts}
+use Rattle.trio_nodes.specs.declared.grant.GrantKind.TheVariants.{Hold, Read}
+use Rattle.trio_nodes.specs.declared.node.Node.{Node}
+use Rattle.trio_nodes.specs.declared.call.Call.{Call}
+use Rattle.trio_nodes.specs.declared.call.Call.TheVariants.{Mkdir, Create, Unlink, Rmdir, Rename, List as ListNames}
+use Rattle.trio_nodes.specs.declared.call.Reply.TheVariants.{Ok as IsReplied}
+use Rattle.trio_nodes.specs.Nodes.{Nodes, node_at, find_named}
+use Rattle.trio_nodes.specs.Walk.{Path, dir_of, is_above, is_directory, is_root, lacks, name_of, walk, walk_into}
+use Rattle.trio_nodes.specs.Apply.{applied, is_done}
+use Rattle.trio_desk.specs.Call.{Ask, DeskSeen, Told}
+use Rattle.trio_session.specs.Layout.{growth, size_in}
+use Rattle.trio_session.specs.Seen.{MadeFile, SessionSeen, body_in, chain_in, clear, empty_shown, fill, grown, held_file, is_allotted, made_body, made_file, retitle}
+use Rattle.trio_walk.specs.Needs.{Needed, asked, into_needs, needs_if, node_needs, reached_by, reached_needs, walk_needs}
+use Rattle.trio_walk.specs.Walks.{served_by, shows_root}
+use Rattle.trio_walk.specs.Asks.{AskedBy, Called, IsAlike, Tried, allot_asks, grant_ask, noted}
+use Rattle.trio_walk.specs.declared.outcome.Outcome.{Outcome}
+use Rattle.trio_walk.specs.declared.outcome.Outcome.TheVariants.{Replied}
+
+-- ---- the condition
+
+-- it removes a file, or lists names
+abbrev pub IsDirCall : Call → Type 0
+IsDirCall (Unlink path) = Unit {0}
+IsDirCall (Rmdir path) = Unit {0}
+IsDirCall (ListNames path from) = Unit {0}
+IsDirCall call = ⊥
+
+-- ---- what is needed
+
+-- the hold on a file that is removed: a directory, or none
+abbrev pub removing_needs : Kind → ℕ → Node → List Needed
+removing_needs Directory n x = if is_directory x.kind then record { ino = n; kind = Hold } ∷ [] else []
+removing_needs Regular n x = if is_directory x.kind then [] else record { ino = n; kind = Hold } ∷ []
+
+-- what is needed of the file of this name, where there is one
+abbrev pub named_needs : Nodes → ℕ → List ℕ → (ℕ → Node → List Needed) → List Needed
+named_needs nodes dir name rest = option_map_or (λ n. node_needs n (node_at nodes n) rest) (find_named nodes dir name) []
+
+-- of a call that removes a file of this kind: its directory for writing, and the file held
+abbrev pub removal_needs : Nodes → Creds → Bool → Kind → Path → List Needed
+removal_needs nodes creds shown kind path =
+    into_needs nodes creds shown (dir_of path ∷ []) (dir_of path)
+    ++ reached_by (walk_into nodes creds (dir_of path ∷ []) (dir_of path)) (λ dir. named_needs nodes dir (name_of path) (removing_needs kind))
+
+-- of a rename whose both directories are entered: the file held, where it moves to another and nothing has the new name there
+abbrev pub moving_needs : Nodes → Path → Path → ℕ → ℕ → List Needed
+moving_needs nodes from to dir new_dir =
+    named_needs nodes dir (name_of from) (λ n x.
+    if is_some (find_named nodes new_dir (name_of to)) then [] else (if dir == new_dir then [] else record { ino = n; kind = Hold } ∷ []))
+
+-- of a rename: both directories for writing, on both walks
+abbrev pub rename_needs : Nodes → Creds → Bool → Path → Path → List Needed
+rename_needs nodes creds shown from to =
+    let writes = dir_of from ∷ dir_of to ∷ [] in
+    into_needs nodes creds shown writes (dir_of from)
+    ++ reached_by (walk_into nodes creds writes (dir_of from)) (λ dir.
+    into_needs nodes creds shown writes (dir_of to)
+    ++ reached_by (walk_into nodes creds writes (dir_of to)) (λ new_dir. moving_needs nodes from to dir new_dir))
+
+-- of a list, at the file to which its walk has come
+abbrev pub listing_needs : Creds → Bool → ℕ → Node → List Needed
+listing_needs creds shown n x = if is_directory x.kind then needs_if shown n Read (lacks creds ToRead x) else []
+
+-- The grants of a call on a directory, in the order in which it asks for them; none once a check has refused.
+abbrev pub dir_needs : Nodes → Creds → Bool → Call → List Needed
+dir_needs nodes creds shown (Mkdir path mode) = if is_root path then [] else into_needs nodes creds shown (dir_of path ∷ []) (dir_of path)
+dir_needs nodes creds shown (Create path mode) = if is_root path then [] else into_needs nodes creds shown (dir_of path ∷ []) (dir_of path)
+dir_needs nodes creds shown (Unlink path) = if is_root path then [] else removal_needs nodes creds shown Regular path
+dir_needs nodes creds shown (Rmdir path) = if is_root path then [] else removal_needs nodes creds shown Directory path
+dir_needs nodes creds shown (Rename from to) =
+    if is_root from then [] else (if is_root to then [] else (if is_above from to then [] else rename_needs nodes creds shown from to))
+dir_needs nodes creds shown (ListNames path from) =
+    walk_needs nodes creds shown [] path ++ reached_needs nodes (walk nodes creds [] path) (listing_needs creds shown)
+dir_needs nodes creds shown call = []
+
+-- ---- what is wanted
+
+-- where a call comes to: its directory, that to which a rename moves, and the file that is made, removed, moved or listed
+pub record Target : Type 0 where
+  pub dir : ℕ
+  pub new_dir : ℕ
+  pub ino : ℕ
+
+-- the pages of one block more, where a directory has no empty slot
+abbrev pub slot_growth : SessionSeen → ℕ → ℕ
+slot_growth s dir = let b = length (chain_in s dir).blocks in if is_some (empty_shown s dir) then 0 else growth b (b + 1)
+
+-- the pages that a call wants which no check refuses, by the session with all that it was lent
+abbrev pub pages_for : Call → Target → SessionSeen → ℕ
+pages_for (Mkdir path mode) t s = slot_growth s t.dir
+pages_for (Create path mode) t s = slot_growth s t.dir
+pages_for (Rename from to) t s = if t.dir == t.new_dir then 0 else slot_growth s t.new_dir
+pages_for call t s = 0
+
+-- and the inode numbers
+abbrev pub numbers_for : Call → ℕ
+numbers_for (Mkdir path mode) = 1
+numbers_for (Create path mode) = 1
+numbers_for call = 0
+
+-- the allotment that it asks for; none where a check has refused
+abbrev pub wants_of : Nodes → Creds → Call → Target → SessionSeen → List Ask
+wants_of nodes creds call t s =
+    if is_done (applied nodes creds call 0).reply then allot_asks (pages_for call t s) (numbers_for call) else []
+
+-- What one try of a call asks, in nodes that the session shows: the grants that it needs and no lease serves, and then one allotment.
+-- `all` is the session with all that it was lent.
+abbrev pub asks_of : Nodes → Creds → SessionSeen → Call → Target → SessionSeen → List Ask
+asks_of nodes creds s call t all =
+    map grant_ask (asked (served_by s) (dir_needs nodes creds (shows_root s) call)) ++ wants_of nodes creds call t all
+
+-- ---- what is left
+
+-- a directory has an empty slot: it grows by a block where it has none
+abbrev pub with_slot : ℕ → SessionSeen → SessionSeen
+with_slot dir s = if is_some (empty_shown s dir) then s else grown dir (size_in (body_in s dir) + 4096) s
+
+-- the body of a new file: without pages, and the caller's
+abbrev pub new_body : Creds → Mode → List ℕ
+new_body creds mode = body_bytes (record { mode = mode; uid = creds.uid; gid = creds.gid; head = 0; size = 0 })
+
+-- a new entry takes the first empty slot
+abbrev pub filled_new : Creds → Kind → Path → Mode → Target → SessionSeen → SessionSeen
+filled_new creds kind path mode t s = fill t.dir (name_of path) t.ino kind (new_body creds mode) (with_slot t.dir s)
+
+-- the kind and the body that a file takes with it to another directory: of one that was made its own, and the body of its slot; of a held
+-- one, which has none of the allotted numbers, those of its hold
+abbrev pub moved_shown : SessionSeen → ℕ → Option (Kind × List ℕ)
+moved_shown s ino =
+    option_or (option_map (λ (m : MadeFile). (m.kind, made_body s m)) (made_file s ino))
+    (if is_allotted s ino then None else option_map (λ (h : HoldParts). (h.kind, h.body)) (held_file s ino))
+
+-- a file that moves clears its slot, and fills the first empty one of the other directory with the kind and the body that it takes with it
+abbrev pub moved : Path → Path → Target → SessionSeen → SessionSeen
+moved from to t s =
+    let ready = with_slot t.new_dir s in
+    option_map_or (λ (m : Kind × List ℕ). fill t.new_dir (name_of to) t.ino m.0 m.1 (clear t.dir (name_of from) ready)) (moved_shown ready t.ino) ready
+
+-- What a call that is done edits, as the layout has it.
+abbrev pub edited : Creds → Call → Target → SessionSeen → SessionSeen
+edited creds (Mkdir path mode) t s = filled_new creds Directory path mode t s
+edited creds (Create path mode) t s = filled_new creds Regular path mode t s
+edited creds (Unlink path) t s = clear t.dir (name_of path) s
+edited creds (Rmdir path) t s = clear t.dir (name_of path) s
+edited creds (Rename from to) t s = if t.dir == t.new_dir then retitle t.dir (name_of from) (name_of to) s else moved from to t s
+edited creds call t s = s
+
+-- the number of the file that it made
+abbrev pub made_by : Call → Target → ℕ
+made_by (Mkdir path mode) t = t.ino
+made_by (Create path mode) t = t.ino
+made_by call t = 0
+
+-- What a try leaves of a session that took all that was given: where the call is done its directories have their edits, and else nothing
+-- was written; a call that is replied is the last one done, with its reply.
+abbrev pub Leaves : Creds → Call → Target → Outcome → SessionSeen → SessionSeen → Type 0
+Leaves creds call t (Replied (IsReplied answer)) s s' = IsAlike (noted call (IsReplied answer) (made_by call t) (edited creds call t s)) s'
+Leaves creds call t (Replied refusal) s s' = IsAlike (noted call refusal 0 s) s'
+Leaves creds call t end s s' = IsAlike s s'
+
+-- a call that no check refuses comes to these directories
+abbrev pub ComesTo : Target → Nodes → Creds → Call → Type 0
+ComesTo t nodes creds (Mkdir path mode) = walk_into nodes creds (dir_of path ∷ []) (dir_of path) ≡ Ok t.dir
+ComesTo t nodes creds (Create path mode) = walk_into nodes creds (dir_of path ∷ []) (dir_of path) ≡ Ok t.dir
+ComesTo t nodes creds (Unlink path) = walk_into nodes creds (dir_of path ∷ []) (dir_of path) ≡ Ok t.dir
+ComesTo t nodes creds (Rmdir path) = walk_into nodes creds (dir_of path ∷ []) (dir_of path) ≡ Ok t.dir
+ComesTo t nodes creds (Rename from to) =
+    (walk_into nodes creds (dir_of from ∷ dir_of to ∷ []) (dir_of from) ≡ Ok t.dir) × (walk_into nodes creds (dir_of from ∷ dir_of to ∷ []) (dir_of to) ≡ Ok t.new_dir)
+ComesTo t nodes creds (ListNames path from) = walk nodes creds [] path ≡ Ok t.ino
+ComesTo t nodes creds call = Unit {0}
+
+-- so a try has that is replied: of one that is broken off it isn't said
+abbrev pub ComesBy : Outcome → Target → Nodes → Creds → Call → Type 0
+ComesBy (Replied answer) t nodes creds call = IsTrue (is_done (applied nodes creds call 0).reply) → ComesTo t nodes creds call
+ComesBy end t nodes creds call = Unit {0}
+
+-- What is true of a try in the nodes that the session shows, by the session with all that it was lent: where no check refuses the call and
+-- it is replied it has come to these directories, and it has asked for just what is to be asked.
+pub record TriedIn (creds : Creds) (s : SessionSeen) (call : Call) (end : Outcome) (t : Target) (all : SessionSeen) (asks' : List Ask) (nodes : Nodes) : Type 0 where
+  pub comes : ComesBy end t nodes creds call
+  pub asks : AskedBy end asks' (asks_of nodes creds s call t all)
+
+-- One try of a call, from a desk and a session to these.
+abbrev pub DirTried : {D : Type 0} (called : D → Ask → Told → D → Type 0) (seen : D → DeskSeen) → Call → D → SessionSeen → Outcome → D → SessionSeen → Type 0
+DirTried called seen call d s end d' s' =
+    (t : Target) × Tried called seen d s (Leaves s.creds call t end) (TriedIn (seen d').creds s call end t) end d' s'
+
+-- A call on a directory.
+abbrev pub DirCalled : {D : Type 0} (called : D → Ask → Told → D → Type 0) (seen : D → DeskSeen) → D → SessionSeen → Call → Outcome → D → SessionSeen → Type 0
+DirCalled called seen d s call end d' s' = Called called (DirTried called seen call) d s end d' s'

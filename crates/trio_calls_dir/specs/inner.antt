@@ -1,0 +1,4 @@
+pub mod Goes
+pub mod Lists
+pub mod Tries
+pub mod Removes

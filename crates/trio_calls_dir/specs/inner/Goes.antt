@@ -1,0 +1,163 @@
+-- Words of a try in progress: from where it begins, or has entered its directories, to how it ends.
+use Rattle.std.specs.Prelude.{◌≡◌, ◌≢◌, ◌<◌, ℕ, List, ◌++◌, map, length, Result, Ok, Err}
+use Rattle.trio_rights.specs.declared.kind.Kind.{Kind}
+use Rattle.trio_rights.specs.declared.kind.Kind.TheVariants.{Regular, Directory}
+use Rattle.trio_rights.specs.declared.rights.Creds.{Creds}
+use Rattle.trio_rights.specs.declared.rights.LibNo.{LibNo}
+use Rattle.trio_rights.specs.declared.rights.Mode.{Mode}
+use Rattle.trio_lists.specs.Lists.{In}
+use Rattle.trio_nodes.specs.declared.call.Answer.TheVariants.{Done as IsDone, Names}
+use Rattle.trio_nodes.specs.declared.call.Call.{Call}
+use Rattle.trio_nodes.specs.declared.call.Call.TheVariants.{Mkdir, Create, Unlink, Rmdir}
+use Rattle.trio_nodes.specs.declared.call.Reply.{Reply}
+use Rattle.trio_nodes.specs.declared.call.Reply.TheVariants.{Ok as IsReplied, NotFound, Exists, NotDir, IsDir, NotEmpty, Denied, IntoItself}
+use Rattle.trio_nodes.specs.Nodes.{Nodes}
+use Rattle.trio_nodes.specs.Walk.{Path}
+use Rattle.trio_desk.specs.Call.{Ask, DeskSeen, Told}
+use Rattle.trio_desk.specs.Calls as desk_calls
+use Rattle.trio_desk.specs.Calls.{Calls}
+use Rattle.trio_desk.specs.Edits.{DoesCall, TakesMore}
+use Rattle.trio_session.specs.Seen.{SessionSeen, in_hand}
+use Rattle.trio_edit_laws.specs.Calls.{MayCall}
+use Rattle.trio_walk.specs.Needs.{Needed, asked}
+use Rattle.trio_walk.specs.Walks.{InAllShown, served_by}
+use Rattle.trio_walk.specs.declared.walks.WalkEnd.{WalkEnd}
+use Rattle.trio_walk.specs.declared.walks.WalkEnd.TheVariants.{At, Reply as IsReply, Busy as IsBusyWalk, NoMemory as NoWalkMemory}
+use Rattle.trio_walk.specs.Asks.{AskedBy, IsAlike, IsGiven, TryEnds, grant_ask, noted, took}
+use Rattle.trio_walk.specs.declared.outcome.Outcome.{Outcome}
+use Rattle.trio_walk.specs.declared.outcome.Outcome.TheVariants.{Busy, NoMemory, Replied}
+use Rattle.trio_calls_dir.specs.declared.replies.Replied as replied
+use Rattle.trio_calls_dir.specs.declared.stops.Stop.{Stop}
+use Rattle.trio_calls_dir.specs.declared.stops.Stop.TheVariants.{Busy as IsBusy, NoMemory as LacksMemory}
+use Rattle.trio_calls_dir.specs.Asks.{ComesBy, Target, edited, made_by, wants_of}
+
+-- ---- the end
+
+-- how a try ends, by what it is replied or why it isn't
+abbrev pub try_ends : Result replied.Replied Stop → Outcome
+try_ends (Ok r) = Replied r.reply
+try_ends (Err (IsBusy holder)) = Busy holder
+try_ends (Err LacksMemory) = NoMemory
+
+-- the number of the file that it made, 0 of none
+abbrev pub number_made : Result replied.Replied Stop → ℕ
+number_made (Ok r) = r.made
+number_made (Err stop) = 0
+
+-- that which such a call makes in this target, where it is done
+abbrev pub IsNumber : Call → Target → Outcome → ℕ → Type 0
+IsNumber call t (Replied (IsReplied answer)) made = made ≡ made_by call t
+IsNumber call t end made = made ≡ 0
+
+-- What a try leaves that isn't noted yet: its edits where the call is done, and else nothing was written.
+abbrev pub LeavesHere : Creds → Call → Target → SessionSeen → Outcome → SessionSeen → Type 0
+LeavesHere creds call t s (Replied (IsReplied answer)) s' = IsAlike (edited creds call t s) s'
+LeavesHere creds call t s end s' = IsAlike s s'
+
+-- the answer is a list of names
+abbrev pub IsNames : Reply → Type 0
+IsNames (IsReplied (Names count names)) = Unit {0}
+IsNames reply = ⊥
+
+-- the answers of calls on directories
+abbrev pub IsOfDir : Reply → Type 0
+IsOfDir (IsReplied IsDone) = Unit {0}
+IsOfDir (IsReplied (Names count names)) = Unit {0}
+IsOfDir (IsReplied answer) = ⊥
+IsOfDir reply = Unit {0}
+
+-- What holds after a try that isn't noted yet: with the call and its reply as the last one done the session may go on, and there is room
+-- for it; so it may without, where names were listed or there is no reply.
+abbrev pub AfterTry : DeskSeen → Call → ℕ → Outcome → SessionSeen → Type 0
+AfterTry desk call made (Replied reply) s' =
+    MayCall desk (noted call reply made s') × (length s'.calls < s'.room.calls) × IsOfDir reply
+    × (IsNames reply → MayCall desk s' × ((creds : Creds) (t : Target) (s : SessionSeen) → edited creds call t s ≡ s))
+AfterTry desk call made end s' = MayCall desk s'
+
+-- ---- in progress
+
+-- another state of the same desk
+pub record SameDesk (desk desk' : DeskSeen) : Type 0 where
+  pub lib : desk'.lib ≡ desk.lib
+  pub creds : desk'.creds ≡ desk.creds
+  pub sizes : desk'.sizes ≡ desk.sizes
+  pub root : desk'.root ≡ desk.root
+
+-- From a desk and a session to these, by calls that were given what they asked: nothing was written, and what was known of the nodes still
+-- is.
+pub record Went {D : Type 0} (called : D → Ask → Told → D → Type 0) (seen : D → DeskSeen) (d : D) (s : SessionSeen) (given : List desk_calls.Call) (d' : D) (s' : SessionSeen) : Type 0 where
+  pub each : (c : desk_calls.Call) → In c given → IsGiven c
+  pub made : Calls called d given d'
+  pub alike : IsAlike (took s (map (λ c. c.told) given)) s'
+  pub calls : s'.calls ≡ s.calls
+  pub same : SameDesk (seen d) (seen d')
+  pub more : TakesMore (seen d') (in_hand s) (in_hand s')
+
+-- what is to be asked: the grants that are needed and no lease serves, and then the allotment
+abbrev pub asks_from : SessionSeen → List Needed → Nodes → Creds → Call → Target → SessionSeen → List Ask
+asks_from s needs now creds call t all = map grant_ask (asked (served_by s) needs) ++ wants_of now creds call t all
+
+-- From a desk and a session to these a try of a call comes to its end, but for its note. These grants are needed, by the nodes that the
+-- session shows.
+pub record Goes {D : Type 0} (called : D → Ask → Told → D → Type 0) (seen : D → DeskSeen) (d : D) (s : SessionSeen) (call : Call) (needs : Nodes → List Needed) (end : Outcome) (number : ℕ) (d' : D) (s' : SessionSeen) : Type 0 where
+  pub target : Target
+  pub given : List desk_calls.Call
+  pub last : List desk_calls.Call
+  pub each : (c : desk_calls.Call) → In c given → IsGiven c
+  pub made : Calls called d (given ++ last) d'
+  pub ends : TryEnds end last
+  pub leaves : LeavesHere (seen d').creds call target (took s (map (λ c. c.told) given)) end s'
+  pub numbered : IsNumber call target end number
+  pub calls : s'.calls ≡ s.calls
+  pub same : SameDesk (seen d) (seen d')
+  pub comes : InAllShown (seen d') s' (λ now. ComesBy end target now (seen d').creds call)
+  pub asks :
+      InAllShown (seen d') s' (λ now.
+      AskedBy end (map (λ c. c.ask) (given ++ last)) (asks_from s (needs now) now (seen d').creds call target (took s (map (λ c. c.told) given))))
+  pub more : TakesMore (seen d') (in_hand s) (in_hand s')
+  pub after : AfterTry (seen d') call number end s'
+
+-- the try didn't end Busy
+abbrev pub IsNeverBusy : Outcome → Type 0
+IsNeverBusy (Busy holder) = ⊥
+IsNeverBusy end = Unit {0}
+
+-- another library keeps a file busy
+abbrev pub OthersHold : LibNo → Outcome → Type 0
+OthersHold lib (Busy holder) = holder.lib ≢ lib
+OthersHold lib end = Unit {0}
+
+-- ---- what is known
+
+-- the refusals of checks
+abbrev pub IsRefusal : Reply → Type 0
+IsRefusal NotFound = Unit {0}
+IsRefusal Exists = Unit {0}
+IsRefusal NotDir = Unit {0}
+IsRefusal IsDir = Unit {0}
+IsRefusal NotEmpty = Unit {0}
+IsRefusal Denied = Unit {0}
+IsRefusal IntoItself = Unit {0}
+IsRefusal reply = ⊥
+
+-- a call that the tree refuses so
+abbrev pub IsRefusedAs : DeskSeen → Call → Reply → Nodes → Type 0
+IsRefusedAs desk call reply now = DoesCall desk (record { call = call; reply = reply; made = 0 }) now now
+
+-- the call makes a file of this kind by this path
+abbrev pub making : Kind → Path → Mode → Call
+making Directory path mode = Mkdir path mode
+making Regular path mode = Create path mode
+
+-- the call removes a file of this kind by this path
+abbrev pub removing : Kind → Path → Call
+removing Directory path = Rmdir path
+removing Regular path = Unlink path
+
+-- how a walk that has come to no file ends the try; want of memory for the call's note may come after a refusal
+abbrev pub StopsBy : WalkEnd → Result replied.Replied Stop → SessionSeen → Type 0
+StopsBy (IsReply reply) (Ok r) s' = (r ≡ record { reply = reply; made = 0 }) × (length s'.calls < s'.room.calls)
+StopsBy (IsReply reply) (Err stop) s' = stop ≡ LacksMemory
+StopsBy (IsBusyWalk holder) result s' = result ≡ Err (IsBusy holder)
+StopsBy NoWalkMemory result s' = result ≡ Err LacksMemory
+StopsBy (At n) result s' = ⊥

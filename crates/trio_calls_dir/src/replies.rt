@@ -1,0 +1,76 @@
+//! What a call on a directory is replied.
+
+ghost use Rattle.std.specs.Prelude.{◌≡◌, ◌<◌, IfOk, MatchResult, length};
+ghost use Rattle.trio_edit_laws.specs.Calls.{MayCall};
+ghost use Rattle.trio_walk.specs.Walks.{IsStopped, shows_root};
+ghost use Rattle.trio_calls_dir.specs.Asks.{IsDirCall, dir_needs};
+ghost use Rattle.trio_calls_dir.specs.inner.Goes.{Goes, OthersHold, StopsBy, number_made, try_ends};
+ghost use Rattle.trio_calls_dir.specs.inner.Tries.{HasNothing};
+
+use crate::lists::list;
+use crate::paths::is_root;
+use crate::removes::remove;
+use crate::stops::Stop;
+use std::alloc::Global;
+use trio_desk::Desk;
+use trio_nodes::{Call, Reply};
+use trio_page::NoMemory;
+use trio_rights::Kind;
+use trio_session::Session;
+use trio_walk::WalkEnd;
+
+/// What a call is replied, and the number of the file that it made, or 0.
+#[derive(Drop)]
+pub(crate) struct Replied {
+    pub(crate) reply: Reply,
+    pub(crate) made: u32,
+}
+
+/// What a call is replied. All that it takes is taken before it changes any byte, the room for the
+/// call among those done too.
+pub(crate) fn reply_to<D: Desk>(
+    alloc: Global,
+    session: &mut Session,
+    desk: &mut D,
+    call: &Call,
+) -> Result<Replied, Stop>
+    requires may { MayCall (D.seen desk.old) session.old }
+    requires dir { IsDirCall call.now }
+    ensures goes { Goes D.called D.seen desk.old session.old call.now (λ now. dir_needs now (D.seen desk.new).creds (shows_root session.old) call.now) (try_ends result) (number_made result) desk.new session.new }
+    ensures others { HasNothing session.old → OthersHold session.old.lib (try_ends result) }
+{
+    match call {
+        // the root isn't removed
+        Call::Unlink { path } if is_root(path) => refused(session, Reply::IsDir),
+        Call::Rmdir { path } if is_root(path) => refused(session, Reply::Denied),
+        Call::Unlink { path } => remove(alloc, session, desk, call, Kind::Regular, path),
+        Call::Rmdir { path } => remove(alloc, session, desk, call, Kind::Directory, path),
+        Call::List { path, from } => list(alloc, session, desk, call, path, *from),
+        _ => unreachable!(),
+    }
+}
+
+/// A refusal is noted too.
+pub(crate) fn refused(session: &mut Session, reply: Reply) -> Result<Replied, Stop>
+    ensures kept { session.new ≡ record session.old { room = session.new.room } }
+    ensures ends { MatchResult result (λ r. (r ≡ record { reply = reply; made = 0 }) × (length session.new.calls < session.new.room.calls)) (λ stop. stop ≡ Stop.NoMemory) }
+{
+    match session.reserve_call() {
+        Ok(()) => Ok(Replied { reply, made: 0 }),
+        Err(NoMemory) => Err(Stop::NoMemory),
+    }
+}
+
+/// A walk that has come to no file ends the try.
+pub(crate) fn stopped(session: &mut Session, end: WalkEnd) -> Result<Replied, Stop>
+    requires { IsStopped end }
+    ensures kept { session.new ≡ record session.old { room = session.new.room } }
+    ensures stops { StopsBy end result session.new }
+{
+    match end {
+        WalkEnd::Reply(reply) => refused(session, reply),
+        WalkEnd::Busy(holder) => Err(Stop::Busy(holder)),
+        WalkEnd::NoMemory => Err(Stop::NoMemory),
+        WalkEnd::At(_) => unreachable!(),
+    }
+}

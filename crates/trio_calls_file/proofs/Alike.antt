@@ -1,0 +1,40 @@
+-- Sessions that differ in indexes, look-ups and room alone.
+use Rattle.std.proofs.Common.{◌≡◌, ℕ, true, false, cond, eqb, List, ◌+◌, length, max, refl, ap}
+use Rattle.trio_nodes.specs.declared.call.Call.TheVariants.{Write as WriteCall}
+use Rattle.trio_nodes.specs.Walk.{Path}
+use Rattle.trio_desk.specs.Call.{DeskSeen}
+use Rattle.trio_session.specs.Layout.{size_in}
+use Rattle.trio_session.specs.Seen.{IsOpen, SessionSeen, body_in, put}
+use Rattle.trio_edit_laws.specs.EditLaws.{AreSpare}
+use Rattle.trio_walk.specs.Asks.{IsAlike}
+use Rattle.trio_calls_file.specs.Asks.{edited, sized}
+use Rattle.trio_calls_file.specs.inner.Rooms.{MayGoOn}
+use Rattle.trio_calls_file.proofs.Still.{alike_by, edit_but}
+
+pub alike_back : (x s : SessionSeen) → IsAlike x s → IsAlike s x
+alike_back x s e = alike_by (λ q. IsAlike q x) x s e (λ is n r. refl)
+
+-- ---- what a session may
+
+pub go_on_alike : (desk : DeskSeen) (x s : SessionSeen) → IsAlike x s → MayGoOn desk x → MayGoOn desk s
+go_on_alike desk x s e m =
+    alike_by (λ q. MayGoOn desk q) x s e (λ is n r. record { edits = edit_but desk x is n r x.calls m.edits; comes = m.comes; made = m.made; spent_numbers = m.spent_numbers })
+
+pub spare_alike : (desk : DeskSeen) (x s : SessionSeen) → IsAlike x s → AreSpare desk x → AreSpare desk s
+spare_alike desk x s e a =
+    alike_by (λ q. AreSpare desk q) x s e (λ is n r k i. (let z = a k i in record { zero = z.zero; unchained = z.unchained; unlisted = z.unlisted }))
+
+pub open_alike : (x s : SessionSeen) (ino : ℕ) → IsAlike x s → IsOpen x ino → IsOpen s ino
+open_alike x s ino e o = alike_by (λ q. IsOpen q ino) x s e (λ is n r. o)
+
+-- ---- writes
+
+-- a write of some bytes, and of none
+pub edited_some : (path : Path) (ino at : ℕ) (bytes : List ℕ) (s : SessionSeen) → eqb (length bytes) 0 ≡ false
+    → edited (WriteCall path at bytes) ino s ≡ put ino at bytes (sized ino (max (size_in (body_in s ino)) (at + length bytes)) s)
+edited_some path ino at bytes s e =
+    ap (λ t. cond t s (put ino at bytes (sized ino (cond t (size_in (body_in s ino)) (max (size_in (body_in s ino)) (at + length bytes))) s))) e
+
+pub edited_none : (path : Path) (ino at : ℕ) (bytes : List ℕ) (s : SessionSeen) → eqb (length bytes) 0 ≡ true → edited (WriteCall path at bytes) ino s ≡ s
+edited_none path ino at bytes s e =
+    ap (λ t. cond t s (put ino at bytes (sized ino (cond t (size_in (body_in s ino)) (max (size_in (body_in s ino)) (at + length bytes))) s))) e

@@ -1,0 +1,402 @@
+-- A call at the file to which its walk came.
+use Rattle.std.proofs.Common.{◌≡◌, ℕ, ◌-◌, ◌+◌, ◌/◌, ◌<◌, Bool, true, false, cond, leb, List, [], ◌∷◌, ◌++◌, length, Option, Some, None, Result, Ok, Err, sym, refl, ap, ◌∙◌, subst, inr, arith, append_assoc}
+use Rattle.std.specs.Prelude.{◌≢◌, map, not, MatchResult}
+use Rattle.std.proofs.lemmas.List.{append-nil}
+use Rattle.trio_rights.specs.declared.kind.Kind.{Kind}
+use Rattle.trio_rights.specs.declared.kind.Kind.TheVariants.{Directory, Regular}
+use Rattle.trio_rights.specs.declared.rights.Creds.{Creds}
+use Rattle.trio_rights.specs.declared.rights.Need.TheVariants.{Read as ToRead}
+use Rattle.trio_nodes.specs.declared.node.Node.{Node}
+use Rattle.trio_nodes.specs.declared.call.Call.{Call}
+use Rattle.trio_nodes.specs.declared.call.Call.TheVariants.{Mkdir, Create, Write, Read, Truncate, Unlink, Rmdir, Rename, List as ListNames, Stat, Chmod}
+use Rattle.trio_nodes.specs.declared.call.Reply.{Reply}
+use Rattle.trio_nodes.specs.declared.call.Reply.TheVariants.{Denied, IsDir}
+use Rattle.trio_nodes.specs.declared.grant.GrantKind.{GrantKind}
+use Rattle.trio_rights.specs.Row.{Row}
+use Rattle.trio_nodes.specs.declared.grant.GrantKind.TheVariants.{Read as ReadGrant, Write as WriteGrant, Hold as HoldGrant}
+use Rattle.trio_desk.specs.Ready.{ArePossible}
+use Rattle.trio_nodes.specs.Nodes.{Nodes, node_at}
+use Rattle.trio_nodes.specs.Walk.{Path, walk}
+use Rattle.trio_nodes.specs.Apply.{applied, is_done, largest_size}
+use Rattle.trio_nodes.specs.After.{batch_nodes}
+use Rattle.trio_desk.specs.Call.{Ask, DeskSeen, Grant, NotLent, Told}
+use Rattle.trio_nodes.specs.declared.answers.GrantFault.TheVariants.{Denied as DeniedGrant}
+use Rattle.trio_desk.specs.Calls as desk_calls
+use Rattle.trio_desk.specs.Contents.{AreWithinLimits, Sizes}
+use Rattle.trio_desk.specs.Edits.{DoesCall}
+use Rattle.trio_laws.specs.session.FileCalls.{gives}
+use Rattle.trio_desk.specs.Agrees.{HasRights}
+use Rattle.trio_laws.proofs.session.FileCalls.{refused_by_check}
+use Rattle.trio_laws.proofs.session.Sees.{sees_root}
+use Rattle.trio_edit_laws.proofs.Shown.{shown_by}
+use Rattle.trio_session.specs.Seen.{SessionSeen, in_hand, kind_shown}
+use Rattle.trio_walk.specs.declared.met.Met.{Met}
+use Rattle.trio_walk.specs.declared.met.Rights as shown_rights
+use Rattle.trio_walk.specs.Needs.{path_of}
+use Rattle.trio_walk.specs.Walks.{InAllShown, InBoth, denies, HasMet, MayTake, gives_met}
+use Rattle.trio_walk.specs.declared.outcome.Outcome.{Outcome}
+use Rattle.trio_walk.specs.declared.outcome.Outcome.TheVariants.{Replied, NoMemory}
+use Rattle.trio_calls_file.specs.declared.files.Stop.{Stop}
+use Rattle.trio_calls_file.specs.declared.files.Stop.TheVariants.{Busy as IsBusy, NoMemory as LacksMemory}
+use Rattle.trio_walk.specs.Asks.{IsAlike, allot_asks}
+use Rattle.trio_calls_file.specs.Asks.{IsFileCall, growth_of, wanted_pages, walked_growth}
+use Rattle.trio_edit_laws.specs.Calls.{MayCall}
+use Rattle.trio_calls_file.specs.inner.Goes.{BusyAt, ComesHere, Goes, bytes_refusal, TookFile, Unrefused, Went, asks_at, checked, grant_for, need_for, one_ask, refusal_at, try_ends, wants_pages_for}
+use Rattle.trio_calls_file.specs.inner.Reads.{IsHad}
+use Rattle.trio_calls_file.proofs.AfterTaking.{goes_on}
+use Rattle.trio_calls_file.proofs.Checking.{asks_none, asks_own, known_unrefused, refused_at, refuses_call, root_kind}
+use Rattle.trio_calls_file.proofs.Had.{had_served}
+use Rattle.trio_calls_file.proofs.Looked.{IsLook, look_goes, may_looked, refused_look, refused_undone}
+use Rattle.trio_calls_file.proofs.Shown.{alike_room, both_alike, both_went, met_went, stood, went_alike}
+
+-- ---- what no check refuses
+
+bytes_taken : (kind : Kind) (g f : Bool) → bytes_refusal kind g f ≡ None → (g ≡ true) × (kind ≡ Regular)
+bytes_taken Directory g f e = absurd (let wrong : Some IsDir ≡ None = e in cc wrong)
+bytes_taken Regular true f e = (refl, refl)
+bytes_taken Regular false f e = absurd (let wrong : Some Denied ≡ None = e in cc wrong)
+
+stat_taken : (g : Bool) → cond (not g) (Some Denied) None ≡ None → g ≡ true
+stat_taken true e = refl
+stat_taken false e = absurd (let wrong : Some Denied ≡ None = e in cc wrong)
+
+-- no call of a file takes a hold
+pub not_held : (c : Call) → grant_for c ≡ HoldGrant → ⊥
+not_held (Write path at bytes) e = cc e
+not_held (Truncate path size) e = cc e
+not_held (Read path at len) e = cc e
+not_held (Stat path) e = cc e
+not_held (Mkdir path mode) e = cc e
+not_held (Create path mode) e = cc e
+not_held (Unlink path) e = cc e
+not_held (Rmdir path) e = cc e
+not_held (Rename from to) e = cc e
+not_held (ListNames path from) e = cc e
+not_held (Chmod path mode) e = cc e
+
+-- ---- growths
+
+growth_none : (c : ℕ) → (c - c) + ((c + 510) / 511 - (c + 510) / 511) ≡ 0
+growth_none c = omega arith
+
+-- a call that only looks
+abbrev pub IsLooking : Call → Type 0
+IsLooking (Read path at len) = Unit {0}
+IsLooking (Stat path) = Unit {0}
+IsLooking call = ⊥
+
+look_growth : (call : Call) → IsLooking call → (o : Option Node) → growth_of call o ≡ 0
+look_growth call look None = refl
+look_growth (Read path at len) look (Some x) = growth_none ((length x.bytes + 4095) / 4096)
+look_growth (Stat path) look (Some x) = growth_none ((length x.bytes + 4095) / 4096)
+look_growth (Mkdir path mode) look (Some x) = absurd look
+look_growth (Create path mode) look (Some x) = absurd look
+look_growth (Write path at bytes) look (Some x) = absurd look
+look_growth (Truncate path size) look (Some x) = absurd look
+look_growth (Unlink path) look (Some x) = absurd look
+look_growth (Rmdir path) look (Some x) = absurd look
+look_growth (Rename from to) look (Some x) = absurd look
+look_growth (ListNames path from) look (Some x) = absurd look
+look_growth (Chmod path mode) look (Some x) = absurd look
+
+-- wants no page
+pub look_pages : (creds : Creds) (call : Call) (now : Nodes) → IsLooking call → allot_asks (wanted_pages now creds call) 0 ≡ []
+look_pages creds call now look = by (is_done (applied now creds call 0).reply) (walk now creds [] (path_of call))
+  where
+    by : (b : Bool) (r : Result ℕ Reply) → allot_asks (cond b (walked_growth now call r) 0) 0 ≡ []
+    by true (Ok n) = ap (λ (k : ℕ). allot_asks k 0) (look_growth call look (node_at now n))
+    by true (Err reply) = refl
+    by false r = refl
+
+module _ {D : Type 0} (called : D → Ask → Told → D → Type 0) (seen : D → DeskSeen) (d : D) (s : SessionSeen) (call : Call) (m : Met) (may : MayCall (seen d) s) (met : HasMet (seen d) s m) (comes : ComesHere (seen d) s (path_of call) m.ino) (file : IsFileCall call) where
+  abbrev asking : desk_calls.Call → Ask
+  asking c = c.ask
+
+  -- ---- a check refuses
+
+  pub refused_goes : (reply : Reply) → checked (seen d).creds m call ≡ Some reply → (s' : SessionSeen) → s' ≡ record s { room = s'.room } → (result : Result Reply Stop)
+      → MatchResult result (λ r. (r ≡ reply) × (length s'.calls < s'.room.calls)) (λ stop. stop ≡ LacksMemory)
+      → Goes called seen d s call m.ino (asks_at (seen d).creds s m call) (try_ends result) d s'
+  refused_goes reply e s' kept result ends =
+      let is = refused_at m.kind (gives_met (seen d).creds m (need_for call)) call reply e in
+      let does : InAllShown (seen d) s (λ now. DoesCall (seen d) (record { call = call; reply = reply; made = 0 }) now now) = λ nodes rows p. refuses_call (seen d) s call m may met comes file nodes rows p reply e in
+      let none : InAllShown (seen d) s (λ now. asks_at (seen d).creds s m call now ≡ map asking []) =
+      λ nodes rows p. asks_none (seen d).creds s m call (batch_nodes (seen d).creds s.calls nodes) reply e (refused_undone (seen d) call reply (batch_nodes (seen d).creds s.calls nodes) is (does nodes rows p)) in
+      look_goes called seen d s call m.ino (asks_at (seen d).creds s m call) [] d s s' (stood called seen d s may) none reply (refused_look call reply is) does kept result ends
+
+  -- ---- the file is taken
+
+  module _ (unchecked : checked (seen d).creds m call ≡ None) (d1 : D) (s1 : SessionSeen) where
+    -- what is wanted, while what is asked of the file was given
+    wanted_then : (given : List desk_calls.Call) → one_ask s m.ino (grant_for call) ≡ map asking given → Went called seen d s given [] d1 s1
+        → InAllShown (seen d1) s1 (λ now. asks_at (seen d).creds s m call now ≡ map asking given ++ wants_pages_for (seen d1).creds call now)
+    wanted_then given e went nodes rows p =
+        let now : Nodes = batch_nodes (seen d1).creds s1.calls nodes in
+        asks_own (seen d).creds s m call now unchecked
+        ∙ ap (λ l. l ++ allot_asks (wanted_pages now (seen d).creds call) 0) e
+        ∙ ap (λ k. map asking given ++ allot_asks (wanted_pages now k call) 0) (sym went.same.creds)
+
+    module _ (took_it : TookFile called seen d s m (grant_for call) (Ok true) d1 s1) where
+      pub went_alone : Went called seen d s took_it.given [] d1 s1
+      went_alone = subst (λ l. Went called seen d s took_it.given l d1 s1) took_it.taken.0 took_it.went
+
+      pub taken_limits : AreWithinLimits (seen d).sizes → AreWithinLimits (seen d1).sizes
+      taken_limits l = subst (λ (z : Sizes). AreWithinLimits z) (sym took_it.went.same.sizes) l
+
+      pub taken_had : AreWithinLimits (seen d).sizes → IsHad s1 m.ino
+      taken_had l = had_served (seen d1) s1 m.ino took_it.went.may (taken_limits l) (grant_for call) (not_held call) took_it.taken.2
+
+      pub taken_kind : kind_shown s1 m.ino ≡ Some m.kind
+      taken_kind = took_it.taken.3 (not_held call)
+
+      -- what was met is met still, and the walk comes there
+      pub met_still : HasMet (seen d1) s1 m
+      met_still = met_went called seen d s took_it.given took_it.last d1 s1 took_it.went m met
+
+      pub comes_still : ComesHere (seen d1) s1 (path_of call) m.ino
+      comes_still =
+          let h = both_went called seen d s took_it.given took_it.last d1 s1 took_it.went (λ nodes now. walk now (seen d).creds [] (path_of call) ≡ Ok m.ino) comes in
+          subst (λ (k : Creds). InBoth (seen d1) s1 (λ nodes now. walk now k [] (path_of call) ≡ Ok m.ino)) (sym took_it.went.same.creds) h
+
+      pub unchecked_still : checked (seen d1).creds m call ≡ None
+      unchecked_still = ap (λ (k : Creds). checked k m call) took_it.went.same.creds ∙ unchecked
+
+      -- what comes then, with the pages that it asks
+      pub taken_goes : (end : Outcome) (d' : D) (s' : SessionSeen) → Goes called seen d1 s1 call m.ino (wants_pages_for (seen d1).creds call) end d' s' → Goes called seen d s call m.ino (asks_at (seen d).creds s m call) end d' s'
+      taken_goes end d' s' goes =
+          goes_on called seen d d1 d' s s1 s' call m.ino took_it.given went_alone end (asks_at (seen d).creds s m call) (wants_pages_for (seen d1).creds call)
+          (wanted_then took_it.given took_it.taken.1 went_alone) goes
+
+      -- where the rights are known no check refuses it
+      pub known_still : (r : shown_rights.Rights) → m.rights ≡ Some r → Unrefused (seen d1) s1 call m.ino
+      known_still r known nodes rows p = known_unrefused (seen d1) s1 call m took_it.went.may met_still comes_still file nodes rows p r known unchecked_still
+
+      -- a look of the file as it is had then
+      pub looked_goes : IsLooking call → (reply : Reply) → IsLook call reply → InAllShown (seen d1) s1 (λ now. DoesCall (seen d1) (record { call = call; reply = reply; made = 0 }) now now)
+          → (s' : SessionSeen) → s' ≡ record s1 { room = s'.room } → (result : Result Reply Stop)
+          → MatchResult result (λ r. (r ≡ reply) × (length s'.calls < s'.room.calls)) (λ stop. stop ≡ LacksMemory)
+          → Goes called seen d s call m.ino (asks_at (seen d).creds s m call) (try_ends result) d1 s'
+      looked_goes looking reply look does s' kept result ends =
+          look_goes called seen d s call m.ino (asks_at (seen d).creds s m call) took_it.given d1 s1 s' went_alone
+          (λ nodes rows p.
+          wanted_then took_it.given took_it.taken.1 went_alone nodes rows p
+          ∙ ap (λ l. map asking took_it.given ++ l) (look_pages (seen d1).creds call (batch_nodes (seen d1).creds s1.calls nodes) looking) ∙ append-nil (map asking took_it.given))
+          reply look does kept result ends
+
+    -- ---- it isn't
+
+    -- a try whose file is busy, or for which there was no memory
+    pub stopped_goes : (stop : Stop) → TookFile called seen d s m (grant_for call) (Err stop) d1 s1 → Goes called seen d s call m.ino (asks_at (seen d).creds s m call) (try_ends (Err stop)) d1 s1
+    stopped_goes (IsBusy holder) t = record {
+      given = t.given;
+      last = t.last;
+      each = t.went.each;
+      made = t.went.made;
+      ends = (m.ino, grant_for call, t.taken.1);
+      leaves = t.went.alike;
+      calls = t.went.calls;
+      same = t.went.same;
+      asks = λ nodes rows p.
+          let now : Nodes = batch_nodes (seen d1).creds s1.calls nodes in (
+            allot_asks (wanted_pages now (seen d).creds call) 0,
+            asks_own (seen d).creds s m call now unchecked
+                ∙ ap (λ l. l ++ allot_asks (wanted_pages now (seen d).creds call) 0) (t.taken.2 ∙ sym (ap (map asking) (ap (λ g. g ++ t.last) t.taken.0 ∙ t.taken.1))),
+          );
+      more = t.went.more;
+      after = t.went.may;
+    }
+    stopped_goes LacksMemory t = record {
+      given = t.given;
+      last = t.last;
+      each = t.went.each;
+      made = t.went.made;
+      ends = t.taken.0;
+      leaves = t.went.alike;
+      calls = t.went.calls;
+      same = t.went.same;
+      asks = λ nodes rows p.
+          let now : Nodes = batch_nodes (seen d1).creds s1.calls nodes in (
+            t.taken.1.0 ++ allot_asks (wanted_pages now (seen d).creds call) 0,
+            asks_own (seen d).creds s m call now unchecked
+                ∙ ap (λ l. l ++ allot_asks (wanted_pages now (seen d).creds call) 0) t.taken.1.1 ∙ append_assoc (map asking (t.given ++ t.last)) t.taken.1.0 (allot_asks (wanted_pages now (seen d).creds call) 0),
+          );
+      more = t.went.more;
+      after = t.went.may;
+    }
+
+-- ---- the root denies its grant
+
+only_stat : (g : Bool) (call : Call) → IsFileCall call → refusal_at Directory g call ≡ None → (path : Path) × (call ≡ Stat path)
+only_stat g (Stat path) file e = (path, refl)
+only_stat g (Write path at bytes) file e = absurd (let wrong : Some IsDir ≡ None = e in cc wrong)
+only_stat g (Truncate path size) file e = absurd (let wrong : Some IsDir ≡ None = e in cc wrong)
+only_stat g (Read path at len) file e = absurd (let wrong : Some IsDir ≡ None = e in cc wrong)
+only_stat g (Mkdir path mode) file e = absurd file
+only_stat g (Create path mode) file e = absurd file
+only_stat g (Unlink path) file e = absurd file
+only_stat g (Rmdir path) file e = absurd file
+only_stat g (Rename from to) file e = absurd file
+only_stat g (ListNames path from) file e = absurd file
+only_stat g (Chmod path mode) file e = absurd file
+
+not-true : (b : Bool) → not b ≡ true → b ≡ false
+not-true false e = refl
+not-true true e = sym e
+
+module _ {D : Type 0} (called : D → Ask → Told → D → Type 0) (seen : D → DeskSeen) (d : D) (s : SessionSeen) (call : Call) (m : Met) (met : HasMet (seen d) s m) (comes : ComesHere (seen d) s (path_of call) m.ino)
+    (file : IsFileCall call) (unchecked : checked (seen d).creds m call ≡ None) (d1 : D) (s1 : SessionSeen) (t : TookFile called seen d s m (grant_for call) (Ok false) d1 s1) where
+  abbrev denial : desk_calls.Call
+  denial = record { ask = Grant 1 (grant_for call); told = NotLent (DeniedGrant 1) }
+
+  comes_then : ComesHere (seen d1) s1 (path_of call) m.ino
+  comes_then =
+      let h = both_went called seen d s t.given t.last d1 s1 t.went (λ nodes now. walk now (seen d).creds [] (path_of call) ≡ Ok m.ino) comes in
+      subst (λ (k : Creds). InBoth (seen d1) s1 (λ nodes now. walk now k [] (path_of call) ≡ Ok m.ino)) (sym t.went.same.creds) h
+
+  module _ (nodes : Nodes) (rows : List (Option Row)) (p : ArePossible (seen d1) s1.parcel s1.reads nodes rows) where
+    abbrev now : Nodes
+    now = batch_nodes (seen d1).creds s1.calls nodes
+
+    -- only a stat comes so far with a directory
+    denied_stat : (path : Path) × (call ≡ Stat path)
+    denied_stat =
+        let kind = root_kind (seen d1) s1 call m t.went.may (met_went called seen d s t.given t.last d1 s1 t.went m met) comes_then file nodes rows p t.taken.4 in
+        only_stat (gives_met (seen d).creds m (need_for call)) call file (ap (λ k. refusal_at k (gives_met (seen d).creds m (need_for call)) call) (sym kind) ∙ unchecked)
+
+    -- of it that is the check of the root's rights, of which it was not known before
+    denied_here : (path : Path) → call ≡ Stat path → DoesCall (seen d1) (record { call = Stat path; reply = Denied; made = 0 }) (batch_nodes (seen d1).creds s1.calls nodes) (batch_nodes (seen d1).creds s1.calls nodes)
+    denied_here path is =
+        let k : MayCall (seen d1) s1 = t.went.may in
+        let shows = shown_by (seen d1) (in_hand s1) (in_hand s1) s1.calls nodes rows (λ n r q. q) k.comes p in
+        let root = sees_root (seen d1) (in_hand s1) (in_hand s1) nodes now rows (record { order = k.edits.order; more = λ n r q. q; shows = shows }) in
+        let there : HasRights (seen d1).root (node_at now m.ino) = subst (λ n. HasRights (seen d1).root (node_at now n)) (sym t.taken.3) root in
+        let denied : denies (seen d).creds (seen d).root ReadGrant ≡ true = subst (λ c. denies (seen d).creds (seen d).root (grant_for c) ≡ true) is t.taken.5 in
+        let lacks : gives (seen d1).creds ToRead (seen d1).root ≡ false =
+        ap (λ (c : Creds). gives c ToRead (seen d1).root) t.went.same.creds ∙ ap (λ r. gives (seen d).creds ToRead r) t.went.same.root ∙ not-true (gives (seen d).creds ToRead (seen d).root) denied in
+        let here : walk now (seen d1).creds [] path ≡ Ok m.ino = subst (λ c. walk (batch_nodes (seen d1).creds s1.calls nodes) (seen d1).creds [] (path_of c) ≡ Ok m.ino) is (comes_then nodes rows p) in
+        refused_by_check (seen d1) (record { call = Stat path; reply = Denied; made = 0 }) now path m.ino (seen d1).root refl here there (ap (λ b. cond (not b) (Some Denied) None) lacks) refl
+
+    denied_does : DoesCall (seen d1) (record { call = call; reply = Denied; made = 0 }) (batch_nodes (seen d1).creds s1.calls nodes) (batch_nodes (seen d1).creds s1.calls nodes)
+    denied_does =
+        let stat = denied_stat in
+        subst (λ (c : Call). DoesCall (seen d1) (record { call = c; reply = Denied; made = 0 }) (batch_nodes (seen d1).creds s1.calls nodes) (batch_nodes (seen d1).creds s1.calls nodes)) (sym stat.1) (denied_here stat.0 stat.1)
+
+    denied_asks : asks_at (seen d).creds s m call (batch_nodes (seen d1).creds s1.calls nodes) ≡ map (λ (c : desk_calls.Call). c.ask) (t.given ++ t.last)
+    denied_asks =
+        let stat = denied_stat in
+        let none : allot_asks (wanted_pages now (seen d).creds call) 0 ≡ [] =
+        ap (λ c. allot_asks (wanted_pages now (seen d).creds c) 0) stat.1 ∙ look_pages (seen d).creds (Stat stat.0) now tt in
+        asks_own (seen d).creds s m call now unchecked
+        ∙ ap (λ l. l ++ allot_asks (wanted_pages now (seen d).creds call) 0) t.taken.2
+        ∙ ap (λ l. Grant 1 (grant_for call) ∷ l) none
+        ∙ sym (ap (map (λ (c : desk_calls.Call). c.ask)) (ap (λ g. g ++ t.last) t.taken.0 ∙ t.taken.1))
+
+  pub root_denied_goes : (s' : SessionSeen) → s' ≡ record s1 { room = s'.room } → (result : Result Reply Stop)
+      → MatchResult result (λ r. (r ≡ Denied) × (length s'.calls < s'.room.calls)) (λ stop. stop ≡ LacksMemory)
+      → Goes called seen d s call m.ino (asks_at (seen d).creds s m call) (try_ends result) d1 s'
+  root_denied_goes s' kept result ends = by result ends
+    where
+      e : IsAlike s1 s'
+      e = alike_room s1 s' kept
+
+      went : Went called seen d s t.given t.last d1 s'
+      went = went_alike called seen d s t.given t.last d1 s1 t.went s' e
+
+      does : InAllShown (seen d1) s' (λ now. DoesCall (seen d1) (record { call = call; reply = Denied; made = 0 }) now now)
+      does = both_alike (seen d1) s1 s' (λ nodes x. DoesCall (seen d1) (record { call = call; reply = Denied; made = 0 }) x x) e denied_does
+
+      asks : InAllShown (seen d1) s' (λ now. asks_at (seen d).creds s m call now ≡ map (λ (c : desk_calls.Call). c.ask) (t.given ++ t.last))
+      asks = both_alike (seen d1) s1 s' (λ nodes x. asks_at (seen d).creds s m call x ≡ map (λ (c : desk_calls.Call). c.ask) (t.given ++ t.last)) e denied_asks
+
+      replied : length s'.calls < s'.room.calls → Goes called seen d s call m.ino (asks_at (seen d).creds s m call) (Replied Denied) d1 s'
+      replied room = record {
+        given = t.given;
+        last = t.last;
+        each = went.each;
+        made = went.made;
+        ends = inr (denial, t.taken.1, (grant_for call, refl));
+        leaves = went.alike;
+        calls = went.calls;
+        same = went.same;
+        asks = asks;
+        more = went.more;
+        after = (may_looked (seen d1) s' call Denied went.may does, room, tt, λ b. absurd b);
+      }
+
+      short : Goes called seen d s call m.ino (asks_at (seen d).creds s m call) NoMemory d1 s'
+      short = record {
+        given = t.given;
+        last = t.last;
+        each = went.each;
+        made = went.made;
+        ends = inr (denial, t.taken.1, inr (grant_for call, refl));
+        leaves = went.alike;
+        calls = went.calls;
+        same = went.same;
+        asks = λ nodes rows p. ([], asks nodes rows p ∙ sym (append-nil (map (λ (c : desk_calls.Call). c.ask) (t.given ++ t.last))));
+        more = went.more;
+        after = went.may;
+      }
+
+      by : (result : Result Reply Stop) → MatchResult result (λ r. (r ≡ Denied) × (length s'.calls < s'.room.calls)) (λ stop. stop ≡ LacksMemory) → Goes called seen d s call m.ino (asks_at (seen d).creds s m call) (try_ends result) d1 s'
+      by (Ok r) h = subst (λ x. Goes called seen d s call m.ino (asks_at (seen d).creds s m call) (Replied x) d1 s') (sym h.0) (replied h.1)
+      by (Err stop) h = subst (λ x. Goes called seen d s call m.ino (asks_at (seen d).creds s m call) (try_ends (Err x)) d1 s') (sym h) short
+
+-- ---- words
+
+-- a file is taken for a call, whatever word says the kind of its grant
+pub took_for : {D : Type 0} (called : D → Ask → Told → D → Type 0) (seen : D → DeskSeen) (d : D) (s : SessionSeen) (call : Call) (m : Met) (kind : GrantKind) (result : Result Bool Stop) (d1 : D) (s1 : SessionSeen)
+    → kind ≡ grant_for call → TookFile called seen d s m kind result d1 s1 → TookFile called seen d s m (grant_for call) result d1 s1
+took_for called seen d s call m kind result d1 s1 e t = subst (λ k. TookFile called seen d s m k result d1 s1) e t
+
+-- a call that writes is of a regular file
+pub write_regular : (creds : Creds) (m : Met) (call : Call) → IsFileCall call → grant_for call ≡ WriteGrant → checked creds m call ≡ None → m.kind ≡ Regular
+write_regular creds m (Write path at bytes) file w e = (bytes_taken m.kind (gives_met creds m (need_for (Write path at bytes))) (leb (at + length bytes) largest_size) e).1
+write_regular creds m (Truncate path size) file w e = (bytes_taken m.kind (gives_met creds m (need_for (Truncate path size))) (leb size largest_size) e).1
+write_regular creds m (Read path at len) file w e = absurd (cc w)
+write_regular creds m (Stat path) file w e = absurd (cc w)
+write_regular creds m (Mkdir path mode) file w e = absurd file
+write_regular creds m (Create path mode) file w e = absurd file
+write_regular creds m (Unlink path) file w e = absurd file
+write_regular creds m (Rmdir path) file w e = absurd file
+write_regular creds m (Rename from to) file w e = absurd file
+write_regular creds m (ListNames path from) file w e = absurd file
+write_regular creds m (Chmod path mode) file w e = absurd file
+
+-- one that doesn't take it for reading writes
+unread_regular : (creds : Creds) (m : Met) (call : Call) → IsFileCall call → grant_for call ≢ ReadGrant → checked creds m call ≡ None → m.kind ≡ Regular
+unread_regular creds m (Write path at bytes) file w e = write_regular creds m (Write path at bytes) file refl e
+unread_regular creds m (Truncate path size) file w e = write_regular creds m (Truncate path size) file refl e
+unread_regular creds m (Read path at len) file w e = absurd (w refl)
+unread_regular creds m (Stat path) file w e = absurd (w refl)
+unread_regular creds m (Mkdir path mode) file w e = absurd file
+unread_regular creds m (Create path mode) file w e = absurd file
+unread_regular creds m (Unlink path) file w e = absurd file
+unread_regular creds m (Rmdir path) file w e = absurd file
+unread_regular creds m (Rename from to) file w e = absurd file
+unread_regular creds m (ListNames path from) file w e = absurd file
+unread_regular creds m (Chmod path mode) file w e = absurd file
+
+-- a grant of the library's own that keeps a file busy is one of the session's
+pub busy_stopped : {D : Type 0} (called : D → Ask → Told → D → Type 0) (seen : D → DeskSeen) (d : D) (s : SessionSeen) (call : Call) (m : Met) (d1 : D) (s1 : SessionSeen) (stop : Stop)
+    → IsFileCall call → checked (seen d).creds m call ≡ None → TookFile called seen d s m (grant_for call) (Err stop) d1 s1 → BusyAt (seen d) s m call (try_ends (Err stop))
+busy_stopped called seen d s call m d1 s1 (IsBusy holder) file e t = λ mine. (t.taken.3 mine, λ writes. unread_regular (seen d).creds m call file writes e)
+busy_stopped called seen d s call m d1 s1 LacksMemory file e t = tt
+
+-- a call that no check refuses may take its file
+pub may_take : (desk : DeskSeen) (s : SessionSeen) (m : Met) (call : Call) → IsFileCall call → checked desk.creds m call ≡ None → MayTake desk s m (grant_for call)
+may_take desk s m (Write path at bytes) file e = (bytes_taken m.kind (gives_met desk.creds m (need_for (Write path at bytes))) (leb (at + length bytes) largest_size) e).0
+may_take desk s m (Truncate path size) file e = (bytes_taken m.kind (gives_met desk.creds m (need_for (Truncate path size))) (leb size largest_size) e).0
+may_take desk s m (Read path at len) file e = (bytes_taken m.kind (gives_met desk.creds m (need_for (Read path at len))) true e).0
+may_take desk s m (Stat path) file e = stat_taken (gives_met desk.creds m (need_for (Stat path))) e
+may_take desk s m (Mkdir path mode) file e = absurd file
+may_take desk s m (Create path mode) file e = absurd file
+may_take desk s m (Unlink path) file e = absurd file
+may_take desk s m (Rmdir path) file e = absurd file
+may_take desk s m (Rename from to) file e = absurd file
+may_take desk s m (ListNames path from) file e = absurd file
+may_take desk s m (Chmod path mode) file e = absurd file
+
+-- a read that no check refuses is of a regular file
+pub read_regular : (creds : Creds) (m : Met) (path : Path) (at len : ℕ) → checked creds m (Read path at len) ≡ None → m.kind ≡ Regular
+read_regular creds m path at len e = (bytes_taken m.kind (gives_met creds m (need_for (Read path at len))) true e).1

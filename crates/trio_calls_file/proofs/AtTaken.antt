@@ -1,0 +1,132 @@
+-- What is done at the file that is taken.
+use Rattle.std.proofs.Common.{◌≡◌, ℕ, ◌<◌, Bool, true, false, cond, List, [], length, take, drop, Option, Some, None, Result, sym, refl, ap, ◌∙◌, subst}
+use Rattle.std.specs.Prelude.{not, MatchResult}
+use Rattle.std.specs.Option.{option_map}
+use Rattle.trio_rights.specs.Row.{Row}
+use Rattle.trio_rights.specs.declared.kind.Kind.{Kind}
+use Rattle.trio_rights.specs.declared.kind.Kind.TheVariants.{Directory, Regular}
+use Rattle.trio_rights.specs.declared.rights.Need.TheVariants.{Read as ToRead}
+use Rattle.trio_nodes.specs.declared.call.Answer.TheVariants.{Bytes, Stat as IsStat}
+use Rattle.trio_nodes.specs.declared.call.Call.{Call}
+use Rattle.trio_nodes.specs.declared.call.Call.TheVariants.{Read, Stat}
+use Rattle.trio_nodes.specs.declared.call.Reply.{Reply}
+use Rattle.trio_nodes.specs.declared.call.Reply.TheVariants.{Ok as IsReplied, Denied}
+use Rattle.trio_nodes.specs.declared.grant.GrantKind.TheVariants.{Read as ReadGrant, Write as WriteGrant}
+use Rattle.trio_nodes.specs.Nodes.{Nodes, node_at}
+use Rattle.trio_nodes.specs.Walk.{Path, is_directory}
+use Rattle.trio_nodes.specs.After.{batch_nodes}
+use Rattle.trio_desk.specs.Call.{Ask, DeskSeen, Told}
+use Rattle.trio_desk.specs.Contents.{Rights, rights_in, rights_of}
+use Rattle.trio_desk.specs.Edits.{DoesCall}
+use Rattle.trio_desk.specs.Ready.{ArePossible}
+use Rattle.trio_laws.specs.session.FileCalls.{gives, refusal}
+use Rattle.trio_laws.proofs.session.FileCalls.{done_by_bytes, refused_by_check, stats_directory}
+use Rattle.trio_session.specs.Seen.{IsOpen, SessionSeen, kind_shown, serves, pages_shown}
+use Rattle.trio_walk.specs.declared.met.Met.{Met}
+use Rattle.trio_walk.specs.Needs.{path_of}
+use Rattle.trio_walk.specs.Walks.{InAllShown, HasMet}
+use Rattle.trio_walk.specs.declared.outcome.Outcome.{Outcome}
+use Rattle.trio_calls_file.specs.declared.files.Stop.{Stop}
+use Rattle.trio_calls_file.specs.declared.files.Stop.TheVariants.{NoMemory as LacksMemory}
+use Rattle.trio_calls_file.specs.Asks.{IsFileCall}
+use Rattle.trio_edit_laws.specs.Calls.{MayCall}
+use Rattle.trio_calls_file.specs.inner.Goes.{ComesHere, Goes, Unrefused, bytes_reply, checked, grant_for, size_had, stat_reply, try_ends, wants_pages_for}
+use Rattle.trio_calls_file.specs.inner.Reads.{IsHad, body_had, bytes_had, entries_counted}
+use Rattle.trio_calls_file.proofs.AtFile.{look_pages, write_regular}
+use Rattle.trio_calls_file.proofs.Had.{open_served}
+use Rattle.trio_calls_file.proofs.Checking.{regular_unrefused}
+use Rattle.trio_calls_file.proofs.Contents.{HadHere, had_count, had_here, had_length}
+use Rattle.trio_calls_file.proofs.Looked.{IsLook, look_goes, read_look, refused_look}
+use Rattle.trio_calls_file.proofs.Shown.{stood}
+
+module _ {D : Type 0} (called : D → Ask → Told → D → Type 0) (seen : D → DeskSeen) (d : D) (s : SessionSeen) (m : Met) (may : MayCall (seen d) s) (met : HasMet (seen d) s m) (had : IsHad s m.ino) where
+  -- ---- edits
+
+  -- no check refuses a call that writes
+  pub write_unrefused : (call : Call) → IsFileCall call → ComesHere (seen d) s (path_of call) m.ino → checked (seen d).creds m call ≡ None → grant_for call ≡ WriteGrant → Unrefused (seen d) s call m.ino
+  write_unrefused call file comes unchecked writes nodes rows p =
+      regular_unrefused (seen d) s call m may met comes file nodes rows p (write_regular (seen d).creds m call file writes unchecked) unchecked
+
+  -- it is open
+  pub write_open : (call call' : Call) → call ≡ call' → IsFileCall call → checked (seen d).creds m call ≡ None → grant_for call' ≡ WriteGrant → serves s m.ino (grant_for call) ≡ true → kind_shown s m.ino ≡ Some m.kind → IsOpen s m.ino
+  write_open call call' e file unchecked writes served kind =
+      let w : grant_for call ≡ WriteGrant = ap grant_for e ∙ writes in
+      open_served s m.ino (subst (λ k. serves s m.ino k ≡ true) w served) (kind ∙ ap Some (write_regular (seen d).creds m call file w unchecked))
+
+  pub edit_goes : (call call' : Call) → call ≡ call' → IsFileCall call → ComesHere (seen d) s (path_of call) m.ino → checked (seen d).creds m call ≡ None → grant_for call' ≡ WriteGrant
+      → (end : Outcome) (d' : D) (s' : SessionSeen) → (Unrefused (seen d) s call' m.ino → Goes called seen d s call' m.ino (wants_pages_for (seen d).creds call') end d' s')
+      → Goes called seen d s call m.ino (wants_pages_for (seen d).creds call) end d' s'
+  edit_goes call call' e file comes unchecked writes end d' s' goes =
+      let un : Unrefused (seen d) s call m.ino = write_unrefused call file comes unchecked (ap grant_for e ∙ writes) in
+      subst (λ (k : Call). Goes called seen d s k m.ino (wants_pages_for (seen d).creds k) end d' s') (sym e) (goes (subst (λ (k : Call). Unrefused (seen d) s k m.ino) e un))
+
+  -- ---- a read
+
+  module _ (path : Path) (at len : ℕ) (comes : ComesHere (seen d) s path m.ino) (file : IsFileCall (Read path at len)) (unchecked : checked (seen d).creds m (Read path at len) ≡ None) (served : serves s m.ino ReadGrant ≡ true) (regular : m.kind ≡ Regular) where
+    read_does : InAllShown (seen d) s (λ now. DoesCall (seen d) (record { call = Read path at len; reply = IsReplied (Bytes (take len (drop at (bytes_had s m.ino)))); made = 0 }) now now)
+    read_does nodes rows p =
+        let now : Nodes = batch_nodes (seen d).creds s.calls nodes in
+        let t = met.1.met nodes rows p in
+        let b = regular_unrefused (seen d) s (Read path at len) m may met comes file nodes rows p regular unchecked in
+        let kind : t.after.kind ≡ Regular = t.kind ∙ regular in
+        let same : Some (rights_of t.after) ≡ Some b.rights = sym (ap (option_map rights_of) t.there_now) ∙ b.there in
+        let rights : rights_of t.after ≡ b.rights = cc same in
+        let h = had_here (seen d) s may m.ino nodes rows p Regular t.after t.there_now kind served in
+        done_by_bytes (seen d) (record { call = Read path at len; reply = IsReplied (Bytes (take len (drop at (bytes_had s m.ino)))); made = 0 }) now path m.ino b.rights (bytes_had s m.ino) refl (comes nodes rows p) b.there
+        (ap (λ (r : Rights). r.kind) (sym rights) ∙ kind) (h.bytes refl) b.checks refl refl
+
+    pub read_goes : (s' : SessionSeen) → s' ≡ record s { room = s'.room } → (result : Result Reply Stop)
+        → MatchResult result (λ r. (r ≡ bytes_reply s m.ino at len) × (length s'.calls < s'.room.calls)) (λ stop. stop ≡ LacksMemory)
+        → Goes called seen d s (Read path at len) m.ino (wants_pages_for (seen d).creds (Read path at len)) (try_ends result) d s'
+    read_goes s' kept result ends =
+        look_goes called seen d s (Read path at len) m.ino (wants_pages_for (seen d).creds (Read path at len)) [] d s s' (stood called seen d s may)
+        (λ nodes rows p. look_pages (seen d).creds (Read path at len) (batch_nodes (seen d).creds s.calls nodes) tt)
+        (bytes_reply s m.ino at len) (read_look path at len (take len (drop at (bytes_had s m.ino)))) read_does kept result ends
+
+  -- ---- a stat
+
+  module _ (path : Path) (comes : ComesHere (seen d) s path m.ino) (served : serves s m.ino ReadGrant ≡ true) where
+    abbrev r : Rights
+    r = rights_in m.kind (body_had s m.ino)
+
+    stat_look : (g : Bool) (size : ℕ) → IsLook (Stat path) (cond g (IsReplied (IsStat r.kind r.mode r.uid r.gid size)) Denied)
+    stat_look true size = record { ends = refl; leaves = λ ino x s' e. e; plain = tt; reads = λ b. absurd b }
+    stat_look false size = refused_look (Stat path) Denied tt
+
+    module _ (nodes : Nodes) (rows : List (Option Row)) (p : ArePossible (seen d) s.parcel s.reads nodes rows) where
+      here : HadHere s m.ino m.kind (node_at (batch_nodes (seen d).creds s.calls nodes) m.ino)
+      here =
+          let t = met.1.met nodes rows p in
+          had_here (seen d) s may m.ino nodes rows p m.kind t.after t.there_now t.kind served
+
+      allowed : gives (seen d).creds ToRead r ≡ true → refusal (seen d).creds r (Stat path) ≡ None
+      allowed g = ap (λ b. cond (not b) (Some Denied) None) g
+
+      by_kind : gives (seen d).creds ToRead (rights_in m.kind (body_had s m.ino)) ≡ true → (k : Kind) → m.kind ≡ k
+          → DoesCall (seen d) (record { call = Stat path; reply = IsReplied (IsStat m.kind (rights_in m.kind (body_had s m.ino)).mode (rights_in m.kind (body_had s m.ino)).uid (rights_in m.kind (body_had s m.ino)).gid (size_had s m.ino m.kind)); made = 0 })
+          (batch_nodes (seen d).creds s.calls nodes) (batch_nodes (seen d).creds s.calls nodes)
+      by_kind g Regular e =
+          let size : size_had s m.ino m.kind ≡ length (bytes_had s m.ino) = ap (size_had s m.ino) e ∙ sym (had_length s m.ino had) in
+          done_by_bytes (seen d) (record { call = Stat path; reply = IsReplied (IsStat r.kind r.mode r.uid r.gid (size_had s m.ino m.kind)); made = 0 }) (batch_nodes (seen d).creds s.calls nodes) path m.ino r (bytes_had s m.ino)
+          refl (comes nodes rows p) here.rights e (here.bytes e) (allowed g) (ap (λ n. IsReplied (IsStat r.kind r.mode r.uid r.gid n)) size) refl
+      by_kind g Directory e =
+          let size : size_had s m.ino m.kind ≡ entries_counted (pages_shown s m.ino) = ap (size_had s m.ino) e in
+          stats_directory (seen d) (record { call = Stat path; reply = IsReplied (IsStat r.kind r.mode r.uid r.gid (size_had s m.ino m.kind)); made = 0 }) (batch_nodes (seen d).creds s.calls nodes) path m.ino r (entries_counted (pages_shown s m.ino))
+          refl (comes nodes rows p) here.rights (ap is_directory e) (had_count (seen d) s may m.ino nodes rows p (subst (λ k. HadHere s m.ino k (node_at (batch_nodes (seen d).creds s.calls nodes) m.ino)) e here) served) (allowed g)
+          (ap (λ n. IsReplied (IsStat r.kind r.mode r.uid r.gid n)) size) refl
+
+      by_gives : (g : Bool) → gives (seen d).creds ToRead (rights_in m.kind (body_had s m.ino)) ≡ g
+          → DoesCall (seen d) (record { call = Stat path; reply = cond g (IsReplied (IsStat m.kind (rights_in m.kind (body_had s m.ino)).mode (rights_in m.kind (body_had s m.ino)).uid (rights_in m.kind (body_had s m.ino)).gid (size_had s m.ino m.kind))) Denied; made = 0 })
+          (batch_nodes (seen d).creds s.calls nodes) (batch_nodes (seen d).creds s.calls nodes)
+      by_gives true g = by_kind g m.kind refl
+      by_gives false g =
+          refused_by_check (seen d) (record { call = Stat path; reply = Denied; made = 0 }) (batch_nodes (seen d).creds s.calls nodes) path m.ino r refl (comes nodes rows p) here.rights (ap (λ b. cond (not b) (Some Denied) None) g) refl
+
+    pub stat_goes : (s' : SessionSeen) → s' ≡ record s { room = s'.room } → (result : Result Reply Stop)
+        → MatchResult result (λ x. (x ≡ stat_reply (seen d).creds s m.ino m.kind) × (length s'.calls < s'.room.calls)) (λ stop. stop ≡ LacksMemory)
+        → Goes called seen d s (Stat path) m.ino (wants_pages_for (seen d).creds (Stat path)) (try_ends result) d s'
+    stat_goes s' kept result ends =
+        look_goes called seen d s (Stat path) m.ino (wants_pages_for (seen d).creds (Stat path)) [] d s s' (stood called seen d s may)
+        (λ nodes rows p. look_pages (seen d).creds (Stat path) (batch_nodes (seen d).creds s.calls nodes) tt)
+        (stat_reply (seen d).creds s m.ino m.kind) (stat_look (gives (seen d).creds ToRead (rights_in m.kind (body_had s m.ino))) (size_had s m.ino m.kind))
+        (λ nodes rows p. by_gives nodes rows p (gives (seen d).creds ToRead (rights_in m.kind (body_had s m.ino))) refl) kept result ends

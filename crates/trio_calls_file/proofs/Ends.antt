@@ -1,0 +1,353 @@
+-- How a call that writes ends: with its edit and its note, or for want of room.
+use Rattle.std.proofs.Common.{◌≡◌, ℕ, ◌+◌, ◌<◌, ◌≤◌, max, arith, Bool, true, false, cond, eqb, List, [], ◌∷◌, ◌++◌, length, Option, Some, None, Result, Ok, Err, sym, refl, ap, ◌∙◌, subst, inl, inr}
+use Rattle.std.specs.Prelude.{map}
+use Rattle.std.specs.Option.{option_map}
+use Rattle.std.proofs.lemmas.Bool.{eqb-true, true≢false}
+use Rattle.trio_rights.specs.declared.kind.Kind.TheVariants.{Regular}
+use Rattle.trio_lists.specs.Lists.{In}
+use Rattle.trio_layout.specs.Body.{block_count}
+use Rattle.trio_lease.specs.declared.parts.InoParts.{InoParts}
+use Rattle.trio_nodes.specs.declared.call.Answer.{Answer}
+use Rattle.trio_nodes.specs.declared.call.Answer.TheVariants.{Count, Done as IsDone}
+use Rattle.trio_nodes.specs.declared.call.Call.{Call}
+use Rattle.trio_nodes.specs.declared.call.Done.{Done}
+use Rattle.trio_nodes.specs.declared.call.Reply.{Reply}
+use Rattle.trio_nodes.specs.declared.call.Call.TheVariants.{Truncate, Write}
+use Rattle.trio_nodes.specs.declared.call.Reply.TheVariants.{Ok as IsReplied, NotFound, Exists, NotDir, IsDir, NotEmpty, Denied, IntoItself, NoSpace, NoInodes, TooLarge}
+use Rattle.trio_nodes.specs.declared.node.Node.{Node}
+use Rattle.trio_nodes.specs.Apply.{applied, is_done, largest_size, put_at, resized, wants_pages}
+use Rattle.trio_nodes.specs.After.{batch_nodes}
+use Rattle.trio_nodes.specs.Legal.{LegalCalls}
+use Rattle.trio_nodes.specs.Nodes.{Nodes, node_at}
+use Rattle.trio_nodes.specs.Walk.{Path, walk}
+use Rattle.trio_desk.specs.Agrees.{HasRights}
+use Rattle.trio_desk.specs.Call.{Ask, DeskSeen, Told}
+use Rattle.trio_desk.specs.Contents.{AreWithinLimits, Rights, rights_in}
+use Rattle.trio_desk.specs.Edits.{DoesCall, MayShow, TakesMore}
+use Rattle.trio_desk.specs.Out.{ino_numbers}
+use Rattle.trio_desk.specs.Ready.{ComesToShown, parcel_case}
+use Rattle.trio_desk.specs.Shows.{Shows}
+use Rattle.trio_laws.specs.session.FileCalls.{answer_of, changed_by, file_path, refusal}
+use Rattle.trio_laws.specs.session.FileEdits.{with_content}
+use Rattle.trio_laws.specs.session.Takes.{Becomes}
+use Rattle.trio_laws.proofs.session.Calls.{batch_more, reply_more}
+use Rattle.trio_laws.proofs.session.FileCalls.{done_by_bytes, refused_for_room}
+use Rattle.trio_laws.proofs.session.LentNodes.{mapped}
+use Rattle.trio_session.specs.Layout.{growth, size_in}
+use Rattle.trio_session.specs.Seen.{IsOpen, SessionSeen, body_in, chain_in, in_hand, put, room_in, spare_pages}
+use Rattle.trio_edit_laws.specs.Written.{bytes_in}
+use Rattle.trio_edit_laws.proofs.OpenChain.{open_chain}
+use Rattle.trio_edit_laws.proofs.Reading.{length-bytes_in, sees_bytes}
+use Rattle.trio_edit_laws.proofs.Resized.{length-resized}
+use Rattle.trio_edit_laws.proofs.Shown.{shown_by}
+use Rattle.trio_walk.specs.Needs.{path_of}
+use Rattle.trio_walk.specs.Walks.{InAllShown}
+use Rattle.trio_walk.specs.Asks.{IsAlike, allot_asks, noted, took}
+use Rattle.trio_edit_laws.specs.Calls.{MayCall}
+use Rattle.trio_calls_file.specs.Asks.{edited, growth_of, new_length, sized, walked_growth, wanted_pages}
+use Rattle.trio_walk.specs.declared.outcome.Outcome.TheVariants.{Replied}
+use Rattle.trio_calls_file.specs.declared.files.Stop.{Stop}
+use Rattle.trio_calls_file.specs.declared.files.Stop.TheVariants.{Busy as IsBusy, NoMemory as LacksMemory}
+use Rattle.trio_calls_file.specs.inner.Goes.{Goes, IsBytes, IsNeverBusy, IsPlain, MayBeDone, Unrefused, try_ends, wants_pages_for}
+use Rattle.trio_calls_file.specs.inner.Rooms.{MadeRoom, MayGoOn, RoomEnds}
+use Rattle.trio_calls_file.proofs.AfterTaking.{edited_alike}
+use Rattle.trio_calls_file.proofs.Looked.{made_noted, may_looked}
+use Rattle.trio_calls_file.proofs.Shown.{alike_then, both_then}
+use Rattle.trio_calls_file.proofs.Still.{edit_but}
+use Rattle.trio_calls_file.proofs.Writes.{Edits, edits_none, edits_put, edits_sized}
+
+-- ---- a call that changes the bytes of a file
+
+-- It goes to the file at its path, and makes these bytes of those that the file has.
+pub record IsWriting (call' : Call) (new' : List ℕ → List ℕ) (answer' : Answer) : Type 0 where
+  pub path : file_path call' ≡ Some (path_of call')
+  pub wants : wants_pages call' ≡ true
+  pub change : (ino : ℕ) (old : List ℕ) (nodes : Nodes) → changed_by call' ino old nodes ≡ with_content ino (new' old) nodes
+  pub answers : (r : Rights) (old : List ℕ) (size : ℕ) → answer_of r old size call' ≡ answer'
+  pub plain : IsPlain (IsReplied answer')
+  pub unread : IsBytes (IsReplied answer') → ⊥
+
+-- what is known of its file, in nodes that are shown: nothing refuses the call, and the node has the bytes that the session reads
+record IsKnown (desk : DeskSeen) (s : SessionSeen) (call' : Call) (ino' : ℕ) (now : Nodes) : Type 0 where
+  walks : walk now desk.creds [] (path_of call') ≡ Ok ino'
+  rights : Rights
+  there : HasRights rights (node_at now ino')
+  regular : rights.kind ≡ Regular
+  checks : refusal desk.creds rights call' ≡ None
+  bytes : option_map (λ (x : Node). x.bytes) (node_at now ino') ≡ Some (bytes_in s ino')
+
+module _ (desk : DeskSeen) (s : SessionSeen) (call : Call) (new : List ℕ → List ℕ) (answer : Answer) (ino : ℕ) (may : MayGoOn desk s) (o : IsOpen s ino) (writing : IsWriting call new answer) (unrefused : Unrefused desk s call ino) where
+  -- as long as what is in hand is possible
+  known : InAllShown desk s (λ now. IsKnown desk s call ino now)
+  known nodes rows p =
+      let now : Nodes = batch_nodes desk.creds s.calls nodes in
+      let u = unrefused nodes rows p in
+      let shown : MayShow desk (in_hand s) (in_hand s) nodes now rows = shown_by desk (in_hand s) (in_hand s) s.calls nodes rows (λ n r q. q) may.comes p in
+      let sees = sees_bytes desk s ino nodes now rows may.edits o shown in
+      let same : u.rights ≡ rights_in Regular (body_in s ino) = (let t : Some u.rights ≡ Some (rights_in Regular (body_in s ino)) = sym u.there ∙ sees.0 in cc t) in
+      record { walks = u.walks; rights = u.rights; there = u.there; regular = ap (λ (r : Rights). r.kind) same; checks = u.checks; bytes = sees.1 }
+
+  abbrev done : Done
+  done = record { call = call; reply = IsReplied answer; made = 0 }
+
+  -- the call does to them what it should
+  does : (now : Nodes) → IsKnown desk s call ino now → DoesCall desk (record { call = call; reply = IsReplied answer; made = 0 }) now (changed_by call ino (bytes_in s ino) now)
+  does now k =
+      done_by_bytes desk done now (path_of call) ino k.rights (bytes_in s ino) writing.path k.walks k.there k.regular k.bytes k.checks
+      (ap IsReplied (sym (writing.answers k.rights (bytes_in s ino) (length (bytes_in s ino))))) refl
+
+  would : (now : Nodes) → IsKnown desk s call ino now → is_done (applied now desk.creds call 0).reply ≡ true
+  would now k = elim (does now k).0 [ inl a ↦ sym (ap is_done a.0) | inr lack ↦ absurd lack.0 ]
+
+  -- the pages that it wants, by the size of the body
+  wants_growth : (now : Nodes) → IsKnown desk s call ino now → wanted_pages now desk.creds call ≡ growth (block_count (size_in (body_in s ino))) (block_count (new_length call (size_in (body_in s ino))))
+  wants_growth now k =
+      let x = mapped (λ (z : Node). z.bytes) (node_at now ino) (bytes_in s ino) k.bytes in
+      let many : length x.0.bytes ≡ size_in (body_in s ino) = ap (λ (l : List ℕ). length l) x.2 ∙ length-bytes_in desk s ino may.edits o in
+      ap (λ t. cond t (walked_growth now call (walk now desk.creds [] (path_of call))) 0) (would now k)
+      ∙ ap (walked_growth now call) k.walks
+      ∙ ap (growth_of call) x.1
+      ∙ ap (λ n. growth (block_count n) (block_count (new_length call n))) many
+
+  -- and so in each later moment
+  pub asks_growth : (t : SessionSeen) → TakesMore desk (in_hand s) (in_hand t) → t.calls ≡ s.calls
+      → InAllShown desk t (λ now. wanted_pages now desk.creds call ≡ growth (block_count (size_in (body_in s ino))) (block_count (new_length call (size_in (body_in s ino)))))
+  asks_growth t more calls nodes rows p =
+      subst (λ (cs : List Done). wanted_pages (batch_nodes desk.creds cs nodes) desk.creds call ≡ growth (block_count (size_in (body_in s ino))) (block_count (new_length call (size_in (body_in s ino))))) (sym calls)
+      (wants_growth (batch_nodes desk.creds s.calls nodes) (known nodes rows (more nodes rows p)))
+
+  -- ---- noted
+
+  noted_comes : (t : SessionSeen) → Becomes desk (in_hand s) (in_hand t) (with_content ino (new (bytes_in s ino))) → t.calls ≡ s.calls → ComesToShown desk t.parcel t.reads (t.calls ++ record { call = call; reply = IsReplied answer; made = 0 } ∷ [])
+  noted_comes t becomes calls nodes rows p =
+      let n1 : Nodes = batch_nodes desk.creds s.calls nodes in
+      let q = becomes.more nodes rows p in
+      let was = may.comes nodes rows q in
+      let it = does n1 (known nodes rows q) in
+      let shown = shown_by desk (in_hand s) (in_hand t) s.calls nodes rows becomes.more may.comes p in
+      let end : batch_nodes desk.creds (s.calls ++ done ∷ []) nodes ≡ with_content ino (new (bytes_in s ino)) n1 =
+      batch_more desk.creds s.calls done nodes ∙ it.2 ∙ writing.change ino (bytes_in s ino) n1 in
+      subst
+      (λ (cs : List Done). LegalCalls desk.creds nodes (cs ++ record { call = call; reply = IsReplied answer; made = 0 } ∷ [])
+      × Shows (parcel_case desk.sizes desk.creds rows t.parcel) nodes (batch_nodes desk.creds (cs ++ record { call = call; reply = IsReplied answer; made = 0 } ∷ []) nodes)) (sym calls) (
+        reply_more desk.creds s.calls done nodes was.0 it.0 it.1,
+        subst (λ (k : Nodes). Shows (parcel_case desk.sizes desk.creds rows t.parcel) nodes k) (sym end) (becomes.shows nodes n1 rows shown),
+      )
+
+  -- ---- the end
+
+  -- with its edit and its note the session may go on
+  pub may_noted : (t : SessionSeen) → Edits desk s t ino (new (bytes_in s ino)) → MayCall desk (noted call (IsReplied answer) 0 t)
+  may_noted t e = record {
+    edits = edit_but desk t t.indexed t.finds t.room (t.calls ++ record { call = call; reply = IsReplied answer; made = 0 } ∷ []) e.may;
+    comes = noted_comes t e.becomes e.calls;
+    made = λ x i some.
+        subst (λ (l : List InoParts). In x.made (ino_numbers l)) (sym e.inodes)
+        (made_noted t call (IsReplied answer) (ino_numbers s.parcel.inodes) (λ y j k. may.made y (subst (λ (cs : List Done). In y cs) e.calls j) k) x i some);
+    spent = e.spent;
+    spent_numbers = e.numbers ∙ may.spent_numbers;
+  }
+
+  -- so it may with the note that there is no room
+  pub may_lacking : (wanted free : ℕ) → free < wanted → spare_pages s ≡ [] → MayCall desk (noted call (NoSpace wanted free) 0 s)
+  may_lacking wanted free less spent =
+      may_looked desk s call (NoSpace wanted free) (record { edits = may.edits; comes = may.comes; made = may.made; spent = spent; spent_numbers = may.spent_numbers })
+      (λ nodes rows p.
+      let k = known nodes rows p in
+      refused_for_room desk (record { call = call; reply = NoSpace wanted free; made = 0 }) (batch_nodes desk.creds s.calls nodes) (path_of call) ino k.rights wanted free
+      writing.path writing.wants k.walks k.there k.checks refl less refl)
+
+-- ---- what is known after room was made
+
+module _ {D : Type 0} (called : D → Ask → Told → D → Type 0) (seen : D → DeskSeen) (d : D) (s : SessionSeen) (ino old size : ℕ) (result : Result (Option Reply) Stop) (d' : D) (s1 : SessionSeen)
+    (o : IsOpen s ino) (old_is : old ≡ size_in (body_in s ino)) (room : MadeRoom called seen d s ino old size result d' s1) where
+  pub open_room : IsOpen s1 ino
+  open_room = room.wanted.files.opens ino ∙ o
+
+  pub old_room : old ≡ size_in (body_in s1 ino)
+  old_room = old_is ∙ sym (ap size_in (room.wanted.files.body ino Regular o))
+
+  module _ (is : result ≡ Ok None) where
+    ends_room : RoomEnds (seen d') ino (block_count size) (growth (block_count old) (block_count size)) room.given room.last (Ok None) s1
+    ends_room = subst (λ r. RoomEnds (seen d') ino (block_count size) (growth (block_count old) (block_count size)) room.given room.last r s1) is room.ends
+
+    many_room : length (spare_pages s1) ≡ growth (block_count (size_in (body_in s1 ino))) (block_count size)
+    many_room = ends_room.2.many ∙ ap (λ n. growth (block_count n) (block_count size)) old_room
+
+    pub pages_room : growth (length (chain_in s1 ino).blocks) (block_count size) ≤ length (spare_pages s1)
+    pages_room =
+        let count = (open_chain (seen d') s1 ino Regular room.wanted.may.edits open_room).count in
+        let same : length (spare_pages s1) ≡ growth (length (chain_in s1 ino).blocks) (block_count size) = many_room ∙ ap (λ n. growth n (block_count size)) count in
+        omega (arith, same)
+
+    pub blocks_room : block_count size ≤ room_in s1 ino
+    blocks_room = ends_room.3.blocks
+
+    pub calls_room : (t : SessionSeen) → t.calls ≡ s1.calls → t.room.calls ≡ s1.room.calls → length t.calls < t.room.calls
+    calls_room t calls places =
+        subst (λ n. length t.calls < n) (sym places) (subst (λ (cs : List Done). length cs < s1.room.calls) (sym calls) ends_room.3.calls)
+
+    module _ (limits : AreWithinLimits (seen d).sizes) where
+      limits_room : AreWithinLimits (seen d').sizes
+      limits_room = subst AreWithinLimits (sym room.wanted.same.sizes) limits
+
+      pub edits_room : size ≤ largest_size → Edits (seen d') s1 (sized ino size s1) ino (resized size (bytes_in s1 ino))
+      edits_room largest = edits_sized (seen d') s1 ino room.wanted.may.edits open_room size limits_room ends_room.2.spare largest many_room
+
+      pub size_room : size ≤ largest_size → size_in (body_in (sized ino size s1) ino) ≡ size
+      size_room largest = (edits_room largest).size ∙ length-resized size (bytes_in s1 ino)
+
+      pub none_room : size ≤ largest_size → size ≡ old → Edits (seen d') s1 s1 ino (bytes_in s1 ino)
+      none_room largest e = edits_none (seen d') s1 ino room.wanted.may.edits open_room size limits_room ends_room.2.spare largest many_room (e ∙ old_room)
+
+      pub put_room : (at : ℕ) (bytes : List ℕ) → eqb (length bytes) 0 ≡ false → at + length bytes ≤ largest_size → old ≤ largest_size → size ≡ max old (at + length bytes)
+          → Edits (seen d') s1 (put ino at bytes (sized ino size s1)) ino (put_at at bytes (bytes_in s1 ino))
+      put_room at [] some largest old_largest e = absurd (true≢false some)
+      put_room at (b ∷ bs) some largest old_largest e =
+          let is_max : size ≡ max (size_in (body_in s1 ino)) (at + length (b ∷ bs)) = e ∙ ap (λ n. max n (at + length (b ∷ bs))) old_room in
+          subst (λ n. Edits (seen d') s1 (put ino at (b ∷ bs) (sized ino n s1)) ino (put_at at (b ∷ bs) (bytes_in s1 ino))) (sym is_max)
+          (edits_put (seen d') s1 ino room.wanted.may.edits open_room limits_room ends_room.2.spare at b bs largest (subst (λ n. n ≤ largest_size) old_room old_largest)
+          (many_room ∙ ap (λ n. growth (block_count (size_in (body_in s1 ino))) (block_count n)) is_max))
+
+-- the size of a file after a write
+pub size_some : (count old at size : ℕ) → size ≡ cond (eqb count 0) old (max old (at + count)) → eqb count 0 ≡ false → size ≡ max old (at + count)
+size_some count old at size e some = e ∙ ap (λ t. cond t old (max old (at + count))) some
+
+pub size_none : (count old at size : ℕ) → size ≡ cond (eqb count 0) old (max old (at + count)) → eqb count 0 ≡ true → size ≡ old
+size_none count old at size e none = e ∙ ap (λ t. cond t old (max old (at + count))) none
+
+pub size_within : (count old at size : ℕ) → size ≡ cond (eqb count 0) old (max old (at + count)) → old ≤ largest_size → at + count ≤ largest_size → size ≤ largest_size
+size_within count old at size e old_largest largest = subst (λ n. n ≤ largest_size) (sym e) (by (eqb count 0))
+  where
+    by : (t : Bool) → cond t old (max old (at + count)) ≤ largest_size
+    by true = old_largest
+    by false = omega (arith, old_largest, largest)
+
+-- a write of no bytes makes none of those that the file has others
+pub put_at-none : (at : ℕ) (bytes old : List ℕ) → eqb (length bytes) 0 ≡ true → put_at at bytes old ≡ old
+put_at-none at [] old none = refl
+put_at-none at (b ∷ bs) old none = absurd (let e = eqb-true (length (b ∷ bs)) 0 none in omega (arith, e))
+
+-- it is never busy
+pub idle_room : {D : Type 0} (called : D → Ask → Told → D → Type 0) (seen : D → DeskSeen) (d : D) (s : SessionSeen) (ino old size : ℕ) (result : Result (Option Reply) Stop) (d' : D) (s1 : SessionSeen)
+    → MadeRoom called seen d s ino old size result d' s1 → (stop : Stop) → result ≡ Err stop → IsNeverBusy (try_ends (Err stop))
+idle_room called seen d s ino old size result d' s1 room stop is =
+    by stop (subst (λ r. RoomEnds (seen d') ino (block_count size) (growth (block_count old) (block_count size)) room.given room.last r s1) is room.ends)
+  where
+    by : (p : Stop) → RoomEnds (seen d') ino (block_count size) (growth (block_count old) (block_count size)) room.given room.last (Err p) s1 → IsNeverBusy (try_ends (Err p))
+    by (IsBusy holder) x = absurd x
+    by LacksMemory x = tt
+
+-- ---- a call that writes, after room was made
+
+module _ {D : Type 0} (called : D → Ask → Told → D → Type 0) (seen : D → DeskSeen) (d : D) (s : SessionSeen) (call : Call) (new : List ℕ → List ℕ) (answer : Answer) (ino old size : ℕ) (result : Result (Option Reply) Stop) (d' : D) (s1 : SessionSeen)
+    (o : IsOpen s ino) (writing : IsWriting call new answer) (old_is : old ≡ size_in (body_in s ino)) (size_is : new_length call old ≡ size) (room : MadeRoom called seen d s ino old size result d' s1) where
+  opens : IsOpen s1 ino
+  opens = open_room called seen d s ino old size result d' s1 o old_is room
+
+  growth_is : growth (block_count (size_in (body_in s1 ino))) (block_count (new_length call (size_in (body_in s1 ino)))) ≡ growth (block_count old) (block_count size)
+  growth_is =
+      ap (λ n. growth (block_count n) (block_count (new_length call n))) (sym (old_room called seen d s ino old size result d' s1 o old_is room)) ∙ ap (λ n. growth (block_count old) (block_count n)) size_is
+
+  module _ (unrefused : Unrefused (seen d) s call ino) where
+    unrefused_room : Unrefused (seen d') s1 call ino
+    unrefused_room =
+        subst (λ k. InAllShown (seen d') s1 (MayBeDone k call ino)) (sym room.wanted.same.creds)
+        (both_then (seen d) (seen d') s s1 (λ nodes now. MayBeDone (seen d).creds call ino now) room.wanted.same room.wanted.more room.wanted.calls unrefused)
+
+    asked : (t : SessionSeen) → TakesMore (seen d') (in_hand s1) (in_hand t) → t.calls ≡ s1.calls
+        → InAllShown (seen d') t (λ now. allot_asks (wanted_pages now (seen d).creds call) 0 ≡ allot_asks (growth (block_count old) (block_count size)) 0)
+    asked t more calls nodes rows p =
+        ap (λ n. allot_asks n 0)
+        (subst (λ k. wanted_pages (batch_nodes (seen d').creds t.calls nodes) k call ≡ growth (block_count old) (block_count size)) room.wanted.same.creds
+        (asks_growth (seen d') s1 call new answer ino room.wanted.may opens writing unrefused_room t more calls nodes rows p ∙ growth_is))
+
+    -- it is done
+    pub goes_done : result ≡ Ok None → (t : SessionSeen) → Edits (seen d') s1 t ino (new (bytes_in s1 ino)) → IsAlike (edited call ino s1) t → length t.calls < t.room.calls
+        → Goes called seen d s call ino (wants_pages_for (seen d).creds call) (Replied (IsReplied answer)) d' t
+    goes_done is t e alike places =
+        let ends = subst (λ r. RoomEnds (seen d') ino (block_count size) (growth (block_count old) (block_count size)) room.given room.last r s1) is room.ends in
+        record {
+          given = room.given;
+          last = room.last;
+          each = room.wanted.each;
+          made = room.wanted.made;
+          ends = ends.0;
+          leaves =
+              alike_then (edited call ino (took s (map (λ c. c.told) room.given))) (edited call ino s1) t
+              (edited_alike call ino (took s (map (λ c. c.told) room.given)) s1 room.wanted.alike) alike;
+          calls = e.calls ∙ room.wanted.calls;
+          same = room.wanted.same;
+          asks = λ nodes rows p. asked t e.becomes.more e.calls nodes rows p ∙ ends.1;
+          more = λ nodes rows p. room.wanted.more nodes rows (e.becomes.more nodes rows p);
+          after = (
+            may_noted (seen d') s1 call new answer ino room.wanted.may opens writing unrefused_room t e,
+            places,
+            writing.plain,
+            λ b. absurd (writing.unread b),
+          );
+        }
+
+    -- there is no room for it
+    pub goes_lacking : (reply : Reply) → result ≡ Ok (Some reply) → Goes called seen d s call ino (wants_pages_for (seen d).creds call) (Replied reply) d' s1
+    goes_lacking reply is = by reply (subst (λ r. RoomEnds (seen d') ino (block_count size) (growth (block_count old) (block_count size)) room.given room.last r s1) is room.ends)
+      where
+        by : (r : Reply) → RoomEnds (seen d') ino (block_count size) (growth (block_count old) (block_count size)) room.given room.last (Ok (Some r)) s1
+            → Goes called seen d s call ino (wants_pages_for (seen d).creds call) (Replied r) d' s1
+        by (NoSpace wanted free) x = record {
+          given = room.given;
+          last = room.last;
+          each = room.wanted.each;
+          made = room.wanted.made;
+          ends = (0, x.1);
+          leaves = room.wanted.alike;
+          calls = room.wanted.calls;
+          same = room.wanted.same;
+          asks = λ nodes rows p. asked s1 (λ n r q. q) refl nodes rows p ∙ x.2;
+          more = room.wanted.more;
+          after = (
+            may_lacking (seen d') s1 call new answer ino room.wanted.may opens writing unrefused_room wanted free x.3 x.4,
+            x.5.calls,
+            tt,
+            λ b. absurd b,
+          );
+        }
+        by (IsReplied a) x = absurd x
+        by NotFound x = absurd x
+        by Exists x = absurd x
+        by NotDir x = absurd x
+        by IsDir x = absurd x
+        by NotEmpty x = absurd x
+        by Denied x = absurd x
+        by IntoItself x = absurd x
+        by (NoInodes wanted free) x = absurd x
+        by TooLarge x = absurd x
+
+    -- or no memory
+    pub goes_short : (stop : Stop) → result ≡ Err stop → Goes called seen d s call ino (wants_pages_for (seen d).creds call) (try_ends (Err stop)) d' s1
+    goes_short stop is = by stop (subst (λ r. RoomEnds (seen d') ino (block_count size) (growth (block_count old) (block_count size)) room.given room.last r s1) is room.ends)
+      where
+        by : (p : Stop) → RoomEnds (seen d') ino (block_count size) (growth (block_count old) (block_count size)) room.given room.last (Err p) s1
+            → Goes called seen d s call ino (wants_pages_for (seen d).creds call) (try_ends (Err p)) d' s1
+        by (IsBusy holder) x = absurd x
+        by LacksMemory x = record {
+          given = room.given;
+          last = room.last;
+          each = room.wanted.each;
+          made = room.wanted.made;
+          ends = x.1;
+          leaves = room.wanted.alike;
+          calls = room.wanted.calls;
+          same = room.wanted.same;
+          asks = λ nodes rows p. (x.2.0, asked s1 (λ n r q. q) refl nodes rows p ∙ x.2.1);
+          more = room.wanted.more;
+          after = (let m = room.wanted.may in record { edits = m.edits; comes = m.comes; made = m.made; spent = x.3; spent_numbers = m.spent_numbers });
+        }
+
+-- ---- the calls
+
+pub writes_bytes : (path : Path) (at : ℕ) (bytes : List ℕ) → IsWriting (Write path at bytes) (put_at at bytes) (Count (length bytes))
+writes_bytes path at bytes = record { path = refl; wants = refl; change = λ ino old nodes. refl; answers = λ r old size. refl; plain = tt; unread = λ b. b }
+
+pub writes_size : (path : Path) (size : ℕ) → IsWriting (Truncate path size) (resized size) IsDone
+writes_size path size = record { path = refl; wants = refl; change = λ ino old nodes. refl; answers = λ r old n. refl; plain = tt; unread = λ b. b }

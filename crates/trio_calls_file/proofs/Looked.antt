@@ -1,0 +1,178 @@
+-- A call that looks or is refused, and its note.
+use Rattle.std.proofs.Common.{◌≡◌, ℕ, ◌<◌, false, List, [], ◌∷◌, ◌++◌, length, Result, Ok, Err, sym, refl, ap, ◌∙◌, subst, inl, inr}
+use Rattle.std.specs.Prelude.{◌≢◌, map, MatchResult}
+use Rattle.std.proofs.lemmas.List.{append-nil}
+use Rattle.trio_lists.specs.Lists.{In}
+use Rattle.trio_lists.proofs.Members.{In-cases}
+use Rattle.trio_nodes.specs.declared.call.Answer.TheVariants.{Bytes}
+use Rattle.trio_nodes.specs.declared.call.Call.{Call}
+use Rattle.trio_nodes.specs.declared.call.Call.TheVariants.{Read}
+use Rattle.trio_nodes.specs.declared.call.Done.{Done}
+use Rattle.trio_nodes.specs.declared.call.Reply.{Reply}
+use Rattle.trio_nodes.specs.declared.call.Reply.TheVariants.{Ok as IsReplied, NotFound, NotDir, IsDir, Denied, TooLarge, Exists, NotEmpty, IntoItself, NoSpace, NoInodes}
+use Rattle.trio_nodes.specs.Nodes.{Nodes}
+use Rattle.trio_nodes.specs.Apply.{Apply, applied, is_done}
+use Rattle.trio_nodes.specs.After.{call_nodes}
+use Rattle.trio_desk.specs.Call.{Ask, DeskSeen, Told}
+use Rattle.trio_desk.specs.Calls as desk_calls
+use Rattle.trio_desk.specs.Edits.{DoesCall}
+use Rattle.trio_desk.specs.Out.{ino_numbers}
+use Rattle.trio_desk.specs.Ready.{ComesToShown, parcel_case}
+use Rattle.trio_desk.specs.Shows.{Shows}
+use Rattle.trio_laws.proofs.session.Calls.{batch_more, reply_more}
+use Rattle.trio_session.specs.Seen.{SessionSeen}
+use Rattle.trio_walk.specs.Walks.{InAllShown}
+use Rattle.trio_walk.specs.declared.outcome.Outcome.TheVariants.{Replied, NoMemory}
+use Rattle.trio_calls_file.specs.declared.files.Stop.{Stop}
+use Rattle.trio_calls_file.specs.declared.files.Stop.TheVariants.{NoMemory as LacksMemory}
+use Rattle.trio_walk.specs.Asks.{IsAlike, TryEnds, noted, took}
+use Rattle.trio_edit_laws.specs.Calls.{MayCall}
+use Rattle.trio_calls_file.specs.inner.Goes.{Goes, IsBytes, IsPlain, IsRead, LeavesHere, Went, try_ends}
+use Rattle.trio_calls_file.proofs.Shown.{alike_room, both_alike, went_alike}
+use Rattle.trio_calls_file.proofs.Still.{edit_but}
+
+-- ---- the note
+
+-- a call that is noted makes no file
+pub made_noted : (s : SessionSeen) (call : Call) (reply : Reply) (numbers : List ℕ) → ((x : Done) → In x s.calls → x.made ≢ 0 → In x.made numbers)
+    → (x : Done) → In x (s.calls ++ record { call = call; reply = reply; made = 0 } ∷ []) → x.made ≢ 0 → In x.made numbers
+made_noted s call reply numbers made x i some =
+    elim (In-cases x s.calls (record { call = call; reply = reply; made = 0 } ∷ []) i) [
+      | inl old ↦ made x old some
+      | inr (inl e) ↦ absurd (some (ap (λ (y : Done). y.made) e))
+      | inr (inr no') ↦ absurd no'
+    ]
+
+module _ (desk : DeskSeen) (s : SessionSeen) (call : Call) (reply : Reply) where
+  abbrev pub done : Done
+  done = record { call = call; reply = reply; made = 0 }
+
+  look_comes : ComesToShown desk s.parcel s.reads s.calls → InAllShown desk s (λ now. DoesCall desk (record { call = call; reply = reply; made = 0 }) now now) → ComesToShown desk s.parcel s.reads (s.calls ++ record { call = call; reply = reply; made = 0 } ∷ [])
+  look_comes comes does nodes rows p =
+      let was = comes nodes rows p in
+      let it = does nodes rows p in (
+        reply_more desk.creds s.calls done nodes was.0 it.0 it.1,
+        subst (λ (k : Nodes). Shows (parcel_case desk.sizes desk.creds rows s.parcel) nodes k) (sym (batch_more desk.creds s.calls done nodes ∙ it.2)) was.1,
+      )
+
+  -- with a look that is noted the session may go on
+  pub may_looked : MayCall desk s → InAllShown desk s (λ now. DoesCall desk (record { call = call; reply = reply; made = 0 }) now now) → MayCall desk (noted call reply 0 s)
+  may_looked may does = record {
+    edits = edit_but desk s s.indexed s.finds s.room (s.calls ++ done ∷ []) may.edits;
+    comes = look_comes may.comes does;
+    made = made_noted s call reply (ino_numbers s.parcel.inodes) may.made;
+    spent = may.spent;
+    spent_numbers = may.spent_numbers;
+  }
+
+-- ---- replies that edit nothing
+
+-- a reply of a call that looks, or of a refusal by the tree
+pub record IsLook (call : Call) (reply : Reply) : Type 0 where
+  pub ends : TryEnds (Replied reply) []
+  pub leaves : (ino : ℕ) (x s' : SessionSeen) → IsAlike x s' → LeavesHere call ino x (Replied reply) s'
+  pub plain : IsPlain reply
+  pub reads : IsBytes reply → IsRead call
+
+-- the refusals of checks
+abbrev pub IsRefused : Reply → Type 0
+IsRefused NotFound = Unit {0}
+IsRefused NotDir = Unit {0}
+IsRefused IsDir = Unit {0}
+IsRefused Denied = Unit {0}
+IsRefused TooLarge = Unit {0}
+IsRefused reply = ⊥
+
+pub refused_look : (call : Call) (reply : Reply) → IsRefused reply → IsLook call reply
+refused_look call NotFound r = record { ends = refl; leaves = λ ino x s' e. e; plain = tt; reads = λ b. absurd b }
+refused_look call NotDir r = record { ends = refl; leaves = λ ino x s' e. e; plain = tt; reads = λ b. absurd b }
+refused_look call IsDir r = record { ends = refl; leaves = λ ino x s' e. e; plain = tt; reads = λ b. absurd b }
+refused_look call Denied r = record { ends = inl refl; leaves = λ ino x s' e. e; plain = tt; reads = λ b. absurd b }
+refused_look call TooLarge r = record { ends = refl; leaves = λ ino x s' e. e; plain = tt; reads = λ b. absurd b }
+refused_look call (IsReplied answer) r = absurd r
+refused_look call Exists r = absurd r
+refused_look call NotEmpty r = absurd r
+refused_look call IntoItself r = absurd r
+refused_look call (NoSpace w f) r = absurd r
+refused_look call (NoInodes w f) r = absurd r
+
+-- a call that a check refuses isn't done
+pub refused_undone : (desk : DeskSeen) (call : Call) (reply : Reply) (now : Nodes) → IsRefused reply → DoesCall desk (record { call = call; reply = reply; made = 0 }) now now → is_done (applied now desk.creds call 0).reply ≡ false
+refused_undone desk call reply now r does = by reply (call_nodes desk.creds now (record { call = call; reply = reply; made = 0 })) r does.0
+  where
+    by : (x : Reply) (after : Nodes) → IsRefused x → Apply now desk.creds call 0 x after → is_done (applied now desk.creds call 0).reply ≡ false
+    by NotFound after q (inl a) = sym (ap is_done a.0)
+    by NotDir after q (inl a) = sym (ap is_done a.0)
+    by IsDir after q (inl a) = sym (ap is_done a.0)
+    by Denied after q (inl a) = sym (ap is_done a.0)
+    by TooLarge after q (inl a) = sym (ap is_done a.0)
+    by NotFound after q (inr a) = absurd a.0
+    by NotDir after q (inr a) = absurd a.0
+    by IsDir after q (inr a) = absurd a.0
+    by Denied after q (inr a) = absurd a.0
+    by TooLarge after q (inr a) = absurd a.0
+    by (IsReplied answer) after q a = absurd q
+    by Exists after q a = absurd q
+    by NotEmpty after q a = absurd q
+    by IntoItself after q a = absurd q
+    by (NoSpace w f) after q a = absurd q
+    by (NoInodes w f) after q a = absurd q
+
+pub read_look : (path : List (List ℕ)) (at len : ℕ) (bytes : List ℕ) → IsLook (Read path at len) (IsReplied (Bytes bytes))
+read_look path at len bytes = record { ends = refl; leaves = λ ino x s' e. e; plain = tt; reads = λ b. tt }
+
+-- ---- the end of a look
+
+module _ {D : Type 0} (called : D → Ask → Told → D → Type 0) (seen : D → DeskSeen) (d : D) (s : SessionSeen) (call : Call) (ino : ℕ) (wants : Nodes → List Ask) (given : List desk_calls.Call) (d' : D) (s' : SessionSeen) (went : Went called seen d s given [] d' s')
+    (asks : InAllShown (seen d') s' (λ now. wants now ≡ map (λ c. c.ask) given)) where
+  given_alone : map (λ (c : desk_calls.Call). c.ask) given ≡ map (λ (c : desk_calls.Call). c.ask) (given ++ [])
+  given_alone = ap (map (λ (c : desk_calls.Call). c.ask)) (sym (append-nil given))
+
+  looks : (reply : Reply) → IsLook call reply → InAllShown (seen d') s' (λ now. DoesCall (seen d') (record { call = call; reply = reply; made = 0 }) now now) → length s'.calls < s'.room.calls
+      → Goes called seen d s call ino wants (Replied reply) d' s'
+  looks reply look does room = record {
+    given = given;
+    last = [];
+    each = went.each;
+    made = went.made;
+    ends = look.ends;
+    leaves = look.leaves ino (took s (map (λ c. c.told) given)) s' went.alike;
+    calls = went.calls;
+    same = went.same;
+    asks = λ nodes rows p. asks nodes rows p ∙ given_alone;
+    more = went.more;
+    after = (may_looked (seen d') s' call reply went.may does, room, look.plain, λ b. (went.may, look.reads b));
+  }
+
+  lacks : Goes called seen d s call ino wants NoMemory d' s'
+  lacks = record {
+    given = given;
+    last = [];
+    each = went.each;
+    made = went.made;
+    ends = inl refl;
+    leaves = went.alike;
+    calls = went.calls;
+    same = went.same;
+    asks = λ nodes rows p. ([], asks nodes rows p ∙ given_alone ∙ sym (append-nil (map (λ (c : desk_calls.Call). c.ask) (given ++ []))));
+    more = went.more;
+    after = went.may;
+  }
+
+  -- its reply, or want of memory for its note
+  by_result : (reply : Reply) → IsLook call reply → InAllShown (seen d') s' (λ now. DoesCall (seen d') (record { call = call; reply = reply; made = 0 }) now now) → (result : Result Reply Stop)
+      → MatchResult result (λ r. (r ≡ reply) × (length s'.calls < s'.room.calls)) (λ stop. stop ≡ LacksMemory) → Goes called seen d s call ino wants (try_ends result) d' s'
+  by_result reply look does (Ok r) m = subst (λ x. Goes called seen d s call ino wants (Replied x) d' s') (sym m.0) (looks reply look does m.1)
+  by_result reply look does (Err stop) m = subst (λ x. Goes called seen d s call ino wants (try_ends (Err x)) d' s') (sym m) lacks
+
+-- So it is of a session whose room alone is another then.
+pub look_goes : {D : Type 0} (called : D → Ask → Told → D → Type 0) (seen : D → DeskSeen) (d : D) (s : SessionSeen) (call : Call) (ino : ℕ) (wants : Nodes → List Ask) (given : List desk_calls.Call) (d' : D) (s2 s' : SessionSeen)
+    → Went called seen d s given [] d' s2 → InAllShown (seen d') s2 (λ now. wants now ≡ map (λ c. c.ask) given)
+    → (reply : Reply) → IsLook call reply → InAllShown (seen d') s2 (λ now. DoesCall (seen d') (record { call = call; reply = reply; made = 0 }) now now)
+    → s' ≡ record s2 { room = s'.room } → (result : Result Reply Stop)
+    → MatchResult result (λ r. (r ≡ reply) × (length s'.calls < s'.room.calls)) (λ stop. stop ≡ LacksMemory) → Goes called seen d s call ino wants (try_ends result) d' s'
+look_goes called seen d s call ino wants given d' s2 s' went asks reply look does kept result m =
+    let e : IsAlike s2 s' = alike_room s2 s' kept in
+    let now = went_alike called seen d s given [] d' s2 went s' e in
+    by_result called seen d s call ino wants given d' s' now (both_alike (seen d') s2 s' (λ nodes x. wants x ≡ map (λ c. c.ask) given) e asks)
+    reply look (both_alike (seen d') s2 s' (λ nodes x. DoesCall (seen d') (record { call = call; reply = reply; made = 0 }) x x) e does) result m

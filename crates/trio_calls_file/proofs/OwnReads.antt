@@ -1,0 +1,203 @@
+-- A walk takes directories alone, for reading, so none of its leases keeps a regular file busy.
+use Rattle.std.proofs.Common.{◌≡◌, ◌⊎◌, ℕ, Bool, true, false, cond, eqb, List, [], ◌∷◌, ◌++◌, Option, Some, None, Result, Ok, Err, sym, refl, ap, ◌∙◌, subst, inl, inr}
+use Rattle.std.specs.Prelude.{◌≢◌, map, not, ◌||◌}
+use Rattle.std.proofs.lemmas.List.{append-nil}
+use Rattle.std.proofs.lemmas.Bool.{false≢true}
+use Rattle.trio_rights.specs.Row.{Row}
+use Rattle.trio_rights.specs.declared.kind.Kind.TheVariants.{Regular}
+use Rattle.trio_rights.specs.declared.rights.Creds.{Creds}
+use Rattle.trio_rights.specs.declared.rights.Need.{Need}
+use Rattle.trio_rights.specs.declared.rights.Need.TheVariants.{Read as NeedsRead, Write as NeedsWrite}
+use Rattle.trio_lists.specs.Lists.{In}
+use Rattle.trio_lists.proofs.Members.{In-cases, In-map, map-In}
+use Rattle.trio_lease.specs.Shown.{Shown}
+use Rattle.trio_lease.specs.declared.lease.Lease.{Lease}
+use Rattle.trio_lease.specs.declared.lease.Lease.TheVariants.{Write as WriteLease, Read as ReadLease, Hold as HoldLease}
+use Rattle.trio_lease.specs.declared.parts.HoldParts.{HoldParts}
+use Rattle.trio_nodes.specs.declared.node.Node.{Node}
+use Rattle.trio_nodes.specs.declared.grant.GrantKind.{GrantKind}
+use Rattle.trio_nodes.specs.declared.grant.GrantKind.TheVariants.{Read, Hold}
+use Rattle.trio_nodes.specs.declared.call.Reply.{Reply}
+use Rattle.trio_nodes.specs.declared.call.Reply.TheVariants.{Ok as IsReplied, NotFound, Exists, NotDir, IsDir, NotEmpty, Denied, IntoItself, NoSpace, NoInodes, TooLarge}
+use Rattle.trio_nodes.specs.Nodes.{Nodes, find_named, node_at}
+use Rattle.trio_nodes.specs.Walk.{Path, enter, enter_node, is_directory, lacks, need_at}
+use Rattle.trio_nodes.specs.After.{batch_nodes}
+use Rattle.trio_desk.specs.Call.{Ask, DeskSeen, Told}
+use Rattle.trio_desk.specs.Out.{Parcel, file_numbers, hold_numbers}
+use Rattle.trio_desk.specs.Ready.{ArePossible}
+use Rattle.trio_session.specs.Asked.{with_lease}
+use Rattle.trio_session.specs.Seen.{SessionSeen}
+use Rattle.trio_walk.specs.declared.met.Met.{Met}
+use Rattle.trio_walk.specs.declared.walks.WalkEnd.TheVariants.{At}
+use Rattle.trio_walk.specs.declared.outcome.Outcome.{Outcome}
+use Rattle.trio_walk.specs.declared.outcome.Outcome.TheVariants.{Replied, Busy, NoMemory}
+use Rattle.trio_walk.specs.Needs.{Needed, asked, entered_needs, found_needs, kind_for, needs_from, path_of, walk_needs}
+use Rattle.trio_walk.specs.Walks.{IsMetIn, IsOwnBusy, Walked, Walks, need_of, served_by, shows_root, with_leases}
+use Rattle.trio_walk.proofs.Agreeing.{asked_beside-In, in_order, walk_need}
+use Rattle.trio_walk.proofs.Possible.{lib_same}
+use Rattle.trio_nodes.specs.declared.call.Call.{Call}
+use Rattle.trio_calls_file.specs.inner.Goes.{BusyAt, IsOwnGrant, OthersHold, grant_for}
+use Rattle.trio_calls_file.specs.inner.Tries.{HasNothing}
+use Rattle.trio_calls_file.proofs.AtFile.{not_held}
+
+-- a directory stands there
+abbrev IsDirAt : Option Node → Type 0
+IsDirAt o = (x : Node) × (o ≡ Some x) × (is_directory x.kind ≡ true)
+
+entered_dir : (creds : Creds) (need : Need) (n : ℕ) (o : Option Node) (k : ℕ) → enter_node creds need n o ≡ Ok k → IsDirAt o
+entered_dir creds need n None k e = absurd (cc e)
+entered_dir creds need n (Some x) k e = by (is_directory x.kind) refl e
+  where
+    by : (b : Bool) → is_directory x.kind ≡ b → cond {A = Result ℕ Reply} (not b) (Err NotDir) (cond {A = Result ℕ Reply} (lacks creds need x) (Err Denied) (Ok n)) ≡ Ok k → IsDirAt (Some x)
+    by true is h = (x, refl, is)
+    by false is h = absurd (cc h)
+
+denied_dir : (creds : Creds) (need : Need) (n : ℕ) (o : Option Node) → enter_node creds need n o ≡ Err Denied → IsDirAt o
+denied_dir creds need n None e = absurd (let wrong : Err NotFound ≡ Err Denied = e in cc wrong)
+denied_dir creds need n (Some x) e = by (is_directory x.kind) refl e
+  where
+    by : (b : Bool) → is_directory x.kind ≡ b → cond {A = Result ℕ Reply} (not b) (Err NotDir) (cond {A = Result ℕ Reply} (lacks creds need x) (Err Denied) (Ok n)) ≡ Err Denied → IsDirAt (Some x)
+    by true is h = (x, refl, is)
+    by false is h = absurd (let wrong : Err NotDir ≡ Err Denied = h in cc wrong)
+
+one_need : (n : Needed) (ino : ℕ) (kind : GrantKind) (nodes : Nodes) → IsDirAt (node_at nodes ino) → In n (record { ino = ino; kind = kind } ∷ []) → IsDirAt (node_at nodes n.ino)
+one_need n ino kind nodes dir (inl e) = subst (λ k. IsDirAt (node_at nodes k)) (sym (ap (λ (x : Needed). x.ino) e)) dir
+one_need n ino kind nodes dir (inr no') = absurd no'
+
+-- each grant of a walk is on a directory
+needs_dirs : (nodes : Nodes) (creds : Creds) (shown : Bool) (writes : List Path) (passed : Path) (at : ℕ) (path : Path) (n : Needed) → In n (needs_from nodes creds shown writes passed at path) → IsDirAt (node_at nodes n.ino)
+needs_dirs nodes creds shown writes passed at [] n i = absurd i
+needs_dirs nodes creds shown writes passed at (name ∷ names) n i =
+    by (λ child. needs_dirs nodes creds shown writes (passed ++ name ∷ []) child names n) (enter nodes creds (need_at writes passed) at) refl i
+  where
+    kind : GrantKind
+    kind = kind_for (need_at writes passed)
+
+    found : ((child : ℕ) → In n (needs_from nodes creds shown writes (passed ++ name ∷ []) child names) → IsDirAt (node_at nodes n.ino)) → (o : Option ℕ)
+        → In n (found_needs o (λ child. needs_from nodes creds shown writes (passed ++ name ∷ []) child names)) → IsDirAt (node_at nodes n.ino)
+    found later None j = absurd j
+    found later (Some child) j = later child j
+
+    if_known : (k : Bool) → IsDirAt (node_at nodes at) → In n (cond k [] (record { ino = at; kind = kind_for (need_at writes passed) } ∷ [])) → IsDirAt (node_at nodes n.ino)
+    if_known true dir j = absurd j
+    if_known false dir j = one_need n at (kind_for (need_at writes passed)) nodes dir j
+
+    by : ((child : ℕ) → In n (needs_from nodes creds shown writes (passed ++ name ∷ []) child names) → IsDirAt (node_at nodes n.ino)) → (r : Result ℕ Reply) → enter nodes creds (need_at writes passed) at ≡ r
+        → In n (entered_needs shown at (kind_for (need_at writes passed)) r (λ dir. found_needs (find_named nodes dir name) (λ child. needs_from nodes creds shown writes (passed ++ name ∷ []) child names))) → IsDirAt (node_at nodes n.ino)
+    by later (Ok dir) e j =
+        elim (In-cases n (record { ino = at; kind = kind_for (need_at writes passed) } ∷ []) (found_needs (find_named nodes dir name) (λ child. needs_from nodes creds shown writes (passed ++ name ∷ []) child names)) j) [
+          | inl here ↦ one_need n at (kind_for (need_at writes passed)) nodes (entered_dir creds (need_at writes passed) at (node_at nodes at) dir e) here
+          | inr rest ↦ found later (find_named nodes dir name) rest
+        ]
+    by later (Err Denied) e j = if_known (shown || not (eqb at 1)) (denied_dir creds (need_at writes passed) at (node_at nodes at) e) j
+    by later (Err (IsReplied a)) e j = absurd j
+    by later (Err NotFound) e j = absurd j
+    by later (Err Exists) e j = absurd j
+    by later (Err NotDir) e j = absurd j
+    by later (Err IsDir) e j = absurd j
+    by later (Err NotEmpty) e j = absurd j
+    by later (Err IntoItself) e j = absurd j
+    by later (Err (NoSpace a b)) e j = absurd j
+    by later (Err (NoInodes a b)) e j = absurd j
+    by later (Err TooLarge) e j = absurd j
+
+-- none is a hold
+never_held : (need : Need) → kind_for need ≡ Hold → ⊥
+never_held NeedsRead e = cc e
+never_held NeedsWrite e = cc e
+
+-- ---- the leases that a session has
+
+reads_from : (more : List Lease) (s : SessionSeen) (f : Shown) → In f (with_leases s more).reads → In f s.reads ⊎ In (ReadLease f) more
+reads_from [] s f i = inl i
+reads_from (WriteLease g ∷ more) s f i = elim (reads_from more (with_lease s (WriteLease g)) f i) [ inl j ↦ inl j | inr j ↦ inr (inr j) ]
+reads_from (ReadLease g ∷ more) s f i =
+    elim (reads_from more (with_lease s (ReadLease g)) f i) [
+      | inl j ↦ elim (In-cases f s.reads (g ∷ []) j) [ inl k ↦ inl k | inr (inl e) ↦ inr (inl (ap ReadLease e)) | inr (inr none) ↦ absurd none ]
+      | inr j ↦ inr (inr j)
+    ]
+reads_from (HoldLease h ∷ more) s f i = elim (reads_from more (with_lease s (HoldLease h)) f i) [ inl j ↦ inl j | inr j ↦ inr (inr j) ]
+
+holds_from : (more : List Lease) (s : SessionSeen) (h : HoldParts) → In h (with_leases s more).parcel.holds → In h s.parcel.holds ⊎ In (HoldLease h) more
+holds_from [] s h i = inl i
+holds_from (WriteLease g ∷ more) s h i = elim (holds_from more (with_lease s (WriteLease g)) h i) [ inl j ↦ inl j | inr j ↦ inr (inr j) ]
+holds_from (ReadLease g ∷ more) s h i = elim (holds_from more (with_lease s (ReadLease g)) h i) [ inl j ↦ inl j | inr j ↦ inr (inr j) ]
+holds_from (HoldLease g ∷ more) s h i =
+    elim (holds_from more (with_lease s (HoldLease g)) h i) [
+      | inl j ↦ elim (In-cases h s.parcel.holds (g ∷ []) j) [ inl k ↦ inl k | inr (inl e) ↦ inr (inl (ap HoldLease e)) | inr (inr none) ↦ absurd none ]
+      | inr j ↦ inr (inr j)
+    ]
+
+-- one that has nothing keeps no file busy
+pub none_busy : (s : SessionSeen) (n : ℕ) (kind : GrantKind) → HasNothing s → IsOwnBusy s n kind → ⊥
+none_busy s n kind none own =
+    elim own.has [
+      | inl read ↦ subst (λ (l : List Shown). In n (map (λ (f : Shown). f.ino) l)) none.reads read.0
+      | inr (inl written) ↦ subst (λ (b : Parcel). In n (file_numbers b.writes)) none.parcel written.0
+      | inr (inr held) ↦ subst (λ (b : Parcel). In n (hold_numbers b.holds)) none.parcel held
+    ]
+
+-- ---- the second try
+
+module _ {D : Type 0} (called : D → Ask → Told → D → Type 0) (seen : D → DeskSeen) (d : D) (s : SessionSeen) (call : Call) (m : Met) (d1 : D) (s1 : SessionSeen)
+    (w : Walked called seen d s (Walks (seen d1) s [] (path_of call) (At m.ino)) (At m.ino) d1 s1) (met : IsMetIn (shows_root s) (seen d1) s1 m) (none : HasNothing s) where
+  module _ (nodes : Nodes) (rows : List (Option Row)) (p : ArePossible (seen d1) s1.parcel s1.reads nodes rows) where
+    abbrev now : Nodes
+    now = batch_nodes (seen d1).creds s1.calls nodes
+
+    abbrev needs : List Needed
+    needs = walk_needs now (seen d1).creds (shows_root s) [] (path_of call)
+
+    these : map need_of w.more ≡ asked (served_by s) needs
+    these = sym (append-nil (map need_of w.more)) ∙ ap (λ l. map need_of w.more ++ l) (sym w.ends.1) ∙ sym (w.shown nodes rows p).asks
+
+    -- each lease of the walk was needed
+    lease_needed : (lease : Lease) → In lease w.more → In (need_of lease) needs
+    lease_needed lease i = asked_beside-In (served_by s) needs [] (need_of lease) (subst (λ l. In (need_of lease) l) these (In-map need_of lease w.more i))
+
+    -- so it is on a directory, and none is a hold
+    read_dir : (f : Shown) → In (ReadLease f) w.more → IsDirAt (node_at now f.ino)
+    read_dir f i = needs_dirs now (seen d1).creds (shows_root s) [] [] 1 (path_of call) (need_of (ReadLease f)) (lease_needed (ReadLease f) i)
+
+    no_hold : (h : HoldParts) → In (HoldLease h) w.more → ⊥
+    no_hold h i =
+        let n = walk_need now (seen d1).creds (shows_root s) [] (path_of call) (need_of (HoldLease h)) (lease_needed (HoldLease h) i) in
+        never_held (need_at [] (in_order n.names)) (sym n.kind)
+
+    -- the file isn't one of the directories that are read
+    unread : m.kind ≡ Regular → In m.ino (map (λ (f : Shown). f.ino) s1.reads) → ⊥
+    unread regular i =
+        let f = map-In (λ (x : Shown). x.ino) m.ino s1.reads i in
+        let j : In f.0 (with_leases s w.more).reads = subst (λ (l : List Shown). In f.0 l) (ap (λ (x : SessionSeen). x.reads) w.way.took.same) f.1 in
+        let dir : IsDirAt (node_at now f.0.ino) =
+        elim (reads_from w.more s f.0 j) [
+          | inl old ↦ absurd (subst (λ (l : List Shown). In f.0 l) none.reads old)
+          | inr new ↦ read_dir f.0 new
+        ] in
+        let t = met.met nodes rows p in
+        let same : Some dir.0 ≡ Some t.after = sym dir.1 ∙ ap (node_at now) (sym f.2) ∙ t.there_now in
+        let node : dir.0 ≡ t.after = cc same in
+        false≢true (sym (ap is_directory (ap (λ (x : Node). x.kind) node ∙ t.kind ∙ regular)) ∙ dir.2)
+
+    unheld : In m.ino (hold_numbers s1.parcel.holds) → ⊥
+    unheld i =
+        let h = map-In (λ (x : HoldParts). x.ino) m.ino s1.parcel.holds i in
+        let j : In h.0 (with_leases s w.more).parcel.holds = subst (λ (l : List HoldParts). In h.0 l) (ap (λ (x : SessionSeen). x.parcel.holds) w.way.took.same) h.1 in
+        elim (holds_from w.more s h.0 j) [
+          | inl old ↦ subst (λ (b : Parcel). In h.0 b.holds) none.parcel old
+          | inr new ↦ no_hold h.0 new
+        ]
+
+  not_own : IsOwnGrant (seen d1) s1 m (grant_for call) → (grant_for call ≢ Read → m.kind ≡ Regular) → ⊥
+  not_own own regular =
+      elim own.busy.has [
+        | inl read ↦ unread own.nodes own.rows own.possible (regular read.1) read.0
+        | inr (inl written) ↦ not_held call written.1
+        | inr (inr held) ↦ unheld own.nodes own.rows own.possible held
+      ]
+
+  -- the file of a try that had nothing is kept busy by another library
+  pub others_there : (end : Outcome) → BusyAt (seen d1) s1 m call end → OthersHold s.lib end
+  others_there (Replied reply) busy = tt
+  others_there NoMemory busy = tt
+  others_there (Busy holder) busy = λ mine. (let own = busy (mine ∙ sym (lib_same (seen d) (seen d1) s s1 w.more w.way.took)) in not_own own.0 own.1)

@@ -1,0 +1,19 @@
+use Rattle.std.proofs.Common.{◌≡◌, sym, ap, ◌∙◌, Some}
+use Rattle.trio_rights.specs.declared.rights.Creds.{Creds}
+use Rattle.trio_calls_file.specs.inner.Goes.{checked, refusal_at}
+use Rattle.trio_walk.specs.Walks.{gives_met}
+use Rattle.trio_calls_file.proofs.AtFile.{refused_goes}
+use Rattle.trio_calls_file.proofs.files.at_file.Goals as goal
+
+pub returns-in-Some-clause-goes : goal.returns-in-Some-clause-goes
+returns-in-Some-clause-goes g c =
+    let creds : Creds = (g.D.Desk.seen c.args.desk.now).creds in
+    let given = c.gives-given.ensures ∙ ap (λ (k : Creds). gives_met k c.args.met c.need_for.result) c.creds.ensures.creds ∙ ap (gives_met creds c.args.met) c.need_for.ensures in
+    let e : checked creds c.args.met c.args.call.now ≡ Some c.in-Some.reply = sym (c.refusal.ensures ∙ ap (λ b. refusal_at c.args.met.kind b c.args.call.now) given) ∙ c.in-Some.is in
+    refused_goes g.D.Desk.called g.D.Desk.seen c.args.desk.now c.args.session.now c.args.call.now c.args.met c.requires.may c.requires.met c.requires.comes c.requires.file c.in-Some.reply e c.refused.new.session c.refused.ensures.kept c.refused.result c.refused.ensures.ends
+
+pub at_unrefused-requires-clause-unrefused : goal.at_unrefused-requires-clause-unrefused
+at_unrefused-requires-clause-unrefused g c =
+    let creds : Creds = (g.D.Desk.seen c.args.desk.now).creds in
+    let given = c.gives-given.ensures ∙ ap (λ (k : Creds). gives_met k c.args.met c.need_for.result) c.creds.ensures.creds ∙ ap (gives_met creds c.args.met) c.need_for.ensures in
+    sym (c.refusal.ensures ∙ ap (λ b. refusal_at c.args.met.kind b c.args.call.now) given) ∙ c.in-None.is

@@ -1,0 +1,49 @@
+use Rattle.std.proofs.Common.{◌≡◌, true, None, sym, refl, ap, ◌∙◌, subst}
+use Rattle.trio_nodes.specs.declared.call.Call.{Call}
+use Rattle.trio_rights.specs.declared.rights.Creds.{Creds}
+use Rattle.trio_walk.specs.Needs.{path_of}
+use Rattle.trio_nodes.specs.declared.call.Call.TheVariants.{Write, Truncate}
+use Rattle.trio_calls_file.specs.Asks.{IsFileCall}
+use Rattle.trio_calls_file.specs.inner.Goes.{ComesHere, Goes, checked, grant_for, try_ends, wants_pages_for}
+use Rattle.trio_session.specs.Seen.{serves}
+use Rattle.trio_calls_file.proofs.AtFile.{read_regular}
+use Rattle.trio_calls_file.proofs.AtTaken.{edit_goes, read_goes, stat_goes, write_open}
+use Rattle.trio_calls_file.proofs.files.at_taken.Goals as goal
+
+pub write-requires-clause-open : goal.write-requires-clause-open
+write-requires-clause-open g c =
+    let e = c.in-Write.is ∙ ap (Write c.in-Write.path c.in-Write.at) (sym c.as_slice.ensures) in
+    write_open g.D.Desk.called g.D.Desk.seen c.args.desk.now c.args.session.now c.args.met c.requires.may c.requires.met c.requires.had c.args.call.now (Write c.in-Write.path c.in-Write.at c.as_slice.result.now) e c.requires.file c.requires.unrefused refl c.requires.taken c.requires.shown
+
+pub truncate-requires-clause-open : goal.truncate-requires-clause-open
+truncate-requires-clause-open g c =
+    write_open g.D.Desk.called g.D.Desk.seen c.args.desk.now c.args.session.now c.args.met c.requires.may c.requires.met c.requires.had c.args.call.now (Truncate c.in-Truncate.path c.in-Truncate.size) c.in-Truncate.is c.requires.file c.requires.unrefused refl c.requires.taken c.requires.shown
+
+pub returns-in-Write-clause-goes : goal.returns-in-Write-clause-goes
+returns-in-Write-clause-goes g c =
+    let e = c.in-Write.is ∙ ap (Write c.in-Write.path c.in-Write.at) (sym c.as_slice.ensures) in
+    edit_goes g.D.Desk.called g.D.Desk.seen c.args.desk.now c.args.session.now c.args.met c.requires.may c.requires.met c.requires.had c.args.call.now (Write c.in-Write.path c.in-Write.at c.as_slice.result.now) e c.requires.file c.requires.comes c.requires.unrefused refl (try_ends c.write.result) c.write.new.desk c.write.new.session (c.write.ensures.goes c.in-Write.path)
+
+pub returns-in-Truncate-clause-goes : goal.returns-in-Truncate-clause-goes
+returns-in-Truncate-clause-goes g c =
+    edit_goes g.D.Desk.called g.D.Desk.seen c.args.desk.now c.args.session.now c.args.met c.requires.may c.requires.met c.requires.had c.args.call.now (Truncate c.in-Truncate.path c.in-Truncate.size) c.in-Truncate.is c.requires.file c.requires.comes c.requires.unrefused refl (try_ends c.truncate.result) c.truncate.new.desk c.truncate.new.session (c.truncate.ensures.goes c.in-Truncate.path)
+
+pub returns-in-Read-clause-goes : goal.returns-in-Read-clause-goes
+returns-in-Read-clause-goes g c =
+    let e = c.in-Read.is in
+    let creds : Creds = (g.D.Desk.seen c.args.desk.now).creds in
+    let file = subst (λ (k : Call). IsFileCall k) e c.requires.file in
+    let unrefused = subst (λ (k : Call). checked creds c.args.met k ≡ None) e c.requires.unrefused in
+    let comes = subst (λ (k : Call). ComesHere (g.D.Desk.seen c.args.desk.now) c.args.session.now (path_of k) c.args.met.ino) e c.requires.comes in
+    let served = subst (λ (k : Call). serves c.args.session.now c.args.met.ino (grant_for k) ≡ true) e c.requires.taken in
+    subst (λ (k : Call). Goes g.D.Desk.called g.D.Desk.seen c.args.desk.now c.args.session.now k c.args.met.ino (wants_pages_for creds k) (try_ends c.read.result) c.args.desk.now c.read.new.session) (sym e)
+    (read_goes g.D.Desk.called g.D.Desk.seen c.args.desk.now c.args.session.now c.args.met c.requires.may c.requires.met c.requires.had c.in-Read.path c.in-Read.at c.in-Read.len comes file unrefused served (read_regular creds c.args.met c.in-Read.path c.in-Read.at c.in-Read.len unrefused) c.read.new.session c.read.ensures.kept c.read.result c.read.ensures.ends)
+
+pub returns-in-Stat-clause-goes : goal.returns-in-Stat-clause-goes
+returns-in-Stat-clause-goes g c =
+    let e = c.in-Stat.is in
+    let creds : Creds = (g.D.Desk.seen c.args.desk.now).creds in
+    let comes = subst (λ (k : Call). ComesHere (g.D.Desk.seen c.args.desk.now) c.args.session.now (path_of k) c.args.met.ino) e c.requires.comes in
+    let served = subst (λ (k : Call). serves c.args.session.now c.args.met.ino (grant_for k) ≡ true) e c.requires.taken in
+    subst (λ (k : Call). Goes g.D.Desk.called g.D.Desk.seen c.args.desk.now c.args.session.now k c.args.met.ino (wants_pages_for creds k) (try_ends c.stat.result) c.args.desk.now c.stat.new.session) (sym e)
+    (stat_goes g.D.Desk.called g.D.Desk.seen c.args.desk.now c.args.session.now c.args.met c.requires.may c.requires.met c.requires.had c.in-Stat.path comes served c.stat.new.session c.stat.ensures.kept c.stat.result (rw c.creds.ensures.creds at c.stat.ensures.ends))

@@ -1,0 +1,4 @@
+pub mod Reads
+pub mod Goes
+pub mod Tries
+pub mod Rooms

@@ -1,0 +1,245 @@
+-- Words of a try in progress: from where a walk has met a file, to how the try ends.
+use Rattle.std.specs.Prelude.{◌≡◌, ◌≢◌, ◌<◌, ℕ, ◌+◌, nat_le, Bool, true, not, is_some, IsTrue, List, [], ◌∷◌, ◌++◌, map, length, take, drop, Option, None, Some, Result, Ok, Err, if◌then◌else◌}
+use Rattle.trio_rights.specs.Row.{Row}
+use Rattle.trio_rights.specs.declared.kind.Kind.{Kind}
+use Rattle.trio_rights.specs.declared.kind.Kind.TheVariants.{Regular, Directory}
+use Rattle.trio_rights.specs.declared.rights.Creds.{Creds}
+use Rattle.trio_rights.specs.declared.rights.LibNo.{LibNo}
+use Rattle.trio_rights.specs.declared.rights.Need.{Need}
+use Rattle.trio_rights.specs.declared.rights.Need.TheVariants.{Read as ToRead, Write as ToWrite}
+use Rattle.trio_lists.specs.Lists.{In}
+use Rattle.trio_nodes.specs.declared.grant.GrantKind.{GrantKind}
+use Rattle.trio_nodes.specs.declared.grant.GrantKind.TheVariants.{Read, Write, Hold}
+use Rattle.trio_nodes.specs.declared.answers.GrantFault.TheVariants.{Busy as BusyGrant, Denied as DeniedGrant}
+use Rattle.trio_nodes.specs.declared.call.Answer.TheVariants.{Bytes, Names, Stat as IsStat}
+use Rattle.trio_nodes.specs.declared.call.Call.{Call}
+use Rattle.trio_nodes.specs.declared.call.Call.TheVariants.{Write as WriteCall, Read as ReadCall, Truncate, Stat}
+use Rattle.trio_nodes.specs.declared.call.Reply.{Reply}
+use Rattle.trio_nodes.specs.declared.call.Reply.TheVariants.{Ok as IsReplied, Denied, IsDir, TooLarge}
+use Rattle.trio_nodes.specs.Nodes.{Nodes, node_at}
+use Rattle.trio_nodes.specs.Walk.{Path, is_directory, walk}
+use Rattle.trio_nodes.specs.Apply.{largest_size}
+use Rattle.trio_desk.specs.Call.{Ask, DeskSeen, Grant, Told, NotLent}
+use Rattle.trio_desk.specs.Calls as desk_calls
+use Rattle.trio_desk.specs.Calls.{Calls}
+use Rattle.trio_desk.specs.Edits.{TakesMore}
+use Rattle.trio_desk.specs.Ready.{ArePossible}
+use Rattle.trio_desk.specs.Agrees.{HasRights}
+use Rattle.trio_desk.specs.Contents.{Rights, rights_in}
+use Rattle.trio_laws.specs.session.FileCalls.{gives, refusal}
+use Rattle.trio_session.specs.Layout.{size_in}
+use Rattle.trio_session.specs.Seen.{SessionSeen, in_hand, kind_shown, pages_shown, serves}
+use Rattle.trio_edit_laws.specs.Calls.{MayCall}
+use Rattle.trio_walk.specs.declared.met.Met.{Met}
+use Rattle.trio_walk.specs.declared.outcome.Outcome.{Outcome}
+use Rattle.trio_walk.specs.declared.outcome.Outcome.TheVariants.{Replied, Busy, NoMemory}
+use Rattle.trio_walk.specs.Needs.{Needed, asked, path_of}
+use Rattle.trio_walk.specs.Asks.{AskedBy, IsAlike, IsGiven, TryEnds, allot_asks, grant_ask, noted, took}
+use Rattle.trio_walk.specs.Walks.{InAllShown, IsOwnBusy, denies, gives_met, served_by}
+use Rattle.trio_calls_file.specs.declared.files.Stop.{Stop}
+use Rattle.trio_calls_file.specs.declared.files.Stop.TheVariants.{Busy as IsBusy, NoMemory as LacksMemory}
+use Rattle.trio_calls_file.specs.inner.Reads.{body_had, bytes_had, entries_counted}
+use Rattle.trio_calls_file.specs.Asks.{ComesTo, asks_of, edited, wanted_pages}
+
+-- ---- checks
+
+-- what a call needs of its file
+abbrev pub need_for : Call → Need
+need_for (WriteCall path at bytes) = ToWrite
+need_for (Truncate path size) = ToWrite
+need_for call = ToRead
+
+-- the kind of grant by which it takes it
+abbrev pub grant_for : Call → GrantKind
+grant_for (WriteCall path at bytes) = Write
+grant_for (Truncate path size) = Write
+grant_for call = Read
+
+-- why bytes aren't read or written at a file of this kind, whose rights give what is needed or don't, and which would end within the
+-- largest size or not
+abbrev pub bytes_refusal : Kind → Bool → Bool → Option Reply
+bytes_refusal kind gives fits =
+    if is_directory kind then Some IsDir else (if not gives then Some Denied else (if not fits then Some TooLarge else None))
+
+-- why a call is refused at such a file
+abbrev pub refusal_at : Kind → Bool → Call → Option Reply
+refusal_at kind gives (WriteCall path at bytes) = bytes_refusal kind gives (nat_le (at + length bytes) largest_size)
+refusal_at kind gives (ReadCall path at len) = bytes_refusal kind gives true
+refusal_at kind gives (Truncate path size) = bytes_refusal kind gives (nat_le size largest_size)
+refusal_at kind gives (Stat path) = if not gives then Some Denied else None
+refusal_at kind gives call = None
+
+-- why a call is refused at a file that was met, by what is known of it
+abbrev pub checked : Creds → Met → Call → Option Reply
+checked creds m call = refusal_at m.kind (gives_met creds m (need_for call)) call
+
+-- ---- what is asked
+
+-- the grant of a call on the file that was met, unless a check has refused
+abbrev pub met_needs : Creds → Met → Call → List Needed
+met_needs creds m call = if is_some (checked creds m call) then [] else record { ino = m.ino; kind = grant_for call } ∷ []
+
+-- what is asked from the file on
+abbrev pub asks_at : Creds → SessionSeen → Met → Call → Nodes → List Ask
+asks_at creds s m call now = map grant_ask (asked (served_by s) (met_needs creds m call)) ++ allot_asks (wanted_pages now creds call) 0
+
+-- one grant is asked, unless a lease serves
+abbrev pub one_ask : SessionSeen → ℕ → GrantKind → List Ask
+one_ask s ino kind = if serves s ino kind then [] else Grant ino kind ∷ []
+
+-- the pages alone
+abbrev pub wants_pages_for : Creds → Call → Nodes → List Ask
+wants_pages_for creds call now = allot_asks (wanted_pages now creds call) 0
+
+-- ---- what is known of a file
+
+-- the walk has come to this file
+abbrev pub ComesHere : DeskSeen → SessionSeen → Path → ℕ → Type 0
+ComesHere desk s path ino = InAllShown desk s (λ now. walk now desk.creds [] path ≡ Ok ino)
+
+-- no check refuses the call: its walk comes to a file whose kind and rights don't refuse it
+pub record MayBeDone (creds' : Creds) (call' : Call) (ino' : ℕ) (now : Nodes) : Type 0 where
+  pub walks : walk now creds' [] (path_of call') ≡ Ok ino'
+  pub rights : Rights
+  pub there : HasRights rights (node_at now ino')
+  pub checks : refusal creds' rights call' ≡ None
+
+-- so it is in all nodes that the session shows
+abbrev pub Unrefused : DeskSeen → SessionSeen → Call → ℕ → Type 0
+Unrefused desk s call ino = InAllShown desk s (MayBeDone desk.creds call ino)
+
+-- ---- what is replied of a file that is had
+
+-- the bytes that were read
+abbrev pub bytes_reply : SessionSeen → ℕ → ℕ → ℕ → Reply
+bytes_reply s ino at len = IsReplied (Bytes (take len (drop at (bytes_had s ino))))
+
+-- the size of a file, which of a directory is its number of entries
+abbrev pub size_had : SessionSeen → ℕ → Kind → ℕ
+size_had s ino Directory = entries_counted (pages_shown s ino)
+size_had s ino Regular = size_in (body_had s ino)
+
+-- what a file is, by its body, where that gives reading
+abbrev pub stat_reply : Creds → SessionSeen → ℕ → Kind → Reply
+stat_reply creds s ino kind =
+    let r = rights_in kind (body_had s ino) in
+    if gives creds ToRead r then IsReplied (IsStat r.kind r.mode r.uid r.gid (size_had s ino kind)) else Denied
+
+-- ---- in progress
+
+-- another state of the same desk
+pub record SameDesk (desk desk' : DeskSeen) : Type 0 where
+  pub lib : desk'.lib ≡ desk.lib
+  pub creds : desk'.creds ≡ desk.creds
+  pub sizes : desk'.sizes ≡ desk.sizes
+  pub root : desk'.root ≡ desk.root
+
+-- From a desk and a session to these, by calls that were given what they asked, and then by this one. Nothing was written, and what
+-- was known of the nodes still is.
+pub record Went {D : Type 0} (called : D → Ask → Told → D → Type 0) (seen : D → DeskSeen) (d : D) (s : SessionSeen) (given last : List desk_calls.Call) (d' : D) (s' : SessionSeen) : Type 0 where
+  pub each : (c : desk_calls.Call) → In c given → IsGiven c
+  pub made : Calls called d (given ++ last) d'
+  pub alike : IsAlike (took s (map (λ c. c.told) given)) s'
+  pub calls : s'.calls ≡ s.calls
+  pub same : SameDesk (seen d) (seen d')
+  pub may : MayCall (seen d') s'
+  pub more : TakesMore (seen d') (in_hand s) (in_hand s')
+
+-- a grant of the session's own excludes the one that is asked of the file, in nodes that are possible
+pub record IsOwnGrant (desk : DeskSeen) (s : SessionSeen) (m : Met) (kind' : GrantKind) : Type 0 where
+  pub busy : IsOwnBusy s m.ino kind'
+  pub nodes : Nodes
+  pub rows : List (Option Row)
+  pub possible : ArePossible desk s.parcel s.reads nodes rows
+
+-- How the taking of a file ends; only the root may be denied, where its rights aren't known. Where the desk told that the file is busy,
+-- another library keeps it so, or a grant of the session's own does.
+abbrev pub TakenAs : DeskSeen → SessionSeen → Met → GrantKind → List desk_calls.Call → List desk_calls.Call → Result Bool Stop → SessionSeen → Type 0
+TakenAs desk s m kind given last (Ok true) s' =
+    (last ≡ []) × (one_ask s m.ino kind ≡ map (λ c. c.ask) given) × IsTrue (serves s' m.ino kind) × (kind ≢ Hold → kind_shown s' m.ino ≡ Some m.kind)
+TakenAs desk s m kind given last (Ok denied) s' =
+    (given ≡ []) × (last ≡ record { ask = Grant 1 kind; told = NotLent (DeniedGrant 1) } ∷ []) × (one_ask s m.ino kind ≡ Grant 1 kind ∷ [])
+    × (m.ino ≡ 1) × (m.rights ≡ None) × IsTrue (denies desk.creds desk.root kind)
+TakenAs desk s m kind given last (Err (IsBusy holder)) s' =
+    (given ≡ []) × (last ≡ record { ask = Grant m.ino kind; told = NotLent (BusyGrant holder) } ∷ []) × (one_ask s m.ino kind ≡ Grant m.ino kind ∷ [])
+    × (holder.lib ≡ s.lib → IsOwnGrant desk s m kind)
+TakenAs desk s m kind given last (Err LacksMemory) s' =
+    TryEnds NoMemory last × ((rest : List Ask) × (one_ask s m.ino kind ≡ map (λ c. c.ask) (given ++ last) ++ rest))
+
+-- A file is taken, from a desk and a session to these.
+pub record TookFile {D : Type 0} (called : D → Ask → Told → D → Type 0) (seen : D → DeskSeen) (d : D) (s : SessionSeen) (m : Met) (kind : GrantKind) (result' : Result Bool Stop) (d' : D) (s' : SessionSeen) : Type 0 where
+  pub given : List desk_calls.Call
+  pub last : List desk_calls.Call
+  pub went : Went called seen d s given last d' s'
+  pub taken : TakenAs (seen d) s m kind given last result' s'
+
+-- ---- the end
+
+-- how a try ends, by what it is replied or why it isn't
+abbrev pub try_ends : Result Reply Stop → Outcome
+try_ends (Ok reply) = Replied reply
+try_ends (Err (IsBusy holder)) = Busy holder
+try_ends (Err LacksMemory) = NoMemory
+
+-- What a try leaves that isn't noted yet: an edit where the call is done, and else nothing was written.
+abbrev pub LeavesHere : Call → ℕ → SessionSeen → Outcome → SessionSeen → Type 0
+LeavesHere call ino s (Replied (IsReplied answer)) s' = IsAlike (edited call ino s) s'
+LeavesHere call ino s end s' = IsAlike s s'
+
+-- the answer is bytes that were read
+abbrev pub IsBytes : Reply → Type 0
+IsBytes (IsReplied (Bytes bytes)) = Unit {0}
+IsBytes reply = ⊥
+
+-- the call reads bytes
+abbrev pub IsRead : Call → Type 0
+IsRead (ReadCall path at len) = Unit {0}
+IsRead call = ⊥
+
+-- no names are answered
+abbrev pub IsPlain : Reply → Type 0
+IsPlain (IsReplied (Names count names)) = ⊥
+IsPlain reply = Unit {0}
+
+-- What holds after a try that isn't noted yet: with the call and its reply as the last one done the session may go on, and there is room
+-- for it; so it may without, where bytes were read or there is no reply.
+abbrev pub AfterTry : DeskSeen → Call → Outcome → SessionSeen → Type 0
+AfterTry desk call (Replied reply) s' =
+    MayCall desk (noted call reply 0 s') × (length s'.calls < s'.room.calls) × IsPlain reply × (IsBytes reply → MayCall desk s' × IsRead call)
+AfterTry desk call end s' = MayCall desk s'
+
+-- From a desk and a session to these a try of a call comes to its end, but for its note. These asks are wanted, by the nodes that the
+-- session shows.
+pub record Goes {D : Type 0} (called : D → Ask → Told → D → Type 0) (seen : D → DeskSeen) (d : D) (s : SessionSeen) (call : Call) (ino : ℕ) (wants : Nodes → List Ask) (end : Outcome) (d' : D) (s' : SessionSeen) : Type 0 where
+  pub given : List desk_calls.Call
+  pub last : List desk_calls.Call
+  pub each : (c : desk_calls.Call) → In c given → IsGiven c
+  pub made : Calls called d (given ++ last) d'
+  pub ends : TryEnds end last
+  pub leaves : LeavesHere call ino (took s (map (λ c. c.told) given)) end s'
+  pub calls : s'.calls ≡ s.calls
+  pub same : SameDesk (seen d) (seen d')
+  pub asks : InAllShown (seen d') s' (λ now. AskedBy end (map (λ c. c.ask) (given ++ last)) (wants now))
+  pub more : TakesMore (seen d') (in_hand s) (in_hand s')
+  pub after : AfterTry (seen d') call end s'
+
+-- a grant of the library's own that keeps a file busy is one of the session's that excludes this call's; what isn't read is a regular file
+abbrev pub BusyAt : DeskSeen → SessionSeen → Met → Call → Outcome → Type 0
+BusyAt desk s m call (Busy holder) = holder.lib ≡ s.lib → IsOwnGrant desk s m (grant_for call) × (grant_for call ≢ Read → m.kind ≡ Regular)
+BusyAt desk s m call end = Unit {0}
+
+-- the try didn't end Busy
+abbrev pub IsNeverBusy : Outcome → Type 0
+IsNeverBusy (Busy holder) = ⊥
+IsNeverBusy end = Unit {0}
+
+-- the whole try, but for its note: it comes to this file, and what is to be asked of the desk is asked
+pub record RepliesTo {D : Type 0} (called : D → Ask → Told → D → Type 0) (seen : D → DeskSeen) (d : D) (s : SessionSeen) (call : Call) (end : Outcome) (d' : D) (s' : SessionSeen) : Type 0 where
+  pub file : ℕ
+  pub goes : Goes called seen d s call file (λ now. asks_of now (seen d').creds s call) end d' s'
+  pub comes : InAllShown (seen d') s' (λ now. ComesTo end file now (seen d').creds call)
+
+-- another library keeps a file busy
+abbrev pub OthersHold : LibNo → Outcome → Type 0
+OthersHold lib (Busy holder) = holder.lib ≢ lib
+OthersHold lib end = Unit {0}

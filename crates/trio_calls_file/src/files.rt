@@ -1,0 +1,392 @@
+//! What is done at the file to which a call comes: checks, grants and edits.
+
+ghost use Rattle.std.specs.Prelude.{◌≡◌, ◌+◌, ◌≤◌, ◌<◌, ◌==◌, IsTrue, MatchResult, None, OnOk, Some, if◌then◌else◌, length, max};
+ghost use Rattle.trio_desk.specs.Contents.{AreWithinLimits};
+ghost use Rattle.trio_layout.specs.Body.{block_count};
+ghost use Rattle.trio_nodes.specs.Apply.{largest_size};
+ghost use Rattle.trio_nodes.specs.Walk.{Path as NamePath};
+ghost use Rattle.trio_session.specs.Layout.{growth, size_in};
+ghost use Rattle.trio_session.specs.Seen.{IsOpen, body_in, chain_in, kind_shown, room_in, serves, spare_pages};
+ghost use Rattle.trio_walk.specs.Needs.{path_of};
+ghost use Rattle.trio_edit_laws.specs.Calls.{MayCall};
+ghost use Rattle.trio_walk.specs.Walks.{HasMet, gives_met};
+ghost use Rattle.trio_calls_file.specs.Asks.{IsFileCall, sized};
+ghost use Rattle.trio_calls_file.specs.inner.Goes.{
+  BusyAt,
+  ComesHere,
+  Goes,
+  IsNeverBusy,
+  Unrefused,
+  asks_at,
+  bytes_refusal,
+  bytes_reply,
+  checked,
+  grant_for,
+  need_for,
+  refusal_at,
+  stat_reply,
+  try_ends,
+  wants_pages_for,
+};
+ghost use Rattle.trio_calls_file.specs.inner.Reads.{IsHad};
+ghost use Rattle.trio_calls_file.specs.inner.Rooms.{Allotted, MadeRoom};
+
+use crate::reads::{block_count, bytes_of, entry_count, index_count, size_of};
+use std::alloc::Global;
+use trio_desk::Desk;
+use trio_nodes::{AllotFault, Answer, Call, GrantKind, Holder, Reply};
+use trio_page::NoMemory;
+use trio_page::field::{u16_in, u32_in};
+use trio_rights::{Creds, Kind, Mode, Need, may};
+use trio_session::Session;
+use trio_walk::{Met, WalkEnd, take};
+
+/// No file may end past so many bytes.
+const LARGEST_SIZE: u64 = 33_554_432;
+
+/// Why a try of a call comes to no reply.
+#[derive(Drop)]
+pub(crate) enum Stop {
+    Busy(Holder),
+    NoMemory,
+}
+
+/// What a call is replied at the file to which its walk came. All that it takes is taken before it
+/// changes any byte, the room for the call among those done too.
+pub(crate) fn at_file<D: Desk>(
+    alloc: Global,
+    session: &mut Session,
+    desk: &mut D,
+    call: &Call,
+    met: Met,
+) -> Result<Reply, Stop>
+    requires may { MayCall (D.seen desk.old) session.old }
+    requires met { HasMet (D.seen desk.old) session.old met }
+    requires file { IsFileCall call.now }
+    requires comes { ComesHere (D.seen desk.old) session.old (path_of call.now) met.ino }
+    ensures goes { Goes D.called D.seen desk.old session.old call.now met.ino (asks_at (D.seen desk.old).creds session.old met call.now) (try_ends result) desk.new session.new }
+    ensures busy { BusyAt (D.seen desk.old) session.old met call.now (try_ends result) }
+{
+    let given = gives(desk.creds(), met, need_for(call));
+    match refusal(met.kind, given, call) {
+        Some(reply) => refused(session, reply),
+        None => at_unrefused(alloc, session, desk, call, met),
+    }
+}
+
+// at a file by which no check refuses the call, as far as its rights are known
+fn at_unrefused<D: Desk>(
+    alloc: Global,
+    session: &mut Session,
+    desk: &mut D,
+    call: &Call,
+    met: Met,
+) -> Result<Reply, Stop>
+    requires may { MayCall (D.seen desk.old) session.old }
+    requires met { HasMet (D.seen desk.old) session.old met }
+    requires file { IsFileCall call.now }
+    requires comes { ComesHere (D.seen desk.old) session.old (path_of call.now) met.ino }
+    requires limits { AreWithinLimits (D.seen desk.old).sizes }
+    requires unrefused { checked (D.seen desk.old).creds met call.now ≡ None }
+    ensures goes { Goes D.called D.seen desk.old session.old call.now met.ino (asks_at (D.seen desk.old).creds session.old met call.now) (try_ends result) desk.new session.new }
+    ensures busy { BusyAt (D.seen desk.old) session.old met call.now (try_ends result) }
+{
+    match take(session, desk, met, grant_for(call)) {
+        Ok(true) => at_taken(alloc, session, desk, call, met),
+        // only a stat takes a directory, and only the root's rights may be unknown before its grant
+        Ok(false) => refused(session, Reply::Denied),
+        Err(WalkEnd::Busy(holder)) => Err(Stop::Busy(holder)),
+        Err(WalkEnd::NoMemory) => Err(Stop::NoMemory),
+        Err(WalkEnd::At(_)) => unreachable!(),
+        Err(WalkEnd::Reply(_)) => unreachable!(),
+    }
+}
+
+// at the file that is taken
+fn at_taken<D: Desk>(
+    alloc: Global,
+    session: &mut Session,
+    desk: &mut D,
+    call: &Call,
+    met: Met,
+) -> Result<Reply, Stop>
+    requires may { MayCall (D.seen desk.old) session.old }
+    requires met { HasMet (D.seen desk.old) session.old met }
+    requires file { IsFileCall call.now }
+    requires comes { ComesHere (D.seen desk.old) session.old (path_of call.now) met.ino }
+    requires limits { AreWithinLimits (D.seen desk.old).sizes }
+    requires unrefused { checked (D.seen desk.old).creds met call.now ≡ None }
+    requires had { IsHad session.old met.ino }
+    requires taken { IsTrue (serves session.old met.ino (grant_for call.now)) }
+    requires shown { kind_shown session.old met.ino ≡ Some met.kind }
+    ensures goes { Goes D.called D.seen desk.old session.old call.now met.ino (wants_pages_for (D.seen desk.old).creds call.now) (try_ends result) desk.new session.new }
+    ensures idle { IsNeverBusy (try_ends result) }
+{
+    match call {
+        Call::Write { at, bytes, .. } => write(session, desk, met.ino, *at, bytes.as_slice()),
+        Call::Truncate { size, .. } => truncate(session, desk, met.ino, *size),
+        Call::Read { at, len, .. } => read(alloc, session, met.ino, *at, *len),
+        Call::Stat { .. } => stat(session, desk.creds(), met),
+        _ => unreachable!(),
+    }
+}
+
+// what a call needs of its file
+fn need_for(call: &Call) -> Need
+    ensures { result ≡ need_for call.now }
+{
+    match call {
+        Call::Write { .. } | Call::Truncate { .. } => Need::Write,
+        _ => Need::Read,
+    }
+}
+
+// the kind of grant by which it takes it
+fn grant_for(call: &Call) -> GrantKind
+    ensures { result ≡ grant_for call.now }
+{
+    match call {
+        Call::Write { .. } | Call::Truncate { .. } => GrantKind::Write,
+        _ => GrantKind::Read,
+    }
+}
+
+// the rights that are known of a file give what is needed, or none are known
+fn gives(creds: Creds, met: Met, need: Need) -> bool
+    ensures { result ≡ gives_met creds met need }
+{
+    match met.rights {
+        Some(rights) => may(creds, met.kind, rights.mode, rights.uid, rights.gid, need),
+        None => true,
+    }
+}
+
+// why a call is refused at a file of this kind, whose rights give what is needed or don't
+fn refusal(kind: Kind, given: bool, call: &Call) -> Option<Reply>
+    ensures { result ≡ refusal_at kind given call.now }
+{
+    match call {
+        Call::Write { at, bytes, .. } => {
+            let count = bytes.as_slice().len() as u64;
+            let fits = *at <= LARGEST_SIZE && count <= LARGEST_SIZE - *at;
+            refusal_to_write(kind, given, fits)
+        }
+        Call::Truncate { size, .. } => refusal_to_write(kind, given, *size <= LARGEST_SIZE),
+        Call::Read { .. } => refusal_to_write(kind, given, true),
+        Call::Stat { .. } if !given => Some(Reply::Denied),
+        _ => None,
+    }
+}
+
+// why bytes aren't read or written at a file of this kind
+fn refusal_to_write(kind: Kind, given: bool, fits: bool) -> Option<Reply>
+    ensures { result ≡ bytes_refusal kind given fits }
+{
+    match kind {
+        Kind::Directory => Some(Reply::IsDir),
+        Kind::Regular if !given => Some(Reply::Denied),
+        Kind::Regular if !fits => Some(Reply::TooLarge),
+        Kind::Regular => None,
+    }
+}
+
+// a refusal is noted too
+pub(crate) fn refused(session: &mut Session, reply: Reply) -> Result<Reply, Stop>
+    ensures kept { session.new ≡ record session.old { room = session.new.room } }
+    ensures ends { MatchResult result (λ r. (r ≡ reply) × (length session.new.calls < session.new.room.calls)) (λ stop. stop ≡ Stop.NoMemory) }
+{
+    match session.reserve_call() {
+        Ok(()) => Ok(reply),
+        Err(NoMemory) => Err(Stop::NoMemory),
+    }
+}
+
+// places and pages for a file that comes from one size to another; the reply where the desk has no
+// such pages
+fn make_room<D: Desk>(
+    session: &mut Session,
+    desk: &mut D,
+    ino: u32,
+    old: u64,
+    size: u64,
+) -> Result<Option<Reply>, Stop>
+    requires may { MayCall (D.seen desk.old) session.old }
+    requires open { IsOpen session.old ino }
+    requires old { old ≤ largest_size }
+    requires size { size ≤ largest_size }
+    ensures room { MadeRoom D.called D.seen desk.old session.old ino old size result desk.new session.new }
+{
+    let pages = growth(old, size);
+    match make_places(session, ino, block_count(size)) {
+        Ok(()) if pages == 0 => Ok(None),
+        Ok(()) => allot(session, desk, pages),
+        Err(NoMemory) => Err(Stop::NoMemory),
+    }
+}
+
+// by how many pages a file grows from one size to another
+fn growth(old: u64, size: u64) -> u32
+    requires old { old ≤ largest_size }
+    requires size { size ≤ largest_size }
+    ensures { result ≡ growth (block_count old) (block_count size) }
+{
+    let (from, to) = (block_count(old), block_count(size));
+    if to <= from {
+        return 0;
+    }
+    (to - from) + (index_count(to) - index_count(from))
+}
+
+// places for one call done, and for so many blocks of a file
+fn make_places(session: &mut Session, ino: u32, blocks: u32) -> Result<(), NoMemory>
+    requires { IsOpen session.old ino }
+    ensures kept { session.new ≡ record session.old { room = session.new.room } }
+    ensures calls { OnOk result (length session.new.calls < session.new.room.calls) }
+    ensures blocks { OnOk result (blocks ≤ room_in session.new ino) }
+{
+    match session.reserve_call() {
+        Ok(()) => session.reserve(ino, blocks),
+        Err(NoMemory) => Err(NoMemory),
+    }
+}
+
+// so many pages, or the reply where the desk has none
+fn allot<D: Desk>(session: &mut Session, desk: &mut D, pages: u32) -> Result<Option<Reply>, Stop>
+    requires { MayCall (D.seen desk.old) session.old }
+    ensures allotted { Allotted D.called D.seen desk.old session.old pages result desk.new session.new }
+{
+    match session.want(desk, pages, 0) {
+        Ok(()) => Ok(None),
+        Err(AllotFault::NoPages { wanted, free }) => Ok(Some(Reply::NoSpace { wanted, free })),
+        Err(AllotFault::NoMemory) => Err(Stop::NoMemory),
+        Err(AllotFault::NoInodes { .. }) => unreachable!(),
+    }
+}
+
+// bytes are written into a file that is taken; it grows where they end past its size
+fn write<D: Desk>(
+    session: &mut Session,
+    desk: &mut D,
+    ino: u32,
+    at: u64,
+    bytes: &[u8],
+) -> Result<Reply, Stop>
+    requires may { MayCall (D.seen desk.old) session.old }
+    requires limits { AreWithinLimits (D.seen desk.old).sizes }
+    requires had { IsHad session.old ino }
+    requires open { IsOpen session.old ino }
+    requires few { length bytes.now ≤ 4096 }
+    requires within { at + length bytes.now ≤ largest_size }
+    ensures goes { (path : NamePath) → Unrefused (D.seen desk.old) session.old (Call.Write path at bytes.now) ino
+        → Goes D.called D.seen desk.old session.old (Call.Write path at bytes.now) ino (wants_pages_for (D.seen desk.old).creds (Call.Write path at bytes.now)) (try_ends result) desk.new session.new }
+    ensures idle { IsNeverBusy (try_ends result) }
+{
+    let old = size_of(session, ino);
+    let size = size_written(old, at, bytes);
+    match make_room(session, desk, ino, old, size) {
+        Ok(None) if bytes.is_empty() => Ok(Reply::Ok(Answer::Count(0))),
+        Ok(None) => {
+            resize(session, ino, old, size);
+            session.put(ino, at, bytes);
+            Ok(Reply::Ok(Answer::Count(bytes.len() as u32)))
+        }
+        Ok(Some(reply)) => Ok(reply),
+        Err(stop) => Err(stop),
+    }
+}
+
+// the size of a file after bytes are written; no bytes change nothing
+fn size_written(old: u64, at: u64, bytes: &[u8]) -> u64
+    requires { at + length bytes.now ≤ largest_size }
+    ensures { result ≡ (if length bytes.now == 0 then old else max old (at + length bytes.now)) }
+{
+    if bytes.is_empty() {
+        old
+    } else {
+        old.max(at + bytes.len() as u64)
+    }
+}
+
+// a file that is taken comes to another size
+fn truncate<D: Desk>(
+    session: &mut Session,
+    desk: &mut D,
+    ino: u32,
+    size: u64,
+) -> Result<Reply, Stop>
+    requires may { MayCall (D.seen desk.old) session.old }
+    requires limits { AreWithinLimits (D.seen desk.old).sizes }
+    requires had { IsHad session.old ino }
+    requires open { IsOpen session.old ino }
+    requires within { size ≤ largest_size }
+    ensures goes { (path : NamePath) → Unrefused (D.seen desk.old) session.old (Call.Truncate path size) ino
+        → Goes D.called D.seen desk.old session.old (Call.Truncate path size) ino (wants_pages_for (D.seen desk.old).creds (Call.Truncate path size)) (try_ends result) desk.new session.new }
+    ensures idle { IsNeverBusy (try_ends result) }
+{
+    let old = size_of(session, ino);
+    match make_room(session, desk, ino, old, size) {
+        Ok(None) => {
+            resize(session, ino, old, size);
+            Ok(Reply::Ok(Answer::Done))
+        }
+        Ok(Some(reply)) => Ok(reply),
+        Err(stop) => Err(stop),
+    }
+}
+
+// a file comes from one size to another, by room that was made
+fn resize(session: &mut Session, ino: u32, old: u64, size: u64)
+    requires open { IsOpen session.old ino }
+    requires old { old ≡ size_in (body_in session.old ino) }
+    requires pages { growth (length (chain_in session.old ino).blocks) (block_count size) ≤ length (spare_pages session.old) }
+    requires room { block_count size ≤ room_in session.old ino }
+    ensures kept { session.new ≡ record (sized ino size session.old) { room = session.new.room } }
+    ensures calls { session.new.room.calls ≡ session.old.room.calls }
+{
+    if old < size {
+        session.grow(ino, size);
+    } else if size < old {
+        session.cut(ino, size);
+    }
+}
+
+// at most so many bytes of a file that is taken, from a place on
+fn read(alloc: Global, session: &mut Session, ino: u32, at: u64, len: u32) -> Result<Reply, Stop>
+    requires had { IsHad session.old ino }
+    ensures kept { session.new ≡ record session.old { room = session.new.room } }
+    ensures ends { MatchResult result (λ r. (r ≡ bytes_reply session.old ino at len) × (length session.new.calls < session.new.room.calls)) (λ stop. stop ≡ Stop.NoMemory) }
+{
+    match bytes_of(alloc, session, ino, at, len) {
+        Ok(bytes) => refused(session, Reply::Ok(Answer::Bytes(bytes))),
+        Err(NoMemory) => Err(Stop::NoMemory),
+    }
+}
+
+// what a file that is taken is, by its body; only here are the root's rights sure to be known
+fn stat(session: &mut Session, creds: Creds, met: Met) -> Result<Reply, Stop>
+    requires had { IsHad session.old met.ino }
+    ensures kept { session.new ≡ record session.old { room = session.new.room } }
+    ensures ends { MatchResult result (λ r. (r ≡ stat_reply creds session.old met.ino met.kind) × (length session.new.calls < session.new.room.calls)) (λ stop. stop ≡ Stop.NoMemory) }
+{
+    let Some(body) = session.body(met.ino) else {
+        unreachable!()
+    };
+    let (mode, uid, gid) = (Mode(u16_in(body, 0)), u32_in(body, 4), u32_in(body, 8));
+    if !may(creds, met.kind, mode, uid, gid, Need::Read) {
+        return refused(session, Reply::Denied);
+    }
+    let size = match met.kind {
+        Kind::Directory => entry_count(session, met.ino),
+        Kind::Regular => size_of(session, met.ino),
+    };
+    refused(
+        session,
+        Reply::Ok(Answer::Stat {
+            kind: met.kind,
+            mode,
+            uid,
+            gid,
+            size,
+        }),
+    )
+}

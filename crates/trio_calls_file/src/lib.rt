@@ -1,0 +1,12 @@
+//! The calls of an honest library on files.
+//!
+//! [`file_call`] writes, reads, resizes or looks at the file at a path, over what its session has.
+//! `specs/Asks.antt` says which calls of the desk that makes, and how it ends.
+#![tactic(auto)]
+
+mod calls;
+mod files;
+mod reads;
+mod replies;
+
+pub use calls::file_call;

@@ -1,0 +1,124 @@
+//! What is read of the files that a session has: sizes, bytes, and how many entries there are.
+
+ghost use Rattle.std.specs.Prelude.{◌≡◌, ◌≤◌, ◌<◌, [], IfOk, drop, length, slice_index_or, take};
+ghost use Rattle.trio_layout.specs.Body.{block_count};
+ghost use Rattle.trio_layout.specs.Chain.{index_count};
+ghost use Rattle.trio_layout.specs.Entries.{slot_bytes};
+ghost use Rattle.trio_layout.specs.Slot.{slot_of};
+ghost use Rattle.trio_session.specs.Layout.{size_in};
+ghost use Rattle.trio_session.specs.Seen.{every_number, pages_shown};
+ghost use Rattle.trio_calls_file.specs.inner.Reads.{IsHad, body_had, bytes_had, entries_counted, entries_within, is_entry};
+
+use std::alloc::Global;
+use trio_layout::{Slot, SlotRead};
+use trio_nodes::Bytes;
+use trio_page::field::u64_in;
+use trio_page::{NoMemory, PAGE_SIZE, Page};
+use trio_session::Session;
+
+/// How many blocks hold so many bytes.
+pub(crate) fn block_count(size: u64) -> u32
+    requires { size ≤ 33554432 }
+    ensures count { result ≡ block_count size }
+    ensures few { result ≤ 8192 }
+{
+    size.div_ceil(PAGE_SIZE as u64) as u32
+}
+
+/// How many pages are in the index of a file of so many blocks.
+pub(crate) fn index_count(blocks: u32) -> u32
+    ensures { result ≡ index_count blocks }
+{
+    blocks.div_ceil(511)
+}
+
+/// The size of a file that the session has.
+pub(crate) fn size_of(session: &Session, ino: u32) -> u64
+    requires { IsHad session.now ino }
+    ensures size { result ≡ size_in (body_had session.now ino) }
+    ensures few { result ≤ 33554432 }
+{
+    match session.body(ino) {
+        Some(body) => u64_in(body, 16),
+        None => unreachable!(),
+    }
+}
+
+/// At most so many bytes of a file that the session has, from a place on.
+#[tactic(auto, using(crate::proofs::Reading::read_all))]
+pub(crate) fn bytes_of(
+    alloc: Global,
+    session: &Session,
+    ino: u32,
+    at: u64,
+    len: u32,
+) -> Result<Bytes, NoMemory>
+    requires { IsHad session.now ino }
+    ensures { IfOk result (λ bytes. bytes ≡ take len (drop at (bytes_had session.now ino))) }
+{
+    let size = size_of(session, ino);
+    let start = at.min(size);
+    let end = start + (size - start).min(u64::from(len));
+    let mut from = start;
+    let mut out = Vec::new(alloc);
+    while from < end {
+        let offset = from as usize % PAGE_SIZE;
+        let count = (PAGE_SIZE - offset).min((end - from) as usize);
+        let block = page_of(session, ino, (from / PAGE_SIZE as u64) as u32);
+        out.extend_from_slice(&block.bytes()[offset..offset + count])?;
+        from += count as u64;
+    }
+    Ok(Bytes::from_vec(out))
+}
+
+/// A block of a file that the session has.
+fn page_of(session: &Session, ino: u32, block: u32) -> &Page
+    requires had { IsHad session.now ino }
+    requires block { block < length (pages_shown session.now ino) }
+    ensures { result.now ≡ slice_index_or (pages_shown session.now ino) block [] }
+{
+    match session.block(ino, block) {
+        Some(page) => page,
+        None => unreachable!(),
+    }
+}
+
+/// How many entries the blocks of a directory have, block by block.
+pub(crate) fn entry_count(session: &Session, dir: u32) -> u64
+    requires { IsHad session.now dir }
+    ensures { result ≡ entries_counted (pages_shown session.now dir) }
+{
+    let blocks = block_count(size_of(session, dir));
+    let mut count = 0;
+    for block in 0..blocks {
+        count += u64::from(entries_on(page_of(session, dir, block)));
+    }
+    count
+}
+
+/// How many slots of a directory's block have an entry.
+#[tactic(auto, using(crate::proofs::Reading::entries_more, crate::proofs::Reading::entries_none))]
+fn entries_on(page: &Page) -> u32
+    ensures count { result ≡ entries_within 16 page.now }
+    ensures few { result ≤ 16 }
+{
+    let mut count = 0;
+    for slot in 0..16 {
+        if has_entry(page, slot) {
+            count += 1;
+        }
+    }
+    count
+}
+
+/// Whether a slot of a directory's block has an entry.
+fn has_entry(page: &Page, slot: usize) -> bool
+    requires { slot < 16 }
+    ensures { result ≡ is_entry (slot_of every_number (slot_bytes slot page.now)) }
+{
+    let from = 256 * slot;
+    matches!(
+        Slot::read(page.bytes()[from..from + 256].as_array().unwrap(), u32::MAX),
+        SlotRead::Entry(_)
+    )
+}

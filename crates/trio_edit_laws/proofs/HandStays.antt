@@ -1,0 +1,130 @@
+-- All that is in hand stays, but for bytes: what is possible, that it is in order, and that it is all that is out.
+use Rattle.std.proofs.Common.{◌≡◌, ℕ, ◌≤◌, length, List, [], ◌++◌, Some, sym, ap, ◌∙◌, subst, inl, inr}
+use Rattle.std.specs.Prelude.{◌↔◌, map}
+use Rattle.std.proofs.lemmas.List.{length-map}
+use Rattle.std.proofs.lemmas.Simd.{map-map}
+use Rattle.trio_rights.specs.Bundle.{Written}
+use Rattle.trio_lists.specs.Lists.{In, are_new}
+use Rattle.trio_layout.specs.Core.{page_of}
+use Rattle.trio_lease.specs.Shown.{Shown, LentFile}
+use Rattle.trio_lease.specs.Views.{written_in}
+use Rattle.trio_lease.specs.declared.parts.FreshParts.{FreshParts}
+use Rattle.trio_lease.specs.declared.parts.HoldParts.{HoldParts}
+use Rattle.trio_lease.specs.declared.parts.InoParts.{InoParts}
+use Rattle.trio_surveys.proofs.Sheets.{among_cases}
+use Rattle.trio_desk.specs.Among.{IsAmong}
+use Rattle.trio_desk.specs.Call.{DeskSeen}
+use Rattle.trio_desk.specs.Edits.{TakesMore}
+use Rattle.trio_desk.specs.Out.{LibOut, WasGiven, file_numbers, hold_numbers, ino_numbers, page_numbers}
+use Rattle.trio_desk.specs.Ready.{HandsInAll, bundle_of, lent_files}
+use Rattle.trio_laws.specs.session.FileEdits.{core_in_hand}
+use Rattle.trio_laws.specs.session.Sees.{IsLeftAlone}
+use Rattle.trio_laws.specs.session.Takes.{IsInOrder, case_in_hand, pages_in_hand}
+use Rattle.trio_laws.proofs.session.Again.{possible_with_less}
+use Rattle.trio_session.specs.Layout.{page_in}
+use Rattle.trio_session.specs.Seen.{IsOn, SessionSeen, in_hand}
+use Rattle.trio_edit_laws.specs.Written.{IsWellGiven, MayEdit}
+use Rattle.trio_edit_laws.proofs.Hand.{hand_is_core, hand_page}
+use Rattle.trio_edit_laws.proofs.Pages.{page_of-elsewhere, page_of-hand}
+
+-- the same leases, holds, pages and numbers are in hand, and as many chains are kept
+pub record HandStays (s s' : SessionSeen) : Type 0 where
+  pub lib : s'.lib ≡ s.lib
+  pub creds : s'.creds ≡ s.creds
+  pub reads : s'.reads ≡ s.reads
+  pub chains : length s'.chains ≡ length s.chains
+  pub numbers : file_numbers s'.parcel.writes ≡ file_numbers s.parcel.writes
+  pub lent : lent_files s'.parcel.writes ≡ lent_files s.parcel.writes
+  pub pages : pages_in_hand (in_hand s') ≡ pages_in_hand (in_hand s)
+  pub fresh : page_numbers s'.parcel.pages ≡ page_numbers s.parcel.pages
+  pub holds : s'.parcel.holds ≡ s.parcel.holds
+  pub inodes : s'.parcel.inodes ≡ s.parcel.inodes
+  pub given : (out : LibOut) → WasGiven out s.parcel → WasGiven out s'.parcel
+
+module _ (desk : DeskSeen) (s s' : SessionSeen) (m : MayEdit desk s) (h : HandStays s s') where
+  -- a page in hand has the bytes that it has then
+  pub page_then : (n : ℕ) → In n (pages_in_hand (in_hand s)) → page_of (core_in_hand desk (in_hand s')) n ≡ Some (page_in s'.parcel n)
+  page_then n i = page_of-hand desk (in_hand s') n (ap (are_new []) h.pages ∙ m.order.pages) (subst (λ l. In n l) (sym h.pages) i) (hand_is_core desk s n m i)
+
+  -- and one with the same bytes is the same
+  pub page_same : (n : ℕ) → page_in s'.parcel n ≡ page_in s.parcel n → page_of (core_in_hand desk (in_hand s')) n ≡ page_of (core_in_hand desk (in_hand s)) n
+  page_same n same =
+      elim (among_cases n (pages_in_hand (in_hand s))) [
+        | inl i ↦ page_then n i ∙ ap Some same ∙ sym (hand_page desk s n m i)
+        | inr none ↦ page_of-elsewhere desk (in_hand s) (in_hand s') n none (λ i. none (subst (λ l. In n l) h.pages i))
+      ]
+
+  pub takes_more : TakesMore desk (in_hand s) (in_hand s')
+  takes_more =
+      possible_with_less desk s.parcel s'.parcel s.reads s'.reads
+      (λ x i. subst (λ l. In x (l ++ s'.reads)) (sym h.lent) (subst (λ l. In x (lent_files s.parcel.writes ++ l)) (sym h.reads) i))
+      (λ k i. subst (λ l. In k l) (sym h.holds) i) (λ n i. subst (λ (l : List InoParts). In n (ino_numbers l)) (sym h.inodes) i)
+
+  bundle_numbers : map (λ (x : Written). x.ino) (bundle_of s'.parcel).writes ≡ map (λ (x : Written). x.ino) (bundle_of s.parcel).writes
+  bundle_numbers =
+      map-map (λ (x : Written). x.ino) (λ (x : LentFile). written_in x.stands) s'.parcel.writes
+      ∙ h.numbers
+      ∙ sym (map-map (λ (x : Written). x.ino) (λ (x : LentFile). written_in x.stands) s.parcel.writes)
+
+  pub in_order : IsInOrder desk (in_hand s')
+  in_order = record {
+    among = λ nodes rows possible.
+        let a : IsAmong (case_in_hand desk rows (in_hand s)) nodes = m.order.among nodes rows (takes_more nodes rows possible) in
+        record {
+          same = a.same;
+          written = λ n i. a.written n (subst (λ l. In n l) bundle_numbers i);
+          held = λ n i. a.held n (subst (λ (l : List HoldParts). In n (map (λ (k : HoldParts). k.ino) l)) h.holds i);
+          apart = λ n i j. a.apart n (subst (λ (l : List HoldParts). In n (map (λ (k : HoldParts). k.ino) l)) h.holds i) (subst (λ l. In n l) bundle_numbers j);
+          closed = λ n r i k. subst (λ l. In r.parent l) (sym bundle_numbers) (a.closed n r (subst (λ (l : List HoldParts). In n (map (λ (k : HoldParts). k.ino) l)) h.holds i) k);
+          new = λ n i. a.new n (subst (λ (l : List InoParts). In n (ino_numbers l)) h.inodes i);
+        };
+    pages = ap (are_new []) h.pages ∙ m.order.pages;
+    files = ap (are_new []) h.numbers ∙ m.order.files;
+  }
+
+  pub is_on : IsOn desk s'
+  is_on = record {
+    lib = h.lib ∙ m.on.lib;
+    creds = h.creds ∙ m.on.creds;
+    out = record {
+      writes = m.on.out.writes ∙ sym h.lent;
+      reads = m.on.out.reads ∙ sym h.reads;
+      holds = m.on.out.holds ∙ sym h.holds;
+      pages = λ n. subst (λ l. In n desk.out.pages ↔ In n l) (sym h.fresh) (m.on.out.pages n);
+      numbers = λ n. subst (λ (l : List InoParts). In n desk.out.numbers ↔ In n (ino_numbers l)) (sym h.inodes) (m.on.out.numbers n);
+    };
+    writes = λ x i. m.on.writes x (subst (λ l. In x l) h.lent i);
+    reads = λ x i. m.on.reads x (subst (λ l. In x l) h.reads i);
+    core = λ n i. m.on.core n (subst (λ l. In n l) h.fresh i);
+  }
+
+  pub hands_in_all : HandsInAll desk.out s'.parcel s'.reads
+  hands_in_all = record {
+    given = h.given desk.out m.all.given;
+    writes = λ x i. subst (λ l. In x l) (sym h.lent) (m.all.writes x i);
+    reads = λ x. subst (λ l. In x desk.out.reads ↔ In x l) (sym h.reads) (m.all.reads x);
+    reads_once = ap (λ (l : List Shown). are_new [] (map (λ (x : Shown). x.ino) l)) h.reads ∙ m.all.reads_once;
+    holds = λ k i. subst (λ l. In k l) (sym h.holds) (m.all.holds k i);
+    pages = λ n i. subst (λ l. In n l) (sym h.fresh) (m.all.pages n i);
+    numbers = λ n i. subst (λ (l : List InoParts). In n (ino_numbers l)) (sym h.inodes) (m.all.numbers n i);
+  }
+
+  pub well_given : IsWellGiven desk s'.parcel
+  well_given = record {
+    holds = λ k i. m.given.holds k (subst (λ l. In k l) h.holds i);
+    numbers = λ n i. m.given.numbers n (subst (λ (l : List InoParts). In n (ino_numbers l)) h.inodes i);
+  }
+
+  pub left_alone : (f : Shown) → In f s'.reads → IsLeftAlone (in_hand s') f.ino
+  left_alone f i =
+      let a = m.alone f (subst (λ l. In f l) h.reads i) in
+      ((λ j. a.0 (subst (λ l. In f.ino l) h.numbers j)), (λ j. a.1 (subst (λ l. In f.ino (hold_numbers l)) h.holds j)))
+
+  pub chains_beside : length s'.chains ≡ length s'.parcel.writes
+  chains_beside =
+      h.chains ∙ m.beside
+      ∙ sym (length-map s.parcel.writes (λ (x : LentFile). x.lent)) ∙ ap (λ (l : List Shown). length l) (sym h.lent) ∙ length-map s'.parcel.writes (λ (x : LentFile). x.lent)
+
+  pub within_pages : (n : ℕ) → n ≤ length s.parcel.pages → n ≤ length s'.parcel.pages
+  within_pages n le = subst (λ k. n ≤ k)
+      (sym (length-map s.parcel.pages (λ (x : FreshParts). x.no.0)) ∙ ap (λ (l : List ℕ). length l) (sym h.fresh) ∙ length-map s'.parcel.pages (λ (x : FreshParts). x.no.0)) le

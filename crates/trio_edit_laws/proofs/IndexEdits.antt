@@ -1,0 +1,112 @@
+-- What index pages say after numbers and links were written into them.
+use Rattle.std.proofs.Common.{◌≡◌, ℕ, zero, suc, ◌+◌, ◌*◌, ◌/◌, ◌%◌, ◌^◌, ◌<◌, ◌≤◌, true, cond, eqb, List, [], ◌∷◌, length, get_or, refl, sym, ap, ◌∙◌, subst, inl, inr, ◌⊎◌, arith, eq-eqb}
+use Rattle.std.specs.Int.{w64}
+use Rattle.std.proofs.lemmas.Bool.{cases_eq, cases_lt, ne_eqb}
+use Rattle.trio_page.specs.Field.{number_at, with_number}
+use Rattle.trio_page.proofs.Fields.{length-with_number, number64_again, number_at-above, number_at-below}
+use Rattle.trio_page.proofs.Cursor.{IsBytes}
+use Rattle.trio_lists.specs.Lists.{In, are_new}
+use Rattle.trio_lists.proofs.Filters.{get_or-In}
+use Rattle.trio_lists.proofs.New.{are_new-first}
+use Rattle.trio_edit_laws.proofs.IndexFields.{IndexSays, small-with_number}
+
+-- one page gets these bytes, and every other page has those that it had
+pub record Puts (page page' : ℕ → List ℕ) (n : ℕ) (bytes : List ℕ) : Type 0 where
+  pub here : page' n ≡ bytes
+  pub other : (m : ℕ) → (m ≡ n → ⊥) → page' m ≡ page m
+
+-- of different numbers each stands at one place
+pub place_once : (xs : List ℕ) → are_new [] xs ≡ true → (i j : ℕ) → i < length xs → j < length xs → get_or xs i 0 ≡ get_or xs j 0 → i ≡ j
+place_once [] once i j a b e = absurd (omega arith)
+place_once (x ∷ xs) once zero zero a b e = refl
+place_once (x ∷ xs) once zero (suc j) a b e = absurd ((are_new-first x xs once).0 (subst (λ n. In n xs) (sym e) (get_or-In xs j 0 (omega arith))))
+place_once (x ∷ xs) once (suc i) zero a b e = absurd ((are_new-first x xs once).0 (subst (λ n. In n xs) e (get_or-In xs i 0 (omega arith))))
+place_once (x ∷ xs) once (suc i) (suc j) a b e = ap suc (place_once xs (are_new-first x xs once).1 i j (omega arith) (omega arith) e)
+
+-- a function with another value at one place
+abbrev pub with_at : ℕ → ℕ → (ℕ → ℕ) → ℕ → ℕ
+with_at k v f j = cond (eqb j k) v (f j)
+
+pub with_at-here : (k v : ℕ) (f : ℕ → ℕ) (j : ℕ) → j ≡ k → with_at k v f j ≡ v
+with_at-here k v f j e = ap (λ t. cond t v (f j)) (eq-eqb j k e)
+
+pub with_at-other : (k v : ℕ) (f : ℕ → ℕ) (j : ℕ) → (j ≡ k → ⊥) → with_at k v f j ≡ f j
+with_at-other k v f j ne = ap (λ t. cond t v (f j)) (ne_eqb j k ne)
+
+-- ---- one number
+
+module _ (page page' : ℕ → List ℕ) (index : List ℕ) (number link : ℕ → ℕ) (k at v : ℕ) (s : IndexSays page index number link) (once : are_new [] index ≡ true) (lt : k < length index) (fits : at + 8 ≤ 4096)
+    (puts : Puts page page' (get_or index k 0) (with_number w64 at v (page (get_or index k 0)))) where
+  now : (i : ℕ) → i < length index → (i ≡ k) ⊎ ((i ≡ k → ⊥) × (page' (get_or index i 0) ≡ page (get_or index i 0)))
+  now i l = elim (cases_eq i k) [ inl e ↦ inl e | inr d ↦ inr (d, puts.other (get_or index i 0) (λ e. d (place_once index once i k l lt e))) ]
+
+  within : at + 8 ≤ length (page (get_or index k 0))
+  within = let w = s.whole k lt in omega (arith, w)
+
+  pub put_whole : (i : ℕ) → i < length index → length (page' (get_or index i 0)) ≡ 4096
+  put_whole i l = elim (now i l) [
+    | inl e ↦ ap (λ j. length (page' (get_or index j 0))) e ∙ ap length puts.here ∙ length-with_number w64 at v (page (get_or index k 0)) within ∙ s.whole k lt
+    | inr d ↦ ap length d.1 ∙ s.whole i l
+  ]
+
+  pub put_small : (i : ℕ) → i < length index → IsBytes (page' (get_or index i 0))
+  put_small i l = elim (now i l) [
+    | inl e ↦ subst IsBytes (sym (ap (λ j. page' (get_or index j 0)) e ∙ puts.here)) (small-with_number at v (page (get_or index k 0)) within (s.small k lt))
+    | inr d ↦ subst IsBytes (sym d.1) (s.small i l)
+  ]
+
+  -- another field, and the field that was written
+  pub put_field : (i f : ℕ) → i < length index → (i ≡ k → (f + 8 ≤ at) ⊎ (at + 8 ≤ f)) → number_at w64 f (page' (get_or index i 0)) ≡ number_at w64 f (page (get_or index i 0))
+  put_field i f l apart = elim (now i l) [
+    | inl e ↦ ap (λ j. number_at w64 f (page' (get_or index j 0))) e ∙ ap (number_at w64 f) puts.here ∙ (elim (apart e) [
+      | inl below ↦ number_at-below w64 w64 at f v (page (get_or index k 0)) within below
+      | inr above ↦ number_at-above w64 w64 at f v (page (get_or index k 0)) within above
+    ]) ∙ ap (λ j. number_at w64 f (page (get_or index j 0))) (sym e)
+    | inr d ↦ ap (number_at w64 f) d.1
+  ]
+
+  pub put_here : v < 2 ^ 64 → number_at w64 at (page' (get_or index k 0)) ≡ v
+  put_here small = ap (number_at w64 at) puts.here ∙ number64_again at v (page (get_or index k 0)) within small
+
+-- a number along the index pages is written
+pub says-number : (page page' : ℕ → List ℕ) (index : List ℕ) (number link number' : ℕ → ℕ) (k v : ℕ) → IndexSays page index number link → are_new [] index ≡ true → k < 511 * length index → v < 2 ^ 64
+    → Puts page page' (get_or index (k / 511) 0) (with_number w64 (8 * (k % 511)) v (page (get_or index (k / 511) 0)))
+    → number' k ≡ v → ((j : ℕ) → (j ≡ k → ⊥) → number' j ≡ number j) → IndexSays page' index number' link
+says-number page page' index number link number' k v s once lt small puts same other =
+    let q : ℕ = k / 511 in
+    let at : ℕ = 8 * (k % 511) in
+    let below : q < length index = omega arith in
+    let fits : at + 8 ≤ 4096 = omega arith in
+    record {
+      whole = put_whole page page' index number link q at v s once below fits puts;
+      small = put_small page page' index number link q at v s once below fits puts;
+      numbers = λ j l. elim (cases_eq j k) [
+        | inl e ↦
+            ap (λ i. number_at w64 (8 * (i % 511)) (page' (get_or index (i / 511) 0))) e
+            ∙ put_here page page' index number link q at v s once below fits puts small ∙ sym same ∙ ap number' (sym e)
+        | inr d ↦
+            put_field page page' index number link q at v s once below fits puts (j / 511) (8 * (j % 511)) (omega arith) (λ e. elim (cases_lt (j % 511) (k % 511)) [
+              | inl less ↦ inl (omega arith)
+              | inr more ↦ elim (cases_eq (j % 511) (k % 511)) [ inl f ↦ absurd (d (omega arith)) | inr ne ↦ inr (omega arith) ]
+            ])
+            ∙ s.numbers j l ∙ sym (other j d)
+      ];
+      links = λ i l. put_field page page' index number link q at v s once below fits puts i 4088 l (λ e. inr (omega arith)) ∙ s.links i l;
+    }
+
+-- a link is written
+pub says-link : (page page' : ℕ → List ℕ) (index : List ℕ) (number link link' : ℕ → ℕ) (k v : ℕ) → IndexSays page index number link → are_new [] index ≡ true → k < length index → v < 2 ^ 64
+    → Puts page page' (get_or index k 0) (with_number w64 4088 v (page (get_or index k 0)))
+    → link' k ≡ v → ((j : ℕ) → (j ≡ k → ⊥) → link' j ≡ link j) → IndexSays page' index number link'
+says-link page page' index number link link' k v s once lt small puts same other =
+    let fits : 4088 + 8 ≤ 4096 = omega arith in
+    record {
+      whole = put_whole page page' index number link k 4088 v s once lt fits puts;
+      small = put_small page page' index number link k 4088 v s once lt fits puts;
+      numbers = λ j l. put_field page page' index number link k 4088 v s once lt fits puts (j / 511) (8 * (j % 511)) (omega arith) (λ e. inl (omega arith)) ∙ s.numbers j l;
+      links = λ i l. elim (cases_eq i k) [
+        | inl e ↦ ap (λ j. number_at w64 4088 (page' (get_or index j 0))) e ∙ put_here page page' index number link k 4088 v s once lt fits puts small ∙ sym same ∙ ap link' (sym e)
+        | inr d ↦
+            put_field page page' index number link k 4088 v s once lt fits puts i 4088 l (λ e. absurd (d e)) ∙ s.links i l ∙ sym (other i d)
+      ];
+    }

@@ -1,0 +1,251 @@
+-- The fields of a file's index pages, by the numbers of these pages: what index pages say, and index pages that say it.
+use Rattle.std.proofs.Common.{◌≡◌, ℕ, zero, suc, ◌+◌, ◌-◌, ◌*◌, ◌/◌, ◌%◌, ◌^◌, ◌<◌, ◌≤◌, ◌&&◌, nat_lt, Bool, true, false, eqb, min, List, [], ◌∷◌, ◌++◌, length, take, drop, get_or, Option, Some, refl, sym, ap, ◌∙◌, subst, inl, inr, arith, eq-eqb}
+use Rattle.std.specs.Int.{w64, to_le_bytes}
+use Rattle.std.specs.List.{list_all, flat_map}
+use Rattle.std.specs.Str.{bytes_eq}
+use Rattle.std.proofs.lemmas.Bool.{and_parts, cases_lt, lt-ltb, ne_eqb}
+use Rattle.std.proofs.lemmas.Option.{cond_some}
+use Rattle.std.proofs.lemmas.List.{get_or-drop, get_or-take, get_or_default, get_or_past, length-take, length-drop, length-append, get_or_append_left, get_or-append_right}
+use Rattle.std.proofs.lemmas.List.Sums.{list_all-from_AllPass}
+use Rattle.std.proofs.lemmas.Grind.{same_number_lists}
+use Rattle.trio_page.specs.Field.{number_at, with_number, with_part, zeros}
+use Rattle.trio_page.proofs.Fields.{get_or-with_part_above, get_or-with_part_below, get_or-with_part_in, length-to_le_bytes}
+use Rattle.trio_page.proofs.Cursor.{IsBytes, length-zeros, number_at-lt, wide64}
+use Rattle.trio_lists.specs.Lists.{In}
+use Rattle.trio_lists.proofs.Filters.{get_or-In, some_one}
+use Rattle.trio_layout.specs.declared.range.CoreRange.{CoreRange}
+use Rattle.trio_layout.specs.Chain.{index_count}
+use Rattle.trio_layout.specs.Core.{Core, page_of}
+use Rattle.trio_layout.specs.Range.{is_core}
+use Rattle.trio_layout.specs.Index.{Index, index_at, index_bytes, index_fits, index_of, link_fits, numbers_in}
+use Rattle.trio_layout.specs.inner.Fields.{AreNumbers}
+use Rattle.trio_layout.proofs.Reading.{bytes_eq-true}
+use Rattle.trio_layout.proofs.IndexPages.{found, index_value, length-numbers_in, numbers_in-at, only}
+use Rattle.trio_laws.specs.session.Chains.{IsNamed, NamesShare}
+use Rattle.trio_session.proofs.Lists.{In-take}
+
+-- ---- bytes
+
+pub In-drop : {X : Type 0} (n : ℕ) (x : X) (xs : List X) → In x (drop n xs) → In x xs
+In-drop zero x xs i = i
+In-drop (suc n) x [] i = i
+In-drop (suc n) x (y ∷ ys) i = inr (In-drop n x ys i)
+
+pub small-to_le_bytes : (n : ℕ) → IsBytes (to_le_bytes w64 n)
+small-to_le_bytes n zero = omega arith
+small-to_le_bytes n (suc zero) = omega arith
+small-to_le_bytes n (suc (suc zero)) = omega arith
+small-to_le_bytes n (suc (suc (suc zero))) = omega arith
+small-to_le_bytes n (suc (suc (suc (suc zero)))) = omega arith
+small-to_le_bytes n (suc (suc (suc (suc (suc zero))))) = omega arith
+small-to_le_bytes n (suc (suc (suc (suc (suc (suc zero)))))) = omega arith
+small-to_le_bytes n (suc (suc (suc (suc (suc (suc (suc zero))))))) = omega arith
+small-to_le_bytes n (suc (suc (suc (suc (suc (suc (suc (suc i)))))))) = omega arith
+
+small-append : (xs ys : List ℕ) → IsBytes xs → IsBytes ys → IsBytes (xs ++ ys)
+small-append xs ys a b i =
+    elim (cases_lt i (length xs)) [
+      | inl lt ↦ rw (get_or_append_left xs ys 0 i lt) (a i)
+      | inr le ↦ rw (get_or-append_right xs ys (length xs) i 0 refl le) (b (i - length xs))
+    ]
+
+pub small-with_part : (at : ℕ) (part bytes : List ℕ) → at + length part ≤ length bytes → IsBytes part → IsBytes bytes → IsBytes (with_part at part bytes)
+small-with_part at part bytes fits a b i =
+    elim (cases_lt i at) [
+      | inl lt ↦ rw (get_or-with_part_below at part bytes i 0 fits lt) (b i)
+      | inr le ↦ elim (cases_lt i (at + length part)) [
+        | inl lt ↦
+            let here : at + (i - at) ≡ i = omega arith in
+            let e : get_or (with_part at part bytes) i 0 ≡ get_or part (i - at) 0 =
+            ap (λ k. get_or (with_part at part bytes) k 0) (sym here) ∙ get_or-with_part_in at part bytes (i - at) 0 fits (omega arith) in
+            rw e (a (i - at))
+        | inr ge ↦ rw (get_or-with_part_above at part bytes i 0 fits ge) (b i)
+      ]
+    ]
+
+pub small-with_number : (at n : ℕ) (bytes : List ℕ) → at + 8 ≤ length bytes → IsBytes bytes → IsBytes (with_number w64 at n bytes)
+unfolding with_number
+small-with_number at n bytes fits b = small-with_part at (to_le_bytes w64 n) bytes fits (small-to_le_bytes n) b
+
+small-flat_map : (ns : List ℕ) → IsBytes (flat_map (to_le_bytes w64) ns)
+small-flat_map [] = λ i. omega arith
+small-flat_map (n ∷ ns) = small-append (to_le_bytes w64 n) (flat_map (to_le_bytes w64) ns) (small-to_le_bytes n) (small-flat_map ns)
+
+length-flat_map : (ns : List ℕ) → length (flat_map (to_le_bytes w64) ns) ≡ 8 * length ns
+length-flat_map [] = refl
+length-flat_map (n ∷ ns) = omega (arith, length-append (to_le_bytes w64 n) (flat_map (to_le_bytes w64) ns), length-to_le_bytes w64 n, length-flat_map ns)
+
+small-index_bytes : (i : Index) → IsBytes (index_bytes i)
+unfolding index_bytes
+small-index_bytes i =
+    small-append (flat_map (to_le_bytes w64) (i.numbers ++ zeros (511 - length i.numbers))) (to_le_bytes w64 i.next)
+    (small-flat_map (i.numbers ++ zeros (511 - length i.numbers))) (small-to_le_bytes i.next)
+
+length-index_bytes : (i : Index) → length i.numbers ≤ 511 → length (index_bytes i) ≡ 4096
+unfolding index_bytes
+length-index_bytes i room =
+    let ns : List ℕ = i.numbers ++ zeros (511 - length i.numbers) in
+    omega (
+      arith,
+      length-append (flat_map (to_le_bytes w64) ns) (to_le_bytes w64 i.next),
+      length-to_le_bytes w64 i.next,
+      length-flat_map ns,
+      length-append i.numbers (zeros (511 - length i.numbers)),
+      length-zeros (511 - length i.numbers),
+    )
+
+-- ---- one index page
+
+-- the bytes of a page are 4096, and say these numbers, with zeros behind them, and this link
+pub record PageSays (bytes numbers : List ℕ) (next : ℕ) : Type 0 where
+  pub whole : length bytes ≡ 4096
+  pub small : IsBytes bytes
+  pub numbers_at : (k : ℕ) → k < 511 → number_at w64 (8 * k) bytes ≡ get_or numbers k 0
+  pub link_at : number_at w64 4088 bytes ≡ next
+
+narrow-numbers_in : (used : ℕ) (bytes : List ℕ) → IsBytes bytes → list_all (λ n. nat_lt n (2 ^ 64)) (numbers_in used bytes) ≡ true
+narrow-numbers_in used bytes small =
+    list_all-from_AllPass (λ n. nat_lt n (2 ^ 64)) (numbers_in used bytes) (λ k d lt.
+    let below : k < used = omega (arith, length-numbers_in used bytes) in
+    ap (λ n. nat_lt n (2 ^ 64)) (get_or_default (numbers_in used bytes) k d 0 lt ∙ numbers_in-at used k bytes below)
+    ∙ lt-ltb (number_at w64 (8 * k) bytes) (2 ^ 64) (number_at-lt w64 (2 ^ 64) wide64 (8 * k) bytes small))
+
+-- what an index page says that is read
+pub says-index_of : (used : ℕ) (last : Bool) (range : CoreRange) (bytes : List ℕ) (i : Index) → used ≤ 511 → index_of used last range bytes ≡ Some i → PageSays bytes i.numbers i.next
+unfolding index_of
+says-index_of used last range bytes i room e =
+    let x : Index = index_at used bytes in
+    let c = cond_some (bytes_eq bytes (index_bytes x) && index_fits used last range x) x i e in
+    let p = and_parts (bytes_eq bytes (index_bytes x)) (index_fits used last range x) c.0 in
+    let spelled : bytes ≡ index_bytes x = bytes_eq-true bytes (index_bytes x) p.0 in
+    let many : length x.numbers ≡ used = length-numbers_in used bytes in
+    let whole : length bytes ≡ 4096 = ap length spelled ∙ length-index_bytes x (omega (arith, many)) in
+    let small : IsBytes bytes = subst IsBytes (sym spelled) (small-index_bytes x) in
+    let are = (only used last range bytes x room (record {
+      spelled = spelled;
+      narrow = narrow-numbers_in used bytes small;
+      narrow_next = number_at-lt w64 (2 ^ 64) wide64 4088 bytes small;
+      fits = p.1;
+    })).numbers in
+    let here : PageSays bytes x.numbers x.next =
+    record {
+      whole = whole;
+      small = small;
+      numbers_at = λ k lt. elim (cases_lt k used) [
+        | inl below ↦ sym (numbers_in-at used k bytes below)
+        | inr above ↦ (are k lt).1 above ∙ sym (get_or_past (numbers_in used bytes) k 0 (omega (arith, many)))
+      ];
+      link_at = refl;
+    } in
+    subst (λ (y : Index). PageSays bytes y.numbers y.next) c.1 here
+
+-- a page that says what fits is read
+pub index_of-says : (used : ℕ) (last : Bool) (range : CoreRange) (bytes ns : List ℕ) (next : ℕ) → used ≤ 511 → PageSays bytes ns next → length ns ≡ used
+    → ((n : ℕ) → In n ns → is_core range n ≡ true) → link_fits last range next ≡ true
+    → index_of used last range bytes ≡ Some (record { numbers = ns; next = next })
+index_of-says used last range bytes ns next room s many core fits =
+    let are : AreNumbers used range bytes = λ i lt. (
+      λ below. ap (is_core range) (s.numbers_at i lt) ∙ core (get_or ns i 0) (get_or-In ns i 0 (omega (arith, many))),
+      λ above. s.numbers_at i lt ∙ get_or_past ns i 0 (omega (arith, many)),
+    ) in
+    let is = found used last range bytes s.small s.whole room are (ap (link_fits last range) s.link_at ∙ fits) in
+    let len = length-numbers_in used bytes in
+    let same : numbers_in used bytes ≡ ns =
+    same_number_lists (numbers_in used bytes) ns (len ∙ sym many) (λ k lt. numbers_in-at used k bytes (omega (arith, len)) ∙ s.numbers_at k (omega (arith, len))) in
+    let of : List ℕ → ℕ → Option Index = λ l n. Some (record { numbers = l; next = n }) in
+    sym (index_value used last range bytes room s.small is) ∙ ap (λ l. of l (number_at w64 4088 bytes)) same ∙ ap (of ns) s.link_at
+
+-- ---- the index pages of a file
+
+-- Each of these pages has 4096 bytes. Number j along them stands at its place, 511 to a page, and so does each link.
+pub record IndexSays (page : ℕ → List ℕ) (index : List ℕ) (number link : ℕ → ℕ) : Type 0 where
+  pub whole : (k : ℕ) → k < length index → length (page (get_or index k 0)) ≡ 4096
+  pub small : (k : ℕ) → k < length index → IsBytes (page (get_or index k 0))
+  pub numbers : (j : ℕ) → j < 511 * length index → number_at w64 (8 * (j % 511)) (page (get_or index (j / 511) 0)) ≡ number j
+  pub links : (k : ℕ) → k < length index → number_at w64 4088 (page (get_or index k 0)) ≡ link k
+
+-- the pages are there
+abbrev pub AreAt : Core → (ℕ → List ℕ) → List ℕ → Type 0
+AreAt core page ns = (n : ℕ) → In n ns → page_of core n ≡ Some (page n)
+
+share_at : (blocks : List ℕ) (k r : ℕ) → r < 511 → get_or (take 511 (drop (511 * k) blocks)) r 0 ≡ get_or blocks (511 * k + r) 0
+share_at blocks k r lt = get_or-take 511 (drop (511 * k) blocks) r 0 lt ∙ get_or-drop (511 * k) blocks r 0
+
+-- index pages that name blocks say their numbers
+pub says-named : (core : Core) (page : ℕ → List ℕ) (index blocks : List ℕ) → IsNamed core index blocks → AreAt core page index → IndexSays page index (λ j. get_or blocks j 0) (λ k. get_or index (suc k) 0)
+says-named core page index blocks named at = record {
+  whole = λ k lt. (one k lt).whole;
+  small = λ k lt. (one k lt).small;
+  numbers = λ j lt.
+      let r : j % 511 < 511 = omega arith in
+      let whole : 511 * (j / 511) + j % 511 ≡ j = omega arith in
+      (one (j / 511) (omega arith)).numbers_at (j % 511) r ∙ share_at blocks (j / 511) (j % 511) r ∙ ap (λ n. get_or blocks n 0) whole;
+  links = λ k lt. (one k lt).link_at;
+}
+  where
+    one : (k : ℕ) → k < length index → PageSays (page (get_or index k 0)) (take 511 (drop (511 * k) blocks)) (get_or index (suc k) 0)
+    one k lt =
+        let s = named.each k lt in
+        let same : s.bytes ≡ page (get_or index k 0) = some_one (page_of core (get_or index k 0)) s.bytes (page (get_or index k 0)) s.there (at (get_or index k 0) (get_or-In index k 0 lt)) in
+        let used : min (length blocks - 511 * k) 511 ≤ 511 = omega arith in
+        subst (λ l. PageSays l (take 511 (drop (511 * k) blocks)) (get_or index (suc k) 0)) same
+        (says-index_of (min (length blocks - 511 * k) 511) (eqb (suc k) (length index)) core.range s.bytes (record { numbers = take 511 (drop (511 * k) blocks); next = get_or index (suc k) 0 }) used s.names)
+
+-- all are core pages
+abbrev pub AreCore : CoreRange → List ℕ → Type 0
+AreCore range ns = (n : ℕ) → In n ns → is_core range n ≡ true
+
+-- index pages that say the numbers of blocks name them
+pub named-says : (core : Core) (page : ℕ → List ℕ) (index blocks : List ℕ) → length index ≡ index_count (length blocks) → AreAt core page index → AreCore core.range index → AreCore core.range blocks
+    → IndexSays page index (λ j. get_or blocks j 0) (λ k. get_or index (suc k) 0) → IsNamed core index blocks
+named-says core page index blocks many at core_index core_blocks s = record { many = many; each = one }
+  where
+    fits : (k : ℕ) → k < length index → link_fits (eqb (suc k) (length index)) core.range (get_or index (suc k) 0) ≡ true
+    fits k lt =
+        elim (cases_lt (suc k) (length index)) [
+          | inl more ↦
+              let ne : eqb (suc k) (length index) ≡ false = ne_eqb (suc k) (length index) (λ e. omega arith) in
+              ap (λ t. link_fits t core.range (get_or index (suc k) 0)) ne ∙ core_index (get_or index (suc k) 0) (get_or-In index (suc k) 0 more)
+          | inr end ↦
+              let here : suc k ≡ length index = omega arith in
+              ap (λ t. link_fits t core.range (get_or index (suc k) 0)) (eq-eqb (suc k) (length index) here) ∙ eq-eqb (get_or index (suc k) 0) 0 (get_or_past index (suc k) 0 end)
+        ]
+
+    one : (k : ℕ) → k < length index → NamesShare core index blocks k
+    one k lt =
+        let n : ℕ = get_or index k 0 in
+        let share : List ℕ = take 511 (drop (511 * k) blocks) in
+        let used : ℕ = min (length blocks - 511 * k) 511 in
+        let len : length share ≡ used = omega (arith, length-take 511 (drop (511 * k) blocks), length-drop (511 * k) blocks) in
+        let room : used ≤ 511 = omega arith in
+        let says : PageSays (page n) share (get_or index (suc k) 0) =
+        record {
+          whole = s.whole k lt;
+          small = s.small k lt;
+          numbers_at = λ r below.
+              let high : (511 * k + r) / 511 ≡ k = omega arith in
+              let low : (511 * k + r) % 511 ≡ r = omega arith in
+              ap (λ m. number_at w64 (8 * m) (page n)) (sym low)
+              ∙ ap (λ m. number_at w64 (8 * ((511 * k + r) % 511)) (page (get_or index m 0))) (sym high)
+              ∙ s.numbers (511 * k + r) (omega arith)
+              ∙ sym (share_at blocks k r below);
+          link_at = s.links k lt;
+        } in
+        record {
+          bytes = page n;
+          there = at n (get_or-In index k 0 lt);
+          names = index_of-says used (eqb (suc k) (length index)) core.range (page n) share (get_or index (suc k) 0) room says len
+              (λ m i. core_blocks m (In-drop (511 * k) m blocks (In-take 511 m (drop (511 * k) blocks) i))) (fits k lt);
+        }
+
+-- what other bytes of other pages leave
+pub says-same : (page page' : ℕ → List ℕ) (index : List ℕ) (number link : ℕ → ℕ) → ((n : ℕ) → In n index → page' n ≡ page n) → IndexSays page index number link → IndexSays page' index number link
+says-same page page' index number link same s = record {
+  whole = λ k lt. ap length (at k lt) ∙ s.whole k lt;
+  small = λ k lt. subst IsBytes (sym (at k lt)) (s.small k lt);
+  numbers = λ j lt. ap (number_at w64 (8 * (j % 511))) (at (j / 511) (omega arith)) ∙ s.numbers j lt;
+  links = λ k lt. ap (number_at w64 4088) (at k lt) ∙ s.links k lt;
+}
+  where
+    at : (k : ℕ) → k < length index → page' (get_or index k 0) ≡ page (get_or index k 0)
+    at k lt = same (get_or index k 0) (get_or-In index k 0 lt)

@@ -1,0 +1,139 @@
+-- A file that is open has, as a node that is shown, the rights of its body; a regular one the bytes that the session reads.
+use Rattle.std.proofs.Common.{◌≡◌, ℕ, ◌*◌, eqb, List, [], length, length-take-le, take, Option, Some, None, Ok, sym, refl, ap, ◌∙◌, subst, inl, inr, arith}
+use Rattle.std.specs.Prelude.{map}
+use Rattle.std.specs.List.{find, flat_map}
+use Rattle.std.specs.Option.{option_and_then, option_map, unwrap_or}
+use Rattle.std.proofs.lemmas.Bool.{eq-eqb, eqb-true}
+use Rattle.trio_rights.specs.Row.{Row}
+use Rattle.trio_rights.specs.declared.kind.Kind.TheVariants.{Regular}
+use Rattle.trio_lists.specs.Lists.{In}
+use Rattle.trio_lists.proofs.Filters.{In-find, find-In}
+use Rattle.trio_lists.proofs.Members.{In-right, flat_map-same}
+use Rattle.trio_layout.specs.declared.body.Body.{Body}
+use Rattle.trio_layout.specs.Chain.{Chain}
+use Rattle.trio_layout.specs.Core.{Core, page_of}
+use Rattle.trio_layout.specs.Survey.{Met}
+use Rattle.trio_layout.specs.Case.{Case}
+use Rattle.trio_layout.specs.JudgedFiles.{judged_files, written_at}
+use Rattle.trio_layout.specs.Within.{file_within}
+use Rattle.trio_surveys.proofs.Images.{same_met}
+use Rattle.trio_lease.specs.Shown.{LentFile}
+use Rattle.trio_nodes.specs.declared.node.Node.{Node}
+use Rattle.trio_nodes.specs.Nodes.{Nodes, node_at}
+use Rattle.trio_desk.specs.Call.{DeskSeen}
+use Rattle.trio_desk.specs.Agrees.{HasRights}
+use Rattle.trio_desk.specs.Contents.{rights_in, rights_of}
+use Rattle.trio_desk.specs.Out.{ino_numbers}
+use Rattle.trio_desk.specs.Ready.{bundle_of}
+use Rattle.trio_desk.specs.Shows.{bytes_now, bytes_read, naming_of, node_left, pages_bytes, with_bytes}
+use Rattle.trio_laws.specs.session.FileEdits.{bare_file, bytes_listed, core_in_hand, read_in_hand}
+use Rattle.trio_laws.specs.session.Sees.{IsView}
+use Rattle.trio_laws.specs.session.Takes.{case_in_hand}
+use Rattle.trio_laws.proofs.session.Again.{hand_files_once}
+use Rattle.trio_laws.proofs.session.FileEdits.{body_stands}
+use Rattle.trio_laws.proofs.session.JudgedReads.{file_within-alike}
+use Rattle.trio_laws.proofs.session.Sees.{sees_made, sees_written}
+use Rattle.trio_laws.proofs.session.Stands.{Read, judged_there}
+use Rattle.trio_laws.proofs.session.Starts.{judged_once}
+use Rattle.trio_laws.proofs.session.TakenHold.{held_by}
+use Rattle.trio_session.specs.Layout.{page_in, size_in}
+use Rattle.trio_session.specs.Seen.{IsOpen, SessionSeen, body_in, chain_in, in_hand}
+use Rattle.trio_session.proofs.Lists.{slice_get-In}
+use Rattle.trio_edit_laws.specs.Written.{MayEdit, bytes_in}
+use Rattle.trio_edit_laws.specs.EditLaws.{SeesBytes}
+use Rattle.trio_edit_laws.proofs.Anew.{body-made, body-written}
+use Rattle.trio_edit_laws.proofs.Hand.{hand_page}
+use Rattle.trio_edit_laws.proofs.OpenChain.{open_chain}
+use Rattle.trio_edit_laws.proofs.Opens.{OpenMade, OpenWritten, opened}
+use Rattle.trio_edit_laws.proofs.Parts.{length-pages}
+use Rattle.trio_edit_laws.proofs.Whole.{OpenReads, made_listed, open_reads}
+
+-- the blocks of an open file have 4096 bytes each
+pub length-blocks : (desk : DeskSeen) (s : SessionSeen) (ino : ℕ) → MayEdit desk s → IsOpen s ino → length (flat_map (page_in s.parcel) (chain_in s ino).blocks) ≡ 4096 * length (chain_in s ino).blocks
+length-blocks desk s ino m o =
+    let c = open_chain desk s ino Regular m o in
+    length-pages (page_in s.parcel) (chain_in s ino).blocks (λ n i. c.whole n (In-right n (chain_in s ino).index (chain_in s ino).blocks i))
+
+-- as many bytes are read as its size says
+pub length-bytes_in : (desk : DeskSeen) (s : SessionSeen) (ino : ℕ) → MayEdit desk s → IsOpen s ino → length (bytes_in s ino) ≡ size_in (body_in s ino)
+length-bytes_in desk s ino m o =
+    let c = open_chain desk s ino Regular m o in
+    let count = c.count in
+    length-take-le (size_in (body_in s ino)) (flat_map (page_in s.parcel) (chain_in s ino).blocks) (omega (arith, count, length-blocks desk s ino m o))
+
+module _ (desk : DeskSeen) (s : SessionSeen) (ino : ℕ) (nodes nodes' : Nodes) (rows : List (Option Row)) (m : MayEdit desk s) (o : IsOpen s ino) (v : IsView desk (in_hand s) (in_hand s) nodes nodes' rows) where
+  r : OpenReads desk s ino Regular
+  r = open_reads desk s ino Regular (in_hand s) nodes nodes' rows m v o
+
+  -- what the file lists are the bytes that the session reads
+  listed : bytes_listed (core_in_hand desk (in_hand s)) r.file ≡ bytes_in s ino
+  listed =
+      let c = open_chain desk s ino Regular m o in
+      let size : r.file.body.size ≡ size_in (body_in s ino) = ap (λ (b : Body). b.size) (sym (body_stands Regular desk.sizes.range (body_in s ino) r.file.body r.body)) in
+      ap (λ n. take n (pages_bytes (core_in_hand desk (in_hand s)) r.file.chain.blocks)) size
+      ∙ ap (λ (k : Chain). take (size_in (body_in s ino)) (pages_bytes (core_in_hand desk (in_hand s)) k.blocks)) r.chain
+      ∙ ap (take (size_in (body_in s ino)))
+      (flat_map-same (λ n. unwrap_or (page_of (core_in_hand desk (in_hand s)) n) []) (page_in s.parcel) (chain_in s ino).blocks
+      (λ n i. ap (λ q. unwrap_or q []) (hand_page desk s n m (c.held n (In-right n (chain_in s ino).index (chain_in s ino).blocks i)))))
+
+  -- the node has the rights of the body
+  rights : HasRights (rights_in Regular (body_in s ino)) (node_at nodes' ino)
+  rights = elim (opened s ino Regular o) [
+    | inl w ↦ written w
+    | inr w ↦ made w
+  ]
+    where
+      written : OpenWritten s ino Regular → HasRights (rights_in Regular (body_in s ino)) (node_at nodes' ino)
+      written w =
+          let f : LentFile = w.file in
+          let i = slice_get-In s.parcel.writes w.place f w.there in
+          let given = m.all.given.writes f i in
+          let body : f.stands.body ≡ body_in s ino = sym (body-written s ino f.stands w.none w.shown) in
+          let reads : read_in_hand desk (in_hand s) (bare_file f.stands) ≡ Ok r.file =
+          file_within-alike (core_in_hand desk (in_hand s)) (written_at (bare_file f.stands) None) r.is.met (w.kind_is ∙ sym r.is.kind) (body ∙ sym r.is.body) ∙ r.reads in
+          subst (λ n. HasRights (rights_in Regular (body_in s ino)) (node_at nodes' n)) w.number
+          (subst (λ b. HasRights (rights_in Regular b) (node_at nodes' f.stands.ino)) body
+          (subst (λ k. HasRights (rights_in k f.stands.body) (node_at nodes' f.stands.ino)) w.kind_is
+          (sees_written desk (in_hand s) (in_hand s) nodes nodes' rows f r.file v i given.same.ino given.same.kind reads).0))
+
+      made : OpenMade s ino Regular → HasRights (rights_in Regular (body_in s ino)) (node_at nodes' ino)
+      made w =
+          let l = made_listed desk s (in_hand s) nodes nodes' rows w.file m v w.among in
+          let new : In l.listed.entry.ino (ino_numbers s.parcel.inodes) = subst (λ n. In n (ino_numbers s.parcel.inodes)) (sym l.number) (m.made.numbers w.file w.among) in
+          subst (λ n. HasRights (rights_in Regular (body_in s ino)) (node_at nodes' n)) (l.number ∙ w.number)
+          (subst (λ b. HasRights (rights_in Regular b) (node_at nodes' l.listed.entry.ino)) (l.body ∙ sym (body-made s ino w.file w.found))
+          (subst (λ k. HasRights (rights_in k l.listed.body) (node_at nodes' l.listed.entry.ino)) (l.kind ∙ w.kind_is)
+          (sees_made desk (in_hand s) (in_hand s) nodes nodes' rows l.directory l.file l.listed v l.judged l.reads l.among new)))
+
+  abbrev c : Case
+  c = case_in_hand desk rows (in_hand s)
+
+  -- the bundle has the bytes of the number
+  bytes_have : bytes_now (case_in_hand desk rows (in_hand s)) ino ≡ Some (bytes_in s ino)
+  bytes_have =
+      let core : Core = core_in_hand desk (in_hand s) in
+      let x = judged_there desk.sizes desk.creds rows [] (bundle_of s.parcel) (map held_by s.parcel.holds) r.is.met r.is.judged in
+      let number : x.0.ino ≡ ino = ap (λ (z : Read). z.ino) x.2 ∙ r.is.number in
+      let kind : x.0.kind ≡ Regular = ap (λ (z : Read). z.kind) x.2 ∙ r.is.kind in
+      let reads : file_within core x.0 ≡ Ok r.file = ap (λ (z : Read). z.reads) x.2 ∙ r.reads in
+      let q = In-find (λ (y : Met). eqb y.ino ino) (judged_files c) x.0 x.1 (eq-eqb x.0.ino ino number) in
+      let p = find-In (λ (y : Met). eqb y.ino ino) (judged_files c) q.0 q.1 in
+      let there : find (λ (y : Met). eqb y.ino ino) (judged_files c) ≡ Some x.0 =
+      q.1 ∙ ap Some (same_met (judged_files c) q.0 x.0 (judged_once c (hand_files_once desk (in_hand s) m.order)) p.0 x.1 (eqb-true q.0.ino ino p.1 ∙ sym number)) in
+      ap (option_and_then (λ (y : Met). bytes_read core y.kind (file_within core y))) there
+      ∙ ap (bytes_read core x.0.kind) reads
+      ∙ ap (λ k. bytes_read core k (Ok r.file)) kind
+      ∙ ap Some listed
+
+  node_bytes : option_map (λ (x : Node). x.bytes) (node_at nodes' ino) ≡ Some (bytes_in s ino)
+  node_bytes = by (node_at nodes' ino) refl (node_left c ino (naming_of c ino) (node_at nodes ino)) (v.shows.shows.each ino ∙ ap (λ q. option_map (with_bytes q) (node_left c ino (naming_of c ino) (node_at nodes ino))) bytes_have) rights
+    where
+      by : (q : Option Node) → node_at nodes' ino ≡ q → (left : Option Node) → node_at nodes' ino ≡ option_map (with_bytes (Some (bytes_in s ino))) left → HasRights (rights_in Regular (body_in s ino)) (node_at nodes' ino)
+          → option_map (λ (x : Node). x.bytes) (node_at nodes' ino) ≡ Some (bytes_in s ino)
+      by q e (Some y) each has = ap (option_map (λ (x : Node). x.bytes)) each
+      by q e None each has = absurd (let wrong : None ≡ Some (rights_in Regular (body_in s ino)) = sym (ap (option_map rights_of) each) ∙ has in cc wrong)
+
+pub sees_bytes : SeesBytes
+sees_bytes desk s ino nodes nodes' rows m o may =
+    let v : IsView desk (in_hand s) (in_hand s) nodes nodes' rows = record { order = m.order; more = λ ns rs p. p; shows = may } in
+    (rights desk s ino nodes nodes' rows m o v, node_bytes desk s ino nodes nodes' rows m o v, length-bytes_in desk s ino m o)

@@ -1,0 +1,145 @@
+-- The bytes of a file that grew or was cut, and how many core pages there are.
+use Rattle.std.proofs.Common.{◌≡◌, ℕ, zero, suc, ◌+◌, ◌-◌, ◌*◌, ◌<◌, ◌≤◌, true, List, [], ◌∷◌, ◌++◌, length, take, drop, refl, sym, ap, ◌∙◌, subst, inl, inr, append_assoc, arith}
+use Rattle.std.specs.Prelude.{map, nat_le, nat_lt, replicate}
+use Rattle.std.specs.List.{flat_map}
+use Rattle.std.proofs.lemmas.Bool.{and_parts, cases_lt, leb-true, ltb-true}
+use Rattle.std.proofs.lemmas.List.{drop_all, length-append, length-map, length-replicate, length-take, replicate-append-replicate, take-append-le, take-take, take_all, take_at}
+use Rattle.std.proofs.Math.Seq.{take-append-add}
+use Rattle.trio_page.specs.Field.{with_part, zeros}
+use Rattle.trio_page.proofs.Cursor.{length-zeros}
+use Rattle.trio_page.proofs.Zeros.{take-zeros}
+use Rattle.trio_lists.specs.Lists.{In, are_new}
+use Rattle.trio_lists.proofs.Gathered.{new_beside}
+use Rattle.trio_lists.proofs.Members.{map-In}
+use Rattle.trio_lists.proofs.New.{are_new-first}
+use Rattle.trio_layout.specs.declared.range.CoreRange.{CoreRange}
+use Rattle.trio_layout.specs.Body.{block_count}
+use Rattle.trio_layout.specs.Range.{core_count, is_core}
+use Rattle.trio_layout.proofs.Walks.{pigeons}
+use Rattle.trio_nodes.specs.Apply.{resized}
+use Rattle.trio_session.specs.Layout.{gap}
+use Rattle.trio_edit_laws.proofs.IndexFields.{AreCore}
+use Rattle.trio_edit_laws.proofs.Parts.{length-pages}
+
+-- ---- bytes
+
+zeros-append : (m n : ℕ) → zeros m ++ zeros n ≡ zeros (m + n)
+unfolding zeros
+zeros-append m n = replicate-append-replicate m n 0
+
+zeros-none : [] ≡ zeros (4096 * 0)
+unfolding zeros
+zeros-none = refl
+
+-- pages that are all zero
+pub flat_map-zeros : (page : ℕ → List ℕ) (ns : List ℕ) → ((n : ℕ) → In n ns → page n ≡ zeros 4096) → flat_map page ns ≡ zeros (4096 * length ns)
+flat_map-zeros page [] clear = zeros-none
+flat_map-zeros page (n ∷ ns) clear =
+    let e : 4096 + 4096 * length ns ≡ 4096 * length (n ∷ ns) = omega arith in
+    ap (λ l. l ++ flat_map page ns) (clear n (inl refl))
+    ∙ ap (λ l. zeros 4096 ++ l) (flat_map-zeros page ns (λ m i. clear m (inr i)))
+    ∙ zeros-append 4096 (4096 * length ns)
+    ∙ ap zeros e
+
+-- the first of whole pages
+pub take-flat_map : (page : ℕ → List ℕ) (ns : List ℕ) (c : ℕ) → ((n : ℕ) → In n ns → length (page n) ≡ 4096) → flat_map page (take c ns) ≡ take (4096 * c) (flat_map page ns)
+take-flat_map page ns zero whole = refl
+take-flat_map page [] (suc c) whole = sym (take_all (4096 * suc c) [] (omega arith))
+take-flat_map page (n ∷ ns) (suc c) whole =
+    let one : length (page n) ≡ 4096 = whole n (inl refl) in
+    let at : 4096 * suc c ≡ length (page n) + 4096 * c = omega (arith, one) in
+    ap (λ l. page n ++ l) (take-flat_map page ns c (λ m i. whole m (inr i)))
+    ∙ sym (take-append-add (page n) (flat_map page ns) (4096 * c))
+    ∙ ap (λ k. take k (page n ++ flat_map page ns)) (sym at)
+
+pub length-resized : (size : ℕ) (bytes : List ℕ) → length (resized size bytes) ≡ size
+length-resized size bytes =
+    let more : List ℕ = replicate (size - length bytes) 0 in
+    let many : length more ≡ size - length bytes = length-replicate (size - length bytes) 0 in
+    omega (arith, length-take size (bytes ++ more), length-append bytes more, many)
+
+-- a size within bytes
+resized-less : (size old : ℕ) (xs : List ℕ) → size ≤ old → old ≤ length xs → resized size (take old xs) ≡ take size xs
+resized-less size old xs le within =
+    take-append-le size (take old xs) (replicate (size - length (take old xs)) 0) (omega (arith, length-take old xs)) ∙ take-take size old xs le
+
+resized-more : (size : ℕ) (xs : List ℕ) → length xs ≤ size → resized size xs ≡ xs ++ zeros (size - length xs)
+unfolding zeros
+resized-more size xs le = take_all size (xs ++ replicate (size - length xs) 0) (omega (arith, length-append xs (zeros (size - length xs)), length-zeros (size - length xs)))
+
+-- zeros up to the end of a block, and zero blocks behind it
+gap_zeros : (xs : List ℕ) (old size m : ℕ) → length xs ≡ 4096 * block_count old → old ≤ size → block_count size ≤ block_count old + m
+    → take (size - old) (zeros (gap old size) ++ (drop (old + gap old size) xs ++ zeros (4096 * m))) ≡ zeros (size - old)
+gap_zeros xs old size m len le room =
+    let g : ℕ = gap old size in
+    elim (cases_lt g (size - old)) [
+      | inr within ↦
+          let same : g ≡ size - old = omega arith in
+          take_at (zeros g) (drop (old + g) xs ++ zeros (4096 * m)) (size - old) (length-zeros g ∙ same) ∙ ap zeros same
+      | inl past ↦
+          let whole : length xs ≤ old + g = omega (arith, len) in
+          let fits : size - old ≤ g + 4096 * m = omega arith in
+          ap (λ l. take (size - old) (zeros g ++ (l ++ zeros (4096 * m)))) (drop_all (old + g) xs whole)
+          ∙ ap (take (size - old)) (zeros-append g (4096 * m))
+          ∙ take-zeros (size - old) (g + 4096 * m) fits
+    ]
+
+-- a file grows: its bytes, zeros up to the end of its last block, and zero blocks behind them
+pub resized-grown : (xs : List ℕ) (old size m : ℕ) → length xs ≡ 4096 * block_count old → old ≤ size → block_count size ≤ block_count old + m
+    → take size (with_part old (zeros (gap old size)) xs ++ zeros (4096 * m)) ≡ resized size (take old xs)
+unfolding with_part
+resized-grown xs old size m len le room =
+    let g : ℕ = gap old size in
+    let a : List ℕ = take old xs in
+    let front : length a ≡ old = omega (arith, length-take old xs, len) in
+    let rest : List ℕ = zeros g ++ (drop (old + g) xs ++ zeros (4096 * m)) in
+    let size_is : size ≡ length a + (size - old) = omega (arith, front) in
+    let left : size - length a ≡ size - old = omega (arith, front) in
+    ap (λ n. take size ((a ++ (zeros g ++ drop (old + n) xs)) ++ zeros (4096 * m))) (length-zeros g)
+    ∙ ap (take size) (append_assoc a (zeros g ++ drop (old + g) xs) (zeros (4096 * m)) ∙ ap (λ l. a ++ l) (append_assoc (zeros g) (drop (old + g) xs) (zeros (4096 * m))))
+    ∙ ap (λ n. take n (a ++ rest)) size_is
+    ∙ take-append-add a rest (size - old)
+    ∙ ap (λ l. a ++ l) (gap_zeros xs old size m len le room)
+    ∙ sym (resized-more size a (omega (arith, front)) ∙ ap (λ n. a ++ zeros n) left)
+
+-- a file is cut: the first of its blocks have its first bytes
+pub resized-cut : (page : ℕ → List ℕ) (blocks : List ℕ) (old size : ℕ) → ((n : ℕ) → In n blocks → length (page n) ≡ 4096) → length blocks ≡ block_count old → size ≤ old
+    → take size (flat_map page (take (block_count size) blocks)) ≡ resized size (take old (flat_map page blocks))
+resized-cut page blocks old size whole many le =
+    let len = length-pages page blocks whole in
+    ap (take size) (take-flat_map page blocks (block_count size) whole)
+    ∙ take-take size (4096 * block_count size) (flat_map page blocks) (omega arith)
+    ∙ sym (resized-less size old (flat_map page blocks) le (omega (arith, len, many)))
+
+-- ---- core pages
+
+pub core_at : (range : CoreRange) (n : ℕ) → is_core range n ≡ true → (range.first ≤ n) × (n < range.end)
+core_at range n e = let p = and_parts (nat_le range.first n) (nat_lt n range.end) e in (leb-true range.first n p.0, ltb-true n range.end p.1)
+
+new_shifted : (first : ℕ) (ns : List ℕ) → are_new [] ns ≡ true → ((n : ℕ) → In n ns → first ≤ n) → are_new [] (map (λ n. n - first) ns) ≡ true
+new_shifted first [] once from = refl
+new_shifted first (x ∷ xs) once from =
+    let p = are_new-first x xs once in
+    new_beside ((x - first) ∷ []) (map (λ n. n - first) xs) (new_shifted first xs p.1 (λ n i. from n (inr i))) (λ m i j.
+    let q = map-In (λ n. n - first) m xs i in
+    elim j [
+      | inl e ↦
+          let a : first ≤ q.0 = from q.0 (inr q.1) in
+          let b : first ≤ x = from x (inl refl) in
+          let e' : m ≡ q.0 - first = q.2 in
+          let same : q.0 ≡ x = omega (arith, a, b, e, e') in
+          p.0 (subst (λ n. In n xs) same q.1)
+      | inr none ↦ none
+    ])
+
+-- different core pages are at most as many as there are
+pub few_core : (range : CoreRange) (ns : List ℕ) → are_new [] ns ≡ true → AreCore range ns → length ns ≤ core_count range
+few_core range ns once core =
+    let few = pigeons (range.end - range.first) (map (λ n. n - range.first) ns) (new_shifted range.first ns once (λ n i. (core_at range n (core n i)).0)) (λ m i.
+    let q = map-In (λ n. n - range.first) m ns i in
+    let c = core_at range q.0 (core q.0 q.1) in
+    let a : range.first ≤ q.0 = c.0 in
+    let b : q.0 < range.end = c.1 in
+    let e : m ≡ q.0 - range.first = q.2 in
+    omega (arith, a, b, e)) in
+    omega (arith, few, length-map ns (λ n. n - range.first))

@@ -1,0 +1,53 @@
+-- What is in hand shows the nodes after its calls; and what stays of it where a desk has other things out.
+use Rattle.std.proofs.Common.{◌≡◌, List, Option, ap, ◌∙◌}
+use Rattle.trio_rights.specs.Row.{Row}
+use Rattle.trio_rights.specs.declared.rights.LibNo.{LibNo}
+use Rattle.trio_rights.specs.declared.rights.Creds.{Creds}
+use Rattle.trio_lease.specs.Shown.{Shown, LentFile}
+use Rattle.trio_nodes.specs.declared.call.Done.{Done}
+use Rattle.trio_nodes.specs.Nodes.{Nodes}
+use Rattle.trio_nodes.specs.After.{batch_nodes}
+use Rattle.trio_onetree.proofs.TreeStays.{tree_stays_through}
+use Rattle.trio_desk.specs.Call.{Ask, DeskSeen, SeenAfter, Told}
+use Rattle.trio_desk.specs.Contents.{Rights, Sizes}
+use Rattle.trio_desk.specs.Edits.{InHand, MayShow, TakesMore}
+use Rattle.trio_desk.specs.Out.{LibOut, Parcel}
+use Rattle.trio_desk.specs.Ready.{ArePossible, ComesToShown}
+use Rattle.trio_laws.specs.session.Takes.{IsInOrder, IsUntouched}
+
+-- where calls come to what was in hand, it may show the nodes after them, whatever is possible now
+pub shown_by : (desk : DeskSeen) (h h' : InHand) (calls : List Done) (nodes : Nodes) (rows : List (Option Row))
+    → TakesMore desk h h' → ComesToShown desk h.parcel h.back calls → ArePossible desk h'.parcel h'.back nodes rows
+    → MayShow desk h h' nodes (batch_nodes desk.creds calls nodes) rows
+shown_by desk h h' calls nodes rows more comes possible =
+    let p = more nodes rows possible in
+    let was = comes nodes rows p in
+    record { possible = possible; tree = tree_stays_through nodes desk.creds calls p.tree was.0; shows = was.1 }
+
+-- a desk after a call is the one before it, but for what is out
+pub desk_after : (old new : DeskSeen) (ask : Ask) (told : Told) → SeenAfter old ask told new → new ≡ record old { out = new.out }
+desk_after old new ask told seen =
+    let desk : LibNo → Creds → Sizes → Rights → DeskSeen = λ l c z r. record { lib = l; creds = c; out = new.out; sizes = z; root = r } in
+    ap (λ l. desk l new.creds new.sizes new.root) seen.lib
+    ∙ ap (λ c. desk old.lib c new.sizes new.root) seen.creds
+    ∙ ap (λ z. desk old.lib old.creds z new.root) seen.sizes
+    ∙ ap (desk old.lib old.creds old.sizes) seen.root
+
+module _ (desk : DeskSeen) (out' : LibOut) where
+  abbrev now : DeskSeen
+  now = record desk { out = out' }
+
+  pub possible_before : (b : Parcel) (back : List Shown) (nodes : Nodes) (rows : List (Option Row)) → ArePossible now b back nodes rows → ArePossible desk b back nodes rows
+  possible_before b back nodes rows p = record { tree = p.tree; agrees = p.agrees; none = p.none; same = p.same; places = p.places }
+
+  -- what is in hand is in order
+  pub order_now : (h : InHand) → IsInOrder desk h → IsInOrder (record desk { out = out' }) h
+  order_now h o = record { among = λ nodes rows p. o.among nodes rows (possible_before h.parcel h.back nodes rows p); pages = o.pages; files = o.files }
+
+  -- the calls come to what it shows
+  pub comes_now : (h : InHand) (calls : List Done) → ComesToShown desk h.parcel h.back calls → ComesToShown (record desk { out = out' }) h.parcel h.back calls
+  comes_now h calls comes nodes rows p = comes nodes rows (possible_before h.parcel h.back nodes rows p)
+
+  -- and a file is untouched
+  pub untouched_now : (h : InHand) (f : LentFile) → IsUntouched desk h f → IsUntouched (record desk { out = out' }) h f
+  untouched_now h f u = record { as_lent = u.as_lent; well = u.well; unwritten = u.unwritten; unheld = u.unheld; apart = u.apart }

@@ -1,0 +1,135 @@
+-- A body with another head and size.
+use Rattle.std.proofs.Common.{◌≡◌, ℕ, zero, suc, ◌^◌, ◌<◌, ◌≤◌, true, ◌&&◌, cond, eqb, nat_le, List, length, get_or, Option, Some, None, refl, sym, ap, ◌∙◌, arith, eq-eqb}
+use Rattle.std.specs.Int.{w16, w32, w64, from_le_bytes, to_le_bytes}
+use Rattle.std.specs.Str.{bytes_eq}
+use Rattle.std.proofs.lemmas.Bool.{and_from, and_parts, le-leb, ne_eqb}
+use Rattle.std.proofs.lemmas.List.{get_or_past}
+use Rattle.std.proofs.lemmas.Nat.{from_le_bytes-to_le_bytes_4, from_le_bytes-to_le_bytes_8}
+use Rattle.std.proofs.lemmas.Option.{cond_some}
+use Rattle.trio_rights.specs.declared.kind.Kind.{Kind}
+use Rattle.trio_page.specs.Field.{number_at, with_number, with_part, zeros}
+use Rattle.trio_page.proofs.Cursor.{IsBytes, wide32, wide64}
+use Rattle.trio_lists.proofs.Filters.{get_or-In}
+use Rattle.trio_layout.specs.Chain.{index_count}
+use Rattle.trio_layout.specs.declared.body.Body.{Body}
+use Rattle.trio_layout.specs.declared.range.CoreRange.{CoreRange}
+use Rattle.trio_layout.specs.Body.{block_count, body_at, body_bytes, body_fits, body_of, head_fits, size_fits}
+use Rattle.trio_layout.specs.Range.{core_count, is_core}
+use Rattle.trio_layout.proofs.Reading.{bytes_eq-true, true-bytes_eq}
+use Rattle.trio_session.specs.Layout.{body_sized}
+use Rattle.trio_edit_laws.proofs.IndexFields.{AreCore, small-to_le_bytes}
+
+abbrev pub sized : Body → ℕ → ℕ → Body
+sized b head size = record b { head = head; size = size }
+
+body_bytes-sized : (b : Body) (head size : ℕ) → body_sized head size (body_bytes b) ≡ body_bytes (sized b head size)
+unfolding body_bytes with_number with_part zeros
+body_bytes-sized b head size = refl
+
+mode-sized : (b : Body) (head size : ℕ) → number_at w16 0 (body_bytes (sized b head size)) ≡ number_at w16 0 (body_bytes b)
+unfolding number_at body_bytes
+mode-sized b head size = refl
+
+uid-sized : (b : Body) (head size : ℕ) → number_at w32 4 (body_bytes (sized b head size)) ≡ number_at w32 4 (body_bytes b)
+unfolding number_at body_bytes
+uid-sized b head size = refl
+
+gid-sized : (b : Body) (head size : ℕ) → number_at w32 8 (body_bytes (sized b head size)) ≡ number_at w32 8 (body_bytes b)
+unfolding number_at body_bytes
+gid-sized b head size = refl
+
+head-sized : (b : Body) (head size : ℕ) → head < 2 ^ 32 → number_at w32 12 (body_bytes (sized b head size)) ≡ head
+unfolding number_at body_bytes
+head-sized b head size lt = from_le_bytes-to_le_bytes_4 head lt
+
+size-sized : (b : Body) (head size : ℕ) → size < 2 ^ 64 → number_at w64 16 (body_bytes (sized b head size)) ≡ size
+unfolding number_at body_bytes
+size-sized b head size lt = from_le_bytes-to_le_bytes_8 size lt
+
+small-to_le_bytes32 : (n : ℕ) → IsBytes (to_le_bytes w32 n)
+small-to_le_bytes32 n zero = omega arith
+small-to_le_bytes32 n (suc zero) = omega arith
+small-to_le_bytes32 n (suc (suc zero)) = omega arith
+small-to_le_bytes32 n (suc (suc (suc zero))) = omega arith
+small-to_le_bytes32 n (suc (suc (suc (suc i)))) = omega arith
+
+head_at : (b : Body) → number_at w32 12 (body_bytes b) ≡ from_le_bytes w32 (to_le_bytes w32 b.head)
+unfolding number_at body_bytes
+head_at b = refl
+
+size_at : (b : Body) → number_at w64 16 (body_bytes b) ≡ from_le_bytes w64 (to_le_bytes w64 b.size)
+unfolding number_at body_bytes
+size_at b = refl
+
+-- the head and the size of a body that is read are within their fields
+pub narrow-body_of : (kind : Kind) (range : CoreRange) (body : List ℕ) (b : Body) → body_of kind range body ≡ Some b → (b.head < 2 ^ 32) × (b.size < 2 ^ 64)
+unfolding body_of
+narrow-body_of kind range body b reads =
+    let x : Body = body_at body in
+    let c = cond_some (bytes_eq body (body_bytes x) && body_fits kind range x) x b reads in
+    let spelled : body ≡ body_bytes x = bytes_eq-true body (body_bytes x) (and_parts (bytes_eq body (body_bytes x)) (body_fits kind range x) c.0).0 in
+    let head : b.head ≡ from_le_bytes w32 (to_le_bytes w32 x.head) = ap (λ (y : Body). y.head) (sym c.1) ∙ ap (number_at w32 12) spelled ∙ head_at x in
+    let size : b.size ≡ from_le_bytes w64 (to_le_bytes w64 x.size) = ap (λ (y : Body). y.size) (sym c.1) ∙ ap (number_at w64 16) spelled ∙ size_at x in
+    let below = wide32.below (to_le_bytes w32 x.head) (small-to_le_bytes32 x.head) in
+    let below' = wide64.below (to_le_bytes w64 x.size) (small-to_le_bytes x.size) in
+    (omega (arith, head, below), omega (arith, size, below'))
+
+-- the first of the index pages that so many blocks take is the head of a body
+pub head_fits-index : (range : CoreRange) (count : ℕ) (index : List ℕ) → length index ≡ index_count count → AreCore range index → head_fits range count (get_or index 0 0) ≡ true
+head_fits-index range zero index many core = eq-eqb (get_or index 0 0) 0 (get_or_past index 0 0 (omega arith))
+head_fits-index range (suc n) index many core =
+    ap (λ t. cond t (eqb (get_or index 0 0) 0) (is_core range (get_or index 0 0))) (ne_eqb (suc n) 0 (λ e. omega arith))
+    ∙ core (get_or index 0 0) (get_or-In index 0 0 (omega arith))
+
+-- a body that is read, and a head and a size that fit
+pub body_of-sized : (kind : Kind) (range : CoreRange) (body : List ℕ) (b : Body) (head size : ℕ) → body_of kind range body ≡ Some b → head < 2 ^ 32 → size < 2 ^ 64
+    → block_count size ≤ core_count range → size_fits kind size ≡ true → head_fits range (block_count size) head ≡ true
+    → body_of kind range (body_sized head size body) ≡ Some (sized b head size)
+unfolding body_of
+body_of-sized kind range body b head size reads small_head small_size few whole fits =
+    let x : Body = body_at body in
+    let c = cond_some (bytes_eq body (body_bytes x) && body_fits kind range x) x b reads in
+    let p = and_parts (bytes_eq body (body_bytes x)) (body_fits kind range x) c.0 in
+    let spelled : body ≡ body_bytes x = bytes_eq-true body (body_bytes x) p.0 in
+    let y : Body = sized x head size in
+    let bs : List ℕ = body_sized head size body in
+    let spells : bs ≡ body_bytes y = ap (body_sized head size) spelled ∙ body_bytes-sized x head size in
+    let mode : number_at w16 0 bs ≡ x.mode.0 = ap (number_at w16 0) spells ∙ mode-sized x head size ∙ ap (number_at w16 0) (sym spelled) in
+    let uid : number_at w32 4 bs ≡ x.uid = ap (number_at w32 4) spells ∙ uid-sized x head size ∙ ap (number_at w32 4) (sym spelled) in
+    let gid : number_at w32 8 bs ≡ x.gid = ap (number_at w32 8) spells ∙ gid-sized x head size ∙ ap (number_at w32 8) (sym spelled) in
+    let at_head : number_at w32 12 bs ≡ head = ap (number_at w32 12) spells ∙ head-sized x head size small_head in
+    let at_size : number_at w64 16 bs ≡ size = ap (number_at w64 16) spells ∙ size-sized x head size small_size in
+    let at : body_at bs ≡ y = rw (mode, uid, gid, at_head, at_size) refl in
+    let q = and_parts (nat_le x.mode.0 511 && nat_le (block_count x.size) (core_count range) && size_fits kind x.size) (head_fits range (block_count x.size) x.head) p.1 in
+    let r = and_parts (nat_le x.mode.0 511 && nat_le (block_count x.size) (core_count range)) (size_fits kind x.size) q.0 in
+    let m = and_parts (nat_le x.mode.0 511) (nat_le (block_count x.size) (core_count range)) r.0 in
+    let now : body_fits kind range y ≡ true =
+    and_from (nat_le x.mode.0 511 && nat_le (block_count size) (core_count range) && size_fits kind size) (head_fits range (block_count size) head)
+    (and_from (nat_le x.mode.0 511 && nat_le (block_count size) (core_count range)) (size_fits kind size)
+    (and_from (nat_le x.mode.0 511) (nat_le (block_count size) (core_count range)) m.0 (le-leb (block_count size) (core_count range) few)) whole) fits in
+    let test : Body → Option Body = λ z. cond (bytes_eq bs (body_bytes z) && body_fits kind range z) (Some z) None in
+    ap test at
+    ∙ ap (λ t. cond t (Some y) None) (and_from (bytes_eq bs (body_bytes y)) (body_fits kind range y) (true-bytes_eq bs (body_bytes y) spells) now)
+    ∙ ap (λ z. Some (sized z head size)) c.1
+
+length-body_bytes : (b : Body) → length (body_bytes b) ≡ 64
+unfolding body_bytes zeros
+length-body_bytes b = refl
+
+-- a body that is read has 64 bytes
+pub length-body_of : (kind : Kind) (range : CoreRange) (body : List ℕ) (b : Body) → body_of kind range body ≡ Some b → length body ≡ 64
+unfolding body_of
+length-body_of kind range body b reads =
+    let x : Body = body_at body in
+    let c = cond_some (bytes_eq body (body_bytes x) && body_fits kind range x) x b reads in
+    ap (λ (l : List ℕ). length l) (bytes_eq-true body (body_bytes x) (and_parts (bytes_eq body (body_bytes x)) (body_fits kind range x) c.0).0) ∙ length-body_bytes x
+
+-- and a size that its kind may have
+pub size_fits-body_of : (kind : Kind) (range : CoreRange) (body : List ℕ) (b : Body) → body_of kind range body ≡ Some b → size_fits kind b.size ≡ true
+unfolding body_of
+size_fits-body_of kind range body b reads =
+    let x : Body = body_at body in
+    let c = cond_some (bytes_eq body (body_bytes x) && body_fits kind range x) x b reads in
+    let p = and_parts (bytes_eq body (body_bytes x)) (body_fits kind range x) c.0 in
+    let q = and_parts (nat_le x.mode.0 511 && nat_le (block_count x.size) (core_count range) && size_fits kind x.size) (head_fits range (block_count x.size) x.head) p.1 in
+    ap (λ (y : Body). size_fits kind y.size) (sym c.1) ∙ (and_parts (nat_le x.mode.0 511 && nat_le (block_count x.size) (core_count range)) (size_fits kind x.size) q.0).1

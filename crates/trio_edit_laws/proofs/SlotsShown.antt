@@ -1,0 +1,136 @@
+-- What an edit of one open file leaves of all others, and of what directories show.
+use Rattle.std.proofs.Common.{◌≡◌, ◌≢◌, ℕ, ◌<◌, eqb, Bool, List, [], ◌∷◌, ◌++◌, Option, Some, None, sym, refl, ap, ◌∙◌, subst, inl, inr}
+use Rattle.std.specs.Prelude.{is_some, map, not, slice_get, if◌then◌else◌}
+use Rattle.std.specs.List.{filter, find}
+use Rattle.std.specs.Option.{option_and_then, option_map, option_map_or}
+use Rattle.trio_rights.specs.declared.kind.Kind.{Kind}
+use Rattle.trio_rights.specs.declared.kind.Kind.TheVariants.{Regular, Directory}
+use Rattle.trio_lists.specs.Lists.{In, is_among}
+use Rattle.trio_lists.proofs.Members.{In-right}
+use Rattle.trio_layout.specs.Chain.{Chain}
+use Rattle.trio_layout.specs.Entries.{slot_bytes}
+use Rattle.trio_layout.specs.declared.slot.EntryPart.{EntryPart}
+use Rattle.trio_auxdir.specs.declared.place.Place.{Place}
+use Rattle.trio_desk.specs.Out.{ino_numbers}
+use Rattle.trio_lease.specs.declared.parts.InoParts.{InoParts}
+use Rattle.trio_layout.specs.Slot.{slot_of}
+use Rattle.trio_lease.specs.Shown.{Shown, page_at}
+use Rattle.trio_auxdir.specs.Slots.{name_in, slot_on, slots_of, slots_on}
+use Rattle.trio_auxdir.proofs.PageSlots.{tabulated-same_below}
+use Rattle.trio_desk.specs.Call.{DeskSeen}
+use Rattle.trio_session.specs.Layout.{page_in}
+use Rattle.trio_session.specs.Seen.{SessionSeen, block_shown, chain_in, dir_pages, entry_in, entry_shown, every_number, open_kind, pages_shown, read_file, slots_shown, spare_numbers, used_numbers}
+use Rattle.trio_session.proofs.Lists.{slice_get-In}
+use Rattle.trio_edit_laws.specs.Written.{MayEdit}
+use Rattle.trio_edit_laws.specs.EditLaws.{LeavesOthers}
+use Rattle.trio_edit_laws.proofs.Keeps.{IsEdit, body_else, chain_else, front_stays, made_at, made_numbers_now, open_now, other_untouched, page_stays}
+use Rattle.trio_edit_laws.proofs.OpenChain.{regular_is_none}
+
+-- pages whose slots say the same show the same slots
+pub slots_on-same : (inodes : ℕ) (page page' : List ℕ) → ((t : ℕ) → t < 16 → slot_of inodes (slot_bytes t page') ≡ slot_of inodes (slot_bytes t page)) → slots_on inodes page' ≡ slots_on inodes page
+unfolding slots_on
+slots_on-same inodes page page' same = tabulated-same_below (slot_on inodes page) (slot_on inodes page') 16 (λ t lt. ap name_in (same t lt))
+
+pub slots_of-same : (inodes : ℕ) (page page' : ℕ → List ℕ) (ns : List ℕ) → ((n : ℕ) → In n ns → slots_on inodes (page' n) ≡ slots_on inodes (page n)) → slots_of inodes (map page' ns) ≡ slots_of inodes (map page ns)
+slots_of-same inodes page page' [] same = refl
+slots_of-same inodes page page' (n ∷ ns) same =
+    ap (λ l. l ++ slots_of inodes (map page' ns)) (same n (inl refl)) ∙ ap (λ l. slots_on inodes (page n) ++ l) (slots_of-same inodes page page' ns (λ k i. same k (inr i)))
+
+-- what a file shows that is open, and one that isn't
+abbrev pages_by : SessionSeen → ℕ → Bool → List (List ℕ)
+pages_by s dir t = if t then map (page_in s.parcel) (chain_in s dir).blocks else option_map_or dir_pages (read_file s dir) []
+
+pub pages_shown-open : (s : SessionSeen) (dir : ℕ) (kind : Kind) → open_kind s dir ≡ Some kind → pages_shown s dir ≡ map (page_in s.parcel) (chain_in s dir).blocks
+pages_shown-open s dir kind o = ap (λ q. pages_by s dir (is_some q)) o
+
+pub pages_shown-read : (s : SessionSeen) (dir : ℕ) → open_kind s dir ≡ None → pages_shown s dir ≡ option_map_or dir_pages (read_file s dir) []
+pages_shown-read s dir o = ap (λ q. pages_by s dir (is_some q)) o
+
+-- the blocks that they show
+abbrev block_by : SessionSeen → ℕ → ℕ → Bool → Option (List ℕ)
+block_by s d k t = if t then option_map (page_in s.parcel) (slice_get (chain_in s d).blocks k) else option_and_then (λ (f : Shown). page_at f.blocks k) (read_file s d)
+
+pub block_shown-open : (s : SessionSeen) (d : ℕ) (kind : Kind) (k : ℕ) → open_kind s d ≡ Some kind → block_shown s d k ≡ option_map (page_in s.parcel) (slice_get (chain_in s d).blocks k)
+block_shown-open s d kind k o = ap (λ q. block_by s d k (is_some q)) o
+
+pub block_shown-read : (s : SessionSeen) (d k : ℕ) → open_kind s d ≡ None → block_shown s d k ≡ option_and_then (λ (f : Shown). page_at f.blocks k) (read_file s d)
+block_shown-read s d k o = ap (λ q. block_by s d k (is_some q)) o
+
+module _ (desk : DeskSeen) (s s' : SessionSeen) (ino : ℕ) (kind : Kind) (m : MayEdit desk s) (o : open_kind s ino ≡ Some kind) (e : IsEdit desk s s' ino kind) where
+  -- what the slots of another open file's pages say is as it was
+  front_else : (d : ℕ) (k : Kind) (n : ℕ) → open_kind s d ≡ Some k → (d ≡ ino → ⊥) → In n (chain_in s d).blocks → (t : ℕ) → slot_of every_number (slot_bytes t (page_in s'.parcel n)) ≡ slot_of every_number (slot_bytes t (page_in s.parcel n))
+  front_else d Directory n od differ i t = front_stays desk s s' ino kind m o e d n od i every_number t
+  front_else d Regular n od differ i t =
+      let j : In n ((chain_in s d).index ++ (chain_in s d).blocks) = In-right n (chain_in s d).index (chain_in s d).blocks i in
+      ap (λ b. slot_of every_number (slot_bytes t b))
+      (page_stays desk s s' ino kind m o e n (other_untouched desk s s' ino kind m o e d Regular n od differ j)
+      (λ mf found same. regular_is_none desk s d mf m od (made_at s ino mf found).0 (subst (λ k. In k ((chain_in s d).index ++ (chain_in s d).blocks)) same j)))
+
+  -- a block of an open directory shows the slots that it showed
+  pub block_slots : (d n : ℕ) → open_kind s d ≡ Some Directory → In n (chain_in s d).blocks → slots_on every_number (page_in s'.parcel n) ≡ slots_on every_number (page_in s.parcel n)
+  block_slots d n od i = slots_on-same every_number (page_in s.parcel n) (page_in s'.parcel n) (λ t lt. front_stays desk s s' ino kind m o e d n od i every_number t)
+
+  -- so every other file shows the slots that it showed
+  pub slots_else : (d : ℕ) → d ≢ ino → slots_shown s' d ≡ slots_shown s d
+  slots_else d differ = by (open_kind s d) refl
+    where
+      by : (q : Option Kind) → open_kind s d ≡ q → slots_shown s' d ≡ slots_shown s d
+      by (Some k) od =
+          ap (slots_of every_number) (pages_shown-open s' d k (open_now desk s s' ino kind m o e d ∙ od))
+          ∙ ap (λ (c : Chain). slots_of every_number (map (page_in s'.parcel) c.blocks)) (chain_else desk s s' ino kind m o e d differ)
+          ∙ slots_of-same every_number (page_in s.parcel) (page_in s'.parcel) (chain_in s d).blocks
+          (λ n i. slots_on-same every_number (page_in s.parcel n) (page_in s'.parcel n) (λ t lt. front_else d k n od differ i t))
+          ∙ sym (ap (slots_of every_number) (pages_shown-open s d k od))
+      by None od =
+          ap (slots_of every_number)
+          (pages_shown-read s' d (open_now desk s s' ino kind m o e d ∙ od)
+          ∙ ap (λ (l : List Shown). option_map_or dir_pages (find (λ (f : Shown). eqb f.ino d) l) []) e.anew.reads
+          ∙ sym (pages_shown-read s d od))
+
+  -- an entry of an open file whose chain has its block and whose slot says what it said
+  pub entry_same : (d : ℕ) (k : Kind) (place : Place) → open_kind s d ≡ Some k → slice_get (chain_in s' d).blocks place.block ≡ slice_get (chain_in s d).blocks place.block
+      → ((n : ℕ) → In n (chain_in s d).blocks → slot_of every_number (slot_bytes place.slot (page_in s'.parcel n)) ≡ slot_of every_number (slot_bytes place.slot (page_in s.parcel n)))
+      → entry_shown s' d place ≡ entry_shown s d place
+  entry_same d k place od there same =
+      ap (option_and_then entry) (block_shown-open s' d k place.block (open_now desk s s' ino kind m o e d ∙ od) ∙ ap (option_map (page_in s'.parcel)) there)
+      ∙ by (slice_get (chain_in s d).blocks place.block) refl
+      ∙ sym (ap (option_and_then entry) (block_shown-open s d k place.block od))
+    where
+      entry : List ℕ → Option EntryPart
+      entry bytes = entry_in (slot_of every_number (slot_bytes place.slot bytes))
+
+      by : (q : Option ℕ) → slice_get (chain_in s d).blocks place.block ≡ q → option_and_then entry (option_map (page_in s'.parcel) q) ≡ option_and_then entry (option_map (page_in s.parcel) q)
+      by None at = refl
+      by (Some n) at = ap entry_in (same n (slice_get-In (chain_in s d).blocks place.block n at))
+
+  pub entries_else : (d : ℕ) (place : Place) → d ≢ ino → entry_shown s' d place ≡ entry_shown s d place
+  entries_else d place differ = by (open_kind s d) refl
+    where
+      by : (q : Option Kind) → open_kind s d ≡ q → entry_shown s' d place ≡ entry_shown s d place
+      by (Some k) od =
+          entry_same d k place od (ap (λ (c : Chain). slice_get c.blocks place.block) (chain_else desk s s' ino kind m o e d differ)) (λ n i. front_else d k n od differ i place.slot)
+      by None od =
+          ap (option_and_then (λ bytes. entry_in (slot_of every_number (slot_bytes place.slot bytes))))
+          (block_shown-read s' d place.block (open_now desk s s' ino kind m o e d ∙ od)
+          ∙ ap (λ (l : List Shown). option_and_then (λ (f : Shown). page_at f.blocks place.block) (find (λ (f : Shown). eqb f.ino d) l)) e.anew.reads
+          ∙ sym (block_shown-read s d place.block od))
+
+  -- the numbers that are spare are so still
+  numbers_else : spare_numbers s' ≡ spare_numbers s
+  numbers_else =
+      ap (λ l. filter (λ n. not (is_among n l)) (ino_numbers s'.parcel.inodes)) (made_numbers_now desk s s' ino kind m o e)
+      ∙ ap (λ (l : List InoParts). filter (λ n. not (is_among n (used_numbers s))) (ino_numbers l)) e.alters.inodes
+
+  pub leaves_others : LeavesOthers s s' ino
+  leaves_others = record {
+    opens = λ n. open_now desk s s' ino kind m o e n;
+    chains = λ n d. chain_else desk s s' ino kind m o e n d;
+    bodies = λ n d. body_else desk s s' ino kind m o e n d;
+    slots = slots_else;
+    entries = entries_else;
+    numbers = numbers_else;
+    inodes = e.alters.inodes;
+    holds = e.alters.holds;
+    reads = e.anew.reads;
+    indexed = e.anew.indexed;
+  }

@@ -1,0 +1,206 @@
+-- Writes of pages of a parcel, and of a body: what they leave.
+use Rattle.std.proofs.Common.{◌≡◌, ℕ, Bool, true, false, inl, inr, eqb, length, List, [], ◌∷◌, sym, refl, ap, ◌∙◌, subst}
+use Rattle.std.specs.Prelude.{map, if◌then◌else◌}
+use Rattle.std.proofs.lemmas.Bool.{eqb-true}
+use Rattle.std.proofs.lemmas.Simd.{map-map}
+use Rattle.trio_rights.specs.Bundle.{Written, bundle_pages}
+use Rattle.trio_rights.specs.Sheets.{sheet_numbers}
+use Rattle.trio_lists.specs.Lists.{In, are_new}
+use Rattle.trio_lists.proofs.Members.{map-In}
+use Rattle.trio_lease.specs.Shown.{LentFile}
+use Rattle.trio_lease.specs.declared.parts.LentPage.{LentPage}
+use Rattle.trio_desk.specs.Out.{AreWhole, IsAllotted, IsLent, LibOut, Parcel, WasGiven, page_numbers}
+use Rattle.trio_desk.specs.Ready.{bundle_of, lent_files}
+use Rattle.trio_laws.specs.session.FileEdits.{bare_file, with_body as written_with}
+use Rattle.trio_session.specs.Layout.{block_with, body_with, file_with, fresh_with, index_with, page_in, with_body, with_page}
+use Rattle.trio_session.proofs.Lists.{map_alike}
+use Rattle.trio_session.proofs.Places.{index_with-no, block_with-no}
+use Rattle.trio_session.proofs.Stays.{fresh_numbers}
+use Rattle.trio_edit_laws.proofs.Pages.{page_in-with_body, page_in-with_page_else, pages-with_page, sheets_of-with_body}
+
+-- the numbers, kinds and bodies of the written files
+abbrev pub bare_files : Parcel → List Written
+bare_files b = map (λ f. bare_file f.stands) b.writes
+
+-- What an edit leaves of all that is in hand: the files, as they then stand, are these; and bytes of none but these pages differ.
+pub record Alters (P : ℕ → Type 0) (files' : List Written) (b b' : Parcel) : Type 0 where
+  pub files : bare_files b' ≡ files'
+  pub lent : lent_files b'.writes ≡ lent_files b.writes
+  pub pages : bundle_pages (bundle_of b') ≡ bundle_pages (bundle_of b)
+  pub fresh : page_numbers b'.pages ≡ page_numbers b.pages
+  pub holds : b'.holds ≡ b.holds
+  pub inodes : b'.inodes ≡ b.inodes
+  pub given : (out : LibOut) → WasGiven out b → WasGiven out b'
+  pub other : (n : ℕ) → (P n → ⊥) → page_in b' n ≡ page_in b n
+
+-- the files stand as they did
+abbrev pub Touches : (ℕ → Type 0) → Parcel → Parcel → Type 0
+Touches P b b' = Alters P (bare_files b) b b'
+
+pub touches_nothing : (P : ℕ → Type 0) (b : Parcel) → Touches P b b
+touches_nothing P b = record { files = refl; lent = refl; pages = refl; fresh = refl; holds = refl; inodes = refl; given = λ out g. g; other = λ n no. refl }
+
+-- one edit after another
+pub alters_then : (P : ℕ → Type 0) (files' : List Written) (a b c : Parcel) → Touches P a b → Alters P files' b c → Alters P files' a c
+alters_then P files' a b c x y = record {
+  files = y.files;
+  lent = y.lent ∙ x.lent;
+  pages = y.pages ∙ x.pages;
+  fresh = y.fresh ∙ x.fresh;
+  holds = y.holds ∙ x.holds;
+  inodes = y.inodes ∙ x.inodes;
+  given = λ out g. y.given out (x.given out g);
+  other = λ n no. y.other n no ∙ x.other n no;
+}
+
+pub touches_then : (P : ℕ → Type 0) (a b c : Parcel) → Touches P a b → Touches P b c → Touches P a c
+touches_then P a b c x y = alters_then P (bare_files a) a b c x (subst (λ l. Alters P l b c) x.files y)
+
+-- the same for more pages
+pub alters_more : (P Q : ℕ → Type 0) (files' : List Written) (b b' : Parcel) → ((n : ℕ) → P n → Q n) → Alters P files' b b' → Alters Q files' b b'
+alters_more P Q files' b b' more x = record {
+  files = x.files;
+  lent = x.lent;
+  pages = x.pages;
+  fresh = x.fresh;
+  holds = x.holds;
+  inodes = x.inodes;
+  given = x.given;
+  other = λ n no. x.other n (λ p. no (more n p));
+}
+
+-- ---- a page is written
+
+whole_index : (n : ℕ) (w : List ℕ) (ps : List LentPage) → length w ≡ 4096 → AreWhole ps → AreWhole (map (index_with n w) ps)
+whole_index n w ps len whole p i =
+    let q = map-In (index_with n w) p ps i in
+    ap (λ (x : LentPage). length x.page) q.2
+    ∙ elim (eqb q.0.no.0 n) as (λ v. length (if v then record q.0 { page = w } else q.0).page ≡ 4096) [ true ↦ len | false ↦ whole q.0 q.1 ]
+
+whole_blocks : (n : ℕ) (w : List ℕ) (ps : List LentPage) → length w ≡ 4096 → AreWhole ps → AreWhole (map (block_with n w) ps)
+whole_blocks n w ps len whole p i =
+    let q = map-In (block_with n w) p ps i in
+    ap (λ (x : LentPage). length x.page) q.2
+    ∙ elim (eqb q.0.no.0 n) as (λ v. length (if v then record q.0 { page = w; touched = true } else q.0).page ≡ 4096) [ true ↦ len | false ↦ whole q.0 q.1 ]
+
+lent_still : (n : ℕ) (w : List ℕ) (out : LibOut) (f : LentFile) → length w ≡ 4096 → IsLent out f → IsLent out (file_with n w f)
+lent_still n w out f len is = record {
+  lent = is.lent;
+  same = record {
+    lib = is.same.lib;
+    ino = is.same.ino;
+    kind = is.same.kind;
+    entry = is.same.entry;
+    index = map-map (λ (p : LentPage). p.no) (index_with n w) f.stands.index ∙ map_alike (λ p. (index_with n w p).no) (λ p. p.no) f.stands.index (λ p. index_with-no n w p) ∙ is.same.index;
+    blocks = map-map (λ (p : LentPage). p.no) (block_with n w) f.stands.blocks ∙ map_alike (λ p. (block_with n w p).no) (λ p. p.no) f.stands.blocks (λ p. block_with-no n w p) ∙ is.same.blocks;
+  };
+  index = whole_index n w f.stands.index len is.index;
+  blocks = whole_blocks n w f.stands.blocks len is.blocks;
+}
+
+given_still : (n : ℕ) (w : List ℕ) (b : Parcel) (out : LibOut) → length w ≡ 4096 → WasGiven out b → WasGiven out (with_page n w b)
+unfolding with_page
+given_still n w b out len g = record {
+  writes = λ f i.
+      let q = map-In (file_with n w) f b.writes i in subst (λ x. IsLent out x) (sym q.2) (lent_still n w out q.0 len (g.writes q.0 q.1));
+  holds = g.holds;
+  pages = λ p i.
+      let q = map-In (fresh_with n w) p b.pages i in
+      let is = g.pages q.0 q.1 in
+      subst (λ x. IsAllotted out x) (sym q.2)
+      (elim (eqb q.0.no.0 n) as (λ v. IsAllotted out (if v then record q.0 { page = w } else q.0)) [ true ↦ record { given = is.given; whole = len } | false ↦ is ]);
+  numbers = g.numbers;
+  writes_once = ap (are_new []) (map-map (λ (f : LentFile). f.stands.ino) (file_with n w) b.writes) ∙ g.writes_once;
+  holds_once = g.holds_once;
+  pages_once = ap (are_new []) (fresh_numbers n w b.pages) ∙ g.pages_once;
+  numbers_once = g.numbers_once;
+}
+
+pub touches_page : (P : ℕ → Type 0) (n : ℕ) (w : List ℕ) (b : Parcel) → P n → length w ≡ 4096 → Touches P b (with_page n w b)
+unfolding with_page
+touches_page P n w b own len = record {
+  files = map-map (λ (f : LentFile). bare_file f.stands) (file_with n w) b.writes;
+  lent = map-map (λ (f : LentFile). f.lent) (file_with n w) b.writes;
+  pages = pages-with_page n w b;
+  fresh = fresh_numbers n w b.pages;
+  holds = refl;
+  inodes = refl;
+  given = λ out g. given_still n w b out len g;
+  other = λ m no. page_in-with_page_else n m w b (λ e. no (subst P (sym e) own));
+}
+
+-- ---- a body is written
+
+body_lent : (ino : ℕ) (body : List ℕ) (out : LibOut) (f : LentFile) → IsLent out f → IsLent out (body_with ino body f)
+body_lent ino body out f is =
+    elim (eqb f.stands.ino ino) as (λ v. IsLent out (if v then record f { stands = record f.stands { body = body } } else f)) [
+      | true ↦ record {
+        lent = is.lent;
+        same = record { lib = is.same.lib; ino = is.same.ino; kind = is.same.kind; entry = is.same.entry; index = is.same.index; blocks = is.same.blocks };
+        index = is.index;
+        blocks = is.blocks;
+      }
+      | false ↦ is
+    ]
+
+body-bare : (ino : ℕ) (body : List ℕ) (f : LentFile) → bare_file (body_with ino body f).stands ≡ written_with ino body (bare_file f.stands)
+body-bare ino body f =
+    elim (eqb f.stands.ino ino) as (λ v. bare_file (if v then record f { stands = record f.stands { body = body } } else f).stands ≡ (if v then record (bare_file f.stands) { body = body } else bare_file f.stands)) [ true ↦ refl | false ↦ refl ]
+
+body-lent : (ino : ℕ) (body : List ℕ) (f : LentFile) → (body_with ino body f).lent ≡ f.lent
+body-lent ino body f = elim (eqb f.stands.ino ino) as (λ v. (if v then record f { stands = record f.stands { body = body } } else f).lent ≡ f.lent) [ true ↦ refl | false ↦ refl ]
+
+body-ino : (ino : ℕ) (body : List ℕ) (f : LentFile) → (body_with ino body f).stands.ino ≡ f.stands.ino
+body-ino ino body f = elim (eqb f.stands.ino ino) as (λ v. (if v then record f { stands = record f.stands { body = body } } else f).stands.ino ≡ f.stands.ino) [ true ↦ refl | false ↦ refl ]
+
+given_bodied : (ino : ℕ) (body : List ℕ) (b : Parcel) (out : LibOut) → WasGiven out b → WasGiven out (with_body ino body b)
+unfolding with_body
+given_bodied ino body b out g = record {
+  writes = λ f i. let q = map-In (body_with ino body) f b.writes i in subst (λ x. IsLent out x) (sym q.2) (body_lent ino body out q.0 (g.writes q.0 q.1));
+  holds = g.holds;
+  pages = g.pages;
+  numbers = g.numbers;
+  writes_once =
+      ap (are_new []) (map-map (λ (f : LentFile). f.stands.ino) (body_with ino body) b.writes ∙ map_alike (λ f. (body_with ino body f).stands.ino) (λ f. f.stands.ino) b.writes (body-ino ino body))
+      ∙ g.writes_once;
+  holds_once = g.holds_once;
+  pages_once = g.pages_once;
+  numbers_once = g.numbers_once;
+}
+
+-- the file of this number has this body
+pub alters_body : (P : ℕ → Type 0) (ino : ℕ) (body : List ℕ) (b : Parcel) → Alters P (map (written_with ino body) (bare_files b)) b (with_body ino body b)
+unfolding with_body
+alters_body P ino body b = record {
+  files = map-map (λ (f : LentFile). bare_file f.stands) (body_with ino body) b.writes
+      ∙ map_alike (λ f. bare_file (body_with ino body f).stands) (λ f. written_with ino body (bare_file f.stands)) b.writes (body-bare ino body)
+      ∙ sym (map-map (written_with ino body) (λ (f : LentFile). bare_file f.stands) b.writes);
+  lent = map-map (λ (f : LentFile). f.lent) (body_with ino body) b.writes ∙ map_alike (λ f. (body_with ino body f).lent) (λ f. f.lent) b.writes (body-lent ino body);
+  pages = ap sheet_numbers (sheets_of-with_body ino body b);
+  fresh = refl;
+  holds = refl;
+  inodes = refl;
+  given = λ out g. given_bodied ino body b out g;
+  other = λ n no. page_in-with_body ino n body b;
+}
+
+-- pages are written, and then a body
+pub alters_bodied : (P : ℕ → Type 0) (ino : ℕ) (body : List ℕ) (a b : Parcel) → Touches P a b → Alters P (map (written_with ino body) (bare_files a)) a (with_body ino body b)
+alters_bodied P ino body a b t =
+    alters_then P (map (written_with ino body) (bare_files a)) a b (with_body ino body b) t
+    (subst (λ l. Alters P (map (written_with ino body) l) b (with_body ino body b)) t.files (alters_body P ino body b))
+
+-- where the file of this number has this body already
+pub alters_none : (P : ℕ → Type 0) (ino : ℕ) (body : List ℕ) (a b : Parcel) → ((f : LentFile) → In f a.writes → f.stands.ino ≡ ino → f.stands.body ≡ body) → Touches P a b
+    → Alters P (map (written_with ino body) (bare_files a)) a b
+alters_none P ino body a b has t = subst (λ l. Alters P l a b) (sym (same a.writes has)) t
+  where
+    one : (f : LentFile) → (f.stands.ino ≡ ino → f.stands.body ≡ body) → (v : Bool) → eqb f.stands.ino ino ≡ v → (if v then record (bare_file f.stands) { body = body } else bare_file f.stands) ≡ bare_file f.stands
+    one f h true e = ap (λ l. record (bare_file f.stands) { body = l }) (sym (h (eqb-true f.stands.ino ino e)))
+    one f h false e = refl
+
+    same : (fs : List LentFile) → ((f : LentFile) → In f fs → f.stands.ino ≡ ino → f.stands.body ≡ body) → map (written_with ino body) (map (λ (f : LentFile). bare_file f.stands) fs) ≡ map (λ (f : LentFile). bare_file f.stands) fs
+    same [] h = refl
+    same (f ∷ fs) h =
+        ap (λ w. w ∷ map (written_with ino body) (map (λ (f : LentFile). bare_file f.stands) fs)) (one f (h f (inl refl)) (eqb f.stands.ino ino) refl)
+        ∙ ap (λ l. bare_file f.stands ∷ l) (same fs (λ g i. h g (inr i)))

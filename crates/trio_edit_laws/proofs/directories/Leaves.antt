@@ -1,0 +1,205 @@
+-- What an edit of slots of directories leaves of all other files, and of the slots of the directories themselves.
+use Rattle.std.proofs.Common.{◌≡◌, ◌≢◌, ℕ, ◌+◌, ◌*◌, eqb, not, List, [], ◌∷◌, Option, Some, None, sym, refl, ap, ◌∙◌, subst, inl, inr}
+use Rattle.std.specs.Prelude.{map, drop, slice_get, slice_set}
+use Rattle.std.specs.List.{filter, find}
+use Rattle.std.specs.Option.{option_and_then, option_map, option_map_or, option_or}
+use Rattle.trio_rights.specs.declared.kind.Kind.{Kind}
+use Rattle.trio_rights.specs.declared.kind.Kind.TheVariants.{Directory}
+use Rattle.trio_lists.specs.Lists.{In, is_among}
+use Rattle.trio_lists.proofs.Filters.{filter-same}
+use Rattle.trio_lists.proofs.Members.{In-right}
+use Rattle.trio_layout.specs.Chain.{Chain}
+use Rattle.trio_layout.specs.Entries.{slot_bytes}
+use Rattle.trio_layout.specs.Slot.{slot_of}
+use Rattle.trio_layout.specs.declared.slot.EntryPart.{EntryPart}
+use Rattle.trio_auxdir.specs.declared.place.Place.{Place}
+use Rattle.trio_auxdir.specs.Places.{slot_number}
+use Rattle.trio_auxdir.specs.Slots.{slots_of}
+use Rattle.trio_lease.specs.Shown.{Shown, page_at}
+use Rattle.trio_lease.specs.declared.parts.InoParts.{InoParts}
+use Rattle.trio_desk.specs.Call.{DeskSeen}
+use Rattle.trio_desk.specs.Out.{Parcel, ino_numbers, page_numbers}
+use Rattle.trio_laws.proofs.session.Starts.{among_alike}
+use Rattle.trio_session.specs.Layout.{page_in}
+use Rattle.trio_session.specs.Seen.{MadeFile, SessionSeen, block_shown, chain_in, dir_pages, entry_in, entry_shown, every_number, kind_shown, made_body, made_file, open_kind, pages_shown, place_of, read_file, slots_shown, spare_numbers, used_numbers}
+use Rattle.trio_session.proofs.Lists.{slice_get-In}
+use Rattle.trio_session.proofs.SlotEdits.{EditsSlotIn, IsBlockAt, entry_of, entry_of-block, entry_of-else, entry_on, slots_of-edited}
+use Rattle.trio_edit_laws.specs.DirLaws.{HasSlot, LeavesFiles}
+use Rattle.trio_edit_laws.specs.Written.{MayEdit}
+use Rattle.trio_edit_laws.proofs.Chained.{apart_from}
+use Rattle.trio_edit_laws.proofs.Keeps.{made_at, place_of_open}
+use Rattle.trio_edit_laws.proofs.Opens.{open_apart, open_once}
+use Rattle.trio_edit_laws.proofs.SlotsShown.{block_shown-open, block_shown-read, pages_shown-open, pages_shown-read}
+use Rattle.trio_edit_laws.proofs.directories.Places.{IsPlace}
+use Rattle.trio_edit_laws.proofs.directories.Sees.{block_open, pages_open}
+use Rattle.trio_edit_laws.proofs.directories.Slotted.{name_in-entry_in, name_of_part}
+use Rattle.trio_edit_laws.proofs.directories.Stays.{WritesDirs, body_else, chain_else, open_else, reads_same}
+
+-- the blocks of open files that differ have no page in common
+pub blocks_differ : (desk : DeskSeen) (s : SessionSeen) (a b : ℕ) (k l : Kind) (n : ℕ) → MayEdit desk s → open_kind s a ≡ Some k → open_kind s b ≡ Some l → (a ≡ b → ⊥)
+    → In n (chain_in s a).blocks → In n (chain_in s b).blocks → ⊥
+blocks_differ desk s a b k l n m oa ob d i j =
+    open_apart s a b n m.once (place_of_open desk s a k m oa) (place_of_open desk s b l m ob) d
+    (In-right n (chain_in s a).index (chain_in s a).blocks i) (In-right n (chain_in s b).index (chain_in s b).blocks j)
+
+-- pages that have the same bytes
+mapped_alike : (f g : ℕ → List ℕ) (ns : List ℕ) → ((n : ℕ) → In n ns → g n ≡ f n) → map g ns ≡ map f ns
+mapped_alike f g [] same = refl
+mapped_alike f g (n ∷ ns) same = ap (λ l. l ∷ map g ns) (same n (inl refl)) ∙ ap (λ ls. f n ∷ ls) (mapped_alike f g ns (λ k i. same k (inr i)))
+
+-- the pages that are written are blocks of these directories, and the other files are as they were
+pub record EditsOnly (s s' : SessionSeen) (dirs : List ℕ) (ino : ℕ) : Type 0 where
+  pub writes : WritesDirs s s'
+  pub found : (n : ℕ) → n ≢ ino → made_file s' n ≡ made_file s n
+  pub bodies : (x : MadeFile) → In x s.made → x.ino ≢ ino → made_body s' x ≡ made_body s x
+  pub within :
+      (n : ℕ) → In n writes.pages
+      → (dir : ℕ) × In dir dirs × (open_kind s dir ≡ Some Directory) × In n (chain_in s dir).blocks
+
+module _ (desk : DeskSeen) (s s' : SessionSeen) (dirs : List ℕ) (ino : ℕ) (m : MayEdit desk s) (e : EditsOnly s s' dirs ino) where
+  abbrev w : WritesDirs s s'
+  w = e.writes
+
+  opens_left : (n : ℕ) → n ≢ ino → open_kind s' n ≡ open_kind s n
+  opens_left n d = open_else s s' e.writes n (e.found n d)
+
+  chains_left : (n : ℕ) → n ≢ ino → chain_in s' n ≡ chain_in s n
+  chains_left n d = chain_else s s' e.writes n (e.found n d)
+
+  -- the pages of another file that is open
+  page_left : (n : ℕ) (kind : Kind) (p : ℕ) → open_kind s n ≡ Some kind → (In n dirs → ⊥) → In p (chain_in s n).blocks → page_in s'.parcel p ≡ page_in s.parcel p
+  page_left n kind p o out i =
+      e.writes.touches.other p (λ t.
+      let q = e.within p t in
+      blocks_differ desk s n q.0 kind Directory p m o q.2 (λ same. out (subst (λ k. In k dirs) (sym same) q.1)) i q.3)
+
+  pages_left : (n : ℕ) → n ≢ ino → (In n dirs → ⊥) → pages_shown s' n ≡ pages_shown s n
+  pages_left n d out = by (open_kind s n) refl
+    where
+      by : (q : Option Kind) → open_kind s n ≡ q → pages_shown s' n ≡ pages_shown s n
+      by (Some k) o =
+          pages_shown-open s' n k (opens_left n d ∙ o)
+          ∙ ap (λ (c : Chain). map (page_in s'.parcel) c.blocks) (chains_left n d)
+          ∙ mapped_alike (page_in s.parcel) (page_in s'.parcel) (chain_in s n).blocks (λ p i. page_left n k p o out i)
+          ∙ sym (pages_shown-open s n k o)
+      by None o =
+          pages_shown-read s' n (opens_left n d ∙ o)
+          ∙ ap (λ (l : List Shown). option_map_or dir_pages (find (λ (f : Shown). eqb f.ino n) l) []) (reads_same s s' e.writes)
+          ∙ sym (pages_shown-read s n o)
+
+  blocks_left : (n k : ℕ) → n ≢ ino → (In n dirs → ⊥) → block_shown s' n k ≡ block_shown s n k
+  blocks_left n k d out = by (open_kind s n) refl
+    where
+      at : (kind : Kind) → open_kind s n ≡ Some kind → (q : Option ℕ) → slice_get (chain_in s n).blocks k ≡ q → option_map (page_in s'.parcel) q ≡ option_map (page_in s.parcel) q
+      at kind o None t = refl
+      at kind o (Some p) t = ap Some (page_left n kind p o out (slice_get-In (chain_in s n).blocks k p t))
+
+      by : (q : Option Kind) → open_kind s n ≡ q → block_shown s' n k ≡ block_shown s n k
+      by (Some kind) o =
+          block_shown-open s' n kind k (opens_left n d ∙ o)
+          ∙ ap (λ (c : Chain). option_map (page_in s'.parcel) (slice_get c.blocks k)) (chains_left n d)
+          ∙ at kind o (slice_get (chain_in s n).blocks k) refl
+          ∙ sym (block_shown-open s n kind k o)
+      by None o =
+          block_shown-read s' n k (opens_left n d ∙ o)
+          ∙ ap (λ (l : List Shown). option_and_then (λ (f : Shown). page_at f.blocks k) (find (λ (f : Shown). eqb f.ino n) l)) (reads_same s s' e.writes)
+          ∙ sym (block_shown-read s n k o)
+
+  kinds_left : (n : ℕ) → n ≢ ino → kind_shown s' n ≡ kind_shown s n
+  kinds_left n d =
+      ap (λ q. option_or q (option_map (λ (f : Shown). f.kind) (read_file s' n))) (opens_left n d)
+      ∙ ap (λ (l : List Shown). option_or (open_kind s n) (option_map (λ (f : Shown). f.kind) (find (λ (f : Shown). eqb f.ino n) l))) (reads_same s s' e.writes)
+
+  pub leaves_files : LeavesFiles s s' dirs ino
+  leaves_files = record {
+    same = e.writes.same;
+    opens = opens_left;
+    chains = chains_left;
+    bodies = λ n d. body_else s s' e.writes n (e.found n d) (λ y f. (let a = made_at s n y f in e.bodies y a.0 (λ same. d (sym a.1 ∙ same))));
+    blocks = blocks_left;
+    slots = λ n d out. ap (slots_of every_number) (pages_left n d out);
+    places = λ n name d out.
+        ap (λ k. place_of k (slots_shown s' n) name) (kinds_left n d) ∙ ap (λ ps. place_of (kind_shown s n) (slots_of every_number ps) name) (pages_left n d out);
+    entries = λ n place d out. ap (option_and_then (λ bytes. entry_in (slot_of every_number (slot_bytes place.slot bytes)))) (blocks_left n place.block d out);
+    pages = ap (λ k. drop k (page_numbers s'.parcel.pages)) (ap (λ (x : SessionSeen). x.placed) e.writes.same) ∙ ap (drop s.placed) e.writes.touches.fresh;
+    inodes = e.writes.touches.inodes;
+    holds = e.writes.touches.holds;
+  }
+
+-- ---- the slots of a directory
+
+-- of the blocks of a directory one slot has this
+pub record BlocksHave (b b' : Parcel) (blocks : List ℕ) (k slot : ℕ) (now : Option EntryPart) : Type 0 where
+  pub slots : slots_of every_number (map (page_in b') blocks) ≡ slice_set (slots_of every_number (map (page_in b) blocks)) (16 * k + slot) (name_of_part now)
+  pub entry : entry_of b' blocks k slot ≡ now
+  pub others : (j i : ℕ) → (j ≡ k → i ≢ slot) → entry_of b' blocks j i ≡ entry_of b blocks j i
+
+pub blocks_edited : (b b' : Parcel) (blocks : List ℕ) (k n slot : ℕ) (now : Option EntryPart) → EditsSlotIn b b' n slot → IsBlockAt blocks k n
+    → entry_on (page_in b' n) slot ≡ now → BlocksHave b b' blocks k slot now
+blocks_edited b b' blocks k n slot now edits is on = record {
+  slots =
+      slots_of-edited b b' blocks k n slot edits is
+      ∙ ap (slice_set (slots_of every_number (map (page_in b) blocks)) (16 * k + slot)) (name_in-entry_in (slot_of every_number (slot_bytes slot (page_in b' n))) ∙ ap name_of_part on);
+  entry = entry_of-block b' blocks k n slot is ∙ on;
+  others = λ j i d. entry_of-else b b' blocks k n slot j i edits is d;
+}
+
+entry_alike : (b b' : Parcel) (blocks : List ℕ) (j i : ℕ) → ((n : ℕ) → In n blocks → page_in b' n ≡ page_in b n) → entry_of b' blocks j i ≡ entry_of b blocks j i
+entry_alike b b' blocks j i same = by (slice_get blocks j) refl
+  where
+    by : (q : Option ℕ) → slice_get blocks j ≡ q
+        → option_and_then (λ page. entry_on page i) (option_map (page_in b') q) ≡ option_and_then (λ page. entry_on page i) (option_map (page_in b) q)
+    by None t = refl
+    by (Some n) t = ap (λ p. entry_on p i) (same n (slice_get-In blocks j n t))
+
+-- and still, where pages are written that are none of the blocks
+pub blocks_after : (b between b' : Parcel) (blocks : List ℕ) (k slot : ℕ) (now : Option EntryPart) → BlocksHave b between blocks k slot now
+    → ((n : ℕ) → In n blocks → page_in b' n ≡ page_in between n) → BlocksHave b b' blocks k slot now
+blocks_after b between b' blocks k slot now h same = record {
+  slots = ap (slots_of every_number) (mapped_alike (page_in between) (page_in b') blocks same) ∙ h.slots;
+  entry = entry_alike between b' blocks k slot same ∙ h.entry;
+  others = λ j i d. entry_alike between b' blocks j i same ∙ h.others j i d;
+}
+
+pub blocks_before : (b between b' : Parcel) (blocks : List ℕ) (k slot : ℕ) (now : Option EntryPart) → ((n : ℕ) → In n blocks → page_in between n ≡ page_in b n)
+    → BlocksHave between b' blocks k slot now → BlocksHave b b' blocks k slot now
+blocks_before b between b' blocks k slot now same h = record {
+  slots = h.slots ∙ ap (λ ps. slice_set (slots_of every_number ps) (16 * k + slot) (name_of_part now)) (mapped_alike (page_in b) (page_in between) blocks same);
+  entry = h.entry;
+  others = λ j i d. h.others j i d ∙ entry_alike b between blocks j i same;
+}
+
+-- the place of a directory's block
+pub block_at : (desk : DeskSeen) (s : SessionSeen) (dir : ℕ) (place : Place) → MayEdit desk s → open_kind s dir ≡ Some Directory → (p : IsPlace s dir place)
+    → IsBlockAt (chain_in s dir).blocks place.block p.number
+block_at desk s dir place m o p = record {
+  once = (apart_from (chain_in s dir).index (chain_in s dir).blocks (open_once s dir m.once (place_of_open desk s dir Directory m o))).right;
+  there = p.at;
+}
+
+pub has_slot : (s s' : SessionSeen) (dir : ℕ) (place : Place) (now : Option EntryPart) → open_kind s dir ≡ Some Directory → open_kind s' dir ≡ Some Directory
+    → chain_in s' dir ≡ chain_in s dir
+    → BlocksHave s.parcel s'.parcel (chain_in s dir).blocks place.block place.slot now → HasSlot s s' dir place now
+has_slot s s' dir place now o o' chain h =
+    let shown : (pl : Place) → entry_shown s dir pl ≡ entry_of s.parcel (chain_in s dir).blocks pl.block pl.slot =
+    λ pl. ap (option_and_then (λ bytes. entry_in (slot_of every_number (slot_bytes pl.slot bytes)))) (block_open s dir o pl.block) in
+    let shown' : (pl : Place) → entry_shown s' dir pl ≡ entry_of s'.parcel (chain_in s dir).blocks pl.block pl.slot =
+    λ pl. ap (option_and_then (λ bytes. entry_in (slot_of every_number (slot_bytes pl.slot bytes)))) (block_open s' dir o' pl.block)
+    ∙ ap (λ (c : Chain). entry_of s'.parcel c.blocks pl.block pl.slot) chain in
+    record {
+      slots =
+          ap (slots_of every_number) (pages_open s' dir o' ∙ ap (λ (c : Chain). map (page_in s'.parcel) c.blocks) chain)
+          ∙ h.slots
+          ∙ ap (λ ps. slice_set (slots_of every_number ps) (slot_number place) (name_of_part now)) (sym (pages_open s dir o));
+      entry = shown' place ∙ h.entry;
+      others = λ other d. shown' other ∙ h.others other.block other.slot d ∙ sym (shown other);
+    }
+
+-- ---- numbers
+
+-- the same numbers are used
+pub spare_same : (s s' : SessionSeen) → s'.parcel.inodes ≡ s.parcel.inodes → ((n : ℕ) → In n (used_numbers s') → In n (used_numbers s))
+    → ((n : ℕ) → In n (used_numbers s) → In n (used_numbers s')) → spare_numbers s' ≡ spare_numbers s
+spare_same s s' inodes to from =
+    ap (λ (l : List InoParts). filter (λ n. not (is_among n (used_numbers s'))) (ino_numbers l)) inodes
+    ∙ filter-same (λ n. not (is_among n (used_numbers s'))) (λ n. not (is_among n (used_numbers s))) (ino_numbers s.parcel.inodes) (λ n i. ap not (among_alike n (used_numbers s') (used_numbers s) (to n) (from n)))

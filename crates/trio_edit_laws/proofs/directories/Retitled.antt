@@ -1,0 +1,301 @@
+-- An entry of a directory gets another name.
+use Rattle.std.proofs.Common.{◌≡◌, ℕ, ◌*◌, ◌≤◌, true, ltb, leb, ◌&&◌, List, [], ◌∷◌, length, Option, Some, None, sym, refl, ap, ◌∙◌, subst, inl, inr, arith}
+use Rattle.std.specs.Prelude.{is_some}
+use Rattle.std.specs.Option.{option_map_or}
+use Rattle.std.proofs.lemmas.Bool.{and_from, and_parts}
+use Rattle.trio_names.specs.Name.{is_name}
+use Rattle.trio_page.specs.Field.{with_part}
+use Rattle.trio_rights.specs.Row.{Row}
+use Rattle.trio_rights.specs.declared.kind.Kind.TheVariants.{Directory}
+use Rattle.trio_lists.specs.Lists.{In}
+use Rattle.trio_layout.specs.declared.slot.EntryPart.{EntryPart}
+use Rattle.trio_layout.specs.declared.slot.SlotRead.TheVariants.{Entry}
+use Rattle.trio_layout.specs.Chain.{Chain}
+use Rattle.trio_layout.specs.Entries.{body_in_slot, slot_bytes}
+use Rattle.trio_layout.specs.Slot.{IsEntry, entry_bytes, entry_fits, slot_of}
+use Rattle.trio_layout.specs.Survey.{Met}
+use Rattle.trio_layout.proofs.SlotLemmas.{entry_value}
+use Rattle.trio_auxdir.specs.declared.place.Place.{Place}
+use Rattle.trio_nodes.specs.Nodes.{Nodes, node_at}
+use Rattle.trio_desk.specs.Agrees.{HasRights}
+use Rattle.trio_desk.specs.Call.{DeskSeen}
+use Rattle.trio_desk.specs.Contents.{rights_in}
+use Rattle.trio_desk.specs.Out.{ino_numbers}
+use Rattle.trio_laws.specs.session.Sees.{IsView}
+use Rattle.trio_laws.specs.session.SlotEdits.{AreSlotWrites, IsRetitle, IsSlotWrite, SlotWrite, naming_after, retitled as node_retitled, with_changed}
+use Rattle.trio_laws.proofs.session.FilesRenamed.{after_retitle, retitle_shows as law}
+use Rattle.trio_laws.proofs.session.SlotCases.{named_so, only}
+use Rattle.trio_session.specs.Layout.{page_in, retitled}
+use Rattle.trio_session.specs.Seen.{MadeFile, SessionSeen, block_number, chain_in, entry_in, entry_shown, every_number, in_hand, made_body, made_file, open_kind, place_shown, renamed, retitle}
+use Rattle.trio_session.proofs.SlotBytes.{entry-retitled, length-entry_bytes}
+use Rattle.trio_session.proofs.SlotEdits.{body-else, body-retitled, slot_bytes-else}
+use Rattle.trio_edit_laws.specs.DirLaws.{Changes, HasSlot, LeavesFiles, LeavesRetitled, RetitleLeaves, RetitleShows, StaysTree}
+use Rattle.trio_edit_laws.specs.Written.{IsInSlot, MayEdit}
+use Rattle.trio_edit_laws.proofs.Keeps.{made_at}
+use Rattle.trio_edit_laws.proofs.directories.After.{IsListedThen, OthersStay}
+use Rattle.trio_edit_laws.proofs.directories.Changes.{Turns, changes_by}
+use Rattle.trio_edit_laws.proofs.directories.Fronts.{at_slot_or, fits_from, front_body, front_edits, front_is, front_new, front_slot, front_then, front_whole, front_writes, made_slot}
+use Rattle.trio_edit_laws.proofs.directories.Leaves.{block_at, blocks_edited, has_slot, leaves_files, spare_same}
+use Rattle.trio_edit_laws.proofs.directories.Places.{IsNamedPlace, free_name, named_place}
+use Rattle.trio_edit_laws.proofs.directories.Sees.{entry_made, listed, listed_on, r, slot_wide}
+use Rattle.trio_edit_laws.proofs.directories.Stays.{EditsDirs, WritesDirs, body_else, chain_else, core_same, open_else, reads_same, unlent_still}
+use Rattle.trio_edit_laws.proofs.directories.Writes.{WritesSlot, slot_write, write_of}
+
+-- what a retitle is given
+pub record RetitleNeeds (desk : DeskSeen) (s : SessionSeen) (dir' : ℕ) (place' : Place) (e' : EntryPart) (old' new' : List ℕ) : Type 0 where
+  pub may : MayEdit desk s
+  pub opens : open_kind s dir' ≡ Some Directory
+  pub found : place_shown s dir' old' ≡ Some place'
+  pub shown : entry_shown s dir' place' ≡ Some e'
+  pub free : place_shown s dir' new' ≡ None
+  pub name : is_name new' ≡ true
+
+module _ (desk : DeskSeen) (s : SessionSeen) (dir : ℕ) (place : Place) (e : EntryPart) (old name : List ℕ) (q : RetitleNeeds desk s dir place e old name) where
+  abbrev m : MayEdit desk s
+  m = q.may
+
+  p : IsNamedPlace s dir q.opens place e old
+  p = named_place s dir q.opens place e old q.found q.shown
+
+  abbrev num : ℕ
+  num = p.there.number
+
+  abbrev slot : ℕ
+  slot = place.slot
+
+  abbrev now : EntryPart
+  now = record e { name = name }
+
+  abbrev page : List ℕ
+  page = page_in s.parcel p.there.number
+
+  -- the session then
+  abbrev then' : SessionSeen
+  then' = record s { parcel = retitled p.there.number place.slot (record e { name = name }) s.parcel }
+
+  retitle_is : retitle dir old name s ≡ record s { parcel = retitled p.there.number place.slot (record e { name = name }) s.parcel }
+  unfolding retitle
+  retitle_is =
+      ap (λ o. option_map_or (λ (pl : Place). option_map_or (λ x. record s { parcel = retitled (block_number s dir pl.block) pl.slot (renamed name x) s.parcel }) (entry_shown s dir pl) s) o s) q.found
+      ∙ ap (λ o. option_map_or (λ x. record s { parcel = retitled (block_number s dir place.block) place.slot (renamed name x) s.parcel }) o s) q.shown
+      ∙ ap (λ k. record s { parcel = retitled k place.slot (record e { name = name }) s.parcel }) p.there.is
+
+  -- ---- the slot
+
+  -- the entry fits with the other name
+  fits_named : (inodes : ℕ) → entry_fits inodes e ≡ true → entry_fits inodes (record e { name = name }) ≡ true
+  fits_named inodes f = and_from (ltb 0 e.ino && leb e.ino inodes) (is_name name) (and_parts (ltb 0 e.ino && leb e.ino inodes) (is_name e.name) f).0 q.name
+
+  fits : entry_fits every_number (record e { name = name }) ≡ true
+  fits = fits_named every_number (fits_from every_number (slot_bytes slot page) e p.says)
+
+  short : length (entry_bytes (record e { name = name })) ≤ 256
+  short = omega (arith, length-entry_bytes now fits)
+
+  abbrev new : List ℕ
+  new = front_new desk s dir num slot (entry_bytes now) s.made s.cleared m q.opens p.there.block p.there.slot short
+
+  abbrev writes : WritesDirs s then'
+  writes = front_writes desk s dir num slot (entry_bytes now) s.made s.cleared m q.opens p.there.block p.there.slot short
+
+  slot_then : WritesSlot s then' dir p.there.number place.slot (front_new desk s dir num slot (entry_bytes now) s.made s.cleared m q.opens p.there.block p.there.slot short)
+  slot_then = front_slot desk s dir num slot (entry_bytes now) s.made s.cleared m q.opens p.there.block p.there.slot short
+
+  whole : length (page_in s.parcel p.there.number) ≡ 4096
+  whole = (front_whole desk s dir num slot (entry_bytes now) s.made s.cleared m q.opens p.there.block p.there.slot short).whole
+
+  entry_is : IsEntry every_number (slot_bytes slot (with_part (256 * slot) (entry_bytes now) page)) now
+  entry_is = entry-retitled now page slot whole p.there.slot fits
+
+  says_of : (inodes : ℕ) → entry_fits inodes (record e { name = name }) ≡ true → slot_of inodes new ≡ Entry now
+  says_of inodes f =
+      ap (slot_of inodes) (sym (front_is desk s dir num slot (entry_bytes now) s.made s.cleared m q.opens p.there.block p.there.slot short))
+      ∙ sym (entry_value inodes (slot_bytes slot (with_part (256 * slot) (entry_bytes now) page)) now (record { spelled = entry_is.spelled; narrow = entry_is.narrow; fits = f }))
+
+  says_now : slot_of every_number (slot_bytes slot (page_in then'.parcel p.there.number)) ≡ Entry now
+  says_now = ap (slot_of every_number) (front_then desk s dir num slot (entry_bytes now) s.made s.cleared m q.opens p.there.block p.there.slot short) ∙ says_of every_number fits
+
+  body_kept : body_in_slot slot (page_in then'.parcel p.there.number) ≡ body_in_slot slot (page_in s.parcel p.there.number)
+  body_kept =
+      body-retitled s.parcel num slot now (front_whole desk s dir num slot (entry_bytes now) s.made s.cleared m q.opens p.there.block p.there.slot short) p.there.slot fits
+
+  body_new : body_in_slot 0 new ≡ body_in_slot slot page
+  body_new = front_body desk s dir num slot (entry_bytes now) s.made s.cleared m q.opens p.there.block p.there.slot short ∙ body_kept
+
+  -- ---- files that were made
+
+  body_same : (y : MadeFile) → In y s.made → made_body then' y ≡ made_body s y
+  body_same y i = elim (at_slot_or y num place.slot) [
+    | inr apart ↦
+        body-else s.parcel then'.parcel num slot y.page y.slot (front_edits desk s dir num slot (entry_bytes now) s.made s.cleared m q.opens p.there.block p.there.slot short) apart
+    | inl here ↦
+        ap (λ k. body_in_slot y.slot (page_in then'.parcel k)) here.page
+        ∙ ap (λ k. body_in_slot k (page_in then'.parcel num)) here.slot
+        ∙ body_kept
+        ∙ ap (λ k. body_in_slot k (page_in s.parcel num)) (sym here.slot)
+        ∙ ap (λ k. body_in_slot y.slot (page_in s.parcel k)) (sym here.page)
+  ]
+
+  slots_then : (y : MadeFile) → In y s.made → IsInSlot then' y
+  slots_then y i =
+      let a = m.made.slots y i in
+      let opens : open_kind then' a.directory ≡ Some Directory = open_else s then' writes a.directory refl ∙ a.opens in
+      let block : In y.page (chain_in then' a.directory).blocks = subst (λ (c : Chain). In y.page c.blocks) (sym (chain_else s then' writes a.directory refl)) a.block in
+      elim (at_slot_or y num place.slot) [
+        | inr apart ↦ record {
+          directory = a.directory;
+          opens = opens;
+          block = block;
+          slot = a.slot;
+          entry = a.entry;
+          says =
+              ap (slot_of every_number) (slot_bytes-else s.parcel then'.parcel num slot y.page y.slot (front_edits desk s dir num slot (entry_bytes now) s.made s.cleared m q.opens p.there.block p.there.slot short) apart) ∙ a.says;
+          number = a.number;
+          kind = a.kind;
+        }
+        | inl here ↦
+            let was : Entry a.entry ≡ Entry e =
+            sym a.says ∙ ap (λ k. slot_of every_number (slot_bytes y.slot (page_in s.parcel k))) here.page
+            ∙ ap (λ k. slot_of every_number (slot_bytes k (page_in s.parcel num))) here.slot ∙ p.says in
+            let same : a.entry ≡ e = cc was in
+            record {
+              directory = a.directory;
+              opens = opens;
+              block = block;
+              slot = a.slot;
+              entry = now;
+              says =
+                  ap (λ k. slot_of every_number (slot_bytes y.slot (page_in then'.parcel k))) here.page
+                  ∙ ap (λ k. slot_of every_number (slot_bytes k (page_in then'.parcel num))) here.slot
+                  ∙ says_now;
+              number = ap (λ (z : EntryPart). z.ino) (sym same) ∙ a.number;
+              kind = ap (λ (z : EntryPart). z.kind) (sym same) ∙ a.kind;
+            }
+      ]
+
+  edits_dirs : EditsDirs desk s then'
+  edits_dirs = record {
+    writes = writes;
+    opens = λ k kind o. inl (record {
+      opens = sym (open_else s then' writes k refl) ∙ o;
+      chain = chain_else s then' writes k refl;
+      body = body_else s then' writes k refl (λ y found. body_same y (made_at s k y found).0);
+    });
+    own = λ k i. i;
+    once = m.once;
+    numbers = m.made.numbers;
+    gone = m.made.gone;
+    made_once = m.made.once;
+    apart = λ y i. unlent_still s then' writes y.ino (m.made.apart y i);
+    slots = slots_then;
+  }
+
+  others : OthersStay s then' e.ino
+  others = record { made = λ y i d. (i, body_same y i); found = λ k d. refl }
+
+  -- ---- what is shown
+
+  module _ (nodes nodes' : Nodes) (rows : List (Option Row)) (v : IsView desk (in_hand s) (in_hand then') nodes nodes' rows) where
+    abbrev w : SlotWrite
+    w = write_of desk s then' dir num slot new m writes q.opens slot_then nodes nodes' rows v
+
+    says_before : slot_of desk.sizes.inodes (slot_bytes place.slot (page_in s.parcel p.there.number)) ≡ Entry e
+    says_before = sym (slot_wide desk s dir (in_hand then') nodes nodes' rows m v q.opens num slot p.there.block p.there.slot) ∙ p.says
+
+    are : AreSlotWrites desk (in_hand s) (in_hand then') (write_of desk s then' dir num slot new m writes q.opens slot_then nodes nodes' rows v ∷ [])
+    are = record {
+      each = λ y i. only w (IsSlotWrite desk (in_hand s) (in_hand then')) (slot_write desk s then' dir num slot new m writes q.opens slot_then nodes nodes' rows v) y i;
+      once = refl;
+      bytes = λ k out. core_same desk s then' m writes k out;
+      files = writes.touches.files;
+      pages = writes.touches.pages;
+      lent = writes.touches.lent;
+      holds = writes.touches.holds;
+      inodes = writes.touches.inodes;
+      back = reads_same s then' writes;
+    }
+
+    is_retitle : IsRetitle desk (in_hand s) (in_hand then') (write_of desk s then' dir num slot new m writes q.opens slot_then nodes nodes' rows v) e now
+    is_retitle = record {
+      writes = are;
+      before = says_before;
+      after = says_of desk.sizes.inodes (fits_named desk.sizes.inodes (fits_from desk.sizes.inodes (slot_bytes slot page) e says_before));
+      number = refl;
+      kind = refl;
+      body = body_new;
+      name = λ l i same. free_name desk s dir (in_hand then') nodes nodes' rows m v q.opens name q.free l i same;
+    }
+
+    was_listed : In (listed_on s num slot e) (r desk s dir (in_hand then') nodes nodes' rows m v q.opens).file.entries
+    was_listed = listed desk s dir (in_hand then') nodes nodes' rows m v q.opens num slot e p.there.block p.there.slot p.says
+
+    listed_then : IsListedThen desk s then' e.ino nodes (Some (naming_after (write_of desk s then' dir num slot new m writes q.opens slot_then nodes nodes' rows v) now))
+    listed_then = record {
+      mine = λ y i same.
+          let at = made_slot desk s dir (in_hand then') nodes nodes' rows m v q.opens num slot e p.there.block p.there.slot p.says y i same in
+          let as_met : List ℕ → Met = λ l. record { ino = e.ino; kind = e.kind; parent = w.directory.ino; page = num; slot = place.slot; body = l } in
+          let moved_here : Met → Met = λ z. record z { parent = w.directory.ino } in
+          let body_then : made_body then' y ≡ made_body s y = body_same y i in
+          let with_body : List ℕ → Met = λ l. record { ino = y.ino; kind = y.kind; parent = w.directory.ino; page = y.page; slot = y.slot; body = l } in
+          (w.directory.ino, (subst (λ k. In k (ino_numbers s.parcel.inodes)) same (m.made.numbers y i), ap with_body body_then ∙ ap moved_here at.1 ∙ ap as_met (sym body_new)));
+      made = λ y is.
+          ap (λ (z : Met). is_some (made_file s z.ino)) is.1 ∙ entry_made desk s dir (in_hand then') nodes nodes' rows m v q.opens (listed_on s num slot e) was_listed is.0;
+      rights =
+          λ g is old. named_so (naming_after w now) (λ z. (In z.listed.entry.ino (ino_numbers s.parcel.inodes) → ⊥) → HasRights (rights_in z.listed.entry.kind z.listed.body) (node_at nodes z.listed.entry.ino))
+          (λ old'. subst (λ l. HasRights (rights_in e.kind l) (node_at nodes e.ino)) (sym body_new)
+          (let x = r desk s dir (in_hand then') nodes nodes' rows m v q.opens in
+          m.entries nodes rows x.is.met x.file (listed_on s num slot e) (v.more nodes rows v.shows.possible) x.is.judged x.reads was_listed old')) g is old;
+    }
+
+    turns : StaysTree desk s then' (with_changed e.ino (node_retitled name)) → Turns desk s then' e.ino nodes nodes' rows (with_changed e.ino (node_retitled name))
+    turns tree = record {
+      rewrites = record {
+        writes = w ∷ [];
+        now = Some (naming_after w now);
+        are = are;
+        after = after_retitle desk (in_hand s) (in_hand then') w e now nodes nodes' rows is_retitle v (tree nodes nodes' rows v.shows);
+        listed = listed_then;
+      };
+      shows = (law desk (in_hand s) (in_hand then') w e now m.order is_retitle tree).shows nodes nodes' rows v.shows;
+    }
+
+  pub retitle_changes : StaysTree desk s (retitle dir old name s) (with_changed e.ino (node_retitled name))
+      → Changes desk s (retitle dir old name s) (with_changed e.ino (node_retitled name))
+  retitle_changes tree =
+      let change : Nodes → Nodes = with_changed e.ino (node_retitled name) in
+      let tree' : StaysTree desk s then' (with_changed e.ino (node_retitled name)) = subst (λ y. StaysTree desk s y change) retitle_is tree in
+      subst (λ y. Changes desk s y change) (sym retitle_is)
+      (changes_by desk s then' e.ino change m edits_dirs others (λ nodes nodes' rows v. turns nodes nodes' rows v tree') tree')
+
+  -- ---- what is left
+
+  left : LeavesFiles s then' (dir ∷ []) e.ino
+  left = leaves_files desk s then' (dir ∷ []) e.ino m (record {
+    writes = writes;
+    found = λ k d. refl;
+    bodies = λ y i d. body_same y i;
+    within = λ k i. elim i [
+      | inl same ↦ (dir, inl refl, q.opens, subst (λ j. In j (chain_in s dir).blocks) (sym same) p.there.block)
+      | inr none ↦ absurd none
+    ];
+  })
+
+  slot_has : HasSlot s then' dir place (Some (record e { name = name }))
+  slot_has =
+      has_slot s then' dir place (Some now) q.opens (open_else s then' writes dir refl ∙ q.opens) (chain_else s then' writes dir refl)
+      (blocks_edited s.parcel then'.parcel (chain_in s dir).blocks place.block num slot (Some now)
+      (front_edits desk s dir num slot (entry_bytes now) s.made s.cleared m q.opens p.there.block p.there.slot short)
+      (block_at desk s dir place m q.opens p.there) (ap entry_in says_now))
+
+  pub retitle_left : LeavesRetitled s (retitle dir old name s) dir place (record e { name = name })
+  retitle_left =
+      subst (λ y. LeavesRetitled s y dir place (record e { name = name })) (sym retitle_is)
+      (record { files = left; slot = slot_has; numbers = spare_same s then' writes.touches.inodes (λ k i. i) (λ k i. i) })
+
+pub retitle_shows : RetitleShows
+retitle_shows desk s dir place e old new m open_dir found shown free is tree =
+    retitle_changes desk s dir place e old new (record { may = m; opens = open_dir.directory; found = found; shown = shown; free = free; name = is }) tree
+
+pub retitle_leaves : RetitleLeaves
+retitle_leaves desk s dir place e old new m open_dir found shown free is =
+    retitle_left desk s dir place e old new (record { may = m; opens = open_dir.directory; found = found; shown = shown; free = free; name = is })

@@ -1,0 +1,329 @@
+-- What a session sees of a directory that it has open, by the entries that this reads.
+use Rattle.std.proofs.Common.{◌≡◌, ℕ, ◌/◌, ◌%◌, ◌<◌, true, cond, List, [], length, get_or, Option, Some, None, Ok, sym, refl, ap, ◌∙◌, subst, inl, inr}
+use Rattle.std.specs.Prelude.{is_some, map, slice_get}
+use Rattle.std.specs.List.{filter, find}
+use Rattle.std.specs.Option.{option_and_then, option_map, option_map_or, option_or}
+use Rattle.std.specs.Str.{bytes_eq}
+use Rattle.std.proofs.lemmas.List.{length-map}
+use Rattle.std.proofs.lemmas.Option.{slice_get-get_or, slice_get-map}
+use Rattle.std.proofs.lemmas.Simd.{map-map}
+use Rattle.trio_rights.specs.Row.{Row}
+use Rattle.trio_rights.specs.declared.kind.Kind.{Kind}
+use Rattle.trio_rights.specs.declared.rights.Mode.{Mode}
+use Rattle.trio_rights.specs.declared.kind.Kind.TheVariants.{Directory}
+use Rattle.trio_lists.specs.Lists.{In, gathered, gathered_below}
+use Rattle.trio_lists.specs.Sorting.{sorted_by_name}
+use Rattle.trio_lists.proofs.Members.{In-right, result_then-Ok}
+use Rattle.trio_layout.specs.Chain.{Chain}
+use Rattle.trio_layout.specs.Core.{Core, page_of}
+use Rattle.trio_layout.specs.Entries.{Listed, body_in_slot, entries_on, slot_bytes, slot_entries, with_names_apart}
+use Rattle.trio_layout.specs.JudgedFiles.{written_at}
+use Rattle.trio_layout.specs.Slot.{slot_of}
+use Rattle.trio_layout.specs.Survey.{Met, met_in, plain}
+use Rattle.trio_layout.specs.Within.{entries_where, entries_within}
+use Rattle.trio_layout.specs.declared.slot.EntryPart.{EntryPart}
+use Rattle.trio_layout.specs.declared.slot.SlotRead.{SlotRead}
+use Rattle.trio_layout.specs.declared.slot.SlotRead.TheVariants.{Empty, Entry, Bad}
+use Rattle.trio_layout.proofs.WithinCore.{within_from}
+use Rattle.trio_auxdir.specs.declared.place.Place.{Place}
+use Rattle.trio_auxdir.specs.Places.{place_at, place_of as place_at_name}
+use Rattle.trio_auxdir.specs.Slots.{slot_with, slots_of}
+use Rattle.trio_lease.specs.Shown.{Shown, LentFile, page_at}
+use Rattle.trio_nodes.specs.declared.node.Node.{Node}
+use Rattle.trio_nodes.specs.Nodes.{Nodes, count_in, entry_name, find_named, names_in, node_at}
+use Rattle.trio_surveys.proofs.Sheets.{among_cases}
+use Rattle.trio_surveys.proofs.Places.{below_has, gathered_has}
+use Rattle.trio_desk.specs.Agrees.{HasRights}
+use Rattle.trio_desk.specs.Call.{DeskSeen}
+use Rattle.trio_desk.specs.Contents.{Rights, rights_in, rights_of}
+use Rattle.trio_desk.specs.Edits.{InHand}
+use Rattle.trio_desk.specs.Out.{ino_numbers}
+use Rattle.trio_laws.specs.session.FileEdits.{bare_file, core_in_hand}
+use Rattle.trio_laws.specs.session.Sees.{IsView, Lists}
+use Rattle.trio_laws.specs.session.Takes.{case_in_hand}
+use Rattle.trio_laws.proofs.session.DirNames.{names_in_order}
+use Rattle.trio_laws.proofs.session.Named.{entries_are_in_slots, entry_names, made_is_judged, written_is_judged}
+use Rattle.trio_laws.proofs.session.Namings.{find_map}
+use Rattle.trio_laws.proofs.session.Sees.{sees_judged, sees_made, sees_written}
+use Rattle.trio_laws.proofs.session.Spares.{shown_spares}
+use Rattle.trio_session.specs.Layout.{page_in}
+use Rattle.trio_session.specs.Seen.{MadeFile, SessionSeen, block_shown, body_in, chain_in, dir_pages, entry_count, entry_in, entry_shown, every_number, in_hand, made_file, number_shown, open_kind, pages_shown, place_of, place_shown, read_file, slots_shown}
+use Rattle.trio_session.proofs.Lists.{slice_get-In}
+use Rattle.trio_session.proofs.SlotEdits.{entry_on}
+use Rattle.trio_session.proofs.Slots.{slot_wider}
+use Rattle.trio_edit_laws.specs.DirLaws.{SeesDirectory, names_here}
+use Rattle.trio_edit_laws.specs.Written.{MayEdit}
+use Rattle.trio_edit_laws.proofs.Anew.{body-made, body-written}
+use Rattle.trio_edit_laws.proofs.Hand.{hand_page}
+use Rattle.trio_edit_laws.proofs.Keeps.{place_of_open}
+use Rattle.trio_edit_laws.proofs.Opens.{OpenMade, OpenWritten, open_chained, opened}
+use Rattle.trio_edit_laws.proofs.Whole.{OpenReads, judged_reads, open_reads}
+use Rattle.trio_edit_laws.proofs.directories.Slotted.{entries-parts, has_this_name, length-present, no_spot, not_bad, parts_of, present, slots_of-parts, spot}
+
+-- ---- what is looked at
+
+pub entry_from : (r : SlotRead) (e : EntryPart) → entry_in r ≡ Some e → r ≡ Entry e
+entry_from Empty e h = absurd (let t : None ≡ Some e = h in cc t)
+entry_from (Entry x) e h = ap Entry (let t : Some x ≡ Some e = h in cc t)
+entry_from Bad e h = absurd (let t : None ≡ Some e = h in cc t)
+
+module _ (s : SessionSeen) (dir : ℕ) (o : open_kind s dir ≡ Some Directory) where
+  pub pages_open : pages_shown s dir ≡ map (page_in s.parcel) (chain_in s dir).blocks
+  pages_open = ap (λ k. cond (is_some k) (map (page_in s.parcel) (chain_in s dir).blocks) (option_map_or dir_pages (read_file s dir) [])) o
+
+  pub block_open : (k : ℕ) → block_shown s dir k ≡ option_map (page_in s.parcel) (slice_get (chain_in s dir).blocks k)
+  block_open k =
+      ap (λ q. cond (is_some q) (option_map (page_in s.parcel) (slice_get (chain_in s dir).blocks k)) (option_and_then (λ f. page_at f.blocks k) (read_file s dir))) o
+
+  pub place_open : (name : List ℕ) → place_shown s dir name ≡ place_at_name name (slots_shown s dir)
+  place_open name = ap (λ k. place_of (option_or k (option_map (λ (f : Shown). f.kind) (read_file s dir))) (slots_shown s dir) name) o
+
+-- ---- a directory that is open, as it reads
+
+-- the entry in a slot
+abbrev pub listed_on : SessionSeen → ℕ → ℕ → EntryPart → Listed
+listed_on s n slot e = record { entry = e; page = n; slot = slot; body = body_in_slot slot (page_in s.parcel n) }
+
+module _ (desk : DeskSeen) (s : SessionSeen) (dir : ℕ) (h' : InHand) (nodes nodes' : Nodes) (rows : List (Option Row)) (m : MayEdit desk s)
+    (v : IsView desk (in_hand s) h' nodes nodes' rows) (o : open_kind s dir ≡ Some Directory) where
+  abbrev core : Core
+  core = core_in_hand desk (in_hand s)
+
+  abbrev blocks : List ℕ
+  blocks = (chain_in s dir).blocks
+
+  pub r : OpenReads desk s dir Directory
+  r = open_reads desk s dir Directory h' nodes nodes' rows m v o
+
+  pub there : (n : ℕ) → In n blocks → page_of (core_in_hand desk (in_hand s)) n ≡ Some (page_in s.parcel n)
+  there n i = hand_page desk s n m (m.own n (open_chained s dir n (place_of_open desk s dir Directory m o) (In-right n (chain_in s dir).index (chain_in s dir).blocks i)))
+
+  blocks_are : r.file.chain.blocks ≡ (chain_in s dir).blocks
+  blocks_are = ap (λ (c : Chain). c.blocks) r.chain
+
+  entries_read : entries_within (core_in_hand desk (in_hand s)) Directory (chain_in s dir).blocks ≡ Ok r.file.entries
+  entries_read =
+      ap (λ k. entries_within core k blocks) (sym r.is.kind)
+      ∙ ap (entries_within core r.is.met.kind) (sym blocks_are)
+      ∙ (within_from core r.is.met r.file r.reads).entries
+
+  -- its entries, in order
+  pub parts_read : present (parts_of (map (page_in s.parcel) (chain_in s dir).blocks)) ≡ map (λ (l : Listed). l.entry) r.file.entries
+  parts_read = entries-parts core (page_in s.parcel) blocks r.file.entries there entries_read
+
+  -- each slot is in the grammar
+  pub slot_good : (n slot : ℕ) → In n (chain_in s dir).blocks → slot < 16 → slot_of desk.sizes.inodes (slot_bytes slot (page_in s.parcel n)) ≡ Bad → ⊥
+  unfolding entries_on
+  slot_good n slot i lt bad =
+      let all = result_then-Ok with_names_apart (gathered (λ k. entries_where core.inodes k (page_of core k)) blocks) r.file.entries entries_read in
+      let on = gathered_has (λ k. entries_where core.inodes k (page_of core k)) blocks all.0 n all.1 i in
+      let here : gathered_below (slot_entries core.inodes n (page_in s.parcel n)) 16 ≡ Ok on.0 = ap (entries_where core.inodes n) (sym (there n i)) ∙ on.1 in
+      let one = below_has (slot_entries core.inodes n (page_in s.parcel n)) 16 on.0 slot here lt in
+      not_bad n slot (body_in_slot slot (page_in s.parcel n)) (slot_of core.inodes (slot_bytes slot (page_in s.parcel n))) one.0 one.1 bad
+
+  -- and says the same whatever the image's numbers
+  pub slot_wide : (n slot : ℕ) → In n (chain_in s dir).blocks → slot < 16
+      → slot_of every_number (slot_bytes slot (page_in s.parcel n)) ≡ slot_of desk.sizes.inodes (slot_bytes slot (page_in s.parcel n))
+  slot_wide n slot i lt = slot_wider desk.sizes.inodes (slot_bytes slot (page_in s.parcel n)) (slot_good n slot i lt)
+
+  -- what a slot says is an entry
+  pub listed : (n slot : ℕ) (e : EntryPart) → In n (chain_in s dir).blocks → slot < 16 → slot_of every_number (slot_bytes slot (page_in s.parcel n)) ≡ Entry e
+      → In (listed_on s n slot e) r.file.entries
+  listed n slot e i lt says =
+      (entries_are_in_slots desk (in_hand s) r.is.met r.file (listed_on s n slot e) r.is.kind r.reads).1 (record {
+        block = subst (λ l. In n l) (sym blocks_are) i;
+        slot = lt;
+        bytes = page_in s.parcel n;
+        page = there n i;
+        says = sym (slot_wide n slot i lt) ∙ says;
+        body = refl;
+      })
+
+  -- and each entry is said by a slot
+  pub record IsSaid (l : Listed) : Type 0 where
+    block : In l.page (chain_in s dir).blocks
+    slot : l.slot < 16
+    says : slot_of every_number (slot_bytes l.slot (page_in s.parcel l.page)) ≡ Entry l.entry
+    body : l.body ≡ body_in_slot l.slot (page_in s.parcel l.page)
+
+  pub said : (l : Listed) → In l r.file.entries → IsSaid l
+  said l i =
+      let q = (entries_are_in_slots desk (in_hand s) r.is.met r.file l r.is.kind r.reads).0 i in
+      let block : In l.page blocks = subst (λ k. In l.page k) blocks_are q.block in
+      let bytes : q.bytes ≡ page_in s.parcel l.page = (let t : Some q.bytes ≡ Some (page_in s.parcel l.page) = sym q.page ∙ there l.page block in cc t) in
+      record {
+        block = block;
+        slot = q.slot;
+        says = slot_wide l.page l.slot block q.slot ∙ ap (λ p. slot_of desk.sizes.inodes (slot_bytes l.slot p)) (sym bytes) ∙ q.says;
+        body = q.body ∙ ap (body_in_slot l.slot) bytes;
+      }
+
+  pub lists : Lists nodes' dir r.file.entries
+  lists = subst (λ n. Lists nodes' n r.file.entries) r.is.number (sees_judged desk (in_hand s) h' nodes nodes' rows r.is.met r.file v r.is.judged r.reads)
+
+  -- ---- look-ups
+
+  abbrev pages : List (List ℕ)
+  pages = map (page_in s.parcel) (chain_in s dir).blocks
+
+  slots_are : slots_shown s dir ≡ slots_of every_number (map (page_in s.parcel) (chain_in s dir).blocks)
+  slots_are = ap (slots_of every_number) (pages_open s dir o)
+
+  -- the block and the slot of a place
+  pub entry_at_place : (k j : ℕ) (e : EntryPart) → k < length (map (page_in s.parcel) (chain_in s dir).blocks)
+      → entry_on (get_or (map (page_in s.parcel) (chain_in s dir).blocks) k []) j ≡ Some e
+      → entry_shown s dir (record { block = k; slot = j }) ≡ Some e
+  entry_at_place k j e lt on =
+      ap (option_and_then (λ bytes. entry_in (slot_of every_number (slot_bytes j bytes)))) (block_open s dir o k ∙ sym (slice_get-map (page_in s.parcel) blocks k) ∙ slice_get-get_or pages k [] lt)
+      ∙ on
+
+  find_entry : (name : List ℕ) → option_map (λ (l : Listed). l.entry.ino) (find (λ (l : Listed). bytes_eq l.entry.name name) r.file.entries)
+      ≡ option_map (λ (e : EntryPart). e.ino) (find (has_this_name name) (present (parts_of (map (page_in s.parcel) (chain_in s dir).blocks))))
+  find_entry name =
+      sym (map_then (find (λ (l : Listed). bytes_eq l.entry.name name) r.file.entries))
+      ∙ ap (option_map (λ (e : EntryPart). e.ino)) (sym (find_map (has_this_name name) (λ (l : Listed). l.entry) r.file.entries) ∙ ap (find (has_this_name name)) (sym parts_read))
+    where
+      map_then : (q : Option Listed) → option_map (λ (e : EntryPart). e.ino) (option_map (λ (l : Listed). l.entry) q) ≡ option_map (λ (l : Listed). l.entry.ino) q
+      map_then None = refl
+      map_then (Some l) = refl
+
+  look_up : (name : List ℕ) → find_named nodes' dir name ≡ option_map (number_shown s dir) (place_shown s dir name)
+  look_up name = lists.named name ∙ find_entry name ∙ by (slot_with name (slots_of every_number pages)) refl
+    where
+      place : (q : Option ℕ) → slot_with name (slots_of every_number pages) ≡ q → place_shown s dir name ≡ option_map place_at q
+      place q e = place_open s dir o name ∙ ap (place_at_name name) slots_are ∙ ap (option_map place_at) e
+
+      by : (q : Option ℕ) → slot_with name (slots_of every_number pages) ≡ q
+          → option_map (λ (e : EntryPart). e.ino) (find (has_this_name name) (present (parts_of pages))) ≡ option_map (number_shown s dir) (place_shown s dir name)
+      by None e = ap (option_map (λ (e : EntryPart). e.ino)) (no_spot pages name e) ∙ sym (ap (option_map (number_shown s dir)) (place None e))
+      by (Some i) e =
+          let sp = spot pages name i e in
+          ap (option_map (λ (e : EntryPart). e.ino)) sp.first
+          ∙ ap (λ q. Some (option_map_or (λ (x : EntryPart). x.ino) q 0)) (sym (entry_at_place (i / 16) (i % 16) sp.entry sp.block sp.on))
+          ∙ sym (ap (option_map (number_shown s dir)) (place (Some i) e))
+
+  count_is : count_in nodes' dir ≡ entry_count (slots_shown s dir)
+  count_is =
+      lists.count
+      ∙ sym (length-map r.file.entries (λ (l : Listed). l.entry))
+      ∙ ap (λ (l : List EntryPart). length l) (sym parts_read)
+      ∙ sym (length-present (parts_of pages))
+      ∙ ap (λ l. length (filter is_some l)) (sym (slots_of-parts pages) ∙ sym slots_are)
+
+  names_are : names_in nodes' dir ≡ names_here s dir
+  names_are =
+      names_in_order nodes' dir r.file.entries v.shows.tree lists
+      ∙ ap (sorted_by_name entry_name) (sym (map-map (λ (e : EntryPart). (e.name, e.kind)) (λ (l : Listed). l.entry) r.file.entries) ∙ ap (map (λ (e : EntryPart). (e.name, e.kind))) (sym parts_read))
+      ∙ ap (λ ps. sorted_by_name entry_name (map (λ (e : EntryPart). (e.name, e.kind)) (present (parts_of ps)))) (sym (pages_open s dir o))
+
+  -- ---- rights
+
+  -- a file that stays has the rights that it had
+  rights_kept : (n : ℕ) (rights : Rights) (y : Node) → HasRights rights (node_at nodes n) → node_at nodes' n ≡ Some y → HasRights rights (node_at nodes' n)
+  rights_kept n rights y was now = by (node_at nodes n) refl was
+    where
+      make : Kind → Mode → ℕ → ℕ → Rights
+      make k mode u g = record { kind = k; mode = mode; uid = u; gid = g }
+
+      by : (q : Option Node) → node_at nodes n ≡ q → option_map rights_of q ≡ Some rights → HasRights rights (node_at nodes' n)
+      by None e w = absurd (let t : None ≡ Some rights = w in cc t)
+      by (Some x) e w =
+          let k =
+          (shown_spares (case_in_hand desk rows (in_hand s)) nodes nodes' v.shows.possible.tree v.shows.tree (m.order.among nodes rows (v.more nodes rows v.shows.possible)) v.shows.shows).0 n x y e now in
+          let same : rights_of y ≡ rights_of x =
+          ap (λ a. make a y.mode y.uid y.gid) k.0 ∙ ap (λ a. make x.kind a y.uid y.gid) k.1 ∙ ap (λ a. make x.kind x.mode a y.gid) k.2 ∙ ap (make x.kind x.mode x.uid) k.3 in
+          ap (option_map rights_of) now ∙ ap Some same ∙ w
+
+  -- an entry's file has the rights that its slot shows
+  pub entry_rights : (l : Listed) → In l r.file.entries → HasRights (rights_in l.entry.kind l.body) (node_at nodes' l.entry.ino)
+  entry_rights l i =
+      elim (among_cases l.entry.ino (ino_numbers s.parcel.inodes)) [
+        | inl new ↦ sees_made desk (in_hand s) h' nodes nodes' rows r.is.met r.file l v r.is.judged r.reads i new
+        | inr old ↦
+            let x = lists.each l i in
+            rights_kept l.entry.ino (rights_in l.entry.kind l.body) x.0 (m.entries nodes rows r.is.met r.file l (v.more nodes rows v.shows.possible) r.is.judged r.reads i old) x.1
+      ]
+
+  -- an allotted number that an entry names is that of a file that was made
+  pub entry_made : (l : Listed) → In l r.file.entries → In l.entry.ino (ino_numbers s.parcel.inodes) → is_some (made_file s l.entry.ino) ≡ true
+  entry_made l i new =
+      let x : Met = met_in plain r.is.met.ino l in
+      let named = entry_names desk (in_hand s) h' nodes nodes' rows r.is.met r.file l v r.is.judged r.reads i in
+      m.made.only nodes rows (v.more nodes rows v.shows.possible) x
+      ((made_is_judged desk (in_hand s) h' nodes nodes' rows x v new).1 (record { directory = r.is.met.ino; listed = l }, named, refl)) new
+
+-- a file that is open has, as a node, the rights of its body
+pub open_rights : (desk : DeskSeen) (s : SessionSeen) (ino : ℕ) (kind : Kind) (h' : InHand) (nodes nodes' : Nodes) (rows : List (Option Row)) → MayEdit desk s
+    → IsView desk (in_hand s) h' nodes nodes' rows → open_kind s ino ≡ Some kind
+    → HasRights (rights_in kind (body_in s ino)) (node_at nodes' ino)
+open_rights desk s ino kind h' nodes nodes' rows m v o = elim (opened s ino kind o) [ inl w ↦ written w | inr w ↦ made w ]
+  where
+    written : OpenWritten s ino kind → HasRights (rights_in kind (body_in s ino)) (node_at nodes' ino)
+    written w =
+        let f : LentFile = w.file in
+        let i : In f s.parcel.writes = slice_get-In s.parcel.writes w.place f w.there in
+        let file = judged_reads desk (in_hand s) h' nodes nodes' rows (written_at (bare_file f.stands) None) v (written_is_judged desk (in_hand s) f i) in
+        let same = (m.all.given.writes f i).same in
+        let has = (sees_written desk (in_hand s) h' nodes nodes' rows f file.0 v i same.ino same.kind file.1).0 in
+        subst (λ k. HasRights (rights_in k (body_in s ino)) (node_at nodes' ino)) w.kind_is
+        (subst (λ (b : List ℕ). HasRights (rights_in f.stands.kind b) (node_at nodes' ino)) (sym (body-written s ino f.stands w.none w.shown))
+        (subst (λ n. HasRights (rights_in f.stands.kind f.stands.body) (node_at nodes' n)) w.number has))
+
+    made : OpenMade s ino kind → HasRights (rights_in kind (body_in s ino)) (node_at nodes' ino)
+    made w =
+        let x : MadeFile = w.file in
+        let q = m.made.slots x w.among in
+        let l : Listed = listed_on s x.page x.slot q.entry in
+        let has =
+        entry_rights desk s q.directory h' nodes nodes' rows m v q.opens l (listed desk s q.directory h' nodes nodes' rows m v q.opens x.page x.slot q.entry q.block q.slot q.says) in
+        subst (λ k. HasRights (rights_in k (body_in s ino)) (node_at nodes' ino)) (q.kind ∙ w.kind_is)
+        (subst (λ (b : List ℕ). HasRights (rights_in q.entry.kind b) (node_at nodes' ino)) (sym (body-made s ino x w.found))
+        (subst (λ n. HasRights (rights_in q.entry.kind l.body) (node_at nodes' n)) (q.number ∙ w.number) has))
+
+-- ---- the law
+
+-- an entry that is shown is one that the directory reads
+pub record IsShownHere (s : SessionSeen) (dir : ℕ) (place : Place) (e : EntryPart) : Type 0 where
+  pub number : ℕ
+  pub at : slice_get (chain_in s dir).blocks place.block ≡ Some number
+  pub block : In number (chain_in s dir).blocks
+  pub shown : block_shown s dir place.block ≡ Some (page_in s.parcel number)
+  pub says : slot_of every_number (slot_bytes place.slot (page_in s.parcel number)) ≡ Entry e
+
+pub shown_here : (s : SessionSeen) (dir : ℕ) (place : Place) (e : EntryPart) → open_kind s dir ≡ Some Directory → entry_shown s dir place ≡ Some e → IsShownHere s dir place e
+shown_here s dir place e o h = by (slice_get (chain_in s dir).blocks place.block) refl
+  where
+    by : (q : Option ℕ) → slice_get (chain_in s dir).blocks place.block ≡ q → IsShownHere s dir place e
+    by None at =
+        let none : block_shown s dir place.block ≡ None = block_open s dir o place.block ∙ ap (option_map (page_in s.parcel)) at in
+        absurd (let t : None ≡ Some e = sym (ap (option_and_then (λ bytes. entry_in (slot_of every_number (slot_bytes place.slot bytes)))) none) ∙ h in cc t)
+    by (Some n) at =
+        let block : block_shown s dir place.block ≡ Some (page_in s.parcel n) = block_open s dir o place.block ∙ ap (option_map (page_in s.parcel)) at in
+        record {
+          number = n;
+          at = at;
+          block = slice_get-In (chain_in s dir).blocks place.block n at;
+          shown = block;
+          says = entry_from (slot_of every_number (slot_bytes place.slot (page_in s.parcel n))) e
+              (sym (ap (option_and_then (λ bytes. entry_in (slot_of every_number (slot_bytes place.slot bytes)))) block) ∙ h);
+        }
+
+pub sees_directory : SeesDirectory
+sees_directory desk s dir nodes nodes' rows m o may =
+    let v : IsView desk (in_hand s) (in_hand s) nodes nodes' rows = record { order = m.order; more = λ ns rs p. p; shows = may } in
+    record {
+      rights = open_rights desk s dir Directory (in_hand s) nodes nodes' rows m v o;
+      named = λ name. look_up desk s dir (in_hand s) nodes nodes' rows m v o name;
+      count = count_is desk s dir (in_hand s) nodes nodes' rows m v o;
+      names = names_are desk s dir (in_hand s) nodes nodes' rows m v o;
+      entries = λ place e page lt block shown.
+          let q = shown_here s dir place e o shown in
+          let bytes : page_in s.parcel q.number ≡ page = (let t : Some (page_in s.parcel q.number) ≡ Some page = sym q.shown ∙ block in cc t) in
+          subst (λ p. HasRights (rights_in e.kind (body_in_slot place.slot p)) (node_at nodes' e.ino)) bytes
+          (entry_rights desk s dir (in_hand s) nodes nodes' rows m v o (listed_on s q.number place.slot e)
+          (listed desk s dir (in_hand s) nodes nodes' rows m v o q.number place.slot e q.block lt q.says));
+      made = λ place e lt shown new.
+          let q = shown_here s dir place e o shown in
+          entry_made desk s dir (in_hand s) nodes nodes' rows m v o (listed_on s q.number place.slot e)
+          (listed desk s dir (in_hand s) nodes nodes' rows m v o q.number place.slot e q.block lt q.says) new;
+    }

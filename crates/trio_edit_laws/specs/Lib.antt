@@ -1,0 +1,5 @@
+pub mod Written
+pub mod EditLaws
+pub mod TakingLaws
+pub mod Calls
+pub mod DirLaws

@@ -1,0 +1,61 @@
+-- What is in hand stays in order where bodies and bytes alone are exchanged: its files, holds and numbers are those that it had.
+use Rattle.std.proofs.Common.{◌≡◌, List, [], ◌++◌, Option, sym, ap, ◌∙◌, subst}
+use Rattle.std.specs.Prelude.{map}
+use Rattle.std.proofs.lemmas.Simd.{map-map}
+use Rattle.trio_rights.specs.Row.{Row}
+use Rattle.trio_rights.specs.Bundle.{Bundle, Written}
+use Rattle.trio_lists.specs.Lists.{In, are_new}
+use Rattle.trio_layout.specs.Case.{Case}
+use Rattle.trio_lease.specs.Shown.{LentFile}
+use Rattle.trio_lease.specs.Views.{written_in}
+use Rattle.trio_lease.specs.declared.parts.HoldParts.{HoldParts}
+use Rattle.trio_lease.specs.declared.parts.InoParts.{InoParts}
+use Rattle.trio_nodes.specs.Nodes.{Nodes}
+use Rattle.trio_desk.specs.Call.{DeskSeen}
+use Rattle.trio_desk.specs.Among.{IsAmong}
+use Rattle.trio_desk.specs.Ready.{ArePossible, bundle_of, lent_files}
+use Rattle.trio_desk.specs.Edits.{InHand}
+use Rattle.trio_laws.specs.session.Takes.{IsInOrder, case_in_hand, pages_in_hand}
+use Rattle.trio_laws.proofs.session.Again.{hand_files_once, possible_with_less}
+use Rattle.trio_laws.proofs.session.Ruled.{case_with}
+use Rattle.trio_laws.proofs.session.TakenHold.{held_by}
+
+-- the bundle then, by the holds and the numbers of before
+abbrev pub bundle_then : InHand → InHand → Bundle
+bundle_then h h' = record { writes = (bundle_of h'.parcel).writes; holds = (bundle_of h.parcel).holds; pages = (bundle_of h'.parcel).pages; numbers = (bundle_of h.parcel).numbers }
+
+module _ (desk : DeskSeen) (h h' : InHand) (holds : h'.parcel.holds ≡ h.parcel.holds) (inodes : h'.parcel.inodes ≡ h.parcel.inodes) where
+  pub case_is : (rows : List (Option Row)) → case_in_hand desk rows h' ≡ case_with desk.sizes desk.creds rows (bundle_then h h') (map held_by h.parcel.holds)
+  case_is rows =
+      let by : List HoldParts → List InoParts → Case =
+      λ k n. case_with desk.sizes desk.creds rows (record { writes = (bundle_of h'.parcel).writes; holds = map (λ (x : HoldParts). x.ino) k; pages = (bundle_of h'.parcel).pages; numbers = map (λ (x : InoParts). x.no) n }) (map held_by k) in
+      ap (λ k. by k h'.parcel.inodes) holds ∙ ap (by h.parcel.holds) inodes
+
+  module _ (lent : lent_files h'.parcel.writes ≡ lent_files h.parcel.writes) (back : h'.back ≡ h.back) where
+    -- what is possible then was possible
+    pub possible_before : (nodes : Nodes) (rows : List (Option Row)) → ArePossible desk h'.parcel h'.back nodes rows → ArePossible desk h.parcel h.back nodes rows
+    possible_before =
+        possible_with_less desk h.parcel h'.parcel h.back h'.back
+        (λ x i. subst (λ l. In x (l ++ h'.back)) (sym lent) (subst (λ l. In x (lent_files h.parcel.writes ++ l)) (sym back) i))
+        (λ k i. subst (λ l. In k l) (sym holds) i) (λ n i. subst (λ (l : List InoParts). In n (map (λ (x : InoParts). x.no) l)) (sym inodes) i)
+
+    pub order_stays :
+        map (λ (w : Written). w.ino) (bundle_of h'.parcel).writes ≡ map (λ (w : Written). w.ino) (bundle_of h.parcel).writes
+        → pages_in_hand h' ≡ pages_in_hand h → IsInOrder desk h → IsInOrder desk h'
+    order_stays numbers pages o = record {
+      among = λ nodes rows possible.
+          let a : IsAmong (case_in_hand desk rows h) nodes = o.among nodes rows (possible_before nodes rows possible) in
+          let then : IsAmong (case_with desk.sizes desk.creds rows (bundle_then h h') (map held_by h.parcel.holds)) nodes =
+          record {
+            same = a.same;
+            written = λ n i. a.written n (subst (λ l. In n l) numbers i);
+            held = a.held;
+            apart = λ n i j. a.apart n i (subst (λ l. In n l) numbers j);
+            closed = λ n r i e. subst (λ l. In r.parent l) (sym numbers) (a.closed n r i e);
+            new = a.new;
+          } in
+          subst (λ (x : Case). IsAmong x nodes) (sym (case_is rows)) then;
+      pages = ap (are_new []) pages ∙ o.pages;
+      files =
+          ap (are_new []) (sym (map-map (λ (x : Written). x.ino) (λ (x : LentFile). written_in x.stands) h'.parcel.writes) ∙ numbers) ∙ hand_files_once desk h o;
+    }

@@ -1,0 +1,6 @@
+use Rattle.std.proofs.Common.{◌≡◌, take}
+use Rattle.trio_names.specs.Path.{parts_bytes}
+use Rattle.trio_runner.proofs.copies.spelled.Given as goal
+
+abbrev pub invariant-loop-name : goal.invariant-loop-name
+invariant-loop-name l = l.bytes.items ≡ parts_bytes (take l.name-index l.names)

@@ -1,0 +1,64 @@
+-- What a line of an honest library comes to: a call of a file by the library's session, or a settle.
+use Rattle.std.specs.Prelude.{◌≡◌, List, [], ◌++◌, length, Option, None, Some}
+use Rattle.trio_rights.specs.declared.rights.LibNo.{LibNo}
+use Rattle.trio_nodes.specs.declared.call.Call as call
+use Rattle.trio_desk.specs.Call.{Ask, Told, DeskSeen}
+use Rattle.trio_desk.specs.Calls.{Call}
+use Rattle.trio_state.specs.State.{State}
+use Rattle.trio_state.specs.Run.{Move}
+use Rattle.trio_ctl.specs.Desk.{Happens, desk_of}
+use Rattle.trio_session.specs.Seen.{SessionSeen}
+use Rattle.trio_edit_laws.specs.Calls.{MayCall}
+use Rattle.trio_walk.specs.Asks.{Settles}
+use Rattle.trio_walk.specs.declared.outcome.Outcome.{Outcome}
+use Rattle.trio_walk.specs.declared.outcome.Outcome.TheVariants.{Replied, Busy, NoMemory}
+use Rattle.trio_calls_file.specs.Asks.{FileCalled}
+use Rattle.trio_script.specs.declared.honest.HonestLine.{HonestLine}
+use Rattle.trio_script.specs.declared.honest.HonestLine.TheVariants.{Call as CallLine, Settle as SettleLine}
+use Rattle.trio_report.specs.declared.answer.LineAnswer.{LineAnswer}
+use Rattle.trio_report.specs.declared.answer.LineAnswer.TheVariants as answered
+use Rattle.trio_runner.specs.Moves.{AreMoves, apart}
+
+-- ---- the controller in a turn
+
+-- the controller's state, and the calls and moves of the turn so far
+pub record Noted : Type 0 where
+  pub state : State
+  pub calls : List Call
+  pub moves : List Move
+
+-- nothing has been called
+abbrev pub unnoted : State → Noted
+unnoted s = record { state = s; calls = []; moves = [] }
+
+-- a call of the library happens, and its moves stand behind those so far
+pub record Notes (lib : LibNo) (d : Noted) (ask : Ask) (told : Told) (d' : Noted) : Type 0 where
+  pub happens : Happens d.state lib ask told d'.state
+  pub more : List Move
+  pub are_moves : AreMoves lib d.state (apart ask told) more d'.state
+  pub calls_are : d'.calls ≡ d.calls ++ apart ask told
+  pub moves_are : d'.moves ≡ d.moves ++ more
+
+-- what the library sees of its desk
+abbrev pub sees : LibNo → Noted → DeskSeen
+sees lib d = desk_of d.state lib
+
+-- ---- a line
+
+-- how it is told that a call has ended; want of memory isn't
+abbrev pub told_outcome : Outcome → Option LineAnswer
+told_outcome (Replied reply) = Some (answered.Replied reply)
+told_outcome (Busy holder) = Some answered.Busy
+told_outcome NoMemory = None
+
+-- A call of a file at a desk: which calls of the desk it makes, how it is told, what the session is then, and that it may go on.
+pub record CallComes {D : Type 0} (called : D → Ask → Told → D → Type 0) (seen : D → DeskSeen) (d : D) (s : SessionSeen) (k : call.Call) (told : LineAnswer) (d' : D) (s' : SessionSeen) : Type 0 where
+  pub end : Outcome
+  pub made : FileCalled called seen d s k end d' s'
+  pub told_is : told_outcome end ≡ Some told
+  pub may : MayCall (seen d') s'
+
+-- what a line comes to at a desk; a settle is told how many calls it handed in
+abbrev pub HonestComes : {D : Type 0} → (D → Ask → Told → D → Type 0) → (D → DeskSeen) → D → SessionSeen → HonestLine → LineAnswer → D → SessionSeen → Type 0
+HonestComes called seen d s (CallLine k) told d' s' = CallComes called seen d s k told d' s'
+HonestComes called seen d s SettleLine told d' s' = Settles called d s d' s' × (told ≡ answered.Settled (length s.calls))

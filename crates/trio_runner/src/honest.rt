@@ -1,0 +1,51 @@
+//! A line of an honest library, played by its session at its desk.
+
+ghost use Rattle.std.specs.Prelude.{◌≡◌, true, IfOk, length};
+ghost use Rattle.trio_edit_laws.specs.Calls.{MayCall};
+ghost use Rattle.trio_walk.specs.Asks.{Settles};
+ghost use Rattle.trio_runner.specs.Honest.{HonestComes};
+ghost use Rattle.trio_runner.specs.Built.{is_built};
+
+use crate::copies::copied;
+use std::alloc::Global;
+use trio_calls_file::file_call;
+use trio_desk::Desk;
+use trio_page::NoMemory;
+use trio_report::LineAnswer;
+use trio_script::HonestLine;
+use trio_session::Session;
+use trio_walk::Outcome;
+
+/// Plays one line at the library's desk. After want of memory the session may still have things.
+pub(crate) fn play_honest<D: Desk>(
+    alloc: Global,
+    desk: &mut D,
+    session: &mut Session,
+    line: &HonestLine,
+) -> Result<LineAnswer, NoMemory>
+    requires may { MayCall (D.seen desk.old) session.old }
+    requires built { is_built line.now ≡ true }
+    ensures line { IfOk result (λ told. HonestComes D.called D.seen desk.old session.old line.now told desk.new session.new) }
+    ensures may { MayCall (D.seen desk.new) session.new }
+{
+    match line {
+        HonestLine::Call(call) => {
+            let call = copied(alloc, call)?;
+            match file_call(alloc, session, desk, call) {
+                Outcome::Replied(reply) => Ok(LineAnswer::Replied(reply)),
+                Outcome::Busy(_) => Ok(LineAnswer::Busy),
+                Outcome::NoMemory => Err(NoMemory),
+            }
+        }
+        HonestLine::Settle => Ok(LineAnswer::Settled(play_settle(desk, session)?)),
+    }
+}
+
+/// Settles a session at its desk: how many calls it handed in.
+pub(crate) fn play_settle<D: Desk>(desk: &mut D, session: &mut Session) -> Result<u32, NoMemory>
+    requires may { MayCall (D.seen desk.old) session.old }
+    ensures settles { IfOk result (λ count. Settles D.called desk.old session.old desk.new session.new × (count ≡ length session.old.calls)) }
+    ensures may { MayCall (D.seen desk.new) session.new }
+{
+    session.settle(desk)
+}

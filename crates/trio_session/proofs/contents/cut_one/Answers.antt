@@ -1,0 +1,57 @@
+use Rattle.std.proofs.Common.{◌≡◌, Bool, eqb, false, true, length, ◌<◌, refl, sym, ap, ◌∙◌, inl, inr, subst}
+use Rattle.std.specs.Prelude.{None, Some}
+use Rattle.std.specs.List.{position}
+use Rattle.std.specs.Option.{is_some}
+use Rattle.std.proofs.lemmas.Option.{slice_get-get_or}
+use Rattle.trio_lease.specs.Shown.{LentFile}
+use Rattle.trio_session.specs.inner.Found.{AmongMade, AmongWritten, CutDone, MadeAnew, WrittenAnew}
+use Rattle.trio_session.specs.declared.laid.FilePlace.TheVariants.{Leased}
+use Rattle.trio_session.specs.declared.made.Made.{Made}
+use Rattle.trio_session.proofs.Found.{find-position, position-same, slice_get-found}
+use Rattle.trio_session.proofs.contents.cut_one.Goals as goal
+
+pub cut_file-requires : goal.cut_file-requires
+cut_file-requires c =
+    let p : Made → Bool = λ x. eqb x.ino c.args.ino in
+    let at = position-same p c.args.made.now.items c.deref.result.now c.made_of.result (Some c.in-Some.at) c.deref.ensures.value c.made_of.ensures c.in-Some.is in
+    let m = c.index_mut-one.result.now in
+    c.requires.may c.file-file.result m.laid (AmongMade c.in-Some.at m at (slice_get-found p c.args.made.now.items c.in-Some.at m at c.index_mut-one.ensures.value) c.file-file.ensures refl)
+
+pub unwrap-at-requires : goal.unwrap-at-requires
+unwrap-at-requires c =
+    let p : Made → Bool = λ x. eqb x.ino c.args.ino in
+    let none = position-same p c.args.made.now.items c.deref.result.now c.made_of.result None c.deref.ensures.value c.made_of.ensures c.in-None.is in
+    rw c.file_of.ensures (elim c.requires.there [
+      | inl made ↦ absurd (let t : false ≡ true = sym (ap is_some none) ∙ made in cc t)
+      | inr written ↦ written
+    ])
+
+pub cut_file-requires-in-None : goal.cut_file-requires-in-None
+cut_file-requires-in-None c =
+    let p : Made → Bool = λ x. eqb x.ino c.args.ino in
+    let q : LentFile → Bool = λ f. eqb f.stands.ino c.args.ino in
+    let none = position-same p c.args.made.now.items c.deref.result.now c.made_of.result None c.deref.ensures.value c.made_of.ensures c.in-None.is in
+    let at : position q c.args.stock.now.writes ≡ Some c.unwrap-at.result = sym c.file_of.ensures ∙ c.unwrap-at.ensures in
+    let lt : c.unwrap-at.result < length c.args.laid.now.items = rw c.requires.beside (find-position q c.args.stock.now.writes c.unwrap-at.result at).1 in
+    let l = c.index_mut.result.now in
+    let there = slice_get-get_or c.args.laid.now.items c.unwrap-at.result l lt ∙ ap Some (sym c.index_mut.ensures.value) in
+    c.requires.may (Leased c.unwrap-at.result) l (AmongWritten c.unwrap-at.result none at there refl)
+
+pub returns-in-Some-clause-relaid : goal.returns-in-Some-clause-relaid
+returns-in-Some-clause-relaid c =
+    let p : Made → Bool = λ x. eqb x.ino c.args.ino in
+    let at = position-same p c.args.made.now.items c.deref.result.now c.made_of.result (Some c.in-Some.at) c.deref.ensures.value c.made_of.ensures c.in-Some.is in
+    let m = c.index_mut-one.result.now in
+    let there = slice_get-found p c.args.made.now.items c.in-Some.at m at c.index_mut-one.ensures.value in
+    MadeAnew c.in-Some.at m c.cut_file.new.laid at there (subst (λ f. CutDone c.args.stock.now c.cut_file.new.stock c.args.size f m.laid c.cut_file.new.laid) c.file-file.ensures c.cut_file.ensures) refl refl
+
+pub returns-in-None-clause-relaid : goal.returns-in-None-clause-relaid
+returns-in-None-clause-relaid c =
+    let p : Made → Bool = λ x. eqb x.ino c.args.ino in
+    let q : LentFile → Bool = λ f. eqb f.stands.ino c.args.ino in
+    let none = position-same p c.args.made.now.items c.deref.result.now c.made_of.result None c.deref.ensures.value c.made_of.ensures c.in-None.is in
+    let at : position q c.args.stock.now.writes ≡ Some c.unwrap-at.result = sym c.file_of.ensures ∙ c.unwrap-at.ensures in
+    let lt : c.unwrap-at.result < length c.args.laid.now.items = rw c.requires.beside (find-position q c.args.stock.now.writes c.unwrap-at.result at).1 in
+    let l = c.index_mut.result.now in
+    let there = slice_get-get_or c.args.laid.now.items c.unwrap-at.result l lt ∙ ap Some (sym c.index_mut.ensures.value) in
+    WrittenAnew c.unwrap-at.result l c.cut_file-in-None.new.laid none at there c.cut_file-in-None.ensures refl refl

@@ -1,0 +1,20 @@
+use Rattle.std.proofs.Common.{◌≡◌, Bool, eqb, List, refl, ap, sym, ◌∙◌}
+use Rattle.std.specs.Prelude.{None, Some, slice_get}
+use Rattle.std.specs.List.{remove}
+use Rattle.trio_session.specs.inner.Found.{Fresh, Kept}
+use Rattle.trio_session.specs.declared.made.Made.{Made}
+use Rattle.trio_session.proofs.Found.{position-same, slice_get-found}
+use Rattle.trio_session.proofs.entries.take_laid.Goals as goal
+
+pub returns-in-Some-clause-taken : goal.returns-in-Some-clause-taken
+returns-in-Some-clause-taken c =
+    let cs = c.args.cleared.now.items in
+    let p : Made → Bool = λ x. eqb x.ino c.args.ino in
+    let at = position-same p cs c.deref.result.now c.made_of.result (Some c.in-Some.at) c.deref.ensures.value c.made_of.ensures c.in-Some.is in
+    Kept c.in-Some.at c.remove-laid.result at (slice_get-found p cs c.in-Some.at c.remove-laid.result at c.remove-laid.ensures.value) refl c.remove-laid.ensures.items
+
+pub returns-in-None-clause-taken : goal.returns-in-None-clause-taken
+returns-in-None-clause-taken c =
+    let p : Made → Bool = λ x. eqb x.ino c.args.ino in
+    let none = position-same p c.args.cleared.now.items c.deref.result.now c.made_of.result None c.deref.ensures.value c.made_of.ensures c.in-None.is in
+    Fresh none c.new.ensures.index_kept c.new.ensures.blocks_kept c.new.ensures.index_more c.new.ensures.blocks_more refl

@@ -1,0 +1,5 @@
+use Rattle.trio_session_tests.proofs.Turns.{first_played}
+use Rattle.trio_session_tests.proofs.pairs.first_plays.Goals as goal
+
+pub returns : goal.returns
+returns c = first_played c.args.ctl.now.state c.play.new.ctl.state c.args.first.now c.play.new.session c.args.second.now c.requires.playing c.play.ensures.may c.play.ensures.turn

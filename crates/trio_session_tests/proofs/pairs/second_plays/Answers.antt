@@ -1,0 +1,5 @@
+use Rattle.trio_session_tests.proofs.Turns.{second_played}
+use Rattle.trio_session_tests.proofs.pairs.second_plays.Goals as goal
+
+pub returns : goal.returns
+returns c = second_played c.args.ctl.now.state c.play.new.ctl.state c.args.first.now c.args.second.now c.play.new.session c.requires.playing c.play.ensures.may c.play.ensures.turn

@@ -1,0 +1,5 @@
+use Rattle.trio_session_tests.specs.Turns.{ArePlaying}
+use Rattle.trio_session_tests.proofs.random.are_fair.Given as goal
+
+abbrev pub invariant-loop : goal.invariant-loop
+invariant-loop l = ArePlaying l.ctl.state l.first l.second

@@ -1,0 +1,45 @@
+-- Honest sessions at desks of one controller, in turns.
+use Rattle.std.specs.Prelude.{◌≡◌, List}
+use Rattle.trio_rights.specs.declared.rights.LibNo.{LibNo}
+use Rattle.trio_desk.specs.Call.{Ask, Told}
+use Rattle.trio_desk.specs.Calls.{Call, Calls}
+use Rattle.trio_desk.specs.Out.{OutAlike, nothing_out}
+use Rattle.trio_state.specs.State.{State}
+use Rattle.trio_session.specs.Seen.{SessionSeen}
+use Rattle.trio_edit_laws.specs.Calls.{MayCall}
+use Rattle.trio_ctl.specs.Ctl.{IsLibrary}
+use Rattle.trio_ctl.specs.Desk.{desk_of, out_of}
+
+-- the three libraries of a test
+abbrev pub first_lib : LibNo
+first_lib = record { 0 = 1 }
+
+abbrev pub second_lib : LibNo
+second_lib = record { 0 = 2 }
+
+abbrev pub third_lib : LibNo
+third_lib = record { 0 = 3 }
+
+-- nothing is out to anybody
+abbrev pub NothingIsOut : State → Type 0
+NothingIsOut s = (lib : LibNo) → OutAlike (out_of s lib) nothing_out
+
+-- a library may go on with its session
+pub record MayPlay (s : State) (lib : LibNo) (session : SessionSeen) : Type 0 where
+  pub library : IsLibrary lib s
+  pub may : MayCall (desk_of s lib) session
+
+-- the first two may, and the third is there
+pub record ArePlaying (s : State) (first' second' : SessionSeen) : Type 0 where
+  pub first : MayPlay s first_lib first'
+  pub second : MayPlay s second_lib second'
+  pub third : IsLibrary third_lib s
+
+-- some calls lead from one desk to another
+abbrev pub SomeCalls : {D : Type 0} → (D → Ask → Told → D → Type 0) → D → D → Type 0
+SomeCalls called d d' = (cs : List Call) × Calls called d cs d'
+
+-- A turn of one library: no library comes or goes, and what is seen of another's desk stays.
+pub record IsTurn (lib : LibNo) (s s' : State) : Type 0 where
+  pub libraries : s'.creds ≡ s.creds
+  pub others : (other : LibNo) → (other.0 ≡ lib.0 → ⊥) → desk_of s' other ≡ desk_of s other

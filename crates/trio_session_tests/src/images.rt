@@ -1,0 +1,102 @@
+//! Images that the tests start from.
+
+ghost use Rattle.std.specs.Prelude.{◌≡◌, IfSome, length};
+ghost use Rattle.trio_session_tests.specs.Turns.{NothingIsOut};
+
+use std::alloc::Global;
+use trio_ctl::Ctl;
+use trio_image::{Image, load};
+use trio_io::SureFiles;
+use trio_page::NoMemory;
+use trio_rights::{Creds, Mode};
+use trio_samples::files::{root, three_files};
+use trio_samples::{Sample, SampleFile, directory, regular};
+
+/// Images of one or two directories with a few files.
+#[derive(Clone, Copy)]
+pub enum Start {
+    /// 32 pages and 64 inode numbers: the directory `a`, number 2, with the file `f`, number 3, of the
+    /// five bytes `hello`. The root has pages 3 and 4, `a` 5 and 6, `f` 7 and 8.
+    OneFile,
+    /// 1024 pages and 64 inode numbers: the empty file `f`, number 2.
+    Large,
+    /// 64 pages and 64 inode numbers: `a`, number 2, with `f`, 3, and `g`, 4, which all may write;
+    /// `h`, 5, which its owner alone may write and others may read; and `p`, 6, a directory that its
+    /// owner alone may enter, with `q`, 7.
+    Several,
+    /// 32 pages and 64 inode numbers: the directories `a`, `a/b`, and so on to `a/b/c/d/e/f/g/h`,
+    /// numbers 2 to 9, and in the last one the file `x`, number 10, of the five bytes `hello`.
+    Deep,
+}
+
+/// The bytes of an image.
+pub fn image_bytes(alloc: Global, start: Start) -> Result<Vec<u8>, NoMemory> {
+    match start {
+        Start::OneFile => Sample::small(alloc, &three_files())?.bytes(alloc),
+        Start::Large => Sample::of(alloc, 1024, 64, &[root(), regular(2, 1, b"f", b"")])?.bytes(
+            alloc,
+        ),
+        Start::Several => Sample::of(alloc, 64, 64, &several())?.bytes(alloc),
+        Start::Deep => Sample::small(alloc, &deep())?.bytes(alloc),
+    }
+}
+
+fn several<'a>() -> [SampleFile<'a>; 7] {
+    let shared = Mode(0o666);
+    [
+        root(),
+        directory(2, 1, b"a"),
+        SampleFile {
+            mode: shared,
+            ..regular(3, 2, b"f", b"hello")
+        },
+        SampleFile {
+            mode: shared,
+            ..regular(4, 2, b"g", b"")
+        },
+        regular(5, 1, b"h", b"one and two"),
+        SampleFile {
+            mode: Mode(0o700),
+            ..directory(6, 1, b"p")
+        },
+        regular(7, 6, b"q", b"hidden"),
+    ]
+}
+
+fn deep<'a>() -> [SampleFile<'a>; 10] {
+    [
+        root(),
+        directory(2, 1, b"a"),
+        directory(3, 2, b"b"),
+        directory(4, 3, b"c"),
+        directory(5, 4, b"d"),
+        directory(6, 5, b"e"),
+        directory(7, 6, b"f"),
+        directory(8, 7, b"g"),
+        directory(9, 8, b"h"),
+        regular(10, 9, b"x", b"hello"),
+    ]
+}
+
+/// The image of these bytes.
+pub fn image_of(alloc: Global, bytes: &[u8]) -> Option<Image> {
+    let names = vec![in alloc; String::from_str(alloc, "a.img").ok()?].ok()?;
+    let mut files = SureFiles::new(alloc, names).ok()?;
+    files.hold("a.img", bytes.to_vec(alloc).ok()?);
+    if !files.serves("a.img") {
+        return None;
+    }
+    load(alloc, &mut files, "a.img").ok()
+}
+
+/// A controller over an image, for three libraries: of uid 0, of uid 5, and of uid 0.
+pub fn started(alloc: Global, start: Start) -> Option<Ctl>
+    ensures three { IfSome result (λ ctl. length ctl.state.creds ≡ 3) }
+    ensures none { IfSome result (λ ctl. NothingIsOut ctl.state) }
+{
+    let image = image_of(alloc, &image_bytes(alloc, start).ok()?)?;
+    let libs = vec![in alloc; ROOT, Creds { uid: 5, gid: 5 }, ROOT].ok()?;
+    Ctl::start(alloc, image, libs).ok()
+}
+
+const ROOT: Creds = Creds { uid: 0, gid: 0 };

@@ -1,0 +1,16 @@
+//! Tests of honest libraries over desks of one controller: the calls on files, one after another and
+//! in turns, with what the image has after each settle.
+#![tactic(auto)]
+
+#[cfg(test)]
+mod images;
+#[cfg(test)]
+mod large;
+#[cfg(test)]
+mod pairs;
+#[cfg(test)]
+mod play;
+#[cfg(test)]
+mod random;
+#[cfg(test)]
+mod rows;

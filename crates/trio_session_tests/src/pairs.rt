@@ -1,0 +1,58 @@
+//! Turns of two libraries, each at its own desk, beside a third one.
+
+ghost use Rattle.trio_calls_file.specs.Asks.{IsFileCall};
+ghost use Rattle.trio_session_tests.specs.Turns.{ArePlaying};
+
+use crate::play::{play, settle};
+use std::alloc::Global;
+use trio_ctl::Ctl;
+use trio_nodes::Call;
+use trio_rights::LibNo;
+use trio_session::Session;
+use trio_walk::Outcome;
+
+/// A call of the first library.
+pub fn first_plays(
+    alloc: Global,
+    ctl: &mut Ctl,
+    first: &mut Session,
+    second: &Session,
+    call: Call,
+) -> Outcome
+    requires playing { ArePlaying ctl.old.state first.old second.now }
+    requires file { IsFileCall call }
+    ensures { ArePlaying ctl.new.state first.new second.now }
+{
+    play(alloc, ctl, LibNo(1), first, call)
+}
+
+/// A call of the second library.
+pub fn second_plays(
+    alloc: Global,
+    ctl: &mut Ctl,
+    first: &Session,
+    second: &mut Session,
+    call: Call,
+) -> Outcome
+    requires playing { ArePlaying ctl.old.state first.now second.old }
+    requires file { IsFileCall call }
+    ensures { ArePlaying ctl.new.state first.now second.new }
+{
+    play(alloc, ctl, LibNo(2), second, call)
+}
+
+/// A settle of the first library.
+pub fn first_settles(ctl: &mut Ctl, first: &mut Session, second: &Session) -> Option<u32>
+    requires playing { ArePlaying ctl.old.state first.old second.now }
+    ensures { ArePlaying ctl.new.state first.new second.now }
+{
+    settle(ctl, LibNo(1), first)
+}
+
+/// A settle of the second library.
+pub fn second_settles(ctl: &mut Ctl, first: &Session, second: &mut Session) -> Option<u32>
+    requires playing { ArePlaying ctl.old.state first.now second.old }
+    ensures { ArePlaying ctl.new.state first.now second.new }
+{
+    settle(ctl, LibNo(2), second)
+}

@@ -1,0 +1,168 @@
+//! Calls of a library at its own desk, and what they are told.
+
+ghost use Rattle.std.specs.Prelude.{◌≡◌, ◌≤◌, IfSome, length};
+ghost use Rattle.trio_calls_file.specs.Asks.{IsFileCall};
+ghost use Rattle.trio_session_tests.specs.Turns.{IsTurn, MayPlay, NothingIsOut};
+
+use std::alloc::Global;
+use trio_calls_file::file_call;
+use trio_ctl::{Ctl, PlainDesk};
+use trio_desk::Desk;
+use trio_names::Path;
+use trio_nodes::{Answer, Bytes, Call, Reply};
+use trio_rights::{Kind, LibNo};
+use trio_session::Session;
+use trio_walk::Outcome;
+
+/// A call on a file, by its path.
+#[derive(Clone, Copy)]
+pub enum Ask<'a> {
+    Write(&'a [u8], u64, &'a [u8]),
+    Read(&'a [u8], u64, u32),
+    Truncate(&'a [u8], u64),
+    Stat(&'a [u8]),
+}
+
+/// The call itself. At most 4096 bytes are read, and none is made that writes more.
+pub fn call_of(alloc: Global, ask: Ask) -> Option<Call>
+    ensures { IfSome result IsFileCall }
+{
+    Some(match ask {
+        Ask::Write(path, at, bytes) => Call::Write {
+            path: Path::read(alloc, path).ok()?,
+            at,
+            bytes: block_of(alloc, bytes)?,
+        },
+        Ask::Read(path, at, len) => Call::Read {
+            path: Path::read(alloc, path).ok()?,
+            at,
+            len: len.min(4096),
+        },
+        Ask::Truncate(path, size) => Call::Truncate {
+            path: Path::read(alloc, path).ok()?,
+            size,
+        },
+        Ask::Stat(path) => Call::Stat {
+            path: Path::read(alloc, path).ok()?,
+        },
+    })
+}
+
+// A copy of bytes, if they are no more than a block has.
+fn block_of(alloc: Global, bytes: &[u8]) -> Option<Bytes>
+    ensures { IfSome result (λ copy. length copy ≤ 4096) }
+{
+    if bytes.len() > 4096 {
+        return None;
+    }
+    Bytes::copied(alloc, bytes).ok()
+}
+
+/// A session of a library to which nothing is out.
+pub fn seated(alloc: Global, ctl: &mut Ctl, lib: LibNo) -> Session
+    requires three { length ctl.old.state.creds ≡ 3 }
+    requires one { 1 ≤ lib.0 }
+    requires few { lib.0 ≤ 3 }
+    requires none { NothingIsOut ctl.old.state }
+    ensures may { MayPlay ctl.new.state lib result }
+    ensures kept { ctl.new.state ≡ ctl.old.state }
+{
+    let desk = PlainDesk::of(ctl, lib);
+    Session::new(alloc, lib, desk.creds())
+}
+
+/// One call of a library at its desk.
+pub fn play(alloc: Global, ctl: &mut Ctl, lib: LibNo, session: &mut Session, call: Call) -> Outcome
+    requires may { MayPlay ctl.old.state lib session.old }
+    requires file { IsFileCall call }
+    ensures may { MayPlay ctl.new.state lib session.new }
+    ensures turn { IsTurn lib ctl.old.state ctl.new.state }
+{
+    ctl.is_recorded();
+    ctl.is_as_told();
+    let mut desk = PlainDesk::of(ctl, lib);
+    file_call(alloc, session, &mut desk, call)
+}
+
+/// A settle of a library at its desk: the number of calls handed in.
+pub fn settle(ctl: &mut Ctl, lib: LibNo, session: &mut Session) -> Option<u32>
+    requires { MayPlay ctl.old.state lib session.old }
+    ensures may { MayPlay ctl.new.state lib session.new }
+    ensures turn { IsTurn lib ctl.old.state ctl.new.state }
+{
+    ctl.is_recorded();
+    ctl.is_as_told();
+    let mut desk = PlainDesk::of(ctl, lib);
+    session.settle(&mut desk).ok()
+}
+
+/// Whether a call of a library is told so.
+pub fn is_told(
+    alloc: Global,
+    ctl: &mut Ctl,
+    lib: LibNo,
+    session: &mut Session,
+    ask: Ask,
+    wanted: &str,
+) -> bool
+    requires { MayPlay ctl.old.state lib session.old }
+    ensures { MayPlay ctl.new.state lib session.new }
+{
+    match call_of(alloc, ask) {
+        Some(call) => {
+            let outcome = play(alloc, ctl, lib, session, call);
+            told(alloc, &outcome).as_deref() == Some(wanted)
+        }
+        None => false,
+    }
+}
+
+/// What a call is told, in the words of the report.
+pub fn told(alloc: Global, outcome: &Outcome) -> Option<String> {
+    match outcome {
+        Outcome::Replied(reply) => replied(alloc, reply),
+        Outcome::Busy(holder) => format!(in alloc; "busy {} {}", holder.lib.0, holder.entry).ok(),
+        Outcome::NoMemory => None,
+    }
+}
+
+fn replied(alloc: Global, reply: &Reply) -> Option<String> {
+    let word = match reply {
+        Reply::Ok(answer) => return answered(alloc, answer),
+        Reply::NoSpace { wanted, free } => {
+            return format!(in alloc; "nospace {wanted} {free}").ok();
+        }
+        Reply::NotFound => "notfound",
+        Reply::NotDir => "notdir",
+        Reply::IsDir => "isdir",
+        Reply::Denied => "denied",
+        Reply::TooLarge => "toolarge",
+        _ => "another",
+    };
+    String::from_str(alloc, word).ok()
+}
+
+fn answered(alloc: Global, answer: &Answer) -> Option<String> {
+    match answer {
+        Answer::Done => String::from_str(alloc, "ok").ok(),
+        Answer::Count(count) => format!(in alloc; "ok {count}").ok(),
+        Answer::Bytes(bytes) => match std::str::from_utf8(bytes.as_slice()) {
+            Ok(text) => format!(in alloc; "ok {} {text}", text.len()).ok(),
+            Err(_) => None,
+        },
+        Answer::Stat {
+            kind,
+            mode,
+            uid,
+            gid,
+            size,
+        } => {
+            let letter = match kind {
+                Kind::Directory => "d",
+                Kind::Regular => "f",
+            };
+            format!(in alloc; "ok {letter} {:o} {uid} {gid} {size}", mode.0).ok()
+        }
+        Answer::Names { .. } => None,
+    }
+}

@@ -1,0 +1,434 @@
+//! Random calls of two honest libraries and a hostile one in turns, each settle compared with the
+//! one-thread tree.
+
+ghost use Rattle.std.specs.Prelude.{◌≡◌, ◌≤◌, IfSome};
+ghost use Rattle.trio_desk.specs.Out.{LibOut};
+ghost use Rattle.trio_raw.specs.Has.{OnList};
+ghost use Rattle.trio_session.specs.Seen.{SessionSeen};
+ghost use Rattle.trio_calls_file.specs.Asks.{IsFileCall};
+ghost use Rattle.trio_ctl.specs.Ctl.{IsLibrary};
+ghost use Rattle.trio_session_tests.specs.Turns.{ArePlaying, SomeCalls, third_lib};
+
+use crate::images::{Start, image_bytes, image_of, started};
+use crate::pairs::{first_plays, first_settles, second_plays, second_settles};
+use crate::play::{Ask, call_of, seated};
+use std::alloc::Global;
+use trio_ctl::{Ctl, PlainDesk};
+use trio_desk::Desk;
+use trio_image::Image;
+use trio_nodes::{Answer, Call, Done, Entry, GrantKind, Node, Nodes, ReleaseAnswer, Reply, Spot};
+use trio_onetree::apply;
+use trio_raw::{Raw, RawFault};
+use trio_rights::{Creds, LibNo};
+use trio_session::Session;
+use trio_walk::Outcome;
+
+/// A number after another: those of a linear congruence.
+#[derive(Drop)]
+struct Random(u64);
+
+impl Random {
+    fn below(&mut self, bound: u64) -> u64
+        ensures { result ≤ bound }
+    {
+        self.0 = self
+            .0
+            .wrapping_mul(6_364_136_223_846_793_005)
+            .wrapping_add(1_442_695_040_888_963_407);
+        match bound {
+            0 => 0,
+            bound => (self.0 >> 33) % bound,
+        }
+    }
+}
+
+const PATHS: [&[u8]; 9] = [
+    b"/a/f",
+    b"/a/g",
+    b"/h",
+    b"/a/f",
+    b"/p/q",
+    b"/a",
+    b"/",
+    b"/a/none",
+    b"/h/under",
+];
+
+// A random call: offsets and sizes go over the ends of blocks, and now and then past what is free.
+fn random_ask<'a>(random: &mut Random, bytes: &'a [u8]) -> Ask<'a> {
+    let path = PATHS[random.below(9) as usize % 9];
+    let at = random.below(3) * 4096 + random.below(30);
+    match random.below(8) {
+        0..=2 => Ask::Write(path, at, bytes),
+        3..=4 => Ask::Read(path, at, random.below(4097) as u32),
+        5 => Ask::Stat(path),
+        6 => Ask::Truncate(path, at),
+        _ => Ask::Truncate(path, random.below(90) * 4096 * random.below(200)),
+    }
+}
+
+// The bytes that a call writes: up to a block, each of one letter.
+fn random_bytes(random: &mut Random, to: &mut [u8; 4096]) -> usize
+    ensures { result ≤ 4096 }
+{
+    let letter = b'a' + random.below(26) as u8;
+    for byte in to.iter_mut() {
+        *byte = letter;
+    }
+    (random.below(3) * random.below(1366)) as usize % 4097
+}
+
+// ---- the one-thread tree beside the controller
+
+// The nodes that the controller's image should have, and how many entries of its log are played.
+#[derive(Drop)]
+struct Model {
+    nodes: Nodes,
+    played: usize,
+}
+
+const LIBS: [Creds; 3] = [
+    Creds { uid: 0, gid: 0 },
+    Creds { uid: 5, gid: 5 },
+    Creds { uid: 0, gid: 0 },
+];
+
+// Plays what the log has more: the calls of each settle by the tree, each with the reply that it had.
+fn follow(alloc: Global, ctl: &Ctl, model: &mut Model) -> bool {
+    let entries = ctl.log().entries();
+    let from = model.played.min(entries.len());
+    for entry in &entries[from..] {
+        if !is_followed(alloc, entry, &mut model.nodes) {
+            return false;
+        }
+    }
+    model.played = entries.len();
+    true
+}
+
+fn is_followed(alloc: Global, entry: &Entry, nodes: &mut Nodes) -> bool {
+    match entry {
+        Entry::Batch { lib, calls, .. } => match LIBS.get(lib.0.wrapping_sub(1) as usize) {
+            Some(creds) => are_replied(alloc, nodes, *creds, calls.as_slice()),
+            None => false,
+        },
+        _ => true,
+    }
+}
+
+fn are_replied(alloc: Global, nodes: &mut Nodes, creds: Creds, calls: &[Done]) -> bool {
+    for done in calls {
+        let is_replied = match &done.reply {
+            // the tree knows no pages
+            Reply::NoSpace { wanted, free } => free < wanted,
+            reply => match apply(alloc, nodes, creds, &done.call, 0) {
+                Ok(answer) => is_same(&answer, reply),
+                Err(_) => false,
+            },
+        };
+        if !is_replied {
+            return false;
+        }
+    }
+    true
+}
+
+fn is_same(a: &Reply, b: &Reply) -> bool {
+    match (a, b) {
+        (Reply::Ok(a), Reply::Ok(b)) => is_same_answer(a, b),
+        (Reply::NotFound, Reply::NotFound)
+        | (Reply::NotDir, Reply::NotDir)
+        | (Reply::IsDir, Reply::IsDir)
+        | (Reply::Denied, Reply::Denied)
+        | (Reply::TooLarge, Reply::TooLarge) => true,
+        _ => false,
+    }
+}
+
+fn is_same_answer(a: &Answer, b: &Answer) -> bool {
+    match (a, b) {
+        (Answer::Done, Answer::Done) => true,
+        (Answer::Count(a), Answer::Count(b)) => a == b,
+        (Answer::Bytes(a), Answer::Bytes(b)) => a.as_slice() == b.as_slice(),
+        (
+            Answer::Stat {
+                kind,
+                mode,
+                uid,
+                gid,
+                size,
+            },
+            Answer::Stat {
+                kind: kind2,
+                mode: mode2,
+                uid: uid2,
+                gid: gid2,
+                size: size2,
+            },
+        ) => kind == kind2 && mode == mode2 && uid == uid2 && gid == gid2 && size == size2,
+        _ => false,
+    }
+}
+
+// Whether the settled image has the nodes of the model.
+fn is_settled(alloc: Global, ctl: &mut Ctl, model: &Model) -> bool
+    ensures { ctl.new.state ≡ ctl.old.state }
+{
+    match ctl.image() {
+        Ok(image) => has_nodes(alloc, image, &model.nodes),
+        Err(_) => false,
+    }
+}
+
+fn has_nodes(alloc: Global, mut image: Image, wanted: &Nodes) -> bool {
+    match image.nodes(alloc) {
+        Ok(nodes) => are_same(&nodes, wanted),
+        Err(_) => false,
+    }
+}
+
+fn are_same(a: &Nodes, b: &Nodes) -> bool {
+    for ino in 1..64 {
+        if !is_same_node(a.get(ino), b.get(ino)) {
+            return false;
+        }
+    }
+    true
+}
+
+fn is_same_node(a: Option<&Node>, b: Option<&Node>) -> bool {
+    match (a, b) {
+        (None, None) => true,
+        (Some(a), Some(b)) => {
+            a.parent == b.parent
+                && a.name.as_bytes() == b.name.as_bytes()
+                && a.kind == b.kind
+                && a.mode == b.mode
+                && a.uid == b.uid
+                && a.gid == b.gid
+                && a.bytes.as_slice() == b.bytes.as_slice()
+        }
+        _ => false,
+    }
+}
+
+// ---- the hostile library
+
+// The third library takes a file for writing, spoils its metadata and hands it in: whether that is
+// refused, or the file isn't lent.
+fn attack(alloc: Global, ctl: &mut Ctl, random: &mut Random) -> bool
+    requires { IsLibrary third_lib ctl.old.state }
+    ensures { (x y : SessionSeen) → ArePlaying ctl.old.state x y → ArePlaying ctl.new.state x y }
+{
+    ctl.is_recorded();
+    ctl.is_as_told();
+    let mut desk = PlainDesk::of(ctl, LibNo(3));
+    is_held_off(alloc, &mut desk, random)
+}
+
+fn is_held_off<D: Desk>(alloc: Global, desk: &mut D, random: &mut Random) -> bool
+    ensures { SomeCalls D.called desk.old desk.new }
+{
+    let ino = 1 + random.below(7) as u32;
+    let how = random.below(3);
+    let mut raw = Raw::new(alloc, LibNo(3));
+    let is_held_off = is_refused(&mut raw, desk, ino, how);
+    raw.discard();
+    is_held_off
+}
+
+fn is_refused<D: Desk>(raw: &mut Raw, desk: &mut D, ino: u32, how: u64) -> bool
+    requires { OnList (D.seen desk.old).out raw.old.has }
+    ensures { SomeCalls D.called desk.old desk.new }
+{
+    if raw.grant(desk, ino, GrantKind::Write).is_err() {
+        return true;
+    }
+    spoil(raw, ino, how);
+    let said = raw.release(desk, &[ino], &[], &[]);
+    is_refusal(&said)
+}
+
+fn is_refusal(said: &Result<ReleaseAnswer, RawFault>) -> bool {
+    matches!(said, Ok(ReleaseAnswer::Refused { .. }))
+}
+
+// Writes a size that the file's chain doesn't have, where nothing else is spoiled.
+fn spoil(raw: &mut Raw, ino: u32, how: u64)
+    ensures { (out : LibOut) → OnList out raw.old.has → OnList out raw.new.has }
+{
+    let is_spoiled = is_overwritten(raw, ino, how);
+    let _is_there = raw.poke(Spot::Body(ino), 19, &[u8::from(!is_spoiled)]);
+}
+
+// Writes a number that no file may list into the file's index page, or the root's number into a slot
+// of a directory.
+fn is_overwritten(raw: &mut Raw, ino: u32, how: u64) -> bool
+    ensures { (out : LibOut) → OnList out raw.old.has → OnList out raw.new.has }
+{
+    match how {
+        1 => raw.poke(Spot::Index(ino, 0), 0, &[2, 0, 0, 0]),
+        2 if is_directory(ino) => raw.poke(Spot::Block(ino, 0), 0, &[1, 0, 0, 0]),
+        _ => false,
+    }
+}
+
+// Whether that is the number of a directory of the image.
+fn is_directory(ino: u32) -> bool {
+    matches!(ino, 1 | 2 | 6)
+}
+
+// ---- in turns
+
+// One turn: a call of one of the two libraries, a settle of one, or an attack.
+fn turn(
+    alloc: Global,
+    ctl: &mut Ctl,
+    first: &mut Session,
+    second: &mut Session,
+    random: &mut Random,
+) -> bool
+    requires { ArePlaying ctl.old.state first.old second.old }
+    ensures { ArePlaying ctl.new.state first.new second.new }
+{
+    match random.below(12) {
+        0 => first_settles(ctl, first, second).is_some(),
+        1 => second_settles(ctl, first, second).is_some(),
+        2 | 3 => attack(alloc, ctl, random),
+        4..=7 => first_calls(alloc, ctl, first, second, random),
+        _ => second_calls(alloc, ctl, first, second, random),
+    }
+}
+
+fn random_call(alloc: Global, random: &mut Random) -> Option<Call>
+    ensures { IfSome result IsFileCall }
+{
+    let mut bytes = [0; 4096];
+    let len = random_bytes(random, &mut bytes);
+    call_of(alloc, random_ask(random, &bytes[..len]))
+}
+
+fn first_calls(
+    alloc: Global,
+    ctl: &mut Ctl,
+    first: &mut Session,
+    second: &Session,
+    random: &mut Random,
+) -> bool
+    requires { ArePlaying ctl.old.state first.old second.now }
+    ensures { ArePlaying ctl.new.state first.new second.now }
+{
+    match random_call(alloc, random) {
+        Some(call) => is_fair(&first_plays(alloc, ctl, first, second, call), LibNo(1)),
+        None => false,
+    }
+}
+
+fn second_calls(
+    alloc: Global,
+    ctl: &mut Ctl,
+    first: &Session,
+    second: &mut Session,
+    random: &mut Random,
+) -> bool
+    requires { ArePlaying ctl.old.state first.now second.old }
+    ensures { ArePlaying ctl.new.state first.now second.new }
+{
+    match random_call(alloc, random) {
+        Some(call) => is_fair(&second_plays(alloc, ctl, first, second, call), LibNo(2)),
+        None => false,
+    }
+}
+
+// A call is replied, or another library keeps its file busy.
+fn is_fair(outcome: &Outcome, lib: LibNo) -> bool {
+    match outcome {
+        Outcome::NoMemory => false,
+        Outcome::Busy(holder) => holder.lib != lib,
+        Outcome::Replied(_) => true,
+    }
+}
+
+// A hundred turns, and the tree after every tenth, with all settled.
+fn are_one(
+    alloc: Global,
+    ctl: &mut Ctl,
+    first: &mut Session,
+    second: &mut Session,
+    model: &mut Model,
+    seed: u64,
+) -> bool
+    requires { ArePlaying ctl.old.state first.old second.old }
+{
+    let mut random = Random(seed);
+    for _ in 0..10 {
+        if !are_fair(alloc, ctl, first, second, &mut random) {
+            return false;
+        }
+        if !is_all_settled(alloc, ctl, first, second, model) {
+            return false;
+        }
+    }
+    true
+}
+
+// Ten turns.
+fn are_fair(
+    alloc: Global,
+    ctl: &mut Ctl,
+    first: &mut Session,
+    second: &mut Session,
+    random: &mut Random,
+) -> bool
+    requires { ArePlaying ctl.old.state first.old second.old }
+    ensures { ArePlaying ctl.new.state first.new second.new }
+{
+    for _ in 0..10 {
+        if !turn(alloc, ctl, first, second, random) {
+            return false;
+        }
+    }
+    true
+}
+
+fn is_all_settled(
+    alloc: Global,
+    ctl: &mut Ctl,
+    first: &mut Session,
+    second: &mut Session,
+    model: &mut Model,
+) -> bool
+    requires { ArePlaying ctl.old.state first.old second.old }
+    ensures { ArePlaying ctl.new.state first.new second.new }
+{
+    let first_count = first_settles(ctl, first, second);
+    let second_count = second_settles(ctl, first, second);
+    let is_followed = follow(alloc, ctl, model);
+    let is_settled = is_settled(alloc, ctl, model);
+    first_count.is_some() && second_count.is_some() && is_followed && is_settled
+}
+
+// The nodes of the image from which it starts.
+fn begun(alloc: Global) -> Option<Model> {
+    let mut image = image_of(alloc, &image_bytes(alloc, Start::Several).ok()?)?;
+    let nodes = image.nodes(alloc).ok()?;
+    Some(Model { nodes, played: 0 })
+}
+
+fn is_one_tree(alloc: Global, seed: u64) -> Option<bool> {
+    let mut model = begun(alloc)?;
+    let mut ctl = started(alloc, Start::Several)?;
+    let mut first = seated(alloc, &mut ctl, LibNo(1));
+    let mut second = seated(alloc, &mut ctl, LibNo(2));
+    let are_one = are_one(alloc, &mut ctl, &mut first, &mut second, &mut model, seed);
+    first.discard();
+    second.discard();
+    Some(are_one)
+}
+
+#[test]
+fn settles_come_to_the_one_thread_tree(rt: HostRuntime) {
+    for seed in 1..21 {
+        assert!(rt; is_one_tree(rt.alloc(), seed) == Some(true));
+    }
+}

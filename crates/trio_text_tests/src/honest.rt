@@ -1,0 +1,304 @@
+use std::alloc::Global;
+use trio_names::Path;
+use trio_nodes::Call;
+use trio_rights::Creds;
+use trio_script::{HonestLine, Lines, ScriptFault, ScriptLib, ScriptLine, read_script};
+
+/// What a script says whose first line is an honest library's, and these bytes the second.
+fn second_line(alloc: Global, line: &[u8]) -> Option<Result<Vec<ScriptLib>, ScriptFault>> {
+    let mut script = b"lib 1 honest 0 0\n".to_vec(alloc).ok()?;
+    script.extend_from_slice(line).ok()?;
+    Some(read_script(alloc, &script))
+}
+
+/// Puts a word, and behind it the names of a path, each with a comma, in brackets.
+fn put_path(out: &mut Vec<u8>, word: &str, path: &Path) -> Option<()> {
+    out.extend_from_slice(word.as_bytes()).ok()?;
+    out.extend_from_slice(b" (").ok()?;
+    for name in path.names() {
+        out.extend_from_slice(name.as_bytes()).ok()?;
+        out.extend_from_slice(b",").ok()?;
+    }
+    out.extend_from_slice(b")").ok()
+}
+
+/// Puts a space and a number.
+fn put_number(alloc: Global, out: &mut Vec<u8>, number: u64) -> Option<()> {
+    let text = format!(in alloc; " {number}").ok()?;
+    out.extend_from_slice(text.as_bytes()).ok()
+}
+
+/// Puts a call as its word, its paths, its numbers and its bytes, which are left as they are.
+fn put_call(alloc: Global, out: &mut Vec<u8>, call: &Call) -> Option<()> {
+    match call {
+        Call::Mkdir { path, mode } => {
+            put_path(out, "mkdir", path)?;
+            put_number(alloc, out, u64::from(mode.0))
+        }
+        Call::Create { path, mode } => {
+            put_path(out, "create", path)?;
+            put_number(alloc, out, u64::from(mode.0))
+        }
+        Call::Write { path, at, bytes } => {
+            put_path(out, "write", path)?;
+            put_number(alloc, out, *at)?;
+            out.extend_from_slice(b" ").ok()?;
+            out.extend_from_slice(bytes.as_slice()).ok()
+        }
+        Call::Read { path, at, len } => {
+            put_path(out, "read", path)?;
+            put_number(alloc, out, *at)?;
+            put_number(alloc, out, u64::from(*len))
+        }
+        Call::Truncate { path, size } => {
+            put_path(out, "truncate", path)?;
+            put_number(alloc, out, *size)
+        }
+        Call::List { path, from } => {
+            put_path(out, "list", path)?;
+            put_number(alloc, out, u64::from(*from))
+        }
+        Call::Chmod { path, mode } => {
+            put_path(out, "chmod", path)?;
+            put_number(alloc, out, u64::from(mode.0))
+        }
+        Call::Rename { from, to } => {
+            put_path(out, "rename", from)?;
+            put_path(out, "", to)
+        }
+        Call::Unlink { path } => put_path(out, "unlink", path),
+        Call::Rmdir { path } => put_path(out, "rmdir", path),
+        Call::Stat { path } => put_path(out, "stat", path),
+    }
+}
+
+/// A line as its number and what it says.
+fn put_line(alloc: Global, out: &mut Vec<u8>, line: &ScriptLine<HonestLine>) -> Option<()> {
+    let number = line.number;
+    let text = format!(in alloc; "{number} ").ok()?;
+    out.extend_from_slice(text.as_bytes()).ok()?;
+    match &line.line {
+        HonestLine::Call(call) => put_call(alloc, out, call),
+        HonestLine::Settle => out.extend_from_slice(b"settle").ok(),
+    }
+}
+
+/// What an honest library's lines say, one after another.
+fn shown(alloc: Global, library: &ScriptLib) -> Option<Vec<u8>> {
+    let Lines::Honest(lines) = &library.lines else {
+        return None;
+    };
+    let mut out = Vec::new(alloc);
+    for line in lines.as_slice() {
+        put_line(alloc, &mut out, line)?;
+    }
+    Some(out)
+}
+
+/// Whether the second line says just this.
+fn says(alloc: Global, text: &[u8], wanted: &[u8]) -> Option<bool> {
+    let libs = second_line(alloc, text)?.ok()?;
+    let mut line = b"2 ".to_vec(alloc).ok()?;
+    line.extend_from_slice(wanted).ok()?;
+    Some(libs.len() == 1 && shown(alloc, &libs[0])?.as_slice() == line.as_slice())
+}
+
+/// Whether the second line is bad.
+fn is_bad(alloc: Global, line: &[u8]) -> Option<bool> {
+    Some(second_line(alloc, line)?.err() == Some(ScriptFault::BadLine(2)))
+}
+
+/// Lines, and what they say: 0o755 is 493, 0o777 is 511 and 0o644 is 420.
+const LINES: &[(&str, &[u8])] = &[
+    ("mkdir /a 755", b"mkdir (a,) 493"),
+    ("mkdir /a/b/c 0", b"mkdir (a,b,c,) 0"),
+    ("mkdir / 0755\n", b"mkdir () 493"),
+    ("mkdir /a 0777", b"mkdir (a,) 511"),
+    ("create /f 777", b"create (f,) 511"),
+    ("create /f 7", b"create (f,) 7"),
+    ("create /f 0000", b"create (f,) 0"),
+    ("create /\\x0Ab 644", b"create (\nb,) 420"),
+    ("create /\\xFF\\x20\\x5C 644", b"create (\xff \\,) 420"),
+    ("write /f 0 hello", b"write (f,) 0 hello"),
+    ("write /f 4294967295 ~", b"write (f,) 4294967295 ~"),
+    (
+        "write /f 1 \\x00\\xFF\\x5Cx41!#",
+        b"write (f,) 1 \x00\xff\\x41!#",
+    ),
+    ("read /f 0 10", b"read (f,) 0 10"),
+    ("read /f 4294967295 0", b"read (f,) 4294967295 0"),
+    ("read /f 7 4096\n", b"read (f,) 7 4096"),
+    ("truncate /f 0", b"truncate (f,) 0"),
+    ("truncate /f 4294967295", b"truncate (f,) 4294967295"),
+    ("unlink /a/f", b"unlink (a,f,)"),
+    ("rmdir /a", b"rmdir (a,)"),
+    ("rename /a/f /b/g", b"rename (a,f,) (b,g,)"),
+    ("rename / /", b"rename () ()"),
+    ("list / 64", b"list () 64"),
+    ("stat /", b"stat ()"),
+    ("stat /a\\x2Fb", b"stat (a,b,)"),
+    ("stat \\x2Fa", b"stat (a,)"),
+    ("stat \\x2F", b"stat ()"),
+    ("stat /...", b"stat (...,)"),
+    ("stat /.a/a.", b"stat (.a,a.,)"),
+    ("stat /#", b"stat (#,)"),
+    ("chmod /f 1", b"chmod (f,) 1"),
+    ("settle", b"settle"),
+    ("settle\n", b"settle"),
+];
+
+#[test]
+fn honest_lines_are_read(rt: HostRuntime) {
+    for (text, wanted) in LINES {
+        assert!(rt;
+            says(rt.alloc(), text.as_bytes(), wanted) == Some(true),
+            "{text}"
+        );
+    }
+}
+
+/// Lines that have none of the forms of an honest library's.
+const BAD: &[&str] = &[
+    "mkdir",
+    "mkdir /a",
+    "mkdir a 755",
+    "mkdir  /a 755",
+    "mkdir /a  755",
+    " mkdir /a 755",
+    "mkdir /a 755 ",
+    "mkdir /a 755 0",
+    "mkdir /a 755\r",
+    "mkdir 755 /a",
+    "Mkdir /a 755",
+    "mkdir /a 1000",
+    "mkdir /a 7777",
+    "mkdir /a 00755",
+    "mkdir /a 758",
+    "mkdir /a ",
+    "mkdir /a/ 755",
+    "mkdir // 755",
+    "mkdir //a 755",
+    "mkdir /a//b 755",
+    "mkdir /. 755",
+    "mkdir /a/.. 755",
+    "mkdir /\\x2E\\x2E 755",
+    "mkdir /a\\x00 755",
+    "create /\\xFF\\x00x 644",
+    "mkdir /a\\x2F 755",
+    "mkdir /\\x0a 755",
+    "mkdir /\\xfF 755",
+    "mkdir /\\X0A 755",
+    "mkdir /\\x0G 755",
+    "mkdir /\\x0 755",
+    "mkdir /\\x 755",
+    "mkdir /\\ 755",
+    "mkdir /\\\\ 755",
+    "mkdir /\\n 755",
+    "mkdir /\\: 755",
+    "mkdir /\\x:0 755",
+    "mkdir /\\x@0 755",
+    "mkdir /a\tb 755",
+    "mkdir /\u{7f} 755",
+    "mkdir /\u{e4} 755",
+    "create /f 1000",
+    "create / ",
+    "create f 644",
+    "write /f 0",
+    "write /f 0 ",
+    "write /f 0 a b",
+    "write /f 01 a",
+    "write /f 4294967296 a",
+    "write /f -1 a",
+    "write f 0 a",
+    "write /f 0 \\",
+    "write /f 0 \\x0a",
+    "read /f 0",
+    "read /f 0 4097",
+    "read /f 01 1",
+    "read /f 1 01",
+    "read /f 0 1 1",
+    "truncate /f",
+    "truncate /f 01",
+    "truncate /f 4294967296",
+    "truncate f 1",
+    "unlink",
+    "unlink ",
+    "unlink f",
+    "unlink /f /g",
+    "rmdir",
+    "rmdir a",
+    "rename /a",
+    "rename /a b",
+    "rename a /b",
+    "rename /a /b /c",
+    "list /",
+    "list / -",
+    "list / 00",
+    "list a 0",
+    "stat",
+    "stat \\",
+    "stat / 0",
+    "stat /f/",
+    "chmod /f",
+    "chmod /f 1000",
+    "chmod /f 8",
+    "settle 1",
+    "settle ",
+    "Settle",
+    "settled",
+    "grant read 1",
+    "allot 1 0",
+    "poke body 1 0 00",
+    "peek body 1 0 1",
+    "back 1",
+    "release - - -",
+    "mode 1 755",
+    "open /f",
+];
+
+#[test]
+fn other_lines_are_bad(rt: HostRuntime) {
+    for line in BAD {
+        assert!(rt; is_bad(rt.alloc(), line.as_bytes()) == Some(true), "{line}");
+    }
+}
+
+/// Whether a line is read that ends with so many of these pieces, and is bad with one more.
+fn is_limit(alloc: Global, start: &[u8], piece: &[u8], count: usize) -> Option<bool> {
+    let mut line = start.to_vec(alloc).ok()?;
+    for _ in 0..count {
+        line.extend_from_slice(piece).ok()?;
+    }
+    let is_read = second_line(alloc, &line)?.is_ok();
+    line.extend_from_slice(piece).ok()?;
+    Some(is_read && is_bad(alloc, &line)?)
+}
+
+#[test]
+fn texts_are_counted(rt: HostRuntime) {
+    assert!(rt; is_limit(rt.alloc(), b"write /f 0 ", b"x", 4096) == Some(true));
+    assert!(rt; is_limit(rt.alloc(), b"write /f 0 ", b"\\x00", 4096) == Some(true));
+    assert!(rt; is_limit(rt.alloc(), b"stat /", b"n", 184) == Some(true));
+    assert!(rt; is_limit(rt.alloc(), b"stat /a/", b"\\xFF", 184) == Some(true));
+}
+
+/// Libraries of both kinds, one after another.
+const MIXED: &[u8] =
+    b"lib 1 honest 1001 5\n#\nstat /\n\nsettle\nlib 2 raw 0 0\nback 7\nlib 3 honest 1 2\n#";
+
+fn reads_mixed_libs(alloc: Global) -> Option<bool> {
+    let libs = read_script(alloc, MIXED).ok()?;
+    Some(
+        libs.len() == 3
+            && libs[0].creds == Creds { uid: 1001, gid: 5 }
+            && shown(alloc, &libs[0])?.as_slice() == b"3 stat ()5 settle".as_slice()
+            && shown(alloc, &libs[1]).is_none()
+            && libs[2].creds == Creds { uid: 1, gid: 2 }
+            && shown(alloc, &libs[2])?.is_empty(),
+    )
+}
+
+#[test]
+fn libraries_of_both_kinds_are_read(rt: HostRuntime) {
+    assert!(rt; reads_mixed_libs(rt.alloc()) == Some(true));
+}

@@ -1,0 +1,14 @@
+pub mod Possible
+pub mod Opened
+pub mod Leased
+pub mod Slots
+pub mod Listing
+pub mod Lent
+pub mod Denials
+pub mod Looking
+pub mod Taking
+pub mod Meeting
+pub mod Entering
+pub mod Stepping
+pub mod Agreeing
+pub mod Walking

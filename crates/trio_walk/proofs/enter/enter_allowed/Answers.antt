@@ -1,0 +1,38 @@
+use Rattle.std.proofs.Common.{Ok, Err, Result, Bool, true, false, sym, ap, ◌∙◌, subst}
+use Rattle.trio_nodes.specs.declared.grant.GrantKind.{GrantKind}
+use Rattle.trio_walk.specs.declared.walks.WalkEnd.{WalkEnd}
+use Rattle.trio_walk.specs.Needs.{kind_for}
+use Rattle.trio_walk.specs.Walks.{Took}
+use Rattle.trio_walk.specs.inner.Steps.{body_refuses}
+use Rattle.trio_walk.proofs.Entering.{broken_off, entered, refused_then, root_refused}
+use Rattle.trio_walk.proofs.enter.enter_allowed.Goals as goal
+
+pub returns-in-Ok-true : goal.returns-in-Ok-true
+returns-in-Ok-true g c =
+    let k : Took g.D.Desk.called g.D.Desk.seen c.args.desk.now c.args.session.now c.args.at (kind_for c.args.need) (Ok true) c.take.new.desk c.take.new.session =
+    subst (λ (r : Result Bool WalkEnd). Took g.D.Desk.called g.D.Desk.seen c.args.desk.now c.args.session.now c.args.at (kind_for c.args.need) (r) c.take.new.desk c.take.new.session) (c.in-Ok-true.is ∙ ap (λ b. Ok b) c.in-Ok-true.field-0-test)
+    (subst (λ (q : GrantKind). Took g.D.Desk.called g.D.Desk.seen c.args.desk.now c.args.session.now c.args.at q c.take.result c.take.new.desk c.take.new.session) c.kind_for.ensures c.take.ensures) in
+    refused_then g.D.Desk.called g.D.Desk.seen c.args.desk.now c.args.session.now c.args.at c.args.need c.requires.may c.requires.met c.requires.directory c.requires.gives c.take.new.desk c.take.new.session k
+    (ap (λ q. body_refuses c.take.new.session q c.args.need c.args.at.ino) (sym c.creds.ensures.creds) ∙ sym c.body_refuses.ensures ∙ c.if-body_refuses.true)
+
+pub returns-in-Ok-true-2 : goal.returns-in-Ok-true-2
+returns-in-Ok-true-2 g c =
+    let k : Took g.D.Desk.called g.D.Desk.seen c.args.desk.now c.args.session.now c.args.at (kind_for c.args.need) (Ok true) c.take.new.desk c.take.new.session =
+    subst (λ (r : Result Bool WalkEnd). Took g.D.Desk.called g.D.Desk.seen c.args.desk.now c.args.session.now c.args.at (kind_for c.args.need) (r) c.take.new.desk c.take.new.session) (c.in-Ok-true.is ∙ ap (λ b. Ok b) c.in-Ok-true.field-0-test)
+    (subst (λ (q : GrantKind). Took g.D.Desk.called g.D.Desk.seen c.args.desk.now c.args.session.now c.args.at q c.take.result c.take.new.desk c.take.new.session) c.kind_for.ensures c.take.ensures) in
+    entered g.D.Desk.called g.D.Desk.seen c.args.desk.now c.args.session.now c.args.at c.args.need c.requires.may c.requires.met c.requires.directory c.requires.gives c.take.new.desk c.take.new.session k
+    (ap (λ q. body_refuses c.take.new.session q c.args.need c.args.at.ino) (sym c.creds.ensures.creds) ∙ sym c.body_refuses.ensures ∙ c.if-body_refuses.false)
+
+pub returns-in-Ok-false : goal.returns-in-Ok-false
+returns-in-Ok-false g c =
+    let k : Took g.D.Desk.called g.D.Desk.seen c.args.desk.now c.args.session.now c.args.at (kind_for c.args.need) (Ok false) c.take.new.desk c.take.new.session =
+    subst (λ (r : Result Bool WalkEnd). Took g.D.Desk.called g.D.Desk.seen c.args.desk.now c.args.session.now c.args.at (kind_for c.args.need) (r) c.take.new.desk c.take.new.session) (c.in-Ok-false.is ∙ ap (λ b. Ok b) c.in-Ok-false.field-0-test)
+    (subst (λ (q : GrantKind). Took g.D.Desk.called g.D.Desk.seen c.args.desk.now c.args.session.now c.args.at q c.take.result c.take.new.desk c.take.new.session) c.kind_for.ensures c.take.ensures) in
+    root_refused g.D.Desk.called g.D.Desk.seen c.args.desk.now c.args.session.now c.args.at c.args.need c.requires.may c.requires.met c.requires.directory c.requires.gives c.take.new.desk c.take.new.session k
+
+pub returns-in-Err : goal.returns-in-Err
+returns-in-Err g c =
+    let k : Took g.D.Desk.called g.D.Desk.seen c.args.desk.now c.args.session.now c.args.at (kind_for c.args.need) (Err c.in-Err.end) c.take.new.desk c.take.new.session =
+    subst (λ (r : Result Bool WalkEnd). Took g.D.Desk.called g.D.Desk.seen c.args.desk.now c.args.session.now c.args.at (kind_for c.args.need) (r) c.take.new.desk c.take.new.session) (c.in-Err.is)
+    (subst (λ (q : GrantKind). Took g.D.Desk.called g.D.Desk.seen c.args.desk.now c.args.session.now c.args.at q c.take.result c.take.new.desk c.take.new.session) c.kind_for.ensures c.take.ensures) in
+    broken_off g.D.Desk.called g.D.Desk.seen c.args.desk.now c.args.session.now c.args.at c.args.need c.requires.may c.requires.met c.requires.directory c.requires.gives c.take.new.desk c.take.new.session c.in-Err.end k

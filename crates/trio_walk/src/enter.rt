@@ -1,0 +1,67 @@
+//! Directories are entered.
+
+ghost use Rattle.std.specs.Prelude.{◌≡◌, IsTrue};
+ghost use Rattle.trio_walk.specs.Needs.{kind_for};
+ghost use Rattle.trio_walk.specs.Walks.{HasMet, MayWalk, gives_met};
+ghost use Rattle.trio_walk.specs.inner.Steps.{Entered};
+
+use crate::files::take;
+use crate::met::{Met, body_refuses, gives};
+use crate::walks::WalkEnd;
+use trio_desk::Desk;
+use trio_nodes::{GrantKind, Reply};
+use trio_rights::{Kind, Need};
+use trio_session::Session;
+
+/// Enters a directory to which a walk has come: it has to be one, to give what is needed, and to be
+/// lent for it. Where no lease shows the rights of the root, its grant comes before their check.
+pub(crate) fn enter<D: Desk>(
+    session: &mut Session,
+    desk: &mut D,
+    at: Met,
+    need: Need,
+) -> Result<(), WalkEnd>
+    requires may { MayWalk (D.seen desk.old) session.old }
+    requires met { HasMet (D.seen desk.old) session.old at }
+    ensures { Entered D.called D.seen desk.old session.old at need result desk.new session.new }
+{
+    match at.kind {
+        Kind::Regular => Err(WalkEnd::Reply(Reply::NotDir)),
+        Kind::Directory if !gives(desk.creds(), at, need) => Err(WalkEnd::Reply(Reply::Denied)),
+        Kind::Directory => enter_allowed(session, desk, at, need),
+    }
+}
+
+// a directory whose rights give what is needed, as far as they are known: those of the root may be
+// known only once it is lent
+fn enter_allowed<D: Desk>(
+    session: &mut Session,
+    desk: &mut D,
+    at: Met,
+    need: Need,
+) -> Result<(), WalkEnd>
+    requires may { MayWalk (D.seen desk.old) session.old }
+    requires met { HasMet (D.seen desk.old) session.old at }
+    requires directory { at.kind ≡ Kind.Directory }
+    requires gives { IsTrue (gives_met (D.seen desk.old).creds at need) }
+    ensures { Entered D.called D.seen desk.old session.old at need result desk.new session.new }
+{
+    match take(session, desk, at, kind_for(need)) {
+        Ok(true) if body_refuses(session, desk.creds(), need, at.ino) => {
+            Err(WalkEnd::Reply(Reply::Denied))
+        }
+        Ok(true) => Ok(()),
+        Ok(false) => Err(WalkEnd::Reply(Reply::Denied)),
+        Err(end) => Err(end),
+    }
+}
+
+// the kind of grant by which a file is taken for what is needed of it
+fn kind_for(need: Need) -> GrantKind
+    ensures { result ≡ kind_for need }
+{
+    match need {
+        Need::Read => GrantKind::Read,
+        Need::Write => GrantKind::Write,
+    }
+}
