@@ -123,9 +123,9 @@ module _ (cs cs' : List Made) (ino : ℕ) (l : Laid) (takes : TakesLaid cs ino l
   less_once : are_new [] (numbers cs) ≡ true → (are_new [] (numbers cs') ≡ true) × (In ino (numbers cs') → ⊥)
   less_once new = elim takes [
     | Fresh none ik bk im bm same ↦ (
-        ap (λ ms. are_new [] (numbers ms)) same ∙ new,
-        λ i. none-In (λ (m : Made). m.ino) cs ino none (subst (λ ms. In ino (numbers ms)) same i),
-      )
+      ap (λ ms. are_new [] (numbers ms)) same ∙ new,
+      λ i. none-In (λ (m : Made). m.ino) cs ino none (subst (λ ms. In ino (numbers ms)) same i),
+    )
     | Kept at c e there laid same ↦
         let key : Made → ℕ = λ m. m.ino in
         let a = numbers (take at cs) in

@@ -111,13 +111,13 @@ rooms_reserved blocks ino result b ls ls' ms ms' relaid i =
     let room : Made → ℕ = λ m. room_laid m.laid in
     elim relaid [
       | MadeAnew at m l' e there is same anew ↦ (
-          subst (λ xs. slice_index_or (map room_laid ls) i 0 ≤ slice_index_or (map room_laid xs) i 0) (sym same) (le_same (slice_index_or (map room_laid ls) i 0)),
-          subst (λ ks. slice_index_or (map room ms) i 0 ≤ slice_index_or (map room ks) i 0) (sym anew) (set_more room ms at m (record m { laid = l' }) there is.more i),
-        )
+        subst (λ xs. slice_index_or (map room_laid ls) i 0 ≤ slice_index_or (map room_laid xs) i 0) (sym same) (le_same (slice_index_or (map room_laid ls) i 0)),
+        subst (λ ks. slice_index_or (map room ms) i 0 ≤ slice_index_or (map room ks) i 0) (sym anew) (set_more room ms at m (record m { laid = l' }) there is.more i),
+      )
       | WrittenAnew at l l' none e there is same made ↦ (
-          subst (λ xs. slice_index_or (map room_laid ls) i 0 ≤ slice_index_or (map room_laid xs) i 0) (sym same) (set_more room_laid ls at l l' there is.more i),
-          subst (λ ks. slice_index_or (map room ms) i 0 ≤ slice_index_or (map room ks) i 0) (sym made) (le_same (slice_index_or (map room ms) i 0)),
-        )
+        subst (λ xs. slice_index_or (map room_laid ls) i 0 ≤ slice_index_or (map room_laid xs) i 0) (sym same) (set_more room_laid ls at l l' there is.more i),
+        subst (λ ks. slice_index_or (map room ms) i 0 ≤ slice_index_or (map room ks) i 0) (sym made) (le_same (slice_index_or (map room ms) i 0)),
+      )
     ]
 
 -- ---- the files of a session, one of which has more room
@@ -283,37 +283,37 @@ pub dirs_reserved : {E : Type 0} (reads : List Shown) (fs : Files) (result : Res
 dirs_reserved reads fs result dirs dirs' ino roomier are =
     let numbers = numbers_roomier result dirs dirs' ino roomier in
     elim roomier [
-  | NoIndex none same ↦ subst (AreDirs reads fs) (sym same) are
-  | AnIndex at d d' e there is same ↦
-      record {
-        once = ap (are_new []) numbers ∙ are.once;
-        indexed = λ z i.
-            let j = In-slice_get z (slice_set dirs at d') (subst (In z) same i) in
-            elim (cases_eq j.0 at) [
-              | inr apart ↦ are.indexed z (slice_get-In dirs j.0 z (sym (set_beside dirs at j.0 d' apart) ∙ j.1))
-              | inl here ↦
-                  let both : Some z ≡ Some d' = sym j.1 ∙ ap (slice_get (slice_set dirs at d')) here ∙ get_set dirs at d' d there in
-                  let it : z ≡ d' = cc both in
-                  subst (λ w. IsIndexHere fs w ⊎ IsIndexed reads w) (sym it) (elim (are.indexed d (slice_get-In dirs at d there)) [
-                    | inl mine ↦ inl (record {
-                      dir = mine.dir;
-                      one = mine.one;
-                      number = mine.number ∙ sym is.ino;
-                      directory = mine.directory;
-                      inodes = is.inodes ∙ mine.inodes;
-                      slots = is.slots ∙ mine.slots;
-                    })
-                    | inr read ↦ inr (record {
-                      lease = read.lease;
-                      there = ap (lease_on reads) is.ino ∙ read.there;
-                      directory = read.directory;
-                      index = record { inodes = is.inodes ∙ read.index.inodes; slots = is.slots ∙ read.index.slots };
-                    })
-                  ])
+      | NoIndex none same ↦ subst (AreDirs reads fs) (sym same) are
+      | AnIndex at d d' e there is same ↦
+          record {
+            once = ap (are_new []) numbers ∙ are.once;
+            indexed = λ z i.
+                let j = In-slice_get z (slice_set dirs at d') (subst (In z) same i) in
+                elim (cases_eq j.0 at) [
+                  | inr apart ↦ are.indexed z (slice_get-In dirs j.0 z (sym (set_beside dirs at j.0 d' apart) ∙ j.1))
+                  | inl here ↦
+                      let both : Some z ≡ Some d' = sym j.1 ∙ ap (slice_get (slice_set dirs at d')) here ∙ get_set dirs at d' d there in
+                      let it : z ≡ d' = cc both in
+                      subst (λ w. IsIndexHere fs w ⊎ IsIndexed reads w) (sym it) (elim (are.indexed d (slice_get-In dirs at d there)) [
+                        | inl mine ↦ inl (record {
+                          dir = mine.dir;
+                          one = mine.one;
+                          number = mine.number ∙ sym is.ino;
+                          directory = mine.directory;
+                          inodes = is.inodes ∙ mine.inodes;
+                          slots = is.slots ∙ mine.slots;
+                        })
+                        | inr read ↦ inr (record {
+                          lease = read.lease;
+                          there = ap (lease_on reads) is.ino ∙ read.there;
+                          directory = read.directory;
+                          index = record { inodes = is.inodes ∙ read.index.inodes; slots = is.slots ∙ read.index.slots };
+                        })
+                      ])
+                ];
+            readable = λ x one dir. elim (are.readable x one dir) [
+              | inl i ↦ inl (subst (In x.ino) (sym numbers) i)
+              | inr read ↦ inr read
             ];
-        readable = λ x one dir. elim (are.readable x one dir) [
-          | inl i ↦ inl (subst (In x.ino) (sym numbers) i)
-          | inr read ↦ inr read
-        ];
-      }
-]
+          }
+    ]

@@ -116,15 +116,15 @@ returns-clause-call g c =
           let unused = unused_granted seen first c.args.ino lease (subst (IsOn seen) (sym c.self.view_is) on) fresh cause c.self.invariant.0.same in
           let shown = seen_leased c.self.inside.placed rs p ls ls' ms cs ds lease c.args.ino seen.lib seen.sizes seen.out fresh kl unused c.self.invariant.0 c.self.invariant.3 c.self.invariant.4 apart in
           Made (Lent lease) called (
-        record { seen = seen'; holder = tt; cause = cause; fits = (fresh, lent) },
-        (
-          ok,
-          ap (λ x. view x rs' ls') kp ∙ ap (λ x. view (with_leased p lease) x ls') kr
-              ∙ ap (λ xs. record (view (with_leased p lease) (reads_leased rs lease) ls') { made = xs }) shown.0 ∙ ap (λ xs. record (view (with_leased p lease) (reads_leased rs lease) ls') { made = map (made_seen p) ms; cleared = xs }) shown.1
-              ∙ ap (λ (x : SessionSeen). record x { room = room }) (lease_view first ls ls' lease seen.lib c.args.ino seen.sizes seen.out fresh kl c.self.invariant.0 refl)
-              ∙ ap (λ (x : SessionSeen). record (with_lease x lease) { room = room }) c.self.view_is,
-        ),
-      )
+            record { seen = seen'; holder = tt; cause = cause; fits = (fresh, lent) },
+            (
+              ok,
+              ap (λ x. view x rs' ls') kp ∙ ap (λ x. view (with_leased p lease) x ls') kr
+                  ∙ ap (λ xs. record (view (with_leased p lease) (reads_leased rs lease) ls') { made = xs }) shown.0 ∙ ap (λ xs. record (view (with_leased p lease) (reads_leased rs lease) ls') { made = map (made_seen p) ms; cleared = xs }) shown.1
+                  ∙ ap (λ (x : SessionSeen). record x { room = room }) (lease_view first ls ls' lease seen.lib c.args.ino seen.sizes seen.out fresh kl c.self.invariant.0 refl)
+                  ∙ ap (λ (x : SessionSeen). record (with_lease x lease) { room = room }) c.self.view_is,
+            ),
+          )
       | Denied fault called seen' holder cause kp kr kl err ↦ Made (NotLent fault) called (record { seen = seen'; holder = holder; cause = cause; fits = tt }, (err, ap (λ x. view x rs' ls') kp ∙ ap (λ x. view p x ls') kr ∙ ap (view p rs) kl ∙ still))
       | NoPlace same kp kr kl err ↦ NotMade same (err, ap (λ x. view x rs' ls') kp ∙ ap (λ x. view p x ls') kr ∙ ap (view p rs) kl ∙ still)
     ])
@@ -161,7 +161,7 @@ returns-clause-on g c =
           let shown = seen_leased c.self.inside.placed rs p ls ls' ms cs ds lease c.args.ino seen.lib seen.sizes seen.out fresh kl unused c.self.invariant.0 c.self.invariant.3 c.self.invariant.4 apart in
           subst (IsOn d') (sym (
           ap (λ x. view x rs' ls') kp ∙ ap (λ x. view (with_leased p lease) x ls') kr
-              ∙ ap (λ xs. record (view (with_leased p lease) (reads_leased rs lease) ls') { made = xs }) shown.0 ∙ ap (λ xs. record (view (with_leased p lease) (reads_leased rs lease) ls') { made = map (made_seen p) ms; cleared = xs }) shown.1
+          ∙ ap (λ xs. record (view (with_leased p lease) (reads_leased rs lease) ls') { made = xs }) shown.0 ∙ ap (λ xs. record (view (with_leased p lease) (reads_leased rs lease) ls') { made = map (made_seen p) ms; cleared = xs }) shown.1
           ∙ ap (λ (x : SessionSeen). record x { room = room }) (lease_view first ls ls' lease seen.lib c.args.ino seen.sizes seen.out fresh kl c.self.invariant.0 refl)
           ∙ ap (λ (x : SessionSeen). record (with_lease x lease) { room = room }) c.self.view_is))
           (lease_on seen d' c.args.ino c.args.kind s lease room seen' fresh on)
