@@ -2,7 +2,7 @@
 
 ghost use Rattle.std.specs.Prelude.{ℕ, List, Option, vec_capacity, ◌≡◌, ◌+◌, ◌≤◌, ◌<◌, ◌++◌, ◌∷◌, [], IsOk, IsSome, IsTrue, MatchOption, OnOk, None, length, slice_get, slice_index_or, ◌==◌, Some, if◌then◌else◌};
 ghost use Rattle.std.specs.List.{find};
-ghost use Rattle.std.specs.Option.{option_copied, option_map};
+ghost use Rattle.std.specs.Option.{option_copied, option_map, option_or};
 ghost use Rattle.trio_auxdir.specs.Places.{place_of as place_at_name};
 ghost use Rattle.trio_lists.specs.Lists.{In, is_among};
 ghost use Rattle.trio_page.specs.Home.{raised};
@@ -10,7 +10,7 @@ ghost use Rattle.trio_lease.specs.Shown.{Shown};
 ghost use Rattle.trio_desk.specs.Edits.{nothing};
 ghost use Rattle.trio_session.specs.inner.Found.{IsRelaid, IsThere, Roomier};
 ghost use Rattle.trio_session.specs.inner.Made.{FindsFile};
-ghost use Rattle.trio_session.specs.Seen.{IsOpenDir, KeepsRoom, MadeFile, block_shown, body_shown, chain_in, children_shown, empty_shown, entry_shown, grant_in, kind_shown, lower, made_file, no_chain, open_kind, place_of, place_shown, read_file, room_in, spare_number, used_numbers};
+ghost use Rattle.trio_session.specs.Seen.{IsOpenDir, KeepsRoom, MadeFile, block_shown, body_shown, chain_in, children_shown, empty_shown, entry_shown, grant_in, held_file, is_allotted, kind_shown, lower, made_body, made_file, no_chain, open_kind, place_of, place_shown, read_file, room_in, spare_number, used_numbers};
 
 use crate::indexes::{IndexedDir, index_on, reserve_index};
 use crate::laid::{FilePlace, Laid};
@@ -275,6 +275,23 @@ impl Session {
                 Kind::Directory => Some(index_on(&self.dirs, ino)?.dir.len()),
             },
             None => Some(self.stock.hold_on(ino)?.children()),
+        }
+    }
+
+    /// The kind and the body that a file takes with it into another directory: of one that the session
+    /// made its own kind, and the body of its slot; of a held one, which has none of the allotted
+    /// numbers, those of its hold. `None` exactly where it has no such file.
+    pub fn moving(&self, ino: u32) -> Option<(Kind, [u8; 64])>
+        ensures { result ≡ option_or (option_map (λ m. (m.kind, made_body self.now m)) (made_file self.now ino))
+            (if is_allotted self.now ino then None else option_map (λ h. (h.kind, h.body)) (held_file self.now ino)) }
+    {
+        match made_of(&self.made, ino) {
+            Some(at) => Some((self.made[at].kind, *self.body(ino)?)),
+            None if self.stock.has_ino(ino) => None,
+            None => {
+                let hold = self.stock.hold_on(ino)?;
+                Some((hold.kind(), *hold.body()))
+            }
         }
     }
 

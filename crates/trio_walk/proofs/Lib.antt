@@ -2,6 +2,7 @@ pub mod Possible
 pub mod Opened
 pub mod Leased
 pub mod Slots
+mod SlotFields
 pub mod Listing
 pub mod Lent
 pub mod Denials

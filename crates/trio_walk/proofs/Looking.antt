@@ -1,6 +1,6 @@
 -- What a look-up finds.
 use Rattle.std.proofs.Common.{◌≡◌, ℕ, ◌<◌, ◌/◌, ◌%◌, get_or, Bool, true, false, cond, eqb, List, [], Option, Some, None, Result, Ok, Err, sym, refl, ap, ◌∙◌, subst, inl, inr, ◌⊎◌, arith}
-use Rattle.std.specs.Prelude.{is_some, not, ◌||◌}
+use Rattle.std.specs.Prelude.{IsSome, is_some, not, ◌||◌}
 use Rattle.std.specs.Option.{option_map, option_map_or, option_or, option_and_then}
 use Rattle.std.proofs.Math.Bool.{or-true}
 use Rattle.std.proofs.lemmas.Option.{slice_get-get_or}
@@ -16,7 +16,8 @@ use Rattle.trio_lists.specs.Lists.{In}
 use Rattle.trio_lists.proofs.Filters.{find-In, some_one}
 use Rattle.trio_lists.proofs.Members.{In-right, map-In, option_and_then-Some}
 use Rattle.trio_layout.specs.Case.{Case}
-use Rattle.trio_layout.specs.Entries.{body_in_slot}
+use Rattle.trio_layout.specs.Entries.{body_in_slot, slot_bytes}
+use Rattle.trio_layout.specs.Slot.{slot_of}
 use Rattle.trio_layout.specs.declared.slot.EntryPart.{EntryPart}
 use Rattle.trio_lease.specs.Shown.{Shown}
 use Rattle.trio_lease.specs.declared.parts.HoldParts.{HoldParts}
@@ -245,6 +246,21 @@ entry_there s d name p dir h =
     let sp = spot q.0 name x.0 x.1 in
     let block : block_shown s d (x.0 / 16) ≡ Some (get_or q.0 (x.0 / 16) []) = q.1.block (x.0 / 16) ∙ slice_get-get_or q.0 (x.0 / 16) [] sp.block in
     (sp.entry, subst (λ (z : Place). entry_shown s d z ≡ Some sp.entry) x.2 (entry_of_block s d (place_at x.0) (get_or q.0 (x.0 / 16) []) block ∙ ap entry_in sp.says))
+
+-- only a directory has names
+listed_directory : (k : Option Kind) (slots : List (Option (List ℕ))) (name : List ℕ) (p : Place) → place_of k slots name ≡ Some p → k ≡ Some Directory
+listed_directory (Some Directory) slots name p h = refl
+listed_directory (Some Regular) slots name p h = absurd cc
+listed_directory None slots name p h = absurd cc
+
+-- so the slot of a name that stands in a directory has an entry
+pub there_entry : (s : SessionSeen) (d : ℕ) (name : List ℕ) (p : Place) (page : List ℕ) → place_shown s d name ≡ Some p → block_shown s d p.block ≡ Some page → IsSome (entry_in (slot_of every_number (slot_bytes p.slot page)))
+there_entry s d name p page h block =
+    let by = listed_directory (kind_shown s d) (slots_shown s d) name p h in
+    let x = entry_there s d name p by h in
+    let says : entry_in (slot_of every_number (slot_bytes p.slot page)) ≡ Some x.0 =
+    sym (ap (option_and_then (λ bytes. entry_in (slot_of every_number (slot_bytes p.slot bytes)))) block) ∙ x.1 in
+    subst IsSome (sym says) refl
 
 -- what is met is an entry that a slot shows
 pub finds_entry : (s : SessionSeen) (d : ℕ) (name : List ℕ) → kind_shown s d ≡ Some Directory → (o : Option Met) → met_in s d name ≡ o → FindsEntry s d name o

@@ -1,15 +1,19 @@
 //! Files as their directory shows them.
 
-ghost use Rattle.std.specs.Prelude.{◌≡◌, ◌≤◌, Some, length};
+ghost use Rattle.std.specs.Prelude.{◌≡◌, ◌≤◌, ◌<◌, IsSome, Some, length};
+ghost use Rattle.std.specs.Option.{option_map};
+ghost use Rattle.trio_layout.specs.Entries.{slot_bytes};
+ghost use Rattle.trio_layout.specs.Slot.{slot_of};
 ghost use Rattle.trio_lists.specs.Lists.{In};
 ghost use Rattle.trio_page.specs.Home.{raised};
-ghost use Rattle.trio_session.specs.Seen.{kind_shown};
+ghost use Rattle.trio_session.specs.Seen.{entry_in, every_number, kind_shown};
 ghost use Rattle.trio_desk.specs.Call.{DeskSeen};
 ghost use Rattle.trio_walk.specs.Walks.{FindsEntry, IsHad, LooksUp, MayLookIn, MayWalk, gives_met};
 ghost use Rattle.trio_nodes.specs.declared.grant.GrantKind.{GrantKind};
-ghost use Rattle.trio_walk.specs.inner.Steps.{body_refuses, found_in, met_in, refuses, rights_at, root_met};
+ghost use Rattle.trio_walk.specs.inner.Steps.{body_refuses, found_in, met_in, met_of, refuses, rights_at, root_met};
 
 use trio_names::Name;
+use trio_page::Page;
 use trio_page::field::{u16_in, u32_in};
 use trio_rights::{Creds, Kind, Mode, Need, may};
 use trio_session::Session;
@@ -112,13 +116,26 @@ fn entry_met(session: &mut Session, dir: u32, name: &Name) -> Option<Met>
     ensures found { session.new ≡ found_in session.old dir }
 {
     let place = session.find(dir, name)?;
-    let entry = session.entry(dir, place)?;
     let page = session.block(dir, place.block)?;
-    let from = 256 * usize::from(place.slot) + 192;
-    let rights = rights_in(&page.bytes()[from..from + 64]);
-    Some(Met {
-        ino: entry.ino,
-        kind: entry.kind,
-        rights: Some(rights),
-    })
+    Some(slot_met(page, usize::from(place.slot)))
+}
+
+// the file that a slot names: its number, its kind and its rights, read at their places. The rest of
+// the slot isn't looked at, as the session's type has it in the grammar
+fn slot_met(page: &Page, slot: usize) -> Met
+    requires slot { slot < 16 }
+    requires entry { IsSome (entry_in (slot_of every_number (slot_bytes slot page.now))) }
+    ensures { option_map (λ e. met_of slot e page.now) (entry_in (slot_of every_number (slot_bytes slot page.now))) ≡ Some result }
+{
+    let from = 256 * slot;
+    let bytes = &page.bytes()[from..from + 256];
+    let Some(kind) = Kind::from_byte(bytes[4]) else {
+        unreachable!()
+    };
+    let body = &page.bytes()[from + 192..from + 256];
+    Met {
+        ino: u32_in(bytes, 0),
+        kind,
+        rights: Some(rights_in(body)),
+    }
 }
