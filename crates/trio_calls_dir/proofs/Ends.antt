@@ -31,7 +31,7 @@ use Rattle.trio_walk.specs.declared.outcome.Outcome.TheVariants.{Busy, NoMemory,
 use Rattle.trio_calls_dir.specs.declared.replies.Replied as replied
 use Rattle.trio_calls_dir.specs.declared.stops.Stop.{Stop}
 use Rattle.trio_calls_dir.specs.declared.stops.Stop.TheVariants.{NoMemory as LacksMemory}
-use Rattle.trio_calls_dir.specs.Asks.{ComesBy, Target, numbers_for, pages_for, wants_of}
+use Rattle.trio_calls_dir.specs.Asks.{ComesBy, Target, as_lent, numbers_for, pages_for, wants_of}
 use Rattle.trio_calls_dir.specs.inner.Goes.{AfterTry, Goes, IsNames, IsNumber, IsOfDir, IsRefusal, IsRefusedAs, LeavesHere, StopsBy, asks_from, number_made, try_ends}
 use Rattle.trio_calls_dir.proofs.Alike.{alike_room, alike_then, may_alike}
 use Rattle.trio_calls_dir.proofs.Then.{asked_append, asks_lent, given_all}
@@ -92,19 +92,19 @@ may_looked desk s call reply may does = let done : Done = record { call = call; 
 pub record IsPlain (call : Call) (reply : Reply) : Type 0 where
   pub ends : TryEnds (Replied reply) []
   pub leaves : (creds : Creds) (t : Target) (x s' : SessionSeen) → IsAlike x s' → LeavesHere creds call t x (Replied reply) s'
-  pub number : (t : Target) → IsNumber call t (Replied reply) 0
+  pub number : (x : SessionSeen) → IsNumber call x (Replied reply) 0
   pub of_dir : IsOfDir reply
   pub unnamed : IsNames reply → ⊥
   pub undone : (desk : DeskSeen) (now after : Nodes) → Apply now desk.creds call 0 reply after → is_done (applied now desk.creds call 0).reply ≡ false
 
 pub plain : (call : Call) (reply : Reply) → IsRefusal reply → IsPlain call reply
-plain call NotFound r = record { ends = refl; leaves = λ c t x s' e. e; number = λ t. refl; of_dir = tt; unnamed = λ n. n; undone = λ desk now after a. elim a [ inl x ↦ sym (ap is_done x.0) | inr x ↦ absurd x.0 ] }
-plain call Exists r = record { ends = refl; leaves = λ c t x s' e. e; number = λ t. refl; of_dir = tt; unnamed = λ n. n; undone = λ desk now after a. elim a [ inl x ↦ sym (ap is_done x.0) | inr x ↦ absurd x.0 ] }
-plain call NotDir r = record { ends = refl; leaves = λ c t x s' e. e; number = λ t. refl; of_dir = tt; unnamed = λ n. n; undone = λ desk now after a. elim a [ inl x ↦ sym (ap is_done x.0) | inr x ↦ absurd x.0 ] }
-plain call IsDir r = record { ends = refl; leaves = λ c t x s' e. e; number = λ t. refl; of_dir = tt; unnamed = λ n. n; undone = λ desk now after a. elim a [ inl x ↦ sym (ap is_done x.0) | inr x ↦ absurd x.0 ] }
-plain call NotEmpty r = record { ends = refl; leaves = λ c t x s' e. e; number = λ t. refl; of_dir = tt; unnamed = λ n. n; undone = λ desk now after a. elim a [ inl x ↦ sym (ap is_done x.0) | inr x ↦ absurd x.0 ] }
-plain call Denied r = record { ends = inl refl; leaves = λ c t x s' e. e; number = λ t. refl; of_dir = tt; unnamed = λ n. n; undone = λ desk now after a. elim a [ inl x ↦ sym (ap is_done x.0) | inr x ↦ absurd x.0 ] }
-plain call IntoItself r = record { ends = refl; leaves = λ c t x s' e. e; number = λ t. refl; of_dir = tt; unnamed = λ n. n; undone = λ desk now after a. elim a [ inl x ↦ sym (ap is_done x.0) | inr x ↦ absurd x.0 ] }
+plain call NotFound r = record { ends = refl; leaves = λ c t x s' e. e; number = λ x. refl; of_dir = tt; unnamed = λ n. n; undone = λ desk now after a. elim a [ inl x ↦ sym (ap is_done x.0) | inr x ↦ absurd x.0 ] }
+plain call Exists r = record { ends = refl; leaves = λ c t x s' e. e; number = λ x. refl; of_dir = tt; unnamed = λ n. n; undone = λ desk now after a. elim a [ inl x ↦ sym (ap is_done x.0) | inr x ↦ absurd x.0 ] }
+plain call NotDir r = record { ends = refl; leaves = λ c t x s' e. e; number = λ x. refl; of_dir = tt; unnamed = λ n. n; undone = λ desk now after a. elim a [ inl x ↦ sym (ap is_done x.0) | inr x ↦ absurd x.0 ] }
+plain call IsDir r = record { ends = refl; leaves = λ c t x s' e. e; number = λ x. refl; of_dir = tt; unnamed = λ n. n; undone = λ desk now after a. elim a [ inl x ↦ sym (ap is_done x.0) | inr x ↦ absurd x.0 ] }
+plain call NotEmpty r = record { ends = refl; leaves = λ c t x s' e. e; number = λ x. refl; of_dir = tt; unnamed = λ n. n; undone = λ desk now after a. elim a [ inl x ↦ sym (ap is_done x.0) | inr x ↦ absurd x.0 ] }
+plain call Denied r = record { ends = inl refl; leaves = λ c t x s' e. e; number = λ x. refl; of_dir = tt; unnamed = λ n. n; undone = λ desk now after a. elim a [ inl x ↦ sym (ap is_done x.0) | inr x ↦ absurd x.0 ] }
+plain call IntoItself r = record { ends = refl; leaves = λ c t x s' e. e; number = λ x. refl; of_dir = tt; unnamed = λ n. n; undone = λ desk now after a. elim a [ inl x ↦ sym (ap is_done x.0) | inr x ↦ absurd x.0 ] }
 plain call (IsReplied answer) r = absurd r
 plain call (NoSpace w f) r = absurd r
 plain call (NoInodes w f) r = absurd r
@@ -168,7 +168,7 @@ module _ {D : Type 0} (called : D → Ask → Told → D → Type 0) (seen : D �
         made = refl;
         ends = q.ends;
         leaves = q.leaves (seen d).creds no_target s s' alike;
-        numbered = q.number no_target;
+        numbered = q.number s;
         calls = calls_are;
         same = record { lib = refl; creds = refl; sizes = refl; root = refl };
         comes = λ nodes rows p. comes_none (batch_nodes (seen d).creds s'.calls nodes) (seen d).creds call no_target reply (undone nodes rows p);
@@ -199,7 +199,7 @@ BeginsWith (IsReply reply) first all = all ≡ first
 BeginsWith end first all = (rest : List Needed) × (all ≡ first ++ rest)
 
 -- what is asked last is what was needed last
-same_asks : (end : WalkEnd) (last : List desk_calls.Call) (need : List Needed) → EndsBy end last need → map grant_ask need ≡ map (λ (c : desk_calls.Call). c.ask) last
+pub same_asks : (end : WalkEnd) (last : List desk_calls.Call) (need : List Needed) → EndsBy end last need → map grant_ask need ≡ map (λ (c : desk_calls.Call). c.ask) last
 same_asks (At n) last need e = ap (map grant_ask) e.1 ∙ sym (ap (map (λ (c : desk_calls.Call). c.ask)) e.0)
 same_asks (IsReply reply) last need (inl e) = ap (map grant_ask) e.1 ∙ sym (ap (map (λ (c : desk_calls.Call). c.ask)) e.0)
 same_asks (IsReply reply) last need (inr e) = ap (map grant_ask) e.3 ∙ sym (ap (map (λ (c : desk_calls.Call). c.ask)) e.2)
@@ -265,7 +265,7 @@ module _ {D : Type 0} (called : D → Ask → Told → D → Type 0) (seen : D �
 
   -- a try that is broken off here, or is replied by the walk's refusal
   broken : (out : Outcome) → TryEnds out w.last
-      → ((creds : Creds) (x : SessionSeen) → IsAlike x s2 → LeavesHere creds call no_target x out s2) → IsNumber call no_target out 0
+      → ((creds : Creds) (x : SessionSeen) → IsAlike x s2 → LeavesHere creds call no_target x out s2) → ((x : SessionSeen) → IsNumber call x out 0)
       → InAllShown (seen d1) s2 (λ now. ComesBy out no_target now (seen d1).creds call)
       → InAllShown (seen d1) s2 (λ now. (x : SessionSeen) → AskedBy out (map grant_ask these) (asks_from s (needs now) now (seen d1).creds call no_target x))
       → AfterTry (seen d1) call 0 out s2 → Goes called seen d s call needs out 0 d1 s2
@@ -279,7 +279,7 @@ module _ {D : Type 0} (called : D → Ask → Told → D → Type 0) (seen : D �
     leaves =
         leaves (seen d1).creds (took s (map (λ (c : desk_calls.Call). c.told) (map lent_call w.more)))
         (alike_then (took s (map (λ (c : desk_calls.Call). c.told) (map lent_call w.more))) s1 s2 (way_alike called seen d s w.more w.last d1 s1 may w.way walks) near);
-    numbered = number;
+    numbered = number (took s (map (λ (c : desk_calls.Call). c.told) (map lent_call w.more)));
     calls = ap (λ (q : SessionSeen). q.calls) kept ∙ way_calls called seen d s w.more w.last d1 s1 may w.way walks;
     same = way_same called seen d s w.more w.last d1 s1 may w.way walks;
     comes = comes;
@@ -295,7 +295,7 @@ module _ {D : Type 0} (called : D → Ask → Told → D → Type 0) (seen : D �
       → (rest : List Ask) × (asks_from s (needs now) now (seen d1).creds call no_target x ≡ map grant_ask these ++ rest)
   first_of now x r n =
       let behind : List Needed = asked_beside (served_by s) (asked (served_by s) (first now)) n.0 in
-      let W : List Ask = wants_of now (seen d1).creds call no_target x in
+      let W : List Ask = wants_of now (seen d1).creds call no_target (as_lent s x) in
       let rest : List Needed = r.0 ++ behind in (
         map grant_ask rest ++ W,
         ap (λ l. map grant_ask (asked (served_by s) l) ++ W) n.1
@@ -316,14 +316,14 @@ module _ {D : Type 0} (called : D → Ask → Told → D → Type 0) (seen : D �
   stop_goes (At n) w walks kept st asks begins refused result by = absurd st
   stop_goes (IsBusyWalk holder) w walks kept st asks begins refused result by =
       subst (λ r. Goes called seen d s call needs (try_ends r) (number_made r) d1 s2) (sym by)
-      (broken called seen d s call first needs may d1 s1 s2 true_of (IsBusyWalk holder) w walks kept (Busy holder) (w.ends.0, w.ends.1, w.ends.2) (λ creds x e. e) refl (λ nodes rows p. tt)
+      (broken called seen d s call first needs may d1 s1 s2 true_of (IsBusyWalk holder) w walks kept (Busy holder) (w.ends.0, w.ends.1, w.ends.2) (λ creds x e. e) (λ x. refl) (λ nodes rows p. tt)
       (over called seen d s call first needs may d1 s1 s2 true_of (IsBusyWalk holder) w walks kept
       (λ now. (x : SessionSeen) → AskedBy (Busy holder) (map grant_ask (map need_of w.more ++ w.need)) (asks_from s (needs now) now (seen d1).creds call no_target x))
       (λ nodes rows p x. first_of called seen d s call first needs may d1 s1 s2 true_of (IsBusyWalk holder) w walks kept (batch_nodes (seen d1).creds s1.calls nodes) x (asks nodes rows p) (begins nodes rows p)))
       (may_alike (seen d1) s1 s2 (near called seen d s call first needs may d1 s1 s2 true_of (IsBusyWalk holder) w walks kept) (may1 called seen d s call first needs may d1 s1 s2 true_of (IsBusyWalk holder) w walks kept)))
   stop_goes NoWalkMemory w walks kept st asks begins refused result by =
       subst (λ r. Goes called seen d s call needs (try_ends r) (number_made r) d1 s2) (sym by)
-      (broken called seen d s call first needs may d1 s1 s2 true_of NoWalkMemory w walks kept NoMemory (ends w.ends) (λ creds x e. e) refl (λ nodes rows p. tt)
+      (broken called seen d s call first needs may d1 s1 s2 true_of NoWalkMemory w walks kept NoMemory (ends w.ends) (λ creds x e. e) (λ x. refl) (λ nodes rows p. tt)
       (over called seen d s call first needs may d1 s1 s2 true_of NoWalkMemory w walks kept
       (λ now. (x : SessionSeen) → AskedBy NoMemory (map grant_ask (map need_of w.more ++ w.need)) (asks_from s (needs now) now (seen d1).creds call no_target x))
       (λ nodes rows p x. first_of called seen d s call first needs may d1 s1 s2 true_of NoWalkMemory w walks kept (batch_nodes (seen d1).creds s1.calls nodes) x (asks nodes rows p) (begins nodes rows p)))
@@ -339,16 +339,16 @@ module _ {D : Type 0} (called : D → Ask → Told → D → Type 0) (seen : D �
       let undone : InAllShown (seen d1) s1 (λ now. is_done (applied now (seen d1).creds call 0).reply ≡ false) =
       λ nodes rows p. (let it = does nodes rows p in q.undone (seen d1) (batch_nodes (seen d1).creds s1.calls nodes) (call_nodes (seen d1).creds (batch_nodes (seen d1).creds s1.calls nodes) (record { call = call; reply = reply; made = 0 })) it.0) in
       subst (λ (x : replied.Replied). Goes called seen d s call needs (Replied x.reply) x.made d1 s2) (sym by.0)
-      (broken called seen d s call first needs may d1 s1 s2 true_of (IsReply reply) w walks kept (Replied reply) (reply_ends reply w.last w.need st w.ends) (λ creds x e. q.leaves creds no_target x s2 e) (q.number no_target)
+      (broken called seen d s call first needs may d1 s1 s2 true_of (IsReply reply) w walks kept (Replied reply) (reply_ends reply w.last w.need st w.ends) (λ creds x e. q.leaves creds no_target x s2 e) q.number
       (over called seen d s call first needs may d1 s1 s2 true_of (IsReply reply) w walks kept (λ now. ComesBy (Replied reply) no_target now (seen d1).creds call)
       (λ nodes rows p. comes_none (batch_nodes (seen d1).creds s1.calls nodes) (seen d1).creds call no_target reply (undone nodes rows p)))
       (over called seen d s call first needs may d1 s1 s2 true_of (IsReply reply) w walks kept
       (λ now. (x : SessionSeen) → AskedBy (Replied reply) (map grant_ask (map need_of w.more ++ w.need)) (asks_from s (needs now) now (seen d1).creds call no_target x))
       (λ nodes rows p x.
       let now : Nodes = batch_nodes (seen d1).creds s1.calls nodes in
-      ap (λ l. map grant_ask (asked (served_by s) l) ++ wants_of now (seen d1).creds call no_target x) (begins nodes rows p)
-      ∙ ap (λ l. map grant_ask l ++ wants_of now (seen d1).creds call no_target x) (asks nodes rows p)
-      ∙ ap (λ l. map grant_ask (map need_of w.more ++ w.need) ++ l) (wants_none now (seen d1).creds call no_target x (undone nodes rows p))
+      ap (λ l. map grant_ask (asked (served_by s) l) ++ wants_of now (seen d1).creds call no_target (as_lent s x)) (begins nodes rows p)
+      ∙ ap (λ l. map grant_ask l ++ wants_of now (seen d1).creds call no_target (as_lent s x)) (asks nodes rows p)
+      ∙ ap (λ l. map grant_ask (map need_of w.more ++ w.need) ++ l) (wants_none now (seen d1).creds call no_target (as_lent s x) (undone nodes rows p))
       ∙ append-nil (map grant_ask (map need_of w.more ++ w.need)))) (
         may_alike (seen d1) (noted call reply 0 s1) (noted call reply 0 s2) (ap (noted call reply 0) (near called seen d s call first needs may d1 s1 s2 true_of (IsReply reply) w walks kept)) (may_looked (seen d1) s1 call reply m1 does),
         by.1,
@@ -357,7 +357,7 @@ module _ {D : Type 0} (called : D → Ask → Told → D → Type 0) (seen : D �
       ))
   stop_goes (IsReply reply) w walks kept st asks begins refused (Err stop) by =
       subst (λ x. Goes called seen d s call needs (try_ends (Err x)) 0 d1 s2) (sym by)
-      (broken called seen d s call first needs may d1 s1 s2 true_of (IsReply reply) w walks kept NoMemory (ends w.ends) (λ creds x e. e) refl (λ nodes rows p. tt)
+      (broken called seen d s call first needs may d1 s1 s2 true_of (IsReply reply) w walks kept NoMemory (ends w.ends) (λ creds x e. e) (λ x. refl) (λ nodes rows p. tt)
       (over called seen d s call first needs may d1 s1 s2 true_of (IsReply reply) w walks kept
       (λ now. (x : SessionSeen) → AskedBy NoMemory (map grant_ask (map need_of w.more ++ w.need)) (asks_from s (needs now) now (seen d1).creds call no_target x))
       (λ nodes rows p x. first_of called seen d s call first needs may d1 s1 s2 true_of (IsReply reply) w walks kept (batch_nodes (seen d1).creds s1.calls nodes) x

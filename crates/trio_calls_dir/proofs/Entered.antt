@@ -1,13 +1,11 @@
 -- A call on one name, from its walk into the directory of its path on.
-use Rattle.std.proofs.Common.{◌≡◌, ℕ, true, false, cond, List, [], ◌∷◌, ◌++◌, Option, Some, None, Result, Ok, Err, sym, refl, ap, ◌∙◌, subst, inl}
-use Rattle.std.specs.Prelude.{map, is_some}
-use Rattle.std.proofs.lemmas.List.{append-nil, map-append}
+use Rattle.std.proofs.Common.{◌≡◌, ℕ, true, false, cond, List, [], ◌∷◌, ◌++◌, Option, Some, None, Result, sym, refl, ap, ◌∙◌, subst, inl}
+use Rattle.std.specs.Prelude.{is_some}
 use Rattle.trio_rights.specs.declared.kind.Kind.{Kind}
 use Rattle.trio_rights.specs.declared.kind.Kind.TheVariants.{Directory, Regular}
 use Rattle.trio_rights.specs.declared.rights.Creds.{Creds}
 use Rattle.trio_nodes.specs.declared.grant.GrantKind.TheVariants.{Write as ToWrite}
 use Rattle.trio_nodes.specs.declared.call.Call.{Call}
-use Rattle.trio_nodes.specs.declared.call.Done.{Done}
 use Rattle.trio_nodes.specs.declared.call.Reply.TheVariants.{Denied, IsDir}
 use Rattle.trio_lease.specs.Shown.{Shown}
 use Rattle.std.specs.Option.{option_map, option_or}
@@ -15,26 +13,21 @@ use Rattle.trio_nodes.specs.Nodes.{Nodes}
 use Rattle.trio_nodes.specs.Walk.{Path, dir_of, is_root, need_at, walk_into}
 use Rattle.trio_nodes.specs.After.{batch_nodes}
 use Rattle.trio_desk.specs.Call.{Ask, DeskSeen, Told}
-use Rattle.trio_desk.specs.Calls as desk_calls
-use Rattle.trio_desk.specs.Ready.{ArePossible}
 use Rattle.trio_laws.specs.session.DirCalls.{ComesInto, early_refusal, name_path, write_paths}
 use Rattle.trio_laws.proofs.session.DirCalls.{name_refused_by_walk, needs_write}
 use Rattle.trio_session.specs.Seen.{IsOpenDir, SessionSeen, open_kind, read_file}
 use Rattle.trio_edit_laws.specs.Calls.{MayCall}
 use Rattle.trio_walk.specs.declared.walks.WalkEnd.{WalkEnd}
-use Rattle.trio_walk.specs.declared.walks.WalkEnd.TheVariants.{At, Reply as IsReply, Busy as IsBusyWalk, NoMemory as NoWalkMemory}
-use Rattle.trio_walk.specs.Needs.{Needed, asked, into_needs, kind_for, reached_by}
-use Rattle.trio_walk.specs.Walks.{InAllShown, IsHad, IsStopped, MayWalk, Walked, WalksInto, WalksTo, Way, lent_call, need_of, served_by, shows_root}
-use Rattle.trio_walk.specs.Asks.{IsAlike, grant_ask, took}
+use Rattle.trio_walk.specs.declared.walks.WalkEnd.TheVariants.{At}
+use Rattle.trio_walk.specs.Needs.{Needed, into_needs, kind_for, reached_by}
+use Rattle.trio_walk.specs.Walks.{InAllShown, IsHad, IsStopped, MayWalk, Walked, WalksInto, shows_root}
+use Rattle.trio_walk.specs.Asks.{IsAlike}
 use Rattle.trio_walk.specs.declared.outcome.Outcome.{Outcome}
 use Rattle.trio_calls_dir.specs.declared.replies.Replied as replied
 use Rattle.trio_calls_dir.specs.declared.stops.Stop.{Stop}
 use Rattle.trio_calls_dir.specs.Asks.{dir_needs}
-use Rattle.trio_calls_dir.specs.inner.Goes.{Goes, StopsBy, Went, number_made, removing, try_ends}
-use Rattle.trio_calls_dir.proofs.Alike.{alike_then}
-use Rattle.trio_calls_dir.proofs.Ends.{BeginsWith, stop_goes}
-use Rattle.trio_calls_dir.proofs.Then.{asked_then, asks_lent, goes_on}
-use Rattle.trio_calls_dir.proofs.Walked.{way_went}
+use Rattle.trio_calls_dir.specs.inner.Goes.{Goes, StopsBy, number_made, removing, try_ends}
+use Rattle.trio_calls_dir.proofs.Into.{entered_at, into_goes, into_stops}
 
 -- ---- calls on one name
 
@@ -79,82 +72,42 @@ module _ {D : Type 0} (called : D → Ask → Told → D → Type 0) (seen : D �
     (F : Nodes → ℕ → List Needed)
     (needs_are : (now : Nodes) (creds : Creds) → dir_needs now creds (shows_root s) call
     ≡ into_needs now creds (shows_root s) (dir_of path ∷ []) (dir_of path) ++ reached_by (walk_into now creds (dir_of path ∷ []) (dir_of path)) (F now)) where
-  abbrev first : Nodes → List Needed
-  first now = into_needs now (seen d1).creds (shows_root s) (dir_of path ∷ []) (dir_of path)
-
   abbrev ending : WalkEnd → Type 0
   ending end = Walked called seen d s (WalksInto (seen d1) s (dir_of path ∷ []) (dir_of path) end) end d1 s1
+
+  abbrev needs : Nodes → List Needed
+  needs now = dir_needs now (seen d1).creds (shows_root s) call
+
+  are : InAllShown (seen d1) s1 (λ now. needs now ≡ into_needs now (seen d1).creds (shows_root s) (dir_of path ∷ []) (dir_of path) ++ reached_by (walk_into now (seen d1).creds (dir_of path ∷ []) (dir_of path)) (F now))
+  are nodes rows p = needs_are (batch_nodes (seen d1).creds s1.calls nodes) (seen d1).creds
 
   -- ---- where the walk has entered the directory
 
   module _ (dir : ℕ) (w : ending (At dir)) (walks : MayWalk (seen d1) s1) (s2 : SessionSeen) (near : IsAlike s1 s2) where
-    went1 : Went called seen d s (map lent_call w.more) d1 s1
-    went1 = way_went called seen d s w.more d1 s1 may (subst (λ l. Way called seen d s w.more l d1 s1) w.ends.0 w.way) walks
-
-    pub went_into : Went called seen d s (map lent_call w.more) d1 s2
-    went_into = record {
-      each = went1.each;
-      made = went1.made;
-      alike = alike_then (took s (map (λ (c : desk_calls.Call). c.told) (map lent_call w.more))) s1 s2 went1.alike near;
-      calls = ap (λ (q : SessionSeen). q.calls) near ∙ went1.calls;
-      same = went1.same;
-      more = λ nodes rows p. went1.more nodes rows (subst (λ (q : SessionSeen). ArePossible (seen d1) q.parcel q.reads nodes rows) near p);
-    }
-
-    walked_to : InAllShown (seen d1) s1 (λ now. walk_into now (seen d1).creds (dir_of path ∷ []) (dir_of path) ≡ Ok dir)
-    walked_to nodes rows p = (w.shown nodes rows p).walks
-
-    over : (P : Nodes → Type 0) → InAllShown (seen d1) s1 P → InAllShown (seen d1) s2 P
-    over P h nodes rows p =
-        subst (λ (cs : List Done). P (batch_nodes (seen d1).creds cs nodes)) (sym (ap (λ (q : SessionSeen). q.calls) near))
-        (h nodes rows (subst (λ (q : SessionSeen). ArePossible (seen d1) q.parcel q.reads nodes rows) near p))
-
     pub comes_into : InAllShown (seen d1) s2 (λ now. ComesInto now (seen d1).creds call path dir)
-    comes_into =
-        over (λ now. ComesInto now (seen d1).creds call path dir)
-        (λ nodes rows p. record {
-          on = one.on;
-          early = one.early;
-          into = ap (λ ws. walk_into (batch_nodes (seen d1).creds s1.calls nodes) (seen d1).creds ws (dir_of path)) one.writes ∙ walked_to nodes rows p;
-        })
-
-    wanted : InAllShown (seen d1) s1 (λ now. map grant_ask (asked (served_by s) (dir_needs now (seen d1).creds (shows_root s) call)) ≡ map (λ (c : desk_calls.Call). c.ask) (map lent_call w.more) ++ map grant_ask (asked (served_by s2) (F now dir)))
-    wanted nodes rows p =
-        let now : Nodes = batch_nodes (seen d1).creds s1.calls nodes in
-        let these : asked (served_by s) (first now) ≡ map need_of w.more = (w.shown nodes rows p).asks ∙ ap (λ l. map need_of w.more ++ l) w.ends.1 ∙ append-nil (map need_of w.more) in
-        let whole : dir_needs now (seen d1).creds (shows_root s) call ≡ first now ++ F now dir =
-        needs_are now (seen d1).creds ∙ ap (λ r. first now ++ reached_by r (F now)) (walked_to nodes rows p) in
-        let served : asked (served_by s1) (F now dir) ≡ asked (served_by s2) (F now dir) = sym (ap (λ (q : SessionSeen). asked (served_by q) (F now dir)) near) in
-        ap (λ l. map grant_ask (asked (served_by s) l)) whole
-        ∙ ap (map grant_ask) (asked_then s s1 w.more w.way.took w.way.as_lent (first now) (F now dir) these ∙ ap (λ l. map need_of w.more ++ l) served)
-        ∙ map-append grant_ask (map need_of w.more) (asked (served_by s2) (F now dir))
-        ∙ ap (λ l. l ++ map grant_ask (asked (served_by s2) (F now dir))) (asks_lent w.more)
+    comes_into nodes rows p = record {
+      on = one.on;
+      early = one.early;
+      into =
+          ap (λ ws. walk_into (batch_nodes (seen d1).creds s2.calls nodes) (seen d1).creds ws (dir_of path)) one.writes
+          ∙ entered_at called seen d s call (dir_of path ∷ []) (dir_of path) may d1 s1 needs F are dir w walks s2 near nodes rows p;
+    }
 
     -- what is done in the directory goes with the walk
     pub one_goes : (end : Outcome) (number : ℕ) (d' : D) (s' : SessionSeen) → Goes called seen d1 s2 call (λ now. F now dir) end number d' s'
         → Goes called seen d s call (λ now. dir_needs now (seen d').creds (shows_root s) call) end number d' s'
     one_goes end number d' s' goes =
         subst (λ (k : Creds). Goes called seen d s call (λ now. dir_needs now k (shows_root s) call) end number d' s') (sym goes.same.creds)
-        (goes_on called seen d d1 d' s s2 s' call (map lent_call w.more) went_into end number (λ now. dir_needs now (seen d1).creds (shows_root s) call) (λ now. F now dir)
-        (over (λ now. map grant_ask (asked (served_by s) (dir_needs now (seen d1).creds (shows_root s) call)) ≡ map (λ (c : desk_calls.Call). c.ask) (map lent_call w.more) ++ map grant_ask (asked (served_by s2) (F now dir))) wanted) goes)
+        (into_goes called seen d s call (dir_of path ∷ []) (dir_of path) may d1 s1 needs F are dir w walks s2 near end number d' s' goes)
 
   -- ---- where it has come to no file
-
-  begins_with : (end : WalkEnd) (now : Nodes) → WalksTo end (walk_into now (seen d1).creds (dir_of path ∷ []) (dir_of path)) → BeginsWith end (first now) (dir_needs now (seen d1).creds (shows_root s) call)
-  begins_with (IsReply reply) now e = needs_are now (seen d1).creds ∙ ap (λ r. first now ++ reached_by r (F now)) e ∙ append-nil (first now)
-  begins_with (At n) now e = (reached_by (walk_into now (seen d1).creds (dir_of path ∷ []) (dir_of path)) (F now), needs_are now (seen d1).creds)
-  begins_with (IsBusyWalk holder) now e = (reached_by (walk_into now (seen d1).creds (dir_of path ∷ []) (dir_of path)) (F now), needs_are now (seen d1).creds)
-  begins_with NoWalkMemory now e = (reached_by (walk_into now (seen d1).creds (dir_of path ∷ []) (dir_of path)) (F now), needs_are now (seen d1).creds)
 
   pub one_stops : (end : WalkEnd) (w : ending end) → MayWalk (seen d1) s1 → (s2 : SessionSeen) → s2 ≡ record s1 { room = s2.room } → IsStopped end → (result : Result replied.Replied Stop) → StopsBy end result s2
       → Goes called seen d s call (λ now. dir_needs now (seen d1).creds (shows_root s) call) (try_ends result) (number_made result) d1 s2
   one_stops end w walks s2 kept st result by =
-      stop_goes called seen d s call first (λ now. dir_needs now (seen d1).creds (shows_root s) call) may d1 s1 s2 (WalksInto (seen d1) s (dir_of path ∷ []) (dir_of path) end) end w walks kept st
-      (λ nodes rows p. (w.shown nodes rows p).asks)
-      (λ nodes rows p. begins_with end (batch_nodes (seen d1).creds s1.calls nodes) (w.shown nodes rows p).walks)
-      (λ reply is nodes rows p.
+      into_stops called seen d s call (dir_of path ∷ []) (dir_of path) may d1 s1 needs F are end w walks s2 kept st
+      (λ reply nodes rows p walked.
       let now : Nodes = batch_nodes (seen d1).creds s1.calls nodes in
-      let walked : walk_into now (seen d1).creds (dir_of path ∷ []) (dir_of path) ≡ Err reply = subst (λ e. WalksTo e (walk_into now (seen d1).creds (dir_of path ∷ []) (dir_of path))) is (w.shown nodes rows p).walks in
       name_refused_by_walk (seen d1) (record { call = call; reply = reply; made = 0 }) now path one.on one.early
       (ap (λ ws. walk_into now (seen d1).creds ws (dir_of path)) one.writes ∙ walked) refl)
       result by

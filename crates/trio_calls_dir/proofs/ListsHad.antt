@@ -90,11 +90,11 @@ read_by s dir served kind = by_open (open_kind s dir) refl
 
 module _ (s : SessionSeen) (dir : ℕ) (kind : Kind) (o : open_kind s dir ≡ Some kind) where
   -- the body of a file that is open, and its blocks
-  body_open : body_shown s dir ≡ Some (body_in s dir)
+  pub body_open : body_shown s dir ≡ Some (body_in s dir)
   body_open =
       ap (λ k. option_or (option_map (λ (q : Kind). body_in s dir) k) (option_or (option_map (λ (f : Shown). f.body) (read_file s dir)) (option_map (λ (h : HoldParts). h.body) (held_file s dir)))) o
 
-  pages_open : pages_shown s dir ≡ map (page_in s.parcel) (chain_in s dir).blocks
+  pub pages_open : pages_shown s dir ≡ map (page_in s.parcel) (chain_in s dir).blocks
   pages_open = ap (λ k. cond (is_some k) (map (page_in s.parcel) (chain_in s dir).blocks) (option_map_or dir_pages (read_file s dir) [])) o
 
   block_open : (k : ℕ) → block_shown s dir k ≡ slice_get (pages_shown s dir) k
@@ -133,7 +133,7 @@ module _ (sizes : Sizes) (limits : AreWithinLimits sizes) (f : Shown) (well : Is
   lent_few = omega (arith, lent_count, blocks_few f.kind sizes.range f.body (body_at f.body) well.body, limits.pages)
 
 module _ (desk : DeskSeen) (s : SessionSeen) (dir : ℕ) (may : MayCall desk s) (limits : AreWithinLimits desk.sizes) where
-  open_had : open_kind s dir ≡ Some Directory → HasDir s dir
+  pub open_had : open_kind s dir ≡ Some Directory → HasDir s dir
   open_had o =
       let c = open_chain desk s dir Directory may.edits o in
       let count : length (pages_shown s dir) ≡ block_count (size_in (body_in s dir)) =

@@ -29,7 +29,7 @@ noted_alike : (call : Call) (r : Reply) (n : ℕ) (x s' : SessionSeen) → IsAli
 noted_alike call r n x s' e = ap (noted call r n) e
 
 -- with its note a try that is replied leaves what it should
-leaves_noted : (creds : Creds) (call : Call) (t : Target) (x s' : SessionSeen) (r : Reply) (n : ℕ) → LeavesHere creds call t x (Replied r) s' → IsNumber call t (Replied r) n → Leaves creds call t (Replied r) x (noted call r n s')
+leaves_noted : (creds : Creds) (call : Call) (t : Target) (x s' : SessionSeen) (r : Reply) (n : ℕ) → LeavesHere creds call t x (Replied r) s' → IsNumber call x (Replied r) n → Leaves creds call t (Replied r) x (noted call r n s')
 leaves_noted creds call t x s' (IsReplied answer) n h e =
     subst (λ k. IsAlike (noted call (IsReplied answer) k (edited creds call t x)) (noted call (IsReplied answer) n s')) e (noted_alike call (IsReplied answer) n (edited creds call t x) s' h)
 leaves_noted creds call t x s' NotFound n h e = subst (λ k. IsAlike (noted call NotFound k x) (noted call NotFound n s')) e (noted_alike call NotFound n x s' h)

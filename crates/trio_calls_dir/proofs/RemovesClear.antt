@@ -1,20 +1,14 @@
 -- A file that is had goes with its slot, where it has no entries.
-use Rattle.std.proofs.Common.{◌≡◌, ℕ, zero, suc, ◌+◌, ◌<◌, arith, Bool, true, false, cond, eqb, ltb, ltb-false, List, [], ◌∷◌, ◌++◌, length, Option, Some, None, Result, Ok, Err, sym, refl, ap, ◌∙◌, subst, inl, inr}
-use Rattle.std.specs.Prelude.{MatchResult, ◌*◌, count_by, is_some, not}
-use Rattle.std.specs.Option.{option_map, option_map_or, option_or}
-use Rattle.std.proofs.lemmas.Simd.{map-map}
+use Rattle.std.proofs.Common.{◌≡◌, ℕ, zero, suc, ◌+◌, ◌<◌, arith, Bool, true, false, cond, eqb, ltb, ltb-false, List, [], ◌∷◌, length, Option, Some, None, Result, Ok, Err, sym, refl, ap, ◌∙◌, subst, inl, inr}
+use Rattle.std.specs.Prelude.{MatchResult, count_by, is_some, not}
+use Rattle.std.specs.Option.{option_map, option_or}
 use Rattle.std.proofs.lemmas.Bool.{cases_eq, eqb-true, false≢true}
 use Rattle.std.proofs.lemmas.List.Sums.{sum_by-cons}
-use Rattle.trio_lists.specs.Lists.{In}
 use Rattle.trio_lists.proofs.Filters.{find-In, some_one}
-use Rattle.trio_lists.proofs.Members.{In-cases}
-use Rattle.trio_auxdir.specs.declared.place.Place.{Place}
-use Rattle.trio_page.specs.Field.{with_part, zeros}
 use Rattle.trio_rights.specs.Row.{Row}
 use Rattle.trio_rights.specs.declared.kind.Kind.{Kind}
 use Rattle.trio_rights.specs.declared.kind.Kind.TheVariants.{Directory, Regular}
 use Rattle.trio_rights.specs.declared.rights.Creds.{Creds}
-use Rattle.trio_lease.specs.Shown.{LentFile, Shown}
 use Rattle.trio_lease.specs.declared.parts.HoldParts.{HoldParts}
 use Rattle.trio_nodes.specs.declared.call.Answer.TheVariants.{Done as IsDone}
 use Rattle.trio_nodes.specs.declared.call.Call.{Call}
@@ -28,21 +22,15 @@ use Rattle.trio_nodes.specs.Tree.{IsDirectory, IsTree}
 use Rattle.trio_nodes.specs.Walk.{Path, dir_of, is_directory, name_of, walk_into}
 use Rattle.trio_nodes.specs.After.{batch_nodes}
 use Rattle.trio_nodes.specs.Apply.{applied, is_done}
-use Rattle.trio_nodes.specs.Legal.{LegalCalls}
 use Rattle.trio_onetree.proofs.Children.{child-counts, find_named-Child}
 use Rattle.trio_onetree.proofs.TreePut.{tree_without}
 use Rattle.trio_desk.specs.Call.{Ask, DeskSeen, Told}
 use Rattle.trio_desk.specs.Contents.{rights_of}
 use Rattle.trio_desk.specs.Edits.{DoesCall, MayShow}
-use Rattle.trio_desk.specs.Agrees.{Agrees, HasPlaces}
-use Rattle.trio_desk.specs.Out.{Parcel, ino_numbers}
-use Rattle.trio_desk.specs.Ready.{ArePossible, ComesToShown, leases_in, parcel_case}
-use Rattle.trio_desk.specs.Shows.{Shows}
+use Rattle.trio_desk.specs.Ready.{ArePossible}
 use Rattle.trio_laws.specs.session.DirCalls.{ComesInto, write_paths}
-use Rattle.trio_laws.proofs.session.Calls.{batch_more, reply_more}
 use Rattle.trio_laws.proofs.session.DirCalls.{refused_at_entry, removes_entry}
-use Rattle.trio_session.specs.Layout.{cleared as cleared_slot, file_with, page_in, with_page}
-use Rattle.trio_session.specs.Seen.{MadeFile, Room, SessionSeen, block_number, children_shown, clear, entry_count, held_file, in_hand, made_children, made_file, number_shown, open_kind, place_shown, slots_shown, without_made, written_file}
+use Rattle.trio_session.specs.Seen.{MadeFile, Room, SessionSeen, children_shown, clear, entry_count, held_file, in_hand, made_children, made_file, open_kind, place_shown, slots_shown, written_file}
 use Rattle.trio_edit_laws.specs.Calls.{MayCall}
 use Rattle.trio_edit_laws.specs.DirLaws.{Changes, LeavesCleared, StaysTree}
 use Rattle.trio_edit_laws.proofs.Shown.{shown_by}
@@ -58,7 +46,9 @@ use Rattle.trio_calls_dir.specs.declared.stops.Stop.TheVariants.{NoMemory as Lac
 use Rattle.trio_calls_dir.specs.Asks.{ComesBy, ComesTo, Target, edited, made_by, wants_of}
 use Rattle.trio_calls_dir.specs.inner.Goes.{Goes, IsRefusedAs, number_made, removing, try_ends}
 use Rattle.trio_calls_dir.proofs.Alike.{alike_room, alike_then, may_alike}
-use Rattle.trio_calls_dir.proofs.Ends.{edit_called, lacks, refused_goes}
+use Rattle.trio_calls_dir.proofs.Possible.{possible_clear}
+use Rattle.trio_calls_dir.proofs.EditDone.{as_done, may_done}
+use Rattle.trio_calls_dir.proofs.Ends.{lacks, refused_goes}
 use Rattle.trio_calls_dir.proofs.RemovesCount.{held_count}
 use Rattle.trio_calls_dir.proofs.RemovesTake.{MayClear}
 use Rattle.trio_calls_dir.proofs.Then.{edited_alike}
@@ -104,32 +94,6 @@ regular_leaf nodes tree n x at kind m z there parent =
           let wrong : Regular ≡ Directory = sym kind ∙ directory in cc wrong
     ]
 
--- ---- leases after a slot was cleared
-
-leases_with : (n : ℕ) (w : List ℕ) (b : Parcel) (back : List Shown) → leases_in (with_page n w b) back ≡ leases_in b back
-unfolding with_page
-leases_with n w b back = ap (λ l. record { files = l ++ back; holds = b.holds }) (map-map (λ (f : LentFile). f.lent) (file_with n w) b.writes)
-
--- bytes that are written leave what is possible
-possible_with : (desk : DeskSeen) (n : ℕ) (w : List ℕ) (b : Parcel) (back : List Shown) (nodes : Nodes) (rows : List (Option Row)) → ArePossible desk (with_page n w b) back nodes rows → ArePossible desk b back nodes rows
-unfolding with_page
-possible_with desk n w b back nodes rows p = record {
-  tree = p.tree;
-  agrees = subst (λ q. Agrees desk.sizes desk.root q nodes) (leases_with n w b back) p.agrees;
-  none = p.none;
-  same = p.same;
-  places = subst (λ q. HasPlaces desk.sizes q rows) (leases_with n w b back) p.places;
-}
-
-possible_clear : (desk : DeskSeen) (s : SessionSeen) (dir : ℕ) (name : List ℕ) (place : Place) → place_shown s dir name ≡ Some place → (nodes : Nodes) (rows : List (Option Row))
-    → ArePossible desk (clear dir name s).parcel (clear dir name s).reads nodes rows → ArePossible desk s.parcel s.reads nodes rows
-unfolding clear
-possible_clear desk s dir name place there nodes rows p =
-    possible_with desk (block_number s dir place.block) (with_part (256 * place.slot) (zeros 4) (page_in s.parcel (block_number s dir place.block))) s.parcel s.reads nodes rows
-    (subst
-    (λ (o : Option Place). (let q : SessionSeen = option_map_or (λ at. record (without_made (number_shown s dir at) s) { parcel = cleared_slot (block_number s dir at.block) at.slot s.parcel }) o s in ArePossible desk q.parcel q.reads nodes rows))
-    there p)
-
 -- ---- what the call does to the file
 
 does_remove : (desk : DeskSeen) (kind : Kind) (path : Path) (now : Nodes) (dir n : ℕ) (x : Node) → ComesInto now desk.creds (removing kind path) path dir → find_named now dir (name_of path) ≡ Some n
@@ -152,9 +116,9 @@ leaves_kind : (kind : Kind) (path : Path) (creds : Creds) (t : Target) (s : Sess
 leaves_kind Directory path creds t s = refl
 leaves_kind Regular path creds t s = refl
 
-made_none : (kind : Kind) (path : Path) (t : Target) → ◌≡◌ {A = ℕ} 0 (made_by (removing kind path) t)
-made_none Directory path t = refl
-made_none Regular path t = refl
+made_none : (kind : Kind) (path : Path) (s : SessionSeen) → ◌≡◌ {A = ℕ} 0 (made_by (removing kind path) s)
+made_none Directory path s = refl
+made_none Regular path s = refl
 
 wants_kind : (kind : Kind) (path : Path) (now : Nodes) (creds : Creds) (t : Target) (s : SessionSeen) → wants_of now creds (removing kind path) t s ≡ []
 wants_kind Directory path now creds t s = by (is_done (applied now creds (Rmdir path) 0).reply)
@@ -297,9 +261,6 @@ module _ (desk : DeskSeen) (s : SessionSeen) (call : Call) (path : Path) (dir : 
         (does_remove desk file.kind path (shown_at nodes) dir file.ino x.0 (subst (λ (c : Call). ComesInto (shown_at nodes) desk.creds c path dir) m.call (m.comes nodes rows p)) (m.named nodes rows p) x.1 x.2
         (λ is. dir_has 0 children is nodes rows p))
 
-    abbrev then' : SessionSeen
-    then' = clear dir (name_of path) s
-
     stays : StaysTree desk s (clear dir (name_of path) s) (λ nodes. with_node nodes m.entry.ino None)
     stays nodes nodes' rows shows =
         let p = possible_clear desk s dir (name_of path) m.place m.there nodes rows shows.possible in
@@ -316,36 +277,11 @@ module _ (desk : DeskSeen) (s : SessionSeen) (call : Call) (path : Path) (dir : 
     calls_are : (clear dir (name_of path) s).calls ≡ s.calls
     calls_are = ap (λ (q : SessionSeen). q.calls) left.files.same
 
-    noted_comes : ComesToShown desk then'.parcel then'.reads (then'.calls ++ record { call = call; reply = IsReplied IsDone; made = 0 } ∷ [])
-    noted_comes nodes rows p =
-        let done : Done = record { call = call; reply = IsReplied IsDone; made = 0 } in
-        let q = changes.becomes.more nodes rows p in
-        let was = m.may.comes nodes rows q in
-        let it = does nodes rows q in
-        let shown = shown_by desk (in_hand s) (in_hand then') s.calls nodes rows changes.becomes.more m.may.comes p in
-        let end : batch_nodes desk.creds (s.calls ++ done ∷ []) nodes ≡ with_node (shown_at nodes) m.entry.ino None =
-        batch_more desk.creds s.calls done nodes ∙ it.2 ∙ ap (λ n. with_node (shown_at nodes) n None) m.number in
-        subst
-        (λ (cs : List Done). LegalCalls desk.creds nodes (cs ++ record { call = call; reply = IsReplied IsDone; made = 0 } ∷ [])
-        × Shows (parcel_case desk.sizes desk.creds rows then'.parcel) nodes (batch_nodes desk.creds (cs ++ record { call = call; reply = IsReplied IsDone; made = 0 } ∷ []) nodes)) (sym calls_are) (
-          reply_more desk.creds s.calls done nodes was.0 it.0 it.1,
-          subst (λ (k : Nodes). Shows (parcel_case desk.sizes desk.creds rows then'.parcel) nodes k) (sym end) (changes.becomes.shows nodes (shown_at nodes) rows shown),
-        )
-
     -- with its note the session may go on
     may_noted : MayCall desk (noted call (IsReplied IsDone) 0 (clear dir (name_of path) s))
-    may_noted = record {
-      edits = edit_called desk then' (then'.calls ++ record { call = call; reply = IsReplied IsDone; made = 0 } ∷ []) changes.may;
-      comes = noted_comes;
-      made = λ x i some.
-          elim (In-cases x then'.calls (record { call = call; reply = IsReplied IsDone; made = 0 } ∷ []) i) [
-            | inl old ↦ subst (λ l. In x.made (ino_numbers l)) (sym left.files.inodes) (m.may.made x (subst (λ (cs : List Done). In x cs) calls_are old) some)
-            | inr (inl e) ↦ absurd (some (ap (λ (y : Done). y.made) e))
-            | inr (inr none) ↦ absurd none
-          ];
-      spent = left.files.pages ∙ m.may.spent;
-      spent_numbers = left.numbers ∙ m.may.spent_numbers;
-    }
+    may_noted =
+        may_done desk s (clear dir (name_of path) s) call (λ nodes. with_node nodes m.entry.ino None) m.may changes calls_are left.files.pages left.numbers left.files.inodes
+        (λ nodes rows p. subst (λ n. DoesCall desk (as_done call) (shown_at nodes) (with_node (shown_at nodes) n None)) m.number (does nodes rows p))
 
 -- ---- the end of the try
 
@@ -388,7 +324,7 @@ module _ {D : Type 0} (called : D → Ask → Told → D → Type 0) (seen : D �
       made = refl;
       ends = refl;
       leaves = subst (λ (q : SessionSeen). IsAlike q s3) (sym (ap (λ (c : Call). edited creds c target s) m.call ∙ leaves_kind file.kind path creds target s)) near;
-      numbered = made_none file.kind path target ∙ sym (ap (λ (c : Call). made_by c target) m.call);
+      numbered = made_none file.kind path s ∙ sym (ap (λ (c : Call). made_by c s) m.call);
       calls = calls3;
       same = record { lib = refl; creds = refl; sizes = refl; root = refl };
       comes =

@@ -1,54 +1,32 @@
 -- A file that is removed is held first.
-use Rattle.std.proofs.Common.{◌≡◌, ℕ, Bool, true, false, cond, List, [], ◌∷◌, ◌++◌, Option, Some, Ok, Err, sym, refl, ap, ◌∙◌, subst, inl, inr}
-use mathlib.Core.Path.{fun_ext}
-use Rattle.std.specs.Prelude.{is_some, map, slice_get, ◌||◌}
-use Rattle.std.specs.Option.{option_and_then, option_map, option_map_or}
-use Rattle.std.proofs.lemmas.List.{append-nil}
-use Rattle.trio_lists.specs.Lists.{In}
-use Rattle.trio_lists.proofs.Members.{In-map}
+use Rattle.std.proofs.Common.{◌≡◌, ℕ, true, false, cond, List, [], ◌∷◌, Option, Some, Ok, Err, sym, ap, ◌∙◌, subst}
+use Rattle.std.specs.Option.{option_map_or}
 use Rattle.trio_auxdir.specs.declared.place.Place.{Place}
-use Rattle.trio_auxdir.specs.Slots.{slots_of}
 use Rattle.trio_rights.specs.declared.kind.Kind.{Kind}
 use Rattle.trio_rights.specs.declared.kind.Kind.TheVariants.{Directory, Regular}
 use Rattle.trio_rights.specs.declared.rights.Creds.{Creds}
-use Rattle.trio_layout.specs.Entries.{slot_bytes}
-use Rattle.trio_layout.specs.Slot.{slot_of}
 use Rattle.trio_layout.specs.declared.slot.EntryPart.{EntryPart}
-use Rattle.trio_lease.specs.Shown.{page_at}
-use Rattle.trio_lease.specs.declared.lease.Lease.{Lease}
-use Rattle.trio_lease.specs.declared.lease.Lease.TheVariants.{Write as WriteLease, Read as ReadLease, Hold as HoldLease}
-use Rattle.trio_lease.specs.declared.parts.HoldParts.{HoldParts}
 use Rattle.trio_nodes.specs.declared.grant.GrantKind.TheVariants.{Hold}
 use Rattle.trio_nodes.specs.declared.grant.Holder.{Holder}
-use Rattle.trio_nodes.specs.declared.answers.GrantFault.TheVariants.{Busy as BusyGrant}
 use Rattle.trio_nodes.specs.declared.call.Call.{Call}
 use Rattle.trio_nodes.specs.declared.node.Node.{Node}
 use Rattle.trio_nodes.specs.Nodes.{Nodes, find_named, node_at}
 use Rattle.trio_nodes.specs.Walk.{Path, is_directory, is_root, name_of}
 use Rattle.trio_nodes.specs.After.{batch_nodes}
-use Rattle.trio_onetree.proofs.Children.{find_named-Child}
-use Rattle.trio_desk.specs.Call.{Ask, DeskSeen, Grant, Told, NotLent}
-use Rattle.trio_desk.specs.Calls as desk_calls
-use Rattle.trio_desk.specs.Out.{Parcel, kind_lent}
+use Rattle.trio_desk.specs.Call.{Ask, DeskSeen, Told}
 use Rattle.trio_laws.specs.session.DirCalls.{ComesInto}
-use Rattle.trio_session.specs.Asked.{with_lease}
-use Rattle.trio_session.specs.Layout.{page_in}
-use Rattle.trio_session.specs.Seen.{IsOpenDir, SessionSeen, chain_in, dir_pages, entry_in, entry_shown, every_number, kind_shown, open_kind, place_of, place_shown, read_file, serves}
+use Rattle.trio_session.specs.Seen.{IsOpenDir, SessionSeen, entry_shown, place_shown}
 use Rattle.trio_edit_laws.specs.Calls.{MayCall}
 use Rattle.trio_walk.specs.declared.met.Met.{Met}
 use Rattle.trio_walk.specs.declared.walks.WalkEnd.TheVariants.{Busy as IsBusyWalk, NoMemory as NoWalkMemory}
-use Rattle.trio_walk.specs.Needs.{Needed, asked, node_needs}
-use Rattle.trio_walk.specs.Walks.{FindsEntry, HasMet, InAllShown, IsListed, MayWalk, Took, Way, lent_call, need_of, one_need, served_by, with_leases}
-use Rattle.trio_walk.specs.Asks.{IsAlike, grant_ask}
+use Rattle.trio_walk.specs.Needs.{Needed, node_needs}
+use Rattle.trio_walk.specs.Walks.{FindsEntry, HasMet, InAllShown, IsListed, MayWalk, Took}
 use Rattle.trio_walk.specs.declared.outcome.Outcome.{Outcome}
 use Rattle.trio_walk.specs.declared.outcome.Outcome.TheVariants.{Busy, NoMemory}
-use Rattle.trio_calls_dir.specs.declared.stops.Stop.TheVariants.{Busy as IsBusy, NoMemory as LacksMemory}
 use Rattle.trio_calls_dir.specs.Asks.{named_needs, removing_needs}
-use Rattle.trio_calls_dir.specs.inner.Goes.{Goes, Went, removing}
+use Rattle.trio_calls_dir.specs.inner.Goes.{Goes, removing}
 use Rattle.trio_calls_dir.specs.inner.Removes.{HoldBusyAt}
-use Rattle.trio_calls_dir.proofs.Ends.{stop_goes}
-use Rattle.trio_calls_dir.proofs.Then.{all_then, asks_lent, goes_on, possible_then}
-use Rattle.trio_calls_dir.proofs.Walked.{way_calls, way_may, way_more, way_same, way_went}
+use Rattle.trio_calls_dir.proofs.Held as holding
 
 -- What is known of a file that is to be removed, before it is held: its directory is open, and lists it by the name.
 pub record MayRemove (desk : DeskSeen) (s : SessionSeen) (call' : Call) (path' : Path) (dir' : ℕ) (file' : Met) : Type 0 where
@@ -80,27 +58,6 @@ hold_need : (k : Kind) (n : ℕ) (x : Node) → x.kind ≡ k → removing_needs 
 hold_need Directory n x e = ap (λ q. cond (is_directory q) (record { ino = n; kind = Hold } ∷ []) []) e
 hold_need Regular n x e = ap (λ q. cond (is_directory q) [] (record { ino = n; kind = Hold } ∷ [])) e
 
-asked_one : (s : SessionSeen) (n : ℕ) → asked (served_by s) (record { ino = n; kind = Hold } ∷ []) ≡ one_need s n Hold
-asked_one s n = by (serves s n Hold)
-  where
-    by : (b : Bool) → cond {A = List Needed} (b || false) [] (record { ino = n; kind = Hold } ∷ []) ≡ cond {A = List Needed} b [] (record { ino = n; kind = Hold } ∷ [])
-    by true = refl
-    by false = refl
-
--- ---- holds change no look at a directory
-
-pages_held : (b : Parcel) (hs : List HoldParts) (n : ℕ) → page_in (record b { holds = hs }) n ≡ page_in b n
-unfolding page_in
-pages_held b hs n = refl
-
--- leases that are holds add holds alone
-holds_alone : (more : List Lease) (s : SessionSeen) → ((l : Lease) → In l more → kind_lent l ≡ Hold) → (hs : List HoldParts) × (with_leases s more ≡ record s { parcel = record s.parcel { holds = hs } })
-holds_alone [] s all = (s.parcel.holds, refl)
-holds_alone (HoldLease h ∷ more) s all =
-    let r = holds_alone more (with_lease s (HoldLease h)) (λ l i. all l (inr i)) in (r.0, r.1)
-holds_alone (WriteLease f ∷ more) s all = absurd (let wrong = all (WriteLease f) (inl refl) in cc wrong)
-holds_alone (ReadLease f ∷ more) s all = absurd (let wrong = all (ReadLease f) (inl refl) in cc wrong)
-
 module _ {D : Type 0} (called : D → Ask → Told → D → Type 0) (seen : D → DeskSeen) (d : D) (s : SessionSeen) (call : Call) (path : Path) (dir : ℕ) (file : Met) (r : MayRemove (seen d) s call path dir file) where
   abbrev needs : Nodes → List Needed
   needs now = named_needs now dir (name_of path) (removing_needs file.kind)
@@ -113,136 +70,47 @@ module _ {D : Type 0} (called : D → Ask → Told → D → Type 0) (seen : D �
       ∙ ap (λ (o : Option Node). node_needs file.ino o (removing_needs file.kind)) m.there_now
       ∙ hold_need file.kind file.ino m.after m.kind
 
-  asked_needs : InAllShown (seen d) s (λ now. asked (served_by s) (named_needs now dir (name_of path) (removing_needs file.kind)) ≡ one_need s file.ino Hold)
-  asked_needs nodes rows p = ap (asked (served_by s)) (needs_one nodes rows p) ∙ asked_one s file.ino
-
   -- its directory lists it, so it may be held
   pub may_hold : IsListed (seen d) s file.ino
-  may_hold = record {
-    directory = dir;
-    opens = r.opens.directory;
-    lists = λ nodes rows p.
-        let c = find_named-Child (batch_nodes (seen d).creds s.calls nodes) dir (name_of path) file.ino (r.named nodes rows p) in
-        ap (option_map (λ (x : Node). x.parent)) c.at ∙ ap Some c.parent;
-  }
+  may_hold = holding.may_be_held (seen d) s dir (name_of path) file.ino r.opens r.named
 
   module _ (d1 : D) (s1 : SessionSeen) where
-    -- ---- where it isn't had
-
-    module _ (more : List Lease) (last : List desk_calls.Call) (way : Way called seen d s more last d1 s1) (walks : MayWalk (seen d1) s1) where
-      still : (P : Nodes → Type 0) → InAllShown (seen d) s P → InAllShown (seen d1) s1 P
-      still P h =
-          all_then (seen d) (seen d1) s s1 P (way_same called seen d s more last d1 s1 r.may way walks) (way_more called seen d s more last d1 s1 r.may way walks)
-          (way_calls called seen d s more last d1 s1 r.may way walks) h
-
     pub busy_goes : (holder : Holder) → Took called seen d s file Hold (Err (IsBusyWalk holder)) d1 s1
         → Goes called seen d s call (λ now. named_needs now dir (name_of path) (removing_needs file.kind)) (Busy holder) 0 d1 s1
-    busy_goes holder t =
-        let tk = t.taken in
-        let need : List Needed = record { ino = file.ino; kind = Hold } ∷ [] in
-        stop_goes called seen d s call (λ now. named_needs now dir (name_of path) (removing_needs file.kind)) (λ now. named_needs now dir (name_of path) (removing_needs file.kind)) r.may d1 s1 s1
-        (λ these now. Unit {0}) (IsBusyWalk holder)
-        (record { more = t.more; last = t.last; need = need; way = t.way; ends = (file.ino, Hold, tk.1, refl); shown = λ nodes rows p. tt }) t.may refl tt
-        (λ nodes rows p. (
-          [],
-          still t.more t.last t.way t.may (λ now. asked (served_by s) (named_needs now dir (name_of path) (removing_needs file.kind)) ≡ one_need s file.ino Hold) asked_needs nodes rows p
-              ∙ tk.2 ∙ ap (λ (m : List Lease). (map need_of m ++ (record { ino = file.ino; kind = Hold } ∷ [])) ++ []) (sym tk.0),
-        ))
-        (λ nodes rows p. ([], sym (append-nil (named_needs (batch_nodes (seen d1).creds s1.calls nodes) dir (name_of path) (removing_needs file.kind)))))
-        (λ reply e. absurd (cc e)) (Err (IsBusy holder)) refl
+    busy_goes holder t = holding.busy_goes called seen d s call file r.may needs needs_one d1 s1 holder t
 
     pub short_goes : Took called seen d s file Hold (Err NoWalkMemory) d1 s1
         → Goes called seen d s call (λ now. named_needs now dir (name_of path) (removing_needs file.kind)) NoMemory 0 d1 s1
-    short_goes t =
-        let tk = t.taken in
-        stop_goes called seen d s call (λ now. named_needs now dir (name_of path) (removing_needs file.kind)) (λ now. named_needs now dir (name_of path) (removing_needs file.kind)) r.may d1 s1 s1
-        (λ these now. Unit {0}) NoWalkMemory
-        (record { more = t.more; last = t.last; need = tk.0; way = t.way; ends = tk.2; shown = λ nodes rows p. tt }) t.may refl tt
-        (λ nodes rows p. (
-          tk.1,
-          still t.more t.last t.way t.may (λ now. asked (served_by s) (named_needs now dir (name_of path) (removing_needs file.kind)) ≡ one_need s file.ino Hold) asked_needs nodes rows p ∙ tk.3,
-        ))
-        (λ nodes rows p. ([], sym (append-nil (named_needs (batch_nodes (seen d1).creds s1.calls nodes) dir (name_of path) (removing_needs file.kind)))))
-        (λ reply e. absurd (cc e)) (Err LacksMemory) refl
+    short_goes t = holding.short_goes called seen d s call file r.may needs needs_one d1 s1 t
 
     -- where the library itself keeps it busy a grant of the session's does
     pub busy_off : (holder : Holder) → Took called seen d s file Hold (Err (IsBusyWalk holder)) d1 s1 → HoldBusyAt (seen d) s file.ino (Busy holder)
-    busy_off holder t = λ mine.
-        let i : In (record { ask = Grant file.ino Hold; told = NotLent (BusyGrant holder) }) t.last =
-        subst (λ l. In (record { ask = Grant file.ino Hold; told = NotLent (BusyGrant holder) }) l) (sym t.taken.1) (inl refl) in
-        let b = t.way.busy file.ino Hold holder i in
-        let q = way_more called seen d s t.more t.last d1 s1 r.may t.way t.may b.0 b.1 b.2 in
-        record {
-          busy = t.way.others file.ino Hold holder i mine;
-          nodes = b.0;
-          rows = b.1;
-          possible = possible_then (seen d) (seen d1) s (way_same called seen d s t.more t.last d1 s1 r.may t.way t.may) b.0 b.1 q;
-        }
+    busy_off holder t = holding.busy_off called seen d s call file r.may needs needs_one d1 s1 holder t
 
     -- ---- where it is had
 
     module _ (t : Took called seen d s file Hold (Ok true) d1 s1) where
-      went : Went called seen d s (map lent_call t.more) d1 s1
-      went = way_went called seen d s t.more d1 s1 r.may (subst (λ l. Way called seen d s t.more l d1 s1) t.taken.0 t.way) t.may
-
       -- what goes on then goes with the hold
       pub held_goes : (end : Outcome) (number : ℕ) (d' : D) (s' : SessionSeen) → Goes called seen d1 s1 call (λ now. []) end number d' s'
           → Goes called seen d s call (λ now. named_needs now dir (name_of path) (removing_needs file.kind)) end number d' s'
-      held_goes end number d' s' goes =
-          goes_on called seen d d1 d' s s1 s' call (map lent_call t.more) went end number (λ now. named_needs now dir (name_of path) (removing_needs file.kind)) (λ now. [])
-          (λ nodes rows p.
-          ap (map grant_ask)
-          (still t.more t.last t.way t.may (λ now. asked (served_by s) (named_needs now dir (name_of path) (removing_needs file.kind)) ≡ one_need s file.ino Hold) asked_needs nodes rows p ∙ t.taken.1)
-          ∙ asks_lent t.more ∙ sym (append-nil (map (λ (c : desk_calls.Call). c.ask) (map lent_call t.more))))
-          goes
-
-      each_hold : (l : Lease) → In l t.more → kind_lent l ≡ Hold
-      each_hold l i = by (serves s file.ino Hold) (subst (λ z. In (need_of l) z) (sym t.taken.1) (In-map need_of l t.more i))
-        where
-          by : (b : Bool) → In (need_of l) (cond b [] (record { ino = file.ino; kind = Hold } ∷ [])) → kind_lent l ≡ Hold
-          by true j = absurd j
-          by false (inl e) = ap (λ (n : Needed). n.kind) e
-          by false (inr none) = absurd none
-
-      held : (hs : List HoldParts) × (with_leases s t.more ≡ record s { parcel = record s.parcel { holds = hs } })
-      held = holds_alone t.more s each_hold
-
-      abbrev x : SessionSeen
-      x = record s { parcel = record s.parcel { holds = held.0 } }
-
-      alike : IsAlike x s1
-      alike = subst (λ (q : SessionSeen). IsAlike q s1) held.1 t.way.took.same
-
-      place_held : place_shown s1 dir (name_of path) ≡ place_shown s dir (name_of path)
-      place_held =
-          ap (λ (q : SessionSeen). place_shown q dir (name_of path)) alike
-          ∙ ap (λ (f : ℕ → List ℕ). place_of (kind_shown s dir) (slots_of every_number (cond (is_some (open_kind s dir)) (map f (chain_in s dir).blocks) (option_map_or dir_pages (read_file s dir) []))) (name_of path))
-          (fun_ext (pages_held s.parcel held.0))
-
-      entry_held : (place : Place) → entry_shown s1 dir place ≡ entry_shown s dir place
-      entry_held place =
-          ap (λ (q : SessionSeen). entry_shown q dir place) alike
-          ∙ ap (λ (f : ℕ → List ℕ).
-          option_and_then (λ bytes. entry_in (slot_of every_number (slot_bytes place.slot bytes)))
-          (cond (is_some (open_kind s dir)) (option_map f (slice_get (chain_in s dir).blocks place.block)) (option_and_then (λ g. page_at g.blocks place.block) (read_file s dir))))
-          (fun_ext (pages_held s.parcel held.0))
+      held_goes end number d' s' goes = holding.held_goes called seen d s call file r.may needs needs_one d1 s1 t end number d' s' goes
 
       over : (P : Nodes → Type 0) → InAllShown (seen d) s P → InAllShown (seen d1) s1 P
-      over P h = still t.more t.last t.way t.may P h
+      over P h = holding.over called seen d s call file r.may needs needs_one d1 s1 t P h
 
       pub may_clear : MayClear (seen d1) s1 call path dir file
       may_clear = record {
-        may = way_may called seen d s t.more t.last d1 s1 r.may t.way t.may;
+        may = holding.may_held called seen d s call file r.may needs needs_one d1 s1 t;
         walks = t.may;
         call = r.call;
-        opens = record { directory = ap (λ (q : SessionSeen). open_kind q dir) alike ∙ r.opens.directory; index = t.way.took.indexed dir r.opens.index };
+        opens = holding.open_held called seen d s call file r.may needs needs_one d1 s1 t dir r.opens;
         comes = λ nodes rows p.
-            subst (λ (k : Creds). ComesInto (batch_nodes (seen d1).creds s1.calls nodes) k call path dir) (sym went.same.creds)
+            subst (λ (k : Creds). ComesInto (batch_nodes (seen d1).creds s1.calls nodes) k call path dir) (sym (holding.went called seen d s call file r.may needs needs_one d1 s1 t).same.creds)
             (over (λ now. ComesInto now (seen d).creds call path dir) r.comes nodes rows p);
         place = r.entry.0;
         entry = r.entry.1;
-        there = place_held ∙ r.entry.2;
-        says = entry_held r.entry.0 ∙ r.entry.3;
+        there = holding.place_held called seen d s call file r.may needs needs_one d1 s1 t dir (name_of path) ∙ r.entry.2;
+        says = holding.entry_held called seen d s call file r.may needs needs_one d1 s1 t dir r.entry.0 ∙ r.entry.3;
         number = r.entry.4;
         node = over (λ now. (x : Node) × (node_at now file.ino ≡ Some x) × (x.kind ≡ file.kind)) (λ nodes rows p. (let m = r.met.1.met nodes rows p in (m.after, m.there_now, m.kind)));
         named = over (λ now. find_named now dir (name_of path) ≡ Some file.ino) r.named;

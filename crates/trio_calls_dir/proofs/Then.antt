@@ -16,6 +16,8 @@ use Rattle.trio_rights.specs.declared.rights.Mode.{Mode}
 use Rattle.trio_layout.specs.Body.{block_count}
 use Rattle.trio_layout.specs.Chain.{Chain}
 use Rattle.trio_layout.specs.declared.slot.EntryPart.{EntryPart}
+use Rattle.trio_lease.specs.declared.parts.FreshParts.{FreshParts}
+use Rattle.trio_lease.specs.declared.parts.InoParts.{InoParts}
 use Rattle.trio_lease.specs.Shown.{LentFile}
 use Rattle.trio_lease.specs.declared.lease.Lease.{Lease}
 use Rattle.trio_lease.specs.declared.lease.Lease.TheVariants.{Write as WriteLease, Read as ReadLease, Hold as HoldLease}
@@ -42,8 +44,8 @@ use Rattle.trio_walk.specs.Walks.{InAllShown, InBoth, TookLeases, lent_call, nee
 use Rattle.trio_walk.specs.Asks.{AskedBy, IsAlike, IsGiven, allot_asks, grant_ask, took}
 use Rattle.trio_walk.specs.declared.outcome.Outcome.{Outcome}
 use Rattle.trio_walk.specs.declared.outcome.Outcome.TheVariants.{Replied, Busy, NoMemory}
-use Rattle.trio_calls_dir.specs.Asks.{Target, numbers_for, edited, filled_new, moved, moved_shown, new_body, pages_for, slot_growth, wants_of, with_slot}
-use Rattle.trio_calls_dir.specs.inner.Goes.{Goes, LeavesHere, SameDesk, Went, asks_from}
+use Rattle.trio_calls_dir.specs.Asks.{Target, as_lent, made_by, new_number, numbers_for, edited, filled_new, moved, moved_shown, new_body, pages_for, slot_growth, wants_of, with_slot}
+use Rattle.trio_calls_dir.specs.inner.Goes.{Goes, IsNumber, LeavesHere, SameDesk, Went, asks_from}
 use Rattle.trio_calls_dir.proofs.Alike.{alike_then}
 use Rattle.trio_calls_dir.proofs.Given.{served_more}
 
@@ -200,7 +202,7 @@ module _ (is : List ℕ) (f : ℕ) (r : Room) where
 
   new_other : (creds : Creds) (kind : Kind) (path : Path) (mode : Mode) (t : Target) (x : SessionSeen) → filled_new creds kind path mode t (other x) ≡ other (filled_new creds kind path mode t x)
   new_other creds kind path mode t x =
-      ap (fill t.dir (name_of path) t.ino kind (new_body creds mode)) (slot_other t.dir x) ∙ fill_other t.dir (name_of path) t.ino kind (new_body creds mode) (with_slot t.dir x)
+      ap (fill t.dir (name_of path) (new_number x) kind (new_body creds mode)) (slot_other t.dir x) ∙ fill_other t.dir (name_of path) (new_number x) kind (new_body creds mode) (with_slot t.dir x)
 
   moved_other : (from to : Path) (t : Target) (x : SessionSeen) → moved from to t (other x) ≡ other (moved from to t x)
   moved_other from to t x = ap go (slot_other t.new_dir x) ∙ by (moved_shown ready t.ino)
@@ -240,6 +242,20 @@ edited_alike creds call t x y e =
     ap (edited creds call t) e ∙ edited_other y.indexed y.finds y.room creds call t x in
     parts ∙ ap (λ (q : SessionSeen). record (edited creds call t x) { indexed = q.indexed; finds = q.finds; room = q.room }) (sym parts)
 
+-- so is a directory with an empty slot
+pub slot_alike : (dir : ℕ) (x y : SessionSeen) → IsAlike x y → IsAlike (with_slot dir x) (with_slot dir y)
+slot_alike dir x y e =
+    let parts : with_slot dir y ≡ record (with_slot dir x) { indexed = y.indexed; finds = y.finds; room = y.room } =
+    ap (with_slot dir) e ∙ slot_other y.indexed y.finds y.room dir x in
+    parts ∙ ap (λ (q : SessionSeen). record (with_slot dir x) { indexed = q.indexed; finds = q.finds; room = q.room }) (sym parts)
+
+-- and a slot that is filled
+pub fill_alike : (dir : ℕ) (name : List ℕ) (ino : ℕ) (kind : Kind) (body : List ℕ) (x y : SessionSeen) → IsAlike x y → IsAlike (fill dir name ino kind body x) (fill dir name ino kind body y)
+fill_alike dir name ino kind body x y e =
+    let parts : fill dir name ino kind body y ≡ record (fill dir name ino kind body x) { indexed = y.indexed; finds = y.finds; room = y.room } =
+    ap (fill dir name ino kind body) e ∙ fill_other y.indexed y.finds y.room dir name ino kind body x in
+    parts ∙ ap (λ (q : SessionSeen). record (fill dir name ino kind body x) { indexed = q.indexed; finds = q.finds; room = q.room }) (sym parts)
+
 pub leaves_alike : (creds : Creds) (call : Call) (t : Target) (x y s' : SessionSeen) (end : Outcome) → IsAlike x y → LeavesHere creds call t y end s' → LeavesHere creds call t x end s'
 leaves_alike creds call t x y s' (Replied (IsReplied answer)) e h = alike_then (edited creds call t x) (edited creds call t y) s' (edited_alike creds call t x y e) h
 leaves_alike creds call t x y s' (Replied NotFound) e h = alike_then x y s' e h
@@ -254,6 +270,35 @@ leaves_alike creds call t x y s' (Replied (NoInodes w f)) e h = alike_then x y s
 leaves_alike creds call t x y s' (Replied TooLarge) e h = alike_then x y s' e h
 leaves_alike creds call t x y s' (Busy holder) e h = alike_then x y s' e h
 leaves_alike creds call t x y s' NoMemory e h = alike_then x y s' e h
+
+-- the number of a new file doesn't go by them
+pub made_alike : (call : Call) (x y : SessionSeen) → IsAlike x y → made_by call y ≡ made_by call x
+made_alike (Mkdir path mode) x y e = ap (λ (q : SessionSeen). new_number q) e
+made_alike (Create path mode) x y e = ap (λ (q : SessionSeen). new_number q) e
+made_alike (Unlink path) x y e = refl
+made_alike (Rmdir path) x y e = refl
+made_alike (Rename from to) x y e = refl
+made_alike (Write path at bytes) x y e = refl
+made_alike (Read path at len) x y e = refl
+made_alike (Truncate path size) x y e = refl
+made_alike (ListNames path from) x y e = refl
+made_alike (Stat path) x y e = refl
+made_alike (Chmod path mode) x y e = refl
+
+number_alike : (call : Call) (x y : SessionSeen) (end : Outcome) (n : ℕ) → IsAlike x y → IsNumber call y end n → IsNumber call x end n
+number_alike call x y (Replied (IsReplied answer)) n e h = h ∙ made_alike call x y e
+number_alike call x y (Replied NotFound) n e h = h
+number_alike call x y (Replied Exists) n e h = h
+number_alike call x y (Replied NotDir) n e h = h
+number_alike call x y (Replied IsDir) n e h = h
+number_alike call x y (Replied NotEmpty) n e h = h
+number_alike call x y (Replied Denied) n e h = h
+number_alike call x y (Replied IntoItself) n e h = h
+number_alike call x y (Replied (NoSpace w f)) n e h = h
+number_alike call x y (Replied (NoInodes w f)) n e h = h
+number_alike call x y (Replied TooLarge) n e h = h
+number_alike call x y (Busy holder) n e h = h
+number_alike call x y NoMemory n e h = h
 
 -- what is wanted doesn't go by them either
 pages_alike : (call : Call) (t : Target) (x y : SessionSeen) → IsAlike x y → pages_for call t y ≡ pages_for call t x
@@ -353,6 +398,9 @@ module _ {D : Type 0} (called : D → Ask → Told → D → Type 0) (seen : D �
       let first : SessionSeen = took s (map told given) in
       let tolds : took s (map told all) ≡ took first (map told goes.given) = ap (took s) (map-append told given goes.given) ∙ took_more s (map told given) (map told goes.given) in
       let near : IsAlike (took first (map told goes.given)) (took s1 (map told goes.given)) = took_alike first s1 (map told goes.given) went.alike in
+      let lent : as_lent s1 (took s1 (map told goes.given)) ≡ as_lent s (took s1 (map told goes.given)) =
+      ap (λ (p : List FreshParts). let y : SessionSeen = took s1 (map told goes.given) in record y { parcel = record y.parcel { pages = p; inodes = s1.parcel.inodes } }) went.pages
+      ∙ ap (λ (i : List InoParts). let y : SessionSeen = took s1 (map told goes.given) in record y { parcel = record y.parcel { pages = s.parcel.pages; inodes = i } }) went.inodes in
       record {
         target = t;
         given = given ++ goes.given;
@@ -363,19 +411,23 @@ module _ {D : Type 0} (called : D → Ask → Told → D → Type 0) (seen : D �
         leaves =
             subst (λ x. LeavesHere creds call t x end s') (sym tolds)
             (leaves_alike creds call t (took first (map told goes.given)) (took s1 (map told goes.given)) s' end near goes.leaves);
-        numbered = goes.numbered;
+        numbered =
+            subst (λ x. IsNumber call x end number) (sym tolds)
+            (number_alike call (took first (map told goes.given)) (took s1 (map told goes.given)) end number near goes.numbered);
         calls = goes.calls ∙ went.calls;
         same = same_then (seen d) (seen d1) (seen d') went.same goes.same;
         comes = goes.comes;
         asks = λ nodes rows p.
             let now : Nodes = batch_nodes creds s'.calls nodes in
-            let wants : List Ask = wants_of now creds call t (took s1 (map told goes.given)) in
+            let wants : List Ask = wants_of now creds call t (as_lent s1 (took s1 (map told goes.given))) in
             let a = asked_behind end (map ask given) (map ask (goes.given ++ goes.last)) (map grant_ask (asked (served_by s1) (needs1 now)) ++ wants) (goes.asks nodes rows p) in
             let these : map ask given ++ map ask (goes.given ++ goes.last) ≡ map ask (all ++ goes.last) = sym (map-append ask given (goes.given ++ goes.last)) ∙ ap (map ask) regroup in
             let wanted' : map ask given ++ (map grant_ask (asked (served_by s1) (needs1 now)) ++ wants) ≡ asks_from s (needs0 now) now creds call t (took s (map told all)) =
             sym (append_assoc (map ask given) (map grant_ask (asked (served_by s1) (needs1 now))) wants)
             ∙ ap (λ l. l ++ wants) (sym (at_end nodes rows p))
-            ∙ ap (λ l. map grant_ask (asked (served_by s) (needs0 now)) ++ l) (wants_alike now creds call t (took first (map told goes.given)) (took s1 (map told goes.given)) near ∙ ap (wants_of now creds call t) (sym tolds)) in
+            ∙ ap (λ l. map grant_ask (asked (served_by s) (needs0 now)) ++ l) (ap (wants_of now creds call t) lent
+            ∙ wants_alike now creds call t (as_lent s (took first (map told goes.given))) (as_lent s (took s1 (map told goes.given))) (ap (as_lent s) near)
+            ∙ ap (λ x. wants_of now creds call t (as_lent s x)) (sym tolds)) in
             subst (λ l. AskedBy end l (asks_from s (needs0 now) now creds call t (took s (map told all)))) these (subst (λ l. AskedBy end (map ask given ++ map ask (goes.given ++ goes.last)) l) wanted' a);
         more = λ nodes rows p.
             let q = goes.more nodes rows p in

@@ -32,7 +32,7 @@ use Rattle.trio_calls_dir.proofs.Then.{desk_same, given_all, possible_then, same
 -- ---- another moment
 
 -- what the calls come to is shown on another state of the desk too
-comes_now : (desk desk' : DeskSeen) (s : SessionSeen) → SameDesk desk desk' → ComesToShown desk s.parcel s.reads s.calls → ComesToShown desk' s.parcel s.reads s.calls
+pub comes_now : (desk desk' : DeskSeen) (s : SessionSeen) → SameDesk desk desk' → ComesToShown desk s.parcel s.reads s.calls → ComesToShown desk' s.parcel s.reads s.calls
 comes_now desk desk' s same comes =
     subst (λ k. ComesToShown k s.parcel s.reads s.calls) (sym (desk_same desk desk' same))
     (λ nodes rows p. comes nodes rows (record { tree = p.tree; agrees = p.agrees; none = p.none; same = p.same; places = p.places }))
@@ -145,6 +145,17 @@ module _ {D : Type 0} (called : D → Ask → Told → D → Type 0) (seen : D �
   calls_stay q (ReadLease f ∷ ls) = calls_stay (with_lease q (ReadLease f)) ls
   calls_stay q (HoldLease h ∷ ls) = calls_stay (with_lease q (HoldLease h)) ls
 
+  allotted_stays : (q : SessionSeen) (ls : List Lease) → ((with_leases q ls).parcel.pages ≡ q.parcel.pages) × ((with_leases q ls).parcel.inodes ≡ q.parcel.inodes)
+  allotted_stays q [] = (refl, refl)
+  allotted_stays q (WriteLease f ∷ ls) = allotted_stays (with_lease q (WriteLease f)) ls
+  allotted_stays q (ReadLease f ∷ ls) = allotted_stays (with_lease q (ReadLease f)) ls
+  allotted_stays q (HoldLease h ∷ ls) = allotted_stays (with_lease q (HoldLease h)) ls
+
+  pub way_allotted : (s1.parcel.pages ≡ s.parcel.pages) × (s1.parcel.inodes ≡ s.parcel.inodes)
+  way_allotted =
+      let stays = allotted_stays s more in
+      (ap (λ (y : SessionSeen). y.parcel.pages) alike ∙ stays.0, ap (λ (y : SessionSeen). y.parcel.inodes) alike ∙ stays.1)
+
   pub way_calls : s1.calls ≡ s.calls
   way_calls = ap (λ (y : SessionSeen). y.calls) alike ∙ calls_stay s more
 
@@ -155,6 +166,8 @@ way_went called seen d s more d1 s1 may way walks = record {
   each = given_all more;
   made = subst (λ l. Calls called d l d1) (append-nil (map lent_call more)) way.made;
   alike = way_alike called seen d s more [] d1 s1 may way walks;
+  pages = (way_allotted called seen d s more [] d1 s1 may way walks).0;
+  inodes = (way_allotted called seen d s more [] d1 s1 may way walks).1;
   calls = way_calls called seen d s more [] d1 s1 may way walks;
   same = way_same called seen d s more [] d1 s1 may way walks;
   more = way_more called seen d s more [] d1 s1 may way walks;

@@ -1,5 +1,5 @@
 -- The calls of the desk that one call on a directory makes, and how it ends: Mkdir, Create, Unlink, Rmdir, Rename and List.
-use Rattle.std.specs.Prelude.{◌≡◌, ℕ, ◌+◌, ◌==◌, Bool, IsTrue, List, [], ◌∷◌, ◌++◌, map, length, is_some, Option, None, Ok, if◌then◌else◌}
+use Rattle.std.specs.Prelude.{◌≡◌, ◌≤◌, ℕ, ◌+◌, ◌==◌, Bool, IsTrue, List, [], ◌∷◌, ◌++◌, map, length, is_some, unwrap_or, Option, None, Some, Ok, if◌then◌else◌}
 use Rattle.std.specs.Option.{option_map, option_map_or, option_or}
 use Rattle.trio_rights.specs.declared.kind.Kind.{Kind}
 use Rattle.trio_rights.specs.declared.kind.Kind.TheVariants.{Directory, Regular}
@@ -18,7 +18,7 @@ use Rattle.trio_nodes.specs.Walk.{Path, dir_of, is_above, is_directory, is_root,
 use Rattle.trio_nodes.specs.Apply.{applied, is_done}
 use Rattle.trio_desk.specs.Call.{Ask, DeskSeen, Told}
 use Rattle.trio_session.specs.Layout.{growth, size_in}
-use Rattle.trio_session.specs.Seen.{MadeFile, SessionSeen, body_in, chain_in, clear, empty_shown, fill, grown, held_file, is_allotted, made_body, made_file, retitle}
+use Rattle.trio_session.specs.Seen.{MadeFile, SessionSeen, body_in, chain_in, clear, empty_shown, fill, grown, held_file, is_allotted, lowest_from, made_body, made_file, retitle, spare_numbers}
 use Rattle.trio_walk.specs.Needs.{Needed, asked, into_needs, needs_if, node_needs, reached_by, reached_needs, walk_needs}
 use Rattle.trio_walk.specs.Walks.{served_by, shows_root}
 use Rattle.trio_walk.specs.Asks.{AskedBy, Called, IsAlike, Tried, allot_asks, grant_ask, noted}
@@ -27,10 +27,13 @@ use Rattle.trio_walk.specs.declared.outcome.Outcome.TheVariants.{Replied}
 
 -- ---- the condition
 
--- it removes a file, or lists names
+-- it makes a file, of a mode of nine bits; or it removes or renames one, or lists names
 abbrev pub IsDirCall : Call → Type 0
+IsDirCall (Mkdir path mode) = mode.0 ≤ 511
+IsDirCall (Create path mode) = mode.0 ≤ 511
 IsDirCall (Unlink path) = Unit {0}
 IsDirCall (Rmdir path) = Unit {0}
+IsDirCall (Rename from to) = Unit {0}
 IsDirCall (ListNames path from) = Unit {0}
 IsDirCall call = ⊥
 
@@ -84,7 +87,7 @@ dir_needs nodes creds shown call = []
 
 -- ---- what is wanted
 
--- where a call comes to: its directory, that to which a rename moves, and the file that is made, removed, moved or listed
+-- where a call comes to: its directory, that to which a rename moves, and the file that is moved or listed
 pub record Target : Type 0 where
   pub dir : ℕ
   pub new_dir : ℕ
@@ -112,11 +115,15 @@ abbrev pub wants_of : Nodes → Creds → Call → Target → SessionSeen → Li
 wants_of nodes creds call t s =
     if is_done (applied nodes creds call 0).reply then allot_asks (pages_for call t s) (numbers_for call) else []
 
+-- the session with all that it was lent, and without what was allotted to it since
+abbrev pub as_lent : SessionSeen → SessionSeen → SessionSeen
+as_lent s all = record all { parcel = record all.parcel { pages = s.parcel.pages; inodes = s.parcel.inodes } }
+
 -- What one try of a call asks, in nodes that the session shows: the grants that it needs and no lease serves, and then one allotment.
--- `all` is the session with all that it was lent.
+-- `all` is the session with all that it was given.
 abbrev pub asks_of : Nodes → Creds → SessionSeen → Call → Target → SessionSeen → List Ask
 asks_of nodes creds s call t all =
-    map grant_ask (asked (served_by s) (dir_needs nodes creds (shows_root s) call)) ++ wants_of nodes creds call t all
+    map grant_ask (asked (served_by s) (dir_needs nodes creds (shows_root s) call)) ++ wants_of nodes creds call t (as_lent s all)
 
 -- ---- what is left
 
@@ -128,9 +135,13 @@ with_slot dir s = if is_some (empty_shown s dir) then s else grown dir (size_in 
 abbrev pub new_body : Creds → Mode → List ℕ
 new_body creds mode = body_bytes (record { mode = mode; uid = creds.uid; gid = creds.gid; head = 0; size = 0 })
 
--- a new entry takes the first empty slot
+-- a new file takes the lowest spare number
+abbrev pub new_number : SessionSeen → ℕ
+new_number s = unwrap_or (lowest_from None (spare_numbers s)) 0
+
+-- and its entry the first empty slot
 abbrev pub filled_new : Creds → Kind → Path → Mode → Target → SessionSeen → SessionSeen
-filled_new creds kind path mode t s = fill t.dir (name_of path) t.ino kind (new_body creds mode) (with_slot t.dir s)
+filled_new creds kind path mode t s = fill t.dir (name_of path) (new_number s) kind (new_body creds mode) (with_slot t.dir s)
 
 -- the kind and the body that a file takes with it to another directory: of one that was made its own, and the body of its slot; of a held
 -- one, which has none of the allotted numbers, those of its hold
@@ -155,19 +166,19 @@ edited creds (Rename from to) t s = if t.dir == t.new_dir then retitle t.dir (na
 edited creds call t s = s
 
 -- the number of the file that it made
-abbrev pub made_by : Call → Target → ℕ
-made_by (Mkdir path mode) t = t.ino
-made_by (Create path mode) t = t.ino
-made_by call t = 0
+abbrev pub made_by : Call → SessionSeen → ℕ
+made_by (Mkdir path mode) s = new_number s
+made_by (Create path mode) s = new_number s
+made_by call s = 0
 
 -- What a try leaves of a session that took all that was given: where the call is done its directories have their edits, and else nothing
 -- was written; a call that is replied is the last one done, with its reply.
 abbrev pub Leaves : Creds → Call → Target → Outcome → SessionSeen → SessionSeen → Type 0
-Leaves creds call t (Replied (IsReplied answer)) s s' = IsAlike (noted call (IsReplied answer) (made_by call t) (edited creds call t s)) s'
+Leaves creds call t (Replied (IsReplied answer)) s s' = IsAlike (noted call (IsReplied answer) (made_by call s) (edited creds call t s)) s'
 Leaves creds call t (Replied refusal) s s' = IsAlike (noted call refusal 0 s) s'
 Leaves creds call t end s s' = IsAlike s s'
 
--- a call that no check refuses comes to these directories
+-- a call that no check refuses comes to these directories, and a rename to this file
 abbrev pub ComesTo : Target → Nodes → Creds → Call → Type 0
 ComesTo t nodes creds (Mkdir path mode) = walk_into nodes creds (dir_of path ∷ []) (dir_of path) ≡ Ok t.dir
 ComesTo t nodes creds (Create path mode) = walk_into nodes creds (dir_of path ∷ []) (dir_of path) ≡ Ok t.dir
@@ -175,6 +186,7 @@ ComesTo t nodes creds (Unlink path) = walk_into nodes creds (dir_of path ∷ [])
 ComesTo t nodes creds (Rmdir path) = walk_into nodes creds (dir_of path ∷ []) (dir_of path) ≡ Ok t.dir
 ComesTo t nodes creds (Rename from to) =
     (walk_into nodes creds (dir_of from ∷ dir_of to ∷ []) (dir_of from) ≡ Ok t.dir) × (walk_into nodes creds (dir_of from ∷ dir_of to ∷ []) (dir_of to) ≡ Ok t.new_dir)
+    × (find_named nodes t.dir (name_of from) ≡ Some t.ino)
 ComesTo t nodes creds (ListNames path from) = walk nodes creds [] path ≡ Ok t.ino
 ComesTo t nodes creds call = Unit {0}
 
@@ -183,7 +195,7 @@ abbrev pub ComesBy : Outcome → Target → Nodes → Creds → Call → Type 0
 ComesBy (Replied answer) t nodes creds call = IsTrue (is_done (applied nodes creds call 0).reply) → ComesTo t nodes creds call
 ComesBy end t nodes creds call = Unit {0}
 
--- What is true of a try in the nodes that the session shows, by the session with all that it was lent: where no check refuses the call and
+-- What is true of a try in the nodes that the session shows, by the session with all that it was given: where no check refuses the call and
 -- it is replied it has come to these directories, and it has asked for just what is to be asked.
 pub record TriedIn (creds : Creds) (s : SessionSeen) (call : Call) (end : Outcome) (t : Target) (all : SessionSeen) (asks' : List Ask) (nodes : Nodes) : Type 0 where
   pub comes : ComesBy end t nodes creds call

@@ -2,3 +2,6 @@ pub mod Goes
 pub mod Lists
 pub mod Tries
 pub mod Removes
+pub mod Moves
+pub mod Rooms
+pub mod Chmods

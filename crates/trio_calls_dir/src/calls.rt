@@ -19,16 +19,16 @@ use trio_walk::Outcome;
 
 /// How one try of a call ends. Busy gives the call back.
 #[derive(Drop)]
-enum TryEnd {
+pub(crate) enum TryEnd {
     Replied(Reply),
     Busy(Call, Holder),
     NoMemory,
 }
 
-/// Makes a call on a directory: removes a file, or lists names.
+/// Makes a call on a directory: makes, removes or renames a file, or lists names.
 ///
-/// It takes all its leases, then its memory, and then changes bytes. Where the desk answers that one is busy the session
-/// settles, and the call is tried once more.
+/// It takes all its leases, then its memory, then its allotment, and then changes bytes. Where the
+/// desk answers that one is busy the session settles, and the call is tried once more.
 pub fn dir_call<D: Desk>(alloc: Global, session: &mut Session, desk: &mut D, call: Call) -> Outcome
     requires may { MayCall (D.seen desk.old) session.old }
     requires dir { IsDirCall call }
@@ -91,7 +91,7 @@ fn attempt<D: Desk>(alloc: Global, session: &mut Session, desk: &mut D, call: Ca
 }
 
 // the same reply once more; only names take memory
-fn twin(alloc: Global, reply: &Reply) -> Result<Reply, NoMemory>
+pub(crate) fn twin(alloc: Global, reply: &Reply) -> Result<Reply, NoMemory>
     requires { IsOfDir reply.now }
     ensures same { IfOk result (λ r. r ≡ reply.now) }
     ensures only { IfErr result (λ fault. IsNames reply.now) }

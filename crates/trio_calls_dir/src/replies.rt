@@ -8,6 +8,8 @@ ghost use Rattle.trio_calls_dir.specs.inner.Goes.{Goes, OthersHold, StopsBy, num
 ghost use Rattle.trio_calls_dir.specs.inner.Tries.{HasNothing};
 
 use crate::lists::list;
+use crate::makes::make;
+use crate::moves::rename;
 use crate::paths::is_root;
 use crate::removes::remove;
 use crate::stops::Stop;
@@ -40,11 +42,21 @@ pub(crate) fn reply_to<D: Desk>(
     ensures others { HasNothing session.old → OthersHold session.old.lib (try_ends result) }
 {
     match call {
-        // the root isn't removed
+        // the root is there
+        Call::Mkdir { path, .. } if is_root(path) => refused(session, Reply::Exists),
+        Call::Create { path, .. } if is_root(path) => refused(session, Reply::Exists),
+        Call::Mkdir { path, mode } => {
+            make(alloc, session, desk, call, Kind::Directory, path, *mode)
+        }
+        Call::Create { path, mode } => {
+            make(alloc, session, desk, call, Kind::Regular, path, *mode)
+        }
+        // and isn't removed
         Call::Unlink { path } if is_root(path) => refused(session, Reply::IsDir),
         Call::Rmdir { path } if is_root(path) => refused(session, Reply::Denied),
         Call::Unlink { path } => remove(alloc, session, desk, call, Kind::Regular, path),
         Call::Rmdir { path } => remove(alloc, session, desk, call, Kind::Directory, path),
+        Call::Rename { from, to } => rename(alloc, session, desk, call, from, to),
         Call::List { path, from } => list(alloc, session, desk, call, path, *from),
         _ => unreachable!(),
     }

@@ -29,7 +29,7 @@ use Rattle.trio_walk.specs.declared.outcome.Outcome.TheVariants.{Busy, NoMemory,
 use Rattle.trio_calls_dir.specs.declared.replies.Replied as replied
 use Rattle.trio_calls_dir.specs.declared.stops.Stop.{Stop}
 use Rattle.trio_calls_dir.specs.declared.stops.Stop.TheVariants.{Busy as IsBusy, NoMemory as LacksMemory}
-use Rattle.trio_calls_dir.specs.Asks.{ComesBy, Target, edited, made_by, wants_of}
+use Rattle.trio_calls_dir.specs.Asks.{ComesBy, Target, as_lent, edited, made_by, wants_of}
 
 -- ---- the end
 
@@ -44,10 +44,10 @@ abbrev pub number_made : Result replied.Replied Stop → ℕ
 number_made (Ok r) = r.made
 number_made (Err stop) = 0
 
--- that which such a call makes in this target, where it is done
-abbrev pub IsNumber : Call → Target → Outcome → ℕ → Type 0
-IsNumber call t (Replied (IsReplied answer)) made = made ≡ made_by call t
-IsNumber call t end made = made ≡ 0
+-- that which such a call takes of this session, where it is done
+abbrev pub IsNumber : Call → SessionSeen → Outcome → ℕ → Type 0
+IsNumber call s (Replied (IsReplied answer)) made = made ≡ made_by call s
+IsNumber call s end made = made ≡ 0
 
 -- What a try leaves that isn't noted yet: its edits where the call is done, and else nothing was written.
 abbrev pub LeavesHere : Creds → Call → Target → SessionSeen → Outcome → SessionSeen → Type 0
@@ -83,19 +83,21 @@ pub record SameDesk (desk desk' : DeskSeen) : Type 0 where
   pub sizes : desk'.sizes ≡ desk.sizes
   pub root : desk'.root ≡ desk.root
 
--- From a desk and a session to these, by calls that were given what they asked: nothing was written, and what was known of the nodes still
--- is.
+-- From a desk and a session to these, by calls that were given what they asked: nothing was written or allotted, and what was known of the
+-- nodes still is.
 pub record Went {D : Type 0} (called : D → Ask → Told → D → Type 0) (seen : D → DeskSeen) (d : D) (s : SessionSeen) (given : List desk_calls.Call) (d' : D) (s' : SessionSeen) : Type 0 where
   pub each : (c : desk_calls.Call) → In c given → IsGiven c
   pub made : Calls called d given d'
   pub alike : IsAlike (took s (map (λ c. c.told) given)) s'
+  pub pages : s'.parcel.pages ≡ s.parcel.pages
+  pub inodes : s'.parcel.inodes ≡ s.parcel.inodes
   pub calls : s'.calls ≡ s.calls
   pub same : SameDesk (seen d) (seen d')
   pub more : TakesMore (seen d') (in_hand s) (in_hand s')
 
 -- what is to be asked: the grants that are needed and no lease serves, and then the allotment
 abbrev pub asks_from : SessionSeen → List Needed → Nodes → Creds → Call → Target → SessionSeen → List Ask
-asks_from s needs now creds call t all = map grant_ask (asked (served_by s) needs) ++ wants_of now creds call t all
+asks_from s needs now creds call t all = map grant_ask (asked (served_by s) needs) ++ wants_of now creds call t (as_lent s all)
 
 -- From a desk and a session to these a try of a call comes to its end, but for its note. These grants are needed, by the nodes that the
 -- session shows.
@@ -107,7 +109,7 @@ pub record Goes {D : Type 0} (called : D → Ask → Told → D → Type 0) (see
   pub made : Calls called d (given ++ last) d'
   pub ends : TryEnds end last
   pub leaves : LeavesHere (seen d').creds call target (took s (map (λ c. c.told) given)) end s'
-  pub numbered : IsNumber call target end number
+  pub numbered : IsNumber call (took s (map (λ c. c.told) given)) end number
   pub calls : s'.calls ≡ s.calls
   pub same : SameDesk (seen d) (seen d')
   pub comes : InAllShown (seen d') s' (λ now. ComesBy end target now (seen d').creds call)

@@ -31,7 +31,7 @@ returns-in-None-clause-goes g c =
     let dir_is = c.in-Ok.ensures in
     let w = walked_as g.D.Desk.called g.D.Desk.seen c.args.desk.now c.args.session.now c.reach_into.new.desk c.reach_into.new.session _ _ _ dir_is dir_is (At c.in-Ok-reach_into.met.ino) c.in-Ok-reach_into.ensures.walked in
     remove_absent g.D.Desk.called g.D.Desk.seen c.args.desk.now c.args.session.now c.args.call.now c.args.kind c.args.path.now c.requires.call c.requires.root c.requires.may c.reach_into.new.desk c.reach_into.new.session c.in-Ok-reach_into.met.ino w c.reach_into.ensures.may c.look_up.new.session (alike_finds c.reach_into.new.session c.look_up.new.session (raised c.reach_into.new.session.finds) c.look_up.ensures.kept) c.refused.new.session c.refused.ensures.kept c.refused.result
-    (subst (λ n. InAllShown (g.D.Desk.seen c.reach_into.new.desk) c.look_up.new.session (λ now. find_named now c.in-Ok-reach_into.met.ino n ≡ None)) c.name_of.ensures (c.in-None.ensures.looked (g.D.Desk.seen c.reach_into.new.desk) c.reach_into.ensures.may c.in-Ok-reach_into.ensures.list))
+    (subst (λ n. InAllShown (g.D.Desk.seen c.reach_into.new.desk) c.look_up.new.session (λ now. find_named now c.in-Ok-reach_into.met.ino n ≡ None)) c.name_of.ensures.last (c.in-None.ensures.looked (g.D.Desk.seen c.reach_into.new.desk) c.reach_into.ensures.may c.in-Ok-reach_into.ensures.list))
     c.refused.ensures.ends
 
 pub remove_in-requires-clause-may : goal.remove_in-requires-clause-may
@@ -54,13 +54,13 @@ remove_in-requires-clause-comes g c =
 
 pub remove_in-requires-clause-entry : goal.remove_in-requires-clause-entry
 remove_in-requires-clause-entry g c =
-    finds_alike c.reach_into.new.session c.look_up.new.session c.in-Ok-reach_into.met.ino (raised c.reach_into.new.session.finds) _ _ c.in-Some.file c.look_up.ensures.kept c.name_of.ensures c.in-Some.ensures.finds
+    finds_alike c.reach_into.new.session c.look_up.new.session c.in-Ok-reach_into.met.ino (raised c.reach_into.new.session.finds) _ _ c.in-Some.file c.look_up.ensures.kept c.name_of.ensures.last c.in-Some.ensures.finds
 
 pub remove_in-requires-clause-met : goal.remove_in-requires-clause-met
 remove_in-requires-clause-met g c = (true, (c.in-Some.ensures.looked (g.D.Desk.seen c.reach_into.new.desk) c.reach_into.ensures.may c.in-Ok-reach_into.ensures.list).0 true)
 
 pub remove_in-requires-clause-named : goal.remove_in-requires-clause-named
-remove_in-requires-clause-named g c = (subst (λ n. InAllShown (g.D.Desk.seen c.reach_into.new.desk) c.look_up.new.session (λ now. find_named now c.in-Ok-reach_into.met.ino n ≡ Some c.in-Some.file.ino)) c.name_of.ensures (c.in-Some.ensures.looked (g.D.Desk.seen c.reach_into.new.desk) c.reach_into.ensures.may c.in-Ok-reach_into.ensures.list).1)
+remove_in-requires-clause-named g c = (subst (λ n. InAllShown (g.D.Desk.seen c.reach_into.new.desk) c.look_up.new.session (λ now. find_named now c.in-Ok-reach_into.met.ino n ≡ Some c.in-Some.file.ino)) c.name_of.ensures.last (c.in-Some.ensures.looked (g.D.Desk.seen c.reach_into.new.desk) c.reach_into.ensures.may c.in-Ok-reach_into.ensures.list).1)
 
 pub returns-in-Some-clause-goes : goal.returns-in-Some-clause-goes
 returns-in-Some-clause-goes g c =
@@ -73,14 +73,14 @@ pub returns-in-Some-clause-others : goal.returns-in-Some-clause-others
 returns-in-Some-clause-others g c none =
     let dir_is = c.in-Ok.ensures in
     let w = walked_as g.D.Desk.called g.D.Desk.seen c.args.desk.now c.args.session.now c.reach_into.new.desk c.reach_into.new.session _ _ _ dir_is dir_is (At c.in-Ok-reach_into.met.ino) c.in-Ok-reach_into.ensures.walked in
-    hold_others g.D.Desk.called g.D.Desk.seen c.args.desk.now c.args.session.now c.args.path.now c.reach_into.new.desk c.reach_into.new.session c.in-Ok-reach_into.met.ino w c.reach_into.ensures.may c.look_up.new.session (alike_finds c.reach_into.new.session c.look_up.new.session (raised c.reach_into.new.session.finds) c.look_up.ensures.kept) c.in-Some.file.ino (subst (λ n. InAllShown (g.D.Desk.seen c.reach_into.new.desk) c.look_up.new.session (λ now. find_named now c.in-Ok-reach_into.met.ino n ≡ Some c.in-Some.file.ino)) c.name_of.ensures (c.in-Some.ensures.looked (g.D.Desk.seen c.reach_into.new.desk) c.reach_into.ensures.may c.in-Ok-reach_into.ensures.list).1) none
+    hold_others g.D.Desk.called g.D.Desk.seen c.args.desk.now c.args.session.now c.args.path.now c.reach_into.new.desk c.reach_into.new.session c.in-Ok-reach_into.met.ino w c.reach_into.ensures.may c.look_up.new.session (alike_finds c.reach_into.new.session c.look_up.new.session (raised c.reach_into.new.session.finds) c.look_up.ensures.kept) c.in-Some.file.ino (subst (λ n. InAllShown (g.D.Desk.seen c.reach_into.new.desk) c.look_up.new.session (λ now. find_named now c.in-Ok-reach_into.met.ino n ≡ Some c.in-Some.file.ino)) c.name_of.ensures.last (c.in-Some.ensures.looked (g.D.Desk.seen c.reach_into.new.desk) c.reach_into.ensures.may c.in-Ok-reach_into.ensures.list).1) none
     (ap (λ (q : SessionSeen). q.lib) c.look_up.ensures.kept ∙ lib_same (g.D.Desk.seen c.args.desk.now) (g.D.Desk.seen c.reach_into.new.desk) c.args.session.now c.reach_into.new.session w.more w.way.took) (try_ends c.remove_in.result) c.remove_in.ensures.others
 
 pub returns-in-Ok-reach_into-clause-goes : goal.returns-in-Ok-reach_into-clause-goes
 returns-in-Ok-reach_into-clause-goes g c =
     let dir_is = c.in-Ok.ensures in
     let w = walked_as g.D.Desk.called g.D.Desk.seen c.args.desk.now c.args.session.now c.reach_into.new.desk c.reach_into.new.session _ _ _ dir_is dir_is (At c.in-Ok-reach_into.met.ino) c.in-Ok-reach_into.ensures.walked in
-    remove_other g.D.Desk.called g.D.Desk.seen c.args.desk.now c.args.session.now c.args.call.now c.args.kind c.args.path.now c.requires.call c.requires.root c.requires.may c.reach_into.new.desk c.reach_into.new.session c.in-Ok-reach_into.met.ino w c.reach_into.ensures.may c.look_up.new.session (alike_finds c.reach_into.new.session c.look_up.new.session (raised c.reach_into.new.session.finds) c.look_up.ensures.kept) c.refused-in-Some-2.new.session c.refused-in-Some-2.ensures.kept c.refused-in-Some-2.result c.in-Some.file ((c.in-Some.ensures.looked (g.D.Desk.seen c.reach_into.new.desk) c.reach_into.ensures.may c.in-Ok-reach_into.ensures.list).0) (subst (λ n. InAllShown (g.D.Desk.seen c.reach_into.new.desk) c.look_up.new.session (λ now. find_named now c.in-Ok-reach_into.met.ino n ≡ Some c.in-Some.file.ino)) c.name_of.ensures (c.in-Some.ensures.looked (g.D.Desk.seen c.reach_into.new.desk) c.reach_into.ensures.may c.in-Ok-reach_into.ensures.list).1)
+    remove_other g.D.Desk.called g.D.Desk.seen c.args.desk.now c.args.session.now c.args.call.now c.args.kind c.args.path.now c.requires.call c.requires.root c.requires.may c.reach_into.new.desk c.reach_into.new.session c.in-Ok-reach_into.met.ino w c.reach_into.ensures.may c.look_up.new.session (alike_finds c.reach_into.new.session c.look_up.new.session (raised c.reach_into.new.session.finds) c.look_up.ensures.kept) c.refused-in-Some-2.new.session c.refused-in-Some-2.ensures.kept c.refused-in-Some-2.result c.in-Some.file ((c.in-Some.ensures.looked (g.D.Desk.seen c.reach_into.new.desk) c.reach_into.ensures.may c.in-Ok-reach_into.ensures.list).0) (subst (λ n. InAllShown (g.D.Desk.seen c.reach_into.new.desk) c.look_up.new.session (λ now. find_named now c.in-Ok-reach_into.met.ino n ≡ Some c.in-Some.file.ino)) c.name_of.ensures.last (c.in-Some.ensures.looked (g.D.Desk.seen c.reach_into.new.desk) c.reach_into.ensures.may c.in-Ok-reach_into.ensures.list).1)
     (λ same. let t : c.eq.result ≡ true = search rules in false≢true (sym c.if-eq.false ∙ t))
     (subst (λ x. MatchResult c.refused-in-Some-2.result (λ r. (r ≡ record { reply = x; made = 0 }) × (length c.refused-in-Some-2.new.session.calls < c.refused-in-Some-2.new.session.room.calls)) (λ stop. stop ≡ LacksMemory)) c.other_kind.ensures c.refused-in-Some-2.ensures.ends)
 

@@ -1,0 +1,192 @@
+-- A file is held: what is asked for it, and what stays as it was.
+use Rattle.std.proofs.Common.{◌≡◌, ℕ, Bool, true, false, cond, List, [], ◌∷◌, ◌++◌, Some, Ok, Err, sym, refl, ap, ◌∙◌, subst, inl, inr}
+use mathlib.Core.Path.{fun_ext}
+use Rattle.std.specs.Prelude.{is_some, map, slice_get, ◌||◌}
+use Rattle.std.specs.Option.{option_and_then, option_map, option_map_or}
+use Rattle.std.proofs.lemmas.List.{append-nil}
+use Rattle.trio_lists.specs.Lists.{In}
+use Rattle.trio_lists.proofs.Members.{In-map}
+use Rattle.trio_auxdir.specs.declared.place.Place.{Place}
+use Rattle.trio_auxdir.specs.Slots.{slots_of}
+use Rattle.trio_layout.specs.Entries.{slot_bytes}
+use Rattle.trio_layout.specs.Slot.{slot_of}
+use Rattle.trio_lease.specs.Shown.{page_at}
+use Rattle.trio_lease.specs.declared.lease.Lease.{Lease}
+use Rattle.trio_lease.specs.declared.lease.Lease.TheVariants.{Write as WriteLease, Read as ReadLease, Hold as HoldLease}
+use Rattle.trio_lease.specs.declared.parts.HoldParts.{HoldParts}
+use Rattle.trio_nodes.specs.declared.grant.GrantKind.TheVariants.{Hold}
+use Rattle.trio_nodes.specs.declared.grant.Holder.{Holder}
+use Rattle.trio_nodes.specs.declared.answers.GrantFault.TheVariants.{Busy as BusyGrant}
+use Rattle.trio_nodes.specs.declared.call.Call.{Call}
+use Rattle.trio_nodes.specs.declared.node.Node.{Node}
+use Rattle.trio_nodes.specs.Nodes.{Nodes, find_named}
+use Rattle.trio_nodes.specs.After.{batch_nodes}
+use Rattle.trio_onetree.proofs.Children.{find_named-Child}
+use Rattle.trio_desk.specs.Call.{Ask, DeskSeen, Grant, Told, NotLent}
+use Rattle.trio_desk.specs.Calls as desk_calls
+use Rattle.trio_desk.specs.Out.{Parcel, kind_lent}
+use Rattle.trio_session.specs.Asked.{with_lease}
+use Rattle.trio_session.specs.Layout.{page_in}
+use Rattle.trio_session.specs.Seen.{IsOpenDir, SessionSeen, chain_in, dir_pages, entry_in, entry_shown, every_number, kind_shown, open_kind, place_of, place_shown, read_file, serves}
+use Rattle.trio_edit_laws.specs.Calls.{MayCall}
+use Rattle.trio_walk.specs.declared.met.Met.{Met}
+use Rattle.trio_walk.specs.declared.walks.WalkEnd.TheVariants.{Busy as IsBusyWalk, NoMemory as NoWalkMemory}
+use Rattle.trio_walk.specs.Needs.{Needed, asked}
+use Rattle.trio_walk.specs.Walks.{InAllShown, IsListed, MayWalk, Took, Way, lent_call, need_of, one_need, served_by, with_leases}
+use Rattle.trio_walk.specs.Asks.{IsAlike, grant_ask}
+use Rattle.trio_walk.specs.declared.outcome.Outcome.{Outcome}
+use Rattle.trio_walk.specs.declared.outcome.Outcome.TheVariants.{Busy, NoMemory}
+use Rattle.trio_calls_dir.specs.declared.stops.Stop.TheVariants.{Busy as IsBusy, NoMemory as LacksMemory}
+use Rattle.trio_calls_dir.specs.inner.Goes.{Goes, Went}
+use Rattle.trio_calls_dir.specs.inner.Removes.{HoldBusyAt}
+use Rattle.trio_calls_dir.proofs.Ends.{stop_goes}
+use Rattle.trio_calls_dir.proofs.Then.{all_then, asks_lent, goes_on, possible_then}
+use Rattle.trio_calls_dir.proofs.Walked.{way_calls, way_may, way_more, way_same, way_went}
+
+-- a directory that is open lists the file, so it may be held
+pub may_be_held : (desk : DeskSeen) (s : SessionSeen) (dir : ℕ) (name : List ℕ) (n : ℕ) → IsOpenDir s dir → InAllShown desk s (λ now. find_named now dir name ≡ Some n) → IsListed desk s n
+may_be_held desk s dir name n opens named = record {
+  directory = dir;
+  opens = opens.directory;
+  lists = λ nodes rows p.
+      let c = find_named-Child (batch_nodes desk.creds s.calls nodes) dir name n (named nodes rows p) in
+      ap (option_map (λ (x : Node). x.parent)) c.at ∙ ap Some c.parent;
+}
+
+asked_one : (s : SessionSeen) (n : ℕ) → asked (served_by s) (record { ino = n; kind = Hold } ∷ []) ≡ one_need s n Hold
+asked_one s n = by (serves s n Hold)
+  where
+    by : (b : Bool) → cond {A = List Needed} (b || false) [] (record { ino = n; kind = Hold } ∷ []) ≡ cond {A = List Needed} b [] (record { ino = n; kind = Hold } ∷ [])
+    by true = refl
+    by false = refl
+
+-- ---- holds change no look at a directory
+
+pages_held : (b : Parcel) (hs : List HoldParts) (n : ℕ) → page_in (record b { holds = hs }) n ≡ page_in b n
+unfolding page_in
+pages_held b hs n = refl
+
+-- leases that are holds add holds alone
+holds_alone : (more : List Lease) (s : SessionSeen) → ((l : Lease) → In l more → kind_lent l ≡ Hold) → (hs : List HoldParts) × (with_leases s more ≡ record s { parcel = record s.parcel { holds = hs } })
+holds_alone [] s all = (s.parcel.holds, refl)
+holds_alone (HoldLease h ∷ more) s all =
+    let r = holds_alone more (with_lease s (HoldLease h)) (λ l i. all l (inr i)) in (r.0, r.1)
+holds_alone (WriteLease f ∷ more) s all = absurd (let wrong = all (WriteLease f) (inl refl) in cc wrong)
+holds_alone (ReadLease f ∷ more) s all = absurd (let wrong = all (ReadLease f) (inl refl) in cc wrong)
+
+-- the call needs a hold on this file, and nothing else
+module _ {D : Type 0} (called : D → Ask → Told → D → Type 0) (seen : D → DeskSeen) (d : D) (s : SessionSeen) (call : Call) (file : Met) (may : MayCall (seen d) s) (needs : Nodes → List Needed)
+    (needs_one : InAllShown (seen d) s (λ now. needs now ≡ record { ino = file.ino; kind = Hold } ∷ [])) where
+  asked_needs : InAllShown (seen d) s (λ now. asked (served_by s) (needs now) ≡ one_need s file.ino Hold)
+  asked_needs nodes rows p = ap (asked (served_by s)) (needs_one nodes rows p) ∙ asked_one s file.ino
+
+  module _ (d1 : D) (s1 : SessionSeen) where
+    -- ---- where it isn't had
+
+    module _ (more : List Lease) (last : List desk_calls.Call) (way : Way called seen d s more last d1 s1) (walks : MayWalk (seen d1) s1) where
+      still : (P : Nodes → Type 0) → InAllShown (seen d) s P → InAllShown (seen d1) s1 P
+      still P h =
+          all_then (seen d) (seen d1) s s1 P (way_same called seen d s more last d1 s1 may way walks) (way_more called seen d s more last d1 s1 may way walks)
+          (way_calls called seen d s more last d1 s1 may way walks) h
+
+    pub busy_goes : (holder : Holder) → Took called seen d s file Hold (Err (IsBusyWalk holder)) d1 s1
+        → Goes called seen d s call needs (Busy holder) 0 d1 s1
+    busy_goes holder t =
+        let tk = t.taken in
+        let need : List Needed = record { ino = file.ino; kind = Hold } ∷ [] in
+        stop_goes called seen d s call needs needs may d1 s1 s1
+        (λ these now. Unit {0}) (IsBusyWalk holder)
+        (record { more = t.more; last = t.last; need = need; way = t.way; ends = (file.ino, Hold, tk.1, refl); shown = λ nodes rows p. tt }) t.may refl tt
+        (λ nodes rows p. (
+          [],
+          still t.more t.last t.way t.may (λ now. asked (served_by s) (needs now) ≡ one_need s file.ino Hold) asked_needs nodes rows p
+              ∙ tk.2 ∙ ap (λ (m : List Lease). (map need_of m ++ (record { ino = file.ino; kind = Hold } ∷ [])) ++ []) (sym tk.0),
+        ))
+        (λ nodes rows p. ([], sym (append-nil (needs (batch_nodes (seen d1).creds s1.calls nodes)))))
+        (λ reply e. absurd (cc e)) (Err (IsBusy holder)) refl
+
+    pub short_goes : Took called seen d s file Hold (Err NoWalkMemory) d1 s1
+        → Goes called seen d s call needs NoMemory 0 d1 s1
+    short_goes t =
+        let tk = t.taken in
+        stop_goes called seen d s call needs needs may d1 s1 s1
+        (λ these now. Unit {0}) NoWalkMemory
+        (record { more = t.more; last = t.last; need = tk.0; way = t.way; ends = tk.2; shown = λ nodes rows p. tt }) t.may refl tt
+        (λ nodes rows p. (
+          tk.1,
+          still t.more t.last t.way t.may (λ now. asked (served_by s) (needs now) ≡ one_need s file.ino Hold) asked_needs nodes rows p ∙ tk.3,
+        ))
+        (λ nodes rows p. ([], sym (append-nil (needs (batch_nodes (seen d1).creds s1.calls nodes)))))
+        (λ reply e. absurd (cc e)) (Err LacksMemory) refl
+
+    -- where the library itself keeps it busy a grant of the session's does
+    pub busy_off : (holder : Holder) → Took called seen d s file Hold (Err (IsBusyWalk holder)) d1 s1 → HoldBusyAt (seen d) s file.ino (Busy holder)
+    busy_off holder t = λ mine.
+        let i : In (record { ask = Grant file.ino Hold; told = NotLent (BusyGrant holder) }) t.last =
+        subst (λ l. In (record { ask = Grant file.ino Hold; told = NotLent (BusyGrant holder) }) l) (sym t.taken.1) (inl refl) in
+        let b = t.way.busy file.ino Hold holder i in
+        let q = way_more called seen d s t.more t.last d1 s1 may t.way t.may b.0 b.1 b.2 in
+        record {
+          busy = t.way.others file.ino Hold holder i mine;
+          nodes = b.0;
+          rows = b.1;
+          possible = possible_then (seen d) (seen d1) s (way_same called seen d s t.more t.last d1 s1 may t.way t.may) b.0 b.1 q;
+        }
+
+    -- ---- where it is had
+
+    module _ (t : Took called seen d s file Hold (Ok true) d1 s1) where
+      pub went : Went called seen d s (map lent_call t.more) d1 s1
+      went = way_went called seen d s t.more d1 s1 may (subst (λ l. Way called seen d s t.more l d1 s1) t.taken.0 t.way) t.may
+
+      -- what goes on then goes with the hold
+      pub held_goes : (end : Outcome) (number : ℕ) (d' : D) (s' : SessionSeen) → Goes called seen d1 s1 call (λ now. []) end number d' s'
+          → Goes called seen d s call needs end number d' s'
+      held_goes end number d' s' goes =
+          goes_on called seen d d1 d' s s1 s' call (map lent_call t.more) went end number needs (λ now. [])
+          (λ nodes rows p.
+          ap (map grant_ask)
+          (still t.more t.last t.way t.may (λ now. asked (served_by s) (needs now) ≡ one_need s file.ino Hold) asked_needs nodes rows p ∙ t.taken.1)
+          ∙ asks_lent t.more ∙ sym (append-nil (map (λ (c : desk_calls.Call). c.ask) (map lent_call t.more))))
+          goes
+
+      each_hold : (l : Lease) → In l t.more → kind_lent l ≡ Hold
+      each_hold l i = by (serves s file.ino Hold) (subst (λ z. In (need_of l) z) (sym t.taken.1) (In-map need_of l t.more i))
+        where
+          by : (b : Bool) → In (need_of l) (cond b [] (record { ino = file.ino; kind = Hold } ∷ [])) → kind_lent l ≡ Hold
+          by true j = absurd j
+          by false (inl e) = ap (λ (n : Needed). n.kind) e
+          by false (inr none) = absurd none
+
+      pub held : (hs : List HoldParts) × (with_leases s t.more ≡ record s { parcel = record s.parcel { holds = hs } })
+      held = holds_alone t.more s each_hold
+
+      abbrev x : SessionSeen
+      x = record s { parcel = record s.parcel { holds = held.0 } }
+
+      pub alike : IsAlike x s1
+      alike = subst (λ (q : SessionSeen). IsAlike q s1) held.1 t.way.took.same
+
+      pub place_held : (dir : ℕ) (name : List ℕ) → place_shown s1 dir name ≡ place_shown s dir name
+      place_held dir name =
+          ap (λ (q : SessionSeen). place_shown q dir name) alike
+          ∙ ap (λ (f : ℕ → List ℕ). place_of (kind_shown s dir) (slots_of every_number (cond (is_some (open_kind s dir)) (map f (chain_in s dir).blocks) (option_map_or dir_pages (read_file s dir) []))) name)
+          (fun_ext (pages_held s.parcel held.0))
+
+      pub entry_held : (dir : ℕ) (place : Place) → entry_shown s1 dir place ≡ entry_shown s dir place
+      entry_held dir place =
+          ap (λ (q : SessionSeen). entry_shown q dir place) alike
+          ∙ ap (λ (f : ℕ → List ℕ).
+          option_and_then (λ bytes. entry_in (slot_of every_number (slot_bytes place.slot bytes)))
+          (cond (is_some (open_kind s dir)) (option_map f (slice_get (chain_in s dir).blocks place.block)) (option_and_then (λ g. page_at g.blocks place.block) (read_file s dir))))
+          (fun_ext (pages_held s.parcel held.0))
+
+      pub over : (P : Nodes → Type 0) → InAllShown (seen d) s P → InAllShown (seen d1) s1 P
+      over P h = still t.more t.last t.way t.may P h
+
+      -- an open directory is open still
+      pub open_held : (dir : ℕ) → IsOpenDir s dir → IsOpenDir s1 dir
+      open_held dir o = record { directory = ap (λ (q : SessionSeen). open_kind q dir) alike ∙ o.directory; index = t.way.took.indexed dir o.index }
+
+      pub may_held : MayCall (seen d1) s1
+      may_held = way_may called seen d s t.more t.last d1 s1 may t.way t.may

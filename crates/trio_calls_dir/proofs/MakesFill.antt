@@ -1,0 +1,173 @@
+-- A new file is put into the first empty slot of its directory.
+use Rattle.std.proofs.Common.{◌≡◌, ℕ, ◌<◌, true, cond, eqb, List, [], ◌∷◌, ◌++◌, Option, Some, None, sym, refl, ap, ◌∙◌, subst, inl, inr, arith}
+use Rattle.std.specs.Prelude.{not}
+use Rattle.std.specs.List.{filter}
+use Rattle.std.specs.Option.{option_map}
+use Rattle.std.proofs.lemmas.Bool.{eq-eqb}
+use Rattle.trio_names.specs.Name.{is_name}
+use Rattle.trio_rights.specs.Row.{Row}
+use Rattle.trio_rights.specs.declared.kind.Kind.{Kind}
+use Rattle.trio_rights.specs.declared.kind.Kind.TheVariants.{Directory, Regular}
+use Rattle.trio_rights.specs.declared.rights.Creds.{Creds}
+use Rattle.trio_rights.specs.declared.rights.Mode.{Mode}
+use Rattle.trio_lists.specs.Lists.{In, is_among}
+use Rattle.trio_lists.proofs.Filters.{filter-In}
+use Rattle.trio_lists.proofs.Members.{In-cases}
+use Rattle.trio_layout.specs.Body.{body_of}
+use Rattle.trio_layout.specs.declared.body.Body.{Body}
+use Rattle.trio_auxdir.specs.declared.place.Place.{Place}
+use Rattle.trio_lease.specs.declared.parts.InoParts.{InoParts}
+use Rattle.trio_nodes.specs.declared.call.Answer.TheVariants.{Done as IsDone}
+use Rattle.trio_nodes.specs.declared.call.Call.{Call}
+use Rattle.trio_nodes.specs.declared.call.Call.TheVariants.{Create, Mkdir}
+use Rattle.trio_nodes.specs.declared.call.Done.{Done}
+use Rattle.trio_nodes.specs.declared.call.Reply.TheVariants.{Ok as IsReplied}
+use Rattle.trio_nodes.specs.Nodes.{Nodes, find_named, node_at, with_node}
+use Rattle.trio_nodes.specs.Walk.{Path, name_of}
+use Rattle.trio_nodes.specs.After.{batch_nodes}
+use Rattle.trio_desk.specs.Call.{DeskSeen}
+use Rattle.trio_desk.specs.Contents.{AreWithinLimits, rights_in}
+use Rattle.trio_desk.specs.Edits.{DoesCall, MayShow}
+use Rattle.trio_desk.specs.Out.{ino_numbers}
+use Rattle.trio_desk.specs.Ready.{ArePossible, ComesToShown}
+use Rattle.trio_laws.specs.session.DirCalls.{ComesInto}
+use Rattle.trio_laws.proofs.session.DirCalls.{makes_entry}
+use Rattle.trio_session.specs.Seen.{IsOpenDir, SessionSeen, body_in, empty_shown, fill, grant_in, in_hand, made_file, number_shown, place_shown, spare_numbers, spare_pages, used_numbers}
+use Rattle.trio_edit_laws.specs.Calls.{MayCall}
+use Rattle.trio_edit_laws.specs.DirLaws.{Changes, IsEmptyBody, LeavesFilled, StaysTree, node_made}
+use Rattle.trio_edit_laws.proofs.Shown.{shown_by}
+use Rattle.trio_edit_laws.proofs.directories.Filled.{fill_leaves}
+use Rattle.trio_walk.specs.Asks.{noted}
+use Rattle.trio_walk.specs.Walks.{InAllShown}
+use Rattle.trio_calls_dir.specs.Asks.{new_body}
+use Rattle.trio_calls_dir.specs.inner.Goes.{making}
+use Rattle.trio_calls_dir.specs.inner.Rooms.{MayGoOn}
+use Rattle.trio_calls_dir.proofs.Ends.{edit_called}
+use Rattle.trio_calls_dir.proofs.Given.{fill_shows, sees_directory}
+use Rattle.trio_calls_dir.proofs.MakesTree.{no_node_shown, tree_made}
+use Rattle.trio_calls_dir.proofs.EditDone.{comes_done}
+use Rattle.trio_calls_dir.proofs.Possible.{possible_filled}
+use Rattle.trio_calls_dir.proofs.RoomsAllotted.{spare_unmade}
+
+-- the body of a new file
+abbrev pub body_made : Creds → Mode → Body
+body_made creds mode = record { mode = mode; uid = creds.uid; gid = creds.gid; head = 0; size = 0 }
+
+-- What is known when there is room for a new file: its directory has an empty slot and no such name, and one number is spare.
+pub record MayFill (desk : DeskSeen) (s : SessionSeen) (call' : Call) (kind' : Kind) (path' : Path) (mode' : Mode) (dir' n' : ℕ) : Type 0 where
+  pub may : MayGoOn desk s
+  pub limits : AreWithinLimits desk.sizes
+  pub call : call' ≡ making kind' path' mode'
+  pub name : is_name (name_of path') ≡ true
+  pub opens : IsOpenDir s dir'
+  pub place : Place
+  pub empty : empty_shown s dir' ≡ Some place
+  pub new : place_shown s dir' (name_of path') ≡ None
+  pub comes : InAllShown desk s (λ now. ComesInto now desk.creds call' path' dir')
+  pub spent : spare_pages s ≡ []
+  pub one : spare_numbers s ≡ n' ∷ []
+  pub unlent : grant_in s n' ≡ None
+  pub read : body_of kind' desk.sizes.range (new_body desk.creds mode') ≡ Some (body_made desk.creds mode')
+
+-- what the call does to the nodes
+does_make : (desk : DeskSeen) (kind : Kind) (path : Path) (mode : Mode) (now : Nodes) (dir n : ℕ) → ComesInto now desk.creds (making kind path mode) path dir → find_named now dir (name_of path) ≡ None
+    → node_at now n ≡ None → (n ≡ 0 → ⊥)
+    → DoesCall desk (record { call = making kind path mode; reply = IsReplied IsDone; made = n }) now (with_node now n (Some (node_made dir (name_of path) kind (body_made desk.creds mode))))
+does_make desk Directory path mode now dir n comes free none low =
+    makes_entry desk (record { call = Mkdir path mode; reply = IsReplied IsDone; made = n }) now path dir comes refl free none low refl
+does_make desk Regular path mode now dir n comes free none low =
+    makes_entry desk (record { call = Create path mode; reply = IsReplied IsDone; made = n }) now path dir comes refl free none low refl
+
+module _ (desk : DeskSeen) (s : SessionSeen) (call : Call) (kind : Kind) (path : Path) (mode : Mode) (dir n : ℕ) (m : MayFill desk s call kind path mode dir n) where
+  abbrev b : Body
+  b = body_made desk.creds mode
+
+  abbrev body : List ℕ
+  body = new_body desk.creds mode
+
+  abbrev then' : SessionSeen
+  then' = fill dir (name_of path) n kind (new_body desk.creds mode) s
+
+  abbrev done : Done
+  done = record { call = call; reply = IsReplied IsDone; made = n }
+
+  abbrev shown_at : Nodes → Nodes
+  shown_at nodes = batch_nodes desk.creds s.calls nodes
+
+  pub among : In n (spare_numbers s)
+  among = subst (λ l. In n l) (sym m.one) (inl refl)
+
+  pub allotted : In n (ino_numbers s.parcel.inodes)
+  allotted = (filter-In (λ k. not (is_among k (used_numbers s))) n (ino_numbers s.parcel.inodes) among).0
+
+  unmade : made_file s n ≡ None
+  unmade = spare_unmade s n among
+
+  pub above : 0 < n
+  above = (m.may.edits.given.numbers n allotted).0
+
+  low : n ≡ 0 → ⊥
+  low zero = (let some = above in omega (arith, some, zero))
+
+  empty_body : IsEmptyBody desk kind (new_body desk.creds mode) (body_made desk.creds mode)
+  empty_body = record { is = m.read; size = refl; uid = refl; gid = refl }
+
+  possible_fill : (nodes : Nodes) (rows : List (Option Row)) → ArePossible desk then'.parcel then'.reads nodes rows → ArePossible desk s.parcel s.reads nodes rows
+  possible_fill nodes rows p = possible_filled desk s dir (name_of path) n kind (new_body desk.creds mode) m.place m.empty nodes rows p
+
+  -- the name is free, and no node has the number
+  free_at : (nodes nodes' : Nodes) (rows : List (Option Row)) → MayShow desk (in_hand s) (in_hand s) nodes nodes' rows → find_named nodes' dir (name_of path) ≡ None
+  free_at nodes nodes' rows shows =
+      (sees_directory desk s dir nodes nodes' rows m.may.edits m.opens.directory shows).named (name_of path) ∙ ap (option_map (number_shown s dir)) m.new
+
+  none_at : (nodes nodes' : Nodes) (rows : List (Option Row)) → MayShow desk (in_hand s) (in_hand s) nodes nodes' rows → node_at nodes' n ≡ None
+  none_at nodes nodes' rows shows = no_node_shown desk s n m.may.edits nodes nodes' rows shows allotted unmade
+
+  stays : StaysTree desk s (fill dir (name_of path) n kind (new_body desk.creds mode) s) (λ nodes. with_node nodes n (Some (node_made dir (name_of path) kind (body_made desk.creds mode))))
+  stays nodes nodes' rows shows =
+      let here : MayShow desk (in_hand s) (in_hand s) nodes nodes' rows = record { possible = possible_fill nodes rows shows.possible; tree = shows.tree; shows = shows.shows } in
+      tree_made nodes' shows.tree dir n (name_of path) (node_made dir (name_of path) kind (body_made desk.creds mode)) (rights_in Directory (body_in s dir)) refl refl
+      (sees_directory desk s dir nodes nodes' rows m.may.edits m.opens.directory here).rights refl (free_at nodes nodes' rows here) (none_at nodes nodes' rows here) low
+
+  pub changes : Changes desk s (fill dir (name_of path) n kind (new_body desk.creds mode) s) (λ nodes. with_node nodes n (Some (node_made dir (name_of path) kind (body_made desk.creds mode))))
+  changes =
+      fill_shows desk s dir m.place (name_of path) n kind (new_body desk.creds mode) (body_made desk.creds mode) m.limits m.may.edits m.opens m.empty m.new m.name among m.unlent empty_body stays
+
+  left : LeavesFilled s (fill dir (name_of path) n kind (new_body desk.creds mode) s) dir m.place (record { ino = n; kind = kind; name = name_of path })
+  left =
+      fill_leaves desk s dir m.place (name_of path) n kind (new_body desk.creds mode) (body_made desk.creds mode) m.limits m.may.edits m.opens m.empty m.new m.name among m.unlent empty_body
+
+  pub calls_are : (fill dir (name_of path) n kind (new_body desk.creds mode) s).calls ≡ s.calls
+  calls_are = ap (λ (q : SessionSeen). q.calls) left.files.same
+
+  does : InAllShown desk s (λ now. DoesCall desk (record { call = call; reply = IsReplied IsDone; made = n }) now (with_node now n (Some (node_made dir (name_of path) kind (body_made desk.creds mode)))))
+  does nodes rows p =
+      let shows = shown_by desk (in_hand s) (in_hand s) s.calls nodes rows (λ k r q. q) m.may.comes p in
+      subst
+      (λ (c : Call). DoesCall desk (record { call = c; reply = IsReplied IsDone; made = n }) (shown_at nodes) (with_node (shown_at nodes) n (Some (node_made dir (name_of path) kind (body_made desk.creds mode)))))
+      (sym m.call)
+      (does_make desk kind path mode (shown_at nodes) dir n (subst (λ (c : Call). ComesInto (shown_at nodes) desk.creds c path dir) m.call (m.comes nodes rows p))
+      (free_at nodes (shown_at nodes) rows shows) (none_at nodes (shown_at nodes) rows shows) low)
+
+  noted_comes : ComesToShown desk then'.parcel then'.reads (then'.calls ++ record { call = call; reply = IsReplied IsDone; made = n } ∷ [])
+  noted_comes =
+      comes_done desk s then' done (λ now. with_node now n (Some (node_made dir (name_of path) kind (body_made desk.creds mode)))) m.may.comes changes calls_are does
+
+  none_left : filter (λ k. not (eqb k n)) (n ∷ []) ≡ []
+  none_left = ap (λ t. cond {A = List ℕ} (not t) (n ∷ []) []) (eq-eqb n n refl)
+
+  -- with its note the session may go on
+  pub may_noted : MayCall desk (noted call (IsReplied IsDone) n (fill dir (name_of path) n kind (new_body desk.creds mode) s))
+  may_noted = record {
+    edits = edit_called desk then' (then'.calls ++ record { call = call; reply = IsReplied IsDone; made = n } ∷ []) changes.may;
+    comes = noted_comes;
+    made = λ x i some.
+        subst (λ (l : List InoParts). In x.made (ino_numbers l)) (sym left.files.inodes)
+        (elim (In-cases x then'.calls (record { call = call; reply = IsReplied IsDone; made = n } ∷ []) i) [
+          | inl old ↦ m.may.made x (subst (λ (cs : List Done). In x cs) calls_are old) some
+          | inr (inl e) ↦ subst (λ k. In k (ino_numbers s.parcel.inodes)) (sym (ap (λ (y : Done). y.made) e)) allotted
+          | inr (inr none) ↦ absurd none
+        ]);
+    spent = left.files.pages ∙ m.spent;
+    spent_numbers = left.numbers ∙ ap (filter (λ k. not (eqb k n))) m.one ∙ none_left;
+  }

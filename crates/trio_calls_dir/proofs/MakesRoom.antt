@@ -1,0 +1,372 @@
+-- A file is made in its directory: how the try goes by the room that was made.
+use Rattle.std.proofs.Common.{◌≡◌, ℕ, ◌%◌, ◌<◌, true, false, cond, List, [], ◌∷◌, ◌++◌, length, Option, Some, None, Result, Ok, Err, sym, refl, ap, ◌∙◌, subst, inl, arith}
+use Rattle.std.specs.Prelude.{is_some, map, unwrap_or}
+use Rattle.std.specs.Option.{option_map_or}
+use Rattle.std.proofs.lemmas.List.{append-nil}
+use Rattle.trio_names.specs.Name.{is_name}
+use Rattle.trio_rights.specs.declared.kind.Kind.{Kind}
+use Rattle.trio_rights.specs.declared.kind.Kind.TheVariants.{Directory, Regular}
+use Rattle.trio_rights.specs.declared.rights.Creds.{Creds}
+use Rattle.trio_rights.specs.declared.rights.Mode.{Mode}
+use Rattle.trio_lists.specs.Lists.{In}
+use Rattle.trio_layout.specs.Body.{block_count, body_of}
+use Rattle.trio_layout.specs.declared.body.Body.{Body}
+use Rattle.trio_layout.specs.declared.range.CoreRange.{CoreRange}
+use Rattle.trio_auxdir.specs.declared.place.Place.{Place}
+use Rattle.trio_nodes.specs.declared.answers.AllotFault.{AllotFault}
+use Rattle.trio_nodes.specs.declared.answers.AllotFault.TheVariants.{NoInodes as NoFreeInodes, NoPages}
+use Rattle.trio_nodes.specs.declared.call.Answer.TheVariants.{Done as IsDone}
+use Rattle.trio_nodes.specs.declared.call.Call.{Call}
+use Rattle.trio_nodes.specs.declared.call.Done.{Done}
+use Rattle.trio_nodes.specs.declared.call.Reply.{Reply}
+use Rattle.trio_nodes.specs.declared.call.Reply.TheVariants.{Ok as IsReplied, NotFound, Exists, NotDir, IsDir, NotEmpty, Denied, IntoItself, NoSpace, NoInodes, TooLarge}
+use Rattle.trio_nodes.specs.declared.grant.Holder.{Holder}
+use Rattle.trio_nodes.specs.Nodes.{Nodes, find_named, with_node}
+use Rattle.trio_nodes.specs.Walk.{Path, dir_of, is_root, name_of, walk_into}
+use Rattle.trio_nodes.specs.After.{batch_nodes}
+use Rattle.trio_nodes.specs.Apply.{Applied, LacksRoom, applied, done, in_directory, is_done, makes_file, new_node, reached, refused}
+use Rattle.trio_desk.specs.Call.{Allot, Ask, DeskSeen, NotGiven, Told}
+use Rattle.trio_desk.specs.Calls as desk_calls
+use Rattle.trio_desk.specs.Calls.{Calls}
+use Rattle.trio_desk.specs.Contents.{AreWithinLimits}
+use Rattle.trio_desk.specs.Edits.{TakesMore}
+use Rattle.trio_desk.specs.Ready.{ArePossible}
+use Rattle.trio_laws.specs.session.DirCalls.{ComesInto, write_paths}
+use Rattle.trio_laws.proofs.session.DirCalls.{no_room_to_make}
+use Rattle.trio_laws.proofs.session.FileEdits.{body_stands}
+use Rattle.trio_session.specs.Layout.{size_in}
+use Rattle.trio_session.specs.Seen.{IsOpenDir, MadeFile, MayBeMade, SessionSeen, cleared_file, empty_shown, fill, in_hand, lowest, no_chain, place_shown, spare_number, spare_numbers, spare_pages}
+use Rattle.trio_edit_laws.specs.Calls.{MayCall}
+use Rattle.trio_walk.specs.Asks.{AskedBy, IsAlike, TryEnds, allot_asks, noted, took}
+use Rattle.trio_walk.specs.Walks.{InAllShown}
+use Rattle.trio_walk.specs.declared.outcome.Outcome.{Outcome}
+use Rattle.trio_walk.specs.declared.outcome.Outcome.TheVariants.{Busy, NoMemory, Replied}
+use Rattle.trio_calls_dir.specs.declared.stops.Stop.{Stop}
+use Rattle.trio_calls_dir.specs.declared.stops.Stop.TheVariants.{Busy as IsBusy, NoMemory as LacksMemory}
+use Rattle.trio_calls_dir.specs.Asks.{ComesBy, ComesTo, Target, as_lent, edited, made_by, new_body, new_number, numbers_for, pages_for, slot_growth, wants_of, with_slot}
+use Rattle.trio_calls_dir.specs.inner.Goes.{AfterTry, Goes, IsNumber, LeavesHere, making, try_ends}
+use Rattle.trio_calls_dir.specs.inner.Rooms.{HasNumbers, HasPlaces, IsRefused, MadeRoom, RoomEnds, Wanted}
+use Rattle.trio_calls_dir.proofs.Alike.{alike_room, alike_then, may_alike}
+use Rattle.trio_calls_dir.proofs.Ends.{may_looked}
+use Rattle.trio_calls_dir.proofs.MakesFill.{MayFill, above, body_made, calls_are, changes, may_noted}
+use Rattle.trio_calls_dir.proofs.RoomsAllotted.{spare_uncleared}
+use Rattle.trio_calls_dir.proofs.Then.{all_then, fill_alike}
+
+-- What is known of a file that is to be made: the directory is open, and has no such name.
+pub record MayMake (desk : DeskSeen) (s : SessionSeen) (call' : Call) (kind' : Kind) (path' : Path) (mode' : Mode) (dir' : ℕ) : Type 0 where
+  pub may : MayCall desk s
+  pub call : call' ≡ making kind' path' mode'
+  pub root : is_root path' ≡ false
+  pub opens : IsOpenDir s dir'
+  pub new : place_shown s dir' (name_of path') ≡ None
+  pub comes : InAllShown desk s (λ now. ComesInto now desk.creds call' path' dir')
+  pub free : InAllShown desk s (λ now. find_named now dir' (name_of path') ≡ None)
+
+-- ---- what such a call is
+
+makes_it : (kind : Kind) (path : Path) (mode : Mode) → makes_file (making kind path mode) ≡ true
+makes_it Directory path mode = refl
+makes_it Regular path mode = refl
+
+made_it : (kind : Kind) (path : Path) (mode : Mode) (s : SessionSeen) → new_number s ≡ made_by (making kind path mode) s
+made_it Directory path mode s = refl
+made_it Regular path mode s = refl
+
+wants_it : (kind : Kind) (path : Path) (mode : Mode) (t : Target) (s : SessionSeen) → allot_asks (pages_for (making kind path mode) t s) (numbers_for (making kind path mode)) ≡ allot_asks (slot_growth s t.dir) 1
+wants_it Directory path mode t s = refl
+wants_it Regular path mode t s = refl
+
+edits_it : (kind : Kind) (path : Path) (mode : Mode) (creds : Creds) (t : Target) (s : SessionSeen) → edited creds (making kind path mode) t s ≡ fill t.dir (name_of path) (new_number s) kind (new_body creds mode) (with_slot t.dir s)
+edits_it Directory path mode creds t s = refl
+edits_it Regular path mode creds t s = refl
+
+comes_it : (kind : Kind) (path : Path) (mode : Mode) (now : Nodes) (creds : Creds) (t : Target) → walk_into now creds (write_paths (making kind path mode)) (dir_of path) ≡ Ok t.dir → ComesTo t now creds (making kind path mode)
+comes_it Directory path mode now creds t e = e
+comes_it Regular path mode now creds t e = e
+
+-- no check refuses it
+done_it : (kind : Kind) (path : Path) (mode : Mode) (now : Nodes) (creds : Creds) (dir : ℕ) → is_root path ≡ false → walk_into now creds (write_paths (making kind path mode)) (dir_of path) ≡ Ok dir → find_named now dir (name_of path) ≡ None
+    → is_done (applied now creds (making kind path mode) 0).reply ≡ true
+done_it kind path mode now creds dir root walked free = by kind walked
+  where
+    at : Kind → ℕ → Applied
+    at k n = cond {A = Applied} (is_some (find_named now n (name_of path))) (refused now Exists) (done (with_node now 0 (Some (new_node creds k n path mode))) IsDone)
+
+    all : (k : Kind) → walk_into now creds (dir_of path ∷ []) (dir_of path) ≡ Ok dir
+        → is_done (cond {A = Applied} (is_root path) (refused now Exists) (in_directory now creds (dir_of path ∷ []) path (at k))).reply ≡ true
+    all k e =
+        ap (λ t. is_done (cond {A = Applied} t (refused now Exists) (in_directory now creds (dir_of path ∷ []) path (at k))).reply) root
+        ∙ ap (λ r. is_done (reached now r (at k)).reply) e
+        ∙ ap (λ o. is_done (cond {A = Applied} (is_some o) (refused now Exists) (done (with_node now 0 (Some (new_node creds k dir path mode))) IsDone)).reply) free
+
+    by : (k : Kind) → walk_into now creds (write_paths (making k path mode)) (dir_of path) ≡ Ok dir → is_done (applied now creds (making k path mode) 0).reply ≡ true
+    by Directory e = all Directory e
+    by Regular e = all Regular e
+
+-- a list of one, by its lowest
+only_one : (xs : List ℕ) (n : ℕ) → length xs ≡ 1 → lowest xs ≡ Some n → xs ≡ n ∷ []
+only_one [] n e l = absurd (omega (arith, e))
+only_one (x ∷ []) n e l = (let t : Some x ≡ Some n = l in let same : x ≡ n = cc t in ap (λ k. k ∷ []) same)
+only_one (x ∷ (y ∷ ys)) n e l = absurd (omega (arith, e))
+
+some_lowest : (xs : List ℕ) → length xs ≡ 1 → (n : ℕ) × (lowest xs ≡ Some n)
+some_lowest [] e = absurd (omega (arith, e))
+some_lowest (x ∷ []) e = (x, refl)
+some_lowest (x ∷ (y ∷ ys)) e = absurd (omega (arith, e))
+
+module _ {D : Type 0} (called : D → Ask → Told → D → Type 0) (seen : D → DeskSeen) (d : D) (s : SessionSeen) (call : Call) (kind : Kind) (path : Path) (mode : Mode) (dir : ℕ) (m : MayMake (seen d) s call kind path mode dir)
+    (d' : D) (s1 : SessionSeen) (result : Result (Option Reply) Stop) (r : MadeRoom called seen d s dir 1 result d' s1) where
+  abbrev w : Wanted called seen d s r.given r.last d' s1
+  w = r.wanted
+
+  abbrev all : SessionSeen
+  all = took s (map (λ (c : desk_calls.Call). c.told) r.given)
+
+  abbrev ask : desk_calls.Call → Ask
+  ask c = c.ask
+
+  creds_same : (seen d').creds ≡ (seen d).creds
+  creds_same = w.same.creds
+
+  comes1 : InAllShown (seen d') s1 (λ now. ComesInto now (seen d').creds call path dir)
+  comes1 =
+      subst (λ (k : Creds). InAllShown (seen d') s1 (λ now. ComesInto now k call path dir)) (sym creds_same)
+      (all_then (seen d) (seen d') s s1 (λ now. ComesInto now (seen d).creds call path dir) w.same w.more w.calls m.comes)
+
+  free1 : InAllShown (seen d') s1 (λ now. find_named now dir (name_of path) ≡ None)
+  free1 = all_then (seen d) (seen d') s s1 (λ now. find_named now dir (name_of path) ≡ None) w.same w.more w.calls m.free
+
+  abbrev target : Target
+  target = record { dir = dir; new_dir = 0; ino = 0 }
+
+  walked1 : InAllShown (seen d') s1 (λ now. walk_into now (seen d').creds (write_paths (making kind path mode)) (dir_of path) ≡ Ok dir)
+  walked1 nodes rows p = ap (λ c. walk_into (batch_nodes (seen d').creds s1.calls nodes) (seen d').creds (write_paths c) (dir_of path)) (sym m.call) ∙ (comes1 nodes rows p).into
+
+  wants1 : InAllShown (seen d') s1 (λ now. wants_of now (seen d').creds call (record { dir = dir; new_dir = 0; ino = 0 }) (as_lent s (took s (map (λ (c : desk_calls.Call). c.told) r.given))) ≡ allot_asks (slot_growth s dir) 1)
+  wants1 nodes rows p =
+      let now : Nodes = batch_nodes (seen d').creds s1.calls nodes in
+      let creds : Creds = (seen d').creds in
+      ap (λ x. wants_of now creds call target x) r.lent
+      ∙ ap (λ c. wants_of now creds c target s) m.call
+      ∙ ap (λ t. cond {A = List Ask} t (allot_asks (pages_for (making kind path mode) target s) (numbers_for (making kind path mode))) []) (done_it kind path mode now creds dir m.root (walked1 nodes rows p) (free1 nodes rows p))
+      ∙ wants_it kind path mode target s
+
+  -- how the try goes by its end
+  goes_by : (end : Outcome) (number : ℕ) (s2 : SessionSeen) → s2.calls ≡ s1.calls → TakesMore (seen d') (in_hand s1) (in_hand s2) → TryEnds end r.last
+      → LeavesHere (seen d').creds call (record { dir = dir; new_dir = 0; ino = 0 }) (took s (map (λ (c : desk_calls.Call). c.told) r.given)) end s2
+      → IsNumber call (took s (map (λ (c : desk_calls.Call). c.told) r.given)) end number
+      → AskedBy end (map (λ (c : desk_calls.Call). c.ask) (r.given ++ r.last)) (allot_asks (slot_growth s dir) 1)
+      → AfterTry (seen d') call number end s2 → Goes called seen d s call (λ now. []) end number d' s2
+  goes_by end number s2 calls more ends leaves numbered asks after = record {
+    target = target;
+    given = r.given;
+    last = r.last;
+    each = w.each;
+    made = w.made;
+    ends = ends;
+    leaves = leaves;
+    numbered = numbered;
+    calls = calls ∙ w.calls;
+    same = w.same;
+    comes = λ nodes rows p. comes_by end nodes rows p;
+    asks = λ nodes rows p. subst (λ l. AskedBy end (map ask (r.given ++ r.last)) l) (sym (over (λ now. wants_of now (seen d').creds call target (as_lent s all) ≡ allot_asks (slot_growth s dir) 1) wants1 nodes rows p)) asks;
+    more = λ nodes rows p. w.more nodes rows (more nodes rows p);
+    after = after;
+  }
+    where
+      over : (P : Nodes → Type 0) → InAllShown (seen d') s1 P → InAllShown (seen d') s2 P
+      over P h nodes rows p = subst (λ (cs : List Done). P (batch_nodes (seen d').creds cs nodes)) (sym calls) (h nodes rows (more nodes rows p))
+
+      to : InAllShown (seen d') s2 (λ now. ComesTo target now (seen d').creds call)
+      to =
+          over (λ now. ComesTo target now (seen d').creds call)
+          (λ nodes rows p.
+          let now : Nodes = batch_nodes (seen d').creds s1.calls nodes in
+          subst (λ c. ComesTo target now (seen d').creds c) (sym m.call) (comes_it kind path mode now (seen d').creds target (walked1 nodes rows p)))
+
+      comes_by : (e : Outcome) → InAllShown (seen d') s2 (λ now. ComesBy e target now (seen d').creds call)
+      comes_by (Replied answer) nodes rows p = λ done'. to nodes rows p
+      comes_by (Busy holder) nodes rows p = tt
+      comes_by NoMemory nodes rows p = tt
+
+  -- the same nodes are possible
+  abbrev stays : TakesMore (seen d') (in_hand s1) (in_hand s1)
+  stays nodes rows p = p
+
+  -- ---- nothing was given
+
+  -- the session may make calls
+  may1 : spare_pages s1 ≡ [] → spare_numbers s1 ≡ [] → MayCall (seen d') s1
+  may1 spent numbers = record { edits = w.may.edits; comes = w.may.comes; made = w.may.made; spent = spent; spent_numbers = numbers }
+
+  refused_asks : (fault : AllotFault) → IsRefused (slot_growth s dir) 1 fault r.given r.last s1 → allot_asks (slot_growth s dir) 1 ≡ map (λ (c : desk_calls.Call). c.ask) (r.given ++ r.last)
+  refused_asks fault x = x.asks ∙ sym (ap (λ (l : List desk_calls.Call). map ask (l ++ r.last)) x.none ∙ ap (map ask) x.told)
+
+  after_lack : (reply : Reply) → LacksRoom call reply → spare_pages s1 ≡ [] → spare_numbers s1 ≡ [] → MayCall (seen d') (noted call reply 0 s1)
+  after_lack reply lacks spent numbers =
+      may_looked (seen d') s1 call reply (may1 spent numbers)
+      (λ nodes rows p.
+      no_room_to_make (seen d') (record { call = call; reply = reply; made = 0 }) (batch_nodes (seen d').creds s1.calls nodes) path dir (comes1 nodes rows p) (ap makes_file m.call ∙ makes_it kind path mode) (free1 nodes rows p) lacks refl)
+
+  pub lacked_goes : (reply : Reply) → result ≡ Ok (Some reply) → Goes called seen d s call (λ now. []) (Replied reply) 0 d' s1
+  lacked_goes reply is = by reply (subst (λ q. RoomEnds dir (slot_growth s dir) 1 r.given r.last q all s1) is r.ends)
+    where
+      may_lack_pages : (wanted free : ℕ) → free < wanted → LacksRoom call (NoSpace wanted free)
+      may_lack_pages wanted free less = subst (λ c. LacksRoom c (NoSpace wanted free)) (sym m.call) (at kind)
+        where
+          at : (k : Kind) → LacksRoom (making k path mode) (NoSpace wanted free)
+          at Directory = (refl, less)
+          at Regular = (refl, less)
+
+      may_lack_numbers : (wanted free : ℕ) → free < wanted → LacksRoom call (NoInodes wanted free)
+      may_lack_numbers wanted free less = (ap makes_file m.call ∙ makes_it kind path mode, less)
+
+      by : (reply : Reply) → RoomEnds dir (slot_growth s dir) 1 r.given r.last (Ok (Some reply)) (took s (map (λ (c : desk_calls.Call). c.told) r.given)) s1 → Goes called seen d s call (λ now. []) (Replied reply) 0 d' s1
+      by (NoSpace wanted free) x =
+          goes_by (Replied (NoSpace wanted free)) 0 s1 refl stays
+          (1, x.0.told ∙ ap (λ k. record { ask = Allot k 1; told = NotGiven (NoPages wanted free) } ∷ []) (sym x.1)) x.3 refl (refused_asks (NoPages wanted free) x.0) (
+            after_lack (NoSpace wanted free) (may_lack_pages wanted free x.2) x.0.spent x.0.spent_numbers,
+            x.4,
+            tt,
+            λ n. absurd n,
+          )
+      by (NoInodes wanted free) x =
+          goes_by (Replied (NoInodes wanted free)) 0 s1 refl stays
+          (slot_growth s dir, x.0.told ∙ ap (λ k. record { ask = Allot (slot_growth s dir) k; told = NotGiven (NoFreeInodes wanted free) } ∷ []) (sym x.1)) x.3 refl (refused_asks (NoFreeInodes wanted free) x.0) (
+            after_lack (NoInodes wanted free) (may_lack_numbers wanted free x.2) x.0.spent x.0.spent_numbers,
+            x.4,
+            tt,
+            λ n. absurd n,
+          )
+      by (IsReplied answer) x = absurd x
+      by NotFound x = absurd x
+      by Exists x = absurd x
+      by NotDir x = absurd x
+      by IsDir x = absurd x
+      by NotEmpty x = absurd x
+      by Denied x = absurd x
+      by IntoItself x = absurd x
+      by TooLarge x = absurd x
+
+  pub stopped_goes : (stop : Stop) → result ≡ Err stop → Goes called seen d s call (λ now. []) (try_ends (Err stop)) 0 d' s1
+  stopped_goes stop is = by stop (subst (λ q. RoomEnds dir (slot_growth s dir) 1 r.given r.last q all s1) is r.ends)
+    where
+      by : (k : Stop) → RoomEnds dir (slot_growth s dir) 1 r.given r.last (Err k) (took s (map (λ (c : desk_calls.Call). c.told) r.given)) s1 → Goes called seen d s call (λ now. []) (try_ends (Err k)) 0 d' s1
+      by LacksMemory x =
+          goes_by NoMemory 0 s1 refl stays x.0.ends x.1 refl
+          (x.0.asks.0, x.0.asks.1 ∙ ap (λ (l : List desk_calls.Call). map ask (l ++ r.last) ++ x.0.asks.0) (sym x.0.none)) (may1 x.0.spent x.0.spent_numbers)
+      by (IsBusy holder) x = absurd x
+
+  -- a stop that isn't Busy
+  pub never_busy : (stop : Stop) → result ≡ Err stop → (holder : Holder) → stop ≡ IsBusy holder → ⊥
+  never_busy stop is holder e = subst (λ q. RoomEnds dir (slot_growth s dir) 1 r.given r.last q all s1) (is ∙ ap Err e) r.ends
+
+  -- ---- a number was given
+
+  module _ (given_all : result ≡ Ok None) where
+    ends : RoomEnds dir (slot_growth s dir) 1 r.given r.last (Ok None) (took s (map (λ (c : desk_calls.Call). c.told) r.given)) s1
+    ends = subst (λ q. RoomEnds dir (slot_growth s dir) 1 r.given r.last q all s1) given_all r.ends
+
+    abbrev numbers : HasNumbers s1 1
+    numbers = ends.4
+
+    abbrev places : HasPlaces s1 dir
+    places = ends.5
+
+    -- there is one
+    pub some_number : (n : ℕ) × (spare_number s1 ≡ Some n)
+    some_number = some_lowest (spare_numbers s1) numbers.many
+
+    pub open1 : IsOpenDir s1 dir
+    open1 = record { directory = w.stays.opens dir ∙ m.opens.directory; index = subst (λ l. In dir l) (sym w.stays.indexed) m.opens.index }
+
+    pub new1 : place_shown s1 dir (name_of path) ≡ None
+    new1 = w.stays.places dir (name_of path) ∙ m.new
+
+    pub empty1 : is_some (empty_shown s1 dir) ≡ true
+    empty1 = places.empty
+
+    pub names1 : In dir s1.room.names
+    names1 = places.names
+
+    place1 : (place : Place) × (empty_shown s1 dir ≡ Some place)
+    place1 = by (empty_shown s1 dir) refl
+      where
+        by : (o : Option Place) → empty_shown s1 dir ≡ o → (place : Place) × (empty_shown s1 dir ≡ Some place)
+        by None e = absurd (let wrong : false ≡ true = sym (ap is_some e) ∙ empty1 in cc wrong)
+        by (Some place) e = (place, e)
+
+    module _ (limits : AreWithinLimits (seen d).sizes) (name : is_name (name_of path) ≡ true) (n : ℕ) (number : spare_number s1 ≡ Some n)
+        (read : (range : CoreRange) → body_of kind range (new_body (seen d').creds mode) ≡ Some (body_made (seen d').creds mode)) where
+      one : spare_numbers s1 ≡ n ∷ []
+      one = only_one (spare_numbers s1) n numbers.many number
+
+      among1 : In n (spare_numbers s1)
+      among1 = subst (λ l. In n l) (sym one) (inl refl)
+
+      may_fill : MayFill (seen d') s1 call kind path mode dir n
+      may_fill = record {
+        may = w.may;
+        limits = subst AreWithinLimits (sym w.same.sizes) limits;
+        call = m.call;
+        name = name;
+        opens = open1;
+        place = place1.0;
+        empty = place1.1;
+        new = new1;
+        comes = comes1;
+        spent = ends.3;
+        one = one;
+        unlent = numbers.unlent n among1;
+        read = read (seen d').sizes.range;
+      }
+
+      pub above1 : 0 < n
+      above1 = above (seen d') s1 call kind path mode dir n may_fill
+
+      uncleared : cleared_file s1 n ≡ None
+      uncleared = spare_uncleared s1 n among1
+
+      small : size_in (new_body (seen d').creds mode) ≡ 0
+      small = ap (λ (b : Body). b.size) (body_stands kind (seen d').sizes.range (new_body (seen d').creds mode) (body_made (seen d').creds mode) (read (seen d').sizes.range))
+
+      pub may_be_made : MayBeMade s1 n kind (new_body (seen d').creds mode)
+      may_be_made = record {
+        nothing = numbers.unlent n among1;
+        same = ap (λ (o : Option MadeFile). option_map_or (λ (x : MadeFile). x.kind) o kind) uncleared;
+        blocks = ap block_count small ∙ sym (ap (λ (o : Option MadeFile). length (option_map_or (λ (x : MadeFile). x.chain) o no_chain).blocks) uncleared);
+        whole = λ is. ap (λ k. k % 4096) small;
+        place = places.made;
+      }
+
+      module _ (s2 : SessionSeen) (kept : s2 ≡ record (fill dir (name_of path) n kind (new_body (seen d').creds mode) s1) { room = s2.room }) (room : s2.room.calls ≡ s1.room.calls) where
+        abbrev then' : SessionSeen
+        then' = fill dir (name_of path) n kind (new_body (seen d').creds mode) s1
+
+        near : IsAlike (fill dir (name_of path) n kind (new_body (seen d').creds mode) s1) s2
+        near = alike_room then' s2 kept
+
+        calls2 : s2.calls ≡ s1.calls
+        calls2 = ap (λ (q : SessionSeen). q.calls) near ∙ calls_are (seen d') s1 call kind path mode dir n may_fill
+
+        number_is : new_number all ≡ n
+        number_is = ap (λ l. unwrap_or (lowest l) 0) (sym ends.6) ∙ ap (λ o. unwrap_or o 0) number
+
+        leaves2 : IsAlike (edited (seen d').creds call (record { dir = dir; new_dir = 0; ino = 0 }) (took s (map (λ (c : desk_calls.Call). c.told) r.given))) s2
+        leaves2 =
+            subst (λ (q : SessionSeen). IsAlike q s2) (sym (ap (λ c. edited (seen d').creds c target all) m.call ∙ edits_it kind path mode (seen d').creds target all
+            ∙ ap (λ k. fill dir (name_of path) k kind (new_body (seen d').creds mode) (with_slot dir all)) number_is))
+            (alike_then (fill dir (name_of path) n kind (new_body (seen d').creds mode) (with_slot dir all)) then' s2
+            (fill_alike dir (name_of path) n kind (new_body (seen d').creds mode) (with_slot dir all) s1 ends.2) near)
+
+        pub made_goes : Goes called seen d s call (λ now. []) (Replied (IsReplied IsDone)) n d' s2
+        made_goes =
+            goes_by (Replied (IsReplied IsDone)) n s2 calls2
+            (λ nodes rows p. (changes (seen d') s1 call kind path mode dir n may_fill).becomes.more nodes rows (subst (λ (q : SessionSeen). ArePossible (seen d') q.parcel q.reads nodes rows) near p))
+            ends.0 leaves2 (sym number_is ∙ made_it kind path mode all ∙ sym (ap (λ c. made_by c all) m.call))
+            (ends.1 ∙ sym (ap (λ (l : List desk_calls.Call). map ask (r.given ++ l)) ends.0 ∙ ap (map ask) (append-nil r.given))) (
+              may_alike (seen d') (noted call (IsReplied IsDone) n then') (noted call (IsReplied IsDone) n s2) (ap (noted call (IsReplied IsDone) n) near) (may_noted (seen d') s1 call kind path mode dir n may_fill),
+              subst (λ k. length s2.calls < k) (sym room) (subst (λ (cs : List Done). length cs < s1.room.calls) (sym calls2) places.calls),
+              tt,
+              λ names. absurd names,
+            )

@@ -1,0 +1,293 @@
+-- A file moves to another directory: how the try goes by the room that was made.
+use Rattle.std.proofs.Common.{◌≡◌, ◌<◌, ℕ, true, false, cond, eqb, arith, List, [], ◌∷◌, ◌++◌, length, Option, Some, None, Result, Ok, Err, sym, refl, ap, ◌∙◌, subst, inl, inr}
+use Rattle.std.specs.Prelude.{is_some, map}
+use Rattle.std.specs.Option.{option_map_or}
+use Rattle.std.proofs.lemmas.Bool.{ne_eqb}
+use Rattle.std.proofs.lemmas.List.{append-nil}
+use Rattle.trio_rights.specs.declared.kind.Kind.{Kind}
+use Rattle.trio_rights.specs.declared.rights.Creds.{Creds}
+use Rattle.trio_lists.specs.Lists.{In}
+use Rattle.trio_auxdir.specs.declared.place.Place.{Place}
+use Rattle.trio_nodes.specs.declared.answers.AllotFault.{AllotFault}
+use Rattle.trio_nodes.specs.declared.answers.AllotFault.TheVariants.{NoPages}
+use Rattle.trio_nodes.specs.declared.call.Answer.TheVariants.{Done as IsDone}
+use Rattle.trio_nodes.specs.declared.call.Call.{Call}
+use Rattle.trio_nodes.specs.declared.call.Call.TheVariants.{Rename, Unlink}
+use Rattle.trio_nodes.specs.declared.call.Done.{Done}
+use Rattle.trio_nodes.specs.declared.call.Reply.{Reply}
+use Rattle.trio_nodes.specs.declared.call.Reply.TheVariants.{Ok as IsReplied, NotFound, Exists, NotDir, IsDir, NotEmpty, Denied, IntoItself, NoSpace, NoInodes, TooLarge}
+use Rattle.trio_nodes.specs.Nodes.{Nodes, find_named}
+use Rattle.trio_nodes.specs.Walk.{Path, dir_of, name_of, walk_into}
+use Rattle.trio_nodes.specs.After.{batch_nodes}
+use Rattle.trio_nodes.specs.Apply.{LacksRoom, applied, is_done}
+use Rattle.trio_desk.specs.Call.{Allot, Ask, DeskSeen, NotGiven, Told}
+use Rattle.trio_desk.specs.Calls as desk_calls
+use Rattle.trio_desk.specs.Edits.{TakesMore}
+use Rattle.trio_desk.specs.Ready.{ArePossible}
+use Rattle.trio_laws.specs.session.DirCalls.{ComesAcross, write_paths}
+use Rattle.trio_laws.proofs.session.DirCalls.{moves_entry, no_room_to_move}
+use Rattle.trio_session.specs.Seen.{IsOpenDir, MadeFile, SessionSeen, clear, empty_shown, fill, in_hand, retitle, spare_numbers, spare_pages}
+use Rattle.trio_edit_laws.specs.Calls.{MayCall}
+use Rattle.trio_walk.specs.declared.met.Met.{Met}
+use Rattle.trio_walk.specs.Walks.{InAllShown}
+use Rattle.trio_walk.specs.Asks.{AskedBy, IsAlike, TryEnds, allot_asks, noted, took}
+use Rattle.trio_walk.specs.declared.outcome.Outcome.{Outcome}
+use Rattle.trio_walk.specs.declared.outcome.Outcome.TheVariants.{Busy, NoMemory, Replied}
+use Rattle.trio_calls_dir.specs.declared.stops.Stop.{Stop}
+use Rattle.trio_calls_dir.specs.declared.stops.Stop.TheVariants.{Busy as IsBusy, NoMemory as LacksMemory}
+use Rattle.trio_calls_dir.specs.Asks.{ComesBy, ComesTo, Target, as_lent, edited, made_by, moved, moved_shown, pages_for, slot_growth, wants_of, with_slot}
+use Rattle.trio_calls_dir.specs.inner.Goes.{AfterTry, Goes, IsNumber, LeavesHere, try_ends}
+use Rattle.trio_calls_dir.specs.inner.Moves.{IsRename, MayMove, MayPut, PutFile, both_dirs}
+use Rattle.trio_calls_dir.specs.inner.Rooms.{HasPlaces, IsRefused, MadeRoom, RoomEnds, Wanted}
+use Rattle.trio_calls_dir.proofs.Alike.{alike_then, may_alike}
+use Rattle.trio_calls_dir.proofs.EditDone.{as_done}
+use Rattle.trio_calls_dir.proofs.Ends.{may_looked}
+use Rattle.trio_calls_dir.proofs.MovesPlace.{may_put, move_calls, move_changes, move_noted}
+use Rattle.trio_calls_dir.proofs.MovesTakes.{made_numbers, no_more, slot_used, takes_still, took_used}
+use Rattle.trio_calls_dir.proofs.MovesWalk.{writes_are}
+use Rattle.trio_calls_dir.proofs.Then.{all_then, edited_alike, fill_alike}
+
+module _ {D : Type 0} (called : D → Ask → Told → D → Type 0) (seen : D → DeskSeen) (d : D) (s : SessionSeen) (call : Call) (from to : Path) (dir new_dir : ℕ) (file : Met) (r : IsRename call from to) (m : MayMove (seen d) s call from to dir new_dir file)
+    (d' : D) (s1 : SessionSeen) (result : Result (Option Reply) Stop) (q : MadeRoom called seen d s new_dir 0 result d' s1) where
+  abbrev w : Wanted called seen d s q.given q.last d' s1
+  w = q.wanted
+
+  abbrev all : SessionSeen
+  all = took s (map (λ (c : desk_calls.Call). c.told) q.given)
+
+  abbrev ask : desk_calls.Call → Ask
+  ask c = c.ask
+
+  abbrev target : Target
+  target = record { dir = dir; new_dir = new_dir; ino = file.ino }
+
+  still : (P : Nodes → Type 0) → InAllShown (seen d) s P → InAllShown (seen d') s1 P
+  still P h = all_then (seen d) (seen d') s s1 P w.same w.more w.calls h
+
+  comes1 : InAllShown (seen d') s1 (λ now. ComesAcross now (seen d').creds call from to dir new_dir)
+  comes1 =
+      subst (λ (k : Creds). InAllShown (seen d') s1 (λ now. ComesAcross now k call from to dir new_dir)) (sym w.same.creds)
+      (still (λ now. ComesAcross now (seen d).creds call from to dir new_dir) m.comes)
+
+  named1 : InAllShown (seen d') s1 (λ now. find_named now dir (name_of from) ≡ Some file.ino)
+  named1 = still (λ now. find_named now dir (name_of from) ≡ Some file.ino) m.named
+
+  free1 : InAllShown (seen d') s1 (λ now. find_named now new_dir (name_of to) ≡ None)
+  free1 = still (λ now. find_named now new_dir (name_of to) ≡ None) m.free.named
+
+  differ : eqb dir new_dir ≡ false
+  differ = ne_eqb dir new_dir m.apart
+
+  -- no check refuses it
+  done1 : InAllShown (seen d') s1 (λ now. is_done (applied now (seen d').creds call 0).reply ≡ true)
+  done1 nodes rows p =
+      let now : Nodes = batch_nodes (seen d').creds s1.calls nodes in
+      let it = moves_entry (seen d') (as_done call) now from to dir new_dir file.ino (comes1 nodes rows p) (named1 nodes rows p) (free1 nodes rows p) refl refl in
+      elim it.0 [ inl x ↦ sym (ap is_done x.0) | inr x ↦ absurd x.0 ]
+
+  wants1 : InAllShown (seen d') s1 (λ now. wants_of now (seen d').creds call (record { dir = dir; new_dir = new_dir; ino = file.ino }) (as_lent s (took s (map (λ (c : desk_calls.Call). c.told) q.given))) ≡ allot_asks (slot_growth s new_dir) 0)
+  wants1 nodes rows p =
+      let now : Nodes = batch_nodes (seen d').creds s1.calls nodes in
+      let creds : Creds = (seen d').creds in
+      let done : is_done (applied now creds (Rename from to) 0).reply ≡ true = subst (λ c. is_done (applied now creds c 0).reply ≡ true) r.on (done1 nodes rows p) in
+      ap (λ x. wants_of now creds call target x) q.lent
+      ∙ ap (λ c. wants_of now creds c target s) r.on
+      ∙ ap (λ t. cond {A = List Ask} t (allot_asks (pages_for (Rename from to) target s) 0) []) done
+      ∙ ap (λ t. allot_asks (cond t 0 (slot_growth s new_dir)) 0) differ
+
+  -- how the try goes by its end
+  goes_by : (end : Outcome) (s2 : SessionSeen) → s2.calls ≡ s1.calls → TakesMore (seen d') (in_hand s1) (in_hand s2) → TryEnds end q.last
+      → LeavesHere (seen d').creds call (record { dir = dir; new_dir = new_dir; ino = file.ino }) (took s (map (λ (c : desk_calls.Call). c.told) q.given)) end s2
+      → IsNumber call (took s (map (λ (c : desk_calls.Call). c.told) q.given)) end 0
+      → AskedBy end (map (λ (c : desk_calls.Call). c.ask) (q.given ++ q.last)) (allot_asks (slot_growth s new_dir) 0)
+      → AfterTry (seen d') call 0 end s2 → Goes called seen d s call (λ now. []) end 0 d' s2
+  goes_by end s2 calls more ends leaves numbered asks after = record {
+    target = target;
+    given = q.given;
+    last = q.last;
+    each = w.each;
+    made = w.made;
+    ends = ends;
+    leaves = leaves;
+    numbered = numbered;
+    calls = calls ∙ w.calls;
+    same = w.same;
+    comes = λ nodes rows p. comes_by end nodes rows p;
+    asks = λ nodes rows p. subst (λ l. AskedBy end (map ask (q.given ++ q.last)) l) (sym (over (λ now. wants_of now (seen d').creds call target (as_lent s all) ≡ allot_asks (slot_growth s new_dir) 0) wants1 nodes rows p)) asks;
+    more = λ nodes rows p. w.more nodes rows (more nodes rows p);
+    after = after;
+  }
+    where
+      over : (P : Nodes → Type 0) → InAllShown (seen d') s1 P → InAllShown (seen d') s2 P
+      over P h nodes rows p = subst (λ (cs : List Done). P (batch_nodes (seen d').creds cs nodes)) (sym calls) (h nodes rows (more nodes rows p))
+
+      to_here : InAllShown (seen d') s2 (λ now. ComesTo target now (seen d').creds call)
+      to_here =
+          over (λ now. ComesTo target now (seen d').creds call)
+          (λ nodes rows p.
+          let now : Nodes = batch_nodes (seen d').creds s1.calls nodes in
+          let c = comes1 nodes rows p in
+          let enters : (path : Path) → walk_into now (seen d').creds (both_dirs from to) path ≡ walk_into now (seen d').creds (write_paths call) path = λ path. ap (λ ws. walk_into now (seen d').creds ws path) (sym (writes_are call from to r)) in
+          subst (λ (k : Call). ComesTo target now (seen d').creds k) (sym r.on) (enters (dir_of from) ∙ c.out, enters (dir_of to) ∙ c.into, named1 nodes rows p))
+
+      comes_by : (e : Outcome) → InAllShown (seen d') s2 (λ now. ComesBy e target now (seen d').creds call)
+      comes_by (Replied answer) nodes rows p = λ done'. to_here nodes rows p
+      comes_by (Busy holder) nodes rows p = tt
+      comes_by NoMemory nodes rows p = tt
+
+  -- the same nodes are possible
+  abbrev stays : TakesMore (seen d') (in_hand s1) (in_hand s1)
+  stays nodes rows p = p
+
+  -- the session may make calls
+  may1 : spare_pages s1 ≡ [] → spare_numbers s1 ≡ [] → MayCall (seen d') s1
+  may1 spent numbers = record { edits = w.may.edits; comes = w.may.comes; made = w.may.made; spent = spent; spent_numbers = numbers }
+
+  -- ---- nothing was given
+
+  after_lack : (reply : Reply) → LacksRoom call reply → spare_pages s1 ≡ [] → spare_numbers s1 ≡ [] → MayCall (seen d') (noted call reply 0 s1)
+  after_lack reply lacks spent numbers =
+      may_looked (seen d') s1 call reply (may1 spent numbers)
+      (λ nodes rows p.
+      no_room_to_move (seen d') (record { call = call; reply = reply; made = 0 }) (batch_nodes (seen d').creds s1.calls nodes) from to dir new_dir file.ino (comes1 nodes rows p) (named1 nodes rows p) (free1 nodes rows p) lacks refl)
+
+  pub lacked_goes : (reply : Reply) → result ≡ Ok (Some reply) → Goes called seen d s call (λ now. []) (Replied reply) 0 d' s1
+  lacked_goes reply is = by reply (subst (λ x. RoomEnds new_dir (slot_growth s new_dir) 0 q.given q.last x all s1) is q.ends)
+    where
+      refused_asks : (fault : AllotFault) → IsRefused (slot_growth s new_dir) 0 fault q.given q.last s1 → allot_asks (slot_growth s new_dir) 0 ≡ map (λ (c : desk_calls.Call). c.ask) (q.given ++ q.last)
+      refused_asks fault x = x.asks ∙ sym (ap (λ (l : List desk_calls.Call). map ask (l ++ q.last)) x.none ∙ ap (map ask) x.told)
+
+      by : (reply : Reply) → RoomEnds new_dir (slot_growth s new_dir) 0 q.given q.last (Ok (Some reply)) (took s (map (λ (c : desk_calls.Call). c.told) q.given)) s1 → Goes called seen d s call (λ now. []) (Replied reply) 0 d' s1
+      by (NoSpace wanted free) x =
+          goes_by (Replied (NoSpace wanted free)) s1 refl stays
+          (0, x.0.told ∙ ap (λ k. record { ask = Allot k 0; told = NotGiven (NoPages wanted free) } ∷ []) (sym x.1)) x.3 refl (refused_asks (NoPages wanted free) x.0) (
+            after_lack (NoSpace wanted free) (subst (λ c. LacksRoom c (NoSpace wanted free)) (sym r.on) (refl, x.2)) x.0.spent x.0.spent_numbers,
+            x.4,
+            tt,
+            λ n. absurd n,
+          )
+      by (NoInodes wanted free) x = (let less = x.2 in let none = x.1 in absurd (omega (arith, less, none)))
+      by (IsReplied answer) x = absurd x
+      by NotFound x = absurd x
+      by Exists x = absurd x
+      by NotDir x = absurd x
+      by IsDir x = absurd x
+      by NotEmpty x = absurd x
+      by Denied x = absurd x
+      by IntoItself x = absurd x
+      by TooLarge x = absurd x
+
+  pub stopped_goes : (stop : Stop) → result ≡ Err stop → Goes called seen d s call (λ now. []) (try_ends (Err stop)) 0 d' s1
+  stopped_goes stop is = by stop (subst (λ x. RoomEnds new_dir (slot_growth s new_dir) 0 q.given q.last x all s1) is q.ends)
+    where
+      by : (k : Stop) → RoomEnds new_dir (slot_growth s new_dir) 0 q.given q.last (Err k) (took s (map (λ (c : desk_calls.Call). c.told) q.given)) s1 → Goes called seen d s call (λ now. []) (try_ends (Err k)) 0 d' s1
+      by LacksMemory x =
+          goes_by NoMemory s1 refl stays x.0.ends x.1 refl
+          (x.0.asks.0, x.0.asks.1 ∙ ap (λ (l : List desk_calls.Call). map ask (l ++ q.last) ++ x.0.asks.0) (sym x.0.none)) (may1 x.0.spent x.0.spent_numbers)
+      by (IsBusy holder) x = absurd x
+
+  -- ---- there is room
+
+  module _ (is : result ≡ Ok None) where
+    ends : RoomEnds new_dir (slot_growth s new_dir) 0 q.given q.last (Ok None) (took s (map (λ (c : desk_calls.Call). c.told) q.given)) s1
+    ends = subst (λ x. RoomEnds new_dir (slot_growth s new_dir) 0 q.given q.last x all s1) is q.ends
+
+    places : HasPlaces s1 new_dir
+    places = ends.5
+
+    no_numbers : spare_numbers s1 ≡ []
+    no_numbers = no_more (spare_numbers s1) ends.4.many
+
+    may2 : MayCall (seen d') s1
+    may2 = may1 ends.3 no_numbers
+
+    open_stays : (n : ℕ) → IsOpenDir s n → IsOpenDir s1 n
+    open_stays n o = record { directory = w.stays.opens n ∙ o.directory; index = subst (λ l. In n l) (sym w.stays.indexed) o.index }
+
+    moves1 : MayMove (seen d') s1 call from to dir new_dir file
+    moves1 = record {
+      may = may2;
+      opens = open_stays dir m.opens;
+      opens_new = open_stays new_dir m.opens_new;
+      comes = comes1;
+      entry = (
+        m.entry.0,
+        m.entry.1,
+        w.stays.places dir (name_of from) ∙ m.entry.2,
+        w.stays.entries dir (name_of from) m.entry.0 m.entry.2 ∙ m.entry.3,
+        m.entry.4,
+        m.entry.5,
+      );
+      named = named1;
+      free = record { name = m.free.name; place = w.stays.places new_dir (name_of to) ∙ m.free.place; named = free1 };
+      apart = m.apart;
+      other = m.other;
+    }
+
+    takes1 : is_some (moved_shown s file.ino) ≡ true → is_some (moved_shown s1 file.ino) ≡ true
+    takes1 takes =
+        let given : List Told = map (λ (c : desk_calls.Call). c.told) q.given in
+        let a = took_used s given in
+        let b = slot_used new_dir all in
+        takes_still s s1 (ap made_numbers ends.2 ∙ b.0 ∙ ap (map (λ (x : MadeFile). x.ino)) a.0) (ap (λ (x : SessionSeen). x.cleared) ends.2 ∙ b.1 ∙ a.1) w.stays.holds no_numbers (seen d) m.may.edits file.ino takes
+
+    pub may_put1 : is_some (moved_shown s file.ino) ≡ true → MayPut s1 (name_of from) (name_of to) dir new_dir file.ino
+    may_put1 takes = may_put (seen d') s1 call from to dir new_dir file moves1 places.empty places.names places.made (takes1 takes)
+
+    -- the file is put there
+    module _ (s2 : SessionSeen) (put : PutFile s1 (name_of from) (name_of to) dir new_dir file.ino s2) where
+      place2 : (place : Place) × (empty_shown s1 new_dir ≡ Some place)
+      place2 = by (empty_shown s1 new_dir) refl places.empty
+        where
+          by : (o : Option Place) → empty_shown s1 new_dir ≡ o → is_some o ≡ true → (place : Place) × (empty_shown s1 new_dir ≡ Some place)
+          by (Some place) e t = (place, e)
+          by None e t = absurd (cc t)
+
+      abbrev e_ino : ℕ
+      e_ino = m.entry.1.ino
+
+      -- by the number that its entry has
+      near : IsAlike (fill new_dir (name_of to) m.entry.1.ino put.kind put.body (clear dir (name_of from) s1)) s2
+      near = subst (λ n. IsAlike (fill new_dir (name_of to) n put.kind put.body (clear dir (name_of from) s1)) s2) m.entry.4 put.put
+
+      calls2 : s2.calls ≡ s1.calls
+      unfolding moves1
+      calls2 = ap (λ (x : SessionSeen). x.calls) near ∙ move_calls (seen d') s1 call from to dir new_dir file moves1 r place2.0 place2.1 put.kind put.body put.takes
+
+      more2 : TakesMore (seen d') (in_hand s1) (in_hand s2)
+      unfolding moves1
+      more2 nodes rows p =
+          (move_changes (seen d') s1 call from to dir new_dir file moves1 r place2.0 place2.1 put.kind put.body put.takes).becomes.more nodes rows
+          (subst (λ (x : SessionSeen). ArePossible (seen d') x.parcel x.reads nodes rows) near p)
+
+      abbrev ready : SessionSeen
+      ready = with_slot new_dir (took s (map (λ (c : desk_calls.Call). c.told) q.given))
+
+      clear_alike : IsAlike (clear dir (name_of from) ready) (clear dir (name_of from) s1)
+      clear_alike = edited_alike (seen d').creds (Unlink from) (record { dir = dir; new_dir = new_dir; ino = file.ino }) ready s1 ends.2
+
+      edited_is : edited (seen d').creds call (record { dir = dir; new_dir = new_dir; ino = file.ino }) (took s (map (λ (c : desk_calls.Call). c.told) q.given))
+          ≡ fill new_dir (name_of to) file.ino put.kind put.body (clear dir (name_of from) ready)
+      edited_is =
+          let takes : moved_shown ready file.ino ≡ Some (put.kind, put.body) = sym (ap (λ (x : SessionSeen). moved_shown x file.ino) ends.2) ∙ put.takes in
+          ap (λ c. edited (seen d').creds c target all) r.on
+          ∙ ap (λ b. cond b (retitle dir (name_of from) (name_of to) all) (moved from to target all)) differ
+          ∙ ap (λ o. option_map_or (λ (x : Kind × List ℕ). fill new_dir (name_of to) file.ino x.0 x.1 (clear dir (name_of from) ready)) o ready) takes
+
+      leaves2 : IsAlike (edited (seen d').creds call (record { dir = dir; new_dir = new_dir; ino = file.ino }) (took s (map (λ (c : desk_calls.Call). c.told) q.given))) s2
+      leaves2 =
+          subst (λ (x : SessionSeen). IsAlike x s2) (sym edited_is)
+          (alike_then (fill new_dir (name_of to) file.ino put.kind put.body (clear dir (name_of from) ready)) (fill new_dir (name_of to) file.ino put.kind put.body (clear dir (name_of from) s1)) s2
+          (fill_alike new_dir (name_of to) file.ino put.kind put.body (clear dir (name_of from) ready) (clear dir (name_of from) s1) clear_alike) put.put)
+
+      pub put_goes : Goes called seen d s call (λ now. []) (Replied (IsReplied IsDone)) 0 d' s2
+      unfolding moves1
+      put_goes =
+          goes_by (Replied (IsReplied IsDone)) s2 calls2 more2 ends.0 leaves2 (sym (ap (λ c. made_by c all) r.on))
+          (ends.1 ∙ sym (ap (λ (l : List desk_calls.Call). map ask (q.given ++ l)) ends.0 ∙ ap (map ask) (append-nil q.given))) (
+            may_alike (seen d') (noted call (IsReplied IsDone) 0 (fill new_dir (name_of to) m.entry.1.ino put.kind put.body (clear dir (name_of from) s1))) (noted call (IsReplied IsDone) 0 s2) (ap (noted call (IsReplied IsDone) 0) near)
+                (move_noted (seen d') s1 call from to dir new_dir file moves1 r place2.0 place2.1 put.kind put.body put.takes),
+            subst (λ n. length s2.calls < n) (sym put.calls) (subst (λ (cs : List Done). length cs < s1.room.calls) (sym calls2) places.calls),
+            tt,
+            λ n. absurd n,
+          )

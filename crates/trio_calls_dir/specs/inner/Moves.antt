@@ -1,0 +1,134 @@
+-- Words of a rename: its stages, and what keeps its grants off.
+use Rattle.std.specs.Prelude.{◌≡◌, ◌≢◌, ◌<◌, ◌%◌, ℕ, Bool, IsTrue, List, [], ◌∷◌, ◌++◌, Option, Some, None, Ok, is_some, length}
+use Rattle.std.specs.Option.{option_map_or}
+use Rattle.trio_lists.specs.Lists.{In}
+use Rattle.trio_names.specs.Name.{IsName}
+use Rattle.trio_layout.specs.Body.{block_count}
+use Rattle.trio_rights.specs.Row.{Row}
+use Rattle.trio_rights.specs.declared.kind.Kind.{Kind}
+use Rattle.trio_rights.specs.declared.kind.Kind.TheVariants.{Directory}
+use Rattle.trio_rights.specs.declared.rights.Creds.{Creds}
+use Rattle.trio_nodes.specs.declared.grant.GrantKind.{GrantKind}
+use Rattle.trio_nodes.specs.declared.call.Call.{Call}
+use Rattle.trio_nodes.specs.declared.call.Call.TheVariants.{Rename}
+use Rattle.trio_nodes.specs.Nodes.{Nodes, find_named}
+use Rattle.trio_nodes.specs.Walk.{Path, dir_of, name_of, walk_into}
+use Rattle.trio_nodes.specs.After.{batch_nodes}
+use Rattle.trio_desk.specs.Call.{DeskSeen}
+use Rattle.trio_desk.specs.Ready.{ArePossible}
+use Rattle.trio_laws.specs.session.DirCalls.{ComesAcross, early_refusal}
+use Rattle.trio_session.specs.Layout.{size_in}
+use Rattle.trio_session.specs.Seen.{IsOpenDir, MadeFile, SessionSeen, clear, cleared_file, empty_shown, fill, grant_in, is_allotted, kept_chain, place_shown}
+use Rattle.trio_edit_laws.specs.Calls.{MayCall}
+use Rattle.trio_walk.specs.Asks.{IsAlike}
+use Rattle.trio_walk.specs.declared.met.Met.{Met}
+use Rattle.trio_walk.specs.declared.outcome.Outcome.{Outcome}
+use Rattle.trio_walk.specs.declared.outcome.Outcome.TheVariants.{Busy}
+use Rattle.trio_walk.specs.Needs.{Needed, into_needs, reached_by}
+use Rattle.trio_walk.specs.Walks.{FindsEntry, HasMet, InAllShown, IsOwnBusy, MayLookIn}
+use Rattle.trio_calls_dir.specs.Asks.{moved_shown, moving_needs}
+
+-- ---- what is needed
+
+-- the directories of both paths are entered for writing
+abbrev pub both_dirs : Path → Path → List Path
+both_dirs from to = dir_of from ∷ dir_of to ∷ []
+
+-- what a rename needs once its old directory is entered
+abbrev pub across_needs : Nodes → Creds → Bool → Path → Path → ℕ → List Needed
+across_needs now creds shown from to dir =
+    into_needs now creds shown (both_dirs from to) (dir_of to)
+    ++ reached_by (walk_into now creds (both_dirs from to) (dir_of to)) (λ new_dir. moving_needs now from to dir new_dir)
+
+-- a grant of the session's own excludes one of these that are needed, in nodes that are possible
+pub record OwnKeepsOff (desk : DeskSeen) (s : SessionSeen) (needs : Nodes → List Needed) : Type 0 where
+  pub ino : ℕ
+  pub kind : GrantKind
+  pub busy : IsOwnBusy s ino kind
+  pub nodes : Nodes
+  pub rows : List (Option Row)
+  pub possible : ArePossible desk s.parcel s.reads nodes rows
+  pub needed : In (record { ino = ino; kind = kind }) (needs (batch_nodes desk.creds s.calls nodes))
+
+-- where the library itself keeps a file busy that is needed, a grant of the session's does
+abbrev pub NeedsBusyAt : DeskSeen → SessionSeen → (Nodes → List Needed) → Outcome → Type 0
+NeedsBusyAt desk s needs (Busy holder) = holder.lib ≡ s.lib → OwnKeepsOff desk s needs
+NeedsBusyAt desk s needs end = Unit {0}
+
+-- ---- stages
+
+-- the call is this rename, which its paths alone don't refuse
+pub record IsRename (call' : Call) (from to : Path) : Type 0 where
+  pub on : call' ≡ Rename from to
+  pub early : early_refusal call' ≡ None
+
+-- its old directory is entered
+pub record IsOut (desk : DeskSeen) (s : SessionSeen) (from to : Path) (dir' : ℕ) : Type 0 where
+  pub may : MayCall desk s
+  pub opens : IsOpenDir s dir'
+  pub look : MayLookIn desk s dir'
+  pub out : InAllShown desk s (λ now. walk_into now desk.creds (both_dirs from to) (dir_of from) ≡ Ok dir')
+
+-- and its new one
+pub record IsAcross (desk : DeskSeen) (s : SessionSeen) (call' : Call) (from to : Path) (dir' new_dir' : ℕ) : Type 0 where
+  pub may : MayCall desk s
+  pub opens : IsOpenDir s dir'
+  pub look : MayLookIn desk s dir'
+  pub opens_new : IsOpenDir s new_dir'
+  pub look_new : MayLookIn desk s new_dir'
+  pub comes : InAllShown desk s (λ now. ComesAcross now desk.creds call' from to dir' new_dir')
+
+-- the old directory lists this file by the old name
+pub record IsFound (desk : DeskSeen) (s : SessionSeen) (from : Path) (dir' : ℕ) (file' : Met) : Type 0 where
+  pub entry : FindsEntry s dir' (name_of from) (Some file')
+  pub met : HasMet desk s file'
+  pub named : InAllShown desk s (λ now. find_named now dir' (name_of from) ≡ Some file'.ino)
+
+-- and the new one none by the new name
+pub record IsFree (desk : DeskSeen) (s : SessionSeen) (to : Path) (new_dir' : ℕ) : Type 0 where
+  pub name : IsName (name_of to)
+  pub place : place_shown s new_dir' (name_of to) ≡ None
+  pub named : InAllShown desk s (λ now. find_named now new_dir' (name_of to) ≡ None)
+
+-- ---- a move
+
+-- The file is had, and may move to another directory.
+pub record MayMove (desk : DeskSeen) (s : SessionSeen) (call' : Call) (from to : Path) (dir' new_dir' : ℕ) (file' : Met) : Type 0 where
+  pub may : MayCall desk s
+  pub opens : IsOpenDir s dir'
+  pub opens_new : IsOpenDir s new_dir'
+  pub comes : InAllShown desk s (λ now. ComesAcross now desk.creds call' from to dir' new_dir')
+  pub entry : FindsEntry s dir' (name_of from) (Some file')
+  pub named : InAllShown desk s (λ now. find_named now dir' (name_of from) ≡ Some file'.ino)
+  pub free : IsFree desk s to new_dir'
+  pub apart : dir' ≢ new_dir'
+  pub other : new_dir' ≢ file'.ino
+
+-- What a file that was made brings into a slot again, but for a place for it: its kind, and a body that says as many blocks as it has.
+pub record BringsMade (s : SessionSeen) (ino' : ℕ) (kind' : Kind) (body' : List ℕ) : Type 0 where
+  pub nothing : grant_in s ino' ≡ None
+  pub same : option_map_or (λ (m : MadeFile). m.kind) (cleared_file s ino') kind' ≡ kind'
+  pub blocks : block_count (size_in body') ≡ length (kept_chain s ino').blocks
+  pub whole : kind' ≡ Directory → size_in body' % 4096 ≡ 0
+
+-- A file that moves by its name in a directory to an empty slot of another, with its kind and its body, takes no memory.
+pub record MayPut (s : SessionSeen) (old new : List ℕ) (dir' new_dir' ino' : ℕ) : Type 0 where
+  pub opens : IsOpenDir s dir'
+  pub there : IsTrue (is_some (place_shown s dir' old))
+  pub takes : IsTrue (is_some (moved_shown s ino'))
+  pub opens_new : IsOpenDir (clear dir' old s) new_dir'
+  pub free : place_shown (clear dir' old s) new_dir' new ≡ None
+  pub empty : IsTrue (is_some (empty_shown (clear dir' old s) new_dir'))
+  pub number : 0 < ino'
+  pub made : (kind : Kind) (body : List ℕ) → moved_shown s ino' ≡ Some (kind, body) → IsTrue (is_allotted (clear dir' old s) ino') → BringsMade (clear dir' old s) ino' kind body
+  pub apart : new_dir' ≢ dir'
+  pub names : In new_dir' s.room.names
+  pub place : length s.made < s.room.made
+
+-- what it is then
+pub record PutFile (s : SessionSeen) (old new : List ℕ) (dir' new_dir' ino' : ℕ) (s' : SessionSeen) : Type 0 where
+  pub kind : Kind
+  pub body : List ℕ
+  pub takes : moved_shown s ino' ≡ Some (kind, body)
+  pub put : IsAlike (fill new_dir' new ino' kind body (clear dir' old s)) s'
+  pub calls : s'.room.calls ≡ s.room.calls
