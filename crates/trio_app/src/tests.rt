@@ -287,14 +287,6 @@ const INPUTS: &[Input] = &[
         3,
         b"script line 2\n",
     ),
-    // calls that aren't of a file, also where a later line is bad
-    (
-        IMAGE_SIZE,
-        &[],
-        b"lib 1 honest 0 0\nstat /f\nsettle\nmkdir /a 755\nlist / 0\n",
-        8,
-        b"not built line 4\n",
-    ),
     (
         IMAGE_SIZE,
         &[],
@@ -755,6 +747,13 @@ fn tree_image(alloc: Global) -> Result<Vec<u8>, NoMemory> {
 const TREE: &str =
     "tree\n0 d 755 0 0 1 /\n1 d 755 0 0 1 a\n2 f 644 0 0 5 f\ninodes 3 pages 6 free 23\n";
 
+// Nothing but the root is there.
+const BARE_TREE: &str = "tree\n0 d 755 0 0 0 /\ninodes 1 pages 2 free 27\n";
+
+// The modes of `a` and `f` were changed.
+const MODED_TREE: &str =
+    "tree\n0 d 755 0 0 1 /\n1 d 700 0 0 1 a\n2 f 600 0 0 5 f\ninodes 3 pages 6 free 23\n";
+
 // The file has lost its last byte.
 const CUT_TREE: &str =
     "tree\n0 d 755 0 0 1 /\n1 d 755 0 0 1 a\n2 f 644 0 0 4 f\ninodes 3 pages 6 free 23\n";
@@ -1163,7 +1162,7 @@ const SHARED_SESSIONS: &[Session] = &[
     ),
 ];
 
-// What honest libraries do on `a` and `f`, beside raw ones and beside each other.
+// What honest libraries do with `a` and `f`, beside raw ones and beside each other.
 const HONEST_SESSIONS: &[Session] = &[
     // the read lease is settled before the write, with the first call
     (
@@ -1196,6 +1195,39 @@ const HONEST_SESSIONS: &[Session] = &[
     (
         "lib 1 honest 5 5\nread /a/f 0 5\nwrite /a/f 0 J\ntruncate /a/f 3\nread /a 0 5\nstat /a\nread /a/g 0 5\nread /a/f/g 0 5\nsettle\nlib 2 honest 0 0\nread /a/f 0 5\nwrite /a/f 0 J\ntruncate /a/f 3\nsettle\nread /a/f 0 5\nwrite / 0 x\n",
         "lib 1 honest\n2 ok 5 hello\n3 denied\n4 denied\n5 isdir\n6 ok d 755 0 0 1\n7 notfound\n8 notdir\n9 settled 7\nend settled 0\nlib 2 honest\n11 ok 5 hello\n12 busy\n13 busy\n14 settled 0\n15 ok 5 hello\n16 isdir\nend settled 2\n",
+        TREE,
+        SAME,
+    ),
+    // names are listed, and what is removed is there no more, in its own session too
+    (
+        "lib 1 honest 0 0\nlist / 0\nlist /a 0\nlist /a 1\nlist /a/f 0\nlist /b 0\nrmdir /a\nunlink /a\nunlink /a/f\nlist /a 0\nrmdir /a\nrmdir /\nlist / 0\nsettle\nstat /a\n",
+        "lib 1 honest\n2 ok 1 a/\n3 ok 1 f\n4 ok 1\n5 notdir\n6 notfound\n7 notempty\n8 isdir\n9 ok\n10 ok 0\n11 ok\n12 denied\n13 ok 0\n14 settled 3\n15 notfound\nend settled 1\n",
+        BARE_TREE,
+        Out::Part(16_384, 16_388, 0),
+    ),
+    // one may not remove it, and the other not while it is read
+    (
+        "lib 1 honest 5 5\nlist /a 0\nunlink /a/f\nsettle\nlist /a 0\nlib 2 honest 0 0\nread /a/f 0 5\nunlink /a/f\nsettle\nunlink /a/f\nrmdir /a\nlist / 0\n",
+        "lib 1 honest\n2 ok 1 f\n3 denied\n4 settled 2\n5 ok 1 f\nend settled 1\nlib 2 honest\n7 ok 5 hello\n8 busy\n9 settled 0\n10 busy\n11 notempty\n12 ok 1 a/\nend settled 2\n",
+        TREE,
+        SAME,
+    ),
+    (
+        "lib 1 raw 0 0\ngrant read 3\nback 3\nlib 2 honest 0 0\nunlink /a/f\nunlink /a/f\nlist /a 0\nrmdir /a\n",
+        "lib 1 raw\n2 granted\n3 ok\nend nothing\nlib 2 honest\n5 busy\n6 ok\n7 ok 0\n8 ok\nend settled 1\n",
+        BARE_TREE,
+        Out::Part(16_384, 16_388, 0),
+    ),
+    // modes are changed by the owner alone, each after a settle; a reader keeps the file busy
+    (
+        "lib 1 honest 0 0\nwrite /a/f 0 J\nchmod /a/f 600\nstat /a/f\nchmod /a 700\nchmod / 700\nchmod /a/g 600\nlist /a 0\n",
+        "lib 1 honest\n2 ok 1\n3 ok\n4 ok f 600 0 0 5\n5 ok\n6 denied\n7 notfound\n8 ok 1 f\nend settled 1\n",
+        MODED_TREE,
+        Out::Part(32_768, 32_769, b'J'),
+    ),
+    (
+        "lib 1 honest 5 5\nchmod /a/f 600\nstat /a/f\nlib 2 raw 0 0\ngrant read 3\nlib 3 honest 0 0\nchmod /a/f 600\nchmod /a/f 640\n",
+        "lib 1 honest\n2 denied\n3 ok f 644 0 0 5\nend settled 1\nlib 2 raw\n5 granted\nend nothing\nlib 3 honest\n7 busy\n8 busy\nend settled 0\n",
         TREE,
         SAME,
     ),

@@ -38,7 +38,7 @@ use Rattle.trio_desk.specs.Out.{LibOut}
 use Rattle.trio_ctl.specs.Ctl.{Controller}
 use Rattle.trio_ctl.specs.Desk.{Happens, LogsCall, desk_of, out_of}
 use Rattle.trio_runner.specs.Rounds.{Says, SaysHonest, Ends}
-use Rattle.trio_runner.specs.Honest.{HonestComes, Noted, unnoted}
+use Rattle.trio_runner.specs.Honest.{HonestComes, unnoted}
 use Rattle.trio_runner.specs.Moves.{AreMoves, entries_of}
 use Rattle.trio_runner.specs.Play.{Heard, InSession, Things, TurnComes, with_answer, with_end}
 use Rattle.trio_runner.proofs.Noting.{begins, line_noted, settle_noted}

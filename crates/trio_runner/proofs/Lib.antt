@@ -3,14 +3,24 @@ mod Sessions
 mod Plain
 pub mod Moves
 mod Noting
+mod Left
+mod BuiltCalls
 mod Batches
 mod Spelled
 pub mod Plays
 pub mod Logs
 pub mod Outs
 pub mod Held
+mod OnTree
 pub mod Orders
 pub mod EndFree
+pub mod SameAnswers
+pub mod SameNodes
+pub mod OneTry
+pub mod OneCall
+pub mod OneReply
+pub mod OneFile
+pub mod OneDir
 pub mod OnePlay
 pub mod Calling
 pub mod Seats

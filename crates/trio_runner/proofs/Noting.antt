@@ -1,14 +1,17 @@
 -- The calls of a session at a desk over the controller, as the definitions note them.
-use Rattle.std.proofs.Common.{◌≡◌, List, [], ◌∷◌, ◌++◌, map, Option, sym, refl, ap, ◌∙◌, subst, inl, inr}
+use Rattle.std.proofs.Common.{◌≡◌, Bool, true, false, List, [], ◌∷◌, ◌++◌, map, Option, sym, refl, ap, ◌∙◌, subst, inl}
 use Rattle.std.proofs.lemmas.List.{append-nil, append_assoc}
+use Rattle.std.specs.Prelude.{MatchBool}
 use Rattle.trio_rights.specs.Row.{Row}
+use Rattle.trio_rights.specs.declared.rights.Creds.{Creds}
 use Rattle.trio_rights.specs.declared.rights.LibNo.{LibNo}
 use Rattle.trio_nodes.specs.Nodes.{Nodes}
 use Rattle.trio_nodes.specs.After.{batch_nodes}
 use Rattle.trio_nodes.specs.declared.entry.Entry.{Entry}
 use Rattle.trio_nodes.specs.declared.call.Call as call
 use Rattle.trio_lease.specs.Shown.{Shown}
-use Rattle.trio_desk.specs.Call.{Ask, DeskSeen, Told, Settle, Settled}
+use Rattle.trio_nodes.specs.declared.answers.ModeFault.TheVariants.{Busy as BusyMode}
+use Rattle.trio_desk.specs.Call.{Ask, DeskSeen, Told, Settle, SetMode, Settled, ModeSet, NotModeSet}
 use Rattle.trio_desk.specs.Calls.{Call, Calls}
 use Rattle.trio_desk.specs.Ready.{ArePossible}
 use Rattle.trio_state.specs.State.{State}
@@ -19,13 +22,21 @@ use Rattle.trio_ctl.specs.Ctl.{Controller}
 use Rattle.trio_ctl.specs.Desk.{Happens, LogsCall, desk_of, entries_told}
 use Rattle.trio_session.specs.Seen.{SessionSeen}
 use Rattle.trio_edit_laws.specs.Calls.{MayCall}
-use Rattle.trio_walk.specs.Asks.{IsUnsettled, Settles, Once, Unsettled, Again, GivesUp, LeftOut}
-use Rattle.trio_calls_file.specs.Asks.{FileCalled, FileTried, TriedIn}
+use Rattle.trio_walk.specs.Asks.{Called, IsUnsettled, Settles, Tried, took, Once, Unsettled, Again, GivesUp, LeftOut}
+use Rattle.trio_calls_file.specs.Asks.{FileCalled, FileTried}
+use Rattle.trio_calls_file.specs.Asks as on_file
+use Rattle.trio_calls_dir.specs.Asks.{DirCalled, DirTried}
+use Rattle.trio_calls_dir.specs.Asks as on_dir
+use Rattle.trio_calls_dir.specs.Chmods.{Begun, ChmodCalled, ChmodTried, TriedSo, Unbegun, lent_to}
+use Rattle.trio_nodes.specs.Walk.{Path}
+use Rattle.trio_rights.specs.declared.rights.Mode.{Mode}
+use Rattle.trio_nodes.specs.declared.call.Call.TheVariants.{Chmod}
 use Rattle.trio_walk.specs.declared.outcome.Outcome.{Outcome}
 use Rattle.trio_script.specs.declared.honest.HonestLine.{HonestLine}
 use Rattle.trio_script.specs.declared.honest.HonestLine.TheVariants.{Call as CallLine, Settle as SettleLine}
 use Rattle.trio_report.specs.declared.answer.LineAnswer.{LineAnswer}
-use Rattle.trio_runner.specs.Honest.{CallComes, HonestComes, Noted, Notes, sees, unnoted}
+use Rattle.trio_runner.specs.Built.{is_dir_call}
+use Rattle.trio_runner.specs.Honest.{HonestComes, Noted, Notes, SessionCalled, sees, unnoted}
 use Rattle.trio_runner.specs.Moves.{AreMoves, apart, back_call, entries_of, move_of}
 use Rattle.trio_runner.proofs.Moves.{entries_joined, moves_joined}
 
@@ -60,13 +71,19 @@ backs_moved lib s (f ∷ fs) a =
     both_moved lib s (back_call f ∷ []) (map back_call fs) (entries_told s lib (back_call f).ask (back_call f).told) (back_entries lib fs) given (all_back s lib (f ∷ fs))
     (one_moved lib s (back_call f) given h) (backs_moved lib given fs a.1)
 
+-- a call behind read leases that are given back
+after_backs : (lib : LibNo) (s : State) (back : List Shown) (c : Call) (s' : State) → AreBack s lib back → Happens (all_back s lib back) lib c.ask c.told s'
+    → Moved lib s (map back_call back ++ c ∷ []) (back_entries lib back ++ entries_told (all_back s lib back) lib c.ask c.told) s'
+after_backs lib s back c s' a h =
+    both_moved lib s (map back_call back) (c ∷ []) (back_entries lib back) (entries_told (all_back s lib back) lib c.ask c.told) (all_back s lib back) s'
+    (backs_moved lib s back a) (one_moved lib (all_back s lib back) c s' h)
+
 pub apart_moved : (lib : LibNo) (s : State) (ask : Ask) (told : Told) (s' : State) → Happens s lib ask told s' → Moved lib s (apart ask told) (entries_told s lib ask told) s'
 apart_moved lib s (Settle parcel back calls) Settled s' h =
-    let last : Call = record { ask = Settle parcel [] calls; told = Settled } in
-    let then' : State = all_back s lib back in
-    let one : Moved lib then' (last ∷ []) (entries_told then' lib last.ask last.told) s' =
-    one_moved lib then' last s' (record { back = tt; given = h.given; is_step = h.is_step; lease = tt }) in
-    both_moved lib s (map back_call back) (last ∷ []) (back_entries lib back) (entries_told then' lib last.ask last.told) then' s' (backs_moved lib s back h.back) one
+    after_backs lib s back (record { ask = Settle parcel [] calls; told = Settled }) s' h.back (record { back = tt; given = h.given; is_step = h.is_step; lease = tt })
+apart_moved lib s (SetMode ino mode back call) ModeSet s' h =
+    after_backs lib s back (record { ask = SetMode ino mode [] call; told = ModeSet }) s' h.back (record { back = tt; given = h.given; is_step = h.is_step; lease = tt })
+apart_moved lib s (SetMode ino mode back call) (NotModeSet (BusyMode holder)) s' h = record { moves = []; are = h.is_step.1; entries_are = refl }
 apart_moved lib s ask told s' h = one_moved lib s (record { ask = ask; told = told }) s' h
 
 -- ---- one desk follows another
@@ -85,28 +102,37 @@ module _ {D E : Type 0} (called : D → Ask → Told → D → Type 0) (noted : 
       let rest = calls_follow cs made.0 d' one.0 one.2 made.2 in
       (rest.0, (one.0, one.1, rest.1), rest.2)
 
-  tried_follows : (d d' : D) (e : E) (s s' : SessionSeen) (k : call.Call) (end : Outcome) → Is d e → FileTried called seen k d s end d' s' → Follows (λ e'. FileTried noted seen' k e s end e' s') d'
-  tried_follows d d' e s s' k end is t =
-      let calls : List Call = t.1.given ++ t.1.last in
-      let made = calls_follow calls d d' e is t.1.made in
+  -- a try of which something is true by the credentials of its library
+  tried_follows : (Leaves : SessionSeen → SessionSeen → Type 0) (Says : Creds → SessionSeen → List Ask → Nodes → Type 0) (d d' : D) (e : E) (s s' : SessionSeen) (end : Outcome) → Is d e
+      → Tried called seen d s Leaves (Says (seen d').creds) end d' s' → Follows (λ e'. Tried noted seen' e s Leaves (Says (seen' e').creds) end e' s') d'
+  tried_follows Leaves Says d d' e s s' end is t =
+      let calls : List Call = t.given ++ t.last in
+      let made = calls_follow calls d d' e is t.made in
       let Shows : DeskSeen → Type 0 = λ desk.
       (nodes : Nodes) (rows : List (Option Row)) → ArePossible desk s'.parcel s'.reads nodes rows
-      → TriedIn desk.creds s k end t.0 (map (λ (c : Call). c.ask) calls) (batch_nodes desk.creds s.calls nodes) in (
+      → Says desk.creds (took s (map (λ (c : Call). c.told) t.given)) (map (λ (c : Call). c.ask) calls) (batch_nodes desk.creds s.calls nodes) in (
         made.0,
-        (
-          t.0,
-          record {
-            given = t.1.given;
-            last = t.1.last;
-            each = t.1.each;
-            made = made.1;
-            ends = t.1.ends;
-            leaves = t.1.leaves;
-            shown = subst Shows (same d' made.0 made.2) t.1.shown;
-          },
-        ),
+        record {
+          given = t.given;
+          last = t.last;
+          each = t.each;
+          made = made.1;
+          ends = t.ends;
+          leaves = t.leaves;
+          shown = subst Shows (same d' made.0 made.2) t.shown;
+        },
         made.2,
       )
+
+  file_tried_follows : (k : call.Call) (d d' : D) (e : E) (s s' : SessionSeen) (end : Outcome) → Is d e → FileTried called seen k d s end d' s' → Follows (λ e'. FileTried noted seen' k e s end e' s') d'
+  file_tried_follows k d d' e s s' end is t =
+      let a = tried_follows (on_file.Leaves k t.0 end) (λ creds all asks now. on_file.TriedIn creds s k end t.0 asks now) d d' e s s' end is t.1 in
+      (a.0, (t.0, a.1), a.2)
+
+  dir_tried_follows : (k : call.Call) (d d' : D) (e : E) (s s' : SessionSeen) (end : Outcome) → Is d e → DirTried called seen k d s end d' s' → Follows (λ e'. DirTried noted seen' k e s end e' s') d'
+  dir_tried_follows k d d' e s s' end is t =
+      let a = tried_follows (on_dir.Leaves s.creds k t.0 end) (λ creds. on_dir.TriedIn creds s k end t.0) d d' e s s' end is t.1 in
+      (a.0, (t.0, a.1), a.2)
 
   pub settles_follow : (d d' : D) (e : E) (s s' : SessionSeen) → Is d e → Settles called d s d' s' → Follows (λ e'. Settles noted e s e' s') d'
   settles_follow d d' e s s' is t =
@@ -118,33 +144,75 @@ module _ {D E : Type 0} (called : D → Ask → Told → D → Type 0) (noted : 
       let one = step d e _ _ d' is t.made in
       (one.0, record { made = one.1; same = t.same }, one.2)
 
-  file_follows : (d d' : D) (e : E) (s s' : SessionSeen) (k : call.Call) (end : Outcome) → Is d e → FileCalled called seen d s k end d' s' → Follows (λ e'. FileCalled noted seen' e s k end e' s') d'
-  file_follows d d' e s s' k end is (Once real t) = (let a = tried_follows d d' e s s' k end is t in (a.0, Once real a.1, a.2))
-  file_follows d d' e s s' k end is (Unsettled holder d1 s1 none t u) =
-      let a = tried_follows d d1 e s s1 k _ is t in
+  -- a call each of whose tries is one at the other desk
+  called_follows : (Try : D → SessionSeen → Outcome → D → SessionSeen → Type 0) (Try' : E → SessionSeen → Outcome → E → SessionSeen → Type 0)
+      (each : (d d' : D) (e : E) (s s' : SessionSeen) (end : Outcome) → Is d e → Try d s end d' s' → Follows (λ e'. Try' e s end e' s') d')
+      (d d' : D) (e : E) (s s' : SessionSeen) (end : Outcome) → Is d e → Called called Try d s end d' s' → Follows (λ e'. Called noted Try' e s end e' s') d'
+  called_follows Try Try' each d d' e s s' end is (Once real t) = (let a = each d d' e s s' end is t in (a.0, Once real a.1, a.2))
+  called_follows Try Try' each d d' e s s' end is (Unsettled holder d1 s1 none t u) =
+      let a = each d d1 e s s1 _ is t in
       let b = unsettled_follows d1 d' a.0 s1 s' a.2 u in
       (b.0, Unsettled holder a.0 s1 none a.1 b.1, b.2)
-  file_follows d d' e s s' k end is (Again holder d1 d2 s1 s2 real t u v) =
-      let a = tried_follows d d1 e s s1 k _ is t in
+  called_follows Try Try' each d d' e s s' end is (Again holder d1 d2 s1 s2 real t u v) =
+      let a = each d d1 e s s1 _ is t in
       let b = settles_follow d1 d2 a.0 s1 s2 a.2 u in
-      let c = tried_follows d2 d' b.0 s2 s' k end b.2 v in
+      let c = each d2 d' b.0 s2 s' end b.2 v in
       (c.0, Again holder a.0 b.0 s1 s2 real a.1 b.1 c.1, c.2)
-  file_follows d d' e s s' k end is (GivesUp first last d1 d2 d3 s1 s2 s3 busy other t u v w) =
-      let a = tried_follows d d1 e s s1 k _ is t in
+  called_follows Try Try' each d d' e s s' end is (GivesUp first last d1 d2 d3 s1 s2 s3 busy other t u v w) =
+      let a = each d d1 e s s1 _ is t in
       let b = settles_follow d1 d2 a.0 s1 s2 a.2 u in
-      let c = tried_follows d2 d3 b.0 s2 s3 k _ b.2 v in
+      let c = each d2 d3 b.0 s2 s3 _ b.2 v in
       let f = settles_follow d3 d' c.0 s3 s' c.2 w in
       (f.0, GivesUp first last a.0 b.0 c.0 s1 s2 s3 busy other a.1 b.1 c.1 f.1, f.2)
-  file_follows d d' e s s' k end is (LeftOut first last d1 d2 d3 s1 s2 s3 none t u v w) =
-      let a = tried_follows d d1 e s s1 k _ is t in
+  called_follows Try Try' each d d' e s s' end is (LeftOut first last d1 d2 d3 s1 s2 s3 none t u v w) =
+      let a = each d d1 e s s1 _ is t in
       let b = settles_follow d1 d2 a.0 s1 s2 a.2 u in
-      let c = tried_follows d2 d3 b.0 s2 s3 k _ b.2 v in
+      let c = each d2 d3 b.0 s2 s3 _ b.2 v in
       let f = unsettled_follows d3 d' c.0 s3 s' c.2 w in
       (f.0, LeftOut first last a.0 b.0 c.0 s1 s2 s3 none a.1 b.1 c.1 f.1, f.2)
 
+  chmod_tried_follows : (path : Path) (mode : Mode) (d d' : D) (e : E) (s s' : SessionSeen) (end : Outcome) → Is d e → ChmodTried called seen path mode d s end d' s' → Follows (λ e'. ChmodTried noted seen' path mode e s end e' s') d'
+  chmod_tried_follows path mode d d' e s s' end is t =
+      let made = calls_follow ((t.given ++ t.ungiven) ++ t.last) d d' e is t.made in
+      let all : SessionSeen = lent_to s t.given in
+      let Shows : DeskSeen → Type 0 = λ desk.
+      (nodes : Nodes) (rows : List (Option Row)) → ArePossible desk all.parcel all.reads nodes rows
+      → TriedSo desk.creds s path mode t.comes (map (λ (c : Call). c.ask) (t.given ++ t.ungiven)) nodes in (
+        made.0,
+        record {
+          comes = t.comes;
+          given = t.given;
+          ungiven = t.ungiven;
+          last = t.last;
+          each = t.each;
+          made = made.1;
+          ends = t.ends;
+          leaves = t.leaves;
+          others = t.others;
+          shown = subst Shows (same d' made.0 made.2) t.shown;
+        },
+        made.2,
+      )
+
+  chmod_follows : (path : Path) (mode : Mode) (d d' : D) (e : E) (s s' : SessionSeen) (end : Outcome) → Is d e → ChmodCalled called seen d s path mode end d' s' → Follows (λ e'. ChmodCalled noted seen' e s path mode end e' s') d'
+  chmod_follows path mode d d' e s s' end is (Unbegun none u) = (let a = unsettled_follows d d' e s s' is u in (a.0, Unbegun none a.1, a.2))
+  chmod_follows path mode d d' e s s' end is (Begun d1 s1 t c) =
+      let a = settles_follow d d1 e s s1 is t in
+      let b = called_follows (ChmodTried called seen path mode) (ChmodTried noted seen' path mode) (chmod_tried_follows path mode) d1 d' a.0 s1 s' end a.2 c in
+      (b.0, Begun a.0 s1 a.1 b.1, b.2)
+
+  leased_follows : (d d' : D) (e : E) (s s' : SessionSeen) (k : call.Call) (end : Outcome) → Is d e → (b : Bool) → MatchBool b (DirCalled called seen d s k end d' s') (FileCalled called seen d s k end d' s')
+      → Follows (λ e'. MatchBool b (DirCalled noted seen' e s k end e' s') (FileCalled noted seen' e s k end e' s')) d'
+  leased_follows d d' e s s' k end is true c = called_follows (DirTried called seen k) (DirTried noted seen' k) (dir_tried_follows k) d d' e s s' end is c
+  leased_follows d d' e s s' k end is false c = called_follows (FileTried called seen k) (FileTried noted seen' k) (file_tried_follows k) d d' e s s' end is c
+
+  call_follows : (d d' : D) (e : E) (s s' : SessionSeen) (k : call.Call) (end : Outcome) → Is d e → SessionCalled called seen d s k end d' s' → Follows (λ e'. SessionCalled noted seen' e s k end e' s') d'
+  call_follows d d' e s s' (Chmod path mode) end is c = chmod_follows path mode d d' e s s' end is c
+  call_follows d d' e s s' k end is c = leased_follows d d' e s s' k end is (is_dir_call k) c
+
   pub line_follows : (d d' : D) (e : E) (s s' : SessionSeen) (line : HonestLine) (told : LineAnswer) → Is d e → HonestComes called seen d s line told d' s' → Follows (λ e'. HonestComes noted seen' e s line told e' s') d'
   line_follows d d' e s s' (CallLine k) told is c =
-      let a = file_follows d d' e s s' k c.end is c.made in
+      let a = call_follows d d' e s s' k c.end is c.made in
       (a.0, record { end = c.end; made = a.1; told_is = c.told_is; may = subst (λ desk. MayCall desk s') (same d' a.0 a.2) c.may }, a.2)
   line_follows d d' e s s' SettleLine told is c = (let a = settles_follow d d' e s s' is c.0 in (a.0, (a.1, c.1), a.2))
 

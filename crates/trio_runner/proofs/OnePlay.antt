@@ -1,39 +1,28 @@
--- Two plays of one script of raw libraries on one image come to the same.
+-- Two plays of one script on one image come to the same.
 use Rattle.std.proofs.Common.{◌≡◌, ◌≢◌, ℕ, zero, suc, ◌+◌, ◌<◌, length, arith, ◌-◌, Bool, true, false, List, [], ◌∷◌, Option, Some, None, sym, refl, ap, ◌∙◌, subst, inl, inr, get_or, set}
 use Rattle.std.specs.Prelude.{MatchBool, MatchOption, slice_get}
-use Rattle.std.specs.Option.{IsSomeAnd}
 use Rattle.std.proofs.lemmas.Bool.{false≢true}
-use Rattle.trio_rights.specs.Row.{Row}
 use Rattle.trio_rights.specs.declared.rights.LibNo.{LibNo}
-use Rattle.trio_nodes.specs.declared.grant.GrantKind.{GrantKind}
 use Rattle.trio_nodes.specs.declared.answers.GrantFault.TheVariants.{NotLive, Denied, NoParent, Busy, NoMemory as NoGrantMemory}
 use Rattle.trio_nodes.specs.declared.answers.AllotFault.TheVariants.{NoPages as NoFreePages, NoInodes as NoFreeInodes, NoMemory as NoAllotMemory}
 use Rattle.trio_nodes.specs.declared.answers.ReleaseAnswer.{ReleaseAnswer}
 use Rattle.trio_nodes.specs.declared.answers.ReleaseAnswer.TheVariants.{Accepted as AcceptedParcel, Refused as RefusedParcel}
 use Rattle.trio_nodes.specs.declared.answers.ReleaseFault.TheVariants.{NotClosed as NotClosedParcel, NoMemory as NoReleaseMemory}
 use Rattle.trio_nodes.specs.declared.answers.ModeFault.TheVariants as unmoded
-use Rattle.trio_layout.specs.Image.{row_at}
 use Rattle.trio_lease.specs.Shown.{Shown}
-use Rattle.trio_lease.specs.declared.lease.Lease.{Lease}
-use Rattle.trio_lease.specs.declared.lease.Lease.TheVariants.{Hold as HoldLent}
-use Rattle.trio_rights.specs.declared.kind.Kind.TheVariants.{Regular}
 use Rattle.trio_lists.specs.Lists.{In}
 use Rattle.trio_lists.proofs.Members.{In-cases}
 use Rattle.trio_desk.specs.Call.{Ask, Told, Grant, GiveBack, Lent, NotLent, Given, NotGiven, Done, Judged, NotJudged, Settled, NotSettled, ModeSet, NotModeSet}
 use Rattle.trio_desk.specs.Calls.{Call}
 use Rattle.trio_state.specs.State.{State}
 use Rattle.trio_state.specs.Kept.{Kept}
-use Rattle.trio_state.specs.Grants.{opened}
 use Rattle.trio_state.specs.Run.{Move}
-use Rattle.trio_state.specs.Tells.{Why}
-use Rattle.trio_state.specs.Step.{CtlAnswer, Step}
 use Rattle.trio_state.specs.Step as step
-use Rattle.trio_laws.specs.Known.{Known, known, plain_state, refused_rule, SameAnswer}
-use Rattle.trio_laws.proofs.KnownSteps.{known_decides, same_event_same_answer}
+use Rattle.trio_laws.specs.Known.{Known, known, SameAnswer}
+use Rattle.trio_laws.proofs.KnownSteps.{same_event_same_answer}
 use Rattle.trio_ctl.proofs.DeskSteps.{plain_step}
-use Rattle.trio_runner.proofs.Plain.{ask_plain, backs_plain}
-use Rattle.trio_ctl.specs.Open.{lent_by}
-use Rattle.trio_ctl.specs.Desk.{LeaseIs, answer_of, event_of}
+use Rattle.trio_runner.proofs.Plain.{ask_plain, backs_plain, turn_plain}
+use Rattle.trio_ctl.specs.Desk.{LeaseIs, answer_of, event_of, out_of}
 use Rattle.trio_raw.specs.Has.{Has, has_nothing, nothing}
 use Rattle.trio_raw.specs.Asked.{back_calls, release_call}
 use Rattle.trio_script.specs.declared.line.RawLine.{RawLine}
@@ -44,22 +33,41 @@ use Rattle.trio_runner.specs.Line.{Alone, Asks, LineComes, EndsAlone, EndsAll, E
 use Rattle.trio_script.specs.declared.Lines.{Lines}
 use Rattle.trio_script.specs.declared.Lines.TheVariants.{Raw as RawLines, Honest as HonestLines}
 use Rattle.trio_rights.specs.declared.rights.Creds.{Creds}
-use Rattle.trio_runner.specs.Rounds.{Placed, Turn, Says, Ends, turns_of}
-use Rattle.trio_runner.specs.Honest.{Noted, unnoted}
+use Rattle.trio_runner.specs.Rounds.{Placed, Turn, Says, SaysHonest, Ends, turns_of}
+use Rattle.trio_nodes.specs.declared.call.Call as call
+use Rattle.trio_nodes.specs.declared.call.Call.TheVariants as calls
+use Rattle.trio_runner.specs.Honest.{HonestComes, SessionCalled, Noted, Notes, sees, told_outcome, unnoted}
 use Rattle.trio_runner.specs.Moves.{AreMoves}
-use Rattle.trio_runner.specs.Play.{BeginsWith, Heard, IsLibraryOf, Players, Plays, Share, TakesTurn, Things, InSession, TurnComes, share_of, told_to, untold, with_answer, with_end}
-use Rattle.trio_runner.specs.PlayLaws.{IsRaw, PlayedIsOne}
-use Rattle.trio_runner.proofs.Sessions.{ArePlain}
-use Rattle.trio_runner.proofs.Moves.{Stands, call_stands, moves_parted, moves_stand, no_move, one_move}
-use Rattle.trio_runner.proofs.Held.{held_stands, noted_of}
-use Rattle.trio_runner.proofs.EndFree.{start_held, within_some}
+use Rattle.trio_runner.specs.Play.{AtStart, BeginsWith, Heard, IsLibraryOf, Players, Plays, Share, TakesTurn, Things, InSession, TurnComes, new_session, share_of, told_to, untold, with_answer, with_end}
+use Rattle.trio_runner.specs.PlayLaws.{KeepsModes, LineKeeps, TurnKeeps, PlayedIsOne}
+use Rattle.trio_runner.specs.inner.Ready.{HoldsAll, IsHeld}
+use Rattle.trio_layout.specs.Image.{Image, IsFit}
+use Rattle.trio_layout.specs.Verifies.{Verifies}
+use Rattle.trio_state.specs.Run.{IsWhole}
+use Rattle.trio_laws.specs.session.Lent.{LentIsTrue}
+use Rattle.trio_session.specs.Seen.{SessionSeen}
+use Rattle.trio_edit_laws.specs.Calls.{MayCall}
+use Rattle.trio_walk.specs.Asks.{IsAlike}
+use Rattle.trio_walk.specs.declared.outcome.Outcome.{Outcome}
+use Rattle.trio_walk.specs.declared.outcome.Outcome.TheVariants.{Replied, Busy as BusyCall, NoMemory}
+use Rattle.trio_calls_file.specs.Asks.{FileCalled, FileTried}
+use Rattle.trio_calls_dir.specs.Asks.{DirCalled, DirTried}
+use Rattle.trio_runner.specs.Built.{is_dir_call}
+use Rattle.trio_script.specs.declared.ScriptLib.{ScriptLib}
+use Rattle.trio_script.specs.declared.honest.HonestLine.{HonestLine}
+use Rattle.trio_script.specs.declared.honest.HonestLine.TheVariants.{Call as CallLine, Settle as SettleLine}
+use Rattle.trio_report.specs.declared.answer.LineAnswer.TheVariants as answered
+use Rattle.trio_report.specs.declared.report.EndAnswer.TheVariants.{Settled as EndSettled}
+use Rattle.trio_runner.proofs.OneCall.{MayEnd, OneEnd as OneCalled, one_call, one_settle}
+use Rattle.trio_runner.proofs.OneDir.{one_dir}
+use Rattle.trio_runner.proofs.OneFile.{one_file}
+use Rattle.trio_runner.proofs.SameNodes.{HasOut, StandsTrue, may_has, moves_true}
+use Rattle.trio_runner.proofs.Moves.{Stands, moves_parted, moves_stand, no_move, one_move}
+use Rattle.trio_runner.proofs.Held.{held_after, held_stands, noted_of}
+use Rattle.trio_runner.proofs.EndFree.{Libraries, libraries_later, script_libraries, start_held, within_some}
+use Rattle.trio_runner.proofs.SameAnswers.{Alike, Lends, answers_alike, calls_known, lends_same, no_lease, Same, BothRefused}
 
 -- ---- answers
-
--- two answers are the same, but for the file and the place that a refusal names
-data Alike : Told → Told → Type 0 where
-  Same : (told : Told) → Alike told told
-  BothRefused : (rule ino page slot ino' page' slot' : ℕ) → Alike (Judged (RefusedParcel rule ino page slot)) (Judged (RefusedParcel rule ino' page' slot'))
 
 -- what is told of alike answers is the same
 told_alike : (said : RawLine) (a b : Told) → Alike a b → told_of said a ≡ told_of said b
@@ -81,85 +89,6 @@ has_alike lib has (Poke at offset bytes) a b (BothRefused rule i p s i' p' s') =
 has_alike lib has (Peek at offset len) a b (BothRefused rule i p s i' p' s') = refl
 has_alike lib has (ReleaseLine inos pages numbers) a b (BothRefused rule i p s i' p' s') = refl
 has_alike lib has (ModeLine ino mode) a b (BothRefused rule i p s i' p' s') = refl
-
--- the answer of a desk, by that of the controller, where it isn't want of memory; a lease is told beside it
-abbrev from : Lease → CtlAnswer → Told
-from lease (step.Granted children) = Lent lease
-from lease (step.NotGranted fault) = NotLent fault
-from lease (step.Given pages numbers) = Given pages numbers
-from lease (step.NoPages wanted free) = NotGiven (NoFreePages wanted free)
-from lease (step.NoInodes wanted free) = NotGiven (NoFreeInodes wanted free)
-from lease step.Done = Done
-from lease step.Accepted = Judged AcceptedParcel
-from lease (step.Refused why) = Judged (RefusedParcel why.rule why.ino why.page why.slot)
-from lease (step.NotClosed ino) = NotJudged (NotClosedParcel ino)
-from lease step.Settled = Settled
-from lease step.ModeSet = ModeSet
-from lease (step.NotModeSet fault) = NotModeSet fault
-from lease step.NoMemory = Done
-
--- an answer that isn't want of memory, and that lends this if it lends something, is told so
-abbrev Lends : Lease → Told → Type 0
-Lends lease (Lent l) = l ≡ lease
-Lends lease _ = Unit {0}
-
-told_from : (lease : Lease) (told : Told) → Lends lease told → answer_of told ≢ step.NoMemory → told ≡ from lease (answer_of told)
-told_from lease (Lent l) is some = ap Lent is
-told_from lease (NotLent NotLive) is some = refl
-told_from lease (NotLent (Denied n)) is some = refl
-told_from lease (NotLent NoParent) is some = refl
-told_from lease (NotLent (Busy h)) is some = refl
-told_from lease (NotLent NoGrantMemory) is some = absurd (some refl)
-told_from lease (Given pages numbers) is some = refl
-told_from lease (NotGiven (NoFreePages wanted free)) is some = refl
-told_from lease (NotGiven (NoFreeInodes wanted free)) is some = refl
-told_from lease (NotGiven NoAllotMemory) is some = absurd (some refl)
-told_from lease Done is some = refl
-told_from lease (Judged AcceptedParcel) is some = refl
-told_from lease (Judged (RefusedParcel rule ino page slot)) is some = refl
-told_from lease (NotJudged (NotClosedParcel n)) is some = refl
-told_from lease (NotJudged NoReleaseMemory) is some = absurd (some refl)
-told_from lease ModeSet is some = refl
-told_from lease Settled is some = refl
-told_from lease NotSettled is some = absurd (some refl)
-told_from lease (NotModeSet unmoded.NotLive) is some = refl
-told_from lease (NotModeSet unmoded.NotOwner) is some = refl
-told_from lease (NotModeSet unmoded.BadMode) is some = refl
-told_from lease (NotModeSet (unmoded.Busy h)) is some = refl
-told_from lease (NotModeSet unmoded.NoMemory) is some = absurd (some refl)
-
--- a refusal has a cause
-refusal_why : (a : CtlAnswer) (rule : ℕ) → refused_rule a ≡ Some rule → (why : Why) × (a ≡ step.Refused why) × (why.rule ≡ rule)
-refusal_why (step.Refused why) rule e = (why, refl, cc e)
-refusal_why (step.Granted children) rule e = absurd (cc e)
-refusal_why (step.NotGranted fault) rule e = absurd (cc e)
-refusal_why (step.Given pages numbers) rule e = absurd (cc e)
-refusal_why (step.NoPages wanted free) rule e = absurd (cc e)
-refusal_why (step.NoInodes wanted free) rule e = absurd (cc e)
-refusal_why step.Done rule e = absurd (cc e)
-refusal_why step.Accepted rule e = absurd (cc e)
-refusal_why (step.NotClosed ino) rule e = absurd (cc e)
-refusal_why step.Settled rule e = absurd (cc e)
-refusal_why step.ModeSet rule e = absurd (cc e)
-refusal_why (step.NotModeSet fault) rule e = absurd (cc e)
-refusal_why step.NoMemory rule e = absurd (cc e)
-
-from_alike : (lease : Lease) (a b : CtlAnswer) → SameAnswer a b → Alike (from lease a) (from lease b)
-from_alike lease a b (inl e) = subst (λ x. Alike (from lease a) (from lease x)) e (Same (from lease a))
-from_alike lease a b (inr r) =
-    let x = refusal_why a r.0 r.1 in
-    let y = refusal_why b r.0 r.2 in
-    let rules : y.0.rule ≡ x.0.rule = y.2 ∙ sym x.2 in
-    let both : Alike (from lease (step.Refused x.0)) (from lease (step.Refused y.0)) =
-    subst (λ n. Alike (from lease (step.Refused x.0)) (Judged (RefusedParcel n y.0.ino y.0.page y.0.slot))) (sym rules)
-    (BothRefused x.0.rule x.0.ino x.0.page x.0.slot y.0.ino y.0.page y.0.slot) in
-    subst (λ c. Alike (from lease c) (from lease b)) (sym x.1) (subst (λ c. Alike (from lease (step.Refused x.0)) (from lease c)) (sym y.1) both)
-
--- two answers that lend the same and are the same to the controller are alike
-answers_alike : (lease : Lease) (a b : Told) → Lends lease a → Lends lease b → answer_of a ≢ step.NoMemory → answer_of b ≢ step.NoMemory → SameAnswer (answer_of a) (answer_of b) → Alike a b
-answers_alike lease a b la lb some_a some_b same =
-    subst (λ x. Alike x b) (sym (told_from lease a la some_a))
-    (subst (λ x. Alike (from lease (answer_of a)) x) (sym (told_from lease b lb some_b)) (from_alike lease (answer_of a) (answer_of b) same))
 
 -- ---- lines
 
@@ -234,10 +163,6 @@ told_some said (NotGiven NoAllotMemory) told is e = (let wrong : None ≡ Some t
 told_some said (NotJudged NoReleaseMemory) told is e = (let wrong : None ≡ Some told = sym (no_release_memory said) ∙ is in absurd (cc wrong))
 told_some said (NotModeSet unmoded.NoMemory) told is e = (let wrong : None ≡ Some told = sym (no_mode_memory said) ∙ is in absurd (cc wrong))
 
--- some lease
-no_lease : Lease
-no_lease = HoldLent (record { lib = record { 0 = 0 }; ino = 0; kind = Regular; entry = 0; parent = 0; body = []; children = 0 })
-
 abbrev is_grant : RawLine → Bool
 is_grant (GrantLine ino kind) = true
 is_grant _ = false
@@ -262,69 +187,11 @@ lent_none said Settled told f is = tt
 lent_none said NotSettled told f is = tt
 lent_none said (NotModeSet fault) told f is = tt
 
--- the lease that is told
-abbrev lease_in : Told → Lease
-lease_in (Lent l) = l
-lease_in _ = no_lease
-
-lends_own : (a : Told) → Lends (lease_in a) a
-lends_own (Lent l) = refl
-lends_own (NotLent fault) = tt
-lends_own (Given ps ns) = tt
-lends_own (NotGiven fault) = tt
-lends_own Done = tt
-lends_own (Judged answer) = tt
-lends_own (NotJudged fault) = tt
-lends_own ModeSet = tt
-lends_own Settled = tt
-lends_own NotSettled = tt
-lends_own (NotModeSet fault) = tt
-
 module _ (s t : State) (lib : LibNo) (same : known s ≡ known t) where
-  -- a grant lends the same from both
-  opened_same : (ino : ℕ) (kind : GrantKind) (r : Row) → opened s lib.0 ino kind r ≡ opened t lib.0 ino kind r
-  opened_same ino kind r =
-      sym ((known_decides s).openings lib.0 ino kind r) ∙ ap (λ k. opened (plain_state k) lib.0 ino kind r) same
-      ∙ (known_decides t).openings lib.0 ino kind r
-
-  row_same : (ino : ℕ) → row_at s.home ino ≡ row_at t.home ino
-  row_same ino = ap (λ (k : Known). row_at k.image ino) same
-
-  lease_same : (ino : ℕ) (kind : GrantKind) (a b : Lease) → LeaseIs s lib (Grant ino kind) (Lent a) → LeaseIs t lib (Grant ino kind) (Lent b) → a ≡ b
-  lease_same ino kind a b is js =
-      by (row_at s.home ino) is (subst (λ o. IsSomeAnd o (λ r. b ≡ lent_by (opened t lib.0 ino kind r))) (sym (row_same ino)) js)
-    where
-      by : (o : Option Row) → IsSomeAnd o (λ r. a ≡ lent_by (opened s lib.0 ino kind r)) → IsSomeAnd o (λ r. b ≡ lent_by (opened t lib.0 ino kind r)) → a ≡ b
-      by None is js = absurd is
-      by (Some r) is js = is ∙ ap lent_by (opened_same ino kind r) ∙ sym js
-
-  lends_same : (ino : ℕ) (kind : GrantKind) (a b : Told) → LeaseIs s lib (Grant ino kind) a → LeaseIs t lib (Grant ino kind) b → (l : Lease) × Lends l a × Lends l b
-  lends_same ino kind (Lent l) (Lent m) is js = (l, refl, sym (lease_same ino kind l m is js))
-  lends_same ino kind (Lent l) (NotLent fault) is js = (l, refl, tt)
-  lends_same ino kind (Lent l) (Given ps ns) is js = (l, refl, tt)
-  lends_same ino kind (Lent l) (NotGiven fault) is js = (l, refl, tt)
-  lends_same ino kind (Lent l) Done is js = (l, refl, tt)
-  lends_same ino kind (Lent l) (Judged answer) is js = (l, refl, tt)
-  lends_same ino kind (Lent l) (NotJudged fault) is js = (l, refl, tt)
-  lends_same ino kind (Lent l) ModeSet is js = (l, refl, tt)
-  lends_same ino kind (Lent l) Settled is js = (l, refl, tt)
-  lends_same ino kind (Lent l) NotSettled is js = (l, refl, tt)
-  lends_same ino kind (Lent l) (NotModeSet fault) is js = (l, refl, tt)
-  lends_same ino kind (NotLent fault) b is js = (lease_in b, tt, lends_own b)
-  lends_same ino kind (Given ps ns) b is js = (lease_in b, tt, lends_own b)
-  lends_same ino kind (NotGiven fault) b is js = (lease_in b, tt, lends_own b)
-  lends_same ino kind Done b is js = (lease_in b, tt, lends_own b)
-  lends_same ino kind (Judged answer) b is js = (lease_in b, tt, lends_own b)
-  lends_same ino kind (NotJudged fault) b is js = (lease_in b, tt, lends_own b)
-  lends_same ino kind ModeSet b is js = (lease_in b, tt, lends_own b)
-  lends_same ino kind Settled b is js = (lease_in b, tt, lends_own b)
-  lends_same ino kind NotSettled b is js = (lease_in b, tt, lends_own b)
-  lends_same ino kind (NotModeSet fault) b is js = (lease_in b, tt, lends_own b)
-
   alike_line : (has : Has) (said : RawLine) (ask : Ask) (a b : Told) (told told' : LineAnswer) → ask_of has said ≡ Some ask → told_of said a ≡ Some told → told_of said b ≡ Some told' → LeaseIs s lib ask a → LeaseIs t lib ask b → SameAnswer (answer_of a) (answer_of b) → Alike a b
   alike_line has (GrantLine ino kind) ask a b told told' e ta tb la lb one =
       let is : Grant ino kind ≡ ask = cc e in
-      let lends = lends_same ino kind a b (subst (λ x. LeaseIs s lib x a) (sym is) la) (subst (λ x. LeaseIs t lib x b) (sym is) lb) in
+      let lends = lends_same s t lib same ino kind a b (subst (λ x. LeaseIs s lib x a) (sym is) la) (subst (λ x. LeaseIs t lib x b) (sym is) lb) in
       answers_alike lends.0 a b lends.1 lends.2 (told_some (GrantLine ino kind) a told ta) (told_some (GrantLine ino kind) b told' tb) one
   alike_line has (AllotLine wanted many) ask a b told told' e ta tb la lb one =
       answers_alike no_lease a b (lent_none (AllotLine wanted many) a told refl ta) (lent_none (AllotLine wanted many) b told' refl tb) (told_some (AllotLine wanted many) a told ta) (told_some (AllotLine wanted many) b told' tb) one
@@ -366,17 +233,6 @@ one_line lib said s t has calls calls' moves moves' told told' s' t' has' has'' 
         record { told_same = cc tolds; has_same = a.has_is ∙ has_alike lib has said a.answer b.answer alike ∙ sym b.has_is; known_same = r.1 }
 
 -- ---- ends
-
--- the same calls, none of which is answered by want of memory
-calls_known : (lib : LibNo) (calls : List Call) (s t : State) (moves moves' : List Move) (s' t' : State) → ((c : Call) → In c calls → answer_of c.told ≢ step.NoMemory) → ArePlain calls → Stands s → Stands t → known s ≡ known t → AreMoves lib s calls moves s' → AreMoves lib t calls moves' t' → known s' ≡ known t'
-calls_known lib [] s t moves moves' s' t' some plain hs ht same am bm = ap known (no_move lib s moves s' am) ∙ same ∙ sym (ap known (no_move lib t moves' t' bm))
-calls_known lib (c ∷ calls) s t [] moves' s' t' some plain hs ht same am bm = absurd am
-calls_known lib (c ∷ calls) s t (m ∷ moves) [] s' t' some plain hs ht same am bm = absurd bm
-calls_known lib (c ∷ calls) s t (m ∷ moves) (n ∷ moves') s' t' some plain hs ht same am bm =
-    let r = same_event_same_answer s t (event_of lib c.ask) (answer_of c.told) (answer_of c.told) m.after n.after hs.kept ht.kept same
-    (plain_step s lib c.ask c.told m.after (plain c (inl refl)) am.1) (plain_step t lib c.ask c.told n.after (plain c (inl refl)) bm.1) (some c (inl refl)) (some c (inl refl)) in
-    calls_known lib calls m.after n.after moves moves' s' t' (λ x i. some x (inr i)) (λ x i. plain x (inr i))
-    (call_stands s lib c.ask c.told m.after hs am.1) (call_stands t lib c.ask c.told n.after ht bm.1) r.1 am.2 bm.2
 
 backs_done : (rs : List Shown) (c : Call) → In c (back_calls rs) → answer_of c.told ≢ step.NoMemory
 backs_done [] c i = absurd i
@@ -432,38 +288,117 @@ one_end lib s t has calls calls' moves moves' end end' s' t' hs ht same one two 
 
 -- ---- turns
 
--- two raw libraries have the same
+-- two libraries have the same: raw ones the same things, and the sessions of honest ones differ in indexes, look-ups and room alone
 abbrev ShareAlike : Share → Share → Type 0
 ShareAlike (Things a) (Things b) = a ≡ b
+ShareAlike (InSession x) (InSession y) = IsAlike x y
 ShareAlike a b = ⊥
+
+-- the things of a session are out
+abbrev ShareOut : State → LibNo → Share → Type 0
+ShareOut s lib (Things has) = Unit {0}
+ShareOut s lib (InSession x) = HasOut (out_of s lib) x
+
+share_out : (s : State) (lib : LibNo) (share : Share) → HoldsAll s lib share → ShareOut s lib share
+share_out s lib (Things has) h = tt
+share_out s lib (InSession x) h = may_has s lib x h
 
 record OneTurn (s' t' : State) (share' share'' : Share) (told' told'' : Heard) : Type 0 where
   told_same : told' ≡ told''
   shares_alike : ShareAlike share' share''
   known_same : known s' ≡ known t'
 
-one_turn : (lib : LibNo) (turn : Turn) (s t : State) (share share2 : Share) (told : Heard) (d' e' : Noted) (share' share'' : Share) (told' told'' : Heard) → Stands s → Stands t → known s ≡ known t → ShareAlike share share2 → TurnComes lib turn (unnoted s) share told d' share' told' → TurnComes lib turn (unnoted t) share2 told e' share'' told'' → AreMoves lib s d'.calls d'.moves d'.state → AreMoves lib t e'.calls e'.moves e'.state → OneTurn d'.state e'.state share' share'' told' told''
-one_turn lib (Says line) s t (Things has) (Things has2) told d' e' (Things has') (Things has'') told' told'' hs ht same alike a b am bm =
+may_end : (lib : LibNo) (end : Outcome) (told : LineAnswer) (d : Noted) (x : SessionSeen) → told_outcome end ≡ Some told → MayCall (sees lib d) x → MayEnd lib end d x
+may_end lib (Replied answer) told d x is may = may
+may_end lib (BusyCall holder) told d x is may = tt
+may_end lib NoMemory told d x is may = absurd (cc is)
+
+-- a call that changes no mode is one on a directory or on a file
+keeps_call : (lib : LibNo) (k : call.Call) (end : Outcome) (d d' : Noted) (x x' : SessionSeen) → KeepsModes k → SessionCalled (Notes lib) (sees lib) d x k end d' x'
+    → MatchBool (is_dir_call k) (DirCalled (Notes lib) (sees lib) d x k end d' x') (FileCalled (Notes lib) (sees lib) d x k end d' x')
+keeps_call lib (calls.Chmod path mode) end d d' x x' keeps c = absurd keeps
+keeps_call lib (calls.Mkdir path mode) end d d' x x' keeps c = c
+keeps_call lib (calls.Create path mode) end d d' x x' keeps c = c
+keeps_call lib (calls.Write path at bytes) end d d' x x' keeps c = c
+keeps_call lib (calls.Read path at len) end d d' x x' keeps c = c
+keeps_call lib (calls.Truncate path size) end d d' x x' keeps c = c
+keeps_call lib (calls.Unlink path) end d d' x x' keeps c = c
+keeps_call lib (calls.Rmdir path) end d d' x x' keeps c = c
+keeps_call lib (calls.Rename from to) end d d' x x' keeps c = c
+keeps_call lib (calls.List path from) end d d' x x' keeps c = c
+keeps_call lib (calls.Stat path) end d d' x x' keeps c = c
+
+record OneHonest (s' t' : State) (x' y' : SessionSeen) (told told' : LineAnswer) : Type 0 where
+  told_same : told ≡ told'
+  alike : IsAlike x' y'
+  known_same : known s' ≡ known t'
+
+-- two lines of an honest library come to the same
+one_honest : (lib : LibNo) (line : HonestLine) (s t : State) (x y : SessionSeen) (d' e' : Noted) (x' y' : SessionSeen) (told told' : LineAnswer) → LineKeeps line → StandsTrue s → StandsTrue t → known s ≡ known t → IsAlike x y → HasOut (out_of s lib) x → HasOut (out_of t lib) y → HonestComes (Notes lib) (sees lib) (unnoted s) x line told d' x' → HonestComes (Notes lib) (sees lib) (unnoted t) y line told' e' y' → OneHonest d'.state e'.state x' y' told told'
+one_honest lib (CallLine k) s t x y d' e' x' y' told told' still hs ht same like has has' a b =
+    let o = by (is_dir_call k) (keeps_call lib k a.end (unnoted s) d' x x' still a.made) (keeps_call lib k b.end (unnoted t) e' y y' still b.made) in
+    let tolds : Some told ≡ Some told' = sym a.told_is ∙ ap told_outcome o.end_same ∙ b.told_is in
+    record { told_same = cc tolds; alike = o.alike; known_same = o.known_same }
+  where
+    may : MayEnd lib a.end d' x'
+    may = may_end lib a.end told d' x' a.told_is a.may
+
+    may' : MayEnd lib b.end e' y'
+    may' = may_end lib b.end told' e' y' b.told_is b.may
+
+    Dir : Noted → SessionSeen → Outcome → Noted → SessionSeen → Type 0
+    Dir d z end d1 z1 = DirCalled (Notes lib) (sees lib) d z k end d1 z1
+
+    File : Noted → SessionSeen → Outcome → Noted → SessionSeen → Type 0
+    File d z end d1 z1 = FileCalled (Notes lib) (sees lib) d z k end d1 z1
+
+    by : (c : Bool) → MatchBool c (Dir (unnoted s) x a.end d' x') (File (unnoted s) x a.end d' x') → MatchBool c (Dir (unnoted t) y b.end e' y') (File (unnoted t) y b.end e' y') → OneCalled a.end b.end d' e' x' y'
+    by true p q = one_call lib (DirTried (Notes lib) (sees lib) k) (one_dir lib k) (unnoted s) (unnoted t) d' e' x y x' y' a.end b.end hs ht same like has has' may may' p q
+    by false p q = one_call lib (FileTried (Notes lib) (sees lib) k) (one_file lib k) (unnoted s) (unnoted t) d' e' x y x' y' a.end b.end hs ht same like has has' may may' p q
+one_honest lib SettleLine s t x y d' e' x' y' told told' still hs ht same like has has' a b =
+    let o = one_settle lib (unnoted s) (unnoted t) d' e' x y x' y' hs ht same like a.0 b.0 in
+    let counts : length x.calls ≡ length y.calls = sym (ap (λ (q : SessionSeen). length q.calls) like) in
+    record { told_same = a.1 ∙ ap (λ n. answered.Settled n) counts ∙ sym b.1; alike = o.alike; known_same = o.known_same }
+
+one_turn : (lib : LibNo) (turn : Turn) (s t : State) (share share2 : Share) (told : Heard) (d' e' : Noted) (share' share'' : Share) (told' told'' : Heard) → TurnKeeps turn → StandsTrue s → StandsTrue t → known s ≡ known t → ShareAlike share share2 → ShareOut s lib share → ShareOut t lib share2 → TurnComes lib turn (unnoted s) share told d' share' told' → TurnComes lib turn (unnoted t) share2 told e' share'' told'' → AreMoves lib s d'.calls d'.moves d'.state → AreMoves lib t e'.calls e'.moves e'.state → OneTurn d'.state e'.state share' share'' told' told''
+one_turn lib (Says line) s t (Things has) (Things has2) told d' e' (Things has') (Things has'') told' told'' still hs ht same alike out out' a b am bm =
     let b1 = subst (λ (h : Has). LineComes lib h line.line e'.calls b.0 has'') (sym alike) b.1 in
-    let r = one_line lib line.line s t has d'.calls e'.calls d'.moves e'.moves a.0 b.0 d'.state e'.state has' has'' hs.kept ht.kept same a.1 b1 am bm in
+    let r = one_line lib line.line s t has d'.calls e'.calls d'.moves e'.moves a.0 b.0 d'.state e'.state has' has'' hs.stands.kept ht.stands.kept same a.1 b1 am bm in
     record {
       told_same = a.2 ∙ ap (with_answer told) r.told_same ∙ sym b.2;
       shares_alike = r.has_same;
       known_same = r.known_same;
     }
-one_turn lib Ends s t (Things has) (Things has2) told d' e' (Things has') (Things has'') told' told'' hs ht same alike a b am bm =
+one_turn lib (SaysHonest line) s t (InSession x) (InSession y) told d' e' (InSession x') (InSession y') told' told'' still hs ht same alike out out' a b am bm =
+    let r = one_honest lib line.line s t x y d' e' x' y' a.0 b.0 still hs ht same alike out out' a.1 b.1 in
+    record {
+      told_same = a.2 ∙ ap (with_answer told) r.told_same ∙ sym b.2;
+      shares_alike = r.alike;
+      known_same = r.known_same;
+    }
+one_turn lib Ends s t (Things has) (Things has2) told d' e' (Things has') (Things has'') told' told'' still hs ht same alike out out' a b am bm =
     let b1 = subst (λ (h : Has). EndComes h e'.calls b.0) (sym alike) b.1 in
-    let r = one_end lib s t has d'.calls e'.calls d'.moves e'.moves a.0 b.0 d'.state e'.state hs ht same a.1 b1 am bm in
+    let r = one_end lib s t has d'.calls e'.calls d'.moves e'.moves a.0 b.0 d'.state e'.state hs.stands ht.stands same a.1 b1 am bm in
     record {
       told_same = a.3 ∙ ap (with_end told) r.end_same ∙ sym b.3;
       shares_alike = a.2 ∙ sym b.2;
       known_same = r.known_same;
     }
-one_turn lib (Says line) s t (Things has) (Things has2) told d' e' (Things has') (InSession y) told' told'' hs ht same alike a b am bm = absurd b
-one_turn lib Ends s t (Things has) (Things has2) told d' e' (Things has') (InSession y) told' told'' hs ht same alike a b am bm = absurd b
-one_turn lib turn s t (InSession x) share2 told d' e' share' share'' told' told'' hs ht same alike a b am bm = absurd alike
-one_turn lib turn s t (Things has) (InSession y) told d' e' share' share'' told' told'' hs ht same alike a b am bm = absurd alike
-one_turn lib turn s t share share2 told d' e' share' share'' told' told'' hs ht same alike a b am bm = absurd a
+one_turn lib Ends s t (InSession x) (InSession y) told d' e' (InSession x') (InSession y') told' told'' still hs ht same alike out out' a b am bm =
+    let r = one_settle lib (unnoted s) (unnoted t) d' e' x y x' y' hs ht same alike a.0 b.0 in
+    let counts : length x.calls ≡ length y.calls = sym (ap (λ (q : SessionSeen). length q.calls) alike) in
+    record {
+      told_same = a.1 ∙ ap (λ n. with_end told (EndSettled n)) counts ∙ sym b.1;
+      shares_alike = r.alike;
+      known_same = r.known_same;
+    }
+one_turn lib turn s t (Things has) (InSession y) told d' e' share' share'' told' told'' still hs ht same alike out out' a b am bm = absurd alike
+one_turn lib turn s t (InSession x) (Things has) told d' e' share' share'' told' told'' still hs ht same alike out out' a b am bm = absurd alike
+one_turn lib (Says line) s t (Things has) (Things has2) told d' e' (Things has') (InSession y) told' told'' still hs ht same alike out out' a b am bm = absurd b
+one_turn lib Ends s t (Things has) (Things has2) told d' e' (Things has') (InSession y) told' told'' still hs ht same alike out out' a b am bm = absurd b
+one_turn lib (SaysHonest line) s t (InSession x) (InSession y) told d' e' (InSession x') (Things has) told' told'' still hs ht same alike out out' a b am bm = absurd b
+one_turn lib Ends s t (InSession x) (InSession y) told d' e' (InSession x') (Things has) told' told'' still hs ht same alike out out' a b am bm = absurd b
+one_turn lib turn s t share share2 told d' e' share' share'' told' told'' still hs ht same alike out out' a b am bm = absurd a
 
 -- libraries that have the same, one by one
 abbrev AllAlike : List Share → List Share → Type 0
@@ -492,13 +427,28 @@ alike_each [] (y ∷ ys) e h = absurd (omega (arith, e))
 alike_each (x ∷ xs) [] e h = absurd (omega (arith, e))
 alike_each (x ∷ xs) (y ∷ ys) e h = (h 0 (omega arith), alike_each xs ys (omega (arith, e)) (λ i lt. h (suc i) (omega (arith, lt))))
 
--- of two players the same is known, and the libraries, all raw, have and were told the same
+-- of two players the same is known, and the libraries have and were told the same
 record AlikePlayers (p q : Players) : Type 0 where
   known_same : known p.state ≡ known q.state
   shares_alike : AllAlike p.shares q.shares
   told_same : p.told ≡ q.told
 
-one_play : (turns : List Placed) (p q : Players) (moves moves' : List Move) (p' q' : Players) → Stands p.state → Stands q.state → AlikePlayers p q → Plays p turns moves p' → Plays q turns moves' q' → AlikePlayers p' q'
+-- players who may go on: what leases show is true, and each of these turns is one of their libraries, and changes no mode
+record GoOn (p : Players) (turns : List Placed) : Type 0 where
+  true : StandsTrue p.state
+  held : IsHeld p
+  libraries : Libraries p.state turns
+  still : (t : Placed) → In t turns → TurnKeeps t.turn
+
+goes_on : (p : Players) (u : Placed) (turns : List Placed) (moves : List Move) (p' : Players) → GoOn p (u ∷ turns) → TakesTurn p u moves p' → GoOn p' turns
+goes_on p u turns moves p' h a = record {
+  true = moves_true u.lib p.state a.calls moves p'.state (turn_plain p u moves p' a) h.true a.happen;
+  held = held_after p u moves p' h.held (h.libraries u (inl refl)) a;
+  libraries = libraries_later p u turns moves p' h.libraries a;
+  still = λ t i. h.still t (inr i);
+}
+
+one_play : (turns : List Placed) (p q : Players) (moves moves' : List Move) (p' q' : Players) → GoOn p turns → GoOn q turns → AlikePlayers p q → Plays p turns moves p' → Plays q turns moves' q' → AlikePlayers p' q'
 one_play [] p q moves moves' p' q' hp hq like one two =
     subst (λ x. AlikePlayers x q') (sym one.1) (subst (AlikePlayers p) (sym two.1) like)
 one_play (u ∷ turns) p q moves moves' p' q' hp hq like one two =
@@ -509,23 +459,37 @@ one_play (u ∷ turns) p q moves moves' p' q' hp hq like one two =
     let comes : TurnComes u.lib u.turn (unnoted q.state) (share_of q u.lib) (told_to p u.lib) (noted_of two.middle b.calls two.first) b.share' b.told' =
     subst (λ x. TurnComes u.lib u.turn (unnoted q.state) (share_of q u.lib) x (noted_of two.middle b.calls two.first) b.share' b.told') told b.comes in
     let r = one_turn u.lib u.turn p.state q.state (share_of p u.lib) (share_of q u.lib) (told_to p u.lib) (noted_of one.middle a.calls one.first) (noted_of two.middle b.calls two.first)
-    a.share' b.share' a.told' b.told' hp hq like.known_same (alike_at p.shares q.shares i like.shares_alike) a.comes comes a.happen b.happen in
+    a.share' b.share' a.told' b.told' (hp.still u (inl refl)) hp.true hq.true like.known_same (alike_at p.shares q.shares i like.shares_alike)
+    (share_out p.state u.lib (share_of p u.lib) (hp.held.all u.lib (hp.libraries u (inl refl)))) (share_out q.state u.lib (share_of q u.lib) (hq.held.all u.lib (hq.libraries u (inl refl))))
+    a.comes comes a.happen b.happen in
     let middle : AlikePlayers one.middle two.middle = record {
       known_same = r.known_same;
       shares_alike = subst (λ x. AllAlike x two.middle.shares) (sym a.shares_are) (subst (AllAlike (set p.shares i a.share')) (sym b.shares_are) (alike_set p.shares q.shares i a.share' b.share' like.shares_alike r.shares_alike));
       told_same = a.told_is ∙ ap (λ (l : List Heard). set l i a.told') like.told_same ∙ ap (λ (x : Heard). set q.told i x) r.told_same ∙ sym b.told_is;
     } in
-    one_play turns one.middle two.middle one.others two.others p' q'
-    (moves_stand u.lib p.state a.calls one.first one.middle.state hp a.happen)
-    (moves_stand u.lib q.state b.calls two.first two.middle.state hq b.happen)
-    middle one.rest two.rest
+    one_play turns one.middle two.middle one.others two.others p' q' (goes_on p u turns one.first one.middle hp a) (goes_on q u turns two.first two.middle hq b) middle one.rest two.rest
 
-begun_alike : (lib : LibNo) (creds : Creds) (lines : Lines) (a b : Share) → IsRaw lines → BeginsWith lib creds lines a → BeginsWith lib creds lines b → ShareAlike a b
-begun_alike lib creds (RawLines lines) a b raw x y = subst (λ (s : Share). ShareAlike s b) (sym x) (subst (ShareAlike (Things nothing)) (sym y) refl)
-begun_alike lib creds (HonestLines lines) a b raw x y = absurd raw
+begun_alike : (lib : LibNo) (creds : Creds) (lines : Lines) (a b : Share) → BeginsWith lib creds lines a → BeginsWith lib creds lines b → ShareAlike a b
+begun_alike lib creds (RawLines lines) a b x y = subst (λ (s : Share). ShareAlike s b) (sym x) (subst (ShareAlike (Things nothing)) (sym y) refl)
+begun_alike lib creds (HonestLines lines) a b x y =
+    subst (λ (s : Share). ShareAlike s b) (sym x.1) (subst (ShareAlike (InSession (new_session lib creds x.0))) (sym y.1) refl)
+
+-- at first nothing is lent
+begun_on : (image : Image) (libs : List ScriptLib) (p : Players) → AtStart image libs p → ((t : Placed) → In t (turns_of libs) → TurnKeeps t.turn) → IsFit image.core → Verifies image → IsWhole image → GoOn p (turns_of libs)
+begun_on image libs p begins still fit verifies whole =
+    let h : IsHeld p = start_held image libs p begins fit verifies whole in
+    record {
+      true = record {
+        stands = held_stands p h;
+        lent = subst LentIsTrue (sym begins.state) (record { files = λ g f i. absurd i; holds = λ g f i. absurd i });
+      };
+      held = h;
+      libraries = subst (λ (s : State). Libraries s (turns_of libs)) (sym begins.state) (script_libraries image libs);
+      still = still;
+    }
 
 pub played_is_one : PlayedIsOne
-played_is_one image libs a b raw fit verifies whole =
+played_is_one image libs a b still fit verifies whole =
     let p : Players = a.first in
     let q : Players = b.first in
     let same : p.state ≡ q.state = a.begins.state ∙ sym b.begins.state in
@@ -538,8 +502,7 @@ played_is_one image libs a b raw fit verifies whole =
     let at : i + 1 - 1 ≡ i = omega arith in
     let is : IsLibraryOf libs lib w.0 = (omega arith, ap (slice_get libs) at ∙ w.1) in
     subst (λ k. ShareAlike (get_or p.shares k (Things nothing)) (get_or q.shares k (Things nothing))) at
-    (begun_alike lib w.0.creds w.0.lines (share_of p lib) (share_of q lib) (raw lib w.0 is) (a.begins.begins lib w.0 is) (b.begins.begins lib w.0 is)))) in
-    let r = one_play (turns_of libs) p q a.moves b.moves a.last b.last
-    (held_stands p (start_held image libs p a.begins fit verifies whole)) (held_stands q (start_held image libs q b.begins fit verifies whole))
+    (begun_alike lib w.0.creds w.0.lines (share_of p lib) (share_of q lib) (a.begins.begins lib w.0 is) (b.begins.begins lib w.0 is)))) in
+    let r = one_play (turns_of libs) p q a.moves b.moves a.last b.last (begun_on image libs p a.begins still fit verifies whole) (begun_on image libs q b.begins still fit verifies whole)
     (record { known_same = ap known same; shares_alike = shares; told_same = a.begins.told ∙ sym b.begins.told }) a.plays b.plays in
     record { tolds = r.told_same; settles = ap (λ (k : Known). k.image) r.known_same }

@@ -43,7 +43,6 @@ use Rattle.trio_script.specs.declared.honest.HonestLine.{HonestLine}
 use Rattle.trio_session.specs.Seen.{SessionSeen}
 use Rattle.trio_nodes.specs.declared.call.Done as done
 use Rattle.trio_rights.specs.declared.rights.Creds.{Creds}
-use Rattle.trio_script.specs.declared.ScriptLib.{ScriptLib}
 use Rattle.trio_script.specs.declared.line.RawLine.{RawLine}
 use Rattle.trio_script.specs.declared.line.RawLine.TheVariants.{Grant as GrantLine, Allot as AllotLine, Back as BackLine, Poke, Peek, Release as ReleaseLine, Mode as ModeLine}
 use Rattle.trio_report.specs.declared.answer.LineAnswer.{LineAnswer}
@@ -51,9 +50,9 @@ use Rattle.trio_report.specs.declared.answer.LineAnswer.TheVariants as answered
 use Rattle.trio_report.specs.declared.report.EndAnswer.{EndAnswer}
 use Rattle.trio_runner.specs.Line.{Alone, Asks, LineComes, EndsAlone, EndsAll, EndComes, ask_of, end_of, told_alone, told_grant, told_of, told_seen}
 use Rattle.trio_runner.specs.Rounds.{Placed, Turn, Says, SaysHonest, Ends, course, line_turns, placed, turns_of}
-use Rattle.trio_runner.specs.Honest.{HonestComes, Noted, Notes, sees, unnoted}
+use Rattle.trio_runner.specs.Honest.{Noted, unnoted}
 use Rattle.trio_runner.specs.Moves.{AreMoves, entries_of}
-use Rattle.trio_runner.specs.Play.{AtStart, BeginsWith, Heard, IsLibraryOf, Players, Plays, Share, TakesTurn, Things, InSession, TurnComes, share_of, told_to, untold, with_answer, with_end}
+use Rattle.trio_runner.specs.Play.{AtStart, BeginsWith, Heard, Players, Plays, Share, TakesTurn, Things, InSession, TurnComes, share_of, told_to, untold}
 use Rattle.trio_runner.specs.Logged.{HonestPrints, IsBack, LineMakes, LinesMake, Prints, RawPrints, end_printed, end_with_entry, entries_by, has_entry, printed, replies_in, reply_told}
 use Rattle.trio_runner.specs.PlayLaws.{PlayedIsPrinted}
 use Rattle.trio_runner.proofs.Batches.{AreBy, HonestMade, SettleMade, honest_made, settle_made}

@@ -1,18 +1,20 @@
--- What the calls of a session on a file are, and what they keep.
-use Rattle.std.proofs.Common.{◌≡◌, ℕ, List, [], ◌∷◌, ◌++◌, map, Option, Some, None, sym, refl, ap, ◌∙◌, subst, inl, inr}
+-- What the calls of a session are, and what they keep.
+use Rattle.std.proofs.Common.{◌≡◌, ℕ, Bool, true, false, List, [], ◌∷◌, ◌++◌, map, Option, Some, None, sym, refl, ap, ◌∙◌, subst, inl, inr}
+use Rattle.std.specs.Prelude.{MatchBool}
 use Rattle.trio_lists.specs.Lists.{In}
 use Rattle.trio_lists.proofs.Members.{In-cases, map-In}
 use Rattle.trio_rights.specs.declared.rights.LibNo.{LibNo}
-use Rattle.trio_nodes.specs.declared.answers.ModeFault.{ModeFault}
-use Rattle.trio_nodes.specs.declared.call.Call as call
-use Rattle.trio_nodes.specs.declared.call.Reply.{Reply}
-use Rattle.trio_nodes.specs.declared.call.Reply.TheVariants as reply
 use Rattle.trio_nodes.specs.declared.call.Done as done
+use Rattle.trio_nodes.specs.declared.answers.ModeFault.{ModeFault}
+use Rattle.trio_nodes.specs.declared.answers.ModeFault.TheVariants.{Busy as BusyMode, NoMemory as NoModeMemory}
+use Rattle.trio_nodes.specs.declared.call.Call as call
+use Rattle.trio_nodes.specs.declared.call.Reply.TheVariants as reply
+use Rattle.trio_nodes.specs.Nodes.{Nodes}
 use Rattle.trio_lease.specs.Shown.{Shown}
 use Rattle.trio_lease.specs.declared.lease.Lease.{Lease}
-use Rattle.trio_desk.specs.Out.{Parcel}
 use Rattle.trio_layout.specs.Image.{row_at}
-use Rattle.trio_desk.specs.Call.{Ask, DeskSeen, Told, Grant, Allot, GiveBack, Release, Settle, SetMode, Lent, NotLent, Given, NotGiven, Done, Judged, NotJudged, Settled, NotSettled, ModeSet, NotModeSet}
+use Rattle.trio_desk.specs.Out.{Parcel}
+use Rattle.trio_desk.specs.Call.{Ask, DeskSeen, Told, Grant, Allot, GiveBack, Release, Settle, SetMode, Lent, NotLent, Given, NotGiven, Settled, NotSettled, ModeSet, NotModeSet}
 use Rattle.trio_desk.specs.Calls.{Call, Calls}
 use Rattle.trio_state.specs.State.{State}
 use Rattle.trio_state.specs.Step.{CtlAnswer, moded_to, mode_fault}
@@ -21,25 +23,33 @@ use Rattle.trio_ctl.specs.Backs.{all_back}
 use Rattle.trio_ctl.specs.Desk.{Happens, handed_back}
 use Rattle.trio_ctl.proofs.DeskSteps.{IsPlain}
 use Rattle.trio_session.specs.Seen.{SessionSeen}
-use Rattle.trio_walk.specs.Asks.{IsGiven, Settles, TryEnds, Once, Unsettled, Again, GivesUp, LeftOut}
+use Rattle.trio_walk.specs.Asks.{Called, IsGiven, Settles, Tried, TryEnds, Once, Unsettled, Again, GivesUp, LeftOut}
 use Rattle.trio_calls_file.specs.Asks.{FileCalled, FileTried}
+use Rattle.trio_calls_dir.specs.Asks.{DirCalled, DirTried}
+use Rattle.trio_calls_dir.specs.Chmods.{BreaksOff, ChmodCalled, ChmodTried, Begun, Comes, EndsAs, EndsHandedIn, EndsModed, HandsIn, SetsMode, Unbegun, hand_in_ask, lent_to, mode_ask}
+use Rattle.trio_nodes.specs.Walk.{Path}
+use Rattle.trio_rights.specs.declared.rights.Mode.{Mode}
+use Rattle.trio_nodes.specs.declared.call.Call.TheVariants.{Chmod}
 use Rattle.trio_walk.specs.declared.outcome.Outcome.{Outcome}
 use Rattle.trio_walk.specs.declared.outcome.Outcome.TheVariants.{Replied, Busy, NoMemory}
 use Rattle.trio_script.specs.declared.honest.HonestLine.{HonestLine}
 use Rattle.trio_script.specs.declared.honest.HonestLine.TheVariants.{Call as CallLine, Settle as SettleLine}
 use Rattle.trio_report.specs.declared.answer.LineAnswer.{LineAnswer}
-use Rattle.trio_runner.specs.Honest.{CallComes, HonestComes, Noted, Notes, sees, told_outcome}
+use Rattle.trio_runner.specs.Built.{is_dir_call}
+use Rattle.trio_runner.specs.Honest.{HonestComes, Noted, Notes, SessionCalled, told_outcome}
 use Rattle.trio_runner.specs.Moves.{apart, back_call}
 
 -- ---- what is asked
 
--- such a call a session on files makes, where no memory was wanting: a grant, an allotment or a settle
+-- such a call a session makes, where no memory was wanting: a grant, an allotment, a settle or a change of mode
 abbrev pub IsAsked : Ask → Told → Type 0
 IsAsked ask (Lent lease) = Unit {0}
 IsAsked ask (Given pages numbers) = Unit {0}
 IsAsked (Grant ino kind) (NotLent fault) = Unit {0}
 IsAsked (Allot pages numbers) (NotGiven fault) = Unit {0}
 IsAsked (Settle parcel back calls) Settled = Unit {0}
+IsAsked (SetMode ino mode back call) ModeSet = Unit {0}
+IsAsked (SetMode ino mode back call) (NotModeSet (BusyMode holder)) = Unit {0}
 IsAsked ask told = ⊥
 
 pub given_asked : (c : Call) → IsGiven c → IsAsked c.ask c.told
@@ -73,30 +83,82 @@ module _ {D : Type 0} (called : D → Ask → Told → D → Type 0) (seen : D �
   calls_keep (c ∷ cs) d d' asked made p =
       calls_keep cs made.0 d' (λ x i. asked x (inr i)) made.2 (keeps d c.ask c.told made.0 (asked c (inl refl)) made.1 p)
 
-  pub tried_keeps : (d d' : D) (s s' : SessionSeen) (k : call.Call) (end : Outcome) (told : LineAnswer) → told_outcome end ≡ Some told → FileTried called seen k d s end d' s' → P d → P d'
-  tried_keeps d d' s s' k end told is t p =
-      calls_keep (t.1.given ++ t.1.last) d d'
-      (λ c i. elim (In-cases c t.1.given t.1.last i) [ inl j ↦ given_asked c (t.1.each c j) | inr j ↦ last_asked end told t.1.last is t.1.ends c j ]) t.1.made p
+  tried_keeps : (Leaves : SessionSeen → SessionSeen → Type 0) (Is : SessionSeen → List Ask → Nodes → Type 0) (d d' : D) (s s' : SessionSeen) (end : Outcome) (told : LineAnswer) → told_outcome end ≡ Some told → Tried called seen d s Leaves Is end d' s' → P d → P d'
+  tried_keeps Leaves Is d d' s s' end told is t p =
+      calls_keep (t.given ++ t.last) d d'
+      (λ c i. elim (In-cases c t.given t.last i) [ inl j ↦ given_asked c (t.each c j) | inr j ↦ last_asked end told t.last is t.ends c j ]) t.made p
 
   pub settle_keeps : (d d' : D) (s s' : SessionSeen) → Settles called d s d' s' → P d → P d'
   settle_keeps d d' s s' t p = keeps d (Settle s.parcel s.reads s.calls) Settled d' tt t.made p
 
-  pub file_keeps : (d d' : D) (s s' : SessionSeen) (k : call.Call) (end : Outcome) (told : LineAnswer) → told_outcome end ≡ Some told → FileCalled called seen d s k end d' s' → P d → P d'
-  file_keeps d d' s s' k end told is (Once real t) p = tried_keeps d d' s s' k end told is t p
-  file_keeps d d' s s' k end told is (Unsettled holder d1 s1 none t u) p = (let wrong : None ≡ Some told = ap told_outcome (sym none) ∙ is in absurd (cc wrong))
-  file_keeps d d' s s' k end told is (Again holder d1 d2 s1 s2 real t u v) p =
-      tried_keeps d2 d' s2 s' k end told is v (settle_keeps d1 d2 s1 s2 u (tried_keeps d d1 s s1 k (Busy holder) _ refl t p))
-  file_keeps d d' s s' k end told is (GivesUp first last d1 d2 d3 s1 s2 s3 busy other t u v w) p =
-      settle_keeps d3 d' s3 s' w (tried_keeps d2 d3 s2 s3 k (Busy last) _ refl v (settle_keeps d1 d2 s1 s2 u (tried_keeps d d1 s s1 k (Busy first) _ refl t p)))
-  file_keeps d d' s s' k end told is (LeftOut first last d1 d2 d3 s1 s2 s3 none t u v w) p = (let wrong : None ≡ Some told = ap told_outcome (sym none) ∙ is in absurd (cc wrong))
+  -- a call whose tries keep it
+  called_keeps : (Try : D → SessionSeen → Outcome → D → SessionSeen → Type 0)
+      (each : (d d' : D) (s s' : SessionSeen) (end : Outcome) (told : LineAnswer) → told_outcome end ≡ Some told → Try d s end d' s' → P d → P d')
+      (d d' : D) (s s' : SessionSeen) (end : Outcome) (told : LineAnswer) → told_outcome end ≡ Some told → Called called Try d s end d' s' → P d → P d'
+  called_keeps Try each d d' s s' end told is (Once real t) p = each d d' s s' end told is t p
+  called_keeps Try each d d' s s' end told is (Unsettled holder d1 s1 none t u) p = (let wrong : None ≡ Some told = ap told_outcome (sym none) ∙ is in absurd (cc wrong))
+  called_keeps Try each d d' s s' end told is (Again holder d1 d2 s1 s2 real t u v) p =
+      each d2 d' s2 s' end told is v (settle_keeps d1 d2 s1 s2 u (each d d1 s s1 (Busy holder) _ refl t p))
+  called_keeps Try each d d' s s' end told is (GivesUp first last d1 d2 d3 s1 s2 s3 busy other t u v w) p =
+      settle_keeps d3 d' s3 s' w (each d2 d3 s2 s3 (Busy last) _ refl v (settle_keeps d1 d2 s1 s2 u (each d d1 s s1 (Busy first) _ refl t p)))
+  called_keeps Try each d d' s s' end told is (LeftOut first last d1 d2 d3 s1 s2 s3 none t u v w) p = (let wrong : None ≡ Some told = ap told_outcome (sym none) ∙ is in absurd (cc wrong))
+
+  -- the grant that wasn't given, if any, and the last call of a change of mode
+  ungiven_asked : (all : SessionSeen) (path : Path) (mode : Mode) (comes : Comes) (ungiven last : List Call) (end : Outcome) (told : LineAnswer) → told_outcome end ≡ Some told → EndsAs all path mode comes ungiven last end → (c : Call) → In c ungiven → IsAsked c.ask c.told
+  ungiven_asked all path mode BreaksOff ungiven last (Replied answer) told is e = absurd e.1
+  ungiven_asked all path mode BreaksOff ungiven last (Busy holder) told is e = last_asked (Busy holder) told ungiven is e.1
+  ungiven_asked all path mode BreaksOff ungiven last NoMemory told is e = absurd (cc is)
+  ungiven_asked all path mode (HandsIn answer) ungiven last end told is e =
+      elim e.0 [ inl none ↦ none_asked ungiven none | inr denied ↦ one_asked ungiven denied.1 denied.2 (asked_is denied.1 _ denied.3.1 tt) ]
+  ungiven_asked all path mode (SetsMode ino) ungiven last end told is e = none_asked ungiven e.0
+
+  chmod_asked : (all : SessionSeen) (path : Path) (mode : Mode) (comes : Comes) (ungiven last : List Call) (end : Outcome) (told : LineAnswer) → told_outcome end ≡ Some told → EndsAs all path mode comes ungiven last end → (c : Call) → In c last → IsAsked c.ask c.told
+  chmod_asked all path mode BreaksOff ungiven last end told is e = none_asked last e.0
+  chmod_asked all path mode (HandsIn answer) ungiven last end told is e = one_asked last _ e.2 (by e.1 e.3)
+    where
+      by : (t : Told) → EndsHandedIn answer t end → IsAsked (hand_in_ask all (Chmod path mode) answer) t
+      by Settled is_end = tt
+      by NotSettled is_end = (let wrong : None ≡ Some told = ap told_outcome (sym is_end) ∙ is in absurd (cc wrong))
+      by t is_end = absurd is_end
+  chmod_asked all path mode (SetsMode ino) ungiven last end told is e = one_asked last _ e.2 (by e.1 e.3)
+    where
+      by : (t : Told) → EndsModed t end → IsAsked (mode_ask all ino mode (Chmod path mode)) t
+      by ModeSet is_end = tt
+      by (NotModeSet (BusyMode holder)) is_end = tt
+      by (NotModeSet NoModeMemory) is_end = (let wrong : None ≡ Some told = ap told_outcome (sym is_end) ∙ is in absurd (cc wrong))
+      by t is_end = absurd is_end
+
+  chmod_tried_keeps : (path : Path) (mode : Mode) (d d' : D) (s s' : SessionSeen) (end : Outcome) (told : LineAnswer) → told_outcome end ≡ Some told → ChmodTried called seen path mode d s end d' s' → P d → P d'
+  chmod_tried_keeps path mode d d' s s' end told is t p =
+      calls_keep ((t.given ++ t.ungiven) ++ t.last) d d'
+      (λ c i. elim (In-cases c (t.given ++ t.ungiven) t.last i) [
+        | inl j ↦ elim (In-cases c t.given t.ungiven j) [
+          | inl k ↦ given_asked c (t.each c k)
+          | inr k ↦ ungiven_asked (lent_to s t.given) path mode t.comes t.ungiven t.last end told is t.ends c k
+        ]
+        | inr j ↦ chmod_asked (lent_to s t.given) path mode t.comes t.ungiven t.last end told is t.ends c j
+      ]) t.made p
+
+  chmod_keeps : (path : Path) (mode : Mode) (d d' : D) (s s' : SessionSeen) (end : Outcome) (told : LineAnswer) → told_outcome end ≡ Some told → ChmodCalled called seen d s path mode end d' s' → P d → P d'
+  chmod_keeps path mode d d' s s' end told is (Unbegun none u) p = (let wrong : None ≡ Some told = ap told_outcome (sym none) ∙ is in absurd (cc wrong))
+  chmod_keeps path mode d d' s s' end told is (Begun d1 s1 t c) p =
+      called_keeps (ChmodTried called seen path mode) (chmod_tried_keeps path mode) d1 d' s1 s' end told is c (settle_keeps d d1 s s1 t p)
+
+  leased_keeps : (d d' : D) (s s' : SessionSeen) (k : call.Call) (end : Outcome) (told : LineAnswer) → told_outcome end ≡ Some told → (b : Bool) → MatchBool b (DirCalled called seen d s k end d' s') (FileCalled called seen d s k end d' s') → P d → P d'
+  leased_keeps d d' s s' k end told is true c p = called_keeps (DirTried called seen k) (λ d d' s s' end told is t p. tried_keeps _ _ d d' s s' end told is t.1 p) d d' s s' end told is c p
+  leased_keeps d d' s s' k end told is false c p = called_keeps (FileTried called seen k) (λ d d' s s' end told is t p. tried_keeps _ _ d d' s s' end told is t.1 p) d d' s s' end told is c p
+
+  call_keeps : (d d' : D) (s s' : SessionSeen) (k : call.Call) (end : Outcome) (told : LineAnswer) → told_outcome end ≡ Some told → SessionCalled called seen d s k end d' s' → P d → P d'
+  call_keeps d d' s s' (Chmod path mode) end told is c p = chmod_keeps path mode d d' s s' end told is c p
+  call_keeps d d' s s' k end told is c p = leased_keeps d d' s s' k end told is (is_dir_call k) c p
 
   pub line_keeps : (d d' : D) (s s' : SessionSeen) (line : HonestLine) (told : LineAnswer) → HonestComes called seen d s line told d' s' → P d → P d'
-  line_keeps d d' s s' (CallLine k) told c p = file_keeps d d' s s' k c.end told c.told_is c.made p
+  line_keeps d d' s s' (CallLine k) told c p = call_keeps d d' s s' k c.end told c.told_is c.made p
   line_keeps d d' s s' SettleLine told c p = settle_keeps d d' s s' c.0 p
 
 -- ---- no lease is given back with them
 
-no_mode : (s : State) (ino mode : ℕ) (f : Option ModeFault) (answer : CtlAnswer) → (step.ModeSet ≡ answer → ⊥) → ((fault : ModeFault) → step.NotModeSet fault ≡ answer → ⊥) → answer ≡ (moded_to s ino mode f).answer → ⊥
+pub no_mode : (s : State) (ino mode : ℕ) (f : Option ModeFault) (answer : CtlAnswer) → (step.ModeSet ≡ answer → ⊥) → ((fault : ModeFault) → step.NotModeSet fault ≡ answer → ⊥) → answer ≡ (moded_to s ino mode f).answer → ⊥
 no_mode s ino mode None answer set not e = set (sym e)
 no_mode s ino mode (Some fault) answer set not e = not fault (sym e)
 
@@ -127,15 +189,21 @@ ArePlain calls = (c : Call) → In c calls → IsPlain c.ask
 one_plain : (ask : Ask) (told : Told) → IsPlain ask → ArePlain (record { ask = ask; told = told } ∷ [])
 one_plain ask told p c i = elim i [ inl same ↦ ap (λ (x : Call). handed_back x.ask) same ∙ p | inr none ↦ absurd none ]
 
-pub settle_plain : (parcel : Parcel) (back : List Shown) (calls : List done.Done) → ArePlain (apart (Settle parcel back calls) Settled)
-settle_plain parcel back calls c i =
-    elim (In-cases c (map back_call back) (record { ask = Settle parcel [] calls; told = Settled } ∷ []) i) [
+-- so are leases that are given back before such a call
+backs_plain : (back : List Shown) (ask : Ask) (told : Told) → IsPlain ask → ArePlain (map back_call back ++ record { ask = ask; told = told } ∷ [])
+backs_plain back ask told p c i =
+    elim (In-cases c (map back_call back) (record { ask = ask; told = told } ∷ []) i) [
       | inl j ↦ (let m = map-In back_call c back j in ap (λ (x : Call). handed_back x.ask) m.2)
-      | inr j ↦ one_plain (Settle parcel [] calls) Settled refl c j
+      | inr j ↦ one_plain ask told p c j
     ]
+
+pub settle_plain : (parcel : Parcel) (back : List Shown) (calls : List done.Done) → ArePlain (apart (Settle parcel back calls) Settled)
+settle_plain parcel back calls = backs_plain back (Settle parcel [] calls) Settled refl
 
 asked_plain : (s : State) (lib : LibNo) (ask : Ask) (told : Told) (s' : State) → IsAsked ask told → Happens s lib ask told s' → ArePlain (apart ask told)
 asked_plain s lib (Settle parcel back calls) Settled s' is h = settle_plain parcel back calls
+asked_plain s lib (SetMode ino mode back k) ModeSet s' is h = backs_plain back (SetMode ino mode [] k) ModeSet refl
+asked_plain s lib (SetMode ino mode back k) (NotModeSet (BusyMode holder)) s' is h = λ c i. absurd i
 asked_plain s lib (Settle parcel back calls) (Lent lease) s' is h = one_plain (Settle parcel back calls) (Lent lease) (lent_plain s lib (Settle parcel back calls) lease s' h)
 asked_plain s lib (Settle parcel back calls) (Given pages numbers) s' is h = one_plain (Settle parcel back calls) (Given pages numbers) (given_plain s lib (Settle parcel back calls) pages numbers s' h)
 asked_plain s lib (SetMode ino mode back k) (Lent lease) s' is h = one_plain (SetMode ino mode back k) (Lent lease) (lent_plain s lib (SetMode ino mode back k) lease s' h)

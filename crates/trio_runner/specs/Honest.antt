@@ -1,7 +1,8 @@
--- What a line of an honest library comes to: a call of a file by the library's session, or a settle.
-use Rattle.std.specs.Prelude.{◌≡◌, List, [], ◌++◌, length, Option, None, Some}
+-- What a line of an honest library comes to: a call on a file, on a directory or on a mode by the library's session, or a settle.
+use Rattle.std.specs.Prelude.{◌≡◌, List, [], ◌++◌, length, MatchBool, Option, None, Some}
 use Rattle.trio_rights.specs.declared.rights.LibNo.{LibNo}
 use Rattle.trio_nodes.specs.declared.call.Call as call
+use Rattle.trio_nodes.specs.declared.call.Call.TheVariants.{Chmod}
 use Rattle.trio_desk.specs.Call.{Ask, Told, DeskSeen}
 use Rattle.trio_desk.specs.Calls.{Call}
 use Rattle.trio_state.specs.State.{State}
@@ -13,10 +14,13 @@ use Rattle.trio_walk.specs.Asks.{Settles}
 use Rattle.trio_walk.specs.declared.outcome.Outcome.{Outcome}
 use Rattle.trio_walk.specs.declared.outcome.Outcome.TheVariants.{Replied, Busy, NoMemory}
 use Rattle.trio_calls_file.specs.Asks.{FileCalled}
+use Rattle.trio_calls_dir.specs.Asks.{DirCalled}
+use Rattle.trio_calls_dir.specs.Chmods.{ChmodCalled}
 use Rattle.trio_script.specs.declared.honest.HonestLine.{HonestLine}
 use Rattle.trio_script.specs.declared.honest.HonestLine.TheVariants.{Call as CallLine, Settle as SettleLine}
 use Rattle.trio_report.specs.declared.answer.LineAnswer.{LineAnswer}
 use Rattle.trio_report.specs.declared.answer.LineAnswer.TheVariants as answered
+use Rattle.trio_runner.specs.Built.{is_dir_call}
 use Rattle.trio_runner.specs.Moves.{AreMoves, apart}
 
 -- ---- the controller in a turn
@@ -51,10 +55,15 @@ told_outcome (Replied reply) = Some (answered.Replied reply)
 told_outcome (Busy holder) = Some answered.Busy
 told_outcome NoMemory = None
 
--- A call of a file at a desk: which calls of the desk it makes, how it is told, what the session is then, and that it may go on.
+-- a call of a session at a desk, on a mode, on a directory or on a file: which calls of the desk it makes, and how it ends
+abbrev pub SessionCalled : {D : Type 0} → (D → Ask → Told → D → Type 0) → (D → DeskSeen) → D → SessionSeen → call.Call → Outcome → D → SessionSeen → Type 0
+SessionCalled called seen d s (Chmod path mode) end d' s' = ChmodCalled called seen d s path mode end d' s'
+SessionCalled called seen d s k end d' s' = MatchBool (is_dir_call k) (DirCalled called seen d s k end d' s') (FileCalled called seen d s k end d' s')
+
+-- A call at a desk: which calls of the desk it makes, how it is told, what the session is then, and that it may go on.
 pub record CallComes {D : Type 0} (called : D → Ask → Told → D → Type 0) (seen : D → DeskSeen) (d : D) (s : SessionSeen) (k : call.Call) (told : LineAnswer) (d' : D) (s' : SessionSeen) : Type 0 where
   pub end : Outcome
-  pub made : FileCalled called seen d s k end d' s'
+  pub made : SessionCalled called seen d s k end d' s'
   pub told_is : told_outcome end ≡ Some told
   pub may : MayCall (seen d') s'
 

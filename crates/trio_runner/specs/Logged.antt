@@ -1,11 +1,15 @@
 -- The log of a script: which entries its moves make, and which of a library's entries its answers print.
-use Rattle.std.specs.Prelude.{◌≡◌, ◌==◌, ⊤, ℕ, Bool, true, false, List, [], ◌∷◌, ◌++◌, length, map, Option, Some, None, Ok, Err}
+use Rattle.std.specs.Prelude.{◌≡◌, ◌==◌, ⊤, ℕ, Bool, true, false, List, [], ◌∷◌, ◌++◌, length, map, Option, Some, None, Result, Ok, Err}
 use Rattle.std.specs.List.{filter, filter_map, flat_map, AllByRecursion}
 use Rattle.trio_rights.specs.declared.rights.LibNo.{LibNo}
 use Rattle.trio_nodes.specs.declared.entry.GrantAnswer.TheVariants.{Granted, Refused as NotGranted}
 use Rattle.trio_nodes.specs.declared.entry.AllotAnswer.TheVariants.{Given, Refused as NotGiven}
+use Rattle.trio_nodes.specs.declared.answers.ModeFault.{ModeFault}
+use Rattle.trio_nodes.specs.declared.answers.ModeFault.TheVariants.{NotOwner}
+use Rattle.trio_nodes.specs.declared.call.Answer.TheVariants.{Done as IsDone}
 use Rattle.trio_nodes.specs.declared.call.Done.{Done}
 use Rattle.trio_nodes.specs.declared.call.Reply.{Reply}
+use Rattle.trio_nodes.specs.declared.call.Reply.TheVariants.{Ok as IsReplied, Denied as IsDenied}
 use Rattle.trio_nodes.specs.declared.entry.Entry.{Entry}
 use Rattle.trio_nodes.specs.declared.entry.Handed.{Handed}
 use Rattle.trio_nodes.specs.declared.entry.Entry.TheVariants.{Grant, Allot, Back, Raw, Batch, Mode}
@@ -103,9 +107,16 @@ pub record RawPrints (lines : List (ScriptLine RawLine)) (heard : Heard) (entrie
 
 -- ---- an honest library
 
--- the replies of the calls that an entry tells
+-- the reply of a call that changes a mode, by how that ended: it is denied to all but the file's owner and uid 0
+abbrev pub mode_replies : Result (Unit {0}) ModeFault → List Reply
+mode_replies (Ok done) = IsReplied IsDone ∷ []
+mode_replies (Err NotOwner) = IsDenied ∷ []
+mode_replies (Err fault) = []
+
+-- the replies of the calls that an entry tells: those of a batch, and that of a change of mode by a call
 abbrev pub replies_in : Entry → List Reply
 replies_in (Batch lib calls handed) = map (λ d. d.reply) calls
+replies_in (Mode lib ino mode answer (Some call)) = mode_replies answer
 replies_in _ = []
 
 -- the reply that an answer is: all are, but Busy and the count of a settle

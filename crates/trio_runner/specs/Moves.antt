@@ -5,7 +5,8 @@ use Rattle.trio_nodes.specs.declared.entry.Entry.{Entry}
 use Rattle.trio_lease.specs.Shown.{Shown}
 use Rattle.trio_state.specs.State.{State}
 use Rattle.trio_state.specs.Run.{Move}
-use Rattle.trio_desk.specs.Call.{Ask, Told, GiveBack, Settle, Done, Settled}
+use Rattle.trio_nodes.specs.declared.answers.ModeFault.TheVariants.{Busy}
+use Rattle.trio_desk.specs.Call.{Ask, Told, GiveBack, Settle, SetMode, Done, Settled, ModeSet, NotModeSet}
 use Rattle.trio_desk.specs.Calls.{Call}
 use Rattle.trio_ctl.specs.Desk.{Happens, event_of, answer_of, entries_told}
 
@@ -30,7 +31,10 @@ entries_of lib _ _ = []
 abbrev pub back_call : Shown → Call
 back_call lease = record { ask = GiveBack lease; told = Done }
 
--- A call as calls each of which is one move: the read leases that a settle hands back are given back before it, one after another.
+-- A call as calls each of which is one move: the read leases that a settle or a change of mode hands back are given back before it, one
+-- after another. A change of mode that finds its file busy is none: nothing changes, and the leases stay out.
 abbrev pub apart : Ask → Told → List Call
 apart (Settle parcel back calls) Settled = map back_call back ++ record { ask = Settle parcel [] calls; told = Settled } ∷ []
+apart (SetMode ino mode back call) ModeSet = map back_call back ++ record { ask = SetMode ino mode [] call; told = ModeSet } ∷ []
+apart (SetMode ino mode back call) (NotModeSet (Busy holder)) = []
 apart ask told = record { ask = ask; told = told } ∷ []

@@ -1,14 +1,18 @@
 //! The lines of honest libraries that are built.
 
-ghost use Rattle.std.specs.Prelude.{◌≡◌, length};
+ghost use Rattle.std.specs.Prelude.{◌≡◌, IsTrue, length};
 ghost use Rattle.std.specs.List.{find};
-ghost use Rattle.trio_runner.specs.Built.{is_built, is_file_call, unbuilt_in, unbuilt_line};
+ghost use Rattle.trio_calls_dir.specs.Asks.{IsDirCall};
+ghost use Rattle.trio_runner.specs.Built.{is_built, is_dir_call, is_file_call, is_mode_call, unbuilt_in, unbuilt_line};
 
 use trio_nodes::Call;
 use trio_script::{HonestLine, Lines, ScriptLib, ScriptLine};
 
 /// The most bytes that one call may read or write.
 const BYTES_LIMIT: usize = 4096;
+
+/// The highest mode of a file.
+const MODE_LIMIT: u16 = 0o777;
 
 /// The number of the first line of an honest library whose call isn't built; `None` exactly where all
 /// lines are.
@@ -47,8 +51,31 @@ fn is_built(line: &HonestLine) -> bool
     ensures { result ≡ is_built line.now }
 {
     match line {
-        HonestLine::Call(call) => is_file_call(call),
+        HonestLine::Call(call) => is_mode_call(call) || is_dir_call(call) || is_file_call(call),
         HonestLine::Settle => true,
+    }
+}
+
+/// Whether a call is a change of mode.
+fn is_mode_call(call: &Call) -> bool
+    ensures { result ≡ is_mode_call call.now }
+{
+    match call {
+        Call::Chmod { mode, .. } => mode.0 <= MODE_LIMIT,
+        _ => false,
+    }
+}
+
+/// Whether a call is one on a directory that is built.
+#[tactic(auto, using(crate::proofs::BuiltCalls::dir_call_is))]
+pub(crate) fn is_dir_call(call: &Call) -> bool
+    ensures is { result ≡ is_dir_call call.now }
+    ensures condition { IsTrue result → IsDirCall call.now }
+{
+    match call {
+        Call::Mkdir { mode, .. } | Call::Create { mode, .. } => mode.0 <= MODE_LIMIT,
+        Call::Unlink { .. } | Call::Rmdir { .. } | Call::Rename { .. } | Call::List { .. } => true,
+        _ => false,
     }
 }
 

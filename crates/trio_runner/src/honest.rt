@@ -3,13 +3,17 @@
 ghost use Rattle.std.specs.Prelude.{◌≡◌, true, IfOk, length};
 ghost use Rattle.trio_edit_laws.specs.Calls.{MayCall};
 ghost use Rattle.trio_walk.specs.Asks.{Settles};
-ghost use Rattle.trio_runner.specs.Honest.{HonestComes};
+ghost use Rattle.trio_calls_dir.specs.Chmods.{StandsOnTree};
+ghost use Rattle.trio_runner.specs.Honest.{HonestComes, SessionCalled};
 ghost use Rattle.trio_runner.specs.Built.{is_built};
 
+use crate::built::is_dir_call;
 use crate::copies::copied;
 use std::alloc::Global;
+use trio_calls_dir::{chmod, dir_call};
 use trio_calls_file::file_call;
 use trio_desk::Desk;
+use trio_nodes::Call;
 use trio_page::NoMemory;
 use trio_report::LineAnswer;
 use trio_script::HonestLine;
@@ -25,19 +29,40 @@ pub(crate) fn play_honest<D: Desk>(
 ) -> Result<LineAnswer, NoMemory>
     requires may { MayCall (D.seen desk.old) session.old }
     requires built { is_built line.now ≡ true }
+    requires tree { StandsOnTree D.called D.seen desk.old }
     ensures line { IfOk result (λ told. HonestComes D.called D.seen desk.old session.old line.now told desk.new session.new) }
     ensures may { MayCall (D.seen desk.new) session.new }
 {
     match line {
         HonestLine::Call(call) => {
             let call = copied(alloc, call)?;
-            match file_call(alloc, session, desk, call) {
+            match make_call(alloc, session, desk, call) {
                 Outcome::Replied(reply) => Ok(LineAnswer::Replied(reply)),
                 Outcome::Busy(_) => Ok(LineAnswer::Busy),
                 Outcome::NoMemory => Err(NoMemory),
             }
         }
         HonestLine::Settle => Ok(LineAnswer::Settled(play_settle(desk, session)?)),
+    }
+}
+
+/// Makes a call at the library's desk: a change of mode, or a call on a directory or on a file.
+fn make_call<D: Desk>(alloc: Global, session: &mut Session, desk: &mut D, call: Call) -> Outcome
+    requires may { MayCall (D.seen desk.old) session.old }
+    requires built { is_built (HonestLine.Call call) ≡ true }
+    requires tree { StandsOnTree D.called D.seen desk.old }
+    ensures may { MayCall (D.seen desk.new) session.new }
+    ensures called { SessionCalled D.called D.seen desk.old session.old call result desk.new session.new }
+{
+    match call {
+        Call::Chmod { path, mode } => chmod(alloc, session, desk, path, mode),
+        call => {
+            if is_dir_call(&call) {
+                dir_call(alloc, session, desk, call)
+            } else {
+                file_call(alloc, session, desk, call)
+            }
+        }
     }
 }
 

@@ -18,8 +18,8 @@ pub fn ends_free()
     ensures law { PlayedEndsFree }
 {}
 
-/// Of scripts of raw libraries alone: what the libraries are told, and the image that is settled at the
-/// end, are determined by the image at the beginning and the script.
+/// Of scripts in which no honest library changes a mode: what the libraries are told, and the image that
+/// is settled at the end, are determined by the image at the beginning and the script.
 pub fn played_is_one()
     ensures law { PlayedIsOne }
 {}

@@ -91,9 +91,8 @@ impl LibTold {
 /// Returns what each library was told, in the order of the libraries. The controller's log is then
 /// the entries of all that was asked, in its order.
 ///
-/// Of honest libraries it plays settles and calls of files; [`unbuilt_line`](crate::unbuilt_line)
-/// tells whether a script has other lines. On want of memory what the libraries had stays out for
-/// good.
+/// Of honest libraries it plays settles and calls; [`unbuilt_line`](crate::unbuilt_line) tells whether
+/// a script has lines that aren't built. On want of memory what the libraries had stays out for good.
 pub fn play(alloc: Global, ctl: &mut Ctl, libs: &[ScriptLib]) -> Result<Vec<LibTold>, NoMemory>
     requires kept { Kept ctl.old.state }
     requires started { ctl.old.state ≡ start ctl.old.state.home (creds_in libs.now) }
@@ -339,6 +338,9 @@ fn take_call(
     ensures turn { OnOk result (TookTurn lib (SaysHonest line.now) ctl.old (InSession session.old) told.old ctl.new (InSession session.new) told.new) }
     ensures lib { OnOk result (session.new.lib ≡ lib) }
 {
+    ctl.is_as_told();
+    ctl.is_recorded();
+    ctl.is_as_lent();
     let mut desk = PlainDesk::of(ctl, lib);
     let answer = play_honest(alloc, &mut desk, session, &line.line)?;
     told.hears(answer)

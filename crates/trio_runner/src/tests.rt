@@ -59,9 +59,9 @@ fn script_creds(alloc: Global, libs: &[ScriptLib]) -> Option<Vec<Creds>>
 // whether the answers to a library's lines are these, counted from 1
 fn are_told(alloc: Global, told: &LibTold, wanted: &[u8]) -> Option<bool> {
     let mut text = Vec::new(alloc);
-    let mut number = 0;
+    let mut number: u32 = 0;
     for answer in told.answers() {
-        number += 1;
+        number = number.saturating_add(1);
         put_answer(alloc, &mut text, number, answer).ok()?;
     }
     Some(text.as_slice() == wanted)

@@ -1,9 +1,8 @@
-use Rattle.std.proofs.Common.{◌≡◌, get_or, ◌+◌, ◌≤◌, sym, ap, ◌∙◌, subst, arith}
+use Rattle.std.proofs.Common.{get_or, ◌+◌, ◌≤◌, sym, ap, ◌∙◌, subst, arith}
 use Rattle.std.specs.Prelude.{slice_get, slice_set, take}
 use Rattle.std.proofs.lemmas.List.{take_all}
 use Rattle.trio_rights.specs.declared.rights.LibNo.{LibNo}
 use Rattle.trio_ctl.specs.Ctl.{IsLibrary}
-use Rattle.trio_script.specs.declared.Lines.{Lines}
 use Rattle.trio_script.specs.declared.ScriptLib.{ScriptLib}
 use Rattle.trio_runner.specs.Rounds.{course, courses_from, line_turns, round_of, turn_list}
 use Rattle.trio_runner.specs.Built.{unbuilt_in}
