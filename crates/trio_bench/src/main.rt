@@ -1,6 +1,6 @@
 //! What a turn costs without others in it, what the judge takes for bundles of many pages, what it
-//! costs to check an image, what to tell a tree, what to keep the index of a directory, and what memory
-//! a release takes.
+//! costs to check an image, what to tell a tree, what to keep the index of a directory, what memory a
+//! release takes, and what it costs to write and read a file through a session.
 //!
 //! - `trio_bench turn COUNT` takes a value out of its cell and gives it back COUNT times, and locks a
 //!   `Mutex` of std's with the same value COUNT times, all on one thread, five times over. It prints
@@ -18,6 +18,8 @@
 //!   names which are chosen to be slow.
 //! - `trio_bench log` releases the largest bundle of an image, and prints the peak of memory beside the
 //!   size of the image.
+//! - `trio_bench session` writes and reads 1 MiB by 4096 bytes a call through a session, twenty times
+//!   over, and prints how often a plain copy of as much into pages and out of them goes into it.
 //!
 //! It is measured and not proved; the figures of a run are in `docs/GATE.md`.
 #![tactic(auto)]
@@ -30,12 +32,14 @@ mod checking;
 mod judging;
 mod logging;
 mod names;
+mod sessions;
 mod trees;
 
 use crate::checking::{measure_check, write_workload};
 use crate::judging::measure_judge;
 use crate::logging::measure_log;
 use crate::names::measure_names;
+use crate::sessions::measure_session;
 use crate::trees::measure_tree;
 use std::alloc::Global;
 use std::rt::{Clock, Env};
@@ -131,6 +135,7 @@ enum Asked {
     Tree,
     Names,
     Log,
+    Session,
     /// An image of this name is to be written.
     Workload(String),
     /// The image of this name.
@@ -155,6 +160,9 @@ fn read_words<R: Env + AllocGlobal>(rt: &R) -> io::Result<Option<Asked>> {
     }
     if what.as_str() == "log" {
         return Ok(Some(Asked::Log));
+    }
+    if what.as_str() == "session" {
+        return Ok(Some(Asked::Session));
     }
     let Some(count) = words.next() else {
         return Ok(None);
@@ -192,11 +200,12 @@ fn main(rt: HostRuntime) -> io::Result<()> {
         Some(Asked::Tree) => measure_tree(&rt),
         Some(Asked::Names) => measure_names(&rt),
         Some(Asked::Log) => measure_log(&rt),
+        Some(Asked::Session) => measure_session(&rt),
         Some(Asked::Workload(name)) => write_workload(&rt, &name),
         Some(Asked::Check(name)) => measure_check(&rt, &name),
         None => {
             println!(rt;
-                "usage: trio_bench turn COUNT\n       trio_bench judge\n       trio_bench workload IMAGE\n       trio_bench check IMAGE\n       trio_bench tree\n       trio_bench names\n       trio_bench log"
+                "usage: trio_bench turn COUNT\n       trio_bench judge\n       trio_bench workload IMAGE\n       trio_bench check IMAGE\n       trio_bench tree\n       trio_bench names\n       trio_bench log\n       trio_bench session"
             )
         }
     }

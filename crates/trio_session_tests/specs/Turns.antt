@@ -1,12 +1,16 @@
 -- Honest sessions at desks of one controller, in turns.
-use Rattle.std.specs.Prelude.{◌≡◌, List}
+use Rattle.std.specs.Prelude.{◌≡◌, Bool, true, false, List}
 use Rattle.trio_rights.specs.declared.rights.LibNo.{LibNo}
+use Rattle.trio_nodes.specs.declared.call.Call as call
+use Rattle.trio_nodes.specs.declared.call.Call.TheVariants.{Write, Read, Truncate, Stat}
 use Rattle.trio_desk.specs.Call.{Ask, Told}
 use Rattle.trio_desk.specs.Calls.{Call, Calls}
 use Rattle.trio_desk.specs.Out.{OutAlike, nothing_out}
 use Rattle.trio_state.specs.State.{State}
 use Rattle.trio_session.specs.Seen.{SessionSeen}
 use Rattle.trio_edit_laws.specs.Calls.{MayCall}
+use Rattle.trio_calls_file.specs.Asks.{IsFileCall}
+use Rattle.trio_calls_dir.specs.Asks.{IsDirCall}
 use Rattle.trio_ctl.specs.Ctl.{IsLibrary}
 use Rattle.trio_ctl.specs.Desk.{desk_of, out_of}
 
@@ -19,6 +23,22 @@ second_lib = record { 0 = 2 }
 
 abbrev pub third_lib : LibNo
 third_lib = record { 0 = 3 }
+
+-- a call on a file; the others are on directories
+abbrev pub is_of_file : call.Call → Bool
+is_of_file (Write path at bytes) = true
+is_of_file (Read path at len) = true
+is_of_file (Truncate path size) = true
+is_of_file (Stat path) = true
+is_of_file k = false
+
+-- a call that an honest library makes
+abbrev pub IsCallOf : Bool → call.Call → Type 0
+IsCallOf true k = IsFileCall k
+IsCallOf false k = IsDirCall k
+
+abbrev pub IsCall : call.Call → Type 0
+IsCall k = IsCallOf (is_of_file k) k
 
 -- nothing is out to anybody
 abbrev pub NothingIsOut : State → Type 0

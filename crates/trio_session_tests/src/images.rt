@@ -27,6 +27,8 @@ pub enum Start {
     /// 32 pages and 64 inode numbers: the directories `a`, `a/b`, and so on to `a/b/c/d/e/f/g/h`,
     /// numbers 2 to 9, and in the last one the file `x`, number 10, of the five bytes `hello`.
     Deep,
+    /// 64 pages and 256 inode numbers: the root alone.
+    Bare,
 }
 
 /// The bytes of an image.
@@ -38,6 +40,7 @@ pub fn image_bytes(alloc: Global, start: Start) -> Result<Vec<u8>, NoMemory> {
         ),
         Start::Several => Sample::of(alloc, 64, 64, &several())?.bytes(alloc),
         Start::Deep => Sample::small(alloc, &deep())?.bytes(alloc),
+        Start::Bare => Sample::of(alloc, 64, 256, &[root()])?.bytes(alloc),
     }
 }
 

@@ -1,11 +1,13 @@
-//! Tests of honest libraries over desks of one controller: the calls on files, one after another and
-//! in turns, with what the image has after each settle.
+//! Tests of honest libraries over desks of one controller: the calls on files and on directories, one
+//! after another and in turns, with what the image has after each settle.
 #![tactic(auto)]
 
 #[cfg(test)]
 mod images;
 #[cfg(test)]
 mod large;
+#[cfg(test)]
+mod many;
 #[cfg(test)]
 mod pairs;
 #[cfg(test)]
@@ -14,3 +16,5 @@ mod play;
 mod random;
 #[cfg(test)]
 mod rows;
+#[cfg(test)]
+mod third;

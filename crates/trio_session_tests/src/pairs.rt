@@ -1,9 +1,8 @@
 //! Turns of two libraries, each at its own desk, beside a third one.
 
-ghost use Rattle.trio_calls_file.specs.Asks.{IsFileCall};
-ghost use Rattle.trio_session_tests.specs.Turns.{ArePlaying};
+ghost use Rattle.trio_session_tests.specs.Turns.{ArePlaying, IsCall};
 
-use crate::play::{play, settle};
+use crate::play::{Ask, is_told, play, settle};
 use std::alloc::Global;
 use trio_ctl::Ctl;
 use trio_nodes::Call;
@@ -20,7 +19,7 @@ pub fn first_plays(
     call: Call,
 ) -> Outcome
     requires playing { ArePlaying ctl.old.state first.old second.now }
-    requires file { IsFileCall call }
+    requires call { IsCall call }
     ensures { ArePlaying ctl.new.state first.new second.now }
 {
     play(alloc, ctl, LibNo(1), first, call)
@@ -35,7 +34,7 @@ pub fn second_plays(
     call: Call,
 ) -> Outcome
     requires playing { ArePlaying ctl.old.state first.now second.old }
-    requires file { IsFileCall call }
+    requires call { IsCall call }
     ensures { ArePlaying ctl.new.state first.now second.new }
 {
     play(alloc, ctl, LibNo(2), second, call)
@@ -55,4 +54,34 @@ pub fn second_settles(ctl: &mut Ctl, first: &Session, second: &mut Session) -> O
     ensures { ArePlaying ctl.new.state first.now second.new }
 {
     settle(ctl, LibNo(2), second)
+}
+
+/// Whether a call or a settle of the first library is told so.
+pub fn first_is_told(
+    alloc: Global,
+    ctl: &mut Ctl,
+    first: &mut Session,
+    second: &Session,
+    ask: Ask,
+    wanted: &str,
+) -> bool
+    requires { ArePlaying ctl.old.state first.old second.now }
+    ensures { ArePlaying ctl.new.state first.new second.now }
+{
+    is_told(alloc, ctl, LibNo(1), first, ask, wanted)
+}
+
+/// Whether a call or a settle of the second library is told so.
+pub fn second_is_told(
+    alloc: Global,
+    ctl: &mut Ctl,
+    first: &Session,
+    second: &mut Session,
+    ask: Ask,
+    wanted: &str,
+) -> bool
+    requires { ArePlaying ctl.old.state first.now second.old }
+    ensures { ArePlaying ctl.new.state first.now second.new }
+{
+    is_told(alloc, ctl, LibNo(2), second, ask, wanted)
 }

@@ -1,33 +1,49 @@
-//! Calls of a library at its own desk, and what they are told.
+//! Calls and settles of a library at its own desk, and what they are told.
 
 ghost use Rattle.std.specs.Prelude.{◌≡◌, ◌≤◌, IfSome, length};
-ghost use Rattle.trio_calls_file.specs.Asks.{IsFileCall};
-ghost use Rattle.trio_session_tests.specs.Turns.{IsTurn, MayPlay, NothingIsOut};
+ghost use Rattle.trio_edit_laws.specs.Calls.{MayCall};
+ghost use Rattle.trio_session_tests.specs.Turns.{IsCall, IsTurn, MayPlay, NothingIsOut, SomeCalls, is_of_file};
 
 use std::alloc::Global;
+use trio_calls_dir::dir_call;
 use trio_calls_file::file_call;
 use trio_ctl::{Ctl, PlainDesk};
 use trio_desk::Desk;
-use trio_names::Path;
+use trio_names::{Name, Path, escaped};
 use trio_nodes::{Answer, Bytes, Call, Reply};
-use trio_rights::{Kind, LibNo};
+use trio_rights::{Kind, LibNo, Mode};
 use trio_session::Session;
 use trio_walk::Outcome;
 
-/// A call on a file, by its path.
+/// A call, by its path, or a settle.
 #[derive(Clone, Copy)]
 pub enum Ask<'a> {
+    Mkdir(&'a [u8], u16),
+    Create(&'a [u8], u16),
     Write(&'a [u8], u64, &'a [u8]),
     Read(&'a [u8], u64, u32),
     Truncate(&'a [u8], u64),
+    Unlink(&'a [u8]),
+    Rmdir(&'a [u8]),
+    List(&'a [u8], u32),
     Stat(&'a [u8]),
+    Settle,
 }
 
-/// The call itself. At most 4096 bytes are read, and none is made that writes more.
+/// The call itself, of a mode of nine bits. At most 4096 bytes are read, and none is made that writes
+/// more. A settle is none.
 pub fn call_of(alloc: Global, ask: Ask) -> Option<Call>
-    ensures { IfSome result IsFileCall }
+    ensures { IfSome result IsCall }
 {
     Some(match ask {
+        Ask::Mkdir(path, mode) => Call::Mkdir {
+            path: Path::read(alloc, path).ok()?,
+            mode: Mode(mode.min(0o777)),
+        },
+        Ask::Create(path, mode) => Call::Create {
+            path: Path::read(alloc, path).ok()?,
+            mode: Mode(mode.min(0o777)),
+        },
         Ask::Write(path, at, bytes) => Call::Write {
             path: Path::read(alloc, path).ok()?,
             at,
@@ -42,9 +58,20 @@ pub fn call_of(alloc: Global, ask: Ask) -> Option<Call>
             path: Path::read(alloc, path).ok()?,
             size,
         },
+        Ask::Unlink(path) => Call::Unlink {
+            path: Path::read(alloc, path).ok()?,
+        },
+        Ask::Rmdir(path) => Call::Rmdir {
+            path: Path::read(alloc, path).ok()?,
+        },
+        Ask::List(path, from) => Call::List {
+            path: Path::read(alloc, path).ok()?,
+            from,
+        },
         Ask::Stat(path) => Call::Stat {
             path: Path::read(alloc, path).ok()?,
         },
+        Ask::Settle => return None,
     })
 }
 
@@ -74,14 +101,37 @@ pub fn seated(alloc: Global, ctl: &mut Ctl, lib: LibNo) -> Session
 /// One call of a library at its desk.
 pub fn play(alloc: Global, ctl: &mut Ctl, lib: LibNo, session: &mut Session, call: Call) -> Outcome
     requires may { MayPlay ctl.old.state lib session.old }
-    requires file { IsFileCall call }
+    requires call { IsCall call }
     ensures may { MayPlay ctl.new.state lib session.new }
     ensures turn { IsTurn lib ctl.old.state ctl.new.state }
 {
     ctl.is_recorded();
     ctl.is_as_told();
     let mut desk = PlainDesk::of(ctl, lib);
-    file_call(alloc, session, &mut desk, call)
+    any_call(alloc, session, &mut desk, call)
+}
+
+// A call on a file or on a directory.
+fn any_call<D: Desk>(alloc: Global, session: &mut Session, desk: &mut D, call: Call) -> Outcome
+    requires may { MayCall (D.seen desk.old) session.old }
+    requires call { IsCall call }
+    ensures may { MayCall (D.seen desk.new) session.new }
+    ensures called { SomeCalls D.called desk.old desk.new }
+{
+    if is_of_file(&call) {
+        file_call(alloc, session, desk, call)
+    } else {
+        dir_call(alloc, session, desk, call)
+    }
+}
+
+fn is_of_file(call: &Call) -> bool
+    ensures { result ≡ is_of_file call.now }
+{
+    matches!(
+        call,
+        Call::Write { .. } | Call::Read { .. } | Call::Truncate { .. } | Call::Stat { .. }
+    )
 }
 
 /// A settle of a library at its desk: the number of calls handed in.
@@ -96,7 +146,7 @@ pub fn settle(ctl: &mut Ctl, lib: LibNo, session: &mut Session) -> Option<u32>
     session.settle(&mut desk).ok()
 }
 
-/// Whether a call of a library is told so.
+/// Whether a call or a settle of a library is told so.
 pub fn is_told(
     alloc: Global,
     ctl: &mut Ctl,
@@ -106,15 +156,24 @@ pub fn is_told(
     wanted: &str,
 ) -> bool
     requires { MayPlay ctl.old.state lib session.old }
-    ensures { MayPlay ctl.new.state lib session.new }
+    ensures may { MayPlay ctl.new.state lib session.new }
+    ensures turn { IsTurn lib ctl.old.state ctl.new.state }
 {
     match call_of(alloc, ask) {
         Some(call) => {
             let outcome = play(alloc, ctl, lib, session, call);
             told(alloc, &outcome).as_deref() == Some(wanted)
         }
-        None => false,
+        None => {
+            let count = settle(ctl, lib, session);
+            settled(alloc, count).as_deref() == Some(wanted)
+        }
     }
+}
+
+fn settled(alloc: Global, count: Option<u32>) -> Option<String> {
+    let count = count?;
+    format!(in alloc; "settled {count}").ok()
 }
 
 /// What a call is told, in the words of the report.
@@ -132,12 +191,17 @@ fn replied(alloc: Global, reply: &Reply) -> Option<String> {
         Reply::NoSpace { wanted, free } => {
             return format!(in alloc; "nospace {wanted} {free}").ok();
         }
+        Reply::NoInodes { wanted, free } => {
+            return format!(in alloc; "noinodes {wanted} {free}").ok();
+        }
         Reply::NotFound => "notfound",
+        Reply::Exists => "exists",
         Reply::NotDir => "notdir",
         Reply::IsDir => "isdir",
+        Reply::NotEmpty => "notempty",
         Reply::Denied => "denied",
+        Reply::IntoItself => "intoitself",
         Reply::TooLarge => "toolarge",
-        _ => "another",
     };
     String::from_str(alloc, word).ok()
 }
@@ -163,6 +227,21 @@ fn answered(alloc: Global, answer: &Answer) -> Option<String> {
             };
             format!(in alloc; "ok {letter} {:o} {uid} {gid} {size}", mode.0).ok()
         }
-        Answer::Names { .. } => None,
+        Answer::Names { count, names } => listed(alloc, *count, names.as_slice()),
     }
+}
+
+fn listed(alloc: Global, count: u32, names: &[(Name, Kind)]) -> Option<String> {
+    let mut text = format!(in alloc; "ok {count}").ok()?;
+    for (name, kind) in names {
+        let shown = escaped(alloc, name.as_bytes()).ok()?;
+        let mark = match kind {
+            Kind::Directory => "/",
+            Kind::Regular => "",
+        };
+        text.push_str(" ").ok()?;
+        text.push_str(std::str::from_utf8(&shown).ok()?).ok()?;
+        text.push_str(mark).ok()?;
+    }
+    Some(text)
 }

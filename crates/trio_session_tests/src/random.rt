@@ -2,24 +2,21 @@
 //! one-thread tree.
 
 ghost use Rattle.std.specs.Prelude.{◌≡◌, ◌≤◌, IfSome};
-ghost use Rattle.trio_desk.specs.Out.{LibOut};
-ghost use Rattle.trio_raw.specs.Has.{OnList};
 ghost use Rattle.trio_session.specs.Seen.{SessionSeen};
-ghost use Rattle.trio_calls_file.specs.Asks.{IsFileCall};
 ghost use Rattle.trio_ctl.specs.Ctl.{IsLibrary};
-ghost use Rattle.trio_session_tests.specs.Turns.{ArePlaying, SomeCalls, third_lib};
+ghost use Rattle.trio_session_tests.specs.Turns.{ArePlaying, IsCall, third_lib};
 
 use crate::images::{Start, image_bytes, image_of, started};
 use crate::pairs::{first_plays, first_settles, second_plays, second_settles};
 use crate::play::{Ask, call_of, seated};
+use crate::third::{Deed, Spoil, third_plays};
 use std::alloc::Global;
-use trio_ctl::{Ctl, PlainDesk};
-use trio_desk::Desk;
+use trio_ctl::Ctl;
 use trio_image::Image;
-use trio_nodes::{Answer, Call, Done, Entry, GrantKind, Node, Nodes, ReleaseAnswer, Reply, Spot};
+use trio_names::Name;
+use trio_nodes::{Answer, Call, Done, Entry, Node, Nodes, Reply};
 use trio_onetree::apply;
-use trio_raw::{Raw, RawFault};
-use trio_rights::{Creds, LibNo};
+use trio_rights::{Creds, Kind, LibNo};
 use trio_session::Session;
 use trio_walk::Outcome;
 
@@ -42,7 +39,8 @@ impl Random {
     }
 }
 
-const PATHS: [&[u8]; 9] = [
+// Files and directories of the image, and others, the last seven, that are made and removed.
+const PATHS: [&[u8]; 16] = [
     b"/a/f",
     b"/a/g",
     b"/h",
@@ -52,18 +50,34 @@ const PATHS: [&[u8]; 9] = [
     b"/",
     b"/a/none",
     b"/h/under",
+    b"/d",
+    b"/d/f",
+    b"/d/d",
+    b"/d/d/g",
+    b"/a/d",
+    b"/a/d/f",
+    b"/a/d/d",
 ];
+
+const MODES: [u16; 4] = [0o777, 0o755, 0o777, 0o400];
 
 // A random call: offsets and sizes go over the ends of blocks, and now and then past what is free.
 fn random_ask<'a>(random: &mut Random, bytes: &'a [u8]) -> Ask<'a> {
-    let path = PATHS[random.below(9) as usize % 9];
+    let path = PATHS[random.below(16) as usize % 16];
+    let made = PATHS[9 + random.below(7) as usize % 7];
     let at = random.below(3) * 4096 + random.below(30);
-    match random.below(8) {
+    let mode = MODES[random.below(4) as usize % 4];
+    match random.below(16) {
         0..=2 => Ask::Write(path, at, bytes),
         3..=4 => Ask::Read(path, at, random.below(4097) as u32),
         5 => Ask::Stat(path),
         6 => Ask::Truncate(path, at),
-        _ => Ask::Truncate(path, random.below(90) * 4096 * random.below(200)),
+        7 => Ask::Truncate(path, random.below(90) * 4096 * random.below(200)),
+        8..=9 => Ask::Mkdir(made, mode),
+        10..=11 => Ask::Create(made, mode),
+        12 => Ask::Unlink(path),
+        13..=14 => Ask::Rmdir(made),
+        _ => Ask::List(path, random.below(4) as u32),
     }
 }
 
@@ -119,9 +133,9 @@ fn is_followed(alloc: Global, entry: &Entry, nodes: &mut Nodes) -> bool {
 fn are_replied(alloc: Global, nodes: &mut Nodes, creds: Creds, calls: &[Done]) -> bool {
     for done in calls {
         let is_replied = match &done.reply {
-            // the tree knows no pages
-            Reply::NoSpace { wanted, free } => free < wanted,
-            reply => match apply(alloc, nodes, creds, &done.call, 0) {
+            // the tree knows no room
+            Reply::NoSpace { wanted, free } | Reply::NoInodes { wanted, free } => free < wanted,
+            reply => match apply(alloc, nodes, creds, &done.call, done.made) {
                 Ok(answer) => is_same(&answer, reply),
                 Err(_) => false,
             },
@@ -137,9 +151,12 @@ fn is_same(a: &Reply, b: &Reply) -> bool {
     match (a, b) {
         (Reply::Ok(a), Reply::Ok(b)) => is_same_answer(a, b),
         (Reply::NotFound, Reply::NotFound)
+        | (Reply::Exists, Reply::Exists)
         | (Reply::NotDir, Reply::NotDir)
         | (Reply::IsDir, Reply::IsDir)
+        | (Reply::NotEmpty, Reply::NotEmpty)
         | (Reply::Denied, Reply::Denied)
+        | (Reply::IntoItself, Reply::IntoItself)
         | (Reply::TooLarge, Reply::TooLarge) => true,
         _ => false,
     }
@@ -150,6 +167,13 @@ fn is_same_answer(a: &Answer, b: &Answer) -> bool {
         (Answer::Done, Answer::Done) => true,
         (Answer::Count(a), Answer::Count(b)) => a == b,
         (Answer::Bytes(a), Answer::Bytes(b)) => a.as_slice() == b.as_slice(),
+        (
+            Answer::Names { count, names },
+            Answer::Names {
+                count: count2,
+                names: names2,
+            },
+        ) => count == count2 && are_same_names(names.as_slice(), names2.as_slice()),
         (
             Answer::Stat {
                 kind,
@@ -168,6 +192,13 @@ fn is_same_answer(a: &Answer, b: &Answer) -> bool {
         ) => kind == kind2 && mode == mode2 && uid == uid2 && gid == gid2 && size == size2,
         _ => false,
     }
+}
+
+fn are_same_names(a: &[(Name, Kind)], b: &[(Name, Kind)]) -> bool {
+    let are_alike = |((name, kind), (name2, kind2)): (&(Name, Kind), &(Name, Kind))| {
+        name.as_bytes() == name2.as_bytes() && kind == kind2
+    };
+    a.len() == b.len() && a.iter().zip(b).all(are_alike)
 }
 
 // Whether the settled image has the nodes of the model.
@@ -216,66 +247,27 @@ fn is_same_node(a: Option<&Node>, b: Option<&Node>) -> bool {
 
 // The third library takes a file for writing, spoils its metadata and hands it in: whether that is
 // refused, or the file isn't lent.
-fn attack(alloc: Global, ctl: &mut Ctl, random: &mut Random) -> bool
+fn attack(alloc: Global, ctl: &mut Ctl, model: &mut Model, random: &mut Random) -> bool
     requires { IsLibrary third_lib ctl.old.state }
     ensures { (x y : SessionSeen) → ArePlaying ctl.old.state x y → ArePlaying ctl.new.state x y }
 {
-    ctl.is_recorded();
-    ctl.is_as_told();
-    let mut desk = PlainDesk::of(ctl, LibNo(3));
-    is_held_off(alloc, &mut desk, random)
+    let is_followed = follow(alloc, ctl, model);
+    let ino = 1 + random.below(12) as u32;
+    let how = match random.below(3) {
+        0 => Spoil::Size,
+        1 => Spoil::Index,
+        _ if is_directory(model, ino) => Spoil::Entry,
+        _ => Spoil::Size,
+    };
+    is_followed && third_plays(alloc, ctl, Deed::Spoil(ino, how))
 }
 
-fn is_held_off<D: Desk>(alloc: Global, desk: &mut D, random: &mut Random) -> bool
-    ensures { SomeCalls D.called desk.old desk.new }
-{
-    let ino = 1 + random.below(7) as u32;
-    let how = random.below(3);
-    let mut raw = Raw::new(alloc, LibNo(3));
-    let is_held_off = is_refused(&mut raw, desk, ino, how);
-    raw.discard();
-    is_held_off
-}
-
-fn is_refused<D: Desk>(raw: &mut Raw, desk: &mut D, ino: u32, how: u64) -> bool
-    requires { OnList (D.seen desk.old).out raw.old.has }
-    ensures { SomeCalls D.called desk.old desk.new }
-{
-    if raw.grant(desk, ino, GrantKind::Write).is_err() {
-        return true;
+// Whether that is the number of a directory of what is settled.
+fn is_directory(model: &Model, ino: u32) -> bool {
+    match model.nodes.get(ino) {
+        Some(node) => node.kind == Kind::Directory,
+        None => false,
     }
-    spoil(raw, ino, how);
-    let said = raw.release(desk, &[ino], &[], &[]);
-    is_refusal(&said)
-}
-
-fn is_refusal(said: &Result<ReleaseAnswer, RawFault>) -> bool {
-    matches!(said, Ok(ReleaseAnswer::Refused { .. }))
-}
-
-// Writes a size that the file's chain doesn't have, where nothing else is spoiled.
-fn spoil(raw: &mut Raw, ino: u32, how: u64)
-    ensures { (out : LibOut) → OnList out raw.old.has → OnList out raw.new.has }
-{
-    let is_spoiled = is_overwritten(raw, ino, how);
-    let _is_there = raw.poke(Spot::Body(ino), 19, &[u8::from(!is_spoiled)]);
-}
-
-// Writes a number that no file may list into the file's index page, or the root's number into a slot
-// of a directory.
-fn is_overwritten(raw: &mut Raw, ino: u32, how: u64) -> bool
-    ensures { (out : LibOut) → OnList out raw.old.has → OnList out raw.new.has }
-{
-    match how {
-        1 => raw.poke(Spot::Index(ino, 0), 0, &[2, 0, 0, 0]),
-        2 if is_directory(ino) => raw.poke(Spot::Block(ino, 0), 0, &[1, 0, 0, 0]),
-        _ => false,
-    }
-}
-
-// Whether that is the number of a directory of the image.
-fn is_directory(ino: u32) -> bool {
-    matches!(ino, 1 | 2 | 6)
 }
 
 // ---- in turns
@@ -286,6 +278,7 @@ fn turn(
     ctl: &mut Ctl,
     first: &mut Session,
     second: &mut Session,
+    model: &mut Model,
     random: &mut Random,
 ) -> bool
     requires { ArePlaying ctl.old.state first.old second.old }
@@ -294,14 +287,14 @@ fn turn(
     match random.below(12) {
         0 => first_settles(ctl, first, second).is_some(),
         1 => second_settles(ctl, first, second).is_some(),
-        2 | 3 => attack(alloc, ctl, random),
+        2 | 3 => attack(alloc, ctl, model, random),
         4..=7 => first_calls(alloc, ctl, first, second, random),
         _ => second_calls(alloc, ctl, first, second, random),
     }
 }
 
 fn random_call(alloc: Global, random: &mut Random) -> Option<Call>
-    ensures { IfSome result IsFileCall }
+    ensures { IfSome result IsCall }
 {
     let mut bytes = [0; 4096];
     let len = random_bytes(random, &mut bytes);
@@ -362,7 +355,7 @@ fn are_one(
 {
     let mut random = Random(seed);
     for _ in 0..10 {
-        if !are_fair(alloc, ctl, first, second, &mut random) {
+        if !are_fair(alloc, ctl, first, second, model, &mut random) {
             return false;
         }
         if !is_all_settled(alloc, ctl, first, second, model) {
@@ -378,13 +371,14 @@ fn are_fair(
     ctl: &mut Ctl,
     first: &mut Session,
     second: &mut Session,
+    model: &mut Model,
     random: &mut Random,
 ) -> bool
     requires { ArePlaying ctl.old.state first.old second.old }
     ensures { ArePlaying ctl.new.state first.new second.new }
 {
     for _ in 0..10 {
-        if !turn(alloc, ctl, first, second, random) {
+        if !turn(alloc, ctl, first, second, model, random) {
             return false;
         }
     }

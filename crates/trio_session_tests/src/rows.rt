@@ -3,15 +3,15 @@
 ghost use Rattle.trio_session_tests.specs.Turns.{ArePlaying, MayPlay, first_lib};
 
 use crate::images::{Start, started};
-use crate::pairs::{first_plays, first_settles, second_plays};
-use crate::play::{Ask, call_of, is_told, seated, settle, told};
+use crate::pairs::{first_is_told, second_is_told};
+use crate::play::{Ask, is_told, seated, settle};
+use crate::third::{Deed, third_plays};
 use std::alloc::Global;
 use trio_ctl::Ctl;
 use trio_image::Counts;
 use trio_page::field::all_zero;
 use trio_rights::LibNo;
 use trio_session::Session;
-use trio_walk::Outcome;
 
 // Calls of the first library on the image of one file.
 const CALLS: &[(Ask<'static>, &str)] = &[
@@ -76,67 +76,6 @@ fn calls_on_a_file(rt: HostRuntime) {
     assert!(rt; are_as_written(rt.alloc()) == Some(true));
 }
 
-// The first library writes a file, which is busy for the second until that has settled; the grants of
-// the first one's walk on `/` and `a` are the entries 0 and 1.
-fn is_busy(alloc: Global) -> Option<bool> {
-    let mut ctl = started(alloc, Start::Several)?;
-    let mut first = seated(alloc, &mut ctl, LibNo(1));
-    let mut second = seated(alloc, &mut ctl, LibNo(2));
-    let is_busy = waits(alloc, &mut ctl, &mut first, &mut second);
-    first.discard();
-    second.discard();
-    Some(is_busy)
-}
-
-fn waits(alloc: Global, ctl: &mut Ctl, first: &mut Session, second: &mut Session) -> bool
-    requires { ArePlaying ctl.old.state first.old second.old }
-{
-    let is_written = first_writes(alloc, ctl, first, second);
-    let is_busy = second_writes(alloc, ctl, first, second, "busy 1 2");
-    let count = first_settles(ctl, first, second);
-    let is_free = second_writes(alloc, ctl, first, second, "ok 1");
-    is_written && is_busy && count == Some(1) && is_free
-}
-
-fn first_writes(alloc: Global, ctl: &mut Ctl, first: &mut Session, second: &Session) -> bool
-    requires { ArePlaying ctl.old.state first.old second.now }
-    ensures { ArePlaying ctl.new.state first.new second.now }
-{
-    match call_of(alloc, Ask::Write(b"/a/f", 0, b"x")) {
-        Some(call) => is_so(alloc, &first_plays(alloc, ctl, first, second, call), "ok 1"),
-        None => false,
-    }
-}
-
-fn second_writes(
-    alloc: Global,
-    ctl: &mut Ctl,
-    first: &Session,
-    second: &mut Session,
-    wanted: &str,
-) -> bool
-    requires { ArePlaying ctl.old.state first.now second.old }
-    ensures { ArePlaying ctl.new.state first.now second.new }
-{
-    match call_of(alloc, Ask::Write(b"/a/f", 0, b"y")) {
-        Some(call) => is_so(
-            alloc,
-            &second_plays(alloc, ctl, first, second, call),
-            wanted,
-        ),
-        None => false,
-    }
-}
-
-fn is_so(alloc: Global, outcome: &Outcome, wanted: &str) -> bool {
-    told(alloc, outcome).as_deref() == Some(wanted)
-}
-
-#[test]
-fn a_file_that_another_writes_is_busy(rt: HostRuntime) {
-    assert!(rt; is_busy(rt.alloc()) == Some(true));
-}
-
 const DEEP: Ask<'static> = Ask::Read(b"/a/b/c/d/e/f/g/h/x", 0, 10);
 
 // A file eight directories below the root is read twice: the log has the grants of the first walk, and
@@ -155,4 +94,213 @@ fn is_asked_once(alloc: Global) -> Option<bool> {
 #[test]
 fn a_second_read_asks_nothing(rt: HostRuntime) {
     assert!(rt; is_asked_once(rt.alloc()) == Some(true));
+}
+
+// ---- directories
+
+// Calls of one library on the image of one file: names that stand already and names that don't,
+// files of the other kind, what it made itself, a name with the end of a line, and one of 184 bytes.
+// A call that wants `a` held settles first where its walk has it lent.
+const MADE: &[(Ask<'static>, &str)] = &[
+    (Ask::Mkdir(b"/b", 0o755), "ok"),
+    (Ask::Create(b"/b/g", 0o640), "ok"),
+    (Ask::List(b"/b", 0), "ok 1 g"),
+    (Ask::List(b"/", 0), "ok 2 a/ b/"),
+    (Ask::Mkdir(b"/b", 0o755), "exists"),
+    (Ask::Create(b"/a/f", 0o644), "exists"),
+    (Ask::Create(b"/a", 0o644), "exists"),
+    (Ask::Mkdir(b"/", 0o755), "exists"),
+    (Ask::Create(b"/a/f/x", 0o644), "notdir"),
+    (Ask::Mkdir(b"/none/x", 0o755), "notfound"),
+    (Ask::Unlink(b"/b"), "isdir"),
+    (Ask::Unlink(b"/"), "isdir"),
+    (Ask::Unlink(b"/a/none"), "notfound"),
+    (Ask::Unlink(b"/a/f/x"), "notdir"),
+    (Ask::Rmdir(b"/"), "denied"),
+    (Ask::Rmdir(b"/b/g"), "notdir"),
+    (Ask::Rmdir(b"/none"), "notfound"),
+    (Ask::Rmdir(b"/a"), "notempty"),
+    (Ask::Rmdir(b"/b"), "notempty"),
+    (Ask::List(b"/a/f", 0), "notdir"),
+    (Ask::List(b"/none", 0), "notfound"),
+    (Ask::Write(b"/b/g", 4095, b"xy"), "ok 2"),
+    (Ask::Stat(b"/b"), "ok d 755 0 0 1"),
+    (Ask::Stat(b"/b/g"), "ok f 640 0 0 4097"),
+    (Ask::Unlink(b"/a/f"), "ok"),
+    (Ask::Rmdir(b"/a"), "ok"),
+    (Ask::Stat(b"/a"), "notfound"),
+    (Ask::Create(b"/a\nb", 0o644), "ok"),
+    (Ask::Mkdir(b"/b/d", 0o700), "ok"),
+    (Ask::List(b"/b", 0), "ok 2 d/ g"),
+    (Ask::List(b"/", 0), "ok 2 a\\x0Ab b/"),
+    (Ask::Settle, "settled 6"),
+    (Ask::Create(LONG, 0o644), "ok"),
+    (Ask::List(b"/", 2), LONG_TOLD),
+    (Ask::List(b"/", 3), "ok 3"),
+    (Ask::Read(b"/b/g", 4095, 10), "ok 2 xy"),
+    (Ask::Rmdir(b"/b/d"), "ok"),
+    (Ask::Unlink(b"/a\nb"), "ok"),
+    (Ask::Settle, "settled 1"),
+    (Ask::Stat(b"/"), "ok d 755 0 0 2"),
+];
+
+// A slash, and 184 bytes.
+const LONG: &[u8] =
+    b"/nnnnnnnnnnnnnnnnnnnnnnnnnnnnnnnnnnnnnnnnnnnnnnnnnnnnnnnnnnnnnnnnnnnnnnnnnnnnnnnnnnnnnnnnnnnn\
+    nnnnnnnnnnnnnnnnnnnnnnnnnnnnnnnnnnnnnnnnnnnnnnnnnnnnnnnnnnnnnnnnnnnnnnnnnnnnnnnnnnnnnnnnnnnn";
+
+const LONG_TOLD: &str =
+    "ok 3 nnnnnnnnnnnnnnnnnnnnnnnnnnnnnnnnnnnnnnnnnnnnnnnnnnnnnnnnnnnnnnnnnnnnnnnnnnnnnnnnnnnnnnnnnnnn\
+    nnnnnnnnnnnnnnnnnnnnnnnnnnnnnnnnnnnnnnnnnnnnnnnnnnnnnnnnnnnnnnnnnnnnnnnnnnnnnnnnnnnnnnnnnnnn";
+
+// The root has `b`, with `g` of two blocks, and the file of the long name.
+const LEFT: Counts = Counts {
+    inodes: 4,
+    pages: 7,
+    free: 22,
+};
+
+fn are_made(alloc: Global) -> Option<bool> {
+    let mut ctl = started(alloc, Start::OneFile)?;
+    let mut session = seated(alloc, &mut ctl, LibNo(1));
+    let are_told = are_told(alloc, &mut ctl, &mut session, MADE);
+    session.discard();
+    Some(are_told && ctl.image().ok()?.counts() == LEFT)
+}
+
+#[test]
+fn calls_on_directories(rt: HostRuntime) {
+    assert!(rt; are_made(rt.alloc()) == Some(true));
+}
+
+// Calls of a library where one page and two inode numbers are free, since another one keeps the
+// others. What it gave up is free again once it has settled.
+const SHORT: &[(Ask<'static>, &str)] = &[
+    (Ask::Mkdir(b"/b", 0o755), "ok"),
+    (Ask::Create(b"/b/x", 0o644), "nospace 2 1"),
+    (Ask::Create(b"/a/x", 0o644), "ok"),
+    (Ask::Create(b"/a/y", 0o644), "noinodes 1 0"),
+    (Ask::Mkdir(b"/b/y", 0o755), "nospace 2 1"),
+    (Ask::Rmdir(b"/b"), "ok"),
+    (Ask::Mkdir(b"/c", 0o755), "noinodes 1 0"),
+    (Ask::Settle, "settled 7"),
+    (Ask::Mkdir(b"/c", 0o755), "ok"),
+    (Ask::List(b"/", 0), "ok 2 a/ c/"),
+];
+
+// A round: what each of two libraries calls, and what it is told.
+type Round = [(Ask<'static>, &'static str); 2];
+
+// A file that the other library writes is busy until that has settled; the grants of the first one's
+// walk on `/` and `a` are the entries 0 and 1.
+const FILE_IS_BUSY: &[Round] = &[
+    [
+        (Ask::Write(b"/a/f", 0, b"x"), "ok 1"),
+        (Ask::Write(b"/a/f", 0, b"y"), "busy 1 2"),
+    ],
+    [
+        (Ask::Settle, "settled 1"),
+        (Ask::Write(b"/a/f", 0, b"y"), "ok 1"),
+    ],
+];
+
+// So is a directory. In one that all may write the second library makes a file of its own uid, which
+// the first then removes; in others the second may make and remove nothing.
+const DIRECTORY_IS_BUSY: &[Round] = &[
+    [
+        (Ask::Create(b"/g", 0o644), "ok"),
+        (Ask::List(b"/", 0), "busy 1 0"),
+    ],
+    [
+        (Ask::List(b"/", 0), "ok 4 a/ g h p/"),
+        (Ask::List(b"/a", 0), "busy 1 0"),
+    ],
+    [
+        (Ask::Settle, "settled 2"),
+        (Ask::List(b"/", 0), "ok 4 a/ g h p/"),
+    ],
+    [
+        (Ask::Stat(b"/a"), "ok d 755 0 0 2"),
+        (Ask::Settle, "settled 1"),
+    ],
+    [
+        (Ask::Mkdir(b"/t", 0o777), "ok"),
+        (Ask::Create(b"/x", 0o644), "denied"),
+    ],
+    [
+        (Ask::Settle, "settled 1"),
+        (Ask::Create(b"/t/x", 0o600), "ok"),
+    ],
+    [
+        (Ask::Stat(b"/h"), "ok f 644 0 0 11"),
+        (Ask::Rmdir(b"/a"), "denied"),
+    ],
+    [(Ask::Settle, "settled 1"), (Ask::Settle, "settled 3")],
+    [
+        (Ask::Stat(b"/t/x"), "ok f 600 5 5 0"),
+        (Ask::Unlink(b"/h"), "denied"),
+    ],
+    [
+        (Ask::Unlink(b"/t/x"), "ok"),
+        (Ask::List(b"/p", 0), "denied"),
+    ],
+];
+
+// Whether each of these rounds is told so.
+fn are_told_in_turns(
+    alloc: Global,
+    ctl: &mut Ctl,
+    first: &mut Session,
+    second: &mut Session,
+    rounds: &[Round],
+) -> bool
+    requires { ArePlaying ctl.old.state first.old second.old }
+{
+    for [(first_ask, first_wanted), (second_ask, second_wanted)] in rounds {
+        if !first_is_told(alloc, ctl, first, second, *first_ask, first_wanted) {
+            return false;
+        }
+        if !second_is_told(alloc, ctl, first, second, *second_ask, second_wanted) {
+            return false;
+        }
+    }
+    true
+}
+
+fn are_in_turns(alloc: Global, rounds: &[Round]) -> Option<bool> {
+    let mut ctl = started(alloc, Start::Several)?;
+    let mut first = seated(alloc, &mut ctl, LibNo(1));
+    let mut second = seated(alloc, &mut ctl, LibNo(2));
+    let are_told = are_told_in_turns(alloc, &mut ctl, &mut first, &mut second, rounds);
+    first.discard();
+    second.discard();
+    Some(are_told)
+}
+
+#[test]
+fn what_another_writes_is_busy(rt: HostRuntime) {
+    assert!(rt; are_in_turns(rt.alloc(), FILE_IS_BUSY) == Some(true));
+    assert!(rt; are_in_turns(rt.alloc(), DIRECTORY_IS_BUSY) == Some(true));
+}
+
+// The third library keeps 22 of the 23 free pages and 59 of the 61 free inode numbers.
+fn are_short(alloc: Global, ctl: &mut Ctl, first: &mut Session, second: &Session) -> bool
+    requires { ArePlaying ctl.old.state first.old second.now }
+{
+    third_plays(alloc, ctl, Deed::Take(22, 59)) && are_told(alloc, ctl, first, SHORT)
+}
+
+fn is_short(alloc: Global) -> Option<bool> {
+    let mut ctl = started(alloc, Start::OneFile)?;
+    let mut first = seated(alloc, &mut ctl, LibNo(1));
+    let second = seated(alloc, &mut ctl, LibNo(2));
+    let are_short = are_short(alloc, &mut ctl, &mut first, &second);
+    first.discard();
+    second.discard();
+    Some(are_short)
+}
+
+#[test]
+fn what_another_keeps_is_not_free(rt: HostRuntime) {
+    assert!(rt; is_short(rt.alloc()) == Some(true));
 }

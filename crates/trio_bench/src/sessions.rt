@@ -1,0 +1,244 @@
+//! What it costs to write and read a file through a session, beside a plain copy.
+
+ghost use Rattle.std.specs.Prelude.{◌≡◌, IfSome, IsTrue, length};
+ghost use Rattle.trio_rights.specs.declared.rights.LibNo.{LibNo as AnyLib};
+ghost use Rattle.trio_desk.specs.Out.{OutAlike, nothing_out};
+ghost use Rattle.trio_edit_laws.specs.Calls.{MayCall};
+ghost use Rattle.trio_calls_file.specs.Asks.{IsFileCall};
+ghost use Rattle.trio_ctl.specs.Desk.{out_of};
+
+use std::alloc::Global;
+use std::io;
+use std::rt::Clock;
+use std::time::Instant;
+use trio_calls_file::file_call;
+use trio_ctl::{Ctl, PlainDesk};
+use trio_desk::Desk;
+use trio_image::{Image, load};
+use trio_io::SureFiles;
+use trio_names::Path;
+use trio_nodes::{Answer, Bytes, Call, Reply};
+use trio_page::{PAGE_SIZE, Page};
+use trio_rights::{Creds, LibNo};
+use trio_samples::files::root;
+use trio_samples::{Sample, regular};
+use trio_session::Session;
+use trio_walk::Outcome;
+
+/// The fastest of so many rounds counts.
+const ROUNDS: u32 = 20;
+
+/// The file has so many blocks, 1 MiB in all; each call writes or reads one.
+const BLOCKS: u64 = 256;
+
+/// Prints how often a plain copy of 1 MiB into pages of 4096 bytes and out of them goes into writing
+/// and reading a file of that size by 4096 bytes a call, through a session with its leases in hand. The
+/// rounds of both come in turn, each with a session and with pages of its own.
+pub fn measure_session<R: Clock + Print + AllocGlobal>(rt: &R) -> io::Result<()> {
+    match hundredths(rt, rt.alloc())? {
+        Some(ratio) => println!(rt;
+            "a session beside a plain copy: {}.{:02}",
+            ratio / 100,
+            ratio % 100
+        ),
+        None => println!(rt; "out of memory, or not written"),
+    }
+}
+
+fn hundredths<R: Clock>(rt: &R, alloc: Global) -> io::Result<Option<u128>> {
+    let mut session = u128::MAX;
+    let mut copy = u128::MAX;
+    for _ in 0..ROUNDS {
+        let Some(nanos) = nanos_of_session(rt, alloc)? else {
+            return Ok(None);
+        };
+        session = session.min(nanos);
+        let Some(nanos) = nanos_of_copy(rt, alloc)? else {
+            return Ok(None);
+        };
+        copy = copy.min(nanos);
+    }
+    Ok(Some(session.saturating_mul(100) / copy.max(1)))
+}
+
+/// The bytes that are written, a piece for each block.
+fn pieces(alloc: Global) -> Option<Vec<Bytes>> {
+    let mut pieces = Vec::new(alloc);
+    for block in 0..BLOCKS {
+        let bytes = [block as u8; PAGE_SIZE];
+        pieces.push(Bytes::copied(alloc, &bytes).ok()?).ok()?;
+    }
+    Some(pieces)
+}
+
+/// The nanoseconds of a plain copy, of which all that was read is kept.
+fn nanos_of_copy<R: Clock>(rt: &R, alloc: Global) -> io::Result<Option<u128>> {
+    let Some(pieces) = pieces(alloc) else {
+        return Ok(None);
+    };
+    let Some(mut pages) = zero_pages(alloc) else {
+        return Ok(None);
+    };
+    let start = Instant::now(rt)?;
+    copy_in(&pieces, &mut pages);
+    let read = copy_out(alloc, &pages);
+    let nanos = start.elapsed(rt)?.as_nanos();
+    Ok(read.map(|_| nanos))
+}
+
+/// As many pages as the file has blocks, each written once.
+fn zero_pages(alloc: Global) -> Option<Vec<Page>> {
+    let mut pages = Vec::new(alloc);
+    for _ in 0..BLOCKS {
+        pages.push(Page::zero(alloc).ok()?).ok()?;
+    }
+    Some(pages)
+}
+
+fn copy_in(pieces: &[Bytes], pages: &mut [Page]) {
+    for (page, piece) in pages.iter_mut().zip(pieces) {
+        let bytes = piece.as_slice();
+        if bytes.len() == PAGE_SIZE {
+            page.bytes_mut().copy_from_slice(bytes);
+        }
+    }
+}
+
+fn copy_out(alloc: Global, pages: &[Page]) -> Option<Vec<Bytes>> {
+    let mut read = Vec::new(alloc);
+    for page in pages {
+        read.push(Bytes::copied(alloc, page.bytes()).ok()?).ok()?;
+    }
+    Some(read)
+}
+
+/// The nanoseconds of a session's calls, of which all replies are kept. `None` where one isn't done.
+fn nanos_of_session<R: Clock>(rt: &R, alloc: Global) -> io::Result<Option<u128>> {
+    let Some(mut ctl) = started(alloc) else {
+        return Ok(None);
+    };
+    let mut desk = PlainDesk::of(&mut ctl, LibNo(1));
+    let mut session = Session::new(alloc, LibNo(1), desk.creds());
+    let nanos = nanos_at(rt, alloc, &mut session, &mut desk);
+    session.discard();
+    nanos
+}
+
+/// The controller of an image with one empty file, for one library of uid 0.
+fn started(alloc: Global) -> Option<Ctl>
+    ensures none { IfSome result (λ ctl. (lib : AnyLib) → OutAlike (out_of ctl.state lib) nothing_out) }
+    ensures one { IfSome result (λ ctl. length ctl.state.creds ≡ 1) }
+{
+    let files = [root(), regular(2, 1, b"f", b"")];
+    let bytes = Sample::of(alloc, 1024, 64, &files).ok()?.bytes(alloc).ok()?;
+    let image = image_of(alloc, bytes)?;
+    let libs = vec![in alloc; Creds { uid: 0, gid: 0 }].ok()?;
+    Ctl::start(alloc, image, libs).ok()
+}
+
+/// The image of these bytes.
+fn image_of(alloc: Global, bytes: Vec<u8>) -> Option<Image> {
+    let names = vec![in alloc; String::from_str(alloc, "a.img").ok()?].ok()?;
+    let mut files = SureFiles::new(alloc, names).ok()?;
+    files.hold("a.img", bytes);
+    if !files.serves("a.img") {
+        return None;
+    }
+    load(alloc, &mut files, "a.img").ok()
+}
+
+/// The nanoseconds of the calls, once the file has its size and the session its leases. `None` where
+/// a call isn't done.
+fn nanos_at<R: Clock, D: Desk>(
+    rt: &R,
+    alloc: Global,
+    session: &mut Session,
+    desk: &mut D,
+) -> io::Result<Option<u128>>
+    requires { MayCall (D.seen desk.old) session.old }
+{
+    let Some((first, writes, reads)) = all_calls(alloc) else {
+        return Ok(None);
+    };
+    let Some(_sized) = make_calls(alloc, session, desk, first) else {
+        return Ok(None);
+    };
+    let start = Instant::now(rt)?;
+    let Some(_written) = make_calls(alloc, session, desk, writes) else {
+        return Ok(None);
+    };
+    let Some(_read) = make_calls(alloc, session, desk, reads) else {
+        return Ok(None);
+    };
+    Ok(Some(start.elapsed(rt)?.as_nanos()))
+}
+
+/// The call that gives the file its size, those that write its blocks, and those that read them.
+fn all_calls(alloc: Global) -> Option<(Vec<Call>, Vec<Call>, Vec<Call>)> {
+    let size = BLOCKS * PAGE_SIZE as u64;
+    let path = file_path(alloc)?;
+    let first = vec![in alloc; Call::Truncate { path, size }].ok()?;
+    let mut pieces = pieces(alloc)?;
+    let mut writes = Vec::new(alloc);
+    let mut reads = Vec::new(alloc);
+    for block in 0..BLOCKS {
+        let at = block * PAGE_SIZE as u64;
+        let bytes = pieces.pop()?;
+        let path = file_path(alloc)?;
+        writes.push(Call::Write { path, at, bytes }).ok()?;
+        let path = file_path(alloc)?;
+        let len = PAGE_SIZE as u32;
+        reads.push(Call::Read { path, at, len }).ok()?;
+    }
+    Some((first, writes, reads))
+}
+
+fn file_path(alloc: Global) -> Option<Path> {
+    Path::read(alloc, b"/f").ok()
+}
+
+/// Makes these calls, and returns what they are replied. `None` where one isn't done.
+fn make_calls<D: Desk>(
+    alloc: Global,
+    session: &mut Session,
+    desk: &mut D,
+    calls: Vec<Call>,
+) -> Option<Vec<Answer>>
+    requires { MayCall (D.seen desk.old) session.old }
+    ensures { MayCall (D.seen desk.new) session.new }
+{
+    let mut answers = Vec::new(alloc);
+    answers.reserve(calls.len()).ok()?;
+    for call in calls {
+        match answer(alloc, session, desk, call) {
+            Some(answer) => answers.push(answer).ok()?,
+            None => return None,
+        }
+    }
+    Some(answers)
+}
+
+/// Makes one call on a file, of at most 4096 bytes.
+fn answer<D: Desk>(alloc: Global, session: &mut Session, desk: &mut D, call: Call) -> Option<Answer>
+    requires { MayCall (D.seen desk.old) session.old }
+    ensures { MayCall (D.seen desk.new) session.new }
+{
+    if !is_file_call(&call) {
+        return None;
+    }
+    match file_call(alloc, session, desk, call) {
+        Outcome::Replied(Reply::Ok(answer)) => Some(answer),
+        _ => None,
+    }
+}
+
+fn is_file_call(call: &Call) -> bool
+    ensures { IsTrue result → IsFileCall call.now }
+{
+    match call {
+        Call::Write { bytes, .. } => bytes.as_slice().len() <= PAGE_SIZE,
+        Call::Read { len, .. } => *len as usize <= PAGE_SIZE,
+        Call::Truncate { .. } => true,
+        _ => false,
+    }
+}

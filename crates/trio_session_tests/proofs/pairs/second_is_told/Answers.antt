@@ -1,0 +1,5 @@
+use Rattle.trio_session_tests.proofs.Turns.{second_played}
+use Rattle.trio_session_tests.proofs.pairs.second_is_told.Goals as goal
+
+pub returns : goal.returns
+returns c = second_played c.args.ctl.now.state c.is_told.new.ctl.state c.args.first.now c.args.second.now c.is_told.new.session c.requires c.is_told.ensures.may c.is_told.ensures.turn
