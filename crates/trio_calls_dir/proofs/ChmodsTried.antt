@@ -18,7 +18,7 @@ use Rattle.trio_nodes.specs.declared.call.Reply.TheVariants.{Ok as IsReplied, No
 use Rattle.trio_nodes.specs.declared.grant.Holder.{Holder}
 use Rattle.trio_nodes.specs.Nodes.{Nodes}
 use Rattle.trio_nodes.specs.Walk.{Path}
-use Rattle.trio_nodes.specs.Apply.{Applied, applied, refused}
+use Rattle.trio_nodes.specs.Apply.{Applied, applied, is_done, refused}
 use Rattle.trio_nodes.specs.After.{batch_nodes, lacks_room}
 use Rattle.trio_desk.specs.Call.{Ask, DeskSeen, Grant, Told, NotLent, NotSettled, Settled}
 use Rattle.trio_desk.specs.Calls as desk_calls
@@ -81,6 +81,20 @@ refusal_room (IsReplied answer) r = absurd r
 refusal_room (NoSpace w f) r = absurd r
 refusal_room (NoInodes w f) r = absurd r
 refusal_room TooLarge r = absurd r
+
+-- nor that the call is done
+refusal_done : (reply : Reply) → IsRefusal reply → is_done reply ≡ false
+refusal_done NotFound r = refl
+refusal_done Exists r = refl
+refusal_done NotDir r = refl
+refusal_done IsDir r = refl
+refusal_done NotEmpty r = refl
+refusal_done Denied r = refl
+refusal_done IntoItself r = refl
+refusal_done (IsReplied answer) r = absurd r
+refusal_done (NoSpace w f) r = absurd r
+refusal_done (NoInodes w f) r = absurd r
+refusal_done TooLarge r = absurd r
 
 -- a call that changes a mode, and that the tree refuses
 refused_as : (desk : DeskSeen) (now : Nodes) (path : Path) (mode : Mode) (reply : Reply) → IsRefusal reply → applied now desk.creds (Chmod path mode) 0 ≡ refused now reply → IsRefusedAs desk (Chmod path mode) reply now
@@ -186,6 +200,7 @@ module _ {D : Type 0} (called : D → Ask → Told → D → Type 0) (seen : D �
   broken : (outcome : Outcome) (s' : SessionSeen) → EndsAs all path mode BreaksOff w.last [] outcome → LeavesBy all outcome s' → NamesOther s.lib outcome → ChmodTried called seen path mode d s outcome d1 s'
   broken outcome s' ends leaves others = record {
     comes = BreaksOff;
+    refuses = tt;
     given = given;
     ungiven = w.last;
     last = [];
@@ -213,9 +228,10 @@ module _ {D : Type 0} (called : D → Ask → Told → D → Type 0) (seen : D �
 
   module _ (d' : D) (s' : SessionSeen) (outcome : Outcome) (same : SameDesk (seen d1) (seen d')) (told : Told) where
     -- a refusal was handed in
-    pub tried_handed : (reply : Reply) → end ≡ IsReply reply → called d1 (hand_in_ask s1 (Chmod path mode) reply) told d' → EndsHandedIn reply told outcome → LeavesBy s1 outcome s' → ChmodTried called seen path mode d s outcome d' s'
-    tried_handed reply is made ends leaves = record {
+    pub tried_handed : (reply : Reply) → end ≡ IsReply reply → IsRefusal reply → called d1 (hand_in_ask s1 (Chmod path mode) reply) told d' → EndsHandedIn reply told outcome → LeavesBy s1 outcome s' → ChmodTried called seen path mode d s outcome d' s'
+    tried_handed reply is refusal made ends leaves = record {
       comes = HandsIn reply;
+      refuses = refusal_done reply refusal;
       given = given;
       ungiven = w.last;
       last = record { ask = hand_in_ask all (Chmod path mode) reply; told = told } ∷ [];
@@ -234,6 +250,7 @@ module _ {D : Type 0} (called : D → Ask → Told → D → Type 0) (seen : D �
     pub tried_moded : (ino : ℕ) → end ≡ At ino → called d1 (mode_ask s1 ino mode (Chmod path mode)) told d' → EndsModed told outcome → LeavesBy s1 outcome s' → NamesOther s1.lib outcome → ChmodTried called seen path mode d s outcome d' s'
     tried_moded ino is made ends leaves others = record {
       comes = SetsMode ino;
+      refuses = tt;
       given = given;
       ungiven = w.last;
       last = record { ask = mode_ask all ino mode (Chmod path mode); told = told } ∷ [];
@@ -286,11 +303,11 @@ module _ {D : Type 0} (called : D → Ask → Told → D → Type 0) (seen : D �
 
   module _ (d' : D) (s' : SessionSeen) (outcome : TryEnd) (same : SameDesk (seen d1) (seen d')) where
     -- a refusal that is handed in, or lacks memory before
-    hands : (reply : Reply) → end ≡ IsReply reply
+    hands : (reply : Reply) → end ≡ IsReply reply → IsRefusal reply
         → OneCall called d1 (hand_in_ask s1 (Chmod path mode) reply) d' (λ told. EndsHandedIn reply told (try_end outcome) × LeavesBy s1 (try_end outcome) s') ((outcome ≡ NoMemoryTry) × IsAlike s1 s')
         → ChmodTried called seen path mode d s (try_end outcome) d' s'
-    hands reply is (Made told made then) = tried_handed d' s' (try_end outcome) same told reply is made then.0 then.1
-    hands reply is (NotMade here then) =
+    hands reply is refusal (Made told made then) = tried_handed d' s' (try_end outcome) same told reply is refusal made then.0 then.1
+    hands reply is refusal (NotMade here then) =
         subst (λ (q : D). ChmodTried called seen path mode d s (try_end outcome) q s') (sym here)
         (subst (λ (o : TryEnd). ChmodTried called seen path mode d s (try_end o) d1 s') (sym then.0)
         (tried_short (λ n e. let wrong : IsReply reply ≡ At n = sym is ∙ e in cc wrong) (λ holder e. let wrong : IsReply reply ≡ IsBusyWalk holder = sym is ∙ e in cc wrong) s' then.1))
@@ -303,12 +320,12 @@ module _ {D : Type 0} (called : D → Ask → Told → D → Type 0) (seen : D �
     modes ino is (NotMade here none) = absurd none
 
     module _ (call : Call) (of : call ≡ Chmod path mode) where
-      pub call_hands : (reply : Reply) → end ≡ IsReply reply
+      pub call_hands : (reply : Reply) → end ≡ IsReply reply → IsRefusal reply
           → OneCall called d1 (hand_in_ask s1 call reply) d' (λ told. EndsHandedIn reply told (try_end outcome) × LeavesBy s1 (try_end outcome) s') ((outcome ≡ NoMemoryTry) × IsAlike s1 s')
           → TriesCall called seen call d s (try_end outcome) d' s'
-      call_hands reply is h =
+      call_hands reply is refusal h =
           subst (λ (k : Call). TriesCall called seen k d s (try_end outcome) d' s') (sym of)
-          (hands reply is
+          (hands reply is refusal
           (subst (λ (k : Call). OneCall called d1 (hand_in_ask s1 k reply) d' (λ told. EndsHandedIn reply told (try_end outcome) × LeavesBy s1 (try_end outcome) s') ((outcome ≡ NoMemoryTry) × IsAlike s1 s')) of h))
 
       pub call_modes : (ino : ℕ) → end ≡ At ino

@@ -15,7 +15,7 @@ use Rattle.trio_nodes.specs.declared.call.Reply.{Reply}
 use Rattle.trio_nodes.specs.declared.call.Reply.TheVariants.{Ok as IsReplied, Denied}
 use Rattle.trio_nodes.specs.Nodes.{Nodes, node_at}
 use Rattle.trio_nodes.specs.Walk.{Path, dir_of, is_root}
-use Rattle.trio_nodes.specs.Apply.{applied, refused}
+use Rattle.trio_nodes.specs.Apply.{applied, is_done, refused}
 use Rattle.trio_nodes.specs.Legal.{is_owner}
 use Rattle.trio_nodes.specs.Tree.{IsTree}
 use Rattle.trio_desk.specs.Agrees.{Agrees, HasPlaces, SaySame}
@@ -90,6 +90,11 @@ ComesSo nodes creds path mode (SetsMode ino) =
     ((applied nodes creds (Chmod path mode) 0).reply ≡ IsReplied IsDone)
     × (chmod_walk nodes creds (Chmod path mode) ≡ Some (record { ino = ino; mode = mode.0 }))
 
+-- what is handed in at once is a refusal
+abbrev pub Refuses : Comes → Type 0
+Refuses (HandsIn reply) = IsFalse (is_done reply)
+Refuses comes = Unit {0}
+
 -- these grants were just what is to be asked; where the try is broken off, the first of them
 abbrev pub AsksSo : Comes → List Ask → List Ask → Type 0
 AsksSo BreaksOff these wanted = (rest : List Ask) × (wanted ≡ these ++ rest)
@@ -159,6 +164,7 @@ pub record TriedSo (creds : Creds) (s : SessionSeen) (path : Path) (mode : Mode)
 -- are possible themselves.
 pub record ChmodTried {D : Type 0} (called : D → Ask → Told → D → Type 0) (seen : D → DeskSeen) (path : Path) (mode : Mode) (d : D) (s : SessionSeen) (end : Outcome) (d' : D) (s' : SessionSeen) : Type 0 where
   pub comes : Comes
+  pub refuses : Refuses comes
   pub given : List desk_calls.Call
   pub ungiven : List desk_calls.Call
   pub last : List desk_calls.Call

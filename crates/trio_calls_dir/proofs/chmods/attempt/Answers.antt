@@ -44,7 +44,7 @@ returns-in-At-clause-tree g c =
 pub returns-in-Reply-clause-tried : goal.returns-in-Reply-clause-tried
 returns-in-Reply-clause-tried g c =
     call_hands g.D.Desk.called g.D.Desk.seen c.args.desk.now c.args.session.now c.in-Chmod.path c.in-Chmod.mode c.requires.may c.requires.empty c.requires.tree (IsReply c.in-Reply.reply) c.owned_file.new.desk c.owned_file.new.session (c.in-Reply.ensures.found c.in-Chmod.mode) (may_walk (g.D.Desk.seen c.owned_file.new.desk) c.owned_file.new.session c.owned_file.ensures.may)
-    c.hand_in.new.desk c.hand_in.new.session c.hand_in.result c.hand_in.ensures.same c.args.call c.in-Chmod.is c.in-Reply.reply refl c.hand_in.ensures.handed
+    c.hand_in.new.desk c.hand_in.new.session c.hand_in.result c.hand_in.ensures.same c.args.call c.in-Chmod.is c.in-Reply.reply refl c.in-Reply.ensures.refusal c.hand_in.ensures.handed
 
 pub returns-in-Reply-clause-tree : goal.returns-in-Reply-clause-tree
 returns-in-Reply-clause-tree g c =
