@@ -298,12 +298,12 @@ tried_told lib Leaves Is s rs d d' x x' end told is left t h =
 
 -- ---- a change of mode
 
-calls_parted : {D : Type 0} (called : D → Ask → Told → D → Type 0) (first later : List Call) (d d' : D) → Calls called d (first ++ later) d' → (middle : D) × Calls called d first middle × Calls called middle later d'
+pub calls_parted : {D : Type 0} (called : D → Ask → Told → D → Type 0) (first later : List Call) (d d' : D) → Calls called d (first ++ later) d' → (middle : D) × Calls called d first middle × Calls called middle later d'
 calls_parted called [] later d d' made = (d, refl, made)
 calls_parted called (c ∷ first) later d d' made =
     (let rest = calls_parted called first later made.0 d' made.2 in (rest.0, (made.0, made.1, rest.1), rest.2))
 
-one_called : {D : Type 0} (called : D → Ask → Told → D → Type 0) (last : List Call) (ask : Ask) (told : Told) (d d' : D) → last ≡ record { ask = ask; told = told } ∷ [] → Calls called d last d' → called d ask told d'
+pub one_called : {D : Type 0} (called : D → Ask → Told → D → Type 0) (last : List Call) (ask : Ask) (told : Told) (d d' : D) → last ≡ record { ask = ask; told = told } ∷ [] → Calls called d last d' → called d ask told d'
 one_called called last ask told d d' e made =
     let c : Calls called d (record { ask = ask; told = told } ∷ []) d' = subst (λ (l : List Call). Calls called d l d') e made in
     subst (called d ask told) (sym c.2) c.1

@@ -21,7 +21,9 @@ pub mod OneCall
 pub mod OneReply
 pub mod OneFile
 pub mod OneDir
+pub mod OneMode
 pub mod OnePlay
+mod Alone
 pub mod Calling
 pub mod Seats
 pub mod Printed

@@ -181,6 +181,7 @@ module _ {D E : Type 0} (called : D → Ask → Told → D → Type 0) (noted : 
         made.0,
         record {
           comes = t.comes;
+          refuses = t.refuses;
           given = t.given;
           ungiven = t.ungiven;
           last = t.last;

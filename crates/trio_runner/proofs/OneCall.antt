@@ -74,7 +74,7 @@ one_settle lib d e d' e' x y x' y' hd he same like t u =
     }
 
 -- a session that was settled has nothing
-settled_has : (lib : LibNo) (d d' : Noted) (x x' : SessionSeen) (s : State) → Settles (Notes lib) d x d' x' → HasOut (out_of s lib) x'
+pub settled_has : (lib : LibNo) (d d' : Noted) (x x' : SessionSeen) (s : State) → Settles (Notes lib) d x d' x' → HasOut (out_of s lib) x'
 settled_has lib d d' x x' s t =
     subst (HasOut (out_of s lib)) (sym t.empty) (record { writes = λ f i. absurd i; reads = λ f i. absurd i; holds = λ h i. absurd i; numbers = λ n i. absurd i })
 

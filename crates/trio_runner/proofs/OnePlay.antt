@@ -39,7 +39,7 @@ use Rattle.trio_nodes.specs.declared.call.Call.TheVariants as calls
 use Rattle.trio_runner.specs.Honest.{HonestComes, SessionCalled, Noted, Notes, sees, told_outcome, unnoted}
 use Rattle.trio_runner.specs.Moves.{AreMoves}
 use Rattle.trio_runner.specs.Play.{AtStart, BeginsWith, Heard, IsLibraryOf, Players, Plays, Share, TakesTurn, Things, InSession, TurnComes, new_session, share_of, told_to, untold, with_answer, with_end}
-use Rattle.trio_runner.specs.PlayLaws.{KeepsModes, LineKeeps, TurnKeeps, PlayedIsOne}
+use Rattle.trio_runner.specs.PlayLaws.{PlayedIsOne}
 use Rattle.trio_runner.specs.inner.Ready.{HoldsAll, IsHeld}
 use Rattle.trio_layout.specs.Image.{Image, IsFit}
 use Rattle.trio_layout.specs.Verifies.{Verifies}
@@ -61,6 +61,7 @@ use Rattle.trio_report.specs.declared.report.EndAnswer.TheVariants.{Settled as E
 use Rattle.trio_runner.proofs.OneCall.{MayEnd, OneEnd as OneCalled, one_call, one_settle}
 use Rattle.trio_runner.proofs.OneDir.{one_dir}
 use Rattle.trio_runner.proofs.OneFile.{one_file}
+use Rattle.trio_runner.proofs.OneMode.{one_chmod}
 use Rattle.trio_runner.proofs.SameNodes.{HasOut, StandsTrue, may_has, moves_true}
 use Rattle.trio_runner.proofs.Moves.{Stands, moves_parted, moves_stand, no_move, one_move}
 use Rattle.trio_runner.proofs.Held.{held_after, held_stands, noted_of}
@@ -313,20 +314,21 @@ may_end lib (Replied answer) told d x is may = may
 may_end lib (BusyCall holder) told d x is may = tt
 may_end lib NoMemory told d x is may = absurd (cc is)
 
--- a call that changes no mode is one on a directory or on a file
-keeps_call : (lib : LibNo) (k : call.Call) (end : Outcome) (d d' : Noted) (x x' : SessionSeen) → KeepsModes k → SessionCalled (Notes lib) (sees lib) d x k end d' x'
-    → MatchBool (is_dir_call k) (DirCalled (Notes lib) (sees lib) d x k end d' x') (FileCalled (Notes lib) (sees lib) d x k end d' x')
-keeps_call lib (calls.Chmod path mode) end d d' x x' keeps c = absurd keeps
-keeps_call lib (calls.Mkdir path mode) end d d' x x' keeps c = c
-keeps_call lib (calls.Create path mode) end d d' x x' keeps c = c
-keeps_call lib (calls.Write path at bytes) end d d' x x' keeps c = c
-keeps_call lib (calls.Read path at len) end d d' x x' keeps c = c
-keeps_call lib (calls.Truncate path size) end d d' x x' keeps c = c
-keeps_call lib (calls.Unlink path) end d d' x x' keeps c = c
-keeps_call lib (calls.Rmdir path) end d d' x x' keeps c = c
-keeps_call lib (calls.Rename from to) end d d' x x' keeps c = c
-keeps_call lib (calls.List path from) end d d' x x' keeps c = c
-keeps_call lib (calls.Stat path) end d d' x x' keeps c = c
+-- two calls on a directory, or on a file, come to the same
+one_leased : (lib : LibNo) (k : call.Call) (d e d' e' : Noted) (x y x' y' : SessionSeen) (end end' : Outcome) → StandsTrue d.state → StandsTrue e.state → known d.state ≡ known e.state → IsAlike x y → HasOut (out_of d.state lib) x → HasOut (out_of e.state lib) y → MayEnd lib end d' x' → MayEnd lib end' e' y'
+    → (c : Bool) → MatchBool c (DirCalled (Notes lib) (sees lib) d x k end d' x') (FileCalled (Notes lib) (sees lib) d x k end d' x') → MatchBool c (DirCalled (Notes lib) (sees lib) e y k end' e' y') (FileCalled (Notes lib) (sees lib) e y k end' e' y') → OneCalled end end' d' e' x' y'
+one_leased lib k d e d' e' x y x' y' end end' hd he same like has has' may may' true a b =
+    one_call lib (DirTried (Notes lib) (sees lib) k) (one_dir lib k) d e d' e' x y x' y' end end' hd he same like has has' may may' a b
+one_leased lib k d e d' e' x y x' y' end end' hd he same like has has' may may' false a b =
+    one_call lib (FileTried (Notes lib) (sees lib) k) (one_file lib k) d e d' e' x y x' y' end end' hd he same like has has' may may' a b
+
+-- and so do two calls of a session
+one_called : (lib : LibNo) (k : call.Call) (d e d' e' : Noted) (x y x' y' : SessionSeen) (end end' : Outcome) → StandsTrue d.state → StandsTrue e.state → known d.state ≡ known e.state → IsAlike x y → HasOut (out_of d.state lib) x → HasOut (out_of e.state lib) y → MayEnd lib end d' x' → MayEnd lib end' e' y'
+    → SessionCalled (Notes lib) (sees lib) d x k end d' x' → SessionCalled (Notes lib) (sees lib) e y k end' e' y' → OneCalled end end' d' e' x' y'
+one_called lib (calls.Chmod path mode) d e d' e' x y x' y' end end' hd he same like has has' may may' a b =
+    one_chmod lib path mode d e d' e' x y x' y' end end' hd he same like may may' a b
+one_called lib k d e d' e' x y x' y' end end' hd he same like has has' may may' a b =
+    one_leased lib k d e d' e' x y x' y' end end' hd he same like has has' may may' (is_dir_call k) a b
 
 record OneHonest (s' t' : State) (x' y' : SessionSeen) (told told' : LineAnswer) : Type 0 where
   told_same : told ≡ told'
@@ -334,34 +336,20 @@ record OneHonest (s' t' : State) (x' y' : SessionSeen) (told told' : LineAnswer)
   known_same : known s' ≡ known t'
 
 -- two lines of an honest library come to the same
-one_honest : (lib : LibNo) (line : HonestLine) (s t : State) (x y : SessionSeen) (d' e' : Noted) (x' y' : SessionSeen) (told told' : LineAnswer) → LineKeeps line → StandsTrue s → StandsTrue t → known s ≡ known t → IsAlike x y → HasOut (out_of s lib) x → HasOut (out_of t lib) y → HonestComes (Notes lib) (sees lib) (unnoted s) x line told d' x' → HonestComes (Notes lib) (sees lib) (unnoted t) y line told' e' y' → OneHonest d'.state e'.state x' y' told told'
-one_honest lib (CallLine k) s t x y d' e' x' y' told told' still hs ht same like has has' a b =
-    let o = by (is_dir_call k) (keeps_call lib k a.end (unnoted s) d' x x' still a.made) (keeps_call lib k b.end (unnoted t) e' y y' still b.made) in
+one_honest : (lib : LibNo) (line : HonestLine) (s t : State) (x y : SessionSeen) (d' e' : Noted) (x' y' : SessionSeen) (told told' : LineAnswer) → StandsTrue s → StandsTrue t → known s ≡ known t → IsAlike x y → HasOut (out_of s lib) x → HasOut (out_of t lib) y → HonestComes (Notes lib) (sees lib) (unnoted s) x line told d' x' → HonestComes (Notes lib) (sees lib) (unnoted t) y line told' e' y' → OneHonest d'.state e'.state x' y' told told'
+one_honest lib (CallLine k) s t x y d' e' x' y' told told' hs ht same like has has' a b =
+    let may : MayEnd lib a.end d' x' = may_end lib a.end told d' x' a.told_is a.may in
+    let may' : MayEnd lib b.end e' y' = may_end lib b.end told' e' y' b.told_is b.may in
+    let o = one_called lib k (unnoted s) (unnoted t) d' e' x y x' y' a.end b.end hs ht same like has has' may may' a.made b.made in
     let tolds : Some told ≡ Some told' = sym a.told_is ∙ ap told_outcome o.end_same ∙ b.told_is in
     record { told_same = cc tolds; alike = o.alike; known_same = o.known_same }
-  where
-    may : MayEnd lib a.end d' x'
-    may = may_end lib a.end told d' x' a.told_is a.may
-
-    may' : MayEnd lib b.end e' y'
-    may' = may_end lib b.end told' e' y' b.told_is b.may
-
-    Dir : Noted → SessionSeen → Outcome → Noted → SessionSeen → Type 0
-    Dir d z end d1 z1 = DirCalled (Notes lib) (sees lib) d z k end d1 z1
-
-    File : Noted → SessionSeen → Outcome → Noted → SessionSeen → Type 0
-    File d z end d1 z1 = FileCalled (Notes lib) (sees lib) d z k end d1 z1
-
-    by : (c : Bool) → MatchBool c (Dir (unnoted s) x a.end d' x') (File (unnoted s) x a.end d' x') → MatchBool c (Dir (unnoted t) y b.end e' y') (File (unnoted t) y b.end e' y') → OneCalled a.end b.end d' e' x' y'
-    by true p q = one_call lib (DirTried (Notes lib) (sees lib) k) (one_dir lib k) (unnoted s) (unnoted t) d' e' x y x' y' a.end b.end hs ht same like has has' may may' p q
-    by false p q = one_call lib (FileTried (Notes lib) (sees lib) k) (one_file lib k) (unnoted s) (unnoted t) d' e' x y x' y' a.end b.end hs ht same like has has' may may' p q
-one_honest lib SettleLine s t x y d' e' x' y' told told' still hs ht same like has has' a b =
+one_honest lib SettleLine s t x y d' e' x' y' told told' hs ht same like has has' a b =
     let o = one_settle lib (unnoted s) (unnoted t) d' e' x y x' y' hs ht same like a.0 b.0 in
     let counts : length x.calls ≡ length y.calls = sym (ap (λ (q : SessionSeen). length q.calls) like) in
     record { told_same = a.1 ∙ ap (λ n. answered.Settled n) counts ∙ sym b.1; alike = o.alike; known_same = o.known_same }
 
-one_turn : (lib : LibNo) (turn : Turn) (s t : State) (share share2 : Share) (told : Heard) (d' e' : Noted) (share' share'' : Share) (told' told'' : Heard) → TurnKeeps turn → StandsTrue s → StandsTrue t → known s ≡ known t → ShareAlike share share2 → ShareOut s lib share → ShareOut t lib share2 → TurnComes lib turn (unnoted s) share told d' share' told' → TurnComes lib turn (unnoted t) share2 told e' share'' told'' → AreMoves lib s d'.calls d'.moves d'.state → AreMoves lib t e'.calls e'.moves e'.state → OneTurn d'.state e'.state share' share'' told' told''
-one_turn lib (Says line) s t (Things has) (Things has2) told d' e' (Things has') (Things has'') told' told'' still hs ht same alike out out' a b am bm =
+one_turn : (lib : LibNo) (turn : Turn) (s t : State) (share share2 : Share) (told : Heard) (d' e' : Noted) (share' share'' : Share) (told' told'' : Heard) → StandsTrue s → StandsTrue t → known s ≡ known t → ShareAlike share share2 → ShareOut s lib share → ShareOut t lib share2 → TurnComes lib turn (unnoted s) share told d' share' told' → TurnComes lib turn (unnoted t) share2 told e' share'' told'' → AreMoves lib s d'.calls d'.moves d'.state → AreMoves lib t e'.calls e'.moves e'.state → OneTurn d'.state e'.state share' share'' told' told''
+one_turn lib (Says line) s t (Things has) (Things has2) told d' e' (Things has') (Things has'') told' told'' hs ht same alike out out' a b am bm =
     let b1 = subst (λ (h : Has). LineComes lib h line.line e'.calls b.0 has'') (sym alike) b.1 in
     let r = one_line lib line.line s t has d'.calls e'.calls d'.moves e'.moves a.0 b.0 d'.state e'.state has' has'' hs.stands.kept ht.stands.kept same a.1 b1 am bm in
     record {
@@ -369,14 +357,14 @@ one_turn lib (Says line) s t (Things has) (Things has2) told d' e' (Things has')
       shares_alike = r.has_same;
       known_same = r.known_same;
     }
-one_turn lib (SaysHonest line) s t (InSession x) (InSession y) told d' e' (InSession x') (InSession y') told' told'' still hs ht same alike out out' a b am bm =
-    let r = one_honest lib line.line s t x y d' e' x' y' a.0 b.0 still hs ht same alike out out' a.1 b.1 in
+one_turn lib (SaysHonest line) s t (InSession x) (InSession y) told d' e' (InSession x') (InSession y') told' told'' hs ht same alike out out' a b am bm =
+    let r = one_honest lib line.line s t x y d' e' x' y' a.0 b.0 hs ht same alike out out' a.1 b.1 in
     record {
       told_same = a.2 ∙ ap (with_answer told) r.told_same ∙ sym b.2;
       shares_alike = r.alike;
       known_same = r.known_same;
     }
-one_turn lib Ends s t (Things has) (Things has2) told d' e' (Things has') (Things has'') told' told'' still hs ht same alike out out' a b am bm =
+one_turn lib Ends s t (Things has) (Things has2) told d' e' (Things has') (Things has'') told' told'' hs ht same alike out out' a b am bm =
     let b1 = subst (λ (h : Has). EndComes h e'.calls b.0) (sym alike) b.1 in
     let r = one_end lib s t has d'.calls e'.calls d'.moves e'.moves a.0 b.0 d'.state e'.state hs.stands ht.stands same a.1 b1 am bm in
     record {
@@ -384,7 +372,7 @@ one_turn lib Ends s t (Things has) (Things has2) told d' e' (Things has') (Thing
       shares_alike = a.2 ∙ sym b.2;
       known_same = r.known_same;
     }
-one_turn lib Ends s t (InSession x) (InSession y) told d' e' (InSession x') (InSession y') told' told'' still hs ht same alike out out' a b am bm =
+one_turn lib Ends s t (InSession x) (InSession y) told d' e' (InSession x') (InSession y') told' told'' hs ht same alike out out' a b am bm =
     let r = one_settle lib (unnoted s) (unnoted t) d' e' x y x' y' hs ht same alike a.0 b.0 in
     let counts : length x.calls ≡ length y.calls = sym (ap (λ (q : SessionSeen). length q.calls) alike) in
     record {
@@ -392,13 +380,13 @@ one_turn lib Ends s t (InSession x) (InSession y) told d' e' (InSession x') (InS
       shares_alike = r.alike;
       known_same = r.known_same;
     }
-one_turn lib turn s t (Things has) (InSession y) told d' e' share' share'' told' told'' still hs ht same alike out out' a b am bm = absurd alike
-one_turn lib turn s t (InSession x) (Things has) told d' e' share' share'' told' told'' still hs ht same alike out out' a b am bm = absurd alike
-one_turn lib (Says line) s t (Things has) (Things has2) told d' e' (Things has') (InSession y) told' told'' still hs ht same alike out out' a b am bm = absurd b
-one_turn lib Ends s t (Things has) (Things has2) told d' e' (Things has') (InSession y) told' told'' still hs ht same alike out out' a b am bm = absurd b
-one_turn lib (SaysHonest line) s t (InSession x) (InSession y) told d' e' (InSession x') (Things has) told' told'' still hs ht same alike out out' a b am bm = absurd b
-one_turn lib Ends s t (InSession x) (InSession y) told d' e' (InSession x') (Things has) told' told'' still hs ht same alike out out' a b am bm = absurd b
-one_turn lib turn s t share share2 told d' e' share' share'' told' told'' still hs ht same alike out out' a b am bm = absurd a
+one_turn lib turn s t (Things has) (InSession y) told d' e' share' share'' told' told'' hs ht same alike out out' a b am bm = absurd alike
+one_turn lib turn s t (InSession x) (Things has) told d' e' share' share'' told' told'' hs ht same alike out out' a b am bm = absurd alike
+one_turn lib (Says line) s t (Things has) (Things has2) told d' e' (Things has') (InSession y) told' told'' hs ht same alike out out' a b am bm = absurd b
+one_turn lib Ends s t (Things has) (Things has2) told d' e' (Things has') (InSession y) told' told'' hs ht same alike out out' a b am bm = absurd b
+one_turn lib (SaysHonest line) s t (InSession x) (InSession y) told d' e' (InSession x') (Things has) told' told'' hs ht same alike out out' a b am bm = absurd b
+one_turn lib Ends s t (InSession x) (InSession y) told d' e' (InSession x') (Things has) told' told'' hs ht same alike out out' a b am bm = absurd b
+one_turn lib turn s t share share2 told d' e' share' share'' told' told'' hs ht same alike out out' a b am bm = absurd a
 
 -- libraries that have the same, one by one
 abbrev AllAlike : List Share → List Share → Type 0
@@ -433,19 +421,17 @@ record AlikePlayers (p q : Players) : Type 0 where
   shares_alike : AllAlike p.shares q.shares
   told_same : p.told ≡ q.told
 
--- players who may go on: what leases show is true, and each of these turns is one of their libraries, and changes no mode
+-- players who may go on: what leases show is true, and each of these turns is one of their libraries'
 record GoOn (p : Players) (turns : List Placed) : Type 0 where
   true : StandsTrue p.state
   held : IsHeld p
   libraries : Libraries p.state turns
-  still : (t : Placed) → In t turns → TurnKeeps t.turn
 
 goes_on : (p : Players) (u : Placed) (turns : List Placed) (moves : List Move) (p' : Players) → GoOn p (u ∷ turns) → TakesTurn p u moves p' → GoOn p' turns
 goes_on p u turns moves p' h a = record {
   true = moves_true u.lib p.state a.calls moves p'.state (turn_plain p u moves p' a) h.true a.happen;
   held = held_after p u moves p' h.held (h.libraries u (inl refl)) a;
   libraries = libraries_later p u turns moves p' h.libraries a;
-  still = λ t i. h.still t (inr i);
 }
 
 one_play : (turns : List Placed) (p q : Players) (moves moves' : List Move) (p' q' : Players) → GoOn p turns → GoOn q turns → AlikePlayers p q → Plays p turns moves p' → Plays q turns moves' q' → AlikePlayers p' q'
@@ -459,7 +445,7 @@ one_play (u ∷ turns) p q moves moves' p' q' hp hq like one two =
     let comes : TurnComes u.lib u.turn (unnoted q.state) (share_of q u.lib) (told_to p u.lib) (noted_of two.middle b.calls two.first) b.share' b.told' =
     subst (λ x. TurnComes u.lib u.turn (unnoted q.state) (share_of q u.lib) x (noted_of two.middle b.calls two.first) b.share' b.told') told b.comes in
     let r = one_turn u.lib u.turn p.state q.state (share_of p u.lib) (share_of q u.lib) (told_to p u.lib) (noted_of one.middle a.calls one.first) (noted_of two.middle b.calls two.first)
-    a.share' b.share' a.told' b.told' (hp.still u (inl refl)) hp.true hq.true like.known_same (alike_at p.shares q.shares i like.shares_alike)
+    a.share' b.share' a.told' b.told' hp.true hq.true like.known_same (alike_at p.shares q.shares i like.shares_alike)
     (share_out p.state u.lib (share_of p u.lib) (hp.held.all u.lib (hp.libraries u (inl refl)))) (share_out q.state u.lib (share_of q u.lib) (hq.held.all u.lib (hq.libraries u (inl refl))))
     a.comes comes a.happen b.happen in
     let middle : AlikePlayers one.middle two.middle = record {
@@ -475,8 +461,8 @@ begun_alike lib creds (HonestLines lines) a b x y =
     subst (λ (s : Share). ShareAlike s b) (sym x.1) (subst (ShareAlike (InSession (new_session lib creds x.0))) (sym y.1) refl)
 
 -- at first nothing is lent
-begun_on : (image : Image) (libs : List ScriptLib) (p : Players) → AtStart image libs p → ((t : Placed) → In t (turns_of libs) → TurnKeeps t.turn) → IsFit image.core → Verifies image → IsWhole image → GoOn p (turns_of libs)
-begun_on image libs p begins still fit verifies whole =
+begun_on : (image : Image) (libs : List ScriptLib) (p : Players) → AtStart image libs p → IsFit image.core → Verifies image → IsWhole image → GoOn p (turns_of libs)
+begun_on image libs p begins fit verifies whole =
     let h : IsHeld p = start_held image libs p begins fit verifies whole in
     record {
       true = record {
@@ -485,11 +471,10 @@ begun_on image libs p begins still fit verifies whole =
       };
       held = h;
       libraries = subst (λ (s : State). Libraries s (turns_of libs)) (sym begins.state) (script_libraries image libs);
-      still = still;
     }
 
 pub played_is_one : PlayedIsOne
-played_is_one image libs a b still fit verifies whole =
+played_is_one image libs a b fit verifies whole =
     let p : Players = a.first in
     let q : Players = b.first in
     let same : p.state ≡ q.state = a.begins.state ∙ sym b.begins.state in
@@ -503,6 +488,6 @@ played_is_one image libs a b still fit verifies whole =
     let is : IsLibraryOf libs lib w.0 = (omega arith, ap (slice_get libs) at ∙ w.1) in
     subst (λ k. ShareAlike (get_or p.shares k (Things nothing)) (get_or q.shares k (Things nothing))) at
     (begun_alike lib w.0.creds w.0.lines (share_of p lib) (share_of q lib) (a.begins.begins lib w.0 is) (b.begins.begins lib w.0 is)))) in
-    let r = one_play (turns_of libs) p q a.moves b.moves a.last b.last (begun_on image libs p a.begins still fit verifies whole) (begun_on image libs q b.begins still fit verifies whole)
+    let r = one_play (turns_of libs) p q a.moves b.moves a.last b.last (begun_on image libs p a.begins fit verifies whole) (begun_on image libs q b.begins fit verifies whole)
     (record { known_same = ap known same; shares_alike = shares; told_same = a.begins.told ∙ sym b.begins.told }) a.plays b.plays in
     record { tolds = r.told_same; settles = ap (λ (k : Known). k.image) r.known_same }

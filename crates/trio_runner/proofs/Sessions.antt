@@ -200,7 +200,7 @@ backs_plain back ask told p c i =
 pub settle_plain : (parcel : Parcel) (back : List Shown) (calls : List done.Done) → ArePlain (apart (Settle parcel back calls) Settled)
 settle_plain parcel back calls = backs_plain back (Settle parcel [] calls) Settled refl
 
-asked_plain : (s : State) (lib : LibNo) (ask : Ask) (told : Told) (s' : State) → IsAsked ask told → Happens s lib ask told s' → ArePlain (apart ask told)
+pub asked_plain : (s : State) (lib : LibNo) (ask : Ask) (told : Told) (s' : State) → IsAsked ask told → Happens s lib ask told s' → ArePlain (apart ask told)
 asked_plain s lib (Settle parcel back calls) Settled s' is h = settle_plain parcel back calls
 asked_plain s lib (SetMode ino mode back k) ModeSet s' is h = backs_plain back (SetMode ino mode [] k) ModeSet refl
 asked_plain s lib (SetMode ino mode back k) (NotModeSet (BusyMode holder)) s' is h = λ c i. absurd i

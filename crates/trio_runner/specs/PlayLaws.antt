@@ -1,19 +1,20 @@
--- The laws of scripts: what they come to is a run of the controller, at whose end nothing is out, and, where no honest library changes a
--- mode, it is determined; the log is the entries of that run, which the answers print.
-use Rattle.std.specs.Prelude.{◌≡◌, ⊤, List, [], ◌∷◌, ◌++◌}
+-- The laws of scripts: what they come to is a run of the controller, at whose end nothing is out, and it is determined; the log is the
+-- entries of that run, which the answers print.
+use Rattle.std.specs.Prelude.{◌≡◌, ◌≢◌, List, [], ◌∷◌, ◌++◌}
 use Rattle.trio_tables.specs.Out.{NoneOut}
 use Rattle.trio_rights.specs.declared.rights.LibNo.{LibNo}
 use Rattle.trio_layout.specs.Image.{Image, IsFit}
 use Rattle.trio_layout.specs.Verifies.{Verifies}
 use Rattle.trio_state.specs.State.{State, settled}
 use Rattle.trio_state.specs.Run.{start, IsWhole, Trace, Move}
+use Rattle.trio_script.specs.declared.Lines.TheVariants.{Honest}
 use Rattle.trio_script.specs.declared.ScriptLib.{ScriptLib}
+use Rattle.trio_script.specs.declared.ScriptLine.{ScriptLine}
 use Rattle.trio_lists.specs.Lists.{In}
-use Rattle.trio_nodes.specs.declared.call.Call.{Call}
-use Rattle.trio_nodes.specs.declared.call.Call.TheVariants.{Chmod}
 use Rattle.trio_script.specs.declared.honest.HonestLine.{HonestLine}
-use Rattle.trio_script.specs.declared.honest.HonestLine.TheVariants.{Call as CallLine, Settle as SettleLine}
-use Rattle.trio_runner.specs.Rounds.{Placed, Turn, SaysHonest, turns_of}
+use Rattle.trio_report.specs.declared.answer.LineAnswer.{LineAnswer}
+use Rattle.trio_report.specs.declared.answer.LineAnswer.TheVariants.{Busy}
+use Rattle.trio_runner.specs.Rounds.{Placed}
 use Rattle.trio_runner.specs.Play.{IsLibraryOf, Players, TakesTurn, Plays, Played, creds_in, told_to}
 use Rattle.trio_runner.specs.Logged.{AreEntries, Prints, entries_by}
 
@@ -44,27 +45,10 @@ pub record ComeToOne {image : Image} {libs : List ScriptLib} (a b : Played image
   pub tolds : a.last.told ≡ b.last.told
   pub settles : settled a.last.state ≡ settled b.last.state
 
--- a call that changes no mode
-abbrev pub KeepsModes : Call → Type 0
-KeepsModes (Chmod path mode) = ⊥
-KeepsModes call = ⊤
-
--- so of a line; a settle does too
-abbrev pub LineKeeps : HonestLine → Type 0
-LineKeeps (CallLine call) = KeepsModes call
-LineKeeps SettleLine = ⊤
-
--- and of a turn; whatever a raw library says does, and each end
-abbrev pub TurnKeeps : Turn → Type 0
-TurnKeeps (SaysHonest line) = LineKeeps line.line
-TurnKeeps turn = ⊤
-
--- Of scripts in which no honest library changes a mode: what such a script is told, and the image at its end, are determined by the image
--- at its beginning and the script.
+-- What a script is told, and the image at its end, are determined by the image at its beginning and the script.
 abbrev pub PlayedIsOne : Type 0
 PlayedIsOne =
-    (image : Image) (libs : List ScriptLib) (a b : Played image libs) → ((t : Placed) → In t (turns_of libs) → TurnKeeps t.turn)
-    → IsFit image.core → Verifies image → IsWhole image → ComeToOne a b
+    (image : Image) (libs : List ScriptLib) (a b : Played image libs) → IsFit image.core → Verifies image → IsWhole image → ComeToOne a b
 
 -- the log of a script is the entries of its moves, in their order
 abbrev pub PlayedIsLogged : Type 0
@@ -75,3 +59,9 @@ abbrev pub PlayedIsPrinted : Type 0
 PlayedIsPrinted =
     (image : Image) (libs : List ScriptLib) (played : Played image libs) (lib : LibNo) (l : ScriptLib) → IsLibraryOf libs lib l
     → Prints l.lines (told_to played.last lib) (entries_by lib played.last.log)
+
+-- In a script of one library, which is honest, no line is answered busy.
+abbrev pub PlayedAlone : Type 0
+PlayedAlone =
+    (image : Image) (l : ScriptLib) (lines : List (ScriptLine HonestLine)) → l.lines ≡ Honest lines
+    → (played : Played image (l ∷ [])) (answer : LineAnswer) → In answer (told_to played.last (record { 0 = 1 })).answers → answer ≢ Busy

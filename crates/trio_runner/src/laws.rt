@@ -1,6 +1,6 @@
 //! The laws: the body of each function is empty, and its contract is the law.
 
-ghost use Rattle.trio_runner.specs.PlayLaws.{PlayedEndsFree, PlayedIsLogged, PlayedIsOne, PlayedIsPrinted, PlayedIsTrace, PlaysMore};
+ghost use Rattle.trio_runner.specs.PlayLaws.{PlayedAlone, PlayedEndsFree, PlayedIsLogged, PlayedIsOne, PlayedIsPrinted, PlayedIsTrace, PlaysMore};
 
 /// What turns come to, and one turn more, is what all of them come to.
 pub fn plays_more()
@@ -18,10 +18,16 @@ pub fn ends_free()
     ensures law { PlayedEndsFree }
 {}
 
-/// Of scripts in which no honest library changes a mode: what the libraries are told, and the image that
-/// is settled at the end, are determined by the image at the beginning and the script.
+/// What the libraries are told, and the image that is settled at the end, are determined by the image at
+/// the beginning and the script.
 pub fn played_is_one()
     ensures law { PlayedIsOne }
+{}
+
+/// An honest library that is alone is never answered busy: in a script of one library, which is
+/// honest, no line is.
+pub fn played_alone()
+    ensures law { PlayedAlone }
 {}
 
 /// The log at a script's end is the entries of all that the script asked, in its order; and what each
