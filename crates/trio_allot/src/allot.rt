@@ -1,6 +1,6 @@
 //! What is out by allotment.
 
-ghost use Rattle.std.specs.Prelude.{◌≡◌, ◌+◌, ◌<◌, ◌≤◌, ◌∷◌, [], IfErr, IfOk, IfSome, IsSome, IsTrue, MatchOption, None, OnErr, OnOk, Some, All, length, map, slice_index_or, slice_set, take};
+ghost use Rattle.std.specs.Prelude.{◌≡◌, ◌+◌, ◌<◌, ◌≤◌, ◌↔◌, ◌∷◌, [], IfErr, IfOk, IfSome, IsSome, IsTrue, MatchOption, None, OnErr, OnOk, Some, All, length, map, slice_index_or, slice_set, take};
 ghost use Rattle.trio_page.specs.Home.{raised};
 ghost use Rattle.trio_tables.specs.Free.{free_numbers, free_pages, is_free_number, is_free_page, numbers_where};
 ghost use Rattle.trio_allot.specs.Free.{FreeAreHome, RefusesBoth, RefusesInodes, RefusesPages};
@@ -139,9 +139,11 @@ impl Allotments {
         ensures sizes { length self.new.pages ≡ length owners.now }
         ensures there { FreeAreHome owners.now self.new.pages home.new.pages }
     {
-        let free = self.free_pages(owners);
-        if n > free {
-            return Err(AllotFault::NoPages { wanted: n, free });
+        if !self.has_pages(owners, n) {
+            return Err(AllotFault::NoPages {
+                wanted: n,
+                free: self.free_pages(owners),
+            });
         }
         let Ok(mut given) = Vec::with_capacity(self.alloc, n as usize) else {
             return Err(AllotFault::NoMemory);
@@ -187,9 +189,11 @@ impl Allotments {
         // so that the next call may be made
         ensures sizes { length self.new.numbers ≡ length rows.now }
     {
-        let free = self.free_inodes(rows);
-        if n > free {
-            return Err(AllotFault::NoInodes { wanted: n, free });
+        if !self.has_inodes(rows, n) {
+            return Err(AllotFault::NoInodes {
+                wanted: n,
+                free: self.free_inodes(rows),
+            });
         }
         let Ok(mut given) = Vec::with_capacity(self.alloc, n as usize) else {
             return Err(AllotFault::NoMemory);
@@ -251,18 +255,16 @@ impl Allotments {
         ensures kept { OnErr result
             ((self.new ≡ self.old) × (home.new ≡ home.old) × (reads.new ≡ reads.old)) }
     {
-        let pages_free = self.free_pages(owners);
-        if pages_free < pages {
+        if !self.has_pages(owners, pages) {
             return Err(AllotFault::NoPages {
                 wanted: pages,
-                free: pages_free,
+                free: self.free_pages(owners),
             });
         }
-        let inodes_free = self.free_inodes(rows);
-        if inodes_free < inodes {
+        if !self.has_inodes(rows, inodes) {
             return Err(AllotFault::NoInodes {
                 wanted: inodes,
-                free: inodes_free,
+                free: self.free_inodes(rows),
             });
         }
         self.take_enough(home, owners, rows, lib, pages, inodes, reads)
@@ -348,6 +350,34 @@ impl Allotments {
         ensures { result ≡ is_free_number rows.now self.now.numbers ino }
     {
         rows.row(ino).is_none() && self.number_lib(ino).is_none()
+    }
+
+    // whether so many pages are free; no page behind the last of them is looked at
+    fn has_pages(&self, owners: &Owners, n: u32) -> bool
+        ensures { IsTrue result ↔ (n ≤ length (free_pages owners.now self.now.pages)) }
+    {
+        let mut from = 0;
+        for _i in 0..n {
+            match self.next_free_page(owners, from) {
+                Some(no) => from = no + 1,
+                None => return false,
+            }
+        }
+        true
+    }
+
+    // whether so many inode numbers are free; no number behind the last of them is looked at
+    fn has_inodes(&self, rows: &Shadow, n: u32) -> bool
+        ensures { IsTrue result ↔ (n ≤ length (free_numbers rows.now self.now.numbers)) }
+    {
+        let mut from = 1;
+        for _i in 0..n {
+            match self.next_free_number(rows, from) {
+                Some(ino) => from = ino + 1,
+                None => return false,
+            }
+        }
+        true
     }
 
     // the lowest free page from a number on

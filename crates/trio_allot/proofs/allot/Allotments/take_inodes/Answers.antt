@@ -13,7 +13,7 @@ unreachable-requires c =
     let rows = c.args.rows.now in let inv = c.loop-i.invariant in
     let free = free_numbers rows c.args.self.now.numbers in
     let same : (n : ℕ) → c.loop-i.from ≤ n → n < length rows → is_free_number rows c.loop-i.self.numbers n ≡ is_free_number rows c.args.self.now.numbers n = λ n le lt. ap (λ o. not (is_some (row_in rows n)) && not (is_some o)) (inv.out_later n le) in
-    let below : c.loop-i._i < length free = omega (arith, c.loop-i-test.true, c.if-n-free.false, c.free_inodes-free.ensures) in
+    let below : c.loop-i._i < length free = omega (arith, c.loop-i-test.true, c.has_inodes.ensures.0 c.if-not-has_inodes.false) in
     not_empty free c.loop-i._i below
     (sym inv.left ∙ sym (where_same (is_free_number rows c.loop-i.self.numbers) (is_free_number rows c.args.self.now.numbers) c.loop-i.from (length rows) same)
     ∙ c.in_default-next_free_number.ensures.next)

@@ -13,7 +13,7 @@ unreachable-requires c =
     let owners = c.args.owners.now in let inv = c.loop-i.invariant in
     let free = free_pages owners c.args.self.now.pages in
     let same : (n : ℕ) → c.loop-i.from ≤ n → n < length owners → is_free_page owners c.loop-i.self.pages n ≡ is_free_page owners c.args.self.now.pages n = λ n le lt. ap (λ o. (slice_index owners n == 0) && not (is_some o)) (inv.out_later n le) in
-    let below : c.loop-i._i < length free = omega (arith, c.loop-i-test.true, c.if-n-free.false, c.free_pages-free.ensures) in
+    let below : c.loop-i._i < length free = omega (arith, c.loop-i-test.true, c.has_pages.ensures.0 c.if-not-has_pages.false) in
     not_empty free c.loop-i._i below
     (sym inv.left ∙ sym (where_same (is_free_page owners c.loop-i.self.pages) (is_free_page owners c.args.self.now.pages) c.loop-i.from (length owners) same)
     ∙ c.in_default-next_free_page.ensures.next)
