@@ -62,26 +62,31 @@ piece_of-page pages size k o n w lt le fits =
     length-get (p ∷ ps) zero w lt = w p (inl refl)
     length-get (p ∷ ps) (suc k) w lt = length-get ps k (λ q i. w q (inr i)) (omega arith)
 
--- the bytes so far, and one piece more
-pub piece_more : (pages : List (List ℕ)) (size start from n : ℕ) (out page : List ℕ) → AreWhole pages → size ≤ 4096 * length pages
-    → start ≤ from → from + n ≤ size → 0 < n → from % 4096 + n ≤ 4096 → page ≡ get_or pages (from / 4096) []
-    → out ≡ take (from - start) (drop start (take size (joined pages)))
-    → out ++ slice_range page (from % 4096) (from % 4096 + n) ≡ take ((from + n) - start) (drop start (take size (joined pages)))
-piece_more pages size start from n out page w long le fits some inside is so =
-    let all : List ℕ = take size (joined pages) in
+-- what stands in one page, by the page itself
+pub piece_in-page : (pages : List (List ℕ)) (size from n : ℕ) (page : List ℕ) → AreWhole pages → size ≤ 4096 * length pages
+    → from + n ≤ size → 0 < n → from % 4096 + n ≤ 4096 → page ≡ get_or pages (from / 4096) []
+    → slice_range page (from % 4096) (from % 4096 + n) ≡ take n (drop from (take size (joined pages)))
+piece_in-page pages size from n page w long fits some inside is =
     let k : ℕ = from / 4096 in
     let o : ℕ = from % 4096 in
     let at : 4096 * k + o ≡ from = omega arith in
     let lt : k < length pages = omega (arith, long, fits, some) in
     let piece = piece_of-page pages size k o n w lt inside (omega (arith, at, fits)) in
+    let width : (o + n) - o ≡ n = omega arith in
+    ap (λ q. take q (drop o page)) width
+    ∙ ap (λ q. take n (drop o q)) is
+    ∙ sym piece
+    ∙ ap (λ q. take n (drop q (take size (joined pages)))) at
+
+-- the bytes so far, and one piece more
+pub piece_more : (all : List ℕ) (start from n : ℕ) (out piece : List ℕ) → start ≤ from → piece ≡ take n (drop from all)
+    → out ≡ take (from - start) (drop start all) → out ++ piece ≡ take ((from + n) - start) (drop start all)
+piece_more all start from n out piece le is so =
     let m : ℕ = from - start in
     let len : (from + n) - start ≡ m + n = omega arith in
     let here : start + m ≡ from = omega arith in
-    let width : (o + n) - o ≡ n = omega arith in
-    ap (λ q. q ++ take ((o + n) - o) (drop o page)) so
-    ∙ ap (λ q. take m (drop start all) ++ take q (drop o page)) width
-    ∙ ap (λ q. take m (drop start all) ++ take n (drop o q)) is
-    ∙ ap (λ q. take m (drop start all) ++ q) (sym piece ∙ ap (λ q. take n (drop q all)) (at ∙ sym here) ∙ ap (take n) (sym (drop-drop m start all)))
+    ap (λ q. q ++ piece) so
+    ∙ ap (λ q. take m (drop start all) ++ q) (is ∙ ap (λ q. take n (drop q all)) (sym here) ∙ ap (take n) (sym (drop-drop m start all)))
     ∙ sym (take-add m n (drop start all))
     ∙ ap (λ q. take q (drop start all)) (sym len)
 

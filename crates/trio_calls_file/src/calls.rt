@@ -10,7 +10,7 @@ use crate::files::Stop;
 use crate::replies::reply_to;
 use std::alloc::Global;
 use trio_desk::Desk;
-use trio_nodes::{Answer, Bytes, Call, Done, Holder, Reply};
+use trio_nodes::{Answer, Call, Done, Holder, Reply};
 use trio_page::NoMemory;
 use trio_session::Session;
 use trio_walk::Outcome;
@@ -74,7 +74,7 @@ fn attempt<D: Desk>(alloc: Global, session: &mut Session, desk: &mut D, call: Ca
     match reply_to(alloc, session, desk, &call) {
         Err(Stop::Busy(holder)) => TryEnd::Busy(call, holder),
         Err(Stop::NoMemory) => TryEnd::NoMemory,
-        Ok(reply) => match twin(alloc, &reply) {
+        Ok(reply) => match twin(&reply) {
             Err(NoMemory) => TryEnd::NoMemory,
             Ok(noted) => {
                 session.note(Done {
@@ -88,14 +88,14 @@ fn attempt<D: Desk>(alloc: Global, session: &mut Session, desk: &mut D, call: Ca
     }
 }
 
-// the same reply once more; only the bytes of a read take memory
-fn twin(alloc: Global, reply: &Reply) -> Result<Reply, NoMemory>
+// the same reply once more; bytes of a read are shared, and only they can be more than can be counted
+fn twin(reply: &Reply) -> Result<Reply, NoMemory>
     requires { IsPlain reply.now }
     ensures same { IfOk result (λ r. r ≡ reply.now) }
     ensures only { IfErr result (λ fault. IsBytes reply.now) }
 {
     Ok(match reply {
-        Reply::Ok(answer) => Reply::Ok(twin_answer(alloc, answer)?),
+        Reply::Ok(answer) => Reply::Ok(twin_answer(answer)?),
         Reply::NotFound => Reply::NotFound,
         Reply::Exists => Reply::Exists,
         Reply::NotDir => Reply::NotDir,
@@ -116,13 +116,13 @@ fn twin(alloc: Global, reply: &Reply) -> Result<Reply, NoMemory>
 }
 
 // the same answer of a call of a file once more
-fn twin_answer(alloc: Global, answer: &Answer) -> Result<Answer, NoMemory>
+fn twin_answer(answer: &Answer) -> Result<Answer, NoMemory>
     requires { IsPlain (Reply.Ok answer.now) }
     ensures same { IfOk result (λ a. a ≡ answer.now) }
     ensures only { IfErr result (λ fault. IsBytes (Reply.Ok answer.now)) }
 {
     Ok(match answer {
-        Answer::Bytes(bytes) => Answer::Bytes(Bytes::copied(alloc, bytes.as_slice())?),
+        Answer::Bytes(bytes) => Answer::Bytes(bytes.share()?),
         Answer::Count(count) => Answer::Count(*count),
         Answer::Stat {
             kind,

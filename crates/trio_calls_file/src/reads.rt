@@ -1,6 +1,6 @@
 //! What is read of the files that a session has: sizes, bytes, and how many entries there are.
 
-ghost use Rattle.std.specs.Prelude.{◌≡◌, ◌≤◌, ◌<◌, [], IfOk, drop, length, slice_index_or, take};
+ghost use Rattle.std.specs.Prelude.{◌≡◌, ◌≤◌, ◌<◌, ◌+◌, ◌-◌, ◌%◌, [], IfOk, drop, length, slice_index_or, take};
 ghost use Rattle.trio_layout.specs.Body.{block_count};
 ghost use Rattle.trio_layout.specs.Chain.{index_count};
 ghost use Rattle.trio_layout.specs.Entries.{slot_bytes};
@@ -11,7 +11,7 @@ ghost use Rattle.trio_calls_file.specs.inner.Reads.{IsHad, body_had, bytes_had, 
 
 use std::alloc::Global;
 use trio_layout::{Slot, SlotRead};
-use trio_nodes::Bytes;
+use trio_nodes::SharedBytes;
 use trio_page::field::u64_in;
 use trio_page::{NoMemory, PAGE_SIZE, Page};
 use trio_session::Session;
@@ -52,23 +52,71 @@ pub(crate) fn bytes_of(
     ino: u32,
     at: u64,
     len: u32,
-) -> Result<Bytes, NoMemory>
+) -> Result<SharedBytes, NoMemory>
     requires { IsHad session.now ino }
     ensures { IfOk result (λ bytes. bytes ≡ take len (drop at (bytes_had session.now ino))) }
 {
     let size = size_of(session, ino);
     let start = at.min(size);
     let end = start + (size - start).min(u64::from(len));
+    bytes_between(alloc, session, ino, start, end)
+}
+
+// the bytes of a file between two places in it; those of one page are copied out of it
+fn bytes_between(
+    alloc: Global,
+    session: &Session,
+    ino: u32,
+    start: u64,
+    end: u64,
+) -> Result<SharedBytes, NoMemory>
+    requires had { IsHad session.now ino }
+    requires order { start ≤ end }
+    requires within { end ≤ size_in (body_had session.now ino) }
+    ensures { IfOk result (λ bytes. bytes ≡ take (end - start) (drop start (bytes_had session.now ino))) }
+{
+    let count = (end - start) as usize;
+    if 0 < count && count <= PAGE_SIZE - start as usize % PAGE_SIZE {
+        return SharedBytes::copied(alloc, piece_of(session, ino, start, count));
+    }
+    SharedBytes::from_vec(collected(alloc, session, ino, start, end)?)
+}
+
+// those bytes, page by page
+fn collected(
+    alloc: Global,
+    session: &Session,
+    ino: u32,
+    start: u64,
+    end: u64,
+) -> Result<Vec<u8>, NoMemory>
+    requires had { IsHad session.now ino }
+    requires order { start ≤ end }
+    requires within { end ≤ size_in (body_had session.now ino) }
+    ensures { IfOk result (λ bytes. bytes.items ≡ take (end - start) (drop start (bytes_had session.now ino))) }
+{
     let mut from = start;
     let mut out = Vec::new(alloc);
     while from < end {
-        let offset = from as usize % PAGE_SIZE;
-        let count = (PAGE_SIZE - offset).min((end - from) as usize);
-        let block = page_of(session, ino, (from / PAGE_SIZE as u64) as u32);
-        out.extend_from_slice(&block.bytes()[offset..offset + count])?;
+        let left = PAGE_SIZE - from as usize % PAGE_SIZE;
+        let count = left.min((end - from) as usize);
+        out.extend_from_slice(piece_of(session, ino, from, count))?;
         from += count as u64;
     }
-    Ok(Bytes::from_vec(out))
+    Ok(out)
+}
+
+/// So many bytes of a file that the session has, from a place on, all in one page.
+fn piece_of(session: &Session, ino: u32, from: u64, count: usize) -> &[u8]
+    requires had { IsHad session.now ino }
+    requires some { 0 < count }
+    requires within { from + count ≤ size_in (body_had session.now ino) }
+    requires inside { from % 4096 + count ≤ 4096 }
+    ensures { result.now ≡ take count (drop from (bytes_had session.now ino)) }
+{
+    let offset = from as usize % PAGE_SIZE;
+    let page = page_of(session, ino, (from / PAGE_SIZE as u64) as u32);
+    &page.bytes()[offset..offset + count]
 }
 
 /// A block of a file that the session has.

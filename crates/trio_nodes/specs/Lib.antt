@@ -8,3 +8,4 @@ pub mod Standing
 pub mod After
 pub mod Legal
 pub mod Lends
+pub mod inner

@@ -8,7 +8,7 @@ ghost use Rattle.trio_nodes.specs.After.{put_within};
 use std::alloc::{AllocError as NoMemory, Global};
 use std::marker::Model;
 
-/// Bytes in order.
+/// Bytes in order, of one owner, who may change them. [`SharedBytes`](crate::SharedBytes) never change.
 pub type Bytes = List<u8>;
 
 /// A `Vec` that contracts see as the list of its items.

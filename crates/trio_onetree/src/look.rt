@@ -9,7 +9,7 @@ use crate::reach::{file_at, is_directory};
 use crate::walk::lacks;
 use std::alloc::Global;
 use trio_names::Path;
-use trio_nodes::{Answer, Bytes, List, Nodes, Reply};
+use trio_nodes::{Answer, List, Nodes, Reply, SharedBytes};
 use trio_rights::{Creds, Need};
 
 /// The most names that one reply has.
@@ -34,7 +34,7 @@ pub(crate) fn read(
         return Err(Fault::Refused(Reply::Denied));
     }
     let read = part(node.bytes.as_slice(), at as usize, len as usize);
-    Ok(Answer::Bytes(Bytes::copied(alloc, read)?))
+    Ok(Answer::Bytes(SharedBytes::copied(alloc, read)?))
 }
 
 /// How many entries a directory has, and at most 64 of their names from a place on.

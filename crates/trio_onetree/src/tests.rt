@@ -3,7 +3,7 @@ use std::alloc::{AllocError, Global};
 use std::process::Abort;
 use std::test::Fail;
 use trio_names::{Name, Path};
-use trio_nodes::{Answer, Bytes, Call, Node, Nodes, Reply};
+use trio_nodes::{Answer, Bytes, Call, Node, Nodes, Reply, SharedBytes};
 use trio_rights::{Creds, Kind, Mode};
 
 // a reply as a report prints it
@@ -134,7 +134,7 @@ fn call_of(alloc: Global, path: &[u8], op: Op) -> Result<Call, Fail> {
         Op::Write(at, bytes) => Call::Write {
             path,
             at,
-            bytes: Bytes::copied(alloc, bytes)?,
+            bytes: SharedBytes::copied(alloc, bytes)?,
         },
         Op::Read(at, len) => Call::Read { path, at, len },
         Op::Truncate(size) => Call::Truncate { path, size },

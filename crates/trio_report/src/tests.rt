@@ -3,7 +3,7 @@
 use super::*;
 use std::test::Fail;
 use trio_names::Name;
-use trio_nodes::{Answer, List, Reply};
+use trio_nodes::{Answer, List, Reply, SharedBytes};
 use trio_page::Reads;
 use trio_rights::{Kind, LibNo, Mode};
 use trio_samples::files::{one_file, root};
@@ -158,8 +158,8 @@ fn replies_are_told(rt: HostRuntime) -> Result<(), Fail> {
     let answers = vec![in alloc;
         Answer::Done,
         Answer::Count(4096),
-        Answer::Bytes(List::new(alloc)),
-        Answer::Bytes(List::from_vec(b"hello \\".to_vec(alloc)?)),
+        Answer::Bytes(SharedBytes::copied(alloc, b"")?),
+        Answer::Bytes(SharedBytes::copied(alloc, b"hello \\")?),
         Answer::Names {
             count: 0,
             names: List::new(alloc),
