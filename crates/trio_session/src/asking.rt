@@ -1,6 +1,6 @@
 //! What a session asks of its desk.
 
-ghost use Rattle.std.specs.Prelude.{◌≡◌, ℕ, IfErr, IfOk, IsOk, IsFalse, IsTrue, OnOk, length, Some};
+ghost use Rattle.std.specs.Prelude.{◌≡◌, ℕ, IfErr, IfOk, IfSome, IsOk, IsFalse, IsTrue, OnOk, length, Some};
 ghost use Rattle.trio_lists.specs.Lists.{In};
 ghost use Rattle.trio_lease.specs.Shown.{Shown};
 ghost use Rattle.trio_desk.specs.Call.{Allot, Grant, SeenAfter, SetMode, Settle};
@@ -46,12 +46,30 @@ impl Session {
         ensures served { IsOk result → IsTrue (serves self.new ino kind) }
         ensures on { IsOn (D.seen desk.new) self.new }
     {
+        if let Some(of) = self.serves_as(ino, kind) {
+            return match of {
+                Kind::Directory => self.index_dir(ino),
+                Kind::Regular => Ok(()),
+            };
+        }
         if self.serves(ino, kind) {
             return self.index(ino);
         }
         match self.lend(desk, ino, kind) {
             Ok(()) => self.index(ino),
             Err(fault) => Err(fault),
+        }
+    }
+
+    /// The kind of a file that is read or written, where a lease serves this need, or the session made
+    /// it. Of a hold nothing is told.
+    fn serves_as(&self, ino: u32, kind: GrantKind) -> Option<Kind>
+        ensures { IfSome result (λ of. IsTrue (serves self.now ino kind) × (kind_shown self.now ino ≡ Some of)) }
+    {
+        match kind {
+            GrantKind::Write => self.open_kind(ino),
+            GrantKind::Read => self.kind(ino),
+            GrantKind::Hold => None,
         }
     }
 
