@@ -34,5 +34,6 @@ pub mod Away
 pub mod HeldFiles
 pub mod KnownSteps
 pub mod judgement
+pub mod acts
 pub mod history
 pub mod session

@@ -21,7 +21,8 @@ use Rattle.trio_rights.specs.Bundle.{Written, Bundle, is_written}
 use Rattle.trio_layout.specs.Accept.{is_accepted, next}
 use Rattle.trio_state.specs.Bundles.{parted_hold, uncovered, refused_image, has_all}
 use Rattle.trio_state.specs.Tells.{Why, Tells}
-use Rattle.trio_state.specs.Step.{Event, Grant, Allot, Back, Release, Settle, SetMode, CtlAnswer, Accepted, Refused, NotClosed, NoMemory, Does, Step, Granted, ModeSet}
+use Rattle.trio_state.specs.Step.{Event, Release, Settle, SetMode, Grant, CtlAnswer, Accepted, Refused, NotClosed, NoMemory, Does, Step, Granted, ModeSet}
+pub use Rattle.trio_state.specs.Step.{library_of}
 use Rattle.trio_state.specs.Kept.{Kept}
 use Rattle.trio_state.specs.Given.{HasGrant, GivenTo, GivenEvent}
 use Rattle.trio_state.specs.Run.{start, IsWhole, Move, Trace}
@@ -119,15 +120,6 @@ NeverStuck =
     → Kept s → GivenEvent s event → MayEnd s event → (answer : CtlAnswer) × (s' : State) × (answer ≢ NoMemory) × Does s event answer s'
 
 -- ---- the files of others
-
--- whose call it is
-abbrev pub library_of : Event → ℕ
-library_of (Grant lib ino kind) = lib
-library_of (Allot lib pages numbers) = lib
-library_of (Back lib ino) = lib
-library_of (Release lib b) = lib
-library_of (Settle lib b) = lib
-library_of (SetMode lib ino mode) = lib
 
 -- an entry of a directory but for the body in its slot
 abbrev pub entry_only : Listed → Listed

@@ -5,5 +5,6 @@ pub mod OutLaws
 pub mod ContentLaws
 pub mod Known
 pub mod RuleLaws
+pub mod ActLaws
 pub mod history
 pub mod session

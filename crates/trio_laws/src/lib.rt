@@ -15,6 +15,7 @@ pub mod in_hand;
 pub mod judged_edits;
 pub mod known;
 pub mod laws;
+pub mod moves;
 pub mod notes;
 pub mod outs;
 pub mod rules;

@@ -7,5 +7,6 @@ pub mod Step
 pub mod Kept
 pub mod Given
 pub mod Run
+pub mod Moves
 pub mod ImageNodes
 pub mod Listed

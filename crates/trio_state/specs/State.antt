@@ -1,5 +1,5 @@
 -- The state of the controller, and the image that is settled in it.
-use Rattle.std.specs.Prelude.{ℕ, ◌+◌, ◌-◌, List, [], Option, slice_index_or}
+use Rattle.std.specs.Prelude.{ℕ, ◌+◌, ◌-◌, ◌≤◌, List, [], length, Option, slice_index_or}
 use Rattle.std.specs.List.{flat_map}
 use Rattle.trio_rights.specs.declared.kind.Kind.{Kind}
 use Rattle.trio_rights.specs.declared.rights.Creds.{Creds}
@@ -46,6 +46,10 @@ covered Hold of index blocks = []
 -- home with the checkpoint of each open write grant in place
 abbrev pub settled : State → Image
 settled s = with_core_pages s.home (with_pages (flat_map (λ g. g.checkpoint) s.open_grants) s.home.core.pages)
+
+-- the library is one of those with these credentials, which are numbered from 1
+abbrev pub IsLibrary : List Creds → ℕ → Type 0
+IsLibrary creds lib = (1 ≤ lib) × (lib ≤ length creds)
 
 -- the credentials of a library
 abbrev pub creds_of : State → ℕ → Creds

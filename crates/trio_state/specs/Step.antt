@@ -27,6 +27,15 @@ pub data Event : Type 0 where
   Settle : (lib : ℕ) (bundle : Bundle) → Event
   SetMode : (lib ino mode : ℕ) → Event
 
+-- whose call it is
+abbrev pub library_of : Event → ℕ
+library_of (Grant lib ino kind) = lib
+library_of (Allot lib pages numbers) = lib
+library_of (Back lib ino) = lib
+library_of (Release lib b) = lib
+library_of (Settle lib b) = lib
+library_of (SetMode lib ino mode) = lib
+
 -- what the controller answers to a call
 pub data CtlAnswer : Type 0 where
   Granted : (children : ℕ) → CtlAnswer

@@ -1,9 +1,10 @@
 -- A log replayed by the controller's steps, and what a library has out after it.
-use Rattle.std.specs.Prelude.{◌≡◌, ◌≤◌, ℕ, ◌==◌, List, [], ◌∷◌, length}
+use Rattle.std.specs.Prelude.{◌≡◌, ℕ, ◌==◌, List, [], ◌∷◌}
 use Rattle.std.specs.List.{filter}
 use Rattle.trio_rights.specs.declared.rights.Creds.{Creds}
 use Rattle.trio_layout.specs.Image.{Image}
 use Rattle.trio_state.specs.State.{State}
+pub use Rattle.trio_state.specs.State.{IsLibrary}
 use Rattle.trio_state.specs.Given.{GivenEvent}
 use Rattle.trio_state.specs.Step.{Step}
 use Rattle.trio_state.specs.Run.{start}
@@ -12,10 +13,6 @@ use Rattle.trio_laws.specs.Laws.{library_of}
 use Rattle.trio_laws.specs.OutLaws.{HasOut, numbers_to}
 use Rattle.trio_laws.specs.Known.{Known, known, known_after}
 use Rattle.trio_laws.specs.history.Entries.{event_of, answer_of}
-
--- the library is one of those with these credentials, which are numbered from 1
-abbrev pub IsLibrary : List Creds → ℕ → Type 0
-IsLibrary creds lib = (1 ≤ lib) × (lib ≤ length creds)
 
 -- From s each entry in order tells of an event of one of the libraries, which hands in what was given to it, and of the answer
 -- of a step; the steps come to s'.

@@ -1,0 +1,4 @@
+pub mod Outlines
+pub mod Underways
+pub mod TwoMoves
+pub mod Awaited

@@ -1,0 +1,4 @@
+pub mod ActRuns
+pub mod Headline
+pub mod CopiedStay
+pub mod Weighed
