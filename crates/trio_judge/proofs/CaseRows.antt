@@ -1,5 +1,5 @@
 -- What a bundle has under a number, and the rows that are copied for it.
-use Rattle.std.proofs.Common.{◌≡◌, ℕ, suc, zero, ◌+◌, ◌<◌, ◌≤◌, eqb, Bool, true, false, ◌&&◌, ◌||◌, cond, List, [], ◌∷◌, ◌++◌, length, get_or, map, take, Option, Some, None, Bor, Result, Ok, Err, nat_le, nat_lt, IsTrue, IsSome, IfSome, IfOk, sym, refl, ap, ◌∙◌, append_assoc, inl, inr, arith}
+use Rattle.std.proofs.Common.{◌≡◌, ℕ, suc, zero, ◌+◌, ◌<◌, ◌≤◌, eqb, Bool, true, false, ◌&&◌, ◌||◌, cond, List, [], ◌∷◌, ◌++◌, length, get_or, map, take, Option, Some, None, Bor, Result, Ok, Err, nat_le, nat_lt, IsTrue, IsSome, IfSome, IfOk, sym, refl, ap, ◌∙◌, subst, append_assoc, inl, inr, arith}
 use Rattle.std.specs.Prelude.{is_some, is_none}
 use Rattle.std.specs.List.{find, list_all, list_any}
 use Rattle.std.specs.Option.{option_copied, option_map, option_map_or, option_or}
@@ -8,13 +8,14 @@ use Rattle.std.specs.BTreeMap.{BTreeMap, get}
 use Rattle.std.specs.BTreeSet.{contains}
 use Rattle.std.proofs.lemmas.Bool.{and_parts, and_from, cases_eq, cases_lt, le-leb}
 use Rattle.std.proofs.lemmas.Bool.Decides.{nat_tests}
-use Rattle.std.proofs.lemmas.List.{map-append, take_more}
+use Rattle.std.proofs.lemmas.List.{ext_get_or, map-append, take_more}
 use Rattle.std.proofs.lemmas.List.Folds.{find-append, list_all-append, list_any-append}
 use Rattle.trio_rights.specs.Row.{Row, row_in}
 use Rattle.trio_rights.specs.Bundle.{is_written}
 use Rattle.trio_rights.specs.declared.kind.Kind.{Kind}
 use Rattle.trio_rights.specs.declared.kind.Kind.TheVariants.{Regular, Directory}
-use Rattle.trio_lists.specs.Lists.{is_among}
+use Rattle.trio_lists.specs.Lists.{is_among, tabulated}
+use Rattle.trio_lists.proofs.Tabulated.{tabulated-get, tabulated-length}
 use Rattle.trio_lease.specs.Bundles.{Bundled}
 use Rattle.trio_lease.specs.Shown.{LentFile}
 use Rattle.trio_lease.specs.Views.{bundle_in, written_in}
@@ -117,6 +118,21 @@ own_row b rows n (Some r) e all none parents =
 pub own_copied : (b : Bundled) (rows : List (Option Row)) (m : BTreeMap ℕ RowData) → list_all (λ f. has_kind f.stands.kind (row_in rows f.stands.ino)) b.writes ≡ true → list_any (λ f. is_directory f.stands.kind) b.writes ≡ false → HasDirectoryParents rows → HasRowsOf rows m (lent_numbers b) → (n : ℕ) → row_kept m n ≡ copied_row (bundle_in b) n (row_in rows n)
 own_copied b rows m all none parents has n =
     has n ∙ own_row b rows n (row_in rows n) refl all none parents
+
+-- ---- tables by number
+
+pub tables-agree : {X : Type 0} (f g : ℕ → X) (m n k : ℕ) → tabulated f m ≡ tabulated g n → k < n → f k ≡ g k
+tables-agree f g m n k e within =
+    let size : m ≡ n = sym (tabulated-length f m) ∙ ap length e ∙ tabulated-length g n in
+    sym (tabulated-get f m k (g k) (rw size within)) ∙ ap (λ l. get_or l k (g k)) e ∙ tabulated-get g n k (g k) within
+
+pub tables-same : {X : Type 0} (f g : ℕ → X) (m n : ℕ) → m ≡ n → ((k : ℕ) → k < m → f k ≡ g k) → tabulated f m ≡ tabulated g n
+tables-same f g zero n size h = ap (tabulated g) size
+tables-same f g (suc m) n size h =
+    ext_get_or (f 0) (tabulated f (suc m)) (tabulated g n) (tabulated-length f (suc m) ∙ size ∙ sym (tabulated-length g n))
+    (λ k l.
+    let within : k < suc m = rw (← tabulated-length f (suc m)) l in
+    tabulated-get f (suc m) k (f 0) within ∙ h k within ∙ sym (tabulated-get g n k (f 0) (subst (λ x. k < x) size within)))
 
 -- ---- one row more
 

@@ -12,7 +12,7 @@ ghost use Rattle.trio_tables.specs.Row.{as_row};
 ghost use Rattle.trio_judge.specs.Cases.{case_in, IsJudgeable, IsCase};
 ghost use Rattle.trio_judge.specs.inner.Maps.{body_lent};
 
-use crate::numbers::{Numbers, copy_rows};
+use crate::numbers::{Numbers, copy_rows, is_copied};
 use std::alloc::Global;
 use std::collections::BTreeMap;
 use std::marker::Model;
@@ -165,6 +165,14 @@ impl Case {
             return None;
         }
         self.rows.get(&ino).copied()
+    }
+
+    /// Whether its rows are just those that a case of its bundle would have of this table. It takes no
+    /// memory, and goes over the table no more than once.
+    pub fn fits(&self, rows: &Shadow) -> bool
+        ensures { IsTrue result ↔ (self.now.rows ≡ copied_rows (bundle_in self.now.bundle) rows.now) }
+    {
+        rows.inodes() == self.inodes && is_copied(&self.numbers, &self.rows, rows)
     }
 
     /// Whether the bundle has a write lease on this number.

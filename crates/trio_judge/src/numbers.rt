@@ -1,6 +1,6 @@
 //! What a bundle has under an inode number, and the rows that are copied for it.
 
-ghost use Rattle.std.specs.Prelude.{◌≡◌, ◌++◌, ◌∷◌, [], ◌||◌, ℕ, List, IfOk, OnOk, is_some, map, true};
+ghost use Rattle.std.specs.Prelude.{◌≡◌, ◌++◌, ◌∷◌, [], ◌||◌, ℕ, List, ◌↔◌, IfOk, IsTrue, OnOk, is_some, map, true};
 ghost use Rattle.std.specs.List.{list_all, list_any};
 ghost use Rattle.std.specs.Option.{option_map, option_or};
 ghost use Rattle.std.specs.Ordering.{nat_cmp};
@@ -14,7 +14,7 @@ ghost use Rattle.trio_layout.specs.Copied.{copied_row};
 ghost use Rattle.trio_layout.specs.Allowed.{has_kind};
 ghost use Rattle.trio_tables.specs.Row.{as_row};
 ghost use Rattle.trio_judge.specs.Cases.{lent_numbers, HasDirectoryParents};
-ghost use Rattle.trio_judge.specs.inner.Maps.{body_lent, is_directory, row_kept, HasRowsOf, Tells};
+ghost use Rattle.trio_judge.specs.inner.Maps.{body_lent, is_directory, row_kept, HasCopied, HasRowsOf, Tells};
 
 use std::alloc::Global;
 use std::collections::{BTreeMap, BTreeSet};
@@ -148,6 +148,25 @@ fn rows_in_table(
         }
     }
     Ok(copied)
+}
+
+/// Whether just these rows are copied for the bundle from a table. One pass over the table.
+pub(crate) fn is_copied(numbers: &Numbers, copied: &BTreeMap<u32, Row>, rows: &Shadow) -> bool
+    ensures { (b : Bundled) → Tells numbers.now b → IsTrue result ↔ HasCopied b rows.now copied.now }
+{
+    for ino in 0..rows.inodes() + 1 {
+        let row = numbers.copied(ino, rows.row(ino));
+        if !is_same(copied.get(&ino).copied(), row) {
+            return false;
+        }
+    }
+    true
+}
+
+fn is_same(here: Option<Row>, there: Option<Row>) -> bool
+    ensures { IsTrue result ↔ (option_map as_row here ≡ option_map as_row there) }
+{
+    here == there
 }
 
 /// The rows of the bundle's own files.

@@ -1,5 +1,5 @@
 -- What the maps of a case tell. Cited by the case's own invariant and private functions alone.
-use Rattle.std.specs.Prelude.{ℕ, ◌≡◌, ◌+◌, ◌==◌, Bool, true, false, List, Option, None, map, if◌then◌else◌}
+use Rattle.std.specs.Prelude.{ℕ, ◌≡◌, ◌+◌, ◌==◌, ◌<◌, Bool, true, false, List, Option, None, length, map, if◌then◌else◌}
 use Rattle.std.specs.List.{find}
 use Rattle.std.specs.Option.{option_map}
 use Rattle.std.specs.Ordering.{nat_cmp}
@@ -13,6 +13,7 @@ use Rattle.trio_lists.specs.Lists.{is_among, tabulated}
 use Rattle.trio_lease.specs.Bundles.{Bundled}
 use Rattle.trio_lease.specs.Views.{bundle_in}
 use Rattle.trio_lease.specs.declared.parts.HoldParts.{HoldParts}
+use Rattle.trio_layout.specs.Copied.{copied_row}
 use Rattle.trio_tables.specs.Row.{as_row}
 use Rattle.trio_tables.specs.declared.row.Row.{Row as RowData}
 use Rattle.trio_judge.specs.declared.numbers.Numbers.{Numbers}
@@ -43,3 +44,8 @@ pub record Tells (numbers : Numbers) (b : Bundled) : Type 0 where
 -- the map has the rows of these numbers, where they are live, and no others
 abbrev pub HasRowsOf : List (Option Row) → BTreeMap ℕ RowData → List ℕ → Type 0
 HasRowsOf rows m numbers = (n : ℕ) → row_kept m n ≡ (if is_among n numbers then row_in rows n else None)
+
+-- the map has of each number of the table the row that is copied for the bundle
+abbrev pub HasCopied : Bundled → List (Option Row) → BTreeMap ℕ RowData → Type 0
+HasCopied b rows m =
+    (n : ℕ) → n < length rows → row_kept m n ≡ copied_row (bundle_in b) n (row_in rows n)
