@@ -2,8 +2,7 @@
 use Rattle.std.proofs.Common.{◌≡◌, ◌⊎◌, ℕ, List, Option, inl, inr, refl, Some, None, length, ◌≤◌, ap, sym, subst, ◌∙◌, arith}
 use Rattle.trio_io.specs.Shelf.{Shelf, SinkSeen, Rose, IsLonger, IsTold}
 use Rattle.trio_survey.specs.Stored.{BytesVerify}
-use Rattle.trio_script.specs.Script.{bad_line, script_libs}
-use Rattle.trio_runner.specs.Built.{unbuilt_line}
+use Rattle.trio_script.specs.Script.{bad_line}
 use Rattle.trio_app.specs.declared.status.Status.{Status}
 use Rattle.trio_app.specs.declared.status.Status.TheVariants.{Done, NotVerified, Usage, BadScript, ReadFault, WriteFault, NoMemory, TooLong, NotBuilt}
 use Rattle.trio_app.specs.Status.{code_of}
@@ -56,18 +55,15 @@ longer_not_failing name old text long failing = is_shorter 33554432 name old fai
 not_both : (number : ℕ) → None ≡ Some number → ⊥
 not_both number e = absurd cc
 
-script_not_longer : (name : List ℕ) (old : Shelf) (line : Option ℕ) → TellsScript name old line → IsLonger 1048576 (old.held name) → ⊥
-script_not_longer name old line script longer = is_longer 1048576 (old.held name) script.bytes script.tells script.within longer
+script_not_longer : (name : List ℕ) (old : Shelf) → TellsScript name old → IsLonger 1048576 (old.held name) → ⊥
+script_not_longer name old script longer = is_longer 1048576 (old.held name) script.bytes script.tells script.within longer
 
 bad_not_longer : (name : List ℕ) (old : Shelf) (line : ℕ) → TellsBadLine name old line → IsLonger 1048576 (old.held name) → ⊥
 bad_not_longer name old line script longer = is_longer 1048576 (old.held name) script.bytes script.tells script.within longer
 
-same_line : (name : List ℕ) (old : Shelf) (line other : Option ℕ) (bytes : List ℕ) → TellsScript name old line → IsTold (old.held name) bytes → unbuilt_line (script_libs bytes) ≡ other → line ≡ other
-same_line name old line other bytes script told is = sym script.built ∙ ap (λ b. unbuilt_line (script_libs b)) (same_bytes (old.held name) script.bytes bytes script.tells told) ∙ is
-
 -- a script is good or bad
-good_not_bad : (name : List ℕ) (old : Shelf) (line : Option ℕ) (number : ℕ) (bytes : List ℕ) → TellsScript name old line → IsTold (old.held name) bytes → bad_line bytes ≡ Some number → ⊥
-good_not_bad name old line number bytes script told is =
+good_not_bad : (name : List ℕ) (old : Shelf) (number : ℕ) (bytes : List ℕ) → TellsScript name old → IsTold (old.held name) bytes → bad_line bytes ≡ Some number → ⊥
+good_not_bad name old number bytes script told is =
     not_both number (sym script.good ∙ ap bad_line (same_bytes (old.held name) script.bytes bytes script.tells told) ∙ is)
 
 bad_not_good : (name : List ℕ) (old : Shelf) (number : ℕ) (bytes : List ℕ) → TellsBadLine name old number → IsTold (old.held name) bytes → bad_line bytes ≡ None → ⊥
@@ -103,18 +99,17 @@ module _ (image script out : List ℕ) (old new : Shelf) (text : List ℕ) (read
   done_image : TurnsDone image script out old new text → ImageVerifies image old
   done_image done = record { image_bytes = done.image_bytes; image_is = done.image_is; within = done.image_within; verifies = done.image_verifies }
 
-  turns_done : (status : Status) → TellsImage image old → TellsScript script old None → TurnsComesTo image script out old new text status → (code_of status ≡ 0) ⊎ (code_of status ≡ 6)
-  turns_done Done valid built comes = inl refl
-  turns_done NoMemory valid built comes = inr refl
-  turns_done NotVerified valid built comes = absurd (valid_not_failing image old text valid comes)
-  turns_done ReadFault valid built (inl fault) = absurd (reads image fault.0)
-  turns_done ReadFault valid built (inr fault) = absurd (reads script fault.0)
-  turns_done WriteFault valid built comes = absurd (writes out comes.rose)
-  turns_done TooLong valid built (inl long) = absurd (valid_not_longer image old valid long.0)
-  turns_done TooLong valid built (inr long) = absurd (script_not_longer script old None built long.0)
-  turns_done BadScript valid built comes = absurd (good_not_bad script old None comes.0 comes.2.script_bytes built comes.2.script_is comes.2.bad)
-  turns_done NotBuilt valid built comes = absurd (not_both comes.0 (same_line script old None (Some comes.0) comes.2.script_bytes built comes.2.script_is comes.2.built))
-  turns_done _ valid built comes = absurd comes
+  turns_done : (status : Status) → TellsImage image old → TellsScript script old → TurnsComesTo image script out old new text status → (code_of status ≡ 0) ⊎ (code_of status ≡ 6)
+  turns_done Done valid good comes = inl refl
+  turns_done NoMemory valid good comes = inr refl
+  turns_done NotVerified valid good comes = absurd (valid_not_failing image old text valid comes)
+  turns_done ReadFault valid good (inl fault) = absurd (reads image fault.0)
+  turns_done ReadFault valid good (inr fault) = absurd (reads script fault.0)
+  turns_done WriteFault valid good comes = absurd (writes out comes.rose)
+  turns_done TooLong valid good (inl long) = absurd (valid_not_longer image old valid long.0)
+  turns_done TooLong valid good (inr long) = absurd (script_not_longer script old good long.0)
+  turns_done BadScript valid good comes = absurd (good_not_bad script old comes.0 comes.2.script_bytes good comes.2.script_is comes.2.bad)
+  turns_done _ valid good comes = absurd comes
 
   turns_not_verified : (status : Status) → TellsNoImage image old → TurnsComesTo image script out old new text status → (code_of status ≡ 1) ⊎ (code_of status ≡ 6)
   turns_not_verified NotVerified failing comes = inl refl
@@ -126,7 +121,6 @@ module _ (image script out : List ℕ) (old new : Shelf) (text : List ℕ) (read
   turns_not_verified TooLong failing (inl long) = absurd (failing_not_longer image old failing long.0)
   turns_not_verified TooLong failing (inr long) = absurd (failing_not_valid image old failing long.1)
   turns_not_verified BadScript failing comes = absurd (failing_not_valid image old failing comes.1)
-  turns_not_verified NotBuilt failing comes = absurd (failing_not_valid image old failing comes.1)
   turns_not_verified _ failing comes = absurd comes
 
   turns_image_long : (status : Status) → TellsTooLong 33554432 image old → TurnsComesTo image script out old new text status → (code_of status ≡ 7) ⊎ (code_of status ≡ 6)
@@ -138,7 +132,6 @@ module _ (image script out : List ℕ) (old new : Shelf) (text : List ℕ) (read
   turns_image_long ReadFault long (inr fault) = absurd (reads script fault.0)
   turns_image_long WriteFault long comes = absurd (writes out comes.rose)
   turns_image_long BadScript long comes = absurd (longer_not_valid image old long comes.1)
-  turns_image_long NotBuilt long comes = absurd (longer_not_valid image old long comes.1)
   turns_image_long _ long comes = absurd comes
 
   turns_script_long : (status : Status) → TellsImage image old → TellsTooLong 1048576 script old → TurnsComesTo image script out old new text status → (code_of status ≡ 7) ⊎ (code_of status ≡ 6)
@@ -150,21 +143,7 @@ module _ (image script out : List ℕ) (old new : Shelf) (text : List ℕ) (read
   turns_script_long ReadFault valid long (inr fault) = absurd (reads script fault.0)
   turns_script_long WriteFault valid long comes = absurd (writes out comes.rose)
   turns_script_long BadScript valid long comes = absurd (is_shorter 1048576 script old comes.2.script_bytes long comes.2.script_is comes.2.within)
-  turns_script_long NotBuilt valid long comes = absurd (is_shorter 1048576 script old comes.2.script_bytes long comes.2.script_is comes.2.within)
   turns_script_long _ valid long comes = absurd comes
-
-  turns_not_built : (status : Status) (number : ℕ) → TellsImage image old → TellsScript script old (Some number) → TurnsComesTo image script out old new text status → (code_of status ≡ 8) ⊎ (code_of status ≡ 6)
-  turns_not_built NotBuilt number valid line comes = inl refl
-  turns_not_built NoMemory number valid line comes = inr refl
-  turns_not_built Done number valid line comes = absurd (not_both number (sym (same_line script old (Some number) None comes.script_bytes line comes.script_is comes.script_built)))
-  turns_not_built NotVerified number valid line comes = absurd (valid_not_failing image old text valid comes)
-  turns_not_built ReadFault number valid line (inl fault) = absurd (reads image fault.0)
-  turns_not_built ReadFault number valid line (inr fault) = absurd (reads script fault.0)
-  turns_not_built WriteFault number valid line comes = absurd (writes out comes.rose)
-  turns_not_built TooLong number valid line (inl long) = absurd (valid_not_longer image old valid long.0)
-  turns_not_built TooLong number valid line (inr long) = absurd (script_not_longer script old (Some number) line long.0)
-  turns_not_built BadScript number valid line comes = absurd (good_not_bad script old (Some number) comes.0 comes.2.script_bytes line comes.2.script_is comes.2.bad)
-  turns_not_built _ number valid line comes = absurd comes
 
   turns_bad : (status : Status) (number : ℕ) → TellsImage image old → TellsBadLine script old number → TurnsComesTo image script out old new text status → (code_of status ≡ 3) ⊎ (code_of status ≡ 6)
   turns_bad BadScript number valid line comes = inl refl
@@ -176,7 +155,6 @@ module _ (image script out : List ℕ) (old new : Shelf) (text : List ℕ) (read
   turns_bad WriteFault number valid line comes = absurd (writes out comes.rose)
   turns_bad TooLong number valid line (inl long) = absurd (valid_not_longer image old valid long.0)
   turns_bad TooLong number valid line (inr long) = absurd (bad_not_longer script old number line long.0)
-  turns_bad NotBuilt number valid line comes = absurd (bad_not_good script old number comes.2.script_bytes line comes.2.script_is comes.2.good)
   turns_bad _ number valid line comes = absurd comes
 
   pub turns_decided : (decided status : Status) → TurnsDecides image script old decided → TurnsComesTo image script out old new text status → (code_of status ≡ code_of decided) ⊎ (code_of status ≡ 6)
@@ -185,7 +163,6 @@ module _ (image script out : List ℕ) (old new : Shelf) (text : List ℕ) (read
   turns_decided TooLong status (inl d) comes = turns_image_long status d comes
   turns_decided TooLong status (inr d) comes = turns_script_long status d.0 d.1 comes
   turns_decided BadScript status d comes = turns_bad status d.1.0 d.0 d.1.1 comes
-  turns_decided NotBuilt status d comes = turns_not_built status d.1.0 d.0 d.1.1 comes
   turns_decided _ status d comes = absurd d
 
   -- ---- `check` and `tree`

@@ -31,7 +31,7 @@ use Rattle.trio_ctl.specs.Logged.{recorded}
 use Rattle.trio_runner.specs.Play.{Heard, Played, creds_in}
 use Rattle.trio_runner.specs.Seen.{ScriptPlayed}
 use Rattle.trio_app.specs.declared.status.Status.{Status}
-use Rattle.trio_app.specs.declared.status.Status.TheVariants.{Done, NotVerified, Usage, BadScript, ReadFault, WriteFault, NoMemory as StatusNoMemory, TooLong, NotBuilt}
+use Rattle.trio_app.specs.declared.status.Status.TheVariants.{Done, NotVerified, Usage, BadScript, ReadFault, WriteFault, NoMemory as StatusNoMemory, TooLong}
 use Rattle.trio_app.specs.Check.{Check}
 use Rattle.trio_app.specs.Images.{ImageStops, OutKeeps}
 use Rattle.trio_app.specs.Inputs.{ReadsBoth, ReadsLibraries}
@@ -145,7 +145,6 @@ stop_comes image script out old new text ReadFault why = why
 stop_comes image script out old new text StatusNoMemory why = why
 stop_comes image script out old new text TooLong why = why
 stop_comes image script out old new text BadScript why = why
-stop_comes image script out old new text NotBuilt why = why
 stop_comes image script out old new text _ why = absurd why
 
 stop_keeps : (image script out : List ℕ) (old new : Shelf) (text : List ℕ) (status : Status) → InputsStop image script old new text status → new.held ≡ old.held → OutKeeps out old new status
@@ -154,7 +153,6 @@ stop_keeps image script out old new text ReadFault why same = same
 stop_keeps image script out old new text StatusNoMemory why same = same
 stop_keeps image script out old new text TooLong why same = same
 stop_keeps image script out old new text BadScript why same = same
-stop_keeps image script out old new text NotBuilt why same = same
 stop_keeps image script out old new text _ why same = absurd why
 
 pub turns_stop : (image script out : List ℕ) (old new : Shelf) (text : List ℕ) (status : Status) → InputsStop image script old new text status → ReadsBoth image script old new → Turns image script out old new text status
@@ -185,7 +183,6 @@ module _ (image script out : List ℕ) (old mid new : Shelf) (s : Superblock) (p
     script_within = script_read.read.within;
     image_verifies = image_read.verify;
     script_good = script_read.read.good;
-    script_built = script_read.read.built;
     superblock = s;
     lengths = image_read.lengths;
     played = played_end.played;

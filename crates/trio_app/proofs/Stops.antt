@@ -9,7 +9,7 @@ use Rattle.trio_image.specs.Load.{LoadFails, Loads}
 use Rattle.trio_app.specs.declared.status.Status.{Status}
 use Rattle.trio_app.specs.declared.status.Status.TheVariants.{NotVerified, ReadFault as StatusReadFault, NoMemory as StatusNoMemory, TooLong as StatusTooLong}
 use Rattle.trio_app.specs.declared.stop.Stop.{Stop}
-use Rattle.trio_app.specs.declared.stop.Stop.TheVariants.{ReadFault, TooLong, BadLine, LineNotBuilt, NoMemory}
+use Rattle.trio_app.specs.declared.stop.Stop.TheVariants.{ReadFault, TooLong, BadLine, NoMemory}
 use Rattle.trio_app.specs.Images.{ImageStops, ImageVerifies, FailsWith}
 use Rattle.trio_app.specs.Lines.{length_line}
 use Rattle.trio_app.specs.Turns.{InputsStop}
@@ -70,8 +70,6 @@ script_stops image script old mid new s pages ReadFault loads first rose = inr (
 script_stops image script old mid new s pages TooLong loads first longer = inr (rw (← first.held) longer, image_verifies image old s pages loads, refl)
 script_stops image script old mid new s pages (BadLine number) loads first line =
     (number, image_verifies image old s pages loads, record { script_bytes = line.script_bytes; script_is = rw (← first.held) line.script_is; within = line.within; bad = line.bad }, refl)
-script_stops image script old mid new s pages (LineNotBuilt number) loads first line =
-    (number, image_verifies image old s pages loads, record { script_bytes = line.script_bytes; script_is = rw (← first.held) line.script_is; within = line.within; good = line.good; built = line.built }, refl)
 script_stops image script old mid new s pages NoMemory loads first never = refl
 script_stops image script old mid new s pages _ loads first never = absurd never
 

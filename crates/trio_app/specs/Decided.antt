@@ -1,10 +1,9 @@
 -- The status that the words and the bytes of the files decide, where the files tell their bytes and nothing fails.
-use Rattle.std.specs.Prelude.{◌≡◌, ◌⊎◌, ℕ, ◌<◌, ◌≤◌, List, Option, None, Some, length}
+use Rattle.std.specs.Prelude.{◌≡◌, ◌⊎◌, ℕ, ◌<◌, ◌≤◌, List, None, Some, length}
 use Rattle.trio_io.specs.Shelf.{Shelf, SinkSeen, Rose}
 use Rattle.trio_survey.specs.Stored.{BytesVerify}
 use Rattle.trio_image.specs.Made.{Fits}
-use Rattle.trio_script.specs.Script.{bad_line, script_libs}
-use Rattle.trio_runner.specs.Built.{unbuilt_line}
+use Rattle.trio_script.specs.Script.{bad_line}
 use Rattle.trio_app.specs.declared.status.Status.{Status}
 use Rattle.trio_app.specs.declared.status.Status.TheVariants.{Done, NotVerified, Usage, BadScript, TooLong, NotBuilt}
 use Rattle.trio_app.specs.Status.{code_of}
@@ -37,13 +36,12 @@ pub record TellsBadLine (name : List ℕ) (files : Shelf) (line : ℕ) : Type 0 
   pub within : length bytes ≤ 1048576
   pub bad : bad_line bytes ≡ Some line
 
--- a file tells a script each line of which is in the grammar, and this is the first one that isn't built, if there is one
-pub record TellsScript (name : List ℕ) (files : Shelf) (line : Option ℕ) : Type 0 where
+-- a file tells a script, and each line of it is in the grammar
+pub record TellsScript (name : List ℕ) (files : Shelf) : Type 0 where
   pub bytes : List ℕ
   pub tells : files.held name ≡ Some bytes
   pub within : length bytes ≤ 1048576
   pub good : bad_line bytes ≡ None
-  pub built : unbuilt_line (script_libs bytes) ≡ line
 
 -- what PAGES and INODES decide
 abbrev pub NewDecides : ℕ → ℕ → Status → Type 0
@@ -60,11 +58,10 @@ ImageDecides image files _ = ⊥
 
 -- what the bytes of IMAGE decide, and where it verifies, those of SCRIPT
 abbrev pub TurnsDecides : List ℕ → List ℕ → Shelf → Status → Type 0
-TurnsDecides image script files Done = TellsImage image files × TellsScript script files None
+TurnsDecides image script files Done = TellsImage image files × TellsScript script files
 TurnsDecides image script files NotVerified = TellsNoImage image files
 TurnsDecides image script files TooLong = TellsTooLong 33554432 image files ⊎ (TellsImage image files × TellsTooLong 1048576 script files)
 TurnsDecides image script files BadScript = TellsImage image files × ((number : ℕ) × TellsBadLine script files number)
-TurnsDecides image script files NotBuilt = TellsImage image files × ((number : ℕ) × TellsScript script files (Some number))
 TurnsDecides image script files _ = ⊥
 
 -- that a command has this status is decided by its words and the bytes of its files

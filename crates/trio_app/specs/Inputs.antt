@@ -1,9 +1,9 @@
 -- What reading an image and a script gives, and what it leaves of the files.
-use Rattle.std.specs.Prelude.{◌≡◌, ◌≢◌, ℕ, ◌≤◌, Option, None, Some, List, length}
+use Rattle.std.specs.Prelude.{◌≡◌, ◌≢◌, ℕ, ◌≤◌, None, Some, List, length}
 use Rattle.trio_io.specs.Shelf.{Shelf, IsTold}
 use Rattle.trio_script.specs.Script.{bad_line, script_libs}
 use Rattle.trio_script.specs.declared.ScriptLib.{ScriptLib}
-use Rattle.trio_runner.specs.Built.{unbuilt_line}
+use Rattle.trio_script.specs.Within.{AreWithin}
 
 -- the script was read, and this is the first line of it that is outside the grammar
 pub record ReadsBadLine (script : List ℕ) (old : Shelf) (number : ℕ) : Type 0 where
@@ -12,20 +12,21 @@ pub record ReadsBadLine (script : List ℕ) (old : Shelf) (number : ℕ) : Type 
   pub within : length script_bytes ≤ 1048576
   pub bad : bad_line script_bytes ≡ Some number
 
--- the script was read, each line of it is in the grammar, and this is the first one for which nothing is built, if there is one
-pub record ReadsScript (script : List ℕ) (old : Shelf) (unbuilt : Option ℕ) : Type 0 where
+-- the script was read, and each line of it is in the grammar
+pub record ReadsScript (script : List ℕ) (old : Shelf) : Type 0 where
   pub script_bytes : List ℕ
   pub script_is : IsTold (old.held script) script_bytes
   pub within : length script_bytes ≤ 1048576
   pub good : bad_line script_bytes ≡ None
-  pub built : unbuilt_line (script_libs script_bytes) ≡ unbuilt
 
--- the script was read, each line of it is built, and these are its libraries with their lines, 1 to 16 of them
+-- The script was read, each line of it is in the grammar, and these are its libraries with their lines, 1 to 16 of them. Their calls
+-- are within the limits.
 pub record ReadsLibraries (script : List ℕ) (old : Shelf) (libs : List ScriptLib) : Type 0 where
-  pub read : ReadsScript script old None
+  pub read : ReadsScript script old
   pub libs_are : libs ≡ script_libs read.script_bytes
   pub some : 1 ≤ length libs
   pub few : length libs ≤ 16
+  pub limits : AreWithin libs
 
 -- nothing but the counts of failed reads of these two names may have risen
 pub record ReadsBoth (name other : List ℕ) (old new : Shelf) : Type 0 where

@@ -53,7 +53,3 @@ not_built_words = codes "not built words\n"
 -- a line of the script is outside its grammar
 abbrev pub script_line : ℕ → List ℕ
 script_line number = codes "script line " ++ decimal number ++ codes "\n"
-
--- a line of the script isn't built
-abbrev pub not_built_line : ℕ → List ℕ
-not_built_line number = codes "not built line " ++ decimal number ++ codes "\n"

@@ -1,5 +1,5 @@
 -- What the words `turns IMAGE SCRIPT OUT` do.
-use Rattle.std.specs.Prelude.{◌≡◌, ◌≢◌, ◌⊎◌, ℕ, ◌≤◌, Option, Some, None, List, [], length}
+use Rattle.std.specs.Prelude.{◌≡◌, ◌≢◌, ◌⊎◌, ℕ, ◌≤◌, Option, None, List, [], length}
 use Rattle.trio_io.specs.Shelf.{Shelf, Rose, RisesAt, IsTold, IsLonger, told}
 use Rattle.trio_layout.specs.declared.superblock.Superblock.{Superblock}
 use Rattle.trio_state.specs.State.{settled}
@@ -7,14 +7,13 @@ use Rattle.trio_survey.specs.Stored.{BytesVerify, StoresImage, image_in, pages_i
 use Rattle.trio_image.specs.Fault.{HasLength}
 use Rattle.trio_ctl.specs.Ctl.{superblock_for}
 use Rattle.trio_script.specs.Script.{bad_line, script_libs}
-use Rattle.trio_runner.specs.Built.{unbuilt_line}
 use Rattle.trio_runner.specs.Play.{Played, creds_in}
 use Rattle.trio_app.specs.Headline.{Headline, StoredLog}
 use Rattle.trio_app.specs.declared.status.Status.{Status}
-use Rattle.trio_app.specs.declared.status.Status.TheVariants.{Done, NotVerified, BadScript, ReadFault, WriteFault, NoMemory, TooLong, NotBuilt}
+use Rattle.trio_app.specs.declared.status.Status.TheVariants.{Done, NotVerified, BadScript, ReadFault, WriteFault, NoMemory, TooLong}
 use Rattle.trio_app.specs.Images.{ImageVerifies, ImageFails, OutKeeps}
 use Rattle.trio_app.specs.Inputs.{ReadsBadLine, ReadsScript}
-use Rattle.trio_app.specs.Lines.{read_fault_line, too_long_line, write_fault_line, not_built_line, script_line}
+use Rattle.trio_app.specs.Lines.{read_fault_line, too_long_line, write_fault_line, script_line}
 use Rattle.trio_app.specs.Report.{report_text}
 
 -- all was done with the bytes of both files
@@ -27,7 +26,6 @@ pub record TurnsDone (image script out : List ℕ) (old new : Shelf) (text : Lis
   pub script_within : length script_bytes ≤ 1048576
   pub image_verifies : BytesVerify image_bytes
   pub script_good : bad_line script_bytes ≡ None
-  pub script_built : unbuilt_line (script_libs script_bytes) ≡ None
   pub superblock : Superblock
   pub lengths : HasLength image_bytes superblock
   -- the script as it is played on the image, what holds of each of its moves, and what holds of the log that was stored
@@ -61,14 +59,12 @@ InputsStop image script old new text NoMemory = text ≡ []
 InputsStop image script old new text TooLong = TurnsTooLong image script old text
 InputsStop image script old new text BadScript =
     (number : ℕ) × ImageVerifies image old × ReadsBadLine script old number × (text ≡ script_line number)
-InputsStop image script old new text NotBuilt =
-    (number : ℕ) × ImageVerifies image old × ReadsScript script old (Some number) × (text ≡ not_built_line number)
 InputsStop image script old new text _ = ⊥
 
 -- all was done but for the write, which failed; what OUT holds isn't told then
 pub record TurnsWriteFault (image script out : List ℕ) (old new : Shelf) (text : List ℕ) : Type 0 where
   pub image_verifies : ImageVerifies image old
-  pub script_read : ReadsScript script old None
+  pub script_read : ReadsScript script old
   pub rose : Rose (old.write_faults out) (new.write_faults out)
   pub untold : new.held out ≡ None
   pub put : text ≡ write_fault_line out

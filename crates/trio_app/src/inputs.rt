@@ -12,7 +12,6 @@ use crate::{Outcome, Stop};
 use std::alloc::Global;
 use trio_image::Image;
 use trio_io::{Files, ReadWholeFault, read_whole};
-use trio_runner::unbuilt_line;
 use trio_script::{ScriptFault, ScriptLib, read_script};
 
 /// The most bytes that a script may have.
@@ -56,10 +55,7 @@ fn input_script<F: Files>(alloc: Global, name: &str, files: &mut F) -> Result<Ve
         Err(ReadWholeFault::NoMemory) => return Err(Stop::NoMemory),
     };
     match read_script(alloc, &bytes) {
-        Ok(libs) => match unbuilt_line(&libs) {
-            Some(number) => Err(Stop::LineNotBuilt(number)),
-            None => Ok(libs),
-        },
+        Ok(libs) => Ok(libs),
         Err(ScriptFault::BadLine(number)) => Err(Stop::BadLine(number)),
         Err(ScriptFault::NoMemory) => Err(Stop::NoMemory),
     }

@@ -2,7 +2,7 @@
 
 ghost use Rattle.std.specs.Prelude.{◌≡◌, ◌++◌, codes, IfOk};
 ghost use Rattle.trio_names.specs.Escaped.{escaped_of};
-ghost use Rattle.trio_app.specs.Lines.{invalid_line, length_line, made_line, not_built_line, script_line, valid_line};
+ghost use Rattle.trio_app.specs.Lines.{invalid_line, length_line, made_line, script_line, valid_line};
 
 use std::alloc::Global;
 use trio_names::escaped;
@@ -52,14 +52,6 @@ pub fn bad_line_text(alloc: Global, number: u32) -> Result<Vec<u8>, NoMemory>
     ensures { IfOk result (λ line. line.items ≡ script_line number) }
 {
     let line = format!(in alloc; "script line {number}\n")?;
-    Ok(line.into_bytes())
-}
-
-/// The line that names a line of a script for which nothing is built.
-pub fn unbuilt_line_text(alloc: Global, number: u32) -> Result<Vec<u8>, NoMemory>
-    ensures { IfOk result (λ line. line.items ≡ not_built_line number) }
-{
-    let line = format!(in alloc; "not built line {number}\n")?;
     Ok(line.into_bytes())
 }
 

@@ -6,7 +6,7 @@ ghost use Rattle.trio_survey.specs.Stored.{core_in, image_in};
 ghost use Rattle.trio_layout.specs.Tree.{tree_of};
 ghost use Rattle.trio_image.specs.Counts.{counts_of};
 ghost use Rattle.trio_ctl.specs.Ctl.{writer_of, TellsSettled};
-ghost use Rattle.trio_runner.specs.Built.{unbuilt_line};
+ghost use Rattle.trio_script.specs.Within.{AreWithin};
 ghost use Rattle.trio_runner.specs.Play.{creds_in};
 ghost use Rattle.trio_app.specs.Report.{answers_text, kind_of, lib_text, libs_text, numbers_of, told_counts};
 ghost use Rattle.trio_app.specs.inner.RunEnd.{IsRunEnd};
@@ -37,7 +37,7 @@ pub struct RunEnd {
 pub fn run(alloc: Global, image: Image, libs: &[ScriptLib]) -> Result<RunEnd, NoMemory>
     requires some { 1 ≤ length libs.now }
     requires few { length libs.now ≤ 16 }
-    requires built { unbuilt_line libs.now ≡ None }
+    requires within { AreWithin libs.now }
     ensures { IfOk result (λ end. IsRunEnd image.superblock image.pages libs.now end.report.items end.image.pages) }
 {
     let _superblock = image.superblock();

@@ -24,7 +24,7 @@ pub enum Status {
     NoMemory,
     /// A file is longer than its limit.
     TooLong,
-    /// What was asked isn't built yet.
+    /// The command isn't built yet.
     NotBuilt,
 }
 

@@ -3,7 +3,7 @@
 ghost use Rattle.std.specs.Prelude.{◌≡◌, IfOk};
 ghost use Rattle.trio_app.specs.inner.Stop.{status_of, line_of, stop_of_loading, ToldStop};
 
-use crate::lines::{bad_line_text, invalid_line, length_line, named_line, unbuilt_line_text};
+use crate::lines::{bad_line_text, invalid_line, length_line, named_line};
 use crate::{Outcome, Status};
 use std::alloc::Global;
 use trio_image::LoadFault;
@@ -24,8 +24,6 @@ pub enum Stop {
     Invalid(u8),
     /// The line of this number, counted from 1, is outside the grammar of scripts.
     BadLine(u32),
-    /// Nothing is built for the line of this number, counted from 1.
-    LineNotBuilt(u32),
     /// Memory ran out, which may come in place of any other cause.
     NoMemory,
 }
@@ -67,7 +65,6 @@ impl Stop {
             Stop::TooLong => Status::TooLong,
             Stop::Length(_) | Stop::BadSuper | Stop::Invalid(_) => Status::NotVerified,
             Stop::BadLine(_) => Status::BadScript,
-            Stop::LineNotBuilt(_) => Status::NotBuilt,
             Stop::NoMemory => Status::NoMemory,
         }
     }
@@ -82,7 +79,6 @@ impl Stop {
             Stop::BadSuper => b"bad superblock\n".to_vec(alloc),
             Stop::Invalid(rule) => invalid_line(alloc, rule),
             Stop::BadLine(number) => bad_line_text(alloc, number),
-            Stop::LineNotBuilt(number) => unbuilt_line_text(alloc, number),
             Stop::NoMemory => Ok(Vec::new(alloc)),
         }
     }

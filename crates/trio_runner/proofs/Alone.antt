@@ -51,8 +51,7 @@ use Rattle.trio_script.specs.declared.honest.HonestLine.{HonestLine}
 use Rattle.trio_script.specs.declared.honest.HonestLine.TheVariants.{Call as CallLine, Settle as SettleLine}
 use Rattle.trio_report.specs.declared.answer.LineAnswer.{LineAnswer}
 use Rattle.trio_report.specs.declared.answer.LineAnswer.TheVariants as answered
-use Rattle.trio_runner.specs.Built.{is_dir_call}
-use Rattle.trio_runner.specs.Honest.{HonestComes, Noted, Notes, SessionCalled, sees, told_outcome, unnoted}
+use Rattle.trio_runner.specs.Honest.{HonestComes, Noted, Notes, SessionCalled, sees, told_outcome, unnoted, is_dir_call}
 use Rattle.trio_runner.specs.Moves.{AreMoves}
 use Rattle.trio_runner.specs.Rounds.{Placed, Turn, Says, SaysHonest, Ends, turns_of}
 use Rattle.trio_runner.specs.Play.{AtStart, BeginsWith, Heard, InSession, Players, Plays, Share, TakesTurn, Things, TurnComes, share_of, told_to, untold, with_answer}

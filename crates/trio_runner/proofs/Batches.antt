@@ -43,8 +43,7 @@ use Rattle.trio_script.specs.declared.honest.HonestLine.{HonestLine}
 use Rattle.trio_script.specs.declared.honest.HonestLine.TheVariants.{Call as CallLine, Settle as SettleLine}
 use Rattle.trio_report.specs.declared.answer.LineAnswer.{LineAnswer}
 use Rattle.trio_report.specs.declared.answer.LineAnswer.TheVariants as answered
-use Rattle.trio_runner.specs.Built.{is_dir_call}
-use Rattle.trio_runner.specs.Honest.{CallComes, HonestComes, Noted, Notes, SessionCalled, sees, told_outcome, unnoted}
+use Rattle.trio_runner.specs.Honest.{CallComes, HonestComes, Noted, Notes, SessionCalled, sees, told_outcome, unnoted, is_dir_call}
 use Rattle.trio_runner.specs.Moves.{AreMoves, apart, back_call, entries_of}
 use Rattle.trio_runner.specs.Logged.{IsBack, IsSettle, LineMakes, replies_in, reply_told}
 use Rattle.trio_runner.proofs.Left.{left_by_chmod, left_by_dir, left_by_file, replied, replies, took_calls}

@@ -4,14 +4,14 @@ mod Plain
 pub mod Moves
 mod Noting
 mod Left
-mod BuiltCalls
+mod CallKinds
 mod Batches
 mod Spelled
 pub mod Plays
 pub mod Logs
 pub mod Outs
 pub mod Held
-mod OnTree
+pub mod OnTree
 pub mod Orders
 pub mod EndFree
 pub mod SameAnswers

@@ -35,8 +35,7 @@ use Rattle.trio_walk.specs.declared.outcome.Outcome.{Outcome}
 use Rattle.trio_script.specs.declared.honest.HonestLine.{HonestLine}
 use Rattle.trio_script.specs.declared.honest.HonestLine.TheVariants.{Call as CallLine, Settle as SettleLine}
 use Rattle.trio_report.specs.declared.answer.LineAnswer.{LineAnswer}
-use Rattle.trio_runner.specs.Built.{is_dir_call}
-use Rattle.trio_runner.specs.Honest.{HonestComes, Noted, Notes, SessionCalled, sees, unnoted}
+use Rattle.trio_runner.specs.Honest.{HonestComes, Noted, Notes, SessionCalled, sees, unnoted, is_dir_call}
 use Rattle.trio_runner.specs.Moves.{AreMoves, apart, back_call, entries_of, move_of}
 use Rattle.trio_runner.proofs.Moves.{entries_joined, moves_joined}
 

@@ -36,7 +36,7 @@ use Rattle.trio_rights.specs.declared.rights.Creds.{Creds}
 use Rattle.trio_runner.specs.Rounds.{Placed, Turn, Says, SaysHonest, Ends, turns_of}
 use Rattle.trio_nodes.specs.declared.call.Call as call
 use Rattle.trio_nodes.specs.declared.call.Call.TheVariants as calls
-use Rattle.trio_runner.specs.Honest.{HonestComes, SessionCalled, Noted, Notes, sees, told_outcome, unnoted}
+use Rattle.trio_runner.specs.Honest.{HonestComes, SessionCalled, Noted, Notes, sees, told_outcome, unnoted, is_dir_call}
 use Rattle.trio_runner.specs.Moves.{AreMoves}
 use Rattle.trio_runner.specs.Play.{AtStart, BeginsWith, Heard, IsLibraryOf, Players, Plays, Share, TakesTurn, Things, InSession, TurnComes, new_session, share_of, told_to, untold, with_answer, with_end}
 use Rattle.trio_runner.specs.PlayLaws.{PlayedIsOne}
@@ -52,7 +52,6 @@ use Rattle.trio_walk.specs.declared.outcome.Outcome.{Outcome}
 use Rattle.trio_walk.specs.declared.outcome.Outcome.TheVariants.{Replied, Busy as BusyCall, NoMemory}
 use Rattle.trio_calls_file.specs.Asks.{FileCalled, FileTried}
 use Rattle.trio_calls_dir.specs.Asks.{DirCalled, DirTried}
-use Rattle.trio_runner.specs.Built.{is_dir_call}
 use Rattle.trio_script.specs.declared.ScriptLib.{ScriptLib}
 use Rattle.trio_script.specs.declared.honest.HonestLine.{HonestLine}
 use Rattle.trio_script.specs.declared.honest.HonestLine.TheVariants.{Call as CallLine, Settle as SettleLine}

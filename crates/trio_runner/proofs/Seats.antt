@@ -1,8 +1,6 @@
 -- Turns of a round, one library after another.
-use Rattle.std.proofs.Common.{◌≡◌, ℕ, zero, suc, ◌+◌, ◌-◌, ◌<◌, ◌≤◌, not, cond, Bool, true, false, length-take-le, List, [], ◌∷◌, ◌++◌, length, map, get_or, set, take, Option, Some, None, sym, refl, ap, ◌∙◌, subst, inl, inr, arith, eqb, take-suc}
+use Rattle.std.proofs.Common.{◌≡◌, ℕ, zero, suc, ◌+◌, ◌-◌, ◌<◌, ◌≤◌, Bool, length-take-le, List, [], ◌∷◌, ◌++◌, length, map, get_or, set, take, Option, Some, None, sym, refl, ap, ◌∙◌, subst, inl, inr, arith, eqb, take-suc}
 use Rattle.std.specs.Prelude.{slice_get}
-use Rattle.std.specs.List.{find}
-use Rattle.std.specs.Option.{option_map, option_or}
 use Rattle.std.proofs.Math.Seq.{map-set_same}
 use Rattle.std.proofs.lemmas.Bool.{both_ways, eq-eqb, eqb-true, cases_Bool}
 use Rattle.std.proofs.lemmas.Grind.{flat_map-append}
@@ -30,7 +28,7 @@ use Rattle.trio_script.specs.declared.honest.HonestLine.{HonestLine}
 use Rattle.trio_script.specs.declared.ScriptLib.{ScriptLib}
 use Rattle.trio_runner.specs.declared.players.Player.{Player}
 use Rattle.trio_runner.specs.declared.players.Player.TheVariants.{Raw, Honest}
-use Rattle.trio_runner.specs.Built.{is_built, unbuilt_in, unbuilt_line}
+use Rattle.trio_script.specs.Within.{AreWithin, LinesWithin, SaysWithin}
 use Rattle.trio_runner.specs.Honest.{Noted, unnoted}
 use Rattle.trio_runner.specs.Rounds.{Turn, Placed, course, courses_from, in_rounds, line_turns, round_of, turn_list, turns_of}
 use Rattle.trio_runner.specs.Play.{AtStart, BeginsWith, Heard, Players, Plays, Share, TakesTurn, Things, InSession, TurnComes, creds_in, share_of, told_to, untold}
@@ -372,34 +370,18 @@ module _ (x : Controller) (libs : List ScriptLib) (all : List Player) (tolds : L
       log_is = refl;
     }
 
--- ---- what is built
+-- ---- the limits of calls
 
--- each library of a script that is built is
-pub built_at : (libs : List ScriptLib) (at : ℕ) (l : ScriptLib) → at < length libs → l ≡ get_or libs at l → unbuilt_line libs ≡ None → unbuilt_in l.lines ≡ None
-built_at [] at l lt is e = absurd (omega (arith, lt))
-built_at (x ∷ libs) zero l lt is e = ap (λ (y : ScriptLib). unbuilt_in y.lines) is ∙ none_first (unbuilt_in x.lines) (unbuilt_line libs) e
-  where
-    none_first : (a b : Option ℕ) → option_or a b ≡ None → a ≡ None
-    none_first None b e = refl
-    none_first (Some n) b e = absurd (cc e)
-built_at (x ∷ libs) (suc at) l lt is e = built_at libs at l (omega (arith, lt)) is (none_later (unbuilt_in x.lines) (unbuilt_line libs) e)
-  where
-    none_later : (a b : Option ℕ) → option_or a b ≡ None → b ≡ None
-    none_later None b e = e
-    none_later (Some n) b e = absurd (cc e)
+-- each library of those within the limits is
+pub within_at : (libs : List ScriptLib) (at : ℕ) (l : ScriptLib) → at < length libs → l ≡ get_or libs at l → AreWithin libs → LinesWithin l.lines
+within_at [] at l lt is h = absurd (omega (arith, lt))
+within_at (x ∷ libs) zero l lt is h = subst (λ (y : ScriptLib). LinesWithin y.lines) (sym is) h.0
+within_at (x ∷ libs) (suc at) l lt is h = within_at libs at l (omega (arith, lt)) is h.1
 
--- each line of a library that is built is
-pub line_built : (lines : List (ScriptLine HonestLine)) (at : ℕ) (line : ScriptLine HonestLine) → slice_get lines at ≡ Some line → unbuilt_in (HonestLines lines) ≡ None → is_built line.line ≡ true
-line_built [] at line e none = absurd (cc e)
-line_built (l ∷ lines) zero line e none =
+-- and each line of such a library
+pub line_within : (lines : List (ScriptLine HonestLine)) (at : ℕ) (line : ScriptLine HonestLine) → slice_get lines at ≡ Some line → LinesWithin (HonestLines lines) → SaysWithin line.line
+line_within [] at line e h = absurd (cc e)
+line_within (l ∷ lines) zero line e h =
     let same : l ≡ line = cc e in
-    subst (λ (x : ScriptLine HonestLine). is_built x.line ≡ true) same (first (is_built l.line) none)
-  where
-    first : (b : Bool) → option_map (λ (x : ScriptLine HonestLine). x.number) (cond (not b) (Some l) (find (λ (x : ScriptLine HonestLine). not (is_built x.line)) lines)) ≡ None → b ≡ true
-    first true e = refl
-    first false e = absurd (cc e)
-line_built (l ∷ lines) (suc at) line e none = line_built lines at line e (later (is_built l.line) none)
-  where
-    later : (b : Bool) → option_map (λ (x : ScriptLine HonestLine). x.number) (cond (not b) (Some l) (find (λ (x : ScriptLine HonestLine). not (is_built x.line)) lines)) ≡ None → unbuilt_in (HonestLines lines) ≡ None
-    later true e = e
-    later false e = absurd (cc e)
+    subst (λ (x : ScriptLine HonestLine). SaysWithin x.line) same h.0
+line_within (l ∷ lines) (suc at) line e h = line_within lines at line e h.1

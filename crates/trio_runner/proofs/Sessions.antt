@@ -35,8 +35,7 @@ use Rattle.trio_walk.specs.declared.outcome.Outcome.TheVariants.{Replied, Busy, 
 use Rattle.trio_script.specs.declared.honest.HonestLine.{HonestLine}
 use Rattle.trio_script.specs.declared.honest.HonestLine.TheVariants.{Call as CallLine, Settle as SettleLine}
 use Rattle.trio_report.specs.declared.answer.LineAnswer.{LineAnswer}
-use Rattle.trio_runner.specs.Built.{is_dir_call}
-use Rattle.trio_runner.specs.Honest.{HonestComes, Noted, Notes, SessionCalled, told_outcome}
+use Rattle.trio_runner.specs.Honest.{HonestComes, Noted, Notes, SessionCalled, told_outcome, is_dir_call}
 use Rattle.trio_runner.specs.Moves.{apart, back_call}
 
 -- ---- what is asked

@@ -1,16 +1,10 @@
--- A path, name by name, and the lines that are built, one by one.
-use Rattle.std.proofs.Common.{◌≡◌, ℕ, suc, ◌+◌, ◌<◌, Bool, true, false, not, cond, List, [], ◌∷◌, ◌++◌, length, get_or, take, drop, drop-cons, take-suc, Some, None, Result, Ok, sym, refl, ap, ◌∙◌, subst, arith}
+-- A path, name by name.
+use Rattle.std.proofs.Common.{◌≡◌, ℕ, suc, ◌+◌, ◌<◌, List, [], ◌∷◌, ◌++◌, length, get_or, take, take-suc, Result, Ok, sym, refl, ap, ◌∙◌, subst, arith}
 use Rattle.std.specs.Prelude.{MatchResult}
-use Rattle.std.specs.List.{find, AllByRecursion}
-use Rattle.std.specs.Option.{option_map, option_or}
+use Rattle.std.specs.List.{AllByRecursion}
 use Rattle.std.proofs.lemmas.List.{append-nil, append_assoc}
 use Rattle.trio_names.specs.Name.{IsName}
 use Rattle.trio_names.specs.Path.{IsPath, parts_bytes, path_bytes}
-use Rattle.trio_script.specs.declared.Lines.TheVariants.{Honest as HonestLines}
-use Rattle.trio_script.specs.declared.ScriptLine.{ScriptLine}
-use Rattle.trio_script.specs.declared.ScriptLib.{ScriptLib}
-use Rattle.trio_script.specs.declared.honest.HonestLine.{HonestLine}
-use Rattle.trio_runner.specs.Built.{is_built, unbuilt_in, unbuilt_line}
 
 -- ---- a path
 
@@ -41,36 +35,3 @@ pub read_same : {E : Type 0} (r : Result (List (List ℕ)) E) (copy names : List
 read_same {E} r copy names bytes Wanting is spelled each only =
     let P : Result (List (List ℕ)) E → Type 0 = λ x. MatchResult x (λ p. p ≡ names) Wanting in
     subst P is (only names (record { spelled = spelled; each = each }))
-
--- ---- what is built
-
-find_none : {X : Type 0} (p : X → Bool) (xs : List X) (i : ℕ) (x : X) → i < length xs → x ≡ get_or xs i x → p x ≡ false → find p (drop i xs) ≡ find p (drop (i + 1) xs)
-find_none p xs i x lt is fails =
-    let n : i + 1 ≡ suc i = omega arith in
-    ap (find p) (drop-cons xs i x lt ∙ ap (λ y. y ∷ drop (suc i) xs) (sym is))
-    ∙ ap (λ b. cond b (Some x) (find p (drop (suc i) xs))) fails ∙ ap (λ m. find p (drop m xs)) (sym n)
-
-find_one : {X : Type 0} (p : X → Bool) (xs : List X) (i : ℕ) (x : X) → i < length xs → x ≡ get_or xs i x → p x ≡ true → find p (drop i xs) ≡ Some x
-find_one p xs i x lt is holds =
-    ap (find p) (drop-cons xs i x lt ∙ ap (λ y. y ∷ drop (suc i) xs) (sym is)) ∙ ap (λ b. cond b (Some x) (find p (drop (suc i) xs))) holds
-
--- the first line that isn't built, from a line on that is
-pub line_passed : (lines : List (ScriptLine HonestLine)) (i : ℕ) (line : ScriptLine HonestLine) → i < length lines → line ≡ get_or lines i line → is_built line.line ≡ true → unbuilt_in (HonestLines (drop i lines)) ≡ unbuilt_in (HonestLines lines) → unbuilt_in (HonestLines (drop (i + 1) lines)) ≡ unbuilt_in (HonestLines lines)
-line_passed lines i line lt is built before =
-    ap (option_map (λ (l : ScriptLine HonestLine). l.number)) (sym (find_none (λ (l : ScriptLine HonestLine). not (is_built l.line)) lines i line lt is (ap not built))) ∙ before
-
-pub line_unbuilt : (lines : List (ScriptLine HonestLine)) (i : ℕ) (line : ScriptLine HonestLine) → i < length lines → line ≡ get_or lines i line → is_built line.line ≡ false → unbuilt_in (HonestLines (drop i lines)) ≡ unbuilt_in (HonestLines lines) → Some line.number ≡ unbuilt_in (HonestLines lines)
-line_unbuilt lines i line lt is built before =
-    ap (option_map (λ (l : ScriptLine HonestLine). l.number)) (sym (find_one (λ (l : ScriptLine HonestLine). not (is_built l.line)) lines i line lt is (ap not built))) ∙ before
-
--- the same of libraries
-pub lib_passed : (libs : List ScriptLib) (i : ℕ) (lib : ScriptLib) → i < length libs → lib ≡ get_or libs i lib → unbuilt_in lib.lines ≡ None → unbuilt_line (drop i libs) ≡ unbuilt_line libs → unbuilt_line (drop (i + 1) libs) ≡ unbuilt_line libs
-lib_passed libs i lib lt is none before =
-    let n : i + 1 ≡ suc i = omega arith in
-    ap (λ m. unbuilt_line (drop m libs)) n
-    ∙ sym (ap unbuilt_line (drop-cons libs i lib lt ∙ ap (λ y. y ∷ drop (suc i) libs) (sym is)) ∙ ap (λ o. option_or o (unbuilt_line (drop (suc i) libs))) none) ∙ before
-
-pub lib_unbuilt : (libs : List ScriptLib) (i : ℕ) (lib : ScriptLib) (number : ℕ) → i < length libs → lib ≡ get_or libs i lib → unbuilt_in lib.lines ≡ Some number → unbuilt_line (drop i libs) ≡ unbuilt_line libs → Some number ≡ unbuilt_line libs
-lib_unbuilt libs i lib number lt is some before =
-    let rest : List ScriptLib = drop (suc i) libs in
-    sym (ap unbuilt_line (drop-cons libs i lib lt ∙ ap (λ y. y ∷ rest) (sym is)) ∙ ap (λ o. option_or o (unbuilt_line rest)) some) ∙ before

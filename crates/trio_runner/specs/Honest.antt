@@ -1,8 +1,8 @@
 -- What a line of an honest library comes to: a call on a file, on a directory or on a mode by the library's session, or a settle.
-use Rattle.std.specs.Prelude.{◌≡◌, List, [], ◌++◌, length, MatchBool, Option, None, Some}
+use Rattle.std.specs.Prelude.{◌≡◌, Bool, true, false, List, [], ◌++◌, length, MatchBool, Option, None, Some}
 use Rattle.trio_rights.specs.declared.rights.LibNo.{LibNo}
 use Rattle.trio_nodes.specs.declared.call.Call as call
-use Rattle.trio_nodes.specs.declared.call.Call.TheVariants.{Chmod}
+use Rattle.trio_nodes.specs.declared.call.Call.TheVariants.{Mkdir, Create, Unlink, Rmdir, Rename, List as ListNames, Chmod}
 use Rattle.trio_desk.specs.Call.{Ask, Told, DeskSeen}
 use Rattle.trio_desk.specs.Calls.{Call}
 use Rattle.trio_state.specs.State.{State}
@@ -20,7 +20,6 @@ use Rattle.trio_script.specs.declared.honest.HonestLine.{HonestLine}
 use Rattle.trio_script.specs.declared.honest.HonestLine.TheVariants.{Call as CallLine, Settle as SettleLine}
 use Rattle.trio_report.specs.declared.answer.LineAnswer.{LineAnswer}
 use Rattle.trio_report.specs.declared.answer.LineAnswer.TheVariants as answered
-use Rattle.trio_runner.specs.Built.{is_dir_call}
 use Rattle.trio_runner.specs.Moves.{AreMoves, apart}
 
 -- ---- the controller in a turn
@@ -54,6 +53,16 @@ abbrev pub told_outcome : Outcome → Option LineAnswer
 told_outcome (Replied reply) = Some (answered.Replied reply)
 told_outcome (Busy holder) = Some answered.Busy
 told_outcome NoMemory = None
+
+-- it is a call on a directory: it makes, removes or renames a file, or lists names
+abbrev pub is_dir_call : call.Call → Bool
+is_dir_call (Mkdir path mode) = true
+is_dir_call (Create path mode) = true
+is_dir_call (Unlink path) = true
+is_dir_call (Rmdir path) = true
+is_dir_call (Rename from to) = true
+is_dir_call (ListNames path from) = true
+is_dir_call k = false
 
 -- a call of a session at a desk, on a mode, on a directory or on a file: which calls of the desk it makes, and how it ends
 abbrev pub SessionCalled : {D : Type 0} → (D → Ask → Told → D → Type 0) → (D → DeskSeen) → D → SessionSeen → call.Call → Outcome → D → SessionSeen → Type 0

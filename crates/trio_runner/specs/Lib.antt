@@ -2,7 +2,6 @@ pub mod Moves
 pub mod Line
 pub mod Honest
 pub mod Rounds
-pub mod Built
 pub mod Play
 pub mod Logged
 pub mod PlayLaws

@@ -5,10 +5,10 @@ ghost use Rattle.trio_names.specs.Path.{parts_bytes, path_bytes};
 
 use std::alloc::Global;
 use trio_names::{Name, Path};
-use trio_nodes::{Bytes, Call};
+use trio_nodes::Call;
 use trio_page::NoMemory;
 
-/// The same call once more.
+/// The same call once more. Bytes that it writes are shared, and not copied.
 pub(crate) fn copied(alloc: Global, call: &Call) -> Result<Call, NoMemory>
     ensures { IfOk result (λ copy. copy ≡ call.now) }
 {
@@ -24,7 +24,7 @@ pub(crate) fn copied(alloc: Global, call: &Call) -> Result<Call, NoMemory>
         Call::Write { path, at, bytes } => Call::Write {
             path: copied_path(alloc, path)?,
             at: *at,
-            bytes: Bytes::copied(alloc, bytes.as_slice())?,
+            bytes: bytes.share()?,
         },
         Call::Read { path, at, len } => Call::Read {
             path: copied_path(alloc, path)?,

@@ -1,13 +1,12 @@
 //! A line of an honest library, played by its session at its desk.
 
-ghost use Rattle.std.specs.Prelude.{◌≡◌, true, IfOk, length};
+ghost use Rattle.std.specs.Prelude.{◌≡◌, IfOk, length};
 ghost use Rattle.trio_edit_laws.specs.Calls.{MayCall};
 ghost use Rattle.trio_walk.specs.Asks.{Settles};
 ghost use Rattle.trio_calls_dir.specs.Chmods.{StandsOnTree};
-ghost use Rattle.trio_runner.specs.Honest.{HonestComes, SessionCalled};
-ghost use Rattle.trio_runner.specs.Built.{is_built};
+ghost use Rattle.trio_script.specs.Within.{IsWithin, SaysWithin};
+ghost use Rattle.trio_runner.specs.Honest.{HonestComes, SessionCalled, is_dir_call};
 
-use crate::built::is_dir_call;
 use crate::copies::copied;
 use std::alloc::Global;
 use trio_calls_dir::{chmod, dir_call};
@@ -28,7 +27,7 @@ pub(crate) fn play_honest<D: Desk>(
     line: &HonestLine,
 ) -> Result<LineAnswer, NoMemory>
     requires may { MayCall (D.seen desk.old) session.old }
-    requires built { is_built line.now ≡ true }
+    requires within { SaysWithin line.now }
     requires tree { StandsOnTree D.called D.seen desk.old }
     ensures line { IfOk result (λ told. HonestComes D.called D.seen desk.old session.old line.now told desk.new session.new) }
     ensures may { MayCall (D.seen desk.new) session.new }
@@ -49,7 +48,7 @@ pub(crate) fn play_honest<D: Desk>(
 /// Makes a call at the library's desk: a change of mode, or a call on a directory or on a file.
 fn make_call<D: Desk>(alloc: Global, session: &mut Session, desk: &mut D, call: Call) -> Outcome
     requires may { MayCall (D.seen desk.old) session.old }
-    requires built { is_built (HonestLine.Call call) ≡ true }
+    requires within { IsWithin call }
     requires tree { StandsOnTree D.called D.seen desk.old }
     ensures may { MayCall (D.seen desk.new) session.new }
     ensures called { SessionCalled D.called D.seen desk.old session.old call result desk.new session.new }
@@ -63,6 +62,17 @@ fn make_call<D: Desk>(alloc: Global, session: &mut Session, desk: &mut D, call: 
                 file_call(alloc, session, desk, call)
             }
         }
+    }
+}
+
+/// Whether a call is one on a directory: it makes, removes or renames a file, or lists names.
+fn is_dir_call(call: &Call) -> bool
+    ensures { result ≡ is_dir_call call.now }
+{
+    match call {
+        Call::Mkdir { .. } | Call::Create { .. } | Call::Unlink { .. } => true,
+        Call::Rmdir { .. } | Call::Rename { .. } | Call::List { .. } => true,
+        _ => false,
     }
 }
 

@@ -8,7 +8,6 @@
 //! that the controller's log is the entries of that run, which the answers print (`specs/Logged.antt`).
 #![tactic(auto)]
 
-mod built;
 mod copies;
 mod honest;
 pub mod laws;
@@ -18,5 +17,4 @@ mod rounds;
 #[cfg(test)]
 mod tests;
 
-pub use built::unbuilt_line;
 pub use rounds::{LibTold, play};

@@ -9,7 +9,7 @@ ghost use Rattle.trio_ctl.specs.Ctl.{IsLibrary};
 ghost use Rattle.trio_ctl.specs.Desk.{desk_of, out_of};
 ghost use Rattle.trio_raw.specs.Has.{OnList, whole_parcel};
 ghost use Rattle.trio_edit_laws.specs.Calls.{MayCall};
-ghost use Rattle.trio_runner.specs.Built.{is_built, unbuilt_in, unbuilt_line};
+ghost use Rattle.trio_script.specs.Within.{AreWithin, LinesWithin, SaysWithin};
 ghost use Rattle.trio_runner.specs.Play.{InSession, Things, creds_in, untold, with_answer, with_end};
 ghost use Rattle.trio_runner.specs.Rounds.{Ends, Says, SaysHonest, course, courses_from, line_turns, longest, round_of, turns_of};
 ghost use Rattle.trio_runner.specs.Seen.{ScriptPlayed};
@@ -91,14 +91,15 @@ impl LibTold {
 /// Returns what each library was told, in the order of the libraries. The controller's log is then
 /// the entries of all that was asked, in its order.
 ///
-/// Of honest libraries it plays settles and calls; [`unbuilt_line`](crate::unbuilt_line) tells whether
-/// a script has lines that aren't built. On want of memory what the libraries had stays out for good.
+/// The calls of honest lines are within the limits of a call, as all that
+/// [`read_script`](trio_script::read_script) gives are. On want of memory what the libraries had stays
+/// out for good.
 pub fn play(alloc: Global, ctl: &mut Ctl, libs: &[ScriptLib]) -> Result<Vec<LibTold>, NoMemory>
     requires kept { Kept ctl.old.state }
     requires started { ctl.old.state ≡ start ctl.old.state.home (creds_in libs.now) }
     requires unlogged { ctl.old.log ≡ [] }
     requires few { length libs.now ≤ 16 }
-    requires built { unbuilt_line libs.now ≡ None }
+    requires within { AreWithin libs.now }
     ensures script { IfOk result (λ tolds. ScriptPlayed ctl.old.state.home libs.now tolds.items ctl.new.state ctl.new.log) }
     ensures first { OnOk result (ctl.new.first ≡ ctl.old.first) }
 {
@@ -130,7 +131,7 @@ fn play_rounds(
     tolds: &mut Vec<LibTold>,
 ) -> Result<(), NoMemory>
     requires few { length libs.now ≤ 16 }
-    requires built { unbuilt_line libs.now ≡ None }
+    requires within { AreWithin libs.now }
     requires ready { IsReady (players ctl.old all.old.items tolds.old.items) }
     requires seated { AreSeated libs.now all.old.items tolds.old.items }
     ensures { OnOk result (Took (table ctl.old all.old.items tolds.old.items) (turns_of libs.now) (table ctl.new all.new.items tolds.new.items)) }
@@ -172,7 +173,7 @@ fn play_round(
     tolds: &mut Vec<LibTold>,
 ) -> Result<(), NoMemory>
     requires few { length libs.now ≤ 16 }
-    requires built { unbuilt_line libs.now ≡ None }
+    requires within { AreWithin libs.now }
     requires ready { IsReady (players ctl.old all.old.items tolds.old.items) }
     requires seated { AreSeated libs.now all.old.items tolds.old.items }
     ensures took { OnOk result (Took (table ctl.old all.old.items tolds.old.items) (round_of round (courses_from 1 libs.now)) (table ctl.new all.new.items tolds.new.items)) }
@@ -199,7 +200,7 @@ fn play_turn(
 ) -> Result<(), NoMemory>
     requires lib { lib_in player.old ≡ lib }
     requires kind { is_honest player.old ≡ has_honest lines.now }
-    requires built { unbuilt_in lines.now ≡ None }
+    requires within { LinesWithin lines.now }
     requires library { IsLibrary lib ctl.old.state }
     requires goes { GoesOn ctl.old.state lib (share_in player.old) }
     requires closed { HasClosed ctl.old.state lib (share_in player.old) }
@@ -302,7 +303,7 @@ fn honest_turn(
     session: &mut Session,
     told: &mut LibTold,
 ) -> Result<(), NoMemory>
-    requires built { unbuilt_in (Lines.Honest lines.now) ≡ None }
+    requires within { LinesWithin (Lines.Honest lines.now) }
     requires lib { session.old.lib ≡ lib }
     requires library { IsLibrary lib ctl.old.state }
     requires may { MayCall (desk_of ctl.old.state lib) session.old }
@@ -331,7 +332,7 @@ fn take_call(
     line: &ScriptLine<HonestLine>,
     told: &mut LibTold,
 ) -> Result<(), NoMemory>
-    requires built { is_built line.now.line ≡ true }
+    requires within { SaysWithin line.now.line }
     requires lib { session.old.lib ≡ lib }
     requires library { IsLibrary lib ctl.old.state }
     requires may { MayCall (desk_of ctl.old.state lib) session.old }

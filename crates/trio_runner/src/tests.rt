@@ -77,9 +77,6 @@ fn play_script(alloc: Global, bytes: &[u8], script: &[u8]) -> Option<Told> {
     let Ok(mut ctl) = Ctl::start(alloc, image, creds) else {
         return None;
     };
-    if unbuilt_line(&libs).is_some() {
-        return None;
-    }
     let tolds = play(alloc, &mut ctl, &libs).ok()?;
     let image = match ctl.image() {
         Ok(image) => image.into_bytes(alloc).ok(),

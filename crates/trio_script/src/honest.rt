@@ -7,7 +7,7 @@ use crate::text::{read_path, read_written};
 use crate::word::{parts, read_mode, read_number};
 use std::alloc::Global;
 use trio_names::Path;
-use trio_nodes::{Bytes, Call};
+use trio_nodes::{Call, SharedBytes};
 use trio_page::NoMemory;
 use trio_rights::Mode;
 
@@ -122,7 +122,7 @@ fn read_write(alloc: Global, words: &[&[u8]]) -> Result<Option<Call>, NoMemory>
     ))
 }
 
-fn wrote(path: Option<Path>, at: Option<u32>, bytes: Option<Bytes>) -> Option<Call>
+fn wrote(path: Option<Path>, at: Option<u32>, bytes: Option<SharedBytes>) -> Option<Call>
     ensures { result ≡ wrote path at bytes }
 {
     Some(Call::Write {

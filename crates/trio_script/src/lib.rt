@@ -24,6 +24,7 @@ ghost use Rattle.std.specs.Prelude.{◌≡◌, ◌∷◌, ◌<◌, ◌≤◌, le
 ghost use Rattle.std.specs.List.{list_any};
 ghost use Rattle.trio_script.specs.inner.Ends.{EndsLine, IsPlain};
 ghost use Rattle.trio_script.specs.Script.{lines_of, is_silent, names_library, bad_line, script_libs, IsFault};
+ghost use Rattle.trio_script.specs.Within.{AreWithin};
 ghost use Rattle.trio_script.specs.inner.Taken.{Begins, Takes, bad_at};
 
 mod honest;
@@ -96,7 +97,8 @@ impl From<NoMemory> for ScriptFault {
 }
 
 /// Reads a script, in one pass over its bytes. `Ok` comes only where no line is bad, with its
-/// 1 to 16 libraries in the order of their numbers: library N stands at index N - 1.
+/// 1 to 16 libraries in the order of their numbers: library N stands at index N - 1. Each call of an
+/// honest line then reads or writes at most 4096 bytes, and a mode is at most 0o777.
 ///
 /// A line names a library where it begins with `lib` and a space. A script without such a line
 /// is bad at line 1, also where another line is bad. Else the answer is the number of the first bad
@@ -107,6 +109,7 @@ pub fn read_script(alloc: Global, bytes: &[u8]) -> Result<Vec<ScriptLib>, Script
     ensures libs { IfOk result (λ libs. libs.items ≡ script_libs bytes.now) }
     ensures some { IfOk result (λ libs. 1 ≤ length libs.items) }
     ensures few { IfOk result (λ libs. length libs.items ≤ 16) }
+    ensures within { IfOk result (λ libs. AreWithin libs.items) }
 {
     let mut begun = None;
     let mut rest = bytes;

@@ -7,7 +7,7 @@ ghost use Rattle.trio_script.specs.Words.{is_upper_digit, names_of, not_long, nu
 use crate::word::is_digit;
 use std::alloc::Global;
 use trio_names::{Path, PathFault};
-use trio_nodes::{Bytes, List};
+use trio_nodes::SharedBytes;
 use trio_page::NoMemory;
 
 /// The most bytes that one line may write.
@@ -35,12 +35,12 @@ fn path_of_bytes(alloc: Global, bytes: &[u8]) -> Result<Option<Path>, NoMemory>
 }
 
 /// The bytes that a text word stands for, where they are 1 to 4096.
-pub fn read_written(alloc: Global, word: &[u8]) -> Result<Option<Bytes>, NoMemory>
+pub fn read_written(alloc: Global, word: &[u8]) -> Result<Option<SharedBytes>, NoMemory>
     ensures { IfOk result (λ bytes. bytes ≡ written_of word.now) }
 {
     match text_bytes(alloc, word)? {
         Some(bytes) if !bytes.is_empty() && bytes.len() <= WRITE_LIMIT => {
-            Ok(Some(List::from_vec(bytes)))
+            Ok(Some(SharedBytes::from_vec(bytes)?))
         }
         _ => Ok(None),
     }

@@ -1,14 +1,14 @@
 -- Why the work ends at a file that is read, and how that is told. The top call's contract doesn't rest on it.
-use Rattle.std.specs.Prelude.{◌≡◌, ◌⊎◌, ℕ, List, [], Some, ⊤}
+use Rattle.std.specs.Prelude.{◌≡◌, ◌⊎◌, ℕ, List, [], ⊤}
 use Rattle.trio_io.specs.Shelf.{Shelf, Rose, IsLonger}
 use Rattle.trio_image.specs.declared.fault.LoadFault.{LoadFault}
 use Rattle.trio_image.specs.declared.fault.LoadFault.TheVariants.{Length as LoadLength, BadSuper as LoadBadSuper, Fails as LoadFails, NoMemory as LoadNoMemory, ReadFault as LoadReadFault, TooLong as LoadTooLong}
 use Rattle.trio_app.specs.declared.status.Status.{Status}
-use Rattle.trio_app.specs.declared.status.Status.TheVariants.{NotVerified, ReadFault as StatusReadFault, TooLong as StatusTooLong, NoMemory as StatusNoMemory, BadScript, NotBuilt}
+use Rattle.trio_app.specs.declared.status.Status.TheVariants.{NotVerified, ReadFault as StatusReadFault, TooLong as StatusTooLong, NoMemory as StatusNoMemory, BadScript}
 use Rattle.trio_app.specs.declared.stop.Stop.{Stop}
-use Rattle.trio_app.specs.declared.stop.Stop.TheVariants.{ReadFault, TooLong, Length, BadSuper, Invalid, BadLine, LineNotBuilt, NoMemory}
-use Rattle.trio_app.specs.Inputs.{ReadsBadLine, ReadsScript}
-use Rattle.trio_app.specs.Lines.{length_line, bad_superblock_line, invalid_line, read_fault_line, too_long_line, not_built_line, script_line}
+use Rattle.trio_app.specs.declared.stop.Stop.TheVariants.{ReadFault, TooLong, Length, BadSuper, Invalid, BadLine, NoMemory}
+use Rattle.trio_app.specs.Inputs.{ReadsBadLine}
+use Rattle.trio_app.specs.Lines.{length_line, bad_superblock_line, invalid_line, read_fault_line, too_long_line, script_line}
 
 abbrev pub status_of : Stop → Status
 status_of ReadFault = StatusReadFault
@@ -17,7 +17,6 @@ status_of (Length count) = NotVerified
 status_of BadSuper = NotVerified
 status_of (Invalid rule) = NotVerified
 status_of (BadLine number) = BadScript
-status_of (LineNotBuilt number) = NotBuilt
 status_of NoMemory = StatusNoMemory
 
 -- the line of this cause, at the file of a name
@@ -28,7 +27,6 @@ line_of name (Length count) = length_line count
 line_of name BadSuper = bad_superblock_line
 line_of name (Invalid rule) = invalid_line rule
 line_of name (BadLine number) = script_line number
-line_of name (LineNotBuilt number) = not_built_line number
 line_of name NoMemory = []
 
 -- the status and the line of this cause, or want of memory
@@ -50,6 +48,5 @@ abbrev pub ScriptStop : List ℕ → Shelf → Shelf → Stop → Type 0
 ScriptStop script old new ReadFault = Rose (old.read_faults script) (new.read_faults script)
 ScriptStop script old new TooLong = IsLonger 1048576 (old.held script)
 ScriptStop script old new (BadLine number) = ReadsBadLine script old number
-ScriptStop script old new (LineNotBuilt number) = ReadsScript script old (Some number)
 ScriptStop script old new NoMemory = ⊤
 ScriptStop script old new _ = ⊥

@@ -14,8 +14,9 @@ pub returns-in-Ok-input_script-clause-script : goal.returns-in-Ok-input_script-c
 returns-in-Ok-input_script-clause-script g c =
     let libs = c.in-Ok-input_script.ensures.script in
     record {
-      read = record { script_bytes = libs.read.script_bytes; script_is = rw (← c.in-Ok.ensures.files.held) libs.read.script_is; within = libs.read.within; good = libs.read.good; built = libs.read.built };
+      read = record { script_bytes = libs.read.script_bytes; script_is = rw (← c.in-Ok.ensures.files.held) libs.read.script_is; within = libs.read.within; good = libs.read.good };
       libs_are = libs.libs_are;
       some = libs.some;
       few = libs.few;
+      limits = libs.limits;
     }

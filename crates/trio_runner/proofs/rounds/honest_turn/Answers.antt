@@ -4,11 +4,11 @@ use Rattle.trio_runner.specs.Play.{InSession}
 use Rattle.trio_runner.specs.inner.Ready.{TookNext}
 use Rattle.trio_runner.proofs.Calling.{on_ok}
 use Rattle.trio_runner.proofs.Orders.{end_turn, get_is, get_none, line_turn, past_turn}
-use Rattle.trio_runner.proofs.Seats.{line_built}
+use Rattle.trio_runner.proofs.Seats.{line_within}
 use Rattle.trio_runner.proofs.rounds.honest_turn.Goals as goal
 
-pub take_call-requires-clause-built : goal.take_call-requires-clause-built
-take_call-requires-clause-built c = line_built c.args.lines.now c.args.round c.in-Some.line.now (get_is c.args.lines.now c.args.round c.in-Some.line.now c.in-Some.ensures.lookup.3.0 c.in-Some.ensures.lookup.1) c.requires.built
+pub take_call-requires-clause-within : goal.take_call-requires-clause-within
+take_call-requires-clause-within c = line_within c.args.lines.now c.args.round c.in-Some.line.now (get_is c.args.lines.now c.args.round c.in-Some.line.now c.in-Some.ensures.lookup.3.0 c.in-Some.ensures.lookup.1) c.requires.within
 
 pub returns-in-Some-clause-turn : goal.returns-in-Some-clause-turn
 returns-in-Some-clause-turn c =

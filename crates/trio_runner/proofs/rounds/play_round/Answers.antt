@@ -5,9 +5,9 @@ use Rattle.trio_rights.specs.declared.rights.LibNo.{LibNo}
 use Rattle.trio_ctl.specs.Ctl.{IsLibrary}
 use Rattle.trio_script.specs.declared.ScriptLib.{ScriptLib}
 use Rattle.trio_runner.specs.Rounds.{course, courses_from, line_turns, round_of, turn_list}
-use Rattle.trio_runner.specs.Built.{unbuilt_in}
+use Rattle.trio_script.specs.Within.{LinesWithin}
 use Rattle.trio_runner.specs.inner.Ready.{GoesOn, HasClosed, Took, has_honest, share_in, table}
-use Rattle.trio_runner.proofs.Seats.{all_count, built_at, courses_length, round_more, seat_closed, seat_goes, seat_kind, seat_lib, seat_library, seat_next, seated_after, took_more}
+use Rattle.trio_runner.proofs.Seats.{all_count, courses_length, round_more, seat_closed, seat_goes, seat_kind, seat_lib, seat_library, seat_next, seated_after, took_more, within_at}
 use Rattle.trio_runner.proofs.rounds.play_round.Goals as goal
 
 pub index_mut-requires : goal.index_mut-requires
@@ -26,10 +26,10 @@ play_turn-requires-clause-kind c =
     c.index_mut.result.now c.index_mut.ensures.value c.index_mut-in-loop-at.result.now c.index_mut-in-loop-at.ensures.value c.index-libs-at.result c.index-libs-at.is
     ∙ ap (λ (l : ScriptLib). has_honest l.lines) c.index-libs-at.is
 
-pub play_turn-requires-clause-built : goal.play_turn-requires-clause-built
-play_turn-requires-clause-built c =
-    ap (λ (l : ScriptLib). unbuilt_in l.lines) (sym c.index-libs-at.is)
-    ∙ built_at c.args.libs.now c.loop-at.at c.index-libs-at.result c.loop-at-test.true c.index-libs-at.is c.requires.built
+pub play_turn-requires-clause-within : goal.play_turn-requires-clause-within
+play_turn-requires-clause-within c =
+    subst (λ (l : ScriptLib). LinesWithin l.lines) c.index-libs-at.is
+    (within_at c.args.libs.now c.loop-at.at c.index-libs-at.result c.loop-at-test.true c.index-libs-at.is c.requires.within)
 
 pub play_turn-requires-clause-library : goal.play_turn-requires-clause-library
 play_turn-requires-clause-library c =
