@@ -1,6 +1,7 @@
 //! What memory it takes to release the largest bundle of an image, with its entry in the log.
 
 ghost use Rattle.std.specs.Prelude.{◌≡◌, IfOk, IfSome, length};
+ghost use Rattle.trio_script.specs.Within.{AreWithin};
 ghost use Rattle.trio_runner.specs.Play.{creds_in};
 
 use std::alloc::Global;
@@ -12,7 +13,7 @@ use trio_nodes::{Bytes, GrantKind, List, Spot};
 use trio_page::NoMemory;
 use trio_report::LineAnswer;
 use trio_rights::Creds;
-use trio_runner::{play, unbuilt_line};
+use trio_runner::play;
 use trio_script::{Lines, RawLine, ScriptLib, ScriptLine};
 
 /// The pages of the image, of 4096 bytes each, and its inode numbers.
@@ -86,9 +87,6 @@ fn released(alloc: Global) -> Option<Ctl> {
     let Ok(mut ctl) = Ctl::start(alloc, image, creds) else {
         return None;
     };
-    if unbuilt_line(&libs).is_some() {
-        return None;
-    }
     let tolds = play(alloc, &mut ctl, &libs).ok()?;
     match tolds.first()?.answers().last() {
         Some(LineAnswer::Accepted) => Some(ctl),
@@ -109,7 +107,8 @@ fn script_creds(alloc: Global, libs: &[ScriptLib]) -> Option<Vec<Creds>>
 
 /// The one library that makes the file.
 fn script(alloc: Global) -> Result<Vec<ScriptLib>, NoMemory>
-    ensures { IfOk result (λ libs. length libs.items ≡ 1) }
+    ensures one { IfOk result (λ libs. length libs.items ≡ 1) }
+    ensures within { IfOk result (λ libs. AreWithin libs.items) }
 {
     let mut lines = Vec::new(alloc);
     add_root(alloc, &mut lines)?;

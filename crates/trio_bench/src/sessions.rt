@@ -17,7 +17,7 @@ use trio_desk::Desk;
 use trio_image::{Image, load};
 use trio_io::SureFiles;
 use trio_names::Path;
-use trio_nodes::{Answer, Bytes, Call, Reply};
+use trio_nodes::{Answer, Call, Reply, SharedBytes};
 use trio_page::{PAGE_SIZE, Page};
 use trio_rights::{Creds, LibNo};
 use trio_samples::files::root;
@@ -62,11 +62,11 @@ fn hundredths<R: Clock>(rt: &R, alloc: Global) -> io::Result<Option<u128>> {
 }
 
 /// The bytes that are written, a piece for each block.
-fn pieces(alloc: Global) -> Option<Vec<Bytes>> {
+fn pieces(alloc: Global) -> Option<Vec<SharedBytes>> {
     let mut pieces = Vec::new(alloc);
     for block in 0..BLOCKS {
         let bytes = [block as u8; PAGE_SIZE];
-        pieces.push(Bytes::copied(alloc, &bytes).ok()?).ok()?;
+        pieces.push(SharedBytes::copied(alloc, &bytes).ok()?).ok()?;
     }
     Some(pieces)
 }
@@ -95,7 +95,7 @@ fn zero_pages(alloc: Global) -> Option<Vec<Page>> {
     Some(pages)
 }
 
-fn copy_in(pieces: &[Bytes], pages: &mut [Page]) {
+fn copy_in(pieces: &[SharedBytes], pages: &mut [Page]) {
     for (page, piece) in pages.iter_mut().zip(pieces) {
         let bytes = piece.as_slice();
         if bytes.len() == PAGE_SIZE {
@@ -104,10 +104,11 @@ fn copy_in(pieces: &[Bytes], pages: &mut [Page]) {
     }
 }
 
-fn copy_out(alloc: Global, pages: &[Page]) -> Option<Vec<Bytes>> {
+fn copy_out(alloc: Global, pages: &[Page]) -> Option<Vec<SharedBytes>> {
     let mut read = Vec::new(alloc);
     for page in pages {
-        read.push(Bytes::copied(alloc, page.bytes()).ok()?).ok()?;
+        read.push(SharedBytes::copied(alloc, page.bytes()).ok()?)
+            .ok()?;
     }
     Some(read)
 }

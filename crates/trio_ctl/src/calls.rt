@@ -80,8 +80,8 @@ impl Ctl {
             return Err(AllotFault::NoMemory);
         };
         let alloc = self.registry.alloc();
-        let most_pages = pages.min(self.registry.free_pages());
-        let most_inodes = inodes.min(self.registry.free_inodes());
+        let most_pages = pages.min(self.registry.pages());
+        let most_inodes = inodes.min(self.registry.inodes());
         let Ok(numbers) = Numbers::with(alloc, most_pages, most_inodes) else {
             return Err(AllotFault::NoMemory);
         };

@@ -94,18 +94,18 @@ impl Registry {
         &self.store.rows
     }
 
-    /// How many pages are free.
-    pub(crate) fn free_pages(&self) -> u32
-        ensures { result ≡ length (free_pages self.now.state) }
+    /// How many pages the image has: no more are free.
+    pub(crate) fn pages(&self) -> u32
+        ensures { length (free_pages self.now.state) ≤ result }
     {
-        self.store.allotments.free_pages(&self.store.owners)
+        self.store.owners.pages()
     }
 
-    /// How many inode numbers are free.
-    pub(crate) fn free_inodes(&self) -> u32
-        ensures { result ≡ length (free_numbers self.now.state) }
+    /// How many inode numbers the image has: no more are free.
+    pub(crate) fn inodes(&self) -> u32
+        ensures { length (free_numbers self.now.state) ≤ result }
     {
-        self.store.allotments.free_inodes(&self.store.rows)
+        self.store.rows.inodes()
     }
 
     // the credentials of a library

@@ -10,7 +10,7 @@ use trio_ctl::Ctl;
 use trio_log::replay;
 use trio_nodes::Nodes;
 use trio_rights::{Creds, Kind, Mode};
-use trio_runner::{play, unbuilt_line};
+use trio_runner::play;
 use trio_script::{ScriptLib, read_script};
 
 /// The credentials of a script's libraries, in their order.
@@ -34,9 +34,6 @@ fn played(alloc: Global, start: Start, script: &str) -> Option<Ctl> {
     let Ok(mut ctl) = Ctl::start(alloc, image, creds) else {
         return None;
     };
-    if unbuilt_line(&libs).is_some() {
-        return None;
-    }
     let _tolds = play(alloc, &mut ctl, &libs).ok()?;
     Some(ctl)
 }

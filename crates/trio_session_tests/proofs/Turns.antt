@@ -9,18 +9,18 @@ use Rattle.trio_desk.specs.Call.{Ask, DeskSeen, Told}
 use Rattle.trio_desk.specs.Calls.{Call, Calls, OneCall, Made, NotMade}
 use Rattle.trio_desk.specs.Edits.{nothing}
 use Rattle.trio_desk.specs.Out.{OutAlike, nothing_out}
-use Rattle.trio_state.specs.Kept.{Kept}
 use Rattle.trio_state.specs.Run.{start}
 use Rattle.trio_state.specs.State.{State, creds_of}
-use Rattle.trio_laws.specs.history.Recorded.{IsRecorded, LentWhole}
+use Rattle.trio_laws.specs.history.Recorded.{IsRecorded}
 use Rattle.trio_session.specs.Seen.{SessionSeen, emptied}
 use Rattle.trio_edit_laws.specs.Calls.{MayCall}
 use Rattle.trio_edit_laws.proofs.Called.{begins_to_call}
 use Rattle.trio_ctl.specs.Ctl.{AreAsTold, Controller, IsLibrary}
 use Rattle.trio_ctl.specs.Desk.{Happens, LogsCall, desk_of, out_of}
 use Rattle.trio_ctl.specs.Logged.{recorded}
-use Rattle.trio_ctl.proofs.DeskSteps.{calls_keep, calls_leave_whole, happens_creds, others_see}
+use Rattle.trio_ctl.proofs.DeskSteps.{happens_creds, others_see}
 use Rattle.trio_runner.proofs.EndFree.{nothing_at_start}
+use Rattle.trio_runner.proofs.Moves.{Stands, call_stands}
 use Rattle.trio_session_tests.specs.Turns.{ArePlaying, IsTurn, MayPlay, NothingIsOut, SomeCalls, first_lib, second_lib, third_lib}
 
 -- ---- turns
@@ -34,21 +34,14 @@ turn_after lib s t s' a b = record {
   others = λ other apart. b.others other apart ∙ a.others other apart;
 }
 
--- what a call of a desk asks of the state
-pub record Stands (s : State) : Type 0 where
-  pub kept : Kept s
-  pub as_told : AreAsTold s
-  pub whole : LentWhole s
-
 pub recorded_stands : (first : Image) (c : Controller) → IsRecorded (recorded first c.state c.log) → AreAsTold c.state → Stands c.state
 recorded_stands first c r told = record { kept = r.kept; as_told = told; whole = r.whole }
 
 happens_turn : (s : State) (lib : LibNo) (ask : Ask) (told : Told) (s' : State) → Stands s → Happens s lib ask told s' → Stands s' × IsTurn lib s s'
-happens_turn s lib ask told s' h is =
-    let k = calls_keep s lib ask told s' h.kept h.as_told is in (
-      record { kept = k.0; as_told = k.1; whole = calls_leave_whole s lib ask told s' h.kept h.whole is },
-      record { libraries = happens_creds s lib ask told s' is; others = λ other apart. others_see s lib other ask told s' h.kept h.whole apart is },
-    )
+happens_turn s lib ask told s' h is = (
+  call_stands s lib ask told s' h is,
+  record { libraries = happens_creds s lib ask told s' is; others = λ other apart. others_see s lib other ask told s' h.kept h.whole apart is },
+)
 
 pub library_left : (s s' : State) (lib other : LibNo) → IsTurn lib s s' → IsLibrary other s → IsLibrary other s'
 library_left s s' lib other t is = (is.0, subst (λ (cs : List Creds). other.0 ≤ length cs) (sym t.libraries) is.1)

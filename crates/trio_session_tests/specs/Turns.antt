@@ -1,8 +1,8 @@
 -- Honest sessions at desks of one controller, in turns.
-use Rattle.std.specs.Prelude.{◌≡◌, Bool, true, false, List}
+use Rattle.std.specs.Prelude.{◌≡◌, ◌≤◌, Bool, true, false, List}
 use Rattle.trio_rights.specs.declared.rights.LibNo.{LibNo}
 use Rattle.trio_nodes.specs.declared.call.Call as call
-use Rattle.trio_nodes.specs.declared.call.Call.TheVariants.{Write, Read, Truncate, Stat}
+use Rattle.trio_nodes.specs.declared.call.Call.TheVariants.{Write, Read, Truncate, Stat, Chmod}
 use Rattle.trio_desk.specs.Call.{Ask, Told}
 use Rattle.trio_desk.specs.Calls.{Call, Calls}
 use Rattle.trio_desk.specs.Out.{OutAlike, nothing_out}
@@ -24,7 +24,7 @@ second_lib = record { 0 = 2 }
 abbrev pub third_lib : LibNo
 third_lib = record { 0 = 3 }
 
--- a call on a file; the others are on directories
+-- a call on a file
 abbrev pub is_of_file : call.Call → Bool
 is_of_file (Write path at bytes) = true
 is_of_file (Read path at len) = true
@@ -32,13 +32,24 @@ is_of_file (Truncate path size) = true
 is_of_file (Stat path) = true
 is_of_file k = false
 
+-- a change of mode; the others are on directories
+abbrev pub is_of_mode : call.Call → Bool
+is_of_mode (Chmod path mode) = true
+is_of_mode k = false
+
+-- it changes to a mode of nine bits
+abbrev pub IsModeCall : call.Call → Type 0
+IsModeCall (Chmod path mode) = mode.0 ≤ 511
+IsModeCall k = ⊥
+
 -- a call that an honest library makes
-abbrev pub IsCallOf : Bool → call.Call → Type 0
-IsCallOf true k = IsFileCall k
-IsCallOf false k = IsDirCall k
+abbrev pub IsCallOf : Bool → Bool → call.Call → Type 0
+IsCallOf true mode k = IsFileCall k
+IsCallOf false true k = IsModeCall k
+IsCallOf false false k = IsDirCall k
 
 abbrev pub IsCall : call.Call → Type 0
-IsCall k = IsCallOf (is_of_file k) k
+IsCall k = IsCallOf (is_of_file k) (is_of_mode k) k
 
 -- nothing is out to anybody
 abbrev pub NothingIsOut : State → Type 0

@@ -24,10 +24,14 @@ pub enum Start {
     /// `h`, 5, which its owner alone may write and others may read; and `p`, 6, a directory that its
     /// owner alone may enter, with `q`, 7.
     Several,
+    /// 64 pages and 64 inode numbers: the directories `a`, number 2, `a/d`, 3, `b`, 4, and `b/d`, 5, which
+    /// all may write, with the file `f` in each, 6 to 9; `h`, 10, which its owner alone may write and
+    /// others may read; and `p`, 11, a directory that its owner alone may enter, with `q`, 12.
+    Shared,
     /// 32 pages and 64 inode numbers: the directories `a`, `a/b`, and so on to `a/b/c/d/e/f/g/h`,
     /// numbers 2 to 9, and in the last one the file `x`, number 10, of the five bytes `hello`.
     Deep,
-    /// 64 pages and 256 inode numbers: the root alone.
+    /// 512 pages and 256 inode numbers: the root alone.
     Bare,
 }
 
@@ -39,8 +43,9 @@ pub fn image_bytes(alloc: Global, start: Start) -> Result<Vec<u8>, NoMemory> {
             alloc,
         ),
         Start::Several => Sample::of(alloc, 64, 64, &several())?.bytes(alloc),
+        Start::Shared => Sample::of(alloc, 64, 64, &shared())?.bytes(alloc),
         Start::Deep => Sample::small(alloc, &deep())?.bytes(alloc),
-        Start::Bare => Sample::of(alloc, 64, 256, &[root()])?.bytes(alloc),
+        Start::Bare => Sample::of(alloc, 512, 256, &[root()])?.bytes(alloc),
     }
 }
 
@@ -64,6 +69,34 @@ fn several<'a>() -> [SampleFile<'a>; 7] {
         },
         regular(7, 6, b"q", b"hidden"),
     ]
+}
+
+fn shared<'a>() -> [SampleFile<'a>; 12] {
+    [
+        root(),
+        for_all(directory(2, 1, b"a")),
+        for_all(directory(3, 2, b"d")),
+        for_all(directory(4, 1, b"b")),
+        for_all(directory(5, 4, b"d")),
+        for_all(regular(6, 2, b"f", b"hello")),
+        for_all(regular(7, 3, b"f", b"")),
+        for_all(regular(8, 4, b"f", b"one and two")),
+        for_all(regular(9, 5, b"f", b"three")),
+        regular(10, 1, b"h", b"four"),
+        SampleFile {
+            mode: Mode(0o700),
+            ..directory(11, 1, b"p")
+        },
+        regular(12, 11, b"q", b"hidden"),
+    ]
+}
+
+// A file that all may read, write and enter.
+fn for_all(file: SampleFile) -> SampleFile {
+    SampleFile {
+        mode: Mode(0o777),
+        ..file
+    }
 }
 
 fn deep<'a>() -> [SampleFile<'a>; 10] {

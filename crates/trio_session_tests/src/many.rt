@@ -1,6 +1,5 @@
 //! Many names in one directory.
 
-ghost use Rattle.std.specs.Prelude.{◌≤◌};
 ghost use Rattle.trio_session_tests.specs.Turns.{MayPlay, first_lib};
 
 use crate::images::{Start, image_of, started};
@@ -11,124 +10,99 @@ use trio_image::Counts;
 use trio_rights::LibNo;
 use trio_session::Session;
 
-// A path of a letter and three digits.
-fn numbered(letter: u8, number: u32) -> [u8; 5] {
-    let [hundreds, tens, ones] = [number / 100, number / 10, number];
-    [b'/', letter, digit(hundreds), digit(tens), digit(ones)]
-}
-
-fn digit(number: u32) -> u8 {
-    b'0' + (number % 10) as u8
-}
-
-/// What is done to one name after another.
+/// What is done to the files `f0` to `f199`.
 #[derive(Clone, Copy)]
 enum Deed {
     /// Each is made.
-    Make,
+    Create,
     /// Those of even numbers are removed.
-    Remove,
+    Unlink,
+    /// Those of odd numbers are renamed, to `m1`, `m3`, and so on.
+    Rename,
 }
 
-// Whether that is done so many times.
-fn are_done(alloc: Global, ctl: &mut Ctl, session: &mut Session, deed: Deed, times: u32) -> bool
-    requires may { MayPlay ctl.old.state first_lib session.old }
-    requires few { times ≤ 200 }
+// The call by which that is done to the file of a number, if anything is.
+fn ask_of<'a>(deed: Deed, number: u32, file: &'a [u8], renamed: &'a [u8]) -> Option<Ask<'a>> {
+    match deed {
+        Deed::Create => Some(Ask::Create(file, 0o644)),
+        Deed::Unlink if number % 2 == 0 => Some(Ask::Unlink(file)),
+        Deed::Rename if number % 2 == 1 => Some(Ask::Rename(file, renamed)),
+        _ => None,
+    }
+}
+
+// Whether it is done to the file of a number.
+fn is_done(
+    alloc: Global,
+    ctl: &mut Ctl,
+    session: &mut Session,
+    deed: Deed,
+    number: u32,
+) -> Option<bool>
+    requires { MayPlay ctl.old.state first_lib session.old }
     ensures { MayPlay ctl.new.state first_lib session.new }
 {
-    for k in 0..times {
-        let (any, even) = (numbered(b'n', k), numbered(b'n', 2 * k));
-        let ask = match deed {
-            Deed::Make => Ask::Create(&any, 0o644),
-            Deed::Remove => Ask::Unlink(&even),
-        };
-        if !is_told(alloc, ctl, LibNo(1), session, ask, "ok") {
+    let file = format!(in alloc; "/f{number}").ok()?;
+    let renamed = format!(in alloc; "/m{number}").ok()?;
+    match ask_of(deed, number, file.as_bytes(), renamed.as_bytes()) {
+        Some(ask) => Some(is_told(alloc, ctl, LibNo(1), session, ask, "ok")),
+        None => Some(true),
+    }
+}
+
+// Whether it is done to all of them.
+fn are_done(alloc: Global, ctl: &mut Ctl, session: &mut Session, deed: Deed) -> bool
+    requires { MayPlay ctl.old.state first_lib session.old }
+    ensures { MayPlay ctl.new.state first_lib session.new }
+{
+    for number in 0..200 {
+        if is_done(alloc, ctl, session, deed, number) != Some(true) {
             return false;
         }
     }
     true
 }
 
-/// The names that a directory should have.
-#[derive(Clone, Copy)]
-struct Names {
-    count: u32,
-    letter: char,
-    /// The numbers are those from `first` on, `step` apart.
-    first: u32,
-    step: u32,
-}
+// What the lists of the root are told at the end: the first 64 names, and those from there on.
+const LISTED: &str =
+    "ok 100 m1 m101 m103 m105 m107 m109 m11 m111 m113 m115 m117 m119 m121 m123 m125 m127 m129 \
+    m13 m131 m133 m135 m137 m139 m141 m143 m145 m147 m149 m15 m151 m153 m155 m157 m159 m161 \
+    m163 m165 m167 m169 m17 m171 m173 m175 m177 m179 m181 m183 m185 m187 m189 m19 m191 m193 \
+    m195 m197 m199 m21 m23 m25 m27 m29 m3 m31 m33";
 
-const ALL: Names = Names {
-    count: 200,
-    letter: 'n',
-    first: 0,
-    step: 1,
-};
+const LISTED_ON: &str =
+    "ok 100 m35 m37 m39 m41 m43 m45 m47 m49 m5 m51 m53 m55 m57 m59 m61 m63 m65 m67 m69 m7 m71 \
+    m73 m75 m77 m79 m81 m83 m85 m87 m89 m9 m91 m93 m95 m97 m99";
 
-const LEFT: Names = Names {
-    count: 100,
-    letter: 'n',
-    first: 1,
-    step: 2,
-};
-
-// What a list of the root is told: at most 64 names from a position on, and how many there are.
-fn listing(alloc: Global, names: Names, from: u32) -> Option<String> {
-    let Names {
-        count,
-        letter,
-        first,
-        step,
-    } = names;
-    let mut text = format!(in alloc; "ok {count}").ok()?;
-    for k in from..count.min(from.saturating_add(64)) {
-        let number = step.saturating_mul(k).saturating_add(first);
-        let name = format!(in alloc; " {letter}{number:03}").ok()?;
-        text.push_str(&name).ok()?;
-    }
-    Some(text)
-}
-
-// Whether the root lists these names, from a position on.
-fn are_listed(alloc: Global, ctl: &mut Ctl, session: &mut Session, names: Names, from: u32) -> bool
+// Two hundred files are made and settled; then half of them are removed, and the other half renamed.
+fn are_right(alloc: Global, ctl: &mut Ctl, session: &mut Session) -> bool
     requires { MayPlay ctl.old.state first_lib session.old }
-    ensures { MayPlay ctl.new.state first_lib session.new }
 {
-    match listing(alloc, names, from) {
-        Some(wanted) => is_told(
+    are_done(alloc, ctl, session, Deed::Create)
+        && is_told(alloc, ctl, LibNo(1), session, Ask::Settle, "settled 200")
+        && are_done(alloc, ctl, session, Deed::Unlink)
+        && are_done(alloc, ctl, session, Deed::Rename)
+        && is_told(alloc, ctl, LibNo(1), session, Ask::List(b"/", 0), LISTED)
+        && is_told(alloc, ctl, LibNo(1), session, Ask::Settle, "settled 201")
+        && is_told(
             alloc,
             ctl,
             LibNo(1),
             session,
-            Ask::List(b"/", from),
-            &wanted,
-        ),
-        None => false,
-    }
-}
-
-// Two hundred names are made and half of them removed, with lists before and after the settle.
-fn are_right(alloc: Global, ctl: &mut Ctl, session: &mut Session) -> bool
-    requires { MayPlay ctl.old.state first_lib session.old }
-{
-    are_done(alloc, ctl, session, Deed::Make, 200)
-        && are_listed(alloc, ctl, session, ALL, 0)
-        && are_listed(alloc, ctl, session, ALL, 190)
-        && are_done(alloc, ctl, session, Deed::Remove, 100)
-        && are_listed(alloc, ctl, session, LEFT, 0)
-        && is_told(alloc, ctl, LibNo(1), session, Ask::Settle, "settled 303")
-        && are_listed(alloc, ctl, session, LEFT, 40)
+            Ask::List(b"/", 64),
+            LISTED_ON,
+        )
 }
 
 // The directory has an index page and thirteen blocks.
 const COUNTS: Counts = Counts {
     inodes: 101,
     pages: 14,
-    free: 46,
+    free: 494,
 };
 
-// Whether all is told so, each name was looked up in an index, and the image then loads.
+// Whether all is told so, each name was looked up in an index, both names of a rename, and the image
+// then loads.
 fn are_many(alloc: Global) -> Option<bool> {
     let mut ctl = started(alloc, Start::Bare)?;
     let mut session = seated(alloc, &mut ctl, LibNo(1));
@@ -137,7 +111,7 @@ fn are_many(alloc: Global) -> Option<bool> {
     session.discard();
     let bytes = ctl.image().ok()?.into_bytes(alloc).ok()?;
     let counts = image_of(alloc, &bytes)?.counts();
-    Some(are_right && finds >= 300 && counts == COUNTS)
+    Some(are_right && finds >= 500 && counts == COUNTS)
 }
 
 #[test]

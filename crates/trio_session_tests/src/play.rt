@@ -2,10 +2,11 @@
 
 ghost use Rattle.std.specs.Prelude.{◌≡◌, ◌≤◌, IfSome, length};
 ghost use Rattle.trio_edit_laws.specs.Calls.{MayCall};
-ghost use Rattle.trio_session_tests.specs.Turns.{IsCall, IsTurn, MayPlay, NothingIsOut, SomeCalls, is_of_file};
+ghost use Rattle.trio_calls_dir.specs.Chmods.{StandsOnTree};
+ghost use Rattle.trio_session_tests.specs.Turns.{IsCall, IsModeCall, IsTurn, MayPlay, NothingIsOut, SomeCalls, is_of_file, is_of_mode};
 
 use std::alloc::Global;
-use trio_calls_dir::dir_call;
+use trio_calls_dir::{chmod, dir_call};
 use trio_calls_file::file_call;
 use trio_ctl::{Ctl, PlainDesk};
 use trio_desk::Desk;
@@ -25,6 +26,8 @@ pub enum Ask<'a> {
     Truncate(&'a [u8], u64),
     Unlink(&'a [u8]),
     Rmdir(&'a [u8]),
+    Rename(&'a [u8], &'a [u8]),
+    Chmod(&'a [u8], u16),
     List(&'a [u8], u32),
     Stat(&'a [u8]),
     Settle,
@@ -63,6 +66,14 @@ pub fn call_of(alloc: Global, ask: Ask) -> Option<Call>
         },
         Ask::Rmdir(path) => Call::Rmdir {
             path: Path::read(alloc, path).ok()?,
+        },
+        Ask::Rename(from, to) => Call::Rename {
+            from: Path::read(alloc, from).ok()?,
+            to: Path::read(alloc, to).ok()?,
+        },
+        Ask::Chmod(path, mode) => Call::Chmod {
+            path: Path::read(alloc, path).ok()?,
+            mode: Mode(mode.min(0o777)),
         },
         Ask::List(path, from) => Call::List {
             path: Path::read(alloc, path).ok()?,
@@ -107,21 +118,38 @@ pub fn play(alloc: Global, ctl: &mut Ctl, lib: LibNo, session: &mut Session, cal
 {
     ctl.is_recorded();
     ctl.is_as_told();
+    ctl.is_as_lent();
     let mut desk = PlainDesk::of(ctl, lib);
     any_call(alloc, session, &mut desk, call)
 }
 
-// A call on a file or on a directory.
+// A call on a file, a change of mode, or a call on a directory.
 fn any_call<D: Desk>(alloc: Global, session: &mut Session, desk: &mut D, call: Call) -> Outcome
     requires may { MayCall (D.seen desk.old) session.old }
     requires call { IsCall call }
+    requires tree { StandsOnTree D.called D.seen desk.old }
     ensures may { MayCall (D.seen desk.new) session.new }
     ensures called { SomeCalls D.called desk.old desk.new }
 {
     if is_of_file(&call) {
         file_call(alloc, session, desk, call)
+    } else if is_of_mode(&call) {
+        mode_call(alloc, session, desk, call)
     } else {
         dir_call(alloc, session, desk, call)
+    }
+}
+
+fn mode_call<D: Desk>(alloc: Global, session: &mut Session, desk: &mut D, call: Call) -> Outcome
+    requires may { MayCall (D.seen desk.old) session.old }
+    requires call { IsModeCall call }
+    requires tree { StandsOnTree D.called D.seen desk.old }
+    ensures may { MayCall (D.seen desk.new) session.new }
+    ensures called { SomeCalls D.called desk.old desk.new }
+{
+    match call {
+        Call::Chmod { path, mode } => chmod(alloc, session, desk, path, mode),
+        _ => unreachable!(),
     }
 }
 
@@ -132,6 +160,12 @@ fn is_of_file(call: &Call) -> bool
         call,
         Call::Write { .. } | Call::Read { .. } | Call::Truncate { .. } | Call::Stat { .. }
     )
+}
+
+fn is_of_mode(call: &Call) -> bool
+    ensures { result ≡ is_of_mode call.now }
+{
+    matches!(call, Call::Chmod { .. })
 }
 
 /// A settle of a library at its desk: the number of calls handed in.

@@ -1,5 +1,5 @@
-//! Random calls of two honest libraries and a hostile one in turns, each settle compared with the
-//! one-thread tree.
+//! Random calls of two honest libraries and a hostile one in turns, with what the log has of them
+//! compared with the one-thread tree.
 
 ghost use Rattle.std.specs.Prelude.{◌≡◌, ◌≤◌, IfSome};
 ghost use Rattle.trio_session.specs.Seen.{SessionSeen};
@@ -39,44 +39,57 @@ impl Random {
     }
 }
 
-// Files and directories of the image, and others, the last seven, that are made and removed.
-const PATHS: [&[u8]; 16] = [
+// Paths of the image and others. The first fourteen are those of files and directories that are made,
+// renamed and removed, most of them in directories that all may write.
+const PATHS: [&[u8]; 22] = [
     b"/a/f",
     b"/a/g",
-    b"/h",
-    b"/a/f",
-    b"/p/q",
-    b"/a",
-    b"/",
-    b"/a/none",
-    b"/h/under",
-    b"/d",
-    b"/d/f",
-    b"/d/d",
-    b"/d/d/g",
     b"/a/d",
+    b"/a/e",
+    b"/b/f",
+    b"/b/g",
+    b"/b/d",
+    b"/b/e",
     b"/a/d/f",
     b"/a/d/d",
+    b"/b/d/f",
+    b"/b/d/d",
+    b"/a/e/f",
+    b"/c",
+    b"/a",
+    b"/b",
+    b"/h",
+    b"/p/q",
+    b"/",
+    b"/c/f",
+    b"/a/d/d/f",
+    b"/h/under",
 ];
 
-const MODES: [u16; 4] = [0o777, 0o755, 0o777, 0o400];
+const MODES: [u16; 6] = [0o777, 0o755, 0o777, 0o777, 0o400, 0o777];
 
-// A random call: offsets and sizes go over the ends of blocks, and now and then past what is free.
+// A random call: offsets and sizes go over the ends of blocks, and now and then past what is free. Files
+// and directories are renamed within their directory and into others, onto names that stand and others.
 fn random_ask<'a>(random: &mut Random, bytes: &'a [u8]) -> Ask<'a> {
-    let path = PATHS[random.below(16) as usize % 16];
-    let made = PATHS[9 + random.below(7) as usize % 7];
+    let path = PATHS[random.below(22) as usize % 22];
+    let made = PATHS[random.below(14) as usize % 14];
+    let other = PATHS[random.below(14) as usize % 14];
     let at = random.below(3) * 4096 + random.below(30);
-    let mode = MODES[random.below(4) as usize % 4];
-    match random.below(16) {
+    let mode = MODES[random.below(6) as usize % 6];
+    match random.below(24) {
         0..=2 => Ask::Write(path, at, bytes),
-        3..=4 => Ask::Read(path, at, random.below(4097) as u32),
-        5 => Ask::Stat(path),
-        6 => Ask::Truncate(path, at),
-        7 => Ask::Truncate(path, random.below(90) * 4096 * random.below(200)),
-        8..=9 => Ask::Mkdir(made, mode),
-        10..=11 => Ask::Create(made, mode),
-        12 => Ask::Unlink(path),
-        13..=14 => Ask::Rmdir(made),
+        3 => Ask::Read(path, at, random.below(4097) as u32),
+        4 => Ask::Stat(path),
+        5 => Ask::Truncate(path, at),
+        6 => Ask::Truncate(path, random.below(90) * 4096 * random.below(200)),
+        7..=8 => Ask::Mkdir(made, mode),
+        9..=10 => Ask::Create(made, mode),
+        11 => Ask::Unlink(path),
+        12 => Ask::Rmdir(path),
+        13 => Ask::Rename(path, made),
+        14..=20 => Ask::Rename(made, other),
+        21 => Ask::Chmod(path, mode),
+        22 => Ask::Chmod(made, mode),
         _ => Ask::List(path, random.below(4) as u32),
     }
 }
@@ -94,11 +107,42 @@ fn random_bytes(random: &mut Random, to: &mut [u8; 4096]) -> usize
 
 // ---- the one-thread tree beside the controller
 
-// The nodes that the controller's image should have, and how many entries of its log are played.
+// The nodes that the controller's image should have, how many entries of its log are played, and the
+// calls among them that were done.
 #[derive(Drop)]
 struct Model {
     nodes: Nodes,
     played: usize,
+    count: Count,
+}
+
+// So many renames and changes of mode.
+#[derive(Clone, Copy)]
+struct Count {
+    renames: u32,
+    modes: u32,
+}
+
+const NONE: Count = Count {
+    renames: 0,
+    modes: 0,
+};
+
+impl Count {
+    fn with_call(self, call: &Call) -> Count {
+        self.and(match call {
+            Call::Rename { .. } => Count { renames: 1, ..NONE },
+            Call::Chmod { .. } => Count { modes: 1, ..NONE },
+            _ => NONE,
+        })
+    }
+
+    fn and(self, more: Count) -> Count {
+        Count {
+            renames: self.renames.saturating_add(more.renames),
+            modes: self.modes.saturating_add(more.modes),
+        }
+    }
 }
 
 const LIBS: [Creds; 3] = [
@@ -107,12 +151,13 @@ const LIBS: [Creds; 3] = [
     Creds { uid: 0, gid: 0 },
 ];
 
-// Plays what the log has more: the calls of each settle by the tree, each with the reply that it had.
+// Plays what the log has more: the calls of each settle by the tree, and each change of mode, with the
+// reply that each had.
 fn follow(alloc: Global, ctl: &Ctl, model: &mut Model) -> bool {
     let entries = ctl.log().entries();
     let from = model.played.min(entries.len());
     for entry in &entries[from..] {
-        if !is_followed(alloc, entry, &mut model.nodes) {
+        if !is_followed(alloc, entry, model) {
             return false;
         }
     }
@@ -120,31 +165,62 @@ fn follow(alloc: Global, ctl: &Ctl, model: &mut Model) -> bool {
     true
 }
 
-fn is_followed(alloc: Global, entry: &Entry, nodes: &mut Nodes) -> bool {
+fn is_followed(alloc: Global, entry: &Entry, model: &mut Model) -> bool {
     match entry {
-        Entry::Batch { lib, calls, .. } => match LIBS.get(lib.0.wrapping_sub(1) as usize) {
-            Some(creds) => are_replied(alloc, nodes, *creds, calls.as_slice()),
-            None => false,
-        },
+        Entry::Batch { lib, calls, .. } => are_replied(alloc, model, *lib, calls.as_slice()),
+        // a change of mode that is refused is handed in with its reply, and not asked for
+        Entry::Mode {
+            lib,
+            answer: Ok(()),
+            call: Some(call),
+            ..
+        } => is_replied(alloc, model, *lib, call, 0, &Reply::Ok(Answer::Done)),
+        Entry::Mode { .. } => false,
         _ => true,
     }
 }
 
-fn are_replied(alloc: Global, nodes: &mut Nodes, creds: Creds, calls: &[Done]) -> bool {
+fn are_replied(alloc: Global, model: &mut Model, lib: LibNo, calls: &[Done]) -> bool {
     for done in calls {
-        let is_replied = match &done.reply {
-            // the tree knows no room
-            Reply::NoSpace { wanted, free } | Reply::NoInodes { wanted, free } => free < wanted,
-            reply => match apply(alloc, nodes, creds, &done.call, done.made) {
-                Ok(answer) => is_same(&answer, reply),
-                Err(_) => false,
-            },
-        };
-        if !is_replied {
+        if !is_replied(alloc, model, lib, &done.call, done.made, &done.reply) {
             return false;
         }
     }
     true
+}
+
+fn is_replied(
+    alloc: Global,
+    model: &mut Model,
+    lib: LibNo,
+    call: &Call,
+    made: u32,
+    reply: &Reply,
+) -> bool {
+    match reply {
+        // the tree knows no room
+        Reply::NoSpace { wanted, free } | Reply::NoInodes { wanted, free } => free < wanted,
+        reply => {
+            if matches!(reply, Reply::Ok(_)) {
+                model.count = model.count.with_call(call);
+            }
+            match tree_reply(alloc, model, lib, call, made) {
+                Some(answer) => is_same(&answer, reply),
+                None => false,
+            }
+        }
+    }
+}
+
+fn tree_reply(
+    alloc: Global,
+    model: &mut Model,
+    lib: LibNo,
+    call: &Call,
+    made: u32,
+) -> Option<Reply> {
+    let creds = *LIBS.get(lib.0.wrapping_sub(1) as usize)?;
+    apply(alloc, &mut model.nodes, creds, call, made).ok()
 }
 
 fn is_same(a: &Reply, b: &Reply) -> bool {
@@ -284,11 +360,11 @@ fn turn(
     requires { ArePlaying ctl.old.state first.old second.old }
     ensures { ArePlaying ctl.new.state first.new second.new }
 {
-    match random.below(12) {
+    match random.below(16) {
         0 => first_settles(ctl, first, second).is_some(),
         1 => second_settles(ctl, first, second).is_some(),
         2 | 3 => attack(alloc, ctl, model, random),
-        4..=7 => first_calls(alloc, ctl, first, second, random),
+        4..=9 => first_calls(alloc, ctl, first, second, random),
         _ => second_calls(alloc, ctl, first, second, random),
     }
 }
@@ -404,25 +480,40 @@ fn is_all_settled(
 
 // The nodes of the image from which it starts.
 fn begun(alloc: Global) -> Option<Model> {
-    let mut image = image_of(alloc, &image_bytes(alloc, Start::Several).ok()?)?;
+    let mut image = image_of(alloc, &image_bytes(alloc, Start::Shared).ok()?)?;
     let nodes = image.nodes(alloc).ok()?;
-    Some(Model { nodes, played: 0 })
+    Some(Model {
+        nodes,
+        played: 0,
+        count: NONE,
+    })
 }
 
-fn is_one_tree(alloc: Global, seed: u64) -> Option<bool> {
+// The renames and changes of mode that were done, where it is one tree.
+fn one_tree(alloc: Global, seed: u64) -> Option<Count> {
     let mut model = begun(alloc)?;
-    let mut ctl = started(alloc, Start::Several)?;
+    let mut ctl = started(alloc, Start::Shared)?;
     let mut first = seated(alloc, &mut ctl, LibNo(1));
     let mut second = seated(alloc, &mut ctl, LibNo(2));
     let are_one = are_one(alloc, &mut ctl, &mut first, &mut second, &mut model, seed);
     first.discard();
     second.discard();
-    Some(are_one)
+    if are_one { Some(model.count) } else { None }
+}
+
+fn are_one_tree(alloc: Global) -> Option<Count> {
+    let mut count = NONE;
+    for seed in 1..21 {
+        count = count.and(one_tree(alloc, seed)?);
+    }
+    Some(count)
+}
+
+fn are_many(count: Count) -> bool {
+    count.renames >= 50 && count.modes >= 20
 }
 
 #[test]
 fn settles_come_to_the_one_thread_tree(rt: HostRuntime) {
-    for seed in 1..21 {
-        assert!(rt; is_one_tree(rt.alloc(), seed) == Some(true));
-    }
+    assert!(rt; are_one_tree(rt.alloc()).is_some_and(are_many));
 }

@@ -5,7 +5,8 @@ use Rattle.trio_edit_laws.proofs.Called.{may_be_settled}
 use Rattle.trio_calls_file.proofs.Tries.{settle_may}
 use Rattle.trio_ctl.specs.Ctl.{Controller}
 use Rattle.trio_ctl.specs.Desk.{desk_of}
-use Rattle.trio_session_tests.proofs.Turns.{Stands, calls_turn, goes_on, one_calls, recorded_stands, turn_taken}
+use Rattle.trio_runner.proofs.Moves.{Stands}
+use Rattle.trio_session_tests.proofs.Turns.{calls_turn, goes_on, one_calls, recorded_stands, turn_taken}
 use Rattle.trio_session_tests.proofs.play.settle.Goals as goal
 
 pub settle-requires-clause-ready : goal.settle-requires-clause-ready

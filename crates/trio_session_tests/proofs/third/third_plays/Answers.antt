@@ -1,7 +1,8 @@
 use Rattle.std.proofs.Common.{◌∙◌, subst, sym}
 use Rattle.trio_ctl.specs.Ctl.{Controller}
 use Rattle.trio_session_tests.specs.Turns.{third_lib}
-use Rattle.trio_session_tests.proofs.Turns.{Stands, calls_turn, recorded_stands, third_played, turn_taken}
+use Rattle.trio_runner.proofs.Moves.{Stands}
+use Rattle.trio_session_tests.proofs.Turns.{calls_turn, recorded_stands, third_played, turn_taken}
 use Rattle.trio_session_tests.proofs.third.third_plays.Goals as goal
 
 pub returns : goal.returns
