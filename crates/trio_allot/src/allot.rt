@@ -1,6 +1,6 @@
 //! What is out by allotment.
 
-ghost use Rattle.std.specs.Prelude.{◌≡◌, ◌+◌, ◌<◌, ◌≤◌, ◌↔◌, ◌∷◌, [], IfErr, IfOk, IfSome, IsSome, IsTrue, MatchOption, None, OnErr, OnOk, Some, All, length, map, slice_index_or, slice_set, take};
+ghost use Rattle.std.specs.Prelude.{◌≡◌, ◌+◌, ◌<◌, ◌≤◌, ◌↔◌, ◌∷◌, [], IfErr, IfOk, IfSome, IsSome, IsTrue, MatchOption, None, OnErr, OnOk, Some, All, length, map, min, slice_index_or, slice_set, take};
 ghost use Rattle.trio_page.specs.Home.{raised};
 ghost use Rattle.trio_tables.specs.Free.{free_numbers, free_pages, is_free_number, is_free_page, numbers_where};
 ghost use Rattle.trio_allot.specs.Free.{FreeAreHome, RefusesBoth, RefusesInodes, RefusesPages};
@@ -99,6 +99,36 @@ impl Allotments {
             }
         }
         free
+    }
+
+    /// How many pages are free, or so many where there are more: no page behind the last of those is
+    /// looked at.
+    pub fn free_pages_to(&self, owners: &Owners, most: u32) -> u32
+        ensures { result ≡ min most (length (free_pages owners.now self.now.pages)) }
+    {
+        let mut from = 0;
+        for i in 0..most {
+            match self.next_free_page(owners, from) {
+                Some(no) => from = no + 1,
+                None => return i,
+            }
+        }
+        most
+    }
+
+    /// How many inode numbers are free, or so many where there are more: no number behind the last of
+    /// those is looked at.
+    pub fn free_inodes_to(&self, rows: &Shadow, most: u32) -> u32
+        ensures { result ≡ min most (length (free_numbers rows.now self.now.numbers)) }
+    {
+        let mut from = 1;
+        for i in 0..most {
+            match self.next_free_number(rows, from) {
+                Some(ino) => from = ino + 1,
+                None => return i,
+            }
+        }
+        most
     }
 
     /// Takes the `n` lowest free pages out of the home, to be the library's. They come in the order
@@ -352,32 +382,18 @@ impl Allotments {
         rows.row(ino).is_none() && self.number_lib(ino).is_none()
     }
 
-    // whether so many pages are free; no page behind the last of them is looked at
+    // whether so many pages are free
     fn has_pages(&self, owners: &Owners, n: u32) -> bool
         ensures { IsTrue result ↔ (n ≤ length (free_pages owners.now self.now.pages)) }
     {
-        let mut from = 0;
-        for _i in 0..n {
-            match self.next_free_page(owners, from) {
-                Some(no) => from = no + 1,
-                None => return false,
-            }
-        }
-        true
+        n <= self.free_pages_to(owners, n)
     }
 
-    // whether so many inode numbers are free; no number behind the last of them is looked at
+    // whether so many inode numbers are free
     fn has_inodes(&self, rows: &Shadow, n: u32) -> bool
         ensures { IsTrue result ↔ (n ≤ length (free_numbers rows.now self.now.numbers)) }
     {
-        let mut from = 1;
-        for _i in 0..n {
-            match self.next_free_number(rows, from) {
-                Some(ino) => from = ino + 1,
-                None => return false,
-            }
-        }
-        true
+        n <= self.free_inodes_to(rows, n)
     }
 
     // the lowest free page from a number on

@@ -80,8 +80,8 @@ impl Ctl {
             return Err(AllotFault::NoMemory);
         };
         let alloc = self.registry.alloc();
-        let most_pages = pages.min(self.registry.pages());
-        let most_inodes = inodes.min(self.registry.inodes());
+        let most_pages = self.registry.free_pages_to(pages);
+        let most_inodes = self.registry.free_inodes_to(inodes);
         let Ok(numbers) = Numbers::with(alloc, most_pages, most_inodes) else {
             return Err(AllotFault::NoMemory);
         };

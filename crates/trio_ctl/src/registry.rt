@@ -1,6 +1,6 @@
 //! What a controller keeps of its image, and the grants that are open.
 
-ghost use Rattle.std.specs.Prelude.{◌≡◌, length};
+ghost use Rattle.std.specs.Prelude.{◌≡◌, length, min};
 ghost use Rattle.trio_desk.specs.Contents.{AreWithinLimits};
 ghost use Rattle.trio_state.specs.Allotments.{free_numbers, free_pages};
 ghost use Rattle.trio_state.specs.State.{creds_of};
@@ -94,18 +94,20 @@ impl Registry {
         &self.store.rows
     }
 
-    /// How many pages the image has: no more are free.
-    pub(crate) fn pages(&self) -> u32
-        ensures { length (free_pages self.now.state) ≤ result }
+    /// How many pages are free, or so many where there are more.
+    pub(crate) fn free_pages_to(&self, most: u32) -> u32
+        ensures { result ≡ min most (length (free_pages self.now.state)) }
     {
-        self.store.owners.pages()
+        self.store
+            .allotments
+            .free_pages_to(&self.store.owners, most)
     }
 
-    /// How many inode numbers the image has: no more are free.
-    pub(crate) fn inodes(&self) -> u32
-        ensures { length (free_numbers self.now.state) ≤ result }
+    /// How many inode numbers are free, or so many where there are more.
+    pub(crate) fn free_inodes_to(&self, most: u32) -> u32
+        ensures { result ≡ min most (length (free_numbers self.now.state)) }
     {
-        self.store.rows.inodes()
+        self.store.allotments.free_inodes_to(&self.store.rows, most)
     }
 
     // the credentials of a library
