@@ -1,6 +1,6 @@
 -- How a directory is entered.
 use Rattle.std.proofs.Common.{◌≡◌, ℕ, Bool, true, false, cond, List, [], ◌∷◌, ◌++◌, Option, Some, None, Result, Ok, Err, sym, refl, ap, ◌∙◌, subst, inl, inr}
-use Rattle.std.specs.Prelude.{is_some, map, not, ◌≢◌}
+use Rattle.std.specs.Prelude.{is_some, map, not, ◌&&◌, ◌≢◌}
 use Rattle.std.specs.Option.{option_map, option_map_or}
 use Rattle.std.proofs.Math.Bool.{or-false}
 use Rattle.std.proofs.lemmas.Bool.{false≢true}
@@ -190,8 +190,14 @@ module _ {D : Type 0} (called : D → Ask → Told → D → Type 0) (seen : D �
       lacks_by b e shown nodes rows p t =
           sym (body_lacks (seen d') s' k.may nodes rows p m.ino t.after t.there_now (t.kind ∙ dir) directory (seen d').creds need) ∙ e
 
-      pub entered : body_refuses s' (seen d').creds need m.ino ≡ false → Entered called seen d s m need (Ok tt) d' s'
-      entered e = record {
+      -- it gives what is needed in each state that is possible
+      abbrev Permits : Type 0
+      Permits =
+          (shown : Bool) (nodes : Nodes) (rows : List (Option Row)) → ArePossible (seen d') s'.parcel s'.reads nodes rows
+          → (t : IsMet shown s' nodes (batch_nodes (seen d').creds s'.calls nodes) (seen d').creds m) → lacks (seen d').creds need t.after ≡ false
+
+      entered_where : Permits → Entered called seen d s m need (Ok tt) d' s'
+      entered_where permits_it = record {
         more = k.more;
         last = k.last;
         needs = [];
@@ -203,7 +209,7 @@ module _ {D : Type 0} (called : D → Ask → Told → D → Type 0) (seen : D �
           record {
             gives = λ nodes rows p.
                 let t = (met' (Ok true) k).met nodes rows p in
-                let l = gives_reading (seen d').creds need t.after (t.kind ∙ dir) (lacks_by false e met.0 nodes rows p t) in
+                let l = gives_reading (seen d').creds need t.after (t.kind ∙ dir) (permits_it met.0 nodes rows p t) in
                 enter_dir ToRead met.0 s' nodes (batch_nodes (seen d').creds s'.calls nodes) (seen d').creds m t s dir false l;
             above = λ nodes rows p.
                 let t = (met' (Ok true) k).met nodes rows p in
@@ -212,10 +218,18 @@ module _ {D : Type 0} (called : D → Ask → Told → D → Type 0) (seen : D �
         );
         busy = λ n kind holder i. absurd (subst (λ l. In {X = Call} (record { ask = Grant n kind; told = NotLent (BusyGrant holder) }) l) k.taken.0 i);
         enters = λ shown nodes rows p t. (
-          enter_dir need shown s' nodes (batch_nodes (seen d').creds s'.calls nodes) (seen d').creds m t s dir false (lacks_by false e shown nodes rows p t),
+          enter_dir need shown s' nodes (batch_nodes (seen d').creds s'.calls nodes) (seen d').creds m t s dir false (permits_it shown nodes rows p t),
           asks_it (Ok true) k shown nodes t ∙ k.taken.1 ∙ sym (append-nil (map need_of k.more)),
         );
       }
+
+      -- by the rights that were known, or else by its body
+      pub entered_either : (not (is_some m.rights) && body_refuses s' (seen d').creds need m.ino) ≡ false → Entered called seen d s m need (Ok tt) d' s'
+      entered_either e = by m.rights refl e
+        where
+          by : (o : Option shown_rights.Rights) → m.rights ≡ o → (not (is_some o) && body_refuses s' (seen d').creds need m.ino) ≡ false → Entered called seen d s m need (Ok tt) d' s'
+          by None is q = entered_where (lacks_by false q)
+          by (Some r) is q = entered_where (λ shown nodes rows p t. lacks_known shown s' nodes (batch_nodes (seen d').creds s'.calls nodes) (seen d').creds m t need r is ∙ ap not (g' (Ok true) k))
 
       pub refused_then : body_refuses s' (seen d').creds need m.ino ≡ true → Entered called seen d s m need (Err (Reply Denied)) d' s'
       refused_then e = record {
