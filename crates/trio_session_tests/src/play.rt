@@ -11,7 +11,7 @@ use trio_calls_file::file_call;
 use trio_ctl::{Ctl, PlainDesk};
 use trio_desk::Desk;
 use trio_names::{Name, Path, escaped};
-use trio_nodes::{Answer, Bytes, Call, Reply};
+use trio_nodes::{Answer, Call, Reply, SharedBytes};
 use trio_rights::{Kind, LibNo, Mode};
 use trio_session::Session;
 use trio_walk::Outcome;
@@ -87,13 +87,13 @@ pub fn call_of(alloc: Global, ask: Ask) -> Option<Call>
 }
 
 // A copy of bytes, if they are no more than a block has.
-fn block_of(alloc: Global, bytes: &[u8]) -> Option<Bytes>
+fn block_of(alloc: Global, bytes: &[u8]) -> Option<SharedBytes>
     ensures { IfSome result (λ copy. length copy ≤ 4096) }
 {
     if bytes.len() > 4096 {
         return None;
     }
-    Bytes::copied(alloc, bytes).ok()
+    SharedBytes::copied(alloc, bytes).ok()
 }
 
 /// A session of a library to which nothing is out.
