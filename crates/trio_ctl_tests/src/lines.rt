@@ -4,7 +4,7 @@ use std::alloc::Global;
 use trio_ctl::Ctl;
 use trio_nodes::{
     AllotAnswer, AllotFault, Entry, GrantAnswer, GrantFault, GrantKind, Handed, HandedPage,
-    ModeFault, RawBlock, RawFile, ReleaseAnswer,
+    ModeFault, RawBlock, RawBundle, RawFile, ReleaseAnswer,
 };
 use trio_page::NoMemory;
 use trio_rights::Kind;
@@ -55,14 +55,13 @@ fn put_entry(alloc: Global, out: &mut String, entry: &Entry) -> Result<(), NoMem
             lib,
             verdict,
             files,
-            blocks,
-            handed,
+            bundle,
         } => {
             put(
                 out,
                 &format!(in alloc; "{} raw {}\n", lib.0, verdict_word(*verdict))?,
             )?;
-            put_told(alloc, out, files.as_slice(), blocks.as_slice(), handed)
+            put_told(alloc, out, files.as_slice(), bundle)
         }
         Entry::Mode {
             lib,
@@ -163,16 +162,17 @@ fn put_told(
     alloc: Global,
     out: &mut String,
     files: &[RawFile],
-    blocks: &[RawBlock],
-    handed: &Handed,
+    bundle: &RawBundle,
 ) -> Result<(), NoMemory> {
     for file in files {
         put_file(alloc, out, file)?;
     }
-    for block in blocks {
-        put_block(alloc, out, block)?;
+    for i in 0..bundle.blocks_len() {
+        if let Some(block) = bundle.block(i) {
+            put_block(alloc, out, &block)?;
+        }
     }
-    put_handed(alloc, out, handed)
+    put_handed(alloc, out, bundle.handed())
 }
 
 /// Appends a file with its parent, name, kind, mode, owner, group and size, as
@@ -203,11 +203,10 @@ fn put_block(alloc: Global, out: &mut String, block: &RawBlock) -> Result<(), No
         out,
         &format!(in alloc; " block {} {} ", block.ino, block.at)?,
     )?;
-    let bytes = block.bytes.as_slice();
-    for byte in without_zeros(bytes) {
+    for byte in without_zeros(block.bytes) {
         put(out, &format!(in alloc; "{byte:02x}")?)?;
     }
-    put(out, &format!(in alloc; " of {}\n", bytes.len())?)
+    put(out, &format!(in alloc; " of {}\n", block.bytes.len())?)
 }
 
 fn without_zeros(bytes: &[u8]) -> &[u8] {

@@ -3,8 +3,8 @@ use std::alloc::Global;
 use std::test::Fail;
 use trio_names::{Name, Path};
 use trio_nodes::{
-    Answer, Bytes, Call, Done, Entry, Handed, List, ModeFault, Node, Nodes, RawBlock, RawFile,
-    ReleaseAnswer, Reply, SharedBytes,
+    Answer, Bytes, Call, Done, Entry, Handed, HandedPage, HandedPlace, List, ModeFault, Node,
+    Nodes, PlacedBlock, RawBundle, RawFile, ReleaseAnswer, Reply,
 };
 use trio_rights::{Creds, Kind, LibNo, Mode};
 
@@ -53,9 +53,24 @@ fn nothing_handed(alloc: Global) -> Handed {
     }
 }
 
-fn block(alloc: Global, ino: u32, at: u32, bytes: &[u8]) -> Result<RawBlock, Fail> {
-    let bytes = SharedBytes::copied(alloc, bytes)?;
-    Ok(RawBlock { ino, at, bytes })
+fn fresh_page(alloc: Global, no: u32, bytes: &[u8]) -> Result<HandedPage, Fail> {
+    let bytes = Bytes::copied(alloc, bytes)?;
+    Ok(HandedPage {
+        no,
+        bytes,
+        touched: false,
+    })
+}
+
+// Two pages are handed in.
+fn two_pages(alloc: Global) -> Result<Handed, Fail> {
+    let mut pages = Vec::new(alloc);
+    pages.push(fresh_page(alloc, 30, b"new")?)?;
+    pages.push(fresh_page(alloc, 31, b"xyz")?)?;
+    Ok(Handed {
+        pages: List::from_vec(pages),
+        ..nothing_handed(alloc)
+    })
 }
 
 fn files(a: Global) -> Result<List<RawFile>, Fail> {
@@ -66,12 +81,19 @@ fn files(a: Global) -> Result<List<RawFile>, Fail> {
     Ok(List::from_vec(files))
 }
 
-fn blocks(a: Global) -> Result<List<RawBlock>, Fail> {
-    let mut blocks = Vec::new(a);
-    blocks.push(block(a, 3, 1, b"xyz")?)?;
-    blocks.push(block(a, 6, 0, b"new")?)?;
-    Ok(List::from_vec(blocks))
-}
+// The second page is block 1 of the file 3, the first one block 0 of the file 6.
+const BLOCKS: [PlacedBlock; 2] = [
+    PlacedBlock {
+        ino: 3,
+        at: 1,
+        place: HandedPlace::Fresh(1),
+    },
+    PlacedBlock {
+        ino: 6,
+        at: 0,
+        place: HandedPlace::Fresh(0),
+    },
+];
 
 // The file 3 grows to 4098 bytes, of which the second block is listed, 4 goes, and 6 is new.
 fn release(a: Global) -> Result<Entry, Fail> {
@@ -80,8 +102,7 @@ fn release(a: Global) -> Result<Entry, Fail> {
         lib: LibNo(1),
         verdict: ReleaseAnswer::Accepted,
         files,
-        blocks: blocks(a)?,
-        handed: nothing_handed(a),
+        bundle: RawBundle::of(two_pages(a)?, BLOCKS.to_vec(a)?),
     })
 }
 

@@ -8,7 +8,7 @@ use Rattle.trio_nodes.specs.declared.call.Done.{Done}
 use Rattle.trio_nodes.specs.declared.call.Reply.{Reply}
 use Rattle.trio_nodes.specs.declared.call.Reply.TheVariants.{NoSpace, NoInodes}
 use Rattle.trio_nodes.specs.declared.entry.RawFile.{RawFile}
-use Rattle.trio_nodes.specs.declared.entry.RawBlock.{RawBlock}
+use Rattle.trio_nodes.specs.Told.{ToldBlock}
 use Rattle.trio_nodes.specs.declared.entry.Entry.{Entry}
 use Rattle.trio_nodes.specs.declared.entry.Entry.TheVariants.{Raw, Batch, Mode}
 use Rattle.trio_nodes.specs.Nodes.{Nodes, node_at, with_node}
@@ -21,16 +21,16 @@ abbrev pub put_within : ℕ → List ℕ → List ℕ → List ℕ
 put_within at block bytes = take (length bytes) (take at bytes ++ block ++ drop (at + length block) bytes)
 
 -- a block put in place, where it is one of this file
-abbrev pub with_block : ℕ → RawBlock → List ℕ → List ℕ
+abbrev pub with_block : ℕ → ToldBlock → List ℕ → List ℕ
 with_block ino b bytes = if b.ino == ino then put_within (4096 * b.at) b.bytes bytes else bytes
 
 -- the listed blocks of a file put in place
-abbrev pub with_blocks : ℕ → List RawBlock → List ℕ → List ℕ
+abbrev pub with_blocks : ℕ → List ToldBlock → List ℕ → List ℕ
 with_blocks ino [] bytes = bytes
 with_blocks ino (b ∷ bs) bytes = with_blocks ino bs (with_block ino b bytes)
 
 -- the bytes of a regular file: as before, cut or grown to the size, with the listed blocks in place; a directory has none
-abbrev pub raw_bytes : List RawBlock → RawFile → Kind → List ℕ → List ℕ
+abbrev pub raw_bytes : List ToldBlock → RawFile → Kind → List ℕ → List ℕ
 raw_bytes blocks f Regular old = with_blocks f.ino blocks (resized f.size old)
 raw_bytes blocks f Directory old = []
 
@@ -40,7 +40,7 @@ bytes_in None = []
 bytes_in (Some x) = x.bytes
 
 -- what becomes of a file of a release
-abbrev pub raw_node : List RawBlock → RawFile → Option Node → Option Node
+abbrev pub raw_node : List ToldBlock → RawFile → Option Node → Option Node
 raw_node blocks f old =
     if f.gone then None else
     Some (record {
@@ -54,7 +54,7 @@ raw_node blocks f old =
     })
 
 -- the nodes after a release
-abbrev pub raw_nodes : List RawBlock → List RawFile → Nodes → Nodes
+abbrev pub raw_nodes : List ToldBlock → List RawFile → Nodes → Nodes
 raw_nodes blocks [] nodes = nodes
 raw_nodes blocks (f ∷ fs) nodes = raw_nodes blocks fs (with_node nodes f.ino (raw_node blocks f (node_at nodes f.ino)))
 
@@ -94,7 +94,7 @@ creds_in libs lib = slice_index_or libs (lib - 1) (record { uid = 0; gid = 0 })
 
 -- the nodes after an entry
 abbrev pub nodes_after : List Creds → Nodes → Entry → Nodes
-nodes_after libs nodes (Raw lib verdict files blocks handed) = raw_nodes blocks files nodes
+nodes_after libs nodes (Raw lib verdict files bundle) = raw_nodes bundle.blocks files nodes
 nodes_after libs nodes (Batch lib calls handed) = batch_nodes (creds_in libs lib.0) calls nodes
 nodes_after libs nodes (Mode lib ino mode (Ok done) call) = moded_nodes ino mode nodes
 nodes_after libs nodes _ = nodes

@@ -21,7 +21,7 @@ use Rattle.trio_nodes.specs.declared.call.Done.{Done}
 use Rattle.trio_nodes.specs.declared.call.Answer.TheVariants.{Done as IsDone}
 use Rattle.trio_nodes.specs.declared.call.Reply.TheVariants.{Ok as Replied, Denied as IsDenied}
 use Rattle.trio_nodes.specs.declared.entry.RawFile.{RawFile}
-use Rattle.trio_nodes.specs.declared.entry.RawBlock.{RawBlock}
+use Rattle.trio_nodes.specs.Told.{ToldBlock}
 use Rattle.trio_nodes.specs.declared.entry.Handed.{Handed}
 use Rattle.trio_nodes.specs.declared.entry.GrantAnswer.{GrantAnswer}
 use Rattle.trio_nodes.specs.declared.entry.GrantAnswer.TheVariants.{Granted, Refused as NotGranted}
@@ -153,11 +153,11 @@ pub record IsWithinGrants (grants : List Standing) (creds : Creds) (lib : ℕ) (
 -- ---- releases
 
 -- the block of a file at a position is listed
-abbrev pub is_listed : List RawBlock → ℕ → ℕ → Bool
+abbrev pub is_listed : List ToldBlock → ℕ → ℕ → Bool
 is_listed blocks ino at = list_any (λ b. b.ino == ino && b.at == at) blocks
 
 -- each block of a regular file's size is listed, or its bytes were all there before
-abbrev pub BlocksAreKnown : List RawBlock → RawFile → Option Node → Type 0
+abbrev pub BlocksAreKnown : List ToldBlock → RawFile → Option Node → Type 0
 BlocksAreKnown blocks f old =
     (at : ℕ) → f.kind ≡ Regular → 4096 * at < f.size → IsTrue (is_listed blocks f.ino at) ⊎ (min f.size (4096 * at + 4096) ≤ length (bytes_in old))
 
@@ -185,7 +185,7 @@ GivenAreHanded files handed = (n : ℕ) → is_given files n ≡ is_handed hande
 
 -- A release of a library: what is told as given was handed in; the nodes change within its grants, and after a refusal in their
 -- bytes alone; and the bytes of each file that is told are known.
-pub record LegalRaw (p : Past) (creds : Creds) (lib : ℕ) (verdict : ReleaseAnswer) (files : List RawFile) (blocks : List RawBlock) (handed : Handed) : Type 0 where
+pub record LegalRaw (p : Past) (creds : Creds) (lib : ℕ) (verdict : ReleaseAnswer) (files : List RawFile) (blocks : List ToldBlock) (handed : Handed) : Type 0 where
   pub given : GivenAreHanded files handed
   pub within : IsWithinGrants p.grants creds lib p.nodes (raw_nodes blocks files p.nodes)
   pub judged : LegalVerdict verdict p.nodes (raw_nodes blocks files p.nodes)
@@ -249,7 +249,7 @@ abbrev pub IsLegal : List Creds → Past → Entry → Type 0
 IsLegal libs p (Grant lib ino kind answer) = LegalGrant p (creds_in libs lib.0) lib.0 ino kind answer
 IsLegal libs p (Allot lib pages inodes answer) = LegalAllot pages inodes answer
 IsLegal libs p (Back lib ino) = Unit {0}
-IsLegal libs p (Raw lib verdict files blocks handed) = LegalRaw p (creds_in libs lib.0) lib.0 verdict files blocks handed
+IsLegal libs p (Raw lib verdict files bundle) = LegalRaw p (creds_in libs lib.0) lib.0 verdict files bundle.blocks bundle.handed
 IsLegal libs p (Batch lib calls handed) = LegalBatch p (creds_in libs lib.0) lib.0 calls
 IsLegal libs p (Mode lib ino mode answer call) =
     LegalMode p (creds_in libs lib.0) ino mode answer × LegalChmod p (creds_in libs lib.0) ino mode answer call

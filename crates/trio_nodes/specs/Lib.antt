@@ -5,7 +5,7 @@ pub mod Tree
 pub mod Walk
 pub mod Apply
 pub mod Standing
+pub mod Told
 pub mod After
 pub mod Legal
 pub mod Lends
-pub mod inner

@@ -41,6 +41,6 @@ abbrev pub grants_after : List Standing → ℕ → Entry → List Standing
 grants_after grants entries (Grant lib ino kind (Granted children)) =
     grants ++ record { lib = lib.0; ino = ino; kind = kind; entry = entries } ∷ []
 grants_after grants entries (Back lib ino) = filter (λ g. not (g.lib == lib.0 && g.ino == ino)) grants
-grants_after grants entries (Raw lib verdict files blocks handed) = filter (λ g. not (g.lib == lib.0 && is_given files g.ino)) grants
+grants_after grants entries (Raw lib verdict files bundle) = filter (λ g. not (g.lib == lib.0 && is_given files g.ino)) grants
 grants_after grants entries (Batch lib calls handed) = filter (λ g. not (g.lib == lib.0)) grants
 grants_after grants entries _ = grants

@@ -61,7 +61,7 @@ printed (Grant lib ino kind (NotGranted fault)) = told_fault fault
 printed (Allot lib pages inodes (Given ps ns)) = Some (answered.Allotted ps ns)
 printed (Allot lib pages inodes (NotGiven fault)) = told_want fault
 printed (Back lib ino) = Some answered.GivenBack
-printed (Raw lib verdict files blocks handed) = Some (told_verdict verdict)
+printed (Raw lib verdict files bundle) = Some (told_verdict verdict)
 printed (Mode lib ino mode (Ok done) call) = Some answered.ModeSet
 printed (Mode lib ino mode (Err fault) call) = told_unmoded fault
 printed (Batch lib calls handed) = None
@@ -77,7 +77,7 @@ has_entry _ = true
 
 -- the answer that the entry of an end prints: the verdict on all that was left
 abbrev pub end_printed : Entry → Option EndAnswer
-end_printed (Raw lib verdict files blocks handed) = Some (end_of verdict)
+end_printed (Raw lib verdict files bundle) = Some (end_of verdict)
 end_printed _ = None
 
 -- the answer of an end, where it has an entry: an end that is told Nothing has none

@@ -21,7 +21,7 @@ use Rattle.trio_layout.specs.Listing.{Listing, ListedEntry}
 use Rattle.trio_layout.specs.Tables.{row_after}
 use Rattle.trio_nodes.specs.declared.note.Note.{Note}
 use Rattle.trio_nodes.specs.declared.entry.Handed.{Handed}
-use Rattle.trio_nodes.specs.declared.entry.RawBlock.{RawBlock}
+use Rattle.trio_nodes.specs.Told.{ToldBlock}
 use Rattle.trio_nodes.specs.declared.entry.RawFile.{RawFile}
 
 -- notes by inode number, from 0 on; None of a number that isn't live
@@ -135,18 +135,18 @@ is_block_changed c notes h f at page =
     || nat_lt (noted_size notes f.ino) (min f.size (4096 * at + 4096))
 
 -- a block with the bytes that the bundle has for its page
-abbrev pub block_told : Case → ℕ → ℕ → ℕ → RawBlock
+abbrev pub block_told : Case → ℕ → ℕ → ℕ → ToldBlock
 block_told c n at page = record { ino = n; at = at; bytes = unwrap_or (page_of (bundle_core c) page) [] }
 
 -- those of a file's blocks from one position on that are told
-abbrev pub changed_blocks : Case → Notes → Handed → RawFile → ℕ → List ℕ → List RawBlock
+abbrev pub changed_blocks : Case → Notes → Handed → RawFile → ℕ → List ℕ → List ToldBlock
 changed_blocks c notes h f at [] = []
 changed_blocks c notes h f at (page ∷ pages) =
     let rest = changed_blocks c notes h f (at + 1) pages in
     if is_block_changed c notes h f at page then block_told c f.ino at page ∷ rest else rest
 
 -- those of a judged regular file, whose blocks are these; any other file has none that changed
-abbrev pub blocks_of_kind : Case → Notes → Handed → RawFile → Kind → List ℕ → List RawBlock
+abbrev pub blocks_of_kind : Case → Notes → Handed → RawFile → Kind → List ℕ → List ToldBlock
 blocks_of_kind c notes h f Regular pages = changed_blocks c notes h f 0 pages
 blocks_of_kind c notes h f Directory pages = []
 
@@ -155,11 +155,11 @@ abbrev pub blocks_listed_of : Listing → ℕ → List ℕ
 blocks_listed_of l n = option_map_or (λ f. f.blocks) (find (λ f. f.ino == n) l.files) []
 
 -- The blocks of a release that is accepted.
-abbrev pub accepted_blocks : Case → Listing → Notes → Handed → List RawFile → List RawBlock
+abbrev pub accepted_blocks : Case → Listing → Notes → Handed → List RawFile → List ToldBlock
 accepted_blocks c l notes h files = flat_map (λ f. blocks_of_kind c notes h f f.kind (blocks_listed_of l f.ino)) files
 
 -- The blocks of a release that is refused: those of written regular files that are marked as touched.
-abbrev pub refused_blocks : Case → Notes → Handed → List RawFile → List RawBlock
+abbrev pub refused_blocks : Case → Notes → Handed → List RawFile → List ToldBlock
 refused_blocks c notes h files = flat_map (λ f. blocks_of_kind c notes h f f.kind (lent_blocks c.bundle f.ino)) files
 
 -- ---- notes

@@ -9,7 +9,7 @@ abbrev pub maker : Entry → ℕ
 maker (Grant lib ino kind answer) = lib.0
 maker (Allot lib pages inodes answer) = lib.0
 maker (Back lib ino) = lib.0
-maker (Raw lib verdict files blocks handed) = lib.0
+maker (Raw lib verdict files bundle) = lib.0
 maker (Batch lib calls handed) = lib.0
 maker (Mode lib ino mode answer call) = lib.0
 

@@ -243,10 +243,10 @@ module _ (s : State) (lib : ℕ) (h : Handed) (j : IsJudgeable s lib (bundle_han
       flat_map-same (λ f. told_blocks_of I J h f f.kind) (λ f. blocks_of_kind cs notes h f f.kind (blocks_listed_of l f.ino)) (raw_files I J b) file_blocks
       ∙ ap (accepted_blocks cs l notes h) (files_same s lib b j acc)
 
-  entry_same : raw_entry I lib h Accepted J ≡ Raw (record { 0 = lib }) Accepted (accepted_files cs l notes) (accepted_blocks cs l notes h (accepted_files cs l notes)) h
+  entry_same : raw_entry I lib h Accepted J ≡ Raw (record { 0 = lib }) Accepted (accepted_files cs l notes) (record { handed = h; blocks = accepted_blocks cs l notes h (accepted_files cs l notes) })
   entry_same =
-      ap (λ bs. Raw (record { 0 = lib }) Accepted (raw_files I J b) bs h) blocks_same
-      ∙ ap (λ fs. Raw (record { 0 = lib }) Accepted fs (accepted_blocks cs l notes h (accepted_files cs l notes)) h) (files_same s lib b j acc)
+      ap (λ bs. Raw (record { 0 = lib }) Accepted (raw_files I J b) (record { handed = h; blocks = bs })) blocks_same
+      ∙ ap (λ fs. Raw (record { 0 = lib }) Accepted fs (record { handed = h; blocks = accepted_blocks cs l notes h (accepted_files cs l notes) })) (files_same s lib b j acc)
 
 pub accepted_is_listed : AcceptedIsListed
 accepted_is_listed s lib h j acc = entry_same s lib h j acc

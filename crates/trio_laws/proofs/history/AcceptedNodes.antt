@@ -33,7 +33,7 @@ use Rattle.trio_surveys.proofs.Sheets.{with_pages_known, place_there, page_there
 use Rattle.trio_nodes.specs.declared.entry.Handed.{Handed}
 use Rattle.trio_nodes.specs.declared.entry.HandedFile.{HandedFile}
 use Rattle.trio_nodes.specs.declared.entry.HandedPage.{HandedPage}
-use Rattle.trio_nodes.specs.declared.entry.RawBlock.{RawBlock}
+use Rattle.trio_nodes.specs.Told.{ToldBlock}
 use Rattle.trio_nodes.specs.declared.entry.RawFile.{RawFile}
 use Rattle.trio_nodes.specs.Apply.{resized}
 use Rattle.trio_nodes.specs.After.{bytes_in, with_blocks, raw_bytes, raw_nodes}
@@ -278,7 +278,7 @@ module _ (s s' : State) (k : Kept s) (k' : Kept s') (whole : LentWhole s) (lib :
   abbrev pub files : List RawFile
   files = raw_files image after b
 
-  abbrev pub bs : List RawBlock
+  abbrev pub bs : List ToldBlock
   bs = raw_blocks image after h files
 
   told_now : (n : ℕ) (o : Option Row) (r : Row) → told_by image after b n o (Some r) ≡ Some (told_file after b n false r)

@@ -41,7 +41,7 @@ use Rattle.trio_surveys.proofs.Tree.{child_has}
 use Rattle.trio_nodes.specs.declared.node.Node.{Node}
 use Rattle.trio_nodes.specs.declared.entry.Handed.{Handed}
 use Rattle.trio_nodes.specs.declared.entry.HandedFile.{HandedFile}
-use Rattle.trio_nodes.specs.declared.entry.RawBlock.{RawBlock}
+use Rattle.trio_nodes.specs.Told.{ToldBlock}
 use Rattle.trio_nodes.specs.declared.entry.RawFile.{RawFile}
 use Rattle.trio_nodes.specs.Nodes.{Nodes, node_at, entry_in}
 use Rattle.trio_nodes.specs.Standing.{Standing, stands, is_others, is_given}
@@ -450,20 +450,20 @@ module _ (s s' : State) (k : Kept s) (k' : Kept s') (whole : LentWhole s) (lib :
   abbrev these : List RawFile
   these = raw_files image after b
 
-  abbrev blocks : List RawBlock
+  abbrev blocks : List ToldBlock
   blocks = raw_blocks image after h these
 
-  told_step : (t : Bool) (x y : RawBlock) (rest : List RawBlock) → In y rest → In y (cond t (x ∷ rest) rest)
+  told_step : (t : Bool) (x y : ToldBlock) (rest : List ToldBlock) → In y rest → In y (cond t (x ∷ rest) rest)
   told_step true x y rest i = inr i
   told_step false x y rest i = i
 
   -- a block that is told stands in the list
-  told_has : (n at : ℕ) (pages : List ℕ) (i page : ℕ) → slice_get pages i ≡ Some page → is_block_told image after h n (at + i) page ≡ true → (x : RawBlock) × In x (told_blocks image after h n at pages) × (x.ino ≡ n) × (x.at ≡ at + i)
+  told_has : (n at : ℕ) (pages : List ℕ) (i page : ℕ) → slice_get pages i ≡ Some page → is_block_told image after h n (at + i) page ≡ true → (x : ToldBlock) × In x (told_blocks image after h n at pages) × (x.ino ≡ n) × (x.at ≡ at + i)
   told_has n at [] i page get t = absurd cc
   told_has n at (p ∷ ps) zero page get t =
       let same : p ≡ page = one_of p page get in
       let e : at + 0 ≡ at = omega arith in
-      let x : RawBlock = record { ino = n; at = at; bytes = unwrap_or (page_of after.core p) [] } in
+      let x : ToldBlock = record { ino = n; at = at; bytes = unwrap_or (page_of after.core p) [] } in
       let told : is_block_told image after h n at p ≡ true = ap (is_block_told image after h n at) same ∙ ap (λ m. is_block_told image after h n m page) (sym e) ∙ t in
       (x, subst (λ l. In x l) (sym (ap (λ q. cond q (x ∷ told_blocks image after h n (at + 1) ps) (told_blocks image after h n (at + 1) ps)) told)) (inl refl), refl, sym e)
   told_has n at (p ∷ ps) (suc i) page get t =
@@ -501,7 +501,7 @@ module _ (s s' : State) (k : Kept s) (k' : Kept s') (whole : LentWhole s) (lib :
       ∙ ap (λ q. cond q [] (told_blocks image after h f.ino 0 (block_numbers after f.ino (row_at after f.ino)))) there
       ∙ ap (λ m. told_blocks image after h m 0 (block_numbers after m (row_at after m))) number in
       let mine : In x.0 blocks = In-flat (λ f. told_blocks_of image after h f f.kind) f x.0 these i (subst (λ l. In x.0 l) (sym own) x.1) in
-      In-list_any (λ (y : RawBlock). eqb y.ino f.ino && eqb y.at at) x.0 blocks mine
+      In-list_any (λ (y : ToldBlock). eqb y.ino f.ino && eqb y.at at) x.0 blocks mine
       (and_from (eqb x.0.ino f.ino) (eqb x.0.at at) (eq-eqb x.0.ino f.ino (x.2 ∙ sym number)) (eq-eqb x.0.at at (x.3 ∙ zero_i)))
 
   abbrev Known : RawFile → Type 0

@@ -94,9 +94,9 @@ module _ (s : State) (answer : CtlAnswer) (s' : State) where
   by_entry (GrantEntry lib ino kind given) event m settles = stays s event s' (ap (λ (p : Past). p.nodes) m.comes)
   by_entry (AllotEntry lib pages inodes given) event m settles = stays s event s' (ap (λ (p : Past). p.nodes) m.comes)
   by_entry (BackEntry lib ino) event m settles = stays s event s' (ap (λ (p : Past). p.nodes) m.comes)
-  by_entry (Raw lib verdict files blocks handed) event m settles =
+  by_entry (Raw lib verdict files bundle) event m settles =
       let I : Event → Type 0 = λ x. Isolated s x s' in
-      subst I m.tells (inl (subst (Within s (Release lib.0 (bundle_handed handed))) (sym (ap (λ (p : Past). p.nodes) m.comes)) m.legal.within))
+      subst I m.tells (inl (subst (Within s (Release lib.0 (bundle_handed bundle.handed))) (sym (ap (λ (p : Past). p.nodes) m.comes)) m.legal.within))
   by_entry (Batch lib calls handed) event m settles = inl (settles lib.0 (bundle_handed handed) m.tells)
   by_entry (Mode lib ino mode (Ok done) call) event m settles =
       let I : Event → Type 0 = λ x. Isolated s x s' in

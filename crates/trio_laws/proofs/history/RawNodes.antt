@@ -5,38 +5,38 @@ use Rattle.std.proofs.lemmas.Bool.{cases_eq}
 use Rattle.trio_lists.specs.Counting.{count_up}
 use Rattle.trio_nodes.specs.declared.node.Node.{Node}
 use Rattle.trio_nodes.specs.declared.entry.RawFile.{RawFile}
-use Rattle.trio_nodes.specs.declared.entry.RawBlock.{RawBlock}
+use Rattle.trio_nodes.specs.Told.{ToldBlock}
 use Rattle.trio_nodes.specs.Nodes.{Nodes, node_at, with_node}
 use Rattle.trio_nodes.specs.After.{raw_node, raw_nodes, with_blocks, put_within}
 use Rattle.trio_laws.proofs.history.WithNode.{with_length}
 use Rattle.trio_nodes.proofs.NodeFacts.{with_node-same, with_node-else}
 
 -- what becomes of a node, by its file where there is one
-abbrev pub becomes : List RawBlock → Option RawFile → Option Node → Option Node
+abbrev pub becomes : List ToldBlock → Option RawFile → Option Node → Option Node
 becomes bs None old = old
 becomes bs (Some f) old = raw_node bs f old
 
-abbrev pub part_of : (RawFile → List RawBlock) → Option RawFile → List RawBlock
+abbrev pub part_of : (RawFile → List ToldBlock) → Option RawFile → List ToldBlock
 part_of g None = []
 part_of g (Some f) = g f
 
 -- files by number
 module _ (rf : ℕ → Option RawFile) (numbered : (n : ℕ) (f : RawFile) → rf n ≡ Some f → f.ino ≡ n) where
   -- numbers past these
-  out_step : (bs : List RawBlock) (from m : ℕ) (o : Option RawFile) (rest : List RawFile) → rf from ≡ o → (m ≡ from → ⊥) → ((nodes : Nodes) → node_at (raw_nodes bs rest nodes) m ≡ node_at nodes m) → (nodes : Nodes) → node_at (raw_nodes bs (cons_option o rest) nodes) m ≡ node_at nodes m
+  out_step : (bs : List ToldBlock) (from m : ℕ) (o : Option RawFile) (rest : List RawFile) → rf from ≡ o → (m ≡ from → ⊥) → ((nodes : Nodes) → node_at (raw_nodes bs rest nodes) m ≡ node_at nodes m) → (nodes : Nodes) → node_at (raw_nodes bs (cons_option o rest) nodes) m ≡ node_at nodes m
   out_step bs from m None rest e differ h nodes = h nodes
   out_step bs from m (Some f) rest e differ h nodes =
       h (with_node nodes f.ino (raw_node bs f (node_at nodes f.ino)))
       ∙ with_node-else nodes f.ino m (raw_node bs f (node_at nodes f.ino)) (λ s. differ (s ∙ numbered from f e))
 
-  pub raw_out : (bs : List RawBlock) (c from m : ℕ) → (m < from) ⊎ (from + c ≤ m) → (nodes : Nodes) → node_at (raw_nodes bs (filter_map rf (count_up from c)) nodes) m ≡ node_at nodes m
+  pub raw_out : (bs : List ToldBlock) (c from m : ℕ) → (m < from) ⊎ (from + c ≤ m) → (nodes : Nodes) → node_at (raw_nodes bs (filter_map rf (count_up from c)) nodes) m ≡ node_at nodes m
   raw_out bs zero from m out nodes = refl
   raw_out bs (suc c) from m out nodes =
       out_step bs from m (rf from) (filter_map rf (count_up (suc from) c)) refl
       (λ e. elim out [ inl l ↦ omega (arith, l, e) | inr g ↦ omega (arith, g, e) ])
       (raw_out bs c (suc from) m (elim out [ inl l ↦ inl (omega (arith, l)) | inr g ↦ inr (omega (arith, g)) ])) nodes
 
-  here_step : (bs : List RawBlock) (from : ℕ) (o : Option RawFile) (rest : List RawFile) → rf from ≡ o → ((nodes : Nodes) → node_at (raw_nodes bs rest nodes) from ≡ node_at nodes from) → (nodes : Nodes) → node_at (raw_nodes bs (cons_option o rest) nodes) from ≡ becomes bs o (node_at nodes from)
+  here_step : (bs : List ToldBlock) (from : ℕ) (o : Option RawFile) (rest : List RawFile) → rf from ≡ o → ((nodes : Nodes) → node_at (raw_nodes bs rest nodes) from ≡ node_at nodes from) → (nodes : Nodes) → node_at (raw_nodes bs (cons_option o rest) nodes) from ≡ becomes bs o (node_at nodes from)
   here_step bs from None rest e h nodes = h nodes
   here_step bs from (Some f) rest e h nodes =
       let n : f.ino ≡ from = numbered from f e in
@@ -44,13 +44,13 @@ module _ (rf : ℕ → Option RawFile) (numbered : (n : ℕ) (f : RawFile) → r
       ∙ ap (λ i. node_at (with_node nodes i (raw_node bs f (node_at nodes i))) from) n
       ∙ with_node-same nodes from (raw_node bs f (node_at nodes from))
 
-  past_step : (bs : List RawBlock) (from m : ℕ) (o : Option RawFile) (rest : List RawFile) → rf from ≡ o → (m ≡ from → ⊥) → ((nodes : Nodes) → node_at (raw_nodes bs rest nodes) m ≡ becomes bs (rf m) (node_at nodes m)) → (nodes : Nodes) → node_at (raw_nodes bs (cons_option o rest) nodes) m ≡ becomes bs (rf m) (node_at nodes m)
+  past_step : (bs : List ToldBlock) (from m : ℕ) (o : Option RawFile) (rest : List RawFile) → rf from ≡ o → (m ≡ from → ⊥) → ((nodes : Nodes) → node_at (raw_nodes bs rest nodes) m ≡ becomes bs (rf m) (node_at nodes m)) → (nodes : Nodes) → node_at (raw_nodes bs (cons_option o rest) nodes) m ≡ becomes bs (rf m) (node_at nodes m)
   past_step bs from m None rest e differ h nodes = h nodes
   past_step bs from m (Some f) rest e differ h nodes =
       h (with_node nodes f.ino (raw_node bs f (node_at nodes f.ino)))
       ∙ ap (becomes bs (rf m)) (with_node-else nodes f.ino m (raw_node bs f (node_at nodes f.ino)) (λ s. differ (s ∙ numbered from f e)))
 
-  pub raw_in : (bs : List RawBlock) (c from m : ℕ) → from ≤ m → m < from + c → (nodes : Nodes) → node_at (raw_nodes bs (filter_map rf (count_up from c)) nodes) m ≡ becomes bs (rf m) (node_at nodes m)
+  pub raw_in : (bs : List ToldBlock) (c from m : ℕ) → from ≤ m → m < from + c → (nodes : Nodes) → node_at (raw_nodes bs (filter_map rf (count_up from c)) nodes) m ≡ becomes bs (rf m) (node_at nodes m)
   raw_in bs zero from m low high nodes = absurd (omega (arith, low, high))
   raw_in bs (suc c) from m low high nodes =
       elim (cases_eq m from) [
@@ -61,22 +61,22 @@ module _ (rf : ℕ → Option RawFile) (numbered : (n : ℕ) (f : RawFile) → r
         | inr differ ↦ past_step bs from m (rf from) (filter_map rf (count_up (suc from) c)) refl differ (raw_in bs c (suc from) m (omega (arith, low, differ)) (omega (arith, high))) nodes
       ]
 
-  length_step : (bs : List RawBlock) (from : ℕ) (o : Option RawFile) (rest : List RawFile) (n : ℕ) → rf from ≡ o → from < n → ((nodes : Nodes) → length nodes ≡ n → length (raw_nodes bs rest nodes) ≡ n) → (nodes : Nodes) → length nodes ≡ n → length (raw_nodes bs (cons_option o rest) nodes) ≡ n
+  length_step : (bs : List ToldBlock) (from : ℕ) (o : Option RawFile) (rest : List RawFile) (n : ℕ) → rf from ≡ o → from < n → ((nodes : Nodes) → length nodes ≡ n → length (raw_nodes bs rest nodes) ≡ n) → (nodes : Nodes) → length nodes ≡ n → length (raw_nodes bs (cons_option o rest) nodes) ≡ n
   length_step bs from None rest n e l h nodes long = h nodes long
   length_step bs from (Some f) rest n e l h nodes long =
       let i = numbered from f e in
       h (with_node nodes f.ino (raw_node bs f (node_at nodes f.ino)))
       (with_length nodes f.ino (raw_node bs f (node_at nodes f.ino)) (omega (arith, i, l, long)) ∙ long)
 
-  pub raw_length : (bs : List RawBlock) (c from n : ℕ) → from + c ≤ n → (nodes : Nodes) → length nodes ≡ n → length (raw_nodes bs (filter_map rf (count_up from c)) nodes) ≡ n
+  pub raw_length : (bs : List ToldBlock) (c from n : ℕ) → from + c ≤ n → (nodes : Nodes) → length nodes ≡ n → length (raw_nodes bs (filter_map rf (count_up from c)) nodes) ≡ n
   raw_length bs zero from n h nodes long = long
   raw_length bs (suc c) from n h nodes long =
       length_step bs from (rf from) (filter_map rf (count_up (suc from) c)) n refl (omega (arith, h)) (raw_length bs c (suc from) n (omega (arith, h))) nodes long
 
   -- ---- blocks of one file among those of all
 
-  module _ (g : RawFile → List RawBlock) (own : (f : RawFile) (m : ℕ) (x : List ℕ) → (f.ino ≡ m → ⊥) → with_blocks m (g f) x ≡ x) where
-    blocks_append : (m : ℕ) (xs ys : List RawBlock) (x : List ℕ) → with_blocks m (xs ++ ys) x ≡ with_blocks m ys (with_blocks m xs x)
+  module _ (g : RawFile → List ToldBlock) (own : (f : RawFile) (m : ℕ) (x : List ℕ) → (f.ino ≡ m → ⊥) → with_blocks m (g f) x ≡ x) where
+    blocks_append : (m : ℕ) (xs ys : List ToldBlock) (x : List ℕ) → with_blocks m (xs ++ ys) x ≡ with_blocks m ys (with_blocks m xs x)
     blocks_append m [] ys x = refl
     blocks_append m (b ∷ bs) ys x = blocks_append m bs ys (cond (eqb b.ino m) (put_within (4096 * b.at) b.bytes x) x)
 

@@ -11,7 +11,7 @@ use Rattle.trio_layout.specs.Image.{Image, row_at}
 use Rattle.trio_rights.specs.Bundle.{Bundle}
 use Rattle.trio_rights.specs.Sheets.{Sheet, sheet_numbers}
 use Rattle.trio_nodes.specs.declared.entry.Handed.{Handed}
-use Rattle.trio_nodes.specs.declared.entry.RawBlock.{RawBlock}
+use Rattle.trio_nodes.specs.Told.{ToldBlock}
 use Rattle.trio_nodes.specs.declared.entry.RawFile.{RawFile}
 use Rattle.trio_nodes.specs.After.{with_blocks, put_within}
 use Rattle.trio_laws.specs.history.Entries.{is_told, told_file, told_by, raw_file, block_numbers, is_touched, is_block_told, told_blocks, told_blocks_of}
@@ -32,7 +32,7 @@ pub raw_number : (before after : Image) (b : Bundle) (n : ℕ) (f : RawFile) →
 raw_number before after b n f e = number_step before after b n (is_told before after b n) f e
 
 -- blocks of one file leave every other
-others_step : (m : ℕ) (t : Bool) (x : RawBlock) (rest : List RawBlock) (bytes : List ℕ) → (x.ino ≡ m → ⊥) → with_blocks m (cond t (x ∷ rest) rest) bytes ≡ with_blocks m rest bytes
+others_step : (m : ℕ) (t : Bool) (x : ToldBlock) (rest : List ToldBlock) (bytes : List ℕ) → (x.ino ≡ m → ⊥) → with_blocks m (cond t (x ∷ rest) rest) bytes ≡ with_blocks m rest bytes
 others_step m true x rest bytes d = ap (λ b. with_blocks m rest (cond b (put_within (4096 * x.at) x.bytes bytes) bytes)) (ne_eqb x.ino m d)
 others_step m false x rest bytes d = refl
 
@@ -54,7 +54,7 @@ pub own_blocks : (before after : Image) (h : Handed) (f : RawFile) (m : ℕ) (by
 own_blocks before after h f m bytes d = kind_others before after h f m bytes f.kind d
 
 -- where nothing is told, there are no blocks
-none_step : (t : Bool) (x : RawBlock) (rest : List RawBlock) → t ≡ false → rest ≡ [] → cond t (x ∷ rest) rest ≡ []
+none_step : (t : Bool) (x : ToldBlock) (rest : List ToldBlock) → t ≡ false → rest ≡ [] → cond t (x ∷ rest) rest ≡ []
 none_step t x rest e h = ap (λ b. cond b (x ∷ rest) rest) e ∙ h
 
 pub told_none : (before after : Image) (h : Handed) (n at : ℕ) (pages : List ℕ) → ((i page : ℕ) → slice_get pages i ≡ Some page → is_block_told before after h n (at + i) page ≡ false) → told_blocks before after h n at pages ≡ []

@@ -35,7 +35,7 @@ use Rattle.trio_laws.proofs.StateFacts.{write_alone}
 use Rattle.trio_nodes.specs.declared.entry.Handed.{Handed}
 use Rattle.trio_nodes.specs.declared.entry.HandedFile.{HandedFile}
 use Rattle.trio_nodes.specs.declared.entry.HandedPage.{HandedPage}
-use Rattle.trio_nodes.specs.declared.entry.RawBlock.{RawBlock}
+use Rattle.trio_nodes.specs.Told.{ToldBlock}
 use Rattle.trio_nodes.specs.declared.entry.RawFile.{RawFile}
 use Rattle.trio_nodes.specs.After.{with_blocks, raw_bytes, raw_nodes}
 use Rattle.trio_nodes.specs.Nodes.{node_at}
@@ -233,7 +233,7 @@ module _ (s s' : State) (k : Kept s) (k' : Kept s') (whole : LentWhole s) (lib :
   abbrev pub files : List RawFile
   files = raw_files I J b
 
-  abbrev pub bs : List RawBlock
+  abbrev pub bs : List ToldBlock
   bs = raw_blocks I J h files
 
   file_is : (n : ℕ) (r : Row) → row_at s.home n ≡ Some r → is_told I J b n ≡ true → rf n ≡ Some (told_file J b n false r)

@@ -25,7 +25,7 @@ use Rattle.trio_laws.proofs.StateFacts.{alone}
 use Rattle.trio_nodes.specs.declared.node.Node.{Node}
 use Rattle.trio_nodes.specs.declared.entry.Handed.{Handed}
 use Rattle.trio_nodes.specs.declared.entry.HandedFile.{HandedFile}
-use Rattle.trio_nodes.specs.declared.entry.RawBlock.{RawBlock}
+use Rattle.trio_nodes.specs.Told.{ToldBlock}
 use Rattle.trio_nodes.specs.declared.entry.RawFile.{RawFile}
 use Rattle.trio_nodes.specs.Nodes.{Nodes, node_at, entry_in}
 use Rattle.trio_nodes.specs.Standing.{Standing, stands, is_others, is_given}
@@ -64,7 +64,7 @@ module _ (s s' : State) (k : Kept s) (k' : Kept s') (whole : LentWhole s) (whole
   abbrev these : List RawFile
   these = raw_files image after b
 
-  abbrev blocks : List RawBlock
+  abbrev blocks : List ToldBlock
   blocks = raw_blocks image after h these
 
   abbrev gs : List Standing

@@ -241,10 +241,10 @@ module _ (s : State) (lib : ℕ) (h : Handed) (j : IsJudgeable s lib (bundle_han
       flat_map-same (λ f. told_blocks_of I J h f f.kind) (λ f. blocks_of_kind cs notes h f f.kind (lent_blocks b f.ino)) (raw_files I J b) file_blocks
       ∙ ap (refused_blocks cs notes h) files_same
 
-  entry_same : (verdict : ReleaseAnswer) → raw_entry I lib h verdict J ≡ Raw (record { 0 = lib }) verdict (refused_files cs notes) (refused_blocks cs notes h (refused_files cs notes)) h
+  entry_same : (verdict : ReleaseAnswer) → raw_entry I lib h verdict J ≡ Raw (record { 0 = lib }) verdict (refused_files cs notes) (record { handed = h; blocks = refused_blocks cs notes h (refused_files cs notes) })
   entry_same verdict =
-      ap (λ bs. Raw (record { 0 = lib }) verdict (raw_files I J b) bs h) blocks_same
-      ∙ ap (λ fs. Raw (record { 0 = lib }) verdict fs (refused_blocks cs notes h (refused_files cs notes)) h) files_same
+      ap (λ bs. Raw (record { 0 = lib }) verdict (raw_files I J b) (record { handed = h; blocks = bs })) blocks_same
+      ∙ ap (λ fs. Raw (record { 0 = lib }) verdict fs (record { handed = h; blocks = refused_blocks cs notes h (refused_files cs notes) })) files_same
 
 pub refused_is_listed : RefusedIsListed
 refused_is_listed s lib h verdict j = entry_same s lib h j verdict

@@ -5,7 +5,7 @@ use Rattle.trio_lists.specs.Lists.{In}
 use Rattle.trio_layout.specs.Core.{page_of}
 use Rattle.trio_layout.specs.Image.{Image}
 use Rattle.trio_nodes.specs.declared.entry.Handed.{Handed}
-use Rattle.trio_nodes.specs.declared.entry.RawBlock.{RawBlock}
+use Rattle.trio_nodes.specs.Told.{ToldBlock}
 use Rattle.trio_nodes.specs.After.{put_within, with_blocks}
 use Rattle.trio_laws.specs.history.Entries.{is_block_told, told_blocks}
 
@@ -77,7 +77,7 @@ Count blocks size = (size ≤ 4096 * blocks) × (4096 * blocks < size + 4096)
 
 module _ (before after : Image) (h : Handed) (n : ℕ) where
   -- the blocks from one position on, with what is listed of them
-  told_at : (k : ℕ) (t : Bool) (page : ℕ) (p r : List ℕ) (rest : List RawBlock) → length p ≡ 4096 * k → length (block_bytes after page) ≡ 4096 → (t ≡ false → take 4096 r ≡ take (length r) (block_bytes after page)) → with_blocks n (cond t (record { ino = n; at = k; bytes = block_bytes after page } ∷ rest) rest) (p ++ r) ≡ with_blocks n rest (p ++ take (length r) (block_bytes after page ++ drop 4096 r))
+  told_at : (k : ℕ) (t : Bool) (page : ℕ) (p r : List ℕ) (rest : List ToldBlock) → length p ≡ 4096 * k → length (block_bytes after page) ≡ 4096 → (t ≡ false → take 4096 r ≡ take (length r) (block_bytes after page)) → with_blocks n (cond t (record { ino = n; at = k; bytes = block_bytes after page } ∷ rest) rest) (p ++ r) ≡ with_blocks n rest (p ++ take (length r) (block_bytes after page ++ drop 4096 r))
   told_at k true page p r rest at full same =
       ap (λ b. with_blocks n rest (cond b (put_within (4096 * k) (block_bytes after page) (p ++ r)) (p ++ r))) (eq-eqb n n refl)
       ∙ ap (with_blocks n rest) (put_step k p r (block_bytes after page) at full)
@@ -133,7 +133,7 @@ module _ (before after : Image) (h : Handed) (n : ℕ) where
   told_put k (page ∷ (q ∷ qs)) p r at count full un =
       let a : List ℕ = block_bytes after page in
       let d : List ℕ = drop 4096 r in
-      let rest : List RawBlock = told_blocks before after h n (k + 1) (q ∷ qs) in
+      let rest : List ToldBlock = told_blocks before after h n (k + 1) (q ∷ qs) in
       let whole : length a ≡ 4096 = full page (inl refl) in
       let c0 = count.0 in
       let c1 = count.1 in

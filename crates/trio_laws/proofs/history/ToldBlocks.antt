@@ -26,7 +26,7 @@ use Rattle.trio_surveys.proofs.Sheets.{page_from, place_there, with_pages_known}
 use Rattle.trio_nodes.specs.declared.entry.Handed.{Handed}
 use Rattle.trio_nodes.specs.declared.entry.HandedFile.{HandedFile}
 use Rattle.trio_nodes.specs.declared.entry.HandedPage.{HandedPage}
-use Rattle.trio_nodes.specs.declared.entry.RawBlock.{RawBlock}
+use Rattle.trio_nodes.specs.Told.{ToldBlock}
 use Rattle.trio_nodes.specs.declared.entry.RawFile.{RawFile}
 use Rattle.trio_state.specs.Listed.{Notes, block_told, changed_blocks, is_block_changed, lent_blocks, noted_size}
 use Rattle.trio_state.specs.State.{State, settled}
@@ -41,7 +41,7 @@ use Rattle.trio_laws.proofs.history.Listing.{chain_met, met_at}
 
 -- ---- block by block
 
-step : (t u : Bool) (x y : RawBlock) (xs ys : List RawBlock) → t ≡ u → x ≡ y → xs ≡ ys → cond t (x ∷ xs) xs ≡ cond u (y ∷ ys) ys
+step : (t u : Bool) (x y : ToldBlock) (xs ys : List ToldBlock) → t ≡ u → x ≡ y → xs ≡ ys → cond t (x ∷ xs) xs ≡ cond u (y ∷ ys) ys
 step t u x y xs ys e f g = ap (λ q. cond q (x ∷ xs) xs) e ∙ ap (λ z. cond u (z ∷ xs) xs) f ∙ ap (λ l. cond u (y ∷ l) l) g
 
 -- the same are told where each is told alike, and with the same bytes

@@ -155,7 +155,7 @@ stays_standing p (Grant lib ino kind (NotGranted fault)) g i d = i
 stays_standing p (Allot lib pages inodes answer) g i d = i
 stays_standing p (Back lib ino) g i d =
     In-filter (λ x. not (eqb x.lib lib.0 && eqb x.ino ino)) g p.grants i (not_and (eqb g.lib lib.0) (eqb g.ino ino) (ne_eqb g.lib lib.0 (λ s. d (sym s))))
-stays_standing p (Raw lib verdict files blocks handed) g i d =
+stays_standing p (Raw lib verdict files bundle) g i d =
     In-filter (λ x. not (eqb x.lib lib.0 && is_given files x.ino)) g p.grants i (not_and (eqb g.lib lib.0) (is_given files g.ino) (ne_eqb g.lib lib.0 (λ s. d (sym s))))
 stays_standing p (Batch lib calls handed) g i d =
     In-filter (λ x. not (eqb x.lib lib.0)) g p.grants i (not_from_false (eqb g.lib lib.0) (ne_eqb g.lib lib.0 (λ s. d (sym s))))
@@ -311,9 +311,9 @@ pub agrees_is_stable : AgreesIsStable
 agrees_is_stable libs p (Grant by ino kind answer) lib sizes root lent t no_hold legal other stand a = (a, all_stand p (Grant by ino kind answer) lib other lent stand)
 agrees_is_stable libs p (Allot by pages inodes answer) lib sizes root lent t no_hold legal other stand a = (a, all_stand p (Allot by pages inodes answer) lib other lent stand)
 agrees_is_stable libs p (Back by ino) lib sizes root lent t no_hold legal other stand a = (a, all_stand p (Back by ino) lib other lent stand)
-agrees_is_stable libs p (Raw by verdict files blocks handed) lib sizes root lent t no_hold legal other stand a = (
+agrees_is_stable libs p (Raw by verdict files bundle) lib sizes root lent t no_hold legal other stand a = (
   raw_agrees p.nodes p.grants lib sizes root lent t stand a (creds_in libs by.0) by.0 _ other no_hold legal.within,
-  all_stand p (Raw by verdict files blocks handed) lib other lent stand,
+  all_stand p (Raw by verdict files bundle) lib other lent stand,
 )
 agrees_is_stable libs p (Batch by calls handed) lib sizes root lent t no_hold legal other stand a = (
   batch_agrees p.nodes p.grants lib sizes root lent t stand a (creds_in libs by.0) by.0 calls other legal.done legal.rights legal.others,

@@ -31,7 +31,7 @@ use Rattle.trio_state.specs.Step.{Event, CtlAnswer}
 use Rattle.trio_nodes.specs.declared.call.Call.{Call}
 use Rattle.trio_nodes.specs.declared.call.Done.{Done}
 use Rattle.trio_nodes.specs.declared.entry.RawFile.{RawFile}
-use Rattle.trio_nodes.specs.declared.entry.RawBlock.{RawBlock}
+use Rattle.trio_nodes.specs.Told.{ToldBlock}
 use Rattle.trio_nodes.specs.declared.entry.HandedPage.{HandedPage}
 use Rattle.trio_nodes.specs.declared.entry.HandedFile.{HandedFile}
 use Rattle.trio_nodes.specs.declared.entry.Handed.{Handed}
@@ -127,7 +127,7 @@ is_block_told before after h n at page =
     || nat_lt (size_of before n) (min (size_of after n) (4096 * at + 4096))
 
 -- those of a file's blocks from one position on that are told, with what stands there after the release
-abbrev pub told_blocks : Image → Image → Handed → ℕ → ℕ → List ℕ → List RawBlock
+abbrev pub told_blocks : Image → Image → Handed → ℕ → ℕ → List ℕ → List ToldBlock
 told_blocks before after h n at [] = []
 told_blocks before after h n at (page ∷ pages) =
     let rest = told_blocks before after h n (at + 1) pages in
@@ -136,19 +136,19 @@ told_blocks before after h n at (page ∷ pages) =
     else rest
 
 -- those of a regular file that isn't gone
-abbrev pub told_blocks_of : Image → Image → Handed → RawFile → Kind → List RawBlock
+abbrev pub told_blocks_of : Image → Image → Handed → RawFile → Kind → List ToldBlock
 told_blocks_of before after h f Regular = if f.gone then [] else told_blocks before after h f.ino 0 (block_numbers after f.ino (row_at after f.ino))
 told_blocks_of before after h f Directory = []
 
 -- the blocks that are told of these files
-abbrev pub raw_blocks : Image → Image → Handed → List RawFile → List RawBlock
+abbrev pub raw_blocks : Image → Image → Handed → List RawFile → List ToldBlock
 raw_blocks before after h files = flat_map (λ f. told_blocks_of before after h f f.kind) files
 
 -- the entry of a release after which the second image is settled
 abbrev pub raw_entry : Image → ℕ → Handed → ReleaseAnswer → Image → Entry
 raw_entry before lib h verdict after =
     let files = raw_files before after (bundle_handed h) in
-    Raw (record { 0 = lib }) verdict files (raw_blocks before after h files) h
+    Raw (record { 0 = lib }) verdict files (record { handed = h; blocks = raw_blocks before after h files })
 
 -- ---- entries
 
@@ -198,7 +198,7 @@ abbrev pub event_of : Entry → Event
 event_of (Grant lib ino kind answer) = step.Grant lib.0 ino kind
 event_of (Allot lib pages inodes answer) = step.Allot lib.0 pages inodes
 event_of (Back lib ino) = step.Back lib.0 ino
-event_of (Raw lib verdict files blocks handed) = step.Release lib.0 (bundle_handed handed)
+event_of (Raw lib verdict files bundle) = step.Release lib.0 (bundle_handed bundle.handed)
 event_of (Batch lib calls handed) = step.Settle lib.0 (bundle_handed handed)
 event_of (Mode lib ino mode answer call) = step.SetMode lib.0 ino mode
 
@@ -229,6 +229,6 @@ abbrev pub answer_of : Entry → CtlAnswer
 answer_of (Grant lib ino kind answer) = granted_said answer
 answer_of (Allot lib pages inodes answer) = allotted_said answer
 answer_of (Back lib ino) = step.Done
-answer_of (Raw lib verdict files blocks handed) = verdict_said verdict
+answer_of (Raw lib verdict files bundle) = verdict_said verdict
 answer_of (Batch lib calls handed) = step.Settled
 answer_of (Mode lib ino mode answer call) = mode_said answer

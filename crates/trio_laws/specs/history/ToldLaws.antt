@@ -42,7 +42,7 @@ AcceptedIsListed =
     → let c = case_in s lib (bundle_handed h) in
     let files = accepted_files c (listing c) (notes_of (settled s)) in
     raw_entry (settled s) lib h Accepted (next (settled s) (bundle_handed h))
-    ≡ Raw (record { 0 = lib }) Accepted files (accepted_blocks c (listing c) (notes_of (settled s)) h files) h
+    ≡ Raw (record { 0 = lib }) Accepted files (record { handed = h; blocks = accepted_blocks c (listing c) (notes_of (settled s)) h files })
 
 -- So is that of one that is refused, without a listing.
 abbrev pub RefusedIsListed : Type 0
@@ -51,7 +51,7 @@ RefusedIsListed =
     → let c = case_in s lib (bundle_handed h) in
     let files = refused_files c (notes_of (settled s)) in
     raw_entry (settled s) lib h verdict (refused_image (settled s) (bundle_handed h))
-    ≡ Raw (record { 0 = lib }) verdict files (refused_blocks c (notes_of (settled s)) h files) h
+    ≡ Raw (record { 0 = lib }) verdict files (record { handed = h; blocks = refused_blocks c (notes_of (settled s)) h files })
 
 -- After a release that is accepted the notes are those that its files tell; after one that is refused they are as before.
 abbrev pub ReleaseNotes : Type 0
