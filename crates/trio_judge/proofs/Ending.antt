@@ -1,5 +1,5 @@
 -- What a walk that has passed all files has found.
-use Rattle.std.proofs.Common.{◌≡◌, ℕ, suc, ◌≤◌, Bool, true, false, ◌&&◌, List, [], ◌∷◌, length, take, drop, None, Some, is_ok, inl, inr, refl, sym, ap, ◌∙◌, subst, arith}
+use Rattle.std.proofs.Common.{◌≡◌, ℕ, suc, ◌*◌, ◌≤◌, Bool, true, false, ◌&&◌, List, [], ◌∷◌, length, take, drop, None, Some, is_ok, inl, inr, refl, sym, ap, ◌∙◌, subst, arith}
 use Rattle.std.specs.Prelude.{MatchOption}
 use Rattle.std.specs.List.{list_all, flat_map}
 use Rattle.std.proofs.lemmas.List.{append-nil, drop_all, length-map, take_all}
@@ -13,7 +13,7 @@ use Rattle.trio_layout.specs.Survey.{Met, numbers}
 use Rattle.trio_layout.specs.Sound.{PageListing}
 use Rattle.trio_layout.specs.Case.{Case, file_in}
 use Rattle.trio_layout.specs.JudgedFiles.{entries_in, judged_entries, judged_files, judged_pages, new_entries, pages_within, written_files}
-use Rattle.trio_layout.specs.Listing.{listing}
+use Rattle.trio_layout.specs.Listing.{Listing, entry_listed, listing}
 use Rattle.trio_layout.specs.Rules.{entry_in_grammar, entry_is_own, entry_keeps_rights, file_keeps_rights, meets_grammar, meets_owning, meets_rights}
 use Rattle.trio_layout.specs.Broken.{BreaksGrammar, BreaksOwning, BreaksRights, judged_listings}
 use Rattle.trio_layout.proofs.Walks.{passed_are_fronts}
@@ -21,6 +21,7 @@ use Rattle.trio_judge.specs.declared.walk.FaultAt.{FaultAt}
 use Rattle.trio_judge.specs.declared.walk.Walk.{Walk}
 use Rattle.trio_judge.specs.inner.Walk.{HasEnded, IsPassed, IsQueued, IsReady, KeepRights, Lists, OwningFails, RightsFail, Stands, fault_place, file_met, files_of}
 use Rattle.trio_judge.proofs.Faults.{pages-listed}
+use Rattle.trio_judge.proofs.Listings.{entries_few, pages_few}
 use Rattle.trio_judge.proofs.Noting.{so_far}
 use Rattle.trio_judge.proofs.Visiting.{short}
 
@@ -115,6 +116,15 @@ module _ (c : Case) (w : Walk) (e : HasEnded c w) (p : IsPassed c (length w.file
 
   pub listing_is : w.owning ≡ None → w.listing.listing ≡ listing c
   listing_is none = (lists none).listing
+
+  -- entries stand in slots of pages of the bundle, and each page is listed once
+  pub few_listed : w.owning ≡ None → length w.listing.listing.entries ≤ 16 * length (bundle_pages c.bundle)
+  few_listed none =
+      let l = lists none in
+      let pages = pages_few c (judged_files c) (judged_entries c) l.owns in
+      let entries = entries_few c (judged_files c) in
+      let listed = ap (λ (x : Listing). length x.entries) l.listing ∙ length-map (judged_entries c) (entry_listed c) in
+      omega (arith, pages, entries, listed)
 
   pub rights_fail : (o : FaultAt) → w.owning ≡ None → w.rights ≡ Some o → BreaksRights c o.ino (fault_place o)
   rights_fail o none is =

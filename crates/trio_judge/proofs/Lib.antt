@@ -1,8 +1,8 @@
 mod Parts
 mod Knowing
 mod Faults
-mod Noting
-mod Listings
+pub mod Noting
+pub mod Listings
 mod OtherBytes
 mod Owned
 mod OwnPages
@@ -10,7 +10,8 @@ mod FileNoted
 mod Visiting
 mod Ending
 pub mod Sorted
-mod Starting
+pub mod Unstable
+pub mod Starting
 mod FoundAgain
 pub mod Gathers
 pub mod Ordered

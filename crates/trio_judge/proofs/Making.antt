@@ -1,10 +1,10 @@
 -- The pages of a bundle, one after another.
-use Rattle.std.proofs.Common.{◌≡◌, ℕ, ◌+◌, ◌<◌, ◌≤◌, Bool, true, not, cond, List, [], ◌∷◌, ◌++◌, length, get_or, map, take, Option, Some, None, nat_le, nat_lt, sym, refl, ap, ◌∙◌, append_assoc, inl, inr, arith}
+use Rattle.std.proofs.Common.{◌≡◌, ℕ, ◌+◌, ◌<◌, ◌≤◌, Bool, true, not, cond, List, [], ◌∷◌, ◌++◌, length, get_or, map, take, drop, Option, Some, None, nat_le, nat_lt, sym, refl, ap, ◌∙◌, append_assoc, inl, inr, arith}
 use Rattle.std.specs.Prelude.{count_by, is_some, slice_get}
 use Rattle.std.specs.List.{list_all, flat_map}
 use Rattle.std.specs.Option.{option_map}
 use Rattle.std.proofs.lemmas.Bool.{and_parts, ltb-true}
-use Rattle.std.proofs.lemmas.List.{append-nil, map-append, take_more}
+use Rattle.std.proofs.lemmas.List.{append-nil, length-append, length-map, map-append, take_more, take-append-drop}
 use Rattle.std.proofs.lemmas.List.Concat.{flat_map-append}
 use Rattle.std.proofs.lemmas.List.Sums.{sum_by-cons}
 use Rattle.std.proofs.lemmas.Option.{get_or_from_slice_get, slice_get_within}
@@ -77,6 +77,30 @@ bundle_numbers b =
     map-append page (flat_map (λ w. w.index ++ w.blocks) (bundle_in b).writes) (map fresh_sheet b.pages)
     ∙ ap (λ x. x ++ map page (map fresh_sheet b.pages)) (written_numbers b.writes)
     ∙ ap (λ x. flat_map file_numbers b.writes ++ x) (rw map-map refl)
+
+file_length : (f : LentFile) → length (file_numbers f) ≡ length f.stands.index + length f.stands.blocks
+file_length f =
+    let number : LentPage → ℕ = λ p. p.no.0 in
+    omega (arith, length-append (map number f.stands.index) (map number f.stands.blocks), length-map f.stands.index number, length-map f.stands.blocks number)
+
+-- how many pages a bundle has
+pub bundle_length : (b : Bundled) → length (bundle_pages (bundle_in b)) ≡ length (flat_map file_numbers b.writes) + length b.pages
+bundle_length b =
+    let number : FreshParts → ℕ = λ p. p.no.0 in
+    ap length (bundle_numbers b) ∙ length-append (flat_map file_numbers b.writes) (map number b.pages) ∙ ap (λ n. length (flat_map file_numbers b.writes) + n) (length-map b.pages number)
+
+-- and how many its first leases have, with one more
+pub files_more : (fs : List LentFile) (i : ℕ) (f : LentFile) → slice_get fs i ≡ Some f → length (flat_map file_numbers (take (i + 1) fs)) ≡ length (flat_map file_numbers (take i fs)) + (length f.stands.index + length f.stands.blocks)
+files_more fs i f at =
+    ap length (flat_map_more file_numbers fs i f at) ∙ length-append (flat_map file_numbers (take i fs)) (file_numbers f) ∙ ap (λ n. length (flat_map file_numbers (take i fs)) + n) (file_length f)
+
+-- these are no more than all
+pub files_few : (b : Bundled) (i : ℕ) → length (flat_map file_numbers (take i b.writes)) + length b.pages ≤ length (bundle_pages (bundle_in b))
+files_few b i =
+    let all = ap (λ (fs : List LentFile). length (flat_map file_numbers fs)) (sym (take-append-drop i b.writes)) in
+    let both = ap length (flat_map-append file_numbers (take i b.writes) (drop i b.writes)) in
+    let sum = length-append (flat_map file_numbers (take i b.writes)) (flat_map file_numbers (drop i b.writes)) in
+    omega (arith, all, both, sum, bundle_length b)
 
 -- all are counted where nothing was read
 pub all_unread : (ps : List KeptPage) → ((p : KeptPage) → In p ps → p.entries ≡ None) → count_by (λ (p : KeptPage). not (is_some p.entries)) ps ≡ length ps

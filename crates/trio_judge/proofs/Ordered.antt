@@ -78,7 +78,7 @@ found_place xs n r up is = of r (searched xs n r is (λ i j le l. no_less i j le
 
 -- ---- the order
 
-from_inserted : (n w : ℕ) (xs : List ℕ) → In n (inserted_by (λ x. x) w xs) → (n ≡ w) ⊎ In n xs
+pub from_inserted : (n w : ℕ) (xs : List ℕ) → In n (inserted_by (λ x. x) w xs) → (n ≡ w) ⊎ In n xs
 from_inserted n w [] i = i
 from_inserted n w (x ∷ xs) i = by (nat_le w x) (λ j. from_inserted n w xs j) i
   where

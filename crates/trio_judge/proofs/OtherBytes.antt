@@ -1,4 +1,4 @@
--- A case with other bytes in one of its pages: its files, numbers and pages are the same, and a room made for it is still one.
+-- A case with other bytes in one of its pages, or with touched blocks: its files, numbers and pages are the same, and a room made for it is still one.
 use Rattle.std.proofs.Common.{◌≡◌, ℕ, zero, suc, ◌++◌, List, [], ◌∷◌, map, Option, None, Some, inl, inr, refl, sym, ap, ◌∙◌, subst}
 use Rattle.std.specs.Prelude.{MatchOption, slice_get}
 use Rattle.std.specs.List.{flat_map}
@@ -13,7 +13,7 @@ use Rattle.trio_lists.specs.Lists.{In}
 use Rattle.trio_lists.specs.Sorting.{sorted_by}
 use Rattle.trio_lease.specs.Bundles.{Bundled}
 use Rattle.trio_lease.specs.Places.{with_block, with_bytes, with_index}
-use Rattle.trio_lease.specs.Shown.{LentFile, no_at, with_page, with_touched}
+use Rattle.trio_lease.specs.Shown.{LentFile, all_touched, as_touched, no_at, with_page, with_touched}
 use Rattle.trio_lease.specs.Views.{bundle_in, fresh_sheet, lent_sheet, written_in}
 use Rattle.trio_lease.specs.declared.parts.FreshParts.{FreshParts}
 use Rattle.trio_lease.specs.declared.parts.LentPage.{LentPage}
@@ -133,6 +133,49 @@ module _ (b : Bundled) (no : PageNo) (bytes : List ℕ) where
     inodes = (rest_same b no bytes).1;
   }
 
+-- ---- a bundle with all its blocks marked as touched
+
+abbrev pub touched : Bundled → Bundled
+touched b = record b { writes = map all_touched b.writes }
+
+-- what doesn't speak of the marks of a file's blocks
+touched-map : {Y : Type 0} (g : LentFile → Y) → ((f : LentFile) → g (all_touched f) ≡ g f) → (fs : List LentFile) → map g (map all_touched fs) ≡ map g fs
+touched-map g same [] = refl
+touched-map g same (f ∷ fs) = rw (same f, touched-map g same fs) refl
+
+-- nor of those of pages
+marked-map : {Y : Type 0} (v : LentPage → Y) → ((p : LentPage) → v (as_touched p) ≡ v p) → (ps : List LentPage) → map v (map as_touched ps) ≡ map v ps
+marked-map v same [] = refl
+marked-map v same (p ∷ ps) = rw (same p, marked-map v same ps) refl
+
+module _ (b : Bundled) where
+  places_touched : (place : PagePlace) → number_at (touched b) place ≡ number_at b place
+  places_touched (Index file i) =
+      let h : LentFile → Option ℕ = λ f. option_map (λ no. no.0) (no_at f.stands.index i) in
+      file-same h b.writes (touched b).writes file (touched-map h (λ f. refl) b.writes)
+  places_touched (Block file i) =
+      let h : LentFile → Option ℕ = λ f. option_map (λ no. no.0) (no_at f.stands.blocks i) in
+      file-same h b.writes (touched b).writes file
+      (touched-map h (λ f. place-same f.stands.blocks (map as_touched f.stands.blocks) i (marked-map (λ p. p.no) (λ p. refl) f.stands.blocks)) b.writes)
+  places_touched (Fresh i) = refl
+
+  numbers_touched : bundle_pages (bundle_in (touched b)) ≡ bundle_pages (bundle_in b)
+  numbers_touched =
+      let number : LentPage → ℕ = λ p. p.no.0 in
+      let files = touched-map numbers_of_file (λ f. ap (λ ns. map number f.stands.index ++ ns) (marked-map number (λ p. refl) f.stands.blocks)) b.writes in
+      pages-numbered (touched b) ∙ ap (λ ns. flat_map (λ (l : List ℕ). l) ns ++ map (λ (p : FreshParts). p.no.0) b.pages) files ∙ sym (pages-numbered b)
+
+  pub alike_touched : Alike b (touched b)
+  alike_touched = record {
+    files = touched-map (λ f. f.stands.ino) (λ f. refl) b.writes;
+    mets = λ rows. touched-map (λ f. written_at (written_in f.stands) (row_in rows f.stands.ino))
+        (λ f. met-same (written_in f.stands) (written_in (all_touched f).stands) (row_in rows f.stands.ino) refl refl refl) b.writes;
+    pages = numbers_touched;
+    places = places_touched;
+    holds = refl;
+    inodes = refl;
+  }
+
 -- ---- what is true of a case
 
 pub is_case : (b b' : Bundled) (range : CoreRange) (inodes : ℕ) → Alike b b' → IsCase b range inodes → IsCase b' range inodes
@@ -215,12 +258,19 @@ module _ (k : CaseShown) (b' : Bundled) (a : Alike k.bundle b') where
     space = h.space;
   }
 
--- a room made for a case is one for the case with other bytes in a page
+-- a room made for a case is one for a case with a bundle that is alike
+room_alike : (k : CaseShown) (b' : Bundled) → Alike k.bundle b' → (room : Room) → IsJudgeRoom k room → IsJudgeRoom (record k { bundle = b' }) room
+room_alike k b' a room h = record {
+  pages = pages_still k b' a room.pages h.pages;
+  walk = starts_still k b' a room.walk h.walk;
+  heads = rw a.pages h.heads;
+}
+
+-- so it is one for the case with other bytes in a page
 pub room_still : (k : CaseShown) (number : PageNo) (bytes : List ℕ) (room : Room) → IsJudgeRoom k room → IsJudgeRoom (record k { bundle = with_bytes k.bundle number bytes }) room
 room_still k number bytes room h =
-    let a = alike k.bundle number bytes in
-    record {
-      pages = pages_still k (with_bytes k.bundle number bytes) a room.pages h.pages;
-      walk = starts_still k (with_bytes k.bundle number bytes) a room.walk h.walk;
-      heads = rw a.pages h.heads;
-    }
+    room_alike k (with_bytes k.bundle number bytes) (alike k.bundle number bytes) room h
+
+-- and for the case with touched blocks
+pub room_touched : (k : CaseShown) (room : Room) → IsJudgeRoom k room → IsJudgeRoom (record k { bundle = touched k.bundle }) room
+room_touched k room h = room_alike k (touched k.bundle) (alike_touched k.bundle) room h

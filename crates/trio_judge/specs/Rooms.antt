@@ -66,6 +66,11 @@ unread_index kept = count_by (λ p. not (is_some p.index)) kept.pages.items
 abbrev pub looks_left : PageRoom → ℕ
 looks_left room = unread_blocks room.kept + unread_index room.kept
 
+-- there are places for so many pages
+pub record HasPagePlaces (count : ℕ) (kept : KeptPages) : Type 0 where
+  pub order : count ≤ vec_capacity kept.order
+  pub pages : count ≤ vec_capacity kept.pages
+
 -- there is a place for whatever the pages may say that weren't read yet: 16 entries of a directory block, and 511
 -- numbers of an index page
 pub record HasPlaces (kept : KeptPages) : Type 0 where

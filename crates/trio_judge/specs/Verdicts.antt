@@ -1,5 +1,6 @@
 -- What a verdict says of a case.
-use Rattle.std.specs.Prelude.{◌≡◌, ◌⊎◌, ⊤, Bool, true, false, ◌&&◌, IsTrue, MatchOption}
+use Rattle.std.specs.Prelude.{◌≡◌, ◌*◌, ◌≤◌, ◌⊎◌, ⊤, Bool, true, false, ◌&&◌, length, IsTrue, MatchOption}
+use Rattle.trio_rights.specs.Bundle.{bundle_pages}
 use Rattle.trio_layout.specs.Core.{Location}
 use Rattle.trio_layout.specs.Case.{Case}
 use Rattle.trio_layout.specs.Listing.{listing}
@@ -30,3 +31,9 @@ IsLowest c (Broken rule ino page slot l) =
 abbrev pub HasListing : Case → Verdict → Type 0
 HasListing c (Sound l) = l.listing ≡ listing c
 HasListing c (Broken rule ino page slot l) = MatchOption l (rule ≡ 4 → ⊥) (λ x. (rule ≡ 4) × (x.listing ≡ listing c))
+
+-- the listing of a verdict, if it has one, has at most 16 entries for each page of the bundle
+abbrev pub HasFewEntries : Case → Verdict → Type 0
+HasFewEntries c (Sound l) = length l.listing.entries ≤ 16 * length (bundle_pages c.bundle)
+HasFewEntries c (Broken rule ino page slot l) =
+    MatchOption l ⊤ (λ x. length x.listing.entries ≤ 16 * length (bundle_pages c.bundle))

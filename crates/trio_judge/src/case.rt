@@ -54,6 +54,7 @@ impl Case {
     ghost use Rattle.std.specs.Borrow.{sem, LendsIf};
     ghost use Rattle.trio_page.specs.contracts.page.Page.{the_row as page_row};
     ghost use Rattle.trio_lease.specs.Places.{bytes_of, with_bytes};
+    ghost use Rattle.trio_lease.specs.Shown.{all_touched};
     ghost use Rattle.trio_judge.specs.Judging.{IsJudgeRoom};
     ghost use Rattle.trio_judge.specs.contracts.case.Case.{the_row};
     ghost use Rattle.trio_judge.specs.declared.verdict.Room.{Room};
@@ -110,6 +111,15 @@ impl Case {
         ensures* lends { sem 𝓛 (LendsIf the_row page_row self.entry result (λ w. record self.old { bundle = with_bytes self.old.bundle no w }) self.old) }
     {
         self.bundle.page_mut(no)
+    }
+
+    /// Marks each block of the write leases as touched ([`Bundle::touch_blocks`]). It takes no memory,
+    /// and a room made for the case stays one for it.
+    pub fn touch_blocks(&mut self)
+        ensures touched { self.new ≡ record self.old { bundle = record self.old.bundle { writes = map all_touched self.old.bundle.writes } } }
+        ensures room { (room : Room) → IsJudgeRoom self.old room → IsJudgeRoom self.new room }
+    {
+        self.bundle.touch_blocks();
     }
 
     /// The bundle, byte for byte.

@@ -1,15 +1,17 @@
 //! The pages of a bundle, found by their numbers.
 
-ghost use Rattle.std.specs.Prelude.{◌≡◌, IfOk};
+ghost use Rattle.std.specs.Prelude.{◌≡◌, IfOk, length};
 ghost use Rattle.std.specs.Option.{option_and_then, option_copied};
+ghost use Rattle.trio_rights.specs.Bundle.{bundle_pages};
+ghost use Rattle.trio_lease.specs.Views.{bundle_in};
 ghost use Rattle.trio_layout.specs.Case.{bundle_core};
 ghost use Rattle.trio_layout.specs.Core.{page_of};
 ghost use Rattle.trio_judge.specs.Cases.{case_in};
-ghost use Rattle.trio_judge.specs.Indexed.{IsIndexOf};
+ghost use Rattle.trio_judge.specs.Indexed.{HasPlacesFor, IsIndexOf};
 ghost use Rattle.trio_judge.specs.Places.{bytes_at};
 
 use crate::case::Case;
-use crate::kept::KeptPages;
+use crate::kept::{KeptPages, page_count};
 use crate::places::{PagePlace, page_at};
 use std::alloc::Global;
 use trio_page::{NoMemory, Page};
@@ -22,12 +24,31 @@ pub struct PageIndex {
 }
 
 impl PageIndex {
+    /// An empty index with places for so many pages. It takes all memory that [`fill`](Self::fill)
+    /// needs.
+    pub fn with(alloc: Global, pages: usize) -> Result<PageIndex, NoMemory>
+        ensures { IfOk result (HasPlacesFor pages) }
+    {
+        let kept = KeptPages::with(alloc, pages)?;
+        Ok(PageIndex { kept })
+    }
+
+    /// Makes it the index of the pages of a case's bundle, whatever it had before. It takes no memory.
+    pub fn fill(&mut self, case: &Case)
+        requires room { HasPlacesFor (length (bundle_pages (bundle_in case.now.bundle))) self.old }
+        ensures { IsIndexOf case.now self.new }
+    {
+        self.kept.fill(case.bundle());
+    }
+
     /// The index of the pages of a case's bundle.
     pub fn of(alloc: Global, case: &Case) -> Result<PageIndex, NoMemory>
         ensures { IfOk result (IsIndexOf case.now) }
     {
-        let kept = KeptPages::unread(alloc, case.bundle())?;
-        Ok(PageIndex { kept })
+        let count = page_count(case.bundle())?;
+        let mut index = PageIndex::with(alloc, count)?;
+        index.fill(case);
+        Ok(index)
     }
 
     /// Where the page of this number stands; `None` exactly where it is none of the bundle's.

@@ -1,20 +1,21 @@
 //! The pages of a bundle, with what they say as far as that was read.
 
-ghost use Rattle.std.specs.Prelude.{◌≡◌, ◌≤◌, ◌++◌, [], true, None, Some, MatchOption, IfOk, OnOk, map, slice_get, vec_len};
+ghost use Rattle.std.specs.Prelude.{◌≡◌, ◌+◌, ◌≤◌, ◌++◌, [], true, None, Some, MatchOption, IfOk, length, map, slice_get, vec_capacity, vec_len};
 ghost use Rattle.std.specs.List.{list_all};
 ghost use Rattle.trio_rights.specs.Bundle.{bundle_pages};
-ghost use Rattle.trio_lists.specs.Lists.{are_new};
+ghost use Rattle.trio_lists.specs.Lists.{In, are_new};
 ghost use Rattle.trio_lease.specs.Bundles.{Bundled};
 ghost use Rattle.trio_lease.specs.Views.{bundle_in};
 ghost use Rattle.trio_layout.specs.Range.{is_core};
 ghost use Rattle.trio_judge.specs.inner.Unread.{numbers_of, AreUnread, IsUnreadOf};
 ghost use Rattle.trio_judge.specs.Order.{in_order, AreRising};
 ghost use Rattle.trio_judge.specs.Reading.{listed_seen};
-ghost use Rattle.trio_judge.specs.Rooms.{entries_kept, kept_page, unread_blocks, HasPlaces, KeepsPages};
+ghost use Rattle.trio_judge.specs.Rooms.{entries_kept, kept_page, unread_blocks, HasPagePlaces, HasPlaces, KeepsPages};
 ghost use Rattle.trio_judge.specs.inner.Steps.{StandsAt};
 
 use crate::case::Case;
 use crate::entries::DirEntry;
+use crate::listing::push;
 use crate::places::PagePlace;
 use std::alloc::Global;
 use trio_layout::CoreRange;
@@ -64,6 +65,18 @@ pub(crate) struct KeptIndex {
 }
 
 impl KeptPages {
+    /// No pages, with places for so many, and without a place for what they may say.
+    pub fn with(alloc: Global, pages: usize) -> Result<KeptPages, NoMemory>
+        ensures { IfOk result (HasPagePlaces pages) }
+    {
+        Ok(KeptPages {
+            order: Vec::with_capacity(alloc, pages)?,
+            pages: Vec::with_capacity(alloc, pages)?,
+            entries: Vec::new(alloc),
+            numbers: Vec::new(alloc),
+        })
+    }
+
     /// The pages of a bundle, none of which was read yet, with a place for whatever they may say.
     pub fn of(alloc: Global, bundle: &Bundle, range: CoreRange) -> Result<KeptPages, NoMemory>
         requires core { list_all (is_core range) (bundle_pages (bundle_in bundle.now)) ≡ true }
@@ -73,27 +86,27 @@ impl KeptPages {
         ensures places { IfOk result (λ kept. HasPlaces kept) }
         ensures count { IfOk result (λ kept. (vec_len kept.pages ≤ range.end) × (unread_blocks kept ≡ vec_len kept.pages)) }
     {
-        let pages = sorted_pages(alloc, bundle)?;
-        let count = pages.len();
-        Ok(KeptPages {
-            order: numbers_of(alloc, &pages)?,
-            pages,
+        let count = page_count(bundle)?;
+        let mut kept = KeptPages {
+            order: Vec::with_capacity(alloc, count)?,
+            pages: Vec::with_capacity(alloc, count)?,
             entries: Vec::with_capacity(alloc, 16 * count)?,
             numbers: Vec::with_capacity(alloc, 511 * count)?,
-        })
+        };
+        kept.fill(bundle);
+        Ok(kept)
     }
 
-    /// The pages of a bundle, none of which was read yet, without a place for what they may say.
-    pub fn unread(alloc: Global, bundle: &Bundle) -> Result<KeptPages, NoMemory>
-        ensures { IfOk result (λ kept. IsUnreadOf bundle.now kept) }
+    /// Makes its pages those of a bundle, none of which was read yet. It takes no memory.
+    pub fn fill(&mut self, bundle: &Bundle)
+        requires { HasPagePlaces (length (bundle_pages (bundle_in bundle.now))) self.old }
+        ensures made { IsUnreadOf bundle.now self.new }
+        ensures entries { self.new.entries ≡ self.old.entries }
+        ensures numbers { self.new.numbers ≡ self.old.numbers }
     {
-        let pages = sorted_pages(alloc, bundle)?;
-        Ok(KeptPages {
-            order: numbers_of(alloc, &pages)?,
-            pages,
-            entries: Vec::new(alloc),
-            numbers: Vec::new(alloc),
-        })
+        set_pages(&mut self.pages, bundle);
+        sort_pages(&mut self.pages);
+        set_numbers(&mut self.order, &self.pages);
     }
 
     /// The page of this number, and where it stands among the pages. `None` exactly where it is none
@@ -127,78 +140,91 @@ impl KeptPages {
     }
 }
 
-/// The pages of a bundle in rising order of their numbers.
-fn sorted_pages(alloc: Global, bundle: &Bundle) -> Result<Vec<KeptPage>, NoMemory>
-    ensures numbers { IfOk result (λ v. numbers_of v.items ≡ in_order (bundle_pages (bundle_in bundle.now))) }
-    ensures unread { IfOk result (λ v. AreUnread bundle.now v.items) }
+/// How many pages a bundle has.
+pub(crate) fn page_count(bundle: &Bundle) -> Result<usize, NoMemory>
+    ensures { IfOk result (λ n. n ≡ length (bundle_pages (bundle_in bundle.now))) }
 {
-    let mut pages = unread_pages(alloc, bundle)?;
-    pages.sort_by_key(|page| page.no)?;
-    Ok(pages)
-}
-
-/// The numbers of these pages.
-fn numbers_of(alloc: Global, pages: &[KeptPage]) -> Result<Vec<u32>, NoMemory>
-    ensures { IfOk result (λ v. v.items ≡ numbers_of pages.now) }
-{
-    let mut numbers = Vec::with_capacity(alloc, pages.len())?;
-    for page in pages {
-        numbers.push(page.no)?;
+    let mut count = bundle.pages().len();
+    let writes = bundle.writes();
+    for lease in writes {
+        count = count.checked_add(lease.index_len()).ok_or(NoMemory)?;
+        count = count.checked_add(lease.blocks_len()).ok_or(NoMemory)?;
     }
-    Ok(numbers)
+    Ok(count)
 }
 
-/// The pages of a bundle: of each write lease its index pages and then its blocks, and after them the
-/// pages that were allotted.
-fn unread_pages(alloc: Global, bundle: &Bundle) -> Result<Vec<KeptPage>, NoMemory>
-    ensures numbers { IfOk result (λ v. numbers_of v.items ≡ bundle_pages (bundle_in bundle.now)) }
-    ensures unread { IfOk result (λ v. AreUnread bundle.now v.items) }
+/// Makes a list, which has places for them, the pages of a bundle: of each write lease its index pages
+/// and then its blocks, and after them the pages that were allotted.
+fn set_pages(pages: &mut Vec<KeptPage>, bundle: &Bundle)
+    requires { length (bundle_pages (bundle_in bundle.now)) ≤ vec_capacity pages.old }
+    ensures numbers { numbers_of pages.new.items ≡ bundle_pages (bundle_in bundle.now) }
+    ensures unread { AreUnread bundle.now pages.new.items }
 {
-    let mut pages = Vec::new(alloc);
+    pages.clear();
     let writes = bundle.writes();
     for file in 0..writes.len() {
         let lease = &writes[file];
-        add_index(&mut pages, file, lease)?;
-        add_blocks(&mut pages, file, lease)?;
+        add_index(pages, file, lease);
+        add_blocks(pages, file, lease);
     }
-    add_fresh(&mut pages, bundle.pages())?;
-    Ok(pages)
+    add_fresh(pages, bundle.pages());
 }
 
-fn add_index(pages: &mut Vec<KeptPage>, file: usize, lease: &WriteLease) -> Result<(), NoMemory>
-    ensures numbers { OnOk result (numbers_of pages.new.items ≡ numbers_of pages.old.items ++ map (λ p. p.no.0) lease.now.stands.index) }
-    ensures unread { OnOk result ((b : Bundled) → slice_get b.writes file ≡ Some lease.now → AreUnread b pages.old.items → AreUnread b pages.new.items) }
+fn add_index(pages: &mut Vec<KeptPage>, file: usize, lease: &WriteLease)
+    requires { vec_len pages.old + length lease.now.stands.index ≤ vec_capacity pages.old }
+    ensures numbers { numbers_of pages.new.items ≡ numbers_of pages.old.items ++ map (λ p. p.no.0) lease.now.stands.index }
+    ensures unread { (b : Bundled) → slice_get b.writes file ≡ Some lease.now → AreUnread b pages.old.items → AreUnread b pages.new.items }
+    ensures capacity { vec_capacity pages.old ≤ vec_capacity pages.new }
 {
     for at in 0..lease.index_len() {
         let Some(no) = lease.index_no(at) else {
-            return Ok(());
+            return;
         };
-        pages.push(unread(no, PagePlace::Index(file, at)))?;
+        push(pages, unread(no, PagePlace::Index(file, at)));
     }
-    Ok(())
 }
 
-fn add_blocks(pages: &mut Vec<KeptPage>, file: usize, lease: &WriteLease) -> Result<(), NoMemory>
-    ensures numbers { OnOk result (numbers_of pages.new.items ≡ numbers_of pages.old.items ++ map (λ p. p.no.0) lease.now.stands.blocks) }
-    ensures unread { OnOk result ((b : Bundled) → slice_get b.writes file ≡ Some lease.now → AreUnread b pages.old.items → AreUnread b pages.new.items) }
+fn add_blocks(pages: &mut Vec<KeptPage>, file: usize, lease: &WriteLease)
+    requires { vec_len pages.old + length lease.now.stands.blocks ≤ vec_capacity pages.old }
+    ensures numbers { numbers_of pages.new.items ≡ numbers_of pages.old.items ++ map (λ p. p.no.0) lease.now.stands.blocks }
+    ensures unread { (b : Bundled) → slice_get b.writes file ≡ Some lease.now → AreUnread b pages.old.items → AreUnread b pages.new.items }
+    ensures capacity { vec_capacity pages.old ≤ vec_capacity pages.new }
 {
     for at in 0..lease.blocks_len() {
         let Some(no) = lease.block_no(at) else {
-            return Ok(());
+            return;
         };
-        pages.push(unread(no, PagePlace::Block(file, at)))?;
+        push(pages, unread(no, PagePlace::Block(file, at)));
     }
-    Ok(())
 }
 
-fn add_fresh(pages: &mut Vec<KeptPage>, fresh: &[FreshPage]) -> Result<(), NoMemory>
-    ensures numbers { OnOk result (numbers_of pages.new.items ≡ numbers_of pages.old.items ++ map (λ p. p.no.0) fresh.now) }
-    ensures unread { OnOk result ((b : Bundled) → b.pages ≡ fresh.now → AreUnread b pages.old.items → AreUnread b pages.new.items) }
+fn add_fresh(pages: &mut Vec<KeptPage>, fresh: &[FreshPage])
+    requires { vec_len pages.old + length fresh.now ≤ vec_capacity pages.old }
+    ensures numbers { numbers_of pages.new.items ≡ numbers_of pages.old.items ++ map (λ p. p.no.0) fresh.now }
+    ensures unread { (b : Bundled) → b.pages ≡ fresh.now → AreUnread b pages.old.items → AreUnread b pages.new.items }
 {
     for at in 0..fresh.len() {
-        pages.push(unread(fresh[at].no(), PagePlace::Fresh(at)))?;
+        push(pages, unread(fresh[at].no(), PagePlace::Fresh(at)));
     }
-    Ok(())
+}
+
+/// Puts pages into rising order of their numbers.
+fn sort_pages(pages: &mut Vec<KeptPage>)
+    ensures numbers { numbers_of pages.new.items ≡ in_order (numbers_of pages.old.items) }
+    ensures each { (p : KeptPage) → In p pages.new.items → In p pages.old.items }
+{
+    pages.sort_unstable_by_key(|page| page.no);
+}
+
+/// Makes a list, which has places for them, the numbers of these pages.
+fn set_numbers(numbers: &mut Vec<u32>, pages: &[KeptPage])
+    requires { length pages.now ≤ vec_capacity numbers.old }
+    ensures { numbers.new.items ≡ numbers_of pages.now }
+{
+    numbers.clear();
+    for page in pages {
+        push(numbers, page.no);
+    }
 }
 
 /// A page of which nothing was read yet.

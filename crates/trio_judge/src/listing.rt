@@ -321,9 +321,10 @@ fn append(list: &mut Vec<u32>, numbers: &[u32]) -> Span
 }
 
 // appends to a list that has a place for it
-fn push<T: Drop>(list: &mut Vec<T>, value: T)
+pub(crate) fn push<T: Drop>(list: &mut Vec<T>, value: T)
     requires { vec_len list.old < vec_capacity list.old }
     ensures items { list.new.items ≡ list.old.items ++ value ∷ [] }
+    ensures len { vec_len list.new ≡ vec_len list.old + 1 }
     ensures capacity { vec_capacity list.old ≤ vec_capacity list.new }
 {
     let _pushed = list.push(value);

@@ -4,7 +4,7 @@ ghost use Rattle.std.specs.Prelude.{◌≡◌, ◌+◌, ◌*◌, ◌≤◌, IfOk
 ghost use Rattle.trio_rights.specs.Bundle.{bundle_pages};
 ghost use Rattle.trio_lease.specs.Views.{bundle_in};
 ghost use Rattle.trio_judge.specs.Cases.{case_in};
-ghost use Rattle.trio_judge.specs.Verdicts.{meets_three, HasListing, IsLowest, is_sound};
+ghost use Rattle.trio_judge.specs.Verdicts.{meets_three, HasFewEntries, HasListing, IsLowest, is_sound};
 ghost use Rattle.trio_judge.specs.Judging.{IsJudgeRoom};
 ghost use Rattle.trio_judge.specs.inner.Walk.{HasEnded, IsPassed};
 
@@ -76,6 +76,8 @@ impl Room {
 /// Judges the rules I1, I2 and I4 of a bundle, in a room that was made for its case, whatever bytes
 /// its pages have got since. It takes no memory, and the listing keeps that of the room.
 ///
+/// A listing in its verdict has at most 16 entries for each page of the bundle.
+///
 /// A page of the bundle is looked at no more than twice. Once I2 is known to fail, the entries of one
 /// directory alone are gone over of all whose chains begin with the same index page.
 pub fn judge(case: &Case, room: Room, reads: &mut Reads) -> Verdict
@@ -83,6 +85,7 @@ pub fn judge(case: &Case, room: Room, reads: &mut Reads) -> Verdict
     ensures sound { is_sound result ≡ meets_three (case_in case.now) }
     ensures lowest { IsLowest (case_in case.now) result }
     ensures listing { HasListing (case_in case.now) result }
+    ensures few { HasFewEntries (case_in case.now) result }
     ensures reads { reads.new ≤ reads.old + 2 * length (bundle_pages (bundle_in case.now.bundle)) }
 {
     let Room {
@@ -108,6 +111,7 @@ fn conclude(case: &Case, walk: Walk) -> Verdict
     ensures sound { is_sound result ≡ meets_three (case_in case.now) }
     ensures lowest { IsLowest (case_in case.now) result }
     ensures listing { HasListing (case_in case.now) result }
+    ensures few { HasFewEntries (case_in case.now) result }
 {
     let _case = case;
     if let Some(place) = walk.owning {

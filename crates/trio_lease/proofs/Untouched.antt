@@ -1,11 +1,11 @@
 -- Blocks that aren't marked as touched are as they were lent.
-use Rattle.std.proofs.Common.{◌≡◌, ◌⊎◌, ℕ, zero, suc, ◌+◌, ◌<◌, ◌≤◌, true, List, [], ◌∷◌, length, take, sym, ap, ◌∙◌, subst, inl, inr}
+use Rattle.std.proofs.Common.{◌≡◌, ◌⊎◌, ℕ, zero, suc, ◌+◌, ◌<◌, ◌≤◌, true, List, [], ◌∷◌, length, map, take, sym, ap, ◌∙◌, subst, inl, inr}
 use Rattle.std.proofs.lemmas.List.{take_more, take_all}
 use Rattle.std.specs.Prelude.{slice_index_or, slice_set}
 use Rattle.trio_lists.specs.Lists.{In}
 use Rattle.trio_lists.proofs.Members.{In-cases}
 use Rattle.trio_lease.specs.declared.parts.LentPage.{LentPage}
-use Rattle.trio_lease.specs.Shown.{lent_at, with_touched}
+use Rattle.trio_lease.specs.Shown.{as_touched, lent_at, with_touched}
 
 -- what stands in a list with one page put in stood in it before, or is that page
 in_set : (pages : List LentPage) (i : ℕ) (q p : LentPage) → In p (slice_set pages i q) → (p ≡ q) ⊎ In p pages
@@ -24,6 +24,12 @@ touched_kept lent pages i bytes kept p h =
       | inl e ↦ inl (ap (λ (q : LentPage). q.touched) e)
       | inr k ↦ kept p k
     ]
+
+-- of pages that are all marked none isn't
+pub all_marked : (pages : List LentPage) (p : LentPage) → In p (map as_touched pages) → p.touched ≡ true
+all_marked [] p h = absurd h
+all_marked (q ∷ qs) p (inl e) = ap (λ (x : LentPage). x.touched) e
+all_marked (q ∷ qs) p (inr h) = all_marked qs p h
 
 -- ---- what is so of each of a list, told one after another
 

@@ -1,5 +1,5 @@
 -- What a lease shows of its file.
-use Rattle.std.specs.Prelude.{◌≡◌, ◌⊎◌, ℕ, Bool, true, false, List, [], Option, slice_get, slice_index_or, slice_set}
+use Rattle.std.specs.Prelude.{◌≡◌, ◌⊎◌, ℕ, Bool, true, false, List, [], map, Option, slice_get, slice_index_or, slice_set}
 use Rattle.std.specs.Option.{option_map}
 use Rattle.trio_lists.specs.Lists.{In}
 use Rattle.trio_page.specs.declared.page.PageNo.{PageNo}
@@ -59,3 +59,11 @@ with_page pages i bytes = slice_set pages i (record (lent_at pages i) { page = b
 -- the same, with page i marked as touched
 abbrev pub with_touched : List LentPage → ℕ → List ℕ → List LentPage
 with_touched pages i bytes = slice_set pages i (record (lent_at pages i) { page = bytes; touched = true })
+
+-- a page marked as touched, its bytes and its number as before
+abbrev pub as_touched : LentPage → LentPage
+as_touched p = record p { touched = true }
+
+-- the file with each of its blocks marked as touched
+abbrev pub all_touched : LentFile → LentFile
+all_touched f = record f { stands = record f.stands { blocks = map as_touched f.stands.blocks } }

@@ -1,6 +1,6 @@
 //! Bundles.
 
-ghost use Rattle.std.specs.Prelude.{◌≡◌, ◌++◌, ◌∷◌, ◌<◌, ◌≤◌, ◌↔◌, ◌==◌, [], OnOk, IfErr, OnErr, IsOk, IfSome, IsSome, Some, length, slice_get, slice_set};
+ghost use Rattle.std.specs.Prelude.{◌≡◌, ◌++◌, ◌∷◌, ◌<◌, ◌≤◌, ◌↔◌, ◌==◌, [], OnOk, IfErr, OnErr, IsOk, IfSome, IsSome, Some, length, map, slice_get, slice_set};
 ghost use Rattle.std.specs.List.{position};
 ghost use Rattle.std.specs.Option.{option_copied_mut};
 ghost use Rattle.std.specs.Borrow.{sem, LendsIf};
@@ -8,11 +8,12 @@ ghost use Rattle.trio_page.specs.contracts.page.Page.{the_row as page_row};
 ghost use Rattle.trio_lease.specs.contracts.write.WriteLease.{the_row as lease_row};
 ghost use Rattle.trio_lease.specs.contracts.fresh.FreshPage.{the_row as fresh_row};
 ghost use Rattle.trio_lease.specs.Bundles.{HasRoom, NoRoomLost, bundled};
+ghost use Rattle.trio_lease.specs.Shown.{all_touched};
 ghost use Rattle.trio_lease.specs.Places.{bytes_at, bytes_of, place_in, with_bytes, with_bytes_at};
 
 use crate::fresh::{FreshIno, FreshPage, discard_inodes, discard_pages};
 use crate::hold::{HoldLease, discard_holds};
-use crate::write::{WriteLease, discard_writes};
+use crate::write::{WriteLease, discard_writes, touch_writes};
 use std::alloc::Global;
 use std::marker::Model;
 use trio_page::{NoMemory, Page, PageNo};
@@ -232,6 +233,14 @@ impl Bundle {
         for lease in &self.writes {
             lease.keeps_untouched();
         }
+    }
+
+    /// Marks each block of the write leases as touched, for a bundle of which nobody knows what was
+    /// written. All else that it has is as it was. It takes no memory.
+    pub fn touch_blocks(&mut self)
+        ensures { self.new ≡ record self.old { writes = map all_touched self.old.writes } }
+    {
+        touch_writes(&mut self.writes);
     }
 
     /// The holds, in the order in which they were added.

@@ -1,11 +1,11 @@
 //! Lists of lent pages.
 
-ghost use Rattle.std.specs.Prelude.{◌≡◌, ◌<◌, ◌↔◌, true, IsSome, IfSome, length, slice_set};
+ghost use Rattle.std.specs.Prelude.{◌≡◌, ◌<◌, ◌↔◌, true, IsSome, IfSome, length, map, slice_set};
 ghost use Rattle.std.specs.Option.{option_copied};
 ghost use Rattle.std.specs.Borrow.{sem, Lends, LendsIf};
 ghost use Rattle.trio_page.specs.contracts.page.Page.{the_row as page_row};
 ghost use Rattle.trio_lease.specs.contracts.parts.LentPage.{the_row as lent_row};
-ghost use Rattle.trio_lease.specs.Shown.{page_at, no_at, touched_at, lent_at, with_page, with_touched};
+ghost use Rattle.trio_lease.specs.Shown.{as_touched, page_at, no_at, touched_at, lent_at, with_page, with_touched};
 ghost use Rattle.trio_lease.specs.Places.{place_among};
 
 use crate::parts::LentPage;
@@ -102,6 +102,13 @@ impl LentPages {
         }
     }
 
+    /// Marks each page as touched.
+    pub fn touch_all(&mut self)
+        ensures { self.new ≡ map as_touched self.old }
+    {
+        touch_pages(&mut self.pages);
+    }
+
     fn get_mut(&mut self, i: usize) -> Option<&mut LentPage>
         ensures value { IfSome result (λ p. p.now ≡ lent_at self.old i) }
         ensures some { IsSome result ↔ (i < length self.old) }
@@ -124,4 +131,13 @@ fn touched_page_of(lent: &mut LentPage) -> &mut Page
 {
     lent.touched = true;
     &mut lent.page
+}
+
+/// Marks each of these pages as touched.
+fn touch_pages(pages: &mut [LentPage])
+    ensures { pages.new ≡ map as_touched pages.old }
+{
+    for lent in pages.iter_mut() {
+        lent.touched = true;
+    }
 }

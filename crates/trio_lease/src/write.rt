@@ -1,10 +1,10 @@
 //! Write leases.
 
-ghost use Rattle.std.specs.Prelude.{◌≡◌, ◌<◌, ◌↔◌, IfSome, IsSome, length};
+ghost use Rattle.std.specs.Prelude.{◌≡◌, ◌<◌, ◌↔◌, IfSome, IsSome, length, map};
 ghost use Rattle.std.specs.Option.{option_copied};
 ghost use Rattle.std.specs.Borrow.{sem, Lends, LendsIf, Array, u8 as byte};
 ghost use Rattle.trio_page.specs.contracts.page.Page.{the_row as page_row};
-ghost use Rattle.trio_lease.specs.Shown.{shown, page_at, no_at, touched_at, lent_at, with_page, with_touched};
+ghost use Rattle.trio_lease.specs.Shown.{all_touched, shown, page_at, no_at, touched_at, lent_at, with_page, with_touched};
 ghost use Rattle.trio_lease.specs.Places.{place_among};
 
 use crate::lent::LentPages;
@@ -236,6 +236,22 @@ impl WriteLease {
         ensures { result ≡ touched_at self.now.stands.blocks i }
     {
         self.blocks.touched(i)
+    }
+
+    /// Marks each block as touched. Its bytes and its number are as they were. It takes no memory.
+    pub fn touch_blocks(&mut self)
+        ensures { self.new ≡ all_touched self.old }
+    {
+        self.blocks.touch_all();
+    }
+}
+
+/// Marks each block of these leases as touched.
+pub(crate) fn touch_writes(leases: &mut [WriteLease])
+    ensures { leases.new ≡ map all_touched leases.old }
+{
+    for lease in leases.iter_mut() {
+        lease.touch_blocks();
     }
 }
 

@@ -16,12 +16,14 @@ loop-at-preserved c =
     let there : slice_get c.args.fresh.now at ≡ Some page = slice_get_read c.args.fresh.now _ at page refl (omega arith) c.index-fresh-at.is in
     let own : c.unread.result.no ≡ page.no.0 = ap (λ q. q.no) c.unread.ensures ∙ ap (λ n. n.0) c.no.ensures in
     record {
-      numbers = more_numbers (λ (q : FreshParts). q.no.0) c.args.fresh.now at page (numbers_of c.args.pages.now.items) c.loop-at.pages.items c.push.new.self.items c.unread.result there own c.in_ok-push.ensures.items turn.numbers;
+      numbers = more_numbers (λ (q : FreshParts). q.no.0) c.args.fresh.now at page (numbers_of c.args.pages.now.items) c.loop-at.pages.items c.push.new.list.items c.unread.result there own c.push.ensures.items turn.numbers;
       unread = λ b file before.
           let here : IsUnread b c.unread.result = rw c.unread.ensures (record {
             place = ap (λ ps. option_map (λ (q : FreshParts). q.no.0) (slice_get ps at)) file ∙ ap (option_map (λ (q : FreshParts). q.no.0)) there ∙ ap (λ n. Some n.0) (sym c.no.ensures);
             entries = refl;
             index = refl;
           }) in
-          one_unread b c.loop-at.pages.items c.push.new.self.items c.unread.result c.in_ok-push.ensures.items here (turn.unread b file before);
+          one_unread b c.loop-at.pages.items c.push.new.list.items c.unread.result c.push.ensures.items here (turn.unread b file before);
+      len = omega (arith, c.push.ensures.len, turn.len);
+      capacity = omega (arith, c.push.ensures.capacity, turn.capacity);
     }

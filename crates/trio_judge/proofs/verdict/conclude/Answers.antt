@@ -1,7 +1,7 @@
 use Rattle.std.proofs.Common.{◌≡◌, None, inl, inr, refl}
 use Rattle.trio_judge.specs.Cases.{case_in}
 use Rattle.trio_judge.specs.inner.Walk.{fault_place}
-use Rattle.trio_judge.proofs.Ending.{grammar_met, listing_is, owning_fails, owning_false, owning_met, rights_fail, rights_false, rights_met, second_unmet, third_unmet, three_met}
+use Rattle.trio_judge.proofs.Ending.{few_listed, grammar_met, listing_is, owning_fails, owning_false, owning_met, rights_fail, rights_false, rights_met, second_unmet, third_unmet, three_met}
 use Rattle.trio_judge.proofs.Noting.{none_is}
 use Rattle.trio_judge.proofs.verdict.conclude.Goals as goal
 
@@ -40,6 +40,11 @@ returns-in-Some-rights-clause-listing c =
     let none : w.owning ≡ None = none_is w.owning c.in_default.not-Some in
     rw c.broken-in-Some-rights.ensures (refl, listing_is k w c.requires.ended c.requires.passed none)
 
+pub returns-in-Some-rights-clause-few : goal.returns-in-Some-rights-clause-few
+returns-in-Some-rights-clause-few c =
+    let none : c.args.walk.owning ≡ None = none_is c.args.walk.owning c.in_default.not-Some in
+    rw c.broken-in-Some-rights.ensures (few_listed (case_in c.args.case.now) c.args.walk c.requires.ended c.requires.passed none)
+
 pub returns-clause-sound : goal.returns-clause-sound
 returns-clause-sound c =
     let k = case_in c.args.case.now in
@@ -53,3 +58,8 @@ returns-clause-listing c =
     let w = c.args.walk in
     let none : w.owning ≡ None = none_is w.owning c.in_default.not-Some in
     listing_is k w c.requires.ended c.requires.passed none
+
+pub returns-clause-few : goal.returns-clause-few
+returns-clause-few c =
+    let none : c.args.walk.owning ≡ None = none_is c.args.walk.owning c.in_default.not-Some in
+    few_listed (case_in c.args.case.now) c.args.walk c.requires.ended c.requires.passed none

@@ -1,0 +1,7 @@
+use Rattle.std.proofs.Common.{◌≡◌, ◌++◌, map, take, drop}
+use Rattle.trio_lease.specs.Shown.{all_touched}
+use Rattle.trio_lease.proofs.write.touch_writes.Given as goal
+
+-- the leases so far have touched blocks, and the others are as they were
+abbrev pub invariant-loop-lease : goal.invariant-loop-lease
+invariant-loop-lease l = l.leases ≡ map all_touched (take l.lease-index l.fn.leases) ++ drop l.lease-index l.fn.leases
