@@ -21,3 +21,8 @@ added f xs i x old now new o within is before tells grown =
     ap (filter_map f) (take_more xs i x within ∙ ap (λ y. take i xs ++ y ∷ []) (sym is)) ∙ filter_map-append f (take i xs) (x ∷ []) in
     grown ∙ ap (λ l. l ++ cons_option o []) before ∙ ap (λ p. (old ++ filter_map f (take i xs)) ++ cons_option p []) tells
     ∙ append_assoc old (filter_map f (take i xs)) (cons_option (f x) []) ∙ ap (λ l. old ++ l) (sym last)
+
+-- what two lists tell, one after the other
+pub both_told : {X Z : Type 0} (f : X → Option Z) (xs ys : List X) (start now new : List Z) → start ≡ [] → now ≡ start ++ filter_map f xs → new ≡ now ++ filter_map f ys → new ≡ filter_map f (xs ++ ys)
+both_told f xs ys start now new none first last =
+    last ∙ ap (λ l. l ++ filter_map f ys) (first ∙ ap (λ l. l ++ filter_map f xs) none) ∙ sym (filter_map-append f xs ys)

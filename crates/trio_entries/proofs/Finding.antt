@@ -1,15 +1,20 @@
 -- What is found by number.
-use Rattle.std.proofs.Common.{◌≡◌, ℕ, suc, ◌+◌, ◌<◌, eqb, Bool, true, false, ◌||◌, cond, List, [], ◌∷◌, ◌++◌, length, map, get_or, take, Option, None, Some, refl, sym, ap, ◌∙◌, subst, inl, inr, arith}
-use Rattle.std.specs.Prelude.{slice_get, is_some}
+use Rattle.std.proofs.Common.{◌≡◌, ℕ, zero, suc, ◌+◌, ◌<◌, ◌≤◌, ◌⊎◌, eqb, Bool, true, false, ◌||◌, cond, List, [], ◌∷◌, ◌++◌, length, map, get_or, set, replicate, take, Option, None, Some, Result, Ok, Err, refl, sym, ap, ◌∙◌, subst, inl, inr, arith}
+use Rattle.std.specs.Prelude.{slice_get, is_some, is_ok, MatchResult}
 use Rattle.std.specs.List.{find, list_any}
 use Rattle.std.specs.Option.{option_and_then, option_map, option_map_or, option_or}
+use Rattle.std.specs.List.Sorted.{IsBinarySearchResult, IsNonDecreasing, IsPermutation}
+use Rattle.std.specs.Ordering.{nat_cmp}
+use Rattle.std.proofs.lemmas.Bool.{cases_eq, false≢true}
 use Rattle.std.proofs.lemmas.Bool.Decides.{nat_tests}
-use Rattle.std.proofs.lemmas.List.{length-map, length-take-le, take_more}
-use Rattle.trio_lists.specs.Lists.{In, are_new}
-use Rattle.trio_lists.proofs.Members.{In-map}
-use Rattle.trio_lists.proofs.New.{are_new-first}
+use Rattle.std.proofs.lemmas.List.{get_or-set_same, get_or-set_other, get_or_default, length-map, length-take-le, map-append, take_more}
+use Rattle.std.proofs.lemmas.List.Sorted.{list_any-IsPermutation, searched}
+use Rattle.trio_lists.specs.Lists.{In, are_new, is_among}
+use Rattle.trio_lists.proofs.Filters.{get_or-In, In-get_or}
+use Rattle.trio_lists.proofs.Members.{In-is_among, In-map, is_among-In}
+use Rattle.trio_lists.proofs.New.{are_new-first, is_among-not}
 use Rattle.trio_judge.specs.Order.{place_of}
-use Rattle.trio_judge.proofs.Ordered.{place_has}
+use Rattle.trio_judge.proofs.Ordered.{place_has, place_none}
 
 -- ---- places
 
@@ -31,6 +36,13 @@ place_of-last n y (x ∷ xs) =
     ap (λ o. cond (eqb x n) (Some 0) (option_map suc o)) (place_of-last n y xs)
     ∙ ap (cond (eqb x n) (Some 0)) (or_suc (place_of n xs) (cond (eqb y n) (Some (length xs)) None) ∙ ap (option_or (option_map suc (place_of n xs))) (suc_if (eqb y n) (length xs)))
     ∙ first_or (eqb x n) (option_map suc (place_of n xs)) (cond (eqb y n) (Some (suc (length xs))) None)
+
+-- the places among the numbers of one element more
+pub place_more_by : {X : Type 0} (key : X → ℕ) (n i : ℕ) (xs : List X) (x : X) → i < length xs → place_of n (map key (take (i + 1) xs)) ≡ option_or (place_of n (map key (take i xs))) (cond (eqb (key (get_or xs i x)) n) (Some i) None)
+place_more_by key n i xs x within =
+    ap (λ l. place_of n (map key l)) (take_more xs i x within) ∙ ap (place_of n) (map-append key (take i xs) (get_or xs i x ∷ []))
+    ∙ place_of-last n (key (get_or xs i x)) (map key (take i xs))
+    ∙ ap (λ k. option_or (place_of n (map key (take i xs))) (cond (eqb (key (get_or xs i x)) n) (Some k) None)) (length-map (take i xs) key ∙ length-take-le i xs (omega (arith, within)))
 
 -- the places among one number more
 pub place_of-more : (n i : ℕ) (xs : List ℕ) → i < length xs → place_of n (take (i + 1) xs) ≡ option_or (place_of n (take i xs)) (cond (eqb (get_or xs i 0) n) (Some i) None)
@@ -94,6 +106,23 @@ find-any p (x ∷ xs) = by (p x) (find-any p xs)
 pub placed : {X : Type 0} (key : X → ℕ) (n : ℕ) (xs : List X) (o : Option ℕ) → o ≡ place_of n (map key xs) → find (λ x. eqb (key x) n) xs ≡ option_and_then (slice_get xs) o
 placed key n xs o h = sym (place_found key n xs) ∙ ap (option_and_then (slice_get xs)) (sym h)
 
+none_at : {X : Type 0} (xs : List X) (o : Option ℕ) → xs ≡ [] → option_and_then (slice_get xs) o ≡ None
+none_at [] None e = refl
+none_at [] (Some i) e = refl
+none_at (x ∷ xs) o e = absurd cc
+
+-- the same, by the place among more numbers
+more_found : {X : Type 0} (key : X → ℕ) (n : ℕ) (xs : List X) (more : List ℕ) → option_and_then (slice_get xs) (place_of n (map key xs ++ more)) ≡ find (λ x. eqb (key x) n) xs
+more_found key n [] more = none_at [] (place_of n more) refl
+more_found key n (x ∷ xs) more = by (eqb (key x) n) (more_found key n xs more)
+  where
+    by : (t : Bool) → option_and_then (slice_get xs) (place_of n (map key xs ++ more)) ≡ find (λ y. eqb (key y) n) xs → option_and_then (slice_get (x ∷ xs)) (cond t (Some 0) (option_map suc (place_of n (map key xs ++ more)))) ≡ cond t (Some x) (find (λ y. eqb (key y) n) xs)
+    by true e = refl
+    by false e = later x xs (place_of n (map key xs ++ more)) ∙ e
+
+pub more_placed : {X : Type 0} (key : X → ℕ) (n : ℕ) (xs : List X) (more : List ℕ) (o : Option ℕ) → o ≡ place_of n (map key xs ++ more) → find (λ x. eqb (key x) n) xs ≡ option_and_then (slice_get xs) o
+more_placed key n xs more o h = sym (more_found key n xs more) ∙ ap (option_and_then (slice_get xs)) (sym h)
+
 pub place_within : {X : Type 0} (key : X → ℕ) (n : ℕ) (xs : List X) (i : ℕ) → Some i ≡ place_of n (map key xs) → i < length xs
 place_within key n xs i h =
     let p = place_has n (map key xs) i (sym h) in
@@ -102,3 +131,122 @@ place_within key n xs i h =
 pub map_or_is : {X Y : Type 0} (f : X → Y) (o : Option X) (d y : Y) → option_map f o ≡ Some y → option_map_or f o d ≡ y
 map_or_is f None d y h = absurd cc
 map_or_is f (Some x) d y h = cc
+
+-- ---- a search among numbers that rise
+
+pub found_among : (xs : List ℕ) (n : ℕ) (r : Result ℕ ℕ) → IsNonDecreasing xs → IsBinarySearchResult (λ y. nat_cmp y n) xs r → is_ok r ≡ is_among n xs
+found_among xs n r up is = of r (searched xs n r is (λ i j le l. up i j 0 le l))
+  where
+    of : (r : Result ℕ ℕ) → MatchResult r (λ i. (i < length xs) × (get_or xs i 0 ≡ n)) (λ i. (i ≤ length xs) × ((k : ℕ) → k < i → get_or xs k 0 < n) × ((k : ℕ) → i ≤ k → k < length xs → n < get_or xs k 0)) → is_ok r ≡ is_among n xs
+    of (Ok i) h = sym (In-is_among n xs (subst (λ m. In m xs) h.1 (get_or-In xs i 0 h.0)))
+    of (Err i) h = sym (is_among-not n xs (λ j. nowhere (In-get_or n xs j)))
+      where
+        nowhere : (k : ℕ) × (k < length xs) × (get_or xs k n ≡ n) → ⊥
+        nowhere p =
+            let same : get_or xs p.0 0 ≡ n = get_or_default xs p.0 0 n p.1 ∙ p.2 in
+            grind (arith, same, p.1, h.1 p.0, h.2 p.0)
+
+-- numbers in another order
+pub among_moved : (n : ℕ) (xs ys : List ℕ) → IsPermutation xs ys → is_among n ys ≡ is_among n xs
+among_moved n xs ys moved = sym (list_any-IsPermutation (λ x. eqb x n) xs ys moved)
+
+-- ---- places that are noted
+
+-- the place that is noted of a number, by where it stands among its own
+abbrev noted : List (Option ℕ) → Option ℕ → Option ℕ
+noted judged o = option_and_then (λ at. get_or judged at None) o
+
+abbrev blank : ℕ → List (Option ℕ)
+blank len = replicate len None
+
+none_noted : (len k : ℕ) → get_or (blank len) k None ≡ None
+none_noted zero k = refl
+none_noted (suc len) zero = refl
+none_noted (suc len) (suc k) = none_noted len k
+
+pub nothing_noted : (judged : List (Option ℕ)) (len : ℕ) (o : Option ℕ) → judged ≡ replicate len None → noted judged o ≡ None
+nothing_noted judged len None e = refl
+nothing_noted judged len (Some k) e = ap (λ l. get_or l k None) e ∙ none_noted len k
+
+some_same : (a b : ℕ) → (let o : Option ℕ = Some a in o) ≡ Some b → a ≡ b
+some_same a b e = cc
+
+apart : (m n : ℕ) → (m ≡ n → ⊥) → eqb m n ≡ false
+apart m n h = grind (arith, nat_tests)
+
+equal : (m n : ℕ) → m ≡ n → eqb m n ≡ true
+equal m n h = grind (arith, nat_tests)
+
+or_none : (o : Option ℕ) → option_or o None ≡ o
+or_none None = refl
+or_none (Some x) = refl
+
+has_place : (n : ℕ) (xs : List ℕ) → In n xs → (i : ℕ) × (place_of n xs ≡ Some i)
+has_place n xs i = of (place_of n xs) refl
+  where
+    of : (o : Option ℕ) → place_of n xs ≡ o → (i : ℕ) × (place_of n xs ≡ Some i)
+    of (Some i) e = (i, e)
+    of None e = absurd (none_out n xs e i)
+      where
+        none_out : (n : ℕ) (xs : List ℕ) → place_of n xs ≡ None → In n xs → ⊥
+        none_out n [] e i = i
+        none_out n (x ∷ xs) e i = by (eqb x n) refl e i (none_out n xs)
+          where
+            by : (t : Bool) → eqb x n ≡ t → cond t (Some 0) (option_map suc (place_of n xs)) ≡ None → In n (x ∷ xs) → (place_of n xs ≡ None → In n xs → ⊥) → ⊥
+            by true is e i rest = false≢true (sym (ap is_some e))
+            by false is e (inl same) rest = (let t : eqb x n ≡ true = grind (arith, nat_tests, same) in false≢true (sym is ∙ t))
+            by false is e (inr j) rest = rest (unsuc (place_of n xs) e) j
+              where
+                unsuc : (o : Option ℕ) → option_map suc o ≡ None → o ≡ None
+                unsuc None e = refl
+                unsuc (Some i) e = absurd cc
+
+-- a number without a place is no own one
+pub noted_none : (own : List ℕ) (judged : List (Option ℕ)) (m at n : ℕ) (o : Option ℕ) → None ≡ place_of m own → In n own → noted judged o ≡ option_or (noted judged o) (cond (eqb m n) (Some at) None)
+noted_none own judged m at n o none i =
+    let h = has_place n own i in
+    let t : eqb m n ≡ false = apart m n (λ e. false≢true (ap is_some (none ∙ ap (λ x. place_of x own) e ∙ h.1))) in
+    sym (ap (λ b. option_or (noted judged o) (cond b (Some at) None)) t ∙ or_none (noted judged o))
+
+-- one place more: of the number m at its own place k
+pub noted_more : (own : List ℕ) (judged : List (Option ℕ)) (m k at n : ℕ) (o : Option ℕ) → o ≡ place_of n own → Some k ≡ place_of m own → length judged ≡ length own → In n own → noted (set judged k (option_or (get_or judged k None) (Some at))) o ≡ option_or (noted judged o) (cond (eqb m n) (Some at) None)
+noted_more own judged m k at n o oe is len i =
+    let h = has_place n own i in
+    let hk = place_has m own k (sym is) in
+    let hn = place_has n own h.0 h.1 in
+    let e : o ≡ Some h.0 = oe ∙ h.1 in
+    ap (noted (set judged k (option_or (get_or judged k None) (Some at)))) e ∙ by h.0 hn.1 (cases_eq h.0 k) (omega (arith, hk.0, len)) hk.1 h.1 ∙ ap (λ p. option_or (noted judged p) (cond (eqb m n) (Some at) None)) (sym e)
+  where
+    by : (j : ℕ) → get_or own j 0 ≡ n → (j ≡ k) ⊎ (j ≡ k → ⊥) → k < length judged → get_or own k 0 ≡ m → place_of n own ≡ Some j → get_or (set judged k (option_or (get_or judged k None) (Some at))) j None ≡ option_or (get_or judged j None) (cond (eqb m n) (Some at) None)
+    by j on (inl same) small om pn =
+        let mn : m ≡ n = sym om ∙ ap (λ x. get_or own x 0) (sym same) ∙ on in
+        let t : eqb m n ≡ true = equal m n mn in
+        ap (λ x. get_or (set judged k (option_or (get_or judged k None) (Some at))) x None) same ∙ get_or-set_same judged k (option_or (get_or judged k None) (Some at)) None small
+        ∙ sym (ap (λ x. option_or (get_or judged x None) (cond (eqb m n) (Some at) None)) same ∙ ap (λ b. option_or (get_or judged k None) (cond b (Some at) None)) t)
+    by j on (inr differ) small om pn =
+        let mn : m ≡ n → ⊥ = λ e. differ (some_same j k (sym pn ∙ ap (λ x. place_of x own) (sym e) ∙ sym is)) in
+        let t : eqb m n ≡ false = apart m n mn in
+        get_or-set_other judged k j (option_or (get_or judged k None) (Some at)) None differ ∙ sym (ap (λ b. option_or (get_or judged j None) (cond b (Some at) None)) t ∙ or_none (get_or judged j None))
+
+blank_length : (len : ℕ) → length (blank len) ≡ len
+blank_length zero = refl
+blank_length (suc len) = ap suc (blank_length len)
+
+pub unnoted_length : (judged : List (Option ℕ)) (len : ℕ) → judged ≡ blank len → length judged ≡ len
+unnoted_length judged len e = ap length e ∙ blank_length len
+
+pub or_turn : (a b c d t : Option ℕ) → a ≡ option_or b t → b ≡ c → d ≡ option_or c t → a ≡ d
+or_turn a b c d t p q r = p ∙ ap (λ o. option_or o t) q ∙ sym r
+
+no_place : (n : ℕ) (xs : List ℕ) → (In n xs → ⊥) → place_of n xs ≡ None
+no_place n xs out = place_none n xs (λ k l e. out (subst (λ m. In m xs) e (get_or-In xs k 0 l)))
+
+-- what is noted of all numbers, where it is of the own ones and others have no place
+pub noted_all : (own files : List ℕ) (judged : List (Option ℕ)) (n : ℕ) (o : Option ℕ) → o ≡ place_of n own → (In n own → noted judged o ≡ place_of n files) → (In n files → In n own) → noted judged o ≡ place_of n files
+noted_all own files judged n o e here within = by (is_among n own) refl
+  where
+    by : (b : Bool) → is_among n own ≡ b → noted judged o ≡ place_of n files
+    by true t = here (is_among-In n own t)
+    by false t =
+        ap (noted judged) (e ∙ no_place n own (λ i. false≢true (sym t ∙ In-is_among n own i)))
+        ∙ sym (no_place n files (λ i. false≢true (sym t ∙ In-is_among n own (within i))))

@@ -1,14 +1,18 @@
 -- What the rules on a bundle give of its listing.
-use Rattle.std.proofs.Common.{◌≡◌, true, ◌&&◌, List, [], ◌∷◌, map, Option, None, Some, refl, ap, ◌∙◌, subst}
+use Rattle.std.proofs.Common.{◌≡◌, true, ◌&&◌, List, [], ◌∷◌, length, map, Option, None, Some, refl, sym, ap, ◌∙◌, subst}
 use Rattle.std.specs.Prelude.{is_some}
 use Rattle.std.specs.List.{list_all}
 use Rattle.std.proofs.lemmas.Bool.{and_parts}
+use Rattle.std.proofs.lemmas.List.{length-map}
 use Rattle.trio_rights.specs.Bundle.{bundle_pages}
 use Rattle.trio_rights.specs.Row.{Row, row_in}
 use Rattle.trio_rights.specs.declared.kind.Kind.{Kind}
 use Rattle.trio_lists.specs.Lists.{In, are_new, is_among}
+use Rattle.trio_lists.specs.Sorting.{sorted_by}
 use Rattle.trio_lists.proofs.Members.{list_all-In}
+use Rattle.trio_lists.proofs.Sorting.{sorted_in, sorted_new}
 use Rattle.trio_lease.specs.Shown.{LentFile}
+use Rattle.trio_lease.specs.declared.parts.HoldParts.{HoldParts}
 use Rattle.trio_layout.specs.Allowed.{has_kind}
 use Rattle.trio_layout.specs.Case.{Case}
 use Rattle.trio_layout.specs.Edges.{meets_edges}
@@ -17,10 +21,13 @@ use Rattle.trio_layout.specs.Listing.{Listing, ListedEntry, entry_listed, listin
 use Rattle.trio_layout.specs.Rules.{entry_is_own, meets_grammar, meets_owning, meets_rights, meets_rules}
 use Rattle.trio_layout.specs.Survey.{Met, numbers}
 use Rattle.trio_judge.specs.Cases.{CaseShown}
+use Rattle.trio_judge.proofs.Ordered.{order_length}
 use Rattle.trio_state.specs.Listed.{Notes}
 use Rattle.trio_entries.specs.Telling.{whole_case, AreNoted}
 use Rattle.trio_entries.specs.inner.Finding.{AreWrittenNoted, IsToldBy}
+use Rattle.trio_entries.specs.inner.Once.{lent_once, AreListedOnce}
 use Rattle.trio_entries.proofs.Finding.{find-first}
+use Rattle.trio_entries.proofs.ToldOnce.{itself, new_parts}
 use Rattle.trio_entries.proofs.Reading.{listed_readable}
 
 entry_numbers : (c : Case) (ms : List Met) → map (λ (e : ListedEntry). e.ino) (map (entry_listed c) ms) ≡ numbers ms
@@ -55,3 +62,17 @@ live kind (Some r) h = refl
 pub written_noted : (k : CaseShown) (rows : List (Option Row)) (notes : Notes) → list_all (λ (x : LentFile). has_kind x.stands.kind (row_in rows x.stands.ino)) k.bundle.writes ≡ true → AreNoted rows notes → AreWrittenNoted k notes
 written_noted k rows notes fits noted =
     λ f i. noted f.stands.ino (live f.stands.kind (row_in rows f.stands.ino) (list_all-In (λ (x : LentFile). has_kind x.stands.kind (row_in rows x.stands.ino)) f k.bundle.writes fits i))
+
+-- and stands once in it, as the held files do
+pub told_apart : (k : CaseShown) (rows : List (Option Row)) (l : Listing) → l ≡ listing (whole_case k rows) → meets_rules (whole_case k rows) ≡ true → lent_once k ≡ true → AreListedOnce k l
+told_apart k rows l is h once =
+    let holds = map (λ (x : HoldParts). x.ino) k.bundle.holds in
+    let lent = new_parts (map (λ (f : LentFile). f.stands.ino) k.bundle.writes) holds once in
+    let held : l.held ≡ sorted_by (λ n. n) holds = ap (λ (x : Listing). x.held) is in
+    record {
+      lent = once;
+      entries = ap (λ (x : Listing). are_new [] (map (λ (e : ListedEntry). e.ino) x.entries)) is ∙ listed_once (whole_case k rows) h;
+      held = ap (are_new []) (held ∙ sym (itself (sorted_by (λ n. n) holds))) ∙ sorted_new (λ n. n) holds (ap (are_new []) (itself holds) ∙ lent.1);
+      holds = λ n i. sorted_in (λ m. m) n holds (subst (λ ns. In n ns) held i);
+      count = ap length held ∙ order_length holds ∙ length-map k.bundle.holds (λ (x : HoldParts). x.ino);
+    }

@@ -1,4 +1,3 @@
-pub mod Pages
 pub mod Reading
 pub mod Finding
 pub mod Adding
@@ -7,3 +6,6 @@ pub mod EntryLemmas
 pub mod LentLemmas
 pub mod Turns
 pub mod Judged
+pub mod OneOrder
+pub mod ToldOnce
+pub mod Few

@@ -1,3 +1,4 @@
+pub mod Drafts
 pub mod Handed
 pub mod Telling
 pub mod inner

@@ -1,2 +1,5 @@
 pub mod Finding
+pub mod Once
+pub mod Placed
 pub mod Slots
+pub mod Sources

@@ -1,166 +1,203 @@
 //! What a release tells of blocks.
 
-ghost use Rattle.std.specs.Prelude.{◌≡◌, ◌+◌, ◌==◌, ◌++◌, List, Option, IfOk, OnOk, false, map, slice_get};
-ghost use Rattle.std.specs.Option.{option_copied, option_map_or};
+ghost use Rattle.std.specs.Prelude.{◌≡◌, ◌+◌, ◌≤◌, ◌<◌, ◌^◌, ◌==◌, ◌++◌, ◌∷◌, [], List, None, Option, false, if◌then◌else◌, length, map, slice_get, vec_capacity, vec_len};
+ghost use Rattle.std.specs.List.{flat_map};
+ghost use Rattle.std.specs.Option.{option_map, option_map_or};
 ghost use Rattle.trio_rights.specs.Row.{Row};
 ghost use Rattle.trio_lease.specs.Bundles.{Bundled};
 ghost use Rattle.trio_lease.specs.Views.{bundle_in};
 ghost use Rattle.trio_judge.specs.Places.{bytes_at};
+ghost use Rattle.trio_nodes.specs.Told.{block_in, page_in};
 ghost use Rattle.trio_nodes.specs.declared.entry.Handed.{Handed as HandedSeen};
 ghost use Rattle.trio_state.specs.Listed.{accepted_blocks, block_told, blocks_listed_of, blocks_of_kind, changed_blocks, is_block_changed, lent_blocks, refused_blocks};
 ghost use Rattle.trio_entries.specs.Handed.{handed_in};
 ghost use Rattle.trio_entries.specs.Telling.{whole_case};
-ghost use Rattle.trio_entries.specs.inner.Finding.{ArePlaces, IsFinderOf, IsMarkedBy};
+ghost use Rattle.trio_entries.specs.inner.Finding.{IsFinderOf, IsJudgedBy, IsMarkedBy};
+ghost use Rattle.trio_entries.specs.inner.Placed.{blocks_in, numbers_of};
 
 use crate::finder::Finder;
 use crate::notes::Notes;
-use crate::places::Places;
-use std::alloc::Global;
 use trio_judge::{Case, Listing, PagePlace};
 use trio_lease::WriteLease;
-use trio_nodes::{Handed, RawBlock, RawFile, SharedBytes};
-use trio_page::NoMemory;
+use trio_nodes::{HandedPlace, PlacedBlock, RawFile};
 use trio_rights::Kind;
 
-/// The blocks of a release that is accepted, by the files that it tells.
+/// The blocks of a release that is accepted, by the files that it tells, put into an empty list that
+/// has places for them.
 pub(crate) fn accepted_blocks(
-    alloc: Global,
+    blocks: &mut Vec<PlacedBlock>,
     case: &Case,
     listing: &Listing,
     notes: &Notes,
-    handed: &Handed,
     finder: &Finder,
-    judged: &Places,
     files: &[RawFile],
-) -> Result<Vec<RawBlock>, NoMemory>
+)
+    requires empty { blocks.old.items ≡ [] }
+    requires places { length (flat_map (λ f. blocks_listed_of listing.now.listing f.ino) files.now) ≤ vec_capacity blocks.old }
+    requires few { length (flat_map (λ f. blocks_listed_of listing.now.listing f.ino) files.now) < 2 ^ 32 }
     requires finder { IsFinderOf case.now finder.now }
-    requires marked { IsMarkedBy handed.now finder.now }
-    requires judged { ArePlaces judged.now (map (λ f. f.ino) listing.now.listing.files) }
-    requires handed { handed.now ≡ handed_in case.now.bundle }
-    ensures { (rows : List (Option Row)) → IfOk result (λ v. v.items ≡ accepted_blocks (whole_case case.now rows) listing.now.listing notes.now handed.now files.now) }
+    requires marked { IsMarkedBy (handed_in case.now.bundle) finder.now }
+    requires judged { IsJudgedBy listing.now.listing finder.now }
+    ensures { (rows : List (Option Row)) → blocks_in case.now blocks.new.items ≡ accepted_blocks (whole_case case.now rows) listing.now.listing notes.now (handed_in case.now.bundle) files.now }
 {
-    let mut blocks = Vec::new(alloc);
     for file in files {
-        let pages = listed_blocks(listing, judged, file.ino);
-        add_told(alloc, &mut blocks, case, notes, handed, finder, file, pages)?;
+        let pages = listed_blocks(listing, finder, file.ino);
+        add_told(blocks, case, notes, finder, file, &Pages::Listed(pages));
     }
-    Ok(blocks)
 }
 
-/// The blocks of a release that is refused, by the files that it tells.
+/// The blocks of a release that is refused, by the files that it tells, put into an empty list that
+/// has places for them.
 pub(crate) fn refused_blocks(
-    alloc: Global,
+    blocks: &mut Vec<PlacedBlock>,
     case: &Case,
     notes: &Notes,
-    handed: &Handed,
     finder: &Finder,
     files: &[RawFile],
-) -> Result<Vec<RawBlock>, NoMemory>
+)
+    requires empty { blocks.old.items ≡ [] }
+    requires places { length (flat_map (λ f. lent_blocks (bundle_in case.now.bundle) f.ino) files.now) ≤ vec_capacity blocks.old }
+    requires few { length (flat_map (λ f. lent_blocks (bundle_in case.now.bundle) f.ino) files.now) < 2 ^ 32 }
     requires finder { IsFinderOf case.now finder.now }
-    requires marked { IsMarkedBy handed.now finder.now }
-    requires handed { handed.now ≡ handed_in case.now.bundle }
-    ensures { (rows : List (Option Row)) → IfOk result (λ v. v.items ≡ refused_blocks (whole_case case.now rows) notes.now handed.now files.now) }
+    requires marked { IsMarkedBy (handed_in case.now.bundle) finder.now }
+    ensures { (rows : List (Option Row)) → blocks_in case.now blocks.new.items ≡ refused_blocks (whole_case case.now rows) notes.now (handed_in case.now.bundle) files.now }
 {
-    let mut blocks = Vec::new(alloc);
     for file in files {
-        let pages = lent_blocks(alloc, case, finder, file.ino)?;
-        add_told(
-            alloc,
-            &mut blocks,
-            case,
-            notes,
-            handed,
-            finder,
-            file,
-            &pages,
-        )?;
+        let pages = lent_blocks(case, finder, file.ino);
+        add_told(blocks, case, notes, finder, file, &pages);
     }
-    Ok(blocks)
+}
+
+/// The pages of a file's blocks, in the order of the file.
+#[derive(Drop)]
+enum Pages<'a> {
+    /// By their numbers.
+    Listed(&'a [u32]),
+    /// Those of a lease.
+    Lent(&'a WriteLease),
+}
+
+impl<'a> Pages<'a> {
+    fn len(&self) -> usize
+        ensures { result ≡ length (numbers_of self.now) }
+    {
+        match self {
+            Pages::Listed(pages) => pages.len(),
+            Pages::Lent(lease) => lease.blocks_len(),
+        }
+    }
+
+    /// The number of page `i`, counted from 0. `None` exactly past the last.
+    fn number(&self, i: usize) -> Option<u32>
+        ensures { result ≡ slice_get (numbers_of self.now) i }
+    {
+        match self {
+            Pages::Listed(pages) => pages.get(i).copied(),
+            Pages::Lent(lease) => lent_number(lease, i),
+        }
+    }
+}
+
+fn lent_number(lease: &WriteLease, i: usize) -> Option<u32>
+    ensures { result ≡ slice_get (map (λ p. p.no.0) lease.now.stands.blocks) i }
+{
+    match lease.block_no(i) {
+        Some(no) => Some(no.0),
+        None => None,
+    }
 }
 
 /// The blocks of a judged file, as the listing has them; none of a file that isn't judged.
-fn listed_blocks<'a>(listing: &'a Listing, judged: &Places, ino: u32) -> &'a [u32]
-    requires { ArePlaces judged.now (map (λ f. f.ino) listing.now.listing.files) }
+fn listed_blocks<'a>(listing: &'a Listing, finder: &Finder, ino: u32) -> &'a [u32]
+    requires { IsJudgedBy listing.now.listing finder.now }
     ensures { result.now ≡ blocks_listed_of listing.now.listing ino }
 {
-    match judged.find(ino) {
+    match finder.judged(ino) {
         Some(at) => listing.blocks(at),
         None => &[],
     }
 }
 
-/// The numbers of the blocks that a file was lent with; none of a file that isn't written.
-fn lent_blocks(alloc: Global, case: &Case, finder: &Finder, ino: u32) -> Result<Vec<u32>, NoMemory>
+/// The blocks that a file was lent with; none of a file that isn't written.
+fn lent_blocks<'a>(case: &'a Case, finder: &Finder, ino: u32) -> Pages<'a>
     requires { IsFinderOf case.now finder.now }
-    ensures { IfOk result (λ v. v.items ≡ lent_blocks (bundle_in case.now.bundle) ino) }
+    ensures { numbers_of result ≡ lent_blocks (bundle_in case.now.bundle) ino }
 {
     match finder.lease(case, ino) {
-        Some(lease) => lease_blocks(alloc, lease),
-        None => Ok(Vec::new(alloc)),
+        Some(lease) => Pages::Lent(lease),
+        None => Pages::Listed(&[]),
     }
 }
 
-fn lease_blocks(alloc: Global, lease: &WriteLease) -> Result<Vec<u32>, NoMemory>
-    ensures { IfOk result (λ v. v.items ≡ map (λ p. p.no.0) lease.now.stands.blocks) }
-{
-    let mut numbers = Vec::with_capacity(alloc, lease.blocks_len())?;
-    for at in 0..lease.blocks_len() {
-        let Some(no) = lease.block_no(at) else {
-            return Ok(numbers);
-        };
-        numbers.push(no.0)?;
-    }
-    Ok(numbers)
-}
-
-/// Adds those of a regular file's blocks that are told, given the pages of all.
+/// Adds those of a regular file's blocks that are told, given the pages of all, to a list that has
+/// places for all.
 fn add_told(
-    alloc: Global,
-    blocks: &mut Vec<RawBlock>,
+    blocks: &mut Vec<PlacedBlock>,
     case: &Case,
     notes: &Notes,
-    handed: &Handed,
     finder: &Finder,
     file: &RawFile,
-    pages: &[u32],
-) -> Result<(), NoMemory>
+    pages: &Pages<'_>,
+)
+    requires places { vec_len blocks.old + length (numbers_of pages.now) ≤ vec_capacity blocks.old }
+    requires few { length (numbers_of pages.now) < 2 ^ 32 }
     requires finder { IsFinderOf case.now finder.now }
-    requires marked { IsMarkedBy handed.now finder.now }
-    requires handed { handed.now ≡ handed_in case.now.bundle }
-    ensures { (rows : List (Option Row)) → OnOk result (blocks.new.items ≡ blocks.old.items ++ blocks_of_kind (whole_case case.now rows) notes.now handed.now file.now file.now.kind pages.now) }
+    requires marked { IsMarkedBy (handed_in case.now.bundle) finder.now }
+    ensures told { (rows : List (Option Row)) → blocks_in case.now blocks.new.items ≡ blocks_in case.now blocks.old.items ++ blocks_of_kind (whole_case case.now rows) notes.now (handed_in case.now.bundle) file.now file.now.kind (numbers_of pages.now) }
+    ensures len { vec_len blocks.new ≤ vec_len blocks.old + length (numbers_of pages.now) }
+    ensures capacity { vec_capacity blocks.new ≡ vec_capacity blocks.old }
 {
     match file.kind {
-        Kind::Regular => add_changed(alloc, blocks, case, notes, handed, finder, file, pages),
-        Kind::Directory => Ok(()),
+        Kind::Regular => add_changed(blocks, case, notes, finder, file, pages),
+        Kind::Directory => {}
     }
 }
 
 /// Adds those of these blocks of a file that are told.
 fn add_changed(
-    alloc: Global,
-    blocks: &mut Vec<RawBlock>,
+    blocks: &mut Vec<PlacedBlock>,
     case: &Case,
     notes: &Notes,
-    handed: &Handed,
     finder: &Finder,
     file: &RawFile,
-    pages: &[u32],
-) -> Result<(), NoMemory>
+    pages: &Pages<'_>,
+)
+    requires places { vec_len blocks.old + length (numbers_of pages.now) ≤ vec_capacity blocks.old }
+    requires few { length (numbers_of pages.now) < 2 ^ 32 }
     requires finder { IsFinderOf case.now finder.now }
-    requires marked { IsMarkedBy handed.now finder.now }
-    requires handed { handed.now ≡ handed_in case.now.bundle }
-    ensures { (rows : List (Option Row)) → OnOk result (blocks.new.items ≡ blocks.old.items ++ changed_blocks (whole_case case.now rows) notes.now handed.now file.now 0 pages.now) }
+    requires marked { IsMarkedBy (handed_in case.now.bundle) finder.now }
+    ensures told { (rows : List (Option Row)) → blocks_in case.now blocks.new.items ≡ blocks_in case.now blocks.old.items ++ changed_blocks (whole_case case.now rows) notes.now (handed_in case.now.bundle) file.now 0 (numbers_of pages.now) }
+    ensures len { vec_len blocks.new ≤ vec_len blocks.old + length (numbers_of pages.now) }
+    ensures capacity { vec_capacity blocks.new ≡ vec_capacity blocks.old }
 {
     for i in 0..pages.len() {
-        let Ok(at) = u32::try_from(i) else {
-            return Err(NoMemory);
+        let Some(page) = pages.number(i) else {
+            return;
         };
-        if is_changed(case, notes, finder, file, at, pages[i]) {
-            let told = block(alloc, case, handed, finder, file.ino, at, pages[i])?;
-            blocks.push(told)?;
-        }
+        add_block(blocks, case, notes, finder, file, i as u32, page);
     }
-    Ok(())
+}
+
+/// Adds a block of a file, if it is told, to a list that has a place for it.
+fn add_block(
+    blocks: &mut Vec<PlacedBlock>,
+    case: &Case,
+    notes: &Notes,
+    finder: &Finder,
+    file: &RawFile,
+    at: u32,
+    page: u32,
+)
+    requires place { vec_len blocks.old < vec_capacity blocks.old }
+    requires finder { IsFinderOf case.now finder.now }
+    requires marked { IsMarkedBy (handed_in case.now.bundle) finder.now }
+    ensures told { (rows : List (Option Row)) → blocks_in case.now blocks.new.items ≡ blocks_in case.now blocks.old.items ++ (if is_block_changed (whole_case case.now rows) notes.now (handed_in case.now.bundle) file.now at page then block_told (whole_case case.now rows) file.now.ino at page ∷ [] else []) }
+    ensures len { vec_len blocks.new ≤ vec_len blocks.old + 1 }
+    ensures capacity { vec_capacity blocks.new ≡ vec_capacity blocks.old }
+{
+    if is_changed(case, notes, finder, file, at, page) {
+        blocks.push_reserved(block(case, finder, file.ino, at, page));
+    }
 }
 
 /// Whether a block is told: its writer may have changed it, another page stood for it, or the size
@@ -196,51 +233,32 @@ fn is_lent_at(case: &Case, finder: &Finder, ino: u32, at: u32, page: u32) -> boo
     }
 }
 
-/// A block with the bytes that were handed in for its page.
-fn block(
-    alloc: Global,
-    case: &Case,
-    handed: &Handed,
-    finder: &Finder,
-    ino: u32,
-    at: u32,
-    page: u32,
-) -> Result<RawBlock, NoMemory>
-    requires finder { IsFinderOf case.now finder.now }
-    requires handed { handed.now ≡ handed_in case.now.bundle }
-    ensures { (rows : List (Option Row)) → IfOk result (λ b. b ≡ block_told (whole_case case.now rows) ino at page) }
+/// A block, by where the page stands that was handed in for it.
+fn block(case: &Case, finder: &Finder, ino: u32, at: u32, page: u32) -> PlacedBlock
+    requires { IsFinderOf case.now finder.now }
+    ensures { (rows : List (Option Row)) → block_in (handed_in case.now.bundle) result ≡ block_told (whole_case case.now rows) ino at page }
 {
-    let bytes = match finder.pages.place(case, page) {
-        Some(place) => handed_bytes(handed, place),
-        None => None,
+    let place = match finder.pages.place(case, page) {
+        Some(place) => handed_place(place),
+        None => past_all(case),
     };
-    let bytes = match bytes {
-        Some(bytes) => bytes.share()?,
-        None => SharedBytes::copied(alloc, &[])?,
-    };
-    Ok(RawBlock { ino, at, bytes })
+    PlacedBlock { ino, at, place }
 }
 
-/// The bytes that were handed in at a place of the bundle.
-fn handed_bytes(handed: &Handed, place: PagePlace) -> Option<&SharedBytes>
-    ensures { (b : Bundled) → handed.now ≡ handed_in b → option_copied result ≡ bytes_at b place }
+/// The place in what was handed in of a page of the bundle.
+fn handed_place(place: PagePlace) -> HandedPlace
+    ensures { (b : Bundled) → option_map (λ p. p.bytes) (page_in (handed_in b) result) ≡ bytes_at b place }
 {
-    let page = match place {
-        PagePlace::Index(file, at) => handed
-            .writes
-            .as_slice()
-            .get(file)?
-            .index
-            .as_slice()
-            .get(at)?,
-        PagePlace::Block(file, at) => handed
-            .writes
-            .as_slice()
-            .get(file)?
-            .blocks
-            .as_slice()
-            .get(at)?,
-        PagePlace::Fresh(at) => handed.pages.as_slice().get(at)?,
-    };
-    Some(&page.bytes)
+    match place {
+        PagePlace::Index(file, at) => HandedPlace::Index(file, at),
+        PagePlace::Block(file, at) => HandedPlace::Block(file, at),
+        PagePlace::Fresh(at) => HandedPlace::Fresh(at),
+    }
+}
+
+/// A place at which no page was handed in.
+fn past_all(case: &Case) -> HandedPlace
+    ensures { page_in (handed_in case.now.bundle) result ≡ None }
+{
+    HandedPlace::Fresh(case.bundle().pages().len())
 }

@@ -1,11 +1,10 @@
 //! The places of numbers in a list.
 
-ghost use Rattle.std.specs.Prelude.{◌≡◌, ◌==◌, ℕ, List, None, Some, IfOk, OnOk, if◌then◌else◌};
+ghost use Rattle.std.specs.Prelude.{◌≡◌, ◌==◌, ℕ, None, Some, IfOk, OnOk, if◌then◌else◌};
 ghost use Rattle.std.specs.Option.{option_or};
 ghost use Rattle.std.specs.Ordering.{nat_cmp};
 ghost use Rattle.std.specs.BTreeMap.{get};
-ghost use Rattle.trio_judge.specs.Order.{place_of};
-ghost use Rattle.trio_entries.specs.inner.Finding.{ArePlaces};
+ghost use Rattle.trio_entries.specs.inner.Finding.{place_in, ArePlaces};
 
 use std::alloc::Global;
 use std::collections::BTreeMap;
@@ -31,7 +30,7 @@ impl Places {
 
     /// The first place of a number; `None` exactly where it isn't in the list.
     pub fn find(&self, number: u32) -> Option<usize>
-        ensures { (numbers : List ℕ) → ArePlaces self.now numbers → result ≡ place_of number numbers }
+        ensures { result ≡ place_in self.now number }
     {
         self.places.get(&number).copied()
     }

@@ -1,6 +1,6 @@
 //! What a release tells of one file.
 
-ghost use Rattle.std.specs.Prelude.{◌≡◌, ◌<◌, ◌≤◌, ◌==◌, ◌&&◌, None, Some, IfSome, IfNone, drop, false, if◌then◌else◌, is_some, length, map, not, slice_index_or, true, unwrap_or};
+ghost use Rattle.std.specs.Prelude.{◌≡◌, ◌<◌, ◌≤◌, ◌==◌, ◌&&◌, None, Some, IfSome, IfNone, drop, false, if◌then◌else◌, is_some, length, not, slice_index_or, true, unwrap_or};
 ghost use Rattle.std.specs.List.{find};
 ghost use Rattle.std.specs.Option.{option_map};
 ghost use Rattle.std.specs.Str.{bytes_eq};
@@ -17,12 +17,11 @@ ghost use Rattle.trio_judge.specs.Cases.{case_in};
 ghost use Rattle.trio_judge.specs.Listed.{entry_seen};
 ghost use Rattle.trio_state.specs.Listed.{entry_slot, is_handed, noted_name, noted_size, size_in, told_entry, told_row, told_written, written_size};
 ghost use Rattle.trio_entries.specs.Telling.{whole_case, AreNoted};
-ghost use Rattle.trio_entries.specs.inner.Finding.{ArePlaces, IsFinderOf};
+ghost use Rattle.trio_entries.specs.inner.Finding.{IsFinderOf, IsJudgedBy};
 ghost use Rattle.trio_entries.specs.inner.Slots.{IsReadable};
 
 use crate::finder::{Finder, judged_row};
 use crate::notes::Notes;
-use crate::places::Places;
 use trio_judge::{Case, ListedEntry, Listing};
 use trio_layout::{Slot, SlotRead};
 use trio_lease::WriteLease;
@@ -39,11 +38,10 @@ pub(crate) fn told_entry(
     rows: &Shadow,
     notes: &Notes,
     finder: &Finder,
-    judged: &Places,
     entry: &ListedEntry,
 ) -> Option<RawFile>
     requires finder { IsFinderOf case.now finder.now }
-    requires judged { ArePlaces judged.now (map (λ f. f.ino) listing.now.listing.files) }
+    requires judged { IsJudgedBy listing.now.listing finder.now }
     requires readable { IsReadable (case_in case.now) (entry_seen entry.now) }
     requires first { find (λ e. e.ino == entry.now.ino) listing.now.listing.entries ≡ Some (entry_seen entry.now) }
     ensures { result ≡ told_entry (whole_case case.now rows.now) listing.now.listing notes.now (entry_seen entry.now) }
@@ -55,7 +53,7 @@ pub(crate) fn told_entry(
     if is_untold(case, notes, entry, &part.name) {
         return None;
     }
-    let row = row_listed(listing, judged, rows, entry)?;
+    let row = row_listed(listing, finder, rows, entry)?;
     let size = entry_size(case, finder, notes, entry.ino, slot);
     Some(told_row(case, entry.ino, false, part.name, size, &row))
 }
@@ -74,10 +72,10 @@ pub(crate) fn told_written(
     listing: &Listing,
     rows: &Shadow,
     notes: &Notes,
-    judged: &Places,
+    finder: &Finder,
     lease: &WriteLease,
 ) -> Option<RawFile>
-    requires judged { ArePlaces judged.now (map (λ f. f.ino) listing.now.listing.files) }
+    requires judged { IsJudgedBy listing.now.listing finder.now }
     requires noted { is_some (slice_index_or notes.now lease.now.stands.ino None) ≡ true }
     ensures { result ≡ told_written (whole_case case.now rows.now) listing.now.listing notes.now (written_in lease.now.stands) }
 {
@@ -85,7 +83,7 @@ pub(crate) fn told_written(
     if is_listed(listing, ino) {
         return None;
     }
-    let row = row_unlisted(listing, judged, rows, ino)?;
+    let row = row_unlisted(listing, finder, rows, ino)?;
     let note = notes.get(ino)?;
     let size = size_in(lease.body());
     Some(told_row(case, ino, false, note.name, size, &row))
@@ -203,12 +201,12 @@ fn size_in(body: &[u8]) -> u64
 }
 
 /// The row after the release of the file of an entry, the first that names its number.
-fn row_listed(listing: &Listing, judged: &Places, rows: &Shadow, entry: &ListedEntry) -> Option<Row>
-    requires judged { ArePlaces judged.now (map (λ f. f.ino) listing.now.listing.files) }
+fn row_listed(listing: &Listing, finder: &Finder, rows: &Shadow, entry: &ListedEntry) -> Option<Row>
+    requires judged { IsJudgedBy listing.now.listing finder.now }
     requires first { find (λ e. e.ino == entry.now.ino) listing.now.listing.entries ≡ Some (entry_seen entry.now) }
     ensures { option_map as_row result ≡ row_after listing.now.listing rows.now entry.now.ino }
 {
-    if let Some(row) = judged_row(listing, judged, entry.ino) {
+    if let Some(row) = judged_row(listing, finder, entry.ino) {
         return Some(row);
     }
     let row = rows.row(entry.ino)?;
@@ -228,12 +226,12 @@ fn placed(row: Row, entry: &ListedEntry) -> Row
 }
 
 /// The row after the release of a file that no entry names.
-fn row_unlisted(listing: &Listing, judged: &Places, rows: &Shadow, ino: u32) -> Option<Row>
-    requires judged { ArePlaces judged.now (map (λ f. f.ino) listing.now.listing.files) }
+fn row_unlisted(listing: &Listing, finder: &Finder, rows: &Shadow, ino: u32) -> Option<Row>
+    requires judged { IsJudgedBy listing.now.listing finder.now }
     requires unlisted { is_listed listing.now.listing ino ≡ false }
     ensures { option_map as_row result ≡ row_after listing.now.listing rows.now ino }
 {
-    if let Some(row) = judged_row(listing, judged, ino) {
+    if let Some(row) = judged_row(listing, finder, ino) {
         return Some(row);
     }
     if listing.is_held(ino) {

@@ -1,29 +1,24 @@
-use Rattle.std.proofs.Common.{◌∙◌, ◌+◌, ◌++◌, ◌∷◌, [], Vec, Global, ap, drop, get_or, sym}
-use Rattle.trio_nodes.specs.declared.entry.RawBlock.{RawBlock}
-use Rattle.trio_state.specs.Listed.{block_told, changed_blocks, is_block_changed}
+use Rattle.std.proofs.Common.{◌∙◌, ◌++◌, ap, arith, sym}
+use Rattle.std.proofs.lemmas.List.{append-nil, drop_all}
+use Rattle.trio_state.specs.Listed.{changed_blocks}
+use Rattle.trio_entries.specs.Handed.{handed_in}
 use Rattle.trio_entries.specs.Telling.{whole_case}
-use Rattle.trio_entries.proofs.Turns.{turn_passed, turn_told}
+use Rattle.trio_entries.specs.inner.Placed.{blocks_in, numbers_of}
+use Rattle.trio_entries.proofs.Turns.{turn}
 use Rattle.trio_entries.proofs.blocks.add_changed.Goals as goal
-use Rattle.trio_entries.proofs.blocks.add_changed.Goals.{then-is_changed+in_ok-told+in_ok-push, else-is_changed}
 
 pub loop-i-preserved : goal.loop-i-preserved
-loop-i-preserved c = λ rows.
-    let k = whole_case c.args.case.now rows in
-    let notes = c.args.notes.now in
-    let h = c.args.handed.now in
-    let f = c.args.file.now in
-    let pages = c.args.pages.now in
-    let i = c.loop-i.i in
-    let page = get_or pages i 0 in
-    let at = c.in-Ok.ensures.1 in
-    let says = ap (λ a. is_block_changed k notes h f a page) (sym at) ∙ sym (c.is_changed.ensures rows h c.requires.marked) in
-    let rest = changed_blocks k notes h f (i + 1) (drop (i + 1) pages) in
-    elim c.if-is_changed.branch [
-      | then-is_changed+in_ok-told+in_ok-push w ↦
-          ap (λ bs. bs ++ rest) (ap (λ (v : Vec RawBlock Global). v.items) w.blocks-is ∙ w.in_ok-push.ensures.items
-          ∙ ap (λ t. c.loop-i.blocks.items ++ t ∷ []) (w.in_ok-told.ensures rows ∙ ap (λ a. block_told k f.ino a page) at))
-          ∙ turn_told k notes h f i pages c.loop-i.blocks.items _ c.loop-i-test.true (says ∙ w.if-is_changed.true) (c.loop-i.invariant rows)
-      | else-is_changed w ↦
-          ap (λ (v : Vec RawBlock Global). v.items ++ rest) w.blocks-is
-          ∙ turn_passed k notes h f i pages c.loop-i.blocks.items _ c.loop-i-test.true (says ∙ w.if-is_changed.false) (c.loop-i.invariant rows)
-    ]
+loop-i-preserved c = (
+  λ rows.
+      let k = c.args.case.now in
+      turn (whole_case k rows) c.args.notes.now (handed_in k.bundle) c.args.file.now c.loop-i.i c.in-Some.page (numbers_of c.args.pages.now) (blocks_in k c.loop-i.blocks.items) (blocks_in k c.add_block.new.blocks.items) _ (sym c.in-Some.is ∙ c.number.ensures) (c.add_block.ensures.told rows) (c.loop-i.invariant.0 rows),
+  (omega (arith, c.add_block.ensures.len, c.loop-i.invariant.1.0), c.add_block.ensures.capacity ∙ c.loop-i.invariant.1.1),
+)
+
+pub returns-clause-told : goal.returns-clause-told
+returns-clause-told c = λ rows.
+    let k = c.args.case.now in
+    let now = blocks_in k c.loop-i.blocks.items in
+    let pages = numbers_of c.args.pages.now in
+    let all = drop_all c.loop-i.i pages (omega (arith, c.len-i-end.ensures)) in
+    sym (append-nil now) ∙ ap (λ l. now ++ changed_blocks (whole_case k rows) c.args.notes.now (handed_in k.bundle) c.args.file.now c.loop-i.i l) (sym all) ∙ c.loop-i.invariant.0 rows

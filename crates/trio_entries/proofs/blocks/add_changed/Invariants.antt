@@ -1,9 +1,13 @@
-use Rattle.std.proofs.Common.{◌≡◌, ◌++◌, List, Option, drop}
+use Rattle.std.proofs.Common.{◌≡◌, ◌+◌, ◌≤◌, ◌++◌, List, Option, drop}
+use Rattle.std.specs.Vec.{vec_capacity, vec_len}
 use Rattle.trio_rights.specs.Row.{Row}
 use Rattle.trio_state.specs.Listed.{changed_blocks}
+use Rattle.trio_entries.specs.Handed.{handed_in}
 use Rattle.trio_entries.specs.Telling.{whole_case}
+use Rattle.trio_entries.specs.inner.Placed.{blocks_in, numbers_of}
 use Rattle.trio_entries.proofs.blocks.add_changed.Given as goal
 
 abbrev pub invariant-loop-i : goal.invariant-loop-i
 invariant-loop-i l =
-    (rows : List (Option Row)) → l.blocks.items ++ changed_blocks (whole_case l.case rows) l.notes l.handed l.file l.i (drop l.i l.pages) ≡ l.fn.blocks.items ++ changed_blocks (whole_case l.case rows) l.notes l.handed l.file 0 l.pages
+    ((rows : List (Option Row)) → blocks_in l.case l.blocks.items ++ changed_blocks (whole_case l.case rows) l.notes (handed_in l.case.bundle) l.file l.i (drop l.i (numbers_of l.pages)) ≡ blocks_in l.case l.fn.blocks.items ++ changed_blocks (whole_case l.case rows) l.notes (handed_in l.case.bundle) l.file 0 (numbers_of l.pages))
+    × ((vec_len l.blocks ≤ vec_len l.fn.blocks + l.i) × (vec_capacity l.blocks ≡ vec_capacity l.fn.blocks))

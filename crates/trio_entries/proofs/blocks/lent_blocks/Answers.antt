@@ -6,10 +6,8 @@ use Rattle.trio_entries.proofs.blocks.lent_blocks.Goals as goal
 
 pub returns-in-Some : goal.returns-in-Some
 returns-in-Some c =
-    let lent = lent_blocks_are c.args.case.now.bundle c.args.ino ∙ ap (λ o. option_map_or (λ (f : LentFile). block_numbers f.stands.blocks) o []) (sym c.in-Some.ensures) in
-    rw lent c.lease_blocks.ensures
+    sym (lent_blocks_are c.args.case.now.bundle c.args.ino ∙ ap (λ o. option_map_or (λ (f : LentFile). block_numbers f.stands.blocks) o []) (sym c.in-Some.ensures))
 
 pub returns-in-None : goal.returns-in-None
 returns-in-None c =
-    let none = lent_blocks_are c.args.case.now.bundle c.args.ino ∙ ap (λ o. option_map_or (λ (f : LentFile). block_numbers f.stands.blocks) o []) (sym c.in-None.ensures) in
-    rw none c.new.ensures.items
+    sym (lent_blocks_are c.args.case.now.bundle c.args.ino ∙ ap (λ o. option_map_or (λ (f : LentFile). block_numbers f.stands.blocks) o []) (sym c.in-None.ensures))

@@ -1,21 +1,41 @@
-use Rattle.std.proofs.Common.{◌∙◌, ◌++◌, List, ℕ, ap, arith}
+use Rattle.std.proofs.Common.{◌∙◌, ◌++◌, List, ℕ, ap, arith, length}
 use Rattle.std.specs.List.{flat_map}
 use Rattle.std.proofs.lemmas.List.{take_all}
 use Rattle.trio_lease.specs.Views.{bundle_in}
 use Rattle.trio_nodes.specs.declared.entry.RawFile.{RawFile}
-use Rattle.trio_state.specs.Listed.{blocks_of_kind, lent_blocks}
+use Rattle.trio_state.specs.Listed.{lent_blocks, blocks_of_kind}
+use Rattle.trio_entries.specs.Handed.{handed_in}
 use Rattle.trio_entries.specs.Telling.{whole_case}
-use Rattle.trio_entries.proofs.Turns.{told_more}
+use Rattle.trio_entries.specs.inner.Placed.{blocks_in}
+use Rattle.trio_entries.proofs.Turns.{files_more, length_more, one_within, told_more}
 use Rattle.trio_entries.proofs.blocks.refused_blocks.Goals as goal
 
+pub add_told-requires-clause-places : goal.add_told-requires-clause-places
+add_told-requires-clause-places c =
+    let more = files_more (λ (f : RawFile). lent_blocks (bundle_in c.args.case.now.bundle) f.ino) c.args.files.now c.loop-file.file-index c.file-item.result c.loop-file-test.true c.file-item.is in
+    omega (arith, more, c.loop-file.invariant.1.0, c.loop-file.invariant.1.1, c.requires.places, ap length c.lent_blocks-pages.ensures)
+
+pub add_told-requires-clause-few : goal.add_told-requires-clause-few
+add_told-requires-clause-few c =
+    let one = one_within (λ (f : RawFile). lent_blocks (bundle_in c.args.case.now.bundle) f.ino) c.args.files.now c.loop-file.file-index c.file-item.result c.loop-file-test.true c.file-item.is in
+    omega (arith, one, c.requires.few, ap length c.lent_blocks-pages.ensures)
+
 pub loop-file-preserved : goal.loop-file-preserved
-loop-file-preserved c = λ rows.
-    let g = λ (f : RawFile). blocks_of_kind (whole_case c.args.case.now rows) c.args.notes.now c.args.handed.now f f.kind (lent_blocks (bundle_in c.args.case.now.bundle) f.ino) in
+loop-file-preserved c =
+    let k = c.args.case.now in
     let file = c.file-item.result in
-    told_more g c.args.files.now c.loop-file.file-index file c.loop-file.blocks.items c.add_told.new.blocks.items c.loop-file-test.true c.file-item.is (c.loop-file.invariant rows)
-    (c.in_ok-add_told.ensures rows ∙ ap (λ (pages : List ℕ). c.loop-file.blocks.items ++ blocks_of_kind (whole_case c.args.case.now rows) c.args.notes.now c.args.handed.now file file.kind pages) (c.deref.ensures.value ∙ c.in_ok-pages.ensures))
+    let h = handed_in k.bundle in
+    let now = blocks_in k c.loop-file.blocks.items in
+    let more = length_more (λ (f : RawFile). lent_blocks (bundle_in c.args.case.now.bundle) f.ino) c.args.files.now c.loop-file.file-index file c.loop-file-test.true c.file-item.is in (
+      λ rows.
+          let g = λ (f : RawFile). blocks_of_kind (whole_case k rows) c.args.notes.now h f f.kind ((λ (f : RawFile). lent_blocks (bundle_in c.args.case.now.bundle) f.ino) f) in
+          told_more g c.args.files.now c.loop-file.file-index file now (blocks_in k c.add_told.new.blocks.items) c.loop-file-test.true c.file-item.is (c.loop-file.invariant.0 rows)
+          (c.add_told.ensures.told rows ∙ ap (λ (ns : List ℕ). now ++ blocks_of_kind (whole_case k rows) c.args.notes.now h file file.kind ns) c.lent_blocks-pages.ensures),
+      (omega (arith, more, c.add_told.ensures.len, c.loop-file.invariant.1.0, ap length c.lent_blocks-pages.ensures), c.add_told.ensures.capacity ∙ c.loop-file.invariant.1.1),
+    )
 
 pub returns : goal.returns
 returns c = λ rows.
-    let g = λ (f : RawFile). blocks_of_kind (whole_case c.args.case.now rows) c.args.notes.now c.args.handed.now f f.kind (lent_blocks (bundle_in c.args.case.now.bundle) f.ino) in
-    c.loop-file.invariant rows ∙ ap (flat_map g) (take_all c.loop-file.file-index c.args.files.now (omega arith))
+    let k = c.args.case.now in
+    let g = λ (f : RawFile). blocks_of_kind (whole_case k rows) c.args.notes.now (handed_in k.bundle) f f.kind ((λ (f : RawFile). lent_blocks (bundle_in c.args.case.now.bundle) f.ino) f) in
+    c.loop-file.invariant.0 rows ∙ ap (flat_map g) (take_all c.loop-file.file-index c.args.files.now (omega arith))

@@ -1,21 +1,20 @@
-use Rattle.std.proofs.Common.{rules, ◌≡◌, ◌∙◌, ◌++◌, ap}
+use Rattle.std.proofs.Common.{◌≡◌, ◌∙◌, ◌++◌, [], List, ap, map}
 use Rattle.std.specs.List.{filter_map}
-use Rattle.std.proofs.lemmas.List.Sorted.{answers_always}
-use Rattle.trio_lists.specs.Sorting.{sorted_by}
+use Rattle.trio_lists.specs.Lists.{are_new}
 use Rattle.trio_lease.specs.Views.{bundle_in}
-use Rattle.trio_judge.proofs.Sorted.{sorted_by_key}
 use Rattle.trio_nodes.specs.declared.entry.RawFile.{RawFile}
 use Rattle.trio_state.specs.Listed.{told_entry, told_gone, told_written}
 use Rattle.trio_entries.specs.Telling.{whole_case}
+use Rattle.trio_entries.proofs.ToldOnce.{accepted_once}
 use Rattle.trio_entries.proofs.files.accepted_files.Goals as goal
 
-pub returns : goal.returns
-returns c =
-    let entries = filter_map (told_entry (whole_case c.args.case.now c.args.rows.now) c.args.listing.now.listing c.args.notes.now) c.args.listing.now.listing.entries in
-    let written = filter_map (told_written (whole_case c.args.case.now c.args.rows.now) c.args.listing.now.listing c.args.notes.now) (bundle_in c.args.case.now.bundle).writes in
-    let gone = filter_map (told_gone (whole_case c.args.case.now c.args.rows.now) c.args.listing.now.listing c.args.notes.now) c.args.listing.now.listing.held in
-    let sorted = c.in_ok-sort_by_key.ensures.sorted (λ (f : RawFile). f.ino) (answers_always _ _ _ (λ f a r g h. search rules)) in
-    let stable = c.sort_by_key.ensures.stable (λ (f : RawFile). f.ino) (answers_always _ _ _ (λ f a r g h. search rules)) in
-    let all : c.add_gone.new.files.items ≡ entries ++ written ++ gone =
-    c.in_ok-add_gone.ensures ∙ ap (λ l. l ++ gone) (c.in_ok-add_written.ensures ∙ ap (λ l. l ++ written) (c.in_ok-add_entries.ensures ∙ ap (λ l. l ++ entries) c.new-files.ensures.items)) in
-    sorted_by_key (λ (f : RawFile). f.ino) c.add_gone.new.files.items c.sort_by_key.new.self.items sorted stable ∙ ap (sorted_by (λ (f : RawFile). f.ino)) all
+pub sort_files-requires : goal.sort_files-requires
+sort_files-requires c =
+    let k = c.args.case.now in
+    let l = c.args.listing.now.listing in
+    let entries = filter_map (told_entry (whole_case k c.args.rows.now) l c.args.notes.now) l.entries in
+    let written = filter_map (told_written (whole_case k c.args.rows.now) l c.args.notes.now) (bundle_in k.bundle).writes in
+    let gone = filter_map (told_gone (whole_case k c.args.rows.now) l c.args.notes.now) l.held in
+    let all : c.add_gone.new.files.items ≡ (entries ++ written) ++ gone =
+    c.add_gone.ensures ∙ ap (λ fs. fs ++ gone) (c.add_written.ensures.files ∙ ap (λ fs. fs ++ written) (c.add_entries.ensures.files ∙ ap (λ fs. fs ++ entries) c.requires.empty)) in
+    ap (λ (fs : List RawFile). are_new [] (map (λ (f : RawFile). f.ino) fs)) all ∙ accepted_once k c.args.rows.now l c.args.notes.now c.requires.once

@@ -1,5 +1,6 @@
-use Rattle.std.proofs.Common.{◌≡◌, ◌++◌, take}
+use Rattle.std.proofs.Common.{◌≡◌, ◌+◌, ◌≤◌, ◌++◌, take}
 use Rattle.std.specs.List.{filter_map}
+use Rattle.std.specs.Vec.{vec_capacity, vec_len}
 use Rattle.trio_judge.specs.Listed.{entry_seen}
 use Rattle.trio_state.specs.Listed.{told_entry}
 use Rattle.trio_entries.specs.Telling.{whole_case}
@@ -7,4 +8,5 @@ use Rattle.trio_entries.proofs.files.add_entries.Given as goal
 
 abbrev pub invariant-loop-entry : goal.invariant-loop-entry
 invariant-loop-entry l =
-    l.files.items ≡ l.fn.files.items ++ filter_map (λ e. told_entry (whole_case l.case l.rows) l.listing.listing l.notes (entry_seen e)) (take l.entry-index l.entry-items)
+    (l.files.items ≡ l.fn.files.items ++ filter_map (λ e. told_entry (whole_case l.case l.rows) l.listing.listing l.notes (entry_seen e)) (take l.entry-index l.entry-items))
+    × ((vec_len l.files ≤ vec_len l.fn.files + l.entry-index) × (vec_capacity l.files ≡ vec_capacity l.fn.files))

@@ -1,5 +1,6 @@
-use Rattle.std.proofs.Common.{◌≡◌, ◌++◌, take}
+use Rattle.std.proofs.Common.{◌≡◌, ◌+◌, ◌≤◌, ◌++◌, take}
 use Rattle.std.specs.List.{filter_map}
+use Rattle.std.specs.Vec.{vec_capacity, vec_len}
 use Rattle.trio_lease.specs.Views.{written_in}
 use Rattle.trio_state.specs.Listed.{told_written}
 use Rattle.trio_entries.specs.Telling.{whole_case}
@@ -7,4 +8,5 @@ use Rattle.trio_entries.proofs.files.add_written.Given as goal
 
 abbrev pub invariant-loop-lease : goal.invariant-loop-lease
 invariant-loop-lease l =
-    l.files.items ≡ l.fn.files.items ++ filter_map (λ f. told_written (whole_case l.case l.rows) l.listing.listing l.notes (written_in f.stands)) (take l.lease-index l.lease-items)
+    (l.files.items ≡ l.fn.files.items ++ filter_map (λ f. told_written (whole_case l.case l.rows) l.listing.listing l.notes (written_in f.stands)) (take l.lease-index l.lease-items))
+    × ((vec_len l.files ≤ vec_len l.fn.files + l.lease-index) × (vec_capacity l.files ≡ vec_capacity l.fn.files))

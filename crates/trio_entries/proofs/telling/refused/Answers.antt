@@ -1,10 +1,30 @@
-use Rattle.std.proofs.Common.{◌∙◌, List, ap, sym}
+use Rattle.std.proofs.Common.{◌∙◌, List, ap, arith, length, map, sym}
+use Rattle.std.specs.List.{flat_map}
+use Rattle.trio_lease.specs.Views.{bundle_in}
+use Rattle.trio_nodes.specs.Told.{block_in, ToldBundle}
+use Rattle.trio_nodes.specs.declared.entry.Handed.{Handed}
 use Rattle.trio_nodes.specs.declared.entry.RawFile.{RawFile}
-use Rattle.trio_state.specs.Listed.{refused_blocks}
+use Rattle.trio_state.specs.Listed.{lent_blocks, refused_blocks}
+use Rattle.trio_entries.specs.Handed.{handed_in}
 use Rattle.trio_entries.specs.Telling.{whole_case}
+use Rattle.trio_entries.proofs.Few.{pages_outlined, refused_few}
 use Rattle.trio_entries.proofs.telling.refused.Goals as goal
+
+pub refused_blocks-requires-clause-places : goal.refused_blocks-requires-clause-places
+refused_blocks-requires-clause-places c =
+    let b = bundle_in c.args.case.now.bundle in
+    let files = ap (λ (fs : List RawFile). length (flat_map (λ (f : RawFile). lent_blocks b f.ino) fs)) c.deref.ensures.value in
+    omega (arith, files, refused_few b c.refused_files.new.files.items c.refused_files.ensures.once, c.requires.draft.blocks, ap length (pages_outlined b))
+
+pub refused_blocks-requires-clause-few : goal.refused_blocks-requires-clause-few
+refused_blocks-requires-clause-few c =
+    let b = bundle_in c.args.case.now.bundle in
+    let files = ap (λ (fs : List RawFile). length (flat_map (λ (f : RawFile). lent_blocks b f.ino) fs)) c.deref.ensures.value in
+    omega (arith, files, refused_few b c.refused_files.new.files.items c.refused_files.ensures.once, c.bounds.ensures.pages)
 
 pub returns-clause-blocks : goal.returns-clause-blocks
 returns-clause-blocks c =
-    let b = λ (fs : List RawFile). refused_blocks (whole_case c.args.case.now c.args.rows.now) c.args.notes.now c.args.handed.now fs in
-    c.from_vec-2.ensures ∙ c.in_ok-blocks.ensures c.args.rows.now ∙ ap b (c.deref.ensures.value ∙ sym c.from_vec.ensures)
+    let k = c.args.case.now in
+    let b = λ (fs : List RawFile). refused_blocks (whole_case k c.args.rows.now) c.args.notes.now (handed_in k.bundle) fs in
+    ap (λ (x : ToldBundle). x.blocks) c.of.ensures ∙ ap (λ (h : Handed). map (block_in h) c.refused_blocks.new.blocks.items) (c.fill-handed.ensures ∙ ap handed_in c.bundle.ensures.bundle)
+    ∙ c.refused_blocks.ensures c.args.rows.now ∙ ap b (c.deref.ensures.value ∙ sym c.shrink_to_fit.ensures.items ∙ sym c.from_vec.ensures)

@@ -1,0 +1,13 @@
+use Rattle.std.proofs.Common.{◌∙◌, length}
+use Rattle.trio_judge.specs.declared.listing.ListedFile.{ListedFile}
+use Rattle.trio_entries.proofs.Finding.{or_turn, place_more_by, unnoted_length}
+use Rattle.trio_entries.proofs.finder.place_judged.Goals as goal
+
+pub loop-at-preserved : goal.loop-at-preserved
+loop-at-preserved c = (
+  c.place_one.ensures.len ∙ c.loop-at.invariant.0,
+  λ numbers places none n i.
+      or_turn _ _ _ _ _ (c.place_one.ensures.placed numbers places (c.loop-at.invariant.0 ∙ unnoted_length c.args.judged.now.items (length numbers) none) n i)
+      (c.loop-at.invariant.1 numbers places none n i)
+      (place_more_by (λ (f : ListedFile). f.ino) n c.loop-at.at c.args.files.now _ c.loop-at-test.true),
+)

@@ -1,0 +1,10 @@
+use Rattle.std.proofs.Common.{arith}
+use Rattle.trio_rights.specs.Bundle.{bundle_pages}
+use Rattle.trio_lease.specs.Views.{bundle_in}
+use Rattle.trio_judge.proofs.Making.{few_pages}
+use Rattle.trio_entries.proofs.telling.few_pages.Goals as goal
+
+pub returns : goal.returns
+returns c =
+    let few = few_pages c.args.range (bundle_pages (bundle_in c.args.bundle.now)) c.requires.core c.requires.apart in
+    omega (arith, few)
