@@ -5,6 +5,7 @@ ghost use Rattle.trio_rights.specs.declared.rights.LibNo.{LibNo as AnyLib};
 ghost use Rattle.trio_desk.specs.Out.{OutAlike, nothing_out};
 ghost use Rattle.trio_edit_laws.specs.Calls.{MayCall};
 ghost use Rattle.trio_calls_file.specs.Asks.{IsFileCall};
+ghost use Rattle.trio_ctl.specs.Ctl.{NoneBegun};
 ghost use Rattle.trio_ctl.specs.Desk.{out_of};
 
 use std::alloc::Global;
@@ -129,6 +130,7 @@ fn nanos_of_session<R: Clock>(rt: &R, alloc: Global) -> io::Result<Option<u128>>
 fn started(alloc: Global) -> Option<Ctl>
     ensures none { IfSome result (λ ctl. (lib : AnyLib) → OutAlike (out_of ctl.state lib) nothing_out) }
     ensures one { IfSome result (λ ctl. length ctl.state.creds ≡ 1) }
+    ensures idle { IfSome result NoneBegun }
 {
     let files = [root(), regular(2, 1, b"f", b"")];
     let bytes = Sample::of(alloc, 1024, 64, &files).ok()?.bytes(alloc).ok()?;

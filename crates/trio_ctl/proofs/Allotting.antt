@@ -40,13 +40,14 @@ use Rattle.trio_laws.proofs.StateFacts.{lent_met, tables as tables_of, write_is}
 use Rattle.trio_ctl.specs.Answers.{allot_fault_answer}
 use Rattle.trio_commit.specs.declared.store.Store.{Store}
 use Rattle.trio_commit.specs.Store.{checkpoint_at, state_of, with_checkpoint}
+use Rattle.trio_state.specs.Moves.{Outline}
 use Rattle.trio_ctl.specs.Ctl.{HaveKinds, HoldsAreTold, IsControlled}
 use Rattle.trio_ctl.specs.Entries.{Entries}
 use Rattle.trio_ctl.specs.Open.{Opened, grants_in}
 use Rattle.trio_ctl.specs.Stored.{IsStored, superblock_at_home}
 use Rattle.trio_allot.specs.Out.{OutByNumber, outs_with}
 
-module _ (s : Store) (first : ℕ) (table : List Keyed) (files : List Opened) (creds : List Creds) (entries : Entries) (k : IsControlled s first table files creds entries) where
+module _ (s : Store) (first : ℕ) (table : List Keyed) (files : List Opened) (creds : List Creds) (entries : Entries) (begun : List (Option Outline)) (k : IsControlled s first table files creds entries begun) where
   abbrev now : State
   now = state_of s first (grants_in files) creds entries.made
 
@@ -119,14 +120,14 @@ module _ (s : Store) (first : ℕ) (table : List Keyed) (files : List Opened) (c
       ∙ ap (λ (h : Pages). record s { home = h; allotments = s'.allotments }) home
       ∙ ap (λ (o : OutByNumber). record s { allotments = o }) none
 
-  pub unchanged_controlled : (s' : Store) → s' ≡ s → IsControlled s' first table files creds entries
-  unchanged_controlled s' same = subst (λ (t : Store). IsControlled t first table files creds entries) (sym same) k
+  pub unchanged_controlled : (s' : Store) → s' ≡ s → IsControlled s' first table files creds entries begun
+  unchanged_controlled s' same = subst (λ (t : Store). IsControlled t first table files creds entries begun) (sym same) k
 
   -- one entry more, and nothing else has changed
-  pub logged_controlled : (s' : Store) (entries' : Entries) → s' ≡ s → entries' ≡ record entries { made = entries.made + 1 } → IsControlled s' first table files creds entries'
+  pub logged_controlled : (s' : Store) (entries' : Entries) → s' ≡ s → entries' ≡ record entries { made = entries.made + 1 } → IsControlled s' first table files creds entries' begun
   logged_controlled s' entries' same next =
-      subst (λ (t : Store). IsControlled t first table files creds entries') (sym same)
-      (subst (λ (n : Entries). IsControlled s first table files creds n) (sym next) (record {
+      subst (λ (t : Store). IsControlled t first table files creds entries' begun) (sym same)
+      (subst (λ (n : Entries). IsControlled s first table files creds n begun) (sym next) (record {
         stored = record { fits = k.stored.fits; places = k.stored.places; of_grant = k.stored.of_grant; covers = k.stored.covers; kept = logged_kept now kept_now };
         no_zero = k.no_zero;
         some_libraries = k.some_libraries;
@@ -134,6 +135,7 @@ module _ (s : Store) (first : ℕ) (table : List Keyed) (files : List Opened) (c
         grants = k.grants;
         keys_once = k.keys_once;
         earlier = λ o i. (let e = k.earlier o i in omega (arith, e));
+        placed = k.placed;
         promised = k.promised;
         kinds = k.kinds;
         told = k.told;
@@ -231,7 +233,7 @@ module _ (s : Store) (first : ℕ) (table : List Keyed) (files : List Opened) (c
         kept = step_kept now after (Allot lib.0 wanted many) (Given (take wanted ps) (take many ns)) kept_now tt given_step;
       }
 
-      pub given_controlled : IsControlled s' first table files creds entries'
+      pub given_controlled : IsControlled s' first table files creds entries' begun
       given_controlled = record {
         stored = given_stored;
         no_zero =
@@ -243,6 +245,7 @@ module _ (s : Store) (first : ℕ) (table : List Keyed) (files : List Opened) (c
         grants = k.grants;
         keys_once = k.keys_once;
         earlier = λ o i. (let e = k.earlier o i in let more = ap (λ (n : Entries). n.made) next in omega (arith, e, more));
+        placed = k.placed;
         promised = ap (λ (n : Entries). n.promised) next ∙ k.promised;
         kinds = subst (λ (t : Store). HaveKinds t.rows files) (sym rest) k.kinds;
         told = subst (λ (t : Store). HoldsAreTold t.rows (grants_in files)) (sym rest) k.told;

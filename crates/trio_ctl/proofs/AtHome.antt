@@ -31,6 +31,7 @@ use Rattle.trio_survey.specs.Stored.{core_in}
 use Rattle.trio_checkpoint.specs.Covered.{Checkpointed}
 use Rattle.trio_commit.specs.declared.store.Store.{Store}
 use Rattle.trio_commit.specs.Store.{covered_at, image_at_home, state_of, with_checkpoint}
+use Rattle.trio_state.specs.Moves.{Outline}
 use Rattle.trio_ctl.specs.Ctl.{writer_of, IsControlled}
 use Rattle.trio_ctl.specs.Entries.{Entries}
 use Rattle.trio_ctl.specs.Open.{Opened, grants_in, keyed}
@@ -95,7 +96,7 @@ no_checkpoints cs (g ∷ gs) h =
     ap (λ (t : Bool). (if t then covered_at cs g.ino else []) ++ flat_map (λ (x : OpenGrant). x.checkpoint) (map (with_checkpoint cs) gs)) (h g (inl refl))
     ∙ no_checkpoints cs gs (λ x i. h x (inr i))
 
-module _ (s : Store) (first : ℕ) (table : List Keyed) (files : List Opened) (creds : List Creds) (entries : Entries) (k : IsControlled s first table files creds entries) where
+module _ (s : Store) (first : ℕ) (table : List Keyed) (files : List Opened) (creds : List Creds) (entries : Entries) (begun : List (Option Outline)) (k : IsControlled s first table files creds entries begun) where
   abbrev st : State
   st = state_of s first (grants_in files) creds entries.made
 

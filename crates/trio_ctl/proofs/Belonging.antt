@@ -41,6 +41,7 @@ use Rattle.trio_state.specs.State.{OpenGrant, State}
 use Rattle.trio_commit.specs.declared.store.Store.{Store}
 use Rattle.trio_commit.specs.Store.{checkpoint_at, state_of, with_checkpoint}
 use Rattle.trio_ctl.specs.Belonging.{AreWhole, Belongs, IsHoldOf, IsLeaseOf, IsNumberOf, IsPageOf, lent_numbers}
+use Rattle.trio_state.specs.Moves.{Outline}
 use Rattle.trio_ctl.specs.Ctl.{IsControlled}
 use Rattle.trio_ctl.specs.Entries.{Entries}
 use Rattle.trio_ctl.specs.HandedIn.{WereHeld}
@@ -126,7 +127,7 @@ out_from lib (Some other) e = ap (λ n. Some (record { 0 = n })) (eqb-true other
 out_back : (lib : LibNo) (o : Option LibNo) → o ≡ Some (record { 0 = lib.0 }) → is_out_to lib o ≡ true
 out_back lib o e = ap (is_out_to lib) e ∙ eq-eqb lib.0 lib.0 refl
 
-hold_kind : (k : GrantKind) → is_hold k ≡ true → k ≡ Hold
+pub hold_kind : (k : GrantKind) → is_hold k ≡ true → k ≡ Hold
 hold_kind Hold e = refl
 hold_kind Read e = absurd (false≢true e)
 hold_kind Write e = absurd (false≢true e)
@@ -233,7 +234,7 @@ kind_back : (kind of : Kind) (o : Option Row) → of ≡ kind → IsSomeAnd o (�
 kind_back kind of None e some = absurd some
 kind_back kind of (Some r) e some = same_kind_from kind r.kind (sym (some ∙ e))
 
-module _ (s : Store) (first : ℕ) (table : List Keyed) (files : List Opened) (creds : List Creds) (entries : Entries) (k : IsControlled s first table files creds entries) (lib : LibNo) where
+module _ (s : Store) (first : ℕ) (table : List Keyed) (files : List Opened) (creds : List Creds) (entries : Entries) (begun : List (Option Outline)) (k : IsControlled s first table files creds entries begun) (lib : LibNo) where
   abbrev st : State
   st = state_of s first (grants_in files) creds entries.made
 
@@ -421,7 +422,7 @@ numbers_written : (fs : List LentFile) → map (λ (w : Written). w.ino) (map (�
 numbers_written [] = refl
 numbers_written (f ∷ fs) = ap (λ l. f.stands.ino ∷ l) (numbers_written fs)
 
-whole_sheets : (ps : List LentPage) → AreWhole ps → (x : Sheet) → In x (map lent_sheet ps) → length x.bytes ≡ 4096
+pub whole_sheets : (ps : List LentPage) → AreWhole ps → (x : Sheet) → In x (map lent_sheet ps) → length x.bytes ≡ 4096
 whole_sheets ps whole x i = (let p = map-In lent_sheet x ps i in ap (λ (y : Sheet). length y.bytes) p.2 ∙ whole p.0 p.1)
 
 module _ (s : State) (lib : ℕ) (b : Bundled) (t : Belongs s lib b) where

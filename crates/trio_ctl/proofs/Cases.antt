@@ -1,5 +1,5 @@
 -- The case of a bundle that was given to a library of the controller.
-use Rattle.std.proofs.Common.{◌≡◌, ℕ, zero, suc, ◌+◌, ◌-◌, ◌<◌, ◌≤◌, true, ◌&&◌, leb, ltb, List, [], ◌∷◌, ◌++◌, length, map, Some, is_some, refl, sym, ap, subst, ◌∙◌, inl, inr, arith}
+use Rattle.std.proofs.Common.{◌≡◌, ℕ, zero, suc, ◌+◌, ◌-◌, ◌<◌, ◌≤◌, true, ◌&&◌, leb, ltb, List, [], ◌∷◌, ◌++◌, length, map, Some, is_some, refl, sym, ap, subst, ◌∙◌, arith, Option}
 use Rattle.std.specs.Prelude.{None, is_none}
 use Rattle.std.specs.List.{list_all}
 use Rattle.std.proofs.lemmas.Bool.{and_from, le-leb, lt-ltb}
@@ -23,30 +23,29 @@ use Rattle.trio_lease.specs.Views.{bundle_in, written_in}
 use Rattle.trio_lease.specs.declared.parts.HoldParts.{HoldParts}
 use Rattle.trio_lease.specs.declared.parts.InoParts.{InoParts}
 use Rattle.trio_layout.specs.Allowed.{has_kind}
-use Rattle.trio_layout.specs.Case.{Case, Held}
-use Rattle.trio_layout.specs.Copied.{copied_rows, with_copied}
-use Rattle.trio_layout.specs.Image.{settled_body}
+use Rattle.trio_layout.specs.Copied.{copied_rows}
 use Rattle.trio_layout.specs.Range.{is_core}
 use Rattle.trio_layout.specs.declared.range.CoreRange.{CoreRange}
 use Rattle.trio_layout.proofs.Superblocks.{superblock_facts}
 use Rattle.trio_state.specs.Bundles.{parted_hold}
 use Rattle.trio_state.specs.Given.{GivenTo}
-use Rattle.trio_state.specs.State.{OpenGrant, State, creds_of, settled}
-use Rattle.trio_state.specs.Tells.{case_in}
+use Rattle.trio_state.specs.State.{OpenGrant, State, creds_of}
 use Rattle.trio_laws.proofs.Bundles.{held_unwritten}
 use Rattle.trio_laws.proofs.judgement.CaseFacts.{new_dead, written_row}
-use Rattle.trio_judge.specs.Cases.{CaseShown, IsJudgeable, held_in, is_free_number, case_in as case_shown}
+use Rattle.trio_judge.specs.Cases.{CaseShown, IsJudgeable, is_free_number}
 use Rattle.trio_commit.specs.declared.store.Store.{Store}
 use Rattle.trio_commit.specs.Store.{state_of, with_checkpoint}
+use Rattle.trio_state.specs.Moves.{Outline}
 use Rattle.trio_ctl.specs.Ctl.{IsControlled}
 use Rattle.trio_ctl.specs.Entries.{Entries}
 use Rattle.trio_ctl.specs.HandedIn.{WereHeld}
 use Rattle.trio_ctl.specs.Open.{Opened, grants_in}
+use Rattle.trio_ctl.specs.Pending.{case_made}
 use Rattle.trio_ctl.specs.Stored.{superblock_at_home}
 use Rattle.trio_ctl.proofs.Concluding.{judgeable, some_and}
 use Rattle.trio_ctl.proofs.Judging.{pages_core, pages_new, parents}
 
-same_self : (kind other : Kind) → kind ≡ other → same_kind kind other ≡ true
+pub same_self : (kind other : Kind) → kind ≡ other → same_kind kind other ≡ true
 same_self Regular other e = ap (same_kind Regular) (sym e)
 same_self Directory other e = ap (same_kind Directory) (sym e)
 
@@ -54,7 +53,14 @@ written_inos : (fs : List LentFile) → map (λ f. f.stands.ino) fs ≡ map (λ 
 written_inos [] = refl
 written_inos (f ∷ fs) = ap (λ l. f.stands.ino ∷ l) (written_inos fs)
 
-module _ (s : Store) (first : ℕ) (table : List Keyed) (files : List Opened) (creds : List Creds) (entries : Entries) (k : IsControlled s first table files creds entries)
+-- the case of a bundle, by the parts that it is made of
+pub made_so : (s : State) (lib : LibNo) (bundle : Bundled) (credentials : Creds) (range : CoreRange) (inodes : ℕ) → credentials ≡ creds_of s lib.0 → range ≡ s.home.core.range → inodes ≡ s.home.core.inodes
+    → record { lib = lib; bundle = bundle; rows = copied_rows (bundle_in bundle) s.home.rows; creds = credentials; range = range; inodes = inodes } ≡ case_made s lib bundle
+made_so s lib bundle credentials range inodes creds' ranges numbers =
+    let S : Creds → CoreRange → ℕ → CaseShown = λ cs rg n. record { lib = lib; bundle = bundle; rows = copied_rows (bundle_in bundle) s.home.rows; creds = cs; range = rg; inodes = n } in
+    ap (λ cs. S cs range inodes) creds' ∙ ap (λ rg. S (creds_of s lib.0) rg inodes) ranges ∙ ap (S (creds_of s lib.0) s.home.core.range) numbers
+
+module _ (s : Store) (first : ℕ) (table : List Keyed) (files : List Opened) (creds : List Creds) (entries : Entries) (begun : List (Option Outline)) (k : IsControlled s first table files creds entries begun)
     (lib : LibNo) (bundle : Bundled) (given : GivenTo (state_of s first (grants_in files) creds entries.made) lib.0 (bundle_in bundle))
     (held : WereHeld (state_of s first (grants_in files) creds entries.made) lib.0 bundle.holds) (closed : parted_hold (state_of s first (grants_in files) creds entries.made) lib.0 (bundle_in bundle) ≡ None) where
   abbrev st : State
@@ -75,11 +81,6 @@ module _ (s : Store) (first : ℕ) (table : List Keyed) (files : List Opened) (c
       let r = some_and (row_in s.rows o.0.grant.ino) (λ r. r.kind ≡ o.0.grant.of) kinds in
       ap (has_kind h.kind) (ap (row_in s.rows) (sym number) ∙ r.1) ∙ same_self h.kind r.0.kind (sym of ∙ sym r.2)
 
-  held_body : (h : HoldParts) → In h bundle.holds → h.body ≡ settled_body (settled st) h.ino
-  held_body h i =
-      let q = held h i in
-      sym q.body ∙ (k.stored.kept.held q.grant q.is_open q.kind).1 ∙ ap (settled_body (settled st)) q.ino
-
   -- no file is both written and held
   numbers_once : are_new [] (map (λ f. f.stands.ino) bundle.writes ++ map (λ h. h.ino) bundle.holds) ≡ true
   numbers_once =
@@ -91,12 +92,6 @@ module _ (s : Store) (first : ℕ) (table : List Keyed) (files : List Opened) (c
       let v = map-In (λ (x : Written). x.ino) n b.writes (subst (λ ns. In n ns) (written_inos bundle.writes) w) in
       held_unwritten st k.stored.kept lib.0 b given n i v.0 v.1 (sym v.2)))
 
-  as_lent : (hs : List HoldParts) → ((h : HoldParts) → In h hs → h.body ≡ settled_body (settled st) h.ino) → map held_in hs ≡ map (λ n. record { ino = n; body = settled_body (settled st) n }) (map (λ h. h.ino) hs)
-  as_lent [] all = refl
-  as_lent (h ∷ hs) all =
-      ap (λ (body : List ℕ). record { ino = h.ino; body = body } ∷ map held_in hs) (all h (inl refl))
-      ∙ ap (λ (l : List Held). record { ino = h.ino; body = settled_body (settled st) h.ino } ∷ l) (as_lent hs (λ x i. all x (inr i)))
-
   low_first : 0 < first
   low_first =
       let facts = superblock_facts (superblock_at_home s first) k.stored.fits in
@@ -104,7 +99,7 @@ module _ (s : Store) (first : ℕ) (table : List Keyed) (files : List Opened) (c
 
   pub case_judgeable : (range : CoreRange) (inodes : ℕ) → range ≡ st.home.core.range → length s.rows ≡ inodes + 1 → IsJudgeable bundle s.rows range inodes
   case_judgeable range inodes ranges table' =
-      let j = judgeable s first table files creds entries k lib b given closed in
+      let j = judgeable s first table files creds entries begun k lib b given closed in
       record {
         table = table';
         parents = parents st lib.0 b j;
@@ -124,7 +119,7 @@ module _ (s : Store) (first : ℕ) (table : List Keyed) (files : List Opened) (c
     where
       free_number : (n : ℕ) → In n b.numbers → is_free_number s.rows inodes n ≡ true
       free_number n i =
-          let j = judgeable s first table files creds entries k lib b given closed in
+          let j = judgeable s first table files creds entries begun k lib b given closed in
           let below = within_some st.numbers_out n (ap is_some (given.numbers n i)) in
           let placed : length st.numbers_out ≡ (length s.rows - 1) + 1 = k.stored.kept.numbers_placed in
           let fits : n ≤ inodes = omega (arith, below, placed, table') in
@@ -133,17 +128,3 @@ module _ (s : Store) (first : ℕ) (table : List Keyed) (files : List Opened) (c
           above : (n : ℕ) → In n b.numbers → 0 < n
           above zero i = (let out : lib_at s.allotments.numbers 0 ≡ Some (record { 0 = lib.0 }) = given.numbers 0 i in let none = k.no_zero in absurd cc)
           above (suc n) i = omega arith
-
-  -- the case is that of the bundle, with the copied rows
-  pub case_copied : (shown : CaseShown) (credentials : Creds) (range : CoreRange) (inodes : ℕ) → credentials ≡ creds_of st lib.0 → range ≡ st.home.core.range → length s.rows ≡ inodes + 1
-      → shown ≡ record { lib = lib; bundle = bundle; rows = copied_rows b s.rows; creds = credentials; range = range; inodes = inodes }
-      → case_shown shown ≡ with_copied (case_in st lib.0 b)
-  case_copied shown credentials range inodes creds' ranges table' is =
-      let S : List Held → Creds → CoreRange → ℕ → Case = λ hs cs rg n. record { bundle = b; lent = hs; rows = copied_rows b s.rows; creds = cs; range = rg; inodes = n } in
-      let lent : map held_in bundle.holds ≡ (case_in st lib.0 b).lent = as_lent bundle.holds held_body in
-      let numbers : inodes ≡ length s.rows - 1 = omega (arith, table') in
-      ap case_shown is
-      ∙ ap (λ hs. S hs credentials range inodes) lent
-      ∙ ap (λ cs. S (case_in st lib.0 b).lent cs range inodes) creds'
-      ∙ ap (λ rg. S (case_in st lib.0 b).lent (creds_of st lib.0) rg inodes) ranges
-      ∙ ap (S (case_in st lib.0 b).lent (creds_of st lib.0) st.home.core.range) numbers

@@ -35,7 +35,7 @@ use Rattle.trio_judge.specs.declared.verdict.Verdict.{Verdict}
 use Rattle.trio_judge.specs.declared.verdict.Verdict.TheVariants.{Broken, Sound}
 use Rattle.trio_laws.proofs.judgement.CopiedBreaks.{grammar_told, owning_told, rights_told}
 use Rattle.trio_laws.proofs.judgement.CopiedRows.{copied_rows_suffice}
-use Rattle.trio_ctl.specs.inner.Outcomes.{IsVerdict}
+use Rattle.trio_ctl.specs.Pending.{IsVerdict}
 use Rattle.trio_state.specs.Bundles.{Ends, is_in_bundle, parted_hold, refused_image}
 use Rattle.trio_state.specs.Given.{GivenTo}
 use Rattle.trio_state.specs.State.{OpenGrant, State, creds_of, settled}
@@ -49,13 +49,14 @@ use Rattle.trio_laws.proofs.judgement.Equivalence.{rules_are_accept}
 use Rattle.trio_commit.specs.declared.store.Store.{Store}
 use Rattle.trio_commit.specs.Bodies.{kept_children, page_changes, placed_files, with_children}
 use Rattle.trio_commit.specs.Store.{state_of, with_checkpoint}
+use Rattle.trio_state.specs.Moves.{Outline}
 use Rattle.trio_ctl.specs.Ctl.{HaveKinds, HoldsAreTold, IsControlled}
-use Rattle.trio_ctl.specs.Entries.{Entries, reads_among}
+use Rattle.trio_ctl.specs.Entries.{Entries, begun_among, reads_among}
 use Rattle.trio_ctl.specs.Open.{Opened, grants_in, keyed}
 use Rattle.trio_ctl.specs.Stored.{IsStored, grants_staying}
 use Rattle.trio_ctl.proofs.AcceptedBundle.{AcceptedBundle, CanCommit, can_commit}
 use Rattle.trio_ctl.proofs.Committing.{Commits, Committed, committed}
-use Rattle.trio_ctl.proofs.StoredFacts.{Checkpoints, HandedBundle}
+use Rattle.trio_ctl.proofs.StoredFacts.{HandedBundle}
 use Rattle.trio_ctl.proofs.Looks.{few_looks}
 use Rattle.trio_ctl.proofs.RollingBack.{CanRollBack, RolledBack, RollsBack, can_roll_back, rolled_back}
 use Rattle.trio_ctl.proofs.ClosingFacts.{keys, staying, staying_grants}
@@ -114,15 +115,6 @@ still_in ns n outs none = by (is_among n ns) refl
 abbrev reads_with : List OpenGrant → OpenGrant → Bool → ℕ
 reads_with gs g t = length (if t then g ∷ filter (λ (h : OpenGrant). is_read h.kind) gs else filter (λ (h : OpenGrant). is_read h.kind) gs)
 
--- the reads among open grants, by what is kept of them
-pub reads_open : (cs : Checkpoints) (gs : List OpenGrant) → reads_among (map (with_checkpoint cs) gs) ≡ reads_among gs
-reads_open cs [] = refl
-reads_open cs (g ∷ gs) = by (is_read g.kind) (reads_open cs gs)
-  where
-    by : (t : Bool) → reads_among (map (with_checkpoint cs) gs) ≡ reads_among gs → reads_with (map (with_checkpoint cs) gs) (with_checkpoint cs g) t ≡ reads_with gs g t
-    by true again = ap suc again
-    by false again = again
-
 -- what a row that is there has
 pub some_and : (o : Option Row) (P : Row → Type 0) → IsSomeAnd o P → (r : Row) × (o ≡ Some r) × P r
 some_and None P h = absurd h
@@ -152,7 +144,7 @@ reads_stay lib b (g ∷ gs) = by (is_in_bundle lib b g) refl (reads_stay lib b g
         again
         ∙ ap (reads_with gs g) (sym (unread g.kind (is_written b g.ino) (is_among g.ino b.holds) (and_parts (g.lib == lib) ((is_write g.kind && is_written b g.ino) || (is_hold g.kind && is_among g.ino b.holds)) e).1))
 
-module _ (s : Store) (first : ℕ) (table : List Keyed) (files : List Opened) (creds : List Creds) (entries : Entries) (k : IsControlled s first table files creds entries)
+module _ (s : Store) (first : ℕ) (table : List Keyed) (files : List Opened) (creds : List Creds) (entries : Entries) (begun : List (Option Outline)) (k : IsControlled s first table files creds entries begun)
     (lib : LibNo) (b : Bundle) (given : GivenTo (state_of s first (grants_in files) creds entries.made) lib.0 b) (closed : parted_hold (state_of s first (grants_in files) creds entries.made) lib.0 b ≡ None) where
   abbrev st : State
   st = state_of s first (grants_in files) creds entries.made
@@ -263,7 +255,7 @@ module _ (s : Store) (first : ℕ) (table : List Keyed) (files : List Opened) (c
     )
 
     pub ended_controlled : table' ≡ map keyed files' → StandFiles → s'.allotments ≡ outs_after s.allotments (sheet_numbers b.pages) b.numbers
-        → IsStored s' first (grants_staying lib.0 b (grants_in files)) creds (entries.made + 1) → IsControlled s' first table' files' creds entries'
+        → IsStored s' first (grants_staying lib.0 b (grants_in files)) creds (entries.made + 1) → IsControlled s' first table' files' creds entries' begun
     ended_controlled keeps stand back stored = record {
       stored = subst (λ (n : Entries). IsStored s' first (grants_in files') creds n.made) (sym next') (subst (λ gs. IsStored s' first gs creds (entries.made + 1)) (sym grants_are) stored);
       no_zero = ap (λ (o : OutByNumber). lib_at o.numbers 0) back ∙ still_in b.numbers 0 s.allotments.numbers k.no_zero;
@@ -272,7 +264,8 @@ module _ (s : Store) (first : ℕ) (table : List Keyed) (files : List Opened) (c
       grants = keeps;
       keys_once = ap (λ fs. are_new [] (keys fs)) stay ∙ filtered_new (λ (o : Opened). o.key) (λ o. not (is_in_bundle lib.0 b o.grant)) files k.keys_once;
       earlier = λ o i. (let e = k.earlier o (of_old o i) in let more = ap (λ (n : Entries). n.made) next' in omega (arith, e, more));
-      promised = ap (λ (n : Entries). n.promised) next' ∙ k.promised ∙ sym (reads_stay lib.0 b (grants_in files)) ∙ sym (ap reads_among grants_are);
+      placed = k.placed;
+      promised = ap (λ (n : Entries). n.promised) next' ∙ k.promised ∙ ap (λ n. n + begun_among begun) (sym (reads_stay lib.0 b (grants_in files)) ∙ sym (ap reads_among grants_are));
       kinds = stand.0;
       told = stand.1;
     }

@@ -19,10 +19,12 @@ pub back_logs : (old : Controller) (lib : LibNo) (lease : Shown) (new : Controll
 back_logs old lib lease new same l = record {
   log = l.log ∙ ap (λ n. old.log ++ entries_made old.state alone (step.Back n lease.ino) step.Done) same;
   first = l.first;
+  begun = l.begun;
 }
 
 pub release_logs : {B : Type 0} (old : Controller) (lib : LibNo) (b : Bundled) (r : Result ReleaseAnswer B) (f : B → ReleaseFault) (new : Controller) → Logs old (with_bundle b) (step.Release lib.0 (bundle_in b)) (release_answer r f) new → LogsCall old lib (Release (parcel_of b)) (release_told r f) new
 release_logs old lib b r f new l = record {
   log = l.log ∙ ap (λ a. old.log ++ entries_made old.state (with_bundle b) (step.Release lib.0 (bundle_in b)) a) (release_same r f);
   first = l.first;
+  begun = l.begun;
 }

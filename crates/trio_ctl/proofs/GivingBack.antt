@@ -23,8 +23,9 @@ use Rattle.trio_state.specs.Step.{Back, Done, Step}
 use Rattle.trio_laws.proofs.Runs.{step_kept}
 use Rattle.trio_commit.specs.declared.store.Store.{Store}
 use Rattle.trio_commit.specs.Store.{state_of, with_checkpoint}
+use Rattle.trio_state.specs.Moves.{Outline}
 use Rattle.trio_ctl.specs.Ctl.{IsControlled}
-use Rattle.trio_ctl.specs.Entries.{Entries, reads_among}
+use Rattle.trio_ctl.specs.Entries.{Entries, begun_among, reads_among}
 use Rattle.trio_ctl.specs.Open.{Opened, grants_in, keyed}
 use Rattle.trio_ctl.specs.inner.Reads.{is_read_of}
 use Rattle.trio_ctl.proofs.ClosingFacts.{found_one, keys, others, without_one}
@@ -105,7 +106,7 @@ reads_parts (x ∷ xs) ys g e = by (is_read x.kind) (reads_parts xs ys g e)
 write_unread : (kind : GrantKind) → is_read kind ≡ true → kind ≡ Write → ⊥
 write_unread kind e w = false≢true (sym (ap is_read w) ∙ e)
 
-module _ (s : Store) (first : ℕ) (table : List Keyed) (files : List Opened) (creds : List Creds) (entries : Entries) (k : IsControlled s first table files creds entries) where
+module _ (s : Store) (first : ℕ) (table : List Keyed) (files : List Opened) (creds : List Creds) (entries : Entries) (begun : List (Option Outline)) (k : IsControlled s first table files creds entries begun) where
   abbrev st : State
   st = state_of s first (grants_in files) creds entries.made
 
@@ -134,7 +135,7 @@ module _ (s : Store) (first : ℕ) (table : List Keyed) (files : List Opened) (c
     -- it was promised its entry
     pub has_promise : 0 < entries.promised
     has_promise =
-        let all : entries.promised ≡ reads_among (grants_in kept ++ x.grant ∷ grants_in rest) = k.promised ∙ ap reads_among (ap grants_in split ∙ map-append (λ (o : Opened). o.grant) kept (x ∷ rest)) in
+        let all : entries.promised ≡ reads_among (grants_in kept ++ x.grant ∷ grants_in rest) + begun_among begun = k.promised ∙ ap (λ gs. reads_among gs + begun_among begun) (ap grants_in split ∙ map-append (λ (o : Opened). o.grant) kept (x ∷ rest)) in
         let one = reads_parts (grants_in kept) (grants_in rest) x.grant (and_parts (x.grant.lib == lib && x.grant.ino == ino) (is_read x.grant.kind) is).1 in
         omega (arith, all, one)
 
@@ -222,7 +223,7 @@ module _ (s : Store) (first : ℕ) (table : List Keyed) (files : List Opened) (c
               ]
             ]
 
-    pub back_controlled : HasGrant st lib ino Read → IsControlled s first table' files' creds entries'
+    pub back_controlled : HasGrant st lib ino Read → IsControlled s first table' files' creds entries' begun
     back_controlled given = record {
       stored = record {
         fits = k.stored.fits;
@@ -237,9 +238,10 @@ module _ (s : Store) (first : ℕ) (table : List Keyed) (files : List Opened) (c
       grants = ended ∙ ap (without x.key) (k.grants ∙ ap (map keyed) split) ∙ without_one kept rest x once ∙ ap (map keyed) (sym left);
       keys_once = subst (λ fs. IsTrue (are_new [] (keys fs))) (sym left) (others kept rest x once).2;
       earlier = λ o i. (let e = k.earlier o (was_file o i) in let more = ap (λ (n : Entries). n.made) next in omega (arith, e, more));
+      placed = k.placed;
       promised =
           let less = ap (λ (n : Entries). n.promised) next in
-          let all : entries.promised ≡ reads_among (grants_in kept ++ x.grant ∷ grants_in rest) = k.promised ∙ ap reads_among (ap grants_in split ∙ parts kept (x ∷ rest)) in
+          let all : entries.promised ≡ reads_among (grants_in kept ++ x.grant ∷ grants_in rest) + begun_among begun = k.promised ∙ ap (λ gs. reads_among gs + begun_among begun) (ap grants_in split ∙ parts kept (x ∷ rest)) in
           let one = reads_parts (grants_in kept) (grants_in rest) x.grant own.2 in
           let then' : reads_among (grants_in files') ≡ reads_among (grants_in kept ++ grants_in rest) = ap reads_among (ap grants_in left ∙ parts kept rest) in
           omega (arith, less, all, one, then');

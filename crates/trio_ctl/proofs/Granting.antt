@@ -52,8 +52,9 @@ use Rattle.trio_laws.proofs.StateFacts.{write_is}
 use Rattle.trio_surveys.proofs.SheetLaws.{page_at}
 use Rattle.trio_surveys.proofs.Sheets.{length-without, page_from, sheets_all}
 use Rattle.trio_ctl.specs.Answers.{grant_fault_answer, Admits}
+use Rattle.trio_state.specs.Moves.{Outline}
 use Rattle.trio_ctl.specs.Ctl.{HaveKinds, HoldsAreTold, IsControlled}
-use Rattle.trio_ctl.specs.Entries.{Entries, reads_among}
+use Rattle.trio_ctl.specs.Entries.{Entries, begun_among, reads_among}
 use Rattle.trio_ctl.specs.inner.Denials.{denial}
 use Rattle.trio_ctl.specs.inner.Lending.{IsLendable, StandsSomewhere, body_standing, page_on, page_standing}
 use Rattle.trio_laws.specs.OutLaws.{without_checkpoint}
@@ -207,7 +208,7 @@ row_below [] n r e = absurd cc
 row_below (x ∷ rows) zero r e = omega arith
 row_below (x ∷ rows) (suc n) r e = (let l = row_below rows n r e in omega (arith, l))
 
-module _ (s : Store) (first : ℕ) (table : List Keyed) (files : List Opened) (creds : List Creds) (entries : Entries) (k : IsControlled s first table files creds entries) where
+module _ (s : Store) (first : ℕ) (table : List Keyed) (files : List Opened) (creds : List Creds) (entries : Entries) (begun : List (Option Outline)) (k : IsControlled s first table files creds entries begun) where
   abbrev st : State
   st = state_of s first (grants_in files) creds entries.made
 
@@ -405,15 +406,16 @@ module _ (s : Store) (first : ℕ) (table : List Keyed) (files : List Opened) (c
         (told_more rows (grants_in files) file.grant k.told
         (λ hold. subst (λ (x : Option Row). IsSomeAnd x (λ r. file.grant.parent ≡ r.parent)) (sym (ap (row_in rows) number ∙ row)) (parent hold)))
 
-    pub reads_more : (promised : ℕ) → promised ≡ (if is_read kind then entries.promised + 1 else entries.promised) → promised ≡ reads_among (grants_in files')
+    pub reads_more : (promised : ℕ) → promised ≡ (if is_read kind then entries.promised + 1 else entries.promised) → promised ≡ reads_among (grants_in files') + begun_among begun
     reads_more promised is =
         let of_kind : is_read file.grant.kind ≡ is_read kind = ap (λ (x : Keyed). is_read x.1.kind) new_keyed in
-        is ∙ by (is_read kind) (entries.promised) refl
-        ∙ ap (λ (t : Bool). entries.promised + (if t then 1 else 0)) (sym of_kind)
-        ∙ ap (λ n. n + (if is_read file.grant.kind then 1 else 0)) k.promised
-        ∙ reads_last (grants_in files) file.grant
-        ∙ sym (ap reads_among (ap grants_in more ∙ map-append (λ (o : Opened). o.grant) files (file ∷ [])))
+        let next = is ∙ by (is_read kind) (entries.promised) refl ∙ ap (λ (t : Bool). entries.promised + (if t then 1 else 0)) (sym of_kind) in
+        let reads = reads_last (grants_in files) file.grant ∙ sym (ap reads_among (ap grants_in more ∙ map-append (λ (o : Opened). o.grant) files (file ∷ []))) in
+        added promised entries.promised (if is_read file.grant.kind then 1 else 0) (reads_among (grants_in files)) (reads_among (grants_in files')) (begun_among begun) next k.promised reads
       where
+        added : (p q e r r' b : ℕ) → p ≡ q + e → q ≡ r + b → r + e ≡ r' → p ≡ r' + b
+        added p q e r r' b next was more = omega (arith, next, was, more)
+
         by : (t : Bool) (n : ℕ) → entries.promised ≡ n → (if t then n + 1 else n) ≡ n + (if t then 1 else 0)
         by true n e = refl
         by false n e = omega arith
@@ -551,7 +553,7 @@ module _ (s : Store) (first : ℕ) (table : List Keyed) (files : List Opened) (c
       -- what the controller keeps then
       pub granted_controlled : denial st lib.0 ino Write ≡ None
           → (AllBelow entries.made table → table' ≡ table ++ (key, record { lib = lib; ino = ino; kind = Write; entry = entries.made }) ∷ [])
-          → grant_under key table ≡ None → CoversLent file.grant checkpoint → IsControlled s' first table' files' creds entries'
+          → grant_under key table ≡ None → CoversLent file.grant checkpoint → IsControlled s' first table' files' creds entries' begun
       granted_controlled may put unused lent = record {
         stored = granted_stored lent (step_kept st (state_of s' first (grants_in files') creds entries'.made) (Grant lib.0 ino Write) (Granted 0) kept_now tt (granted_step may));
         no_zero = ap (λ (t : Store). lib_at t.allotments.numbers 0) rest ∙ k.no_zero;
@@ -560,6 +562,7 @@ module _ (s : Store) (first : ℕ) (table : List Keyed) (files : List Opened) (c
         grants = table_is Write lib ino key file table' files' new_keyed more put;
         keys_once = keys_once_more Write lib ino key file table' files' new_keyed more unused;
         earlier = all_earlier Write lib ino key file table' files' new_keyed more entries'.made counted;
+        placed = k.placed;
         promised = reads_more Write lib ino key file table' files' new_keyed more entries'.promised (ap (λ (n : Entries). n.promised) next);
         kinds = subst (λ (t : Store). HaveKinds t.rows files') (sym rest) (all_kinds Write lib ino key file table' files' new_keyed more r row (ap (λ (o : Opened). o.grant.of) made));
         told = subst (λ (t : Store). HoldsAreTold t.rows (grants_in files')) (sym rest) (all_told Write lib ino key file table' files' new_keyed more r row (λ hold. absurd (no_hold (sym file_kind ∙ hold))));
@@ -645,7 +648,7 @@ module _ (s : Store) (first : ℕ) (table : List Keyed) (files : List Opened) (c
 
     pub plain_controlled : (told : ℕ) → told ≡ told_children st.home ino kind → denial st lib.0 ino kind ≡ None
         → (AllBelow entries.made table → table' ≡ table ++ (key, record { lib = lib; ino = ino; kind = kind; entry = entries.made }) ∷ [])
-        → grant_under key table ≡ None → entries'.promised ≡ (if is_read kind then entries.promised + 1 else entries.promised) → IsControlled s' first table' files' creds entries'
+        → grant_under key table ≡ None → entries'.promised ≡ (if is_read kind then entries.promised + 1 else entries.promised) → IsControlled s' first table' files' creds entries' begun
     plain_controlled told children may put unused promise = record {
       stored = stored_plain (step_kept st (state_of s' first (grants_in files') creds entries'.made) (Grant lib.0 ino kind) (Granted told) kept_now tt (plain_step told children may));
       no_zero = still (λ t. lib_at t.allotments.numbers 0 ≡ None) (λ looked. k.no_zero);
@@ -654,6 +657,7 @@ module _ (s : Store) (first : ℕ) (table : List Keyed) (files : List Opened) (c
       grants = table_is kind lib ino key file table' files' keyed_new more put;
       keys_once = keys_once_more kind lib ino key file table' files' keyed_new more unused;
       earlier = all_earlier kind lib ino key file table' files' keyed_new more entries'.made counted;
+      placed = k.placed;
       promised = reads_more kind lib ino key file table' files' keyed_new more entries'.promised promise;
       kinds = still (λ t. HaveKinds t.rows files') (λ looked. all_kinds kind lib ino key file table' files' keyed_new more r row (ap (λ (o : Opened). o.grant.of) made));
       told = still (λ t. HoldsAreTold t.rows (grants_in files')) (λ looked. all_told kind lib ino key file table' files' keyed_new more r row (λ hold. ap (λ (o : Opened). o.grant.parent) made ∙ parent_told r kind (sym (ap (λ (o : Opened). o.grant.kind) made) ∙ hold)));
@@ -718,15 +722,15 @@ module _ (s : Store) (first : ℕ) (table : List Keyed) (files : List Opened) (c
           ∙ sym (ap (body_by_row core) row)
 
   -- nothing has changed but the count of looks
-  pub controlled_still : (s' : Store) (table' : List Keyed) (files' : List Opened) → s' ≡ record s { home = s'.home } → s'.home.pages ≡ s.home.pages → table' ≡ table → files' ≡ files → IsControlled s' first table' files' creds entries
+  pub controlled_still : (s' : Store) (table' : List Keyed) (files' : List Opened) → s' ≡ record s { home = s'.home } → s'.home.pages ≡ s.home.pages → table' ≡ table → files' ≡ files → IsControlled s' first table' files' creds entries begun
   controlled_still s' table' files' rest same_pages same_table same_files =
       let H : List (Option (List ℕ)) → Store = λ ps. record s { home = record { pages = ps; looked = s'.home.looked } } in
-      subst (λ (t : Store). IsControlled t first table' files' creds entries) (sym rest)
-      (subst (λ ps. IsControlled (H ps) first table' files' creds entries) (sym same_pages)
-      (subst (λ t. IsControlled (H s.home.pages) first t files' creds entries) (sym same_table)
-      (subst (λ fs. IsControlled (H s.home.pages) first table fs creds entries) (sym same_files) (looked_at s'.home.looked))))
+      subst (λ (t : Store). IsControlled t first table' files' creds entries begun) (sym rest)
+      (subst (λ ps. IsControlled (H ps) first table' files' creds entries begun) (sym same_pages)
+      (subst (λ t. IsControlled (H s.home.pages) first t files' creds entries begun) (sym same_table)
+      (subst (λ fs. IsControlled (H s.home.pages) first table fs creds entries begun) (sym same_files) (looked_at s'.home.looked))))
     where
-      looked_at : (n : ℕ) → IsControlled (record s { home = record { pages = s.home.pages; looked = n } }) first table files creds entries
+      looked_at : (n : ℕ) → IsControlled (record s { home = record { pages = s.home.pages; looked = n } }) first table files creds entries begun
       looked_at n = record {
         stored = record { fits = k.stored.fits; places = k.stored.places; of_grant = k.stored.of_grant; covers = k.stored.covers; kept = k.stored.kept };
         no_zero = k.no_zero;
@@ -735,6 +739,7 @@ module _ (s : Store) (first : ℕ) (table : List Keyed) (files : List Opened) (c
         grants = k.grants;
         keys_once = k.keys_once;
         earlier = k.earlier;
+        placed = k.placed;
         promised = k.promised;
         kinds = k.kinds;
         told = k.told;

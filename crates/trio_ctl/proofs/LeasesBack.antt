@@ -175,9 +175,11 @@ backs_whose s lib back l f i = ap (λ (n : ℕ). record { 0 = n }) (read_by s li
 
 -- ---- a loop that gives them back
 
--- The leases that are left to be given back, one after another, come to what all come to: the state, the log and what is promised.
+-- The leases that are left to be given back, one after another, come to what all come to: the state, the log and what is promised;
+-- no release begins or ends.
 pub record Left (lib' : LibNo) (now : Registered) (log : Logged) (rest : List Shown) (was : Registered) (log' : Logged) (all : List Shown) : Type 0 where
   pub state : all_back now.state lib' rest ≡ all_back was.state lib' all
+  pub begun : now.begun ≡ was.begun
   pub promised : now.promised + length all ≡ was.promised + length rest
   pub entries : log.entries ++ back_entries lib' rest ≡ log'.entries ++ back_entries lib' all
   pub room : log.room ≡ log'.room
@@ -194,14 +196,14 @@ last_back items rest f e = ap reverse e ∙ reverse-append rest (f ∷ [])
 
 pub left_begins : (lib : LibNo) (now : Registered) (log : Logged) (rest all : List Shown) → rest ≡ all → AreBack now.state lib all → ((f : Shown) → In f all → f.lib ≡ lib) → length log.entries + now.promised ≤ log.room → Kept now.state → length log.entries ≡ now.state.entries → Left lib now log rest now log all
 left_begins lib now log rest all e given whose fits k count =
-    subst (λ (l : List Shown). Left lib now log l now log all) (sym e) (record { state = refl; promised = refl; entries = refl; room = refl; fits = fits; given = given; whose = whose; kept = k; looked = refl; count = count })
+    subst (λ (l : List Shown). Left lib now log l now log all) (sym e) (record { state = refl; begun = refl; promised = refl; entries = refl; room = refl; fits = fits; given = given; whose = whose; kept = k; looked = refl; count = count })
 
 module _ (lib : LibNo) (now now' was : Registered) (log next log' : Logged) (f : Shown) (rest all : List Shown) (l : Left lib now log (f ∷ rest) was log' all) where
   pub left_given : HasGrant now.state f.lib.0 f.ino Read
   left_given = subst (λ (o : LibNo). HasGrant now.state o.0 f.ino Read) (sym (l.whose f (inl refl))) l.given.0
 
-  pub left_next : Step now.state (Back f.lib.0 f.ino) Done now'.state → now'.promised + 1 ≡ now.promised → next ≡ record log { entries = log.entries ++ Back_entry lib f.ino ∷ [] } → Kept now'.state → now'.looked ≡ now.looked → Left lib now' next rest was log' all
-  left_next st less pushed k still =
+  pub left_next : Step now.state (Back f.lib.0 f.ino) Done now'.state → now'.begun ≡ now.begun → now'.promised + 1 ≡ now.promised → next ≡ record log { entries = log.entries ++ Back_entry lib f.ino ∷ [] } → Kept now'.state → now'.looked ≡ now.looked → Left lib now' next rest was log' all
+  left_next st begun less pushed k still =
       let same : now'.state ≡ given_back now.state lib.0 f.ino = came (subst (λ (o : LibNo). Step now.state (Back o.0 f.ino) Done now'.state) (l.whose f (inl refl)) st) in
       let es : next.entries ≡ log.entries ++ Back_entry lib f.ino ∷ [] = ap (λ (g : Logged). g.entries) pushed in
       let more = ap length es ∙ length-append log.entries (Back_entry lib f.ino ∷ []) in
@@ -210,6 +212,7 @@ module _ (lib : LibNo) (now now' was : Registered) (log next log' : Logged) (f :
       let room : next.room ≡ log.room = ap (λ (g : Logged). g.room) pushed in
       record {
         state = ap (λ (t : State). all_back t lib rest) same ∙ l.state;
+        begun = begun ∙ l.begun;
         promised = omega (arith, less, left);
         entries = ap (λ (g : List Entry). g ++ back_entries lib rest) es ∙ append_assoc log.entries (Back_entry lib f.ino ∷ []) (back_entries lib rest) ∙ l.entries;
         room = room ∙ l.room;

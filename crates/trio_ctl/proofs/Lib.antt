@@ -34,9 +34,17 @@ pub mod GivingBack
 pub mod Moding
 pub mod Belonging
 pub mod PartedHolds
+pub mod Bodies
+pub mod Awaiting
+pub mod Beginnings
 pub mod Rooms
+pub mod Fullness
+pub mod Sames
+pub mod Outlines
+pub mod Underways
 mod Recording
 mod RecordedReleases
+pub mod Ends
 mod DeskLogs
 mod ModeCalls
 pub mod Settling

@@ -36,6 +36,8 @@ use Rattle.trio_ctl.specs.Ctl.{Controller}
 use Rattle.trio_ctl.specs.Desk.{CallStep, Happens, LogsCall, after_mode_refusal, desk_of, entries_told, out_of}
 use Rattle.trio_ctl.specs.Logged.{HasHistory, entries_made, with_call}
 use Rattle.trio_ctl.specs.inner.Modes.{busy_holder}
+use Rattle.trio_state.specs.Moves.{Outline, begun_by}
+use Rattle.trio_ctl.proofs.Underways.{idle_in, underway_in}
 use Rattle.trio_ctl.proofs.LeasesBack.{all_back_is, are_back, backs_kept, backs_nodes}
 use Rattle.trio_ctl.proofs.Moding.{plain_fault}
 use Rattle.trio_ctl.proofs.DeskSteps.{creds_same}
@@ -160,17 +162,17 @@ module _ (s : State) (lib : LibNo) (ino mode : ℕ) (back : List Shown) (call : 
 
   -- ---- all stays recorded
 
-  module _ (first : Image) (promised : ℕ) (log : Logged) (notes : Notes) (h : HasHistory first s promised log notes) (k : Kept s) (its : IsLibrary s.creds lib.0)
+  module _ (first : Image) (begun begun' : List (Option Outline)) (promised : ℕ) (log : Logged) (notes : Notes) (h : HasHistory first s begun promised log notes) (idle : begun_by (underway_in s begun) lib.0 ≡ None) (stay : begun' ≡ begun) (k : Kept s) (its : IsLibrary s.creds lib.0)
       (l : AreLent (out_of s lib) back) (tells : TellsChmod (desk_of s lib) back ino mode call) where
     -- after a refusal that makes an entry
     pub refused_history : (f : ModeFault) (s' : State) (promised' : ℕ) (log' : Logged) → ((holder : Holder) → f ≡ fault.Busy holder → ⊥) → mode_fault t lib.0 ino mode (row_at s.home ino) ≡ Some f
-        → s' ≡ logged s → log'.entries ≡ log.entries ++ entry.Mode lib ino mode (Err f) call ∷ [] → length log'.entries + promised' ≤ log'.room → HasHistory first s' promised' log' notes
+        → s' ≡ logged s → log'.entries ≡ log.entries ++ entry.Mode lib ino mode (Err f) call ∷ [] → length log'.entries + promised' ≤ log'.room → HasHistory first s' begun' promised' log' notes
     refused_history f s' promised' log' plain e same pushed room =
         let at = plain_fault s lib ino mode back (row_at s.home ino) f plain e in
         let told = fault_told s lib.0 ino mode (row_at s.home ino) f at in
         let out = ap (moded_to s ino mode) at in
         let st : Step s (step.SetMode lib.0 ino mode) (step.NotModeSet f) s' = inl (ap (λ (x : Outcome). x.answer) (sym out), same ∙ sym (plain_after f plain) ∙ ap (λ (x : Outcome). x.after) (sym out)) in
-        after_told first s s' promised promised' log log' notes (with_call call) (step.SetMode lib.0 ino mode) (step.NotModeSet f) h k its tt tt st
+        after_told first s s' begun begun' promised promised' log log' notes (with_call call) (step.SetMode lib.0 ino mode) (step.NotModeSet f) h k idle stay its tt tt st
         (fits_at s s' (step.NotModeSet f) k refl refl k h.lent l tells st)
         (pushed ∙ ap (λ es. log.entries ++ es) (sym (refused_entries f plain told))) room
       where
@@ -191,15 +193,15 @@ module _ (s : State) (lib : LibNo) (ino mode : ℕ) (back : List Shown) (call : 
     -- after the change, with the leases given back before it
     pub moded_history : (t' s' : State) (between log' : Logged) (promised' : ℕ) → t' ≡ t → between.entries ≡ log.entries ++ back_entries lib back → promised' + length back ≡ promised
         → mode_fault t' lib.0 ino mode (row_at t'.home ino) ≡ None → s' ≡ (moded_to t' ino mode None).after → log'.entries ≡ between.entries ++ entry.Mode lib ino mode (Ok tt) call ∷ []
-        → length log'.entries + promised' ≤ log'.room → HasHistory first s' promised' log' notes
+        → length log'.entries + promised' ≤ log'.room → HasHistory first s' begun' promised' log' notes
     moded_history t' s' between log' promised' at given less free same pushed room =
         let b = are_back s lib back l in
         let kt = backs_kept s lib back k b in
         let creds : t.creds ≡ s.creds = ap (λ (u : State). u.creds) (all_back_is s lib back) in
         let st : Step t (step.SetMode lib.0 ino mode) step.ModeSet s' = subst (λ (u : State). Step u (step.SetMode lib.0 ino mode) step.ModeSet s') at (moded_step t' s' at free same) in
         let wide : Logged = record { entries = log.entries ++ back_entries lib back; room = length (log.entries ++ back_entries lib back) + promised' } in
-        after_told first t s' promised' promised' wide log' notes (with_call call) (step.SetMode lib.0 ino mode) step.ModeSet
-        (backs_history first s lib back promised promised' log wide notes h its b refl less (omega arith)) kt (subst (λ cs. IsLibrary cs lib.0) (sym creds) its) tt tt st
+        after_told first t s' begun begun' promised' promised' wide log' notes (with_call call) (step.SetMode lib.0 ino mode) step.ModeSet
+        (backs_history first s lib back begun promised promised' log wide notes h idle its b refl less (omega arith)) kt (idle_in s t begun lib.0 idle) stay (subst (λ cs. IsLibrary cs lib.0) (sym creds) its) tt tt st
         (fits_at t s' step.ModeSet kt creds (backs_nodes s lib back k b) k h.lent l tells st)
         (pushed ∙ ap (λ es. es ++ entry.Mode lib ino mode (Ok tt) call ∷ []) given) room
 
@@ -207,10 +209,11 @@ module _ (s : State) (lib : LibNo) (ino mode : ℕ) (back : List Shown) (call : 
 
 pub refused_logs : (old new : Controller) (lib : LibNo) (ino mode : ℕ) (back : List Shown) (call : Option Call) (f : ModeFault) (row : Option Row)
     → mode_fault (all_back old.state lib back) lib.0 ino mode row ≡ Some f → ((holder : Holder) → f ≡ fault.Busy holder → ⊥)
-    → new.log ≡ old.log ++ entry.Mode lib ino mode (Err f) call ∷ [] → new.first ≡ old.first → LogsCall old lib (SetMode ino mode back call) (NotModeSet f) new
-refused_logs old new lib ino mode back call f row e plain log first = record {
+    → new.log ≡ old.log ++ entry.Mode lib ino mode (Err f) call ∷ [] → new.first ≡ old.first → new.begun ≡ old.begun → LogsCall old lib (SetMode ino mode back call) (NotModeSet f) new
+refused_logs old new lib ino mode back call f row e plain log first begun = record {
   log = log ∙ ap (λ es. old.log ++ es) (by f plain (fault_told (all_back old.state lib back) lib.0 ino mode row f e));
   first = first;
+  begun = begun;
 }
   where
     by : (f : ModeFault) → ((holder : Holder) → f ≡ fault.Busy holder → ⊥) → mode_fault_answer f ≡ step.NotModeSet f → entry.Mode lib ino mode (Err f) call ∷ [] ≡ entries_told old.state lib (SetMode ino mode back call) (NotModeSet f)
@@ -221,8 +224,9 @@ refused_logs old new lib ino mode back call f row e plain log first = record {
     by fault.NoMemory plain told = absurd (let wrong : step.NoMemory ≡ step.NotModeSet fault.NoMemory = told in cc wrong)
 
 pub moded_logs : (old new : Controller) (lib : LibNo) (ino mode : ℕ) (back : List Shown) (call : Option Call)
-    → new.log ≡ (old.log ++ back_entries lib back) ++ entry.Mode lib ino mode (Ok tt) call ∷ [] → new.first ≡ old.first → LogsCall old lib (SetMode ino mode back call) ModeSet new
-moded_logs old new lib ino mode back call log first = record {
+    → new.log ≡ (old.log ++ back_entries lib back) ++ entry.Mode lib ino mode (Ok tt) call ∷ [] → new.first ≡ old.first → new.begun ≡ old.begun → LogsCall old lib (SetMode ino mode back call) ModeSet new
+moded_logs old new lib ino mode back call log first begun = record {
   log = log ∙ append_assoc old.log (back_entries lib back) (entry.Mode lib ino mode (Ok tt) call ∷ []);
   first = first;
+  begun = begun;
 }

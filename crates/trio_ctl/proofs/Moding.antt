@@ -40,6 +40,7 @@ use Rattle.trio_laws.proofs.StateFacts.{live_met}
 use Rattle.trio_commit.specs.declared.store.Store.{Store}
 use Rattle.trio_commit.specs.Store.{checkpoint_at, state_of, with_checkpoint}
 use Rattle.trio_ctl.specs.Backs.{all_back}
+use Rattle.trio_state.specs.Moves.{Outline}
 use Rattle.trio_ctl.specs.Ctl.{HaveKinds, IsControlled}
 use Rattle.trio_ctl.specs.Entries.{Entries}
 use Rattle.trio_ctl.specs.Open.{Opened, grants_in, keyed}
@@ -150,7 +151,7 @@ core_there : (t : Bool) (o : Option (List ℕ)) (bytes : List ℕ) → (if t the
 core_there true o bytes e = refl
 core_there false o bytes e = absurd cc
 
-module _ (s : Store) (first : ℕ) (table : List Keyed) (files : List Opened) (creds : List Creds) (entries : Entries) (k : IsControlled s first table files creds entries) where
+module _ (s : Store) (first : ℕ) (table : List Keyed) (files : List Opened) (creds : List Creds) (entries : Entries) (begun : List (Option Outline)) (k : IsControlled s first table files creds entries begun) where
   abbrev st : State
   st = state_of s first (grants_in files) creds entries.made
 
@@ -312,7 +313,7 @@ module _ (s : Store) (first : ℕ) (table : List Keyed) (files : List Opened) (c
       moded_kinds : HaveKinds moded files
       moded_kinds o i = subst (λ (x : Option Row). IsSomeAnd x (λ (r : Row). r.kind ≡ o.grant.of)) (sym (get_or-set_other s.rows ino o.grant.ino (Some (with_row_mode mode r)) None (other_file o i))) (k.kinds o i)
 
-      pub moded_controlled : IsControlled s' first table files creds entries'
+      pub moded_controlled : IsControlled s' first table files creds entries' begun
       moded_controlled = record {
         stored = moded_stored;
         no_zero = ap (λ (t : Store). get_or t.allotments.numbers 0 None) rest ∙ k.no_zero;
@@ -321,6 +322,7 @@ module _ (s : Store) (first : ℕ) (table : List Keyed) (files : List Opened) (c
         grants = k.grants;
         keys_once = k.keys_once;
         earlier = λ o i. (let e = k.earlier o i in let more = ap (λ (n : Entries). n.made) next in omega (arith, e, more));
+        placed = k.placed;
         promised = ap (λ (n : Entries). n.promised) next ∙ k.promised;
         kinds = subst (λ (t : Store). HaveKinds t.rows files) (sym rest) moded_kinds;
         told = told_kept s'.rows s'.checkpoints.items (grants_in files) (step_told st (told_open s.rows cs (grants_in files) k.told) (SetMode lib ino mode) ModeSet after kept_now tt moded_step);

@@ -46,6 +46,8 @@ use Rattle.trio_laws.specs.history.ToldLaws.{note_of, notes_of}
 use Rattle.std.specs.Option.{option_map}
 use Rattle.trio_lists.proofs.Tabulated.{tabulated-length}
 use Rattle.trio_layout.specs.Survey.{plain, row_of, survey}
+use Rattle.trio_state.specs.Moves.{KeptUnderway, Outline}
+use Rattle.trio_ctl.proofs.Underways.{underway_in}
 use Rattle.trio_ctl.proofs.Granting.{row_below}
 use Rattle.trio_laws.proofs.StateFacts.{write_alone}
 use Rattle.trio_laws.proofs.history.NotesAccepted.{release_notes}
@@ -55,7 +57,7 @@ use Rattle.trio_laws.proofs.history.RefusedTold.{refused_is_listed}
 use Rattle.trio_laws.proofs.judgement.Equivalence.{rules_are_accept}
 use Rattle.trio_laws.proofs.session.Lent.{step_keeps_lent}
 use Rattle.trio_ctl.specs.Answers.{verdict_of}
-use Rattle.trio_ctl.specs.HandedIn.{WasLentAs, WereLent}
+use Rattle.trio_ctl.specs.HandedIn.{AreTouched, WasLentAs, WereLentOrTouched}
 use Rattle.trio_ctl.specs.Logged.{HasHistory, entries_made, with_bundle}
 use Rattle.trio_ctl.specs.Open.{untouched}
 use Rattle.trio_ctl.specs.declared.outcome.Outcome.{Outcome}
@@ -112,28 +114,38 @@ marked_in s lib f k was keeps g p is_open mine same there =
         let same_sheet : sheet_handed p ≡ from.0 = ap sheet_handed e ∙ ap (λ y. sheet_handed (block_in y)) from.2 in
         inr (subst (λ y. In y g.blocks) (sym same_sheet) (subst (λ (h : OpenGrant). In from.0 h.blocks) one from.1))
 
-pub marks_fit : (s : State) (lib : ℕ) (b : Bundled) → Kept s → WereLent s lib b.writes → ((f : LentFile) → In f b.writes → KeepsUntouched f) → HandedFits s lib (with_bundle b)
+-- where all are marked nothing is asked
+touched_in : (s : State) (lib : ℕ) (f : LentFile) → AreTouched f.stands.blocks → IsMarked s lib (file_in f.stands)
+touched_in s lib f all g p is_open mine same there =
+    let q = map-In block_in p f.stands.blocks there in
+    inl (ap (λ (y : HandedPage). y.touched) q.2 ∙ all q.0 q.1)
+
+pub marks_fit : (s : State) (lib : ℕ) (b : Bundled) → Kept s → WereLentOrTouched s lib b.writes → ((f : LentFile) → In f b.writes → KeepsUntouched f) → HandedFits s lib (with_bundle b)
 marks_fit s lib b k lent keeps w there =
     let f = map-In (λ f. file_in f.stands) w b.writes there in
-    subst (IsMarked s lib) (sym f.2) (marked_in s lib f.0 k (lent f.0 f.1) (keeps f.0 f.1))
+    subst (IsMarked s lib) (sym f.2) (by f.0 (lent f.0 f.1) (keeps f.0 f.1))
+  where
+    by : (f : LentFile) → WasLentAs s lib f ⊎ AreTouched f.stands.blocks → KeepsUntouched f → IsMarked s lib (file_in f.stands)
+    by f (inl was) kept = marked_in s lib f k was kept
+    by f (inr all) kept = touched_in s lib f all
 
 -- ---- entries
 
 -- the files that an entry tells
 abbrev files_in : Entry → List RawFile
-files_in (entry.Raw lib verdict files blocks handed) = files
+files_in (entry.Raw lib verdict files bundle) = files
 files_in e = []
 
 -- the entry of an accepted release, and of a refused one, as they are told
 abbrev told_accepted : Case → Notes → ℕ → Handed → Entry
 told_accepted c notes lib h =
     let files = accepted_files c (listing c) notes in
-    entry.Raw (record { 0 = lib }) Accepted files (accepted_blocks c (listing c) notes h files) h
+    entry.Raw (record { 0 = lib }) Accepted files (record { handed = h; blocks = accepted_blocks c (listing c) notes h files })
 
 abbrev told_refused : Case → Notes → ℕ → ReleaseAnswer → Handed → Entry
 told_refused c notes lib verdict h =
     let files = refused_files c notes in
-    entry.Raw (record { 0 = lib }) verdict files (refused_blocks c notes h files) h
+    entry.Raw (record { 0 = lib }) verdict files (record { handed = h; blocks = refused_blocks c notes h files })
 
 -- what the laws say of a bundle
 abbrev AcceptedAs : State → ℕ → Bundled → Bundle → Type 0
@@ -164,23 +176,23 @@ refused_entry s lib b verdict = subst (RefusedAs s lib b verdict) (handed_is b) 
 accepts : (s : State) (lib : ℕ) (b : Bundle) → IsJudgeable s lib b → IsTrue (meets_rules (case_in s lib b)) → IsTrue (is_accepted (settled s) (creds_of s lib) b)
 accepts s lib b j m = (rules_are_accept s lib b j).0 m
 
-pub release_entries : (s : State) (lib : LibNo) (b : Bundled) (outcome : Outcome) (told : Told) (notes : Notes) → IsJudgeable s lib.0 (bundle_in b) → IsOutcome (case_in s lib.0 (bundle_in b)) outcome → notes ≡ notes_of (settled s) → TellsOutcome (case_in s lib.0 (bundle_in b)) notes (handed_in b) outcome told → entries_made s (with_bundle b) (Release lib.0 (bundle_in b)) (verdict_of (verdict_on outcome)) ≡ entry.Raw lib (verdict_on outcome) told.files told.blocks (handed_in b) ∷ []
+pub release_entries : (s : State) (lib : LibNo) (b : Bundled) (outcome : Outcome) (told : Told) (notes : Notes) → IsJudgeable s lib.0 (bundle_in b) → IsOutcome (case_in s lib.0 (bundle_in b)) outcome → notes ≡ notes_of (settled s) → TellsOutcome (case_in s lib.0 (bundle_in b)) notes (handed_in b) outcome told → entries_made s (with_bundle b) (Release lib.0 (bundle_in b)) (verdict_of (verdict_on outcome)) ≡ entry.Raw lib (verdict_on outcome) told.files told.bundle ∷ []
 release_entries s lib b (OutAccepted l) told notes j o noted t =
     let c = case_in s lib.0 (bundle_in b) in
     let h = handed_in b in
     ap (λ e. e ∷ []) (accepted_entry s lib.0 b j (accepts s lib.0 (bundle_in b) j o.0))
     ∙ ap (λ x. told_accepted c x lib.0 h ∷ []) (sym noted)
-    ∙ ap (λ x. entry.Raw lib Accepted (accepted_files c x notes) (accepted_blocks c x notes h (accepted_files c x notes)) h ∷ []) (sym o.1)
-    ∙ ap (λ fs. entry.Raw lib Accepted fs (accepted_blocks c l.listing notes h fs) h ∷ []) (sym t.0)
-    ∙ ap (λ bs. entry.Raw lib Accepted told.files bs h ∷ []) (sym t.1)
+    ∙ ap (λ x. entry.Raw lib Accepted (accepted_files c x notes) (record { handed = h; blocks = accepted_blocks c x notes h (accepted_files c x notes) }) ∷ []) (sym o.1)
+    ∙ ap (λ fs. entry.Raw lib Accepted fs (record { handed = h; blocks = accepted_blocks c l.listing notes h fs }) ∷ []) (sym t.0)
+    ∙ ap (λ bs. entry.Raw lib Accepted told.files bs ∷ []) (sym t.1)
 release_entries s lib b (OutRefused rule ino page slot) told notes j o noted t =
     let c = case_in s lib.0 (bundle_in b) in
     let h = handed_in b in
     let v = Refused rule ino page slot in
     ap (λ e. e ∷ []) (refused_entry s lib.0 b v j)
     ∙ ap (λ x. told_refused c x lib.0 v h ∷ []) (sym noted)
-    ∙ ap (λ fs. entry.Raw lib v fs (refused_blocks c notes h fs) h ∷ []) (sym t.0)
-    ∙ ap (λ bs. entry.Raw lib v told.files bs h ∷ []) (sym t.1)
+    ∙ ap (λ fs. entry.Raw lib v fs (record { handed = h; blocks = refused_blocks c notes h fs }) ∷ []) (sym t.0)
+    ∙ ap (λ bs. entry.Raw lib v told.files bs ∷ []) (sym t.1)
 
 -- ---- notes
 
@@ -220,13 +232,14 @@ noted_then s s' lib b (OutAccepted l) told notes j o noted t step = noted_accept
 noted_then s s' lib b (OutRefused rule ino page slot) told notes j o noted t step =
     noted_refused s s' lib.0 b (record { rule = rule; ino = ino; page = page; slot = slot }) notes j noted step
 
--- ---- what holds after a release
+-- ---- what holds after the end of a release
 
-pub after_release : (first : Image) (s s' : State) (promised : ℕ) (log log' : Logged) (notes notes' : Notes) (lib : LibNo) (b : Bundled) (outcome : Outcome) (told : Told) → HasHistory first s promised log notes → IsJudgeable s lib.0 (bundle_in b) → IsLibrary s.creds lib.0 → WereLent s lib.0 b.writes → ((f : LentFile) → In f b.writes → KeepsUntouched f) → IsOutcome (case_in s lib.0 (bundle_in b)) outcome → TellsOutcome (case_in s lib.0 (bundle_in b)) notes (handed_in b) outcome told → Step s (Release lib.0 (bundle_in b)) (verdict_of (verdict_on outcome)) s' → notes' ≡ noted_by (verdict_on outcome) told.files notes → log'.entries ≡ log.entries ++ entry.Raw lib (verdict_on outcome) told.files told.blocks (handed_in b) ∷ [] → length log'.entries + promised ≤ log'.room → HasHistory first s' promised log' notes'
-after_release first s s' promised log log' notes notes' lib b outcome told h j its lent keeps o t step noted' e room = record {
+pub after_release : (first : Image) (s s' : State) (begun begun' : List (Option Outline)) (promised promised' : ℕ) (log log' : Logged) (notes notes' : Notes) (lib : LibNo) (b : Bundled) (outcome : Outcome) (told : Told) → HasHistory first s begun promised log notes → KeptUnderway (underway_in s' begun') → IsJudgeable s lib.0 (bundle_in b) → IsLibrary s.creds lib.0 → WereLentOrTouched s lib.0 b.writes → ((f : LentFile) → In f b.writes → KeepsUntouched f) → IsOutcome (case_in s lib.0 (bundle_in b)) outcome → TellsOutcome (case_in s lib.0 (bundle_in b)) notes (handed_in b) outcome told → Step s (Release lib.0 (bundle_in b)) (verdict_of (verdict_on outcome)) s' → notes' ≡ noted_by (verdict_on outcome) told.files notes → log'.entries ≡ log.entries ++ entry.Raw lib (verdict_on outcome) told.files told.bundle ∷ [] → length log'.entries + promised' ≤ log'.room → HasHistory first s' begun' promised' log' notes'
+after_release first s s' begun begun' promised promised' log log' notes notes' lib b outcome told h underway j its lent keeps o t step noted' e room = record {
   all =
       grown first s s' log.entries log'.entries (with_bundle b) (Release lib.0 (bundle_in b)) (verdict_of (verdict_on outcome)) h.all its j.given step (handed_is b, marks_fit s lib.0 b j.kept lent keeps)
       (e ∙ sym (ap (λ (l : List Entry). log.entries ++ l) (release_entries s lib b outcome told notes j o h.noted t)));
+  underway = underway;
   room = room;
   mine = still_mine s (Release lib.0 (bundle_in b)) _ s' j.kept j.given step its h.mine;
   lent = step_keeps_lent s (Release lib.0 (bundle_in b)) _ s' j.kept h.all.whole j.given step h.lent;

@@ -1,6 +1,7 @@
 -- Each call of the controller leaves all recorded, its entry too.
 use Rattle.std.proofs.Common.{◌≡◌, ◌⊎◌, ◌+◌, ◌≤◌, ◌<◌, ◌==◌, ℕ, Bool, true, false, List, [], ◌∷◌, ◌++◌, append_assoc, append-nil, length, length-append, Option, Some, None, Result, Ok, Err, inl, inr, refl, sym, ap, subst, ◌∙◌, arith}
 use Rattle.std.specs.List.{filter}
+use Rattle.std.specs.Prelude.{replicate}
 use Rattle.std.proofs.lemmas.Bool.{eq-eqb, eqb-true, eqb-false}
 use Rattle.trio_lists.specs.Lists.{In}
 use Rattle.trio_lists.proofs.Filters.{In-filter}
@@ -31,6 +32,7 @@ use Rattle.trio_state.specs.Given.{GivenEvent, HasGrant}
 use Rattle.trio_state.specs.Grants.{given_back}
 use Rattle.trio_state.specs.Kept.{Kept}
 use Rattle.trio_state.specs.Listed.{Notes}
+use Rattle.trio_state.specs.Moves.{Outline, begun_by}
 use Rattle.trio_state.specs.State.{OpenGrant, State}
 use Rattle.trio_state.specs.Step.{Event, Grant, Allot, Back, Done, CtlAnswer, Step}
 use Rattle.trio_laws.specs.Laws.{library_of}
@@ -45,6 +47,7 @@ use Rattle.trio_laws.proofs.history.Grows.{history_grows, step_creds}
 use Rattle.trio_laws.proofs.history.NotesStart.{start_notes}
 use Rattle.trio_laws.proofs.history.NotesSteps.{steps_keep_notes}
 use Rattle.trio_laws.proofs.session.Lent.{step_keeps_lent}
+use Rattle.trio_ctl.proofs.Underways.{idle_in, underway_after, underway_begins, underway_in}
 use Rattle.trio_ctl.proofs.Starting.{image_kept}
 use Rattle.trio_ctl.proofs.Wholes.{whole_none}
 use Rattle.trio_ctl.specs.Answers.{allot_answer, grant_answer}
@@ -75,8 +78,8 @@ grown first s s' log log' x event answer r its given step fits e =
 -- ---- the number of the next entry
 
 -- the log has as many entries as the state counts
-pub next_entry : (first : Image) (s : State) (promised : ℕ) (log : Logged) (notes : Notes) (es : List Entry) (n : ℕ) → HasHistory first s promised log notes → n ≡ length es → es ≡ log.entries → n ≡ s.entries
-next_entry first s promised log notes es n h len same =
+pub next_entry : (first : Image) (s : State) (begun : List (Option Outline)) (promised : ℕ) (log : Logged) (notes : Notes) (es : List Entry) (n : ℕ) → HasHistory first s begun promised log notes → n ≡ length es → es ≡ log.entries → n ≡ s.entries
+next_entry first s begun promised log notes es n h len same =
     len ∙ ap (λ (l : List Entry). length l) same ∙ (history_is_legal (recorded first s log.entries) h.all).1
 
 -- ---- entries of answers
@@ -102,9 +105,10 @@ allot_entries s lib pages inodes (Err unallotted.NoMemory) told e = ap (with_tol
 
 -- ---- what holds after a call that ends no bundle
 
-pub after_told : (first : Image) (s s' : State) (promised promised' : ℕ) (log log' : Logged) (notes : Notes) (x : Beside) (event : Event) (answer : CtlAnswer) → HasHistory first s promised log notes → Kept s → IsLibrary s.creds (library_of event) → GivenEvent s event → EndsNone event → Step s event answer s' → BesideFits s x event answer s' → log'.entries ≡ log.entries ++ entries_made s x event answer → length log'.entries + promised' ≤ log'.room → HasHistory first s' promised' log' notes
-after_told first s s' promised promised' log log' notes x event answer h k its given none step fits e room = record {
+pub after_told : (first : Image) (s s' : State) (begun begun' : List (Option Outline)) (promised promised' : ℕ) (log log' : Logged) (notes : Notes) (x : Beside) (event : Event) (answer : CtlAnswer) → HasHistory first s begun promised log notes → Kept s → begun_by (underway_in s begun) (library_of event) ≡ None → begun' ≡ begun → IsLibrary s.creds (library_of event) → GivenEvent s event → EndsNone event → Step s event answer s' → BesideFits s x event answer s' → log'.entries ≡ log.entries ++ entries_made s x event answer → length log'.entries + promised' ≤ log'.room → HasHistory first s' begun' promised' log' notes
+after_told first s s' begun begun' promised promised' log log' notes x event answer h k idle same its given none step fits e room = record {
   all = grown first s s' log.entries log'.entries x event answer h.all its given step fits e;
+  underway = underway_after s s' begun begun' event answer h.underway idle given step same;
   room = room;
   mine = still_mine s event answer s' k given step its h.mine;
   lent = step_keeps_lent s event answer s' k h.all.whole given step h.lent;
@@ -112,23 +116,24 @@ after_told first s s' promised promised' log log' notes x event answer h k its g
 }
 
 -- where nothing is told beside it
-pub after_call : (first : Image) (s s' : State) (promised promised' : ℕ) (log log' : Logged) (notes : Notes) (event : Event) (answer : CtlAnswer) → HasHistory first s promised log notes → Kept s → IsLibrary s.creds (library_of event) → GivenEvent s event → EndsNone event → Step s event answer s' → BesideFits s alone event answer s' → log'.entries ≡ log.entries ++ entries_made s alone event answer → length log'.entries + promised' ≤ log'.room → HasHistory first s' promised' log' notes
-after_call first s s' promised promised' log log' notes event answer h k its given none step fits e room = after_told first s s' promised promised' log log' notes alone event answer h k its given none step fits e room
+pub after_call : (first : Image) (s s' : State) (begun begun' : List (Option Outline)) (promised promised' : ℕ) (log log' : Logged) (notes : Notes) (event : Event) (answer : CtlAnswer) → HasHistory first s begun promised log notes → Kept s → begun_by (underway_in s begun) (library_of event) ≡ None → begun' ≡ begun → IsLibrary s.creds (library_of event) → GivenEvent s event → EndsNone event → Step s event answer s' → BesideFits s alone event answer s' → log'.entries ≡ log.entries ++ entries_made s alone event answer → length log'.entries + promised' ≤ log'.room → HasHistory first s' begun' promised' log' notes
+after_call first s s' begun begun' promised promised' log log' notes event answer h k idle same its given none step fits e room = after_told first s s' begun begun' promised promised' log log' notes alone event answer h k idle same its given none step fits e room
 
 -- after read leases are given back, one after another
-pub backs_history : (first : Image) (s : State) (lib : LibNo) (back : List Shown) (promised promised' : ℕ) (log log' : Logged) (notes : Notes) → HasHistory first s promised log notes → IsLibrary s.creds lib.0 → AreBack s lib back → log'.entries ≡ log.entries ++ back_entries lib back → promised' + length back ≡ promised → length log'.entries + promised' ≤ log'.room → HasHistory first (all_back s lib back) promised' log' notes
-backs_history first s lib [] promised promised' log log' notes h its b given less room = record {
+pub backs_history : (first : Image) (s : State) (lib : LibNo) (back : List Shown) (begun : List (Option Outline)) (promised promised' : ℕ) (log log' : Logged) (notes : Notes) → HasHistory first s begun promised log notes → begun_by (underway_in s begun) lib.0 ≡ None → IsLibrary s.creds lib.0 → AreBack s lib back → log'.entries ≡ log.entries ++ back_entries lib back → promised' + length back ≡ promised → length log'.entries + promised' ≤ log'.room → HasHistory first (all_back s lib back) begun promised' log' notes
+backs_history first s lib [] begun promised promised' log log' notes h idle its b given less room = record {
   all = subst (λ es. IsRecorded (recorded first s es)) (sym (given ∙ append-nil log.entries)) h.all;
+  underway = h.underway;
   room = room;
   mine = h.mine;
   lent = h.lent;
   noted = h.noted;
 }
-backs_history first s lib (f ∷ fs) promised promised' log log' notes h its b given less room =
+backs_history first s lib (f ∷ fs) begun promised promised' log log' notes h idle its b given less room =
     let mid : Logged = record { entries = log.entries ++ entry.Back lib f.ino ∷ []; room = length (log.entries ++ entry.Back lib f.ino ∷ []) + (promised' + length fs) } in
-    backs_history first (given_back s lib.0 f.ino) lib fs (promised' + length fs) promised' mid log' notes
-    (after_call first s (given_back s lib.0 f.ino) promised (promised' + length fs) log mid notes (Back lib.0 f.ino) Done h h.all.kept its b.0 tt (inl (refl, refl)) tt refl (omega arith))
-    its b.1 (given ∙ sym (append_assoc log.entries (entry.Back lib f.ino ∷ []) (back_entries lib fs))) refl room
+    backs_history first (given_back s lib.0 f.ino) lib fs begun (promised' + length fs) promised' mid log' notes
+    (after_call first s (given_back s lib.0 f.ino) begun begun promised (promised' + length fs) log mid notes (Back lib.0 f.ino) Done h h.all.kept idle refl its b.0 tt (inl (refl, refl)) tt refl (omega arith))
+    (idle_in s (given_back s lib.0 f.ino) begun lib.0 idle) its b.1 (given ∙ sym (append_assoc log.entries (entry.Back lib f.ino ∷ []) (back_entries lib fs))) refl room
 
 -- one entry more, for which there were two places, and at most one promised more
 pub one_more_room : (es : List Entry) (e : Entry) (p p' room : ℕ) → length es + p + 2 ≤ room → p' ≤ p + 1 → length (es ++ e ∷ []) + p' ≤ room
@@ -160,8 +165,8 @@ grants_library s lib ino kind mine g = by (mine lib)
 
 -- ---- the start
 
-pub begins : (sb : Superblock) (pages : List (Option (List ℕ))) (creds : List Creds) (log : Logged) (notes : Notes) → IsVerified sb pages → log.entries ≡ [] → notes ≡ notes_by_rows (image_in sb pages).core (image_in sb pages).rows → HasHistory (image_in sb pages) (start (image_in sb pages) creds) 0 log notes
-begins sb pages creds log notes v empty noted =
+pub begins : (sb : Superblock) (pages : List (Option (List ℕ))) (creds : List Creds) (begun : List (Option Outline)) (log : Logged) (notes : Notes) → IsVerified sb pages → begun ≡ replicate (length creds) None → log.entries ≡ [] → notes ≡ notes_by_rows (image_in sb pages).core (image_in sb pages).rows → HasHistory (image_in sb pages) (start (image_in sb pages) creds) begun 0 log notes
+begins sb pages creds begun log notes v none empty noted =
     let image = image_in sb pages in
     let k = image_kept sb pages creds v in
     let whole : IsWhole image = λ p gone core. whole_none pages p v.whole.whole gone in
@@ -169,6 +174,7 @@ begins sb pages creds log notes v empty noted =
     let positive : 0 < image.core.range.first = omega (arith, facts.first_owner, facts.first_core) in
     record {
       all = subst (λ l. IsRecorded (recorded image (start image creds) l)) (sym empty) (history_begins image creds k.fit k.verifies whole);
+      underway = underway_begins image creds begun k none;
       room = (let n : length log.entries ≡ 0 = ap (λ (l : List Entry). length l) empty in omega (arith, n));
       mine = λ lib. inr refl;
       lent = record { files = λ g f i. absurd i; holds = λ g h i. absurd i };

@@ -1,6 +1,6 @@
 -- A settle of what is ready: what holds once the read leases are back, and after it.
 use Rattle.std.proofs.Common.{◌≡◌, ◌+◌, ◌-◌, ◌≤◌, ◌==◌, ℕ, Bool, true, false, not, ◌&&◌, ◌||◌, List, [], ◌∷◌, ◌++◌, map, length, length-append, Option, Some, None, Result, Ok, Err, sym, refl, ap, ◌∙◌, subst, inl, inr, arith}
-use Rattle.std.specs.Prelude.{if◌then◌else◌, slice_index_or}
+use Rattle.std.specs.Prelude.{slice_index_or}
 use Rattle.std.specs.List.{filter, list_all, list_any}
 use Rattle.std.proofs.lemmas.Bool.{and_from, both_ways, eq-eqb, eqb-true, false_from_ne_true, false≢true, not-true, not_from_false}
 use Rattle.std.proofs.lemmas.List.{get_or_default, length-map}
@@ -36,10 +36,11 @@ use Rattle.trio_desk.specs.Call.{Ask, NotSettled, SeenAfter, Settle as SettleAsk
 use Rattle.trio_desk.specs.Ready.{AreLent, HandsInAll, Ready, bundle_of, leases_in, lent_files}
 use Rattle.trio_state.specs.Allotments.{has_none_out, is_library, out_after}
 use Rattle.trio_state.specs.Bundles.{Ends, has_all, is_in_bundle, parted_hold}
-use Rattle.trio_state.specs.Given.{GivenEvent, HasGrant, HasNoRead}
+use Rattle.trio_state.specs.Given.{GivenEvent, HasNoRead}
 use Rattle.trio_state.specs.Grants.{given_back}
 use Rattle.trio_state.specs.Kept.{Kept}
 use Rattle.trio_state.specs.Listed.{Notes}
+use Rattle.trio_state.specs.Moves.{Outline, begun_by}
 use Rattle.trio_state.specs.State.{OpenGrant, State, creds_of, settled}
 use Rattle.trio_state.specs.Step.{Back, Done, Release, Settle, Step, Parted, IsAccepted, IsRefused}
 use Rattle.trio_state.specs.Step as step
@@ -64,7 +65,7 @@ use Rattle.trio_laws.proofs.session.Settling.{settle_is_recorded}
 use Rattle.trio_ctl.specs.Answers.{verdict_of}
 use Rattle.trio_ctl.specs.Backs.{AreBack, all_back, back_entries}
 use Rattle.trio_ctl.specs.Desk.{Happens, desk_of, grants_of, out_of}
-use Rattle.trio_ctl.specs.Entries.{HasRoom, entries_of, reads_among}
+use Rattle.trio_ctl.specs.Entries.{HasRoom}
 use Rattle.trio_ctl.specs.HandedIn.{WereLent}
 use Rattle.trio_ctl.specs.Logged.{HasHistory, recorded}
 use Rattle.trio_ctl.specs.Open.{hold_of, shown_of}
@@ -72,6 +73,7 @@ use Rattle.trio_ctl.specs.declared.outcome.Outcome.{Outcome}
 use Rattle.trio_ctl.specs.inner.Modes.{is_back}
 use Rattle.trio_ctl.specs.inner.Outcomes.{IsOutcome, verdict_on}
 use Rattle.trio_ctl.specs.inner.Telling.{TellsOutcome, noted_by}
+use Rattle.trio_ctl.proofs.Underways.{idle_in, underway_after, underway_in}
 use Rattle.trio_ctl.proofs.LeasesBack.{all_back_is, are_back, backs_kept, backs_leave, left_out}
 use Rattle.trio_ctl.proofs.DeskGiven.{behind, given_to}
 use Rattle.trio_ctl.proofs.DeskOuts.{In-numbers_to, alike, ended_out, hold_is, left_numbers, read_is, written_among}
@@ -245,69 +247,13 @@ module _ (s : State) (lib : LibNo) (p : Parcel) (back : List Shown) (all : Hands
 
 -- ---- what the give backs leave
 
--- how many of these grants are for reading, one more at the front
-reads_more : (x : OpenGrant) (ys : List OpenGrant) (b : Bool) → is_read x.kind ≡ b → reads_among (x ∷ ys) ≡ (if b then 1 else 0) + reads_among ys
-reads_more x ys true e =
-    let n : ℕ = reads_among ys in
-    let one : length (x ∷ filter (λ (h : OpenGrant). is_read h.kind) ys) ≡ 1 + n = omega arith in
-    ap (λ (t : Bool). length (if t then x ∷ filter (λ (h : OpenGrant). is_read h.kind) ys else filter (λ (h : OpenGrant). is_read h.kind) ys)) e ∙ one
-reads_more x ys false e =
-    let n : ℕ = reads_among ys in
-    let none : n ≡ 0 + n = omega arith in
-    ap (λ (t : Bool). length (if t then x ∷ filter (λ (h : OpenGrant). is_read h.kind) ys else filter (λ (h : OpenGrant). is_read h.kind) ys)) e ∙ none
-
-passed : (p : OpenGrant → Bool) (x : OpenGrant) (xs : List OpenGrant) (a : Bool) → p x ≡ a → filter p (x ∷ xs) ≡ (if a then x ∷ filter p xs else filter p xs)
-passed p x xs a e = ap (λ (t : Bool). if t then x ∷ filter p xs else filter p xs) e
-
-reads_fewer : (p : OpenGrant → Bool) (gs : List OpenGrant) → reads_among (filter p gs) ≤ reads_among gs
-reads_fewer p [] = omega arith
-reads_fewer p (x ∷ xs) = by (p x) refl (reads_fewer p xs)
-  where
-    by : (a : Bool) → p x ≡ a → reads_among (filter p xs) ≤ reads_among xs → reads_among (filter p (x ∷ xs)) ≤ reads_among (x ∷ xs)
-    by true e h =
-        let f = ap reads_among (passed p x xs true e) in
-        let u = reads_more x (filter p xs) (is_read x.kind) refl in
-        let v = reads_more x xs (is_read x.kind) refl in
-        omega (arith, h, f, u, v)
-    by false e h =
-        let f = ap reads_among (passed p x xs false e) in
-        let v = reads_more x xs (is_read x.kind) refl in
-        omega (arith, h, f, v)
-
--- where one of them goes
-reads_less : (p : OpenGrant → Bool) (gs : List OpenGrant) (g : OpenGrant) → In g gs → is_read g.kind ≡ true → p g ≡ false → reads_among (filter p gs) + 1 ≤ reads_among gs
-reads_less p [] g i read gone = absurd i
-reads_less p (x ∷ xs) g (inl same) read gone =
-    let f = ap reads_among (passed p x xs false (ap p (sym same) ∙ gone)) in
-    let v = reads_more x xs true (ap (λ (y : OpenGrant). is_read y.kind) (sym same) ∙ read) in
-    let h = reads_fewer p xs in
-    omega (arith, f, v, h)
-reads_less p (x ∷ xs) g (inr i) read gone = by (p x) refl (reads_less p xs g i read gone)
-  where
-    by : (a : Bool) → p x ≡ a → reads_among (filter p xs) + 1 ≤ reads_among xs → reads_among (filter p (x ∷ xs)) + 1 ≤ reads_among (x ∷ xs)
-    by true e h =
-        let f = ap reads_among (passed p x xs true e) in
-        let u = reads_more x (filter p xs) (is_read x.kind) refl in
-        let v = reads_more x xs (is_read x.kind) refl in
-        omega (arith, h, f, u, v)
-    by false e h =
-        let f = ap reads_among (passed p x xs false e) in
-        let v = reads_more x xs (is_read x.kind) refl in
-        omega (arith, h, f, v)
-
 -- a promised entry is made by each give back
-pub room_then : (s : State) (lib : LibNo) (back : List Shown) → AreBack s lib back → HasRoom (entries_of s) 1 → HasRoom (entries_of (all_back s lib back)) 1
-room_then s lib back b room = backs_leave (λ t. HasRoom (entries_of t) 1) s lib back one room b
-  where
-    one : (t : State) (ino : ℕ) → HasRoom (entries_of t) 1 → HasGrant t lib.0 ino Read → HasRoom (entries_of (given_back t lib.0 ino)) 1
-    one t ino r g =
-        let own : (g.grant.lib == lib.0) ≡ true = eq-eqb g.grant.lib lib.0 g.lib in
-        let on : (g.grant.ino == ino) ≡ true = eq-eqb g.grant.ino ino g.ino in
-        let read : is_read g.grant.kind ≡ true = ap is_read g.kind in
-        let gone : not (g.grant.lib == lib.0 && g.grant.ino == ino && is_read g.grant.kind) ≡ false =
-        ap not (and_from (g.grant.lib == lib.0 && g.grant.ino == ino) (is_read g.grant.kind) (and_from (g.grant.lib == lib.0) (g.grant.ino == ino) own on) read) in
-        let less = reads_less (λ (x : OpenGrant). not (x.lib == lib.0 && x.ino == ino && is_read x.kind)) t.open_grants g.grant g.is_open read gone in
-        omega (arith, less, r)
+pub room_then : (log log' : List Entry) (lib : LibNo) (back : List Shown) (n n' p p' : ℕ) → length log ≡ n → length log' ≡ n' → log' ≡ log ++ back_entries lib back → p' + length back ≡ p
+    → HasRoom (record { made = n; promised = p }) 1 → HasRoom (record { made = n'; promised = p' }) 1
+room_then log log' lib back n n' p p' made made' given less room =
+    let a = ap length given ∙ length-append log (back_entries lib back) in
+    let m = length-map back (λ (f : Shown). entry.Back lib f.ino) in
+    omega (arith, a, m, made, made', less, room)
 
 -- the places for the promised entries and for one more are there still
 pub places_then : (es : List Entry) (lib : LibNo) (back : List Shown) (p p' room : ℕ) → length es + p + 1 ≤ room → p' + length back ≡ p → length (es ++ back_entries lib back) + p' + 1 ≤ room
@@ -399,27 +345,28 @@ module _ (s : State) (lib : LibNo) (b : Bundled) (back : List Shown) (calls : Li
   settled_then s' v st = record { back = back_in_turn s lib p back ready.all; given = given_then; is_step = settle_step s' v st; lease = tt }
 
   -- what holds of the log and of the notes
-  pub after_settle : (first : Image) (s' : State) (promised promised' : ℕ) (log mid log' : Logged) (notes notes' : Notes) (outcome : Outcome) (told : Told) (v : ReleaseAnswer)
-      → HasHistory first s promised log notes → IsLibrary s.creds lib.0 → WereLent s lib.0 b.writes → ((f : LentFile) → In f b.writes → KeepsUntouched f)
+  pub after_settle : (first : Image) (s' : State) (begun begun' : List (Option Outline)) (promised promised' : ℕ) (log mid log' : Logged) (notes notes' : Notes) (outcome : Outcome) (told : Told) (v : ReleaseAnswer)
+      → HasHistory first s begun promised log notes → begun_by (underway_in s begun) lib.0 ≡ None → begun' ≡ begun → IsLibrary s.creds lib.0 → WereLent s lib.0 b.writes → ((f : LentFile) → In f b.writes → KeepsUntouched f)
       → IsOutcome (case_in s lib.0 (bundle_in b)) outcome → TellsOutcome (case_in s lib.0 (bundle_in b)) notes (handed_in b) outcome told
       → v ≡ verdict_on outcome → Step then' (Release lib.0 (bundle_in b)) (verdict_of v) s' → notes' ≡ noted_by v told.files notes
       → mid.entries ≡ log.entries ++ back_entries lib back → promised' + length back ≡ promised → length mid.entries + promised' ≤ mid.room
       → log'.entries ≡ mid.entries ++ entry.Batch lib calls (handed_in b) ∷ [] → length log'.entries + promised' ≤ log'.room
-      → HasHistory first s' promised' log' notes'
-  after_settle first s' promised promised' log mid log' notes notes' outcome told v h its lent keeps o tells verdict st noted' backs less room e room' =
+      → HasHistory first s' begun' promised' log' notes'
+  after_settle first s' begun begun' promised promised' log mid log' notes notes' outcome told v h idle stay its lent keeps o tells verdict st noted' backs less room e room' =
       let kept : Kept then' = m.judgeable.kept in
-      let h' : HasHistory first then' promised' mid notes = backs_history first s lib back promised promised' log mid notes h its (back_in_turn s lib p back ready.all) backs less room in
+      let h' : HasHistory first then' begun promised' mid notes = backs_history first s lib back begun promised promised' log mid notes h idle its (back_in_turn s lib p back ready.all) backs less room in
       let its' : IsLibrary then'.creds lib.0 = subst (λ (x : State). IsLibrary x.creds lib.0) (sym (all_back_is s lib back)) its in
       let same : case_in s lib.0 (bundle_in b) ≡ case_in then' lib.0 (bundle_in b) = sym (case_then s lib back (bundle_in b) k (back_in_turn s lib p back ready.all)) in
       let o' : IsOutcome (case_in then' lib.0 (bundle_in b)) outcome = subst (λ c. IsOutcome c outcome) same o in
       let tells' : TellsOutcome (case_in then' lib.0 (bundle_in b)) notes (handed_in b) outcome told = subst (λ c. TellsOutcome c notes (handed_in b) outcome told) same tells in
       let end : Step then' (Settle lib.0 (bundle_in b)) step.Settled s' = settle_step s' v st in
-      let marks = marks_fit then' lib.0 b kept (lent_then s lib back b.writes lent) keeps in
+      let marks = marks_fit then' lib.0 b kept (λ f i. inl (lent_then s lib back b.writes lent f i)) keeps in
       let released : Step then' (Release lib.0 (bundle_in b)) (verdict_of (verdict_on outcome)) s' = subst (λ x. Step then' (Release lib.0 (bundle_in b)) (verdict_of x) s') verdict st in
       record {
         all =
             subst (λ es. IsRecorded (recorded first s' es)) (sym e)
             (settle_is_recorded (recorded first then' mid.entries) s' (desk_of s lib) p back calls (handed_in b) h'.all its' m ready (no_read_then s lib p back ready.all) (handed_is b) marks end);
+        underway = underway_after then' s' begun begun' (Settle lib.0 (bundle_in b)) step.Settled h'.underway (idle_in s then' begun lib.0 idle) given_then end stay;
         room = room';
         mine = still_mine then' (Settle lib.0 (bundle_in b)) step.Settled s' kept given_then end its' h'.mine;
         lent = step_keeps_lent then' (Settle lib.0 (bundle_in b)) step.Settled s' kept h'.all.whole given_then end h'.lent;

@@ -25,10 +25,12 @@ use Rattle.trio_tables.proofs.OutLemmas.{lib_at-none_out}
 use Rattle.trio_checkpoint.specs.Covered.{Checkpointed}
 use Rattle.trio_commit.specs.declared.store.Store.{Store}
 use Rattle.trio_commit.specs.Store.{checkpoint_at, state_of, with_checkpoint}
+use Rattle.trio_state.specs.Moves.{Outline}
 use Rattle.trio_ctl.specs.Ctl.{IsControlled}
-use Rattle.trio_ctl.specs.Entries.{Entries, reads_among}
+use Rattle.trio_ctl.specs.Entries.{Entries, begun_among, reads_among}
 use Rattle.trio_ctl.specs.Open.{Opened, grants_in, keyed}
 use Rattle.trio_ctl.specs.Stored.{superblock_at_home}
+use Rattle.trio_ctl.proofs.Underways.{none_among}
 use Rattle.trio_ctl.proofs.Wholes.{cond_there, whole_at, whole_none}
 
 pub image_kept : (s : Superblock) (pages : List (Option (List ℕ))) (creds : List Creds) → IsVerified s pages → Kept (start (image_in s pages) creds)
@@ -98,9 +100,9 @@ module _ (sb : Superblock) (pages : List (Option (List ℕ))) (s : Store) (first
       ∙ ap (λ x. S sb.pages sb.inodes sb.first_core x) root
       ∙ ap (λ (x : ℕ). record sb { first_owner = x }) (sym facts.first_owner)
 
-  pub started : (table : List Keyed) → s.checkpoints.items ≡ replicate (sb.inodes + 1) None → table ≡ [] → 1 ≤ length creds → length creds ≤ 16
-      → IsControlled s first table files creds entries
-  started table nothing none some few = record {
+  pub started : (table : List Keyed) (begun : List (Option Outline)) → s.checkpoints.items ≡ replicate (sb.inodes + 1) None → table ≡ [] → begun ≡ replicate (length creds) None → 1 ≤ length creds → length creds ≤ 16
+      → IsControlled s first table files creds entries begun
+  started table begun nothing none idle some few = record {
     stored = record {
       fits = subst (λ (x : Superblock). IsTrue (superblock_fits x)) (sym same_superblock) v.whole.superblock.read.fits;
       places = ap length nothing ∙ length-replicate (sb.inodes + 1) None ∙ sym many;
@@ -114,7 +116,8 @@ module _ (sb : Superblock) (pages : List (Option (List ℕ))) (s : Store) (first
     grants = none ∙ ap (map keyed) (sym empty);
     keys_once = ap (λ fs. are_new [] (map (λ (o : Opened). o.key) fs)) empty;
     earlier = λ o i. absurd (no_file o i);
-    promised = ap (λ (n : Entries). n.promised) new ∙ ap (λ fs. reads_among (grants_in fs)) (sym empty);
+    placed = ap length idle ∙ length-replicate (length creds) None;
+    promised = ap (λ (n : Entries). n.promised) new ∙ ap (λ fs. reads_among (grants_in fs) + 0) (sym empty) ∙ ap (λ n. reads_among (grants_in files) + n) (sym (ap begun_among idle ∙ none_among (length creds)));
     kinds = λ o i. absurd (no_file o i);
     told = λ g i hold. absurd (nobody g i);
   }

@@ -1,6 +1,7 @@
 -- What contracts see of the controller.
-use Rattle.std.proofs.Common.{◌≡◌, ℕ, ap, sym, ◌∙◌}
-use Rattle.trio_ctl.specs.Ctl.{Controller, Registered}
+use Rattle.std.proofs.Common.{◌≡◌, ℕ, ap, subst, sym, ◌∙◌}
+use Rattle.trio_ctl.specs.Ctl.{Controller, IsIdle, Registered}
+use Rattle.trio_ctl.specs.inner.Beginning.{underway_at}
 
 -- the state of what is seen
 pub state_is : {a b : Registered} → a ≡ b → a.state ≡ b.state
@@ -13,3 +14,11 @@ next_is next e = next ∙ ap (λ (x : Registered). x.state.entries) (sym e)
 -- the state of what is seen of the controller
 pub seen_state : {a b : Controller} → a ≡ b → a.state ≡ b.state
 seen_state e = ap (λ (x : Controller). x.state) e
+
+-- a library is idle by what is seen of the controller
+pub seen_idle : {a b : Controller} (lib : ℕ) → a ≡ b → IsIdle b lib → IsIdle a lib
+seen_idle lib e idle = subst (λ (x : Controller). IsIdle x lib) (sym e) idle
+
+-- what is underway, by what is seen of the registry
+pub underway_is : {a b : Registered} → a ≡ b → underway_at a ≡ underway_at b
+underway_is e = ap underway_at e

@@ -18,6 +18,7 @@ use Rattle.trio_nodes.specs.declared.answers.ReleaseAnswer.{ReleaseAnswer}
 use Rattle.trio_nodes.specs.declared.answers.ReleaseAnswer.TheVariants.{Accepted as AcceptedBundle, Refused as RefusedBundle}
 use Rattle.trio_nodes.specs.declared.answers.ReleaseFault.{ReleaseFault}
 use Rattle.trio_nodes.specs.declared.answers.ReleaseFault.TheVariants.{NotClosed as NotClosedBundle, NoMemory as NoReleaseMemory}
+use Rattle.trio_state.specs.Moves.{ActAnswer, Answered, HasBegun}
 use Rattle.trio_state.specs.Step.{CtlAnswer, Granted, NotGranted, Given, NoPages, NoInodes, Accepted, Refused, NotClosed, NotModeSet, NoMemory}
 use Rattle.trio_ctl.specs.declared.image.ImageFault.{ImageFault}
 use Rattle.trio_ctl.specs.declared.image.ImageFault.TheVariants.{Busy, NoMemory as NoImageMemory}
@@ -50,6 +51,11 @@ verdict_of (RefusedBundle rule ino page slot) = Refused (record { rule = rule; i
 abbrev pub release_answer : {B : Type 0} → Result ReleaseAnswer B → (B → ReleaseFault) → CtlAnswer
 release_answer (Ok answer) fault = verdict_of answer
 release_answer (Err back) fault = release_fault_answer (fault back)
+
+-- that a release has begun, or that its bundle came back
+abbrev pub begin_answer : {A B : Type 0} → Result A B → (B → ReleaseFault) → ActAnswer
+begin_answer (Ok begun) fault = HasBegun
+begin_answer (Err back) fault = Answered (release_fault_answer (fault back))
 
 -- that more is wanted than is free
 abbrev pub allot_fault_answer : AllotFault → CtlAnswer

@@ -17,12 +17,13 @@ use Rattle.trio_layout.specs.Superblock.{page_count}
 use Rattle.trio_layout.specs.Core.{Core}
 use Rattle.trio_layout.specs.Image.{Image, with_core_pages}
 use Rattle.trio_state.specs.Grants.{holder_of}
+use Rattle.trio_state.specs.Moves.{Outline, Underway, begun_by}
 use Rattle.trio_state.specs.State.{OpenGrant, State, settled}
 use Rattle.trio_tables.specs.Out.{NoneOut, lib_at}
 use Rattle.trio_survey.specs.Stored.{StoresImage}
 use Rattle.trio_image.specs.Image.{ImagePages, IsVerified, TablesAre}
 use Rattle.trio_commit.specs.declared.store.Store.{Store}
-use Rattle.trio_ctl.specs.Entries.{Entries, reads_among}
+use Rattle.trio_ctl.specs.Entries.{Entries, begun_among, reads_among}
 use Rattle.trio_ctl.specs.Open.{Opened, grants_in, keyed}
 use Rattle.trio_ctl.specs.Stored.{IsStored}
 
@@ -36,9 +37,11 @@ superblock_for core = record {
   root = core.root;
 }
 
--- what is seen of the registry: its state, how often home was looked at, and how many entries are promised
+-- what is seen of the registry: its state, of each library, from library 1 on, the outline of its release that has begun and not
+-- ended, how often home was looked at, and how many entries are promised
 pub record Registered : Type 0 where
   pub state : State
+  pub begun : List (Option Outline)
   pub looked : ℕ
   pub promised : ℕ
 
@@ -47,14 +50,27 @@ pub record Spare : Type 0 where
   pub entries : ℕ
   pub bytes : ℕ
 
--- what contracts see of the controller: its state, the image that it began from, its log, how often home was looked at, and what is
--- spare
+-- what contracts see of the controller: its state, of each library, from library 1 on, the outline of its release that has begun and
+-- not ended, the image that it began from, its log, how often home was looked at, and what is spare
 pub record Controller : Type 0 where
   pub state : State
+  pub begun : List (Option Outline)
   pub first : Image
   pub log : List Entry
   pub looked : ℕ
   pub spare : Spare
+
+-- the state of the controller, with the releases that have begun and not ended
+abbrev pub underway_of : Controller → Underway
+underway_of c = record { state = c.state; begun = c.begun }
+
+-- no release of the library has begun and not ended
+abbrev pub IsIdle : Controller → ℕ → Type 0
+IsIdle c lib = begun_by (underway_of c) lib ≡ None
+
+-- no release of any library has
+abbrev pub NoneBegun : Controller → Type 0
+NoneBegun c = (lib : ℕ) → IsIdle c lib
 
 -- the file of each of these grants is live, and of the kind that the grant lent
 abbrev pub HaveKinds : List (Option Row) → List Opened → Type 0
@@ -70,9 +86,10 @@ abbrev pub AreAsTold : State → Type 0
 AreAsTold s = HoldsAreTold s.home.rows s.open_grants
 
 -- What holds of what the controller keeps: the store is that of the open grants, the number 0 isn't out, there are 1 to 16
--- libraries, the table of grants has just the open ones, which are of earlier entries under keys of their own, and an entry is
--- promised for each open read grant; the file of each grant is of the grant's kind, and each hold told its directory.
-pub record IsControlled (s : Store) (first_core : ℕ) (table : List Keyed) (files : List Opened) (creds : List Creds) (entries : Entries) : Type 0 where
+-- libraries, the table of grants has just the open ones, which are of earlier entries under keys of their own, there is a place for
+-- a release of each library, and an entry is promised for each open read grant and for each release that has begun; the file of
+-- each grant is of the grant's kind, and each hold told its directory.
+pub record IsControlled (s : Store) (first_core : ℕ) (table : List Keyed) (files : List Opened) (creds : List Creds) (entries : Entries) (begun : List (Option Outline)) : Type 0 where
   pub stored : IsStored s first_core (grants_in files) creds entries.made
   pub no_zero : lib_at s.allotments.numbers 0 ≡ None
   pub some_libraries : 1 ≤ length creds
@@ -80,7 +97,8 @@ pub record IsControlled (s : Store) (first_core : ℕ) (table : List Keyed) (fil
   pub grants : table ≡ map keyed files
   pub keys_once : IsTrue (are_new [] (map (λ o. o.key) files))
   pub earlier : (o : Opened) → In o files → o.grant.entry < entries.made
-  pub promised : entries.promised ≡ reads_among (grants_in files)
+  pub placed : length begun ≡ length creds
+  pub promised : entries.promised ≡ reads_among (grants_in files) + begun_among begun
   pub kinds : HaveKinds s.rows files
   pub told : HoldsAreTold s.rows (grants_in files)
 

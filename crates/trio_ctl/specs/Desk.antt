@@ -119,10 +119,12 @@ entries_told s lib ask told =
     back_entries lib (backs_of ask told)
     ++ entries_made (all_back s lib (handed_back ask)) (beside_of ask) (event_of lib ask) (answer_of told)
 
--- a call adds its entries to the log of the controller, and leaves the image that the controller began from
+-- a call adds its entries to the log of the controller, and leaves the image that the controller began from; no release begins or
+-- ends in it
 pub record LogsCall (old : Controller) (lib : LibNo) (ask : Ask) (told : Told) (new : Controller) : Type 0 where
   pub log : new.log ≡ old.log ++ entries_told old.state lib ask told
   pub first : new.first ≡ old.first
+  pub begun : new.begun ≡ old.begun
 
 -- ---- a call as steps
 

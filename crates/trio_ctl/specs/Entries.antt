@@ -1,8 +1,9 @@
 -- The entries of a history, by their number.
-use Rattle.std.specs.Prelude.{ℕ, ◌+◌, ◌<◌, ◌^◌, List, length}
-use Rattle.std.specs.List.{filter}
+use Rattle.std.specs.Prelude.{ℕ, ◌+◌, ◌<◌, ◌^◌, List, length, Option, is_some}
+use Rattle.std.specs.List.{count_by, filter}
 use Rattle.trio_nodes.specs.GrantKinds.{is_read}
-use Rattle.trio_state.specs.State.{OpenGrant, State}
+use Rattle.trio_state.specs.Moves.{Outline}
+use Rattle.trio_state.specs.State.{OpenGrant}
 
 -- how many were made, and how many are promised
 pub record Entries : Type 0 where
@@ -13,9 +14,9 @@ pub record Entries : Type 0 where
 abbrev pub reads_among : List OpenGrant → ℕ
 reads_among grants = length (filter (λ g. is_read g.kind) grants)
 
--- the entries of a state: the end of each open read grant is promised one
-abbrev pub entries_of : State → Entries
-entries_of s = record { made = s.entries; promised = reads_among s.open_grants }
+-- how many releases have begun and not ended
+abbrev pub begun_among : List (Option Outline) → ℕ
+begun_among begun = count_by is_some begun
 
 -- there is room for so many entries beside those that are promised
 abbrev pub HasRoom : Entries → ℕ → Type 0

@@ -1,8 +1,9 @@
 -- What is handed in beside what the steps see of a bundle.
-use Rattle.std.specs.Prelude.{◌≡◌, ℕ, List}
+use Rattle.std.specs.Prelude.{◌≡◌, ◌⊎◌, ℕ, true, List}
 use Rattle.trio_nodes.specs.declared.grant.GrantKind.TheVariants.{Hold, Write}
 use Rattle.trio_lease.specs.Shown.{LentFile}
 use Rattle.trio_lease.specs.declared.parts.HoldParts.{HoldParts}
+use Rattle.trio_lease.specs.declared.parts.LentPage.{LentPage}
 use Rattle.trio_lists.specs.Lists.{In}
 use Rattle.trio_state.specs.State.{OpenGrant, State}
 use Rattle.trio_ctl.specs.Open.{shown_of}
@@ -33,3 +34,11 @@ pub record WasLentAs (s : State) (lib' : ℕ) (f : LentFile) : Type 0 where
 -- each of these leases does so
 abbrev pub WereLent : State → ℕ → List LentFile → Type 0
 WereLent s lib files = (f : LentFile) → In f files → WasLentAs s lib f
+
+-- each of these blocks is marked as touched
+abbrev pub AreTouched : List LentPage → Type 0
+AreTouched blocks = (p : LentPage) → In p blocks → p.touched ≡ true
+
+-- each of these leases shows as lent what an open write grant of the library lent, or all of its blocks are marked as touched
+abbrev pub WereLentOrTouched : State → ℕ → List LentFile → Type 0
+WereLentOrTouched s lib files = (f : LentFile) → In f files → WasLentAs s lib f ⊎ AreTouched f.stands.blocks

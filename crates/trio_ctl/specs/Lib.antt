@@ -6,6 +6,7 @@ pub mod HandedIn
 pub mod Room
 pub mod Belonging
 pub mod Logged
+pub mod Pending
 pub mod Answers
 pub mod Backs
 pub mod Desk

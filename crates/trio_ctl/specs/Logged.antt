@@ -9,6 +9,7 @@ use Rattle.trio_nodes.specs.declared.entry.Entry.{Entry}
 use Rattle.trio_log.specs.Logged.{Logged}
 use Rattle.trio_entries.specs.Handed.{handed_in}
 use Rattle.trio_state.specs.Listed.{Notes}
+use Rattle.trio_state.specs.Moves.{KeptUnderway, Outline}
 use Rattle.trio_state.specs.State.{State, settled}
 use Rattle.trio_laws.specs.OutLaws.{grants_to}
 use Rattle.trio_state.specs.Step.{Event, CtlAnswer}
@@ -40,10 +41,12 @@ with_bundle b = with_calls b []
 abbrev pub entries_made : State → Beside → Event → CtlAnswer → List Entry
 entries_made s x event answer = option_to_list (entry_of s x event answer)
 
--- A call adds to the log the entry that its event and answer make, and nothing else, and leaves the image that the controller began from.
+-- A call adds to the log the entry that its event and answer make, and nothing else; it leaves the image that the controller began
+-- from, and no release begins or ends in it.
 pub record Logs (old : Controller) (x : Beside) (event : Event) (answer : CtlAnswer) (new : Controller) : Type 0 where
   pub log : new.log ≡ old.log ++ entries_made old.state x event answer
   pub first : new.first ≡ old.first
+  pub begun : new.begun ≡ old.begun
 
 -- what is recorded of a controller that began from this image
 abbrev pub recorded : Image → State → List Entry → Recorded
@@ -53,10 +56,12 @@ recorded first s log = record { first = first; state = s; nodes = nodes_of s; lo
 abbrev pub AreMine : State → Type 0
 AreMine s = (lib : ℕ) → IsLibrary s.creds lib ⊎ (grants_to s.open_grants lib ≡ [])
 
--- What holds of the log and of the notes: all is recorded, there are places for the entries that are promised, each open grant is of
--- one of the libraries, what the open grants lent is true, and the notes are of the files of the settled image.
-pub record HasHistory (first : Image) (s : State) (promised : ℕ) (log : Logged) (notes : Notes) : Type 0 where
+-- What holds of the log and of the notes: all is recorded, what has begun is closed and was given, there are places for the entries
+-- that are promised, each open grant is of one of the libraries, what the open grants lent is true, and the notes are of the files of
+-- the settled image.
+pub record HasHistory (first : Image) (s : State) (begun : List (Option Outline)) (promised : ℕ) (log : Logged) (notes : Notes) : Type 0 where
   pub all : IsRecorded (recorded first s log.entries)
+  pub underway : KeptUnderway (record { state = s; begun = begun })
   pub room : length log.entries + promised ≤ log.room
   pub mine : AreMine s
   pub lent : LentIsTrue s

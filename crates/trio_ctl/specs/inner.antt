@@ -1,3 +1,4 @@
+pub mod Beginning
 pub mod Belonging
 pub mod Denials
 pub mod Lending
@@ -7,4 +8,5 @@ pub mod Pages
 pub mod Parting
 pub mod Reads
 pub mod Room
+pub mod Same
 pub mod Telling

@@ -29,6 +29,7 @@ impl Registry {
         ensures inodes { IfOk result (λ given. given.inodes.items ≡ map (fresh_number lib) (inode_numbers given.inodes.items)) }
         ensures was_kept { Kept self.old.state }
         ensures kept { Kept self.new.state }
+        ensures begun { self.new.begun ≡ self.old.begun }
         ensures promised { self.new.promised ≡ self.old.promised }
     {
         let Ok(()) = self.history.make_room(entry, 1) else {

@@ -26,6 +26,7 @@ pub(crate) fn give_back_all(
     requires room { length log.old.entries + registry.old.promised ≤ log.old.room }
     requires kept { Kept registry.old.state }
     ensures state { registry.new.state ≡ all_back registry.old.state lib back.items }
+    ensures begun { registry.new.begun ≡ registry.old.begun }
     ensures promised { registry.new.promised + length back.items ≡ registry.old.promised }
     ensures looked { registry.new.looked ≡ registry.old.looked }
     ensures entry { length log.new.entries ≡ registry.new.state.entries }

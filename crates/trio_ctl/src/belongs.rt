@@ -208,7 +208,7 @@ fn is_out_to(lib: LibNo, other: Option<LibNo>) -> bool
 }
 
 /// A thing of a bundle that goes by a number.
-trait Numbered {
+pub(crate) trait Numbered {
     ghost number_of: { Self → ℕ };
 
     /// Its number: a file's inode number, an allotted page's number, or an allotted inode number.

@@ -10,7 +10,7 @@ ghost use Rattle.trio_state.specs.Grants.{opened};
 ghost use Rattle.trio_state.specs.Kept.{Kept};
 ghost use Rattle.trio_state.specs.Step.{Allot, Back, Done, Grant, Step};
 ghost use Rattle.trio_ctl.specs.Answers.{allot_answer, grant_answer};
-ghost use Rattle.trio_ctl.specs.Ctl.{IsLibrary};
+ghost use Rattle.trio_ctl.specs.Ctl.{IsIdle, IsLibrary};
 ghost use Rattle.trio_ctl.specs.Logged.{Logs, alone};
 ghost use Rattle.trio_ctl.specs.Open.{lent_by};
 ghost use Rattle.trio_ctl.specs.inner.Telling.{HasRoomFrom, allot_told, grant_told};
@@ -37,6 +37,7 @@ impl Ctl {
     /// log that has or has promised as many entries as a `u64` counts has no memory for more.
     pub fn grant(&mut self, lib: LibNo, ino: u32, kind: GrantKind) -> Result<Lease, GrantFault>
         requires library { IsLibrary lib self.old.state }
+        requires idle { IsIdle self.old lib.0 }
         ensures step { Step self.old.state (Grant lib.0 ino kind) (grant_answer result) self.new.state }
         ensures logs { Logs self.old alone (Grant lib.0 ino kind) (grant_answer result) self.new }
         ensures lease { IfOk result (λ lease. IsSomeAnd (row_at self.old.state.home ino)
@@ -69,6 +70,7 @@ impl Ctl {
     /// entries as a `u64` counts has no memory for one more.
     pub fn allot(&mut self, lib: LibNo, pages: u32, inodes: u32) -> Result<Allotted, AllotFault>
         requires library { IsLibrary lib self.old.state }
+        requires idle { IsIdle self.old lib.0 }
         ensures step { Step self.old.state (Allot lib.0 pages inodes) (allot_answer result) self.new.state }
         ensures logs { Logs self.old alone (Allot lib.0 pages inodes) (allot_answer result) self.new }
         ensures pages { IfOk result (λ given. given.pages.items ≡ map (fresh_page lib) (page_numbers given.pages.items)) }
@@ -101,6 +103,7 @@ impl Ctl {
     /// has an open read grant on its file. Takes no memory: the room for its entry was made with the
     /// grant.
     pub fn give_back(&mut self, lease: ReadLease)
+        requires idle { IsIdle self.old lease.lib.0 }
         requires given { HasGrant self.old.state lease.lib.0 lease.ino Read }
         ensures step { Step self.old.state (Back lease.lib.0 lease.ino) Done self.new.state }
         ensures logs { Logs self.old alone (Back lease.lib.0 lease.ino) Done self.new }

@@ -1,6 +1,6 @@
 //! The controller.
 
-ghost use Rattle.std.specs.Prelude.{◌≡◌, ◌≤◌, ◌+◌, ◌↔◌, ℕ, [], IfErr, IfOk, IsTrue, OnOk, length, vec_len};
+ghost use Rattle.std.specs.Prelude.{◌≡◌, ◌≤◌, ◌+◌, ◌↔◌, ℕ, [], IfErr, IfOk, IsTrue, None, OnOk, length, replicate, vec_len};
 ghost use Rattle.trio_lease.specs.Views.{bundle_in};
 ghost use Rattle.trio_desk.specs.Contents.{AreWithinLimits};
 ghost use Rattle.trio_state.specs.Given.{GivenTo};
@@ -12,7 +12,7 @@ ghost use Rattle.trio_laws.specs.session.Lent.{LentIsTrue, sizes_of};
 ghost use Rattle.trio_survey.specs.Stored.{image_in};
 ghost use Rattle.trio_ctl.specs.Answers.{TellsImage, TellsLastImage};
 ghost use Rattle.trio_ctl.specs.Belonging.{Belongs};
-ghost use Rattle.trio_ctl.specs.Ctl.{AreAsTold, IsLibrary, TellsSettled, writer_of};
+ghost use Rattle.trio_ctl.specs.Ctl.{AreAsTold, IsIdle, IsLibrary, NoneBegun, TellsSettled, writer_of};
 ghost use Rattle.trio_ctl.specs.HandedIn.{WereHeld};
 ghost use Rattle.trio_ctl.specs.Logged.{recorded};
 ghost use Rattle.trio_ctl.specs.Room.{room_for};
@@ -29,13 +29,17 @@ use trio_log::Log;
 use trio_page::NoMemory;
 use trio_rights::{Creds, LibNo};
 
-/// The controller of one image: what it keeps of the image, the grants that are open, the
-/// credentials of its libraries, and its log.
+/// The controller of one image: what it keeps of the image, the grants that are open, the releases
+/// that have begun and not ended, the credentials of its libraries, and its log.
+///
+/// A library makes a call only while it is idle ([`idle`](Self::idle)): while no release of it has begun
+/// and not ended.
 ///
 /// Contracts see a `Controller` of `specs/Ctl.antt`: the `State` of which the controller's steps
-/// speak, which is always kept; the image that it began from and the log, which is always legal from
-/// that image's nodes to those for which the state stands, and replays to the state (`HasHistory`);
-/// how often a page at home was looked at; and what is spare.
+/// speak, which is always kept; of each library the outline of its release that has begun and not
+/// ended, whose bundle was given to it and is closed; the image that it began from and the log, which is
+/// always legal from that image's nodes to those for which the state stands, and replays to the state
+/// (`HasHistory`); how often a page at home was looked at; and what is spare.
 #[derive(Drop)]
 pub struct Ctl {
     pub(crate) registry: Registry,
@@ -57,13 +61,14 @@ impl Model for Ctl {
 
     ghost view = { λ c. record {
       state = c.registry.state;
+      begun = c.registry.begun;
       first = image_in c.first.value.superblock c.first.value.pages;
       log = c.log.entries;
       looked = c.registry.looked;
       spare = record { entries = c.log.room - (length c.log.entries + c.registry.promised); bytes = vec_capacity c.spare };
     } };
 
-    ghost invariant = { λ c. HasHistory (image_in c.first.value.superblock c.first.value.pages) c.registry.state c.registry.promised c.log c.notes };
+    ghost invariant = { λ c. HasHistory (image_in c.first.value.superblock c.first.value.pages) c.registry.state c.registry.begun c.registry.promised c.log c.notes };
 }
 
 impl Ctl {
@@ -76,6 +81,8 @@ impl Ctl {
         ensures first { IfOk result (λ ctl. ctl.first ≡ image_in image.superblock image.pages) }
         ensures log { IfOk result (λ ctl. ctl.log ≡ []) }
         ensures kept { IfOk result (λ ctl. Kept ctl.state) }
+        ensures begun { IfOk result (λ ctl. ctl.begun ≡ replicate (length libs.items) None) }
+        ensures idle { IfOk result NoneBegun }
         ensures back { IfErr result (λ back. back.0 ≡ image) }
     {
         let mut image = image;
@@ -138,6 +145,13 @@ impl Ctl {
         ensures { LentIsTrue self.now.state }
     {
         let _ = &self.log;
+    }
+
+    /// Whether no release of a library has begun and not ended. Takes no memory.
+    pub fn idle(&self, lib: LibNo) -> bool
+        ensures { IsTrue result ↔ IsIdle self.now lib.0 }
+    {
+        self.registry.is_idle(lib)
     }
 
     // the credentials of a library
@@ -215,6 +229,7 @@ impl Ctl {
         ensures answer { TellsLastImage (writer_of self.state) result (λ back. back.1) }
         ensures image { IfOk result (TellsSettled self.state) }
         ensures back { IfErr result (λ back. back.0.state ≡ self.state) }
+        ensures begun { IfErr result (λ back. back.0.begun ≡ self.begun) }
         ensures log { IfErr result (λ back. (back.0.log ≡ self.log) × (back.0.first ≡ self.first)) }
         ensures kept { Kept self.state }
     {

@@ -1,7 +1,7 @@
 //! The desk of one library over the controller itself.
 
 ghost use Rattle.std.specs.Prelude.{◌≡◌};
-ghost use Rattle.trio_ctl.specs.Ctl.{IsLibrary};
+ghost use Rattle.trio_ctl.specs.Ctl.{IsIdle, IsLibrary};
 ghost use Rattle.trio_ctl.specs.Desk.{Happens, LogsCall, desk_of};
 
 use crate::ctl::Ctl;
@@ -19,15 +19,17 @@ use trio_rights::{Creds, LibNo};
 pub struct PlainDesk<'a> {
     /// The controller.
     pub ctl: &'a mut Ctl,
-    /// The library, which is one of the controller's.
+    /// The library, which is one of the controller's and idle.
     pub lib: LibNo,
     pub ghost is_library: { IsLibrary lib ctl.now.state },
+    pub ghost is_idle: { IsIdle ctl.now lib.0 },
 }
 
 impl<'a> PlainDesk<'a> {
     /// The desk of a library. When it is let go, the controller is as the desk left it.
     pub fn of(ctl: &'a mut Ctl, lib: LibNo) -> PlainDesk<'a>
         requires library { IsLibrary lib ctl.old.state }
+        requires idle { IsIdle ctl.old lib.0 }
         ensures same_reference { result.ctl.ghost_name ≡ ctl.entry.ghost_name }
         ensures ctl { result.ctl.now ≡ ctl.old }
         ensures lib { result.lib ≡ lib }

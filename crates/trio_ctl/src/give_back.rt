@@ -22,6 +22,7 @@ impl Registry {
         ensures step { Step self.old.state (Back lease.lib.0 lease.ino) Done self.new.state }
         ensures was_kept { Kept self.old.state }
         ensures kept { Kept self.new.state }
+        ensures begun { self.new.begun ≡ self.old.begun }
         ensures promised { self.new.promised + 1 ≡ self.old.promised }
         ensures looked { self.new.looked ≡ self.old.looked }
     {

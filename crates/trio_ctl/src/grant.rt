@@ -42,6 +42,7 @@ impl Registry {
             (λ r. lease ≡ lent_by (opened self.old.state lib.0 ino kind r))) }
         ensures was_kept { Kept self.old.state }
         ensures kept { Kept self.new.state }
+        ensures begun { self.new.begun ≡ self.old.begun }
         ensures promised { self.new.promised ≤ self.old.promised + 1 }
     {
         let Some(row) = self.store.rows.row(ino) else {
@@ -85,6 +86,7 @@ impl Registry {
     fn log_refusal(&mut self, entry: u64, fault: GrantFault) -> GrantFault
         requires { entry ≡ self.old.state.entries }
         ensures answer { ((result ≡ fault) × (self.new.state ≡ logged self.old.state)) ⊎ ((result ≡ NoGrantMemory) × (self.new.state ≡ self.old.state)) }
+        ensures begun { self.new.begun ≡ self.old.begun }
         ensures promised { self.new.promised ≡ self.old.promised }
     {
         if let Err(NoMemory) = self.history.make_room(entry, 1) {
@@ -109,6 +111,7 @@ impl Registry {
         ensures step { Step self.old.state (Grant lib.0 ino Write) (grant_answer result) self.new.state }
         ensures lease { IfOk result (λ lease. lease
             ≡ lent_by (opened self.old.state lib.0 ino Write (as_row row.now))) }
+        ensures begun { self.new.begun ≡ self.old.begun }
         ensures promised { self.new.promised ≡ self.old.promised }
     {
         let range = self.range();

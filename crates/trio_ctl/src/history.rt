@@ -77,6 +77,23 @@ impl History {
         self.promised += 1;
     }
 
+    /// Promises an entry, for which there is room. Takes no memory.
+    pub(crate) fn promise(&mut self)
+        requires { HasRoom self.old 1 }
+        ensures { self.new ≡ record self.old { promised = self.old.promised + 1 } }
+    {
+        self.promised += 1;
+    }
+
+    /// Takes the promise of an entry back, so that there is room to make it. Takes no memory.
+    pub(crate) fn withdraw(&mut self)
+        requires { 0 < self.old.promised }
+        ensures less { self.new ≡ record self.old { promised = self.old.promised - 1 } }
+        ensures room { HasRoom self.new 1 }
+    {
+        self.promised -= 1;
+    }
+
     /// Makes an entry that was promised. Takes no memory.
     pub(crate) fn enter_promised(&mut self, made: u64)
         requires made { made ≡ self.old.made }

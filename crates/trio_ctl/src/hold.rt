@@ -48,6 +48,7 @@ impl Registry {
         ensures step { Step self.old.state (Grant lib.0 ino Hold) (grant_answer result) self.new.state }
         ensures lease { IfOk result (λ lease. lease
             ≡ lent_by (opened self.old.state lib.0 ino Hold (as_row row.now))) }
+        ensures begun { self.new.begun ≡ self.old.begun }
         ensures promised { self.new.promised ≡ self.old.promised }
     {
         let Ok(()) = self.history.make_room(entry, 1) else {

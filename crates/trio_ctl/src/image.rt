@@ -27,6 +27,7 @@ impl Registry {
         ensures answer { TellsImage (writer_of self.old.state) result }
         ensures image { IfOk result (TellsSettled self.old.state) }
         ensures state { self.new.state ≡ self.old.state }
+        ensures begun { self.new.begun ≡ self.old.begun }
         ensures promised { self.new.promised ≡ self.old.promised }
         ensures kept { Kept self.old.state }
     {
@@ -62,6 +63,7 @@ impl Registry {
         ensures answer { TellsLastImage (writer_of self.state) result (λ back. back.1) }
         ensures image { IfOk result (TellsSettled self.state) }
         ensures back { IfErr result (λ back. back.0.state ≡ self.state) }
+        ensures begun { IfErr result (λ back. back.0.begun ≡ self.begun) }
         ensures promised { IfErr result (λ back. back.0.promised ≡ self.promised) }
         ensures kept { Kept self.state }
     {

@@ -4,17 +4,24 @@
 //! `specs/State.antt`. `Kept` holds of it in every state that it is in, and all is recorded in its log
 //! (`specs/Logged.antt`).
 //!
+//! A release is one call, or two moves with a pause between them, in which others go on: `Ctl::begin` takes
+//! a bundle in, and gives a [`Pending`]; that is weighed without the controller, which gives a
+//! [`Judged`]; and `Ctl::finish` ends it. `specs/Pending.antt` has what contracts see of the two.
+//!
 //! A registry, which is private, does the steps; the controller logs them.
 #![tactic(auto)]
 
 mod allot;
 mod backs;
+mod begin;
+mod begun;
 mod belongs;
 mod calls;
 mod closing;
 mod ctl;
 pub mod desk_laws;
 mod desks;
+mod full;
 mod give_back;
 mod grant;
 mod history;
@@ -26,12 +33,15 @@ mod modes;
 mod numbers;
 mod open;
 mod outcome;
+mod outline;
 mod parted;
+mod pending;
 mod read;
 mod registry;
 mod release;
 mod releases;
 mod room;
+mod same;
 mod settle;
 mod start;
 mod stored;
@@ -39,3 +49,5 @@ mod stored;
 pub use ctl::Ctl;
 pub use desks::PlainDesk;
 pub use image::ImageFault;
+pub use pending::{Judged, Pending};
+pub use trio_entries::handed::copied;

@@ -68,6 +68,7 @@ impl Registry {
         requires entry { entry ≡ self.old.state.entries }
         requires room { HasRoom (record { made = self.old.state.entries; promised = self.old.promised }) 1 }
         ensures state { self.new.state ≡ logged self.old.state }
+        ensures begun { self.new.begun ≡ self.old.begun }
         ensures promised { self.new.promised ≡ self.old.promised }
         ensures was_kept { Kept self.old.state }
     {
@@ -81,6 +82,7 @@ impl Registry {
         requires free { (by : ℕ) × (mode_fault self.old.state by ino mode (row_at self.old.state.home ino) ≡ None) }
         requires room { HasRoom (record { made = self.old.state.entries; promised = self.old.promised }) 1 }
         ensures state { self.new.state ≡ (moded_to self.old.state ino mode None).after }
+        ensures begun { self.new.begun ≡ self.old.begun }
         ensures promised { self.new.promised ≡ self.old.promised }
     {
         let Some(row) = self.store.rows.row(ino) else {

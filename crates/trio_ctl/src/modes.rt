@@ -4,7 +4,7 @@ ghost use Rattle.std.specs.Prelude.{◌≡◌, IfErr};
 ghost use Rattle.trio_desk.specs.Call.{SetMode, call_back, mode_told};
 ghost use Rattle.trio_desk.specs.Ready.{AreLent, TellsChmod};
 ghost use Rattle.trio_state.specs.Kept.{Kept};
-ghost use Rattle.trio_ctl.specs.Ctl.{IsLibrary};
+ghost use Rattle.trio_ctl.specs.Ctl.{IsIdle, IsLibrary};
 ghost use Rattle.trio_ctl.specs.Desk.{Happens, LogsCall, desk_of, out_of};
 ghost use Rattle.trio_ctl.specs.inner.Modes.{busy_holder};
 
@@ -43,6 +43,7 @@ impl Ctl {
         call: Option<Call>,
     ) -> Result<(), (Vec<ReadLease>, Option<Call>, ModeFault)>
         requires library { IsLibrary lib self.old.state }
+        requires idle { IsIdle self.old lib.0 }
         requires lent { AreLent (out_of self.old.state lib) back.items }
         requires chmod { TellsChmod (desk_of self.old.state lib) back.items ino mode call }
         ensures happens { Happens self.old.state lib (SetMode ino mode back.items call) (mode_told result (λ came. came.2)) self.new.state }

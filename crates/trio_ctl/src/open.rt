@@ -2,6 +2,7 @@
 
 ghost use Rattle.std.specs.Prelude.{◌≡◌};
 ghost use Rattle.trio_ctl.specs.Open.{grant_kept};
+ghost use Rattle.trio_ctl.specs.inner.Beginning.{is_held_so};
 ghost use Rattle.trio_ctl.specs.inner.Belonging.{is_hold_by};
 
 use std::marker::Model;
@@ -83,6 +84,18 @@ impl OpenFile {
             Lent::Read(_) => GrantKind::Read,
             Lent::Write(_) => GrantKind::Write,
             Lent::Hold(_) => GrantKind::Hold,
+        }
+    }
+
+    /// Whether the grant is the library's hold on the file of this hold, and lent the body that it has.
+    pub(crate) fn lent_body_of(&self, lib: LibNo, hold: &HoldLease) -> bool
+        ensures { result ≡ is_held_so lib hold.now self.now.grant }
+    {
+        match &self.lent {
+            Lent::Hold(given) => {
+                self.lib == lib && self.ino == hold.ino() && given.body == *hold.body()
+            }
+            Lent::Read(_) | Lent::Write(_) => false,
         }
     }
 

@@ -3,8 +3,10 @@
 ghost use Rattle.std.specs.Prelude.{◌≡◌};
 ghost use Rattle.trio_layout.specs.Case.{Case};
 ghost use Rattle.trio_layout.specs.Listing.{listing};
+ghost use Rattle.trio_judge.specs.Verdicts.{HasFewEntries};
 ghost use Rattle.trio_edges.specs.Leaves.{RegularFilesAreLeaves};
-ghost use Rattle.trio_ctl.specs.inner.Outcomes.{IsOutcome, IsVerdict};
+ghost use Rattle.trio_ctl.specs.Pending.{IsVerdict};
+ghost use Rattle.trio_ctl.specs.inner.Outcomes.{HasFew, IsOutcome};
 
 use trio_edges::edges;
 use trio_judge::{Listing, Verdict};
@@ -27,7 +29,8 @@ pub(crate) enum Outcome {
 /// What comes of a bundle with this verdict: rule I3 is asked after I1 and I2, and before I4.
 pub(crate) fn outcome_of(verdict: Verdict, rows: &Shadow) -> Outcome
     requires { (c : Case) × IsVerdict c verdict × (c.rows ≡ rows.now) × RegularFilesAreLeaves (listing c) rows.now }
-    ensures { (c : Case) → IsVerdict c verdict → c.rows ≡ rows.now → IsOutcome c result }
+    ensures outcome { (c : Case) → IsVerdict c verdict → c.rows ≡ rows.now → IsOutcome c result }
+    ensures few { (c : Case) → HasFewEntries c verdict → HasFew c.bundle result }
 {
     match verdict {
         Verdict::Sound(listing) => match edges(&listing, rows) {

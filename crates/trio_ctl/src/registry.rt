@@ -1,12 +1,14 @@
 //! What a controller keeps of its image, and the grants that are open.
 
-ghost use Rattle.std.specs.Prelude.{◌≡◌, length, min};
+ghost use Rattle.std.specs.Prelude.{◌≡◌, ◌↔◌, IsTrue, None, length, min};
 ghost use Rattle.trio_desk.specs.Contents.{AreWithinLimits};
 ghost use Rattle.trio_state.specs.Allotments.{free_numbers, free_pages};
+ghost use Rattle.trio_state.specs.Moves.{begun_by};
 ghost use Rattle.trio_state.specs.State.{creds_of};
 ghost use Rattle.trio_laws.specs.session.Lent.{sizes_of};
 ghost use Rattle.trio_ctl.specs.Ctl.{AreAsTold, IsLibrary, superblock_for};
 
+use crate::begun::Begun;
 use crate::history::History;
 use crate::open::OpenFile;
 use std::alloc::Global;
@@ -22,7 +24,8 @@ use trio_tables::Shadow;
 /// the next entry.
 ///
 /// Contracts see a `Registered` of `specs/Ctl.antt`: the `State` of which the steps speak, which is
-/// always kept, how often a page at home was looked at, and how many entries are promised.
+/// always kept, the outline of each library's release that has begun and not ended, how often a page at
+/// home was looked at, and how many entries are promised.
 #[derive(Drop)]
 pub(crate) struct Registry {
     pub(crate) alloc: Global,
@@ -33,6 +36,8 @@ pub(crate) struct Registry {
     pub(crate) files: Vec<OpenFile>,
     // library n has the n-th, counted from 1
     pub(crate) libs: Vec<Creds>,
+    // of library n, counted from 1, the n-th is its release that has begun and not ended
+    pub(crate) begun: Vec<Option<Begun>>,
     pub(crate) history: History,
 }
 
@@ -45,11 +50,12 @@ impl Model for Registry {
 
     ghost view = { λ c. record {
       state = state_of c.store c.first_core (grants_in c.files.items) c.libs.items c.history.made;
+      begun = c.begun.items;
       looked = c.store.home.looked;
       promised = c.history.promised;
     } };
 
-    ghost invariant = { λ c. IsControlled c.store c.first_core c.grants c.files.items c.libs.items c.history };
+    ghost invariant = { λ c. IsControlled c.store c.first_core c.grants c.files.items c.libs.items c.history c.begun.items };
 }
 
 impl Registry {
@@ -80,11 +86,22 @@ impl Registry {
         self.alloc
     }
 
-    /// How many entries are promised: one for the end of each open read grant.
+    /// How many entries are promised: one for the end of each open read grant, and one for that of each
+    /// release that has begun.
     pub(crate) fn promised(&self) -> u64
         ensures { result ≡ self.now.promised }
     {
         self.history.promised()
+    }
+
+    /// Whether no release of a library has begun and not ended. Takes no memory.
+    pub(crate) fn is_idle(&self, lib: LibNo) -> bool
+        ensures { IsTrue result ↔ (begun_by (record { state = self.now.state; begun = self.now.begun }) lib.0 ≡ None) }
+    {
+        let Some(place) = lib.0.checked_sub(1) else {
+            return true;
+        };
+        !matches!(self.begun.get(place as usize), Some(Some(_)))
     }
 
     /// The rows of the image.

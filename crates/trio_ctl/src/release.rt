@@ -6,28 +6,66 @@ ghost use Rattle.trio_lease.specs.Views.{bundle_in};
 ghost use Rattle.trio_layout.specs.Copied.{with_copied};
 ghost use Rattle.trio_judge.specs.Cases.{IsJudgeable, case_in as case_shown};
 ghost use Rattle.trio_judge.specs.Judging.{IsJudgeRoom};
+ghost use Rattle.trio_judge.specs.Verdicts.{HasFewEntries};
 ghost use Rattle.trio_state.specs.Bundles.{parted_hold};
 ghost use Rattle.trio_state.specs.Given.{GivenTo};
 ghost use Rattle.trio_state.specs.Kept.{Kept};
+ghost use Rattle.trio_state.specs.Moves.{Answered, Beginning};
 ghost use Rattle.trio_state.specs.Step.{Release, Step};
 ghost use Rattle.trio_state.specs.Tells.{case_in};
+ghost use Rattle.trio_laws.specs.RuleLaws.{IsJudgeable as CanBeJudged};
 ghost use Rattle.trio_ctl.specs.Answers.{release_fault_answer, verdict_of};
 ghost use Rattle.trio_ctl.specs.Ctl.{IsLibrary};
-ghost use Rattle.trio_ctl.specs.Entries.{HasRoom, entries_of};
+ghost use Rattle.trio_ctl.specs.Entries.{HasRoom};
 ghost use Rattle.trio_ctl.specs.HandedIn.{WereHeld};
-ghost use Rattle.trio_ctl.specs.inner.Outcomes.{IsOutcome, verdict_on};
+ghost use Rattle.trio_ctl.specs.Pending.{IsVerdict, case_made};
+ghost use Rattle.trio_ctl.specs.inner.Beginning.{underway_at};
+ghost use Rattle.trio_ctl.specs.inner.Outcomes.{HasFew, IsOutcome, verdict_on};
 
 use crate::closing::end_files;
 use crate::outcome::{Outcome, outcome_of};
 use crate::parted::parted_hold;
 use crate::registry::Registry;
-use trio_judge::{Case, Room, judge};
+use trio_judge::{Case, Room, Verdict, judge};
 use trio_lease::Bundle;
 use trio_nodes::{ReleaseAnswer, ReleaseFault};
 use trio_page::{NoMemory, Reads};
 use trio_rights::LibNo;
 
 impl Registry {
+    /// Takes a closed bundle: its case, and the room to judge it, where there is room for an entry more.
+    /// Nothing has begun yet. With a fault the bundle comes back.
+    pub(crate) fn taken_in(
+        &self,
+        entry: u64,
+        lib: LibNo,
+        bundle: Bundle,
+    ) -> Result<(Case, Room), (Bundle, ReleaseFault)>
+        requires entry { entry ≡ self.now.state.entries }
+        requires library { IsLibrary lib self.now.state }
+        requires given { GivenTo self.now.state lib.0 (bundle_in bundle) }
+        requires held { WereHeld self.now.state lib.0 bundle.holds }
+        ensures case { IfOk result (λ made. made.0 ≡ case_made self.now.state lib bundle) }
+        ensures room { IfOk result (λ made. IsJudgeRoom made.0 made.1) }
+        ensures judgeable { IfOk result (λ made. IsJudgeable made.0.bundle self.now.state.home.rows made.0.range made.0.inodes) }
+        ensures closed { IsOk result → parted_hold self.now.state lib.0 (bundle_in bundle) ≡ None }
+        ensures places { IsOk result → HasRoom (record { made = self.now.state.entries; promised = self.now.promised }) 1 }
+        ensures kept { Kept self.now.state }
+        ensures fault { IfErr result (λ back. Beginning (underway_at self.now) lib.0 (bundle_in bundle) (Answered (release_fault_answer back.1)) (underway_at self.now)) }
+        ensures back { IfErr result (λ back. back.0 ≡ bundle) }
+    {
+        if let Some(ino) = parted_hold(&self.files, &self.store.rows, lib, &bundle) {
+            return Err((bundle, ReleaseFault::NotClosed(ino)));
+        }
+        let Ok(()) = self.history.make_room(entry, 1) else {
+            return Err((bundle, ReleaseFault::NoMemory));
+        };
+        match self.case_of(lib, bundle) {
+            Ok(made) => Ok(made),
+            Err((bundle, NoMemory)) => Err((bundle, ReleaseFault::NoMemory)),
+        }
+    }
+
     /// Judges what a library hands in, and ends nothing yet: the case of its bundle, and what comes of it.
     /// With a fault the bundle comes back.
     pub(crate) fn judged(
@@ -46,23 +84,17 @@ impl Registry {
         ensures judgeable { IfOk result (λ made. IsJudgeable made.0.bundle self.now.state.home.rows made.0.range made.0.inodes) }
         ensures closed { IsOk result → parted_hold self.now.state lib.0 (bundle_in bundle) ≡ None }
         ensures outcome { IfOk result (λ made. IsOutcome (case_in self.now.state lib.0 (bundle_in bundle)) made.1) }
-        ensures room { IsOk result → HasRoom (entries_of self.now.state) 1 }
-        ensures fault { IfErr result (λ back. Step self.now.state (Release lib.0 (bundle_in bundle)) (release_fault_answer back.1) self.now.state) }
+        ensures few { IfOk result (λ made. HasFew (bundle_in bundle) made.1) }
+        ensures room { IsOk result → HasRoom (record { made = self.now.state.entries; promised = self.now.promised }) 1 }
         ensures back { IfErr result (λ back. back.0 ≡ bundle) }
         ensures reads { reads.new ≤ reads.old + 2 * length (bundle_pages (bundle_in bundle)) }
     {
-        if let Some(ino) = parted_hold(&self.files, &self.store.rows, lib, &bundle) {
-            return Err((bundle, ReleaseFault::NotClosed(ino)));
-        }
-        let Ok(()) = self.history.make_room(entry, 1) else {
-            return Err((bundle, ReleaseFault::NoMemory));
-        };
-        let (case, room) = match self.case_of(lib, bundle) {
+        let (case, room) = match self.taken_in(entry, lib, bundle) {
             Ok(made) => made,
-            Err((bundle, NoMemory)) => return Err((bundle, ReleaseFault::NoMemory)),
+            Err(back) => return Err(back),
         };
         let verdict = judge(&case, room, reads);
-        let outcome = outcome_of(verdict, &self.store.rows);
+        let outcome = self.outcome(&case, verdict);
         Ok((case, outcome))
     }
 
@@ -72,8 +104,7 @@ impl Registry {
         requires given { GivenTo self.now.state lib.0 (bundle_in bundle) }
         requires held { WereHeld self.now.state lib.0 bundle.holds }
         requires closed { parted_hold self.now.state lib.0 (bundle_in bundle) ≡ None }
-        ensures bundle { IfOk result (λ made. made.0.bundle ≡ bundle) }
-        ensures case { IfOk result (λ made. case_shown made.0 ≡ with_copied (case_in self.now.state lib.0 (bundle_in bundle))) }
+        ensures case { IfOk result (λ made. made.0 ≡ case_made self.now.state lib bundle) }
         ensures room { IfOk result (λ made. IsJudgeRoom made.0 made.1) }
         ensures judgeable { IfOk result (λ made. IsJudgeable made.0.bundle self.now.state.home.rows made.0.range made.0.inodes) }
         ensures back { IfErr result (λ back. back.0 ≡ bundle) }
@@ -96,6 +127,20 @@ impl Registry {
         }
     }
 
+    /// What comes of a bundle that was given and is closed, whose case has the rows, the bodies and the
+    /// sizes of now: rule I3 is asked of the rows of now.
+    pub(crate) fn outcome(&self, case: &Case, verdict: Verdict) -> Outcome
+        requires judgeable { CanBeJudged self.now.state case.now.lib.0 (bundle_in case.now.bundle) }
+        requires copied { case_shown case.now ≡ with_copied (case_in self.now.state case.now.lib.0 (bundle_in case.now.bundle)) }
+        requires verdict { IsVerdict (case_shown case.now) verdict }
+        requires few { HasFewEntries (case_shown case.now) verdict }
+        ensures outcome { IsOutcome (case_in self.now.state case.now.lib.0 (bundle_in case.now.bundle)) result }
+        ensures few { HasFew (bundle_in case.now.bundle) result }
+    {
+        let _case = case;
+        outcome_of(verdict, &self.store.rows)
+    }
+
     /// Puts a judged bundle in place, which is closed, or rolls it back; there is room for an entry. Takes
     /// no memory.
     pub(crate) fn conclude(
@@ -107,7 +152,7 @@ impl Registry {
         reads: &mut Reads,
     ) -> ReleaseAnswer
         requires entry { entry ≡ self.old.state.entries }
-        requires room { HasRoom (entries_of self.old.state) 1 }
+        requires room { HasRoom (record { made = self.old.state.entries; promised = self.old.promised }) 1 }
         requires given { GivenTo self.old.state lib.0 (bundle_in case.bundle) }
         requires closed { parted_hold self.old.state lib.0 (bundle_in case.bundle) ≡ None }
         requires outcome { IsOutcome (case_in self.old.state lib.0 (bundle_in case.bundle)) outcome }
@@ -117,6 +162,7 @@ impl Registry {
         ensures reads { reads.new ≤ reads.old + length (bundle_pages (bundle_in case.bundle)) + length (bundle_in case.bundle).writes }
         ensures was_kept { Kept self.old.state }
         ensures kept { Kept self.new.state }
+        ensures begun { self.new.begun ≡ self.old.begun }
         ensures promised { self.new.promised ≡ self.old.promised }
     {
         end_files(&mut self.files, &mut self.grants, lib, &case);

@@ -7,14 +7,13 @@ ghost use Rattle.trio_desk.specs.Call.{Settle, settle_told};
 ghost use Rattle.trio_desk.specs.Out.{parcel_of};
 ghost use Rattle.trio_desk.specs.Ready.{Ready};
 ghost use Rattle.trio_state.specs.Kept.{Kept};
-ghost use Rattle.trio_ctl.specs.Ctl.{IsLibrary};
+ghost use Rattle.trio_ctl.specs.Ctl.{IsIdle, IsLibrary};
 ghost use Rattle.trio_ctl.specs.Desk.{Happens, LogsCall, desk_of};
 
 use crate::backs::give_back_all;
 use crate::ctl::{Ctl, make_places};
 use crate::releases::{note, told};
-use trio_entries::Told;
-use trio_entries::handed::copied;
+use trio_entries::{Draft, Told};
 use trio_lease::{Bundle, ReadLease};
 use trio_nodes::{Done, Entry, List};
 use trio_page::{NoMemory, Reads};
@@ -41,6 +40,7 @@ impl Ctl {
         calls: Vec<Done>,
     ) -> Result<(), (Bundle, Vec<ReadLease>, Vec<Done>, NoMemory)>
         requires library { IsLibrary lib self.old.state }
+        requires idle { IsIdle self.old lib.0 }
         requires ready { Ready (desk_of self.old.state lib) (parcel_of bundle) back.items calls.items }
         ensures happens { Happens self.old.state lib (Settle (parcel_of bundle) back.items calls.items) (settle_told result) self.new.state }
         ensures logs { LogsCall self.old lib (Settle (parcel_of bundle) back.items calls.items) (settle_told result) self.new }
@@ -64,23 +64,21 @@ impl Ctl {
             Err((bundle, _)) => return Err((bundle, back, calls, NoMemory)),
         };
         let alloc = self.registry.alloc();
-        let Ok(handed) = copied(alloc, case.bundle()) else {
+        let Ok(draft) = Draft::with(alloc, &case) else {
             return Err((case.into_bundle(), back, calls, NoMemory));
         };
         let rows = self.registry.rows();
-        let Ok(told) = told(alloc, rows, &self.notes, &case, &outcome, &handed) else {
-            return Err((case.into_bundle(), back, calls, NoMemory));
-        };
+        let told = told(draft, rows, &self.notes, &case, &outcome);
         give_back_all(&mut self.registry, &mut self.log, lib, back);
         let verdict = self
             .registry
             .conclude(self.log.len(), lib, case, outcome, &mut reads);
-        let Told { files, blocks } = told;
+        let Told { files, bundle } = told;
         note(&mut self.notes, verdict, files.as_slice());
         self.log.push(Entry::Batch {
             lib,
             calls: List::from_vec(calls),
-            handed,
+            handed: bundle.into_handed(),
         });
         Ok(())
     }

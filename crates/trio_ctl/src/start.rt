@@ -1,10 +1,11 @@
 //! The start of a controller.
 
-ghost use Rattle.std.specs.Prelude.{◌≡◌, ◌≤◌, ◌+◌, IfErr, IfOk, None, replicate, vec_len};
+ghost use Rattle.std.specs.Prelude.{◌≡◌, ◌≤◌, ◌+◌, IfErr, IfOk, None, length, replicate, vec_len};
 ghost use Rattle.trio_state.specs.Kept.{Kept};
 ghost use Rattle.trio_state.specs.Run.{start};
 ghost use Rattle.trio_survey.specs.Stored.{image_in};
 
+use crate::begun::Begun;
 use crate::history::History;
 use crate::registry::Registry;
 use std::alloc::Global;
@@ -27,6 +28,7 @@ impl Registry {
         requires few { vec_len libs ≤ 16 }
         ensures started { IfOk result (λ ctl. ctl.state ≡ start (image_in image.superblock image.pages) libs.items) }
         ensures kept { IfOk result (λ ctl. Kept ctl.state) }
+        ensures begun { IfOk result (λ ctl. ctl.begun ≡ replicate (length libs.items) None) }
         ensures promised { IfOk result (λ ctl. ctl.promised ≡ 0) }
         ensures back { IfErr result (λ back. back.0 ≡ image) }
     {
@@ -35,6 +37,9 @@ impl Registry {
             return Err((image, NoMemory));
         };
         let Ok(checkpoints) = no_checkpoints(alloc, superblock.inodes) else {
+            return Err((image, NoMemory));
+        };
+        let Ok(begun) = none_begun(alloc, libs.len()) else {
             return Err((image, NoMemory));
         };
         let root = superblock.root;
@@ -53,6 +58,7 @@ impl Registry {
             grants: GrantTable::new(alloc),
             files: Vec::new(alloc),
             libs,
+            begun,
             history: History::new(),
         })
     }
@@ -69,4 +75,16 @@ fn no_checkpoints(alloc: Global, inodes: u32) -> Result<Vec<Option<Checkpoint>>,
         checkpoints.push(None)?;
     }
     Ok(checkpoints)
+}
+
+// A place for a release of each of so many libraries; none has begun. `NoMemory`: there was no memory
+// for them.
+fn none_begun(alloc: Global, libs: usize) -> Result<Vec<Option<Begun>>, NoMemory>
+    ensures { IfOk result (λ begun. begun.items ≡ replicate libs None) }
+{
+    let mut begun = Vec::with_capacity(alloc, libs)?;
+    for _i in 0..libs {
+        begun.push(None)?;
+    }
+    Ok(begun)
 }

@@ -70,6 +70,7 @@ pub record IsRunOf (acts : AnyActs) (run : AnyRun) : Type 0 where
       Run (start acts.image acts.creds) (map (λ m. m.event) (calls_of acts.moves)) (map (λ m. m.answer) (calls_of acts.moves))
       (underway_after (none_begun acts.image acts.creds) acts.moves).state
 
+-- to every run of acts there is one of calls
 abbrev pub ActsAreRun : Type 0
 ActsAreRun = (acts : AnyActs) → (run : AnyRun) × IsRunOf acts run
 
@@ -122,6 +123,7 @@ pub record BeginsAndEnds (run : AnyActs) (lib : ℕ) (begun ended : Bundle) : Ty
   pub end : ends.act ≡ End lib ended
   pub still : (m : ActMove) (b : Bundle) → In m between → m.act ≢ End lib b
 
+-- what was weighed of such a release is so where it ends
 abbrev pub WeighedStands : Type 0
 WeighedStands =
     (run : AnyActs) (lib : ℕ) (begun ended : Bundle) (r : BeginsAndEnds run lib begun ended)

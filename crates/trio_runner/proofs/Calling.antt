@@ -251,6 +251,7 @@ module _ {D N : Type 0} (called : D → Ask → Told → D → Type 0) (ctl : D 
     happen : AreMoves own x.state calls moves x'.state
     log_is : x'.log ≡ x.log ++ entries_of own calls moves
     first : x'.first ≡ x.first
+    begun : x'.begun ≡ x.begun
 
   happened : (d d' : D) (own : LibNo) (x x' : Controller) (calls : List Call) → lib d ≡ own → ctl d ≡ x → x' ≡ ctl d' → Calls called d calls d' → Happened own x x' calls
   happened d d' own x x' calls of at to made =
@@ -258,7 +259,7 @@ module _ {D N : Type 0} (called : D → Ask → Told → D → Type 0) (ctl : D 
       subst (λ y. Happened own x y calls) (sym to)
       (subst (λ y. Happened own y (ctl d') calls) at
       (subst (λ (l : LibNo). Happened l (ctl d) (ctl d') calls) of
-      (record { moves = m.moves; happen = m.happen; log_is = m.log_is; first = m.first })))
+      (record { moves = m.moves; happen = m.happen; log_is = m.log_is; first = m.first; begun = m.begun })))
 
   pub line_took : (d d' : D) (own : LibNo) (x x' : Controller) (has : Has) (line : ScriptLine RawLine) (answer : LineAnswer) (has' : Has) (told told' : Heard) → lib d ≡ own → ctl d ≡ x → x' ≡ ctl d' → LineCalled called d own has line.line answer d' has' → OnList (out_of (ctl d').state (lib d')) has' → told' ≡ with_answer told answer → TookTurn own (Says line) x (Things has) told x' (Things has') told'
   line_took d d' own x x' has line answer has' told told' of at to l on heard =
@@ -271,6 +272,7 @@ module _ {D N : Type 0} (called : D → Ask → Told → D → Type 0) (ctl : D 
         happen = h.happen;
         log_is = h.log_is;
         first = h.first;
+        begun = h.begun;
         goes = subst (λ (y : Controller). OnList (out_of y.state own) has') (sym to) (subst (λ (n : LibNo). OnList (out_of (ctl d').state n) has') (m.same_lib ∙ of) on);
       }
 
@@ -284,6 +286,7 @@ module _ {D N : Type 0} (called : D → Ask → Told → D → Type 0) (ctl : D 
         happen = h.happen;
         log_is = h.log_is;
         first = h.first;
+        begun = h.begun;
         goes = subst (OnList (out_of x'.state own)) (sym none) (nothing_on_list (out_of x'.state own));
       }
 
@@ -312,6 +315,7 @@ module _ {D N : Type 0} (called : D → Ask → Told → D → Type 0) (ctl : D 
         happen = subst (λ st. AreMoves own x.state n.0.calls n.0.moves st) (sym end) n.2.happen;
         log_is = ap (λ (y : Controller). y.log) to ∙ n.2.log_is;
         first = ap (λ (y : Controller). y.first) to ∙ n.2.first;
+        begun = ap (λ (y : Controller). y.begun) to ∙ n.2.begun;
         goes = subst (λ (y : Controller). MayCall (desk_of y.state own) s') (sym to) (subst (λ l. MayCall (desk_of (ctl d').state l) s') n.2.same_lib may);
       }
 
@@ -328,5 +332,6 @@ module _ {D N : Type 0} (called : D → Ask → Told → D → Type 0) (ctl : D 
         happen = subst (λ st. AreMoves own x.state n.0.calls n.0.moves st) (sym end) n.2.happen;
         log_is = ap (λ (y : Controller). y.log) to ∙ n.2.log_is;
         first = ap (λ (y : Controller). y.first) to ∙ n.2.first;
+        begun = ap (λ (y : Controller). y.begun) to ∙ n.2.begun;
         goes = subst (λ (y : Controller). MayCall (desk_of y.state own) s') (sym to) (subst (λ l. MayCall (desk_of (ctl d').state l) s') n.2.same_lib may);
       }

@@ -154,6 +154,7 @@ module _ {D N : Type 0} (called : D → Ask → Told → D → Type 0) (ctl : D 
     pub happen : AreMoves (lib d) (ctl d).state calls moves (ctl d').state
     pub log_is : (ctl d').log ≡ (ctl d).log ++ entries_of (lib d) calls moves
     pub first : (ctl d').first ≡ (ctl d).first
+    pub begun : (ctl d').begun ≡ (ctl d).begun
     pub same : name d' ≡ name d
     pub same_lib : lib d' ≡ lib d
 
@@ -163,6 +164,7 @@ module _ {D N : Type 0} (called : D → Ask → Told → D → Type 0) (ctl : D 
     happen = ap (λ x. (ctl x).state) e;
     log_is = ap (λ x. (ctl x).log) e ∙ sym (append-nil (ctl d).log);
     first = ap (λ x. (ctl x).first) e;
+    begun = ap (λ x. (ctl x).begun) e;
     same = ap name e;
     same_lib = ap lib e;
   }
@@ -178,6 +180,7 @@ module _ {D N : Type 0} (called : D → Ask → Told → D → Type 0) (ctl : D 
             ∙ append_assoc (ctl d).log own (entries_of (lib middle) calls rest.moves)
             ∙ ap (λ l. (ctl d).log ++ (own ++ entries_of l calls rest.moves)) first.2;
         first = rest.first ∙ first.3.first;
+        begun = rest.begun ∙ first.3.begun;
         same = rest.same ∙ first.1;
         same_lib = rest.same_lib ∙ first.2;
       }

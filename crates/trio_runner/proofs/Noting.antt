@@ -227,6 +227,7 @@ module _ {D N : Type 0} (called : D → Ask → Told → D → Type 0) (ctl : D 
     pub happen : AreMoves own x.state n.calls n.moves n.state
     pub log_is : (ctl d).log ≡ x.log ++ entries_of own n.calls n.moves
     pub first : (ctl d).first ≡ x.first
+    pub begun : (ctl d).begun ≡ x.begun
     pub same : name d ≡ of
     pub same_lib : lib d ≡ own
 
@@ -236,6 +237,7 @@ module _ {D N : Type 0} (called : D → Ask → Told → D → Type 0) (ctl : D 
     happen = refl;
     log_is = ap (λ (y : Controller). y.log) at ∙ sym (append-nil x.log);
     first = ap (λ (y : Controller). y.first) at;
+    begun = ap (λ (y : Controller). y.begun) at;
     same = named;
     same_lib = at_lib;
   }
@@ -262,6 +264,7 @@ module _ {D N : Type 0} (called : D → Ask → Told → D → Type 0) (ctl : D 
               ∙ ap (λ l. x.log ++ (old ++ l)) told_here
               ∙ ap (λ l. x.log ++ l) (sym (entries_joined own x.state n.calls (apart ask told) n.moves m.moves n.state h.happen));
           first = one.3.first ∙ h.first;
+          begun = one.3.begun ∙ h.begun;
           same = one.1 ∙ h.same;
           same_lib = one.2 ∙ h.same_lib;
         },

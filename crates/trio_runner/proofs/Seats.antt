@@ -92,21 +92,23 @@ plays_append p (t ∷ xs) moves q ys more r one two = record {
 }
 
 pub took_none : (a : Table) → IsReady a.players → Took a [] a
-took_none a h = record { moves = []; plays = (refl, refl); first = refl; ready = h }
+took_none a h = record { moves = []; plays = (refl, refl); first = refl; begun = refl; ready = h }
 
 pub took_more : (a : Table) (xs : List Placed) (b : Table) (ys : List Placed) (c : Table) → Took a xs b → Took b ys c → Took a (xs ++ ys) c
 took_more a xs b ys c one two = record {
   moves = one.moves ++ two.moves;
   plays = plays_append a.players xs one.moves b.players ys two.moves c.players one.plays two.plays;
   first = two.first ∙ one.first;
+  begun = two.begun ∙ one.begun;
   ready = two.ready;
 }
 
-took_one : (a : Table) (t : Placed) (moves : List Move) (b : Table) → IsReady a.players → IsLibrary t.lib a.players.state → (takes : TakesTurn a.players t moves b.players) → b.first ≡ a.first → GoesOn b.players.state t.lib takes.share' → Took a (t ∷ []) b
-took_one a t moves b h is takes first on = record {
+took_one : (a : Table) (t : Placed) (moves : List Move) (b : Table) → IsReady a.players → IsLibrary t.lib a.players.state → (takes : TakesTurn a.players t moves b.players) → b.first ≡ a.first → b.begun ≡ a.begun → GoesOn b.players.state t.lib takes.share' → Took a (t ∷ []) b
+took_one a t moves b h is takes first begun on = record {
   moves = moves;
   plays = plays_more a.players [] [] a.players t moves b.players (refl, refl) takes;
   first = first;
+  begun = begun;
   ready = ready_after a.players t moves b.players h is takes on;
 }
 
@@ -202,14 +204,14 @@ module _ (libs : List ScriptLib) (all : List Player) (tolds : List Heard) (seate
                 log_is = took.log_is;
                 shares_are = map-set share_in all at h' ∙ ap (λ n. set (map share_in all) n (share_in h')) (sym seat_place);
                 told_is = ap (λ n. set tolds n t') (sym seat_place);
-              }) took.first took.goes
+              }) took.first took.begun took.goes
 
           -- it was passed over
           seat_same : x' ≡ x → share_in h' ≡ share_in h → t' ≡ t → after ≡ before
           seat_same a b c =
               let shares : map share_in (set all at h') ≡ map share_in all = map-set_same share_in all at h' h (b ∙ ap share_in there) in
               let heard : set tolds at t' ≡ tolds = set_is tolds at t' t c told in
-              let of : Controller → List Share → List Heard → Table = λ y hs ts. record { first = y.first; players = record { state = y.state; log = y.log; shares = hs; told = ts } } in
+              let of : Controller → List Share → List Heard → Table = λ y hs ts. record { first = y.first; begun = y.begun; players = record { state = y.state; log = y.log; shares = hs; told = ts } } in
               ap (λ y. of y (map share_in (set all at h')) (set tolds at t')) a
               ∙ ap (λ hs. of x hs (set tolds at t')) shares
               ∙ ap (of x (map share_in all)) heard

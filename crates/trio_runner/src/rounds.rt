@@ -5,7 +5,7 @@ ghost use Rattle.trio_lists.specs.Lists.{tabulated};
 ghost use Rattle.trio_desk.specs.Out.{IsClosed};
 ghost use Rattle.trio_state.specs.Kept.{Kept};
 ghost use Rattle.trio_state.specs.Run.{start};
-ghost use Rattle.trio_ctl.specs.Ctl.{IsLibrary};
+ghost use Rattle.trio_ctl.specs.Ctl.{IsLibrary, NoneBegun};
 ghost use Rattle.trio_ctl.specs.Desk.{desk_of, out_of};
 ghost use Rattle.trio_raw.specs.Has.{OnList, whole_parcel};
 ghost use Rattle.trio_edit_laws.specs.Calls.{MayCall};
@@ -98,10 +98,12 @@ pub fn play(alloc: Global, ctl: &mut Ctl, libs: &[ScriptLib]) -> Result<Vec<LibT
     requires kept { Kept ctl.old.state }
     requires started { ctl.old.state ≡ start ctl.old.state.home (creds_in libs.now) }
     requires unlogged { ctl.old.log ≡ [] }
+    requires idle { NoneBegun ctl.old }
     requires few { length libs.now ≤ 16 }
     requires within { AreWithin libs.now }
     ensures script { IfOk result (λ tolds. ScriptPlayed ctl.old.state.home libs.now tolds.items ctl.new.state ctl.new.log) }
     ensures first { OnOk result (ctl.new.first ≡ ctl.old.first) }
+    ensures begun { OnOk result (ctl.new.begun ≡ ctl.old.begun) }
 {
     let mut tolds = none_told(alloc, libs.len())?;
     let mut all = new_players(alloc, libs)?;
@@ -130,6 +132,7 @@ fn play_rounds(
     all: &mut Vec<Player>,
     tolds: &mut Vec<LibTold>,
 ) -> Result<(), NoMemory>
+    requires idle { NoneBegun ctl.old }
     requires few { length libs.now ≤ 16 }
     requires within { AreWithin libs.now }
     requires ready { IsReady (players ctl.old all.old.items tolds.old.items) }
@@ -172,6 +175,7 @@ fn play_round(
     all: &mut Vec<Player>,
     tolds: &mut Vec<LibTold>,
 ) -> Result<(), NoMemory>
+    requires idle { NoneBegun ctl.old }
     requires few { length libs.now ≤ 16 }
     requires within { AreWithin libs.now }
     requires ready { IsReady (players ctl.old all.old.items tolds.old.items) }
@@ -202,6 +206,7 @@ fn play_turn(
     requires kind { is_honest player.old ≡ has_honest lines.now }
     requires within { LinesWithin lines.now }
     requires library { IsLibrary lib ctl.old.state }
+    requires idle { NoneBegun ctl.old }
     requires goes { GoesOn ctl.old.state lib (share_in player.old) }
     requires closed { HasClosed ctl.old.state lib (share_in player.old) }
     ensures turn { OnOk result (TookNext lib (slice_get (course lib.0 (line_turns lines.now)) round)
@@ -241,6 +246,7 @@ fn raw_turn(
     told: &mut LibTold,
 ) -> Result<(), NoMemory>
     requires library { IsLibrary raw.old.lib ctl.old.state }
+    requires idle { NoneBegun ctl.old }
     requires stands { OnList (out_of ctl.old.state raw.old.lib) raw.old.has }
     requires closed { IsClosed (out_of ctl.old.state raw.old.lib) (whole_parcel raw.old.has) }
     ensures turn { OnOk result (TookNext raw.old.lib (slice_get (course raw.old.lib.0 (line_turns (Lines.Raw lines.now))) round)
@@ -268,6 +274,7 @@ fn take_line(
     told: &mut LibTold,
 ) -> Result<(), NoMemory>
     requires library { IsLibrary raw.old.lib ctl.old.state }
+    requires idle { NoneBegun ctl.old }
     requires stands { OnList (out_of ctl.old.state raw.old.lib) raw.old.has }
     ensures turn { OnOk result (TookTurn raw.old.lib (Says line.now) ctl.old (Things raw.old.has) told.old ctl.new (Things raw.new.has) told.new) }
     ensures lib { raw.new.lib ≡ raw.old.lib }
@@ -280,6 +287,7 @@ fn take_line(
 /// Ends a library, and keeps the answer.
 fn take_end(alloc: Global, ctl: &mut Ctl, raw: &mut Raw, told: &mut LibTold) -> Result<(), NoMemory>
     requires library { IsLibrary raw.old.lib ctl.old.state }
+    requires idle { NoneBegun ctl.old }
     requires stands { OnList (out_of ctl.old.state raw.old.lib) raw.old.has }
     requires closed { IsClosed (out_of ctl.old.state raw.old.lib) (whole_parcel raw.old.has) }
     ensures turn { OnOk result (TookTurn raw.old.lib Ends ctl.old (Things raw.old.has) told.old ctl.new (Things raw.new.has) told.new) }
@@ -306,6 +314,7 @@ fn honest_turn(
     requires within { LinesWithin (Lines.Honest lines.now) }
     requires lib { session.old.lib ≡ lib }
     requires library { IsLibrary lib ctl.old.state }
+    requires idle { NoneBegun ctl.old }
     requires may { MayCall (desk_of ctl.old.state lib) session.old }
     ensures turn { OnOk result (TookNext lib (slice_get (course lib.0 (line_turns (Lines.Honest lines.now))) round)
         ctl.old (InSession session.old) told.old ctl.new (InSession session.new) told.new) }
@@ -335,6 +344,7 @@ fn take_call(
     requires within { SaysWithin line.now.line }
     requires lib { session.old.lib ≡ lib }
     requires library { IsLibrary lib ctl.old.state }
+    requires idle { NoneBegun ctl.old }
     requires may { MayCall (desk_of ctl.old.state lib) session.old }
     ensures turn { OnOk result (TookTurn lib (SaysHonest line.now) ctl.old (InSession session.old) told.old ctl.new (InSession session.new) told.new) }
     ensures lib { OnOk result (session.new.lib ≡ lib) }
@@ -356,6 +366,7 @@ fn take_settle(
 ) -> Result<(), NoMemory>
     requires lib { session.old.lib ≡ lib }
     requires library { IsLibrary lib ctl.old.state }
+    requires idle { NoneBegun ctl.old }
     requires may { MayCall (desk_of ctl.old.state lib) session.old }
     ensures turn { OnOk result (TookTurn lib Ends ctl.old (InSession session.old) told.old ctl.new (InSession session.new) told.new) }
     ensures lib { OnOk result (session.new.lib ≡ lib) }

@@ -1,12 +1,12 @@
 -- Honest sessions at desks of one controller, in turns.
-use Rattle.std.specs.Prelude.{◌≡◌, ◌≤◌, Bool, true, false, List}
+use Rattle.std.specs.Prelude.{◌≡◌, ◌≤◌, ℕ, Bool, true, false, List, None}
 use Rattle.trio_rights.specs.declared.rights.LibNo.{LibNo}
 use Rattle.trio_nodes.specs.declared.call.Call as call
 use Rattle.trio_nodes.specs.declared.call.Call.TheVariants.{Write, Read, Truncate, Stat, Chmod}
 use Rattle.trio_desk.specs.Call.{Ask, Told}
 use Rattle.trio_desk.specs.Calls.{Call, Calls}
 use Rattle.trio_desk.specs.Out.{OutAlike, nothing_out}
-use Rattle.trio_state.specs.State.{State}
+use Rattle.trio_state.specs.Moves.{Underway, begun_by}
 use Rattle.trio_session.specs.Seen.{SessionSeen}
 use Rattle.trio_edit_laws.specs.Calls.{MayCall}
 use Rattle.trio_calls_file.specs.Asks.{IsFileCall}
@@ -51,26 +51,30 @@ IsCallOf false false k = IsDirCall k
 abbrev pub IsCall : call.Call → Type 0
 IsCall k = IsCallOf (is_of_file k) (is_of_mode k) k
 
--- nothing is out to anybody
-abbrev pub NothingIsOut : State → Type 0
-NothingIsOut s = (lib : LibNo) → OutAlike (out_of s lib) nothing_out
+-- nothing is out to anybody, and no release has begun
+pub record NothingIsOut (u : Underway) : Type 0 where
+  pub out : (lib : LibNo) → OutAlike (out_of u.state lib) nothing_out
+  pub idle : (lib : ℕ) → begun_by u lib ≡ None
 
--- a library may go on with its session
-pub record MayPlay (s : State) (lib : LibNo) (session : SessionSeen) : Type 0 where
-  pub library : IsLibrary lib s
-  pub may : MayCall (desk_of s lib) session
+-- a library may go on with its session: it is idle
+pub record MayPlay (u : Underway) (lib : LibNo) (session : SessionSeen) : Type 0 where
+  pub library : IsLibrary lib u.state
+  pub idle : begun_by u lib.0 ≡ None
+  pub may : MayCall (desk_of u.state lib) session
 
--- the first two may, and the third is there
-pub record ArePlaying (s : State) (first' second' : SessionSeen) : Type 0 where
-  pub first : MayPlay s first_lib first'
-  pub second : MayPlay s second_lib second'
-  pub third : IsLibrary third_lib s
+-- the first two may, and the third is there and idle
+pub record ArePlaying (u : Underway) (first' second' : SessionSeen) : Type 0 where
+  pub first : MayPlay u first_lib first'
+  pub second : MayPlay u second_lib second'
+  pub third : IsLibrary third_lib u.state
+  pub third_idle : begun_by u third_lib.0 ≡ None
 
 -- some calls lead from one desk to another
 abbrev pub SomeCalls : {D : Type 0} → (D → Ask → Told → D → Type 0) → D → D → Type 0
 SomeCalls called d d' = (cs : List Call) × Calls called d cs d'
 
--- A turn of one library: no library comes or goes, and what is seen of another's desk stays.
-pub record IsTurn (lib : LibNo) (s s' : State) : Type 0 where
-  pub libraries : s'.creds ≡ s.creds
-  pub others : (other : LibNo) → (other.0 ≡ lib.0 → ⊥) → desk_of s' other ≡ desk_of s other
+-- A turn of one library: no library comes or goes, no release begins or ends, and what is seen of another's desk stays.
+pub record IsTurn (lib : LibNo) (u u' : Underway) : Type 0 where
+  pub libraries : u'.state.creds ≡ u.state.creds
+  pub begun : u'.begun ≡ u.begun
+  pub others : (other : LibNo) → (other.0 ≡ lib.0 → ⊥) → desk_of u'.state other ≡ desk_of u.state other

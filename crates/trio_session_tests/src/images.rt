@@ -1,6 +1,7 @@
 //! Images that the tests start from.
 
 ghost use Rattle.std.specs.Prelude.{◌≡◌, IfSome, length};
+ghost use Rattle.trio_ctl.specs.Ctl.{underway_of};
 ghost use Rattle.trio_session_tests.specs.Turns.{NothingIsOut};
 
 use std::alloc::Global;
@@ -128,7 +129,7 @@ pub fn image_of(alloc: Global, bytes: &[u8]) -> Option<Image> {
 /// A controller over an image, for three libraries: of uid 0, of uid 5, and of uid 0.
 pub fn started(alloc: Global, start: Start) -> Option<Ctl>
     ensures three { IfSome result (λ ctl. length ctl.state.creds ≡ 3) }
-    ensures none { IfSome result (λ ctl. NothingIsOut ctl.state) }
+    ensures none { IfSome result (λ ctl. NothingIsOut (underway_of ctl)) }
 {
     let image = image_of(alloc, &image_bytes(alloc, start).ok()?)?;
     let libs = vec![in alloc; ROOT, Creds { uid: 5, gid: 5 }, ROOT].ok()?;

@@ -1,6 +1,7 @@
 //! A file of 512 blocks, which takes two index pages.
 
 ghost use Rattle.std.specs.Prelude.{◌≡◌, ◌≤◌};
+ghost use Rattle.trio_ctl.specs.Ctl.{underway_of};
 ghost use Rattle.trio_session_tests.specs.Turns.{MayPlay, first_lib};
 
 use crate::images::{Start, started};
@@ -21,9 +22,9 @@ fn letter(block: u64) -> u8 {
 
 // Puts a letter near the end of each of the first blocks.
 fn are_put(alloc: Global, ctl: &mut Ctl, session: &mut Session, blocks: u64) -> bool
-    requires may { MayPlay ctl.old.state first_lib session.old }
+    requires may { MayPlay (underway_of ctl.old) first_lib session.old }
     requires few { blocks ≤ 512 }
-    ensures { MayPlay ctl.new.state first_lib session.new }
+    ensures { MayPlay (underway_of ctl.new) first_lib session.new }
 {
     for block in 0..blocks {
         let bytes = [letter(block)];
@@ -52,9 +53,9 @@ fn end_of(block: u64, is_put: bool) -> [u8; 11] {
 
 // Whether each of these blocks ends so: with its letter, if it is among the first ones, and with zeros.
 fn are_read(alloc: Global, ctl: &mut Ctl, session: &mut Session, put: u64, blocks: u64) -> bool
-    requires may { MayPlay ctl.old.state first_lib session.old }
+    requires may { MayPlay (underway_of ctl.old) first_lib session.old }
     requires few { blocks ≤ 512 }
-    ensures { MayPlay ctl.new.state first_lib session.new }
+    ensures { MayPlay (underway_of ctl.new) first_lib session.new }
 {
     for block in 0..blocks {
         let wanted = end_of(block, block < put);
@@ -77,10 +78,10 @@ fn are_read(alloc: Global, ctl: &mut Ctl, session: &mut Session, put: u64, block
 
 // Resizes the file to so many blocks and settles; whether the image then has so many pages in use.
 fn is_resized(alloc: Global, ctl: &mut Ctl, session: &mut Session, blocks: u64, pages: u32) -> bool
-    requires may { MayPlay ctl.old.state first_lib session.old }
+    requires may { MayPlay (underway_of ctl.old) first_lib session.old }
     requires few_blocks { blocks ≤ 512 }
     requires few_pages { pages ≤ 1021 }
-    ensures { MayPlay ctl.new.state first_lib session.new }
+    ensures { MayPlay (underway_of ctl.new) first_lib session.new }
 {
     let ask = Ask::Truncate(b"/f", 4096 * blocks);
     if !is_told(alloc, ctl, LibNo(1), session, ask, "ok") {
@@ -94,7 +95,7 @@ fn is_resized(alloc: Global, ctl: &mut Ctl, session: &mut Session, blocks: u64, 
 
 fn is_counted(ctl: &mut Ctl, pages: u32) -> bool
     requires { pages ≤ 1021 }
-    ensures { ctl.new.state ≡ ctl.old.state }
+    ensures { underway_of ctl.new ≡ underway_of ctl.old }
 {
     match ctl.image() {
         Ok(image) => {
@@ -121,8 +122,8 @@ fn is_right(alloc: Global) -> Option<bool> {
 }
 
 fn is_grown(alloc: Global, ctl: &mut Ctl, session: &mut Session) -> bool
-    requires { MayPlay ctl.old.state first_lib session.old }
-    ensures { MayPlay ctl.new.state first_lib session.new }
+    requires { MayPlay (underway_of ctl.old) first_lib session.old }
+    ensures { MayPlay (underway_of ctl.new) first_lib session.new }
 {
     let is_resized = is_resized(alloc, ctl, session, BLOCKS, 516);
     let is_empty = are_read(alloc, ctl, session, 0, BLOCKS);
@@ -133,8 +134,8 @@ fn is_grown(alloc: Global, ctl: &mut Ctl, session: &mut Session) -> bool
 }
 
 fn is_cut(alloc: Global, ctl: &mut Ctl, session: &mut Session) -> bool
-    requires { MayPlay ctl.old.state first_lib session.old }
-    ensures { MayPlay ctl.new.state first_lib session.new }
+    requires { MayPlay (underway_of ctl.old) first_lib session.old }
+    ensures { MayPlay (underway_of ctl.new) first_lib session.new }
 {
     let is_cut = is_resized(alloc, ctl, session, BLOCKS - 1, 514);
     let is_left = are_read(alloc, ctl, session, BLOCKS - 1, BLOCKS - 1);

@@ -1,5 +1,6 @@
 //! Many names in one directory.
 
+ghost use Rattle.trio_ctl.specs.Ctl.{underway_of};
 ghost use Rattle.trio_session_tests.specs.Turns.{MayPlay, first_lib};
 
 use crate::images::{Start, image_of, started};
@@ -39,8 +40,8 @@ fn is_done(
     deed: Deed,
     number: u32,
 ) -> Option<bool>
-    requires { MayPlay ctl.old.state first_lib session.old }
-    ensures { MayPlay ctl.new.state first_lib session.new }
+    requires { MayPlay (underway_of ctl.old) first_lib session.old }
+    ensures { MayPlay (underway_of ctl.new) first_lib session.new }
 {
     let file = format!(in alloc; "/f{number}").ok()?;
     let renamed = format!(in alloc; "/m{number}").ok()?;
@@ -52,8 +53,8 @@ fn is_done(
 
 // Whether it is done to all of them.
 fn are_done(alloc: Global, ctl: &mut Ctl, session: &mut Session, deed: Deed) -> bool
-    requires { MayPlay ctl.old.state first_lib session.old }
-    ensures { MayPlay ctl.new.state first_lib session.new }
+    requires { MayPlay (underway_of ctl.old) first_lib session.old }
+    ensures { MayPlay (underway_of ctl.new) first_lib session.new }
 {
     for number in 0..200 {
         if is_done(alloc, ctl, session, deed, number) != Some(true) {
@@ -76,7 +77,7 @@ const LISTED_ON: &str =
 
 // Two hundred files are made and settled; then half of them are removed, and the other half renamed.
 fn are_right(alloc: Global, ctl: &mut Ctl, session: &mut Session) -> bool
-    requires { MayPlay ctl.old.state first_lib session.old }
+    requires { MayPlay (underway_of ctl.old) first_lib session.old }
 {
     are_done(alloc, ctl, session, Deed::Create)
         && is_told(alloc, ctl, LibNo(1), session, Ask::Settle, "settled 200")

@@ -1,5 +1,6 @@
 //! Turns of two libraries, each at its own desk, beside a third one.
 
+ghost use Rattle.trio_ctl.specs.Ctl.{underway_of};
 ghost use Rattle.trio_session_tests.specs.Turns.{ArePlaying, IsCall};
 
 use crate::play::{Ask, is_told, play, settle};
@@ -18,9 +19,9 @@ pub fn first_plays(
     second: &Session,
     call: Call,
 ) -> Outcome
-    requires playing { ArePlaying ctl.old.state first.old second.now }
+    requires playing { ArePlaying (underway_of ctl.old) first.old second.now }
     requires call { IsCall call }
-    ensures { ArePlaying ctl.new.state first.new second.now }
+    ensures { ArePlaying (underway_of ctl.new) first.new second.now }
 {
     play(alloc, ctl, LibNo(1), first, call)
 }
@@ -33,25 +34,25 @@ pub fn second_plays(
     second: &mut Session,
     call: Call,
 ) -> Outcome
-    requires playing { ArePlaying ctl.old.state first.now second.old }
+    requires playing { ArePlaying (underway_of ctl.old) first.now second.old }
     requires call { IsCall call }
-    ensures { ArePlaying ctl.new.state first.now second.new }
+    ensures { ArePlaying (underway_of ctl.new) first.now second.new }
 {
     play(alloc, ctl, LibNo(2), second, call)
 }
 
 /// A settle of the first library.
 pub fn first_settles(ctl: &mut Ctl, first: &mut Session, second: &Session) -> Option<u32>
-    requires playing { ArePlaying ctl.old.state first.old second.now }
-    ensures { ArePlaying ctl.new.state first.new second.now }
+    requires playing { ArePlaying (underway_of ctl.old) first.old second.now }
+    ensures { ArePlaying (underway_of ctl.new) first.new second.now }
 {
     settle(ctl, LibNo(1), first)
 }
 
 /// A settle of the second library.
 pub fn second_settles(ctl: &mut Ctl, first: &Session, second: &mut Session) -> Option<u32>
-    requires playing { ArePlaying ctl.old.state first.now second.old }
-    ensures { ArePlaying ctl.new.state first.now second.new }
+    requires playing { ArePlaying (underway_of ctl.old) first.now second.old }
+    ensures { ArePlaying (underway_of ctl.new) first.now second.new }
 {
     settle(ctl, LibNo(2), second)
 }
@@ -65,8 +66,8 @@ pub fn first_is_told(
     ask: Ask,
     wanted: &str,
 ) -> bool
-    requires { ArePlaying ctl.old.state first.old second.now }
-    ensures { ArePlaying ctl.new.state first.new second.now }
+    requires { ArePlaying (underway_of ctl.old) first.old second.now }
+    ensures { ArePlaying (underway_of ctl.new) first.new second.now }
 {
     is_told(alloc, ctl, LibNo(1), first, ask, wanted)
 }
@@ -80,8 +81,8 @@ pub fn second_is_told(
     ask: Ask,
     wanted: &str,
 ) -> bool
-    requires { ArePlaying ctl.old.state first.now second.old }
-    ensures { ArePlaying ctl.new.state first.now second.new }
+    requires { ArePlaying (underway_of ctl.old) first.now second.old }
+    ensures { ArePlaying (underway_of ctl.new) first.now second.new }
 {
     is_told(alloc, ctl, LibNo(2), second, ask, wanted)
 }

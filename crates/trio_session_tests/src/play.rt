@@ -3,6 +3,7 @@
 ghost use Rattle.std.specs.Prelude.{◌≡◌, ◌≤◌, IfSome, length};
 ghost use Rattle.trio_edit_laws.specs.Calls.{MayCall};
 ghost use Rattle.trio_calls_dir.specs.Chmods.{StandsOnTree};
+ghost use Rattle.trio_ctl.specs.Ctl.{underway_of};
 ghost use Rattle.trio_session_tests.specs.Turns.{IsCall, IsModeCall, IsTurn, MayPlay, NothingIsOut, SomeCalls, is_of_file, is_of_mode};
 
 use std::alloc::Global;
@@ -101,9 +102,9 @@ pub fn seated(alloc: Global, ctl: &mut Ctl, lib: LibNo) -> Session
     requires three { length ctl.old.state.creds ≡ 3 }
     requires one { 1 ≤ lib.0 }
     requires few { lib.0 ≤ 3 }
-    requires none { NothingIsOut ctl.old.state }
-    ensures may { MayPlay ctl.new.state lib result }
-    ensures kept { ctl.new.state ≡ ctl.old.state }
+    requires none { NothingIsOut (underway_of ctl.old) }
+    ensures may { MayPlay (underway_of ctl.new) lib result }
+    ensures kept { ctl.new ≡ ctl.old }
 {
     let desk = PlainDesk::of(ctl, lib);
     Session::new(alloc, lib, desk.creds())
@@ -111,10 +112,10 @@ pub fn seated(alloc: Global, ctl: &mut Ctl, lib: LibNo) -> Session
 
 /// One call of a library at its desk.
 pub fn play(alloc: Global, ctl: &mut Ctl, lib: LibNo, session: &mut Session, call: Call) -> Outcome
-    requires may { MayPlay ctl.old.state lib session.old }
+    requires may { MayPlay (underway_of ctl.old) lib session.old }
     requires call { IsCall call }
-    ensures may { MayPlay ctl.new.state lib session.new }
-    ensures turn { IsTurn lib ctl.old.state ctl.new.state }
+    ensures may { MayPlay (underway_of ctl.new) lib session.new }
+    ensures turn { IsTurn lib (underway_of ctl.old) (underway_of ctl.new) }
 {
     ctl.is_recorded();
     ctl.is_as_told();
@@ -170,9 +171,9 @@ fn is_of_mode(call: &Call) -> bool
 
 /// A settle of a library at its desk: the number of calls handed in.
 pub fn settle(ctl: &mut Ctl, lib: LibNo, session: &mut Session) -> Option<u32>
-    requires { MayPlay ctl.old.state lib session.old }
-    ensures may { MayPlay ctl.new.state lib session.new }
-    ensures turn { IsTurn lib ctl.old.state ctl.new.state }
+    requires { MayPlay (underway_of ctl.old) lib session.old }
+    ensures may { MayPlay (underway_of ctl.new) lib session.new }
+    ensures turn { IsTurn lib (underway_of ctl.old) (underway_of ctl.new) }
 {
     ctl.is_recorded();
     ctl.is_as_told();
@@ -189,9 +190,9 @@ pub fn is_told(
     ask: Ask,
     wanted: &str,
 ) -> bool
-    requires { MayPlay ctl.old.state lib session.old }
-    ensures may { MayPlay ctl.new.state lib session.new }
-    ensures turn { IsTurn lib ctl.old.state ctl.new.state }
+    requires { MayPlay (underway_of ctl.old) lib session.old }
+    ensures may { MayPlay (underway_of ctl.new) lib session.new }
+    ensures turn { IsTurn lib (underway_of ctl.old) (underway_of ctl.new) }
 {
     match call_of(alloc, ask) {
         Some(call) => {

@@ -3,7 +3,7 @@
 
 ghost use Rattle.std.specs.Prelude.{◌≡◌, ◌≤◌, IfSome};
 ghost use Rattle.trio_session.specs.Seen.{SessionSeen};
-ghost use Rattle.trio_ctl.specs.Ctl.{IsLibrary};
+ghost use Rattle.trio_ctl.specs.Ctl.{IsIdle, IsLibrary, underway_of};
 ghost use Rattle.trio_session_tests.specs.Turns.{ArePlaying, IsCall, third_lib};
 
 use crate::images::{Start, image_bytes, image_of, started};
@@ -279,7 +279,7 @@ fn are_same_names(a: &[(Name, Kind)], b: &[(Name, Kind)]) -> bool {
 
 // Whether the settled image has the nodes of the model.
 fn is_settled(alloc: Global, ctl: &mut Ctl, model: &Model) -> bool
-    ensures { ctl.new.state ≡ ctl.old.state }
+    ensures { underway_of ctl.new ≡ underway_of ctl.old }
 {
     match ctl.image() {
         Ok(image) => has_nodes(alloc, image, &model.nodes),
@@ -324,8 +324,9 @@ fn is_same_node(a: Option<&Node>, b: Option<&Node>) -> bool {
 // The third library takes a file for writing, spoils its metadata and hands it in: whether that is
 // refused, or the file isn't lent.
 fn attack(alloc: Global, ctl: &mut Ctl, model: &mut Model, random: &mut Random) -> bool
-    requires { IsLibrary third_lib ctl.old.state }
-    ensures { (x y : SessionSeen) → ArePlaying ctl.old.state x y → ArePlaying ctl.new.state x y }
+    requires library { IsLibrary third_lib ctl.old.state }
+    requires idle { IsIdle ctl.old third_lib.0 }
+    ensures { (x y : SessionSeen) → ArePlaying (underway_of ctl.old) x y → ArePlaying (underway_of ctl.new) x y }
 {
     let is_followed = follow(alloc, ctl, model);
     let ino = 1 + random.below(12) as u32;
@@ -357,8 +358,8 @@ fn turn(
     model: &mut Model,
     random: &mut Random,
 ) -> bool
-    requires { ArePlaying ctl.old.state first.old second.old }
-    ensures { ArePlaying ctl.new.state first.new second.new }
+    requires { ArePlaying (underway_of ctl.old) first.old second.old }
+    ensures { ArePlaying (underway_of ctl.new) first.new second.new }
 {
     match random.below(16) {
         0 => first_settles(ctl, first, second).is_some(),
@@ -384,8 +385,8 @@ fn first_calls(
     second: &Session,
     random: &mut Random,
 ) -> bool
-    requires { ArePlaying ctl.old.state first.old second.now }
-    ensures { ArePlaying ctl.new.state first.new second.now }
+    requires { ArePlaying (underway_of ctl.old) first.old second.now }
+    ensures { ArePlaying (underway_of ctl.new) first.new second.now }
 {
     match random_call(alloc, random) {
         Some(call) => is_fair(&first_plays(alloc, ctl, first, second, call), LibNo(1)),
@@ -400,8 +401,8 @@ fn second_calls(
     second: &mut Session,
     random: &mut Random,
 ) -> bool
-    requires { ArePlaying ctl.old.state first.now second.old }
-    ensures { ArePlaying ctl.new.state first.now second.new }
+    requires { ArePlaying (underway_of ctl.old) first.now second.old }
+    ensures { ArePlaying (underway_of ctl.new) first.now second.new }
 {
     match random_call(alloc, random) {
         Some(call) => is_fair(&second_plays(alloc, ctl, first, second, call), LibNo(2)),
@@ -427,7 +428,7 @@ fn are_one(
     model: &mut Model,
     seed: u64,
 ) -> bool
-    requires { ArePlaying ctl.old.state first.old second.old }
+    requires { ArePlaying (underway_of ctl.old) first.old second.old }
 {
     let mut random = Random(seed);
     for _ in 0..10 {
@@ -450,8 +451,8 @@ fn are_fair(
     model: &mut Model,
     random: &mut Random,
 ) -> bool
-    requires { ArePlaying ctl.old.state first.old second.old }
-    ensures { ArePlaying ctl.new.state first.new second.new }
+    requires { ArePlaying (underway_of ctl.old) first.old second.old }
+    ensures { ArePlaying (underway_of ctl.new) first.new second.new }
 {
     for _ in 0..10 {
         if !turn(alloc, ctl, first, second, model, random) {
@@ -468,8 +469,8 @@ fn is_all_settled(
     second: &mut Session,
     model: &mut Model,
 ) -> bool
-    requires { ArePlaying ctl.old.state first.old second.old }
-    ensures { ArePlaying ctl.new.state first.new second.new }
+    requires { ArePlaying (underway_of ctl.old) first.old second.old }
+    ensures { ArePlaying (underway_of ctl.new) first.new second.new }
 {
     let first_count = first_settles(ctl, first, second);
     let second_count = second_settles(ctl, first, second);

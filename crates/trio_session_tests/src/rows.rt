@@ -1,5 +1,6 @@
 //! Calls one after another, each with what it is told.
 
+ghost use Rattle.trio_ctl.specs.Ctl.{underway_of};
 ghost use Rattle.trio_session_tests.specs.Turns.{ArePlaying, MayPlay, first_lib};
 
 use crate::images::{Start, started};
@@ -24,8 +25,8 @@ const CALLS: &[(Ask<'static>, &str)] = &[
 
 // Whether each of these calls is told so.
 fn are_told(alloc: Global, ctl: &mut Ctl, session: &mut Session, calls: &[(Ask, &str)]) -> bool
-    requires { MayPlay ctl.old.state first_lib session.old }
-    ensures { MayPlay ctl.new.state first_lib session.new }
+    requires { MayPlay (underway_of ctl.old) first_lib session.old }
+    ensures { MayPlay (underway_of ctl.new) first_lib session.new }
 {
     for (ask, wanted) in calls {
         if !is_told(alloc, ctl, LibNo(1), session, *ask, wanted) {
@@ -254,7 +255,7 @@ fn are_told_in_turns(
     second: &mut Session,
     rounds: &[Round],
 ) -> bool
-    requires { ArePlaying ctl.old.state first.old second.old }
+    requires { ArePlaying (underway_of ctl.old) first.old second.old }
 {
     for [(first_ask, first_wanted), (second_ask, second_wanted)] in rounds {
         if !first_is_told(alloc, ctl, first, second, *first_ask, first_wanted) {
@@ -285,7 +286,7 @@ fn what_another_writes_is_busy(rt: HostRuntime) {
 
 // The third library keeps 22 of the 23 free pages and 59 of the 61 free inode numbers.
 fn are_short(alloc: Global, ctl: &mut Ctl, first: &mut Session, second: &Session) -> bool
-    requires { ArePlaying ctl.old.state first.old second.now }
+    requires { ArePlaying (underway_of ctl.old) first.old second.now }
 {
     third_plays(alloc, ctl, Deed::Take(22, 59)) && are_told(alloc, ctl, first, SHORT)
 }

@@ -3,7 +3,7 @@
 ghost use Rattle.trio_desk.specs.Out.{LibOut};
 ghost use Rattle.trio_raw.specs.Has.{OnList};
 ghost use Rattle.trio_session.specs.Seen.{SessionSeen};
-ghost use Rattle.trio_ctl.specs.Ctl.{IsLibrary};
+ghost use Rattle.trio_ctl.specs.Ctl.{IsIdle, IsLibrary, underway_of};
 ghost use Rattle.trio_session_tests.specs.Turns.{ArePlaying, SomeCalls, third_lib};
 
 use std::alloc::Global;
@@ -35,8 +35,9 @@ pub enum Spoil {
 
 /// Whether the library is given what it takes; or whether what it spoils is refused, or isn't lent.
 pub fn third_plays(alloc: Global, ctl: &mut Ctl, deed: Deed) -> bool
-    requires { IsLibrary third_lib ctl.old.state }
-    ensures { (x y : SessionSeen) → ArePlaying ctl.old.state x y → ArePlaying ctl.new.state x y }
+    requires library { IsLibrary third_lib ctl.old.state }
+    requires idle { IsIdle ctl.old third_lib.0 }
+    ensures { (x y : SessionSeen) → ArePlaying (underway_of ctl.old) x y → ArePlaying (underway_of ctl.new) x y }
 {
     ctl.is_recorded();
     ctl.is_as_told();

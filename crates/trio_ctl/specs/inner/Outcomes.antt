@@ -1,21 +1,19 @@
 -- What comes of a bundle. Cited by private functions alone.
-use Rattle.std.specs.Prelude.{◌≡◌, IsTrue}
+use Rattle.std.specs.Prelude.{◌≡◌, ◌≤◌, ◌*◌, ⊤, length, IsTrue}
+use Rattle.trio_rights.specs.Bundle.{Bundle, bundle_pages}
 use Rattle.trio_layout.specs.Broken.{Breaks}
 use Rattle.trio_layout.specs.Case.{Case}
 use Rattle.trio_layout.specs.Listing.{listing}
 use Rattle.trio_layout.specs.Rules.{meets_rules}
-use Rattle.trio_judge.specs.Verdicts.{HasListing, IsLowest, is_sound, meets_three}
-use Rattle.trio_judge.specs.declared.verdict.Verdict.{Verdict}
 use Rattle.trio_nodes.specs.declared.answers.ReleaseAnswer.{ReleaseAnswer}
 use Rattle.trio_nodes.specs.declared.answers.ReleaseAnswer.TheVariants.{Accepted as AcceptedBundle, Refused as RefusedBundle}
 use Rattle.trio_ctl.specs.declared.outcome.Outcome.{Outcome}
 use Rattle.trio_ctl.specs.declared.outcome.Outcome.TheVariants.{Accepted, Refused}
 
--- what the judge says of a case: whether it meets I1, I2 and I4, the lowest of them that fails, and the listing
-pub record IsVerdict (c : Case) (v : Verdict) : Type 0 where
-  pub sound : is_sound v ≡ meets_three c
-  pub lowest : IsLowest c v
-  pub listed : HasListing c v
+-- what is listed of an accepted bundle is no more than its pages can name
+abbrev pub HasFew : Bundle → Outcome → Type 0
+HasFew b (Accepted l) = length l.listing.entries ≤ 16 * length (bundle_pages b)
+HasFew b (Refused rule ino page slot) = ⊤
 
 -- the verdict of an outcome
 abbrev pub verdict_on : Outcome → ReleaseAnswer

@@ -50,8 +50,10 @@ HasRoomFrom to (Err fault) = Unit {0}
 
 -- of a judged bundle, as it was handed in: the files and the blocks that its outcome tells
 abbrev pub TellsOutcome : Case → Notes → Handed → Outcome → Told → Type 0
-TellsOutcome c notes h (Accepted l) t = (t.files ≡ accepted_files c l.listing notes) × (t.blocks ≡ accepted_blocks c l.listing notes h t.files)
-TellsOutcome c notes h (Refused rule ino page slot) t = (t.files ≡ refused_files c notes) × (t.blocks ≡ refused_blocks c notes h t.files)
+TellsOutcome c notes h (Accepted l) t =
+    (t.files ≡ accepted_files c l.listing notes) × (t.bundle ≡ record { handed = h; blocks = accepted_blocks c l.listing notes h t.files })
+TellsOutcome c notes h (Refused rule ino page slot) t =
+    (t.files ≡ refused_files c notes) × (t.bundle ≡ record { handed = h; blocks = refused_blocks c notes h t.files })
 
 -- the notes after a release with this verdict: what its files tell, if it was accepted
 abbrev pub noted_by : ReleaseAnswer → List RawFile → Notes → Notes

@@ -8,6 +8,7 @@ use Rattle.trio_desk.specs.Out.{IsClosed, LibOut, file_numbers, hold_numbers, pa
 use Rattle.trio_desk.specs.Calls.{Call}
 use Rattle.trio_layout.specs.Image.{Image}
 use Rattle.trio_state.specs.Kept.{Kept}
+use Rattle.trio_state.specs.Moves.{Outline}
 use Rattle.trio_state.specs.Run.{Move}
 use Rattle.trio_state.specs.State.{State}
 use Rattle.trio_laws.specs.history.Recorded.{LentWhole}
@@ -84,14 +85,15 @@ has_honest (HonestLines lines) = true
 abbrev pub players : Controller → List Player → List Heard → Players
 players ctl all tolds = record { state = ctl.state; log = ctl.log; shares = map share_in all; told = tolds }
 
--- how it stands, and the image that the controller began from
+-- how it stands, the image that the controller began from, and which releases have begun and not ended
 pub record Table : Type 0 where
   pub first : Image
+  pub begun : List (Option Outline)
   pub players : Players
 
 -- the same of the controller and these libraries
 abbrev pub table : Controller → List Player → List Heard → Table
-table ctl all tolds = record { first = ctl.first; players = players ctl all tolds }
+table ctl all tolds = record { first = ctl.first; begun = ctl.begun; players = players ctl all tolds }
 
 -- so many libraries' numbers, of which the first is this
 abbrev pub numbers_from : ℕ → ℕ → List LibNo
@@ -120,6 +122,7 @@ pub record Took (a : Table) (turns : List Placed) (b : Table) : Type 0 where
   pub moves : List Move
   pub plays : Plays a.players turns moves b.players
   pub first : b.first ≡ a.first
+  pub begun : b.begun ≡ a.begun
   pub ready : IsReady b.players
 
 -- a library took a turn, and may go on
@@ -130,6 +133,7 @@ pub record TookTurn (lib : LibNo) (turn : Turn) (ctl : Controller) (share : Shar
   pub happen : AreMoves lib ctl.state calls moves ctl'.state
   pub log_is : ctl'.log ≡ ctl.log ++ entries_of lib calls moves
   pub first : ctl'.first ≡ ctl.first
+  pub begun : ctl'.begun ≡ ctl.begun
   pub goes : GoesOn ctl'.state lib share'
 
 -- it did so, where a turn is left; else nothing changed

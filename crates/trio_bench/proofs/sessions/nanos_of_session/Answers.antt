@@ -16,3 +16,6 @@ nanos_at-nanos-requires g c =
     let none : OutAlike (out_of state one) nothing_out = subst (λ (x : Controller). OutAlike (out_of x.state one) nothing_out) (sym desk.ensures.ctl) (c.in-Some.ensures.none one) in
     subst (λ (l : LibNo). MayCall (desk_of state l) c.new-session.result) (sym desk.ensures.lib)
     (begins state one c.creds.result c.new-session.result none (c.creds.ensures.creds ∙ ap (λ (l : LibNo). creds_of state l.0) desk.ensures.lib) c.new-session.ensures)
+
+pub of-desk-requires-clause-idle : goal.of-desk-requires-clause-idle
+of-desk-requires-clause-idle g c = c.in-Some.ensures.idle 1

@@ -22,4 +22,4 @@ loop-lease-preserved c =
     let turn = c.loop-lease in
     let rest = reverse c.pop.new.self.items in
     let l = subst (λ xs. Left c.args.lib turn.registry turn.log xs c.args.registry.now c.args.log.now c.args.back.items) (last_back turn.back.items c.pop.new.self.items f c.in-Some.ensures.items) turn.invariant in
-    left_next c.args.lib turn.registry c.give_back.new.self c.args.registry.now turn.log c.push.new.self c.args.log.now f rest c.args.back.items l c.give_back.ensures.step c.give_back.ensures.promised (rw (← c.ino-ino.ensures) c.push.ensures) c.give_back.ensures.kept c.give_back.ensures.looked
+    left_next c.args.lib turn.registry c.give_back.new.self c.args.registry.now turn.log c.push.new.self c.args.log.now f rest c.args.back.items l c.give_back.ensures.step c.give_back.ensures.begun c.give_back.ensures.promised (rw (← c.ino-ino.ensures) c.push.ensures) c.give_back.ensures.kept c.give_back.ensures.looked

@@ -16,4 +16,5 @@ returns c =
       script = script_played c.args.ctl.now c.args.libs.now c.in_ok-all.all.items c.in_ok-tolds.tolds.items c.in_ok-all.ensures c.in_ok-tolds.ensures c.requires.started c.requires.unlogged
           c.play_rounds-played.new.ctl c.play_rounds-played.new.all.items c.play_rounds-played.new.tolds.items took;
       first = took.first;
+      begun = took.begun;
     }

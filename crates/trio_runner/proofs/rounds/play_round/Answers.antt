@@ -7,6 +7,7 @@ use Rattle.trio_script.specs.declared.ScriptLib.{ScriptLib}
 use Rattle.trio_runner.specs.Rounds.{course, courses_from, line_turns, round_of, turn_list}
 use Rattle.trio_script.specs.Within.{LinesWithin}
 use Rattle.trio_runner.specs.inner.Ready.{GoesOn, HasClosed, Took, has_honest, share_in, table}
+use Rattle.trio_ctl.proofs.Underways.{none_still}
 use Rattle.trio_runner.proofs.Seats.{all_count, courses_length, round_more, seat_closed, seat_goes, seat_kind, seat_lib, seat_library, seat_next, seated_after, took_more, within_at}
 use Rattle.trio_runner.proofs.rounds.play_round.Goals as goal
 
@@ -48,6 +49,9 @@ play_turn-requires-clause-closed c =
     subst (λ (l : LibNo). HasClosed c.loop-at.ctl.state l (share_in c.index_mut.result.now)) (play_turn-requires-clause-lib c)
     (seat_closed c.args.libs.now c.loop-at.all.items c.loop-at.tolds.items c.loop-at.invariant.1 c.loop-at.at c.loop-at-test.true
     c.index_mut.result.now c.index_mut.ensures.value c.index_mut-in-loop-at.result.now c.index_mut-in-loop-at.ensures.value c.loop-at.ctl c.loop-at.invariant.0.ready)
+
+pub play_turn-requires-clause-idle : goal.play_turn-requires-clause-idle
+play_turn-requires-clause-idle c = none_still c.args.ctl.now c.loop-at.ctl c.loop-at.invariant.0.begun c.requires.idle
 
 pub loop-at-preserved : goal.loop-at-preserved
 loop-at-preserved c =

@@ -1,8 +1,12 @@
 use Rattle.std.proofs.Common.{sym, subst}
 use Rattle.trio_runner.specs.Rounds.{courses_from, in_rounds, round_of}
 use Rattle.trio_runner.specs.inner.Ready.{Took, table}
+use Rattle.trio_ctl.proofs.Underways.{none_still}
 use Rattle.trio_runner.proofs.Seats.{rounds_more, took_more}
 use Rattle.trio_runner.proofs.rounds.play_rounds.Goals as goal
+
+pub play_round-requires-clause-idle : goal.play_round-requires-clause-idle
+play_round-requires-clause-idle c = none_still c.args.ctl.now c.loop-round.ctl c.loop-round.invariant.0.begun c.requires.idle
 
 pub loop-round-preserved : goal.loop-round-preserved
 loop-round-preserved c =

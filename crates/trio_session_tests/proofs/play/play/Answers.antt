@@ -21,7 +21,7 @@ returns c =
     let after = c.ctl-1.given.1 (sym desk.ensures.same_reference ∙ sym t.same) in
     record {
       may = goes_on _ (λ d. d.ctl.now) (λ d. d.ctl.ghost_name) (λ d. d.lib) (λ d a t d' h. h) c.args.lib c.args.ctl.now _ desk.result c.any_call.new.desk c.any_call.new.session
-          desk.ensures.lib desk.ensures.ctl after t c.requires.may.library c.any_call.ensures.may;
+          desk.ensures.lib desk.ensures.ctl after t c.requires.may.library c.requires.may.idle c.any_call.ensures.may;
       turn = turn_taken _ (λ d. d.ctl.now) (λ d. d.ctl.ghost_name) (λ d. d.lib) (λ d a t d' h. h) c.args.lib c.args.ctl.now _ desk.result c.any_call.new.desk
           desk.ensures.lib desk.ensures.ctl after t;
     }

@@ -29,7 +29,7 @@ returns c =
     (subst (λ (x : Controller). MayCall (desk_of x.state c.args.lib) s) (sym desk.ensures.ctl) c.requires.may) in
     record {
       may = goes_on _ (λ d. d.ctl.now) (λ d. d.ctl.ghost_name) (λ d. d.lib) (λ d a t d' h. h) c.args.lib c.args.ctl.now _ desk.result c.settle.new.desk c.settle.new.self
-          desk.ensures.lib desk.ensures.ctl after t c.requires.library
+          desk.ensures.lib desk.ensures.ctl after t c.requires.library c.requires.idle
           (settle_may _ (λ d. desk_of d.ctl.now.state d.lib) desk.result c.settle.new.desk s c.settle.new.self c.settle.result c.settle.ensures.call may c.settle.ensures.on);
       turn = turn_taken _ (λ d. d.ctl.now) (λ d. d.ctl.ghost_name) (λ d. d.lib) (λ d a t d' h. h) c.args.lib c.args.ctl.now _ desk.result c.settle.new.desk
           desk.ensures.lib desk.ensures.ctl after t;

@@ -1,5 +1,5 @@
 use Rattle.std.proofs.Common.{◌∙◌, subst, sym}
-use Rattle.trio_ctl.specs.Ctl.{Controller}
+use Rattle.trio_ctl.specs.Ctl.{Controller, underway_of}
 use Rattle.trio_session_tests.specs.Turns.{third_lib}
 use Rattle.trio_runner.proofs.Moves.{Stands}
 use Rattle.trio_session_tests.proofs.Turns.{calls_turn, recorded_stands, third_played, turn_taken}
@@ -12,6 +12,6 @@ returns c = λ x y p.
     let stands = subst (λ (x : Controller). Stands x.state) (sym desk.ensures.ctl) (recorded_stands c.args.ctl.now.first c.args.ctl.now c.is_recorded.ensures c.is_as_told.ensures) in
     let t = calls_turn _ (λ d. d.ctl.now) (λ d. d.ctl.ghost_name) (λ d. d.lib) (λ d a t d' h. h) made.0 desk.result c.is_done.new.desk stands made.1 in
     let after = c.ctl-1.given.1 (sym desk.ensures.same_reference ∙ sym t.same) in
-    third_played c.args.ctl.now.state _ x y p
+    third_played (underway_of c.args.ctl.now) _ x y p
     (turn_taken _ (λ d. d.ctl.now) (λ d. d.ctl.ghost_name) (λ d. d.lib) (λ d a t d' h. h) third_lib c.args.ctl.now _ desk.result c.is_done.new.desk
     desk.ensures.lib desk.ensures.ctl after t)

@@ -6,11 +6,11 @@ use Rattle.trio_state.specs.State.{State}
 use Rattle.trio_state.specs.Step.{Allot}
 use Rattle.trio_laws.specs.history.Replays.{IsLibrary}
 use Rattle.trio_ctl.proofs.Recording.{after_call, allot_entries, next_entry, one_room, same_room}
-use Rattle.trio_ctl.proofs.Views.{seen_state}
+use Rattle.trio_ctl.proofs.Views.{seen_idle, seen_state}
 use Rattle.trio_ctl.proofs.ctl.Ctl.allot.Goals as goal
 
 pub allot-result-requires-clause-entry : goal.allot-result-requires-clause-entry
-allot-result-requires-clause-entry c = next_entry _ _ _ _ _ _ _ c.self.invariant c.len.ensures c.make_places.ensures.kept
+allot-result-requires-clause-entry c = next_entry _ _ _ _ _ _ _ _ c.self.invariant c.len.ensures c.make_places.ensures.kept
 
 pub invariant_of-self-in-Some : goal.invariant_of-self-in-Some
 invariant_of-self-in-Some c =
@@ -22,7 +22,7 @@ invariant_of-self-in-Some c =
     let told = sym c.in-Some.is ∙ c.allot_told.ensures in
     let pushed = ap (λ (l : Logged). l.entries) c.push.ensures ∙ ap (λ (l : List Entry). l ++ e ∷ []) c.make_places.ensures.kept ∙ sym (ap (λ (l : List Entry). i.log.entries ++ l) (allot_entries s lib c.args.pages c.args.inodes c.allot-result.result _ told)) in
     let places = rw (c.promised.ensures) at c.in-Ok.ensures.room in
-    after_call _ s c.allot-result.new.self.state i.registry.promised c.allot-result.new.self.promised i.log c.push.new.self i.notes (Allot lib.0 c.args.pages c.args.inodes) _ c.self.invariant c.allot-result.ensures.was_kept library tt tt c.allot-result.ensures.step tt pushed
+    after_call _ s c.allot-result.new.self.state i.registry.begun c.allot-result.new.self.begun i.registry.promised c.allot-result.new.self.promised i.log c.push.new.self i.notes (Allot lib.0 c.args.pages c.args.inodes) _ c.self.invariant c.allot-result.ensures.was_kept (seen_idle c.args.lib.0 c.self.view_is c.requires.idle) c.allot-result.ensures.begun library tt tt c.allot-result.ensures.step tt pushed
     (rw c.push.ensures (one_room c.make_places.new.log.entries e i.registry.promised c.allot-result.new.self.promised c.make_places.new.log.room places c.allot-result.ensures.promised))
 
 pub invariant_of-self-in_default-allot_told : goal.invariant_of-self-in_default-allot_told
@@ -34,5 +34,5 @@ invariant_of-self-in_default-allot_told c =
     let told = sym c.in_default-allot_told.is ∙ c.allot_told.ensures in
     let same = c.make_places.ensures.kept ∙ sym (append-nil i.log.entries) ∙ sym (ap (λ (l : List Entry). i.log.entries ++ l) (allot_entries s lib c.args.pages c.args.inodes c.allot-result.result _ told)) in
     let places = rw (c.promised.ensures) at c.in-Ok.ensures.room in
-    after_call _ s c.allot-result.new.self.state i.registry.promised c.allot-result.new.self.promised i.log c.make_places.new.log i.notes (Allot lib.0 c.args.pages c.args.inodes) _ c.self.invariant c.allot-result.ensures.was_kept library tt tt c.allot-result.ensures.step tt same
+    after_call _ s c.allot-result.new.self.state i.registry.begun c.allot-result.new.self.begun i.registry.promised c.allot-result.new.self.promised i.log c.make_places.new.log i.notes (Allot lib.0 c.args.pages c.args.inodes) _ c.self.invariant c.allot-result.ensures.was_kept (seen_idle c.args.lib.0 c.self.view_is c.requires.idle) c.allot-result.ensures.begun library tt tt c.allot-result.ensures.step tt same
     (same_room c.make_places.new.log.entries i.registry.promised c.allot-result.new.self.promised c.make_places.new.log.room places c.allot-result.ensures.promised)

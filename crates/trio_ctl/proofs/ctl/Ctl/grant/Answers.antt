@@ -6,11 +6,11 @@ use Rattle.trio_state.specs.State.{State}
 use Rattle.trio_state.specs.Step.{Grant}
 use Rattle.trio_laws.specs.history.Replays.{IsLibrary}
 use Rattle.trio_ctl.proofs.Recording.{after_call, grant_entries, next_entry, no_more_room, one_more_room}
-use Rattle.trio_ctl.proofs.Views.{seen_state}
+use Rattle.trio_ctl.proofs.Views.{seen_idle, seen_state}
 use Rattle.trio_ctl.proofs.ctl.Ctl.grant.Goals as goal
 
 pub grant-result-requires-clause-entry : goal.grant-result-requires-clause-entry
-grant-result-requires-clause-entry c = next_entry _ _ _ _ _ _ _ c.self.invariant c.len.ensures c.make_places.ensures.kept
+grant-result-requires-clause-entry c = next_entry _ _ _ _ _ _ _ _ c.self.invariant c.len.ensures c.make_places.ensures.kept
 
 pub invariant_of-self-in-Some : goal.invariant_of-self-in-Some
 invariant_of-self-in-Some c =
@@ -22,7 +22,7 @@ invariant_of-self-in-Some c =
     let told = sym c.in-Some.is ∙ c.grant_told.ensures in
     let pushed = ap (λ (l : Logged). l.entries) c.push.ensures ∙ ap (λ (l : List Entry). l ++ e ∷ []) c.make_places.ensures.kept ∙ sym (ap (λ (l : List Entry). i.log.entries ++ l) (grant_entries s lib c.args.ino c.args.kind c.grant-result.result _ told)) in
     let places = rw (c.promised.ensures) at c.in-Ok.ensures.room in
-    after_call _ s c.grant-result.new.self.state i.registry.promised c.grant-result.new.self.promised i.log c.push.new.self i.notes (Grant lib.0 c.args.ino c.args.kind) _ c.self.invariant c.grant-result.ensures.was_kept library tt tt c.grant-result.ensures.step tt pushed
+    after_call _ s c.grant-result.new.self.state i.registry.begun c.grant-result.new.self.begun i.registry.promised c.grant-result.new.self.promised i.log c.push.new.self i.notes (Grant lib.0 c.args.ino c.args.kind) _ c.self.invariant c.grant-result.ensures.was_kept (seen_idle c.args.lib.0 c.self.view_is c.requires.idle) c.grant-result.ensures.begun library tt tt c.grant-result.ensures.step tt pushed
     (rw c.push.ensures (one_more_room c.make_places.new.log.entries e i.registry.promised c.grant-result.new.self.promised c.make_places.new.log.room places c.grant-result.ensures.promised))
 
 pub invariant_of-self-in_default-grant_told : goal.invariant_of-self-in_default-grant_told
@@ -34,5 +34,5 @@ invariant_of-self-in_default-grant_told c =
     let told = sym c.in_default-grant_told.is ∙ c.grant_told.ensures in
     let same = c.make_places.ensures.kept ∙ sym (append-nil i.log.entries) ∙ sym (ap (λ (l : List Entry). i.log.entries ++ l) (grant_entries s lib c.args.ino c.args.kind c.grant-result.result _ told)) in
     let places = rw (c.promised.ensures) at c.in-Ok.ensures.room in
-    after_call _ s c.grant-result.new.self.state i.registry.promised c.grant-result.new.self.promised i.log c.make_places.new.log i.notes (Grant lib.0 c.args.ino c.args.kind) _ c.self.invariant c.grant-result.ensures.was_kept library tt tt c.grant-result.ensures.step tt same
+    after_call _ s c.grant-result.new.self.state i.registry.begun c.grant-result.new.self.begun i.registry.promised c.grant-result.new.self.promised i.log c.make_places.new.log i.notes (Grant lib.0 c.args.ino c.args.kind) _ c.self.invariant c.grant-result.ensures.was_kept (seen_idle c.args.lib.0 c.self.view_is c.requires.idle) c.grant-result.ensures.begun library tt tt c.grant-result.ensures.step tt same
     (no_more_room c.make_places.new.log.entries i.registry.promised c.grant-result.new.self.promised c.make_places.new.log.room places c.grant-result.ensures.promised)

@@ -1,116 +1,86 @@
-use Rattle.std.proofs.Common.{◌≡◌, ◌++◌, [], ◌∷◌, List, ap, refl, subst, sym, ◌∙◌}
-use Rattle.trio_lease.specs.Bundles.{Bundled}
+use Rattle.std.proofs.Common.{◌≡◌, ◌+◌, ◌*◌, ◌≤◌, ◌++◌, length, ap, inl, subst, sym, ◌∙◌, arith}
+use Rattle.trio_rights.specs.Bundle.{bundle_pages}
 use Rattle.trio_lease.specs.Views.{bundle_in}
-use Rattle.trio_log.specs.Logged.{Logged}
-use Rattle.trio_nodes.specs.declared.entry.Entry.{Entry}
-use Rattle.trio_nodes.specs.declared.entry.Entry.TheVariants as entry
-use Rattle.trio_layout.specs.Case.{Case}
-use Rattle.trio_state.specs.Given.{GivenTo}
+use Rattle.trio_layout.specs.Copied.{with_copied}
+use Rattle.trio_judge.specs.Cases.{CaseShown, case_in as case_shown}
+use Rattle.trio_state.specs.Moves.{Acts, Answered, End, IsAwaited}
 use Rattle.trio_state.specs.State.{State}
-use Rattle.trio_state.specs.Step.{Release, Step}
+use Rattle.trio_state.specs.Step.{Release}
 use Rattle.trio_state.specs.Tells.{case_in}
-use Rattle.trio_laws.specs.RuleLaws.{IsJudgeable}
-use Rattle.trio_laws.specs.history.Replays.{IsLibrary}
-use Rattle.trio_entries.specs.Handed.{handed_in}
-use Rattle.trio_survey.specs.Stored.{image_in}
-use Rattle.trio_ctl.specs.Answers.{release_fault_answer, verdict_of}
-use Rattle.trio_ctl.specs.Ctl.{Controller}
-use Rattle.trio_ctl.specs.HandedIn.{WereLent}
-use Rattle.trio_ctl.specs.Logged.{HasHistory, entries_made, with_bundle}
-use Rattle.trio_ctl.specs.inner.Outcomes.{verdict_on}
-use Rattle.trio_ctl.specs.inner.Telling.{TellsOutcome, noted_by}
-use Rattle.trio_ctl.proofs.Recording.{next_entry, one_room}
-use Rattle.trio_ctl.proofs.RecordedReleases.{after_release, are_noted, release_entries, whole_is}
-use Rattle.trio_ctl.proofs.Views.{seen_state}
+use Rattle.trio_ctl.specs.Answers.{verdict_of}
+use Rattle.trio_ctl.specs.Ctl.{Controller, underway_of}
+use Rattle.trio_ctl.specs.HandedIn.{WereLentOrTouched}
+use Rattle.trio_ctl.specs.Logged.{entries_made, with_bundle}
+use Rattle.trio_ctl.specs.Pending.{case_made}
+use Rattle.trio_ctl.proofs.Awaiting.{made_is}
+use Rattle.trio_ctl.proofs.Ends.{at_once, begun_so, in_a_row}
 use Rattle.trio_ctl.proofs.ctl.Ctl.release.Goals as goal
 
-pub judged-requires-clause-entry : goal.judged-requires-clause-entry
-judged-requires-clause-entry c = next_entry _ _ _ _ _ _ _ c.self.invariant c.len-entry.ensures c.make_places.ensures.kept
+pub finish-requires-clause-awaited : goal.finish-requires-clause-awaited
+finish-requires-clause-awaited c =
+    let lib = c.args.lib in
+    let b = c.args.bundle in
+    let u = underway_of c.args.self.now in
+    let mid = underway_of c.begin.new.self in
+    let was = c.in-Ok.ensures in
+    let same = c.weigh-judged.ensures.case ∙ was.pending in
+    let state : c.begin.new.self.state ≡ c.args.self.now.state = ap (λ (x : Controller). x.state) was.rest in
+    let case = subst (λ (v : State). case_shown (case_made c.args.self.now.state lib b) ≡ with_copied (case_in v lib.0 (bundle_in b))) (sym state) (made_is c.args.self.now.state lib b was.was_kept.kept c.requires.held) in
+    subst (λ (k : CaseShown). IsAwaited mid k.lib.0 (case_shown k)) (sym same)
+    (begun_so u mid lib.0 (bundle_in b) c.requires.library was.was_kept.placed was.acts, case)
+
+pub finish-requires-clause-lent : goal.finish-requires-clause-lent
+finish-requires-clause-lent c =
+    let was = c.in-Ok.ensures in
+    let same = c.weigh-judged.ensures.case ∙ was.pending in
+    let state : c.begin.new.self.state ≡ c.args.self.now.state = ap (λ (x : Controller). x.state) was.rest in
+    subst (λ (k : CaseShown). WereLentOrTouched c.begin.new.self.state k.lib.0 k.bundle.writes) (sym same)
+    (subst (λ (v : State). WereLentOrTouched v c.args.lib.0 c.args.bundle.writes) (sym state) (λ f i. inl (c.requires.lent f i)))
+
+pub returns-in-Ok-clause-step : goal.returns-in-Ok-clause-step
+returns-in-Ok-clause-step c =
+    let was = c.in-Ok.ensures in
+    let same = c.weigh-judged.ensures.case ∙ was.pending in
+    let mid = underway_of c.begin.new.self in
+    let after = underway_of c.finish.new.self in
+    let end = subst (λ (k : CaseShown). Acts mid (End k.lib.0 (bundle_in k.bundle)) (Answered (verdict_of c.finish.result)) after) same c.finish.ensures.acts in
+    (in_a_row (underway_of c.args.self.now) mid after c.args.lib.0 (bundle_in c.args.bundle) c.finish.result (c.requires.library, c.requires.idle, c.requires.given) was.was_kept.placed was.acts c.requires.given.full end).0
+
+pub returns-in-Ok-clause-logs : goal.returns-in-Ok-clause-logs
+returns-in-Ok-clause-logs c =
+    let was = c.in-Ok.ensures in
+    let same = c.weigh-judged.ensures.case ∙ was.pending in
+    let mid = underway_of c.begin.new.self in
+    let after = underway_of c.finish.new.self in
+    let end = subst (λ (k : CaseShown). Acts mid (End k.lib.0 (bundle_in k.bundle)) (Answered (verdict_of c.finish.result)) after) same c.finish.ensures.acts in
+    let answer = verdict_of c.finish.result in
+    record {
+      log =
+          c.finish.ensures.log
+          ∙ ap (λ (k : CaseShown). c.begin.new.self.log ++ entries_made c.begin.new.self.state (with_bundle k.bundle) (Release k.lib.0 (bundle_in k.bundle)) answer) same
+          ∙ ap (λ (x : Controller). x.log ++ entries_made x.state (with_bundle c.args.bundle) (Release c.args.lib.0 (bundle_in c.args.bundle)) answer) was.rest;
+      first = c.finish.ensures.first ∙ ap (λ (x : Controller). x.first) was.rest;
+      begun =
+          (in_a_row (underway_of c.args.self.now) mid after c.args.lib.0 (bundle_in c.args.bundle) c.finish.result (c.requires.library, c.requires.idle, c.requires.given) was.was_kept.placed was.acts c.requires.given.full end).1;
+    }
+
+pub returns-in-Ok-clause-looked : goal.returns-in-Ok-clause-looked
+returns-in-Ok-clause-looked c =
+    let was = c.in-Ok.ensures in
+    let same = c.weigh-judged.ensures.case ∙ was.pending in
+    let before = ap (λ (x : Controller). x.looked) was.rest in
+    let looked = subst (λ (k : CaseShown). c.finish.new.self.looked ≤ c.begin.new.self.looked + length (bundle_pages (bundle_in k.bundle)) + length (bundle_in k.bundle).writes) same c.finish.ensures.looked in
+    omega (arith, looked, before)
+
+pub returns-in-Ok-clause-reads : goal.returns-in-Ok-clause-reads
+returns-in-Ok-clause-reads c =
+    let was = c.in-Ok.ensures in
+    let same = c.weigh-judged.ensures.case ∙ was.pending in
+    let weighed = subst (λ (k : CaseShown). c.weigh-judged.new.reads ≤ c.args.reads.now + 2 * length (bundle_pages (bundle_in k.bundle))) was.pending c.weigh-judged.ensures.reads in
+    let ended = subst (λ (k : CaseShown). c.finish.new.reads ≤ c.weigh-judged.new.reads + length (bundle_pages (bundle_in k.bundle)) + length (bundle_in k.bundle).writes) same c.finish.ensures.reads in
+    omega (arith, weighed, ended)
 
 pub returns-in-Err-clause-step : goal.returns-in-Err-clause-step
 returns-in-Err-clause-step c =
-    subst (λ (v : State). Step v (Release c.args.lib.0 (bundle_in c.args.bundle)) (release_fault_answer c.in-Err.back.1) c.self.inside.registry.state) (seen_state c.self.view_is) c.in-Err.ensures.fault
-
-pub told-requires-clause-noted : goal.told-requires-clause-noted
-told-requires-clause-noted c = are_noted c.self.inside.registry.state c.rows-rows.result.now c.self.inside.notes c.self.invariant.all.kept c.rows-rows.ensures c.self.invariant.noted
-
-pub conclude-verdict-requires-clause-entry : goal.conclude-verdict-requires-clause-entry
-conclude-verdict-requires-clause-entry c = next_entry _ _ _ _ _ _ _ c.self.invariant c.len-entry.ensures c.make_places.ensures.kept
-
-pub invariant_of-self-2 : goal.invariant_of-self-2
-invariant_of-self-2 c =
-    let i = c.self.inside in
-    let s = i.registry.state in
-    let lib = c.args.lib in
-    let b = c.args.bundle in
-    let seen = seen_state c.self.view_is in
-    let k = c.in-Ok-judged.judged.0 in
-    let o = c.in-Ok-judged.judged.1 in
-    let was = c.in-Ok-judged.ensures in
-    let given = subst (λ (v : State). GivenTo v lib.0 (bundle_in b)) (sym seen) c.requires.given in
-    let j : IsJudgeable s lib.0 (bundle_in b) = record { kept = c.self.invariant.all.kept; given = given; closed = was.closed refl } in
-    let whole = whole_is k s lib.0 (bundle_in b) c.rows-rows.result.now was.rows c.rows-rows.ensures in
-    let handed : c.in-Ok-copied.handed ≡ handed_in b = c.in-Ok-copied.ensures ∙ ap handed_in (c.bundle.ensures.bundle ∙ was.case) in
-    let told =
-    subst (λ h. TellsOutcome (case_in s lib.0 (bundle_in b)) i.notes h o c.in-Ok-told.told) handed
-    (subst (λ (x : Case). TellsOutcome x i.notes c.in-Ok-copied.handed o c.in-Ok-told.told) whole c.in-Ok-told.ensures)
-    in
-    let verdict = c.conclude-verdict.ensures.verdict in
-    let files = c.in-Ok-told.told.files in
-    let blocks = c.in-Ok-told.told.blocks in
-    let pushed =
-    ap (λ (l : Logged). l.entries) c.push.ensures
-    ∙ ap (λ (l : List Entry). l ++ entry.Raw lib c.conclude-verdict.result files blocks c.in-Ok-copied.handed ∷ []) c.make_places.ensures.kept
-    ∙ ap (λ v. i.log.entries ++ entry.Raw lib v files blocks c.in-Ok-copied.handed ∷ []) verdict
-    ∙ ap (λ h. i.log.entries ++ entry.Raw lib (verdict_on o) files blocks h ∷ []) handed
-    in
-    let library = subst (λ (v : State). IsLibrary v.creds lib.0) (sym seen) c.requires.library in
-    let lent = subst (λ (v : State). WereLent v lib.0 b.writes) (sym seen) c.requires.lent in
-    let step =
-    subst (λ v. Step s (Release lib.0 (bundle_in b)) (verdict_of v) c.conclude-verdict.new.self.state) verdict
-    (subst (λ (x : Bundled). Step s (Release lib.0 (bundle_in x)) (verdict_of c.conclude-verdict.result) c.conclude-verdict.new.self.state) was.case c.conclude-verdict.ensures.step)
-    in
-    let noted = c.note.ensures ∙ ap (λ fs. noted_by c.conclude-verdict.result fs i.notes) c.as_slice.ensures ∙ ap (λ v. noted_by v files i.notes) verdict in
-    let places = rw (c.promised.ensures) at c.in-Ok.ensures.room in
-    subst (λ n. HasHistory (image_in i.first.value.superblock i.first.value.pages) c.conclude-verdict.new.self.state n c.push.new.self c.note.new.notes) (sym c.conclude-verdict.ensures.promised)
-    (after_release _ s c.conclude-verdict.new.self.state i.registry.promised i.log c.push.new.self i.notes c.note.new.notes lib b o c.in-Ok-told.told c.self.invariant j library lent c.keeps_untouched.ensures was.outcome told step noted pushed (rw c.push.ensures (one_room c.make_places.new.log.entries (entry.Raw lib c.conclude-verdict.result files blocks c.in-Ok-copied.handed) i.registry.promised i.registry.promised c.make_places.new.log.room places refl)))
-
-pub returns-clause-step : goal.returns-clause-step
-returns-clause-step c =
-    let lib = c.args.lib in
-    subst (λ (v : State). Step v (Release lib.0 (bundle_in c.args.bundle)) (verdict_of c.conclude-verdict.result) c.conclude-verdict.new.self.state) (seen_state c.self.view_is)
-    (subst (λ (x : Bundled). Step c.self.inside.registry.state (Release lib.0 (bundle_in x)) (verdict_of c.conclude-verdict.result) c.conclude-verdict.new.self.state) c.in-Ok-judged.ensures.case c.conclude-verdict.ensures.step)
-
-pub returns-clause-logs : goal.returns-clause-logs
-returns-clause-logs c =
-    let i = c.self.inside in
-    let s = i.registry.state in
-    let lib = c.args.lib in
-    let b = c.args.bundle in
-    let seen = seen_state c.self.view_is in
-    let k = c.in-Ok-judged.judged.0 in
-    let o = c.in-Ok-judged.judged.1 in
-    let was = c.in-Ok-judged.ensures in
-    let given = subst (λ (v : State). GivenTo v lib.0 (bundle_in b)) (sym seen) c.requires.given in
-    let j : IsJudgeable s lib.0 (bundle_in b) = record { kept = c.self.invariant.all.kept; given = given; closed = was.closed refl } in
-    let whole = whole_is k s lib.0 (bundle_in b) c.rows-rows.result.now was.rows c.rows-rows.ensures in
-    let handed : c.in-Ok-copied.handed ≡ handed_in b = c.in-Ok-copied.ensures ∙ ap handed_in (c.bundle.ensures.bundle ∙ was.case) in
-    let told =
-    subst (λ h. TellsOutcome (case_in s lib.0 (bundle_in b)) i.notes h o c.in-Ok-told.told) handed
-    (subst (λ (x : Case). TellsOutcome x i.notes c.in-Ok-copied.handed o c.in-Ok-told.told) whole c.in-Ok-told.ensures)
-    in
-    let verdict = c.conclude-verdict.ensures.verdict in
-    let files = c.in-Ok-told.told.files in
-    let blocks = c.in-Ok-told.told.blocks in
-    let pushed =
-    ap (λ (l : Logged). l.entries) c.push.ensures
-    ∙ ap (λ (l : List Entry). l ++ entry.Raw lib c.conclude-verdict.result files blocks c.in-Ok-copied.handed ∷ []) c.make_places.ensures.kept
-    ∙ ap (λ v. i.log.entries ++ entry.Raw lib v files blocks c.in-Ok-copied.handed ∷ []) verdict
-    ∙ ap (λ h. i.log.entries ++ entry.Raw lib (verdict_on o) files blocks h ∷ []) handed
-    in
-    let made =
-    pushed ∙ sym (ap (λ (l : List Entry). i.log.entries ++ l) (release_entries s lib b o c.in-Ok-told.told i.notes j was.outcome c.self.invariant.noted told))
-    ∙ ap (λ v. i.log.entries ++ entries_made s (with_bundle b) (Release lib.0 (bundle_in b)) (verdict_of v)) (sym verdict)
-    ∙ ap (λ (x : Controller). x.log ++ entries_made x.state (with_bundle b) (Release lib.0 (bundle_in b)) (verdict_of c.conclude-verdict.result)) c.self.view_is
-    in
-    record { log = made; first = ap (λ (x : Controller). x.first) c.self.view_is }
+    let was = c.in-Err.ensures in
+    (at_once (underway_of c.args.self.now) (underway_of c.begin.new.self) c.args.lib.0 (bundle_in c.args.bundle) c.in-Err.back.1 (c.requires.library, c.requires.idle, c.requires.given) was.was_kept.placed was.acts).0

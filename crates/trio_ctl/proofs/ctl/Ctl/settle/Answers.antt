@@ -20,7 +20,6 @@ use Rattle.trio_ctl.specs.Answers.{verdict_of}
 use Rattle.trio_ctl.specs.Backs.{all_back, back_entries}
 use Rattle.trio_ctl.specs.Ctl.{Controller}
 use Rattle.trio_ctl.specs.Desk.{Happens, desk_of}
-use Rattle.trio_ctl.specs.Entries.{HasRoom, entries_of}
 use Rattle.trio_ctl.specs.Logged.{HasHistory}
 use Rattle.trio_ctl.specs.inner.Outcomes.{IsOutcome}
 use Rattle.trio_ctl.specs.inner.Telling.{TellsOutcome, noted_by}
@@ -29,14 +28,14 @@ use Rattle.trio_ctl.proofs.LeasesBack.{backs_whose}
 use Rattle.trio_ctl.proofs.Recording.{next_entry, one_room}
 use Rattle.trio_ctl.proofs.RecordedReleases.{are_noted, whole_is}
 use Rattle.trio_ctl.proofs.Settling.{after_settle, back_in_turn, case_then, judgeable_then, lent_reads, not_settled, places_then, room_then, settled_then}
-use Rattle.trio_ctl.proofs.Views.{seen_state}
+use Rattle.trio_ctl.proofs.Views.{seen_idle, seen_state}
 use Rattle.trio_ctl.proofs.ctl.Ctl.settle.Goals as goal
 
 pub judged-requires-clause-entry : goal.judged-requires-clause-entry
-judged-requires-clause-entry c = next_entry _ _ _ _ _ _ _ c.self.invariant c.len.ensures c.make_places.ensures.kept
+judged-requires-clause-entry c = next_entry _ _ _ _ _ _ _ _ c.self.invariant c.len.ensures c.make_places.ensures.kept
 
 pub give_back_all-requires-clause-entry : goal.give_back_all-requires-clause-entry
-give_back_all-requires-clause-entry c = next_entry _ _ _ _ _ _ _ c.self.invariant refl c.make_places.ensures.kept
+give_back_all-requires-clause-entry c = next_entry _ _ _ _ _ _ _ _ c.self.invariant refl c.make_places.ensures.kept
 
 pub judged-requires-clause-given : goal.judged-requires-clause-given
 judged-requires-clause-given c =
@@ -64,24 +63,16 @@ returns-in-Err-clause-happens c =
     subst (λ (v : State). Happens v c.args.lib (SettleAsked (parcel_of c.args.bundle) c.args.back.items c.args.calls.items) NotSettled s) seen
     (not_settled s c.args.lib c.args.bundle c.args.back.items c.args.calls.items c.self.invariant.all.kept c.self.invariant.lent ready)
 
-pub returns-in_default-copied-clause-happens : goal.returns-in_default-copied-clause-happens
-returns-in_default-copied-clause-happens c =
+pub returns-in_default-with-clause-happens : goal.returns-in_default-with-clause-happens
+returns-in_default-with-clause-happens c =
     let s = c.self.inside.registry.state in
     let seen = seen_state c.self.view_is in
     let ready = subst (λ (v : State). Ready (desk_of v c.args.lib) (parcel_of c.args.bundle) c.args.back.items c.args.calls.items) (sym seen) c.requires.ready in
     subst (λ (v : State). Happens v c.args.lib (SettleAsked (parcel_of c.args.bundle) c.args.back.items c.args.calls.items) NotSettled s) seen
     (not_settled s c.args.lib c.args.bundle c.args.back.items c.args.calls.items c.self.invariant.all.kept c.self.invariant.lent ready)
 
-pub returns-in_default-told-clause-happens : goal.returns-in_default-told-clause-happens
-returns-in_default-told-clause-happens c =
-    let s = c.self.inside.registry.state in
-    let seen = seen_state c.self.view_is in
-    let ready = subst (λ (v : State). Ready (desk_of v c.args.lib) (parcel_of c.args.bundle) c.args.back.items c.args.calls.items) (sym seen) c.requires.ready in
-    subst (λ (v : State). Happens v c.args.lib (SettleAsked (parcel_of c.args.bundle) c.args.back.items c.args.calls.items) NotSettled s) seen
-    (not_settled s c.args.lib c.args.bundle c.args.back.items c.args.calls.items c.self.invariant.all.kept c.self.invariant.lent ready)
-
-pub told-requires-clause-noted : goal.told-requires-clause-noted
-told-requires-clause-noted c = are_noted c.self.inside.registry.state c.rows-rows.result.now c.self.inside.notes c.self.invariant.all.kept c.rows-rows.ensures c.self.invariant.noted
+pub told-told-requires-clause-noted : goal.told-told-requires-clause-noted
+told-told-requires-clause-noted c = are_noted c.self.inside.registry.state c.rows-rows.result.now c.self.inside.notes c.self.invariant.all.kept c.rows-rows.ensures c.self.invariant.noted
 
 pub give_back_all-requires-clause-given : goal.give_back_all-requires-clause-given
 give_back_all-requires-clause-given c =
@@ -95,10 +86,10 @@ give_back_all-requires-clause-whose c =
 
 pub conclude-verdict-requires-clause-room : goal.conclude-verdict-requires-clause-room
 conclude-verdict-requires-clause-room c =
-    let s = c.self.inside.registry.state in
-    let ready = subst (λ (v : State). Ready (desk_of v c.args.lib) (parcel_of c.args.bundle) c.args.back.items c.args.calls.items) (sym (seen_state c.self.view_is)) c.requires.ready in
-    subst (λ (v : State). HasRoom (entries_of v) 1) (sym c.give_back_all.ensures.state)
-    (room_then s c.args.lib c.args.back.items (back_in_turn s c.args.lib (parcel_of c.args.bundle) c.args.back.items ready.all) (c.in-Ok-judged.ensures.room refl))
+    let r = c.self.inside.registry in
+    let was = next_entry _ _ _ _ _ _ _ _ c.self.invariant refl c.make_places.ensures.kept in
+    room_then c.make_places.new.log.entries c.give_back_all.new.log.entries c.args.lib c.args.back.items r.state.entries c.give_back_all.new.registry.state.entries r.promised c.give_back_all.new.registry.promised
+    was c.give_back_all.ensures.entry c.give_back_all.ensures.log c.give_back_all.ensures.promised (c.in-Ok-judged.ensures.room refl)
 
 pub conclude-verdict-requires-clause-given : goal.conclude-verdict-requires-clause-given
 conclude-verdict-requires-clause-given c =
@@ -145,10 +136,10 @@ invariant_of-self-2 c =
     let o = c.in-Ok-judged.judged.1 in
     let was = c.in-Ok-judged.ensures in
     let whole = whole_is k s lib.0 (bundle_in b) c.rows-rows.result.now was.rows c.rows-rows.ensures in
-    let handed : c.in-Ok-copied.handed ≡ handed_in b = c.in-Ok-copied.ensures ∙ ap handed_in (c.bundle.ensures.bundle ∙ was.case) in
+    let handed : c.into_handed.result ≡ handed_in b = c.into_handed.ensures ∙ c.told-told.ensures.handed ∙ ap handed_in was.case in
     let told =
-    subst (λ h. TellsOutcome (case_in s lib.0 (bundle_in b)) i.notes h o c.in-Ok-told.told) handed
-    (subst (λ (x : Case). TellsOutcome x i.notes c.in-Ok-copied.handed o c.in-Ok-told.told) whole c.in-Ok-told.ensures)
+    subst (λ (x : Bundled). TellsOutcome (case_in s lib.0 (bundle_in b)) i.notes (handed_in x) o c.told-told.result) was.case
+    (subst (λ (x : Case). TellsOutcome x i.notes (handed_in k.bundle) o c.told-told.result) whole c.told-told.ensures.told)
     in
     let result = c.conclude-verdict.result in
     let after = c.conclude-verdict.new.self.state in
@@ -161,7 +152,7 @@ invariant_of-self-2 c =
     let backs = c.give_back_all.ensures.log ∙ ap (λ (l : List Entry). l ++ back_entries lib back) c.make_places.ensures.kept in
     let pushed =
     ap (λ (l : Logged). l.entries) c.push.ensures
-    ∙ ap (λ ds. mid.entries ++ entry.Batch lib ds c.in-Ok-copied.handed ∷ []) c.from_vec.ensures
+    ∙ ap (λ ds. mid.entries ++ entry.Batch lib ds c.into_handed.result ∷ []) c.from_vec.ensures
     ∙ ap (λ h. mid.entries ++ entry.Batch lib calls h ∷ []) handed
     in
     let p' = c.give_back_all.new.registry.promised in
@@ -170,10 +161,10 @@ invariant_of-self-2 c =
     let here = subst (λ (es : List Entry). length es + p' + 1 ≤ c.make_places.new.log.room) (sym c.give_back_all.ensures.log) left in
     let room : length mid.entries + p' + 1 ≤ mid.room = subst (λ (n : ℕ). length mid.entries + p' + 1 ≤ n) (sym c.give_back_all.ensures.room) here in
     let less : length mid.entries + p' ≤ mid.room = omega (arith, room) in
-    subst (λ n. HasHistory (image_in i.first.value.superblock i.first.value.pages) after n c.push.new.self c.note.new.notes) (sym c.conclude-verdict.ensures.promised)
-    (after_settle s lib b back calls c.self.invariant.all.kept c.self.invariant.lent ready (image_in i.first.value.superblock i.first.value.pages) after i.registry.promised p' i.log mid c.push.new.self i.notes c.note.new.notes o c.in-Ok-told.told result
-    c.self.invariant library (were_lent s lib (parcel_of b) ready.all.given) c.keeps_untouched.ensures was.outcome told c.conclude-verdict.ensures.verdict step noted backs c.give_back_all.ensures.promised less pushed
-    (rw c.push.ensures (one_room mid.entries (entry.Batch lib c.from_vec.result c.in-Ok-copied.handed) p' p' mid.room room refl)))
+    subst (λ n. HasHistory (image_in i.first.value.superblock i.first.value.pages) after c.conclude-verdict.new.self.begun n c.push.new.self c.note.new.notes) (sym c.conclude-verdict.ensures.promised)
+    (after_settle s lib b back calls c.self.invariant.all.kept c.self.invariant.lent ready (image_in i.first.value.superblock i.first.value.pages) after i.registry.begun c.conclude-verdict.new.self.begun i.registry.promised p' i.log mid c.push.new.self i.notes c.note.new.notes o c.told-told.result result
+    c.self.invariant (seen_idle c.args.lib.0 c.self.view_is c.requires.idle) (c.conclude-verdict.ensures.begun ∙ c.give_back_all.ensures.begun) library (were_lent s lib (parcel_of b) ready.all.given) c.keeps_untouched.ensures was.outcome told c.conclude-verdict.ensures.verdict step noted backs c.give_back_all.ensures.promised less pushed
+    (rw c.push.ensures (one_room mid.entries (entry.Batch lib c.from_vec.result c.into_handed.result) p' p' mid.room room refl)))
 
 pub returns-clause-happens : goal.returns-clause-happens
 returns-clause-happens c =
@@ -201,15 +192,15 @@ returns-clause-logs c =
     let back = c.args.back.items in
     let calls = c.args.calls.items in
     let was = c.in-Ok-judged.ensures in
-    let handed : c.in-Ok-copied.handed ≡ handed_in b = c.in-Ok-copied.ensures ∙ ap handed_in (c.bundle.ensures.bundle ∙ was.case) in
+    let handed : c.into_handed.result ≡ handed_in b = c.into_handed.ensures ∙ c.told-told.ensures.handed ∙ ap handed_in was.case in
     let mid = c.give_back_all.new.log in
     let batch : Entry = entry.Batch lib calls (handed_in b) in
     let made =
     ap (λ (l : Logged). l.entries) c.push.ensures
-    ∙ ap (λ ds. mid.entries ++ entry.Batch lib ds c.in-Ok-copied.handed ∷ []) c.from_vec.ensures
+    ∙ ap (λ ds. mid.entries ++ entry.Batch lib ds c.into_handed.result ∷ []) c.from_vec.ensures
     ∙ ap (λ h. mid.entries ++ entry.Batch lib calls h ∷ []) handed
     ∙ ap (λ (l : List Entry). l ++ batch ∷ []) (c.give_back_all.ensures.log ∙ ap (λ (l : List Entry). l ++ back_entries lib back) c.make_places.ensures.kept)
     ∙ append_assoc i.log.entries (back_entries lib back) (batch ∷ [])
     ∙ ap (λ (x : Controller). x.log ++ (back_entries lib back ++ batch ∷ [])) c.self.view_is
     in
-    record { log = made; first = ap (λ (x : Controller). x.first) c.self.view_is }
+    record { log = made; first = ap (λ (x : Controller). x.first) c.self.view_is; begun = c.conclude-verdict.ensures.begun ∙ c.give_back_all.ensures.begun ∙ ap (λ (x : Controller). x.begun) c.self.view_is }

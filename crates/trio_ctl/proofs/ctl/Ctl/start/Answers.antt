@@ -1,9 +1,10 @@
-use Rattle.std.proofs.Common.{ap, subst, sym, ◌∙◌}
+use Rattle.std.proofs.Common.{ap, length, subst, sym, ◌∙◌}
 use Rattle.trio_image.specs.Image.{ImagePages}
 use Rattle.trio_state.specs.Run.{start}
 use Rattle.trio_state.specs.State.{State}
 use Rattle.trio_survey.specs.Stored.{image_in}
 use Rattle.trio_ctl.specs.Logged.{HasHistory}
+use Rattle.trio_ctl.proofs.Underways.{all_idle}
 use Rattle.trio_ctl.proofs.Recording.{begins}
 use Rattle.trio_ctl.proofs.ctl.Ctl.start.Goals as goal
 
@@ -11,7 +12,11 @@ pub invariant_of-result : goal.invariant_of-result
 invariant_of-result c =
     let image = c.args.image in
     let first = image_in image.superblock image.pages in
-    let begun = begins image.superblock image.pages c.args.libs.items c.new.result c.of.result c.superblock-superblock.ensures.verified c.new.ensures (c.of.ensures ∙ c.in-Ok.ensures.notes) in
-    subst (λ (x : ImagePages). HasHistory (image_in x.superblock x.pages) c.in-Ok-start.registry.state c.in-Ok-start.registry.promised c.new.result c.of.result) (sym c.of-first.ensures)
-    (subst (λ (v : State). HasHistory first v c.in-Ok-start.registry.promised c.new.result c.of.result) (sym (c.in-Ok-start.ensures.started ∙ ap (λ (x : ImagePages). start (image_in x.superblock x.pages) c.args.libs.items) c.notes.ensures.image))
-    (subst (λ n. HasHistory first (start first c.args.libs.items) n c.new.result c.of.result) (sym c.in-Ok-start.ensures.promised) begun))
+    let none = c.in-Ok-start.registry.begun in
+    let begun = begins image.superblock image.pages c.args.libs.items none c.new.result c.of.result c.superblock-superblock.ensures.verified c.in-Ok-start.ensures.begun c.new.ensures (c.of.ensures ∙ c.in-Ok.ensures.notes) in
+    subst (λ (x : ImagePages). HasHistory (image_in x.superblock x.pages) c.in-Ok-start.registry.state none c.in-Ok-start.registry.promised c.new.result c.of.result) (sym c.of-first.ensures)
+    (subst (λ (v : State). HasHistory first v none c.in-Ok-start.registry.promised c.new.result c.of.result) (sym (c.in-Ok-start.ensures.started ∙ ap (λ (x : ImagePages). start (image_in x.superblock x.pages) c.args.libs.items) c.notes.ensures.image))
+    (subst (λ n. HasHistory first (start first c.args.libs.items) none n c.new.result c.of.result) (sym c.in-Ok-start.ensures.promised) begun))
+
+pub returns-in-Ok-start-clause-idle : goal.returns-in-Ok-start-clause-idle
+returns-in-Ok-start-clause-idle c = λ lib. all_idle c.in-Ok-start.registry.state c.in-Ok-start.registry.begun (length c.args.libs.items) lib c.in-Ok-start.ensures.begun

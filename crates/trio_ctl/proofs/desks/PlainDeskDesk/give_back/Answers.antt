@@ -3,6 +3,7 @@ use Rattle.trio_nodes.specs.declared.grant.GrantKind.TheVariants.{Read}
 use Rattle.trio_state.specs.Given.{HasGrant}
 use Rattle.trio_state.specs.Step.{Step}
 use Rattle.trio_state.specs.Step as step
+use Rattle.trio_ctl.specs.Ctl.{IsIdle}
 use Rattle.trio_ctl.proofs.DeskGiven.{read_by}
 use Rattle.trio_ctl.proofs.DeskLogs.{back_logs}
 use Rattle.trio_ctl.proofs.DeskSteps.{back_seen}
@@ -12,7 +13,7 @@ pub give_back-requires : goal.give_back-requires
 give_back-requires c =
     let d = c.args.self.now in
     let by = read_by d.ctl.now.state d.lib c.args.lease c.requires in
-    record { given = subst (λ n. HasGrant d.ctl.now.state n c.args.lease.ino Read) (sym by.1) by.0 }
+    record { idle = subst (λ n. IsIdle d.ctl.now n) (sym by.1) d.is_idle; given = subst (λ n. HasGrant d.ctl.now.state n c.args.lease.ino Read) (sym by.1) by.0 }
 
 pub returns-clause-called : goal.returns-clause-called
 returns-clause-called c =

@@ -1,5 +1,6 @@
 use Rattle.trio_desk.specs.Call.{SetMode, mode_told}
 use Rattle.trio_ctl.proofs.DeskSteps.{libraries_stay, mode_holder, mode_seen}
+use Rattle.trio_ctl.proofs.Underways.{idle_still}
 use Rattle.trio_ctl.proofs.desks.PlainDeskDesk.set_mode.Goals as goal
 
 pub returns-clause-seen : goal.returns-clause-seen
@@ -15,4 +16,4 @@ returns-clause-holder c =
 pub invariant_of-self : goal.invariant_of-self
 invariant_of-self c =
     let d = c.args.self.now in
-    record { is_library = libraries_stay d.ctl.now.state d.lib d.lib (SetMode c.args.ino c.args.mode c.args.back.items c.args.call) (mode_told c.set_mode.result (λ came. came.2)) c.set_mode.new.self.state c.set_mode.ensures.happens d.is_library }
+    record { is_library = libraries_stay d.ctl.now.state d.lib d.lib (SetMode c.args.ino c.args.mode c.args.back.items c.args.call) (mode_told c.set_mode.result (λ came. came.2)) c.set_mode.new.self.state c.set_mode.ensures.happens d.is_library; is_idle = idle_still d.ctl.now c.set_mode.new.self d.lib.0 c.set_mode.ensures.logs.begun d.is_idle }

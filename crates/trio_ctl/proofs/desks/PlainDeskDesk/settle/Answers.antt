@@ -2,6 +2,7 @@ use Rattle.trio_desk.specs.Call.{Settle, settle_told}
 use Rattle.trio_desk.specs.Out.{parcel_of}
 use Rattle.trio_ctl.proofs.DeskSteps.{libraries_stay}
 use Rattle.trio_ctl.proofs.Settling.{settle_seen}
+use Rattle.trio_ctl.proofs.Underways.{idle_still}
 use Rattle.trio_ctl.proofs.desks.PlainDeskDesk.settle.Goals as goal
 
 pub returns-clause-seen : goal.returns-clause-seen
@@ -12,4 +13,4 @@ returns-clause-seen c =
 pub invariant_of-self : goal.invariant_of-self
 invariant_of-self c =
     let d = c.args.self.now in
-    record { is_library = libraries_stay d.ctl.now.state d.lib d.lib (Settle (parcel_of c.args.bundle) c.args.back.items c.args.calls.items) (settle_told c.settle.result) c.settle.new.self.state c.settle.ensures.happens d.is_library }
+    record { is_library = libraries_stay d.ctl.now.state d.lib d.lib (Settle (parcel_of c.args.bundle) c.args.back.items c.args.calls.items) (settle_told c.settle.result) c.settle.new.self.state c.settle.ensures.happens d.is_library; is_idle = idle_still d.ctl.now c.settle.new.self d.lib.0 c.settle.ensures.logs.begun d.is_idle }

@@ -13,19 +13,19 @@ use Rattle.trio_ctl.proofs.Outs.{pages_given, without_is}
 use Rattle.trio_ctl.proofs.registry.Registry.allot.Goals as goal
 
 pub take-given-requires-clause-page_count : goal.take-given-requires-clause-page_count
-take-given-requires-clause-page_count c = pages_placed c.self.inside.store c.self.inside.first_core c.self.inside.grants c.self.inside.files.items c.self.inside.libs.items c.self.inside.history c.self.invariant
+take-given-requires-clause-page_count c = pages_placed c.self.inside.store c.self.inside.first_core c.self.inside.grants c.self.inside.files.items c.self.inside.libs.items c.self.inside.history c.self.inside.begun.items c.self.invariant
 
 pub take-given-requires-clause-inode_count : goal.take-given-requires-clause-inode_count
-take-given-requires-clause-inode_count c = numbers_placed c.self.inside.store c.self.inside.first_core c.self.inside.grants c.self.inside.files.items c.self.inside.libs.items c.self.inside.history c.self.invariant
+take-given-requires-clause-inode_count c = numbers_placed c.self.inside.store c.self.inside.first_core c.self.inside.grants c.self.inside.files.items c.self.inside.libs.items c.self.inside.history c.self.inside.begun.items c.self.invariant
 
 pub take-given-requires-clause-there : goal.take-given-requires-clause-there
-take-given-requires-clause-there c = free_home c.self.inside.store c.self.inside.first_core c.self.inside.grants c.self.inside.files.items c.self.inside.libs.items c.self.inside.history c.self.invariant
+take-given-requires-clause-there c = free_home c.self.inside.store c.self.inside.first_core c.self.inside.grants c.self.inside.files.items c.self.inside.libs.items c.self.inside.history c.self.inside.begun.items c.self.invariant
 
 pub invariant_of-self : goal.invariant_of-self
 invariant_of-self c =
     let i = c.self.inside in
     let gone = ap (λ (h : Pages). h.pages) c.in-Ok-given.ensures.home ∙ sym (without_is (take c.args.pages (free_pages i.store.owners i.store.allotments.pages)) i.store.home.pages) in
-    given_controlled c.self.inside.store c.self.inside.first_core c.self.inside.grants c.self.inside.files.items c.self.inside.libs.items c.self.inside.history c.self.invariant c.args.lib c.args.pages c.args.inodes (record i.store { home = c.take-given.new.home; allotments = c.take-given.new.self }) c.enter.new.self c.in-Ok-given.ensures.enough_pages c.in-Ok-given.ensures.enough_inodes refl gone c.in-Ok-given.ensures.out c.enter.ensures
+    given_controlled c.self.inside.store c.self.inside.first_core c.self.inside.grants c.self.inside.files.items c.self.inside.libs.items c.self.inside.history c.self.inside.begun.items c.self.invariant c.args.lib c.args.pages c.args.inodes (record i.store { home = c.take-given.new.home; allotments = c.take-given.new.self }) c.enter.new.self c.in-Ok-given.ensures.enough_pages c.in-Ok-given.ensures.enough_inodes refl gone c.in-Ok-given.ensures.out c.enter.ensures
 
 pub returns-in-Ok-given-clause-step : goal.returns-in-Ok-given-clause-step
 returns-in-Ok-given-clause-step c =
@@ -34,7 +34,7 @@ returns-in-Ok-given-clause-step c =
     let pages = ap page_numbers c.in-Ok-given.ensures.pages ∙ pages_given c.args.lib _ in
     let inodes = ap inode_numbers c.in-Ok-given.ensures.inodes ∙ numbers_given c.args.lib _ in
     rw (← (state_is c.self.view_is), pages, inodes)
-    (given_step c.self.inside.store c.self.inside.first_core c.self.inside.grants c.self.inside.files.items c.self.inside.libs.items c.self.inside.history c.self.invariant c.args.lib c.args.pages c.args.inodes (record i.store { home = c.take-given.new.home; allotments = c.take-given.new.self }) c.enter.new.self c.in-Ok-given.ensures.enough_pages c.in-Ok-given.ensures.enough_inodes refl gone c.in-Ok-given.ensures.out c.enter.ensures)
+    (given_step c.self.inside.store c.self.inside.first_core c.self.inside.grants c.self.inside.files.items c.self.inside.libs.items c.self.inside.history c.self.inside.begun.items c.self.invariant c.args.lib c.args.pages c.args.inodes (record i.store { home = c.take-given.new.home; allotments = c.take-given.new.self }) c.enter.new.self c.in-Ok-given.ensures.enough_pages c.in-Ok-given.ensures.enough_inodes refl gone c.in-Ok-given.ensures.out c.enter.ensures)
 
 pub returns-in-Ok-given-clause-pages : goal.returns-in-Ok-given-clause-pages
 returns-in-Ok-given-clause-pages c = c.in-Ok-given.ensures.pages ∙ ap (map (fresh_page c.args.lib)) (sym (ap page_numbers c.in-Ok-given.ensures.pages ∙ pages_given c.args.lib _))
@@ -46,29 +46,29 @@ pub returns-in-Ok-given-clause-kept : goal.returns-in-Ok-given-clause-kept
 returns-in-Ok-given-clause-kept c =
     let i = c.self.inside in
     let gone = ap (λ (h : Pages). h.pages) c.in-Ok-given.ensures.home ∙ sym (without_is (take c.args.pages (free_pages i.store.owners i.store.allotments.pages)) i.store.home.pages) in
-    (given_controlled c.self.inside.store c.self.inside.first_core c.self.inside.grants c.self.inside.files.items c.self.inside.libs.items c.self.inside.history c.self.invariant c.args.lib c.args.pages c.args.inodes (record i.store { home = c.take-given.new.home; allotments = c.take-given.new.self }) c.enter.new.self c.in-Ok-given.ensures.enough_pages c.in-Ok-given.ensures.enough_inodes refl gone c.in-Ok-given.ensures.out c.enter.ensures).stored.kept
+    (given_controlled c.self.inside.store c.self.inside.first_core c.self.inside.grants c.self.inside.files.items c.self.inside.libs.items c.self.inside.history c.self.inside.begun.items c.self.invariant c.args.lib c.args.pages c.args.inodes (record i.store { home = c.take-given.new.home; allotments = c.take-given.new.self }) c.enter.new.self c.in-Ok-given.ensures.enough_pages c.in-Ok-given.ensures.enough_inodes refl gone c.in-Ok-given.ensures.out c.enter.ensures).stored.kept
 
 pub invariant_of-self-in-NoPages : goal.invariant_of-self-in-NoPages
 invariant_of-self-in-NoPages c =
     let kept = rw c.in-Err.is at c.take-given.ensures.kept in
-    let same = still c.self.inside.store c.self.inside.first_core c.self.inside.grants c.self.inside.files.items c.self.inside.libs.items c.self.inside.history c.self.invariant _ refl kept.1 kept.0 in
-    logged_controlled c.self.inside.store c.self.inside.first_core c.self.inside.grants c.self.inside.files.items c.self.inside.libs.items c.self.inside.history c.self.invariant _ _ same c.enter-in-NoPages.ensures
+    let same = still c.self.inside.store c.self.inside.first_core c.self.inside.grants c.self.inside.files.items c.self.inside.libs.items c.self.inside.history c.self.inside.begun.items c.self.invariant _ refl kept.1 kept.0 in
+    logged_controlled c.self.inside.store c.self.inside.first_core c.self.inside.grants c.self.inside.files.items c.self.inside.libs.items c.self.inside.history c.self.inside.begun.items c.self.invariant _ _ same c.enter-in-NoPages.ensures
 
 pub returns-in-NoPages-clause-step : goal.returns-in-NoPages-clause-step
 returns-in-NoPages-clause-step c =
     let kept = rw c.in-Err.is at c.take-given.ensures.kept in
-    let same = still c.self.inside.store c.self.inside.first_core c.self.inside.grants c.self.inside.files.items c.self.inside.libs.items c.self.inside.history c.self.invariant _ refl kept.1 kept.0 in
-    rw (← (state_is c.self.view_is), logged_is c.self.inside.store c.self.inside.first_core c.self.inside.grants c.self.inside.files.items c.self.inside.libs.items c.self.inside.history c.self.invariant _ _ same c.enter-in-NoPages.ensures)
-    (refused_step c.self.inside.store c.self.inside.first_core c.self.inside.grants c.self.inside.files.items c.self.inside.libs.items c.self.inside.history c.self.invariant c.args.lib c.args.pages c.args.inodes c.in-Err.fault c.in-NoPages.is (rw c.in-Err.is at c.take-given.ensures.refused))
+    let same = still c.self.inside.store c.self.inside.first_core c.self.inside.grants c.self.inside.files.items c.self.inside.libs.items c.self.inside.history c.self.inside.begun.items c.self.invariant _ refl kept.1 kept.0 in
+    rw (← (state_is c.self.view_is), logged_is c.self.inside.store c.self.inside.first_core c.self.inside.grants c.self.inside.files.items c.self.inside.libs.items c.self.inside.history c.self.inside.begun.items c.self.invariant _ _ same c.enter-in-NoPages.ensures)
+    (refused_step c.self.inside.store c.self.inside.first_core c.self.inside.grants c.self.inside.files.items c.self.inside.libs.items c.self.inside.history c.self.inside.begun.items c.self.invariant c.args.lib c.args.pages c.args.inodes c.in-Err.fault c.in-NoPages.is (rw c.in-Err.is at c.take-given.ensures.refused))
 
 pub invariant_of-self-in-NoMemory : goal.invariant_of-self-in-NoMemory
 invariant_of-self-in-NoMemory c =
     let kept = rw c.in-Err.is at c.take-given.ensures.kept in
-    unchanged_controlled c.self.inside.store c.self.inside.first_core c.self.inside.grants c.self.inside.files.items c.self.inside.libs.items c.self.inside.history c.self.invariant _ (still c.self.inside.store c.self.inside.first_core c.self.inside.grants c.self.inside.files.items c.self.inside.libs.items c.self.inside.history c.self.invariant _ refl kept.1 kept.0)
+    unchanged_controlled c.self.inside.store c.self.inside.first_core c.self.inside.grants c.self.inside.files.items c.self.inside.libs.items c.self.inside.history c.self.inside.begun.items c.self.invariant _ (still c.self.inside.store c.self.inside.first_core c.self.inside.grants c.self.inside.files.items c.self.inside.libs.items c.self.inside.history c.self.inside.begun.items c.self.invariant _ refl kept.1 kept.0)
 
 pub returns-in-NoMemory-clause-step : goal.returns-in-NoMemory-clause-step
 returns-in-NoMemory-clause-step c =
     let i = c.self.inside in
     let kept = rw c.in-Err.is at c.take-given.ensures.kept in
-    let same = still c.self.inside.store c.self.inside.first_core c.self.inside.grants c.self.inside.files.items c.self.inside.libs.items c.self.inside.history c.self.invariant _ refl kept.1 kept.0 in
+    let same = still c.self.inside.store c.self.inside.first_core c.self.inside.grants c.self.inside.files.items c.self.inside.libs.items c.self.inside.history c.self.inside.begun.items c.self.invariant _ refl kept.1 kept.0 in
     inr (refl, ap allot_fault_answer c.in-NoMemory.is, ap (λ (t : Store). state_of t i.first_core (grants_in i.files.items) i.libs.items i.history.made) same ∙ state_is c.self.view_is)

@@ -1,13 +1,14 @@
-use Rattle.std.proofs.Common.{◌≡◌, None, ap, sym, subst, ◌∙◌}
+use Rattle.std.proofs.Common.{◌≡◌, None, ap, sym, subst, ◌∙◌, arith}
 use Rattle.trio_lease.specs.Views.{bundle_in}
-use Rattle.trio_layout.specs.Copied.{with_copied}
-use Rattle.trio_judge.specs.Cases.{CaseShown, IsJudgeable, case_in as case_shown}
+use Rattle.trio_judge.specs.Cases.{CaseShown, IsJudgeable}
 use Rattle.trio_state.specs.Bundles.{parted_hold}
 use Rattle.trio_state.specs.Given.{GivenTo}
 use Rattle.trio_state.specs.State.{State, creds_of}
-use Rattle.trio_state.specs.Tells.{case_in}
 use Rattle.trio_ctl.specs.HandedIn.{WereHeld}
-use Rattle.trio_ctl.proofs.Cases.{case_copied, case_judgeable}
+use Rattle.trio_commit.specs.Store.{state_of}
+use Rattle.trio_ctl.specs.Open.{grants_in}
+use Rattle.trio_ctl.specs.Pending.{case_made}
+use Rattle.trio_ctl.proofs.Cases.{case_judgeable, made_so}
 use Rattle.trio_ctl.proofs.Views.{state_is}
 use Rattle.trio_ctl.proofs.registry.Registry.case_of.Goals as goal
 
@@ -18,18 +19,17 @@ of-requires c =
     let held = subst (λ (v : State). WereHeld v c.args.lib.0 c.args.bundle.holds) (sym (state_is c.self.view_is)) c.requires.held in
     let closed = subst (λ (v : State). parted_hold v c.args.lib.0 (bundle_in c.args.bundle) ≡ None) (sym (state_is c.self.view_is)) c.requires.closed in
     let ranges = c.range.ensures ∙ ap (λ (v : State). v.home.core.range) (sym (state_is c.self.view_is)) in
-    case_judgeable i.store i.first_core i.grants i.files.items i.libs.items i.history c.self.invariant c.args.lib c.args.bundle given held closed c.range.result c.inodes.result ranges c.inodes.ensures.inodes
+    case_judgeable i.store i.first_core i.grants i.files.items i.libs.items i.history i.begun.items c.self.invariant c.args.lib c.args.bundle given held closed c.range.result c.inodes.result ranges c.inodes.ensures.inodes
 
 pub returns-in-Ok-with-clause-case : goal.returns-in-Ok-with-clause-case
 returns-in-Ok-with-clause-case c =
     let i = c.self.inside in
-    let given = subst (λ (v : State). GivenTo v c.args.lib.0 (bundle_in c.args.bundle)) (sym (state_is c.self.view_is)) c.requires.given in
-    let held = subst (λ (v : State). WereHeld v c.args.lib.0 c.args.bundle.holds) (sym (state_is c.self.view_is)) c.requires.held in
-    let closed = subst (λ (v : State). parted_hold v c.args.lib.0 (bundle_in c.args.bundle) ≡ None) (sym (state_is c.self.view_is)) c.requires.closed in
+    let st = state_of i.store i.first_core (grants_in i.files.items) i.libs.items i.history.made in
     let ranges = c.range.ensures ∙ ap (λ (v : State). v.home.core.range) (sym (state_is c.self.view_is)) in
     let credentials = c.creds.ensures ∙ ap (λ (v : State). creds_of v c.args.lib.0) (sym (state_is c.self.view_is)) in
-    subst (λ (v : State). case_shown c.in-Ok.case ≡ with_copied (case_in v c.args.lib.0 (bundle_in c.args.bundle))) (state_is c.self.view_is)
-    (case_copied i.store i.first_core i.grants i.files.items i.libs.items i.history c.self.invariant c.args.lib c.args.bundle given held closed c.in-Ok.case c.creds.result c.range.result c.inodes.result credentials ranges c.inodes.ensures.inodes c.in-Ok.ensures.made)
+    let table = c.inodes.ensures.inodes in
+    subst (λ (v : State). c.in-Ok.case ≡ case_made v c.args.lib c.args.bundle) (state_is c.self.view_is)
+    (c.in-Ok.ensures.made ∙ made_so st c.args.lib c.args.bundle c.creds.result c.range.result c.inodes.result credentials ranges (omega (arith, table)))
 
 pub returns-in-Ok-with-clause-judgeable : goal.returns-in-Ok-with-clause-judgeable
 returns-in-Ok-with-clause-judgeable c =
@@ -38,6 +38,6 @@ returns-in-Ok-with-clause-judgeable c =
     let held = subst (λ (v : State). WereHeld v c.args.lib.0 c.args.bundle.holds) (sym (state_is c.self.view_is)) c.requires.held in
     let closed = subst (λ (v : State). parted_hold v c.args.lib.0 (bundle_in c.args.bundle) ≡ None) (sym (state_is c.self.view_is)) c.requires.closed in
     let ranges = c.range.ensures ∙ ap (λ (v : State). v.home.core.range) (sym (state_is c.self.view_is)) in
-    let judgeable = case_judgeable i.store i.first_core i.grants i.files.items i.libs.items i.history c.self.invariant c.args.lib c.args.bundle given held closed c.range.result c.inodes.result ranges c.inodes.ensures.inodes in
+    let judgeable = case_judgeable i.store i.first_core i.grants i.files.items i.libs.items i.history i.begun.items c.self.invariant c.args.lib c.args.bundle given held closed c.range.result c.inodes.result ranges c.inodes.ensures.inodes in
     subst (λ (k : CaseShown). IsJudgeable k.bundle c.args.self.now.state.home.rows k.range k.inodes) (sym c.in-Ok.ensures.made)
     (subst (λ (v : State). IsJudgeable c.args.bundle v.home.rows c.range.result c.inodes.result) (state_is c.self.view_is) judgeable)

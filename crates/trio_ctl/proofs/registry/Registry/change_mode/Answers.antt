@@ -19,7 +19,7 @@ put_mode-requires-clause-live c =
     let r = as_row c.in-Some.row in
     let live = sym c.row.ensures ∙ ap (option_map as_row) c.in-Some.is in
     let none = subst (λ (o : Option Row). mode_fault st by c.args.ino c.args.mode o ≡ None) live (subst (λ (v : State). mode_fault v by c.args.ino c.args.mode (row_at v.home c.args.ino) ≡ None) (sym (state_is c.self.view_is)) c.requires.free.1) in
-    live_within i.store i.first_core i.grants i.files.items i.libs.items i.history c.self.invariant by c.args.ino c.args.mode r live none
+    live_within i.store i.first_core i.grants i.files.items i.libs.items i.history i.begun.items c.self.invariant by c.args.ino c.args.mode r live none
 
 pub put_mode-requires-clause-slot : goal.put_mode-requires-clause-slot
 put_mode-requires-clause-slot c =
@@ -29,7 +29,7 @@ put_mode-requires-clause-slot c =
     let r = as_row c.in-Some.row in
     let live = sym c.row.ensures ∙ ap (option_map as_row) c.in-Some.is in
     let none = subst (λ (o : Option Row). mode_fault st by c.args.ino c.args.mode o ≡ None) live (subst (λ (v : State). mode_fault v by c.args.ino c.args.mode (row_at v.home c.args.ino) ≡ None) (sym (state_is c.self.view_is)) c.requires.free.1) in
-    slot_within i.store i.first_core i.grants i.files.items i.libs.items i.history c.self.invariant by c.args.ino c.args.mode r live none
+    slot_within i.store i.first_core i.grants i.files.items i.libs.items i.history i.begun.items c.self.invariant by c.args.ino c.args.mode r live none
 
 pub put_mode-requires-clause-there : goal.put_mode-requires-clause-there
 put_mode-requires-clause-there c =
@@ -39,7 +39,7 @@ put_mode-requires-clause-there c =
     let r = as_row c.in-Some.row in
     let live = sym c.row.ensures ∙ ap (option_map as_row) c.in-Some.is in
     let none = subst (λ (o : Option Row). mode_fault st by c.args.ino c.args.mode o ≡ None) live (subst (λ (v : State). mode_fault v by c.args.ino c.args.mode (row_at v.home c.args.ino) ≡ None) (sym (state_is c.self.view_is)) c.requires.free.1) in
-    page_there i.store i.first_core i.grants i.files.items i.libs.items i.history c.self.invariant by c.args.ino c.args.mode r live none
+    page_there i.store i.first_core i.grants i.files.items i.libs.items i.history i.begun.items c.self.invariant by c.args.ino c.args.mode r live none
 
 pub invariant_of-self : goal.invariant_of-self
 invariant_of-self c =
@@ -49,7 +49,7 @@ invariant_of-self c =
     let r = as_row c.in-Some.row in
     let live = sym c.row.ensures ∙ ap (option_map as_row) c.in-Some.is in
     let none = subst (λ (o : Option Row). mode_fault st by c.args.ino c.args.mode o ≡ None) live (subst (λ (v : State). mode_fault v by c.args.ino c.args.mode (row_at v.home c.args.ino) ≡ None) (sym (state_is c.self.view_is)) c.requires.free.1) in
-    moded_controlled i.store i.first_core i.grants i.files.items i.libs.items i.history c.self.invariant by c.args.ino c.args.mode r live none c.put_mode.new.store c.enter.new.self c.put_mode.ensures.pages c.put_mode.ensures.rest c.enter.ensures
+    moded_controlled i.store i.first_core i.grants i.files.items i.libs.items i.history i.begun.items c.self.invariant by c.args.ino c.args.mode r live none c.put_mode.new.store c.enter.new.self c.put_mode.ensures.pages c.put_mode.ensures.rest c.enter.ensures
 
 pub returns-clause-state : goal.returns-clause-state
 returns-clause-state c =
@@ -59,4 +59,4 @@ returns-clause-state c =
     let r = as_row c.in-Some.row in
     let live = sym c.row.ensures ∙ ap (option_map as_row) c.in-Some.is in
     let none = subst (λ (o : Option Row). mode_fault st by c.args.ino c.args.mode o ≡ None) live (subst (λ (v : State). mode_fault v by c.args.ino c.args.mode (row_at v.home c.args.ino) ≡ None) (sym (state_is c.self.view_is)) c.requires.free.1) in
-    rw (← (state_is c.self.view_is)) (after_is i.store i.first_core i.grants i.files.items i.libs.items i.history c.self.invariant by c.args.ino c.args.mode r live none c.put_mode.new.store c.enter.new.self c.put_mode.ensures.pages c.put_mode.ensures.rest c.enter.ensures)
+    rw (← (state_is c.self.view_is)) (after_is i.store i.first_core i.grants i.files.items i.libs.items i.history i.begun.items c.self.invariant by c.args.ino c.args.mode r live none c.put_mode.new.store c.enter.new.self c.put_mode.ensures.pages c.put_mode.ensures.rest c.enter.ensures)

@@ -21,7 +21,7 @@ unreachable-requires c =
     let same = c.parts-parts.ensures in
     let given = subst (λ (v : State). HasGrant v lib ino Read) (sym (state_is c.self.view_is)) c.requires.given in
     let found = sym (ap (λ (x : Shown). position (λ (o : Opened). is_read_of x.lib.0 x.ino o.grant) i.files.items) same) ∙ sym (ap (position (λ (o : Opened). is_read_of c.parts-parts.result.lib.0 c.parts-parts.result.ino o.grant)) c.deref.ensures.value) ∙ sym c.place_of_read.ensures ∙ c.in_default.is in
-    absurd (is_found i.store i.first_core i.grants i.files.items i.libs.items i.history c.self.invariant lib ino given found)
+    absurd (is_found i.store i.first_core i.grants i.files.items i.libs.items i.history i.begun.items c.self.invariant lib ino given found)
 
 pub end-requires : goal.end-requires
 end-requires c =
@@ -33,7 +33,7 @@ end-requires c =
     let found = sym (ap (λ (x : Shown). position (λ (o : Opened). is_read_of x.lib.0 x.ino o.grant) i.files.items) same) ∙ sym (ap (position (λ (o : Opened). is_read_of c.parts-parts.result.lib.0 c.parts-parts.result.ino o.grant)) c.deref.ensures.value) ∙ sym c.place_of_read.ensures ∙ c.in-Some.is in
     let at = c.in-Some.at in
     let split = found_split lib ino i.files.items at c.remove-file.result found c.remove-file.ensures.value in
-    subst (λ n. HasKey n i.grants) (sym c.key.ensures) (key_there i.store i.first_core i.grants i.files.items i.libs.items i.history c.self.invariant lib ino (take at i.files.items) (drop (at + 1) i.files.items) c.remove-file.result split.0 split.1)
+    subst (λ n. HasKey n i.grants) (sym c.key.ensures) (key_there i.store i.first_core i.grants i.files.items i.libs.items i.history i.begun.items c.self.invariant lib ino (take at i.files.items) (drop (at + 1) i.files.items) c.remove-file.result split.0 split.1)
 
 pub enter_promised-requires-clause-promised : goal.enter_promised-requires-clause-promised
 enter_promised-requires-clause-promised c =
@@ -47,7 +47,7 @@ enter_promised-requires-clause-promised c =
     let split = found_split lib ino i.files.items at c.remove-file.result found c.remove-file.ensures.value in
     let left = c.remove-file.ensures.by_index.2 in
     let ended = c.end.ensures.ended ∙ ap (λ n. without n i.grants) c.key.ensures in
-    has_promise i.store i.first_core i.grants i.files.items i.libs.items i.history c.self.invariant lib ino (take at i.files.items) (drop (at + 1) i.files.items) c.remove-file.result split.0 split.1
+    has_promise i.store i.first_core i.grants i.files.items i.libs.items i.history i.begun.items c.self.invariant lib ino (take at i.files.items) (drop (at + 1) i.files.items) c.remove-file.result split.0 split.1
 
 pub invariant_of-self : goal.invariant_of-self
 invariant_of-self c =
@@ -61,7 +61,7 @@ invariant_of-self c =
     let split = found_split lib ino i.files.items at c.remove-file.result found c.remove-file.ensures.value in
     let left = c.remove-file.ensures.by_index.2 in
     let ended = c.end.ensures.ended ∙ ap (λ n. without n i.grants) c.key.ensures in
-    back_controlled i.store i.first_core i.grants i.files.items i.libs.items i.history c.self.invariant lib ino (take at i.files.items) (drop (at + 1) i.files.items) c.remove-file.result split.0 split.1 c.end.new.self c.remove-file.new.self.items c.enter_promised.new.self ended left c.enter_promised.ensures given
+    back_controlled i.store i.first_core i.grants i.files.items i.libs.items i.history i.begun.items c.self.invariant lib ino (take at i.files.items) (drop (at + 1) i.files.items) c.remove-file.result split.0 split.1 c.end.new.self c.remove-file.new.self.items c.enter_promised.new.self ended left c.enter_promised.ensures given
 
 pub returns-clause-step : goal.returns-clause-step
 returns-clause-step c =
@@ -76,7 +76,7 @@ returns-clause-step c =
     let left = c.remove-file.ensures.by_index.2 in
     let ended = c.end.ensures.ended ∙ ap (λ n. without n i.grants) c.key.ensures in
     rw (← (state_is c.self.view_is))
-    (back_step i.store i.first_core i.grants i.files.items i.libs.items i.history c.self.invariant lib ino (take at i.files.items) (drop (at + 1) i.files.items) c.remove-file.result split.0 split.1 c.end.new.self c.remove-file.new.self.items c.enter_promised.new.self ended left c.enter_promised.ensures)
+    (back_step i.store i.first_core i.grants i.files.items i.libs.items i.history i.begun.items c.self.invariant lib ino (take at i.files.items) (drop (at + 1) i.files.items) c.remove-file.result split.0 split.1 c.end.new.self c.remove-file.new.self.items c.enter_promised.new.self ended left c.enter_promised.ensures)
 
 pub returns-clause-kept : goal.returns-clause-kept
 returns-clause-kept c =
@@ -90,7 +90,7 @@ returns-clause-kept c =
     let split = found_split lib ino i.files.items at c.remove-file.result found c.remove-file.ensures.value in
     let left = c.remove-file.ensures.by_index.2 in
     let ended = c.end.ensures.ended ∙ ap (λ n. without n i.grants) c.key.ensures in
-    (back_controlled i.store i.first_core i.grants i.files.items i.libs.items i.history c.self.invariant lib ino (take at i.files.items) (drop (at + 1) i.files.items) c.remove-file.result split.0 split.1 c.end.new.self c.remove-file.new.self.items c.enter_promised.new.self ended left c.enter_promised.ensures given).stored.kept
+    (back_controlled i.store i.first_core i.grants i.files.items i.libs.items i.history i.begun.items c.self.invariant lib ino (take at i.files.items) (drop (at + 1) i.files.items) c.remove-file.result split.0 split.1 c.end.new.self c.remove-file.new.self.items c.enter_promised.new.self ended left c.enter_promised.ensures given).stored.kept
 
 pub returns-clause-promised : goal.returns-clause-promised
 returns-clause-promised c =
@@ -102,7 +102,7 @@ returns-clause-promised c =
     let found = sym (ap (λ (x : Shown). position (λ (o : Opened). is_read_of x.lib.0 x.ino o.grant) i.files.items) same) ∙ sym (ap (position (λ (o : Opened). is_read_of c.parts-parts.result.lib.0 c.parts-parts.result.ino o.grant)) c.deref.ensures.value) ∙ sym c.place_of_read.ensures ∙ c.in-Some.is in
     let at = c.in-Some.at in
     let split = found_split lib ino i.files.items at c.remove-file.result found c.remove-file.ensures.value in
-    let some = has_promise i.store i.first_core i.grants i.files.items i.libs.items i.history c.self.invariant lib ino (take at i.files.items) (drop (at + 1) i.files.items) c.remove-file.result split.0 split.1 in
+    let some = has_promise i.store i.first_core i.grants i.files.items i.libs.items i.history i.begun.items c.self.invariant lib ino (take at i.files.items) (drop (at + 1) i.files.items) c.remove-file.result split.0 split.1 in
     let new = ap (λ (e : Entries). e.promised) c.enter_promised.ensures in
     let old = ap (λ (r : Registered). r.promised) c.self.view_is in
     omega (arith, some, new, old)

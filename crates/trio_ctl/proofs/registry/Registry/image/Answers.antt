@@ -16,13 +16,13 @@ pub returns-in-Some-clause-answer : goal.returns-in-Some-clause-answer
 returns-in-Some-clause-answer c =
     let s = c.self.inside in
     rw (← (state_is c.self.view_is))
-    (sym (writer_is s.store s.first_core s.grants s.files.items s.libs.items s.history c.self.invariant) ∙ sym c.writer.ensures ∙ c.in-Some.is)
+    (sym (writer_is s.store s.first_core s.grants s.files.items s.libs.items s.history s.begun.items c.self.invariant) ∙ sym c.writer.ensures ∙ c.in-Some.is)
 
 pub of-requires : goal.of-requires
 of-requires c =
     let s = c.self.inside in
     let none = sym c.writer.ensures ∙ c.in_default.is in
-    let k = at_home s.store s.first_core s.grants s.files.items s.libs.items s.history c.self.invariant none in
+    let k = at_home s.store s.first_core s.grants s.files.items s.libs.items s.history s.begun.items c.self.invariant none in
     let made = c.in-Ok.ensures in
     let sizes = c.superblock-superblock.ensures ∙ ap (λ (v : State). superblock_for v.home.core) (sym (state_is c.self.view_is)) in
     let laid = made.pages ∙ ap (λ (x : Superblock). stored_pages x s.store.home.pages s.store.rows s.store.owners) sizes in
@@ -32,7 +32,7 @@ pub of-requires-2 : goal.of-requires-2
 of-requires-2 c =
     let s = c.self.inside in
     let none = sym c.writer.ensures ∙ c.in_default.is in
-    let k = at_home s.store s.first_core s.grants s.files.items s.libs.items s.history c.self.invariant none in
+    let k = at_home s.store s.first_core s.grants s.files.items s.libs.items s.history s.begun.items c.self.invariant none in
     let made = c.in-Ok.ensures in
     let sizes = c.superblock-superblock.ensures ∙ ap (λ (v : State). superblock_for v.home.core) (sym (state_is c.self.view_is)) in
     let laid = made.pages ∙ ap (λ (x : Superblock). stored_pages x s.store.home.pages s.store.rows s.store.owners) sizes in
@@ -46,13 +46,13 @@ pub returns-clause-image : goal.returns-clause-image
 returns-clause-image c =
     let s = c.self.inside in
     let none = sym c.writer.ensures ∙ c.in_default.is in
-    let k = at_home s.store s.first_core s.grants s.files.items s.libs.items s.history c.self.invariant none in
+    let k = at_home s.store s.first_core s.grants s.files.items s.libs.items s.history s.begun.items c.self.invariant none in
     let made = c.in-Ok.ensures in
     let sizes = c.superblock-superblock.ensures ∙ ap (λ (v : State). superblock_for v.home.core) (sym (state_is c.self.view_is)) in
     let laid = made.pages ∙ ap (λ (x : Superblock). stored_pages x s.store.home.pages s.store.rows s.store.owners) sizes in
     let pages = ap (λ (h : Pages). h.pages) c.of.ensures ∙ laid in
     tells_alike (state_at_home (superblock_at_home s.store s.first_core) s.store.home.pages s.store.rows s.store.owners s.store.allotments s.libs.items s.history.made) _ c.of-2.result
-    (same_settled s.store s.first_core s.grants s.files.items s.libs.items s.history c.self.invariant none ∙ ap settled (state_is c.self.view_is))
+    (same_settled s.store s.first_core s.grants s.files.items s.libs.items s.history s.begun.items c.self.invariant none ∙ ap settled (state_is c.self.view_is))
     (ap (λ (v : State). v.pages_out) (state_is c.self.view_is))
     (tells (superblock_at_home s.store s.first_core) s.store.home.pages s.store.rows s.store.owners s.store.allotments s.libs.items s.history.made k made.shadow made.owner c.of-2.result
     (c.of-2.ensures.pages ∙ pages) (λ t has. c.of-2.ensures.superblock t (rw pages has)))
@@ -61,22 +61,22 @@ pub returns-clause-answer : goal.returns-clause-answer
 returns-clause-answer c =
     let s = c.self.inside in
     rw (← (state_is c.self.view_is))
-    (sym (writer_is s.store s.first_core s.grants s.files.items s.libs.items s.history c.self.invariant) ∙ sym c.writer.ensures ∙ c.in_default.is)
+    (sym (writer_is s.store s.first_core s.grants s.files.items s.libs.items s.history s.begun.items c.self.invariant) ∙ sym c.writer.ensures ∙ c.in_default.is)
 
 pub returns-in_default-stored_pages-clause-answer : goal.returns-in_default-stored_pages-clause-answer
 returns-in_default-stored_pages-clause-answer c =
     let s = c.self.inside in
     rw (← (state_is c.self.view_is))
-    (sym (writer_is s.store s.first_core s.grants s.files.items s.libs.items s.history c.self.invariant) ∙ sym c.writer.ensures ∙ c.in_default.is)
+    (sym (writer_is s.store s.first_core s.grants s.files.items s.libs.items s.history s.begun.items c.self.invariant) ∙ sym c.writer.ensures ∙ c.in_default.is)
 
 pub returns-in_default-copy-clause-answer : goal.returns-in_default-copy-clause-answer
 returns-in_default-copy-clause-answer c =
     let s = c.self.inside in
     rw (← (state_is c.self.view_is))
-    (sym (writer_is s.store s.first_core s.grants s.files.items s.libs.items s.history c.self.invariant) ∙ sym c.writer.ensures ∙ c.in_default.is)
+    (sym (writer_is s.store s.first_core s.grants s.files.items s.libs.items s.history s.begun.items c.self.invariant) ∙ sym c.writer.ensures ∙ c.in_default.is)
 
 pub returns-in_default-copy-2-clause-answer : goal.returns-in_default-copy-2-clause-answer
 returns-in_default-copy-2-clause-answer c =
     let s = c.self.inside in
     rw (← (state_is c.self.view_is))
-    (sym (writer_is s.store s.first_core s.grants s.files.items s.libs.items s.history c.self.invariant) ∙ sym c.writer.ensures ∙ c.in_default.is)
+    (sym (writer_is s.store s.first_core s.grants s.files.items s.libs.items s.history s.begun.items c.self.invariant) ∙ sym c.writer.ensures ∙ c.in_default.is)

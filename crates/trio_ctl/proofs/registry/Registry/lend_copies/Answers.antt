@@ -25,7 +25,7 @@ returns-in-Err-clause-step c =
     let live = subst (λ (v : State). row_at v.home c.args.ino ≡ Some r) (sym (state_is c.self.view_is)) c.requires.live in
     let may = subst (λ (v : State). denial v c.args.lib.0 c.args.ino Read ≡ None) (sym (state_is c.self.view_is)) c.requires.may in
     rw (← (state_is c.self.view_is), c.in-Ok-reserve.ensures.items)
-    (refused_step i.store i.first_core i.grants i.files.items i.libs.items i.history c.self.invariant Read c.args.lib c.args.ino r c.in-Err.fault live may c.in-Err.ensures.answer)
+    (refused_step i.store i.first_core i.grants i.files.items i.libs.items i.history i.begun.items c.self.invariant Read c.args.lib c.args.ino r c.in-Err.fault live may c.in-Err.ensures.answer)
 
 pub settled_body-requires : goal.settled_body-requires
 settled_body-requires c = λ other.
@@ -33,7 +33,7 @@ settled_body-requires c = λ other.
     let r = as_row c.args.row.now in
     let live = subst (λ (v : State). row_at v.home c.args.ino ≡ Some r) (sym (state_is c.self.view_is)) c.requires.live in
     let may = subst (λ (v : State). denial v c.args.lib.0 c.args.ino Read ≡ None) (sym (state_is c.self.view_is)) c.requires.may in
-    stands_somewhere i.store i.first_core i.grants i.files.items i.libs.items i.history c.self.invariant c.args.ino r live other
+    stands_somewhere i.store i.first_core i.grants i.files.items i.libs.items i.history i.begun.items c.self.invariant c.args.ino r live other
 
 pub copied_file-requires-clause-chain : goal.copied_file-requires-clause-chain
 copied_file-requires-clause-chain c =
@@ -41,12 +41,12 @@ copied_file-requires-clause-chain c =
     let r = as_row c.args.row.now in
     let live = subst (λ (v : State). row_at v.home c.args.ino ≡ Some r) (sym (state_is c.self.view_is)) c.requires.live in
     let may = subst (λ (v : State). denial v c.args.lib.0 c.args.ino Read ≡ None) (sym (state_is c.self.view_is)) c.requires.may in
-    let body = c.settled_body.ensures.body ∙ body_is i.store i.first_core i.grants i.files.items i.libs.items i.history c.self.invariant c.args.ino r live in
+    let body = c.settled_body.ensures.body ∙ body_is i.store i.first_core i.grants i.files.items i.libs.items i.history i.begun.items c.self.invariant c.args.ino r live in
     let range : CoreRange = record { first = i.first_core; end = length i.store.home.pages } in
     let ranges = c.range-range.ensures ∙ ap (λ (v : State). v.home.core.range) (sym (state_is c.self.view_is)) in
     let cores : core_of c.settled_body.new.store.home.pages c.range-range.result ≡ core_of i.store.home.pages range = ap (core_of c.settled_body.new.store.home.pages) ranges ∙ ap (λ ps. core_of ps range) c.settled_body.ensures.pages in
     let free = c.in-Ok-admit.ensures.answer in
-    let read = ap (λ (k : Core). chain_in k r.kind c.settled_body.result) cores ∙ chain_home i.store i.first_core i.grants i.files.items i.libs.items i.history c.self.invariant Read c.args.lib c.args.ino r live free c.settled_body.result body in
+    let read = ap (λ (k : Core). chain_in k r.kind c.settled_body.result) cores ∙ chain_home i.store i.first_core i.grants i.files.items i.libs.items i.history i.begun.items c.self.invariant Read c.args.lib c.args.ino r live free c.settled_body.result body in
     subst IsOk (sym read) refl
 
 pub copied_file-requires-clause-lendable : goal.copied_file-requires-clause-lendable
@@ -55,12 +55,12 @@ copied_file-requires-clause-lendable c =
     let r = as_row c.args.row.now in
     let live = subst (λ (v : State). row_at v.home c.args.ino ≡ Some r) (sym (state_is c.self.view_is)) c.requires.live in
     let may = subst (λ (v : State). denial v c.args.lib.0 c.args.ino Read ≡ None) (sym (state_is c.self.view_is)) c.requires.may in
-    let body = c.settled_body.ensures.body ∙ body_is i.store i.first_core i.grants i.files.items i.libs.items i.history c.self.invariant c.args.ino r live in
+    let body = c.settled_body.ensures.body ∙ body_is i.store i.first_core i.grants i.files.items i.libs.items i.history i.begun.items c.self.invariant c.args.ino r live in
     let range : CoreRange = record { first = i.first_core; end = length i.store.home.pages } in
     let ranges = c.range-range.ensures ∙ ap (λ (v : State). v.home.core.range) (sym (state_is c.self.view_is)) in
     let cores : core_of c.settled_body.new.store.home.pages c.range-range.result ≡ core_of i.store.home.pages range = ap (core_of c.settled_body.new.store.home.pages) ranges ∙ ap (λ ps. core_of ps range) c.settled_body.ensures.pages in
     let free = c.in-Ok-admit.ensures.answer in
-    λ x e. subst (λ (k : Core). IsLendable k x) (sym cores) (lendable i.store i.first_core i.grants i.files.items i.libs.items i.history c.self.invariant Read c.args.lib c.args.ino r live free c.settled_body.result x body (sym (ap (λ (k : Core). chain_in k r.kind c.settled_body.result) cores) ∙ e))
+    λ x e. subst (λ (k : Core). IsLendable k x) (sym cores) (lendable i.store i.first_core i.grants i.files.items i.libs.items i.history i.begun.items c.self.invariant Read c.args.lib c.args.ino r live free c.settled_body.result x body (sym (ap (λ (k : Core). chain_in k r.kind c.settled_body.result) cores) ∙ e))
 
 pub invariant_of-self-in-Ok-copied_file : goal.invariant_of-self-in-Ok-copied_file
 invariant_of-self-in-Ok-copied_file c =
@@ -68,31 +68,31 @@ invariant_of-self-in-Ok-copied_file c =
     let r = as_row c.args.row.now in
     let live = subst (λ (v : State). row_at v.home c.args.ino ≡ Some r) (sym (state_is c.self.view_is)) c.requires.live in
     let may = subst (λ (v : State). denial v c.args.lib.0 c.args.ino Read ≡ None) (sym (state_is c.self.view_is)) c.requires.may in
-    let body = c.settled_body.ensures.body ∙ body_is i.store i.first_core i.grants i.files.items i.libs.items i.history c.self.invariant c.args.ino r live in
+    let body = c.settled_body.ensures.body ∙ body_is i.store i.first_core i.grants i.files.items i.libs.items i.history i.begun.items c.self.invariant c.args.ino r live in
     let range : CoreRange = record { first = i.first_core; end = length i.store.home.pages } in
     let ranges = c.range-range.ensures ∙ ap (λ (v : State). v.home.core.range) (sym (state_is c.self.view_is)) in
     let cores : core_of c.settled_body.new.store.home.pages c.range-range.result ≡ core_of i.store.home.pages range = ap (core_of c.settled_body.new.store.home.pages) ranges ∙ ap (λ ps. core_of ps range) c.settled_body.ensures.pages in
     let free = c.in-Ok-admit.ensures.answer in
-    let ch = chain i.store i.first_core i.grants i.files.items i.libs.items i.history c.self.invariant Read c.args.lib c.args.ino r live free in
-    let read = ap (λ (k : Core). chain_in k r.kind c.settled_body.result) cores ∙ chain_home i.store i.first_core i.grants i.files.items i.libs.items i.history c.self.invariant Read c.args.lib c.args.ino r live free c.settled_body.result body in
+    let ch = chain i.store i.first_core i.grants i.files.items i.libs.items i.history i.begun.items c.self.invariant Read c.args.lib c.args.ino r live free in
+    let read = ap (λ (k : Core). chain_in k r.kind c.settled_body.result) cores ∙ chain_home i.store i.first_core i.grants i.files.items i.libs.items i.history i.begun.items c.self.invariant Read c.args.lib c.args.ino r live free c.settled_body.result body in
     let key = c.in-Ok-admit.key in
     let copy = c.in-Ok-copied_file.copy in
     let made = c.in-Ok-copied_file.ensures.opened ch read
     ∙ ap (λ (k : Core). record { key = key; grant = grant_on k c.args.lib.0 c.args.ino Read r.kind c.args.entry c.settled_body.result ch }) cores
     ∙ ap (λ n. record { key = key; grant = grant_on (core_of i.store.home.pages range) c.args.lib.0 c.args.ino Read r.kind n c.settled_body.result ch }) (next_is c.requires.entry c.self.view_is)
-    ∙ ap (λ (g : OpenGrant). record { key = key; grant = g }) (grant_made i.store i.first_core i.grants i.files.items i.libs.items i.history c.self.invariant Read c.args.lib c.args.ino r live free c.settled_body.result body) in
+    ∙ ap (λ (g : OpenGrant). record { key = key; grant = g }) (grant_made i.store i.first_core i.grants i.files.items i.libs.items i.history i.begun.items c.self.invariant Read c.args.lib c.args.ino r live free c.settled_body.result body) in
     let pages = c.copied_file.ensures.pages ∙ c.settled_body.ensures.pages in
     let rest = ap (λ (t : Store). record t { home = c.copied_file.new.home }) c.settled_body.ensures.rest in
     let more = c.in-Ok-push.ensures.items ∙ ap (λ fs. fs ++ copy.0 ∷ []) c.in-Ok-reserve.ensures.items in
     let counted = ap (λ (n : Entries). n.made) c.enter_with_promise.ensures in
     let put = subst (λ n. AllBelow n i.grants → c.admit.new.grants ≡ i.grants ++ (key, record { lib = c.args.lib; ino = c.args.ino; kind = Read; entry = n }) ∷ []) (next_is c.requires.entry c.self.view_is) c.in-Ok-admit.ensures.opened in
-    plain_controlled i.store i.first_core i.grants i.files.items i.libs.items i.history c.self.invariant Read refl c.args.lib c.args.ino r live free key copy.0 _ c.admit.new.grants c.push.new.self.items c.enter_with_promise.new.self made pages rest more counted 0 refl may put c.in-Ok-admit.ensures.new_key (ap (λ (n : Entries). n.promised) c.enter_with_promise.ensures)
+    plain_controlled i.store i.first_core i.grants i.files.items i.libs.items i.history i.begun.items c.self.invariant Read refl c.args.lib c.args.ino r live free key copy.0 _ c.admit.new.grants c.push.new.self.items c.enter_with_promise.new.self made pages rest more counted 0 refl may put c.in-Ok-admit.ensures.new_key (ap (λ (n : Entries). n.promised) c.enter_with_promise.ensures)
 
 pub invariant_of-self-in-Err-copied_file : goal.invariant_of-self-in-Err-copied_file
 invariant_of-self-in-Err-copied_file c =
     let i = c.self.inside in
     let rest = ap (λ (t : Store). record t { home = c.copied_file.new.home }) c.settled_body.ensures.rest in
-    controlled_still i.store i.first_core i.grants i.files.items i.libs.items i.history c.self.invariant _ c.end.new.self c.reserve.new.self.items rest (c.copied_file.ensures.pages ∙ c.settled_body.ensures.pages) (c.end.ensures.ended ∙ c.in-Ok-admit.ensures.rest) c.in-Ok-reserve.ensures.items
+    controlled_still i.store i.first_core i.grants i.files.items i.libs.items i.history i.begun.items c.self.invariant _ c.end.new.self c.reserve.new.self.items rest (c.copied_file.ensures.pages ∙ c.settled_body.ensures.pages) (c.end.ensures.ended ∙ c.in-Ok-admit.ensures.rest) c.in-Ok-reserve.ensures.items
 
 pub returns-in-Ok-push-clause-step : goal.returns-in-Ok-push-clause-step
 returns-in-Ok-push-clause-step c =
@@ -100,25 +100,25 @@ returns-in-Ok-push-clause-step c =
     let r = as_row c.args.row.now in
     let live = subst (λ (v : State). row_at v.home c.args.ino ≡ Some r) (sym (state_is c.self.view_is)) c.requires.live in
     let may = subst (λ (v : State). denial v c.args.lib.0 c.args.ino Read ≡ None) (sym (state_is c.self.view_is)) c.requires.may in
-    let body = c.settled_body.ensures.body ∙ body_is i.store i.first_core i.grants i.files.items i.libs.items i.history c.self.invariant c.args.ino r live in
+    let body = c.settled_body.ensures.body ∙ body_is i.store i.first_core i.grants i.files.items i.libs.items i.history i.begun.items c.self.invariant c.args.ino r live in
     let range : CoreRange = record { first = i.first_core; end = length i.store.home.pages } in
     let ranges = c.range-range.ensures ∙ ap (λ (v : State). v.home.core.range) (sym (state_is c.self.view_is)) in
     let cores : core_of c.settled_body.new.store.home.pages c.range-range.result ≡ core_of i.store.home.pages range = ap (core_of c.settled_body.new.store.home.pages) ranges ∙ ap (λ ps. core_of ps range) c.settled_body.ensures.pages in
     let free = c.in-Ok-admit.ensures.answer in
-    let ch = chain i.store i.first_core i.grants i.files.items i.libs.items i.history c.self.invariant Read c.args.lib c.args.ino r live free in
-    let read = ap (λ (k : Core). chain_in k r.kind c.settled_body.result) cores ∙ chain_home i.store i.first_core i.grants i.files.items i.libs.items i.history c.self.invariant Read c.args.lib c.args.ino r live free c.settled_body.result body in
+    let ch = chain i.store i.first_core i.grants i.files.items i.libs.items i.history i.begun.items c.self.invariant Read c.args.lib c.args.ino r live free in
+    let read = ap (λ (k : Core). chain_in k r.kind c.settled_body.result) cores ∙ chain_home i.store i.first_core i.grants i.files.items i.libs.items i.history i.begun.items c.self.invariant Read c.args.lib c.args.ino r live free c.settled_body.result body in
     let key = c.in-Ok-admit.key in
     let copy = c.in-Ok-copied_file.copy in
     let made = c.in-Ok-copied_file.ensures.opened ch read
     ∙ ap (λ (k : Core). record { key = key; grant = grant_on k c.args.lib.0 c.args.ino Read r.kind c.args.entry c.settled_body.result ch }) cores
     ∙ ap (λ n. record { key = key; grant = grant_on (core_of i.store.home.pages range) c.args.lib.0 c.args.ino Read r.kind n c.settled_body.result ch }) (next_is c.requires.entry c.self.view_is)
-    ∙ ap (λ (g : OpenGrant). record { key = key; grant = g }) (grant_made i.store i.first_core i.grants i.files.items i.libs.items i.history c.self.invariant Read c.args.lib c.args.ino r live free c.settled_body.result body) in
+    ∙ ap (λ (g : OpenGrant). record { key = key; grant = g }) (grant_made i.store i.first_core i.grants i.files.items i.libs.items i.history i.begun.items c.self.invariant Read c.args.lib c.args.ino r live free c.settled_body.result body) in
     let pages = c.copied_file.ensures.pages ∙ c.settled_body.ensures.pages in
     let rest = ap (λ (t : Store). record t { home = c.copied_file.new.home }) c.settled_body.ensures.rest in
     let more = c.in-Ok-push.ensures.items ∙ ap (λ fs. fs ++ copy.0 ∷ []) c.in-Ok-reserve.ensures.items in
     let counted = ap (λ (n : Entries). n.made) c.enter_with_promise.ensures in
     rw (← (state_is c.self.view_is))
-    (plain_step i.store i.first_core i.grants i.files.items i.libs.items i.history c.self.invariant Read refl c.args.lib c.args.ino r live free key copy.0 _ c.admit.new.grants c.push.new.self.items c.enter_with_promise.new.self made pages rest more counted 0 refl may)
+    (plain_step i.store i.first_core i.grants i.files.items i.libs.items i.history i.begun.items c.self.invariant Read refl c.args.lib c.args.ino r live free key copy.0 _ c.admit.new.grants c.push.new.self.items c.enter_with_promise.new.self made pages rest more counted 0 refl may)
 
 pub returns-in-Ok-push-clause-lease : goal.returns-in-Ok-push-clause-lease
 returns-in-Ok-push-clause-lease c =
@@ -126,19 +126,19 @@ returns-in-Ok-push-clause-lease c =
     let r = as_row c.args.row.now in
     let live = subst (λ (v : State). row_at v.home c.args.ino ≡ Some r) (sym (state_is c.self.view_is)) c.requires.live in
     let may = subst (λ (v : State). denial v c.args.lib.0 c.args.ino Read ≡ None) (sym (state_is c.self.view_is)) c.requires.may in
-    let body = c.settled_body.ensures.body ∙ body_is i.store i.first_core i.grants i.files.items i.libs.items i.history c.self.invariant c.args.ino r live in
+    let body = c.settled_body.ensures.body ∙ body_is i.store i.first_core i.grants i.files.items i.libs.items i.history i.begun.items c.self.invariant c.args.ino r live in
     let range : CoreRange = record { first = i.first_core; end = length i.store.home.pages } in
     let ranges = c.range-range.ensures ∙ ap (λ (v : State). v.home.core.range) (sym (state_is c.self.view_is)) in
     let cores : core_of c.settled_body.new.store.home.pages c.range-range.result ≡ core_of i.store.home.pages range = ap (core_of c.settled_body.new.store.home.pages) ranges ∙ ap (λ ps. core_of ps range) c.settled_body.ensures.pages in
     let free = c.in-Ok-admit.ensures.answer in
-    let ch = chain i.store i.first_core i.grants i.files.items i.libs.items i.history c.self.invariant Read c.args.lib c.args.ino r live free in
-    let read = ap (λ (k : Core). chain_in k r.kind c.settled_body.result) cores ∙ chain_home i.store i.first_core i.grants i.files.items i.libs.items i.history c.self.invariant Read c.args.lib c.args.ino r live free c.settled_body.result body in
+    let ch = chain i.store i.first_core i.grants i.files.items i.libs.items i.history i.begun.items c.self.invariant Read c.args.lib c.args.ino r live free in
+    let read = ap (λ (k : Core). chain_in k r.kind c.settled_body.result) cores ∙ chain_home i.store i.first_core i.grants i.files.items i.libs.items i.history i.begun.items c.self.invariant Read c.args.lib c.args.ino r live free c.settled_body.result body in
     let key = c.in-Ok-admit.key in
     let copy = c.in-Ok-copied_file.copy in
     let made = c.in-Ok-copied_file.ensures.opened ch read
     ∙ ap (λ (k : Core). record { key = key; grant = grant_on k c.args.lib.0 c.args.ino Read r.kind c.args.entry c.settled_body.result ch }) cores
     ∙ ap (λ n. record { key = key; grant = grant_on (core_of i.store.home.pages range) c.args.lib.0 c.args.ino Read r.kind n c.settled_body.result ch }) (next_is c.requires.entry c.self.view_is)
-    ∙ ap (λ (g : OpenGrant). record { key = key; grant = g }) (grant_made i.store i.first_core i.grants i.files.items i.libs.items i.history c.self.invariant Read c.args.lib c.args.ino r live free c.settled_body.result body) in
+    ∙ ap (λ (g : OpenGrant). record { key = key; grant = g }) (grant_made i.store i.first_core i.grants i.files.items i.libs.items i.history i.begun.items c.self.invariant Read c.args.lib c.args.ino r live free c.settled_body.result body) in
     let pages = c.copied_file.ensures.pages ∙ c.settled_body.ensures.pages in
     let rest = ap (λ (t : Store). record t { home = c.copied_file.new.home }) c.settled_body.ensures.rest in
     let more = c.in-Ok-push.ensures.items ∙ ap (λ fs. fs ++ copy.0 ∷ []) c.in-Ok-reserve.ensures.items in

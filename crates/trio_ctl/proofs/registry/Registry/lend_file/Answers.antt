@@ -28,26 +28,26 @@ returns-in-Err-clause-step c =
     let live = subst (λ (v : State). row_at v.home c.args.ino ≡ Some r) (sym (state_is c.self.view_is)) c.requires.live in
     let may = subst (λ (v : State). denial v c.args.lib.0 c.args.ino Write ≡ None) (sym (state_is c.self.view_is)) c.requires.may in
     rw (← (state_is c.self.view_is), c.in-Ok-reserve.ensures.items)
-    (refused_step i.store i.first_core i.grants i.files.items i.libs.items i.history c.self.invariant Write c.args.lib c.args.ino r c.in-Err.fault live may c.in-Err.ensures.answer)
+    (refused_step i.store i.first_core i.grants i.files.items i.libs.items i.history i.begun.items c.self.invariant Write c.args.lib c.args.ino r c.in-Err.fault live may c.in-Err.ensures.answer)
 
 pub settled_body-requires : goal.settled_body-requires
 settled_body-requires c = λ other.
     let i = c.self.inside in
     let r = as_row c.args.row.now in
     let live = subst (λ (v : State). row_at v.home c.args.ino ≡ Some r) (sym (state_is c.self.view_is)) c.requires.live in
-    stands_somewhere i.store i.first_core i.grants i.files.items i.libs.items i.history c.self.invariant c.args.ino r live other
+    stands_somewhere i.store i.first_core i.grants i.files.items i.libs.items i.history i.begun.items c.self.invariant c.args.ino r live other
 
 pub lend-requires-clause-chain : goal.lend-requires-clause-chain
 lend-requires-clause-chain c =
     let i = c.self.inside in
     let r = as_row c.args.row.now in
     let live = subst (λ (v : State). row_at v.home c.args.ino ≡ Some r) (sym (state_is c.self.view_is)) c.requires.live in
-    let body = c.settled_body.ensures.body ∙ body_is i.store i.first_core i.grants i.files.items i.libs.items i.history c.self.invariant c.args.ino r live in
+    let body = c.settled_body.ensures.body ∙ body_is i.store i.first_core i.grants i.files.items i.libs.items i.history i.begun.items c.self.invariant c.args.ino r live in
     let range : CoreRange = record { first = i.first_core; end = length i.store.home.pages } in
     let ranges = c.range-range.ensures ∙ ap (λ (v : State). v.home.core.range) (sym (state_is c.self.view_is)) in
     let cores : core_of c.settled_body.new.store.home.pages c.range-range.result ≡ core_of i.store.home.pages range = ap (core_of c.settled_body.new.store.home.pages) ranges ∙ ap (λ ps. core_of ps range) c.settled_body.ensures.pages in
     let free = c.in-Ok-admit.ensures.answer in
-    let read' = ap (λ (k : Core). chain_in k r.kind c.settled_body.result) cores ∙ chain_home i.store i.first_core i.grants i.files.items i.libs.items i.history c.self.invariant Write c.args.lib c.args.ino r live free c.settled_body.result body in
+    let read' = ap (λ (k : Core). chain_in k r.kind c.settled_body.result) cores ∙ chain_home i.store i.first_core i.grants i.files.items i.libs.items i.history i.begun.items c.self.invariant Write c.args.lib c.args.ino r live free c.settled_body.result body in
     subst IsOk (sym read') refl
 
 pub lend-requires-clause-lendable : goal.lend-requires-clause-lendable
@@ -55,12 +55,12 @@ lend-requires-clause-lendable c =
     let i = c.self.inside in
     let r = as_row c.args.row.now in
     let live = subst (λ (v : State). row_at v.home c.args.ino ≡ Some r) (sym (state_is c.self.view_is)) c.requires.live in
-    let body = c.settled_body.ensures.body ∙ body_is i.store i.first_core i.grants i.files.items i.libs.items i.history c.self.invariant c.args.ino r live in
+    let body = c.settled_body.ensures.body ∙ body_is i.store i.first_core i.grants i.files.items i.libs.items i.history i.begun.items c.self.invariant c.args.ino r live in
     let range : CoreRange = record { first = i.first_core; end = length i.store.home.pages } in
     let ranges = c.range-range.ensures ∙ ap (λ (v : State). v.home.core.range) (sym (state_is c.self.view_is)) in
     let cores : core_of c.settled_body.new.store.home.pages c.range-range.result ≡ core_of i.store.home.pages range = ap (core_of c.settled_body.new.store.home.pages) ranges ∙ ap (λ ps. core_of ps range) c.settled_body.ensures.pages in
     let free = c.in-Ok-admit.ensures.answer in
-    λ x e. subst (λ (k : Core). IsLendable k x) (sym cores) (lendable i.store i.first_core i.grants i.files.items i.libs.items i.history c.self.invariant Write c.args.lib c.args.ino r live free c.settled_body.result x body (sym (ap (λ (k : Core). chain_in k r.kind c.settled_body.result) cores) ∙ e))
+    λ x e. subst (λ (k : Core). IsLendable k x) (sym cores) (lendable i.store i.first_core i.grants i.files.items i.libs.items i.history i.begun.items c.self.invariant Write c.args.lib c.args.ino r live free c.settled_body.result x body (sym (ap (λ (k : Core). chain_in k r.kind c.settled_body.result) cores) ∙ e))
 
 pub invariant_of-self-in-Ok-lend : goal.invariant_of-self-in-Ok-lend
 invariant_of-self-in-Ok-lend c =
@@ -68,13 +68,13 @@ invariant_of-self-in-Ok-lend c =
     let r = as_row c.args.row.now in
     let live = subst (λ (v : State). row_at v.home c.args.ino ≡ Some r) (sym (state_is c.self.view_is)) c.requires.live in
     let may = subst (λ (v : State). denial v c.args.lib.0 c.args.ino Write ≡ None) (sym (state_is c.self.view_is)) c.requires.may in
-    let body = c.settled_body.ensures.body ∙ body_is i.store i.first_core i.grants i.files.items i.libs.items i.history c.self.invariant c.args.ino r live in
+    let body = c.settled_body.ensures.body ∙ body_is i.store i.first_core i.grants i.files.items i.libs.items i.history i.begun.items c.self.invariant c.args.ino r live in
     let range : CoreRange = record { first = i.first_core; end = length i.store.home.pages } in
     let ranges = c.range-range.ensures ∙ ap (λ (v : State). v.home.core.range) (sym (state_is c.self.view_is)) in
     let cores : core_of c.settled_body.new.store.home.pages c.range-range.result ≡ core_of i.store.home.pages range = ap (core_of c.settled_body.new.store.home.pages) ranges ∙ ap (λ ps. core_of ps range) c.settled_body.ensures.pages in
     let free = c.in-Ok-admit.ensures.answer in
-    let ch = chain i.store i.first_core i.grants i.files.items i.libs.items i.history c.self.invariant Write c.args.lib c.args.ino r live free in
-    let read = chain_home i.store i.first_core i.grants i.files.items i.libs.items i.history c.self.invariant Write c.args.lib c.args.ino r live free c.settled_body.result body in
+    let ch = chain i.store i.first_core i.grants i.files.items i.libs.items i.history i.begun.items c.self.invariant Write c.args.lib c.args.ino r live free in
+    let read = chain_home i.store i.first_core i.grants i.files.items i.libs.items i.history i.begun.items c.self.invariant Write c.args.lib c.args.ino r live free c.settled_body.result body in
     let read' = ap (λ (k : Core). chain_in k r.kind c.settled_body.result) cores ∙ read in
     let key = c.in-Ok-admit.key in
     let loan = c.in-Ok-lend.loan in
@@ -86,13 +86,13 @@ invariant_of-self-in-Ok-lend c =
     let aside = ap (λ (t : Store). slice_set t.checkpoints.items c.args.ino (Some loan.checkpoint)) c.settled_body.ensures.rest in
     let rest = ap (λ (t : Store). record t { home = c.lend.new.home; checkpoints = with_item c.settled_body.new.store.checkpoints c.args.ino (Some loan.checkpoint) }) c.settled_body.ensures.rest in
     let put = subst (λ n. AllBelow n i.grants → c.admit.new.grants ≡ i.grants ++ (key, record { lib = c.args.lib; ino = c.args.ino; kind = Write; entry = n }) ∷ []) (next_is c.requires.entry c.self.view_is) c.in-Ok-admit.ensures.opened in
-    granted_controlled i.store i.first_core i.grants i.files.items i.libs.items i.history c.self.invariant c.args.lib c.args.ino r live free key c.settled_body.result body loan.file loan.checkpoint _ c.admit.new.grants c.push.new.self.items c.enter.new.self made c.in-Ok-lend.ensures.covered gone rest aside more c.enter.ensures may put c.in-Ok-admit.ensures.new_key c.in-Ok-lend.ensures.covers
+    granted_controlled i.store i.first_core i.grants i.files.items i.libs.items i.history i.begun.items c.self.invariant c.args.lib c.args.ino r live free key c.settled_body.result body loan.file loan.checkpoint _ c.admit.new.grants c.push.new.self.items c.enter.new.self made c.in-Ok-lend.ensures.covered gone rest aside more c.enter.ensures may put c.in-Ok-admit.ensures.new_key c.in-Ok-lend.ensures.covers
 
 pub invariant_of-self-in-Err-lend : goal.invariant_of-self-in-Err-lend
 invariant_of-self-in-Err-lend c =
     let i = c.self.inside in
     let rest = ap (λ (t : Store). record t { home = c.lend.new.home }) c.settled_body.ensures.rest in
-    controlled_still i.store i.first_core i.grants i.files.items i.libs.items i.history c.self.invariant _ c.end.new.self c.reserve.new.self.items rest (c.in-Err-lend.ensures.kept ∙ c.settled_body.ensures.pages) (c.end.ensures.ended ∙ c.in-Ok-admit.ensures.rest) c.in-Ok-reserve.ensures.items
+    controlled_still i.store i.first_core i.grants i.files.items i.libs.items i.history i.begun.items c.self.invariant _ c.end.new.self c.reserve.new.self.items rest (c.in-Err-lend.ensures.kept ∙ c.settled_body.ensures.pages) (c.end.ensures.ended ∙ c.in-Ok-admit.ensures.rest) c.in-Ok-reserve.ensures.items
 
 pub returns-in-Ok-push-clause-step : goal.returns-in-Ok-push-clause-step
 returns-in-Ok-push-clause-step c =
@@ -100,13 +100,13 @@ returns-in-Ok-push-clause-step c =
     let r = as_row c.args.row.now in
     let live = subst (λ (v : State). row_at v.home c.args.ino ≡ Some r) (sym (state_is c.self.view_is)) c.requires.live in
     let may = subst (λ (v : State). denial v c.args.lib.0 c.args.ino Write ≡ None) (sym (state_is c.self.view_is)) c.requires.may in
-    let body = c.settled_body.ensures.body ∙ body_is i.store i.first_core i.grants i.files.items i.libs.items i.history c.self.invariant c.args.ino r live in
+    let body = c.settled_body.ensures.body ∙ body_is i.store i.first_core i.grants i.files.items i.libs.items i.history i.begun.items c.self.invariant c.args.ino r live in
     let range : CoreRange = record { first = i.first_core; end = length i.store.home.pages } in
     let ranges = c.range-range.ensures ∙ ap (λ (v : State). v.home.core.range) (sym (state_is c.self.view_is)) in
     let cores : core_of c.settled_body.new.store.home.pages c.range-range.result ≡ core_of i.store.home.pages range = ap (core_of c.settled_body.new.store.home.pages) ranges ∙ ap (λ ps. core_of ps range) c.settled_body.ensures.pages in
     let free = c.in-Ok-admit.ensures.answer in
-    let ch = chain i.store i.first_core i.grants i.files.items i.libs.items i.history c.self.invariant Write c.args.lib c.args.ino r live free in
-    let read = chain_home i.store i.first_core i.grants i.files.items i.libs.items i.history c.self.invariant Write c.args.lib c.args.ino r live free c.settled_body.result body in
+    let ch = chain i.store i.first_core i.grants i.files.items i.libs.items i.history i.begun.items c.self.invariant Write c.args.lib c.args.ino r live free in
+    let read = chain_home i.store i.first_core i.grants i.files.items i.libs.items i.history i.begun.items c.self.invariant Write c.args.lib c.args.ino r live free c.settled_body.result body in
     let read' = ap (λ (k : Core). chain_in k r.kind c.settled_body.result) cores ∙ read in
     let key = c.in-Ok-admit.key in
     let loan = c.in-Ok-lend.loan in
@@ -118,20 +118,20 @@ returns-in-Ok-push-clause-step c =
     let aside = ap (λ (t : Store). slice_set t.checkpoints.items c.args.ino (Some loan.checkpoint)) c.settled_body.ensures.rest in
     let rest = ap (λ (t : Store). record t { home = c.lend.new.home; checkpoints = with_item c.settled_body.new.store.checkpoints c.args.ino (Some loan.checkpoint) }) c.settled_body.ensures.rest in
     rw (← (state_is c.self.view_is))
-    (granted_step i.store i.first_core i.grants i.files.items i.libs.items i.history c.self.invariant c.args.lib c.args.ino r live free key c.settled_body.result body loan.file loan.checkpoint _ c.admit.new.grants c.push.new.self.items c.enter.new.self made c.in-Ok-lend.ensures.covered gone rest aside more c.enter.ensures may)
+    (granted_step i.store i.first_core i.grants i.files.items i.libs.items i.history i.begun.items c.self.invariant c.args.lib c.args.ino r live free key c.settled_body.result body loan.file loan.checkpoint _ c.admit.new.grants c.push.new.self.items c.enter.new.self made c.in-Ok-lend.ensures.covered gone rest aside more c.enter.ensures may)
 
 pub returns-in-Ok-push-clause-lease : goal.returns-in-Ok-push-clause-lease
 returns-in-Ok-push-clause-lease c =
     let i = c.self.inside in
     let r = as_row c.args.row.now in
     let live = subst (λ (v : State). row_at v.home c.args.ino ≡ Some r) (sym (state_is c.self.view_is)) c.requires.live in
-    let body = c.settled_body.ensures.body ∙ body_is i.store i.first_core i.grants i.files.items i.libs.items i.history c.self.invariant c.args.ino r live in
+    let body = c.settled_body.ensures.body ∙ body_is i.store i.first_core i.grants i.files.items i.libs.items i.history i.begun.items c.self.invariant c.args.ino r live in
     let range : CoreRange = record { first = i.first_core; end = length i.store.home.pages } in
     let ranges = c.range-range.ensures ∙ ap (λ (v : State). v.home.core.range) (sym (state_is c.self.view_is)) in
     let cores : core_of c.settled_body.new.store.home.pages c.range-range.result ≡ core_of i.store.home.pages range = ap (core_of c.settled_body.new.store.home.pages) ranges ∙ ap (λ ps. core_of ps range) c.settled_body.ensures.pages in
     let free = c.in-Ok-admit.ensures.answer in
-    let ch = chain i.store i.first_core i.grants i.files.items i.libs.items i.history c.self.invariant Write c.args.lib c.args.ino r live free in
-    let read = chain_home i.store i.first_core i.grants i.files.items i.libs.items i.history c.self.invariant Write c.args.lib c.args.ino r live free c.settled_body.result body in
+    let ch = chain i.store i.first_core i.grants i.files.items i.libs.items i.history i.begun.items c.self.invariant Write c.args.lib c.args.ino r live free in
+    let read = chain_home i.store i.first_core i.grants i.files.items i.libs.items i.history i.begun.items c.self.invariant Write c.args.lib c.args.ino r live free c.settled_body.result body in
     let read' = ap (λ (k : Core). chain_in k r.kind c.settled_body.result) cores ∙ read in
     let key = c.in-Ok-admit.key in
     let loan = c.in-Ok-lend.loan in
@@ -143,4 +143,4 @@ returns-in-Ok-push-clause-lease c =
     let aside = ap (λ (t : Store). slice_set t.checkpoints.items c.args.ino (Some loan.checkpoint)) c.settled_body.ensures.rest in
     let rest = ap (λ (t : Store). record t { home = c.lend.new.home; checkpoints = with_item c.settled_body.new.store.checkpoints c.args.ino (Some loan.checkpoint) }) c.settled_body.ensures.rest in
     rw (← (state_is c.self.view_is))
-    (ap WriteLent (c.in-Ok-lend.ensures.lease ∙ lease_made i.store i.first_core i.grants i.files.items i.libs.items i.history c.self.invariant c.args.lib c.args.ino r live free key c.settled_body.result body loan.file loan.checkpoint _ c.admit.new.grants c.push.new.self.items c.enter.new.self made c.in-Ok-lend.ensures.covered gone rest aside more c.enter.ensures))
+    (ap WriteLent (c.in-Ok-lend.ensures.lease ∙ lease_made i.store i.first_core i.grants i.files.items i.libs.items i.history i.begun.items c.self.invariant c.args.lib c.args.ino r live free key c.settled_body.result body loan.file loan.checkpoint _ c.admit.new.grants c.push.new.self.items c.enter.new.self made c.in-Ok-lend.ensures.covered gone rest aside more c.enter.ensures))

@@ -23,7 +23,7 @@ returns-in-Err-clause-step c =
     let live = subst (λ (v : State). row_at v.home c.args.ino ≡ Some r) (sym (state_is c.self.view_is)) c.requires.live in
     let may = subst (λ (v : State). denial v c.args.lib.0 c.args.ino Hold ≡ None) (sym (state_is c.self.view_is)) c.requires.may in
     rw (← (state_is c.self.view_is), c.in-Ok-reserve.ensures.items)
-    (refused_step i.store i.first_core i.grants i.files.items i.libs.items i.history c.self.invariant Hold c.args.lib c.args.ino r c.in-Err.fault live may c.in-Err.ensures.answer)
+    (refused_step i.store i.first_core i.grants i.files.items i.libs.items i.history i.begun.items c.self.invariant Hold c.args.lib c.args.ino r c.in-Err.fault live may c.in-Err.ensures.answer)
 
 pub settled_body-requires : goal.settled_body-requires
 settled_body-requires c = λ other.
@@ -31,7 +31,7 @@ settled_body-requires c = λ other.
     let r = as_row c.args.row.now in
     let live = subst (λ (v : State). row_at v.home c.args.ino ≡ Some r) (sym (state_is c.self.view_is)) c.requires.live in
     let may = subst (λ (v : State). denial v c.args.lib.0 c.args.ino Hold ≡ None) (sym (state_is c.self.view_is)) c.requires.may in
-    stands_somewhere i.store i.first_core i.grants i.files.items i.libs.items i.history c.self.invariant c.args.ino r live other
+    stands_somewhere i.store i.first_core i.grants i.files.items i.libs.items i.history i.begun.items c.self.invariant c.args.ino r live other
 
 pub invariant_of-self-2 : goal.invariant_of-self-2
 invariant_of-self-2 c =
@@ -39,7 +39,7 @@ invariant_of-self-2 c =
     let r = as_row c.args.row.now in
     let live = subst (λ (v : State). row_at v.home c.args.ino ≡ Some r) (sym (state_is c.self.view_is)) c.requires.live in
     let may = subst (λ (v : State). denial v c.args.lib.0 c.args.ino Hold ≡ None) (sym (state_is c.self.view_is)) c.requires.may in
-    let body = c.settled_body.ensures.body ∙ body_is i.store i.first_core i.grants i.files.items i.libs.items i.history c.self.invariant c.args.ino r live in
+    let body = c.settled_body.ensures.body ∙ body_is i.store i.first_core i.grants i.files.items i.libs.items i.history i.begun.items c.self.invariant c.args.ino r live in
     let free = c.in-Ok-admit.ensures.answer in
     let key = c.in-Ok-admit.key in
     let file = c.of.result in
@@ -52,7 +52,7 @@ invariant_of-self-2 c =
     let more = c.in-Ok-push.ensures.items ∙ ap (λ fs. fs ++ file ∷ []) c.in-Ok-reserve.ensures.items in
     let counted = ap (λ (n : Entries). n.made) c.enter.ensures in
     let put = subst (λ n. AllBelow n i.grants → c.admit.new.grants ≡ i.grants ++ (key, record { lib = c.args.lib; ino = c.args.ino; kind = Hold; entry = n }) ∷ []) (next_is c.requires.entry c.self.view_is) c.in-Ok-admit.ensures.opened in
-    plain_controlled i.store i.first_core i.grants i.files.items i.libs.items i.history c.self.invariant Hold refl c.args.lib c.args.ino r live free key file _ c.admit.new.grants c.push.new.self.items c.enter.new.self made c.settled_body.ensures.pages c.settled_body.ensures.rest more counted c.children.result counted_children may put c.in-Ok-admit.ensures.new_key (ap (λ (n : Entries). n.promised) c.enter.ensures)
+    plain_controlled i.store i.first_core i.grants i.files.items i.libs.items i.history i.begun.items c.self.invariant Hold refl c.args.lib c.args.ino r live free key file _ c.admit.new.grants c.push.new.self.items c.enter.new.self made c.settled_body.ensures.pages c.settled_body.ensures.rest more counted c.children.result counted_children may put c.in-Ok-admit.ensures.new_key (ap (λ (n : Entries). n.promised) c.enter.ensures)
 
 pub returns-clause-step : goal.returns-clause-step
 returns-clause-step c =
@@ -60,7 +60,7 @@ returns-clause-step c =
     let r = as_row c.args.row.now in
     let live = subst (λ (v : State). row_at v.home c.args.ino ≡ Some r) (sym (state_is c.self.view_is)) c.requires.live in
     let may = subst (λ (v : State). denial v c.args.lib.0 c.args.ino Hold ≡ None) (sym (state_is c.self.view_is)) c.requires.may in
-    let body = c.settled_body.ensures.body ∙ body_is i.store i.first_core i.grants i.files.items i.libs.items i.history c.self.invariant c.args.ino r live in
+    let body = c.settled_body.ensures.body ∙ body_is i.store i.first_core i.grants i.files.items i.libs.items i.history i.begun.items c.self.invariant c.args.ino r live in
     let free = c.in-Ok-admit.ensures.answer in
     let key = c.in-Ok-admit.key in
     let file = c.of.result in
@@ -73,7 +73,7 @@ returns-clause-step c =
     let more = c.in-Ok-push.ensures.items ∙ ap (λ fs. fs ++ file ∷ []) c.in-Ok-reserve.ensures.items in
     let counted = ap (λ (n : Entries). n.made) c.enter.ensures in
     rw (← (state_is c.self.view_is))
-    (plain_step i.store i.first_core i.grants i.files.items i.libs.items i.history c.self.invariant Hold refl c.args.lib c.args.ino r live free key file _ c.admit.new.grants c.push.new.self.items c.enter.new.self made c.settled_body.ensures.pages c.settled_body.ensures.rest more counted c.of-2.result.children (ap (λ (h : HoldParts). h.children) c.of-2.ensures ∙ counted_children) may)
+    (plain_step i.store i.first_core i.grants i.files.items i.libs.items i.history i.begun.items c.self.invariant Hold refl c.args.lib c.args.ino r live free key file _ c.admit.new.grants c.push.new.self.items c.enter.new.self made c.settled_body.ensures.pages c.settled_body.ensures.rest more counted c.of-2.result.children (ap (λ (h : HoldParts). h.children) c.of-2.ensures ∙ counted_children) may)
 
 pub returns-clause-lease : goal.returns-clause-lease
 returns-clause-lease c =
@@ -81,7 +81,7 @@ returns-clause-lease c =
     let r = as_row c.args.row.now in
     let live = subst (λ (v : State). row_at v.home c.args.ino ≡ Some r) (sym (state_is c.self.view_is)) c.requires.live in
     let may = subst (λ (v : State). denial v c.args.lib.0 c.args.ino Hold ≡ None) (sym (state_is c.self.view_is)) c.requires.may in
-    let body = c.settled_body.ensures.body ∙ body_is i.store i.first_core i.grants i.files.items i.libs.items i.history c.self.invariant c.args.ino r live in
+    let body = c.settled_body.ensures.body ∙ body_is i.store i.first_core i.grants i.files.items i.libs.items i.history i.begun.items c.self.invariant c.args.ino r live in
     let free = c.in-Ok-admit.ensures.answer in
     let key = c.in-Ok-admit.key in
     let file = c.of.result in

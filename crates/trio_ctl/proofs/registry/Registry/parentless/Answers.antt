@@ -15,11 +15,11 @@ told b = if b then None else Some NoParent
 pub returns-then-has : goal.returns-then-has
 returns-then-has c =
     let i = c.self.inside in
-    let same = parent_granted i.store i.first_core i.grants i.files.items i.libs.items i.history c.self.invariant c.args.lib (as_row c.args.row.now) in
+    let same = parent_granted i.store i.first_core i.grants i.files.items i.libs.items i.history i.begun.items c.self.invariant c.args.lib (as_row c.args.row.now) in
     sym (ap told (sym (ap (λ (v : State). has_parent_grant v c.args.lib.0 (Some (as_row c.args.row.now))) (state_is c.self.view_is)) ∙ sym same ∙ sym c.has.ensures ∙ c.if-has.true))
 
 pub returns-else-has : goal.returns-else-has
 returns-else-has c =
     let i = c.self.inside in
-    let same = parent_granted i.store i.first_core i.grants i.files.items i.libs.items i.history c.self.invariant c.args.lib (as_row c.args.row.now) in
+    let same = parent_granted i.store i.first_core i.grants i.files.items i.libs.items i.history i.begun.items c.self.invariant c.args.lib (as_row c.args.row.now) in
     sym (ap told (sym (ap (λ (v : State). has_parent_grant v c.args.lib.0 (Some (as_row c.args.row.now))) (state_is c.self.view_is)) ∙ sym same ∙ sym c.has.ensures ∙ c.if-has.false))

@@ -9,11 +9,11 @@ pub page_count-requires : goal.page_count-requires
 page_count-requires c =
     let i = c.self.inside in
     let t = subst (λ (v : State). Belongs v c.requires.0 c.args.bundle.now) (sym (state_is c.self.view_is)) c.requires.1 in
-    (counts_few i.store i.first_core i.grants i.files.items i.libs.items i.history c.self.invariant c.args.bundle.now c.requires.0 t).0
+    (counts_few i.store i.first_core i.grants i.files.items i.libs.items i.history i.begun.items c.self.invariant c.args.bundle.now c.requires.0 t).0
 
 pub value_count-requires : goal.value_count-requires
 value_count-requires c =
     let i = c.self.inside in
     let t = subst (λ (v : State). Belongs v c.requires.0 c.args.bundle.now) (sym (state_is c.self.view_is)) c.requires.1 in
-    let few = counts_few i.store i.first_core i.grants i.files.items i.libs.items i.history c.self.invariant c.args.bundle.now c.requires.0 t in
+    let few = counts_few i.store i.first_core i.grants i.files.items i.libs.items i.history i.begun.items c.self.invariant c.args.bundle.now c.requires.0 t in
     record { writes = few.1; holds = few.2; inodes = few.3 }

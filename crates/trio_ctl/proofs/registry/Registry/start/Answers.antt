@@ -1,4 +1,4 @@
-use Rattle.std.proofs.Common.{◌+◌, None, arith, ap, ◌∙◌}
+use Rattle.std.proofs.Common.{◌≡◌, ◌+◌, None, length, arith, ap, ◌∙◌}
 use Rattle.std.specs.Prelude.{replicate}
 use Rattle.trio_layout.specs.declared.superblock.Superblock.{Superblock}
 use Rattle.trio_allot.specs.Out.{nothing_out}
@@ -10,9 +10,10 @@ invariant_of-result c =
     let image = c.args.image in
     let parts = c.into_parts-home.ensures in
     let same = c.superblock-superblock.ensures.superblock in
+    let many : c.len.result ≡ length c.args.libs.items = omega (arith, c.len.ensures, c.args.libs.ok.0) in
     started image.superblock image.pages _ _ _ c.args.libs.items _ parts.verified parts.pages (ap (λ (x : Superblock). x.root) same) parts.tables.rows_are parts.tables.owners_are
     (c.in-Ok.ensures ∙ ap (λ (x : Superblock). nothing_out x.pages x.inodes) same) (ap (λ (x : Superblock). x.first_core) same) c.new-3.ensures.items c.new-4.ensures
-    _ (c.in-Ok-no_checkpoints.ensures ∙ ap (λ (x : Superblock). replicate (x.inodes + 1) None) same) c.new-2.ensures (omega arith) (omega arith)
+    _ _ (c.in-Ok-no_checkpoints.ensures ∙ ap (λ (x : Superblock). replicate (x.inodes + 1) None) same) c.new-2.ensures (c.in-Ok-none_begun.ensures ∙ ap (λ n. replicate n None) many) (omega arith) (omega arith)
 
 pub returns-clause-started : goal.returns-clause-started
 returns-clause-started c =
@@ -29,6 +30,12 @@ returns-clause-kept c =
     let made = c.into_parts-home.result in
     let parts = c.into_parts-home.ensures in
     let same = c.superblock-superblock.ensures.superblock in
+    let many : c.len.result ≡ length c.args.libs.items = omega (arith, c.len.ensures, c.args.libs.ok.0) in
     (started image.superblock image.pages (record { home = made.home; root = c.superblock-superblock.result.root; rows = made.rows; owners = made.owners; allotments = c.in-Ok.allotments; checkpoints = c.in-Ok-no_checkpoints.checkpoints }) c.superblock-superblock.result.first_core c.new-3.result.items c.args.libs.items c.new-4.result parts.verified parts.pages (ap (λ (x : Superblock). x.root) same) parts.tables.rows_are parts.tables.owners_are
     (c.in-Ok.ensures ∙ ap (λ (x : Superblock). nothing_out x.pages x.inodes) same) (ap (λ (x : Superblock). x.first_core) same) c.new-3.ensures.items c.new-4.ensures
-    c.new-2.result (c.in-Ok-no_checkpoints.ensures ∙ ap (λ (x : Superblock). replicate (x.inodes + 1) None) same) c.new-2.ensures (omega arith) (omega arith)).stored.kept
+    c.new-2.result c.in-Ok-none_begun.begun.items (c.in-Ok-no_checkpoints.ensures ∙ ap (λ (x : Superblock). replicate (x.inodes + 1) None) same) c.new-2.ensures (c.in-Ok-none_begun.ensures ∙ ap (λ n. replicate n None) many) (omega arith) (omega arith)).stored.kept
+
+pub returns-clause-begun : goal.returns-clause-begun
+returns-clause-begun c =
+    let many : c.len.result ≡ length c.args.libs.items = omega (arith, c.len.ensures, c.args.libs.ok.0) in
+    c.in-Ok-none_begun.ensures ∙ ap (λ n. replicate n None) many

@@ -1,0 +1,36 @@
+use Rattle.std.proofs.Common.{◌≡◌, None, Some, ap, refl, sym, subst, ◌∙◌}
+use Rattle.trio_lease.specs.Views.{bundle_in}
+use Rattle.trio_state.specs.Bundles.{parted_hold}
+use Rattle.trio_state.specs.Moves.{ComesBack}
+use Rattle.trio_state.specs.State.{State}
+use Rattle.trio_ctl.specs.Ctl.{Registered}
+use Rattle.trio_ctl.specs.Entries.{HasRoom}
+use Rattle.trio_ctl.specs.inner.Parting.{lowest_parted}
+use Rattle.trio_ctl.proofs.PartedHolds.{parted_is}
+use Rattle.trio_ctl.proofs.Views.{state_is}
+use Rattle.trio_ctl.proofs.registry.Registry.taken_in.Goals as goal
+
+pub returns-in-Some-clause-fault : goal.returns-in-Some-clause-fault
+returns-in-Some-clause-fault c =
+    let i = c.self.inside in
+    let b = bundle_in c.args.bundle in
+    let parted = sym (parted_is i.store i.first_core i.files.items i.libs.items i.history.made c.args.lib.0 b) ∙ sym (ap (lowest_parted i.store.rows c.args.lib.0 b) c.deref.ensures.value) ∙ sym c.parted_hold.ensures ∙ c.in-Some.is in
+    ComesBack _ (subst (λ (v : State). parted_hold v c.args.lib.0 b ≡ Some c.in-Some.ino) (state_is c.self.view_is) parted) refl refl
+
+pub case_of-requires-clause-closed : goal.case_of-requires-clause-closed
+case_of-requires-clause-closed c =
+    let i = c.self.inside in
+    let b = bundle_in c.args.bundle in
+    let closed = sym (parted_is i.store i.first_core i.files.items i.libs.items i.history.made c.args.lib.0 b) ∙ sym (ap (lowest_parted i.store.rows c.args.lib.0 b) c.deref.ensures.value) ∙ sym c.parted_hold.ensures ∙ c.in_default.is in
+    subst (λ (v : State). parted_hold v c.args.lib.0 b ≡ None) (state_is c.self.view_is) closed
+
+pub returns-in-Ok-case_of-clause-closed : goal.returns-in-Ok-case_of-clause-closed
+returns-in-Ok-case_of-clause-closed c = λ ok.
+    let i = c.self.inside in
+    let b = bundle_in c.args.bundle in
+    let closed = sym (parted_is i.store i.first_core i.files.items i.libs.items i.history.made c.args.lib.0 b) ∙ sym (ap (lowest_parted i.store.rows c.args.lib.0 b) c.deref.ensures.value) ∙ sym c.parted_hold.ensures ∙ c.in_default.is in
+    subst (λ (v : State). parted_hold v c.args.lib.0 b ≡ None) (state_is c.self.view_is) closed
+
+pub returns-in-Ok-case_of-clause-places : goal.returns-in-Ok-case_of-clause-places
+returns-in-Ok-case_of-clause-places c = λ ok.
+    subst (λ (x : Registered). HasRoom (record { made = x.state.entries; promised = x.promised }) 1) c.self.view_is c.in-Ok.ensures

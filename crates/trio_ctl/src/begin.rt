@@ -1,0 +1,135 @@
+//! Releases that begin, and that wait for their end.
+
+ghost use Rattle.std.specs.Prelude.{◌≡◌, ◌≢◌, ◌+◌, ◌↔◌, IfErr, IfOk, IsTrue, None, OnErr, OnOk, Some};
+ghost use Rattle.std.specs.List.{list_all};
+ghost use Rattle.trio_lease.specs.Views.{bundle_in};
+ghost use Rattle.trio_judge.specs.Cases.{case_in as case_shown};
+ghost use Rattle.trio_judge.specs.Judging.{IsJudgeRoom};
+ghost use Rattle.trio_state.specs.Given.{GivenTo};
+ghost use Rattle.trio_state.specs.Moves.{Beginning, IsAwaited, begun_by, outline_of, with_begun};
+ghost use Rattle.trio_ctl.specs.Answers.{begin_answer};
+ghost use Rattle.trio_ctl.specs.Ctl.{IsLibrary};
+ghost use Rattle.trio_ctl.specs.Entries.{HasRoom};
+ghost use Rattle.trio_ctl.specs.HandedIn.{WereHeld};
+ghost use Rattle.trio_ctl.specs.Pending.{case_made};
+ghost use Rattle.trio_ctl.specs.inner.Beginning.{HaveBodies, IsCopy, is_body_of, underway_at};
+
+use crate::begun::Begun;
+use crate::open::OpenFile;
+use crate::registry::Registry;
+use trio_judge::{Case, Room};
+use trio_lease::{Bundle, HoldLease};
+use trio_nodes::ReleaseFault;
+use trio_rights::LibNo;
+
+impl Registry {
+    /// Takes a closed bundle in: its case, and the room to judge it. All memory of its end is taken, and
+    /// an entry is promised for it. With a fault the bundle comes back, and nothing has changed.
+    pub(crate) fn begin(
+        &mut self,
+        entry: u64,
+        lib: LibNo,
+        bundle: Bundle,
+    ) -> Result<(Case, Room), (Bundle, ReleaseFault)>
+        requires entry { entry ≡ self.old.state.entries }
+        requires library { IsLibrary lib self.old.state }
+        requires idle { begun_by (underway_at self.old) lib.0 ≡ None }
+        requires given { GivenTo self.old.state lib.0 (bundle_in bundle) }
+        requires held { WereHeld self.old.state lib.0 bundle.holds }
+        ensures begins { Beginning (underway_at self.old) lib.0 (bundle_in bundle) (begin_answer result (λ back. back.1)) (underway_at self.new) }
+        ensures case { IfOk result (λ made. made.0 ≡ case_made self.old.state lib bundle) }
+        ensures room { IfOk result (λ made. IsJudgeRoom made.0 made.1) }
+        ensures state { self.new.state ≡ self.old.state }
+        ensures promised { OnOk result (self.new.promised ≡ self.old.promised + 1) }
+        ensures unpromised { OnErr result (self.new.promised ≡ self.old.promised) }
+        ensures looked { self.new.looked ≡ self.old.looked }
+        ensures back { IfErr result (λ back. back.0 ≡ bundle) }
+    {
+        let (case, room) = match self.taken_in(entry, lib, bundle) {
+            Ok(made) => made,
+            Err(back) => return Err(back),
+        };
+        let Ok(begun) = Begun::of(self.alloc, &case) else {
+            return Err((case.into_bundle(), ReleaseFault::NoMemory));
+        };
+        self.history.promise();
+        self.begun[lib.0 as usize - 1] = Some(begun);
+        Ok((case, room))
+    }
+
+    /// Takes out what was made ready when the release of a library began, and takes the promise of its
+    /// entry back, so that there is room to make it.
+    pub(crate) fn take_begun(&mut self, lib: LibNo) -> Begun
+        requires { begun_by (underway_at self.old) lib.0 ≢ None }
+        ensures begun { begun_by (underway_at self.old) lib.0 ≡ Some result }
+        ensures state { self.new.state ≡ self.old.state }
+        ensures taken { self.new.begun ≡ (with_begun (underway_at self.old) lib.0 None).begun }
+        ensures promised { self.new.promised + 1 ≡ self.old.promised }
+        ensures room { HasRoom (record { made = self.new.state.entries; promised = self.new.promised }) 1 }
+        ensures looked { self.new.looked ≡ self.old.looked }
+    {
+        let Some(begun) = self.begun[lib.0 as usize - 1].take() else {
+            unreachable!()
+        };
+        self.history.withdraw();
+        begun
+    }
+
+    /// Whether the case is that of the release that has begun of its library, with the rows, the bodies
+    /// and the sizes of now. Takes no memory.
+    pub(crate) fn awaits(&self, case: &Case) -> bool
+        ensures only { IsTrue result → IsAwaited (underway_at self.now) case.now.lib.0 (case_shown case.now) }
+        ensures each { GivenTo self.now.state case.now.lib.0 (bundle_in case.now.bundle) → IsAwaited (underway_at self.now) case.now.lib.0 (case_shown case.now) → IsTrue result }
+    {
+        if !self.has_begun(case) {
+            return false;
+        }
+        self.is_copy(case) && self.has_bodies(case)
+    }
+
+    // whether the release that has begun of the case's library has the outline of its bundle
+    fn has_begun(&self, case: &Case) -> bool
+        ensures begun { IsTrue result ↔ (begun_by (underway_at self.now) case.now.lib.0 ≡ Some (outline_of (bundle_in case.now.bundle))) }
+        ensures library { IsTrue result → IsLibrary case.now.lib self.now.state }
+    {
+        let Some(place) = case.lib().0.checked_sub(1) else {
+            return false;
+        };
+        match self.begun.get(place as usize) {
+            Some(Some(begun)) => begun.outline.is_of(case.bundle()),
+            _ => false,
+        }
+    }
+
+    // whether the rows, the credentials and the sizes of the case are those of now
+    fn is_copy(&self, case: &Case) -> bool
+        requires { IsLibrary case.now.lib self.now.state }
+        ensures { IsTrue result ↔ IsCopy self.now.state case.now }
+    {
+        case.fits(&self.store.rows)
+            && case.creds() == self.creds(case.lib())
+            && case.range() == self.range()
+            && case.inodes() == self.store.rows.inodes()
+    }
+
+    // whether the holds of the case's bundle have the bodies of now
+    fn has_bodies(&self, case: &Case) -> bool
+        ensures only { IsTrue result → HaveBodies self.now.state case.now.bundle.holds }
+        ensures each { GivenTo self.now.state case.now.lib.0 (bundle_in case.now.bundle) → HaveBodies self.now.state case.now.bundle.holds → IsTrue result }
+    {
+        have_bodies(&self.files, case.lib(), case.bundle().holds())
+    }
+}
+
+// whether each of these holds is on a file that the library holds, with the body that was lent
+fn have_bodies(files: &[OpenFile], lib: LibNo, holds: &[HoldLease]) -> bool
+    ensures { result ≡ list_all (λ h. is_body_of files.now lib h) holds.now }
+{
+    holds.iter().all(|hold| has_body(files, lib, hold))
+}
+
+fn has_body(files: &[OpenFile], lib: LibNo, hold: &HoldLease) -> bool
+    ensures { result ≡ is_body_of files.now lib hold.now }
+{
+    files.iter().any(|file| file.lent_body_of(lib, hold))
+}
