@@ -3,6 +3,7 @@
 ghost use Rattle.std.specs.Prelude.{◌≡◌, ◌∷◌, [], IfSome, length};
 ghost use Rattle.trio_lease.specs.Views.{bundle_in, written_in};
 ghost use Rattle.trio_desk.specs.Out.{OutAlike, nothing_out};
+ghost use Rattle.trio_ctl.specs.Ctl.{NoneBegun};
 ghost use Rattle.trio_ctl.specs.Desk.{out_of};
 
 use crate::images::{Start, image_bytes, image_of};
@@ -19,6 +20,7 @@ use trio_samples::put;
 /// A controller over the image of these bytes, for one library of this uid, which has nothing out.
 pub fn started(alloc: Global, bytes: &[u8], uid: u32) -> Option<Ctl>
     ensures one { IfSome result (λ ctl. length ctl.state.creds ≡ 1) }
+    ensures idle { IfSome result NoneBegun }
     ensures nothing { IfSome result (λ ctl. OutAlike (out_of ctl.state (record { 0 = 1 })) nothing_out) }
 {
     let image = image_of(alloc, bytes)?;
@@ -26,8 +28,8 @@ pub fn started(alloc: Global, bytes: &[u8], uid: u32) -> Option<Ctl>
     Ctl::start(alloc, image, libs).ok()
 }
 
-// Whether the settled image has these bytes and counts.
-fn stores(alloc: Global, ctl: &mut Ctl, bytes: &[u8], counts: Counts) -> Option<bool> {
+/// Whether the settled image has these bytes and counts.
+pub fn stores(alloc: Global, ctl: &mut Ctl, bytes: &[u8], counts: Counts) -> Option<bool> {
     let image = ctl.image().ok()?;
     let is_counted = image.counts() == counts;
     Some(is_counted && image.into_bytes(alloc).ok()?.as_slice() == bytes)
@@ -93,11 +95,12 @@ fn files_are_lent_or_refused(rt: HostRuntime) {
     }
 }
 
-// Two libraries of uid 0 over the image of a file in a directory.
-fn shared(alloc: Global) -> Option<Ctl>
-    ensures { IfSome result (λ ctl. length ctl.state.creds ≡ 2) }
+/// A controller over such an image, for two libraries of uid 0 and gid 0.
+pub fn shared(alloc: Global, start: Start) -> Option<Ctl>
+    ensures two { IfSome result (λ ctl. length ctl.state.creds ≡ 2) }
+    ensures idle { IfSome result NoneBegun }
 {
-    let image = image_of(alloc, &image_bytes(alloc, Start::OneFile).ok()?)?;
+    let image = image_of(alloc, &image_bytes(alloc, start).ok()?)?;
     let both = Creds { uid: 0, gid: 0 };
     let libs = vec![in alloc; both, both].ok()?;
     Ctl::start(alloc, image, libs).ok()
@@ -106,8 +109,10 @@ fn shared(alloc: Global) -> Option<Ctl>
 // What one of the two libraries is told that asks for a grant: `Ok` with the children that a hold
 // tells, else why not. What is lent is let go.
 fn asked(ctl: &mut Ctl, is_first: bool, ino: u32, kind: GrantKind) -> Result<u32, GrantFault>
-    requires { length ctl.old.state.creds ≡ 2 }
-    ensures { length ctl.new.state.creds ≡ 2 }
+    requires two { length ctl.old.state.creds ≡ 2 }
+    requires idle { NoneBegun ctl.old }
+    ensures two { length ctl.new.state.creds ≡ 2 }
+    ensures idle { NoneBegun ctl.new }
 {
     let lib = LibNo(if is_first { 1 } else { 2 });
     let lease = ctl.grant(lib, ino, kind)?;
@@ -125,7 +130,7 @@ fn second_told(
     first: (bool, u32, GrantKind),
     second: (bool, u32, GrantKind),
 ) -> Option<Result<u32, GrantFault>> {
-    let mut ctl = shared(alloc)?;
+    let mut ctl = shared(alloc, Start::OneFile)?;
     let (is_first, ino, kind) = first;
     let _lent = asked(&mut ctl, is_first, ino, kind).ok()?;
     let (is_first, ino, kind) = second;
@@ -165,14 +170,16 @@ fn grants_stand_beside_each_other_or_not(rt: HostRuntime) {
 
 // Whether a reader is shown the file `f`, and a writer has it once the lease is back.
 fn read_and_given_back(alloc: Global) -> Option<bool> {
-    let mut ctl = shared(alloc)?;
+    let mut ctl = shared(alloc, Start::OneFile)?;
     let is_shown = shown_once(&mut ctl)?;
     Some(is_shown && asked(&mut ctl, false, 3, GrantKind::Write) == Ok(0))
 }
 
 fn shown_once(ctl: &mut Ctl) -> Option<bool>
-    requires { length ctl.old.state.creds ≡ 2 }
-    ensures { IfSome result (λ _. length ctl.new.state.creds ≡ 2) }
+    requires two { length ctl.old.state.creds ≡ 2 }
+    requires idle { NoneBegun ctl.old }
+    ensures two { IfSome result (λ _. length ctl.new.state.creds ≡ 2) }
+    ensures idle { IfSome result (λ _. NoneBegun ctl.new) }
 {
     match ctl.grant(LibNo(1), 3, GrantKind::Read) {
         Ok(Lease::Read(lease)) => {
@@ -197,7 +204,8 @@ fn a_read_lease_is_given_back(rt: HostRuntime) {
 
 // Whether a reader of the directory `a` is shown these bytes of its body.
 fn is_body_shown(ctl: &mut Ctl, body: &[u8]) -> bool
-    requires { length ctl.old.state.creds ≡ 2 }
+    requires two { length ctl.old.state.creds ≡ 2 }
+    requires idle { NoneBegun ctl.old }
 {
     match ctl.grant(LibNo(2), 2, GrantKind::Read) {
         Ok(lease) => {
@@ -215,7 +223,7 @@ fn is_body_shown(ctl: &mut Ctl, body: &[u8]) -> bool
 // Whether that body, which is on page 4 in the image, is shown while the root is out with this page.
 fn is_shown_under_a_writer(alloc: Global) -> Option<bool> {
     let bytes = image_bytes(alloc, Start::OneFile).ok()?;
-    let mut ctl = shared(alloc)?;
+    let mut ctl = shared(alloc, Start::OneFile)?;
     let _lent = asked(&mut ctl, true, 1, GrantKind::Write).ok()?;
     Some(is_body_shown(&mut ctl, bytes.get(16_576..16_640)?))
 }
@@ -288,7 +296,8 @@ fn has_inodes(given: &Allotted, numbers: &[u32]) -> bool {
 // Whether the lowest that are free are allotted: pages 3 and 4 are the root's, and the numbers 1 and 2
 // are live.
 fn allots_the_lowest(ctl: &mut Ctl) -> Option<bool>
-    requires { length ctl.old.state.creds ≡ 1 }
+    requires one { length ctl.old.state.creds ≡ 1 }
+    requires idle { NoneBegun ctl.old }
 {
     let given = ctl.allot(LibNo(1), 2, 1).ok()?;
     let is_so = has_pages(&given, &[5, 6]) && has_inodes(&given, &[3]);
@@ -316,8 +325,8 @@ fn the_lowest_free_are_allotted(rt: HostRuntime) {
     assert!(rt; the_lowest_are_out(rt.alloc()) == Some(true));
 }
 
-// The lease alone, as a bundle.
-fn bundled(alloc: Global, lease: WriteLease) -> Option<Bundle>
+/// The lease alone, as a bundle.
+pub fn bundled(alloc: Global, lease: WriteLease) -> Option<Bundle>
     ensures has { IfSome result (λ bundle. bundle_in bundle ≡ record { writes = written_in lease.stands ∷ []; holds = []; pages = []; numbers = [] }) }
     ensures lease { IfSome result (λ bundle. bundle.writes ≡ lease ∷ []) }
 {
@@ -334,7 +343,8 @@ fn bundled(alloc: Global, lease: WriteLease) -> Option<Bundle>
 
 // Whether a file is lent, released as it was lent, and an image told then.
 fn is_released(alloc: Global, ctl: &mut Ctl, ino: u32) -> Option<bool>
-    requires { length ctl.old.state.creds ≡ 1 }
+    requires one { length ctl.old.state.creds ≡ 1 }
+    requires idle { NoneBegun ctl.old }
 {
     let lease = match ctl.grant(LibNo(1), ino, GrantKind::Write) {
         Ok(Lease::Write(lease)) => lease,
@@ -366,8 +376,10 @@ fn image_fault(alloc: Global) -> Option<ImageFault> {
 
 // Asks for a file to write it, and lets it go.
 fn lent_away(ctl: &mut Ctl, ino: u32) -> Option<GrantFault>
-    requires { length ctl.old.state.creds ≡ 1 }
-    ensures { length ctl.new.state.creds ≡ 1 }
+    requires one { length ctl.old.state.creds ≡ 1 }
+    requires idle { NoneBegun ctl.old }
+    ensures one { length ctl.new.state.creds ≡ 1 }
+    ensures idle { NoneBegun ctl.new }
 {
     match ctl.grant(LibNo(1), ino, GrantKind::Write) {
         Ok(lease) => {
@@ -396,7 +408,8 @@ fn an_image_waits_for_the_writer(rt: HostRuntime) {
 
 // What a release of a file needs.
 fn room_of(alloc: Global, ctl: &mut Ctl, ino: u32) -> Option<u64>
-    requires { length ctl.old.state.creds ≡ 1 }
+    requires one { length ctl.old.state.creds ≡ 1 }
+    requires idle { NoneBegun ctl.old }
 {
     let lease = match ctl.grant(LibNo(1), ino, GrantKind::Write) {
         Ok(Lease::Write(lease)) => lease,

@@ -12,3 +12,5 @@ mod images;
 mod lines;
 #[cfg(test)]
 mod logs;
+#[cfg(test)]
+mod moves;
