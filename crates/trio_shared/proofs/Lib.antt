@@ -1,0 +1,7 @@
+mod Left
+mod Grown
+mod Standing
+mod Seats
+mod Belongs
+mod TwoMoves
+mod Finish

@@ -1,0 +1,52 @@
+use Rattle.std.proofs.Common.{◌∙◌, ap, subst, sym}
+use Rattle.trio_desk.specs.Call.{DeskSeen, Release, TellsClosed, release_told}
+use Rattle.trio_desk.specs.Out.{WasGiven, parcel_of}
+use Rattle.trio_rights.specs.declared.rights.LibNo.{LibNo}
+use Rattle.trio_shared.specs.Seats.{seated}
+use Rattle.trio_shared.specs.inner.Found.{Grows}
+use Rattle.trio_shared.proofs.Grown.{called, desk_before, grew, is_idle, is_library, seen_after, stays_idle}
+use Rattle.trio_shared.proofs.Seats.{numbered, saw, still_seat, same_seat}
+use Rattle.trio_shared.proofs.cell.Shared.release.Goals as goal
+
+pub release-answer-requires-clause-library : goal.release-answer-requires-clause-library
+release-answer-requires-clause-library g c =
+    let is = ap numbered (c.library.ensures ∙ c.enter-held.ensures.same.1) in
+    is_library (seated c.args.seat.now) c.enter-held.result c.enter-held.ensures.found c.library.result is
+
+pub release-answer-requires-clause-given : goal.release-answer-requires-clause-given
+release-answer-requires-clause-given g c =
+    let is = ap numbered (c.library.ensures ∙ c.enter-held.ensures.same.1) in
+    subst (λ (d : DeskSeen). WasGiven d.out (parcel_of c.args.bundle)) (sym (desk_before (seated c.args.seat.now) c.enter-held.result c.enter-held.ensures.found c.library.result is)) c.requires.given
+
+pub leave-requires-clause-grew : goal.leave-requires-clause-grew
+leave-requires-clause-grew g c =
+    let is = ap numbered (c.library.ensures ∙ c.enter-held.ensures.same.1) in
+    (c.enter-held.result, c.enter-held.ensures.has, subst (λ (l : LibNo). Grows l c.enter-held.result c.release-answer.new.self) (is ∙ sym (ap numbered c.enter-held.ensures.same.1)) (grew c.enter-held.result c.library.result (Release (parcel_of c.args.bundle)) (release_told c.release-answer.result (λ back. back.1)) c.release-answer.new.self c.enter-held.ensures.found.left.all.kept c.release-answer.ensures.made))
+
+pub returns-clause-called : goal.returns-clause-called
+returns-clause-called g c =
+    let is = ap numbered (c.library.ensures ∙ c.enter-held.ensures.same.1) in
+    called (seated c.args.seat.now) c.enter-held.result c.enter-held.ensures.found c.library.result is (Release (parcel_of c.args.bundle)) (release_told c.release-answer.result (λ back. back.1)) c.release-answer.new.self c.release-answer.ensures.made (seated c.leave.new.seat) (saw c.args.seat.now c.enter-held.new.seat c.leave.new.seat c.enter-held.ensures.same c.leave.ensures.same c.release-answer.new.self c.leave.ensures.seen c.leave.ensures.left)
+
+pub returns-clause-seen : goal.returns-clause-seen
+returns-clause-seen g c =
+    let is = ap numbered (c.library.ensures ∙ c.enter-held.ensures.same.1) in
+    seen_after (seated c.args.seat.now) c.enter-held.result c.enter-held.ensures.found c.library.result is (Release (parcel_of c.args.bundle)) (release_told c.release-answer.result (λ back. back.1)) c.release-answer.new.self c.release-answer.ensures.made (seated c.leave.new.seat) (saw c.args.seat.now c.enter-held.new.seat c.leave.new.seat c.enter-held.ensures.same c.leave.ensures.same c.release-answer.new.self c.leave.ensures.seen c.leave.ensures.left) c.release-answer.ensures.seen
+
+pub returns-clause-closed : goal.returns-clause-closed
+returns-clause-closed g c =
+    let is = ap numbered (c.library.ensures ∙ c.enter-held.ensures.same.1) in
+    subst (λ (d : DeskSeen). TellsClosed d.out (parcel_of c.args.bundle) (release_told c.release-answer.result (λ back. back.1))) (desk_before (seated c.args.seat.now) c.enter-held.result c.enter-held.ensures.found c.library.result is) c.release-answer.ensures.closed
+
+pub returns-clause-seat : goal.returns-clause-seat
+returns-clause-seat g c = (still_seat c.args.seat.now c.enter-held.new.seat c.leave.new.seat c.enter-held.ensures.same c.leave.ensures.same c.args.self.now c.requires.seat c.leave.ensures.given, same_seat c.args.seat.now c.enter-held.new.seat c.leave.new.seat c.enter-held.ensures.same c.leave.ensures.same)
+
+pub release-answer-requires-clause-idle : goal.release-answer-requires-clause-idle
+release-answer-requires-clause-idle g c =
+    let is = ap numbered (c.library.ensures ∙ c.enter-held.ensures.same.1) in
+    is_idle (seated c.args.seat.now) c.enter-held.result c.enter-held.ensures.found c.library.result is c.requires.idle
+
+pub returns-clause-idle : goal.returns-clause-idle
+returns-clause-idle g c =
+    let is = ap numbered (c.library.ensures ∙ c.enter-held.ensures.same.1) in
+    c.leave.ensures.begun ∙ stays_idle (seated c.args.seat.now) c.enter-held.result c.enter-held.ensures.found c.enter-held.ensures.same.1 c.requires.idle c.release-answer.new.self c.release-answer.ensures.made.logs.begun
