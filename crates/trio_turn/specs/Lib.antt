@@ -1,4 +1,3 @@
-pub mod Origins
 pub mod Logs
 pub mod Marks
 pub mod Views

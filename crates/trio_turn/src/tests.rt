@@ -19,10 +19,9 @@ pub struct Sheet {
 }
 
 impl Logged for Sheet {
-    ghost use Rattle.std.specs.Prelude.{None};
-    ghost use Rattle.trio_turn.specs.Origins.{no_origin};
+    ghost use Rattle.std.specs.Prelude.{[], None};
 
-    ghost first = { λ s. no_origin };
+    ghost first = { λ s. record { image = []; creds = [] } };
 
     ghost log = { λ s. s.entries.items };
 

@@ -1,7 +1,0 @@
-mod Left
-mod Grown
-mod Standing
-mod Seats
-mod Belongs
-mod TwoMoves
-mod Finish

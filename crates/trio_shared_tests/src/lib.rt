@@ -1,9 +1,0 @@
-//! Tests of the controller for many threads, over what the crates make public.
-#![tactic(auto)]
-
-#[cfg(test)]
-mod rows;
-#[cfg(test)]
-mod seats;
-#[cfg(test)]
-mod threads;
