@@ -49,3 +49,4 @@ mod DeskLogs
 mod ModeCalls
 pub mod Settling
 mod DeskCauses
+pub mod Sends

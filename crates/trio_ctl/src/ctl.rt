@@ -181,10 +181,10 @@ impl Ctl {
     /// ([`belongs`](Self::belongs)).
     ///
     /// That is room for the judgement and, whatever the verdict, for the entry: for bodies and pages as
-    /// they are handed in, once each, since the blocks that the entry tells share the bytes of their
-    /// pages; and for the files that it tells, of which each page can name 16. It speaks of the bytes of
-    /// which [`make_room`](Self::make_room) speaks; no clause says yet that a release that has so many
-    /// to spare wants no memory.
+    /// they are handed in, once each, since the blocks that the entry tells name the handed-in pages; and
+    /// for the files that it tells, of which each page can name 16. It speaks of the bytes of which
+    /// [`make_room`](Self::make_room) speaks; no clause says yet that a release that has so many to spare
+    /// wants no memory.
     ///
     /// Takes no memory.
     pub fn room(&self, bundle: &Bundle) -> u64

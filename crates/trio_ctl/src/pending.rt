@@ -148,6 +148,14 @@ impl Judged {
         self.case.lib()
     }
 
+    /// Its verdict is the judge's of just its case, and each page of its bundle has 4096 bytes. Nothing is
+    /// done.
+    pub fn is_weighed(&self)
+        ensures { IsWeighed self.now }
+    {
+        let _ = &self.case;
+    }
+
     // the case
     pub(crate) fn case(&self) -> &Case
         ensures case { result.now ≡ self.now.case }

@@ -26,6 +26,7 @@ pub record Known : Type 0 where
   pub creds : List Creds
   pub entries : ℕ
 
+-- what is determined of this state
 abbrev pub known : State → Known
 known s = record {
   image = settled s;
@@ -77,6 +78,7 @@ known_done k (Release lib b) = released k lib b (parted_hold (plain_state k) lib
 known_done k (Settle lib b) = ended k lib b (next k.image b)
 known_done k (SetMode lib ino mode) = known (mode_outcome (plain_state k) lib ino mode).after
 
+-- the answer that memory was wanting, which changes nothing
 abbrev pub is_no_memory : CtlAnswer → Bool
 is_no_memory NoMemory = true
 is_no_memory _ = false

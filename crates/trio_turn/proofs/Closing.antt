@@ -6,7 +6,7 @@ use mathlib.Core.List.{IsPrefix, append-nil}
 use lib.ListN.{get_elem?}
 use Rattle.atomic_table.proofs.Lists.{at_longer, at_last}
 use Rattle.trio_nodes.specs.declared.entry.Entry.{Entry}
-use Rattle.trio_turn.specs.declared.logged.Origin.{Origin}
+use Rattle.trio_turn.specs.Origins.{Origin}
 use Rattle.trio_turn.specs.Marks.{Mark}
 use Rattle.trio_turn.specs.declared.view.Library.{Library}
 use Rattle.trio_turn.specs.declared.view.View.{View}

@@ -9,7 +9,7 @@ use lib.ListN.{get_elem?}
 use Rattle.atomic_table.specs.Table.{State, Splits, Joins}
 use Rattle.atomic_table.proofs.Lists.{at_snoc, at_longer, set_else}
 use Rattle.trio_nodes.specs.declared.entry.Entry.{Entry}
-use Rattle.trio_turn.specs.declared.logged.Origin.{Origin}
+use Rattle.trio_turn.specs.Origins.{Origin}
 use Rattle.trio_turn.specs.Marks.{Mark}
 use Rattle.trio_turn.specs.declared.view.Library.{Library}
 use Rattle.trio_turn.specs.declared.view.View.{View}

@@ -1,3 +1,4 @@
+pub mod Origins
 pub mod Logs
 pub mod Marks
 pub mod Views

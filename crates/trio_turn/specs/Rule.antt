@@ -7,7 +7,7 @@ use mathlib.Core.List.{IsPrefix}
 use lib.ListN.{get_elem?}
 use Rattle.atomic_table.specs.Table.{State}
 use Rattle.trio_nodes.specs.declared.entry.Entry.{Entry}
-use Rattle.trio_turn.specs.declared.logged.Origin.{Origin}
+use Rattle.trio_turn.specs.Origins.{Origin}
 use Rattle.trio_turn.specs.declared.view.Library.{Library}
 use Rattle.trio_turn.specs.declared.view.View.{View}
 use Rattle.trio_turn.specs.declared.view.Stage.{Stage}

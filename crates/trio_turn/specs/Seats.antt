@@ -2,7 +2,7 @@
 use Rattle.std.specs.Prelude.{◌≡◌, ℕ, ◌+◌, ◌≤◌, List, [], Option, Some, None, slice_get}
 use Rattle.atomic_table.specs.Seated.{TableId}
 use Rattle.trio_nodes.specs.declared.entry.Entry.{Entry}
-use Rattle.trio_turn.specs.declared.logged.Origin.{Origin}
+use Rattle.trio_turn.specs.Origins.{Origin}
 use Rattle.trio_turn.specs.declared.seat.LibSeat.{LibSeat}
 use Rattle.trio_turn.specs.declared.cell.Turn.{Turn}
 use Rattle.trio_turn.specs.Logs.{made_by}
@@ -17,6 +17,10 @@ module _ {T : Type 0} where
   -- how many libraries have a seat at the cell
   abbrev pub library_count : Turn T → ℕ
   library_count t = t.table.shared.key.libraries
+
+  -- the value that it started with
+  abbrev pub first_value : Turn T → T
+  first_value t = t.table.shared.key.value.value
 
   -- which cell the seat is of
   abbrev pub cell_of : LibSeat T → TableId

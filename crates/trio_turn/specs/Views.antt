@@ -1,7 +1,7 @@
 -- What is seen of a view.
 use Rattle.std.specs.Prelude.{ℕ, List, [], ◌∷◌, Option, Some, None}
 use Rattle.trio_nodes.specs.declared.entry.Entry.{Entry}
-use Rattle.trio_turn.specs.declared.logged.Origin.{Origin}
+use Rattle.trio_turn.specs.Origins.{Origin}
 use Rattle.trio_turn.specs.declared.view.Library.{Library}
 use Rattle.trio_turn.specs.declared.view.View.{View}
 use Rattle.trio_turn.specs.declared.view.Stage.{Stage}

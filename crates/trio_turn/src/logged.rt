@@ -2,15 +2,23 @@
 
 ghost use Rattle.std.specs.Prelude.{◌≡◌, ℕ, List, length};
 
-use trio_nodes::{Bytes, List};
+use std::marker::Model;
+use trio_nodes::List;
 use trio_rights::{Creds, Kind};
 
-/// What a value began from. It is in contracts alone: no value of it is made.
+/// What a value began from: its image, and the credentials of the libraries, of library 1 first.
+///
+/// It is in contracts alone, as `Origin` of `specs/Origins.antt`: no value of it is made.
 pub struct Origin {
-    /// The bytes of the image, page after page.
-    pub image: Bytes,
-    /// The credentials of the libraries, of library 1 first.
-    pub creds: List<Creds>,
+    creds: List<Creds>,
+}
+
+impl Model for Origin {
+    ghost use Rattle.trio_turn.specs.Origins.{Origin, no_image};
+
+    ghost Value = { Origin };
+
+    ghost view = { λ o. record { image = no_image; creds = o.creds } };
 }
 
 /// A release that has begun and not ended, by what was handed in. It is in contracts alone.
@@ -45,7 +53,7 @@ pub trait Logged {
     ghost use Rattle.std.specs.Prelude.{Option};
     ghost use Rattle.trio_nodes.specs.declared.entry.Entry.{Entry};
     ghost use Rattle.trio_turn.specs.declared.logged.Begun.{Begun};
-    ghost use Rattle.trio_turn.specs.declared.logged.Origin.{Origin};
+    ghost use Rattle.trio_turn.specs.Origins.{Origin};
 
     // What the value began from.
     ghost first: { Self → Origin };

@@ -17,6 +17,7 @@ pub(crate) fn set_up<T: Logged>(
 ) -> Result<(TicketTable<T>, Token<T>), (T, NoMemory)>
     requires empty { T.log value ≡ [] }
     ensures table { IfOk result (λ r. (r.0.shared.table_id.words ≡ 3) × (r.0.shared.table_id.slots ≡ 1) × (r.0.shared.key.libraries ≡ n)) }
+    ensures value { IfOk result (λ r. r.0.shared.key.value.value ≡ value) }
     ensures token { IfOk result (λ r. (r.1.table_id ≡ r.0.shared.table_id) × (r.1.me ≡ (starting T.first T.log T.begun n value, []))) }
     ensures err { IfErr result (λ e. e.0 ≡ value) }
 {

@@ -19,9 +19,10 @@ pub struct Sheet {
 }
 
 impl Logged for Sheet {
-    ghost use Rattle.std.specs.Prelude.{[], None};
+    ghost use Rattle.std.specs.Prelude.{None};
+    ghost use Rattle.trio_turn.specs.Origins.{no_origin};
 
-    ghost first = { λ s. record { image = []; creds = [] } };
+    ghost first = { λ s. no_origin };
 
     ghost log = { λ s. s.entries.items };
 

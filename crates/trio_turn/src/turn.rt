@@ -3,7 +3,7 @@
 ghost use Rattle.std.specs.Prelude.{◌≡◌, ◌≢◌, ◌⊎◌, ℕ, ◌+◌, ◌-◌, ◌<◌, ◌≤◌, [], ◌∷◌, length, None, Some, IsSome, IfSome, IfOk, IfErr, IsOk};
 ghost use mathlib.Core.List.{IsPrefix};
 ghost use Rattle.trio_turn.specs.Logs.{made_by, GrewBy, IsInLine};
-ghost use Rattle.trio_turn.specs.Seats.{cell, library_count, cell_of, library, first, seen, mine, begun, has, IsSameSeat, IsNew, OfEach, AllNew, EverySeat};
+ghost use Rattle.trio_turn.specs.Seats.{cell, library_count, first_value, cell_of, library, first, seen, mine, begun, has, IsSameSeat, IsNew, OfEach, AllNew, EverySeat};
 ghost use Rattle.trio_turn.specs.inner.Steps.{dealing};
 
 use crate::cell::Turn;
@@ -62,6 +62,7 @@ impl<T: Logged> Turn<T> {
         requires count { (1 ≤ n) × (n ≤ 16) }
         requires empty { T.log value ≡ [] }
         ensures libraries { IfOk result (λ r. (library_count r.0 ≡ n) × (length r.1.items ≡ n)) }
+        ensures value { IfOk result (λ r. first_value r.0 ≡ value) }
         ensures seats { IfOk result (λ r. AllNew (cell r.0) (T.first value) (T.begun value) r.1.items) }
         ensures err { IfErr result (λ e. e.0 ≡ value) }
     {

@@ -5,7 +5,7 @@ use mathlib.Core.List.{IsPrefix}
 use lib.ListN.{get_elem?}
 use Rattle.atomic_table.specs.Table.{Me, Step}
 use Rattle.trio_nodes.specs.declared.entry.Entry.{Entry}
-use Rattle.trio_turn.specs.declared.logged.Origin.{Origin}
+use Rattle.trio_turn.specs.Origins.{Origin, no_origin}
 use Rattle.trio_turn.specs.declared.view.Library.{Library}
 use Rattle.trio_turn.specs.declared.view.View.{View}
 use Rattle.trio_turn.specs.declared.view.Stage.{Stage}
@@ -85,7 +85,7 @@ module _ {T : Type 0} where
 
   -- the view of a token that was joined into another
   abbrev pub spent : View T
-  spent = view (record { image = []; creds = [] }) [] [] [] Spent
+  spent = view no_origin [] [] [] Spent
 
 -- ---- steps on a word: the step, what the seat was, the number that was found or stored, what the seat is
 
