@@ -1,0 +1,35 @@
+use Rattle.std.proofs.Common.{rules, ◌≡◌, ◌++◌, ◌∙◌, ap, subst, sym}
+use Rattle.trio_rights.specs.declared.rights.LibNo.{LibNo}
+use Rattle.trio_lease.specs.Views.{bundle_in}
+use Rattle.trio_judge.specs.Cases.{case_in as case_shown}
+use Rattle.trio_state.specs.Moves.{Acts, Answered, End, IsAwaited}
+use Rattle.trio_state.specs.Step.{Release}
+use Rattle.trio_ctl.specs.Answers.{verdict_of}
+use Rattle.trio_ctl.specs.Ctl.{Controller, underway_of}
+use Rattle.trio_ctl.specs.HandedIn.{WereLentOrTouched}
+use Rattle.trio_ctl.specs.Logged.{entries_made, with_bundle}
+use Rattle.trio_shared.specs.inner.Found.{EndsHere}
+use Rattle.trio_shared.proofs.held.Held.finish.Goals as goal
+
+pub finish-requires-clause-lent : goal.finish-requires-clause-lent
+finish-requires-clause-lent c =
+    let mine : c.args.judged.case.lib ≡ c.args.lib = search rules in
+    subst (λ (l : LibNo). WereLentOrTouched c.self.inside.ctl.state l.0 c.args.judged.case.bundle.writes) (sym mine)
+    (subst (λ (x : Controller). WereLentOrTouched x.state c.args.lib.0 c.args.judged.case.bundle.writes) (sym c.self.view_is) (c.requires.lent mine))
+
+pub returns-clause-ends : goal.returns-clause-ends
+returns-clause-ends c =
+    let x = c.self.inside.ctl in
+    let k = c.args.judged.case in
+    let mine : c.args.judged.case.lib ≡ c.args.lib = search rules in
+    let awaited : IsAwaited (underway_of c.self.inside.ctl) c.args.judged.case.lib.0 (case_shown c.args.judged.case) = search rules in
+    let e = c.finish.ensures in
+    subst (λ (z : Controller). EndsHere z c.args.lib k c.finish.result c.finish.new.self) c.self.view_is (record {
+      mine = mine;
+      full = c.is_weighed.ensures.full;
+      awaited = subst (λ (l : LibNo). IsAwaited (underway_of x) l.0 (case_shown k)) mine awaited;
+      acts = subst (λ (l : LibNo). Acts (underway_of x) (End l.0 (bundle_in k.bundle)) (Answered (verdict_of c.finish.result)) (underway_of c.finish.new.self)) mine e.acts;
+      log = e.log ∙ ap (λ (l : LibNo). x.log ++ entries_made x.state (with_bundle k.bundle) (Release l.0 (bundle_in k.bundle)) (verdict_of c.finish.result)) mine;
+      first = e.first;
+      kept = e.was_kept;
+    })
