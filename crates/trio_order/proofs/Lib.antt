@@ -1,0 +1,7 @@
+pub mod Handed
+pub mod Standing
+pub mod Again
+pub mod Redone
+pub mod Courses
+pub mod Orders
+pub mod Growing
