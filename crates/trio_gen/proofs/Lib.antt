@@ -1,0 +1,4 @@
+pub mod PathFacts
+pub mod LineFacts
+pub mod Scripts
+pub mod Summaries

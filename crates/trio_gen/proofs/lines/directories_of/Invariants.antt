@@ -1,0 +1,6 @@
+use Rattle.std.proofs.Common.{◌≡◌}
+use Rattle.trio_gen.specs.Workload.{directories_of}
+use Rattle.trio_gen.proofs.lines.directories_of.Given as goal
+
+abbrev pub invariant-loop-k : goal.invariant-loop-k
+invariant-loop-k l = l.lines.items ≡ directories_of l.k
