@@ -1,14 +1,15 @@
 -- What follows from what the top call came to where it answers a fault.
-use Rattle.std.proofs.Common.{◌≡◌, ◌⊎◌, ℕ, List, inl, inr, ap, sym, ◌∙◌, arith}
+use Rattle.std.proofs.Common.{◌≡◌, ◌⊎◌, ◌<◌, ℕ, List, inl, inr, ap, sym, ◌∙◌, arith}
 use Rattle.trio_io.specs.Shelf.{Shelf, SinkSeen, Rose}
 use Rattle.trio_app.specs.declared.status.Status.{Status}
-use Rattle.trio_app.specs.declared.status.Status.TheVariants.{Done, Usage, ReadFault, WriteFault, NotBuilt}
+use Rattle.trio_app.specs.declared.status.Status.TheVariants.{Done, Usage, ReadFault, WriteFault, NoMemory, NotBuilt}
 use Rattle.trio_app.specs.Status.{code_of}
-use Rattle.trio_app.specs.Command.{Command, new_image, check, tree, turns, unbuilt, help, version, unknown, command_of}
+use Rattle.trio_app.specs.Command.{Command, new_image, check, tree, turns, gen, unbuilt, help, version, unknown, command_of}
 use Rattle.trio_app.specs.New.{NewComesTo}
 use Rattle.trio_app.specs.Check.{CheckComesTo}
 use Rattle.trio_app.specs.Tree.{TreeComesTo}
 use Rattle.trio_app.specs.Turns.{TurnsComesTo}
+use Rattle.trio_app.specs.Gen.{GenComesTo}
 use Rattle.trio_app.specs.declared.words.TreeForm.{TreeForm}
 use Rattle.trio_app.specs.Main.{ComesTo, Main}
 
@@ -49,11 +50,17 @@ new_read_fault : (out : List ℕ) (pages inodes : ℕ) (old new : Shelf) (text :
 new_read_fault out pages inodes old new text ReadFault e comes = comes
 new_read_fault out pages inodes old new text _ e comes = absurd (omega arith)
 
+gen_low : (number files : ℕ) (text : List ℕ) (status : Status) (code : ℕ) → code_of status ≡ code → 0 < code → code < 6 → GenComesTo number files text status → ⊥
+gen_low number files text Done code e low high comes = omega (arith, e)
+gen_low number files text NoMemory code e low high comes = omega (arith, e)
+gen_low number files text _ code e low high comes = comes
+
 comes_read_fault : (command : Command) (old new : Shelf) (text : List ℕ) (status : Status) → code_of status ≡ 4 → ComesTo command old new text status → ReadFaultCause command old new
 comes_read_fault (new_image out pages inodes) old new text status e comes = new_read_fault out pages inodes old new text status e comes.comes_to
 comes_read_fault (check image) old new text status e comes = check_read_fault image old new text status e comes.comes_to
 comes_read_fault (tree image form) old new text status e comes = tree_read_fault image form old new text status e comes.comes_to
 comes_read_fault (turns image script out) old new text status e comes = turns_read_fault image script out old new text status e comes.comes_to
+comes_read_fault (gen number files) old new text status e comes = absurd (gen_low number files text status 4 e (omega arith) (omega arith) comes.comes_to)
 comes_read_fault unbuilt old new text status e comes = let is : code_of status ≡ code_of NotBuilt = ap code_of comes.status_is in absurd (omega arith)
 comes_read_fault help old new text status e comes = let is : code_of status ≡ code_of Done = ap code_of comes.status_is in absurd (omega arith)
 comes_read_fault version old new text status e comes = let is : code_of status ≡ code_of Done = ap code_of comes.status_is in absurd (omega arith)
@@ -89,6 +96,7 @@ comes_write_fault (new_image out pages inodes) old new text status faults faults
 comes_write_fault (check image) old new text status faults faults' e comes = absurd (check_write_fault image old new text status e comes.comes_to)
 comes_write_fault (tree image form) old new text status faults faults' e comes = absurd (tree_write_fault image form old new text status e comes.comes_to)
 comes_write_fault (turns image script out) old new text status faults faults' e comes = inl (turns_write_fault image script out old new text status e comes.comes_to)
+comes_write_fault (gen number files) old new text status faults faults' e comes = absurd (gen_low number files text status 5 e (omega arith) (omega arith) comes.comes_to)
 comes_write_fault unbuilt old new text status faults faults' e comes = let is : code_of status ≡ code_of NotBuilt = ap code_of comes.status_is in absurd (omega arith)
 comes_write_fault help old new text status faults faults' e comes = let is : code_of status ≡ code_of Done = ap code_of comes.status_is in absurd (omega arith)
 comes_write_fault version old new text status faults faults' e comes = let is : code_of status ≡ code_of Done = ap code_of comes.status_is in absurd (omega arith)

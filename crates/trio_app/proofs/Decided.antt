@@ -6,12 +6,13 @@ use Rattle.trio_script.specs.Script.{bad_line}
 use Rattle.trio_app.specs.declared.status.Status.{Status}
 use Rattle.trio_app.specs.declared.status.Status.TheVariants.{Done, NotVerified, Usage, BadScript, ReadFault, WriteFault, NoMemory, TooLong, NotBuilt}
 use Rattle.trio_app.specs.Status.{code_of}
-use Rattle.trio_app.specs.Command.{Command, new_image, check, tree, turns, unbuilt, help, version, unknown, command_of}
+use Rattle.trio_app.specs.Command.{Command, new_image, check, tree, turns, gen, unbuilt, help, version, unknown, command_of}
 use Rattle.trio_app.specs.Images.{ImageFails, ImageStops, ImageVerifies}
 use Rattle.trio_app.specs.New.{NewComesTo}
 use Rattle.trio_app.specs.Check.{CheckComesTo}
 use Rattle.trio_app.specs.Tree.{TreeComesTo}
 use Rattle.trio_app.specs.Turns.{TurnsComesTo, TurnsDone}
+use Rattle.trio_app.specs.Gen.{GenComesTo}
 use Rattle.trio_app.specs.declared.words.TreeForm.{TreeForm}
 use Rattle.trio_app.specs.Main.{ComesTo, Main}
 use Rattle.trio_app.specs.Decided.{ImageDecides, Decides, EndsAsDecided, NewDecides, TellsImage, TellsBadLine, TellsNoImage, TellsScript, TellsTooLong, TurnsDecides}
@@ -215,12 +216,19 @@ module _ (image script out : List ℕ) (old new : Shelf) (text : List ℕ) (read
 same_end : (end decided status : Status) → decided ≡ end → status ≡ end → (code_of status ≡ code_of decided) ⊎ (code_of status ≡ 6)
 same_end end decided status d is = inl (ap code_of (is ∙ sym d))
 
+-- the workload is played, or memory is wanting
+gen_decided : (number files : ℕ) (text : List ℕ) (decided status : Status) → decided ≡ Done → GenComesTo number files text status → (code_of status ≡ code_of decided) ⊎ (code_of status ≡ 6)
+gen_decided number files text decided Done d comes = inl (ap code_of (sym d))
+gen_decided number files text decided NoMemory d comes = inr refl
+gen_decided number files text decided _ d comes = absurd comes
+
 comes_decided : (command : Command) (old new : Shelf) (text : List ℕ) → ((q : List ℕ) → Rose (old.read_faults q) (new.read_faults q) → ⊥) → ((q : List ℕ) → Rose (old.write_faults q) (new.write_faults q) → ⊥)
     → (decided status : Status) → Decides command old decided → ComesTo command old new text status → (code_of status ≡ code_of decided) ⊎ (code_of status ≡ 6)
 comes_decided (new_image out pages inodes) old new text reads writes decided status d comes = new_decided out out out old new text reads writes pages inodes decided status d comes.comes_to
 comes_decided (check image) old new text reads writes decided status d comes = image_decided image image image old new text reads writes decided status d (checked image old new text status comes.comes_to)
 comes_decided (tree image form) old new text reads writes decided status d comes = image_decided image image image old new text reads writes decided status d (told image form old new text status comes.comes_to)
 comes_decided (turns image script out) old new text reads writes decided status d comes = turns_decided image script out old new text reads writes decided status d comes.comes_to
+comes_decided (gen number files) old new text reads writes decided status d comes = gen_decided number files text decided status d comes.comes_to
 comes_decided unbuilt old new text reads writes decided status d comes = same_end NotBuilt decided status d comes.status_is
 comes_decided help old new text reads writes decided status d comes = same_end Done decided status d comes.status_is
 comes_decided version old new text reads writes decided status d comes = same_end Done decided status d comes.status_is

@@ -38,7 +38,7 @@ use Rattle.trio_app.specs.Inputs.{ReadsBoth, ReadsLibraries}
 use Rattle.trio_app.specs.Lines.{made_line, usage_line, write_fault_line}
 use Rattle.trio_app.specs.New.{New}
 use Rattle.trio_app.specs.Report.{answers_text, lib_text, libs_text, report_text, told_counts}
-use Rattle.trio_app.specs.inner.RunEnd.{IsRunEnd}
+use Rattle.trio_app.specs.inner.RunEnd.{IsPlayEnd, IsRunEnd}
 use Rattle.trio_app.specs.inner.Saved.{IsSaved, SaveComesTo}
 use Rattle.trio_app.specs.Tree.{Tree}
 use Rattle.trio_app.specs.declared.words.TreeForm.{TreeForm}
@@ -53,19 +53,26 @@ counts_same : (image : Image) (t : Superblock) (last : List (Option (List ℕ)))
 counts_same image t last tables =
     ap (λ rows. counts_in_tables rows (image_in t last).owners) (sym tables.rows_are) ∙ ap (counts_in_tables image.rows) (sym tables.owners_are)
 
+-- what is made of what the libraries were told and of the tree and the counts of the stored image is made of those of the image that is
+-- settled at the end
+pub told_of_settled : (T : List Heard → List TreeLine → Counts → List ℕ) (tolds seen : List Heard) (ctl : State) (t : Superblock) (last : List (Option (List ℕ)))
+    → seen ≡ tolds → TablesAre t last (settled ctl).rows (settled ctl).owners → t ≡ superblock_for (settled ctl).core → StoresImage t (settled ctl) last
+    → T seen (tree_of (core_in t last)) (counts_of (image_in t last)) ≡ T tolds (tree_of (settled ctl).core) (counts_of (settled ctl))
+told_of_settled T tolds seen ctl t last same tables is stores =
+    let core : Core = (settled ctl).core in
+    let stored : StoresImage (superblock_for core) (settled ctl) last = subst (λ (x : Superblock). StoresImage x (settled ctl) last) is stores in
+    let tree : tree_of (core_in t last) ≡ tree_of core = ap (λ (x : Superblock). tree_of (core_in x last)) is ∙ tree_same (superblock_for core) core.pages last stored.core in
+    let counts : Counts = counts_of (image_in t last) in
+    ap (λ hs. T hs (tree_of (core_in t last)) counts) same
+    ∙ ap (λ ls. T tolds ls counts) tree ∙ ap (T tolds (tree_of core)) (counts_same (settled ctl) t last tables)
+
 -- the text of a report, by the image that is settled at the end
 pub reported : (libs : List ScriptLib) (tolds seen : List Heard) (ctl : State) (t : Superblock) (last : List (Option (List ℕ))) (report : List ℕ)
     → seen ≡ tolds → TablesAre t last (settled ctl).rows (settled ctl).owners → t ≡ superblock_for (settled ctl).core → StoresImage t (settled ctl) last
     → report ≡ libs_text 1 libs seen ++ tree_text (tree_of (core_in t last)) ++ counts_text (told_counts (counts_of (image_in t last)))
     → report ≡ report_text libs tolds (settled ctl)
 reported libs tolds seen ctl t last report same tables is stores text =
-    let core : Core = (settled ctl).core in
-    let stored : StoresImage (superblock_for core) (settled ctl) last = subst (λ (x : Superblock). StoresImage x (settled ctl) last) is stores in
-    let tree : tree_of (core_in t last) ≡ tree_of core = ap (λ (x : Superblock). tree_of (core_in x last)) is ∙ tree_same (superblock_for core) core.pages last stored.core in
-    let T : List Heard → List TreeLine → Counts → List ℕ = λ hs ls k. libs_text 1 libs hs ++ tree_text ls ++ counts_text (told_counts k) in
-    let counts : Counts = counts_of (image_in t last) in
-    text ∙ ap (λ hs. T hs (tree_of (core_in t last)) counts) same
-    ∙ ap (λ ls. T tolds ls counts) tree ∙ ap (T tolds (tree_of core)) (counts_same (settled ctl) t last tables)
+    text ∙ told_of_settled (λ hs ls k. libs_text 1 libs hs ++ tree_text ls ++ counts_text (told_counts k)) tolds seen ctl t last same tables is stores
 
 -- once a script was played nobody writes
 pub nobody_writes : (s : Superblock) (pages : List (Option (List ℕ))) (creds : List Creds) (first final : State) (libs : List ScriptLib) (tolds : List Heard) (log : List Entry)
@@ -80,14 +87,13 @@ nobody_writes s pages creds first final libs tolds log k creds_are started scrip
 first_low : (s : Superblock) (pages : List (Option (List ℕ))) → IsVerified s pages → 0 < s.first_core
 first_low s pages v = (let facts = superblock_facts s v.whole.superblock.read.fits in omega (arith, facts.first_owner, facts.first_core))
 
--- what a run comes to
-pub run_end : (s t : Superblock) (pages last : List (Option (List ℕ))) (creds : List Creds) (first final : State) (begins : Image) (log : List Entry) (libs : List ScriptLib) (tolds : List Heard) (report : List ℕ)
+-- what the play of a script comes to
+pub play_end : (s t : Superblock) (pages last : List (Option (List ℕ))) (creds : List Creds) (first final : State) (begins : Image) (log : List Entry) (libs : List ScriptLib) (tolds : List Heard)
     → IsVerified s pages → Kept first → creds ≡ creds_in libs → first ≡ start (image_in s pages) creds → ScriptPlayed first.home libs tolds final log
     → begins ≡ image_in s pages → IsRecorded (recorded begins final log)
     → IsVerified t last → TablesAre t last (settled final).rows (settled final).owners → t ≡ superblock_for (settled final).core → (NoneOut final.pages_out → StoresImage t (settled final) last)
-    → report ≡ libs_text 1 libs tolds ++ tree_text (tree_of (core_in t last)) ++ counts_text (told_counts (counts_of (image_in t last)))
-    → IsRunEnd s pages libs report last
-run_end s t pages last creds first final begins log libs tolds report verified k creds_are started script begins_are r last_verified tables is stores text =
+    → IsPlayEnd s pages libs tolds t last
+play_end s t pages last creds first final begins log libs tolds verified k creds_are started script begins_are r last_verified tables is stores =
     let begun : first ≡ start (image_in s pages) (creds_in libs) = started ∙ ap (start (image_in s pages)) creds_are in
     let script' : ScriptPlayed (image_in s pages) libs tolds final log = subst (λ (f : State). ScriptPlayed f.home libs tolds final log) begun script in
     let played : Played (image_in s pages) libs = script'.played in
@@ -105,9 +111,23 @@ run_end s t pages last creds first final begins log libs tolds report verified k
       played = played;
       headline = headline (image_in s pages) libs played k';
       log = stored_log (image_in s pages) libs played (first_low s pages verified) last_first k' r';
-      put = reported libs played.last.told tolds played.last.state t last report (sym script'.told) tables' is' stored text;
-      stores = subst (λ (x : Superblock). StoresImage x (settled played.last.state) last) is' stored;
+      told = sym script'.told;
+      superblock = is';
+      tables = tables';
+      stores = stored;
     }
+
+-- what a run comes to
+pub run_end : (s t : Superblock) (pages last : List (Option (List ℕ))) (libs : List ScriptLib) (tolds : List Heard) (report : List ℕ) → IsPlayEnd s pages libs tolds t last
+    → report ≡ libs_text 1 libs tolds ++ tree_text (tree_of (core_in t last)) ++ counts_text (told_counts (counts_of (image_in t last)))
+    → IsRunEnd s pages libs report last
+run_end s t pages last libs tolds report end text = record {
+  played = end.played;
+  headline = end.headline;
+  log = end.log;
+  put = reported libs end.played.last.told tolds end.played.last.state t last report end.told end.tables end.superblock end.stores text;
+  stores = subst (λ (x : Superblock). StoresImage x (settled end.played.last.state) last) end.superblock end.stores;
+}
 
 -- a text that was put together
 pub joined : (t0 t1 t2 t3 a b c : List ℕ) → t0 ≡ [] → t1 ≡ t0 ++ a → t2 ≡ t1 ++ b → t3 ≡ t2 ++ c → t3 ≡ a ++ b ++ c

@@ -5,3 +5,4 @@ pub mod Ends
 pub mod Causes
 pub mod Decided
 pub mod Names
+pub mod Gens

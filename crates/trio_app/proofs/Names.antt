@@ -5,7 +5,7 @@ use Rattle.std.specs.Str.{bytes_eq}
 use Rattle.std.proofs.lemmas.List.Elements.{All-head, All-tail}
 use Rattle.trio_script.specs.Words.{number_of}
 use Rattle.trio_app.specs.declared.words.TreeForm.TheVariants.{Lines, Json}
-use Rattle.trio_app.specs.Command.{Command, new_image, check, tree, turns, unbuilt, help, version, unknown, command_of, gen_of, new_of}
+use Rattle.trio_app.specs.Command.{Command, new_image, check, tree, turns, gen, unbuilt, help, version, unknown, command_of, gen_of, new_of}
 
 -- this holds of each name of a file
 abbrev pub EachName : (List ℕ → Type 0) → Command → Type 0
@@ -26,7 +26,7 @@ new_names P out None (Some inodes) h = tt
 new_names P out None None h = tt
 
 gen_names : (P : List ℕ → Type 0) (number files : Option ℕ) → EachName P (gen_of number files)
-gen_names P (Some number) (Some files) = chosen P (nat_le 1 files && nat_le files 1000) unbuilt unknown tt tt
+gen_names P (Some number) (Some files) = chosen P (nat_le 1 files && nat_le files 1000) (gen number files) unknown tt tt
 gen_names P (Some number) None = tt
 gen_names P None (Some files) = tt
 gen_names P None None = tt

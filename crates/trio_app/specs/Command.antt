@@ -15,6 +15,8 @@ pub data Command : Type 0 where
   tree : List ℕ → TreeForm → Command
   -- IMAGE, SCRIPT and OUT
   turns : List ℕ → List ℕ → List ℕ → Command
+  -- NUMBER and FILES
+  gen : ℕ → ℕ → Command
   -- a command of the table that isn't built
   unbuilt : Command
   help : Command
@@ -29,7 +31,7 @@ new_of out _ _ = unknown
 
 -- `gen` with the numbers that its words are, the second of which is 1 to 1000
 abbrev pub gen_of : Option ℕ → Option ℕ → Command
-gen_of (Some number) (Some files) = if nat_le 1 files && nat_le files 1000 then unbuilt else unknown
+gen_of (Some number) (Some files) = if nat_le 1 files && nat_le files 1000 then gen number files else unknown
 gen_of _ _ = unknown
 
 -- `--help`, `--version`

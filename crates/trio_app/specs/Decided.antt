@@ -7,7 +7,7 @@ use Rattle.trio_script.specs.Script.{bad_line}
 use Rattle.trio_app.specs.declared.status.Status.{Status}
 use Rattle.trio_app.specs.declared.status.Status.TheVariants.{Done, NotVerified, Usage, BadScript, TooLong, NotBuilt}
 use Rattle.trio_app.specs.Status.{code_of}
-use Rattle.trio_app.specs.Command.{Command, new_image, check, tree, turns, unbuilt, help, version, unknown, command_of}
+use Rattle.trio_app.specs.Command.{Command, new_image, check, tree, turns, gen, unbuilt, help, version, unknown, command_of}
 
 -- a file tells its bytes, and is over its limit
 pub record TellsTooLong (limit : ℕ) (name : List ℕ) (files : Shelf) : Type 0 where
@@ -70,6 +70,7 @@ Decides (new_image out pages inodes) files status = NewDecides pages inodes stat
 Decides (check image) files status = ImageDecides image files status
 Decides (tree image form) files status = ImageDecides image files status
 Decides (turns image script out) files status = TurnsDecides image script files status
+Decides (gen number count) files status = status ≡ Done
 Decides unbuilt files status = status ≡ NotBuilt
 Decides help files status = status ≡ Done
 Decides version files status = status ≡ Done

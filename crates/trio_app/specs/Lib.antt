@@ -7,6 +7,7 @@ pub mod New
 pub mod Check
 pub mod Tree
 pub mod Turns
+pub mod Gen
 pub mod Command
 pub mod Main
 pub mod Decided

@@ -5,10 +5,11 @@
 //! - `trio tree IMAGE` puts out its tree, and `trio tree IMAGE json` the same as JSON.
 //! - `trio turns IMAGE SCRIPT OUT` runs a script on an image, writes the image that is then settled,
 //!   and puts out a report.
+//! - `trio gen NUMBER FILES` plays the generated workload in memory, and puts out what came of it.
 //!
 //! What it does and how it ends is the contract of [`trio_main`]: `specs/Main.antt` first, then
-//! `specs/Command.antt`, `specs/New.antt`, `specs/Check.antt`, `specs/Tree.antt` and
-//! `specs/Turns.antt`, with the claim of a run and what its controller's log says in
+//! `specs/Command.antt`, `specs/New.antt`, `specs/Check.antt`, `specs/Tree.antt`,
+//! `specs/Turns.antt` and `specs/Gen.antt`, with the claim of a run and what its controller's log says in
 //! `specs/Headline.antt`.
 //!
 //! [`trio_main`] is generic over the files, the sink and the gate. [`main`] hands it the host's,
@@ -21,6 +22,7 @@ ghost use Rattle.trio_io.specs.Names.{texts_of};
 ghost use Rattle.trio_app.specs.Main.{EndOfProcess};
 
 mod checking;
+mod generating;
 mod images;
 mod inputs;
 mod lines;
@@ -36,6 +38,7 @@ mod turns;
 mod words;
 
 pub use checking::check;
+pub use generating::generate;
 pub use inputs::{SCRIPT_LIMIT, read_inputs};
 pub use making::new_image;
 pub use plain::plain_main;

@@ -7,7 +7,7 @@ ghost use Rattle.trio_app.specs.Main.{Main, Puts};
 ghost use Rattle.trio_app.specs.Status.{code_of};
 
 use crate::lines::{USAGE, VERSION};
-use crate::{Request, Status, check, new_image, read_words, tree, turns};
+use crate::{Request, Status, check, generate, new_image, read_words, tree, turns};
 use std::alloc::Global;
 use trio_io::{Files, Sink};
 
@@ -64,6 +64,10 @@ pub fn plain_main<F: Files, S: Sink>(
             out: output,
         } => {
             let outcome = turns(alloc, image, script, output, files);
+            end(&outcome.text, outcome.status, out)
+        }
+        Request::Gen { number, files } => {
+            let outcome = generate(alloc, number, files);
             end(&outcome.text, outcome.status, out)
         }
         Request::Unbuilt => end(b"not built words\n", Status::NotBuilt, out),

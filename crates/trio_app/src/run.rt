@@ -9,7 +9,7 @@ ghost use Rattle.trio_ctl.specs.Ctl.{writer_of, TellsSettled};
 ghost use Rattle.trio_script.specs.Within.{AreWithin};
 ghost use Rattle.trio_runner.specs.Play.{creds_in};
 ghost use Rattle.trio_app.specs.Report.{answers_text, kind_of, lib_text, libs_text, numbers_of, told_counts};
-ghost use Rattle.trio_app.specs.inner.RunEnd.{IsRunEnd};
+ghost use Rattle.trio_app.specs.inner.RunEnd.{IsPlayEnd, IsRunEnd};
 
 use crate::images::told_counts;
 use std::alloc::Global;
@@ -32,6 +32,15 @@ pub struct RunEnd {
     pub image: Image,
 }
 
+/// What the play of a script left.
+#[derive(Drop)]
+pub struct PlayEnd {
+    /// What each library was told, in the order of the libraries.
+    pub tolds: Vec<LibTold>,
+    /// The image that is settled at the end.
+    pub image: Image,
+}
+
 /// Plays a script on an image. The log that the run's controller stores is legal, and the answers in
 /// the report print its entries. `NoMemory`: there was no memory for the run or the report.
 pub fn run(alloc: Global, image: Image, libs: &[ScriptLib]) -> Result<RunEnd, NoMemory>
@@ -40,6 +49,20 @@ pub fn run(alloc: Global, image: Image, libs: &[ScriptLib]) -> Result<RunEnd, No
     requires within { AreWithin libs.now }
     ensures { IfOk result (λ end. IsRunEnd image.superblock image.pages libs.now end.report.items end.image.pages) }
 {
+    let end = play_on(alloc, image, libs)?;
+    let last = end.image;
+    let (report, image) = report(alloc, libs, &end.tolds, last)?;
+    Ok(RunEnd { report, image })
+}
+
+/// Plays a script on an image. The log that the run's controller stores is legal, and what the
+/// libraries are told prints its entries. `NoMemory`: there was no memory for the run.
+pub fn play_on(alloc: Global, image: Image, libs: &[ScriptLib]) -> Result<PlayEnd, NoMemory>
+    requires some { 1 ≤ length libs.now }
+    requires few { length libs.now ≤ 16 }
+    requires within { AreWithin libs.now }
+    ensures { IfOk result (λ end. IsPlayEnd image.superblock image.pages libs.now end.tolds.items end.image.superblock end.image.pages) }
+{
     let _superblock = image.superblock();
     let mut ctl = match Ctl::start(alloc, image, creds_of(alloc, libs)?) {
         Ok(ctl) => ctl,
@@ -47,9 +70,8 @@ pub fn run(alloc: Global, image: Image, libs: &[ScriptLib]) -> Result<RunEnd, No
     };
     let tolds = play(alloc, &mut ctl, libs)?;
     ctl.is_recorded();
-    let last = last_image(ctl)?;
-    let (report, image) = report(alloc, libs, &tolds, last)?;
-    Ok(RunEnd { report, image })
+    let image = last_image(ctl)?;
+    Ok(PlayEnd { tolds, image })
 }
 
 /// The credentials of the libraries, in their order.

@@ -454,11 +454,11 @@ const COMMANDS: &[(&[&str], End)] = &[
         &["checks", "first.img"],
         (2, USAGE, ("first.img", Kept::Image(IMAGE_SIZE))),
     ),
-    (&["gen", "7", "4"], (8, UNBUILT, ("o p", Kept::Nothing))),
-    (&["gen", "0", "1"], (8, UNBUILT, ("o p", Kept::Nothing))),
+    (&["gen", "7", "4"], (0, FOUR_FILES, ("o p", Kept::Nothing))),
+    (&["gen", "0", "1"], (0, ONE_FILE, ("o p", Kept::Nothing))),
     (
-        &["gen", "4294967295", "1000"],
-        (8, UNBUILT, ("o p", Kept::Nothing)),
+        &["gen", "7", "1000"],
+        (0, THOUSAND_FILES, ("o p", Kept::Nothing)),
     ),
     (&["gen", "7", "1001"], (2, USAGE, ("o p", Kept::Nothing))),
     (&["gen", "7", "0"], (2, USAGE, ("o p", Kept::Nothing))),
@@ -516,6 +516,16 @@ const COMMANDS: &[(&[&str], End)] = &[
         (2, USAGE, ("--version", Kept::Image(IMAGE_SIZE))),
     ),
 ];
+
+const FOUR_FILES: &[u8] =
+    b"gen number 7 files 4 calls 9 ok 9 busy 0 bytes 134\ninodes 17 pages 28 free 8139\n";
+
+// The file `/d1/a/f0` has one byte.
+const ONE_FILE: &[u8] =
+    b"gen number 0 files 1 calls 2 ok 2 busy 0 bytes 1\ninodes 14 pages 14 free 8153\n";
+
+const THOUSAND_FILES: &[u8] =
+    b"gen number 7 files 1000 calls 2400 ok 2400 busy 0 bytes 26016\ninodes 813 pages 1674 free 6493\n";
 
 const UNBUILT: &[u8] = b"not built words\n";
 

@@ -8,10 +8,8 @@ ghost use Rattle.trio_app.specs.Command.{command_of, command_of_four, command_of
 ghost use Rattle.trio_app.specs.declared.words.TreeForm.TheVariants.{Json};
 ghost use Rattle.trio_app.specs.Request.{command_in};
 
+use trio_gen::FILES_LIMIT;
 use trio_script::read_number;
-
-/// The most files that `gen` makes.
-const FILES_LIMIT: u32 = 1000;
 
 /// In which form a tree is put.
 #[derive(Clone, Copy, Debug, PartialEq, Eq)]
@@ -46,7 +44,12 @@ pub enum Request<'a> {
         script: &'a str,
         out: &'a str,
     },
-    /// A command that isn't built: `run` or `gen` with its words.
+    /// `gen NUMBER FILES`, of 1 to 1000 files.
+    Gen {
+        number: u32,
+        files: u32,
+    },
+    /// A command that isn't built: `run` with its words.
     Unbuilt,
     /// `--help`.
     Help,
@@ -153,7 +156,9 @@ fn gen_request<'a>(number: &str, files: &str) -> Request<'a>
         read_number(number.as_bytes()),
         read_number(files.as_bytes()),
     ) {
-        (Some(_), Some(files)) if 1 <= files && files <= FILES_LIMIT => Request::Unbuilt,
+        (Some(number), Some(files)) if 1 <= files && files <= FILES_LIMIT => {
+            Request::Gen { number, files }
+        }
         _ => Request::Unknown,
     }
 }

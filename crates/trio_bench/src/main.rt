@@ -58,8 +58,9 @@ pub struct Tally {
 
 impl Logged for Tally {
     ghost use Rattle.std.specs.Prelude.{[], None};
+    ghost use Rattle.trio_turn.specs.Origins.{no_origin};
 
-    ghost first = { λ t. record { image = []; creds = [] } };
+    ghost first = { λ t. no_origin };
 
     ghost log = { λ t. [] };
 

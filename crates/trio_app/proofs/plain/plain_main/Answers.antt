@@ -5,6 +5,7 @@ use Rattle.trio_app.specs.Command.{Command}
 use Rattle.trio_app.specs.declared.status.Status.TheVariants.{Done, Usage, NotBuilt}
 use Rattle.trio_app.specs.Lines.{not_built_words, usage_line, version_line}
 use Rattle.trio_app.proofs.Decided.{main_decided}
+use Rattle.trio_app.proofs.Gens.{gen_files}
 use Rattle.trio_app.proofs.Names.{EachName, each_name}
 use Rattle.trio_app.proofs.plain.plain_main.Goals as goal
 
@@ -85,6 +86,21 @@ returns-in-Turns-clause-main g c = record {
 
 pub returns-in-Turns-clause-decided : goal.returns-in-Turns-clause-decided
 returns-in-Turns-clause-decided g c = main_decided _ _ _ _ _ _ (returns-in-Turns-clause-main g c)
+
+pub generate-outcome-requires : goal.generate-outcome-requires
+generate-outcome-requires g c = gen_files c.in-Gen.number c.in-Gen.files (texts_of c.args.words.now) c.in-Gen.ensures
+
+pub returns-in-Gen-clause-main : goal.returns-in-Gen-clause-main
+returns-in-Gen-clause-main g c = record {
+  status = c.generate-outcome.result.status;
+  text = c.generate-outcome.result.text.items;
+  comes_to = rw (← c.in-Gen.ensures) (record { comes_to = c.generate-outcome.ensures; same = refl });
+  puts = rw (← c.deref-in-Gen.ensures.value) c.end-in-Gen.ensures.puts;
+  unasked = rw (← c.deref-in-Gen.ensures.value) c.end-in-Gen.ensures.unasked;
+}
+
+pub returns-in-Gen-clause-decided : goal.returns-in-Gen-clause-decided
+returns-in-Gen-clause-decided g c = main_decided _ _ _ _ _ _ (returns-in-Gen-clause-main g c)
 
 pub returns-in-Unbuilt-clause-main : goal.returns-in-Unbuilt-clause-main
 returns-in-Unbuilt-clause-main g c = record {

@@ -1,0 +1,131 @@
+-- The generated workload: the limit of its files, the answers to its calls, and what its plays come to.
+use Rattle.std.proofs.Common.{◌≡◌, ℕ, zero, suc, ◌+◌, ◌<◌, ◌≤◌, ◌&&◌, min, Bool, true, false, List, [], ◌∷◌, ◌++◌, length, take, get_or, Option, None, Some, refl, sym, ap, subst, ◌∙◌, arith}
+use Rattle.std.specs.Prelude.{nat_le, codes, if◌then◌else◌}
+use Rattle.std.specs.Str.{bytes_eq}
+use Rattle.std.proofs.lemmas.Bool.{and_parts, leb-true}
+use Rattle.std.proofs.lemmas.List.{append-nil, append_assoc}
+use Rattle.trio_layout.specs.declared.superblock.Superblock.{Superblock}
+use Rattle.trio_layout.specs.Tree.{tree_of}
+use Rattle.trio_survey.specs.Stored.{core_in, image_in}
+use Rattle.trio_image.specs.Counts.{counts_of}
+use Rattle.trio_image.specs.Made.{IsMade}
+use Rattle.trio_script.specs.Words.{number_of}
+use Rattle.trio_script.specs.declared.ScriptLib.{ScriptLib}
+use Rattle.trio_report.specs.declared.answer.LineAnswer.{LineAnswer}
+use Rattle.trio_report.specs.Report.{counts_text}
+use Rattle.trio_runner.specs.Play.{Heard}
+use Rattle.trio_gen.specs.Summary.{call_answers, summary_line}
+use Rattle.trio_gen.specs.Workload.{directories_script, files_script}
+use Rattle.trio_app.specs.declared.words.TreeForm.TheVariants.{Lines, Json}
+use Rattle.trio_app.specs.Command.{Command, check, tree, turns, gen, unbuilt, help, version, unknown, command_of, gen_of, new_of}
+use Rattle.trio_app.specs.Gen.{GenDone, calls_told}
+use Rattle.trio_app.specs.Report.{told_counts}
+use Rattle.trio_app.specs.inner.RunEnd.{IsPlayEnd}
+use Rattle.trio_app.proofs.Ends.{told_of_settled}
+
+-- ---- the limit
+
+-- where the command is `gen`, it has at most 1000 files
+abbrev HasFewFiles : Command → Type 0
+HasFewFiles (gen number files) = files ≤ 1000
+HasFewFiles _ = Unit {0}
+
+chosen : (test : Bool) (x y : Command) → (test ≡ true → HasFewFiles x) → HasFewFiles y → HasFewFiles (if test then x else y)
+chosen true x y a b = a refl
+chosen false x y a b = b
+
+new_few : (out : List ℕ) (pages inodes : Option ℕ) → HasFewFiles (new_of out pages inodes)
+new_few out (Some pages) (Some inodes) = tt
+new_few out (Some pages) None = tt
+new_few out None (Some inodes) = tt
+new_few out None None = tt
+
+gen_few : (number files : Option ℕ) → HasFewFiles (gen_of number files)
+gen_few (Some number) (Some files) =
+    chosen (nat_le 1 files && nat_le files 1000) (gen number files) unknown (λ e. leb-true files 1000 (and_parts (nat_le 1 files) (nat_le files 1000) e).1) tt
+gen_few (Some number) None = tt
+gen_few None (Some files) = tt
+gen_few None None = tt
+
+each_few : (words : List (List ℕ)) → HasFewFiles (command_of words)
+each_few [] = tt
+each_few (w ∷ []) =
+    chosen (bytes_eq w (codes "--help")) help (if bytes_eq w (codes "--version") then version else unknown) (λ e. tt)
+    (chosen (bytes_eq w (codes "--version")) version unknown (λ e. tt) tt)
+each_few (w ∷ a ∷ []) =
+    chosen (bytes_eq w (codes "check")) (check a) (if bytes_eq w (codes "tree") then tree a Lines else unknown) (λ e. tt)
+    (chosen (bytes_eq w (codes "tree")) (tree a Lines) unknown (λ e. tt) tt)
+each_few (w ∷ a ∷ b ∷ []) =
+    chosen (bytes_eq w (codes "tree")) (if bytes_eq b (codes "json") then tree a Json else unknown) (if bytes_eq w (codes "gen") then gen_of (number_of a) (number_of b) else unknown)
+    (λ e. chosen (bytes_eq b (codes "json")) (tree a Json) unknown (λ f. tt) tt)
+    (chosen (bytes_eq w (codes "gen")) (gen_of (number_of a) (number_of b)) unknown (λ e. gen_few (number_of a) (number_of b)) tt)
+each_few (w ∷ a ∷ b ∷ d ∷ []) =
+    chosen (bytes_eq w (codes "new")) (new_of a (number_of b) (number_of d)) (if bytes_eq w (codes "turns") then turns a b d else (if bytes_eq w (codes "run") then unbuilt else unknown))
+    (λ e. new_few a (number_of b) (number_of d))
+    (chosen (bytes_eq w (codes "turns")) (turns a b d) (if bytes_eq w (codes "run") then unbuilt else unknown) (λ e. tt)
+    (chosen (bytes_eq w (codes "run")) unbuilt unknown (λ e. tt) tt))
+each_few (w ∷ a ∷ b ∷ d ∷ e ∷ rest) = tt
+
+pub gen_files : (number files : ℕ) (words : List (List ℕ)) → gen number files ≡ command_of words → files ≤ 1000
+gen_files number files words e = subst HasFewFiles (sym e) (each_few words)
+
+-- ---- the answers
+
+calls_more : (libs : List ScriptLib) (heards : List Heard) (i : ℕ) (lib : ScriptLib) (heard : Heard) → i < length libs → i < length heards → get_or libs i lib ≡ lib → get_or heards i heard ≡ heard
+    → calls_told (take (suc i) libs) (take (suc i) heards) ≡ calls_told (take i libs) (take i heards) ++ call_answers lib.lines heard.answers
+calls_more [] heards i lib heard a b is same = absurd (omega arith)
+calls_more (l ∷ ls) [] i lib heard a b is same = absurd (omega arith)
+calls_more (l ∷ ls) (h ∷ hs) zero lib heard a b is same =
+    ap (λ (x : ScriptLib). call_answers x.lines h.answers ++ calls_told (take 0 ls) (take 0 hs)) is
+    ∙ ap (λ (x : Heard). call_answers lib.lines x.answers ++ calls_told (take 0 ls) (take 0 hs)) same
+    ∙ append-nil (call_answers lib.lines heard.answers)
+calls_more (l ∷ ls) (h ∷ hs) (suc i) lib heard a b is same =
+    ap (λ answers. call_answers l.lines h.answers ++ answers) (calls_more ls hs i lib heard (omega arith) (omega arith) is same)
+    ∙ sym (append_assoc (call_answers l.lines h.answers) (calls_told (take i ls) (take i hs)) (call_answers lib.lines heard.answers))
+
+pub calls_all : (libs : List ScriptLib) (heards : List Heard) (i : ℕ) → min (length libs) (length heards) ≤ i → calls_told (take i libs) (take i heards) ≡ calls_told libs heards
+calls_all [] heards zero h = refl
+calls_all [] heards (suc i) h = refl
+calls_all (l ∷ ls) [] zero h = refl
+calls_all (l ∷ ls) [] (suc i) h = refl
+calls_all (l ∷ ls) (t ∷ ts) zero h = absurd (omega arith)
+calls_all (l ∷ ls) (t ∷ ts) (suc i) h = ap (λ answers. call_answers l.lines t.answers ++ answers) (calls_all ls ts i (omega arith))
+
+pub calls_put : (libs : List ScriptLib) (heards : List Heard) (i : ℕ) (lib : ScriptLib) (heard : Heard) (before after : List LineAnswer) → i < length libs → i < length heards → lib ≡ get_or libs i lib → heard ≡ get_or heards i heard
+    → before ≡ calls_told (take i libs) (take i heards) → after ≡ before ++ call_answers (get_or libs i lib).lines heard.answers
+    → after ≡ calls_told (take (i + 1) libs) (take (i + 1) heards)
+calls_put libs heards i lib heard before after a b is same first more =
+    let up : i + 1 ≡ suc i = omega arith in
+    more ∙ ap (λ (x : ScriptLib). before ++ call_answers x.lines heard.answers) (sym is)
+    ∙ ap (λ answers. answers ++ call_answers lib.lines heard.answers) first
+    ∙ sym (calls_more libs heards i lib heard a b (sym is) (sym same))
+    ∙ ap (λ n. calls_told (take n libs) (take n heards)) (sym up)
+
+-- ---- the plays
+
+pub gen_done : (number files : ℕ) (s t u : Superblock) (pages middle last : List (Option (List ℕ))) (first second : List ScriptLib) (told tolds : List Heard) (text : List ℕ)
+    → IsMade 8192 2048 s pages → first ≡ directories_script → second ≡ files_script number files
+    → IsPlayEnd s pages first told t middle → IsPlayEnd t middle second tolds u last
+    → text ≡ summary_line number files (calls_told second tolds) (tree_of (core_in u last)) ++ counts_text (told_counts (counts_of (image_in u last)))
+    → GenDone number files text
+gen_done number files s t u pages middle last first second told tolds text made first_is second_is end end' put =
+    let a : IsPlayEnd s pages directories_script told t middle = subst (λ libs. IsPlayEnd s pages libs told t middle) first_is end in
+    let b : IsPlayEnd t middle (files_script number files) tolds u last = subst (λ libs. IsPlayEnd t middle libs tolds u last) second_is end' in
+    let put' : text ≡ summary_line number files (calls_told (files_script number files) tolds) (tree_of (core_in u last)) ++ counts_text (told_counts (counts_of (image_in u last))) =
+    put ∙ ap (λ libs. summary_line number files (calls_told libs tolds) (tree_of (core_in u last)) ++ counts_text (told_counts (counts_of (image_in u last)))) second_is in
+    record {
+      superblock = s;
+      pages = pages;
+      made = made;
+      first = a.played;
+      first_headline = a.headline;
+      first_log = a.log;
+      between = t;
+      between_is = a.superblock;
+      middle = middle;
+      stores = a.stores;
+      second = b.played;
+      second_headline = b.headline;
+      second_log = b.log;
+      put = put' ∙ told_of_settled (λ hs ls k. summary_line number files (calls_told (files_script number files) hs) ls ++ counts_text (told_counts k)) b.played.last.told tolds b.played.last.state u last b.told b.tables b.superblock b.stores;
+    }

@@ -1,0 +1,6 @@
+use Rattle.std.proofs.Common.{◌≡◌, map, take}
+use Rattle.trio_app.specs.Gen.{calls_told}
+use Rattle.trio_app.proofs.generating.calls_told.Given as goal
+
+abbrev pub invariant-loop-at : goal.invariant-loop-at
+invariant-loop-at l = map (λ a. a.now) l.answers.items ≡ calls_told (take l.at l.libs) (take l.at l.tolds)
