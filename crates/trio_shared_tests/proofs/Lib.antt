@@ -1,0 +1,4 @@
+mod Desks
+mod Saw
+mod Sitting
+mod TwoMoves
