@@ -15,7 +15,7 @@ use Rattle.trio_shared.specs.Left.{Leaves, desk_left}
 use Rattle.trio_shared.specs.Seats.{IsIdle, IsSeatOf, desk, library_of, seated}
 use Rattle.trio_shared.specs.Turns.{Calls}
 use Rattle.trio_shared_tests.specs.Sits.{IsLeft, Plays, PlaysOn, SitsOn}
-use Rattle.trio_shared_tests.specs.declared.seats.Player.{Player}
+use Rattle.trio_shared_tests.specs.declared.player.Player.{Player}
 
 -- a desk each of whose calls is one of a seat, and keeps the controller, the reference to the seat and the library
 module _ {D N : Type 0} (called : D → Ask → Told → D → Type 0) (shared : D → Shared) (seat : D → LibSeat Held) (name : D → N)

@@ -9,7 +9,7 @@ use Rattle.trio_shared.specs.declared.held.Held.{Held}
 use Rattle.trio_state.specs.State.{State}
 use Rattle.trio_shared.specs.Left.{Leaves}
 use Rattle.trio_shared.specs.Seats.{IsIdle, IsSeatOf, library_count, out}
-use Rattle.trio_shared_tests.specs.declared.seats.Player.{Player}
+use Rattle.trio_shared_tests.specs.declared.player.Player.{Player}
 
 -- an idle seat of the controller
 pub record Sits (shared : Shared) (seat : LibSeat Held) : Type 0 where

@@ -1,9 +1,14 @@
 //! Tests of the controller for many threads, over what the crates make public.
+//!
+//! A [`Player`] is what the definitions of the tests speak of, so it is there without the tests too.
 #![tactic(auto)]
 
 #[cfg(test)]
 mod moves;
+mod player;
 #[cfg(test)]
 mod rows;
 #[cfg(test)]
 mod seats;
+
+pub use player::Player;

@@ -5,7 +5,8 @@ ghost use mathlib.Core.List.{IsPrefix};
 ghost use Rattle.trio_turn.specs.Seats.{seen};
 ghost use Rattle.trio_shared_tests.specs.Sits.{IsLeft, PlaysOn, Plays};
 
-use crate::seats::{Player, ROOT, asks, close_two, hands_in, leaves, seated, start_two, two_files};
+use crate::Player;
+use crate::seats::{ROOT, asks, close_two, hands_in, leaves, seated, start_two, two_files};
 use std::alloc::Global;
 use std::sync::Wait;
 use std::test::Fail;

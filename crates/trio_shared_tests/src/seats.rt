@@ -5,6 +5,7 @@ ghost use Rattle.trio_turn.specs.Seats.{seen};
 ghost use Rattle.trio_shared_tests.specs.Seen.{HasSeen};
 ghost use Rattle.trio_shared_tests.specs.Sits.{AreNumbered, Arrives, FourSit, IsNew, IsOne, Plays, PlaysOn, Sits, TwoSit};
 
+use crate::Player;
 use std::alloc::Global;
 use std::sync::Wait;
 use trio_ctl::Ctl;
@@ -16,12 +17,6 @@ use trio_rights::Creds;
 use trio_samples::files::root;
 use trio_samples::{Sample, SampleFile, directory, regular};
 use trio_shared::{LibSeat, SeatDesk, Shared};
-
-/// A library with its seat and all that it has.
-pub struct Player {
-    pub seat: LibSeat,
-    pub raw: Raw,
-}
 
 /// The image of these files, of 32 pages and 64 inode numbers.
 pub fn image_of(alloc: Global, files: &[SampleFile]) -> Option<Image> {
