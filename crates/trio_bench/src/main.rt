@@ -1,11 +1,14 @@
-//! What a turn costs without others in it, what the judge takes for bundles of many pages, what it
-//! costs to check an image, what to tell a tree, what to keep the index of a directory, what memory a
-//! release takes, and what it costs to write and read a file through a session.
+//! What a turn costs without others in it, and what a grant at a seat, what the judge takes for bundles
+//! of many pages, what it costs to check an image, what to tell a tree, what to keep the index of a
+//! directory, what memory a release takes, and what it costs to write and read a file through a session.
 //!
 //! - `trio_bench turn COUNT` takes a value out of its cell and gives it back COUNT times, and locks a
 //!   `Mutex` of std's with the same value COUNT times, all on one thread, five times over. It prints
 //!   the nanoseconds of the fastest turn and of the fastest lock on average over COUNT, and their
 //!   ratio.
+//! - `trio_bench seat COUNT` is lent a file for reading and gives it back COUNT times at a seat of a
+//!   shared controller, and COUNT times at a controller itself, all on one thread, nine times over. It
+//!   prints the nanoseconds of the fastest of each on average over COUNT, and their ratio.
 //! - `trio_bench judge` judges bundles of directory pages, each five times over, and prints how often
 //!   the time of one goes into that of another.
 //! - `trio_bench workload IMAGE` writes an image of the shape and size in which the generator's
@@ -32,6 +35,7 @@ mod checking;
 mod judging;
 mod logging;
 mod names;
+mod seats;
 mod sessions;
 mod trees;
 
@@ -39,6 +43,7 @@ use crate::checking::{measure_check, write_workload};
 use crate::judging::measure_judge;
 use crate::logging::measure_log;
 use crate::names::measure_names;
+use crate::seats::measure_seat;
 use crate::sessions::measure_session;
 use crate::trees::measure_tree;
 use std::alloc::Global;
@@ -132,6 +137,8 @@ fn fastest<R: Wait + Clock>(
 enum Asked {
     /// So many turns.
     Turn(u64),
+    /// So many grants at a seat.
+    Seat(u64),
     Judge,
     Tree,
     Names,
@@ -175,7 +182,10 @@ fn read_words<R: Env + AllocGlobal>(rt: &R) -> io::Result<Option<Asked>> {
         return Ok(Some(Asked::Check(count)));
     }
     let count = count.parse::<u64>().ok().filter(|count| *count > 0);
-    Ok(count.map(Asked::Turn).filter(|_| what.as_str() == "turn"))
+    if what.as_str() == "turn" {
+        return Ok(count.map(Asked::Turn));
+    }
+    Ok(count.map(Asked::Seat).filter(|_| what.as_str() == "seat"))
 }
 
 /// Measures turns, and prints what was measured.
@@ -197,6 +207,7 @@ fn measure_turn<R: Wait + Clock + Print + AllocGlobal>(rt: &R, count: u64) -> io
 fn main(rt: HostRuntime) -> io::Result<()> {
     match read_words(&rt)? {
         Some(Asked::Turn(count)) => measure_turn(&rt, count),
+        Some(Asked::Seat(count)) => measure_seat(&rt, count),
         Some(Asked::Judge) => measure_judge(&rt),
         Some(Asked::Tree) => measure_tree(&rt),
         Some(Asked::Names) => measure_names(&rt),
@@ -206,7 +217,7 @@ fn main(rt: HostRuntime) -> io::Result<()> {
         Some(Asked::Check(name)) => measure_check(&rt, &name),
         None => {
             println!(rt;
-                "usage: trio_bench turn COUNT\n       trio_bench judge\n       trio_bench workload IMAGE\n       trio_bench check IMAGE\n       trio_bench tree\n       trio_bench names\n       trio_bench log\n       trio_bench session"
+                "usage: trio_bench turn COUNT\n       trio_bench seat COUNT\n       trio_bench judge\n       trio_bench workload IMAGE\n       trio_bench check IMAGE\n       trio_bench tree\n       trio_bench names\n       trio_bench log\n       trio_bench session"
             )
         }
     }

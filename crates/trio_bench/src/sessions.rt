@@ -1,6 +1,6 @@
 //! What it costs to write and read a file through a session, beside a plain copy.
 
-ghost use Rattle.std.specs.Prelude.{◌≡◌, IfSome, IsTrue, length};
+ghost use Rattle.std.specs.Prelude.{◌≡◌, [], IfSome, IsTrue, length};
 ghost use Rattle.trio_rights.specs.declared.rights.LibNo.{LibNo as AnyLib};
 ghost use Rattle.trio_desk.specs.Out.{OutAlike, nothing_out};
 ghost use Rattle.trio_edit_laws.specs.Calls.{MayCall};
@@ -127,10 +127,11 @@ fn nanos_of_session<R: Clock>(rt: &R, alloc: Global) -> io::Result<Option<u128>>
 }
 
 /// The controller of an image with one empty file, for one library of uid 0.
-fn started(alloc: Global) -> Option<Ctl>
+pub fn started(alloc: Global) -> Option<Ctl>
     ensures none { IfSome result (λ ctl. (lib : AnyLib) → OutAlike (out_of ctl.state lib) nothing_out) }
     ensures one { IfSome result (λ ctl. length ctl.state.creds ≡ 1) }
     ensures idle { IfSome result NoneBegun }
+    ensures log { IfSome result (λ ctl. ctl.log ≡ []) }
 {
     let files = [root(), regular(2, 1, b"f", b"")];
     let bytes = Sample::of(alloc, 1024, 64, &files).ok()?.bytes(alloc).ok()?;

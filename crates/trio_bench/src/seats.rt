@@ -1,0 +1,116 @@
+//! What a grant costs at a seat, beside the same at the controller itself.
+
+ghost use Rattle.std.specs.Prelude.{IfSome};
+ghost use Rattle.trio_shared.specs.Seats.{IsIdle, IsSeatOf};
+
+use crate::sessions::started;
+use std::alloc::Global;
+use std::io;
+use std::rt::Clock;
+use std::sync::Wait;
+use std::time::Instant;
+use trio_ctl::PlainDesk;
+use trio_desk::Desk;
+use trio_lease::Lease;
+use trio_nodes::GrantKind;
+use trio_rights::LibNo;
+use trio_shared::{LibSeat, SeatDesk, Shared};
+
+/// The fastest of so many rounds counts.
+const ROUNDS: u32 = 9;
+
+/// The empty file of the image.
+const FILE: u32 = 2;
+
+/// Prints what it costs to be lent an empty file for reading and to give it back, at a seat of a shared
+/// controller without others at it and at a controller itself, on average over so many, and the ratio.
+/// The rounds of both come in turn, each with a controller of its own, whose log grows by two entries
+/// each time.
+pub fn measure_seat<R: Wait + Clock + Print + AllocGlobal>(rt: &R, count: u64) -> io::Result<()> {
+    match fastest(rt, rt.alloc(), count)? {
+        Some((seat, ctl)) => {
+            let hundredths = seat.saturating_mul(100) / ctl.max(1);
+            println!(rt;
+                "seat {} ns, controller {} ns, ratio {}.{:02}",
+                seat / u128::from(count.max(1)),
+                ctl / u128::from(count.max(1)),
+                hundredths / 100,
+                hundredths % 100
+            )
+        }
+        None => println!(rt; "out of memory, or not lent"),
+    }
+}
+
+/// The nanoseconds of the fastest round at a seat, and of the fastest at a controller.
+fn fastest<R: Wait + Clock>(rt: &R, alloc: Global, count: u64) -> io::Result<Option<(u128, u128)>> {
+    let mut seat = u128::MAX;
+    let mut ctl = u128::MAX;
+    for _ in 0..ROUNDS {
+        let Some(nanos) = nanos_of_seat(rt, alloc, count)? else {
+            return Ok(None);
+        };
+        seat = seat.min(nanos);
+        let Some(nanos) = nanos_of_ctl(rt, alloc, count)? else {
+            return Ok(None);
+        };
+        ctl = ctl.min(nanos);
+    }
+    Ok(Some((seat, ctl)))
+}
+
+fn nanos_of_seat<R: Wait + Clock>(rt: &R, alloc: Global, count: u64) -> io::Result<Option<u128>> {
+    let Some((shared, mut seat)) = start_one(alloc) else {
+        return Ok(None);
+    };
+    let mut desk = SeatDesk::of(rt, &shared, &mut seat);
+    nanos_at(rt, &mut desk, count)
+}
+
+fn nanos_of_ctl<R: Clock>(rt: &R, alloc: Global, count: u64) -> io::Result<Option<u128>> {
+    let Some(mut ctl) = started(alloc) else {
+        return Ok(None);
+    };
+    let mut desk = PlainDesk::of(&mut ctl, LibNo(1));
+    nanos_at(rt, &mut desk, count)
+}
+
+/// A shared controller with the seat of its one library.
+fn start_one(alloc: Global) -> Option<(Shared, LibSeat)>
+    ensures { IfSome result (λ r. IsSeatOf r.0 r.1 × IsIdle r.1) }
+{
+    let ctl = started(alloc)?;
+    let Ok((shared, mut seats)) = Shared::start(alloc, ctl, 1) else {
+        return None;
+    };
+    let Some(seat) = seats.pop() else {
+        unreachable!()
+    };
+    Some((shared, seat))
+}
+
+/// The nanoseconds of so many grants, each given back. `None` where one isn't granted.
+fn nanos_at<R: Clock, D: Desk>(rt: &R, desk: &mut D, count: u64) -> io::Result<Option<u128>> {
+    let start = Instant::now(rt)?;
+    for _ in 0..count {
+        if !lend_once(desk) {
+            return Ok(None);
+        }
+    }
+    Ok(Some(start.elapsed(rt)?.as_nanos()))
+}
+
+/// Asks for the file for reading, and gives it back. Returns whether it was lent.
+fn lend_once<D: Desk>(desk: &mut D) -> bool {
+    match desk.grant(FILE, GrantKind::Read) {
+        Ok(Lease::Read(lease)) => {
+            desk.give_back(lease);
+            true
+        }
+        Ok(lease) => {
+            lease.discard();
+            false
+        }
+        Err(_) => false,
+    }
+}
