@@ -1,2 +1,2 @@
 mod Started
-mod Seats
+mod Lending

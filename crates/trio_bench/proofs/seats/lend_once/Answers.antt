@@ -1,4 +1,4 @@
-use Rattle.trio_bench.proofs.Seats.{lease_is_out}
+use Rattle.trio_bench.proofs.Lending.{lease_is_out}
 use Rattle.trio_bench.proofs.seats.lend_once.Goals as goal
 
 pub give_back-requires : goal.give_back-requires

@@ -1,4 +1,4 @@
-use Rattle.trio_bench.proofs.Seats.{last_seat}
+use Rattle.trio_bench.proofs.Lending.{last_seat}
 use Rattle.trio_bench.proofs.seats.start_one.Goals as goal
 
 pub returns : goal.returns

@@ -20,8 +20,8 @@ at_end [] x = refl
 at_end (y ∷ ys) x = at_end ys x
 
 -- the last seat of a controller that was started
-pub last_seat : (shared : Shared) (origin : Origin) (seats rest : List (LibSeat Held)) (seat : LibSeat Held) → AllStart shared origin seats → seats ≡ rest ++ seat ∷ []
-    → IsSeatOf shared seat × IsIdle seat
+pub last_seat : (shared : Shared) (origin : Origin) (seats rest : List (LibSeat Held)) (seat : LibSeat Held) → AllStart shared origin seats
+    → seats ≡ rest ++ seat ∷ [] → IsSeatOf shared seat × IsIdle seat
 last_seat shared origin seats rest seat all is =
     let starts = all (length rest) seat (subst (λ l. slice_get l (length rest) ≡ Some seat) (sym is) (at_end rest seat)) in
     (starts.is, starts.idle)
