@@ -74,7 +74,7 @@ start_has_all image creds lib has = record {
 }
 
 -- a library holds all when it begins
-begins_all : (image : Image) (creds : List Creds) (lib : LibNo) (own : Creds) (lines : Lines) (share : Share) → own ≡ creds_of (start image creds) lib.0 → BeginsWith lib own lines share → HoldsAll (start image creds) lib share
+pub begins_all : (image : Image) (creds : List Creds) (lib : LibNo) (own : Creds) (lines : Lines) (share : Share) → own ≡ creds_of (start image creds) lib.0 → BeginsWith lib own lines share → HoldsAll (start image creds) lib share
 begins_all image creds lib own (Raw lines) share same begins =
     subst (HoldsAll (start image creds) lib) (sym begins) (start_has_all image creds lib nothing)
 begins_all image creds lib own (Honest lines) share same begins =
@@ -82,7 +82,7 @@ begins_all image creds lib own (Honest lines) share same begins =
     (begins_to_call (desk_of (start image creds) lib) _ (record { lib = refl; creds = same; out = nothing_at_start image creds lib; empty = refl }))
 
 -- the credentials of a script's library
-creds_at : (libs : List ScriptLib) (k : ℕ) (l : ScriptLib) → slice_get libs k ≡ Some l → l.creds ≡ get_or (creds_in libs) k (record { uid = 0; gid = 0 })
+pub creds_at : (libs : List ScriptLib) (k : ℕ) (l : ScriptLib) → slice_get libs k ≡ Some l → l.creds ≡ get_or (creds_in libs) k (record { uid = 0; gid = 0 })
 creds_at [] k l e = absurd (cc e)
 creds_at (x ∷ libs) zero l e = (let same : x ≡ l = cc e in ap (λ (y : ScriptLib). y.creds) (sym same))
 creds_at (x ∷ libs) (suc k) l e = creds_at libs k l e
@@ -165,7 +165,7 @@ none_there : {X : Type 0} (xs : List X) → ((x : X) → In x xs → ⊥) → xs
 none_there [] none = refl
 none_there (x ∷ xs) none = absurd (none x (inl refl))
 
-nothing_out : (s : State) → ((lib : LibNo) → HasAll (out_of s lib) nothing) → NothingOut s
+pub nothing_out : (s : State) → ((lib : LibNo) → HasAll (out_of s lib) nothing) → NothingOut s
 nothing_out s h = record {
   grants = none_there s.open_grants (λ g i. by g i g.kind refl);
   pages = λ n. by_page n (lib_at s.pages_out n) refl;

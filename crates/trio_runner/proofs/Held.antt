@@ -1,7 +1,7 @@
 -- Between turns each library has all that is out to it, and nothing is out to anybody else.
 use Rattle.std.proofs.Common.{◌≡◌, ℕ, ◌-◌, Ok, ◌≤◌, Bool, true, false, cond, ◌&&◌, eqb, List, [], ◌∷◌, ◌++◌, length, get_or, set, Option, Some, None, sym, refl, ap, ◌∙◌, subst, inl, inr, arith}
 use Rattle.std.proofs.Math.Dec.{eqb-suc-zero}
-use Rattle.std.specs.Prelude.{MatchOption}
+use Rattle.std.specs.Prelude.{⊤, MatchOption}
 use Rattle.std.specs.Option.{IsSomeAnd, option_map}
 use Rattle.std.proofs.lemmas.Bool.{and_parts, both_ways, eq-eqb, eqb-true, false≢true, cases_Bool, MatchBool-at_true, MatchBool-at_false}
 use Rattle.std.proofs.lemmas.List.{append-nil, append_assoc, get_or-set_other, get_or-set_same, length-set}
@@ -17,16 +17,17 @@ use Rattle.trio_lease.specs.declared.lease.Lease.{Lease}
 use Rattle.trio_desk.specs.Call.{DeskSeen}
 use Rattle.trio_desk.specs.Out.{LibOut, OutAlike, nothing_out as no_lib_out}
 use Rattle.trio_desk.specs.Out as out_words
-use Rattle.trio_desk.specs.Call.{Ask, Told, Grant, Allot, GiveBack, Release, SetMode, Settle, SeenAfter, Lent, NotLent, Given, NotGiven, Done, Judged, NotJudged, Settled, NotSettled, ModeSet, NotModeSet}
+use Rattle.trio_desk.specs.Call.{Ask, Told, Grant, Allot, GiveBack, Release, SetMode, Settle, SeenAfter, Lent, NotLent, Given, NotGiven, Done, Judged, NotJudged, Settled, NotSettled, ModeSet, NotModeSet, out_after}
 use Rattle.trio_desk.specs.Calls.{Call}
 use Rattle.trio_layout.specs.Image.{row_at}
 use Rattle.trio_state.specs.State.{OpenGrant, State}
 use Rattle.trio_state.specs.Kept.{Kept}
+use Rattle.trio_laws.specs.history.Recorded.{LentWhole}
 use Rattle.trio_state.specs.Grants.{opened}
 use Rattle.trio_state.specs.Run.{Move}
 use Rattle.trio_ctl.specs.Ctl.{IsLibrary}
 use Rattle.trio_ctl.specs.Open.{given_by, lent_by}
-use Rattle.trio_ctl.specs.Desk.{Happens, desk_of, out_of}
+use Rattle.trio_ctl.specs.Desk.{Happens, LeaseIs, desk_of, out_of}
 use Rattle.trio_raw.proofs.Asking.{mode_alike}
 use Rattle.trio_raw.specs.Has.{Has, nothing, has_all_of, has_nothing, parcel_named, poked, read_on, with_reads, without_read}
 use Rattle.trio_raw.specs.Asked.{back_calls, release_call}
@@ -47,8 +48,8 @@ use Rattle.trio_runner.specs.Honest.{HonestComes, Noted, Notes, sees, unnoted}
 use Rattle.trio_runner.specs.Moves.{AreMoves}
 use Rattle.trio_runner.specs.Play.{Heard, Players, Share, TakesTurn, Things, InSession, TurnComes, share_of, told_to}
 use Rattle.trio_runner.specs.inner.Ready.{HasAll, HoldsAll, IsHeld}
-use Rattle.trio_runner.proofs.CallLeaves.{call_leaves}
-use Rattle.trio_runner.proofs.Moves.{Stands, moves_creds, moves_others, moves_parted, moves_stand, no_move, one_move}
+use Rattle.trio_runner.proofs.CallLeaves.{Fits, call_leaves}
+use Rattle.trio_runner.proofs.Moves.{Stands, call_stands, moves_creds, moves_others, moves_stand}
 use Rattle.trio_runner.proofs.Outs.{AsLent, has_all-alike, has_all-allotted, has_all-back, has_all-last, has_all-lease, has_all-poked, has_all-rest, has_all-returned, has_all-whole}
 
 -- a lease stands as it was lent when it is given
@@ -74,26 +75,74 @@ has_all-alone out has (Poke at offset bytes) h = by (poked has at offset bytes) 
     by None e = h
     by (Some after) e = has_all-poked out has after at offset bytes e h
 
+-- ---- what calls leave
+
+-- a lease that is told was lent as it stands
+abbrev pub LentSo : Ask → Told → Type 0
+LentSo (Grant ino kind) (Lent lease) = AsLent lease
+LentSo ask told = ⊤
+
+-- a call leaves this out to its library
+pub record CallLeaves (out : LibOut) (ask : Ask) (told : Told) (out' : LibOut) : Type 0 where
+  pub alike : Fits ask told → OutAlike out' (out_after out ask told)
+  pub lent : LentSo ask told
+
+-- calls do, one after another
+abbrev pub Leave : LibOut → List Call → LibOut → Type 0
+Leave out [] out' = out' ≡ out
+Leave out (c ∷ calls) out' = (middle : LibOut) × CallLeaves out c.ask c.told middle × Leave middle calls out'
+
+lent_so : (s : State) (lib : LibNo) (ask : Ask) (told : Told) → LeaseIs s lib ask told → LentSo ask told
+lent_so s lib (Grant ino kind) (Lent lease) is = lent_as_lent s lib.0 ino kind lease (row_at s.home ino) is
+lent_so s lib ask told is = tt
+
+pub happens_leaves : (s : State) (lib : LibNo) (ask : Ask) (told : Told) (s' : State) → Kept s → Happens s lib ask told s' → CallLeaves (out_of s lib) ask told (out_of s' lib)
+happens_leaves s lib ask told s' kept h = record {
+  alike = λ fits. call_leaves s lib s' ask told fits kept h;
+  lent = lent_so s lib ask told h.lease;
+}
+
+moves_leave : (lib : LibNo) (s : State) (calls : List Call) (moves : List Move) (s' : State) → Stands s → AreMoves lib s calls moves s' → Leave (out_of s lib) calls (out_of s' lib)
+moves_leave lib s [] [] s' k a = ap (λ t. out_of t lib) a
+moves_leave lib s [] (m ∷ moves) s' k a = absurd a
+moves_leave lib s (c ∷ calls) [] s' k a = absurd a
+moves_leave lib s (c ∷ calls) (m ∷ moves) s' k a = (
+  out_of m.after lib,
+  happens_leaves s lib c.ask c.told m.after k.kept a.1,
+  moves_leave lib m.after calls moves s' (call_stands s lib c.ask c.told m.after k a.1) a.2,
+)
+
+-- calls, and others after them
+leave_parted : (first later : List Call) (out out' : LibOut) → Leave out (first ++ later) out' → (middle : LibOut) × Leave out first middle × Leave middle later out'
+leave_parted [] later out out' l = (out, refl, l)
+leave_parted (c ∷ first) later out out' l =
+    let rest = leave_parted first later l.0 out' l.2 in
+    (rest.0, (l.0, l.1, rest.1), rest.2)
+
+-- one call alone
+one_leaves : (c : Call) (out out' : LibOut) → Leave out (c ∷ []) out' → CallLeaves out c.ask c.told out'
+one_leaves c out out' l = subst (CallLeaves out c.ask c.told) (sym l.2) l.1
+
 -- ---- a line
 
-module _ (lib : LibNo) (s s' : State) (has has' : Has) (calls : List Call) (moves : List Move) (told : LineAnswer) (kept : Kept s) (all : HasAll (out_of s lib) has) (am : AreMoves lib s calls moves s') where
-  alone_held : (said : RawLine) → Alone has said calls told has' → HasAll (out_of s' lib) has'
+module _ (lib : LibNo) (out out' : LibOut) (has has' : Has) (calls : List Call) (told : LineAnswer) (all : HasAll out has) (leave : Leave out calls out') where
+  alone_held : (said : RawLine) → Alone has said calls told has' → HasAll out' has'
   alone_held said a =
-      let same : s' ≡ s = no_move lib s moves s' (subst (λ (l : List Call). AreMoves lib s l moves s') a.calls_are am) in
-      subst (HasAll (out_of s' lib)) (sym a.has_is) (subst (λ t. HasAll (out_of t lib) (has_alone has said)) (sym same) (has_all-alone (out_of s lib) has said all))
+      let same : out' ≡ out = subst (λ (l : List Call). Leave out l out') a.calls_are leave in
+      subst (HasAll out') (sym a.has_is) (subst (λ o. HasAll o (has_alone has said)) (sym same) (has_all-alone out has said all))
 
-  asked : (said : RawLine) (ask : Ask) (a : Asks lib has said ask calls told has') → Happens s lib ask a.answer s'
-  asked said ask a = one_move lib s (record { ask = ask; told = a.answer }) moves s' (subst (λ (l : List Call). AreMoves lib s l moves s') a.calls_are am)
+  asked : (said : RawLine) (ask : Ask) (a : Asks lib has said ask calls told has') → CallLeaves out ask a.answer out'
+  asked said ask a = one_leaves (record { ask = ask; told = a.answer }) out out' (subst (λ (l : List Call). Leave out l out') a.calls_are leave)
 
   -- what the library has then, by what the answer leaves out to it
   abbrev Comes : RawLine → Ask → Told → Type 0
-  Comes said ask answer = told_of said answer ≡ Some told → Happens s lib ask answer s' → HasAll (out_of s' lib) (has_after lib has said answer)
+  Comes said ask answer = told_of said answer ≡ Some told → CallLeaves out ask answer out' → HasAll out' (has_after lib has said answer)
 
   grant_held : (ino : ℕ) (kind : GrantKind) (answer : Told) → Comes (GrantLine ino kind) (Grant ino kind) answer
   grant_held ino kind (Lent lease) t h =
-      has_all-alike _ _ _ (call_leaves s lib s' (Grant ino kind) (Lent lease) tt kept h)
-      (has_all-lease (out_of s lib) has lease (lent_as_lent s lib.0 ino kind lease (row_at s.home ino) h.lease) all)
-  grant_held ino kind (NotLent fault) t h = has_all-alike _ _ _ (call_leaves s lib s' (Grant ino kind) (NotLent fault) tt kept h) all
+      has_all-alike _ _ _ (h.alike tt)
+      (has_all-lease out has lease h.lent all)
+  grant_held ino kind (NotLent fault) t h = has_all-alike _ _ _ (h.alike tt) all
   grant_held ino kind (Given ps ns) t h = absurd (cc t)
   grant_held ino kind (NotGiven fault) t h = absurd (cc t)
   grant_held ino kind Done t h = absurd (cc t)
@@ -106,8 +155,8 @@ module _ (lib : LibNo) (s s' : State) (has has' : Has) (calls : List Call) (move
 
   allot_held : (wanted many : ℕ) (answer : Told) → Comes (AllotLine wanted many) (Allot wanted many) answer
   allot_held wanted many (Given ps ns) t h =
-      has_all-alike _ _ _ (call_leaves s lib s' (Allot wanted many) (Given ps ns) tt kept h) (has_all-allotted lib (out_of s lib) has ps ns all)
-  allot_held wanted many (NotGiven fault) t h = has_all-alike _ _ _ (call_leaves s lib s' (Allot wanted many) (NotGiven fault) tt kept h) all
+      has_all-alike _ _ _ (h.alike tt) (has_all-allotted lib out has ps ns all)
+  allot_held wanted many (NotGiven fault) t h = has_all-alike _ _ _ (h.alike tt) all
   allot_held wanted many (Lent l) t h = absurd (cc t)
   allot_held wanted many (NotLent fault) t h = absurd (cc t)
   allot_held wanted many Done t h = absurd (cc t)
@@ -120,8 +169,8 @@ module _ (lib : LibNo) (s s' : State) (has has' : Has) (calls : List Call) (move
 
   back_held : (ino : ℕ) (lease : Shown) → lease.ino ≡ ino → (answer : Told) → Comes (BackLine ino) (GiveBack lease) answer
   back_held ino lease e Done t h =
-      has_all-alike _ _ _ (call_leaves s lib s' (GiveBack lease) Done tt kept h)
-      (subst (λ n. HasAll (out_words.without_read (out_of s lib) n) (without_read has ino)) (sym e) (has_all-back (out_of s lib) has ino all))
+      has_all-alike _ _ _ (h.alike tt)
+      (subst (λ n. HasAll (out_words.without_read out n) (without_read has ino)) (sym e) (has_all-back out has ino all))
   back_held ino lease e (Lent l) t h = absurd (cc t)
   back_held ino lease e (NotLent fault) t h = absurd (cc t)
   back_held ino lease e (Given ps ns) t h = absurd (cc t)
@@ -135,11 +184,11 @@ module _ (lib : LibNo) (s s' : State) (has has' : Has) (calls : List Call) (move
 
   release_held : (inos pages numbers : List ℕ) (answer : Told) → Comes (ReleaseLine inos pages numbers) (Release (parcel_named has inos pages numbers)) answer
   release_held inos pages numbers (Judged answer) t h =
-      has_all-alike _ _ _ (call_leaves s lib s' (Release (parcel_named has inos pages numbers)) (Judged answer) tt kept h)
-      (has_all-rest (out_of s lib) has inos pages numbers all)
+      has_all-alike _ _ _ (h.alike tt)
+      (has_all-rest out has inos pages numbers all)
   release_held inos pages numbers (NotJudged fault) t h =
-      has_all-alike _ _ _ (call_leaves s lib s' (Release (parcel_named has inos pages numbers)) (NotJudged fault) tt kept h)
-      (has_all-returned (out_of s lib) has inos pages numbers all)
+      has_all-alike _ _ _ (h.alike tt)
+      (has_all-returned out has inos pages numbers all)
   release_held inos pages numbers (Lent l) t h = absurd (cc t)
   release_held inos pages numbers (NotLent fault) t h = absurd (cc t)
   release_held inos pages numbers (Given ps ns) t h = absurd (cc t)
@@ -151,8 +200,8 @@ module _ (lib : LibNo) (s s' : State) (has has' : Has) (calls : List Call) (move
   release_held inos pages numbers (NotModeSet fault) t h = absurd (cc t)
 
   mode_held : (ino mode : ℕ) (answer : Told) → Comes (ModeLine ino mode) (SetMode ino mode [] None) answer
-  mode_held ino mode ModeSet t h = has_all-alike (out_of s lib) (out_of s' lib) has (mode_alike (out_of s lib) (out_of s' lib) [] refl (call_leaves s lib s' (SetMode ino mode [] None) ModeSet tt kept h)) all
-  mode_held ino mode (NotModeSet fault) t h = has_all-alike _ _ _ (call_leaves s lib s' (SetMode ino mode [] None) (NotModeSet fault) tt kept h) all
+  mode_held ino mode ModeSet t h = has_all-alike out out' has (mode_alike out out' [] refl (h.alike tt)) all
+  mode_held ino mode (NotModeSet fault) t h = has_all-alike _ _ _ (h.alike tt) all
   mode_held ino mode (Lent l) t h = absurd (cc t)
   mode_held ino mode (NotLent fault) t h = absurd (cc t)
   mode_held ino mode (Given ps ns) t h = absurd (cc t)
@@ -164,10 +213,10 @@ module _ (lib : LibNo) (s s' : State) (has has' : Has) (calls : List Call) (move
   mode_held ino mode NotSettled t h = absurd (cc t)
 
   -- what it has then
-  then_has : (said : RawLine) (ask : Ask) (a : Asks lib has said ask calls told has') → ((answer : Told) → Comes said ask answer) → HasAll (out_of s' lib) has'
-  then_has said ask a held = subst (HasAll (out_of s' lib)) (sym a.has_is) (held a.answer a.told_is (asked said ask a))
+  then_has : (said : RawLine) (ask : Ask) (a : Asks lib has said ask calls told has') → ((answer : Told) → Comes said ask answer) → HasAll out' has'
+  then_has said ask a held = subst (HasAll out') (sym a.has_is) (held a.answer a.told_is (asked said ask a))
 
-  pub line_held : (said : RawLine) → LineComes lib has said calls told has' → HasAll (out_of s' lib) has'
+  pub line_held : (said : RawLine) → LineComes lib has said calls told has' → HasAll out' has'
   line_held (GrantLine ino kind) a = then_has (GrantLine ino kind) (Grant ino kind) a (grant_held ino kind)
   line_held (AllotLine wanted many) a = then_has (AllotLine wanted many) (Allot wanted many) a (allot_held wanted many)
   line_held (ModeLine ino mode) a = then_has (ModeLine ino mode) (SetMode ino mode [] None) a (mode_held ino mode)
@@ -178,7 +227,7 @@ module _ (lib : LibNo) (s s' : State) (has has' : Has) (calls : List Call) (move
       said : RawLine
       said = BackLine ino
 
-      by : (o : Option Shown) → read_on has ino ≡ o → MatchOption (option_map GiveBack o) (Alone has said calls told has') (λ ask. Asks lib has said ask calls told has') → HasAll (out_of s' lib) has'
+      by : (o : Option Shown) → read_on has ino ≡ o → MatchOption (option_map GiveBack o) (Alone has said calls told has') (λ ask. Asks lib has said ask calls told has') → HasAll out' has'
       by None e a = alone_held said a
       by (Some lease) e a =
           let found = find-In (λ (r : Shown). eqb r.ino ino) has.reads lease e in
@@ -188,24 +237,20 @@ module _ (lib : LibNo) (s s' : State) (has has' : Has) (calls : List Call) (move
       said : RawLine
       said = ReleaseLine inos pages numbers
 
-      by : (b : Bool) → MatchOption (cond b (Some (Release (parcel_named has inos pages numbers))) None) (Alone has said calls told has') (λ ask. Asks lib has said ask calls told has') → HasAll (out_of s' lib) has'
+      by : (b : Bool) → MatchOption (cond b (Some (Release (parcel_named has inos pages numbers))) None) (Alone has said calls told has') (λ ask. Asks lib has said ask calls told has') → HasAll out' has'
       by false a = alone_held said a
       by true a = then_has said (Release (parcel_named has inos pages numbers)) a (release_held inos pages numbers)
 
 -- ---- an end
 
 -- once these read leases are given back, the others and all else that is out are there
-pub backs_held : (lib : LibNo) (has : Has) (xs rs : List Shown) (s : State) (moves : List Move) (s' : State) → Stands s → HasAll (out_of s lib) (with_reads has (xs ++ rs)) → AreMoves lib s (back_calls rs) moves s' → HasAll (out_of s' lib) (with_reads has xs)
-backs_held lib has xs [] s moves s' k h am =
-    subst (λ t. HasAll (out_of t lib) (with_reads has xs)) (sym (no_move lib s moves s' am)) (subst (λ l. HasAll (out_of s lib) (with_reads has l)) (append-nil xs) h)
-backs_held lib has xs (r ∷ rs) s moves s' k h am =
+backs_held : (has : Has) (xs rs : List Shown) (out out' : LibOut) → HasAll out (with_reads has (xs ++ rs)) → Leave out (back_calls rs) out' → HasAll out' (with_reads has xs)
+backs_held has xs [] out out' h l = subst (λ o. HasAll o (with_reads has xs)) (sym l) (subst (λ (rs : List Shown). HasAll out (with_reads has rs)) (append-nil xs) h)
+backs_held has xs (r ∷ rs) out out' h l =
     let joined : xs ++ r ∷ rs ≡ (xs ++ r ∷ []) ++ rs = sym (append_assoc xs (r ∷ []) rs) in
-    let p = moves_parted lib s (back_calls rs) (record { ask = GiveBack r; told = Done } ∷ []) moves s' am in
-    let before = backs_held lib has (xs ++ r ∷ []) rs s p.first_moves p.middle k (subst (λ l. HasAll (out_of s lib) (with_reads has l)) joined h) p.before in
-    let middle = moves_stand lib s (back_calls rs) p.first_moves p.middle k p.before in
-    let back = one_move lib p.middle (record { ask = GiveBack r; told = Done }) p.later_moves s' p.after in
-    has_all-alike _ _ _ (call_leaves p.middle lib s' (GiveBack r) Done tt middle.kept back)
-    (has_all-last (out_of p.middle lib) has xs r before)
+    let p = leave_parted (back_calls rs) (record { ask = GiveBack r; told = Done } ∷ []) out out' l in
+    let before = backs_held has (xs ++ r ∷ []) rs out p.0 (subst (λ (ys : List Shown). HasAll out (with_reads has ys)) joined h) p.1 in
+    has_all-alike _ _ _ ((one_leaves (record { ask = GiveBack r; told = Done }) p.0 out' p.2).alike tt) (has_all-last p.0 has xs r before)
 
 is_empty : {X : Type 0} (xs : List X) → eqb (length xs) 0 ≡ true → xs ≡ []
 is_empty [] e = refl
@@ -226,19 +271,17 @@ none_held out has t h =
     (subst (λ (l : List _). HasAll out (record nothing { writes = has.writes; holds = has.holds; pages = l })) (is_empty has.pages three.1)
     (subst (λ (l : List _). HasAll out (record nothing { writes = has.writes; holds = has.holds; pages = has.pages; inodes = l })) (is_empty has.inodes all.1) h)))
 
-pub end_held : (lib : LibNo) (s : State) (has : Has) (calls : List Call) (moves : List Move) (end : EndAnswer) (s' : State) → Stands s → HasAll (out_of s lib) has → EndComes has calls end → AreMoves lib s calls moves s' → HasAll (out_of s' lib) nothing
-end_held lib s has calls moves end s' k h comes am =
+pub end_held : (has : Has) (calls : List Call) (end : EndAnswer) (out out' : LibOut) → HasAll out has → EndComes has calls end → Leave out calls out' → HasAll out' nothing
+end_held has calls end out out' h comes leave =
     elim (cases_Bool (has_nothing has)) [
       | inl t ↦
           (let a : EndsAlone has calls end = MatchBool-at_true (EndsAlone has calls end) (EndsAll has calls end) t comes in
-          none_held (out_of s' lib) has t (backs_held lib has [] has.reads s moves s' k h (subst (λ (l : List Call). AreMoves lib s l moves s') a.calls_are am)))
+          none_held out' has t (backs_held has [] has.reads out out' h (subst (λ (l : List Call). Leave out l out') a.calls_are leave)))
       | inr f ↦
           (let a : EndsAll has calls end = MatchBool-at_false (EndsAlone has calls end) (EndsAll has calls end) f comes in
           let last : Call = release_call has (Judged a.answer) in
-          let p = moves_parted lib s (back_calls has.reads) (last ∷ []) moves s' (subst (λ (l : List Call). AreMoves lib s l moves s') a.calls_are am) in
-          let middle = moves_stand lib s (back_calls has.reads) p.first_moves p.middle k p.before in
-          has_all-alike _ _ _ (call_leaves p.middle lib s' last.ask last.told tt middle.kept (one_move lib p.middle last p.later_moves s' p.after))
-          (has_all-whole (out_of p.middle lib) has (backs_held lib has [] has.reads s p.first_moves p.middle k h p.before)))
+          let p = leave_parted (back_calls has.reads) (last ∷ []) out out' (subst (λ (l : List Call). Leave out l out') a.calls_are leave) in
+          has_all-alike _ _ _ ((one_leaves last p.0 out' p.2).alike tt) (has_all-whole p.0 has (backs_held has [] has.reads out p.0 h p.1)))
     ]
 
 -- ---- a settle
@@ -253,35 +296,45 @@ none_all out o = record {
   numbers = λ n i. absurd ((o.numbers n).0 i);
 }
 
-module _ (lib : LibNo) (s : State) (x x' : SessionSeen) (d' : Noted) (stands : Stands s) (may : MayCall (desk_of s lib) x) (t : Settles (Notes lib) (unnoted s) x d' x') where
-  seen_then : SeenAfter (desk_of s lib) (Settle x.parcel x.reads x.calls) Settled (desk_of d'.state lib)
-  seen_then =
-      settle_seen {A = Unit {0}} {B = Unit {0}} s d'.state lib x.parcel x.reads x.calls (Ok tt) stands.kept stands.whole (may_be_settled (desk_of s lib) x may) t.made.happens
+-- what is seen of a desk before and after a settle of a session that may call
+module _ (d d' : DeskSeen) (x x' : SessionSeen) (may : MayCall d x) (seen : SeenAfter d (Settle x.parcel x.reads x.calls) Settled d') (empty : x' ≡ record (emptied x) { room = x'.room }) where
+  pub nothing_settled : HasAll d'.out nothing
+  nothing_settled = none_all d'.out seen.out
 
-  pub nothing_settled : HasAll (out_of d'.state lib) nothing
-  nothing_settled = none_all (out_of d'.state lib) seen_then.out
-
-  pub settled_may : MayCall (desk_of d'.state lib) x'
+  pub settled_may : MayCall d' x'
   settled_may =
-      begins_to_call (desk_of d'.state lib) x'
+      begins_to_call d' x'
       (record {
-        lib = ap (λ (y : SessionSeen). y.lib) t.empty ∙ may.edits.on.lib;
-        creds = ap (λ (y : SessionSeen). y.creds) t.empty ∙ may.edits.on.creds ∙ sym seen_then.creds;
-        out = seen_then.out;
-        empty = subst (λ (y : SessionSeen). y ≡ emptied y) (sym t.empty) refl;
+        lib = ap (λ (y : SessionSeen). y.lib) empty ∙ may.edits.on.lib ∙ sym seen.lib;
+        creds = ap (λ (y : SessionSeen). y.creds) empty ∙ may.edits.on.creds ∙ sym seen.creds;
+        out = seen.out;
+        empty = subst (λ (y : SessionSeen). y ≡ emptied y) (sym empty) refl;
       })
+
+pub settle_leaves : (s s' : State) (lib : LibNo) (x : SessionSeen) → Kept s → LentWhole s → MayCall (desk_of s lib) x → Happens s lib (Settle x.parcel x.reads x.calls) Settled s'
+    → SeenAfter (desk_of s lib) (Settle x.parcel x.reads x.calls) Settled (desk_of s' lib)
+settle_leaves s s' lib x kept whole may h =
+    settle_seen {A = Unit {0}} {B = Unit {0}} s s' lib x.parcel x.reads x.calls (Ok tt) kept whole (may_be_settled (desk_of s lib) x may) h
 
 -- ---- a turn
 
-honest_held : (lib : LibNo) (s : State) (x : SessionSeen) (line : HonestLine) (told : LineAnswer) (d' : Noted) (x' : SessionSeen) → Stands s → MayCall (desk_of s lib) x → HonestComes (Notes lib) (sees lib) (unnoted s) x line told d' x' → MayCall (desk_of d'.state lib) x'
-honest_held lib s x (CallLine k) told d' x' stands may c = c.may
-honest_held lib s x SettleLine told d' x' stands may c = settled_may lib s x x' d' stands may c.0
+module _ (lib : LibNo) (s : State) (d' : Noted) (k : Stands s) where
+  seen_then : (x x' : SessionSeen) → MayCall (desk_of s lib) x → Settles (Notes lib) (unnoted s) x d' x' → SeenAfter (desk_of s lib) (Settle x.parcel x.reads x.calls) Settled (desk_of d'.state lib)
+  seen_then x x' may t = settle_leaves s d'.state lib x k.kept k.whole may t.made.happens
+
+  honest_held : (x x' : SessionSeen) (line : HonestLine) (told : LineAnswer) → MayCall (desk_of s lib) x → HonestComes (Notes lib) (sees lib) (unnoted s) x line told d' x' → MayCall (desk_of d'.state lib) x'
+  honest_held x x' (CallLine call) told may c = c.may
+  honest_held x x' SettleLine told may c = settled_may (desk_of s lib) (desk_of d'.state lib) x x' may (seen_then x x' may c.0) c.0.empty
 
 turn_held : (lib : LibNo) (turn : Turn) (s : State) (share : Share) (told : Heard) (d' : Noted) (share' : Share) (told' : Heard) → Stands s → HoldsAll s lib share → TurnComes lib turn (unnoted s) share told d' share' told' → AreMoves lib s d'.calls d'.moves d'.state → HoldsAll d'.state lib share'
-turn_held lib (Says line) s (Things has) told d' (Things has') told' k h c am = line_held lib s d'.state has has' d'.calls d'.moves c.0 k.kept h am line.line c.1
-turn_held lib (SaysHonest line) s (InSession x) told d' (InSession x') told' k h c am = honest_held lib s x line.line c.0 d' x' k h c.1
-turn_held lib Ends s (Things has) told d' (Things has') told' k h c am = subst (HasAll (out_of d'.state lib)) (sym c.2) (end_held lib s has d'.calls d'.moves c.0 d'.state k h c.1 am)
-turn_held lib Ends s (InSession x) told d' (InSession x') told' k h c am = settled_may lib s x x' d' k h c.0
+turn_held lib (Says line) s (Things has) told d' (Things has') told' k h c am =
+    line_held lib (out_of s lib) (out_of d'.state lib) has has' d'.calls c.0 h (moves_leave lib s d'.calls d'.moves d'.state k am) line.line c.1
+turn_held lib (SaysHonest line) s (InSession x) told d' (InSession x') told' k h c am = honest_held lib s d' k x x' line.line c.0 h c.1
+turn_held lib Ends s (Things has) told d' (Things has') told' k h c am =
+    subst (HasAll (out_of d'.state lib)) (sym c.2)
+    (end_held has d'.calls c.0 (out_of s lib) (out_of d'.state lib) h c.1 (moves_leave lib s d'.calls d'.moves d'.state k am))
+turn_held lib Ends s (InSession x) told d' (InSession x') told' k h c am =
+    settled_may (desk_of s lib) (desk_of d'.state lib) x x' h (seen_then lib s d' k x x' h c.0) c.0.empty
 turn_held lib turn s share told d' share' told' k h c am = absurd c
 
 abbrev pub is_end : Turn → Bool
@@ -293,8 +346,10 @@ is_end Ends = true
 pub end_none : (lib : LibNo) (turn : Turn) (s : State) (share : Share) (told : Heard) (d' : Noted) (share' : Share) (told' : Heard) → is_end turn ≡ true → Stands s → HoldsAll s lib share → TurnComes lib turn (unnoted s) share told d' share' told' → AreMoves lib s d'.calls d'.moves d'.state → HasAll (out_of d'.state lib) nothing
 end_none lib (Says line) s share told d' share' told' e k h c am = absurd (false≢true e)
 end_none lib (SaysHonest line) s share told d' share' told' e k h c am = absurd (false≢true e)
-end_none lib Ends s (Things has) told d' (Things has') told' e k h c am = end_held lib s has d'.calls d'.moves c.0 d'.state k h c.1 am
-end_none lib Ends s (InSession x) told d' (InSession x') told' e k h c am = nothing_settled lib s x x' d' k h c.0
+end_none lib Ends s (Things has) told d' (Things has') told' e k h c am =
+    end_held has d'.calls c.0 (out_of s lib) (out_of d'.state lib) h c.1 (moves_leave lib s d'.calls d'.moves d'.state k am)
+end_none lib Ends s (InSession x) told d' (InSession x') told' e k h c am =
+    nothing_settled (desk_of s lib) (desk_of d'.state lib) x x' h (seen_then lib s d' k x x' h c.0) c.0.empty
 end_none lib Ends s share told d' share' told' e k h c am = absurd c
 
 -- what is seen of its desk stays for a library, and so all that it has

@@ -5,6 +5,7 @@ pub mod Moves
 mod Noting
 mod Left
 mod CallKinds
+mod Entries
 mod Batches
 mod Spelled
 pub mod Plays
@@ -26,4 +27,14 @@ pub mod OnePlay
 mod Alone
 pub mod Calling
 pub mod Seats
+mod Printing
+mod Leaving
+mod Going
+mod Beginning
+mod Closing
+pub mod Sends
 pub mod Printed
+pub mod Keeping
+pub mod RanOrder
+pub mod RanPrinted
+pub mod RanFree

@@ -25,7 +25,7 @@ calls_entries lib s (c ∷ calls) (m ∷ moves) s' a = (
   refl,
 )
 
-entries_append : (moves more : List Move) (log others : List Entry) → AreEntries moves log → AreEntries more others → AreEntries (moves ++ more) (log ++ others)
+pub entries_append : (moves more : List Move) (log others : List Entry) → AreEntries moves log → AreEntries more others → AreEntries (moves ++ more) (log ++ others)
 entries_append [] more log others a b = subst (λ l. AreEntries more (l ++ others)) (sym a) b
 entries_append (m ∷ moves) more log others a b =
     (a.0, a.1 ++ others, a.2, entries_append moves more a.1 others a.3 b, ap (λ l. l ++ others) a.4 ∙ append_assoc a.0 a.1 others)

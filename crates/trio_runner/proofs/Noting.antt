@@ -94,7 +94,7 @@ module _ {D E : Type 0} (called : D → Ask → Told → D → Type 0) (noted : 
   abbrev pub Follows : (E → Type 0) → D → Type 0
   Follows P d' = (e' : E) × P e' × Is d' e'
 
-  calls_follow : (cs : List Call) (d d' : D) (e : E) → Is d e → Calls called d cs d' → Follows (Calls noted e cs) d'
+  pub calls_follow : (cs : List Call) (d d' : D) (e : E) → Is d e → Calls called d cs d' → Follows (Calls noted e cs) d'
   calls_follow [] d d' e is made = (e, refl, subst (λ x. Is x e) (sym made) is)
   calls_follow (c ∷ cs) d d' e is made =
       let one = step d e c.ask c.told made.0 is made.1 in

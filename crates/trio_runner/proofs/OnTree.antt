@@ -1,10 +1,11 @@
 -- A desk over the controller stands on a tree, whatever it is asked.
-use Rattle.std.proofs.Common.{◌≡◌, ℕ, List, [], ◌∷◌, None, is_some, sym, refl, ap, ◌∙◌, subst, inl, inr}
+use Rattle.std.proofs.Common.{◌≡◌, ℕ, List, [], ◌∷◌, Option, None, is_some, sym, refl, ap, ◌∙◌, subst, inl, inr}
 use Rattle.trio_rights.specs.declared.rights.Creds.{Creds}
 use Rattle.trio_rights.specs.declared.rights.LibNo.{LibNo}
 use Rattle.trio_lease.specs.Shown.{Shown}
 use Rattle.trio_nodes.specs.declared.answers.ModeFault.{ModeFault}
 use Rattle.trio_nodes.specs.declared.answers.ModeFault.TheVariants.{NotLive, NotOwner, BadMode, Busy, NoMemory as NoModeMemory}
+use Rattle.trio_nodes.specs.declared.call.Call.{Call as CallMade}
 use Rattle.trio_nodes.specs.Nodes.{Nodes, node_at}
 use Rattle.trio_desk.specs.Call.{Ask, Told, GiveBack, Settle, SetMode, Done, NotSettled, NotModeSet}
 use Rattle.trio_desk.specs.Calls.{Call, Calls}
@@ -30,7 +31,7 @@ use Rattle.trio_ctl.proofs.LeasesBack.{all_back_is, backs_kept, backs_nodes}
 use Rattle.trio_ctl.proofs.Settling.{hold_lent, read_lent, write_lent}
 use Rattle.trio_desk.specs.Refusals.{leases_out}
 use Rattle.trio_lists.proofs.Members.{In-cases}
-use Rattle.trio_calls_dir.specs.Chmods.{HasMoment, IsModeCause, StandsOnTree}
+use Rattle.trio_calls_dir.specs.Chmods.{HasModeCause, HasMoment, IsModeCause, StandsOnTree}
 use Rattle.trio_runner.proofs.Moves.{Stands, call_stands}
 
 -- the state stands, and what is lent is true of its tree
@@ -79,7 +80,7 @@ all_lent s lib = record {
 }
 
 -- the nodes of the moment are those of the state
-has_moment : (s : State) (lib : LibNo) → OnTree s → HasMoment (desk_of s lib)
+pub has_moment : (s : State) (lib : LibNo) → OnTree s → HasMoment (desk_of s lib)
 has_moment s lib o =
     let k = o.stands.kept in
     let here = leases_stay_true s lib.0 (leases_out (out_of s lib)) k o.lent (all_lent s lib) in
@@ -118,6 +119,14 @@ mode_cause s lib ino mode back fault t k a st = by fault st
     by NotOwner (inr none) = (let wrong : step.NotModeSet NotOwner ≡ step.NoMemory = none.1 in absurd (cc wrong))
     by BadMode (inr none) = (let wrong : step.NotModeSet BadMode ≡ step.NoMemory = none.1 in absurd (cc wrong))
 
+-- so a refused change of mode has its cause
+pub has_mode_cause : (s : State) (lib : LibNo) (ino mode : ℕ) (back : List Shown) (call : Option CallMade) (fault : ModeFault) (t : State) → OnTree s → Happens s lib (SetMode ino mode back call) (NotModeSet fault) t → HasModeCause (desk_of s lib) ino mode fault
+unfolding has_moment
+has_mode_cause s lib ino mode back call fault t o h = record {
+  moment = has_moment s lib o;
+  cause = mode_cause s lib ino mode back fault h.is_step.0.0 o.stands.kept h.back h.is_step.0.1;
+}
+
 -- a desk each of whose calls happens on the controller behind it
 module _ {D N : Type 0} (called : D → Ask → Told → D → Type 0) (ctl : D → Controller) (name : D → N) (lib : D → LibNo) (is : (d : D) (ask : Ask) (told : Told) (d' : D) → called d ask told d' → Happens (ctl d).state (lib d) ask told (ctl d').state × (name d' ≡ name d) × (lib d' ≡ lib d) × LogsCall (ctl d) (lib d) ask told (ctl d')) where
   calls_on_tree : (calls : List Call) (d d' : D) → Calls called d calls d' → OnTree (ctl d).state → OnTree (ctl d').state
@@ -126,11 +135,9 @@ module _ {D N : Type 0} (called : D → Ask → Told → D → Type 0) (ctl : D 
       calls_on_tree calls made.0 d' made.2 (happens_on_tree (ctl d).state (lib d) c.ask c.told (ctl made.0).state o (is d c.ask c.told made.0 made.1).0)
 
   pub stands_on_tree : (d : D) → OnTree (ctl d).state → StandsOnTree called (λ x. desk_of (ctl x).state (lib x)) d
-  unfolding has_moment
   stands_on_tree d o = record {
     moments = λ calls d1 made. has_moment (ctl d1).state (lib d1) (calls_on_tree calls d d1 made o);
     modes = λ calls d1 d2 ino mode back call fault made c.
-        let o1 = calls_on_tree calls d d1 made o in
-        let h = (is d1 (SetMode ino mode back call) (NotModeSet fault) d2 c).0 in
-        record { moment = has_moment (ctl d1).state (lib d1) o1; cause = mode_cause (ctl d1).state (lib d1) ino mode back fault h.is_step.0.0 o1.stands.kept h.back h.is_step.0.1 };
+        has_mode_cause (ctl d1).state (lib d1) ino mode back call fault (ctl d2).state (calls_on_tree calls d d1 made o)
+        (is d1 (SetMode ino mode back call) (NotModeSet fault) d2 c).0;
   }

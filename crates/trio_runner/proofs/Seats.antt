@@ -47,7 +47,7 @@ set_is xs at x y e there = ap (set xs at) (e ∙ there) ∙ set-get_or xs at y
 -- ---- between turns
 
 -- all that a library has is closed, since it has all that is out to it
-all_closed : (s : State) (lib : LibNo) (has : Has) → Kept s → AreAsTold s → HasAll (out_of s lib) has → IsClosed (out_of s lib) (whole_parcel has)
+pub all_closed : (s : State) (lib : LibNo) (has : Has) → Kept s → AreAsTold s → HasAll (out_of s lib) has → IsClosed (out_of s lib) (whole_parcel has)
 all_closed s lib has kept told all h i =
     let parent = holds_stand s lib h kept told i in
     let w = map-In (λ (x : Shown). x.ino) h.parent (out_of s lib).writes parent in

@@ -5,5 +5,8 @@ pub mod Rounds
 pub mod Play
 pub mod Logged
 pub mod PlayLaws
+pub mod Courses
+pub mod Runs
+pub mod RunLaws
 pub mod Seen
 pub mod inner

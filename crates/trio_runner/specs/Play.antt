@@ -47,9 +47,13 @@ untold = record { answers = []; end = None }
 abbrev pub share_of : Players → LibNo → Share
 share_of p lib = slice_index_or p.shares (lib.0 - 1) (Things nothing)
 
+-- what the library of this number was told, of what each was told in their order
+abbrev pub heard_by : List Heard → LibNo → Heard
+heard_by tolds lib = slice_index_or tolds (lib.0 - 1) untold
+
 -- what it was told
 abbrev pub told_to : Players → LibNo → Heard
-told_to p lib = slice_index_or p.told (lib.0 - 1) untold
+told_to p lib = heard_by p.told lib
 
 -- ---- a turn
 

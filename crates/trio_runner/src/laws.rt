@@ -1,6 +1,9 @@
-//! The laws: the body of each function is empty, and its contract is the law.
+//! The laws: the body of each function is empty, or calls the laws that it rests on, and its contract is the law.
 
 ghost use Rattle.trio_runner.specs.PlayLaws.{PlayedAlone, PlayedEndsFree, PlayedIsLogged, PlayedIsOne, PlayedIsPrinted, PlayedIsTrace, PlaysMore};
+ghost use Rattle.trio_runner.specs.RunLaws.{OrderIsLogged, RanEndsFree, RanIsOrder, RanIsPrinted};
+
+use trio_shared::{desk_is_left, others_leave};
 
 /// What turns come to, and one turn more, is what all of them come to.
 pub fn plays_more()
@@ -37,3 +40,29 @@ pub fn played_is_logged()
     ensures entries { PlayedIsLogged }
     ensures printed { PlayedIsPrinted }
 {}
+
+/// What the libraries of a script did, each on a thread of its own, comes from one order of their calls:
+/// in it they happen one after another on one controller, from the image to its last state, make just
+/// its log, and are a run of the controller.
+pub fn ran_is_order()
+    ensures law { RanIsOrder }
+{}
+
+/// The log is the entries of the moves of that order, one after another.
+pub fn order_is_logged()
+    ensures law { OrderIsLogged }
+{}
+
+/// Where each library runs on a thread of its own, what it was told prints its entries too, each once
+/// and in their order.
+pub fn ran_is_printed()
+    ensures law { RanIsPrinted }
+{}
+
+/// And at the end nothing is lent or out.
+pub fn ran_ends_free()
+    ensures law { RanEndsFree }
+{
+    desk_is_left();
+    others_leave();
+}

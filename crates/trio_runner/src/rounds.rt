@@ -61,7 +61,7 @@ impl LibTold {
     }
 
     /// A library that was told nothing yet.
-    fn untold(alloc: Global) -> LibTold
+    pub(crate) fn untold(alloc: Global) -> LibTold
         ensures { result ≡ untold }
     {
         LibTold {
@@ -71,7 +71,7 @@ impl LibTold {
     }
 
     /// One more line is answered.
-    fn hears(&mut self, answer: LineAnswer) -> Result<(), NoMemory>
+    pub(crate) fn hears(&mut self, answer: LineAnswer) -> Result<(), NoMemory>
         ensures { OnOk result (self.new ≡ with_answer self.old answer) }
     {
         self.answers.push(answer)?;
@@ -79,7 +79,7 @@ impl LibTold {
     }
 
     /// The end is answered.
-    fn hears_end(&mut self, answer: EndAnswer)
+    pub(crate) fn hears_end(&mut self, answer: EndAnswer)
         ensures { self.new ≡ with_end self.old answer }
     {
         self.end = Some(answer);

@@ -1,0 +1,89 @@
+-- A library at its seat, from the start of its script to its end.
+use Rattle.std.proofs.Common.{◌≡◌, ℕ, ◌+◌, ◌-◌, ◌<◌, ◌≤◌, List, [], ◌∷◌, ◌++◌, length, map, get_or, Option, Some, None, sym, refl, ap, ◌∙◌, subst, arith}
+use Rattle.std.specs.Prelude.{slice_get}
+use Rattle.std.proofs.lemmas.List.{length-map}
+use Rattle.std.proofs.lemmas.Option.{slice_get-get_or, slice_get_within}
+use Rattle.trio_rights.specs.declared.rights.Creds.{Creds}
+use Rattle.trio_rights.specs.declared.rights.LibNo.{LibNo}
+use Rattle.trio_nodes.specs.declared.entry.Entry.{Entry}
+use Rattle.trio_desk.specs.Call.{DeskSeen}
+use Rattle.trio_ctl.specs.Desk.{desk_of, out_of}
+use Rattle.trio_raw.specs.Has.{nothing}
+use Rattle.trio_session.specs.Seen.{Room}
+use Rattle.trio_state.specs.State.{creds_of}
+use Rattle.trio_edit_laws.specs.Calls.{MayCall}
+use Rattle.trio_turn.specs.declared.seat.LibSeat.{LibSeat}
+use Rattle.trio_turn.specs.Marks.{Mark}
+use Rattle.trio_turn.specs.Origins.{Origin}
+use Rattle.trio_turn.specs.Seats.{begun, first, library, seen}
+use Rattle.trio_shared.specs.declared.cell.Shared.{Shared}
+use Rattle.trio_shared.specs.declared.held.Held.{Held}
+use Rattle.trio_shared.specs.Left.{desk_left, started}
+use Rattle.trio_shared.specs.Seats.{desk, library_of, seated}
+use Rattle.trio_shared.specs.Turns.{Seated}
+use Rattle.trio_script.specs.declared.Lines.TheVariants.{Raw, Honest}
+use Rattle.trio_script.specs.declared.ScriptLib.{ScriptLib}
+use Rattle.trio_runner.specs.Courses.{CourseGoes, Place, arrives}
+use Rattle.trio_runner.specs.Play.{Heard, InSession, IsLibraryOf, Share, Things, creds_in, new_session, untold}
+use Rattle.trio_runner.specs.Rounds.{Ends, line_turns}
+use Rattle.trio_runner.specs.inner.Threads.{Arrives, MayGoOn, RanAll, WentThrough, place_at}
+use Rattle.trio_runner.proofs.Calling.{nothing_on_list}
+use Rattle.trio_runner.proofs.EndFree.{begins_all, creds_at}
+
+module _ (seat : LibSeat Held) (none : seen seat ≡ []) where
+  -- what is seen of its desk is so at the start
+  began : desk seat ≡ desk_of (started (first seat)) (library_of seat)
+  began = ap (λ (log : List Entry). desk_left (first seat) log (library_of seat)) none
+
+  pub raw_may : MayGoOn (desk seat) (Things nothing)
+  raw_may =
+      subst (λ (d : DeskSeen). MayGoOn d (Things nothing)) (sym began) (
+        nothing_on_list (out_of (started (first seat)) (library_of seat)),
+        begins_all (first seat).image (first seat).creds (library_of seat) (creds_of (started (first seat)) (library seat)) (Raw []) (Things nothing) refl refl,
+      )
+
+  pub honest_may : (creds : Creds) (room : Room) → (desk seat).creds ≡ creds → MayGoOn (desk seat) (InSession (new_session (library_of seat) creds room))
+  honest_may creds room same =
+      subst (λ (d : DeskSeen). MayCall d (new_session (library_of seat) creds room)) (sym began)
+      (begins_all (first seat).image (first seat).creds (library_of seat) creds (Honest []) (InSession (new_session (library_of seat) creds room)) (sym same) (room, refl))
+
+module _ (shared : Shared) (libs : List ScriptLib) (seat : LibSeat Held) (a : Arrives shared libs seat) where
+  -- it is the seat of a library of the script
+  pub seat_within : (1 ≤ library seat) × (library seat ≤ length libs)
+  seat_within =
+      let high : library seat ≤ length (first seat).creds = subst (λ (o : Origin). library seat ≤ length o.creds) (sym a.sits.is_seat.first) a.sits.is_seat.library.1 in
+      let many : length (first seat).creds ≡ length libs = ap length a.creds ∙ length-map libs (λ (l : ScriptLib). l.creds) in
+      (a.sits.is_seat.library.0, subst (λ n. library seat ≤ n) many high)
+
+  pub seat_at : library seat - 1 < length libs
+  seat_at = (let w = seat_within in omega (arith, w.0, w.1))
+
+  pub seat_script : (l : ScriptLib) → l ≡ get_or libs (library seat - 1) l → IsLibraryOf libs (library_of seat) l
+  seat_script l is = (seat_within.0, slice_get-get_or libs (library seat - 1) l seat_at ∙ ap Some (sym is))
+
+  pub seat_creds : (l : ScriptLib) → l ≡ get_or libs (library seat - 1) l → (desk seat).creds ≡ l.creds
+  seat_creds l is =
+      ap (λ (cs : List Creds). get_or cs (library seat - 1) (record { uid = 0; gid = 0 })) a.creds
+      ∙ sym (creds_at libs (library seat - 1) l (seat_script l is).1)
+
+  fresh : seated seat ≡ (arrives (first seat) (library_of seat)).seat
+  fresh =
+      ap (λ (log : List Entry). record { lib = library_of seat; first = first seat; seen = log; begun = begun seat }) a.none
+      ∙ ap (λ (m : Mark). record { lib = library_of seat; first = first seat; seen = []; begun = m }) a.sits.is_idle
+
+  pub ran_all : (l : ScriptLib) (seat' : LibSeat Held) (told : Heard) → WentThrough shared l.creds l.lines seat untold seat' told → RanAll shared l seat seat' told
+  ran_all l seat' told w =
+      let gone = w.went.goes [] in
+      let last : Place = place_at seat' gone.0 w.share' told in
+      record {
+        last = last;
+        ran = record {
+          share = w.share;
+          begins = w.begins;
+          goes = subst (λ (x : Seated). CourseGoes (record { going = record { seat = x; calls = [] }; share = w.share; told = untold }) (line_turns l.lines ++ Ends ∷ []) last) fresh gone.1;
+        };
+        told_is = refl;
+        seat_is = refl;
+        sits = w.went.sits;
+        library = w.went.library;
+      }

@@ -1,0 +1,129 @@
+-- The calls of libraries that ran with a thread each come from one order, whose moves make the log.
+use Rattle.std.proofs.Common.{◌≡◌, List, [], ◌∷◌, ◌++◌, sym, refl, ap, ◌∙◌, subst}
+use Rattle.std.proofs.lemmas.List.{append-nil}
+use Rattle.std.proofs.lemmas.List.Elements.{filter-append}
+use Rattle.std.specs.Prelude.{◌==◌}
+use Rattle.trio_rights.specs.declared.rights.Creds.{Creds}
+use Rattle.trio_rights.specs.declared.rights.LibNo.{LibNo}
+use Rattle.trio_nodes.specs.declared.entry.Entry.{Entry}
+use Rattle.trio_nodes.specs.declared.answers.ModeFault.TheVariants.{Busy}
+use Rattle.trio_desk.specs.Call.{Ask, Told, Settle, SetMode, NotSettled, NotModeSet}
+use Rattle.trio_desk.specs.Calls.{Call}
+use Rattle.trio_state.specs.State.{IsLibrary, State}
+use Rattle.trio_laws.specs.history.Replays.{Replays, ReplaysFrom}
+use Rattle.trio_turn.specs.Logs.{made_by, maker}
+use Rattle.trio_turn.specs.Origins.{Origin}
+use Rattle.trio_ctl.specs.Desk.{Happens, entries_told}
+use Rattle.trio_shared.specs.Left.{Leaves, started}
+use Rattle.trio_order.specs.Order.{Along, Happening, entries_in, moves_in, moves_of}
+use Rattle.trio_order.proofs.Growing.{calls_end, calls_grow}
+use Rattle.trio_order.proofs.Orders.{threads_are_order}
+use Rattle.trio_script.specs.declared.ScriptLib.{ScriptLib}
+use Rattle.trio_runner.specs.Courses.{Goes, Going, LibRan, Place, arrives}
+use Rattle.trio_runner.specs.Logged.{AreEntries}
+use Rattle.trio_runner.specs.Play.{creds_in, untold}
+use Rattle.trio_runner.specs.Rounds.{Ends, line_turns}
+use Rattle.trio_runner.specs.Runs.{IsSeenIn, origin_in}
+use Rattle.trio_runner.specs.RunLaws.{OrderIsLogged, RanIsOrder}
+use Rattle.trio_runner.proofs.EndFree.{script_library}
+use Rattle.trio_runner.proofs.Keeping.{course_keeps}
+use Rattle.trio_runner.proofs.Logs.{entries_append}
+
+-- ---- a library's calls along what its seat has seen
+
+-- what a log leaves is what it replays to
+replays_left : (first : Origin) (log : List Entry) (s : State) → Leaves first log s → Replays first.image first.creds log s
+replays_left first log s left = subst (λ (creds : List Creds). Replays first.image creds log s) left.creds left.all.replays
+
+-- the library's calls lie along what its seat has seen
+record Lies (first : Origin) (lib : LibNo) (g : Going) : Type 0 where
+  lib_is : g.seat.lib ≡ lib
+  first_is : g.seat.first ≡ first
+  along : Along (started first) lib [] g.seat.seen g.calls
+
+-- a call more
+goes_along : (first : Origin) (lib : LibNo) (g : Going) (ask : Ask) (told : Told) (g' : Going)
+    → Lies first lib g → Goes g ask told g' → Lies first lib g'
+goes_along first lib g ask told g' lies goes =
+    let t = goes.turn in
+    let c : Call = record { ask = ask; told = told } in
+    let own : List Entry = entries_told t.before lib ask told in
+    let found : ReplaysFrom (started first) (g.seat.seen ++ t.others) t.before =
+    replays_left first (g.seat.seen ++ t.others) t.before
+    (subst (λ (f : Origin). Leaves f (g.seat.seen ++ t.others) t.before) lies.first_is t.found) in
+    let seen : g'.seat.seen ≡ (g.seat.seen ++ t.others) ++ own =
+    t.seen ∙ ap (λ (l : LibNo). (g.seat.seen ++ t.others) ++ entries_told t.before l ask told) lies.lib_is in
+    let first_is : g'.seat.first ≡ first = t.first ∙ lies.first_is in
+    let left : ReplaysFrom (started first) ((g.seat.seen ++ t.others) ++ own) t.after =
+    replays_left first ((g.seat.seen ++ t.others) ++ own) t.after
+    (subst (λ (log : List Entry). Leaves first log t.after) seen (subst (λ (f : Origin). Leaves f g'.seat.seen t.after) first_is t.left)) in
+    let none : made_by lib.0 t.others ≡ [] = subst (λ (l : LibNo). made_by l.0 t.others ≡ []) lies.lib_is t.not_its_own in
+    let did : Happens t.before lib ask told t.after = subst (λ (l : LibNo). Happens t.before l ask told t.after) lies.lib_is t.did in
+    let grown : Along (started first) lib [] ((g.seat.seen ++ t.others) ++ own) (g.calls ++ c ∷ []) =
+    calls_grow (started first) lib g.seat.seen t.others g.calls c t.before t.after lies.along none found did left in
+    record {
+      lib_is = t.lib ∙ lies.lib_is;
+      first_is = first_is;
+      along = subst (λ (calls : List Call). Along (started first) lib [] g'.seat.seen calls) (sym goes.calls_are)
+          (subst (λ (log : List Entry). Along (started first) lib [] log (g.calls ++ c ∷ [])) (sym seen) grown);
+    }
+
+-- all of its script
+ran_along : (first : Origin) (lib : LibNo) (l : ScriptLib) (last : Place)
+    → LibRan first lib l last → Along (started first) lib [] last.going.seat.seen last.going.calls
+ran_along first lib l last ran =
+    let place : Place = record { going = arrives first lib; share = ran.share; told = untold } in
+    let at_first : Lies first lib (arrives first lib) = record { lib_is = refl; first_is = refl; along = refl } in
+    (course_keeps (Lies first lib) (goes_along first lib) place (line_turns l.lines ++ Ends ∷ []) last at_first ran.goes).along
+
+-- what is empty behind a list that stays
+none_behind : {X : Type 0} (xs ys : List X) → xs ++ ys ≡ xs → ys ≡ []
+none_behind [] ys same = same
+none_behind (x ∷ xs) ys same = none_behind xs ys (cc same)
+
+-- so they lie along the log of all
+along_all : (first : State) (lib : LibNo) (seen log : List Entry) (calls : List Call)
+    → IsSeenIn log lib seen → Along first lib [] seen calls → Along first lib [] log calls
+along_all first lib seen log calls is along =
+    let later : List Entry = is.begins.0 in
+    let all : seen ++ later ≡ log = is.begins.1 in
+    let parts : made_by lib.0 (seen ++ later) ≡ made_by lib.0 seen ++ made_by lib.0 later =
+    filter-append (λ (e : Entry). maker e == lib.0) seen later in
+    let same : made_by lib.0 seen ++ made_by lib.0 later ≡ made_by lib.0 seen = sym parts ∙ ap (made_by lib.0) all ∙ is.own in
+    subst (λ (l : List Entry). Along first lib [] l calls) all
+    (calls_end first lib seen later calls along (none_behind (made_by lib.0 seen) (made_by lib.0 later) same))
+
+pub ran_is_order : RanIsOrder
+ran_is_order image libs tolds s' log fit verifies whole ran =
+    let first : Origin = origin_in image libs in
+    let calls : LibNo → List Call = λ lib. (ran.last lib).going.calls in
+    let along : (lib : LibNo) → IsLibrary (creds_in libs) lib.0 → Along (started first) lib [] log (calls lib) = λ lib is.
+    (let l = script_library image libs lib is in
+    along_all (started first) lib (ran.last lib).going.seat.seen log (calls lib) (ran.seen lib l.0 l.1)
+    (ran_along first lib l.0 (ran.last lib) (ran.ran lib l.0 l.1))) in
+    threads_are_order image (creds_in libs) calls log s' fit verifies whole (replays_left first log s' ran.left) along
+
+-- ---- the log of such an order
+
+-- The entries of a call are those of its move. One that is no move makes none.
+call_entries : (lib : LibNo) (s : State) (ask : Ask) (told : Told) (s' : State)
+    → AreEntries (moves_of lib s ask told s') (entries_told s lib ask told)
+call_entries lib s (Settle parcel back calls) NotSettled s' = refl
+call_entries lib s (SetMode ino mode back call) (NotModeSet (Busy holder)) s' = refl
+call_entries lib s ask told s' = (
+  entries_told s lib ask told,
+  [],
+  record { lib = lib; ask = ask; told = told; event_is = refl; answer_is = refl; entries_are = refl },
+  refl,
+  sym (append-nil (entries_told s lib ask told)),
+)
+
+order_entries : (order : List Happening) → AreEntries (moves_in order) (entries_in order)
+order_entries [] = refl
+order_entries (h ∷ order) =
+    entries_append (moves_of h.lib h.before h.call.ask h.call.told h.after) (moves_in order)
+    (entries_told h.before h.lib h.call.ask h.call.told) (entries_in order)
+    (call_entries h.lib h.before h.call.ask h.call.told h.after) (order_entries order)
+
+pub order_is_logged : OrderIsLogged
+order_is_logged image libs tolds s' log ran one = subst (AreEntries (moves_in one.order)) one.entries (order_entries one.order)

@@ -1,0 +1,25 @@
+use Rattle.std.proofs.Common.{◌-◌, ap, get_or, subst, ◌∙◌}
+use Rattle.trio_runner.specs.Play.{Heard}
+use Rattle.trio_runner.specs.inner.Threads.{WentThrough}
+use Rattle.trio_runner.proofs.Beginning.{ran_all, seat_script}
+use Rattle.trio_runner.proofs.threads.run_lib.Goals as goal
+
+pub returns-in-Ok : goal.returns-in-Ok
+returns-in-Ok g c =
+    let l = c.index-libs-library.result in
+    let is = c.index-libs-library.is ∙ ap (λ n. get_or c.args.libs.now (n - 1) l) c.library.ensures in
+    record {
+      lib = l;
+      is_library = seat_script c.args.shared.now c.args.libs.now c.args.seat c.requires.arrives l is;
+      ran = ran_all c.args.shared.now c.args.libs.now c.args.seat c.requires.arrives l c.run_script.new.seat c.run_script.new.told
+          (subst (λ (t : Heard). WentThrough c.args.shared.now l.creds l.lines c.args.seat t c.run_script.new.seat c.run_script.new.told) c.untold-told.ensures c.in-Ok.ensures);
+    }
+
+pub returns-in-Err : goal.returns-in-Err
+returns-in-Err g c =
+    let l = c.index-libs-library.result in
+    record {
+      lib = l;
+      is_library = seat_script c.args.shared.now c.args.libs.now c.args.seat c.requires.arrives l (c.index-libs-library.is ∙ ap (λ n. get_or c.args.libs.now (n - 1) l) c.library.ensures);
+      ran = tt;
+    }

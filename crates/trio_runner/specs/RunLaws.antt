@@ -1,0 +1,42 @@
+-- The laws of scripts that are run with a thread for each library.
+use Rattle.std.specs.Prelude.{List}
+use Rattle.trio_rights.specs.declared.rights.LibNo.{LibNo}
+use Rattle.trio_nodes.specs.declared.entry.Entry.{Entry}
+use Rattle.trio_layout.specs.Image.{Image, IsFit}
+use Rattle.trio_layout.specs.Verifies.{Verifies}
+use Rattle.trio_state.specs.State.{State}
+use Rattle.trio_state.specs.Run.{start, IsWhole}
+use Rattle.trio_order.specs.Order.{moves_in}
+use Rattle.trio_order.specs.OrderLaws.{OneOrder}
+use Rattle.trio_script.specs.declared.ScriptLib.{ScriptLib}
+use Rattle.trio_runner.specs.Logged.{AreEntries, Prints, entries_by}
+use Rattle.trio_runner.specs.Play.{Heard, IsLibraryOf, creds_in, heard_by}
+use Rattle.trio_runner.specs.PlayLaws.{NothingOut}
+use Rattle.trio_runner.specs.Runs.{ScriptRan}
+
+-- All calls of all libraries are one order: in it they happen one after another on one controller, from the image to the last state,
+-- and make just the log.
+abbrev pub RanIsOrder : Type 0
+RanIsOrder =
+    (image : Image) (libs : List ScriptLib) (tolds : List Heard) (s' : State) (log : List Entry)
+    → IsFit image.core → Verifies image → IsWhole image → (ran : ScriptRan image libs tolds s' log)
+    → OneOrder (start image (creds_in libs)) (λ lib. (ran.last lib).going.calls) log s'
+
+-- the log is the entries of the moves of such an order, one after another
+abbrev pub OrderIsLogged : Type 0
+OrderIsLogged =
+    (image : Image) (libs : List ScriptLib) (tolds : List Heard) (s' : State) (log : List Entry) (ran : ScriptRan image libs tolds s' log)
+    (one : OneOrder (start image (creds_in libs)) (λ lib. (ran.last lib).going.calls) log s')
+    → AreEntries (moves_in one.order) log
+
+-- at the end nothing is lent or out
+abbrev pub RanEndsFree : Type 0
+RanEndsFree =
+    (image : Image) (libs : List ScriptLib) (tolds : List Heard) (s' : State) (log : List Entry)
+    → IsFit image.core → Verifies image → IsWhole image → ScriptRan image libs tolds s' log → NothingOut s'
+
+-- and the answers of each library print its entries
+abbrev pub RanIsPrinted : Type 0
+RanIsPrinted =
+    (image : Image) (libs : List ScriptLib) (tolds : List Heard) (s' : State) (log : List Entry) (ran : ScriptRan image libs tolds s' log)
+    (lib : LibNo) (l : ScriptLib) → IsLibraryOf libs lib l → Prints l.lines (heard_by tolds lib) (entries_by lib log)
