@@ -2,3 +2,4 @@ mod Desks
 mod Saw
 mod Sitting
 mod TwoMoves
+mod Writing

@@ -1,9 +1,9 @@
 -- Libraries at their seats.
 use Rattle.std.specs.Prelude.{◌≡◌, ◌+◌, ℕ, List, Some, length, slice_get}
-use Rattle.trio_desk.specs.Out.{OutAlike, nothing_out}
+use Rattle.trio_desk.specs.Out.{LibOut, OutAlike, nothing_out}
 use Rattle.trio_turn.specs.Seats.{first, library, seen}
 use Rattle.trio_turn.specs.declared.seat.LibSeat.{LibSeat}
-use Rattle.trio_raw.specs.Has.{OnList}
+use Rattle.trio_raw.specs.Has.{Has, OnList}
 use Rattle.trio_shared.specs.declared.cell.Shared.{Shared}
 use Rattle.trio_shared.specs.declared.held.Held.{Held}
 use Rattle.trio_state.specs.State.{State}
@@ -40,6 +40,10 @@ pub record Plays (shared : Shared) (player : Player) : Type 0 where
 pub record PlaysOn (shared : Shared) (old new : Player) : Type 0 where
   pub plays : Plays shared new
   pub library : library new.seat ≡ library old.seat
+
+-- what it has is written into, and stays on each list
+pub record WritesOn (old new : Has) : Type 0 where
+  pub stays : (out : LibOut) → OnList out old → OnList out new
 
 -- the idle seat of this library
 pub record IsOne (shared : Shared) (number : ℕ) (seat : LibSeat Held) : Type 0 where
