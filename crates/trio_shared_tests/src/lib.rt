@@ -12,5 +12,7 @@ mod player;
 mod rows;
 #[cfg(test)]
 mod seats;
+#[cfg(test)]
+mod threads;
 
 pub use player::Player;
