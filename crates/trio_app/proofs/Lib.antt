@@ -6,4 +6,3 @@ pub mod Causes
 pub mod Decided
 pub mod Names
 pub mod Gens
-pub mod Requests

@@ -24,6 +24,8 @@ pub enum Status {
     NoMemory,
     /// A file is longer than its limit.
     TooLong,
+    /// The command isn't built yet.
+    NotBuilt,
 }
 
 impl Status {
@@ -40,6 +42,7 @@ impl Status {
             Status::WriteFault => 5,
             Status::NoMemory => 6,
             Status::TooLong => 7,
+            Status::NotBuilt => 8,
         }
     }
 }

@@ -12,7 +12,5 @@ mod player;
 mod rows;
 #[cfg(test)]
 mod seats;
-#[cfg(test)]
-mod threads;
 
 pub use player::Player;

@@ -11,8 +11,7 @@ use std::sync::Wait;
 use trio_ctl::Ctl;
 use trio_image::{Image, load};
 use trio_io::SureFiles;
-use trio_nodes::{AllotAnswer, GrantFault, GrantKind, ModeFault, ReleaseAnswer};
-use trio_page::NoMemory;
+use trio_nodes::{GrantFault, GrantKind, ReleaseAnswer};
 use trio_raw::{Absent, Raw, RawFault};
 use trio_rights::Creds;
 use trio_samples::files::root;
@@ -159,52 +158,6 @@ pub fn asks<R: Wait>(
     player.raw.grant(&mut desk, ino, kind)
 }
 
-/// Asks for pages and inode numbers.
-pub fn allots<R: Wait>(
-    rt: &R,
-    shared: &Shared,
-    player: &mut Player,
-    pages: u32,
-    inodes: u32,
-) -> Result<AllotAnswer, NoMemory>
-    requires plays { Plays shared.now player.old }
-    ensures on { PlaysOn shared.now player.old player.new }
-{
-    let mut desk = SeatDesk::of(rt, shared, &mut player.seat);
-    player.raw.allot(&mut desk, pages, inodes)
-}
-
-/// Asks for another mode of a file.
-pub fn changes_mode<R: Wait>(
-    rt: &R,
-    shared: &Shared,
-    player: &mut Player,
-    ino: u32,
-    mode: u16,
-) -> Result<(), ModeFault>
-    requires plays { Plays shared.now player.old }
-    ensures on { PlaysOn shared.now player.old player.new }
-{
-    let mut desk = SeatDesk::of(rt, shared, &mut player.seat);
-    player.raw.set_mode(&mut desk, ino, mode)
-}
-
-/// Hands in write leases and holds on files, and pages and inode numbers that were allotted.
-pub fn releases<R: Wait>(
-    rt: &R,
-    shared: &Shared,
-    player: &mut Player,
-    inos: &[u32],
-    pages: &[u32],
-    inodes: &[u32],
-) -> Result<ReleaseAnswer, RawFault>
-    requires plays { Plays shared.now player.old }
-    ensures on { PlaysOn shared.now player.old player.new }
-{
-    let mut desk = SeatDesk::of(rt, shared, &mut player.seat);
-    player.raw.release(&mut desk, inos, pages, inodes)
-}
-
 /// Hands in the write lease or the hold on a file.
 pub fn hands_in<R: Wait>(
     rt: &R,
@@ -215,7 +168,8 @@ pub fn hands_in<R: Wait>(
     requires plays { Plays shared.now player.old }
     ensures on { PlaysOn shared.now player.old player.new }
 {
-    releases(rt, shared, player, &[ino], &[], &[])
+    let mut desk = SeatDesk::of(rt, shared, &mut player.seat);
+    player.raw.release(&mut desk, &[ino], &[], &[])
 }
 
 /// Gives the read lease on a file back.
