@@ -1,6 +1,6 @@
 -- What seats have seen of the log at the close.
 use Rattle.std.proofs.Common.{◌≡◌, ◌<◌, ℕ, zero, suc, ◌==◌, Bool, false, List, [], ◌∷◌, ◌++◌, Some, Result, Ok, Err, IfOk, IfSome, length, slice_get, ap, subst, sym, ◌∙◌, inl, inr, arith, append-nil}
-use Rattle.std.specs.Prelude.{◌≢◌, if◌then◌else◌}
+use Rattle.std.specs.Prelude.{if◌then◌else◌}
 use Rattle.std.specs.Result.{result_ok}
 use Rattle.std.proofs.lemmas.Bool.{cases_Bool, eq-eqb, false≢true}
 use Rattle.std.proofs.lemmas.List.Elements.{filter-append}

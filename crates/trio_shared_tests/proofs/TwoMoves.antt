@@ -1,6 +1,5 @@
 -- A file that is handed in in two moves.
-use Rattle.std.proofs.Common.{◌≡◌, ℕ, List, [], ◌∷◌, Option, Some, None, Result, Ok, Err, IfOk, IfSome, refl, sym, subst, inl}
-use Rattle.std.specs.Prelude.{MatchResult}
+use Rattle.std.proofs.Common.{◌≡◌, ℕ, [], ◌∷◌, Option, Some, None, Result, Ok, Err, IfOk, IfSome, refl, sym, subst, inl}
 use Rattle.trio_rights.specs.declared.rights.LibNo.{LibNo}
 use Rattle.trio_lease.specs.Bundles.{Bundled}
 use Rattle.trio_lease.specs.Shown.{LentFile}
@@ -13,10 +12,9 @@ use Rattle.trio_raw.specs.Has.{OnList, keeps_lease, nothing}
 use Rattle.trio_raw.proofs.Standing.{stands-lease, stands_alike, whole-given}
 use Rattle.trio_state.specs.State.{State}
 use Rattle.trio_ctl.specs.HandedIn.{WereLentOrTouched}
-use Rattle.trio_ctl.specs.Pending.{case_made}
 use Rattle.trio_ctl.proofs.DeskGiven.{were_lent}
 use Rattle.trio_shared.specs.Laws.{DeskIsLeft}
-use Rattle.trio_shared.specs.Left.{Leaves, desk_left}
+use Rattle.trio_shared.specs.Left.{desk_left}
 use Rattle.trio_shared.specs.Moves.{MayEnd, TellsBeginning}
 use Rattle.trio_shared.specs.Turns.{Looks, Seated}
 use Rattle.trio_nodes.specs.declared.answers.ReleaseFault.{ReleaseFault}

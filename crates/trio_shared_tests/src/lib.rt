@@ -9,8 +9,14 @@ mod at_once;
 mod moves;
 mod player;
 #[cfg(test)]
+mod replays;
+#[cfg(test)]
 mod rows;
 #[cfg(test)]
+mod scripts;
+#[cfg(test)]
 mod seats;
+#[cfg(test)]
+mod threads;
 
 pub use player::Player;

@@ -11,7 +11,8 @@ use std::sync::Wait;
 use trio_ctl::Ctl;
 use trio_image::{Image, load};
 use trio_io::SureFiles;
-use trio_nodes::{GrantFault, GrantKind, ReleaseAnswer};
+use trio_nodes::{AllotAnswer, GrantFault, GrantKind, ModeFault, ReleaseAnswer};
+use trio_page::NoMemory;
 use trio_raw::{Absent, Raw, RawFault};
 use trio_rights::Creds;
 use trio_samples::files::root;
@@ -37,6 +38,19 @@ pub fn two_files(alloc: Global) -> Option<Image> {
         directory(2, 1, b"a"),
         regular(3, 2, b"f", b"hello"),
         regular(4, 2, b"g", b"world"),
+    ];
+    image_of(alloc, &files)
+}
+
+/// The directory `a` with files `f` and `g`, and the directory `b` with a file `h`: numbers 2 to 6.
+pub fn two_directories(alloc: Global) -> Option<Image> {
+    let files = [
+        root(),
+        directory(2, 1, b"a"),
+        regular(3, 2, b"f", b"hello"),
+        regular(4, 2, b"g", b"world"),
+        directory(5, 1, b"b"),
+        regular(6, 5, b"h", b"again"),
     ];
     image_of(alloc, &files)
 }
@@ -158,6 +172,52 @@ pub fn asks<R: Wait>(
     player.raw.grant(&mut desk, ino, kind)
 }
 
+/// Asks for pages and inode numbers.
+pub fn allots<R: Wait>(
+    rt: &R,
+    shared: &Shared,
+    player: &mut Player,
+    pages: u32,
+    inodes: u32,
+) -> Result<AllotAnswer, NoMemory>
+    requires plays { Plays shared.now player.old }
+    ensures on { PlaysOn shared.now player.old player.new }
+{
+    let mut desk = SeatDesk::of(rt, shared, &mut player.seat);
+    player.raw.allot(&mut desk, pages, inodes)
+}
+
+/// Asks for another mode of a file.
+pub fn changes_mode<R: Wait>(
+    rt: &R,
+    shared: &Shared,
+    player: &mut Player,
+    ino: u32,
+    mode: u16,
+) -> Result<(), ModeFault>
+    requires plays { Plays shared.now player.old }
+    ensures on { PlaysOn shared.now player.old player.new }
+{
+    let mut desk = SeatDesk::of(rt, shared, &mut player.seat);
+    player.raw.set_mode(&mut desk, ino, mode)
+}
+
+/// Hands in write leases and holds on files, and pages and inode numbers that were allotted.
+pub fn releases<R: Wait>(
+    rt: &R,
+    shared: &Shared,
+    player: &mut Player,
+    inos: &[u32],
+    pages: &[u32],
+    inodes: &[u32],
+) -> Result<ReleaseAnswer, RawFault>
+    requires plays { Plays shared.now player.old }
+    ensures on { PlaysOn shared.now player.old player.new }
+{
+    let mut desk = SeatDesk::of(rt, shared, &mut player.seat);
+    player.raw.release(&mut desk, inos, pages, inodes)
+}
+
 /// Hands in the write lease or the hold on a file.
 pub fn hands_in<R: Wait>(
     rt: &R,
@@ -168,8 +228,7 @@ pub fn hands_in<R: Wait>(
     requires plays { Plays shared.now player.old }
     ensures on { PlaysOn shared.now player.old player.new }
 {
-    let mut desk = SeatDesk::of(rt, shared, &mut player.seat);
-    player.raw.release(&mut desk, &[ino], &[], &[])
+    releases(rt, shared, player, &[ino], &[], &[])
 }
 
 /// Gives the read lease on a file back.
