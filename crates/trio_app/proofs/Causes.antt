@@ -2,13 +2,15 @@
 use Rattle.std.proofs.Common.{◌≡◌, ◌⊎◌, ◌<◌, ℕ, List, inl, inr, ap, sym, ◌∙◌, arith}
 use Rattle.trio_io.specs.Shelf.{Shelf, SinkSeen, Rose}
 use Rattle.trio_app.specs.declared.status.Status.{Status}
-use Rattle.trio_app.specs.declared.status.Status.TheVariants.{Done, Usage, ReadFault, WriteFault, NoMemory, NotBuilt}
+use Rattle.trio_app.specs.declared.status.Status.TheVariants.{Done, Usage, ReadFault, WriteFault, NoMemory}
 use Rattle.trio_app.specs.Status.{code_of}
-use Rattle.trio_app.specs.Command.{Command, new_image, check, tree, turns, gen, unbuilt, help, version, unknown, command_of}
+use Rattle.trio_app.specs.Command.{Command, new_image, check, tree, turns, run, gen, help, version, unknown}
 use Rattle.trio_app.specs.New.{NewComesTo}
 use Rattle.trio_app.specs.Check.{CheckComesTo}
 use Rattle.trio_app.specs.Tree.{TreeComesTo}
-use Rattle.trio_app.specs.Turns.{TurnsComesTo}
+use Rattle.trio_app.specs.OnScript.{ScriptComesTo}
+use Rattle.trio_app.specs.Run.{RunDone}
+use Rattle.trio_app.specs.Turns.{TurnsDone}
 use Rattle.trio_app.specs.Gen.{GenComesTo}
 use Rattle.trio_app.specs.declared.words.TreeForm.{TreeForm}
 use Rattle.trio_app.specs.Main.{ComesTo, Main}
@@ -21,6 +23,8 @@ ReadFaultCause (check image) old new = Rose (old.read_faults image) (new.read_fa
 ReadFaultCause (tree image form) old new = Rose (old.read_faults image) (new.read_faults image)
 ReadFaultCause (turns image script out) old new =
     Rose (old.read_faults image) (new.read_faults image) ⊎ Rose (old.read_faults script) (new.read_faults script)
+ReadFaultCause (run image script out) old new =
+    Rose (old.read_faults image) (new.read_faults image) ⊎ Rose (old.read_faults script) (new.read_faults script)
 ReadFaultCause _ old new = ⊥
 
 -- status 5 comes only where the write faults of OUT or the faults of the sink rose
@@ -29,14 +33,16 @@ WriteFaultCause (new_image out pages inodes) old new faults faults' =
     Rose (old.write_faults out) (new.write_faults out) ⊎ Rose faults faults'
 WriteFaultCause (turns image script out) old new faults faults' =
     Rose (old.write_faults out) (new.write_faults out) ⊎ Rose faults faults'
+WriteFaultCause (run image script out) old new faults faults' =
+    Rose (old.write_faults out) (new.write_faults out) ⊎ Rose faults faults'
 WriteFaultCause _ old new faults faults' = Rose faults faults'
 
 -- ---- status 4
 
-turns_read_fault : (image script out : List ℕ) (old new : Shelf) (text : List ℕ) (status : Status) → code_of status ≡ 4 → TurnsComesTo image script out old new text status → Rose (old.read_faults image) (new.read_faults image) ⊎ Rose (old.read_faults script) (new.read_faults script)
-turns_read_fault image script out old new text ReadFault e (inl at_image) = inl at_image.0
-turns_read_fault image script out old new text ReadFault e (inr at_script) = inr at_script.0
-turns_read_fault image script out old new text _ e comes = absurd (omega arith)
+script_read_fault : (IsRun : Type 0) (image script out : List ℕ) (old new : Shelf) (text : List ℕ) (status : Status) → code_of status ≡ 4 → ScriptComesTo IsRun image script out old new text status → Rose (old.read_faults image) (new.read_faults image) ⊎ Rose (old.read_faults script) (new.read_faults script)
+script_read_fault IsRun image script out old new text ReadFault e (inl at_image) = inl at_image.0
+script_read_fault IsRun image script out old new text ReadFault e (inr at_script) = inr at_script.0
+script_read_fault IsRun image script out old new text _ e comes = absurd (omega arith)
 
 check_read_fault : (image : List ℕ) (old new : Shelf) (text : List ℕ) (status : Status) → code_of status ≡ 4 → CheckComesTo image old new text status → Rose (old.read_faults image) (new.read_faults image)
 check_read_fault image old new text ReadFault e comes = comes.0
@@ -59,25 +65,25 @@ comes_read_fault : (command : Command) (old new : Shelf) (text : List ℕ) (stat
 comes_read_fault (new_image out pages inodes) old new text status e comes = new_read_fault out pages inodes old new text status e comes.comes_to
 comes_read_fault (check image) old new text status e comes = check_read_fault image old new text status e comes.comes_to
 comes_read_fault (tree image form) old new text status e comes = tree_read_fault image form old new text status e comes.comes_to
-comes_read_fault (turns image script out) old new text status e comes = turns_read_fault image script out old new text status e comes.comes_to
+comes_read_fault (turns image script out) old new text status e comes = script_read_fault (TurnsDone image script out old new text) image script out old new text status e comes.comes_to
+comes_read_fault (run image script out) old new text status e comes = script_read_fault (RunDone image script out old new text) image script out old new text status e comes.comes_to
 comes_read_fault (gen number files) old new text status e comes = absurd (gen_low number files text status 4 e (omega arith) (omega arith) comes.comes_to)
-comes_read_fault unbuilt old new text status e comes = let is : code_of status ≡ code_of NotBuilt = ap code_of comes.status_is in absurd (omega arith)
 comes_read_fault help old new text status e comes = let is : code_of status ≡ code_of Done = ap code_of comes.status_is in absurd (omega arith)
 comes_read_fault version old new text status e comes = let is : code_of status ≡ code_of Done = ap code_of comes.status_is in absurd (omega arith)
 comes_read_fault unknown old new text status e comes = let is : code_of status ≡ code_of Usage = ap code_of comes.status_is in absurd (omega arith)
 
-pub main_read_fault : (words : List (List ℕ)) (old new : Shelf) (out out' : SinkSeen) (result : ℕ) → Main words old new out out' result → result ≡ 4 → ReadFaultCause (command_of words) old new
-main_read_fault words old new out out' result main e =
+pub main_read_fault : (command : Command) (old new : Shelf) (out out' : SinkSeen) (result : ℕ) → Main command old new out out' result → result ≡ 4 → ReadFaultCause command old new
+main_read_fault command old new out out' result main e =
     elim main.puts [
-      | inl done ↦ comes_read_fault (command_of words) old new main.text main.status (sym done.0 ∙ e) main.comes_to
+      | inl done ↦ comes_read_fault command old new main.text main.status (sym done.0 ∙ e) main.comes_to
       | inr failed ↦ absurd (omega (arith, failed.0))
     ]
 
 -- ---- status 5
 
-turns_write_fault : (image script out : List ℕ) (old new : Shelf) (text : List ℕ) (status : Status) → code_of status ≡ 5 → TurnsComesTo image script out old new text status → Rose (old.write_faults out) (new.write_faults out)
-turns_write_fault image script out old new text WriteFault e comes = comes.rose
-turns_write_fault image script out old new text _ e comes = absurd (omega arith)
+script_write_fault : (IsRun : Type 0) (image script out : List ℕ) (old new : Shelf) (text : List ℕ) (status : Status) → code_of status ≡ 5 → ScriptComesTo IsRun image script out old new text status → Rose (old.write_faults out) (new.write_faults out)
+script_write_fault IsRun image script out old new text WriteFault e comes = comes.rose
+script_write_fault IsRun image script out old new text _ e comes = absurd (omega arith)
 
 check_write_fault : (image : List ℕ) (old new : Shelf) (text : List ℕ) (status : Status) → code_of status ≡ 5 → CheckComesTo image old new text status → ⊥
 check_write_fault image old new text WriteFault e comes = comes
@@ -95,9 +101,9 @@ comes_write_fault : (command : Command) (old new : Shelf) (text : List ℕ) (sta
 comes_write_fault (new_image out pages inodes) old new text status faults faults' e comes = inl (new_write_fault out pages inodes old new text status e comes.comes_to)
 comes_write_fault (check image) old new text status faults faults' e comes = absurd (check_write_fault image old new text status e comes.comes_to)
 comes_write_fault (tree image form) old new text status faults faults' e comes = absurd (tree_write_fault image form old new text status e comes.comes_to)
-comes_write_fault (turns image script out) old new text status faults faults' e comes = inl (turns_write_fault image script out old new text status e comes.comes_to)
+comes_write_fault (turns image script out) old new text status faults faults' e comes = inl (script_write_fault (TurnsDone image script out old new text) image script out old new text status e comes.comes_to)
+comes_write_fault (run image script out) old new text status faults faults' e comes = inl (script_write_fault (RunDone image script out old new text) image script out old new text status e comes.comes_to)
 comes_write_fault (gen number files) old new text status faults faults' e comes = absurd (gen_low number files text status 5 e (omega arith) (omega arith) comes.comes_to)
-comes_write_fault unbuilt old new text status faults faults' e comes = let is : code_of status ≡ code_of NotBuilt = ap code_of comes.status_is in absurd (omega arith)
 comes_write_fault help old new text status faults faults' e comes = let is : code_of status ≡ code_of Done = ap code_of comes.status_is in absurd (omega arith)
 comes_write_fault version old new text status faults faults' e comes = let is : code_of status ≡ code_of Done = ap code_of comes.status_is in absurd (omega arith)
 comes_write_fault unknown old new text status faults faults' e comes = let is : code_of status ≡ code_of Usage = ap code_of comes.status_is in absurd (omega arith)
@@ -105,13 +111,14 @@ comes_write_fault unknown old new text status faults faults' e comes = let is : 
 put_failed : (command : Command) (old new : Shelf) (faults faults' : ℕ) → Rose faults faults' → WriteFaultCause command old new faults faults'
 put_failed (new_image out pages inodes) old new faults faults' rose = inr rose
 put_failed (turns image script out) old new faults faults' rose = inr rose
+put_failed (run image script out) old new faults faults' rose = inr rose
 put_failed _ old new faults faults' rose = rose
 
-pub main_write_fault : (words : List (List ℕ)) (old new : Shelf) (out out' : SinkSeen) (result : ℕ) → Main words old new out out' result → result ≡ 5 → WriteFaultCause (command_of words) old new out.faults out'.faults
-main_write_fault words old new out out' result main e =
+pub main_write_fault : (command : Command) (old new : Shelf) (out out' : SinkSeen) (result : ℕ) → Main command old new out out' result → result ≡ 5 → WriteFaultCause command old new out.faults out'.faults
+main_write_fault command old new out out' result main e =
     elim main.puts [
-      | inl done ↦ comes_write_fault (command_of words) old new main.text main.status out.faults out'.faults (sym done.0 ∙ e) main.comes_to
-      | inr failed ↦ put_failed (command_of words) old new out.faults out'.faults failed.1
+      | inl done ↦ comes_write_fault command old new main.text main.status out.faults out'.faults (sym done.0 ∙ e) main.comes_to
+      | inr failed ↦ put_failed command old new out.faults out'.faults failed.1
     ]
 
 -- ---- where no count can rise, there is no cause
@@ -121,6 +128,8 @@ no_read_cause (check image) old new never rose = never image rose
 no_read_cause (tree image form) old new never rose = never image rose
 no_read_cause (turns image script out) old new never (inl rose) = never image rose
 no_read_cause (turns image script out) old new never (inr rose) = never script rose
+no_read_cause (run image script out) old new never (inl rose) = never image rose
+no_read_cause (run image script out) old new never (inr rose) = never script rose
 no_read_cause _ old new never cause = cause
 
 pub no_write_cause : (command : Command) (old new : Shelf) (faults faults' : ℕ) → ((q : List ℕ) → Rose (old.write_faults q) (new.write_faults q) → ⊥) → (Rose faults faults' → ⊥) → WriteFaultCause command old new faults faults' → ⊥
@@ -128,4 +137,6 @@ no_write_cause (new_image out pages inodes) old new faults faults' never steady 
 no_write_cause (new_image out pages inodes) old new faults faults' never steady (inr rose) = steady rose
 no_write_cause (turns image script out) old new faults faults' never steady (inl rose) = never out rose
 no_write_cause (turns image script out) old new faults faults' never steady (inr rose) = steady rose
+no_write_cause (run image script out) old new faults faults' never steady (inl rose) = never out rose
+no_write_cause (run image script out) old new faults faults' never steady (inr rose) = steady rose
 no_write_cause _ old new faults faults' never steady cause = steady cause

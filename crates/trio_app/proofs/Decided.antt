@@ -4,18 +4,21 @@ use Rattle.trio_io.specs.Shelf.{Shelf, SinkSeen, Rose, IsLonger, IsTold}
 use Rattle.trio_survey.specs.Stored.{BytesVerify}
 use Rattle.trio_script.specs.Script.{bad_line}
 use Rattle.trio_app.specs.declared.status.Status.{Status}
-use Rattle.trio_app.specs.declared.status.Status.TheVariants.{Done, NotVerified, Usage, BadScript, ReadFault, WriteFault, NoMemory, TooLong, NotBuilt}
+use Rattle.trio_app.specs.declared.status.Status.TheVariants.{Done, NotVerified, Usage, BadScript, ReadFault, WriteFault, NoMemory, TooLong}
 use Rattle.trio_app.specs.Status.{code_of}
-use Rattle.trio_app.specs.Command.{Command, new_image, check, tree, turns, gen, unbuilt, help, version, unknown, command_of}
+use Rattle.trio_app.specs.Command.{Command, new_image, check, tree, turns, run, gen, help, version, unknown}
 use Rattle.trio_app.specs.Images.{ImageFails, ImageStops, ImageVerifies}
 use Rattle.trio_app.specs.New.{NewComesTo}
 use Rattle.trio_app.specs.Check.{CheckComesTo}
 use Rattle.trio_app.specs.Tree.{TreeComesTo}
-use Rattle.trio_app.specs.Turns.{TurnsComesTo, TurnsDone}
+use Rattle.trio_app.specs.Inputs.{InputsRead}
+use Rattle.trio_app.specs.OnScript.{ScriptComesTo}
+use Rattle.trio_app.specs.Run.{RunDone}
+use Rattle.trio_app.specs.Turns.{TurnsDone}
 use Rattle.trio_app.specs.Gen.{GenComesTo}
 use Rattle.trio_app.specs.declared.words.TreeForm.{TreeForm}
 use Rattle.trio_app.specs.Main.{ComesTo, Main}
-use Rattle.trio_app.specs.Decided.{ImageDecides, Decides, EndsAsDecided, NewDecides, TellsImage, TellsBadLine, TellsNoImage, TellsScript, TellsTooLong, TurnsDecides}
+use Rattle.trio_app.specs.Decided.{ImageDecides, Decides, EndsAsDecided, NewDecides, TellsImage, TellsBadLine, TellsNoImage, TellsScript, TellsTooLong, InputsDecide}
 
 -- ---- what a file tells is one thing
 
@@ -94,77 +97,77 @@ told image form old new text NoMemory comes = comes
 told image form old new text TooLong comes = comes
 told image form old new text _ comes = absurd comes
 
--- ---- `turns`
+-- ---- `turns` and `run`
 
 module _ (image script out : List ℕ) (old new : Shelf) (text : List ℕ) (reads : (q : List ℕ) → Rose (old.read_faults q) (new.read_faults q) → ⊥) (writes : (q : List ℕ) → Rose (old.write_faults q) (new.write_faults q) → ⊥) where
-  done_image : TurnsDone image script out old new text → ImageVerifies image old
-  done_image done = record { image_bytes = done.image_bytes; image_is = done.image_is; within = done.image_within; verifies = done.image_verifies }
+  image_of : InputsRead image script old → ImageVerifies image old
+  image_of read = record { image_bytes = read.image_bytes; image_is = read.image_is; within = read.image_within; verifies = read.image_verifies }
 
-  turns_done : (status : Status) → TellsImage image old → TellsScript script old → TurnsComesTo image script out old new text status → (code_of status ≡ 0) ⊎ (code_of status ≡ 6)
-  turns_done Done valid good comes = inl refl
-  turns_done NoMemory valid good comes = inr refl
-  turns_done NotVerified valid good comes = absurd (valid_not_failing image old text valid comes)
-  turns_done ReadFault valid good (inl fault) = absurd (reads image fault.0)
-  turns_done ReadFault valid good (inr fault) = absurd (reads script fault.0)
-  turns_done WriteFault valid good comes = absurd (writes out comes.rose)
-  turns_done TooLong valid good (inl long) = absurd (valid_not_longer image old valid long.0)
-  turns_done TooLong valid good (inr long) = absurd (script_not_longer script old good long.0)
-  turns_done BadScript valid good comes = absurd (good_not_bad script old comes.0 comes.2.script_bytes good comes.2.script_is comes.2.bad)
-  turns_done _ valid good comes = absurd comes
+  script_done : (IsRun : Type 0) → (IsRun → InputsRead image script old) → (status : Status) → TellsImage image old → TellsScript script old → ScriptComesTo IsRun image script out old new text status → (code_of status ≡ 0) ⊎ (code_of status ≡ 6)
+  script_done IsRun read Done valid good comes = inl refl
+  script_done IsRun read NoMemory valid good comes = inr refl
+  script_done IsRun read NotVerified valid good comes = absurd (valid_not_failing image old text valid comes)
+  script_done IsRun read ReadFault valid good (inl fault) = absurd (reads image fault.0)
+  script_done IsRun read ReadFault valid good (inr fault) = absurd (reads script fault.0)
+  script_done IsRun read WriteFault valid good comes = absurd (writes out comes.rose)
+  script_done IsRun read TooLong valid good (inl long) = absurd (valid_not_longer image old valid long.0)
+  script_done IsRun read TooLong valid good (inr long) = absurd (script_not_longer script old good long.0)
+  script_done IsRun read BadScript valid good comes = absurd (good_not_bad script old comes.0 comes.2.script_bytes good comes.2.script_is comes.2.bad)
+  script_done IsRun read _ valid good comes = absurd comes
 
-  turns_not_verified : (status : Status) → TellsNoImage image old → TurnsComesTo image script out old new text status → (code_of status ≡ 1) ⊎ (code_of status ≡ 6)
-  turns_not_verified NotVerified failing comes = inl refl
-  turns_not_verified NoMemory failing comes = inr refl
-  turns_not_verified Done failing comes = absurd (failing_not_valid image old failing (done_image comes))
-  turns_not_verified ReadFault failing (inl fault) = absurd (reads image fault.0)
-  turns_not_verified ReadFault failing (inr fault) = absurd (reads script fault.0)
-  turns_not_verified WriteFault failing comes = absurd (writes out comes.rose)
-  turns_not_verified TooLong failing (inl long) = absurd (failing_not_longer image old failing long.0)
-  turns_not_verified TooLong failing (inr long) = absurd (failing_not_valid image old failing long.1)
-  turns_not_verified BadScript failing comes = absurd (failing_not_valid image old failing comes.1)
-  turns_not_verified _ failing comes = absurd comes
+  script_not_verified : (IsRun : Type 0) → (IsRun → InputsRead image script old) → (status : Status) → TellsNoImage image old → ScriptComesTo IsRun image script out old new text status → (code_of status ≡ 1) ⊎ (code_of status ≡ 6)
+  script_not_verified IsRun read NotVerified failing comes = inl refl
+  script_not_verified IsRun read NoMemory failing comes = inr refl
+  script_not_verified IsRun read Done failing comes = absurd (failing_not_valid image old failing (image_of (read comes)))
+  script_not_verified IsRun read ReadFault failing (inl fault) = absurd (reads image fault.0)
+  script_not_verified IsRun read ReadFault failing (inr fault) = absurd (reads script fault.0)
+  script_not_verified IsRun read WriteFault failing comes = absurd (writes out comes.rose)
+  script_not_verified IsRun read TooLong failing (inl long) = absurd (failing_not_longer image old failing long.0)
+  script_not_verified IsRun read TooLong failing (inr long) = absurd (failing_not_valid image old failing long.1)
+  script_not_verified IsRun read BadScript failing comes = absurd (failing_not_valid image old failing comes.1)
+  script_not_verified IsRun read _ failing comes = absurd comes
 
-  turns_image_long : (status : Status) → TellsTooLong 33554432 image old → TurnsComesTo image script out old new text status → (code_of status ≡ 7) ⊎ (code_of status ≡ 6)
-  turns_image_long TooLong long comes = inl refl
-  turns_image_long NoMemory long comes = inr refl
-  turns_image_long Done long comes = absurd (longer_not_valid image old long (done_image comes))
-  turns_image_long NotVerified long comes = absurd (longer_not_failing image old text long comes)
-  turns_image_long ReadFault long (inl fault) = absurd (reads image fault.0)
-  turns_image_long ReadFault long (inr fault) = absurd (reads script fault.0)
-  turns_image_long WriteFault long comes = absurd (writes out comes.rose)
-  turns_image_long BadScript long comes = absurd (longer_not_valid image old long comes.1)
-  turns_image_long _ long comes = absurd comes
+  script_image_long : (IsRun : Type 0) → (IsRun → InputsRead image script old) → (status : Status) → TellsTooLong 33554432 image old → ScriptComesTo IsRun image script out old new text status → (code_of status ≡ 7) ⊎ (code_of status ≡ 6)
+  script_image_long IsRun read TooLong long comes = inl refl
+  script_image_long IsRun read NoMemory long comes = inr refl
+  script_image_long IsRun read Done long comes = absurd (longer_not_valid image old long (image_of (read comes)))
+  script_image_long IsRun read NotVerified long comes = absurd (longer_not_failing image old text long comes)
+  script_image_long IsRun read ReadFault long (inl fault) = absurd (reads image fault.0)
+  script_image_long IsRun read ReadFault long (inr fault) = absurd (reads script fault.0)
+  script_image_long IsRun read WriteFault long comes = absurd (writes out comes.rose)
+  script_image_long IsRun read BadScript long comes = absurd (longer_not_valid image old long comes.1)
+  script_image_long IsRun read _ long comes = absurd comes
 
-  turns_script_long : (status : Status) → TellsImage image old → TellsTooLong 1048576 script old → TurnsComesTo image script out old new text status → (code_of status ≡ 7) ⊎ (code_of status ≡ 6)
-  turns_script_long TooLong valid long comes = inl refl
-  turns_script_long NoMemory valid long comes = inr refl
-  turns_script_long Done valid long comes = absurd (is_shorter 1048576 script old comes.script_bytes long comes.script_is comes.script_within)
-  turns_script_long NotVerified valid long comes = absurd (valid_not_failing image old text valid comes)
-  turns_script_long ReadFault valid long (inl fault) = absurd (reads image fault.0)
-  turns_script_long ReadFault valid long (inr fault) = absurd (reads script fault.0)
-  turns_script_long WriteFault valid long comes = absurd (writes out comes.rose)
-  turns_script_long BadScript valid long comes = absurd (is_shorter 1048576 script old comes.2.script_bytes long comes.2.script_is comes.2.within)
-  turns_script_long _ valid long comes = absurd comes
+  script_script_long : (IsRun : Type 0) → (IsRun → InputsRead image script old) → (status : Status) → TellsImage image old → TellsTooLong 1048576 script old → ScriptComesTo IsRun image script out old new text status → (code_of status ≡ 7) ⊎ (code_of status ≡ 6)
+  script_script_long IsRun read TooLong valid long comes = inl refl
+  script_script_long IsRun read NoMemory valid long comes = inr refl
+  script_script_long IsRun read Done valid long comes = absurd (is_shorter 1048576 script old (read comes).script_bytes long (read comes).script_is (read comes).script_within)
+  script_script_long IsRun read NotVerified valid long comes = absurd (valid_not_failing image old text valid comes)
+  script_script_long IsRun read ReadFault valid long (inl fault) = absurd (reads image fault.0)
+  script_script_long IsRun read ReadFault valid long (inr fault) = absurd (reads script fault.0)
+  script_script_long IsRun read WriteFault valid long comes = absurd (writes out comes.rose)
+  script_script_long IsRun read BadScript valid long comes = absurd (is_shorter 1048576 script old comes.2.script_bytes long comes.2.script_is comes.2.within)
+  script_script_long IsRun read _ valid long comes = absurd comes
 
-  turns_bad : (status : Status) (number : ℕ) → TellsImage image old → TellsBadLine script old number → TurnsComesTo image script out old new text status → (code_of status ≡ 3) ⊎ (code_of status ≡ 6)
-  turns_bad BadScript number valid line comes = inl refl
-  turns_bad NoMemory number valid line comes = inr refl
-  turns_bad Done number valid line comes = absurd (bad_not_good script old number comes.script_bytes line comes.script_is comes.script_good)
-  turns_bad NotVerified number valid line comes = absurd (valid_not_failing image old text valid comes)
-  turns_bad ReadFault number valid line (inl fault) = absurd (reads image fault.0)
-  turns_bad ReadFault number valid line (inr fault) = absurd (reads script fault.0)
-  turns_bad WriteFault number valid line comes = absurd (writes out comes.rose)
-  turns_bad TooLong number valid line (inl long) = absurd (valid_not_longer image old valid long.0)
-  turns_bad TooLong number valid line (inr long) = absurd (bad_not_longer script old number line long.0)
-  turns_bad _ number valid line comes = absurd comes
+  script_bad : (IsRun : Type 0) → (IsRun → InputsRead image script old) → (status : Status) (number : ℕ) → TellsImage image old → TellsBadLine script old number → ScriptComesTo IsRun image script out old new text status → (code_of status ≡ 3) ⊎ (code_of status ≡ 6)
+  script_bad IsRun read BadScript number valid line comes = inl refl
+  script_bad IsRun read NoMemory number valid line comes = inr refl
+  script_bad IsRun read Done number valid line comes = absurd (bad_not_good script old number (read comes).script_bytes line (read comes).script_is (read comes).script_good)
+  script_bad IsRun read NotVerified number valid line comes = absurd (valid_not_failing image old text valid comes)
+  script_bad IsRun read ReadFault number valid line (inl fault) = absurd (reads image fault.0)
+  script_bad IsRun read ReadFault number valid line (inr fault) = absurd (reads script fault.0)
+  script_bad IsRun read WriteFault number valid line comes = absurd (writes out comes.rose)
+  script_bad IsRun read TooLong number valid line (inl long) = absurd (valid_not_longer image old valid long.0)
+  script_bad IsRun read TooLong number valid line (inr long) = absurd (bad_not_longer script old number line long.0)
+  script_bad IsRun read _ number valid line comes = absurd comes
 
-  pub turns_decided : (decided status : Status) → TurnsDecides image script old decided → TurnsComesTo image script out old new text status → (code_of status ≡ code_of decided) ⊎ (code_of status ≡ 6)
-  turns_decided Done status d comes = turns_done status d.0 d.1 comes
-  turns_decided NotVerified status d comes = turns_not_verified status d comes
-  turns_decided TooLong status (inl d) comes = turns_image_long status d comes
-  turns_decided TooLong status (inr d) comes = turns_script_long status d.0 d.1 comes
-  turns_decided BadScript status d comes = turns_bad status d.1.0 d.0 d.1.1 comes
-  turns_decided _ status d comes = absurd d
+  pub script_decided : (IsRun : Type 0) → (IsRun → InputsRead image script old) → (decided status : Status) → InputsDecide image script old decided → ScriptComesTo IsRun image script out old new text status → (code_of status ≡ code_of decided) ⊎ (code_of status ≡ 6)
+  script_decided IsRun read Done status d comes = script_done IsRun read status d.0 d.1 comes
+  script_decided IsRun read NotVerified status d comes = script_not_verified IsRun read status d comes
+  script_decided IsRun read TooLong status (inl d) comes = script_image_long IsRun read status d comes
+  script_decided IsRun read TooLong status (inr d) comes = script_script_long IsRun read status d.0 d.1 comes
+  script_decided IsRun read BadScript status d comes = script_bad IsRun read status d.1.0 d.0 d.1.1 comes
+  script_decided IsRun read _ status d comes = absurd d
 
   -- ---- `check` and `tree`
 
@@ -227,16 +230,16 @@ comes_decided : (command : Command) (old new : Shelf) (text : List ℕ) → ((q 
 comes_decided (new_image out pages inodes) old new text reads writes decided status d comes = new_decided out out out old new text reads writes pages inodes decided status d comes.comes_to
 comes_decided (check image) old new text reads writes decided status d comes = image_decided image image image old new text reads writes decided status d (checked image old new text status comes.comes_to)
 comes_decided (tree image form) old new text reads writes decided status d comes = image_decided image image image old new text reads writes decided status d (told image form old new text status comes.comes_to)
-comes_decided (turns image script out) old new text reads writes decided status d comes = turns_decided image script out old new text reads writes decided status d comes.comes_to
+comes_decided (turns image script out) old new text reads writes decided status d comes = script_decided image script out old new text reads writes (TurnsDone image script out old new text) (λ done. done.inputs) decided status d comes.comes_to
+comes_decided (run image script out) old new text reads writes decided status d comes = script_decided image script out old new text reads writes (RunDone image script out old new text) (λ done. done.inputs) decided status d comes.comes_to
 comes_decided (gen number files) old new text reads writes decided status d comes = gen_decided number files text decided status d comes.comes_to
-comes_decided unbuilt old new text reads writes decided status d comes = same_end NotBuilt decided status d comes.status_is
 comes_decided help old new text reads writes decided status d comes = same_end Done decided status d comes.status_is
 comes_decided version old new text reads writes decided status d comes = same_end Done decided status d comes.status_is
 comes_decided unknown old new text reads writes decided status d comes = same_end Usage decided status d comes.status_is
 
-pub main_decided : (words : List (List ℕ)) (old new : Shelf) (out out' : SinkSeen) (result : ℕ) → Main words old new out out' result → EndsAsDecided words old new out out' result
-main_decided words old new out out' result main = λ decided d none.
+pub main_decided : (command : Command) (old new : Shelf) (out out' : SinkSeen) (result : ℕ) → Main command old new out out' result → EndsAsDecided command old new out out' result
+main_decided command old new out out' result main = λ decided d none.
     elim main.puts [
-      | inl done ↦ rw done.0 (comes_decided (command_of words) old new main.text none.reads none.writes decided main.status d main.comes_to)
+      | inl done ↦ rw done.0 (comes_decided command old new main.text none.reads none.writes decided main.status d main.comes_to)
       | inr failed ↦ absurd (none.puts failed.1)
     ]

@@ -1,4 +1,4 @@
--- How a run ends, and what the whole work comes to.
+-- How the run of a script ends, and what the whole work comes to.
 use Rattle.std.proofs.Common.{◌≡◌, ℕ, zero, suc, ◌+◌, ◌<◌, ◌≤◌, ◌⊎◌, min, List, [], ◌∷◌, ◌++◌, length, map, take, get_or, Option, None, Bool, inl, inr, refl, sym, ap, subst, ◌∙◌, arith}
 use Rattle.std.proofs.Math.Seq.{take-suc}
 use Rattle.std.proofs.lemmas.List.{append-nil, append_assoc, get_or-map, length-map, map-append}
@@ -11,12 +11,11 @@ use Rattle.trio_layout.proofs.Superblocks.{superblock_facts}
 use Rattle.trio_nodes.specs.declared.entry.Entry.{Entry}
 use Rattle.trio_laws.specs.history.Recorded.{IsRecorded}
 use Rattle.trio_state.specs.Kept.{Kept}
-use Rattle.trio_survey.specs.Stored.{HasSuperblock, StoresImage, core_in, image_in, bytes_in, pages_in}
+use Rattle.trio_survey.specs.Stored.{HasSuperblock, StoresImage, core_in, image_in, bytes_in}
 use Rattle.trio_state.specs.State.{State, settled}
 use Rattle.trio_state.specs.Run.{start}
 use Rattle.trio_layout.specs.Tree.{TreeLine, tree_of}
 use Rattle.trio_script.specs.declared.ScriptLib.{ScriptLib}
-use Rattle.trio_script.specs.Script.{script_libs}
 use Rattle.trio_report.specs.declared.answer.LineAnswer.{LineAnswer}
 use Rattle.trio_report.specs.Answers.{answer_line}
 use Rattle.trio_report.specs.Report.{tree_text, counts_text}
@@ -29,24 +28,28 @@ use Rattle.trio_image.specs.Made.{Fits, IsMade, new_counts}
 use Rattle.trio_ctl.specs.Ctl.{superblock_for, writer_of}
 use Rattle.trio_ctl.specs.Logged.{recorded}
 use Rattle.trio_runner.specs.Play.{Heard, Played, creds_in}
+use Rattle.trio_runner.specs.RunLaws.{OrderIsLogged, RanEndsFree, RanIsOrder, RanIsPrinted}
+use Rattle.trio_runner.specs.Runs.{ScriptRan}
 use Rattle.trio_runner.specs.Seen.{ScriptPlayed}
 use Rattle.trio_app.specs.declared.status.Status.{Status}
 use Rattle.trio_app.specs.declared.status.Status.TheVariants.{Done, NotVerified, Usage, BadScript, ReadFault, WriteFault, NoMemory as StatusNoMemory, TooLong}
 use Rattle.trio_app.specs.Check.{Check}
 use Rattle.trio_app.specs.Images.{ImageStops, OutKeeps}
-use Rattle.trio_app.specs.Inputs.{ReadsBoth, ReadsLibraries}
+use Rattle.trio_app.specs.Inputs.{InputsRead, InputsStop, ReadsBoth, ReadsLibraries, image_read, libs_read}
 use Rattle.trio_app.specs.Lines.{made_line, usage_line, write_fault_line}
 use Rattle.trio_app.specs.New.{New}
 use Rattle.trio_app.specs.Report.{answers_text, lib_text, libs_text, report_text, told_counts}
-use Rattle.trio_app.specs.inner.RunEnd.{IsPlayEnd, IsRunEnd}
+use Rattle.trio_app.specs.inner.RunEnd.{IsLastImage, IsPlayEnd, IsRunEnd, IsThreadsEnd, IsThreadsRunEnd}
 use Rattle.trio_app.specs.inner.Saved.{IsSaved, SaveComesTo}
 use Rattle.trio_app.specs.Tree.{Tree}
 use Rattle.trio_app.specs.declared.words.TreeForm.{TreeForm}
-use Rattle.trio_app.specs.Turns.{InputsStop, Turns, TurnsComesTo, TurnsFaults, TurnsDone, TurnsWriteFault}
-use Rattle.trio_app.proofs.Headlines.{headline, no_grant_open, no_page_out, stored_log}
+use Rattle.trio_app.specs.OnScript.{FaultsMayRise, OnScript, OutFails, ScriptComesTo, WritesSettled}
+use Rattle.trio_app.specs.Run.{Run, RunDone}
+use Rattle.trio_app.specs.Turns.{Turns, TurnsDone}
+use Rattle.trio_app.proofs.Headlines.{headline, no_grant_open, no_page_out, ran_free, ran_on, stored_log}
 use Rattle.trio_app.proofs.Trees.{tree_same}
 
--- ---- a run
+-- ---- the image at the end
 
 -- the counts of the stored image are those of the image that is stored
 counts_same : (image : Image) (t : Superblock) (last : List (Option (List ℕ))) → TablesAre t last image.rows image.owners → counts_of (image_in t last) ≡ counts_of image
@@ -56,23 +59,37 @@ counts_same image t last tables =
 -- what is made of what the libraries were told and of the tree and the counts of the stored image is made of those of the image that is
 -- settled at the end
 pub told_of_settled : (T : List Heard → List TreeLine → Counts → List ℕ) (tolds seen : List Heard) (ctl : State) (t : Superblock) (last : List (Option (List ℕ)))
-    → seen ≡ tolds → TablesAre t last (settled ctl).rows (settled ctl).owners → t ≡ superblock_for (settled ctl).core → StoresImage t (settled ctl) last
+    → seen ≡ tolds → IsLastImage ctl t last
     → T seen (tree_of (core_in t last)) (counts_of (image_in t last)) ≡ T tolds (tree_of (settled ctl).core) (counts_of (settled ctl))
-told_of_settled T tolds seen ctl t last same tables is stores =
+told_of_settled T tolds seen ctl t last same of =
     let core : Core = (settled ctl).core in
-    let stored : StoresImage (superblock_for core) (settled ctl) last = subst (λ (x : Superblock). StoresImage x (settled ctl) last) is stores in
-    let tree : tree_of (core_in t last) ≡ tree_of core = ap (λ (x : Superblock). tree_of (core_in x last)) is ∙ tree_same (superblock_for core) core.pages last stored.core in
+    let stored : StoresImage (superblock_for core) (settled ctl) last = subst (λ (x : Superblock). StoresImage x (settled ctl) last) of.superblock of.stores in
+    let tree : tree_of (core_in t last) ≡ tree_of core = ap (λ (x : Superblock). tree_of (core_in x last)) of.superblock ∙ tree_same (superblock_for core) core.pages last stored.core in
     let counts : Counts = counts_of (image_in t last) in
     ap (λ hs. T hs (tree_of (core_in t last)) counts) same
-    ∙ ap (λ ls. T tolds ls counts) tree ∙ ap (T tolds (tree_of core)) (counts_same (settled ctl) t last tables)
+    ∙ ap (λ ls. T tolds ls counts) tree ∙ ap (T tolds (tree_of core)) (counts_same (settled ctl) t last of.tables)
 
 -- the text of a report, by the image that is settled at the end
-pub reported : (libs : List ScriptLib) (tolds seen : List Heard) (ctl : State) (t : Superblock) (last : List (Option (List ℕ))) (report : List ℕ)
-    → seen ≡ tolds → TablesAre t last (settled ctl).rows (settled ctl).owners → t ≡ superblock_for (settled ctl).core → StoresImage t (settled ctl) last
+reported : (libs : List ScriptLib) (tolds seen : List Heard) (ctl : State) (t : Superblock) (last : List (Option (List ℕ))) (report : List ℕ)
+    → seen ≡ tolds → IsLastImage ctl t last
     → report ≡ libs_text 1 libs seen ++ tree_text (tree_of (core_in t last)) ++ counts_text (told_counts (counts_of (image_in t last)))
     → report ≡ report_text libs tolds (settled ctl)
-reported libs tolds seen ctl t last report same tables is stores text =
-    text ∙ told_of_settled (λ hs ls k. libs_text 1 libs hs ++ tree_text ls ++ counts_text (told_counts k)) tolds seen ctl t last same tables is stores
+reported libs tolds seen ctl t last report same of text =
+    text ∙ told_of_settled (λ hs ls k. libs_text 1 libs hs ++ tree_text ls ++ counts_text (told_counts k)) tolds seen ctl t last same of
+
+-- the pages of the image that is settled at the end, by its own superblock
+stored_last : (ctl : State) (t : Superblock) (last : List (Option (List ℕ))) → IsLastImage ctl t last → StoresImage (superblock_for (settled ctl).core) (settled ctl) last
+stored_last ctl t last of = subst (λ (x : Superblock). StoresImage x (settled ctl) last) of.superblock of.stores
+
+-- page 0 of an image that verifies has the superblock, and so is no core page
+first_low : (s : Superblock) (pages : List (Option (List ℕ))) → IsVerified s pages → 0 < s.first_core
+first_low s pages v = (let facts = superblock_facts s v.whole.superblock.read.fits in omega (arith, facts.first_owner, facts.first_core))
+
+-- where no grant is open nobody writes
+no_writer : (s : State) → s.open_grants ≡ [] → writer_of s ≡ None
+no_writer s none = ap (λ gs. writer_of (record s { open_grants = gs })) none
+
+-- ---- in turns
 
 -- once a script was played nobody writes
 pub nobody_writes : (s : Superblock) (pages : List (Option (List ℕ))) (creds : List Creds) (first final : State) (libs : List ScriptLib) (tolds : List Heard) (log : List Entry)
@@ -81,53 +98,87 @@ nobody_writes s pages creds first final libs tolds log k creds_are started scrip
     let begun : first ≡ start (image_in s pages) (creds_in libs) = started ∙ ap (start (image_in s pages)) creds_are in
     let script' : ScriptPlayed (image_in s pages) libs tolds final log = subst (λ (f : State). ScriptPlayed f.home libs tolds final log) begun script in
     let free = no_grant_open (image_in s pages) libs script'.played (subst Kept begun k) in
-    ap (λ gs. writer_of (record final { open_grants = gs })) (subst (λ (f : State). f.open_grants ≡ []) script'.last free)
-
--- page 0 of an image that verifies has the superblock, and so is no core page
-first_low : (s : Superblock) (pages : List (Option (List ℕ))) → IsVerified s pages → 0 < s.first_core
-first_low s pages v = (let facts = superblock_facts s v.whole.superblock.read.fits in omega (arith, facts.first_owner, facts.first_core))
+    no_writer final (subst (λ (f : State). f.open_grants ≡ []) script'.last free)
 
 -- what the play of a script comes to
 pub play_end : (s t : Superblock) (pages last : List (Option (List ℕ))) (creds : List Creds) (first final : State) (begins : Image) (log : List Entry) (libs : List ScriptLib) (tolds : List Heard)
     → IsVerified s pages → Kept first → creds ≡ creds_in libs → first ≡ start (image_in s pages) creds → ScriptPlayed first.home libs tolds final log
     → begins ≡ image_in s pages → IsRecorded (recorded begins final log)
     → IsVerified t last → TablesAre t last (settled final).rows (settled final).owners → t ≡ superblock_for (settled final).core → (NoneOut final.pages_out → StoresImage t (settled final) last)
-    → IsPlayEnd s pages libs tolds t last
+    → IsPlayEnd (image_in s pages) libs tolds t last
 play_end s t pages last creds first final begins log libs tolds verified k creds_are started script begins_are r last_verified tables is stores =
     let begun : first ≡ start (image_in s pages) (creds_in libs) = started ∙ ap (start (image_in s pages)) creds_are in
     let script' : ScriptPlayed (image_in s pages) libs tolds final log = subst (λ (f : State). ScriptPlayed f.home libs tolds final log) begun script in
     let played : Played (image_in s pages) libs = script'.played in
     let k' : Kept (start (image_in s pages) (creds_in libs)) = subst Kept begun k in
     let here : NoneOut final.pages_out = subst (λ (f : State). NoneOut f.pages_out) script'.last (no_page_out (image_in s pages) libs played k') in
-    let stored : StoresImage t (settled played.last.state) last = subst (λ (f : State). StoresImage t (settled f) last) (sym script'.last) (stores here) in
-    let is' : t ≡ superblock_for (settled played.last.state).core = is ∙ ap (λ (f : State). superblock_for (settled f).core) (sym script'.last) in
-    let tables' : TablesAre t last (settled played.last.state).rows (settled played.last.state).owners = subst (λ (f : State). TablesAre t last (settled f).rows (settled f).owners) (sym script'.last) tables in
+    let stored : IsLastImage final t last = record { superblock = is; tables = tables; stores = stores here } in
     let r' : IsRecorded (recorded (image_in s pages) played.last.state played.last.log) =
     subst (λ (f : State). IsRecorded (recorded (image_in s pages) f played.last.log)) (sym script'.last)
     (subst (λ (l : List Entry). IsRecorded (recorded (image_in s pages) final l)) (sym script'.log_is)
     (subst (λ (i : Image). IsRecorded (recorded i final log)) begins_are r)) in
-    let last_first : 0 < (settled played.last.state).core.range.first = subst (λ (x : Superblock). 0 < x.first_core) is' (first_low t last last_verified) in
+    let last_first : 0 < (settled final).core.range.first = subst (λ (x : Superblock). 0 < x.first_core) is (first_low t last last_verified) in
+    let last_first' : 0 < (settled played.last.state).core.range.first = subst (λ (f : State). 0 < (settled f).core.range.first) (sym script'.last) last_first in
     record {
       played = played;
       headline = headline (image_in s pages) libs played k';
-      log = stored_log (image_in s pages) libs played (first_low s pages verified) last_first k' r';
+      log = stored_log (image_in s pages) libs played (first_low s pages verified) last_first' k' r';
       told = sym script'.told;
-      superblock = is';
-      tables = tables';
-      stores = stored;
+      last = subst (λ (f : State). IsLastImage f t last) (sym script'.last) stored;
     }
 
--- what a run comes to
-pub run_end : (s t : Superblock) (pages last : List (Option (List ℕ))) (libs : List ScriptLib) (tolds : List Heard) (report : List ℕ) → IsPlayEnd s pages libs tolds t last
+-- what a run in turns comes to
+pub run_end : (image : Image) (t : Superblock) (last : List (Option (List ℕ))) (libs : List ScriptLib) (tolds : List Heard) (report : List ℕ) → IsPlayEnd image libs tolds t last
     → report ≡ libs_text 1 libs tolds ++ tree_text (tree_of (core_in t last)) ++ counts_text (told_counts (counts_of (image_in t last)))
-    → IsRunEnd s pages libs report last
-run_end s t pages last libs tolds report end text = record {
+    → IsRunEnd image libs report last
+run_end image t last libs tolds report end text = record {
   played = end.played;
   headline = end.headline;
   log = end.log;
-  put = reported libs end.played.last.told tolds end.played.last.state t last report end.told end.tables end.superblock end.stores text;
-  stores = subst (λ (x : Superblock). StoresImage x (settled end.played.last.state) last) end.superblock end.stores;
+  put = reported libs end.played.last.told tolds end.played.last.state t last report end.told end.last text;
+  stores = stored_last end.played.last.state t last end.last;
 }
+
+-- ---- in threads
+
+-- once all libraries have run their script nobody writes
+pub nobody_writes_then : RanEndsFree → (s : Superblock) (pages : List (Option (List ℕ))) (creds : List Creds) (first final : State) (libs : List ScriptLib) (tolds : List Heard) (log : List Entry)
+    → first ≡ start (image_in s pages) creds → ScriptRan first.home libs tolds final log → writer_of final ≡ None
+nobody_writes_then law s pages creds first final libs tolds log started script =
+    let script' : ScriptRan (image_in s pages) libs tolds final log = subst (λ (f : State). ScriptRan f.home libs tolds final log) started script in
+    no_writer final (ran_free law (image_in s pages) libs tolds final log script').grants
+
+-- what a script comes to that is run with a thread for each library
+pub threads_end : RanIsOrder → OrderIsLogged → RanEndsFree → RanIsPrinted
+    → (s t : Superblock) (pages last : List (Option (List ℕ))) (creds : List Creds) (first final : State) (libs : List ScriptLib) (tolds : List Heard) (log : List Entry)
+    → IsVerified s pages → first ≡ start (image_in s pages) creds → ScriptRan first.home libs tolds final log
+    → IsVerified t last → TablesAre t last (settled final).rows (settled final).owners → t ≡ superblock_for (settled final).core → (NoneOut final.pages_out → StoresImage t (settled final) last)
+    → IsThreadsEnd (image_in s pages) libs tolds t last
+threads_end order logged free printed s t pages last creds first final libs tolds log verified started script last_verified tables is stores =
+    let script' : ScriptRan (image_in s pages) libs tolds final log = subst (λ (f : State). ScriptRan f.home libs tolds final log) started script in
+    let here : NoneOut final.pages_out = (ran_free free (image_in s pages) libs tolds final log script').pages in
+    let last_first : 0 < (settled final).core.range.first = subst (λ (x : Superblock). 0 < x.first_core) is (first_low t last last_verified) in
+    record {
+      state = final;
+      log = log;
+      ran = ran_on order logged free printed (image_in s pages) libs tolds final log (first_low s pages verified) last_first script';
+      last = record { superblock = is; tables = tables; stores = stores here };
+    }
+
+-- what a run in threads comes to
+pub threads_run_end : (image : Image) (t : Superblock) (last : List (Option (List ℕ))) (libs : List ScriptLib) (tolds : List Heard) (report : List ℕ) → IsThreadsEnd image libs tolds t last
+    → report ≡ libs_text 1 libs tolds ++ tree_text (tree_of (core_in t last)) ++ counts_text (told_counts (counts_of (image_in t last)))
+    → IsThreadsRunEnd image libs report last
+threads_run_end image t last libs tolds report end text = record {
+  tolds = tolds;
+  state = end.state;
+  log = end.log;
+  ran = end.ran;
+  put = reported libs tolds tolds end.state t last report refl end.last text;
+  stores = stored_last end.state t last end.last;
+}
+
+-- ---- a report
 
 -- a text that was put together
 pub joined : (t0 t1 t2 t3 a b c : List ℕ) → t0 ≡ [] → t1 ≡ t0 ++ a → t2 ≡ t1 ++ b → t3 ≡ t2 ++ c → t3 ≡ a ++ b ++ c
@@ -141,7 +192,7 @@ image_again image again verified pages superblock =
 
 -- ---- the whole work
 
-faults_read : (image script out : List ℕ) (old new : Shelf) → ReadsBoth image script old new → TurnsFaults image script out old new
+faults_read : (image script out : List ℕ) (old new : Shelf) → ReadsBoth image script old new → FaultsMayRise image script out old new
 faults_read image script out old new files = record {
   reads_later = files.later;
   reads_others = files.others;
@@ -150,7 +201,7 @@ faults_read image script out old new files = record {
   tells = files.tells;
 }
 
-faults_replaced : (image script out : List ℕ) (old mid new : Shelf) → ReadsBoth image script old mid → OnlyReplaces out mid new → TurnsFaults image script out old new
+faults_replaced : (image script out : List ℕ) (old mid new : Shelf) → ReadsBoth image script old mid → OnlyReplaces out mid new → FaultsMayRise image script out old new
 faults_replaced image script out old mid new files put = record {
   reads_later = rw put.reads files.later;
   reads_others = rw put.reads files.others;
@@ -159,13 +210,13 @@ faults_replaced image script out old mid new files put = record {
   tells = put.tells ∙ files.tells;
 }
 
-stop_comes : (image script out : List ℕ) (old new : Shelf) (text : List ℕ) (status : Status) → InputsStop image script old new text status → TurnsComesTo image script out old new text status
-stop_comes image script out old new text NotVerified why = why
-stop_comes image script out old new text ReadFault why = why
-stop_comes image script out old new text StatusNoMemory why = why
-stop_comes image script out old new text TooLong why = why
-stop_comes image script out old new text BadScript why = why
-stop_comes image script out old new text _ why = absurd why
+stop_comes : (IsRun : Type 0) (image script out : List ℕ) (old new : Shelf) (text : List ℕ) (status : Status) → InputsStop image script old new text status → ScriptComesTo IsRun image script out old new text status
+stop_comes IsRun image script out old new text NotVerified why = why
+stop_comes IsRun image script out old new text ReadFault why = why
+stop_comes IsRun image script out old new text StatusNoMemory why = why
+stop_comes IsRun image script out old new text TooLong why = why
+stop_comes IsRun image script out old new text BadScript why = why
+stop_comes IsRun image script out old new text _ why = absurd why
 
 stop_keeps : (image script out : List ℕ) (old new : Shelf) (text : List ℕ) (status : Status) → InputsStop image script old new text status → new.held ≡ old.held → OutKeeps out old new status
 stop_keeps image script out old new text NotVerified why same = same
@@ -175,60 +226,95 @@ stop_keeps image script out old new text TooLong why same = same
 stop_keeps image script out old new text BadScript why same = same
 stop_keeps image script out old new text _ why same = absurd why
 
-pub turns_stop : (image script out : List ℕ) (old new : Shelf) (text : List ℕ) (status : Status) → InputsStop image script old new text status → ReadsBoth image script old new → Turns image script out old new text status
-turns_stop image script out old new text status why files = record {
-  comes_to = stop_comes image script out old new text status why;
+-- there is nothing to run
+pub inputs_stop_it : (IsRun : Type 0) (image script out : List ℕ) (old new : Shelf) (text : List ℕ) (status : Status) → InputsStop image script old new text status → ReadsBoth image script old new
+    → OnScript IsRun image script out old new text status
+inputs_stop_it IsRun image script out old new text status why files = record {
+  comes_to = stop_comes IsRun image script out old new text status why;
   keeps = stop_keeps image script out old new text status why files.held;
   faults = faults_read image script out old new files;
 }
 
-pub turns_no_memory : (image script out : List ℕ) (old new : Shelf) (text : List ℕ) (status : Status) → ReadsBoth image script old new → status ≡ StatusNoMemory → text ≡ [] → Turns image script out old new text status
-turns_no_memory image script out old new text status files is none =
+-- memory is wanting before anything is written
+pub no_memory_for_it : (IsRun : Type 0) (image script out : List ℕ) (old new : Shelf) (text : List ℕ) (status : Status) → ReadsBoth image script old new → status ≡ StatusNoMemory → text ≡ []
+    → OnScript IsRun image script out old new text status
+no_memory_for_it IsRun image script out old new text status files is none =
     rw (is, none) (record { comes_to = refl; keeps = files.held; faults = faults_read image script out old new files })
 
+-- a script was run on an image, and the image that is settled at the end is written
 module _ (image script out : List ℕ) (old mid new : Shelf) (s : Superblock) (pages last : List (Option (List ℕ))) (libs : List ScriptLib) (report : List ℕ)
-    (image_read : Loads (old.held image) s pages) (script_read : ReadsLibraries script old libs) (files : ReadsBoth image script old mid) (end : IsRunEnd s pages libs report last) (put : OnlyReplaces out mid new) where
-  played_end : IsRunEnd s (pages_in s.pages image_read.bytes) (script_libs script_read.read.script_bytes) report last
-  played_end =
-      subst (λ ps. IsRunEnd s ps (script_libs script_read.read.script_bytes) report last) image_read.pages_are
-      (subst (λ ls. IsRunEnd s pages ls report last) script_read.libs_are end)
-
-  done : (text : List ℕ) → IsSaved out last mid new → text ≡ report → TurnsDone image script out old new text
-  done text saved is = record {
-    image_bytes = image_read.bytes;
-    script_bytes = script_read.read.script_bytes;
-    image_is = image_read.told;
-    script_is = script_read.read.script_is;
-    image_within = image_read.within;
-    script_within = script_read.read.within;
-    image_verifies = image_read.verify;
-    script_good = script_read.read.good;
+    (loaded : Loads (old.held image) s pages) (libraries : ReadsLibraries script old libs) (files : ReadsBoth image script old mid) (put : OnlyReplaces out mid new) where
+  abbrev inputs : InputsRead image script old
+  inputs = record {
+    image_bytes = loaded.bytes;
+    script_bytes = libraries.read.script_bytes;
+    image_is = loaded.told;
+    script_is = libraries.read.script_is;
+    image_within = loaded.within;
+    script_within = libraries.read.within;
+    image_verifies = loaded.verify;
+    script_good = libraries.read.good;
     superblock = s;
-    lengths = image_read.lengths;
-    played = played_end.played;
-    headline = played_end.headline;
-    log = played_end.log;
-    put = is ∙ played_end.put;
+    lengths = loaded.lengths;
+  }
+
+  -- what holds of the image and the libraries holds of the image and the script that were read
+  of_inputs : (P : Image → List ScriptLib → Type 0) → P (image_in s pages) libs → P (image_read inputs) (libs_read inputs)
+  of_inputs P h =
+      subst (λ (ps : List (Option (List ℕ))). P (image_in s ps) (libs_read inputs)) loaded.pages_are
+      (subst (λ (ls : List ScriptLib). P (image_in s pages) ls) libraries.libs_are h)
+
+  writes : (state : State) → StoresImage (superblock_for (settled state).core) (settled state) last → IsSaved out last mid new → WritesSettled out state old new
+  writes state stores saved = record {
     pages = last;
-    stores = played_end.stores;
+    stores = stores;
     written = saved.written ∙ ap (λ (t : Bool). told t (bytes_in last)) files.tells;
     written_verifies = saved.verifies;
   }
 
-  fault : (text : List ℕ) → Rose (mid.write_faults out) (new.write_faults out) → new.held out ≡ None → text ≡ write_fault_line out → TurnsWriteFault image script out old new text
+  fault : (text : List ℕ) → Rose (mid.write_faults out) (new.write_faults out) → new.held out ≡ None → text ≡ write_fault_line out → OutFails image script out old new text
   fault text rose none line = record {
-    image_verifies = record { image_bytes = image_read.bytes; image_is = image_read.told; within = image_read.within; verifies = image_read.verify };
-    script_read = script_read.read;
+    image_verifies = record { image_bytes = loaded.bytes; image_is = loaded.told; within = loaded.within; verifies = loaded.verify };
+    script_read = libraries.read;
     rose = rw (← files.writes) rose;
     untold = none;
     put = line;
   }
 
-  pub turns_saved : (text : List ℕ) (status : Status) → SaveComesTo out last report mid new text status → Turns image script out old new text status
-  turns_saved text Done saved = record { comes_to = done text saved.0 saved.1; keeps = rw (← files.held) put.others; faults = faults_replaced image script out old mid new files put }
-  turns_saved text WriteFault saved = record { comes_to = fault text saved.0 saved.1 saved.2; keeps = rw (← files.held) put.others; faults = faults_replaced image script out old mid new files put }
-  turns_saved text StatusNoMemory saved = record { comes_to = saved.1; keeps = saved.0 ∙ files.held; faults = faults_replaced image script out old mid new files put }
-  turns_saved text _ saved = absurd saved
+  script_saved : (IsRun : Type 0) (text : List ℕ) (status : Status) → (IsSaved out last mid new → text ≡ report → IsRun) → SaveComesTo out last report mid new text status → OnScript IsRun image script out old new text status
+  script_saved IsRun text Done run saved = record { comes_to = run saved.0 saved.1; keeps = rw (← files.held) put.others; faults = faults_replaced image script out old mid new files put }
+  script_saved IsRun text WriteFault run saved = record { comes_to = fault text saved.0 saved.1 saved.2; keeps = rw (← files.held) put.others; faults = faults_replaced image script out old mid new files put }
+  script_saved IsRun text StatusNoMemory run saved = record { comes_to = saved.1; keeps = saved.0 ∙ files.held; faults = faults_replaced image script out old mid new files put }
+  script_saved IsRun text _ run saved = absurd saved
+
+  pub turns_saved : (text : List ℕ) (status : Status) → IsRunEnd (image_in s pages) libs report last → SaveComesTo out last report mid new text status → Turns image script out old new text status
+  turns_saved text status end saved =
+      let end' : IsRunEnd (image_read inputs) (libs_read inputs) report last = of_inputs (λ i ls. IsRunEnd i ls report last) end in
+      script_saved (TurnsDone image script out old new text) text status
+      (λ kept is. record {
+        inputs = inputs;
+        played = end'.played;
+        headline = end'.headline;
+        log = end'.log;
+        put = is ∙ end'.put;
+        writes = writes end'.played.last.state end'.stores kept;
+      })
+      saved
+
+  pub run_saved : (text : List ℕ) (status : Status) → IsThreadsRunEnd (image_in s pages) libs report last → SaveComesTo out last report mid new text status → Run image script out old new text status
+  run_saved text status end saved =
+      let end' : IsThreadsRunEnd (image_read inputs) (libs_read inputs) report last = of_inputs (λ i ls. IsThreadsRunEnd i ls report last) end in
+      script_saved (RunDone image script out old new text) text status
+      (λ kept is. record {
+        inputs = inputs;
+        tolds = end'.tolds;
+        last = end'.state;
+        log = end'.log;
+        ran = end'.ran;
+        put = is ∙ end'.put;
+        writes = writes end'.state end'.stores kept;
+      })
+      saved
 
 -- ---- a new image
 

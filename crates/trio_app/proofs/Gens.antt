@@ -17,7 +17,7 @@ use Rattle.trio_runner.specs.Play.{Heard}
 use Rattle.trio_gen.specs.Summary.{call_answers, summary_line}
 use Rattle.trio_gen.specs.Workload.{directories_script, files_script}
 use Rattle.trio_app.specs.declared.words.TreeForm.TheVariants.{Lines, Json}
-use Rattle.trio_app.specs.Command.{Command, check, tree, turns, gen, unbuilt, help, version, unknown, command_of, gen_of, new_of}
+use Rattle.trio_app.specs.Command.{Command, check, tree, turns, run, gen, help, version, unknown, command_of, gen_of, new_of}
 use Rattle.trio_app.specs.Gen.{GenDone, calls_told}
 use Rattle.trio_app.specs.Report.{told_counts}
 use Rattle.trio_app.specs.inner.RunEnd.{IsPlayEnd}
@@ -60,10 +60,10 @@ each_few (w ∷ a ∷ b ∷ []) =
     (λ e. chosen (bytes_eq b (codes "json")) (tree a Json) unknown (λ f. tt) tt)
     (chosen (bytes_eq w (codes "gen")) (gen_of (number_of a) (number_of b)) unknown (λ e. gen_few (number_of a) (number_of b)) tt)
 each_few (w ∷ a ∷ b ∷ d ∷ []) =
-    chosen (bytes_eq w (codes "new")) (new_of a (number_of b) (number_of d)) (if bytes_eq w (codes "turns") then turns a b d else (if bytes_eq w (codes "run") then unbuilt else unknown))
+    chosen (bytes_eq w (codes "new")) (new_of a (number_of b) (number_of d)) (if bytes_eq w (codes "turns") then turns a b d else (if bytes_eq w (codes "run") then run a b d else unknown))
     (λ e. new_few a (number_of b) (number_of d))
-    (chosen (bytes_eq w (codes "turns")) (turns a b d) (if bytes_eq w (codes "run") then unbuilt else unknown) (λ e. tt)
-    (chosen (bytes_eq w (codes "run")) unbuilt unknown (λ e. tt) tt))
+    (chosen (bytes_eq w (codes "turns")) (turns a b d) (if bytes_eq w (codes "run") then run a b d else unknown) (λ e. tt)
+    (chosen (bytes_eq w (codes "run")) (run a b d) unknown (λ e. tt) tt))
 each_few (w ∷ a ∷ b ∷ d ∷ e ∷ rest) = tt
 
 pub gen_files : (number files : ℕ) (words : List (List ℕ)) → gen number files ≡ command_of words → files ≤ 1000
@@ -105,12 +105,12 @@ calls_put libs heards i lib heard before after a b is same first more =
 
 pub gen_done : (number files : ℕ) (s t u : Superblock) (pages middle last : List (Option (List ℕ))) (first second : List ScriptLib) (told tolds : List Heard) (text : List ℕ)
     → IsMade 8192 2048 s pages → first ≡ directories_script → second ≡ files_script number files
-    → IsPlayEnd s pages first told t middle → IsPlayEnd t middle second tolds u last
+    → IsPlayEnd (image_in s pages) first told t middle → IsPlayEnd (image_in t middle) second tolds u last
     → text ≡ summary_line number files (calls_told second tolds) (tree_of (core_in u last)) ++ counts_text (told_counts (counts_of (image_in u last)))
     → GenDone number files text
 gen_done number files s t u pages middle last first second told tolds text made first_is second_is end end' put =
-    let a : IsPlayEnd s pages directories_script told t middle = subst (λ libs. IsPlayEnd s pages libs told t middle) first_is end in
-    let b : IsPlayEnd t middle (files_script number files) tolds u last = subst (λ libs. IsPlayEnd t middle libs tolds u last) second_is end' in
+    let a : IsPlayEnd (image_in s pages) directories_script told t middle = subst (λ libs. IsPlayEnd (image_in s pages) libs told t middle) first_is end in
+    let b : IsPlayEnd (image_in t middle) (files_script number files) tolds u last = subst (λ libs. IsPlayEnd (image_in t middle) libs tolds u last) second_is end' in
     let put' : text ≡ summary_line number files (calls_told (files_script number files) tolds) (tree_of (core_in u last)) ++ counts_text (told_counts (counts_of (image_in u last))) =
     put ∙ ap (λ libs. summary_line number files (calls_told libs tolds) (tree_of (core_in u last)) ++ counts_text (told_counts (counts_of (image_in u last)))) second_is in
     record {
@@ -121,11 +121,11 @@ gen_done number files s t u pages middle last first second told tolds text made 
       first_headline = a.headline;
       first_log = a.log;
       between = t;
-      between_is = a.superblock;
+      between_is = a.last.superblock;
       middle = middle;
-      stores = a.stores;
+      stores = a.last.stores;
       second = b.played;
       second_headline = b.headline;
       second_log = b.log;
-      put = put' ∙ told_of_settled (λ hs ls k. summary_line number files (calls_told (files_script number files) hs) ls ++ counts_text (told_counts k)) b.played.last.told tolds b.played.last.state u last b.told b.tables b.superblock b.stores;
+      put = put' ∙ told_of_settled (λ hs ls k. summary_line number files (calls_told (files_script number files) hs) ls ++ counts_text (told_counts k)) b.played.last.told tolds b.played.last.state u last b.told b.last;
     }

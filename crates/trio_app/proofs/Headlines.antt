@@ -1,16 +1,18 @@
--- The claim, of a script that is played on an image that verifies.
+-- The claim, and what holds of the stored log, of a script on an image that verifies.
 use Rattle.std.proofs.Common.{◌≡◌, ◌≢◌, ◌<◌, List, [], subst, inl, inr, sym, ap, ◌∙◌}
 use Rattle.std.specs.Prelude.{is_some}
 use Rattle.std.proofs.lemmas.Bool.{false≢true}
 use Rattle.trio_tables.specs.Out.{NoneOut}
 use Rattle.trio_rights.specs.declared.rights.Creds.{Creds}
+use Rattle.trio_rights.specs.declared.rights.LibNo.{LibNo}
 use Rattle.trio_lists.specs.Lists.{In}
 use Rattle.trio_nodes.specs.declared.grant.GrantKind.TheVariants.{Write}
+use Rattle.trio_nodes.specs.declared.entry.Entry.{Entry}
 use Rattle.trio_nodes.specs.Legal.{Legal}
 use Rattle.trio_nodes.specs.Nodes.{Nodes}
 use Rattle.trio_layout.specs.Image.{Image, IsFit}
 use Rattle.trio_state.specs.Kept.{Kept}
-use Rattle.trio_state.specs.Run.{IsWhole, start}
+use Rattle.trio_state.specs.Run.{IsWhole, Move, Trace, start}
 use Rattle.trio_layout.specs.Verifies.{Verifies}
 use Rattle.trio_state.specs.State.{OpenGrant, State, settled}
 use Rattle.trio_state.specs.ImageNodes.{nodes_of}
@@ -30,24 +32,31 @@ use Rattle.trio_laws.proofs.RowSteps.{every_step_keeps_rows}
 use Rattle.trio_script.specs.declared.ScriptLib.{ScriptLib}
 use Rattle.trio_ctl.specs.Logged.{recorded}
 use Rattle.trio_runner.specs.Rounds.{turns_of}
-use Rattle.trio_runner.specs.Play.{Played, creds_in}
+use Rattle.trio_order.specs.Order.{moves_in}
+use Rattle.trio_runner.specs.Logged.{AreEntries, Prints, entries_by}
+use Rattle.trio_runner.specs.Play.{Heard, IsLibraryOf, Played, creds_in, heard_by}
+use Rattle.trio_runner.specs.PlayLaws.{NothingOut}
+use Rattle.trio_runner.specs.RunLaws.{OrderIsLogged, RanEndsFree, RanIsOrder, RanIsPrinted}
+use Rattle.trio_runner.specs.Runs.{ScriptRan}
 use Rattle.trio_runner.proofs.EndFree.{ends_free, plays_creds}
 use Rattle.trio_runner.proofs.Logs.{played_is_logged}
 use Rattle.trio_runner.proofs.Plays.{played_is_trace}
 use Rattle.trio_runner.proofs.Printed.{played_is_printed}
 use Rattle.trio_app.specs.Headline.{Headline, StoredLog}
+use Rattle.trio_app.specs.Run.{RanOn}
 use Rattle.trio_tables.proofs.OutLemmas.{lib_at-none_out}
 
-headline_of : (image : Image) (libs : List ScriptLib) (played : Played image libs) → IsFit image.core → Verifies image → IsWhole image → Headline image (creds_in libs) played.moves
-headline_of image libs played fit verifies whole =
+-- the claim of any run of the controller from an image that verifies
+headline_of : (image : Image) (creds : List Creds) (moves : List Move) → Trace (start image creds) moves → IsFit image.core → Verifies image → IsWhole image → Headline image creds moves
+headline_of image creds moves trace fit verifies whole =
     let run : AnyRun = record {
       image = image;
-      creds = creds_in libs;
-      moves = played.moves;
+      creds = creds;
+      moves = moves;
       fit = fit;
       verifies = verifies;
       whole = whole;
-      trace = played_is_trace image libs played;
+      trace = trace;
     } in
     let all = every_state_is_kept run in
     record {
@@ -74,8 +83,30 @@ headline_of image libs played fit verifies whole =
 started_whole : (image : Image) (creds : List Creds) → Kept (start image creds) → IsWhole image
 started_whole image creds k = λ page gone core. elim (k.absent page gone core) [ inl lent ↦ absurd (false≢true lent) | inr out ↦ absurd (false≢true (sym (ap is_some (lib_at-none_out image.core.range.end page)) ∙ out)) ]
 
+-- the log of a controller at whose end no grant is open; page 0, which has the superblock, is no core page
+log_stored : (image : Image) (libs : List ScriptLib) (moves : List Move) (tolds : List Heard) (log : List Entry) (last : State)
+    → 0 < image.core.range.first → 0 < (settled last).core.range.first → Kept (start image (creds_in libs)) → IsRecorded (recorded image last log) → last.creds ≡ creds_in libs → last.open_grants ≡ []
+    → AreEntries moves log → ((lib : LibNo) (l : ScriptLib) → IsLibraryOf libs lib l → Prints l.lines (heard_by tolds lib) (entries_by lib log))
+    → StoredLog image libs moves tolds log last
+log_stored image libs moves tolds log last first last_first k r creds none entries printed =
+    let nobody : (g : OpenGrant) → In g last.open_grants → g.kind ≢ Write = λ g i. absurd (subst (In g) none i) in
+    let begins : nodes_of image ≡ state_nodes (start image (creds_in libs)) = settled_nodes (start image (creds_in libs)) k (λ g i. absurd i) first in
+    let ends : nodes_of (settled last) ≡ state_nodes last = settled_nodes last r.kept nobody last_first in
+    let legal : Legal (state_nodes (start image last.creds)) last.creds log (state_nodes last) = (history_is_legal (recorded image last log) r).0 in
+    record {
+      entries = entries;
+      replays = subst (λ (cs : List Creds). Replays image cs log last) creds r.replays;
+      legal =
+          subst (λ (ns : Nodes). Legal ns (creds_in libs) log (nodes_of (settled last))) (sym begins)
+          (subst (λ (ns : Nodes). Legal (state_nodes (start image (creds_in libs))) (creds_in libs) log ns) (sym ends)
+          (subst (λ (cs : List Creds). Legal (state_nodes (start image cs)) cs log (state_nodes last)) creds legal));
+      printed = printed;
+    }
+
+-- ---- a script that is played in rounds
+
 pub headline : (image : Image) (libs : List ScriptLib) (played : Played image libs) → Kept (start image (creds_in libs)) → Headline image (creds_in libs) played.moves
-headline image libs played k = headline_of image libs played k.fit k.verifies (started_whole image (creds_in libs) k)
+headline image libs played k = headline_of image (creds_in libs) played.moves (played_is_trace image libs played) k.fit k.verifies (started_whole image (creds_in libs) k)
 
 -- at its end no grant is open
 pub no_grant_open : (image : Image) (libs : List ScriptLib) (played : Played image libs) → Kept (start image (creds_in libs)) → played.last.state.open_grants ≡ []
@@ -85,21 +116,34 @@ no_grant_open image libs played k = (ends_free image libs played k.fit k.verifie
 pub no_page_out : (image : Image) (libs : List ScriptLib) (played : Played image libs) → Kept (start image (creds_in libs)) → NoneOut played.last.state.pages_out
 no_page_out image libs played k = (ends_free image libs played k.fit k.verifies (started_whole image (creds_in libs) k)).pages
 
--- the log of a controller that played a script; page 0, which has the superblock, is no core page
-pub stored_log : (image : Image) (libs : List ScriptLib) (played : Played image libs) → 0 < image.core.range.first → 0 < (settled played.last.state).core.range.first → Kept (start image (creds_in libs)) → IsRecorded (recorded image played.last.state played.last.log) → StoredLog image libs played
+-- the log of a controller that played a script
+pub stored_log : (image : Image) (libs : List ScriptLib) (played : Played image libs) → 0 < image.core.range.first → 0 < (settled played.last.state).core.range.first → Kept (start image (creds_in libs)) → IsRecorded (recorded image played.last.state played.last.log)
+    → StoredLog image libs played.moves played.last.told played.last.log played.last.state
 stored_log image libs played first last_first k r =
     let last : State = played.last.state in
     let creds : last.creds ≡ creds_in libs = plays_creds played.first (turns_of libs) played.moves played.last played.plays ∙ ap (λ (s : State). s.creds) played.begins.state in
-    let nobody : (g : OpenGrant) → In g last.open_grants → g.kind ≢ Write = λ g i. absurd (subst (In g) (no_grant_open image libs played k) i) in
-    let begins : nodes_of image ≡ state_nodes (start image (creds_in libs)) = settled_nodes (start image (creds_in libs)) k (λ g i. absurd i) first in
-    let ends : nodes_of (settled last) ≡ state_nodes last = settled_nodes last r.kept nobody last_first in
-    let legal : Legal (state_nodes (start image last.creds)) last.creds played.last.log (state_nodes last) = (history_is_legal (recorded image last played.last.log) r).0 in
+    log_stored image libs played.moves played.last.told played.last.log last first last_first k r creds (no_grant_open image libs played k) (played_is_logged image libs played) (played_is_printed image libs played)
+
+-- ---- a script that is run with a thread for each library
+
+-- at its end nothing is out
+pub ran_free : RanEndsFree → (image : Image) (libs : List ScriptLib) (tolds : List Heard) (last : State) (log : List Entry) → ScriptRan image libs tolds last log → NothingOut last
+ran_free law image libs tolds last log ran =
+    let k : Kept (start image (creds_in libs)) = ran.left.begins in
+    law image libs tolds last log k.fit k.verifies (started_whole image (creds_in libs) k) ran
+
+-- its calls are one order, of whose moves the claim holds, and what holds of the log
+pub ran_on : RanIsOrder → OrderIsLogged → RanEndsFree → RanIsPrinted
+    → (image : Image) (libs : List ScriptLib) (tolds : List Heard) (last : State) (log : List Entry) → 0 < image.core.range.first → 0 < (settled last).core.range.first
+    → ScriptRan image libs tolds last log → RanOn image libs tolds last log
+ran_on order logged free printed image libs tolds last log first last_first ran =
+    let k : Kept (start image (creds_in libs)) = ran.left.begins in
+    let whole : IsWhole image = started_whole image (creds_in libs) k in
+    let one = order image libs tolds last log k.fit k.verifies whole ran in
+    let none : last.open_grants ≡ [] = (ran_free free image libs tolds last log ran).grants in
     record {
-      entries = played_is_logged image libs played;
-      replays = subst (λ (cs : List Creds). Replays image cs played.last.log last) creds r.replays;
-      legal =
-          subst (λ (ns : Nodes). Legal ns (creds_in libs) played.last.log (nodes_of (settled last))) (sym begins)
-          (subst (λ (ns : Nodes). Legal (state_nodes (start image (creds_in libs))) (creds_in libs) played.last.log ns) (sym ends)
-          (subst (λ (cs : List Creds). Legal (state_nodes (start image cs)) cs played.last.log (state_nodes last)) creds legal));
-      printed = played_is_printed image libs played;
+      ran = ran;
+      one = one;
+      headline = headline_of image (creds_in libs) (moves_in one.order) one.trace k.fit k.verifies whole;
+      stored = log_stored image libs (moves_in one.order) tolds log last first last_first k ran.left.all ran.left.creds none (logged image libs tolds last log ran one) (printed image libs tolds last log ran);
     }

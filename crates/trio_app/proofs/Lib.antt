@@ -6,3 +6,4 @@ pub mod Causes
 pub mod Decided
 pub mod Names
 pub mod Gens
+pub mod Requests

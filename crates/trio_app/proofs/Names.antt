@@ -5,7 +5,7 @@ use Rattle.std.specs.Str.{bytes_eq}
 use Rattle.std.proofs.lemmas.List.Elements.{All-head, All-tail}
 use Rattle.trio_script.specs.Words.{number_of}
 use Rattle.trio_app.specs.declared.words.TreeForm.TheVariants.{Lines, Json}
-use Rattle.trio_app.specs.Command.{Command, new_image, check, tree, turns, gen, unbuilt, help, version, unknown, command_of, gen_of, new_of}
+use Rattle.trio_app.specs.Command.{Command, new_image, check, tree, turns, run, gen, help, version, unknown, command_of, gen_of, new_of}
 
 -- this holds of each name of a file
 abbrev pub EachName : (List ℕ → Type 0) → Command → Type 0
@@ -13,6 +13,7 @@ EachName P (new_image out pages inodes) = P out
 EachName P (check image) = P image
 EachName P (tree image form) = P image
 EachName P (turns image script out) = P image × P script × P out
+EachName P (run image script out) = P image × P script × P out
 EachName P _ = Unit {0}
 
 chosen : (P : List ℕ → Type 0) (test : Bool) (x y : Command) → EachName P x → EachName P y → EachName P (if test then x else y)
@@ -48,9 +49,9 @@ each_name P (w ∷ a ∷ b ∷ d ∷ []) h =
     let rest : All P (a ∷ b ∷ d ∷ []) = All-tail P w (a ∷ b ∷ d ∷ []) h in
     let more : All P (b ∷ d ∷ []) = All-tail P a (b ∷ d ∷ []) rest in
     let first : P a = All-head P a (b ∷ d ∷ []) rest in
-    chosen P (bytes_eq w (codes "new")) (new_of a (number_of b) (number_of d)) (if bytes_eq w (codes "turns") then turns a b d else (if bytes_eq w (codes "run") then unbuilt else unknown))
+    let all : P a × P b × P d = (first, All-head P b (d ∷ []) more, All-head P d [] (All-tail P b (d ∷ []) more)) in
+    chosen P (bytes_eq w (codes "new")) (new_of a (number_of b) (number_of d)) (if bytes_eq w (codes "turns") then turns a b d else (if bytes_eq w (codes "run") then run a b d else unknown))
     (new_names P a (number_of b) (number_of d) first)
-    (chosen P (bytes_eq w (codes "turns")) (turns a b d) (if bytes_eq w (codes "run") then unbuilt else unknown)
-    (first, All-head P b (d ∷ []) more, All-head P d [] (All-tail P b (d ∷ []) more))
-    (chosen P (bytes_eq w (codes "run")) unbuilt unknown tt tt))
+    (chosen P (bytes_eq w (codes "turns")) (turns a b d) (if bytes_eq w (codes "run") then run a b d else unknown) all
+    (chosen P (bytes_eq w (codes "run")) (run a b d) unknown all tt))
 each_name P (w ∷ a ∷ b ∷ d ∷ e ∷ rest) h = tt

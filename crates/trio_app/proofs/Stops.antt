@@ -12,7 +12,7 @@ use Rattle.trio_app.specs.declared.stop.Stop.{Stop}
 use Rattle.trio_app.specs.declared.stop.Stop.TheVariants.{ReadFault, TooLong, BadLine, NoMemory}
 use Rattle.trio_app.specs.Images.{ImageStops, ImageVerifies, FailsWith}
 use Rattle.trio_app.specs.Lines.{length_line}
-use Rattle.trio_app.specs.Turns.{InputsStop}
+use Rattle.trio_app.specs.Inputs.{InputsStop}
 use Rattle.trio_app.specs.inner.Stop.{ScriptStop, ToldStop, line_of, status_of, stop_of_loading}
 
 -- ---- an image

@@ -15,10 +15,10 @@ pub data Command : Type 0 where
   tree : List ℕ → TreeForm → Command
   -- IMAGE, SCRIPT and OUT
   turns : List ℕ → List ℕ → List ℕ → Command
+  -- IMAGE, SCRIPT and OUT
+  run : List ℕ → List ℕ → List ℕ → Command
   -- NUMBER and FILES
   gen : ℕ → ℕ → Command
-  -- a command of the table that isn't built
-  unbuilt : Command
   help : Command
   version : Command
   -- no command of the table
@@ -54,7 +54,7 @@ abbrev pub command_of_four : List ℕ → List ℕ → List ℕ → List ℕ →
 command_of_four word first second third =
     if bytes_eq word (codes "new") then new_of first (number_of second) (number_of third)
     else if bytes_eq word (codes "turns") then turns first second third
-    else if bytes_eq word (codes "run") then unbuilt
+    else if bytes_eq word (codes "run") then run first second third
     else unknown
 
 -- The command that words are.
@@ -64,3 +64,8 @@ command_of (word ∷ first ∷ []) = command_of_two word first
 command_of (word ∷ first ∷ second ∷ []) = command_of_three word first second
 command_of (word ∷ first ∷ second ∷ third ∷ []) = command_of_four word first second third
 command_of words = unknown
+
+-- The command where no thread may be started: a run is none then.
+abbrev pub without_threads : Command → Command
+without_threads (run image script out) = unknown
+without_threads command = command

@@ -5,9 +5,9 @@ use Rattle.trio_survey.specs.Stored.{BytesVerify}
 use Rattle.trio_image.specs.Made.{Fits}
 use Rattle.trio_script.specs.Script.{bad_line}
 use Rattle.trio_app.specs.declared.status.Status.{Status}
-use Rattle.trio_app.specs.declared.status.Status.TheVariants.{Done, NotVerified, Usage, BadScript, TooLong, NotBuilt}
+use Rattle.trio_app.specs.declared.status.Status.TheVariants.{Done, NotVerified, Usage, BadScript, TooLong}
 use Rattle.trio_app.specs.Status.{code_of}
-use Rattle.trio_app.specs.Command.{Command, new_image, check, tree, turns, gen, unbuilt, help, version, unknown, command_of}
+use Rattle.trio_app.specs.Command.{Command, new_image, check, tree, turns, run, gen, help, version, unknown}
 
 -- a file tells its bytes, and is over its limit
 pub record TellsTooLong (limit : ℕ) (name : List ℕ) (files : Shelf) : Type 0 where
@@ -57,21 +57,21 @@ ImageDecides image files TooLong = TellsTooLong 33554432 image files
 ImageDecides image files _ = ⊥
 
 -- what the bytes of IMAGE decide, and where it verifies, those of SCRIPT
-abbrev pub TurnsDecides : List ℕ → List ℕ → Shelf → Status → Type 0
-TurnsDecides image script files Done = TellsImage image files × TellsScript script files
-TurnsDecides image script files NotVerified = TellsNoImage image files
-TurnsDecides image script files TooLong = TellsTooLong 33554432 image files ⊎ (TellsImage image files × TellsTooLong 1048576 script files)
-TurnsDecides image script files BadScript = TellsImage image files × ((number : ℕ) × TellsBadLine script files number)
-TurnsDecides image script files _ = ⊥
+abbrev pub InputsDecide : List ℕ → List ℕ → Shelf → Status → Type 0
+InputsDecide image script files Done = TellsImage image files × TellsScript script files
+InputsDecide image script files NotVerified = TellsNoImage image files
+InputsDecide image script files TooLong = TellsTooLong 33554432 image files ⊎ (TellsImage image files × TellsTooLong 1048576 script files)
+InputsDecide image script files BadScript = TellsImage image files × ((number : ℕ) × TellsBadLine script files number)
+InputsDecide image script files _ = ⊥
 
 -- that a command has this status is decided by its words and the bytes of its files
 abbrev pub Decides : Command → Shelf → Status → Type 0
 Decides (new_image out pages inodes) files status = NewDecides pages inodes status
 Decides (check image) files status = ImageDecides image files status
 Decides (tree image form) files status = ImageDecides image files status
-Decides (turns image script out) files status = TurnsDecides image script files status
+Decides (turns image script out) files status = InputsDecide image script files status
+Decides (run image script out) files status = InputsDecide image script files status
 Decides (gen number count) files status = status ≡ Done
-Decides unbuilt files status = status ≡ NotBuilt
 Decides help files status = status ≡ Done
 Decides version files status = status ≡ Done
 Decides unknown files status = status ≡ Usage
@@ -82,7 +82,7 @@ pub record NoneRose (old new : Shelf) (out out' : SinkSeen) : Type 0 where
   pub writes : (q : List ℕ) → Rose (old.write_faults q) (new.write_faults q) → ⊥
   pub puts : Rose out.faults out'.faults → ⊥
 
--- The top call answers the status that is decided, where no count rose, or memory was wanting.
-abbrev pub EndsAsDecided : List (List ℕ) → Shelf → Shelf → SinkSeen → SinkSeen → ℕ → Type 0
-EndsAsDecided words old new out out' result =
-    (status : Status) → Decides (command_of words) old status → NoneRose old new out out' → (result ≡ code_of status) ⊎ (result ≡ 6)
+-- The status that is decided for a command is answered, where no count rose, or memory was wanting.
+abbrev pub EndsAsDecided : Command → Shelf → Shelf → SinkSeen → SinkSeen → ℕ → Type 0
+EndsAsDecided command old new out out' result =
+    (status : Status) → Decides command old status → NoneRose old new out out' → (result ≡ code_of status) ⊎ (result ≡ 6)

@@ -38,7 +38,7 @@ pub record GenDone (number files : ℕ) (text : List ℕ) : Type 0 where
   pub made : IsMade 8192 2048 superblock pages
   pub first : Played (image_in superblock pages) directories_script
   pub first_headline : Headline (image_in superblock pages) (creds_in directories_script) first.moves
-  pub first_log : StoredLog (image_in superblock pages) directories_script first
+  pub first_log : StoredLog (image_in superblock pages) directories_script first.moves first.last.told first.last.log first.last.state
   -- what was settled between the plays, and its pages
   pub between : Superblock
   pub between_is : between ≡ superblock_for (settled first.last.state).core
@@ -46,7 +46,7 @@ pub record GenDone (number files : ℕ) (text : List ℕ) : Type 0 where
   pub stores : StoresImage between (settled first.last.state) middle
   pub second : Played (image_in between middle) (files_script number files)
   pub second_headline : Headline (image_in between middle) (creds_in (files_script number files)) second.moves
-  pub second_log : StoredLog (image_in between middle) (files_script number files) second
+  pub second_log : StoredLog (image_in between middle) (files_script number files) second.moves second.last.told second.last.log second.last.state
   pub put : text ≡ gen_text number files (files_script number files) second.last.told (settled second.last.state)
 
 -- what it came to, by status, and the text that is then due

@@ -8,16 +8,17 @@ use Rattle.trio_layout.specs.Image.{Image, row_at}
 use Rattle.trio_state.specs.Kept.{Kept}
 use Rattle.trio_rights.specs.Bundle.{Bundle}
 use Rattle.trio_state.specs.Run.{start, Move, Trace}
-use Rattle.trio_state.specs.State.{settled}
+use Rattle.trio_state.specs.State.{State, settled}
 use Rattle.trio_state.specs.Tells.{Why}
 use Rattle.trio_state.specs.Step.{Release, Refused}
 use Rattle.trio_laws.specs.Laws.{IsVerdict, IsBack, IsUntouched, IsElsewhere, HasNone, RowGoes, library_of}
 use Rattle.trio_surveys.specs.Tree.{IsTree}
+use Rattle.trio_nodes.specs.declared.entry.Entry.{Entry}
 use Rattle.trio_nodes.specs.Legal.{Legal}
 use Rattle.trio_state.specs.ImageNodes.{nodes_of}
 use Rattle.trio_laws.specs.history.Replays.{Replays}
 use Rattle.trio_script.specs.declared.ScriptLib.{ScriptLib}
-use Rattle.trio_runner.specs.Play.{IsLibraryOf, Played, creds_in, told_to}
+use Rattle.trio_runner.specs.Play.{Heard, IsLibraryOf, creds_in, heard_by}
 use Rattle.trio_runner.specs.Logged.{AreEntries, Prints, entries_by}
 
 -- The moves are a run of the controller from the image's state, of events that hand in what was given, with any bytes.
@@ -46,11 +47,12 @@ pub record Headline (image : Image) (creds : List Creds) (moves : List Move) : T
       (m : Move) (n : ℕ) (r : Row) → In m moves → row_at (settled m.before) n ≡ Some r
       → RowGoes m.before m.event n r (row_at (settled m.after) n)
 
--- The log that the controller of a script stored. It is the entries of the moves, in their order. It replays from the image that was
--- read to the state at the end, and it is legal, with the libraries' credentials, from the nodes of that image to those of the
--- image that is settled at the end. And the answers of each library print its entries, each once and in their order.
-pub record StoredLog (image : Image) (libs : List ScriptLib) (played : Played image libs) : Type 0 where
-  pub entries : AreEntries played.moves played.last.log
-  pub replays : Replays image (creds_in libs) played.last.log played.last.state
-  pub legal : Legal (nodes_of image) (creds_in libs) played.last.log (nodes_of (settled played.last.state))
-  pub printed : (lib : LibNo) (l : ScriptLib) → IsLibraryOf libs lib l → Prints l.lines (told_to played.last lib) (entries_by lib played.last.log)
+-- The log that the controller of a script stored, by the script's moves, what its libraries were told, and the last state. It is the
+-- entries of the moves, in their order. It replays from the image that was read to the state at the end, and it is legal, with the
+-- libraries' credentials, from the nodes of that image to those of the image that is settled at the end. And the answers of each library
+-- print its entries, each once and in their order.
+pub record StoredLog (image : Image) (libs : List ScriptLib) (moves : List Move) (tolds : List Heard) (log : List Entry) (last : State) : Type 0 where
+  pub entries : AreEntries moves log
+  pub replays : Replays image (creds_in libs) log last
+  pub legal : Legal (nodes_of image) (creds_in libs) log (nodes_of (settled last))
+  pub printed : (lib : LibNo) (l : ScriptLib) → IsLibraryOf libs lib l → Prints l.lines (heard_by tolds lib) (entries_by lib log)

@@ -3,14 +3,16 @@ pub mod Status
 pub mod Report
 pub mod Headline
 pub mod Images
+pub mod Inputs
 pub mod New
 pub mod Check
 pub mod Tree
+pub mod OnScript
 pub mod Turns
+pub mod Run
 pub mod Gen
 pub mod Command
 pub mod Main
 pub mod Decided
 pub mod Request
-pub mod Inputs
 pub mod inner

@@ -46,10 +46,6 @@ write_fault_line name = codes "write fault " ++ escaped_of name ++ codes "\n"
 abbrev pub too_long_line : List ℕ → List ℕ
 too_long_line name = codes "too long " ++ escaped_of name ++ codes "\n"
 
--- a command of these words isn't built
-abbrev pub not_built_words : List ℕ
-not_built_words = codes "not built words\n"
-
 -- a line of the script is outside its grammar
 abbrev pub script_line : ℕ → List ℕ
 script_line number = codes "script line " ++ decimal number ++ codes "\n"

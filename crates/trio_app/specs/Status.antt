@@ -1,7 +1,7 @@
 -- How the program ends.
 use Rattle.std.specs.Prelude.{ℕ}
 use Rattle.trio_app.specs.declared.status.Status.{Status}
-use Rattle.trio_app.specs.declared.status.Status.TheVariants.{Done, NotVerified, Usage, BadScript, ReadFault, WriteFault, NoMemory, TooLong, NotBuilt}
+use Rattle.trio_app.specs.declared.status.Status.TheVariants.{Done, NotVerified, Usage, BadScript, ReadFault, WriteFault, NoMemory, TooLong}
 
 -- the number that the process ends with
 abbrev pub code_of : Status → ℕ
@@ -13,4 +13,3 @@ code_of ReadFault = 4
 code_of WriteFault = 5
 code_of NoMemory = 6
 code_of TooLong = 7
-code_of NotBuilt = 8

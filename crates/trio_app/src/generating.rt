@@ -11,7 +11,7 @@ ghost use Rattle.trio_app.specs.Gen.{GenComesTo, GenDone, calls_told};
 ghost use Rattle.trio_app.specs.Report.{told_counts};
 
 use crate::images::told_counts;
-use crate::run::play_on;
+use crate::script::play_in_turns;
 use crate::{Outcome, Status};
 use std::alloc::Global;
 use trio_gen::{directories_script, files_script, push_call_answers, put_summary};
@@ -49,9 +49,9 @@ fn played_text(alloc: Global, number: u32, files: u32) -> Result<Vec<u8>, NoMemo
 {
     let image = first_image(alloc)?;
     let directories = directories_script(alloc)?;
-    let first = play_on(alloc, image, &directories)?;
+    let first = play_in_turns(alloc, image, &directories)?;
     let libs = files_script(alloc, number, files)?;
-    let second = play_on(alloc, first.image, &libs)?;
+    let second = play_in_turns(alloc, first.image, &libs)?;
     let last = second.image;
     let text = told_text(alloc, number, files, &libs, &second.tolds, last)?;
     Ok(text)

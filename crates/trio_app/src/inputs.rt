@@ -3,8 +3,7 @@
 ghost use Rattle.std.specs.Prelude.{Contains, IfOk, IfErr};
 ghost use Rattle.trio_io.specs.Shelf.{OnlyReads};
 ghost use Rattle.trio_image.specs.Load.{Loads};
-ghost use Rattle.trio_app.specs.Inputs.{ReadsBoth, ReadsLibraries};
-ghost use Rattle.trio_app.specs.Turns.{InputsStop};
+ghost use Rattle.trio_app.specs.Inputs.{InputsStop, ReadsBoth, ReadsLibraries};
 ghost use Rattle.trio_app.specs.inner.Stop.{ScriptStop};
 
 use crate::images::read_image;

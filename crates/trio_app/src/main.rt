@@ -5,12 +5,13 @@
 //! - `trio tree IMAGE` puts out its tree, and `trio tree IMAGE json` the same as JSON.
 //! - `trio turns IMAGE SCRIPT OUT` runs a script on an image, writes the image that is then settled,
 //!   and puts out a report.
+//! - `trio run IMAGE SCRIPT OUT` does the same with a thread for each library of the script.
 //! - `trio gen NUMBER FILES` plays the generated workload in memory, and puts out what came of it.
 //!
 //! What it does and how it ends is the contract of [`trio_main`]: `specs/Main.antt` first, then
 //! `specs/Command.antt`, `specs/New.antt`, `specs/Check.antt`, `specs/Tree.antt`,
-//! `specs/Turns.antt` and `specs/Gen.antt`, with the claim of a run and what its controller's log says in
-//! `specs/Headline.antt`.
+//! `specs/Turns.antt`, `specs/Run.antt` and `specs/Gen.antt`, with the claim of a script's moves and what
+//! its controller's log says in `specs/Headline.antt`.
 //!
 //! [`trio_main`] is generic over the files, the sink and the gate. [`main`] hands it the host's,
 //! which no contract speaks of.
@@ -28,7 +29,8 @@ mod inputs;
 mod lines;
 mod making;
 mod plain;
-mod run;
+mod running;
+mod script;
 mod status;
 mod stop;
 mod sure;
@@ -42,6 +44,7 @@ pub use generating::generate;
 pub use inputs::{SCRIPT_LIMIT, read_inputs};
 pub use making::new_image;
 pub use plain::plain_main;
+pub use running::run;
 pub use status::{Outcome, Status};
 use std::alloc::Global;
 use std::env;
@@ -52,7 +55,7 @@ use std::sync::Wait;
 use std::thread::Threads;
 use std::vec::IntoIter;
 pub use stop::Stop;
-pub use sure::sure_main;
+pub use sure::{sure_main, sure_trio_main};
 pub use telling::tree;
 pub use threads::trio_main;
 use trio_io::{OpenGate, RealFiles, StdoutSink};

@@ -2,6 +2,7 @@
 
 ghost use Rattle.std.specs.Prelude.{◌≡◌, [], All, Contains};
 ghost use Rattle.trio_io.specs.Names.{texts_of};
+ghost use Rattle.trio_app.specs.Command.{command_of, without_threads};
 ghost use Rattle.trio_app.specs.Decided.{EndsAsDecided};
 ghost use Rattle.trio_app.specs.Main.{Main, Puts};
 ghost use Rattle.trio_app.specs.Status.{code_of};
@@ -13,7 +14,7 @@ use trio_io::{Files, Sink};
 
 /// Puts a text, and answers how the program then ends. For an empty text the sink
 /// isn't asked.
-fn end<S: Sink>(text: &[u8], status: Status, out: &mut S) -> u8
+pub fn end<S: Sink>(text: &[u8], status: Status, out: &mut S) -> u8
     ensures puts { Puts (S.seen out.old) (S.seen out.new) text.now (code_of status) result }
     ensures unasked { text.now ≡ [] → (result ≡ code_of status) × (S.seen out.new ≡ S.seen out.old) }
 {
@@ -26,11 +27,9 @@ fn end<S: Sink>(text: &[u8], status: Status, out: &mut S) -> u8
     }
 }
 
-/// Does what the words say, all of it on one thread, and answers how the program ends.
-///
-/// `words` are those of the command line without the program's name. The answer is the number of a
-/// [`Status`], and `specs/Main.antt` says what each means: what the files hold then, and which text
-/// was put out. `specs/Decided.antt` says which one comes where nothing fails.
+/// Does what the words say, all of it on one thread, and answers how the program ends: as
+/// [`trio_main`](crate::trio_main) does, for all words but those of a run. To start a thread takes a
+/// runtime value, and here is none: the words of a run are no command, and the usage line is due.
 pub fn plain_main<F: Files, S: Sink>(
     alloc: Global,
     words: &[String],
@@ -38,8 +37,8 @@ pub fn plain_main<F: Files, S: Sink>(
     out: &mut S,
 ) -> u8
     requires { All (Contains (F.seen files.old).served) (texts_of words.now) }
-    ensures main { Main (texts_of words.now) (F.seen files.old) (F.seen files.new) (S.seen out.old) (S.seen out.new) result }
-    ensures decided { EndsAsDecided (texts_of words.now) (F.seen files.old) (F.seen files.new) (S.seen out.old) (S.seen out.new) result }
+    ensures main { Main (without_threads (command_of (texts_of words.now))) (F.seen files.old) (F.seen files.new) (S.seen out.old) (S.seen out.new) result }
+    ensures decided { EndsAsDecided (without_threads (command_of (texts_of words.now))) (F.seen files.old) (F.seen files.new) (S.seen out.old) (S.seen out.new) result }
 {
     match read_words(words) {
         Request::New {
@@ -70,9 +69,9 @@ pub fn plain_main<F: Files, S: Sink>(
             let outcome = generate(alloc, number, files);
             end(&outcome.text, outcome.status, out)
         }
-        Request::Unbuilt => end(b"not built words\n", Status::NotBuilt, out),
         Request::Help => end(USAGE, Status::Done, out),
         Request::Version => end(VERSION, Status::Done, out),
+        Request::Run { .. } => end(USAGE, Status::Usage, out),
         Request::Unknown => end(USAGE, Status::Usage, out),
     }
 }

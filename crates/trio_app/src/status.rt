@@ -24,8 +24,6 @@ pub enum Status {
     NoMemory,
     /// A file is longer than its limit.
     TooLong,
-    /// The command isn't built yet.
-    NotBuilt,
 }
 
 impl Status {
@@ -42,7 +40,6 @@ impl Status {
             Status::WriteFault => 5,
             Status::NoMemory => 6,
             Status::TooLong => 7,
-            Status::NotBuilt => 8,
         }
     }
 }

@@ -4,15 +4,17 @@
 //! five bytes `hello`.
 
 use crate::lines::USAGE;
-use crate::{SCRIPT_LIMIT, copy_words, sure_main, trio_main};
+use crate::{SCRIPT_LIMIT, copy_words, sure_main, sure_trio_main, trio_main};
 use std::alloc::Global;
 use std::process::Abort;
 use std::sync::Wait;
 use std::test::Fail;
 use std::thread::Threads;
-use trio_io::{FailingCalls, MemFiles, MemSink, OpenGate, SureFiles, SureSink};
+use trio_io::{
+    FailingCalls, Gate, GateStop, HoldGate, MemFiles, MemSink, OpenGate, SureFiles, SureSink,
+};
 use trio_page::NoMemory;
-use trio_rights::Mode;
+use trio_rights::{LibNo, Mode};
 use trio_samples::files::{one_file, root, six_directories, three_files};
 use trio_samples::{Sample, SampleFile, directory, regular};
 
@@ -81,6 +83,18 @@ fn run_over<R: Threads + Wait + Sync + AllocGlobal>(
     texts: &[&str],
     image: &[u8],
     script: &[u8],
+    failing: (u64, u64),
+) -> Result<Left, NoMemory> {
+    run_past(rt, &OpenGate, texts, image, script, failing)
+}
+
+// The same, with this gate.
+fn run_past<R: Threads + Wait + Sync + AllocGlobal, G: Gate + Sync>(
+    rt: &R,
+    gate: &G,
+    texts: &[&str],
+    image: &[u8],
+    script: &[u8],
     (file_call, put): (u64, u64),
 ) -> Result<Left, NoMemory> {
     let alloc = rt.alloc();
@@ -92,7 +106,7 @@ fn run_over<R: Threads + Wait + Sync + AllocGlobal>(
     files.hold("o p", BEFORE.to_vec(alloc)?);
     files.hold(first_name(texts), image.to_vec(alloc)?);
     let mut out = MemSink::new(alloc, FailingCalls::new(vec![in alloc; put]?));
-    let status = trio_main(rt, alloc, &words, &mut files, &mut out, &OpenGate);
+    let status = trio_main(rt, alloc, &words, &mut files, &mut out, gate);
     Ok(Left { status, files, out })
 }
 
@@ -137,8 +151,11 @@ fn ends<R: Threads + Wait + Sync + AllocGlobal>(
 
 const WORDS: [&str; 4] = ["turns", "first.img", "script", "o p"];
 
-// The words, the call that fails, and how the run ends. Of `turns` calls 1 to 33 read the image, 34
-// and 35 the script, and 36 writes OUT.
+// The same with a thread for each library.
+const RUN: [&str; 4] = ["run", "first.img", "script", "o p"];
+
+// The words, the call that fails, and how the run ends. Of `turns` and `run` calls 1 to 33 read the
+// image, 34 and 35 the script, and 36 writes OUT.
 type FailingCall = (&'static [&'static str], u64, End);
 
 const CALLS: &[FailingCall] = &[
@@ -160,6 +177,14 @@ const CALLS: &[FailingCall] = &[
         (5, b"write fault o\\x20p\n", ("o p", Kept::Image(65_536))),
     ),
     (&WORDS, 37, (0, REPORT, ("o p", Kept::Image(IMAGE_SIZE)))),
+    (&RUN, 33, (4, READ_FAULT, ("o p", Kept::Before))),
+    (&RUN, 35, (4, b"read fault script\n", ("o p", Kept::Before))),
+    (
+        &RUN,
+        36,
+        (5, b"write fault o\\x20p\n", ("o p", Kept::Image(65_536))),
+    ),
+    (&RUN, 37, (0, REPORT, ("o p", Kept::Image(IMAGE_SIZE)))),
     (
         &CHECK,
         1,
@@ -241,7 +266,7 @@ type Input = (
     &'static [u8],
 );
 
-// What doesn't verify or isn't built.
+// What doesn't verify, or isn't a script.
 const INPUTS: &[Input] = &[
     (0, &[], SCRIPT, 1, b"length 0\n"),
     (4096, &[], SCRIPT, 1, b"length 4096\n"),
@@ -313,7 +338,8 @@ const INPUTS: &[Input] = &[
     (IMAGE_SIZE, &[], b"# nothing else\nlib 1 raw 0 0", 0, REPORT),
 ];
 
-// Whether a run ends so: OUT has the image where the status is 0, and else is as before.
+// Whether a run ends so, in turns and in threads: OUT has the image where the status is 0, and else is as
+// before.
 fn ends_so<R: Threads + Wait + Sync + AllocGlobal>(
     rt: &R,
     image: &[u8],
@@ -326,7 +352,10 @@ fn ends_so<R: Threads + Wait + Sync + AllocGlobal>(
     } else {
         Kept::Before
     };
-    ends(rt, &WORDS, image, script, 0, (status, text, ("o p", kept)))
+    let end = (status, text, ("o p", kept));
+    let in_turns = ends(rt, &WORDS, image, script, 0, end)?;
+    let in_threads = ends(rt, &RUN, image, script, 0, end)?;
+    Some(in_turns && in_threads)
 }
 
 fn input_ends<R: Threads + Wait + Sync + AllocGlobal>(
@@ -436,9 +465,22 @@ const COMMANDS: &[(&[&str], End)] = &[
         &["turns", "first.img", "first.img", "o p"],
         (3, b"script line 1\n", ("o p", Kept::Before)),
     ),
+    (&["run"], (2, USAGE, ("o p", Kept::Nothing))),
     (
-        &["run", "first.img", "script", "o p"],
-        (8, UNBUILT, ("o p", Kept::Before)),
+        &["run", "first.img", "script"],
+        (2, USAGE, ("first.img", Kept::Image(IMAGE_SIZE))),
+    ),
+    (
+        &["run", "first.img", "script", "o p", "o p"],
+        (2, USAGE, ("o p", Kept::Before)),
+    ),
+    (
+        &["run", "first.img", "script", "first.img"],
+        (0, REPORT, ("first.img", Kept::Image(IMAGE_SIZE))),
+    ),
+    (
+        &["run", "first.img", "first.img", "o p"],
+        (3, b"script line 1\n", ("o p", Kept::Before)),
     ),
     (&["tree"], (2, USAGE, ("o p", Kept::Nothing))),
     (
@@ -527,8 +569,6 @@ const ONE_FILE: &[u8] =
 const THOUSAND_FILES: &[u8] =
     b"gen number 7 files 1000 calls 2400 ok 2400 busy 0 bytes 26016\ninodes 813 pages 1674 free 6493\n";
 
-const UNBUILT: &[u8] = b"not built words\n";
-
 #[test]
 fn words_are_read(rt: HostRuntime) -> Result<(), Fail> {
     let whole = image(rt.alloc())?;
@@ -583,8 +623,14 @@ fn trees_are_told(rt: HostRuntime) -> Result<(), Fail> {
 }
 
 // Whether a run over the forms that never fail ends so, with this in OUT, which has nothing before.
-fn ends_surely(alloc: Global, image: &[u8], status: u8, text: &[u8], out: &[u8]) -> Option<bool> {
-    let words = words_of(alloc, &WORDS).ok()?;
+fn ends_surely(
+    alloc: Global,
+    texts: &[&str],
+    image: &[u8],
+    (status, text): (u8, &[u8]),
+    out: &[u8],
+) -> Option<bool> {
+    let words = words_of(alloc, texts).ok()?;
     let mut files = SureFiles::new(alloc, copy_words(alloc, &words).ok()?).ok()?;
     files.hold("first.img", image.to_vec(alloc).ok()?);
     files.hold("script", SCRIPT.to_vec(alloc).ok()?);
@@ -595,10 +641,13 @@ fn ends_surely(alloc: Global, image: &[u8], status: u8, text: &[u8], out: &[u8])
 
 #[test]
 fn sure_forms(rt: HostRuntime) -> Result<(), Fail> {
-    let whole = image(rt.alloc())?;
-    let short = changed(rt.alloc(), &whole, 4095, &[])?;
-    assert!(rt; ends_surely(rt.alloc(), &whole, 0, REPORT, &whole) == Some(true));
-    assert!(rt; ends_surely(rt.alloc(), &short, 1, b"length 4095\n", b"") == Some(true));
+    let alloc = rt.alloc();
+    let whole = image(alloc)?;
+    let short = changed(alloc, &whole, 4095, &[])?;
+    assert!(rt; ends_surely(alloc, &WORDS, &whole, (0, REPORT), &whole) == Some(true));
+    assert!(rt; ends_surely(alloc, &WORDS, &short, (1, b"length 4095\n"), b"") == Some(true));
+    // on one thread the words of a run are no command
+    assert!(rt; ends_surely(alloc, &RUN, &whole, (2, USAGE), b"") == Some(true));
     Ok(())
 }
 
@@ -1542,5 +1591,219 @@ fn any_byte_of_an_index_page(rt: HostRuntime) -> Result<(), Fail> {
             );
         }
     }
+    Ok(())
+}
+
+// ---- a thread for each library
+
+// What a run left that ended with status 0, and with an image in OUT that verifies.
+fn run_well<R: Threads + Wait + Sync + AllocGlobal, G: Gate + Sync>(
+    rt: &R,
+    gate: &G,
+    words: &[&str],
+    image: &[u8],
+    script: &[u8],
+) -> Option<Left> {
+    let left = run_past(rt, gate, words, image, script, (0, 0)).ok()?;
+    let checked = run_over(rt, &CHECK, left.files.content("o p")?, b"", (0, 0)).ok()?;
+    (left.status == 0 && checked.status == 0).then_some(left)
+}
+
+// Whether one library comes to the same in turns and on a thread of its own, in its report and in OUT.
+fn comes_to_one<R: Threads + Wait + Sync + AllocGlobal>(
+    rt: &R,
+    image: &[u8],
+    lines: &str,
+) -> Option<bool> {
+    let script = joined(rt.alloc(), &["lib 1 raw 0 0\n", lines]).ok()?;
+    let turns = run_well(rt, &OpenGate, &WORDS, image, &script)?;
+    let run = run_well(rt, &OpenGate, &RUN, image, &script)?;
+    let is_told = turns.out.bytes() == run.out.bytes();
+    Some(is_told && turns.files.content("o p") == run.files.content("o p"))
+}
+
+// Whether a run in threads over the forms that never fail ends well, with this text.
+fn runs_surely<R: Threads + Wait + Sync + AllocGlobal>(
+    rt: &R,
+    image: &[u8],
+    text: &[u8],
+) -> Option<bool> {
+    let alloc = rt.alloc();
+    let words = words_of(alloc, &RUN).ok()?;
+    let mut files = SureFiles::new(alloc, copy_words(alloc, &words).ok()?).ok()?;
+    files.hold("first.img", image.to_vec(alloc).ok()?);
+    files.hold("script", SCRIPT.to_vec(alloc).ok()?);
+    let mut sink = SureSink::new(alloc);
+    let end = sure_trio_main(rt, alloc, &words, &mut files, &mut sink, &OpenGate);
+    Some(end == 0 && sink.bytes() == text && files.content("o p") == Some(image))
+}
+
+#[test]
+fn a_run_over_sure_forms(rt: HostRuntime) -> Result<(), Fail> {
+    let whole = image(rt.alloc())?;
+    assert!(rt; runs_surely(&rt, &whole, REPORT) == Some(true));
+    Ok(())
+}
+
+#[test]
+fn one_library_runs_as_in_turns(rt: HostRuntime) -> Result<(), Fail> {
+    let whole = tree_image(rt.alloc())?;
+    for (lines, _, _, _) in GRANT_SESSIONS {
+        assert!(rt; comes_to_one(&rt, &whole, lines) == Some(true), "{lines}");
+    }
+    Ok(())
+}
+
+// What a library does that writes the file and hands it in, and what it is told where another has the
+// file.
+const WRITER: &str = "raw 0 0\ngrant write 2\npoke block 2 0 0 4a\nrelease 2 - -\n";
+
+const GRANTED: [&str; 2] = [
+    "2 granted\n3 poked\n4 accepted\nend nothing\n",
+    "6 granted\n7 poked\n8 accepted\nend nothing\n",
+];
+
+const HELD_OFF: [&str; 2] = [
+    "2 busy\n3 absent\n4 absent\nend nothing\n",
+    "6 busy\n7 absent\n8 absent\nend nothing\n",
+];
+
+// Whether two libraries that write one file are told one of these: the first call of one comes before that
+// of the other, and that one is held off, or comes behind the release.
+fn exclude_each_other<R: Threads + Wait + Sync + AllocGlobal>(
+    rt: &R,
+    image: &[u8],
+) -> Option<bool> {
+    let alloc = rt.alloc();
+    let script = joined(alloc, &["lib 1 ", WRITER, "lib 2 ", WRITER]).ok()?;
+    let run = run_well(rt, &OpenGate, &RUN, image, &script)?;
+    let mut is_one = false;
+    for (mine, yours) in [
+        (GRANTED[0], GRANTED[1]),
+        (GRANTED[0], HELD_OFF[1]),
+        (HELD_OFF[0], GRANTED[1]),
+    ] {
+        let told = ["lib 1 raw\n", mine, "lib 2 raw\n", yours, FILE_TREE];
+        is_one = is_one || run.out.bytes() == joined(alloc, &told).ok()?.as_slice();
+    }
+    let out = run.files.content("o p")?;
+    Some(is_one && has(rt, out, image, Out::Image(24_576, b'J'))?)
+}
+
+#[test]
+fn two_that_write_one_file(rt: HostRuntime) -> Result<(), Fail> {
+    let whole = image(rt.alloc())?;
+    for _ in 0..20 {
+        assert!(rt; exclude_each_other(&rt, &whole) == Some(true));
+    }
+    Ok(())
+}
+
+// Directories for the homes of two users, and one for all, as they are made one after another.
+const HOMES: [&[u8]; 3] = [
+    b"lib 1 honest 0 0\nmkdir /home 777\nmkdir /srv 777\nmkdir /srv/tmp 777\n",
+    b"lib 1 honest 1001 1001\nmkdir /home/u1 700\n",
+    b"lib 1 honest 1002 1002\nmkdir /home/u2 700\n",
+];
+
+// The image on which the four run.
+fn homes<R: Threads + Wait + Sync + AllocGlobal>(rt: &R) -> Option<Vec<u8>> {
+    let new = ["new", "o p", "512", "128"];
+    let made = run_over(rt, &new, b"", b"", (0, 0)).ok()?;
+    let mut image = made.files.content("o p")?.to_vec(rt.alloc()).ok()?;
+    for script in HOMES {
+        let left = run_well(rt, &OpenGate, &WORDS, &image, script)?;
+        image = left.files.content("o p")?.to_vec(rt.alloc()).ok()?;
+    }
+    Some(image)
+}
+
+// Appends so many files of four bytes, each made and written.
+fn push_files(
+    alloc: Global,
+    script: &mut Vec<u8>,
+    begins: &str,
+    count: u32,
+    (mode, bytes): (&str, &str),
+) -> Result<(), NoMemory> {
+    for n in 1..=count {
+        let tens = n / 10;
+        let ones = n % 10;
+        let path = format!(in alloc; "{begins}{tens}{ones}")?;
+        let lines = format!(in alloc; "create {path} {mode}\nwrite {path} 0 {bytes}\n")?;
+        script.extend_from_slice(lines.as_bytes())?;
+    }
+    Ok(())
+}
+
+// Three honest libraries that fill their directories, beside a hostile one.
+fn four_homes(alloc: Global) -> Result<Vec<u8>, NoMemory> {
+    let mut script = b"lib 1 honest 1001 1001\n".to_vec(alloc)?;
+    push_files(alloc, &mut script, "/home/u1/f", 20, ("600", "note"))?;
+    script.extend_from_slice(b"lib 2 honest 1002 1002\n")?;
+    push_files(alloc, &mut script, "/home/u2/f", 12, ("600", "note"))?;
+    script.extend_from_slice(b"lib 3 honest 0 0\n")?;
+    push_files(alloc, &mut script, "/srv/g", 8, ("644", "page"))?;
+    script.extend_from_slice(
+        b"lib 4 raw 5 5\ngrant write 4\npoke body 4 16 0010000000000000\nrelease 4 - -\n",
+    )?;
+    Ok(script)
+}
+
+// What the image has in use once they have filled them.
+const HOMES_IN_USE: &[u8] = b"\ninodes 46 pages 91 free 418\n";
+
+// Whether all four are told the same in turns and in threads, with these counts of the image at the end:
+// none of them asks for what another has.
+fn homes_come_to_one<R: Threads + Wait + Sync + AllocGlobal>(rt: &R) -> Option<bool> {
+    let image = homes(rt)?;
+    let script = four_homes(rt.alloc()).ok()?;
+    let turns = run_well(rt, &OpenGate, &WORDS, &image, &script)?;
+    let run = run_well(rt, &OpenGate, &RUN, &image, &script)?;
+    let is_counted = turns.out.bytes().ends_with(HOMES_IN_USE);
+    Some(is_counted && turns.out.bytes() == run.out.bytes())
+}
+
+#[test]
+fn four_homes_are_filled(rt: HostRuntime) {
+    assert!(rt; homes_come_to_one(&rt) == Some(true));
+}
+
+// The most looks at the flag for which a library is held.
+const LOOKS: u64 = 1_000_000;
+
+// Whether library 1, held at its second line, saw library 2 come to its own: each has played its first
+// line, so two write leases are out at once. Libraries that run one after another never meet.
+fn two_meet<R: Threads + Wait + Sync + AllocGlobal>(
+    rt: &R,
+    image: &[u8],
+    script: &[u8],
+) -> Option<bool> {
+    let held = GateStop {
+        lib: LibNo(1),
+        line: 3,
+    };
+    let awaited = GateStop {
+        lib: LibNo(2),
+        line: 44,
+    };
+    let gate = HoldGate::new(held, awaited, LOOKS);
+    let run = run_well(rt, &gate, &RUN, image, script)?;
+    Some(run.out.bytes().ends_with(HOMES_IN_USE) && gate.has_met())
+}
+
+// How often it is tried: on a machine with much to do, the looks may be used up before the other thread
+// goes on.
+const TRIES: u32 = 20;
+
+#[test]
+fn two_write_leases_are_out_at_once(rt: HostRuntime) -> Result<(), Fail> {
+    let image = homes(&rt).ok_or("an image")?;
+    let script = four_homes(rt.alloc())?;
+    let mut has_met = false;
+    for _ in 0..TRIES {
+        has_met = has_met || two_meet(&rt, &image, &script) == Some(true);
+    }
+    assert!(rt; has_met);
     Ok(())
 }

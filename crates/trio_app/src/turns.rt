@@ -6,7 +6,7 @@ ghost use Rattle.trio_app.specs.Turns.{Turns};
 use crate::Outcome;
 use crate::images::save_image;
 use crate::inputs::read_inputs;
-use crate::run::run;
+use crate::script::run_in_turns;
 use std::alloc::Global;
 use trio_io::Files;
 
@@ -33,7 +33,7 @@ pub fn turns<F: Files>(
         Ok(inputs) => inputs,
         Err(end) => return end,
     };
-    match run(alloc, image, &libs) {
+    match run_in_turns(alloc, image, &libs) {
         Ok(end) => save_image(alloc, end.image, end.report, out_name, files),
         Err(_) => Outcome::no_memory(alloc),
     }

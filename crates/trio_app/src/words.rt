@@ -44,13 +44,17 @@ pub enum Request<'a> {
         script: &'a str,
         out: &'a str,
     },
+    /// `run IMAGE SCRIPT OUT`.
+    Run {
+        image: &'a str,
+        script: &'a str,
+        out: &'a str,
+    },
     /// `gen NUMBER FILES`, of 1 to 1000 files.
     Gen {
         number: u32,
         files: u32,
     },
-    /// A command that isn't built: `run` with its words.
-    Unbuilt,
     /// `--help`.
     Help,
     /// `--version`.
@@ -130,7 +134,11 @@ fn request_of_four<'a>(word: &str, first: &'a str, second: &'a str, third: &'a s
             out: third,
         }
     } else if word == "run" {
-        Request::Unbuilt
+        Request::Run {
+            image: first,
+            script: second,
+            out: third,
+        }
     } else {
         Request::Unknown
     }

@@ -2,8 +2,8 @@ use Rattle.std.proofs.Common.{refl, subst, sym}
 use Rattle.std.specs.Prelude.{Contains}
 use Rattle.trio_io.specs.Names.{texts_of}
 use Rattle.trio_app.specs.Command.{Command}
-use Rattle.trio_app.specs.declared.status.Status.TheVariants.{Done, Usage, NotBuilt}
-use Rattle.trio_app.specs.Lines.{not_built_words, usage_line, version_line}
+use Rattle.trio_app.specs.declared.status.Status.TheVariants.{Done, Usage}
+use Rattle.trio_app.specs.Lines.{usage_line, version_line}
 use Rattle.trio_app.proofs.Decided.{main_decided}
 use Rattle.trio_app.proofs.Gens.{gen_files}
 use Rattle.trio_app.proofs.Names.{EachName, each_name}
@@ -102,18 +102,6 @@ returns-in-Gen-clause-main g c = record {
 pub returns-in-Gen-clause-decided : goal.returns-in-Gen-clause-decided
 returns-in-Gen-clause-decided g c = main_decided _ _ _ _ _ _ (returns-in-Gen-clause-main g c)
 
-pub returns-in-Unbuilt-clause-main : goal.returns-in-Unbuilt-clause-main
-returns-in-Unbuilt-clause-main g c = record {
-  status = NotBuilt;
-  text = not_built_words;
-  comes_to = rw (← c.in-Unbuilt.ensures) (record { status_is = refl; put = refl; same = refl });
-  puts = c.end-in-Unbuilt.ensures.puts;
-  unasked = c.end-in-Unbuilt.ensures.unasked;
-}
-
-pub returns-in-Unbuilt-clause-decided : goal.returns-in-Unbuilt-clause-decided
-returns-in-Unbuilt-clause-decided g c = main_decided _ _ _ _ _ _ (returns-in-Unbuilt-clause-main g c)
-
 pub returns-in-Help-clause-main : goal.returns-in-Help-clause-main
 returns-in-Help-clause-main g c = record {
   status = Done;
@@ -149,3 +137,15 @@ returns-in-Unknown-clause-main g c = record {
 
 pub returns-in-Unknown-clause-decided : goal.returns-in-Unknown-clause-decided
 returns-in-Unknown-clause-decided g c = main_decided _ _ _ _ _ _ (returns-in-Unknown-clause-main g c)
+
+pub returns-in-Run-clause-main : goal.returns-in-Run-clause-main
+returns-in-Run-clause-main g c = record {
+  status = Usage;
+  text = usage_line;
+  comes_to = rw (← c.in-Run.ensures) (record { status_is = refl; put = refl; same = refl });
+  puts = c.end-in-Run.ensures.puts;
+  unasked = c.end-in-Run.ensures.unasked;
+}
+
+pub returns-in-Run-clause-decided : goal.returns-in-Run-clause-decided
+returns-in-Run-clause-decided g c = main_decided _ _ _ _ _ _ (returns-in-Run-clause-main g c)

@@ -1,6 +1,6 @@
 use Rattle.std.proofs.Common.{◌∙◌}
 use Rattle.trio_app.proofs.Ends.{nobody_writes, play_end, started_on}
-use Rattle.trio_app.proofs.run.play_on.Goals as goal
+use Rattle.trio_app.proofs.script.play_in_turns.Goals as goal
 
 pub play-requires-clause-started : goal.play-requires-clause-started
 play-requires-clause-started c =

@@ -1,6 +1,6 @@
 use Rattle.std.proofs.Common.{arith, ap, ◌∙◌, ◌++◌}
 use Rattle.trio_app.proofs.Ends.{libs_all, libs_put}
-use Rattle.trio_app.proofs.run.put_libraries.Goals as goal
+use Rattle.trio_app.proofs.script.put_libraries.Goals as goal
 
 pub loop-at-preserved : goal.loop-at-preserved
 loop-at-preserved c =

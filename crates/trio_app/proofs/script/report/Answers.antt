@@ -5,7 +5,7 @@ use Rattle.trio_report.specs.Report.{counts_text, tree_text}
 use Rattle.trio_report.specs.declared.report.Counts.{Counts as Totals}
 use Rattle.trio_app.specs.Report.{libs_text}
 use Rattle.trio_app.proofs.Ends.{image_again, joined}
-use Rattle.trio_app.proofs.run.report.Goals as goal
+use Rattle.trio_app.proofs.script.report.Goals as goal
 
 pub of-requires : goal.of-requires
 of-requires c =

@@ -9,18 +9,22 @@ ghost use Rattle.trio_ctl.specs.Ctl.{writer_of, TellsSettled};
 ghost use Rattle.trio_script.specs.Within.{AreWithin};
 ghost use Rattle.trio_runner.specs.Play.{creds_in};
 ghost use Rattle.trio_app.specs.Report.{answers_text, kind_of, lib_text, libs_text, numbers_of, told_counts};
-ghost use Rattle.trio_app.specs.inner.RunEnd.{IsPlayEnd, IsRunEnd};
+ghost use Rattle.trio_app.specs.inner.RunEnd.{IsPlayEnd, IsRunEnd, IsThreadsEnd, IsThreadsRunEnd};
 
 use crate::images::told_counts;
 use std::alloc::Global;
+use std::sync::Wait;
+use std::thread::Threads;
 use trio_ctl::{Ctl, ImageFault};
 use trio_image::Image;
+use trio_io::Gate;
 use trio_page::{NoMemory, Reads};
 use trio_report::{
     LibraryKind, LineAnswer, put_answer, put_counts, put_end, put_heading, put_tree, tree_lines,
 };
 use trio_rights::{Creds, LibNo};
-use trio_runner::{LibTold, play};
+use trio_runner::laws::{order_is_logged, ran_ends_free, ran_is_order, ran_is_printed};
+use trio_runner::{LibTold, play, run};
 use trio_script::{HonestLine, Lines, RawLine, ScriptLib, ScriptLine};
 
 /// What a run left.
@@ -32,7 +36,7 @@ pub struct RunEnd {
     pub image: Image,
 }
 
-/// What the play of a script left.
+/// What the libraries of a script left.
 #[derive(Drop)]
 pub struct PlayEnd {
     /// What each library was told, in the order of the libraries.
@@ -41,27 +45,54 @@ pub struct PlayEnd {
     pub image: Image,
 }
 
-/// Plays a script on an image. The log that the run's controller stores is legal, and the answers in
-/// the report print its entries. `NoMemory`: there was no memory for the run or the report.
-pub fn run(alloc: Global, image: Image, libs: &[ScriptLib]) -> Result<RunEnd, NoMemory>
+/// Plays a script on an image, in rounds on one thread. The log that the run's controller stores is
+/// legal, and the answers in the report print its entries. `NoMemory`: there was no memory for the run
+/// or the report.
+pub fn run_in_turns(alloc: Global, image: Image, libs: &[ScriptLib]) -> Result<RunEnd, NoMemory>
     requires some { 1 ≤ length libs.now }
     requires few { length libs.now ≤ 16 }
     requires within { AreWithin libs.now }
-    ensures { IfOk result (λ end. IsRunEnd image.superblock image.pages libs.now end.report.items end.image.pages) }
+    ensures { IfOk result (λ end. IsRunEnd (image_in image.superblock image.pages) libs.now end.report.items end.image.pages) }
 {
-    let end = play_on(alloc, image, libs)?;
+    let end = play_in_turns(alloc, image, libs)?;
     let last = end.image;
     let (report, image) = report(alloc, libs, &end.tolds, last)?;
     Ok(RunEnd { report, image })
 }
 
-/// Plays a script on an image. The log that the run's controller stores is legal, and what the
-/// libraries are told prints its entries. `NoMemory`: there was no memory for the run.
-pub fn play_on(alloc: Global, image: Image, libs: &[ScriptLib]) -> Result<PlayEnd, NoMemory>
+/// Runs a script on an image, with a thread for each library. All their calls are one order, of which
+/// each is answered as on one controller that takes them one after another; the log that the run's
+/// controller stores is legal, and the answers in the report print its entries. `NoMemory`: there was
+/// no memory for the run or the report.
+///
+/// Each library arrives at the gate before each of its lines and before its end. May wait, for the turns
+/// of others and at the gate.
+pub fn run_in_threads<R: Threads + Wait + Sync, G: Gate + Sync>(
+    rt: &R,
+    alloc: Global,
+    image: Image,
+    libs: &[ScriptLib],
+    gate: &G,
+) -> Result<RunEnd, NoMemory>
     requires some { 1 ≤ length libs.now }
     requires few { length libs.now ≤ 16 }
     requires within { AreWithin libs.now }
-    ensures { IfOk result (λ end. IsPlayEnd image.superblock image.pages libs.now end.tolds.items end.image.superblock end.image.pages) }
+    ensures { IfOk result (λ end. IsThreadsRunEnd (image_in image.superblock image.pages) libs.now end.report.items end.image.pages) }
+{
+    let end = play_in_threads(rt, alloc, image, libs, gate)?;
+    let last = end.image;
+    let (report, image) = report(alloc, libs, &end.tolds, last)?;
+    Ok(RunEnd { report, image })
+}
+
+/// Plays a script on an image, in rounds on one thread. The log that the run's controller stores is
+/// legal, and what the libraries are told prints its entries. `NoMemory`: there was no memory for the
+/// run.
+pub fn play_in_turns(alloc: Global, image: Image, libs: &[ScriptLib]) -> Result<PlayEnd, NoMemory>
+    requires some { 1 ≤ length libs.now }
+    requires few { length libs.now ≤ 16 }
+    requires within { AreWithin libs.now }
+    ensures { IfOk result (λ end. IsPlayEnd (image_in image.superblock image.pages) libs.now end.tolds.items end.image.superblock end.image.pages) }
 {
     let _superblock = image.superblock();
     let mut ctl = match Ctl::start(alloc, image, creds_of(alloc, libs)?) {
@@ -70,6 +101,34 @@ pub fn play_on(alloc: Global, image: Image, libs: &[ScriptLib]) -> Result<PlayEn
     };
     let tolds = play(alloc, &mut ctl, libs)?;
     ctl.is_recorded();
+    let image = last_image(ctl)?;
+    Ok(PlayEnd { tolds, image })
+}
+
+/// Runs a script on an image, with a thread for each library, as [`run_in_threads`] says, and makes no
+/// report. `NoMemory`: there was no memory for the run.
+fn play_in_threads<R: Threads + Wait + Sync, G: Gate + Sync>(
+    rt: &R,
+    alloc: Global,
+    image: Image,
+    libs: &[ScriptLib],
+    gate: &G,
+) -> Result<PlayEnd, NoMemory>
+    requires some { 1 ≤ length libs.now }
+    requires few { length libs.now ≤ 16 }
+    requires within { AreWithin libs.now }
+    ensures { IfOk result (λ end. IsThreadsEnd (image_in image.superblock image.pages) libs.now end.tolds.items end.image.superblock end.image.pages) }
+{
+    ran_is_order();
+    order_is_logged();
+    ran_ends_free();
+    ran_is_printed();
+    let _superblock = image.superblock();
+    let ctl = match Ctl::start(alloc, image, creds_of(alloc, libs)?) {
+        Ok(ctl) => ctl,
+        Err((_image, fault)) => return Err(fault),
+    };
+    let (ctl, tolds) = run(rt, alloc, ctl, libs, gate)?;
     let image = last_image(ctl)?;
     Ok(PlayEnd { tolds, image })
 }

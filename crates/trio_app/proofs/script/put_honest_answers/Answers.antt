@@ -3,7 +3,7 @@ use Rattle.trio_script.specs.declared.ScriptLine.{ScriptLine}
 use Rattle.trio_script.specs.declared.honest.HonestLine.{HonestLine}
 use Rattle.trio_report.specs.Answers.{answer_line}
 use Rattle.trio_app.proofs.Ends.{answers_done, answers_put}
-use Rattle.trio_app.proofs.run.put_honest_answers.Goals as goal
+use Rattle.trio_app.proofs.script.put_honest_answers.Goals as goal
 
 pub loop-at-preserved : goal.loop-at-preserved
 loop-at-preserved c =

@@ -1,0 +1,13 @@
+use Rattle.std.proofs.Common.{sym, subst}
+use Rattle.trio_image.specs.Image.{ImagePages}
+use Rattle.trio_survey.specs.Stored.{image_in}
+use Rattle.trio_app.specs.inner.RunEnd.{IsThreadsRunEnd}
+use Rattle.trio_app.proofs.Ends.{threads_run_end}
+use Rattle.trio_app.proofs.script.run_in_threads.Goals as goal
+
+pub returns : goal.returns
+returns g c =
+    let told = c.in_ok-report.ensures.report in
+    let text = rw c.deref.ensures.value at told in
+    subst (λ (last : ImagePages). IsThreadsRunEnd (image_in c.args.image.superblock c.args.image.pages) c.args.libs.now c.in_ok-report.report.items last.pages) (sym c.in_ok-report.ensures.image)
+    (threads_run_end (image_in c.args.image.superblock c.args.image.pages) c.in_ok-end.end.image.superblock c.in_ok-end.end.image.pages c.args.libs.now c.in_ok-end.end.tolds.items c.in_ok-report.report.items c.in_ok-end.ensures text)

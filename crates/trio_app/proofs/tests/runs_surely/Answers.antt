@@ -1,0 +1,9 @@
+use Rattle.std.proofs.Common.{◌≡◌, rules}
+use Rattle.std.proofs.lemmas.List.Elements.{All-contains_itself}
+use Rattle.trio_io.specs.Names.{texts_of}
+use Rattle.trio_app.proofs.tests.runs_surely.Goals as goal
+
+pub sure_trio_main-end-requires-after_bounds : goal.sure_trio_main-end-requires-after_bounds
+sure_trio_main-end-requires-after_bounds g c κs within =
+    let served : texts_of c.hold-2.new.self.names.items ≡ texts_of c.deref-2.result.now = search rules in
+    rw served (All-contains_itself (texts_of c.deref-2.result.now))
