@@ -1,6 +1,7 @@
-//! What a turn costs without others in it, and what a grant at a seat, what the judge takes for bundles
-//! of many pages, what it costs to check an image, what to tell a tree, what to keep the index of a
-//! directory, what memory a release takes, and what it costs to write and read a file through a session.
+//! What a turn costs without others in it, and what a grant at a seat, how much faster libraries are with
+//! a thread each, what the judge takes for bundles of many pages, what it costs to check an image, what to
+//! tell a tree, what to keep the index of a directory, what memory a release takes, and what it costs to
+//! write and read a file through a session.
 //!
 //! - `trio_bench turn COUNT` takes a value out of its cell and gives it back COUNT times, and locks a
 //!   `Mutex` of std's with the same value COUNT times, all on one thread, five times over. It prints
@@ -9,6 +10,9 @@
 //! - `trio_bench seat COUNT` is lent a file for reading and gives it back COUNT times at a seat of a
 //!   shared controller, and COUNT times at a controller itself, all on one thread, nine times over. It
 //!   prints the nanoseconds of the fastest of each on average over COUNT, and their ratio.
+//! - `trio_bench threads COUNT` plays COUNT lines of each of four libraries, in rounds on one thread and
+//!   with a thread for each library, nine times over. It prints the microseconds of the fastest of each,
+//!   and how often the second goes into the first, once for raw libraries and once for honest ones.
 //! - `trio_bench judge` judges bundles of directory pages, each five times over, and prints how often
 //!   the time of one goes into that of another.
 //! - `trio_bench workload IMAGE` writes an image of the shape and size in which the generator's
@@ -37,6 +41,7 @@ mod logging;
 mod names;
 mod seats;
 mod sessions;
+mod threads;
 mod trees;
 
 use crate::checking::{measure_check, write_workload};
@@ -45,6 +50,7 @@ use crate::logging::measure_log;
 use crate::names::measure_names;
 use crate::seats::measure_seat;
 use crate::sessions::measure_session;
+use crate::threads::measure_threads;
 use crate::trees::measure_tree;
 use std::alloc::Global;
 use std::rt::{Clock, Env};
@@ -139,6 +145,8 @@ enum Asked {
     Turn(u64),
     /// So many grants at a seat.
     Seat(u64),
+    /// So many lines of each library.
+    Threads(u64),
     Judge,
     Tree,
     Names,
@@ -185,6 +193,9 @@ fn read_words<R: Env + AllocGlobal>(rt: &R) -> io::Result<Option<Asked>> {
     if what.as_str() == "turn" {
         return Ok(count.map(Asked::Turn));
     }
+    if what.as_str() == "threads" {
+        return Ok(count.map(Asked::Threads));
+    }
     Ok(count.map(Asked::Seat).filter(|_| what.as_str() == "seat"))
 }
 
@@ -208,6 +219,8 @@ fn main(rt: HostRuntime) -> io::Result<()> {
     match read_words(&rt)? {
         Some(Asked::Turn(count)) => measure_turn(&rt, count),
         Some(Asked::Seat(count)) => measure_seat(&rt, count),
+        // no script has as many lines as that
+        Some(Asked::Threads(count)) => measure_threads(&rt, count.min(10_000) as u32),
         Some(Asked::Judge) => measure_judge(&rt),
         Some(Asked::Tree) => measure_tree(&rt),
         Some(Asked::Names) => measure_names(&rt),
@@ -217,7 +230,7 @@ fn main(rt: HostRuntime) -> io::Result<()> {
         Some(Asked::Check(name)) => measure_check(&rt, &name),
         None => {
             println!(rt;
-                "usage: trio_bench turn COUNT\n       trio_bench seat COUNT\n       trio_bench judge\n       trio_bench workload IMAGE\n       trio_bench check IMAGE\n       trio_bench tree\n       trio_bench names\n       trio_bench log\n       trio_bench session"
+                "usage: trio_bench turn COUNT\n       trio_bench seat COUNT\n       trio_bench threads COUNT\n       trio_bench judge\n       trio_bench workload IMAGE\n       trio_bench check IMAGE\n       trio_bench tree\n       trio_bench names\n       trio_bench log\n       trio_bench session"
             )
         }
     }

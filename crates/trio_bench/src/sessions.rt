@@ -141,7 +141,7 @@ pub fn started(alloc: Global) -> Option<Ctl>
 }
 
 /// The image of these bytes.
-fn image_of(alloc: Global, bytes: Vec<u8>) -> Option<Image> {
+pub fn image_of(alloc: Global, bytes: Vec<u8>) -> Option<Image> {
     let names = vec![in alloc; String::from_str(alloc, "a.img").ok()?].ok()?;
     let mut files = SureFiles::new(alloc, names).ok()?;
     files.hold("a.img", bytes);
