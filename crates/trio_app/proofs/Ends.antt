@@ -1,7 +1,6 @@
 -- How the run of a script ends, and what the whole work comes to.
 use Rattle.std.proofs.Common.{◌≡◌, ℕ, zero, suc, ◌+◌, ◌<◌, ◌≤◌, ◌⊎◌, min, List, [], ◌∷◌, ◌++◌, length, map, take, get_or, Option, None, Bool, inl, inr, refl, sym, ap, subst, ◌∙◌, arith}
-use Rattle.std.proofs.Math.Seq.{take-suc}
-use Rattle.std.proofs.lemmas.List.{append-nil, append_assoc, get_or-map, length-map, map-append}
+use Rattle.std.proofs.lemmas.List.{append-nil, append_assoc, get_or-map, length-map}
 use Rattle.trio_io.specs.Shelf.{Shelf, OnlyReads, OnlyReplaces, Rose, told}
 use Rattle.trio_tables.specs.Out.{NoneOut}
 use Rattle.trio_layout.specs.Core.{Core}
@@ -46,7 +45,7 @@ use Rattle.trio_app.specs.declared.words.TreeForm.{TreeForm}
 use Rattle.trio_app.specs.OnScript.{FaultsMayRise, OnScript, OutFails, ScriptComesTo, WritesSettled}
 use Rattle.trio_app.specs.Run.{Run, RunDone}
 use Rattle.trio_app.specs.Turns.{Turns, TurnsDone}
-use Rattle.trio_app.proofs.Headlines.{headline, no_grant_open, no_page_out, ran_free, ran_on, stored_log}
+use Rattle.trio_app.proofs.Headlines.{headline, no_grant_open, no_page_out, ran_on, stored_log}
 use Rattle.trio_app.proofs.Trees.{tree_same}
 
 -- ---- the image at the end
@@ -146,7 +145,7 @@ pub nobody_writes_then : RanEndsFree → (s : Superblock) (pages : List (Option 
     → first ≡ start (image_in s pages) creds → ScriptRan first.home libs tolds final log → writer_of final ≡ None
 nobody_writes_then law s pages creds first final libs tolds log started script =
     let script' : ScriptRan (image_in s pages) libs tolds final log = subst (λ (f : State). ScriptRan f.home libs tolds final log) started script in
-    no_writer final (ran_free law (image_in s pages) libs tolds final log script').grants
+    no_writer final (law (image_in s pages) libs tolds final log script').grants
 
 -- what a script comes to that is run with a thread for each library
 pub threads_end : RanIsOrder → OrderIsLogged → RanEndsFree → RanIsPrinted
@@ -156,7 +155,7 @@ pub threads_end : RanIsOrder → OrderIsLogged → RanEndsFree → RanIsPrinted
     → IsThreadsEnd (image_in s pages) libs tolds t last
 threads_end order logged free printed s t pages last creds first final libs tolds log verified started script last_verified tables is stores =
     let script' : ScriptRan (image_in s pages) libs tolds final log = subst (λ (f : State). ScriptRan f.home libs tolds final log) started script in
-    let here : NoneOut final.pages_out = (ran_free free (image_in s pages) libs tolds final log script').pages in
+    let here : NoneOut final.pages_out = (free (image_in s pages) libs tolds final log script').pages in
     let last_first : 0 < (settled final).core.range.first = subst (λ (x : Superblock). 0 < x.first_core) is (first_low t last last_verified) in
     record {
       state = final;
@@ -445,14 +444,3 @@ pub started_on : (s : State) (image : Image) (creds : List Creds) (libs : List S
 started_on s image creds libs started same =
     let whole : s ≡ start image (creds_in libs) = started ∙ ap (start image) same in
     whole ∙ ap (λ i. start i (creds_in libs)) (sym (ap (λ (x : State). x.home) whole))
-
--- the credentials of one library more
-pub creds_more : (libs : List ScriptLib) (i : ℕ) (lib : ScriptLib) (before after : List Creds) → i < length libs → get_or libs i lib ≡ lib
-    → before ≡ creds_in (take i libs) → after ≡ before ++ lib.creds ∷ [] → after ≡ creds_in (take (i + 1) libs)
-creds_more libs i lib before after lt is first more =
-    let up : suc i ≡ i + 1 = omega arith in
-    more ∙ ap (λ cs. cs ++ lib.creds ∷ []) first
-    ∙ sym (map-append (λ (l : ScriptLib). l.creds) (take i libs) (lib ∷ []))
-    ∙ ap (λ (l : ScriptLib). creds_in (take i libs ++ l ∷ [])) (sym is)
-    ∙ ap creds_in (sym (take-suc libs i lib lt))
-    ∙ ap (λ n. creds_in (take n libs)) up

@@ -35,7 +35,6 @@ use Rattle.trio_runner.specs.Rounds.{turns_of}
 use Rattle.trio_order.specs.Order.{moves_in}
 use Rattle.trio_runner.specs.Logged.{AreEntries, Prints, entries_by}
 use Rattle.trio_runner.specs.Play.{Heard, IsLibraryOf, Played, creds_in, heard_by}
-use Rattle.trio_runner.specs.PlayLaws.{NothingOut}
 use Rattle.trio_runner.specs.RunLaws.{OrderIsLogged, RanEndsFree, RanIsOrder, RanIsPrinted}
 use Rattle.trio_runner.specs.Runs.{ScriptRan}
 use Rattle.trio_runner.proofs.EndFree.{ends_free, plays_creds}
@@ -126,12 +125,6 @@ stored_log image libs played first last_first k r =
 
 -- ---- a script that is run with a thread for each library
 
--- at its end nothing is out
-pub ran_free : RanEndsFree → (image : Image) (libs : List ScriptLib) (tolds : List Heard) (last : State) (log : List Entry) → ScriptRan image libs tolds last log → NothingOut last
-ran_free law image libs tolds last log ran =
-    let k : Kept (start image (creds_in libs)) = ran.left.begins in
-    law image libs tolds last log k.fit k.verifies (started_whole image (creds_in libs) k) ran
-
 -- its calls are one order, of whose moves the claim holds, and what holds of the log
 pub ran_on : RanIsOrder → OrderIsLogged → RanEndsFree → RanIsPrinted
     → (image : Image) (libs : List ScriptLib) (tolds : List Heard) (last : State) (log : List Entry) → 0 < image.core.range.first → 0 < (settled last).core.range.first
@@ -140,7 +133,7 @@ ran_on order logged free printed image libs tolds last log first last_first ran 
     let k : Kept (start image (creds_in libs)) = ran.left.begins in
     let whole : IsWhole image = started_whole image (creds_in libs) k in
     let one = order image libs tolds last log k.fit k.verifies whole ran in
-    let none : last.open_grants ≡ [] = (ran_free free image libs tolds last log ran).grants in
+    let none : last.open_grants ≡ [] = (free image libs tolds last log ran).grants in
     record {
       ran = ran;
       one = one;

@@ -7,7 +7,6 @@ ghost use Rattle.trio_layout.specs.Tree.{tree_of};
 ghost use Rattle.trio_image.specs.Counts.{counts_of};
 ghost use Rattle.trio_ctl.specs.Ctl.{writer_of, TellsSettled};
 ghost use Rattle.trio_script.specs.Within.{AreWithin};
-ghost use Rattle.trio_runner.specs.Play.{creds_in};
 ghost use Rattle.trio_app.specs.Report.{answers_text, kind_of, lib_text, libs_text, numbers_of, told_counts};
 ghost use Rattle.trio_app.specs.inner.RunEnd.{IsPlayEnd, IsRunEnd, IsThreadsEnd, IsThreadsRunEnd};
 
@@ -22,9 +21,9 @@ use trio_page::{NoMemory, Reads};
 use trio_report::{
     LibraryKind, LineAnswer, put_answer, put_counts, put_end, put_heading, put_tree, tree_lines,
 };
-use trio_rights::{Creds, LibNo};
+use trio_rights::LibNo;
 use trio_runner::laws::{order_is_logged, ran_ends_free, ran_is_order, ran_is_printed};
-use trio_runner::{LibTold, play, run};
+use trio_runner::{LibTold, creds_of, play, run};
 use trio_script::{HonestLine, Lines, RawLine, ScriptLib, ScriptLine};
 
 /// What a run left.
@@ -131,17 +130,6 @@ fn play_in_threads<R: Threads + Wait + Sync, G: Gate + Sync>(
     let (ctl, tolds) = run(rt, alloc, ctl, libs, gate)?;
     let image = last_image(ctl)?;
     Ok(PlayEnd { tolds, image })
-}
-
-/// The credentials of the libraries, in their order.
-fn creds_of(alloc: Global, libs: &[ScriptLib]) -> Result<Vec<Creds>, NoMemory>
-    ensures { IfOk result (λ creds. creds.items ≡ creds_in libs.now) }
-{
-    let mut creds = Vec::with_capacity(alloc, libs.len())?;
-    for lib in libs {
-        creds.push(lib.creds)?;
-    }
-    Ok(creds)
 }
 
 /// The image that is settled once nobody writes. The controller ends.

@@ -1,8 +1,7 @@
 //! What four libraries take with a thread each, beside the same in rounds on one thread.
 
-ghost use Rattle.std.specs.Prelude.{◌≡◌, ◌≤◌, IfSome, length};
+ghost use Rattle.std.specs.Prelude.{◌≤◌, length};
 ghost use Rattle.trio_script.specs.Within.{AreWithin};
-ghost use Rattle.trio_runner.specs.Play.{creds_in};
 
 use crate::sessions::image_of;
 use std::alloc::Global;
@@ -15,8 +14,7 @@ use trio_ctl::Ctl;
 use trio_image::Image;
 use trio_io::OpenGate;
 use trio_page::NoMemory;
-use trio_rights::Creds;
-use trio_runner::{play, run};
+use trio_runner::{creds_of, play, run};
 use trio_samples::files::root;
 use trio_samples::{Sample, regular};
 use trio_script::{ScriptLib, read_script};
@@ -148,7 +146,7 @@ fn nanos_in_turns<R: Clock>(rt: &R, alloc: Global, libs: &[ScriptLib]) -> io::Re
     let Some(image) = four_files(alloc) else {
         return Ok(None);
     };
-    let Some(creds) = creds_of(alloc, libs) else {
+    let Ok(creds) = creds_of(alloc, libs) else {
         return Ok(None);
     };
     let Ok(mut ctl) = Ctl::start(alloc, image, creds) else {
@@ -172,7 +170,7 @@ fn nanos_in_threads<R: Threads + Wait + Sync + Clock>(
     let Some(image) = four_files(alloc) else {
         return Ok(None);
     };
-    let Some(creds) = creds_of(alloc, libs) else {
+    let Ok(creds) = creds_of(alloc, libs) else {
         return Ok(None);
     };
     let Ok(ctl) = Ctl::start(alloc, image, creds) else {
@@ -182,16 +180,6 @@ fn nanos_in_threads<R: Threads + Wait + Sync + Clock>(
     let ran = run(rt, alloc, ctl, libs, &OpenGate);
     let nanos = start.elapsed(rt)?.as_nanos();
     Ok(ran.ok().map(|_| nanos))
-}
-
-fn creds_of(alloc: Global, libs: &[ScriptLib]) -> Option<Vec<Creds>>
-    ensures { IfSome result (λ creds. creds.items ≡ creds_in libs.now) }
-{
-    let mut creds = Vec::new(alloc);
-    for lib in libs {
-        creds.push(lib.creds).ok()?;
-    }
-    Some(creds)
 }
 
 fn four_files(alloc: Global) -> Option<Image> {

@@ -1,7 +1,8 @@
 -- A library at its seat, from the start of its script to its end.
-use Rattle.std.proofs.Common.{◌≡◌, ℕ, ◌+◌, ◌-◌, ◌<◌, ◌≤◌, List, [], ◌∷◌, ◌++◌, length, map, get_or, Option, Some, None, sym, refl, ap, ◌∙◌, subst, arith}
+use Rattle.std.proofs.Common.{◌≡◌, ℕ, suc, ◌+◌, ◌-◌, ◌<◌, ◌≤◌, List, [], ◌∷◌, ◌++◌, length, map, take, get_or, Option, Some, None, sym, refl, ap, ◌∙◌, subst, arith}
 use Rattle.std.specs.Prelude.{slice_get}
-use Rattle.std.proofs.lemmas.List.{length-map}
+use Rattle.std.proofs.Math.Seq.{take-suc}
+use Rattle.std.proofs.lemmas.List.{length-map, map-append}
 use Rattle.std.proofs.lemmas.Option.{slice_get-get_or, slice_get_within}
 use Rattle.trio_rights.specs.declared.rights.Creds.{Creds}
 use Rattle.trio_rights.specs.declared.rights.LibNo.{LibNo}
@@ -29,6 +30,17 @@ use Rattle.trio_runner.specs.Rounds.{Ends, line_turns}
 use Rattle.trio_runner.specs.inner.Threads.{Arrives, MayGoOn, RanAll, WentThrough, place_at}
 use Rattle.trio_runner.proofs.Calling.{nothing_on_list}
 use Rattle.trio_runner.proofs.EndFree.{begins_all, creds_at}
+
+-- the credentials of one library more
+pub creds_more : (libs : List ScriptLib) (i : ℕ) (lib : ScriptLib) (before after : List Creds) → i < length libs → get_or libs i lib ≡ lib
+    → before ≡ creds_in (take i libs) → after ≡ before ++ lib.creds ∷ [] → after ≡ creds_in (take (i + 1) libs)
+creds_more libs i lib before after lt is first more =
+    let up : suc i ≡ i + 1 = omega arith in
+    more ∙ ap (λ cs. cs ++ lib.creds ∷ []) first
+    ∙ sym (map-append (λ (l : ScriptLib). l.creds) (take i libs) (lib ∷ []))
+    ∙ ap (λ (l : ScriptLib). creds_in (take i libs ++ l ∷ [])) (sym is)
+    ∙ ap creds_in (sym (take-suc libs i lib lt))
+    ∙ ap (λ n. creds_in (take n libs)) up
 
 module _ (seat : LibSeat Held) (none : seen seat ≡ []) where
   -- what is seen of its desk is so at the start

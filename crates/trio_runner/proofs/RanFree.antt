@@ -200,4 +200,4 @@ module _ (is_left : DeskIsLeft) (others_leave : OthersLeave) where
         by lib true low false f = none_else lib (λ is. both_ways (leb lib.0 (length libs)) f (le-leb lib.0 (length libs) (subst (λ n. lib.0 ≤ n) many is.1)))
 
 pub ran_ends_free : DeskIsLeft → OthersLeave → RanEndsFree
-ran_ends_free is_left others_leave image libs tolds s' log fit verifies whole ran = free is_left others_leave image libs tolds s' log ran
+ran_ends_free is_left others_leave image libs tolds s' log ran = free is_left others_leave image libs tolds s' log ran

@@ -33,7 +33,7 @@ OrderIsLogged =
 abbrev pub RanEndsFree : Type 0
 RanEndsFree =
     (image : Image) (libs : List ScriptLib) (tolds : List Heard) (s' : State) (log : List Entry)
-    → IsFit image.core → Verifies image → IsWhole image → ScriptRan image libs tolds s' log → NothingOut s'
+    → ScriptRan image libs tolds s' log → NothingOut s'
 
 -- and the answers of each library print its entries
 abbrev pub RanIsPrinted : Type 0

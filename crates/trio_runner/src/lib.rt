@@ -23,5 +23,6 @@ mod rounds;
 mod tests;
 mod threads;
 
+pub use players::creds_of;
 pub use rounds::{LibTold, play};
 pub use threads::run;

@@ -1,12 +1,13 @@
 //! The libraries of a script, as they are played.
 
-ghost use Rattle.std.specs.Prelude.{◌≤◌, IfOk, length};
+ghost use Rattle.std.specs.Prelude.{◌≡◌, ◌≤◌, IfOk, length};
+ghost use Rattle.trio_runner.specs.Play.{creds_in};
 ghost use Rattle.trio_runner.specs.inner.Ready.{AreNew, IsNew};
 
 use std::alloc::Global;
 use trio_page::NoMemory;
 use trio_raw::Raw;
-use trio_rights::LibNo;
+use trio_rights::{Creds, LibNo};
 use trio_script::{Lines, ScriptLib};
 use trio_session::Session;
 
@@ -34,6 +35,17 @@ impl Player {
             Player::Honest(session) => session.discard(),
         }
     }
+}
+
+/// The credentials of a script's libraries, in their order, with which a controller starts for it.
+pub fn creds_of(alloc: Global, libs: &[ScriptLib]) -> Result<Vec<Creds>, NoMemory>
+    ensures { IfOk result (λ creds. creds.items ≡ creds_in libs.now) }
+{
+    let mut creds = Vec::with_capacity(alloc, libs.len())?;
+    for lib in libs {
+        creds.push(lib.creds)?;
+    }
+    Ok(creds)
 }
 
 /// The libraries of a script, as they begin.

@@ -1,9 +1,6 @@
 //! Scripts on an image of 32 pages and 64 inode numbers: the root, with index page 3 and block 4,
 //! lists the regular file `f`, inode number 2, with index page 5 and block 6, owned by uid 5.
 
-ghost use Rattle.std.specs.Prelude.{◌≡◌, IfSome};
-ghost use Rattle.trio_runner.specs.Play.{creds_in};
-
 use super::*;
 use std::alloc::Global;
 use std::sync::Wait;
@@ -13,10 +10,10 @@ use trio_ctl::Ctl;
 use trio_image::{Image, load};
 use trio_io::{Gate, GateStop, HoldGate, OpenGate, SureFiles};
 use trio_report::{EndAnswer, put_answer};
-use trio_rights::{Creds, LibNo};
+use trio_rights::LibNo;
 use trio_samples::files::root;
 use trio_samples::{Sample, put, regular};
-use trio_script::{ScriptLib, read_script};
+use trio_script::read_script;
 
 /// Where the block of `f` begins in the image.
 const BLOCK: usize = 24_576;
@@ -57,17 +54,6 @@ fn image_of(alloc: Global, bytes: &[u8]) -> Option<Image> {
     load(alloc, &mut files, "a.img").ok()
 }
 
-// the credentials of a script's libraries, in their order
-fn script_creds(alloc: Global, libs: &[ScriptLib]) -> Option<Vec<Creds>>
-    ensures { IfSome result (λ creds. creds.items ≡ creds_in libs.now) }
-{
-    let mut creds = Vec::new(alloc);
-    for lib in libs {
-        creds.push(lib.creds).ok()?;
-    }
-    Some(creds)
-}
-
 // whether the answers to a library's lines are these, counted from 1
 fn are_told(alloc: Global, told: &LibTold, wanted: &[u8]) -> Option<bool> {
     let mut text = Vec::new(alloc);
@@ -85,7 +71,7 @@ fn play_script(alloc: Global, bytes: &[u8], script: &[u8]) -> Option<Told> {
         return None;
     };
     let image = image_of(alloc, bytes)?;
-    let creds = script_creds(alloc, &libs)?;
+    let creds = creds_of(alloc, &libs).ok()?;
     let Ok(mut ctl) = Ctl::start(alloc, image, creds) else {
         return None;
     };
@@ -114,7 +100,7 @@ fn run_script<R: Threads + Wait + Sync, G: Gate + Sync>(
         return None;
     };
     let image = image_of(alloc, bytes)?;
-    let creds = script_creds(alloc, &libs)?;
+    let creds = creds_of(alloc, &libs).ok()?;
     let Ok(ctl) = Ctl::start(alloc, image, creds) else {
         return None;
     };

@@ -1,9 +1,6 @@
 //! Scripts whose libraries ask for what others have, run with a thread for each library, and what their
 //! logs replay to.
 
-ghost use Rattle.std.specs.Prelude.{◌≡◌, IfSome};
-ghost use Rattle.trio_runner.specs.Play.{creds_in};
-
 use crate::replays::is_replayed;
 use crate::seats::two_directories;
 use std::alloc::Global;
@@ -11,9 +8,8 @@ use std::sync::Wait;
 use std::thread::Threads;
 use trio_ctl::Ctl;
 use trio_io::OpenGate;
-use trio_rights::Creds;
-use trio_runner::run;
-use trio_script::{ScriptLib, read_script};
+use trio_runner::{creds_of, run};
+use trio_script::read_script;
 
 /// How often each script is run.
 const RUNS: u32 = 50;
@@ -59,28 +55,17 @@ grant read 6\n";
 
 const SCRIPTS: [&[u8]; 3] = [ONE_FILE, TWO_DIRECTORIES, WITH_HOSTILE];
 
-// the credentials of a script's libraries, in their order
-fn creds_of(alloc: Global, libs: &[ScriptLib]) -> Option<Vec<Creds>>
-    ensures { IfSome result (λ creds. creds.items ≡ creds_in libs.now) }
-{
-    let mut creds = Vec::new(alloc);
-    for lib in libs {
-        creds.push(lib.creds).ok()?;
-    }
-    Some(creds)
-}
-
 // Whether the log of a script's run replays to the image that is settled then.
 fn replays<R: Threads + Wait + Sync>(rt: &R, alloc: Global, script: &[u8]) -> Option<bool> {
     let Ok(libs) = read_script(alloc, script) else {
         return None;
     };
-    let creds = creds_of(alloc, &libs)?;
+    let creds = creds_of(alloc, &libs).ok()?;
     let Ok(ctl) = Ctl::start(alloc, two_directories(alloc)?, creds) else {
         return None;
     };
     let (mut ctl, _tolds) = run(rt, alloc, ctl, &libs, &OpenGate).ok()?;
-    let creds = creds_of(alloc, &libs)?;
+    let creds = creds_of(alloc, &libs).ok()?;
     is_replayed(alloc, two_directories(alloc)?, &creds, &mut ctl)
 }
 

@@ -1,8 +1,8 @@
 use Rattle.std.proofs.Common.{ap, sym, ◌∙◌}
 use Rattle.std.proofs.lemmas.List.{take_all}
 use Rattle.trio_runner.specs.Play.{creds_in}
-use Rattle.trio_app.proofs.Ends.{creds_more}
-use Rattle.trio_app.proofs.script.creds_of.Goals as goal
+use Rattle.trio_runner.proofs.Beginning.{creds_more}
+use Rattle.trio_runner.proofs.players.creds_of.Goals as goal
 
 pub loop-lib-preserved : goal.loop-lib-preserved
 loop-lib-preserved c =
