@@ -1,5 +1,5 @@
 -- What a session shows of a file, by the lists in which it is found.
-use Rattle.std.proofs.Common.{◌≡◌, ◌||◌, ℕ, Bor, Bool, true, false, IsTrue, cond, eqb, List, [], ◌∷◌, ◌++◌, length, Option, Some, None, sym, refl, ap, ◌∙◌, subst, inl, inr}
+use Rattle.std.proofs.Common.{◌≡◌, ◌||◌, ℕ, Bor, Bool, true, false, cond, eqb, List, [], ◌∷◌, ◌++◌, Option, Some, None, sym, refl, ap, ◌∙◌, subst, inl, inr}
 use Rattle.std.specs.Prelude.{map, slice_get, slice_index_or, if◌then◌else◌}
 use Rattle.std.specs.List.{find, position}
 use Rattle.std.specs.Option.{is_some, option_copied, option_map, option_map_or, option_or}
@@ -8,13 +8,11 @@ use Rattle.std.proofs.lemmas.List.{map-append}
 use Rattle.trio_lists.proofs.Members.{In-cases, In-is_among, In-left, In-right, is_among-In}
 use Rattle.trio_lists.proofs.New.{is_among-not}
 use Rattle.trio_lists.specs.Lists.{In, is_among}
-use Rattle.trio_rights.specs.declared.kind.Kind.{Kind}
-use Rattle.trio_layout.specs.Chain.{Chain}
 use Rattle.trio_layout.specs.Entries.{body_in_slot}
 use Rattle.trio_lease.specs.Shown.{LentFile, Shown}
 use Rattle.trio_desk.specs.Out.{Parcel}
-use Rattle.trio_session.specs.Layout.{Home, InSlot as HomeInSlot, Leased as HomeLeased, page_in}
-use Rattle.trio_session.specs.Seen.{MadeFile, SessionSeen, body_in, chain_in, home_in, made_body, made_file, children_shown, entry_count, held_file, made_children, no_chain, serves, open_kind, place_in, slots_shown, used_numbers, written_file}
+use Rattle.trio_session.specs.Layout.{InSlot as HomeInSlot, Leased as HomeLeased, page_in}
+use Rattle.trio_session.specs.Seen.{MadeFile, SessionSeen, made_body, made_file, children_shown, entry_count, held_file, made_children, no_chain, serves, open_kind, place_in, slots_shown, used_numbers, written_file}
 use Rattle.trio_lease.specs.declared.parts.HoldParts.{HoldParts}
 use Rattle.trio_nodes.specs.Walk.{is_directory}
 use Rattle.trio_nodes.specs.declared.grant.GrantKind.TheVariants.{Hold as ToHold}
@@ -23,7 +21,7 @@ use Rattle.trio_session.specs.inner.Inside.{AreLaid, chains_laid}
 use Rattle.trio_session.specs.inner.Made.{Files, FindsFile, IsFileOn, IsMade, file_of, made_seen}
 use Rattle.trio_session.specs.inner.Places.{AreApart, HasChain, IsFile, body_at, chain_at, home_at, number_at}
 use Rattle.trio_session.specs.declared.laid.FilePlace.{FilePlace}
-use Rattle.trio_session.specs.declared.laid.FilePlace.TheVariants.{InSlot, Leased}
+use Rattle.trio_session.specs.declared.laid.FilePlace.TheVariants.{Leased}
 use Rattle.trio_session.specs.declared.laid.Laid.{Laid}
 use Rattle.trio_session.specs.declared.made.Made.{Made}
 use Rattle.trio_session.proofs.Chains.{there_some}
@@ -171,6 +169,12 @@ used-made s fs n shows e =
     ap (is_among n) (used_shown s fs shows)
     ∙ In-is_among n (map (λ (m : Made). m.ino) fs.made ++ map (λ (m : Made). m.ino) fs.cleared) (In-left n (map (λ (m : Made). m.ino) fs.made) (map (λ (m : Made). m.ino) fs.cleared)
     (is_among-In n (map (λ (m : Made). m.ino) fs.made) (sym (is_some-position (λ (m : Made). m.ino) fs.made n) ∙ e)))
+
+pub used-cleared : (s : SessionSeen) (fs : Files) (n : ℕ) → Shows s fs → is_some (position (λ m. eqb m.ino n) fs.cleared) ≡ true → is_among n (used_numbers s) ≡ true
+used-cleared s fs n shows e =
+    ap (is_among n) (used_shown s fs shows)
+    ∙ In-is_among n (map (λ (m : Made). m.ino) fs.made ++ map (λ (m : Made). m.ino) fs.cleared) (In-right n (map (λ (m : Made). m.ino) fs.made) (map (λ (m : Made). m.ino) fs.cleared)
+    (is_among-In n (map (λ (m : Made). m.ino) fs.cleared) (sym (is_some-position (λ (m : Made). m.ino) fs.cleared n) ∙ e)))
 
 pub used-rest : (s : SessionSeen) (fs : Files) (n : ℕ) → Shows s fs → is_some (position (λ m. eqb m.ino n) fs.made) ≡ false
     → is_among n (used_numbers s) ≡ is_some (position (λ m. eqb m.ino n) fs.cleared)

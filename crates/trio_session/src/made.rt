@@ -1,6 +1,6 @@
 //! Files that a session made.
 
-ghost use Rattle.std.specs.Prelude.{◌≡◌, ◌==◌, length};
+ghost use Rattle.std.specs.Prelude.{◌≡◌, ◌==◌, IsSome, IsTrue, length};
 ghost use Rattle.std.specs.List.{position};
 ghost use Rattle.std.specs.Option.{option_map};
 ghost use Rattle.trio_session.specs.inner.Found.{Finds};
@@ -39,6 +39,16 @@ pub(crate) fn made_of(made: &[Made], ino: u32) -> Option<usize>
     ensures { result ≡ position (λ m. m.ino == ino) made.now }
 {
     made.iter().position(|file| file.ino == ino)
+}
+
+/// Whether the file at this place has the number.
+pub(crate) fn is_at(files: &[Made], at: usize, ino: u32) -> bool
+    ensures { IsTrue result → IsSome (position (λ m. m.ino == ino) files.now) }
+{
+    match files.get(at) {
+        Some(file) => file.ino == ino,
+        None => false,
+    }
 }
 
 /// Where the file of this number stands, among those that are written and those that were made, and

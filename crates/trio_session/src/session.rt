@@ -14,7 +14,7 @@ ghost use Rattle.trio_session.specs.Seen.{IsOpenDir, KeepsRoom, MadeFile, block_
 
 use crate::indexes::{IndexedDir, index_on, reserve_index};
 use crate::laid::{FilePlace, Laid};
-use crate::made::{Made, file_among, made_of};
+use crate::made::{Made, file_among, is_at, made_of};
 use crate::stock::{Stock, lower};
 use std::alloc::Global;
 use std::marker::Model;
@@ -301,8 +301,19 @@ impl Session {
         ensures { result ≡ spare_number self.now }
     {
         let mut best = None;
+        // files mostly take the numbers, and leave their slots, in the order in which these were
+        // allotted, so each is first looked for where the next file stands, and not among all
+        let mut made = 0;
+        let mut cleared = 0;
         for allotted in self.stock.inodes() {
-            best = self.lower_spare(best, allotted.no());
+            let ino = allotted.no();
+            if is_at(&self.made, made, ino) {
+                made += 1;
+            } else if is_at(&self.cleared, cleared, ino) {
+                cleared += 1;
+            } else {
+                best = self.lower_spare(best, ino);
+            }
         }
         best
     }

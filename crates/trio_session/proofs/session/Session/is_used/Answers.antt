@@ -1,4 +1,4 @@
-use Rattle.std.proofs.Common.{Bool, eqb, List, ap, subst, sym, ◌∙◌}
+use Rattle.std.proofs.Common.{Bool, eqb, ap, subst, sym, ◌∙◌}
 use Rattle.std.specs.List.{position}
 use Rattle.std.specs.Option.{is_some}
 use Rattle.trio_session.specs.declared.made.Made.{Made}
