@@ -1,5 +1,5 @@
 -- What a bundle has under a number, and the rows that are copied for it.
-use Rattle.std.proofs.Common.{◌≡◌, ℕ, suc, zero, ◌+◌, ◌<◌, ◌≤◌, eqb, Bool, true, false, ◌&&◌, ◌||◌, cond, List, [], ◌∷◌, ◌++◌, length, get_or, map, take, Option, Some, None, Bor, Result, Ok, Err, nat_le, nat_lt, IsTrue, IsSome, IfSome, IfOk, sym, refl, ap, ◌∙◌, subst, append_assoc, inl, inr, arith}
+use Rattle.std.proofs.Common.{◌≡◌, ℕ, suc, zero, ◌+◌, ◌<◌, ◌≤◌, eqb, Bool, true, false, ◌&&◌, ◌||◌, cond, List, [], ◌∷◌, ◌++◌, length, get_or, map, take, Option, Some, None, Bor, nat_le, nat_lt, IsTrue, IsSome, IfSome, sym, refl, ap, ◌∙◌, subst, append_assoc, inl, inr, arith}
 use Rattle.std.specs.Prelude.{is_some, is_none}
 use Rattle.std.specs.List.{find, list_all, list_any}
 use Rattle.std.specs.Option.{option_copied, option_map, option_map_or, option_or}
@@ -29,7 +29,7 @@ use Rattle.trio_tables.specs.Row.{as_row}
 use Rattle.trio_tables.specs.declared.row.Row.{Row as RowData}
 use Rattle.trio_judge.specs.Cases.{held_in, is_free_number, lent_numbers, HasDirectoryParents, IsCase, IsJudgeable}
 use Rattle.trio_judge.specs.declared.numbers.Numbers.{Numbers}
-use Rattle.trio_judge.specs.inner.Maps.{body_lent, is_directory, row_kept, HasRowsOf, Tells}
+use Rattle.trio_judge.specs.inner.Maps.{body_lent, is_directory, map_row, HasRowsOf, Tells}
 
 -- ---- numbers
 
@@ -115,7 +115,7 @@ own_row b rows n (Some r) e all none parents =
     ap (λ x. cond x (Some r) None) (own ∙ last_false (is_written (bundle_in b) n) (is_among n (bundle_in b).holds) (is_written (bundle_in b) r.parent) child)
 
 -- where no directory is written, the bundle's own rows are all that are copied
-pub own_copied : (b : Bundled) (rows : List (Option Row)) (m : BTreeMap ℕ RowData) → list_all (λ f. has_kind f.stands.kind (row_in rows f.stands.ino)) b.writes ≡ true → list_any (λ f. is_directory f.stands.kind) b.writes ≡ false → HasDirectoryParents rows → HasRowsOf rows m (lent_numbers b) → (n : ℕ) → row_kept m n ≡ copied_row (bundle_in b) n (row_in rows n)
+pub own_copied : (b : Bundled) (rows : List (Option Row)) (m : BTreeMap ℕ RowData) → list_all (λ f. has_kind f.stands.kind (row_in rows f.stands.ino)) b.writes ≡ true → list_any (λ f. is_directory f.stands.kind) b.writes ≡ false → HasDirectoryParents rows → HasRowsOf rows m (lent_numbers b) → (n : ℕ) → map_row m n ≡ copied_row (bundle_in b) n (row_in rows n)
 own_copied b rows m all none parents has n =
     has n ∙ own_row b rows n (row_in rows n) refl all none parents
 
@@ -193,7 +193,3 @@ judgeable_case b rows range inodes h = record {
   numbers = free_all rows inodes b.inodes h.numbers;
   apart = h.apart;
 }
-
-pub if_ok : {X E : Type 0} {A B : X → Type 0} (r : Result X E) → ((x : X) → A x → B x) → IfOk r A → IfOk r B
-if_ok (Ok x) f h = f x h
-if_ok (Err e) f h = h

@@ -12,9 +12,8 @@ ghost use Rattle.trio_tables.specs.Row.{as_row};
 ghost use Rattle.trio_judge.specs.Cases.{case_in, IsJudgeable, IsCase};
 ghost use Rattle.trio_judge.specs.inner.Maps.{body_lent};
 
-use crate::numbers::{Numbers, copy_rows, is_copied};
+use crate::numbers::{CopiedRows, Numbers, copy_rows, is_copied};
 use std::alloc::Global;
-use std::collections::BTreeMap;
 use std::marker::Model;
 use trio_layout::CoreRange;
 use trio_lease::Bundle;
@@ -31,7 +30,7 @@ use trio_tables::{Row, Shadow};
 pub struct Case {
     lib: LibNo,
     bundle: Bundle,
-    rows: BTreeMap<u32, Row>,
+    rows: CopiedRows,
     numbers: Numbers,
     creds: Creds,
     range: CoreRange,
@@ -174,7 +173,7 @@ impl Case {
         if ino > self.inodes {
             return None;
         }
-        self.rows.get(&ino).copied()
+        self.rows.row(ino)
     }
 
     /// Whether its rows are just those that a case of its bundle would have of this table. It takes no

@@ -1,6 +1,6 @@
 //! What a bundle has under an inode number, and the rows that are copied for it.
 
-ghost use Rattle.std.specs.Prelude.{◌≡◌, ◌++◌, ◌∷◌, [], ◌||◌, ℕ, List, ◌↔◌, IfOk, IsTrue, OnOk, is_some, map, true};
+ghost use Rattle.std.specs.Prelude.{◌≡◌, ◌≢◌, ◌<◌, ◌++◌, ◌∷◌, [], ◌||◌, ℕ, List, None, ◌↔◌, IfOk, IsTrue, OnOk, is_some, length, map, true};
 ghost use Rattle.std.specs.List.{list_all, list_any};
 ghost use Rattle.std.specs.Option.{option_map, option_or};
 ghost use Rattle.std.specs.Ordering.{nat_cmp};
@@ -14,7 +14,7 @@ ghost use Rattle.trio_layout.specs.Copied.{copied_row};
 ghost use Rattle.trio_layout.specs.Allowed.{has_kind};
 ghost use Rattle.trio_tables.specs.Row.{as_row};
 ghost use Rattle.trio_judge.specs.Cases.{lent_numbers, HasDirectoryParents};
-ghost use Rattle.trio_judge.specs.inner.Maps.{body_lent, is_directory, row_kept, HasCopied, HasRowsOf, Tells};
+ghost use Rattle.trio_judge.specs.inner.Maps.{body_lent, is_directory, row_kept, table_row, HasCopied, HasRowsOf, Tells};
 
 use std::alloc::Global;
 use std::collections::{BTreeMap, BTreeSet};
@@ -107,6 +107,27 @@ fn add_body(bodies: &mut BTreeMap<u32, [u8; 64]>, hold: &HoldLease) -> Result<()
     Ok(())
 }
 
+/// The rows that are copied for a bundle.
+#[derive(Drop)]
+pub(crate) enum CopiedRows {
+    /// Where it writes a directory: by inode number.
+    Table(Vec<Option<Row>>),
+    /// Where it doesn't: those of its own files, however many numbers the image has.
+    Few(BTreeMap<u32, Row>),
+}
+
+impl CopiedRows {
+    /// The row of a number, where it is copied.
+    pub fn row(&self, ino: u32) -> Option<Row>
+        ensures { option_map as_row result ≡ row_kept self.now ino }
+    {
+        match self {
+            CopiedRows::Table(rows) => *rows.get(ino as usize)?,
+            CopiedRows::Few(rows) => rows.get(&ino).copied(),
+        }
+    }
+}
+
 /// The rows of the files of a bundle, and of the recorded children of the directories that it
 /// writes. Only where it writes one does it take a pass over the table.
 pub(crate) fn copy_rows(
@@ -114,16 +135,18 @@ pub(crate) fn copy_rows(
     bundle: &Bundle,
     numbers: &Numbers,
     rows: &Shadow,
-) -> Result<BTreeMap<u32, Row>, NoMemory>
+) -> Result<CopiedRows, NoMemory>
     requires tells { Tells numbers.now bundle.now }
     requires parents { HasDirectoryParents rows.now }
     requires written { list_all (λ f. has_kind f.stands.kind (row_in rows.now f.stands.ino)) bundle.now.writes ≡ true }
     ensures { IfOk result (λ m. (n : ℕ) → row_kept m n ≡ copied_row (bundle_in bundle.now) n (row_in rows.now n)) }
 {
     if writes_directory(bundle.writes()) {
-        rows_in_table(alloc, numbers, rows)
+        let table = rows_in_table(alloc, numbers, rows)?;
+        Ok(CopiedRows::Table(table))
     } else {
-        own_rows(alloc, bundle, rows)
+        let few = own_rows(alloc, bundle, rows)?;
+        Ok(CopiedRows::Few(few))
     }
 }
 
@@ -138,25 +161,39 @@ fn rows_in_table(
     alloc: Global,
     numbers: &Numbers,
     rows: &Shadow,
-) -> Result<BTreeMap<u32, Row>, NoMemory>
-    ensures { (b : Bundled) → Tells numbers.now b → IfOk result (λ m. (n : ℕ) → row_kept m n ≡ copied_row (bundle_in b) n (row_in rows.now n)) }
+) -> Result<Vec<Option<Row>>, NoMemory>
+    ensures { (b : Bundled) → Tells numbers.now b → IfOk result (λ t. (n : ℕ) → table_row t.items n ≡ copied_row (bundle_in b) n (row_in rows.now n)) }
 {
-    let mut copied = BTreeMap::new(alloc);
-    for ino in 0..rows.inodes() + 1 {
-        if let Some(row) = numbers.copied(ino, rows.row(ino)) {
-            copied.insert(ino, row)?;
+    let count = rows.inodes() + 1;
+    let mut table = vec![in alloc; None; count as usize]?;
+    for ino in 0..count {
+        copy_row(&mut table, numbers, rows, ino);
+    }
+    Ok(table)
+}
+
+/// Puts the row of a number in its place, which is empty, where it is copied.
+fn copy_row(table: &mut [Option<Row>], numbers: &Numbers, rows: &Shadow, ino: u32)
+    requires within { ino < length table.old }
+    requires empty { table_row table.old ino ≡ None }
+    ensures here { (b : Bundled) → Tells numbers.now b → table_row table.new ino ≡ copied_row (bundle_in b) ino (row_in rows.now ino) }
+    ensures others { (n : ℕ) → n ≢ ino → table_row table.new n ≡ table_row table.old n }
+    ensures len { length table.new ≡ length table.old }
+{
+    if let Some(row) = rows.row(ino) {
+        if numbers.is_own(ino, row.parent) {
+            table[ino as usize] = Some(row);
         }
     }
-    Ok(copied)
 }
 
 /// Whether just these rows are copied for the bundle from a table. One pass over the table.
-pub(crate) fn is_copied(numbers: &Numbers, copied: &BTreeMap<u32, Row>, rows: &Shadow) -> bool
+pub(crate) fn is_copied(numbers: &Numbers, copied: &CopiedRows, rows: &Shadow) -> bool
     ensures { (b : Bundled) → Tells numbers.now b → IsTrue result ↔ HasCopied b rows.now copied.now }
 {
     for ino in 0..rows.inodes() + 1 {
         let row = numbers.copied(ino, rows.row(ino));
-        if !is_same(copied.get(&ino).copied(), row) {
+        if !is_same(copied.row(ino), row) {
             return false;
         }
     }

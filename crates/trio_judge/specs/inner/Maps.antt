@@ -1,5 +1,5 @@
 -- What the maps of a case tell. Cited by the case's own invariant and private functions alone.
-use Rattle.std.specs.Prelude.{ℕ, ◌≡◌, ◌+◌, ◌==◌, ◌<◌, Bool, true, false, List, Option, None, length, map, if◌then◌else◌}
+use Rattle.std.specs.Prelude.{ℕ, ◌≡◌, ◌+◌, ◌==◌, ◌<◌, Bool, true, false, List, Option, None, length, map, slice_index_or, if◌then◌else◌}
 use Rattle.std.specs.List.{find}
 use Rattle.std.specs.Option.{option_map}
 use Rattle.std.specs.Ordering.{nat_cmp}
@@ -17,13 +17,24 @@ use Rattle.trio_layout.specs.Copied.{copied_row}
 use Rattle.trio_tables.specs.Row.{as_row}
 use Rattle.trio_tables.specs.declared.row.Row.{Row as RowData}
 use Rattle.trio_judge.specs.declared.numbers.Numbers.{Numbers}
+use Rattle.trio_judge.specs.declared.numbers.CopiedRows.{CopiedRows}
+use Rattle.trio_judge.specs.declared.numbers.CopiedRows.TheVariants.{Table, Few}
 
 -- the row of a number, where the map has one
-abbrev pub row_kept : BTreeMap ℕ RowData → ℕ → Option Row
-row_kept rows n = option_map as_row (get nat_cmp rows n)
+abbrev pub map_row : BTreeMap ℕ RowData → ℕ → Option Row
+map_row rows n = option_map as_row (get nat_cmp rows n)
 
--- the rows of a map, by number up to `inodes`
-abbrev pub rows_kept : BTreeMap ℕ RowData → ℕ → List (Option Row)
+-- the row of a number, where the table has one
+abbrev pub table_row : List (Option RowData) → ℕ → Option Row
+table_row rows n = option_map as_row (slice_index_or rows n None)
+
+-- the row of a number, where it is copied
+abbrev pub row_kept : CopiedRows → ℕ → Option Row
+row_kept (Table rows) n = table_row rows.items n
+row_kept (Few rows) n = map_row rows n
+
+-- the copied rows, by number up to `inodes`
+abbrev pub rows_kept : CopiedRows → ℕ → List (Option Row)
 rows_kept rows inodes = tabulated (row_kept rows) (inodes + 1)
 
 -- the body that the first of these holds on a number lent
@@ -43,9 +54,9 @@ pub record Tells (numbers : Numbers) (b : Bundled) : Type 0 where
 
 -- the map has the rows of these numbers, where they are live, and no others
 abbrev pub HasRowsOf : List (Option Row) → BTreeMap ℕ RowData → List ℕ → Type 0
-HasRowsOf rows m numbers = (n : ℕ) → row_kept m n ≡ (if is_among n numbers then row_in rows n else None)
+HasRowsOf rows m numbers = (n : ℕ) → map_row m n ≡ (if is_among n numbers then row_in rows n else None)
 
--- the map has of each number of the table the row that is copied for the bundle
-abbrev pub HasCopied : Bundled → List (Option Row) → BTreeMap ℕ RowData → Type 0
-HasCopied b rows m =
-    (n : ℕ) → n < length rows → row_kept m n ≡ copied_row (bundle_in b) n (row_in rows n)
+-- of each number of the table the row is there that is copied for the bundle
+abbrev pub HasCopied : Bundled → List (Option Row) → CopiedRows → Type 0
+HasCopied b rows copied =
+    (n : ℕ) → n < length rows → row_kept copied n ≡ copied_row (bundle_in b) n (row_in rows n)

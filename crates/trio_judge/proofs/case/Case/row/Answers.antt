@@ -1,7 +1,5 @@
-use Rattle.std.proofs.Common.{◌∙◌, ◌+◌, None, ap, sym, arith}
-use Rattle.std.specs.Option.{option_map}
+use Rattle.std.proofs.Common.{◌∙◌, ◌+◌, None, sym, arith}
 use Rattle.trio_lists.proofs.Tabulated.{tabulated-get, tabulated-past}
-use Rattle.trio_tables.specs.Row.{as_row}
 use Rattle.trio_judge.specs.inner.Maps.{row_kept}
 use Rattle.trio_judge.proofs.case.Case.row.Goals as goal
 
@@ -14,4 +12,4 @@ pub returns : goal.returns
 returns c =
     let k = c.self.inside in
     let here = tabulated-get (row_kept k.rows) (k.inodes + 1) c.args.ino None (omega (arith, c.if-ino-self.false)) in
-    rw (← c.self.view_is) (ap (option_map as_row) (c.copied.ensures ∙ c.get.ensures.value) ∙ sym here)
+    rw (← c.self.view_is) (c.row.ensures ∙ sym here)
