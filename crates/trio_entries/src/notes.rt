@@ -1,7 +1,8 @@
 //! What is noted of each live file.
 
 ghost use Rattle.std.specs.Prelude.{◌≡◌, None, slice_index_or, slice_set};
-ghost use Rattle.trio_state.specs.Listed.{note_told, noted_size, notes_after};
+ghost use Rattle.std.specs.Str.{bytes_eq};
+ghost use Rattle.trio_state.specs.Listed.{note_told, noted_name, noted_size, notes_after};
 
 use std::marker::Model;
 use trio_nodes::{Note, RawFile};
@@ -36,6 +37,17 @@ impl Notes {
         ensures { result ≡ slice_index_or self.now ino None }
     {
         *self.notes.get(ino as usize)?
+    }
+
+    /// Whether these are the bytes of the name that is noted of a number; of one of which nothing is
+    /// noted it is the empty name.
+    pub(crate) fn has_name(&self, ino: u32, name: &[u8]) -> bool
+        ensures { result ≡ bytes_eq (noted_name self.now ino) name.now }
+    {
+        match self.notes.get(ino as usize) {
+            Some(Some(note)) => note.name.as_bytes() == name,
+            _ => name.is_empty(),
+        }
     }
 
     /// The size that is noted of a number, or 0.

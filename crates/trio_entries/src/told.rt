@@ -1,6 +1,6 @@
 //! What a release tells of one file.
 
-ghost use Rattle.std.specs.Prelude.{◌≡◌, ◌<◌, ◌≤◌, ◌==◌, ◌&&◌, None, Some, IfSome, IfNone, drop, false, if◌then◌else◌, is_some, length, not, slice_index_or, true, unwrap_or};
+ghost use Rattle.std.specs.Prelude.{◌≡◌, ◌<◌, ◌≤◌, ◌==◌, ◌&&◌, None, Some, IfSome, IfNone, drop, false, if◌then◌else◌, is_some, length, not, slice_index, slice_index_or, true, unwrap_or};
 ghost use Rattle.std.specs.List.{find};
 ghost use Rattle.std.specs.Option.{option_map};
 ghost use Rattle.std.specs.Str.{bytes_eq};
@@ -12,6 +12,7 @@ ghost use Rattle.trio_layout.specs.Case.{bundle_core};
 ghost use Rattle.trio_layout.specs.Core.{page_of};
 ghost use Rattle.trio_layout.specs.Edges.{is_listed};
 ghost use Rattle.trio_layout.specs.Entries.{slot_bytes};
+ghost use Rattle.trio_layout.specs.Slot.{entry_at};
 ghost use Rattle.trio_layout.specs.Tables.{row_after, placed_row};
 ghost use Rattle.trio_judge.specs.Cases.{case_in};
 ghost use Rattle.trio_judge.specs.Listed.{entry_seen};
@@ -47,12 +48,12 @@ pub(crate) fn told_entry(
     ensures { result ≡ told_entry (whole_case case.now rows.now) listing.now.listing notes.now (entry_seen entry.now) }
 {
     let slot = entry_slot(case, finder, entry)?;
+    if is_untold(case, notes, entry, slot_name(slot)) {
+        return None;
+    }
     let SlotRead::Entry(part) = Slot::read(slot, case.inodes()) else {
         return None;
     };
-    if is_untold(case, notes, entry, &part.name) {
-        return None;
-    }
     let row = row_listed(listing, finder, rows, entry)?;
     let size = entry_size(case, finder, notes, entry.ino, slot);
     Some(told_row(case, entry.ino, false, part.name, size, &row))
@@ -60,10 +61,10 @@ pub(crate) fn told_entry(
 
 /// Whether an entry of this name is of a kept child that is neither written nor held and has its name
 /// still.
-fn is_untold(case: &Case, notes: &Notes, entry: &ListedEntry, name: &Name) -> bool
+fn is_untold(case: &Case, notes: &Notes, entry: &ListedEntry, name: &[u8]) -> bool
     ensures { result ≡ (entry.now.kept && not (is_handed (bundle_in case.now.bundle) entry.now.ino) && bytes_eq (noted_name notes.now entry.now.ino) name.now) }
 {
-    entry.kept && !is_given(case, entry.ino) && has_name(notes, entry.ino, name)
+    entry.kept && !is_given(case, entry.ino) && notes.has_name(entry.ino, name)
 }
 
 /// What a written file tells that no judged directory lists; nothing of one that an entry names.
@@ -137,16 +138,6 @@ pub(crate) fn is_listed(listing: &Listing, ino: u32) -> bool
     listing.dir(ino).is_some()
 }
 
-/// Whether this is the name that is noted of a number.
-fn has_name(notes: &Notes, ino: u32, name: &Name) -> bool
-    ensures { result ≡ bytes_eq (noted_name notes.now ino) name.now }
-{
-    match notes.get(ino) {
-        Some(note) => note.name == *name,
-        None => name.as_bytes().is_empty(),
-    }
-}
-
 /// The bytes of the slot in which an entry stands; `None` exactly where its page is none of the
 /// bundle's.
 fn entry_slot<'a>(case: &'a Case, finder: &Finder, entry: &ListedEntry) -> Option<&'a [u8; 256]>
@@ -166,6 +157,15 @@ fn slot_bytes(bytes: &[u8; 4096], slot: u16) -> &[u8; 256]
 {
     let at = 256 * usize::from(slot);
     bytes[at..at + 256].as_array().unwrap()
+}
+
+/// The bytes of the name of the entry in a slot.
+fn slot_name(slot: &[u8; 256]) -> &[u8]
+    requires { slice_index slot.now 5 ≤ 184 }
+    ensures { result.now ≡ (entry_at slot.now).name }
+{
+    let len = usize::from(slot[5]);
+    &slot[8..8 + len]
 }
 
 /// The size of the file of an entry: as its lease says, where it is new as its slot says, else as it

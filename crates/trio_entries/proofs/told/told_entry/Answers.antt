@@ -4,23 +4,29 @@ use Rattle.trio_lists.specs.Lists.{is_among}
 use Rattle.trio_lease.specs.Views.{bundle_in}
 use Rattle.trio_layout.specs.Slot.{slot_of}
 use Rattle.trio_tables.specs.Row.{as_row}
+use Rattle.trio_judge.specs.Cases.{case_in}
 use Rattle.trio_judge.specs.Listed.{entry_seen}
 use Rattle.trio_state.specs.Listed.{noted_size, size_in, written_size}
 use Rattle.trio_entries.specs.Telling.{whole_case}
-use Rattle.trio_entries.proofs.EntryLemmas.{part_named, tells_none, tells_row}
+use Rattle.trio_entries.proofs.EntryLemmas.{name_within, part_named, tells_none, tells_row, untold_by_slot}
 use Rattle.trio_entries.proofs.told.told_entry.Goals as goal
+
+pub slot_name-requires : goal.slot_name-requires
+slot_name-requires c =
+    name_within (case_in c.args.case.now) (entry_seen c.args.entry.now) c.in_ok-slot.slot.now c.in_ok-slot.ensures.some c.requires.readable
 
 pub returns-then-is_untold : goal.returns-then-is_untold
 returns-then-is_untold c =
     let e = entry_seen c.args.entry.now in
-    let named = part_named (whole_case c.args.case.now c.args.rows.now) e c.in_ok-slot.slot.now c.in-Entry.part c.in_ok-slot.ensures.some (c.in-Entry.ensures.value ∙ ap (λ n. slot_of n c.in_ok-slot.slot.now) c.inodes.ensures) in
-    tells_none (whole_case c.args.case.now c.args.rows.now) c.args.listing.now.listing c.args.notes.now e c.in-Entry.part.name named (sym c.is_untold.ensures ∙ c.if-is_untold.true)
+    let untold = untold_by_slot (whole_case c.args.case.now c.args.rows.now) c.args.notes.now e c.in_ok-slot.slot.now c.slot_name.result.now c.in_ok-slot.ensures.some c.slot_name.ensures in
+    tells_none (whole_case c.args.case.now c.args.rows.now) c.args.listing.now.listing c.args.notes.now e (sym untold ∙ sym c.is_untold.ensures ∙ c.if-is_untold.true)
 
 pub returns : goal.returns
 returns c =
     let e = entry_seen c.args.entry.now in
     let b = bundle_in c.args.case.now.bundle in
+    let untold = untold_by_slot (whole_case c.args.case.now c.args.rows.now) c.args.notes.now e c.in_ok-slot.slot.now c.slot_name.result.now c.in_ok-slot.ensures.some c.slot_name.ensures in
     let named = part_named (whole_case c.args.case.now c.args.rows.now) e c.in_ok-slot.slot.now c.in-Entry.part c.in_ok-slot.ensures.some (c.in-Entry.ensures.value ∙ ap (λ n. slot_of n c.in_ok-slot.slot.now) c.inodes.ensures) in
     let sized = c.entry_size-size.ensures ∙ ap (λ (s : List ℕ). unwrap_or (written_size b e.ino) (cond (is_among e.ino b.numbers) (size_in (drop 192 s)) (noted_size c.args.notes.now e.ino))) c.in_ok-slot.ensures.some in
     ap Some c.told_row.ensures
-    ∙ tells_row (whole_case c.args.case.now c.args.rows.now) c.args.listing.now.listing c.args.notes.now e c.in-Entry.part.name c.entry_size-size.result (Some (as_row c.in_ok-row.row)) named (sym c.is_untold.ensures ∙ c.if-is_untold.false) sized c.in_ok-row.ensures
+    ∙ tells_row (whole_case c.args.case.now c.args.rows.now) c.args.listing.now.listing c.args.notes.now e c.in-Entry.part.name c.entry_size-size.result (Some (as_row c.in_ok-row.row)) named (sym untold ∙ sym c.is_untold.ensures ∙ c.if-is_untold.false) sized c.in_ok-row.ensures
