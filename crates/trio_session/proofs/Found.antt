@@ -9,6 +9,7 @@ use Rattle.trio_session.specs.Seen.{lower, lowest_from}
 use Rattle.std.specs.Prelude.{map, slice_get, slice_set, not, if◌then◌else◌}
 use Rattle.std.proofs.lemmas.Bool.{eqb-true, eq-eqb}
 use Rattle.trio_lists.specs.Lists.{In, is_among}
+use Rattle.trio_session.proofs.Lists.{slice_get-In}
 use Rattle.trio_lists.proofs.Filters.{find-In, In-find}
 use Rattle.trio_lists.proofs.Members.{In-is_among, In-map, is_among-In, map-In}
 use Rattle.std.specs.List.{filter, find, position, position_or_len}
@@ -105,6 +106,15 @@ is_some-position {X} key xs n = by (position (λ (x : X). eqb (key x) n) xs) ref
     by (Some i) e =
         let x = position-at p xs i e in
         sym (In-is_among n (map key xs) (subst (λ m. In m (map key xs)) (eqb-true (key x.0) n x.1.2) (In-map key x.0 xs x.1.1)))
+
+-- a number that stands at a place is found
+pub is_some-at : {X : Type 0} (key : X → ℕ) (xs : List X) (i n : ℕ) → option_map_or (λ x. eqb (key x) n) (slice_get xs i) false ≡ true → is_some (position (λ x. eqb (key x) n) xs) ≡ true
+is_some-at {X} key xs i n = by (slice_get xs i) refl
+  where
+    by : (o : Option X) → slice_get xs i ≡ o → option_map_or (λ x. eqb (key x) n) o false ≡ true → is_some (position (λ x. eqb (key x) n) xs) ≡ true
+    by None e h = absurd cc
+    by (Some x) e h =
+        is_some-position key xs n ∙ In-is_among n (map key xs) (subst (λ m. In m (map key xs)) (eqb-true (key x) n h) (In-map key x xs (slice_get-In xs i x e)))
 
 -- an element that was taken at the place that was found
 pub slice_get-found : {X : Type 0} (p : X → Bool) (xs : List X) (i : ℕ) (x : X) → position p xs ≡ Some i → x ≡ get_or xs i x → slice_get xs i ≡ Some x

@@ -1,8 +1,8 @@
 //! Files that a session made.
 
-ghost use Rattle.std.specs.Prelude.{◌≡◌, ◌==◌, IsSome, IsTrue, length};
+ghost use Rattle.std.specs.Prelude.{◌≡◌, ◌==◌, false, length, slice_get};
 ghost use Rattle.std.specs.List.{position};
-ghost use Rattle.std.specs.Option.{option_map};
+ghost use Rattle.std.specs.Option.{option_map, option_map_or};
 ghost use Rattle.trio_session.specs.inner.Found.{Finds};
 ghost use Rattle.trio_session.specs.declared.laid.FilePlace.TheVariants.{InSlot};
 
@@ -43,7 +43,7 @@ pub(crate) fn made_of(made: &[Made], ino: u32) -> Option<usize>
 
 /// Whether the file at this place has the number.
 pub(crate) fn is_at(files: &[Made], at: usize, ino: u32) -> bool
-    ensures { IsTrue result → IsSome (position (λ m. m.ino == ino) files.now) }
+    ensures { result ≡ option_map_or (λ m. m.ino == ino) (slice_get files.now at) false }
 {
     match files.get(at) {
         Some(file) => file.ino == ino,

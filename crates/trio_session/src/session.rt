@@ -301,7 +301,7 @@ impl Session {
         ensures { result ≡ spare_number self.now }
     {
         let mut best = None;
-        // files mostly take the numbers, and leave their slots, in the order in which these were
+        // files mostly take the numbers, and leave their slots, in the order in which the numbers were
         // allotted, so each is first looked for where the next file stands, and not among all
         let mut made = 0;
         let mut cleared = 0;

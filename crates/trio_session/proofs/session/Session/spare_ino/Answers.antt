@@ -1,14 +1,14 @@
-use Rattle.std.proofs.Common.{◌≡◌, ◌<◌, ◌≤◌, ◌+◌, Bool, List, ap, arith, eqb, get_or, length, subst, sym, true, ◌∙◌}
+use Rattle.std.proofs.Common.{◌≡◌, ◌<◌, ◌≤◌, ◌+◌, Bool, List, ap, arith, false, ℕ, eqb, get_or, length, subst, sym, true, ◌∙◌}
 use Rattle.std.specs.List.{position}
-use Rattle.std.specs.Option.{is_some}
-use Rattle.std.specs.Prelude.{if◌then◌else◌}
+use Rattle.std.specs.Option.{is_some, option_map_or}
+use Rattle.std.specs.Prelude.{if◌then◌else◌, slice_get}
 use Rattle.std.proofs.lemmas.List.{length-map}
 use Rattle.trio_lease.specs.declared.parts.InoParts.{InoParts}
 use Rattle.trio_lists.specs.Lists.{is_among}
 use Rattle.trio_desk.specs.Out.{ino_numbers}
 use Rattle.trio_session.specs.declared.made.Made.{Made}
 use Rattle.trio_session.specs.Seen.{SessionSeen, lower, used_numbers}
-use Rattle.trio_session.proofs.Found.{ino_number, spare_step}
+use Rattle.trio_session.proofs.Found.{ino_number, is_some-at, spare_step}
 use Rattle.trio_session.proofs.Insides.{files_in, view_shows}
 use Rattle.trio_session.proofs.Seeing.{Shows, used-cleared, used-made}
 use Rattle.trio_session.proofs.session.Session.spare_ino.Goals as goal
@@ -30,12 +30,13 @@ loop-allotted-preserved c =
     let number : n ≡ get_or (ino_numbers all) i 0 =
     c.no-ino.ensures ∙ ino_number c.inodes-allotted-items.result.now i c.allotted-item.result lt c.allotted-item.is ∙ ap (λ xs. get_or (ino_numbers xs) i 0) items in
     let within : i < length (ino_numbers all) = rw length-map (subst (λ (xs : List InoParts). i < length xs) items lt) in
+    let found : (at : ℕ) (ms : List Made) → option_map_or p (slice_get ms at) false ≡ true → is_some (position p ms) ≡ true = λ at ms. is_some-at (λ (m : Made). m.ino) ms at n in
     let of_used : is_among n used ≡ true → best ≡ (if is_among n used then best else lower best n) = λ e. sym (ap (λ b. if b then best else lower best n) e) in
     let step : c.if-is_at.best ≡ (if is_among n used then best else lower best n) =
     elim c.if-is_at.branch [
-      | then-is_at w ↦ w.best-is ∙ of_used (used-made c.args.self.now fs n shows (subst (λ (ms : List Made). is_some (position p ms) ≡ true) c.deref.ensures.value (c.is_at.ensures w.if-is_at.true)))
+      | then-is_at w ↦ w.best-is ∙ of_used (used-made c.args.self.now fs n shows (subst (λ (ms : List Made). is_some (position p ms) ≡ true) c.deref.ensures.value (found c.loop-allotted.made _ (sym c.is_at.ensures ∙ w.if-is_at.true))))
       | else-is_at+then-is_at-2 w ↦ w.best-is
-          ∙ of_used (used-cleared c.args.self.now fs n shows (subst (λ (ms : List Made). is_some (position p ms) ≡ true) w.deref-else-is_at.ensures.value (w.is_at-else-is_at.ensures w.if-is_at-2.true)))
+          ∙ of_used (used-cleared c.args.self.now fs n shows (subst (λ (ms : List Made). is_some (position p ms) ≡ true) w.deref-else-is_at.ensures.value (found c.loop-allotted.cleared _ (sym w.is_at-else-is_at.ensures ∙ w.if-is_at-2.true))))
       | else-is_at+else-is_at-2 w ↦ w.best-is ∙ w.lower_spare-best.ensures
     ] in
     let steps : c.if-is_at.made + c.if-is_at.cleared ≤ i + 1 =
