@@ -21,6 +21,3 @@ pub use script::{FILES_LIMIT, directories_script, files_script};
 pub use summary::{Tally, push_call_answers, put_summary};
 /// Want of memory.
 pub use trio_page::NoMemory;
-
-#[cfg(test)]
-mod tests;

@@ -1,9 +1,10 @@
-ghost use Rattle.std.specs.Prelude.{◌≡◌, ◌≤◌, IfOk, IfSome, IsOk, IsTrue, length};
+ghost use Rattle.std.specs.Prelude.{◌≡◌, IfSome, IsOk, IsTrue, length};
 ghost use Rattle.std.specs.Result.{ForOk};
 ghost use Rattle.trio_lists.specs.Marked.{all_below};
 ghost use Rattle.trio_rights.specs.Sheets.{sheet_numbers};
 ghost use Rattle.trio_checkpoint.specs.Covered.{are_there, chain_in, core_of, covered_numbers, covered_pages};
 
+use crate::homes::{home_with, put_both};
 use std::alloc::Global;
 use trio_checkpoint::Checkpoint;
 use trio_layout::{Body, CoreRange, IndexPage};
@@ -31,15 +32,15 @@ fn page_of(alloc: Global, byte: u8) -> Result<Page, NoMemory> {
     Ok(page)
 }
 
+fn index_page(alloc: Global) -> Result<Page, NoMemory> {
+    let mut page = Page::zero(alloc)?;
+    page.put_u64(0, 4);
+    Ok(page)
+}
+
 // page 3 lists page 4, whose bytes are all 9
-fn home_of(alloc: Global) -> Result<Home, NoMemory>
-    ensures { IfOk result (λ h. length h.pages ≡ 6) }
-{
-    let mut index = Page::zero(alloc)?;
-    index.put_u64(0, 4);
-    let block = page_of(alloc, 9)?;
-    let pages = vec![in alloc; None, None, None, Some(index), Some(block), None]?;
-    Ok(Home::of(pages))
+fn home_of(alloc: Global) -> Option<Home> {
+    home_with(alloc, index_page(alloc).ok()?, page_of(alloc, 9).ok()?)
 }
 
 // whether this is the body of a file of one block that is at home
@@ -96,15 +97,11 @@ fn has(home: &mut Home, numbers: &[(u32, usize, u64)]) -> bool {
 }
 
 // the holder's pages, where the file's stood
-fn overwrite(alloc: Global, home: &mut Home) -> Option<()>
+fn overwrite(alloc: Global, home: &mut Home) -> Option<bool>
     ensures { length home.new.pages ≡ length home.old.pages }
 {
-    if home.len() < 5 {
-        return None;
-    }
-    home.put(PageNo(3), page_of(alloc, 1).ok()?);
-    home.put(PageNo(4), page_of(alloc, 1).ok()?);
-    Some(())
+    let (third, fourth) = (page_of(alloc, 1).ok()?, page_of(alloc, 1).ok()?);
+    Some(put_both(home, third, fourth))
 }
 
 // Whether it covers the file's index page and block, with this body in the block.
@@ -131,7 +128,7 @@ const RETURNED: &[(u32, usize, u64)] = &[
 ];
 
 fn directory_returns(alloc: Global) -> Option<bool> {
-    let mut home = home_of(alloc).ok()?;
+    let mut home = home_of(alloc)?;
     let mut checkpoint = taken(alloc, &mut home, Kind::Directory)?;
     let others = (
         checkpoint.body_at(PageNo(3), 2),
@@ -143,9 +140,9 @@ fn directory_returns(alloc: Global) -> Option<bool> {
     }
     checkpoint.put_body(PageNo(4), 2, &[5; 64]);
     let is_put = has_body(&checkpoint);
-    overwrite(alloc, &mut home)?;
+    let is_over = overwrite(alloc, &mut home)?;
     let is_back = checkpoint.restored(&mut home) == body_bytes();
-    Some(is_taken && is_put && is_back && has(&mut home, RETURNED))
+    Some(is_taken && is_put && is_over && is_back && has(&mut home, RETURNED))
 }
 
 #[test]
@@ -154,12 +151,17 @@ fn directory_returns_with_the_body_put_meanwhile(rt: HostRuntime) {
 }
 
 fn regular_file_returns(alloc: Global) -> Option<bool> {
-    let mut home = home_of(alloc).ok()?;
+    let mut home = home_of(alloc)?;
     let checkpoint = taken(alloc, &mut home, Kind::Regular)?;
     let is_taken = covers(&checkpoint, None);
-    overwrite(alloc, &mut home)?;
+    let is_over = overwrite(alloc, &mut home)?;
     let is_back = checkpoint.restored(&mut home) == body_bytes();
-    Some(is_taken && is_back && has(&mut home, &[(3, 0, 4), (4, 0, 0x0101_0101_0101_0101)]))
+    Some(
+        is_taken
+            && is_over
+            && is_back
+            && has(&mut home, &[(3, 0, 4), (4, 0, 0x0101_0101_0101_0101)]),
+    )
 }
 
 #[test]

@@ -3,6 +3,7 @@
 //! Page 0 is the superblock, page 1 has the shadow rows, page 2 the owner rows, and the core begins at
 //! page 3.
 
+use crate::homes::home_with;
 use std::alloc::Global;
 use trio_layout::{Body, CoreRange, Superblock};
 use trio_page::{Home, Page, PageNo, Reads};
@@ -305,17 +306,26 @@ fn a_large_tree(rt: HostRuntime) {
     assert!(rt; large_counts(rt.alloc()) == Some((15301, 6197, 1858)));
 }
 
+/// 511 blocks and the next index page.
+fn first_index(alloc: Global) -> Option<Page> {
+    let mut page = Page::zero(alloc).ok()?;
+    for i in 0..511usize {
+        page.put_u64(8 * i, 20);
+    }
+    page.put_u64(4088, 4);
+    Some(page)
+}
+
+/// One block.
+fn last_index(alloc: Global) -> Option<Page> {
+    let mut page = Page::zero(alloc).ok()?;
+    page.put_u64(0, 21);
+    Some(page)
+}
+
 /// 511 blocks named by page 3, and one more by page 4.
 fn long_chain(alloc: Global) -> Option<Home> {
-    let mut first = Page::zero(alloc).ok()?;
-    for i in 0..511usize {
-        first.put_u64(8 * i, 20);
-    }
-    first.put_u64(4088, 4);
-    let mut last = Page::zero(alloc).ok()?;
-    last.put_u64(0, 21);
-    let pages = vec![in alloc; None, None, None, Some(first), Some(last)].ok()?;
-    Some(Home::of(pages))
+    home_with(alloc, first_index(alloc)?, last_index(alloc)?)
 }
 
 /// The body of a file of as many blocks and a byte.

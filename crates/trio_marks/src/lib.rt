@@ -12,9 +12,6 @@ use std::marker::Model;
 /// Want of memory: the answer of a call that asks for memory and finds none.
 pub use std::alloc::AllocError as NoMemory;
 
-#[cfg(test)]
-mod tests;
-
 /// Marks over the numbers below a count that is fixed when they are made.
 ///
 /// Each number keeps the round in which it was marked last, so that [`clear`](Self::clear) only

@@ -10,8 +10,6 @@
 
 mod set;
 mod sorted;
-#[cfg(test)]
-mod tests;
 mod tree;
 
 pub use set::NameSet;

@@ -19,8 +19,6 @@ mod note;
 mod raw;
 mod shared;
 mod spot;
-#[cfg(test)]
-mod tests;
 
 pub use answers::{AllotFault, GrantFault, ModeFault, ReleaseAnswer, ReleaseFault};
 pub use call::{Answer, Call, Done, Reply};

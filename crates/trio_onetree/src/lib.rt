@@ -16,8 +16,6 @@ pub mod laws;
 mod look;
 mod path;
 mod reach;
-#[cfg(test)]
-mod tests;
 mod walk;
 
 use fault::Fault;

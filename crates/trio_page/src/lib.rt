@@ -25,6 +25,3 @@ pub use home::{Home, Reads};
 pub use page::{PAGE_SIZE, Page, PageNo};
 /// Want of memory: the answer of every call of trio that asks for memory and finds none.
 pub use std::alloc::AllocError as NoMemory;
-
-#[cfg(test)]
-mod tests;

@@ -27,6 +27,3 @@ pub use report::{Counts, EndAnswer, LibraryKind, put_counts, put_end, put_headin
 pub use tree::tree_lines;
 /// Want of memory.
 pub use trio_page::NoMemory;
-
-#[cfg(test)]
-mod tests;

@@ -8,6 +8,3 @@ mod rights;
 
 pub use kind::Kind;
 pub use rights::{Creds, LibNo, Mode, Need, class_bits, may};
-
-#[cfg(test)]
-mod tests;

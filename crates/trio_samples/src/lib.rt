@@ -14,6 +14,3 @@ mod sample;
 
 pub use file::{SampleFile, directory, regular};
 pub use sample::{Sample, put};
-
-#[cfg(test)]
-mod tests;

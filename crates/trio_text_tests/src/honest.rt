@@ -72,10 +72,10 @@ fn put_call(alloc: Global, out: &mut Vec<u8>, call: &Call) -> Option<()> {
     }
 }
 
-/// A line as its number and what it says.
+/// A line of its own, of the number and what it says.
 fn put_line(alloc: Global, out: &mut Vec<u8>, line: &ScriptLine<HonestLine>) -> Option<()> {
     let number = line.number;
-    let text = format!(in alloc; "{number} ").ok()?;
+    let text = format!(in alloc; "\n{number} ").ok()?;
     out.extend_from_slice(text.as_bytes()).ok()?;
     match &line.line {
         HonestLine::Call(call) => put_call(alloc, out, call),
@@ -83,22 +83,27 @@ fn put_line(alloc: Global, out: &mut Vec<u8>, line: &ScriptLine<HonestLine>) -> 
     }
 }
 
-/// What an honest library's lines say, one after another.
-fn shown(alloc: Global, library: &ScriptLib) -> Option<Vec<u8>> {
+/// Puts what an honest library's lines say, one after another; `None` of another library.
+pub fn put_lines(alloc: Global, out: &mut Vec<u8>, library: &ScriptLib) -> Option<()> {
     let Lines::Honest(lines) = &library.lines else {
         return None;
     };
-    let mut out = Vec::new(alloc);
     for line in lines.as_slice() {
-        put_line(alloc, &mut out, line)?;
+        put_line(alloc, out, line)?;
     }
+    Some(())
+}
+
+fn shown(alloc: Global, library: &ScriptLib) -> Option<Vec<u8>> {
+    let mut out = Vec::new(alloc);
+    put_lines(alloc, &mut out, library)?;
     Some(out)
 }
 
 /// Whether the second line says just this.
 fn says(alloc: Global, text: &[u8], wanted: &[u8]) -> Option<bool> {
     let libs = second_line(alloc, text)?.ok()?;
-    let mut line = b"2 ".to_vec(alloc).ok()?;
+    let mut line = b"\n2 ".to_vec(alloc).ok()?;
     line.extend_from_slice(wanted).ok()?;
     Some(libs.len() == 1 && shown(alloc, &libs[0])?.as_slice() == line.as_slice())
 }
@@ -291,7 +296,7 @@ fn reads_mixed_libs(alloc: Global) -> Option<bool> {
     Some(
         libs.len() == 3
             && libs[0].creds == Creds { uid: 1001, gid: 5 }
-            && shown(alloc, &libs[0])?.as_slice() == b"3 stat ()5 settle".as_slice()
+            && shown(alloc, &libs[0])?.as_slice() == b"\n3 stat ()\n5 settle".as_slice()
             && shown(alloc, &libs[1]).is_none()
             && libs[2].creds == Creds { uid: 1, gid: 2 }
             && shown(alloc, &libs[2])?.is_empty(),

@@ -61,44 +61,57 @@ const PIECES: &[(u64, usize, &[u8])] = &[
     (0, 0, b""),
 ];
 
-#[test]
-fn reads_in_pieces(rt: HostRuntime) -> Result<(), Fail> {
-    let mut files = mem_files(rt.alloc(), b"hello world", &[])?;
+fn read_pieces<R: Abort>(rt: &R, files: &mut MemFiles) {
     for (at, most, piece) in PIECES {
         assert!(rt;
-            reads(&rt, &mut files, FULL, (*at, *most), Some(piece)),
+            reads(rt, files, FULL, (*at, *most), Some(piece)),
             "at {at}"
         );
     }
-    assert!(rt; reads(&rt, &mut files, BARE, (0, 4), None));
+    assert!(rt; reads(rt, files, BARE, (0, 4), None));
     assert!(rt; files.read_faults(BARE) == 1 && files.read_faults(FULL) == 0);
     assert!(rt; files.write_faults(BARE) == 0 && !files.serves("other"));
+}
+
+#[test]
+fn reads_in_pieces(rt: HostRuntime) -> Result<(), Fail> {
+    let mut files = mem_files(rt.alloc(), b"hello world", &[])?;
+    read_pieces(&rt, &mut files);
     Ok(())
+}
+
+// The first, the third and the fifth call fail.
+fn call_as_planned<R: Abort>(rt: &R, files: &mut MemFiles) {
+    assert!(rt; reads(rt, files, FULL, (0, 8), None));
+    assert!(rt; reads(rt, files, FULL, (0, 8), Some(b"old")));
+    assert!(rt; !replace(rt, files, BARE, b"newer"));
+    assert!(rt; files.content(BARE) == Some(b"ne".as_slice()));
+    assert!(rt; replace(rt, files, BARE, b"newer"));
+    assert!(rt; files.content(BARE) == Some(b"newer".as_slice()));
+    assert!(rt; !replace(rt, files, BARE, b"newest"));
+    assert!(rt; files.write_faults(BARE) == 2 && files.write_faults(FULL) == 0);
+    assert!(rt; files.read_faults(FULL) == 1);
+    assert!(rt; files.content(FULL) == Some(b"old".as_slice()));
 }
 
 #[test]
 fn calls_that_fail(rt: HostRuntime) -> Result<(), Fail> {
     let mut files = mem_files(rt.alloc(), b"old", &[1, 3, 5])?;
-    assert!(rt; reads(&rt, &mut files, FULL, (0, 8), None));
-    assert!(rt; reads(&rt, &mut files, FULL, (0, 8), Some(b"old")));
-    assert!(rt; !replace(&rt, &mut files, BARE, b"newer"));
-    assert!(rt; files.content(BARE) == Some(b"ne".as_slice()));
-    assert!(rt; replace(&rt, &mut files, BARE, b"newer"));
-    assert!(rt; files.content(BARE) == Some(b"newer".as_slice()));
-    assert!(rt; !replace(&rt, &mut files, BARE, b"newest"));
-    assert!(rt; files.write_faults(BARE) == 2 && files.write_faults(FULL) == 0);
-    assert!(rt; files.read_faults(FULL) == 1);
-    assert!(rt; files.content(FULL) == Some(b"old".as_slice()));
+    call_as_planned(&rt, &mut files);
     Ok(())
+}
+
+fn replace_and_read<R: Abort>(rt: &R, files: &mut MemFiles) {
+    assert!(rt; replace(rt, files, FULL, b"new"));
+    assert!(rt; reads(rt, files, FULL, (0, 8), Some(b"new")));
+    assert!(rt; replace(rt, files, FULL, b""));
+    assert!(rt; reads(rt, files, FULL, (0, 8), Some(b"")));
 }
 
 #[test]
 fn replaced_is_read_back(rt: HostRuntime) -> Result<(), Fail> {
     let mut files = mem_files(rt.alloc(), b"a long old content", &[])?;
-    assert!(rt; replace(&rt, &mut files, FULL, b"new"));
-    assert!(rt; reads(&rt, &mut files, FULL, (0, 8), Some(b"new")));
-    assert!(rt; replace(&rt, &mut files, FULL, b""));
-    assert!(rt; reads(&rt, &mut files, FULL, (0, 8), Some(b"")));
+    replace_and_read(&rt, &mut files);
     Ok(())
 }
 
@@ -125,24 +138,26 @@ fn long_content(alloc: Global) -> Result<Vec<u8>, NoMemory> {
     Ok(content)
 }
 
+// Nine thousand bytes are no more than the limit, or they are.
+fn read_long<R: Abort + AllocGlobal>(rt: &R, files: &mut MemFiles, content: &[u8]) {
+    for limit in [9000, 9001, 20_000] {
+        assert!(rt; gives(rt, files, FULL, limit, Ok(content)), "{limit}");
+    }
+    for limit in [0, 1, 4096, 8999] {
+        assert!(rt;
+            gives(rt, files, FULL, limit, Err(ReadWholeFault::TooLong)),
+            "{limit}"
+        );
+    }
+    assert!(rt; gives(rt, files, BARE, 9000, Err(ReadWholeFault::ReadFault)));
+    assert!(rt; files.read_faults(BARE) == 1);
+}
+
 #[test]
 fn whole_files(rt: HostRuntime) -> Result<(), Fail> {
     let content = long_content(rt.alloc())?;
     let mut files = mem_files(rt.alloc(), &content, &[])?;
-    for limit in [9000, 9001, 20_000] {
-        assert!(rt;
-            gives(&rt, &mut files, FULL, limit, Ok(&content)),
-            "{limit}"
-        );
-    }
-    for limit in [0, 1, 4096, 8999] {
-        assert!(rt;
-            gives(&rt, &mut files, FULL, limit, Err(ReadWholeFault::TooLong)),
-            "{limit}"
-        );
-    }
-    assert!(rt; gives(&rt, &mut files, BARE, 9000, Err(ReadWholeFault::ReadFault)));
-    assert!(rt; files.read_faults(BARE) == 1);
+    read_long(&rt, &mut files, &content);
     Ok(())
 }
 
@@ -151,27 +166,34 @@ fn a_read_of_a_whole_file_fails(rt: HostRuntime) -> Result<(), Fail> {
     let content = long_content(rt.alloc())?;
     let mut files = mem_files(rt.alloc(), &content, &[3])?;
     assert!(rt; gives(&rt, &mut files, FULL, 9000, Err(ReadWholeFault::ReadFault)));
+    Ok(())
+}
+
+#[test]
+fn an_empty_file_is_read_whole(rt: HostRuntime) -> Result<(), Fail> {
     let mut files = mem_files(rt.alloc(), b"", &[])?;
     assert!(rt; gives(&rt, &mut files, FULL, 0, Ok(b"")));
     Ok(())
 }
 
-#[test]
-fn sink_in_memory(rt: HostRuntime) -> Result<(), Fail> {
-    let mut out = MemSink::new(rt.alloc(), FailingCalls::new(vec![in rt.alloc(); 2; 1]?));
+// The second call fails.
+fn put_as_planned<R: Abort>(rt: &R, out: &mut MemSink) {
     assert!(rt; out.put(b"one ").is_ok());
     assert!(rt; out.put(b"second").is_err());
     assert!(rt; out.faults() == 1);
     assert!(rt; out.put(b"!").is_ok());
     assert!(rt; out.bytes() == b"one sec!".as_slice());
     assert!(rt; out.faults() == 1);
-    Ok(())
 }
 
 #[test]
-fn sure_forms(rt: HostRuntime) -> Result<(), Fail> {
-    let mut files = SureFiles::new(rt.alloc(), names_of(rt.alloc(), &[FULL, BARE])?)?;
-    files.hold(FULL, b"abc".to_vec(rt.alloc())?);
+fn sink_in_memory(rt: HostRuntime) -> Result<(), Fail> {
+    let mut out = MemSink::new(rt.alloc(), FailingCalls::new(vec![in rt.alloc(); 2; 1]?));
+    put_as_planned(&rt, &mut out);
+    Ok(())
+}
+
+fn use_sure_files<R: Abort>(rt: &R, files: &mut SureFiles) {
     let mut buf = [7u8; 4];
     assert!(rt; files.serves(FULL) && files.serves(BARE) && !files.serves("other"));
     assert!(rt; files.read_at(BARE, 0, &mut buf) == Ok(0));
@@ -181,10 +203,20 @@ fn sure_forms(rt: HostRuntime) -> Result<(), Fail> {
     assert!(rt; files.content(BARE) == Some(b"written".as_slice()));
     assert!(rt; files.read_at(BARE, 3, &mut buf) == Ok(4));
     assert!(rt; buf == *b"tten");
-    let mut out = SureSink::new(rt.alloc());
+}
+
+fn use_sure_sink<R: Abort>(rt: &R, out: &mut SureSink) {
     assert!(rt; out.put(b"line\n") == Ok(()));
     assert!(rt; out.put(b"two\n") == Ok(()));
     assert!(rt; out.bytes() == b"line\ntwo\n".as_slice());
+}
+
+#[test]
+fn sure_forms(rt: HostRuntime) -> Result<(), Fail> {
+    let mut files = SureFiles::new(rt.alloc(), names_of(rt.alloc(), &[FULL, BARE])?)?;
+    files.hold(FULL, b"abc".to_vec(rt.alloc())?);
+    use_sure_files(&rt, &mut files);
+    use_sure_sink(&rt, &mut SureSink::new(rt.alloc()));
     Ok(())
 }
 
@@ -205,9 +237,8 @@ const REAL_READS: &[(&str, u64, &[u8])] = &[
     (ONE, 0, b"abc"),
 ];
 
-#[test]
-fn real_files(rt: HostRuntime) -> Result<(), Fail> {
-    let mut files = RealFiles::new(&rt, rt.alloc(), names_of(rt.alloc(), &[ONE, TWO])?)?;
+// Writes both files, reads them by turns, and writes the one anew.
+fn use_real_files(rt: &HostRuntime, files: &mut RealFiles<'_, HostRuntime>) {
     let mut buf = [0u8; 3];
     assert!(rt; files.serves(ONE) && files.serves(TWO));
     assert!(rt; files.replace(ONE, b"abcdefg") == Ok(()));
@@ -223,6 +254,12 @@ fn real_files(rt: HostRuntime) -> Result<(), Fail> {
     assert!(rt; files.serves(ONE));
     assert!(rt; files.replace(ONE, b"xyzw") == Ok(()));
     assert!(rt; files.read_at(ONE, 3, &mut buf) == Ok(1) && buf[0] == b'w');
+}
+
+#[test]
+fn real_files(rt: HostRuntime) -> Result<(), Fail> {
+    let mut files = RealFiles::new(&rt, rt.alloc(), names_of(rt.alloc(), &[ONE, TWO])?)?;
+    use_real_files(&rt, &mut files);
     Ok(())
 }
 
@@ -242,9 +279,7 @@ const WRITES: &[(&str, &[u8], bool)] = &[
     ("/dev/full", b"", true),
 ];
 
-#[test]
-fn real_forms(rt: HostRuntime) -> Result<(), Fail> {
-    let mut files = RealFiles::new(&rt, rt.alloc(), names_of(rt.alloc(), &DEVICES)?)?;
+fn use_devices(rt: &HostRuntime, files: &mut RealFiles<'_, HostRuntime>) {
     let mut buf = [7u8; 4];
     for (name, answer) in READS {
         assert!(rt; files.serves(name));
@@ -255,6 +290,12 @@ fn real_forms(rt: HostRuntime) -> Result<(), Fail> {
         assert!(rt; files.serves(name));
         assert!(rt; files.replace(name, bytes).is_ok() == *is_ok, "{name}");
     }
+}
+
+#[test]
+fn real_forms(rt: HostRuntime) -> Result<(), Fail> {
+    let mut files = RealFiles::new(&rt, rt.alloc(), names_of(rt.alloc(), &DEVICES)?)?;
+    use_devices(&rt, &mut files);
     assert!(rt; StdoutSink::new(&rt).put(b"") == Ok(()));
     Ok(())
 }
@@ -264,26 +305,31 @@ fn arrives<G: Gate + Sync>(gate: &G, lib: u32, line: u32) {
     gate.arrive(LibNo(lib), line);
 }
 
-#[test]
-fn gates(rt: HostRuntime) -> Result<(), Fail> {
-    arrives(&OpenGate, 1, 0);
-    let held = GateStop {
-        lib: LibNo(1),
-        line: 3,
-    };
-    let awaited = GateStop {
-        lib: LibNo(2),
-        line: 0,
-    };
-    let gate = HoldGate::new(held, awaited, 10);
-    arrives(&gate, 1, 3);
-    arrives(&gate, 2, 3);
-    arrives(&gate, 1, 0);
-    arrives(&gate, 1, 3);
+const HELD: GateStop = GateStop {
+    lib: LibNo(1),
+    line: 3,
+};
+
+const AWAITED: GateStop = GateStop {
+    lib: LibNo(2),
+    line: 0,
+};
+
+// The gate has met once the held library comes behind the awaited one.
+fn meet<R: Abort>(rt: &R, gate: &HoldGate) {
+    arrives(gate, 1, 3);
+    arrives(gate, 2, 3);
+    arrives(gate, 1, 0);
+    arrives(gate, 1, 3);
     assert!(rt; !gate.has_met());
-    arrives(&gate, 2, 0);
+    arrives(gate, 2, 0);
     assert!(rt; !gate.has_met());
-    arrives(&gate, 1, 3);
+    arrives(gate, 1, 3);
     assert!(rt; gate.has_met());
-    Ok(())
+}
+
+#[test]
+fn gates(rt: HostRuntime) {
+    arrives(&OpenGate, 1, 0);
+    meet(&rt, &HoldGate::new(HELD, AWAITED, 10));
 }

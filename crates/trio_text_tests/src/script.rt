@@ -3,12 +3,16 @@ use trio_nodes::{GrantKind, List, Spot};
 use trio_rights::Creds;
 use trio_script::{Lines, RawLine, ScriptFault, ScriptLib, ScriptLine, read_script};
 
-/// Whether a raw library of a script has this user, this group and these lines.
-fn is_raw(library: &ScriptLib, uid: u32, gid: u32, lines: &[ScriptLine<RawLine>]) -> bool {
+/// The lines of a raw library that acts for this user and this group.
+fn raw_lines(library: &ScriptLib, uid: u32, gid: u32) -> Option<&[ScriptLine<RawLine>]> {
     match &library.lines {
-        Lines::Raw(read) => library.creds == Creds { uid, gid } && read.as_slice() == lines,
-        Lines::Honest(_) => false,
+        Lines::Raw(lines) if library.creds == Creds { uid, gid } => Some(lines.as_slice()),
+        _ => None,
     }
+}
+
+fn is_line(read: &ScriptLine<RawLine>, number: u32, line: &RawLine) -> bool {
+    read.number == number && read.line == *line
 }
 
 /// What a script says whose first line is the library's, and these bytes the second.
@@ -18,11 +22,20 @@ fn second_line(alloc: Global, line: &[u8]) -> Option<Result<Vec<ScriptLib>, Scri
     Some(read_script(alloc, &script))
 }
 
+/// Whether the one library has the second line alone, which says this.
+fn has_line(libs: &[ScriptLib], line: &RawLine) -> Option<bool> {
+    let [library] = libs else {
+        return None;
+    };
+    match raw_lines(library, 0, 0)? {
+        [read] => Some(is_line(read, 2, line)),
+        _ => None,
+    }
+}
+
 /// Whether the second line says just this.
-fn says(alloc: Global, text: &[u8], line: RawLine) -> Option<bool> {
-    let lines = vec![in alloc; ScriptLine { number: 2, line }].ok()?;
-    let libs = second_line(alloc, text)?.ok()?;
-    Some(libs.len() == 1 && is_raw(&libs[0], 0, 0, &lines))
+fn says(alloc: Global, text: &[u8], line: &RawLine) -> Option<bool> {
+    has_line(&second_line(alloc, text)?.ok()?, line)
 }
 
 const GRANTS: &[(&str, GrantKind, u32)] = &[
@@ -47,7 +60,7 @@ fn requests_are_read(rt: HostRuntime) {
             kind: *kind,
         };
         assert!(rt;
-            says(rt.alloc(), text.as_bytes(), line) == Some(true),
+            says(rt.alloc(), text.as_bytes(), &line) == Some(true),
             "{text}"
         );
     }
@@ -57,7 +70,7 @@ fn requests_are_read(rt: HostRuntime) {
             inodes: *inodes,
         };
         assert!(rt;
-            says(rt.alloc(), text.as_bytes(), line) == Some(true),
+            says(rt.alloc(), text.as_bytes(), &line) == Some(true),
             "{text}"
         );
     }
@@ -72,7 +85,7 @@ const POKES: &[(&str, Spot, u32, &[u8])] = &[
 
 fn says_poke(alloc: Global, text: &str, at: Spot, offset: u32, bytes: &[u8]) -> Option<bool> {
     let bytes = List::from_vec(bytes.to_vec(alloc).ok()?);
-    says(alloc, text.as_bytes(), RawLine::Poke { at, offset, bytes })
+    says(alloc, text.as_bytes(), &RawLine::Poke { at, offset, bytes })
 }
 
 #[test]
@@ -101,11 +114,11 @@ fn peeks_and_backs_are_read(rt: HostRuntime) {
             len: *len,
         };
         assert!(rt;
-            says(rt.alloc(), text.as_bytes(), line) == Some(true),
+            says(rt.alloc(), text.as_bytes(), &line) == Some(true),
             "{text}"
         );
     }
-    assert!(rt; says(rt.alloc(), b"back 7", RawLine::Back(7)) == Some(true));
+    assert!(rt; says(rt.alloc(), b"back 7", &RawLine::Back(7)) == Some(true));
 }
 
 /// The text, and the inode numbers of files, the page numbers and the inode numbers that it names.
@@ -130,7 +143,7 @@ fn says_release(
         pages: list(alloc, pages)?,
         inodes: list(alloc, inodes)?,
     };
-    says(alloc, text.as_bytes(), line)
+    says(alloc, text.as_bytes(), &line)
 }
 
 #[test]
@@ -162,17 +175,9 @@ fn modes_are_read(rt: HostRuntime) {
             mode: *mode,
         };
         assert!(rt;
-            says(rt.alloc(), text.as_bytes(), line) == Some(true),
+            says(rt.alloc(), text.as_bytes(), &line) == Some(true),
             "{text}"
         );
-    }
-}
-
-/// A write grant is asked on this file.
-fn write_grant(ino: u32) -> RawLine {
-    RawLine::Grant {
-        ino,
-        kind: GrantKind::Write,
     }
 }
 
@@ -273,7 +278,7 @@ fn counts_bytes(alloc: Global) -> Option<bool> {
         offset: 0,
         bytes: List::from_vec(vec![in alloc; 0x77; 4096].ok()?),
     };
-    let is_read = says(alloc, &line, poke)?;
+    let is_read = says(alloc, &line, &poke)?;
     line.extend_from_slice(b"77").ok()?;
     Some(is_read && is_bad(alloc, &line)?)
 }
@@ -287,46 +292,53 @@ fn bytes_are_counted(rt: HostRuntime) {
 const TWO_LIBS: &[u8] =
     b"#\nlib 1 raw 1001 5\n\ngrant write 2\n#\ngrant write 3\nlib 2 raw 0 4294967295\n#\n\nmode 3 700";
 
+/// Whether a line asks for a write grant on this file.
+fn asks_write(read: &ScriptLine<RawLine>, number: u32, ino: u32) -> bool {
+    let kind = GrantKind::Write;
+    is_line(read, number, &RawLine::Grant { ino, kind })
+}
+
+fn has_grants(library: &ScriptLib) -> Option<bool> {
+    match raw_lines(library, 1001, 5)? {
+        [first, second] => Some(asks_write(first, 4, 2) && asks_write(second, 6, 3)),
+        _ => None,
+    }
+}
+
+fn has_mode(library: &ScriptLib) -> Option<bool> {
+    let mode = RawLine::Mode {
+        ino: 3,
+        mode: 0o700,
+    };
+    match raw_lines(library, 0, 4_294_967_295)? {
+        [read] => Some(is_line(read, 10, &mode)),
+        _ => None,
+    }
+}
+
+fn are_two(libs: &[ScriptLib]) -> Option<bool> {
+    match libs {
+        [first, second] => Some(has_grants(first)? && has_mode(second)?),
+        _ => None,
+    }
+}
+
 fn reads_two_libs(alloc: Global) -> Option<bool> {
-    let first = vec![in alloc;
-        ScriptLine {
-            number: 4,
-            line: write_grant(2),
-        },
-        ScriptLine {
-            number: 6,
-            line: write_grant(3),
-        },
-    ]
-    .ok()?;
-    let second = vec![in alloc;
-        ScriptLine {
-            number: 10,
-            line: RawLine::Mode {
-                ino: 3,
-                mode: 0o700,
-            },
-        },
-    ]
-    .ok()?;
-    let libs = read_script(alloc, TWO_LIBS).ok()?;
-    Some(
-        libs.len() == 2
-            && is_raw(&libs[0], 1001, 5, &first)
-            && is_raw(&libs[1], 0, 4_294_967_295, &second),
-    )
+    are_two(&read_script(alloc, TWO_LIBS).ok()?)
 }
 
 /// Libraries without a line of their own.
+fn are_bare(libs: &[ScriptLib]) -> Option<bool> {
+    let [first, second, third] = libs else {
+        return None;
+    };
+    let lines = (raw_lines(first, 3, 4)?, raw_lines(second, 5, 6)?);
+    Some(lines.0.is_empty() && lines.1.is_empty() && raw_lines(third, 7, 8)?.is_empty())
+}
+
 fn reads_bare_libs(alloc: Global) -> Option<bool> {
     let script = b"lib 1 raw 3 4\nlib 2 raw 5 6\n#\nlib 3 raw 7 8\n\n";
-    let libs = read_script(alloc, script).ok()?;
-    Some(
-        libs.len() == 3
-            && is_raw(&libs[0], 3, 4, &[])
-            && is_raw(&libs[1], 5, 6, &[])
-            && is_raw(&libs[2], 7, 8, &[]),
-    )
+    are_bare(&read_script(alloc, script).ok()?)
 }
 
 #[test]

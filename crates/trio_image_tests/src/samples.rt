@@ -1,11 +1,11 @@
 //! The bytes of the image with one file, spelled by hand.
 
-use super::*;
-use crate::files::one_file;
-use std::test::Fail;
+use std::alloc::Global;
+use trio_samples::files::one_file;
+use trio_samples::{Sample, put};
 
 /// Where the image isn't zero.
-const PARTS: [(usize, &[u8]); 14] = [
+const PARTS: &[(usize, &[u8])] = &[
     (0, b"ARCKTRIO"),
     (8, b"\x01\0\0\0\0\x10\0\0\x20\0\0\0\x40"),
     (24, b"\x01\0\0\0\x02\0\0\0\x03\0\0\0\x01"),
@@ -30,13 +30,20 @@ const PARTS: [(usize, &[u8]); 14] = [
     (24_576, b"hello"),
 ];
 
-#[test]
-fn one_file_by_hand(rt: HostRuntime) -> Result<(), Fail> {
-    let mut bytes = vec![in rt.alloc(); 0; 131_072]?;
+fn spell(bytes: &mut [u8]) {
     for (at, part) in PARTS {
-        put(&mut bytes, at, part);
+        put(bytes, *at, part);
     }
-    let sample = Sample::small(rt.alloc(), &one_file())?;
-    assert!(rt; sample.bytes(rt.alloc())? == bytes);
-    Ok(())
+}
+
+fn is_as_spelled(alloc: Global) -> Option<bool> {
+    let mut bytes = vec![in alloc; 0; 131_072].ok()?;
+    spell(&mut bytes);
+    let sample = Sample::small(alloc, &one_file()).ok()?;
+    Some(sample.bytes(alloc).ok()?.as_slice() == bytes.as_slice())
+}
+
+#[test]
+fn one_file_by_hand(rt: HostRuntime) {
+    assert!(rt; is_as_spelled(rt.alloc()) == Some(true));
 }
