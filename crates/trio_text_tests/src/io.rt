@@ -238,7 +238,7 @@ const REAL_READS: &[(&str, u64, &[u8])] = &[
 ];
 
 // Writes both files, reads them by turns, and writes the one anew.
-fn use_real_files(rt: &HostRuntime, files: &mut RealFiles<'_, HostRuntime>) {
+fn use_real_files<R: Abort>(rt: &R, files: &mut RealFiles<'_, HostRuntime>) {
     let mut buf = [0u8; 3];
     assert!(rt; files.serves(ONE) && files.serves(TWO));
     assert!(rt; files.replace(ONE, b"abcdefg") == Ok(()));
@@ -279,7 +279,7 @@ const WRITES: &[(&str, &[u8], bool)] = &[
     ("/dev/full", b"", true),
 ];
 
-fn use_devices(rt: &HostRuntime, files: &mut RealFiles<'_, HostRuntime>) {
+fn use_devices<R: Abort>(rt: &R, files: &mut RealFiles<'_, HostRuntime>) {
     let mut buf = [7u8; 4];
     for (name, answer) in READS {
         assert!(rt; files.serves(name));

@@ -70,17 +70,23 @@ fn is_stepped(alloc: Global, nodes: &mut Nodes, made: u32, step: &Step) -> Optio
     is_replied(alloc, nodes, *uid, call_of(&libs)?, made, wanted)
 }
 
-// Does the calls in order on one tree. A file that is made has the next number.
-fn steps_are_replied<R: Abort>(rt: &R, alloc: Global, rows: &[Row], steps: &[Step]) -> Option<()> {
+// Does the calls in order on one tree. A file that is made has the next number, from the first on.
+fn steps_are_replied<R: Abort>(
+    rt: &R,
+    alloc: Global,
+    rows: &[Row],
+    first: u32,
+    steps: &[Step],
+) -> Option<()> {
     let mut nodes = nodes_of(alloc, rows)?;
-    let mut made = rows.len() as u32;
+    let mut made = first;
     for step in steps {
-        made = made.saturating_add(1);
         let line = step.1;
         assert!(rt;
             is_stepped(alloc, &mut nodes, made, step) == Some(true),
             "{line}"
         );
+        made = made.saturating_add(1);
     }
     Some(())
 }
@@ -97,7 +103,7 @@ const MOVED: &[Step] = &[
 
 #[test]
 fn a_file_is_renamed_moved_and_changed(rt: HostRuntime) {
-    assert!(rt; steps_are_replied(&rt, rt.alloc(), SMALL, MOVED).is_some());
+    assert!(rt; steps_are_replied(&rt, rt.alloc(), SMALL, 4, MOVED).is_some());
 }
 
 // Each check of each call in its order, also where a later check would fail too. None changes
@@ -158,7 +164,7 @@ const REFUSALS: &[Step] = &[
 
 #[test]
 fn the_first_check_that_fails_is_replied(rt: HostRuntime) {
-    assert!(rt; steps_are_replied(&rt, rt.alloc(), TREE, REFUSALS).is_some());
+    assert!(rt; steps_are_replied(&rt, rt.alloc(), TREE, 8, REFUSALS).is_some());
 }
 
 // What is done, call after call on one tree.
@@ -195,7 +201,7 @@ const DONE: &[Step] = &[
 
 #[test]
 fn calls_are_done(rt: HostRuntime) {
-    assert!(rt; steps_are_replied(&rt, rt.alloc(), TREE, DONE).is_some());
+    assert!(rt; steps_are_replied(&rt, rt.alloc(), TREE, 8, DONE).is_some());
 }
 
 // Writes of no bytes, which no line says: where they begin, and what they are replied.

@@ -17,11 +17,11 @@ const TREE: &[Row] = &[
     (4, 2, b"g", Kind::Regular, 0o755, b"gone"),
 ];
 
-fn nothing_handed(alloc: Global) -> Handed {
+fn handed(alloc: Global, pages: List<HandedPage>) -> Handed {
     Handed {
         writes: List::new(alloc),
         holds: List::new(alloc),
-        pages: List::new(alloc),
+        pages,
         numbers: List::new(alloc),
     }
 }
@@ -61,12 +61,9 @@ const BLOCKS: &[PlacedBlock] = &[
 ];
 
 fn bundle(alloc: Global) -> Option<RawBundle> {
+    let pages = two_pages(alloc)?;
     let blocks = BLOCKS.to_vec(alloc).ok()?;
-    let handed = Handed {
-        pages: two_pages(alloc)?,
-        ..nothing_handed(alloc)
-    };
-    Some(RawBundle::of(handed, blocks))
+    Some(RawBundle::of(handed(alloc, pages), blocks))
 }
 
 // The file 3 grows to 4098 bytes, of which the second block is listed, 4 goes, and 6 is new: the
@@ -78,12 +75,13 @@ const FILES: &[(u32, bool, &[u8], u64)] = &[
 ];
 
 fn raw_file(ino: u32, gone: bool, name: &[u8], size: u64) -> Option<RawFile> {
+    let name = Name::read(name).ok()?;
     Some(RawFile {
         ino,
         given: true,
         gone,
         parent: 2,
-        name: Name::read(name).ok()?,
+        name,
         kind: Kind::Regular,
         mode: Mode(0o640),
         uid: 1,
@@ -102,11 +100,12 @@ fn files(alloc: Global) -> Option<List<RawFile>> {
 
 fn release(alloc: Global) -> Option<Entry> {
     let files = files(alloc)?;
+    let bundle = bundle(alloc)?;
     Some(Entry::Raw {
         lib: LibNo(1),
         verdict: ReleaseAnswer::Accepted,
         files,
-        bundle: bundle(alloc)?,
+        bundle,
     })
 }
 
@@ -130,10 +129,11 @@ fn calls(alloc: Global) -> Option<List<Done>> {
 }
 
 fn settling(alloc: Global) -> Option<Entry> {
+    let calls = calls(alloc)?;
     Some(Entry::Batch {
         lib: LibNo(2),
-        calls: calls(alloc)?,
-        handed: nothing_handed(alloc),
+        calls,
+        handed: handed(alloc, List::new(alloc)),
     })
 }
 

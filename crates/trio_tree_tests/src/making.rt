@@ -9,15 +9,18 @@ use trio_rights::{Kind, Mode};
 pub type Row = (u32, u32, &'static [u8], Kind, u16, &'static [u8]);
 
 /// A node of the user 0 and the group 0.
-fn node(alloc: Global, (_, parent, name, kind, mode, bytes): &Row) -> Option<Node> {
+fn node(alloc: Global, row: &Row) -> Option<Node> {
+    let (_, parent, name, kind, mode, bytes) = *row;
+    let name = Name::read(name).ok()?;
+    let bytes = Bytes::copied(alloc, bytes).ok()?;
     Some(Node {
-        parent: *parent,
-        name: Name::read(name).ok()?,
-        kind: *kind,
-        mode: Mode(*mode),
+        parent,
+        name,
+        kind,
+        mode: Mode(mode),
         uid: 0,
         gid: 0,
-        bytes: Bytes::copied(alloc, bytes).ok()?,
+        bytes,
     })
 }
 

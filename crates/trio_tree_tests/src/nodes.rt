@@ -162,14 +162,16 @@ fn page(alloc: Global, no: u32, bytes: &[u8]) -> Option<List<HandedPage>> {
 
 // one written file with an index page and a block
 fn written(alloc: Global) -> Option<List<HandedFile>> {
+    let index = page(alloc, 20, b"i")?;
+    let blocks = page(alloc, 30, b"b")?;
     let mut files = Vec::new(alloc);
     files
         .push(HandedFile {
             ino: 7,
             kind: Kind::Regular,
             body: [0; 64],
-            index: page(alloc, 20, b"i")?,
-            blocks: page(alloc, 30, b"b")?,
+            index,
+            blocks,
         })
         .ok()?;
     Some(List::from_vec(files))
@@ -177,10 +179,12 @@ fn written(alloc: Global) -> Option<List<HandedFile>> {
 
 // a written file and an allotted page
 fn handed(alloc: Global) -> Option<Handed> {
+    let writes = written(alloc)?;
+    let pages = page(alloc, 40, b"f")?;
     Some(Handed {
-        writes: written(alloc)?,
+        writes,
         holds: List::new(alloc),
-        pages: page(alloc, 40, b"f")?,
+        pages,
         numbers: List::new(alloc),
     })
 }
@@ -211,8 +215,9 @@ fn is_told(alloc: Global, place: HandedPlace, bytes: &[u8]) -> Option<bool> {
         at: 3,
         place,
     };
-    let blocks = vec![in alloc; placed].ok()?;
-    Some(tells(&RawBundle::of(handed(alloc)?, blocks), bytes))
+    let handed = handed(alloc)?;
+    let blocks = [placed].to_vec(alloc).ok()?;
+    Some(tells(&RawBundle::of(handed, blocks), bytes))
 }
 
 #[test]
