@@ -17,6 +17,3 @@
 mod allot;
 
 pub use allot::Allotments;
-
-#[cfg(test)]
-mod tests;

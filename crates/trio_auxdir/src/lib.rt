@@ -17,8 +17,6 @@ mod index;
 mod laws;
 mod order;
 mod place;
-#[cfg(test)]
-mod tests;
 
 pub use directory::HashedDir;
 pub use finds::Finds;

@@ -14,3 +14,5 @@ mod lines;
 mod logs;
 #[cfg(test)]
 mod moves;
+#[cfg(test)]
+mod raws;

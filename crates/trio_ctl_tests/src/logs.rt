@@ -131,6 +131,22 @@ const ROWS: &[Row] = &[
          1 raw accepted\n \
          writes - holds - pages 5,6 numbers -\n",
     ),
+    // a hold without its directory: what comes back stands behind the rest, and is handed in at the end
+    (
+        Start::SixDirectories,
+        "lib 1 raw 0 0\ngrant write 2\ngrant write 3\ngrant write 7\ngrant hold 4\nallot 1 1\npoke block 3 0 208 ff\nrelease 4,3 13 -\n",
+        "1 grant write 2 granted 0\n\
+         1 grant write 3 granted 0\n\
+         1 grant write 7 granted 0\n\
+         1 grant hold 4 granted 1\n\
+         1 allot 1 1 given 13 8\n\
+         1 raw accepted\n \
+         file 2 given 1 a directory 755 0 0 4096\n \
+         file 3 given 1 b directory 755 0 0 4096\n \
+         file 4 given 2 p directory 755 0 0 4096\n \
+         file 7 given 6 q1 directory 755 0 0 0\n \
+         writes 2: 5 6 7: - - 3: 9 10* holds 4 pages 13 numbers 8\n",
+    ),
     // two libraries by turns, of which the first moves, and the second is refused for it
     (
         Start::SixDirectories,

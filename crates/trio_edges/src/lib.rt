@@ -11,9 +11,6 @@ ghost use Rattle.trio_judge.specs.Listed.{entry_seen};
 ghost use Rattle.trio_edges.specs.Leaves.{RegularFilesAreLeaves};
 ghost use Rattle.trio_edges.specs.inner.Steps.{drops_parent, is_clear, is_regular, IsLost};
 
-#[cfg(test)]
-mod tests;
-
 use trio_judge::{ListedEntry, ListedFile, Listing};
 use trio_rights::Kind;
 use trio_tables::{Row, Shadow};

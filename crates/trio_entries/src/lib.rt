@@ -11,8 +11,6 @@ pub mod handed;
 mod notes;
 mod places;
 mod telling;
-#[cfg(test)]
-mod tests;
 mod told;
 
 pub use draft::Draft;

@@ -18,6 +18,3 @@ mod table;
 
 pub use grant::Grant;
 pub use table::{AdmitFault, GrantKey, GrantTable};
-
-#[cfg(test)]
-mod tests;

@@ -9,14 +9,10 @@ ghost use Rattle.trio_lists.specs.Lists.{are_new};
 ghost use Rattle.trio_lease.specs.Views.{bundle_in};
 ghost use Rattle.trio_layout.specs.Allowed.{has_kind};
 ghost use Rattle.trio_layout.specs.Range.{is_core};
-ghost use Rattle.trio_tables.specs.Row.{as_row};
 ghost use Rattle.trio_judge.specs.Cases.{lent_numbers, is_free_number, HasDirectoryParents, IsJudgeable};
-ghost use Rattle.trio_edges.specs.Leaves.{RegularFilesAreLeaves};
-ghost use Rattle.trio_judge_tests.specs.Leaves.{is_other, HasNoFile};
 
 use std::alloc::Global;
-use trio_edges::edges;
-use trio_judge::{Case, ListedFile, Listing};
+use trio_judge::Case;
 use trio_layout::CoreRange;
 use trio_lease::{Bundle, FreshIno, HoldLease, WriteLease};
 use trio_page::NoMemory;
@@ -248,47 +244,4 @@ fn are_once(numbers: &[u32]) -> bool
         }
     }
     true
-}
-
-/// A number at which I3 fails. `None` where it holds, or where a row names a judged regular file for
-/// its parent, so that it can't be asked.
-pub fn broken_edge(listing: &Listing, rows: &Shadow) -> Option<u32> {
-    if !regular_files_are_leaves(listing, rows) {
-        return None;
-    }
-    edges(listing, rows)
-}
-
-/// Whether no row names a judged regular file for its parent.
-fn regular_files_are_leaves(listing: &Listing, rows: &Shadow) -> bool
-    ensures { IsTrue result → RegularFilesAreLeaves listing.now.listing rows.now }
-{
-    for ino in 0..rows.inodes() + 1 {
-        if !is_listed_by_directory(listing, rows, ino) {
-            return false;
-        }
-    }
-    true
-}
-
-fn is_listed_by_directory(listing: &Listing, rows: &Shadow, ino: u32) -> bool
-    ensures { IsTrue result → HasNoFile listing.now.listing (row_in rows.now ino) }
-{
-    match rows.row(ino) {
-        Some(row) => are_not(listing.files(), row.parent),
-        None => true,
-    }
-}
-
-/// Whether none of these is a regular file of this number.
-fn are_not(files: &[ListedFile], ino: u32) -> bool
-    ensures { result ≡ list_all (λ f. is_other (as_row f.row).kind f.ino ino) files.now }
-{
-    files.iter().all(|file| is_other(file, ino))
-}
-
-fn is_other(file: &ListedFile, ino: u32) -> bool
-    ensures { result ≡ is_other (as_row file.now.row).kind file.now.ino ino }
-{
-    file.ino != ino || file.row.kind == Kind::Directory
 }

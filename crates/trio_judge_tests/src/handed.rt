@@ -148,11 +148,22 @@ pub type Poke = (Target, usize, &'static [u8]);
 
 /// The parts of a bundle.
 #[derive(Drop)]
-struct Handed {
-    writes: Vec<WriteParts>,
-    holds: Vec<HoldParts>,
-    pages: Vec<FreshParts>,
-    inodes: Vec<InoParts>,
+pub struct Parts {
+    pub writes: Vec<WriteParts>,
+    pub holds: Vec<HoldParts>,
+    pub pages: Vec<FreshParts>,
+    pub inodes: Vec<InoParts>,
+}
+
+impl Parts {
+    pub fn none(alloc: Global) -> Parts {
+        Parts {
+            writes: Vec::new(alloc),
+            holds: Vec::new(alloc),
+            pages: Vec::new(alloc),
+            inodes: Vec::new(alloc),
+        }
+    }
 }
 
 /// An image as it stands, from which files are lent.
@@ -225,13 +236,8 @@ fn move_p(rows: &mut Shadow) -> Option<()> {
     Some(())
 }
 
-fn lend(alloc: Global, lender: &mut Lender, lent: &Lent) -> Option<Handed> {
-    let mut handed = Handed {
-        writes: Vec::new(alloc),
-        holds: Vec::new(alloc),
-        pages: Vec::new(alloc),
-        inodes: Vec::new(alloc),
-    };
+fn lend(alloc: Global, lender: &mut Lender, lent: &Lent) -> Option<Parts> {
+    let mut handed = Parts::none(alloc);
     for ino in lent.writes {
         handed.writes.push(lender.written(alloc, *ino)?).ok()?;
     }
@@ -319,7 +325,7 @@ impl Lender {
 }
 
 /// The bytes that a write goes to.
-fn bytes_of(handed: &mut Handed, target: Target) -> Option<&mut [u8]> {
+fn bytes_of(handed: &mut Parts, target: Target) -> Option<&mut [u8]> {
     match target {
         Target::Body(ino) => {
             let file = file_of(&mut handed.writes, ino)?;
@@ -346,8 +352,8 @@ fn file_of(writes: &mut Vec<WriteParts>, ino: u32) -> Option<&mut WriteParts> {
 }
 
 /// The bundle of these parts.
-fn bundle_of(alloc: Global, handed: Handed) -> Option<Bundle> {
-    let Handed {
+pub fn bundle_of(alloc: Global, handed: Parts) -> Option<Bundle> {
+    let Parts {
         writes,
         holds,
         pages,

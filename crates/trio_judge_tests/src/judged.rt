@@ -1,7 +1,8 @@
 //! What the judge and the rule on edges say of a bundle.
 
-use crate::checked::{broken_edge, case_of};
+use crate::checked::case_of;
 use crate::handed::{Grants, Poke, RANGE, handed_in};
+use crate::leaves::broken_edge;
 use std::alloc::Global;
 use trio_judge::{Case, Listing, Room, Verdict, judge};
 use trio_page::Reads;

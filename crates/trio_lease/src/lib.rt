@@ -32,8 +32,6 @@ mod lease;
 mod lent;
 mod parts;
 mod read;
-#[cfg(test)]
-mod tests;
 mod write;
 
 pub use bundle::{Bundle, BundleParts};

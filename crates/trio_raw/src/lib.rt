@@ -14,8 +14,6 @@ mod lent;
 mod peek;
 mod poke;
 mod raw;
-#[cfg(test)]
-mod tests;
 mod things;
 
 pub use raw::{Absent, Raw, RawFault};

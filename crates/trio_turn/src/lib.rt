@@ -24,6 +24,3 @@ mod view;
 pub use cell::Turn;
 pub use logged::{Begun, BegunLease, Logged, Origin};
 pub use seat::LibSeat;
-
-#[cfg(test)]
-mod tests;
