@@ -42,8 +42,8 @@ use Rattle.trio_commit.specs.declared.store.Store.{Store}
 use Rattle.trio_commit.specs.Store.{checkpoint_at, state_of, with_checkpoint}
 use Rattle.trio_state.specs.Moves.{Outline}
 use Rattle.trio_ctl.specs.Ctl.{HaveKinds, HoldsAreTold, IsControlled}
-use Rattle.trio_ctl.specs.Entries.{Entries}
-use Rattle.trio_ctl.specs.Open.{Opened, grants_in}
+use Rattle.trio_open.specs.Entries.{Entries}
+use Rattle.trio_open.specs.Open.{Opened, grants_in}
 use Rattle.trio_ctl.specs.Stored.{IsStored, superblock_at_home}
 use Rattle.trio_allot.specs.Out.{OutByNumber, outs_with}
 

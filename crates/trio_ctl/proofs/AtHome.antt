@@ -33,8 +33,8 @@ use Rattle.trio_commit.specs.declared.store.Store.{Store}
 use Rattle.trio_commit.specs.Store.{covered_at, image_at_home, state_of, with_checkpoint}
 use Rattle.trio_state.specs.Moves.{Outline}
 use Rattle.trio_ctl.specs.Ctl.{writer_of, IsControlled}
-use Rattle.trio_ctl.specs.Entries.{Entries}
-use Rattle.trio_ctl.specs.Open.{Opened, grants_in, keyed}
+use Rattle.trio_open.specs.Entries.{Entries}
+use Rattle.trio_open.specs.Open.{Opened, grants_in, keyed}
 use Rattle.trio_ctl.specs.Stored.{superblock_at_home}
 use Rattle.trio_allot.specs.Out.{OutByNumber}
 

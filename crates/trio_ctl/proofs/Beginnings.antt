@@ -9,8 +9,8 @@ use Rattle.trio_grants.specs.Grants.{Keyed}
 use Rattle.trio_commit.specs.declared.store.Store.{Store}
 use Rattle.trio_state.specs.Moves.{Outline, Underway, begun_by}
 use Rattle.trio_ctl.specs.Ctl.{IsControlled}
-use Rattle.trio_ctl.specs.Entries.{Entries, begun_among, reads_among}
-use Rattle.trio_ctl.specs.Open.{Opened, grants_in}
+use Rattle.trio_open.specs.Entries.{Entries, begun_among, reads_among}
+use Rattle.trio_open.specs.Open.{Opened, grants_in}
 use Rattle.trio_ctl.specs.Stored.{IsStored}
 
 -- ---- where what has begun of a library stands

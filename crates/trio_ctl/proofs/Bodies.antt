@@ -21,9 +21,10 @@ use Rattle.trio_commit.specs.Store.{state_of, with_checkpoint}
 use Rattle.trio_state.specs.Given.{GivenTo}
 use Rattle.trio_state.specs.Kept.{Kept}
 use Rattle.trio_state.specs.State.{OpenGrant, State, settled}
-use Rattle.trio_ctl.specs.Open.{Opened, grants_in}
-use Rattle.trio_ctl.specs.inner.Beginning.{HaveBodies, is_body_of, is_held_so}
-use Rattle.trio_ctl.proofs.Belonging.{hold_kind}
+use Rattle.trio_open.specs.Open.{Opened, grants_in}
+use Rattle.trio_ctl.specs.inner.Beginning.{HaveBodies}
+use Rattle.trio_open.specs.inner.Given.{is_body_of, is_held_so}
+use Rattle.trio_open.proofs.Given.{hold_kind}
 
 record IsHeldSo (lib : LibNo) (h : HoldParts) (g : OpenGrant) : Type 0 where
   lib_is : g.lib ≡ lib.0

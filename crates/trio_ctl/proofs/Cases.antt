@@ -37,9 +37,9 @@ use Rattle.trio_commit.specs.declared.store.Store.{Store}
 use Rattle.trio_commit.specs.Store.{state_of, with_checkpoint}
 use Rattle.trio_state.specs.Moves.{Outline}
 use Rattle.trio_ctl.specs.Ctl.{IsControlled}
-use Rattle.trio_ctl.specs.Entries.{Entries}
+use Rattle.trio_open.specs.Entries.{Entries}
 use Rattle.trio_ctl.specs.HandedIn.{WereHeld}
-use Rattle.trio_ctl.specs.Open.{Opened, grants_in}
+use Rattle.trio_open.specs.Open.{Opened, grants_in}
 use Rattle.trio_ctl.specs.Pending.{case_made}
 use Rattle.trio_ctl.specs.Stored.{superblock_at_home}
 use Rattle.trio_ctl.proofs.Concluding.{judgeable, some_and}

@@ -52,7 +52,8 @@ use Rattle.trio_commit.specs.Bodies.{bodies_home, is_parent_lent, kept_children,
 use Rattle.trio_commit.specs.Listed.{file_numbers}
 use Rattle.trio_commit.specs.Store.{checkpoint_at, covered_at, state_of, with_checkpoint}
 use Rattle.trio_commit.proofs.PutBack.{checkpoint_at-others}
-use Rattle.trio_ctl.specs.Stored.{CoversLent, IsStored, grants_staying}
+use Rattle.trio_open.specs.Covers.{CoversLent}
+use Rattle.trio_ctl.specs.Stored.{IsStored, grants_staying}
 use Rattle.trio_ctl.proofs.StoredFacts.{Checkpoints, open_grant, sized, stays_unwritten, staying_same, unwritten_stays}
 use Rattle.trio_ctl.proofs.Children.{children_at, length-children, listed_by, own_numbers, put_on-append, put_on-filter, put_over_any, with_own, with_own_blocks}
 use Rattle.trio_ctl.proofs.AcceptedBundle.{AcceptedBundle, case_here, core_now, core_then, cs, few_rows, files_then, fit_then, judgeable, list_here, listed_core, low_owner, now, numbers_below, owners_long, page_covered, pick_then, placed_from, placed_parent, rows_long, sound_then}

@@ -19,7 +19,7 @@ use Rattle.trio_tables.proofs.OutLemmas.{length-with_all, lib_at-others, lib_at-
 use Rattle.trio_allot.specs.Out.{OutByNumber, outs_after}
 use Rattle.trio_grants.specs.Grants.{Keyed}
 use Rattle.trio_lists.specs.Lists.{In, are_new, is_among}
-use Rattle.trio_lists.proofs.Filters.{filter-In}
+use Rattle.trio_lists.proofs.Filters.{filter-In, filter-map}
 use Rattle.trio_lists.proofs.Members.{In-map, map-In}
 use Rattle.trio_lists.proofs.Gathered.{filtered_new}
 use Rattle.trio_layout.specs.Accept.{is_accepted, next}
@@ -51,16 +51,20 @@ use Rattle.trio_commit.specs.Bodies.{kept_children, page_changes, placed_files, 
 use Rattle.trio_commit.specs.Store.{state_of, with_checkpoint}
 use Rattle.trio_state.specs.Moves.{Outline}
 use Rattle.trio_ctl.specs.Ctl.{HaveKinds, HoldsAreTold, IsControlled}
-use Rattle.trio_ctl.specs.Entries.{Entries, begun_among, reads_among}
-use Rattle.trio_ctl.specs.Open.{Opened, grants_in, keyed}
+use Rattle.trio_open.specs.Entries.{Entries, begun_among, reads_among}
+use Rattle.trio_open.specs.Open.{Opened, grants_in, keyed}
 use Rattle.trio_ctl.specs.Stored.{IsStored, grants_staying}
 use Rattle.trio_ctl.proofs.AcceptedBundle.{AcceptedBundle, CanCommit, can_commit}
 use Rattle.trio_ctl.proofs.Committing.{Commits, Committed, committed}
 use Rattle.trio_ctl.proofs.StoredFacts.{HandedBundle}
 use Rattle.trio_ctl.proofs.Looks.{few_looks}
 use Rattle.trio_ctl.proofs.RollingBack.{CanRollBack, RolledBack, RollsBack, can_roll_back, rolled_back}
-use Rattle.trio_ctl.proofs.ClosingFacts.{keys, staying, staying_grants}
+use Rattle.trio_open.proofs.ClosingFacts.{keys, staying}
 use Rattle.trio_ctl.proofs.Told.{accepted_told, told_kept, told_open}
+
+-- the grants that stay, by the grants and by what is kept of them
+staying_grants : (lib : LibNo) (b : Bundle) (files : List Opened) → grants_in (staying lib b files) ≡ grants_staying lib.0 b (grants_in files)
+staying_grants lib b files = sym (filter-map (λ (o : Opened). o.grant) (λ g. not (is_in_bundle lib.0 b g)) files)
 
 -- what the judge says of a case by the copied rows it says of the case
 pub verdict_told : (s : State) (lib : ℕ) (b : Bundle) → IsJudgeable s lib b → (v : Verdict) → IsVerdict (with_copied (case_in s lib b)) v → IsVerdict (case_in s lib b) v

@@ -39,7 +39,7 @@ use Rattle.trio_laws.proofs.session.Rows.{rows_say}
 use Rattle.trio_ctl.specs.Answers.{grant_answer, grant_fault_answer}
 use Rattle.trio_ctl.specs.Desk.{desk_of, out_of}
 use Rattle.trio_ctl.specs.Logged.{alone}
-use Rattle.trio_ctl.specs.Open.{given_by, lent_by, shown_of}
+use Rattle.trio_open.specs.Open.{given_by, lent_by, shown_of}
 use Rattle.trio_ctl.proofs.DeskGiven.{behind}
 use Rattle.trio_ctl.proofs.DeskOuts.{numbers_to-In}
 use Rattle.trio_ctl.proofs.Settling.{hold_lent, read_lent, write_lent}

@@ -29,7 +29,7 @@ use Rattle.trio_ctl.specs.Answers.{release_answer, release_fault_answer, verdict
 use Rattle.trio_ctl.specs.Ctl.{AreAsTold}
 use Rattle.trio_desk.specs.Ready.{bundle_of}
 use Rattle.trio_ctl.specs.Desk.{grants_of, out_of}
-use Rattle.trio_ctl.specs.Open.{hold_of}
+use Rattle.trio_open.specs.Open.{hold_of}
 use Rattle.trio_ctl.proofs.DeskGiven.{behind}
 use Rattle.trio_ctl.proofs.DeskOuts.{hold_is, written_among}
 

@@ -48,10 +48,10 @@ use Rattle.trio_laws.proofs.history.StandsTree.{states_are_trees}
 use Rattle.trio_surveys.proofs.Images.{free_unlisted}
 use Rattle.trio_laws.proofs.history.Listing.{met_at}
 use Rattle.trio_ctl.specs.Desk.{grants_of, out_of}
-use Rattle.trio_ctl.specs.Open.{hold_of, lent_by, shown_of, untouched}
+use Rattle.trio_open.specs.Open.{hold_of, lent_by, shown_of, untouched}
 use Rattle.trio_ctl.proofs.DeskGiven.{behind}
 use Rattle.trio_ctl.proofs.DeskOuts.{numbers_to-In}
-use Rattle.trio_ctl.proofs.LendLemmas.{sheets_untouched}
+use Rattle.trio_open.proofs.LendLemmas.{sheets_untouched}
 use Rattle.trio_ctl.proofs.WellLent.{good_body, numbers_are, well_lent}
 
 -- ---- grants

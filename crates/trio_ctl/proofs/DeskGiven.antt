@@ -25,7 +25,7 @@ use Rattle.trio_laws.proofs.StateFacts.{write_is}
 use Rattle.trio_desk.specs.Ready.{bundle_of}
 use Rattle.trio_ctl.specs.Desk.{grants_of, out_of}
 use Rattle.trio_ctl.specs.HandedIn.{WasHeld, WereHeld, WereLent}
-use Rattle.trio_ctl.specs.Open.{hold_of, shown_of, untouched}
+use Rattle.trio_open.specs.Open.{hold_of, shown_of, untouched}
 use Rattle.trio_ctl.proofs.DeskOuts.{hold_is, numbers_to-In, read_is}
 
 -- the grant behind what is seen of a library's grants of one kind

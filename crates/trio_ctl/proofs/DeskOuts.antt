@@ -33,7 +33,7 @@ use Rattle.trio_laws.specs.OutLaws.{numbers_to}
 use Rattle.trio_laws.proofs.StateFacts.{write_is}
 use Rattle.trio_desk.specs.Ready.{bundle_of}
 use Rattle.trio_ctl.specs.Desk.{grants_of, out_of}
-use Rattle.trio_ctl.specs.Open.{given_by, hold_of, lent_by, shown_of}
+use Rattle.trio_open.specs.Open.{given_by, hold_of, lent_by, shown_of}
 use Rattle.trio_ctl.proofs.DeskLists.{and-true, filter-seen, filter-through, found-among, or-false}
 
 -- the same is out

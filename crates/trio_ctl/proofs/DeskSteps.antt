@@ -49,8 +49,7 @@ use Rattle.trio_state.specs.Step.{Event, CtlAnswer, Comes, Step, Outcome, Parted
 use Rattle.trio_state.specs.Step as step
 use Rattle.trio_state.specs.Tells.{Why}
 use Rattle.trio_laws.specs.Laws.{library_of}
-use Rattle.trio_laws.specs.OutLaws.{HasOut, numbers_to, without_checkpoint}
-use Rattle.trio_laws.specs.OutLaws.{out_of as has_out}
+use Rattle.trio_laws.specs.OutLaws.{HasOut, numbers_to, without_checkpoint, out_of as has_out}
 use Rattle.trio_laws.specs.history.Recorded.{LentWhole}
 use Rattle.trio_laws.specs.session.Lent.{root_of, sizes_of}
 use Rattle.trio_laws.proofs.Cases.{after_allot, after_no_grant, after_no_mode}
@@ -63,8 +62,8 @@ use Rattle.trio_ctl.specs.Ctl.{AreAsTold, IsLibrary}
 use Rattle.trio_ctl.specs.Backs.{all_back}
 use Rattle.trio_ctl.specs.Desk.{CallStep, Happens, after_mode_refusal, answer_of, desk_of, event_of, grants_of, handed_back, out_of}
 use Rattle.trio_ctl.specs.DeskLaws.{CallsKeep, CallsLeaveWhole, HoldsStand, LibrariesStay, OthersKeep, OthersSee}
-use Rattle.trio_ctl.specs.Open.{given_by, hold_of, lent_by, shown_of}
-use Rattle.trio_ctl.specs.inner.Modes.{is_back}
+use Rattle.trio_open.specs.Open.{given_by, hold_of, lent_by, shown_of}
+use Rattle.trio_open.specs.inner.Modes.{is_back}
 use Rattle.trio_ctl.proofs.LeasesBack.{all_back_is, backs_kept, backs_leave, backs_told, left_out}
 use Rattle.trio_ctl.proofs.Granting.{kept_either}
 use Rattle.trio_ctl.proofs.DeskFresh.{fresh_lease, numbers_may, numbers_range, numbers_unlent, pages_core, pages_may, pages_new}

@@ -26,8 +26,8 @@ use Rattle.trio_state.specs.Kept.{Kept}
 use Rattle.trio_state.specs.State.{OpenGrant, State, settled}
 use Rattle.trio_state.specs.Step.{Back, Comes, CtlAnswer, Done, Grant, Granted, NoMemory, NotGranted, Step, granted_to}
 use Rattle.trio_ctl.specs.HandedIn.{WasLentAs}
-use Rattle.trio_ctl.specs.Open.{lease_of, shown_of, untouched}
-use Rattle.trio_ctl.proofs.LendLemmas.{sheets_untouched}
+use Rattle.trio_open.specs.Open.{lease_of, shown_of, untouched}
+use Rattle.trio_open.proofs.LendLemmas.{sheets_untouched}
 
 -- a lease alone, as a bundle
 abbrev pub lease_alone : LentFile → Bundle

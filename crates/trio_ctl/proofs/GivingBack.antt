@@ -25,10 +25,10 @@ use Rattle.trio_commit.specs.declared.store.Store.{Store}
 use Rattle.trio_commit.specs.Store.{state_of, with_checkpoint}
 use Rattle.trio_state.specs.Moves.{Outline}
 use Rattle.trio_ctl.specs.Ctl.{IsControlled}
-use Rattle.trio_ctl.specs.Entries.{Entries, begun_among, reads_among}
-use Rattle.trio_ctl.specs.Open.{Opened, grants_in, keyed}
-use Rattle.trio_ctl.specs.inner.Reads.{is_read_of}
-use Rattle.trio_ctl.proofs.ClosingFacts.{found_one, keys, others, without_one}
+use Rattle.trio_open.specs.Entries.{Entries, begun_among, reads_among}
+use Rattle.trio_open.specs.Open.{Opened, grants_in, keyed}
+use Rattle.trio_open.specs.inner.Reads.{is_read_of}
+use Rattle.trio_open.proofs.ClosingFacts.{found_one, keys, others, without_one}
 
 -- ---- lists of which one element passes
 

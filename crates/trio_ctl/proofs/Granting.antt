@@ -54,14 +54,16 @@ use Rattle.trio_surveys.proofs.Sheets.{length-without, page_from, sheets_all}
 use Rattle.trio_ctl.specs.Answers.{grant_fault_answer, Admits}
 use Rattle.trio_state.specs.Moves.{Outline}
 use Rattle.trio_ctl.specs.Ctl.{HaveKinds, HoldsAreTold, IsControlled}
-use Rattle.trio_ctl.specs.Entries.{Entries, begun_among, reads_among}
+use Rattle.trio_open.specs.Entries.{Entries, begun_among, reads_among}
 use Rattle.trio_ctl.specs.inner.Denials.{denial}
-use Rattle.trio_ctl.specs.inner.Lending.{IsLendable, StandsSomewhere, body_standing, page_on, page_standing}
+use Rattle.trio_open.specs.inner.Lending.{IsLendable}
+use Rattle.trio_ctl.specs.inner.Lending.{StandsSomewhere, body_standing, page_on, page_standing}
 use Rattle.trio_laws.specs.OutLaws.{without_checkpoint}
-use Rattle.trio_ctl.specs.Open.{Opened, grant_on, grants_in, keyed, lease_of}
-use Rattle.trio_ctl.specs.Stored.{CoversLent, IsStored, superblock_at_home}
+use Rattle.trio_open.specs.Open.{Opened, grant_on, grants_in, keyed, lease_of}
+use Rattle.trio_open.specs.Covers.{CoversLent}
+use Rattle.trio_ctl.specs.Stored.{IsStored, superblock_at_home}
 use Rattle.trio_ctl.proofs.Told.{parent_told, told_more}
-use Rattle.trio_ctl.proofs.LendLemmas.{same_chain, sheets_same}
+use Rattle.trio_open.proofs.LendLemmas.{same_chain, sheets_same}
 use Rattle.trio_ctl.proofs.StoredFacts.{Checkpoints, checkpoints_same}
 use Rattle.trio_lists.proofs.Filters.{In-find, find-In}
 

@@ -29,8 +29,8 @@ use Rattle.trio_laws.specs.history.Stands.{nodes_of}
 use Rattle.trio_ctl.specs.Backs.{AreBack, all_back, back_entries}
 use Rattle.trio_ctl.specs.Ctl.{AreAsTold, Registered}
 use Rattle.trio_ctl.specs.Desk.{out_of}
-use Rattle.trio_ctl.specs.Open.{hold_of, shown_of}
-use Rattle.trio_ctl.specs.inner.Modes.{is_back}
+use Rattle.trio_open.specs.Open.{hold_of, shown_of}
+use Rattle.trio_open.specs.inner.Modes.{is_back}
 use Rattle.trio_ctl.proofs.DeskGiven.{read_by}
 use Rattle.trio_ctl.proofs.DeskOuts.{back_out, hold_is, seen-all, seen-left}
 use Rattle.trio_ctl.proofs.Told.{step_told}

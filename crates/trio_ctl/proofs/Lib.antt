@@ -15,7 +15,6 @@ pub mod Starting
 pub mod Storing
 pub mod Moving
 pub mod StoredFacts
-pub mod LendLemmas
 pub mod Granting
 pub mod Outs
 pub mod Allotting
@@ -25,7 +24,6 @@ pub mod AcceptedBundle
 pub mod PagesPut
 pub mod Committing
 pub mod Looks
-pub mod ClosingFacts
 pub mod Concluding
 pub mod Judging
 pub mod Cases
@@ -38,9 +36,7 @@ pub mod Bodies
 pub mod Awaiting
 pub mod Beginnings
 pub mod Rooms
-pub mod Fullness
 pub mod Sames
-pub mod Outlines
 pub mod Underways
 mod Recording
 mod RecordedReleases

@@ -35,7 +35,7 @@ use Rattle.trio_ctl.specs.Backs.{all_back, back_entries}
 use Rattle.trio_ctl.specs.Ctl.{Controller}
 use Rattle.trio_ctl.specs.Desk.{CallStep, Happens, LogsCall, after_mode_refusal, desk_of, entries_told, out_of}
 use Rattle.trio_ctl.specs.Logged.{HasHistory, entries_made, with_call}
-use Rattle.trio_ctl.specs.inner.Modes.{busy_holder}
+use Rattle.trio_open.specs.inner.Modes.{busy_holder}
 use Rattle.trio_state.specs.Moves.{Outline, begun_by}
 use Rattle.trio_ctl.proofs.Underways.{idle_in, underway_in}
 use Rattle.trio_ctl.proofs.LeasesBack.{all_back_is, are_back, backs_kept, backs_nodes}

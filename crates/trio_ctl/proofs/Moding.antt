@@ -42,12 +42,12 @@ use Rattle.trio_commit.specs.Store.{checkpoint_at, state_of, with_checkpoint}
 use Rattle.trio_ctl.specs.Backs.{all_back}
 use Rattle.trio_state.specs.Moves.{Outline}
 use Rattle.trio_ctl.specs.Ctl.{HaveKinds, IsControlled}
-use Rattle.trio_ctl.specs.Entries.{Entries}
-use Rattle.trio_ctl.specs.Open.{Opened, grants_in, keyed}
+use Rattle.trio_open.specs.Entries.{Entries}
+use Rattle.trio_open.specs.Open.{Opened, grants_in, keyed}
 use Rattle.trio_ctl.specs.Stored.{IsStored, superblock_at_home}
 use Rattle.trio_ctl.proofs.LeasesBack.{all_back_is, find-fused}
 use Rattle.trio_ctl.proofs.Told.{step_told, told_kept, told_open}
-use Rattle.trio_ctl.specs.inner.Modes.{is_around, is_back, mode_denial, stays_around, with_mode_at, with_mode_in, with_row_mode}
+use Rattle.trio_open.specs.inner.Modes.{is_around, is_back, mode_denial, stays_around, with_mode_at, with_mode_in, with_row_mode}
 
 -- ---- the first grant around a file that stays
 

@@ -59,7 +59,7 @@ use Rattle.trio_laws.proofs.session.Lent.{step_keeps_lent}
 use Rattle.trio_ctl.specs.Answers.{verdict_of}
 use Rattle.trio_ctl.specs.HandedIn.{AreTouched, WasLentAs, WereLentOrTouched}
 use Rattle.trio_ctl.specs.Logged.{HasHistory, entries_made, with_bundle}
-use Rattle.trio_ctl.specs.Open.{untouched}
+use Rattle.trio_open.specs.Open.{untouched}
 use Rattle.trio_ctl.specs.declared.outcome.Outcome.{Outcome}
 use Rattle.trio_ctl.specs.declared.outcome.Outcome.TheVariants.{Accepted as OutAccepted, Refused as OutRefused}
 use Rattle.trio_entries.specs.declared.telling.Told.{Told}

@@ -1,13 +1,10 @@
 -- How many things a bundle has that belongs to a library: each is of a table that has a place for each number.
-use Rattle.std.proofs.Common.{◌≡◌, ℕ, ◌+◌, ◌-◌, ◌<◌, ◌≤◌, List, [], ◌∷◌, ◌++◌, length, map, drop, get_or, suc, is_some, refl, sym, ap, subst, ◌∙◌, arith, Option}
-use Rattle.std.proofs.Math.Seq.{drop-cons}
-use Rattle.std.specs.List.{flat_map}
-use Rattle.std.proofs.lemmas.List.{length-append, length-map}
-use Rattle.trio_rights.specs.Bundle.{Bundle, Written, bundle_pages, bundle_sheets}
-use Rattle.trio_rights.specs.Sheets.{Sheet}
+use Rattle.std.proofs.Common.{ℕ, ◌+◌, ◌-◌, ◌<◌, ◌≤◌, List, length, map, is_some, sym, ap, subst, ◌∙◌, arith, Option}
+use Rattle.std.proofs.lemmas.List.{length-map}
+use Rattle.trio_rights.specs.Bundle.{Bundle, Written, bundle_pages}
 use Rattle.trio_lease.specs.Bundles.{Bundled}
 use Rattle.trio_lease.specs.Shown.{LentFile}
-use Rattle.trio_lease.specs.Views.{bundle_in, fresh_sheet, lent_sheet, written_in}
+use Rattle.trio_lease.specs.Views.{bundle_in, written_in}
 use Rattle.trio_lists.specs.Lists.{In}
 use Rattle.trio_lists.proofs.Members.{map-In}
 use Rattle.trio_layout.proofs.Walks.{pigeons}
@@ -23,41 +20,14 @@ use Rattle.trio_layout.proofs.Superblocks.{superblock_facts}
 use Rattle.trio_grants.specs.Grants.{Keyed}
 use Rattle.trio_commit.specs.declared.store.Store.{Store}
 use Rattle.trio_commit.specs.Store.{state_of}
-use Rattle.trio_ctl.specs.Belonging.{Belongs}
+use Rattle.trio_open.specs.Belonging.{Belongs}
 use Rattle.trio_state.specs.Moves.{Outline}
 use Rattle.trio_ctl.specs.Ctl.{IsControlled}
-use Rattle.trio_ctl.specs.Entries.{Entries}
-use Rattle.trio_ctl.specs.Open.{Opened, grants_in}
+use Rattle.trio_open.specs.Entries.{Entries}
+use Rattle.trio_open.specs.Open.{Opened, grants_in}
 use Rattle.trio_ctl.specs.Stored.{superblock_at_home}
 use Rattle.trio_ctl.proofs.Belonging.{given_belongs}
-use Rattle.trio_ctl.specs.inner.Room.{pages_shown}
 use Rattle.trio_ctl.proofs.Judging.{pages_core, pages_new}
-
--- ---- how many pages the leases and the allotments show
-
-shown_of : (fs : List LentFile) → length (flat_map (λ (w : Written). w.index ++ w.blocks) (map (λ f. written_in f.stands) fs)) ≡ pages_shown fs
-shown_of [] = refl
-shown_of (f ∷ fs) =
-    let w = written_in f.stands in
-    let rest = flat_map (λ (v : Written). v.index ++ v.blocks) (map (λ (x : LentFile). written_in x.stands) fs) in
-    let split = length-append (w.index ++ w.blocks) rest in
-    let own = length-append w.index w.blocks in
-    let again = shown_of fs in
-    omega (arith, split, own, again, length-map f.stands.index lent_sheet, length-map f.stands.blocks lent_sheet)
-
-pub page_total : (b : Bundled) → length (bundle_pages (bundle_in b)) ≡ length b.pages + pages_shown b.writes
-page_total b =
-    let lent = flat_map (λ (w : Written). w.index ++ w.blocks) (map (λ (x : LentFile). written_in x.stands) b.writes) in
-    let sheets = length-map (bundle_sheets (bundle_in b)) (λ (x : Sheet). x.page) in
-    let split = length-append lent (map fresh_sheet b.pages) in
-    omega (arith, sheets, split, shown_of b.writes, length-map b.pages fresh_sheet)
-
--- one lease after another
-pub shown_next : (fs : List LentFile) (i : ℕ) (d f : LentFile) → i < length fs → f ≡ get_or fs i d → pages_shown (drop i fs) ≡ length f.stands.index + length f.stands.blocks + pages_shown (drop (i + 1) fs)
-shown_next fs i d f lt is =
-    ap pages_shown (drop-cons fs i d lt)
-    ∙ ap (λ (x : LentFile). length x.stands.index + length x.stands.blocks + pages_shown (drop (suc i) fs)) (sym is)
-    ∙ ap (λ k. length f.stands.index + length f.stands.blocks + pages_shown (drop k fs)) (let up : suc i ≡ i + 1 = omega arith in up)
 
 -- ---- what is given is no more than its table has
 

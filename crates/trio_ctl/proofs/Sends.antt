@@ -21,9 +21,9 @@ use Rattle.trio_log.specs.contracts.log.Log as log
 use Rattle.trio_nodes.specs.contracts.entry.Entry as entry
 use Rattle.trio_entries.specs.contracts.notes.Notes as notes
 use Rattle.trio_entries.specs.contracts.draft.Draft as draft
-use Rattle.trio_ctl.specs.contracts.open.OpenFile as opened
+use Rattle.trio_open.specs.contracts.open.OpenFile as opened
 use Rattle.trio_ctl.specs.contracts.begun.Begun as begun
-use Rattle.trio_ctl.specs.contracts.history.History as history
+use Rattle.trio_open.specs.contracts.history.History as history
 use Rattle.trio_ctl.specs.contracts.registry.Registry as registry
 use Rattle.trio_ctl.specs.contracts.ctl.Ctl as ctl
 use Rattle.trio_nodes.specs.contracts.shared.SharedBytes as shared

@@ -65,19 +65,19 @@ use Rattle.trio_laws.proofs.session.Settling.{settle_is_recorded}
 use Rattle.trio_ctl.specs.Answers.{verdict_of}
 use Rattle.trio_ctl.specs.Backs.{AreBack, all_back, back_entries}
 use Rattle.trio_ctl.specs.Desk.{Happens, desk_of, grants_of, out_of}
-use Rattle.trio_ctl.specs.Entries.{HasRoom}
+use Rattle.trio_open.specs.Entries.{HasRoom}
 use Rattle.trio_ctl.specs.HandedIn.{WereLent}
 use Rattle.trio_ctl.specs.Logged.{HasHistory, recorded}
-use Rattle.trio_ctl.specs.Open.{hold_of, shown_of}
+use Rattle.trio_open.specs.Open.{hold_of, shown_of}
 use Rattle.trio_ctl.specs.declared.outcome.Outcome.{Outcome}
-use Rattle.trio_ctl.specs.inner.Modes.{is_back}
+use Rattle.trio_open.specs.inner.Modes.{is_back}
 use Rattle.trio_ctl.specs.inner.Outcomes.{IsOutcome, verdict_on}
 use Rattle.trio_ctl.specs.inner.Telling.{TellsOutcome, noted_by}
 use Rattle.trio_ctl.proofs.Underways.{idle_in, underway_after, underway_in}
 use Rattle.trio_ctl.proofs.LeasesBack.{all_back_is, are_back, backs_kept, backs_leave, left_out}
 use Rattle.trio_ctl.proofs.DeskGiven.{behind, given_to}
 use Rattle.trio_ctl.proofs.DeskOuts.{In-numbers_to, alike, ended_out, hold_is, left_numbers, read_is, written_among}
-use Rattle.trio_ctl.proofs.LendLemmas.{sheets_untouched}
+use Rattle.trio_open.proofs.LendLemmas.{sheets_untouched}
 use Rattle.trio_ctl.proofs.Recording.{backs_history, still_mine}
 use Rattle.trio_ctl.proofs.RecordedReleases.{handed_is, marks_fit, noted_then}
 

@@ -27,8 +27,8 @@ use Rattle.trio_commit.specs.declared.store.Store.{Store}
 use Rattle.trio_commit.specs.Store.{checkpoint_at, state_of, with_checkpoint}
 use Rattle.trio_state.specs.Moves.{Outline}
 use Rattle.trio_ctl.specs.Ctl.{IsControlled}
-use Rattle.trio_ctl.specs.Entries.{Entries, begun_among, reads_among}
-use Rattle.trio_ctl.specs.Open.{Opened, grants_in, keyed}
+use Rattle.trio_open.specs.Entries.{Entries, begun_among, reads_among}
+use Rattle.trio_open.specs.Open.{Opened, grants_in, keyed}
 use Rattle.trio_ctl.specs.Stored.{superblock_at_home}
 use Rattle.trio_ctl.proofs.Underways.{none_among}
 use Rattle.trio_ctl.proofs.Wholes.{cond_there, whole_at, whole_none}

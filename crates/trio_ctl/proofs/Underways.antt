@@ -12,7 +12,7 @@ use Rattle.trio_state.specs.State.{State}
 use Rattle.trio_state.specs.Step.{CtlAnswer, Event, Step, library_of}
 use Rattle.trio_laws.proofs.acts.Underways.{acts_keep, begun_like, some_apart}
 use Rattle.trio_ctl.specs.Ctl.{Controller, IsIdle, NoneBegun}
-use Rattle.trio_ctl.specs.Entries.{begun_among}
+use Rattle.trio_open.specs.Entries.{begun_among}
 
 -- the state with what has begun
 abbrev pub underway_in : State → List (Option Outline) → Underway

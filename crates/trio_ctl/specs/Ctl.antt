@@ -23,8 +23,8 @@ use Rattle.trio_tables.specs.Out.{NoneOut, lib_at}
 use Rattle.trio_survey.specs.Stored.{StoresImage}
 use Rattle.trio_image.specs.Image.{ImagePages, IsVerified, TablesAre}
 use Rattle.trio_commit.specs.declared.store.Store.{Store}
-use Rattle.trio_ctl.specs.Entries.{Entries, begun_among, reads_among}
-use Rattle.trio_ctl.specs.Open.{Opened, grants_in, keyed}
+use Rattle.trio_open.specs.Entries.{Entries, begun_among, reads_among}
+use Rattle.trio_open.specs.Open.{Opened, grants_in, keyed}
 use Rattle.trio_ctl.specs.Stored.{IsStored}
 
 -- the superblock of an image of this core: its sizes, and the body of its root

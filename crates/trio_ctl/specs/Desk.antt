@@ -27,7 +27,7 @@ use Rattle.trio_ctl.specs.Backs.{AreBack, all_back, back_entries}
 use Rattle.trio_ctl.specs.Answers.{allot_fault_answer, children_told, grant_fault_answer, mode_fault_answer, release_fault_answer, verdict_of}
 use Rattle.trio_ctl.specs.Ctl.{Controller}
 use Rattle.trio_ctl.specs.Logged.{alone, entries_made, with_bundle, with_call, with_calls}
-use Rattle.trio_ctl.specs.Open.{hold_of, lent_by, shown_of}
+use Rattle.trio_open.specs.Open.{hold_of, lent_by, shown_of}
 
 -- ---- what a library has out
 

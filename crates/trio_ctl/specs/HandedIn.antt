@@ -6,7 +6,7 @@ use Rattle.trio_lease.specs.declared.parts.HoldParts.{HoldParts}
 use Rattle.trio_lease.specs.declared.parts.LentPage.{LentPage}
 use Rattle.trio_lists.specs.Lists.{In}
 use Rattle.trio_state.specs.State.{OpenGrant, State}
-use Rattle.trio_ctl.specs.Open.{shown_of}
+use Rattle.trio_open.specs.Open.{shown_of}
 
 -- a hold is that of an open hold of the library, and shows the kind and the body that it lent
 pub record WasHeld (s : State) (lib' : ℕ) (h : HoldParts) : Type 0 where

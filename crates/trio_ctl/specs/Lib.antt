@@ -1,10 +1,10 @@
-pub mod Entries
+pub use Rattle.trio_open.specs.Entries
 pub mod Stored
 pub mod Ctl
-pub mod Open
+pub use Rattle.trio_open.specs.Open
 pub mod HandedIn
 pub mod Room
-pub mod Belonging
+pub use Rattle.trio_open.specs.Belonging
 pub mod Logged
 pub mod Pending
 pub mod Answers

@@ -1,10 +1,8 @@
 -- What the controller keeps: a store, and the grants that are open.
-use Rattle.std.specs.Prelude.{◌≡◌, ℕ, ◌+◌, ◌*◌, ◌-◌, not, List, [], Some, if◌then◌else◌, length, IsTrue}
+use Rattle.std.specs.Prelude.{◌≡◌, ℕ, ◌+◌, ◌*◌, ◌-◌, not, List, Some, length, IsTrue}
 use Rattle.std.specs.List.{filter}
 use Rattle.trio_rights.specs.declared.rights.Creds.{Creds}
 use Rattle.trio_rights.specs.Bundle.{Bundle}
-use Rattle.trio_rights.specs.ByKind.{covers_blocks}
-use Rattle.trio_rights.specs.Sheets.{sheet_numbers}
 use Rattle.trio_nodes.specs.declared.grant.GrantKind.TheVariants.{Write}
 use Rattle.trio_lists.specs.Lists.{In}
 use Rattle.trio_layout.specs.declared.superblock.Superblock.{Superblock}
@@ -15,6 +13,7 @@ use Rattle.trio_state.specs.Kept.{Kept}
 use Rattle.trio_state.specs.State.{OpenGrant}
 use Rattle.trio_commit.specs.declared.store.Store.{Store}
 use Rattle.trio_commit.specs.Store.{checkpoint_at, state_of}
+use Rattle.trio_open.specs.Covers.{CoversLent}
 
 -- the superblock of the image at home, whose first core page is this one
 abbrev pub superblock_at_home : Store → ℕ → Superblock
@@ -25,13 +24,6 @@ superblock_at_home s first_core = record {
   first_core = first_core;
   root = s.root;
 }
-
--- a checkpoint covers what the grant lent: its index pages, and a directory's blocks; and it has the numbers of all pages that
--- the grant lent
-pub record CoversLent (g : OpenGrant) (c : Checkpointed) : Type 0 where
-  pub chain : c.chain ≡ record { index = sheet_numbers g.index; blocks = sheet_numbers g.blocks }
-  pub index : sheet_numbers c.index ≡ sheet_numbers g.index
-  pub blocks : sheet_numbers c.blocks ≡ (if covers_blocks g.of then sheet_numbers g.blocks else [])
 
 -- What holds of a store with these open grants: its sizes fit each other, a checkpoint stands exactly where a write grant
 -- on the file of that number is open, and covers what that lent, and the state is kept.

@@ -2,11 +2,8 @@ pub mod Beginning
 pub mod Belonging
 pub mod Denials
 pub mod Lending
-pub mod Modes
+pub use Rattle.trio_open.specs.inner.Modes
 pub mod Outcomes
 pub mod Pages
-pub mod Parting
-pub mod Reads
-pub mod Room
 pub mod Same
 pub mod Telling

@@ -1,7 +1,6 @@
 //! Releases that begin, and that wait for their end.
 
 ghost use Rattle.std.specs.Prelude.{◌≡◌, ◌≢◌, ◌+◌, ◌↔◌, IfErr, IfOk, IsTrue, None, OnErr, OnOk, Some};
-ghost use Rattle.std.specs.List.{list_all};
 ghost use Rattle.trio_lease.specs.Views.{bundle_in};
 ghost use Rattle.trio_judge.specs.Cases.{case_in as case_shown};
 ghost use Rattle.trio_judge.specs.Judging.{IsJudgeRoom};
@@ -9,17 +8,17 @@ ghost use Rattle.trio_state.specs.Given.{GivenTo};
 ghost use Rattle.trio_state.specs.Moves.{Beginning, IsAwaited, begun_by, outline_of, with_begun};
 ghost use Rattle.trio_ctl.specs.Answers.{begin_answer};
 ghost use Rattle.trio_ctl.specs.Ctl.{IsLibrary};
-ghost use Rattle.trio_ctl.specs.Entries.{HasRoom};
+ghost use Rattle.trio_open.specs.Entries.{HasRoom};
 ghost use Rattle.trio_ctl.specs.HandedIn.{WereHeld};
 ghost use Rattle.trio_ctl.specs.Pending.{case_made};
-ghost use Rattle.trio_ctl.specs.inner.Beginning.{HaveBodies, IsCopy, is_body_of, underway_at};
+ghost use Rattle.trio_ctl.specs.inner.Beginning.{HaveBodies, IsCopy, underway_at};
 
 use crate::begun::Begun;
-use crate::open::OpenFile;
 use crate::registry::Registry;
 use trio_judge::{Case, Room};
-use trio_lease::{Bundle, HoldLease};
+use trio_lease::Bundle;
 use trio_nodes::ReleaseFault;
+use trio_open::belongs::have_bodies;
 use trio_rights::LibNo;
 
 impl Registry {
@@ -119,17 +118,4 @@ impl Registry {
     {
         have_bodies(&self.files, case.lib(), case.bundle().holds())
     }
-}
-
-// whether each of these holds is on a file that the library holds, with the body that was lent
-fn have_bodies(files: &[OpenFile], lib: LibNo, holds: &[HoldLease]) -> bool
-    ensures { result ≡ list_all (λ h. is_body_of files.now lib h) holds.now }
-{
-    holds.iter().all(|hold| has_body(files, lib, hold))
-}
-
-fn has_body(files: &[OpenFile], lib: LibNo, hold: &HoldLease) -> bool
-    ensures { result ≡ is_body_of files.now lib hold.now }
-{
-    files.iter().any(|file| file.lent_body_of(lib, hold))
 }

@@ -5,11 +5,11 @@ ghost use Rattle.trio_lease.specs.Views.{bundle_in};
 ghost use Rattle.trio_state.specs.Moves.{outline_of};
 ghost use Rattle.trio_entries.specs.Drafts.{IsDraftFor};
 
-use crate::outline::Outline;
 use std::alloc::Global;
 use std::marker::Model;
 use trio_entries::Draft;
 use trio_judge::Case;
+use trio_open::outline::Outline;
 use trio_page::NoMemory;
 
 /// A release that has begun and not ended: what its bundle has, and all memory of its entry.

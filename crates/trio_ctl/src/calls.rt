@@ -12,13 +12,13 @@ ghost use Rattle.trio_state.specs.Step.{Allot, Back, Done, Grant, Step};
 ghost use Rattle.trio_ctl.specs.Answers.{allot_answer, grant_answer};
 ghost use Rattle.trio_ctl.specs.Ctl.{IsIdle, IsLibrary};
 ghost use Rattle.trio_ctl.specs.Logged.{Logs, alone};
-ghost use Rattle.trio_ctl.specs.Open.{lent_by};
+ghost use Rattle.trio_open.specs.Open.{lent_by};
 ghost use Rattle.trio_ctl.specs.inner.Telling.{HasRoomFrom, allot_told, grant_told};
 
 use crate::ctl::{Ctl, make_places};
-use crate::numbers::Numbers;
 use trio_lease::{Allotted, Lease, ReadLease};
 use trio_nodes::{AllotAnswer, AllotFault, Entry, GrantAnswer, GrantFault, GrantKind};
+use trio_open::numbers::Numbers;
 use trio_rights::LibNo;
 
 impl Ctl {

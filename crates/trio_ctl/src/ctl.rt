@@ -11,7 +11,7 @@ ghost use Rattle.trio_laws.specs.history.Recorded.{IsRecorded};
 ghost use Rattle.trio_laws.specs.session.Lent.{LentIsTrue, sizes_of};
 ghost use Rattle.trio_survey.specs.Stored.{image_in};
 ghost use Rattle.trio_ctl.specs.Answers.{TellsImage, TellsLastImage};
-ghost use Rattle.trio_ctl.specs.Belonging.{Belongs};
+ghost use Rattle.trio_open.specs.Belonging.{Belongs};
 ghost use Rattle.trio_ctl.specs.Ctl.{AreAsTold, IsIdle, IsLibrary, NoneBegun, TellsSettled, writer_of};
 ghost use Rattle.trio_ctl.specs.HandedIn.{WereHeld};
 ghost use Rattle.trio_ctl.specs.Logged.{recorded};

@@ -14,14 +14,15 @@ ghost use Rattle.trio_state.specs.State.{creds_of, logged};
 ghost use Rattle.trio_state.specs.Step.{Grant, Step};
 ghost use Rattle.trio_ctl.specs.Answers.{grant_answer, Admits};
 ghost use Rattle.trio_ctl.specs.Ctl.{IsLibrary};
-ghost use Rattle.trio_ctl.specs.Open.{lent_by};
+ghost use Rattle.trio_open.specs.Open.{lent_by};
 ghost use Rattle.trio_ctl.specs.inner.Denials.{denial};
 
-use crate::lend::{GrantRequest, Loan, lend, settled_body};
+use crate::bodies::settled_body;
 use crate::registry::Registry;
 use trio_grants::{AdmitFault, GrantKey, GrantTable};
 use trio_lease::Lease;
 use trio_nodes::{GrantFault, GrantKind};
+use trio_open::lend::{GrantRequest, Loan, lend};
 use trio_page::NoMemory;
 use trio_rights::{LibNo, Need};
 use trio_tables::Row;

@@ -9,15 +9,15 @@ ghost use Rattle.trio_state.specs.Grants.{has_parent_grant, opened};
 ghost use Rattle.trio_state.specs.Step.{Grant, Step};
 ghost use Rattle.trio_ctl.specs.Answers.{grant_answer};
 ghost use Rattle.trio_ctl.specs.Ctl.{IsLibrary};
-ghost use Rattle.trio_ctl.specs.Open.{lent_by};
+ghost use Rattle.trio_open.specs.Open.{lent_by};
 ghost use Rattle.trio_ctl.specs.inner.Denials.{denial};
 
+use crate::bodies::settled_body;
 use crate::grant::admit;
-use crate::lend::settled_body;
-use crate::open::{Lent, OpenFile};
 use crate::registry::Registry;
 use trio_lease::{HoldLease, HoldParts, Lease};
 use trio_nodes::{GrantFault, GrantKind};
+use trio_open::open::{Lent, OpenFile};
 use trio_rights::LibNo;
 use trio_tables::Row;
 

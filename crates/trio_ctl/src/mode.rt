@@ -1,10 +1,9 @@
 //! Changes of mode.
 
-ghost use Rattle.std.specs.Prelude.{◌≡◌, ◌==◌, ◌&&◌, ◌<◌, ℕ, None, Some, IfOk, IsSome, length, slice_index_or, slice_set};
-ghost use Rattle.std.specs.List.{find, list_any};
+ghost use Rattle.std.specs.Prelude.{◌≡◌, ◌==◌, ◌<◌, ℕ, None, Some, IfOk, IsSome, length, slice_index_or, slice_set};
+ghost use Rattle.std.specs.List.{find};
 ghost use Rattle.std.specs.Option.{option_map};
 ghost use Rattle.trio_layout.specs.Image.{row_at};
-ghost use Rattle.trio_nodes.specs.GrantKinds.{is_read};
 ghost use Rattle.trio_tables.specs.Row.{as_row};
 ghost use Rattle.trio_state.specs.Grants.{holder_of};
 ghost use Rattle.trio_state.specs.Kept.{Kept};
@@ -12,18 +11,16 @@ ghost use Rattle.trio_state.specs.State.{logged};
 ghost use Rattle.trio_state.specs.Step.{mode_fault, moded_to};
 ghost use Rattle.trio_ctl.specs.Backs.{all_back};
 ghost use Rattle.trio_ctl.specs.Ctl.{IsLibrary};
-ghost use Rattle.trio_ctl.specs.Entries.{HasRoom};
-ghost use Rattle.trio_ctl.specs.inner.Modes.{is_around, is_back, mode_denial, stays_around, with_mode_at, with_mode_in, with_row_mode};
+ghost use Rattle.trio_open.specs.Entries.{HasRoom};
+ghost use Rattle.trio_open.specs.inner.Modes.{mode_denial, stays_around, with_mode_at, with_row_mode};
 
-use crate::lend::body_on;
-use crate::open::OpenFile;
 use crate::registry::Registry;
 use trio_commit::Store;
-use trio_grants::GrantKey;
 use trio_lease::ReadLease;
-use trio_nodes::{GrantKind, Holder, ModeFault};
-use trio_page::field::{put_bytes_in, put_u16_in};
-use trio_page::{NoMemory, Page, PageNo, Reads};
+use trio_nodes::{Holder, ModeFault};
+use trio_open::body::put_mode_in;
+use trio_open::find::key_around;
+use trio_page::{NoMemory, PageNo, Reads};
 use trio_rights::{LibNo, Mode};
 use trio_tables::Row;
 
@@ -119,49 +116,6 @@ impl Registry {
     }
 }
 
-/// The key of the first grant that is on one of two files and stays when these leases of a library
-/// are given back.
-fn key_around(
-    files: &[OpenFile],
-    lib: LibNo,
-    ino: u32,
-    parent: u32,
-    back: &[ReadLease],
-) -> Option<GrantKey>
-    ensures { result ≡ option_map (λ o. o.key) (find (λ o. stays_around lib.0 ino parent back.now o.grant) files.now) }
-{
-    let file = files.iter().find(|file| is_around(ino, parent, file) && !is_back(lib, back, file))?;
-    Some(file.key())
-}
-
-/// Whether the grant is the library's for reading one of the files of these leases.
-fn is_back(lib: LibNo, back: &[ReadLease], file: &OpenFile) -> bool
-    ensures { result ≡ is_back lib.0 back.now file.now.grant }
-{
-    is_read_by(lib, file) && has_lease(back, file.ino())
-}
-
-/// Whether the grant is the library's for reading its file.
-fn is_read_by(lib: LibNo, file: &OpenFile) -> bool
-    ensures { result ≡ (file.now.grant.lib == lib.0 && is_read file.now.grant.kind) }
-{
-    file.lib() == lib && file.kind() == GrantKind::Read
-}
-
-/// Whether one of these leases is on the file of this number.
-fn has_lease(back: &[ReadLease], ino: u32) -> bool
-    ensures { result ≡ list_any (λ f. ino == f.ino) back.now }
-{
-    back.iter().any(|lease| ino == lease.ino())
-}
-
-/// Whether the grant is on one of two files.
-fn is_around(ino: u32, parent: u32, file: &OpenFile) -> bool
-    ensures { result ≡ is_around ino parent file.now.grant }
-{
-    file.ino() == ino || file.ino() == parent
-}
-
 /// Puts a mode in the row of a live file, which is not the root, and in the body in its directory's
 /// page, which is at home.
 fn put_mode(store: &mut Store, ino: u32, row: &Row, mode: u16)
@@ -182,14 +136,4 @@ fn put_mode(store: &mut Store, ino: u32, row: &Row, mode: u16)
         ..*row
     };
     store.rows.set(ino, Some(moded));
-}
-
-/// Puts a mode into the body in a slot of a directory page.
-fn put_mode_in(page: &mut Page, slot: u16, mode: u16)
-    requires { slot < 16 }
-    ensures { page.new ≡ with_mode_in slot mode page.old }
-{
-    let mut body = body_on(page, slot);
-    put_u16_in(&mut body, 0, mode);
-    put_bytes_in(page.bytes_mut(), 256 * usize::from(slot) + 192, &body);
 }

@@ -6,7 +6,7 @@ ghost use Rattle.trio_desk.specs.Ready.{AreLent, TellsChmod};
 ghost use Rattle.trio_state.specs.Kept.{Kept};
 ghost use Rattle.trio_ctl.specs.Ctl.{IsIdle, IsLibrary};
 ghost use Rattle.trio_ctl.specs.Desk.{Happens, LogsCall, desk_of, out_of};
-ghost use Rattle.trio_ctl.specs.inner.Modes.{busy_holder};
+ghost use Rattle.trio_open.specs.inner.Modes.{busy_holder};
 
 use crate::backs::give_back_all;
 use crate::ctl::{Ctl, make_places};

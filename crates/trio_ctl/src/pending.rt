@@ -9,11 +9,11 @@ ghost use Rattle.trio_judge.specs.Verdicts.{meets_three, HasFewEntries, HasListi
 ghost use Rattle.trio_entries.specs.Handed.{handed_in};
 ghost use Rattle.trio_ctl.specs.Pending.{all_marked, IsWeighed};
 
-use crate::full::is_full;
 use crate::same::is_same;
 use std::marker::Model;
 use trio_judge::{Case, Room, Verdict, judge};
 use trio_nodes::Handed;
+use trio_open::full::is_full;
 use trio_page::{Page, PageNo, Reads};
 use trio_rights::LibNo;
 

@@ -9,13 +9,13 @@ ghost use Rattle.trio_laws.specs.session.Lent.{sizes_of};
 ghost use Rattle.trio_ctl.specs.Ctl.{AreAsTold, IsLibrary, superblock_for};
 
 use crate::begun::Begun;
-use crate::history::History;
-use crate::open::OpenFile;
 use std::alloc::Global;
 use std::marker::Model;
 use trio_commit::Store;
 use trio_grants::GrantTable;
 use trio_layout::{CoreRange, Superblock};
+use trio_open::history::History;
+use trio_open::open::OpenFile;
 use trio_rights::{Creds, LibNo};
 use trio_tables::Shadow;
 
@@ -43,7 +43,7 @@ pub(crate) struct Registry {
 
 impl Model for Registry {
     ghost use Rattle.trio_commit.specs.Store.{state_of};
-    ghost use Rattle.trio_ctl.specs.Open.{grants_in};
+    ghost use Rattle.trio_open.specs.Open.{grants_in};
     ghost use Rattle.trio_ctl.specs.Ctl.{Registered, IsControlled};
 
     ghost Value = { Registered };

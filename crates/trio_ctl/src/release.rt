@@ -16,19 +16,19 @@ ghost use Rattle.trio_state.specs.Tells.{case_in};
 ghost use Rattle.trio_laws.specs.RuleLaws.{IsJudgeable as CanBeJudged};
 ghost use Rattle.trio_ctl.specs.Answers.{release_fault_answer, verdict_of};
 ghost use Rattle.trio_ctl.specs.Ctl.{IsLibrary};
-ghost use Rattle.trio_ctl.specs.Entries.{HasRoom};
+ghost use Rattle.trio_open.specs.Entries.{HasRoom};
 ghost use Rattle.trio_ctl.specs.HandedIn.{WereHeld};
 ghost use Rattle.trio_ctl.specs.Pending.{IsVerdict, case_made};
 ghost use Rattle.trio_ctl.specs.inner.Beginning.{underway_at};
 ghost use Rattle.trio_ctl.specs.inner.Outcomes.{HasFew, IsOutcome, verdict_on};
 
-use crate::closing::end_files;
 use crate::outcome::{Outcome, outcome_of};
-use crate::parted::parted_hold;
 use crate::registry::Registry;
 use trio_judge::{Case, Room, Verdict, judge};
 use trio_lease::Bundle;
 use trio_nodes::{ReleaseAnswer, ReleaseFault};
+use trio_open::closing::end_files;
+use trio_open::parted::parted_hold;
 use trio_page::{NoMemory, Reads};
 use trio_rights::LibNo;
 

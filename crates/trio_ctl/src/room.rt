@@ -1,13 +1,13 @@
 //! What a release needs.
 
-ghost use Rattle.std.specs.Prelude.{◌≡◌, ◌≤◌, ◌+◌, ℕ, length};
-ghost use Rattle.trio_rights.specs.Bundle.{bundle_pages};
+ghost use Rattle.std.specs.Prelude.{◌≡◌, ◌+◌, ℕ};
 ghost use Rattle.trio_lease.specs.Views.{bundle_in};
-ghost use Rattle.trio_ctl.specs.Belonging.{Belongs};
+ghost use Rattle.trio_open.specs.Belonging.{Belongs};
 ghost use Rattle.trio_ctl.specs.Room.{room_for};
 
 use crate::registry::Registry;
 use trio_lease::Bundle;
+use trio_open::room::{page_count, value_count};
 
 /// The bytes for each page and each inode number of the image.
 const NUMBER_ROOM: u64 = 4;
@@ -30,30 +30,4 @@ impl Registry {
             + PAGE_ROOM * page_count(bundle)
             + VALUE_ROOM * (1 + value_count(bundle))
     }
-}
-
-/// How many pages a bundle has, which are at most all of an image.
-fn page_count(bundle: &Bundle) -> u64
-    requires { length (bundle_pages (bundle_in bundle.now)) ≤ 8192 }
-    ensures count { result ≡ length (bundle_pages (bundle_in bundle.now)) }
-    ensures few { result ≤ 8192 }
-{
-    let writes = bundle.writes();
-    let mut count = bundle.pages().len();
-    for lease in writes {
-        count += lease.index_len() + lease.blocks_len();
-    }
-    count as u64
-}
-
-/// How many write leases, holds and inode numbers a bundle has, each at most for all numbers of an image.
-fn value_count(bundle: &Bundle) -> u64
-    requires writes { length bundle.now.writes ≤ 16385 }
-    requires holds { length bundle.now.holds ≤ 16385 }
-    requires inodes { length bundle.now.inodes ≤ 16385 }
-    ensures count { result ≡ length bundle.now.writes + length bundle.now.holds + length bundle.now.inodes }
-    ensures few { result ≤ 49155 }
-{
-    let count = bundle.writes().len() + bundle.holds().len() + bundle.inodes().len();
-    count as u64
 }

@@ -5,9 +5,9 @@ ghost use Rattle.std.specs.Option.{option_copied, option_map};
 ghost use Rattle.trio_entries.specs.Handed.{block_in, file_in, fresh_in, handed_in, index_in};
 ghost use Rattle.trio_ctl.specs.inner.Same.{page_seen};
 
-use crate::outline::has_numbers;
 use trio_lease::{Bundle, FreshPage, WriteLease};
 use trio_nodes::{Handed, HandedFile, HandedPage};
+use trio_open::outline::has_numbers;
 use trio_page::{Page, PageNo};
 
 /// Whether this is the bundle as it would be handed in now, byte for byte and with the marks of its

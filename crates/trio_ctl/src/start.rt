@@ -6,7 +6,6 @@ ghost use Rattle.trio_state.specs.Run.{start};
 ghost use Rattle.trio_survey.specs.Stored.{image_in};
 
 use crate::begun::Begun;
-use crate::history::History;
 use crate::registry::Registry;
 use std::alloc::Global;
 use trio_allot::Allotments;
@@ -14,6 +13,7 @@ use trio_checkpoint::Checkpoint;
 use trio_commit::Store;
 use trio_grants::GrantTable;
 use trio_image::{Image, ImageParts};
+use trio_open::history::History;
 use trio_page::NoMemory;
 use trio_rights::Creds;
 

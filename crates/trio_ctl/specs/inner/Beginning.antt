@@ -1,9 +1,5 @@
 -- A release that has begun, as the registry has it. Cited by private functions alone.
-use Rattle.std.specs.Prelude.{◌≡◌, ◌==◌, Bool, ◌&&◌, List}
-use Rattle.std.specs.List.{list_any}
-use Rattle.std.specs.Str.{bytes_eq}
-use Rattle.trio_rights.specs.declared.rights.LibNo.{LibNo}
-use Rattle.trio_nodes.specs.GrantKinds.{is_hold}
+use Rattle.std.specs.Prelude.{◌≡◌, List}
 use Rattle.trio_layout.specs.Copied.{copied_rows}
 use Rattle.trio_layout.specs.Image.{settled_body}
 use Rattle.trio_lease.specs.Views.{bundle_in}
@@ -11,21 +7,12 @@ use Rattle.trio_lease.specs.declared.parts.HoldParts.{HoldParts}
 use Rattle.trio_lists.specs.Lists.{In}
 use Rattle.trio_judge.specs.Cases.{CaseShown}
 use Rattle.trio_state.specs.Moves.{Underway}
-use Rattle.trio_state.specs.State.{OpenGrant, State, creds_of, settled}
+use Rattle.trio_state.specs.State.{State, creds_of, settled}
 use Rattle.trio_ctl.specs.Ctl.{Registered}
-use Rattle.trio_ctl.specs.Open.{Opened}
 
 -- what is underway
 abbrev pub underway_at : Registered → Underway
 underway_at r = record { state = r.state; begun = r.begun }
-
--- the grant is the library's hold on the file, and lent this body
-abbrev pub is_held_so : LibNo → HoldParts → OpenGrant → Bool
-is_held_so lib h g = g.lib == lib.0 && is_hold g.kind && g.ino == h.ino && bytes_eq g.body h.body
-
--- a hold is on a file that the library holds, and has the body that was lent
-abbrev pub is_body_of : List Opened → LibNo → HoldParts → Bool
-is_body_of files lib h = list_any (λ o. is_held_so lib h o.grant) files
 
 -- each of these holds has the settled body of its file
 abbrev pub HaveBodies : State → List HoldParts → Type 0

@@ -1,21 +1,12 @@
 -- What is lent of a file. Cited by private functions alone.
-use Rattle.std.specs.Prelude.{ℕ, ◌==◌, ◌<◌, ◌++◌, List, [], Option, None, IsSome, IsTrue, slice_index_or}
+use Rattle.std.specs.Prelude.{ℕ, ◌==◌, ◌<◌, List, [], Option, None, IsSome, slice_index_or}
 use Rattle.std.specs.List.{find}
 use Rattle.std.specs.Option.{option_map, option_map_or}
 use Rattle.trio_rights.specs.Row.{Row}
-use Rattle.trio_layout.specs.Chain.{Chain}
-use Rattle.trio_layout.specs.Core.{Core}
 use Rattle.trio_layout.specs.Entries.{body_in_slot}
-use Rattle.trio_lists.specs.Lists.{are_new}
 use Rattle.trio_rights.specs.Sheets.{Sheet}
-use Rattle.trio_checkpoint.specs.Covered.{are_there}
 use Rattle.trio_commit.specs.declared.store.Store.{Store}
 use Rattle.trio_commit.specs.Store.{checkpoint_at}
-
--- each page of the chain is there, and once
-pub record IsLendable (core : Core) (chain : Chain) : Type 0 where
-  pub there : IsTrue (are_there core (chain.index ++ chain.blocks))
-  pub once : IsTrue (are_new [] (chain.index ++ chain.blocks))
 
 -- the bytes of the page of this number, if it is one of these
 abbrev pub page_on : ℕ → List Sheet → Option (List ℕ)

@@ -1,5 +1,5 @@
 -- What the log tells of an answer. Cited by private functions alone.
-use Rattle.std.specs.Prelude.{◌≡◌, ◌≤◌, ℕ, List, [], Option, Some, None, Result, Ok, Err, length, vec_capacity}
+use Rattle.std.specs.Prelude.{◌≡◌, List, Option, Some, None, Result, Ok, Err, length}
 use Rattle.trio_allot.specs.Out.{inode_numbers, page_numbers}
 use Rattle.trio_lease.specs.declared.fresh.Allotted.{Allotted}
 use Rattle.trio_lease.specs.declared.lease.Lease.{Lease}
@@ -19,7 +19,8 @@ use Rattle.trio_nodes.specs.declared.answers.ReleaseAnswer.TheVariants.{Accepted
 use Rattle.trio_nodes.specs.declared.entry.Handed.{Handed}
 use Rattle.trio_nodes.specs.declared.entry.RawFile.{RawFile}
 use Rattle.trio_entries.specs.declared.telling.Told.{Told}
-use Rattle.trio_ctl.specs.declared.numbers.Numbers.{Numbers}
+use Rattle.trio_open.specs.declared.numbers.Numbers.{Numbers}
+use Rattle.trio_open.specs.inner.Numbers.{HasRoomFor}
 use Rattle.trio_ctl.specs.declared.outcome.Outcome.{Outcome}
 use Rattle.trio_ctl.specs.declared.outcome.Outcome.TheVariants.{Accepted, Refused}
 
@@ -35,13 +36,6 @@ abbrev pub allot_told : Result Allotted AllotFault → Option AllotAnswer
 allot_told (Ok given) = Some (Given (page_numbers given.pages.items) (inode_numbers given.inodes.items))
 allot_told (Err NoAllotMemory) = None
 allot_told (Err fault) = Some (NotGiven fault)
-
--- both lists are empty and have room for so many
-pub record HasRoomFor (pages' inodes' : ℕ) (n : Numbers) : Type 0 where
-  pub no_pages : n.pages.items ≡ []
-  pub no_inodes : n.inodes.items ≡ []
-  pub pages : pages' ≤ vec_capacity n.pages
-  pub inodes : inodes' ≤ vec_capacity n.inodes
 
 -- an allotment that is given has no more than there is room for
 abbrev pub HasRoomFrom : Numbers → Result Allotted AllotFault → Type 0

@@ -1,6 +1,7 @@
 use Rattle.std.proofs.Common.{◌≡◌, true, arith, rules}
 use Rattle.trio_entries.specs.Handed.{index_in}
-use Rattle.trio_ctl.proofs.Sames.{index_at, same_more}
+use Rattle.trio_ctl.proofs.Sames.{index_at}
+use Rattle.trio_open.proofs.Places.{same_more}
 use Rattle.trio_ctl.proofs.same.are_index.Goals as goal
 
 pub loop-i-preserved : goal.loop-i-preserved

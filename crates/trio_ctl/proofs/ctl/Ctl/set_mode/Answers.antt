@@ -13,7 +13,7 @@ use Rattle.trio_laws.specs.history.Replays.{IsLibrary}
 use Rattle.trio_ctl.specs.Backs.{all_back, back_entries}
 use Rattle.trio_ctl.specs.Ctl.{Controller}
 use Rattle.trio_ctl.specs.Desk.{Happens, desk_of, out_of}
-use Rattle.trio_ctl.specs.inner.Modes.{busy_holder}
+use Rattle.trio_open.specs.inner.Modes.{busy_holder}
 use Rattle.trio_ctl.proofs.LeasesBack.{all_back_is, are_back, backs_whose}
 use Rattle.trio_ctl.proofs.ModeCalls.{busy_told, fault_told, free_at, happens_moded, happens_refused, happens_wants, moded_history, moded_logs, moded_room, plain_call, plain_refusal, plain_told, refused_history}
 use Rattle.trio_ctl.proofs.Recording.{next_entry, one_room}

@@ -5,7 +5,7 @@ use Rattle.trio_ctl.specs.Answers.{allot_fault_answer}
 use Rattle.trio_allot.specs.Out.{fresh_number, fresh_page, inode_numbers, page_numbers}
 use Rattle.trio_commit.specs.declared.store.Store.{Store}
 use Rattle.trio_commit.specs.Store.{state_of}
-use Rattle.trio_ctl.specs.Open.{grants_in}
+use Rattle.trio_open.specs.Open.{grants_in}
 use Rattle.trio_allot.proofs.Taking.{numbers_given}
 use Rattle.trio_ctl.proofs.Views.{state_is}
 use Rattle.trio_ctl.proofs.Allotting.{free_home, given_controlled, given_step, logged_controlled, logged_is, numbers_placed, pages_placed, refused_step, still, unchanged_controlled}

@@ -6,7 +6,7 @@ use Rattle.trio_state.specs.Given.{GivenTo}
 use Rattle.trio_state.specs.State.{State, creds_of}
 use Rattle.trio_ctl.specs.HandedIn.{WereHeld}
 use Rattle.trio_commit.specs.Store.{state_of}
-use Rattle.trio_ctl.specs.Open.{grants_in}
+use Rattle.trio_open.specs.Open.{grants_in}
 use Rattle.trio_ctl.specs.Pending.{case_made}
 use Rattle.trio_ctl.proofs.Cases.{case_judgeable, made_so}
 use Rattle.trio_ctl.proofs.Views.{state_is}

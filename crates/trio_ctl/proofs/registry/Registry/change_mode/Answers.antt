@@ -6,7 +6,7 @@ use Rattle.trio_tables.specs.Row.{as_row}
 use Rattle.trio_commit.specs.Store.{state_of}
 use Rattle.trio_state.specs.State.{State}
 use Rattle.trio_state.specs.Step.{mode_fault}
-use Rattle.trio_ctl.specs.Open.{grants_in}
+use Rattle.trio_open.specs.Open.{grants_in}
 use Rattle.trio_ctl.proofs.Moding.{after_is, live_within, moded_controlled, page_there, slot_within}
 use Rattle.trio_ctl.proofs.Views.{state_is}
 use Rattle.trio_ctl.proofs.registry.Registry.change_mode.Goals as goal

@@ -12,10 +12,9 @@ use Rattle.trio_state.specs.Step.{Accepted, Refused, Release, Step}
 use Rattle.trio_state.specs.Tells.{case_in}
 use Rattle.trio_commit.specs.Store.{state_of}
 use Rattle.trio_ctl.specs.Ctl.{Registered}
-use Rattle.trio_ctl.specs.Ctl.{Registered}
-use Rattle.trio_ctl.specs.Entries.{HasRoom}
-use Rattle.trio_ctl.specs.Open.{grants_in}
-use Rattle.trio_ctl.proofs.ClosingFacts.{staying}
+use Rattle.trio_open.specs.Entries.{HasRoom}
+use Rattle.trio_open.specs.Open.{grants_in}
+use Rattle.trio_open.proofs.ClosingFacts.{staying}
 use Rattle.trio_ctl.proofs.Committing.{Commits}
 use Rattle.trio_ctl.proofs.RollingBack.{RollsBack}
 use Rattle.trio_ctl.proofs.Concluding.{accepted_step, can_commit_it, can_roll_back_it, committed_it, ended_controlled, few_changes, stand_accepted, stand_refused, refused_step, rolled_back_it}

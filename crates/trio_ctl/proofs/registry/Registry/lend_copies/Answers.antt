@@ -10,10 +10,10 @@ use Rattle.trio_layout.specs.declared.range.CoreRange.{CoreRange}
 use Rattle.trio_state.specs.State.{OpenGrant, State}
 use Rattle.trio_checkpoint.specs.Covered.{chain_in, core_of}
 use Rattle.trio_commit.specs.declared.store.Store.{Store}
-use Rattle.trio_ctl.specs.Entries.{Entries}
+use Rattle.trio_open.specs.Entries.{Entries}
 use Rattle.trio_ctl.specs.inner.Denials.{denial}
-use Rattle.trio_ctl.specs.inner.Lending.{IsLendable}
-use Rattle.trio_ctl.specs.Open.{Opened, grant_on, shown_of}
+use Rattle.trio_open.specs.inner.Lending.{IsLendable}
+use Rattle.trio_open.specs.Open.{Opened, grant_on, shown_of}
 use Rattle.trio_ctl.proofs.Views.{next_is, state_is}
 use Rattle.trio_ctl.proofs.Granting.{refused_step, stands_somewhere, body_is, chain, chain_home, lendable, grant_made, plain_controlled, plain_step, controlled_still}
 use Rattle.trio_ctl.proofs.registry.Registry.lend_copies.Goals as goal

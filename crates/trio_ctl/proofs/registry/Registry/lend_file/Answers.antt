@@ -13,9 +13,9 @@ use Rattle.trio_layout.specs.declared.range.CoreRange.{CoreRange}
 use Rattle.trio_state.specs.State.{State}
 use Rattle.trio_checkpoint.specs.Covered.{chain_in, core_of}
 use Rattle.trio_commit.specs.declared.store.Store.{Store}
-use Rattle.trio_ctl.specs.inner.Lending.{IsLendable}
+use Rattle.trio_open.specs.inner.Lending.{IsLendable}
 use Rattle.trio_laws.specs.OutLaws.{without_checkpoint}
-use Rattle.trio_ctl.specs.Open.{grant_on}
+use Rattle.trio_open.specs.Open.{grant_on}
 use Rattle.trio_ctl.specs.inner.Denials.{denial}
 use Rattle.trio_ctl.proofs.Views.{next_is, state_is}
 use Rattle.trio_ctl.proofs.Granting.{refused_step, stands_somewhere, body_is, chain, chain_home, lendable, granted_controlled, granted_step, lease_made, controlled_still}

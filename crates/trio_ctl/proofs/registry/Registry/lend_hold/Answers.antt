@@ -8,9 +8,9 @@ use Rattle.trio_layout.specs.Image.{row_at, settled_body}
 use Rattle.trio_state.specs.State.{State, settled}
 use Rattle.trio_commit.specs.Store.{state_of}
 use Rattle.trio_commit.specs.declared.store.Store.{Store}
-use Rattle.trio_ctl.specs.Entries.{Entries}
+use Rattle.trio_open.specs.Entries.{Entries}
 use Rattle.trio_ctl.specs.inner.Denials.{denial}
-use Rattle.trio_ctl.specs.Open.{Opened, grants_in}
+use Rattle.trio_open.specs.Open.{Opened, grants_in}
 use Rattle.trio_ctl.proofs.Views.{next_is, state_is}
 use Rattle.trio_ctl.proofs.Granting.{refused_step, stands_somewhere, body_is, plain_controlled, plain_step}
 use Rattle.trio_tables.specs.Tables.{child_count}

@@ -7,7 +7,7 @@ use Rattle.trio_tables.specs.Row.{as_row}
 use Rattle.trio_state.specs.State.{State}
 use Rattle.trio_state.specs.Step.{mode_fault}
 use Rattle.trio_ctl.specs.Backs.{all_back}
-use Rattle.trio_ctl.specs.inner.Modes.{stays_around}
+use Rattle.trio_open.specs.inner.Modes.{stays_around}
 use Rattle.trio_ctl.proofs.Moding.{busy_told, denied_back, free_back, none_told}
 use Rattle.trio_ctl.proofs.Views.{state_is}
 use Rattle.trio_ctl.proofs.registry.Registry.mode_fault.Goals as goal

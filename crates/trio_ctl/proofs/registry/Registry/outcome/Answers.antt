@@ -7,7 +7,7 @@ use Rattle.trio_commit.specs.Store.{state_of}
 use Rattle.trio_state.specs.State.{State}
 use Rattle.trio_state.specs.Tells.{case_in}
 use Rattle.trio_laws.specs.RuleLaws.{IsJudgeable}
-use Rattle.trio_ctl.specs.Open.{grants_in}
+use Rattle.trio_open.specs.Open.{grants_in}
 use Rattle.trio_ctl.specs.Pending.{IsVerdict}
 use Rattle.trio_ctl.specs.inner.Outcomes.{IsOutcome}
 use Rattle.trio_ctl.proofs.Concluding.{verdict_told}

@@ -1,6 +1,6 @@
 use Rattle.std.proofs.Common.{sym, subst}
 use Rattle.trio_state.specs.State.{State}
-use Rattle.trio_ctl.specs.Belonging.{Belongs}
+use Rattle.trio_open.specs.Belonging.{Belongs}
 use Rattle.trio_ctl.proofs.Rooms.{counts_few}
 use Rattle.trio_ctl.proofs.Views.{state_is}
 use Rattle.trio_ctl.proofs.registry.Registry.room.Goals as goal

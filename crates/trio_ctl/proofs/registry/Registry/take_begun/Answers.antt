@@ -2,8 +2,8 @@ use Rattle.std.proofs.Common.{◌≡◌, ◌-◌, get_or, set, Option, None, Som
 use Rattle.trio_commit.specs.Store.{state_of}
 use Rattle.trio_state.specs.Moves.{Outline, Underway, begun_by}
 use Rattle.trio_ctl.specs.Ctl.{IsControlled, Registered}
-use Rattle.trio_ctl.specs.Entries.{Entries}
-use Rattle.trio_ctl.specs.Open.{grants_in}
+use Rattle.trio_open.specs.Entries.{Entries}
+use Rattle.trio_open.specs.Open.{grants_in}
 use Rattle.trio_ctl.specs.inner.Beginning.{underway_at}
 use Rattle.trio_ctl.proofs.Beginnings.{begun_place, begun_stands, some_promised, stands_there, takes_controlled}
 use Rattle.trio_ctl.proofs.Views.{underway_is}

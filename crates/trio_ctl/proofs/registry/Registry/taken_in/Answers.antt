@@ -4,8 +4,8 @@ use Rattle.trio_state.specs.Bundles.{parted_hold}
 use Rattle.trio_state.specs.Moves.{ComesBack}
 use Rattle.trio_state.specs.State.{State}
 use Rattle.trio_ctl.specs.Ctl.{Registered}
-use Rattle.trio_ctl.specs.Entries.{HasRoom}
-use Rattle.trio_ctl.specs.inner.Parting.{lowest_parted}
+use Rattle.trio_open.specs.Entries.{HasRoom}
+use Rattle.trio_open.specs.inner.Parting.{lowest_parted}
 use Rattle.trio_ctl.proofs.PartedHolds.{parted_is}
 use Rattle.trio_ctl.proofs.Views.{state_is}
 use Rattle.trio_ctl.proofs.registry.Registry.taken_in.Goals as goal

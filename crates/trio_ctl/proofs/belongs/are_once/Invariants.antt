@@ -1,7 +1,0 @@
-use Rattle.std.proofs.Common.{◌≡◌, [], drop, map, take}
-use Rattle.trio_lists.specs.Lists.{are_new}
-use Rattle.trio_ctl.proofs.belongs.are_once.Given as goal
-
--- what is left is new after what came before exactly where all stand once
-abbrev pub invariant-loop-i : goal.invariant-loop-i
-invariant-loop-i g l = are_new (map g.T.Numbered.number_of (take l.i l.things)) (map g.T.Numbered.number_of (drop l.i l.things)) ≡ are_new [] (map g.T.Numbered.number_of l.things)

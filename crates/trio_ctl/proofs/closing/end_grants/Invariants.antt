@@ -1,7 +1,0 @@
-use Rattle.std.proofs.Common.{take, drop}
-use Rattle.trio_lease.specs.Views.{bundle_in}
-use Rattle.trio_ctl.proofs.ClosingFacts.{Going}
-use Rattle.trio_ctl.proofs.closing.end_grants.Given as goal
-
-abbrev pub invariant-loop-file : goal.invariant-loop-file
-invariant-loop-file l = Going l.lib (bundle_in l.case.bundle) (take l.file-index l.files) (drop l.file-index l.files) l.grants

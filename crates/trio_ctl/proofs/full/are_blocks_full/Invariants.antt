@@ -1,7 +1,0 @@
-use Rattle.std.proofs.Common.{take}
-use Rattle.trio_ctl.specs.Belonging.{AreWhole}
-use Rattle.trio_ctl.proofs.full.are_blocks_full.Given as goal
-
--- those so far
-abbrev pub invariant-loop-i : goal.invariant-loop-i
-invariant-loop-i l = AreWhole (take l.i l.lease.stands.blocks)

@@ -1,9 +1,0 @@
-use Rattle.std.proofs.Common.{take}
-use Rattle.trio_lists.specs.Lists.{In}
-use Rattle.trio_lease.specs.Shown.{LentFile}
-use Rattle.trio_ctl.specs.Belonging.{AreWhole}
-use Rattle.trio_ctl.proofs.full.are_leases_full.Given as goal
-
--- those so far
-abbrev pub invariant-loop-lease : goal.invariant-loop-lease
-invariant-loop-lease l = (f : LentFile) → In f (take l.lease-index l.leases) → AreWhole f.stands.index × AreWhole f.stands.blocks

@@ -1,0 +1,8 @@
+pub mod Given
+pub mod Places
+pub mod Counts
+pub mod LendLemmas
+pub mod Outlines
+pub mod Fullness
+pub mod ClosingFacts
+pub mod PartedHolds

@@ -1,0 +1,10 @@
+use Rattle.std.proofs.Common.{◌≡◌, drop, length}
+use Rattle.trio_open.specs.inner.Given.{are_numbered}
+use Rattle.trio_open.proofs.belongs.has_blocks.Given as goal
+
+-- what is left has its numbers exactly where all have
+abbrev pub invariant-loop-i : goal.invariant-loop-i
+invariant-loop-i l = record {
+  same : length l.lease.stands.blocks ≡ length l.numbers;
+  left : are_numbered (drop l.i l.lease.stands.blocks) (drop l.i l.numbers) ≡ are_numbered l.lease.stands.blocks l.numbers;
+}

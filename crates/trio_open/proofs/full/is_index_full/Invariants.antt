@@ -1,0 +1,7 @@
+use Rattle.std.proofs.Common.{take}
+use Rattle.trio_open.specs.Belonging.{AreWhole}
+use Rattle.trio_open.proofs.full.is_index_full.Given as goal
+
+-- those so far
+abbrev pub invariant-loop-i : goal.invariant-loop-i
+invariant-loop-i l = AreWhole (take l.i l.lease.stands.index)
