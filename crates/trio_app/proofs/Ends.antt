@@ -1,7 +1,7 @@
 -- How the run of a script ends, and what the whole work comes to.
-use Rattle.std.proofs.Common.{◌≡◌, ℕ, zero, suc, ◌+◌, ◌<◌, ◌≤◌, ◌⊎◌, min, List, [], ◌∷◌, ◌++◌, length, map, take, get_or, Option, None, Bool, inl, inr, refl, sym, ap, subst, ◌∙◌, arith}
-use Rattle.std.proofs.lemmas.List.{append-nil, append_assoc, get_or-map, length-map}
-use Rattle.trio_io.specs.Shelf.{Shelf, OnlyReads, OnlyReplaces, Rose, told}
+use Rattle.std.proofs.Common.{◌≡◌, ℕ, zero, suc, ◌+◌, ◌<◌, ◌≤◌, min, List, [], ◌∷◌, ◌++◌, length, take, get_or, Option, None, Bool, refl, sym, ap, subst, ◌∙◌, arith}
+use Rattle.std.proofs.lemmas.List.{append-nil, append_assoc}
+use Rattle.trio_io.specs.Shelf.{Shelf, OnlyReplaces, Rose, told}
 use Rattle.trio_tables.specs.Out.{NoneOut}
 use Rattle.trio_layout.specs.Core.{Core}
 use Rattle.trio_layout.specs.declared.superblock.Superblock.{Superblock}
@@ -15,33 +15,27 @@ use Rattle.trio_state.specs.State.{State, settled}
 use Rattle.trio_state.specs.Run.{start}
 use Rattle.trio_layout.specs.Tree.{TreeLine, tree_of}
 use Rattle.trio_script.specs.declared.ScriptLib.{ScriptLib}
-use Rattle.trio_report.specs.declared.answer.LineAnswer.{LineAnswer}
-use Rattle.trio_report.specs.Answers.{answer_line}
 use Rattle.trio_report.specs.Report.{tree_text, counts_text}
 use Rattle.trio_rights.specs.declared.rights.Creds.{Creds}
 use Rattle.trio_image.specs.declared.counts.Counts.{Counts}
 use Rattle.trio_image.specs.Counts.{counts_in_tables, counts_of}
 use Rattle.trio_image.specs.Image.{ImagePages, IsVerified, TablesAre}
 use Rattle.trio_image.specs.Load.{Loads}
-use Rattle.trio_image.specs.Made.{Fits, IsMade, new_counts}
 use Rattle.trio_ctl.specs.Ctl.{superblock_for, writer_of}
 use Rattle.trio_ctl.specs.Logged.{recorded}
 use Rattle.trio_runner.specs.Play.{Heard, Played, creds_in}
 use Rattle.trio_runner.specs.RunLaws.{OrderIsLogged, RanEndsFree, RanIsOrder, RanIsPrinted}
 use Rattle.trio_runner.specs.Runs.{ScriptRan}
 use Rattle.trio_runner.specs.Seen.{ScriptPlayed}
-use Rattle.trio_app.specs.declared.status.Status.{Status}
-use Rattle.trio_app.specs.declared.status.Status.TheVariants.{Done, NotVerified, Usage, BadScript, ReadFault, WriteFault, NoMemory as StatusNoMemory, TooLong}
-use Rattle.trio_app.specs.Check.{Check}
-use Rattle.trio_app.specs.Images.{ImageStops, OutKeeps}
-use Rattle.trio_app.specs.Inputs.{InputsRead, InputsStop, ReadsBoth, ReadsLibraries, image_read, libs_read}
-use Rattle.trio_app.specs.Lines.{made_line, usage_line, write_fault_line}
-use Rattle.trio_app.specs.New.{New}
-use Rattle.trio_app.specs.Report.{answers_text, lib_text, libs_text, report_text, told_counts}
+use Rattle.trio_commands.specs.declared.status.Status.{Status}
+use Rattle.trio_commands.specs.declared.status.Status.TheVariants.{Done, NotVerified, BadScript, ReadFault, WriteFault, NoMemory as StatusNoMemory, TooLong}
+use Rattle.trio_commands.specs.Images.{OutKeeps}
+use Rattle.trio_commands.specs.Inputs.{InputsRead, InputsStop, ReadsBoth, ReadsLibraries, image_read, libs_read}
+use Rattle.trio_commands.specs.Lines.{write_fault_line}
+use Rattle.trio_commands.specs.Report.{told_counts}
+use Rattle.trio_app.specs.Report.{lib_text, libs_text, report_text}
 use Rattle.trio_app.specs.inner.RunEnd.{IsLastImage, IsPlayEnd, IsRunEnd, IsThreadsEnd, IsThreadsRunEnd}
-use Rattle.trio_app.specs.inner.Saved.{IsSaved, SaveComesTo}
-use Rattle.trio_app.specs.Tree.{Tree}
-use Rattle.trio_app.specs.declared.words.TreeForm.{TreeForm}
+use Rattle.trio_commands.specs.Saved.{IsSaved, SaveComesTo}
 use Rattle.trio_app.specs.OnScript.{FaultsMayRise, OnScript, OutFails, ScriptComesTo, WritesSettled}
 use Rattle.trio_app.specs.Run.{Run, RunDone}
 use Rattle.trio_app.specs.Turns.{Turns, TurnsDone}
@@ -314,89 +308,6 @@ module _ (image script out : List ℕ) (old mid new : Shelf) (s : Superblock) (p
         writes = writes end'.state end'.stores kept;
       })
       saved
-
--- ---- a new image
-
-nothing_changes : (out : List ℕ) (old : Shelf) → OnlyReplaces out old old
-nothing_changes out old = record { others = λ q ne. refl; reads = refl; writes = record { later = λ q. omega arith; others = λ q ne. refl }; serves = refl; tells = refl }
-
-pub new_no_memory : (out : List ℕ) (pages inodes : ℕ) (old : Shelf) (text : List ℕ) (status : Status) → status ≡ StatusNoMemory → text ≡ [] → New out pages inodes old old text status
-new_no_memory out pages inodes old text status is none = rw (is, none) (record { comes_to = refl; keeps = refl; files = nothing_changes out old })
-
-pub new_usage : (out : List ℕ) (pages inodes : ℕ) (old : Shelf) (text : List ℕ) (status : Status) → (Fits pages inodes → ⊥) → ((status ≡ Usage) × (text ≡ usage_line)) ⊎ ((status ≡ StatusNoMemory) × (text ≡ [])) → New out pages inodes old old text status
-new_usage out pages inodes old text status unfit (inl told) = rw (told.0, told.1) (record { comes_to = (unfit, refl); keeps = refl; files = nothing_changes out old })
-new_usage out pages inodes old text status unfit (inr lacking) = new_no_memory out pages inodes old text status lacking.0 lacking.1
-
-module _ (out : List ℕ) (pages inodes : ℕ) (old new : Shelf) (s : Superblock) (image : List (Option (List ℕ))) (line : List ℕ)
-    (fits : Fits pages inodes) (made : IsMade pages inodes s image) (line_is : line ≡ made_line pages inodes (new_counts pages inodes).free) (put : OnlyReplaces out old new) where
-  pub new_saved : (text : List ℕ) (status : Status) → SaveComesTo out image line old new text status → New out pages inodes old new text status
-  new_saved text Done saved = record {
-    comes_to = record { fits = fits; superblock = s; image = image; made = made; put = saved.1 ∙ line_is; written = saved.0.written; written_verifies = saved.0.verifies };
-    keeps = put.others;
-    files = put;
-  }
-  new_saved text WriteFault saved = record { comes_to = record { fits = fits; rose = saved.0; untold = saved.1; put = saved.2 }; keeps = put.others; files = put }
-  new_saved text StatusNoMemory saved = record { comes_to = saved.1; keeps = saved.0; files = put }
-  new_saved text _ saved = absurd saved
-
--- ---- an image that is checked
-
-pub check_stop : (image : List ℕ) (old new : Shelf) (text : List ℕ) (status : Status) → ImageStops image old new text status → OnlyReads image old new → Check image old new text status
-check_stop image old new text NotVerified why files = record { comes_to = why; files = files }
-check_stop image old new text ReadFault why files = record { comes_to = why; files = files }
-check_stop image old new text StatusNoMemory why files = record { comes_to = why; files = files }
-check_stop image old new text TooLong why files = record { comes_to = why; files = files }
-check_stop image old new text _ why files = absurd why
-
--- ---- an image whose tree is told
-
-pub tree_stop : (image : List ℕ) (form : TreeForm) (old new : Shelf) (text : List ℕ) (status : Status) → ImageStops image old new text status → OnlyReads image old new → Tree image form old new text status
-tree_stop image form old new text NotVerified why files = record { comes_to = why; files = files }
-tree_stop image form old new text ReadFault why files = record { comes_to = why; files = files }
-tree_stop image form old new text StatusNoMemory why files = record { comes_to = why; files = files }
-tree_stop image form old new text TooLong why files = record { comes_to = why; files = files }
-tree_stop image form old new text _ why files = absurd why
-
--- ---- the answers
-
-answers_more : (numbers : List ℕ) (tolds : List LineAnswer) (i : ℕ) (number : ℕ) (answer : LineAnswer) → i < length numbers → i < length tolds → get_or numbers i number ≡ number → get_or tolds i answer ≡ answer
-    → answers_text (take (suc i) numbers) (take (suc i) tolds) ≡ answers_text (take i numbers) (take i tolds) ++ answer_line number answer
-answers_more [] tolds i number answer a b is same = absurd (omega arith)
-answers_more (l ∷ ls) [] i number answer a b is same = absurd (omega arith)
-answers_more (l ∷ ls) (t ∷ ts) zero number answer a b is same =
-    ap (λ x. answer_line x t ++ answers_text (take 0 ls) (take 0 ts)) is ∙ ap (λ x. answer_line number x ++ answers_text (take 0 ls) (take 0 ts)) same ∙ append-nil (answer_line number answer)
-answers_more (l ∷ ls) (t ∷ ts) (suc i) number answer a b is same =
-    ap (λ bytes. answer_line l t ++ bytes) (answers_more ls ts i number answer (omega arith) (omega arith) is same)
-    ∙ sym (append_assoc (answer_line l t) (answers_text (take i ls) (take i ts)) (answer_line number answer))
-
-answers_all : (numbers : List ℕ) (tolds : List LineAnswer) (i : ℕ) → min (length numbers) (length tolds) ≤ i → answers_text (take i numbers) (take i tolds) ≡ answers_text numbers tolds
-answers_all [] tolds zero h = refl
-answers_all [] tolds (suc i) h = refl
-answers_all (l ∷ ls) [] zero h = refl
-answers_all (l ∷ ls) [] (suc i) h = refl
-answers_all (l ∷ ls) (t ∷ ts) zero h = absurd (omega arith)
-answers_all (l ∷ ls) (t ∷ ts) (suc i) h = ap (λ bytes. answer_line l t ++ bytes) (answers_all ls ts i (omega arith))
-
--- the answers to lines, by their numbers
-module _ {L : Type 0} (number : L → ℕ) where
-  pub answers_put : (lines : List L) (answers : List LineAnswer) (i : ℕ) (line : L) (answer : LineAnswer) (old before after : List ℕ) → i < length lines → i < length answers → line ≡ get_or lines i line → answer ≡ get_or answers i answer
-      → before ≡ old ++ answers_text (take i (map number lines)) (take i answers) → after ≡ before ++ answer_line (number line) answer
-      → after ≡ old ++ answers_text (take (i + 1) (map number lines)) (take (i + 1) answers)
-  answers_put lines answers i line answer old before after a b is same first more =
-      let numbers : List ℕ = map number lines in
-      let L : List ℕ = answer_line (number line) answer in
-      let up : i + 1 ≡ suc i = omega arith in
-      let many : length numbers ≡ length lines = length-map lines number in
-      let at : get_or numbers i (number line) ≡ number line = get_or-map number lines i line (number line) a ∙ ap number (sym is) in
-      more ∙ ap (λ bytes. bytes ++ L) first
-      ∙ append_assoc old (answers_text (take i numbers) (take i answers)) L
-      ∙ ap (λ bytes. old ++ bytes) (sym (answers_more numbers answers i (number line) answer (omega (arith, a, many)) b at (sym same)))
-      ∙ ap (λ n. old ++ answers_text (take n numbers) (take n answers)) (sym up)
-
-  pub answers_done : (lines : List L) (answers : List LineAnswer) (i : ℕ) → min (length lines) (length answers) ≤ i → answers_text (take i (map number lines)) (take i answers) ≡ answers_text (map number lines) answers
-  answers_done lines answers i h =
-      let many : length (map number lines) ≡ length lines = length-map lines number in
-      answers_all (map number lines) answers i (omega (arith, h, many))
 
 -- ---- the libraries
 

@@ -16,10 +16,10 @@ use Rattle.trio_report.specs.Report.{counts_text}
 use Rattle.trio_runner.specs.Play.{Heard}
 use Rattle.trio_gen.specs.Summary.{call_answers, summary_line}
 use Rattle.trio_gen.specs.Workload.{directories_script, files_script}
-use Rattle.trio_app.specs.declared.words.TreeForm.TheVariants.{Lines, Json}
-use Rattle.trio_app.specs.Command.{Command, check, tree, turns, run, gen, help, version, unknown, command_of, gen_of, new_of}
+use Rattle.trio_commands.specs.declared.words.TreeForm.TheVariants.{Lines, Json}
+use Rattle.trio_commands.specs.Command.{Command, check, tree, turns, run, gen, help, version, unknown, command_of, gen_of, new_of}
 use Rattle.trio_app.specs.Gen.{GenDone, calls_told}
-use Rattle.trio_app.specs.Report.{told_counts}
+use Rattle.trio_commands.specs.Report.{told_counts}
 use Rattle.trio_app.specs.inner.RunEnd.{IsPlayEnd}
 use Rattle.trio_app.proofs.Ends.{told_of_settled}
 

@@ -1,4 +1,3 @@
-pub mod Stops
 pub mod Trees
 pub mod Headlines
 pub mod Ends

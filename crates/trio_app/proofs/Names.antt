@@ -4,8 +4,8 @@ use Rattle.std.specs.Prelude.{nat_le, codes, if◌then◌else◌}
 use Rattle.std.specs.Str.{bytes_eq}
 use Rattle.std.proofs.lemmas.List.Elements.{All-head, All-tail}
 use Rattle.trio_script.specs.Words.{number_of}
-use Rattle.trio_app.specs.declared.words.TreeForm.TheVariants.{Lines, Json}
-use Rattle.trio_app.specs.Command.{Command, new_image, check, tree, turns, run, gen, help, version, unknown, command_of, gen_of, new_of}
+use Rattle.trio_commands.specs.declared.words.TreeForm.TheVariants.{Lines, Json}
+use Rattle.trio_commands.specs.Command.{Command, new_image, check, tree, turns, run, gen, help, version, unknown, command_of, gen_of, new_of}
 
 -- this holds of each name of a file
 abbrev pub EachName : (List ℕ → Type 0) → Command → Type 0

@@ -4,10 +4,10 @@ use Rattle.trio_io.specs.Shelf.{Shelf, SinkSeen, Rose}
 use Rattle.trio_survey.specs.Stored.{BytesVerify}
 use Rattle.trio_image.specs.Made.{Fits}
 use Rattle.trio_script.specs.Script.{bad_line}
-use Rattle.trio_app.specs.declared.status.Status.{Status}
-use Rattle.trio_app.specs.declared.status.Status.TheVariants.{Done, NotVerified, Usage, BadScript, TooLong}
-use Rattle.trio_app.specs.Status.{code_of}
-use Rattle.trio_app.specs.Command.{Command, new_image, check, tree, turns, run, gen, help, version, unknown}
+use Rattle.trio_commands.specs.declared.status.Status.{Status}
+use Rattle.trio_commands.specs.declared.status.Status.TheVariants.{Done, NotVerified, Usage, BadScript, TooLong}
+use Rattle.trio_commands.specs.Status.{code_of}
+use Rattle.trio_commands.specs.Command.{Command, new_image, check, tree, turns, run, gen, help, version, unknown}
 
 -- a file tells its bytes, and is over its limit
 pub record TellsTooLong (limit : ℕ) (name : List ℕ) (files : Shelf) : Type 0 where

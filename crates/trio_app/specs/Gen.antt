@@ -16,9 +16,9 @@ use Rattle.trio_runner.specs.Play.{Heard, Played, creds_in}
 use Rattle.trio_gen.specs.Summary.{call_answers, summary_line}
 use Rattle.trio_gen.specs.Workload.{directories_script, files_script}
 use Rattle.trio_app.specs.Headline.{Headline, StoredLog}
-use Rattle.trio_app.specs.Report.{told_counts}
-use Rattle.trio_app.specs.declared.status.Status.{Status}
-use Rattle.trio_app.specs.declared.status.Status.TheVariants.{Done, NoMemory}
+use Rattle.trio_commands.specs.Report.{told_counts}
+use Rattle.trio_commands.specs.declared.status.Status.{Status}
+use Rattle.trio_commands.specs.declared.status.Status.TheVariants.{Done, NoMemory}
 
 -- the answers to the calls of libraries, in their order
 abbrev pub calls_told : List ScriptLib → List Heard → List LineAnswer

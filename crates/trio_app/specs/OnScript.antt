@@ -4,11 +4,11 @@ use Rattle.trio_io.specs.Shelf.{Shelf, Rose, RisesAt, told}
 use Rattle.trio_state.specs.State.{State, settled}
 use Rattle.trio_survey.specs.Stored.{BytesVerify, StoresImage, bytes_in}
 use Rattle.trio_ctl.specs.Ctl.{superblock_for}
-use Rattle.trio_app.specs.declared.status.Status.{Status}
-use Rattle.trio_app.specs.declared.status.Status.TheVariants.{Done, WriteFault}
-use Rattle.trio_app.specs.Images.{ImageVerifies, OutKeeps}
-use Rattle.trio_app.specs.Inputs.{ReadsScript, InputsStop}
-use Rattle.trio_app.specs.Lines.{write_fault_line}
+use Rattle.trio_commands.specs.declared.status.Status.{Status}
+use Rattle.trio_commands.specs.declared.status.Status.TheVariants.{Done, WriteFault}
+use Rattle.trio_commands.specs.Images.{ImageVerifies, OutKeeps}
+use Rattle.trio_commands.specs.Inputs.{ReadsScript, InputsStop}
+use Rattle.trio_commands.specs.Lines.{write_fault_line}
 
 -- the image that is settled in the last state was written to OUT, and its bytes verify
 pub record WritesSettled (out : List ℕ) (last : State) (old new : Shelf) : Type 0 where

@@ -11,8 +11,8 @@ use Rattle.trio_script.specs.declared.ScriptLib.{ScriptLib}
 use Rattle.trio_runner.specs.Play.{Heard, creds_in}
 use Rattle.trio_runner.specs.Runs.{ScriptRan}
 use Rattle.trio_app.specs.Headline.{Headline, StoredLog}
-use Rattle.trio_app.specs.declared.status.Status.{Status}
-use Rattle.trio_app.specs.Inputs.{InputsRead, image_read, libs_read}
+use Rattle.trio_commands.specs.declared.status.Status.{Status}
+use Rattle.trio_commands.specs.Inputs.{InputsRead, image_read, libs_read}
 use Rattle.trio_app.specs.OnScript.{OnScript, WritesSettled}
 use Rattle.trio_app.specs.Report.{report_text}
 

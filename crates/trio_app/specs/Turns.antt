@@ -4,8 +4,8 @@ use Rattle.trio_io.specs.Shelf.{Shelf}
 use Rattle.trio_state.specs.State.{settled}
 use Rattle.trio_runner.specs.Play.{Played, creds_in}
 use Rattle.trio_app.specs.Headline.{Headline, StoredLog}
-use Rattle.trio_app.specs.declared.status.Status.{Status}
-use Rattle.trio_app.specs.Inputs.{InputsRead, image_read, libs_read}
+use Rattle.trio_commands.specs.declared.status.Status.{Status}
+use Rattle.trio_commands.specs.Inputs.{InputsRead, image_read, libs_read}
 use Rattle.trio_app.specs.OnScript.{OnScript, WritesSettled}
 use Rattle.trio_app.specs.Report.{report_text}
 

@@ -1,3 +1,1 @@
 pub mod RunEnd
-pub mod Saved
-pub mod Stop

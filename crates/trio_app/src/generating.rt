@@ -8,12 +8,11 @@ ghost use Rattle.trio_image.specs.Made.{IsMade};
 ghost use Rattle.trio_report.specs.Report.{counts_text};
 ghost use Rattle.trio_gen.specs.Summary.{summary_line};
 ghost use Rattle.trio_app.specs.Gen.{GenComesTo, GenDone, calls_told};
-ghost use Rattle.trio_app.specs.Report.{told_counts};
+ghost use Rattle.trio_commands.specs.Report.{told_counts};
 
-use crate::images::told_counts;
 use crate::script::play_in_turns;
-use crate::{Outcome, Status};
 use std::alloc::Global;
+use trio_commands::{Outcome, Status, told_counts};
 use trio_gen::{directories_script, files_script, push_call_answers, put_summary};
 use trio_image::{Image, MakeFault, make};
 use trio_page::{NoMemory, Reads};

@@ -9,9 +9,9 @@
 //! - `trio gen NUMBER FILES` plays the generated workload in memory, and puts out what came of it.
 //!
 //! What it does and how it ends is the contract of [`trio_main`]: `specs/Main.antt` first, then
-//! `specs/Command.antt`, `specs/New.antt`, `specs/Check.antt`, `specs/Tree.antt`,
-//! `specs/Turns.antt`, `specs/Run.antt` and `specs/Gen.antt`, with the claim of a script's moves and what
-//! its controller's log says in `specs/Headline.antt`.
+//! `specs/Command.antt`, `specs/New.antt`, `specs/Check.antt` and `specs/Tree.antt` of
+//! [`trio_commands`], and `specs/Turns.antt`, `specs/Run.antt` and `specs/Gen.antt`, with the claim of a
+//! script's moves and what its controller's log says in `specs/Headline.antt`.
 //!
 //! [`trio_main`] is generic over the files, the sink and the gate. [`main`] hands it the host's,
 //! which no contract speaks of.
@@ -22,30 +22,17 @@ ghost use Rattle.std.specs.Vec.Iter.{into_iter_items};
 ghost use Rattle.trio_io.specs.Names.{texts_of};
 ghost use Rattle.trio_app.specs.Main.{EndOfProcess};
 
-mod checking;
 mod generating;
-mod images;
-mod inputs;
-mod lines;
-mod making;
 mod plain;
 mod running;
 mod script;
-mod status;
-mod stop;
 mod sure;
-mod telling;
 mod threads;
 mod turns;
-mod words;
 
-pub use checking::check;
 pub use generating::generate;
-pub use inputs::{SCRIPT_LIMIT, read_inputs};
-pub use making::new_image;
 pub use plain::plain_main;
 pub use running::run;
-pub use status::{Outcome, Status};
 use std::alloc::Global;
 use std::env;
 use std::io::ErrorKind;
@@ -54,14 +41,12 @@ use std::rt::{Env, Files as Host};
 use std::sync::Wait;
 use std::thread::Threads;
 use std::vec::IntoIter;
-pub use stop::Stop;
 pub use sure::{sure_main, sure_trio_main};
-pub use telling::tree;
 pub use threads::trio_main;
+use trio_commands::Status;
 use trio_io::{OpenGate, RealFiles, StdoutSink};
 use trio_page::NoMemory;
 pub use turns::turns;
-pub use words::{Request, TreeForm, read_words};
 
 /// The same words once more.
 fn copy_words(alloc: Global, words: &[String]) -> Result<Vec<String>, NoMemory>
@@ -121,5 +106,7 @@ fn main(rt: HostRuntime) -> ExitCode {
     ExitCode::from(run_words(&rt))
 }
 
+#[cfg(test)]
+mod sessions;
 #[cfg(test)]
 mod tests;

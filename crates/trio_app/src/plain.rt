@@ -2,14 +2,14 @@
 
 ghost use Rattle.std.specs.Prelude.{◌≡◌, [], All, Contains};
 ghost use Rattle.trio_io.specs.Names.{texts_of};
-ghost use Rattle.trio_app.specs.Command.{command_of, without_threads};
+ghost use Rattle.trio_commands.specs.Command.{command_of, without_threads};
 ghost use Rattle.trio_app.specs.Decided.{EndsAsDecided};
 ghost use Rattle.trio_app.specs.Main.{Main, Puts};
-ghost use Rattle.trio_app.specs.Status.{code_of};
+ghost use Rattle.trio_commands.specs.Status.{code_of};
 
-use crate::lines::{USAGE, VERSION};
-use crate::{Request, Status, check, generate, new_image, read_words, tree, turns};
+use crate::{generate, turns};
 use std::alloc::Global;
+use trio_commands::{Request, Status, USAGE, VERSION, check, new_image, read_words, tree};
 use trio_io::{Files, Sink};
 
 /// Puts a text, and answers how the program then ends. For an empty text the sink

@@ -3,13 +3,11 @@
 ghost use Rattle.std.specs.Prelude.{Contains};
 ghost use Rattle.trio_app.specs.Run.{Run};
 
-use crate::Outcome;
-use crate::images::save_image;
-use crate::inputs::read_inputs;
 use crate::script::run_in_threads;
 use std::alloc::Global;
 use std::sync::Wait;
 use std::thread::Threads;
+use trio_commands::{Outcome, read_inputs, save_image};
 use trio_io::{Files, Gate};
 
 /// Runs a script on an image with a thread for each library, writes the image that is then settled, and

@@ -7,24 +7,23 @@ ghost use Rattle.trio_layout.specs.Tree.{tree_of};
 ghost use Rattle.trio_image.specs.Counts.{counts_of};
 ghost use Rattle.trio_ctl.specs.Ctl.{writer_of, TellsSettled};
 ghost use Rattle.trio_script.specs.Within.{AreWithin};
-ghost use Rattle.trio_app.specs.Report.{answers_text, kind_of, lib_text, libs_text, numbers_of, told_counts};
+ghost use Rattle.trio_commands.specs.Report.{told_counts};
+ghost use Rattle.trio_app.specs.Report.{lib_text, libs_text};
 ghost use Rattle.trio_app.specs.inner.RunEnd.{IsPlayEnd, IsRunEnd, IsThreadsEnd, IsThreadsRunEnd};
 
-use crate::images::told_counts;
 use std::alloc::Global;
 use std::sync::Wait;
 use std::thread::Threads;
+use trio_commands::{kind_of, put_answers, told_counts};
 use trio_ctl::{Ctl, ImageFault};
 use trio_image::Image;
 use trio_io::Gate;
 use trio_page::{NoMemory, Reads};
-use trio_report::{
-    LibraryKind, LineAnswer, put_answer, put_counts, put_end, put_heading, put_tree, tree_lines,
-};
+use trio_report::{put_counts, put_end, put_heading, put_tree, tree_lines};
 use trio_rights::LibNo;
 use trio_runner::laws::{order_is_logged, ran_ends_free, ran_is_order, ran_is_printed};
 use trio_runner::{LibTold, creds_of, play, run};
-use trio_script::{HonestLine, Lines, RawLine, ScriptLib, ScriptLine};
+use trio_script::ScriptLib;
 
 /// What a run left.
 #[derive(Drop)]
@@ -202,57 +201,4 @@ fn put_library(
         Some(end) => put_end(alloc, text, end),
         None => Ok(()),
     }
-}
-
-/// The kind of a library, by its lines.
-fn kind_of(lines: &Lines) -> LibraryKind
-    ensures { result ≡ kind_of lines.now }
-{
-    match lines {
-        Lines::Raw(_) => LibraryKind::Raw,
-        Lines::Honest(_) => LibraryKind::Honest,
-    }
-}
-
-/// Appends the answer to each line, behind the line's number.
-fn put_answers(
-    alloc: Global,
-    text: &mut Vec<u8>,
-    lines: &Lines,
-    answers: &[LineAnswer],
-) -> Result<(), NoMemory>
-    ensures { OnOk result (text.new.items ≡ text.old.items ++ answers_text (numbers_of lines.now) answers.now) }
-{
-    match lines {
-        Lines::Raw(lines) => put_raw_answers(alloc, text, lines.as_slice(), answers),
-        Lines::Honest(lines) => put_honest_answers(alloc, text, lines.as_slice(), answers),
-    }
-}
-
-fn put_raw_answers(
-    alloc: Global,
-    text: &mut Vec<u8>,
-    lines: &[ScriptLine<RawLine>],
-    answers: &[LineAnswer],
-) -> Result<(), NoMemory>
-    ensures { OnOk result (text.new.items ≡ text.old.items ++ answers_text (numbers_of (Lines.Raw lines.now)) answers.now) }
-{
-    for at in 0..lines.len().min(answers.len()) {
-        put_answer(alloc, text, lines[at].number, &answers[at])?;
-    }
-    Ok(())
-}
-
-fn put_honest_answers(
-    alloc: Global,
-    text: &mut Vec<u8>,
-    lines: &[ScriptLine<HonestLine>],
-    answers: &[LineAnswer],
-) -> Result<(), NoMemory>
-    ensures { OnOk result (text.new.items ≡ text.old.items ++ answers_text (numbers_of (Lines.Honest lines.now)) answers.now) }
-{
-    for at in 0..lines.len().min(answers.len()) {
-        put_answer(alloc, text, lines[at].number, &answers[at])?;
-    }
-    Ok(())
 }

@@ -2,11 +2,11 @@
 
 ghost use Rattle.std.specs.Prelude.{◌≡◌, ◌≢◌, ◌⊎◌, All, Contains};
 ghost use Rattle.trio_io.specs.Names.{texts_of};
-ghost use Rattle.trio_app.specs.declared.status.Status.{Status};
-ghost use Rattle.trio_app.specs.Command.{command_of, without_threads};
+ghost use Rattle.trio_commands.specs.declared.status.Status.{Status};
+ghost use Rattle.trio_commands.specs.Command.{command_of, without_threads};
 ghost use Rattle.trio_app.specs.Decided.{Decides};
 ghost use Rattle.trio_app.specs.Main.{Main};
-ghost use Rattle.trio_app.specs.Status.{code_of};
+ghost use Rattle.trio_commands.specs.Status.{code_of};
 
 use crate::{plain_main, trio_main};
 use std::alloc::Global;

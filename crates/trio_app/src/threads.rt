@@ -2,21 +2,22 @@
 
 ghost use Rattle.std.specs.Prelude.{All, Contains};
 ghost use Rattle.trio_io.specs.Names.{texts_of};
-ghost use Rattle.trio_app.specs.Command.{command_of};
+ghost use Rattle.trio_commands.specs.Command.{command_of};
 ghost use Rattle.trio_app.specs.Decided.{EndsAsDecided};
 ghost use Rattle.trio_app.specs.Main.{Main};
 
 use crate::plain::end;
-use crate::{Request, plain_main, read_words, run};
+use crate::{plain_main, run};
 use std::alloc::Global;
 use std::sync::Wait;
 use std::thread::Threads;
+use trio_commands::{Request, read_words};
 use trio_io::{Files, Gate, Sink};
 
 /// Does what the words say, and answers how the program ends.
 ///
 /// `words` are those of the command line without the program's name. The answer is the number of a
-/// [`Status`](crate::Status), and `specs/Main.antt` says what each means: what the files hold then, and
+/// [`Status`](trio_commands::Status), and `specs/Main.antt` says what each means: what the files hold then, and
 /// which text was put out. `specs/Decided.antt` says which one comes where nothing fails.
 ///
 /// The words of a run start a thread for each library of the script, which arrives at the gate before

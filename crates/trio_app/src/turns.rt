@@ -3,11 +3,9 @@
 ghost use Rattle.std.specs.Prelude.{Contains};
 ghost use Rattle.trio_app.specs.Turns.{Turns};
 
-use crate::Outcome;
-use crate::images::save_image;
-use crate::inputs::read_inputs;
 use crate::script::run_in_turns;
 use std::alloc::Global;
+use trio_commands::{Outcome, read_inputs, save_image};
 use trio_io::Files;
 
 /// Runs a script on an image, writes the image that is then settled, and says what is to be put.
@@ -16,7 +14,7 @@ use trio_io::Files;
 /// `specs/Headline.antt`.
 ///
 /// The image is read and judged first, then the script. All that takes memory comes before the
-/// image is written, so after [`Status::NoMemory`](crate::Status::NoMemory) nothing was written.
+/// image is written, so after [`Status::NoMemory`](trio_commands::Status::NoMemory) nothing was written.
 pub fn turns<F: Files>(
     alloc: Global,
     image_name: &str,

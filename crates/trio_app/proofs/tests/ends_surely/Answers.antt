@@ -5,5 +5,5 @@ use Rattle.trio_app.proofs.tests.ends_surely.Goals as goal
 
 pub sure_main-end-requires : goal.sure_main-end-requires
 sure_main-end-requires c =
-    let served : texts_of c.hold-2.new.self.names.items ≡ texts_of c.deref-2.result.now = search rules in
+    let served : texts_of c.fill_sure.new.files.names.items ≡ texts_of c.deref-2.result.now = search rules in
     rw served (All-contains_itself (texts_of c.deref-2.result.now))

@@ -5,5 +5,5 @@ use Rattle.trio_app.proofs.tests.runs_surely.Goals as goal
 
 pub sure_trio_main-end-requires-after_bounds : goal.sure_trio_main-end-requires-after_bounds
 sure_trio_main-end-requires-after_bounds g c κs within =
-    let served : texts_of c.hold-2.new.self.names.items ≡ texts_of c.deref-2.result.now = search rules in
+    let served : texts_of c.fill_sure.new.files.names.items ≡ texts_of c.deref-2.result.now = search rules in
     rw served (All-contains_itself (texts_of c.deref-2.result.now))

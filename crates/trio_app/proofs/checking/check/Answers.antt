@@ -1,6 +1,0 @@
-use Rattle.trio_app.proofs.Ends.{check_stop}
-use Rattle.trio_app.proofs.checking.check.Goals as goal
-
-pub returns-in-Err : goal.returns-in-Err
-returns-in-Err g c =
-    check_stop c.args.image_name.now (g.F.Files.seen c.args.files.now) (g.F.Files.seen c.read_image.new.files) c.in-Err.end.text.items c.in-Err.end.status c.in-Err.ensures.stops c.in-Err.ensures.files

@@ -1,7 +1,0 @@
-use Rattle.std.proofs.Common.{◌≡◌, ◌++◌, take}
-use Rattle.trio_script.specs.declared.Lines.TheVariants as lines
-use Rattle.trio_app.specs.Report.{answers_text, numbers_of}
-use Rattle.trio_app.proofs.script.put_raw_answers.Given as goal
-
-abbrev pub invariant-loop-at : goal.invariant-loop-at
-invariant-loop-at l = l.text.items ≡ l.fn.text.items ++ answers_text (take l.at (numbers_of (lines.Raw l.lines))) (take l.at l.answers)

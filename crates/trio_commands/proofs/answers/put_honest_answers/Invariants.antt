@@ -1,0 +1,7 @@
+use Rattle.std.proofs.Common.{◌≡◌, ◌++◌, take}
+use Rattle.trio_script.specs.declared.Lines.TheVariants as lines
+use Rattle.trio_commands.specs.Report.{answers_text, numbers_of}
+use Rattle.trio_commands.proofs.answers.put_honest_answers.Given as goal
+
+abbrev pub invariant-loop-at : goal.invariant-loop-at
+invariant-loop-at l = l.text.items ≡ l.fn.text.items ++ answers_text (take l.at (numbers_of (lines.Honest l.lines))) (take l.at l.answers)

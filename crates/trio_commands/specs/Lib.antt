@@ -1,0 +1,12 @@
+pub mod Lines
+pub mod Status
+pub mod Report
+pub mod Images
+pub mod Inputs
+pub mod New
+pub mod Check
+pub mod Tree
+pub mod Saved
+pub mod Command
+pub mod Request
+pub mod inner
