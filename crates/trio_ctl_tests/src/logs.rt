@@ -50,7 +50,7 @@ fn played_on(alloc: Global, image: Image, libs: &[ScriptLib]) -> Option<Played>
 
 /// The two crossed moves: `/a/p` below `/b/q/q1`, and `/b/q` below `/a/p/p1`.
 const CROSSED_MOVES: &str =
-    "lib 1 raw 0 0\ngrant write 2\ngrant hold 4\ngrant write 7\nallot 2 0\npoke block 2 0 0 00000000\npoke body 7 12 0d0000000010000000000000\npoke fresh 13 0 0e00000000000000\npoke fresh 14 0 040000000201000070\npoke fresh 14 192 ed010000000000000000000005000000001000000000000000000000000000000000000000000000000000000000000000000000000000000000000000000000\nrelease 2,4,7 13,14 -\nlib 2 raw 0 0\ngrant write 3\ngrant hold 6\ngrant write 5\nallot 2 0\npoke block 3 0 0 00000000\npoke body 5 12 0f0000000010000000000000\npoke fresh 15 0 1000000000000000\npoke fresh 16 0 060000000201000071\npoke fresh 16 192 ed01000000000000000000000b0000000010000000000000\nrelease 3,5,6 15,16 -\n";
+    "lib 1 raw 0 0\ngrant write 2\ngrant hold 4\ngrant write 7\nallot 2 0\npoke block 2 0 0 00000000\npoke body 7 12 0d0000000010000000000000\npoke fresh 13 0 0e00000000000000\npoke fresh 14 0 040000000201000070\npoke fresh 14 192 ed0100000000000000000000070000000010000000000000\nrelease 2,4,7 13,14 -\nlib 2 raw 0 0\ngrant write 3\ngrant hold 6\ngrant write 5\nallot 2 0\npoke block 3 0 0 00000000\npoke body 5 12 0f0000000010000000000000\npoke fresh 15 0 1000000000000000\npoke fresh 16 0 060000000201000071\npoke fresh 16 192 ed01000000000000000000000b0000000010000000000000\nrelease 3,5,6 15,16 -\n";
 
 /// A script on an image, and the log's lines.
 type Row = (Start, &'static str, &'static str);
@@ -257,7 +257,7 @@ const ANSWERS: &[Row] = &[
     (
         Start::OneFile,
         "lib 1 raw 0 0\ngrant write 1\npeek block 1 0 192 2\nlib 2 raw 0 0\ngrant read 2\npeek body 2 0 64\n",
-        "1 granted\n2 ed01\n1 granted\n2 ed01000000000000000000000500000000100000000000000000000000000000000000000000000000000000000000000000000000000000000000000000000000\n",
+        "1 granted\n2 ed01\n1 granted\n2 ed010000000000000000000005000000001000000000000000000000000000000000000000000000000000000000000000000000000000000000000000000000\n",
     ),
     // a file is released as it was lent
     (
