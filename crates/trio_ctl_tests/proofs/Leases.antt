@@ -1,16 +1,28 @@
 -- Leases that are marked, and leases into whose pages other bytes were written.
-use Rattle.std.proofs.Common.{◌≡◌, ℕ, List, [], ◌∷◌, map, Option, Some, None, true, refl, sym, ap, subst, inl, inr, ◌∙◌}
-use Rattle.std.specs.Prelude.{IfSome}
+use Rattle.std.proofs.Common.{◌≡◌, ℕ, List, [], ◌∷◌, map, Option, Some, None, Result, Ok, true, refl, sym, ap, subst, inl, inr, ◌∙◌}
+use Rattle.std.specs.Prelude.{IfOk, IfSome}
+use Rattle.std.specs.Option.{IsSomeAnd}
 use Rattle.trio_page.specs.declared.page.PageNo.{PageNo}
+use Rattle.trio_rights.specs.declared.rights.LibNo.{LibNo}
+use Rattle.trio_nodes.specs.declared.grant.GrantKind.TheVariants.{Write}
+use Rattle.trio_nodes.specs.declared.answers.GrantFault.{GrantFault}
 use Rattle.trio_lists.specs.Lists.{In}
 use Rattle.trio_lists.proofs.Members.{In-map, map-In}
 use Rattle.trio_lease.specs.Bundles.{Bundled}
 use Rattle.trio_lease.specs.Places.{with_bytes}
 use Rattle.trio_lease.specs.Shown.{LentFile, Shown, all_touched, as_touched}
+use Rattle.trio_lease.specs.declared.lease.Lease.{Lease}
+use Rattle.trio_lease.specs.declared.lease.Lease.TheVariants.{Write as WriteLent}
 use Rattle.trio_lease.specs.declared.parts.LentPage.{LentPage}
 use Rattle.trio_lease.proofs.OtherBytes.{writes_same}
+use Rattle.trio_layout.specs.Image.{row_at}
+use Rattle.trio_state.specs.Grants.{opened}
 use Rattle.trio_state.specs.State.{State}
+use Rattle.trio_state.specs.Step.{Grant, Step}
 use Rattle.trio_judge.specs.Cases.{CaseShown}
+use Rattle.trio_ctl.proofs.Given.{granted_is_lent}
+use Rattle.trio_ctl.specs.Answers.{grant_answer}
+use Rattle.trio_ctl.specs.Open.{lent_by}
 use Rattle.trio_ctl.specs.HandedIn.{AreTouched, WasLentAs, WereLent, WereLentOrTouched}
 use Rattle.trio_ctl_tests.specs.Leases.{AreAllTouched, AreLentAlike}
 
@@ -65,6 +77,33 @@ alone_is_lent s lib f (Some b) is was = λ x i.
       | inl same ↦ subst (WasLentAs s lib) (sym same) was
       | inr none ↦ absurd none
     ]
+
+-- a grant for writing lends what its lease shows
+pub written_is_lent : (s s' : State) (ino : ℕ) (told : Result Lease GrantFault) (o : Option LentFile)
+    → Step s (Grant 1 ino Write) (grant_answer told) s'
+    → IfOk told (λ lease. IsSomeAnd (row_at s.home ino) (λ r. lease ≡ lent_by (opened s 1 ino Write r)))
+    → IfSome o (λ f. told ≡ Ok (WriteLent f))
+    → IfSome o (WasLentAs s' 1)
+written_is_lent s s' ino told None step lease is = tt
+written_is_lent s s' ino told (Some f) step lease is =
+    granted_is_lent s s' ino f
+    (subst (λ (t : Result Lease GrantFault). Step s (Grant 1 ino Write) (grant_answer t) s') is step)
+    (subst (λ (t : Result Lease GrantFault). IfOk t (λ lent. IsSomeAnd (row_at s.home ino) (λ r. lent ≡ lent_by (opened s 1 ino Write r)))) is lease)
+
+-- what the first library begins with a bundle shows what was lent, where the bundle does
+pub begun_is_lent : (s s' : State) (b : Bundled) (o : Option CaseShown) → s' ≡ s → IfSome o (λ p. p.bundle ≡ b) → IfSome o (λ p. p.lib.0 ≡ 1) → WereLent s 1 b.writes → IfSome o (λ p. WereLent s' p.lib.0 p.bundle.writes)
+begun_is_lent s s' b None same is lib lent = tt
+begun_is_lent s s' b (Some p) same is lib lent =
+    let writes : WereLent s 1 p.bundle.writes = subst (λ (x : Bundled). WereLent s 1 x.writes) (sym is) lent in
+    let own : WereLent s p.lib.0 p.bundle.writes = subst (λ (n : ℕ). WereLent s n p.bundle.writes) (sym lib) writes in
+    subst (λ (t : State). WereLent t p.lib.0 p.bundle.writes) (sym same) own
+
+-- and what is judged, with other bytes in its pages
+pub judged_is_lent : (s : State) (was now judged : CaseShown) → WereLent s was.lib.0 was.bundle.writes → now.lib ≡ was.lib → AreLentAlike now.bundle.writes was.bundle.writes → judged ≡ now → WereLent s judged.lib.0 judged.bundle.writes
+judged_is_lent s was now judged lent lib alike is =
+    let writes : WereLent s was.lib.0 now.bundle.writes = lent_alike s was.lib.0 now.bundle.writes was.bundle.writes alike lent in
+    let own : WereLent s now.lib.0 now.bundle.writes = subst (λ (l : LibNo). WereLent s l.0 now.bundle.writes) (sym lib) writes in
+    subst (λ (k : CaseShown). WereLent s k.lib.0 k.bundle.writes) (sym is) own
 
 -- what begins with a bundle is marked where the bundle is
 pub touched_through : (o : Option CaseShown) (b : Bundled) → IfSome o (λ p. p.bundle ≡ b) → AreAllTouched b.writes → IfSome o (λ p. AreAllTouched p.bundle.writes)

@@ -1,15 +1,17 @@
 //! Read leases that a library hands in: with a settle, and with a change of mode.
 
-ghost use Rattle.std.specs.Prelude.{◌≡◌, ◌∷◌, [], IfSome};
+ghost use Rattle.std.specs.Prelude.{◌≡◌, ◌∷◌, [], IfSome, length};
 ghost use Rattle.trio_lists.specs.Lists.{In};
 ghost use Rattle.trio_lease.specs.declared.lease.Lease.TheVariants.{Read};
 ghost use Rattle.trio_desk.specs.Out.{OutAlike, nothing_out, with_lease};
+ghost use Rattle.trio_ctl.specs.Ctl.{NoneBegun};
+ghost use Rattle.trio_ctl.specs.Desk.{out_of};
 
-use crate::calls::started;
-use crate::images::{Start, image_bytes};
-use crate::lines::log_lines;
+use crate::controllers::started;
+use crate::images::Start;
+use crate::lines::has_lines;
 use std::alloc::Global;
-use trio_ctl::PlainDesk;
+use trio_ctl::{Ctl, PlainDesk};
 use trio_desk::Desk;
 use trio_lease::{Bundle, Lease, ReadLease};
 use trio_nodes::{GrantKind, Holder, ModeFault};
@@ -74,13 +76,16 @@ fn take_for_writing<D: Desk>(desk: &mut D, ino: u32) {
     }
 }
 
-// The log of a reader of the file `f` that settles, and that writes it then.
-fn settled_log(alloc: Global) -> Option<String> {
-    let mut ctl = started(alloc, &image_bytes(alloc, Start::OneFile).ok()?, 0)?;
-    let mut desk = PlainDesk::of(&mut ctl, LibNo(1));
+// A reader of the file `f` that settles, and that writes it then.
+fn reads_and_writes(alloc: Global, ctl: &mut Ctl) -> Option<()>
+    requires two { length ctl.old.state.creds ≡ 2 }
+    requires idle { NoneBegun ctl.old }
+    requires nothing { OutAlike (out_of ctl.old.state (record { 0 = 1 })) nothing_out }
+{
+    let mut desk = PlainDesk::of(ctl, LibNo(1));
     settle_reader(alloc, &mut desk, 3)?;
     take_for_writing(&mut desk, 3);
-    log_lines(alloc, &ctl)
+    Some(())
 }
 
 const SETTLED: &str = "1 grant read 3 granted 0\n\
@@ -89,10 +94,15 @@ const SETTLED: &str = "1 grant read 3 granted 0\n\
     writes - holds - pages - numbers -\n\
     1 grant write 3 granted 0\n";
 
+fn is_settled(alloc: Global) -> Option<bool> {
+    let mut ctl = started(alloc, Start::OneFile, 0)?;
+    let is_done = reads_and_writes(alloc, &mut ctl).is_some();
+    Some(is_done && has_lines(alloc, &ctl, SETTLED))
+}
+
 #[test]
 fn a_settle_gives_read_leases_back(rt: HostRuntime) {
-    let log = settled_log(rt.alloc());
-    assert!(rt; log.as_deref() == Some(SETTLED));
+    assert!(rt; is_settled(rt.alloc()) == Some(true));
 }
 
 // Hands the lease in with a change of the mode of the file 3; where it comes back, it is given back.
@@ -151,12 +161,18 @@ const ROWS: &[Row] = &[
     ),
 ];
 
+fn is_changed(alloc: Global, ctl: &mut Ctl, row: &Row) -> bool
+    requires two { length ctl.old.state.creds ≡ 2 }
+    requires idle { NoneBegun ctl.old }
+{
+    let mut desk = PlainDesk::of(ctl, LibNo(1));
+    change_mode(alloc, &mut desk, row.0, row.1) == Some(row.2)
+}
+
 fn is_told(alloc: Global, row: &Row) -> Option<bool> {
-    let (kept, handed, wanted, log) = *row;
-    let mut ctl = started(alloc, &image_bytes(alloc, Start::OneFile).ok()?, 0)?;
-    let mut desk = PlainDesk::of(&mut ctl, LibNo(1));
-    let told = change_mode(alloc, &mut desk, kept, handed)?;
-    Some(told == wanted && log_lines(alloc, &ctl)?.as_str() == log)
+    let mut ctl = started(alloc, Start::OneFile, 0)?;
+    let is_as_wanted = is_changed(alloc, &mut ctl, row);
+    Some(is_as_wanted && has_lines(alloc, &ctl, row.3))
 }
 
 #[test]

@@ -6,17 +6,38 @@ use trio_io::SureFiles;
 use trio_page::NoMemory;
 use trio_rights::Mode;
 use trio_samples::files::{root, six_directories, three_files};
-use trio_samples::{Sample, SampleFile, directory};
+use trio_samples::{Sample, SampleFile, directory, put};
+
+/// Such an image.
+pub fn start_image(alloc: Global, start: Start) -> Option<Image> {
+    let bytes = image_bytes(alloc, start).ok()?;
+    image_of(alloc, &bytes)
+}
 
 /// An image that is laid out so.
-pub fn image_of(alloc: Global, bytes: &[u8]) -> Option<Image> {
-    let names = vec![in alloc; String::from_str(alloc, "a.img").ok()?].ok()?;
-    let mut files = SureFiles::new(alloc, names).ok()?;
+fn image_of(alloc: Global, bytes: &[u8]) -> Option<Image> {
+    let mut files = one_name(alloc)?;
+    hold(alloc, &mut files, bytes)?;
+    loaded(alloc, &mut files)
+}
+
+fn one_name(alloc: Global) -> Option<SureFiles> {
+    let mut names = Vec::new(alloc);
+    names.push(String::from_str(alloc, "a.img").ok()?).ok()?;
+    SureFiles::new(alloc, names).ok()
+}
+
+fn hold(alloc: Global, files: &mut SureFiles, bytes: &[u8]) -> Option<()> {
     files.hold("a.img", bytes.to_vec(alloc).ok()?);
-    if !files.serves("a.img") {
-        return None;
+    Some(())
+}
+
+fn loaded(alloc: Global, files: &mut SureFiles) -> Option<Image> {
+    if files.serves("a.img") {
+        load(alloc, files, "a.img").ok()
+    } else {
+        None
     }
-    load(alloc, &mut files, "a.img").ok()
 }
 
 /// Images of 32 pages and 64 inode numbers, of which 0 to 2 are the superblock and the tables.
@@ -26,6 +47,8 @@ pub enum Start {
     Empty,
     /// The directory `a`, number 2: the root has pages 3 and 4.
     OneDirectory,
+    /// The same, with bytes in page 6, which nobody owns.
+    LeftBytes,
     /// The directory `t` of mode 777, number 2: the root has pages 3 and 4.
     OpenDirectory,
     /// The directory `a`, number 2, with the file `f`, number 3, of the five bytes `hello`: the root
@@ -42,14 +65,23 @@ pub fn image_bytes(alloc: Global, start: Start) -> Result<Vec<u8>, NoMemory> {
     match start {
         Start::Empty => bytes_of(alloc, &[root()]),
         Start::OneDirectory => bytes_of(alloc, &[root(), directory(2, 1, b"a")]),
+        Start::LeftBytes => left_bytes(alloc),
         Start::OpenDirectory => bytes_of(alloc, &[root(), open_directory()]),
         Start::OneFile => bytes_of(alloc, &three_files()),
-        Start::TwoDirectories => {
-            let [root, a, f] = three_files();
-            bytes_of(alloc, &[root, a, f, directory(4, 1, b"b")])
-        }
+        Start::TwoDirectories => bytes_of(alloc, &two_directories()),
         Start::SixDirectories => bytes_of(alloc, &six_directories()),
     }
+}
+
+fn left_bytes(alloc: Global) -> Result<Vec<u8>, NoMemory> {
+    let mut bytes = bytes_of(alloc, &[root(), directory(2, 1, b"a")])?;
+    put(&mut bytes, 24_576, b"left");
+    Ok(bytes)
+}
+
+fn two_directories<'a>() -> [SampleFile<'a>; 4] {
+    let [root, a, f] = three_files();
+    [root, a, f, directory(4, 1, b"b")]
 }
 
 fn open_directory<'a>() -> SampleFile<'a> {

@@ -5,6 +5,8 @@
 #[cfg(test)]
 mod calls;
 #[cfg(test)]
+mod controllers;
+#[cfg(test)]
 mod hand_in;
 #[cfg(test)]
 mod images;

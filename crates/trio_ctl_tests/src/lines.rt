@@ -9,11 +9,11 @@ use trio_nodes::{
 use trio_page::NoMemory;
 use trio_rights::Kind;
 
-/// The log of a controller, in lines.
-pub fn log_lines(alloc: Global, ctl: &Ctl) -> Option<String> {
+/// Whether the log of a controller has these lines.
+pub fn has_lines(alloc: Global, ctl: &Ctl, lines: &str) -> bool {
     let mut text = String::new(alloc);
-    put_log(alloc, &mut text, ctl.log().entries()).ok()?;
-    Some(text)
+    let is_whole = put_log(alloc, &mut text, ctl.log().entries()).is_ok();
+    is_whole && text.as_str() == lines
 }
 
 /// Appends the lines of these entries, as `1 grant write 3 granted 0`; `1 raw accepted` with a line for

@@ -1,46 +1,51 @@
 //! What the log says of scripts, what it replays to, and what an image is told meanwhile.
 
-ghost use Rattle.std.specs.Prelude.{◌≡◌, IfSome};
-ghost use Rattle.trio_runner.specs.Play.{creds_in};
+ghost use Rattle.std.specs.Prelude.{◌≤◌, length};
+ghost use Rattle.trio_script.specs.Within.{AreWithin};
 
-use crate::images::{Start, image_bytes, image_of};
-use crate::lines::log_lines;
+use crate::images::{Start, start_image};
+use crate::lines::has_lines;
 use std::alloc::Global;
 use trio_ctl::Ctl;
+use trio_image::Image;
 use trio_log::replay;
 use trio_nodes::Nodes;
+use trio_page::NoMemory;
+use trio_report::put_answer;
 use trio_rights::{Creds, Kind, Mode};
-use trio_runner::play;
+use trio_runner::{LibTold, creds_of, play};
 use trio_script::{ScriptLib, read_script};
 
-/// The credentials of a script's libraries, in their order.
-fn script_creds(alloc: Global, libs: &[ScriptLib]) -> Option<Vec<Creds>>
-    ensures { IfSome result (λ creds. creds.items ≡ creds_in libs.now) }
-{
-    let mut creds = Vec::new(alloc);
-    for lib in libs {
-        creds.push(lib.creds).ok()?;
+/// The controller after a script on an image, and what each library was told.
+type Played = (Ctl, Vec<LibTold>);
+
+fn played(alloc: Global, start: Start, script: &str) -> Option<Played> {
+    match read_script(alloc, script.as_bytes()) {
+        Ok(libs) => played_by(alloc, start, &libs),
+        Err(_) => None,
     }
-    Some(creds)
 }
 
-/// The controller after a script on an image.
-fn played(alloc: Global, start: Start, script: &str) -> Option<Ctl> {
-    let Ok(libs) = read_script(alloc, script.as_bytes()) else {
-        return None;
-    };
-    let image = image_of(alloc, &image_bytes(alloc, start).ok()?)?;
-    let creds = script_creds(alloc, &libs)?;
-    let Ok(mut ctl) = Ctl::start(alloc, image, creds) else {
-        return None;
-    };
-    let _tolds = play(alloc, &mut ctl, &libs).ok()?;
-    Some(ctl)
+fn played_by(alloc: Global, start: Start, libs: &[ScriptLib]) -> Option<Played>
+    requires some { 1 ≤ length libs.now }
+    requires few { length libs.now ≤ 16 }
+    requires within { AreWithin libs.now }
+{
+    let image = start_image(alloc, start)?;
+    played_on(alloc, image, libs)
 }
 
-/// The log of a script on an image, in lines.
-fn log_text(alloc: Global, start: Start, script: &str) -> Option<String> {
-    log_lines(alloc, &played(alloc, start, script)?)
+fn played_on(alloc: Global, image: Image, libs: &[ScriptLib]) -> Option<Played>
+    requires some { 1 ≤ length libs.now }
+    requires few { length libs.now ≤ 16 }
+    requires within { AreWithin libs.now }
+{
+    let creds = creds_of(alloc, libs).ok()?;
+    let mut ctl = Ctl::start(alloc, image, creds).ok()?;
+    match play(alloc, &mut ctl, libs) {
+        Ok(tolds) => Some((ctl, tolds)),
+        Err(_) => None,
+    }
 }
 
 /// The two crossed moves: `/a/p` below `/b/q/q1`, and `/b/q` below `/a/p/p1`.
@@ -242,11 +247,75 @@ const ROWS: &[Row] = &[
     ),
 ];
 
+/// Whether the log of a script on an image has these lines.
+fn is_logged(alloc: Global, row: &Row) -> Option<bool> {
+    let (start, script, lines) = *row;
+    let (ctl, _) = played(alloc, start, script)?;
+    Some(has_lines(alloc, &ctl, lines))
+}
+
 #[test]
 fn the_log_has_what_was_done(rt: HostRuntime) {
-    for (start, script, lines) in ROWS {
-        let text = log_text(rt.alloc(), *start, script);
-        assert!(rt; text.as_deref() == Some(*lines), "{script}");
+    for row in ROWS {
+        assert!(rt; is_logged(rt.alloc(), row) == Some(true), "{}", row.1);
+    }
+}
+
+/// A script on an image, and what its libraries are answered, one after another.
+const ANSWERS: &[Row] = &[
+    // a reader is shown a file, and a writer has it once the lease is back
+    (
+        Start::OneFile,
+        "lib 1 raw 0 0\ngrant read 3\npeek block 3 0 0 5\nback 3\nlib 2 raw 0 0\ngrant write 3\ngrant write 3\ngrant write 3\n",
+        "1 granted\n2 68656c6c6f\n3 ok\n1 busy\n2 busy\n3 granted\n",
+    ),
+    // a reader is shown the body of `a` while the root is out, with the page on which that is
+    (
+        Start::OneFile,
+        "lib 1 raw 0 0\ngrant write 1\npeek block 1 0 192 2\nlib 2 raw 0 0\ngrant read 2\npeek body 2 0 64\n",
+        "1 granted\n2 ed01\n1 granted\n2 ed010000000000000000000005000000001000000000000000000000000000000000000000000000000000000000000000000000000000000000000000000000\n",
+    ),
+    // a file is released as it was lent
+    (
+        Start::OneFile,
+        "lib 1 raw 0 0\ngrant write 3\nrelease 3 - -\n",
+        "1 granted\n2 accepted\n",
+    ),
+];
+
+fn put_answers(alloc: Global, out: &mut Vec<u8>, told: &LibTold) -> Result<(), NoMemory> {
+    let mut number = 0_u32;
+    for answer in told.answers() {
+        number = number.saturating_add(1);
+        put_answer(alloc, out, number, answer)?;
+    }
+    Ok(())
+}
+
+fn put_all(alloc: Global, out: &mut Vec<u8>, tolds: &[LibTold]) -> Result<(), NoMemory> {
+    for told in tolds {
+        put_answers(alloc, out, told)?;
+    }
+    Ok(())
+}
+
+fn have_lines(alloc: Global, tolds: &[LibTold], lines: &str) -> bool {
+    let mut text = Vec::new(alloc);
+    let is_whole = put_all(alloc, &mut text, tolds).is_ok();
+    is_whole && text.as_slice() == lines.as_bytes()
+}
+
+/// Whether a script on an image is answered so, and an image is told at its end.
+fn is_answered(alloc: Global, row: &Row) -> Option<bool> {
+    let (start, script, lines) = *row;
+    let (mut ctl, tolds) = played(alloc, start, script)?;
+    Some(have_lines(alloc, &tolds, lines) && ctl.image().is_ok())
+}
+
+#[test]
+fn scripts_are_answered(rt: HostRuntime) {
+    for row in ANSWERS {
+        assert!(rt; is_answered(rt.alloc(), row) == Some(true), "{}", row.1);
     }
 }
 
@@ -279,21 +348,29 @@ fn is_there(nodes: &Nodes, (ino, parent, name): (u32, u32, &[u8])) -> bool {
 
 /// What the log of a script replays to, for two libraries of uid 0.
 fn replayed(alloc: Global, start: Start, script: &str) -> Option<Nodes> {
-    let ctl = played(alloc, start, script)?;
-    let mut image = image_of(alloc, &image_bytes(alloc, start).ok()?)?;
-    let first = image.nodes(alloc).ok()?;
+    let first = nodes_of(alloc, start)?;
+    let (ctl, _) = played(alloc, start, script)?;
     let both = Creds { uid: 0, gid: 0 };
     replay(alloc, first, &[both, both], ctl.log()).ok()
 }
 
-/// Whether the crossed moves replay to this tree, and to no other file.
-fn moves_are_replayed(alloc: Global) -> Option<bool> {
-    let nodes = replayed(alloc, Start::SixDirectories, CROSSED_MOVES)?;
+fn nodes_of(alloc: Global, start: Start) -> Option<Nodes> {
+    let mut image = start_image(alloc, start)?;
+    image.nodes(alloc).ok()
+}
+
+/// Whether these are the directories after the crossed moves, and no other file.
+fn are_moved(nodes: &Nodes) -> bool {
     let mut is_so = nodes.get(8).is_none();
     for row in MOVED {
-        is_so = is_so && is_there(&nodes, *row);
+        is_so = is_so && is_there(nodes, *row);
     }
-    Some(is_so)
+    is_so
+}
+
+fn moves_are_replayed(alloc: Global) -> Option<bool> {
+    let nodes = replayed(alloc, Start::SixDirectories, CROSSED_MOVES)?;
+    Some(are_moved(&nodes))
 }
 
 #[test]

@@ -1,18 +1,19 @@
 //! Releases in two moves: in which order they end, and what is done between the moves.
 
-ghost use Rattle.std.specs.Prelude.{◌≡◌, IfSome, IsTrue, length};
-ghost use Rattle.trio_ctl.specs.HandedIn.{WereLent, WereLentOrTouched};
+ghost use Rattle.std.specs.Prelude.{◌≡◌, ◌∷◌, [], IfSome, IsTrue, Ok, length};
+ghost use Rattle.trio_lease.specs.declared.lease.Lease.TheVariants.{Write};
+ghost use Rattle.trio_ctl.specs.HandedIn.{WasLentAs, WereLent, WereLentOrTouched};
 ghost use Rattle.trio_ctl_tests.specs.Leases.{AreAllTouched, AreLentAlike};
 
-use crate::calls::{bundled, shared, stores};
-use crate::images::{Start, image_bytes};
+use crate::controllers::{allotted, asked, granted, started, stores};
+use crate::images::Start;
 use std::alloc::Global;
 use trio_ctl::{Ctl, Judged, Pending, copied};
 use trio_image::Counts;
-use trio_lease::{Allotted, Bundle, Lease};
+use trio_lease::{Allotted, Bundle, HoldLease, Lease, WriteLease};
 use trio_names::Path;
-use trio_nodes::{GrantFault, GrantKind, Holder, ReleaseAnswer};
-use trio_page::{PageNo, Reads};
+use trio_nodes::{GrantFault, GrantKind, Handed, Holder, ReleaseAnswer};
+use trio_page::{NoMemory, PageNo, Reads};
 use trio_rights::LibNo;
 use trio_samples::put;
 
@@ -70,60 +71,35 @@ const SECOND: Shift = Shift {
     ],
 };
 
-// What one of two libraries is lent or told that asks for a grant; `None` where it isn't idle.
-fn granted(
-    ctl: &mut Ctl,
-    is_first: bool,
-    ino: u32,
-    kind: GrantKind,
-) -> Option<Result<Lease, GrantFault>>
-    requires { length ctl.old.state.creds ≡ 2 }
-    ensures { length ctl.new.state.creds ≡ 2 }
-{
-    let lib = LibNo(if is_first { 1 } else { 2 });
-    if ctl.idle(lib) {
-        Some(ctl.grant(lib, ino, kind))
-    } else {
-        None
-    }
-}
-
-// Two pages for one of two libraries that is idle.
-fn allotted(ctl: &mut Ctl, is_first: bool) -> Option<Allotted>
-    requires { length ctl.old.state.creds ≡ 2 }
-    ensures { length ctl.new.state.creds ≡ 2 }
-{
-    let lib = LibNo(if is_first { 1 } else { 2 });
-    if ctl.idle(lib) {
-        ctl.allot(lib, 2, 0).ok()
-    } else {
-        None
-    }
-}
-
-// Adds a write lease, with these bytes in its body from byte 12 on, or a hold to a bundle.
-fn add_lease(bundle: &mut Bundle, lease: Lease, body: &[u8]) -> Option<()> {
+// Adds a lease to write a file, with these bytes in its body from byte 12 on, or to hold it.
+fn add_lease(bundle: &mut Bundle, lease: Lease, body: &[u8]) -> bool {
     match lease {
-        Lease::Write(mut lease) => {
-            put(lease.body_mut(), 12, body);
-            match bundle.add_write(lease) {
-                Ok(()) => Some(()),
-                Err((lease, _)) => {
-                    lease.discard();
-                    None
-                }
-            }
-        }
-        Lease::Hold(lease) => match bundle.add_hold(lease) {
-            Ok(()) => Some(()),
-            Err((lease, _)) => {
-                lease.discard();
-                None
-            }
-        },
+        Lease::Write(lease) => add_written(bundle, lease, body),
+        Lease::Hold(lease) => add_hold(bundle, lease),
         Lease::Read(lease) => {
             lease.discard();
-            None
+            false
+        }
+    }
+}
+
+fn add_written(bundle: &mut Bundle, mut lease: WriteLease, body: &[u8]) -> bool {
+    put(lease.body_mut(), 12, body);
+    match bundle.add_write(lease) {
+        Ok(()) => true,
+        Err((lease, _)) => {
+            lease.discard();
+            false
+        }
+    }
+}
+
+fn add_hold(bundle: &mut Bundle, lease: HoldLease) -> bool {
+    match bundle.add_hold(lease) {
+        Ok(()) => true,
+        Err((lease, _)) => {
+            lease.discard();
+            false
         }
     }
 }
@@ -141,27 +117,74 @@ fn add_pages(bundle: &mut Bundle, mut given: Allotted) -> bool {
     is_added
 }
 
+// Takes a lease for a library, and adds it.
+fn take(
+    ctl: &mut Ctl,
+    is_first: bool,
+    ino: u32,
+    kind: GrantKind,
+    body: &[u8],
+    bundle: &mut Bundle,
+) -> bool
+    requires { length ctl.old.state.creds ≡ 2 }
+    ensures { length ctl.new.state.creds ≡ 2 }
+{
+    match granted(ctl, is_first, ino, kind) {
+        Some(Ok(lease)) => add_lease(bundle, lease, body),
+        _ => false,
+    }
+}
+
+fn take_pages(ctl: &mut Ctl, is_first: bool, bundle: &mut Bundle) -> bool
+    requires { length ctl.old.state.creds ≡ 2 }
+    ensures { length ctl.new.state.creds ≡ 2 }
+{
+    match allotted(ctl, is_first, 2, 0) {
+        Some(given) => add_pages(bundle, given),
+        None => false,
+    }
+}
+
+// Takes for a library what it moves a directory by.
+fn take_all(ctl: &mut Ctl, shift: &Shift, bundle: &mut Bundle) -> bool
+    requires { length ctl.old.state.creds ≡ 2 }
+    ensures { length ctl.new.state.creds ≡ 2 }
+{
+    let lib = shift.is_first;
+    if !take(ctl, lib, shift.from, GrantKind::Write, &[], bundle) {
+        return false;
+    }
+    if !take(ctl, lib, shift.held, GrantKind::Hold, &[], bundle) {
+        return false;
+    }
+    if !take(ctl, lib, shift.to, GrantKind::Write, shift.body, bundle) {
+        return false;
+    }
+    take_pages(ctl, lib, bundle)
+}
+
+// Writes into the pages of a bundle. Whether it has all of them.
+fn write_pages(bundle: &mut Bundle, pokes: &[Poke]) -> bool {
+    for (no, at, part) in pokes {
+        match bundle.page_mut(PageNo(*no)) {
+            Some(page) => put(page.bytes_mut(), *at, part),
+            None => return false,
+        }
+    }
+    true
+}
+
 // Takes for a library what it moves a directory by, and writes. All blocks are marked then.
 #[tactic(auto, using(crate::proofs::Leases::all_are_touched))]
-fn gather(ctl: &mut Ctl, shift: &Shift, bundle: &mut Bundle) -> Option<()>
+fn gather(ctl: &mut Ctl, shift: &Shift, bundle: &mut Bundle) -> bool
     requires { length ctl.old.state.creds ≡ 2 }
     ensures two { length ctl.new.state.creds ≡ 2 }
-    ensures touched { IfSome result (λ _. AreAllTouched bundle.new.writes) }
+    ensures touched { AreAllTouched bundle.new.writes }
 {
-    let lease = granted(ctl, shift.is_first, shift.from, GrantKind::Write)?.ok()?;
-    add_lease(bundle, lease, &[])?;
-    let lease = granted(ctl, shift.is_first, shift.held, GrantKind::Hold)?.ok()?;
-    add_lease(bundle, lease, &[])?;
-    let lease = granted(ctl, shift.is_first, shift.to, GrantKind::Write)?.ok()?;
-    add_lease(bundle, lease, shift.body)?;
-    if !add_pages(bundle, allotted(ctl, shift.is_first)?) {
-        return None;
-    }
-    for (no, at, part) in shift.pokes {
-        put(bundle.page_mut(PageNo(*no))?.bytes_mut(), *at, part);
-    }
+    let is_taken = take_all(ctl, shift, bundle);
+    let is_written = write_pages(bundle, shift.pokes);
     bundle.touch_blocks();
-    Some(())
+    is_taken && is_written
 }
 
 // The beginning of a release of one of two libraries, where the bundle is its own and it is idle.
@@ -192,13 +215,19 @@ fn begun_move(alloc: Global, ctl: &mut Ctl, shift: &Shift) -> Option<Pending>
     ensures touched { IfSome result (λ p. AreAllTouched p.bundle.writes) }
 {
     let mut bundle = Bundle::new(alloc);
-    match gather(ctl, shift, &mut bundle) {
-        Some(()) => begun(ctl, shift.is_first, bundle),
-        None => {
-            bundle.discard();
-            None
-        }
+    if gather(ctl, shift, &mut bundle) {
+        begun(ctl, shift.is_first, bundle)
+    } else {
+        bundle.discard();
+        None
     }
+}
+
+// What is judged of a release.
+fn weighed(pending: Pending) -> Judged
+    ensures { result.case ≡ pending }
+{
+    pending.weigh(&mut Reads::new())
 }
 
 // What a release is told at its end, where it is awaited.
@@ -213,43 +242,50 @@ fn ended(ctl: &mut Ctl, judged: Judged) -> Option<ReleaseAnswer>
 }
 
 // What is judged of a release all of whose blocks are marked.
-fn weighed(pending: Pending) -> Judged
+fn weighed_marked(pending: Pending) -> Judged
     requires { AreAllTouched pending.bundle.writes }
     ensures { AreAllTouched result.case.bundle.writes }
 {
-    pending.weigh(&mut Reads::new())
+    weighed(pending)
 }
 
-// What such a release is told at its end.
-fn ended_marked(ctl: &mut Ctl, judged: Judged) -> Option<ReleaseAnswer>
+// Whether such a release is told this at its end.
+fn ends_so(ctl: &mut Ctl, judged: Judged, refused: Option<u8>) -> bool
     requires { AreAllTouched judged.case.bundle.writes }
 {
-    ended(ctl, judged)
+    is_told(ended(ctl, judged), refused)
 }
 
-// What the first and the second library are told whose moves have both begun, and of which the second
-// ends first. Neither is idle before that.
-fn moved(alloc: Global, ctl: &mut Ctl) -> Option<(ReleaseAnswer, ReleaseAnswer)>
+// Whether a release was accepted, or refused for this rule.
+fn is_told(told: Option<ReleaseAnswer>, refused: Option<u8>) -> bool {
+    match told {
+        Some(ReleaseAnswer::Refused { rule, .. }) => refused == Some(rule),
+        Some(ReleaseAnswer::Accepted) => refused.is_none(),
+        None => false,
+    }
+}
+
+fn judged_move(alloc: Global, ctl: &mut Ctl, shift: &Shift) -> Option<Judged>
+    requires { length ctl.old.state.creds ≡ 2 }
+    ensures two { length ctl.new.state.creds ≡ 2 }
+    ensures touched { IfSome result (λ j. AreAllTouched j.case.bundle.writes) }
+{
+    let pending = begun_move(alloc, ctl, shift)?;
+    Some(weighed_marked(pending))
+}
+
+// Whether of two crossed moves that have both begun the one that ends first is accepted, and the other
+// refused for rule I3. Neither library is idle before that, and both are then.
+fn is_crossing_refused(alloc: Global, ctl: &mut Ctl) -> Option<bool>
     requires { length ctl.old.state.creds ≡ 2 }
 {
-    let first = begun_move(alloc, ctl, &FIRST)?;
-    let second = begun_move(alloc, ctl, &SECOND)?;
-    let first = weighed(first);
-    let second = weighed(second);
-    if ctl.idle(LibNo(1)) || ctl.idle(LibNo(2)) {
-        return None;
-    }
-    let second_told = ended_marked(ctl, second)?;
-    let first_told = ended_marked(ctl, first)?;
-    Some((first_told, second_told))
-}
-
-// Whether a release was refused for this rule.
-fn is_refused(told: ReleaseAnswer, wanted: u8) -> bool {
-    match told {
-        ReleaseAnswer::Refused { rule, .. } => rule == wanted,
-        ReleaseAnswer::Accepted => false,
-    }
+    let first = judged_move(alloc, ctl, &FIRST)?;
+    let second = judged_move(alloc, ctl, &SECOND)?;
+    let are_begun = !ctl.idle(LibNo(1)) && !ctl.idle(LibNo(2));
+    let is_second_told = ends_so(ctl, second, None);
+    let is_first_told = ends_so(ctl, first, Some(3));
+    let are_idle = ctl.idle(LibNo(1)) && ctl.idle(LibNo(2));
+    Some(are_begun && is_second_told && is_first_told && are_idle)
 }
 
 // Whether the directory `q` is found below `/a/p/p1` alone.
@@ -259,37 +295,67 @@ fn is_second_moved(alloc: Global, ctl: &mut Ctl) -> Option<bool> {
     Some(nodes.find(&path) == Some(7) && nodes.count(3) == 0)
 }
 
-// Whether of two crossed moves the one that ends first is accepted, and the other refused for rule I3.
-fn is_crossing_refused(alloc: Global) -> Option<bool> {
-    let mut ctl = shared(alloc, Start::SixDirectories)?;
-    let (first, second) = moved(alloc, &mut ctl)?;
-    let is_told = second == ReleaseAnswer::Accepted && is_refused(first, 3);
-    let are_idle = ctl.idle(LibNo(1)) && ctl.idle(LibNo(2));
-    Some(is_told && are_idle && is_second_moved(alloc, &mut ctl)?)
+fn moves_are_crossed(alloc: Global) -> Option<bool> {
+    let mut ctl = started(alloc, Start::SixDirectories, 0)?;
+    let is_refused = is_crossing_refused(alloc, &mut ctl) == Some(true);
+    Some(is_refused && is_second_moved(alloc, &mut ctl) == Some(true))
 }
 
 #[test]
 fn crossed_moves_end_in_another_order(rt: HostRuntime) {
-    assert!(rt; is_crossing_refused(rt.alloc()) == Some(true));
+    assert!(rt; moves_are_crossed(rt.alloc()) == Some(true));
 }
 
-// The file `f`, lent to the first library for writing, as a bundle.
-fn taken_file(alloc: Global, ctl: &mut Ctl) -> Option<Bundle>
-    requires { length ctl.old.state.creds ≡ 2 }
-    ensures two { length ctl.new.state.creds ≡ 2 }
-    ensures lent { IfSome result (λ bundle. WereLent ctl.new.state 1 bundle.writes) }
+// The lease of a grant for writing; another is let go.
+fn written(told: Result<Lease, GrantFault>) -> Option<WriteLease>
+    ensures { IfSome result (λ lease. told ≡ Ok (Write lease)) }
 {
-    if !ctl.idle(LibNo(1)) {
-        return None;
-    }
-    match ctl.grant(LibNo(1), 3, GrantKind::Write) {
-        Ok(Lease::Write(lease)) => bundled(alloc, lease),
+    match told {
+        Ok(Lease::Write(lease)) => Some(lease),
         Ok(lease) => {
             lease.discard();
             None
         }
         Err(_) => None,
     }
+}
+
+// The file `f`, lent to the first library for writing.
+fn lent_file(ctl: &mut Ctl) -> Option<WriteLease>
+    requires { length ctl.old.state.creds ≡ 2 }
+    ensures two { length ctl.new.state.creds ≡ 2 }
+    ensures lent { IfSome result (WasLentAs ctl.new.state 1) }
+{
+    if ctl.idle(LibNo(1)) {
+        written(ctl.grant(LibNo(1), 3, GrantKind::Write))
+    } else {
+        None
+    }
+}
+
+// The lease alone, as a bundle.
+fn bundled(alloc: Global, lease: WriteLease) -> Option<Bundle>
+    ensures { IfSome result (λ bundle. bundle.writes ≡ lease ∷ []) }
+{
+    let mut bundle = Bundle::new(alloc);
+    match bundle.add_write(lease) {
+        Ok(()) => Some(bundle),
+        Err((lease, _)) => {
+            lease.discard();
+            bundle.discard();
+            None
+        }
+    }
+}
+
+/// The file `f`, lent to the first library for writing, as a bundle.
+pub fn taken_file(alloc: Global, ctl: &mut Ctl) -> Option<Bundle>
+    requires { length ctl.old.state.creds ≡ 2 }
+    ensures two { length ctl.new.state.creds ≡ 2 }
+    ensures lent { IfSome result (λ bundle. WereLent ctl.new.state 1 bundle.writes) }
+{
+    let lease = lent_file(ctl)?;
+    bundled(alloc, lease)
 }
 
 // Its release, which the first library has begun as the file was lent.
@@ -316,16 +382,26 @@ fn unlist(pending: &mut Pending) -> bool
     }
 }
 
-// What a release of `f` is told whose index page is written over between the moves.
-fn told_unlisted(alloc: Global, ctl: &mut Ctl) -> Option<ReleaseAnswer>
-    requires { length ctl.old.state.creds ≡ 2 }
+// What has begun, with that page written over.
+fn unlisted(mut pending: Pending) -> Option<Pending>
+    ensures lib { IfSome result (λ p. p.lib ≡ pending.lib) }
+    ensures lent { IfSome result (λ p. AreLentAlike p.bundle.writes pending.bundle.writes) }
 {
-    let mut pending = begun_file(alloc, ctl)?;
     if unlist(&mut pending) {
-        ended(ctl, pending.weigh(&mut Reads::new()))
+        Some(pending)
     } else {
         None
     }
+}
+
+// The release of `f`, whose index page is written over between the moves.
+fn judged_unlisted(alloc: Global, ctl: &mut Ctl) -> Option<Judged>
+    requires { length ctl.old.state.creds ≡ 2 }
+    ensures { IfSome result (λ j. WereLent ctl.new.state j.case.lib.0 j.case.bundle.writes) }
+{
+    let before = begun_file(alloc, ctl)?;
+    let pending = unlisted(before)?;
+    Some(weighed(pending))
 }
 
 const WITH_FILE: Counts = Counts {
@@ -334,82 +410,124 @@ const WITH_FILE: Counts = Counts {
     free: 23,
 };
 
-// Whether that release is refused for rule I1, and the image is then as before.
+// Whether that release is refused for rule I1.
+fn is_unlisted_refused(alloc: Global, ctl: &mut Ctl) -> Option<bool>
+    requires { length ctl.old.state.creds ≡ 2 }
+{
+    let judged = judged_unlisted(alloc, ctl)?;
+    Some(is_told(ended(ctl, judged), Some(1)))
+}
+
+// Whether it is, and the image is then as before.
 fn is_rolled_back(alloc: Global) -> Option<bool> {
-    let mut ctl = shared(alloc, Start::OneFile)?;
-    let told = told_unlisted(alloc, &mut ctl)?;
-    let bytes = image_bytes(alloc, Start::OneFile).ok()?;
-    Some(is_refused(told, 1) && stores(alloc, &mut ctl, &bytes, WITH_FILE)?)
+    let mut ctl = started(alloc, Start::OneFile, 0)?;
+    let is_refused = is_unlisted_refused(alloc, &mut ctl) == Some(true);
+    Some(is_refused && stores(alloc, &mut ctl, Start::OneFile, WITH_FILE))
 }
 
 // Whether what has begun with `f` has no page but those of its bundle.
-fn has_its_pages(alloc: Global) -> Option<bool> {
-    let mut ctl = shared(alloc, Start::OneFile)?;
-    let mut pending = begun_file(alloc, &mut ctl)?;
-    let has_other = pending.page_mut(PageNo(4)).is_some();
-    Some(pending.page_mut(PageNo(8)).is_some() && !has_other)
+fn has_its_pages(alloc: Global, ctl: &mut Ctl) -> Option<bool>
+    requires { length ctl.old.state.creds ≡ 2 }
+{
+    let mut pending = begun_file(alloc, ctl)?;
+    Some(has_page(&mut pending, 8) && !has_page(&mut pending, 4))
+}
+
+fn has_page(pending: &mut Pending, no: u32) -> bool {
+    pending.page_mut(PageNo(no)).is_some()
+}
+
+fn are_its_pages(alloc: Global) -> Option<bool> {
+    let mut ctl = started(alloc, Start::OneFile, 0)?;
+    has_its_pages(alloc, &mut ctl)
 }
 
 #[test]
 fn what_is_written_between_the_moves_is_judged(rt: HostRuntime) {
     assert!(rt; is_rolled_back(rt.alloc()) == Some(true));
-    assert!(rt; has_its_pages(rt.alloc()) == Some(true));
+    assert!(rt; are_its_pages(rt.alloc()) == Some(true));
 }
 
-// Whether the other library is told that the first one writes `f`.
-fn is_busy(ctl: &mut Ctl) -> Option<bool>
-    requires { length ctl.old.state.creds ≡ 2 }
-{
-    let holder = Holder {
-        lib: LibNo(1),
-        kind: GrantKind::Write,
-        entry: 0,
-    };
-    match granted(ctl, false, 3, GrantKind::Write)? {
-        Ok(lease) => {
-            lease.discard();
-            None
-        }
-        Err(fault) => Some(fault == GrantFault::Busy(holder)),
-    }
-}
+const WRITER: Holder = Holder {
+    lib: LibNo(1),
+    kind: GrantKind::Write,
+    entry: 0,
+};
 
 // Whether a release that is let go after its beginning leaves `f` out, and its library not idle.
-fn is_let_go(alloc: Global) -> Option<bool> {
-    let mut ctl = shared(alloc, Start::OneFile)?;
-    drop(begun_file(alloc, &mut ctl)?);
-    Some(is_busy(&mut ctl)? && !ctl.idle(LibNo(1)))
+fn is_let_go(alloc: Global, ctl: &mut Ctl) -> Option<bool>
+    requires { length ctl.old.state.creds ≡ 2 }
+{
+    drop(begun_file(alloc, ctl)?);
+    let told = asked(ctl, false, 3, GrantKind::Write);
+    Some(told == Some(Err(GrantFault::Busy(WRITER))) && !ctl.idle(LibNo(1)))
 }
 
 // Whether a release is awaited by the controller where it began, and by no other.
-fn is_awaited_there_alone(alloc: Global) -> Option<bool> {
-    let other = shared(alloc, Start::OneFile)?;
-    let mut ctl = shared(alloc, Start::OneFile)?;
-    let judged = begun_file(alloc, &mut ctl)?.weigh(&mut Reads::new());
+fn is_awaited_alone(alloc: Global, ctl: &mut Ctl, other: &Ctl) -> Option<bool>
+    requires { length ctl.old.state.creds ≡ 2 }
+{
+    let judged = weighed(begun_file(alloc, ctl)?);
     Some(ctl.awaits(&judged) && !other.awaits(&judged))
+}
+
+fn stays_out(alloc: Global) -> Option<bool> {
+    let mut ctl = started(alloc, Start::OneFile, 0)?;
+    is_let_go(alloc, &mut ctl)
+}
+
+fn is_awaited_beside(alloc: Global, other: &Ctl) -> Option<bool> {
+    let mut ctl = started(alloc, Start::OneFile, 0)?;
+    is_awaited_alone(alloc, &mut ctl, other)
+}
+
+fn is_awaited_there_alone(alloc: Global) -> Option<bool> {
+    let other = started(alloc, Start::OneFile, 0)?;
+    is_awaited_beside(alloc, &other)
 }
 
 #[test]
 fn a_release_ends_where_it_began(rt: HostRuntime) {
-    assert!(rt; is_let_go(rt.alloc()) == Some(true));
+    assert!(rt; stays_out(rt.alloc()) == Some(true));
     assert!(rt; is_awaited_there_alone(rt.alloc()) == Some(true));
 }
 
-// Whether what is judged is the copy that was taken before its beginning, with and without a byte
-// written between the moves.
-fn is_its_copy(alloc: Global, is_written: bool) -> Option<bool> {
-    let mut ctl = shared(alloc, Start::OneFile)?;
-    let bundle = taken_file(alloc, &mut ctl)?;
-    let copy = copied(alloc, &bundle);
-    let mut pending = begun(&mut ctl, true, bundle)?;
-    if is_written && !unlist(&mut pending) {
-        return None;
+// The release of a bundle, with and without a byte written between the moves.
+fn judged_file(ctl: &mut Ctl, bundle: Bundle, is_written: bool) -> Option<Judged>
+    requires { length ctl.old.state.creds ≡ 2 }
+{
+    let pending = begun(ctl, true, bundle)?;
+    if is_written {
+        Some(weighed(unlisted(pending)?))
+    } else {
+        Some(weighed(pending))
     }
-    Some(pending.weigh(&mut Reads::new()).is(&copy.ok()?))
+}
+
+fn is_copy(judged: &Judged, copy: &Result<Handed, NoMemory>) -> Option<bool> {
+    match copy {
+        Ok(copy) => Some(judged.is(copy)),
+        Err(_) => None,
+    }
+}
+
+// Whether what is judged is the copy that was taken before its beginning.
+fn is_its_copy(alloc: Global, ctl: &mut Ctl, is_written: bool) -> Option<bool>
+    requires { length ctl.old.state.creds ≡ 2 }
+{
+    let bundle = taken_file(alloc, ctl)?;
+    let copy = copied(alloc, &bundle);
+    let judged = judged_file(ctl, bundle, is_written)?;
+    is_copy(&judged, &copy)
+}
+
+fn is_judged_as_copied(alloc: Global, is_written: bool) -> Option<bool> {
+    let mut ctl = started(alloc, Start::OneFile, 0)?;
+    is_its_copy(alloc, &mut ctl, is_written)
 }
 
 #[test]
 fn a_copy_tells_what_was_written(rt: HostRuntime) {
-    assert!(rt; is_its_copy(rt.alloc(), false) == Some(true));
-    assert!(rt; is_its_copy(rt.alloc(), true) == Some(false));
+    assert!(rt; is_judged_as_copied(rt.alloc(), false) == Some(true));
+    assert!(rt; is_judged_as_copied(rt.alloc(), true) == Some(false));
 }

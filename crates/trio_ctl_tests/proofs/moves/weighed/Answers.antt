@@ -1,7 +1,0 @@
-use Rattle.std.proofs.Common.{subst, sym}
-use Rattle.trio_judge.specs.Cases.{CaseShown}
-use Rattle.trio_ctl_tests.specs.Leases.{AreAllTouched}
-use Rattle.trio_ctl_tests.proofs.moves.weighed.Goals as goal
-
-pub returns : goal.returns
-returns c = subst (λ (k : CaseShown). AreAllTouched k.bundle.writes) (sym c.weigh.ensures.case) c.requires

@@ -1,0 +1,114 @@
+//! Controllers that tests start, and what these ask of them. Each call of a controller stands in a
+//! function that owns no more than what the call gives, and promises no more than the next call needs.
+
+ghost use Rattle.std.specs.Prelude.{◌≡◌, IfSome, length};
+ghost use Rattle.trio_desk.specs.Out.{OutAlike, nothing_out};
+ghost use Rattle.trio_ctl.specs.Ctl.{NoneBegun};
+ghost use Rattle.trio_ctl.specs.Desk.{out_of};
+
+use crate::images::{Start, image_bytes, start_image};
+use std::alloc::Global;
+use trio_ctl::Ctl;
+use trio_image::{Counts, Image};
+use trio_lease::{Allotted, Lease};
+use trio_nodes::{GrantFault, GrantKind};
+use trio_rights::{Creds, LibNo};
+
+/// A controller over such an image, for a library of this uid and one of uid 0, both of gid 0.
+pub fn started(alloc: Global, start: Start, uid: u32) -> Option<Ctl>
+    ensures two { IfSome result (λ ctl. length ctl.state.creds ≡ 2) }
+    ensures idle { IfSome result NoneBegun }
+    ensures nothing { IfSome result (λ ctl. OutAlike (out_of ctl.state (record { 0 = 1 })) nothing_out) }
+{
+    let image = start_image(alloc, start)?;
+    start_with(alloc, image, uid)
+}
+
+fn start_with(alloc: Global, image: Image, uid: u32) -> Option<Ctl>
+    ensures two { IfSome result (λ ctl. length ctl.state.creds ≡ 2) }
+    ensures idle { IfSome result NoneBegun }
+    ensures nothing { IfSome result (λ ctl. OutAlike (out_of ctl.state (record { 0 = 1 })) nothing_out) }
+{
+    let libs = vec![in alloc; Creds { uid, gid: 0 }, Creds { uid: 0, gid: 0 }].ok()?;
+    Ctl::start(alloc, image, libs).ok()
+}
+
+/// What one of the two libraries is lent or told that asks for a grant; `None` where it isn't idle.
+pub fn granted(
+    ctl: &mut Ctl,
+    is_first: bool,
+    ino: u32,
+    kind: GrantKind,
+) -> Option<Result<Lease, GrantFault>>
+    requires { length ctl.old.state.creds ≡ 2 }
+    ensures { length ctl.new.state.creds ≡ 2 }
+{
+    let lib = LibNo(if is_first { 1 } else { 2 });
+    if ctl.idle(lib) {
+        Some(ctl.grant(lib, ino, kind))
+    } else {
+        None
+    }
+}
+
+/// So many pages and inode numbers for one of the two libraries that is idle.
+pub fn allotted(ctl: &mut Ctl, is_first: bool, pages: u32, inodes: u32) -> Option<Allotted>
+    requires { length ctl.old.state.creds ≡ 2 }
+    ensures { length ctl.new.state.creds ≡ 2 }
+{
+    let lib = LibNo(if is_first { 1 } else { 2 });
+    if ctl.idle(lib) {
+        ctl.allot(lib, pages, inodes).ok()
+    } else {
+        None
+    }
+}
+
+/// What one of the two libraries is told that asks for a grant: `Ok` with the children that a hold
+/// tells, else why not. What is lent is let go.
+pub fn asked(
+    ctl: &mut Ctl,
+    is_first: bool,
+    ino: u32,
+    kind: GrantKind,
+) -> Option<Result<u32, GrantFault>>
+    requires { length ctl.old.state.creds ≡ 2 }
+    ensures { length ctl.new.state.creds ≡ 2 }
+{
+    match granted(ctl, is_first, ino, kind)? {
+        Ok(lease) => Some(Ok(let_go(lease))),
+        Err(fault) => Some(Err(fault)),
+    }
+}
+
+fn let_go(lease: Lease) -> u32 {
+    let children = match &lease {
+        Lease::Hold(hold) => hold.children(),
+        Lease::Read(_) | Lease::Write(_) => 0,
+    };
+    lease.discard();
+    children
+}
+
+/// Whether the settled image has the bytes of such an image, and these counts.
+pub fn stores(alloc: Global, ctl: &mut Ctl, start: Start, counts: Counts) -> bool {
+    match image_bytes(alloc, start) {
+        Ok(bytes) => tells_image(alloc, ctl, &bytes, counts),
+        Err(_) => false,
+    }
+}
+
+fn tells_image(alloc: Global, ctl: &mut Ctl, bytes: &[u8], counts: Counts) -> bool {
+    match ctl.image() {
+        Ok(image) => is_image(alloc, image, bytes, counts),
+        Err(_) => false,
+    }
+}
+
+fn is_image(alloc: Global, image: Image, bytes: &[u8], counts: Counts) -> bool {
+    let is_counted = image.counts() == counts;
+    match image.into_bytes(alloc) {
+        Ok(stored) => is_counted && stored.as_slice() == bytes,
+        Err(_) => false,
+    }
+}
