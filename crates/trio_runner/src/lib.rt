@@ -19,8 +19,6 @@ pub mod laws;
 mod player;
 mod players;
 mod rounds;
-#[cfg(test)]
-mod tests;
 mod threads;
 
 pub use players::creds_of;

@@ -1,6 +1,5 @@
 mod Desks
 mod Saw
-mod Sends
 mod Sitting
 mod TwoMoves
 mod Writing
