@@ -8,7 +8,6 @@ ghost use Rattle.trio_state.specs.Step.{Back, Done, Step};
 
 use crate::registry::Registry;
 use trio_lease::ReadLease;
-use trio_nodes::GrantKind;
 use trio_open::find::place_of_read;
 
 impl Registry {

@@ -11,7 +11,6 @@ use crate::open::OpenFile;
 use trio_grants::GrantKey;
 use trio_lease::ReadLease;
 use trio_nodes::GrantKind;
-use trio_page::Reads;
 use trio_rights::LibNo;
 
 /// The place of the library's grant for reading a file.

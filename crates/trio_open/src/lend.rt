@@ -28,6 +28,7 @@ pub struct GrantRequest {
     pub lib: LibNo,
     /// The inode number of the file.
     pub ino: u32,
+    /// The kind of the file.
     pub kind: Kind,
     /// The number of the entry of the history that opens the grant.
     pub entry: u64,

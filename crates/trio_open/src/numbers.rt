@@ -12,8 +12,10 @@ use trio_page::NoMemory;
 /// Lists for the numbers of an allotment, made before it is.
 #[derive(Drop)]
 pub struct Numbers {
-    pages: Vec<u32>,
-    inodes: Vec<u32>,
+    /// The numbers of the pages.
+    pub pages: Vec<u32>,
+    /// The inode numbers.
+    pub inodes: Vec<u32>,
 }
 
 impl Numbers {

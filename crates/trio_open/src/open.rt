@@ -15,8 +15,11 @@ use trio_rights::LibNo;
 /// given.
 #[derive(Drop)]
 pub enum Lent {
+    /// Copies, for reading.
     Read(Snapshot<ReadParts>),
+    /// The pages themselves, for writing.
     Write(Snapshot<WriteParts>),
+    /// The settled body alone.
     Hold(HoldParts),
 }
 

@@ -17,7 +17,6 @@ use trio_checkpoint::Checkpoint;
 use trio_grants::GrantKey;
 use trio_layout::CoreRange;
 use trio_lease::{LentPage, ReadLease, ReadParts};
-use trio_nodes::GrantKind;
 use trio_page::{Home, NoMemory, PageNo, Reads};
 
 /// Copies a file for reading: its open grant, and the lease for the library. All pages stay at home.
