@@ -69,7 +69,7 @@ pub enum Lines {
 }
 
 /// A line of a script that says something, but those that begin libraries.
-#[derive(Debug, PartialEq, Eq, Drop)]
+#[derive(PartialEq, Eq, Drop)]
 pub struct ScriptLine<L> {
     /// The line's number, counted from 1.
     pub number: u32,
@@ -77,7 +77,7 @@ pub struct ScriptLine<L> {
 }
 
 /// Why a script was not read.
-#[derive(Clone, Copy, Debug, PartialEq, Eq)]
+#[derive(Clone, Copy, PartialEq, Eq)]
 pub enum ScriptFault {
     /// The first line outside the grammar has this number, counted from 1. A script without a line
     /// that names a library is bad at line 1.

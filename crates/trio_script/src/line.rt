@@ -12,7 +12,7 @@ use trio_page::NoMemory;
 const PEEK_LIMIT: u32 = 4096;
 
 /// What a line of a hostile library says.
-#[derive(Debug, PartialEq, Eq, Drop)]
+#[derive(PartialEq, Eq, Drop)]
 pub enum RawLine {
     /// `grant read INO`, `grant write INO` or `grant hold INO`: a grant of this kind on this file is
     /// asked.
