@@ -136,11 +136,29 @@ const BESIDE: &[Asking] = &[
     },
 ];
 
+// Whether what is asked for before, if anything, is granted.
+fn is_granted(ctl: &mut Ctl, before: Option<Request>) -> bool
+    requires { length ctl.old.state.creds ≡ 2 }
+    ensures { length ctl.new.state.creds ≡ 2 }
+{
+    match before {
+        Some((is_first, ino, kind)) => is_lent_for(ctl, is_first, ino, kind),
+        None => true,
+    }
+}
+
+fn is_lent_for(ctl: &mut Ctl, is_first: bool, ino: u32, kind: GrantKind) -> bool
+    requires { length ctl.old.state.creds ≡ 2 }
+    ensures { length ctl.new.state.creds ≡ 2 }
+{
+    matches!(asked(ctl, is_first, ino, kind), Some(Ok(_)))
+}
+
 fn told(ctl: &mut Ctl, row: &Asking) -> Option<Result<u32, GrantFault>>
     requires { length ctl.old.state.creds ≡ 2 }
 {
-    if let Some((is_first, ino, kind)) = row.before {
-        let _let_go = asked(ctl, is_first, ino, kind)?.ok()?;
+    if !is_granted(ctl, row.before) {
+        return None;
     }
     let (is_first, ino, kind) = row.request;
     asked(ctl, is_first, ino, kind)
@@ -163,7 +181,7 @@ fn is_lent(ctl: &mut Ctl) -> Option<bool>
 
 fn is_directory(lease: &Lease) -> bool {
     match lease {
-        Lease::Write(lease) => lease.ino() == 2 && lease.lib() == LibNo(1) && lease.entry() == 0,
+        Lease::Write(lease) => (lease.ino(), lease.lib().0, lease.entry()) == (2, 1, 0),
         Lease::Read(_) | Lease::Hold(_) => false,
     }
 }
@@ -189,16 +207,22 @@ fn grants_stand_beside_each_other_or_not(rt: HostRuntime) {
 }
 
 // Whether the root is lent: its index page names its block, in which the entry of `a` stands.
-fn root_is_lent(ctl: &mut Ctl) -> Option<bool>
+fn root_is_lent(ctl: &mut Ctl) -> bool
     requires { length ctl.old.state.creds ≡ 2 }
 {
-    let lease = granted(ctl, true, 1, GrantKind::Write)?.ok()?;
+    match granted(ctl, true, 1, GrantKind::Write) {
+        Some(Ok(lease)) => is_root_lent(lease),
+        _ => false,
+    }
+}
+
+fn is_root_lent(lease: Lease) -> bool {
     let is_so = match &lease {
         Lease::Write(lease) => is_root(lease),
         Lease::Read(_) | Lease::Hold(_) => false,
     };
     lease.discard();
-    Some(is_so)
+    is_so
 }
 
 fn is_root(lease: &WriteLease) -> bool {
@@ -222,7 +246,7 @@ fn waits_for(ctl: &mut Ctl, entry: u64) -> bool {
 
 fn root_leaves_home(alloc: Global) -> Option<bool> {
     let mut ctl = started(alloc, Start::OneDirectory, 0)?;
-    Some(root_is_lent(&mut ctl) == Some(true) && waits_for(&mut ctl, 0))
+    Some(root_is_lent(&mut ctl) && waits_for(&mut ctl, 0))
 }
 
 #[test]
@@ -253,20 +277,27 @@ fn has_inodes(given: &Allotted, numbers: &[u32]) -> bool {
 
 // Whether the lowest that are free are allotted: pages 3 and 4 are the root's, and the numbers 1 and 2
 // are live.
-fn allots_the_lowest(ctl: &mut Ctl) -> Option<bool>
+fn allots_the_lowest(ctl: &mut Ctl) -> bool
     requires { length ctl.old.state.creds ≡ 2 }
 {
-    let given = allotted(ctl, true, 2, 1)?;
+    match allotted(ctl, true, 2, 1) {
+        Some(given) => are_the_lowest(given),
+        None => false,
+    }
+}
+
+fn are_the_lowest(given: Allotted) -> bool {
     let is_so = has_pages(&given, &[5, 6]) && has_inodes(&given, &[3]);
     given.discard();
-    Some(is_so)
+    is_so
 }
 
 // Whether in the settled image what is out is all zero, of which one page had bytes that nobody owned.
 fn the_lowest_are_out(alloc: Global) -> Option<bool> {
     let mut ctl = started(alloc, Start::LeftBytes, 5)?;
-    let is_so = allots_the_lowest(&mut ctl) == Some(true);
-    Some(is_so && stores(alloc, &mut ctl, Start::OneDirectory, WITH_DIRECTORY))
+    Some(
+        allots_the_lowest(&mut ctl) && stores(alloc, &mut ctl, Start::OneDirectory, WITH_DIRECTORY),
+    )
 }
 
 #[test]

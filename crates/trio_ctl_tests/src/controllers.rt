@@ -3,7 +3,7 @@
 
 ghost use Rattle.std.specs.Prelude.{◌≡◌, IfSome, length};
 ghost use Rattle.trio_desk.specs.Out.{OutAlike, nothing_out};
-ghost use Rattle.trio_ctl.specs.Ctl.{NoneBegun};
+ghost use Rattle.trio_ctl.specs.Ctl.{IsIdle, IsLibrary, NoneBegun};
 ghost use Rattle.trio_ctl.specs.Desk.{out_of};
 
 use crate::images::{Start, image_bytes, start_image};
@@ -11,7 +11,7 @@ use std::alloc::Global;
 use trio_ctl::Ctl;
 use trio_image::{Counts, Image};
 use trio_lease::{Allotted, Lease};
-use trio_nodes::{GrantFault, GrantKind};
+use trio_nodes::{AllotFault, GrantFault, GrantKind};
 use trio_rights::{Creds, LibNo};
 
 /// A controller over such an image, for a library of this uid and one of uid 0, both of gid 0.
@@ -58,10 +58,19 @@ pub fn allotted(ctl: &mut Ctl, is_first: bool, pages: u32, inodes: u32) -> Optio
 {
     let lib = LibNo(if is_first { 1 } else { 2 });
     if ctl.idle(lib) {
-        ctl.allot(lib, pages, inodes).ok()
+        given_to(ctl, lib, pages, inodes).ok()
     } else {
         None
     }
+}
+
+fn given_to(ctl: &mut Ctl, lib: LibNo, pages: u32, inodes: u32) -> Result<Allotted, AllotFault>
+    requires two { length ctl.old.state.creds ≡ 2 }
+    requires library { IsLibrary lib ctl.old.state }
+    requires idle { IsIdle ctl.old lib.0 }
+    ensures { length ctl.new.state.creds ≡ 2 }
+{
+    ctl.allot(lib, pages, inodes)
 }
 
 /// What one of the two libraries is told that asks for a grant: `Ok` with the children that a hold
@@ -106,9 +115,17 @@ fn tells_image(alloc: Global, ctl: &mut Ctl, bytes: &[u8], counts: Counts) -> bo
 }
 
 fn is_image(alloc: Global, image: Image, bytes: &[u8], counts: Counts) -> bool {
-    let is_counted = image.counts() == counts;
+    let is_counted = are_same(image.counts(), counts);
+    has_bytes(alloc, image, bytes) && is_counted
+}
+
+fn are_same(counts: Counts, wanted: Counts) -> bool {
+    (counts.inodes, counts.pages, counts.free) == (wanted.inodes, wanted.pages, wanted.free)
+}
+
+fn has_bytes(alloc: Global, image: Image, bytes: &[u8]) -> bool {
     match image.into_bytes(alloc) {
-        Ok(stored) => is_counted && stored.as_slice() == bytes,
+        Ok(stored) => stored.as_slice() == bytes,
         Err(_) => false,
     }
 }

@@ -22,12 +22,24 @@ fn read_lease<D: Desk>(desk: &mut D, ino: u32) -> Option<ReadLease>
     ensures { IfSome result (λ lease. OutAlike (D.seen desk.new).out (with_lease (D.seen desk.old).out (Read lease))) }
 {
     match desk.grant(ino, GrantKind::Read) {
-        Ok(Lease::Read(lease)) => Some(lease),
-        Ok(lease) => {
+        Ok(lease) => read_of(lease),
+        Err(_) => None,
+    }
+}
+
+fn read_of(lease: Lease) -> Option<ReadLease>
+    ensures { IfSome result (λ r. lease ≡ Read r) }
+{
+    match lease {
+        Lease::Read(lease) => Some(lease),
+        Lease::Write(lease) => {
             lease.discard();
             None
         }
-        Err(_) => None,
+        Lease::Hold(lease) => {
+            lease.discard();
+            None
+        }
     }
 }
 

@@ -12,7 +12,7 @@ use trio_ctl::{Ctl, Judged, Pending, copied};
 use trio_image::Counts;
 use trio_lease::{Allotted, Bundle, HoldLease, Lease, WriteLease};
 use trio_names::Path;
-use trio_nodes::{GrantFault, GrantKind, Handed, Holder, ReleaseAnswer};
+use trio_nodes::{GrantFault, GrantKind, Handed, Holder, Nodes, ReleaseAnswer};
 use trio_page::{NoMemory, PageNo, Reads};
 use trio_rights::LibNo;
 use trio_samples::put;
@@ -290,15 +290,27 @@ fn is_crossing_refused(alloc: Global, ctl: &mut Ctl) -> Option<bool>
 
 // Whether the directory `q` is found below `/a/p/p1` alone.
 fn is_second_moved(alloc: Global, ctl: &mut Ctl) -> Option<bool> {
-    let nodes = ctl.image().ok()?.nodes(alloc).ok()?;
+    let nodes = settled_nodes(alloc, ctl)?;
     let path = Path::read(alloc, b"/a/p/p1/q/q1").ok()?;
-    Some(nodes.find(&path) == Some(7) && nodes.count(3) == 0)
+    Some((nodes.find(&path), nodes.count(3)) == (Some(7), 0))
+}
+
+fn settled_nodes(alloc: Global, ctl: &mut Ctl) -> Option<Nodes> {
+    let mut image = ctl.image().ok()?;
+    image.nodes(alloc).ok()
+}
+
+fn are_crossed(alloc: Global, ctl: &mut Ctl) -> Option<bool>
+    requires { length ctl.old.state.creds ≡ 2 }
+{
+    let is_refused = is_crossing_refused(alloc, ctl)?;
+    let is_moved = is_second_moved(alloc, ctl)?;
+    Some(is_refused && is_moved)
 }
 
 fn moves_are_crossed(alloc: Global) -> Option<bool> {
     let mut ctl = started(alloc, Start::SixDirectories, 0)?;
-    let is_refused = is_crossing_refused(alloc, &mut ctl) == Some(true);
-    Some(is_refused && is_second_moved(alloc, &mut ctl) == Some(true))
+    are_crossed(alloc, &mut ctl)
 }
 
 #[test]
@@ -311,12 +323,24 @@ fn written(told: Result<Lease, GrantFault>) -> Option<WriteLease>
     ensures { IfSome result (λ lease. told ≡ Ok (Write lease)) }
 {
     match told {
-        Ok(Lease::Write(lease)) => Some(lease),
-        Ok(lease) => {
+        Ok(lease) => write_lease(lease),
+        Err(_) => None,
+    }
+}
+
+fn write_lease(lease: Lease) -> Option<WriteLease>
+    ensures { IfSome result (λ w. lease ≡ Write w) }
+{
+    match lease {
+        Lease::Write(lease) => Some(lease),
+        Lease::Read(lease) => {
             lease.discard();
             None
         }
-        Err(_) => None,
+        Lease::Hold(lease) => {
+            lease.discard();
+            None
+        }
     }
 }
 
@@ -411,18 +435,19 @@ const WITH_FILE: Counts = Counts {
 };
 
 // Whether that release is refused for rule I1.
-fn is_unlisted_refused(alloc: Global, ctl: &mut Ctl) -> Option<bool>
+fn is_unlisted_refused(alloc: Global, ctl: &mut Ctl) -> bool
     requires { length ctl.old.state.creds ≡ 2 }
 {
-    let judged = judged_unlisted(alloc, ctl)?;
-    Some(is_told(ended(ctl, judged), Some(1)))
+    match judged_unlisted(alloc, ctl) {
+        Some(judged) => is_told(ended(ctl, judged), Some(1)),
+        None => false,
+    }
 }
 
 // Whether it is, and the image is then as before.
 fn is_rolled_back(alloc: Global) -> Option<bool> {
     let mut ctl = started(alloc, Start::OneFile, 0)?;
-    let is_refused = is_unlisted_refused(alloc, &mut ctl) == Some(true);
-    Some(is_refused && stores(alloc, &mut ctl, Start::OneFile, WITH_FILE))
+    Some(is_unlisted_refused(alloc, &mut ctl) && stores(alloc, &mut ctl, Start::OneFile, WITH_FILE))
 }
 
 // Whether what has begun with `f` has no page but those of its bundle.
