@@ -885,7 +885,7 @@ const WHOLE: &[Session] = &[
 ];
 
 // Whether a script is answered so.
-fn plays<R: Threads + Wait + Sync + AllocGlobal>(rt: &R, session: &Session) -> bool {
+fn plays<'a, R: Threads + Wait + Sync + AllocGlobal>(rt: &R, session: &'a Session<'a>) -> bool {
     let [told, tree] = session.report;
     let row = Row {
         image: session.image,
@@ -896,7 +896,8 @@ fn plays<R: Threads + Wait + Sync + AllocGlobal>(rt: &R, session: &Session) -> b
         status: 0,
         text: &[told.as_bytes(), tree.as_bytes()],
         is_all: true,
-        out: ("o p", session.out),
+        file: "o p",
+        kept: session.out,
     };
     all_end(rt, session.commands, &row)
 }
@@ -980,12 +981,12 @@ fn all_or_nothing(rt: HostRuntime) {
 type Poke<'a> = (&'a str, &'a str, &'a str);
 
 // Whether the file is judged so that is then released, and leaves this OUT.
-fn is_judged<R: Threads + Wait + Sync + AllocGlobal>(
+fn is_judged<'a, R: Threads + Wait + Sync + AllocGlobal>(
     rt: &R,
     image: Start,
-    ino: &str,
-    (place, offset, bytes): Poke,
-    (verdict, out): (&str, Kept),
+    ino: &'a str,
+    (place, offset, bytes): Poke<'a>,
+    (verdict, out): (&'a str, Kept),
 ) -> bool {
     let row = Row {
         image,
@@ -1008,7 +1009,8 @@ fn is_judged<R: Threads + Wait + Sync + AllocGlobal>(
         status: 0,
         text: &[b"lib 1 raw\n2 granted\n3 poked\n4 ", verdict.as_bytes()],
         is_all: false,
-        out: ("o p", out),
+        file: "o p",
+        kept: out,
     };
     all_end(rt, IN_TURNS, &row)
 }
@@ -1064,7 +1066,7 @@ const HOSTILE: &[(&str, Poke<'static>, &str)] = &[
 // Whether a library that writes this is told so, and leaves an image: the same one where it is refused.
 fn is_told<R: Threads + Wait + Sync + AllocGlobal>(
     rt: &R,
-    (ino, poke, verdict): (&str, Poke, &str),
+    (ino, poke, verdict): (&'static str, Poke<'static>, &'static str),
 ) -> bool {
     let out = if verdict == "accepted" { SOME } else { SAME };
     is_judged(rt, Start::ThreeFiles, ino, poke, (verdict, out))
@@ -1093,7 +1095,11 @@ const BODY: &[u8] = b"\xa4\x01\0\0\0\0\0\0\0\0\0\0\x05\0\0\0\x05";
 
 // Whether the file is judged as it should be where a byte of its body has any of the values: it is accepted
 // only where nothing is changed, or the size within its one block.
-fn is_body_judged<R: Threads + Wait + Sync + AllocGlobal>(rt: &R, at: usize, offset: &str) -> bool {
+fn is_body_judged<R: Threads + Wait + Sync + AllocGlobal>(
+    rt: &R,
+    at: usize,
+    offset: &'static str,
+) -> bool {
     for (value, text) in VALUES {
         let same = BODY.get(at).copied().unwrap_or(0) == *value;
         let sized = at == 16 && *value > 0 || at == 17 && *value < 0x10;
@@ -1137,7 +1143,7 @@ const PLACES: &[(usize, &str)] = &[
 fn is_index_judged<R: Threads + Wait + Sync + AllocGlobal>(
     rt: &R,
     at: usize,
-    offset: &str,
+    offset: &'static str,
 ) -> bool {
     for (value, text) in VALUES {
         let same = at > 0 && *value == 0;

@@ -101,8 +101,9 @@ pub struct Row<'a> {
     pub text: &'a [&'a [u8]],
     /// Whether no more is put.
     pub is_all: bool,
-    /// What a file then has.
-    pub out: (&'a str, Kept),
+    /// A file, and what it then has.
+    pub file: &'a str,
+    pub kept: Kept,
 }
 
 /// What a file has at the end.
@@ -231,7 +232,7 @@ fn ends(row: &Row, left: &Left, image: &[u8]) -> bool {
     left.status == row.status
         && is_spelled(left.out.bytes(), row.text, row.is_all)
         && left.out.faults() == row.failing.1
-        && keeps(left.files.content(row.out.0), image, row.out.1)
+        && keeps(left.files.content(row.file), image, row.kept)
 }
 
 // Whether bytes are these parts, one behind the other, with nothing or anything behind them.
@@ -303,7 +304,8 @@ const NO_ROW: Row<'static> = Row {
     status: 0,
     text: &[],
     is_all: false,
-    out: ("first.img", Kept::Nothing),
+    file: "first.img",
+    kept: Kept::Nothing,
 };
 
 // Whether OUT verifies, where the row says so of it.
@@ -312,10 +314,10 @@ fn verifies<R: Threads + Wait + Sync + AllocGlobal>(
     row: &Row,
     left: &Left,
 ) -> Option<bool> {
-    if !matches!(row.out.1, Kept::Part(..)) {
+    if !matches!(row.kept, Kept::Part(..)) {
         return Some(true);
     }
-    let out = left.files.content(row.out.0)?;
+    let out = left.files.content(row.file)?;
     let again = run_over(rt, &OpenGate, CHECK, out, &NO_ROW)?;
     Some(again.status == 0)
 }
@@ -511,7 +513,7 @@ const NUMBERS: &[Command] = &[
 
 fn command_ends<R: Threads + Wait + Sync + AllocGlobal>(
     rt: &R,
-    (words, failing, status, text, out): Command,
+    (words, failing, status, text, (file, kept)): Command,
 ) -> Option<bool> {
     let row = Row {
         image: Start::OneFile,
@@ -522,7 +524,8 @@ fn command_ends<R: Threads + Wait + Sync + AllocGlobal>(
         status,
         text: &[text],
         is_all: true,
-        out,
+        file,
+        kept,
     };
     row_ends(rt, words, &row)
 }
@@ -860,7 +863,7 @@ const CHECKED: &[Input] = &[
 
 fn input_ends<R: Threads + Wait + Sync + AllocGlobal>(
     rt: &R,
-    (commands, (image, length, changes), script, status, text, out): Input,
+    (commands, (image, length, changes), script, status, text, (file, kept)): Input,
 ) -> bool {
     let row = Row {
         image,
@@ -871,7 +874,8 @@ fn input_ends<R: Threads + Wait + Sync + AllocGlobal>(
         status,
         text: &[text],
         is_all: true,
-        out,
+        file,
+        kept,
     };
     all_end(rt, commands, &row)
 }
@@ -932,7 +936,7 @@ const BIG: &[Input] = &[(
 fn long_script_ends<R: Threads + Wait + Sync + AllocGlobal>(
     rt: &R,
     length: usize,
-    (status, text, out): (u8, &[u8], Out),
+    (status, text, (file, kept)): (u8, &[u8], Out),
 ) -> Option<bool> {
     let mut script = SCRIPT.to_vec(rt.alloc()).ok()?;
     script.resize(length, b'#').ok()?;
@@ -945,7 +949,8 @@ fn long_script_ends<R: Threads + Wait + Sync + AllocGlobal>(
         status,
         text: &[text],
         is_all: true,
-        out,
+        file,
+        kept,
     };
     Some(all_end(rt, RUNS, &row))
 }
@@ -1058,7 +1063,8 @@ const BOTH_WRITE: Row<'static> = Row {
     status: 0,
     text: &[b"lib 1 raw\n"],
     is_all: false,
-    out: ("o p", Kept::Changed(24_576, b'J')),
+    file: "o p",
+    kept: Kept::Changed(24_576, b'J'),
 };
 
 // Whether two libraries that write one file exclude each other.
@@ -1096,7 +1102,8 @@ const APART: Row<'static> = Row {
         b"tree\n0 d 755 0 0 1 /\n1 d 755 0 0 1 a\n2 f 644 0 0 5 f\ninodes 3 pages 6 free 23\n",
     ],
     is_all: true,
-    out: ("o p", Kept::Part(32_768, 32_769, b'J')),
+    file: "o p",
+    kept: Kept::Part(32_768, 32_769, b'J'),
 };
 
 // The most looks at the flag for which a library is held.
