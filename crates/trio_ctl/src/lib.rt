@@ -16,7 +16,6 @@ mod backs;
 mod begin;
 mod begun;
 mod belongs;
-mod bodies;
 mod calls;
 mod ctl;
 pub mod desk_laws;
@@ -36,6 +35,7 @@ mod releases;
 mod room;
 mod same;
 mod settle;
+mod settled;
 mod start;
 mod stored;
 

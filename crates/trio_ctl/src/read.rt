@@ -11,9 +11,9 @@ ghost use Rattle.trio_ctl.specs.Ctl.{IsLibrary};
 ghost use Rattle.trio_open.specs.Open.{lent_by};
 ghost use Rattle.trio_ctl.specs.inner.Denials.{denial};
 
-use crate::bodies::settled_body;
 use crate::grant::admit;
 use crate::registry::Registry;
+use crate::settled::settled_body;
 use trio_lease::Lease;
 use trio_nodes::{GrantFault, GrantKind};
 use trio_open::lend::GrantRequest;
