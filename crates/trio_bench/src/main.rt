@@ -28,7 +28,7 @@
 //! - `trio_bench session` writes and reads 1 MiB by 4096 bytes a call through a session, twenty times
 //!   over, and prints how often a plain copy of as much into pages and out of them goes into it.
 //!
-//! It is measured and not proved; the figures of a run are in `docs/GATE.md`.
+//! It is measured and not proved; the figures are in `docs/SPEED.md`.
 #![tactic(auto)]
 
 mod bundles;
