@@ -1,15 +1,10 @@
 //! Images that the tests start from.
 
-ghost use Rattle.std.specs.Prelude.{◌≡◌, IfSome, length};
-ghost use Rattle.trio_ctl.specs.Ctl.{underway_of};
-ghost use Rattle.trio_session_tests.specs.Turns.{NothingIsOut};
-
 use std::alloc::Global;
-use trio_ctl::Ctl;
 use trio_image::{Image, load};
 use trio_io::SureFiles;
 use trio_page::NoMemory;
-use trio_rights::{Creds, Mode};
+use trio_rights::Mode;
 use trio_samples::files::{root, three_files};
 use trio_samples::{Sample, SampleFile, directory, regular};
 
@@ -36,17 +31,14 @@ pub enum Start {
     Bare,
 }
 
-/// The bytes of an image.
-pub fn image_bytes(alloc: Global, start: Start) -> Result<Vec<u8>, NoMemory> {
+fn sample_of(alloc: Global, start: Start) -> Result<Sample, NoMemory> {
     match start {
-        Start::OneFile => Sample::small(alloc, &three_files())?.bytes(alloc),
-        Start::Large => Sample::of(alloc, 1024, 64, &[root(), regular(2, 1, b"f", b"")])?.bytes(
-            alloc,
-        ),
-        Start::Several => Sample::of(alloc, 64, 64, &several())?.bytes(alloc),
-        Start::Shared => Sample::of(alloc, 64, 64, &shared())?.bytes(alloc),
-        Start::Deep => Sample::small(alloc, &deep())?.bytes(alloc),
-        Start::Bare => Sample::of(alloc, 512, 256, &[root()])?.bytes(alloc),
+        Start::OneFile => Sample::small(alloc, &three_files()),
+        Start::Large => Sample::of(alloc, 1024, 64, &[root(), regular(2, 1, b"f", b"")]),
+        Start::Several => Sample::of(alloc, 64, 64, &several()),
+        Start::Shared => Sample::of(alloc, 64, 64, &shared()),
+        Start::Deep => Sample::small(alloc, &deep()),
+        Start::Bare => Sample::of(alloc, 512, 256, &[root()]),
     }
 }
 
@@ -115,25 +107,22 @@ fn deep<'a>() -> [SampleFile<'a>; 10] {
     ]
 }
 
+/// The image.
+pub fn image_of(alloc: Global, start: Start) -> Option<Image> {
+    loaded(alloc, bytes_of(alloc, start).ok()?)
+}
+
+fn bytes_of(alloc: Global, start: Start) -> Result<Vec<u8>, NoMemory> {
+    sample_of(alloc, start)?.bytes(alloc)
+}
+
 /// The image of these bytes.
-pub fn image_of(alloc: Global, bytes: &[u8]) -> Option<Image> {
+pub fn loaded(alloc: Global, bytes: Vec<u8>) -> Option<Image> {
     let names = vec![in alloc; String::from_str(alloc, "a.img").ok()?].ok()?;
     let mut files = SureFiles::new(alloc, names).ok()?;
-    files.hold("a.img", bytes.to_vec(alloc).ok()?);
+    files.hold("a.img", bytes);
     if !files.serves("a.img") {
         return None;
     }
     load(alloc, &mut files, "a.img").ok()
 }
-
-/// A controller over an image, for three libraries: of uid 0, of uid 5, and of uid 0.
-pub fn started(alloc: Global, start: Start) -> Option<Ctl>
-    ensures three { IfSome result (λ ctl. length ctl.state.creds ≡ 3) }
-    ensures none { IfSome result (λ ctl. NothingIsOut (underway_of ctl)) }
-{
-    let image = image_of(alloc, &image_bytes(alloc, start).ok()?)?;
-    let libs = vec![in alloc; ROOT, Creds { uid: 5, gid: 5 }, ROOT].ok()?;
-    Ctl::start(alloc, image, libs).ok()
-}
-
-const ROOT: Creds = Creds { uid: 0, gid: 0 };

@@ -1,151 +1,151 @@
 //! A file of 512 blocks, which takes two index pages.
 
-ghost use Rattle.std.specs.Prelude.{◌≡◌, ◌≤◌};
-ghost use Rattle.trio_ctl.specs.Ctl.{underway_of};
-ghost use Rattle.trio_session_tests.specs.Turns.{MayPlay, first_lib};
-
-use crate::images::{Start, started};
-use crate::play::{Ask, is_told, seated, settle};
+use crate::images::Start;
+use crate::scripts::{Lines, plays_so};
 use std::alloc::Global;
 use trio_ctl::Ctl;
 use trio_image::Counts;
-use trio_rights::LibNo;
-use trio_session::Session;
+use trio_page::NoMemory;
 
 /// How many blocks the file has at most.
-const BLOCKS: u64 = 512;
+const BLOCKS: u32 = 512;
+
+/// What the library does.
+#[derive(Clone, Copy)]
+enum Step {
+    /// It resizes the file to so many blocks.
+    Resize(u32),
+    /// It puts a letter near the end of each block.
+    Put,
+    /// It reads the end of each of so many blocks: the letter among zeros, if it was put, or zeros alone.
+    Read(u32, bool),
+    /// It settles so many calls.
+    Settle(u32),
+}
+
+/// Some steps, and how many pages are in use once all up to there is settled.
+type Part = (&'static [Step], u32);
+
+/// The file is grown, filled, cut to 511 blocks, cut to none and grown again. What was read before a
+/// file is written or resized is handed in by itself.
+const PARTS: &[Part] = &[
+    (
+        &[
+            Step::Resize(BLOCKS),
+            Step::Settle(1),
+            Step::Read(BLOCKS, false),
+        ],
+        516,
+    ),
+    (
+        &[Step::Put, Step::Settle(512), Step::Read(BLOCKS, true)],
+        516,
+    ),
+    (
+        &[
+            Step::Resize(BLOCKS - 1),
+            Step::Settle(1),
+            Step::Read(BLOCKS - 1, true),
+        ],
+        514,
+    ),
+    (&[Step::Resize(0), Step::Settle(1)], 2),
+    (
+        &[
+            Step::Resize(BLOCKS),
+            Step::Settle(1),
+            Step::Read(BLOCKS, false),
+        ],
+        516,
+    ),
+];
+
+fn lines_of(alloc: Global, parts: &[Part]) -> Result<Lines, NoMemory> {
+    let mut lines = Lines::new(alloc)?;
+    for (steps, _) in parts {
+        add_steps(alloc, &mut lines, steps)?;
+    }
+    Ok(lines)
+}
+
+fn add_steps(alloc: Global, lines: &mut Lines, steps: &[Step]) -> Result<(), NoMemory> {
+    for step in steps {
+        add_step(alloc, lines, *step)?;
+    }
+    Ok(())
+}
+
+fn add_step(alloc: Global, lines: &mut Lines, step: Step) -> Result<(), NoMemory> {
+    match step {
+        Step::Resize(blocks) => {
+            let size = 4096 * u64::from(blocks);
+            lines.add(&format!(in alloc; "truncate /f {size}")?, "ok")
+        }
+        Step::Settle(calls) => lines.add("settle", &format!(in alloc; "settled {calls}")?),
+        Step::Put => add_writes(alloc, lines),
+        Step::Read(blocks, is_put) => add_reads(alloc, lines, blocks, is_put),
+    }
+}
 
 // the letter that is put into a block
-fn letter(block: u64) -> u8 {
-    b'a' + (block % 23) as u8
+fn letter(block: u32) -> char {
+    (b'a' + (block % 23) as u8) as char
 }
 
-// Puts a letter near the end of each of the first blocks.
-fn are_put(alloc: Global, ctl: &mut Ctl, session: &mut Session, blocks: u64) -> bool
-    requires may { MayPlay (underway_of ctl.old) first_lib session.old }
-    requires few { blocks ≤ 512 }
-    ensures { MayPlay (underway_of ctl.new) first_lib session.new }
-{
-    for block in 0..blocks {
-        let bytes = [letter(block)];
-        if !is_told(
-            alloc,
-            ctl,
-            LibNo(1),
-            session,
-            Ask::Write(b"/f", 4096 * block + 4090, &bytes),
-            "ok 1",
-        ) {
-            return false;
-        }
+// the place of the letter in the file
+fn place(block: u32) -> u64 {
+    4096 * u64::from(block) + 4090
+}
+
+fn add_writes(alloc: Global, lines: &mut Lines) -> Result<(), NoMemory> {
+    for block in 0..BLOCKS {
+        let line = format!(in alloc; "write /f {} {}", place(block), letter(block))?;
+        lines.add(&line, "ok 1")?;
     }
-    true
+    Ok(())
 }
 
-// What a read of the end of a block is told: the letter among zeros, or zeros alone.
-fn end_of(block: u64, is_put: bool) -> [u8; 11] {
-    let mut wanted = *b"ok 6 \0\0\0\0\0\0";
+fn add_reads(alloc: Global, lines: &mut Lines, blocks: u32, is_put: bool) -> Result<(), NoMemory> {
+    for block in 0..blocks {
+        let line = format!(in alloc; "read /f {} 6", place(block))?;
+        lines.add(&line, &end_of(alloc, block, is_put)?)?;
+    }
+    Ok(())
+}
+
+// what a read of the end of a block is told
+fn end_of(alloc: Global, block: u32, is_put: bool) -> Result<String, NoMemory> {
     if is_put {
-        wanted[5] = letter(block);
+        format!(in alloc; "ok 6 {}\\x00\\x00\\x00\\x00\\x00", letter(block))
+    } else {
+        format!(in alloc; "ok 6 \\x00\\x00\\x00\\x00\\x00\\x00")
     }
-    wanted
 }
 
-// Whether each of these blocks ends so: with its letter, if it is among the first ones, and with zeros.
-fn are_read(alloc: Global, ctl: &mut Ctl, session: &mut Session, put: u64, blocks: u64) -> bool
-    requires may { MayPlay (underway_of ctl.old) first_lib session.old }
-    requires few { blocks ≤ 512 }
-    ensures { MayPlay (underway_of ctl.new) first_lib session.new }
-{
-    for block in 0..blocks {
-        let wanted = end_of(block, block < put);
-        let Ok(wanted) = std::str::from_utf8(&wanted) else {
-            return false;
-        };
-        if !is_told(
-            alloc,
-            ctl,
-            LibNo(1),
-            session,
-            Ask::Read(b"/f", 4096 * block + 4090, 6),
-            wanted,
-        ) {
-            return false;
-        }
-    }
-    true
+// Whether these parts are told so, and so many pages are then in use.
+fn are_right(alloc: Global, parts: &[Part], pages: u32) -> Option<bool> {
+    let lines = lines_of(alloc, parts).ok()?;
+    let mut ctl = plays_so(alloc, Start::Large, &lines)?;
+    Some(is_counted(&mut ctl, pages))
 }
 
-// Resizes the file to so many blocks and settles; whether the image then has so many pages in use.
-fn is_resized(alloc: Global, ctl: &mut Ctl, session: &mut Session, blocks: u64, pages: u32) -> bool
-    requires may { MayPlay (underway_of ctl.old) first_lib session.old }
-    requires few_blocks { blocks ≤ 512 }
-    requires few_pages { pages ≤ 1021 }
-    ensures { MayPlay (underway_of ctl.new) first_lib session.new }
-{
-    let ask = Ask::Truncate(b"/f", 4096 * blocks);
-    if !is_told(alloc, ctl, LibNo(1), session, ask, "ok") {
-        return false;
-    }
-    if settle(ctl, LibNo(1), session).is_none() {
-        return false;
-    }
-    is_counted(ctl, pages)
-}
-
-fn is_counted(ctl: &mut Ctl, pages: u32) -> bool
-    requires { pages ≤ 1021 }
-    ensures { underway_of ctl.new ≡ underway_of ctl.old }
-{
+fn is_counted(ctl: &mut Ctl, pages: u32) -> bool {
+    let wanted = Counts {
+        inodes: 2,
+        pages,
+        free: 1021_u32.wrapping_sub(pages),
+    };
     match ctl.image() {
-        Ok(image) => {
-            let counts = image.counts();
-            counts
-                == Counts {
-                    inodes: 2,
-                    pages,
-                    free: 1021 - pages,
-                }
-        }
+        Ok(image) => image.counts() == wanted,
         Err(_) => false,
     }
 }
 
-// Grown, filled, cut to 511 blocks, cut to none and grown again.
-fn is_right(alloc: Global) -> Option<bool> {
-    let mut ctl = started(alloc, Start::Large)?;
-    let mut session = seated(alloc, &mut ctl, LibNo(1));
-    let is_grown = is_grown(alloc, &mut ctl, &mut session);
-    let is_cut = is_cut(alloc, &mut ctl, &mut session);
-    session.discard();
-    Some(is_grown && is_cut)
-}
-
-fn is_grown(alloc: Global, ctl: &mut Ctl, session: &mut Session) -> bool
-    requires { MayPlay (underway_of ctl.old) first_lib session.old }
-    ensures { MayPlay (underway_of ctl.new) first_lib session.new }
-{
-    let is_resized = is_resized(alloc, ctl, session, BLOCKS, 516);
-    let is_empty = are_read(alloc, ctl, session, 0, BLOCKS);
-    let is_put = are_put(alloc, ctl, session, BLOCKS);
-    let count = settle(ctl, LibNo(1), session);
-    let is_full = are_read(alloc, ctl, session, BLOCKS, BLOCKS);
-    is_resized && is_empty && is_put && count.is_some() && is_full
-}
-
-fn is_cut(alloc: Global, ctl: &mut Ctl, session: &mut Session) -> bool
-    requires { MayPlay (underway_of ctl.old) first_lib session.old }
-    ensures { MayPlay (underway_of ctl.new) first_lib session.new }
-{
-    let is_cut = is_resized(alloc, ctl, session, BLOCKS - 1, 514);
-    let is_left = are_read(alloc, ctl, session, BLOCKS - 1, BLOCKS - 1);
-    let is_cut_off = is_resized(alloc, ctl, session, 0, 2);
-    let is_grown = is_resized(alloc, ctl, session, BLOCKS, 516);
-    let is_empty = are_read(alloc, ctl, session, 0, BLOCKS);
-    is_cut && is_left && is_cut_off && is_grown && is_empty
-}
-
+// The parts are played up to each of them in turn.
 #[test]
 fn two_index_pages(rt: HostRuntime) {
-    assert!(rt; is_right(rt.alloc()) == Some(true));
+    for (k, (_, pages)) in PARTS.iter().enumerate() {
+        let are_right = are_right(rt.alloc(), &PARTS[..k + 1], *pages);
+        assert!(rt; are_right == Some(true), "part {k}");
+    }
 }

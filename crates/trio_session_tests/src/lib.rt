@@ -1,7 +1,9 @@
-//! Tests of honest libraries over desks of one controller: the calls on files and on directories, one
-//! after another and in turns, with what the image has after each settle.
+//! Tests of honest libraries: the calls on files and on directories, one after another and in rounds,
+//! with what the image has after them.
 #![tactic(auto)]
 
+#[cfg(test)]
+mod desks;
 #[cfg(test)]
 mod images;
 #[cfg(test)]
@@ -9,12 +11,8 @@ mod large;
 #[cfg(test)]
 mod many;
 #[cfg(test)]
-mod pairs;
-#[cfg(test)]
-mod play;
-#[cfg(test)]
 mod random;
 #[cfg(test)]
 mod rows;
 #[cfg(test)]
-mod third;
+mod scripts;

@@ -1,24 +1,20 @@
-//! Random calls of two honest libraries and a hostile one in turns, with what the log has of them
+//! Random calls of two honest libraries and pokes of a hostile one in rounds, with what the log has of them
 //! compared with the one-thread tree.
 
-ghost use Rattle.std.specs.Prelude.{◌≡◌, ◌≤◌, IfSome};
-ghost use Rattle.trio_session.specs.Seen.{SessionSeen};
-ghost use Rattle.trio_ctl.specs.Ctl.{IsIdle, IsLibrary, underway_of};
-ghost use Rattle.trio_session_tests.specs.Turns.{ArePlaying, IsCall, third_lib};
+ghost use Rattle.std.specs.Prelude.{◌≤◌};
 
-use crate::images::{Start, image_bytes, image_of, started};
-use crate::pairs::{first_plays, first_settles, second_plays, second_settles};
-use crate::play::{Ask, call_of, seated};
-use crate::third::{Deed, Spoil, third_plays};
+use crate::images::{Start, image_of};
+use crate::scripts::{played, put_line};
 use std::alloc::Global;
 use trio_ctl::Ctl;
 use trio_image::Image;
 use trio_names::Name;
 use trio_nodes::{Answer, Call, Done, Entry, Node, Nodes, Reply};
 use trio_onetree::apply;
+use trio_page::NoMemory;
+use trio_report::LineAnswer;
 use trio_rights::{Creds, Kind, LibNo};
-use trio_session::Session;
-use trio_walk::Outcome;
+use trio_runner::LibTold;
 
 /// A number after another: those of a linear congruence.
 #[derive(Drop)]
@@ -41,91 +37,153 @@ impl Random {
 
 // Paths of the image and others. The first fourteen are those of files and directories that are made,
 // renamed and removed, most of them in directories that all may write.
-const PATHS: [&[u8]; 22] = [
-    b"/a/f",
-    b"/a/g",
-    b"/a/d",
-    b"/a/e",
-    b"/b/f",
-    b"/b/g",
-    b"/b/d",
-    b"/b/e",
-    b"/a/d/f",
-    b"/a/d/d",
-    b"/b/d/f",
-    b"/b/d/d",
-    b"/a/e/f",
-    b"/c",
-    b"/a",
-    b"/b",
-    b"/h",
-    b"/p/q",
-    b"/",
-    b"/c/f",
-    b"/a/d/d/f",
-    b"/h/under",
+const PATHS: [&str; 22] = [
+    "/a/f", "/a/g", "/a/d", "/a/e", "/b/f", "/b/g", "/b/d", "/b/e", "/a/d/f", "/a/d/d", "/b/d/f",
+    "/b/d/d", "/a/e/f", "/c", "/a", "/b", "/h", "/p/q", "/", "/c/f", "/a/d/d/f", "/h/under",
 ];
 
-const MODES: [u16; 6] = [0o777, 0o755, 0o777, 0o777, 0o400, 0o777];
+const MODES: [&str; 6] = ["777", "755", "777", "777", "400", "777"];
 
-// A random call: offsets and sizes go over the ends of blocks, and now and then past what is free. Files
-// and directories are renamed within their directory and into others, onto names that stand and others.
-fn random_ask<'a>(random: &mut Random, bytes: &'a [u8]) -> Ask<'a> {
+// So many lines each library has.
+const ROUNDS: u32 = 9;
+
+// Puts lines of an honest library.
+fn put_calls(alloc: Global, script: &mut Vec<u8>, seed: u64) -> Result<(), NoMemory> {
+    let mut random = Random(seed);
+    for _ in 0..ROUNDS {
+        if random.below(8) == 0 {
+            put_line(script, "settle")?;
+        } else {
+            put_line(script, &random_call(alloc, &mut random)?)?;
+        }
+    }
+    Ok(())
+}
+
+// A random call: files and directories are renamed within their directory and into others, onto names
+// that stand and others.
+fn random_call(alloc: Global, random: &mut Random) -> Result<String, NoMemory> {
     let path = PATHS[random.below(22) as usize % 22];
     let made = PATHS[random.below(14) as usize % 14];
     let other = PATHS[random.below(14) as usize % 14];
-    let at = random.below(3) * 4096 + random.below(30);
     let mode = MODES[random.below(6) as usize % 6];
-    match random.below(24) {
-        0..=2 => Ask::Write(path, at, bytes),
-        3 => Ask::Read(path, at, random.below(4097) as u32),
-        4 => Ask::Stat(path),
-        5 => Ask::Truncate(path, at),
-        6 => Ask::Truncate(path, random.below(90) * 4096 * random.below(200)),
-        7..=8 => Ask::Mkdir(made, mode),
-        9..=10 => Ask::Create(made, mode),
-        11 => Ask::Unlink(path),
-        12 => Ask::Rmdir(path),
-        13 => Ask::Rename(path, made),
-        14..=20 => Ask::Rename(made, other),
-        21 => Ask::Chmod(path, mode),
-        22 => Ask::Chmod(made, mode),
-        _ => Ask::List(path, random.below(4) as u32),
+    let (word, first, second) = match random.below(24) {
+        0 => ("stat", path, ""),
+        1..=2 => ("mkdir", made, mode),
+        3..=4 => ("create", made, mode),
+        5 => ("unlink", path, ""),
+        6 => ("rmdir", made, ""),
+        7 => ("rename", path, made),
+        8..=14 => ("rename", made, other),
+        15 => ("chmod", path, mode),
+        16 => ("chmod", made, mode),
+        17 => (
+            "list",
+            path,
+            ["0", "1", "2", "3"][random.below(4) as usize % 4],
+        ),
+        _ => return random_bytes(alloc, random, path),
+    };
+    if second.is_empty() {
+        format!(in alloc; "{word} {first}")
+    } else {
+        format!(in alloc; "{word} {first} {second}")
     }
 }
 
-// The bytes that a call writes: up to a block, each of one letter.
-fn random_bytes(random: &mut Random, to: &mut [u8; 4096]) -> usize
-    ensures { result ≤ 4096 }
-{
-    let letter = b'a' + random.below(26) as u8;
-    for byte in to.iter_mut() {
-        *byte = letter;
+// A random call on a file's bytes: offsets and sizes go over the ends of blocks, and now and then past
+// what is free. Up to a block is written, of one letter.
+fn random_bytes(alloc: Global, random: &mut Random, path: &str) -> Result<String, NoMemory> {
+    let at = random.below(3) * 4096 + random.below(30);
+    match random.below(6) {
+        0 => format!(in alloc; "read {path} {at} {}", random.below(4097)),
+        1 => format!(in alloc; "truncate {path} {at}"),
+        2 => {
+            let size = random.below(90) * 4096 * random.below(200);
+            format!(in alloc; "truncate {path} {size}")
+        }
+        _ => {
+            let mut line = format!(in alloc; "write {path} {at} ")?;
+            let letter = (b'a' + random.below(26) as u8) as char;
+            for _ in 0..1 + random.below(3) * random.below(1366) {
+                line.push(letter)?;
+            }
+            Ok(line)
+        }
     }
-    (random.below(3) * random.below(1366)) as usize % 4097
+}
+
+// ---- the hostile library
+
+// Puts lines of a library that takes a file for writing, spoils its metadata and hands it in, again and
+// again.
+fn put_attacks(alloc: Global, script: &mut Vec<u8>, seed: u64) -> Result<(), NoMemory> {
+    let mut random = Random(seed);
+    for _ in 0..ROUNDS / 3 {
+        let how = random.below(3);
+        let ino = victim(&mut random, how);
+        put_line(script, &format!(in alloc; "grant write {ino}")?)?;
+        put_line(script, &poke(alloc, ino, how)?)?;
+        put_line(script, &format!(in alloc; "release {ino} - -")?)?;
+    }
+    Ok(())
+}
+
+// The root, `a`, `b` and `p`, which stay directories.
+const DIRECTORIES: [u64; 4] = [1, 2, 4, 11];
+
+// A file that is taken. A slot is written into what is a directory alone.
+fn victim(random: &mut Random, how: u64) -> u64 {
+    match how {
+        0 => DIRECTORIES[random.below(4) as usize % 4],
+        _ => 1 + random.below(12),
+    }
+}
+
+// The root's number is written into a slot of a directory; or a number that no file may list into an index
+// page; or a size that the chain doesn't have into the body.
+fn poke(alloc: Global, ino: u64, how: u64) -> Result<String, NoMemory> {
+    match how {
+        0 => format!(in alloc; "poke block {ino} 0 0 01000000"),
+        1 => format!(in alloc; "poke index {ino} 0 0 02000000"),
+        _ => format!(in alloc; "poke body {ino} 19 01"),
+    }
+}
+
+// How many releases of what was spoiled are refused. `None` where one isn't.
+fn refusals(answers: &[LineAnswer]) -> Option<u32> {
+    let mut count: u32 = 0;
+    for pair in answers.windows(2) {
+        match pair {
+            [LineAnswer::Poked, LineAnswer::Refused(_)] => count = count.saturating_add(1),
+            [LineAnswer::Poked, _] => return None,
+            _ => {}
+        }
+    }
+    Some(count)
 }
 
 // ---- the one-thread tree beside the controller
 
-// The nodes that the controller's image should have, how many entries of its log are played, and the
-// calls among them that were done.
+// The nodes that the controller's image should have, and the calls that were done.
 #[derive(Drop)]
 struct Model {
     nodes: Nodes,
-    played: usize,
     count: Count,
 }
 
-// So many renames and changes of mode.
+// So many renames and changes of mode, and so many releases that were refused.
 #[derive(Clone, Copy)]
 struct Count {
     renames: u32,
     modes: u32,
+    refusals: u32,
 }
 
 const NONE: Count = Count {
     renames: 0,
     modes: 0,
+    refusals: 0,
 };
 
 impl Count {
@@ -141,6 +199,7 @@ impl Count {
         Count {
             renames: self.renames.saturating_add(more.renames),
             modes: self.modes.saturating_add(more.modes),
+            refusals: self.refusals.saturating_add(more.refusals),
         }
     }
 }
@@ -151,17 +210,14 @@ const LIBS: [Creds; 3] = [
     Creds { uid: 0, gid: 0 },
 ];
 
-// Plays what the log has more: the calls of each settle by the tree, and each change of mode, with the
-// reply that each had.
+// Plays the log: the calls of each settle by the tree, and each change of mode, with the reply that each
+// had.
 fn follow(alloc: Global, ctl: &Ctl, model: &mut Model) -> bool {
-    let entries = ctl.log().entries();
-    let from = model.played.min(entries.len());
-    for entry in &entries[from..] {
+    for entry in ctl.log().entries() {
         if !is_followed(alloc, entry, model) {
             return false;
         }
     }
-    model.played = entries.len();
     true
 }
 
@@ -277,20 +333,13 @@ fn are_same_names(a: &[(Name, Kind)], b: &[(Name, Kind)]) -> bool {
     a.len() == b.len() && a.iter().zip(b).all(are_alike)
 }
 
-// Whether the settled image has the nodes of the model.
-fn is_settled(alloc: Global, ctl: &mut Ctl, model: &Model) -> bool
-    ensures { underway_of ctl.new ≡ underway_of ctl.old }
-{
-    match ctl.image() {
-        Ok(image) => has_nodes(alloc, image, &model.nodes),
-        Err(_) => false,
-    }
-}
-
-fn has_nodes(alloc: Global, mut image: Image, wanted: &Nodes) -> bool {
-    match image.nodes(alloc) {
-        Ok(nodes) => are_same(&nodes, wanted),
-        Err(_) => false,
+// The image, if it has the nodes of the model.
+fn with_nodes(alloc: Global, mut image: Image, wanted: &Nodes) -> Option<Image> {
+    let nodes = image.nodes(alloc).ok()?;
+    if are_same(&nodes, wanted) {
+        Some(image)
+    } else {
+        None
     }
 }
 
@@ -319,199 +368,68 @@ fn is_same_node(a: Option<&Node>, b: Option<&Node>) -> bool {
     }
 }
 
-// ---- the hostile library
+// ---- in rounds
 
-// The third library takes a file for writing, spoils its metadata and hands it in: whether that is
-// refused, or the file isn't lent.
-fn attack(alloc: Global, ctl: &mut Ctl, model: &mut Model, random: &mut Random) -> bool
-    requires library { IsLibrary third_lib ctl.old.state }
-    requires idle { IsIdle ctl.old third_lib.0 }
-    ensures { (x y : SessionSeen) → ArePlaying (underway_of ctl.old) x y → ArePlaying (underway_of ctl.new) x y }
-{
-    let is_followed = follow(alloc, ctl, model);
-    let ino = 1 + random.below(12) as u32;
-    let how = match random.below(3) {
-        0 => Spoil::Size,
-        1 => Spoil::Index,
-        _ if is_directory(model, ino) => Spoil::Entry,
-        _ => Spoil::Size,
-    };
-    is_followed && third_plays(alloc, ctl, Deed::Spoil(ino, how))
-}
-
-// Whether that is the number of a directory of what is settled.
-fn is_directory(model: &Model, ino: u32) -> bool {
-    match model.nodes.get(ino) {
-        Some(node) => node.kind == Kind::Directory,
-        None => false,
-    }
-}
-
-// ---- in turns
-
-// One turn: a call of one of the two libraries, a settle of one, or an attack.
-fn turn(
-    alloc: Global,
-    ctl: &mut Ctl,
-    first: &mut Session,
-    second: &mut Session,
-    model: &mut Model,
-    random: &mut Random,
-) -> bool
-    requires { ArePlaying (underway_of ctl.old) first.old second.old }
-    ensures { ArePlaying (underway_of ctl.new) first.new second.new }
-{
-    match random.below(16) {
-        0 => first_settles(ctl, first, second).is_some(),
-        1 => second_settles(ctl, first, second).is_some(),
-        2 | 3 => attack(alloc, ctl, model, random),
-        4..=9 => first_calls(alloc, ctl, first, second, random),
-        _ => second_calls(alloc, ctl, first, second, random),
-    }
-}
-
-fn random_call(alloc: Global, random: &mut Random) -> Option<Call>
-    ensures { IfSome result IsCall }
-{
-    let mut bytes = [0; 4096];
-    let len = random_bytes(random, &mut bytes);
-    call_of(alloc, random_ask(random, &bytes[..len]))
-}
-
-fn first_calls(
-    alloc: Global,
-    ctl: &mut Ctl,
-    first: &mut Session,
-    second: &Session,
-    random: &mut Random,
-) -> bool
-    requires { ArePlaying (underway_of ctl.old) first.old second.now }
-    ensures { ArePlaying (underway_of ctl.new) first.new second.now }
-{
-    match random_call(alloc, random) {
-        Some(call) => is_fair(&first_plays(alloc, ctl, first, second, call), LibNo(1)),
-        None => false,
-    }
-}
-
-fn second_calls(
-    alloc: Global,
-    ctl: &mut Ctl,
-    first: &Session,
-    second: &mut Session,
-    random: &mut Random,
-) -> bool
-    requires { ArePlaying (underway_of ctl.old) first.now second.old }
-    ensures { ArePlaying (underway_of ctl.new) first.now second.new }
-{
-    match random_call(alloc, random) {
-        Some(call) => is_fair(&second_plays(alloc, ctl, first, second, call), LibNo(2)),
-        None => false,
-    }
-}
-
-// A call is replied, or another library keeps its file busy.
-fn is_fair(outcome: &Outcome, lib: LibNo) -> bool {
-    match outcome {
-        Outcome::NoMemory => false,
-        Outcome::Busy(holder) => holder.lib != lib,
-        Outcome::Replied(_) => true,
-    }
-}
-
-// A hundred turns, and the tree after every tenth, with all settled.
-fn are_one(
-    alloc: Global,
-    ctl: &mut Ctl,
-    first: &mut Session,
-    second: &mut Session,
-    model: &mut Model,
-    seed: u64,
-) -> bool
-    requires { ArePlaying (underway_of ctl.old) first.old second.old }
-{
-    let mut random = Random(seed);
-    for _ in 0..10 {
-        if !are_fair(alloc, ctl, first, second, model, &mut random) {
-            return false;
-        }
-        if !is_all_settled(alloc, ctl, first, second, model) {
-            return false;
-        }
-    }
-    true
-}
-
-// Ten turns.
-fn are_fair(
-    alloc: Global,
-    ctl: &mut Ctl,
-    first: &mut Session,
-    second: &mut Session,
-    model: &mut Model,
-    random: &mut Random,
-) -> bool
-    requires { ArePlaying (underway_of ctl.old) first.old second.old }
-    ensures { ArePlaying (underway_of ctl.new) first.new second.new }
-{
-    for _ in 0..10 {
-        if !turn(alloc, ctl, first, second, model, random) {
-            return false;
-        }
-    }
-    true
-}
-
-fn is_all_settled(
-    alloc: Global,
-    ctl: &mut Ctl,
-    first: &mut Session,
-    second: &mut Session,
-    model: &mut Model,
-) -> bool
-    requires { ArePlaying (underway_of ctl.old) first.old second.old }
-    ensures { ArePlaying (underway_of ctl.new) first.new second.new }
-{
-    let first_count = first_settles(ctl, first, second);
-    let second_count = second_settles(ctl, first, second);
-    let is_followed = follow(alloc, ctl, model);
-    let is_settled = is_settled(alloc, ctl, model);
-    first_count.is_some() && second_count.is_some() && is_followed && is_settled
+fn script(alloc: Global, seed: u64) -> Result<Vec<u8>, NoMemory> {
+    let mut script = Vec::new(alloc);
+    put_line(&mut script, "lib 1 honest 0 0")?;
+    put_calls(alloc, &mut script, seed)?;
+    put_line(&mut script, "lib 2 honest 5 5")?;
+    put_calls(alloc, &mut script, seed.wrapping_add(100))?;
+    put_line(&mut script, "lib 3 raw 0 0")?;
+    put_attacks(alloc, &mut script, seed.wrapping_add(200))?;
+    Ok(script)
 }
 
 // The nodes of the image from which it starts.
 fn begun(alloc: Global) -> Option<Model> {
-    let mut image = image_of(alloc, &image_bytes(alloc, Start::Shared).ok()?)?;
-    let nodes = image.nodes(alloc).ok()?;
-    Some(Model {
-        nodes,
-        played: 0,
-        count: NONE,
-    })
+    let nodes = image_of(alloc, Start::Shared)?.nodes(alloc).ok()?;
+    Some(Model { nodes, count: NONE })
 }
 
-// The renames and changes of mode that were done, where it is one tree.
+// The image once a script was played on it and all is settled, if it is that of the tree.
+fn next(alloc: Global, image: Image, model: &mut Model, seed: u64) -> Option<Image> {
+    let (mut ctl, tolds) = played(alloc, image, &script(alloc, seed).ok()?)?;
+    if !are_refused(&tolds, model) || !follow(alloc, &ctl, model) {
+        return None;
+    }
+    with_nodes(alloc, ctl.image().ok()?, &model.nodes)
+}
+
+// Whether what the third library spoiled is refused.
+fn are_refused(tolds: &[LibTold], model: &mut Model) -> bool {
+    match tolds {
+        [_, _, third] => match refusals(third.answers()) {
+            Some(refusals) => {
+                model.count = model.count.and(Count { refusals, ..NONE });
+                true
+            }
+            None => false,
+        },
+        _ => false,
+    }
+}
+
+// What was done in five scripts one after another, where it is one tree.
 fn one_tree(alloc: Global, seed: u64) -> Option<Count> {
     let mut model = begun(alloc)?;
-    let mut ctl = started(alloc, Start::Shared)?;
-    let mut first = seated(alloc, &mut ctl, LibNo(1));
-    let mut second = seated(alloc, &mut ctl, LibNo(2));
-    let are_one = are_one(alloc, &mut ctl, &mut first, &mut second, &mut model, seed);
-    first.discard();
-    second.discard();
-    if are_one { Some(model.count) } else { None }
+    let mut image = image_of(alloc, Start::Shared)?;
+    for part in 0..5 {
+        image = next(alloc, image, &mut model, seed.wrapping_add(1000 * part))?;
+    }
+    Some(model.count)
 }
 
 fn are_one_tree(alloc: Global) -> Option<Count> {
     let mut count = NONE;
-    for seed in 1..21 {
+    for seed in 1..26 {
         count = count.and(one_tree(alloc, seed)?);
     }
     Some(count)
 }
 
 fn are_many(count: Count) -> bool {
-    count.renames >= 50 && count.modes >= 20
+    count.renames >= 50 && count.modes >= 20 && count.refusals >= 50
 }
 
 #[test]

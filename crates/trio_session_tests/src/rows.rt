@@ -1,47 +1,38 @@
 //! Calls one after another, each with what it is told.
 
-ghost use Rattle.trio_ctl.specs.Ctl.{underway_of};
-ghost use Rattle.trio_session_tests.specs.Turns.{ArePlaying, MayPlay, first_lib};
-
-use crate::images::{Start, started};
-use crate::pairs::{first_is_told, second_is_told};
-use crate::play::{Ask, is_told, seated, settle};
-use crate::third::{Deed, third_plays};
+use crate::images::Start;
+use crate::scripts::{Library, Row, plays};
 use std::alloc::Global;
+use std::test::Fail;
 use trio_ctl::Ctl;
 use trio_image::Counts;
+use trio_nodes::Entry;
 use trio_page::field::all_zero;
-use trio_rights::LibNo;
-use trio_session::Session;
 
-// Calls of the first library on the image of one file.
-const CALLS: &[(Ask<'static>, &str)] = &[
-    (Ask::Read(b"/a/f", 0, 10), "ok 5 hello"),
-    (Ask::Write(b"/a/f", 4096, b"x"), "ok 1"),
-    (Ask::Stat(b"/a/f"), "ok f 644 0 0 4097"),
-    (Ask::Truncate(b"/a/f", 33_554_433), "toolarge"),
-    (Ask::Truncate(b"/a/f", 33_554_432), "nospace 8206 22"),
-];
-
-// Whether each of these calls is told so.
-fn are_told(alloc: Global, ctl: &mut Ctl, session: &mut Session, calls: &[(Ask, &str)]) -> bool
-    requires { MayPlay (underway_of ctl.old) first_lib session.old }
-    ensures { MayPlay (underway_of ctl.new) first_lib session.new }
-{
-    for (ask, wanted) in calls {
-        if !is_told(alloc, ctl, LibNo(1), session, *ask, wanted) {
-            return false;
-        }
-    }
-    true
-}
+// Calls on the image of one file.
+const CALLS: &[Library] = &[Library {
+    head: "lib 1 honest 0 0",
+    rows: &[
+        ("read /a/f 0 10", "ok 5 hello"),
+        ("write /a/f 4096 x", "ok 1"),
+        ("stat /a/f", "ok f 644 0 0 4097"),
+        ("truncate /a/f 33554433", "toolarge"),
+        ("truncate /a/f 33554432", "nospace 8206 22"),
+        // the first call was handed in by itself: the second had to settle its read lease
+        ("settle", "settled 4"),
+    ],
+}];
 
 // Whether the settled image has the file grown: its second block is page 9, and what was not written
 // is zero.
-fn is_grown(alloc: Global, ctl: &mut Ctl) -> Option<bool> {
+fn is_grown(alloc: Global, mut ctl: Ctl) -> Option<bool> {
     let image = ctl.image().ok()?;
     let is_counted = image.counts() == GROWN;
     let bytes = image.into_bytes(alloc).ok()?;
+    Some(is_counted && is_written(&bytes)?)
+}
+
+fn is_written(bytes: &[u8]) -> Option<bool> {
     let (index, first, second) = (
         bytes.get(28672..32768)?,
         bytes.get(32768..36864)?,
@@ -49,11 +40,8 @@ fn is_grown(alloc: Global, ctl: &mut Ctl) -> Option<bool> {
     );
     let is_indexed = index.starts_with(b"\x08\0\0\0\0\0\0\0\x09\0\0\0\0\0\0\0")
         && all_zero(&index[16..]);
-    let is_written = first.starts_with(b"hello")
-        && all_zero(&first[5..])
-        && second[0] == b'x'
-        && all_zero(&second[1..]);
-    Some(is_counted && is_indexed && is_written)
+    let is_first = first.starts_with(b"hello") && all_zero(&first[5..]);
+    Some(is_indexed && is_first && second[0] == b'x' && all_zero(&second[1..]))
 }
 
 const GROWN: Counts = Counts {
@@ -62,39 +50,42 @@ const GROWN: Counts = Counts {
     free: 22,
 };
 
-fn are_as_written(alloc: Global) -> Option<bool> {
-    let mut ctl = started(alloc, Start::OneFile)?;
-    let mut session = seated(alloc, &mut ctl, LibNo(1));
-    let are_told = are_told(alloc, &mut ctl, &mut session, CALLS);
-    // the first call was handed in by itself: the second had to settle its read lease
-    let count = settle(&mut ctl, LibNo(1), &mut session);
-    session.discard();
-    Some(are_told && count == Some(4) && is_grown(alloc, &mut ctl)?)
-}
-
 #[test]
-fn calls_on_a_file(rt: HostRuntime) {
-    assert!(rt; are_as_written(rt.alloc()) == Some(true));
+fn calls_on_a_file(rt: HostRuntime) -> Result<(), Fail> {
+    let ctl = plays(rt.alloc(), Start::OneFile, CALLS)?;
+    assert!(rt; is_grown(rt.alloc(), ctl) == Some(true));
+    Ok(())
 }
 
-const DEEP: Ask<'static> = Ask::Read(b"/a/b/c/d/e/f/g/h/x", 0, 10);
+const DEEP: Row = ("read /a/b/c/d/e/f/g/h/x 0 10", "ok 5 hello");
 
-// A file eight directories below the root is read twice: the log has the grants of the first walk, and
-// no entry more.
-fn is_asked_once(alloc: Global) -> Option<bool> {
-    let mut ctl = started(alloc, Start::Deep)?;
-    let mut session = seated(alloc, &mut ctl, LibNo(1));
-    let is_read = is_told(alloc, &mut ctl, LibNo(1), &mut session, DEEP, "ok 5 hello");
-    let first = ctl.log().len();
-    let is_read_again = is_told(alloc, &mut ctl, LibNo(1), &mut session, DEEP, "ok 5 hello");
-    let second = ctl.log().len();
-    session.discard();
-    Some(is_read && is_read_again && first == 10 && second == 10)
+const ONCE: &[Library] = &[Library {
+    head: "lib 1 honest 0 0",
+    rows: &[DEEP],
+}];
+
+const TWICE: &[Library] = &[Library {
+    head: "lib 1 honest 0 0",
+    rows: &[DEEP, DEEP],
+}];
+
+// How many entries the log has in all, and how many of them are grants.
+fn entries_of(ctl: &Ctl) -> (usize, usize) {
+    let entries = ctl.log().entries();
+    let grants = entries
+        .iter()
+        .filter(|entry| matches!(entry, Entry::Grant { .. }));
+    (entries.len(), grants.count())
 }
 
+// A file eight directories below the root is read once or twice: the log has the grants of the first
+// walk, and no entry more where it is read twice.
 #[test]
-fn a_second_read_asks_nothing(rt: HostRuntime) {
-    assert!(rt; is_asked_once(rt.alloc()) == Some(true));
+fn a_second_read_asks_nothing(rt: HostRuntime) -> Result<(), Fail> {
+    let once = entries_of(&plays(rt.alloc(), Start::Deep, ONCE)?);
+    let twice = entries_of(&plays(rt.alloc(), Start::Deep, TWICE)?);
+    assert!(rt; once.1 == 10 && once == twice);
+    Ok(())
 }
 
 // ---- directories
@@ -102,57 +93,64 @@ fn a_second_read_asks_nothing(rt: HostRuntime) {
 // Calls of one library on the image of one file: names that stand already and names that don't,
 // files of the other kind, what it made itself, a name with the end of a line, and one of 184 bytes.
 // A call that wants `a` held settles first where its walk has it lent.
-const MADE: &[(Ask<'static>, &str)] = &[
-    (Ask::Mkdir(b"/b", 0o755), "ok"),
-    (Ask::Create(b"/b/g", 0o640), "ok"),
-    (Ask::List(b"/b", 0), "ok 1 g"),
-    (Ask::List(b"/", 0), "ok 2 a/ b/"),
-    (Ask::Mkdir(b"/b", 0o755), "exists"),
-    (Ask::Create(b"/a/f", 0o644), "exists"),
-    (Ask::Create(b"/a", 0o644), "exists"),
-    (Ask::Mkdir(b"/", 0o755), "exists"),
-    (Ask::Create(b"/a/f/x", 0o644), "notdir"),
-    (Ask::Mkdir(b"/none/x", 0o755), "notfound"),
-    (Ask::Unlink(b"/b"), "isdir"),
-    (Ask::Unlink(b"/"), "isdir"),
-    (Ask::Unlink(b"/a/none"), "notfound"),
-    (Ask::Unlink(b"/a/f/x"), "notdir"),
-    (Ask::Rmdir(b"/"), "denied"),
-    (Ask::Rmdir(b"/b/g"), "notdir"),
-    (Ask::Rmdir(b"/none"), "notfound"),
-    (Ask::Rmdir(b"/a"), "notempty"),
-    (Ask::Rmdir(b"/b"), "notempty"),
-    (Ask::List(b"/a/f", 0), "notdir"),
-    (Ask::List(b"/none", 0), "notfound"),
-    (Ask::Write(b"/b/g", 4095, b"xy"), "ok 2"),
-    (Ask::Stat(b"/b"), "ok d 755 0 0 1"),
-    (Ask::Stat(b"/b/g"), "ok f 640 0 0 4097"),
-    (Ask::Unlink(b"/a/f"), "ok"),
-    (Ask::Rmdir(b"/a"), "ok"),
-    (Ask::Stat(b"/a"), "notfound"),
-    (Ask::Create(b"/a\nb", 0o644), "ok"),
-    (Ask::Mkdir(b"/b/d", 0o700), "ok"),
-    (Ask::List(b"/b", 0), "ok 2 d/ g"),
-    (Ask::List(b"/", 0), "ok 2 a\\x0Ab b/"),
-    (Ask::Settle, "settled 6"),
-    (Ask::Create(LONG, 0o644), "ok"),
-    (Ask::List(b"/", 2), LONG_TOLD),
-    (Ask::List(b"/", 3), "ok 3"),
-    (Ask::Read(b"/b/g", 4095, 10), "ok 2 xy"),
-    (Ask::Rmdir(b"/b/d"), "ok"),
-    (Ask::Unlink(b"/a\nb"), "ok"),
-    (Ask::Settle, "settled 1"),
-    (Ask::Stat(b"/"), "ok d 755 0 0 2"),
+const MADE: &[Row] = &[
+    ("mkdir /b 755", "ok"),
+    ("create /b/g 640", "ok"),
+    ("list /b 0", "ok 1 g"),
+    ("list / 0", "ok 2 a/ b/"),
+    ("mkdir /b 755", "exists"),
+    ("create /a/f 644", "exists"),
+    ("create /a 644", "exists"),
+    ("mkdir / 755", "exists"),
+    ("create /a/f/x 644", "notdir"),
+    ("mkdir /none/x 755", "notfound"),
+    ("unlink /b", "isdir"),
+    ("unlink /", "isdir"),
+    ("unlink /a/none", "notfound"),
+    ("unlink /a/f/x", "notdir"),
+    ("rmdir /", "denied"),
+    ("rmdir /b/g", "notdir"),
+    ("rmdir /none", "notfound"),
+    ("rmdir /a", "notempty"),
+    ("rmdir /b", "notempty"),
+    ("list /a/f 0", "notdir"),
+    ("list /none 0", "notfound"),
+    ("write /b/g 4095 xy", "ok 2"),
+    ("stat /b", "ok d 755 0 0 1"),
+    ("stat /b/g", "ok f 640 0 0 4097"),
+    ("unlink /a/f", "ok"),
+    ("rmdir /a", "ok"),
+    ("stat /a", "notfound"),
+    ("create /a\\x0Ab 644", "ok"),
+    ("mkdir /b/d 700", "ok"),
+    ("list /b 0", "ok 2 d/ g"),
+    ("list / 0", "ok 2 a\\x0Ab b/"),
+    ("settle", "settled 6"),
+    (LONG_MADE, "ok"),
+    ("list / 2", LONG_TOLD),
+    ("list / 3", "ok 3"),
+    ("read /b/g 4095 10", "ok 2 xy"),
+    ("rmdir /b/d", "ok"),
+    ("unlink /a\\x0Ab", "ok"),
+    ("settle", "settled 1"),
+    ("stat /", "ok d 755 0 0 2"),
 ];
 
 // A slash, and 184 bytes.
-const LONG: &[u8] =
-    b"/nnnnnnnnnnnnnnnnnnnnnnnnnnnnnnnnnnnnnnnnnnnnnnnnnnnnnnnnnnnnnnnnnnnnnnnnnnnnnnnnnnnnnnnnnnnn\
-    nnnnnnnnnnnnnnnnnnnnnnnnnnnnnnnnnnnnnnnnnnnnnnnnnnnnnnnnnnnnnnnnnnnnnnnnnnnnnnnnnnnnnnnnnnnn";
+const LONG_MADE: &str =
+    "create /nnnnnnnnnnnnnnnnnnnnnnnnnnnnnnnnnnnnnnnnnnnnnnnnnnnnnnnnnnnnnnnnnnnnnnnnnnnn\
+    nnnnnnnnnnnnnnnnnnnnnnnnnnnnnnnnnnnnnnnnnnnnnnnnnnnnnnnnnnnnnnnnnnnnnnnnnnnnnnnnnnnn\
+    nnnnnnnnnnnnnnnnnnnnnnnn 644";
 
 const LONG_TOLD: &str =
-    "ok 3 nnnnnnnnnnnnnnnnnnnnnnnnnnnnnnnnnnnnnnnnnnnnnnnnnnnnnnnnnnnnnnnnnnnnnnnnnnnnnnnnnnnnnnnnnnnn\
-    nnnnnnnnnnnnnnnnnnnnnnnnnnnnnnnnnnnnnnnnnnnnnnnnnnnnnnnnnnnnnnnnnnnnnnnnnnnnnnnnnnnnnnnnnnnn";
+    "ok 3 nnnnnnnnnnnnnnnnnnnnnnnnnnnnnnnnnnnnnnnnnnnnnnnnnnnnnnnnnnnnnnnnnnnnnnnnnnnnnnn\
+    nnnnnnnnnnnnnnnnnnnnnnnnnnnnnnnnnnnnnnnnnnnnnnnnnnnnnnnnnnnnnnnnnnnnnnnnnnnnnnnnnnnn\
+    nnnnnnnnnnnnnnnnnnnnn";
+
+const MAKES: &[Library] = &[Library {
+    head: "lib 1 honest 0 0",
+    rows: MADE,
+}];
 
 // The root has `b`, with `g` of two blocks, and the file of the long name.
 const LEFT: Counts = Counts {
@@ -161,147 +159,114 @@ const LEFT: Counts = Counts {
     free: 22,
 };
 
-fn are_made(alloc: Global) -> Option<bool> {
-    let mut ctl = started(alloc, Start::OneFile)?;
-    let mut session = seated(alloc, &mut ctl, LibNo(1));
-    let are_told = are_told(alloc, &mut ctl, &mut session, MADE);
-    session.discard();
-    Some(are_told && ctl.image().ok()?.counts() == LEFT)
+// Whether the settled image has so many files and pages.
+fn has(mut ctl: Ctl, counts: Counts) -> bool {
+    match ctl.image() {
+        Ok(image) => image.counts() == counts,
+        Err(_) => false,
+    }
 }
 
 #[test]
-fn calls_on_directories(rt: HostRuntime) {
-    assert!(rt; are_made(rt.alloc()) == Some(true));
+fn calls_on_directories(rt: HostRuntime) -> Result<(), Fail> {
+    let ctl = plays(rt.alloc(), Start::OneFile, MAKES)?;
+    assert!(rt; has(ctl, LEFT));
+    Ok(())
 }
 
 // Calls of a library where one page and two inode numbers are free, since another one keeps the
-// others. What it gave up is free again once it has settled.
-const SHORT: &[(Ask<'static>, &str)] = &[
-    (Ask::Mkdir(b"/b", 0o755), "ok"),
-    (Ask::Create(b"/b/x", 0o644), "nospace 2 1"),
-    (Ask::Create(b"/a/x", 0o644), "ok"),
-    (Ask::Create(b"/a/y", 0o644), "noinodes 1 0"),
-    (Ask::Mkdir(b"/b/y", 0o755), "nospace 2 1"),
-    (Ask::Rmdir(b"/b"), "ok"),
-    (Ask::Mkdir(b"/c", 0o755), "noinodes 1 0"),
-    (Ask::Settle, "settled 7"),
-    (Ask::Mkdir(b"/c", 0o755), "ok"),
-    (Ask::List(b"/", 0), "ok 2 a/ c/"),
+// others: 22 of the 23 free pages, and 59 of the 61 free inode numbers. What the library gave up is free
+// again once it has settled.
+const SHORT: &[Library] = &[
+    Library {
+        head: "lib 1 raw 0 0",
+        rows: &[
+            ("allot 22 59", ALLOTTED),
+            ("back 1", "absent"),
+            ("back 1", "absent"),
+            ("back 1", "absent"),
+            ("back 1", "absent"),
+            ("back 1", "absent"),
+            ("back 1", "absent"),
+            ("back 1", "absent"),
+            ("back 1", "absent"),
+            ("back 1", "absent"),
+        ],
+    },
+    Library {
+        head: "lib 2 honest 0 0",
+        rows: &[
+            ("mkdir /b 755", "ok"),
+            ("create /b/x 644", "nospace 2 1"),
+            ("create /a/x 644", "ok"),
+            ("create /a/y 644", "noinodes 1 0"),
+            ("mkdir /b/y 755", "nospace 2 1"),
+            ("rmdir /b", "ok"),
+            ("mkdir /c 755", "noinodes 1 0"),
+            ("settle", "settled 7"),
+            ("mkdir /c 755", "ok"),
+            ("list / 0", "ok 2 a/ c/"),
+        ],
+    },
 ];
 
-// A round: what each of two libraries calls, and what it is told.
-type Round = [(Ask<'static>, &'static str); 2];
+// The pages 9 to 30, and the inode numbers 4 to 62.
+const ALLOTTED: &str =
+    "allotted 9,10,11,12,13,14,15,16,17,18,19,20,21,22,23,24,25,26,27,28,29,30 4,5,6,7,8,\
+    9,10,11,12,13,14,15,16,17,18,19,20,21,22,23,24,25,26,27,28,29,30,31,32,33,34,35,36,3\
+    7,38,39,40,41,42,43,44,45,46,47,48,49,50,51,52,53,54,55,56,57,58,59,60,61,62";
 
-// A file that the other library writes is busy until that has settled; the grants of the first one's
-// walk on `/` and `a` are the entries 0 and 1.
-const FILE_IS_BUSY: &[Round] = &[
-    [
-        (Ask::Write(b"/a/f", 0, b"x"), "ok 1"),
-        (Ask::Write(b"/a/f", 0, b"y"), "busy 1 2"),
-    ],
-    [
-        (Ask::Settle, "settled 1"),
-        (Ask::Write(b"/a/f", 0, b"y"), "ok 1"),
-    ],
+// A file that the other library writes is busy until that has settled.
+const FILE_IS_BUSY: &[Library] = &[
+    Library {
+        head: "lib 1 honest 0 0",
+        rows: &[("write /a/f 0 x", "ok 1"), ("settle", "settled 1")],
+    },
+    Library {
+        head: "lib 2 honest 5 5",
+        rows: &[("write /a/f 0 y", "busy"), ("write /a/f 0 y", "ok 1")],
+    },
 ];
 
 // So is a directory. In one that all may write the second library makes a file of its own uid, which
 // the first then removes; in others the second may make and remove nothing.
-const DIRECTORY_IS_BUSY: &[Round] = &[
-    [
-        (Ask::Create(b"/g", 0o644), "ok"),
-        (Ask::List(b"/", 0), "busy 1 0"),
-    ],
-    [
-        (Ask::List(b"/", 0), "ok 4 a/ g h p/"),
-        (Ask::List(b"/a", 0), "busy 1 0"),
-    ],
-    [
-        (Ask::Settle, "settled 2"),
-        (Ask::List(b"/", 0), "ok 4 a/ g h p/"),
-    ],
-    [
-        (Ask::Stat(b"/a"), "ok d 755 0 0 2"),
-        (Ask::Settle, "settled 1"),
-    ],
-    [
-        (Ask::Mkdir(b"/t", 0o777), "ok"),
-        (Ask::Create(b"/x", 0o644), "denied"),
-    ],
-    [
-        (Ask::Settle, "settled 1"),
-        (Ask::Create(b"/t/x", 0o600), "ok"),
-    ],
-    [
-        (Ask::Stat(b"/h"), "ok f 644 0 0 11"),
-        (Ask::Rmdir(b"/a"), "denied"),
-    ],
-    [(Ask::Settle, "settled 1"), (Ask::Settle, "settled 3")],
-    [
-        (Ask::Stat(b"/t/x"), "ok f 600 5 5 0"),
-        (Ask::Unlink(b"/h"), "denied"),
-    ],
-    [
-        (Ask::Unlink(b"/t/x"), "ok"),
-        (Ask::List(b"/p", 0), "denied"),
-    ],
+const DIRECTORY_IS_BUSY: &[Library] = &[
+    Library {
+        head: "lib 1 honest 0 0",
+        rows: &[
+            ("create /g 644", "ok"),
+            ("list / 0", "ok 4 a/ g h p/"),
+            ("settle", "settled 2"),
+            ("stat /a", "ok d 755 0 0 2"),
+            ("mkdir /t 777", "ok"),
+            ("settle", "settled 1"),
+            ("stat /h", "ok f 644 0 0 11"),
+            ("settle", "settled 1"),
+            ("stat /t/x", "ok f 600 5 5 0"),
+            ("unlink /t/x", "ok"),
+        ],
+    },
+    Library {
+        head: "lib 2 honest 5 5",
+        rows: &[
+            ("list / 0", "busy"),
+            ("list /a 0", "busy"),
+            ("list / 0", "ok 4 a/ g h p/"),
+            ("settle", "settled 1"),
+            ("create /x 644", "denied"),
+            ("create /t/x 600", "ok"),
+            ("rmdir /a", "denied"),
+            ("settle", "settled 3"),
+            ("unlink /h", "denied"),
+            ("list /p 0", "denied"),
+        ],
+    },
 ];
 
-// Whether each of these rounds is told so.
-fn are_told_in_turns(
-    alloc: Global,
-    ctl: &mut Ctl,
-    first: &mut Session,
-    second: &mut Session,
-    rounds: &[Round],
-) -> bool
-    requires { ArePlaying (underway_of ctl.old) first.old second.old }
-{
-    for [(first_ask, first_wanted), (second_ask, second_wanted)] in rounds {
-        if !first_is_told(alloc, ctl, first, second, *first_ask, first_wanted) {
-            return false;
-        }
-        if !second_is_told(alloc, ctl, first, second, *second_ask, second_wanted) {
-            return false;
-        }
-    }
-    true
-}
-
-fn are_in_turns(alloc: Global, rounds: &[Round]) -> Option<bool> {
-    let mut ctl = started(alloc, Start::Several)?;
-    let mut first = seated(alloc, &mut ctl, LibNo(1));
-    let mut second = seated(alloc, &mut ctl, LibNo(2));
-    let are_told = are_told_in_turns(alloc, &mut ctl, &mut first, &mut second, rounds);
-    first.discard();
-    second.discard();
-    Some(are_told)
-}
-
 #[test]
-fn what_another_writes_is_busy(rt: HostRuntime) {
-    assert!(rt; are_in_turns(rt.alloc(), FILE_IS_BUSY) == Some(true));
-    assert!(rt; are_in_turns(rt.alloc(), DIRECTORY_IS_BUSY) == Some(true));
-}
-
-// The third library keeps 22 of the 23 free pages and 59 of the 61 free inode numbers.
-fn are_short(alloc: Global, ctl: &mut Ctl, first: &mut Session, second: &Session) -> bool
-    requires { ArePlaying (underway_of ctl.old) first.old second.now }
-{
-    third_plays(alloc, ctl, Deed::Take(22, 59)) && are_told(alloc, ctl, first, SHORT)
-}
-
-fn is_short(alloc: Global) -> Option<bool> {
-    let mut ctl = started(alloc, Start::OneFile)?;
-    let mut first = seated(alloc, &mut ctl, LibNo(1));
-    let second = seated(alloc, &mut ctl, LibNo(2));
-    let are_short = are_short(alloc, &mut ctl, &mut first, &second);
-    first.discard();
-    second.discard();
-    Some(are_short)
-}
-
-#[test]
-fn what_another_keeps_is_not_free(rt: HostRuntime) {
-    assert!(rt; is_short(rt.alloc()) == Some(true));
+fn what_another_has_is_not_free(rt: HostRuntime) -> Result<(), Fail> {
+    plays(rt.alloc(), Start::Several, FILE_IS_BUSY)?;
+    plays(rt.alloc(), Start::Several, DIRECTORY_IS_BUSY)?;
+    plays(rt.alloc(), Start::OneFile, SHORT)?;
+    Ok(())
 }

@@ -1,6 +1,0 @@
-use Rattle.trio_ctl.specs.Ctl.{underway_of}
-use Rattle.trio_session_tests.proofs.Turns.{first_played}
-use Rattle.trio_session_tests.proofs.pairs.first_plays.Goals as goal
-
-pub returns : goal.returns
-returns c = first_played (underway_of c.args.ctl.now) (underway_of c.play.new.ctl) c.args.first.now c.play.new.session c.args.second.now c.requires.playing c.play.ensures.may c.play.ensures.turn

@@ -1,7 +1,0 @@
-use Rattle.trio_session_tests.proofs.Turns.{both_seated}
-use Rattle.trio_session_tests.proofs.rows.are_in_turns.Goals as goal
-
-pub are_told_in_turns-are_told-requires : goal.are_told_in_turns-are_told-requires
-are_told_in_turns-are_told-requires c =
-    both_seated c.in_ok-ctl.ctl c.seated-first.new.ctl c.seated-second.new.ctl c.seated-first.result c.seated-second.result
-    c.in_ok-ctl.ensures.none c.in_ok-ctl.ensures.three c.seated-first.ensures.may c.seated-first.ensures.kept c.seated-second.ensures.may c.seated-second.ensures.kept

@@ -1,9 +1,0 @@
-use Rattle.std.proofs.Common.{subst, sym}
-use Rattle.trio_raw.specs.Has.{Held, OnList}
-use Rattle.trio_runner.proofs.Calling.{nothing_on_list}
-use Rattle.trio_session_tests.proofs.third.is_done.Goals as goal
-
-pub is_refused-is_done-requires : goal.is_refused-is_done-requires
-is_refused-is_done-requires g c =
-    let out = (g.D.Desk.seen c.args.desk.now).out in
-    subst (λ (h : Held). OnList out h.has) (sym c.new-raw.ensures) (nothing_on_list out)
