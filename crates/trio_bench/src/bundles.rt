@@ -62,28 +62,21 @@ pub struct Shape {
     pub names: Names,
 }
 
-/// A bundle as it is written: its pages, from the first core page on, and the body of the root.
-#[derive(Drop)]
-struct Written {
-    pages: Vec<Page>,
-    root: Body,
-}
-
-/// The bundle, and the rows of its image.
-pub fn bundle_of(alloc: Global, shape: &Shape) -> Option<(Bundle, Shadow)> {
-    let written = write_pages(alloc, shape)?;
-    let bundle = handed_in(alloc, written, shape.files)?;
-    match root_alone(alloc) {
-        Some(rows) => Some((bundle, rows)),
-        None => {
-            bundle.discard();
-            None
-        }
+/// A bundle as it is handed in.
+pub fn bundle_of(alloc: Global, shape: &Shape) -> Option<Bundle> {
+    let mut bundle = Bundle::new(alloc);
+    let is_whole = add_root(alloc, &mut bundle, shape)
+        && add_pages(alloc, &mut bundle, shape)
+        && add_inos(&mut bundle, shape.files);
+    if is_whole {
+        return Some(bundle);
     }
+    bundle.discard();
+    None
 }
 
 /// How many pages the bundle has.
-pub fn page_count(shape: &Shape) -> u32 {
+fn page_count(shape: &Shape) -> u32 {
     shape
         .blocks
         .saturating_add(index_count(shape))
@@ -96,7 +89,7 @@ fn index_count(shape: &Shape) -> u32 {
 }
 
 /// The rows of an image with an empty root.
-fn root_alone(alloc: Global) -> Option<Shadow> {
+pub fn root_alone(alloc: Global) -> Option<Shadow> {
     let mut rows = Shadow::new(alloc, INODES).ok()?;
     if rows.inodes() == 0 {
         return None;
@@ -127,39 +120,23 @@ fn body(head: u32, blocks: u32) -> Body {
     }
 }
 
-/// First the root's blocks, then its index pages, and then the first index pages of the files that
-/// share them.
-fn write_pages(alloc: Global, shape: &Shape) -> Option<Written> {
-    let mut pages = Vec::new(alloc);
-    for _ in 0..page_count(shape) {
-        pages.push(Page::zero(alloc).ok()?).ok()?;
+/// Writes the page of this place among those of the bundle: first come the root's blocks, then its index
+/// pages, and then the first index pages of the files that share them.
+fn write_page(page: &mut Page, place: u32, shape: &Shape) -> Option<()> {
+    let behind = place.saturating_sub(shape.blocks);
+    if place < shape.blocks {
+        write_block(page, place, shape)
+    } else if behind < index_count(shape) {
+        write_index(page, behind, shape);
+        Some(())
+    } else {
+        write_index(page, 0, shape);
+        Some(())
     }
-    for at in 0..shape.blocks {
-        write_block(pages.get_mut(at as usize)?, at, shape)?;
-    }
-    let index = RANGE.first.wrapping_add(shape.blocks);
-    for at in 0..index_count(shape) {
-        write_index(
-            pages.get_mut(shape.blocks.wrapping_add(at) as usize)?,
-            at,
-            shape,
-        )?;
-    }
-    for at in 0..shape.heads {
-        let page = shape
-            .blocks
-            .wrapping_add(index_count(shape))
-            .wrapping_add(at);
-        write_index(pages.get_mut(page as usize)?, 0, shape)?;
-    }
-    Some(Written {
-        pages,
-        root: body(index, shape.blocks),
-    })
 }
 
 /// An index page of the root, or of a file that lists the same blocks.
-fn write_index(page: &mut Page, at: u32, shape: &Shape) -> Option<()> {
+fn write_index(page: &mut Page, at: u32, shape: &Shape) {
     let first = INDEX.wrapping_mul(at);
     let rest = shape.blocks.saturating_sub(first);
     for i in 0..rest.min(INDEX) {
@@ -177,7 +154,6 @@ fn write_index(page: &mut Page, at: u32, shape: &Shape) -> Option<()> {
         .to_le_bytes();
         put(page.bytes_mut(), 4088, &next);
     }
-    Some(())
 }
 
 /// A directory page.
@@ -228,26 +204,18 @@ fn file_of(file: u32, shape: &Shape) -> (Kind, Body) {
 /// The name of this number.
 fn name_of(names: Names, number: u32) -> Option<Name> {
     let mut bytes = [b'n'; 184];
-    match names {
-        Names::Plain => {
-            let end = bytes.get_mut(..34)?;
-            spell(end, mixed(number), [*b"aq", *b"xc"]);
-        }
-        Names::Long => spell(bytes.get_mut(150..)?, mixed(number), [*b"Aa", *b"BB"]),
-        Names::Colliding => spell(bytes.get_mut(..34)?, number, [*b"Aa", *b"BB"]),
-        Names::CollidingMixed => {
-            spell(bytes.get_mut(..34)?, mixed(number), [*b"Aa", *b"BB"]);
-        }
-        Names::CollidingHalved => {
-            spell(bytes.get_mut(..34)?, halved(number), [*b"Aa", *b"BB"]);
-        }
-    }
-    let len = match names {
-        Names::Long => 184,
-        _ => 34,
+    let (begin, spelled, letters) = match names {
+        Names::Plain => (150, mixed(number), [[b'a', b'q'], [b'x', b'c']]),
+        Names::Long => (0, mixed(number), COLLIDING),
+        Names::Colliding => (150, number, COLLIDING),
+        Names::CollidingMixed => (150, mixed(number), COLLIDING),
+        Names::CollidingHalved => (150, halved(number), COLLIDING),
     };
-    Name::read(bytes.get(..len)?).ok()
+    spell(&mut bytes[150..], spelled, letters);
+    Name::read(&bytes[begin..]).ok()
 }
+
+const COLLIDING: [[u8; 2]; 2] = [[b'A', b'a'], [b'B', b'B']];
 
 /// Another number below 2 ^ 17 for each, in no order.
 fn mixed(number: u32) -> u32 {
@@ -281,12 +249,12 @@ fn spell(bytes: &mut [u8], number: u32, letters: [[u8; 2]; 2]) {
     }
 }
 
-/// The bundle of what was written, with so many inode numbers.
-fn handed_in(alloc: Global, written: Written, files: u32) -> Option<Bundle> {
-    let Written { pages, root } = written;
+/// Adds the write lease on the root, with its new body.
+fn add_root(alloc: Global, bundle: &mut Bundle, shape: &Shape) -> bool {
     let mut bytes = [0; 64];
-    root.write(&mut bytes);
-    let parts = WriteParts {
+    let head = RANGE.first.wrapping_add(shape.blocks);
+    body(head, shape.blocks).write(&mut bytes);
+    let lease = WriteLease::of(WriteParts {
         lib: LIB,
         ino: 1,
         kind: Kind::Directory,
@@ -294,59 +262,66 @@ fn handed_in(alloc: Global, written: Written, files: u32) -> Option<Bundle> {
         body: bytes,
         index: Vec::new(alloc),
         blocks: Vec::new(alloc),
-    };
-    let mut bundle = with_write(Bundle::new(alloc), parts)?;
-    let mut no = RANGE.first;
-    for page in pages {
-        let parts = FreshParts {
-            lib: LIB,
-            no: PageNo(no),
-            page,
-        };
-        bundle = with_page(bundle, parts)?;
-        no = no.wrapping_add(1);
-    }
-    for file in 0..files {
-        bundle = with_ino(
-            bundle,
-            InoParts {
-                lib: LIB,
-                no: file.wrapping_add(2),
-            },
-        )?;
-    }
-    Some(bundle)
-}
-
-fn with_write(mut bundle: Bundle, parts: WriteParts) -> Option<Bundle> {
-    match bundle.add_write(WriteLease::of(parts)) {
-        Ok(()) => Some(bundle),
+    });
+    match bundle.add_write(lease) {
+        Ok(()) => true,
         Err((lease, _)) => {
             lease.discard();
-            bundle.discard();
-            None
+            false
         }
     }
 }
 
-fn with_page(mut bundle: Bundle, parts: FreshParts) -> Option<Bundle> {
-    match bundle.add_page(FreshPage::of(parts)) {
-        Ok(()) => Some(bundle),
+/// Adds the pages, from the first core page on.
+fn add_pages(alloc: Global, bundle: &mut Bundle, shape: &Shape) -> bool {
+    for place in 0..page_count(shape) {
+        let Some(page) = page_at(alloc, place, shape) else {
+            return false;
+        };
+        if !add_page(bundle, page) {
+            return false;
+        }
+    }
+    true
+}
+
+fn page_at(alloc: Global, place: u32, shape: &Shape) -> Option<FreshPage> {
+    let mut page = Page::zero(alloc).ok()?;
+    write_page(&mut page, place, shape)?;
+    Some(FreshPage::of(FreshParts {
+        lib: LIB,
+        no: PageNo(RANGE.first.wrapping_add(place)),
+        page,
+    }))
+}
+
+fn add_page(bundle: &mut Bundle, page: FreshPage) -> bool {
+    match bundle.add_page(page) {
+        Ok(()) => true,
         Err((page, _)) => {
             page.discard();
-            bundle.discard();
-            None
+            false
         }
     }
 }
 
-fn with_ino(mut bundle: Bundle, parts: InoParts) -> Option<Bundle> {
-    match bundle.add_ino(FreshIno::of(parts)) {
-        Ok(()) => Some(bundle),
+/// Adds so many inode numbers.
+fn add_inos(bundle: &mut Bundle, files: u32) -> bool {
+    for file in 0..files {
+        let no = file.wrapping_add(2);
+        if !add_ino(bundle, FreshIno::of(InoParts { lib: LIB, no })) {
+            return false;
+        }
+    }
+    true
+}
+
+fn add_ino(bundle: &mut Bundle, ino: FreshIno) -> bool {
+    match bundle.add_ino(ino) {
+        Ok(()) => true,
         Err((ino, _)) => {
             ino.discard();
-            bundle.discard();
-            None
+            false
         }
     }
 }

@@ -1,9 +1,9 @@
 //! What checking an image costs, beside reading its file.
 
+use crate::timing::{Ratio, least_of_both, nanos_since, now};
 use std::alloc::Global;
 use std::io;
 use std::rt::{Clock, Files as Host};
-use std::time::Instant;
 use trio_image::load;
 use trio_io::{Files, RealFiles, read_whole};
 use trio_samples::files::workload_tree;
@@ -24,54 +24,42 @@ pub fn write_workload<R: Host + Print + AllocGlobal>(rt: &R, name: &str) -> io::
 
 fn write_image<R: Host>(rt: &R, alloc: Global, name: &str) -> Option<usize> {
     let bytes = workload_tree(alloc).ok()?.bytes(alloc).ok()?;
-    let mut files = files_of(rt, alloc, name)?;
-    if !files.serves(name) {
-        return None;
+    if replace(rt, alloc, name, &bytes) {
+        Some(bytes.len())
+    } else {
+        None
     }
-    files.replace(name, &bytes).ok()?;
-    Some(bytes.len())
+}
+
+fn replace<R: Host>(rt: &R, alloc: Global, name: &str, bytes: &[u8]) -> bool {
+    let Some(mut files) = files_of(rt, alloc, name) else {
+        return false;
+    };
+    files.serves(name) && files.replace(name, bytes).is_ok()
 }
 
 /// Prints how often reading a file and summing its bytes goes into loading the image in it, which
 /// verifies it. The rounds of both come in turn.
 pub fn measure_check<R: Host + Clock + Print + AllocGlobal>(rt: &R, name: &str) -> io::Result<()> {
-    match hundredths_of_check(rt, rt.alloc(), name)? {
-        Some(ratio) => println!(rt;
-            "checking beside reading and summing: {}.{:02}",
-            ratio / 100,
-            ratio % 100
+    let alloc = rt.alloc();
+    let check = || nanos_of_check(rt, alloc, name);
+    match least_of_both(ROUNDS, check, || nanos_of_sum(rt, alloc, name)) {
+        Some((check, sum)) => println!(rt;
+            "checking beside reading and summing: {}",
+            Ratio::of(check, sum)
         ),
-        None => println!(rt; "not read, or no image"),
+        None => println!(rt; "not read, or no image, or no clock"),
     }
-}
-
-fn hundredths_of_check<R: Host + Clock>(
-    rt: &R,
-    alloc: Global,
-    name: &str,
-) -> io::Result<Option<u128>> {
-    let mut check = u128::MAX;
-    let mut sum = u128::MAX;
-    for _ in 0..ROUNDS {
-        let Some(nanos) = nanos_of_check(rt, alloc, name)? else {
-            return Ok(None);
-        };
-        check = check.min(nanos);
-        let Some(nanos) = nanos_of_sum(rt, alloc, name)? else {
-            return Ok(None);
-        };
-        sum = sum.min(nanos);
-    }
-    Ok(Some(check.saturating_mul(100) / sum.max(1)))
 }
 
 /// The nanoseconds of loading the image in a file. `None` where there is none.
-fn nanos_of_check<R: Host + Clock>(rt: &R, alloc: Global, name: &str) -> io::Result<Option<u128>> {
-    let start = Instant::now(rt)?;
-    if !is_image(rt, alloc, name) {
-        return Ok(None);
+fn nanos_of_check<R: Host + Clock>(rt: &R, alloc: Global, name: &str) -> Option<u128> {
+    let start = now(rt);
+    if is_image(rt, alloc, name) {
+        nanos_since(rt, start)
+    } else {
+        None
     }
-    Ok(Some(start.elapsed(rt)?.as_nanos()))
 }
 
 fn is_image<R: Host>(rt: &R, alloc: Global, name: &str) -> bool {
@@ -83,24 +71,29 @@ fn is_image<R: Host>(rt: &R, alloc: Global, name: &str) -> bool {
 
 /// The nanoseconds of reading a file and summing its bytes. `None` where it can't be read or has none
 /// but zeros.
-fn nanos_of_sum<R: Host + Clock>(rt: &R, alloc: Global, name: &str) -> io::Result<Option<u128>> {
-    let start = Instant::now(rt)?;
-    if sum_of(rt, alloc, name) == Some(0) {
-        return Ok(None);
+fn nanos_of_sum<R: Host + Clock>(rt: &R, alloc: Global, name: &str) -> Option<u128> {
+    let start = now(rt);
+    match bytes_of(rt, alloc, name) {
+        Some(bytes) if sum(&bytes) != 0 => nanos_since(rt, start),
+        _ => None,
     }
-    Ok(Some(start.elapsed(rt)?.as_nanos()))
 }
 
-fn sum_of<R: Host>(rt: &R, alloc: Global, name: &str) -> Option<u64> {
+fn bytes_of<R: Host>(rt: &R, alloc: Global, name: &str) -> Option<Vec<u8>> {
     let mut files = files_of(rt, alloc, name)?;
-    if !files.serves(name) {
-        return None;
+    if files.serves(name) {
+        read_whole(alloc, &mut files, name, LIMIT).ok()
+    } else {
+        None
     }
+}
+
+fn sum(bytes: &[u8]) -> u64 {
     let mut sum = 0_u64;
-    for byte in &read_whole(alloc, &mut files, name, LIMIT).ok()? {
+    for byte in bytes {
         sum = sum.wrapping_add(u64::from(*byte));
     }
-    Some(sum)
+    sum
 }
 
 /// The host's files, of which this one is served.

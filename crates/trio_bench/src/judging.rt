@@ -1,10 +1,10 @@
 //! How long the judge takes for a bundle, beside another.
 
-use crate::bundles::{Names, RANGE, Shape, bundle_of};
+use crate::bundles::{Names, RANGE, Shape, bundle_of, root_alone};
+use crate::timing::{Ratio, least, nanos_since, now};
 use std::alloc::Global;
 use std::io;
 use std::rt::Clock;
-use std::time::Instant;
 use trio_judge::{Case, Room, judge};
 use trio_judge_tests::case_of;
 use trio_page::Reads;
@@ -150,41 +150,40 @@ const MEASURES: &[Measure] = &[
 /// Prints how often the time of one bundle goes into that of the other.
 pub fn measure_judge<R: Clock + Print + AllocGlobal>(rt: &R) -> io::Result<()> {
     for (text, judged, beside) in MEASURES {
-        match (nanos_of(rt, *judged)?, nanos_of(rt, *beside)?) {
-            (Some(time), Some(least)) => {
-                let hundredths = time.saturating_mul(100) / least.max(1);
-                println!(rt; "{text}: {}.{:02}", hundredths / 100, hundredths % 100)?;
-            }
-            _ => println!(rt; "{text}: out of memory")?,
+        match ratio_of(rt, rt.alloc(), *judged, *beside) {
+            Some(ratio) => println!(rt; "{text}: {ratio}")?,
+            None => println!(rt; "{text}: out of memory, or no clock")?,
         }
     }
     Ok(())
 }
 
+fn ratio_of<R: Clock>(rt: &R, alloc: Global, judged: Judged, beside: Judged) -> Option<Ratio> {
+    let time = nanos_of(rt, alloc, judged)?;
+    Some(Ratio::of(time, nanos_of(rt, alloc, beside)?))
+}
+
 /// The nanoseconds of the fastest judgement of a bundle.
-fn nanos_of<R: Clock + AllocGlobal>(rt: &R, judged: Judged) -> io::Result<Option<u128>> {
-    let alloc = rt.alloc();
-    let Some((bundle, rows)) = bundle_of(alloc, &shape_of(judged)) else {
-        return Ok(None);
-    };
-    let creds = Creds { uid: 0, gid: 0 };
-    let Some(case) = case_of(alloc, creds, bundle, &rows, RANGE) else {
-        return Ok(None);
-    };
-    let nanos = fastest(rt, alloc, &case);
+fn nanos_of<R: Clock>(rt: &R, alloc: Global, judged: Judged) -> Option<u128> {
+    let case = case_for(alloc, judged)?;
+    let nanos = least(ROUNDS, || nanos_of_one(rt, alloc, &case));
     case.into_bundle().discard();
     nanos
 }
 
-fn fastest<R: Clock>(rt: &R, alloc: Global, case: &Case) -> io::Result<Option<u128>> {
-    let mut least = u128::MAX;
-    for _ in 0..ROUNDS {
-        let Ok(room) = Room::with(alloc, case) else {
-            return Ok(None);
-        };
-        let start = Instant::now(rt)?;
-        let _verdict = judge(case, room, &mut Reads::new());
-        least = least.min(start.elapsed(rt)?.as_nanos());
-    }
-    Ok(Some(least))
+fn case_for(alloc: Global, judged: Judged) -> Option<Case> {
+    let rows = root_alone(alloc)?;
+    let bundle = bundle_of(alloc, &shape_of(judged))?;
+    case_of(alloc, Creds { uid: 0, gid: 0 }, bundle, &rows, RANGE)
+}
+
+/// The nanoseconds of one judgement, for which there is room.
+fn nanos_of_one<R: Clock>(rt: &R, alloc: Global, case: &Case) -> Option<u128> {
+    let Ok(room) = Room::with(alloc, case) else {
+        return None;
+    };
+    let mut reads = Reads::new();
+    let start = now(rt);
+    let _verdict = judge(case, room, &mut reads);
+    nanos_since(rt, start)
 }

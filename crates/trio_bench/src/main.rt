@@ -31,9 +31,6 @@
 //! It is measured and not proved; the figures of a run are in `docs/GATE.md`.
 #![tactic(auto)]
 
-ghost use Rattle.std.specs.Prelude.{◌≡◌, [], None, IfSome};
-ghost use Rattle.trio_turn.specs.Seats.{cell, cell_of, has, IsSameSeat};
-
 mod bundles;
 mod checking;
 mod judging;
@@ -42,7 +39,9 @@ mod names;
 mod seats;
 mod sessions;
 mod threads;
+mod timing;
 mod trees;
+mod turns;
 
 use crate::checking::{measure_check, write_workload};
 use crate::judging::measure_judge;
@@ -52,95 +51,14 @@ use crate::seats::measure_seat;
 use crate::sessions::measure_session;
 use crate::threads::measure_threads;
 use crate::trees::measure_tree;
+use crate::turns::measure_turn;
 use std::alloc::Global;
-use std::rt::{Clock, Env};
-use std::sync::{Mutex, Wait};
-use std::time::Instant;
+use std::rt::Env;
 use std::{env, io};
-use trio_turn::{LibSeat, Logged, Turn};
-
-const ROUNDS: u32 = 5;
-
-/// A number to count in, with no entries.
-#[derive(Drop)]
-pub struct Tally {
-    count: u64,
-}
-
-impl Logged for Tally {
-    ghost use Rattle.std.specs.Prelude.{[], None};
-    ghost use Rattle.trio_turn.specs.Origins.{no_origin};
-
-    ghost first = { λ t. no_origin };
-
-    ghost log = { λ t. [] };
-
-    ghost begun = { λ t l. None };
-
-    fn len(&self) -> u64 {
-        0
-    }
-}
-
-/// Takes this many turns.
-fn take_turns<R: Wait>(rt: &R, turn: &Turn<Tally>, seat: &mut LibSeat<Tally>, count: u64)
-    requires { (cell_of seat.old ≡ cell turn.now) × (has seat.old ≡ None) }
-    ensures { IsSameSeat seat.old seat.new × (has seat.new ≡ None) }
-{
-    for _ in 0..count {
-        let mut tally = turn.take(rt, seat);
-        tally.count = tally.count.wrapping_add(1);
-        turn.give(seat, tally);
-    }
-}
-
-/// Locks this many times.
-fn take_locks<R: Wait>(rt: &R, lock: &Mutex<Tally>, count: u64) {
-    for _ in 0..count {
-        let mut tally = lock.lock(rt);
-        tally.count = tally.count.wrapping_add(1);
-    }
-}
-
-/// A cell with the seat of one library.
-fn start_one(alloc: Global) -> Option<(Turn<Tally>, LibSeat<Tally>)>
-    ensures { IfSome result (λ r. (cell_of r.1 ≡ cell r.0) × (has r.1 ≡ None)) }
-{
-    let Ok((turn, mut seats)) = Turn::start(alloc, Tally { count: 0 }, 1) else {
-        return None;
-    };
-    let Some(seat) = seats.pop() else {
-        unreachable!()
-    };
-    Some((turn, seat))
-}
-
-/// The nanoseconds of the fastest round of turns, and of the fastest round of locks.
-fn fastest<R: Wait + Clock>(
-    rt: &R,
-    turn: &Turn<Tally>,
-    seat: &mut LibSeat<Tally>,
-    count: u64,
-) -> io::Result<(u128, u128)>
-    requires { (cell_of seat.old ≡ cell turn.now) × (has seat.old ≡ None) }
-{
-    let lock = Mutex::new(Tally { count: 0 });
-    let mut turns = u128::MAX;
-    let mut locks = u128::MAX;
-    for _ in 0..ROUNDS {
-        let start = Instant::now(rt)?;
-        take_turns(rt, turn, seat, count);
-        turns = turns.min(start.elapsed(rt)?.as_nanos());
-        let start = Instant::now(rt)?;
-        take_locks(rt, &lock, count);
-        locks = locks.min(start.elapsed(rt)?.as_nanos());
-    }
-    Ok((turns, locks))
-}
 
 /// What is to be measured.
-#[derive(Drop)]
-enum Asked {
+#[derive(Clone, Copy)]
+enum Asked<'a> {
     /// So many turns.
     Turn(u64),
     /// So many grants at a seat.
@@ -153,85 +71,89 @@ enum Asked {
     Log,
     Session,
     /// An image of this name is to be written.
-    Workload(String),
+    Workload(&'a str),
     /// The image of this name.
-    Check(String),
+    Check(&'a str),
+    /// Nothing that there is.
+    Unknown,
 }
 
-/// What the command line asks for.
-fn read_words<R: Env + AllocGlobal>(rt: &R) -> io::Result<Option<Asked>> {
-    let mut words = env::args(rt)?;
-    let _name = words.next();
-    let Some(what) = words.next() else {
-        return Ok(None);
-    };
-    if what.as_str() == "judge" {
-        return Ok(Some(Asked::Judge));
+/// What the words behind the program's name ask for. More words than are needed say nothing.
+fn asked(words: &[String]) -> Asked<'_> {
+    match words {
+        [_, what] => alone(what.as_str()),
+        [_, what, more, ..] => with_more(what.as_str(), more.as_str()),
+        _ => Asked::Unknown,
     }
-    if what.as_str() == "tree" {
-        return Ok(Some(Asked::Tree));
-    }
-    if what.as_str() == "names" {
-        return Ok(Some(Asked::Names));
-    }
-    if what.as_str() == "log" {
-        return Ok(Some(Asked::Log));
-    }
-    if what.as_str() == "session" {
-        return Ok(Some(Asked::Session));
-    }
-    let Some(count) = words.next() else {
-        return Ok(None);
-    };
-    if what.as_str() == "workload" {
-        return Ok(Some(Asked::Workload(count)));
-    }
-    if what.as_str() == "check" {
-        return Ok(Some(Asked::Check(count)));
-    }
-    let count = count.parse::<u64>().ok().filter(|count| *count > 0);
-    if what.as_str() == "turn" {
-        return Ok(count.map(Asked::Turn));
-    }
-    if what.as_str() == "threads" {
-        return Ok(count.map(Asked::Threads));
-    }
-    Ok(count.map(Asked::Seat).filter(|_| what.as_str() == "seat"))
 }
 
-/// Measures turns, and prints what was measured.
-fn measure_turn<R: Wait + Clock + Print + AllocGlobal>(rt: &R, count: u64) -> io::Result<()> {
-    let Some((turn, mut seat)) = start_one(rt.alloc()) else {
-        return println!(rt; "out of memory");
-    };
-    let (turns, locks) = fastest(rt, &turn, &mut seat, count)?;
-    let hundredths = turns.saturating_mul(100) / locks.max(1);
-    println!(rt;
-        "turn {} ns, lock {} ns, ratio {}.{:02}",
-        turns / u128::from(count.max(1)),
-        locks / u128::from(count.max(1)),
-        hundredths / 100,
-        hundredths % 100
-    )
+fn alone<'a>(what: &str) -> Asked<'a> {
+    if what == "judge" {
+        Asked::Judge
+    } else if what == "tree" {
+        Asked::Tree
+    } else if what == "names" {
+        Asked::Names
+    } else if what == "log" {
+        Asked::Log
+    } else if what == "session" {
+        Asked::Session
+    } else {
+        Asked::Unknown
+    }
 }
+
+fn with_more<'a>(what: &str, more: &'a str) -> Asked<'a> {
+    if what == "workload" {
+        return Asked::Workload(more);
+    }
+    if what == "check" {
+        return Asked::Check(more);
+    }
+    match more.parse::<u64>() {
+        Ok(0) | Err(_) => alone(what),
+        Ok(count) => counted(what, count),
+    }
+}
+
+fn counted<'a>(what: &str, count: u64) -> Asked<'a> {
+    if what == "turn" {
+        Asked::Turn(count)
+    } else if what == "seat" {
+        Asked::Seat(count)
+    } else if what == "threads" {
+        Asked::Threads(count)
+    } else {
+        alone(what)
+    }
+}
+
+/// The words that the process was given.
+fn words_given<R: Env + AllocGlobal>(rt: &R) -> io::Result<Vec<String>> {
+    let mut words = Vec::new(rt.alloc());
+    for word in env::args(rt)? {
+        words.push(word)?;
+    }
+    Ok(words)
+}
+
+const USAGE: &str =
+    "usage: trio_bench turn COUNT\n       trio_bench seat COUNT\n       trio_bench threads COUNT\n       trio_bench judge\n       trio_bench workload IMAGE\n       trio_bench check IMAGE\n       trio_bench tree\n       trio_bench names\n       trio_bench log\n       trio_bench session";
 
 fn main(rt: HostRuntime) -> io::Result<()> {
-    match read_words(&rt)? {
-        Some(Asked::Turn(count)) => measure_turn(&rt, count),
-        Some(Asked::Seat(count)) => measure_seat(&rt, count),
+    let words = words_given(&rt)?;
+    match asked(&words) {
+        Asked::Turn(count) => measure_turn(&rt, count),
+        Asked::Seat(count) => measure_seat(&rt, count),
         // no script has as many lines as that
-        Some(Asked::Threads(count)) => measure_threads(&rt, count.min(10_000) as u32),
-        Some(Asked::Judge) => measure_judge(&rt),
-        Some(Asked::Tree) => measure_tree(&rt),
-        Some(Asked::Names) => measure_names(&rt),
-        Some(Asked::Log) => measure_log(&rt),
-        Some(Asked::Session) => measure_session(&rt),
-        Some(Asked::Workload(name)) => write_workload(&rt, &name),
-        Some(Asked::Check(name)) => measure_check(&rt, &name),
-        None => {
-            println!(rt;
-                "usage: trio_bench turn COUNT\n       trio_bench seat COUNT\n       trio_bench threads COUNT\n       trio_bench judge\n       trio_bench workload IMAGE\n       trio_bench check IMAGE\n       trio_bench tree\n       trio_bench names\n       trio_bench log\n       trio_bench session"
-            )
-        }
+        Asked::Threads(count) => measure_threads(&rt, count.min(10_000) as u32),
+        Asked::Judge => measure_judge(&rt),
+        Asked::Tree => measure_tree(&rt),
+        Asked::Names => measure_names(&rt),
+        Asked::Log => measure_log(&rt),
+        Asked::Session => measure_session(&rt),
+        Asked::Workload(name) => write_workload(&rt, name),
+        Asked::Check(name) => measure_check(&rt, name),
+        Asked::Unknown => println!(rt; "{USAGE}"),
     }
 }

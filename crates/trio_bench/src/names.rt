@@ -1,9 +1,9 @@
 //! What the index of a directory takes for names of one choice, beside another.
 
+use crate::timing::{Ratio, least, nanos_since, now};
 use std::alloc::Global;
 use std::io;
 use std::rt::Clock;
-use std::time::Instant;
 use trio_auxdir::{Finds, HashedDir};
 use trio_names::Name;
 
@@ -40,59 +40,67 @@ const MEASURES: &[(&str, Choice)] = &[
 /// Prints in which time names of each choice are added to a directory, found, renamed and removed, and
 /// how often the time of the plain choice goes into that of each.
 pub fn measure_names<R: Clock + Print + AllocGlobal>(rt: &R) -> io::Result<()> {
-    let Some(least) = nanos_of(rt, Choice::Plain)? else {
-        return println!(rt; "out of memory");
+    let Some(least) = nanos_of(rt, rt.alloc(), Choice::Plain) else {
+        return println!(rt; "out of memory, or no clock");
     };
     for (text, choice) in MEASURES {
-        match nanos_of(rt, *choice)? {
-            Some(nanos) => {
-                let hundredths = nanos.saturating_mul(100) / least.max(1);
-                println!(rt;
-                    "{text}: {} us, {}.{:02} times plain ones",
-                    nanos / 1000,
-                    hundredths / 100,
-                    hundredths % 100
-                )?;
-            }
-            None => println!(rt; "{text}: out of memory")?,
+        match nanos_of(rt, rt.alloc(), *choice) {
+            Some(nanos) => println!(rt;
+                "{text}: {} us, {} times plain ones",
+                nanos / 1000,
+                Ratio::of(nanos, least)
+            )?,
+            None => println!(rt; "{text}: out of memory, or no clock")?,
         }
     }
     Ok(())
 }
 
 /// The nanoseconds of the fastest round. `None` where memory is wanting.
-fn nanos_of<R: Clock + AllocGlobal>(rt: &R, choice: Choice) -> io::Result<Option<u128>> {
-    let alloc = rt.alloc();
-    let (Some(names), Some(others)) = (names_of(alloc, choice, b'0'), names_of(alloc, choice, b'a'))
-    else {
-        return Ok(None);
-    };
-    let mut least = u128::MAX;
-    for _ in 0..ROUNDS {
-        let start = Instant::now(rt)?;
-        if fill_and_empty(alloc, &names, &others).is_none() {
-            return Ok(None);
-        }
-        least = least.min(start.elapsed(rt)?.as_nanos());
+fn nanos_of<R: Clock>(rt: &R, alloc: Global, choice: Choice) -> Option<u128> {
+    let names = names_of(alloc, choice, b'0')?;
+    let others = names_of(alloc, choice, b'a')?;
+    least(ROUNDS, || nanos_of_one(rt, alloc, &names, &others))
+}
+
+fn nanos_of_one<R: Clock>(rt: &R, alloc: Global, names: &[Name], others: &[Name]) -> Option<u128> {
+    let start = now(rt);
+    if fill_and_empty(alloc, names, others) {
+        nanos_since(rt, start)
+    } else {
+        None
     }
-    Ok(Some(least))
 }
 
 /// Adds the names to an empty directory, finds each, renames it to another, and removes that.
-fn fill_and_empty(alloc: Global, names: &[Name], others: &[Name]) -> Option<()> {
+fn fill_and_empty(alloc: Global, names: &[Name], others: &[Name]) -> bool {
     let mut dir = HashedDir::new(alloc, 16_384);
     let mut finds = Finds::new();
+    are_added(&mut dir, &mut finds, names).is_some()
+        && are_changed(&mut dir, &mut finds, names, others).is_some()
+}
+
+fn are_added(dir: &mut HashedDir, finds: &mut Finds, names: &[Name]) -> Option<()> {
     for name in names {
-        add(&mut dir, &mut finds, name)?;
+        add(dir, finds, name)?;
     }
+    Some(())
+}
+
+fn are_changed(
+    dir: &mut HashedDir,
+    finds: &mut Finds,
+    names: &[Name],
+    others: &[Name],
+) -> Option<()> {
     for name in names {
-        dir.find(name, &mut finds)?;
+        dir.find(name, finds)?;
     }
     for (from, to) in names.iter().zip(others) {
-        rename(&mut dir, &mut finds, from, to)?;
+        rename(dir, finds, from, to)?;
     }
     for name in others {
-        remove(&mut dir, &mut finds, name)?;
+        remove(dir, finds, name)?;
     }
     Some(())
 }

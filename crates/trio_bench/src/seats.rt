@@ -4,11 +4,11 @@ ghost use Rattle.std.specs.Prelude.{IfSome};
 ghost use Rattle.trio_shared.specs.Seats.{IsIdle, IsSeatOf};
 
 use crate::sessions::started;
+use crate::timing::{Ratio, least_of_both, nanos_since, now};
 use std::alloc::Global;
 use std::io;
 use std::rt::Clock;
 use std::sync::Wait;
-use std::time::Instant;
 use trio_ctl::PlainDesk;
 use trio_desk::Desk;
 use trio_lease::Lease;
@@ -27,49 +27,30 @@ const FILE: u32 = 2;
 /// The rounds of both come in turn, each with a controller of its own, whose log grows by two entries
 /// each time.
 pub fn measure_seat<R: Wait + Clock + Print + AllocGlobal>(rt: &R, count: u64) -> io::Result<()> {
-    match fastest(rt, rt.alloc(), count)? {
-        Some((seat, ctl)) => {
-            let hundredths = seat.saturating_mul(100) / ctl.max(1);
-            println!(rt;
-                "seat {} ns, controller {} ns, ratio {}.{:02}",
-                seat / u128::from(count.max(1)),
-                ctl / u128::from(count.max(1)),
-                hundredths / 100,
-                hundredths % 100
-            )
-        }
-        None => println!(rt; "out of memory, or not lent"),
+    let alloc = rt.alloc();
+    let at_seat = || nanos_of_seat(rt, alloc, count);
+    match least_of_both(ROUNDS, at_seat, || nanos_of_ctl(rt, alloc, count)) {
+        Some((seat, ctl)) => println!(rt;
+            "seat {} ns, controller {} ns, ratio {}",
+            seat / u128::from(count.max(1)),
+            ctl / u128::from(count.max(1)),
+            Ratio::of(seat, ctl)
+        ),
+        None => println!(rt; "out of memory, or not lent, or no clock"),
     }
 }
 
-/// The nanoseconds of the fastest round at a seat, and of the fastest at a controller.
-fn fastest<R: Wait + Clock>(rt: &R, alloc: Global, count: u64) -> io::Result<Option<(u128, u128)>> {
-    let mut seat = u128::MAX;
-    let mut ctl = u128::MAX;
-    for _ in 0..ROUNDS {
-        let Some(nanos) = nanos_of_seat(rt, alloc, count)? else {
-            return Ok(None);
-        };
-        seat = seat.min(nanos);
-        let Some(nanos) = nanos_of_ctl(rt, alloc, count)? else {
-            return Ok(None);
-        };
-        ctl = ctl.min(nanos);
-    }
-    Ok(Some((seat, ctl)))
-}
-
-fn nanos_of_seat<R: Wait + Clock>(rt: &R, alloc: Global, count: u64) -> io::Result<Option<u128>> {
+fn nanos_of_seat<R: Wait + Clock>(rt: &R, alloc: Global, count: u64) -> Option<u128> {
     let Some((shared, mut seat)) = start_one(alloc) else {
-        return Ok(None);
+        return None;
     };
     let mut desk = SeatDesk::of(rt, &shared, &mut seat);
     nanos_at(rt, &mut desk, count)
 }
 
-fn nanos_of_ctl<R: Clock>(rt: &R, alloc: Global, count: u64) -> io::Result<Option<u128>> {
+fn nanos_of_ctl<R: Clock>(rt: &R, alloc: Global, count: u64) -> Option<u128> {
     let Some(mut ctl) = started(alloc) else {
-        return Ok(None);
+        return None;
     };
     let mut desk = PlainDesk::of(&mut ctl, LibNo(1));
     nanos_at(rt, &mut desk, count)
@@ -90,14 +71,14 @@ fn start_one(alloc: Global) -> Option<(Shared, LibSeat)>
 }
 
 /// The nanoseconds of so many grants, each given back. `None` where one isn't granted.
-fn nanos_at<R: Clock, D: Desk>(rt: &R, desk: &mut D, count: u64) -> io::Result<Option<u128>> {
-    let start = Instant::now(rt)?;
+fn nanos_at<R: Clock, D: Desk>(rt: &R, desk: &mut D, count: u64) -> Option<u128> {
+    let start = now(rt);
     for _ in 0..count {
         if !lend_once(desk) {
-            return Ok(None);
+            return None;
         }
     }
-    Ok(Some(start.elapsed(rt)?.as_nanos()))
+    nanos_since(rt, start)
 }
 
 /// Asks for the file for reading, and gives it back. Returns whether it was lent.

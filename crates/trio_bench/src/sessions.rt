@@ -8,10 +8,10 @@ ghost use Rattle.trio_calls_file.specs.Asks.{IsFileCall};
 ghost use Rattle.trio_ctl.specs.Ctl.{NoneBegun};
 ghost use Rattle.trio_ctl.specs.Desk.{out_of};
 
+use crate::timing::{Ratio, least_of_both, nanos_since, now};
 use std::alloc::Global;
 use std::io;
 use std::rt::Clock;
-use std::time::Instant;
 use trio_calls_file::file_call;
 use trio_ctl::{Ctl, PlainDesk};
 use trio_desk::Desk;
@@ -36,30 +36,15 @@ const BLOCKS: u64 = 256;
 /// and reading a file of that size by 4096 bytes a call, through a session with its leases in hand. The
 /// rounds of both come in turn, each with a session and with pages of its own.
 pub fn measure_session<R: Clock + Print + AllocGlobal>(rt: &R) -> io::Result<()> {
-    match hundredths(rt, rt.alloc())? {
-        Some(ratio) => println!(rt;
-            "a session beside a plain copy: {}.{:02}",
-            ratio / 100,
-            ratio % 100
+    let alloc = rt.alloc();
+    let session = || nanos_of_session(rt, alloc);
+    match least_of_both(ROUNDS, session, || nanos_of_copy(rt, alloc)) {
+        Some((session, copy)) => println!(rt;
+            "a session beside a plain copy: {}",
+            Ratio::of(session, copy)
         ),
-        None => println!(rt; "out of memory, or not written"),
+        None => println!(rt; "out of memory, or not written, or no clock"),
     }
-}
-
-fn hundredths<R: Clock>(rt: &R, alloc: Global) -> io::Result<Option<u128>> {
-    let mut session = u128::MAX;
-    let mut copy = u128::MAX;
-    for _ in 0..ROUNDS {
-        let Some(nanos) = nanos_of_session(rt, alloc)? else {
-            return Ok(None);
-        };
-        session = session.min(nanos);
-        let Some(nanos) = nanos_of_copy(rt, alloc)? else {
-            return Ok(None);
-        };
-        copy = copy.min(nanos);
-    }
-    Ok(Some(session.saturating_mul(100) / copy.max(1)))
 }
 
 /// The bytes that are written, a piece for each block.
@@ -73,18 +58,13 @@ fn pieces(alloc: Global) -> Option<Vec<SharedBytes>> {
 }
 
 /// The nanoseconds of a plain copy, of which all that was read is kept.
-fn nanos_of_copy<R: Clock>(rt: &R, alloc: Global) -> io::Result<Option<u128>> {
-    let Some(pieces) = pieces(alloc) else {
-        return Ok(None);
-    };
-    let Some(mut pages) = zero_pages(alloc) else {
-        return Ok(None);
-    };
-    let start = Instant::now(rt)?;
+fn nanos_of_copy<R: Clock>(rt: &R, alloc: Global) -> Option<u128> {
+    let pieces = pieces(alloc)?;
+    let mut pages = zero_pages(alloc)?;
+    let start = now(rt);
     copy_in(&pieces, &mut pages);
-    let read = copy_out(alloc, &pages);
-    let nanos = start.elapsed(rt)?.as_nanos();
-    Ok(read.map(|_| nanos))
+    let _read = copy_out(alloc, &pages)?;
+    nanos_since(rt, start)
 }
 
 /// As many pages as the file has blocks, each written once.
@@ -115,9 +95,9 @@ fn copy_out(alloc: Global, pages: &[Page]) -> Option<Vec<SharedBytes>> {
 }
 
 /// The nanoseconds of a session's calls, of which all replies are kept. `None` where one isn't done.
-fn nanos_of_session<R: Clock>(rt: &R, alloc: Global) -> io::Result<Option<u128>> {
+fn nanos_of_session<R: Clock>(rt: &R, alloc: Global) -> Option<u128> {
     let Some(mut ctl) = started(alloc) else {
-        return Ok(None);
+        return None;
     };
     let mut desk = PlainDesk::of(&mut ctl, LibNo(1));
     let mut session = Session::new(alloc, LibNo(1), desk.creds());
@@ -158,43 +138,47 @@ fn nanos_at<R: Clock, D: Desk>(
     alloc: Global,
     session: &mut Session,
     desk: &mut D,
-) -> io::Result<Option<u128>>
+) -> Option<u128>
     requires { MayCall (D.seen desk.old) session.old }
 {
-    let Some((first, writes, reads)) = all_calls(alloc) else {
-        return Ok(None);
-    };
-    let Some(_sized) = make_calls(alloc, session, desk, first) else {
-        return Ok(None);
-    };
-    let start = Instant::now(rt)?;
-    let Some(_written) = make_calls(alloc, session, desk, writes) else {
-        return Ok(None);
-    };
-    let Some(_read) = make_calls(alloc, session, desk, reads) else {
-        return Ok(None);
-    };
-    Ok(Some(start.elapsed(rt)?.as_nanos()))
-}
-
-/// The call that gives the file its size, those that write its blocks, and those that read them.
-fn all_calls(alloc: Global) -> Option<(Vec<Call>, Vec<Call>, Vec<Call>)> {
     let size = BLOCKS * PAGE_SIZE as u64;
     let path = file_path(alloc)?;
-    let first = vec![in alloc; Call::Truncate { path, size }].ok()?;
-    let mut pieces = pieces(alloc)?;
-    let mut writes = Vec::new(alloc);
-    let mut reads = Vec::new(alloc);
-    for block in 0..BLOCKS {
-        let at = block * PAGE_SIZE as u64;
-        let bytes = pieces.pop()?;
+    let _sized = answer(alloc, session, desk, Call::Truncate { path, size })?;
+    let calls = calls(alloc)?;
+    let start = now(rt);
+    let _answers = make_calls(alloc, session, desk, calls)?;
+    nanos_since(rt, start)
+}
+
+/// The calls that write the blocks, and then those that read them.
+fn calls(alloc: Global) -> Option<Vec<Call>> {
+    let mut calls = Vec::new(alloc);
+    add_writes(alloc, &mut calls)?;
+    add_reads(alloc, &mut calls)?;
+    Some(calls)
+}
+
+fn add_writes(alloc: Global, calls: &mut Vec<Call>) -> Option<()> {
+    let mut at: u64 = 0;
+    for bytes in pieces(alloc)? {
         let path = file_path(alloc)?;
-        writes.push(Call::Write { path, at, bytes }).ok()?;
-        let path = file_path(alloc)?;
-        let len = PAGE_SIZE as u32;
-        reads.push(Call::Read { path, at, len }).ok()?;
+        calls.push(Call::Write { path, at, bytes }).ok()?;
+        at = at.wrapping_add(PAGE_SIZE as u64);
     }
-    Some((first, writes, reads))
+    Some(())
+}
+
+fn add_reads(alloc: Global, calls: &mut Vec<Call>) -> Option<()> {
+    for block in 0..BLOCKS {
+        let path = file_path(alloc)?;
+        let call = Call::Read {
+            path,
+            at: block * PAGE_SIZE as u64,
+            len: PAGE_SIZE as u32,
+        };
+        calls.push(call).ok()?;
+    }
+    Some(())
 }
 
 fn file_path(alloc: Global) -> Option<Path> {

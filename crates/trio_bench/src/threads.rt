@@ -1,15 +1,12 @@
 //! What four libraries take with a thread each, beside the same in rounds on one thread.
 
-ghost use Rattle.std.specs.Prelude.{◌≤◌, length};
-ghost use Rattle.trio_script.specs.Within.{AreWithin};
-
 use crate::sessions::image_of;
+use crate::timing::{Ratio, least_of_both, nanos_since, now};
 use std::alloc::Global;
 use std::io;
 use std::rt::Clock;
 use std::sync::Wait;
 use std::thread::Threads;
-use std::time::Instant;
 use trio_ctl::Ctl;
 use trio_image::Image;
 use trio_io::OpenGate;
@@ -17,7 +14,7 @@ use trio_page::NoMemory;
 use trio_runner::{creds_of, play, run};
 use trio_samples::files::root;
 use trio_samples::{Sample, regular};
-use trio_script::{ScriptLib, read_script};
+use trio_script::read_script;
 
 /// The fastest of so many rounds counts.
 const ROUNDS: u32 = 9;
@@ -51,21 +48,14 @@ fn put_row<R: Threads + Wait + Sync + Clock + Print + AllocGlobal>(
     name: &str,
     script: Option<Vec<u8>>,
 ) -> io::Result<()> {
-    let Some(script) = script else {
-        return println!(rt; "out of memory");
-    };
-    match fastest(rt, rt.alloc(), &script)? {
-        Some((turns, threads)) => {
-            let hundredths = turns.saturating_mul(100) / threads.max(1);
-            println!(rt;
-                "{name}: in turns {} us, in threads {} us, ratio {}.{:02}",
-                turns / 1000,
-                threads / 1000,
-                hundredths / 100,
-                hundredths % 100
-            )
-        }
-        None => println!(rt; "{name}: out of memory, or too many lines"),
+    match script.and_then(|script| fastest(rt, rt.alloc(), &script)) {
+        Some((turns, threads)) => println!(rt;
+            "{name}: in turns {} us, in threads {} us, ratio {}",
+            turns / 1000,
+            threads / 1000,
+            Ratio::of(turns, threads)
+        ),
+        None => println!(rt; "{name}: out of memory, or too many lines, or no clock"),
     }
 }
 
@@ -119,67 +109,39 @@ fn fastest<R: Threads + Wait + Sync + Clock>(
     rt: &R,
     alloc: Global,
     script: &[u8],
-) -> io::Result<Option<(u128, u128)>> {
-    let Ok(libs) = read_script(alloc, script) else {
-        return Ok(None);
-    };
-    let mut turns = u128::MAX;
-    let mut threads = u128::MAX;
-    for _ in 0..ROUNDS {
-        let Some(nanos) = nanos_in_turns(rt, alloc, &libs)? else {
-            return Ok(None);
-        };
-        turns = turns.min(nanos);
-        let Some(nanos) = nanos_in_threads(rt, alloc, &libs)? else {
-            return Ok(None);
-        };
-        threads = threads.min(nanos);
-    }
-    Ok(Some((turns, threads)))
+) -> Option<(u128, u128)> {
+    let turns = || nanos_in_turns(rt, alloc, script);
+    least_of_both(ROUNDS, turns, || nanos_in_threads(rt, alloc, script))
 }
 
-fn nanos_in_turns<R: Clock>(rt: &R, alloc: Global, libs: &[ScriptLib]) -> io::Result<Option<u128>>
-    requires some { 1 ≤ length libs.now }
-    requires few { length libs.now ≤ 16 }
-    requires within { AreWithin libs.now }
-{
-    let Some(image) = four_files(alloc) else {
-        return Ok(None);
+fn nanos_in_turns<R: Clock>(rt: &R, alloc: Global, script: &[u8]) -> Option<u128> {
+    let Ok(libs) = read_script(alloc, script) else {
+        return None;
     };
-    let Ok(creds) = creds_of(alloc, libs) else {
-        return Ok(None);
+    let creds = creds_of(alloc, &libs).ok()?;
+    let Ok(mut ctl) = Ctl::start(alloc, four_files(alloc)?, creds) else {
+        return None;
     };
-    let Ok(mut ctl) = Ctl::start(alloc, image, creds) else {
-        return Ok(None);
-    };
-    let start = Instant::now(rt)?;
-    let tolds = play(alloc, &mut ctl, libs);
-    let nanos = start.elapsed(rt)?.as_nanos();
-    Ok(tolds.ok().map(|_| nanos))
+    let start = now(rt);
+    let _tolds = play(alloc, &mut ctl, &libs).ok()?;
+    nanos_since(rt, start)
 }
 
 fn nanos_in_threads<R: Threads + Wait + Sync + Clock>(
     rt: &R,
     alloc: Global,
-    libs: &[ScriptLib],
-) -> io::Result<Option<u128>>
-    requires some { 1 ≤ length libs.now }
-    requires few { length libs.now ≤ 16 }
-    requires within { AreWithin libs.now }
-{
-    let Some(image) = four_files(alloc) else {
-        return Ok(None);
+    script: &[u8],
+) -> Option<u128> {
+    let Ok(libs) = read_script(alloc, script) else {
+        return None;
     };
-    let Ok(creds) = creds_of(alloc, libs) else {
-        return Ok(None);
+    let creds = creds_of(alloc, &libs).ok()?;
+    let Ok(ctl) = Ctl::start(alloc, four_files(alloc)?, creds) else {
+        return None;
     };
-    let Ok(ctl) = Ctl::start(alloc, image, creds) else {
-        return Ok(None);
-    };
-    let start = Instant::now(rt)?;
-    let ran = run(rt, alloc, ctl, libs, &OpenGate);
-    let nanos = start.elapsed(rt)?.as_nanos();
-    Ok(ran.ok().map(|_| nanos))
+    let start = now(rt);
+    let _ran = run(rt, alloc, ctl, &libs, &OpenGate).ok()?;
+    nanos_since(rt, start)
 }
 
 fn four_files(alloc: Global) -> Option<Image> {

@@ -1,9 +1,9 @@
 //! What it takes to tell the tree of an image, by the number of its names.
 
+use crate::timing::{Ratio, nanos_since, now};
 use std::alloc::Global;
 use std::io;
 use std::rt::Clock;
-use std::time::Instant;
 use trio_layout::Superblock;
 use trio_page::{Home, Reads};
 use trio_report::{put_tree_lines, tree_json, tree_lines};
@@ -28,59 +28,77 @@ struct Times {
 /// Prints in which time trees of 1,000, 4,000 and 16,000 names are told, and how often the time of the
 /// first goes into that of each.
 pub fn measure_tree<R: Clock + Print + AllocGlobal>(rt: &R) -> io::Result<()> {
-    let Some(least) = times_of(rt, LEAST)? else {
-        return println!(rt; "out of memory");
+    let Some(least) = times_of(rt, rt.alloc(), LEAST) else {
+        return println!(rt; "out of memory, or no clock");
     };
     for names in [LEAST, 4000, 16_000] {
-        match times_of(rt, names)? {
+        match times_of(rt, rt.alloc(), names) {
             Some(times) => print_times(rt, names, times, least)?,
-            None => println!(rt; "{names} names: out of memory")?,
+            None => println!(rt; "{names} names: out of memory, or no clock")?,
         }
     }
     Ok(())
 }
 
 fn print_times<R: Print>(rt: &R, names: u32, times: Times, least: Times) -> io::Result<()> {
-    let lines = times.lines.saturating_mul(100) / least.lines.max(1);
-    let json = times.json.saturating_mul(100) / least.json.max(1);
     println!(rt;
-        "{names} names: lines {} us, {}.{:02} times those of {LEAST}; JSON {} us, {}.{:02} times",
+        "{names} names: lines {} us, {} times those of {LEAST}; JSON {} us, {} times",
         times.lines / 1000,
-        lines / 100,
-        lines % 100,
+        Ratio::of(times.lines, least.lines),
         times.json / 1000,
-        json / 100,
-        json % 100
+        Ratio::of(times.json, least.json)
     )
 }
 
 /// The times of the fastest rounds. `None` where memory is wanting.
-fn times_of<R: Clock + AllocGlobal>(rt: &R, names: u32) -> io::Result<Option<Times>> {
-    let alloc = rt.alloc();
-    let Some(sample) = sample_of(alloc, names) else {
-        return Ok(None);
-    };
+fn times_of<R: Clock>(rt: &R, alloc: Global, names: u32) -> Option<Times> {
+    let sample = sample_of(alloc, names)?;
     let superblock = *sample.superblock();
-    let Ok(mut home) = sample.home(alloc) else {
-        return Ok(None);
-    };
+    let mut home = sample.home(alloc).ok()?;
+    least_times(rt, alloc, &mut home, &superblock)
+}
+
+fn least_times<R: Clock>(
+    rt: &R,
+    alloc: Global,
+    home: &mut Home,
+    superblock: &Superblock,
+) -> Option<Times> {
     let mut least = Times {
         lines: u128::MAX,
         json: u128::MAX,
     };
     for _ in 0..ROUNDS {
-        let start = Instant::now(rt)?;
-        if lines_of(alloc, &mut home, &superblock).is_none() {
-            return Ok(None);
-        }
-        least.lines = least.lines.min(start.elapsed(rt)?.as_nanos());
-        let start = Instant::now(rt)?;
-        if json_of(alloc, &mut home, &superblock).is_none() {
-            return Ok(None);
-        }
-        least.json = least.json.min(start.elapsed(rt)?.as_nanos());
+        let lines = nanos_of_lines(rt, alloc, home, superblock)?;
+        let json = nanos_of_json(rt, alloc, home, superblock)?;
+        least = Times {
+            lines: least.lines.min(lines),
+            json: least.json.min(json),
+        };
     }
-    Ok(Some(least))
+    Some(least)
+}
+
+fn nanos_of_lines<R: Clock>(
+    rt: &R,
+    alloc: Global,
+    home: &mut Home,
+    superblock: &Superblock,
+) -> Option<u128> {
+    let start = now(rt);
+    let _ = lines_of(alloc, home, superblock)?;
+    nanos_since(rt, start)
+}
+
+fn nanos_of_json<R: Clock>(
+    rt: &R,
+    alloc: Global,
+    home: &mut Home,
+    superblock: &Superblock,
+) -> Option<u128> {
+    let start = now(rt);
+    let _ = json_of(alloc, home, superblock)?;
+    nanos_since(rt, start)
 }
 
 fn lines_of(alloc: Global, home: &mut Home, superblock: &Superblock) -> Option<Vec<u8>> {
@@ -98,18 +116,28 @@ fn json_of(alloc: Global, home: &mut Home, superblock: &Superblock) -> Option<Ve
 /// An image of so many names: the root has four directories, among which empty files are shared out. Their
 /// names lie in no order.
 fn sample_of(alloc: Global, names: u32) -> Option<Sample> {
+    let spelled = spellings(alloc, names)?;
+    let files = files_of(alloc, &spelled)?;
+    Sample::of(alloc, 8192, 16_384, &files).ok()
+}
+
+fn spellings(alloc: Global, names: u32) -> Option<Vec<[u8; 5]>> {
     let mut spelled = Vec::new(alloc);
     for number in 0..names {
         spelled.push(spelling(number)).ok()?;
     }
+    Some(spelled)
+}
+
+fn files_of(alloc: Global, names: &[[u8; 5]]) -> Option<Vec<SampleFile<'_>>> {
     let mut files = Vec::new(alloc);
     files.push(directory(1, 0, b"")).ok()?;
     let mut number: u32 = 0;
-    for name in &spelled {
+    for name in names {
         files.push(file_of(number, name)).ok()?;
         number = number.wrapping_add(1);
     }
-    Sample::of(alloc, 8192, 16_384, &files).ok()
+    Some(files)
 }
 
 /// The file of this number, of which the first are the directories.

@@ -1,6 +1,0 @@
-use Rattle.std.proofs.Common.{◌≡◌, None}
-use Rattle.trio_turn.specs.Seats.{has, IsSameSeat}
-use Rattle.trio_bench.proofs.fastest.Given as goal
-
-abbrev pub invariant-loop : goal.invariant-loop
-invariant-loop g l = IsSameSeat l.initial.seat l.seat × (has l.seat ≡ None)
