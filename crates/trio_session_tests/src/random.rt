@@ -14,6 +14,7 @@ use trio_onetree::apply;
 use trio_page::NoMemory;
 use trio_report::LineAnswer;
 use trio_rights::{Creds, Kind, LibNo};
+use trio_runner::LibTold;
 
 /// A number after another: those of a linear congruence.
 #[derive(Drop)]
@@ -43,14 +44,14 @@ const PATHS: [&str; 22] = [
 
 const MODES: [&str; 6] = ["777", "755", "777", "777", "400", "777"];
 
-// All lines of the honest libraries are settled in the last of so many rounds.
+// So many lines each library has.
 const ROUNDS: u32 = 9;
 
-// Puts lines of an honest library, one for each of so many rounds.
-fn put_calls(alloc: Global, script: &mut Vec<u8>, seed: u64, rounds: u32) -> Result<(), NoMemory> {
+// Puts lines of an honest library.
+fn put_calls(alloc: Global, script: &mut Vec<u8>, seed: u64) -> Result<(), NoMemory> {
     let mut random = Random(seed);
-    for round in 0..rounds {
-        if round % ROUNDS == ROUNDS - 1 || random.below(8) == 0 {
+    for _ in 0..ROUNDS {
+        if random.below(8) == 0 {
             put_line(script, "settle")?;
         } else {
             put_line(script, &random_call(alloc, &mut random)?)?;
@@ -114,27 +115,16 @@ fn random_bytes(alloc: Global, random: &mut Random, path: &str) -> Result<String
 
 // ---- the hostile library
 
-// Puts lines of a library that takes a file for writing, spoils its metadata and hands it in, and then
-// another, one line for each of so many rounds. It asks for one in the round in which the others settle, too.
-fn put_attacks(
-    alloc: Global,
-    script: &mut Vec<u8>,
-    seed: u64,
-    rounds: u32,
-) -> Result<(), NoMemory> {
+// Puts lines of a library that takes a file for writing, spoils its metadata and hands it in, again and
+// again.
+fn put_attacks(alloc: Global, script: &mut Vec<u8>, seed: u64) -> Result<(), NoMemory> {
     let mut random = Random(seed);
-    let mut ino = 1;
-    let mut how = 0;
-    for round in 0..rounds {
-        match round % 3 {
-            0 => put_line(script, &poke(alloc, ino, how)?)?,
-            1 => put_line(script, &format!(in alloc; "release {ino} - -")?)?,
-            _ => {
-                how = random.below(3);
-                ino = victim(&mut random, how);
-                put_line(script, &format!(in alloc; "grant write {ino}")?)?;
-            }
-        }
+    for _ in 0..ROUNDS / 3 {
+        let how = random.below(3);
+        let ino = victim(&mut random, how);
+        put_line(script, &format!(in alloc; "grant write {ino}")?)?;
+        put_line(script, &poke(alloc, ino, how)?)?;
+        put_line(script, &format!(in alloc; "release {ino} - -")?)?;
     }
     Ok(())
 }
@@ -343,18 +333,13 @@ fn are_same_names(a: &[(Name, Kind)], b: &[(Name, Kind)]) -> bool {
     a.len() == b.len() && a.iter().zip(b).all(are_alike)
 }
 
-// Whether the settled image has the nodes of the model.
-fn is_settled(alloc: Global, ctl: &mut Ctl, model: &Model) -> bool {
-    match ctl.image() {
-        Ok(image) => has_nodes(alloc, image, &model.nodes),
-        Err(_) => false,
-    }
-}
-
-fn has_nodes(alloc: Global, mut image: Image, wanted: &Nodes) -> bool {
-    match image.nodes(alloc) {
-        Ok(nodes) => are_same(&nodes, wanted),
-        Err(_) => false,
+// The image, if it has the nodes of the model.
+fn with_nodes(alloc: Global, mut image: Image, wanted: &Nodes) -> Option<Image> {
+    let nodes = image.nodes(alloc).ok()?;
+    if are_same(&nodes, wanted) {
+        Some(image)
+    } else {
+        None
     }
 }
 
@@ -385,14 +370,14 @@ fn is_same_node(a: Option<&Node>, b: Option<&Node>) -> bool {
 
 // ---- in rounds
 
-fn script(alloc: Global, seed: u64, rounds: u32) -> Result<Vec<u8>, NoMemory> {
+fn script(alloc: Global, seed: u64) -> Result<Vec<u8>, NoMemory> {
     let mut script = Vec::new(alloc);
     put_line(&mut script, "lib 1 honest 0 0")?;
-    put_calls(alloc, &mut script, seed, rounds)?;
+    put_calls(alloc, &mut script, seed)?;
     put_line(&mut script, "lib 2 honest 5 5")?;
-    put_calls(alloc, &mut script, seed + 100, rounds)?;
+    put_calls(alloc, &mut script, seed.wrapping_add(100))?;
     put_line(&mut script, "lib 3 raw 0 0")?;
-    put_attacks(alloc, &mut script, seed + 200, rounds)?;
+    put_attacks(alloc, &mut script, seed.wrapping_add(200))?;
     Ok(script)
 }
 
@@ -402,36 +387,43 @@ fn begun(alloc: Global) -> Option<Model> {
     Some(Model { nodes, count: NONE })
 }
 
-// What was done in so many rounds, where the image at their end is that of the one tree.
-fn one_tree(alloc: Global, seed: u64, rounds: u32) -> Option<Count> {
-    let script = script(alloc, seed, rounds).ok()?;
-    let (mut ctl, tolds) = played(alloc, image_of(alloc, Start::Shared)?, &script)?;
-    let refusals = refusals(tolds.get(2)?.answers())?;
-    let count = count_of(alloc, &mut ctl)?;
-    Some(Count { refusals, ..count })
+// The image once a script was played on it and all is settled, if it is that of the tree.
+fn next(alloc: Global, image: Image, model: &mut Model, seed: u64) -> Option<Image> {
+    let (mut ctl, tolds) = played(alloc, image, &script(alloc, seed).ok()?)?;
+    if !are_refused(&tolds, model) || !follow(alloc, &ctl, model) {
+        return None;
+    }
+    with_nodes(alloc, ctl.image().ok()?, &model.nodes)
 }
 
-fn count_of(alloc: Global, ctl: &mut Ctl) -> Option<Count> {
-    let mut model = begun(alloc)?;
-    if follow(alloc, ctl, &mut model) && is_settled(alloc, ctl, &model) {
-        Some(model.count)
-    } else {
-        None
+// Whether what the third library spoiled is refused.
+fn are_refused(tolds: &[LibTold], model: &mut Model) -> bool {
+    match tolds {
+        [_, _, third] => match refusals(third.answers()) {
+            Some(refusals) => {
+                model.count = model.count.and(Count { refusals, ..NONE });
+                true
+            }
+            None => false,
+        },
+        _ => false,
     }
 }
 
-// What was done in 45 rounds, where it is one tree after the first nine, after 27 and at the end. All is
-// settled then.
-fn is_one_tree(alloc: Global, seed: u64) -> Option<Count> {
-    one_tree(alloc, seed, ROUNDS)?;
-    one_tree(alloc, seed, ROUNDS * 3)?;
-    one_tree(alloc, seed, ROUNDS * 5)
+// What was done in five scripts one after another, where it is one tree.
+fn one_tree(alloc: Global, seed: u64) -> Option<Count> {
+    let mut model = begun(alloc)?;
+    let mut image = image_of(alloc, Start::Shared)?;
+    for part in 0..5 {
+        image = next(alloc, image, &mut model, seed.wrapping_add(1000 * part))?;
+    }
+    Some(model.count)
 }
 
 fn are_one_tree(alloc: Global) -> Option<Count> {
     let mut count = NONE;
-    for seed in 1..31 {
-        count = count.and(is_one_tree(alloc, seed)?);
+    for seed in 1..26 {
+        count = count.and(one_tree(alloc, seed)?);
     }
     Some(count)
 }
