@@ -28,7 +28,7 @@
 //! - `trio_bench session` writes and reads 1 MiB by 4096 bytes a call through a session, twenty times
 //!   over, and prints how often a plain copy of as much into pages and out of them goes into it.
 //!
-//! It is measured and not proved; the figures are in `docs/SPEED.md`.
+//! It is measured and not proved; the figures of a run are in `docs/SPEED.md`.
 #![tactic(auto)]
 
 mod bundles;
@@ -79,7 +79,7 @@ enum Asked<'a> {
 }
 
 /// What the words behind the program's name ask for. More words than are needed say nothing.
-fn asked(words: &[String]) -> Asked<'_> {
+fn read_words(words: &[String]) -> Asked<'_> {
     match words {
         [_, what] => alone(what.as_str()),
         [_, what, more, ..] => with_more(what.as_str(), more.as_str()),
@@ -142,7 +142,7 @@ const USAGE: &str =
 
 fn main(rt: HostRuntime) -> io::Result<()> {
     let words = words_given(&rt)?;
-    match asked(&words) {
+    match read_words(&words) {
         Asked::Turn(count) => measure_turn(&rt, count),
         Asked::Seat(count) => measure_seat(&rt, count),
         // no script has as many lines as that

@@ -33,11 +33,15 @@ fn all_lines(alloc: Global) -> Result<Lines, NoMemory> {
 }
 
 fn add_changes(alloc: Global, lines: &mut Lines) -> Result<(), NoMemory> {
-    for number in (0..200).step_by(2) {
-        lines.add(&format!(in alloc; "unlink /f{number}")?, "ok")?;
+    for number in 0..200 {
+        if number % 2 == 0 {
+            lines.add(&format!(in alloc; "unlink /f{number}")?, "ok")?;
+        }
     }
-    for number in (1..200).step_by(2) {
-        lines.add(&format!(in alloc; "rename /f{number} /m{number}")?, "ok")?;
+    for number in 0..200 {
+        if number % 2 == 1 {
+            lines.add(&format!(in alloc; "rename /f{number} /m{number}")?, "ok")?;
+        }
     }
     Ok(())
 }

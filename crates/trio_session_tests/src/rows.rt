@@ -25,11 +25,13 @@ const CALLS: &[Library] = &[Library {
 
 // Whether the settled image has the file grown: its second block is page 9, and what was not written
 // is zero.
-fn is_grown(alloc: Global, mut ctl: Ctl) -> Option<bool> {
+fn is_grown(alloc: Global, ctl: &mut Ctl) -> Option<bool> {
     let image = ctl.image().ok()?;
-    let is_counted = image.counts() == GROWN;
+    if image.counts() != GROWN {
+        return None;
+    }
     let bytes = image.into_bytes(alloc).ok()?;
-    Some(is_counted && is_written(&bytes)?)
+    is_written(&bytes)
 }
 
 fn is_written(bytes: &[u8]) -> Option<bool> {
@@ -52,8 +54,8 @@ const GROWN: Counts = Counts {
 
 #[test]
 fn calls_on_a_file(rt: HostRuntime) -> Result<(), Fail> {
-    let ctl = plays(rt.alloc(), Start::OneFile, CALLS)?;
-    assert!(rt; is_grown(rt.alloc(), ctl) == Some(true));
+    let mut ctl = plays(rt.alloc(), Start::OneFile, CALLS)?;
+    assert!(rt; is_grown(rt.alloc(), &mut ctl) == Some(true));
     Ok(())
 }
 
@@ -160,7 +162,7 @@ const LEFT: Counts = Counts {
 };
 
 // Whether the settled image has so many files and pages.
-fn has(mut ctl: Ctl, counts: Counts) -> bool {
+fn has(ctl: &mut Ctl, counts: Counts) -> bool {
     match ctl.image() {
         Ok(image) => image.counts() == counts,
         Err(_) => false,
@@ -169,8 +171,8 @@ fn has(mut ctl: Ctl, counts: Counts) -> bool {
 
 #[test]
 fn calls_on_directories(rt: HostRuntime) -> Result<(), Fail> {
-    let ctl = plays(rt.alloc(), Start::OneFile, MAKES)?;
-    assert!(rt; has(ctl, LEFT));
+    let mut ctl = plays(rt.alloc(), Start::OneFile, MAKES)?;
+    assert!(rt; has(&mut ctl, LEFT));
     Ok(())
 }
 
