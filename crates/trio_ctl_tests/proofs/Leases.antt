@@ -22,7 +22,7 @@ use Rattle.trio_state.specs.Step.{Grant, Step}
 use Rattle.trio_judge.specs.Cases.{CaseShown}
 use Rattle.trio_ctl.proofs.Given.{granted_is_lent}
 use Rattle.trio_ctl.specs.Answers.{grant_answer}
-use Rattle.trio_ctl.specs.Open.{lent_by}
+use Rattle.trio_open.specs.Open.{lent_by}
 use Rattle.trio_ctl.specs.HandedIn.{AreTouched, WasLentAs, WereLent, WereLentOrTouched}
 use Rattle.trio_ctl_tests.specs.Leases.{AreAllTouched, AreLentAlike}
 
