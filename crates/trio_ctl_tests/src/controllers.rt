@@ -24,7 +24,8 @@ pub fn started(alloc: Global, start: Start, uid: u32) -> Option<Ctl>
     start_with(alloc, image, uid)
 }
 
-fn start_with(alloc: Global, image: Image, uid: u32) -> Option<Ctl>
+/// A controller over this image, for the same libraries.
+pub fn start_with(alloc: Global, image: Image, uid: u32) -> Option<Ctl>
     ensures two { IfSome result (λ ctl. length ctl.state.creds ≡ 2) }
     ensures idle { IfSome result NoneBegun }
     ensures nothing { IfSome result (λ ctl. OutAlike (out_of ctl.state (record { 0 = 1 })) nothing_out) }

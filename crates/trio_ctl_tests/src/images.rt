@@ -14,8 +14,8 @@ pub fn start_image(alloc: Global, start: Start) -> Option<Image> {
     image_of(alloc, &bytes)
 }
 
-/// An image that is laid out so.
-fn image_of(alloc: Global, bytes: &[u8]) -> Option<Image> {
+/// The image of these bytes.
+pub fn image_of(alloc: Global, bytes: &[u8]) -> Option<Image> {
     let mut files = one_name(alloc)?;
     hold(alloc, &mut files, bytes)?;
     loaded(alloc, &mut files)

@@ -3,7 +3,8 @@
 
 ghost use Rattle.trio_raw.specs.Has.{OnList};
 
-use crate::calls::started;
+use crate::controllers::start_with;
+use crate::images::image_of;
 use std::alloc::Global;
 use trio_ctl::PlainDesk;
 use trio_desk::Desk;
@@ -137,7 +138,8 @@ fn plays<D: Desk>(alloc: Global, desk: &mut D, deed: Deed) -> bool {
 }
 
 fn is_played(alloc: Global, deed: Deed) -> Option<bool> {
-    let mut ctl = started(alloc, &image_bytes(alloc).ok()?, 0)?;
+    let image = image_of(alloc, &image_bytes(alloc).ok()?)?;
+    let mut ctl = start_with(alloc, image, 0)?;
     let mut desk = PlainDesk::of(&mut ctl, LibNo(1));
     Some(plays(alloc, &mut desk, deed))
 }
