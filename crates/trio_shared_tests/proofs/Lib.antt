@@ -1,5 +1,6 @@
 mod Desks
 mod Saw
+mod Sends
 mod Sitting
 mod TwoMoves
 mod Writing

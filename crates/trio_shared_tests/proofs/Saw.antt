@@ -1,6 +1,7 @@
 -- What seats have seen of the log at the close.
-use Rattle.std.proofs.Common.{◌≡◌, ◌<◌, ℕ, zero, suc, ◌==◌, Bool, false, List, [], ◌∷◌, ◌++◌, Some, length, slice_get, ap, subst, sym, ◌∙◌, inl, inr, arith, append-nil}
+use Rattle.std.proofs.Common.{◌≡◌, ◌<◌, ℕ, zero, suc, ◌==◌, Bool, false, List, [], ◌∷◌, ◌++◌, Some, Result, Ok, Err, IfOk, IfSome, length, slice_get, ap, subst, sym, ◌∙◌, inl, inr, arith, append-nil}
 use Rattle.std.specs.Prelude.{if◌then◌else◌}
+use Rattle.std.specs.Result.{result_ok}
 use Rattle.std.proofs.lemmas.Bool.{cases_Bool, eq-eqb, false≢true}
 use Rattle.std.proofs.lemmas.List.Elements.{filter-append}
 use mathlib.Core.List.{IsPrefix, append_cancel_left}
@@ -39,8 +40,10 @@ has_seen lib history log begins mine_are = record {
     none : made_by lib begins.0 ≡ []
     none = append_cancel_left (made_by lib history) (made_by lib begins.0) [] (sym (filter-append (λ (e : Entry). maker e == lib) history begins.0) ∙ ap (made_by lib) begins.1 ∙ mine_are ∙ sym (append-nil (made_by lib history)))
 
--- so has a seat at the close
-pub seen_at_end : (ctl : Controller) (seats : List (LibSeat Held)) (k : ℕ) (s : LibSeat Held) (lib : ℕ) → slice_get seats k ≡ Some s → library s ≡ lib
-    → OfEach (λ s. IsPrefix (seen s) ctl.log) seats → OfEach (λ s. made_by (library s) ctl.log ≡ mine s) seats → HasSeen (seen s) lib ctl.log
-seen_at_end ctl seats k s lib at is begins mine_are =
+-- so has a seat, where it comes to a close
+pub seen_at_close : {E : Type 0} (r : Result Controller E) (seats : List (LibSeat Held)) (k : ℕ) (s : LibSeat Held) (lib : ℕ) → slice_get seats k ≡ Some s → library s ≡ lib
+    → IfOk r (λ ctl. OfEach (λ s. IsPrefix (seen s) ctl.log) seats) → IfOk r (λ ctl. OfEach (λ s. made_by (library s) ctl.log ≡ mine s) seats)
+    → IfSome (result_ok r) (λ ctl. HasSeen (seen s) lib ctl.log)
+seen_at_close (Ok ctl) seats k s lib at is begins mine_are =
     subst (λ l. HasSeen (seen s) l ctl.log) is (has_seen (library s) (seen s) ctl.log (begins k s at) (mine_are k s at))
+seen_at_close (Err back) seats k s lib at is begins mine_are = tt

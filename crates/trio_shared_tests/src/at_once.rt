@@ -1,25 +1,41 @@
 //! Two libraries that write into what they are lent, while a third is lent a file again and again.
 
-ghost use Rattle.std.specs.Prelude.{◌≡◌};
 ghost use Rattle.std.specs.Thread.{IsSync};
-ghost use Rattle.trio_shared.specs.Seats.{library_count};
-ghost use Rattle.trio_shared_tests.specs.Sits.{AllSit, Plays, PlaysOn, Sits, SitsOn, WritesOn};
+ghost use Rattle.trio_shared_tests.specs.Sits.{Plays, PlaysOn, WritesOn};
 
-use crate::images::three_files;
-use crate::replays::settled_nodes;
-use crate::seats::{asks, close, is_accepted, is_given_back, start};
+use crate::Player;
+use crate::seats::{
+    ROOT, asks, close_four, gives_back, hands_in, image_of, leaves, seated, start_four,
+};
 use std::alloc::Global;
 use std::sync::Wait;
 use std::test::Fail;
 use std::thread::{Threads, join_mut};
-use trio_ctl::Ctl;
-use trio_nodes::{GrantKind, Nodes, Spot};
+use trio_image::Image;
+use trio_nodes::{GrantKind, Nodes, ReleaseAnswer, Spot};
 use trio_page::PAGE_SIZE;
 use trio_raw::Raw;
-use trio_shared::{LibSeat, Shared};
+use trio_samples::files::root;
+use trio_samples::{directory, regular};
+use trio_shared::Shared;
 
 /// How often each of the two writes its block, and how often the third is lent its file meanwhile.
 const TIMES: u32 = 2000;
+
+/// What the files of one block have first.
+const DASHES: [u8; PAGE_SIZE] = [b'-'; PAGE_SIZE];
+
+// The directory `a` with the files `f`, `g` and `h`, numbers 3 to 5, of one block each.
+fn three_files(alloc: Global) -> Option<Image> {
+    let files = [
+        root(),
+        directory(2, 1, b"a"),
+        regular(3, 2, b"f", &DASHES),
+        regular(4, 2, b"g", &DASHES),
+        regular(5, 2, b"h", &DASHES),
+    ];
+    image_of(alloc, &files)
+}
 
 // The block that is written at a time: each time another letter.
 fn block_at(time: u32, first: u8) -> [u8; PAGE_SIZE] {
@@ -41,23 +57,23 @@ fn writes(raw: &mut Raw, ino: u32, first: u8) -> bool
 }
 
 // Is lent a file for reading, and gives it back.
-fn is_lent<R: Wait>(rt: &R, shared: &Shared, seat: &mut LibSeat, raw: &mut Raw) -> bool
-    requires { Plays shared.now seat.old raw.old.has }
-    ensures { PlaysOn shared.now seat.old seat.new raw.new.has }
+fn is_lent<R: Wait>(rt: &R, shared: &Shared, player: &mut Player) -> bool
+    requires { Plays shared.now player.old }
+    ensures { PlaysOn shared.now player.old player.new }
 {
-    let is_lent = asks(rt, shared, seat, raw, 5, GrantKind::Read) == Ok(0);
-    let is_back = is_given_back(rt, shared, seat, raw, 5);
+    let is_lent = asks(rt, shared, player, 5, GrantKind::Read) == Ok(0);
+    let is_back = gives_back(rt, shared, player, 5) == Ok(());
     is_lent && is_back
 }
 
 // The same many times over.
-fn borrows<R: Wait>(rt: &R, shared: &Shared, seat: &mut LibSeat, raw: &mut Raw) -> bool
-    requires { Plays shared.now seat.old raw.old.has }
-    ensures { PlaysOn shared.now seat.old seat.new raw.new.has }
+fn borrows<R: Wait>(rt: &R, shared: &Shared, player: &mut Player) -> bool
+    requires { Plays shared.now player.old }
+    ensures { PlaysOn shared.now player.old player.new }
 {
     let mut are_lent = true;
     for _ in 0..TIMES {
-        let is_lent = is_lent(rt, shared, seat, raw);
+        let is_lent = is_lent(rt, shared, player);
         are_lent = are_lent && is_lent;
     }
     are_lent
@@ -86,13 +102,12 @@ fn all_at_once<R: Threads + Wait + Sync>(
     shared: &Shared,
     one: &mut Raw,
     two: &mut Raw,
-    seat: &mut LibSeat,
-    three: &mut Raw,
+    three: &mut Player,
 ) -> bool
-    requires { Plays shared.now seat.old three.old.has }
+    requires { Plays shared.now three.old }
     ensures one { WritesOn one.old.has one.new.has }
     ensures two { WritesOn two.old.has two.new.has }
-    ensures three { PlaysOn shared.now seat.old seat.new three.new.has }
+    ensures three { PlaysOn shared.now three.old three.new }
 {
     let (are_written, are_lent) = join_mut(
         rt,
@@ -102,65 +117,11 @@ fn all_at_once<R: Threads + Wait + Sync>(
             ensures two { WritesOn two.entry.now.has two.exit.now.has }
         { both_write(rt, one, two) },
         &mut || -> bool
-            requires { Plays shared.now seat.now three.now.has }
-            ensures { PlaysOn shared.entry.now seat.entry.now seat.exit.now three.exit.now.has }
-        { borrows(rt, shared, seat, three) },
+            requires { Plays shared.now three.now }
+            ensures { PlaysOn shared.entry.now three.entry.now three.exit.now }
+        { borrows(rt, shared, three) },
     );
     are_written && are_lent
-}
-
-// Each of the two writers is lent its file, and hands it in when all are done. Whether all goes well, and
-// both are accepted.
-fn all_go_well<R: Threads + Wait + Sync>(
-    rt: &R,
-    alloc: Global,
-    shared: &Shared,
-    first: &mut LibSeat,
-    second: &mut LibSeat,
-    third: &mut LibSeat,
-) -> bool
-    requires first { Sits shared.now first.old }
-    requires second { Sits shared.now second.old }
-    requires third { Sits shared.now third.old }
-    ensures first { SitsOn shared.now first.old first.new }
-    ensures second { SitsOn shared.now second.old second.new }
-    ensures third { SitsOn shared.now third.old third.new }
-{
-    let mut one = Raw::new(alloc, first.library());
-    let mut two = Raw::new(alloc, second.library());
-    let mut three = Raw::new(alloc, third.library());
-    let is_one_lent = asks(rt, shared, first, &mut one, 3, GrantKind::Write) == Ok(0);
-    let is_two_lent = asks(rt, shared, second, &mut two, 4, GrantKind::Write) == Ok(0);
-    let is_done = all_at_once(rt, shared, &mut one, &mut two, third, &mut three);
-    let is_one_taken = is_accepted(rt, shared, first, &mut one, 3);
-    let is_two_taken = is_accepted(rt, shared, second, &mut two, 4);
-    one.discard();
-    two.discard();
-    three.discard();
-    is_one_lent && is_two_lent && is_done && is_one_taken && is_two_taken
-}
-
-// The same at the seats of a controller.
-fn seats_go_well<R: Threads + Wait + Sync>(
-    rt: &R,
-    alloc: Global,
-    shared: &Shared,
-    seats: &mut [LibSeat],
-) -> bool
-    requires sit { AllSit shared.now seats.old }
-    requires three { library_count shared.now ≡ 3 }
-    ensures { AllSit shared.now seats.new }
-{
-    let (first, rest) = seats.split_at_mut(1);
-    let (second, third) = rest.split_at_mut(1);
-    all_go_well(
-        rt,
-        alloc,
-        shared,
-        &mut first[0],
-        &mut second[0],
-        &mut third[0],
-    )
 }
 
 // Whether a file's bytes are the block that was written last.
@@ -171,19 +132,28 @@ fn has_last(nodes: &Nodes, ino: u32, first: u8) -> bool {
     }
 }
 
-// Whether the settled image has what each wrote last.
-fn is_written(alloc: Global, ctl: &mut Ctl) -> Option<bool> {
-    let nodes = settled_nodes(alloc, ctl)?;
-    Some(has_last(&nodes, 3, b'a') && has_last(&nodes, 4, b'A'))
-}
-
-// Whether all goes well, and the settled image has it.
+// Whether all goes well, both writers are accepted, and the settled image has what each wrote last.
 fn is_so<R: Threads + Wait + Sync>(rt: &R, alloc: Global) -> Option<bool> {
-    let (shared, mut seats) = start(alloc, three_files(alloc)?, 3)?;
-    let is_well = seats_go_well(rt, alloc, &shared, &mut seats);
-    let mut ctl = close(shared, seats);
-    let is_written = is_written(alloc, &mut ctl)?;
-    Some(is_well && is_written)
+    let image = three_files(alloc)?;
+    let (shared, (first, second), (third, fourth)) = start_four(alloc, image, [ROOT; 4])?;
+    let mut one = seated(alloc, &shared, first);
+    let mut two = seated(alloc, &shared, second);
+    let mut three = seated(alloc, &shared, third);
+    let lent = [
+        asks(rt, &shared, &mut one, 3, GrantKind::Write),
+        asks(rt, &shared, &mut two, 4, GrantKind::Write),
+    ];
+    let is_done = all_at_once(rt, &shared, &mut one.raw, &mut two.raw, &mut three);
+    let told = [
+        hands_in(rt, &shared, &mut one, 3),
+        hands_in(rt, &shared, &mut two, 4),
+    ];
+    let pair = (leaves(one), leaves(two));
+    let mut ctl = close_four(alloc, shared, pair, (leaves(three), fourth))?;
+    let nodes = ctl.image().ok()?.nodes(alloc).ok()?;
+    let are_told = lent == [Ok(0); 2] && told == [Ok(ReleaseAnswer::Accepted); 2];
+    let are_written = has_last(&nodes, 3, b'a') && has_last(&nodes, 4, b'A');
+    Some(is_done && are_told && are_written)
 }
 
 /// Two threads write the blocks of `/a/f` and `/a/g`, which their libraries are lent, while a third is

@@ -1,5 +1,7 @@
 //! Tests of the controller for many threads, and of scripts that are run on it, over what the crates make
 //! public.
+//!
+//! A [`Player`] is what the definitions of the tests speak of, so it is there without the tests too.
 #![tactic(auto)]
 
 #[cfg(test)]
@@ -8,6 +10,7 @@ mod at_once;
 mod images;
 #[cfg(test)]
 mod moves;
+mod player;
 #[cfg(test)]
 mod replays;
 #[cfg(test)]
@@ -20,3 +23,5 @@ mod scripts;
 mod seats;
 #[cfg(test)]
 mod threads;
+
+pub use player::Player;

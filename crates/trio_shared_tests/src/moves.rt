@@ -3,13 +3,12 @@
 ghost use Rattle.std.specs.Prelude.{◌≡◌, ◌∷◌, [], IfSome};
 ghost use Rattle.trio_desk.specs.Out.{WasGiven, parcel_of};
 ghost use Rattle.trio_shared.specs.Moves.{MayEnd};
-ghost use Rattle.trio_shared.specs.Seats.{IsSeatOf, library_count, out, seated};
+ghost use Rattle.trio_shared.specs.Seats.{IsSeatOf, out, seated};
 ghost use Rattle.trio_turn.specs.Seats.{library};
-ghost use Rattle.trio_shared_tests.specs.Sits.{AllSit, Sits, SitsOn};
+ghost use Rattle.trio_shared_tests.specs.Sits.{Sits, SitsOn};
 
-use crate::images::two_directories;
 use crate::rows::are_of;
-use crate::seats::{close, start};
+use crate::seats::{ROOT, close_two, start_two, two_files};
 use std::alloc::Global;
 use std::sync::Wait;
 use std::test::Fail;
@@ -48,6 +47,17 @@ fn taken<R: Wait>(rt: &R, alloc: Global, shared: &Shared, seat: &mut LibSeat) ->
         }
         Err(_) => None,
     }
+}
+
+// Its release, which the library has begun.
+fn begun<R: Wait>(rt: &R, alloc: Global, shared: &Shared, seat: &mut LibSeat) -> Option<Pending>
+    requires { Sits shared.now seat.old }
+    ensures seat { IsSeatOf shared.now seat.new }
+    ensures same { library seat.new ≡ library seat.old }
+    ensures may { IfSome result (λ p. MayEnd (seated seat.new) p) }
+{
+    let bundle = taken(rt, alloc, shared, seat)?;
+    begins(rt, shared, seat, bundle)
 }
 
 // The library begins to release what it was given.
@@ -99,55 +109,22 @@ fn is_lent<R: Wait>(rt: &R, shared: &Shared, seat: &mut LibSeat) -> bool
     }
 }
 
-// Whether the second library is lent a file between the beginning and the end of a release of the first,
-// and the release is accepted.
-fn is_between<R: Wait>(
-    rt: &R,
-    alloc: Global,
-    shared: &Shared,
-    first: &mut LibSeat,
-    second: &mut LibSeat,
-) -> Option<bool>
-    requires first { Sits shared.now first.old }
-    requires second { Sits shared.now second.old }
-    ensures first { IfSome result (λ told. SitsOn shared.now first.old first.new) }
-    ensures second { IfSome result (λ told. SitsOn shared.now second.old second.new) }
-{
-    let bundle = taken(rt, alloc, shared, first)?;
-    let pending = begins(rt, shared, first, bundle)?;
-    let is_lent = is_lent(rt, shared, second);
-    let answer = ended(rt, shared, first, pending)?;
-    Some(is_lent && answer == ReleaseAnswer::Accepted)
-}
-
-// The same at the seats of a controller.
-fn is_between_seats<R: Wait>(
-    rt: &R,
-    alloc: Global,
-    shared: &Shared,
-    seats: &mut [LibSeat],
-) -> Option<bool>
-    requires sit { AllSit shared.now seats.old }
-    requires two { library_count shared.now ≡ 2 }
-    ensures { IfSome result (λ told. AllSit shared.now seats.new) }
-{
-    let (first, second) = seats.split_at_mut(1);
-    is_between(rt, alloc, shared, &mut first[0], &mut second[0])
-}
-
-// Whether it is so, and the log of the closed controller has the entry of library 2 between the two of
-// library 1.
-fn is_so<R: Wait>(rt: &R, alloc: Global) -> Option<bool> {
-    let (shared, mut seats) = start(alloc, two_directories(alloc)?, 2)?;
-    let is_between = is_between_seats(rt, alloc, &shared, &mut seats)?;
-    let ctl = close(shared, seats);
-    Some(is_between && are_of(ctl.log().entries(), &[1, 2, 1]))
+// Whether library 2 is lent a file between the beginning and the end of a release of library 1, and the
+// release is accepted.
+fn is_between<R: Wait>(rt: &R, alloc: Global) -> Option<bool> {
+    let (shared, mut first, mut second) = start_two(alloc, two_files(alloc)?, [ROOT, ROOT])?;
+    let pending = begun(rt, alloc, &shared, &mut first)?;
+    let is_lent = is_lent(rt, &shared, &mut second);
+    let answer = ended(rt, &shared, &mut first, pending)?;
+    let ctl = close_two(alloc, shared, first, second)?;
+    let is_accepted = answer == ReleaseAnswer::Accepted;
+    Some(is_lent && is_accepted && are_of(ctl.log().entries(), &[1, 2, 1]))
 }
 
 /// Library 2 is lent `/a/g` for reading between the two moves of library 1's release of `/a/f`: the log has
 /// its entry between those of library 1.
 #[test]
 fn a_call_comes_between_the_moves(rt: HostRuntime) -> Result<(), Fail> {
-    assert!(rt; is_so(&rt, rt.alloc()) == Some(true));
+    assert!(rt; is_between(&rt, rt.alloc()) == Some(true));
     Ok(())
 }

@@ -1,137 +1,149 @@
 //! Calls of two seats, one after the other.
 
-ghost use Rattle.std.specs.Prelude.{◌≡◌, ◌≤◌, length};
+ghost use Rattle.std.specs.Prelude.{◌≡◌};
 ghost use mathlib.Core.List.{IsPrefix};
-ghost use Rattle.trio_shared.specs.Seats.{library_count};
 ghost use Rattle.trio_turn.specs.Seats.{seen};
-ghost use Rattle.trio_shared_tests.specs.Sits.{AllSit, IsLeft, Plays, PlaysOn, Sits, SitsOn};
+ghost use Rattle.trio_shared_tests.specs.Sits.{IsLeft, PlaysOn, Plays};
 
-use crate::images::two_directories;
-use crate::seats::{asks, close, is_accepted, start};
+use crate::Player;
+use crate::seats::{ROOT, asks, close_two, hands_in, leaves, seated, start_two, two_files};
 use std::alloc::Global;
 use std::sync::Wait;
 use std::test::Fail;
-use trio_nodes::{Entry, GrantFault, GrantKind, Holder};
-use trio_raw::Raw;
+use trio_nodes::{Entry, GrantFault, GrantKind, Holder, ReleaseAnswer};
+use trio_raw::RawFault;
 use trio_rights::LibNo;
-use trio_shared::{LibSeat, Shared};
+use trio_shared::Shared;
+
+/// What one of two libraries does with the file 3.
+#[derive(Clone, Copy)]
+enum Deed {
+    /// It asks for it for writing.
+    Asks,
+    /// It hands it in.
+    HandsIn,
+    /// The other looks at all that there is, and it sees what the other has seen.
+    Meets,
+}
+
+/// What it is told.
+#[derive(Clone, Copy, PartialEq)]
+enum Told {
+    Asked(Result<u32, GrantFault>),
+    HandedIn(Result<ReleaseAnswer, RawFault>),
+    Met,
+}
+
+// The first of two libraries does so.
+fn does<R: Wait>(rt: &R, shared: &Shared, one: &mut Player, other: &mut Player, deed: Deed) -> Told
+    requires one { Plays shared.now one.old }
+    requires other { Plays shared.now other.old }
+    ensures one { PlaysOn shared.now one.old one.new }
+    ensures other { PlaysOn shared.now other.old other.new }
+{
+    match deed {
+        Deed::Asks => Told::Asked(asks(rt, shared, one, 3, GrantKind::Write)),
+        Deed::HandsIn => Told::HandedIn(hands_in(rt, shared, one, 3)),
+        Deed::Meets => {
+            looks(rt, shared, other);
+            meets(shared, one, other);
+            Told::Met
+        }
+    }
+}
+
+// So does the one of the two whose turn it is.
+fn takes<R: Wait>(
+    rt: &R,
+    shared: &Shared,
+    one: &mut Player,
+    two: &mut Player,
+    is_first: bool,
+    deed: Deed,
+) -> Told
+    requires one { Plays shared.now one.old }
+    requires two { Plays shared.now two.old }
+    ensures one { PlaysOn shared.now one.old one.new }
+    ensures two { PlaysOn shared.now two.old two.new }
+{
+    if is_first {
+        does(rt, shared, one, two, deed)
+    } else {
+        does(rt, shared, two, one, deed)
+    }
+}
 
 // A library sees all that there is.
-fn looks<R: Wait>(rt: &R, shared: &Shared, seat: &mut LibSeat, raw: &Raw)
-    requires { Plays shared.now seat.old raw.now.has }
-    ensures on { PlaysOn shared.now seat.old seat.new raw.now.has }
-    ensures left { IsLeft seat.new }
+fn looks<R: Wait>(rt: &R, shared: &Shared, player: &mut Player)
+    requires { Plays shared.now player.old }
+    ensures on { PlaysOn shared.now player.old player.new }
+    ensures left { IsLeft player.new.seat }
 {
-    let _room = shared.make_room(rt, seat, 0, 0);
+    let _room = shared.make_room(rt, &mut player.seat, 0, 0);
 }
 
 // A library sees what another has seen, which has just looked.
-fn meets(shared: &Shared, one: &mut LibSeat, a: &Raw, other: &mut LibSeat, b: &Raw)
-    requires one { Plays shared.now one.old a.now.has }
-    requires other { Plays shared.now other.old b.now.has }
-    requires left { IsLeft other.old }
-    ensures one { PlaysOn shared.now one.old one.new a.now.has }
-    ensures other { PlaysOn shared.now other.old other.new b.now.has }
-    ensures saw { IsPrefix (seen other.old) (seen one.new) }
-    ensures stays { seen other.new ≡ seen other.old }
+fn meets(shared: &Shared, one: &mut Player, other: &mut Player)
+    requires one { Plays shared.now one.old }
+    requires other { Plays shared.now other.old }
+    requires left { IsLeft other.old.seat }
+    ensures one { PlaysOn shared.now one.old one.new }
+    ensures other { PlaysOn shared.now other.old other.new }
+    ensures saw { IsPrefix (seen other.old.seat) (seen one.new.seat) }
+    ensures stays { seen other.new.seat ≡ seen other.old.seat }
 {
-    shared.meet(one, other);
+    shared.meet(&mut one.seat, &mut other.seat);
 }
 
-// Whether a library that asks for the file 3 for writing is told Busy, by the write grant of library 1,
-// whose entry is the first.
-fn is_busy<R: Wait>(rt: &R, shared: &Shared, seat: &mut LibSeat, raw: &mut Raw) -> bool
-    requires { Plays shared.now seat.old raw.old.has }
-    ensures { PlaysOn shared.now seat.old seat.new raw.new.has }
-{
-    let busy = GrantFault::Busy(Holder {
-        lib: LibNo(1),
-        kind: GrantKind::Write,
-        entry: 0,
-    });
-    asks(rt, shared, seat, raw, 3, GrantKind::Write) == Err(busy)
-}
+/// Busy, by the write grant of library 1, whose entry is the first.
+const BUSY: Told = Told::Asked(Err(GrantFault::Busy(Holder {
+    lib: LibNo(1),
+    kind: GrantKind::Write,
+    entry: 0,
+})));
 
-// Whether it is lent the file.
-fn is_lent<R: Wait>(rt: &R, shared: &Shared, seat: &mut LibSeat, raw: &mut Raw) -> bool
-    requires { Plays shared.now seat.old raw.old.has }
-    ensures { PlaysOn shared.now seat.old seat.new raw.new.has }
-{
-    asks(rt, shared, seat, raw, 3, GrantKind::Write) == Ok(0)
-}
+/// Whether the first of the two does it, what it does, what it is told, and the libraries of the entries
+/// that there are then.
+type Step = (bool, Deed, Told, &'static [u32]);
 
-/// The libraries of the entries that there are after each step.
-const LIBS: [&[u32]; 6] = [&[1], &[1], &[1, 1], &[1, 1, 2], &[1, 1, 2], &[1, 1, 2, 2]];
+const STEPS: [Step; 6] = [
+    (true, Deed::Asks, Told::Asked(Ok(0)), &[1]),
+    (false, Deed::Asks, BUSY, &[1]),
+    (
+        true,
+        Deed::HandsIn,
+        Told::HandedIn(Ok(ReleaseAnswer::Accepted)),
+        &[1, 1],
+    ),
+    (false, Deed::Asks, Told::Asked(Ok(0)), &[1, 1, 2]),
+    (true, Deed::Meets, Told::Met, &[1, 1, 2]),
+    (
+        false,
+        Deed::HandsIn,
+        Told::HandedIn(Ok(ReleaseAnswer::Accepted)),
+        &[1, 1, 2, 2],
+    ),
+];
 
-// Whether one of the two is told in this step what it is to be.
-fn is_told<R: Wait>(
-    rt: &R,
-    shared: &Shared,
-    one: &mut LibSeat,
-    a: &mut Raw,
-    two: &mut LibSeat,
-    b: &mut Raw,
-    step: usize,
-) -> bool
-    requires one { Plays shared.now one.old a.old.has }
-    requires two { Plays shared.now two.old b.old.has }
-    ensures one { PlaysOn shared.now one.old one.new a.new.has }
-    ensures two { PlaysOn shared.now two.old two.new b.new.has }
-{
-    match step {
-        0 => is_lent(rt, shared, one, a),
-        1 => is_busy(rt, shared, two, b),
-        2 => is_accepted(rt, shared, one, a, 3),
-        3 => is_lent(rt, shared, two, b),
-        4 => {
-            looks(rt, shared, two, b);
-            meets(shared, one, a, two, b);
-            true
-        }
-        _ => is_accepted(rt, shared, two, b, 3),
-    }
-}
-
-// Whether they are told so in the first steps.
+// Whether each of these steps is told so.
 fn are_told<R: Wait>(
     rt: &R,
-    alloc: Global,
     shared: &Shared,
-    one: &mut LibSeat,
-    two: &mut LibSeat,
-    steps: usize,
+    one: &mut Player,
+    two: &mut Player,
+    steps: &[Step],
 ) -> bool
-    requires one { Sits shared.now one.old }
-    requires two { Sits shared.now two.old }
-    ensures one { SitsOn shared.now one.old one.new }
-    ensures two { SitsOn shared.now two.old two.new }
+    requires one { Plays shared.now one.old }
+    requires two { Plays shared.now two.old }
+    ensures one { PlaysOn shared.now one.old one.new }
+    ensures two { PlaysOn shared.now two.old two.new }
 {
-    let mut a = Raw::new(alloc, one.library());
-    let mut b = Raw::new(alloc, two.library());
     let mut are_told = true;
-    for step in 0..steps {
-        let is_told = is_told(rt, shared, one, &mut a, two, &mut b, step);
-        are_told = are_told && is_told;
+    for (is_first, deed, wanted, _) in steps {
+        let told = takes(rt, shared, one, two, *is_first, *deed);
+        are_told = are_told && told == *wanted;
     }
-    a.discard();
-    b.discard();
     are_told
-}
-
-// The same at the seats of a controller.
-fn seats_are_told<R: Wait>(
-    rt: &R,
-    alloc: Global,
-    shared: &Shared,
-    seats: &mut [LibSeat],
-    steps: usize,
-) -> bool
-    requires sit { AllSit shared.now seats.old }
-    requires two { library_count shared.now ≡ 2 }
-    ensures { AllSit shared.now seats.new }
-{
-    let (one, two) = seats.split_at_mut(1);
-    are_told(rt, alloc, shared, &mut one[0], &mut two[0], steps)
 }
 
 /// Whether these are the libraries of the entries of grants and of releases, in their order.
@@ -143,12 +155,13 @@ pub fn are_of(entries: &[Entry], libs: &[u32]) -> bool {
     entries.len() == libs.len() && entries.iter().zip(libs).all(is_of)
 }
 
-// Whether the first steps are told so, and the log of the closed controller has just these libraries'
-// entries.
-fn is_so<R: Wait>(rt: &R, alloc: Global, steps: usize, libs: &[u32]) -> Option<bool> {
-    let (shared, mut seats) = start(alloc, two_directories(alloc)?, 2)?;
-    let are_told = seats_are_told(rt, alloc, &shared, &mut seats, steps);
-    let ctl = close(shared, seats);
+// Whether the steps are told so, and the log of the closed controller has just these libraries' entries.
+fn is_so<R: Wait>(rt: &R, alloc: Global, steps: &[Step], libs: &[u32]) -> Option<bool> {
+    let (shared, first, second) = start_two(alloc, two_files(alloc)?, [ROOT, ROOT])?;
+    let mut one = seated(alloc, &shared, first);
+    let mut two = seated(alloc, &shared, second);
+    let are_told = are_told(rt, &shared, &mut one, &mut two, steps);
+    let ctl = close_two(alloc, shared, leaves(one), leaves(two))?;
     Some(are_told && are_of(ctl.log().entries(), libs))
 }
 
@@ -160,11 +173,9 @@ fn is_so<R: Wait>(rt: &R, alloc: Global, steps: usize, libs: &[u32]) -> Option<b
 /// has seen these three.
 #[test]
 fn calls_one_after_the_other(rt: HostRuntime) -> Result<(), Fail> {
-    for (k, libs) in LIBS.iter().enumerate() {
-        assert!(rt;
-            is_so(&rt, rt.alloc(), k + 1, libs) == Some(true),
-            "step {k}"
-        );
+    for (k, (_, _, _, libs)) in STEPS.iter().enumerate() {
+        let is_so = is_so(&rt, rt.alloc(), &STEPS[..k + 1], libs).ok_or("memory")?;
+        assert!(rt; is_so, "step {k}");
     }
     Ok(())
 }

@@ -1,14 +1,14 @@
 //! Scripts whose libraries ask for what others have, run with a thread for each library, and what their
 //! logs replay to.
 
-use crate::images::two_directories;
 use crate::replays::is_replayed;
-use crate::runs::ran;
+use crate::seats::two_directories;
 use std::alloc::Global;
 use std::sync::Wait;
-use std::test::Fail;
 use std::thread::Threads;
+use trio_ctl::Ctl;
 use trio_io::OpenGate;
+use trio_runner::{creds_of, run};
 use trio_script::read_script;
 
 /// How often each script is run.
@@ -53,24 +53,28 @@ grant write 2\npoke body 2 16 ffff\nrelease 2 - -\n\
 grant write 5\npoke block 5 0 8 ff\nrelease 5 - -\n\
 grant read 6\n";
 
-const SCRIPTS: &[&[u8]] = &[ONE_FILE, TWO_DIRECTORIES, WITH_HOSTILE];
+const SCRIPTS: [&[u8]; 3] = [ONE_FILE, TWO_DIRECTORIES, WITH_HOSTILE];
 
 // Whether the log of a script's run replays to the image that is settled then.
 fn replays<R: Threads + Wait + Sync>(rt: &R, alloc: Global, script: &[u8]) -> Option<bool> {
     let Ok(libs) = read_script(alloc, script) else {
         return None;
     };
-    let (mut ctl, _tolds) = ran(rt, alloc, two_directories(alloc)?, &libs, &OpenGate)?;
-    is_replayed(alloc, &mut ctl)
+    let creds = creds_of(alloc, &libs).ok()?;
+    let Ok(ctl) = Ctl::start(alloc, two_directories(alloc)?, creds) else {
+        return None;
+    };
+    let (mut ctl, _tolds) = run(rt, alloc, ctl, &libs, &OpenGate).ok()?;
+    let creds = creds_of(alloc, &libs).ok()?;
+    is_replayed(alloc, two_directories(alloc)?, &creds, &mut ctl)
 }
 
 /// However the calls of the libraries fall, the log of each run is that of the image at its end.
 #[test]
-fn the_log_of_each_run_replays(rt: HostRuntime) -> Result<(), Fail> {
+fn the_log_of_each_run_replays(rt: HostRuntime) {
     for script in SCRIPTS {
         for n in 0..RUNS {
             assert!(rt; replays(&rt, rt.alloc(), script) == Some(true), "run {n}");
         }
     }
-    Ok(())
 }

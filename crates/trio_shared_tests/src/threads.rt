@@ -1,14 +1,17 @@
 //! Four libraries in threads of their own, two hostile and two honest, and what their log replays to.
 
 ghost use Rattle.std.specs.Prelude.{◌≡◌, ◌<◌, length};
-ghost use Rattle.trio_shared_tests.specs.Sits.{AllSit, Plays, PlaysOn, Sits, SitsOn, WritesOn};
+ghost use Rattle.std.specs.Thread.{IsSync};
+ghost use Rattle.trio_shared_tests.specs.Sits.{Plays, PlaysOn, Sits, SitsOn, WritesOn};
 
-use crate::images::two_directories;
+use crate::Player;
 use crate::replays::is_replayed;
-use crate::seats::{allots, asks, close, is_accepted, is_given_back, is_mode_set, releases, start};
+use crate::seats::{
+    ROOT, allots, asks, changes_mode, close_four, gives_back, hands_in, leaves, releases, seated,
+    start_four, two_directories,
+};
 use std::alloc::Global;
 use std::sync::Wait;
-use std::sync::atomic::{AtomicU64, Ordering};
 use std::test::Fail;
 use std::thread::{self, Threads};
 use trio_ctl::Ctl;
@@ -53,51 +56,38 @@ impl Random {
 
 // ---- hostile libraries
 
-/// What a library that keeps to nothing has, with the numbers of what it may hand in.
+/// A library that keeps to nothing, with the numbers of what it may hand in.
 struct Rogue {
-    raw: Raw,
+    player: Player,
     files: Vec<u32>,
     pages: Vec<u32>,
     numbers: Vec<u32>,
     random: Random,
 }
 
-impl Rogue {
-    fn discard(self) {
-        let Rogue {
-            raw,
-            files: _,
-            pages: _,
-            numbers: _,
-            random: _,
-        } = self;
-        raw.discard();
-    }
-}
-
 // It asks for a file that it may hand in.
-fn takes<R: Wait>(rt: &R, shared: &Shared, seat: &mut LibSeat, rogue: &mut Rogue)
-    requires { Plays shared.now seat.old rogue.old.raw.has }
-    ensures { PlaysOn shared.now seat.old seat.new rogue.new.raw.has }
+fn takes<R: Wait>(rt: &R, shared: &Shared, rogue: &mut Rogue)
+    requires { Plays shared.now rogue.old.player }
+    ensures { PlaysOn shared.now rogue.old.player rogue.new.player }
 {
     let ino = rogue.random.below(10);
     let kind = match rogue.random.below(3) {
         0 => GrantKind::Hold,
         _ => GrantKind::Write,
     };
-    if asks(rt, shared, seat, &mut rogue.raw, ino, kind).is_ok() {
+    if asks(rt, shared, &mut rogue.player, ino, kind).is_ok() {
         let _pushed = rogue.files.push(ino);
     }
 }
 
 // It asks for pages and inode numbers.
-fn is_allotted<R: Wait>(rt: &R, shared: &Shared, seat: &mut LibSeat, rogue: &mut Rogue)
-    requires { Plays shared.now seat.old rogue.old.raw.has }
-    ensures { PlaysOn shared.now seat.old seat.new rogue.new.raw.has }
+fn is_allotted<R: Wait>(rt: &R, shared: &Shared, rogue: &mut Rogue)
+    requires { Plays shared.now rogue.old.player }
+    ensures { PlaysOn shared.now rogue.old.player rogue.new.player }
 {
     let count = rogue.random.below(3);
     let wanted = rogue.random.below(2);
-    let answer = allots(rt, shared, seat, &mut rogue.raw, count, wanted);
+    let answer = allots(rt, shared, &mut rogue.player, count, wanted);
     if let Ok(AllotAnswer::Given { pages, inodes }) = answer {
         notes(&mut rogue.pages, pages.as_slice());
         notes(&mut rogue.numbers, inodes.as_slice());
@@ -111,13 +101,13 @@ fn notes(all: &mut Vec<u32>, more: &[u32]) {
 }
 
 // It asks for another mode of a file.
-fn turns<R: Wait>(rt: &R, shared: &Shared, seat: &mut LibSeat, rogue: &mut Rogue)
-    requires { Plays shared.now seat.old rogue.old.raw.has }
-    ensures { PlaysOn shared.now seat.old seat.new rogue.new.raw.has }
+fn turns<R: Wait>(rt: &R, shared: &Shared, rogue: &mut Rogue)
+    requires { Plays shared.now rogue.old.player }
+    ensures { PlaysOn shared.now rogue.old.player rogue.new.player }
 {
     let ino = rogue.random.below(10);
     let mode = rogue.random.below(600) as u16;
-    let _is_set = is_mode_set(rt, shared, seat, &mut rogue.raw, ino, mode);
+    let _answer = changes_mode(rt, shared, &mut rogue.player, ino, mode);
 }
 
 // It writes a few bytes anywhere into what it has.
@@ -150,15 +140,14 @@ fn enters(raw: &mut Raw, random: &mut Random, files: &[u32], numbers: &[u32])
 }
 
 // It hands in all that it may.
-fn hands_all_in<R: Wait>(rt: &R, shared: &Shared, seat: &mut LibSeat, rogue: &mut Rogue)
-    requires { Plays shared.now seat.old rogue.old.raw.has }
-    ensures { PlaysOn shared.now seat.old seat.new rogue.new.raw.has }
+fn hands_all_in<R: Wait>(rt: &R, shared: &Shared, rogue: &mut Rogue)
+    requires { Plays shared.now rogue.old.player }
+    ensures { PlaysOn shared.now rogue.old.player rogue.new.player }
 {
     let answer = releases(
         rt,
         shared,
-        seat,
-        &mut rogue.raw,
+        &mut rogue.player,
         &rogue.files,
         &rogue.pages,
         &rogue.numbers,
@@ -171,232 +160,250 @@ fn hands_all_in<R: Wait>(rt: &R, shared: &Shared, seat: &mut LibSeat, rogue: &mu
 }
 
 // It hands in the last file that it was lent, and keeps the rest.
-fn hands_one_in<R: Wait>(rt: &R, shared: &Shared, seat: &mut LibSeat, rogue: &mut Rogue)
-    requires { Plays shared.now seat.old rogue.old.raw.has }
-    ensures { PlaysOn shared.now seat.old seat.new rogue.new.raw.has }
+fn hands_one_in<R: Wait>(rt: &R, shared: &Shared, rogue: &mut Rogue)
+    requires { Plays shared.now rogue.old.player }
+    ensures { PlaysOn shared.now rogue.old.player rogue.new.player }
 {
-    let ino = rogue.files.pop().unwrap_or(0);
-    if releases(rt, shared, seat, &mut rogue.raw, &[ino], &[], &[]).is_err() && ino != 0 {
+    let Some(ino) = rogue.files.pop() else {
+        return;
+    };
+    if hands_in(rt, shared, &mut rogue.player, ino).is_err() {
         let _pushed = rogue.files.push(ino);
     }
 }
 
-// It writes into what it has, and makes no call.
-fn writes(rogue: &mut Rogue)
-    ensures { WritesOn rogue.old.raw.has rogue.new.raw.has }
+// It does something.
+fn does<R: Wait>(rt: &R, shared: &Shared, rogue: &mut Rogue)
+    requires { Plays shared.now rogue.old.player }
+    ensures { PlaysOn shared.now rogue.old.player rogue.new.player }
 {
-    match rogue.random.below(3) {
-        0 => scribbles(
-            &mut rogue.raw,
-            &mut rogue.random,
-            &rogue.files,
-            &rogue.pages,
-        ),
-        _ => enters(
-            &mut rogue.raw,
-            &mut rogue.random,
-            &rogue.files,
-            &rogue.numbers,
-        ),
+    match rogue.random.below(16) {
+        0..=4 => takes(rt, shared, rogue),
+        5 => is_allotted(rt, shared, rogue),
+        6 => turns(rt, shared, rogue),
+        7..=9 => writes(shared, rogue),
+        10 => hands_one_in(rt, shared, rogue),
+        _ => hands_all_in(rt, shared, rogue),
     }
 }
 
-// It does something.
-fn does<R: Wait>(rt: &R, shared: &Shared, seat: &mut LibSeat, rogue: &mut Rogue)
-    requires { Plays shared.now seat.old rogue.old.raw.has }
-    ensures { PlaysOn shared.now seat.old seat.new rogue.new.raw.has }
+// It writes into what it has, and makes no call.
+fn writes(shared: &Shared, rogue: &mut Rogue)
+    requires { Plays shared.now rogue.old.player }
+    ensures { PlaysOn shared.now rogue.old.player rogue.new.player }
 {
-    match rogue.random.below(16) {
-        0..=4 => takes(rt, shared, seat, rogue),
-        5 => is_allotted(rt, shared, seat, rogue),
-        6 => turns(rt, shared, seat, rogue),
-        7..=9 => writes(rogue),
-        10 => hands_one_in(rt, shared, seat, rogue),
-        _ => hands_all_in(rt, shared, seat, rogue),
+    let raw = &mut rogue.player.raw;
+    match rogue.random.below(3) {
+        0 => scribbles(raw, &mut rogue.random, &rogue.files, &rogue.pages),
+        _ => enters(raw, &mut rogue.random, &rogue.files, &rogue.numbers),
     }
 }
 
 // All deeds of a hostile library, which hands in at last what it has.
-fn rages<R: Wait>(rt: &R, alloc: Global, shared: &Shared, seat: &mut LibSeat, random: Random)
-    requires { Sits shared.now seat.old }
-    ensures { SitsOn shared.now seat.old seat.new }
+fn rages<R: Wait>(rt: &R, alloc: Global, shared: &Shared, seat: LibSeat, random: Random) -> LibSeat
+    requires { Sits shared.now seat }
+    ensures { SitsOn shared.now seat result }
 {
     let mut rogue = Rogue {
-        raw: Raw::new(alloc, seat.library()),
+        player: seated(alloc, shared, seat),
         files: Vec::new(alloc),
         pages: Vec::new(alloc),
         numbers: Vec::new(alloc),
         random,
     };
     for _ in 0..DEEDS {
-        does(rt, shared, seat, &mut rogue);
+        does(rt, shared, &mut rogue);
     }
-    hands_all_in(rt, shared, seat, &mut rogue);
-    rogue.discard();
+    hands_all_in(rt, shared, &mut rogue);
+    let Rogue {
+        player,
+        files: _,
+        pages: _,
+        numbers: _,
+        random: _,
+    } = rogue;
+    leaves(player)
 }
 
 // ---- honest libraries
 
 // It writes a word into a file, where it is lent one. Whether that is accepted.
-fn is_edited<R: Wait>(
-    rt: &R,
-    shared: &Shared,
-    seat: &mut LibSeat,
-    raw: &mut Raw,
-    ino: u32,
-    letter: u8,
-) -> bool
-    requires { Plays shared.now seat.old raw.old.has }
-    ensures { PlaysOn shared.now seat.old seat.new raw.new.has }
+fn is_edited<R: Wait>(rt: &R, shared: &Shared, player: &mut Player, ino: u32, letter: u8) -> bool
+    requires { Plays shared.now player.old }
+    ensures { PlaysOn shared.now player.old player.new }
 {
-    if asks(rt, shared, seat, raw, ino, GrantKind::Write).is_err() {
+    if asks(rt, shared, player, ino, GrantKind::Write).is_err() {
         return true;
     }
     // no block is there where a hostile library has made the file empty
-    let _is_written = raw.poke(Spot::Block(ino, 0), 0, &[letter; 5]);
-    is_accepted(rt, shared, seat, raw, ino)
+    let _is_written = player.raw.poke(Spot::Block(ino, 0), 0, &[letter; 5]);
+    hands_in(rt, shared, player, ino) == Ok(ReleaseAnswer::Accepted)
 }
 
 // It looks at a file, where it is lent one.
-fn reads<R: Wait>(rt: &R, shared: &Shared, seat: &mut LibSeat, raw: &mut Raw, ino: u32) -> bool
-    requires { Plays shared.now seat.old raw.old.has }
-    ensures { PlaysOn shared.now seat.old seat.new raw.new.has }
+fn reads<R: Wait>(rt: &R, shared: &Shared, player: &mut Player, ino: u32) -> bool
+    requires { Plays shared.now player.old }
+    ensures { PlaysOn shared.now player.old player.new }
 {
-    let is_lent = asks(rt, shared, seat, raw, ino, GrantKind::Read).is_ok();
-    let is_back = is_given_back(rt, shared, seat, raw, ino);
+    let is_lent = asks(rt, shared, player, ino, GrantKind::Read).is_ok();
+    let is_back = gives_back(rt, shared, player, ino).is_ok();
     is_lent == is_back
 }
 
 // It does something. Whether that goes as it is to.
-fn is_done<R: Wait>(
-    rt: &R,
-    shared: &Shared,
-    seat: &mut LibSeat,
-    raw: &mut Raw,
-    random: &mut Random,
-) -> bool
-    requires { Plays shared.now seat.old raw.old.has }
-    ensures { PlaysOn shared.now seat.old seat.new raw.new.has }
+fn is_done<R: Wait>(rt: &R, shared: &Shared, player: &mut Player, random: &mut Random) -> bool
+    requires { Plays shared.now player.old }
+    ensures { PlaysOn shared.now player.old player.new }
 {
     let ino = FILES[random.below(3) as usize];
     let letter = b'a' + random.below(26) as u8;
     match random.below(3) {
-        0 => reads(rt, shared, seat, raw, ino),
-        _ => is_edited(rt, shared, seat, raw, ino, letter),
+        0 => reads(rt, shared, player, ino),
+        _ => is_edited(rt, shared, player, ino, letter),
     }
 }
 
-// All deeds of an honest library. Whether each goes as it is to.
-fn are_done<R: Wait>(
+// All deeds of an honest library, and whether each goes as it is to.
+fn works<R: Wait>(
     rt: &R,
     alloc: Global,
     shared: &Shared,
-    seat: &mut LibSeat,
-    random: &mut Random,
-) -> bool
-    requires { Sits shared.now seat.old }
-    ensures { SitsOn shared.now seat.old seat.new }
+    seat: LibSeat,
+    mut random: Random,
+) -> (LibSeat, bool)
+    requires { Sits shared.now seat }
+    ensures { SitsOn shared.now seat result.0 }
 {
-    let mut raw = Raw::new(alloc, seat.library());
+    let mut player = seated(alloc, shared, seat);
     let mut are_done = true;
     for _ in 0..DEEDS {
-        let is_done = is_done(rt, shared, seat, &mut raw, random);
+        let is_done = is_done(rt, shared, &mut player, &mut random);
         are_done = are_done && is_done;
     }
-    raw.discard();
-    are_done
+    (leaves(player), are_done)
 }
 
 // ---- four threads
 
-// All deeds of one of the four, counted from 0: the first two are hostile. An honest one for which
-// something goes wrong is counted.
-fn acts<R: Wait>(
+// The two hostile libraries at the same time.
+fn both_rage<R: Threads + Wait + Sync>(
     rt: &R,
     alloc: Global,
     shared: &Shared,
-    at: usize,
-    seat: &mut LibSeat,
+    one: LibSeat,
+    two: LibSeat,
     seed: u64,
-    wronged: &AtomicU64,
-)
-    requires { Sits shared.now seat.old }
-    ensures { SitsOn shared.now seat.old seat.new }
+) -> (LibSeat, LibSeat)
+    requires one { Sits shared.now one }
+    requires two { Sits shared.now two }
+    ensures one { SitsOn shared.now one result.0 }
+    ensures two { SitsOn shared.now two result.1 }
 {
-    let mut random = Random(seed.wrapping_add(at as u64));
-    if at < 2 {
-        rages(rt, alloc, shared, seat, random);
-    } else if !are_done(rt, alloc, shared, seat, &mut random) {
-        wronged.fetch_add(1, Ordering::SeqCst);
-    }
+    thread::join(
+        rt,
+        || -> LibSeat
+            requires { Sits shared.now one }
+            ensures { SitsOn shared.entry.now one result }
+        { rages(rt, alloc, shared, one, Random(seed)) },
+        || -> LibSeat
+            requires { Sits shared.now two }
+            ensures { SitsOn shared.entry.now two result }
+        { rages(rt, alloc, shared, two, Random(seed.wrapping_add(1))) },
+    )
+}
+
+// A library's seat, and whether all that the library did went as it was to.
+type Done = (LibSeat, bool);
+
+// The two honest libraries at the same time.
+fn both_work<R: Threads + Wait + Sync>(
+    rt: &R,
+    alloc: Global,
+    shared: &Shared,
+    one: LibSeat,
+    two: LibSeat,
+    seed: u64,
+) -> (Done, Done)
+    requires one { Sits shared.now one }
+    requires two { Sits shared.now two }
+    ensures one { SitsOn shared.now one result.0.0 }
+    ensures two { SitsOn shared.now two result.1.0 }
+{
+    thread::join(
+        rt,
+        || -> Done
+            requires { Sits shared.now one }
+            ensures { SitsOn shared.entry.now one result.0 }
+        { works(rt, alloc, shared, one, Random(seed)) },
+        || -> Done
+            requires { Sits shared.now two }
+            ensures { SitsOn shared.entry.now two result.0 }
+        { works(rt, alloc, shared, two, Random(seed.wrapping_add(1))) },
+    )
 }
 
 // All four at the same time.
-fn all_act<R: Threads + Wait + Sync>(
+fn all_do<R: Threads + Wait + Sync>(
     rt: &R,
     alloc: Global,
     shared: &Shared,
-    seats: &mut [LibSeat],
+    hostile: (LibSeat, LibSeat),
+    honest: (LibSeat, LibSeat),
     seed: u64,
-    wronged: &AtomicU64,
-)
-    requires { AllSit shared.now seats.old }
-    ensures { AllSit shared.now seats.new }
+) -> ((LibSeat, LibSeat), (Done, Done))
+    requires hostile { Sits shared.now hostile.0 × Sits shared.now hostile.1 }
+    requires honest { Sits shared.now honest.0 × Sits shared.now honest.1 }
+    ensures hostile { SitsOn shared.now hostile.0 result.0.0 × SitsOn shared.now hostile.1 result.0.1 }
+    ensures honest { SitsOn shared.now honest.0 result.1.0.0 × SitsOn shared.now honest.1 result.1.1.0 }
 {
-    let act = |at: usize, seat: &mut LibSeat|
-        requires { Sits shared.now seat.now }
-        ensures { SitsOn shared.entry.now seat.entry.now seat.exit.now }
-    { acts(rt, alloc, shared, at, seat, seed, wronged) };
-    thread::for_each_mut(rt, seats, 4, &act);
+    let ((one, two), (three, four)) = (hostile, honest);
+    thread::join(
+        rt,
+        || -> (LibSeat, LibSeat)
+            requires sync { IsSync R.row }
+            requires sit { Sits shared.now one × Sits shared.now two }
+            ensures { SitsOn shared.entry.now one result.0 × SitsOn shared.entry.now two result.1 }
+        { both_rage(rt, alloc, shared, one, two, seed) },
+        || -> (Done, Done)
+            requires sync { IsSync R.row }
+            requires sit { Sits shared.now three × Sits shared.now four }
+            ensures { SitsOn shared.entry.now three result.0.0 × SitsOn shared.entry.now four result.1.0 }
+        { both_work(rt, alloc, shared, three, four, seed.wrapping_add(2)) },
+    )
 }
 
 // ---- what the log has
 
-/// How many releases were accepted, and how many refused.
-struct Verdicts {
-    accepted: u32,
-    refused: u32,
-}
-
-impl Verdicts {
-    fn count(&mut self, entries: &[Entry]) {
-        for entry in entries {
-            match entry {
-                Entry::Raw {
-                    verdict: ReleaseAnswer::Accepted,
-                    ..
-                } => self.accepted = self.accepted.saturating_add(1),
-                Entry::Raw { .. } => self.refused = self.refused.saturating_add(1),
-                _ => {}
-            }
+// How many releases were accepted, and how many refused.
+fn verdicts(entries: &[Entry]) -> (u32, u32) {
+    let (mut accepted, mut refused) = (0_u32, 0_u32);
+    for entry in entries {
+        match entry {
+            Entry::Raw {
+                verdict: ReleaseAnswer::Accepted,
+                ..
+            } => accepted = accepted.saturating_add(1),
+            Entry::Raw { .. } => refused = refused.saturating_add(1),
+            _ => {}
         }
     }
+    (accepted, refused)
 }
 
-// The controller after a round, closed.
-fn played<R: Threads + Wait + Sync>(
-    rt: &R,
-    alloc: Global,
-    seed: u64,
-    wronged: &AtomicU64,
-) -> Option<Ctl> {
-    let (shared, mut seats) = start(alloc, two_directories(alloc)?, 4)?;
-    all_act(rt, alloc, &shared, &mut seats, seed, wronged);
-    Some(close(shared, seats))
+// The controller after a round, closed, and whether all that the honest ones did went well.
+fn played<R: Threads + Wait + Sync>(rt: &R, alloc: Global, seed: u64) -> Option<(Ctl, bool)> {
+    let (shared, hostile, honest) = start_four(alloc, two_directories(alloc)?, [ROOT; 4])?;
+    let (hostile, (third, fourth)) = all_do(rt, alloc, &shared, hostile, honest, seed);
+    let are_done = third.1 && fourth.1;
+    let ctl = close_four(alloc, shared, hostile, (third.0, fourth.0))?;
+    Some((ctl, are_done))
 }
 
-// Whether a round is as it is to be. Its verdicts are counted.
-fn is_good<R: Threads + Wait + Sync>(
-    rt: &R,
-    alloc: Global,
-    seed: u64,
-    verdicts: &mut Verdicts,
-) -> Option<bool> {
-    let wronged = AtomicU64::new(0);
-    let mut ctl = played(rt, alloc, seed, &wronged)?;
-    verdicts.count(ctl.log().entries());
-    let is_replayed = is_replayed(alloc, &mut ctl)?;
-    Some(is_replayed && wronged.load(Ordering::SeqCst) == 0)
+// Whether a round is as it is to be, and how many releases were accepted and refused in it.
+fn round<R: Threads + Wait + Sync>(rt: &R, alloc: Global, seed: u64) -> Option<(bool, (u32, u32))> {
+    let (mut ctl, are_done) = played(rt, alloc, seed)?;
+    let is_replayed = is_replayed(alloc, two_directories(alloc)?, &[ROOT; 4], &mut ctl)?;
+    Some((are_done && is_replayed, verdicts(ctl.log().entries())))
 }
 
 /// Two hostile libraries and two honest ones each do a thousand deeds in a thread of their own, many
@@ -404,16 +411,14 @@ fn is_good<R: Threads + Wait + Sync>(
 /// closed controller replays by the tree of one thread to the nodes of the settled image.
 #[test]
 fn the_log_of_four_threads_replays(rt: HostRuntime) -> Result<(), Fail> {
-    let mut verdicts = Verdicts {
-        accepted: 0,
-        refused: 0,
-    };
+    let (mut all_accepted, mut all_refused) = (0_u32, 0_u32);
     for seed in 0..ROUNDS {
-        let is_good = is_good(&rt, rt.alloc(), 4 * seed, &mut verdicts) == Some(true);
-        assert!(rt; is_good, "round {seed}");
+        let (is_so, (accepted, refused)) = round(&rt, rt.alloc(), 4 * seed).ok_or("memory")?;
+        assert!(rt; is_so, "round {seed}");
+        all_accepted = all_accepted.saturating_add(accepted);
+        all_refused = all_refused.saturating_add(refused);
     }
-    let Verdicts { accepted, refused } = verdicts;
-    assert!(rt; accepted > 10_000, "{accepted} accepted");
-    assert!(rt; refused > 100, "{refused} refused");
+    assert!(rt; all_accepted > 10_000, "{all_accepted} accepted");
+    assert!(rt; all_refused > 100, "{all_refused} refused");
     Ok(())
 }

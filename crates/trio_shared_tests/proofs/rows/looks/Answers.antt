@@ -9,7 +9,7 @@ returns-clause-on g c =
     record {
       plays = record {
         sits = record { is_seat = looked.seat.0; is_idle = looked.idle };
-        on_list = subst (λ (d : DeskSeen). OnList d.out c.args.raw.now.has) (sym looked.seen) c.requires.on_list;
+        on_list = subst (λ (d : DeskSeen). OnList d.out c.args.player.now.raw.has) (sym looked.seen) c.requires.on_list;
       };
       library = looked.seat.1.1;
     }

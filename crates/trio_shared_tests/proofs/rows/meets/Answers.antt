@@ -11,8 +11,8 @@ returns-clause-one c =
     record {
       plays = record {
         sits = record { is_seat = met.a.0; is_idle = met.own.1 ∙ c.requires.one.sits.is_idle };
-        on_list = subst (λ (d : DeskSeen). OnList d.out c.args.a.now.has)
-            (sym (met_alike c.args.shared.now one c.meet.new.a c.args.other.now met.a.1 met.a.0 c.requires.other.sits.is_seat met.one c.requires.left met.desk)) c.requires.one.on_list;
+        on_list = subst (λ (d : DeskSeen). OnList d.out one.raw.has)
+            (sym (met_alike c.args.shared.now one.seat c.meet.new.a c.args.other.now.seat met.a.1 met.a.0 c.requires.other.sits.is_seat met.one c.requires.left met.desk)) c.requires.one.on_list;
       };
       library = met.a.1.1;
     }

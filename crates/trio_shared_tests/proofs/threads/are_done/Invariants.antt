@@ -1,5 +1,0 @@
-use Rattle.trio_shared_tests.specs.Sits.{PlaysOn}
-use Rattle.trio_shared_tests.proofs.threads.are_done.Given as goal
-
-abbrev pub invariant-loop : goal.invariant-loop
-invariant-loop g l = PlaysOn l.shared l.fn.seat l.seat l.raw.has

@@ -1,0 +1,8 @@
+use Rattle.trio_shared_tests.proofs.Sitting.{plays_here, plays_then}
+use Rattle.trio_shared_tests.proofs.threads.rages.Goals as goal
+
+pub loop-init : goal.loop-init
+loop-init g c = plays_here _ _ c.seated.ensures.plays
+
+pub loop-preserved : goal.loop-preserved
+loop-preserved g c = plays_then _ _ _ _ c.loop.invariant c.does.ensures

@@ -1,0 +1,5 @@
+use Rattle.trio_shared_tests.specs.Sits.{PlaysOn}
+use Rattle.trio_shared_tests.proofs.threads.works.Given as goal
+
+abbrev pub invariant-loop : goal.invariant-loop
+invariant-loop g l = PlaysOn l.shared l.initial.player l.player
