@@ -1,12 +1,13 @@
 //! What a library that nobody trusts does with files that it was lent, a hold, and an allotted page and
 //! inode number: which bytes it writes and sees, and what it may name.
 
+ghost use Rattle.std.specs.Prelude.{◌≡◌, length};
 ghost use Rattle.trio_raw.specs.Has.{OnList};
 
 use crate::controllers::start_with;
 use crate::images::image_of;
 use std::alloc::Global;
-use trio_ctl::PlainDesk;
+use trio_ctl::{Ctl, PlainDesk};
 use trio_desk::Desk;
 use trio_nodes::{AllotAnswer, GrantKind, Spot};
 use trio_page::NoMemory;
@@ -137,11 +138,21 @@ fn plays<D: Desk>(alloc: Global, desk: &mut D, deed: Deed) -> bool {
     told
 }
 
+fn plays_on(alloc: Global, ctl: &mut Ctl, deed: Deed) -> bool
+    requires { length ctl.old.state.creds ≡ 2 }
+{
+    if ctl.idle(LibNo(1)) {
+        let mut desk = PlainDesk::of(ctl, LibNo(1));
+        plays(alloc, &mut desk, deed)
+    } else {
+        false
+    }
+}
+
 fn is_played(alloc: Global, deed: Deed) -> Option<bool> {
     let image = image_of(alloc, &image_bytes(alloc).ok()?)?;
     let mut ctl = start_with(alloc, image, 0)?;
-    let mut desk = PlainDesk::of(&mut ctl, LibNo(1));
-    Some(plays(alloc, &mut desk, deed))
+    Some(plays_on(alloc, &mut ctl, deed))
 }
 
 const DEEDS: &[Deed] = &[
