@@ -21,9 +21,9 @@ use Rattle.trio_allot.proofs.OutLemmas.{with_all-push}
 use Rattle.trio_layout.specs.Listing.{Listing, ListedEntry, ListedFile}
 use Rattle.trio_layout.specs.Edges.{has_file, is_listed}
 use Rattle.trio_layout.specs.Tables.{gives_up, owner_after, placed_row, row_after}
-use Rattle.trio_judge.specs.declared.listing.ListedFile.{ListedFile as FileData}
-use Rattle.trio_judge.specs.declared.listing.ListedEntry.{ListedEntry as EntryData}
-use Rattle.trio_judge.specs.Listed.{entry_seen}
+use Rattle.trio_case.specs.declared.listing.ListedFile.{ListedFile as FileData}
+use Rattle.trio_case.specs.declared.listing.ListedEntry.{ListedEntry as EntryData}
+use Rattle.trio_case.specs.Listed.{entry_seen}
 use Rattle.trio_rights.specs.Sheets.{sheet_numbers}
 use Rattle.trio_lease.specs.declared.parts.LentPage.{LentPage}
 use Rattle.trio_commit.specs.inner.Files.{lent_sheets}

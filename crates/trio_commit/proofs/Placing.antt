@@ -20,8 +20,8 @@ use Rattle.trio_layout.specs.Accept.{with_bodies, with_body_at, with_body_in}
 use Rattle.trio_layout.specs.JudgedFiles.{written_at}
 use Rattle.trio_layout.specs.Listing.{ListedEntry}
 use Rattle.trio_layout.specs.Survey.{Met}
-use Rattle.trio_judge.specs.declared.listing.ListedEntry.{ListedEntry as EntryData}
-use Rattle.trio_judge.specs.Listed.{entry_seen}
+use Rattle.trio_case.specs.declared.listing.ListedEntry.{ListedEntry as EntryData}
+use Rattle.trio_case.specs.Listed.{entry_seen}
 use Rattle.trio_checkpoint.specs.Covered.{Checkpointed}
 use Rattle.trio_checkpoint.proofs.Bodies.{numbers_stay}
 use Rattle.trio_commit.specs.Store.{checkpoint_at}

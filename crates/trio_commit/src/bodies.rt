@@ -5,7 +5,7 @@ ghost use Rattle.std.specs.Option.{option_copied, option_map};
 ghost use Rattle.std.specs.List.{find};
 ghost use Rattle.trio_layout.specs.Accept.{with_bodies, with_body_at};
 ghost use Rattle.trio_layout.specs.Survey.{Met};
-ghost use Rattle.trio_judge.specs.Listed.{entry_seen};
+ghost use Rattle.trio_case.specs.Listed.{entry_seen};
 ghost use Rattle.trio_commit.specs.Bodies.{bodies_home, kept_body, kept_children, page_changes, placed_files, root_after, with_children};
 ghost use Rattle.trio_commit.specs.Listed.{StandsInSlots};
 ghost use Rattle.trio_commit.specs.Store.{checkpoint_at};
@@ -14,7 +14,7 @@ ghost use Rattle.trio_commit.specs.inner.Putting.{ArePlaced, Covers, IsAway, Nam
 
 use crate::taken_page::{TakenPage, put_body_home};
 use trio_checkpoint::Checkpoint;
-use trio_judge::ListedEntry;
+use trio_case::ListedEntry;
 use trio_lease::WriteLease;
 use trio_page::{Home, PageNo, Reads};
 use trio_tables::{Row, Shadow};

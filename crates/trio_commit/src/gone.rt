@@ -5,7 +5,7 @@ ghost use Rattle.std.specs.List.{list_any};
 ghost use Rattle.trio_layout.specs.Edges.{is_listed};
 ghost use Rattle.trio_commit.specs.inner.Tables.{is_gone};
 
-use trio_judge::Listing;
+use trio_case::Listing;
 
 /// Whether an entry names this number.
 #[tactic(auto, using(crate::proofs::Naming::listed_by_dir))]

@@ -7,7 +7,7 @@ ghost use Rattle.trio_commit.specs.Listed.{HasPagesBelow};
 ghost use Rattle.trio_commit.specs.inner.Tables.{is_gone, owner_listed, owner_staying};
 
 use crate::gone::{is_any_gone, is_gone};
-use trio_judge::Listing;
+use trio_case::Listing;
 use trio_page::PageNo;
 use trio_tables::Owners;
 

@@ -7,12 +7,12 @@ ghost use Rattle.trio_rights.specs.Row.{row_in};
 ghost use Rattle.trio_tables.specs.Row.{as_row};
 ghost use Rattle.trio_layout.specs.Edges.{is_listed};
 ghost use Rattle.trio_layout.specs.Tables.{placed_row, row_after};
-ghost use Rattle.trio_judge.specs.Listed.{entry_seen};
+ghost use Rattle.trio_case.specs.Listed.{entry_seen};
 ghost use Rattle.trio_commit.specs.Listed.{HasNumbersBelow};
 ghost use Rattle.trio_commit.specs.inner.Tables.{is_gone, row_judged, row_moved};
 
 use crate::gone::is_listed;
-use trio_judge::{ListedEntry, ListedFile, Listing};
+use trio_case::{ListedEntry, ListedFile, Listing};
 use trio_tables::{Row, Shadow};
 
 /// Puts the rows in place: a judged file has the row that is listed, any other file that an entry

@@ -23,7 +23,7 @@ use crate::restoring::{end_grants, restore_written};
 use crate::rows::put_rows;
 use trio_allot::Allotments;
 use trio_checkpoint::Checkpoint;
-use trio_judge::Listing;
+use trio_case::Listing;
 use trio_lease::Bundle;
 use trio_page::{Home, Reads};
 use trio_rights::LibNo;

@@ -10,7 +10,7 @@ use Rattle.trio_layout.specs.declared.range.CoreRange.{CoreRange}
 use Rattle.trio_lease.specs.Bundles.{Bundled}
 use Rattle.trio_lease.specs.Views.{bundle_in}
 use Rattle.trio_lease.specs.declared.parts.HoldParts.{HoldParts}
-use Rattle.trio_judge.specs.Cases.{CaseShown, held_in, case_in as case_shown}
+use Rattle.trio_case.specs.Cases.{CaseShown, held_in, case_in as case_shown}
 use Rattle.trio_state.specs.Kept.{Kept}
 use Rattle.trio_state.specs.State.{State, settled}
 use Rattle.trio_state.specs.Tells.{case_in}

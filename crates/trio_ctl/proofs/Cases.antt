@@ -32,7 +32,7 @@ use Rattle.trio_state.specs.Given.{GivenTo}
 use Rattle.trio_state.specs.State.{OpenGrant, State, creds_of}
 use Rattle.trio_laws.proofs.Bundles.{held_unwritten}
 use Rattle.trio_laws.proofs.judgement.CaseFacts.{new_dead, written_row}
-use Rattle.trio_judge.specs.Cases.{CaseShown, IsJudgeable, is_free_number}
+use Rattle.trio_case.specs.Cases.{CaseShown, IsJudgeable, is_free_number}
 use Rattle.trio_commit.specs.declared.store.Store.{Store}
 use Rattle.trio_commit.specs.Store.{state_of, with_checkpoint}
 use Rattle.trio_state.specs.Moves.{Outline}

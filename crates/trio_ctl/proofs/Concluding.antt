@@ -29,7 +29,7 @@ use Rattle.trio_layout.specs.Core.{Location}
 use Rattle.trio_layout.specs.Listing.{Listing, listing}
 use Rattle.trio_layout.specs.Copied.{with_copied}
 use Rattle.trio_layout.specs.Rules.{meets_grammar, meets_owning, meets_rights, meets_rules}
-use Rattle.trio_judge.specs.Listed.{Listed}
+use Rattle.trio_case.specs.Listed.{Listed}
 use Rattle.trio_judge.specs.Verdicts.{meets_three}
 use Rattle.trio_judge.specs.declared.verdict.Verdict.{Verdict}
 use Rattle.trio_judge.specs.declared.verdict.Verdict.TheVariants.{Broken, Sound}

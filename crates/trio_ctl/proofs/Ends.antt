@@ -26,7 +26,7 @@ use Rattle.trio_layout.specs.Allowed.{has_kind}
 use Rattle.trio_lease.specs.Bundles.{Bundled}
 use Rattle.trio_lease.specs.Shown.{LentFile}
 use Rattle.trio_lease.specs.Views.{bundle_in, written_in}
-use Rattle.trio_judge.specs.Cases.{CaseShown, case_in as case_shown}
+use Rattle.trio_case.specs.Cases.{CaseShown, case_in as case_shown}
 use Rattle.trio_ctl.proofs.Cases.{same_self}
 use Rattle.trio_ctl.specs.Answers.{release_fault_answer, verdict_of}
 

@@ -37,7 +37,7 @@ use Rattle.trio_laws.proofs.Standing.{has_parent}
 use Rattle.trio_laws.proofs.StateFacts.{lent_file, tables}
 use Rattle.trio_laws.proofs.judgement.CaseFacts.{new_not_live, no_row_zero, root_row, row_of_met, written_row}
 use Rattle.trio_laws.proofs.judgement.JudgedFacts.{judged_from, new_from, written_ino, written_kind}
-use Rattle.trio_judge.specs.Cases.{HasDirectoryParents}
+use Rattle.trio_case.specs.Cases.{HasDirectoryParents}
 use Rattle.trio_edges.specs.Leaves.{RegularFilesAreLeaves}
 
 numbers_flat_map : (F : Written → List Sheet) (ws : List Written) → sheet_numbers (flat_map F ws) ≡ flat_map (λ w. sheet_numbers (F w)) ws

@@ -9,7 +9,7 @@ use Rattle.trio_layout.specs.Case.{Case}
 use Rattle.trio_layout.specs.Copied.{with_copied}
 use Rattle.trio_layout.specs.Image.{Image}
 use Rattle.trio_log.specs.Logged.{Logged}
-use Rattle.trio_judge.specs.Cases.{CaseShown, case_in as case_shown}
+use Rattle.trio_case.specs.Cases.{CaseShown, case_in as case_shown}
 use Rattle.trio_rights.specs.Row.{Row, row_in}
 use Rattle.trio_entries.specs.Telling.{AreNoted, whole_case}
 use Rattle.trio_layout.specs.Listing.{listing}
@@ -22,7 +22,7 @@ use Rattle.trio_lease.specs.declared.parts.LentPage.{LentPage}
 use Rattle.trio_rights.specs.Bundle.{Bundle, Written}
 use Rattle.trio_rights.specs.Sheets.{Sheet}
 use Rattle.trio_rights.specs.declared.rights.LibNo.{LibNo}
-use Rattle.trio_judge.specs.Listed.{Listed}
+use Rattle.trio_case.specs.Listed.{Listed}
 use Rattle.trio_nodes.specs.declared.answers.ReleaseAnswer.{ReleaseAnswer}
 use Rattle.trio_nodes.specs.declared.answers.ReleaseAnswer.TheVariants.{Accepted, Refused}
 use Rattle.trio_nodes.specs.declared.entry.Entry.{Entry}

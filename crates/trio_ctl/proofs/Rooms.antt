@@ -8,7 +8,7 @@ use Rattle.trio_lease.specs.Views.{bundle_in, written_in}
 use Rattle.trio_lists.specs.Lists.{In}
 use Rattle.trio_lists.proofs.Members.{map-In}
 use Rattle.trio_layout.proofs.Walks.{pigeons}
-use Rattle.trio_judge.proofs.Making.{few_pages}
+use Rattle.trio_case.proofs.Making.{few_pages}
 use Rattle.trio_tables.proofs.OutLemmas.{within_some}
 use Rattle.trio_state.specs.Given.{GivenTo}
 use Rattle.trio_state.specs.Kept.{Kept}

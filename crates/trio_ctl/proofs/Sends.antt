@@ -2,7 +2,7 @@
 use denote.Param.Send.{IsSend, sendable}
 use Rattle.std.proofs.Crossing.{crosses}
 use Rattle.std.proofs.MapsCrossing as maps
-use Rattle.trio_judge.specs.contracts.index.PageIndex as page_index
+use Rattle.trio_case.specs.contracts.index.PageIndex as page_index
 use Rattle.trio_nodes.specs.contracts.entry.RawFile as raw_file
 use Rattle.trio_nodes.specs.contracts.entry.HandedFile as handed_file
 use Rattle.trio_nodes.specs.contracts.entry.AllotAnswer as allot_answer

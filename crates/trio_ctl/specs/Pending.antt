@@ -6,7 +6,7 @@ use Rattle.trio_lease.specs.Shown.{all_touched}
 use Rattle.trio_lease.specs.Views.{bundle_in}
 use Rattle.trio_layout.specs.Case.{Case}
 use Rattle.trio_layout.specs.Copied.{copied_rows}
-use Rattle.trio_judge.specs.Cases.{CaseShown, case_in}
+use Rattle.trio_case.specs.Cases.{CaseShown, case_in}
 use Rattle.trio_judge.specs.Verdicts.{HasFewEntries, HasListing, IsLowest, is_sound, meets_three}
 use Rattle.trio_judge.specs.declared.verdict.Verdict.{Verdict}
 use Rattle.trio_state.specs.Moves.{IsFull}

@@ -2,7 +2,7 @@
 
 ghost use Rattle.std.specs.Prelude.{◌≡◌, ◌≢◌, ◌+◌, ◌↔◌, IfErr, IfOk, IsTrue, None, OnErr, OnOk, Some};
 ghost use Rattle.trio_lease.specs.Views.{bundle_in};
-ghost use Rattle.trio_judge.specs.Cases.{case_in as case_shown};
+ghost use Rattle.trio_case.specs.Cases.{case_in as case_shown};
 ghost use Rattle.trio_judge.specs.Judging.{IsJudgeRoom};
 ghost use Rattle.trio_state.specs.Given.{GivenTo};
 ghost use Rattle.trio_state.specs.Moves.{Beginning, IsAwaited, begun_by, outline_of, with_begun};
@@ -15,7 +15,8 @@ ghost use Rattle.trio_ctl.specs.inner.Beginning.{HaveBodies, IsCopy, underway_at
 
 use crate::begun::Begun;
 use crate::registry::Registry;
-use trio_judge::{Case, Room};
+use trio_case::Case;
+use trio_judge::Room;
 use trio_lease::Bundle;
 use trio_nodes::ReleaseFault;
 use trio_open::belongs::have_bodies;

@@ -9,7 +9,8 @@ ghost use Rattle.trio_ctl.specs.Pending.{IsVerdict};
 ghost use Rattle.trio_ctl.specs.inner.Outcomes.{HasFew, IsOutcome};
 
 use trio_edges::edges;
-use trio_judge::{Listing, Verdict};
+use trio_case::Listing;
+use trio_judge::Verdict;
 use trio_tables::Shadow;
 
 /// What comes of a bundle.

@@ -3,7 +3,7 @@
 ghost use Rattle.std.specs.Prelude.{◌≡◌, ◌≤◌, ◌+◌, ◌*◌, ◌↔◌, ℕ, IfSome, IsSome, IsTrue, Some, length};
 ghost use Rattle.trio_rights.specs.Bundle.{bundle_pages};
 ghost use Rattle.trio_lease.specs.Views.{bundle_in};
-ghost use Rattle.trio_judge.specs.Cases.{case_in};
+ghost use Rattle.trio_case.specs.Cases.{case_in};
 ghost use Rattle.trio_judge.specs.Judging.{IsJudgeRoom};
 ghost use Rattle.trio_judge.specs.Verdicts.{meets_three, HasFewEntries, HasListing, IsLowest, is_sound};
 ghost use Rattle.trio_entries.specs.Handed.{handed_in};
@@ -11,7 +11,8 @@ ghost use Rattle.trio_ctl.specs.Pending.{all_marked, IsWeighed};
 
 use crate::same::is_same;
 use std::marker::Model;
-use trio_judge::{Case, Room, Verdict, judge};
+use trio_case::Case;
+use trio_judge::{Room, Verdict, judge};
 use trio_nodes::Handed;
 use trio_open::full::is_full;
 use trio_page::{Page, PageNo, Reads};
@@ -30,7 +31,7 @@ pub struct Pending {
 }
 
 impl Model for Pending {
-    ghost use Rattle.trio_judge.specs.Cases.{CaseShown};
+    ghost use Rattle.trio_case.specs.Cases.{CaseShown};
     ghost use Rattle.trio_judge.specs.Judging.{IsJudgeRoom};
 
     ghost Value = { CaseShown };

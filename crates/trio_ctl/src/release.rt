@@ -4,7 +4,7 @@ ghost use Rattle.std.specs.Prelude.{◌≡◌, ◌≤◌, ◌+◌, ◌*◌, IfEr
 ghost use Rattle.trio_rights.specs.Bundle.{bundle_pages};
 ghost use Rattle.trio_lease.specs.Views.{bundle_in};
 ghost use Rattle.trio_layout.specs.Copied.{with_copied};
-ghost use Rattle.trio_judge.specs.Cases.{IsJudgeable, case_in as case_shown};
+ghost use Rattle.trio_case.specs.Cases.{IsJudgeable, case_in as case_shown};
 ghost use Rattle.trio_judge.specs.Judging.{IsJudgeRoom};
 ghost use Rattle.trio_judge.specs.Verdicts.{HasFewEntries};
 ghost use Rattle.trio_state.specs.Bundles.{parted_hold};
@@ -24,7 +24,8 @@ ghost use Rattle.trio_ctl.specs.inner.Outcomes.{HasFew, IsOutcome, verdict_on};
 
 use crate::outcome::{Outcome, outcome_of};
 use crate::registry::Registry;
-use trio_judge::{Case, Room, Verdict, judge};
+use trio_case::Case;
+use trio_judge::{Room, Verdict, judge};
 use trio_lease::Bundle;
 use trio_nodes::{ReleaseAnswer, ReleaseFault};
 use trio_open::closing::end_files;

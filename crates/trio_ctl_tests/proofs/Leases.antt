@@ -19,7 +19,7 @@ use Rattle.trio_layout.specs.Image.{row_at}
 use Rattle.trio_state.specs.Grants.{opened}
 use Rattle.trio_state.specs.State.{State}
 use Rattle.trio_state.specs.Step.{Grant, Step}
-use Rattle.trio_judge.specs.Cases.{CaseShown}
+use Rattle.trio_case.specs.Cases.{CaseShown}
 use Rattle.trio_ctl.proofs.Given.{granted_is_lent}
 use Rattle.trio_ctl.specs.Answers.{grant_answer}
 use Rattle.trio_open.specs.Open.{lent_by}

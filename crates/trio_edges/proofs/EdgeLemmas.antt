@@ -18,7 +18,7 @@ use Rattle.trio_layout.specs.Edges.{climbs_clear, comes_to_root, has_file, is_li
 use Rattle.trio_layout.specs.Broken.{BreaksEdges}
 use Rattle.trio_edges.specs.inner.Steps.{drops_parent, is_clear, is_regular, IsLost}
 use Rattle.trio_tables.specs.Row.{as_row}
-use Rattle.trio_judge.specs.declared.listing.ListedFile.{ListedFile as FileData}
+use Rattle.trio_case.specs.declared.listing.ListedFile.{ListedFile as FileData}
 use Rattle.trio_edges.specs.Leaves.{RegularFilesAreLeaves}
 
 all_up : (p : ℕ → Bool) (n : ℕ) → ((k : ℕ) → p k ≡ true) → all_up_to p n ≡ true

@@ -7,11 +7,11 @@ ghost use Rattle.std.specs.List.{list_all};
 ghost use Rattle.trio_tables.specs.Row.{as_row};
 ghost use Rattle.trio_layout.specs.Broken.{BreaksEdges};
 ghost use Rattle.trio_layout.specs.Edges.{climbs_clear, comes_to_root, meets_edges, proposed_parent, stays_listed};
-ghost use Rattle.trio_judge.specs.Listed.{entry_seen};
+ghost use Rattle.trio_case.specs.Listed.{entry_seen};
 ghost use Rattle.trio_edges.specs.Leaves.{RegularFilesAreLeaves};
 ghost use Rattle.trio_edges.specs.inner.Steps.{drops_parent, is_clear, is_regular, IsLost};
 
-use trio_judge::{ListedEntry, ListedFile, Listing};
+use trio_case::{ListedEntry, ListedFile, Listing};
 use trio_rights::Kind;
 use trio_tables::{Row, Shadow};
 

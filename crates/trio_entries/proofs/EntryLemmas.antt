@@ -8,7 +8,7 @@ use Rattle.std.specs.Str.{bytes_eq}
 use Rattle.trio_names.proofs.NameFacts.{name_facts}
 use Rattle.trio_rights.specs.Row.{Row}
 use Rattle.trio_rights.specs.declared.kind.Kind.TheVariants.{Regular}
-use Rattle.trio_judge.specs.declared.listing.ListedEntry.{ListedEntry as EntryData}
+use Rattle.trio_case.specs.declared.listing.ListedEntry.{ListedEntry as EntryData}
 use Rattle.trio_layout.specs.declared.slot.EntryPart.{EntryPart}
 use Rattle.trio_layout.specs.declared.slot.SlotRead.TheVariants.{Empty, Entry, Bad}
 use Rattle.trio_layout.specs.Case.{Case}

@@ -22,8 +22,8 @@ use Rattle.trio_layout.specs.Listing.{Listing, ListedFile, file_listed, listing}
 use Rattle.trio_layout.specs.Rules.{entry_is_own, meets_grammar, meets_owning, meets_rights, meets_rules}
 use Rattle.trio_layout.specs.Survey.{FileRead, Met, numbers}
 use Rattle.trio_layout.proofs.Walks.{fronts_keep}
-use Rattle.trio_judge.proofs.Listings.{listed_pages}
-use Rattle.trio_judge.proofs.Noting.{no_more}
+use Rattle.trio_case.proofs.Listings.{listed_pages}
+use Rattle.trio_case.proofs.Distinct.{no_more}
 use Rattle.trio_nodes.specs.declared.entry.HandedFile.{HandedFile}
 use Rattle.trio_nodes.specs.declared.entry.RawFile.{RawFile}
 use Rattle.trio_state.specs.Listed.{blocks_listed_of, lent_blocks}

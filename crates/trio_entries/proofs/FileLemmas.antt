@@ -16,7 +16,7 @@ use Rattle.trio_layout.specs.Edges.{is_listed}
 use Rattle.trio_layout.specs.Listing.{Listing, ListedEntry, ListedFile}
 use Rattle.trio_layout.specs.Slot.{entry_at, entry_bytes, entry_fits, slot_of}
 use Rattle.trio_layout.specs.Tables.{placed_row, row_after}
-use Rattle.trio_judge.specs.Order.{place_of}
+use Rattle.trio_case.specs.Order.{place_of}
 use Rattle.trio_state.specs.Listed.{size_in, written_size}
 use Rattle.trio_entries.proofs.Finding.{find-any, find-map, place_found}
 

@@ -13,8 +13,8 @@ use Rattle.trio_lists.specs.Lists.{In, are_new, is_among}
 use Rattle.trio_lists.proofs.Filters.{get_or-In, In-get_or}
 use Rattle.trio_lists.proofs.Members.{In-is_among, In-map, is_among-In}
 use Rattle.trio_lists.proofs.New.{are_new-first, is_among-not}
-use Rattle.trio_judge.specs.Order.{place_of}
-use Rattle.trio_judge.proofs.Ordered.{place_has, place_none}
+use Rattle.trio_case.specs.Order.{place_of}
+use Rattle.trio_case.proofs.Ordered.{place_has, place_none}
 
 -- ---- places
 

@@ -20,8 +20,8 @@ use Rattle.trio_layout.specs.JudgedFiles.{judged_entries, judged_pages}
 use Rattle.trio_layout.specs.Listing.{Listing, ListedEntry, entry_listed, listing}
 use Rattle.trio_layout.specs.Rules.{entry_is_own, meets_grammar, meets_owning, meets_rights, meets_rules}
 use Rattle.trio_layout.specs.Survey.{Met, numbers}
-use Rattle.trio_judge.specs.Cases.{CaseShown}
-use Rattle.trio_judge.proofs.Ordered.{order_length}
+use Rattle.trio_case.specs.Cases.{CaseShown}
+use Rattle.trio_case.proofs.Ordered.{order_length}
 use Rattle.trio_state.specs.Listed.{Notes}
 use Rattle.trio_entries.specs.Telling.{whole_case, AreNoted}
 use Rattle.trio_entries.specs.inner.Finding.{AreWrittenNoted, IsToldBy}

@@ -5,8 +5,8 @@ use Rattle.trio_lists.specs.Lists.{In, are_new}
 use Rattle.trio_lists.specs.Sorting.{inserted_by, sorted_by}
 use Rattle.trio_lists.proofs.Gathered.{one_keyed}
 use Rattle.trio_lists.proofs.Sorting.{sorted_in}
-use Rattle.trio_judge.specs.Order.{in_order}
-use Rattle.trio_judge.proofs.Unstable.{permuted_in, sorted_numbers}
+use Rattle.trio_case.specs.Order.{in_order}
+use Rattle.trio_case.proofs.Unstable.{permuted_in, sorted_numbers}
 
 module _ {X : Type 0} (key : X → ℕ) where
   -- what has the same numbers is the same, where each number has one element

@@ -20,8 +20,8 @@ use Rattle.trio_layout.specs.Case.{Case}
 use Rattle.trio_layout.specs.Edges.{is_listed}
 use Rattle.trio_layout.specs.Listing.{Listing, ListedEntry}
 use Rattle.trio_layout.specs.Tables.{row_after}
-use Rattle.trio_judge.specs.Cases.{CaseShown}
-use Rattle.trio_judge.proofs.Starting.{writes_of}
+use Rattle.trio_case.specs.Cases.{CaseShown}
+use Rattle.trio_case.proofs.CaseRows.{writes_of}
 use Rattle.trio_nodes.specs.declared.entry.RawFile.{RawFile}
 use Rattle.trio_state.specs.Listed.{Notes, entry_name, entry_size, is_untold, noted_name, noted_size, size_in, told_entry, told_gone, told_row, told_same, told_written}
 use Rattle.trio_entries.specs.Telling.{whole_case}

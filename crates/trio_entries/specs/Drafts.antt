@@ -3,7 +3,7 @@ use Rattle.std.specs.Prelude.{ℕ, ◌≡◌, ◌+◌, ◌*◌, ◌≤◌, List,
 use Rattle.std.specs.Global.{Vec}
 use Rattle.std.specs.List.{flat_map, All}
 use Rattle.trio_state.specs.Moves.{FileOutline, Outline}
-use Rattle.trio_judge.specs.Indexed.{HasPlacesFor}
+use Rattle.trio_case.specs.Indexed.{HasPlacesFor}
 use Rattle.trio_entries.specs.inner.Finding.{ArePlaces}
 use Rattle.trio_entries.specs.declared.handed.Room.{Room}
 use Rattle.trio_entries.specs.declared.handed.FileRoom.{FileRoom}

@@ -2,7 +2,7 @@
 use Rattle.std.specs.Prelude.{ℕ, ◌≡◌, true, List, Option, None, is_some, slice_index_or}
 use Rattle.trio_rights.specs.Row.{Row, row_in}
 use Rattle.trio_layout.specs.Case.{Case}
-use Rattle.trio_judge.specs.Cases.{CaseShown, case_in}
+use Rattle.trio_case.specs.Cases.{CaseShown, case_in}
 use Rattle.trio_state.specs.Listed.{Notes}
 
 -- the case of a bundle, with all rows of the image

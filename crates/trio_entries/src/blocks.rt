@@ -6,7 +6,7 @@ ghost use Rattle.std.specs.Option.{option_map, option_map_or};
 ghost use Rattle.trio_rights.specs.Row.{Row};
 ghost use Rattle.trio_lease.specs.Bundles.{Bundled};
 ghost use Rattle.trio_lease.specs.Views.{bundle_in};
-ghost use Rattle.trio_judge.specs.Places.{bytes_at};
+ghost use Rattle.trio_case.specs.Places.{bytes_at};
 ghost use Rattle.trio_nodes.specs.Told.{block_in, page_in};
 ghost use Rattle.trio_nodes.specs.declared.entry.Handed.{Handed as HandedSeen};
 ghost use Rattle.trio_state.specs.Listed.{accepted_blocks, block_told, blocks_listed_of, blocks_of_kind, changed_blocks, is_block_changed, lent_blocks, refused_blocks};
@@ -17,7 +17,7 @@ ghost use Rattle.trio_entries.specs.inner.Placed.{blocks_in, numbers_of};
 
 use crate::finder::Finder;
 use crate::notes::Notes;
-use trio_judge::{Case, Listing, PagePlace};
+use trio_case::{Case, Listing, PagePlace};
 use trio_lease::WriteLease;
 use trio_nodes::{HandedPlace, PlacedBlock, RawFile};
 use trio_rights::Kind;

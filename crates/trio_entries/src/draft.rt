@@ -9,7 +9,7 @@ ghost use Rattle.trio_entries.specs.Drafts.{IsDraftFor};
 use crate::finder::Finder;
 use crate::handed::HandedRoom;
 use std::alloc::Global;
-use trio_judge::Case;
+use trio_case::Case;
 use trio_lease::Bundle;
 use trio_nodes::{PlacedBlock, RawFile};
 use trio_page::NoMemory;

@@ -13,7 +13,7 @@ ghost use Rattle.trio_entries.specs.inner.Once.{lent_once, AreListedOnce};
 use crate::finder::Finder;
 use crate::notes::Notes;
 use crate::told::{is_listed, told_entry, told_noted, told_written};
-use trio_judge::{Case, Listing};
+use trio_case::{Case, Listing};
 use trio_nodes::RawFile;
 use trio_tables::Shadow;
 

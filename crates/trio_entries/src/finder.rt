@@ -8,7 +8,7 @@ ghost use Rattle.trio_rights.specs.Bundle.{bundle_pages};
 ghost use Rattle.trio_lists.specs.Lists.{In, is_among};
 ghost use Rattle.trio_layout.specs.Listing.{Listing as ListingSeen};
 ghost use Rattle.trio_lease.specs.Views.{bundle_in};
-ghost use Rattle.trio_judge.specs.Order.{place_of};
+ghost use Rattle.trio_case.specs.Order.{place_of};
 ghost use Rattle.trio_nodes.specs.declared.entry.Handed.{Handed as HandedSeen};
 ghost use Rattle.trio_tables.specs.Row.{as_row};
 ghost use Rattle.trio_state.specs.Listed.{is_marked};
@@ -19,7 +19,7 @@ ghost use Rattle.trio_entries.specs.inner.Finding.{has_mark, judged_place, own_n
 
 use crate::places::Places;
 use std::alloc::Global;
-use trio_judge::{Case, ListedFile, Listing, PageIndex};
+use trio_case::{Case, ListedFile, Listing, PageIndex};
 use trio_lease::{Bundle, WriteLease};
 use trio_nodes::{Handed, HandedFile, HandedPage};
 use trio_page::NoMemory;

@@ -21,7 +21,7 @@ use crate::blocks::{accepted_blocks, refused_blocks};
 use crate::draft::Draft;
 use crate::files::{accepted_files, refused_files};
 use crate::notes::Notes;
-use trio_judge::{Case, Listing};
+use trio_case::{Case, Listing};
 use trio_layout::CoreRange;
 use trio_lease::Bundle;
 use trio_nodes::{List, RawBundle, RawFile};

@@ -10,13 +10,14 @@ use Rattle.trio_layout.specs.Case.{Case, file_in}
 use Rattle.trio_layout.specs.JudgedFiles.{pages_within}
 use Rattle.trio_layout.specs.Listing.{Listing, file_listed}
 use Rattle.trio_layout.specs.Rules.{file_keeps_rights}
-use Rattle.trio_judge.specs.Order.{AreMarked}
-use Rattle.trio_judge.specs.Listed.{blocks_listed, index_listed}
+use Rattle.trio_case.specs.Order.{AreMarked}
+use Rattle.trio_case.specs.Listed.{blocks_listed, index_listed}
 use Rattle.trio_judge.specs.declared.walk.Walk.{Walk}
 use Rattle.trio_judge.specs.inner.Walk.{AreOwn, FirstForeign, HasListingRoom, Lists, Owns, Stands, body_keeps_rights, listing_of}
-use Rattle.trio_judge.proofs.Parts.{all-push}
+use Rattle.trio_case.proofs.Parts.{all-push}
 use Rattle.trio_judge.proofs.Noting.{files_still, foreign_block, foreign_index, listed-file, own_both, owns_file, rights_file}
-use Rattle.trio_judge.proofs.Listings.{listed_files, listed_pages, pages_few}
+use Rattle.trio_case.proofs.Listings.{listed_pages}
+use Rattle.trio_judge.proofs.Listings.{listed_files, pages_few}
 
 -- the first foreign page, of the index pages and then the blocks
 pub first_of_both : (own before index blocks : List ℕ) (marks marks' : List Bool) (a b : Option ℕ) → FirstForeign own before index marks a → ((seen : List ℕ) → AreMarked own marks seen → FirstForeign own seen blocks marks' b) → FirstForeign own before (index ++ blocks) marks' (option_or a b)

@@ -26,16 +26,16 @@ use Rattle.trio_layout.specs.Survey.{FileRead, Met, children_in, first_listed, m
 use Rattle.trio_layout.specs.Within.{chain_within, entries_within, index_within}
 use Rattle.trio_layout.proofs.QueueLaws.{among-first_listed}
 use Rattle.trio_layout.proofs.WithinCore.{within_from, within_to}
-use Rattle.trio_judge.specs.Order.{is_marked}
-use Rattle.trio_judge.specs.Rooms.{file_in_room}
-use Rattle.trio_judge.specs.declared.room.PageRoom.{PageRoom}
+use Rattle.trio_case.specs.Order.{is_marked}
+use Rattle.trio_case.specs.Rooms.{file_in_room}
+use Rattle.trio_case.specs.declared.room.PageRoom.{PageRoom}
 use Rattle.trio_judge.specs.declared.walk.Walk.{Walk}
 use Rattle.trio_judge.specs.inner.Again.{AreAllFound, AreFound, AreFoundHeads, IsFoundHead, IsListedBefore, has_body}
 use Rattle.trio_judge.specs.inner.Walk.{IsPassed, IsQueued, Stands, files_of, is_new}
 use Rattle.trio_judge.proofs.FileNoted.{stands_still}
-use Rattle.trio_judge.proofs.IndexOnce.{index_once, index_page}
+use Rattle.trio_case.proofs.IndexOnce.{index_once, index_page}
 use Rattle.trio_judge.proofs.Noting.{entries_still}
-use Rattle.trio_judge.proofs.Ordered.{none_marked}
+use Rattle.trio_case.proofs.Ordered.{none_marked}
 use Rattle.trio_judge.proofs.Visiting.{passed_more, queued_more}
 
 -- ---- a chain is known by its first index page

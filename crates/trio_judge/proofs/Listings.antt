@@ -17,7 +17,7 @@ use Rattle.trio_layout.specs.Listing.{ListedFile, file_listed}
 use Rattle.trio_layout.proofs.EntryNumbers.{AreInodes, AtMost, if_ok_at, is_inode, within_fit, within_most}
 use Rattle.trio_layout.proofs.WithinCore.{within_from}
 use Rattle.trio_judge.specs.inner.Walk.{Owns}
-use Rattle.trio_judge.proofs.Noting.{no_more}
+use Rattle.trio_case.proofs.Distinct.{no_more}
 
 -- its entries have inode numbers of the image
 pub numbers_below : (c : Case) (m : Met) (f : FileRead) → file_in c m ≡ Ok f → list_all (λ l. nat_lt l.entry.ino (c.inodes + 1)) f.entries ≡ true
@@ -53,20 +53,6 @@ pub pages_few : (c : Case) (done es : List Met) → Owns c done es → length (f
 pages_few c done es o =
     no_more (flat_map (pages_within c) done) (bundle_pages c.bundle) o.pages_once
     (λ p i. is_among-In p (bundle_pages c.bundle) (list_all-In (λ page. is_among page (bundle_pages c.bundle)) p (flat_map (pages_within c) done) o.pages i))
-
--- the lists of the files passed have just these pages
-listed_step : (m : Met) (r : Result FileRead Location) → length (flat_map (λ (f : ListedFile). f.index) (file_listed m r)) + length (flat_map (λ (f : ListedFile). f.blocks) (file_listed m r)) ≡ length (pages_in r)
-listed_step m (Ok f) = omega (arith, ap length (append-nil f.chain.index), ap length (append-nil f.chain.blocks), length-append f.chain.index f.chain.blocks)
-listed_step m (Err p) = omega arith
-
-pub listed_pages : (c : Case) (ms : List Met) → length (flat_map (λ (f : ListedFile). f.index) (flat_map (λ m. file_listed m (file_in c m)) ms)) + length (flat_map (λ (f : ListedFile). f.blocks) (flat_map (λ m. file_listed m (file_in c m)) ms)) ≡ length (flat_map (pages_within c) ms)
-listed_pages c [] = omega arith
-listed_pages c (m ∷ ms) =
-    let l : List ListedFile = file_listed m (file_in c m) in
-    let ls : List ListedFile = flat_map (λ m. file_listed m (file_in c m)) ms in
-    let i : ListedFile → List ℕ = λ f. f.index in
-    let b : ListedFile → List ℕ = λ f. f.blocks in
-    omega (arith, listed_step m (file_in c m), listed_pages c ms, ap length (flat_map-append i l ls), ap length (flat_map-append b l ls), length-append (flat_map i l) (flat_map i ls), length-append (flat_map b l) (flat_map b ls), length-append (pages_within c m) (flat_map (pages_within c) ms))
 
 files_step : (m : Met) (r : Result FileRead Location) → length (file_listed m r) ≤ 1
 files_step m (Ok f) = omega arith

@@ -1,5 +1,6 @@
 -- One entry more, and one file more.
 use Rattle.std.proofs.Common.{◌≡◌, ℕ, suc, ◌+◌, ◌<◌, ◌≤◌, ◌⊎◌, eqb, is_some, vec_capacity, vec_len, Bool, true, false, not, cond, List, [], ◌∷◌, ◌++◌, length, map, get_or, set, take, Option, None, Some, Ok, inl, inr, refl, sym, ap, ◌∙◌, subst, append_assoc, arith}
+use Rattle.trio_case.proofs.Distinct.{no_more}
 use Rattle.std.specs.List.{list_all, flat_map, filter}
 use Rattle.std.specs.Option.{option_or}
 use Rattle.std.specs.Prelude.{MatchOption}
@@ -11,8 +12,8 @@ use Rattle.std.proofs.lemmas.Bool.Decides.{nat_tests}
 use Rattle.trio_lists.proofs.Members.{In-cases, In-flat, In-map, In-right, is_among-In, list_all-each, list_all-In, map-In}
 use Rattle.trio_lists.proofs.Filters.{get_or-In}
 use Rattle.trio_layout.specs.Entries.{Listed}
-use Rattle.trio_judge.specs.Reading.{listed_seen}
-use Rattle.trio_judge.specs.declared.entries.DirEntry.{DirEntry}
+use Rattle.trio_case.specs.Reading.{listed_seen}
+use Rattle.trio_case.specs.declared.entries.DirEntry.{DirEntry}
 use Rattle.trio_lists.proofs.New.{are_new-first}
 use Rattle.trio_rights.specs.Bundle.{bundle_pages}
 use Rattle.trio_lists.specs.Lists.{In, is_among, are_new}
@@ -26,7 +27,7 @@ use Rattle.trio_layout.specs.Rules.{entry_in_grammar, entry_is_own, entry_keeps_
 use Rattle.trio_judge.specs.declared.walk.FaultAt.{FaultAt}
 use Rattle.trio_judge.specs.declared.walk.Walk.{Walk}
 use Rattle.trio_judge.specs.inner.Walk.{AreOwn, IsForeign, KeepRights, Lists, IsListed, OwningFails, Owns, RightsFail, listing_of, HasMarks, IsReady, SameFindings, SameQueue, BadEntry, Noted, PlacesLeft, files_of, file_met, is_new, own_numbers}
-use Rattle.trio_judge.proofs.Parts.{all-push}
+use Rattle.trio_case.proofs.Parts.{all-push}
 use Rattle.trio_judge.proofs.Faults.{entry_denied, entry_fault, file_denied}
 
 -- ---- entries
@@ -200,38 +201,6 @@ find_again c files e h = by (is_new c e) refl
 
 pub find_first : (c : Case) (files : List Met) (e : Met) → is_new c e ≡ true → is_among e.ino (numbers files) ≡ false → files ++ e ∷ [] ≡ files ++ first_listed (numbers files) (filter (is_new c) (e ∷ []))
 find_first c files e n h = rw (n, h) refl
-
--- distinct members of a list are no more than it has
-abbrev without : ℕ → List ℕ → List ℕ
-without n [] = []
-without n (x ∷ xs) = cond (eqb x n) xs (x ∷ without n xs)
-
-without_step : (b : Bool) (n x : ℕ) (xs : List ℕ) → eqb x n ≡ b → (In n xs → suc (length (without n xs)) ≡ length xs) → (n ≡ x) ⊎ In n xs → suc (length (cond b xs (x ∷ without n xs))) ≡ suc (length xs)
-without_step true n x xs e h i = refl
-without_step false n x xs e h (inl s) = absurd (false≢true (sym e ∙ (let t : eqb x n ≡ true = grind (arith, nat_tests) in t)))
-without_step false n x xs e h (inr i) = ap suc (h i)
-
-shorter : (n : ℕ) (xs : List ℕ) → In n xs → suc (length (without n xs)) ≡ length xs
-shorter n [] i = absurd i
-shorter n (x ∷ xs) i = without_step (eqb x n) n x xs refl (shorter n xs) i
-
-others_step : (b : Bool) (n k x : ℕ) (xs : List ℕ) → eqb x n ≡ b → (k ≡ n → ⊥) → (In k xs → In k (without n xs)) → (k ≡ x) ⊎ In k xs → In k (cond b xs (x ∷ without n xs))
-others_step true n k x xs e d h (inl s) = let t : x ≡ n = grind (arith, nat_tests) in absurd (d (s ∙ t))
-others_step true n k x xs e d h (inr i) = i
-others_step false n k x xs e d h (inl s) = inl s
-others_step false n k x xs e d h (inr i) = inr (h i)
-
-others : (n k : ℕ) (xs : List ℕ) → (k ≡ n → ⊥) → In k xs → In k (without n xs)
-others n k [] d i = absurd i
-others n k (x ∷ xs) d i = others_step (eqb x n) n k x xs refl d (others n k xs d) i
-
-pub no_more : (xs ys : List ℕ) → are_new [] xs ≡ true → ((n : ℕ) → In n xs → In n ys) → length xs ≤ length ys
-no_more [] ys h i = omega arith
-no_more (x ∷ xs) ys h i =
-    let apart = are_new-first x xs h in
-    let rest : length xs ≤ length (without x ys) = no_more xs (without x ys) apart.1 (λ k j. others x k ys (λ e. apart.0 (subst (λ n. In n xs) e j)) (i k (inr j))) in
-    let one : suc (length (without x ys)) ≡ length ys = shorter x ys (i x (inl refl)) in
-    omega (arith, rest, one)
 
 pub ready_more : (c : Case) (w w' : Walk) (e : Met) → IsReady c w → HasMarks c w → files_of w' ≡ files_of w ++ e ∷ [] → is_among e.ino (numbers (files_of w)) ≡ false → is_new c e ≡ true → e.ino < length w.found → w'.found ≡ set w.found e.ino true → vec_capacity w.files ≤ vec_capacity w'.files → vec_len w'.pages ≡ vec_len w.pages → length w'.named ≡ length w.named → w'.listing.room ≡ w.listing.room → IsReady c w'
 ready_more c w w' e r m files unfound new h found places pages named room =

@@ -1,4 +1,4 @@
--- A case with other bytes in one of its pages, or with touched blocks: its files, numbers and pages are the same, and a room made for it is still one.
+-- A room made for a case is one for the case with other bytes in a page, and for the case with touched blocks.
 use Rattle.std.proofs.Common.{◌≡◌, ℕ, zero, suc, ◌++◌, List, [], ◌∷◌, map, Option, None, Some, inl, inr, refl, sym, ap, ◌∙◌, subst}
 use Rattle.std.specs.Prelude.{MatchOption, slice_get}
 use Rattle.std.specs.List.{flat_map}
@@ -21,182 +21,22 @@ use Rattle.trio_lease.proofs.OtherBytes.{page_map, pages_same, rest_same, touche
 use Rattle.trio_layout.specs.Survey.{Met}
 use Rattle.trio_layout.specs.JudgedFiles.{written_at, written_files, written_met}
 use Rattle.trio_layout.specs.declared.range.CoreRange.{CoreRange}
-use Rattle.trio_judge.specs.Cases.{CaseShown, IsCase, case_in}
+use Rattle.trio_case.specs.Cases.{CaseShown, IsCase, case_in}
 use Rattle.trio_judge.specs.Judging.{IsJudgeRoom}
-use Rattle.trio_judge.specs.Places.{number_at}
-use Rattle.trio_judge.specs.Rooms.{IsRoomFor, IsUnread}
-use Rattle.trio_judge.specs.declared.numbers.Numbers.{Numbers}
-use Rattle.trio_judge.specs.declared.places.PagePlace.{PagePlace}
-use Rattle.trio_judge.specs.declared.places.PagePlace.TheVariants.{Index, Block, Fresh}
-use Rattle.trio_judge.specs.declared.room.PageRoom.{PageRoom}
+use Rattle.trio_case.specs.Places.{number_at}
+use Rattle.trio_case.specs.Rooms.{IsRoomFor, IsUnread}
+use Rattle.trio_case.specs.declared.numbers.Numbers.{Numbers}
+use Rattle.trio_case.specs.declared.places.PagePlace.{PagePlace}
+use Rattle.trio_case.specs.declared.places.PagePlace.TheVariants.{Index, Block, Fresh}
+use Rattle.trio_case.specs.declared.room.PageRoom.{PageRoom}
 use Rattle.trio_judge.specs.declared.verdict.Room.{Room}
 use Rattle.trio_judge.specs.declared.walk.Walk.{Walk}
-use Rattle.trio_judge.specs.inner.Maps.{Tells}
+use Rattle.trio_case.specs.inner.Maps.{Tells}
 use Rattle.trio_judge.specs.inner.Walk.{KeepRights, Lists, OwningFails, RightsFail, Starts, own_numbers}
-use Rattle.trio_judge.proofs.CaseRows.{written_is}
-use Rattle.trio_judge.proofs.Sorted.{sorted-map}
-use Rattle.trio_judge.proofs.Starting.{mets_of, written_number, writes_of}
-
--- ---- the numbers of pages
-
-sheets-numbered : (ps : List LentPage) → sheet_numbers (map lent_sheet ps) ≡ map (λ (p : LentPage). p.no.0) ps
-sheets-numbered [] = refl
-sheets-numbered (p ∷ ps) = ap (λ ns. p.no.0 ∷ ns) (sheets-numbered ps)
-
-fresh-numbered : (ps : List FreshParts) → sheet_numbers (map fresh_sheet ps) ≡ map (λ (p : FreshParts). p.no.0) ps
-fresh-numbered [] = refl
-fresh-numbered (p ∷ ps) = ap (λ ns. p.no.0 ∷ ns) (fresh-numbered ps)
-
-abbrev numbers_of_file : LentFile → List ℕ
-numbers_of_file f = map (λ (p : LentPage). p.no.0) f.stands.index ++ map (λ (p : LentPage). p.no.0) f.stands.blocks
-
-files-numbered : (fs : List LentFile) → sheet_numbers (flat_map (λ (w : Written). w.index ++ w.blocks) (map (λ (f : LentFile). written_in f.stands) fs)) ≡ flat_map (λ (ns : List ℕ). ns) (map numbers_of_file fs)
-files-numbered [] = refl
-files-numbered (f ∷ fs) =
-    let page : Sheet → ℕ = λ s. s.page in
-    let here : sheet_numbers (map lent_sheet f.stands.index ++ map lent_sheet f.stands.blocks) ≡ numbers_of_file f =
-    map-append page (map lent_sheet f.stands.index) (map lent_sheet f.stands.blocks) ∙ rw (sheets-numbered f.stands.index, sheets-numbered f.stands.blocks) refl in
-    map-append page (map lent_sheet f.stands.index ++ map lent_sheet f.stands.blocks) (flat_map (λ (w : Written). w.index ++ w.blocks) (map (λ (g : LentFile). written_in g.stands) fs)) ∙ rw (here, files-numbered fs) refl
-
-pages-numbered : (b : Bundled) → bundle_pages (bundle_in b) ≡ flat_map (λ (ns : List ℕ). ns) (map numbers_of_file b.writes) ++ map (λ (p : FreshParts). p.no.0) b.pages
-pages-numbered b =
-    let page : Sheet → ℕ = λ s. s.page in
-    map-append page (flat_map (λ (w : Written). w.index ++ w.blocks) (bundle_in b).writes) (map fresh_sheet b.pages) ∙ rw (files-numbered b.writes, fresh-numbered b.pages) refl
-
--- ---- a bundle with other bytes in a page
-
--- what is asked of files is the same of these, and each number of a page stands at the same place
-pub record Alike (b b' : Bundled) : Type 0 where
-  pub files : map (λ (f : LentFile). f.stands.ino) b'.writes ≡ map (λ (f : LentFile). f.stands.ino) b.writes
-  pub mets : (rows : List (Option Row)) → map (λ (f : LentFile). written_at (written_in f.stands) (row_in rows f.stands.ino)) b'.writes ≡ map (λ (f : LentFile). written_at (written_in f.stands) (row_in rows f.stands.ino)) b.writes
-  pub pages : bundle_pages (bundle_in b') ≡ bundle_pages (bundle_in b)
-  pub places : (place : PagePlace) → number_at b' place ≡ number_at b place
-  pub holds : b'.holds ≡ b.holds
-  pub inodes : b'.inodes ≡ b.inodes
-
-met-same : (w w' : Written) (o : Option Row) → w'.ino ≡ w.ino → w'.kind ≡ w.kind → w'.body ≡ w.body → written_at w' o ≡ written_at w o
-met-same w w' None i k b = rw (i, k, b) refl
-met-same w w' (Some r) i k b = rw (i, k, b) refl
-
--- the number at a place of a list of pages, by the numbers alone
-place-number : (pages : List LentPage) (at : ℕ) → option_map (λ (no : PageNo). no.0) (no_at pages at) ≡ option_map (λ (no : PageNo). no.0) (slice_get (map (λ (p : LentPage). p.no) pages) at)
-place-number pages at = ap (option_map (λ (no : PageNo). no.0)) (sym (slice_get-map (λ (p : LentPage). p.no) pages at))
-
-place-same : (pages pages' : List LentPage) (at : ℕ) → map (λ (p : LentPage). p.no) pages' ≡ map (λ (p : LentPage). p.no) pages → option_map (λ (no : PageNo). no.0) (no_at pages' at) ≡ option_map (λ (no : PageNo). no.0) (no_at pages at)
-place-same pages pages' at h =
-    place-number pages' at ∙ ap (λ ns. option_map (λ (no : PageNo). no.0) (slice_get ns at)) h ∙ sym (place-number pages at)
-
--- what is asked of the file at a place, by what is asked of each
-file-at : {Y : Type 0} (h : LentFile → Option Y) (fs : List LentFile) (i : ℕ) → option_and_then h (slice_get fs i) ≡ option_and_then (λ (o : Option Y). o) (slice_get (map h fs) i)
-file-at h [] i = refl
-file-at h (f ∷ fs) zero = refl
-file-at h (f ∷ fs) (suc i) = file-at h fs i
-
-file-same : {Y : Type 0} (h : LentFile → Option Y) (fs fs' : List LentFile) (i : ℕ) → map h fs' ≡ map h fs → option_and_then h (slice_get fs' i) ≡ option_and_then h (slice_get fs i)
-file-same h fs fs' i e = file-at h fs' i ∙ ap (λ os. option_and_then (λ o. o) (slice_get os i)) e ∙ sym (file-at h fs i)
-
-module _ (b : Bundled) (no : PageNo) (bytes : List ℕ) where
-  abbrev other_bytes : Bundled
-  other_bytes = with_bytes b no bytes
-
-  places_same : (place : PagePlace) → number_at other_bytes place ≡ number_at b place
-  places_same (Index file i) =
-      let h : LentFile → Option ℕ = λ f. option_map (λ no. no.0) (no_at f.stands.index i) in
-      file-same h b.writes other_bytes.writes file
-      (writes_same h (λ f at w. place-same f.stands.index (with_page f.stands.index at w) i (page_map (λ p. p.no) (λ p v. (refl, refl)) f.stands.index at w)) (λ f at w. refl) b no bytes)
-  places_same (Block file i) =
-      let h : LentFile → Option ℕ = λ f. option_map (λ no. no.0) (no_at f.stands.blocks i) in
-      file-same h b.writes other_bytes.writes file
-      (writes_same h (λ f at w. refl) (λ f at w. place-same f.stands.blocks (with_touched f.stands.blocks at w) i (touched_map (λ p. p.no) (λ p v. (refl, refl)) f.stands.blocks at w)) b no bytes)
-  places_same (Fresh i) =
-      let number : FreshParts → ℕ = λ p. p.no.0 in
-      sym (slice_get-map number other_bytes.pages i) ∙ ap (λ ns. slice_get ns i) (pages_same b no bytes) ∙ slice_get-map number b.pages i
-
-  numbers_same : bundle_pages (bundle_in other_bytes) ≡ bundle_pages (bundle_in b)
-  numbers_same =
-      let number : LentPage → ℕ = λ p. p.no.0 in
-      let files = writes_same numbers_of_file
-      (λ f at w. ap (λ ns. ns ++ map number f.stands.blocks) (page_map number (λ p v. (refl, refl)) f.stands.index at w))
-      (λ f at w. ap (λ ns. map number f.stands.index ++ ns) (touched_map number (λ p v. (refl, refl)) f.stands.blocks at w)) b no bytes in
-      pages-numbered other_bytes ∙ ap (λ ns. flat_map (λ (l : List ℕ). l) ns ++ map (λ (p : FreshParts). p.no.0) other_bytes.pages) files
-      ∙ ap (λ ns. flat_map (λ (l : List ℕ). l) (map numbers_of_file b.writes) ++ ns) (pages_same b no bytes) ∙ sym (pages-numbered b)
-
-  pub alike : Alike b other_bytes
-  alike = record {
-    files = writes_same (λ f. f.stands.ino) (λ f at w. refl) (λ f at w. refl) b no bytes;
-    mets = λ rows. writes_same (λ f. written_at (written_in f.stands) (row_in rows f.stands.ino))
-        (λ f at w. met-same (written_in f.stands) (written_in (with_index at w f).stands) (row_in rows f.stands.ino) refl refl refl)
-        (λ f at w. met-same (written_in f.stands) (written_in (with_block at w f).stands) (row_in rows f.stands.ino) refl refl refl) b no bytes;
-    pages = numbers_same;
-    places = places_same;
-    holds = (rest_same b no bytes).0;
-    inodes = (rest_same b no bytes).1;
-  }
-
--- ---- a bundle with all its blocks marked as touched
-
-abbrev pub touched : Bundled → Bundled
-touched b = record b { writes = map all_touched b.writes }
-
--- what doesn't speak of the marks of a file's blocks
-touched-map : {Y : Type 0} (g : LentFile → Y) → ((f : LentFile) → g (all_touched f) ≡ g f) → (fs : List LentFile) → map g (map all_touched fs) ≡ map g fs
-touched-map g same [] = refl
-touched-map g same (f ∷ fs) = rw (same f, touched-map g same fs) refl
-
--- nor of those of pages
-marked-map : {Y : Type 0} (v : LentPage → Y) → ((p : LentPage) → v (as_touched p) ≡ v p) → (ps : List LentPage) → map v (map as_touched ps) ≡ map v ps
-marked-map v same [] = refl
-marked-map v same (p ∷ ps) = rw (same p, marked-map v same ps) refl
-
-module _ (b : Bundled) where
-  places_touched : (place : PagePlace) → number_at (touched b) place ≡ number_at b place
-  places_touched (Index file i) =
-      let h : LentFile → Option ℕ = λ f. option_map (λ no. no.0) (no_at f.stands.index i) in
-      file-same h b.writes (touched b).writes file (touched-map h (λ f. refl) b.writes)
-  places_touched (Block file i) =
-      let h : LentFile → Option ℕ = λ f. option_map (λ no. no.0) (no_at f.stands.blocks i) in
-      file-same h b.writes (touched b).writes file
-      (touched-map h (λ f. place-same f.stands.blocks (map as_touched f.stands.blocks) i (marked-map (λ p. p.no) (λ p. refl) f.stands.blocks)) b.writes)
-  places_touched (Fresh i) = refl
-
-  numbers_touched : bundle_pages (bundle_in (touched b)) ≡ bundle_pages (bundle_in b)
-  numbers_touched =
-      let number : LentPage → ℕ = λ p. p.no.0 in
-      let files = touched-map numbers_of_file (λ f. ap (λ ns. map number f.stands.index ++ ns) (marked-map number (λ p. refl) f.stands.blocks)) b.writes in
-      pages-numbered (touched b) ∙ ap (λ ns. flat_map (λ (l : List ℕ). l) ns ++ map (λ (p : FreshParts). p.no.0) b.pages) files ∙ sym (pages-numbered b)
-
-  pub alike_touched : Alike b (touched b)
-  alike_touched = record {
-    files = touched-map (λ f. f.stands.ino) (λ f. refl) b.writes;
-    mets = λ rows. touched-map (λ f. written_at (written_in f.stands) (row_in rows f.stands.ino))
-        (λ f. met-same (written_in f.stands) (written_in (all_touched f).stands) (row_in rows f.stands.ino) refl refl refl) b.writes;
-    pages = numbers_touched;
-    places = places_touched;
-    holds = refl;
-    inodes = refl;
-  }
-
--- ---- what is true of a case
-
-pub is_case : (b b' : Bundled) (range : CoreRange) (inodes : ℕ) → Alike b b' → IsCase b range inodes → IsCase b' range inodes
-is_case b b' range inodes a h = record {
-  core = rw a.pages h.core;
-  pages = rw a.pages h.pages;
-  first = h.first;
-  once = rw (a.files, a.holds) h.once;
-  lent = rw (a.files, a.holds) h.lent;
-  numbers = rw a.inodes h.numbers;
-  apart = rw a.inodes h.apart;
-}
-
-pub tells : (t : Numbers) (b b' : Bundled) → Alike b b' → Tells t b → Tells t b'
-tells t b b' a h = record {
-  writes = λ n. h.writes n ∙ written_is b.writes n ∙ rw a.files refl ∙ sym (written_is b'.writes n);
-  holds = λ n. rw a.holds (h.holds n);
-  fresh = λ n. rw a.inodes (h.fresh n);
-}
-
--- ---- the room
+use Rattle.trio_case.proofs.CaseRows.{writes_of}
+use Rattle.trio_case.proofs.OtherBytes.{Alike, alike, alike_touched, pages_alike, touched}
+use Rattle.trio_case.proofs.Sorted.{sorted-map}
+use Rattle.trio_judge.proofs.Starting.{mets_of, written_number}
 
 module _ (k : CaseShown) (b' : Bundled) (a : Alike k.bundle b') where
   abbrev other : CaseShown
@@ -250,18 +90,10 @@ module _ (k : CaseShown) (b' : Bundled) (a : Alike k.bundle b') where
         rights = s.rights;
       }
 
-  pages_still : (room : PageRoom) → IsRoomFor k room → IsRoomFor other room
-  pages_still room h = record {
-    order = rw a.pages h.order;
-    numbers = h.numbers;
-    each = λ p i. (let u : IsUnread k.bundle p = h.each p i in record { place = a.places p.place ∙ u.place; entries = u.entries; index = u.index });
-    space = h.space;
-  }
-
 -- a room made for a case is one for a case with a bundle that is alike
 room_alike : (k : CaseShown) (b' : Bundled) → Alike k.bundle b' → (room : Room) → IsJudgeRoom k room → IsJudgeRoom (record k { bundle = b' }) room
 room_alike k b' a room h = record {
-  pages = pages_still k b' a room.pages h.pages;
+  pages = pages_alike k b' a room.pages h.pages;
   walk = starts_still k b' a room.walk h.walk;
   heads = rw a.pages h.heads;
 }

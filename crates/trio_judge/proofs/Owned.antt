@@ -3,9 +3,9 @@ use Rattle.std.proofs.Common.{◌≡◌, ℕ, ◌+◌, ◌<◌, ◌&&◌, ◌||�
 use Rattle.std.proofs.lemmas.List.{append-nil, take_more, drop_more, take-append-drop}
 use Rattle.trio_lists.specs.Lists.{is_among}
 use Rattle.trio_lists.proofs.Marked.{are_new-more, is_among-push}
-use Rattle.trio_judge.specs.Order.{is_marked, AreMarked}
+use Rattle.trio_case.specs.Order.{is_marked, AreMarked}
 use Rattle.trio_judge.specs.inner.Walk.{AreOwn, IsForeign}
-use Rattle.trio_judge.proofs.Parts.{all-push}
+use Rattle.trio_case.proofs.Parts.{all-push}
 
 pub own_none : (own before : List ℕ) (marks : List Bool) → AreMarked own marks before → AreOwn own before [] marks
 own_none own before marks m = record { own_all = refl; new = refl; marked = rw (append-nil before) m }

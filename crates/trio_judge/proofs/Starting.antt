@@ -20,12 +20,13 @@ use Rattle.trio_lease.specs.Views.{written_in}
 use Rattle.trio_layout.specs.Survey.{Met, numbers}
 use Rattle.trio_layout.specs.Case.{Case}
 use Rattle.trio_layout.specs.JudgedFiles.{written_at, written_files, written_met}
-use Rattle.trio_judge.specs.Cases.{CaseShown, case_in, lent_numbers, IsCase}
+use Rattle.trio_case.specs.Cases.{CaseShown, case_in, lent_numbers, IsCase}
 use Rattle.trio_judge.specs.declared.walk.JudgedFile.{JudgedFile}
 use Rattle.trio_judge.specs.declared.walk.Walk.{Walk}
 use Rattle.trio_judge.specs.inner.Walk.{HasListingRoom, KeepRights, Lists, OwningFails, RightsFail, Starts, file_met, files_of, listing_of, own_numbers}
-use Rattle.trio_judge.proofs.Ordered.{are_unmarked}
-use Rattle.trio_judge.proofs.Sorted.{sorted-map}
+use Rattle.trio_case.proofs.CaseRows.{writes_of}
+use Rattle.trio_case.proofs.Ordered.{are_unmarked}
+use Rattle.trio_case.proofs.Sorted.{sorted-map}
 
 pub written_number : (w : Written) (o : Option Row) → (written_at w o).ino ≡ w.ino
 written_number w None = refl
@@ -68,13 +69,6 @@ length-blank zero = refl
 length-blank (suc n) = ap suc (length-blank n)
 
 -- ---- what is known of a case
-
-pub writes_of : (k : CaseShown) → map (λ (w : Written). w.ino) (case_in k).bundle.writes ≡ map (λ (f : LentFile). f.stands.ino) k.bundle.writes
-writes_of k = go k.bundle.writes
-  where
-    go : (fs : List LentFile) → map (λ (w : Written). w.ino) (map (λ f. written_in f.stands) fs) ≡ map (λ (f : LentFile). f.stands.ino) fs
-    go [] = refl
-    go (f ∷ fs) = ap (λ ns. f.stands.ino ∷ ns) (go fs)
 
 fresh_fits : (k : CaseShown) (n : ℕ) → IsCase k.bundle k.range k.inodes → In n (case_in k).bundle.numbers → n < k.inodes + 1
 fresh_fits k n fits i =

@@ -23,7 +23,8 @@ use Rattle.trio_judge.specs.declared.walk.FaultAt.{FaultAt}
 use Rattle.trio_judge.specs.declared.walk.Walk.{Walk}
 use Rattle.trio_judge.specs.inner.Walk.{BadEntry, HasMarks, IsOnWay, IsPassed, IsQueued, IsReady, Noted, PlacesLeft, SameQueue, Stands, fault_place, files_of, is_new, own_numbers}
 use Rattle.trio_judge.proofs.Listings.{entries_few, pages_few}
-use Rattle.trio_judge.proofs.Noting.{files_same, no_more, so_far}
+use Rattle.trio_case.proofs.Distinct.{no_more}
+use Rattle.trio_judge.proofs.Noting.{files_same, so_far}
 
 pub few_files : (c : Case) (w : Walk) → IsReady c w → length (files_of w) ≤ length (own_numbers c)
 few_files c w r = omega (arith, no_more (numbers (files_of w)) (own_numbers c) r.once r.own, length-map (files_of w) (λ (m : Met). m.ino))

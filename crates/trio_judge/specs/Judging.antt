@@ -2,8 +2,8 @@
 use Rattle.std.specs.Prelude.{◌≡◌, false, length, replicate}
 use Rattle.trio_rights.specs.Bundle.{bundle_pages}
 use Rattle.trio_lease.specs.Views.{bundle_in}
-use Rattle.trio_judge.specs.Cases.{CaseShown, case_in}
-use Rattle.trio_judge.specs.Rooms.{IsRoomFor}
+use Rattle.trio_case.specs.Cases.{CaseShown, case_in}
+use Rattle.trio_case.specs.Rooms.{IsRoomFor}
 use Rattle.trio_judge.specs.inner.Walk.{Starts}
 use Rattle.trio_judge.specs.declared.verdict.Room.{Room}
 

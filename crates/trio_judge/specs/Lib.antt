@@ -1,10 +1,3 @@
-pub mod Cases
-pub mod Places
-pub mod Order
-pub mod Rooms
-pub mod Indexed
-pub mod Reading
-pub mod Listed
 pub mod Verdicts
 pub mod Judging
 pub mod inner

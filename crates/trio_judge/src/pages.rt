@@ -4,12 +4,11 @@ ghost use Rattle.std.specs.Prelude.{◌≡◌, ◌==◌, ◌++◌, ◌&&◌, ◌
 ghost use Rattle.trio_lists.specs.Lists.{is_among};
 ghost use Rattle.trio_rights.specs.Bundle.{bundle_pages};
 ghost use Rattle.trio_lease.specs.Views.{bundle_in};
-ghost use Rattle.trio_judge.specs.Order.{is_marked, AreMarked};
-ghost use Rattle.trio_judge.specs.Rooms.{Keeps};
+ghost use Rattle.trio_case.specs.Order.{is_marked, AreMarked};
+ghost use Rattle.trio_case.specs.Rooms.{Keeps};
 ghost use Rattle.trio_judge.specs.inner.Walk.{FirstForeign};
 
-use crate::case::Case;
-use crate::room::PageRoom;
+use trio_case::{Case, PageRoom};
 
 /// Marks the pages, up to the first that isn't the bundle's or that had its mark, and answers that.
 pub(crate) fn mark_own(
@@ -42,8 +41,7 @@ pub(crate) fn mark(case: &Case, room: &PageRoom, marks: &mut Vec<bool>, page: u3
         (other : ℕ) → is_marked own marks.new.items other ≡ (is_marked own marks.old.items other || (is_among page own && page == other)) }
     ensures len { vec_len marks.new ≡ vec_len marks.old }
 {
-    let _bundle = case.bundle();
-    let Some((at, _)) = room.kept.find(page) else {
+    let Some(at) = room.place(case, page) else {
         return false;
     };
     let new = !marks[at];
@@ -57,9 +55,8 @@ pub(crate) fn is_marked(case: &Case, room: &PageRoom, marks: &[bool], page: u32)
     requires places { length marks.now ≡ length (bundle_pages (bundle_in case.now.bundle)) }
     ensures { result ≡ is_marked (bundle_pages (bundle_in case.now.bundle)) marks.now page }
 {
-    let _bundle = case.bundle();
-    match room.kept.find(page) {
-        Some((at, _)) => marks[at],
+    match room.place(case, page) {
+        Some(at) => marks[at],
         None => false,
     }
 }

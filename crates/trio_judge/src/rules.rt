@@ -5,11 +5,11 @@ ghost use Rattle.trio_rights.specs.Row.{row_in};
 ghost use Rattle.trio_layout.specs.Allowed.{has_kind};
 ghost use Rattle.trio_layout.specs.Listing.{is_kept};
 ghost use Rattle.trio_layout.specs.Rules.{entry_in_grammar, entry_is_own, entry_keeps_rights, has_rights};
-ghost use Rattle.trio_judge.specs.Cases.{case_in};
+ghost use Rattle.trio_case.specs.Cases.{case_in};
 ghost use Rattle.trio_judge.specs.inner.Walk.{body_keeps_rights, file_met};
 
-use crate::case::Case;
 use crate::walk::JudgedFile;
+use trio_case::Case;
 use trio_layout::Body;
 
 /// Whether an entry is a kept child: the row of its number names this directory and this place.

@@ -9,13 +9,12 @@ ghost use Rattle.trio_lists.specs.Marked.{MarksJust};
 ghost use Rattle.trio_lists.specs.Sorting.{sorted_by};
 ghost use Rattle.trio_lease.specs.Views.{bundle_in, written_in};
 ghost use Rattle.trio_layout.specs.JudgedFiles.{written_files, written_met};
-ghost use Rattle.trio_judge.specs.Cases.{case_in};
+ghost use Rattle.trio_case.specs.Cases.{case_in};
 ghost use Rattle.trio_judge.specs.inner.Walk.{file_met, listing_of, own_numbers, HasListingRoom, Starts};
 
-use crate::case::Case;
-use crate::listing::{Listing, ListingRoom};
 use crate::walk::{JudgedFile, Walk, add};
 use std::alloc::Global;
+use trio_case::{Case, Listing, ListingRoom};
 use trio_lease::{Bundle, WriteLease};
 use trio_marks::Marks;
 use trio_page::NoMemory;

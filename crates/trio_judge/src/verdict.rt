@@ -3,16 +3,14 @@
 ghost use Rattle.std.specs.Prelude.{◌≡◌, ◌+◌, ◌*◌, ◌≤◌, IfOk, length};
 ghost use Rattle.trio_rights.specs.Bundle.{bundle_pages};
 ghost use Rattle.trio_lease.specs.Views.{bundle_in};
-ghost use Rattle.trio_judge.specs.Cases.{case_in};
+ghost use Rattle.trio_case.specs.Cases.{case_in};
 ghost use Rattle.trio_judge.specs.Verdicts.{meets_three, HasFewEntries, HasListing, IsLowest, is_sound};
 ghost use Rattle.trio_judge.specs.Judging.{IsJudgeRoom};
 ghost use Rattle.trio_judge.specs.inner.Walk.{HasEnded, IsPassed};
 
-use crate::case::Case;
-use crate::listing::Listing;
-use crate::room::PageRoom;
 use crate::walk::{FaultAt, Walk};
 use std::alloc::Global;
+use trio_case::{Case, Listing, PageRoom};
 use trio_page::{NoMemory, Reads};
 
 /// What the judge says of a bundle.
@@ -66,7 +64,7 @@ impl Room {
         ensures { IfOk result (IsJudgeRoom case.now) }
     {
         let pages = PageRoom::with(alloc, case)?;
-        let count = pages.kept.pages.len();
+        let count = pages.page_count();
         let walk = Walk::with(alloc, case, count)?;
         let heads = vec![in alloc; false; count]?;
         Ok(Room { pages, walk, heads })

@@ -7,7 +7,7 @@ use Rattle.trio_rights.specs.declared.kind.Kind.TheVariants.{Regular}
 use Rattle.trio_lists.specs.Lists.{In}
 use Rattle.trio_layout.specs.Listing.{ListedFile}
 use Rattle.trio_tables.specs.Row.{as_row}
-use Rattle.trio_judge.specs.declared.listing.ListedFile.{ListedFile as FileData}
+use Rattle.trio_case.specs.declared.listing.ListedFile.{ListedFile as FileData}
 use Rattle.trio_judge_tests.specs.Leaves.{is_other}
 
 -- where each file is a directory or has another number, none is a regular file of this number

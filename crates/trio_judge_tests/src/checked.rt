@@ -9,10 +9,10 @@ ghost use Rattle.trio_lists.specs.Lists.{are_new};
 ghost use Rattle.trio_lease.specs.Views.{bundle_in};
 ghost use Rattle.trio_layout.specs.Allowed.{has_kind};
 ghost use Rattle.trio_layout.specs.Range.{is_core};
-ghost use Rattle.trio_judge.specs.Cases.{lent_numbers, is_free_number, HasDirectoryParents, IsJudgeable};
+ghost use Rattle.trio_case.specs.Cases.{lent_numbers, is_free_number, HasDirectoryParents, IsJudgeable};
 
 use std::alloc::Global;
-use trio_judge::Case;
+use trio_case::Case;
 use trio_layout::CoreRange;
 use trio_lease::{Bundle, FreshIno, HoldLease, WriteLease};
 use trio_page::NoMemory;

@@ -4,7 +4,8 @@ use crate::checked::case_of;
 use crate::handed::{Grants, Poke, RANGE, handed_in};
 use crate::leaves::broken_edge;
 use std::alloc::Global;
-use trio_judge::{Case, Listing, Room, Verdict, judge};
+use trio_case::{Case, Listing};
+use trio_judge::{Room, Verdict, judge};
 use trio_page::Reads;
 use trio_tables::Shadow;
 

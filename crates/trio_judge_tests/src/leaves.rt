@@ -9,7 +9,7 @@ ghost use Rattle.trio_judge_tests.specs.Leaves.{is_other, HasNoFile};
 
 use std::alloc::Global;
 use trio_edges::edges;
-use trio_judge::{ListedEntry, ListedFile, Listing, ListingRoom};
+use trio_case::{ListedEntry, ListedFile, Listing, ListingRoom};
 use trio_rights::{Kind, Mode};
 use trio_tables::{Row, Shadow};
 

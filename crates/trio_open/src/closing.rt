@@ -9,7 +9,7 @@ ghost use Rattle.trio_open.specs.Open.{keyed};
 
 use crate::open::OpenFile;
 use trio_grants::GrantTable;
-use trio_judge::Case;
+use trio_case::Case;
 use trio_nodes::GrantKind;
 use trio_rights::LibNo;
 

@@ -1,7 +1,7 @@
 -- The end of a release at a seat, whether it is taken or comes back.
 use Rattle.std.proofs.Common.{◌≡◌, ◌≤◌, ℕ, None, Result, Ok, Err, IfOk, IfErr, length, ap, ◌∙◌}
 use Rattle.trio_rights.specs.declared.rights.LibNo.{LibNo}
-use Rattle.trio_judge.specs.Cases.{CaseShown, case_in as case_shown}
+use Rattle.trio_case.specs.Cases.{CaseShown, case_in as case_shown}
 use Rattle.trio_nodes.specs.declared.answers.ReleaseAnswer.{ReleaseAnswer}
 use Rattle.trio_state.specs.Moves.{IsAwaited}
 use Rattle.trio_turn.specs.Marks.{Mark}

@@ -9,7 +9,7 @@ use Rattle.trio_rights.specs.declared.rights.LibNo.{LibNo}
 use Rattle.trio_lease.specs.Bundles.{Bundled}
 use Rattle.trio_lease.specs.Shown.{Shown}
 use Rattle.trio_lease.specs.Views.{bundle_in}
-use Rattle.trio_judge.specs.Cases.{CaseShown}
+use Rattle.trio_case.specs.Cases.{CaseShown}
 use Rattle.trio_desk.specs.Call.{DeskSeen, NotJudged, TellsClosed}
 use Rattle.trio_desk.specs.Out.{LibOut, parcel_of}
 use Rattle.trio_nodes.specs.declared.entry.Entry.{Entry}

@@ -2,7 +2,7 @@
 
 ghost use Rattle.std.specs.Prelude.{◌≡◌, IfErr, IfOk, MatchResult};
 ghost use Rattle.trio_desk.specs.Out.{WasGiven, parcel_of};
-ghost use Rattle.trio_judge.specs.Cases.{case_in as case_shown};
+ghost use Rattle.trio_case.specs.Cases.{case_in as case_shown};
 ghost use Rattle.trio_lease.specs.Views.{bundle_in};
 ghost use Rattle.trio_state.specs.Moves.{Acts, Begin, IsAwaited, KeptUnderway};
 ghost use Rattle.trio_ctl.specs.Answers.{begin_answer};

@@ -7,7 +7,7 @@ use Rattle.trio_lease.specs.declared.lease.Lease.TheVariants.{Write}
 use Rattle.trio_desk.specs.Call.{DeskSeen}
 use Rattle.trio_desk.specs.Contents.{Sizes}
 use Rattle.trio_desk.specs.Out.{IsFreshLease, LibOut, OutAlike, Parcel, WasGiven, parcel_of, with_lease}
-use Rattle.trio_judge.specs.Cases.{CaseShown}
+use Rattle.trio_case.specs.Cases.{CaseShown}
 use Rattle.trio_raw.specs.Has.{OnList, keeps_lease, nothing}
 use Rattle.trio_raw.proofs.Standing.{stands-lease, stands_alike, whole-given}
 use Rattle.trio_state.specs.State.{State}

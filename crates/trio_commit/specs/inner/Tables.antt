@@ -8,7 +8,7 @@ use Rattle.trio_tables.specs.Row.{as_row}
 use Rattle.trio_layout.specs.Listing.{Listing, ListedEntry, ListedFile}
 use Rattle.trio_layout.specs.Edges.{is_listed}
 use Rattle.trio_layout.specs.Tables.{placed_row}
-use Rattle.trio_judge.specs.declared.listing.ListedFile.{ListedFile as FileData}
+use Rattle.trio_case.specs.declared.listing.ListedFile.{ListedFile as FileData}
 
 -- the file is held, and no entry names it
 abbrev pub is_gone : Listing → ℕ → Bool

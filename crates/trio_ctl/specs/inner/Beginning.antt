@@ -5,7 +5,7 @@ use Rattle.trio_layout.specs.Image.{settled_body}
 use Rattle.trio_lease.specs.Views.{bundle_in}
 use Rattle.trio_lease.specs.declared.parts.HoldParts.{HoldParts}
 use Rattle.trio_lists.specs.Lists.{In}
-use Rattle.trio_judge.specs.Cases.{CaseShown}
+use Rattle.trio_case.specs.Cases.{CaseShown}
 use Rattle.trio_state.specs.Moves.{Underway}
 use Rattle.trio_state.specs.State.{State, creds_of, settled}
 use Rattle.trio_ctl.specs.Ctl.{Registered}

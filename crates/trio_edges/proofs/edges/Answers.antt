@@ -5,7 +5,7 @@ use Rattle.trio_lists.specs.Lists.{In}
 use Rattle.trio_lists.proofs.Members.{In-map}
 use Rattle.trio_lists.proofs.Filters.{get_or-In}
 use Rattle.trio_layout.specs.Edges.{comes_to_root}
-use Rattle.trio_judge.specs.Listed.{entry_seen}
+use Rattle.trio_case.specs.Listed.{entry_seen}
 use Rattle.trio_edges.proofs.EdgeLemmas.{clear_keeps, clear_leaves, meets_all, breaks_not, lost_breaks}
 use Rattle.trio_edges.proofs.edges.Goals as goal
 

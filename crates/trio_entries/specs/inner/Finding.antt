@@ -8,9 +8,9 @@ use Rattle.std.specs.BTreeMap.{get}
 use Rattle.trio_lists.specs.Lists.{In, is_among}
 use Rattle.trio_layout.specs.Listing.{Listing, ListedEntry}
 use Rattle.trio_lease.specs.Shown.{LentFile}
-use Rattle.trio_judge.specs.Cases.{CaseShown, case_in}
-use Rattle.trio_judge.specs.Indexed.{IsIndexOf}
-use Rattle.trio_judge.specs.Order.{place_of}
+use Rattle.trio_case.specs.Cases.{CaseShown, case_in}
+use Rattle.trio_case.specs.Indexed.{IsIndexOf}
+use Rattle.trio_case.specs.Order.{place_of}
 use Rattle.trio_nodes.specs.declared.entry.Handed.{Handed}
 use Rattle.trio_nodes.specs.declared.entry.HandedPage.{HandedPage}
 use Rattle.trio_state.specs.Listed.{Notes, is_marked}

@@ -2,7 +2,7 @@
 use Rattle.std.specs.Prelude.{ℕ, ◌≡◌, Bool, true, [], length, map}
 use Rattle.trio_lists.specs.Lists.{In, are_new}
 use Rattle.trio_layout.specs.Listing.{Listing}
-use Rattle.trio_judge.specs.Cases.{CaseShown, lent_numbers}
+use Rattle.trio_case.specs.Cases.{CaseShown, lent_numbers}
 
 -- the leases and holds of a case are of one file each
 abbrev pub lent_once : CaseShown → Bool

@@ -2,7 +2,7 @@
 use Rattle.std.specs.Prelude.{ℕ, List, map}
 use Rattle.trio_nodes.specs.Told.{block_in, ToldBlock}
 use Rattle.trio_nodes.specs.declared.raw.PlacedBlock.{PlacedBlock}
-use Rattle.trio_judge.specs.Cases.{CaseShown}
+use Rattle.trio_case.specs.Cases.{CaseShown}
 use Rattle.trio_entries.specs.Handed.{handed_in}
 use Rattle.trio_entries.specs.declared.blocks.Pages.{Pages}
 use Rattle.trio_entries.specs.declared.blocks.Pages.TheVariants.{Listed, Lent}

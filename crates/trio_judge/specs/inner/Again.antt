@@ -12,7 +12,7 @@ use Rattle.trio_layout.specs.Entries.{Listed}
 use Rattle.trio_layout.specs.Survey.{Met}
 use Rattle.trio_layout.specs.Case.{Case, bundle_core}
 use Rattle.trio_layout.specs.Within.{chain_of_within, entries_within}
-use Rattle.trio_judge.specs.Order.{is_marked}
+use Rattle.trio_case.specs.Order.{is_marked}
 
 -- the body in the slot of an entry is in the grammar for the entry's kind
 abbrev pub has_body : CoreRange → Listed → Bool

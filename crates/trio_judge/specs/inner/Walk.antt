@@ -17,8 +17,8 @@ use Rattle.trio_layout.specs.Listing.{Listing, entry_listed, file_listed}
 use Rattle.trio_layout.specs.Rules.{entry_in_grammar, entry_is_own, entry_keeps_rights, file_keeps_rights, has_rights}
 use Rattle.trio_layout.specs.Broken.{BreaksOwning, BreaksRights}
 use Rattle.trio_layout.proofs.QueueLaws.{pass_many}
-use Rattle.trio_judge.specs.Order.{AreMarked}
-use Rattle.trio_judge.specs.declared.listing.ListingRoom.{ListingRoom}
+use Rattle.trio_case.specs.Order.{AreMarked}
+use Rattle.trio_case.specs.declared.listing.ListingRoom.{ListingRoom}
 use Rattle.trio_judge.specs.declared.walk.JudgedFile.{JudgedFile}
 use Rattle.trio_judge.specs.declared.walk.FaultAt.{FaultAt}
 use Rattle.trio_judge.specs.declared.walk.Walk.{Walk}

@@ -4,7 +4,7 @@ use Rattle.trio_rights.specs.declared.rights.LibNo.{LibNo}
 use Rattle.trio_desk.specs.Call.{Ask, Told}
 use Rattle.trio_nodes.specs.declared.entry.Entry.{Entry}
 use Rattle.trio_turn.specs.Logs.{GrewBy, made_by}
-use Rattle.trio_judge.specs.Cases.{CaseShown, case_in as case_shown}
+use Rattle.trio_case.specs.Cases.{CaseShown, case_in as case_shown}
 use Rattle.trio_lease.specs.Views.{bundle_in}
 use Rattle.trio_nodes.specs.declared.answers.ReleaseAnswer.{ReleaseAnswer}
 use Rattle.trio_state.specs.Moves.{Acts, Answered, End, IsAwaited, IsFull, KeptUnderway}

@@ -1,5 +1,5 @@
 use Rattle.std.proofs.Common.{ap, sym}
-use Rattle.trio_judge.specs.Listed.{entry_seen}
+use Rattle.trio_case.specs.Listed.{entry_seen}
 use Rattle.trio_commit.specs.Bodies.{kept_body}
 use Rattle.trio_commit.specs.inner.Putting.{with_taken}
 use Rattle.trio_commit.proofs.Placing.{entry_put}

@@ -1,5 +1,5 @@
 use Rattle.std.proofs.Common.{◌+◌, None, get_or, map, arith}
-use Rattle.trio_judge.specs.Listed.{entry_seen}
+use Rattle.trio_case.specs.Listed.{entry_seen}
 use Rattle.trio_commit.specs.Bodies.{kept_children, page_changes}
 use Rattle.trio_commit.specs.inner.Putting.{taken_number, with_taken}
 use Rattle.trio_commit.proofs.Cells.{no_entry}

@@ -1,6 +1,6 @@
 use Rattle.std.proofs.Common.{◌≡◌, ◌+◌, ◌≤◌, None, drop, map, take}
 use Rattle.trio_layout.specs.Accept.{with_bodies}
-use Rattle.trio_judge.specs.Listed.{entry_seen}
+use Rattle.trio_case.specs.Listed.{entry_seen}
 use Rattle.trio_commit.specs.Bodies.{kept_children, page_changes}
 use Rattle.trio_commit.specs.inner.Putting.{IsAway, taken_number, with_taken}
 use Rattle.trio_commit.proofs.bodies.put_kept.Given as goal

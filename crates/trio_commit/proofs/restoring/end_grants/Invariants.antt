@@ -1,6 +1,6 @@
 use Rattle.std.proofs.Common.{◌≡◌, None, take, map}
 use Rattle.trio_tables.specs.Out.{with_all}
-use Rattle.trio_judge.specs.declared.listing.ListedFile.{ListedFile}
+use Rattle.trio_case.specs.declared.listing.ListedFile.{ListedFile}
 use Rattle.trio_commit.proofs.restoring.end_grants.Given as goal
 
 abbrev pub invariant-loop-file : goal.invariant-loop-file

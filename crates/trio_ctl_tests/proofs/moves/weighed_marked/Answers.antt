@@ -1,5 +1,5 @@
 use Rattle.std.proofs.Common.{subst, sym}
-use Rattle.trio_judge.specs.Cases.{CaseShown}
+use Rattle.trio_case.specs.Cases.{CaseShown}
 use Rattle.trio_ctl_tests.specs.Leases.{AreAllTouched}
 use Rattle.trio_ctl_tests.proofs.moves.weighed_marked.Goals as goal
 

@@ -1,7 +1,7 @@
 use Rattle.std.proofs.Common.{length, ap, arith}
 use Rattle.std.specs.List.{flat_map}
 use Rattle.std.proofs.lemmas.List.{take_all}
-use Rattle.trio_judge.proofs.Making.{bundle_length, file_numbers}
+use Rattle.trio_case.proofs.Making.{bundle_length, file_numbers}
 use Rattle.trio_entries.proofs.draft.page_count.Goals as goal
 
 pub loop-lease-init : goal.loop-lease-init

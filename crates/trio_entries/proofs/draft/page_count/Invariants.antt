@@ -1,6 +1,6 @@
 use Rattle.std.proofs.Common.{◌≡◌, ◌+◌, length, take}
 use Rattle.std.specs.List.{flat_map}
-use Rattle.trio_judge.proofs.Making.{file_numbers}
+use Rattle.trio_case.proofs.Making.{file_numbers}
 use Rattle.trio_entries.proofs.draft.page_count.Given as goal
 
 -- the allotted pages, and those of the leases so far

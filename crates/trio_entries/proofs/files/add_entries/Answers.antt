@@ -7,8 +7,8 @@ use Rattle.trio_entries.proofs.EntryLemmas.{no_entry}
 use Rattle.trio_entries.proofs.Adding.{added, filter_map-map, get-In}
 use Rattle.trio_lists.proofs.Members.{In-map}
 use Rattle.trio_layout.specs.Listing.{ListedEntry}
-use Rattle.trio_judge.specs.Listed.{entry_seen}
-use Rattle.trio_judge.specs.declared.listing.ListedEntry.{ListedEntry as EntryData}
+use Rattle.trio_case.specs.Listed.{entry_seen}
+use Rattle.trio_case.specs.declared.listing.ListedEntry.{ListedEntry as EntryData}
 use Rattle.trio_state.specs.Listed.{told_entry}
 use Rattle.trio_entries.proofs.files.add_entries.Goals as goal
 

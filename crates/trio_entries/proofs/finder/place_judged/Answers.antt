@@ -1,5 +1,5 @@
 use Rattle.std.proofs.Common.{◌∙◌, length}
-use Rattle.trio_judge.specs.declared.listing.ListedFile.{ListedFile}
+use Rattle.trio_case.specs.declared.listing.ListedFile.{ListedFile}
 use Rattle.trio_entries.proofs.Finding.{or_turn, place_more_by, unnoted_length}
 use Rattle.trio_entries.proofs.finder.place_judged.Goals as goal
 

@@ -1,7 +1,7 @@
 use Rattle.std.proofs.Common.{◌≡◌, ℕ, List, None, length, map, replicate, take}
 use Rattle.trio_lists.specs.Lists.{In}
-use Rattle.trio_judge.specs.Order.{place_of}
-use Rattle.trio_judge.specs.declared.listing.ListedFile.{ListedFile}
+use Rattle.trio_case.specs.Order.{place_of}
+use Rattle.trio_case.specs.declared.listing.ListedFile.{ListedFile}
 use Rattle.trio_entries.specs.inner.Finding.{judged_place, ArePlaces}
 use Rattle.trio_entries.proofs.finder.place_judged.Given as goal
 

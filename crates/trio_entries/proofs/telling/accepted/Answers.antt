@@ -7,7 +7,7 @@ use Rattle.trio_lease.specs.Views.{bundle_in, written_in}
 use Rattle.trio_lease.specs.declared.parts.HoldParts.{HoldParts}
 use Rattle.trio_lease.specs.declared.parts.InoParts.{InoParts}
 use Rattle.trio_layout.specs.Listing.{Listing, ListedFile}
-use Rattle.trio_judge.proofs.Starting.{writes_of}
+use Rattle.trio_case.proofs.CaseRows.{writes_of}
 use Rattle.trio_nodes.specs.Told.{block_in, ToldBundle}
 use Rattle.trio_nodes.specs.declared.entry.Handed.{Handed}
 use Rattle.trio_nodes.specs.declared.entry.RawFile.{RawFile}

@@ -1,7 +1,7 @@
 use Rattle.std.proofs.Common.{arith}
 use Rattle.trio_rights.specs.Bundle.{bundle_pages}
 use Rattle.trio_lease.specs.Views.{bundle_in}
-use Rattle.trio_judge.proofs.Making.{few_pages}
+use Rattle.trio_case.proofs.Making.{few_pages}
 use Rattle.trio_entries.proofs.telling.few_pages.Goals as goal
 
 pub returns : goal.returns

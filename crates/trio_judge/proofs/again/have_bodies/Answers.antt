@@ -2,8 +2,8 @@ use Rattle.std.proofs.Common.{rules, ◌≡◌, ◌<◌, true, Bool, length, get
 use Rattle.std.specs.List.{list_all}
 use Rattle.std.proofs.lemmas.List.Folds.{list_all-map}
 use Rattle.trio_layout.specs.Entries.{Listed}
-use Rattle.trio_judge.specs.Reading.{listed_seen}
-use Rattle.trio_judge.specs.Rooms.{entries_kept}
+use Rattle.trio_case.specs.Reading.{listed_seen}
+use Rattle.trio_case.specs.Rooms.{entries_kept}
 use Rattle.trio_judge.specs.inner.Again.{has_body}
 use Rattle.trio_judge.proofs.FoundAgain.{bodies_more}
 use Rattle.trio_judge.proofs.again.have_bodies.Goals as goal

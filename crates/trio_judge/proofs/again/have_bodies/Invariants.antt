@@ -1,6 +1,6 @@
 use Rattle.std.proofs.Common.{◌≡◌, true, take}
 use Rattle.std.specs.List.{flat_map, list_all}
-use Rattle.trio_judge.specs.Rooms.{entries_kept}
+use Rattle.trio_case.specs.Rooms.{entries_kept}
 use Rattle.trio_judge.specs.inner.Again.{has_body}
 use Rattle.trio_judge.proofs.again.have_bodies.Given as goal
 

@@ -4,8 +4,8 @@ use Rattle.trio_rights.specs.declared.kind.Kind.TheVariants.{Directory}
 use Rattle.trio_layout.specs.Body.{block_count, body_of}
 use Rattle.trio_layout.specs.Case.{file_in}
 use Rattle.trio_layout.specs.Survey.{FileRead}
-use Rattle.trio_judge.specs.Cases.{case_in}
-use Rattle.trio_judge.specs.Rooms.{entries_in_room, file_in_room}
+use Rattle.trio_case.specs.Cases.{case_in}
+use Rattle.trio_case.specs.Rooms.{entries_in_room, file_in_room}
 use Rattle.trio_judge.specs.inner.Again.{has_body}
 use Rattle.trio_judge.specs.inner.Walk.{file_met}
 use Rattle.trio_judge.proofs.FoundAgain.{found_head, found_of, heads_more}

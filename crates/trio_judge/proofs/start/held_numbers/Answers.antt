@@ -1,7 +1,7 @@
 use Rattle.std.proofs.Common.{◌∙◌, map, ap, arith}
 use Rattle.std.proofs.lemmas.List.{take_all}
 use Rattle.trio_lists.specs.Sorting.{sorted_by}
-use Rattle.trio_judge.proofs.Sorted.{sorted_by_key}
+use Rattle.trio_case.proofs.Sorted.{sorted_by_key}
 use Rattle.trio_judge.proofs.start.held_numbers.Goals as goal
 
 pub returns : goal.returns

@@ -5,10 +5,10 @@ use Rattle.trio_lease.specs.Bundles.{Bundled}
 use Rattle.trio_lease.specs.Shown.{LentFile}
 use Rattle.trio_lease.specs.Views.{written_in}
 use Rattle.trio_layout.specs.JudgedFiles.{written_met}
-use Rattle.trio_judge.specs.Cases.{case_in}
+use Rattle.trio_case.specs.Cases.{case_in}
 use Rattle.trio_judge.specs.declared.walk.JudgedFile.{JudgedFile}
 use Rattle.trio_judge.specs.inner.Walk.{file_met}
-use Rattle.trio_judge.proofs.Sorted.{sorted_by_key}
+use Rattle.trio_case.proofs.Sorted.{sorted_by_key}
 use Rattle.trio_judge.proofs.Starting.{files_sorted, mets_of}
 use Rattle.trio_judge.proofs.start.written_files.Goals as goal
 

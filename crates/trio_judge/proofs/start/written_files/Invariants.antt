@@ -1,7 +1,7 @@
 use Rattle.std.proofs.Common.{◌≡◌, ◌+◌, ◌≤◌, length, map, take, vec_len, vec_capacity}
 use Rattle.trio_lease.specs.Views.{written_in}
 use Rattle.trio_layout.specs.JudgedFiles.{written_met}
-use Rattle.trio_judge.specs.Cases.{case_in}
+use Rattle.trio_case.specs.Cases.{case_in}
 use Rattle.trio_judge.specs.inner.Walk.{file_met}
 use Rattle.trio_judge.proofs.start.written_files.Given as goal
 

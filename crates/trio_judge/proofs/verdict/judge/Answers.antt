@@ -1,7 +1,7 @@
 use Rattle.std.proofs.Common.{◌≤◌, inl, refl, sym, subst, length, arith}
 use Rattle.std.proofs.lemmas.List.{length-map}
 use Rattle.trio_layout.specs.Survey.{numbers}
-use Rattle.trio_judge.specs.Cases.{case_in}
+use Rattle.trio_case.specs.Cases.{case_in}
 use Rattle.trio_judge.specs.inner.Again.{AreFoundHeads}
 use Rattle.trio_judge.specs.inner.Walk.{fault_place, file_met, files_of}
 use Rattle.trio_judge.proofs.Ending.{all_passed, first_unmet, grammar_false, has_ended}

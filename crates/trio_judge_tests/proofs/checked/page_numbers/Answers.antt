@@ -2,7 +2,7 @@ use Rattle.std.proofs.Common.{◌∙◌, ◌++◌, map, sym, ap, arith}
 use Rattle.std.specs.List.{flat_map}
 use Rattle.std.proofs.lemmas.List.{take_all}
 use Rattle.trio_lease.specs.declared.parts.FreshParts.{FreshParts}
-use Rattle.trio_judge.proofs.Making.{bundle_numbers, file_numbers}
+use Rattle.trio_case.proofs.Making.{bundle_numbers, file_numbers}
 use Rattle.trio_judge_tests.proofs.checked.page_numbers.Goals as goal
 
 pub returns : goal.returns

@@ -11,7 +11,7 @@ use Rattle.trio_lease.specs.Views.{bundle_in, written_in}
 use Rattle.trio_tables.proofs.OutLemmas.{length-with_all}
 use Rattle.trio_layout.specs.Accept.{with_bodies}
 use Rattle.trio_layout.specs.Listing.{Listing}
-use Rattle.trio_judge.specs.Listed.{entry_seen}
+use Rattle.trio_case.specs.Listed.{entry_seen}
 use Rattle.trio_checkpoint.proofs.Restoring.{below_parts}
 use Rattle.trio_commit.specs.Bodies.{bodies_home, kept_children, page_changes, placed_files, with_children}
 use Rattle.trio_commit.specs.Listed.{HasPagesBelow, written_pages}

@@ -1,6 +1,6 @@
 use Rattle.std.proofs.Common.{◌≡◌, ap, subst, sym}
 use Rattle.trio_lease.specs.Views.{bundle_in}
-use Rattle.trio_judge.specs.Cases.{CaseShown, case_in as case_shown}
+use Rattle.trio_case.specs.Cases.{CaseShown, case_in as case_shown}
 use Rattle.trio_state.specs.Moves.{IsAwaited, IsFull, Underway}
 use Rattle.trio_ctl.specs.Ctl.{underway_of}
 use Rattle.trio_ctl.specs.inner.Beginning.{underway_at}

@@ -10,7 +10,7 @@ use Rattle.trio_nodes.specs.declared.entry.Entry.{Entry}
 use Rattle.trio_nodes.specs.declared.entry.Entry.TheVariants as entry
 use Rattle.trio_layout.specs.Case.{Case}
 use Rattle.trio_layout.specs.Copied.{with_copied}
-use Rattle.trio_judge.specs.Cases.{CaseShown, case_in as case_shown}
+use Rattle.trio_case.specs.Cases.{CaseShown, case_in as case_shown}
 use Rattle.trio_judge.specs.Verdicts.{HasFewEntries}
 use Rattle.trio_judge.specs.declared.verdict.Verdict.{Verdict}
 use Rattle.trio_state.specs.Bundles.{parted_hold}

@@ -2,7 +2,7 @@ use Rattle.std.proofs.Common.{◌≡◌, ◌+◌, ◌*◌, ◌≤◌, ◌++◌, 
 use Rattle.trio_rights.specs.Bundle.{bundle_pages}
 use Rattle.trio_lease.specs.Views.{bundle_in}
 use Rattle.trio_layout.specs.Copied.{with_copied}
-use Rattle.trio_judge.specs.Cases.{CaseShown, case_in as case_shown}
+use Rattle.trio_case.specs.Cases.{CaseShown, case_in as case_shown}
 use Rattle.trio_state.specs.Moves.{Acts, Answered, End, IsAwaited}
 use Rattle.trio_state.specs.State.{State}
 use Rattle.trio_state.specs.Step.{Release}

@@ -1,6 +1,6 @@
 use Rattle.std.proofs.Common.{◌≡◌, None, ap, sym, subst, ◌∙◌, arith}
 use Rattle.trio_lease.specs.Views.{bundle_in}
-use Rattle.trio_judge.specs.Cases.{CaseShown, IsJudgeable}
+use Rattle.trio_case.specs.Cases.{CaseShown, IsJudgeable}
 use Rattle.trio_state.specs.Bundles.{parted_hold}
 use Rattle.trio_state.specs.Given.{GivenTo}
 use Rattle.trio_state.specs.State.{State, creds_of}

@@ -2,7 +2,7 @@ use Rattle.std.proofs.Common.{◌≡◌, refl, sym, subst}
 use Rattle.trio_lease.specs.Views.{bundle_in}
 use Rattle.trio_layout.specs.Case.{Case}
 use Rattle.trio_layout.specs.Copied.{with_copied}
-use Rattle.trio_judge.specs.Cases.{case_in as case_shown}
+use Rattle.trio_case.specs.Cases.{case_in as case_shown}
 use Rattle.trio_commit.specs.Store.{state_of}
 use Rattle.trio_state.specs.State.{State}
 use Rattle.trio_state.specs.Tells.{case_in}

@@ -1,6 +1,6 @@
 use Rattle.std.proofs.Common.{◌∙◌, ap, map}
 use Rattle.trio_layout.specs.Listing.{ListedFile}
-use Rattle.trio_judge.specs.Order.{place_of}
+use Rattle.trio_case.specs.Order.{place_of}
 use Rattle.trio_entries.specs.inner.Finding.{own_numbers, place_in}
 use Rattle.trio_entries.proofs.Finding.{noted_all}
 use Rattle.trio_entries.proofs.finder.Finder.judge.Goals as goal

@@ -1,8 +1,8 @@
 use Rattle.std.proofs.Common.{◌∙◌, List, ap, arith, length, subst}
 use Rattle.std.specs.List.{flat_map}
 use Rattle.trio_lease.specs.Views.{bundle_in}
-use Rattle.trio_judge.specs.Indexed.{HasPlacesFor}
-use Rattle.trio_judge.specs.Order.{place_of}
+use Rattle.trio_case.specs.Indexed.{HasPlacesFor}
+use Rattle.trio_case.specs.Order.{place_of}
 use Rattle.trio_nodes.specs.declared.entry.Handed.{Handed}
 use Rattle.trio_nodes.specs.declared.entry.HandedFile.{HandedFile}
 use Rattle.trio_entries.proofs.Few.{handed_few, own_outlined, pages_outlined}

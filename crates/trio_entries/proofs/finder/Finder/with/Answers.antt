@@ -1,7 +1,7 @@
 use Rattle.std.proofs.Common.{◌∙◌, None, Option, ℕ, ap, arith, length, replicate, subst, sym}
 use Rattle.trio_lease.specs.Views.{bundle_in}
-use Rattle.trio_judge.specs.Indexed.{HasPlacesFor}
-use Rattle.trio_judge.specs.Order.{place_of}
+use Rattle.trio_case.specs.Indexed.{HasPlacesFor}
+use Rattle.trio_case.specs.Order.{place_of}
 use Rattle.trio_entries.proofs.Few.{own_outlined, pages_outlined}
 use Rattle.trio_entries.proofs.finder.Finder.with.Goals as goal
 

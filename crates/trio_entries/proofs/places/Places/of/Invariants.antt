@@ -1,7 +1,7 @@
 use Rattle.std.proofs.Common.{◌≡◌, ℕ, take}
 use Rattle.std.specs.Ordering.{nat_cmp}
 use Rattle.std.specs.BTreeMap.{get}
-use Rattle.trio_judge.specs.Order.{place_of}
+use Rattle.trio_case.specs.Order.{place_of}
 use Rattle.trio_entries.proofs.places.Places.of.Given as goal
 
 abbrev pub invariant-loop-at : goal.invariant-loop-at

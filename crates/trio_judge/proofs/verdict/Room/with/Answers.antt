@@ -1,7 +1,7 @@
 use Rattle.std.proofs.Common.{◌≡◌, false, length, replicate, ap, ◌∙◌, arith}
 use Rattle.trio_rights.specs.Bundle.{bundle_pages}
 use Rattle.trio_lease.specs.Views.{bundle_in}
-use Rattle.trio_judge.proofs.Opening.{page_count}
+use Rattle.trio_case.proofs.Opening.{page_count}
 use Rattle.trio_judge.proofs.verdict.Room.with.Goals as goal
 
 pub with-requires-2 : goal.with-requires-2

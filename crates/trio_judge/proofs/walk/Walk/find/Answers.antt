@@ -1,7 +1,7 @@
 use Rattle.std.proofs.Common.{◌≡◌, true, false, refl, sym, ◌∙◌, arith}
 use Rattle.trio_lists.specs.Lists.{is_among}
 use Rattle.trio_layout.specs.Survey.{numbers}
-use Rattle.trio_judge.specs.Cases.{case_in}
+use Rattle.trio_case.specs.Cases.{case_in}
 use Rattle.trio_judge.specs.inner.Walk.{file_met, files_of, is_new}
 use Rattle.trio_judge.proofs.Noting.{find_again, find_first, find_old, place_left, ready_more}
 use Rattle.std.proofs.lemmas.List.{map_push}

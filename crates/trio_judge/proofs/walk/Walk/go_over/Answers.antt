@@ -5,8 +5,8 @@ use Rattle.trio_layout.specs.Core.{Location}
 use Rattle.trio_layout.specs.Case.{file_in}
 use Rattle.trio_layout.specs.JudgedFiles.{entries_in}
 use Rattle.trio_layout.specs.Survey.{children_in, met_in, plain}
-use Rattle.trio_judge.specs.Cases.{case_in}
-use Rattle.trio_judge.specs.Rooms.{entries_in_room, entries_kept, file_in_room}
+use Rattle.trio_case.specs.Cases.{case_in}
+use Rattle.trio_case.specs.Rooms.{entries_in_room, entries_kept, file_in_room}
 use Rattle.trio_judge.specs.inner.Walk.{file_met, files_of}
 use Rattle.trio_judge.proofs.Listings.{numbers_below}
 use Rattle.trio_judge.proofs.Noting.{marks_same, ready_same}

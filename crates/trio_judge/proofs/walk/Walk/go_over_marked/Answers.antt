@@ -1,6 +1,6 @@
 use Rattle.trio_layout.specs.JudgedFiles.{entries_in}
 use Rattle.trio_layout.specs.Survey.{numbers}
-use Rattle.trio_judge.specs.Cases.{case_in}
+use Rattle.trio_case.specs.Cases.{case_in}
 use Rattle.trio_judge.specs.inner.Walk.{file_met, files_of}
 use Rattle.trio_judge.proofs.FoundAgain.{all_grown, heads_grown}
 use Rattle.trio_judge.proofs.walk.Walk.go_over_marked.Goals as goal

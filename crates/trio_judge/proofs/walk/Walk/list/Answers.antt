@@ -1,6 +1,6 @@
 use Rattle.std.proofs.Common.{◌∷◌, [], refl, sym, ap, ◌∙◌}
-use Rattle.trio_judge.specs.Cases.{case_in}
-use Rattle.trio_judge.specs.Listed.{Listed}
+use Rattle.trio_case.specs.Cases.{case_in}
+use Rattle.trio_case.specs.Listed.{Listed}
 use Rattle.trio_judge.specs.inner.Walk.{file_met}
 use Rattle.trio_judge.proofs.Faults.{entry_again, entry_foreign}
 use Rattle.trio_judge.proofs.Noting.{entries_still, is_none_of, lists_entry, new_mark, old_mark, so_far}

@@ -2,9 +2,9 @@ use Rattle.std.proofs.Common.{◌+◌, ◌≤◌, length, map, take, sym, ◌∷
 use Rattle.std.proofs.lemmas.List.{length-take}
 use Rattle.trio_lists.specs.Lists.{In}
 use Rattle.trio_layout.specs.Survey.{met_in, plain}
-use Rattle.trio_judge.specs.Cases.{case_in}
-use Rattle.trio_judge.specs.Reading.{listed_seen}
-use Rattle.trio_judge.specs.declared.entries.DirEntry.{DirEntry}
+use Rattle.trio_case.specs.Cases.{case_in}
+use Rattle.trio_case.specs.Reading.{listed_seen}
+use Rattle.trio_case.specs.declared.entries.DirEntry.{DirEntry}
 use Rattle.trio_judge.proofs.Noting.{bad_among, block_has, block_len, block_more, noted_append, places_fewer}
 use Rattle.trio_judge.proofs.walk.Walk.note_block.Goals as goal
 

@@ -1,7 +1,7 @@
 use Rattle.std.proofs.Common.{map, take}
 use Rattle.trio_layout.specs.Survey.{met_in, plain}
-use Rattle.trio_judge.specs.Cases.{case_in}
-use Rattle.trio_judge.specs.Reading.{listed_seen}
+use Rattle.trio_case.specs.Cases.{case_in}
+use Rattle.trio_case.specs.Reading.{listed_seen}
 use Rattle.trio_judge.specs.inner.Walk.{Noted}
 use Rattle.trio_judge.proofs.walk.Walk.note_block.Given as goal
 

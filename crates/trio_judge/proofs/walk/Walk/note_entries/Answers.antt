@@ -5,9 +5,9 @@ use Rattle.std.proofs.lemmas.List.{length-map}
 use Rattle.std.proofs.lemmas.List.Folds.{length-flat_map-take, list_all-map}
 use Rattle.trio_layout.specs.Entries.{Listed}
 use Rattle.trio_layout.specs.Survey.{met_in, plain}
-use Rattle.trio_judge.specs.Cases.{case_in}
-use Rattle.trio_judge.specs.Reading.{listed_seen}
-use Rattle.trio_judge.specs.Rooms.{entries_kept}
+use Rattle.trio_case.specs.Cases.{case_in}
+use Rattle.trio_case.specs.Reading.{listed_seen}
+use Rattle.trio_case.specs.Rooms.{entries_kept}
 use Rattle.trio_judge.proofs.Noting.{all_of_block, bad_among, entries_have, entries_more, noted_append, places_fewer}
 use Rattle.trio_judge.proofs.walk.Walk.note_entries.Goals as goal
 

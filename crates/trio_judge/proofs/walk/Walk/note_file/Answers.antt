@@ -3,9 +3,9 @@ use Rattle.std.specs.List.{flat_map}
 use Rattle.trio_rights.specs.Bundle.{bundle_pages}
 use Rattle.trio_layout.specs.Survey.{pages_in}
 use Rattle.trio_layout.specs.JudgedFiles.{pages_within}
-use Rattle.trio_judge.specs.Cases.{case_in}
-use Rattle.trio_judge.specs.Listed.{Listed}
-use Rattle.trio_judge.specs.Rooms.{file_in_room}
+use Rattle.trio_case.specs.Cases.{case_in}
+use Rattle.trio_case.specs.Listed.{Listed}
+use Rattle.trio_case.specs.Rooms.{file_in_room}
 use Rattle.trio_judge.specs.inner.Walk.{FirstForeign, file_met, own_numbers}
 use Rattle.trio_judge.proofs.Faults.{page_fails}
 use Rattle.trio_judge.proofs.FileNoted.{file_place, first_of_both, lists_file, page_places, read_more, stands_still}

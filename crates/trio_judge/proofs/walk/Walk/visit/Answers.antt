@@ -3,7 +3,7 @@ use Rattle.std.specs.Prelude.{is_some}
 use Rattle.std.proofs.lemmas.List.{get_or-map, length-map}
 use Rattle.trio_layout.specs.Core.{Location}
 use Rattle.trio_layout.specs.JudgedFiles.{entries_in}
-use Rattle.trio_judge.specs.Cases.{case_in}
+use Rattle.trio_case.specs.Cases.{case_in}
 use Rattle.trio_judge.specs.inner.Again.{IsListedBefore}
 use Rattle.trio_judge.specs.inner.Walk.{file_met, files_of}
 use Rattle.trio_judge.proofs.FoundAgain.{heads_grown, nothing_new, passed_again, queued_again}

@@ -1,7 +1,7 @@
 use Rattle.std.proofs.Common.{rules, ◌≡◌, ◌++◌, ◌∙◌, ap, subst, sym}
 use Rattle.trio_rights.specs.declared.rights.LibNo.{LibNo}
 use Rattle.trio_lease.specs.Views.{bundle_in}
-use Rattle.trio_judge.specs.Cases.{case_in as case_shown}
+use Rattle.trio_case.specs.Cases.{case_in as case_shown}
 use Rattle.trio_state.specs.Moves.{Acts, Answered, End, IsAwaited}
 use Rattle.trio_state.specs.Step.{Release}
 use Rattle.trio_ctl.specs.Answers.{verdict_of}

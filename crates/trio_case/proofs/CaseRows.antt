@@ -1,0 +1,203 @@
+-- What a bundle has under a number, and the rows that are copied for it.
+use Rattle.std.proofs.Common.{◌≡◌, ℕ, suc, zero, ◌+◌, ◌<◌, ◌≤◌, eqb, Bool, true, false, ◌&&◌, ◌||◌, cond, List, [], ◌∷◌, ◌++◌, length, get_or, map, take, Option, Some, None, Bor, nat_le, nat_lt, IsTrue, IsSome, IfSome, sym, refl, ap, ◌∙◌, subst, append_assoc, inl, inr, arith}
+use Rattle.std.specs.Prelude.{is_some, is_none}
+use Rattle.std.specs.List.{find, list_all, list_any}
+use Rattle.std.specs.Option.{option_copied, option_map, option_map_or, option_or}
+use Rattle.std.specs.Ordering.{nat_cmp}
+use Rattle.std.specs.BTreeMap.{BTreeMap, get}
+use Rattle.std.specs.BTreeSet.{contains}
+use Rattle.std.proofs.lemmas.Bool.{and_parts, and_from, cases_eq, cases_lt, le-leb}
+use Rattle.std.proofs.lemmas.Bool.Decides.{nat_tests}
+use Rattle.std.proofs.lemmas.List.{ext_get_or, map-append, take_more}
+use Rattle.std.proofs.lemmas.List.Folds.{find-append, list_all-append, list_any-append}
+use Rattle.trio_rights.specs.Row.{Row, row_in}
+use Rattle.trio_rights.specs.Bundle.{Written, is_written}
+use Rattle.trio_rights.specs.declared.kind.Kind.{Kind}
+use Rattle.trio_rights.specs.declared.kind.Kind.TheVariants.{Regular, Directory}
+use Rattle.trio_lists.specs.Lists.{is_among, tabulated}
+use Rattle.trio_lists.proofs.Tabulated.{tabulated-get, tabulated-length}
+use Rattle.trio_lease.specs.Bundles.{Bundled}
+use Rattle.trio_lease.specs.Shown.{LentFile}
+use Rattle.trio_lease.specs.Views.{bundle_in, written_in}
+use Rattle.trio_lease.specs.declared.parts.HoldParts.{HoldParts}
+use Rattle.trio_lease.specs.declared.parts.InoParts.{InoParts}
+use Rattle.trio_layout.specs.declared.range.CoreRange.{CoreRange}
+use Rattle.trio_layout.specs.Allowed.{has_kind}
+use Rattle.trio_layout.specs.Copied.{copied_row}
+use Rattle.trio_layout.specs.Case.{Held}
+use Rattle.trio_tables.specs.Row.{as_row}
+use Rattle.trio_tables.specs.declared.row.Row.{Row as RowData}
+use Rattle.trio_case.specs.Cases.{CaseShown, case_in, held_in, is_free_number, lent_numbers, HasDirectoryParents, IsCase, IsJudgeable}
+use Rattle.trio_case.specs.declared.numbers.Numbers.{Numbers}
+use Rattle.trio_case.specs.inner.Maps.{body_lent, is_directory, map_row, HasRowsOf, Tells}
+
+-- ---- numbers
+
+-- the numbers of the written files, in the words of the rules
+pub writes_of : (k : CaseShown) → map (λ (w : Written). w.ino) (case_in k).bundle.writes ≡ map (λ (f : LentFile). f.stands.ino) k.bundle.writes
+writes_of k = go k.bundle.writes
+  where
+    go : (fs : List LentFile) → map (λ (w : Written). w.ino) (map (λ f. written_in f.stands) fs) ≡ map (λ (f : LentFile). f.stands.ino) fs
+    go [] = refl
+    go (f ∷ fs) = ap (λ ns. f.stands.ino ∷ ns) (go fs)
+
+found_or : {X : Type 0} (here : Bool) (x : X) (o : Option X) (t : Bool) → is_some o ≡ t → is_some (cond here (Some x) o) ≡ (here || t)
+found_or true x o t h = refl
+found_or false x o t h = h
+
+body_or : (here : Bool) (h : HoldParts) (o : Option HoldParts) (t : Bool) → is_some (option_map (λ (x : HoldParts). x.body) o) ≡ t → is_some (option_map (λ (x : HoldParts). x.body) (cond here (Some h) o)) ≡ (here || t)
+body_or true h o t e = refl
+body_or false h o t e = e
+
+lent_or : (here : Bool) (h : HoldParts) (o : Option HoldParts) (p : Option Held) → option_map_or (λ x. x) (option_map (λ (x : HoldParts). x.body) o) [] ≡ option_map_or (λ (x : Held). x.body) p [] → option_map_or (λ x. x) (option_map (λ (x : HoldParts). x.body) (cond here (Some h) o)) [] ≡ option_map_or (λ (x : Held). x.body) (cond here (Some (held_in h)) p) []
+lent_or true h o p e = refl
+lent_or false h o p e = e
+
+pub written_is : (fs : List LentFile) (n : ℕ) → is_some (find (λ w. eqb w.ino n) (map (λ (f : LentFile). written_in f.stands) fs)) ≡ is_among n (map (λ (f : LentFile). f.stands.ino) fs)
+written_is [] n = refl
+written_is (f ∷ fs) n = found_or (eqb f.stands.ino n) _ _ _ (written_is fs n)
+
+pub held_is : (hs : List HoldParts) (n : ℕ) → is_some (body_lent hs n) ≡ is_among n (map (λ (h : HoldParts). h.ino) hs)
+held_is [] n = refl
+held_is (h ∷ hs) n = body_or (eqb h.ino n) h _ _ (held_is hs n)
+
+map_or : {X Y : Type 0} (f : X → Y) (a b : Option X) → option_map f (option_or a b) ≡ option_or (option_map f a) (option_map f b)
+map_or f None b = refl
+map_or f (Some x) b = refl
+
+-- one hold more
+pub body_more : (hs : List HoldParts) (i : ℕ) (h : HoldParts) (n : ℕ) → i < length hs → h ≡ get_or hs i h → body_lent (take (i + 1) hs) n ≡ option_or (body_lent (take i hs) n) (body_lent (h ∷ []) n)
+body_more hs i h n lt is =
+    let more : take (i + 1) hs ≡ take i hs ++ h ∷ [] = take_more hs i h lt ∙ ap (λ x. take i hs ++ x ∷ []) (sym is) in
+    ap (λ x. body_lent x n) more ∙ ap (option_map (λ (x : HoldParts). x.body)) (find-append (λ (x : HoldParts). eqb x.ino n) (take i hs) (h ∷ []))
+    ∙ map_or (λ (x : HoldParts). x.body) (find (λ (x : HoldParts). eqb x.ino n) (take i hs)) (find (λ (x : HoldParts). eqb x.ino n) (h ∷ []))
+
+-- what the sets tell is what the bundle has
+own_is : (t : Numbers) (b : Bundled) (n p : ℕ) → Tells t b → (contains nat_cmp t.writes n || is_some (get nat_cmp t.holds n) || contains nat_cmp t.writes p) ≡ (is_written (bundle_in b) n || is_among n (bundle_in b).holds || is_written (bundle_in b) p)
+own_is t b n p h = rw (h.writes, h.writes, h.holds, held_is) refl
+
+pub copied_if : (t : Numbers) (b : Bundled) (n : ℕ) (r : RowData) (own : Bool) → Tells t b → own ≡ (contains nat_cmp t.writes n || is_some (get nat_cmp t.holds n) || contains nat_cmp t.writes r.parent) → cond own (Some (as_row r)) None ≡ copied_row (bundle_in b) n (Some (as_row r))
+copied_if t b n r own h e = ap (λ x. cond x (Some (as_row r)) None) (e ∙ own_is t b n r.parent h)
+
+-- ---- rows of the bundle's own files
+
+same_cond : {X : Type 0} (b : Bool) (o : Option X) → o ≡ None → cond b o None ≡ None
+same_cond true o h = h
+same_cond false o h = refl
+
+or_parts : (a b : Bool) → (a || b) ≡ false → (a ≡ false) × (b ≡ false)
+or_parts true b h = absurd cc
+or_parts false b h = (refl, h)
+
+or_from : (a b : Bool) → a ≡ false → b ≡ false → (a || b) ≡ false
+or_from true b h k = absurd cc
+or_from false b h k = k
+
+other : (kind : Kind) (rows : List (Option Row)) (n p : ℕ) → has_kind kind (row_in rows n) ≡ true → is_directory kind ≡ false → has_kind Regular (row_in rows p) ≡ false → eqb n p ≡ false
+other Directory rows n p a d h = absurd cc
+other Regular rows n p a d h =
+    elim (cases_eq n p) [
+      | inl same ↦ (let both : true ≡ false = sym a ∙ ap (λ i. has_kind Regular (row_in rows i)) same ∙ h in absurd cc)
+      | inr differ ↦ grind (arith, nat_tests)
+    ]
+
+-- a regular file is no row's directory
+no_child : (fs : List LentFile) (rows : List (Option Row)) (p : ℕ) → list_all (λ f. has_kind f.stands.kind (row_in rows f.stands.ino)) fs ≡ true → list_any (λ f. is_directory f.stands.kind) fs ≡ false → has_kind Regular (row_in rows p) ≡ false → is_among p (map (λ (f : LentFile). f.stands.ino) fs) ≡ false
+no_child [] rows p all none h = refl
+no_child (f ∷ fs) rows p all none h =
+    let a = and_parts (has_kind f.stands.kind (row_in rows f.stands.ino)) (list_all (λ g. has_kind g.stands.kind (row_in rows g.stands.ino)) fs) all in
+    let d = or_parts (is_directory f.stands.kind) (list_any (λ g. is_directory g.stands.kind) fs) none in
+    or_from (eqb f.stands.ino p) (is_among p (map (λ (g : LentFile). g.stands.ino) fs)) (other f.stands.kind rows f.stands.ino p a.0 d.0 h) (no_child fs rows p a.1 d.1 h)
+
+last_false : (x y z : Bool) → z ≡ false → (x || y) ≡ (x || y || z)
+last_false true y z h = refl
+last_false false true z h = refl
+last_false false false z h = sym h
+
+own_row : (b : Bundled) (rows : List (Option Row)) (n : ℕ) (o : Option Row) → row_in rows n ≡ o → list_all (λ f. has_kind f.stands.kind (row_in rows f.stands.ino)) b.writes ≡ true → list_any (λ f. is_directory f.stands.kind) b.writes ≡ false → HasDirectoryParents rows → cond (is_among n (lent_numbers b)) o None ≡ copied_row (bundle_in b) n o
+own_row b rows n None e all none parents = same_cond (is_among n (lent_numbers b)) None refl
+own_row b rows n (Some r) e all none parents =
+    let child : is_written (bundle_in b) r.parent ≡ false = written_is b.writes r.parent ∙ no_child b.writes rows r.parent all none (parents n r e) in
+    let own : is_among n (lent_numbers b) ≡ (is_written (bundle_in b) n || is_among n (bundle_in b).holds) =
+    list_any-append (λ x. eqb x n) (map (λ (f : LentFile). f.stands.ino) b.writes) (map (λ (h : HoldParts). h.ino) b.holds) ∙ ap (λ x. x || is_among n (bundle_in b).holds) (sym (written_is b.writes n)) in
+    ap (λ x. cond x (Some r) None) (own ∙ last_false (is_written (bundle_in b) n) (is_among n (bundle_in b).holds) (is_written (bundle_in b) r.parent) child)
+
+-- where no directory is written, the bundle's own rows are all that are copied
+pub own_copied : (b : Bundled) (rows : List (Option Row)) (m : BTreeMap ℕ RowData) → list_all (λ f. has_kind f.stands.kind (row_in rows f.stands.ino)) b.writes ≡ true → list_any (λ f. is_directory f.stands.kind) b.writes ≡ false → HasDirectoryParents rows → HasRowsOf rows m (lent_numbers b) → (n : ℕ) → map_row m n ≡ copied_row (bundle_in b) n (row_in rows n)
+own_copied b rows m all none parents has n =
+    has n ∙ own_row b rows n (row_in rows n) refl all none parents
+
+-- ---- tables by number
+
+pub tables-agree : {X : Type 0} (f g : ℕ → X) (m n k : ℕ) → tabulated f m ≡ tabulated g n → k < n → f k ≡ g k
+tables-agree f g m n k e within =
+    let size : m ≡ n = sym (tabulated-length f m) ∙ ap length e ∙ tabulated-length g n in
+    sym (tabulated-get f m k (g k) (rw size within)) ∙ ap (λ l. get_or l k (g k)) e ∙ tabulated-get g n k (g k) within
+
+pub tables-same : {X : Type 0} (f g : ℕ → X) (m n : ℕ) → m ≡ n → ((k : ℕ) → k < m → f k ≡ g k) → tabulated f m ≡ tabulated g n
+tables-same f g zero n size h = ap (tabulated g) size
+tables-same f g (suc m) n size h =
+    ext_get_or (f 0) (tabulated f (suc m)) (tabulated g n) (tabulated-length f (suc m) ∙ size ∙ sym (tabulated-length g n))
+    (λ k l.
+    let within : k < suc m = rw (← tabulated-length f (suc m)) l in
+    tabulated-get f (suc m) k (f 0) within ∙ h k within ∙ sym (tabulated-get g n k (f 0) (subst (λ x. k < x) size within)))
+
+-- ---- one row more
+
+pub rows_more : {X : Type 0} (f : X → ℕ) (xs : List X) (i : ℕ) (x : X) (before : List ℕ) → i < length xs → x ≡ get_or xs i x → (before ++ map f (take i xs)) ++ f x ∷ [] ≡ before ++ map f (take (i + 1) xs)
+rows_more f xs i x before lt is =
+    append_assoc before (map f (take i xs)) (f x ∷ []) ∙ ap (λ ys. before ++ ys) (sym (ap (map f) (take_more xs i x lt ∙ ap (λ y. take i xs ++ y ∷ []) (sym is)) ∙ map-append f (take i xs) (x ∷ [])))
+
+-- ---- a look-up
+
+pub held_from : (o : Option (Bor (List ℕ))) (b : Option (List ℕ)) (t : Bool) → option_copied o ≡ b → is_some b ≡ t → (IsSome o → IsTrue t) × (IsTrue t → IsSome o)
+held_from None b t e f = let no_body : is_some b ≡ false = ap is_some (sym e) in let none : t ≡ false = sym f ∙ no_body in rw none ((λ x. x), (λ x. x))
+held_from (Some v) b t e f = let body : is_some b ≡ true = ap is_some (sym e) in let some : t ≡ true = sym f ∙ body in rw some ((λ x. refl), (λ x. refl))
+
+pub body_from : (o : Option (Bor (List ℕ))) (b : Option (List ℕ)) → option_copied o ≡ b → IfSome o (λ v. v.now ≡ option_map_or (λ x. x) b [])
+body_from None b e = tt
+body_from (Some v) b e = rw (← e) refl
+
+pub lent_is : (hs : List HoldParts) (n : ℕ) → option_map_or (λ x. x) (body_lent hs n) [] ≡ option_map_or (λ (h : Held). h.body) (find (λ (h : Held). eqb h.ino n) (map held_in hs)) []
+lent_is [] n = refl
+lent_is (h ∷ hs) n = lent_or (eqb h.ino n) h _ _ (lent_is hs n)
+
+-- ---- what is true of a case
+
+get_or_past : (rows : List (Option Row)) (n : ℕ) → length rows ≤ n → get_or rows n None ≡ None
+get_or_past [] n h = refl
+get_or_past (r ∷ rs) zero h = absurd (omega arith)
+get_or_past (r ∷ rs) (suc n) h = get_or_past rs n (omega arith)
+
+live_within : (kind : Kind) (rows : List (Option Row)) (n inodes : ℕ) → length rows ≡ inodes + 1 → has_kind kind (row_in rows n) ≡ true → n ≤ inodes
+live_within kind rows n inodes len h = elim (cases_lt n (length rows)) [
+  | inl within ↦ omega (arith, within, len)
+  | inr past ↦ (let gone : row_in rows n ≡ None = get_or_past rows n past in let both : has_kind kind None ≡ true = ap (has_kind kind) (sym gone) ∙ h in absurd cc)
+]
+
+live_all : {X : Type 0} (kind : X → Kind) (ino : X → ℕ) (rows : List (Option Row)) (inodes : ℕ) (xs : List X) → length rows ≡ inodes + 1 → list_all (λ x. has_kind (kind x) (row_in rows (ino x))) xs ≡ true → list_all (λ n. nat_le n inodes) (map ino xs) ≡ true
+live_all kind ino rows inodes [] len h = refl
+live_all kind ino rows inodes (x ∷ xs) len h =
+    let p = and_parts (has_kind (kind x) (row_in rows (ino x))) (list_all (λ y. has_kind (kind y) (row_in rows (ino y))) xs) h in
+    and_from (nat_le (ino x) inodes) (list_all (λ n. nat_le n inodes) (map ino xs)) (le-leb (ino x) inodes (live_within (kind x) rows (ino x) inodes len p.0)) (live_all kind ino rows inodes xs len p.1)
+
+free_all : (rows : List (Option Row)) (inodes : ℕ) (ns : List InoParts) → list_all (λ n. is_free_number rows inodes n.no) ns ≡ true → list_all (λ n. nat_lt 0 n.no && nat_le n.no inodes) ns ≡ true
+free_all rows inodes [] h = refl
+free_all rows inodes (n ∷ ns) h =
+    let p = and_parts (is_free_number rows inodes n.no) (list_all (λ m. is_free_number rows inodes m.no) ns) h in
+    let q = and_parts (nat_lt 0 n.no && nat_le n.no inodes) (is_none (row_in rows n.no)) p.0 in
+    and_from (nat_lt 0 n.no && nat_le n.no inodes) (list_all (λ m. nat_lt 0 m.no && nat_le m.no inodes) ns) q.0 (free_all rows inodes ns p.1)
+
+pub judgeable_case : (b : Bundled) (rows : List (Option Row)) (range : CoreRange) (inodes : ℕ) → IsJudgeable b rows range inodes → IsCase b range inodes
+judgeable_case b rows range inodes h = record {
+  core = h.core;
+  pages = h.pages;
+  first = h.first;
+  once = h.once;
+  lent =
+      list_all-append (λ n. nat_le n inodes) (map (λ (f : LentFile). f.stands.ino) b.writes) (map (λ (x : HoldParts). x.ino) b.holds)
+      ∙ and_from (list_all (λ n. nat_le n inodes) (map (λ (f : LentFile). f.stands.ino) b.writes)) (list_all (λ n. nat_le n inodes) (map (λ (x : HoldParts). x.ino) b.holds))
+      (live_all (λ (f : LentFile). f.stands.kind) (λ (f : LentFile). f.stands.ino) rows inodes b.writes h.table h.written) (live_all (λ (x : HoldParts). x.kind) (λ (x : HoldParts). x.ino) rows inodes b.holds h.table h.held);
+  numbers = free_all rows inodes b.inodes h.numbers;
+  apart = h.apart;
+}

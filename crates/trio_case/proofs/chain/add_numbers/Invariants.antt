@@ -1,0 +1,10 @@
+use Rattle.std.proofs.Common.{◌≡◌, ◌≤◌, ◌+◌, ◌++◌, take, vec_len}
+use Rattle.std.specs.Prelude.{vec_capacity}
+use Rattle.trio_case.proofs.chain.add_numbers.Given as goal
+
+abbrev pub invariant-loop-i : goal.invariant-loop-i
+invariant-loop-i l = record {
+  added : l.numbers.items ≡ l.fn.numbers.items ++ take l.i l.index.numbers;
+  len : vec_len l.numbers ≡ vec_len l.fn.numbers + l.i;
+  kept : vec_capacity l.fn.numbers ≤ vec_capacity l.numbers;
+}

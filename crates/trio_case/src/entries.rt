@@ -1,0 +1,219 @@
+//! The entries of a directory, as far as its pages are the bundle's.
+
+ghost use Rattle.std.specs.Prelude.{◌≡◌, ◌++◌, ◌∷◌, [], ◌+◌, ◌*◌, ◌<◌, ◌≤◌, ℕ, List, Some, IsSome, Ok, Err, OnOk, OnErr, MatchResult, length, map, take, drop, if◌then◌else◌, vec_len, vec_capacity};
+ghost use Rattle.std.specs.List.{flat_map};
+ghost use Rattle.trio_lists.specs.Lists.{both, gathered};
+ghost use Rattle.trio_layout.specs.Case.{bundle_core};
+ghost use Rattle.trio_layout.specs.Core.{page_of};
+ghost use Rattle.trio_layout.specs.Entries.{listed_at, slot_bytes, entries_on};
+ghost use Rattle.trio_layout.specs.Slot.{slot_of};
+ghost use Rattle.trio_layout.specs.Within.{entries_where};
+ghost use Rattle.trio_case.specs.Cases.{case_in};
+ghost use Rattle.trio_case.specs.Reading.{listed_seen, place_seen, result_seen};
+ghost use Rattle.trio_case.specs.Places.{bytes_at};
+ghost use Rattle.trio_case.specs.Rooms.{entries_kept, unread_blocks, unread_index, HasPlaces, KeepsPages, SaysEntries};
+ghost use Rattle.trio_case.specs.inner.Steps.{BlockAnswer, IsDone};
+ghost use Rattle.trio_page.specs.Home.{raised};
+
+use crate::case::Case;
+use crate::kept::{KeptPage, KeptPages, Span};
+use crate::places::look;
+use trio_layout::{EntryPart, Slot, SlotRead};
+use trio_lease::Bundle;
+use trio_page::{Page, Reads};
+
+/// An entry of a directory at its place, with the bytes of the body in its slot.
+#[derive(Clone, Copy)]
+pub struct DirEntry {
+    pub entry: EntryPart,
+    pub page: u32,
+    pub slot: u16,
+    pub body: [u8; 64],
+}
+
+/// Where a file leaves the grammar: a page and a slot, 0 where there is none to name.
+#[derive(Clone, Copy)]
+pub struct FaultPlace {
+    pub page: u32,
+    pub slot: u16,
+}
+
+/// Reads the entries of these blocks, or finds the first bad slot. A block that isn't the bundle's
+/// has none.
+pub(crate) fn read_entries(
+    case: &Case,
+    kept: &mut KeptPages,
+    blocks: &[u32],
+    reads: &mut Reads,
+) -> Result<(), FaultPlace>
+    requires keeps { KeepsPages case.now kept.old }
+    requires places { HasPlaces kept.old }
+    ensures entries { let core = bundle_core (case_in case.now) in
+        result_seen (λ _. flat_map (entries_kept kept.new) blocks.now) result ≡ gathered (λ page. entries_where case.now.inodes page (page_of core page)) blocks.now }
+    ensures keeps { KeepsPages case.now kept.new }
+    ensures places { HasPlaces kept.new }
+    ensures most { vec_len kept.new.entries + 16 * unread_blocks kept.new ≤ vec_len kept.old.entries + 16 * unread_blocks kept.old }
+    ensures same { unread_index kept.new ≡ unread_index kept.old }
+    ensures looks { OnOk result (reads.new + unread_blocks kept.new ≤ reads.old + unread_blocks kept.old) }
+    ensures last { reads.new ≤ reads.old + unread_blocks kept.old }
+{
+    for block in blocks {
+        if let Err(place) = keep_block(case, kept, *block, reads) {
+            return Err(place);
+        }
+    }
+    Ok(())
+}
+
+/// Reads the entries of a block where they aren't kept, or finds its first bad slot. What was kept
+/// stays so.
+fn keep_block(
+    case: &Case,
+    kept: &mut KeptPages,
+    no: u32,
+    reads: &mut Reads,
+) -> Result<(), FaultPlace>
+    requires keeps { KeepsPages case.now kept.old }
+    requires places { HasPlaces kept.old }
+    ensures here { BlockAnswer case.now kept.new no result }
+    ensures others { (page : ℕ) → IsDone case.now kept.old page → IsDone case.now kept.new page }
+    ensures keeps { KeepsPages case.now kept.new }
+    ensures places { HasPlaces kept.new }
+    ensures most { vec_len kept.new.entries + 16 * unread_blocks kept.new ≤ vec_len kept.old.entries + 16 * unread_blocks kept.old }
+    ensures same { unread_index kept.new ≡ unread_index kept.old }
+    ensures looks { OnOk result (reads.new + unread_blocks kept.new ≤ reads.old + unread_blocks kept.old) }
+    ensures last { reads.new ≤ reads.old + unread_blocks kept.old }
+{
+    let Some((at, page)) = kept.find(no) else {
+        return Ok(());
+    };
+    if page.entries.is_some() {
+        return Ok(());
+    }
+    match read_page(
+        case.bundle(),
+        &page,
+        case.inodes(),
+        &mut kept.entries,
+        reads,
+    ) {
+        Ok(span) => {
+            kept.pages[at] = KeptPage {
+                entries: Some(span),
+                ..page
+            };
+            Ok(())
+        }
+        Err(place) => Err(place),
+    }
+}
+
+/// Looks at a directory block and appends its entries, or finds the first bad slot and leaves the
+/// entries as they were.
+fn read_page(
+    bundle: &Bundle,
+    page: &KeptPage,
+    inodes: u32,
+    entries: &mut Vec<DirEntry>,
+    reads: &mut Reads,
+) -> Result<Span, FaultPlace>
+    requires room { vec_len entries.old + 16 ≤ vec_capacity entries.old }
+    requires there { IsSome (bytes_at bundle.now page.now.place) }
+    ensures read { (bytes : List ℕ) → bytes_at bundle.now page.now.place ≡ Some bytes
+        → MatchResult result (SaysEntries inodes page.now.no entries.new.items bytes) (λ p. entries_on inodes page.now.no bytes ≡ Err (place_seen p)) }
+    ensures before { take (vec_len entries.old) entries.new.items ≡ entries.old.items }
+    ensures bad { OnErr result (entries.new.items ≡ entries.old.items) }
+    ensures grown { vec_len entries.old ≤ vec_len entries.new }
+    ensures len { vec_len entries.new ≤ vec_len entries.old + 16 }
+    ensures room { vec_capacity entries.old ≤ vec_capacity entries.new }
+    ensures reads { reads.new ≡ raised reads.old }
+{
+    let from = entries.len();
+    let Some(bytes) = look(bundle, page.place, reads) else {
+        return Ok(Span { from, len: 0 });
+    };
+    if let Err(place) = add_page_entries(bytes, page.no, inodes, entries) {
+        entries.truncate(from);
+        return Err(place);
+    }
+    let len = entries.len() - from;
+    Ok(Span { from, len })
+}
+
+/// Appends the entries of a directory page, or finds the first bad slot.
+fn add_page_entries(
+    page: &Page,
+    no: u32,
+    inodes: u32,
+    entries: &mut Vec<DirEntry>,
+) -> Result<(), FaultPlace>
+    requires room { vec_len entries.old + 16 ≤ vec_capacity entries.old }
+    ensures entries { both (Ok (map listed_seen entries.old.items)) (entries_on inodes no page.now)
+        ≡ result_seen (λ _. map listed_seen entries.new.items) result }
+    ensures before { take (vec_len entries.old) entries.new.items ≡ entries.old.items }
+    ensures grown { vec_len entries.old ≤ vec_len entries.new }
+    ensures len { vec_len entries.new ≤ vec_len entries.old + 16 }
+    ensures room { vec_capacity entries.old ≤ vec_capacity entries.new }
+{
+    let bytes = page.bytes();
+    for slot in 0..16u16 {
+        if !add_slot_entry(slot_bytes(bytes, slot), no, slot, inodes, entries) {
+            return Err(FaultPlace { page: no, slot });
+        }
+    }
+    Ok(())
+}
+
+/// The bytes of a slot.
+fn slot_bytes(bytes: &[u8; 4096], slot: u16) -> &[u8; 256]
+    requires { slot < 16 }
+    ensures { result.now ≡ slot_bytes slot bytes.now }
+{
+    let at = 256 * usize::from(slot);
+    bytes[at..at + 256].as_array().unwrap()
+}
+
+/// Appends the entry in a slot, if there is one; `false` where the slot is outside the grammar.
+fn add_slot_entry(
+    bytes: &[u8; 256],
+    page: u32,
+    slot: u16,
+    inodes: u32,
+    entries: &mut Vec<DirEntry>,
+) -> bool
+    requires room { vec_len entries.old < vec_capacity entries.old }
+    ensures entries { both (Ok (map listed_seen entries.old.items)) (listed_at page slot (drop 192 bytes.now) (slot_of inodes bytes.now))
+        ≡ (if result then Ok (map listed_seen entries.new.items) else Err (record { page = page; slot = slot })) }
+    ensures before { take (vec_len entries.old) entries.new.items ≡ entries.old.items }
+    ensures grown { vec_len entries.old ≤ vec_len entries.new }
+    ensures len { vec_len entries.new ≤ vec_len entries.old + 1 }
+    ensures room { vec_capacity entries.old ≤ vec_capacity entries.new }
+{
+    match Slot::read(bytes, inodes) {
+        SlotRead::Empty => true,
+        SlotRead::Bad => false,
+        SlotRead::Entry(entry) => {
+            let mut body = [0; 64];
+            body.copy_from_slice(&bytes[192..]);
+            let entry = DirEntry {
+                entry,
+                page,
+                slot,
+                body,
+            };
+            add(entries, entry);
+            true
+        }
+    }
+}
+
+/// Appends an entry to a list that has room for it.
+fn add(entries: &mut Vec<DirEntry>, entry: DirEntry)
+    requires room { vec_len entries.old < vec_capacity entries.old }
+    ensures added { entries.new.items ≡ entries.old.items ++ entry ∷ [] }
+    ensures before { take (vec_len entries.old) entries.new.items ≡ entries.old.items }
+    ensures len { vec_len entries.new ≡ vec_len entries.old + 1 }
+    ensures room { vec_capacity entries.old ≤ vec_capacity entries.new }
+{
+    let _pushed = entries.push(entry);
+}

@@ -1,0 +1,55 @@
+//! One file read as far as its pages are the bundle's.
+
+ghost use Rattle.std.specs.Prelude.{◌≡◌, ◌+◌, ◌≤◌, OnOk};
+ghost use Rattle.trio_layout.specs.Case.{file_in};
+ghost use Rattle.trio_layout.specs.Survey.{Met};
+ghost use Rattle.trio_case.specs.Cases.{case_in};
+ghost use Rattle.trio_case.specs.Reading.{result_seen};
+ghost use Rattle.trio_case.specs.Rooms.{file_in_room, looks_left, Keeps};
+
+use crate::case::Case;
+use crate::chain::read_chain;
+use crate::entries::{FaultPlace, read_entries};
+use crate::names::repeated_name;
+use crate::room::PageRoom;
+use trio_layout::Body;
+use trio_page::Reads;
+use trio_rights::Kind;
+
+/// Reads a file of this kind with this body, or finds where it leaves the grammar: neither page nor
+/// slot for its body, an index page as a whole, a bad slot, or the first entry that has the name of
+/// one before it. Its chain and its entries then stand in the room.
+///
+/// It takes no memory, and looks at a page only where the room doesn't keep what the page says.
+/// Each look but that at the fault leaves one look less that the judgement may make.
+#[tactic(auto, unfolding(trio_layout::specs::Within::file_within))]
+pub fn read_file(
+    case: &Case,
+    room: &mut PageRoom,
+    kind: Kind,
+    body: &[u8; 64],
+    reads: &mut Reads,
+) -> Result<Body, FaultPlace>
+    requires room { Keeps case.now room.old }
+    ensures file { (m : Met) → m.kind ≡ kind → m.body ≡ body.now
+        → result_seen (file_in_room room.new kind) result ≡ file_in (case_in case.now) m }
+    ensures room { Keeps case.now room.new }
+    ensures looks { OnOk result (reads.new + looks_left room.new ≤ reads.old + looks_left room.old) }
+    ensures last { reads.new ≤ reads.old + looks_left room.old }
+{
+    let Some(body) = Body::read(body, kind, case.range()) else {
+        return Err(FaultPlace { page: 0, slot: 0 });
+    };
+    if let Err(page) = read_chain(case, room, &body, reads) {
+        return Err(FaultPlace { page, slot: 0 });
+    }
+    if kind == Kind::Directory {
+        if let Err(place) = read_entries(case, &mut room.kept, &room.blocks, reads) {
+            return Err(place);
+        }
+        if let Some(place) = repeated_name(case, &room.kept, &room.blocks, &mut room.names) {
+            return Err(place);
+        }
+    }
+    Ok(body)
+}

@@ -1,0 +1,240 @@
+//! The pages of a bundle, with what they say as far as that was read.
+
+ghost use Rattle.std.specs.Prelude.{◌≡◌, ◌+◌, ◌≤◌, ◌++◌, [], true, None, Some, MatchOption, IfOk, length, map, slice_get, vec_capacity, vec_len};
+ghost use Rattle.std.specs.List.{list_all};
+ghost use Rattle.trio_rights.specs.Bundle.{bundle_pages};
+ghost use Rattle.trio_lists.specs.Lists.{In, are_new};
+ghost use Rattle.trio_lease.specs.Bundles.{Bundled};
+ghost use Rattle.trio_lease.specs.Views.{bundle_in};
+ghost use Rattle.trio_layout.specs.Range.{is_core};
+ghost use Rattle.trio_case.specs.inner.Unread.{numbers_of, AreUnread, IsUnreadOf};
+ghost use Rattle.trio_case.specs.Order.{in_order, AreRising};
+ghost use Rattle.trio_case.specs.Reading.{listed_seen};
+ghost use Rattle.trio_case.specs.Rooms.{entries_kept, kept_page, unread_blocks, HasPagePlaces, HasPlaces, KeepsPages};
+ghost use Rattle.trio_case.specs.inner.Steps.{StandsAt};
+
+use crate::case::Case;
+use crate::entries::DirEntry;
+use crate::listing::push;
+use crate::places::PagePlace;
+use std::alloc::Global;
+use trio_layout::CoreRange;
+use trio_lease::{Bundle, FreshPage, WriteLease};
+use trio_page::{NoMemory, PageNo};
+
+/// The pages of a bundle by their numbers. What a page says is kept once it was read: as a directory
+/// block its entries, as an index page its numbers and its link.
+#[derive(Drop)]
+pub(crate) struct KeptPages {
+    /// The numbers of the pages, in rising order.
+    pub order: Vec<u32>,
+    /// The pages, in the same order.
+    pub pages: Vec<KeptPage>,
+    /// The entries of the directory blocks that were read.
+    pub entries: Vec<DirEntry>,
+    /// The numbers of the index pages that were read.
+    pub numbers: Vec<u32>,
+}
+
+/// A page of the bundle.
+#[derive(Clone, Copy)]
+pub(crate) struct KeptPage {
+    pub no: u32,
+    pub place: PagePlace,
+    /// As a directory block: its entries among those that are kept.
+    pub entries: Option<Span>,
+    pub index: Option<KeptIndex>,
+}
+
+/// A part of a list.
+#[derive(Clone, Copy)]
+pub(crate) struct Span {
+    pub from: usize,
+    pub len: usize,
+}
+
+/// What a page says as an index page. Of given bytes at most one count of numbers in use is in the
+/// grammar, and that for the last page of a chain or for another.
+#[derive(Clone, Copy)]
+pub(crate) struct KeptIndex {
+    pub used: u16,
+    pub last: bool,
+    pub next: u32,
+    /// Its numbers among those that are kept.
+    pub numbers: Span,
+}
+
+impl KeptPages {
+    /// No pages, with places for so many, and without a place for what they may say.
+    pub fn with(alloc: Global, pages: usize) -> Result<KeptPages, NoMemory>
+        ensures { IfOk result (HasPagePlaces pages) }
+    {
+        Ok(KeptPages {
+            order: Vec::with_capacity(alloc, pages)?,
+            pages: Vec::with_capacity(alloc, pages)?,
+            entries: Vec::new(alloc),
+            numbers: Vec::new(alloc),
+        })
+    }
+
+    /// The pages of a bundle, none of which was read yet, with a place for whatever they may say.
+    pub fn of(alloc: Global, bundle: &Bundle, range: CoreRange) -> Result<KeptPages, NoMemory>
+        requires core { list_all (is_core range) (bundle_pages (bundle_in bundle.now)) ≡ true }
+        requires apart { are_new [] (bundle_pages (bundle_in bundle.now)) ≡ true }
+        ensures made { IfOk result (λ kept. IsUnreadOf bundle.now kept) }
+        ensures empty { IfOk result (λ kept. vec_len kept.entries ≡ 0) }
+        ensures places { IfOk result (λ kept. HasPlaces kept) }
+        ensures count { IfOk result (λ kept. (vec_len kept.pages ≤ range.end) × (unread_blocks kept ≡ vec_len kept.pages)) }
+    {
+        let count = page_count(bundle)?;
+        let mut kept = KeptPages {
+            order: Vec::with_capacity(alloc, count)?,
+            pages: Vec::with_capacity(alloc, count)?,
+            entries: Vec::with_capacity(alloc, 16 * count)?,
+            numbers: Vec::with_capacity(alloc, 511 * count)?,
+        };
+        kept.fill(bundle);
+        Ok(kept)
+    }
+
+    /// Makes its pages those of a bundle, none of which was read yet. It takes no memory.
+    pub fn fill(&mut self, bundle: &Bundle)
+        requires { HasPagePlaces (length (bundle_pages (bundle_in bundle.now))) self.old }
+        ensures made { IsUnreadOf bundle.now self.new }
+        ensures entries { self.new.entries ≡ self.old.entries }
+        ensures numbers { self.new.numbers ≡ self.old.numbers }
+    {
+        set_pages(&mut self.pages, bundle);
+        sort_pages(&mut self.pages);
+        set_numbers(&mut self.order, &self.pages);
+    }
+
+    /// The page of this number, and where it stands among the pages. `None` exactly where it is none
+    /// of the bundle's.
+    pub fn find(&self, no: u32) -> Option<(usize, KeptPage)>
+        requires { AreRising self.now.order.items }
+        ensures { MatchOption result (kept_page self.now no ≡ None) (λ f. StandsAt self.now no f.0 f.1) }
+    {
+        let at = self.order.binary_search(&no).ok()?;
+        Some((at, *self.pages.get(at)?))
+    }
+
+    /// The entries that were read on a block, in the order of the slots. None where it wasn't read
+    /// as a directory block, or is none of the bundle's.
+    pub fn entries_of(&self, case: &Case, block: u32) -> &[DirEntry]
+        requires { KeepsPages case.now self.now }
+        ensures { map listed_seen result.now ≡ entries_kept self.now block }
+    {
+        match self.find(block) {
+            Some(
+                (
+                    _,
+                    KeptPage {
+                        entries: Some(span),
+                        ..
+                    },
+                ),
+            ) => &self.entries[span.from..span.from + span.len],
+            _ => &[],
+        }
+    }
+}
+
+/// How many pages a bundle has.
+pub(crate) fn page_count(bundle: &Bundle) -> Result<usize, NoMemory>
+    ensures { IfOk result (λ n. n ≡ length (bundle_pages (bundle_in bundle.now))) }
+{
+    let mut count = bundle.pages().len();
+    let writes = bundle.writes();
+    for lease in writes {
+        count = count.checked_add(lease.index_len()).ok_or(NoMemory)?;
+        count = count.checked_add(lease.blocks_len()).ok_or(NoMemory)?;
+    }
+    Ok(count)
+}
+
+/// Makes a list, which has places for them, the pages of a bundle: of each write lease its index pages
+/// and then its blocks, and after them the pages that were allotted.
+fn set_pages(pages: &mut Vec<KeptPage>, bundle: &Bundle)
+    requires { length (bundle_pages (bundle_in bundle.now)) ≤ vec_capacity pages.old }
+    ensures numbers { numbers_of pages.new.items ≡ bundle_pages (bundle_in bundle.now) }
+    ensures unread { AreUnread bundle.now pages.new.items }
+{
+    pages.clear();
+    let writes = bundle.writes();
+    for file in 0..writes.len() {
+        let lease = &writes[file];
+        add_index(pages, file, lease);
+        add_blocks(pages, file, lease);
+    }
+    add_fresh(pages, bundle.pages());
+}
+
+fn add_index(pages: &mut Vec<KeptPage>, file: usize, lease: &WriteLease)
+    requires { vec_len pages.old + length lease.now.stands.index ≤ vec_capacity pages.old }
+    ensures numbers { numbers_of pages.new.items ≡ numbers_of pages.old.items ++ map (λ p. p.no.0) lease.now.stands.index }
+    ensures unread { (b : Bundled) → slice_get b.writes file ≡ Some lease.now → AreUnread b pages.old.items → AreUnread b pages.new.items }
+    ensures capacity { vec_capacity pages.old ≤ vec_capacity pages.new }
+{
+    for at in 0..lease.index_len() {
+        let Some(no) = lease.index_no(at) else {
+            return;
+        };
+        push(pages, unread(no, PagePlace::Index(file, at)));
+    }
+}
+
+fn add_blocks(pages: &mut Vec<KeptPage>, file: usize, lease: &WriteLease)
+    requires { vec_len pages.old + length lease.now.stands.blocks ≤ vec_capacity pages.old }
+    ensures numbers { numbers_of pages.new.items ≡ numbers_of pages.old.items ++ map (λ p. p.no.0) lease.now.stands.blocks }
+    ensures unread { (b : Bundled) → slice_get b.writes file ≡ Some lease.now → AreUnread b pages.old.items → AreUnread b pages.new.items }
+    ensures capacity { vec_capacity pages.old ≤ vec_capacity pages.new }
+{
+    for at in 0..lease.blocks_len() {
+        let Some(no) = lease.block_no(at) else {
+            return;
+        };
+        push(pages, unread(no, PagePlace::Block(file, at)));
+    }
+}
+
+fn add_fresh(pages: &mut Vec<KeptPage>, fresh: &[FreshPage])
+    requires { vec_len pages.old + length fresh.now ≤ vec_capacity pages.old }
+    ensures numbers { numbers_of pages.new.items ≡ numbers_of pages.old.items ++ map (λ p. p.no.0) fresh.now }
+    ensures unread { (b : Bundled) → b.pages ≡ fresh.now → AreUnread b pages.old.items → AreUnread b pages.new.items }
+{
+    for at in 0..fresh.len() {
+        push(pages, unread(fresh[at].no(), PagePlace::Fresh(at)));
+    }
+}
+
+/// Puts pages into rising order of their numbers.
+fn sort_pages(pages: &mut Vec<KeptPage>)
+    ensures numbers { numbers_of pages.new.items ≡ in_order (numbers_of pages.old.items) }
+    ensures each { (p : KeptPage) → In p pages.new.items → In p pages.old.items }
+{
+    pages.sort_unstable_by_key(|page| page.no);
+}
+
+/// Makes a list, which has places for them, the numbers of these pages.
+fn set_numbers(numbers: &mut Vec<u32>, pages: &[KeptPage])
+    requires { length pages.now ≤ vec_capacity numbers.old }
+    ensures { numbers.new.items ≡ numbers_of pages.now }
+{
+    numbers.clear();
+    for page in pages {
+        push(numbers, page.no);
+    }
+}
+
+/// A page of which nothing was read yet.
+fn unread(no: PageNo, place: PagePlace) -> KeptPage
+    ensures { result ≡ record { no = no.0; place = place; entries = None; index = None } }
+{
+    KeptPage {
+        no: no.0,
+        place,
+        entries: None,
+        index: None,
+    }
+}

@@ -1,0 +1,32 @@
+//! A bundle as its judge sees it, what its files say, and what it proposes.
+//!
+//! - A [`Case`] is a bundle with all that the rules ask of it: the rows of its files, the library's
+//!   credentials, the core range and the number of inode numbers. No page of the image is in it but
+//!   the bundle's own.
+//! - A [`PageRoom`] is the memory of what is read of a case ([`read_file`]). In it stands what the
+//!   bundle's pages say, so that none is looked at more than once as a directory block, and once as
+//!   an index page.
+//! - A [`Listing`] is what a bundle proposes, without its pages.
+//! - A [`PageIndex`] finds a page of the bundle by its number.
+#![tactic(auto)]
+
+mod case;
+mod chain;
+mod entries;
+mod file;
+mod index;
+mod kept;
+mod listing;
+mod names;
+mod numbers;
+mod places;
+mod room;
+
+pub use case::Case;
+pub use chain::read_chain;
+pub use entries::{DirEntry, FaultPlace};
+pub use file::read_file;
+pub use index::PageIndex;
+pub use listing::{ListedEntry, ListedFile, Listing, ListingRoom};
+pub use places::PagePlace;
+pub use room::PageRoom;
