@@ -1,9 +1,8 @@
 -- What a file lists, within its image and its bundle.
-use Rattle.std.proofs.Common.{◌≡◌, ℕ, ◌+◌, ◌*◌, ◌≤◌, true, ltb, List, [], ◌∷◌, length, Result, Ok, Err, refl, ap, arith}
+use Rattle.std.proofs.Common.{◌≡◌, ◌+◌, ◌*◌, ◌≤◌, true, ltb, List, [], ◌∷◌, length, Result, Ok, Err, refl, arith}
 use Rattle.std.specs.List.{list_all, flat_map}
 use Rattle.std.specs.Prelude.{nat_lt}
-use Rattle.std.proofs.lemmas.List.{append-nil, length-append, length-map}
-use Rattle.std.proofs.lemmas.List.Concat.{flat_map-append}
+use Rattle.std.proofs.lemmas.List.{length-append, length-map}
 use Rattle.std.proofs.lemmas.Bool.{and_parts}
 use Rattle.trio_rights.specs.Bundle.{bundle_pages}
 use Rattle.trio_lists.specs.Lists.{is_among}
@@ -13,7 +12,7 @@ use Rattle.trio_layout.specs.Entries.{Listed}
 use Rattle.trio_layout.specs.Survey.{Met, FileRead, children_in, met_in, pages_in, plain}
 use Rattle.trio_layout.specs.Case.{Case, bundle_core, file_in}
 use Rattle.trio_layout.specs.JudgedFiles.{entries_in, pages_within}
-use Rattle.trio_layout.specs.Listing.{ListedFile, file_listed}
+use Rattle.trio_layout.specs.Listing.{file_listed}
 use Rattle.trio_layout.proofs.EntryNumbers.{AreInodes, AtMost, if_ok_at, is_inode, within_fit, within_most}
 use Rattle.trio_layout.proofs.WithinCore.{within_from}
 use Rattle.trio_judge.specs.inner.Walk.{Owns}

@@ -1,5 +1,5 @@
 -- One entry more, and one file more.
-use Rattle.std.proofs.Common.{◌≡◌, ℕ, suc, ◌+◌, ◌<◌, ◌≤◌, ◌⊎◌, eqb, is_some, vec_capacity, vec_len, Bool, true, false, not, cond, List, [], ◌∷◌, ◌++◌, length, map, get_or, set, take, Option, None, Some, Ok, inl, inr, refl, sym, ap, ◌∙◌, subst, append_assoc, arith}
+use Rattle.std.proofs.Common.{◌≡◌, ℕ, ◌+◌, ◌<◌, ◌≤◌, is_some, vec_capacity, vec_len, Bool, true, false, not, cond, List, [], ◌∷◌, ◌++◌, length, map, get_or, set, take, Option, None, Some, Ok, inl, inr, refl, sym, ap, ◌∙◌, subst, append_assoc, arith}
 use Rattle.trio_case.proofs.Distinct.{no_more}
 use Rattle.std.specs.List.{list_all, flat_map, filter}
 use Rattle.std.specs.Option.{option_or}
@@ -8,13 +8,11 @@ use Rattle.std.proofs.lemmas.List.{append-nil, length-append, length-map, length
 use Rattle.std.proofs.lemmas.List.Concat.{flat_map-append}
 use Rattle.std.proofs.lemmas.List.Folds.{list_all-append}
 use Rattle.std.proofs.lemmas.Bool.{and_from, false≢true}
-use Rattle.std.proofs.lemmas.Bool.Decides.{nat_tests}
 use Rattle.trio_lists.proofs.Members.{In-cases, In-flat, In-map, In-right, is_among-In, list_all-each, list_all-In, map-In}
 use Rattle.trio_lists.proofs.Filters.{get_or-In}
 use Rattle.trio_layout.specs.Entries.{Listed}
 use Rattle.trio_case.specs.Reading.{listed_seen}
 use Rattle.trio_case.specs.declared.entries.DirEntry.{DirEntry}
-use Rattle.trio_lists.proofs.New.{are_new-first}
 use Rattle.trio_rights.specs.Bundle.{bundle_pages}
 use Rattle.trio_lists.specs.Lists.{In, is_among, are_new}
 use Rattle.trio_lists.proofs.Marked.{MarksJust-set, are_new-append, are_new-push}

@@ -1,37 +1,21 @@
 -- A room made for a case is one for the case with other bytes in a page, and for the case with touched blocks.
-use Rattle.std.proofs.Common.{◌≡◌, ℕ, zero, suc, ◌++◌, List, [], ◌∷◌, map, Option, None, Some, inl, inr, refl, sym, ap, ◌∙◌, subst}
-use Rattle.std.specs.Prelude.{MatchOption, slice_get}
-use Rattle.std.specs.List.{flat_map}
-use Rattle.std.specs.Option.{option_and_then, option_map}
-use Rattle.std.proofs.lemmas.List.{map-append}
-use Rattle.std.proofs.lemmas.Option.{slice_get-map}
+use Rattle.std.proofs.Common.{◌≡◌, ℕ, List, [], map, inl, inr, refl, sym, ap, ◌∙◌, subst}
+use Rattle.std.specs.Prelude.{MatchOption}
 use Rattle.trio_page.specs.declared.page.PageNo.{PageNo}
-use Rattle.trio_rights.specs.Row.{Row, row_in}
-use Rattle.trio_rights.specs.Sheets.{Sheet, sheet_numbers}
-use Rattle.trio_rights.specs.Bundle.{Written, bundle_pages}
+use Rattle.trio_rights.specs.Row.{row_in}
+use Rattle.trio_rights.specs.Bundle.{Written}
 use Rattle.trio_lists.specs.Lists.{In}
 use Rattle.trio_lists.specs.Sorting.{sorted_by}
 use Rattle.trio_lease.specs.Bundles.{Bundled}
-use Rattle.trio_lease.specs.Places.{with_block, with_bytes, with_index}
-use Rattle.trio_lease.specs.Shown.{LentFile, all_touched, as_touched, no_at, with_page, with_touched}
-use Rattle.trio_lease.specs.Views.{bundle_in, fresh_sheet, lent_sheet, written_in}
-use Rattle.trio_lease.specs.declared.parts.FreshParts.{FreshParts}
-use Rattle.trio_lease.specs.declared.parts.LentPage.{LentPage}
-use Rattle.trio_lease.proofs.OtherBytes.{page_map, pages_same, rest_same, touched_map, writes_same}
+use Rattle.trio_lease.specs.Places.{with_bytes}
+use Rattle.trio_lease.specs.Shown.{LentFile}
+use Rattle.trio_lease.specs.Views.{written_in}
 use Rattle.trio_layout.specs.Survey.{Met}
-use Rattle.trio_layout.specs.JudgedFiles.{written_at, written_files, written_met}
-use Rattle.trio_layout.specs.declared.range.CoreRange.{CoreRange}
-use Rattle.trio_case.specs.Cases.{CaseShown, IsCase, case_in}
+use Rattle.trio_layout.specs.JudgedFiles.{written_files, written_met}
+use Rattle.trio_case.specs.Cases.{CaseShown, case_in}
 use Rattle.trio_judge.specs.Judging.{IsJudgeRoom}
-use Rattle.trio_case.specs.Places.{number_at}
-use Rattle.trio_case.specs.Rooms.{IsRoomFor, IsUnread}
-use Rattle.trio_case.specs.declared.numbers.Numbers.{Numbers}
-use Rattle.trio_case.specs.declared.places.PagePlace.{PagePlace}
-use Rattle.trio_case.specs.declared.places.PagePlace.TheVariants.{Index, Block, Fresh}
-use Rattle.trio_case.specs.declared.room.PageRoom.{PageRoom}
 use Rattle.trio_judge.specs.declared.verdict.Room.{Room}
 use Rattle.trio_judge.specs.declared.walk.Walk.{Walk}
-use Rattle.trio_case.specs.inner.Maps.{Tells}
 use Rattle.trio_judge.specs.inner.Walk.{KeepRights, Lists, OwningFails, RightsFail, Starts, own_numbers}
 use Rattle.trio_case.proofs.CaseRows.{writes_of}
 use Rattle.trio_case.proofs.OtherBytes.{Alike, alike, alike_touched, pages_alike, touched}

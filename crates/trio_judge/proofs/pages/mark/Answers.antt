@@ -1,8 +1,15 @@
-use Rattle.std.proofs.Common.{◌≡◌, ◌<◌, true, false, not, is_some, length, get_or, refl, sym, ap, ◌∙◌, arith}
-use Rattle.std.proofs.lemmas.List.{get_or_default}
+use Rattle.std.proofs.Common.{◌≡◌, ◌<◌, true, length, sym, arith}
 use Rattle.trio_rights.specs.Bundle.{bundle_pages}
 use Rattle.trio_lists.specs.Lists.{is_among}
 use Rattle.trio_lease.specs.Views.{bundle_in}
-use Rattle.trio_case.specs.Order.{in_order, is_marked}
-use Rattle.trio_case.proofs.Ordered.{mark_more, or_false}
+use Rattle.trio_case.specs.Order.{in_order}
+use Rattle.trio_case.proofs.Ordered.{mark_more}
 use Rattle.trio_judge.proofs.pages.mark.Goals as goal
+
+pub returns-clause-marked : goal.returns-clause-marked
+returns-clause-marked c = λ other.
+    let own = bundle_pages (bundle_in c.args.case.now.bundle) in
+    let marks = c.args.marks.now.items in
+    let some : is_among c.args.page own ≡ true = sym c.in-Some.ensures.own in
+    let small : c.in-Some.at < length marks = omega (arith, c.in-Some.ensures.within, c.requires.places) in
+    rw some (mark_more (in_order own) marks c.args.page c.in-Some.at (sym c.in-Some.ensures.place) small other)

@@ -7,13 +7,13 @@ use Rattle.trio_judge.proofs.verdict.Room.with.Goals as goal
 pub with-requires-2 : goal.with-requires-2
 with-requires-2 c =
     let count = page_count c.args.case.now c.in_ok-pages.pages c.in_ok-pages.ensures in
-    omega (arith, count, c.len-count.ensures)
+    omega (arith, count, c.page_count-count.ensures)
 
 pub returns : goal.returns
 returns c =
     let k = c.args.case.now in
     let all = page_count k c.in_ok-pages.pages c.in_ok-pages.ensures in
-    let count : c.len-count.result ≡ length (bundle_pages (bundle_in k.bundle)) = omega (arith, all, c.len-count.ensures) in
+    let count : c.page_count-count.result ≡ length (bundle_pages (bundle_in k.bundle)) = omega (arith, all, c.page_count-count.ensures) in
     record {
       pages = c.in_ok-pages.ensures;
       walk = c.in_ok-walk.ensures;
