@@ -375,6 +375,12 @@ module _ (s : State) (lib : LibNo) (b : Bundled) (back : List Shown) (calls : Li
 
 -- ---- what is seen of the desk
 
+-- where nothing was settled, by what is seen of the controller
+pub not_settled_seen : {s seen : State} (lib : LibNo) (b : Bundled) (back : List Shown) (calls : List CallDone) → Kept s → LentIsTrue s → s ≡ seen → Ready (desk_of seen lib) (parcel_of b) back calls → Happens seen lib (SettleAsked (parcel_of b) back calls) NotSettled s
+not_settled_seen {s} {seen} lib b back calls kept lent same ready =
+    subst (λ (v : State). Happens v lib (SettleAsked (parcel_of b) back calls) NotSettled s) same
+    (not_settled s lib b back calls kept lent (subst (λ (v : State). Ready (desk_of v lib) (parcel_of b) back calls) (sym same) ready))
+
 module _ (s s' : State) (lib : LibNo) (p : Parcel) (back : List Shown) (all : HandsInAll (out_of s lib) p back) where
   -- once the read leases are back, but for them the same is out
   abbrev left : OutAlike (out_of (all_back s lib back) lib) (without_reads (out_of s lib) back)

@@ -36,10 +36,11 @@ impl Registry {
         let Ok(allotments) = Allotments::new(alloc, superblock.pages, superblock.inodes) else {
             return Err((image, NoMemory));
         };
-        let Ok(checkpoints) = no_checkpoints(alloc, superblock.inodes) else {
+        // a place for a checkpoint at each inode number, and at 0
+        let Ok(checkpoints) = empty_places(alloc, superblock.inodes as usize + 1) else {
             return Err((image, NoMemory));
         };
-        let Ok(begun) = none_begun(alloc, libs.len()) else {
+        let Ok(begun) = empty_places(alloc, libs.len()) else {
             return Err((image, NoMemory));
         };
         let root = superblock.root;
@@ -64,27 +65,13 @@ impl Registry {
     }
 }
 
-// A place for a checkpoint at each inode number, and at 0; nothing stands there. `NoMemory`: there was
-// no memory for them.
-fn no_checkpoints(alloc: Global, inodes: u32) -> Result<Vec<Option<Checkpoint>>, NoMemory>
-    ensures { IfOk result (λ checkpoints. checkpoints.items ≡ replicate (inodes + 1) None) }
+// So many places, at which nothing stands. `NoMemory`: there was no memory for them.
+fn empty_places<T: Drop>(alloc: Global, count: usize) -> Result<Vec<Option<T>>, NoMemory>
+    ensures { IfOk result (λ places. places.items ≡ replicate count None) }
 {
-    let count = inodes as usize + 1;
-    let mut checkpoints = Vec::with_capacity(alloc, count)?;
+    let mut places = Vec::with_capacity(alloc, count)?;
     for _i in 0..count {
-        checkpoints.push(None)?;
+        places.push(None)?;
     }
-    Ok(checkpoints)
-}
-
-// A place for a release of each of so many libraries; none has begun. `NoMemory`: there was no memory
-// for them.
-fn none_begun(alloc: Global, libs: usize) -> Result<Vec<Option<Begun>>, NoMemory>
-    ensures { IfOk result (λ begun. begun.items ≡ replicate libs None) }
-{
-    let mut begun = Vec::with_capacity(alloc, libs)?;
-    for _i in 0..libs {
-        begun.push(None)?;
-    }
-    Ok(begun)
+    Ok(places)
 }

@@ -1,9 +1,10 @@
 //! Storing an image as its pages.
 
-ghost use Rattle.std.specs.Prelude.{◌≡◌, ◌+◌, ◌-◌, ◌≤◌, ◌++◌, IfOk, None, OnErr, length, slice_index_or};
+ghost use Rattle.std.specs.Prelude.{◌≡◌, ◌+◌, ◌-◌, ◌≤◌, ◌++◌, IfOk, None, OnErr, Some, length, slice_index_or};
 ghost use Rattle.trio_tables.specs.Stored.{owner_bytes, shadow_bytes};
 ghost use Rattle.trio_image.specs.Front.{FillsPages, owner_count, shadow_count};
-ghost use Rattle.trio_ctl.specs.inner.Pages.{AreMoved, fillings_from, pages_from, stored_pages};
+ghost use Rattle.trio_ctl.specs.Ctl.{or_zero};
+ghost use Rattle.trio_ctl.specs.inner.Pages.{AreMoved, filling, fillings_from, pages_from, stored_pages};
 
 use std::alloc::Global;
 use trio_image::front_pages;
@@ -70,13 +71,25 @@ fn add_fillings(
 {
     let mut reads = Reads::new();
     for at in 0..superblock.pages - superblock.first_core {
-        let filling = match home.page(PageNo(superblock.first_core + at), &mut reads) {
-            Some(_) => None,
-            None => Some(Page::zero(alloc)?),
-        };
-        pages.push(filling)?;
+        pages.push(filling_at(alloc, home, superblock.first_core + at, &mut reads)?)?;
     }
     Ok(())
+}
+
+/// What is to stand at a core page: a page all zero where it is absent, else nothing yet.
+fn filling_at(
+    alloc: Global,
+    home: &mut Home,
+    no: u32,
+    reads: &mut Reads,
+) -> Result<Option<Page>, NoMemory>
+    ensures home { home.new.pages ≡ home.old.pages }
+    ensures filling { IfOk result (λ page. page ≡ filling (slice_index_or home.old.pages no None)) }
+{
+    match home.page(PageNo(no), reads) {
+        Some(_) => Ok(None),
+        None => Ok(Some(Page::zero(alloc)?)),
+    }
 }
 
 /// Moves so many pages at home from `first` on to their places in this list, which begin at `front`.
@@ -115,27 +128,24 @@ fn add_core_pages(
 {
     let mut reads = Reads::new();
     for at in 0..superblock.pages - superblock.first_core {
-        let page = match copy_of(alloc, home, superblock.first_core + at, &mut reads)? {
-            Some(copy) => copy,
-            None => Page::zero(alloc)?,
-        };
+        let page = copy_or_zero(alloc, home, superblock.first_core + at, &mut reads)?;
         pages.push(Some(page))?;
     }
     Ok(())
 }
 
-/// A copy of the page at home; `None` where it is absent.
-fn copy_of(
+/// A copy of the page at home, all zero where it is absent.
+fn copy_or_zero(
     alloc: Global,
     home: &mut Home,
     no: u32,
     reads: &mut Reads,
-) -> Result<Option<Page>, NoMemory>
+) -> Result<Page, NoMemory>
     ensures home { home.new.pages ≡ home.old.pages }
-    ensures copy { IfOk result (λ copy. copy ≡ slice_index_or home.old.pages no None) }
+    ensures copy { IfOk result (λ copy. Some copy ≡ or_zero (slice_index_or home.old.pages no None)) }
 {
     match home.page(PageNo(no), reads) {
-        Some(page) => Ok(Some(page.copy(alloc)?)),
-        None => Ok(None),
+        Some(page) => page.copy(alloc),
+        None => Page::zero(alloc),
     }
 }

@@ -1,10 +1,12 @@
-use Rattle.std.proofs.Common.{◌++◌, [], ◌∷◌, List, ap, append-nil, subst, sym, ◌∙◌}
+use Rattle.std.proofs.Common.{◌++◌, [], ◌∷◌, List, ap, append-nil, inr, refl, subst, sym, ◌∙◌}
 use Rattle.trio_log.specs.Logged.{Logged}
 use Rattle.trio_nodes.specs.declared.entry.Entry.{Entry}
 use Rattle.trio_nodes.specs.declared.entry.Entry.TheVariants as entry
+use Rattle.trio_state.specs.Kept.{Kept}
 use Rattle.trio_state.specs.State.{State}
 use Rattle.trio_state.specs.Step.{Allot}
 use Rattle.trio_laws.specs.history.Replays.{IsLibrary}
+use Rattle.trio_ctl.specs.Ctl.{Controller}
 use Rattle.trio_ctl.proofs.Recording.{after_call, allot_entries, next_entry, one_room, same_room}
 use Rattle.trio_ctl.proofs.Views.{seen_idle, seen_state}
 use Rattle.trio_ctl.proofs.ctl.Ctl.allot.Goals as goal
@@ -36,3 +38,31 @@ invariant_of-self-in_default-allot_told c =
     let places = rw (c.promised.ensures) at c.in-Ok.ensures.room in
     after_call _ s c.allot-result.new.self.state i.registry.begun c.allot-result.new.self.begun i.registry.promised c.allot-result.new.self.promised i.log c.make_places.new.log i.notes (Allot lib.0 c.args.pages c.args.inodes) _ c.self.invariant c.allot-result.ensures.was_kept (seen_idle c.args.lib.0 c.self.view_is c.requires.idle) c.allot-result.ensures.begun library tt tt c.allot-result.ensures.step tt same
     (same_room c.make_places.new.log.entries i.registry.promised c.allot-result.new.self.promised c.make_places.new.log.room places c.allot-result.ensures.promised)
+
+pub returns-in_default : goal.returns-in_default
+returns-in_default c = record {
+  step = inr (refl, refl, seen_state c.self.view_is);
+  logs = record {
+    log = c.make_places.ensures.kept ∙ ap (λ (x : Controller). x.log) c.self.view_is ∙ sym (append-nil c.args.self.now.log);
+    first = ap (λ (x : Controller). x.first) c.self.view_is;
+    begun = ap (λ (x : Controller). x.begun) c.self.view_is;
+  };
+  pages = tt;
+  inodes = tt;
+  was_kept = subst Kept (seen_state c.self.view_is) c.self.invariant.all.kept;
+  kept = c.self.invariant.all.kept;
+}
+
+pub returns-in_default-with : goal.returns-in_default-with
+returns-in_default-with c = record {
+  step = inr (refl, refl, seen_state c.self.view_is);
+  logs = record {
+    log = c.make_places.ensures.kept ∙ ap (λ (x : Controller). x.log) c.self.view_is ∙ sym (append-nil c.args.self.now.log);
+    first = ap (λ (x : Controller). x.first) c.self.view_is;
+    begun = ap (λ (x : Controller). x.begun) c.self.view_is;
+  };
+  pages = tt;
+  inodes = tt;
+  was_kept = subst Kept (seen_state c.self.view_is) c.self.invariant.all.kept;
+  kept = c.self.invariant.all.kept;
+}

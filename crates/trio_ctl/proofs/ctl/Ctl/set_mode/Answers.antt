@@ -1,4 +1,4 @@
-use Rattle.std.proofs.Common.{◌≡◌, ◌+◌, ◌++◌, ◌∷◌, [], ℕ, List, Ok, Err, ap, arith, length, refl, subst, sym, ◌∙◌}
+use Rattle.std.proofs.Common.{◌≡◌, ◌+◌, ◌++◌, ◌∷◌, [], ℕ, List, Ok, Err, ap, append-nil, arith, length, refl, subst, sym, ◌∙◌}
 use Rattle.trio_lease.specs.Shown.{Shown}
 use Rattle.trio_layout.specs.Image.{row_at}
 use Rattle.trio_log.specs.Logged.{Logged}
@@ -7,6 +7,7 @@ use Rattle.trio_nodes.specs.declared.entry.Entry.{Entry}
 use Rattle.trio_nodes.specs.declared.entry.Entry.TheVariants as entry
 use Rattle.trio_desk.specs.Call.{ModeSet, NotModeSet, SetMode}
 use Rattle.trio_desk.specs.Ready.{AreLent, TellsChmod}
+use Rattle.trio_state.specs.Kept.{Kept}
 use Rattle.trio_state.specs.State.{State}
 use Rattle.trio_state.specs.Step.{mode_fault}
 use Rattle.trio_laws.specs.history.Replays.{IsLibrary}
@@ -29,8 +30,8 @@ refuse_mode-requires-clause-entry c = next_entry _ _ _ _ _ _ _ _ c.self.invarian
 pub give_back_all-requires-clause-entry : goal.give_back_all-requires-clause-entry
 give_back_all-requires-clause-entry c = next_entry _ _ _ _ _ _ _ _ c.self.invariant refl c.make_places.ensures.kept
 
-pub returns-in-Some-clause-happens : goal.returns-in-Some-clause-happens
-returns-in-Some-clause-happens c =
+pub returns-in-Some : goal.returns-in-Some
+returns-in-Some c =
     let i = c.self.inside in
     let s = i.registry.state in
     let lib = c.args.lib in
@@ -42,29 +43,52 @@ returns-in-Some-clause-happens c =
     let fault = at ∙ busy_told c.mode_fault-fault.result holder (sym c.busy_holder.ensures ∙ c.in-Some.is) in
     let told = NotModeSet (Busy holder) in
     let ask = SetMode c.args.ino c.args.mode back c.args.call in
-    subst (λ (v : State). Happens v lib ask told v) same (happens_refused s lib c.args.ino c.args.mode back c.args.call lent (Busy holder) s fault refl)
+    record {
+      happens = subst (λ (v : State). Happens v lib ask told v) same (happens_refused s lib c.args.ino c.args.mode back c.args.call lent (Busy holder) s fault refl);
+      logs = record { log = sym (append-nil c.args.self.now.log); first = refl; begun = refl };
+      leases = refl;
+      call = refl;
+      was_kept = subst Kept same c.self.invariant.all.kept;
+      kept = subst Kept same c.self.invariant.all.kept;
+    }
 
-pub returns-in_default-make_places-clause-happens : goal.returns-in_default-make_places-clause-happens
-returns-in_default-make_places-clause-happens c =
-    let i = c.self.inside in
-    let s = i.registry.state in
-    let lib = c.args.lib in
-    let back = c.args.back.items in
+pub returns-in_default-make_places : goal.returns-in_default-make_places
+returns-in_default-make_places c =
     let same = seen_state c.self.view_is in
-    let lent = subst (λ (v : State). AreLent (out_of v lib) back) (sym same) c.requires.lent in
-    let at = sym (ap (λ (l : List Shown). mode_fault (all_back s lib l) lib.0 c.args.ino c.args.mode (row_at s.home c.args.ino)) c.deref.ensures.value) ∙ sym c.mode_fault-fault.ensures in
-    subst (λ (v : State). Happens v lib (SetMode c.args.ino c.args.mode back c.args.call) (NotModeSet NoMemory) s) same (happens_wants s lib c.args.ino c.args.mode back c.args.call lent)
+    let lent = subst (λ (v : State). AreLent (out_of v c.args.lib) c.args.back.items) (sym same) c.requires.lent in
+    record {
+      happens =
+          subst (λ (v : State). Happens v c.args.lib (SetMode c.args.ino c.args.mode c.args.back.items c.args.call) (NotModeSet NoMemory) c.self.inside.registry.state) same
+          (happens_wants c.self.inside.registry.state c.args.lib c.args.ino c.args.mode c.args.back.items c.args.call lent);
+      logs = record {
+        log = c.make_places.ensures.kept ∙ ap (λ (x : Controller). x.log) c.self.view_is ∙ sym (append-nil c.args.self.now.log);
+        first = ap (λ (x : Controller). x.first) c.self.view_is;
+        begun = ap (λ (x : Controller). x.begun) c.self.view_is;
+      };
+      leases = refl;
+      call = refl;
+      was_kept = subst Kept same c.self.invariant.all.kept;
+      kept = c.self.invariant.all.kept;
+    }
 
-pub returns-in_default-make_mode_room-clause-happens : goal.returns-in_default-make_mode_room-clause-happens
-returns-in_default-make_mode_room-clause-happens c =
-    let i = c.self.inside in
-    let s = i.registry.state in
-    let lib = c.args.lib in
-    let back = c.args.back.items in
+pub returns-in_default-make_mode_room : goal.returns-in_default-make_mode_room
+returns-in_default-make_mode_room c =
     let same = seen_state c.self.view_is in
-    let lent = subst (λ (v : State). AreLent (out_of v lib) back) (sym same) c.requires.lent in
-    let at = sym (ap (λ (l : List Shown). mode_fault (all_back s lib l) lib.0 c.args.ino c.args.mode (row_at s.home c.args.ino)) c.deref.ensures.value) ∙ sym c.mode_fault-fault.ensures in
-    subst (λ (v : State). Happens v lib (SetMode c.args.ino c.args.mode back c.args.call) (NotModeSet NoMemory) s) same (happens_wants s lib c.args.ino c.args.mode back c.args.call lent)
+    let lent = subst (λ (v : State). AreLent (out_of v c.args.lib) c.args.back.items) (sym same) c.requires.lent in
+    record {
+      happens =
+          subst (λ (v : State). Happens v c.args.lib (SetMode c.args.ino c.args.mode c.args.back.items c.args.call) (NotModeSet NoMemory) c.self.inside.registry.state) same
+          (happens_wants c.self.inside.registry.state c.args.lib c.args.ino c.args.mode c.args.back.items c.args.call lent);
+      logs = record {
+        log = c.make_places.ensures.kept ∙ ap (λ (x : Controller). x.log) c.self.view_is ∙ sym (append-nil c.args.self.now.log);
+        first = ap (λ (x : Controller). x.first) c.self.view_is;
+        begun = ap (λ (x : Controller). x.begun) c.self.view_is;
+      };
+      leases = refl;
+      call = refl;
+      was_kept = subst Kept same c.self.invariant.all.kept;
+      kept = c.self.invariant.all.kept;
+    }
 
 pub invariant_of-self-in-Some-fault : goal.invariant_of-self-in-Some-fault
 invariant_of-self-in-Some-fault c =

@@ -1,15 +1,16 @@
-use Rattle.std.proofs.Common.{◌≡◌, ◌+◌, ◌≤◌, ◌++◌, [], ◌∷◌, List, ℕ, length, ap, append_assoc, refl, subst, sym, ◌∙◌, arith}
+use Rattle.std.proofs.Common.{◌≡◌, ◌+◌, ◌≤◌, ◌++◌, [], ◌∷◌, List, ℕ, length, ap, append-nil, append_assoc, refl, subst, sym, ◌∙◌, arith}
 use Rattle.trio_lease.specs.Bundles.{Bundled}
 use Rattle.trio_lease.specs.Views.{bundle_in}
 use Rattle.trio_log.specs.Logged.{Logged}
 use Rattle.trio_nodes.specs.declared.entry.Entry.{Entry}
 use Rattle.trio_nodes.specs.declared.entry.Entry.TheVariants as entry
 use Rattle.trio_layout.specs.Case.{Case}
-use Rattle.trio_desk.specs.Call.{NotSettled, Settle as SettleAsked, Settled as IsSettled}
+use Rattle.trio_desk.specs.Call.{Settle as SettleAsked, Settled as IsSettled}
 use Rattle.trio_desk.specs.Out.{parcel_of}
 use Rattle.trio_desk.specs.Ready.{Ready}
 use Rattle.trio_state.specs.Bundles.{parted_hold}
 use Rattle.trio_state.specs.Given.{GivenTo}
+use Rattle.trio_state.specs.Kept.{Kept}
 use Rattle.trio_state.specs.State.{State}
 use Rattle.trio_state.specs.Step.{Release, Step}
 use Rattle.trio_state.specs.Tells.{case_in}
@@ -27,7 +28,7 @@ use Rattle.trio_ctl.proofs.DeskGiven.{given_to, were_held, were_lent}
 use Rattle.trio_ctl.proofs.LeasesBack.{backs_whose}
 use Rattle.trio_ctl.proofs.Recording.{next_entry, one_room}
 use Rattle.trio_ctl.proofs.RecordedReleases.{are_noted, whole_is}
-use Rattle.trio_ctl.proofs.Settling.{after_settle, back_in_turn, case_then, judgeable_then, lent_reads, not_settled, places_then, room_then, settled_then}
+use Rattle.trio_ctl.proofs.Settling.{after_settle, back_in_turn, case_then, judgeable_then, lent_reads, not_settled_seen, places_then, room_then, settled_then}
 use Rattle.trio_ctl.proofs.Views.{seen_idle, seen_state}
 use Rattle.trio_ctl.proofs.ctl.Ctl.settle.Goals as goal
 
@@ -47,29 +48,56 @@ judged-requires-clause-held c =
     let ready = subst (λ (v : State). Ready (desk_of v c.args.lib) (parcel_of c.args.bundle) c.args.back.items c.args.calls.items) (sym (seen_state c.self.view_is)) c.requires.ready in
     were_held c.self.inside.registry.state c.args.lib (parcel_of c.args.bundle) ready.all.given
 
-pub returns-in_default-clause-happens : goal.returns-in_default-clause-happens
-returns-in_default-clause-happens c =
-    let s = c.self.inside.registry.state in
-    let seen = seen_state c.self.view_is in
-    let ready = subst (λ (v : State). Ready (desk_of v c.args.lib) (parcel_of c.args.bundle) c.args.back.items c.args.calls.items) (sym seen) c.requires.ready in
-    subst (λ (v : State). Happens v c.args.lib (SettleAsked (parcel_of c.args.bundle) c.args.back.items c.args.calls.items) NotSettled s) seen
-    (not_settled s c.args.lib c.args.bundle c.args.back.items c.args.calls.items c.self.invariant.all.kept c.self.invariant.lent ready)
+pub returns-in_default : goal.returns-in_default
+returns-in_default c =
+    record {
+      happens = not_settled_seen c.args.lib c.args.bundle c.args.back.items c.args.calls.items c.self.invariant.all.kept c.self.invariant.lent (seen_state c.self.view_is) c.requires.ready;
+      logs = record {
+        log = c.make_places.ensures.kept ∙ ap (λ (x : Controller). x.log) c.self.view_is ∙ sym (append-nil c.args.self.now.log);
+        first = ap (λ (x : Controller). x.first) c.self.view_is;
+        begun = ap (λ (x : Controller). x.begun) c.self.view_is;
+      };
+      bundle = refl;
+      leases = refl;
+      calls = refl;
+      looked = (let same = ap (λ (x : Controller). x.looked) c.self.view_is in omega (arith, same));
+      was_kept = subst Kept (seen_state c.self.view_is) c.self.invariant.all.kept;
+      kept = c.self.invariant.all.kept;
+    }
 
-pub returns-in-Err-clause-happens : goal.returns-in-Err-clause-happens
-returns-in-Err-clause-happens c =
-    let s = c.self.inside.registry.state in
-    let seen = seen_state c.self.view_is in
-    let ready = subst (λ (v : State). Ready (desk_of v c.args.lib) (parcel_of c.args.bundle) c.args.back.items c.args.calls.items) (sym seen) c.requires.ready in
-    subst (λ (v : State). Happens v c.args.lib (SettleAsked (parcel_of c.args.bundle) c.args.back.items c.args.calls.items) NotSettled s) seen
-    (not_settled s c.args.lib c.args.bundle c.args.back.items c.args.calls.items c.self.invariant.all.kept c.self.invariant.lent ready)
+pub returns-in-Err : goal.returns-in-Err
+returns-in-Err c =
+    record {
+      happens = not_settled_seen c.args.lib c.args.bundle c.args.back.items c.args.calls.items c.self.invariant.all.kept c.self.invariant.lent (seen_state c.self.view_is) c.requires.ready;
+      logs = record {
+        log = c.make_places.ensures.kept ∙ ap (λ (x : Controller). x.log) c.self.view_is ∙ sym (append-nil c.args.self.now.log);
+        first = ap (λ (x : Controller). x.first) c.self.view_is;
+        begun = ap (λ (x : Controller). x.begun) c.self.view_is;
+      };
+      bundle = c.in-Err.ensures.back;
+      leases = refl;
+      calls = refl;
+      looked = (let same = ap (λ (x : Controller). x.looked) c.self.view_is in omega (arith, same));
+      was_kept = subst Kept (seen_state c.self.view_is) c.self.invariant.all.kept;
+      kept = c.self.invariant.all.kept;
+    }
 
-pub returns-in_default-with-clause-happens : goal.returns-in_default-with-clause-happens
-returns-in_default-with-clause-happens c =
-    let s = c.self.inside.registry.state in
-    let seen = seen_state c.self.view_is in
-    let ready = subst (λ (v : State). Ready (desk_of v c.args.lib) (parcel_of c.args.bundle) c.args.back.items c.args.calls.items) (sym seen) c.requires.ready in
-    subst (λ (v : State). Happens v c.args.lib (SettleAsked (parcel_of c.args.bundle) c.args.back.items c.args.calls.items) NotSettled s) seen
-    (not_settled s c.args.lib c.args.bundle c.args.back.items c.args.calls.items c.self.invariant.all.kept c.self.invariant.lent ready)
+pub returns-in_default-with : goal.returns-in_default-with
+returns-in_default-with c =
+    record {
+      happens = not_settled_seen c.args.lib c.args.bundle c.args.back.items c.args.calls.items c.self.invariant.all.kept c.self.invariant.lent (seen_state c.self.view_is) c.requires.ready;
+      logs = record {
+        log = c.make_places.ensures.kept ∙ ap (λ (x : Controller). x.log) c.self.view_is ∙ sym (append-nil c.args.self.now.log);
+        first = ap (λ (x : Controller). x.first) c.self.view_is;
+        begun = ap (λ (x : Controller). x.begun) c.self.view_is;
+      };
+      bundle = c.into_bundle.ensures ∙ c.in-Ok-judged.ensures.case;
+      leases = refl;
+      calls = refl;
+      looked = (let same = ap (λ (x : Controller). x.looked) c.self.view_is in omega (arith, same));
+      was_kept = subst Kept (seen_state c.self.view_is) c.self.invariant.all.kept;
+      kept = c.self.invariant.all.kept;
+    }
 
 pub told-told-requires-clause-noted : goal.told-told-requires-clause-noted
 told-told-requires-clause-noted c = are_noted c.self.inside.registry.state c.rows-rows.result.now c.self.inside.notes c.self.invariant.all.kept c.rows-rows.ensures c.self.invariant.noted

@@ -13,7 +13,7 @@ invariant_of-result c =
     let many : c.len.result ≡ length c.args.libs.items = omega (arith, c.len.ensures, c.args.libs.ok.0) in
     started image.superblock image.pages _ _ _ c.args.libs.items _ parts.verified parts.pages (ap (λ (x : Superblock). x.root) same) parts.tables.rows_are parts.tables.owners_are
     (c.in-Ok.ensures ∙ ap (λ (x : Superblock). nothing_out x.pages x.inodes) same) (ap (λ (x : Superblock). x.first_core) same) c.new-3.ensures.items c.new-4.ensures
-    _ _ (c.in-Ok-no_checkpoints.ensures ∙ ap (λ (x : Superblock). replicate (x.inodes + 1) None) same) c.new-2.ensures (c.in-Ok-none_begun.ensures ∙ ap (λ n. replicate n None) many) (omega arith) (omega arith)
+    _ _ (c.in-Ok-empty_places.ensures ∙ ap (λ (x : Superblock). replicate (x.inodes + 1) None) same) c.new-2.ensures (c.in-Ok-empty_places-2.ensures ∙ ap (λ n. replicate n None) many) (omega arith) (omega arith)
 
 pub returns-clause-started : goal.returns-clause-started
 returns-clause-started c =
@@ -21,7 +21,7 @@ returns-clause-started c =
     let made = c.into_parts-home.result in
     let parts = c.into_parts-home.ensures in
     let same = c.superblock-superblock.ensures.superblock in
-    state_started image.superblock image.pages (record { home = made.home; root = c.superblock-superblock.result.root; rows = made.rows; owners = made.owners; allotments = c.in-Ok.allotments; checkpoints = c.in-Ok-no_checkpoints.checkpoints }) _ _ c.args.libs.items _ parts.verified parts.pages (ap (λ (x : Superblock). x.root) same) parts.tables.rows_are parts.tables.owners_are
+    state_started image.superblock image.pages (record { home = made.home; root = c.superblock-superblock.result.root; rows = made.rows; owners = made.owners; allotments = c.in-Ok.allotments; checkpoints = c.in-Ok-empty_places.checkpoints }) _ _ c.args.libs.items _ parts.verified parts.pages (ap (λ (x : Superblock). x.root) same) parts.tables.rows_are parts.tables.owners_are
     (c.in-Ok.ensures ∙ ap (λ (x : Superblock). nothing_out x.pages x.inodes) same) (ap (λ (x : Superblock). x.first_core) same) c.new-3.ensures.items c.new-4.ensures
 
 pub returns-clause-kept : goal.returns-clause-kept
@@ -31,11 +31,11 @@ returns-clause-kept c =
     let parts = c.into_parts-home.ensures in
     let same = c.superblock-superblock.ensures.superblock in
     let many : c.len.result ≡ length c.args.libs.items = omega (arith, c.len.ensures, c.args.libs.ok.0) in
-    (started image.superblock image.pages (record { home = made.home; root = c.superblock-superblock.result.root; rows = made.rows; owners = made.owners; allotments = c.in-Ok.allotments; checkpoints = c.in-Ok-no_checkpoints.checkpoints }) c.superblock-superblock.result.first_core c.new-3.result.items c.args.libs.items c.new-4.result parts.verified parts.pages (ap (λ (x : Superblock). x.root) same) parts.tables.rows_are parts.tables.owners_are
+    (started image.superblock image.pages (record { home = made.home; root = c.superblock-superblock.result.root; rows = made.rows; owners = made.owners; allotments = c.in-Ok.allotments; checkpoints = c.in-Ok-empty_places.checkpoints }) c.superblock-superblock.result.first_core c.new-3.result.items c.args.libs.items c.new-4.result parts.verified parts.pages (ap (λ (x : Superblock). x.root) same) parts.tables.rows_are parts.tables.owners_are
     (c.in-Ok.ensures ∙ ap (λ (x : Superblock). nothing_out x.pages x.inodes) same) (ap (λ (x : Superblock). x.first_core) same) c.new-3.ensures.items c.new-4.ensures
-    c.new-2.result c.in-Ok-none_begun.begun.items (c.in-Ok-no_checkpoints.ensures ∙ ap (λ (x : Superblock). replicate (x.inodes + 1) None) same) c.new-2.ensures (c.in-Ok-none_begun.ensures ∙ ap (λ n. replicate n None) many) (omega arith) (omega arith)).stored.kept
+    c.new-2.result c.in-Ok-empty_places-2.begun.items (c.in-Ok-empty_places.ensures ∙ ap (λ (x : Superblock). replicate (x.inodes + 1) None) same) c.new-2.ensures (c.in-Ok-empty_places-2.ensures ∙ ap (λ n. replicate n None) many) (omega arith) (omega arith)).stored.kept
 
 pub returns-clause-begun : goal.returns-clause-begun
 returns-clause-begun c =
     let many : c.len.result ≡ length c.args.libs.items = omega (arith, c.len.ensures, c.args.libs.ok.0) in
-    c.in-Ok-none_begun.ensures ∙ ap (λ n. replicate n None) many
+    c.in-Ok-empty_places-2.ensures ∙ ap (λ n. replicate n None) many
