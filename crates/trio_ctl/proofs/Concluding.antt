@@ -312,11 +312,10 @@ module _ {s : Store} {first : ℕ} {table : List Keyed} {files : List Opened} {c
         let m = out_here.0 in
         let stay : files' ≡ staying lib b files = left ∙ ap (λ x. staying lib x files) (sym same) in
         let done = committed_it s first table files creds entries begun k lib b g p l m out_here.1 s' commits in
-        let stand = stand_accepted s first table files creds entries begun k lib b g p s' table' files' entries' stay next' m done in
-        (
+        let stand = stand_accepted s first table files creds entries begun k lib b g p s' table' files' entries' stay next' m done in (
           ended_controlled s first table files creds entries begun k lib b g p s' table' files' entries' stay next' keeps stand commits.allotments done.stored,
           as_seen (λ t x. Step t (Release lib.0 x) Accepted (state_of s' first (grants_in files') creds entries'.made)) is same
-          (accepted_step s first table files creds entries begun k lib b g p s' table' files' entries' stay next' m done.ends),
+              (accepted_step s first table files creds entries begun k lib b g p s' table' files' entries' stay next' m done.ends),
         )
 
   pub can_roll_back_seen : CanRollBack s lib b
@@ -328,9 +327,8 @@ module _ {s : Store} {first : ℕ} {table : List Keyed} {files : List Opened} {c
       let p = closed_here in
       let stay : files' ≡ staying lib b files = left ∙ ap (λ x. staying lib x files) (sym same) in
       let done = rolled_back_it s first table files creds entries begun k lib b g p s' rolls in
-      let stand = stand_refused s first table files creds entries begun k lib b g p s' table' files' entries' stay next' rolls.rows in
-      (
+      let stand = stand_refused s first table files creds entries begun k lib b g p s' table' files' entries' stay next' rolls.rows in (
         ended_controlled s first table files creds entries begun k lib b g p s' table' files' entries' stay next' keeps stand rolls.allotments done.stored,
         as_seen (λ t x. Step t (Release lib.0 x) (Refused (record { rule = rule; ino = ino; page = page; slot = slot })) (state_of s' first (grants_in files') creds entries'.made)) is same
-        (refused_step s first table files creds entries begun k lib b g p s' table' files' entries' stay next' rule ino page slot (as_here (λ t x. Breaks (case_in t lib.0 x) rule ino (record { page = page; slot = slot })) is same breaks) done.ends),
+            (refused_step s first table files creds entries begun k lib b g p s' table' files' entries' stay next' rule ino page slot (as_here (λ t x. Breaks (case_in t lib.0 x) rule ino (record { page = page; slot = slot })) is same breaks) done.ends),
       )
