@@ -4,8 +4,9 @@ use Rattle.trio_nodes.specs.declared.entry.Entry.{Entry}
 use Rattle.trio_nodes.specs.declared.entry.Entry.TheVariants as entry
 use Rattle.trio_state.specs.Kept.{Kept}
 use Rattle.trio_state.specs.State.{State}
-use Rattle.trio_state.specs.Step.{Allot}
+use Rattle.trio_state.specs.Step.{Allot, Step}
 use Rattle.trio_laws.specs.history.Replays.{IsLibrary}
+use Rattle.trio_ctl.specs.Answers.{allot_answer}
 use Rattle.trio_ctl.specs.Ctl.{Controller}
 use Rattle.trio_ctl.proofs.Recording.{after_call, allot_entries, next_entry, one_room, same_room}
 use Rattle.trio_ctl.proofs.Views.{seen_idle, seen_state}
@@ -66,3 +67,39 @@ returns-in_default-with c = record {
   was_kept = subst Kept (seen_state c.self.view_is) c.self.invariant.all.kept;
   kept = c.self.invariant.all.kept;
 }
+
+pub returns-in-Some : goal.returns-in-Some
+returns-in-Some c =
+    let seen = seen_state c.self.view_is in
+    let before = c.make_places.ensures.kept ∙ ap (λ (x : Controller). x.log) c.self.view_is in
+    let same = sym (ap (λ (l : List Entry). c.args.self.now.log ++ l) (allot_entries c.args.self.now.state c.args.lib c.args.pages c.args.inodes c.allot-result.result _ (sym c.in-Some.is ∙ c.allot_told.ensures))) in
+    record {
+      step = subst (λ (v : State). Step v (Allot c.args.lib.0 c.args.pages c.args.inodes) (allot_answer c.allot-result.result) c.allot-result.new.self.state) seen c.allot-result.ensures.step;
+      logs = record {
+        log = ap (λ (l : Logged). l.entries) c.push.ensures ∙ ap (λ (l : List Entry). l ++ entry.Allot c.args.lib c.args.pages c.args.inodes c.in-Some.answer ∷ []) before ∙ same;
+        first = ap (λ (x : Controller). x.first) c.self.view_is;
+        begun = c.allot-result.ensures.begun ∙ ap (λ (x : Controller). x.begun) c.self.view_is;
+      };
+      pages = c.allot-result.ensures.pages;
+      inodes = c.allot-result.ensures.inodes;
+      was_kept = subst Kept seen c.self.invariant.all.kept;
+      kept = c.allot-result.ensures.kept;
+    }
+
+pub returns-in_default-allot_told : goal.returns-in_default-allot_told
+returns-in_default-allot_told c =
+    let seen = seen_state c.self.view_is in
+    let before = c.make_places.ensures.kept ∙ ap (λ (x : Controller). x.log) c.self.view_is in
+    let same = sym (ap (λ (l : List Entry). c.args.self.now.log ++ l) (allot_entries c.args.self.now.state c.args.lib c.args.pages c.args.inodes c.allot-result.result _ (sym c.in_default-allot_told.is ∙ c.allot_told.ensures))) in
+    record {
+      step = subst (λ (v : State). Step v (Allot c.args.lib.0 c.args.pages c.args.inodes) (allot_answer c.allot-result.result) c.allot-result.new.self.state) seen c.allot-result.ensures.step;
+      logs = record {
+        log = before ∙ sym (append-nil c.args.self.now.log) ∙ same;
+        first = ap (λ (x : Controller). x.first) c.self.view_is;
+        begun = c.allot-result.ensures.begun ∙ ap (λ (x : Controller). x.begun) c.self.view_is;
+      };
+      pages = c.allot-result.ensures.pages;
+      inodes = c.allot-result.ensures.inodes;
+      was_kept = subst Kept seen c.self.invariant.all.kept;
+      kept = c.allot-result.ensures.kept;
+    }

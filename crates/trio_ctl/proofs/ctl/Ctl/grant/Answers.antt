@@ -1,10 +1,18 @@
-use Rattle.std.proofs.Common.{◌++◌, [], ◌∷◌, List, ap, append-nil, subst, sym, ◌∙◌}
+use Rattle.std.proofs.Common.{◌≡◌, ◌++◌, [], ◌∷◌, List, ap, append-nil, inr, refl, subst, sym, ◌∙◌}
+use Rattle.std.specs.Prelude.{IfOk}
+use Rattle.std.specs.Option.{IsSomeAnd}
+use Rattle.trio_layout.specs.Image.{row_at}
 use Rattle.trio_log.specs.Logged.{Logged}
 use Rattle.trio_nodes.specs.declared.entry.Entry.{Entry}
 use Rattle.trio_nodes.specs.declared.entry.Entry.TheVariants as entry
+use Rattle.trio_state.specs.Grants.{opened}
+use Rattle.trio_state.specs.Kept.{Kept}
 use Rattle.trio_state.specs.State.{State}
-use Rattle.trio_state.specs.Step.{Grant}
+use Rattle.trio_state.specs.Step.{Grant, Step}
 use Rattle.trio_laws.specs.history.Replays.{IsLibrary}
+use Rattle.trio_ctl.specs.Answers.{grant_answer}
+use Rattle.trio_ctl.specs.Ctl.{Controller}
+use Rattle.trio_open.specs.Open.{lent_by}
 use Rattle.trio_ctl.proofs.Recording.{after_call, grant_entries, next_entry, no_more_room, one_more_room}
 use Rattle.trio_ctl.proofs.Views.{seen_idle, seen_state}
 use Rattle.trio_ctl.proofs.ctl.Ctl.grant.Goals as goal
@@ -36,3 +44,50 @@ invariant_of-self-in_default-grant_told c =
     let places = rw (c.promised.ensures) at c.in-Ok.ensures.room in
     after_call _ s c.grant-result.new.self.state i.registry.begun c.grant-result.new.self.begun i.registry.promised c.grant-result.new.self.promised i.log c.make_places.new.log i.notes (Grant lib.0 c.args.ino c.args.kind) _ c.self.invariant c.grant-result.ensures.was_kept (seen_idle c.args.lib.0 c.self.view_is c.requires.idle) c.grant-result.ensures.begun library tt tt c.grant-result.ensures.step tt same
     (no_more_room c.make_places.new.log.entries i.registry.promised c.grant-result.new.self.promised c.make_places.new.log.room places c.grant-result.ensures.promised)
+
+pub returns-in_default : goal.returns-in_default
+returns-in_default c = record {
+  step = inr (refl, refl, seen_state c.self.view_is);
+  logs = record {
+    log = c.make_places.ensures.kept ∙ ap (λ (x : Controller). x.log) c.self.view_is ∙ sym (append-nil c.args.self.now.log);
+    first = ap (λ (x : Controller). x.first) c.self.view_is;
+    begun = ap (λ (x : Controller). x.begun) c.self.view_is;
+  };
+  lease = tt;
+  was_kept = subst Kept (seen_state c.self.view_is) c.self.invariant.all.kept;
+  kept = c.self.invariant.all.kept;
+}
+
+pub returns-in-Some : goal.returns-in-Some
+returns-in-Some c =
+    let seen = seen_state c.self.view_is in
+    let before = c.make_places.ensures.kept ∙ ap (λ (x : Controller). x.log) c.self.view_is in
+    let same = sym (ap (λ (l : List Entry). c.args.self.now.log ++ l) (grant_entries c.args.self.now.state c.args.lib c.args.ino c.args.kind c.grant-result.result _ (sym c.in-Some.is ∙ c.grant_told.ensures))) in
+    record {
+      step = subst (λ (v : State). Step v (Grant c.args.lib.0 c.args.ino c.args.kind) (grant_answer c.grant-result.result) c.grant-result.new.self.state) seen c.grant-result.ensures.step;
+      logs = record {
+        log = ap (λ (l : Logged). l.entries) c.push.ensures ∙ ap (λ (l : List Entry). l ++ entry.Grant c.args.lib c.args.ino c.args.kind c.in-Some.answer ∷ []) before ∙ same;
+        first = ap (λ (x : Controller). x.first) c.self.view_is;
+        begun = c.grant-result.ensures.begun ∙ ap (λ (x : Controller). x.begun) c.self.view_is;
+      };
+      lease = subst (λ (v : State). IfOk c.grant-result.result (λ lease. IsSomeAnd (row_at v.home c.args.ino) (λ r. lease ≡ lent_by (opened v c.args.lib.0 c.args.ino c.args.kind r)))) seen c.grant-result.ensures.lease;
+      was_kept = subst Kept seen c.self.invariant.all.kept;
+      kept = c.grant-result.ensures.kept;
+    }
+
+pub returns-in_default-grant_told : goal.returns-in_default-grant_told
+returns-in_default-grant_told c =
+    let seen = seen_state c.self.view_is in
+    let before = c.make_places.ensures.kept ∙ ap (λ (x : Controller). x.log) c.self.view_is in
+    let same = sym (ap (λ (l : List Entry). c.args.self.now.log ++ l) (grant_entries c.args.self.now.state c.args.lib c.args.ino c.args.kind c.grant-result.result _ (sym c.in_default-grant_told.is ∙ c.grant_told.ensures))) in
+    record {
+      step = subst (λ (v : State). Step v (Grant c.args.lib.0 c.args.ino c.args.kind) (grant_answer c.grant-result.result) c.grant-result.new.self.state) seen c.grant-result.ensures.step;
+      logs = record {
+        log = before ∙ sym (append-nil c.args.self.now.log) ∙ same;
+        first = ap (λ (x : Controller). x.first) c.self.view_is;
+        begun = c.grant-result.ensures.begun ∙ ap (λ (x : Controller). x.begun) c.self.view_is;
+      };
+      lease = subst (λ (v : State). IfOk c.grant-result.result (λ lease. IsSomeAnd (row_at v.home c.args.ino) (λ r. lease ≡ lent_by (opened v c.args.lib.0 c.args.ino c.args.kind r)))) seen c.grant-result.ensures.lease;
+      was_kept = subst Kept seen c.self.invariant.all.kept;
+      kept = c.grant-result.ensures.kept;
+    }

@@ -1,4 +1,4 @@
-use Rattle.std.proofs.Common.{◌∙◌, map, refl, take, ap, sym, inr}
+use Rattle.std.proofs.Common.{◌∙◌, map, refl, take, ap, subst, sym, inr}
 use Rattle.trio_page.specs.Home.{Pages}
 use Rattle.trio_tables.specs.Free.{free_pages}
 use Rattle.trio_ctl.specs.Answers.{allot_fault_answer}
@@ -7,6 +7,9 @@ use Rattle.trio_commit.specs.declared.store.Store.{Store}
 use Rattle.trio_commit.specs.Store.{state_of}
 use Rattle.trio_open.specs.Open.{grants_in}
 use Rattle.trio_allot.proofs.Taking.{numbers_given}
+use Rattle.trio_state.specs.Kept.{Kept}
+use Rattle.trio_ctl.specs.Ctl.{Registered}
+use Rattle.trio_open.specs.Entries.{Entries}
 use Rattle.trio_ctl.proofs.Views.{state_is}
 use Rattle.trio_ctl.proofs.Allotting.{free_home, given_controlled, given_step, logged_controlled, logged_is, numbers_placed, pages_placed, refused_step, still, unchanged_controlled}
 use Rattle.trio_ctl.proofs.Outs.{pages_given, without_is}
@@ -27,26 +30,24 @@ invariant_of-self c =
     let gone = ap (λ (h : Pages). h.pages) c.in-Ok-given.ensures.home ∙ sym (without_is (take c.args.pages (free_pages i.store.owners i.store.allotments.pages)) i.store.home.pages) in
     given_controlled c.self.inside.store c.self.inside.first_core c.self.inside.grants c.self.inside.files.items c.self.inside.libs.items c.self.inside.history c.self.inside.begun.items c.self.invariant c.args.lib c.args.pages c.args.inodes (record i.store { home = c.take-given.new.home; allotments = c.take-given.new.self }) c.enter.new.self c.in-Ok-given.ensures.enough_pages c.in-Ok-given.ensures.enough_inodes refl gone c.in-Ok-given.ensures.out c.enter.ensures
 
-pub returns-in-Ok-given-clause-step : goal.returns-in-Ok-given-clause-step
-returns-in-Ok-given-clause-step c =
+pub returns-in-Ok-given : goal.returns-in-Ok-given
+returns-in-Ok-given c =
     let i = c.self.inside in
+    let after = record i.store { home = c.take-given.new.home; allotments = c.take-given.new.self } in
     let gone = ap (λ (h : Pages). h.pages) c.in-Ok-given.ensures.home ∙ sym (without_is (take c.args.pages (free_pages i.store.owners i.store.allotments.pages)) i.store.home.pages) in
     let pages = ap page_numbers c.in-Ok-given.ensures.pages ∙ pages_given c.args.lib _ in
     let inodes = ap inode_numbers c.in-Ok-given.ensures.inodes ∙ numbers_given c.args.lib _ in
-    rw (← (state_is c.self.view_is), pages, inodes)
-    (given_step c.self.inside.store c.self.inside.first_core c.self.inside.grants c.self.inside.files.items c.self.inside.libs.items c.self.inside.history c.self.inside.begun.items c.self.invariant c.args.lib c.args.pages c.args.inodes (record i.store { home = c.take-given.new.home; allotments = c.take-given.new.self }) c.enter.new.self c.in-Ok-given.ensures.enough_pages c.in-Ok-given.ensures.enough_inodes refl gone c.in-Ok-given.ensures.out c.enter.ensures)
-
-pub returns-in-Ok-given-clause-pages : goal.returns-in-Ok-given-clause-pages
-returns-in-Ok-given-clause-pages c = c.in-Ok-given.ensures.pages ∙ ap (map (fresh_page c.args.lib)) (sym (ap page_numbers c.in-Ok-given.ensures.pages ∙ pages_given c.args.lib _))
-
-pub returns-in-Ok-given-clause-inodes : goal.returns-in-Ok-given-clause-inodes
-returns-in-Ok-given-clause-inodes c = c.in-Ok-given.ensures.inodes ∙ ap (map (fresh_number c.args.lib)) (sym (ap inode_numbers c.in-Ok-given.ensures.inodes ∙ numbers_given c.args.lib _))
-
-pub returns-in-Ok-given-clause-kept : goal.returns-in-Ok-given-clause-kept
-returns-in-Ok-given-clause-kept c =
-    let i = c.self.inside in
-    let gone = ap (λ (h : Pages). h.pages) c.in-Ok-given.ensures.home ∙ sym (without_is (take c.args.pages (free_pages i.store.owners i.store.allotments.pages)) i.store.home.pages) in
-    (given_controlled c.self.inside.store c.self.inside.first_core c.self.inside.grants c.self.inside.files.items c.self.inside.libs.items c.self.inside.history c.self.inside.begun.items c.self.invariant c.args.lib c.args.pages c.args.inodes (record i.store { home = c.take-given.new.home; allotments = c.take-given.new.self }) c.enter.new.self c.in-Ok-given.ensures.enough_pages c.in-Ok-given.ensures.enough_inodes refl gone c.in-Ok-given.ensures.out c.enter.ensures).stored.kept
+    record {
+      step =
+          rw (← (state_is c.self.view_is), pages, inodes)
+          (given_step i.store i.first_core i.grants i.files.items i.libs.items i.history i.begun.items c.self.invariant c.args.lib c.args.pages c.args.inodes after c.enter.new.self c.in-Ok-given.ensures.enough_pages c.in-Ok-given.ensures.enough_inodes refl gone c.in-Ok-given.ensures.out c.enter.ensures);
+      pages = c.in-Ok-given.ensures.pages ∙ ap (map (fresh_page c.args.lib)) (sym pages);
+      inodes = c.in-Ok-given.ensures.inodes ∙ ap (map (fresh_number c.args.lib)) (sym inodes);
+      was_kept = subst Kept (state_is c.self.view_is) c.self.invariant.stored.kept;
+      kept = (given_controlled i.store i.first_core i.grants i.files.items i.libs.items i.history i.begun.items c.self.invariant c.args.lib c.args.pages c.args.inodes after c.enter.new.self c.in-Ok-given.ensures.enough_pages c.in-Ok-given.ensures.enough_inodes refl gone c.in-Ok-given.ensures.out c.enter.ensures).stored.kept;
+      begun = ap (λ (x : Registered). x.begun) c.self.view_is;
+      promised = ap (λ (e : Entries). e.promised) c.enter.ensures ∙ ap (λ (x : Registered). x.promised) c.self.view_is;
+    }
 
 pub invariant_of-self-in-NoPages : goal.invariant_of-self-in-NoPages
 invariant_of-self-in-NoPages c =

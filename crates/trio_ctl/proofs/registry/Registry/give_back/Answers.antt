@@ -4,6 +4,7 @@ use Rattle.trio_nodes.specs.declared.grant.GrantKind.TheVariants.{Read}
 use Rattle.trio_grants.specs.Grants.{HasKey, without}
 use Rattle.trio_lease.specs.Shown.{Shown}
 use Rattle.trio_state.specs.Given.{HasGrant}
+use Rattle.trio_state.specs.Kept.{Kept}
 use Rattle.trio_state.specs.State.{State}
 use Rattle.trio_ctl.specs.Ctl.{Registered}
 use Rattle.trio_open.specs.Entries.{Entries}
@@ -63,8 +64,8 @@ invariant_of-self c =
     let ended = c.end.ensures.ended ∙ ap (λ n. without n i.grants) c.key.ensures in
     back_controlled i.store i.first_core i.grants i.files.items i.libs.items i.history i.begun.items c.self.invariant lib ino (take at i.files.items) (drop (at + 1) i.files.items) c.remove-file.result split.0 split.1 c.end.new.self c.remove-file.new.self.items c.enter_promised.new.self ended left c.enter_promised.ensures given
 
-pub returns-clause-step : goal.returns-clause-step
-returns-clause-step c =
+pub returns : goal.returns
+returns c =
     let i = c.self.inside in
     let lib = c.args.lease.lib.0 in
     let ino = c.args.lease.ino in
@@ -75,34 +76,16 @@ returns-clause-step c =
     let split = found_split lib ino i.files.items at c.remove-file.result found c.remove-file.ensures.value in
     let left = c.remove-file.ensures.by_index.2 in
     let ended = c.end.ensures.ended ∙ ap (λ n. without n i.grants) c.key.ensures in
-    rw (← (state_is c.self.view_is))
-    (back_step i.store i.first_core i.grants i.files.items i.libs.items i.history i.begun.items c.self.invariant lib ino (take at i.files.items) (drop (at + 1) i.files.items) c.remove-file.result split.0 split.1 c.end.new.self c.remove-file.new.self.items c.enter_promised.new.self ended left c.enter_promised.ensures)
-
-pub returns-clause-kept : goal.returns-clause-kept
-returns-clause-kept c =
-    let i = c.self.inside in
-    let lib = c.args.lease.lib.0 in
-    let ino = c.args.lease.ino in
-    let same = c.parts-parts.ensures in
-    let given = subst (λ (v : State). HasGrant v lib ino Read) (sym (state_is c.self.view_is)) c.requires.given in
-    let found = sym (ap (λ (x : Shown). position (λ (o : Opened). is_read_of x.lib.0 x.ino o.grant) i.files.items) same) ∙ sym (ap (position (λ (o : Opened). is_read_of c.parts-parts.result.lib.0 c.parts-parts.result.ino o.grant)) c.deref.ensures.value) ∙ sym c.place_of_read.ensures ∙ c.in-Some.is in
-    let at = c.in-Some.at in
-    let split = found_split lib ino i.files.items at c.remove-file.result found c.remove-file.ensures.value in
-    let left = c.remove-file.ensures.by_index.2 in
-    let ended = c.end.ensures.ended ∙ ap (λ n. without n i.grants) c.key.ensures in
-    (back_controlled i.store i.first_core i.grants i.files.items i.libs.items i.history i.begun.items c.self.invariant lib ino (take at i.files.items) (drop (at + 1) i.files.items) c.remove-file.result split.0 split.1 c.end.new.self c.remove-file.new.self.items c.enter_promised.new.self ended left c.enter_promised.ensures given).stored.kept
-
-pub returns-clause-promised : goal.returns-clause-promised
-returns-clause-promised c =
-    let i = c.self.inside in
-    let lib = c.args.lease.lib.0 in
-    let ino = c.args.lease.ino in
-    let same = c.parts-parts.ensures in
-    let given = subst (λ (v : State). HasGrant v lib ino Read) (sym (state_is c.self.view_is)) c.requires.given in
-    let found = sym (ap (λ (x : Shown). position (λ (o : Opened). is_read_of x.lib.0 x.ino o.grant) i.files.items) same) ∙ sym (ap (position (λ (o : Opened). is_read_of c.parts-parts.result.lib.0 c.parts-parts.result.ino o.grant)) c.deref.ensures.value) ∙ sym c.place_of_read.ensures ∙ c.in-Some.is in
-    let at = c.in-Some.at in
-    let split = found_split lib ino i.files.items at c.remove-file.result found c.remove-file.ensures.value in
     let some = has_promise i.store i.first_core i.grants i.files.items i.libs.items i.history i.begun.items c.self.invariant lib ino (take at i.files.items) (drop (at + 1) i.files.items) c.remove-file.result split.0 split.1 in
     let new = ap (λ (e : Entries). e.promised) c.enter_promised.ensures in
     let old = ap (λ (r : Registered). r.promised) c.self.view_is in
-    omega (arith, some, new, old)
+    record {
+      step =
+          rw (← (state_is c.self.view_is))
+          (back_step i.store i.first_core i.grants i.files.items i.libs.items i.history i.begun.items c.self.invariant lib ino (take at i.files.items) (drop (at + 1) i.files.items) c.remove-file.result split.0 split.1 c.end.new.self c.remove-file.new.self.items c.enter_promised.new.self ended left c.enter_promised.ensures);
+      was_kept = subst Kept (state_is c.self.view_is) c.self.invariant.stored.kept;
+      kept = (back_controlled i.store i.first_core i.grants i.files.items i.libs.items i.history i.begun.items c.self.invariant lib ino (take at i.files.items) (drop (at + 1) i.files.items) c.remove-file.result split.0 split.1 c.end.new.self c.remove-file.new.self.items c.enter_promised.new.self ended left c.enter_promised.ensures given).stored.kept;
+      begun = ap (λ (r : Registered). r.begun) c.self.view_is;
+      promised = omega (arith, some, new, old);
+      looked = ap (λ (r : Registered). r.looked) c.self.view_is;
+    }

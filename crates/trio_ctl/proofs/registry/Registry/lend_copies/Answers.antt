@@ -1,4 +1,4 @@
-use Rattle.std.proofs.Common.{◌≡◌, refl, Some, None, ap, length, sym, subst, ◌∙◌, ◌++◌, ◌∷◌, []}
+use Rattle.std.proofs.Common.{◌≡◌, refl, Some, None, ap, arith, length, sym, subst, ◌∙◌, ◌++◌, ◌∷◌, []}
 use Rattle.std.specs.Result.{IsOk}
 use Rattle.trio_nodes.specs.declared.grant.GrantKind.TheVariants.{Read}
 use Rattle.trio_tables.specs.Row.{as_row}
@@ -14,6 +14,7 @@ use Rattle.trio_open.specs.Entries.{Entries}
 use Rattle.trio_ctl.specs.inner.Denials.{denial}
 use Rattle.trio_open.specs.inner.Lending.{IsLendable}
 use Rattle.trio_open.specs.Open.{Opened, grant_on, shown_of}
+use Rattle.trio_ctl.specs.Ctl.{Registered}
 use Rattle.trio_ctl.proofs.Views.{next_is, state_is}
 use Rattle.trio_ctl.proofs.Granting.{refused_step, stands_somewhere, body_is, chain, chain_home, lendable, grant_made, plain_controlled, plain_step, controlled_still}
 use Rattle.trio_ctl.proofs.registry.Registry.lend_copies.Goals as goal
@@ -94,8 +95,8 @@ invariant_of-self-in-Err-copied_file c =
     let rest = ap (λ (t : Store). record t { home = c.copied_file.new.home }) c.settled_body.ensures.rest in
     controlled_still i.store i.first_core i.grants i.files.items i.libs.items i.history i.begun.items c.self.invariant _ c.end.new.self c.reserve.new.self.items rest (c.copied_file.ensures.pages ∙ c.settled_body.ensures.pages) (c.end.ensures.ended ∙ c.in-Ok-admit.ensures.rest) c.in-Ok-reserve.ensures.items
 
-pub returns-in-Ok-push-clause-step : goal.returns-in-Ok-push-clause-step
-returns-in-Ok-push-clause-step c =
+pub returns-in-Ok-push : goal.returns-in-Ok-push
+returns-in-Ok-push c =
     let i = c.self.inside in
     let r = as_row c.args.row.now in
     let live = subst (λ (v : State). row_at v.home c.args.ino ≡ Some r) (sym (state_is c.self.view_is)) c.requires.live in
@@ -117,31 +118,13 @@ returns-in-Ok-push-clause-step c =
     let rest = ap (λ (t : Store). record t { home = c.copied_file.new.home }) c.settled_body.ensures.rest in
     let more = c.in-Ok-push.ensures.items ∙ ap (λ fs. fs ++ copy.0 ∷ []) c.in-Ok-reserve.ensures.items in
     let counted = ap (λ (n : Entries). n.made) c.enter_with_promise.ensures in
-    rw (← (state_is c.self.view_is))
-    (plain_step i.store i.first_core i.grants i.files.items i.libs.items i.history i.begun.items c.self.invariant Read refl c.args.lib c.args.ino r live free key copy.0 _ c.admit.new.grants c.push.new.self.items c.enter_with_promise.new.self made pages rest more counted 0 refl may)
-
-pub returns-in-Ok-push-clause-lease : goal.returns-in-Ok-push-clause-lease
-returns-in-Ok-push-clause-lease c =
-    let i = c.self.inside in
-    let r = as_row c.args.row.now in
-    let live = subst (λ (v : State). row_at v.home c.args.ino ≡ Some r) (sym (state_is c.self.view_is)) c.requires.live in
-    let may = subst (λ (v : State). denial v c.args.lib.0 c.args.ino Read ≡ None) (sym (state_is c.self.view_is)) c.requires.may in
-    let body = c.settled_body.ensures.body ∙ body_is i.store i.first_core i.grants i.files.items i.libs.items i.history i.begun.items c.self.invariant c.args.ino r live in
-    let range : CoreRange = record { first = i.first_core; end = length i.store.home.pages } in
-    let ranges = c.range-range.ensures ∙ ap (λ (v : State). v.home.core.range) (sym (state_is c.self.view_is)) in
-    let cores : core_of c.settled_body.new.store.home.pages c.range-range.result ≡ core_of i.store.home.pages range = ap (core_of c.settled_body.new.store.home.pages) ranges ∙ ap (λ ps. core_of ps range) c.settled_body.ensures.pages in
-    let free = c.in-Ok-admit.ensures.answer in
-    let ch = chain i.store i.first_core i.grants i.files.items i.libs.items i.history i.begun.items c.self.invariant Read c.args.lib c.args.ino r live free in
-    let read = ap (λ (k : Core). chain_in k r.kind c.settled_body.result) cores ∙ chain_home i.store i.first_core i.grants i.files.items i.libs.items i.history i.begun.items c.self.invariant Read c.args.lib c.args.ino r live free c.settled_body.result body in
-    let key = c.in-Ok-admit.key in
-    let copy = c.in-Ok-copied_file.copy in
-    let made = c.in-Ok-copied_file.ensures.opened ch read
-    ∙ ap (λ (k : Core). record { key = key; grant = grant_on k c.args.lib.0 c.args.ino Read r.kind c.args.entry c.settled_body.result ch }) cores
-    ∙ ap (λ n. record { key = key; grant = grant_on (core_of i.store.home.pages range) c.args.lib.0 c.args.ino Read r.kind n c.settled_body.result ch }) (next_is c.requires.entry c.self.view_is)
-    ∙ ap (λ (g : OpenGrant). record { key = key; grant = g }) (grant_made i.store i.first_core i.grants i.files.items i.libs.items i.history i.begun.items c.self.invariant Read c.args.lib c.args.ino r live free c.settled_body.result body) in
-    let pages = c.copied_file.ensures.pages ∙ c.settled_body.ensures.pages in
-    let rest = ap (λ (t : Store). record t { home = c.copied_file.new.home }) c.settled_body.ensures.rest in
-    let more = c.in-Ok-push.ensures.items ∙ ap (λ fs. fs ++ copy.0 ∷ []) c.in-Ok-reserve.ensures.items in
-    let counted = ap (λ (n : Entries). n.made) c.enter_with_promise.ensures in
-    rw (← (state_is c.self.view_is))
-    (ap ReadLent (c.in-Ok-copied_file.ensures.lease ∙ ap (λ (o : Opened). shown_of o.grant) made))
+    record {
+      step =
+          rw (← (state_is c.self.view_is))
+          (plain_step i.store i.first_core i.grants i.files.items i.libs.items i.history i.begun.items c.self.invariant Read refl c.args.lib c.args.ino r live free key copy.0 _ c.admit.new.grants c.push.new.self.items c.enter_with_promise.new.self made pages rest more counted 0 refl may);
+      lease =
+          rw (← (state_is c.self.view_is))
+          (ap ReadLent (c.in-Ok-copied_file.ensures.lease ∙ ap (λ (o : Opened). shown_of o.grant) made));
+      begun = ap (λ (x : Registered). x.begun) c.self.view_is;
+      promised = (let new = ap (λ (e : Entries). e.promised) c.enter_with_promise.ensures in let old = ap (λ (x : Registered). x.promised) c.self.view_is in omega (arith, new, old));
+    }

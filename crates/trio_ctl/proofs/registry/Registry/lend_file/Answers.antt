@@ -17,6 +17,8 @@ use Rattle.trio_open.specs.inner.Lending.{IsLendable}
 use Rattle.trio_laws.specs.OutLaws.{without_checkpoint}
 use Rattle.trio_open.specs.Open.{grant_on}
 use Rattle.trio_ctl.specs.inner.Denials.{denial}
+use Rattle.trio_open.specs.Entries.{Entries}
+use Rattle.trio_ctl.specs.Ctl.{Registered}
 use Rattle.trio_ctl.proofs.Views.{next_is, state_is}
 use Rattle.trio_ctl.proofs.Granting.{refused_step, stands_somewhere, body_is, chain, chain_home, lendable, granted_controlled, granted_step, lease_made, controlled_still}
 use Rattle.trio_ctl.proofs.registry.Registry.lend_file.Goals as goal
@@ -94,8 +96,8 @@ invariant_of-self-in-Err-lend c =
     let rest = ap (λ (t : Store). record t { home = c.lend.new.home }) c.settled_body.ensures.rest in
     controlled_still i.store i.first_core i.grants i.files.items i.libs.items i.history i.begun.items c.self.invariant _ c.end.new.self c.reserve.new.self.items rest (c.in-Err-lend.ensures.kept ∙ c.settled_body.ensures.pages) (c.end.ensures.ended ∙ c.in-Ok-admit.ensures.rest) c.in-Ok-reserve.ensures.items
 
-pub returns-in-Ok-push-clause-step : goal.returns-in-Ok-push-clause-step
-returns-in-Ok-push-clause-step c =
+pub returns-in-Ok-push : goal.returns-in-Ok-push
+returns-in-Ok-push c =
     let i = c.self.inside in
     let r = as_row c.args.row.now in
     let live = subst (λ (v : State). row_at v.home c.args.ino ≡ Some r) (sym (state_is c.self.view_is)) c.requires.live in
@@ -117,30 +119,13 @@ returns-in-Ok-push-clause-step c =
     let more = c.in-Ok-push.ensures.items ∙ ap (λ fs. fs ++ loan.file ∷ []) c.in-Ok-reserve.ensures.items in
     let aside = ap (λ (t : Store). slice_set t.checkpoints.items c.args.ino (Some loan.checkpoint)) c.settled_body.ensures.rest in
     let rest = ap (λ (t : Store). record t { home = c.lend.new.home; checkpoints = with_item c.settled_body.new.store.checkpoints c.args.ino (Some loan.checkpoint) }) c.settled_body.ensures.rest in
-    rw (← (state_is c.self.view_is))
-    (granted_step i.store i.first_core i.grants i.files.items i.libs.items i.history i.begun.items c.self.invariant c.args.lib c.args.ino r live free key c.settled_body.result body loan.file loan.checkpoint _ c.admit.new.grants c.push.new.self.items c.enter.new.self made c.in-Ok-lend.ensures.covered gone rest aside more c.enter.ensures may)
-
-pub returns-in-Ok-push-clause-lease : goal.returns-in-Ok-push-clause-lease
-returns-in-Ok-push-clause-lease c =
-    let i = c.self.inside in
-    let r = as_row c.args.row.now in
-    let live = subst (λ (v : State). row_at v.home c.args.ino ≡ Some r) (sym (state_is c.self.view_is)) c.requires.live in
-    let body = c.settled_body.ensures.body ∙ body_is i.store i.first_core i.grants i.files.items i.libs.items i.history i.begun.items c.self.invariant c.args.ino r live in
-    let range : CoreRange = record { first = i.first_core; end = length i.store.home.pages } in
-    let ranges = c.range-range.ensures ∙ ap (λ (v : State). v.home.core.range) (sym (state_is c.self.view_is)) in
-    let cores : core_of c.settled_body.new.store.home.pages c.range-range.result ≡ core_of i.store.home.pages range = ap (core_of c.settled_body.new.store.home.pages) ranges ∙ ap (λ ps. core_of ps range) c.settled_body.ensures.pages in
-    let free = c.in-Ok-admit.ensures.answer in
-    let ch = chain i.store i.first_core i.grants i.files.items i.libs.items i.history i.begun.items c.self.invariant Write c.args.lib c.args.ino r live free in
-    let read = chain_home i.store i.first_core i.grants i.files.items i.libs.items i.history i.begun.items c.self.invariant Write c.args.lib c.args.ino r live free c.settled_body.result body in
-    let read' = ap (λ (k : Core). chain_in k r.kind c.settled_body.result) cores ∙ read in
-    let key = c.in-Ok-admit.key in
-    let loan = c.in-Ok-lend.loan in
-    let made = c.in-Ok-lend.ensures.opened ch read'
-    ∙ ap (λ (k : Core). record { key = key; grant = without_checkpoint (grant_on k c.args.lib.0 c.args.ino Write r.kind c.args.entry c.settled_body.result ch) }) cores
-    ∙ ap (λ n. record { key = key; grant = without_checkpoint (grant_on (core_of i.store.home.pages range) c.args.lib.0 c.args.ino Write r.kind n c.settled_body.result ch) }) (next_is c.requires.entry c.self.view_is) in
-    let gone = c.in-Ok-lend.ensures.pages ch read' ∙ ap (without_pages (ch.index ++ ch.blocks)) c.settled_body.ensures.pages in
-    let more = c.in-Ok-push.ensures.items ∙ ap (λ fs. fs ++ loan.file ∷ []) c.in-Ok-reserve.ensures.items in
-    let aside = ap (λ (t : Store). slice_set t.checkpoints.items c.args.ino (Some loan.checkpoint)) c.settled_body.ensures.rest in
-    let rest = ap (λ (t : Store). record t { home = c.lend.new.home; checkpoints = with_item c.settled_body.new.store.checkpoints c.args.ino (Some loan.checkpoint) }) c.settled_body.ensures.rest in
-    rw (← (state_is c.self.view_is))
-    (ap WriteLent (c.in-Ok-lend.ensures.lease ∙ lease_made i.store i.first_core i.grants i.files.items i.libs.items i.history i.begun.items c.self.invariant c.args.lib c.args.ino r live free key c.settled_body.result body loan.file loan.checkpoint _ c.admit.new.grants c.push.new.self.items c.enter.new.self made c.in-Ok-lend.ensures.covered gone rest aside more c.enter.ensures))
+    record {
+      step =
+          rw (← (state_is c.self.view_is))
+          (granted_step i.store i.first_core i.grants i.files.items i.libs.items i.history i.begun.items c.self.invariant c.args.lib c.args.ino r live free key c.settled_body.result body loan.file loan.checkpoint _ c.admit.new.grants c.push.new.self.items c.enter.new.self made c.in-Ok-lend.ensures.covered gone rest aside more c.enter.ensures may);
+      lease =
+          rw (← (state_is c.self.view_is))
+          (ap WriteLent (c.in-Ok-lend.ensures.lease ∙ lease_made i.store i.first_core i.grants i.files.items i.libs.items i.history i.begun.items c.self.invariant c.args.lib c.args.ino r live free key c.settled_body.result body loan.file loan.checkpoint _ c.admit.new.grants c.push.new.self.items c.enter.new.self made c.in-Ok-lend.ensures.covered gone rest aside more c.enter.ensures));
+      begun = ap (λ (x : Registered). x.begun) c.self.view_is;
+      promised = ap (λ (e : Entries). e.promised) c.enter.ensures ∙ ap (λ (x : Registered). x.promised) c.self.view_is;
+    }

@@ -11,6 +11,7 @@ use Rattle.trio_commit.specs.declared.store.Store.{Store}
 use Rattle.trio_open.specs.Entries.{Entries}
 use Rattle.trio_ctl.specs.inner.Denials.{denial}
 use Rattle.trio_open.specs.Open.{Opened, grants_in}
+use Rattle.trio_ctl.specs.Ctl.{Registered}
 use Rattle.trio_ctl.proofs.Views.{next_is, state_is}
 use Rattle.trio_ctl.proofs.Granting.{refused_step, stands_somewhere, body_is, plain_controlled, plain_step}
 use Rattle.trio_tables.specs.Tables.{child_count}
@@ -54,29 +55,8 @@ invariant_of-self-2 c =
     let put = subst (λ n. AllBelow n i.grants → c.admit.new.grants ≡ i.grants ++ (key, record { lib = c.args.lib; ino = c.args.ino; kind = Hold; entry = n }) ∷ []) (next_is c.requires.entry c.self.view_is) c.in-Ok-admit.ensures.opened in
     plain_controlled i.store i.first_core i.grants i.files.items i.libs.items i.history i.begun.items c.self.invariant Hold refl c.args.lib c.args.ino r live free key file _ c.admit.new.grants c.push.new.self.items c.enter.new.self made c.settled_body.ensures.pages c.settled_body.ensures.rest more counted c.children.result counted_children may put c.in-Ok-admit.ensures.new_key (ap (λ (n : Entries). n.promised) c.enter.ensures)
 
-pub returns-clause-step : goal.returns-clause-step
-returns-clause-step c =
-    let i = c.self.inside in
-    let r = as_row c.args.row.now in
-    let live = subst (λ (v : State). row_at v.home c.args.ino ≡ Some r) (sym (state_is c.self.view_is)) c.requires.live in
-    let may = subst (λ (v : State). denial v c.args.lib.0 c.args.ino Hold ≡ None) (sym (state_is c.self.view_is)) c.requires.may in
-    let body = c.settled_body.ensures.body ∙ body_is i.store i.first_core i.grants i.files.items i.libs.items i.history i.begun.items c.self.invariant c.args.ino r live in
-    let free = c.in-Ok-admit.ensures.answer in
-    let key = c.in-Ok-admit.key in
-    let file = c.of.result in
-    let H : ℕ → List ℕ → ℕ → Opened = λ n b m. record { key = key; grant = record { lib = c.args.lib.0; ino = c.args.ino; kind = Hold; of = r.kind; entry = n; body = b; index = []; blocks = []; parent = r.parent; children = m; checkpoint = [] } } in
-    let counted_children = c.children.ensures ∙ ap (λ (t : Store). child_count c.args.ino t.rows) c.settled_body.ensures.rest in
-    let at_home : List ℕ = settled_body (settled (state_of i.store i.first_core (grants_in i.files.items) i.libs.items i.history.made)) c.args.ino in
-    let first = rw c.copied.ensures at c.of.ensures in
-    let made = first ∙ ap (λ n. H n c.settled_body.result c.children.result) (next_is c.requires.entry c.self.view_is) ∙ ap (λ b. H i.history.made b c.children.result) body ∙ ap (H i.history.made at_home) counted_children in
-    let rest = ap (λ (t : Store). record t { home = c.settled_body.new.store.home }) c.settled_body.ensures.rest in
-    let more = c.in-Ok-push.ensures.items ∙ ap (λ fs. fs ++ file ∷ []) c.in-Ok-reserve.ensures.items in
-    let counted = ap (λ (n : Entries). n.made) c.enter.ensures in
-    rw (← (state_is c.self.view_is))
-    (plain_step i.store i.first_core i.grants i.files.items i.libs.items i.history i.begun.items c.self.invariant Hold refl c.args.lib c.args.ino r live free key file _ c.admit.new.grants c.push.new.self.items c.enter.new.self made c.settled_body.ensures.pages c.settled_body.ensures.rest more counted c.of-2.result.children (ap (λ (h : HoldParts). h.children) c.of-2.ensures ∙ counted_children) may)
-
-pub returns-clause-lease : goal.returns-clause-lease
-returns-clause-lease c =
+pub returns : goal.returns
+returns c =
     let i = c.self.inside in
     let r = as_row c.args.row.now in
     let live = subst (λ (v : State). row_at v.home c.args.ino ≡ Some r) (sym (state_is c.self.view_is)) c.requires.live in
@@ -94,5 +74,13 @@ returns-clause-lease c =
     let more = c.in-Ok-push.ensures.items ∙ ap (λ fs. fs ++ file ∷ []) c.in-Ok-reserve.ensures.items in
     let counted = ap (λ (n : Entries). n.made) c.enter.ensures in
     let P : ℕ → List ℕ → ℕ → HoldParts = λ n b m. record { lib = c.args.lib; ino = c.args.ino; kind = r.kind; entry = n; parent = r.parent; body = b; children = m } in
-    rw (← (state_is c.self.view_is))
-    (ap HoldLent (c.of-2.ensures ∙ ap (λ n. P n c.settled_body.result c.children.result) (next_is c.requires.entry c.self.view_is) ∙ ap (λ b. P i.history.made b c.children.result) body ∙ ap (P i.history.made (settled_body (settled (state_of i.store i.first_core (grants_in i.files.items) i.libs.items i.history.made)) c.args.ino)) counted_children))
+    record {
+      step =
+          rw (← (state_is c.self.view_is))
+          (plain_step i.store i.first_core i.grants i.files.items i.libs.items i.history i.begun.items c.self.invariant Hold refl c.args.lib c.args.ino r live free key file _ c.admit.new.grants c.push.new.self.items c.enter.new.self made c.settled_body.ensures.pages c.settled_body.ensures.rest more counted c.of-2.result.children (ap (λ (h : HoldParts). h.children) c.of-2.ensures ∙ counted_children) may);
+      lease =
+          rw (← (state_is c.self.view_is))
+          (ap HoldLent (c.of-2.ensures ∙ ap (λ n. P n c.settled_body.result c.children.result) (next_is c.requires.entry c.self.view_is) ∙ ap (λ b. P i.history.made b c.children.result) body ∙ ap (P i.history.made (settled_body (settled (state_of i.store i.first_core (grants_in i.files.items) i.libs.items i.history.made)) c.args.ino)) counted_children));
+      begun = ap (λ (x : Registered). x.begun) c.self.view_is;
+      promised = ap (λ (e : Entries). e.promised) c.enter.ensures ∙ ap (λ (x : Registered). x.promised) c.self.view_is;
+    }
