@@ -1,6 +1,6 @@
 //! What checking an image costs, beside reading its file.
 
-use crate::timing::{Ratio, least_of_both, nanos_since, now};
+use crate::timing::{Times, least, nanos_since, now};
 use std::alloc::Global;
 use std::io;
 use std::rt::{Clock, Files as Host};
@@ -23,12 +23,16 @@ pub fn write_workload<R: Host + Print + AllocGlobal>(rt: &R, name: &str) -> io::
 }
 
 fn write_image<R: Host>(rt: &R, alloc: Global, name: &str) -> Option<usize> {
-    let bytes = workload_tree(alloc).ok()?.bytes(alloc).ok()?;
+    let bytes = workload(alloc)?;
     if replace(rt, alloc, name, &bytes) {
         Some(bytes.len())
     } else {
         None
     }
+}
+
+fn workload(alloc: Global) -> Option<Vec<u8>> {
+    workload_tree(alloc).ok()?.bytes(alloc).ok()
 }
 
 fn replace<R: Host>(rt: &R, alloc: Global, name: &str, bytes: &[u8]) -> bool {
@@ -41,15 +45,20 @@ fn replace<R: Host>(rt: &R, alloc: Global, name: &str, bytes: &[u8]) -> bool {
 /// Prints how often reading a file and summing its bytes goes into loading the image in it, which
 /// verifies it. The rounds of both come in turn.
 pub fn measure_check<R: Host + Clock + Print + AllocGlobal>(rt: &R, name: &str) -> io::Result<()> {
-    let alloc = rt.alloc();
-    let check = || nanos_of_check(rt, alloc, name);
-    match least_of_both(ROUNDS, check, || nanos_of_sum(rt, alloc, name)) {
-        Some((check, sum)) => println!(rt;
-            "checking beside reading and summing: {}",
-            Ratio::of(check, sum)
-        ),
+    match fastest(rt, rt.alloc(), name) {
+        Some(times) => println!(rt; "checking beside reading and summing: {}", times.ratio()),
         None => println!(rt; "not read, or no image, or no clock"),
     }
+}
+
+/// The least times of loading the image and of summing its bytes.
+fn fastest<R: Host + Clock>(rt: &R, alloc: Global, name: &str) -> Option<Times> {
+    let mut times = Some(Times::LONGEST);
+    for _ in 0..ROUNDS {
+        let check = nanos_of_check(rt, alloc, name);
+        times = least(times, check, nanos_of_sum(rt, alloc, name));
+    }
+    times
 }
 
 /// The nanoseconds of loading the image in a file. `None` where there is none.

@@ -3,8 +3,8 @@
 ghost use Rattle.std.specs.Prelude.{IfSome};
 ghost use Rattle.trio_shared.specs.Seats.{IsIdle, IsSeatOf};
 
-use crate::sessions::started;
-use crate::timing::{Ratio, least_of_both, nanos_since, now};
+use crate::sessions::one_file;
+use crate::timing::{Times, least, nanos_since, now};
 use std::alloc::Global;
 use std::io;
 use std::rt::Clock;
@@ -27,17 +27,25 @@ const FILE: u32 = 2;
 /// The rounds of both come in turn, each with a controller of its own, whose log grows by two entries
 /// each time.
 pub fn measure_seat<R: Wait + Clock + Print + AllocGlobal>(rt: &R, count: u64) -> io::Result<()> {
-    let alloc = rt.alloc();
-    let at_seat = || nanos_of_seat(rt, alloc, count);
-    match least_of_both(ROUNDS, at_seat, || nanos_of_ctl(rt, alloc, count)) {
-        Some((seat, ctl)) => println!(rt;
+    match fastest(rt, rt.alloc(), count) {
+        Some(times) => println!(rt;
             "seat {} ns, controller {} ns, ratio {}",
-            seat / u128::from(count.max(1)),
-            ctl / u128::from(count.max(1)),
-            Ratio::of(seat, ctl)
+            times.first / u128::from(count.max(1)),
+            times.second / u128::from(count.max(1)),
+            times.ratio()
         ),
         None => println!(rt; "out of memory, or not lent, or no clock"),
     }
+}
+
+/// The least times of so many grants at a seat and of as many at the controller.
+fn fastest<R: Wait + Clock>(rt: &R, alloc: Global, count: u64) -> Option<Times> {
+    let mut times = Some(Times::LONGEST);
+    for _ in 0..ROUNDS {
+        let at_seat = nanos_of_seat(rt, alloc, count);
+        times = least(times, at_seat, nanos_of_ctl(rt, alloc, count));
+    }
+    times
 }
 
 fn nanos_of_seat<R: Wait + Clock>(rt: &R, alloc: Global, count: u64) -> Option<u128> {
@@ -49,7 +57,7 @@ fn nanos_of_seat<R: Wait + Clock>(rt: &R, alloc: Global, count: u64) -> Option<u
 }
 
 fn nanos_of_ctl<R: Clock>(rt: &R, alloc: Global, count: u64) -> Option<u128> {
-    let Some(mut ctl) = started(alloc) else {
+    let Some(mut ctl) = one_file(alloc) else {
         return None;
     };
     let mut desk = PlainDesk::of(&mut ctl, LibNo(1));
@@ -60,7 +68,7 @@ fn nanos_of_ctl<R: Clock>(rt: &R, alloc: Global, count: u64) -> Option<u128> {
 fn start_one(alloc: Global) -> Option<(Shared, LibSeat)>
     ensures { IfSome result (λ r. IsSeatOf r.0 r.1 × IsIdle r.1) }
 {
-    let ctl = started(alloc)?;
+    let ctl = one_file(alloc)?;
     let Ok((shared, mut seats)) = Shared::start(alloc, ctl, 1) else {
         return None;
     };
