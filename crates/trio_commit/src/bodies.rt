@@ -13,8 +13,8 @@ ghost use Rattle.trio_commit.specs.inner.Files.{leases_in};
 ghost use Rattle.trio_commit.specs.inner.Putting.{ArePlaced, Covers, IsAway, NamesNoRoot, looks_for, taken_number, with_body_on, with_taken};
 
 use crate::taken_page::{TakenPage, put_body_home};
-use trio_checkpoint::Checkpoint;
 use trio_case::ListedEntry;
+use trio_checkpoint::Checkpoint;
 use trio_lease::WriteLease;
 use trio_page::{Home, PageNo, Reads};
 use trio_tables::{Row, Shadow};

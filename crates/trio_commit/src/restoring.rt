@@ -9,8 +9,8 @@ ghost use Rattle.trio_tables.specs.Out.{with_all};
 ghost use Rattle.trio_commit.specs.Store.{checkpoint_at, covered_at};
 ghost use Rattle.trio_commit.specs.inner.Files.{lease_numbers};
 
-use trio_checkpoint::Checkpoint;
 use trio_case::ListedFile;
+use trio_checkpoint::Checkpoint;
 use trio_lease::WriteLease;
 use trio_page::Home;
 

@@ -7,8 +7,8 @@ ghost use Rattle.trio_entries.specs.Drafts.{IsDraftFor};
 
 use std::alloc::Global;
 use std::marker::Model;
-use trio_entries::Draft;
 use trio_case::Case;
+use trio_entries::Draft;
 use trio_open::outline::Outline;
 use trio_page::NoMemory;
 

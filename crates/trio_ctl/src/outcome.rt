@@ -8,8 +8,8 @@ ghost use Rattle.trio_edges.specs.Leaves.{RegularFilesAreLeaves};
 ghost use Rattle.trio_ctl.specs.Pending.{IsVerdict};
 ghost use Rattle.trio_ctl.specs.inner.Outcomes.{HasFew, IsOutcome};
 
-use trio_edges::edges;
 use trio_case::Listing;
+use trio_edges::edges;
 use trio_judge::Verdict;
 use trio_tables::Shadow;
 

@@ -8,8 +8,8 @@ ghost use Rattle.trio_edges.specs.Leaves.{RegularFilesAreLeaves};
 ghost use Rattle.trio_judge_tests.specs.Leaves.{is_other, HasNoFile};
 
 use std::alloc::Global;
-use trio_edges::edges;
 use trio_case::{ListedEntry, ListedFile, Listing, ListingRoom};
+use trio_edges::edges;
 use trio_rights::{Kind, Mode};
 use trio_tables::{Row, Shadow};
 

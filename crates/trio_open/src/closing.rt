@@ -8,8 +8,8 @@ ghost use Rattle.trio_state.specs.Bundles.{is_in_bundle};
 ghost use Rattle.trio_open.specs.Open.{keyed};
 
 use crate::open::OpenFile;
-use trio_grants::GrantTable;
 use trio_case::Case;
+use trio_grants::GrantTable;
 use trio_nodes::GrantKind;
 use trio_rights::LibNo;
 
