@@ -36,10 +36,10 @@ fn workload(alloc: Global) -> Option<Vec<u8>> {
 }
 
 fn replace<R: Host>(rt: &R, alloc: Global, name: &str, bytes: &[u8]) -> bool {
-    let Some(mut files) = files_of(rt, alloc, name) else {
-        return false;
-    };
-    files.serves(name) && files.replace(name, bytes).is_ok()
+    match files_of(rt, alloc, name) {
+        Some(mut files) => files.serves(name) && files.replace(name, bytes).is_ok(),
+        None => false,
+    }
 }
 
 /// Prints how often reading a file and summing its bytes goes into loading the image in it, which
@@ -72,10 +72,14 @@ fn nanos_of_check<R: Host + Clock>(rt: &R, alloc: Global, name: &str) -> Option<
 }
 
 fn is_image<R: Host>(rt: &R, alloc: Global, name: &str) -> bool {
-    let Some(mut files) = files_of(rt, alloc, name) else {
-        return false;
-    };
-    files.serves(name) && load(alloc, &mut files, name).is_ok()
+    match files_of(rt, alloc, name) {
+        Some(mut files) => is_loaded(alloc, &mut files, name),
+        None => false,
+    }
+}
+
+fn is_loaded<R: Host>(alloc: Global, files: &mut RealFiles<R>, name: &str) -> bool {
+    files.serves(name) && load(alloc, files, name).is_ok()
 }
 
 /// The nanoseconds of reading a file and summing its bytes. `None` where it can't be read or has none
@@ -89,9 +93,15 @@ fn nanos_of_sum<R: Host + Clock>(rt: &R, alloc: Global, name: &str) -> Option<u1
 }
 
 fn bytes_of<R: Host>(rt: &R, alloc: Global, name: &str) -> Option<Vec<u8>> {
-    let mut files = files_of(rt, alloc, name)?;
+    match files_of(rt, alloc, name) {
+        Some(mut files) => read_bytes(alloc, &mut files, name),
+        None => None,
+    }
+}
+
+fn read_bytes<R: Host>(alloc: Global, files: &mut RealFiles<R>, name: &str) -> Option<Vec<u8>> {
     if files.serves(name) {
-        read_whole(alloc, &mut files, name, LIMIT).ok()
+        read_whole(alloc, files, name, LIMIT).ok()
     } else {
         None
     }

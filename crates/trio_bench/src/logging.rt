@@ -75,8 +75,16 @@ fn memory<R: Host + AllocGlobal>(rt: &R, word: &str) -> Option<u64> {
 }
 
 fn number_behind(text: &str, word: &str) -> Option<u64> {
-    let line = text.lines().find_map(|line| line.strip_prefix(word))?;
-    line.split_whitespace().next()?.parse().ok()
+    for line in text.lines() {
+        if let Some(rest) = line.strip_prefix(word) {
+            return first_number(rest);
+        }
+    }
+    None
+}
+
+fn first_number(text: &str) -> Option<u64> {
+    text.split_whitespace().next()?.parse().ok()
 }
 
 /// The controller once the release is accepted.

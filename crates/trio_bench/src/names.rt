@@ -123,15 +123,20 @@ fn fill_and_empty(
 
 /// Adds a name that isn't there at the first empty slot, with a new block where there is none.
 fn add(dir: &mut HashedDir, finds: &mut Finds, name: &Name) -> Option<()> {
-    dir.reserve().ok()?;
     if dir.first_empty().is_none() {
-        dir.grow();
-        dir.reserve().ok()?;
+        grow(dir)?;
     }
+    dir.reserve().ok()?;
     let place = dir.first_empty()?;
     if dir.find(name, finds).is_none() {
         dir.add(*name, place);
     }
+    Some(())
+}
+
+fn grow(dir: &mut HashedDir) -> Option<()> {
+    dir.reserve().ok()?;
+    dir.grow();
     Some(())
 }
 
@@ -162,19 +167,27 @@ fn spelled(alloc: Global, choice: Choice, zero: u8) -> Option<Vec<Name>> {
 
 /// The name that comes at this place.
 fn name_at(choice: Choice, place: u32, zero: u8) -> Option<Name> {
-    let mixed = place.wrapping_mul(40_503) % COUNT;
-    let falling = COUNT.wrapping_sub(place);
-    let (number, begin) = match choice {
-        Choice::Plain => (mixed, 180),
-        Choice::Falling => (falling, 180),
-        Choice::Alike => (mixed, 0),
-        Choice::AlikeFalling => (falling, 0),
-    };
     let mut bytes = [b'n'; 184];
+    put_digits(&mut bytes[180..], number_at(choice, place), zero);
+    match choice {
+        Choice::Plain | Choice::Falling => Name::read(&bytes[180..]).ok(),
+        Choice::Alike | Choice::AlikeFalling => Name::read(&bytes).ok(),
+    }
+}
+
+/// The number that is spelled at this place.
+fn number_at(choice: Choice, place: u32) -> u32 {
+    match choice {
+        Choice::Plain | Choice::Alike => place.wrapping_mul(40_503) % COUNT,
+        Choice::Falling | Choice::AlikeFalling => COUNT.wrapping_sub(place),
+    }
+}
+
+/// Writes the last digits of a number, with `zero` for the digit 0.
+fn put_digits(digits: &mut [u8], number: u32, zero: u8) {
     let mut rest = number;
-    for digit in bytes[180..].iter_mut().rev() {
+    for digit in digits.iter_mut().rev() {
         *digit = zero.wrapping_add((rest % 10) as u8);
         rest /= 10;
     }
-    Name::read(&bytes[begin..]).ok()
 }

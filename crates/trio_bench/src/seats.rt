@@ -1,6 +1,7 @@
 //! What a grant costs at a seat, beside the same at the controller itself.
 
-ghost use Rattle.std.specs.Prelude.{IfSome};
+ghost use Rattle.std.specs.Prelude.{◌≡◌, IfSome, length};
+ghost use Rattle.trio_ctl.specs.Ctl.{NoneBegun};
 ghost use Rattle.trio_shared.specs.Seats.{IsIdle, IsSeatOf};
 
 use crate::sessions::one_file;
@@ -9,7 +10,7 @@ use std::alloc::Global;
 use std::io;
 use std::rt::Clock;
 use std::sync::Wait;
-use trio_ctl::PlainDesk;
+use trio_ctl::{Ctl, PlainDesk};
 use trio_desk::Desk;
 use trio_lease::Lease;
 use trio_nodes::GrantKind;
@@ -49,18 +50,36 @@ fn fastest<R: Wait + Clock>(rt: &R, alloc: Global, count: u64) -> Option<Times> 
 }
 
 fn nanos_of_seat<R: Wait + Clock>(rt: &R, alloc: Global, count: u64) -> Option<u128> {
-    let Some((shared, mut seat)) = start_one(alloc) else {
-        return None;
-    };
-    let mut desk = SeatDesk::of(rt, &shared, &mut seat);
+    match start_one(alloc) {
+        Some((shared, mut seat)) => nanos_sitting(rt, &shared, &mut seat, count),
+        None => None,
+    }
+}
+
+fn nanos_sitting<R: Wait + Clock>(
+    rt: &R,
+    shared: &Shared,
+    seat: &mut LibSeat,
+    count: u64,
+) -> Option<u128>
+    requires { IsSeatOf shared.now seat.old × IsIdle seat.old }
+{
+    let mut desk = SeatDesk::of(rt, shared, seat);
     nanos_at(rt, &mut desk, count)
 }
 
 fn nanos_of_ctl<R: Clock>(rt: &R, alloc: Global, count: u64) -> Option<u128> {
-    let Some(mut ctl) = one_file(alloc) else {
-        return None;
-    };
-    let mut desk = PlainDesk::of(&mut ctl, LibNo(1));
+    match one_file(alloc) {
+        Some(mut ctl) => nanos_on(rt, &mut ctl, count),
+        None => None,
+    }
+}
+
+fn nanos_on<R: Clock>(rt: &R, ctl: &mut Ctl, count: u64) -> Option<u128>
+    requires one { length ctl.old.state.creds ≡ 1 }
+    requires idle { NoneBegun ctl.old }
+{
+    let mut desk = PlainDesk::of(ctl, LibNo(1));
     nanos_at(rt, &mut desk, count)
 }
 

@@ -21,7 +21,7 @@ use trio_nodes::{Answer, Call, Reply, SharedBytes};
 use trio_page::{PAGE_SIZE, Page};
 use trio_rights::{Creds, LibNo};
 use trio_samples::files::root;
-use trio_samples::regular;
+use trio_samples::{put, regular};
 use trio_session::Session;
 use trio_walk::Outcome;
 
@@ -99,10 +99,7 @@ fn zero_pages(alloc: Global) -> Option<Vec<Page>> {
 
 fn copy_in(pieces: &[SharedBytes], pages: &mut [Page]) {
     for (page, piece) in pages.iter_mut().zip(pieces) {
-        let bytes = piece.as_slice();
-        if bytes.len() == PAGE_SIZE {
-            page.bytes_mut().copy_from_slice(bytes);
-        }
+        put(page.bytes_mut(), 0, piece.as_slice());
     }
 }
 
@@ -116,10 +113,18 @@ fn copy_out(alloc: Global, pages: &[Page]) -> Option<Vec<SharedBytes>> {
 
 /// The nanoseconds of a session's calls, of which all replies are kept. `None` where one isn't done.
 fn nanos_of_session<R: Clock>(rt: &R, alloc: Global) -> Option<u128> {
-    let Some(mut ctl) = one_file(alloc) else {
-        return None;
-    };
-    let mut desk = PlainDesk::of(&mut ctl, LibNo(1));
+    match one_file(alloc) {
+        Some(mut ctl) => nanos_on(rt, alloc, &mut ctl),
+        None => None,
+    }
+}
+
+fn nanos_on<R: Clock>(rt: &R, alloc: Global, ctl: &mut Ctl) -> Option<u128>
+    requires none { (lib : AnyLib) → OutAlike (out_of ctl.old.state lib) nothing_out }
+    requires one { length ctl.old.state.creds ≡ 1 }
+    requires idle { NoneBegun ctl.old }
+{
+    let mut desk = PlainDesk::of(ctl, LibNo(1));
     let mut session = Session::new(alloc, LibNo(1), desk.creds());
     let nanos = nanos_at(rt, alloc, &mut session, &mut desk);
     session.discard();
@@ -177,7 +182,7 @@ fn add_writes(alloc: Global, calls: &mut Vec<Call>) -> Option<()> {
 }
 
 fn add_write(alloc: Global, calls: &mut Vec<Call>, block: u64) -> Option<()> {
-    let bytes = SharedBytes::copied(alloc, &[block as u8; PAGE_SIZE]).ok()?;
+    let bytes = SharedBytes::copied(alloc, &[(block % 256) as u8; PAGE_SIZE]).ok()?;
     let path = file_path(alloc)?;
     let at = block.wrapping_mul(PAGE_SIZE as u64);
     calls.push(Call::Write { path, at, bytes }).ok()
