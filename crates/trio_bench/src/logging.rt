@@ -47,9 +47,33 @@ const BEGINNING: &[u8] = b"lib 1 raw 0 0\nallot 8182 1\ngrant write 1\n\
 /// blocks. Prints what memory the process has then, and had at most, beside the size of the image: the
 /// image's pages and the log's bytes, and at most the room of the judgement too.
 pub fn measure_log<R: Host + Print + AllocGlobal>(rt: &R) -> io::Result<()> {
-    match released(rt.alloc()) {
-        Some(_ctl) => print_both(rt),
-        None => println!(rt; "out of memory, or not accepted"),
+    match libs_of(rt.alloc()) {
+        Some(libs) => measure_libs(rt, rt.alloc(), libs),
+        None => print_released(rt, false),
+    }
+}
+
+/// Plays the lines of these libraries on a new image, and prints the memory then.
+fn measure_libs<R: Host + Print + AllocGlobal>(
+    rt: &R,
+    alloc: Global,
+    libs: Vec<ScriptLib>,
+) -> io::Result<()>
+    requires some { 1 ≤ length libs.items }
+    requires few { length libs.items ≤ 16 }
+    requires within { AreWithin libs.items }
+{
+    match new_ctl(alloc, &libs) {
+        Some(mut ctl) => print_released(rt, is_released(alloc, &mut ctl, libs)),
+        None => print_released(rt, false),
+    }
+}
+
+fn print_released<R: Host + Print + AllocGlobal>(rt: &R, is_released: bool) -> io::Result<()> {
+    if is_released {
+        print_both(rt)
+    } else {
+        println!(rt; "out of memory, or not accepted")
     }
 }
 
@@ -87,26 +111,16 @@ fn first_number(text: &str) -> Option<u64> {
     text.split_whitespace().next()?.parse().ok()
 }
 
-/// The controller once the release is accepted.
-fn released(alloc: Global) -> Option<Ctl> {
+/// The libraries of the script.
+fn libs_of(alloc: Global) -> Option<Vec<ScriptLib>>
+    ensures some { IfSome result (λ libs. 1 ≤ length libs.items) }
+    ensures few { IfSome result (λ libs. length libs.items ≤ 16) }
+    ensures within { IfSome result (λ libs. AreWithin libs.items) }
+{
     let script = script(alloc).ok()?;
     match read_script(alloc, &script) {
-        Ok(libs) => played(alloc, &libs),
+        Ok(libs) => Some(libs),
         Err(_) => None,
-    }
-}
-
-/// The controller of a new image on which these libraries' lines were played, where the last is accepted.
-fn played(alloc: Global, libs: &[ScriptLib]) -> Option<Ctl>
-    requires some { 1 ≤ length libs.now }
-    requires few { length libs.now ≤ 16 }
-    requires within { AreWithin libs.now }
-{
-    let mut ctl = new_ctl(alloc, libs)?;
-    if is_accepted(alloc, &mut ctl, libs) {
-        Some(ctl)
-    } else {
-        None
     }
 }
 
@@ -123,16 +137,17 @@ fn new_ctl(alloc: Global, libs: &[ScriptLib]) -> Option<Ctl>
     started(alloc, image, creds)
 }
 
-/// Plays lines on a controller that has just started. Returns whether the last is accepted.
-fn is_accepted(alloc: Global, ctl: &mut Ctl, libs: &[ScriptLib]) -> bool
+/// Plays the lines of these libraries, which are let go, on a controller that has just started. Returns
+/// whether the last line is accepted.
+fn is_released(alloc: Global, ctl: &mut Ctl, libs: Vec<ScriptLib>) -> bool
     requires kept { Kept ctl.old.state }
-    requires started { ctl.old.state ≡ start ctl.old.state.home (creds_in libs.now) }
+    requires started { ctl.old.state ≡ start ctl.old.state.home (creds_in libs.items) }
     requires unlogged { ctl.old.log ≡ [] }
     requires idle { NoneBegun ctl.old }
-    requires few { length libs.now ≤ 16 }
-    requires within { AreWithin libs.now }
+    requires few { length libs.items ≤ 16 }
+    requires within { AreWithin libs.items }
 {
-    match play(alloc, ctl, libs) {
+    match play(alloc, ctl, &libs) {
         Ok(tolds) => ends_accepted(&tolds),
         Err(_) => false,
     }

@@ -21,8 +21,8 @@
 //! - `trio_bench tree` tells trees of 1,000, 4,000 and 16,000 names, as lines and as JSON, each five
 //!   times over, and prints how often the time of the first goes into those of the others.
 //! - `trio_bench names` adds 8,000 names to the index of a directory, finds each, renames it and
-//!   removes it, twenty times over, and prints how often the time of plain names goes into that of
-//!   names which are chosen to be slow.
+//!   removes it, twenty times over and in turn with plain names, and prints how often the time of
+//!   these goes into that of names which are chosen to be slow.
 //! - `trio_bench log` releases the largest bundle of an image, and prints the peak of memory beside the
 //!   size of the image.
 //! - `trio_bench session` writes and reads 1 MiB by 4096 bytes a call through a session, twenty times
