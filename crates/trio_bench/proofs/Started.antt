@@ -1,9 +1,7 @@
 -- Nothing is out to a library of a controller that was started, so a new session may make calls.
-use Rattle.std.proofs.Common.{◌≡◌, List, [], Result, Ok, Err, IfOk, IfSome, refl, sym, ap, ◌∙◌, subst}
-use Rattle.std.specs.Result.{result_ok}
+use Rattle.std.proofs.Common.{◌≡◌, List, [], Option, Some, None, IfSome, refl, sym, ap, ◌∙◌, subst}
 use Rattle.trio_rights.specs.declared.rights.Creds.{Creds}
 use Rattle.trio_rights.specs.declared.rights.LibNo.{LibNo}
-use Rattle.trio_layout.specs.Image.{Image}
 use Rattle.trio_desk.specs.Edits.{nothing}
 use Rattle.trio_desk.specs.Out.{OutAlike, nothing_out}
 use Rattle.trio_state.specs.State.{State, creds_of}
@@ -15,10 +13,10 @@ use Rattle.trio_ctl.specs.Ctl.{Controller}
 use Rattle.trio_ctl.specs.Desk.{desk_of, out_of}
 use Rattle.trio_runner.proofs.EndFree.{nothing_at_start}
 
-pub free_started : {E : Type 0} (r : Result Controller E) (image : Image) (creds : List Creds) → IfOk r (λ ctl. ctl.state ≡ start image creds)
-    → IfSome (result_ok r) (λ ctl. (lib : LibNo) → OutAlike (out_of ctl.state lib) nothing_out)
-free_started (Ok ctl) image creds same = λ lib. subst (λ (s : State). OutAlike (out_of s lib) nothing_out) (sym same) (nothing_at_start image creds lib)
-free_started (Err back) image creds same = tt
+pub free_started : (r : Option Controller) (creds : List Creds) → IfSome r (λ ctl. ctl.state ≡ start ctl.state.home creds)
+    → IfSome r (λ ctl. (lib : LibNo) → OutAlike (out_of ctl.state lib) nothing_out)
+free_started (Some ctl) creds same = λ lib. subst (λ (s : State). OutAlike (out_of s lib) nothing_out) (sym same) (nothing_at_start ctl.state.home creds lib)
+free_started None creds same = tt
 
 pub begins : (s : State) (lib : LibNo) (creds' : Creds) (session : SessionSeen) → OutAlike (out_of s lib) nothing_out → creds' ≡ creds_of s lib.0
     → session ≡ record { lib = lib; creds = creds'; parcel = nothing; chains = []; made = []; cleared = []; reads = []; calls = []; placed = 0; indexed = []; finds = 0; room = session.room }

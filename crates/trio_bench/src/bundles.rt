@@ -204,18 +204,31 @@ fn file_of(file: u32, shape: &Shape) -> (Kind, Body) {
 /// The name of this number.
 fn name_of(names: Names, number: u32) -> Option<Name> {
     let mut bytes = [b'n'; 184];
-    let (begin, spelled, letters) = match names {
-        Names::Plain => (150, mixed(number), [[b'a', b'q'], [b'x', b'c']]),
-        Names::Long => (0, mixed(number), COLLIDING),
-        Names::Colliding => (150, number, COLLIDING),
-        Names::CollidingMixed => (150, mixed(number), COLLIDING),
-        Names::CollidingHalved => (150, halved(number), COLLIDING),
-    };
-    spell(&mut bytes[150..], spelled, letters);
-    Name::read(&bytes[begin..]).ok()
+    spell(&mut bytes[150..], names, spelled(names, number));
+    match names {
+        Names::Long => Name::read(&bytes).ok(),
+        _ => Name::read(&bytes[150..]).ok(),
+    }
 }
 
-const COLLIDING: [[u8; 2]; 2] = [[b'A', b'a'], [b'B', b'B']];
+/// The number whose bits are spelled for this one.
+fn spelled(names: Names, number: u32) -> u32 {
+    match names {
+        Names::Colliding => number,
+        Names::CollidingHalved => halved(number),
+        Names::Plain | Names::CollidingMixed | Names::Long => mixed(number),
+    }
+}
+
+/// The two letters of a bit.
+fn letters(names: Names, bit: u32) -> &'static [u8; 2] {
+    match (names, bit) {
+        (Names::Plain, 0) => b"aq",
+        (Names::Plain, _) => b"xc",
+        (_, 0) => b"Aa",
+        _ => b"BB",
+    }
+}
 
 /// Another number below 2 ^ 17 for each, in no order.
 fn mixed(number: u32) -> u32 {
@@ -237,15 +250,10 @@ fn halved(number: u32) -> u32 {
 }
 
 /// Spells the 17 bits of a number, the highest first, by two letters each.
-fn spell(bytes: &mut [u8], number: u32, letters: [[u8; 2]; 2]) {
+fn spell(bytes: &mut [u8], names: Names, number: u32) {
     for bit in 0..17_u32 {
-        let [low, high] = letters;
-        let pair = if (number >> (16 - bit)) % 2 == 0 {
-            low
-        } else {
-            high
-        };
-        put(bytes, 2 * bit as usize, &pair);
+        let pair = letters(names, (number >> (16 - bit)) % 2);
+        put(bytes, 2 * bit as usize, pair);
     }
 }
 
@@ -275,14 +283,18 @@ fn add_root(alloc: Global, bundle: &mut Bundle, shape: &Shape) -> bool {
 /// Adds the pages, from the first core page on.
 fn add_pages(alloc: Global, bundle: &mut Bundle, shape: &Shape) -> bool {
     for place in 0..page_count(shape) {
-        let Some(page) = page_at(alloc, place, shape) else {
-            return false;
-        };
-        if !add_page(bundle, page) {
+        if !add_page_at(alloc, bundle, place, shape) {
             return false;
         }
     }
     true
+}
+
+fn add_page_at(alloc: Global, bundle: &mut Bundle, place: u32, shape: &Shape) -> bool {
+    match page_at(alloc, place, shape) {
+        Some(page) => add_page(bundle, page),
+        None => false,
+    }
 }
 
 fn page_at(alloc: Global, place: u32, shape: &Shape) -> Option<FreshPage> {

@@ -1,6 +1,6 @@
 //! What checking an image costs, beside reading its file.
 
-use crate::timing::{Ratio, least_of_both, nanos_since, now};
+use crate::timing::{Times, least, nanos_since, now};
 use std::alloc::Global;
 use std::io;
 use std::rt::{Clock, Files as Host};
@@ -23,7 +23,7 @@ pub fn write_workload<R: Host + Print + AllocGlobal>(rt: &R, name: &str) -> io::
 }
 
 fn write_image<R: Host>(rt: &R, alloc: Global, name: &str) -> Option<usize> {
-    let bytes = workload_tree(alloc).ok()?.bytes(alloc).ok()?;
+    let bytes = workload(alloc)?;
     if replace(rt, alloc, name, &bytes) {
         Some(bytes.len())
     } else {
@@ -31,25 +31,34 @@ fn write_image<R: Host>(rt: &R, alloc: Global, name: &str) -> Option<usize> {
     }
 }
 
+fn workload(alloc: Global) -> Option<Vec<u8>> {
+    workload_tree(alloc).ok()?.bytes(alloc).ok()
+}
+
 fn replace<R: Host>(rt: &R, alloc: Global, name: &str, bytes: &[u8]) -> bool {
-    let Some(mut files) = files_of(rt, alloc, name) else {
-        return false;
-    };
-    files.serves(name) && files.replace(name, bytes).is_ok()
+    match files_of(rt, alloc, name) {
+        Some(mut files) => files.serves(name) && files.replace(name, bytes).is_ok(),
+        None => false,
+    }
 }
 
 /// Prints how often reading a file and summing its bytes goes into loading the image in it, which
 /// verifies it. The rounds of both come in turn.
 pub fn measure_check<R: Host + Clock + Print + AllocGlobal>(rt: &R, name: &str) -> io::Result<()> {
-    let alloc = rt.alloc();
-    let check = || nanos_of_check(rt, alloc, name);
-    match least_of_both(ROUNDS, check, || nanos_of_sum(rt, alloc, name)) {
-        Some((check, sum)) => println!(rt;
-            "checking beside reading and summing: {}",
-            Ratio::of(check, sum)
-        ),
+    match fastest(rt, rt.alloc(), name) {
+        Some(times) => println!(rt; "checking beside reading and summing: {}", times.ratio()),
         None => println!(rt; "not read, or no image, or no clock"),
     }
+}
+
+/// The least times of loading the image and of summing its bytes.
+fn fastest<R: Host + Clock>(rt: &R, alloc: Global, name: &str) -> Option<Times> {
+    let mut times = Some(Times::LONGEST);
+    for _ in 0..ROUNDS {
+        let check = nanos_of_check(rt, alloc, name);
+        times = least(times, check, nanos_of_sum(rt, alloc, name));
+    }
+    times
 }
 
 /// The nanoseconds of loading the image in a file. `None` where there is none.
@@ -63,10 +72,14 @@ fn nanos_of_check<R: Host + Clock>(rt: &R, alloc: Global, name: &str) -> Option<
 }
 
 fn is_image<R: Host>(rt: &R, alloc: Global, name: &str) -> bool {
-    let Some(mut files) = files_of(rt, alloc, name) else {
-        return false;
-    };
-    files.serves(name) && load(alloc, &mut files, name).is_ok()
+    match files_of(rt, alloc, name) {
+        Some(mut files) => is_loaded(alloc, &mut files, name),
+        None => false,
+    }
+}
+
+fn is_loaded<R: Host>(alloc: Global, files: &mut RealFiles<R>, name: &str) -> bool {
+    files.serves(name) && load(alloc, files, name).is_ok()
 }
 
 /// The nanoseconds of reading a file and summing its bytes. `None` where it can't be read or has none
@@ -80,9 +93,15 @@ fn nanos_of_sum<R: Host + Clock>(rt: &R, alloc: Global, name: &str) -> Option<u1
 }
 
 fn bytes_of<R: Host>(rt: &R, alloc: Global, name: &str) -> Option<Vec<u8>> {
-    let mut files = files_of(rt, alloc, name)?;
+    match files_of(rt, alloc, name) {
+        Some(mut files) => read_bytes(alloc, &mut files, name),
+        None => None,
+    }
+}
+
+fn read_bytes<R: Host>(alloc: Global, files: &mut RealFiles<R>, name: &str) -> Option<Vec<u8>> {
     if files.serves(name) {
-        read_whole(alloc, &mut files, name, LIMIT).ok()
+        read_whole(alloc, files, name, LIMIT).ok()
     } else {
         None
     }

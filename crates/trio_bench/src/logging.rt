@@ -1,5 +1,13 @@
 //! What memory it takes to release the largest bundle of an image, with its entry in the log.
 
+ghost use Rattle.std.specs.Prelude.{◌≡◌, ◌≤◌, [], IfSome, length};
+ghost use Rattle.trio_state.specs.Kept.{Kept};
+ghost use Rattle.trio_state.specs.Run.{start};
+ghost use Rattle.trio_ctl.specs.Ctl.{NoneBegun};
+ghost use Rattle.trio_script.specs.Within.{AreWithin};
+ghost use Rattle.trio_runner.specs.Play.{creds_in};
+
+use crate::starting::started;
 use crate::timing::Ratio;
 use std::alloc::Global;
 use std::rt::Files as Host;
@@ -8,8 +16,8 @@ use trio_ctl::Ctl;
 use trio_image::make;
 use trio_page::NoMemory;
 use trio_report::LineAnswer;
-use trio_runner::{creds_of, play};
-use trio_script::read_script;
+use trio_runner::{LibTold, creds_of, play};
+use trio_script::{ScriptLib, read_script};
 
 /// The pages of the image, of 4096 bytes each, and its inode numbers.
 const PAGES: u32 = 8192;
@@ -39,13 +47,39 @@ const BEGINNING: &[u8] = b"lib 1 raw 0 0\nallot 8182 1\ngrant write 1\n\
 /// blocks. Prints what memory the process has then, and had at most, beside the size of the image: the
 /// image's pages and the log's bytes, and at most the room of the judgement too.
 pub fn measure_log<R: Host + Print + AllocGlobal>(rt: &R) -> io::Result<()> {
-    match released(rt.alloc()) {
-        Some(_ctl) => {
-            print_memory(rt, "after the release", "VmRSS:")?;
-            print_memory(rt, "at most", "VmHWM:")
-        }
-        None => println!(rt; "out of memory, or not accepted"),
+    match libs_of(rt.alloc()) {
+        Some(libs) => measure_libs(rt, rt.alloc(), libs),
+        None => print_released(rt, false),
     }
+}
+
+/// Plays the lines of these libraries on a new image, and prints the memory then.
+fn measure_libs<R: Host + Print + AllocGlobal>(
+    rt: &R,
+    alloc: Global,
+    libs: Vec<ScriptLib>,
+) -> io::Result<()>
+    requires some { 1 ≤ length libs.items }
+    requires few { length libs.items ≤ 16 }
+    requires within { AreWithin libs.items }
+{
+    match new_ctl(alloc, &libs) {
+        Some(mut ctl) => print_released(rt, is_released(alloc, &mut ctl, libs)),
+        None => print_released(rt, false),
+    }
+}
+
+fn print_released<R: Host + Print + AllocGlobal>(rt: &R, is_released: bool) -> io::Result<()> {
+    if is_released {
+        print_both(rt)
+    } else {
+        println!(rt; "out of memory, or not accepted")
+    }
+}
+
+fn print_both<R: Host + Print + AllocGlobal>(rt: &R) -> io::Result<()> {
+    print_memory(rt, "after the release", "VmRSS:")?;
+    print_memory(rt, "at most", "VmHWM:")
 }
 
 fn print_memory<R: Host + Print + AllocGlobal>(rt: &R, when: &str, word: &str) -> io::Result<()> {
@@ -65,32 +99,65 @@ fn memory<R: Host + AllocGlobal>(rt: &R, word: &str) -> Option<u64> {
 }
 
 fn number_behind(text: &str, word: &str) -> Option<u64> {
-    let line = text.lines().find_map(|line| line.strip_prefix(word))?;
-    line.split_whitespace().next()?.parse().ok()
+    for line in text.lines() {
+        if let Some(rest) = line.strip_prefix(word) {
+            return first_number(rest);
+        }
+    }
+    None
 }
 
-/// The controller once the release is accepted.
-fn released(alloc: Global) -> Option<Ctl> {
-    let (ctl, is_accepted) = played(alloc, &script(alloc).ok()?)?;
-    if is_accepted { Some(ctl) } else { None }
+fn first_number(text: &str) -> Option<u64> {
+    text.split_whitespace().next()?.parse().ok()
 }
 
-/// The controller of a new image on which a script was played, and whether its last line is accepted.
-fn played(alloc: Global, script: &[u8]) -> Option<(Ctl, bool)> {
-    let Ok(libs) = read_script(alloc, script) else {
-        return None;
-    };
-    let creds = creds_of(alloc, &libs).ok()?;
+/// The libraries of the script.
+fn libs_of(alloc: Global) -> Option<Vec<ScriptLib>>
+    ensures some { IfSome result (λ libs. 1 ≤ length libs.items) }
+    ensures few { IfSome result (λ libs. length libs.items ≤ 16) }
+    ensures within { IfSome result (λ libs. AreWithin libs.items) }
+{
+    let script = script(alloc).ok()?;
+    match read_script(alloc, &script) {
+        Ok(libs) => Some(libs),
+        Err(_) => None,
+    }
+}
+
+fn new_ctl(alloc: Global, libs: &[ScriptLib]) -> Option<Ctl>
+    requires some { 1 ≤ length libs.now }
+    requires few { length libs.now ≤ 16 }
+    ensures started { IfSome result (λ ctl. ctl.state ≡ start ctl.state.home (creds_in libs.now)) }
+    ensures log { IfSome result (λ ctl. ctl.log ≡ []) }
+    ensures kept { IfSome result (λ ctl. Kept ctl.state) }
+    ensures idle { IfSome result NoneBegun }
+{
+    let creds = creds_of(alloc, libs).ok()?;
     let image = make(alloc, PAGES, INODES).ok()?;
-    let Ok(mut ctl) = Ctl::start(alloc, image, creds) else {
-        return None;
-    };
-    let tolds = play(alloc, &mut ctl, &libs).ok()?;
-    let is_accepted = match tolds.first() {
+    started(alloc, image, creds)
+}
+
+/// Plays the lines of these libraries, which are let go, on a controller that has just started. Returns
+/// whether the last line is accepted.
+fn is_released(alloc: Global, ctl: &mut Ctl, libs: Vec<ScriptLib>) -> bool
+    requires kept { Kept ctl.old.state }
+    requires started { ctl.old.state ≡ start ctl.old.state.home (creds_in libs.items) }
+    requires unlogged { ctl.old.log ≡ [] }
+    requires idle { NoneBegun ctl.old }
+    requires few { length libs.items ≤ 16 }
+    requires within { AreWithin libs.items }
+{
+    match play(alloc, ctl, &libs) {
+        Ok(tolds) => ends_accepted(&tolds),
+        Err(_) => false,
+    }
+}
+
+fn ends_accepted(tolds: &[LibTold]) -> bool {
+    match tolds.first() {
         Some(told) => matches!(told.answers().last(), Some(LineAnswer::Accepted)),
         None => false,
-    };
-    Some((ctl, is_accepted))
+    }
 }
 
 /// The lines of the one library, which makes the file and releases all its pages in the last line.
@@ -98,11 +165,22 @@ fn script(alloc: Global) -> Result<Vec<u8>, NoMemory> {
     let mut script = Vec::new(alloc);
     script.extend_from_slice(BEGINNING)?;
     for page in FILE_INDEX..FIRST_BLOCK {
-        put(&mut script, &format!(in alloc; "poke fresh {page} 0 ")?)?;
-        put_index(&mut script, page)?;
+        put_index_line(alloc, &mut script, page)?;
     }
     put_release(alloc, &mut script)?;
     Ok(script)
+}
+
+fn put_index_line(alloc: Global, script: &mut Vec<u8>, page: u32) -> Result<(), NoMemory> {
+    put_one(script, format!(in alloc; "poke fresh {page} 0 "))?;
+    put_index(script, page)
+}
+
+fn put_one(script: &mut Vec<u8>, text: Result<String, NoMemory>) -> Result<(), NoMemory> {
+    match text {
+        Ok(text) => put(script, &text),
+        Err(fault) => Err(fault),
+    }
 }
 
 fn put(script: &mut Vec<u8>, text: &str) -> Result<(), NoMemory> {
@@ -132,9 +210,9 @@ fn put_number(script: &mut Vec<u8>, number: u32, limit: u32) -> Result<(), NoMem
 const DIGITS: [u8; 16] = *b"0123456789abcdef";
 
 fn put_release(alloc: Global, script: &mut Vec<u8>) -> Result<(), NoMemory> {
-    put(script, &format!(in alloc; "release 1 {ROOT_INDEX}")?)?;
+    put_one(script, format!(in alloc; "release 1 {ROOT_INDEX}"))?;
     for page in ROOT_INDEX + 1..PAGES {
-        put(script, &format!(in alloc; ",{page}")?)?;
+        put_one(script, format!(in alloc; ",{page}"))?;
     }
     put(script, " 2\n")
 }

@@ -21,8 +21,8 @@
 //! - `trio_bench tree` tells trees of 1,000, 4,000 and 16,000 names, as lines and as JSON, each five
 //!   times over, and prints how often the time of the first goes into those of the others.
 //! - `trio_bench names` adds 8,000 names to the index of a directory, finds each, renames it and
-//!   removes it, twenty times over, and prints how often the time of plain names goes into that of
-//!   names which are chosen to be slow.
+//!   removes it, twenty times over and in turn with plain names, and prints how often the time of
+//!   these goes into that of names which are chosen to be slow.
 //! - `trio_bench log` releases the largest bundle of an image, and prints the peak of memory beside the
 //!   size of the image.
 //! - `trio_bench session` writes and reads 1 MiB by 4096 bytes a call through a session, twenty times
@@ -38,6 +38,7 @@ mod logging;
 mod names;
 mod seats;
 mod sessions;
+mod starting;
 mod threads;
 mod timing;
 mod trees;
@@ -53,7 +54,9 @@ use crate::threads::measure_threads;
 use crate::trees::measure_tree;
 use crate::turns::measure_turn;
 use std::alloc::Global;
-use std::rt::Env;
+use std::rt::{Clock, Env, Files};
+use std::sync::Wait;
+use std::thread::Threads;
 use std::{env, io};
 
 /// What is to be measured.
@@ -142,18 +145,26 @@ const USAGE: &str =
 
 fn main(rt: HostRuntime) -> io::Result<()> {
     let words = words_given(&rt)?;
-    match read_words(&words) {
-        Asked::Turn(count) => measure_turn(&rt, count),
-        Asked::Seat(count) => measure_seat(&rt, count),
+    measure(&rt, read_words(&words))
+}
+
+/// Measures what is asked for, and prints what was measured.
+fn measure<R: Threads + Wait + Sync + Clock + Files + Print + AllocGlobal>(
+    rt: &R,
+    asked: Asked,
+) -> io::Result<()> {
+    match asked {
+        Asked::Turn(count) => measure_turn(rt, count),
+        Asked::Seat(count) => measure_seat(rt, count),
         // no script has as many lines as that
-        Asked::Threads(count) => measure_threads(&rt, count.min(10_000) as u32),
-        Asked::Judge => measure_judge(&rt),
-        Asked::Tree => measure_tree(&rt),
-        Asked::Names => measure_names(&rt),
-        Asked::Log => measure_log(&rt),
-        Asked::Session => measure_session(&rt),
-        Asked::Workload(name) => write_workload(&rt, name),
-        Asked::Check(name) => measure_check(&rt, name),
+        Asked::Threads(count) => measure_threads(rt, count.min(10_000) as u32),
+        Asked::Judge => measure_judge(rt),
+        Asked::Tree => measure_tree(rt),
+        Asked::Names => measure_names(rt),
+        Asked::Log => measure_log(rt),
+        Asked::Session => measure_session(rt),
+        Asked::Workload(name) => write_workload(rt, name),
+        Asked::Check(name) => measure_check(rt, name),
         Asked::Unknown => println!(rt; "{USAGE}"),
     }
 }

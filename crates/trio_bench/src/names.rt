@@ -1,6 +1,6 @@
 //! What the index of a directory takes for names of one choice, beside another.
 
-use crate::timing::{Ratio, least, nanos_since, now};
+use crate::timing::{Times, least, nanos_since, now};
 use std::alloc::Global;
 use std::io;
 use std::rt::Clock;
@@ -38,61 +38,77 @@ const MEASURES: &[(&str, Choice)] = &[
 ];
 
 /// Prints in which time names of each choice are added to a directory, found, renamed and removed, and
-/// how often the time of the plain choice goes into that of each.
+/// how often the time of the plain choice goes into that of each. The rounds of both come in turn.
 pub fn measure_names<R: Clock + Print + AllocGlobal>(rt: &R) -> io::Result<()> {
-    let Some(least) = nanos_of(rt, rt.alloc(), Choice::Plain) else {
-        return println!(rt; "out of memory, or no clock");
-    };
     for (text, choice) in MEASURES {
-        match nanos_of(rt, rt.alloc(), *choice) {
-            Some(nanos) => println!(rt;
-                "{text}: {} us, {} times plain ones",
-                nanos / 1000,
-                Ratio::of(nanos, least)
-            )?,
-            None => println!(rt; "{text}: out of memory, or no clock")?,
-        }
+        print_row(rt, text, times_of(rt, rt.alloc(), *choice))?;
     }
     Ok(())
 }
 
-/// The nanoseconds of the fastest round. `None` where memory is wanting.
-fn nanos_of<R: Clock>(rt: &R, alloc: Global, choice: Choice) -> Option<u128> {
-    let names = names_of(alloc, choice, b'0')?;
-    let others = names_of(alloc, choice, b'a')?;
-    least(ROUNDS, || nanos_of_one(rt, alloc, &names, &others))
-}
-
-fn nanos_of_one<R: Clock>(rt: &R, alloc: Global, names: &[Name], others: &[Name]) -> Option<u128> {
-    let start = now(rt);
-    if fill_and_empty(alloc, names, others) {
-        nanos_since(rt, start)
-    } else {
-        None
+fn print_row<R: Print>(rt: &R, text: &str, times: Option<Times>) -> io::Result<()> {
+    match times {
+        Some(times) => println!(rt;
+            "{text}: {} us, {} times plain ones",
+            times.first / 1000,
+            times.ratio()
+        ),
+        None => println!(rt; "{text}: out of memory, or no clock"),
     }
 }
 
-/// Adds the names to an empty directory, finds each, renames it to another, and removes that.
-fn fill_and_empty(alloc: Global, names: &[Name], others: &[Name]) -> bool {
+/// The names that are added, and those to which they are renamed.
+#[derive(Drop)]
+struct Names {
+    first: Vec<Name>,
+    others: Vec<Name>,
+}
+
+fn names_of(alloc: Global, choice: Choice) -> Option<Names> {
+    let first = spelled(alloc, choice, b'0')?;
+    let others = spelled(alloc, choice, b'a')?;
+    Some(Names { first, others })
+}
+
+/// The times of the fastest rounds of a choice and of the plain one. `None` where memory is wanting.
+fn times_of<R: Clock>(rt: &R, alloc: Global, choice: Choice) -> Option<Times> {
+    let chosen = names_of(alloc, choice)?;
+    let plain = names_of(alloc, Choice::Plain)?;
+    fastest(rt, alloc, &chosen, &plain)
+}
+
+fn fastest<R: Clock>(rt: &R, alloc: Global, chosen: &Names, plain: &Names) -> Option<Times> {
+    let mut times = Some(Times::LONGEST);
+    for _ in 0..ROUNDS {
+        let nanos = nanos_of(rt, alloc, chosen);
+        times = least(times, nanos, nanos_of(rt, alloc, plain));
+    }
+    times
+}
+
+/// The nanoseconds of one round, in a directory that is empty at first and in the end.
+fn nanos_of<R: Clock>(rt: &R, alloc: Global, names: &Names) -> Option<u128> {
     let mut dir = HashedDir::new(alloc, 16_384);
+    nanos_in(rt, &mut dir, names)
+}
+
+fn nanos_in<R: Clock>(rt: &R, dir: &mut HashedDir, names: &Names) -> Option<u128> {
     let mut finds = Finds::new();
-    are_added(&mut dir, &mut finds, names).is_some()
-        && are_changed(&mut dir, &mut finds, names, others).is_some()
+    let start = now(rt);
+    fill_and_empty(dir, &mut finds, &names.first, &names.others)?;
+    nanos_since(rt, start)
 }
 
-fn are_added(dir: &mut HashedDir, finds: &mut Finds, names: &[Name]) -> Option<()> {
-    for name in names {
-        add(dir, finds, name)?;
-    }
-    Some(())
-}
-
-fn are_changed(
+/// Adds the names to the directory, finds each, renames it to another, and removes that.
+fn fill_and_empty(
     dir: &mut HashedDir,
     finds: &mut Finds,
     names: &[Name],
     others: &[Name],
 ) -> Option<()> {
+    for name in names {
+        add(dir, finds, name)?;
+    }
     for name in names {
         dir.find(name, finds)?;
     }
@@ -107,15 +123,20 @@ fn are_changed(
 
 /// Adds a name that isn't there at the first empty slot, with a new block where there is none.
 fn add(dir: &mut HashedDir, finds: &mut Finds, name: &Name) -> Option<()> {
-    dir.reserve().ok()?;
     if dir.first_empty().is_none() {
-        dir.grow();
-        dir.reserve().ok()?;
+        grow(dir)?;
     }
+    dir.reserve().ok()?;
     let place = dir.first_empty()?;
     if dir.find(name, finds).is_none() {
         dir.add(*name, place);
     }
+    Some(())
+}
+
+fn grow(dir: &mut HashedDir) -> Option<()> {
+    dir.reserve().ok()?;
+    dir.grow();
     Some(())
 }
 
@@ -136,7 +157,7 @@ fn remove(dir: &mut HashedDir, finds: &mut Finds, name: &Name) -> Option<()> {
 }
 
 /// The names of a choice, in its order, with `zero` for the digit 0.
-fn names_of(alloc: Global, choice: Choice, zero: u8) -> Option<Vec<Name>> {
+fn spelled(alloc: Global, choice: Choice, zero: u8) -> Option<Vec<Name>> {
     let mut names = Vec::with_capacity(alloc, COUNT as usize).ok()?;
     for place in 0..COUNT {
         names.push(name_at(choice, place, zero)?).ok()?;
@@ -146,19 +167,27 @@ fn names_of(alloc: Global, choice: Choice, zero: u8) -> Option<Vec<Name>> {
 
 /// The name that comes at this place.
 fn name_at(choice: Choice, place: u32, zero: u8) -> Option<Name> {
-    let mixed = place.wrapping_mul(40_503) % COUNT;
-    let falling = COUNT.wrapping_sub(place);
-    let (number, begin) = match choice {
-        Choice::Plain => (mixed, 180),
-        Choice::Falling => (falling, 180),
-        Choice::Alike => (mixed, 0),
-        Choice::AlikeFalling => (falling, 0),
-    };
     let mut bytes = [b'n'; 184];
+    put_digits(&mut bytes[180..], number_at(choice, place), zero);
+    match choice {
+        Choice::Plain | Choice::Falling => Name::read(&bytes[180..]).ok(),
+        Choice::Alike | Choice::AlikeFalling => Name::read(&bytes).ok(),
+    }
+}
+
+/// The number that is spelled at this place.
+fn number_at(choice: Choice, place: u32) -> u32 {
+    match choice {
+        Choice::Plain | Choice::Alike => place.wrapping_mul(40_503) % COUNT,
+        Choice::Falling | Choice::AlikeFalling => COUNT.wrapping_sub(place),
+    }
+}
+
+/// Writes the last digits of a number, with `zero` for the digit 0.
+fn put_digits(digits: &mut [u8], number: u32, zero: u8) {
     let mut rest = number;
-    for digit in bytes[180..].iter_mut().rev() {
+    for digit in digits.iter_mut().rev() {
         *digit = zero.wrapping_add((rest % 10) as u8);
         rest /= 10;
     }
-    Name::read(&bytes[begin..]).ok()
 }

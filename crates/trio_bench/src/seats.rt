@@ -1,15 +1,16 @@
 //! What a grant costs at a seat, beside the same at the controller itself.
 
-ghost use Rattle.std.specs.Prelude.{IfSome};
+ghost use Rattle.std.specs.Prelude.{◌≡◌, IfSome, length};
+ghost use Rattle.trio_ctl.specs.Ctl.{NoneBegun};
 ghost use Rattle.trio_shared.specs.Seats.{IsIdle, IsSeatOf};
 
-use crate::sessions::started;
-use crate::timing::{Ratio, least_of_both, nanos_since, now};
+use crate::sessions::one_file;
+use crate::timing::{Times, least, nanos_since, now};
 use std::alloc::Global;
 use std::io;
 use std::rt::Clock;
 use std::sync::Wait;
-use trio_ctl::PlainDesk;
+use trio_ctl::{Ctl, PlainDesk};
 use trio_desk::Desk;
 use trio_lease::Lease;
 use trio_nodes::GrantKind;
@@ -27,32 +28,58 @@ const FILE: u32 = 2;
 /// The rounds of both come in turn, each with a controller of its own, whose log grows by two entries
 /// each time.
 pub fn measure_seat<R: Wait + Clock + Print + AllocGlobal>(rt: &R, count: u64) -> io::Result<()> {
-    let alloc = rt.alloc();
-    let at_seat = || nanos_of_seat(rt, alloc, count);
-    match least_of_both(ROUNDS, at_seat, || nanos_of_ctl(rt, alloc, count)) {
-        Some((seat, ctl)) => println!(rt;
+    match fastest(rt, rt.alloc(), count) {
+        Some(times) => println!(rt;
             "seat {} ns, controller {} ns, ratio {}",
-            seat / u128::from(count.max(1)),
-            ctl / u128::from(count.max(1)),
-            Ratio::of(seat, ctl)
+            times.first / u128::from(count.max(1)),
+            times.second / u128::from(count.max(1)),
+            times.ratio()
         ),
         None => println!(rt; "out of memory, or not lent, or no clock"),
     }
 }
 
+/// The least times of so many grants at a seat and of as many at the controller.
+fn fastest<R: Wait + Clock>(rt: &R, alloc: Global, count: u64) -> Option<Times> {
+    let mut times = Some(Times::LONGEST);
+    for _ in 0..ROUNDS {
+        let at_seat = nanos_of_seat(rt, alloc, count);
+        times = least(times, at_seat, nanos_of_ctl(rt, alloc, count));
+    }
+    times
+}
+
 fn nanos_of_seat<R: Wait + Clock>(rt: &R, alloc: Global, count: u64) -> Option<u128> {
-    let Some((shared, mut seat)) = start_one(alloc) else {
-        return None;
-    };
-    let mut desk = SeatDesk::of(rt, &shared, &mut seat);
+    match start_one(alloc) {
+        Some((shared, mut seat)) => nanos_sitting(rt, &shared, &mut seat, count),
+        None => None,
+    }
+}
+
+fn nanos_sitting<R: Wait + Clock>(
+    rt: &R,
+    shared: &Shared,
+    seat: &mut LibSeat,
+    count: u64,
+) -> Option<u128>
+    requires { IsSeatOf shared.now seat.old × IsIdle seat.old }
+{
+    let mut desk = SeatDesk::of(rt, shared, seat);
     nanos_at(rt, &mut desk, count)
 }
 
 fn nanos_of_ctl<R: Clock>(rt: &R, alloc: Global, count: u64) -> Option<u128> {
-    let Some(mut ctl) = started(alloc) else {
-        return None;
-    };
-    let mut desk = PlainDesk::of(&mut ctl, LibNo(1));
+    match one_file(alloc) {
+        Some(mut ctl) => nanos_on(rt, &mut ctl, count),
+        None => None,
+    }
+}
+
+fn nanos_on<R: Clock>(rt: &R, ctl: &mut Ctl, count: u64) -> Option<u128>
+    requires one { length ctl.old.state.creds ≡ 1 }
+    requires idle { NoneBegun ctl.old }
+{
+    let mut desk = PlainDesk::of(ctl, LibNo(1));
     nanos_at(rt, &mut desk, count)
 }
 
@@ -60,7 +87,7 @@ fn nanos_of_ctl<R: Clock>(rt: &R, alloc: Global, count: u64) -> Option<u128> {
 fn start_one(alloc: Global) -> Option<(Shared, LibSeat)>
     ensures { IfSome result (λ r. IsSeatOf r.0 r.1 × IsIdle r.1) }
 {
-    let ctl = started(alloc)?;
+    let ctl = one_file(alloc)?;
     let Ok((shared, mut seats)) = Shared::start(alloc, ctl, 1) else {
         return None;
     };

@@ -8,21 +8,20 @@ ghost use Rattle.trio_calls_file.specs.Asks.{IsFileCall};
 ghost use Rattle.trio_ctl.specs.Ctl.{NoneBegun};
 ghost use Rattle.trio_ctl.specs.Desk.{out_of};
 
-use crate::timing::{Ratio, least_of_both, nanos_since, now};
+use crate::starting::{image_of, started};
+use crate::timing::{Times, least, nanos_since, now};
 use std::alloc::Global;
 use std::io;
 use std::rt::Clock;
 use trio_calls_file::file_call;
 use trio_ctl::{Ctl, PlainDesk};
 use trio_desk::Desk;
-use trio_image::{Image, load};
-use trio_io::SureFiles;
 use trio_names::Path;
 use trio_nodes::{Answer, Call, Reply, SharedBytes};
 use trio_page::{PAGE_SIZE, Page};
 use trio_rights::{Creds, LibNo};
 use trio_samples::files::root;
-use trio_samples::{Sample, regular};
+use trio_samples::{put, regular};
 use trio_session::Session;
 use trio_walk::Outcome;
 
@@ -36,35 +35,57 @@ const BLOCKS: u64 = 256;
 /// and reading a file of that size by 4096 bytes a call, through a session with its leases in hand. The
 /// rounds of both come in turn, each with a session and with pages of its own.
 pub fn measure_session<R: Clock + Print + AllocGlobal>(rt: &R) -> io::Result<()> {
-    let alloc = rt.alloc();
-    let session = || nanos_of_session(rt, alloc);
-    match least_of_both(ROUNDS, session, || nanos_of_copy(rt, alloc)) {
-        Some((session, copy)) => println!(rt;
-            "a session beside a plain copy: {}",
-            Ratio::of(session, copy)
-        ),
+    match fastest(rt, rt.alloc()) {
+        Some(times) => println!(rt; "a session beside a plain copy: {}", times.ratio()),
         None => println!(rt; "out of memory, or not written, or no clock"),
     }
+}
+
+/// The least times of a session's calls and of a plain copy.
+fn fastest<R: Clock>(rt: &R, alloc: Global) -> Option<Times> {
+    let mut times = Some(Times::LONGEST);
+    for _ in 0..ROUNDS {
+        let session = nanos_of_session(rt, alloc);
+        times = least(times, session, nanos_of_copy(rt, alloc));
+    }
+    times
 }
 
 /// The bytes that are written, a piece for each block.
 fn pieces(alloc: Global) -> Option<Vec<SharedBytes>> {
     let mut pieces = Vec::new(alloc);
     for block in 0..BLOCKS {
-        let bytes = [block as u8; PAGE_SIZE];
-        pieces.push(SharedBytes::copied(alloc, &bytes).ok()?).ok()?;
+        add_piece(alloc, &mut pieces, &[block as u8; PAGE_SIZE])?;
     }
     Some(pieces)
+}
+
+fn add_piece(alloc: Global, pieces: &mut Vec<SharedBytes>, bytes: &[u8]) -> Option<()> {
+    let piece = SharedBytes::copied(alloc, bytes).ok()?;
+    pieces.push(piece).ok()
 }
 
 /// The nanoseconds of a plain copy, of which all that was read is kept.
 fn nanos_of_copy<R: Clock>(rt: &R, alloc: Global) -> Option<u128> {
     let pieces = pieces(alloc)?;
-    let mut pages = zero_pages(alloc)?;
+    match zero_pages(alloc) {
+        Some(mut pages) => nanos_of_copies(rt, alloc, &pieces, &mut pages),
+        None => None,
+    }
+}
+
+fn nanos_of_copies<R: Clock>(
+    rt: &R,
+    alloc: Global,
+    pieces: &[SharedBytes],
+    pages: &mut [Page],
+) -> Option<u128> {
     let start = now(rt);
-    copy_in(&pieces, &mut pages);
-    let _read = copy_out(alloc, &pages)?;
-    nanos_since(rt, start)
+    copy_in(pieces, pages);
+    match copy_out(alloc, pages) {
+        Some(_read) => nanos_since(rt, start),
+        None => None,
+    }
 }
 
 /// As many pages as the file has blocks, each written once.
@@ -78,28 +99,32 @@ fn zero_pages(alloc: Global) -> Option<Vec<Page>> {
 
 fn copy_in(pieces: &[SharedBytes], pages: &mut [Page]) {
     for (page, piece) in pages.iter_mut().zip(pieces) {
-        let bytes = piece.as_slice();
-        if bytes.len() == PAGE_SIZE {
-            page.bytes_mut().copy_from_slice(bytes);
-        }
+        put(page.bytes_mut(), 0, piece.as_slice());
     }
 }
 
 fn copy_out(alloc: Global, pages: &[Page]) -> Option<Vec<SharedBytes>> {
     let mut read = Vec::new(alloc);
     for page in pages {
-        read.push(SharedBytes::copied(alloc, page.bytes()).ok()?)
-            .ok()?;
+        add_piece(alloc, &mut read, page.bytes())?;
     }
     Some(read)
 }
 
 /// The nanoseconds of a session's calls, of which all replies are kept. `None` where one isn't done.
 fn nanos_of_session<R: Clock>(rt: &R, alloc: Global) -> Option<u128> {
-    let Some(mut ctl) = started(alloc) else {
-        return None;
-    };
-    let mut desk = PlainDesk::of(&mut ctl, LibNo(1));
+    match one_file(alloc) {
+        Some(mut ctl) => nanos_on(rt, alloc, &mut ctl),
+        None => None,
+    }
+}
+
+fn nanos_on<R: Clock>(rt: &R, alloc: Global, ctl: &mut Ctl) -> Option<u128>
+    requires none { (lib : AnyLib) → OutAlike (out_of ctl.old.state lib) nothing_out }
+    requires one { length ctl.old.state.creds ≡ 1 }
+    requires idle { NoneBegun ctl.old }
+{
+    let mut desk = PlainDesk::of(ctl, LibNo(1));
     let mut session = Session::new(alloc, LibNo(1), desk.creds());
     let nanos = nanos_at(rt, alloc, &mut session, &mut desk);
     session.discard();
@@ -107,28 +132,15 @@ fn nanos_of_session<R: Clock>(rt: &R, alloc: Global) -> Option<u128> {
 }
 
 /// The controller of an image with one empty file, for one library of uid 0.
-pub fn started(alloc: Global) -> Option<Ctl>
+pub fn one_file(alloc: Global) -> Option<Ctl>
     ensures none { IfSome result (λ ctl. (lib : AnyLib) → OutAlike (out_of ctl.state lib) nothing_out) }
     ensures one { IfSome result (λ ctl. length ctl.state.creds ≡ 1) }
     ensures idle { IfSome result NoneBegun }
     ensures log { IfSome result (λ ctl. ctl.log ≡ []) }
 {
-    let files = [root(), regular(2, 1, b"f", b"")];
-    let bytes = Sample::of(alloc, 1024, 64, &files).ok()?.bytes(alloc).ok()?;
-    let image = image_of(alloc, bytes)?;
     let libs = vec![in alloc; Creds { uid: 0, gid: 0 }].ok()?;
-    Ctl::start(alloc, image, libs).ok()
-}
-
-/// The image of these bytes.
-pub fn image_of(alloc: Global, bytes: Vec<u8>) -> Option<Image> {
-    let names = vec![in alloc; String::from_str(alloc, "a.img").ok()?].ok()?;
-    let mut files = SureFiles::new(alloc, names).ok()?;
-    files.hold("a.img", bytes);
-    if !files.serves("a.img") {
-        return None;
-    }
-    load(alloc, &mut files, "a.img").ok()
+    let image = image_of(alloc, &[root(), regular(2, 1, b"f", b"")])?;
+    started(alloc, image, libs)
 }
 
 /// The nanoseconds of the calls, once the file has its size and the session its leases. `None` where
@@ -143,11 +155,15 @@ fn nanos_at<R: Clock, D: Desk>(
 {
     let size = BLOCKS * PAGE_SIZE as u64;
     let path = file_path(alloc)?;
-    let _sized = answer(alloc, session, desk, Call::Truncate { path, size })?;
+    if answer(alloc, session, desk, Call::Truncate { path, size }).is_none() {
+        return None;
+    }
     let calls = calls(alloc)?;
     let start = now(rt);
-    let _answers = make_calls(alloc, session, desk, calls)?;
-    nanos_since(rt, start)
+    match make_calls(alloc, session, desk, calls) {
+        Some(_answers) => nanos_since(rt, start),
+        None => None,
+    }
 }
 
 /// The calls that write the blocks, and then those that read them.
@@ -159,26 +175,31 @@ fn calls(alloc: Global) -> Option<Vec<Call>> {
 }
 
 fn add_writes(alloc: Global, calls: &mut Vec<Call>) -> Option<()> {
-    let mut at: u64 = 0;
-    for bytes in pieces(alloc)? {
-        let path = file_path(alloc)?;
-        calls.push(Call::Write { path, at, bytes }).ok()?;
-        at = at.wrapping_add(PAGE_SIZE as u64);
+    for block in 0..BLOCKS {
+        add_write(alloc, calls, block)?;
     }
     Some(())
 }
 
+fn add_write(alloc: Global, calls: &mut Vec<Call>, block: u64) -> Option<()> {
+    let bytes = SharedBytes::copied(alloc, &[(block % 256) as u8; PAGE_SIZE]).ok()?;
+    let path = file_path(alloc)?;
+    let at = block.wrapping_mul(PAGE_SIZE as u64);
+    calls.push(Call::Write { path, at, bytes }).ok()
+}
+
 fn add_reads(alloc: Global, calls: &mut Vec<Call>) -> Option<()> {
     for block in 0..BLOCKS {
-        let path = file_path(alloc)?;
-        let call = Call::Read {
-            path,
-            at: block * PAGE_SIZE as u64,
-            len: PAGE_SIZE as u32,
-        };
-        calls.push(call).ok()?;
+        add_read(alloc, calls, block)?;
     }
     Some(())
+}
+
+fn add_read(alloc: Global, calls: &mut Vec<Call>, block: u64) -> Option<()> {
+    let path = file_path(alloc)?;
+    let at = block.wrapping_mul(PAGE_SIZE as u64);
+    let len = PAGE_SIZE as u32;
+    calls.push(Call::Read { path, at, len }).ok()
 }
 
 fn file_path(alloc: Global) -> Option<Path> {

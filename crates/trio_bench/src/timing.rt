@@ -1,4 +1,4 @@
-//! The least time of some rounds, and how often one time goes into another.
+//! The least times of some rounds, and how often one time goes into another.
 
 use std::fmt;
 use std::rt::Clock;
@@ -14,31 +14,39 @@ pub fn nanos_since<R: Clock>(rt: &R, start: Option<Instant>) -> Option<u128> {
     Some(now(rt)?.duration_since(start?).as_nanos())
 }
 
-/// The least time of so many rounds. `None` where one has none.
-pub fn least<F: Fn() -> Option<u128>>(rounds: u32, round: F) -> Option<u128>
-    requires { F.IsAlwaysCallable round }
-{
-    let mut least = u128::MAX;
-    for _ in 0..rounds {
-        least = least.min(round()?);
-    }
-    Some(least)
+/// The nanoseconds of two things, of which the second stands beside the first.
+#[derive(Clone, Copy)]
+pub struct Times {
+    pub first: u128,
+    pub second: u128,
 }
 
-/// The least times of so many rounds of two things, which come in turn. `None` where one has none.
-pub fn least_of_both<F: Fn() -> Option<u128>, G: Fn() -> Option<u128>>(
-    rounds: u32,
-    first: F,
-    second: G,
-) -> Option<(u128, u128)>
-    requires first { F.IsAlwaysCallable first }
-    requires second { G.IsAlwaysCallable second }
-{
-    let mut leasts = (u128::MAX, u128::MAX);
-    for _ in 0..rounds {
-        leasts = (leasts.0.min(first()?), leasts.1.min(second()?));
+impl Times {
+    /// More than any time, before the first round.
+    pub const LONGEST: Times = Times {
+        first: u128::MAX,
+        second: u128::MAX,
+    };
+
+    /// How often the second goes into the first.
+    pub fn ratio(self) -> Ratio {
+        Ratio::of(self.first, self.second)
     }
-    Some(leasts)
+}
+
+/// The least times of some rounds and of one more, in which the two things come in turn. `None` where
+/// a round has no time.
+pub fn least(least: Option<Times>, first: Option<u128>, second: Option<u128>) -> Option<Times> {
+    let least = least?;
+    Some(Times {
+        first: first?.min(least.first),
+        second: second?.min(least.second),
+    })
+}
+
+/// The less of two times. `None` where one is wanting.
+pub fn shortest(one: Option<u128>, other: Option<u128>) -> Option<u128> {
+    Some(one?.min(other?))
 }
 
 /// How often one number goes into another, in hundredths.

@@ -1,6 +1,6 @@
 //! What it takes to tell the tree of an image, by the number of its names.
 
-use crate::timing::{Ratio, nanos_since, now};
+use crate::timing::{Ratio, Times, least, nanos_since, now};
 use std::alloc::Global;
 use std::io;
 use std::rt::Clock;
@@ -18,13 +18,6 @@ const DIRECTORIES: u32 = 4;
 /// The least number of names, beside which the others stand.
 const LEAST: u32 = 1000;
 
-/// The nanoseconds in which a tree is told in its two forms.
-#[derive(Clone, Copy)]
-struct Times {
-    lines: u128,
-    json: u128,
-}
-
 /// Prints in which time trees of 1,000, 4,000 and 16,000 names are told, and how often the time of the
 /// first goes into that of each.
 pub fn measure_tree<R: Clock + Print + AllocGlobal>(rt: &R) -> io::Result<()> {
@@ -32,51 +25,50 @@ pub fn measure_tree<R: Clock + Print + AllocGlobal>(rt: &R) -> io::Result<()> {
         return println!(rt; "out of memory, or no clock");
     };
     for names in [LEAST, 4000, 16_000] {
-        match times_of(rt, rt.alloc(), names) {
-            Some(times) => print_times(rt, names, times, least)?,
-            None => println!(rt; "{names} names: out of memory, or no clock")?,
-        }
+        print_row(rt, names, times_of(rt, rt.alloc(), names), least)?;
     }
     Ok(())
+}
+
+fn print_row<R: Print>(rt: &R, names: u32, times: Option<Times>, least: Times) -> io::Result<()> {
+    match times {
+        Some(times) => print_times(rt, names, times, least),
+        None => println!(rt; "{names} names: out of memory, or no clock"),
+    }
 }
 
 fn print_times<R: Print>(rt: &R, names: u32, times: Times, least: Times) -> io::Result<()> {
     println!(rt;
         "{names} names: lines {} us, {} times those of {LEAST}; JSON {} us, {} times",
-        times.lines / 1000,
-        Ratio::of(times.lines, least.lines),
-        times.json / 1000,
-        Ratio::of(times.json, least.json)
+        times.first / 1000,
+        Ratio::of(times.first, least.first),
+        times.second / 1000,
+        Ratio::of(times.second, least.second)
     )
 }
 
-/// The times of the fastest rounds. `None` where memory is wanting.
+/// The times of the fastest rounds, of the lines and of JSON. `None` where memory is wanting.
 fn times_of<R: Clock>(rt: &R, alloc: Global, names: u32) -> Option<Times> {
     let sample = sample_of(alloc, names)?;
     let superblock = *sample.superblock();
-    let mut home = sample.home(alloc).ok()?;
-    least_times(rt, alloc, &mut home, &superblock)
+    match sample.home(alloc) {
+        Ok(mut home) => fastest(rt, alloc, &mut home, &superblock),
+        Err(_) => None,
+    }
 }
 
-fn least_times<R: Clock>(
+fn fastest<R: Clock>(
     rt: &R,
     alloc: Global,
     home: &mut Home,
     superblock: &Superblock,
 ) -> Option<Times> {
-    let mut least = Times {
-        lines: u128::MAX,
-        json: u128::MAX,
-    };
+    let mut times = Some(Times::LONGEST);
     for _ in 0..ROUNDS {
-        let lines = nanos_of_lines(rt, alloc, home, superblock)?;
-        let json = nanos_of_json(rt, alloc, home, superblock)?;
-        least = Times {
-            lines: least.lines.min(lines),
-            json: least.json.min(json),
-        };
+        let lines = nanos_of_lines(rt, alloc, home, superblock);
+        times = least(times, lines, nanos_of_json(rt, alloc, home, superblock));
     }
-    Some(least)
+    times
 }
 
 fn nanos_of_lines<R: Clock>(
@@ -86,7 +78,7 @@ fn nanos_of_lines<R: Clock>(
     superblock: &Superblock,
 ) -> Option<u128> {
     let start = now(rt);
-    let _ = lines_of(alloc, home, superblock)?;
+    lines_of(alloc, home, superblock)?;
     nanos_since(rt, start)
 }
 
@@ -97,15 +89,24 @@ fn nanos_of_json<R: Clock>(
     superblock: &Superblock,
 ) -> Option<u128> {
     let start = now(rt);
-    let _ = json_of(alloc, home, superblock)?;
+    json_of(alloc, home, superblock)?;
     nanos_since(rt, start)
 }
 
 fn lines_of(alloc: Global, home: &mut Home, superblock: &Superblock) -> Option<Vec<u8>> {
-    let lines = tree_lines(alloc, home, superblock, &mut Reads::new()).ok()?;
     let mut text = Vec::new(alloc);
-    put_tree_lines(alloc, &mut text, &lines).ok()?;
+    put_lines(alloc, &mut text, home, superblock)?;
     Some(text)
+}
+
+fn put_lines(
+    alloc: Global,
+    text: &mut Vec<u8>,
+    home: &mut Home,
+    superblock: &Superblock,
+) -> Option<()> {
+    let lines = tree_lines(alloc, home, superblock, &mut Reads::new()).ok()?;
+    put_tree_lines(alloc, text, &lines).ok()
 }
 
 fn json_of(alloc: Global, home: &mut Home, superblock: &Superblock) -> Option<Vec<u8>> {
@@ -117,8 +118,10 @@ fn json_of(alloc: Global, home: &mut Home, superblock: &Superblock) -> Option<Ve
 /// names lie in no order.
 fn sample_of(alloc: Global, names: u32) -> Option<Sample> {
     let spelled = spellings(alloc, names)?;
-    let files = files_of(alloc, &spelled)?;
-    Sample::of(alloc, 8192, 16_384, &files).ok()
+    match files_of(alloc, &spelled) {
+        Some(files) => Sample::of(alloc, 8192, 16_384, &files).ok(),
+        None => None,
+    }
 }
 
 fn spellings(alloc: Global, names: u32) -> Option<Vec<[u8; 5]>> {

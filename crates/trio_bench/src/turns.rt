@@ -3,7 +3,7 @@
 ghost use Rattle.std.specs.Prelude.{◌≡◌, None, IfSome};
 ghost use Rattle.trio_turn.specs.Seats.{cell, cell_of, has, IsSameSeat};
 
-use crate::timing::{Ratio, least_of_both, nanos_since, now};
+use crate::timing::{Times, least, nanos_since, now};
 use std::alloc::Global;
 use std::io;
 use std::rt::Clock;
@@ -36,17 +36,25 @@ impl Logged for Tally {
 
 /// Measures turns, and prints what was measured.
 pub fn measure_turn<R: Wait + Clock + Print + AllocGlobal>(rt: &R, count: u64) -> io::Result<()> {
-    let alloc = rt.alloc();
-    let turns = || nanos_of_turns(rt, alloc, count);
-    match least_of_both(ROUNDS, turns, || nanos_of_locks(rt, count)) {
-        Some((turn, lock)) => println!(rt;
+    match fastest(rt, rt.alloc(), count) {
+        Some(times) => println!(rt;
             "turn {} ns, lock {} ns, ratio {}",
-            turn / u128::from(count.max(1)),
-            lock / u128::from(count.max(1)),
-            Ratio::of(turn, lock)
+            times.first / u128::from(count.max(1)),
+            times.second / u128::from(count.max(1)),
+            times.ratio()
         ),
         None => println!(rt; "out of memory, or no clock"),
     }
+}
+
+/// The least times of so many turns and of as many locks.
+fn fastest<R: Wait + Clock>(rt: &R, alloc: Global, count: u64) -> Option<Times> {
+    let mut times = Some(Times::LONGEST);
+    for _ in 0..ROUNDS {
+        let turns = nanos_of_turns(rt, alloc, count);
+        times = least(times, turns, nanos_of_locks(rt, count));
+    }
+    times
 }
 
 /// The nanoseconds of so many turns.
