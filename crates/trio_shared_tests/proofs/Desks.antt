@@ -1,5 +1,5 @@
 -- Seats in their order.
-use Rattle.std.proofs.Common.{◌≡◌, ◌≤◌, ◌<◌, ◌+◌, ◌-◌, ℕ, zero, suc, List, [], ◌∷◌, ◌++◌, Some, None, length, length-append, slice_get, ap, refl, subst, sym, ◌∙◌, arith}
+use Rattle.std.proofs.Common.{◌≡◌, ◌≤◌, ◌<◌, ◌+◌, ℕ, zero, suc, List, [], ◌∷◌, ◌++◌, Some, None, length, slice_get, slice_index_or, slice_set, refl, subst, sym, ◌∙◌, arith}
 use Rattle.trio_rights.specs.declared.rights.LibNo.{LibNo}
 use Rattle.trio_lists.specs.Lists.{In}
 use Rattle.trio_tables.specs.Out.{lib_at, none_out}
@@ -15,38 +15,14 @@ use Rattle.trio_shared.specs.declared.cell.Shared.{Shared}
 use Rattle.trio_shared.specs.declared.held.Held.{Held}
 use Rattle.trio_shared.specs.Left.{out_left}
 use Rattle.trio_shared.specs.Seats.{AllStart, IsSeatOf, library_count, library_of}
-use Rattle.trio_shared_tests.specs.Sits.{AreNumbered, FourSit, IsNew, IsOne, TwoSit}
+use Rattle.trio_shared_tests.specs.Sits.{AreAll, IsBack, IsNew, SitsOn}
 
 -- ---- lists
-
-at_end : {X : Type 0} (xs : List X) (x : X) → slice_get (xs ++ x ∷ []) (length xs) ≡ Some x
-at_end [] x = refl
-at_end (y ∷ ys) x = at_end ys x
-
-at_front : {X : Type 0} (xs : List X) (x y : X) (k : ℕ) → slice_get xs k ≡ Some y → slice_get (xs ++ x ∷ []) k ≡ Some y
-at_front [] x y k e = absurd (cc e)
-at_front (z ∷ zs) x y zero e = e
-at_front (z ∷ zs) x y (suc k) e = at_front zs x y k e
 
 there_is : {X : Type 0} (xs : List X) (k : ℕ) → k < length xs → (x : X) × (slice_get xs k ≡ Some x)
 there_is [] k low = absurd (omega (arith, low))
 there_is (x ∷ xs) zero low = (x, refl)
 there_is (x ∷ xs) (suc k) low = there_is xs k (omega (arith, low))
-
--- ---- the last of them
-
-module _ (Is : ℕ → LibSeat Held → Type 0) (n : ℕ) (old new : List (LibSeat Held)) (seat : LibSeat Held) (some : 1 ≤ n) (are : AreNumbered Is n old) (is : old ≡ new ++ seat ∷ []) where
-  count : length new + 1 ≡ n
-  count = omega (arith, are.count, ap length is, length-append new (seat ∷ []))
-
-  pub last_is : Is n seat
-  last_is = subst (λ m. Is m seat) count (are.each (length new) seat (subst (λ l. slice_get l (length new) ≡ Some seat) (sym is) (at_end new seat)))
-
-  pub rest_are : AreNumbered Is (n - 1) new
-  rest_are = record {
-    count = omega (arith, count);
-    each = λ k s at. are.each k s (subst (λ l. slice_get l k ≡ Some s) (sym is) (at_front new seat s k at));
-  }
 
 -- ---- at the start
 
@@ -66,8 +42,8 @@ nothing_left origin lib = record {
   numbers = λ n. (λ i. no_numbers (origin.image.core.inodes + 1) lib.0 n i, λ i. absurd i);
 }
 
-pub numbered : (shared : Shared) (origin : Origin) (n : ℕ) (seats : List (LibSeat Held)) → AllStart shared origin seats → length seats ≡ n → AreNumbered (IsNew shared) n seats
-numbered shared origin n seats all count = record {
+pub all_new : (shared : Shared) (origin : Origin) (seats : List (LibSeat Held)) → AllStart shared origin seats → length seats ≡ library_count shared → AreAll IsNew shared seats
+all_new shared origin seats all count = record {
   count = count;
   each = λ k s at.
       let i = all k s at in
@@ -82,39 +58,72 @@ numbered shared origin n seats all count = record {
 
 -- ---- at the end
 
-module _ (shared : Shared) (n : ℕ) (seats : List (LibSeat Held)) (are : AreNumbered (IsOne shared) n seats) where
+module _ (shared : Shared) (seats : List (LibSeat Held)) (are : AreAll IsBack shared seats) where
   pub each_is : OfEach (IsSeatOf shared) seats
-  each_is = λ k s at. (are.each k s at).sits.is_seat
+  each_is = λ k s at. (are.each k s at).is_seat
 
-  every : (l : ℕ) → 1 ≤ l → l ≤ n → (k : ℕ) × (s : LibSeat Held) × (slice_get seats k ≡ Some s) × (library s ≡ l)
+  every : (l : ℕ) → 1 ≤ l → l ≤ library_count shared → (k : ℕ) × (s : LibSeat Held) × (slice_get seats k ≡ Some s) × (library s ≡ l)
   every zero low high = absurd (omega (arith, low))
   every (suc l) low high =
       let t = there_is seats l (omega (arith, are.count, high)) in
       (l, t.0, t.1, omega (arith, (are.each l t.0 t.1).numbered))
 
-  pub every_is : library_count shared ≡ n → EverySeat (library_count shared) seats
-  every_is count = λ l low high. every l low (subst (λ m. l ≤ m) count high)
+  pub every_is : EverySeat (library_count shared) seats
+  every_is = every
 
-pub two_are : (shared : Shared) (a b : LibSeat Held) → TwoSit IsOne shared a b → (seats : List (LibSeat Held)) → seats ≡ a ∷ b ∷ [] → AreNumbered (IsOne shared) 2 seats
-two_are shared a b two seats is = record {
-  count = ap length is;
-  each = λ k s at. in_two k s (subst (λ l. slice_get l k ≡ Some s) is at);
-}
-  where
-    in_two : (k : ℕ) (s : LibSeat Held) → slice_get (a ∷ b ∷ []) k ≡ Some s → IsOne shared (k + 1) s
-    in_two zero s e = subst (IsOne shared 1) (cc e) two.first
-    in_two (suc zero) s e = subst (IsOne shared 2) (cc e) two.second
-    in_two (suc (suc k)) s e = absurd (cc e)
+-- ---- meanwhile
 
-pub four_are : (shared : Shared) (a b c d : LibSeat Held) → FourSit IsOne shared a b c d → (seats : List (LibSeat Held)) → seats ≡ a ∷ b ∷ c ∷ d ∷ [] → AreNumbered (IsOne shared) 4 seats
-four_are shared a b c d four seats is = record {
-  count = ap length is;
-  each = λ k s at. in_four k s (subst (λ l. slice_get l k ≡ Some s) is at);
+pub back_on : (shared : Shared) (n : ℕ) (old new : LibSeat Held) → IsNew shared n old → SitsOn shared old new → IsBack shared n new
+back_on shared n old new is on = record { is_seat = on.sits.is_seat; numbered = on.library ∙ is.numbered }
+
+pub back : (shared : Shared) (n : ℕ) (seat : LibSeat Held) → IsNew shared n seat → IsBack shared n seat
+back shared n seat is = record { is_seat = is.arrives.sits.is_seat; numbered = is.numbered }
+
+-- so is each of them that it has gone on to
+read : (xs : List (LibSeat Held)) (k : ℕ) (s d : LibSeat Held) → slice_get xs k ≡ Some s → (k < length xs) × (slice_index_or xs k d ≡ s)
+read [] k s d e = absurd (cc e)
+read (x ∷ xs) zero s d e = (omega arith, cc e)
+read (x ∷ xs) (suc k) s d e = let r = read xs k s d e in (omega (arith, r.0), r.1)
+
+pub all_gone_on : (shared : Shared) (old new : List (LibSeat Held)) → AreAll IsNew shared old → length new ≡ length old
+    → ((i : ℕ) (d : LibSeat Held) → i < length old → IsBack shared (i + 1) (slice_index_or new i d)) → AreAll IsBack shared new
+all_gone_on shared old new all len each = record {
+  count = len ∙ all.count;
+  each = λ k s at. let r = read new k s s at in subst (IsBack shared (k + 1)) r.1 (each k s (omega (arith, r.0, len)));
 }
+
+pub all_back : (shared : Shared) (seats : List (LibSeat Held)) → AreAll IsNew shared seats → AreAll IsBack shared seats
+all_back shared seats all = record { count = all.count; each = λ k s at. back _ _ _ (all.each k s at) }
+
+-- two of them have gone on
+pub two_back : (shared : Shared) (ones twos : List (LibSeat Held)) (a b : LibSeat Held) → length ones ≡ 1 → AreAll IsNew shared (ones ++ twos) → IsBack shared 1 a → IsBack shared 2 b
+    → AreAll IsBack shared (slice_set ones 0 a ++ slice_set twos 0 b)
+two_back shared [] twos a b one all is_a is_b = absurd (cc one)
+two_back shared (x ∷ y ∷ ones) twos a b one all is_a is_b = absurd (omega (arith, one))
+two_back shared (x ∷ []) [] a b one all is_a is_b = record { count = all.count; each = in_one }
   where
-    in_four : (k : ℕ) (s : LibSeat Held) → slice_get (a ∷ b ∷ c ∷ d ∷ []) k ≡ Some s → IsOne shared (k + 1) s
-    in_four zero s e = subst (IsOne shared 1) (cc e) four.first
-    in_four (suc zero) s e = subst (IsOne shared 2) (cc e) four.second
-    in_four (suc (suc zero)) s e = subst (IsOne shared 3) (cc e) four.third
-    in_four (suc (suc (suc zero))) s e = subst (IsOne shared 4) (cc e) four.fourth
-    in_four (suc (suc (suc (suc k)))) s e = absurd (cc e)
+    in_one : (k : ℕ) (s : LibSeat Held) → slice_get (a ∷ []) k ≡ Some s → IsBack shared (k + 1) s
+    in_one zero s e = subst (IsBack shared 1) (cc e) is_a
+    in_one (suc k) s e = absurd (cc e)
+two_back shared (x ∷ []) (y ∷ twos) a b one all is_a is_b = record { count = all.count; each = in_two }
+  where
+    in_two : (k : ℕ) (s : LibSeat Held) → slice_get (a ∷ b ∷ twos) k ≡ Some s → IsBack shared (k + 1) s
+    in_two zero s e = subst (IsBack shared 1) (cc e) is_a
+    in_two (suc zero) s e = subst (IsBack shared 2) (cc e) is_b
+    in_two (suc (suc k)) s e = back _ _ _ (all.each (suc (suc k)) s e)
+
+-- three of them
+pub three_back : (shared : Shared) (ones twos threes : List (LibSeat Held)) (a b c : LibSeat Held) → length ones ≡ 1 → length twos ≡ 1 → 1 ≤ length threes → AreAll IsNew shared (ones ++ (twos ++ threes))
+    → IsBack shared 1 a → IsBack shared 2 b → IsBack shared 3 c → AreAll IsBack shared (slice_set ones 0 a ++ (slice_set twos 0 b ++ slice_set threes 0 c))
+three_back shared [] twos threes a b c one two some all is_a is_b is_c = absurd (cc one)
+three_back shared (x ∷ y ∷ ones) twos threes a b c one two some all is_a is_b is_c = absurd (omega (arith, one))
+three_back shared (x ∷ []) [] threes a b c one two some all is_a is_b is_c = absurd (cc two)
+three_back shared (x ∷ []) (y ∷ z ∷ twos) threes a b c one two some all is_a is_b is_c = absurd (omega (arith, two))
+three_back shared (x ∷ []) (y ∷ []) [] a b c one two some all is_a is_b is_c = absurd (omega (arith, some))
+three_back shared (x ∷ []) (y ∷ []) (z ∷ threes) a b c one two some all is_a is_b is_c = record { count = all.count; each = in_three }
+  where
+    in_three : (k : ℕ) (s : LibSeat Held) → slice_get (a ∷ b ∷ c ∷ threes) k ≡ Some s → IsBack shared (k + 1) s
+    in_three zero s e = subst (IsBack shared 1) (cc e) is_a
+    in_three (suc zero) s e = subst (IsBack shared 2) (cc e) is_b
+    in_three (suc (suc zero)) s e = subst (IsBack shared 3) (cc e) is_c
+    in_three (suc (suc (suc k))) s e = back _ _ _ (all.each (suc (suc (suc k))) s e)

@@ -11,7 +11,9 @@ use Rattle.trio_turn.specs.declared.seat.LibSeat.{LibSeat}
 use Rattle.trio_turn.specs.Logs.{made_by, maker}
 use Rattle.trio_turn.specs.Seats.{OfEach, library, mine, seen}
 use Rattle.trio_shared.specs.declared.held.Held.{Held}
-use Rattle.trio_shared_tests.specs.Seen.{HasSeen}
+use Rattle.trio_shared.specs.declared.cell.Shared.{Shared}
+use Rattle.trio_shared_tests.specs.Seen.{HasSeen, HaveSeen}
+use Rattle.trio_shared_tests.specs.Sits.{AreAll, IsBack}
 
 not_there : (lib : ℕ) (x e : Entry) (xs : List Entry) (k : ℕ) → (maker x == lib) ≡ false → maker e ≡ lib → slice_get (x ∷ xs) k ≡ Some e → ((j : ℕ) → slice_get xs j ≡ Some e → ⊥) → ⊥
 not_there lib x e xs zero other is at rest = let same : x ≡ e = cc at in false≢true (sym other ∙ eq-eqb (maker x) lib (ap maker same ∙ is))
@@ -40,10 +42,11 @@ has_seen lib history log begins mine_are = record {
     none : made_by lib begins.0 ≡ []
     none = append_cancel_left (made_by lib history) (made_by lib begins.0) [] (sym (filter-append (λ (e : Entry). maker e == lib) history begins.0) ∙ ap (made_by lib) begins.1 ∙ mine_are ∙ sym (append-nil (made_by lib history)))
 
--- so has a seat, where it comes to a close
-pub seen_at_close : {E : Type 0} (r : Result Controller E) (seats : List (LibSeat Held)) (k : ℕ) (s : LibSeat Held) (lib : ℕ) → slice_get seats k ≡ Some s → library s ≡ lib
+-- so has each seat, where they come to a close
+pub seen_at_close : {E : Type 0} (r : Result Controller E) (shared : Shared) (seats : List (LibSeat Held)) → AreAll IsBack shared seats
     → IfOk r (λ ctl. OfEach (λ s. IsPrefix (seen s) ctl.log) seats) → IfOk r (λ ctl. OfEach (λ s. made_by (library s) ctl.log ≡ mine s) seats)
-    → IfSome (result_ok r) (λ ctl. HasSeen (seen s) lib ctl.log)
-seen_at_close (Ok ctl) seats k s lib at is begins mine_are =
-    subst (λ l. HasSeen (seen s) l ctl.log) is (has_seen (library s) (seen s) ctl.log (begins k s at) (mine_are k s at))
-seen_at_close (Err back) seats k s lib at is begins mine_are = tt
+    → IfSome (result_ok r) (λ ctl. HaveSeen seats ctl.log)
+seen_at_close (Ok ctl) shared seats are begins mine_are = record {
+  each = λ k s at. subst (λ l. HasSeen (seen s) l ctl.log) (are.each k s at).numbered (has_seen (library s) (seen s) ctl.log (begins k s at) (mine_are k s at));
+}
+seen_at_close (Err back) shared seats are begins mine_are = tt

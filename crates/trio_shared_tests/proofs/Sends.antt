@@ -1,15 +1,17 @@
--- A closure may cross to another thread with what it captures.
+-- What threads share that play libraries.
 use denote.Builtin.{u64}
-use denote.Param.{param}
-use denote.Param.Send.{AllSend, IsSend, IsSync, param_send, recorded_send, sendable, struct_send}
+use denote.Param.Send.{AllSync, IsSync, recorded_sync, sendable, struct_sync}
 use denote.Struct.Declared.{Declared, fields, row, shape}
 use denote.Struct.Struct.{Struct}
-use Rattle.std.specs.Prelude.{ℕ}
+use Rattle.std.proofs.Crossing.{crosses}
+use Rattle.std.specs.contracts.sync.atomic.AtomicBool as flag
 
--- it does where each of its captures does
-pub captures_send : (i : ℕ) (T : Declared) → AllSend (fields T) → IsSend (param i (row T))
-captures_send i T all = param_send i (row T) (recorded_send (Struct (shape T)) T.D T.to T.to_one (struct_send (shape T) all))
+pub flag_syncs : IsSync flag.the_row
+flag_syncs = search (sendable, crosses) depth 60 fits 100000
 
--- threads may share a seed
 pub seed_syncs : IsSync u64
 seed_syncs = search sendable
+
+-- a closure, where each of its captures is
+pub captures_sync : (T : Declared) → AllSync (fields T) → IsSync (row T)
+captures_sync T all = recorded_sync (Struct (shape T)) T.D T.to T.to_one (struct_sync (shape T) all)

@@ -9,7 +9,6 @@ use Rattle.trio_shared.specs.declared.held.Held.{Held}
 use Rattle.trio_state.specs.State.{State}
 use Rattle.trio_shared.specs.Left.{Leaves}
 use Rattle.trio_shared.specs.Seats.{IsIdle, IsSeatOf, library_count, out}
-use Rattle.trio_shared_tests.specs.declared.player.Player.{Player}
 
 -- an idle seat of the controller
 pub record Sits (shared : Shared) (seat : LibSeat Held) : Type 0 where
@@ -31,45 +30,31 @@ pub record IsLeft (seat : LibSeat Held) : Type 0 where
   pub state : State
   pub left : Leaves (first seat) (seen seat) state
 
--- a library has such a seat, and what it has is out to it
-pub record Plays (shared : Shared) (player : Player) : Type 0 where
-  pub sits : Sits shared player.seat
-  pub on_list : OnList (out player.seat) player.raw.has
+-- such a seat, and what its library has is out to it
+pub record Plays (shared : Shared) (seat : LibSeat Held) (has : Has) : Type 0 where
+  pub sits : Sits shared seat
+  pub on_list : OnList (out seat) has
 
--- it plays on
-pub record PlaysOn (shared : Shared) (old new : Player) : Type 0 where
-  pub plays : Plays shared new
-  pub library : library new.seat ≡ library old.seat
+-- the library has played on, and has this
+pub record PlaysOn (shared : Shared) (old new : LibSeat Held) (has : Has) : Type 0 where
+  pub plays : Plays shared new has
+  pub library : library new ≡ library old
 
 -- what it has is written into, and stays on each list
 pub record WritesOn (old new : Has) : Type 0 where
   pub stays : (out : LibOut) → OnList out old → OnList out new
 
--- the idle seat of this library
-pub record IsOne (shared : Shared) (number : ℕ) (seat : LibSeat Held) : Type 0 where
-  pub sits : Sits shared seat
+-- the seat of this library
+pub record IsBack (shared : Shared) (number : ℕ) (seat : LibSeat Held) : Type 0 where
+  pub is_seat : IsSeatOf shared seat
   pub numbered : library seat ≡ number
 
--- and one whose library has nothing out
+-- and one that is idle, and whose library has nothing out
 pub record IsNew (shared : Shared) (number : ℕ) (seat : LibSeat Held) : Type 0 where
   pub arrives : Arrives shared seat
   pub numbered : library seat ≡ number
 
--- seats of libraries 1 to n, in their order, each of which is so
-pub record AreNumbered (Is : ℕ → LibSeat Held → Type 0) (n : ℕ) (seats : List (LibSeat Held)) : Type 0 where
-  pub count : length seats ≡ n
-  pub each : (k : ℕ) (seat : LibSeat Held) → slice_get seats k ≡ Some seat → Is (k + 1) seat
-
--- the seats of a controller's two libraries, each of which is so
-pub record TwoSit (Is : Shared → ℕ → LibSeat Held → Type 0) (shared : Shared) (a b : LibSeat Held) : Type 0 where
-  pub count : library_count shared ≡ 2
-  pub first : Is shared 1 a
-  pub second : Is shared 2 b
-
--- the seats of four
-pub record FourSit (Is : Shared → ℕ → LibSeat Held → Type 0) (shared : Shared) (a b c d : LibSeat Held) : Type 0 where
-  pub count : library_count shared ≡ 4
-  pub first : Is shared 1 a
-  pub second : Is shared 2 b
-  pub third : Is shared 3 c
-  pub fourth : Is shared 4 d
+-- the seats of all libraries of a controller, in their order, each of which is so
+pub record AreAll (Is : Shared → ℕ → LibSeat Held → Type 0) (shared : Shared) (seats : List (LibSeat Held)) : Type 0 where
+  pub count : length seats ≡ library_count shared
+  pub each : (k : ℕ) (seat : LibSeat Held) → slice_get seats k ≡ Some seat → Is shared (k + 1) seat

@@ -1,41 +1,23 @@
 //! Two libraries that write into what they are lent, while a third is lent a file again and again.
 
 ghost use Rattle.std.specs.Thread.{IsSync};
-ghost use Rattle.trio_shared_tests.specs.Sits.{Plays, PlaysOn, WritesOn};
+ghost use Rattle.trio_shared_tests.specs.Sits.{IsBack, IsNew, Plays, PlaysOn, Sits, SitsOn, WritesOn};
 
-use crate::Player;
-use crate::seats::{
-    ROOT, asks, close_four, gives_back, hands_in, image_of, leaves, seated, start_four,
-};
+use crate::replays::settled_nodes;
+use crate::scenes::{Scene, goes_well};
+use crate::seats::{asks, empty_hands, gives_back, hands_in};
 use std::alloc::Global;
 use std::sync::Wait;
 use std::test::Fail;
 use std::thread::{Threads, join_mut};
-use trio_image::Image;
+use trio_ctl::Ctl;
 use trio_nodes::{GrantKind, Nodes, ReleaseAnswer, Spot};
 use trio_page::PAGE_SIZE;
 use trio_raw::Raw;
-use trio_samples::files::root;
-use trio_samples::{directory, regular};
-use trio_shared::Shared;
+use trio_shared::{LibSeat, Shared};
 
 /// How often each of the two writes its block, and how often the third is lent its file meanwhile.
 const TIMES: u32 = 2000;
-
-/// What the files of one block have first.
-const DASHES: [u8; PAGE_SIZE] = [b'-'; PAGE_SIZE];
-
-// The directory `a` with the files `f`, `g` and `h`, numbers 3 to 5, of one block each.
-fn three_files(alloc: Global) -> Option<Image> {
-    let files = [
-        root(),
-        directory(2, 1, b"a"),
-        regular(3, 2, b"f", &DASHES),
-        regular(4, 2, b"g", &DASHES),
-        regular(5, 2, b"h", &DASHES),
-    ];
-    image_of(alloc, &files)
-}
 
 // The block that is written at a time: each time another letter.
 fn block_at(time: u32, first: u8) -> [u8; PAGE_SIZE] {
@@ -50,32 +32,41 @@ fn writes(raw: &mut Raw, ino: u32, first: u8) -> bool
     let mut are_written = true;
     for time in 0..TIMES {
         let block = block_at(time, first);
-        let is_written = raw.poke(Spot::Block(ino, 0), 0, &block);
-        are_written = are_written && is_written;
+        are_written &= raw.poke(Spot::Block(ino, 0), 0, &block);
     }
     are_written
 }
 
 // Is lent a file for reading, and gives it back.
-fn is_lent<R: Wait>(rt: &R, shared: &Shared, player: &mut Player) -> bool
-    requires { Plays shared.now player.old }
-    ensures { PlaysOn shared.now player.old player.new }
+fn is_lent<R: Wait>(rt: &R, shared: &Shared, seat: &mut LibSeat, raw: &mut Raw) -> bool
+    requires { Plays shared.now seat.old raw.old.has }
+    ensures { PlaysOn shared.now seat.old seat.new raw.new.has }
 {
-    let is_lent = asks(rt, shared, player, 5, GrantKind::Read) == Ok(0);
-    let is_back = gives_back(rt, shared, player, 5) == Ok(());
+    let is_lent = asks(rt, shared, seat, raw, 5, GrantKind::Read) == Ok(0);
+    let is_back = gives_back(rt, shared, seat, raw, 5) == Ok(());
     is_lent && is_back
 }
 
 // The same many times over.
-fn borrows<R: Wait>(rt: &R, shared: &Shared, player: &mut Player) -> bool
-    requires { Plays shared.now player.old }
-    ensures { PlaysOn shared.now player.old player.new }
+fn borrows<R: Wait>(rt: &R, shared: &Shared, seat: &mut LibSeat, raw: &mut Raw) -> bool
+    requires { Plays shared.now seat.old raw.old.has }
+    ensures { PlaysOn shared.now seat.old seat.new raw.new.has }
 {
     let mut are_lent = true;
     for _ in 0..TIMES {
-        let is_lent = is_lent(rt, shared, player);
-        are_lent = are_lent && is_lent;
+        are_lent &= is_lent(rt, shared, seat, raw);
     }
+    are_lent
+}
+
+// A library that has nothing yet is lent a file many times over.
+fn borrows_alone<R: Wait>(rt: &R, alloc: Global, shared: &Shared, seat: &mut LibSeat) -> bool
+    requires { Sits shared.now seat.old }
+    ensures { SitsOn shared.now seat.old seat.new }
+{
+    let mut raw = empty_hands(alloc, seat);
+    let are_lent = borrows(rt, shared, seat, &mut raw);
+    raw.discard();
     are_lent
 }
 
@@ -99,15 +90,16 @@ fn both_write<R: Threads + Sync>(rt: &R, one: &mut Raw, two: &mut Raw) -> bool
 // So they do while a third is lent its file.
 fn all_at_once<R: Threads + Wait + Sync>(
     rt: &R,
+    alloc: Global,
     shared: &Shared,
     one: &mut Raw,
     two: &mut Raw,
-    three: &mut Player,
+    third: &mut LibSeat,
 ) -> bool
-    requires { Plays shared.now three.old }
+    requires { Sits shared.now third.old }
     ensures one { WritesOn one.old.has one.new.has }
     ensures two { WritesOn two.old.has two.new.has }
-    ensures three { PlaysOn shared.now three.old three.new }
+    ensures third { SitsOn shared.now third.old third.new }
 {
     let (are_written, are_lent) = join_mut(
         rt,
@@ -117,11 +109,41 @@ fn all_at_once<R: Threads + Wait + Sync>(
             ensures two { WritesOn two.entry.now.has two.exit.now.has }
         { both_write(rt, one, two) },
         &mut || -> bool
-            requires { Plays shared.now three.now }
-            ensures { PlaysOn shared.entry.now three.entry.now three.exit.now }
-        { borrows(rt, shared, three) },
+            requires { Sits shared.now third.now }
+            ensures { SitsOn shared.entry.now third.entry.now third.exit.now }
+        { borrows_alone(rt, alloc, shared, third) },
     );
     are_written && are_lent
+}
+
+/// Whether two libraries are lent their files, all goes well then, and both files are accepted.
+pub fn writers_go_well<R: Threads + Wait + Sync>(
+    rt: &R,
+    alloc: Global,
+    shared: &Shared,
+    first: &mut LibSeat,
+    second: &mut LibSeat,
+    third: &mut LibSeat,
+) -> bool
+    requires first { IsNew shared.now 1 first.old }
+    requires second { IsNew shared.now 2 second.old }
+    requires third { IsNew shared.now 3 third.old }
+    ensures first { IsBack shared.now 1 first.new }
+    ensures second { IsBack shared.now 2 second.new }
+    ensures third { IsBack shared.now 3 third.new }
+{
+    let mut one = empty_hands(alloc, first);
+    let mut two = empty_hands(alloc, second);
+    let is_one_lent = asks(rt, shared, first, &mut one, 3, GrantKind::Write) == Ok(0);
+    let is_two_lent = asks(rt, shared, second, &mut two, 4, GrantKind::Write) == Ok(0);
+    let is_done = all_at_once(rt, alloc, shared, &mut one, &mut two, third);
+    let one_told = hands_in(rt, shared, first, &mut one, 3);
+    let two_told = hands_in(rt, shared, second, &mut two, 4);
+    one.discard();
+    two.discard();
+    let is_one_accepted = one_told == Ok(ReleaseAnswer::Accepted);
+    let is_two_accepted = two_told == Ok(ReleaseAnswer::Accepted);
+    is_one_lent & is_two_lent & is_done & is_one_accepted & is_two_accepted
 }
 
 // Whether a file's bytes are the block that was written last.
@@ -132,28 +154,10 @@ fn has_last(nodes: &Nodes, ino: u32, first: u8) -> bool {
     }
 }
 
-// Whether all goes well, both writers are accepted, and the settled image has what each wrote last.
-fn is_so<R: Threads + Wait + Sync>(rt: &R, alloc: Global) -> Option<bool> {
-    let image = three_files(alloc)?;
-    let (shared, (first, second), (third, fourth)) = start_four(alloc, image, [ROOT; 4])?;
-    let mut one = seated(alloc, &shared, first);
-    let mut two = seated(alloc, &shared, second);
-    let mut three = seated(alloc, &shared, third);
-    let lent = [
-        asks(rt, &shared, &mut one, 3, GrantKind::Write),
-        asks(rt, &shared, &mut two, 4, GrantKind::Write),
-    ];
-    let is_done = all_at_once(rt, &shared, &mut one.raw, &mut two.raw, &mut three);
-    let told = [
-        hands_in(rt, &shared, &mut one, 3),
-        hands_in(rt, &shared, &mut two, 4),
-    ];
-    let pair = (leaves(one), leaves(two));
-    let mut ctl = close_four(alloc, shared, pair, (leaves(three), fourth))?;
-    let nodes = ctl.image().ok()?.nodes(alloc).ok()?;
-    let are_told = lent == [Ok(0); 2] && told == [Ok(ReleaseAnswer::Accepted); 2];
-    let are_written = has_last(&nodes, 3, b'a') && has_last(&nodes, 4, b'A');
-    Some(is_done && are_told && are_written)
+/// Whether the settled image has what each of the two wrote last.
+pub fn has_all_last(alloc: Global, ctl: &mut Ctl) -> Option<bool> {
+    let nodes = settled_nodes(alloc, ctl)?;
+    Some(has_last(&nodes, 3, b'a') && has_last(&nodes, 4, b'A'))
 }
 
 /// Two threads write the blocks of `/a/f` and `/a/g`, which their libraries are lent, while a third is
@@ -161,6 +165,6 @@ fn is_so<R: Threads + Wait + Sync>(rt: &R, alloc: Global) -> Option<bool> {
 /// settled image has what was written last.
 #[test]
 fn lent_blocks_are_written_at_once(rt: HostRuntime) -> Result<(), Fail> {
-    assert!(rt; is_so(&rt, rt.alloc()) == Some(true));
+    assert!(rt; goes_well(&rt, rt.alloc(), Scene::Writers) == Some(true));
     Ok(())
 }

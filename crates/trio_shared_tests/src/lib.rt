@@ -1,7 +1,5 @@
 //! Tests of the controller for many threads, and of scripts that are run on it, over what the crates make
 //! public.
-//!
-//! A [`Player`] is what the definitions of the tests speak of, so it is there without the tests too.
 #![tactic(auto)]
 
 #[cfg(test)]
@@ -10,7 +8,8 @@ mod at_once;
 mod images;
 #[cfg(test)]
 mod moves;
-mod player;
+#[cfg(test)]
+mod patient;
 #[cfg(test)]
 mod replays;
 #[cfg(test)]
@@ -18,10 +17,10 @@ mod rows;
 #[cfg(test)]
 mod runs;
 #[cfg(test)]
+mod scenes;
+#[cfg(test)]
 mod scripts;
 #[cfg(test)]
 mod seats;
 #[cfg(test)]
 mod threads;
-
-pub use player::Player;

@@ -5,10 +5,9 @@ ghost use Rattle.trio_desk.specs.Out.{WasGiven, parcel_of};
 ghost use Rattle.trio_shared.specs.Moves.{MayEnd};
 ghost use Rattle.trio_shared.specs.Seats.{IsSeatOf, out, seated};
 ghost use Rattle.trio_turn.specs.Seats.{library};
-ghost use Rattle.trio_shared_tests.specs.Sits.{Sits, SitsOn};
+ghost use Rattle.trio_shared_tests.specs.Sits.{IsBack, IsNew, Sits, SitsOn};
 
-use crate::rows::are_of;
-use crate::seats::{ROOT, close_two, start_two, two_files};
+use crate::scenes::{Scene, goes_well};
 use std::alloc::Global;
 use std::sync::Wait;
 use std::test::Fail;
@@ -88,6 +87,7 @@ fn ended<R: Wait>(
     requires seat { IsSeatOf shared.now seat.old }
     requires may { MayEnd (seated seat.old) pending }
     ensures sits { IfSome result (λ answer. Sits shared.now seat.new) }
+    ensures seat { IsSeatOf shared.now seat.new }
     ensures same { library seat.new ≡ library seat.old }
 {
     let judged = pending.weigh(&mut Reads::new());
@@ -109,22 +109,46 @@ fn is_lent<R: Wait>(rt: &R, shared: &Shared, seat: &mut LibSeat) -> bool
     }
 }
 
-// Whether library 2 is lent a file between the beginning and the end of a release of library 1, and the
-// release is accepted.
-fn is_between<R: Wait>(rt: &R, alloc: Global) -> Option<bool> {
-    let (shared, mut first, mut second) = start_two(alloc, two_files(alloc)?, [ROOT, ROOT])?;
-    let pending = begun(rt, alloc, &shared, &mut first)?;
-    let is_lent = is_lent(rt, &shared, &mut second);
-    let answer = ended(rt, &shared, &mut first, pending)?;
-    let ctl = close_two(alloc, shared, first, second)?;
-    let is_accepted = answer == ReleaseAnswer::Accepted;
-    Some(is_lent && is_accepted && are_of(ctl.log().entries(), &[1, 2, 1]))
+// Whether the library of the second seat is lent a file between the beginning and the end of a release
+// of that of the first, and the release is accepted.
+fn is_between<R: Wait>(
+    rt: &R,
+    alloc: Global,
+    shared: &Shared,
+    first: &mut LibSeat,
+    second: &mut LibSeat,
+) -> Option<bool>
+    requires first { Sits shared.now first.old }
+    requires second { Sits shared.now second.old }
+    ensures first { IsSeatOf shared.now first.new × (library first.new ≡ library first.old) }
+    ensures second { SitsOn shared.now second.old second.new }
+{
+    let pending = begun(rt, alloc, shared, first)?;
+    let is_lent = is_lent(rt, shared, second);
+    let answer = ended(rt, shared, first, pending)?;
+    Some(is_lent && answer == ReleaseAnswer::Accepted)
+}
+
+/// Whether a call of the second library comes between the two moves of a release of the first.
+pub fn moves_go_well<R: Wait>(
+    rt: &R,
+    alloc: Global,
+    shared: &Shared,
+    first: &mut LibSeat,
+    second: &mut LibSeat,
+) -> bool
+    requires first { IsNew shared.now 1 first.old }
+    requires second { IsNew shared.now 2 second.old }
+    ensures first { IsBack shared.now 1 first.new }
+    ensures second { IsBack shared.now 2 second.new }
+{
+    is_between(rt, alloc, shared, first, second) == Some(true)
 }
 
 /// Library 2 is lent `/a/g` for reading between the two moves of library 1's release of `/a/f`: the log has
 /// its entry between those of library 1.
 #[test]
 fn a_call_comes_between_the_moves(rt: HostRuntime) -> Result<(), Fail> {
-    assert!(rt; is_between(&rt, rt.alloc()) == Some(true));
+    assert!(rt; goes_well(&rt, rt.alloc(), Scene::TwoMoves) == Some(true));
     Ok(())
 }

@@ -1,21 +1,32 @@
 //! What the log of a controller replays to.
 
+use crate::images::two_directories;
 use std::alloc::Global;
 use trio_ctl::Ctl;
-use trio_image::Image;
 use trio_log::replay;
 use trio_nodes::{Node, Nodes};
 use trio_rights::Creds;
 
-/// Whether the log of the controller, replayed from the image that it began with by the tree of one
-/// thread, comes to the nodes of the settled image. The images have 64 inode numbers.
-pub fn is_replayed(alloc: Global, mut first: Image, libs: &[Creds], ctl: &mut Ctl) -> Option<bool> {
-    let first = first.nodes(alloc).ok()?;
-    let replayed = replay(alloc, first, libs, ctl.log()).ok()?;
-    let settled = ctl.image().ok()?.nodes(alloc).ok()?;
+/// Whether the log of a controller that began with two directories, replayed from their image by the tree
+/// of one thread, comes to the nodes of the settled image.
+pub fn is_replayed(alloc: Global, libs: &[Creds], ctl: &mut Ctl) -> Option<bool> {
+    let replayed = replay(alloc, first_nodes(alloc)?, libs, ctl.log()).ok()?;
+    let settled = settled_nodes(alloc, ctl)?;
     Some(are_same(&settled, &replayed))
 }
 
+fn first_nodes(alloc: Global) -> Option<Nodes> {
+    let mut image = two_directories(alloc)?;
+    image.nodes(alloc).ok()
+}
+
+/// The nodes of the settled image.
+pub fn settled_nodes(alloc: Global, ctl: &mut Ctl) -> Option<Nodes> {
+    let mut image = ctl.image().ok()?;
+    image.nodes(alloc).ok()
+}
+
+// Whether they are the same. The images have 64 inode numbers.
 fn are_same(a: &Nodes, b: &Nodes) -> bool {
     for ino in 0..64 {
         if !is_same_node(a.get(ino), b.get(ino)) {

@@ -2,167 +2,200 @@
 
 ghost use Rattle.std.specs.Prelude.{◌≡◌};
 ghost use mathlib.Core.List.{IsPrefix};
+ghost use Rattle.trio_shared.specs.Seats.{out};
 ghost use Rattle.trio_turn.specs.Seats.{seen};
-ghost use Rattle.trio_shared_tests.specs.Sits.{IsLeft, PlaysOn, Plays};
+ghost use Rattle.trio_shared_tests.specs.Sits.{IsBack, IsLeft, IsNew, Plays, PlaysOn, Sits, SitsOn};
 
-use crate::Player;
-use crate::seats::{ROOT, asks, close_two, hands_in, leaves, seated, start_two, two_files};
+use crate::scenes::{Scene, goes_well};
+use crate::seats::{asks, empty_hands, hands_in};
 use std::alloc::Global;
 use std::sync::Wait;
 use std::test::Fail;
 use trio_nodes::{Entry, GrantFault, GrantKind, Holder, ReleaseAnswer};
-use trio_raw::RawFault;
+use trio_raw::{Raw, RawFault};
 use trio_rights::LibNo;
-use trio_shared::Shared;
+use trio_shared::{LibSeat, Shared};
 
-/// What one of two libraries does with the file 3.
-#[derive(Clone, Copy)]
-enum Deed {
+/// What one of two libraries does with the file 3, and what it is told.
+pub enum Deed {
     /// It asks for it for writing.
-    Asks,
+    Asks(Result<u32, GrantFault>),
     /// It hands it in.
-    HandsIn,
+    HandsIn(Result<ReleaseAnswer, RawFault>),
     /// The other looks at all that there is, and it sees what the other has seen.
     Meets,
 }
 
-/// What it is told.
-#[derive(Clone, Copy, PartialEq)]
-enum Told {
-    Asked(Result<u32, GrantFault>),
-    HandedIn(Result<ReleaseAnswer, RawFault>),
-    Met,
+/// Whether the first of the two does it, what it does, and the libraries of the entries that there are
+/// then.
+pub type Step = (bool, Deed, &'static [u32]);
+
+/// Busy, by the write grant of library 1, whose entry is the first.
+const BUSY: GrantFault = GrantFault::Busy(Holder {
+    lib: LibNo(1),
+    kind: GrantKind::Write,
+    entry: 0,
+});
+
+const STEPS: [Step; 6] = [
+    (true, Deed::Asks(Ok(0)), &[1]),
+    (false, Deed::Asks(Err(BUSY)), &[1]),
+    (true, Deed::HandsIn(Ok(ReleaseAnswer::Accepted)), &[1, 1]),
+    (false, Deed::Asks(Ok(0)), &[1, 1, 2]),
+    (true, Deed::Meets, &[1, 1, 2]),
+    (
+        false,
+        Deed::HandsIn(Ok(ReleaseAnswer::Accepted)),
+        &[1, 1, 2, 2],
+    ),
+];
+
+// A library sees all that there is.
+fn looks<R: Wait>(rt: &R, shared: &Shared, seat: &mut LibSeat)
+    requires { Sits shared.now seat.old }
+    ensures on { SitsOn shared.now seat.old seat.new }
+    ensures out { out seat.new ≡ out seat.old }
+    ensures left { IsLeft seat.new }
+{
+    let _room = shared.make_room(rt, seat, 0, 0);
 }
 
-// The first of two libraries does so.
-fn does<R: Wait>(rt: &R, shared: &Shared, one: &mut Player, other: &mut Player, deed: Deed) -> Told
-    requires one { Plays shared.now one.old }
-    requires other { Plays shared.now other.old }
-    ensures one { PlaysOn shared.now one.old one.new }
-    ensures other { PlaysOn shared.now other.old other.new }
+// A library sees what another has seen, which has just looked.
+fn meets(shared: &Shared, one: &mut LibSeat, other: &mut LibSeat)
+    requires one { Sits shared.now one.old }
+    requires other { Sits shared.now other.old }
+    requires left { IsLeft other.old }
+    ensures one { SitsOn shared.now one.old one.new }
+    ensures out { out one.new ≡ out one.old }
+    ensures other { SitsOn shared.now other.old other.new }
+    ensures others_out { out other.new ≡ out other.old }
+    ensures saw { IsPrefix (seen other.old) (seen one.new) }
+    ensures stays { seen other.new ≡ seen other.old }
+{
+    shared.meet(one, other);
+}
+
+// The other looks, and the first of the two meets it.
+fn looks_and_meets<R: Wait>(rt: &R, shared: &Shared, one: &mut LibSeat, other: &mut LibSeat)
+    requires one { Sits shared.now one.old }
+    requires other { Sits shared.now other.old }
+    ensures one { SitsOn shared.now one.old one.new }
+    ensures out { out one.new ≡ out one.old }
+    ensures other { SitsOn shared.now other.old other.new }
+    ensures others_out { out other.new ≡ out other.old }
+{
+    looks(rt, shared, other);
+    meets(shared, one, other);
+}
+
+// The one of two libraries whose turn it is does so, and is told so.
+#[tactic(auto, using(crate::proofs::Sitting::plays_still))]
+fn is_told<R: Wait>(
+    rt: &R,
+    shared: &Shared,
+    seat: &mut LibSeat,
+    raw: &mut Raw,
+    other: &mut LibSeat,
+    deed: &Deed,
+) -> bool
+    requires one { Plays shared.now seat.old raw.old.has }
+    requires other { Sits shared.now other.old }
+    ensures one { PlaysOn shared.now seat.old seat.new raw.new.has }
+    ensures other { SitsOn shared.now other.old other.new }
+    ensures out { out other.new ≡ out other.old }
 {
     match deed {
-        Deed::Asks => Told::Asked(asks(rt, shared, one, 3, GrantKind::Write)),
-        Deed::HandsIn => Told::HandedIn(hands_in(rt, shared, one, 3)),
+        Deed::Asks(told) => asks(rt, shared, seat, raw, 3, GrantKind::Write) == *told,
+        Deed::HandsIn(told) => hands_in(rt, shared, seat, raw, 3) == *told,
         Deed::Meets => {
-            looks(rt, shared, other);
-            meets(shared, one, other);
-            Told::Met
+            looks_and_meets(rt, shared, seat, other);
+            true
         }
     }
 }
 
-// So does the one of the two whose turn it is.
-fn takes<R: Wait>(
+// Whether a step is told so.
+#[tactic(auto, using(crate::proofs::Sitting::plays_still))]
+fn step_is_told<R: Wait>(
     rt: &R,
     shared: &Shared,
-    one: &mut Player,
-    two: &mut Player,
-    is_first: bool,
-    deed: Deed,
-) -> Told
-    requires one { Plays shared.now one.old }
-    requires two { Plays shared.now two.old }
-    ensures one { PlaysOn shared.now one.old one.new }
-    ensures two { PlaysOn shared.now two.old two.new }
+    one: &mut LibSeat,
+    ones: &mut Raw,
+    two: &mut LibSeat,
+    twos: &mut Raw,
+    step: &Step,
+) -> bool
+    requires one { Plays shared.now one.old ones.old.has }
+    requires two { Plays shared.now two.old twos.old.has }
+    ensures one { PlaysOn shared.now one.old one.new ones.new.has }
+    ensures two { PlaysOn shared.now two.old two.new twos.new.has }
 {
-    if is_first {
-        does(rt, shared, one, two, deed)
+    let (is_first, deed, _) = step;
+    if *is_first {
+        is_told(rt, shared, one, ones, two, deed)
     } else {
-        does(rt, shared, two, one, deed)
+        is_told(rt, shared, two, twos, one, deed)
     }
 }
-
-// A library sees all that there is.
-fn looks<R: Wait>(rt: &R, shared: &Shared, player: &mut Player)
-    requires { Plays shared.now player.old }
-    ensures on { PlaysOn shared.now player.old player.new }
-    ensures left { IsLeft player.new.seat }
-{
-    let _room = shared.make_room(rt, &mut player.seat, 0, 0);
-}
-
-// A library sees what another has seen, which has just looked.
-fn meets(shared: &Shared, one: &mut Player, other: &mut Player)
-    requires one { Plays shared.now one.old }
-    requires other { Plays shared.now other.old }
-    requires left { IsLeft other.old.seat }
-    ensures one { PlaysOn shared.now one.old one.new }
-    ensures other { PlaysOn shared.now other.old other.new }
-    ensures saw { IsPrefix (seen other.old.seat) (seen one.new.seat) }
-    ensures stays { seen other.new.seat ≡ seen other.old.seat }
-{
-    shared.meet(&mut one.seat, &mut other.seat);
-}
-
-/// Busy, by the write grant of library 1, whose entry is the first.
-const BUSY: Told = Told::Asked(Err(GrantFault::Busy(Holder {
-    lib: LibNo(1),
-    kind: GrantKind::Write,
-    entry: 0,
-})));
-
-/// Whether the first of the two does it, what it does, what it is told, and the libraries of the entries
-/// that there are then.
-type Step = (bool, Deed, Told, &'static [u32]);
-
-const STEPS: [Step; 6] = [
-    (true, Deed::Asks, Told::Asked(Ok(0)), &[1]),
-    (false, Deed::Asks, BUSY, &[1]),
-    (
-        true,
-        Deed::HandsIn,
-        Told::HandedIn(Ok(ReleaseAnswer::Accepted)),
-        &[1, 1],
-    ),
-    (false, Deed::Asks, Told::Asked(Ok(0)), &[1, 1, 2]),
-    (true, Deed::Meets, Told::Met, &[1, 1, 2]),
-    (
-        false,
-        Deed::HandsIn,
-        Told::HandedIn(Ok(ReleaseAnswer::Accepted)),
-        &[1, 1, 2, 2],
-    ),
-];
 
 // Whether each of these steps is told so.
 fn are_told<R: Wait>(
     rt: &R,
     shared: &Shared,
-    one: &mut Player,
-    two: &mut Player,
+    one: &mut LibSeat,
+    ones: &mut Raw,
+    two: &mut LibSeat,
+    twos: &mut Raw,
     steps: &[Step],
 ) -> bool
-    requires one { Plays shared.now one.old }
-    requires two { Plays shared.now two.old }
-    ensures one { PlaysOn shared.now one.old one.new }
-    ensures two { PlaysOn shared.now two.old two.new }
+    requires one { Plays shared.now one.old ones.old.has }
+    requires two { Plays shared.now two.old twos.old.has }
+    ensures one { PlaysOn shared.now one.old one.new ones.new.has }
+    ensures two { PlaysOn shared.now two.old two.new twos.new.has }
 {
     let mut are_told = true;
-    for (is_first, deed, wanted, _) in steps {
-        let told = takes(rt, shared, one, two, *is_first, *deed);
-        are_told = are_told && told == *wanted;
+    for step in steps {
+        are_told &= step_is_told(rt, shared, one, ones, two, twos, step);
     }
     are_told
 }
 
-/// Whether these are the libraries of the entries of grants and of releases, in their order.
-pub fn are_of(entries: &[Entry], libs: &[u32]) -> bool {
-    let is_of = |(entry, lib): (&Entry, &u32)| match entry {
-        Entry::Grant { lib: of, .. } | Entry::Raw { lib: of, .. } => of.0 == *lib,
-        _ => false,
-    };
-    entries.len() == libs.len() && entries.iter().zip(libs).all(is_of)
+/// Whether the steps of two libraries are told so.
+pub fn steps_go_well<R: Wait>(
+    rt: &R,
+    alloc: Global,
+    shared: &Shared,
+    one: &mut LibSeat,
+    two: &mut LibSeat,
+    steps: &[Step],
+) -> bool
+    requires one { IsNew shared.now 1 one.old }
+    requires two { IsNew shared.now 2 two.old }
+    ensures one { IsBack shared.now 1 one.new }
+    ensures two { IsBack shared.now 2 two.new }
+{
+    let mut ones = empty_hands(alloc, one);
+    let mut twos = empty_hands(alloc, two);
+    let are_told = are_told(rt, shared, one, &mut ones, two, &mut twos, steps);
+    ones.discard();
+    twos.discard();
+    are_told
 }
 
-// Whether the steps are told so, and the log of the closed controller has just these libraries' entries.
-fn is_so<R: Wait>(rt: &R, alloc: Global, steps: &[Step], libs: &[u32]) -> Option<bool> {
-    let (shared, first, second) = start_two(alloc, two_files(alloc)?, [ROOT, ROOT])?;
-    let mut one = seated(alloc, &shared, first);
-    let mut two = seated(alloc, &shared, second);
-    let are_told = are_told(rt, &shared, &mut one, &mut two, steps);
-    let ctl = close_two(alloc, shared, leaves(one), leaves(two))?;
-    Some(are_told && are_of(ctl.log().entries(), libs))
+fn is_of(entry: &Entry, lib: u32) -> bool {
+    match entry {
+        Entry::Grant { lib: of, .. } | Entry::Raw { lib: of, .. } => of.0 == lib,
+        _ => false,
+    }
+}
+
+/// Whether these are the libraries of the entries of grants and of releases, in their order.
+pub fn are_of(entries: &[Entry], libs: &[u32]) -> bool {
+    let mut are_of = entries.len() == libs.len();
+    for (entry, lib) in entries.iter().zip(libs) {
+        are_of &= is_of(entry, *lib);
+    }
+    are_of
 }
 
 /// The steps are played up to each of them in turn, and then the controller is closed: what is told and
@@ -173,8 +206,9 @@ fn is_so<R: Wait>(rt: &R, alloc: Global, steps: &[Step], libs: &[u32]) -> Option
 /// has seen these three.
 #[test]
 fn calls_one_after_the_other(rt: HostRuntime) -> Result<(), Fail> {
-    for (k, (_, _, _, libs)) in STEPS.iter().enumerate() {
-        let is_so = is_so(&rt, rt.alloc(), &STEPS[..k + 1], libs).ok_or("memory")?;
+    for (k, (_, _, libs)) in STEPS.iter().enumerate() {
+        let scene = Scene::Steps(&STEPS[..k + 1], libs);
+        let is_so = goes_well(&rt, rt.alloc(), scene).ok_or("memory")?;
         assert!(rt; is_so, "step {k}");
     }
     Ok(())

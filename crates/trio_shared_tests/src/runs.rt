@@ -1,38 +1,43 @@
-//! Scripts, played in rounds and run with a thread for each library: what each library is told, and the
-//! image that is settled then.
+//! Scripts, played in rounds and run with a thread for each library: what each library is told, and what
+//! is settled then.
 
 ghost use Rattle.std.specs.Prelude.{◌≤◌, length};
 ghost use Rattle.trio_script.specs.Within.{AreWithin};
 
-use crate::images::{image_of, owned_files};
+use crate::images::{owned_bytes, owned_files, two_directories};
+use crate::patient::PatientGate;
+use crate::replays::is_replayed;
 use std::alloc::Global;
 use std::sync::Wait;
 use std::test::Fail;
 use std::thread::Threads;
 use trio_ctl::Ctl;
 use trio_image::Image;
-use trio_io::{Gate, GateStop, HoldGate, OpenGate};
+use trio_io::{Gate, GateStop, OpenGate};
 use trio_report::{put_answer, put_end};
 use trio_rights::LibNo;
 use trio_runner::{LibTold, creds_of, play, run};
 use trio_script::{ScriptLib, read_script};
 
-/// How often a library looks that is held.
-const LOOKS: u64 = 1_000_000;
+/// A script, and what it comes to.
+pub struct Case {
+    pub name: &'static str,
+    pub script: &'static [u8],
+    pub end: End,
+}
 
-/// How often a script is run, at most, until one who is held sees the other arrive: a thread that is
-/// slow to start may come too late for all looks of a run.
-const RUNS: u32 = 20;
-
-/// A script that begins with `hello` in the file `f`.
-struct Case {
-    name: &'static str,
-    script: &'static [u8],
-    /// What its libraries are told, one after another: the answers to each one's lines, counted from 1, and
-    /// to its end.
-    told: &'static [u8],
-    /// What `f` has then. Nothing else in the image has changed.
-    left: &'static [u8],
+/// What a script comes to.
+pub enum End {
+    /// It begins with `hello` in the file `f` of two owned files.
+    Told {
+        /// What its libraries are told, one after another: the answers to each one's lines, counted from
+        /// 1, and to its end.
+        told: &'static [u8],
+        /// What `f` has then. Nothing else in the image has changed.
+        left: &'static [u8],
+    },
+    /// It begins with two directories, and its log replays to the image that is settled then.
+    Replays,
 }
 
 /// Lines of a library that may not write into the root.
@@ -42,10 +47,12 @@ const ALONE: &Case = &Case {
 grant write 1\npoke block 2 0 1 75\npoke block 2 1 0 75\npoke body 9 0 00\nrelease 9 - -\n\
 release 2 - -\npoke block 2 0 0 75\ngrant hold 2\ngrant read 2\nback 2\nback 2\nmode 1 700\n\
 mode 2 1000\nmode 2 644\n",
-    told: b"1 granted\n2 busy\n3 busy\n4 notlive\n5 denied 1\n6 poked\n7 absent\n8 absent\n\
+    end: End::Told {
+        told: b"1 granted\n2 busy\n3 busy\n4 notlive\n5 denied 1\n6 poked\n7 absent\n8 absent\n\
 9 absent\n10 accepted\n11 absent\n12 noparent\n13 granted\n14 ok\n15 absent\n16 notowner\n\
 17 badmode\n18 ok\nend nothing\n",
-    left: b"hullo",
+        left: b"hullo",
+    },
 };
 
 /// Two libraries that want the same file.
@@ -58,8 +65,10 @@ lib 2 raw 0 0\ngrant write 2\ngrant write 2\npoke block 2 0 1 75\n";
 const IN_TURN: &Case = &Case {
     name: "in turn",
     script: TURNS,
-    told: b"1 granted\n2 accepted\nend nothing\n1 busy\n2 granted\n3 poked\nend accepted\n",
-    left: b"hullo",
+    end: End::Told {
+        told: b"1 granted\n2 accepted\nend nothing\n1 busy\n2 granted\n3 poked\nend accepted\n",
+        left: b"hullo",
+    },
 };
 
 /// On threads, where the second is held before its first line until the first has come to its end, it has
@@ -67,8 +76,10 @@ const IN_TURN: &Case = &Case {
 const IN_WAIT: &Case = &Case {
     name: "in wait",
     script: TURNS,
-    told: b"1 granted\n2 accepted\nend nothing\n1 granted\n2 busy\n3 poked\nend accepted\n",
-    left: b"hullo",
+    end: End::Told {
+        told: b"1 granted\n2 accepted\nend nothing\n1 granted\n2 busy\n3 poked\nend accepted\n",
+        left: b"hullo",
+    },
 };
 
 /// Two libraries that each want a file of their own.
@@ -76,47 +87,21 @@ const APART: &Case = &Case {
     name: "apart",
     script: b"lib 1 raw 5 5\ngrant write 2\nrelease 2 - -\n\
 lib 2 raw 5 5\ngrant write 3\nrelease 3 - -\n",
-    told: b"1 granted\n2 accepted\nend nothing\n1 granted\n2 accepted\nend nothing\n",
-    left: b"hello",
+    end: End::Told {
+        told: b"1 granted\n2 accepted\nend nothing\n1 granted\n2 accepted\nend nothing\n",
+        left: b"hello",
+    },
 };
 
 /// An honest library: its calls go through a session, and its end settles none.
 const HONEST: &Case = &Case {
     name: "honest",
     script: b"lib 1 honest 5 5\nwrite /f 1 u\nread /f 0 5\nsettle\n",
-    told: b"1 ok 1\n2 ok 5 hullo\n3 settled 2\nend settled 0\n",
-    left: b"hullo",
+    end: End::Told {
+        told: b"1 ok 1\n2 ok 5 hullo\n3 settled 2\nend settled 0\n",
+        left: b"hullo",
+    },
 };
-
-// The controller after a script was played in rounds on an image, and what its libraries were told.
-fn played(alloc: Global, image: Image, libs: &[ScriptLib]) -> Option<(Ctl, Vec<LibTold>)>
-    requires some { 1 ≤ length libs.now }
-    requires few { length libs.now ≤ 16 }
-    requires within { AreWithin libs.now }
-{
-    let creds = creds_of(alloc, libs).ok()?;
-    let mut ctl = Ctl::start(alloc, image, creds).ok()?;
-    let tolds = play(alloc, &mut ctl, libs).ok()?;
-    Some((ctl, tolds))
-}
-
-/// The controller after a script was run on an image, with a thread for each library, and what its
-/// libraries were told.
-pub fn ran<R: Threads + Wait + Sync, G: Gate + Sync>(
-    rt: &R,
-    alloc: Global,
-    image: Image,
-    libs: &[ScriptLib],
-    gate: &G,
-) -> Option<(Ctl, Vec<LibTold>)>
-    requires some { 1 ≤ length libs.now }
-    requires few { length libs.now ≤ 16 }
-    requires within { AreWithin libs.now }
-{
-    let creds = creds_of(alloc, libs).ok()?;
-    let ctl = Ctl::start(alloc, image, creds).ok()?;
-    run(rt, alloc, ctl, libs, gate).ok()
-}
 
 fn put_told(alloc: Global, text: &mut Vec<u8>, told: &LibTold) -> Option<()> {
     let mut number: u32 = 0;
@@ -144,45 +129,97 @@ fn settled_bytes(alloc: Global, ctl: &mut Ctl) -> Option<Vec<u8>> {
 // Whether the settled image is that at the beginning, but for what `f` has.
 fn is_left(alloc: Global, ctl: &mut Ctl, left: &[u8]) -> Option<bool> {
     let settled = settled_bytes(alloc, ctl)?;
-    let wanted = owned_files(alloc, left)?;
+    let wanted = owned_bytes(alloc, left)?;
     Some(settled == wanted)
 }
 
-// Whether a controller and the libraries come to what the case says.
-fn has_ended(alloc: Global, ctl: &mut Ctl, tolds: &[LibTold], case: &Case) -> Option<bool> {
-    let are_told = are_told(alloc, tolds, case.told)?;
-    let is_left = is_left(alloc, ctl, case.left)?;
-    Some(are_told && is_left)
+// Whether a controller began with two directories and its log replays to the settled image.
+fn replays(alloc: Global, ctl: &mut Ctl, libs: &[ScriptLib]) -> Option<bool> {
+    let creds = creds_of(alloc, libs).ok()?;
+    is_replayed(alloc, &creds, ctl)
 }
 
-fn first_image(alloc: Global) -> Option<Image> {
-    image_of(alloc, owned_files(alloc, b"hello")?)
+// Whether a controller and its libraries come to this end.
+fn has_ended(
+    alloc: Global,
+    ctl: &mut Ctl,
+    libs: &[ScriptLib],
+    tolds: &[LibTold],
+    end: &End,
+) -> Option<bool> {
+    match end {
+        End::Told { told, left } => {
+            Some(are_told(alloc, tolds, told)? && is_left(alloc, ctl, left)?)
+        }
+        End::Replays => replays(alloc, ctl, libs),
+    }
 }
 
-// Whether a script comes to it in rounds.
-fn is_played_so(alloc: Global, case: &Case) -> Option<bool> {
-    let Ok(libs) = read_script(alloc, case.script) else {
+fn first_image(alloc: Global, end: &End) -> Option<Image> {
+    match end {
+        End::Told { .. } => owned_files(alloc),
+        End::Replays => two_directories(alloc),
+    }
+}
+
+// Whether libraries come to an end in rounds.
+fn play_so(alloc: Global, libs: &[ScriptLib], end: &End) -> Option<bool>
+    requires some { 1 ≤ length libs.now }
+    requires few { length libs.now ≤ 16 }
+    requires within { AreWithin libs.now }
+{
+    let creds = creds_of(alloc, libs).ok()?;
+    let image = first_image(alloc, end)?;
+    let Ok(mut ctl) = Ctl::start(alloc, image, creds) else {
         return None;
     };
-    let (mut ctl, tolds) = played(alloc, first_image(alloc)?, &libs)?;
-    has_ended(alloc, &mut ctl, &tolds, case)
+    let tolds = play(alloc, &mut ctl, libs).ok()?;
+    has_ended(alloc, &mut ctl, libs, &tolds, end)
 }
 
-// Whether it does on threads.
-fn is_run_so<R: Threads + Wait + Sync, G: Gate + Sync>(
+// Whether they do with a thread for each.
+fn run_so<R: Threads + Wait + Sync, G: Gate + Sync>(
+    rt: &R,
+    alloc: Global,
+    libs: &[ScriptLib],
+    end: &End,
+    gate: &G,
+) -> Option<bool>
+    requires some { 1 ≤ length libs.now }
+    requires few { length libs.now ≤ 16 }
+    requires within { AreWithin libs.now }
+{
+    let creds = creds_of(alloc, libs).ok()?;
+    let image = first_image(alloc, end)?;
+    let Ok(ctl) = Ctl::start(alloc, image, creds) else {
+        return None;
+    };
+    let (mut ctl, tolds) = run(rt, alloc, ctl, libs, gate).ok()?;
+    has_ended(alloc, &mut ctl, libs, &tolds, end)
+}
+
+// Whether a script comes to its end in rounds.
+fn is_played_so(alloc: Global, case: &Case) -> Option<bool> {
+    match read_script(alloc, case.script) {
+        Ok(libs) => play_so(alloc, &libs, &case.end),
+        Err(_) => None,
+    }
+}
+
+/// Whether a script comes to its end on threads.
+pub fn is_run_so<R: Threads + Wait + Sync, G: Gate + Sync>(
     rt: &R,
     alloc: Global,
     case: &Case,
     gate: &G,
 ) -> Option<bool> {
-    let Ok(libs) = read_script(alloc, case.script) else {
-        return None;
-    };
-    let (mut ctl, tolds) = ran(rt, alloc, first_image(alloc)?, &libs, gate)?;
-    has_ended(alloc, &mut ctl, &tolds, case)
+    match read_script(alloc, case.script) {
+        Ok(libs) => run_so(rt, alloc, &libs, &case.end, gate),
+        Err(_) => None,
+    }
 }
 
-// Whether it does where one who is held at a stop sees the other arrive at its own.
+// Whether it does, and one who is held at a stop sees the other arrive at its own.
 fn is_held_so<R: Threads + Wait + Sync>(
     rt: &R,
     alloc: Global,
@@ -190,14 +227,9 @@ fn is_held_so<R: Threads + Wait + Sync>(
     held: GateStop,
     awaited: GateStop,
 ) -> Option<bool> {
-    for _run in 0..RUNS {
-        let gate = HoldGate::new(held, awaited, LOOKS);
-        let is_so = is_run_so(rt, alloc, case, &gate)?;
-        if gate.has_met() {
-            return Some(is_so);
-        }
-    }
-    None
+    let gate = PatientGate::new(held, awaited);
+    let is_so = is_run_so(rt, alloc, case, &gate)?;
+    Some(is_so && gate.has_met())
 }
 
 fn stop(lib: u32, line: u32) -> GateStop {

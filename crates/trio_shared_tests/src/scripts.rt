@@ -1,31 +1,30 @@
 //! Scripts whose libraries ask for what others have, run with a thread for each library, and what their
 //! logs replay to.
 
-use crate::replays::is_replayed;
-use crate::seats::two_directories;
-use std::alloc::Global;
-use std::sync::Wait;
-use std::thread::Threads;
-use trio_ctl::Ctl;
+use crate::runs::{Case, End, is_run_so};
 use trio_io::OpenGate;
-use trio_runner::{creds_of, run};
-use trio_script::read_script;
 
 /// How often each script is run.
 const RUNS: u32 = 50;
 
 /// Two libraries that write one file again and again.
-const ONE_FILE: &[u8] = b"lib 1 raw 0 0\n\
+const ONE_FILE: &Case = &Case {
+    name: "one file",
+    script: b"lib 1 raw 0 0\n\
 grant write 3\npoke block 3 0 0 41\nrelease 3 - -\n\
 grant write 3\npoke block 3 0 0 42\nrelease 3 - -\n\
 grant write 3\npoke block 3 0 0 43\nrelease 3 - -\n\
 grant write 3\npoke block 3 0 0 44\n\
 lib 2 honest 0 0\n\
 write /a/f 0 one\nsettle\nwrite /a/f 0 two\nsettle\n\
-write /a/f 0 three\nsettle\nwrite /a/f 0 four\nread /a/f 0 9\n";
+write /a/f 0 three\nsettle\nwrite /a/f 0 four\nread /a/f 0 9\n",
+    end: End::Replays,
+};
 
 /// Four libraries that make, move and remove files in the same directories.
-const TWO_DIRECTORIES: &[u8] = b"lib 1 honest 0 0\n\
+const TWO_DIRECTORIES: &Case = &Case {
+    name: "two directories",
+    script: b"lib 1 honest 0 0\n\
 create /a/n 644\nwrite /a/n 0 note\nrename /a/n /b/n\nsettle\n\
 write /a/f 0 first\nunlink /b/n\nlist /a 0\n\
 lib 2 honest 0 0\n\
@@ -36,11 +35,15 @@ write /b/h 0 third\nsettle\nrename /b /a/b\nwrite /a/f 0 word\nstat /b/h\n\
 unlink /a/b/h\n\
 lib 4 honest 0 0\n\
 create /b/m 600\ntruncate /a/f 2\nsettle\nrename /a/f /b/f\nread /b/f 0 20\n\
-unlink /a/g\n";
+unlink /a/g\n",
+    end: End::Replays,
+};
 
 /// Two of them beside two hostile ones: one takes a file out of its directory, the other spoils the size
 /// of the directory, and what it hands in is refused.
-const WITH_HOSTILE: &[u8] = b"lib 1 honest 0 0\n\
+const WITH_HOSTILE: &Case = &Case {
+    name: "with hostile",
+    script: b"lib 1 honest 0 0\n\
 create /a/n 644\nwrite /a/n 0 note\nrename /a/n /b/n\nsettle\n\
 write /a/f 0 first\nunlink /b/n\n\
 lib 2 honest 0 0\n\
@@ -51,30 +54,22 @@ allot 2 1\ngrant write 2\nmode 4 600\n\
 lib 4 raw 0 0\n\
 grant write 2\npoke body 2 16 ffff\nrelease 2 - -\n\
 grant write 5\npoke block 5 0 8 ff\nrelease 5 - -\n\
-grant read 6\n";
+grant read 6\n",
+    end: End::Replays,
+};
 
-const SCRIPTS: [&[u8]; 3] = [ONE_FILE, TWO_DIRECTORIES, WITH_HOSTILE];
-
-// Whether the log of a script's run replays to the image that is settled then.
-fn replays<R: Threads + Wait + Sync>(rt: &R, alloc: Global, script: &[u8]) -> Option<bool> {
-    let Ok(libs) = read_script(alloc, script) else {
-        return None;
-    };
-    let creds = creds_of(alloc, &libs).ok()?;
-    let Ok(ctl) = Ctl::start(alloc, two_directories(alloc)?, creds) else {
-        return None;
-    };
-    let (mut ctl, _tolds) = run(rt, alloc, ctl, &libs, &OpenGate).ok()?;
-    let creds = creds_of(alloc, &libs).ok()?;
-    is_replayed(alloc, two_directories(alloc)?, &creds, &mut ctl)
-}
+const CASES: [&Case; 3] = [ONE_FILE, TWO_DIRECTORIES, WITH_HOSTILE];
 
 /// However the calls of the libraries fall, the log of each run is that of the image at its end.
 #[test]
 fn the_log_of_each_run_replays(rt: HostRuntime) {
-    for script in SCRIPTS {
+    for case in CASES {
+        let name = case.name;
         for n in 0..RUNS {
-            assert!(rt; replays(&rt, rt.alloc(), script) == Some(true), "run {n}");
+            assert!(rt;
+                is_run_so(&rt, rt.alloc(), case, &OpenGate) == Some(true),
+                "{name}, run {n}"
+            );
         }
     }
 }

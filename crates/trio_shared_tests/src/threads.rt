@@ -1,21 +1,16 @@
 //! Four libraries in threads of their own, two hostile and two honest, and what their log replays to.
 
-ghost use Rattle.std.specs.Prelude.{◌≡◌, ◌<◌, length};
-ghost use Rattle.std.specs.Thread.{IsSync};
-ghost use Rattle.trio_shared_tests.specs.Sits.{Plays, PlaysOn, Sits, SitsOn, WritesOn};
+ghost use Rattle.std.specs.Prelude.{◌<◌, ◌+◌};
+ghost use Rattle.trio_shared_tests.specs.Sits.{AreAll, IsBack, IsNew, Plays, PlaysOn, WritesOn};
 
-use crate::Player;
-use crate::replays::is_replayed;
-use crate::seats::{
-    ROOT, allots, asks, changes_mode, close_four, gives_back, hands_in, leaves, releases, seated,
-    start_four, two_directories,
-};
+use crate::scenes::{Scene, outcome};
+use crate::seats::{allots, asks, changes_mode, empty_hands, gives_back, hands_in, releases};
 use std::alloc::Global;
 use std::sync::Wait;
+use std::sync::atomic::{AtomicBool, Ordering};
 use std::test::Fail;
-use std::thread::{self, Threads};
-use trio_ctl::Ctl;
-use trio_nodes::{AllotAnswer, Entry, GrantKind, ReleaseAnswer, Spot};
+use std::thread::{Threads, for_each_mut};
+use trio_nodes::{AllotAnswer, GrantKind, ReleaseAnswer, Spot};
 use trio_raw::Raw;
 use trio_shared::{LibSeat, Shared};
 
@@ -56,9 +51,9 @@ impl Random {
 
 // ---- hostile libraries
 
-/// A library that keeps to nothing, with the numbers of what it may hand in.
+/// The numbers of what a library that keeps to nothing may hand in, and what it does next.
+#[derive(Drop)]
 struct Rogue {
-    player: Player,
     files: Vec<u32>,
     pages: Vec<u32>,
     numbers: Vec<u32>,
@@ -66,28 +61,34 @@ struct Rogue {
 }
 
 // It asks for a file that it may hand in.
-fn takes<R: Wait>(rt: &R, shared: &Shared, rogue: &mut Rogue)
-    requires { Plays shared.now rogue.old.player }
-    ensures { PlaysOn shared.now rogue.old.player rogue.new.player }
+fn takes<R: Wait>(rt: &R, shared: &Shared, seat: &mut LibSeat, raw: &mut Raw, rogue: &mut Rogue)
+    requires { Plays shared.now seat.old raw.old.has }
+    ensures { PlaysOn shared.now seat.old seat.new raw.new.has }
 {
     let ino = rogue.random.below(10);
     let kind = match rogue.random.below(3) {
         0 => GrantKind::Hold,
         _ => GrantKind::Write,
     };
-    if asks(rt, shared, &mut rogue.player, ino, kind).is_ok() {
+    if asks(rt, shared, seat, raw, ino, kind).is_ok() {
         let _pushed = rogue.files.push(ino);
     }
 }
 
 // It asks for pages and inode numbers.
-fn is_allotted<R: Wait>(rt: &R, shared: &Shared, rogue: &mut Rogue)
-    requires { Plays shared.now rogue.old.player }
-    ensures { PlaysOn shared.now rogue.old.player rogue.new.player }
+fn is_allotted<R: Wait>(
+    rt: &R,
+    shared: &Shared,
+    seat: &mut LibSeat,
+    raw: &mut Raw,
+    rogue: &mut Rogue,
+)
+    requires { Plays shared.now seat.old raw.old.has }
+    ensures { PlaysOn shared.now seat.old seat.new raw.new.has }
 {
     let count = rogue.random.below(3);
     let wanted = rogue.random.below(2);
-    let answer = allots(rt, shared, &mut rogue.player, count, wanted);
+    let answer = allots(rt, shared, seat, raw, count, wanted);
     if let Ok(AllotAnswer::Given { pages, inodes }) = answer {
         notes(&mut rogue.pages, pages.as_slice());
         notes(&mut rogue.numbers, inodes.as_slice());
@@ -101,13 +102,13 @@ fn notes(all: &mut Vec<u32>, more: &[u32]) {
 }
 
 // It asks for another mode of a file.
-fn turns<R: Wait>(rt: &R, shared: &Shared, rogue: &mut Rogue)
-    requires { Plays shared.now rogue.old.player }
-    ensures { PlaysOn shared.now rogue.old.player rogue.new.player }
+fn turns<R: Wait>(rt: &R, shared: &Shared, seat: &mut LibSeat, raw: &mut Raw, rogue: &mut Rogue)
+    requires { Plays shared.now seat.old raw.old.has }
+    ensures { PlaysOn shared.now seat.old seat.new raw.new.has }
 {
     let ino = rogue.random.below(10);
     let mode = rogue.random.below(600) as u16;
-    let _answer = changes_mode(rt, shared, &mut rogue.player, ino, mode);
+    let _answer = changes_mode(rt, shared, seat, raw, ino, mode);
 }
 
 // It writes a few bytes anywhere into what it has.
@@ -140,14 +141,21 @@ fn enters(raw: &mut Raw, random: &mut Random, files: &[u32], numbers: &[u32])
 }
 
 // It hands in all that it may.
-fn hands_all_in<R: Wait>(rt: &R, shared: &Shared, rogue: &mut Rogue)
-    requires { Plays shared.now rogue.old.player }
-    ensures { PlaysOn shared.now rogue.old.player rogue.new.player }
+fn hands_all_in<R: Wait>(
+    rt: &R,
+    shared: &Shared,
+    seat: &mut LibSeat,
+    raw: &mut Raw,
+    rogue: &mut Rogue,
+)
+    requires { Plays shared.now seat.old raw.old.has }
+    ensures { PlaysOn shared.now seat.old seat.new raw.new.has }
 {
     let answer = releases(
         rt,
         shared,
-        &mut rogue.player,
+        seat,
+        raw,
         &rogue.files,
         &rogue.pages,
         &rogue.numbers,
@@ -160,39 +168,43 @@ fn hands_all_in<R: Wait>(rt: &R, shared: &Shared, rogue: &mut Rogue)
 }
 
 // It hands in the last file that it was lent, and keeps the rest.
-fn hands_one_in<R: Wait>(rt: &R, shared: &Shared, rogue: &mut Rogue)
-    requires { Plays shared.now rogue.old.player }
-    ensures { PlaysOn shared.now rogue.old.player rogue.new.player }
+fn hands_one_in<R: Wait>(
+    rt: &R,
+    shared: &Shared,
+    seat: &mut LibSeat,
+    raw: &mut Raw,
+    rogue: &mut Rogue,
+)
+    requires { Plays shared.now seat.old raw.old.has }
+    ensures { PlaysOn shared.now seat.old seat.new raw.new.has }
 {
     let Some(ino) = rogue.files.pop() else {
         return;
     };
-    if hands_in(rt, shared, &mut rogue.player, ino).is_err() {
+    if hands_in(rt, shared, seat, raw, ino).is_err() {
         let _pushed = rogue.files.push(ino);
     }
 }
 
 // It does something.
-fn does<R: Wait>(rt: &R, shared: &Shared, rogue: &mut Rogue)
-    requires { Plays shared.now rogue.old.player }
-    ensures { PlaysOn shared.now rogue.old.player rogue.new.player }
+fn does<R: Wait>(rt: &R, shared: &Shared, seat: &mut LibSeat, raw: &mut Raw, rogue: &mut Rogue)
+    requires { Plays shared.now seat.old raw.old.has }
+    ensures { PlaysOn shared.now seat.old seat.new raw.new.has }
 {
     match rogue.random.below(16) {
-        0..=4 => takes(rt, shared, rogue),
-        5 => is_allotted(rt, shared, rogue),
-        6 => turns(rt, shared, rogue),
-        7..=9 => writes(shared, rogue),
-        10 => hands_one_in(rt, shared, rogue),
-        _ => hands_all_in(rt, shared, rogue),
+        0..=4 => takes(rt, shared, seat, raw, rogue),
+        5 => is_allotted(rt, shared, seat, raw, rogue),
+        6 => turns(rt, shared, seat, raw, rogue),
+        7..=9 => writes(raw, rogue),
+        10 => hands_one_in(rt, shared, seat, raw, rogue),
+        _ => hands_all_in(rt, shared, seat, raw, rogue),
     }
 }
 
 // It writes into what it has, and makes no call.
-fn writes(shared: &Shared, rogue: &mut Rogue)
-    requires { Plays shared.now rogue.old.player }
-    ensures { PlaysOn shared.now rogue.old.player rogue.new.player }
+fn writes(raw: &mut Raw, rogue: &mut Rogue)
+    ensures { WritesOn raw.old.has raw.new.has }
 {
-    let raw = &mut rogue.player.raw;
     match rogue.random.below(3) {
         0 => scribbles(raw, &mut rogue.random, &rogue.files, &rogue.pages),
         _ => enters(raw, &mut rogue.random, &rogue.files, &rogue.numbers),
@@ -200,210 +212,164 @@ fn writes(shared: &Shared, rogue: &mut Rogue)
 }
 
 // All deeds of a hostile library, which hands in at last what it has.
-fn rages<R: Wait>(rt: &R, alloc: Global, shared: &Shared, seat: LibSeat, random: Random) -> LibSeat
-    requires { Sits shared.now seat }
-    ensures { SitsOn shared.now seat result }
+fn rages<R: Wait>(
+    rt: &R,
+    alloc: Global,
+    shared: &Shared,
+    seat: &mut LibSeat,
+    raw: &mut Raw,
+    random: Random,
+)
+    requires { Plays shared.now seat.old raw.old.has }
+    ensures { PlaysOn shared.now seat.old seat.new raw.new.has }
 {
     let mut rogue = Rogue {
-        player: seated(alloc, shared, seat),
         files: Vec::new(alloc),
         pages: Vec::new(alloc),
         numbers: Vec::new(alloc),
         random,
     };
     for _ in 0..DEEDS {
-        does(rt, shared, &mut rogue);
+        does(rt, shared, seat, raw, &mut rogue);
     }
-    hands_all_in(rt, shared, &mut rogue);
-    let Rogue {
-        player,
-        files: _,
-        pages: _,
-        numbers: _,
-        random: _,
-    } = rogue;
-    leaves(player)
+    hands_all_in(rt, shared, seat, raw, &mut rogue);
 }
 
 // ---- honest libraries
 
 // It writes a word into a file, where it is lent one. Whether that is accepted.
-fn is_edited<R: Wait>(rt: &R, shared: &Shared, player: &mut Player, ino: u32, letter: u8) -> bool
-    requires { Plays shared.now player.old }
-    ensures { PlaysOn shared.now player.old player.new }
+fn is_edited<R: Wait>(
+    rt: &R,
+    shared: &Shared,
+    seat: &mut LibSeat,
+    raw: &mut Raw,
+    ino: u32,
+    letter: u8,
+) -> bool
+    requires { Plays shared.now seat.old raw.old.has }
+    ensures { PlaysOn shared.now seat.old seat.new raw.new.has }
 {
-    if asks(rt, shared, player, ino, GrantKind::Write).is_err() {
+    if asks(rt, shared, seat, raw, ino, GrantKind::Write).is_err() {
         return true;
     }
     // no block is there where a hostile library has made the file empty
-    let _is_written = player.raw.poke(Spot::Block(ino, 0), 0, &[letter; 5]);
-    hands_in(rt, shared, player, ino) == Ok(ReleaseAnswer::Accepted)
+    let _is_written = raw.poke(Spot::Block(ino, 0), 0, &[letter; 5]);
+    hands_in(rt, shared, seat, raw, ino) == Ok(ReleaseAnswer::Accepted)
 }
 
 // It looks at a file, where it is lent one.
-fn reads<R: Wait>(rt: &R, shared: &Shared, player: &mut Player, ino: u32) -> bool
-    requires { Plays shared.now player.old }
-    ensures { PlaysOn shared.now player.old player.new }
+fn reads<R: Wait>(rt: &R, shared: &Shared, seat: &mut LibSeat, raw: &mut Raw, ino: u32) -> bool
+    requires { Plays shared.now seat.old raw.old.has }
+    ensures { PlaysOn shared.now seat.old seat.new raw.new.has }
 {
-    let is_lent = asks(rt, shared, player, ino, GrantKind::Read).is_ok();
-    let is_back = gives_back(rt, shared, player, ino).is_ok();
+    let is_lent = asks(rt, shared, seat, raw, ino, GrantKind::Read).is_ok();
+    let is_back = gives_back(rt, shared, seat, raw, ino).is_ok();
     is_lent == is_back
 }
 
 // It does something. Whether that goes as it is to.
-fn is_done<R: Wait>(rt: &R, shared: &Shared, player: &mut Player, random: &mut Random) -> bool
-    requires { Plays shared.now player.old }
-    ensures { PlaysOn shared.now player.old player.new }
+fn is_done<R: Wait>(
+    rt: &R,
+    shared: &Shared,
+    seat: &mut LibSeat,
+    raw: &mut Raw,
+    random: &mut Random,
+) -> bool
+    requires { Plays shared.now seat.old raw.old.has }
+    ensures { PlaysOn shared.now seat.old seat.new raw.new.has }
 {
     let ino = FILES[random.below(3) as usize];
     let letter = b'a' + random.below(26) as u8;
     match random.below(3) {
-        0 => reads(rt, shared, player, ino),
-        _ => is_edited(rt, shared, player, ino, letter),
+        0 => reads(rt, shared, seat, raw, ino),
+        _ => is_edited(rt, shared, seat, raw, ino, letter),
     }
 }
 
-// All deeds of an honest library, and whether each goes as it is to.
+// All deeds of an honest library. Whether each goes as it is to.
 fn works<R: Wait>(
     rt: &R,
-    alloc: Global,
     shared: &Shared,
-    seat: LibSeat,
-    mut random: Random,
-) -> (LibSeat, bool)
-    requires { Sits shared.now seat }
-    ensures { SitsOn shared.now seat result.0 }
+    seat: &mut LibSeat,
+    raw: &mut Raw,
+    random: &mut Random,
+) -> bool
+    requires { Plays shared.now seat.old raw.old.has }
+    ensures { PlaysOn shared.now seat.old seat.new raw.new.has }
 {
-    let mut player = seated(alloc, shared, seat);
     let mut are_done = true;
     for _ in 0..DEEDS {
-        let is_done = is_done(rt, shared, &mut player, &mut random);
-        are_done = are_done && is_done;
+        are_done &= is_done(rt, shared, seat, raw, random);
     }
-    (leaves(player), are_done)
+    are_done
 }
 
 // ---- four threads
 
-// The two hostile libraries at the same time.
-fn both_rage<R: Threads + Wait + Sync>(
+// The library of a place does its deeds: the first two are hostile, the others honest. Whether the deeds
+// of an honest one go as they are to.
+fn acts<R: Wait>(
     rt: &R,
     alloc: Global,
     shared: &Shared,
-    one: LibSeat,
-    two: LibSeat,
+    seat: &mut LibSeat,
+    raw: &mut Raw,
+    place: usize,
     seed: u64,
-) -> (LibSeat, LibSeat)
-    requires one { Sits shared.now one }
-    requires two { Sits shared.now two }
-    ensures one { SitsOn shared.now one result.0 }
-    ensures two { SitsOn shared.now two result.1 }
+) -> bool
+    requires { Plays shared.now seat.old raw.old.has }
+    ensures { PlaysOn shared.now seat.old seat.new raw.new.has }
 {
-    thread::join(
-        rt,
-        || -> LibSeat
-            requires { Sits shared.now one }
-            ensures { SitsOn shared.entry.now one result }
-        { rages(rt, alloc, shared, one, Random(seed)) },
-        || -> LibSeat
-            requires { Sits shared.now two }
-            ensures { SitsOn shared.entry.now two result }
-        { rages(rt, alloc, shared, two, Random(seed.wrapping_add(1))) },
-    )
-}
-
-// A library's seat, and whether all that the library did went as it was to.
-type Done = (LibSeat, bool);
-
-// The two honest libraries at the same time.
-fn both_work<R: Threads + Wait + Sync>(
-    rt: &R,
-    alloc: Global,
-    shared: &Shared,
-    one: LibSeat,
-    two: LibSeat,
-    seed: u64,
-) -> (Done, Done)
-    requires one { Sits shared.now one }
-    requires two { Sits shared.now two }
-    ensures one { SitsOn shared.now one result.0.0 }
-    ensures two { SitsOn shared.now two result.1.0 }
-{
-    thread::join(
-        rt,
-        || -> Done
-            requires { Sits shared.now one }
-            ensures { SitsOn shared.entry.now one result.0 }
-        { works(rt, alloc, shared, one, Random(seed)) },
-        || -> Done
-            requires { Sits shared.now two }
-            ensures { SitsOn shared.entry.now two result.0 }
-        { works(rt, alloc, shared, two, Random(seed.wrapping_add(1))) },
-    )
-}
-
-// All four at the same time.
-fn all_do<R: Threads + Wait + Sync>(
-    rt: &R,
-    alloc: Global,
-    shared: &Shared,
-    hostile: (LibSeat, LibSeat),
-    honest: (LibSeat, LibSeat),
-    seed: u64,
-) -> ((LibSeat, LibSeat), (Done, Done))
-    requires hostile { Sits shared.now hostile.0 × Sits shared.now hostile.1 }
-    requires honest { Sits shared.now honest.0 × Sits shared.now honest.1 }
-    ensures hostile { SitsOn shared.now hostile.0 result.0.0 × SitsOn shared.now hostile.1 result.0.1 }
-    ensures honest { SitsOn shared.now honest.0 result.1.0.0 × SitsOn shared.now honest.1 result.1.1.0 }
-{
-    let ((one, two), (three, four)) = (hostile, honest);
-    thread::join(
-        rt,
-        || -> (LibSeat, LibSeat)
-            requires sync { IsSync R.row }
-            requires sit { Sits shared.now one × Sits shared.now two }
-            ensures { SitsOn shared.entry.now one result.0 × SitsOn shared.entry.now two result.1 }
-        { both_rage(rt, alloc, shared, one, two, seed) },
-        || -> (Done, Done)
-            requires sync { IsSync R.row }
-            requires sit { Sits shared.now three × Sits shared.now four }
-            ensures { SitsOn shared.entry.now three result.0.0 × SitsOn shared.entry.now four result.1.0 }
-        { both_work(rt, alloc, shared, three, four, seed.wrapping_add(2)) },
-    )
-}
-
-// ---- what the log has
-
-// How many releases were accepted, and how many refused.
-fn verdicts(entries: &[Entry]) -> (u32, u32) {
-    let (mut accepted, mut refused) = (0_u32, 0_u32);
-    for entry in entries {
-        match entry {
-            Entry::Raw {
-                verdict: ReleaseAnswer::Accepted,
-                ..
-            } => accepted = accepted.saturating_add(1),
-            Entry::Raw { .. } => refused = refused.saturating_add(1),
-            _ => {}
-        }
+    let mut random = Random(seed.wrapping_add(place as u64));
+    if place < 2 {
+        rages(rt, alloc, shared, seat, raw, random);
+        true
+    } else {
+        works(rt, shared, seat, raw, &mut random)
     }
-    (accepted, refused)
 }
 
-// The controller after a round, closed, and whether all that the honest ones did went well.
-fn played<R: Threads + Wait + Sync>(rt: &R, alloc: Global, seed: u64) -> Option<(Ctl, bool)> {
-    let (shared, hostile, honest) = start_four(alloc, two_directories(alloc)?, [ROOT; 4])?;
-    let (hostile, (third, fourth)) = all_do(rt, alloc, &shared, hostile, honest, seed);
-    let are_done = third.1 && fourth.1;
-    let ctl = close_four(alloc, shared, hostile, (third.0, fourth.0))?;
-    Some((ctl, are_done))
+// It does so from nothing on.
+fn acts_alone<R: Wait>(
+    rt: &R,
+    alloc: Global,
+    shared: &Shared,
+    seat: &mut LibSeat,
+    place: usize,
+    seed: u64,
+) -> bool
+    requires { IsNew shared.now (place + 1) seat.old }
+    ensures { IsBack shared.now (place + 1) seat.new }
+{
+    let mut raw = empty_hands(alloc, seat);
+    let is_well = acts(rt, alloc, shared, seat, &mut raw, place, seed);
+    raw.discard();
+    is_well
 }
 
-// Whether a round is as it is to be, and how many releases were accepted and refused in it.
-fn round<R: Threads + Wait + Sync>(rt: &R, alloc: Global, seed: u64) -> Option<(bool, (u32, u32))> {
-    let (mut ctl, are_done) = played(rt, alloc, seed)?;
-    let is_replayed = is_replayed(alloc, two_directories(alloc)?, &[ROOT; 4], &mut ctl)?;
-    Some((are_done && is_replayed, verdicts(ctl.log().entries())))
+/// Whether all goes well where the libraries of these seats act at the same time, each in a thread of its
+/// own.
+pub fn threads_go_well<R: Threads + Wait + Sync>(
+    rt: &R,
+    alloc: Global,
+    shared: &Shared,
+    seats: &mut [LibSeat],
+    seed: u64,
+) -> bool
+    requires { AreAll IsNew shared.now seats.old }
+    ensures { AreAll IsBack shared.now seats.new }
+{
+    let is_well = AtomicBool::new(true);
+    let act = |place: usize, seat: &mut LibSeat|
+        requires { IsNew shared.now (place + 1) seat.now }
+        ensures { IsBack shared.entry.now (place + 1) seat.exit.now }
+    {
+        if !acts_alone(rt, alloc, shared, seat, place, seed) {
+            is_well.store(false, Ordering::SeqCst);
+        }
+    };
+    for_each_mut(rt, seats, 4, &act);
+    is_well.load(Ordering::SeqCst)
 }
 
 /// Two hostile libraries and two honest ones each do a thousand deeds in a thread of their own, many
@@ -413,7 +379,8 @@ fn round<R: Threads + Wait + Sync>(rt: &R, alloc: Global, seed: u64) -> Option<(
 fn the_log_of_four_threads_replays(rt: HostRuntime) -> Result<(), Fail> {
     let (mut all_accepted, mut all_refused) = (0_u32, 0_u32);
     for seed in 0..ROUNDS {
-        let (is_so, (accepted, refused)) = round(&rt, rt.alloc(), 4 * seed).ok_or("memory")?;
+        let scene = Scene::Threads(4 * seed);
+        let (is_so, (accepted, refused)) = outcome(&rt, rt.alloc(), scene).ok_or("memory")?;
         assert!(rt; is_so, "round {seed}");
         all_accepted = all_accepted.saturating_add(accepted);
         all_refused = all_refused.saturating_add(refused);

@@ -2,4 +2,4 @@ use Rattle.trio_shared_tests.specs.Sits.{PlaysOn}
 use Rattle.trio_shared_tests.proofs.at_once.borrows.Given as goal
 
 abbrev pub invariant-loop : goal.invariant-loop
-invariant-loop g l = PlaysOn l.shared l.fn.player l.player
+invariant-loop g l = PlaysOn l.shared l.fn.seat l.seat l.raw.has

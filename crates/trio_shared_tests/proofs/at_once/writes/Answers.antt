@@ -5,4 +5,4 @@ pub loop-time-init : goal.loop-time-init
 loop-time-init c = writes_here _
 
 pub loop-time-preserved : goal.loop-time-preserved
-loop-time-preserved c = writes_then _ _ _ c.loop-time.invariant (record { stays = c.poke-is_written.ensures.stands })
+loop-time-preserved c = writes_then _ _ _ c.loop-time.invariant (record { stays = c.poke-are_written.ensures.stands })
