@@ -1,5 +1,5 @@
 -- Leases that are marked, and leases into whose pages other bytes were written.
-use Rattle.std.proofs.Common.{◌≡◌, ℕ, List, [], ◌∷◌, map, Option, Some, None, Result, Ok, true, refl, sym, ap, subst, inl, inr, ◌∙◌}
+use Rattle.std.proofs.Common.{◌≡◌, ℕ, List, [], ◌∷◌, map, Option, Some, None, Result, Ok, refl, sym, ap, subst, inl, inr, ◌∙◌}
 use Rattle.std.specs.Prelude.{IfOk, IfSome}
 use Rattle.std.specs.Option.{IsSomeAnd}
 use Rattle.trio_page.specs.declared.page.PageNo.{PageNo}
@@ -23,7 +23,7 @@ use Rattle.trio_case.specs.Cases.{CaseShown}
 use Rattle.trio_ctl.proofs.Given.{granted_is_lent}
 use Rattle.trio_ctl.specs.Answers.{grant_answer}
 use Rattle.trio_open.specs.Open.{lent_by}
-use Rattle.trio_ctl.specs.HandedIn.{AreTouched, WasLentAs, WereLent, WereLentOrTouched}
+use Rattle.trio_ctl.specs.HandedIn.{WasLentAs, WereLent, WereLentOrTouched}
 use Rattle.trio_ctl_tests.specs.Leases.{AreAllTouched, AreLentAlike}
 
 -- what was marked whole is touched

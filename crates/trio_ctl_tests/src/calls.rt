@@ -2,7 +2,7 @@
 
 ghost use Rattle.std.specs.Prelude.{◌≡◌, length};
 
-use crate::controllers::{allotted, asked, granted, started, stores};
+use crate::controllers::{Trial, allotted, asked, lent, passes, stores};
 use crate::images::Start;
 use crate::moves::taken_file;
 use std::alloc::Global;
@@ -26,17 +26,19 @@ const WITH_DIRECTORY: Counts = Counts {
     free: 27,
 };
 
-const STORED: &[(Start, Counts)] = &[(Start::Empty, EMPTY), (Start::OneDirectory, WITH_DIRECTORY)];
-
-fn is_stored_again(alloc: Global, start: Start, counts: Counts) -> Option<bool> {
-    let mut ctl = started(alloc, start, 5)?;
-    Some(stores(alloc, &mut ctl, start, counts))
-}
+/// The name of an image, the image, and its counts.
+const STORED: &[(&str, Start, Counts)] = &[
+    ("an empty root", Start::Empty, EMPTY),
+    ("one directory", Start::OneDirectory, WITH_DIRECTORY),
+];
 
 #[test]
 fn the_settled_image_is_stored_again(rt: HostRuntime) {
-    for (start, counts) in STORED {
-        assert!(rt; is_stored_again(rt.alloc(), *start, *counts) == Some(true));
+    for (name, start, counts) in STORED {
+        assert!(rt;
+            passes(rt.alloc(), *start, 5, &Deed::Stores(*start, *counts)),
+            "{name}"
+        );
     }
 }
 
@@ -45,6 +47,7 @@ type Request = (bool, u32, GrantKind);
 
 /// A request, and what is told.
 struct Asking {
+    name: &'static str,
     start: Start,
     /// That of the first library.
     uid: u32,
@@ -69,6 +72,7 @@ const BUSY_WRITE: Result<u32, GrantFault> = Err(GrantFault::Busy(Holder {
 
 const ALONE: &[Asking] = &[
     Asking {
+        name: "a number that isn't live",
         start: Start::OneDirectory,
         uid: 0,
         before: None,
@@ -76,6 +80,7 @@ const ALONE: &[Asking] = &[
         told: Err(GrantFault::NotLive),
     },
     Asking {
+        name: "a file of another user",
         start: Start::OneDirectory,
         uid: 5,
         before: None,
@@ -83,6 +88,7 @@ const ALONE: &[Asking] = &[
         told: Err(GrantFault::Denied(2)),
     },
     Asking {
+        name: "the root, which is another user's",
         start: Start::OneDirectory,
         uid: 5,
         before: None,
@@ -93,6 +99,7 @@ const ALONE: &[Asking] = &[
 
 const BESIDE: &[Asking] = &[
     Asking {
+        name: "a reader beside a reader",
         start: Start::OneFile,
         uid: 0,
         before: Some((true, 3, GrantKind::Read)),
@@ -100,6 +107,7 @@ const BESIDE: &[Asking] = &[
         told: Ok(0),
     },
     Asking {
+        name: "a file that the library reads already",
         start: Start::OneFile,
         uid: 0,
         before: Some((true, 3, GrantKind::Read)),
@@ -107,6 +115,7 @@ const BESIDE: &[Asking] = &[
         told: BUSY_READ,
     },
     Asking {
+        name: "a writer beside a reader",
         start: Start::OneFile,
         uid: 0,
         before: Some((true, 3, GrantKind::Read)),
@@ -114,6 +123,7 @@ const BESIDE: &[Asking] = &[
         told: BUSY_READ,
     },
     Asking {
+        name: "a writer beside a writer",
         start: Start::OneFile,
         uid: 0,
         before: Some((true, 3, GrantKind::Write)),
@@ -121,6 +131,7 @@ const BESIDE: &[Asking] = &[
         told: BUSY_WRITE,
     },
     Asking {
+        name: "a hold where the library writes the directory above",
         start: Start::OneFile,
         uid: 0,
         before: Some((true, 1, GrantKind::Write)),
@@ -128,6 +139,7 @@ const BESIDE: &[Asking] = &[
         told: Ok(1),
     },
     Asking {
+        name: "a hold where another library writes the directory above",
         start: Start::OneFile,
         uid: 0,
         before: Some((false, 1, GrantKind::Write)),
@@ -151,7 +163,10 @@ fn is_lent_for(ctl: &mut Ctl, is_first: bool, ino: u32, kind: GrantKind) -> bool
     requires { length ctl.old.state.creds ≡ 2 }
     ensures { length ctl.new.state.creds ≡ 2 }
 {
-    matches!(asked(ctl, is_first, ino, kind), Some(Ok(_)))
+    match asked(ctl, is_first, ino, kind) {
+        Some(told) => told.is_ok(),
+        None => false,
+    }
 }
 
 fn told(ctl: &mut Ctl, row: &Asking) -> Option<Result<u32, GrantFault>>
@@ -164,16 +179,11 @@ fn told(ctl: &mut Ctl, row: &Asking) -> Option<Result<u32, GrantFault>>
     asked(ctl, is_first, ino, kind)
 }
 
-fn is_told(alloc: Global, row: &Asking) -> Option<bool> {
-    let mut ctl = started(alloc, row.start, row.uid)?;
-    Some(told(&mut ctl, row) == Some(row.told))
-}
-
 // Whether the directory 2 is lent as the first library asked for it.
 fn is_lent(ctl: &mut Ctl) -> Option<bool>
     requires { length ctl.old.state.creds ≡ 2 }
 {
-    let lease = granted(ctl, true, 2, GrantKind::Write)?.ok()?;
+    let lease = lent(ctl, true, 2, GrantKind::Write)?;
     let is_so = is_directory(&lease);
     lease.discard();
     Some(is_so)
@@ -186,23 +196,26 @@ fn is_directory(lease: &Lease) -> bool {
     }
 }
 
-fn directory_is_lent(alloc: Global) -> Option<bool> {
-    let mut ctl = started(alloc, Start::OneDirectory, 0)?;
-    is_lent(&mut ctl)
-}
-
 #[test]
 fn files_are_lent_or_refused(rt: HostRuntime) {
     for row in ALONE {
-        assert!(rt; is_told(rt.alloc(), row) == Some(true));
+        assert!(rt;
+            passes(rt.alloc(), row.start, row.uid, &Deed::Asks(row)),
+            "{}",
+            row.name
+        );
     }
-    assert!(rt; directory_is_lent(rt.alloc()) == Some(true));
+    assert!(rt; passes(rt.alloc(), Start::OneDirectory, 0, &Deed::TakesDirectory));
 }
 
 #[test]
 fn grants_stand_beside_each_other_or_not(rt: HostRuntime) {
     for row in BESIDE {
-        assert!(rt; is_told(rt.alloc(), row) == Some(true));
+        assert!(rt;
+            passes(rt.alloc(), row.start, row.uid, &Deed::Asks(row)),
+            "{}",
+            row.name
+        );
     }
 }
 
@@ -210,9 +223,9 @@ fn grants_stand_beside_each_other_or_not(rt: HostRuntime) {
 fn root_is_lent(ctl: &mut Ctl) -> bool
     requires { length ctl.old.state.creds ≡ 2 }
 {
-    match granted(ctl, true, 1, GrantKind::Write) {
-        Some(Ok(lease)) => is_root_lent(lease),
-        _ => false,
+    match lent(ctl, true, 1, GrantKind::Write) {
+        Some(lease) => is_root_lent(lease),
+        None => false,
     }
 }
 
@@ -244,14 +257,9 @@ fn waits_for(ctl: &mut Ctl, entry: u64) -> bool {
     ctl.image().err() == Some(ImageFault::Busy(holder))
 }
 
-fn root_leaves_home(alloc: Global) -> Option<bool> {
-    let mut ctl = started(alloc, Start::OneDirectory, 0)?;
-    Some(root_is_lent(&mut ctl) && waits_for(&mut ctl, 0))
-}
-
 #[test]
 fn what_is_lent_has_left_home(rt: HostRuntime) {
-    assert!(rt; root_leaves_home(rt.alloc()) == Some(true));
+    assert!(rt; passes(rt.alloc(), Start::OneDirectory, 0, &Deed::TakesRoot));
 }
 
 // Whether just these pages were allotted, and all of them are all zero.
@@ -292,26 +300,12 @@ fn are_the_lowest(given: Allotted) -> bool {
     is_so
 }
 
-// Whether in the settled image what is out is all zero, of which one page had bytes that nobody owned.
-fn the_lowest_are_out(alloc: Global) -> Option<bool> {
-    let mut ctl = started(alloc, Start::LeftBytes, 5)?;
-    Some(
-        allots_the_lowest(&mut ctl) && stores(alloc, &mut ctl, Start::OneDirectory, WITH_DIRECTORY),
-    )
-}
-
 #[test]
 fn the_lowest_free_are_allotted(rt: HostRuntime) {
-    assert!(rt; the_lowest_are_out(rt.alloc()) == Some(true));
+    assert!(rt; passes(rt.alloc(), Start::LeftBytes, 5, &Deed::IsAllotted));
 }
 
-// Whether the file is asked for in vain by the number 9 and lent for writing, and an image waits for it
-// then.
-fn image_waits(alloc: Global) -> Option<bool> {
-    let mut ctl = started(alloc, Start::OneFile, 0)?;
-    Some(asks_twice(&mut ctl) && waits_for(&mut ctl, 1))
-}
-
+// Whether the file is asked for in vain by the number 9, and then lent for writing.
 fn asks_twice(ctl: &mut Ctl) -> bool
     requires { length ctl.old.state.creds ≡ 2 }
 {
@@ -322,7 +316,7 @@ fn asks_twice(ctl: &mut Ctl) -> bool
 
 #[test]
 fn an_image_waits_for_the_writer(rt: HostRuntime) {
-    assert!(rt; image_waits(rt.alloc()) == Some(true));
+    assert!(rt; passes(rt.alloc(), Start::OneFile, 0, &Deed::AsksTwice));
 }
 
 // What a release of the file `f` needs, for which room is made.
@@ -346,14 +340,41 @@ fn room_where_it_belongs(ctl: &Ctl, bundle: &Bundle) -> Option<u64>
     }
 }
 
-fn room_made(alloc: Global) -> Option<u64> {
-    let mut ctl = started(alloc, Start::OneFile, 0)?;
-    room_of_file(alloc, &mut ctl)
-}
-
-// 4 bytes for each of 32 pages and 64 numbers, 16384 for each of two pages, and 1024 for the release and
-// for its lease.
 #[test]
 fn room_is_told_and_made(rt: HostRuntime) {
-    assert!(rt; room_made(rt.alloc()) == Some(35_200));
+    assert!(rt; passes(rt.alloc(), Start::OneFile, 0, &Deed::MakesRoom));
+}
+
+/// What is done with a controller that has just started.
+#[derive(Clone, Copy)]
+enum Deed {
+    /// The settled image is as it was.
+    Stores(Start, Counts),
+    Asks(&'static Asking),
+    TakesDirectory,
+    /// An image waits for the writer of the root then.
+    TakesRoot,
+    /// In the settled image what is allotted is all zero, of which one page had bytes that nobody owned.
+    IsAllotted,
+    /// An image waits for the writer of the file then.
+    AsksTwice,
+    /// 4 bytes for each of 32 pages and 64 numbers, 16384 for each of two pages, and 1024 for the release
+    /// and for its lease.
+    MakesRoom,
+}
+
+impl Trial for Deed {
+    fn passes(&self, alloc: Global, ctl: &mut Ctl) -> bool {
+        match self {
+            Deed::Stores(start, counts) => stores(alloc, ctl, *start, *counts),
+            Deed::Asks(row) => told(ctl, row) == Some(row.told),
+            Deed::TakesDirectory => is_lent(ctl) == Some(true),
+            Deed::TakesRoot => root_is_lent(ctl) && waits_for(ctl, 0),
+            Deed::IsAllotted => {
+                allots_the_lowest(ctl) && stores(alloc, ctl, Start::OneDirectory, WITH_DIRECTORY)
+            }
+            Deed::AsksTwice => asks_twice(ctl) && waits_for(ctl, 1),
+            Deed::MakesRoom => room_of_file(alloc, ctl) == Some(35_200),
+        }
+    }
 }

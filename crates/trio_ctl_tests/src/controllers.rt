@@ -20,22 +20,40 @@ pub fn started(alloc: Global, start: Start, uid: u32) -> Option<Ctl>
     ensures idle { IfSome result NoneBegun }
     ensures nothing { IfSome result (λ ctl. OutAlike (out_of ctl.state (record { 0 = 1 })) nothing_out) }
 {
+    let libs = vec![in alloc; Creds { uid, gid: 0 }, Creds { uid: 0, gid: 0 }].ok()?;
     let image = start_image(alloc, start)?;
-    start_with(alloc, image, uid)
+    start_with(alloc, image, libs)
 }
 
-/// A controller over this image, for the same libraries.
-pub fn start_with(alloc: Global, image: Image, uid: u32) -> Option<Ctl>
+// A controller over this image, for these two libraries.
+fn start_with(alloc: Global, image: Image, libs: Vec<Creds>) -> Option<Ctl>
+    requires { length libs.items ≡ 2 }
     ensures two { IfSome result (λ ctl. length ctl.state.creds ≡ 2) }
     ensures idle { IfSome result NoneBegun }
     ensures nothing { IfSome result (λ ctl. OutAlike (out_of ctl.state (record { 0 = 1 })) nothing_out) }
 {
-    let libs = vec![in alloc; Creds { uid, gid: 0 }, Creds { uid: 0, gid: 0 }].ok()?;
     Ctl::start(alloc, image, libs).ok()
 }
 
-/// What one of the two libraries is lent or told that asks for a grant; `None` where it isn't idle.
-pub fn granted(
+/// What a test does with a controller that has just started, for two libraries.
+pub trait Trial {
+    /// Whether all goes as it should.
+    fn passes(&self, alloc: Global, ctl: &mut Ctl) -> bool
+        requires two { length ctl.old.state.creds ≡ 2 }
+        requires idle { NoneBegun ctl.old }
+        requires nothing { OutAlike (out_of ctl.old.state (record { 0 = 1 })) nothing_out };
+}
+
+/// Whether a trial passes on a controller that is started as [`started`] says.
+pub fn passes<T: Trial>(alloc: Global, start: Start, uid: u32, trial: &T) -> bool {
+    match started(alloc, start, uid) {
+        Some(mut ctl) => trial.passes(alloc, &mut ctl),
+        None => false,
+    }
+}
+
+// What one of the two libraries is lent or told that asks for a grant; `None` where it isn't idle.
+fn granted(
     ctl: &mut Ctl,
     is_first: bool,
     ino: u32,
@@ -50,6 +68,14 @@ pub fn granted(
     } else {
         None
     }
+}
+
+/// What one of the two libraries is lent that asks for a grant; `None` where it isn't idle, or is refused.
+pub fn lent(ctl: &mut Ctl, is_first: bool, ino: u32, kind: GrantKind) -> Option<Lease>
+    requires { length ctl.old.state.creds ≡ 2 }
+    ensures { length ctl.new.state.creds ≡ 2 }
+{
+    granted(ctl, is_first, ino, kind)?.ok()
 }
 
 /// So many pages and inode numbers for one of the two libraries that is idle.
@@ -85,9 +111,14 @@ pub fn asked(
     requires { length ctl.old.state.creds ≡ 2 }
     ensures { length ctl.new.state.creds ≡ 2 }
 {
-    match granted(ctl, is_first, ino, kind)? {
-        Ok(lease) => Some(Ok(let_go(lease))),
-        Err(fault) => Some(Err(fault)),
+    let told = granted(ctl, is_first, ino, kind)?;
+    Some(without_lease(told))
+}
+
+fn without_lease(told: Result<Lease, GrantFault>) -> Result<u32, GrantFault> {
+    match told {
+        Ok(lease) => Ok(let_go(lease)),
+        Err(fault) => Err(fault),
     }
 }
 

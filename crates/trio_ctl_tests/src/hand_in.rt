@@ -7,7 +7,7 @@ ghost use Rattle.trio_desk.specs.Out.{OutAlike, nothing_out, with_lease};
 ghost use Rattle.trio_ctl.specs.Ctl.{NoneBegun};
 ghost use Rattle.trio_ctl.specs.Desk.{out_of};
 
-use crate::controllers::started;
+use crate::controllers::{Trial, passes};
 use crate::images::Start;
 use crate::lines::has_lines;
 use std::alloc::Global;
@@ -32,12 +32,8 @@ fn read_of(lease: Lease) -> Option<ReadLease>
 {
     match lease {
         Lease::Read(lease) => Some(lease),
-        Lease::Write(lease) => {
-            lease.discard();
-            None
-        }
-        Lease::Hold(lease) => {
-            lease.discard();
+        other => {
+            other.discard();
             None
         }
     }
@@ -106,15 +102,9 @@ const SETTLED: &str = "1 grant read 3 granted 0\n\
     writes - holds - pages - numbers -\n\
     1 grant write 3 granted 0\n";
 
-fn is_settled(alloc: Global) -> Option<bool> {
-    let mut ctl = started(alloc, Start::OneFile, 0)?;
-    let is_done = reads_and_writes(alloc, &mut ctl).is_some();
-    Some(is_done && has_lines(alloc, &ctl, SETTLED))
-}
-
 #[test]
 fn a_settle_gives_read_leases_back(rt: HostRuntime) {
-    assert!(rt; is_settled(rt.alloc()) == Some(true));
+    assert!(rt; passes(rt.alloc(), Start::OneFile, 0, &Deed::Settles));
 }
 
 // Hands the lease in with a change of the mode of the file 3; where it comes back, it is given back.
@@ -146,9 +136,16 @@ fn change_mode<D: Desk>(
     hand_in(alloc, desk, lease)
 }
 
-// The lease that is kept and the one that is handed in; what a change of the mode of `f` is told, and
-// the log then.
-type Row = (u32, u32, Result<(), ModeFault>, &'static str);
+// A change of the mode of `f`.
+struct Row {
+    name: &'static str,
+    // The file whose lease is kept, and the one whose lease is handed in.
+    kept: u32,
+    handed: u32,
+    told: Result<(), ModeFault>,
+    // The log then.
+    lines: &'static str,
+}
 
 const HOLDER: Holder = Holder {
     lib: LibNo(1),
@@ -157,20 +154,20 @@ const HOLDER: Holder = Holder {
 };
 
 const ROWS: &[Row] = &[
-    // the lease on the directory `a` is handed in
-    (
-        1,
-        2,
-        Ok(()),
-        "1 grant read 1 granted 0\n1 grant read 2 granted 0\n1 back 2\n1 mode 3 600 ok\n",
-    ),
-    // it is kept: the other one comes back
-    (
-        2,
-        1,
-        Err(ModeFault::Busy(HOLDER)),
-        "1 grant read 2 granted 0\n1 grant read 1 granted 0\n1 back 1\n",
-    ),
+    Row {
+        name: "the lease on the directory of `f` is handed in",
+        kept: 1,
+        handed: 2,
+        told: Ok(()),
+        lines: "1 grant read 1 granted 0\n1 grant read 2 granted 0\n1 back 2\n1 mode 3 600 ok\n",
+    },
+    Row {
+        name: "it is kept, and the other one comes back",
+        kept: 2,
+        handed: 1,
+        told: Err(ModeFault::Busy(HOLDER)),
+        lines: "1 grant read 2 granted 0\n1 grant read 1 granted 0\n1 back 1\n",
+    },
 ];
 
 fn is_changed(alloc: Global, ctl: &mut Ctl, row: &Row) -> bool
@@ -178,18 +175,36 @@ fn is_changed(alloc: Global, ctl: &mut Ctl, row: &Row) -> bool
     requires idle { NoneBegun ctl.old }
 {
     let mut desk = PlainDesk::of(ctl, LibNo(1));
-    change_mode(alloc, &mut desk, row.0, row.1) == Some(row.2)
+    change_mode(alloc, &mut desk, row.kept, row.handed) == Some(row.told)
 }
 
-fn is_told(alloc: Global, row: &Row) -> Option<bool> {
-    let mut ctl = started(alloc, Start::OneFile, 0)?;
-    let is_as_wanted = is_changed(alloc, &mut ctl, row);
-    Some(is_as_wanted && has_lines(alloc, &ctl, row.3))
+/// What is done with a controller that has just started, and what its log has then.
+#[derive(Clone, Copy)]
+enum Deed {
+    Settles,
+    ChangesMode(&'static Row),
+}
+
+impl Trial for Deed {
+    fn passes(&self, alloc: Global, ctl: &mut Ctl) -> bool {
+        match self {
+            Deed::Settles => {
+                reads_and_writes(alloc, ctl).is_some() && has_lines(alloc, ctl, SETTLED)
+            }
+            Deed::ChangesMode(row) => {
+                is_changed(alloc, ctl, row) && has_lines(alloc, ctl, row.lines)
+            }
+        }
+    }
 }
 
 #[test]
 fn a_change_of_mode_takes_read_leases(rt: HostRuntime) {
     for row in ROWS {
-        assert!(rt; is_told(rt.alloc(), row) == Some(true));
+        assert!(rt;
+            passes(rt.alloc(), Start::OneFile, 0, &Deed::ChangesMode(row)),
+            "{}",
+            row.name
+        );
     }
 }

@@ -6,7 +6,7 @@ use trio_io::SureFiles;
 use trio_page::NoMemory;
 use trio_rights::Mode;
 use trio_samples::files::{root, six_directories, three_files};
-use trio_samples::{Sample, SampleFile, directory, put};
+use trio_samples::{Sample, SampleFile, directory, put, regular};
 
 /// Such an image.
 pub fn start_image(alloc: Global, start: Start) -> Option<Image> {
@@ -14,8 +14,8 @@ pub fn start_image(alloc: Global, start: Start) -> Option<Image> {
     image_of(alloc, &bytes)
 }
 
-/// The image of these bytes.
-pub fn image_of(alloc: Global, bytes: &[u8]) -> Option<Image> {
+// The image of these bytes.
+fn image_of(alloc: Global, bytes: &[u8]) -> Option<Image> {
     let mut files = one_name(alloc)?;
     hold(alloc, &mut files, bytes)?;
     loaded(alloc, &mut files)
@@ -58,6 +58,9 @@ pub enum Start {
     TwoDirectories,
     /// `a`, `b`, `a/p`, `a/p/p1`, `b/q`, `b/q/q1`, numbers 2 to 7, on pages 3 to 12.
     SixDirectories,
+    /// The files `f`, `g` and `h` and the directory `d`, of numbers 2 to 5, in the root: `f` has index
+    /// page 5 and blocks 6 and 7, `g` 8, 9 and 10, `h` 11 and 12, and `d` is empty.
+    LongFiles,
 }
 
 /// The bytes of an image.
@@ -70,6 +73,7 @@ pub fn image_bytes(alloc: Global, start: Start) -> Result<Vec<u8>, NoMemory> {
         Start::OneFile => bytes_of(alloc, &three_files()),
         Start::TwoDirectories => bytes_of(alloc, &two_directories()),
         Start::SixDirectories => bytes_of(alloc, &six_directories()),
+        Start::LongFiles => long_files(alloc),
     }
 }
 
@@ -77,6 +81,18 @@ fn left_bytes(alloc: Global) -> Result<Vec<u8>, NoMemory> {
     let mut bytes = bytes_of(alloc, &[root(), directory(2, 1, b"a")])?;
     put(&mut bytes, 24_576, b"left");
     Ok(bytes)
+}
+
+fn long_files(alloc: Global) -> Result<Vec<u8>, NoMemory> {
+    let long = [b'x'; 4097];
+    let files = [
+        root(),
+        regular(2, 1, b"f", &long),
+        regular(3, 1, b"g", &long),
+        regular(4, 1, b"h", b"hello"),
+        directory(5, 1, b"d"),
+    ];
+    bytes_of(alloc, &files)
 }
 
 fn two_directories<'a>() -> [SampleFile<'a>; 4] {

@@ -17,4 +17,6 @@ mod logs;
 #[cfg(test)]
 mod moves;
 #[cfg(test)]
+mod noting;
+#[cfg(test)]
 mod raws;

@@ -1,7 +1,11 @@
 //! What the log says of scripts, what it replays to, and what an image is told meanwhile.
 
-ghost use Rattle.std.specs.Prelude.{◌≤◌, length};
+ghost use Rattle.std.specs.Prelude.{◌≡◌, ◌≤◌, [], length};
+ghost use Rattle.trio_state.specs.Kept.{Kept};
+ghost use Rattle.trio_state.specs.Run.{start};
+ghost use Rattle.trio_ctl.specs.Ctl.{NoneBegun};
 ghost use Rattle.trio_script.specs.Within.{AreWithin};
+ghost use Rattle.trio_runner.specs.Play.{creds_in};
 
 use crate::images::{Start, start_image};
 use crate::lines::has_lines;
@@ -16,34 +20,71 @@ use trio_rights::{Creds, Kind, Mode};
 use trio_runner::{LibTold, creds_of, play};
 use trio_script::{ScriptLib, read_script};
 
-/// The controller after a script on an image, and what each library was told.
-type Played = (Ctl, Vec<LibTold>);
+/// What is looked at once a script was played.
+#[derive(Clone, Copy)]
+enum Look {
+    /// The lines of the log.
+    Log(&'static str),
+    /// What the libraries are answered, one after another; an image is told then.
+    Answers(&'static str),
+    /// What the log of the crossed moves replays to.
+    Replayed,
+}
 
-fn played(alloc: Global, start: Start, script: &str) -> Option<Played> {
-    match read_script(alloc, script.as_bytes()) {
-        Ok(libs) => played_by(alloc, start, &libs),
-        Err(_) => None,
+fn shows(alloc: Global, ctl: &mut Ctl, tolds: &[LibTold], look: Look) -> bool {
+    match look {
+        Look::Log(lines) => has_lines(alloc, ctl, lines),
+        Look::Answers(lines) => have_lines(alloc, tolds, lines) && tells_image(ctl),
+        Look::Replayed => is_replayed(alloc, ctl) == Some(true),
     }
 }
 
-fn played_by(alloc: Global, start: Start, libs: &[ScriptLib]) -> Option<Played>
+fn plays(alloc: Global, ctl: &mut Ctl, libs: &[ScriptLib], look: Look) -> bool
+    requires kept { Kept ctl.old.state }
+    requires started { ctl.old.state ≡ start ctl.old.state.home (creds_in libs.now) }
+    requires unlogged { ctl.old.log ≡ [] }
+    requires idle { NoneBegun ctl.old }
+    requires few { length libs.now ≤ 16 }
+    requires within { AreWithin libs.now }
+{
+    match play(alloc, ctl, libs) {
+        Ok(tolds) => shows(alloc, ctl, &tolds, look),
+        Err(_) => false,
+    }
+}
+
+fn plays_with(
+    alloc: Global,
+    image: Image,
+    creds: Vec<Creds>,
+    libs: &[ScriptLib],
+    look: Look,
+) -> bool
+    requires creds { creds.items ≡ creds_in libs.now }
     requires some { 1 ≤ length libs.now }
     requires few { length libs.now ≤ 16 }
     requires within { AreWithin libs.now }
 {
-    let image = start_image(alloc, start)?;
-    played_on(alloc, image, libs)
+    match Ctl::start(alloc, image, creds) {
+        Ok(mut ctl) => plays(alloc, &mut ctl, libs, look),
+        Err(_) => false,
+    }
 }
 
-fn played_on(alloc: Global, image: Image, libs: &[ScriptLib]) -> Option<Played>
+fn plays_on(alloc: Global, start: Start, libs: &[ScriptLib], look: Look) -> Option<bool>
     requires some { 1 ≤ length libs.now }
     requires few { length libs.now ≤ 16 }
     requires within { AreWithin libs.now }
 {
     let creds = creds_of(alloc, libs).ok()?;
-    let mut ctl = Ctl::start(alloc, image, creds).ok()?;
-    match play(alloc, &mut ctl, libs) {
-        Ok(tolds) => Some((ctl, tolds)),
+    let image = start_image(alloc, start)?;
+    Some(plays_with(alloc, image, creds, libs, look))
+}
+
+/// Whether a script on an image comes to this.
+fn comes_to(alloc: Global, start: Start, script: &str, look: Look) -> Option<bool> {
+    match read_script(alloc, script.as_bytes()) {
+        Ok(libs) => plays_on(alloc, start, &libs, look),
         Err(_) => None,
     }
 }
@@ -247,17 +288,13 @@ const ROWS: &[Row] = &[
     ),
 ];
 
-/// Whether the log of a script on an image has these lines.
-fn is_logged(alloc: Global, row: &Row) -> Option<bool> {
-    let (start, script, lines) = *row;
-    let (ctl, _) = played(alloc, start, script)?;
-    Some(has_lines(alloc, &ctl, lines))
-}
-
 #[test]
 fn the_log_has_what_was_done(rt: HostRuntime) {
-    for row in ROWS {
-        assert!(rt; is_logged(rt.alloc(), row) == Some(true), "{}", row.1);
+    for (start, script, lines) in ROWS {
+        assert!(rt;
+            comes_to(rt.alloc(), *start, script, Look::Log(lines)) == Some(true),
+            "{script}"
+        );
     }
 }
 
@@ -305,17 +342,17 @@ fn have_lines(alloc: Global, tolds: &[LibTold], lines: &str) -> bool {
     is_whole && text.as_slice() == lines.as_bytes()
 }
 
-/// Whether a script on an image is answered so, and an image is told at its end.
-fn is_answered(alloc: Global, row: &Row) -> Option<bool> {
-    let (start, script, lines) = *row;
-    let (mut ctl, tolds) = played(alloc, start, script)?;
-    Some(have_lines(alloc, &tolds, lines) && ctl.image().is_ok())
+fn tells_image(ctl: &mut Ctl) -> bool {
+    ctl.image().is_ok()
 }
 
 #[test]
 fn scripts_are_answered(rt: HostRuntime) {
-    for row in ANSWERS {
-        assert!(rt; is_answered(rt.alloc(), row) == Some(true), "{}", row.1);
+    for (start, script, lines) in ANSWERS {
+        assert!(rt;
+            comes_to(rt.alloc(), *start, script, Look::Answers(lines)) == Some(true),
+            "{script}"
+        );
     }
 }
 
@@ -346,14 +383,6 @@ fn is_there(nodes: &Nodes, (ino, parent, name): (u32, u32, &[u8])) -> bool {
     }
 }
 
-/// What the log of a script replays to, for two libraries of uid 0.
-fn replayed(alloc: Global, start: Start, script: &str) -> Option<Nodes> {
-    let first = nodes_of(alloc, start)?;
-    let (ctl, _) = played(alloc, start, script)?;
-    let both = Creds { uid: 0, gid: 0 };
-    replay(alloc, first, &[both, both], ctl.log()).ok()
-}
-
 fn nodes_of(alloc: Global, start: Start) -> Option<Nodes> {
     let mut image = start_image(alloc, start)?;
     image.nodes(alloc).ok()
@@ -368,12 +397,22 @@ fn are_moved(nodes: &Nodes) -> bool {
     is_so
 }
 
-fn moves_are_replayed(alloc: Global) -> Option<bool> {
-    let nodes = replayed(alloc, Start::SixDirectories, CROSSED_MOVES)?;
+/// Whether the log replays to them from the image of the crossed moves, for two libraries of uid 0.
+fn is_replayed(alloc: Global, ctl: &Ctl) -> Option<bool> {
+    let first = nodes_of(alloc, Start::SixDirectories)?;
+    let both = Creds { uid: 0, gid: 0 };
+    let nodes = replay(alloc, first, &[both, both], ctl.log()).ok()?;
     Some(are_moved(&nodes))
 }
 
 #[test]
 fn crossed_moves_are_replayed(rt: HostRuntime) {
-    assert!(rt; moves_are_replayed(rt.alloc()) == Some(true));
+    assert!(rt;
+        comes_to(
+            rt.alloc(),
+            Start::SixDirectories,
+            CROSSED_MOVES,
+            Look::Replayed
+        ) == Some(true)
+    );
 }

@@ -5,7 +5,7 @@ ghost use Rattle.trio_lease.specs.declared.lease.Lease.TheVariants.{Write};
 ghost use Rattle.trio_ctl.specs.HandedIn.{WasLentAs, WereLent, WereLentOrTouched};
 ghost use Rattle.trio_ctl_tests.specs.Leases.{AreAllTouched, AreLentAlike};
 
-use crate::controllers::{allotted, asked, granted, started, stores};
+use crate::controllers::{Trial, allotted, asked, lent, passes, started, stores};
 use crate::images::Start;
 use std::alloc::Global;
 use trio_ctl::{Ctl, Judged, Pending, copied};
@@ -129,9 +129,9 @@ fn take(
     requires { length ctl.old.state.creds ≡ 2 }
     ensures { length ctl.new.state.creds ≡ 2 }
 {
-    match granted(ctl, is_first, ino, kind) {
-        Some(Ok(lease)) => add_lease(bundle, lease, body),
-        _ => false,
+    match lent(ctl, is_first, ino, kind) {
+        Some(lease) => add_lease(bundle, lease, body),
+        None => false,
     }
 }
 
@@ -308,14 +308,9 @@ fn are_crossed(alloc: Global, ctl: &mut Ctl) -> Option<bool>
     Some(is_refused && is_moved)
 }
 
-fn moves_are_crossed(alloc: Global) -> Option<bool> {
-    let mut ctl = started(alloc, Start::SixDirectories, 0)?;
-    are_crossed(alloc, &mut ctl)
-}
-
 #[test]
 fn crossed_moves_end_in_another_order(rt: HostRuntime) {
-    assert!(rt; moves_are_crossed(rt.alloc()) == Some(true));
+    assert!(rt; passes(rt.alloc(), Start::SixDirectories, 0, &Deed::CrossesMoves));
 }
 
 // The lease of a grant for writing; another is let go.
@@ -333,12 +328,8 @@ fn write_lease(lease: Lease) -> Option<WriteLease>
 {
     match lease {
         Lease::Write(lease) => Some(lease),
-        Lease::Read(lease) => {
-            lease.discard();
-            None
-        }
-        Lease::Hold(lease) => {
-            lease.discard();
+        other => {
+            other.discard();
             None
         }
     }
@@ -444,12 +435,6 @@ fn is_unlisted_refused(alloc: Global, ctl: &mut Ctl) -> bool
     }
 }
 
-// Whether it is, and the image is then as before.
-fn is_rolled_back(alloc: Global) -> Option<bool> {
-    let mut ctl = started(alloc, Start::OneFile, 0)?;
-    Some(is_unlisted_refused(alloc, &mut ctl) && stores(alloc, &mut ctl, Start::OneFile, WITH_FILE))
-}
-
 // Whether what has begun with `f` has no page but those of its bundle.
 fn has_its_pages(alloc: Global, ctl: &mut Ctl) -> Option<bool>
     requires { length ctl.old.state.creds ≡ 2 }
@@ -462,15 +447,10 @@ fn has_page(pending: &mut Pending, no: u32) -> bool {
     pending.page_mut(PageNo(no)).is_some()
 }
 
-fn are_its_pages(alloc: Global) -> Option<bool> {
-    let mut ctl = started(alloc, Start::OneFile, 0)?;
-    has_its_pages(alloc, &mut ctl)
-}
-
 #[test]
 fn what_is_written_between_the_moves_is_judged(rt: HostRuntime) {
-    assert!(rt; is_rolled_back(rt.alloc()) == Some(true));
-    assert!(rt; are_its_pages(rt.alloc()) == Some(true));
+    assert!(rt; passes(rt.alloc(), Start::OneFile, 0, &Deed::WritesOver));
+    assert!(rt; passes(rt.alloc(), Start::OneFile, 0, &Deed::AsksForPages));
 }
 
 const WRITER: Holder = Holder {
@@ -496,25 +476,27 @@ fn is_awaited_alone(alloc: Global, ctl: &mut Ctl, other: &Ctl) -> Option<bool>
     Some(ctl.awaits(&judged) && !other.awaits(&judged))
 }
 
-fn stays_out(alloc: Global) -> Option<bool> {
-    let mut ctl = started(alloc, Start::OneFile, 0)?;
-    is_let_go(alloc, &mut ctl)
+/// A release begins while another controller stands beside.
+#[derive(Clone, Copy)]
+struct Beside<'a>(&'a Ctl);
+
+impl<'a> Trial for Beside<'a> {
+    fn passes(&self, alloc: Global, ctl: &mut Ctl) -> bool {
+        is_awaited_alone(alloc, ctl, self.0) == Some(true)
+    }
 }
 
-fn is_awaited_beside(alloc: Global, other: &Ctl) -> Option<bool> {
-    let mut ctl = started(alloc, Start::OneFile, 0)?;
-    is_awaited_alone(alloc, &mut ctl, other)
-}
-
-fn is_awaited_there_alone(alloc: Global) -> Option<bool> {
-    let other = started(alloc, Start::OneFile, 0)?;
-    is_awaited_beside(alloc, &other)
+fn is_awaited_there_alone(alloc: Global) -> bool {
+    match started(alloc, Start::OneFile, 0) {
+        Some(other) => passes(alloc, Start::OneFile, 0, &Beside(&other)),
+        None => false,
+    }
 }
 
 #[test]
 fn a_release_ends_where_it_began(rt: HostRuntime) {
-    assert!(rt; stays_out(rt.alloc()) == Some(true));
-    assert!(rt; is_awaited_there_alone(rt.alloc()) == Some(true));
+    assert!(rt; passes(rt.alloc(), Start::OneFile, 0, &Deed::IsLetGo));
+    assert!(rt; is_awaited_there_alone(rt.alloc()));
 }
 
 // The release of a bundle, with and without a byte written between the moves.
@@ -546,13 +528,35 @@ fn is_its_copy(alloc: Global, ctl: &mut Ctl, is_written: bool) -> Option<bool>
     is_copy(&judged, &copy)
 }
 
-fn is_judged_as_copied(alloc: Global, is_written: bool) -> Option<bool> {
-    let mut ctl = started(alloc, Start::OneFile, 0)?;
-    is_its_copy(alloc, &mut ctl, is_written)
-}
-
 #[test]
 fn a_copy_tells_what_was_written(rt: HostRuntime) {
-    assert!(rt; is_judged_as_copied(rt.alloc(), false) == Some(true));
-    assert!(rt; is_judged_as_copied(rt.alloc(), true) == Some(false));
+    assert!(rt; passes(rt.alloc(), Start::OneFile, 0, &Deed::StaysItsCopy));
+    assert!(rt; passes(rt.alloc(), Start::OneFile, 0, &Deed::LeavesItsCopy));
+}
+
+/// What is done with a controller that has just started.
+#[derive(Clone, Copy)]
+enum Deed {
+    CrossesMoves,
+    /// The release is refused, and the image is then as before.
+    WritesOver,
+    AsksForPages,
+    IsLetGo,
+    StaysItsCopy,
+    LeavesItsCopy,
+}
+
+impl Trial for Deed {
+    fn passes(&self, alloc: Global, ctl: &mut Ctl) -> bool {
+        match self {
+            Deed::CrossesMoves => are_crossed(alloc, ctl) == Some(true),
+            Deed::WritesOver => {
+                is_unlisted_refused(alloc, ctl) && stores(alloc, ctl, Start::OneFile, WITH_FILE)
+            }
+            Deed::AsksForPages => has_its_pages(alloc, ctl) == Some(true),
+            Deed::IsLetGo => is_let_go(alloc, ctl) == Some(true),
+            Deed::StaysItsCopy => is_its_copy(alloc, ctl, false) == Some(true),
+            Deed::LeavesItsCopy => is_its_copy(alloc, ctl, true) == Some(false),
+        }
+    }
 }

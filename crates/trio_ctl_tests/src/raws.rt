@@ -4,32 +4,15 @@
 ghost use Rattle.std.specs.Prelude.{◌≡◌, length};
 ghost use Rattle.trio_raw.specs.Has.{OnList};
 
-use crate::controllers::start_with;
-use crate::images::image_of;
+use crate::controllers::{Trial, passes};
+use crate::images::Start;
+use crate::noting::{NONE, NotingDesk, Numbers};
 use std::alloc::Global;
 use trio_ctl::{Ctl, PlainDesk};
 use trio_desk::Desk;
-use trio_nodes::{AllotAnswer, GrantKind, Spot};
-use trio_page::NoMemory;
+use trio_nodes::{AllotAnswer, GrantKind, ReleaseAnswer, Spot};
 use trio_raw::{Absent, Raw, RawFault};
 use trio_rights::LibNo;
-use trio_samples::files::root;
-use trio_samples::{Sample, directory, regular};
-
-/// The files `f`, `g` and `h` and the directory `d`, of numbers 2 to 5, in the root: `f` has index page 5
-/// and blocks 6 and 7, `g` 8, 9 and 10, `h` 11 and 12, and `d` is empty.
-fn image_bytes(alloc: Global) -> Result<Vec<u8>, NoMemory> {
-    let mut long = Vec::new(alloc);
-    long.resize(4097, b'x')?;
-    let files = [
-        root(),
-        regular(2, 1, b"f", &long),
-        regular(3, 1, b"g", &long),
-        regular(4, 1, b"h", b"hello"),
-        directory(5, 1, b"d"),
-    ];
-    Sample::small(alloc, &files)?.bytes(alloc)
-}
 
 /// Takes the root, `f` and `g` for writing.
 fn takes_files<D: Desk>(raw: &mut Raw, desk: &mut D) -> bool
@@ -74,15 +57,18 @@ type Peek = (Spot, u32, u32, Shown);
 /// Files, pages and inode numbers that are named.
 type Names = (&'static [u32], &'static [u32], &'static [u32]);
 
-/// What the library does with all of it.
+/// What the library does with all of it, in [`Start::LongFiles`].
 #[derive(Clone, Copy)]
 enum Deed {
     /// It writes, and then looks.
     Writes(&'static [Poke], &'static [Peek]),
     /// It names what it hasn't, or hasn't twice.
     Misnames(Names),
-    /// It names the hold without the root, so all of it comes back; then it gives `h` back, once.
+    /// It writes into `f`, and names it with the hold and without the root, so all of it comes back;
+    /// then it gives `h` back, once.
     Parts,
+    /// The same; then it hands the hold in with the root, and the rest after that.
+    HandsIn,
 }
 
 fn seen(bytes: Option<&[u8]>) -> Shown {
@@ -99,22 +85,55 @@ fn are_poked(raw: &mut Raw, pokes: &[Poke]) -> bool {
 }
 
 fn are_seen(raw: &Raw, peeks: &[Peek]) -> bool {
-    peeks.iter().all(|(at, offset, len, wanted)| seen(raw.peek(*at, *offset, *len)) == *wanted)
+    let mut all = true;
+    for (at, offset, len, wanted) in peeks {
+        all = all && seen(raw.peek(*at, *offset, *len)) == *wanted;
+    }
+    all
 }
 
 fn is_absent<D: Desk>(raw: &mut Raw, desk: &mut D, names: Names) -> bool
     requires { OnList (D.seen desk.old).out raw.old.has }
+    ensures { OnList (D.seen desk.new).out raw.new.has }
 {
     let (inos, pages, inodes) = names;
     raw.release(desk, inos, pages, inodes) == Err(RawFault::Absent)
 }
 
+fn is_given_back<D: Desk>(raw: &mut Raw, desk: &mut D) -> bool
+    requires { OnList (D.seen desk.old).out raw.old.has }
+    ensures { OnList (D.seen desk.new).out raw.new.has }
+{
+    raw.back(desk, 4).is_ok() && raw.back(desk, 4) == Err(Absent)
+}
+
 fn is_parted<D: Desk>(raw: &mut Raw, desk: &mut D) -> bool
     requires { OnList (D.seen desk.old).out raw.old.has }
+    ensures { OnList (D.seen desk.new).out raw.new.has }
 {
-    raw.release(desk, &[5, 2], &[13], &[]) == Err(RawFault::NotClosed(5))
-        && raw.back(desk, 4).is_ok()
-        && raw.back(desk, 4) == Err(Absent)
+    raw.poke(Spot::Block(2, 0), 0, &[1])
+        && raw.release(desk, &[5, 2], &[13], &[]) == Err(RawFault::NotClosed(5))
+        && is_given_back(raw, desk)
+}
+
+fn is_accepted<D: Desk>(raw: &mut Raw, desk: &mut D, names: Names) -> bool
+    requires { OnList (D.seen desk.old).out raw.old.has }
+    ensures { OnList (D.seen desk.new).out raw.new.has }
+{
+    let (inos, pages, inodes) = names;
+    raw.release(desk, inos, pages, inodes) == Ok(ReleaseAnswer::Accepted)
+}
+
+/// Whether the root, the hold and the page are there no more once they are handed in, and the rest is.
+fn is_handed_in<D: Desk>(raw: &mut Raw, desk: &mut D) -> bool
+    requires { OnList (D.seen desk.old).out raw.old.has }
+{
+    is_parted(raw, desk)
+        && is_accepted(raw, desk, (&[5, 1], &[13], &[]))
+        && is_absent(raw, desk, (&[1], &[], &[]))
+        && is_absent(raw, desk, (&[5], &[], &[]))
+        && is_absent(raw, desk, (&[2], &[13], &[]))
+        && is_accepted(raw, desk, (&[3, 2], &[], &[6]))
 }
 
 /// Whether the library is given all that there is, and then does so.
@@ -128,6 +147,7 @@ fn is_done<D: Desk>(raw: &mut Raw, desk: &mut D, deed: Deed) -> bool
         Deed::Writes(pokes, peeks) => are_poked(raw, pokes) && are_seen(raw, peeks),
         Deed::Misnames(names) => is_absent(raw, desk, names),
         Deed::Parts => is_parted(raw, desk),
+        Deed::HandsIn => is_handed_in(raw, desk),
     }
 }
 
@@ -138,21 +158,35 @@ fn plays<D: Desk>(alloc: Global, desk: &mut D, deed: Deed) -> bool {
     told
 }
 
-fn plays_on(alloc: Global, ctl: &mut Ctl, deed: Deed) -> bool
-    requires { length ctl.old.state.creds ≡ 2 }
-{
-    if ctl.idle(LibNo(1)) {
-        let mut desk = PlainDesk::of(ctl, LibNo(1));
-        plays(alloc, &mut desk, deed)
-    } else {
-        false
+/// The file `f`, its first block marked; the hold and the page.
+const PARTED: Numbers = ([1, 1, 2, 1], [0; 4], [5, 13, 0, 0, 0]);
+
+/// The root, and what came back of that.
+const TOGETHER: Numbers = ([1, 0, 1, 0], [0; 4], [5, 13, 0, 0, 0]);
+
+/// The file `g`, and `f`, which came back; and the inode number.
+const REST: Numbers = ([1, 2, 3, 0], [1, 1, 2, 1], [0, 0, 0, 6, 0]);
+
+/// The bundles that its desk is handed in then, whether it takes them or not. Each file is the first
+/// library's, by the grant that made the entry of this number.
+fn bundles(deed: Deed) -> [Numbers; 4] {
+    match deed {
+        Deed::Writes(_, _) | Deed::Misnames(_) => [NONE; 4],
+        Deed::Parts => [PARTED, NONE, NONE, NONE],
+        Deed::HandsIn => [PARTED, TOGETHER, REST, NONE],
     }
 }
 
-fn is_played(alloc: Global, deed: Deed) -> Option<bool> {
-    let image = image_of(alloc, &image_bytes(alloc).ok()?)?;
-    let mut ctl = start_with(alloc, image, 0)?;
-    Some(plays_on(alloc, &mut ctl, deed))
+fn hands_in<D: Desk>(alloc: Global, desk: &mut D, deed: Deed) -> bool {
+    let mut noting = NotingDesk::before(desk);
+    plays(alloc, &mut noting, deed) && noting.handed() == bundles(deed)
+}
+
+impl Trial for Deed {
+    fn passes(&self, alloc: Global, ctl: &mut Ctl) -> bool {
+        let mut desk = PlainDesk::of(ctl, LibNo(1));
+        hands_in(alloc, &mut desk, *self)
+    }
 }
 
 const DEEDS: &[Deed] = &[
@@ -274,11 +308,12 @@ const DEEDS: &[Deed] = &[
     Deed::Misnames((&[2, 2], &[], &[])),
     Deed::Misnames((&[5, 2, 5], &[], &[])),
     Deed::Parts,
+    Deed::HandsIn,
 ];
 
 #[test]
 fn a_library_has_what_it_was_lent(rt: HostRuntime) {
     for (i, deed) in DEEDS.iter().enumerate() {
-        assert!(rt; is_played(rt.alloc(), *deed) == Some(true), "row {i}");
+        assert!(rt; passes(rt.alloc(), Start::LongFiles, 0, deed), "row {i}");
     }
 }

@@ -28,48 +28,68 @@ fn put_number(alloc: Global, out: &mut Vec<u8>, number: u64) -> Option<()> {
     out.extend_from_slice(text.as_bytes()).ok()
 }
 
-/// Puts a call as its word, its paths, its numbers and its bytes, which are left as they are.
-fn put_call(alloc: Global, out: &mut Vec<u8>, call: &Call) -> Option<()> {
+fn word_of(call: &Call) -> &'static str {
     match call {
-        Call::Mkdir { path, mode } => {
-            put_path(out, "mkdir", path)?;
-            put_number(alloc, out, u64::from(mode.0))
-        }
-        Call::Create { path, mode } => {
-            put_path(out, "create", path)?;
-            put_number(alloc, out, u64::from(mode.0))
-        }
-        Call::Write { path, at, bytes } => {
-            put_path(out, "write", path)?;
-            put_number(alloc, out, *at)?;
-            out.extend_from_slice(b" ").ok()?;
-            out.extend_from_slice(bytes.as_slice()).ok()
-        }
-        Call::Read { path, at, len } => {
-            put_path(out, "read", path)?;
+        Call::Mkdir { .. } => "mkdir",
+        Call::Create { .. } => "create",
+        Call::Write { .. } => "write",
+        Call::Read { .. } => "read",
+        Call::Truncate { .. } => "truncate",
+        Call::List { .. } => "list",
+        Call::Chmod { .. } => "chmod",
+        Call::Rename { .. } => "rename",
+        Call::Unlink { .. } => "unlink",
+        Call::Rmdir { .. } => "rmdir",
+        Call::Stat { .. } => "stat",
+    }
+}
+
+/// The path that a call names first.
+fn path_of(call: &Call) -> &Path {
+    match call {
+        Call::Mkdir { path, .. } => path,
+        Call::Create { path, .. } => path,
+        Call::Write { path, .. } => path,
+        Call::Read { path, .. } => path,
+        Call::Truncate { path, .. } => path,
+        Call::List { path, .. } => path,
+        Call::Chmod { path, .. } => path,
+        Call::Rename { from, .. } => from,
+        Call::Unlink { path } => path,
+        Call::Rmdir { path } => path,
+        Call::Stat { path } => path,
+    }
+}
+
+/// Puts what stands behind that path: numbers, bytes or another path.
+fn put_rest(alloc: Global, out: &mut Vec<u8>, call: &Call) -> Option<()> {
+    match call {
+        Call::Mkdir { mode, .. } => put_number(alloc, out, u64::from(mode.0)),
+        Call::Create { mode, .. } => put_number(alloc, out, u64::from(mode.0)),
+        Call::Chmod { mode, .. } => put_number(alloc, out, u64::from(mode.0)),
+        Call::Write { at, bytes, .. } => put_written(alloc, out, *at, bytes.as_slice()),
+        Call::Read { at, len, .. } => {
             put_number(alloc, out, *at)?;
             put_number(alloc, out, u64::from(*len))
         }
-        Call::Truncate { path, size } => {
-            put_path(out, "truncate", path)?;
-            put_number(alloc, out, *size)
-        }
-        Call::List { path, from } => {
-            put_path(out, "list", path)?;
-            put_number(alloc, out, u64::from(*from))
-        }
-        Call::Chmod { path, mode } => {
-            put_path(out, "chmod", path)?;
-            put_number(alloc, out, u64::from(mode.0))
-        }
-        Call::Rename { from, to } => {
-            put_path(out, "rename", from)?;
-            put_path(out, "", to)
-        }
-        Call::Unlink { path } => put_path(out, "unlink", path),
-        Call::Rmdir { path } => put_path(out, "rmdir", path),
-        Call::Stat { path } => put_path(out, "stat", path),
+        Call::Truncate { size, .. } => put_number(alloc, out, *size),
+        Call::List { from, .. } => put_number(alloc, out, u64::from(*from)),
+        Call::Rename { to, .. } => put_path(out, "", to),
+        Call::Unlink { .. } | Call::Rmdir { .. } | Call::Stat { .. } => Some(()),
     }
+}
+
+/// Puts an offset, and bytes as they are.
+fn put_written(alloc: Global, out: &mut Vec<u8>, at: u64, bytes: &[u8]) -> Option<()> {
+    put_number(alloc, out, at)?;
+    out.extend_from_slice(b" ").ok()?;
+    out.extend_from_slice(bytes).ok()
+}
+
+/// Puts a call as its word, its paths, its numbers and its bytes, which are left as they are.
+fn put_call(alloc: Global, out: &mut Vec<u8>, call: &Call) -> Option<()> {
+    put_path(out, word_of(call), path_of(call))?;
+    put_rest(alloc, out, call)
 }
 
 /// A line of its own, of the number and what it says.

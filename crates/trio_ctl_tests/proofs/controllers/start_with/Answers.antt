@@ -7,5 +7,5 @@ use Rattle.trio_ctl_tests.proofs.controllers.start_with.Goals as goal
 
 pub returns-clause-nothing : goal.returns-clause-nothing
 returns-clause-nothing c =
-    subst (λ o. IfSome o (λ ctl. OutAlike (out_of ctl.state (record { 0 = 1 })) nothing_out)) (sym c.ok-2.ensures.value)
+    subst (λ o. IfSome o (λ ctl. OutAlike (out_of ctl.state (record { 0 = 1 })) nothing_out)) (sym c.ok.ensures.value)
     (nothing_started c.start.result _ _ (record { 0 = 1 }) c.start.ensures.started)

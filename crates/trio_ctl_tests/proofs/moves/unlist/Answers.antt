@@ -1,5 +1,3 @@
-use Rattle.std.proofs.Common.{rules, ap, subst, sym}
-use Rattle.trio_ctl_tests.specs.Leases.{AreLentAlike}
 use Rattle.trio_ctl_tests.proofs.Leases.{bytes_leave_lent}
 use Rattle.trio_ctl_tests.proofs.moves.unlist.Goals as goal
 
