@@ -103,15 +103,22 @@ fn random_bytes(alloc: Global, random: &mut Random, path: &str) -> Result<String
             let size = random.below(90) * 4096 * random.below(200);
             format!(in alloc; "truncate {path} {size}")
         }
-        _ => {
-            let mut line = format!(in alloc; "write {path} {at} ")?;
-            let letter = (b'a' + random.below(26) as u8) as char;
-            for _ in 0..1 + random.below(3) * random.below(1366) {
-                line.push(letter)?;
-            }
-            Ok(line)
-        }
+        _ => random_write(alloc, random, path, at),
     }
+}
+
+fn random_write(
+    alloc: Global,
+    random: &mut Random,
+    path: &str,
+    at: u64,
+) -> Result<String, NoMemory> {
+    let mut line = format!(in alloc; "write {path} {at} ")?;
+    let letter = (b'a' + random.below(26) as u8) as char;
+    for _ in 0..1 + random.below(3) * random.below(1366) {
+        line.push(letter)?;
+    }
+    Ok(line)
 }
 
 // ---- the hostile library

@@ -1,6 +1,6 @@
 //! Calls of two libraries in turns, each in its session at its own desk, and who has what a call wants.
 
-ghost use Rattle.std.specs.Prelude.{◌≡◌, ◌≢◌, IfSome, length};
+ghost use Rattle.std.specs.Prelude.{◌≡◌, ◌≢◌, ◌≤◌, IfSome, length};
 ghost use Rattle.trio_edit_laws.specs.Calls.{MayCall};
 ghost use Rattle.trio_calls_dir.specs.Chmods.{StandsOnTree};
 ghost use Rattle.trio_ctl.specs.Ctl.{underway_of};
@@ -114,21 +114,23 @@ fn makes_beside(
 
 // ---- random calls
 
-// A random call, of the same kinds as those of scripts.
+// A random call, of the same kinds as those of the scripts.
 fn random_call(alloc: Global, random: &mut Random) -> Option<Call>
     ensures { IfSome result IsCall }
 {
     match random.below(24) {
         0..=2 => random_write(alloc, random),
-        3..=6 => random_look(alloc, random),
-        7..=12 => random_make(alloc, random),
-        13..=20 => random_rename(alloc, random),
-        21..=22 => random_chmod(alloc, random),
+        3..=7 => random_on_file(alloc, random),
+        8..=12 => random_make(alloc, random),
+        13 => random_rename(alloc, random, 22),
+        14..=20 => random_rename(alloc, random, 14),
+        21 => random_chmod(alloc, random, 22),
+        22 => random_chmod(alloc, random, 14),
         _ => random_list(alloc, random),
     }
 }
 
-// One of the first paths.
+// One of so many first paths.
 fn random_path(alloc: Global, random: &mut Random, among: u64) -> Option<Path> {
     let path = PATHS[random.below(among) as usize % 22];
     Path::read(alloc, path.as_bytes()).ok()
@@ -138,8 +140,14 @@ fn random_place(random: &mut Random) -> u64 {
     random.below(3) * 4096 + random.below(30)
 }
 
-fn random_mode(random: &mut Random) -> Mode {
-    Mode([0o777, 0o755, 0o777, 0o777, 0o400, 0o777][random.below(6) as usize % 6])
+fn random_mode(random: &mut Random) -> Mode
+    ensures { result.0 ≤ 511 }
+{
+    match random.below(6) {
+        0 => Mode(0o755),
+        1 => Mode(0o400),
+        _ => Mode(0o777),
+    }
 }
 
 // Up to a block is written, of one letter.
@@ -157,19 +165,20 @@ fn random_write(alloc: Global, random: &mut Random) -> Option<Call>
     })
 }
 
-fn random_look(alloc: Global, random: &mut Random) -> Option<Call>
+fn random_on_file(alloc: Global, random: &mut Random) -> Option<Call>
     ensures { IfSome result IsCall }
 {
     let path = random_path(alloc, random, 22)?;
     let at = random_place(random);
-    Some(match random.below(4) {
+    Some(match random.below(5) {
         0 => Call::Read {
             path,
             at,
-            len: random.below(4096) as u32,
+            len: random.below(4097).min(4096) as u32,
         },
         1 => Call::Stat { path },
         2 => Call::Truncate { path, size: at },
+        3 => Call::Unlink { path },
         _ => Call::Truncate {
             path,
             size: random.below(90) * 4096 * random.below(200),
@@ -182,27 +191,26 @@ fn random_make(alloc: Global, random: &mut Random) -> Option<Call>
 {
     let path = random_path(alloc, random, 14)?;
     let mode = random_mode(random);
-    Some(match random.below(6) {
+    Some(match random.below(5) {
         0..=1 => Call::Mkdir { path, mode },
         2..=3 => Call::Create { path, mode },
-        4 => Call::Unlink { path },
         _ => Call::Rmdir { path },
     })
 }
 
-fn random_rename(alloc: Global, random: &mut Random) -> Option<Call>
+fn random_rename(alloc: Global, random: &mut Random, among: u64) -> Option<Call>
     ensures { IfSome result IsCall }
 {
     Some(Call::Rename {
-        from: random_path(alloc, random, 14)?,
+        from: random_path(alloc, random, among)?,
         to: random_path(alloc, random, 14)?,
     })
 }
 
-fn random_chmod(alloc: Global, random: &mut Random) -> Option<Call>
+fn random_chmod(alloc: Global, random: &mut Random, among: u64) -> Option<Call>
     ensures { IfSome result IsCall }
 {
-    let path = random_path(alloc, random, 22)?;
+    let path = random_path(alloc, random, among)?;
     Some(Call::Chmod {
         path,
         mode: random_mode(random),

@@ -1,5 +1,5 @@
 use Rattle.trio_ctl.specs.Ctl.{underway_of}
-use Rattle.trio_session_tests.proofs.Turns.{other_plays}
+use Rattle.trio_session_tests.proofs.InTurns.{other_plays}
 use Rattle.trio_session_tests.proofs.turns.makes_beside.Goals as goal
 
 pub returns-clause-other : goal.returns-clause-other
