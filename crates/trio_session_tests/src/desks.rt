@@ -7,6 +7,7 @@ ghost use Rattle.trio_calls_dir.specs.Asks.{IsDirCall};
 ghost use Rattle.trio_calls_file.specs.Asks.{IsFileCall};
 ghost use Rattle.trio_ctl.specs.Ctl.{NoneBegun};
 ghost use Rattle.trio_session_tests.specs.Begins.{MayBegin, NothingIsOut, second_lib};
+ghost use Rattle.trio_session_tests.specs.Turns.{IsCall};
 
 use crate::images::{Start, image_of};
 use std::alloc::Global;
@@ -42,7 +43,7 @@ struct Heard {
 }
 
 /// A controller for two libraries, of uid 0 and of uid 5.
-fn started(alloc: Global, start: Start) -> Option<Ctl>
+pub fn started(alloc: Global, start: Start) -> Option<Ctl>
     ensures two { IfSome result (λ ctl. length ctl.state.creds ≡ 2) }
     ensures none { IfSome result NothingIsOut }
 {
@@ -76,8 +77,10 @@ fn does<D: Desk>(alloc: Global, session: &mut Session, desk: &mut D, deed: Deed)
     })
 }
 
-fn write(alloc: Global, bytes: &[u8]) -> Option<Call>
-    ensures { IfSome result IsFileCall }
+/// A write of these bytes, of at most a block, into the file `f` of the directory `a`.
+pub fn write(alloc: Global, bytes: &[u8]) -> Option<Call>
+    ensures file { IfSome result IsFileCall }
+    ensures call { IfSome result IsCall }
 {
     if bytes.len() > 4096 {
         return None;
@@ -89,15 +92,17 @@ fn write(alloc: Global, bytes: &[u8]) -> Option<Call>
     })
 }
 
-fn list(alloc: Global, path: &[u8]) -> Option<Call>
-    ensures { IfSome result IsDirCall }
+/// A list of the directory of this path.
+pub fn list(alloc: Global, path: &[u8]) -> Option<Call>
+    ensures dir { IfSome result IsDirCall }
+    ensures call { IfSome result IsCall }
 {
     let path = Path::read(alloc, path).ok()?;
     Some(Call::List { path, from: 0 })
 }
 
-// Who has what a call wanted, or nobody where it was done. `None` where it was neither.
-fn holder_in(outcome: &Outcome) -> Option<Option<Holder>> {
+/// Who has what a call wanted, or nobody where it was done. `None` where it was neither.
+pub fn holder_in(outcome: &Outcome) -> Option<Option<Holder>> {
     match outcome {
         Outcome::Busy(holder) => Some(Some(*holder)),
         Outcome::Replied(Reply::Ok(_)) => Some(None),
@@ -148,16 +153,11 @@ fn path_of(alloc: Global, letter: char, number: u32) -> Option<Path> {
     Path::read(alloc, text.as_bytes()).ok()
 }
 
-// How many look-ups that takes.
-fn finds(alloc: Global) -> Option<u64> {
-    let mut ctl = started(alloc, Start::Bare)?;
-    Some(hears(alloc, &mut ctl, LibNo(1), Deed::Many)?.finds)
-}
-
 /// Each name is looked up in an index, both names of a rename.
 #[test]
 fn names_are_looked_up(rt: HostRuntime) {
-    assert!(rt; finds(rt.alloc()).is_some_and(|finds| finds >= 500));
+    let heard = heard_with(rt.alloc(), Start::Bare, None, Deed::Many);
+    assert!(rt; heard.is_some_and(|heard| heard.finds >= 500));
 }
 
 // ---- what another has
@@ -175,12 +175,23 @@ fn taken(ctl: &mut Ctl, ino: u32) -> Option<Lease>
 }
 
 // What the second library hears while the first one has this file for writing.
-fn hears_beside(alloc: Global, ino: u32, deed: Deed) -> Option<Heard> {
-    let mut ctl = started(alloc, Start::Several)?;
-    let lease = taken(&mut ctl, ino)?;
-    let heard = hears(alloc, &mut ctl, LibNo(2), deed);
+fn hears_beside(alloc: Global, ctl: &mut Ctl, ino: u32, deed: Deed) -> Option<Heard>
+    requires two { length ctl.old.state.creds ≡ 2 }
+    requires none { NothingIsOut ctl.old }
+{
+    let lease = taken(ctl, ino)?;
+    let heard = hears(alloc, ctl, LibNo(2), deed);
     lease.discard();
     heard
+}
+
+// What is heard on a new controller: by the first library, or by the second one while the first has a file.
+fn heard_with(alloc: Global, start: Start, taken: Option<u32>, deed: Deed) -> Option<Heard> {
+    let mut ctl = started(alloc, start)?;
+    match taken {
+        Some(ino) => hears_beside(alloc, &mut ctl, ino, deed),
+        None => hears(alloc, &mut ctl, LibNo(1), deed),
+    }
 }
 
 /// The first library, by its write grant, whose entry is the first.
@@ -207,7 +218,7 @@ const ROWS: &[(&str, u32, Deed, Option<Holder>)] = &[
 #[test]
 fn the_holder_is_told(rt: HostRuntime) {
     for (name, ino, deed, wanted) in ROWS {
-        let heard = hears_beside(rt.alloc(), *ino, *deed);
+        let heard = heard_with(rt.alloc(), Start::Several, Some(*ino), *deed);
         assert!(rt;
             heard.is_some_and(|heard| heard.holder == *wanted),
             "{name}"

@@ -43,23 +43,13 @@ fn sample_of(alloc: Global, start: Start) -> Result<Sample, NoMemory> {
 }
 
 fn several<'a>() -> [SampleFile<'a>; 7] {
-    let shared = Mode(0o666);
     [
         root(),
         directory(2, 1, b"a"),
-        SampleFile {
-            mode: shared,
-            ..regular(3, 2, b"f", b"hello")
-        },
-        SampleFile {
-            mode: shared,
-            ..regular(4, 2, b"g", b"")
-        },
+        of_mode(0o666, regular(3, 2, b"f", b"hello")),
+        of_mode(0o666, regular(4, 2, b"g", b"")),
         regular(5, 1, b"h", b"one and two"),
-        SampleFile {
-            mode: Mode(0o700),
-            ..directory(6, 1, b"p")
-        },
+        of_mode(0o700, directory(6, 1, b"p")),
         regular(7, 6, b"q", b"hidden"),
     ]
 }
@@ -67,27 +57,24 @@ fn several<'a>() -> [SampleFile<'a>; 7] {
 fn shared<'a>() -> [SampleFile<'a>; 12] {
     [
         root(),
-        for_all(directory(2, 1, b"a")),
-        for_all(directory(3, 2, b"d")),
-        for_all(directory(4, 1, b"b")),
-        for_all(directory(5, 4, b"d")),
-        for_all(regular(6, 2, b"f", b"hello")),
-        for_all(regular(7, 3, b"f", b"")),
-        for_all(regular(8, 4, b"f", b"one and two")),
-        for_all(regular(9, 5, b"f", b"three")),
+        of_mode(0o777, directory(2, 1, b"a")),
+        of_mode(0o777, directory(3, 2, b"d")),
+        of_mode(0o777, directory(4, 1, b"b")),
+        of_mode(0o777, directory(5, 4, b"d")),
+        of_mode(0o777, regular(6, 2, b"f", b"hello")),
+        of_mode(0o777, regular(7, 3, b"f", b"")),
+        of_mode(0o777, regular(8, 4, b"f", b"one and two")),
+        of_mode(0o777, regular(9, 5, b"f", b"three")),
         regular(10, 1, b"h", b"four"),
-        SampleFile {
-            mode: Mode(0o700),
-            ..directory(11, 1, b"p")
-        },
+        of_mode(0o700, directory(11, 1, b"p")),
         regular(12, 11, b"q", b"hidden"),
     ]
 }
 
-// A file that all may read, write and enter.
-fn for_all(file: SampleFile) -> SampleFile {
+// The file with this mode.
+fn of_mode(mode: u16, file: SampleFile) -> SampleFile {
     SampleFile {
-        mode: Mode(0o777),
+        mode: Mode(mode),
         ..file
     }
 }

@@ -16,3 +16,5 @@ mod random;
 mod rows;
 #[cfg(test)]
 mod scripts;
+#[cfg(test)]
+mod turns;

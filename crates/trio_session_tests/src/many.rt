@@ -1,8 +1,9 @@
 //! Many names in one directory.
 
-use crate::images::{Start, loaded};
-use crate::scripts::{Lines, plays_so};
+use crate::images::Start;
+use crate::scripts::Lines;
 use std::alloc::Global;
+use std::test::Fail;
 use trio_image::Counts;
 use trio_page::NoMemory;
 
@@ -17,27 +18,36 @@ const LISTED_ON: &str =
     "ok 100 m35 m37 m39 m41 m43 m45 m47 m49 m5 m51 m53 m55 m57 m59 m61 m63 m65 m67 m69 m7 m71 \
     m73 m75 m77 m79 m81 m83 m85 m87 m89 m9 m91 m93 m95 m97 m99";
 
+fn lines_of(alloc: Global) -> Result<Lines, NoMemory> {
+    let mut lines = Lines::new(alloc)?;
+    add_all(alloc, &mut lines)?;
+    Ok(lines)
+}
+
 // Two hundred files are made and settled; then those of even numbers are removed, and those of odd ones
 // renamed.
-fn all_lines(alloc: Global) -> Result<Lines, NoMemory> {
-    let mut lines = Lines::new(alloc)?;
+fn add_all(alloc: Global, lines: &mut Lines) -> Result<(), NoMemory> {
     for number in 0..200 {
         lines.add(&format!(in alloc; "create /f{number} 644")?, "ok")?;
     }
     lines.add("settle", "settled 200")?;
-    add_changes(alloc, &mut lines)?;
+    add_unlinks(alloc, lines)?;
+    add_renames(alloc, lines)?;
     lines.add("list / 0", LISTED)?;
     lines.add("settle", "settled 201")?;
-    lines.add("list / 64", LISTED_ON)?;
-    Ok(lines)
+    lines.add("list / 64", LISTED_ON)
 }
 
-fn add_changes(alloc: Global, lines: &mut Lines) -> Result<(), NoMemory> {
+fn add_unlinks(alloc: Global, lines: &mut Lines) -> Result<(), NoMemory> {
     for number in 0..200 {
         if number % 2 == 0 {
             lines.add(&format!(in alloc; "unlink /f{number}")?, "ok")?;
         }
     }
+    Ok(())
+}
+
+fn add_renames(alloc: Global, lines: &mut Lines) -> Result<(), NoMemory> {
     for number in 0..200 {
         if number % 2 == 1 {
             lines.add(&format!(in alloc; "rename /f{number} /m{number}")?, "ok")?;
@@ -53,14 +63,15 @@ const COUNTS: Counts = Counts {
     free: 494,
 };
 
-// Whether all is told so, and the image then loads.
-fn are_many(alloc: Global) -> Option<bool> {
-    let mut ctl = plays_so(alloc, Start::Bare, &all_lines(alloc).ok()?)?;
-    let bytes = ctl.image().ok()?.into_bytes(alloc).ok()?;
-    Some(loaded(alloc, bytes)?.counts() == COUNTS)
+fn play(alloc: Global) -> Result<(), &'static str> {
+    match lines_of(alloc) {
+        Ok(lines) => lines.play(alloc, Start::Bare, &COUNTS),
+        Err(_) => Err("memory is wanting"),
+    }
 }
 
 #[test]
-fn many_names(rt: HostRuntime) {
-    assert!(rt; are_many(rt.alloc()) == Some(true));
+fn many_names(rt: HostRuntime) -> Result<(), Fail> {
+    play(rt.alloc())?;
+    Ok(())
 }

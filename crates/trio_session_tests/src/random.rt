@@ -4,7 +4,7 @@
 ghost use Rattle.std.specs.Prelude.{◌≤◌};
 
 use crate::images::{Start, image_of};
-use crate::scripts::{played, put_line};
+use crate::scripts::{Inspect, played, put_line};
 use std::alloc::Global;
 use trio_ctl::Ctl;
 use trio_image::Image;
@@ -18,10 +18,11 @@ use trio_runner::LibTold;
 
 /// A number after another: those of a linear congruence.
 #[derive(Drop)]
-struct Random(u64);
+pub struct Random(pub u64);
 
 impl Random {
-    fn below(&mut self, bound: u64) -> u64
+    /// A number below the bound, or 0 where that is 0.
+    pub fn below(&mut self, bound: u64) -> u64
         ensures { result ≤ bound }
     {
         self.0 = self
@@ -35,9 +36,9 @@ impl Random {
     }
 }
 
-// Paths of the image and others. The first fourteen are those of files and directories that are made,
-// renamed and removed, most of them in directories that all may write.
-const PATHS: [&str; 22] = [
+/// Paths of the image and others. The first fourteen are those of files and directories that are made,
+/// renamed and removed, most of them in directories that all may write.
+pub const PATHS: [&str; 22] = [
     "/a/f", "/a/g", "/a/d", "/a/e", "/b/f", "/b/g", "/b/d", "/b/e", "/a/d/f", "/a/d/d", "/b/d/f",
     "/b/d/d", "/a/e/f", "/c", "/a", "/b", "/h", "/p/q", "/", "/c/f", "/a/d/d/f", "/h/under",
 ];
@@ -102,15 +103,22 @@ fn random_bytes(alloc: Global, random: &mut Random, path: &str) -> Result<String
             let size = random.below(90) * 4096 * random.below(200);
             format!(in alloc; "truncate {path} {size}")
         }
-        _ => {
-            let mut line = format!(in alloc; "write {path} {at} ")?;
-            let letter = (b'a' + random.below(26) as u8) as char;
-            for _ in 0..1 + random.below(3) * random.below(1366) {
-                line.push(letter)?;
-            }
-            Ok(line)
-        }
+        _ => random_write(alloc, random, path, at),
     }
+}
+
+fn random_write(
+    alloc: Global,
+    random: &mut Random,
+    path: &str,
+    at: u64,
+) -> Result<String, NoMemory> {
+    let mut line = format!(in alloc; "write {path} {at} ")?;
+    let letter = (b'a' + random.below(26) as u8) as char;
+    for _ in 0..1 + random.below(3) * random.below(1366) {
+        line.push(letter)?;
+    }
+    Ok(line)
 }
 
 // ---- the hostile library
@@ -165,9 +173,10 @@ fn refusals(answers: &[LineAnswer]) -> Option<u32> {
 
 // ---- the one-thread tree beside the controller
 
-// The nodes that the controller's image should have, and the calls that were done.
+// The image that the last script left, the nodes that it should have, and what was done in all.
 #[derive(Drop)]
 struct Model {
+    image: Option<Image>,
     nodes: Nodes,
     count: Count,
 }
@@ -327,20 +336,15 @@ fn is_same_answer(a: &Answer, b: &Answer) -> bool {
 }
 
 fn are_same_names(a: &[(Name, Kind)], b: &[(Name, Kind)]) -> bool {
-    let are_alike = |((name, kind), (name2, kind2)): (&(Name, Kind), &(Name, Kind))| {
-        name.as_bytes() == name2.as_bytes() && kind == kind2
-    };
-    a.len() == b.len() && a.iter().zip(b).all(are_alike)
-}
-
-// The image, if it has the nodes of the model.
-fn with_nodes(alloc: Global, mut image: Image, wanted: &Nodes) -> Option<Image> {
-    let nodes = image.nodes(alloc).ok()?;
-    if are_same(&nodes, wanted) {
-        Some(image)
-    } else {
-        None
+    if a.len() != b.len() {
+        return false;
     }
+    for ((name, kind), (name2, kind2)) in a.iter().zip(b) {
+        if name.as_bytes() != name2.as_bytes() || kind != kind2 {
+            return false;
+        }
+    }
+    true
 }
 
 fn are_same(a: &Nodes, b: &Nodes) -> bool {
@@ -381,43 +385,99 @@ fn script(alloc: Global, seed: u64) -> Result<Vec<u8>, NoMemory> {
     Ok(script)
 }
 
-// The nodes of the image from which it starts.
+// The image from which it starts, with its nodes.
 fn begun(alloc: Global) -> Option<Model> {
-    let nodes = image_of(alloc, Start::Shared)?.nodes(alloc).ok()?;
-    Some(Model { nodes, count: NONE })
+    let mut image = image_of(alloc, Start::Shared)?;
+    let nodes = image.nodes(alloc).ok()?;
+    Some(Model {
+        image: Some(image),
+        nodes,
+        count: NONE,
+    })
 }
 
-// The image once a script was played on it and all is settled, if it is that of the tree.
-fn next(alloc: Global, image: Image, model: &mut Model, seed: u64) -> Option<Image> {
-    let (mut ctl, tolds) = played(alloc, image, &script(alloc, seed).ok()?)?;
-    if !are_refused(&tolds, model) || !follow(alloc, &ctl, model) {
-        return None;
+impl Inspect for Model {
+    // The settled image is that of the tree, and what the third library spoiled is refused.
+    fn inspect(
+        &mut self,
+        alloc: Global,
+        ctl: &mut Ctl,
+        tolds: &[LibTold],
+    ) -> Result<(), &'static str> {
+        if !are_refused(tolds, self) {
+            return Err("what was spoiled is accepted");
+        }
+        if !follow(alloc, ctl, self) {
+            return Err("the tree replies something else");
+        }
+        if !is_left(alloc, ctl, self) {
+            return Err("the image is not that of the tree");
+        }
+        Ok(())
     }
-    with_nodes(alloc, ctl.image().ok()?, &model.nodes)
+}
+
+// Whether the settled image has the nodes of the model, which goes on from it.
+fn is_left(alloc: Global, ctl: &mut Ctl, model: &mut Model) -> bool {
+    match ctl.image() {
+        Ok(mut image) => {
+            let has_nodes = has_nodes(alloc, &mut image, &model.nodes);
+            model.image = Some(image);
+            has_nodes
+        }
+        Err(_) => false,
+    }
+}
+
+fn has_nodes(alloc: Global, image: &mut Image, wanted: &Nodes) -> bool {
+    match image.nodes(alloc) {
+        Ok(nodes) => are_same(&nodes, wanted),
+        Err(_) => false,
+    }
 }
 
 // Whether what the third library spoiled is refused.
 fn are_refused(tolds: &[LibTold], model: &mut Model) -> bool {
-    match tolds {
-        [_, _, third] => match refusals(third.answers()) {
-            Some(refusals) => {
-                model.count = model.count.and(Count { refusals, ..NONE });
-                true
-            }
-            None => false,
-        },
-        _ => false,
+    let [_, _, third] = tolds else {
+        return false;
+    };
+    match refusals(third.answers()) {
+        Some(refusals) => {
+            model.count = model.count.and(Count { refusals, ..NONE });
+            true
+        }
+        None => false,
     }
 }
 
-// What was done in five scripts one after another, where it is one tree.
-fn one_tree(alloc: Global, seed: u64) -> Option<Count> {
-    let mut model = begun(alloc)?;
-    let mut image = image_of(alloc, Start::Shared)?;
-    for part in 0..5 {
-        image = next(alloc, image, &mut model, seed.wrapping_add(1000 * part))?;
+// Plays a script on the image that the last one left.
+fn goes_on(alloc: Global, model: &mut Model, seed: u64) -> Result<(), &'static str> {
+    let Ok(script) = script(alloc, seed) else {
+        return Err("memory is wanting");
+    };
+    match model.image.take() {
+        Some(image) => played(alloc, image, &script, model),
+        None => Err("no image is left"),
     }
-    Some(model.count)
+}
+
+// Five scripts one after another.
+fn go_on(alloc: Global, model: &mut Model, seed: u64) -> Result<(), &'static str> {
+    for part in 0..5 {
+        goes_on(alloc, model, seed.wrapping_add(1000 * part))?;
+    }
+    Ok(())
+}
+
+// What was done in them, where it is one tree.
+fn one_tree(alloc: Global, seed: u64) -> Result<Count, &'static str> {
+    match begun(alloc) {
+        Some(mut model) => {
+            go_on(alloc, &mut model, seed)?;
+            Ok(model.count)
+        }
+        None => Err("memory is wanting"),
+    }
 }
 
 fn are_many(count: Count) -> bool {
@@ -429,7 +489,7 @@ fn settles_come_to_the_one_thread_tree(rt: HostRuntime) {
     let mut all = NONE;
     for seed in 1..26 {
         let count = one_tree(rt.alloc(), seed);
-        assert!(rt; count.is_some(), "seed {seed}");
+        assert!(rt; count.is_ok(), "seed {seed}");
         all = all.and(count.unwrap_or(NONE));
     }
     assert!(rt; are_many(all));

@@ -1,13 +1,14 @@
 //! Calls one after another, each with what it is told.
 
 use crate::images::Start;
-use crate::scripts::{Library, Row, plays};
+use crate::scripts::{Inspect, Library, Row, are_told, bytes_left, has, plays};
 use std::alloc::Global;
 use std::test::Fail;
 use trio_ctl::Ctl;
 use trio_image::Counts;
 use trio_nodes::Entry;
 use trio_page::field::all_zero;
+use trio_runner::LibTold;
 
 // Calls on the image of one file.
 const CALLS: &[Library] = &[Library {
@@ -23,15 +24,32 @@ const CALLS: &[Library] = &[Library {
     ],
 }];
 
-// Whether the settled image has the file grown: its second block is page 9, and what was not written
-// is zero.
-fn is_grown(alloc: Global, ctl: &mut Ctl) -> Option<bool> {
-    let image = ctl.image().ok()?;
-    if image.counts() != GROWN {
-        return None;
+// The lines are told so, and the settled image has the file grown: its second block is page 9, and what
+// was not written is zero.
+#[derive(Clone, Copy)]
+struct Grown;
+
+impl Inspect for Grown {
+    fn inspect(
+        &mut self,
+        alloc: Global,
+        ctl: &mut Ctl,
+        tolds: &[LibTold],
+    ) -> Result<(), &'static str> {
+        are_told(alloc, CALLS, tolds)?;
+        if has(ctl, &GROWN) && is_grown(alloc, ctl) {
+            Ok(())
+        } else {
+            Err("the file is not as it was written")
+        }
     }
-    let bytes = image.into_bytes(alloc).ok()?;
-    is_written(&bytes)
+}
+
+fn is_grown(alloc: Global, ctl: &mut Ctl) -> bool {
+    match bytes_left(alloc, ctl) {
+        Some(bytes) => is_written(&bytes) == Some(true),
+        None => false,
+    }
 }
 
 fn is_written(bytes: &[u8]) -> Option<bool> {
@@ -54,8 +72,7 @@ const GROWN: Counts = Counts {
 
 #[test]
 fn calls_on_a_file(rt: HostRuntime) -> Result<(), Fail> {
-    let mut ctl = plays(rt.alloc(), Start::OneFile, CALLS)?;
-    assert!(rt; is_grown(rt.alloc(), &mut ctl) == Some(true));
+    plays(rt.alloc(), Start::OneFile, CALLS, &mut Grown)?;
     Ok(())
 }
 
@@ -71,22 +88,50 @@ const TWICE: &[Library] = &[Library {
     rows: &[DEEP, DEEP],
 }];
 
-// How many entries the log has in all, and how many of them are grants.
-fn entries_of(ctl: &Ctl) -> (usize, usize) {
-    let entries = ctl.log().entries();
-    let grants = entries
-        .iter()
-        .filter(|entry| matches!(entry, Entry::Grant { .. }));
-    (entries.len(), grants.count())
+// The lines are told so. How many entries the log has in all, and how many of them are grants.
+#[derive(Clone, Copy)]
+struct Asked {
+    libs: &'static [Library],
+    entries: usize,
+    grants: usize,
+}
+
+impl Asked {
+    fn by(libs: &'static [Library]) -> Asked {
+        Asked {
+            libs,
+            entries: 0,
+            grants: 0,
+        }
+    }
+}
+
+impl Inspect for Asked {
+    fn inspect(
+        &mut self,
+        alloc: Global,
+        ctl: &mut Ctl,
+        tolds: &[LibTold],
+    ) -> Result<(), &'static str> {
+        for entry in ctl.log().entries() {
+            self.entries = self.entries.wrapping_add(1);
+            if matches!(entry, Entry::Grant { .. }) {
+                self.grants = self.grants.wrapping_add(1);
+            }
+        }
+        are_told(alloc, self.libs, tolds)
+    }
 }
 
 // A file eight directories below the root is read once or twice: the log has the grants of the first
 // walk, and no entry more where it is read twice.
 #[test]
 fn a_second_read_asks_nothing(rt: HostRuntime) -> Result<(), Fail> {
-    let once = entries_of(&plays(rt.alloc(), Start::Deep, ONCE)?);
-    let twice = entries_of(&plays(rt.alloc(), Start::Deep, TWICE)?);
-    assert!(rt; once.1 == 10 && once == twice);
+    let mut once = Asked::by(ONCE);
+    let mut twice = Asked::by(TWICE);
+    plays(rt.alloc(), Start::Deep, ONCE, &mut once)?;
+    plays(rt.alloc(), Start::Deep, TWICE, &mut twice)?;
+    assert!(rt; once.grants == 10 && twice.grants == 10 && once.entries == twice.entries);
     Ok(())
 }
 
@@ -161,18 +206,29 @@ const LEFT: Counts = Counts {
     free: 22,
 };
 
-// Whether the settled image has so many files and pages.
-fn has(ctl: &mut Ctl, counts: Counts) -> bool {
-    match ctl.image() {
-        Ok(image) => image.counts() == counts,
-        Err(_) => false,
+// The lines are told so, and the settled image has what is left.
+#[derive(Clone, Copy)]
+struct Made;
+
+impl Inspect for Made {
+    fn inspect(
+        &mut self,
+        alloc: Global,
+        ctl: &mut Ctl,
+        tolds: &[LibTold],
+    ) -> Result<(), &'static str> {
+        are_told(alloc, MAKES, tolds)?;
+        if has(ctl, &LEFT) {
+            Ok(())
+        } else {
+            Err("the image has other counts")
+        }
     }
 }
 
 #[test]
 fn calls_on_directories(rt: HostRuntime) -> Result<(), Fail> {
-    let mut ctl = plays(rt.alloc(), Start::OneFile, MAKES)?;
-    assert!(rt; has(&mut ctl, LEFT));
+    plays(rt.alloc(), Start::OneFile, MAKES, &mut Made)?;
     Ok(())
 }
 
@@ -265,10 +321,29 @@ const DIRECTORY_IS_BUSY: &[Library] = &[
     },
 ];
 
+// The lines are told so.
+#[derive(Clone, Copy)]
+struct Answers(&'static [Library]);
+
+impl Inspect for Answers {
+    fn inspect(
+        &mut self,
+        alloc: Global,
+        _ctl: &mut Ctl,
+        tolds: &[LibTold],
+    ) -> Result<(), &'static str> {
+        are_told(alloc, self.0, tolds)
+    }
+}
+
+fn told(alloc: Global, start: Start, libs: &'static [Library]) -> Result<(), &'static str> {
+    plays(alloc, start, libs, &mut Answers(libs))
+}
+
 #[test]
 fn what_another_has_is_not_free(rt: HostRuntime) -> Result<(), Fail> {
-    plays(rt.alloc(), Start::Several, FILE_IS_BUSY)?;
-    plays(rt.alloc(), Start::Several, DIRECTORY_IS_BUSY)?;
-    plays(rt.alloc(), Start::OneFile, SHORT)?;
+    told(rt.alloc(), Start::Several, FILE_IS_BUSY)?;
+    told(rt.alloc(), Start::Several, DIRECTORY_IS_BUSY)?;
+    told(rt.alloc(), Start::OneFile, SHORT)?;
     Ok(())
 }

@@ -1,0 +1,27 @@
+use Rattle.std.proofs.Common.{◌∙◌, subst, sym}
+use Rattle.trio_ctl.specs.Ctl.{Controller}
+use Rattle.trio_runner.proofs.OnTree.{OnTree, stands_on_tree}
+use Rattle.trio_runner.proofs.Moves.{Stands}
+use Rattle.trio_session_tests.proofs.InTurns.{calls_turn, goes_on, recorded_stands, turn_taken}
+use Rattle.trio_session_tests.proofs.turns.makes.Goals as goal
+
+pub any_call-requires-clause-tree : goal.any_call-requires-clause-tree
+any_call-requires-clause-tree c =
+    let desk = c.of-desk in
+    let now : OnTree c.args.ctl.now.state = record { stands = recorded_stands c.args.ctl.now.first c.args.ctl.now c.is_recorded.ensures c.is_as_told.ensures; lent = c.is_as_lent.ensures } in
+    stands_on_tree _ (λ d. d.ctl.now) (λ d. d.ctl.ghost_name) (λ d. d.lib) (λ d a t d' h. h) desk.result
+    (subst (λ (x : Controller). OnTree x.state) (sym desk.ensures.ctl) now)
+
+pub returns : goal.returns
+returns c =
+    let desk = c.of-desk in
+    let made = c.any_call.ensures.called in
+    let stands = subst (λ (x : Controller). Stands x.state) (sym desk.ensures.ctl) (recorded_stands c.args.ctl.now.first c.args.ctl.now c.is_recorded.ensures c.is_as_told.ensures) in
+    let t = calls_turn _ (λ d. d.ctl.now) (λ d. d.ctl.ghost_name) (λ d. d.lib) (λ d a t d' h. h) made.0 desk.result c.any_call.new.desk stands made.1 in
+    let after = c.ctl-1.given.1 (sym desk.ensures.same_reference ∙ sym t.same) in
+    record {
+      may = goes_on _ (λ d. d.ctl.now) (λ d. d.ctl.ghost_name) (λ d. d.lib) (λ d a t d' h. h) c.args.lib c.args.ctl.now _ desk.result c.any_call.new.desk c.any_call.new.session
+          desk.ensures.lib desk.ensures.ctl after t c.requires.may.library c.requires.may.idle c.any_call.ensures.may;
+      turn = turn_taken _ (λ d. d.ctl.now) (λ d. d.ctl.ghost_name) (λ d. d.lib) (λ d a t d' h. h) c.args.lib c.args.ctl.now _ desk.result c.any_call.new.desk
+          desk.ensures.lib desk.ensures.ctl after t;
+    }

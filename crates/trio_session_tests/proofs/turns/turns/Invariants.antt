@@ -1,0 +1,7 @@
+use Rattle.trio_ctl.specs.Ctl.{underway_of}
+use Rattle.trio_session_tests.specs.Begins.{second_lib}
+use Rattle.trio_session_tests.specs.Turns.{MayPlay, first_lib}
+use Rattle.trio_session_tests.proofs.turns.turns.Given as goal
+
+abbrev pub invariant-loop : goal.invariant-loop
+invariant-loop l = MayPlay (underway_of l.ctl) first_lib l.first × MayPlay (underway_of l.ctl) second_lib l.second
