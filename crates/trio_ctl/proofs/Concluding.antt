@@ -273,3 +273,62 @@ module _ (s : Store) (first : ℕ) (table : List Keyed) (files : List Opened) (c
       kinds = stand.0;
       told = stand.1;
     }
+
+-- ---- as a call sees it: the state that is seen, and the bundle of the case
+
+-- what is true of what is seen is true of what is here, and the other way round
+as_here : {here seen : State} {b asked : Bundle} → (P : State → Bundle → Type 0) → here ≡ seen → b ≡ asked → P seen asked → P here b
+as_here {here} {seen} {b} {asked} P is same p = subst (λ t. P t b) (sym is) (subst (P seen) (sym same) p)
+
+as_seen : {here seen : State} {b asked : Bundle} → (P : State → Bundle → Type 0) → here ≡ seen → b ≡ asked → P here b → P seen asked
+as_seen {here} {seen} {b} {asked} P is same p = subst (P seen) same (subst (λ t. P t b) is p)
+
+module _ {s : Store} {first : ℕ} {table : List Keyed} {files : List Opened} {creds : List Creds} {entries : Entries} {begun : List (Option Outline)} (k : IsControlled s first table files creds entries begun)
+    (lib : LibNo) {seen : State} (is : state_of s first (grants_in files) creds entries.made ≡ seen) {b asked : Bundle} (same : b ≡ asked) (given : GivenTo seen lib.0 asked) (closed : parted_hold seen lib.0 asked ≡ None) where
+  given_here : GivenTo (state_of s first (grants_in files) creds entries.made) lib.0 b
+  given_here = as_here (λ t x. GivenTo t lib.0 x) is same given
+
+  closed_here : parted_hold (state_of s first (grants_in files) creds entries.made) lib.0 b ≡ None
+  closed_here = as_here (λ t x. parted_hold t lib.0 x ≡ None) is same closed
+
+  -- the registry is controlled after the end, and the step to it gives this answer
+  abbrev pub HasEnded : CtlAnswer → Store → List Keyed → List Opened → Entries → Type 0
+  HasEnded answer s' table' files' entries' = IsControlled s' first table' files' creds entries' begun × Step seen (Release lib.0 asked) answer (state_of s' first (grants_in files') creds entries'.made)
+
+  module _ {l : Listing} (out : IsTrue (meets_rules (case_in seen lib.0 asked)) × (l ≡ listing (case_in seen lib.0 asked))) where
+    out_here : IsTrue (meets_rules (case_in (state_of s first (grants_in files) creds entries.made) lib.0 b)) × (l ≡ listing (case_in (state_of s first (grants_in files) creds entries.made) lib.0 b))
+    out_here = as_here (λ t x. IsTrue (meets_rules (case_in t lib.0 x)) × (l ≡ listing (case_in t lib.0 x))) is same out
+
+    pub can_commit_seen : CanCommit s lib b l
+    can_commit_seen = can_commit_it s first table files creds entries begun k lib b given_here closed_here l out_here.0 out_here.1
+
+    pub few_seen : page_changes None (kept_children (with_children (placed_files s.rows b) s.checkpoints.items) l.entries) ≤ length (bundle_pages b)
+    few_seen = few_changes s first table files creds entries begun k lib b given_here closed_here l out_here.0 out_here.1
+
+    pub ended_accepted : (s' : Store) → Commits s s' b l → {table' : List Keyed} {files' : List Opened} {entries' : Entries} → table' ≡ map keyed files' → files' ≡ staying lib asked files → entries' ≡ record entries { made = entries.made + 1 } → HasEnded Accepted s' table' files' entries'
+    ended_accepted s' commits {table'} {files'} {entries'} keeps left next' =
+        let g = given_here in
+        let p = closed_here in
+        let m = out_here.0 in
+        let stay : files' ≡ staying lib b files = left ∙ ap (λ x. staying lib x files) (sym same) in
+        let done = committed_it s first table files creds entries begun k lib b g p l m out_here.1 s' commits in
+        let stand = stand_accepted s first table files creds entries begun k lib b g p s' table' files' entries' stay next' m done in (
+          ended_controlled s first table files creds entries begun k lib b g p s' table' files' entries' stay next' keeps stand commits.allotments done.stored,
+          as_seen (λ t x. Step t (Release lib.0 x) Accepted (state_of s' first (grants_in files') creds entries'.made)) is same
+              (accepted_step s first table files creds entries begun k lib b g p s' table' files' entries' stay next' m done.ends),
+        )
+
+  pub can_roll_back_seen : CanRollBack s lib b
+  can_roll_back_seen = can_roll_back_it s first table files creds entries begun k lib b given_here closed_here
+
+  pub ended_refused : (rule ino page slot : ℕ) → Breaks (case_in seen lib.0 asked) rule ino (record { page = page; slot = slot }) → (s' : Store) → RollsBack s s' b → {table' : List Keyed} {files' : List Opened} {entries' : Entries} → table' ≡ map keyed files' → files' ≡ staying lib asked files → entries' ≡ record entries { made = entries.made + 1 } → HasEnded (Refused (record { rule = rule; ino = ino; page = page; slot = slot })) s' table' files' entries'
+  ended_refused rule ino page slot breaks s' rolls {table'} {files'} {entries'} keeps left next' =
+      let g = given_here in
+      let p = closed_here in
+      let stay : files' ≡ staying lib b files = left ∙ ap (λ x. staying lib x files) (sym same) in
+      let done = rolled_back_it s first table files creds entries begun k lib b g p s' rolls in
+      let stand = stand_refused s first table files creds entries begun k lib b g p s' table' files' entries' stay next' rolls.rows in (
+        ended_controlled s first table files creds entries begun k lib b g p s' table' files' entries' stay next' keeps stand rolls.allotments done.stored,
+        as_seen (λ t x. Step t (Release lib.0 x) (Refused (record { rule = rule; ino = ino; page = page; slot = slot })) (state_of s' first (grants_in files') creds entries'.made)) is same
+            (refused_step s first table files creds entries begun k lib b g p s' table' files' entries' stay next' rule ino page slot (as_here (λ t x. Breaks (case_in t lib.0 x) rule ino (record { page = page; slot = slot })) is same breaks) done.ends),
+      )

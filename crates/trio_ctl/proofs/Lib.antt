@@ -41,6 +41,7 @@ pub mod Underways
 mod Recording
 mod RecordedReleases
 pub mod Ends
+mod Ending
 mod DeskLogs
 mod ModeCalls
 pub mod Settling
