@@ -45,6 +45,7 @@ use Rattle.trio_runner.proofs.EndFree.{ends_free, plays_creds}
 use Rattle.trio_runner.proofs.Logs.{played_is_logged}
 use Rattle.trio_runner.proofs.Plays.{played_is_trace}
 use Rattle.trio_runner.proofs.Printed.{played_is_printed}
+use Rattle.trio_app.proofs.HeldContent.{held_content}
 use Rattle.trio_app.specs.Headline.{Headline, StoredLog}
 use Rattle.trio_app.specs.Run.{RanOn}
 use Rattle.trio_tables.proofs.OutLemmas.{lib_at-none_out}
@@ -77,6 +78,9 @@ headline_of image creds moves trace fit verifies whole =
       isolated = λ m n r i live none elsewhere.
           let move = every_move_is_a_step run m i in
           every_step_is_isolated m.before m.event m.answer m.after n r move.kept move.given move.step live none elsewhere;
+      held = λ m b n r q i accepts live held after.
+          let move = every_move_is_a_step run m i in
+          held_content m.before m.event m.answer m.after b n r q move.kept move.given move.step accepts live held after;
       rows = λ m n r i live.
           let move = every_move_is_a_step run m i in
           every_step_keeps_rows m.before m.event m.answer m.after n r move.kept move.given move.step live;

@@ -1,4 +1,5 @@
 pub mod Report
+pub mod HeldContent
 pub mod Headline
 pub mod OnScript
 pub mod Alone
