@@ -39,7 +39,7 @@ use Rattle.trio_commands.specs.Saved.{IsSaved, SaveComesTo}
 use Rattle.trio_app.specs.OnScript.{FaultsMayRise, OnScript, OutFails, ScriptComesTo, WritesSettled}
 use Rattle.trio_app.specs.Run.{Run, RunDone}
 use Rattle.trio_app.specs.Turns.{Turns, TurnsDone}
-use Rattle.trio_app.proofs.Headlines.{headline, no_grant_open, no_page_out, ran_on, stored_log}
+use Rattle.trio_app.proofs.Headlines.{comes_to_one, headline, never_busy, no_grant_open, no_page_out, ran_on, stored_log}
 use Rattle.trio_app.proofs.Trees.{tree_same}
 
 -- ---- the image at the end
@@ -116,6 +116,8 @@ play_end s t pages last creds first final begins log libs tolds verified k creds
       played = played;
       headline = headline (image_in s pages) libs played k';
       log = stored_log (image_in s pages) libs played (first_low s pages verified) last_first' k' r';
+      one = comes_to_one (image_in s pages) libs played k';
+      alone = never_busy (image_in s pages) libs played;
       told = sym script'.told;
       last = subst (λ (f : State). IsLastImage f t last) (sym script'.last) stored;
     }
@@ -128,6 +130,8 @@ run_end image t last libs tolds report end text = record {
   played = end.played;
   headline = end.headline;
   log = end.log;
+  one = end.one;
+  alone = end.alone;
   put = reported libs end.played.last.told tolds end.played.last.state t last report end.told end.last text;
   stores = stored_last end.played.last.state t last end.last;
 }
@@ -289,6 +293,8 @@ module _ (image script out : List ℕ) (old mid new : Shelf) (s : Superblock) (p
         played = end'.played;
         headline = end'.headline;
         log = end'.log;
+        one = end'.one;
+        alone = end'.alone;
         put = is ∙ end'.put;
         writes = writes end'.played.last.state end'.stores kept;
       })

@@ -1,5 +1,5 @@
 -- The claim, and what holds of the stored log, of a script on an image that verifies.
-use Rattle.std.proofs.Common.{◌≡◌, ◌≢◌, ◌<◌, List, [], subst, inl, inr, sym, ap, ◌∙◌}
+use Rattle.std.proofs.Common.{◌≡◌, ◌≢◌, ◌<◌, List, [], ◌∷◌, subst, inl, inr, sym, ap, ◌∙◌}
 use Rattle.std.specs.Prelude.{is_some}
 use Rattle.std.proofs.lemmas.Bool.{false≢true}
 use Rattle.trio_tables.specs.Out.{NoneOut}
@@ -35,12 +35,17 @@ use Rattle.trio_runner.specs.Rounds.{turns_of}
 use Rattle.trio_order.specs.Order.{moves_in}
 use Rattle.trio_runner.specs.Logged.{AreEntries, Prints, entries_by}
 use Rattle.trio_runner.specs.Play.{Heard, IsLibraryOf, Played, creds_in, heard_by}
+use Rattle.trio_runner.specs.PlayLaws.{ComeToOne}
+use Rattle.trio_app.specs.Alone.{NeverBusyAlone}
+use Rattle.trio_runner.proofs.Alone.{played_alone}
+use Rattle.trio_runner.proofs.OnePlay.{played_is_one}
 use Rattle.trio_runner.specs.RunLaws.{OrderIsLogged, RanEndsFree, RanIsOrder, RanIsPrinted}
 use Rattle.trio_runner.specs.Runs.{ScriptRan}
 use Rattle.trio_runner.proofs.EndFree.{ends_free, plays_creds}
 use Rattle.trio_runner.proofs.Logs.{played_is_logged}
 use Rattle.trio_runner.proofs.Plays.{played_is_trace}
 use Rattle.trio_runner.proofs.Printed.{played_is_printed}
+use Rattle.trio_app.proofs.HeldContent.{held_content}
 use Rattle.trio_app.specs.Headline.{Headline, StoredLog}
 use Rattle.trio_app.specs.Run.{RanOn}
 use Rattle.trio_tables.proofs.OutLemmas.{lib_at-none_out}
@@ -73,6 +78,9 @@ headline_of image creds moves trace fit verifies whole =
       isolated = λ m n r i live none elsewhere.
           let move = every_move_is_a_step run m i in
           every_step_is_isolated m.before m.event m.answer m.after n r move.kept move.given move.step live none elsewhere;
+      held = λ m b n r q i accepts live held after.
+          let move = every_move_is_a_step run m i in
+          held_content m.before m.event m.answer m.after b n r q move.kept move.given move.step accepts live held after;
       rows = λ m n r i live.
           let move = every_move_is_a_step run m i in
           every_step_keeps_rows m.before m.event m.answer m.after n r move.kept move.given move.step live;
@@ -122,6 +130,16 @@ stored_log image libs played first last_first k r =
     let last : State = played.last.state in
     let creds : last.creds ≡ creds_in libs = plays_creds played.first (turns_of libs) played.moves played.last played.plays ∙ ap (λ (s : State). s.creds) played.begins.state in
     log_stored image libs played.moves played.last.told played.last.log last first last_first k r creds (no_grant_open image libs played k) (played_is_logged image libs played) (played_is_printed image libs played)
+
+-- however it is played, it comes to the same
+pub comes_to_one : (image : Image) (libs : List ScriptLib) (played : Played image libs) → Kept (start image (creds_in libs)) → (other : Played image libs) → ComeToOne played other
+comes_to_one image libs played k other = played_is_one image libs played other k.fit k.verifies (started_whole image (creds_in libs) k)
+
+-- an honest library that is alone is never busy
+pub never_busy : (image : Image) (libs : List ScriptLib) (played : Played image libs) → NeverBusyAlone libs played.last.told
+never_busy image [] played = tt
+never_busy image (l ∷ []) played = λ lines honest answer i. played_alone image l lines honest played answer i
+never_busy image (l ∷ m ∷ libs) played = tt
 
 -- ---- a script that is run with a thread for each library
 

@@ -1,4 +1,5 @@
 pub mod Trees
+pub mod HeldContent
 pub mod Headlines
 pub mod Ends
 pub mod Causes

@@ -1,9 +1,9 @@
 -- What holds of a script's moves: the claim, of this run; and what holds of the log that its controller stored.
-use Rattle.std.specs.Prelude.{◌≡◌, ℕ, List, Some}
+use Rattle.std.specs.Prelude.{◌≡◌, ℕ, List, Some, IsTrue}
 use Rattle.trio_rights.specs.Row.{Row}
 use Rattle.trio_rights.specs.declared.rights.Creds.{Creds}
 use Rattle.trio_rights.specs.declared.rights.LibNo.{LibNo}
-use Rattle.trio_lists.specs.Lists.{In}
+use Rattle.trio_lists.specs.Lists.{In, is_among}
 use Rattle.trio_layout.specs.Image.{Image, row_at}
 use Rattle.trio_state.specs.Kept.{Kept}
 use Rattle.trio_rights.specs.Bundle.{Bundle}
@@ -12,7 +12,9 @@ use Rattle.trio_state.specs.State.{State, settled}
 use Rattle.trio_state.specs.Tells.{Why}
 use Rattle.trio_state.specs.Step.{Release, Refused}
 use Rattle.trio_laws.specs.Laws.{IsVerdict, IsBack, IsUntouched, IsElsewhere, HasNone, RowGoes, library_of}
+use Rattle.trio_laws.specs.ContentLaws.{HasSameContent}
 use Rattle.trio_surveys.specs.Tree.{IsTree}
+use Rattle.trio_app.specs.HeldContent.{Accepts}
 use Rattle.trio_nodes.specs.declared.entry.Entry.{Entry}
 use Rattle.trio_nodes.specs.Legal.{Legal}
 use Rattle.trio_state.specs.ImageNodes.{nodes_of}
@@ -26,8 +28,9 @@ use Rattle.trio_runner.specs.Logged.{AreEntries, Prints, entries_by}
 -- each page owned once and rights as in the shadow table. A bundle is accepted exactly where the whole image with its
 -- bytes would be sound by an allowed change, and refused exactly where not; then what the checkpoints cover is back,
 -- byte for byte. And libraries are apart: a live file on which a library has no open write grant and no hold is the same
--- after each event of that library, but for a change of its mode and for a write grant on it; and the row of a live number
--- stays, or its library holds the file, or changes its mode for the owner or for uid 0.
+-- after each event of that library, but for a change of its mode and for a write grant on it; a file that an accepted bundle
+-- merely holds keeps its content and its pages, wherever it stands then; and the row of a live number stays, or its library
+-- holds the file, or changes its mode for the owner or for uid 0.
 pub record Headline (image : Image) (creds : List Creds) (moves : List Move) : Type 0 where
   pub run : Trace (start image creds) moves
   pub begins : Kept (start image creds) × IsTree image
@@ -43,6 +46,10 @@ pub record Headline (image : Image) (creds : List Creds) (moves : List Move) : T
       (m : Move) (n : ℕ) (r : Row) → In m moves → row_at (settled m.before) n ≡ Some r
       → HasNone m.before (library_of m.event) n → IsElsewhere n m.event m.answer
       → IsUntouched (settled m.before) (settled m.after) n
+  pub held :
+      (m : Move) (b : Bundle) (n : ℕ) (r q : Row) → In m moves → Accepts m.event m.answer b
+      → row_at (settled m.before) n ≡ Some r → IsTrue (is_among n b.holds) → row_at (settled m.after) n ≡ Some q
+      → HasSameContent (settled m.before) (settled m.after) n
   pub rows :
       (m : Move) (n : ℕ) (r : Row) → In m moves → row_at (settled m.before) n ≡ Some r
       → RowGoes m.before m.event n r (row_at (settled m.after) n)

@@ -1,6 +1,8 @@
 pub mod Report
+pub mod HeldContent
 pub mod Headline
 pub mod OnScript
+pub mod Alone
 pub mod Turns
 pub mod Run
 pub mod Gen

@@ -24,7 +24,7 @@ pub mod OneFile
 pub mod OneDir
 pub mod OneMode
 pub mod OnePlay
-mod Alone
+pub mod Alone
 pub mod Calling
 pub mod Seats
 mod Printing

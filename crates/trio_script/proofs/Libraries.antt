@@ -1,22 +1,55 @@
 -- A line that begins a library, and one that a library has.
-use Rattle.std.proofs.Common.{◌≡◌, ℕ, ◌+◌, ◌<◌, ◌≤◌, nat_lt, Bool, true, false, ◌||◌, List, ◌∷◌, ◌++◌, Option, None, Some, is_some, Result, Ok, Err, IfOk, refl, sym, ap, append_assoc, arith}
+use Rattle.std.proofs.Common.{◌≡◌, ℕ, ◌+◌, ◌<◌, ◌≤◌, nat_lt, eqb, Bool, true, false, ◌||◌, List, [], ◌∷◌, ◌++◌, Option, None, Some, is_some, Result, Ok, Err, IfOk, refl, sym, ap, append_assoc, arith}
 use Rattle.std.proofs.lemmas.Bool.Decides.{nat_tests}
+use Rattle.std.specs.Prelude.{codes}
+use Rattle.std.specs.Str.{bytes_eq}
+use Rattle.std.specs.List.{onto_first}
 use Rattle.std.proofs.lemmas.List.{append-nil}
+use Rattle.std.proofs.lemmas.List.Splits.{slice_split-cons_no}
 use Rattle.std.specs.declared.alloc.AllocError.{AllocError}
 use Rattle.trio_script.specs.declared.Lines.TheVariants.{Raw, Honest}
 use Rattle.trio_script.specs.declared.library.LibLine.{LibLine}
 use Rattle.trio_script.specs.declared.library.Begun.{Begun}
 use Rattle.trio_script.specs.declared.library.BegunLines.{BegunLines}
 use Rattle.trio_script.specs.declared.library.BegunLines.TheVariants.{Raw as RawBegun, Honest as HonestBegun}
-use Rattle.trio_script.specs.Said.{library_said, line_said}
+use Rattle.trio_script.specs.Said.{library_in, library_said, line_said}
+use Rattle.trio_script.specs.Words.{words_of}
 use Rattle.trio_script.specs.Honest.{honest_said}
-use Rattle.trio_script.specs.Script.{is_next, is_silent, lib_with, names_library, own_lines, said_at, libs_from}
+use Rattle.trio_script.specs.Script.{is_next, is_silent, lib_with, names_library, own_lines, said_at, says_library, libs_from}
 use Rattle.trio_script.specs.inner.Taken.{Begins, Takes, TakesOwn, count_of, libs_as, libs_with, lines_and, lines_seen, with_line}
 
 -- fewer than 16 libraries began before the next one
 lt-is_next : (begun : ℕ) (line : Option LibLine) → is_next begun line ≡ true → begun < 16
 lt-is_next begun (Some line) e = grind (arith, nat_tests)
 lt-is_next begun None e = absurd cc
+
+-- the next one is said
+says-is_next : (begun : ℕ) (line : Option LibLine) → is_next begun line ≡ true → is_some line ≡ true
+says-is_next begun (Some line) e = refl
+says-is_next begun None e = absurd cc
+
+-- words of which the first isn't `lib` say no library
+says_nothing : (command : List ℕ) → bytes_eq command (codes "lib") ≡ false → (words : List (List ℕ)) → is_some (library_in (command ∷ words)) ≡ false
+says_nothing command e [] = refl
+says_nothing command e (n ∷ []) = refl
+says_nothing command e (n ∷ k ∷ []) = refl
+says_nothing command e (n ∷ k ∷ u ∷ []) = refl
+says_nothing command e (n ∷ k ∷ u ∷ g ∷ []) = rw e refl
+says_nothing command e (n ∷ k ∷ u ∷ g ∷ x ∷ words) = refl
+
+-- nor do those behind `#`
+says_nothing-hash : (b : ℕ) → eqb b 35 ≡ true → (words : List (List ℕ)) → is_some (library_in (onto_first b words)) ≡ false
+says_nothing-hash b e [] = refl
+says_nothing-hash b e (word ∷ words) =
+    let other : eqb b 108 ≡ false = grind (arith, nat_tests) in
+    says_nothing (b ∷ word) (rw other refl) words
+
+-- a line that says nothing says no library
+pub says-is_silent : (line : List ℕ) → is_silent line ≡ true → says_library line ≡ false
+says-is_silent [] e = refl
+says-is_silent (b ∷ bytes) e =
+    let other : eqb b 32 ≡ false = grind (arith, nat_tests) in
+    rw (slice_split-cons_no (λ c. eqb c 32) b bytes other) (says_nothing-hash b e (words_of bytes))
 
 -- behind a library's line a library began
 some-count_of : (begun begun' : Option Begun) → count_of begun' ≡ count_of begun + 1 → (more : Bool) → (is_some begun || true) ≡ (is_some begun' || more)
@@ -55,7 +88,7 @@ module _ (number : ℕ) (line : List ℕ) (le : number ≤ 16384) (says : is_sil
     line_takes true b = record {
       counted = le;
       first = λ more. rw (not_over number le, says, names, b.next, b.counted, b.kind) refl;
-      named = λ more. rw names (some-count_of begun begun' b.counted more);
+      named = λ more. rw (says-is_next (count_of begun) (library_said line) b.next) (some-count_of begun begun' b.counted more);
       said = λ more. rw (libs_with-named begun number line more names, names, b.said (number + 1) more) (sym (append_assoc (libs_as begun) (lib_with (library_said line) (number + 1) more) (libs_from (number + 1) more)));
       few = λ _. omega (arith, b.counted, lt-is_next (count_of begun) (library_said line) b.next);
     }

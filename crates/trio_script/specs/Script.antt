@@ -65,11 +65,15 @@ first_bad number begun kind (line ∷ lines) =
     (if is_silent line then first_bad (number + 1) begun kind lines else
     (if is_good begun kind line then first_bad (number + 1) (begun_with begun line) (kind_with kind line) lines else Some number))
 
--- The number of a script's first bad line, counted from 1. A script without a line that names a library is bad at line 1.
+-- a line says which library it begins, whether that is the next one or not
+abbrev pub says_library : List ℕ → Bool
+says_library line = is_some (library_said line)
+
+-- The number of a script's first bad line, counted from 1. A script in which no line says which library it begins is bad at line 1.
 abbrev pub bad_line : List ℕ → Option ℕ
 bad_line script =
     let lines = lines_of script in
-    if list_any names_library lines then first_bad 1 0 None lines else Some 1
+    if list_any says_library lines then first_bad 1 0 None lines else Some 1
 
 -- this line is the first bad one, or there was no memory to read the script
 abbrev pub IsFault : List ℕ → ScriptFault → Type 0

@@ -23,7 +23,7 @@
 ghost use Rattle.std.specs.Prelude.{◌≡◌, ◌∷◌, ◌<◌, ◌≤◌, length, is_some, IfOk, MatchOption, MatchResult, None, Some};
 ghost use Rattle.std.specs.List.{list_any};
 ghost use Rattle.trio_script.specs.inner.Ends.{EndsLine, IsPlain};
-ghost use Rattle.trio_script.specs.Script.{lines_of, is_silent, names_library, bad_line, script_libs, IsFault};
+ghost use Rattle.trio_script.specs.Script.{lines_of, is_silent, names_library, says_library, bad_line, script_libs, IsFault};
 ghost use Rattle.trio_script.specs.Within.{AreWithin};
 ghost use Rattle.trio_script.specs.inner.Taken.{Begins, Takes, bad_at};
 
@@ -80,7 +80,7 @@ pub struct ScriptLine<L> {
 #[derive(Clone, Copy, PartialEq, Eq)]
 pub enum ScriptFault {
     /// The first line outside the grammar has this number, counted from 1. A script without a line
-    /// that names a library is bad at line 1.
+    /// of the form `lib N KIND UID GID` is bad at line 1.
     BadLine(u32),
     /// Want of memory, which may come in place of any other answer.
     NoMemory,
@@ -100,10 +100,10 @@ impl From<NoMemory> for ScriptFault {
 /// 1 to 16 libraries in the order of their numbers: library N stands at index N - 1. Each call of an
 /// honest line then reads or writes at most 4096 bytes, and a mode is at most 0o777.
 ///
-/// A line names a library where it begins with `lib` and a space. A script without such a line
-/// is bad at line 1, also where another line is bad. Else the answer is the number of the first bad
-/// line: a line that has no form of its library's kind, a library's line whose number isn't the next or
-/// is above 16, a line before the first library's, or line 16,385.
+/// A script without a line of the form `lib N KIND UID GID` is bad at line 1, also where another line
+/// is bad. Else the answer is the number of the first bad line: a line that has no form of its
+/// library's kind, one that begins with `lib` and a space and has not that form, or whose number isn't
+/// the next or is above 16, a line before the first library's, or line 16,385.
 pub fn read_script(alloc: Global, bytes: &[u8]) -> Result<Vec<ScriptLib>, ScriptFault>
     ensures good { MatchResult result (λ _. bad_line bytes.now ≡ None) (IsFault bytes.now) }
     ensures libs { IfOk result (λ libs. libs.items ≡ script_libs bytes.now) }
@@ -117,7 +117,8 @@ pub fn read_script(alloc: Global, bytes: &[u8]) -> Result<Vec<ScriptLib>, Script
     while !rest.is_empty() {
         let (line, after) = cut_line(rest);
         if !take_line(alloc, number, line, &mut begun)? {
-            return Err(ScriptFault::BadLine(bad_line(number, begun.is_some(), rest)));
+            let at = bad_line(alloc, number, begun.is_some(), rest)?;
+            return Err(ScriptFault::BadLine(at));
         }
         number += 1;
         rest = after;
@@ -171,26 +172,28 @@ fn begin_library(alloc: Global, line: &[u8], begun: &mut Option<Begun>) -> Resul
 }
 
 // where a script is bad whose first bad line has this number; `rest` begins with it
-fn bad_line(number: u32, begun: bool, rest: &[u8]) -> u32
-    ensures { result ≡ bad_at number begun (lines_of rest.now) }
+fn bad_line(alloc: Global, number: u32, begun: bool, rest: &[u8]) -> Result<u32, NoMemory>
+    ensures { IfOk result (λ at. at ≡ bad_at number begun (lines_of rest.now)) }
 {
-    let named = begun || has_library(rest);
-    if named { number } else { 1 }
+    if begun || has_library(alloc, rest)? {
+        return Ok(number);
+    }
+    Ok(1)
 }
 
-// whether a line of these bytes names a library
-fn has_library(bytes: &[u8]) -> bool
-    ensures { result ≡ list_any names_library (lines_of bytes.now) }
+// whether a line of these bytes says which library it begins
+fn has_library(alloc: Global, bytes: &[u8]) -> Result<bool, NoMemory>
+    ensures { IfOk result (λ has. has ≡ list_any says_library (lines_of bytes.now)) }
 {
     let mut rest = bytes;
     while !rest.is_empty() {
         let (line, after) = cut_line(rest);
-        if names_library(line) {
-            return true;
+        if read_library(alloc, line)?.is_some() {
+            return Ok(true);
         }
         rest = after;
     }
-    false
+    Ok(false)
 }
 
 // the first line, and the bytes after its line end

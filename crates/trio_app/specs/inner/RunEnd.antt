@@ -9,6 +9,8 @@ use Rattle.trio_ctl.specs.Ctl.{superblock_for}
 use Rattle.trio_image.specs.Image.{TablesAre}
 use Rattle.trio_script.specs.declared.ScriptLib.{ScriptLib}
 use Rattle.trio_runner.specs.Play.{Heard, Played, creds_in}
+use Rattle.trio_runner.specs.PlayLaws.{ComeToOne}
+use Rattle.trio_app.specs.Alone.{NeverBusyAlone}
 use Rattle.trio_app.specs.Headline.{Headline, StoredLog}
 use Rattle.trio_app.specs.Report.{report_text}
 use Rattle.trio_app.specs.Run.{RanOn}
@@ -27,6 +29,8 @@ pub record IsPlayEnd (image : Image) (libs : List ScriptLib) (tolds : List Heard
   pub played : Played image libs
   pub headline : Headline image (creds_in libs) played.moves
   pub log : StoredLog image libs played.moves played.last.told played.last.log played.last.state
+  pub one : (other : Played image libs) → ComeToOne played other
+  pub alone : NeverBusyAlone libs played.last.told
   pub told : tolds ≡ played.last.told
   pub last : IsLastImage played.last.state t pages
 
@@ -35,6 +39,8 @@ pub record IsRunEnd (image : Image) (libs : List ScriptLib) (report : List ℕ) 
   pub played : Played image libs
   pub headline : Headline image (creds_in libs) played.moves
   pub log : StoredLog image libs played.moves played.last.told played.last.log played.last.state
+  pub one : (other : Played image libs) → ComeToOne played other
+  pub alone : NeverBusyAlone libs played.last.told
   pub put : report ≡ report_text libs played.last.told (settled played.last.state)
   pub stores : StoresImage (superblock_for (settled played.last.state).core) (settled played.last.state) pages
 

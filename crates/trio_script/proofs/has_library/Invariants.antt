@@ -1,10 +1,10 @@
 use Rattle.std.proofs.Common.{◌≡◌, length}
 use Rattle.std.specs.List.{list_any}
-use Rattle.trio_script.specs.Script.{lines_of, names_library}
+use Rattle.trio_script.specs.Script.{lines_of, says_library}
 use Rattle.trio_script.proofs.has_library.Given as goal
 
 abbrev pub invariant-loop-rest : goal.invariant-loop-rest
-invariant-loop-rest l = list_any names_library (lines_of l.bytes) ≡ list_any names_library (lines_of l.rest)
+invariant-loop-rest l = list_any says_library (lines_of l.bytes) ≡ list_any says_library (lines_of l.rest)
 
 abbrev pub decreases-loop-rest : goal.decreases-loop-rest
 decreases-loop-rest l = length l.rest

@@ -1,6 +1,6 @@
 use Rattle.std.proofs.Common.{◌≡◌, ◌≤◌, length, is_some, ◌||◌, None}
 use Rattle.std.specs.List.{list_any}
-use Rattle.trio_script.specs.Script.{lines_of, names_library, first_bad, libs_from}
+use Rattle.trio_script.specs.Script.{lines_of, says_library, first_bad, libs_from}
 use Rattle.trio_script.specs.inner.Taken.{count_of, kind_of, libs_and}
 use Rattle.trio_script.proofs.read_script.Given as goal
 
@@ -9,7 +9,7 @@ invariant-loop-rest l = record {
   counted : l.number ≤ 16385;
   few : count_of l.begun ≤ 16;
   first : first_bad 1 0 None (lines_of l.bytes) ≡ first_bad l.number (count_of l.begun) (kind_of l.begun) (lines_of l.rest);
-  named : list_any names_library (lines_of l.bytes) ≡ (is_some l.begun || list_any names_library (lines_of l.rest));
+  named : list_any says_library (lines_of l.bytes) ≡ (is_some l.begun || list_any says_library (lines_of l.rest));
   said : libs_from 1 (lines_of l.bytes) ≡ libs_and l.begun l.number (lines_of l.rest);
 }
 

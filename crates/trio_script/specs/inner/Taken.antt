@@ -12,7 +12,7 @@ use Rattle.trio_script.specs.declared.library.LibKind.{LibKind}
 use Rattle.trio_script.specs.declared.library.LibKind.TheVariants.{Raw as RawKind, Honest as HonestKind}
 use Rattle.trio_script.specs.Said.{library_said, line_said}
 use Rattle.trio_script.specs.Honest.{honest_said}
-use Rattle.trio_script.specs.Script.{first_bad, has_form, is_next, lib_with, names_library, own_lines, said_at, libs_from}
+use Rattle.trio_script.specs.Script.{first_bad, has_form, is_next, lib_with, own_lines, said_at, says_library, libs_from}
 
 -- how many libraries began
 abbrev pub count_of : Option Begun → ℕ
@@ -95,7 +95,7 @@ Begins line begun begun' false = Other line begun begun'
 pub record Taken (number : ℕ) (line : List ℕ) (begun begun' : Option Begun) : Type 0 where
   pub counted : number ≤ 16384
   pub first : (more : List (List ℕ)) → first_bad number (count_of begun) (kind_of begun) (line ∷ more) ≡ first_bad (number + 1) (count_of begun') (kind_of begun') more
-  pub named : (more : Bool) → (is_some begun || (names_library line || more)) ≡ (is_some begun' || more)
+  pub named : (more : Bool) → (is_some begun || (says_library line || more)) ≡ (is_some begun' || more)
   pub said : (more : List (List ℕ)) → libs_and begun number (line ∷ more) ≡ libs_and begun' (number + 1) more
   pub few : count_of begun ≤ 16 → count_of begun' ≤ 16
 
@@ -109,6 +109,6 @@ Takes number line begun begun' true = Taken number line begun begun'
 Takes number line begun begun' false = Stops number line begun begun'
 
 -- where a script is bad whose first bad line has this number: there, if a library began before or one of the
--- lines from there on names one, else at line 1
+-- lines from there on says which one it begins, else at line 1
 abbrev pub bad_at : ℕ → Bool → List (List ℕ) → ℕ
-bad_at number begun lines = if begun || list_any names_library lines then number else 1
+bad_at number begun lines = if begun || list_any says_library lines then number else 1
