@@ -1,5 +1,5 @@
 -- The laws of scripts that are run with a thread for each library.
-use Rattle.std.specs.Prelude.{List}
+use Rattle.std.specs.Prelude.{◌≡◌, ◌≢◌, List, [], ◌∷◌}
 use Rattle.trio_rights.specs.declared.rights.LibNo.{LibNo}
 use Rattle.trio_nodes.specs.declared.entry.Entry.{Entry}
 use Rattle.trio_layout.specs.Image.{Image, IsFit}
@@ -8,7 +8,13 @@ use Rattle.trio_state.specs.State.{State}
 use Rattle.trio_state.specs.Run.{start, IsWhole}
 use Rattle.trio_order.specs.Order.{moves_in}
 use Rattle.trio_order.specs.OrderLaws.{OneOrder}
+use Rattle.trio_lists.specs.Lists.{In}
+use Rattle.trio_script.specs.declared.Lines.TheVariants.{Honest}
 use Rattle.trio_script.specs.declared.ScriptLib.{ScriptLib}
+use Rattle.trio_script.specs.declared.ScriptLine.{ScriptLine}
+use Rattle.trio_script.specs.declared.honest.HonestLine.{HonestLine}
+use Rattle.trio_report.specs.declared.answer.LineAnswer.{LineAnswer}
+use Rattle.trio_report.specs.declared.answer.LineAnswer.TheVariants.{Busy}
 use Rattle.trio_runner.specs.Logged.{AreEntries, Prints, entries_by}
 use Rattle.trio_runner.specs.Play.{Heard, IsLibraryOf, creds_in, heard_by}
 use Rattle.trio_runner.specs.PlayLaws.{NothingOut}
@@ -40,3 +46,10 @@ abbrev pub RanIsPrinted : Type 0
 RanIsPrinted =
     (image : Image) (libs : List ScriptLib) (tolds : List Heard) (s' : State) (log : List Entry) (ran : ScriptRan image libs tolds s' log)
     (lib : LibNo) (l : ScriptLib) → IsLibraryOf libs lib l → Prints l.lines (heard_by tolds lib) (entries_by lib log)
+
+-- In a script of one library, which is honest, no line is answered busy.
+abbrev pub RanAlone : Type 0
+RanAlone =
+    (image : Image) (l : ScriptLib) (lines : List (ScriptLine HonestLine)) → l.lines ≡ Honest lines
+    → (tolds : List Heard) (s' : State) (log : List Entry) → ScriptRan image (l ∷ []) tolds s' log
+    → (answer : LineAnswer) → In answer (heard_by tolds (record { 0 = 1 })).answers → answer ≢ Busy

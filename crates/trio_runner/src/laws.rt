@@ -1,7 +1,7 @@
 //! The laws: the body of each function is empty, or calls the laws that it rests on, and its contract is the law.
 
 ghost use Rattle.trio_runner.specs.PlayLaws.{PlayedAlone, PlayedEndsFree, PlayedIsLogged, PlayedIsOne, PlayedIsPrinted, PlayedIsTrace, PlaysMore};
-ghost use Rattle.trio_runner.specs.RunLaws.{OrderIsLogged, RanEndsFree, RanIsOrder, RanIsPrinted};
+ghost use Rattle.trio_runner.specs.RunLaws.{OrderIsLogged, RanAlone, RanEndsFree, RanIsOrder, RanIsPrinted};
 
 use trio_shared::{desk_is_left, others_leave};
 
@@ -57,6 +57,11 @@ pub fn order_is_logged()
 /// and in their order.
 pub fn ran_is_printed()
     ensures law { RanIsPrinted }
+{}
+
+/// An honest library that is alone is never answered busy there either.
+pub fn ran_alone()
+    ensures law { RanAlone }
 {}
 
 /// And at the end nothing is lent or out.
