@@ -39,6 +39,7 @@ use Rattle.trio_runner.specs.PlayLaws.{ComeToOne}
 use Rattle.trio_app.specs.Alone.{NeverBusyAlone}
 use Rattle.trio_runner.proofs.Alone.{played_alone}
 use Rattle.trio_runner.proofs.OnePlay.{played_is_one}
+use Rattle.trio_runner.proofs.OneSequence.{order_is_one}
 use Rattle.trio_runner.proofs.RanAlone.{ran_alone}
 use Rattle.trio_runner.specs.RunLaws.{OrderIsLogged, RanEndsFree, RanIsOrder, RanIsPrinted}
 use Rattle.trio_runner.specs.Runs.{ScriptRan}
@@ -161,4 +162,5 @@ ran_on order logged free printed image libs tolds last log first last_first ran 
       headline = headline_of image (creds_in libs) (moves_in one.order) one.trace k.fit k.verifies whole;
       stored = log_stored image libs (moves_in one.order) tolds log last first last_first k ran.left.all ran.left.creds none (logged image libs tolds last log ran one) (printed image libs tolds last log ran);
       alone = ran_never_busy image libs tolds last log ran;
+      one_output = λ tolds' last' log' ran' other alike. order_is_one image libs tolds tolds' last last' log log' ran ran' one other alike;
     }

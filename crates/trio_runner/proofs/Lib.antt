@@ -38,4 +38,5 @@ pub mod Keeping
 pub mod RanOrder
 pub mod RanPrinted
 pub mod RanAlone
+pub mod OneSequence
 pub mod RanFree
