@@ -39,6 +39,8 @@ use Rattle.trio_runner.specs.PlayLaws.{ComeToOne}
 use Rattle.trio_app.specs.Alone.{NeverBusyAlone}
 use Rattle.trio_runner.proofs.Alone.{played_alone}
 use Rattle.trio_runner.proofs.OnePlay.{played_is_one}
+use Rattle.trio_runner.proofs.OneSequence.{order_is_one}
+use Rattle.trio_runner.proofs.RanAlone.{ran_alone}
 use Rattle.trio_runner.specs.RunLaws.{OrderIsLogged, RanEndsFree, RanIsOrder, RanIsPrinted}
 use Rattle.trio_runner.specs.Runs.{ScriptRan}
 use Rattle.trio_runner.proofs.EndFree.{ends_free, plays_creds}
@@ -143,6 +145,12 @@ never_busy image (l ∷ m ∷ libs) played = tt
 
 -- ---- a script that is run with a thread for each library
 
+-- an honest library that is alone is never busy there either
+ran_never_busy : (image : Image) (libs : List ScriptLib) (tolds : List Heard) (last : State) (log : List Entry) → ScriptRan image libs tolds last log → NeverBusyAlone libs tolds
+ran_never_busy image [] tolds last log ran = tt
+ran_never_busy image (l ∷ []) tolds last log ran = λ lines honest answer i. ran_alone image l lines honest tolds last log ran answer i
+ran_never_busy image (l ∷ m ∷ libs) tolds last log ran = tt
+
 -- its calls are one order, of whose moves the claim holds, and what holds of the log
 pub ran_on : RanIsOrder → OrderIsLogged → RanEndsFree → RanIsPrinted
     → (image : Image) (libs : List ScriptLib) (tolds : List Heard) (last : State) (log : List Entry) → 0 < image.core.range.first → 0 < (settled last).core.range.first
@@ -157,4 +165,6 @@ ran_on order logged free printed image libs tolds last log first last_first ran 
       one = one;
       headline = headline_of image (creds_in libs) (moves_in one.order) one.trace k.fit k.verifies whole;
       stored = log_stored image libs (moves_in one.order) tolds log last first last_first k ran.left.all ran.left.creds none (logged image libs tolds last log ran one) (printed image libs tolds last log ran);
+      alone = ran_never_busy image libs tolds last log ran;
+      one_output = λ tolds' last' log' ran' other alike. order_is_one image libs tolds tolds' last last' log log' ran ran' one other alike;
     }

@@ -9,7 +9,9 @@ use Rattle.trio_order.specs.Order.{moves_in}
 use Rattle.trio_order.specs.OrderLaws.{OneOrder}
 use Rattle.trio_script.specs.declared.ScriptLib.{ScriptLib}
 use Rattle.trio_runner.specs.Play.{Heard, creds_in}
+use Rattle.trio_runner.specs.RunLaws.{CallAlike, EndAlike}
 use Rattle.trio_runner.specs.Runs.{ScriptRan}
+use Rattle.trio_app.specs.Alone.{NeverBusyAlone}
 use Rattle.trio_app.specs.Headline.{Headline, StoredLog}
 use Rattle.trio_commands.specs.declared.status.Status.{Status}
 use Rattle.trio_commands.specs.Inputs.{InputsRead, image_read, libs_read}
@@ -26,6 +28,12 @@ pub record RanOn (image : Image) (libs : List ScriptLib) (tolds : List Heard) (l
   -- what holds of each move in that order, and what holds of the log that was stored
   pub headline : Headline image (creds_in libs) (moves_in one.order)
   pub stored : StoredLog image libs (moves_in one.order) tolds log last
+  pub alone : NeverBusyAlone libs tolds
+  -- any other run of the script on the image ends alike where the calls in its order are alike
+  pub one_output :
+      (tolds' : List Heard) (last' : State) (log' : List Entry) (ran' : ScriptRan image libs tolds' last' log')
+      (other : OneOrder (start image (creds_in libs)) (λ lib. (ran'.last lib).going.calls) log' last')
+      → CallAlike libs one.order other.order → EndAlike libs tolds tolds' last last'
 
 -- all was done with the bytes of both files
 pub record RunDone (image script out : List ℕ) (old new : Shelf) (text : List ℕ) : Type 0 where

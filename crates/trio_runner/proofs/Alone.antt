@@ -25,13 +25,14 @@ use Rattle.trio_nodes.specs.declared.call.Call as call
 use Rattle.trio_nodes.specs.declared.call.Call.TheVariants.{Chmod}
 use Rattle.trio_nodes.specs.declared.call.Reply as reply
 use Rattle.trio_layout.specs.Image.{Image, row_at}
-use Rattle.trio_desk.specs.Call.{Ask, Told, Grant, Allot, GiveBack, Release, Settle, SetMode, NotLent, NotSettled, ModeSet, NotModeSet, Settled as SettledAll}
+use Rattle.trio_desk.specs.Call.{Ask, DeskSeen, Told, Grant, Allot, GiveBack, Release, Settle, SetMode, NotLent, NotSettled, ModeSet, NotModeSet, Settled as SettledAll}
 use Rattle.trio_desk.specs.Calls.{Call, Calls}
+use Rattle.trio_desk.specs.Ready.{bundle_of}
 use Rattle.trio_state.specs.Bundles.{Ends as BundleEnds, grants_after, is_in_bundle, lent_part}
 use Rattle.trio_state.specs.Grants.{denied_by, denied_or, excluding, given_back, grant_fault, holder_of, lacks_parent, opened}
 use Rattle.trio_state.specs.Run.{Move}
 use Rattle.trio_state.specs.State.{OpenGrant, State, creds_of}
-use Rattle.trio_state.specs.Step.{CtlAnswer, Step, Parted, IsAccepted, IsRefused, granted_to, mode_fault, moded_to}
+use Rattle.trio_state.specs.Step.{CtlAnswer, Event, Step, Parted, IsAccepted, IsRefused, granted_to, library_of, mode_fault, moded_to}
 use Rattle.trio_state.specs.Step as step
 use Rattle.trio_laws.proofs.Cases.{after_allot, after_no_grant, after_no_mode}
 use Rattle.trio_ctl.specs.Backs.{all_back}
@@ -51,10 +52,12 @@ use Rattle.trio_script.specs.declared.honest.HonestLine.{HonestLine}
 use Rattle.trio_script.specs.declared.honest.HonestLine.TheVariants.{Call as CallLine, Settle as SettleLine}
 use Rattle.trio_report.specs.declared.answer.LineAnswer.{LineAnswer}
 use Rattle.trio_report.specs.declared.answer.LineAnswer.TheVariants as answered
+use Rattle.trio_report.specs.declared.report.EndAnswer.{EndAnswer}
+use Rattle.trio_report.specs.declared.report.EndAnswer.TheVariants.{Settled}
 use Rattle.trio_runner.specs.Honest.{HonestComes, Noted, Notes, SessionCalled, sees, told_outcome, unnoted, is_dir_call}
 use Rattle.trio_runner.specs.Moves.{AreMoves}
 use Rattle.trio_runner.specs.Rounds.{Placed, Turn, Says, SaysHonest, Ends, turns_of}
-use Rattle.trio_runner.specs.Play.{AtStart, BeginsWith, Heard, InSession, Players, Plays, Share, TakesTurn, Things, TurnComes, share_of, told_to, untold, with_answer}
+use Rattle.trio_runner.specs.Play.{AtStart, BeginsWith, Heard, InSession, Players, Plays, Share, TakesTurn, Things, TurnComes, share_of, told_to, untold, with_answer, with_end}
 use Rattle.trio_runner.specs.PlayLaws.{PlayedAlone}
 use Rattle.trio_runner.proofs.Held.{noted_of, same_library}
 use Rattle.trio_runner.proofs.Orders.{Within, turns_within}
@@ -62,7 +65,7 @@ use Rattle.trio_runner.proofs.Orders.{Within, turns_within}
 -- ---- open grants
 
 -- each open grant is this library's
-abbrev OwnAlone : LibNo → State → Type 0
+abbrev pub OwnAlone : LibNo → State → Type 0
 OwnAlone lib s = (g : OpenGrant) → In g s.open_grants → g.lib ≡ lib.0
 
 given_back_own : (lib : LibNo) (s : State) (ino : ℕ) → OwnAlone lib s → OwnAlone lib (given_back s lib.0 ino)
@@ -101,20 +104,32 @@ module _ (lib : LibNo) (s : State) (own : OwnAlone lib s) where
   refused_own (BusyMode holder) = own
   refused_own NoModeMemory = own
 
-  step_own : (ask : Ask) (answer : CtlAnswer) (s' : State) → Step s (event_of lib ask) answer s' → OwnAlone lib s'
-  step_own ask answer s' (inr none) = subst (OwnAlone lib) (sym none.2) own
-  step_own (Grant ino kind) answer s' (inl d) = subst (OwnAlone lib) (sym d.1) (granted_own ino kind (grant_fault s lib.0 ino kind) (row_at s.home ino))
-  step_own (Allot pages numbers) answer s' (inl d) = subst (OwnAlone lib) (sym d.1) (after_allot (OwnAlone lib) s lib.0 pages numbers own own)
-  step_own (GiveBack lease) answer s' (inl d) = subst (OwnAlone lib) (sym d.1) (given_back_own lib s lease.ino own)
-  step_own (Release parcel) answer s' (inl (Parted n some a same)) = subst (OwnAlone lib) (sym same) own
-  step_own (Release parcel) answer s' (inl (IsAccepted none t a ends)) = ends_own lib s _ _ s' own ends
-  step_own (Release parcel) answer s' (inl (IsRefused none f why a tells ends)) = ends_own lib s _ _ s' own ends
-  step_own (Settle parcel back calls) answer s' (inl d) = ends_own lib s _ _ s' own d.3
-  step_own (SetMode ino mode back k) answer s' (inl d) = subst (OwnAlone lib) (sym d.1) (moded_own ino mode (mode_fault s lib.0 ino mode (row_at s.home ino)))
+-- a step of a library opens none of another's
+pub event_own : (s : State) (event : Event) (answer : CtlAnswer) (s' : State) → OwnAlone (record { 0 = library_of event }) s → Step s event answer s' → OwnAlone (record { 0 = library_of event }) s'
+event_own s event answer s' own (inr none) = subst (OwnAlone (record { 0 = library_of event })) (sym none.2) own
+event_own s (step.Grant l ino kind) answer s' own (inl d) =
+    subst (OwnAlone (record { 0 = l })) (sym d.1) (granted_own (record { 0 = l }) s own ino kind (grant_fault s l ino kind) (row_at s.home ino))
+event_own s (step.Allot l pages numbers) answer s' own (inl d) =
+    subst (OwnAlone (record { 0 = l })) (sym d.1) (after_allot (OwnAlone (record { 0 = l })) s l pages numbers own own)
+event_own s (step.Back l ino) answer s' own (inl d) = subst (OwnAlone (record { 0 = l })) (sym d.1) (given_back_own (record { 0 = l }) s ino own)
+event_own s (step.Release l b) answer s' own (inl (Parted n some a same)) = subst (OwnAlone (record { 0 = l })) (sym same) own
+event_own s (step.Release l b) answer s' own (inl (IsAccepted none t a ends)) = ends_own (record { 0 = l }) s b _ s' own ends
+event_own s (step.Release l b) answer s' own (inl (IsRefused none f why a tells ends)) = ends_own (record { 0 = l }) s b _ s' own ends
+event_own s (step.Settle l b) answer s' own (inl d) = ends_own (record { 0 = l }) s b _ s' own d.3
+event_own s (step.SetMode l ino mode) answer s' own (inl d) =
+    subst (OwnAlone (record { 0 = l })) (sym d.1) (moded_own (record { 0 = l }) s own ino mode (mode_fault s l ino mode (row_at s.home ino)))
+
+step_own : (lib : LibNo) (s : State) (ask : Ask) (answer : CtlAnswer) (s' : State) → OwnAlone lib s → Step s (event_of lib ask) answer s' → OwnAlone lib s'
+step_own lib s (Grant ino kind) answer s' own st = event_own s (step.Grant lib.0 ino kind) answer s' own st
+step_own lib s (Allot pages numbers) answer s' own st = event_own s (step.Allot lib.0 pages numbers) answer s' own st
+step_own lib s (GiveBack lease) answer s' own st = event_own s (step.Back lib.0 lease.ino) answer s' own st
+step_own lib s (Release parcel) answer s' own st = event_own s (step.Release lib.0 (bundle_of parcel)) answer s' own st
+step_own lib s (Settle parcel back calls) answer s' own st = event_own s (step.Settle lib.0 (bundle_of parcel)) answer s' own st
+step_own lib s (SetMode ino mode back k) answer s' own st = event_own s (step.SetMode lib.0 ino mode) answer s' own st
 
 stepped_own : (lib : LibNo) (s : State) (ask : Ask) (answer : CtlAnswer) (s' : State) → OwnAlone lib s → Step (all_back s lib (handed_back ask)) (event_of lib ask) answer s' → OwnAlone lib s'
 stepped_own lib s ask answer s' own st =
-    step_own lib (all_back s lib (handed_back ask)) (all_back_own lib s (handed_back ask) own) ask answer s' st
+    step_own lib (all_back s lib (handed_back ask)) ask answer s' (all_back_own lib s (handed_back ask) own) st
 
 happens_own : (lib : LibNo) (s : State) (ask : Ask) (told : Told) (s' : State) → OwnAlone lib s → Happens s lib ask told s' → OwnAlone lib s'
 happens_own lib s (Grant ino kind) told s' own h = stepped_own lib s (Grant ino kind) (answer_of told) s' own h.is_step
@@ -184,45 +199,61 @@ module _ (lib : LibNo) (s : State) (own : OwnAlone lib s) where
 
 -- ---- a call of a session
 
-module _ (lib : LibNo) where
-  abbrev OwnDesk : Noted → Type 0
-  OwnDesk d = OwnAlone lib d.state
+-- this happens in a state in which each open grant is the library's
+abbrev pub HappensAlone : LibNo → Ask → Told → Type 0
+HappensAlone lib ask told = (s : State) × (s' : State) × OwnAlone lib s × Happens s lib ask told s'
 
-  calls_own : (cs : List Call) (d d' : Noted) → OwnDesk d → Calls (Notes lib) d cs d' → OwnDesk d'
-  calls_own [] d d' own made = subst OwnDesk (sym made) own
-  calls_own (c ∷ cs) d d' own made = calls_own cs made.0 d' (happens_own lib d.state c.ask c.told made.0.state own made.1.happens) made.2
+abbrev pub NeverBusy : Heard → Type 0
+NeverBusy told = (answer : LineAnswer) → In answer told.answers → answer ≡ answered.Busy → ⊥
 
-  settles_own : (d d' : Noted) (x x' : SessionSeen) → OwnDesk d → Settles (Notes lib) d x d' x' → OwnDesk d'
-  settles_own d d' x x' own t = happens_own lib d.state (Settle x.parcel x.reads x.calls) SettledAll d'.state own t.made.happens
+-- what the library has and was told after a turn: it is in a session of its own still, and was never told Busy
+pub record Stays (lib : LibNo) (share : Share) (told : Heard) : Type 0 where
+  pub session : SessionSeen
+  pub is : share ≡ InSession session
+  pub mine : session.lib ≡ lib
+  pub free : NeverBusy told
 
-  -- the last of some calls, and the desk before it
-  record LastCall (c : Call) (d' : Noted) : Type 0 where
-    before : Noted
-    own : OwnDesk before
-    happens : Happens before.state lib c.ask c.told d'.state
+more_free : (told : Heard) (answer : LineAnswer) → NeverBusy told → (answer ≡ answered.Busy → ⊥) → NeverBusy (with_answer told answer)
+more_free told answer free one a i =
+    elim (In-cases a told.answers (answer ∷ []) i) [
+      | inl j ↦ free a j
+      | inr j ↦ elim j [ inl e ↦ λ busy. one (sym e ∙ busy) | inr none ↦ absurd none ]
+    ]
 
-  last_call : (cs : List Call) (c : Call) (d d' : Noted) → OwnDesk d → Calls (Notes lib) d (cs ++ c ∷ []) d' → LastCall c d'
-  last_call [] c d d' own made = record { before = d; own = own; happens = subst (λ (y : Noted). Happens d.state lib c.ask c.told y.state) (sym made.2) made.1.happens }
-  last_call (b ∷ cs) c d d' own made = last_call cs c made.0 d' (happens_own lib d.state b.ask b.told made.0.state own made.1.happens) made.2
+-- At a desk of which this stays true with each call of the library, and where it is true calls happen so.
+module _ {D : Type 0} (called : D → Ask → Told → D → Type 0) (seen : D → DeskSeen) (lib : LibNo) (Alone : D → Type 0)
+    (keeps : (d : D) (ask : Ask) (told : Told) (d' : D) → Alone d → called d ask told d' → Alone d')
+    (happens : (d : D) (ask : Ask) (told : Told) (d' : D) → Alone d → called d ask told d' → HappensAlone lib ask told) where
+  calls_keep : (cs : List Call) (d d' : D) → Alone d → Calls called d cs d' → Alone d'
+  calls_keep [] d d' alone made = subst Alone (sym made) alone
+  calls_keep (c ∷ cs) d d' alone made = calls_keep cs made.0 d' (keeps d c.ask c.told made.0 alone made.1) made.2
+
+  settles_keep : (d d' : D) (x x' : SessionSeen) → Alone d → Settles called d x d' x' → Alone d'
+  settles_keep d d' x x' alone t = keeps d (Settle x.parcel x.reads x.calls) SettledAll d' alone t.made
+
+  -- the last of some calls
+  last_call : (cs : List Call) (c : Call) (d d' : D) → Alone d → Calls called d (cs ++ c ∷ []) d' → HappensAlone lib c.ask c.told
+  last_call [] c d d' alone made = happens d c.ask c.told made.0 alone made.1
+  last_call (b ∷ cs) c d d' alone made = last_call cs c made.0 d' (keeps d b.ask b.told made.0 alone made.1) made.2
 
   -- Busy by a grant, and by a change of mode
-  busy_grant : (given last : List Call) (holder : Holder) (d d' : Noted) → OwnDesk d → TryEnds (Busy holder) last → Calls (Notes lib) d (given ++ last) d' → holder.lib ≡ lib
-  busy_grant given last holder d d' own ends made =
+  busy_grant : (given last : List Call) (holder : Holder) (d d' : D) → Alone d → TryEnds (Busy holder) last → Calls called d (given ++ last) d' → holder.lib ≡ lib
+  busy_grant given last holder d d' alone ends made =
       let c : Call = record { ask = Grant ends.0 ends.1; told = NotLent (BusyGrant holder) } in
-      let l = last_call given c d d' own (subst (λ (cs : List Call). Calls (Notes lib) d (given ++ cs) d') ends.2 made) in
-      grant_names lib l.before.state l.own ends.0 ends.1 holder d'.state l.happens.is_step
+      let h : HappensAlone lib (Grant ends.0 ends.1) (NotLent (BusyGrant holder)) = last_call given c d d' alone (subst (λ (cs : List Call). Calls called d (given ++ cs) d') ends.2 made) in
+      grant_names lib h.0 h.2 ends.0 ends.1 holder h.1 h.3.is_step
 
-  busy_mode : (given : List Call) (ino mode : ℕ) (back : List Shown) (k : Option call.Call) (holder : Holder) (d d' : Noted) → OwnDesk d → Calls (Notes lib) d (given ++ record { ask = SetMode ino mode back k; told = NotModeSet (BusyMode holder) } ∷ []) d' → holder.lib ≡ lib
-  busy_mode given ino mode back k holder d d' own made =
-      let l = last_call given (record { ask = SetMode ino mode back k; told = NotModeSet (BusyMode holder) }) d d' own made in
-      let st = l.happens.is_step.0 in
-      mode_names lib (all_back l.before.state lib back) (all_back_own lib l.before.state back l.own) ino mode holder st.0 st.1
+  busy_mode : (given : List Call) (ino mode : ℕ) (back : List Shown) (k : Option call.Call) (holder : Holder) (d d' : D) → Alone d → Calls called d (given ++ record { ask = SetMode ino mode back k; told = NotModeSet (BusyMode holder) } ∷ []) d' → holder.lib ≡ lib
+  busy_mode given ino mode back k holder d d' alone made =
+      let h : HappensAlone lib (SetMode ino mode back k) (NotModeSet (BusyMode holder)) = last_call given (record { ask = SetMode ino mode back k; told = NotModeSet (BusyMode holder) }) d d' alone made in
+      let st = h.3.is_step.0 in
+      mode_names lib (all_back h.0 lib back) (all_back_own lib h.0 back h.2) ino mode holder st.0 st.1
 
-  tried_names : (Leaves : SessionSeen → SessionSeen → Type 0) (Is : SessionSeen → List Ask → Nodes → Type 0) (d d' : Noted) (x x' : SessionSeen) (holder : Holder) → OwnDesk d → Tried (Notes lib) (sees lib) d x Leaves Is (Busy holder) d' x' → holder.lib ≡ lib
-  tried_names Leaves Is d d' x x' holder own t = busy_grant t.given t.last holder d d' own t.ends t.made
+  tried_names : (Leaves : SessionSeen → SessionSeen → Type 0) (Is : SessionSeen → List Ask → Nodes → Type 0) (d d' : D) (x x' : SessionSeen) (holder : Holder) → Alone d → Tried called seen d x Leaves Is (Busy holder) d' x' → holder.lib ≡ lib
+  tried_names Leaves Is d d' x x' holder alone t = busy_grant t.given t.last holder d d' alone t.ends t.made
 
-  chmod_names : (path : Path) (mode : Mode) (d d' : Noted) (x x' : SessionSeen) (holder : Holder) → OwnDesk d → ChmodTried (Notes lib) (sees lib) path mode d x (Busy holder) d' x' → holder.lib ≡ lib
-  chmod_names path mode d d' x x' holder own t = by t.comes t.last t.ends t.made
+  chmod_names : (path : Path) (mode : Mode) (d d' : D) (x x' : SessionSeen) (holder : Holder) → Alone d → ChmodTried called seen path mode d x (Busy holder) d' x' → holder.lib ≡ lib
+  chmod_names path mode d d' x x' holder alone t = by t.comes t.last t.ends t.made
     where
       all : SessionSeen
       all = lent_to x t.given
@@ -230,9 +261,9 @@ module _ (lib : LibNo) where
       first : List Call
       first = t.given ++ t.ungiven
 
-      moded : (ino : ℕ) (told : Told) → EndsModed told (Busy holder) → Calls (Notes lib) d (first ++ record { ask = mode_ask all ino mode (Chmod path mode); told = told } ∷ []) d' → holder.lib ≡ lib
+      moded : (ino : ℕ) (told : Told) → EndsModed told (Busy holder) → Calls called d (first ++ record { ask = mode_ask all ino mode (Chmod path mode); told = told } ∷ []) d' → holder.lib ≡ lib
       moded ino (NotModeSet (BusyMode other)) is made =
-          (let same : holder ≡ other = cc is in ap (λ (y : Holder). y.lib) same ∙ busy_mode first ino mode.0 all.reads (Some (Chmod path mode)) other d d' own made)
+          (let same : holder ≡ other = cc is in ap (λ (y : Holder). y.lib) same ∙ busy_mode first ino mode.0 all.reads (Some (Chmod path mode)) other d d' alone made)
       moded ino (NotModeSet NoModeMemory) is made = absurd (cc is)
       moded ino ModeSet is made = absurd (cc is)
       moded ino told is made = absurd is
@@ -242,99 +273,101 @@ module _ (lib : LibNo) where
       handed answer NotSettled is = cc is
       handed answer told is = is
 
-      by : (comes : Comes) (last : List Call) → EndsAs all path mode comes t.ungiven last (Busy holder) → Calls (Notes lib) d (first ++ last) d' → holder.lib ≡ lib
+      by : (comes : Comes) (last : List Call) → EndsAs all path mode comes t.ungiven last (Busy holder) → Calls called d (first ++ last) d' → holder.lib ≡ lib
       by BreaksOff last e made =
-          let there : Calls (Notes lib) d (first ++ []) d' = subst (λ (l : List Call). Calls (Notes lib) d (first ++ l) d') e.0 made in
-          busy_grant t.given t.ungiven holder d d' own e.1 (subst (λ (l : List Call). Calls (Notes lib) d l d') (append-nil first) there)
+          let there : Calls called d (first ++ []) d' = subst (λ (l : List Call). Calls called d (first ++ l) d') e.0 made in
+          busy_grant t.given t.ungiven holder d d' alone e.1 (subst (λ (l : List Call). Calls called d l d') (append-nil first) there)
       by (HandsIn answer) last e made = absurd (handed answer e.1 e.3)
-      by (SetsMode ino) last e made = moded ino e.1 e.3 (subst (λ (l : List Call). Calls (Notes lib) d (first ++ l) d') e.2 made)
+      by (SetsMode ino) last e made = moded ino e.1 e.3 (subst (λ (l : List Call). Calls called d (first ++ l) d') e.2 made)
 
   -- a call, of tries that are calls of the desk, and in which Busy names the library
-  called_free : (Try : Noted → SessionSeen → Outcome → Noted → SessionSeen → Type 0)
-      (keeps : (d d' : Noted) (x x' : SessionSeen) (end : Outcome) → OwnDesk d → Try d x end d' x' → OwnDesk d')
-      (names : (d d' : Noted) (x x' : SessionSeen) (holder : Holder) → OwnDesk d → Try d x (Busy holder) d' x' → holder.lib ≡ lib)
-      (d d' : Noted) (x x' : SessionSeen) (holder : Holder) → x.lib ≡ lib → OwnDesk d → Called (Notes lib) Try d x (Busy holder) d' x' → ⊥
-  called_free Try keeps names d d' x x' holder mine own (Once real t) = real
-  called_free Try keeps names d d' x x' holder mine own (Unsettled other d1 x1 none t u) = cc none
-  called_free Try keeps names d d' x x' holder mine own (Again other d1 d2 x1 x2 real t u v) = real
-  called_free Try keeps names d d' x x' holder mine own (GivesUp first last d1 d2 d3 x1 x2 x3 busy other t u v w) =
-      let own1 : OwnDesk d1 = keeps d d1 x x1 (Busy first) own t in
-      let own2 : OwnDesk d2 = settles_own d1 d2 x1 x2 own1 u in
-      other (names d2 d3 x2 x3 last own2 v ∙ sym mine)
-  called_free Try keeps names d d' x x' holder mine own (LeftOut first last d1 d2 d3 x1 x2 x3 none t u v w) = cc none
+  called_free : (Try : D → SessionSeen → Outcome → D → SessionSeen → Type 0)
+      (keeps : (d d' : D) (x x' : SessionSeen) (end : Outcome) → Alone d → Try d x end d' x' → Alone d')
+      (names : (d d' : D) (x x' : SessionSeen) (holder : Holder) → Alone d → Try d x (Busy holder) d' x' → holder.lib ≡ lib)
+      (d d' : D) (x x' : SessionSeen) (holder : Holder) → x.lib ≡ lib → Alone d → Called called Try d x (Busy holder) d' x' → ⊥
+  called_free Try keeps names d d' x x' holder mine alone (Once real t) = real
+  called_free Try keeps names d d' x x' holder mine alone (Unsettled other d1 x1 none t u) = cc none
+  called_free Try keeps names d d' x x' holder mine alone (Again other d1 d2 x1 x2 real t u v) = real
+  called_free Try keeps names d d' x x' holder mine alone (GivesUp first last d1 d2 d3 x1 x2 x3 busy other t u v w) =
+      let alone1 : Alone d1 = keeps d d1 x x1 (Busy first) alone t in
+      let alone2 : Alone d2 = settles_keep d1 d2 x1 x2 alone1 u in
+      other (names d2 d3 x2 x3 last alone2 v ∙ sym mine)
+  called_free Try keeps names d d' x x' holder mine alone (LeftOut first last d1 d2 d3 x1 x2 x3 none t u v w) = cc none
 
-  chmod_free : (path : Path) (mode : Mode) (d d' : Noted) (x x' : SessionSeen) (holder : Holder) → x.lib ≡ lib → OwnDesk d → ChmodCalled (Notes lib) (sees lib) d x path mode (Busy holder) d' x' → ⊥
-  chmod_free path mode d d' x x' holder mine own (Unbegun none u) = cc none
-  chmod_free path mode d d' x x' holder mine own (Begun d1 x1 t c) =
-      called_free (ChmodTried (Notes lib) (sees lib) path mode) (λ d d' x x' end own t. calls_own ((t.given ++ t.ungiven) ++ t.last) d d' own t.made)
-      (chmod_names path mode) d1 d' x1 x' holder (ap (λ (y : SessionSeen). y.lib) t.empty ∙ mine) (settles_own d d1 x x1 own t) c
+  chmod_free : (path : Path) (mode : Mode) (d d' : D) (x x' : SessionSeen) (holder : Holder) → x.lib ≡ lib → Alone d → ChmodCalled called seen d x path mode (Busy holder) d' x' → ⊥
+  chmod_free path mode d d' x x' holder mine alone (Unbegun none u) = cc none
+  chmod_free path mode d d' x x' holder mine alone (Begun d1 x1 t c) =
+      called_free (ChmodTried called seen path mode) (λ d d' x x' end alone t. calls_keep ((t.given ++ t.ungiven) ++ t.last) d d' alone t.made)
+      (chmod_names path mode) d1 d' x1 x' holder (ap (λ (y : SessionSeen). y.lib) t.empty ∙ mine) (settles_keep d d1 x x1 alone t) c
 
-  leased_free : (d d' : Noted) (x x' : SessionSeen) (k : call.Call) (holder : Holder) → x.lib ≡ lib → OwnDesk d → (b : Bool) → MatchBool b (DirCalled (Notes lib) (sees lib) d x k (Busy holder) d' x') (FileCalled (Notes lib) (sees lib) d x k (Busy holder) d' x') → ⊥
-  leased_free d d' x x' k holder mine own true c =
-      called_free (DirTried (Notes lib) (sees lib) k) (λ d d' x x' end own t. calls_own (t.1.given ++ t.1.last) d d' own t.1.made)
-      (λ d d' x x' holder own t. tried_names _ _ d d' x x' holder own t.1) d d' x x' holder mine own c
-  leased_free d d' x x' k holder mine own false c =
-      called_free (FileTried (Notes lib) (sees lib) k) (λ d d' x x' end own t. calls_own (t.1.given ++ t.1.last) d d' own t.1.made)
-      (λ d d' x x' holder own t. tried_names _ _ d d' x x' holder own t.1) d d' x x' holder mine own c
+  leased_free : (d d' : D) (x x' : SessionSeen) (k : call.Call) (holder : Holder) → x.lib ≡ lib → Alone d → (b : Bool) → MatchBool b (DirCalled called seen d x k (Busy holder) d' x') (FileCalled called seen d x k (Busy holder) d' x') → ⊥
+  leased_free d d' x x' k holder mine alone true c =
+      called_free (DirTried called seen k) (λ d d' x x' end alone t. calls_keep (t.1.given ++ t.1.last) d d' alone t.1.made)
+      (λ d d' x x' holder alone t. tried_names _ _ d d' x x' holder alone t.1) d d' x x' holder mine alone c
+  leased_free d d' x x' k holder mine alone false c =
+      called_free (FileTried called seen k) (λ d d' x x' end alone t. calls_keep (t.1.given ++ t.1.last) d d' alone t.1.made)
+      (λ d d' x x' holder alone t. tried_names _ _ d d' x x' holder alone t.1) d d' x x' holder mine alone c
 
-  call_free : (d d' : Noted) (x x' : SessionSeen) (k : call.Call) (holder : Holder) → x.lib ≡ lib → OwnDesk d → SessionCalled (Notes lib) (sees lib) d x k (Busy holder) d' x' → ⊥
-  call_free d d' x x' (Chmod path mode) holder mine own c = chmod_free path mode d d' x x' holder mine own c
-  call_free d d' x x' k holder mine own c = leased_free d d' x x' k holder mine own (is_dir_call k) c
+  call_free : (d d' : D) (x x' : SessionSeen) (k : call.Call) (holder : Holder) → x.lib ≡ lib → Alone d → SessionCalled called seen d x k (Busy holder) d' x' → ⊥
+  call_free d d' x x' (Chmod path mode) holder mine alone c = chmod_free path mode d d' x x' holder mine alone c
+  call_free d d' x x' k holder mine alone c = leased_free d d' x x' k holder mine alone (is_dir_call k) c
 
   -- a line isn't answered busy
-  line_free : (d d' : Noted) (x x' : SessionSeen) (line : HonestLine) (told : LineAnswer) → x.lib ≡ lib → OwnDesk d → HonestComes (Notes lib) (sees lib) d x line told d' x' → told ≡ answered.Busy → ⊥
-  line_free d d' x x' (CallLine k) told mine own c busy = by c.end c.made (c.told_is ∙ ap Some busy)
+  line_free : (d d' : D) (x x' : SessionSeen) (line : HonestLine) (told : LineAnswer) → x.lib ≡ lib → Alone d → HonestComes called seen d x line told d' x' → told ≡ answered.Busy → ⊥
+  line_free d d' x x' (CallLine k) told mine alone c busy = by c.end c.made (c.told_is ∙ ap Some busy)
     where
-      by : (end : Outcome) → SessionCalled (Notes lib) (sees lib) d x k end d' x' → told_outcome end ≡ Some answered.Busy → ⊥
+      by : (end : Outcome) → SessionCalled called seen d x k end d' x' → told_outcome end ≡ Some answered.Busy → ⊥
       by (Replied answer) made e = (let wrong : answered.Replied answer ≡ answered.Busy = cc e in cc wrong)
-      by (Busy holder) made e = call_free d d' x x' k holder mine own made
+      by (Busy holder) made e = call_free d d' x x' k holder mine alone made
       by NoMemory made e = cc e
-  line_free d d' x x' SettleLine told mine own c busy = (let wrong : answered.Settled (length x.calls) ≡ answered.Busy = sym c.1 ∙ busy in cc wrong)
+  line_free d d' x x' SettleLine told mine alone c busy = (let wrong : answered.Settled (length x.calls) ≡ answered.Busy = sym c.1 ∙ busy in cc wrong)
 
   -- and the session stays the library's
-  line_mine : (d d' : Noted) (x x' : SessionSeen) (line : HonestLine) (told : LineAnswer) → x.lib ≡ lib → HonestComes (Notes lib) (sees lib) d x line told d' x' → x'.lib ≡ lib
-  line_mine d d' x x' (CallLine k) told mine c = c.may.edits.on.lib
-  line_mine d d' x x' SettleLine told mine c = ap (λ (y : SessionSeen). y.lib) c.0.empty ∙ mine
+  line_mine : (d d' : D) (x x' : SessionSeen) (line : HonestLine) (told : LineAnswer) → (seen d').lib ≡ lib → x.lib ≡ lib → HonestComes called seen d x line told d' x' → x'.lib ≡ lib
+  line_mine d d' x x' (CallLine k) told there mine c = c.may.edits.on.lib ∙ there
+  line_mine d d' x x' SettleLine told there mine c = ap (λ (y : SessionSeen). y.lib) c.0.empty ∙ mine
+
+  -- after a line, and after a settle
+  pub line_stays : (d d' : D) (x x' : SessionSeen) (line : HonestLine) (answer : LineAnswer) (told told' : Heard) → (seen d').lib ≡ lib → x.lib ≡ lib → Alone d → NeverBusy told → HonestComes called seen d x line answer d' x' → told' ≡ with_answer told answer → Stays lib (InSession x') told'
+  line_stays d d' x x' line answer told told' there mine alone free c is = record {
+    session = x';
+    is = refl;
+    mine = line_mine d d' x x' line answer there mine c;
+    free = subst NeverBusy (sym is) (more_free told answer free (line_free d d' x x' line answer mine alone c));
+  }
+
+  pub settle_stays : (d d' : D) (x x' : SessionSeen) (end : EndAnswer) (told told' : Heard) → x.lib ≡ lib → NeverBusy told → Settles called d x d' x' → told' ≡ with_end told end → Stays lib (InSession x') told'
+  settle_stays d d' x x' end told told' mine free c is = record {
+    session = x';
+    is = refl;
+    mine = ap (λ (y : SessionSeen). y.lib) c.empty ∙ mine;
+    free = subst NeverBusy (sym is) free;
+  }
 
 -- ---- turns
 
-abbrev NeverBusy : Heard → Type 0
-NeverBusy told = (answer : LineAnswer) → In answer told.answers → answer ≡ answered.Busy → ⊥
+module _ (lib : LibNo) where
+  abbrev OwnDesk : Noted → Type 0
+  OwnDesk d = OwnAlone lib d.state
 
--- what the library has and was told after a turn: it is in a session of its own still, and was never told Busy
-record Stays (lib : LibNo) (share : Share) (told : Heard) : Type 0 where
-  session : SessionSeen
-  is : share ≡ InSession session
-  mine : session.lib ≡ lib
-  free : NeverBusy told
+  noted_keeps : (d : Noted) (ask : Ask) (told : Told) (d' : Noted) → OwnDesk d → Notes lib d ask told d' → OwnDesk d'
+  noted_keeps d ask told d' own notes = happens_own lib d.state ask told d'.state own notes.happens
 
-more_free : (told : Heard) (answer : LineAnswer) → NeverBusy told → (answer ≡ answered.Busy → ⊥) → NeverBusy (with_answer told answer)
-more_free told answer free one a i =
-    elim (In-cases a told.answers (answer ∷ []) i) [
-      | inl j ↦ free a j
-      | inr j ↦ elim j [ inl e ↦ λ busy. one (sym e ∙ busy) | inr none ↦ absurd none ]
-    ]
+  noted_happens : (d : Noted) (ask : Ask) (told : Told) (d' : Noted) → OwnDesk d → Notes lib d ask told d' → HappensAlone lib ask told
+  noted_happens d ask told d' own notes = (d.state, d'.state, own, notes.happens)
 
-turn_stays : (lib : LibNo) (turn : Turn) (s : State) (x : SessionSeen) (told : Heard) (d' : Noted) (share' : Share) (told' : Heard) → OwnAlone lib s → x.lib ≡ lib → NeverBusy told → TurnComes lib turn (unnoted s) (InSession x) told d' share' told' → Stays lib share' told'
-turn_stays lib (Says line) s x told d' share' told' own mine free c = absurd c
-turn_stays lib (SaysHonest line) s x told d' (Things has) told' own mine free c = absurd c
-turn_stays lib (SaysHonest line) s x told d' (InSession x') told' own mine free c = record {
-  session = x';
-  is = refl;
-  mine = line_mine lib (unnoted s) d' x x' line.line c.0 mine c.1;
-  free = subst NeverBusy (sym c.2) (more_free told c.0 free (line_free lib (unnoted s) d' x x' line.line c.0 mine own c.1));
-}
-turn_stays lib Ends s x told d' (Things has) told' own mine free c = absurd c
-turn_stays lib Ends s x told d' (InSession x') told' own mine free c = record {
-  session = x';
-  is = refl;
-  mine = ap (λ (y : SessionSeen). y.lib) c.0.empty ∙ mine;
-  free = subst NeverBusy (sym c.1) free;
-}
+  turn_stays : (turn : Turn) (s : State) (x : SessionSeen) (told : Heard) (d' : Noted) (share' : Share) (told' : Heard) → OwnAlone lib s → x.lib ≡ lib → NeverBusy told → TurnComes lib turn (unnoted s) (InSession x) told d' share' told' → Stays lib share' told'
+  turn_stays (Says line) s x told d' share' told' own mine free c = absurd c
+  turn_stays (SaysHonest line) s x told d' (Things has) told' own mine free c = absurd c
+  turn_stays (SaysHonest line) s x told d' (InSession x') told' own mine free c =
+      line_stays (Notes lib) (sees lib) lib OwnDesk noted_keeps noted_happens (unnoted s) d' x x' line.line c.0 told told' refl mine own free c.1 c.2
+  turn_stays Ends s x told d' (Things has) told' own mine free c = absurd c
+  turn_stays Ends s x told d' (InSession x') told' own mine free c =
+      settle_stays (Notes lib) (sees lib) lib OwnDesk noted_keeps noted_happens (unnoted s) d' x x' (Settled (length x.calls)) told told' mine free c.0 c.1
 
 -- ---- a play
 
-abbrev one : LibNo
+abbrev pub one : LibNo
 one = record { 0 = 1 }
 
 -- one library plays, in a session of its own: each open grant is its own, and it was never told Busy

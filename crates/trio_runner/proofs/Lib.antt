@@ -37,4 +37,6 @@ pub mod Printed
 pub mod Keeping
 pub mod RanOrder
 pub mod RanPrinted
+pub mod RanAlone
+pub mod OneSequence
 pub mod RanFree

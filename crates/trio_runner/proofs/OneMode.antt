@@ -119,7 +119,7 @@ module _ (lib : LibNo) (s t : State) (hs : Kept s) (ht : Kept t) (same : known s
 
   module _ (ino mode : ℕ) (back : List Shown) where
     -- from where the leases are back
-    modes_same : (a b : step.CtlAnswer) (s1 t1 : State) → AreBack s lib back → AreBack t lib back → step.Step (all_back s lib back) (step.SetMode lib.0 ino mode) a s1 → step.Step (all_back t lib back) (step.SetMode lib.0 ino mode) b t1
+    pub modes_same : (a b : step.CtlAnswer) (s1 t1 : State) → AreBack s lib back → AreBack t lib back → step.Step (all_back s lib back) (step.SetMode lib.0 ino mode) a s1 → step.Step (all_back t lib back) (step.SetMode lib.0 ino mode) b t1
         → a ≢ step.NoMemory → b ≢ step.NoMemory → SameAnswer a b × (known s1 ≡ known t1)
     modes_same a b s1 t1 xs ys x y some some' =
         same_event_same_answer (all_back s lib back) (all_back t lib back) (step.SetMode lib.0 ino mode) a b s1 t1 (backs_kept s lib back hs xs) (backs_kept t lib back ht ys) (backs_known lib back s t hs ht same xs ys) x y some some'
@@ -132,7 +132,7 @@ module _ (lib : LibNo) (s t : State) (hs : Kept s) (ht : Kept t) (same : known s
     not_back holder (inl e) = cc e
     not_back holder (inr r) = (let wrong : None ≡ Some r.0 = r.1 in cc wrong)
 
-    holders_same : (h k : Holder) → SameAnswer (step.NotModeSet (BusyMode h)) (step.NotModeSet (BusyMode k)) → h ≡ k
+    pub holders_same : (h k : Holder) → SameAnswer (step.NotModeSet (BusyMode h)) (step.NotModeSet (BusyMode k)) → h ≡ k
     holders_same h k (inl e) = cc e
     holders_same h k (inr r) = (let wrong : None ≡ Some r.0 = r.1 in absurd (cc wrong))
 

@@ -70,7 +70,7 @@ use Rattle.trio_runner.proofs.SameAnswers.{Alike, Lends, answers_alike, calls_kn
 -- ---- answers
 
 -- what is told of alike answers is the same
-told_alike : (said : RawLine) (a b : Told) → Alike a b → told_of said a ≡ told_of said b
+pub told_alike : (said : RawLine) (a b : Told) → Alike a b → told_of said a ≡ told_of said b
 told_alike said a b (Same told) = refl
 told_alike (GrantLine ino kind) a b (BothRefused rule i p s i' p' s') = refl
 told_alike (AllotLine wanted many) a b (BothRefused rule i p s i' p' s') = refl
@@ -80,7 +80,7 @@ told_alike (Peek at offset len) a b (BothRefused rule i p s i' p' s') = refl
 told_alike (ReleaseLine inos pages numbers) a b (BothRefused rule i p s i' p' s') = refl
 told_alike (ModeLine ino mode) a b (BothRefused rule i p s i' p' s') = refl
 
-has_alike : (lib : LibNo) (has : Has) (said : RawLine) (a b : Told) → Alike a b → has_after lib has said a ≡ has_after lib has said b
+pub has_alike : (lib : LibNo) (has : Has) (said : RawLine) (a b : Told) → Alike a b → has_after lib has said a ≡ has_after lib has said b
 has_alike lib has said a b (Same told) = refl
 has_alike lib has (GrantLine ino kind) a b (BothRefused rule i p s i' p' s') = refl
 has_alike lib has (AllotLine wanted many) a b (BothRefused rule i p s i' p' s') = refl
@@ -138,7 +138,7 @@ no_settle_memory (Peek at offset len) = refl
 no_settle_memory (ReleaseLine inos pages numbers) = refl
 no_settle_memory (ModeLine ino mode) = refl
 
-told_some : (said : RawLine) (a : Told) (told : LineAnswer) → told_of said a ≡ Some told → answer_of a ≢ step.NoMemory
+pub told_some : (said : RawLine) (a : Told) (told : LineAnswer) → told_of said a ≡ Some told → answer_of a ≢ step.NoMemory
 told_some said (Lent l) told is e = absurd (cc e)
 told_some said (NotLent NotLive) told is e = absurd (cc e)
 told_some said (NotLent (Denied n)) told is e = absurd (cc e)
@@ -234,7 +234,7 @@ one_line lib said s t has calls calls' moves moves' told told' s' t' has' has'' 
 
 -- ---- ends
 
-backs_done : (rs : List Shown) (c : Call) → In c (back_calls rs) → answer_of c.told ≢ step.NoMemory
+pub backs_done : (rs : List Shown) (c : Call) → In c (back_calls rs) → answer_of c.told ≢ step.NoMemory
 backs_done [] c i = absurd i
 backs_done (r ∷ rs) c i =
     elim (In-cases c (back_calls rs) (record { ask = GiveBack r; told = Done } ∷ []) i) [
@@ -245,16 +245,16 @@ backs_done (r ∷ rs) c i =
       ]
     ]
 
-judged_some : (x : ReleaseAnswer) → answer_of (Judged x) ≢ step.NoMemory
+pub judged_some : (x : ReleaseAnswer) → answer_of (Judged x) ≢ step.NoMemory
 judged_some AcceptedParcel e = absurd (cc e)
 judged_some (RefusedParcel rule ino page slot) e = absurd (cc e)
 
 -- how an end is told
-abbrev end_told : Told → Option EndAnswer
+abbrev pub end_told : Told → Option EndAnswer
 end_told (Judged x) = Some (end_of x)
 end_told _ = None
 
-end_alike : (a b : Told) → Alike a b → end_told a ≡ end_told b
+pub end_alike : (a b : Told) → Alike a b → end_told a ≡ end_told b
 end_alike a b (Same told) = refl
 end_alike a b (BothRefused rule i p s i' p' s') = refl
 

@@ -56,7 +56,7 @@ gets_fits (Allot pages numbers) (NotGiven fault) g = tt
 gets_fits ask told g = absurd g
 
 -- a lease is lent to a grant alone
-lent_gets : (s : State) (lib : LibNo) (ask : Ask) (lease : Lease) (s' : State) → Happens s lib ask (Lent lease) s' → Gets ask (Lent lease)
+pub lent_gets : (s : State) (lib : LibNo) (ask : Ask) (lease : Lease) (s' : State) → Happens s lib ask (Lent lease) s' → Gets ask (Lent lease)
 lent_gets s lib (Grant ino kind) lease s' h = tt
 lent_gets s lib (Allot pages numbers) lease s' h = elim h.is_step [ inl c ↦ by (ltb (length (free_pages s)) pages) (ltb (length (free_numbers s)) numbers) c | inr none ↦ absurd (cc (none.1)) ]
   where

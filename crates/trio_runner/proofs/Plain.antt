@@ -55,7 +55,7 @@ backs_plain (r ∷ rs) c i =
       | inr j ↦ elim j [ inl e ↦ ap (λ (x : Call). handed_back x.ask) e | inr none ↦ absurd none ]
     ]
 
-line_plain : (lib : LibNo) (has : Has) (said : RawLine) (calls : List Call) (told : LineAnswer) (has' : Has) → LineComes lib has said calls told has' → ArePlain calls
+pub line_plain : (lib : LibNo) (has : Has) (said : RawLine) (calls : List Call) (told : LineAnswer) (has' : Has) → LineComes lib has said calls told has' → ArePlain calls
 line_plain lib has said calls told has' comes = by (ask_of has said) refl comes
   where
     by : (o : Option Ask) → ask_of has said ≡ o → MatchOption o (Alone has said calls told has') (λ ask. Asks lib has said ask calls told has') → ArePlain calls
@@ -63,7 +63,7 @@ line_plain lib has said calls told has' comes = by (ask_of has said) refl comes
     by (Some ask) e a c i =
         elim (subst (λ (l : List Call). In c l) a.calls_are i) [ inl same ↦ ap (λ (x : Call). handed_back x.ask) same ∙ ask_plain has said ask e | inr none ↦ absurd none ]
 
-end_plain : (has : Has) (calls : List Call) (end : EndAnswer) → EndComes has calls end → ArePlain calls
+pub end_plain : (has : Has) (calls : List Call) (end : EndAnswer) → EndComes has calls end → ArePlain calls
 end_plain has calls end comes = by (has_nothing has) comes
   where
     by : (b : Bool) → MatchBool b (EndsAlone has calls end) (EndsAll has calls end) → ArePlain calls

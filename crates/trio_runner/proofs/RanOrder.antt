@@ -32,7 +32,7 @@ use Rattle.trio_runner.proofs.Logs.{entries_append}
 -- ---- a library's calls along what its seat has seen
 
 -- what a log leaves is what it replays to
-replays_left : (first : Origin) (log : List Entry) (s : State) → Leaves first log s → Replays first.image first.creds log s
+pub replays_left : (first : Origin) (log : List Entry) (s : State) → Leaves first log s → Replays first.image first.creds log s
 replays_left first log s left = subst (λ (creds : List Creds). Replays first.image creds log s) left.creds left.all.replays
 
 -- the library's calls lie along what its seat has seen

@@ -1,10 +1,12 @@
 -- What the calls of a session are, and what they keep.
-use Rattle.std.proofs.Common.{◌≡◌, ℕ, Bool, true, false, List, [], ◌∷◌, ◌++◌, map, Option, Some, None, sym, refl, ap, ◌∙◌, subst, inl, inr}
+use Rattle.std.proofs.Common.{◌≡◌, ◌≢◌, ℕ, Bool, true, false, List, [], ◌∷◌, ◌++◌, map, Option, Some, None, sym, refl, ap, ◌∙◌, subst, inl, inr}
 use Rattle.std.specs.Prelude.{MatchBool}
 use Rattle.trio_lists.specs.Lists.{In}
 use Rattle.trio_lists.proofs.Members.{In-cases, map-In}
 use Rattle.trio_rights.specs.declared.rights.LibNo.{LibNo}
 use Rattle.trio_nodes.specs.declared.call.Done as done
+use Rattle.trio_nodes.specs.declared.answers.GrantFault.TheVariants.{NoMemory as NoGrantMemory}
+use Rattle.trio_nodes.specs.declared.answers.AllotFault.TheVariants.{NoMemory as NoAllotMemory}
 use Rattle.trio_nodes.specs.declared.answers.ModeFault.{ModeFault}
 use Rattle.trio_nodes.specs.declared.answers.ModeFault.TheVariants.{Busy as BusyMode, NoMemory as NoModeMemory}
 use Rattle.trio_nodes.specs.declared.call.Call as call
@@ -44,8 +46,8 @@ use Rattle.trio_runner.specs.Moves.{apart, back_call}
 abbrev pub IsAsked : Ask → Told → Type 0
 IsAsked ask (Lent lease) = Unit {0}
 IsAsked ask (Given pages numbers) = Unit {0}
-IsAsked (Grant ino kind) (NotLent fault) = Unit {0}
-IsAsked (Allot pages numbers) (NotGiven fault) = Unit {0}
+IsAsked (Grant ino kind) (NotLent fault) = fault ≢ NoGrantMemory
+IsAsked (Allot pages numbers) (NotGiven fault) = fault ≢ NoAllotMemory
 IsAsked (Settle parcel back calls) Settled = Unit {0}
 IsAsked (SetMode ino mode back call) ModeSet = Unit {0}
 IsAsked (SetMode ino mode back call) (NotModeSet (BusyMode holder)) = Unit {0}
@@ -67,11 +69,11 @@ none_asked last e c i = absurd (subst (λ (l : List Call). In c l) e i)
 
 pub last_asked : (end : Outcome) (told : LineAnswer) (last : List Call) → told_outcome end ≡ Some told → TryEnds end last → (c : Call) → In c last → IsAsked c.ask c.told
 last_asked NoMemory told last is e = absurd (cc is)
-last_asked (Busy holder) told last is e = one_asked last _ e.2 tt
-last_asked (Replied (reply.NoSpace wanted free)) told last is e = one_asked last _ e.1 tt
-last_asked (Replied (reply.NoInodes wanted free)) told last is e = one_asked last _ e.1 tt
+last_asked (Busy holder) told last is e = one_asked last _ e.2 (λ w. cc w)
+last_asked (Replied (reply.NoSpace wanted free)) told last is e = one_asked last _ e.1 (λ w. cc w)
+last_asked (Replied (reply.NoInodes wanted free)) told last is e = one_asked last _ e.1 (λ w. cc w)
 last_asked (Replied reply.Denied) told last is (inl e) = none_asked last e
-last_asked (Replied reply.Denied) told last is (inr e) = one_asked last e.0 e.1 (asked_is e.0 _ e.2.1 tt)
+last_asked (Replied reply.Denied) told last is (inr e) = one_asked last e.0 e.1 (asked_is e.0 _ e.2.1 (λ w. cc w))
 last_asked (Replied answer) told last is e = none_asked last e
 
 -- ---- what calls keep
@@ -108,7 +110,7 @@ module _ {D : Type 0} (called : D → Ask → Told → D → Type 0) (seen : D �
   ungiven_asked all path mode BreaksOff ungiven last (Busy holder) told is e = last_asked (Busy holder) told ungiven is e.1
   ungiven_asked all path mode BreaksOff ungiven last NoMemory told is e = absurd (cc is)
   ungiven_asked all path mode (HandsIn answer) ungiven last end told is e =
-      elim e.0 [ inl none ↦ none_asked ungiven none | inr denied ↦ one_asked ungiven denied.1 denied.2 (asked_is denied.1 _ denied.3.1 tt) ]
+      elim e.0 [ inl none ↦ none_asked ungiven none | inr denied ↦ one_asked ungiven denied.1 denied.2 (asked_is denied.1 _ denied.3.1 (λ w. cc w)) ]
   ungiven_asked all path mode (SetsMode ino) ungiven last end told is e = none_asked ungiven e.0
 
   chmod_asked : (all : SessionSeen) (path : Path) (mode : Mode) (comes : Comes) (ungiven last : List Call) (end : Outcome) (told : LineAnswer) → told_outcome end ≡ Some told → EndsAs all path mode comes ungiven last end → (c : Call) → In c last → IsAsked c.ask c.told

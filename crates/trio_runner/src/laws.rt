@@ -1,7 +1,7 @@
 //! The laws: the body of each function is empty, or calls the laws that it rests on, and its contract is the law.
 
 ghost use Rattle.trio_runner.specs.PlayLaws.{PlayedAlone, PlayedEndsFree, PlayedIsLogged, PlayedIsOne, PlayedIsPrinted, PlayedIsTrace, PlaysMore};
-ghost use Rattle.trio_runner.specs.RunLaws.{OrderIsLogged, RanEndsFree, RanIsOrder, RanIsPrinted};
+ghost use Rattle.trio_runner.specs.RunLaws.{OrderIsLogged, OrderIsOne, RanAlone, RanEndsFree, RanIsOrder, RanIsPrinted};
 
 use trio_shared::{desk_is_left, others_leave};
 
@@ -53,10 +53,21 @@ pub fn order_is_logged()
     ensures law { OrderIsLogged }
 {}
 
+/// Two runs, in whose orders the libraries call in the same sequence and the honest ones ask the same,
+/// settle the same image at their ends, and each raw library is told the same in both.
+pub fn order_is_one()
+    ensures law { OrderIsOne }
+{}
+
 /// Where each library runs on a thread of its own, what it was told prints its entries too, each once
 /// and in their order.
 pub fn ran_is_printed()
     ensures law { RanIsPrinted }
+{}
+
+/// An honest library that is alone is never answered busy there either.
+pub fn ran_alone()
+    ensures law { RanAlone }
 {}
 
 /// And at the end nothing is lent or out.

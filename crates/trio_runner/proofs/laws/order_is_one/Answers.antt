@@ -1,0 +1,5 @@
+use Rattle.trio_runner.proofs.OneSequence.{order_is_one as the_law}
+use Rattle.trio_runner.proofs.laws.order_is_one.Goals as goal
+
+pub returns : goal.returns
+returns c = record { law = the_law }
