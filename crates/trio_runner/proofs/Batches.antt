@@ -1,7 +1,7 @@
--- The entries of a session's calls, and the replies that they tell.
+-- The entries of a session's calls, and the calls that they tell.
 use Rattle.std.proofs.Common.{◌≡◌, ℕ, Bool, true, false, List, [], ◌∷◌, ◌++◌, length, map, Some, None, Ok, sym, refl, ap, ◌∙◌, subst, inl, inr}
 use Rattle.std.specs.Prelude.{MatchBool}
-use Rattle.std.specs.List.{AllByRecursion, filter_map, flat_map}
+use Rattle.std.specs.List.{AllByRecursion, flat_map}
 use Rattle.std.proofs.lemmas.Grind.{flat_map-append}
 use Rattle.std.proofs.lemmas.List.{append-nil, append_assoc}
 use Rattle.trio_lists.specs.Lists.{In}
@@ -41,15 +41,20 @@ use Rattle.trio_script.specs.declared.honest.HonestLine.TheVariants.{Call as Cal
 use Rattle.trio_report.specs.declared.answer.LineAnswer.{LineAnswer}
 use Rattle.trio_report.specs.declared.answer.LineAnswer.TheVariants as answered
 use Rattle.trio_runner.specs.Honest.{CallComes, HonestComes, SessionCalled, told_outcome, is_dir_call}
-use Rattle.trio_runner.specs.Logged.{IsBack, IsSettle, LineMakes, replies_in, reply_told}
-use Rattle.trio_runner.proofs.Left.{left_by_chmod, left_by_dir, left_by_file, replied, replies, took_calls}
+use Rattle.trio_runner.specs.Logged.{IsBack, IsSettle, LineMakes, call_told, calls_in}
+use Rattle.trio_runner.proofs.Left.{left_by_chmod, left_by_dir, left_by_file, replied, took_calls, with_replies}
 use Rattle.trio_runner.proofs.Entries.{Makes}
 
-abbrev told_in : List Entry → List Reply
-told_in es = flat_map replies_in es
+-- calls, each with its reply
+abbrev pub Replies : Type 0
+Replies = List (call.Call × Reply)
 
-told_both : (es fs : List Entry) (rs qs : List Reply) → told_in es ≡ rs → told_in fs ≡ qs → told_in (es ++ fs) ≡ rs ++ qs
-told_both es fs rs qs a b = flat_map-append replies_in es fs ∙ ap (λ l. l ++ told_in fs) a ∙ ap (λ l. rs ++ l) b
+-- those that entries tell
+abbrev told_in : List Entry → Replies
+told_in es = flat_map calls_in es
+
+told_both : (es fs : List Entry) (rs qs : Replies) → told_in es ≡ rs → told_in fs ≡ qs → told_in (es ++ fs) ≡ rs ++ qs
+told_both es fs rs qs a b = flat_map-append calls_in es fs ∙ ap (λ l. l ++ told_in fs) a ∙ ap (λ l. rs ++ l) b
 
 -- ---- one call
 
@@ -86,7 +91,7 @@ got_tells s lib ask told is = absurd is
 
 -- ---- a settle
 
--- read leases that are given back tell no reply
+-- read leases that are given back tell no call
 backs_tell : (lib : LibNo) (back : List Shown) → told_in (back_entries lib back) ≡ []
 backs_tell lib [] = refl
 backs_tell lib (f ∷ fs) = backs_tell lib fs
@@ -96,19 +101,19 @@ backs_are lib [] = tt
 backs_are lib (f ∷ fs) = (tt, backs_are lib fs)
 
 -- what a change of mode by a call made: it is replied
-mode_tells : (s : State) (lib : LibNo) (ino mode : ℕ) (back : List Shown) (k : call.Call) → told_in (entries_told s lib (SetMode ino mode back (Some k)) ModeSet) ≡ reply.Ok AnsweredDone ∷ []
-mode_tells s lib ino mode back k = told_both (back_entries lib back) (ModeEntry lib ino mode (Ok tt) (Some k) ∷ []) [] (reply.Ok AnsweredDone ∷ []) (backs_tell lib back) refl
+mode_tells : (s : State) (lib : LibNo) (ino mode : ℕ) (back : List Shown) (k : call.Call) → told_in (entries_told s lib (SetMode ino mode back (Some k)) ModeSet) ≡ replied k (Replied (reply.Ok AnsweredDone))
+mode_tells s lib ino mode back k = told_both (back_entries lib back) (ModeEntry lib ino mode (Ok tt) (Some k) ∷ []) [] (replied k (Replied (reply.Ok AnsweredDone))) (backs_tell lib back) refl
 
 -- what a settle of these calls made
 pub record SettleMade (done : List Done) (es : List Entry) : Type 0 where
-  pub tells : told_in es ≡ replies done
+  pub tells : told_in es ≡ with_replies done
   pub settles : IsSettle (length done) es
 
 settle_made : (s : State) (lib : LibNo) (parcel : Parcel) (back : List Shown) (done : List Done) → SettleMade done (entries_told s lib (Settle parcel back done) Settled)
 settle_made s lib parcel back done =
     let handed = (with_calls (bundled_of parcel) done).handed in
     record {
-      tells = told_both (back_entries lib back) (Batch lib done handed ∷ []) [] (replies done) (backs_tell lib back) (append-nil (replies done));
+      tells = told_both (back_entries lib back) (Batch lib done handed ∷ []) [] (with_replies done) (backs_tell lib back) (append-nil (with_replies done));
       settles = record { of_backs = back_entries lib back; backs = backs_are lib back; lib = lib; calls = done; handed = handed; entries_are = refl; counts = refl };
     }
 
@@ -155,28 +160,34 @@ ungiven_got all path mode (HandsIn answer) ungiven last end told is e =
     elim e.0 [ inl none ↦ none_got ungiven none | inr denied ↦ one_got ungiven denied.1 denied.2 (got_is denied.1 _ denied.3.1 tt) ]
 ungiven_got all path mode (SetsMode ino) ungiven last end told is e = none_got ungiven e.0
 
--- The replies that the entries of a line tell, and those of the calls that the session still has, are those of the calls that it had
--- and what the line is told.
+-- The calls that the entries of a line tell, and those that the session still has, are those that it had and the line's own, each with
+-- its reply.
 pub record HonestMade (x x' : SessionSeen) (line : HonestLine) (told : LineAnswer) (es : List Entry) : Type 0 where
-  pub tells : flat_map replies_in es ++ map (λ (d : Done). d.reply) x'.calls ≡ map (λ (d : Done). d.reply) x.calls ++ filter_map reply_told (told ∷ [])
+  pub tells : flat_map calls_in es ++ with_replies x'.calls ≡ with_replies x.calls ++ call_told line told
   pub makes : LineMakes line told es
 
-replied_told : (end : Outcome) (told : LineAnswer) → told_outcome end ≡ Some told → replied end ≡ filter_map reply_told (told ∷ [])
-replied_told (Replied reply) told e = (let is : answered.Replied reply ≡ told = cc e in ap (λ a. filter_map reply_told (a ∷ [])) is)
-replied_told (Busy holder) told e = (let is : answered.Busy ≡ told = cc e in ap (λ a. filter_map reply_told (a ∷ [])) is)
-replied_told NoMemory told e = absurd (cc e)
+replied_told : (k : call.Call) (end : Outcome) (told : LineAnswer) → told_outcome end ≡ Some told → replied k end ≡ call_told (CallLine k) told
+replied_told k (Replied reply) told e = (let is : answered.Replied reply ≡ told = cc e in ap (call_told (CallLine k)) is)
+replied_told k (Busy holder) told e = (let is : answered.Busy ≡ told = cc e in ap (call_told (CallLine k)) is)
+replied_told k NoMemory told e = absurd (cc e)
+
+-- a call is told its reply, or Busy
+call_line : (k : call.Call) (end : Outcome) (told : LineAnswer) (es : List Entry) → told_outcome end ≡ Some told → LineMakes (CallLine k) told es
+call_line k (Replied reply) told es e = (let is : answered.Replied reply ≡ told = cc e in subst (λ a. LineMakes (CallLine k) a es) is tt)
+call_line k (Busy holder) told es e = (let is : answered.Busy ≡ told = cc e in subst (λ a. LineMakes (CallLine k) a es) is tt)
+call_line k NoMemory told es e = absurd (cc e)
 
 -- ---- a desk
 
 -- a desk that makes entries, by what it has made since a line began
 module _ {D : Type 0} (lib : LibNo) (called : D → Ask → Told → D → Type 0) (seen : D → DeskSeen) (Made : D → List Entry → Type 0) (makes : Makes lib called Made) where
-  -- it has made entries that tell these replies
-  record Tells (d : D) (rs : List Reply) : Type 0 where
+  -- it has made entries that tell these calls
+  record Tells (d : D) (rs : Replies) : Type 0 where
     entries : List Entry
     made : Made d entries
     tells : told_in entries ≡ rs
 
-  told_since : (d : D) (ask : Ask) (told : Told) (d' : D) (rs qs : List Reply) → ((s : State) → told_in (entries_told s lib ask told) ≡ qs) → called d ask told d' → Tells d rs → Tells d' (rs ++ qs)
+  told_since : (d : D) (ask : Ask) (told : Told) (d' : D) (rs qs : Replies) → ((s : State) → told_in (entries_told s lib ask told) ≡ qs) → called d ask told d' → Tells d rs → Tells d' (rs ++ qs)
   told_since d ask told d' rs qs tells c h =
       let one = makes d h.entries ask told d' h.made c in
       record {
@@ -185,14 +196,14 @@ module _ {D : Type 0} (lib : LibNo) (called : D → Ask → Told → D → Type 
         tells = told_both h.entries (entries_told one.0 lib ask told) rs qs h.tells (tells one.0);
       }
 
-  none_since : (d : D) (ask : Ask) (told : Told) (d' : D) (rs : List Reply) → ((s : State) → told_in (entries_told s lib ask told) ≡ []) → called d ask told d' → Tells d rs → Tells d' rs
+  none_since : (d : D) (ask : Ask) (told : Told) (d' : D) (rs : Replies) → ((s : State) → told_in (entries_told s lib ask told) ≡ []) → called d ask told d' → Tells d rs → Tells d' rs
   none_since d ask told d' rs none c h = subst (Tells d') (append-nil rs) (told_since d ask told d' rs [] none c h)
 
   -- a settle of these calls
-  handed_since : (d : D) (parcel : Parcel) (back : List Shown) (done : List Done) (d' : D) (rs : List Reply) → called d (Settle parcel back done) Settled d' → Tells d rs → Tells d' (rs ++ replies done)
-  handed_since d parcel back done d' rs c h = told_since d (Settle parcel back done) Settled d' rs (replies done) (λ s. (settle_made s lib parcel back done).tells) c h
+  handed_since : (d : D) (parcel : Parcel) (back : List Shown) (done : List Done) (d' : D) (rs : Replies) → called d (Settle parcel back done) Settled d' → Tells d rs → Tells d' (rs ++ with_replies done)
+  handed_since d parcel back done d' rs c h = told_since d (Settle parcel back done) Settled d' rs (with_replies done) (λ s. (settle_made s lib parcel back done).tells) c h
 
-  calls_since : (rs : List Reply) (cs : List Call) (d d' : D) → ((c : Call) → In c cs → IsGot c.ask c.told) → Calls called d cs d' → Tells d rs → Tells d' rs
+  calls_since : (rs : Replies) (cs : List Call) (d d' : D) → ((c : Call) → In c cs → IsGot c.ask c.told) → Calls called d cs d' → Tells d rs → Tells d' rs
   calls_since rs [] d d' got made h = subst (λ x. Tells x rs) (sym made) h
   calls_since rs (c ∷ cs) d d' got made h =
       calls_since rs cs made.0 d' (λ x i. got x (inr i)) made.2
@@ -203,35 +214,35 @@ module _ {D : Type 0} (lib : LibNo) (called : D → Ask → Told → D → Type 
 
   -- ---- a call
 
-  -- The replies that its entries tell, and then those of the calls that the session still has, are these.
-  record AllTold (d : D) (x : SessionSeen) (rs : List Reply) : Type 0 where
-    told : List Reply
+  -- The calls that its entries tell, and then those that the session still has, are these.
+  record AllTold (d : D) (x : SessionSeen) (rs : Replies) : Type 0 where
+    told : Replies
     since : Tells d told
-    all : told ++ replies x.calls ≡ rs
+    all : told ++ with_replies x.calls ≡ rs
 
-  settle_told : (d d' : D) (x x' : SessionSeen) (rs : List Reply) → Settles called d x d' x' → AllTold d x rs → AllTold d' x' rs
+  settle_told : (d d' : D) (x x' : SessionSeen) (rs : Replies) → Settles called d x d' x' → AllTold d x rs → AllTold d' x' rs
   settle_told d d' x x' rs t h = record {
-    told = h.told ++ replies x.calls;
+    told = h.told ++ with_replies x.calls;
     since = handed_since d x.parcel x.reads x.calls d' h.told t.made h.since;
-    all = ap (λ (c : List Done). (h.told ++ replies x.calls) ++ replies c) (settle_calls d d' x x' t) ∙ append-nil (h.told ++ replies x.calls) ∙ h.all;
+    all = ap (λ (c : List Done). (h.told ++ with_replies x.calls) ++ with_replies c) (settle_calls d d' x x' t) ∙ append-nil (h.told ++ with_replies x.calls) ∙ h.all;
   }
 
-  tried_told : (Leaves : SessionSeen → SessionSeen → Type 0) (Is : SessionSeen → List Ask → Nodes → Type 0) (rs : List Reply) (d d' : D) (x x' : SessionSeen) (end : Outcome) (told : LineAnswer) → told_outcome end ≡ Some told
-      → ((y : SessionSeen) → Leaves y x' → replies x'.calls ≡ replies y.calls ++ replied end) → Tried called seen d x Leaves Is end d' x' → AllTold d x rs → AllTold d' x' (rs ++ replied end)
-  tried_told Leaves Is rs d d' x x' end told is left t h =
-      let calls : replies x'.calls ≡ replies x.calls ++ replied end =
-      left (took x (map (λ (c : Call). c.told) t.given)) t.leaves ∙ ap (λ (c : List Done). replies c ++ replied end) (took_calls x (map (λ (c : Call). c.told) t.given)) in
+  tried_told : (k : call.Call) (Leaves : SessionSeen → SessionSeen → Type 0) (Is : SessionSeen → List Ask → Nodes → Type 0) (rs : Replies) (d d' : D) (x x' : SessionSeen) (end : Outcome) (told : LineAnswer) → told_outcome end ≡ Some told
+      → ((y : SessionSeen) → Leaves y x' → with_replies x'.calls ≡ with_replies y.calls ++ replied k end) → Tried called seen d x Leaves Is end d' x' → AllTold d x rs → AllTold d' x' (rs ++ replied k end)
+  tried_told k Leaves Is rs d d' x x' end told is left t h =
+      let calls : with_replies x'.calls ≡ with_replies x.calls ++ replied k end =
+      left (took x (map (λ (c : Call). c.told) t.given)) t.leaves ∙ ap (λ (c : List Done). with_replies c ++ replied k end) (took_calls x (map (λ (c : Call). c.told) t.given)) in
       record {
         told = h.told;
         since = calls_since h.told (t.given ++ t.last) d d'
             (λ c i. elim (In-cases c t.given t.last i) [ inl j ↦ given_got c (t.each c j) | inr j ↦ last_got end told t.last is t.ends c j ]) t.made h.since;
-        all = ap (λ l. h.told ++ l) calls ∙ sym (append_assoc h.told (replies x.calls) (replied end)) ∙ ap (λ l. l ++ replied end) h.all;
+        all = ap (λ l. h.told ++ l) calls ∙ sym (append_assoc h.told (with_replies x.calls) (replied k end)) ∙ ap (λ l. l ++ replied k end) h.all;
       }
 
   -- ---- a change of mode
 
-  -- the settle of the refused call, or the change of mode: its reply is told
-  last_since : (rs : List Reply) (all : SessionSeen) (path : Path) (mode : Mode) (comes : Comes) (ungiven last : List Call) (end : Outcome) (told : LineAnswer) (d d' : D) → told_outcome end ≡ Some told → EndsAs all path mode comes ungiven last end → Calls called d last d' → Tells d rs → Tells d' (rs ++ replied end)
+  -- the settle of the refused call, or the change of mode: the call is told
+  last_since : (rs : Replies) (all : SessionSeen) (path : Path) (mode : Mode) (comes : Comes) (ungiven last : List Call) (end : Outcome) (told : LineAnswer) (d d' : D) → told_outcome end ≡ Some told → EndsAs all path mode comes ungiven last end → Calls called d last d' → Tells d rs → Tells d' (rs ++ replied (Chmod path mode) end)
   last_since rs all path mode BreaksOff ungiven last (Replied answer) told d d' is e made h = absurd e.1
   last_since rs all path mode BreaksOff ungiven last (Busy holder) told d d' is e made h =
       let same : d' ≡ d = subst (λ (l : List Call). Calls called d l d') e.0 made in
@@ -239,44 +250,44 @@ module _ {D : Type 0} (lib : LibNo) (called : D → Ask → Told → D → Type 
   last_since rs all path mode BreaksOff ungiven last NoMemory told d d' is e made h = absurd (cc is)
   last_since rs all path mode (HandsIn answer) ungiven last end told d d' is e made h = by e.1 e.3 (one_called called last _ e.1 d d' e.2 made)
     where
-      by : (t : Told) → EndsHandedIn answer t end → called d (hand_in_ask all (Chmod path mode) answer) t d' → Tells d' (rs ++ replied end)
+      by : (t : Told) → EndsHandedIn answer t end → called d (hand_in_ask all (Chmod path mode) answer) t d' → Tells d' (rs ++ replied (Chmod path mode) end)
       by Settled is_end c =
-          subst (λ o. Tells d' (rs ++ replied o)) (sym is_end)
+          subst (λ o. Tells d' (rs ++ replied (Chmod path mode) o)) (sym is_end)
           (handed_since d all.parcel all.reads (record { call = Chmod path mode; reply = answer; made = 0 } ∷ []) d' rs c h)
       by NotSettled is_end c = (let wrong : None ≡ Some told = ap told_outcome (sym is_end) ∙ is in absurd (cc wrong))
       by t is_end c = absurd is_end
   last_since rs all path mode (SetsMode ino) ungiven last end told d d' is e made h = by e.1 e.3 (one_called called last _ e.1 d d' e.2 made)
     where
-      by : (t : Told) → EndsModed t end → called d (mode_ask all ino mode (Chmod path mode)) t d' → Tells d' (rs ++ replied end)
+      by : (t : Told) → EndsModed t end → called d (mode_ask all ino mode (Chmod path mode)) t d' → Tells d' (rs ++ replied (Chmod path mode) end)
       by ModeSet is_end c =
-          subst (λ o. Tells d' (rs ++ replied o)) (sym is_end)
-          (told_since d (mode_ask all ino mode (Chmod path mode)) ModeSet d' rs (reply.Ok AnsweredDone ∷ []) (λ s. mode_tells s lib ino mode.0 all.reads (Chmod path mode)) c h)
+          subst (λ o. Tells d' (rs ++ replied (Chmod path mode) o)) (sym is_end)
+          (told_since d (mode_ask all ino mode (Chmod path mode)) ModeSet d' rs (replied (Chmod path mode) (Replied (reply.Ok AnsweredDone))) (λ s. mode_tells s lib ino mode.0 all.reads (Chmod path mode)) c h)
       by (NotModeSet (BusyMode holder)) is_end c =
-          subst (λ o. Tells d' (rs ++ replied o)) (sym is_end)
+          subst (λ o. Tells d' (rs ++ replied (Chmod path mode) o)) (sym is_end)
           (subst (Tells d') (sym (append-nil rs)) (none_since d (mode_ask all ino mode (Chmod path mode)) (NotModeSet (BusyMode holder)) d' rs (λ s. refl) c h))
       by (NotModeSet NoModeMemory) is_end c = (let wrong : None ≡ Some told = ap told_outcome (sym is_end) ∙ is in absurd (cc wrong))
       by t is_end c = absurd is_end
 
-  -- tries that begin with such a session, one without a call among them, and that tell their reply or note it last
-  record AreTries (Begins : SessionSeen → Type 0) (Try : D → SessionSeen → Outcome → D → SessionSeen → Type 0) : Type 0 where
+  -- tries that begin with such a session, one without a call among them, and that tell their call or note it last
+  record AreTries (k : call.Call) (Begins : SessionSeen → Type 0) (Try : D → SessionSeen → Outcome → D → SessionSeen → Type 0) : Type 0 where
     empty : (x : SessionSeen) → x.calls ≡ [] → Begins x
     tried :
-        (rs : List Reply) (d d' : D) (x x' : SessionSeen) (end : Outcome) (told : LineAnswer)
-        → told_outcome end ≡ Some told → Begins x → Try d x end d' x' → AllTold d x rs → AllTold d' x' (rs ++ replied end)
+        (rs : Replies) (d d' : D) (x x' : SessionSeen) (end : Outcome) (told : LineAnswer)
+        → told_outcome end ≡ Some told → Begins x → Try d x end d' x' → AllTold d x rs → AllTold d' x' (rs ++ replied k end)
 
-  file_tries : (k : call.Call) → AreTries (λ x. Unit {0}) (FileTried called seen k)
+  file_tries : (k : call.Call) → AreTries k (λ x. Unit {0}) (FileTried called seen k)
   file_tries k = record {
     empty = λ x none. tt;
-    tried = λ rs d d' x x' end told is any t h. tried_told _ _ rs d d' x x' end told is (λ y l. left_by_file k t.0 y end x' l) t.1 h;
+    tried = λ rs d d' x x' end told is any t h. tried_told k _ _ rs d d' x x' end told is (λ y l. left_by_file k t.0 y end x' l) t.1 h;
   }
 
-  dir_tries : (k : call.Call) → AreTries (λ x. Unit {0}) (DirTried called seen k)
+  dir_tries : (k : call.Call) → AreTries k (λ x. Unit {0}) (DirTried called seen k)
   dir_tries k = record {
     empty = λ x none. tt;
-    tried = λ rs d d' x x' end told is any t h. tried_told _ _ rs d d' x x' end told is (λ y l. left_by_dir x.creds k t.0 y end x' l) t.1 h;
+    tried = λ rs d d' x x' end told is any t h. tried_told k _ _ rs d d' x x' end told is (λ y l. left_by_dir x.creds k t.0 y end x' l) t.1 h;
   }
 
-  chmod_tries : (path : Path) (mode : Mode) → AreTries (λ x. x.calls ≡ []) (ChmodTried called seen path mode)
+  chmod_tries : (path : Path) (mode : Mode) → AreTries (Chmod path mode) (λ x. x.calls ≡ []) (ChmodTried called seen path mode)
   chmod_tries path mode = record {
     empty = λ x none. none;
     tried = λ rs d d' x x' end told is none t h.
@@ -285,30 +296,30 @@ module _ {D : Type 0} (lib : LibNo) (called : D → Ask → Told → D → Type 
         let given = calls_since h.told (t.given ++ t.ungiven) d parts.0
         (λ c i. elim (In-cases c t.given t.ungiven i) [ inl j ↦ given_got c (t.each c j) | inr j ↦ ungiven_got all path mode t.comes t.ungiven t.last end told is t.ends c j ]) parts.1 h.since in
         let left : x'.calls ≡ [] = left_by_chmod all end x' (took_calls x (map (λ (c : Call). c.told) t.given) ∙ none) t.leaves in
-        let before : h.told ≡ rs = sym (append-nil h.told) ∙ ap (λ (c : List Done). h.told ++ replies c) (sym none) ∙ h.all in
+        let before : h.told ≡ rs = sym (append-nil h.told) ∙ ap (λ (c : List Done). h.told ++ with_replies c) (sym none) ∙ h.all in
         record {
-          told = h.told ++ replied end;
+          told = h.told ++ replied (Chmod path mode) end;
           since = last_since h.told all path mode t.comes t.ungiven t.last end told parts.0 d' is t.ends parts.2 given;
-          all = ap (λ (c : List Done). (h.told ++ replied end) ++ replies c) left ∙ append-nil (h.told ++ replied end) ∙ ap (λ l. l ++ replied end) before;
+          all = ap (λ (c : List Done). (h.told ++ replied (Chmod path mode) end) ++ with_replies c) left ∙ append-nil (h.told ++ replied (Chmod path mode) end) ∙ ap (λ l. l ++ replied (Chmod path mode) end) before;
         };
   }
 
-  called_told : (Begins : SessionSeen → Type 0) (Try : D → SessionSeen → Outcome → D → SessionSeen → Type 0) → AreTries Begins Try
-      → (rs : List Reply) (d d' : D) (x x' : SessionSeen) (end : Outcome) (told : LineAnswer) → told_outcome end ≡ Some told → Begins x → Called called Try d x end d' x' → AllTold d x rs → AllTold d' x' (rs ++ replied end)
-  called_told Begins Try are rs d d' x x' end told is begins (Once real t) h = are.tried rs d d' x x' end told is begins t h
-  called_told Begins Try are rs d d' x x' end told is begins (Unsettled holder d1 x1 none t u) h = (let wrong : None ≡ Some told = ap told_outcome (sym none) ∙ is in absurd (cc wrong))
-  called_told Begins Try are rs d d' x x' end told is begins (LeftOut first last d1 d2 d3 x1 x2 x3 none t u v w) h = (let wrong : None ≡ Some told = ap told_outcome (sym none) ∙ is in absurd (cc wrong))
-  called_told Begins Try are rs d d' x x' end told is begins (Again holder d1 d2 x1 x2 real t u v) h =
+  called_told : (k : call.Call) (Begins : SessionSeen → Type 0) (Try : D → SessionSeen → Outcome → D → SessionSeen → Type 0) → AreTries k Begins Try
+      → (rs : Replies) (d d' : D) (x x' : SessionSeen) (end : Outcome) (told : LineAnswer) → told_outcome end ≡ Some told → Begins x → Called called Try d x end d' x' → AllTold d x rs → AllTold d' x' (rs ++ replied k end)
+  called_told k Begins Try are rs d d' x x' end told is begins (Once real t) h = are.tried rs d d' x x' end told is begins t h
+  called_told k Begins Try are rs d d' x x' end told is begins (Unsettled holder d1 x1 none t u) h = (let wrong : None ≡ Some told = ap told_outcome (sym none) ∙ is in absurd (cc wrong))
+  called_told k Begins Try are rs d d' x x' end told is begins (LeftOut first last d1 d2 d3 x1 x2 x3 none t u v w) h = (let wrong : None ≡ Some told = ap told_outcome (sym none) ∙ is in absurd (cc wrong))
+  called_told k Begins Try are rs d d' x x' end told is begins (Again holder d1 d2 x1 x2 real t u v) h =
       let h1 = are.tried rs d d1 x x1 (Busy holder) answered.Busy refl begins t h in
       let h2 = settle_told d1 d2 x1 x2 (rs ++ []) u h1 in
       let h3 = are.tried (rs ++ []) d2 d' x2 x' end told is (are.empty x2 (settle_calls d1 d2 x1 x2 u)) v h2 in
-      subst (λ l. AllTold d' x' (l ++ replied end)) (append-nil rs) h3
-  called_told Begins Try are rs d d' x x' end told is begins (GivesUp first last d1 d2 d3 x1 x2 x3 busy other t u v w) h =
+      subst (λ l. AllTold d' x' (l ++ replied k end)) (append-nil rs) h3
+  called_told k Begins Try are rs d d' x x' end told is begins (GivesUp first last d1 d2 d3 x1 x2 x3 busy other t u v w) h =
       let h1 = are.tried rs d d1 x x1 (Busy first) answered.Busy refl begins t h in
       let h2 = settle_told d1 d2 x1 x2 (rs ++ []) u h1 in
       let h3 = are.tried (rs ++ []) d2 d3 x2 x3 (Busy last) answered.Busy refl (are.empty x2 (settle_calls d1 d2 x1 x2 u)) v h2 in
       let h4 = settle_told d3 d' x3 x' ((rs ++ []) ++ []) w h3 in
-      subst (λ o. AllTold d' x' (rs ++ replied o)) (sym busy) (subst (λ l. AllTold d' x' (l ++ [])) (append-nil rs) h4)
+      subst (λ o. AllTold d' x' (rs ++ replied k o)) (sym busy) (subst (λ l. AllTold d' x' (l ++ [])) (append-nil rs) h4)
 
   -- ---- a line
 
@@ -317,19 +328,19 @@ module _ {D : Type 0} (lib : LibNo) (called : D → Ask → Told → D → Type 
   MadeSo d P = (es : List Entry) × Made d es × P es
 
   module _ (d d' : D) (x x' : SessionSeen) (none : Made d []) where
-    begins : AllTold d x (replies x.calls)
+    begins : AllTold d x (with_replies x.calls)
     begins = record { told = []; since = record { entries = []; made = none; tells = refl }; all = refl }
 
-    chmod_told : (path : Path) (mode : Mode) (end : Outcome) (told : LineAnswer) → told_outcome end ≡ Some told → ChmodCalled called seen d x path mode end d' x' → AllTold d' x' (replies x.calls ++ replied end)
+    chmod_told : (path : Path) (mode : Mode) (end : Outcome) (told : LineAnswer) → told_outcome end ≡ Some told → ChmodCalled called seen d x path mode end d' x' → AllTold d' x' (with_replies x.calls ++ replied (Chmod path mode) end)
     chmod_told path mode end told is (Unbegun no_memory u) = (let wrong : None ≡ Some told = ap told_outcome (sym no_memory) ∙ is in absurd (cc wrong))
     chmod_told path mode end told is (Begun d1 x1 t c) =
-        called_told _ _ (chmod_tries path mode) (replies x.calls) d1 d' x1 x' end told is (settle_calls d d1 x x1 t) c (settle_told d d1 x x1 (replies x.calls) t begins)
+        called_told (Chmod path mode) _ _ (chmod_tries path mode) (with_replies x.calls) d1 d' x1 x' end told is (settle_calls d d1 x x1 t) c (settle_told d d1 x x1 (with_replies x.calls) t begins)
 
-    leased_told : (k : call.Call) (end : Outcome) (told : LineAnswer) → told_outcome end ≡ Some told → (b : Bool) → MatchBool b (DirCalled called seen d x k end d' x') (FileCalled called seen d x k end d' x') → AllTold d' x' (replies x.calls ++ replied end)
-    leased_told k end told is true made = called_told _ _ (dir_tries k) (replies x.calls) d d' x x' end told is tt made begins
-    leased_told k end told is false made = called_told _ _ (file_tries k) (replies x.calls) d d' x x' end told is tt made begins
+    leased_told : (k : call.Call) (end : Outcome) (told : LineAnswer) → told_outcome end ≡ Some told → (b : Bool) → MatchBool b (DirCalled called seen d x k end d' x') (FileCalled called seen d x k end d' x') → AllTold d' x' (with_replies x.calls ++ replied k end)
+    leased_told k end told is true made = called_told k _ _ (dir_tries k) (with_replies x.calls) d d' x x' end told is tt made begins
+    leased_told k end told is false made = called_told k _ _ (file_tries k) (with_replies x.calls) d d' x x' end told is tt made begins
 
-    session_told : (k : call.Call) (end : Outcome) (told : LineAnswer) → told_outcome end ≡ Some told → SessionCalled called seen d x k end d' x' → AllTold d' x' (replies x.calls ++ replied end)
+    session_told : (k : call.Call) (end : Outcome) (told : LineAnswer) → told_outcome end ≡ Some told → SessionCalled called seen d x k end d' x' → AllTold d' x' (with_replies x.calls ++ replied k end)
     session_told (Chmod path mode) end told is made = chmod_told path mode end told is made
     session_told k end told is made = leased_told k end told is (is_dir_call k) made
 
@@ -339,8 +350,8 @@ module _ {D : Type 0} (lib : LibNo) (called : D → Ask → Told → D → Type 
           h.since.entries,
           h.since.made,
           record {
-            tells = ap (λ l. l ++ replies x'.calls) h.since.tells ∙ h.all ∙ ap (λ l. replies x.calls ++ l) (replied_told c.end told c.told_is);
-            makes = tt;
+            tells = ap (λ l. l ++ with_replies x'.calls) h.since.tells ∙ h.all ∙ ap (λ l. with_replies x.calls ++ l) (replied_told k c.end told c.told_is);
+            makes = call_line k c.end told h.since.entries c.told_is;
           },
         )
 
@@ -355,7 +366,7 @@ module _ {D : Type 0} (lib : LibNo) (called : D → Ask → Told → D → Type 
         let m = settle_makes c.0 in
         let es : List Entry = m.0 in
         let made : HonestMade x x' SettleLine (answered.Settled (length x.calls)) es = record {
-          tells = ap (λ l. l ++ replies x'.calls) m.2.tells ∙ ap (λ l. replies x.calls ++ replies l) (settle_calls d d' x x' c.0);
+          tells = ap (λ l. l ++ with_replies x'.calls) m.2.tells ∙ ap (λ l. with_replies x.calls ++ with_replies l) (settle_calls d d' x x' c.0);
           makes = m.2.settles;
         } in
         (es, m.1, subst (λ a. HonestMade x x' SettleLine a es) (sym c.1) made)

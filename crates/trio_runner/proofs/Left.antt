@@ -1,4 +1,4 @@
--- What a try leaves of the calls that a session has done: its reply stands behind theirs.
+-- What a try leaves of the calls that a session has done: its call stands behind them, with its reply.
 use Rattle.std.proofs.Common.{◌≡◌, ℕ, ◌+◌, Bool, true, false, cond, eqb, ltb, List, [], ◌∷◌, ◌++◌, length, map, Option, Some, None, sym, refl, ap, ◌∙◌}
 use Rattle.std.specs.Prelude.{is_some}
 use Rattle.std.specs.Option.{option_map_or}
@@ -28,14 +28,16 @@ use Rattle.trio_calls_file.proofs.Writes.{calls-cut, calls-grown, calls-put}
 use Rattle.trio_calls_dir.specs.Asks.{Target, filled_new, moved, moved_shown, new_body, new_number, with_slot}
 use Rattle.trio_calls_dir.specs.Asks as on_dir
 use Rattle.trio_calls_dir.specs.Chmods.{LeavesBy}
+use Rattle.trio_runner.specs.Logged.{call_and_reply}
 
-abbrev pub replies : List Done → List Reply
-replies done = map (λ (d : Done). d.reply) done
+-- calls that were done, each with its reply
+abbrev pub with_replies : List Done → List (call.Call × Reply)
+with_replies done = map call_and_reply done
 
--- one reply more, where a try is replied
-abbrev pub replied : Outcome → List Reply
-replied (Replied reply) = reply ∷ []
-replied end = []
+-- one call more, where a try of it is replied
+abbrev pub replied : call.Call → Outcome → List (call.Call × Reply)
+replied k (Replied reply) = (k, reply) ∷ []
+replied k end = []
 
 -- ---- what is taken
 
@@ -109,20 +111,20 @@ dir_edited creds k t x = refl
 -- ---- the note
 
 -- the session is one whose calls are these and one more
-with_note : (k : call.Call) (r : Reply) (made : ℕ) (x y x' : SessionSeen) → y.calls ≡ x.calls → IsAlike (noted k r made y) x' → replies x'.calls ≡ replies x.calls ++ r ∷ []
+with_note : (k : call.Call) (r : Reply) (made : ℕ) (x y x' : SessionSeen) → y.calls ≡ x.calls → IsAlike (noted k r made y) x' → with_replies x'.calls ≡ with_replies x.calls ++ (k, r) ∷ []
 with_note k r made x y x' same l =
-    ap (λ (z : SessionSeen). replies z.calls) l ∙ map-append (λ (d : Done). d.reply) y.calls _ ∙ ap (λ (c : List Done). replies c ++ r ∷ []) same
+    ap (λ (z : SessionSeen). with_replies z.calls) l ∙ map-append call_and_reply y.calls _ ∙ ap (λ (c : List Done). with_replies c ++ (k, r) ∷ []) same
 
-without_note : (x x' : SessionSeen) → IsAlike x x' → replies x'.calls ≡ replies x.calls ++ []
-without_note x x' l = ap (λ (z : SessionSeen). replies z.calls) l ∙ sym (append-nil (replies x.calls))
+without_note : (x x' : SessionSeen) → IsAlike x x' → with_replies x'.calls ≡ with_replies x.calls ++ []
+without_note x x' l = ap (λ (z : SessionSeen). with_replies z.calls) l ∙ sym (append-nil (with_replies x.calls))
 
-pub left_by_file : (k : call.Call) (ino : ℕ) (x : SessionSeen) (end : Outcome) (x' : SessionSeen) → on_file.Leaves k ino end x x' → replies x'.calls ≡ replies x.calls ++ replied end
+pub left_by_file : (k : call.Call) (ino : ℕ) (x : SessionSeen) (end : Outcome) (x' : SessionSeen) → on_file.Leaves k ino end x x' → with_replies x'.calls ≡ with_replies x.calls ++ replied k end
 left_by_file k ino x (Replied (reply.Ok answer)) x' l = with_note k (reply.Ok answer) 0 x (on_file.edited k ino x) x' (file_edited k ino x) l
 left_by_file k ino x (Replied answer) x' l = with_note k answer 0 x x x' refl l
 left_by_file k ino x (Busy holder) x' l = without_note x x' l
 left_by_file k ino x NoMemory x' l = without_note x x' l
 
-pub left_by_dir : (creds : Creds) (k : call.Call) (t : Target) (x : SessionSeen) (end : Outcome) (x' : SessionSeen) → on_dir.Leaves creds k t end x x' → replies x'.calls ≡ replies x.calls ++ replied end
+pub left_by_dir : (creds : Creds) (k : call.Call) (t : Target) (x : SessionSeen) (end : Outcome) (x' : SessionSeen) → on_dir.Leaves creds k t end x x' → with_replies x'.calls ≡ with_replies x.calls ++ replied k end
 left_by_dir creds k t x (Replied (reply.Ok answer)) x' l = with_note k (reply.Ok answer) (on_dir.made_by k x) x (on_dir.edited creds k t x) x' (dir_edited creds k t x) l
 left_by_dir creds k t x (Replied answer) x' l = with_note k answer 0 x x x' refl l
 left_by_dir creds k t x (Busy holder) x' l = without_note x x' l

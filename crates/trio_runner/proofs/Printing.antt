@@ -1,10 +1,10 @@
 -- What a library was told prints the entries that it made, turn after turn.
-use Rattle.std.proofs.Common.{◌≡◌, ℕ, suc, ◌+◌, ◌-◌, Bool, true, false, cond, List, [], ◌∷◌, ◌++◌, length, map, Option, Some, None, sym, refl, ap, ◌∙◌, subst, inl, inr, arith}
+use Rattle.std.proofs.Common.{◌≡◌, ℕ, suc, ◌+◌, Bool, true, false, cond, List, [], ◌∷◌, ◌++◌, length, map, Option, Some, None, sym, refl, ap, ◌∙◌, subst, inl, inr, arith}
 use Rattle.std.specs.Prelude.{MatchBool, MatchOption}
-use Rattle.std.specs.List.{filter, filter_map, flat_map, AllByRecursion}
+use Rattle.std.specs.List.{filter, flat_map, AllByRecursion}
 use Rattle.std.specs.Option.{is_some, option_map}
 use Rattle.std.proofs.lemmas.List.{append-nil, append_assoc, length-append, map-append}
-use Rattle.std.proofs.lemmas.List.Elements.{filter-append, filter_map-append}
+use Rattle.std.proofs.lemmas.List.Elements.{filter-append}
 use Rattle.std.proofs.lemmas.Grind.{flat_map-append}
 use Rattle.trio_rights.specs.declared.rights.LibNo.{LibNo}
 use Rattle.trio_lists.specs.Lists.{In}
@@ -19,7 +19,6 @@ use Rattle.trio_nodes.specs.declared.answers.ReleaseFault.TheVariants.{NotClosed
 use Rattle.trio_nodes.specs.declared.answers.ModeFault.TheVariants as unmoded
 use Rattle.trio_nodes.specs.declared.entry.Entry.{Entry}
 use Rattle.trio_lease.specs.Shown.{Shown}
-use Rattle.trio_nodes.specs.declared.call.Reply.{Reply}
 use Rattle.trio_lease.specs.declared.lease.Lease.{Lease}
 use Rattle.trio_lease.specs.declared.lease.Lease.TheVariants.{Read as ReadLent, Write as WriteLent, Hold as HoldLent}
 use Rattle.trio_desk.specs.Out.{Parcel}
@@ -35,7 +34,6 @@ use Rattle.trio_script.specs.declared.Lines.{Lines}
 use Rattle.trio_script.specs.declared.ScriptLine.{ScriptLine}
 use Rattle.trio_script.specs.declared.honest.HonestLine.{HonestLine}
 use Rattle.trio_session.specs.Seen.{SessionSeen}
-use Rattle.trio_nodes.specs.declared.call.Done as done
 use Rattle.trio_rights.specs.declared.rights.Creds.{Creds}
 use Rattle.trio_script.specs.declared.line.RawLine.{RawLine}
 use Rattle.trio_script.specs.declared.line.RawLine.TheVariants.{Grant as GrantLine, Allot as AllotLine, Back as BackLine, Poke, Peek, Release as ReleaseLine, Mode as ModeLine}
@@ -46,9 +44,10 @@ use Rattle.trio_report.specs.declared.report.EndAnswer.TheVariants.{Settled as E
 use Rattle.trio_runner.specs.Line.{Alone, Asks, LineComes, EndsAlone, EndsAll, EndComes, ask_of, end_of, told_alone, told_grant, told_of, told_seen}
 use Rattle.trio_runner.specs.Rounds.{Turn, Says, SaysHonest, Ends, line_turns}
 use Rattle.trio_runner.specs.Play.{BeginsWith, Heard, Share, Things, InSession, untold, with_answer, with_end}
-use Rattle.trio_runner.specs.Logged.{HonestPrints, IsBack, LineMakes, LinesMake, Prints, RawPrints, end_printed, end_with_entry, has_entry, printed, replies_in, reply_told}
-use Rattle.trio_runner.proofs.Batches.{HonestMade, SettleMade}
+use Rattle.trio_runner.specs.Logged.{HonestPrints, IsBack, LineMakes, LinesMake, Prints, RawPrints, call_told, calls_in, calls_told, end_printed, end_with_entry, has_entry, printed}
+use Rattle.trio_runner.proofs.Batches.{HonestMade, Replies, SettleMade}
 use Rattle.trio_runner.proofs.Entries.{Make, make_parted, one_make}
+use Rattle.trio_runner.proofs.Left.{with_replies}
 
 -- ---- a line
 
@@ -353,8 +352,16 @@ lines_more (k ∷ lines) [] es own line told l m = absurd l
 lines_more (k ∷ lines) (a ∷ answers) es own line told l m =
     (l.0, l.1 ++ own, l.2, lines_more lines answers l.1 own line told l.3 m, ap (λ x. x ++ own) l.4 ∙ append_assoc l.0 l.1 own)
 
+-- their calls, and that of one more
+told_more : (lines : List (ScriptLine HonestLine)) (answers : List LineAnswer) (es : List Entry) (line : ScriptLine HonestLine) (told : LineAnswer) → LinesMake lines answers es → calls_told (lines ++ line ∷ []) (answers ++ told ∷ []) ≡ calls_told lines answers ++ call_told line.line told
+told_more [] [] es line told l = append-nil (call_told line.line told)
+told_more [] (a ∷ answers) es line told l = absurd l
+told_more (k ∷ lines) [] es line told l = absurd l
+told_more (k ∷ lines) (a ∷ answers) es line told l =
+    ap (λ x. call_told k.line a ++ x) (told_more lines answers l.1 line told l.3) ∙ sym (append_assoc (call_told k.line a) (calls_told lines answers) (call_told line.line told))
+
 module _ (all : List (ScriptLine HonestLine)) where
-  -- Before its end a library's answers are the replies that its entries tell, and those of the calls that its session still has.
+  -- Before its end the calls that a library's entries tell, and those that its session still has, are those of its lines so far.
   pub record HonestBefore (left : List Turn) (share : Share) (heard : Heard) (es : List Entry) : Type 0 where
     pub session : SessionSeen
     pub share_is : share ≡ InSession session
@@ -362,30 +369,30 @@ module _ (all : List (ScriptLine HonestLine)) where
     pub lines_left : List (ScriptLine HonestLine)
     pub all_are : all ≡ lines_done ++ lines_left
     pub left_are : left ≡ map SaysHonest lines_left
-    pub replies : flat_map replies_in es ++ map (λ (d : done.Done). d.reply) session.calls ≡ filter_map reply_told heard.answers
+    pub calls : flat_map calls_in es ++ with_replies session.calls ≡ calls_told lines_done heard.answers
     pub made : LinesMake lines_done heard.answers es
 
-  honest_said : (line : ScriptLine HonestLine) (done' ls : List (ScriptLine HonestLine)) (left : List Turn) (share : Share) (told : Heard) (es more : List Entry) (share' : Share) (told' : Heard) → HonestBefore (SaysHonest line ∷ left) share told es → left ≡ map SaysHonest ls → all ≡ done' ++ line ∷ ls → LinesMake done' told.answers es
-      → TurnMakes (SaysHonest line) share told more share' told' → HonestBefore left share' told' (es ++ more)
-  honest_said line done' ls left (InSession x) told es more (InSession x') told' b e whole made c =
+  honest_said : (line : ScriptLine HonestLine) (done ls : List (ScriptLine HonestLine)) (left : List Turn) (session : SessionSeen) (share : Share) (told : Heard) (es more : List Entry) (share' : Share) (told' : Heard) → share ≡ InSession session → left ≡ map SaysHonest ls → all ≡ done ++ line ∷ ls
+      → LinesMake done told.answers es → flat_map calls_in es ++ with_replies session.calls ≡ calls_told done told.answers → TurnMakes (SaysHonest line) share told more share' told' → HonestBefore left share' told' (es ++ more)
+  honest_said line done ls left session (InSession x) told es more (InSession x') told' same e whole made calls c =
       let h : HonestMade x x' line.line c.0 more = c.1 in
-      let is : b.session ≡ x = (let q : InSession x ≡ InSession b.session = b.share_is in cc q) in
-      let old : List Reply = flat_map replies_in es in
-      let of : SessionSeen → List Reply = λ (y : SessionSeen). map (λ (d : done.Done). d.reply) y.calls in
+      let is : session ≡ x = (let q : InSession x ≡ InSession session = same in cc q) in
+      let old : Replies = flat_map calls_in es in
+      let own : Replies = call_told line.line c.0 in
       subst (λ (y : Heard). HonestBefore left (InSession x') y (es ++ more)) (sym c.2)
       (record {
         session = x';
         share_is = refl;
-        lines_done = done' ++ line ∷ [];
+        lines_done = done ++ line ∷ [];
         lines_left = ls;
-        all_are = whole ∙ sym (append_assoc done' (line ∷ []) ls);
+        all_are = whole ∙ sym (append_assoc done (line ∷ []) ls);
         left_are = e;
-        replies = ap (λ l. l ++ of x') (flat_map-append replies_in es more) ∙ append_assoc old (flat_map replies_in more) (of x') ∙ ap (λ l. old ++ l) h.tells
-            ∙ sym (append_assoc old (of x) (filter_map reply_told (c.0 ∷ []))) ∙ ap (λ (y : SessionSeen). (old ++ of y) ++ filter_map reply_told (c.0 ∷ [])) (sym is)
-            ∙ ap (λ l. l ++ filter_map reply_told (c.0 ∷ [])) b.replies ∙ sym (filter_map-append reply_told told.answers (c.0 ∷ []));
-        made = lines_more done' told.answers es more line c.0 made h.makes;
+        calls = ap (λ l. l ++ with_replies x'.calls) (flat_map-append calls_in es more) ∙ append_assoc old (flat_map calls_in more) (with_replies x'.calls) ∙ ap (λ l. old ++ l) h.tells
+            ∙ sym (append_assoc old (with_replies x.calls) own) ∙ ap (λ (y : SessionSeen). (old ++ with_replies y.calls) ++ own) (sym is)
+            ∙ ap (λ l. l ++ own) calls ∙ sym (told_more done told.answers es line c.0 made);
+        made = lines_more done told.answers es more line c.0 made h.makes;
       })
-  honest_said line done' ls left share told es more share' told' b e whole made c = absurd c
+  honest_said line done ls left session share told es more share' told' same e whole made calls c = absurd c
 
   honest_line : (turn : Turn) (left : List Turn) (share : Share) (told : Heard) (es more : List Entry) (share' : Share) (told' : Heard) → HonestBefore (turn ∷ left) share told es → TurnMakes turn share told more share' told' → HonestBefore left share' told' (es ++ more)
   honest_line turn left share told es more share' told' b c = by b.lines_left b.left_are b.all_are
@@ -395,7 +402,7 @@ module _ (all : List (ScriptLine HonestLine)) where
       by (line ∷ ls) e whole =
           let is : turn ≡ SaysHonest line = cc e in
           let rest : left ≡ map SaysHonest ls = cc e in
-          honest_said line b.lines_done ls left share told es more share' told' (subst (λ u. HonestBefore (u ∷ left) share told es) is b) rest whole b.made
+          honest_said line b.lines_done ls left b.session share told es more share' told' b.share_is rest whole b.made b.calls
           (subst (λ u. TurnMakes u share told more share' told') is c)
 
   no_calls : (ls : List (ScriptLine HonestLine)) → [] ≡ map SaysHonest ls → ls ≡ []
@@ -406,7 +413,6 @@ module _ (all : List (ScriptLine HonestLine)) where
   honest_end (InSession x) told es more (InSession x') told' b c =
       let m : SettleMade x.calls more = c.0 in
       let is : b.session ≡ x = (let q : InSession x ≡ InSession b.session = b.share_is in cc q) in
-      let of : SessionSeen → List Reply = λ (y : SessionSeen). map (λ (d : done.Done). d.reply) y.calls in
       let whole : all ≡ b.lines_done = b.all_are ∙ ap (λ l. b.lines_done ++ l) (no_calls b.lines_left b.left_are) ∙ append-nil b.lines_done in
       subst (λ (y : Heard). HonestPrints all y (es ++ more)) (sym c.1)
       (record {
@@ -415,7 +421,8 @@ module _ (all : List (ScriptLine HonestLine)) where
         of_lines = es;
         of_end = more;
         entries_are = refl;
-        replies = flat_map-append replies_in es more ∙ ap (λ l. flat_map replies_in es ++ l) m.tells ∙ ap (λ (y : SessionSeen). flat_map replies_in es ++ of y) (sym is) ∙ b.replies;
+        calls = flat_map-append calls_in es more ∙ ap (λ l. flat_map calls_in es ++ l) m.tells ∙ ap (λ (y : SessionSeen). flat_map calls_in es ++ with_replies y.calls) (sym is)
+            ∙ b.calls ∙ ap (λ ls. calls_told ls told.answers) (sym whole);
         lines_make = subst (λ ls. LinesMake ls told.answers es) (sym whole) b.made;
         end_makes = m.settles;
       })
@@ -444,4 +451,4 @@ pub begins_before : (lib : LibNo) (creds : Creds) (lines : Lines) (share : Share
 begins_before lib creds (RawLines lines) share begins =
     record { things = nothing; share_is = begins; lines_left = lines; left_are = refl; count = omega arith; lines = refl }
 begins_before lib creds (HonestLines lines) share begins =
-    record { session = _; share_is = begins.1; lines_done = []; lines_left = lines; all_are = refl; left_are = refl; replies = refl; made = refl }
+    record { session = _; share_is = begins.1; lines_done = []; lines_left = lines; all_are = refl; left_are = refl; calls = refl; made = refl }

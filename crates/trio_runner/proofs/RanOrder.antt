@@ -1,21 +1,29 @@
 -- The calls of libraries that ran with a thread each come from one order, whose moves make the log.
-use Rattle.std.proofs.Common.{◌≡◌, List, [], ◌∷◌, ◌++◌, sym, refl, ap, ◌∙◌, subst}
+use Rattle.std.proofs.Common.{◌≡◌, ◌⊎◌, Bool, List, [], ◌∷◌, ◌++◌, length, map, sym, refl, ap, ◌∙◌, subst, inl, inr, arith}
+use Rattle.std.proofs.lemmas.Bool.{cases_lt, eq-eqb}
 use Rattle.std.proofs.lemmas.List.{append-nil}
 use Rattle.std.proofs.lemmas.List.Elements.{filter-append}
+use Rattle.std.specs.List.{filter}
 use Rattle.std.specs.Prelude.{◌==◌}
+use Rattle.trio_lists.specs.Lists.{In}
+use Rattle.trio_lists.proofs.Filters.{In-filter}
+use Rattle.trio_lists.proofs.Members.{In-cases, In-map, flat_map-In, map-In}
 use Rattle.trio_rights.specs.declared.rights.Creds.{Creds}
 use Rattle.trio_rights.specs.declared.rights.LibNo.{LibNo}
+use Rattle.trio_lease.specs.Shown.{Shown}
 use Rattle.trio_nodes.specs.declared.entry.Entry.{Entry}
 use Rattle.trio_nodes.specs.declared.answers.ModeFault.TheVariants.{Busy}
-use Rattle.trio_desk.specs.Call.{Ask, Told, Settle, SetMode, NotSettled, NotModeSet}
+use Rattle.trio_desk.specs.Call.{Ask, Told, Settle, SetMode, Settled, NotSettled, ModeSet, NotModeSet}
 use Rattle.trio_desk.specs.Calls.{Call}
+use Rattle.trio_state.specs.Run.{start}
 use Rattle.trio_state.specs.State.{IsLibrary, State}
 use Rattle.trio_laws.specs.history.Replays.{Replays, ReplaysFrom}
 use Rattle.trio_turn.specs.Logs.{made_by, maker}
 use Rattle.trio_turn.specs.Origins.{Origin}
-use Rattle.trio_ctl.specs.Desk.{Happens, entries_told}
+use Rattle.trio_ctl.specs.Desk.{Happens, answer_of, backs_of, entries_told, event_of}
 use Rattle.trio_shared.specs.Left.{Leaves, started}
-use Rattle.trio_order.specs.Order.{Along, Happening, entries_in, moves_in, moves_of}
+use Rattle.trio_order.specs.Order.{Along, Happening, all_parts, back_call, calls_by, entries_in, moves_in, moves_of, parts_of}
+use Rattle.trio_order.specs.OrderLaws.{OneOrder}
 use Rattle.trio_order.proofs.Growing.{calls_end, calls_grow}
 use Rattle.trio_order.proofs.Orders.{threads_are_order}
 use Rattle.trio_script.specs.declared.ScriptLib.{ScriptLib}
@@ -27,7 +35,7 @@ use Rattle.trio_runner.specs.Runs.{IsSeenIn, origin_in}
 use Rattle.trio_runner.specs.RunLaws.{OrderIsLogged, RanIsOrder}
 use Rattle.trio_runner.proofs.EndFree.{script_library}
 use Rattle.trio_runner.proofs.Keeping.{course_keeps}
-use Rattle.trio_runner.proofs.Logs.{entries_append}
+use Rattle.trio_runner.proofs.Logs.{entries_append, move_entries}
 
 -- ---- a library's calls along what its seat has seen
 
@@ -105,25 +113,71 @@ ran_is_order image libs tolds s' log fit verifies whole ran =
 
 -- ---- the log of such an order
 
+-- one call that gives nothing back
+one_simple : (c : Call) → backs_of c.ask c.told ≡ [] → (d : Call) → In d (c ∷ []) → backs_of d.ask d.told ≡ []
+one_simple c none d i = elim i [ inl same ↦ ap (λ (x : Call). backs_of x.ask x.told) same ∙ none | inr nothing ↦ absurd nothing ]
+
+-- the same behind read leases that are given back as calls of their own
+behind_simple : (back : List Shown) (c : Call) → backs_of c.ask c.told ≡ [] → (d : Call) → In d (map back_call back ++ c ∷ []) → backs_of d.ask d.told ≡ []
+behind_simple back c none d i =
+    elim (In-cases d (map back_call back) (c ∷ []) i) [
+      | inl j ↦ (let lease = map-In back_call d back j in ap (λ (x : Call). backs_of x.ask x.told) lease.2)
+      | inr j ↦ one_simple c none d j
+    ]
+
+-- a call in its parts: none of them gives anything back
+parts_simple : (ask : Ask) (told : Told) (d : Call) → In d (parts_of ask told) → backs_of d.ask d.told ≡ []
+parts_simple (Settle parcel back calls) Settled d i = behind_simple back (record { ask = Settle parcel [] calls; told = Settled }) refl d i
+parts_simple (SetMode ino mode back call) ModeSet d i = behind_simple back (record { ask = SetMode ino mode [] call; told = ModeSet }) refl d i
+parts_simple ask told d i = one_simple (record { ask = ask; told = told }) refl d i
+
+calls_simple : (calls : List Call) (d : Call) → In d (all_parts calls) → backs_of d.ask d.told ≡ []
+calls_simple calls d i =
+    let part = flat_map-In (λ (c : Call). parts_of c.ask c.told) d calls i in
+    parts_simple part.0.ask part.0.told d part.2
+
+-- so no call of such an order does
+order_simple : (first : State) (courses : LibNo → List Call) (log : List Entry) (last : State) (one : OneOrder first courses log last) (h : Happening) → In h one.order → backs_of h.call.ask h.call.told ≡ []
+order_simple first courses log last one h i = elim (library first.creds h.lib) [
+  | inl is ↦ calls_simple (courses h.lib) h.call (subst (In h.call) (one.own h.lib is) among)
+  | inr out ↦ absurd (subst (In h.call) (one.no_other h.lib out) among)
+]
+  where
+    among : In h.call (calls_by h.lib one.order)
+    among =
+        let mine : Happening → Bool = λ (g : Happening). g.lib.0 == h.lib.0 in
+        In-map (λ (g : Happening). g.call) h (filter mine one.order) (In-filter mine h one.order i (eq-eqb h.lib.0 h.lib.0 refl))
+
+    library : (creds : List Creds) (lib : LibNo) → IsLibrary creds lib.0 ⊎ (IsLibrary creds lib.0 → ⊥)
+    library creds lib =
+        elim (cases_lt lib.0 1) [
+          | inl low ↦ inr (λ is. (let one = is.0 in omega (arith, low, one)))
+          | inr up ↦ elim (cases_lt (length creds) lib.0) [
+            | inl high ↦ inr (λ is. (let most = is.1 in omega (arith, high, most)))
+            | inr small ↦ inl (up, small)
+          ]
+        ]
+
 -- The entries of a call are those of its move. One that is no move makes none.
-call_entries : (lib : LibNo) (s : State) (ask : Ask) (told : Told) (s' : State)
-    → AreEntries (moves_of lib s ask told s') (entries_told s lib ask told)
-call_entries lib s (Settle parcel back calls) NotSettled s' = refl
-call_entries lib s (SetMode ino mode back call) (NotModeSet (Busy holder)) s' = refl
-call_entries lib s ask told s' = (
+call_entries : (lib : LibNo) (s : State) (ask : Ask) (told : Told) (s' : State) → backs_of ask told ≡ [] → AreEntries (moves_of lib s ask told s') (entries_told s lib ask told)
+call_entries lib s (Settle parcel back calls) NotSettled s' none = refl
+call_entries lib s (SetMode ino mode back call) (NotModeSet (Busy holder)) s' none = refl
+call_entries lib s ask told s' none = (
   entries_told s lib ask told,
   [],
-  record { lib = lib; ask = ask; told = told; event_is = refl; answer_is = refl; entries_are = refl },
+  move_entries (record { before = s; event = event_of lib ask; answer = answer_of told; after = s' }) lib ask told none refl refl,
   refl,
   sym (append-nil (entries_told s lib ask told)),
 )
 
-order_entries : (order : List Happening) → AreEntries (moves_in order) (entries_in order)
-order_entries [] = refl
-order_entries (h ∷ order) =
+order_entries : (order : List Happening) → ((h : Happening) → In h order → backs_of h.call.ask h.call.told ≡ []) → AreEntries (moves_in order) (entries_in order)
+order_entries [] simple = refl
+order_entries (h ∷ order) simple =
     entries_append (moves_of h.lib h.before h.call.ask h.call.told h.after) (moves_in order)
     (entries_told h.before h.lib h.call.ask h.call.told) (entries_in order)
-    (call_entries h.lib h.before h.call.ask h.call.told h.after) (order_entries order)
+    (call_entries h.lib h.before h.call.ask h.call.told h.after (simple h (inl refl))) (order_entries order (λ g i. simple g (inr i)))
 
 pub order_is_logged : OrderIsLogged
-order_is_logged image libs tolds s' log ran one = subst (AreEntries (moves_in one.order)) one.entries (order_entries one.order)
+order_is_logged image libs tolds s' log ran one =
+    subst (AreEntries (moves_in one.order)) one.entries
+    (order_entries one.order (order_simple (start image (creds_in libs)) (λ lib. (ran.last lib).going.calls) log s' one))

@@ -1,12 +1,13 @@
 -- The log of a script: which entries its moves make, and which of a library's entries its answers print.
 use Rattle.std.specs.Prelude.{◌≡◌, ◌==◌, ⊤, ℕ, Bool, true, false, List, [], ◌∷◌, ◌++◌, length, map, Option, Some, None, Result, Ok, Err}
-use Rattle.std.specs.List.{filter, filter_map, flat_map, AllByRecursion}
+use Rattle.std.specs.List.{filter, flat_map, AllByRecursion}
 use Rattle.trio_rights.specs.declared.rights.LibNo.{LibNo}
 use Rattle.trio_nodes.specs.declared.entry.GrantAnswer.TheVariants.{Granted, Refused as NotGranted}
 use Rattle.trio_nodes.specs.declared.entry.AllotAnswer.TheVariants.{Given, Refused as NotGiven}
 use Rattle.trio_nodes.specs.declared.answers.ModeFault.{ModeFault}
 use Rattle.trio_nodes.specs.declared.answers.ModeFault.TheVariants.{NotOwner}
 use Rattle.trio_nodes.specs.declared.call.Answer.TheVariants.{Done as IsDone}
+use Rattle.trio_nodes.specs.declared.call.Call.{Call}
 use Rattle.trio_nodes.specs.declared.call.Done.{Done}
 use Rattle.trio_nodes.specs.declared.call.Reply.{Reply}
 use Rattle.trio_nodes.specs.declared.call.Reply.TheVariants.{Ok as IsReplied, Denied as IsDenied}
@@ -17,7 +18,8 @@ use Rattle.trio_desk.specs.Call.{Ask, Told}
 use Rattle.trio_state.specs.Run.{Move}
 use Rattle.trio_laws.specs.Laws.{library_of}
 use Rattle.trio_laws.specs.history.Entries.{event_of as event_told}
-use Rattle.trio_ctl.specs.Desk.{event_of, answer_of, entries_told}
+use Rattle.trio_ctl.specs.Desk.{event_of, answer_of, beside_of}
+use Rattle.trio_ctl.specs.Logged.{entries_made}
 use Rattle.trio_script.specs.declared.Lines.{Lines}
 use Rattle.trio_script.specs.declared.Lines.TheVariants.{Raw as RawLines, Honest as HonestLines}
 use Rattle.trio_script.specs.declared.line.RawLine.{RawLine}
@@ -33,14 +35,15 @@ use Rattle.trio_runner.specs.Play.{Heard}
 
 -- ---- the entries of moves
 
--- a move is a call of a library, and these are the entries of that call: one, or none for an answer that makes none
+-- A move is a call of a library. It makes the entry of its event and its answer, with what is told beside what was asked: one, or none
+-- for an answer that makes none. A read lease that is given back with a call is a move of its own before it.
 pub record MakesEntries (m : Move) (entries : List Entry) : Type 0 where
   pub lib : LibNo
   pub ask : Ask
   pub told : Told
   pub event_is : m.event ≡ event_of lib ask
   pub answer_is : m.answer ≡ answer_of told
-  pub entries_are : entries ≡ entries_told m.before lib ask told
+  pub entries_are : entries ≡ entries_made m.before (beside_of ask) m.event m.answer
 
 -- the log is the entries of the moves, in their order
 abbrev pub AreEntries : List Move → List Entry → Type 0
@@ -113,16 +116,25 @@ mode_replies (Ok done) = IsReplied IsDone ∷ []
 mode_replies (Err NotOwner) = IsDenied ∷ []
 mode_replies (Err fault) = []
 
--- the replies of the calls that an entry tells: those of a batch, and that of a change of mode by a call
-abbrev pub replies_in : Entry → List Reply
-replies_in (Batch lib calls handed) = map (λ d. d.reply) calls
-replies_in (Mode lib ino mode answer (Some call)) = mode_replies answer
-replies_in _ = []
+-- a call that was done, and its reply
+abbrev pub call_and_reply : Done → Call × Reply
+call_and_reply d = (d.call, d.reply)
 
--- the reply that an answer is: all are, but Busy and the count of a settle
-abbrev pub reply_told : LineAnswer → Option Reply
-reply_told (answered.Replied reply) = Some reply
-reply_told _ = None
+-- the calls that an entry tells, each with its reply: those of a batch, and that of a change of mode by a call
+abbrev pub calls_in : Entry → List (Call × Reply)
+calls_in (Batch lib calls handed) = map call_and_reply calls
+calls_in (Mode lib ino mode answer (Some call)) = map (λ (reply : Reply). (call, reply)) (mode_replies answer)
+calls_in _ = []
+
+-- the call of a line, with the reply that the line was told: none for Busy, and none of a settle
+abbrev pub call_told : HonestLine → LineAnswer → List (Call × Reply)
+call_told (CallLine call) (answered.Replied reply) = (call, reply) ∷ []
+call_told _ _ = []
+
+-- the calls of lines that were answered so, each with its reply
+abbrev pub calls_told : List (ScriptLine HonestLine) → List LineAnswer → List (Call × Reply)
+calls_told (line ∷ lines) (told ∷ answers) = call_told line.line told ++ calls_told lines answers
+calls_told _ _ = []
 
 -- the entries of a settle of so many calls: those of the read leases that are given back, and then its batch
 pub record IsSettle (count : ℕ) (entries : List Entry) : Type 0 where
@@ -134,11 +146,12 @@ pub record IsSettle (count : ℕ) (entries : List Entry) : Type 0 where
   pub entries_are : entries ≡ of_backs ++ Batch lib calls handed ∷ []
   pub counts : count ≡ length calls
 
--- the entries of a line: those of a settle are a settle of as many calls as it was told
+-- the entries of a line: those of a settle are a settle of as many calls as it was told; a call is told its reply, or Busy
 abbrev pub LineMakes : HonestLine → LineAnswer → List Entry → Type 0
-LineMakes (CallLine call) told entries = ⊤
+LineMakes (CallLine call) (answered.Replied reply) entries = ⊤
+LineMakes (CallLine call) answered.Busy entries = ⊤
 LineMakes SettleLine (answered.Settled count) entries = IsSettle count entries
-LineMakes SettleLine told entries = ⊥
+LineMakes line told entries = ⊥
 
 -- the entries of lines that were answered so, one after another
 abbrev pub LinesMake : List (ScriptLine HonestLine) → List LineAnswer → List Entry → Type 0
@@ -148,15 +161,16 @@ LinesMake (line ∷ lines) (told ∷ answers) entries =
 LinesMake [] (told ∷ answers) entries = ⊥
 LinesMake (line ∷ lines) [] entries = ⊥
 
--- Each line of an honest library was answered, and its end. The answers but Busy and the counts are the replies of the calls that
--- its entries tell, each once and in their order. And each count, that of the end too, is that of the calls of its settle.
+-- Each line of an honest library was answered, and its end. The calls that its entries tell, each with its reply, are those of its
+-- lines that weren't busy, each with the reply that the line was told: each once and in their order. And each count, that of the end
+-- too, is that of the calls of its settle.
 pub record HonestPrints (lines : List (ScriptLine HonestLine)) (heard : Heard) (entries : List Entry) : Type 0 where
   pub count : ℕ
   pub end_is : heard.end ≡ Some (EndSettled count)
   pub of_lines : List Entry
   pub of_end : List Entry
   pub entries_are : entries ≡ of_lines ++ of_end
-  pub replies : flat_map replies_in entries ≡ filter_map reply_told heard.answers
+  pub calls : flat_map calls_in entries ≡ calls_told lines heard.answers
   pub lines_make : LinesMake lines heard.answers of_lines
   pub end_makes : IsSettle count of_end
 

@@ -35,7 +35,9 @@ pub fn played_alone()
 
 /// The log at a script's end is the entries of all that the script asked, in its order; and what each
 /// library was told prints its entries, each once and in their order: the answers of its lines but for
-/// those that make no entry, and that of its end where it had more than read leases to give back.
+/// those that make no entry, and that of its end where it had more than read leases to give back. The
+/// entries of an honest library tell the calls of its lines that weren't busy, each with the reply that
+/// the line was told.
 pub fn played_is_logged()
     ensures entries { PlayedIsLogged }
     ensures printed { PlayedIsPrinted }
