@@ -1,6 +1,6 @@
 -- What is out to a library of a controller that was started, and to another one after a call.
 use Rattle.std.proofs.Common.{◌≡◌, ◌≤◌, List, [], length, Result, Ok, Err, sym, refl, ap, ◌∙◌, subst, arith}
-use Rattle.std.specs.Prelude.{IfOk, IfSome, None}
+use Rattle.std.specs.Prelude.{IfOk, IfSome}
 use Rattle.std.specs.Result.{result_ok}
 use Rattle.trio_rights.specs.declared.rights.Creds.{Creds}
 use Rattle.trio_rights.specs.declared.rights.LibNo.{LibNo}
@@ -8,7 +8,6 @@ use Rattle.trio_layout.specs.Image.{Image}
 use Rattle.trio_desk.specs.Call.{Ask, DeskSeen, Told}
 use Rattle.trio_desk.specs.Edits.{nothing}
 use Rattle.trio_desk.specs.Out.{OutAlike, nothing_out}
-use Rattle.trio_state.specs.Moves.{begun_by}
 use Rattle.trio_state.specs.Run.{start}
 use Rattle.trio_state.specs.State.{State, creds_of}
 use Rattle.trio_laws.specs.history.Recorded.{IsRecorded}

@@ -1,27 +1,20 @@
 -- What turns of one library leave, and what they leave the sessions of others.
-use Rattle.std.proofs.Common.{◌≡◌, ◌≤◌, List, [], ◌∷◌, length, Result, Ok, Err, sym, refl, ap, ◌∙◌, subst, arith}
-use Rattle.std.specs.Prelude.{IfOk, IfSome, None}
-use Rattle.std.specs.Result.{result_ok}
+use Rattle.std.proofs.Common.{◌≡◌, ◌≤◌, List, [], ◌∷◌, length, sym, refl, ap, ◌∙◌, subst}
+use Rattle.std.specs.Prelude.{None}
 use Rattle.trio_rights.specs.declared.rights.Creds.{Creds}
 use Rattle.trio_rights.specs.declared.rights.LibNo.{LibNo}
 use Rattle.trio_layout.specs.Image.{Image}
 use Rattle.trio_desk.specs.Call.{Ask, DeskSeen, Told}
-use Rattle.trio_desk.specs.Calls.{Call, Calls, OneCall, Made, NotMade}
-use Rattle.trio_desk.specs.Edits.{nothing}
-use Rattle.trio_desk.specs.Out.{OutAlike, nothing_out}
+use Rattle.trio_desk.specs.Calls.{Call, Calls}
 use Rattle.trio_state.specs.Moves.{Underway, begun_by}
-use Rattle.trio_state.specs.Run.{start}
-use Rattle.trio_state.specs.State.{State, creds_of}
 use Rattle.trio_laws.specs.history.Recorded.{IsRecorded}
 use Rattle.trio_laws.proofs.acts.Underways.{begun_like}
-use Rattle.trio_session.specs.Seen.{SessionSeen, emptied}
+use Rattle.trio_session.specs.Seen.{SessionSeen}
 use Rattle.trio_edit_laws.specs.Calls.{MayCall}
-use Rattle.trio_edit_laws.proofs.Called.{begins_to_call}
-use Rattle.trio_ctl.specs.Ctl.{AreAsTold, Controller, IsLibrary, NoneBegun, underway_of}
-use Rattle.trio_ctl.specs.Desk.{Happens, LogsCall, desk_of, out_of}
+use Rattle.trio_ctl.specs.Ctl.{AreAsTold, Controller, IsLibrary, underway_of}
+use Rattle.trio_ctl.specs.Desk.{Happens, LogsCall, desk_of}
 use Rattle.trio_ctl.specs.Logged.{recorded}
 use Rattle.trio_ctl.proofs.DeskSteps.{happens_creds, others_see}
-use Rattle.trio_runner.proofs.EndFree.{nothing_at_start}
 use Rattle.trio_runner.proofs.Moves.{Stands, call_stands}
 use Rattle.trio_session_tests.specs.Turns.{IsTurn, MayPlay}
 

@@ -1,5 +1,4 @@
 -- A library that begins a session at its desk.
-use Rattle.std.specs.Prelude.{◌≡◌}
 use Rattle.trio_rights.specs.declared.rights.LibNo.{LibNo}
 use Rattle.trio_desk.specs.Out.{OutAlike, nothing_out}
 use Rattle.trio_ctl.specs.Ctl.{Controller, IsIdle, IsLibrary, NoneBegun}
