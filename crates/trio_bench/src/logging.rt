@@ -8,10 +8,10 @@ ghost use Rattle.trio_script.specs.Within.{AreWithin};
 ghost use Rattle.trio_runner.specs.Play.{creds_in};
 
 use crate::starting::started;
-use crate::timing::Ratio;
 use std::alloc::Global;
 use std::rt::Files as Host;
 use std::{fs, io};
+use trio_bench_common::Ratio;
 use trio_ctl::Ctl;
 use trio_image::make;
 use trio_page::NoMemory;

@@ -5,11 +5,11 @@ ghost use Rattle.trio_ctl.specs.Ctl.{NoneBegun};
 ghost use Rattle.trio_shared.specs.Seats.{IsIdle, IsSeatOf};
 
 use crate::sessions::one_file;
-use crate::timing::{Times, least, nanos_since, now};
 use std::alloc::Global;
 use std::io;
 use std::rt::Clock;
 use std::sync::Wait;
+use trio_bench_common::{Times, least, nanos_since, now};
 use trio_ctl::{Ctl, PlainDesk};
 use trio_desk::Desk;
 use trio_lease::Lease;

@@ -9,10 +9,10 @@ ghost use Rattle.trio_ctl.specs.Ctl.{NoneBegun};
 ghost use Rattle.trio_ctl.specs.Desk.{out_of};
 
 use crate::starting::{image_of, started};
-use crate::timing::{Times, least, nanos_since, now};
 use std::alloc::Global;
 use std::io;
 use std::rt::Clock;
+use trio_bench_common::{Times, least, nanos_since, now};
 use trio_calls_file::file_call;
 use trio_ctl::{Ctl, PlainDesk};
 use trio_desk::Desk;

@@ -8,12 +8,12 @@ ghost use Rattle.trio_script.specs.Within.{AreWithin};
 ghost use Rattle.trio_runner.specs.Play.{creds_in};
 
 use crate::starting::{image_of, started};
-use crate::timing::{Times, least, nanos_since, now};
 use std::alloc::Global;
 use std::io;
 use std::rt::Clock;
 use std::sync::Wait;
 use std::thread::Threads;
+use trio_bench_common::{Times, least, nanos_since, now};
 use trio_ctl::Ctl;
 use trio_image::Image;
 use trio_io::OpenGate;

@@ -3,11 +3,11 @@
 ghost use Rattle.std.specs.Prelude.{◌≡◌, None, IfSome};
 ghost use Rattle.trio_turn.specs.Seats.{cell, cell_of, has, IsSameSeat};
 
-use crate::timing::{Times, least, nanos_since, now};
 use std::alloc::Global;
 use std::io;
 use std::rt::Clock;
 use std::sync::{Mutex, Wait};
+use trio_bench_common::{Times, least, nanos_since, now};
 use trio_turn::{LibSeat, Logged, Turn};
 
 /// The fastest of so many rounds counts.

@@ -1,9 +1,9 @@
 //! What it takes to tell the tree of an image, by the number of its names.
 
-use crate::timing::{Ratio, Times, least, nanos_since, now};
 use std::alloc::Global;
 use std::io;
 use std::rt::Clock;
+use trio_bench_common::{Ratio, Times, least, nanos_since, now};
 use trio_layout::Superblock;
 use trio_page::{Home, Reads};
 use trio_report::{put_tree_lines, tree_json, tree_lines};

@@ -1,10 +1,10 @@
 //! How long the judge takes for a bundle, beside another.
 
 use crate::bundles::{Names, RANGE, Shape, bundle_of, root_alone};
-use crate::timing::{Ratio, nanos_since, now, shortest};
 use std::alloc::Global;
 use std::io;
 use std::rt::Clock;
+use trio_bench_common::{Ratio, nanos_since, now, shortest};
 use trio_case::Case;
 use trio_judge::{Room, judge};
 use trio_judge_tests::case_of;

@@ -1,10 +1,10 @@
 //! What the index of a directory takes for names of one choice, beside another.
 
-use crate::timing::{Times, least, nanos_since, now};
 use std::alloc::Global;
 use std::io;
 use std::rt::Clock;
 use trio_auxdir::{Finds, HashedDir};
+use trio_bench_common::{Times, least, nanos_since, now};
 use trio_names::Name;
 
 /// The fastest of so many rounds counts.

@@ -1,9 +1,9 @@
 //! What checking an image costs, beside reading its file.
 
-use crate::timing::{Times, least, nanos_since, now};
 use std::alloc::Global;
 use std::io;
 use std::rt::{Clock, Files as Host};
+use trio_bench_common::{Times, least, nanos_since, now};
 use trio_image::load;
 use trio_io::{Files, RealFiles, read_whole};
 use trio_samples::files::workload_tree;

@@ -1,10 +1,25 @@
-//! The least times of some rounds, and how often one time goes into another.
+//! What the benchmark programs have in common: their words, the times that a clock tells, the least of
+//! some rounds, and how often one time goes into another.
+#![tactic(auto)]
 
-use std::fmt;
-use std::rt::Clock;
+ghost use Rattle.std.specs.Prelude.{◌≡◌};
+ghost use Rattle.trio_bench_common.specs.Times.{hundredths, lesser, lesser_times};
+
+use std::alloc::Global;
+use std::rt::{Clock, Env};
 use std::time::Instant;
+use std::{env, fmt, io};
 
-/// What the clock tells, where it tells anything.
+/// The words that the process was given, the program's name first.
+pub fn words_given<R: Env + AllocGlobal>(rt: &R) -> io::Result<Vec<String>> {
+    let mut words = Vec::new(rt.alloc());
+    for word in env::args(rt)? {
+        words.push(word)?;
+    }
+    Ok(words)
+}
+
+/// What the clock tells. `None` where it tells nothing.
 pub fn now<R: Clock>(rt: &R) -> Option<Instant> {
     Instant::now(rt).ok()
 }
@@ -29,14 +44,18 @@ impl Times {
     };
 
     /// How often the second goes into the first.
-    pub fn ratio(self) -> Ratio {
+    pub fn ratio(self) -> Ratio
+        ensures { result ≡ record { 0 = hundredths self.first self.second } }
+    {
         Ratio::of(self.first, self.second)
     }
 }
 
 /// The least times of some rounds and of one more, in which the two things come in turn. `None` where
 /// a round has no time.
-pub fn least(least: Option<Times>, first: Option<u128>, second: Option<u128>) -> Option<Times> {
+pub fn least(least: Option<Times>, first: Option<u128>, second: Option<u128>) -> Option<Times>
+    ensures { result ≡ lesser_times least first second }
+{
     let least = least?;
     Some(Times {
         first: first?.min(least.first),
@@ -45,16 +64,21 @@ pub fn least(least: Option<Times>, first: Option<u128>, second: Option<u128>) ->
 }
 
 /// The less of two times. `None` where one is wanting.
-pub fn shortest(one: Option<u128>, other: Option<u128>) -> Option<u128> {
+pub fn shortest(one: Option<u128>, other: Option<u128>) -> Option<u128>
+    ensures { result ≡ lesser one other }
+{
     Some(one?.min(other?))
 }
 
 /// How often one number goes into another, in hundredths.
 #[derive(Clone, Copy)]
-pub struct Ratio(u128);
+pub struct Ratio(pub u128);
 
 impl Ratio {
-    pub fn of(number: u128, beside: u128) -> Ratio {
+    /// How often `beside` goes into `number`; as if it were 1 where it is 0.
+    pub fn of(number: u128, beside: u128) -> Ratio
+        ensures { result ≡ record { 0 = hundredths number beside } }
+    {
         Ratio(number.saturating_mul(100) / beside.max(1))
     }
 }
