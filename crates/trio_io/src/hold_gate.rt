@@ -2,6 +2,7 @@
 
 use crate::Gate;
 use std::sync::atomic::{AtomicBool, Ordering};
+use std::thread::yield_now;
 use trio_rights::LibNo;
 
 /// A place where libraries arrive: the line of a library's script, or 0 for its end step.
@@ -39,13 +40,15 @@ impl HoldGate {
         self.met.load(Ordering::SeqCst)
     }
 
-    // Looks at the flag until it is set, for so many times at most.
+    // Looks at the flag until it is set, for so many times at most, and lets others run after each look
+    // in vain.
     fn wait(&self) {
         for _ in 0..self.looks {
             if self.arrived.load(Ordering::SeqCst) {
                 self.met.store(true, Ordering::SeqCst);
                 return;
             }
+            yield_now();
         }
     }
 }
