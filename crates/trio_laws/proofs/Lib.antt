@@ -1,3 +1,4 @@
+pub mod Credentials
 pub mod StateFacts
 pub mod Cases
 pub mod Agreeing

@@ -23,6 +23,8 @@ pub mod RawParts
 pub mod RefusedNodes
 pub mod Whole
 pub mod RawGiven
+pub mod RisingKeys
+pub mod ToldFiles
 pub mod RefusedStep
 pub mod Grown
 pub mod Untouched
@@ -37,7 +39,6 @@ pub mod NotesFacts
 pub mod NotesSteps
 pub mod NotesAccepted
 pub mod NotesStart
-pub mod RisingKeys
 pub mod ToldNoted
 pub mod AcceptedNames
 pub mod ToldBlocks

@@ -1,5 +1,5 @@
 -- A step of another library leaves the rows that are copied for a bundle, and the bodies of the files that it holds.
-use Rattle.std.proofs.Common.{◌≡◌, ◌≢◌, ℕ, ◌+◌, ◌-◌, true, false, cond, ◌&&◌, ◌||◌, eqb, List, get_or, length, map, Option, Some, None, sym, refl, ap, ◌∙◌, subst, inl, inr, ◌⊎◌}
+use Rattle.std.proofs.Common.{◌≡◌, ◌≢◌, ℕ, ◌+◌, true, false, cond, ◌&&◌, ◌||◌, eqb, List, length, map, Option, Some, None, sym, refl, ap, ◌∙◌, subst, inl, inr, ◌⊎◌}
 use Rattle.std.proofs.lemmas.Bool.{and_parts, or_cases, or_left, or_right, eqb-true, false≢true, cases_Bool, cases_eq}
 use Rattle.std.proofs.lemmas.List.{get_or-set_other}
 use Rattle.trio_rights.specs.Bundle.{Bundle, is_written}
@@ -17,6 +17,7 @@ use Rattle.trio_layout.specs.Entries.{Listed}
 use Rattle.trio_layout.specs.Image.{row_at, settled_body}
 use Rattle.trio_layout.specs.Mode.{row_with_mode}
 use Rattle.trio_layout.specs.Survey.{FileRead, Met, file_of, met_in, plain, row_by, row_of, survey}
+use Rattle.trio_nodes.specs.Libraries.{creds_in}
 use Rattle.trio_nodes.specs.declared.grant.GrantKind.TheVariants.{Read, Write, Hold}
 use Rattle.trio_nodes.specs.declared.answers.GrantFault.{GrantFault}
 use Rattle.trio_nodes.specs.declared.answers.ModeFault.{ModeFault}
@@ -299,7 +300,7 @@ module _ (s : State) (lib : ℕ) (b : Bundle) (j : IsJudgeable s lib b) where
           map-each (λ n. record { ino = n; body = settled_body (settled s') n }) (λ n. record { ino = n; body = settled_body (settled s) n }) b.holds
           (λ n i. ap (λ (body : List ℕ). record { ino = n; body = body }) (body_same n i)) in
           let creds : creds_of s' lib ≡ creds_of s lib =
-          ap (λ (l : List Creds). get_or l (lib - 1) (record { uid = 0; gid = 0 })) (step_creds s event answer s' step) in
+          ap (λ (l : List Creds). creds_in l lib) (step_creds s event answer s' step) in
           let C : List Held → List (Option Row) → Creds → CoreRange → ℕ → Case =
           λ hs rows c range inodes. record { bundle = b; lent = hs; rows = rows; creds = c; range = range; inodes = inodes } in
           let rows : List (Option Row) = copied_rows b s.home.rows in

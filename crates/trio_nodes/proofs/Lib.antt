@@ -1,3 +1,4 @@
 pub mod NodeFacts
+pub mod LibraryFacts
 mod PathFacts
 mod Blocks

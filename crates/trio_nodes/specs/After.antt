@@ -1,5 +1,6 @@
 -- The nodes after an entry: what a history makes of the tree.
-use Rattle.std.specs.Prelude.{ℕ, ◌+◌, ◌-◌, ◌*◌, ◌==◌, Bool, true, false, List, [], ◌∷◌, ◌++◌, length, take, drop, Option, None, Some, Ok, if◌then◌else◌, slice_index_or}
+use Rattle.std.specs.Prelude.{ℕ, ◌+◌, ◌*◌, ◌==◌, Bool, true, false, List, [], ◌∷◌, ◌++◌, length, take, drop, Option, None, Some, Ok, if◌then◌else◌}
+use Rattle.std.specs.Option.{option_map_or}
 use Rattle.trio_rights.specs.declared.kind.Kind.{Kind}
 use Rattle.trio_rights.specs.declared.kind.Kind.TheVariants.{Regular, Directory}
 use Rattle.trio_rights.specs.declared.rights.Creds.{Creds}
@@ -13,6 +14,7 @@ use Rattle.trio_nodes.specs.declared.entry.Entry.{Entry}
 use Rattle.trio_nodes.specs.declared.entry.Entry.TheVariants.{Raw, Batch, Mode}
 use Rattle.trio_nodes.specs.Nodes.{Nodes, node_at, with_node}
 use Rattle.trio_nodes.specs.Apply.{resized, applied}
+use Rattle.trio_nodes.specs.Libraries.{listed_creds}
 
 -- ---- a release
 
@@ -88,14 +90,10 @@ moded_nodes ino mode nodes = with_node nodes ino (moded_node mode (node_at nodes
 
 -- ---- any entry
 
--- the credentials of a library, of those of all libraries
-abbrev pub creds_in : List Creds → ℕ → Creds
-creds_in libs lib = slice_index_or libs (lib - 1) (record { uid = 0; gid = 0 })
-
--- the nodes after an entry
+-- the nodes after an entry; calls of one that is no library change nothing
 abbrev pub nodes_after : List Creds → Nodes → Entry → Nodes
 nodes_after libs nodes (Raw lib verdict files bundle) = raw_nodes bundle.blocks files nodes
-nodes_after libs nodes (Batch lib calls handed) = batch_nodes (creds_in libs lib.0) calls nodes
+nodes_after libs nodes (Batch lib calls handed) = option_map_or (λ creds. batch_nodes creds calls nodes) (listed_creds libs lib.0) nodes
 nodes_after libs nodes (Mode lib ino mode (Ok done) call) = moded_nodes ino mode nodes
 nodes_after libs nodes _ = nodes
 

@@ -1,7 +1,8 @@
 -- When a history is legal: each entry does no more than the grants that stand allow.
-use Rattle.std.specs.Prelude.{◌≡◌, ◌≢◌, ℕ, ◌+◌, ◌*◌, ◌<◌, ◌≤◌, ◌==◌, Bool, false, not, ◌&&◌, ◌||◌, ◌⊎◌, List, [], ◌∷◌, map, length, min, Option, None, Some, is_some, Result, Ok, Err, IsTrue, IsFalse, MatchBool, MatchOption}
+use Rattle.std.specs.Prelude.{◌≡◌, ◌≢◌, ℕ, ◌+◌, ◌*◌, ◌<◌, ◌≤◌, ◌==◌, Bool, true, false, not, ◌&&◌, ◌||◌, ◌⊎◌, List, [], ◌∷◌, map, length, min, Option, None, Some, is_some, Result, Ok, Err, IsTrue, IsFalse, MatchBool, MatchOption}
 use Rattle.std.specs.List.{list_any, AllByRecursion}
 use Rattle.std.specs.Option.{option_map}
+use Rattle.std.specs.Str.{bytes_eq}
 use Rattle.trio_rights.specs.declared.kind.Kind.TheVariants.{Regular}
 use Rattle.trio_rights.specs.declared.rights.Creds.{Creds}
 use Rattle.trio_rights.specs.declared.rights.Need.TheVariants.{Read as ToRead, Write as ToWrite}
@@ -29,12 +30,13 @@ use Rattle.trio_nodes.specs.declared.entry.AllotAnswer.{AllotAnswer}
 use Rattle.trio_nodes.specs.declared.entry.AllotAnswer.TheVariants.{Given, Refused as NotGiven}
 use Rattle.trio_nodes.specs.declared.entry.Entry.{Entry}
 use Rattle.trio_nodes.specs.declared.entry.Entry.TheVariants.{Grant, Allot, Back, Raw, Batch, Mode}
-use Rattle.trio_lists.specs.Lists.{In}
+use Rattle.trio_lists.specs.Lists.{In, are_new}
 use Rattle.trio_nodes.specs.GrantKinds.{is_read}
 use Rattle.trio_nodes.specs.Nodes.{Nodes, node_at, entry_in}
 use Rattle.trio_nodes.specs.Apply.{Apply, makes_file, is_done}
 use Rattle.trio_nodes.specs.Standing.{Standing, stands, stands_on, is_others, is_excluded, is_given, grants_after}
-use Rattle.trio_nodes.specs.After.{batch_nodes, call_nodes, moded_nodes, raw_nodes, bytes_in, creds_in, nodes_after}
+use Rattle.trio_nodes.specs.After.{batch_nodes, call_nodes, moded_nodes, raw_nodes, bytes_in, nodes_after}
+use Rattle.trio_nodes.specs.Libraries.{IsLibrary, creds_in}
 
 -- what has come of a history so far: the nodes, the grants that stand, and how many entries there are
 pub record Past : Type 0 where
@@ -183,9 +185,28 @@ is_handed handed ino = list_any (λ w. w.ino == ino) handed.writes || list_any (
 abbrev pub GivenAreHanded : List RawFile → Handed → Type 0
 GivenAreHanded files handed = (n : ℕ) → is_given files n ≡ is_handed handed n
 
--- A release of a library: what is told as given was handed in; the nodes change within its grants, and after a refusal in their
--- bytes alone; and the bytes of each file that is told are known.
+-- the entry tells of the file
+abbrev pub tells_of : List RawFile → ℕ → Bool
+tells_of files ino = list_any (λ f. f.ino == ino) files
+
+-- the file is new, or it stays and has another name
+abbrev pub is_new_or_renamed : Option Node → Option Node → Bool
+is_new_or_renamed None None = false
+is_new_or_renamed None (Some y) = true
+is_new_or_renamed (Some x) None = false
+is_new_or_renamed (Some x) (Some y) = not (bytes_eq x.name y.name)
+
+-- The files of an entry are those of the bundle's leases and holds, the new ones, and those that stay and have another name. Each is
+-- told once. After a refusal no file is new and no name changes, so that just those handed in are told.
+pub record TellsThese (files : List RawFile) (handed : Handed) (nodes nodes' : Nodes) : Type 0 where
+  pub these : (n : ℕ) → tells_of files n ≡ (is_handed handed n || is_new_or_renamed (node_at nodes n) (node_at nodes' n))
+  pub once : IsTrue (are_new [] (map (λ f. f.ino) files))
+
+-- A release of a library: it tells of the files that were handed in, that are new or that have another name, and says which were
+-- handed in; the nodes change within its grants, and after a refusal in their bytes alone; and the bytes of each file that is told
+-- are known.
 pub record LegalRaw (p : Past) (creds : Creds) (lib : ℕ) (verdict : ReleaseAnswer) (files : List RawFile) (blocks : List ToldBlock) (handed : Handed) : Type 0 where
+  pub told : TellsThese files handed p.nodes (raw_nodes blocks files p.nodes)
   pub given : GivenAreHanded files handed
   pub within : IsWithinGrants p.grants creds lib p.nodes (raw_nodes blocks files p.nodes)
   pub judged : LegalVerdict verdict p.nodes (raw_nodes blocks files p.nodes)
@@ -259,7 +280,18 @@ abbrev pub LegalFrom : List Creds → Past → List Entry → Past → Type 0
 LegalFrom libs p [] last = last ≡ p
 LegalFrom libs p (e ∷ es) last = IsLegal libs p e × LegalFrom libs (past_after libs p e) es last
 
--- the log is legal from the first nodes, with the credentials of the libraries, and these are its last nodes
+-- the number of the library whose entry it is
+abbrev pub library_in : Entry → ℕ
+library_in (Grant lib ino kind answer) = lib.0
+library_in (Allot lib pages inodes answer) = lib.0
+library_in (Back lib ino) = lib.0
+library_in (Raw lib verdict files bundle) = lib.0
+library_in (Batch lib calls handed) = lib.0
+library_in (Mode lib ino mode answer call) = lib.0
+
+-- The log is legal from the first nodes, with the credentials of the libraries, and these are its last nodes. Each entry is of
+-- one of the libraries, and legal in its order.
 pub record Legal (first : Nodes) (libs : List Creds) (log : List Entry) (last : Nodes) : Type 0 where
+  pub libraries : AllByRecursion (λ e. IsLibrary libs (library_in e)) log
   pub grants : List Standing
   pub each : LegalFrom libs (beginning first) log (record { nodes = last; grants = grants; entries = length log })

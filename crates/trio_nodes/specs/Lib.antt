@@ -6,6 +6,7 @@ pub mod Walk
 pub mod Apply
 pub mod Standing
 pub mod Told
+pub mod Libraries
 pub mod After
 pub mod Legal
 pub mod Lends

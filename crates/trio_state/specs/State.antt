@@ -1,11 +1,13 @@
 -- The state of the controller, and the image that is settled in it.
-use Rattle.std.specs.Prelude.{ℕ, ◌+◌, ◌-◌, ◌≤◌, List, [], length, Option, slice_index_or}
+use Rattle.std.specs.Prelude.{ℕ, ◌+◌, List, [], Option}
 use Rattle.std.specs.List.{flat_map}
 use Rattle.trio_rights.specs.declared.kind.Kind.{Kind}
 use Rattle.trio_rights.specs.declared.rights.Creds.{Creds}
 use Rattle.trio_rights.specs.declared.rights.LibNo.{LibNo}
 use Rattle.trio_nodes.specs.declared.grant.GrantKind.{GrantKind}
 use Rattle.trio_nodes.specs.declared.grant.GrantKind.TheVariants.{Read, Write, Hold}
+use Rattle.trio_nodes.specs.Libraries.{creds_in}
+pub use Rattle.trio_nodes.specs.Libraries.{IsLibrary}
 use Rattle.trio_rights.specs.Sheets.{Sheet, with_pages}
 use Rattle.trio_layout.specs.Pages.{covered_of}
 use Rattle.trio_layout.specs.Image.{Image, with_core_pages}
@@ -47,13 +49,9 @@ covered Hold of index blocks = []
 abbrev pub settled : State → Image
 settled s = with_core_pages s.home (with_pages (flat_map (λ g. g.checkpoint) s.open_grants) s.home.core.pages)
 
--- the library is one of those with these credentials, which are numbered from 1
-abbrev pub IsLibrary : List Creds → ℕ → Type 0
-IsLibrary creds lib = (1 ≤ lib) × (lib ≤ length creds)
-
--- the credentials of a library
+-- the credentials of a library; nobody's where it is none of those of the state
 abbrev pub creds_of : State → ℕ → Creds
-creds_of s lib = slice_index_or s.creds (lib - 1) (record { uid = 0; gid = 0 })
+creds_of s lib = creds_in s.creds lib
 
 -- one entry more in the history
 abbrev pub logged : State → State

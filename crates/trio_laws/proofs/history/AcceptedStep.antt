@@ -46,7 +46,7 @@ use Rattle.trio_nodes.specs.declared.entry.RawFile.{RawFile}
 use Rattle.trio_nodes.specs.Nodes.{Nodes, node_at, entry_in}
 use Rattle.trio_nodes.specs.Standing.{Standing, stands, is_others, is_given}
 use Rattle.trio_nodes.specs.After.{bytes_in, raw_nodes}
-use Rattle.trio_nodes.specs.Legal.{IsWithinGrants, SameContent, HasRightsOf, HasPlaceOf, HasNameOf, BlocksAreKnown, is_listed}
+use Rattle.trio_nodes.specs.Legal.{IsWithinGrants, SameContent, HasRightsOf, HasPlaceOf, HasNameOf, BlocksAreKnown, is_handed, is_listed}
 use Rattle.trio_laws.specs.history.Stands.{name_of, size_of, bytes_of, node_of, node_by, nodes_of, standing_of, writer_of}
 use Rattle.trio_laws.specs.history.Entries.{bundle_handed, raw_file, raw_files, raw_blocks, raw_entry, is_told, told_by, told_file, told_blocks, told_blocks_of, is_block_told, block_numbers}
 use Rattle.trio_laws.specs.history.Recorded.{LentWhole, IsMarked}
@@ -61,6 +61,7 @@ use Rattle.trio_laws.proofs.history.Follows.{Follows, name_at_entry}
 use Rattle.trio_laws.proofs.history.Listing.{listing, met_at, body_met, tables_of}
 use Rattle.trio_laws.proofs.history.RawGiven.{is_in, given_grant, given_is, grants_end, handed_is, files_from}
 use Rattle.trio_laws.proofs.history.ModeNodes.{name_root}
+use Rattle.trio_laws.proofs.history.ToldFiles.{tells_these}
 
 one_of : {X : Type 0} (x y : X) → Some x ≡ Some y → x ≡ y
 one_of x y e = cc e
@@ -555,10 +556,17 @@ module _ (s s' : State) (k : Kept s) (k' : Kept s') (whole : LentWhole s) (lib :
   all_files P [] h = tt
   all_files P (x ∷ xs) h = (h x (inl refl), all_files P xs (λ f i. h f (inr i)))
 
+  given_are : (n : ℕ) → is_given these n ≡ is_handed h n
+  given_are n = given_is s k lib b given after n ∙ sym (handed_is h n)
+
+  is_raw : (n : ℕ) → node_at (raw_nodes blocks these (nodes_of s)) n ≡ node_by after n (writer_of s' n) (row_at after n)
+  is_raw n = ap (λ (ns : Nodes). node_at ns n) (sym (accepted_nodes s s' k k' whole lib h given accepted e marked)) ∙ is n
+
   pub accepted_makes : Makes s (Release lib b) Accepted s' (raw_entry image lib h IsAccepted after)
   accepted_makes = record {
     legal = record {
-      given = λ n. given_is s k lib b given after n ∙ sym (handed_is h n);
+      told = tells_these image after h (nodes_of s) blocks (writer_of s) (writer_of s') was is_raw given_are;
+      given = given_are;
       within = subst (λ (ns : Nodes). IsWithinGrants gs (creds_of s lib) lib (nodes_of s) ns) (accepted_nodes s s' k k' whole lib h given accepted e marked) within;
       judged = tt;
       known = all_files Known these known_at;

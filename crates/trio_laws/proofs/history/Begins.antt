@@ -1,13 +1,20 @@
 -- A history begins, and is legal.
 use Rattle.std.proofs.Common.{◌≡◌, ℕ, suc, ◌+◌, List, [], ◌∷◌, length, sym, refl, ap, subst, arith}
+use Rattle.std.specs.List.{AllByRecursion}
 use Rattle.trio_rights.specs.declared.rights.Creds.{Creds}
 use Rattle.trio_state.specs.Run.{start}
+use Rattle.trio_state.specs.State.{IsLibrary, State}
 use Rattle.trio_laws.proofs.Runs.{start_kept}
 use Rattle.trio_nodes.specs.declared.entry.Entry.{Entry}
+use Rattle.trio_nodes.specs.declared.entry.Entry.TheVariants.{Grant, Allot, Back, Raw, Batch, Mode}
 use Rattle.trio_nodes.specs.Nodes.{Nodes}
-use Rattle.trio_nodes.specs.Legal.{Past, Legal, LegalFrom, past_after, beginning}
+use Rattle.trio_nodes.specs.Legal.{Past, Legal, LegalFrom, library_in, past_after, beginning}
 use Rattle.trio_laws.specs.history.Stands.{nodes_of, past_of}
 use Rattle.trio_laws.specs.history.HistoryLaws.{HistoryBegins, HistoryIsLegal}
+use Rattle.trio_laws.specs.history.Entries.{event_of, answer_of}
+use Rattle.trio_laws.specs.history.Replays.{ReplaysFrom}
+use Rattle.trio_laws.specs.Laws.{library_of}
+use Rattle.trio_laws.proofs.history.Grows.{step_creds}
 
 pub history_begins : HistoryBegins
 history_begins image creds fit v whole =
@@ -21,12 +28,27 @@ count_from libs p (e ∷ es) q h =
     let l : length (e ∷ es) ≡ suc (length es) = refl in
     omega (arith, r, l)
 
+library_same : (e : Entry) → library_of (event_of e) ≡ library_in e
+library_same (Grant lib ino kind answer) = refl
+library_same (Allot lib pages inodes answer) = refl
+library_same (Back lib ino) = refl
+library_same (Raw lib verdict files bundle) = refl
+library_same (Batch lib calls handed) = refl
+library_same (Mode lib ino mode answer call) = refl
+
+-- each entry of a log that replays is of one of the libraries
+all_listed : (es : List Entry) (s t : State) → ReplaysFrom s es t → AllByRecursion (λ e. IsLibrary s.creds (library_in e)) es
+all_listed [] s t r = tt
+all_listed (e ∷ es) s t r =
+    let rest = all_listed es r.0 t r.4 in
+    (subst (IsLibrary s.creds) (library_same e) r.1, subst (λ (cs : List Creds). AllByRecursion (λ x. IsLibrary cs (library_in x)) es) (step_creds s (event_of e) (answer_of e) r.0 r.3) rest)
+
 pub history_is_legal : HistoryIsLegal
 history_is_legal r i =
     let libs : List Creds = r.state.creds in
     let first : Nodes = nodes_of (start r.first libs) in
     let n : length r.log ≡ r.state.entries = (let c = count_from libs (beginning first) r.log (past_of r.state) i.legal in omega (arith, c)) in
     let L : ℕ → Type 0 = λ m. LegalFrom libs (beginning first) r.log (record { nodes = nodes_of r.state; grants = (past_of r.state).grants; entries = m }) in
-    let legal : Legal first libs r.log (nodes_of r.state) = record { grants = (past_of r.state).grants; each = subst L (sym n) i.legal } in
+    let legal : Legal first libs r.log (nodes_of r.state) = record { libraries = all_listed r.log (start r.first libs) r.state i.replays; grants = (past_of r.state).grants; each = subst L (sym n) i.legal } in
     let H : Nodes → Type 0 = λ x. Legal first libs r.log x in
     (subst H (sym i.stands) legal, n)

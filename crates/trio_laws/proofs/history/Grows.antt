@@ -214,20 +214,33 @@ release_extends s x lib b answer s' k k' w w' given (IsRefused p n why a tells e
     let E : CtlAnswer → Type 0 = λ z. Extends s x (Release lib b) z s' in
     subst E (sym a) (refused_extends s x lib b why s' k k' w w' given (closed_unparted s lib b p) ends t)
 
-does_extends : (s : State) (x : Beside) (event : Event) (answer : CtlAnswer) (s' : State) → Kept s → Kept s' → LentWhole s → LentWhole s' → GivenEvent s event → Does s event answer s' → BesideFits s x event answer s' → Extends s x event answer s'
-does_extends s x (Grant lib ino kind) answer s' k k' w w' given d t = grant_extends s k lib ino kind x answer s' d
-does_extends s x (Allot lib count many) answer s' k k' w w' given d t = allot_extends s k lib count many x answer s' d
-does_extends s x (Back lib ino) answer s' k k' w w' given d t = back_extends s k lib ino given x answer s' d
-does_extends s x (Release lib b) answer s' k k' w w' given d t = release_extends s x lib b answer s' k k' w w' given d t
-does_extends s x (Settle lib b) answer s' k k' w w' given d t = settle_extends s s' k k' w lib b given x answer d t
-does_extends s x (SetMode lib ino mode) answer s' k k' w w' given d t = mode_extends s k lib ino mode x answer s' d t
+-- a settle is one of a library that is listed
+abbrev pub SettlesOwn : State → Event → Type 0
+SettlesOwn s (Settle lib b) = IsLibrary s.creds lib
+SettlesOwn s _ = Unit {0}
 
-pub step_extends : (s : State) (x : Beside) (event : Event) (answer : CtlAnswer) (s' : State) → Kept s → LentWhole s → GivenEvent s event → Step s event answer s' → BesideFits s x event answer s' → Extends s x event answer s'
-step_extends s x event answer s' k w given (inl does) t =
-    does_extends s x event answer s' k (step_kept s s' event answer k given (inl does)) w (does_whole s k event answer s' does w) given does t
-step_extends s x event answer s' k w given (inr none) t =
+settles_own : (s : State) (event : Event) → IsLibrary s.creds (library_of event) → SettlesOwn s event
+settles_own s (Grant lib ino kind) mine = tt
+settles_own s (Allot lib count many) mine = tt
+settles_own s (Back lib ino) mine = tt
+settles_own s (Release lib b) mine = tt
+settles_own s (Settle lib b) mine = mine
+settles_own s (SetMode lib ino mode) mine = tt
+
+does_extends : (s : State) (x : Beside) (event : Event) (answer : CtlAnswer) (s' : State) → Kept s → Kept s' → LentWhole s → LentWhole s' → SettlesOwn s event → GivenEvent s event → Does s event answer s' → BesideFits s x event answer s' → Extends s x event answer s'
+does_extends s x (Grant lib ino kind) answer s' k k' w w' own given d t = grant_extends s k lib ino kind x answer s' d
+does_extends s x (Allot lib count many) answer s' k k' w w' own given d t = allot_extends s k lib count many x answer s' d
+does_extends s x (Back lib ino) answer s' k k' w w' own given d t = back_extends s k lib ino given x answer s' d
+does_extends s x (Release lib b) answer s' k k' w w' own given d t = release_extends s x lib b answer s' k k' w w' given d t
+does_extends s x (Settle lib b) answer s' k k' w w' own given d t = settle_extends s s' k k' w lib b own given x answer d t
+does_extends s x (SetMode lib ino mode) answer s' k k' w w' own given d t = mode_extends s k lib ino mode x answer s' d t
+
+pub step_extends : (s : State) (x : Beside) (event : Event) (answer : CtlAnswer) (s' : State) → Kept s → LentWhole s → SettlesOwn s event → GivenEvent s event → Step s event answer s' → BesideFits s x event answer s' → Extends s x event answer s'
+step_extends s x event answer s' k w own given (inl does) t =
+    does_extends s x event answer s' k (step_kept s s' event answer k given (inl does)) w (does_whole s k event answer s' does w) own given does t
+step_extends s x event answer s' k w own given (inr none) t =
     let E : CtlAnswer → Type 0 = λ y. Extends s x event y s' in subst E (sym none.1) (no_memory s x event s' none.2)
 
 pub history_grows : HistoryGrows
 history_grows r x event answer s' i mine given step t =
-    by_entry r event answer s' (entry_of r.state x event answer) i mine given step (step_extends r.state x event answer s' i.kept i.whole given step t)
+    by_entry r event answer s' (entry_of r.state x event answer) i mine given step (step_extends r.state x event answer s' i.kept i.whole (settles_own r.state event mine) given step t)

@@ -25,7 +25,7 @@ use Rattle.trio_laws.specs.history.Entries.{Beside, sheet_handed, written_handed
 use Rattle.trio_laws.specs.history.Recorded.{LentWhole, IsMarked, BesideFits}
 use Rattle.trio_laws.specs.history.HistoryLaws.{IsModeChange, StepsAreIsolated}
 use Rattle.trio_laws.proofs.history.Extends.{Makes, Comes'}
-use Rattle.trio_laws.proofs.history.Grows.{step_extends}
+use Rattle.trio_laws.proofs.history.Grows.{SettlesOwn, step_extends}
 use Rattle.trio_laws.proofs.history.SettleStep.{settle_within}
 
 -- ---- a bundle of which each page is marked
@@ -120,20 +120,20 @@ no_call s creds ino mode (Ok done) = tt
 no_call s creds ino mode (Err fault) = tt
 
 module _ (s : State) (k : Kept s) (w : LentWhole s) (answer : CtlAnswer) (s' : State) where
-  by_step : (x : Beside) (event : Event) → GivenEvent s event → Step s event answer s' → BesideFits s x event answer s' → IsSettle s answer s' event → Isolated s event s'
-  by_step x event given step fits settles =
-      by_option s answer s' (entry_of s x event answer) event (step_extends s x event answer s' k w given step fits) settles
+  by_step : (x : Beside) (event : Event) → SettlesOwn s event → GivenEvent s event → Step s event answer s' → BesideFits s x event answer s' → IsSettle s answer s' event → Isolated s event s'
+  by_step x event own given step fits settles =
+      by_option s answer s' (entry_of s x event answer) event (step_extends s x event answer s' k w own given step fits) settles
 
   pub isolated : (event : Event) → GivenEvent s event → Step s event answer s' → Isolated s event s'
-  isolated (Grant lib ino kind) given step = by_step (bare empty) (Grant lib ino kind) given step tt (λ l b e. absurd cc)
-  isolated (Allot lib count many) given step = by_step (bare empty) (Allot lib count many) given step tt (λ l b e. absurd cc)
-  isolated (Back lib ino) given step = by_step (bare empty) (Back lib ino) given step tt (λ l b e. absurd cc)
-  isolated (Release lib b) given step = by_step (bare b) (Release lib b) given step (bundle_back b, all_marked s lib b) (λ l c e. absurd cc)
+  isolated (Grant lib ino kind) given step = by_step (bare empty) (Grant lib ino kind) tt given step tt (λ l b e. absurd cc)
+  isolated (Allot lib count many) given step = by_step (bare empty) (Allot lib count many) tt given step tt (λ l b e. absurd cc)
+  isolated (Back lib ino) given step = by_step (bare empty) (Back lib ino) tt given step tt (λ l b e. absurd cc)
+  isolated (Release lib b) given step = by_step (bare b) (Release lib b) tt given step (bundle_back b, all_marked s lib b) (λ l c e. absurd cc)
   isolated (Settle lib b) given (inl does) =
       inl (settle_within s s' k (step_kept s s' (Settle lib b) answer k given (inl does)) w lib b (all_touched b) (bundle_back b) (all_marked s lib b) given.0 does.2 does.3)
   isolated (Settle lib b) given (inr none) = stays s (Settle lib b) s' (ap nodes_of none.2)
   isolated (SetMode lib ino mode) given step =
-      by_step (bare empty) (SetMode lib ino mode) given step (λ said is. no_call s (creds_of s lib) ino mode said) (λ l b e. absurd cc)
+      by_step (bare empty) (SetMode lib ino mode) tt given step (λ said is. no_call s (creds_of s lib) ino mode said) (λ l b e. absurd cc)
 
 pub steps_are_isolated : StepsAreIsolated
 steps_are_isolated r event answer s' i given step = isolated r.state i.kept i.whole answer s' event given step

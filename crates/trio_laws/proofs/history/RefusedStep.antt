@@ -31,7 +31,7 @@ use Rattle.trio_nodes.specs.Nodes.{Nodes, node_at, entry_in}
 use Rattle.trio_nodes.specs.Standing.{Standing, stands, is_others, is_given}
 use Rattle.trio_nodes.specs.GrantKinds.{same_kind}
 use Rattle.trio_nodes.specs.After.{bytes_in, raw_nodes}
-use Rattle.trio_nodes.specs.Legal.{IsWithinGrants, SameContent, HasRightsOf, HasPlaceOf, HasNameOf, LegalVerdict, BlocksAreKnown}
+use Rattle.trio_nodes.specs.Legal.{IsWithinGrants, SameContent, HasRightsOf, HasPlaceOf, HasNameOf, LegalVerdict, BlocksAreKnown, is_handed}
 use Rattle.trio_nodes.specs.Legal.{HasAllButBytesOf}
 use Rattle.trio_laws.specs.history.Stands.{size_of, bytes_of, node_of, node_by, nodes_of, standing_of, writer_of}
 use Rattle.trio_laws.specs.history.Entries.{bundle_handed, is_told, told_by, told_file, raw_file, raw_files, raw_blocks, raw_entry, refused_for}
@@ -41,6 +41,7 @@ use Rattle.trio_laws.proofs.history.Facts.{node_is}
 use Rattle.trio_laws.proofs.history.OldBytes.{old_long}
 use Rattle.trio_laws.proofs.history.RawGiven.{given_grant, given_is, grants_end, handed_is, files_from}
 use Rattle.trio_laws.proofs.history.RawParts.{raw_number}
+use Rattle.trio_laws.proofs.history.ToldFiles.{tells_these}
 use Rattle.trio_laws.proofs.history.RefusedNodes.{name_stays, size_stays, same_node, node_settled, refused_nodes}
 
 -- what holds of each of the files
@@ -238,10 +239,17 @@ module _ (s s' : State) (k : Kept s) (k' : Kept s') (whole : LentWhole s) (whole
   known : AllByRecursion (λ f. BlocksAreKnown blocks f (node_at (nodes_of s) f.ino)) these
   known = all_files (λ f. BlocksAreKnown blocks f (node_at (nodes_of s) f.ino)) these (λ f i at regular inside. inr (let z = long_enough f i regular in omega (arith, z)))
 
+  given_are : (n : ℕ) → is_given these n ≡ is_handed h n
+  given_are n = given_is s k lib b given after n ∙ sym (handed_is h n)
+
+  is_raw : (n : ℕ) → node_at (raw_nodes blocks these (nodes_of s)) n ≡ node_by after n (writer_of s' n) (row_at after n)
+  is_raw n = ap (λ (ns : Nodes). node_at ns n) (sym (refused_nodes s s' k k' whole lib h given closed e marked)) ∙ is n
+
   pub refused_makes : (why : Why) → Makes s (Release lib b) (Refused why) s' (raw_entry image lib h (refused_for why) after)
   refused_makes why = record {
     legal = record {
-      given = λ n. given_is s k lib b given after n ∙ sym (handed_is h n);
+      told = tells_these image after h (nodes_of s) blocks (writer_of s) (writer_of s') was is_raw given_are;
+      given = given_are;
       within = subst (λ (ns : Nodes). IsWithinGrants gs (creds_of s lib) lib (nodes_of s) ns) (refused_nodes s s' k k' whole lib h given closed e marked) within;
       judged = subst (λ (ns : Nodes). LegalVerdict (refused_for why) (nodes_of s) ns) (refused_nodes s s' k k' whole lib h given closed e marked) (judged why);
       known = known;

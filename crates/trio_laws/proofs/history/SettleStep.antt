@@ -1,6 +1,7 @@
 -- A step of a settle extends the history, where the calls that are told beside it are what the tree does.
 use Rattle.std.proofs.Common.{◌≡◌, ℕ, ◌+◌, Bool, true, false, ◌&&◌, ◌||◌, not, eqb, map, filter, sym, refl, ap, ◌∙◌, subst}
 use Rattle.std.specs.List.{list_all}
+use Rattle.std.specs.Option.{option_map_or}
 use Rattle.std.proofs.lemmas.Bool.{and_parts, eqb-true, false≢true}
 use Rattle.trio_lists.specs.Lists.{In, is_among}
 use Rattle.trio_rights.specs.Sheets.{sheet_numbers}
@@ -8,7 +9,7 @@ use Rattle.trio_state.specs.Bundles.{grants_after, has_all, is_in_bundle, lent_p
 use Rattle.trio_nodes.specs.GrantKinds.{is_hold, is_read, is_write}
 use Rattle.trio_state.specs.Kept.{Kept}
 use Rattle.trio_rights.specs.Bundle.{Bundle, is_written}
-use Rattle.trio_state.specs.State.{OpenGrant, State, settled, creds_of}
+use Rattle.trio_state.specs.State.{IsLibrary, OpenGrant, State, settled, creds_of}
 use Rattle.trio_state.specs.Step.{Settle, CtlAnswer, Does}
 use Rattle.trio_state.specs.Given.{GivenTo, HasNoRead}
 use Rattle.trio_state.specs.Allotments.{has_none_out, out_after}
@@ -19,11 +20,13 @@ use Rattle.trio_nodes.specs.declared.entry.Handed.{Handed}
 use Rattle.trio_nodes.specs.declared.entry.HandedFile.{HandedFile}
 use Rattle.trio_nodes.specs.Nodes.{Nodes}
 use Rattle.trio_nodes.specs.Legal.{IsWithinGrants}
+use Rattle.trio_nodes.specs.Libraries.{listed_creds}
 use Rattle.trio_lists.proofs.Filters.{filter-same, filter-map}
 use Rattle.trio_laws.proofs.history.AcceptedStep.{within}
 use Rattle.trio_lists.proofs.Members.{list_all-In, map-In}
 use Rattle.trio_nodes.specs.Standing.{Standing}
 use Rattle.trio_nodes.specs.After.{batch_nodes}
+use Rattle.trio_nodes.proofs.LibraryFacts.{batch_after}
 use Rattle.trio_laws.specs.history.Stands.{nodes_of, standing_of}
 use Rattle.trio_laws.specs.history.Entries.{Beside, bundle_handed}
 use Rattle.trio_laws.specs.history.Recorded.{LentWhole, IsMarked, BesideFits}
@@ -75,15 +78,15 @@ settle_within s s' k k' w lib b h is marked given accepted ends =
     let P : Bundle → Type 0 = λ c. GivenTo s lib c → is_accepted (settled s) (creds_of s lib) c ≡ true → Ends s lib c (next (settled s) c) s' → IsWithinGrants (map standing_of s.open_grants) (creds_of s lib) lib (nodes_of s) (nodes_of s') in
     subst P is (λ g a e. within s s' k k' w lib h g a e marked) given accepted ends
 
-pub settle_extends : (s s' : State) (k : Kept s) (k' : Kept s') (w : LentWhole s) (lib : ℕ) (b : Bundle) (given : GivenTo s lib b × HasNoRead s lib) (x : Beside) (answer : CtlAnswer) → Does s (Settle lib b) answer s' → BesideFits s x (Settle lib b) answer s' → Extends s x (Settle lib b) answer s'
-settle_extends s s' k k' w lib b given x answer d t =
+pub settle_extends : (s s' : State) (k : Kept s) (k' : Kept s') (w : LentWhole s) (lib : ℕ) (b : Bundle) (mine : IsLibrary s.creds lib) (given : GivenTo s lib b × HasNoRead s lib) (x : Beside) (answer : CtlAnswer) → Does s (Settle lib b) answer s' → BesideFits s x (Settle lib b) answer s' → Extends s x (Settle lib b) answer s'
+settle_extends s s' k k' w lib b mine given x answer d t =
     let W : Nodes → Type 0 = λ ns. IsWithinGrants (map standing_of s.open_grants) (creds_of s lib) lib (nodes_of s) ns in
     let whole : W (nodes_of s') = settle_within s s' k k' w lib b x.handed t.0 t.1 given.0 d.2 d.3 in
     let may : W (batch_nodes (creds_of s lib) x.calls (nodes_of s)) = subst W t.3 whole in
     let E : CtlAnswer → Type 0 = λ y. Extends s x (Settle lib b) y s' in
     subst E (sym d.0) (record {
       legal = record { done = t.2; reads = none_reads s lib b d.1 given.1; rights = may.rights; others = may.others };
-      comes = past_is s' (batch_nodes (creds_of s lib) x.calls (nodes_of s)) (filter (λ (g : Standing). not (eqb g.lib lib)) (map standing_of s.open_grants)) (s.entries + 1) t.3 (grants_end s lib b d.1 given.1 s' d.3.grants) d.3.entries;
+      comes = past_is s' (option_map_or (λ creds. batch_nodes creds x.calls (nodes_of s)) (listed_creds s.creds lib) (nodes_of s)) (filter (λ (g : Standing). not (eqb g.lib lib)) (map standing_of s.open_grants)) (s.entries + 1) (t.3 ∙ sym (batch_after s.creds lib x.calls (nodes_of s) mine)) (grants_end s lib b d.1 given.1 s' d.3.grants) d.3.entries;
       tells = ap (Settle lib) t.0;
       says = refl;
     })

@@ -4,6 +4,7 @@ use Rattle.std.proofs.Common.{◌≡◌, ◌≢◌, ℕ, Bool, true, false, not,
 use Rattle.std.specs.Prelude.{if◌then◌else◌}
 use Rattle.std.specs.Option.{ok_or, option_map}
 use Rattle.std.proofs.lemmas.Bool.{ne_eqb, false≢true}
+use Rattle.trio_rights.specs.Row.{Row}
 use Rattle.trio_rights.specs.declared.rights.Creds.{Creds}
 use Rattle.trio_rights.specs.declared.rights.Mode.{Mode}
 use Rattle.trio_rights.specs.declared.rights.Need.{Need}
@@ -23,9 +24,8 @@ use Rattle.trio_nodes.specs.Legal.{LegalChmod, is_owner}
 use Rattle.trio_nodes.specs.declared.answers.ModeFault.{ModeFault}
 use Rattle.trio_nodes.specs.declared.answers.ModeFault.TheVariants.{NotLive, NotOwner, BadMode, Busy, NoMemory as OutOfMemory}
 use Rattle.trio_lease.specs.Shown.{Shown}
-use Rattle.trio_desk.specs.Agrees.{Agrees}
 use Rattle.trio_desk.specs.Call.{DeskSeen}
-use Rattle.trio_desk.specs.Ready.{Moded, TellsChmod, chmod_walk, moded_in}
+use Rattle.trio_desk.specs.Ready.{ArePossible, Moded, TellsChmod, chmod_walk, moded_in}
 use Rattle.trio_state.specs.Kept.{Kept}
 use Rattle.trio_state.specs.State.{State, creds_of}
 use Rattle.trio_state.specs.Step.{CtlAnswer, ModeSet, NoMemory, NotModeSet, SetMode, Step}
@@ -206,15 +206,15 @@ module _ (s : State) (k : Kept s) (lib ino mode : ℕ) where
 
   -- a call that is the change, by the walk that the leases show, is replied as the answer says
   pub call_fits : (desk : DeskSeen) (back : List Shown) (call : Option Call) (answer : CtlAnswer) (s' : State) → Step s (SetMode lib ino mode) answer s' → desk.creds ≡ creds_of s lib
-      → Agrees desk.sizes desk.root (record { files = back; holds = [] }) (nodes_of s) → TellsChmod desk back ino mode call → CallFits s lib ino mode call answer
-  call_fits desk back None answer s' step same agrees tells = λ said e. tt
-  call_fits desk back (Some call) answer s' step same agrees tells = λ said e. by said e
+      → (rows : List (Option Row)) → ArePossible desk (record { writes = []; holds = []; pages = []; inodes = [] }) back (nodes_of s) rows → TellsChmod desk back ino mode call → CallFits s lib ino mode call answer
+  call_fits desk back None answer s' step same rows possible tells = λ said e. tt
+  call_fits desk back (Some call) answer s' step same rows possible tells = λ said e. by said e
     where
       tree : IsTree (nodes_of s)
       tree = states_are_trees s k
 
       w : chmod_walk (nodes_of s) (creds_of s lib) call ≡ Some (record { ino = ino; mode = mode })
-      w = subst (λ c. chmod_walk (nodes_of s) c call ≡ Some (record { ino = ino; mode = mode })) same (tells (nodes_of s) tree agrees)
+      w = subst (λ c. chmod_walk (nodes_of s) c call ≡ Some (record { ino = ino; mode = mode })) same (tells (nodes_of s) rows possible)
 
       by : (said : Result (Unit {0}) ModeFault) → answer ≡ mode_said said → LegalChmod (past_of s) (creds_of s lib) ino mode said (Some call)
       by (Ok done) e = chmod_done (nodes_of s) (creds_of s lib) ino mode call w (owner_done answer s' step e)

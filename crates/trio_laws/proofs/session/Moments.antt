@@ -1,5 +1,5 @@
 -- A moment at which what is handed in agrees with the state lasts through the steps of others, and through give backs.
-use Rattle.std.proofs.Common.{Bool, ◌≡◌, ℕ, ◌-◌, false, not, ◌&&◌, eqb, get_or, List, [], ◌∷◌, map, Option, Some, None, sym, refl, ap, ◌∙◌, subst, inl, inr}
+use Rattle.std.proofs.Common.{Bool, ◌≡◌, ℕ, false, not, ◌&&◌, eqb, List, [], ◌∷◌, map, Option, Some, None, sym, refl, ap, ◌∙◌, subst, inl, inr}
 use Rattle.std.proofs.lemmas.Bool.{and_right, not_from_false}
 use Rattle.trio_rights.specs.Row.{Row}
 use Rattle.trio_rights.specs.Bundle.{Bundle}
@@ -16,6 +16,7 @@ use Rattle.trio_nodes.specs.declared.grant.GrantKind.TheVariants.{Read}
 use Rattle.trio_nodes.specs.declared.answers.GrantFault.{GrantFault}
 use Rattle.trio_nodes.specs.declared.answers.ModeFault.{ModeFault}
 use Rattle.trio_nodes.specs.GrantKinds.{is_read}
+use Rattle.trio_nodes.specs.Libraries.{creds_in}
 use Rattle.trio_state.specs.Bundles.{Ends, parted_hold, refused_image}
 use Rattle.trio_state.specs.Given.{GivenTo, HasGrant}
 use Rattle.trio_state.specs.Grants.{given_back, grant_fault}
@@ -105,7 +106,7 @@ held_then s s' lib b j l h i w =
     }
 
 creds_then : (s s' : State) (lib : ℕ) → s'.creds ≡ s.creds → creds_of s lib ≡ creds_of s' lib
-creds_then s s' lib e = ap (λ (l : List Creds). get_or l (lib - 1) (record { uid = 0; gid = 0 })) (sym e)
+creds_then s s' lib e = ap (λ (l : List Creds). creds_in l lib) (sym e)
 
 pub moment_lasts : MomentLasts
 moment_lasts s event answer s' desk b back w given step apart stand m =

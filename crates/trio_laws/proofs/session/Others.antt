@@ -19,7 +19,9 @@ use Rattle.trio_nodes.specs.declared.entry.GrantAnswer.TheVariants.{Granted, Ref
 use Rattle.trio_nodes.specs.Nodes.{Nodes, node_at, is_in, entry_in}
 use Rattle.trio_nodes.specs.Standing.{Standing, stands_on, is_others, is_given, grants_after}
 use Rattle.trio_nodes.specs.GrantKinds.{same_kind}
-use Rattle.trio_nodes.specs.After.{batch_nodes, moded_node, moded_nodes, creds_in, bytes_in}
+use Rattle.trio_nodes.specs.After.{batch_nodes, moded_node, moded_nodes, bytes_in}
+use Rattle.trio_nodes.specs.Libraries.{creds_in}
+use Rattle.trio_nodes.proofs.LibraryFacts.{batch_either}
 use Rattle.trio_nodes.specs.Legal.{Past, past_after, LegalCalls, SameContent, HasRightsOf, HasPlaceOf, SparesOthers, IsWithinGrants, is_owner, parent_in, KeepsRights}
 use Rattle.trio_nodes.specs.Tree.{IsTree}
 use Rattle.trio_desk.specs.Contents.{Sizes, Rights, rights_of, rights_in, ShownEntry, entry_of_node}
@@ -316,7 +318,8 @@ agrees_is_stable libs p (Raw by verdict files bundle) lib sizes root lent t no_h
   all_stand p (Raw by verdict files bundle) lib other lent stand,
 )
 agrees_is_stable libs p (Batch by calls handed) lib sizes root lent t no_hold legal other stand a = (
-  batch_agrees p.nodes p.grants lib sizes root lent t stand a (creds_in libs by.0) by.0 calls other legal.done legal.rights legal.others,
+  batch_either (λ nodes. Agrees sizes root lent nodes) libs by.0 calls p.nodes a
+      (batch_agrees p.nodes p.grants lib sizes root lent t stand a (creds_in libs by.0) by.0 calls other legal.done legal.rights legal.others),
   all_stand p (Batch by calls handed) lib other lent stand,
 )
 agrees_is_stable libs p (ModeSet by ino mode (Err fault) call) lib sizes root lent t no_hold legal other stand a =

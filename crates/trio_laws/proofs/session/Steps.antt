@@ -94,20 +94,20 @@ module _ (s : State) (k : Kept s) where
 
     agrees_then : (event : Event) → GivenEvent s event → Step s event answer s' → (library_of event ≡ lib → ⊥) → Then
     agrees_then (Grant by ino kind) given step apart =
-        by_option (entry_of s (bare empty) (Grant by ino kind) answer) (Grant by ino kind) (step_extends s (bare empty) (Grant by ino kind) answer s' k w given step tt) apart
+        by_option (entry_of s (bare empty) (Grant by ino kind) answer) (Grant by ino kind) (step_extends s (bare empty) (Grant by ino kind) answer s' k w tt given step tt) apart
     agrees_then (Allot by pages numbers) given step apart =
-        by_option (entry_of s (bare empty) (Allot by pages numbers) answer) (Allot by pages numbers) (step_extends s (bare empty) (Allot by pages numbers) answer s' k w given step tt) apart
+        by_option (entry_of s (bare empty) (Allot by pages numbers) answer) (Allot by pages numbers) (step_extends s (bare empty) (Allot by pages numbers) answer s' k w tt given step tt) apart
     agrees_then (Back by ino) given step apart =
-        by_option (entry_of s (bare empty) (Back by ino) answer) (Back by ino) (step_extends s (bare empty) (Back by ino) answer s' k w given step tt) apart
+        by_option (entry_of s (bare empty) (Back by ino) answer) (Back by ino) (step_extends s (bare empty) (Back by ino) answer s' k w tt given step tt) apart
     agrees_then (Release by b) given step apart =
-        by_option (entry_of s (bare b) (Release by b) answer) (Release by b) (step_extends s (bare b) (Release by b) answer s' k w given step (bundle_back b, all_marked s by b)) apart
+        by_option (entry_of s (bare b) (Release by b) answer) (Release by b) (step_extends s (bare b) (Release by b) answer s' k w tt given step (bundle_back b, all_marked s by b)) apart
     agrees_then (Settle by b) given (inl does) apart =
         raw_agrees (nodes_of s) (map standing_of s.open_grants) lib sizes root leases (states_are_trees s k) stand a (creds_of s by) by (nodes_of s') apart no_hold
         (settle_within s s' k (step_kept s s' (Settle by b) answer k given (inl does)) w by b (all_touched b) (bundle_back b) (all_marked s by b) given.0 does.2 does.3)
     agrees_then (Settle by b) given (inr none) apart = same_nodes none.2
     agrees_then (SetMode by ino mode) given step apart =
         by_option (entry_of s (bare empty) (SetMode by ino mode) answer) (SetMode by ino mode)
-        (step_extends s (bare empty) (SetMode by ino mode) answer s' k w given step (λ said is. no_call s (creds_of s by) ino mode said)) apart
+        (step_extends s (bare empty) (SetMode by ino mode) answer s' k w tt given step (λ said is. no_call s (creds_of s by) ino mode said)) apart
 
 -- ---- grants
 
