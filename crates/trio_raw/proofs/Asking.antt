@@ -1,7 +1,8 @@
 -- What comes of an answer of the desk, by cases of it.
-use Rattle.std.proofs.Common.{◌≡◌, ℕ, true, false, eqb, not, List, [], ◌∷◌, ◌++◌, None, Some, refl, sym, ap, ◌∙◌, subst, inl, inr, Ok, Err}
-use Rattle.std.specs.Prelude.{Result, IfOk, OnOk, OnErr, is_some}
-use Rattle.std.proofs.lemmas.Bool.{eqb-true}
+use Rattle.std.proofs.Common.{◌≡◌, ℕ, ◌+◌, ◌<◌, ◌≤◌, leb, ltb, length, true, false, eqb, not, List, [], ◌∷◌, ◌++◌, None, Some, refl, sym, ap, ◌∙◌, subst, inl, inr, Ok, arith}
+use Rattle.std.specs.Prelude.{is_some}
+use Rattle.std.proofs.lemmas.Bool.{and_parts, eqb-true, ltb-true}
+use Rattle.std.proofs.lemmas.List.{length-map}
 use Rattle.std.specs.List.{filter, flat_map}
 use Rattle.trio_lists.specs.Lists.{In, are_new, is_among}
 use Rattle.trio_lists.proofs.Filters.{find-In}
@@ -16,14 +17,14 @@ use Rattle.trio_nodes.specs.declared.entry.AllotAnswer.TheVariants.{Given as Giv
 use Rattle.trio_lease.specs.declared.fresh.Allotted.{Allotted}
 use Rattle.trio_lease.specs.declared.parts.FreshParts.{FreshParts}
 use Rattle.trio_lease.specs.declared.parts.InoParts.{InoParts}
-use Rattle.trio_desk.specs.Contents.{Sizes}
-use Rattle.trio_desk.specs.Out.{LibOut, OutAlike, Parcel, IsClosed, IsFreshAllotment, ino_numbers, numbers_of_file, page_numbers, pages_out, with_allotted, without_reads}
+use Rattle.trio_desk.specs.Contents.{AreWithinLimits, Sizes}
+use Rattle.trio_desk.specs.Out.{AreRising, HasWanted, LibOut, OutAlike, Parcel, IsClosed, IsFreshAllotment, ino_numbers, numbers_of_file, page_numbers, pages_out, with_allotted, without_reads}
 use Rattle.trio_desk.specs.Call.{Given, NotJudged, TellsClosed}
 use Rattle.trio_raw.specs.Has.{Has, HasLeases, OnList, has_read, keeps_allotted, read_on, with_reads, without_read}
 use Rattle.trio_raw.specs.Asked.{AfterAllot}
 use Rattle.trio_raw.specs.inner.Stock.{with_given}
 use Rattle.trio_raw.proofs.Places.{found_among, without-same}
-use Rattle.trio_raw.proofs.Standing.{stands-allotted, stands-wider}
+use Rattle.trio_raw.proofs.Standing.{stands-allotted}
 
 -- where no lease is given back, all that is out stays so
 pub mode_alike : (out out' : LibOut) (back : List Shown) → back ≡ [] → OutAlike out' (without_reads out back) → OutAlike out' out
@@ -54,23 +55,49 @@ given_is lib sizes out has given fresh =
     same : {p p' : List FreshParts} {n n' : List InoParts} → p ≡ p' → n ≡ n' → ◌≡◌ {A = Has} (record has { pages = p; inodes = n }) (record has { pages = p'; inodes = n' })
     same x y = rw (x, y) refl
 
-pub allot_after : {E : Type 0} (lib : LibNo) (sizes : Sizes) (out : LibOut) (has has' : Has) (given : Allotted) (result : Result AllotAnswer E) → IsFreshAllotment lib sizes out given → IfOk result (λ answer. answer ≡ GivenAnswer (page_numbers given.pages.items) (ino_numbers given.inodes.items)) → OnOk result (has' ≡ with_given has given) → OnErr result (has' ≡ has) → AfterAllot lib has result has' (Given (page_numbers given.pages.items) (ino_numbers given.inodes.items))
-allot_after lib sizes out has has' given (Ok answer) fresh is added kept = inl (ap Ok is, added ∙ given_is lib sizes out has given fresh)
-allot_after lib sizes out has has' given (Err fault) fresh is added kept = inr (refl, kept)
+pub allot_after : {E : Type 0} (lib : LibNo) (sizes : Sizes) (out : LibOut) (has has' : Has) (given : Allotted) (answer : AllotAnswer) → IsFreshAllotment lib sizes out given → answer ≡ GivenAnswer (page_numbers given.pages.items) (ino_numbers given.inodes.items) → has' ≡ with_given has given → AfterAllot {E = E} lib has (Ok answer) has' (Given (page_numbers given.pages.items) (ino_numbers given.inodes.items))
+allot_after lib sizes out has has' given answer fresh is added = (ap Ok is, added ∙ given_is lib sizes out has given fresh)
 
-pub allot_stands : {E : Type 0} (lib : LibNo) (sizes : Sizes) (out : LibOut) (has has' : Has) (given : Allotted) (result : Result AllotAnswer E) → IsFreshAllotment lib sizes out given → OnOk result (has' ≡ with_given has given) → OnErr result (has' ≡ has) → OnList out has → OnList (with_allotted out (page_numbers given.pages.items) (ino_numbers given.inodes.items)) has'
-allot_stands lib sizes out has has' given (Ok answer) fresh added kept h =
+pub allot_stands : (lib : LibNo) (sizes : Sizes) (out : LibOut) (has has' : Has) (given : Allotted) → IsFreshAllotment lib sizes out given → has' ≡ with_given has given → OnList out has → OnList (with_allotted out (page_numbers given.pages.items) (ino_numbers given.inodes.items)) has'
+allot_stands lib sizes out has has' given fresh added h =
     subst (OnList (with_allotted out (page_numbers given.pages.items) (ino_numbers given.inodes.items))) (sym (added ∙ given_is lib sizes out has given fresh))
     (stands-allotted lib out has (page_numbers given.pages.items) (ino_numbers given.inodes.items) h (new_pages out (page_numbers given.pages.items) fresh.pages) fresh.numbers)
-allot_stands lib sizes out has has' given (Err fault) fresh added kept h =
-    subst (OnList (with_allotted out (page_numbers given.pages.items) (ino_numbers given.inodes.items))) (sym kept)
-    (stands-wider out has (page_numbers given.pages.items) (ino_numbers given.inodes.items) h)
 
-pub allot_leases : {E : Type 0} (out : LibOut) (has has' : Has) (given : Allotted) (result : Result AllotAnswer E) → OnOk result (has' ≡ with_given has given) → OnErr result (has' ≡ has) → HasLeases out has → HasLeases (with_allotted out (page_numbers given.pages.items) (ino_numbers given.inodes.items)) has'
-allot_leases out has has' given (Ok answer) added kept l =
+pub allot_leases : (out : LibOut) (has has' : Has) (given : Allotted) → has' ≡ with_given has given → HasLeases out has → HasLeases (with_allotted out (page_numbers given.pages.items) (ino_numbers given.inodes.items)) has'
+allot_leases out has has' given added l =
     subst (HasLeases (with_allotted out (page_numbers given.pages.items) (ino_numbers given.inodes.items))) (sym added) (record { writes = l.writes; holds = l.holds })
-allot_leases out has has' given (Err fault) added kept l =
-    subst (HasLeases (with_allotted out (page_numbers given.pages.items) (ino_numbers given.inodes.items))) (sym kept) (record { writes = l.writes; holds = l.holds })
+
+-- numbers that rise between two bounds are no more than there are between them
+rising_count : (ns : List ℕ) (low high : ℕ) → low ≤ high → AreRising ns → ((n : ℕ) → In n ns → (low ≤ n) × (n < high)) → low + length ns ≤ high
+rising_count [] low high fits rise within = omega (arith, fits)
+rising_count (n ∷ ns) low high fits rise within =
+    let here = within n (inl refl) in
+    let from = here.0 in
+    let to = here.1 in
+    let more =
+    rising_count ns (n + 1) high (omega (arith, to)) rise.1
+    (λ m i. (let above = rise.0 m i in let below = (within m (inr i)).1 in (omega (arith, above), below)))
+    in
+    omega (arith, more, from)
+
+-- no allotment has more pages than an image, nor more inode numbers
+pub few_pages : (lib : LibNo) (sizes : Sizes) (out : LibOut) (given : Allotted) (pages numbers : ℕ) → AreWithinLimits sizes → IsFreshAllotment lib sizes out given → HasWanted pages numbers given → (length given.pages.items ≤ pages) × (length given.pages.items ≤ 8192)
+few_pages lib sizes out given pages numbers limits fresh wanted =
+    let below : (n : ℕ) → In n (page_numbers given.pages.items) → n < sizes.range.end = λ n i. ltb-true n sizes.range.end (and_parts (leb sizes.range.first n) (ltb n sizes.range.end) (fresh.core n i)).1 in
+    let counted = rising_count (page_numbers given.pages.items) 0 sizes.range.end (omega arith) wanted.pages_rise (λ n i. (let b = below n i in (omega arith, b))) in
+    let many = length-map given.pages.items (λ (p : FreshParts). p.no.0) in
+    let asked = wanted.pages in
+    let most = limits.pages in
+    (omega (arith, asked), omega (arith, counted, many, most))
+
+pub few_numbers : (lib : LibNo) (sizes : Sizes) (out : LibOut) (given : Allotted) (pages numbers : ℕ) → AreWithinLimits sizes → IsFreshAllotment lib sizes out given → HasWanted pages numbers given → (length given.inodes.items ≤ numbers) × (length given.inodes.items ≤ 16384)
+few_numbers lib sizes out given pages numbers limits fresh wanted =
+    let counted = rising_count (ino_numbers given.inodes.items) 1 (sizes.inodes + 1) (omega arith) wanted.numbers_rise
+    (λ n i. (let from = (fresh.range n i).0 in let to = (fresh.range n i).1 in (omega (arith, from), omega (arith, to)))) in
+    let many = length-map given.inodes.items (λ (n : InoParts). n.no) in
+    let asked = wanted.numbers in
+    let most = limits.inodes in
+    (omega (arith, asked), omega (arith, counted, many, most))
 
 -- ---- read leases
 
@@ -89,11 +116,3 @@ pub read_there : (has : Has) (ino : ℕ) (lease : Shown) → read_on has ino ≡
 read_there has ino lease some =
     let r = find-In (λ (r : Shown). eqb r.ino ino) has.reads lease some in
     (r.0, eqb-true lease.ino ino r.1)
-
-pub ok_same : {X E : Type 0} (h a b : Has) (result : Result X E) → a ≡ b → OnOk result (h ≡ a) → OnOk result (h ≡ b)
-ok_same h a b (Ok x) e k = k ∙ e
-ok_same h a b (Err x) e k = tt
-
-pub err_same : {X E : Type 0} (h a b : Has) (result : Result X E) → a ≡ b → OnErr result (h ≡ a) → OnErr result (h ≡ b)
-err_same h a b (Ok x) e k = tt
-err_same h a b (Err x) e k = k ∙ e

@@ -42,12 +42,15 @@ IsRefusal (NoPages wanted free) result = result ≡ Ok (RefusedAnswer (NoPages w
 IsRefusal (NoInodes wanted free) result = result ≡ Ok (RefusedAnswer (NoInodes wanted free))
 IsRefusal NoAllotMemory result = IsErr result
 
--- After an allotment: all of it is kept; or all of it is let go for want of memory.
+-- after an allotment: all of it is kept
 abbrev pub AfterAllot : {E : Type 0} → LibNo → Has → Result AllotAnswer E → Has → Told → Type 0
-AfterAllot lib has result has' (Given pages numbers) =
-    ((result ≡ Ok (GivenAnswer pages numbers)) × (has' ≡ keeps_allotted lib has pages numbers)) ⊎ (IsErr result × (has' ≡ has))
+AfterAllot lib has result has' (Given pages numbers) = (result ≡ Ok (GivenAnswer pages numbers)) × (has' ≡ keeps_allotted lib has pages numbers)
 AfterAllot lib has result has' (NotGiven fault) = IsRefusal fault result × (has' ≡ has)
 AfterAllot lib has result has' told = ⊥
+
+-- no allotment was asked, for want of memory
+abbrev pub NoAllot : {E : Type 0} → Has → Result AllotAnswer E → Has → Type 0
+NoAllot has result has' = IsErr result × (has' ≡ has)
 
 -- after a read lease was given back: it is gone
 abbrev pub AfterBack : {E : Type 0} → Has → ℕ → Result Unit E → Has → Told → Type 0

@@ -1,14 +1,12 @@
 //! Lent things by their numbers.
 
-ghost use Rattle.std.specs.Prelude.{◌≡◌, ◌+◌, ◌==◌, ◌≤◌, ◌++◌, ◌&&◌, ◌||◌, ℕ, IfOk, IsTrue, [], length, map, vec_capacity, vec_len};
+ghost use Rattle.std.specs.Prelude.{◌≡◌, ◌+◌, ◌==◌, ◌≤◌, ◌++◌, ◌&&◌, ◌||◌, ℕ, IsTrue, [], length, map, vec_capacity, vec_len};
 ghost use Rattle.std.specs.List.{find, list_all, position};
 ghost use Rattle.std.specs.Option.{option_copied};
 ghost use Rattle.trio_lists.specs.Lists.{are_new, is_among};
 ghost use Rattle.trio_raw.specs.Has.{are_there, named, without, without_all};
 
-use std::alloc::Global;
 use trio_lease::{FreshIno, FreshPage, HoldLease, ReadLease, WriteLease};
-use trio_page::NoMemory;
 
 /// A lent thing that goes by a number.
 pub(crate) trait Lent {
@@ -104,15 +102,16 @@ fn has_one<T: Lent>(things: &[T], number: u32) -> bool
     thing_of(things, number).is_some()
 }
 
-/// The numbers of these things, in their order.
-pub(crate) fn numbers_of<T: Lent>(alloc: Global, things: &[T]) -> Result<Vec<u32>, NoMemory>
-    ensures { IfOk result (λ numbers. numbers.items ≡ map T.number_of things.now) }
+/// The numbers of these things, in their order, in an empty list that has room for them.
+pub(crate) fn numbers_of<T: Lent>(things: &[T], mut numbers: Vec<u32>) -> Vec<u32>
+    requires empty { vec_len numbers ≡ 0 }
+    requires room { length things.now ≤ vec_capacity numbers }
+    ensures { result.items ≡ map T.number_of things.now }
 {
-    let mut numbers = Vec::new(alloc);
     for thing in things {
-        numbers.push(thing.number())?;
+        numbers.push_reserved(thing.number());
     }
-    Ok(numbers)
+    numbers
 }
 
 /// Whether no number stands twice.

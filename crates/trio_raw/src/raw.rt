@@ -1,11 +1,11 @@
 //! A library over its desk.
 
-ghost use Rattle.std.specs.Prelude.{◌≡◌, ◌↔◌, [], Err, IfErr, IsErr, IsFalse, IsTrue, None, Ok, Some, if◌then◌else◌};
+ghost use Rattle.std.specs.Prelude.{◌≡◌, ◌↔◌, [], Err, IfErr, IsErr, IsFalse, IsTrue, None, Ok, OnErr, Some, if◌then◌else◌};
 ghost use Rattle.std.specs.Option.{option_copied};
 ghost use Rattle.trio_desk.specs.Out.{IsClosed, LibOut};
 ghost use Rattle.trio_desk.specs.Call.{Allot, Grant, Release, SetMode};
 ghost use Rattle.trio_desk.specs.Calls.{Calls, OneCall};
-ghost use Rattle.trio_raw.specs.Asked.{AfterAllot, AfterGrant, AfterMode, AfterRelease, Back, IsRefusal, NoGrant, NoRelease, end_calls, raw_fault};
+ghost use Rattle.trio_raw.specs.Asked.{AfterAllot, AfterGrant, AfterMode, AfterRelease, Back, IsRefusal, NoAllot, NoGrant, NoRelease, end_calls, raw_fault};
 ghost use Rattle.trio_raw.specs.Has.{HasLeases, OnList, has_all_of, has_nothing, has_read, nothing, parcel_named, peeked, poked, whole_parcel, with_reads};
 
 use crate::back::give_all_back;
@@ -18,6 +18,12 @@ use trio_nodes::{
 };
 use trio_page::{NoMemory, Reads};
 use trio_rights::LibNo;
+
+// no image has more pages than this
+const MOST_PAGES: u32 = 8192;
+
+// and none more inode numbers than this
+const MOST_INODES: u32 = 16384;
 
 /// The library has no read lease on the file.
 #[derive(Clone, Copy, Debug, PartialEq, Eq)]
@@ -106,9 +112,9 @@ impl Raw {
     /// Asks the desk for so many pages and inode numbers, and keeps what is given as the last ones of
     /// their kind. Returns the numbers that were given, or that more is wanted than is free.
     ///
-    /// After [`NoMemory`] the library has what it had. It comes where the desk has no memory, and
-    /// where there is none for what was given or for the answer: then the pages and numbers are let
-    /// go, and stay out for good.
+    /// [`NoMemory`] is the desk's. It also comes, without a call, where there is none for what is asked
+    /// and for the answer; of more than any image has, room is made for as much as an image has. After it
+    /// nothing has changed.
     pub fn allot<D: Desk>(
         &mut self,
         desk: &mut D,
@@ -117,14 +123,21 @@ impl Raw {
     ) -> Result<AllotAnswer, NoMemory>
         requires stands { OnList (D.seen desk.old).out self.old.has }
         ensures call { OneCall D.called desk.old (Allot pages inodes) desk.new
-            (AfterAllot (D.seen desk.old).lib self.old.has result self.new.has) ⊥ }
+            (AfterAllot (D.seen desk.old).lib self.old.has result self.new.has) (NoAllot self.old.has result self.new.has) }
+        ensures kept { OnErr result (self.new.has ≡ self.old.has) }
         ensures stands { OnList (D.seen desk.new).out self.new.has }
         ensures leases { HasLeases (D.seen desk.old).out self.old.has → HasLeases (D.seen desk.new).out self.new.has }
         ensures desk { (D.seen desk.new).lib ≡ (D.seen desk.old).lib }
         ensures lib { self.new.lib ≡ self.old.lib }
     {
+        let _creds = desk.creds();
+        let most_pages = pages.min(MOST_PAGES) as usize;
+        let most_inodes = inodes.min(MOST_INODES) as usize;
+        let numbers = self
+            .things
+            .reserve_allotted(self.alloc, most_pages, most_inodes)?;
         match desk.allot(pages, inodes) {
-            Ok(given) => self.things.add_allotted(self.alloc, given),
+            Ok(given) => Ok(self.things.add_allotted(given, numbers)),
             Err(fault) => refusal(fault),
         }
     }

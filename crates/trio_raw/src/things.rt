@@ -1,12 +1,12 @@
 //! Lent things, kept.
 
-ghost use Rattle.std.specs.Prelude.{◌≡◌, ◌∷◌, ◌++◌, ◌+◌, [], IfOk, IfSome, IsFalse, IsNone, IsTrue, None, OnErr, OnOk, Some, if◌then◌else◌};
+ghost use Rattle.std.specs.Prelude.{◌≡◌, ◌∷◌, ◌++◌, ◌+◌, [], IfOk, IfSome, IsFalse, IsNone, IsTrue, None, OnErr, OnOk, Some, length, if◌then◌else◌};
 ghost use Rattle.std.specs.Option.{option_copied};
 ghost use Rattle.trio_nodes.specs.declared.entry.AllotAnswer.TheVariants.{Given};
 ghost use Rattle.trio_desk.specs.Out.{ino_numbers, page_numbers, parcel_of};
 ghost use Rattle.trio_raw.specs.Asked.{children_in};
 ghost use Rattle.trio_raw.specs.Has.{bytes_at, has_all_of, has_nothing, keeps_lease, nothing, parcel_named, peeked, poked, poked_block, poked_body, poked_fresh, poked_index, read_on, rest_of, whole_parcel, with_file, with_fresh, with_parcel, with_reads, without_read};
-ghost use Rattle.trio_raw.specs.inner.Stock.{HasPlaceFor, HasRoomFor, HasSpare, with_given};
+ghost use Rattle.trio_raw.specs.inner.Stock.{HasNumbersFor, HasPlaceFor, HasPlacesFor, HasRoomFor, HasSpare, with_given};
 
 use crate::lent::{
     append_all, have_all, have_either, let_go_all, move_all, numbers_of, place_of, take_one,
@@ -43,6 +43,15 @@ impl Model for Things {
       has = record { writes = t.writes.items; reads = t.reads.items; holds = t.holds.items; pages = t.pages.items; inodes = t.inodes.items };
       room = record { writes = vec_capacity t.writes; reads = vec_capacity t.reads; holds = vec_capacity t.holds; pages = vec_capacity t.pages; inodes = vec_capacity t.inodes };
     } };
+}
+
+/// Lists for the numbers of allotted pages and inodes, as a library is answered.
+#[derive(Drop)]
+pub(crate) struct Numbers {
+    /// Of pages.
+    pub pages: Vec<u32>,
+    /// Of inodes.
+    pub inodes: Vec<u32>,
 }
 
 impl Things {
@@ -92,32 +101,39 @@ impl Things {
         }
     }
 
-    /// Adds what an allotment gave, as the last pages and numbers. Returns their numbers.
-    ///
-    /// With [`NoMemory`] all that was given is let go, and nothing has changed.
-    pub(crate) fn add_allotted(
+    /// Makes room for so many more pages and inode numbers. Returns lists with room for as many of their
+    /// numbers. After [`NoMemory`] too nothing else has changed.
+    pub(crate) fn reserve_allotted(
         &mut self,
         alloc: Global,
-        given: Allotted,
-    ) -> Result<AllotAnswer, NoMemory>
-        ensures answer { IfOk result (λ answer. answer ≡ Given (page_numbers given.pages.items) (ino_numbers given.inodes.items)) }
-        ensures added { OnOk result (self.new.has ≡ with_given self.old.has given) }
-        ensures kept { OnErr result (self.new.has ≡ self.old.has) }
+        pages: usize,
+        inodes: usize,
+    ) -> Result<Numbers, NoMemory>
+        ensures kept { self.new.has ≡ self.old.has }
+        ensures places { OnOk result (HasPlacesFor self.new pages inodes) }
+        ensures numbers { IfOk result (λ numbers. HasNumbersFor numbers pages inodes) }
     {
-        let Ok(answer) = answer_of(alloc, &given) else {
-            given.discard();
-            return Err(NoMemory);
+        self.pages.reserve(pages)?;
+        self.inodes.reserve(inodes)?;
+        numbers_for(alloc, pages, inodes)
+    }
+
+    /// Adds what an allotment gave, as the last pages and numbers, for which there is room. Returns their
+    /// numbers. It takes no memory.
+    pub(crate) fn add_allotted(&mut self, given: Allotted, numbers: Numbers) -> AllotAnswer
+        requires places { HasPlacesFor self.old (length given.pages.items) (length given.inodes.items) }
+        requires numbers { HasNumbersFor numbers (length given.pages.items) (length given.inodes.items) }
+        ensures answer { result ≡ Given (page_numbers given.pages.items) (ino_numbers given.inodes.items) }
+        ensures added { self.new.has ≡ with_given self.old.has given }
+    {
+        let answer = AllotAnswer::Given {
+            pages: List::from_vec(numbers_of(&given.pages, numbers.pages)),
+            inodes: List::from_vec(numbers_of(&given.inodes, numbers.inodes)),
         };
-        if self.pages.reserve(given.pages.len()).is_err()
-            || self.inodes.reserve(given.inodes.len()).is_err()
-        {
-            given.discard();
-            return Err(NoMemory);
-        }
         let Allotted { pages, inodes } = given;
         append_all(pages, &mut self.pages);
         append_all(inodes, &mut self.inodes);
-        Ok(answer)
+        answer
     }
 
     /// Writes these bytes at a spot, from an offset on. `false` exactly where there is no such write
@@ -336,16 +352,17 @@ impl Things {
     }
 }
 
-/// The answer to an allotment that gave this.
-fn answer_of(alloc: Global, given: &Allotted) -> Result<AllotAnswer, NoMemory>
-    ensures { IfOk result (λ answer. answer ≡ Given (page_numbers given.now.pages.items) (ino_numbers given.now.inodes.items)) }
+/// Empty lists with room for the numbers of so many pages and inodes.
+fn numbers_for(alloc: Global, pages: usize, inodes: usize) -> Result<Numbers, NoMemory>
+    ensures { IfOk result (λ numbers. HasNumbersFor numbers pages inodes) }
 {
-    let pages = numbers_of(alloc, &given.pages)?;
-    let inodes = numbers_of(alloc, &given.inodes)?;
-    Ok(AllotAnswer::Given {
-        pages: List::from_vec(pages),
-        inodes: List::from_vec(inodes),
-    })
+    let mut numbers = Numbers {
+        pages: Vec::new(alloc),
+        inodes: Vec::new(alloc),
+    };
+    numbers.pages.reserve(pages)?;
+    numbers.inodes.reserve(inodes)?;
+    Ok(numbers)
 }
 
 /// The parts of a bundle that has nothing, with room for so many leases and as many holds, pages and

@@ -1,6 +1,10 @@
-use Rattle.std.proofs.Common.{◌≡◌, map, take}
+use Rattle.std.proofs.Common.{◌≡◌, ◌≤◌, length, map, take, vec_capacity, vec_len}
 use Rattle.trio_raw.proofs.lent.numbers_of.Given as goal
 
--- the numbers so far
+-- the numbers so far, and room for the others
 abbrev pub invariant-loop-thing : goal.invariant-loop-thing
-invariant-loop-thing g l = l.numbers.items ≡ map g.T.Lent.number_of (take l.thing-index l.things)
+invariant-loop-thing g l = record {
+  so_far : l.numbers.items ≡ map g.T.Lent.number_of (take l.thing-index l.things);
+  count : vec_len l.numbers ≡ l.thing-index;
+  room : length l.things ≤ vec_capacity l.numbers;
+}
