@@ -28,7 +28,7 @@ use Rattle.trio_walk.specs.declared.outcome.Outcome.TheVariants.{Replied}
 use Rattle.trio_calls_dir.specs.declared.calls.TryEnd.{TryEnd}
 use Rattle.trio_calls_dir.specs.declared.calls.TryEnd.TheVariants.{NoMemory as LacksMemory, Replied as IsRepliedTry}
 use Rattle.trio_calls_dir.specs.Chmods.{EndsHandedIn, EndsModed, LeavesBy, NamesOther, hand_in_ask, mode_ask}
-use Rattle.trio_calls_dir.specs.inner.Chmods.{IsUnset}
+use Rattle.trio_calls_dir.specs.inner.Chmods.{ComesBack, IsRetold, IsUnset, RefusesSo}
 use Rattle.trio_calls_dir.specs.inner.Goes.{IsRefusedAs, SameDesk}
 use Rattle.trio_calls_dir.specs.inner.Tries.{try_end}
 use Rattle.trio_calls_dir.proofs.Alike.{may_alike}
@@ -131,6 +131,19 @@ module _ {D : Type 0} (called : D → Ask → Told → D → Type 0) (seen : D �
 
     unset_as : (end : TryEnd) → IsUnset back fault end → IsUnset (call_back (Some call) refused.0) refused.0 end
     unset_as end u = subst (λ b. IsUnset b refused.0 end) refused.1.back_is (subst (λ k. IsUnset back k end) refused.1.fault_is u)
+
+    -- by its cause, Busy or want of memory
+    pub comes_back : RefusesSo (seen d) ino mode → ComesBack back fault
+    comes_back so =
+        let f : ModeFault = refused.0 in
+        subst (λ b. ComesBack b fault) (sym refused.1.back_is) (subst (λ k. ComesBack (call_back (Some call) f) k) (sym refused.1.fault_is) (by f (so f refused.1.tells.cause)))
+      where
+        by : (f : ModeFault) → IsRetold f → ComesBack (call_back (Some call) f) f
+        by (BusyMode holder) r = tt
+        by NoModeMemory r = tt
+        by NotLive r = absurd r
+        by NotOwner r = absurd r
+        by BadMode r = absurd r
 
     pub set_refused : (end : TryEnd) → IsUnset back fault end → IsOn (seen d) s → HasReadsAlone s → Modes (try_end end)
     set_refused end u on alone = by refused.0 refused.1 (unset_as end u)

@@ -1,5 +1,5 @@
 -- One try of a change of mode, from its search on.
-use Rattle.std.proofs.Common.{◌≡◌, ◌≢◌, ℕ, ◌<◌, ◌≤◌, false, cond, arith, List, [], ◌∷◌, ◌++◌, Option, Some, sym, refl, ap, ◌∙◌, subst, inl, inr}
+use Rattle.std.proofs.Common.{◌≡◌, ◌≢◌, ℕ, ◌<◌, ◌≤◌, false, cond, arith, List, [], ◌∷◌, ◌++◌, Option, sym, refl, ap, ◌∙◌, subst, inl, inr}
 use Rattle.std.specs.Prelude.{map}
 use Rattle.std.proofs.lemmas.List.{append-nil, map-append}
 use Rattle.trio_lists.specs.Lists.{In}
@@ -23,7 +23,9 @@ use Rattle.trio_nodes.specs.After.{batch_nodes, lacks_room}
 use Rattle.trio_desk.specs.Call.{Ask, DeskSeen, Grant, Told, NotLent, NotSettled, Settled}
 use Rattle.trio_desk.specs.Calls as desk_calls
 use Rattle.trio_desk.specs.Calls.{Calls, OneCall, Made, NotMade}
+use Rattle.trio_desk.specs.Out.{Parcel}
 use Rattle.trio_desk.specs.Ready.{ArePossible, IsChmod}
+use Rattle.trio_desk.specs.Refusals.{HasModeCause, HasMoment}
 use Rattle.trio_session.specs.Seen.{HasReadsAlone, SessionSeen, emptied}
 use Rattle.trio_edit_laws.specs.Calls.{MayCall}
 use Rattle.trio_walk.specs.declared.walks.WalkEnd.{WalkEnd}
@@ -33,8 +35,8 @@ use Rattle.trio_walk.specs.Walks.{AreAsked, EndsBy, InAllShown, MayWalk, Walked,
 use Rattle.trio_walk.specs.Asks.{IsAlike, TryEnds, grant_ask}
 use Rattle.trio_walk.specs.declared.outcome.Outcome.{Outcome}
 use Rattle.trio_walk.specs.declared.outcome.Outcome.TheVariants.{Replied, Busy, NoMemory}
-use Rattle.trio_walk.proofs.Possible.{lib_same}
-use Rattle.trio_calls_dir.specs.Chmods.{AsksSo, BreaksOff, ChmodTried, Comes, ComesSo, EndsAs, EndsDenied, EndsHandedIn, EndsModed, HandsIn, HasModeCause, HasMoment, LeavesBy, NamesOther, SetsMode, StandsOnTree, TriedSo, chmod_needs, hand_in_ask, lent_to, mode_ask}
+use Rattle.trio_walk.proofs.Possible.{lib_same, moment_possible}
+use Rattle.trio_calls_dir.specs.Chmods.{AsksSo, BreaksOff, ChmodTried, Comes, ComesSo, EndsAs, EndsDenied, EndsHandedIn, EndsModed, HandsIn, LeavesBy, NamesOther, SetsMode, TriedSo, chmod_needs, hand_in_ask, lent_to, mode_ask}
 use Rattle.trio_calls_dir.specs.inner.Chmods.{Finds, IsRetold, RefusesSo, TriesCall, comes_of}
 use Rattle.trio_calls_dir.specs.inner.Goes.{IsRefusal, IsRefusedAs, SameDesk}
 use Rattle.trio_calls_dir.specs.inner.Tries.{HasNothing, try_end}
@@ -46,21 +48,8 @@ use Rattle.trio_calls_dir.proofs.Others.{nothing_own}
 use Rattle.trio_calls_dir.proofs.Then.{asks_lent, calls_then, given_all, possible_then}
 use Rattle.trio_calls_dir.proofs.Walked.{way_alike}
 use Rattle.trio_calls_dir.proofs.ChmodsFaults.{comes_live, comes_owned}
-use Rattle.trio_calls_dir.proofs.ChmodsMoments.{any_possible, moment_possible, rows_for}
-use Rattle.trio_calls_dir.proofs.ChmodsReads.{reads_alone}
 
--- ---- the condition goes on
-
--- a desk that stands on a tree does so after whatever is called
-pub stands_then : {D : Type 0} (called : D → Ask → Told → D → Type 0) (seen : D → DeskSeen) (d d1 : D) (calls : List desk_calls.Call) → Calls called d calls d1 → StandsOnTree called seen d → StandsOnTree called seen d1
-stands_then called seen d d1 calls made t = record {
-  moments = λ cs d2 c. t.moments (calls ++ cs) d2 (calls_then called d d1 d2 calls cs made c);
-  modes = λ cs d2 d3 ino mode back call fault c told. t.modes (calls ++ cs) d2 d3 ino mode back call fault (calls_then called d d1 d2 calls cs made c) told;
-}
-
-pub stands_one : {D : Type 0} (called : D → Ask → Told → D → Type 0) (seen : D → DeskSeen) (d d1 : D) (ask : Ask) (Then : Told → Type 0) (Alone : Type 0) → OneCall called d ask d1 Then Alone → StandsOnTree called seen d → StandsOnTree called seen d1
-stands_one called seen d d1 ask Then Alone (Made told made then) t = stands_then called seen d d1 (record { ask = ask; told = told } ∷ []) (d1, made, refl) t
-stands_one called seen d d1 ask Then Alone (NotMade same alone) t = subst (StandsOnTree called seen) (sym same) t
+-- ---- the session
 
 -- the session stays the library's
 pub lib_kept : (desk desk1 desk' : DeskSeen) (s s' : SessionSeen) → MayCall desk s → MayCall desk' s' → desk1.lib ≡ desk.lib → desk'.lib ≡ desk1.lib → s'.lib ≡ s.lib
@@ -146,8 +135,8 @@ handed_others lib reply Settled end e = subst (NamesOther lib) (sym e) tt
 handed_others lib reply NotSettled end e = subst (NamesOther lib) (sym e) tt
 handed_others lib reply told end e = absurd e
 
-module _ {D : Type 0} (called : D → Ask → Told → D → Type 0) (seen : D → DeskSeen) (d : D) (s : SessionSeen) (path : Path) (mode : Mode) (may : MayCall (seen d) s) (none : HasNothing s) (tree : StandsOnTree called seen d)
-    (end : WalkEnd) (d1 : D) (s1 : SessionSeen) (w : Walked called seen d s (Finds (seen d1) s path mode end) end d1 s1) (walks : MayWalk (seen d1) s1) where
+module _ {D : Type 0} (called : D → Ask → Told → D → Type 0) (seen : D → DeskSeen) (d : D) (s : SessionSeen) (path : Path) (mode : Mode) (may : MayCall (seen d) s) (none : HasNothing s)
+    (end : WalkEnd) (d1 : D) (s1 : SessionSeen) (w : Walked called seen d s (Finds (seen d1) s path mode end) end d1 s1) (walks : MayWalk (seen d1) s1) (alone : HasReadsAlone s1) where
   abbrev given : List desk_calls.Call
   given = map lent_call w.more
 
@@ -156,12 +145,6 @@ module _ {D : Type 0} (called : D → Ask → Told → D → Type 0) (seen : D �
 
   alike : IsAlike all s1
   alike = way_alike called seen d s w.more w.last d1 s1 may w.way walks
-
-  pub moment : HasMoment (seen d1)
-  moment = tree.moments (given ++ w.last) d1 w.way.made
-
-  pub alone : HasReadsAlone s1
-  alone = reads_alone called seen d s path mode end d1 s1 w moment walks.on none
 
   -- what is true of it
   pub finds : (nodes : Nodes) (rows : List (Option Row)) → ArePossible (seen d1) s1.parcel s1.reads nodes rows → Finds (seen d1) s path mode end (map need_of w.more ++ w.need) nodes
@@ -270,15 +253,13 @@ module _ {D : Type 0} (called : D → Ask → Told → D → Type 0) (seen : D �
   so_at : (ino : ℕ) → end ≡ At ino → (nodes : Nodes) (rows : List (Option Row)) → ArePossible (seen d1) s1.parcel s1.reads nodes rows → ComesSo nodes (seen d1).creds path mode (SetsMode ino)
   so_at ino is nodes rows p = subst (λ x. ComesSo nodes (seen d1).creds path mode (comes_of x)) is (finds nodes rows p).so
 
-  -- whatever nodes agree with the read leases, the walk comes to this file
+  -- on whatever nodes are possible with the read leases alone, the walk comes to this file
   pub is_chmod : (ino : ℕ) → end ≡ At ino → IsChmod (seen d1) s1.reads ino mode.0 (Chmod path mode)
-  is_chmod ino is nodes whole agrees =
-      (so_at ino is nodes (rows_for moment.rows nodes)
-      (any_possible (seen d1) s1.parcel s1.reads alone.parcel moment.nodes moment.rows (moment_possible (seen d1) s1 walks.on moment) nodes whole agrees)).1
+  is_chmod ino is nodes rows p = (so_at ino is nodes rows (subst (λ (b : Parcel). ArePossible (seen d1) b s1.reads nodes rows) (sym alone.parcel) p)).1
 
   -- the tree does the call: so nothing but Busy and want of memory refuses it
-  pub refuses_so : (ino : ℕ) → end ≡ At ino → mode.0 ≤ 511 → RefusesSo called d1 s1 ino mode (Chmod path mode)
-  refuses_so ino is fits d' fault told = by fault (tree.modes (given ++ w.last) d1 d' ino mode.0 s1.reads (Some (Chmod path mode)) fault w.way.made told)
+  pub refuses_so : (ino : ℕ) → end ≡ At ino → mode.0 ≤ 511 → RefusesSo (seen d1) ino mode
+  refuses_so ino is fits fault cause = by fault cause
     where
       so : (m : HasMoment (seen d1)) → ComesSo m.nodes (seen d1).creds path mode (SetsMode ino)
       so m = so_at ino is m.nodes m.rows (moment_possible (seen d1) s1 walks.on m)
@@ -295,9 +276,6 @@ module _ {D : Type 0} (called : D → Ask → Told → D → Type 0) (seen : D �
   refused_does reply is refusal nodes rows p =
       let now : Nodes = batch_nodes (seen d1).creds s1.calls nodes in
       refused_as (seen d1) now path mode reply refusal (subst (λ x. ComesSo now (seen d1).creds path mode (comes_of x)) is (w.shown nodes rows p).so)
-
-  pub stands_here : StandsOnTree called seen d1
-  stands_here = stands_then called seen d d1 (given ++ w.last) w.way.made tree
 
   -- ---- the whole try
 

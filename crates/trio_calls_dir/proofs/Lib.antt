@@ -1,4 +1,5 @@
 mod Given
+mod CallKinds
 mod Alike
 pub mod Then
 mod Noted
@@ -30,7 +31,6 @@ mod MakesTree
 mod MakesFill
 mod MakesRoom
 mod MakesWalk
-mod ChmodsMoments
 mod ChmodsFinds
 mod ChmodsReads
 mod ChmodsFaults

@@ -43,7 +43,7 @@ use Rattle.trio_walk.specs.declared.outcome.Outcome.TheVariants.{Replied, Busy}
 use Rattle.trio_walk.specs.Asks.{allot_asks, grant_ask, noted}
 use Rattle.trio_walk.specs.Needs.{Needed, asked}
 use Rattle.trio_walk.specs.Walks.{HasMet, InAllShown, IsMet, MayTake, RightsAre, Took, Walked, Way, gives_met, lent_call, need_of, one_need, served_by}
-use Rattle.trio_walk.proofs.Possible.{cause_possible}
+use Rattle.trio_walk.proofs.Possible.{moment_possible}
 use Rattle.trio_calls_dir.specs.declared.replies.Replied as replied
 use Rattle.trio_calls_dir.specs.declared.stops.Stop.{Stop}
 use Rattle.trio_calls_dir.specs.declared.stops.Stop.TheVariants.{Busy as IsBusy, NoMemory as LacksMemory}
@@ -261,12 +261,12 @@ module _ {D : Type 0} (called : D → Ask → Told → D → Type 0) (seen : D �
 pub busy_at : {D : Type 0} (called : D → Ask → Told → D → Type 0) (seen : D → DeskSeen) (d : D) (s : SessionSeen) (m : Met) → MayCall (seen d) s → (d1 : D) (s1 : SessionSeen) (holder : Holder)
     → Took called seen d s m Read (Err (IsBusyWalk holder)) d1 s1 → BusyAt (seen d) s m.ino (Busy holder)
 busy_at called seen d s m may d1 s1 holder t mine =
-    let cause = t.taken.3 in
+    let moment = t.taken.3.moment in
     record {
       busy = t.way.others m.ino Read holder (subst (λ l. In (record { ask = Grant m.ino Read; told = NotLent (BusyGrant holder) }) l) (sym t.taken.1) (inl refl)) mine;
-      nodes = cause.nodes;
-      rows = cause.rows;
-      possible = cause_possible (seen d) s m.ino Read (BusyGrant holder) may.edits.on cause;
+      nodes = moment.nodes;
+      rows = moment.rows;
+      possible = moment_possible (seen d) s may.edits.on moment;
     }
 
 module _ {D : Type 0} (called : D → Ask → Told → D → Type 0) (seen : D → DeskSeen) (d : D) (s : SessionSeen) (path : Path) (from : ℕ) (m : Met) (may : MayCall (seen d) s) (comes : ComesHere (seen d) s path m.ino)

@@ -11,7 +11,7 @@ use Rattle.trio_edit_laws.specs.Calls.{MayCall}
 use Rattle.trio_walk.specs.Asks.{Again, GivesUp, IsUnsettled, LeftOut, Settles}
 use Rattle.trio_walk.specs.declared.outcome.Outcome.{Outcome}
 use Rattle.trio_walk.specs.declared.outcome.Outcome.TheVariants.{Busy as IsBusy}
-use Rattle.trio_calls_dir.specs.Asks.{DirCalled, DirTried}
+use Rattle.trio_calls_dir.specs.Asks.{EntryCalled, DirTried}
 use Rattle.trio_calls_dir.specs.inner.Tries.{Ends, Gives, HasNothing, Leaves, TriedAgain}
 use Rattle.trio_calls_dir.proofs.Given.{begins_to_call, may_now}
 
@@ -77,7 +77,7 @@ nothing_after called d s d' s' t = record {
 
 -- a second try makes the call
 pub called_again : {D : Type 0} (called : D → Ask → Told → D → Type 0) (seen : D → DeskSeen) (d d1 d2 d' : D) (s s1 s2 s' : SessionSeen) (call : Call) (holder : Holder) (end : Outcome)
-    → s1.lib ≡ s.lib → DirTried called seen call d s (IsBusy holder) d1 s1 → Settles called d1 s1 d2 s2 → TriedAgain called seen d2 s2 call end d' s' → DirCalled called seen d s call end d' s'
+    → s1.lib ≡ s.lib → DirTried called seen call d s (IsBusy holder) d1 s1 → Settles called d1 s1 d2 s2 → TriedAgain called seen d2 s2 call end d' s' → EntryCalled called seen d s call end d' s'
 called_again called seen d d1 d2 d' s s1 s2 s' call holder end lib first settle (Ends quiet tried) = Again holder d1 d2 s1 s2 quiet first settle tried
 called_again called seen d d1 d2 d' s s1 s2 s' call holder end lib first settle (Gives last d3 s3 is other tried settles) =
     GivesUp holder last d1 d2 d3 s1 s2 s3 is (λ e. other (e ∙ sym lib ∙ sym (ap (λ (x : SessionSeen). x.lib) settle.empty))) first settle tried settles

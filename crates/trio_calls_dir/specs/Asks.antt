@@ -1,4 +1,4 @@
--- The calls of the desk that one call on a directory makes, and how it ends: Mkdir, Create, Unlink, Rmdir, Rename and List.
+-- The calls of the desk that one call on a directory's entries makes, and how it ends: Mkdir, Create, Unlink, Rmdir, Rename and List.
 use Rattle.std.specs.Prelude.{◌≡◌, ◌≤◌, ℕ, ◌+◌, ◌==◌, Bool, IsTrue, List, [], ◌∷◌, ◌++◌, map, length, is_some, unwrap_or, Option, None, Some, Ok, if◌then◌else◌}
 use Rattle.std.specs.Option.{option_map, option_map_or, option_or}
 use Rattle.trio_rights.specs.declared.kind.Kind.{Kind}
@@ -28,14 +28,14 @@ use Rattle.trio_walk.specs.declared.outcome.Outcome.TheVariants.{Replied}
 -- ---- the condition
 
 -- it makes a file, of a mode of nine bits; or it removes or renames one, or lists names
-abbrev pub IsDirCall : Call → Type 0
-IsDirCall (Mkdir path mode) = mode.0 ≤ 511
-IsDirCall (Create path mode) = mode.0 ≤ 511
-IsDirCall (Unlink path) = Unit {0}
-IsDirCall (Rmdir path) = Unit {0}
-IsDirCall (Rename from to) = Unit {0}
-IsDirCall (ListNames path from) = Unit {0}
-IsDirCall call = ⊥
+abbrev pub IsEntryCall : Call → Type 0
+IsEntryCall (Mkdir path mode) = mode.0 ≤ 511
+IsEntryCall (Create path mode) = mode.0 ≤ 511
+IsEntryCall (Unlink path) = Unit {0}
+IsEntryCall (Rmdir path) = Unit {0}
+IsEntryCall (Rename from to) = Unit {0}
+IsEntryCall (ListNames path from) = Unit {0}
+IsEntryCall call = ⊥
 
 -- ---- what is needed
 
@@ -206,6 +206,6 @@ abbrev pub DirTried : {D : Type 0} (called : D → Ask → Told → D → Type 0
 DirTried called seen call d s end d' s' =
     (t : Target) × Tried called seen d s (Leaves s.creds call t end) (TriedIn (seen d').creds s call end t) end d' s'
 
--- A call on a directory.
-abbrev pub DirCalled : {D : Type 0} (called : D → Ask → Told → D → Type 0) (seen : D → DeskSeen) → D → SessionSeen → Call → Outcome → D → SessionSeen → Type 0
-DirCalled called seen d s call end d' s' = Called called (DirTried called seen call) d s end d' s'
+-- A call on a directory's entries.
+abbrev pub EntryCalled : {D : Type 0} (called : D → Ask → Told → D → Type 0) (seen : D → DeskSeen) → D → SessionSeen → Call → Outcome → D → SessionSeen → Type 0
+EntryCalled called seen d s call end d' s' = Called called (DirTried called seen call) d s end d' s'

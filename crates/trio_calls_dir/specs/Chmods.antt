@@ -1,68 +1,29 @@
 -- The calls of the desk that one Chmod makes, and how it ends.
-use Rattle.std.specs.Prelude.{◌≡◌, ◌≢◌, ◌⊎◌, ℕ, ◌<◌, Bool, IsFalse, List, [], ◌∷◌, ◌++◌, map, Option, None, Some, if◌then◌else◌}
+use Rattle.std.specs.Prelude.{◌≡◌, ◌≢◌, ◌⊎◌, ℕ, Bool, IsFalse, List, [], ◌∷◌, ◌++◌, map, Option, Some, if◌then◌else◌}
 use Rattle.trio_rights.specs.Row.{Row}
 use Rattle.trio_rights.specs.declared.rights.Creds.{Creds}
 use Rattle.trio_rights.specs.declared.rights.LibNo.{LibNo}
 use Rattle.trio_rights.specs.declared.rights.Mode.{Mode}
 use Rattle.trio_lists.specs.Lists.{In}
-use Rattle.trio_lease.specs.Shown.{Shown}
-use Rattle.trio_nodes.specs.declared.answers.ModeFault.{ModeFault}
-use Rattle.trio_nodes.specs.declared.answers.ModeFault.TheVariants.{NotLive, NotOwner, BadMode, Busy as BusyMode, NoMemory as NoModeMemory}
+use Rattle.trio_nodes.specs.declared.answers.ModeFault.TheVariants.{Busy as BusyMode, NoMemory as NoModeMemory}
 use Rattle.trio_nodes.specs.declared.call.Answer.TheVariants.{Done as IsDone}
 use Rattle.trio_nodes.specs.declared.call.Call.{Call}
 use Rattle.trio_nodes.specs.declared.call.Call.TheVariants.{Chmod}
 use Rattle.trio_nodes.specs.declared.call.Reply.{Reply}
 use Rattle.trio_nodes.specs.declared.call.Reply.TheVariants.{Ok as IsReplied, Denied}
-use Rattle.trio_nodes.specs.Nodes.{Nodes, node_at}
+use Rattle.trio_nodes.specs.Nodes.{Nodes}
 use Rattle.trio_nodes.specs.Walk.{Path, dir_of, is_root}
 use Rattle.trio_nodes.specs.Apply.{applied, is_done, refused}
-use Rattle.trio_nodes.specs.Legal.{is_owner}
-use Rattle.trio_nodes.specs.Tree.{IsTree}
-use Rattle.trio_desk.specs.Agrees.{Agrees, HasPlaces, SaySame}
 use Rattle.trio_desk.specs.Call.{Ask, DeskSeen, SetMode, Settle, Told, ModeSet, NotModeSet, NotSettled, Settled}
 use Rattle.trio_desk.specs.Calls as desk_calls
 use Rattle.trio_desk.specs.Calls.{Calls}
 use Rattle.trio_desk.specs.Ready.{ArePossible, chmod_walk}
-use Rattle.trio_desk.specs.Refusals.{leases_out}
 use Rattle.trio_session.specs.Seen.{SessionSeen, emptied}
 use Rattle.trio_walk.specs.Needs.{Needed, asked, into_needs}
 use Rattle.trio_walk.specs.Walks.{served_by, shows_root}
 use Rattle.trio_walk.specs.Asks.{Called, IsAlike, IsGiven, IsRootDenied, IsUnsettled, Settles, TryEnds, grant_ask, took}
 use Rattle.trio_walk.specs.declared.outcome.Outcome.{Outcome}
 use Rattle.trio_walk.specs.declared.outcome.Outcome.TheVariants.{Replied, Busy, NoMemory}
-
--- ---- the condition
-
--- The nodes of a moment, with their rows: one tree that agrees with all that is out to the library, and has none of the allotted numbers.
-pub record HasMoment (desk : DeskSeen) : Type 0 where
-  pub nodes : Nodes
-  pub rows : List (Option Row)
-  pub tree : IsTree nodes
-  pub agrees : Agrees desk.sizes desk.root (leases_out desk.out) nodes
-  pub none : (n : ℕ) → In n desk.out.numbers → node_at nodes n ≡ None
-  pub same : SaySame rows nodes
-  pub places : HasPlaces desk.sizes (leases_out desk.out) rows
-
--- The cause for which a change of mode is refused is true of these nodes: the file isn't live; it is the root, or the library acts neither
--- for its owner nor for uid 0; the mode is above 0o777. Busy and want of memory say nothing of the nodes.
-abbrev pub IsModeCause : Nodes → Creds → ℕ → ℕ → ModeFault → Type 0
-IsModeCause nodes creds ino mode NotLive = node_at nodes ino ≡ None
-IsModeCause nodes creds ino mode NotOwner = IsFalse (is_owner creds ino (node_at nodes ino))
-IsModeCause nodes creds ino mode BadMode = 511 < mode
-IsModeCause nodes creds ino mode fault = Unit {0}
-
--- so it is of the nodes of the moment
-pub record HasModeCause (desk : DeskSeen) (ino mode : ℕ) (fault : ModeFault) : Type 0 where
-  pub moment : HasMoment desk
-  pub cause : IsModeCause moment.nodes desk.creds ino mode fault
-
--- From here on, whatever is called, the desk stands on a tree: at each moment there are nodes that agree with all that is out, and the
--- cause of a refused change of mode is true of them.
-pub record StandsOnTree {D : Type 0} (called : D → Ask → Told → D → Type 0) (seen : D → DeskSeen) (d : D) : Type 0 where
-  pub moments : (calls : List desk_calls.Call) (d1 : D) → Calls called d calls d1 → HasMoment (seen d1)
-  pub modes :
-      (calls : List desk_calls.Call) (d1 d2 : D) (ino mode : ℕ) (back : List Shown) (call : Option Call) (fault : ModeFault)
-      → Calls called d calls d1 → called d1 (SetMode ino mode back call) (NotModeSet fault) d2 → HasModeCause (seen d1) ino mode fault
 
 -- ---- what is needed
 

@@ -1,3 +1,4 @@
 pub mod Asks
 pub mod Chmods
+pub mod Dir
 pub mod inner

@@ -2,10 +2,12 @@
 
 ghost use Rattle.std.specs.Prelude.{◌≡◌, IfErr, IfOk};
 ghost use Rattle.trio_edit_laws.specs.Calls.{MayCall};
-ghost use Rattle.trio_calls_dir.specs.Asks.{DirCalled, DirTried, IsDirCall};
+ghost use Rattle.trio_calls_dir.specs.Asks.{DirTried, EntryCalled, IsEntryCall};
+ghost use Rattle.trio_calls_dir.specs.Dir.{DirCalled, IsDirCall};
 ghost use Rattle.trio_calls_dir.specs.inner.Goes.{IsNames, IsOfDir};
 ghost use Rattle.trio_calls_dir.specs.inner.Tries.{BusyIsOthers, HasNothing, IsBack, TriedAgain, try_end};
 
+use crate::chmods::chmod;
 use crate::replies::{Replied, reply_to};
 use crate::stops::Stop;
 use std::alloc::Global;
@@ -25,15 +27,29 @@ pub(crate) enum TryEnd {
     NoMemory,
 }
 
-/// Makes a call on a directory: makes, removes or renames a file, or lists names.
-///
-/// It takes all its leases, then its memory, then its allotment, and then changes bytes. Where the
-/// desk answers that one is busy the session settles, and the call is tried once more.
+/// Makes a call on a directory or on a mode: makes, removes or renames a file, lists names, or changes
+/// a file's mode. A mode in it is at most `0o777`.
 pub fn dir_call<D: Desk>(alloc: Global, session: &mut Session, desk: &mut D, call: Call) -> Outcome
     requires may { MayCall (D.seen desk.old) session.old }
     requires dir { IsDirCall call }
     ensures may { MayCall (D.seen desk.new) session.new }
     ensures called { DirCalled D.called D.seen desk.old session.old call result desk.new session.new }
+{
+    match call {
+        Call::Chmod { path, mode } => chmod(alloc, session, desk, path, mode),
+        call => entry_call(alloc, session, desk, call),
+    }
+}
+
+/// Makes a call on a directory's entries: makes, removes or renames a file, or lists names.
+///
+/// It takes all its leases, then its memory, then its allotment, and then changes bytes. Where the
+/// desk answers that one is busy the session settles, and the call is tried once more.
+fn entry_call<D: Desk>(alloc: Global, session: &mut Session, desk: &mut D, call: Call) -> Outcome
+    requires may { MayCall (D.seen desk.old) session.old }
+    requires entry { IsEntryCall call }
+    ensures may { MayCall (D.seen desk.new) session.new }
+    ensures called { EntryCalled D.called D.seen desk.old session.old call result desk.new session.new }
 {
     match attempt(alloc, session, desk, call) {
         TryEnd::Replied(reply) => Outcome::Replied(reply),
@@ -48,7 +64,7 @@ pub fn dir_call<D: Desk>(alloc: Global, session: &mut Session, desk: &mut D, cal
 // one more try, of a session that has nothing; after Busy it settles
 fn attempt_again<D: Desk>(alloc: Global, session: &mut Session, desk: &mut D, call: Call) -> Outcome
     requires may { MayCall (D.seen desk.old) session.old }
-    requires dir { IsDirCall call }
+    requires entry { IsEntryCall call }
     requires empty { HasNothing session.old }
     ensures may { MayCall (D.seen desk.new) session.new }
     ensures again { TriedAgain D.called D.seen desk.old session.old call result desk.new session.new }
@@ -66,7 +82,7 @@ fn attempt_again<D: Desk>(alloc: Global, session: &mut Session, desk: &mut D, ca
 // one try: the reply is noted with the call and with the number of the file that it made
 fn attempt<D: Desk>(alloc: Global, session: &mut Session, desk: &mut D, call: Call) -> TryEnd
     requires may { MayCall (D.seen desk.old) session.old }
-    requires dir { IsDirCall call }
+    requires entry { IsEntryCall call }
     ensures may { MayCall (D.seen desk.new) session.new }
     ensures tried { DirTried D.called D.seen call desk.old session.old (try_end result) desk.new session.new }
     ensures back { IsBack call result }

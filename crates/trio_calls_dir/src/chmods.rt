@@ -8,7 +8,7 @@ ghost use Rattle.trio_session.specs.Seen.{HasReadsAlone};
 ghost use Rattle.trio_edit_laws.specs.Calls.{MayCall};
 ghost use Rattle.trio_walk.specs.Asks.{Called, IsAlike};
 ghost use Rattle.trio_walk.specs.Walks.{InAllShown, Walked};
-ghost use Rattle.trio_calls_dir.specs.Chmods.{ChmodCalled, EndsHandedIn, EndsModed, LeavesBy, NamesOther, StandsOnTree, hand_in_ask, mode_ask};
+ghost use Rattle.trio_calls_dir.specs.Chmods.{ChmodCalled, EndsHandedIn, EndsModed, LeavesBy, NamesOther, hand_in_ask, mode_ask};
 ghost use Rattle.trio_calls_dir.specs.inner.Chmods.{ComesBack, Finds, IsChmodCall, IsUnset, RefusesBy, RefusesSo, TriesAgain, TriesCall, owner_met};
 ghost use Rattle.trio_calls_dir.specs.inner.Goes.{IsRefusal, IsRefusedAs, SameDesk};
 ghost use Rattle.trio_calls_dir.specs.inner.Tries.{HasNothing, IsBack, try_end};
@@ -32,10 +32,9 @@ use trio_walk::{Met, Outcome, WalkEnd, look_up, reach_into};
 /// The session is empty after a reply and after Busy. After want of memory it is as it was, or has
 /// nothing where it settled, beside the leases that the desk gave after that.
 ///
-/// The mode is at most `0o777`, and the desk stands on a tree: what it lends and why it refuses a
-/// change of mode is true of some nodes at each moment. So it refuses none but by Busy or for want of
-/// memory.
-pub fn chmod<D: Desk>(
+/// The mode is at most `0o777`. The desk refuses a change of mode only for a cause that is true of the
+/// tree at its moment, and what the leases show rules all of them out but Busy and want of memory.
+pub(crate) fn chmod<D: Desk>(
     alloc: Global,
     session: &mut Session,
     desk: &mut D,
@@ -44,7 +43,6 @@ pub fn chmod<D: Desk>(
 ) -> Outcome
     requires may { MayCall (D.seen desk.old) session.old }
     requires mode { mode.0 ≤ 511 }
-    requires tree { StandsOnTree D.called D.seen desk.old }
     ensures may { MayCall (D.seen desk.new) session.new }
     ensures called { ChmodCalled D.called D.seen desk.old session.old path mode result desk.new session.new }
 {
@@ -59,7 +57,6 @@ fn chmod_settled<D: Desk>(alloc: Global, session: &mut Session, desk: &mut D, ca
     requires may { MayCall (D.seen desk.old) session.old }
     requires chmod { IsChmodCall call }
     requires empty { HasNothing session.old }
-    requires tree { StandsOnTree D.called D.seen desk.old }
     ensures may { MayCall (D.seen desk.new) session.new }
     ensures called { Called D.called (TriesCall D.called D.seen call) desk.old session.old result desk.new session.new }
 {
@@ -78,7 +75,6 @@ fn attempt_again<D: Desk>(alloc: Global, session: &mut Session, desk: &mut D, ca
     requires may { MayCall (D.seen desk.old) session.old }
     requires chmod { IsChmodCall call }
     requires empty { HasNothing session.old }
-    requires tree { StandsOnTree D.called D.seen desk.old }
     ensures may { MayCall (D.seen desk.new) session.new }
     ensures again { TriesAgain D.called (TriesCall D.called D.seen call) desk.old session.old result desk.new session.new }
 {
@@ -97,12 +93,10 @@ fn attempt<D: Desk>(alloc: Global, session: &mut Session, desk: &mut D, call: Ca
     requires may { MayCall (D.seen desk.old) session.old }
     requires chmod { IsChmodCall call }
     requires empty { HasNothing session.old }
-    requires tree { StandsOnTree D.called D.seen desk.old }
     ensures may { MayCall (D.seen desk.new) session.new }
     ensures tried { TriesCall D.called D.seen call desk.old session.old (try_end result) desk.new session.new }
     ensures back { IsBack call result }
     ensures lib { session.new.lib ≡ session.old.lib }
-    ensures tree { StandsOnTree D.called D.seen desk.new }
 {
     match &call {
         Call::Chmod { path, mode } => match owned_file(alloc, session, desk, path) {
@@ -123,7 +117,7 @@ fn set<D: Desk>(session: &mut Session, desk: &mut D, ino: u32, mode: Mode, call:
     requires may { MayCall (D.seen desk.old) session.old }
     requires alone { HasReadsAlone session.old }
     requires chmod { IsChmod (D.seen desk.old) session.old.reads ino mode.0 call }
-    requires refuses { RefusesSo D.called desk.old session.old ino mode call }
+    requires refuses { RefusesSo (D.seen desk.old) ino mode }
     ensures may { MayCall (D.seen desk.new) session.new }
     ensures asked { OneCall D.called desk.old (mode_ask session.old ino mode call) desk.new
         (λ told. EndsModed told (try_end result) × LeavesBy session.old (try_end result) session.new × NamesOther session.old.lib (try_end result)) ⊥ }
@@ -198,6 +192,7 @@ fn owned_file<D: Desk>(alloc: Global, session: &mut Session, desk: &mut D, path:
     ensures may { MayCall (D.seen desk.new) session.new }
     ensures found { (mode : AnyMode) → Walked D.called D.seen desk.old session.old (Finds (D.seen desk.new) session.old path.now mode result) result desk.new session.new }
     ensures refusal { RefusesBy result }
+    ensures alone { HasNothing session.old → HasReadsAlone session.new }
 {
     if is_root(path) {
         return WalkEnd::Reply(Reply::Denied);

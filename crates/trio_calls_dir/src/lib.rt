@@ -3,7 +3,7 @@
 //! [`dir_call`] makes an empty file or directory, removes a file or an empty directory by its name,
 //! gives a file another name, in its directory or in another, or lists the names of a directory,
 //! over what its session has; `specs/Asks.antt` says which calls of the desk that makes, and how it
-//! ends. [`chmod`] changes a mode; `specs/Chmods.antt` says the same of that.
+//! ends. It changes a mode too; `specs/Chmods.antt` says the same of that.
 #![tactic(auto)]
 
 mod calls;
@@ -18,4 +18,3 @@ mod rooms;
 mod stops;
 
 pub use calls::dir_call;
-pub use chmods::chmod;

@@ -3,7 +3,7 @@
 ghost use Rattle.std.specs.Prelude.{◌≡◌, ◌<◌, IfOk, MatchResult, length};
 ghost use Rattle.trio_edit_laws.specs.Calls.{MayCall};
 ghost use Rattle.trio_walk.specs.Walks.{IsStopped, shows_root};
-ghost use Rattle.trio_calls_dir.specs.Asks.{IsDirCall, dir_needs};
+ghost use Rattle.trio_calls_dir.specs.Asks.{IsEntryCall, dir_needs};
 ghost use Rattle.trio_calls_dir.specs.inner.Goes.{Goes, OthersHold, StopsBy, number_made, try_ends};
 ghost use Rattle.trio_calls_dir.specs.inner.Tries.{HasNothing};
 
@@ -37,7 +37,7 @@ pub(crate) fn reply_to<D: Desk>(
     call: &Call,
 ) -> Result<Replied, Stop>
     requires may { MayCall (D.seen desk.old) session.old }
-    requires dir { IsDirCall call.now }
+    requires entry { IsEntryCall call.now }
     ensures goes { Goes D.called D.seen desk.old session.old call.now (λ now. dir_needs now (D.seen desk.new).creds (shows_root session.old) call.now) (try_ends result) (number_made result) desk.new session.new }
     ensures others { HasNothing session.old → OthersHold session.old.lib (try_ends result) }
 {

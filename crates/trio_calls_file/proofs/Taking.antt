@@ -17,7 +17,7 @@ use Rattle.trio_walk.specs.declared.walks.WalkEnd.TheVariants.{At, Reply as IsRe
 use Rattle.trio_walk.specs.Asks.{TryEnds, grant_ask}
 use Rattle.trio_walk.specs.Needs.{Needed}
 use Rattle.trio_walk.specs.Walks.{EndsBy, Took, lent_call, need_of, one_need}
-use Rattle.trio_walk.proofs.Possible.{cause_possible}
+use Rattle.trio_walk.proofs.Possible.{moment_possible}
 use Rattle.trio_calls_file.specs.declared.files.Stop.TheVariants.{Busy as IsBusy, NoMemory as LacksMemory}
 use Rattle.trio_calls_file.specs.inner.Goes.{TookFile, one_ask}
 use Rattle.trio_calls_file.proofs.Walked.{asks_lent, walked_went}
@@ -58,7 +58,7 @@ module _ {D : Type 0} (called : D → Ask → Told → D → Type 0) (seen : D �
 
   pub took_busy : (holder : Holder) → Took called seen d s m kind (Err (IsBusyWalk holder)) d1 s1 → TookFile called seen d s m kind (Err (IsBusy holder)) d1 s1
   took_busy holder t =
-      let cause = t.taken.3 in
+      let moment = t.taken.3.moment in
       record {
         given = map lent_call t.more;
         last = t.last;
@@ -69,9 +69,9 @@ module _ {D : Type 0} (called : D → Ask → Told → D → Type 0) (seen : D �
           sym (one_asked s m.ino kind) ∙ ap (map grant_ask) t.taken.2,
           λ mine. record {
             busy = t.way.others m.ino kind holder (subst (λ l. In (record { ask = Grant m.ino kind; told = NotLent (BusyGrant holder) }) l) (sym t.taken.1) (inl refl)) mine;
-            nodes = cause.nodes;
-            rows = cause.rows;
-            possible = cause_possible (seen d) s m.ino kind (BusyGrant holder) may.edits.on cause;
+            nodes = moment.nodes;
+            rows = moment.rows;
+            possible = moment_possible (seen d) s may.edits.on moment;
           },
         );
       }

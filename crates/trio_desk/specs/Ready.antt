@@ -118,10 +118,12 @@ pub record AreLent (out : LibOut) (back : List Shown) : Type 0 where
   pub are_out : (f : Shown) → In f back → In f out.reads
   pub once : IsTrue (are_new [] (map (λ f. f.ino) back))
 
--- On all nodes that agree with the leases the call's walk comes to this file, and the call is a change of its mode to this one.
+-- On all nodes that are possible with these read leases alone the call's walk comes to this file, and the call is a change of its mode
+-- to this one.
 abbrev pub IsChmod : DeskSeen → List Shown → ℕ → ℕ → Call → Type 0
 IsChmod desk back ino mode call =
-    (nodes : Nodes) → IsTree nodes → Agrees desk.sizes desk.root (record { files = back; holds = [] }) nodes
+    (nodes : Nodes) (rows : List (Option Row))
+    → ArePossible desk (record { writes = []; holds = []; pages = []; inodes = [] }) back nodes rows
     → chmod_walk nodes desk.creds call ≡ Some (record { ino = ino; mode = mode })
 
 -- a call that is handed in with a change of mode is that change, by the walk that the read leases handed back show

@@ -90,7 +90,7 @@ pub trait Desk {
     /// in. A call that is handed in is a chmod of this file to this mode, which these leases show.
     ///
     /// After a fault the leases come back. So does the call after `Busy` and `NoMemory`; after another
-    /// fault it stands in the history.
+    /// fault it stands in the history. The cause of a fault is true of the tree at its moment.
     fn set_mode(
         &mut self,
         ino: u32,
@@ -103,6 +103,7 @@ pub trait Desk {
         ensures called { called self.old (SetMode ino mode back.items call) (mode_told result (λ came. came.2)) self.new }
         ensures seen { SeenAfter (seen self.old) (SetMode ino mode back.items call) (mode_told result (λ came. came.2)) (seen self.new) }
         ensures holder { TellsHolder (seen self.old).lib (seen self.old).out (SetMode ino mode back.items call) (mode_told result (λ came. came.2)) }
+        ensures cause { TellsCause (seen self.old) (SetMode ino mode back.items call) (mode_told result (λ came. came.2)) }
         ensures leases { IfErr result (λ came. came.0 ≡ back) }
         ensures call { IfErr result (λ came. came.1 ≡ call_back call came.2) };
 }

@@ -326,7 +326,7 @@ pub unused_granted : (d : DeskSeen) (s : SessionSeen) (ino : ℕ) (lease : Lease
     → ((i : ℕ) (f : LentFile) → slice_get s.parcel.writes i ≡ Some f → HasLent f) → IsUnused s.reads s.parcel ino
 unused_granted d s ino lease on fresh cause same = record {
   allotted = λ i.
-      let none = cause.none ino ((on.out.numbers ino).1 i) in
+      let none = cause.moment.none ino ((on.out.numbers ino).1 i) in
       absurd (let t : None ≡ Some (file_kind lease) = sym (ap (option_map (λ (x : Node). x.kind)) none) ∙ cause.kind in cc t);
   written = λ i. fresh.new (file_out s.parcel d.out ino on.out.writes same i);
   read = λ i.

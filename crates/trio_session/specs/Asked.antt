@@ -107,6 +107,7 @@ AfterSettle s result s' told = ⊥
 pub record TellsMode (desk : DeskSeen) (ino mode : ℕ) (back : List Shown) (call : Call) (told : Told) (desk' : DeskSeen) : Type 0 where
   pub seen : SeenAfter desk (SetMode ino mode back (Some call)) told desk'
   pub holder : TellsHolder desk.lib desk.out (SetMode ino mode back (Some call)) told
+  pub cause : TellsCause desk (SetMode ino mode back (Some call)) told
 
 -- after a change of mode: the session is empty; or all is as before, and the call comes back where none stands in the history
 abbrev pub AfterMode : SessionSeen → Call → Result Unit (Option Call × ModeFault) → SessionSeen → Told → Type 0

@@ -13,6 +13,9 @@ use Rattle.trio_rights.specs.declared.rights.Need.{Need}
 use Rattle.trio_rights.specs.declared.rights.Need.TheVariants.{Read as ToRead, Write as ToWrite}
 use Rattle.trio_lists.specs.Lists.{In}
 use Rattle.trio_lists.proofs.Filters.{some_one}
+use Rattle.trio_lists.proofs.Members.{In-left, In-map}
+use Rattle.trio_lease.specs.declared.lease.Lease.{Lease}
+use Rattle.trio_lease.specs.declared.lease.Lease.TheVariants.{Write as WriteLease, Read as ReadLease, Hold as HoldLease}
 use Rattle.trio_nodes.specs.declared.node.Node.{Node}
 use Rattle.trio_nodes.specs.declared.grant.GrantKind.{GrantKind}
 use Rattle.trio_nodes.specs.declared.grant.GrantKind.TheVariants.{Read, Write, Hold}
@@ -26,15 +29,17 @@ use Rattle.trio_nodes.specs.After.{batch_nodes}
 use Rattle.trio_desk.specs.Call.{Ask, DeskSeen, Grant, NotLent, Told}
 use Rattle.trio_desk.specs.Calls.{Call}
 use Rattle.trio_desk.specs.Contents.{Rights, rights_of}
+use Rattle.trio_desk.specs.Out.{kind_lent}
 use Rattle.trio_desk.specs.Ready.{ArePossible}
 use Rattle.trio_desk.specs.Refusals.{HasCause}
+use Rattle.trio_session.specs.Asked.{with_lease}
 use Rattle.trio_session.specs.Seen.{SessionSeen, kind_shown, serves}
 use Rattle.trio_walk.specs.declared.met.Met.{Met}
 use Rattle.trio_walk.specs.declared.met.Rights as shown_rights
 use Rattle.trio_walk.specs.declared.walks.WalkEnd.{WalkEnd}
 use Rattle.trio_walk.specs.declared.walks.WalkEnd.TheVariants.{At, Reply, Busy, NoMemory}
 use Rattle.trio_walk.specs.Needs.{Needed, asked, entered_needs, kind_for}
-use Rattle.trio_walk.specs.Walks.{EndsBy, HasMet, IsMet, IsMetIn, MayTake, MayWalk, Took, Way, denies, gives_met, need_of, one_need, served_by}
+use Rattle.trio_walk.specs.Walks.{EndsBy, HasMet, IsMet, IsMetIn, MayTake, MayWalk, TakenAs, Took, Way, denies, gives_met, need_of, one_need, served_by, with_leases}
 use Rattle.trio_walk.specs.inner.Steps.{Entered, Enters, body_refuses, here}
 use Rattle.trio_walk.proofs.Denials.{reads_too}
 use Rattle.trio_walk.proofs.Looking.{rights_now, tree_now}
@@ -121,6 +126,39 @@ gives_reading creds ToWrite y dir l = by (permits creds y.kind y.mode y.uid y.gi
         let writes : permits creds Directory y.mode y.uid y.gid ToWrite ≡ true = ap (λ k. permits creds k y.mode y.uid y.gid ToWrite) (sym dir) ∙ e in
         ap (λ k. not (permits creds k y.mode y.uid y.gid ToRead)) dir ∙ ap not (reads_too creds y.mode y.uid y.gid writes)
 
+-- ---- what is taken for reading
+
+-- read leases leave the parcel
+leave_parcel : (s : SessionSeen) (more : List Lease) → ((l : Lease) → In l more → kind_lent l ≡ Read) → (with_leases s more).parcel ≡ s.parcel
+leave_parcel s [] reads = refl
+leave_parcel s (ReadLease f ∷ more) reads = leave_parcel (with_lease s (ReadLease f)) more (λ l i. reads l (inr i))
+leave_parcel s (WriteLease f ∷ more) reads = absurd (let wrong : Write ≡ Read = reads (WriteLease f) (inl refl) in cc wrong)
+leave_parcel s (HoldLease h ∷ more) reads = absurd (let wrong : Hold ≡ Read = reads (HoldLease h) (inl refl) in cc wrong)
+
+-- and so does a file that is taken for reading
+took_reading : {D : Type 0} (called : D → Ask → Told → D → Type 0) (seen : D → DeskSeen) (d : D) (s : SessionSeen) (m : Met) (kind : GrantKind) (result : Result Bool WalkEnd) (d' : D) (s' : SessionSeen)
+    → kind ≡ Read → Took called seen d s m kind result d' s' → s'.parcel ≡ s.parcel
+took_reading called seen d s m kind result d' s' is k = ap (λ (q : SessionSeen). q.parcel) k.way.took.same ∙ leave_parcel s k.more (of result k.taken)
+  where
+    needed : (l : Lease) → In (need_of l) (one_need s m.ino kind) → kind_lent l ≡ Read
+    needed l i = by (serves s m.ino kind) i
+      where
+        by : (b : Bool) → In (need_of l) (cond b [] (record { ino = m.ino; kind = kind } ∷ [])) → kind_lent l ≡ Read
+        by true j = absurd j
+        by false (inl e) = ap (λ (n : Needed). n.kind) e ∙ is
+        by false (inr j) = absurd j
+
+    of : (r : Result Bool WalkEnd) → TakenAs (seen d) s m kind k.more k.last r s' → (l : Lease) → In l k.more → kind_lent l ≡ Read
+    of (Ok true) t l i = needed l (subst (λ q. In (need_of l) q) (sym t.1) (In-map need_of l k.more i))
+    of (Ok false) t l i = absurd (subst (λ q. In l q) t.0 i)
+    of (Err (Busy h)) t l i = absurd (subst (λ q. In l q) t.0 i)
+    of (Err NoMemory) t l i =
+        needed l (subst (λ q. In (need_of l) q) (sym t.3) (In-left (need_of l) (map need_of k.more ++ t.0) t.1 (In-left (need_of l) (map need_of k.more) t.0 (In-map need_of l k.more i))))
+    of (Err (At n)) t l i = absurd t
+    of (Err (Reply r)) t l i = absurd t
+
+-- ---- entering
+
 module _ {D : Type 0} (called : D → Ask → Told → D → Type 0) (seen : D → DeskSeen) (d : D) (s : SessionSeen) (m : Met) (need : Need) (may : MayWalk (seen d) s) (met : HasMet (seen d) s m) where
   -- nothing was done
   stood : Way called seen d s [] [] d s
@@ -135,6 +173,7 @@ module _ {D : Type 0} (called : D → Ask → Told → D → Type 0) (seen : D �
     may = may;
     ends = (tt, inl (refl, refl));
     has = tt;
+    reading = λ e. refl;
     busy = λ n kind holder i. absurd i;
     enters = λ shown nodes rows p t. not_directory need shown s nodes (batch_nodes (seen d).creds s.calls nodes) (seen d).creds m t s k;
   }
@@ -148,6 +187,7 @@ module _ {D : Type 0} (called : D → Ask → Told → D → Type 0) (seen : D �
     may = may;
     ends = (tt, inl (refl, refl));
     has = tt;
+    reading = λ e. refl;
     busy = λ n kind holder i. absurd i;
     enters = λ shown nodes rows p t.
         let now : Nodes = batch_nodes (seen d).creds s.calls nodes in
@@ -216,6 +256,7 @@ module _ {D : Type 0} (called : D → Ask → Told → D → Type 0) (seen : D �
                 elim (t.live) [ inl made ↦ inl made | inr l ↦ inr l.above ];
           },
         );
+        reading = λ e. took_reading called seen d s m (kind_for need) (Ok true) d' s' (ap kind_for e) k;
         busy = λ n kind holder i. absurd (subst (λ l. In {X = Call} (record { ask = Grant n kind; told = NotLent (BusyGrant holder) }) l) k.taken.0 i);
         enters = λ shown nodes rows p t. (
           enter_dir need shown s' nodes (batch_nodes (seen d').creds s'.calls nodes) (seen d').creds m t s dir false (permits_it shown nodes rows p t),
@@ -240,6 +281,7 @@ module _ {D : Type 0} (called : D → Ask → Told → D → Type 0) (seen : D �
         may = k.may;
         ends = (tt, inl (k.taken.0, refl));
         has = tt;
+        reading = λ e. took_reading called seen d s m (kind_for need) (Ok true) d' s' (ap kind_for e) k;
         busy = λ n kind holder i. absurd (subst (λ l. In {X = Call} (record { ask = Grant n kind; told = NotLent (BusyGrant holder) }) l) k.taken.0 i);
         enters = λ shown nodes rows p t. (
           enter_dir need shown s' nodes (batch_nodes (seen d').creds s'.calls nodes) (seen d').creds m t s dir true (lacks_by true e shown nodes rows p t),
@@ -264,6 +306,7 @@ module _ {D : Type 0} (called : D → Ask → Told → D → Type 0) (seen : D �
             may = k.may;
             ends = (tt, inr (kind_for need, refl, k.taken.1, refl));
             has = tt;
+            reading = λ e. took_reading called seen d s m (kind_for need) (Ok false) d' s' (ap kind_for e) k;
             busy = λ n kind holder i. absurd (not_busy n kind holder (subst (λ l. In {X = Call} (record { ask = Grant n kind; told = NotLent (BusyGrant holder) }) l) k.taken.1 i));
             enters = λ shown nodes rows p t.
                 let now : Nodes = batch_nodes (seen d').creds s'.calls nodes in
@@ -300,6 +343,7 @@ module _ {D : Type 0} (called : D → Ask → Told → D → Type 0) (seen : D �
       may = k.may;
       ends = (tt, (m.ino, kind_for need, k.taken.1, refl));
       has = tt;
+      reading = λ e. took_reading called seen d s m (kind_for need) (Err (Busy h)) d' s' (ap kind_for e) k;
       busy = λ n kind holder i. busy_by n kind holder (subst (λ l. In {X = Call} (record { ask = Grant n kind; told = NotLent (BusyGrant holder) }) l) k.taken.1 i) k.taken.3;
       enters = λ shown nodes rows p t. ([], asks_it (Err (Busy h)) k shown nodes t ∙ k.taken.2 ∙ sym (ap (λ q. (map need_of q ++ n2 ∷ []) ++ []) k.taken.0));
     }
@@ -320,6 +364,7 @@ module _ {D : Type 0} (called : D → Ask → Told → D → Type 0) (seen : D �
       may = k.may;
       ends = (tt, k.taken.2);
       has = tt;
+      reading = λ e. took_reading called seen d s m (kind_for need) (Err NoMemory) d' s' (ap kind_for e) k;
       busy = λ n kind holder i. absurd (not_busy n kind holder k.last k.taken.0 k.taken.2 i);
       enters = λ shown nodes rows p t. (k.taken.1, asks_it (Err NoMemory) k shown nodes t ∙ k.taken.3);
     }

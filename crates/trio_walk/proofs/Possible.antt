@@ -5,7 +5,6 @@ use Rattle.std.specs.Prelude.{map}
 use Rattle.std.specs.List.{flat_map}
 use Rattle.std.specs.Option.{option_map}
 use Rattle.trio_rights.specs.Row.{Row}
-use Rattle.trio_rights.specs.declared.kind.Kind.{Kind}
 use Rattle.trio_rights.specs.declared.rights.LibNo.{LibNo}
 use Rattle.trio_lists.specs.Lists.{In}
 use Rattle.trio_lists.proofs.Members.{In-cases, In-left, In-right}
@@ -18,8 +17,7 @@ use Rattle.trio_nodes.specs.declared.grant.GrantKind.TheVariants.{Hold, Read, Wr
 use Rattle.trio_nodes.specs.declared.node.Node.{Node}
 use Rattle.trio_nodes.specs.After.{batch_nodes}
 use Rattle.trio_nodes.specs.declared.grant.Holder.{Holder}
-use Rattle.trio_nodes.specs.declared.answers.GrantFault.{GrantFault}
-use Rattle.trio_nodes.specs.declared.answers.GrantFault.TheVariants.{Busy as BusyGrant, NoMemory as NoGrantMemory}
+use Rattle.trio_nodes.specs.declared.answers.GrantFault.TheVariants.{Busy as BusyGrant}
 use Rattle.trio_nodes.specs.Nodes.{Nodes, node_at}
 use Rattle.trio_desk.specs.Agrees.{HasFile, HasRights}
 use Rattle.trio_desk.specs.Contents.{Sizes, entries_shown}
@@ -28,7 +26,7 @@ use Rattle.trio_laws.specs.session.Sees.{AboveIsOpen}
 use Rattle.trio_desk.specs.Call.{Ask, DeskSeen, Grant, NotLent, Told}
 use Rattle.trio_desk.specs.Calls.{Call, Calls}
 use Rattle.trio_desk.specs.Ready.{ArePossible, lent_files}
-use Rattle.trio_desk.specs.Refusals.{HasCause, HasKind}
+use Rattle.trio_desk.specs.Refusals.{HasMoment}
 use Rattle.trio_laws.proofs.session.Again.{possible_with_less}
 use Rattle.trio_session.specs.Seen.{Room, SessionSeen, IsOn, serves}
 use Rattle.trio_session.specs.Asked.{SameBut, with_lease}
@@ -123,28 +121,22 @@ module _ (desk desk' : DeskSeen) (s s' : SessionSeen) (more : List Lease) (took 
   pub lib_same : s'.lib ≡ s.lib
   lib_same = ap (λ (x : SessionSeen). x.lib) took.same ∙ (stays_many more s).lib
 
--- the nodes of a refused grant are possible
-pub cause_possible : (desk : DeskSeen) (s : SessionSeen) (ino : ℕ) (kind : GrantKind) (fault : GrantFault) → IsOn desk s → (c : HasCause desk ino kind fault) → ArePossible desk s.parcel s.reads c.nodes c.rows
-cause_possible desk s ino kind fault on c =
+-- all that is out is in hand: so the nodes of a moment are possible
+pub moment_possible : (desk : DeskSeen) (s : SessionSeen) → IsOn desk s → (m : HasMoment desk) → ArePossible desk s.parcel s.reads m.nodes m.rows
+moment_possible desk s on m =
     let files : lent_files s.parcel.writes ++ s.reads ≡ desk.out.writes ++ desk.out.reads =
     ap (λ w. w ++ s.reads) (sym on.out.writes) ∙ ap (λ r. desk.out.writes ++ r) (sym on.out.reads) in
     record {
-      tree = c.tree;
+      tree = m.tree;
       agrees = record {
-        root_is = c.agrees.root_is;
-        files = λ f i. c.agrees.files f (subst (λ xs. In f xs) files i);
-        holds = λ h i. c.agrees.holds h (subst (λ xs. In h xs) (sym on.out.holds) i);
+        root_is = m.agrees.root_is;
+        files = λ f i. m.agrees.files f (subst (λ xs. In f xs) files i);
+        holds = λ h i. m.agrees.holds h (subst (λ xs. In h xs) (sym on.out.holds) i);
       };
-      none = λ n i. c.none n ((on.out.numbers n).1 i);
-      same = c.same;
-      places = λ f l i e. c.places f l (subst (λ xs. In f xs) files i) e;
+      none = λ n i. m.none n ((on.out.numbers n).1 i);
+      same = m.same;
+      places = λ f l i e. m.places f l (subst (λ xs. In f xs) files i) e;
     }
-
--- and so are those of one that is given
-pub kind_possible : (desk : DeskSeen) (s : SessionSeen) (ino : ℕ) (kind : Kind) → IsOn desk s → (c : HasKind desk ino kind) → ArePossible desk s.parcel s.reads c.nodes c.rows
-kind_possible desk s ino kind on c =
-    let h : HasCause desk ino Read NoGrantMemory = record { nodes = c.nodes; rows = c.rows; tree = c.tree; agrees = c.agrees; none = c.none; same = c.same; places = c.places; cause = tt } in
-    cause_possible desk s ino Read NoGrantMemory on h
 
 -- ---- what is taken
 

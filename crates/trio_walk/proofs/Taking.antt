@@ -61,7 +61,7 @@ use Rattle.trio_walk.proofs.Denials.{denier_here, placed_same}
 use Rattle.trio_walk.proofs.Leased.{ByLease, ByMade, IsOpened, desk_after, opened}
 use Rattle.trio_walk.proofs.Lent.{may_hold, may_now, may_read, may_write}
 use Rattle.trio_walk.proofs.Looking.{made_new, may_but, tree_now}
-use Rattle.trio_walk.proofs.Possible.{cause_possible, kind_possible, possible_desk, same_seen, took_of}
+use Rattle.trio_walk.proofs.Possible.{moment_possible, possible_desk, same_seen, took_of}
 
 -- ---- what serves
 
@@ -251,8 +251,8 @@ module _ {D : Type 0} (called : D → Ask → Told → D → Type 0) (seen : D �
   number_of (HoldLease h) is = is.1
 
   module _ (un : serves s m.ino kind ≡ false) (c : (k : Kind) × HasKind (seen d) m.ino k) where
-    cause : ArePossible (seen d) s.parcel s.reads c.1.nodes c.1.rows
-    cause = kind_possible (seen d) s m.ino c.0 may.on c.1
+    cause : ArePossible (seen d) s.parcel s.reads c.1.moment.nodes c.1.moment.rows
+    cause = moment_possible (seen d) s may.on c.1.moment
 
     by_lease : (lease : Lease) → kind_lent lease ≡ kind → IsFreshLease (seen d).lib m.ino (seen d).sizes (seen d).out lease
         → IsOn (record (seen d) { out = (seen d').out }) (with_lease s lease) → MayWalk (record (seen d) { out = (seen d').out }) (with_lease s lease)
@@ -262,7 +262,7 @@ module _ {D : Type 0} (called : D → Ask → Told → D → Type 0) (seen : D �
         let listed : IsListed (seen d) s m.ino = subst (λ q. MayTake (seen d) s m q) (sym k) fits in
         let number : h.ino ≡ m.ino = fresh.is.1 in
         may_hold (seen d) (seen d').out s may m.ino h fresh on
-        (ap (λ n. is_some (naming_of (case_as_stands (seen d) (in_hand s)) n)) number ∙ named_stands (seen d) s may m.ino listed c.1.nodes c.1.rows cause)
+        (ap (λ n. is_some (naming_of (case_as_stands (seen d) (in_hand s)) n)) number ∙ named_stands (seen d) s may m.ino listed c.1.moment.nodes c.1.moment.rows cause)
         (λ nodes rows p. subst (λ n. AboveIsOpen nodes (seen d).creds n) (sym number) (live un nodes rows p).above)
 
   -- after a lease
@@ -284,17 +284,17 @@ module _ {D : Type 0} (called : D → Ask → Told → D → Type 0) (seen : D �
   -- a file that was met isn't gone
   never_gone : serves s m.ino kind ≡ false → HasCause (seen d) m.ino kind NotLive → ⊥
   never_gone un c =
-      let p = cause_possible (seen d) s m.ino kind NotLive may.on c in
-      let l = live un c.nodes c.rows p in
+      let p = moment_possible (seen d) s may.on c.moment in
+      let l = live un c.moment.nodes c.moment.rows p in
       let wrong : Some l.node ≡ None = sym l.there ∙ c.cause in cc wrong
 
   -- a hold is asked where the directory is written
   never_parted : serves s m.ino kind ≡ false → HasCause (seen d) m.ino kind NoParent → ⊥
   never_parted un c =
-      let p = cause_possible (seen d) s m.ino kind NoParent may.on c in
-      let l = live un c.nodes c.rows p in
+      let p = moment_possible (seen d) s may.on c.moment in
+      let l = live un c.moment.nodes c.moment.rows p in
       let listed : IsListed (seen d) s m.ino = subst (λ q. MayTake (seen d) s m q) c.cause.0 fits in
-      c.cause.1 l.node l.there (parent_out (seen d) s may m.ino listed c.nodes c.rows p l.node l.there (λ i. false≢true (sym un ∙ held_serves i)))
+      c.cause.1 l.node l.there (parent_out (seen d) s may m.ino listed c.moment.nodes c.moment.rows p l.node l.there (λ i. false≢true (sym un ∙ held_serves i)))
     where
       held_serves : In m.ino (hold_numbers s.parcel.holds) → serves s m.ino kind ≡ true
       held_serves i =
@@ -310,11 +310,11 @@ module _ {D : Type 0} (called : D → Ask → Told → D → Type 0) (seen : D �
     pub denied : denies (seen d).creds (seen d).root kind ≡ true
 
   module _ (un : serves s m.ino kind ≡ false) (by' : ℕ) (c : HasCause (seen d) m.ino kind (DeniedGrant by')) where
-    p : ArePossible (seen d) s.parcel s.reads c.nodes c.rows
-    p = cause_possible (seen d) s m.ino kind (DeniedGrant by') may.on c
+    p : ArePossible (seen d) s.parcel s.reads c.moment.nodes c.moment.rows
+    p = moment_possible (seen d) s may.on c.moment
 
-    l : IsLive c.nodes (seen d).creds m.ino (met.1.met c.nodes c.rows p).after
-    l = live un c.nodes c.rows p
+    l : IsLive c.moment.nodes (seen d).creds m.ino (met.1.met c.moment.nodes c.moment.rows p).after
+    l = live un c.moment.nodes c.moment.rows p
 
     -- it is denied by itself
     by_need : (need : Need) → cond (lacks (seen d).creds need l.node) (Some m.ino) None ≡ Some by' → (lacks (seen d).creds need l.node ≡ true) × (by' ≡ m.ino)
@@ -327,7 +327,7 @@ module _ {D : Type 0} (called : D → Ask → Told → D → Type 0) (seen : D �
     -- rights that are known give it
     known_gives : (need : Need) → gives_met (seen d).creds m need ≡ true → (r : shown_rights.Rights) → m.rights ≡ Some r → lacks (seen d).creds need l.node ≡ false
     known_gives need g r e =
-        let t = met.1.met c.nodes c.rows p in
+        let t = met.1.met c.moment.nodes c.moment.rows p in
         let are : RightsAre (Some r) t.after = subst (λ o. RightsAre o t.after) e t.rights in
         let same : rights_of t.after ≡ record { kind = m.kind; mode = r.mode; uid = r.uid; gid = r.gid } =
         ap (λ k. record { kind = k; mode = t.after.mode; uid = t.after.uid; gid = t.after.gid }) t.kind
@@ -342,7 +342,7 @@ module _ {D : Type 0} (called : D → Ask → Told → D → Type 0) (seen : D �
     root_by need g w (Some r) e = absurd (false≢true (sym (known_gives need g r e) ∙ w.0))
     root_by need g w None e =
         let number : m.ino ≡ 1 = met.1.root e in
-        let there : node_at c.nodes 1 ≡ Some l.node = ap (node_at c.nodes) (sym number) ∙ l.there in
+        let there : node_at c.moment.nodes 1 ≡ Some l.node = ap (node_at c.moment.nodes) (sym number) ∙ l.there in
         let root : Some (rights_of l.node) ≡ Some (seen d).root = sym (ap (option_map rights_of) there) ∙ p.agrees.root_is in
         let is : rights_of l.node ≡ (seen d).root = cc root in
         (w.1 ∙ number, number, e, ap (λ (q : Rights). not (permits (seen d).creds q.kind q.mode q.uid q.gid need)) (sym is) ∙ w.0)
@@ -350,13 +350,13 @@ module _ {D : Type 0} (called : D → Ask → Told → D → Type 0) (seen : D �
     pub denied_root : IsRoot by'
     denied_root = by kind refl fits c.cause
       where
-        by : (k : GrantKind) → kind ≡ k → MayTake (seen d) s m k → grant_denier c.nodes (seen d).creds m.ino k ≡ Some by' → IsRoot by'
+        by : (k : GrantKind) → kind ≡ k → MayTake (seen d) s m k → grant_denier c.moment.nodes (seen d).creds m.ino k ≡ Some by' → IsRoot by'
         by Hold e f q = (let wrong : None ≡ Some by' = q in absurd (cc wrong))
         by Read e f q =
-            let r = root_by ToRead f (by_need ToRead (sym (denier_here c.nodes (seen d).creds m.ino ToRead l.node l.there l.above) ∙ q)) m.rights refl in
+            let r = root_by ToRead f (by_need ToRead (sym (denier_here c.moment.nodes (seen d).creds m.ino ToRead l.node l.there l.above) ∙ q)) m.rights refl in
             record { by = r.0; number = r.1; unknown = r.2; denied = ap (denies (seen d).creds (seen d).root) e ∙ r.3 }
         by Write e f q =
-            let r = root_by ToWrite f (by_need ToWrite (sym (denier_here c.nodes (seen d).creds m.ino ToWrite l.node l.there l.above) ∙ q)) m.rights refl in
+            let r = root_by ToWrite f (by_need ToWrite (sym (denier_here c.moment.nodes (seen d).creds m.ino ToWrite l.node l.there l.above) ∙ q)) m.rights refl in
             record { by = r.0; number = r.1; unknown = r.2; denied = ap (denies (seen d).creds (seen d).root) e ∙ r.3 }
 
   -- ---- how it ends
@@ -444,11 +444,11 @@ module _ {D : Type 0} (called : D → Ask → Told → D → Type 0) (seen : D �
     where
       possible : (nodes : Nodes) × (rows : List (Option Row)) × ArePossible (seen d') s'.parcel s'.reads nodes rows
       possible =
-          let p = cause_possible (seen d) s m.ino kind fault may.on t.cause in (
-            t.cause.nodes,
-            t.cause.rows,
-            subst (λ (x : SessionSeen). ArePossible (seen d') x.parcel x.reads t.cause.nodes t.cause.rows) (sym but.same)
-                (possible_desk (seen d') (seen d) s.parcel s.reads t.cause.nodes t.cause.rows (sym t.seen.sizes) (sym t.seen.root) p),
+          let p = moment_possible (seen d) s may.on t.cause.moment in (
+            t.cause.moment.nodes,
+            t.cause.moment.rows,
+            subst (λ (x : SessionSeen). ArePossible (seen d') x.parcel x.reads t.cause.moment.nodes t.cause.moment.rows) (sym but.same)
+                (possible_desk (seen d') (seen d) s.parcel s.reads t.cause.moment.nodes t.cause.moment.rows (sym t.seen.sizes) (sym t.seen.root) p),
           )
 
       others : (n : ℕ) (k : GrantKind) (holder : Holder) → In {X = Call} (record { ask = Grant n k; told = NotLent (BusyGrant holder) }) (record { ask = Grant m.ino kind; told = NotLent fault } ∷ []) → holder.lib ≡ s.lib → IsOwnBusy s n k

@@ -40,7 +40,7 @@ use Rattle.trio_walk.proofs.Agreeing.{IsAt, IsNeedAt, asked_beside-In, asked_bes
 use Rattle.trio_walk.proofs.Entering.{never_hold}
 use Rattle.trio_walk.proofs.Looking.{may_but, tree_now}
 use Rattle.trio_walk.proofs.Meeting.{met_still, root_is_met, shown_still}
-use Rattle.trio_walk.proofs.Possible.{cause_possible, possible_before, same_seen, way_after}
+use Rattle.trio_walk.proofs.Possible.{moment_possible, possible_before, same_seen, way_after}
 use Rattle.trio_walk.proofs.Stepping.{AreNumbered, asked_after, asked_here, err_needs, first_asked, later, lost, needs_are, needs_lost, needs_onward, onward, served_more, stopped}
 
 abbrev Reached : Type 0
@@ -128,6 +128,7 @@ pub record OnWay {D : Type 0} (called : D → Ask → Told → D → Type 0) (se
   pub may : MayWalk (seen d) s
   pub met : IsMetIn (is_some (body_shown s0 1)) (seen d) s at
   pub steps : InAllShown (seen d) s (StepAt (is_some (body_shown s0 1)) s0 writes path i more at.ino (seen d).creds)
+  pub reading : writes ≡ [] → s.parcel ≡ s0.parcel
 
 -- leases that were asked of a walk are of the kinds of its needs
 pub kinds_agree : (desk : DeskSeen) (s s0 : SessionSeen) (may : MayWalk desk s) (shown : Bool) (writes : List Path) (path : Path) (more : List Lease) (n : ℕ) (kind : GrantKind)
@@ -168,6 +169,7 @@ module _ {D : Type 0} (called : D → Ask → Told → D → Type 0) (seen : D �
     may = may;
     met = record { root = λ u. refl; met = λ nodes rows p. root_is_met (seen d0) s0 may nodes rows p };
     steps = λ nodes rows p. record { walks = refl; asks = refl; names = []; is_at = refl; passed = refl };
+    reading = λ none. refl;
   }
 
   module _ (i : ℕ) (d : D) (s : SessionSeen) (at : Met) (o : OnWay called seen d0 s0 writes path i d s at) where
@@ -208,8 +210,8 @@ module _ {D : Type 0} (called : D → Ask → Told → D → Type 0) (seen : D �
         older : (n : ℕ) (kind : GrantKind) (holder : Holder) → In {X = Call} (record { ask = Grant n kind; told = NotLent (BusyGrant holder) }) e.last → IsOwnBusy s n kind → IsOwnBusy s0 n kind
         older n kind holder j busy =
             let b = e.busy n kind holder j in
-            let c = b.2 in
-            let p = cause_possible (seen d) s at.ino (kind_for need) (BusyGrant holder) o.may.on c in
+            let c = b.2.moment in
+            let p = moment_possible (seen d) s o.may.on c in
             let st = o.steps c.nodes c.rows p in
             let here_at : IsNeedAt (batch_nodes (seen d).creds s.calls c.nodes) (seen d).creds shown writes (record { ino = at.ino; kind = kind_for need }) =
             record { names = st.names; at = st.is_at; kind = ap (λ q. kind_for (need_at writes q)) (sym st.passed) } in
@@ -361,6 +363,7 @@ module _ {D : Type 0} (called : D → Ask → Told → D → Type 0) (seen : D �
           may = may_but (seen d') s' s'.indexed k s'.room e.may;
           met = l.0 shown;
           steps = λ nodes rows p. goes_on nodes rows p child.ino (l.1 nodes rows p);
+          reading = λ none. e.reading (ap (λ ws. need_at ws (take i path)) none) ∙ o.reading none;
         }
 
 -- ---- into a directory
@@ -434,8 +437,8 @@ module _ {D : Type 0} (called : D → Ask → Told → D → Type 0) (seen : D �
     older_into : (n : ℕ) (kind : GrantKind) (holder : Holder) → In {X = Call} (record { ask = Grant n kind; told = NotLent (BusyGrant holder) }) e.last → IsOwnBusy s n kind → IsOwnBusy s0 n kind
     older_into n kind holder j busy =
         let b = e.busy n kind holder j in
-        let c = b.2 in
-        let p = cause_possible (seen d) s m.ino (kind_for own_need) (BusyGrant holder) may.on c in
+        let c = b.2.moment in
+        let p = moment_possible (seen d) s may.on c in
         let now : Nodes = batch_nodes (seen d).creds s.calls c.nodes in
         let x = came c.nodes c.rows p in
         let at = walk_at now (seen d).creds sh writes path m.ino x.0 in

@@ -1,6 +1,6 @@
 //! Walks.
 
-ghost use Rattle.std.specs.Prelude.{◌≡◌, IfErr, IfOk};
+ghost use Rattle.std.specs.Prelude.{◌≡◌, [], IfErr, IfOk};
 ghost use Rattle.trio_nodes.specs.Walk.{need_at, same_path};
 ghost use Rattle.trio_walk.specs.Needs.{kind_for};
 ghost use Rattle.trio_walk.specs.Walks.{
@@ -38,11 +38,13 @@ pub enum WalkEnd {
 }
 
 /// Walks from the root to the file at a path. Each directory on the way is taken, where no lease
-/// serves: for writing where its path is among `writes`, and else for reading.
+/// serves: for writing where its path is among `writes`, and else for reading. Where none is to be
+/// written the session takes leases for reading alone.
 pub fn walk<D: Desk>(session: &mut Session, desk: &mut D, path: &Path, writes: &[Path]) -> WalkEnd
     requires { MayWalk (D.seen desk.old) session.old }
     ensures may { MayWalk (D.seen desk.new) session.new }
     ensures walked { Walked D.called D.seen desk.old session.old (Walks (D.seen desk.new) session.old writes.now path.now result) result desk.new session.new }
+    ensures reading { writes.now ≡ [] → session.new.parcel ≡ session.old.parcel }
 {
     match reach(session, desk, path, writes) {
         Ok(met) => WalkEnd::At(met.ino),
@@ -61,6 +63,7 @@ pub fn reach<D: Desk>(
     requires { MayWalk (D.seen desk.old) session.old }
     ensures may { MayWalk (D.seen desk.new) session.new }
     ensures walked { Walked D.called D.seen desk.old session.old (Walks (D.seen desk.new) session.old writes.now path.now (reached_end result)) (reached_end result) desk.new session.new }
+    ensures reading { writes.now ≡ [] → session.new.parcel ≡ session.old.parcel }
     ensures met { IfOk result (IsMetIn (shows_root session.old) (D.seen desk.new) session.new) }
     ensures stopped { IfErr result IsStopped }
 {
@@ -89,6 +92,7 @@ pub fn reach_into<D: Desk>(
     requires { MayWalk (D.seen desk.old) session.old }
     ensures may { MayWalk (D.seen desk.new) session.new }
     ensures walked { Walked D.called D.seen desk.old session.old (WalksInto (D.seen desk.new) session.old writes.now path.now (reached_end result)) (reached_end result) desk.new session.new }
+    ensures reading { writes.now ≡ [] → session.new.parcel ≡ session.old.parcel }
     ensures met { IfOk result (IsMetIn (shows_root session.old) (D.seen desk.new) session.new) }
     ensures had { IfOk result (λ m. IsHad session.new m.ino (kind_for (need_at writes.now path.now))) }
     ensures list { IfOk result (λ m. MayLookIn (D.seen desk.new) session.new m.ino) }

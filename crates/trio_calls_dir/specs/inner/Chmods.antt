@@ -10,7 +10,8 @@ use Rattle.trio_nodes.specs.declared.call.Call.TheVariants.{Chmod}
 use Rattle.trio_nodes.specs.declared.grant.Holder.{Holder}
 use Rattle.trio_nodes.specs.Nodes.{Nodes}
 use Rattle.trio_nodes.specs.Walk.{Path}
-use Rattle.trio_desk.specs.Call.{Ask, DeskSeen, NotModeSet, Told}
+use Rattle.trio_desk.specs.Call.{Ask, DeskSeen, Told}
+use Rattle.trio_desk.specs.Refusals.{HasModeCause}
 use Rattle.trio_session.specs.Seen.{SessionSeen}
 use Rattle.trio_walk.specs.declared.met.Met.{Met}
 use Rattle.trio_walk.specs.Needs.{Needed, asked}
@@ -23,7 +24,7 @@ use Rattle.trio_walk.specs.declared.outcome.Outcome.TheVariants.{Busy, NoMemory}
 use Rattle.trio_calls_dir.specs.declared.calls.TryEnd.{TryEnd}
 use Rattle.trio_calls_dir.specs.declared.calls.TryEnd.TheVariants.{Busy as IsBusyTry, NoMemory as LacksMemory}
 use Rattle.trio_calls_dir.specs.inner.Goes.{IsRefusal}
-use Rattle.trio_calls_dir.specs.Chmods.{BreaksOff, ChmodTried, Comes, ComesSo, HandsIn, SetsMode, chmod_needs, mode_ask}
+use Rattle.trio_calls_dir.specs.Chmods.{BreaksOff, ChmodTried, Comes, ComesSo, HandsIn, SetsMode, chmod_needs}
 
 -- ---- the search
 
@@ -65,9 +66,9 @@ IsRetold (BusyMode holder) = Unit {0}
 IsRetold NoModeMemory = Unit {0}
 IsRetold fault = ⊥
 
--- whatever the desk told of this change of mode, it is so refused
-abbrev pub RefusesSo : {D : Type 0} (called : D → Ask → Told → D → Type 0) → D → SessionSeen → ℕ → Mode → Call → Type 0
-RefusesSo {D} called d s ino mode call = (d' : D) (fault : ModeFault) → called d (mode_ask s ino mode call) (NotModeSet fault) d' → IsRetold fault
+-- whatever cause of a refusal of this change of mode is true, it is so refused
+abbrev pub RefusesSo : DeskSeen → ℕ → Mode → Type 0
+RefusesSo desk ino mode = (fault : ModeFault) → HasModeCause desk ino mode.0 fault → IsRetold fault
 
 -- so it is, and the call comes back after Busy
 abbrev pub ComesBack : Option Call → ModeFault → Type 0

@@ -7,6 +7,7 @@ use Rattle.trio_rights.specs.Rights.{permits}
 use Rattle.trio_rights.specs.declared.kind.Kind.TheVariants.{Directory}
 use Rattle.trio_rights.specs.declared.rights.Creds.{Creds}
 use Rattle.trio_rights.specs.declared.rights.Need.{Need}
+use Rattle.trio_rights.specs.declared.rights.Need.TheVariants.{Read as ToRead}
 use Rattle.trio_layout.specs.Body.{body_at}
 use Rattle.trio_layout.specs.Entries.{body_in_slot}
 use Rattle.trio_layout.specs.declared.slot.EntryPart.{EntryPart}
@@ -83,7 +84,7 @@ abbrev pub HasEntered : DeskSeen → Result (Unit {0}) WalkEnd → SessionSeen �
 HasEntered desk (Ok done) s' need ino = IsHad s' ino (kind_for need) × MayLookIn desk s' ino
 HasEntered desk (Err end) s' need ino = Unit {0}
 
--- A directory is entered, from a desk and a session to these.
+-- A directory is entered, from a desk and a session to these. To be read it is taken by a lease for reading, which leaves the parcel.
 pub record Entered {D : Type 0} (called : D → Ask → Told → D → Type 0) (seen : D → DeskSeen) (d : D) (s : SessionSeen) (m : Met) (need' : Need) (result' : Result (Unit {0}) WalkEnd) (d' : D) (s' : SessionSeen) : Type 0 where
   pub more : List Lease
   pub last : List Call
@@ -92,6 +93,7 @@ pub record Entered {D : Type 0} (called : D → Ask → Told → D → Type 0) (
   pub may : MayWalk (seen d') s'
   pub ends : EnteringEnds result' last needs
   pub has : HasEntered (seen d') result' s' need' m.ino
+  pub reading : need' ≡ ToRead → s'.parcel ≡ s.parcel
   pub busy :
       (n : ℕ) (kind : GrantKind) (holder : Holder) → In {X = Call} (record { ask = Grant n kind; told = NotLent (BusyGrant holder) }) last
       → (n ≡ m.ino) × (kind ≡ kind_for need') × HasCause (seen d) m.ino (kind_for need') (BusyGrant holder)

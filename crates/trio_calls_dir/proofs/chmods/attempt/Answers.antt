@@ -4,68 +4,51 @@ use Rattle.trio_desk.specs.Ready.{IsChmod}
 use Rattle.trio_walk.specs.declared.outcome.Outcome.TheVariants.{Busy, NoMemory}
 use Rattle.trio_walk.specs.declared.walks.WalkEnd.TheVariants.{At, Reply as IsReply, Busy as IsBusyWalk, NoMemory as NoWalkMemory}
 use Rattle.trio_walk.specs.Walks.{InAllShown}
-use Rattle.trio_calls_dir.specs.inner.Chmods.{IsChmodCall, RefusesSo, TriesCall}
+use Rattle.trio_calls_dir.specs.inner.Chmods.{IsChmodCall, TriesCall}
 use Rattle.trio_calls_dir.specs.inner.Goes.{IsRefusedAs}
 use Rattle.trio_calls_dir.proofs.Given.{may_walk}
-use Rattle.trio_calls_dir.proofs.ChmodsTried.{lib_kept, alone, call_hands, call_modes, is_chmod, refused_does, refuses_so, stands_here, stands_one, tried_busy, tried_short}
+use Rattle.trio_calls_dir.proofs.ChmodsTried.{lib_kept, call_hands, call_modes, is_chmod, refused_does, refuses_so, tried_busy, tried_short}
 use Rattle.trio_calls_dir.proofs.chmods.attempt.Goals as goal
 
 pub set-requires-clause-alone : goal.set-requires-clause-alone
-set-requires-clause-alone g c = alone g.D.Desk.called g.D.Desk.seen c.args.desk.now c.args.session.now c.in-Chmod.path c.in-Chmod.mode c.requires.may c.requires.empty c.requires.tree (At c.in-At.ino) c.owned_file.new.desk c.owned_file.new.session (c.in-At.ensures.found c.in-Chmod.mode) (may_walk (g.D.Desk.seen c.owned_file.new.desk) c.owned_file.new.session c.owned_file.ensures.may)
+set-requires-clause-alone g c = c.owned_file.ensures.alone c.requires.empty
 
 pub set-requires-clause-chmod : goal.set-requires-clause-chmod
 set-requires-clause-chmod g c =
     subst (λ (k : Call). IsChmod (g.D.Desk.seen c.owned_file.new.desk) c.owned_file.new.session.reads c.in-At.ino c.in-Chmod.mode.0 k) (sym c.in-Chmod.is)
-    (is_chmod g.D.Desk.called g.D.Desk.seen c.args.desk.now c.args.session.now c.in-Chmod.path c.in-Chmod.mode c.requires.may c.requires.empty c.requires.tree (At c.in-At.ino) c.owned_file.new.desk c.owned_file.new.session (c.in-At.ensures.found c.in-Chmod.mode) (may_walk (g.D.Desk.seen c.owned_file.new.desk) c.owned_file.new.session c.owned_file.ensures.may) c.in-At.ino refl)
+    (is_chmod g.D.Desk.called g.D.Desk.seen c.args.desk.now c.args.session.now c.in-Chmod.path c.in-Chmod.mode c.requires.may c.requires.empty (At c.in-At.ino) c.owned_file.new.desk c.owned_file.new.session (c.in-At.ensures.found c.in-Chmod.mode) (may_walk (g.D.Desk.seen c.owned_file.new.desk) c.owned_file.new.session c.owned_file.ensures.may) (c.owned_file.ensures.alone c.requires.empty) c.in-At.ino refl)
 
 pub set-requires-clause-refuses : goal.set-requires-clause-refuses
 set-requires-clause-refuses g c =
-    subst (λ (k : Call). RefusesSo g.D.Desk.called c.owned_file.new.desk c.owned_file.new.session c.in-At.ino c.in-Chmod.mode k) (sym c.in-Chmod.is)
-    (refuses_so g.D.Desk.called g.D.Desk.seen c.args.desk.now c.args.session.now c.in-Chmod.path c.in-Chmod.mode c.requires.may c.requires.empty c.requires.tree (At c.in-At.ino) c.owned_file.new.desk c.owned_file.new.session (c.in-At.ensures.found c.in-Chmod.mode) (may_walk (g.D.Desk.seen c.owned_file.new.desk) c.owned_file.new.session c.owned_file.ensures.may) c.in-At.ino refl (subst IsChmodCall c.in-Chmod.is c.requires.chmod))
+    refuses_so g.D.Desk.called g.D.Desk.seen c.args.desk.now c.args.session.now c.in-Chmod.path c.in-Chmod.mode c.requires.may c.requires.empty (At c.in-At.ino) c.owned_file.new.desk c.owned_file.new.session (c.in-At.ensures.found c.in-Chmod.mode) (may_walk (g.D.Desk.seen c.owned_file.new.desk) c.owned_file.new.session c.owned_file.ensures.may) (c.owned_file.ensures.alone c.requires.empty) c.in-At.ino refl (subst IsChmodCall c.in-Chmod.is c.requires.chmod)
 
 pub hand_in-requires-clause-alone : goal.hand_in-requires-clause-alone
-hand_in-requires-clause-alone g c = alone g.D.Desk.called g.D.Desk.seen c.args.desk.now c.args.session.now c.in-Chmod.path c.in-Chmod.mode c.requires.may c.requires.empty c.requires.tree (IsReply c.in-Reply.reply) c.owned_file.new.desk c.owned_file.new.session (c.in-Reply.ensures.found c.in-Chmod.mode) (may_walk (g.D.Desk.seen c.owned_file.new.desk) c.owned_file.new.session c.owned_file.ensures.may)
+hand_in-requires-clause-alone g c = c.owned_file.ensures.alone c.requires.empty
 
 pub hand_in-requires-clause-refused : goal.hand_in-requires-clause-refused
 hand_in-requires-clause-refused g c =
     subst (λ (k : Call). InAllShown (g.D.Desk.seen c.owned_file.new.desk) c.owned_file.new.session (IsRefusedAs (g.D.Desk.seen c.owned_file.new.desk) k c.in-Reply.reply)) (sym c.in-Chmod.is)
-    (refused_does g.D.Desk.called g.D.Desk.seen c.args.desk.now c.args.session.now c.in-Chmod.path c.in-Chmod.mode c.requires.may c.requires.empty c.requires.tree (IsReply c.in-Reply.reply) c.owned_file.new.desk c.owned_file.new.session (c.in-Reply.ensures.found c.in-Chmod.mode) (may_walk (g.D.Desk.seen c.owned_file.new.desk) c.owned_file.new.session c.owned_file.ensures.may) c.in-Reply.reply refl c.in-Reply.ensures.refusal)
+    (refused_does g.D.Desk.called g.D.Desk.seen c.args.desk.now c.args.session.now c.in-Chmod.path c.in-Chmod.mode c.requires.may c.requires.empty (IsReply c.in-Reply.reply) c.owned_file.new.desk c.owned_file.new.session (c.in-Reply.ensures.found c.in-Chmod.mode) (may_walk (g.D.Desk.seen c.owned_file.new.desk) c.owned_file.new.session c.owned_file.ensures.may) (c.owned_file.ensures.alone c.requires.empty) c.in-Reply.reply refl c.in-Reply.ensures.refusal)
 
 pub returns-in-At-clause-tried : goal.returns-in-At-clause-tried
 returns-in-At-clause-tried g c =
-    call_modes g.D.Desk.called g.D.Desk.seen c.args.desk.now c.args.session.now c.in-Chmod.path c.in-Chmod.mode c.requires.may c.requires.empty c.requires.tree (At c.in-At.ino) c.owned_file.new.desk c.owned_file.new.session (c.in-At.ensures.found c.in-Chmod.mode) (may_walk (g.D.Desk.seen c.owned_file.new.desk) c.owned_file.new.session c.owned_file.ensures.may)
+    call_modes g.D.Desk.called g.D.Desk.seen c.args.desk.now c.args.session.now c.in-Chmod.path c.in-Chmod.mode c.requires.may c.requires.empty (At c.in-At.ino) c.owned_file.new.desk c.owned_file.new.session (c.in-At.ensures.found c.in-Chmod.mode) (may_walk (g.D.Desk.seen c.owned_file.new.desk) c.owned_file.new.session c.owned_file.ensures.may) (c.owned_file.ensures.alone c.requires.empty)
     c.set.new.desk c.set.new.session c.set.result c.set.ensures.same c.args.call c.in-Chmod.is c.in-At.ino refl c.set.ensures.asked
-
-pub returns-in-At-clause-tree : goal.returns-in-At-clause-tree
-returns-in-At-clause-tree g c =
-    stands_one g.D.Desk.called g.D.Desk.seen c.owned_file.new.desk c.set.new.desk _ _ _ c.set.ensures.asked
-    (stands_here g.D.Desk.called g.D.Desk.seen c.args.desk.now c.args.session.now c.in-Chmod.path c.in-Chmod.mode c.requires.may c.requires.empty c.requires.tree (At c.in-At.ino) c.owned_file.new.desk c.owned_file.new.session (c.in-At.ensures.found c.in-Chmod.mode) (may_walk (g.D.Desk.seen c.owned_file.new.desk) c.owned_file.new.session c.owned_file.ensures.may))
 
 pub returns-in-Reply-clause-tried : goal.returns-in-Reply-clause-tried
 returns-in-Reply-clause-tried g c =
-    call_hands g.D.Desk.called g.D.Desk.seen c.args.desk.now c.args.session.now c.in-Chmod.path c.in-Chmod.mode c.requires.may c.requires.empty c.requires.tree (IsReply c.in-Reply.reply) c.owned_file.new.desk c.owned_file.new.session (c.in-Reply.ensures.found c.in-Chmod.mode) (may_walk (g.D.Desk.seen c.owned_file.new.desk) c.owned_file.new.session c.owned_file.ensures.may)
+    call_hands g.D.Desk.called g.D.Desk.seen c.args.desk.now c.args.session.now c.in-Chmod.path c.in-Chmod.mode c.requires.may c.requires.empty (IsReply c.in-Reply.reply) c.owned_file.new.desk c.owned_file.new.session (c.in-Reply.ensures.found c.in-Chmod.mode) (may_walk (g.D.Desk.seen c.owned_file.new.desk) c.owned_file.new.session c.owned_file.ensures.may) (c.owned_file.ensures.alone c.requires.empty)
     c.hand_in.new.desk c.hand_in.new.session c.hand_in.result c.hand_in.ensures.same c.args.call c.in-Chmod.is c.in-Reply.reply refl c.in-Reply.ensures.refusal c.hand_in.ensures.handed
-
-pub returns-in-Reply-clause-tree : goal.returns-in-Reply-clause-tree
-returns-in-Reply-clause-tree g c =
-    stands_one g.D.Desk.called g.D.Desk.seen c.owned_file.new.desk c.hand_in.new.desk _ _ _ c.hand_in.ensures.handed
-    (stands_here g.D.Desk.called g.D.Desk.seen c.args.desk.now c.args.session.now c.in-Chmod.path c.in-Chmod.mode c.requires.may c.requires.empty c.requires.tree (IsReply c.in-Reply.reply) c.owned_file.new.desk c.owned_file.new.session (c.in-Reply.ensures.found c.in-Chmod.mode) (may_walk (g.D.Desk.seen c.owned_file.new.desk) c.owned_file.new.session c.owned_file.ensures.may))
 
 pub returns-in-Busy-clause-tried : goal.returns-in-Busy-clause-tried
 returns-in-Busy-clause-tried g c =
     subst (λ (k : Call). TriesCall g.D.Desk.called g.D.Desk.seen k c.args.desk.now c.args.session.now (Busy c.in-Busy.holder) c.owned_file.new.desk c.owned_file.new.session) (sym c.in-Chmod.is)
-    (tried_busy g.D.Desk.called g.D.Desk.seen c.args.desk.now c.args.session.now c.in-Chmod.path c.in-Chmod.mode c.requires.may c.requires.empty c.requires.tree (IsBusyWalk c.in-Busy.holder) c.owned_file.new.desk c.owned_file.new.session (c.in-Busy.ensures.found c.in-Chmod.mode) (may_walk (g.D.Desk.seen c.owned_file.new.desk) c.owned_file.new.session c.owned_file.ensures.may) c.in-Busy.holder refl)
-
-pub returns-in-Busy-clause-tree : goal.returns-in-Busy-clause-tree
-returns-in-Busy-clause-tree g c = stands_here g.D.Desk.called g.D.Desk.seen c.args.desk.now c.args.session.now c.in-Chmod.path c.in-Chmod.mode c.requires.may c.requires.empty c.requires.tree (IsBusyWalk c.in-Busy.holder) c.owned_file.new.desk c.owned_file.new.session (c.in-Busy.ensures.found c.in-Chmod.mode) (may_walk (g.D.Desk.seen c.owned_file.new.desk) c.owned_file.new.session c.owned_file.ensures.may)
+    (tried_busy g.D.Desk.called g.D.Desk.seen c.args.desk.now c.args.session.now c.in-Chmod.path c.in-Chmod.mode c.requires.may c.requires.empty (IsBusyWalk c.in-Busy.holder) c.owned_file.new.desk c.owned_file.new.session (c.in-Busy.ensures.found c.in-Chmod.mode) (may_walk (g.D.Desk.seen c.owned_file.new.desk) c.owned_file.new.session c.owned_file.ensures.may) (c.owned_file.ensures.alone c.requires.empty) c.in-Busy.holder refl)
 
 pub returns-in-NoMemory-clause-tried : goal.returns-in-NoMemory-clause-tried
 returns-in-NoMemory-clause-tried g c =
     subst (λ (k : Call). TriesCall g.D.Desk.called g.D.Desk.seen k c.args.desk.now c.args.session.now NoMemory c.owned_file.new.desk c.owned_file.new.session) (sym c.in-Chmod.is)
-    (tried_short g.D.Desk.called g.D.Desk.seen c.args.desk.now c.args.session.now c.in-Chmod.path c.in-Chmod.mode c.requires.may c.requires.empty c.requires.tree NoWalkMemory c.owned_file.new.desk c.owned_file.new.session (c.in-NoMemory.ensures.found c.in-Chmod.mode) (may_walk (g.D.Desk.seen c.owned_file.new.desk) c.owned_file.new.session c.owned_file.ensures.may) (λ n e. cc e) (λ holder e. cc e) c.owned_file.new.session refl)
-
-pub returns-in-NoMemory-clause-tree : goal.returns-in-NoMemory-clause-tree
-returns-in-NoMemory-clause-tree g c = stands_here g.D.Desk.called g.D.Desk.seen c.args.desk.now c.args.session.now c.in-Chmod.path c.in-Chmod.mode c.requires.may c.requires.empty c.requires.tree NoWalkMemory c.owned_file.new.desk c.owned_file.new.session (c.in-NoMemory.ensures.found c.in-Chmod.mode) (may_walk (g.D.Desk.seen c.owned_file.new.desk) c.owned_file.new.session c.owned_file.ensures.may)
+    (tried_short g.D.Desk.called g.D.Desk.seen c.args.desk.now c.args.session.now c.in-Chmod.path c.in-Chmod.mode c.requires.may c.requires.empty NoWalkMemory c.owned_file.new.desk c.owned_file.new.session (c.in-NoMemory.ensures.found c.in-Chmod.mode) (may_walk (g.D.Desk.seen c.owned_file.new.desk) c.owned_file.new.session c.owned_file.ensures.may) (c.owned_file.ensures.alone c.requires.empty) (λ n e. cc e) (λ holder e. cc e) c.owned_file.new.session refl)
 
 pub returns-in-At-clause-lib : goal.returns-in-At-clause-lib
 returns-in-At-clause-lib g c =

@@ -1,5 +1,4 @@
 use Rattle.trio_calls_dir.specs.Chmods.{Begun}
-use Rattle.trio_calls_dir.proofs.ChmodsTried.{stands_one}
 use Rattle.trio_calls_dir.proofs.Tries.{may_settled, settled, unsettled_may}
 use Rattle.trio_calls_dir.proofs.chmods.chmod.Goals as goal
 
@@ -8,9 +7,6 @@ chmod_settled-requires-clause-may g c =
     let s = c.settle.ensures in
     let t = settled g.D.Desk.called g.D.Desk.seen c.args.desk.now c.settle.new.desk c.args.session.now c.settle.new.self c.settle.result s.call c.in-Ok.field-0 c.in-Ok.is in
     may_settled g.D.Desk.called g.D.Desk.seen c.args.desk.now c.settle.new.desk c.args.session.now c.settle.new.self c.settle.result s.call t s.on
-
-pub chmod_settled-requires-clause-tree : goal.chmod_settled-requires-clause-tree
-chmod_settled-requires-clause-tree g c = stands_one g.D.Desk.called g.D.Desk.seen c.args.desk.now c.settle.new.desk _ _ _ c.settle.ensures.call c.requires.tree
 
 pub returns-in-Ok-clause-called : goal.returns-in-Ok-clause-called
 returns-in-Ok-clause-called g c =

@@ -3,7 +3,6 @@ use Rattle.trio_nodes.specs.declared.call.Call.{Call}
 use Rattle.trio_walk.specs.Asks.{Unsettled}
 use Rattle.trio_calls_dir.specs.inner.Chmods.{TriesAgain, TriesCall}
 use Rattle.trio_calls_dir.proofs.ChmodsAgain.{tries_called}
-use Rattle.trio_calls_dir.proofs.ChmodsTried.{stands_one}
 use Rattle.trio_calls_dir.proofs.Tries.{may_settled, settled, unsettled, unsettled_may}
 use Rattle.trio_calls_dir.proofs.chmods.chmod_settled.Goals as goal
 
@@ -12,9 +11,6 @@ attempt_again-requires-clause-may g c =
     let s = c.settle.ensures in
     let t = settled g.D.Desk.called g.D.Desk.seen c.attempt.new.desk c.settle.new.desk c.attempt.new.session c.settle.new.self c.settle.result s.call c.in-Ok.field-0 c.in-Ok.is in
     may_settled g.D.Desk.called g.D.Desk.seen c.attempt.new.desk c.settle.new.desk c.attempt.new.session c.settle.new.self c.settle.result s.call t s.on
-
-pub attempt_again-requires-clause-tree : goal.attempt_again-requires-clause-tree
-attempt_again-requires-clause-tree g c = stands_one g.D.Desk.called g.D.Desk.seen c.attempt.new.desk c.settle.new.desk _ _ _ c.settle.ensures.call c.attempt.ensures.tree
 
 pub returns-in-Ok-clause-called : goal.returns-in-Ok-clause-called
 returns-in-Ok-clause-called g c =

@@ -6,8 +6,10 @@ use Rattle.trio_nodes.specs.declared.call.Reply.TheVariants.{Denied, NotFound}
 use Rattle.trio_walk.specs.declared.walks.WalkEnd.TheVariants.{At, Reply}
 use Rattle.trio_calls_dir.specs.inner.Chmods.{owner_met}
 use Rattle.trio_calls_dir.proofs.Alike.{alike_finds}
+use Rattle.trio_session.specs.Seen.{SessionSeen}
 use Rattle.trio_calls_dir.proofs.Given.{may_walk}
 use Rattle.trio_calls_dir.proofs.ChmodsFinds.{found_absent, found_as, found_owned, found_root, found_short, found_stopped, found_stranger, looked_none, looked_some, search_may, walk_as}
+use Rattle.trio_calls_dir.proofs.ChmodsReads.{found_alone, none_alone, reads_alone}
 use Rattle.trio_calls_dir.proofs.chmods.owned_file.Goals as goal
 
 pub returns-then-is_root-clause-found : goal.returns-then-is_root-clause-found
@@ -71,3 +73,21 @@ returns-clause-found g c = λ mode.
     (walk_as g.D.Desk.called g.D.Desk.seen c.args.desk.now c.args.session.now c.reach_into.new.desk c.reach_into.new.session c.in-Ok.dir (dir_of c.args.path.now) c.in-Ok.ensures (At c.in-Ok-reach_into.met.ino) c.in-Ok-reach_into.ensures.walked)
     (raised c.reach_into.new.session.finds) c.in-Some.file looked.0 looked.1
     (ap (λ (k : Creds). owner_met k c.in-Some.file) (sym c.creds.ensures.creds) ∙ sym c.owns.ensures ∙ c.if-owns.false))
+
+pub returns-then-is_root-clause-alone : goal.returns-then-is_root-clause-alone
+returns-then-is_root-clause-alone g c = none_alone c.args.session.now
+
+pub returns-in_default-clause-alone : goal.returns-in_default-clause-alone
+returns-in_default-clause-alone g c = none_alone c.args.session.now
+
+pub returns-in-Err-clause-alone : goal.returns-in-Err-clause-alone
+returns-in-Err-clause-alone g c = λ none. reads_alone g.D.Desk.called g.D.Desk.seen c.args.desk.now c.args.session.now _ c.in-Err.end c.reach_into.new.desk c.reach_into.new.session c.in-Err.ensures.walked (c.reach_into.ensures.reading refl) none
+
+pub returns-in-None-clause-alone : goal.returns-in-None-clause-alone
+returns-in-None-clause-alone g c = λ none. found_alone g.D.Desk.called g.D.Desk.seen c.args.desk.now c.args.session.now _ (At c.in-Ok-reach_into.met.ino) c.reach_into.new.desk c.reach_into.new.session c.in-Ok-reach_into.ensures.walked (c.reach_into.ensures.reading refl) none c.look_up.new.session (ap (λ (x : SessionSeen). x.parcel) c.look_up.ensures.kept) (ap (λ (x : SessionSeen). x.calls) c.look_up.ensures.kept)
+
+pub returns-in-Some-clause-alone : goal.returns-in-Some-clause-alone
+returns-in-Some-clause-alone g c = λ none. found_alone g.D.Desk.called g.D.Desk.seen c.args.desk.now c.args.session.now _ (At c.in-Ok-reach_into.met.ino) c.reach_into.new.desk c.reach_into.new.session c.in-Ok-reach_into.ensures.walked (c.reach_into.ensures.reading refl) none c.look_up.new.session (ap (λ (x : SessionSeen). x.parcel) c.look_up.ensures.kept) (ap (λ (x : SessionSeen). x.calls) c.look_up.ensures.kept)
+
+pub returns-clause-alone : goal.returns-clause-alone
+returns-clause-alone g c = λ none. found_alone g.D.Desk.called g.D.Desk.seen c.args.desk.now c.args.session.now _ (At c.in-Ok-reach_into.met.ino) c.reach_into.new.desk c.reach_into.new.session c.in-Ok-reach_into.ensures.walked (c.reach_into.ensures.reading refl) none c.look_up.new.session (ap (λ (x : SessionSeen). x.parcel) c.look_up.ensures.kept) (ap (λ (x : SessionSeen). x.calls) c.look_up.ensures.kept)

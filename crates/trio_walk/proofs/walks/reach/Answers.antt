@@ -1,4 +1,4 @@
-use Rattle.std.proofs.Common.{◌≡◌, ◌+◌, Some, None, Option, Ok, Err, get_or, take, sym, subst, arith}
+use Rattle.std.proofs.Common.{◌≡◌, ◌+◌, Some, None, Option, Ok, Err, get_or, take, sym, ap, ◌∙◌, subst, arith}
 use Rattle.trio_page.specs.Home.{raised}
 use Rattle.trio_rights.specs.declared.rights.Need.{Need}
 use Rattle.trio_nodes.specs.declared.call.Reply.TheVariants.{NotFound}
@@ -66,3 +66,18 @@ returns-clause-walked g c =
 
 pub returns-clause-met : goal.returns-clause-met
 returns-clause-met g c = c.loop-i.invariant.met
+
+pub returns-in-Err-clause-reading : goal.returns-in-Err-clause-reading
+returns-in-Err-clause-reading g c =
+    let entered : Entered g.D.Desk.called g.D.Desk.seen c.loop-i.desk c.loop-i.session c.loop-i.at (need_at c.args.writes.now (take c.loop-i.i c.names-names.result.now)) (Err c.in-Err.end) c.enter.new.desk c.enter.new.session =
+    subst (λ (q : Need). Entered g.D.Desk.called g.D.Desk.seen c.loop-i.desk c.loop-i.session c.loop-i.at q (Err c.in-Err.end) c.enter.new.desk c.enter.new.session) c.need_at.ensures c.in-Err.ensures in
+    λ none. entered.reading (ap (λ ws. need_at ws (take c.loop-i.i c.names-names.result.now)) none) ∙ c.loop-i.invariant.reading none
+
+pub returns-in-None-clause-reading : goal.returns-in-None-clause-reading
+returns-in-None-clause-reading g c =
+    let entered : Entered g.D.Desk.called g.D.Desk.seen c.loop-i.desk c.loop-i.session c.loop-i.at (need_at c.args.writes.now (take c.loop-i.i c.names-names.result.now)) (Ok tt) c.enter.new.desk c.enter.new.session =
+    subst (λ (q : Need). Entered g.D.Desk.called g.D.Desk.seen c.loop-i.desk c.loop-i.session c.loop-i.at q (Ok tt) c.enter.new.desk c.enter.new.session) c.need_at.ensures c.in-Ok.ensures in
+    λ none. ap (λ (x : SessionSeen). x.parcel) c.look_up.ensures.kept ∙ entered.reading (ap (λ ws. need_at ws (take c.loop-i.i c.names-names.result.now)) none) ∙ c.loop-i.invariant.reading none
+
+pub returns-clause-reading : goal.returns-clause-reading
+returns-clause-reading g c = c.loop-i.invariant.reading

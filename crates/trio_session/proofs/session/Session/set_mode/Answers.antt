@@ -1,10 +1,13 @@
-use Rattle.std.proofs.Common.{◌≡◌, Vec, Global, Some, Err, length, sym, refl, ap, ◌∙◌, subst, arith}
+use Rattle.std.proofs.Common.{◌≡◌, Vec, Global, List, Some, Err, length, sym, refl, ap, ◌∙◌, subst, arith}
 use Rattle.std.specs.Prelude.{map}
+use Rattle.trio_lease.specs.Shown.{Shown}
 use Rattle.trio_lease.specs.declared.read.ReadLease.{ReadLease}
 use Rattle.trio_desk.specs.Out.{Parcel}
 use Rattle.trio_desk.specs.Edits.{nothing}
 use Rattle.trio_desk.specs.Call.{ModeSet, NotModeSet, SeenAfter, SetMode, TellsHolder}
 use Rattle.trio_desk.specs.Calls.{Made}
+use Rattle.trio_desk.specs.Ready.{IsChmod}
+use Rattle.trio_desk.specs.Refusals.{TellsCause}
 use Rattle.trio_session.specs.Seen.{SessionSeen, IsOn, emptied}
 use Rattle.trio_session.specs.contracts.session.Session.{the_view}
 use Rattle.trio_session.specs.inner.Made.{dir_numbers, made_seen}
@@ -45,13 +48,19 @@ as_before g c =
     let reads : c.replace.new.dest ≡ c.self.inside.reads = c.replace.ensures.after ∙ c.in-Err.ensures.leases ∙ c.replace-reads.ensures.value in
     ap (λ x. the_view (record c.self.inside { reads = x })) reads ∙ c.self.view_is
 
+pub set_mode-requires-clause-chmod : goal.set_mode-requires-clause-chmod
+set_mode-requires-clause-chmod g c =
+    let reads : c.replace-reads.result.items ≡ c.args.self.now.reads =
+    ap (λ (v : Vec ReadLease Global). v.items) c.replace-reads.ensures.value ∙ ap (λ (x : SessionSeen). x.reads) c.self.view_is in
+    subst (λ (l : List Shown). IsChmod (g.D.Desk.seen c.args.desk.now) l c.args.ino c.args.mode c.args.call) (sym reads) c.requires.chmod
+
 pub returns-in-Ok-clause-call : goal.returns-in-Ok-clause-call
 returns-in-Ok-clause-call g c =
     let same = asked g (goal.at.returns-in-Ok-clause-call g c).After-set_mode in
     let d = g.D.Desk.seen c.args.desk.now in
     let d' = g.D.Desk.seen c.set_mode.new.self in
     Made ModeSet (subst (λ a. g.D.Desk.called c.args.desk.now a ModeSet c.set_mode.new.self) same c.in-Ok.ensures.called)
-    (record { seen = subst (λ a. SeenAfter d a ModeSet d') same c.in-Ok.ensures.seen; holder = tt }, (refl, now_empty g c))
+    (record { seen = subst (λ a. SeenAfter d a ModeSet d') same c.in-Ok.ensures.seen; holder = tt; cause = tt }, (refl, now_empty g c))
 
 pub returns-in-Ok-clause-on : goal.returns-in-Ok-clause-on
 returns-in-Ok-clause-on g c =
@@ -68,7 +77,11 @@ returns-in-Err-clause-call g c =
     let d = g.D.Desk.seen c.args.desk.now in
     let d' = g.D.Desk.seen c.set_mode.new.self in
     Made told (subst (λ a. g.D.Desk.called c.args.desk.now a told c.set_mode.new.self) same c.in-Err.ensures.called) (
-      record { seen = subst (λ a. SeenAfter d a told d') same c.in-Err.ensures.seen; holder = subst (λ a. TellsHolder d.lib d.out a told) same c.in-Err.ensures.holder },
+      record {
+        seen = subst (λ a. SeenAfter d a told d') same c.in-Err.ensures.seen;
+        holder = subst (λ a. TellsHolder d.lib d.out a told) same c.in-Err.ensures.holder;
+        cause = subst (λ a. TellsCause d a told) same c.in-Err.ensures.cause;
+      },
       (ap (λ call. Err (call, c.in-Err.fault)) c.in-Err.ensures.call, as_before g c),
     )
 
