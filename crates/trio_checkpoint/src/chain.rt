@@ -33,6 +33,7 @@ pub(crate) fn copy_chain(
     ensures index { IfOk result (λ c. AreCopies home.old.pages c.index_numbers.items c.index.items) }
     ensures there { IfOk result (λ c. IsTrue (are_there (core_of home.old.pages range) c.index_numbers.items)) }
     ensures home { home.new.pages ≡ home.old.pages }
+    ensures floor { home.old.looked ≤ home.new.looked }
 {
     let mut index_numbers = Vec::new(alloc);
     let mut block_numbers = Vec::new(alloc);

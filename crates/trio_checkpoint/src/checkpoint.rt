@@ -1,6 +1,6 @@
 //! Checkpoints.
 
-ghost use Rattle.std.specs.Prelude.{◌≡◌, ◌<◌, ◌==◌, IfOk, IsOk, IsTrue, Ok, is_some, length};
+ghost use Rattle.std.specs.Prelude.{◌≡◌, ◌<◌, ◌≤◌, ◌==◌, IfOk, IsOk, IsTrue, Ok, is_some, length};
 ghost use Rattle.std.specs.List.{find};
 ghost use Rattle.std.specs.Option.{option_copied};
 ghost use Rattle.std.specs.Result.{ForOk};
@@ -84,6 +84,8 @@ impl Checkpoint {
         ensures within { IfOk result
             (λ c. IsTrue (all_below (length home.old.pages) (sheet_numbers (covered_pages c)))) }
         ensures home { home.new.pages ≡ home.old.pages }
+        // the count of looks never falls
+        ensures floor { home.old.looked ≤ home.new.looked }
     {
         let Some(read) = Body::read(body, kind, range) else {
             unreachable!()
@@ -177,6 +179,7 @@ fn copy_blocks(
     requires { AllStand home.old.pages (covered_numbers kind numbers.now) }
     ensures copies { IfOk result (λ copies. AreCopies home.old.pages (covered_numbers kind numbers.now) copies.items) }
     ensures home { home.new.pages ≡ home.old.pages }
+    ensures floor { home.old.looked ≤ home.new.looked }
 {
     match kind {
         Kind::Directory => copy_pages(alloc, home, numbers, reads),

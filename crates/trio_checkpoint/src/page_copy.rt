@@ -1,6 +1,6 @@
 //! Copies of pages under their numbers.
 
-ghost use Rattle.std.specs.Prelude.{◌≡◌, ◌<◌, ◌+◌, ◌*◌, ◌==◌, IfOk, IsSome, IsTrue, None, Some, length, slice_index_or, slice_set};
+ghost use Rattle.std.specs.Prelude.{◌≡◌, ◌<◌, ◌≤◌, ◌+◌, ◌*◌, ◌==◌, IfOk, IsSome, IsTrue, None, Some, length, slice_index_or, slice_set};
 ghost use Rattle.std.specs.List.{find};
 ghost use Rattle.std.specs.Option.{option_copied};
 ghost use Rattle.trio_layout.specs.Entries.{body_in_slot};
@@ -43,7 +43,10 @@ impl PageCopy {
         ensures number { IfOk result (λ c. c.page ≡ number) }
         ensures copy { IfOk result (λ c. IsCopy home.old.pages c) }
         ensures home { home.new.pages ≡ home.old.pages }
+        ensures floor { home.old.looked ≤ home.new.looked }
     {
+        // a count of 64 bits, which stops at its end
+        let _looked = home.looked();
         let Some(page) = home.page(PageNo(number), reads) else {
             unreachable!()
         };
@@ -111,6 +114,7 @@ pub(crate) fn copy_pages(
     requires { AllStand home.old.pages numbers.now }
     ensures copies { IfOk result (λ copies. AreCopies home.old.pages numbers.now copies.items) }
     ensures home { home.new.pages ≡ home.old.pages }
+    ensures floor { home.old.looked ≤ home.new.looked }
 {
     let mut copies = Vec::new(alloc);
     for number in numbers {

@@ -51,6 +51,7 @@ pub(crate) fn put_written(
     requires { ArePlaced rows.now checkpoints.old.items writes.now }
     ensures home { home.new.pages ≡ with_bodies (bodies_home rows.now checkpoints.old.items (leases_in writes.now)) home.old.pages }
     ensures checkpoints { checkpoints.new.items ≡ with_children (placed_files rows.now (leases_in writes.now)) checkpoints.old.items }
+    ensures floor { home.old.looked ≤ home.new.looked }
     ensures looked { home.new.looked ≤ home.old.looked + length writes.now }
     ensures reads { reads.new ≤ reads.old + length writes.now }
 {
@@ -70,6 +71,7 @@ fn put_lease(
     requires { ArePlaced rows.now checkpoints.old.items (lease.now ∷ []) }
     ensures home { home.new.pages ≡ with_bodies (bodies_home rows.now checkpoints.old.items (leases_in (lease.now ∷ []))) home.old.pages }
     ensures checkpoints { checkpoints.new.items ≡ with_children (placed_files rows.now (leases_in (lease.now ∷ []))) checkpoints.old.items }
+    ensures floor { home.old.looked ≤ home.new.looked }
     ensures looked { home.new.looked ≤ home.old.looked + 1 }
     ensures reads { reads.new ≤ reads.old + 1 }
 {
@@ -94,6 +96,7 @@ fn put_at(
     requires covered { Covers row.now.page (checkpoint_at checkpoints.old.items row.now.parent) }
     ensures home { home.new.pages ≡ (if is_some (checkpoint_at checkpoints.old.items row.now.parent) then home.old.pages else with_body_at row.now.page row.now.slot body.now home.old.pages) }
     ensures checkpoints { checkpoints.new.items ≡ slice_set checkpoints.old.items row.now.parent (option_map (with_body_on row.now.page row.now.slot body.now) (checkpoint_at checkpoints.old.items row.now.parent)) }
+    ensures floor { home.old.looked ≤ home.new.looked }
     ensures looked { home.new.looked ≤ home.old.looked + 1 }
     ensures reads { reads.new ≤ reads.old + 1 }
 {
@@ -144,6 +147,7 @@ pub(crate) fn put_kept(
     requires slots { StandsInSlots (map entry_seen entries.now) }
     requires no_root { NamesNoRoot (map entry_seen entries.now) }
     ensures home { home.new.pages ≡ with_bodies (kept_children checkpoints.now (map entry_seen entries.now)) home.old.pages }
+    ensures floor { home.old.looked ≤ home.new.looked }
     ensures looked { home.new.looked ≤ home.old.looked + page_changes None (kept_children checkpoints.now (map entry_seen entries.now)) }
     ensures reads { reads.new ≤ reads.old + page_changes None (kept_children checkpoints.now (map entry_seen entries.now)) }
 {
@@ -170,6 +174,7 @@ fn put_entry(
     requires no_root { entry.now.ino ≢ 1 }
     ensures away { IsAway result home.new.pages }
     ensures pages { with_taken result home.new.pages ≡ with_bodies (kept_children checkpoints.now (entry_seen entry.now ∷ [])) (with_taken taken home.old.pages) }
+    ensures floor { home.old.looked ≤ home.new.looked }
     ensures looked { (later : List Met) → home.new.looked + page_changes (taken_number result) later
         ≤ home.old.looked + page_changes (taken_number taken) (kept_children checkpoints.now (entry_seen entry.now ∷ []) ++ later) }
     ensures reads { (later : List Met) → reads.new + page_changes (taken_number result) later
@@ -191,6 +196,7 @@ fn move_on(home: &mut Home, taken: Option<TakenPage>, no: PageNo, reads: &mut Re
     ensures page { result.page ≡ slice_index_or (with_taken taken home.old.pages) no.0 None }
     ensures away { IsAway (Some result) home.new.pages }
     ensures pages { with_taken (Some result) home.new.pages ≡ with_taken taken home.old.pages }
+    ensures floor { home.old.looked ≤ home.new.looked }
     ensures looked { home.new.looked ≤ home.old.looked + looks_for no.0 taken }
     ensures reads { reads.new ≤ reads.old + looks_for no.0 taken }
 {

@@ -81,6 +81,7 @@ impl Store {
         ensures owners { (page : ℕ) → slice_index self.new.owners page ≡ owner_after listing.listing self.old.owners page }
         ensures sizes { (length self.new.rows ≡ length self.old.rows) × (length self.new.owners ≡ length self.old.owners) }
         ensures allotments { self.new.allotments ≡ outs_after self.old.allotments (sheet_numbers (bundle_in bundle).pages) (bundle_in bundle).numbers }
+        ensures floor { self.old.home.looked ≤ self.new.home.looked }
         ensures looked { let lent = with_written self.old.rows self.old.checkpoints.items (bundle_in bundle) in
             self.new.home.looked ≤ self.old.home.looked + length (bundle_in bundle).writes + page_changes None (kept_children lent listing.listing.entries) }
         ensures reads { let lent = with_written self.old.rows self.old.checkpoints.items (bundle_in bundle) in

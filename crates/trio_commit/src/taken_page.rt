@@ -1,6 +1,6 @@
 //! A page that leaves home for a moment, so that bodies are put into it.
 
-ghost use Rattle.std.specs.Prelude.{◌≡◌, ◌<◌, ◌+◌, ◌*◌, None, is_some, slice_index_or, slice_set, length, IsTrue};
+ghost use Rattle.std.specs.Prelude.{◌≡◌, ◌<◌, ◌≤◌, ◌+◌, ◌*◌, None, is_some, slice_index_or, slice_set, length, IsTrue};
 ghost use Rattle.std.specs.Option.{option_map};
 ghost use Rattle.trio_page.specs.Home.{raised};
 ghost use Rattle.trio_layout.specs.Accept.{with_body_in, with_body_at};
@@ -21,8 +21,11 @@ impl TakenPage {
         ensures number { result.no ≡ no }
         ensures page { result.page ≡ slice_index_or home.old.pages no.0 None }
         ensures home { home.new ≡ record { pages = slice_set home.old.pages no.0 None; looked = raised home.old.looked } }
+        ensures floor { home.old.looked ≤ home.new.looked }
         ensures reads { reads.new ≡ raised reads.old }
     {
+        // a count of 64 bits, which stops at its end
+        let _looked = home.looked();
         let page = home.take(no, reads);
         TakenPage { no, page }
     }
@@ -76,6 +79,7 @@ pub(crate) fn put_body_home(
 )
     requires { slot < 16 }
     ensures home { home.new ≡ record { pages = with_body_at no.0 slot body.now home.old.pages; looked = raised home.old.looked } }
+    ensures floor { home.old.looked ≤ home.new.looked }
     ensures reads { reads.new ≡ raised reads.old }
 {
     let mut taken = TakenPage::take(home, no, reads);

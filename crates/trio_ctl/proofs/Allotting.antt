@@ -1,5 +1,5 @@
 -- What an allotment gives, by what the controller keeps.
-use Rattle.std.proofs.Common.{◌≡◌, ℕ, ◌+◌, ◌-◌, ◌*◌, ◌<◌, ◌≤◌, true, false, ◌==◌, ◌&&◌, List, ◌++◌, length, map, take, drop, Option, Some, None, IsSome, refl, sym, ap, subst, ◌∙◌, ◌⊎◌, inl, inr, arith}
+use Rattle.std.proofs.Common.{◌≡◌, ℕ, zero, suc, ◌+◌, ◌-◌, ◌*◌, ◌^◌, ◌<◌, ◌≤◌, true, false, ◌==◌, ◌&&◌, List, ◌++◌, length, map, take, drop, Option, Some, None, IsSome, refl, sym, ap, subst, ◌∙◌, ◌⊎◌, inl, inr, arith}
 use Rattle.std.specs.Prelude.{IsTrue, not, slice_get, slice_index, slice_index_or}
 use Rattle.std.proofs.lemmas.Bool.{and_parts, eqb-true, false≢true, le-leb, le-ltb, lt-ltb, not-true}
 use Rattle.std.proofs.lemmas.List.{take-append-drop}
@@ -45,7 +45,7 @@ use Rattle.trio_ctl.specs.Ctl.{HaveKinds, HoldsAreTold, IsControlled}
 use Rattle.trio_open.specs.Entries.{Entries}
 use Rattle.trio_open.specs.Open.{Opened, grants_in}
 use Rattle.trio_ctl.specs.Stored.{IsStored, superblock_at_home}
-use Rattle.trio_allot.specs.Out.{OutByNumber, outs_with}
+use Rattle.trio_allot.specs.Out.{OutByNumber, outs_with, raised_by}
 
 module _ (s : Store) (first : ℕ) (table : List Keyed) (files : List Opened) (creds : List Creds) (entries : Entries) (begun : List (Option Outline)) (k : IsControlled s first table files creds entries begun) where
   abbrev now : State
@@ -257,3 +257,12 @@ module _ (s : Store) (first : ℕ) (table : List Keyed) (files : List Opened) (c
               let c = filter-In (is_free_number rows outs.numbers) 0 (count_up 1 (length rows - 1)) all in
               let low = (count_from 1 (length rows - 1) 0 c.0).0 in
               omega (arith, low)
+
+-- a count that was raised so often hasn't fallen
+pub raised_by_above : (k n : ℕ) → n < 2 ^ 64 → (n ≤ raised_by k n) × (raised_by k n < 2 ^ 64)
+raised_by_above zero n few = (omega arith, few)
+raised_by_above (suc k) n few =
+    let so_far = raised_by_above k n few in
+    let above = so_far.0 in
+    let below = so_far.1 in
+    (omega (arith, above, below), omega arith)

@@ -22,10 +22,10 @@ use Rattle.trio_layout.specs.Accept.{next, with_bodies}
 use Rattle.trio_layout.specs.Core.{Core}
 use Rattle.trio_layout.specs.Edges.{has_file, is_listed}
 use Rattle.trio_layout.specs.Image.{Image, row_at}
-use Rattle.trio_layout.specs.Listing.{ListedFile, Listing}
+use Rattle.trio_layout.specs.Listing.{ListedFile}
 use Rattle.trio_layout.specs.Superblock.{superblock_fits}
 use Rattle.trio_layout.specs.Survey.{Met, owner_of, pages_of, plain, row_of, survey}
-use Rattle.trio_layout.specs.Tables.{gives_up, owner_after, row_after}
+use Rattle.trio_layout.specs.Tables.{gives_up, owner_after}
 use Rattle.trio_surveys.proofs.Accepted.{length-bodies}
 use Rattle.trio_surveys.proofs.Images.{owner_at, some_of}
 use Rattle.trio_surveys.proofs.Owned.{index_apart, pages_are, sound_parts}
@@ -34,7 +34,7 @@ use Rattle.trio_surveys.proofs.Putting.{put_on, put_on-none, with_bodies-get}
 use Rattle.trio_surveys.proofs.SheetLaws.{length-with_pages}
 use Rattle.trio_surveys.proofs.Sheets.{among_cases, not_among, page_there, place_there, place_within, with_pages_apart, with_pages_known}
 use Rattle.trio_checkpoint.specs.Covered.{Checkpointed, covered_pages}
-use Rattle.trio_allot.specs.Out.{OutByNumber, outs_after}
+use Rattle.trio_allot.specs.Out.{OutByNumber}
 use Rattle.trio_state.specs.Bundles.{Ends, blank, grants_after, is_in_bundle, lent_part}
 use Rattle.trio_state.specs.State.{OpenGrant, State, creds_of, settled}
 use Rattle.trio_laws.specs.EndLaws.{checkpoints_of}
@@ -48,27 +48,18 @@ use Rattle.trio_laws.proofs.judgement.ListingFacts.{has_file_at, has_file_by}
 use Rattle.trio_laws.proofs.judgement.TablesAfter.{listing_gives_tables}
 use Rattle.trio_laws.proofs.judgement.Taking.{reads}
 use Rattle.trio_commit.specs.declared.store.Store.{Store}
-use Rattle.trio_commit.specs.Bodies.{bodies_home, is_parent_lent, kept_children, placed_files, root_after, with_children}
+use Rattle.trio_commit.specs.Commits.{Commits}
+use Rattle.trio_commit.specs.Bodies.{bodies_home, is_parent_lent}
 use Rattle.trio_commit.specs.Listed.{file_numbers}
 use Rattle.trio_commit.specs.Store.{checkpoint_at, covered_at, state_of, with_checkpoint}
 use Rattle.trio_commit.proofs.PutBack.{checkpoint_at-others}
 use Rattle.trio_open.specs.Covers.{CoversLent}
+use Rattle.trio_ctl.specs.CommitLaws.{CommitIsNext}
 use Rattle.trio_ctl.specs.Stored.{IsStored, grants_staying}
-use Rattle.trio_ctl.proofs.StoredFacts.{Checkpoints, open_grant, sized, stays_unwritten, staying_same, unwritten_stays}
+use Rattle.trio_ctl.proofs.StoredFacts.{Checkpoints, HandedBundle, open_grant, sized, stays_unwritten, staying_same, unwritten_stays}
 use Rattle.trio_ctl.proofs.Children.{children_at, length-children, listed_by, own_numbers, put_on-append, put_on-filter, put_over_any, with_own, with_own_blocks}
 use Rattle.trio_ctl.proofs.AcceptedBundle.{AcceptedBundle, case_here, core_now, core_then, cs, few_rows, files_then, fit_then, judgeable, list_here, listed_core, low_owner, now, numbers_below, owners_long, page_covered, pick_then, placed_from, placed_parent, rows_long, sound_then}
 use Rattle.trio_ctl.proofs.PagesPut.{all_put, is_outside, kept, kept_met, lent, placed, put, put_met, sheet_settled}
-
--- what `commit` leaves
-pub record Commits (s s' : Store) (b : Bundle) (l : Listing) : Type 0 where
-  pub home : s'.home.pages ≡ with_bodies (kept_children (with_children (placed_files s.rows b) s.checkpoints.items) l.entries)
-      (with_pages (bundle_sheets b) (with_bodies (bodies_home s.rows s.checkpoints.items b) s.home.pages))
-  pub checkpoints : s'.checkpoints.items ≡ with_all None (file_numbers l) (with_children (placed_files s.rows b) s.checkpoints.items)
-  pub root : s'.root ≡ root_after b s.root
-  pub rows : (n : ℕ) → row_in s'.rows n ≡ row_after l s.rows n
-  pub owners : (page : ℕ) → slice_index s'.owners page ≡ owner_after l s.owners page
-  pub sizes : (length s'.rows ≡ length s.rows) × (length s'.owners ≡ length s.owners)
-  pub allotments : s'.allotments ≡ outs_after s.allotments (sheet_numbers b.pages) b.numbers
 
 -- the bundle has come to the end of an accepted one, and the store is kept
 pub record Committed (s s' : Store) (first_core : ℕ) (grants : List OpenGrant) (creds : List Creds) (entries lib : ℕ) (b : Bundle) : Type 0 where
@@ -582,3 +573,10 @@ module _ (e : AcceptedBundle) (s' : Store) (is : Commits e.handed.store s' e.han
       kept = accepted_kept (now e) after e.handed.stored.kept e.handed.lib.0 (creds_of (now e) e.handed.lib.0) b e.handed.given (closed_unparted (now e) e.handed.lib.0 b e.handed.closed) e.accepted ends;
     };
   }
+
+-- where such a store is kept, what `commit` says of it is the next image
+pub commit_is_next : CommitIsNext
+commit_is_next s s' first_core grants creds entries lib b stored here commits =
+    let handed : HandedBundle = record { store = s; first_core = first_core; grants = grants; creds = creds; entries = entries; stored = stored; lib = lib; bundle = b; given = here.0.given; closed = here.0.closed } in
+    let done = committed (record { handed = handed; accepted = here.1 }) s' commits in
+    (done.ends, done.stored)

@@ -55,7 +55,8 @@ use Rattle.trio_open.specs.Entries.{Entries, begun_among, reads_among}
 use Rattle.trio_open.specs.Open.{Opened, grants_in, keyed}
 use Rattle.trio_ctl.specs.Stored.{IsStored, grants_staying}
 use Rattle.trio_ctl.proofs.AcceptedBundle.{AcceptedBundle, CanCommit, can_commit}
-use Rattle.trio_ctl.proofs.Committing.{Commits, Committed, committed}
+use Rattle.trio_commit.specs.Commits.{Commits}
+use Rattle.trio_ctl.proofs.Committing.{Committed, committed}
 use Rattle.trio_ctl.proofs.StoredFacts.{HandedBundle}
 use Rattle.trio_ctl.proofs.Looks.{few_looks}
 use Rattle.trio_ctl.proofs.RollingBack.{CanRollBack, RolledBack, RollsBack, can_roll_back, rolled_back}

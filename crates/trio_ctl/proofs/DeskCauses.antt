@@ -1,10 +1,11 @@
--- What a grant tells is true of the nodes at which it is given or refused.
-use Rattle.std.proofs.Common.{◌≡◌, ℕ, true, map, IfOk, Option, Some, None, Result, Ok, Err, is_some, sym, refl, ap, ◌∙◌, inl, inr}
+-- What a grant tells is true of the nodes at which it is given or refused, and so is the cause of a refused change of mode.
+use Rattle.std.proofs.Common.{◌≡◌, ℕ, true, map, IfOk, List, Option, Some, None, Result, Ok, Err, is_some, sym, refl, ap, ◌∙◌, subst, inl, inr}
 use Rattle.std.specs.Prelude.{◌&&◌, ◌==◌}
 use Rattle.std.proofs.lemmas.Bool.{and_from, both_ways, eq-eqb, false≢true, not-true}
 use Rattle.std.specs.Option.{IsSomeAnd, option_map}
 use Rattle.trio_rights.specs.Row.{Row}
 use Rattle.trio_rights.specs.declared.kind.Kind.{Kind}
+use Rattle.trio_rights.specs.declared.rights.Creds.{Creds}
 use Rattle.trio_rights.specs.declared.rights.LibNo.{LibNo}
 use Rattle.trio_lists.specs.Lists.{In}
 use Rattle.trio_lists.proofs.Filters.{In-list_any}
@@ -14,14 +15,17 @@ use Rattle.trio_lease.specs.declared.lease.Lease.{Lease}
 use Rattle.trio_nodes.specs.GrantKinds.{is_write, same_kind}
 use Rattle.trio_nodes.specs.declared.answers.GrantFault.{GrantFault}
 use Rattle.trio_nodes.specs.declared.answers.GrantFault.TheVariants.{NotLive, Denied, NoParent, Busy, NoMemory as NoGrantMemory}
+use Rattle.trio_nodes.specs.declared.answers.ModeFault.{ModeFault}
+use Rattle.trio_nodes.specs.declared.answers.ModeFault.TheVariants.{NotLive as NoFile, NotOwner, BadMode, Busy as BusyMode, NoMemory as NoModeMemory}
+use Rattle.trio_nodes.specs.declared.call.Call.{Call}
 use Rattle.trio_nodes.specs.declared.grant.GrantKind.{GrantKind}
 use Rattle.trio_nodes.specs.declared.grant.GrantKind.TheVariants.{Read, Write, Hold}
 use Rattle.trio_nodes.specs.declared.node.Node.{Node}
-use Rattle.trio_nodes.specs.Nodes.{node_at}
+use Rattle.trio_nodes.specs.Nodes.{Nodes, node_at}
 use Rattle.trio_nodes.specs.Standing.{Standing}
 use Rattle.trio_nodes.specs.Legal.{lacks_directory, parent_stands}
-use Rattle.trio_desk.specs.Call.{Grant, lease_told}
-use Rattle.trio_desk.specs.Refusals.{IsCause, TellsCause, file_kind, leases_out}
+use Rattle.trio_desk.specs.Call.{Grant, SetMode, lease_told, mode_told}
+use Rattle.trio_desk.specs.Refusals.{HasMoment, IsCause, IsModeCause, TellsCause, file_kind, leases_out}
 use Rattle.trio_layout.specs.Image.{row_at}
 use Rattle.trio_state.specs.Kept.{Kept}
 use Rattle.trio_state.specs.Grants.{opened}
@@ -33,15 +37,18 @@ use Rattle.trio_laws.specs.session.Lent.{AreLentTo, LentIsTrue}
 use Rattle.trio_laws.proofs.StateFacts.{write_is}
 use Rattle.trio_laws.proofs.history.Facts.{node_is}
 use Rattle.trio_laws.proofs.history.GrantStep.{grant_extends}
+use Rattle.trio_laws.proofs.history.ModeStep.{mode_extends}
 use Rattle.trio_laws.proofs.history.StandsTree.{states_are_trees}
 use Rattle.trio_laws.proofs.session.Lent.{leases_stay_true}
 use Rattle.trio_laws.proofs.session.Rows.{rows_say}
-use Rattle.trio_ctl.specs.Answers.{grant_answer, grant_fault_answer}
-use Rattle.trio_ctl.specs.Desk.{desk_of, out_of}
+use Rattle.trio_ctl.specs.Answers.{grant_answer, grant_fault_answer, mode_fault_answer}
+use Rattle.trio_ctl.specs.Backs.{AreBack, all_back}
+use Rattle.trio_ctl.specs.Desk.{Happens, desk_of, out_of}
 use Rattle.trio_ctl.specs.Logged.{alone}
 use Rattle.trio_open.specs.Open.{given_by, lent_by, shown_of}
 use Rattle.trio_ctl.proofs.DeskGiven.{behind}
 use Rattle.trio_ctl.proofs.DeskOuts.{numbers_to-In}
+use Rattle.trio_ctl.proofs.LeasesBack.{all_back_is, backs_kept, backs_nodes}
 use Rattle.trio_ctl.proofs.Settling.{hold_lent, read_lent, write_lent}
 
 -- all that is out is the library's, each as it was lent
@@ -50,6 +57,24 @@ all_lent s lib = record {
   files = λ f i. elim (In-cases f (out_of s lib).writes (out_of s lib).reads i) [ inl w ↦ write_lent s lib f w | inr r ↦ read_lent s lib f r ];
   holds = λ h i. hold_lent s lib h i;
 }
+
+-- an allotted number has no node
+none_allotted : (s : State) → Kept s → (lib : LibNo) (n : ℕ) → In n (out_of s lib).numbers → node_at (nodes_of s) n ≡ None
+none_allotted s k lib n i = node_is s k n ∙ ap (node_by (settled s) n (writer_of s n)) (k.numbers_free n (ap is_some (numbers_to-In s.numbers_out lib.0 n i)))
+
+-- the nodes of the moment are those of the state
+has_moment : (s : State) → Kept s → (lib : LibNo) → LentIsTrue s → HasMoment (desk_of s lib)
+has_moment s k lib t =
+    let here = leases_stay_true s lib.0 (leases_out (out_of s lib)) k t (all_lent s lib) in
+    record {
+      nodes = nodes_of s;
+      rows = s.home.rows;
+      tree = states_are_trees s k;
+      agrees = here.agrees;
+      none = none_allotted s k lib;
+      same = rows_say s k;
+      places = here.places;
+    }
 
 -- a file that is out for writing has a write grant of the library that stands
 writes_stand : (s : State) (lib : LibNo) (x : Node) → In x.parent (map (λ (w : Shown). w.ino) (out_of s lib).writes) → parent_stands (map standing_of s.open_grants) lib.0 (Some x) ≡ true
@@ -72,11 +97,6 @@ file_kind-given_by Hold g = refl
 module _ (s : State) (k : Kept s) (lib : LibNo) (ino : ℕ) (kind : GrantKind) where
   abbrev Cause : GrantFault → Type 0
   Cause fault = IsCause (nodes_of s) (creds_of s lib.0) (out_of s lib) ino kind fault
-
-  -- an allotted number has no node
-  none_allotted : (n : ℕ) → In n (out_of s lib).numbers → node_at (nodes_of s) n ≡ None
-  none_allotted n i =
-      node_is s k n ∙ ap (node_by (settled s) n (writer_of s n)) (k.numbers_free n (ap is_some (numbers_to-In s.numbers_out lib.0 n i)))
 
   no_parent : (t : GrantKind) → kind ≡ t → lacks_directory (map standing_of s.open_grants) lib.0 t (node_at (nodes_of s) ino) ≡ true → Cause NoParent
   no_parent Read is e = absurd (false≢true e)
@@ -112,27 +132,40 @@ module _ (s : State) (k : Kept s) (lib : LibNo) (ino : ℕ) (kind : GrantKind) w
           ap (option_map (λ (x : Node). x.kind)) (node_is s k ino ∙ ap (node_by (settled s) ino (writer_of s ino)) at) ∙ ap (λ (t : Kind). Some t) (sym lent)
 
   pub grant_cause : LentIsTrue s → (r : Result Lease GrantFault) (s' : State) → Step s (step.Grant lib.0 ino kind) (grant_answer r) s' → IfOk r IsLentOn → TellsCause (desk_of s lib) (Grant ino kind) (lease_told r)
-  grant_cause t (Ok lease) s' st is =
-      let here = leases_stay_true s lib.0 (leases_out (out_of s lib)) k t (all_lent s lib) in
-      record {
-        nodes = nodes_of s;
-        rows = s.home.rows;
-        tree = states_are_trees s k;
-        agrees = here.agrees;
-        none = none_allotted;
-        same = rows_say s k;
-        places = here.places;
-        kind = kind_is lease is;
-      }
-  grant_cause t (Err fault) s' st is =
-      let here = leases_stay_true s lib.0 (leases_out (out_of s lib)) k t (all_lent s lib) in
-      record {
-        nodes = nodes_of s;
-        rows = s.home.rows;
-        tree = states_are_trees s k;
-        agrees = here.agrees;
-        none = none_allotted;
-        same = rows_say s k;
-        places = here.places;
-        cause = cause_is fault s' st;
-      }
+  unfolding has_moment
+  grant_cause t (Ok lease) s' st is = record { moment = has_moment s k lib t; kind = kind_is lease is }
+  grant_cause t (Err fault) s' st is = record { moment = has_moment s k lib t; cause = cause_is fault s' st }
+
+-- ---- a change of mode
+
+-- the entry of a refusal is legal, so its cause is true
+mode_cause : (s : State) (lib : LibNo) (ino mode : ℕ) (back : List Shown) (fault : ModeFault) (t : State) → Kept s → AreBack s lib back → Step (all_back s lib back) (step.SetMode lib.0 ino mode) (mode_fault_answer fault) t → IsModeCause (nodes_of s) (creds_of s lib.0) ino mode fault
+mode_cause s lib ino mode back fault t k a st = by fault st
+  where
+    u : State
+    u = all_back s lib back
+
+    same : nodes_of u ≡ nodes_of s
+    same = backs_nodes s lib back k a
+
+    creds : creds_of u lib.0 ≡ creds_of s lib.0
+    creds = ap (λ (x : State). creds_of x lib.0) (all_back_is s lib back)
+
+    by : (fault : ModeFault) → Step u (step.SetMode lib.0 ino mode) (mode_fault_answer fault) t → IsModeCause (nodes_of s) (creds_of s lib.0) ino mode fault
+    by NoFile (inl d) = subst (λ (nodes : Nodes). node_at nodes ino ≡ None) same (mode_extends u (backs_kept s lib back k a) lib.0 ino mode alone (step.NotModeSet NoFile) t d (λ said e. tt)).legal.0
+    by NotOwner (inl d) =
+        subst (λ (c : Creds). IsModeCause (nodes_of s) c ino mode NotOwner) creds
+        (subst (λ (nodes : Nodes). IsModeCause nodes (creds_of u lib.0) ino mode NotOwner) same (mode_extends u (backs_kept s lib back k a) lib.0 ino mode alone (step.NotModeSet NotOwner) t d (λ said e. tt)).legal.0)
+    by BadMode (inl d) = (mode_extends u (backs_kept s lib back k a) lib.0 ino mode alone (step.NotModeSet BadMode) t d (λ said e. tt)).legal.0
+    by (BusyMode holder) st = tt
+    by NoModeMemory st = tt
+    by NoFile (inr none) = (let wrong : step.NotModeSet NoFile ≡ step.NoMemory = none.1 in absurd (cc wrong))
+    by NotOwner (inr none) = (let wrong : step.NotModeSet NotOwner ≡ step.NoMemory = none.1 in absurd (cc wrong))
+    by BadMode (inr none) = (let wrong : step.NotModeSet BadMode ≡ step.NoMemory = none.1 in absurd (cc wrong))
+
+-- so a refused change of mode has its cause
+pub moded_cause : {A B : Type 0} (s : State) → Kept s → LentIsTrue s → (lib : LibNo) (ino mode : ℕ) (back : List Shown) (call : Option Call) (r : Result A B) (f : B → ModeFault) (s' : State)
+    → Happens s lib (SetMode ino mode back call) (mode_told r f) s' → TellsCause (desk_of s lib) (SetMode ino mode back call) (mode_told r f)
+unfolding has_moment
+moded_cause s k t lib ino mode back call (Ok done) f s' h = tt
+moded_cause s k t lib ino mode back call (Err b) f s' h = record { moment = has_moment s k lib t; cause = mode_cause s lib ino mode back (f b) h.is_step.0.0 k h.back h.is_step.0.1 }

@@ -1,6 +1,6 @@
 -- What is seen of a desk after each call of the controller, and what a call leaves of other libraries.
-use Rattle.std.proofs.Common.{◌≡◌, ℕ, ◌+◌, ◌-◌, ◌≤◌, ◌⊎◌, not, Bool, true, false, ◌==◌, ◌&&◌, IfOk, List, length, map, take, Option, Some, None, Result, Ok, Err, sym, refl, ap, ◌∙◌, subst, inl, inr, length-take-le, ltb-false, arith}
-use Rattle.std.specs.Prelude.{[], ◌∷◌, ◌++◌, ◌||◌, if◌then◌else◌, is_some, nat_lt, slice_get, slice_index_or}
+use Rattle.std.proofs.Common.{◌≡◌, ℕ, ◌+◌, ◌≤◌, ◌⊎◌, not, Bool, true, false, ◌==◌, ◌&&◌, IfOk, List, length, map, take, Option, Some, None, Result, Ok, Err, sym, refl, ap, ◌∙◌, subst, inl, inr, length-take-le, ltb-false, arith}
+use Rattle.std.specs.Prelude.{[], ◌∷◌, ◌++◌, ◌||◌, if◌then◌else◌, is_some, nat_lt, slice_get}
 use Rattle.std.specs.List.{filter}
 use Rattle.std.specs.Option.{IsSomeAnd, option_map}
 use Rattle.std.proofs.lemmas.List.{length-map}
@@ -8,6 +8,7 @@ use Rattle.std.proofs.lemmas.Bool.{and_from, and_parts, eq-eqb, eqb-true, false�
 use Rattle.trio_rights.specs.Row.{Row}
 use Rattle.trio_rights.specs.declared.rights.Creds.{Creds}
 use Rattle.trio_rights.specs.declared.rights.LibNo.{LibNo}
+use Rattle.trio_nodes.specs.Libraries.{creds_in}
 use Rattle.trio_nodes.specs.GrantKinds.{excludes_kind, is_hold, is_read, is_write}
 use Rattle.trio_nodes.specs.declared.grant.GrantKind.TheVariants.{Read, Write, Hold}
 use Rattle.trio_nodes.specs.declared.grant.Holder.{Holder}
@@ -146,8 +147,8 @@ busy_mode s lib ino mode holder e = by_row (row_at s.home ino) e
 
 -- ---- credentials
 
-pub creds_same : (cs ds : List Creds) (lib : ℕ) → ds ≡ cs → slice_index_or ds (lib - 1) (record { uid = 0; gid = 0 }) ≡ slice_index_or cs (lib - 1) (record { uid = 0; gid = 0 })
-creds_same cs ds lib e = ap (λ (l : List Creds). slice_index_or l (lib - 1) (record { uid = 0; gid = 0 })) e
+pub creds_same : (cs ds : List Creds) (lib : ℕ) → ds ≡ cs → creds_in ds lib ≡ creds_in cs lib
+creds_same cs ds lib e = ap (λ (l : List Creds). creds_in l lib) e
 
 module _ (s : State) where
   abbrev SameCreds : State → Type 0

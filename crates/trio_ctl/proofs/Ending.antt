@@ -1,10 +1,8 @@
 -- The end of a release that is awaited, with its entry in the log.
-use Rattle.std.proofs.Common.{◌≡◌, ◌+◌, ◌++◌, ◌∷◌, [], ℕ, List, None, Option, ap, refl, subst, sym, ◌∙◌}
+use Rattle.std.proofs.Common.{◌≡◌, ◌+◌, ◌++◌, ◌∷◌, [], ℕ, List, None, Option, ap, subst, sym, ◌∙◌}
 use Rattle.trio_rights.specs.Bundle.{Bundle}
 use Rattle.trio_rights.specs.Row.{Row}
 use Rattle.trio_rights.specs.declared.rights.LibNo.{LibNo}
-use Rattle.trio_lists.specs.Lists.{In}
-use Rattle.trio_lease.specs.Shown.{KeepsUntouched, LentFile}
 use Rattle.trio_lease.specs.Views.{bundle_in}
 use Rattle.trio_log.specs.Logged.{Logged}
 use Rattle.trio_nodes.specs.declared.answers.ReleaseAnswer.{ReleaseAnswer}
@@ -16,7 +14,7 @@ use Rattle.trio_layout.specs.Image.{Image}
 use Rattle.trio_case.specs.Cases.{CaseShown, case_in as case_shown}
 use Rattle.trio_judge.specs.declared.verdict.Verdict.{Verdict}
 use Rattle.trio_state.specs.Listed.{Notes}
-use Rattle.trio_state.specs.Moves.{Acts, Answered, End, IsAwaited, IsFull, KeptUnderway, Underway, outline_of, with_begun}
+use Rattle.trio_state.specs.Moves.{Acts, Answered, End, IsAwaited, IsFull, Underway, outline_of, with_begun}
 use Rattle.trio_state.specs.State.{State}
 use Rattle.trio_state.specs.Step.{Release, Step}
 use Rattle.trio_state.specs.Tells.{case_in}
@@ -27,7 +25,7 @@ use Rattle.trio_entries.specs.Telling.{whole_case}
 use Rattle.trio_entries.specs.declared.telling.Told.{Told}
 use Rattle.trio_ctl.specs.Answers.{verdict_of}
 use Rattle.trio_ctl.specs.Ctl.{Controller, Registered, underway_of}
-use Rattle.trio_ctl.specs.HandedIn.{WereLentOrTouched}
+use Rattle.trio_ctl.specs.HandedIn.{AreMarked}
 use Rattle.trio_ctl.specs.Logged.{HasHistory, entries_made, with_bundle}
 use Rattle.trio_ctl.specs.Pending.{IsWeighed}
 use Rattle.trio_ctl.specs.declared.outcome.Outcome.{Outcome}
@@ -83,14 +81,14 @@ module _ {here seen : Controller} (is : here ≡ seen) {k judged : CaseShown} (s
       record { awaited = awaited; full = whole; judgeable = judged_now (underway_of here) lib.0 k h.underway awaited whole }
 
   pub has_ended : (o : Outcome) (told : Told) (v : ReleaseAnswer) (r : Registered) → log.entries ≡ here.log
-      → WereLentOrTouched seen.state judged.lib.0 judged.bundle.writes → ((f : LentFile) → In f k.bundle.writes → KeepsUntouched f)
+      → AreMarked seen.state judged.lib.0 (handed_in judged.bundle)
       → {t : State} → t ≡ here.state → IsOutcome (case_in t k.lib.0 (bundle_in k.bundle)) o
       → {rows : List (Option Row)} → rows ≡ t.home.rows → TellsOutcome (whole_case k rows) notes (handed_in k.bundle) o told
       → v ≡ verdict_on o → Step t (Release lib.0 (bundle_in k.bundle)) (verdict_of v) r.state
       → r.begun ≡ (with_begun (underway_of here) lib.0 None).begun → r.promised + 1 ≡ promised
       → {log' : Logged} {notes' : Notes} → log' ≡ record log { entries = log.entries ++ entry.Raw lib v told.files told.bundle ∷ [] } → notes' ≡ noted_by v told.files notes
       → HasEnded here.first seen judged v r log' notes'
-  has_ended o told v r logged lent keeps {t} unchanged outcome {rows} rows_are tells verdict concluded taken withdrawn {log'} {notes'} pushed noted =
+  has_ended o told v r logged marked {t} unchanged outcome {rows} rows_are tells verdict concluded taken withdrawn {log'} {notes'} pushed noted =
       let s = here.state in
       let b = bundle_in k.bundle in
       let may = may_end in
@@ -105,7 +103,7 @@ module _ {here seen : Controller} (is : here ≡ seen) {k judged : CaseShown} (s
         history =
             after_release here.first s r.state here.begun r.begun promised r.promised log log' notes notes' lib k.bundle o told h
             (acts_keep (underway_of here) (End lib.0 b) (Answered (verdict_of v)) (underway_at r) h.underway (may.awaited.0, may.full) act)
-            may.judgeable (its_library (underway_of here) lib.0 (outline_of b) h.underway may.awaited.0) (as_here (λ c l x. WereLentOrTouched c.state l.0 x.bundle.writes) lent) keeps out told_so
+            may.judgeable (its_library (underway_of here) lib.0 (outline_of b) h.underway may.awaited.0) (as_here (λ c l x. AreMarked c.state l.0 (handed_in x.bundle)) marked) out told_so
             (subst (λ x. Step s (Release lib.0 b) (verdict_of x) r.state) verdict step) (noted ∙ ap (λ x. noted_by x told.files notes) verdict) entered
             (rw pushed (promised_room log.entries (entry.Raw lib v told.files told.bundle) promised r.promised log.room h.room withdrawn));
         acts = as_seen (λ c l x. Acts (underway_of c) (End l.0 (bundle_in x.bundle)) (Answered (verdict_of v)) (underway_at r)) act;

@@ -15,9 +15,9 @@ use Rattle.trio_nodes.specs.declared.call.Call.{Call}
 use Rattle.trio_nodes.specs.declared.entry.Entry.{Entry}
 use Rattle.trio_nodes.specs.declared.entry.Entry.TheVariants as entry
 use Rattle.trio_nodes.specs.declared.grant.Holder.{Holder}
-use Rattle.trio_desk.specs.Agrees.{Agrees}
+use Rattle.trio_nodes.specs.Nodes.{Nodes}
 use Rattle.trio_desk.specs.Call.{Ask, call_back, SetMode, ModeSet, NotModeSet}
-use Rattle.trio_desk.specs.Ready.{AreLent, TellsChmod}
+use Rattle.trio_desk.specs.Ready.{AreLent, ArePossible, TellsChmod}
 use Rattle.trio_state.specs.Grants.{holder_of}
 use Rattle.trio_state.specs.Kept.{Kept}
 use Rattle.trio_state.specs.Listed.{Notes}
@@ -27,9 +27,11 @@ use Rattle.trio_state.specs.Step as step
 use Rattle.trio_laws.specs.history.Recorded.{CallFits}
 use Rattle.trio_laws.specs.history.Replays.{IsLibrary}
 use Rattle.trio_laws.specs.history.Stands.{nodes_of}
-use Rattle.trio_laws.specs.session.Lent.{IsLentTo, LentIsTrue, root_of, sizes_of}
+use Rattle.trio_laws.specs.session.Lent.{IsLentTo, LentIsTrue}
+use Rattle.trio_laws.proofs.history.StandsTree.{states_are_trees}
 use Rattle.trio_laws.proofs.session.Chmods.{call_fits}
 use Rattle.trio_laws.proofs.session.Lent.{leases_stay_true}
+use Rattle.trio_laws.proofs.session.Rows.{rows_say}
 use Rattle.trio_ctl.specs.Answers.{mode_fault_answer}
 use Rattle.trio_ctl.specs.Backs.{all_back, back_entries}
 use Rattle.trio_ctl.specs.Ctl.{Controller}
@@ -151,14 +153,16 @@ module _ (s : State) (lib : LibNo) (ino mode : ℕ) (back : List Shown) (call : 
   lent_to : AreLent (out_of s lib) back → (f : Shown) → In f back → IsLentTo s lib.0 f
   lent_to l f i = read_lent s lib f (l.are_out f i)
 
-  leases_agree : Kept s → LentIsTrue s → AreLent (out_of s lib) back → Agrees (sizes_of s) (root_of s) (record { files = back; holds = [] }) (nodes_of s)
-  leases_agree k lent l = (leases_stay_true s lib.0 (record { files = back; holds = [] }) k lent (record { files = lent_to l; holds = λ h i. absurd i })).agrees
+  leases_possible : Kept s → LentIsTrue s → AreLent (out_of s lib) back → ArePossible (desk_of s lib) (record { writes = []; holds = []; pages = []; inodes = [] }) back (nodes_of s) s.home.rows
+  leases_possible k lent l =
+      let here = leases_stay_true s lib.0 (record { files = back; holds = [] }) k lent (record { files = lent_to l; holds = λ h i. absurd i }) in
+      record { tree = states_are_trees s k; agrees = here.agrees; none = λ n i. absurd i; same = rows_say s k; places = here.places }
 
   fits_at : (u u' : State) (answer : CtlAnswer) → Kept u → u.creds ≡ s.creds → nodes_of u ≡ nodes_of s → Kept s → LentIsTrue s → AreLent (out_of s lib) back → TellsChmod (desk_of s lib) back ino mode call
       → Step u (step.SetMode lib.0 ino mode) answer u' → CallFits u lib.0 ino mode call answer
   fits_at u u' answer ku creds nodes k lent l tells st =
-      call_fits u ku lib.0 ino mode (desk_of s lib) back call answer u' st (creds_same u.creds s.creds lib.0 (sym creds))
-      (subst (Agrees (sizes_of s) (root_of s) (record { files = back; holds = [] })) (sym nodes) (leases_agree k lent l)) tells
+      call_fits u ku lib.0 ino mode (desk_of s lib) back call answer u' st (creds_same u.creds s.creds lib.0 (sym creds)) s.home.rows
+      (subst (λ (x : Nodes). ArePossible (desk_of s lib) (record { writes = []; holds = []; pages = []; inodes = [] }) back x s.home.rows) (sym nodes) (leases_possible k lent l)) tells
 
   -- ---- all stays recorded
 

@@ -3,7 +3,7 @@ use Rattle.std.proofs.Common.{◌≡◌, ◌⊎◌, ◌+◌, ◌≤◌, ℕ, tru
 use Rattle.std.specs.Prelude.{slice_index_or}
 use Rattle.std.proofs.lemmas.Bool.{false≢true}
 use Rattle.trio_lists.specs.Lists.{In}
-use Rattle.trio_lists.proofs.Members.{map-In}
+use Rattle.trio_lists.proofs.Members.{In-map, map-In}
 use Rattle.trio_layout.specs.Accept.{is_accepted, next}
 use Rattle.trio_layout.specs.Case.{Case}
 use Rattle.trio_layout.specs.Copied.{with_copied}
@@ -28,10 +28,12 @@ use Rattle.trio_nodes.specs.declared.answers.ReleaseAnswer.TheVariants.{Accepted
 use Rattle.trio_nodes.specs.declared.entry.Entry.{Entry}
 use Rattle.trio_nodes.specs.declared.entry.Entry.TheVariants as entry
 use Rattle.trio_nodes.specs.declared.entry.Handed.{Handed}
+use Rattle.trio_nodes.specs.declared.entry.HandedFile.{HandedFile}
 use Rattle.trio_nodes.specs.declared.entry.HandedPage.{HandedPage}
 use Rattle.trio_nodes.specs.declared.entry.RawFile.{RawFile}
 use Rattle.trio_entries.specs.Handed.{block_in, file_in, fresh_in, handed_in, index_in}
 use Rattle.trio_state.specs.Bundles.{refused_image}
+use Rattle.trio_state.specs.Given.{GivenTo}
 use Rattle.trio_state.specs.Kept.{Kept}
 use Rattle.trio_state.specs.Listed.{Notes, accepted_blocks, accepted_files, notes_after, refused_blocks, refused_files}
 use Rattle.trio_state.specs.State.{OpenGrant, State, creds_of, settled}
@@ -57,7 +59,8 @@ use Rattle.trio_laws.proofs.history.RefusedTold.{refused_is_listed}
 use Rattle.trio_laws.proofs.judgement.Equivalence.{rules_are_accept}
 use Rattle.trio_laws.proofs.session.Lent.{step_keeps_lent}
 use Rattle.trio_ctl.specs.Answers.{verdict_of}
-use Rattle.trio_ctl.specs.HandedIn.{AreTouched, WasLentAs, WereLentOrTouched}
+use Rattle.trio_ctl.specs.HandedIn.{AreMarked, WasLentAs, WereLent}
+use Rattle.trio_ctl.specs.DeskLaws.{LentIsMarked}
 use Rattle.trio_ctl.specs.Logged.{HasHistory, entries_made, with_bundle}
 use Rattle.trio_open.specs.Open.{untouched}
 use Rattle.trio_ctl.specs.declared.outcome.Outcome.{Outcome}
@@ -114,20 +117,23 @@ marked_in s lib f k was keeps g p is_open mine same there =
         let same_sheet : sheet_handed p ≡ from.0 = ap sheet_handed e ∙ ap (λ y. sheet_handed (block_in y)) from.2 in
         inr (subst (λ y. In y g.blocks) (sym same_sheet) (subst (λ (h : OpenGrant). In from.0 h.blocks) one from.1))
 
--- where all are marked nothing is asked
-touched_in : (s : State) (lib : ℕ) (f : LentFile) → AreTouched f.stands.blocks → IsMarked s lib (file_in f.stands)
-touched_in s lib f all g p is_open mine same there =
-    let q = map-In block_in p f.stands.blocks there in
-    inl (ap (λ (y : HandedPage). y.touched) q.2 ∙ all q.0 q.1)
-
-pub marks_fit : (s : State) (lib : ℕ) (b : Bundled) → Kept s → WereLentOrTouched s lib b.writes → ((f : LentFile) → In f b.writes → KeepsUntouched f) → HandedFits s lib (with_bundle b)
-marks_fit s lib b k lent keeps w there =
+pub lent_fit : (s : State) (lib : ℕ) (b : Bundled) → Kept s → WereLent s lib b.writes → ((f : LentFile) → In f b.writes → KeepsUntouched f) → HandedFits s lib (with_bundle b)
+lent_fit s lib b k lent keeps w there =
     let f = map-In (λ f. file_in f.stands) w b.writes there in
-    subst (IsMarked s lib) (sym f.2) (by f.0 (lent f.0 f.1) (keeps f.0 f.1))
-  where
-    by : (f : LentFile) → WasLentAs s lib f ⊎ AreTouched f.stands.blocks → KeepsUntouched f → IsMarked s lib (file_in f.stands)
-    by f (inl was) kept = marked_in s lib f k was kept
-    by f (inr all) kept = touched_in s lib f all
+    subst (IsMarked s lib) (sym f.2) (marked_in s lib f.0 k (lent f.0 f.1) (keeps f.0 f.1))
+
+-- so leases that show what was lent are marked, whatever else is handed in alike
+pub lent_is_marked : LentIsMarked
+lent_is_marked s lib b k lent keeps w g p there is_open mine write same at = lent_fit s lib b k lent keeps w there g p is_open mine same at
+
+-- what was given has its marks by the one grant that lent it
+pub marks_fit : (s : State) (lib : ℕ) (b : Bundled) → Kept s → GivenTo s lib (bundle_in b) → AreMarked s lib (handed_in b) → HandedFits s lib (with_bundle b)
+marks_fit s lib b k given marked w there g p is_open mine same at =
+    let f = map-In (λ f. file_in f.stands) w b.writes there in
+    let was = given.writes (written_in f.0.stands) (In-map (λ f. written_in f.stands) f.0 b.writes f.1) in
+    let ino : w.ino ≡ f.0.stands.ino = ap (λ (x : HandedFile). x.ino) f.2 in
+    let one : was.grant ≡ g = write_alone s.open_grants was.grant g k.apart was.is_open is_open was.kind (was.ino ∙ sym ino ∙ sym same) in
+    marked w g p there is_open mine (sym (ap (λ (x : OpenGrant). x.kind) one) ∙ was.kind) same at
 
 -- ---- entries
 
@@ -234,10 +240,10 @@ noted_then s s' lib b (OutRefused rule ino page slot) told notes j o noted t ste
 
 -- ---- what holds after the end of a release
 
-pub after_release : (first : Image) (s s' : State) (begun begun' : List (Option Outline)) (promised promised' : ℕ) (log log' : Logged) (notes notes' : Notes) (lib : LibNo) (b : Bundled) (outcome : Outcome) (told : Told) → HasHistory first s begun promised log notes → KeptUnderway (underway_in s' begun') → IsJudgeable s lib.0 (bundle_in b) → IsLibrary s.creds lib.0 → WereLentOrTouched s lib.0 b.writes → ((f : LentFile) → In f b.writes → KeepsUntouched f) → IsOutcome (case_in s lib.0 (bundle_in b)) outcome → TellsOutcome (case_in s lib.0 (bundle_in b)) notes (handed_in b) outcome told → Step s (Release lib.0 (bundle_in b)) (verdict_of (verdict_on outcome)) s' → notes' ≡ noted_by (verdict_on outcome) told.files notes → log'.entries ≡ log.entries ++ entry.Raw lib (verdict_on outcome) told.files told.bundle ∷ [] → length log'.entries + promised' ≤ log'.room → HasHistory first s' begun' promised' log' notes'
-after_release first s s' begun begun' promised promised' log log' notes notes' lib b outcome told h underway j its lent keeps o t step noted' e room = record {
+pub after_release : (first : Image) (s s' : State) (begun begun' : List (Option Outline)) (promised promised' : ℕ) (log log' : Logged) (notes notes' : Notes) (lib : LibNo) (b : Bundled) (outcome : Outcome) (told : Told) → HasHistory first s begun promised log notes → KeptUnderway (underway_in s' begun') → IsJudgeable s lib.0 (bundle_in b) → IsLibrary s.creds lib.0 → AreMarked s lib.0 (handed_in b) → IsOutcome (case_in s lib.0 (bundle_in b)) outcome → TellsOutcome (case_in s lib.0 (bundle_in b)) notes (handed_in b) outcome told → Step s (Release lib.0 (bundle_in b)) (verdict_of (verdict_on outcome)) s' → notes' ≡ noted_by (verdict_on outcome) told.files notes → log'.entries ≡ log.entries ++ entry.Raw lib (verdict_on outcome) told.files told.bundle ∷ [] → length log'.entries + promised' ≤ log'.room → HasHistory first s' begun' promised' log' notes'
+after_release first s s' begun begun' promised promised' log log' notes notes' lib b outcome told h underway j its marked o t step noted' e room = record {
   all =
-      grown first s s' log.entries log'.entries (with_bundle b) (Release lib.0 (bundle_in b)) (verdict_of (verdict_on outcome)) h.all its j.given step (handed_is b, marks_fit s lib.0 b j.kept lent keeps)
+      grown first s s' log.entries log'.entries (with_bundle b) (Release lib.0 (bundle_in b)) (verdict_of (verdict_on outcome)) h.all its j.given step (handed_is b, marks_fit s lib.0 b j.kept j.given marked)
       (e ∙ sym (ap (λ (l : List Entry). log.entries ++ l) (release_entries s lib b outcome told notes j o h.noted t)));
   underway = underway;
   room = room;

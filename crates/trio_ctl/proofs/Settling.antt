@@ -1,6 +1,5 @@
 -- A settle of what is ready: what holds once the read leases are back, and after it.
-use Rattle.std.proofs.Common.{◌≡◌, ◌+◌, ◌-◌, ◌≤◌, ◌==◌, ℕ, Bool, true, false, not, ◌&&◌, ◌||◌, List, [], ◌∷◌, ◌++◌, map, length, length-append, Option, Some, None, Result, Ok, Err, sym, refl, ap, ◌∙◌, subst, inl, inr, arith}
-use Rattle.std.specs.Prelude.{slice_index_or}
+use Rattle.std.proofs.Common.{◌≡◌, ◌+◌, ◌≤◌, ◌==◌, ℕ, Bool, true, false, not, ◌&&◌, ◌||◌, List, [], ◌∷◌, ◌++◌, map, length, length-append, Option, Some, None, Result, Ok, Err, sym, refl, ap, ◌∙◌, subst, inl, inr, arith}
 use Rattle.std.specs.List.{filter, list_all, list_any}
 use Rattle.std.proofs.lemmas.Bool.{and_from, both_ways, eq-eqb, eqb-true, false_from_ne_true, false≢true, not-true, not_from_false}
 use Rattle.std.proofs.lemmas.List.{get_or_default, length-map}
@@ -9,6 +8,7 @@ use Rattle.trio_rights.specs.Bundle.{Bundle, is_written}
 use Rattle.trio_rights.specs.Sheets.{Sheet, sheet_numbers}
 use Rattle.trio_rights.specs.declared.rights.Creds.{Creds}
 use Rattle.trio_rights.specs.declared.rights.LibNo.{LibNo}
+use Rattle.trio_nodes.specs.Libraries.{creds_in}
 use Rattle.trio_nodes.specs.GrantKinds.{is_hold, is_read, is_write}
 use Rattle.trio_nodes.specs.declared.answers.ReleaseAnswer.{ReleaseAnswer}
 use Rattle.trio_nodes.specs.declared.answers.ReleaseAnswer.TheVariants.{Accepted as AcceptedBundle, Refused as RefusedBundle}
@@ -79,7 +79,7 @@ use Rattle.trio_ctl.proofs.DeskGiven.{behind, given_to}
 use Rattle.trio_ctl.proofs.DeskOuts.{In-numbers_to, alike, ended_out, hold_is, left_numbers, read_is, written_among}
 use Rattle.trio_open.proofs.LendLemmas.{sheets_untouched}
 use Rattle.trio_ctl.proofs.Recording.{backs_history, still_mine}
-use Rattle.trio_ctl.proofs.RecordedReleases.{handed_is, marks_fit, noted_then}
+use Rattle.trio_ctl.proofs.RecordedReleases.{handed_is, lent_fit, noted_then}
 
 -- ---- what a grant lent, as its lease shows it
 
@@ -270,7 +270,7 @@ case_then s lib back b k a =
     (λ t ino p g. (step_kept t (given_back t lib.0 ino) (Back lib.0 ino) Done p.0 g (inl (refl, refl)), settled_back t p.0 lib.0 ino ∙ p.1, p.2))
     (k, refl, refl) a in
     ap (λ (i : Image). case_of i (creds_of (all_back s lib back) lib.0) b) q.1
-    ∙ ap (λ (l : List Creds). case_of (settled s) (slice_index_or l (lib.0 - 1) (record { uid = 0; gid = 0 })) b) q.2
+    ∙ ap (λ (l : List Creds). case_of (settled s) (creds_in l lib.0) b) q.2
 
 no_read_back : (a any : Bool) → (a && false && any) ≡ false
 no_read_back true any = refl
@@ -360,7 +360,7 @@ module _ (s : State) (lib : LibNo) (b : Bundled) (back : List Shown) (calls : Li
       let o' : IsOutcome (case_in then' lib.0 (bundle_in b)) outcome = subst (λ c. IsOutcome c outcome) same o in
       let tells' : TellsOutcome (case_in then' lib.0 (bundle_in b)) notes (handed_in b) outcome told = subst (λ c. TellsOutcome c notes (handed_in b) outcome told) same tells in
       let end : Step then' (Settle lib.0 (bundle_in b)) step.Settled s' = settle_step s' v st in
-      let marks = marks_fit then' lib.0 b kept (λ f i. inl (lent_then s lib back b.writes lent f i)) keeps in
+      let marks = lent_fit then' lib.0 b kept (lent_then s lib back b.writes lent) keeps in
       let released : Step then' (Release lib.0 (bundle_in b)) (verdict_of (verdict_on outcome)) s' = subst (λ x. Step then' (Release lib.0 (bundle_in b)) (verdict_of x) s') verdict st in
       record {
         all =
@@ -436,7 +436,7 @@ settle_seen s s' lib p back calls (Ok done) k w ready h =
     let root = step_keeps_root t (Settle lib.0 (bundle_of p)) step.Settled s' k' w' h.given h.is_step in
     record {
       lib = refl;
-      creds = ap (λ (l : List Creds). slice_index_or l (lib.0 - 1) (record { uid = 0; gid = 0 })) (step_creds t (Settle lib.0 (bundle_of p)) step.Settled s' h.is_step ∙ ap (λ (x : State). x.creds) same);
+      creds = ap (λ (l : List Creds). creds_in l lib.0) (step_creds t (Settle lib.0 (bundle_of p)) step.Settled s' h.is_step ∙ ap (λ (x : State). x.creds) same);
       sizes = root.0 ∙ ap sizes_of same;
       root = root.1 ∙ ap root_of same;
       out = nothing_then s s' lib p back ready.all (ends h.is_step);

@@ -1,9 +1,12 @@
 -- What is handed in beside what the steps see of a bundle.
 use Rattle.std.specs.Prelude.{◌≡◌, ◌⊎◌, ℕ, true, List}
 use Rattle.trio_nodes.specs.declared.grant.GrantKind.TheVariants.{Hold, Write}
+use Rattle.trio_nodes.specs.declared.entry.Handed.{Handed}
+use Rattle.trio_nodes.specs.declared.entry.HandedFile.{HandedFile}
+use Rattle.trio_nodes.specs.declared.entry.HandedPage.{HandedPage}
+use Rattle.trio_laws.specs.history.Entries.{sheet_handed}
 use Rattle.trio_lease.specs.Shown.{LentFile}
 use Rattle.trio_lease.specs.declared.parts.HoldParts.{HoldParts}
-use Rattle.trio_lease.specs.declared.parts.LentPage.{LentPage}
 use Rattle.trio_lists.specs.Lists.{In}
 use Rattle.trio_state.specs.State.{OpenGrant, State}
 use Rattle.trio_open.specs.Open.{shown_of}
@@ -35,10 +38,9 @@ pub record WasLentAs (s : State) (lib' : ℕ) (f : LentFile) : Type 0 where
 abbrev pub WereLent : State → ℕ → List LentFile → Type 0
 WereLent s lib files = (f : LentFile) → In f files → WasLentAs s lib f
 
--- each of these blocks is marked as touched
-abbrev pub AreTouched : List LentPage → Type 0
-AreTouched blocks = (p : LentPage) → In p blocks → p.touched ≡ true
-
--- each of these leases shows as lent what an open write grant of the library lent, or all of its blocks are marked as touched
-abbrev pub WereLentOrTouched : State → ℕ → List LentFile → Type 0
-WereLentOrTouched s lib files = (f : LentFile) → In f files → WasLentAs s lib f ⊎ AreTouched f.stands.blocks
+-- each block that is handed in without a mark has the bytes that the library's open write grant on its file lent
+abbrev pub AreMarked : State → ℕ → Handed → Type 0
+AreMarked s lib h =
+    (w : HandedFile) (g : OpenGrant) (p : HandedPage)
+    → In w h.writes → In g s.open_grants → g.lib ≡ lib → g.kind ≡ Write → g.ino ≡ w.ino
+    → In p w.blocks → (p.touched ≡ true) ⊎ In (sheet_handed p) g.blocks

@@ -11,4 +11,5 @@ pub mod Answers
 pub mod Backs
 pub mod Desk
 pub mod DeskLaws
+pub mod CommitLaws
 pub mod inner

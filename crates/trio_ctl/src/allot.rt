@@ -1,6 +1,6 @@
 //! Allotments.
 
-ghost use Rattle.std.specs.Prelude.{◌≡◌, IfOk, map};
+ghost use Rattle.std.specs.Prelude.{◌≡◌, ◌≤◌, IfOk, map};
 ghost use Rattle.trio_allot.specs.Out.{fresh_number, fresh_page, inode_numbers, page_numbers};
 ghost use Rattle.trio_state.specs.Kept.{Kept};
 ghost use Rattle.trio_state.specs.Step.{Allot, Step};
@@ -31,7 +31,10 @@ impl Registry {
         ensures kept { Kept self.new.state }
         ensures begun { self.new.begun ≡ self.old.begun }
         ensures promised { self.new.promised ≡ self.old.promised }
+        ensures floor { self.old.looked ≤ self.new.looked }
     {
+        // a count of 64 bits, which stops at its end
+        let _looked = self.looked();
         let Ok(()) = self.history.make_room(entry, 1) else {
             return Err(AllotFault::NoMemory);
         };

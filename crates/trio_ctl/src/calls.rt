@@ -1,6 +1,6 @@
 //! Grants, allotments and give backs, each with its entry in the log.
 
-ghost use Rattle.std.specs.Prelude.{◌≡◌, IfOk, map};
+ghost use Rattle.std.specs.Prelude.{◌≡◌, ◌≤◌, IfOk, map};
 ghost use Rattle.std.specs.Option.{IsSomeAnd};
 ghost use Rattle.trio_allot.specs.Out.{fresh_number, fresh_page, inode_numbers, page_numbers};
 ghost use Rattle.trio_layout.specs.Image.{row_at};
@@ -42,6 +42,7 @@ impl Ctl {
         ensures logs { Logs self.old alone (Grant lib.0 ino kind) (grant_answer result) self.new }
         ensures lease { IfOk result (λ lease. IsSomeAnd (row_at self.old.state.home ino)
             (λ r. lease ≡ lent_by (opened self.old.state lib.0 ino kind r))) }
+        ensures floor { self.old.looked ≤ self.new.looked }
         ensures was_kept { Kept self.old.state }
         ensures kept { Kept self.new.state }
     {
@@ -75,6 +76,7 @@ impl Ctl {
         ensures logs { Logs self.old alone (Allot lib.0 pages inodes) (allot_answer result) self.new }
         ensures pages { IfOk result (λ given. given.pages.items ≡ map (fresh_page lib) (page_numbers given.pages.items)) }
         ensures inodes { IfOk result (λ given. given.inodes.items ≡ map (fresh_number lib) (inode_numbers given.inodes.items)) }
+        ensures floor { self.old.looked ≤ self.new.looked }
         ensures was_kept { Kept self.old.state }
         ensures kept { Kept self.new.state }
     {
@@ -107,6 +109,7 @@ impl Ctl {
         requires given { HasGrant self.old.state lease.lib.0 lease.ino Read }
         ensures step { Step self.old.state (Back lease.lib.0 lease.ino) Done self.new.state }
         ensures logs { Logs self.old alone (Back lease.lib.0 lease.ino) Done self.new }
+        ensures floor { self.old.looked ≤ self.new.looked }
         ensures was_kept { Kept self.old.state }
         ensures kept { Kept self.new.state }
     {

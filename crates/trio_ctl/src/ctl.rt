@@ -216,6 +216,7 @@ impl Ctl {
         ensures answer { TellsImage (writer_of self.old.state) result }
         ensures image { IfOk result (TellsSettled self.old.state) }
         ensures rest { self.new ≡ record self.old { looked = self.new.looked } }
+        ensures floor { self.old.looked ≤ self.new.looked }
         ensures kept { Kept self.old.state }
     {
         self.registry.image()
@@ -231,6 +232,7 @@ impl Ctl {
         ensures back { IfErr result (λ back. back.0.state ≡ self.state) }
         ensures begun { IfErr result (λ back. back.0.begun ≡ self.begun) }
         ensures log { IfErr result (λ back. (back.0.log ≡ self.log) × (back.0.first ≡ self.first)) }
+        ensures floor { IfErr result (λ back. self.looked ≤ back.0.looked) }
         ensures kept { Kept self.state }
     {
         let Ctl {

@@ -88,6 +88,7 @@ impl<'a> Desk for PlainDesk<'a> {
         back: Vec<ReadLease>,
         call: Option<Call>,
     ) -> Result<(), (Vec<ReadLease>, Option<Call>, ModeFault)> {
+        self.ctl.is_as_lent();
         self.ctl.set_mode(self.lib, ino, mode, back, call)
     }
 }

@@ -45,6 +45,7 @@ impl Registry {
         ensures kept { Kept self.new.state }
         ensures begun { self.new.begun ≡ self.old.begun }
         ensures promised { self.new.promised ≤ self.old.promised + 1 }
+        ensures floor { self.old.looked ≤ self.new.looked }
     {
         let Some(row) = self.store.rows.row(ino) else {
             return Err(self.log_refusal(entry, GrantFault::NotLive));
@@ -89,6 +90,7 @@ impl Registry {
         ensures answer { ((result ≡ fault) × (self.new.state ≡ logged self.old.state)) ⊎ ((result ≡ NoGrantMemory) × (self.new.state ≡ self.old.state)) }
         ensures begun { self.new.begun ≡ self.old.begun }
         ensures promised { self.new.promised ≡ self.old.promised }
+        ensures looked { self.new.looked ≡ self.old.looked }
     {
         if let Err(NoMemory) = self.history.make_room(entry, 1) {
             return GrantFault::NoMemory;
@@ -114,6 +116,7 @@ impl Registry {
             ≡ lent_by (opened self.old.state lib.0 ino Write (as_row row.now))) }
         ensures begun { self.new.begun ≡ self.old.begun }
         ensures promised { self.new.promised ≡ self.old.promised }
+        ensures floor { self.old.looked ≤ self.new.looked }
     {
         let range = self.range();
         let Ok(()) = self.history.make_room(entry, 1) else {

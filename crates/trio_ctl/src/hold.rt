@@ -50,6 +50,7 @@ impl Registry {
             ≡ lent_by (opened self.old.state lib.0 ino Hold (as_row row.now))) }
         ensures begun { self.new.begun ≡ self.old.begun }
         ensures promised { self.new.promised ≡ self.old.promised }
+        ensures floor { self.old.looked ≤ self.new.looked }
     {
         let Ok(()) = self.history.make_room(entry, 1) else {
             return Err(GrantFault::NoMemory);

@@ -1,6 +1,6 @@
 //! The settled image.
 
-ghost use Rattle.std.specs.Prelude.{◌≡◌, IfErr, IfOk};
+ghost use Rattle.std.specs.Prelude.{◌≡◌, ◌≤◌, IfErr, IfOk};
 ghost use Rattle.trio_state.specs.Kept.{Kept};
 ghost use Rattle.trio_ctl.specs.Answers.{TellsImage, TellsLastImage};
 ghost use Rattle.trio_ctl.specs.Ctl.{TellsSettled, writer_of};
@@ -27,6 +27,7 @@ impl Registry {
         ensures answer { TellsImage (writer_of self.old.state) result }
         ensures image { IfOk result (TellsSettled self.old.state) }
         ensures state { self.new.state ≡ self.old.state }
+        ensures floor { self.old.looked ≤ self.new.looked }
         ensures begun { self.new.begun ≡ self.old.begun }
         ensures promised { self.new.promised ≡ self.old.promised }
         ensures kept { Kept self.old.state }
@@ -65,6 +66,7 @@ impl Registry {
         ensures back { IfErr result (λ back. back.0.state ≡ self.state) }
         ensures begun { IfErr result (λ back. back.0.begun ≡ self.begun) }
         ensures promised { IfErr result (λ back. back.0.promised ≡ self.promised) }
+        ensures floor { IfErr result (λ back. self.looked ≤ back.0.looked) }
         ensures kept { Kept self.state }
     {
         let mut ctl = self;

@@ -17,6 +17,7 @@ mod begin;
 mod begun;
 mod belongs;
 mod calls;
+pub mod commit_laws;
 mod ctl;
 pub mod desk_laws;
 mod desks;

@@ -1,6 +1,6 @@
 //! Changes of mode.
 
-ghost use Rattle.std.specs.Prelude.{◌≡◌, ◌==◌, ◌<◌, ℕ, None, Some, IfOk, IsSome, length, slice_index_or, slice_set};
+ghost use Rattle.std.specs.Prelude.{◌≡◌, ◌==◌, ◌<◌, ◌≤◌, ℕ, None, Some, IfOk, IsSome, length, slice_index_or, slice_set};
 ghost use Rattle.std.specs.List.{find};
 ghost use Rattle.std.specs.Option.{option_map};
 ghost use Rattle.trio_layout.specs.Image.{row_at};
@@ -67,6 +67,7 @@ impl Registry {
         ensures state { self.new.state ≡ logged self.old.state }
         ensures begun { self.new.begun ≡ self.old.begun }
         ensures promised { self.new.promised ≡ self.old.promised }
+        ensures looked { self.new.looked ≡ self.old.looked }
         ensures was_kept { Kept self.old.state }
     {
         self.history.enter(entry);
@@ -81,6 +82,7 @@ impl Registry {
         ensures state { self.new.state ≡ (moded_to self.old.state ino mode None).after }
         ensures begun { self.new.begun ≡ self.old.begun }
         ensures promised { self.new.promised ≡ self.old.promised }
+        ensures floor { self.old.looked ≤ self.new.looked }
     {
         let Some(row) = self.store.rows.row(ino) else {
             unreachable!()
@@ -122,9 +124,12 @@ fn put_mode(store: &mut Store, ino: u32, row: &Row, mode: u16)
     requires live { (0 < ino) × (ino < length store.old.rows) }
     requires slot { row.now.slot < 16 }
     requires there { IsSome (slice_index_or store.old.home.pages row.now.page None) }
+    ensures floor { store.old.home.looked ≤ store.new.home.looked }
     ensures pages { store.new.home.pages ≡ with_mode_at row.now.page row.now.slot mode store.old.home.pages }
     ensures rest { store.new ≡ record store.old { home = store.new.home; rows = slice_set store.old.rows ino (Some (with_row_mode mode (as_row row.now))) } }
 {
+    // a count of 64 bits, which stops at its end
+    let _looked = store.home.looked();
     let no = PageNo(row.page);
     let Some(mut page) = store.home.take(no, &mut Reads::new()) else {
         unreachable!()

@@ -1,6 +1,6 @@
 //! Changes of mode, each with its entry in the log.
 
-ghost use Rattle.std.specs.Prelude.{◌≡◌, IfErr};
+ghost use Rattle.std.specs.Prelude.{◌≡◌, ◌≤◌, IfErr};
 ghost use Rattle.trio_desk.specs.Call.{SetMode, call_back, mode_told};
 ghost use Rattle.trio_desk.specs.Ready.{AreLent, TellsChmod};
 ghost use Rattle.trio_state.specs.Kept.{Kept};
@@ -50,6 +50,7 @@ impl Ctl {
         ensures logs { LogsCall self.old lib (SetMode ino mode back.items call) (mode_told result (λ came. came.2)) self.new }
         ensures leases { IfErr result (λ came. came.0 ≡ back) }
         ensures call { IfErr result (λ came. came.1 ≡ call_back call came.2) }
+        ensures floor { self.old.looked ≤ self.new.looked }
         ensures was_kept { Kept self.old.state }
         ensures kept { Kept self.new.state }
     {

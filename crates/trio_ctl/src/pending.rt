@@ -2,6 +2,8 @@
 
 ghost use Rattle.std.specs.Prelude.{◌≡◌, ◌≤◌, ◌+◌, ◌*◌, ◌↔◌, ℕ, IfSome, IsSome, IsTrue, Some, length};
 ghost use Rattle.trio_rights.specs.Bundle.{bundle_pages};
+ghost use Rattle.trio_lists.specs.Lists.{In};
+ghost use Rattle.trio_lease.specs.Shown.{KeepsUntouched, LentFile};
 ghost use Rattle.trio_lease.specs.Views.{bundle_in};
 ghost use Rattle.trio_case.specs.Cases.{case_in};
 ghost use Rattle.trio_judge.specs.Judging.{IsJudgeRoom};
@@ -155,6 +157,13 @@ impl Judged {
         ensures { IsWeighed self.now }
     {
         let _ = &self.case;
+    }
+
+    /// Each lent block of its bundle that isn't marked as touched is as it was lent. Nothing is done.
+    pub fn keeps_untouched(&self)
+        ensures { (f : LentFile) → In f self.now.case.bundle.writes → KeepsUntouched f }
+    {
+        self.case.bundle().keeps_untouched();
     }
 
     // the case

@@ -40,6 +40,7 @@ impl Registry {
             ≡ lent_by (opened self.old.state lib.0 ino Read (as_row row.now))) }
         ensures begun { self.new.begun ≡ self.old.begun }
         ensures promised { self.new.promised ≤ self.old.promised + 1 }
+        ensures floor { self.old.looked ≤ self.new.looked }
     {
         let range = self.range();
         // for the entry of the grant, and for that of its end

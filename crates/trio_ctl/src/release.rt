@@ -159,6 +159,7 @@ impl Registry {
         requires outcome { IsOutcome (case_in self.old.state lib.0 (bundle_in case.bundle)) outcome }
         ensures step { Step self.old.state (Release lib.0 (bundle_in case.bundle)) (verdict_of result) self.new.state }
         ensures verdict { result ≡ verdict_on outcome }
+        ensures floor { self.old.looked ≤ self.new.looked }
         ensures looked { self.new.looked ≤ self.old.looked + length (bundle_pages (bundle_in case.bundle)) + length (bundle_in case.bundle).writes }
         ensures reads { reads.new ≤ reads.old + length (bundle_pages (bundle_in case.bundle)) + length (bundle_in case.bundle).writes }
         ensures was_kept { Kept self.old.state }

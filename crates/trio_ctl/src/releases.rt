@@ -16,7 +16,7 @@ ghost use Rattle.trio_entries.specs.Handed.{handed_in};
 ghost use Rattle.trio_entries.specs.Telling.{AreNoted, whole_case};
 ghost use Rattle.trio_ctl.specs.Answers.{begin_answer, release_answer, verdict_of};
 ghost use Rattle.trio_ctl.specs.Ctl.{IsIdle, IsLibrary, underway_of};
-ghost use Rattle.trio_ctl.specs.HandedIn.{WereHeld, WereLent, WereLentOrTouched};
+ghost use Rattle.trio_ctl.specs.HandedIn.{AreMarked, WereHeld, WereLent};
 ghost use Rattle.trio_ctl.specs.Logged.{Logs, entries_made, with_bundle};
 ghost use Rattle.trio_ctl.specs.Pending.{case_made};
 ghost use Rattle.trio_ctl.specs.inner.Outcomes.{HasFew, IsOutcome};
@@ -91,15 +91,18 @@ impl Ctl {
     /// allotted pages, which stand as handed in. The grants and allotments of the bundle end in both
     /// cases, what no file has then is free, and the library is idle.
     ///
-    /// Of the bundle's pages nothing is asked that was weighed. Rule I3 is asked of the rows of now. Home
+    /// Of the bundle's pages nothing is asked that was weighed. Of the marks of its lent blocks it is asked
+    /// that a block without one has the bytes that its grant lent: whatever the leases show as lent, by what
+    /// is handed in alone. Rule I3 is asked of the rows of now. Home
     /// is looked at no more than once for each page of the bundle and once for each of its write leases.
     /// The entry has the bundle as it then stands, and the files and blocks that it tells.
     pub fn finish(&mut self, judged: Judged, reads: &mut Reads) -> ReleaseAnswer
         requires awaited { IsAwaited (underway_of self.old) judged.case.lib.0 (case_shown judged.case) }
-        requires lent { WereLentOrTouched self.old.state judged.case.lib.0 judged.case.bundle.writes }
+        requires marked { AreMarked self.old.state judged.case.lib.0 (handed_in judged.case.bundle) }
         ensures acts { Acts (underway_of self.old) (End judged.case.lib.0 (bundle_in judged.case.bundle)) (Answered (verdict_of result)) (underway_of self.new) }
         ensures log { self.new.log ≡ self.old.log ++ entries_made self.old.state (with_bundle judged.case.bundle) (Release judged.case.lib.0 (bundle_in judged.case.bundle)) (verdict_of result) }
         ensures first { self.new.first ≡ self.old.first }
+        ensures floor { self.old.looked ≤ self.new.looked }
         ensures looked { self.new.looked ≤ self.old.looked + length (bundle_pages (bundle_in judged.case.bundle)) + length (bundle_in judged.case.bundle).writes }
         ensures reads { reads.new ≤ reads.old + length (bundle_pages (bundle_in judged.case.bundle)) + length (bundle_in judged.case.bundle).writes }
         ensures was_kept { KeptUnderway (underway_of self.old) }
@@ -107,7 +110,6 @@ impl Ctl {
     {
         let (case, verdict) = judged.parts();
         let lib = case.lib();
-        case.bundle().keeps_untouched();
         let draft = self.registry.take_begun(lib).into_draft();
         let outcome = self.registry.outcome(&case, verdict);
         let rows = self.registry.rows();
@@ -158,11 +160,13 @@ impl Ctl {
         ensures step { Step self.old.state (Release lib.0 (bundle_in bundle)) (release_answer result (λ back. back.1)) self.new.state }
         ensures logs { Logs self.old (with_bundle bundle) (Release lib.0 (bundle_in bundle)) (release_answer result (λ back. back.1)) self.new }
         ensures back { IfErr result (λ back. back.0 ≡ bundle) }
+        ensures floor { self.old.looked ≤ self.new.looked }
         ensures looked { self.new.looked ≤ self.old.looked + length (bundle_pages (bundle_in bundle)) + length (bundle_in bundle).writes }
         ensures reads { reads.new ≤ reads.old + 3 * length (bundle_pages (bundle_in bundle)) + length (bundle_in bundle).writes }
         ensures was_kept { Kept self.old.state }
         ensures kept { Kept self.new.state }
     {
+        bundle.keeps_untouched();
         match self.begin(lib, bundle) {
             Ok(pending) => {
                 let judged = pending.weigh(reads);

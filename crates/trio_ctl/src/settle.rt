@@ -47,6 +47,7 @@ impl Ctl {
         ensures bundle { IfErr result (λ came. came.0 ≡ bundle) }
         ensures leases { IfErr result (λ came. came.1 ≡ back) }
         ensures calls { IfErr result (λ came. came.2 ≡ calls) }
+        ensures floor { self.old.looked ≤ self.new.looked }
         ensures looked { self.new.looked ≤ self.old.looked + length (bundle_pages (bundle_in bundle)) + length (bundle_in bundle).writes }
         ensures was_kept { Kept self.old.state }
         ensures kept { Kept self.new.state }

@@ -24,6 +24,7 @@ pub fn stored_pages(
     requires order { superblock.now.first_core ≤ superblock.now.pages }
     requires few { superblock.now.pages ≤ 8192 }
     ensures home { home.new.pages ≡ home.old.pages }
+    ensures floor { home.old.looked ≤ home.new.looked }
     ensures pages { IfOk result (λ pages. pages.items ≡ stored_pages superblock.now home.old.pages rows.now owners.now) }
     ensures shadow { IfOk result (λ _. FillsPages (shadow_bytes rows.now) (shadow_count rows.now)) }
     ensures owner { IfOk result (λ _. FillsPages (owner_bytes owners.now) (owner_count owners.now)) }
@@ -45,6 +46,7 @@ pub(crate) fn moved_pages(
     requires order { superblock.now.first_core ≤ superblock.now.pages }
     requires few { superblock.now.pages ≤ 8192 }
     ensures home { OnErr result (home.new.pages ≡ home.old.pages) }
+    ensures floor { home.old.looked ≤ home.new.looked }
     ensures pages { IfOk result (λ pages. pages.items ≡ stored_pages superblock.now home.old.pages rows.now owners.now) }
     ensures shadow { IfOk result (λ _. FillsPages (shadow_bytes rows.now) (shadow_count rows.now)) }
     ensures owner { IfOk result (λ _. FillsPages (owner_bytes owners.now) (owner_count owners.now)) }
@@ -67,6 +69,7 @@ fn add_fillings(
 ) -> Result<(), NoMemory>
     requires order { superblock.now.first_core ≤ superblock.now.pages }
     ensures home { home.new.pages ≡ home.old.pages }
+    ensures floor { home.old.looked ≤ home.new.looked }
     ensures pages { IfOk result (λ _. pages.new.items ≡ pages.old.items ++ fillings_from home.old.pages superblock.now.first_core (superblock.now.pages - superblock.now.first_core)) }
 {
     let mut reads = Reads::new();
@@ -84,8 +87,11 @@ fn filling_at(
     reads: &mut Reads,
 ) -> Result<Option<Page>, NoMemory>
     ensures home { home.new.pages ≡ home.old.pages }
+    ensures floor { home.old.looked ≤ home.new.looked }
     ensures filling { IfOk result (λ page. page ≡ filling (slice_index_or home.old.pages no None)) }
 {
+    // a count of 64 bits, which stops at its end
+    let _looked = home.looked();
     match home.page(PageNo(no), reads) {
         Some(_) => Ok(None),
         None => Ok(Some(Page::zero(alloc)?)),
@@ -104,10 +110,13 @@ fn move_core_pages(
     requires few { first + count ≤ 8192 }
     requires places { length pages.old.items ≡ front + count }
     ensures count { length pages.new.items ≡ length pages.old.items }
+    ensures floor { home.old.looked ≤ home.new.looked }
     ensures pages { AreMoved home.old.pages first front pages.old.items pages.new.items }
 {
     let mut reads = Reads::new();
     for at in 0..count {
+        // a count of 64 bits, which stops at its end
+        let _looked = home.looked();
         if let Some(page) = home.take(PageNo(first + at), &mut reads) {
             pages[front + at as usize] = Some(page);
         }
@@ -124,6 +133,7 @@ fn add_core_pages(
     requires order { superblock.now.first_core ≤ superblock.now.pages }
     requires few { superblock.now.pages ≤ 8192 }
     ensures home { home.new.pages ≡ home.old.pages }
+    ensures floor { home.old.looked ≤ home.new.looked }
     ensures pages { IfOk result (λ _. pages.new.items ≡ pages.old.items ++ pages_from home.old.pages superblock.now.first_core (superblock.now.pages - superblock.now.first_core)) }
 {
     let mut reads = Reads::new();
@@ -142,8 +152,11 @@ fn copy_or_zero(
     reads: &mut Reads,
 ) -> Result<Page, NoMemory>
     ensures home { home.new.pages ≡ home.old.pages }
+    ensures floor { home.old.looked ≤ home.new.looked }
     ensures copy { IfOk result (λ copy. Some copy ≡ or_zero (slice_index_or home.old.pages no None)) }
 {
+    // a count of 64 bits, which stops at its end
+    let _looked = home.looked();
     match home.page(PageNo(no), reads) {
         Some(page) => page.copy(alloc),
         None => Page::zero(alloc),

@@ -65,6 +65,7 @@ pub fn lend(
     ensures pages { IfOk result (λ loan. ForOk (chain_in (core_of home.old.pages range) asked.now.kind asked.now.body)
         (λ chain. home.new.pages ≡ without_pages (chain.index ++ chain.blocks) home.old.pages)) }
     ensures kept { OnErr result (home.new.pages ≡ home.old.pages) }
+    ensures floor { home.old.looked ≤ home.new.looked }
 {
     let mut reads = Reads::new();
     let checkpoint = Checkpoint::taken(
@@ -125,6 +126,7 @@ fn take_pages(
     requires room { length numbers.now ≤ vec_capacity to.old }
     ensures pages { home.new.pages ≡ without_pages numbers.now home.old.pages }
     ensures lent { to.new.items ≡ map untouched (sheets_of (core_of home.old.pages range) numbers.now) }
+    ensures floor { home.old.looked ≤ home.new.looked }
 {
     for number in numbers {
         let page = taken(home, *number, reads);
@@ -140,7 +142,10 @@ fn taken(home: &mut Home, number: u32, reads: &mut Reads) -> LentPage
     ensures pages { home.new.pages ≡ without_pages (number ∷ []) home.old.pages }
     ensures lent { slice_index_or home.old.pages number None ≡ Some result.page }
     ensures number { result ≡ record { no = record { 0 = number }; page = result.page; touched = false } }
+    ensures floor { home.old.looked ≤ home.new.looked }
 {
+    // a count of 64 bits, which stops at its end
+    let _looked = home.looked();
     let no = PageNo(number);
     let Some(page) = home.take(no, reads) else {
         unreachable!()

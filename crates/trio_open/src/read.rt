@@ -1,6 +1,6 @@
 //! Lending copies of a file.
 
-ghost use Rattle.std.specs.Prelude.{◌≡◌, IfOk, IsOk, IsSome, IsTrue, None, false, Some, map, slice_index_or};
+ghost use Rattle.std.specs.Prelude.{◌≡◌, ◌≤◌, IfOk, IsOk, IsSome, IsTrue, None, false, Some, map, slice_index_or};
 ghost use Rattle.std.specs.Result.{ForOk};
 ghost use Rattle.trio_layout.specs.Pages.{sheets_of};
 ghost use Rattle.trio_nodes.specs.declared.grant.GrantKind.TheVariants.{Read};
@@ -34,6 +34,7 @@ pub fn copied_file(
         (λ chain. made.0 ≡ record { key = key; grant = grant_on (core_of home.old.pages range) asked.now.lib.0 asked.now.ino Read asked.now.kind asked.now.entry asked.now.body chain })) }
     ensures lease { IfOk result (λ made. made.1 ≡ shown_of made.0.grant) }
     ensures pages { home.new.pages ≡ home.old.pages }
+    ensures floor { home.old.looked ≤ home.new.looked }
 {
     let mut reads = Reads::new();
     // a checkpoint tells the numbers of the file's pages
@@ -73,6 +74,7 @@ fn copies(
 ) -> Result<Vec<LentPage>, NoMemory>
     requires there { IsTrue (are_there (core_of home.old.pages range) numbers.now) }
     ensures pages { home.new.pages ≡ home.old.pages }
+    ensures floor { home.old.looked ≤ home.new.looked }
     ensures copies { IfOk result (λ copies. copies.items ≡ map untouched (sheets_of (core_of home.old.pages range) numbers.now)) }
 {
     let mut copies = Vec::new(alloc);
@@ -92,9 +94,12 @@ fn copied(
 ) -> Result<LentPage, NoMemory>
     requires { IsSome (slice_index_or home.old.pages number None) }
     ensures pages { home.new.pages ≡ home.old.pages }
+    ensures floor { home.old.looked ≤ home.new.looked }
     ensures copy { IfOk result (λ copy. slice_index_or home.old.pages number None ≡ Some copy.page) }
     ensures number { IfOk result (λ copy. copy ≡ record { no = record { 0 = number }; page = copy.page; touched = false }) }
 {
+    // a count of 64 bits, which stops at its end
+    let _looked = home.looked();
     let no = PageNo(number);
     let Some(page) = home.page(no, reads) else {
         unreachable!()

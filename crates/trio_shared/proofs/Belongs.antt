@@ -6,11 +6,13 @@ use Rattle.trio_rights.specs.Sheets.{Sheet, sheet_numbers}
 use Rattle.trio_rights.specs.declared.rights.LibNo.{LibNo}
 use Rattle.trio_lists.specs.Lists.{In}
 use Rattle.trio_lists.proofs.Filters.{In-filter}
-use Rattle.trio_lists.proofs.Members.{In-map}
+use Rattle.trio_lists.proofs.Members.{In-map, map-In}
 use Rattle.trio_nodes.specs.GrantKinds.{is_hold, is_write}
+use Rattle.trio_nodes.specs.declared.entry.Handed.{Handed}
 use Rattle.trio_nodes.specs.declared.grant.GrantKind.{GrantKind}
 use Rattle.trio_lease.specs.Bundles.{Bundled}
-use Rattle.trio_lease.specs.Shown.{LentFile, Shown}
+use Rattle.trio_lease.specs.Shown.{Shown}
+use Rattle.trio_lease.specs.Views.{lent_sheet}
 use Rattle.trio_lease.specs.declared.parts.HoldParts.{HoldParts}
 use Rattle.trio_lease.specs.declared.parts.LentPage.{LentPage}
 use Rattle.trio_rights.specs.Bundle.{Bundle, bundle_pages}
@@ -21,7 +23,8 @@ use Rattle.trio_state.specs.State.{OpenGrant, State}
 use Rattle.trio_laws.specs.OutLaws.{numbers_to}
 use Rattle.trio_laws.proofs.StateFacts.{write_is}
 use Rattle.trio_ctl.specs.Belonging.{Belongs, IsHoldOf, IsLeaseOf}
-use Rattle.trio_ctl.specs.HandedIn.{WereLentOrTouched}
+use Rattle.trio_laws.specs.history.Entries.{sheet_handed}
+use Rattle.trio_ctl.specs.HandedIn.{AreMarked}
 use Rattle.trio_ctl.specs.Desk.{grants_of, out_of}
 use Rattle.trio_ctl.specs.Open.{hold_of, shown_of, untouched}
 use Rattle.trio_ctl.proofs.DeskGiven.{behind}
@@ -88,21 +91,20 @@ module _ (s t : State) (lib : LibNo) (same : out_of s lib ≡ out_of t lib) wher
 abbrev pub room_of : Sizes → Bundle → ℕ
 room_of sizes b = 4 * (sizes.range.end + sizes.inodes) + 16384 * length (bundle_pages b) + 1024 * (1 + length b.writes + length b.holds + length b.numbers)
 
--- what write leases show as lent goes by what is out
-pub lent_then : (s t : State) (lib : LibNo) → out_of s lib ≡ out_of t lib → (files : List LentFile) → WereLentOrTouched s lib.0 files → WereLentOrTouched t lib.0 files
-lent_then s t lib same files h f i =
-    elim (h f i) [
-      | inr touched ↦ inr touched
-      | inl l ↦
-          let there : In (shown_of l.grant) (out_of t lib).writes =
-          subst (λ (o : LibOut). In (shown_of l.grant) o.writes) same (shows s t lib same shown_of is_write l.grant l.is_open l.lib (ap is_write l.kind)) in
-          let w = behind shown_of is_write t lib (shown_of l.grant) there in
-          inl (record {
-            grant = w.grant;
-            is_open = w.is_open;
-            lib = w.lib;
-            kind = write_is w.grant.kind w.kind;
-            ino = sym (ap (λ (x : Shown). x.ino) w.is) ∙ l.ino;
-            lent = l.lent ∙ w.is;
-          })
+-- the blocks of grants that show the same are the same
+same_blocks : (xs ys : List Sheet) (x : Sheet) → map untouched xs ≡ map untouched ys → In x xs → In x ys
+same_blocks xs ys x same i =
+    let there = map-In untouched (untouched x) ys (subst (λ (l : List LentPage). In (untouched x) l) same (In-map untouched x xs i)) in
+    subst (λ (y : Sheet). In y ys) (sym (ap lent_sheet there.2)) there.1
+
+-- the marks of what is handed in go by what is out
+pub marked_then : (s t : State) (lib : LibNo) → out_of s lib ≡ out_of t lib → (h : Handed) → AreMarked s lib.0 h → AreMarked t lib.0 h
+marked_then s t lib same h marked w g p there is_open mine write ino at =
+    let shown : In (shown_of g) (out_of s lib).writes =
+    subst (λ (o : LibOut). In (shown_of g) o.writes) (sym same) (shows t s lib (sym same) shown_of is_write g is_open mine (ap is_write write)) in
+    let was = behind shown_of is_write s lib (shown_of g) shown in
+    let number : was.grant.ino ≡ w.ino = sym (ap (λ (x : Shown). x.ino) was.is) ∙ ino in
+    elim (marked w was.grant p there was.is_open was.lib (write_is was.grant.kind was.kind) number at) [
+      | inl touched ↦ inl touched
+      | inr lent ↦ inr (same_blocks was.grant.blocks g.blocks (sheet_handed p) (sym (ap (λ (x : Shown). x.blocks) was.is)) lent)
     ]

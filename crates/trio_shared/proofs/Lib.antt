@@ -1,3 +1,4 @@
+mod Credentials
 mod Left
 mod Grown
 mod Standing

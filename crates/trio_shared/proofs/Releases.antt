@@ -33,7 +33,11 @@ use Rattle.trio_laws.proofs.Runs.{step_kept}
 use Rattle.trio_moves.proofs.CopiedStay.{step_leaves_case}
 use Rattle.trio_ctl.specs.Answers.{release_fault_answer, verdict_of}
 use Rattle.trio_ctl.specs.Desk.{desk_of, entries_told, out_of}
-use Rattle.trio_ctl.specs.HandedIn.{WereLentOrTouched}
+use Rattle.trio_entries.specs.Handed.{handed_in}
+use Rattle.trio_lists.specs.Lists.{In}
+use Rattle.trio_lease.specs.Shown.{KeepsUntouched, LentFile}
+use Rattle.trio_ctl.specs.HandedIn.{AreMarked}
+use Rattle.trio_ctl.specs.DeskLaws.{LentIsMarked}
 use Rattle.trio_ctl.specs.Logged.{entries_made, with_bundle}
 use Rattle.trio_ctl.specs.Pending.{case_made}
 use Rattle.trio_ctl.proofs.Awaiting.{made_is}
@@ -114,14 +118,14 @@ module _ (old mid : Seated) (b : Bundled) (k : CaseShown) (took : Looks old (λ 
     given_took = subst (λ (d : DeskSeen). WasGiven d.out (parcel_of b)) (sym seen_took) given
 
     -- so the release may end
-    pub may_end : k.lib ≡ mid.lib → MayEnd mid k
-    may_end mine = record {
+    pub may_end : LentIsMarked → ((f : LentFile) → In f b.writes → KeepsUntouched f) → k.lib ≡ mid.lib → MayEnd mid k
+    may_end law keeps mine = record {
       state = took.before;
       left = left_took;
-      lent =
-          subst (λ (l : LibNo). WereLentOrTouched took.before l.0 k.bundle.writes) (sym took.lib)
-          (subst (λ (c : CaseShown). WereLentOrTouched took.before old.lib.0 c.bundle.writes) (sym took.did.1.1)
-          (λ f i. inl (were_lent took.before old.lib (parcel_of b) given_took f i)));
+      marked =
+          subst (λ (l : LibNo). AreMarked took.before l.0 (handed_in k.bundle)) (sym took.lib)
+          (subst (λ (c : CaseShown). AreMarked took.before old.lib.0 (handed_in c.bundle)) (sym took.did.1.1)
+          (law took.before old.lib.0 b took.found.all.kept (were_lent took.before old.lib (parcel_of b) given_took) keeps));
     }
 
     -- and it is awaited in whatever state its second turn finds

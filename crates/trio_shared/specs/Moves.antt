@@ -17,7 +17,8 @@ use Rattle.trio_state.specs.Step.{Release, ReleaseEnd}
 use Rattle.trio_state.specs.Tells.{case_in}
 use Rattle.trio_turn.specs.Marks.{Mark}
 use Rattle.trio_ctl.specs.Answers.{verdict_of}
-use Rattle.trio_ctl.specs.HandedIn.{WereLentOrTouched}
+use Rattle.trio_entries.specs.Handed.{handed_in}
+use Rattle.trio_ctl.specs.HandedIn.{AreMarked}
 use Rattle.trio_ctl.specs.Logged.{entries_made, with_bundle}
 use Rattle.trio_ctl.specs.Pending.{case_made}
 use Rattle.trio_shared.specs.Begun.{mark_of}
@@ -59,8 +60,8 @@ Ends old k answer new =
 abbrev pub IsNotAwaited : Seated → CaseShown → State → Type 0
 IsNotAwaited old k s = k.lib ≡ old.lib → old.begun ≡ mark_at old k.bundle → IsStillSo s old.lib k → ⊥
 
--- what each write lease shows as lent is what is out by what the seat has seen, or all blocks of it are marked as touched
+-- each block that is handed in without a mark has the bytes that were lent, by what the seat has seen
 pub record MayEnd (seat : Seated) (k : CaseShown) : Type 0 where
   pub state : State
   pub left : Leaves seat.first seat.seen state
-  pub lent : WereLentOrTouched state seat.lib.0 k.bundle.writes
+  pub marked : AreMarked state seat.lib.0 (handed_in k.bundle)

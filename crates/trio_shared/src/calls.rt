@@ -102,6 +102,7 @@ impl Held {
         ensures made { Makes self.old lib (SetMode ino mode back.items call) (mode_told result (λ came. came.2)) self.new }
         ensures seen { SeenAfter (desk_of self.old.state lib) (SetMode ino mode back.items call) (mode_told result (λ came. came.2)) (desk_of self.new.state lib) }
         ensures holder { TellsHolder lib (desk_of self.old.state lib).out (SetMode ino mode back.items call) (mode_told result (λ came. came.2)) }
+        ensures cause { TellsCause (desk_of self.old.state lib) (SetMode ino mode back.items call) (mode_told result (λ came. came.2)) }
         ensures leases { IfErr result (λ came. came.0 ≡ back) }
         ensures call { IfErr result (λ came. came.1 ≡ call_back call came.2) }
     {

@@ -8,7 +8,8 @@ ghost use Rattle.trio_state.specs.Moves.{Acts, Begin, IsAwaited, KeptUnderway};
 ghost use Rattle.trio_ctl.specs.Answers.{begin_answer};
 ghost use Rattle.trio_ctl.specs.Ctl.{IsIdle, IsLibrary, underway_of};
 ghost use Rattle.trio_ctl.specs.Desk.{desk_of};
-ghost use Rattle.trio_ctl.specs.HandedIn.{WereLentOrTouched};
+ghost use Rattle.trio_entries.specs.Handed.{handed_in};
+ghost use Rattle.trio_ctl.specs.HandedIn.{AreMarked};
 ghost use Rattle.trio_ctl.specs.Pending.{case_made};
 ghost use Rattle.trio_turn.specs.Seats.{IsSameSeat, begun};
 ghost use Rattle.trio_shared.specs.Moves.{Ends, IsNotAwaited, MayEnd, TellsBeginning, TellsWhetherClosed, mark_at};
@@ -53,7 +54,7 @@ impl Held {
         judged: Judged,
         reads: &mut Reads,
     ) -> Result<ReleaseAnswer, Judged>
-        requires lent { judged.case.lib ≡ lib → WereLentOrTouched self.old.state lib.0 judged.case.bundle.writes }
+        requires marked { judged.case.lib ≡ lib → AreMarked self.old.state lib.0 (handed_in judged.case.bundle) }
         ensures ends { IfOk result (λ answer. EndsHere self.old lib judged.case answer self.new) }
         ensures back { IfErr result (λ back. back ≡ judged) }
         ensures same { IfErr result (λ back. self.new ≡ self.old) }
@@ -109,7 +110,7 @@ impl Shared {
         reads: &mut Reads,
     ) -> Result<ReleaseAnswer, Judged>
         requires seat { IsSeatOf self.now seat.old }
-        requires lent { judged.case.lib ≡ library_of seat.old → MayEnd (seated seat.old) judged.case }
+        requires marked { judged.case.lib ≡ library_of seat.old → MayEnd (seated seat.old) judged.case }
         ensures seat { IsSeatOf self.now seat.new × IsSameSeat seat.old seat.new }
         ensures ends { IfOk result (λ answer. Ends (seated seat.old) judged.case answer (seated seat.new)) }
         ensures idle { IfOk result (λ answer. SitsIdle seat.new) }

@@ -29,6 +29,7 @@ use crate::held::Held;
 use std::alloc::Global;
 use std::sync::Wait;
 use trio_ctl::Ctl;
+use trio_ctl::desk_laws::lent_is_marked;
 use trio_lease::{Allotted, Bundle, Lease, ReadLease};
 use trio_nodes::{
     AllotFault, Call, Done, GrantFault, GrantKind, ModeFault, ReleaseAnswer, ReleaseFault,
@@ -208,6 +209,8 @@ impl Shared {
         ensures closed { TellsClosed (out seat.old) (parcel_of bundle) (release_told result (λ back. back.1)) }
         ensures back { IfErr result (λ back. back.0 ≡ bundle) }
     {
+        bundle.keeps_untouched();
+        lent_is_marked();
         let pending = match self.begin(rt, seat, bundle) {
             Ok(pending) => pending,
             Err(back) => return Err(back),
@@ -267,6 +270,7 @@ impl Shared {
         ensures called { Calls (seated seat.old) (SetMode ino mode back.items call) (mode_told result (λ came. came.2)) (seated seat.new) }
         ensures seen { SeenAfter (desk seat.old) (SetMode ino mode back.items call) (mode_told result (λ came. came.2)) (desk seat.new) }
         ensures holder { TellsHolder (library_of seat.old) (out seat.old) (SetMode ino mode back.items call) (mode_told result (λ came. came.2)) }
+        ensures cause { TellsCause (desk seat.old) (SetMode ino mode back.items call) (mode_told result (λ came. came.2)) }
         ensures busy { TellsHolding (first seat.new) (seen seat.new) (library_of seat.old) (SetMode ino mode back.items call) (mode_told result (λ came. came.2)) }
         ensures leases { IfErr result (λ came. came.0 ≡ back) }
         ensures call { IfErr result (λ came. came.1 ≡ call_back call came.2) }

@@ -27,6 +27,7 @@ loop-left-preserved c =
     let fewer : turn.left - c.from-left.result ≡ turn.left - 511 = omega (arith, c.from-left.ensures, c.min-used.ensures) in
     record {
       same = same;
+      floor = omega (arith, before.floor, c.of.ensures.floor);
       chain = rw (fewer, c.in_ok-push.ensures.items) more;
       copies = rw (c.in_ok-push.ensures.items, c.in_ok-push-2.ensures.items) (one_copy_more pages index turn.index.items turn.at copy before.copies c.in_ok-copy.ensures.number copied);
       there = rw c.in_ok-push.ensures.items (one_more_there core index turn.at before.there there);

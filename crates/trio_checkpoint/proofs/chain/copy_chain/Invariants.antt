@@ -1,4 +1,4 @@
-use Rattle.std.proofs.Common.{◌≡◌, IsTrue}
+use Rattle.std.proofs.Common.{◌≡◌, ◌≤◌, IsTrue}
 use Rattle.trio_layout.specs.Chain.{chain_of}
 use Rattle.trio_lists.specs.Lists.{result_map}
 use Rattle.trio_checkpoint.specs.Covered.{are_there, core_of}
@@ -11,6 +11,7 @@ invariant-loop-left l = record {
   same : l.home.pages ≡ l.initial.home.pages;
   chain : result_map (after l.index_numbers.items l.block_numbers.items) (rest_of (core_of l.initial.home.pages l.range) l.left l.at) ≡ chain_of (core_of l.initial.home.pages l.range) l.body;
   copies : AreCopies l.initial.home.pages l.index_numbers.items l.index.items;
+  floor : l.initial.home.looked ≤ l.home.looked;
   there : IsTrue (are_there (core_of l.initial.home.pages l.range) l.index_numbers.items);
 }
 

@@ -1,4 +1,4 @@
-use Rattle.std.proofs.Common.{◌≡◌, take}
+use Rattle.std.proofs.Common.{◌≡◌, ◌≤◌, take}
 use Rattle.trio_checkpoint.specs.inner.Steps.{AreCopies}
 use Rattle.trio_checkpoint.proofs.page_copy.copy_pages.Given as goal
 
@@ -6,4 +6,5 @@ abbrev pub invariant-loop-number : goal.invariant-loop-number
 invariant-loop-number l = record {
   copied : AreCopies l.fn.home.pages (take l.number-index l.numbers) l.copies.items;
   home : l.home.pages ≡ l.fn.home.pages;
+  floor : l.fn.home.looked ≤ l.home.looked;
 }

@@ -28,6 +28,7 @@ loop-entry-preserved c =
     record {
       away = put.ensures.away;
       pages = next_kept cs es turn.entry-index no_entry c.args.home.now.pages (with_taken turn.taken turn.home.pages) (with_taken put.result put.new.home.pages) (omega arith) turn.invariant.pages put.ensures.pages;
+      floor = omega (arith, turn.invariant.floor, put.ensures.floor);
       looked = next_looks cs es turn.entry-index no_entry (taken_number turn.taken) (taken_number put.result) turn.home.looked put.new.home.looked (c.args.home.now.looked + all) (omega arith) turn.invariant.looked put.ensures.looked;
       reads = next_looks cs es turn.entry-index no_entry (taken_number turn.taken) (taken_number put.result) turn.reads put.new.reads (c.args.reads.now + all) (omega arith) turn.invariant.reads put.ensures.reads;
     }

@@ -18,6 +18,7 @@ loop-lease-preserved c =
     record {
       home = next_home c.args.rows.now c.args.checkpoints.now.items turn.checkpoints.items c.args.home.now.pages turn.home.pages c.args.writes.now turn.lease-index c.lease-item.result
           (omega arith) c.lease-item.is turn.invariant.home c.put_lease.new.checkpoints.items c.put_lease.new.home.pages c.put_lease.ensures.home c.put_lease.ensures.checkpoints;
+      floor = omega (arith, turn.invariant.floor, c.put_lease.ensures.floor);
       looked = omega (arith, looked, more);
       reads = omega (arith, reads, more');
     }

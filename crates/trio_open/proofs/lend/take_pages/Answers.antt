@@ -23,6 +23,7 @@ loop-number-preserved c =
       lent =
           next_lent c.args.home.now.pages c.loop-number.home.pages c.args.range ns i n c.taken-page.result.page c.loop-number.to.items c.push.new.self.items c.taken-page.result (omega arith) is c.requires.there c.requires.once inv.home
           c.taken-page.ensures.lent c.taken-page.ensures.number inv.lent put.items;
+      floor = omega (arith, inv.floor, c.taken-page.ensures.floor);
       many = search rules;
       room = search rules;
     }

@@ -10,6 +10,7 @@ abbrev pub invariant-loop-number : goal.invariant-loop-number
 invariant-loop-number l = record {
   home : l.home.pages ≡ without_pages (take l.number-index l.numbers) l.fn.home.pages;
   lent : l.to.items ≡ map untouched (sheets_of (core_of l.fn.home.pages l.fn.range) (take l.number-index l.numbers));
+  floor : l.fn.home.looked ≤ l.home.looked;
   many : length l.to.items ≡ l.number-index;
   room : length l.numbers ≤ vec_capacity l.to;
 }

@@ -11,6 +11,7 @@ loop-number-preserved c =
     let is = get_or_default ns i 0 (get_or ns i 0) (omega arith) in
     record {
       home = c.copied.ensures.pages ∙ inv.home;
+      floor = omega (arith, inv.floor, c.copied.ensures.floor);
       lent =
           next_copied c.args.home.now.pages c.loop-number.home.pages c.args.range ns i (get_or ns i 0) c.in_ok-page.page.page c.loop-number.copies.items c.push.new.self.items c.in_ok-page.page (omega arith) is c.requires.there inv.home
           c.in_ok-page.ensures.copy c.in_ok-page.ensures.number inv.lent c.in_ok-push.ensures.items;

@@ -1,4 +1,4 @@
-use Rattle.std.proofs.Common.{◌≡◌, map, take}
+use Rattle.std.proofs.Common.{◌≡◌, ◌≤◌, map, take}
 use Rattle.trio_layout.specs.Pages.{sheets_of}
 use Rattle.trio_checkpoint.specs.Covered.{core_of}
 use Rattle.trio_open.specs.Open.{untouched}
@@ -7,5 +7,6 @@ use Rattle.trio_open.proofs.read.copies.Given as goal
 abbrev pub invariant-loop-number : goal.invariant-loop-number
 invariant-loop-number l = record {
   home : l.home.pages ≡ l.fn.home.pages;
+  floor : l.fn.home.looked ≤ l.home.looked;
   lent : l.copies.items ≡ map untouched (sheets_of (core_of l.fn.home.pages l.fn.range) (take l.number-index l.numbers));
 }

@@ -109,3 +109,10 @@ returns-clause-reads c =
     let first = c.put_written.ensures.reads in
     let second = c.put_kept.ensures.reads in
     omega (arith, kept, count, first, second)
+
+pub returns-clause-floor : goal.returns-clause-floor
+returns-clause-floor c =
+    let brought = ap (λ (h : Pages). h.looked) c.bring_home.ensures.home in
+    let first = c.put_written.ensures.floor in
+    let second = c.put_kept.ensures.floor in
+    omega (arith, brought, first, second)

@@ -1,4 +1,4 @@
-use Rattle.std.proofs.Common.{◌++◌, [], ◌∷◌, List, ap, append-nil, inr, refl, subst, sym, ◌∙◌}
+use Rattle.std.proofs.Common.{arith, ◌++◌, [], ◌∷◌, List, ap, append-nil, inr, refl, subst, sym, ◌∙◌}
 use Rattle.trio_log.specs.Logged.{Logged}
 use Rattle.trio_nodes.specs.declared.entry.Entry.{Entry}
 use Rattle.trio_nodes.specs.declared.entry.Entry.TheVariants as entry
@@ -50,6 +50,7 @@ returns-in_default c = record {
   };
   pages = tt;
   inodes = tt;
+  floor = (let still = ap (λ (x : Controller). x.looked) c.self.view_is in omega (arith, still));
   was_kept = subst Kept (seen_state c.self.view_is) c.self.invariant.all.kept;
   kept = c.self.invariant.all.kept;
 }
@@ -64,6 +65,7 @@ returns-in_default-with c = record {
   };
   pages = tt;
   inodes = tt;
+  floor = (let still = ap (λ (x : Controller). x.looked) c.self.view_is in omega (arith, still));
   was_kept = subst Kept (seen_state c.self.view_is) c.self.invariant.all.kept;
   kept = c.self.invariant.all.kept;
 }
@@ -82,6 +84,7 @@ returns-in-Some c =
       };
       pages = c.allot-result.ensures.pages;
       inodes = c.allot-result.ensures.inodes;
+      floor = (let still = ap (λ (x : Controller). x.looked) c.self.view_is in let more = c.allot-result.ensures.floor in omega (arith, still, more));
       was_kept = subst Kept seen c.self.invariant.all.kept;
       kept = c.allot-result.ensures.kept;
     }
@@ -100,6 +103,7 @@ returns-in_default-allot_told c =
       };
       pages = c.allot-result.ensures.pages;
       inodes = c.allot-result.ensures.inodes;
+      floor = (let still = ap (λ (x : Controller). x.looked) c.self.view_is in let more = c.allot-result.ensures.floor in omega (arith, still, more));
       was_kept = subst Kept seen c.self.invariant.all.kept;
       kept = c.allot-result.ensures.kept;
     }

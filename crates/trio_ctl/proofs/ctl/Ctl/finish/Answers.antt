@@ -1,12 +1,9 @@
 use Rattle.std.proofs.Common.{◌≤◌, ◌+◌, length, ap, arith, refl, rules, subst, sym, ◌∙◌}
 use Rattle.trio_rights.specs.Bundle.{bundle_pages}
-use Rattle.trio_lease.specs.Bundles.{Bundled}
-use Rattle.trio_lease.specs.Shown.{KeepsUntouched, LentFile}
 use Rattle.trio_lease.specs.Views.{bundle_in}
-use Rattle.trio_lists.specs.Lists.{In}
 use Rattle.trio_layout.specs.Case.{Case}
 use Rattle.trio_case.specs.Cases.{CaseShown}
-use Rattle.trio_state.specs.Moves.{Outline, begun_by, outline_of}
+use Rattle.trio_state.specs.Moves.{Outline, outline_of}
 use Rattle.trio_state.specs.State.{State}
 use Rattle.trio_laws.proofs.acts.Underways.{some_apart}
 use Rattle.trio_entries.specs.Drafts.{IsDraftFor}
@@ -65,8 +62,7 @@ conclude-verdict-requires c =
 pub invariant_of-self : goal.invariant_of-self
 invariant_of-self c =
     (has_ended c.self.view_is c.parts-case.ensures.case c.lib-lib.ensures c.self.invariant c.requires.awaited c.parts-case.ensures.weighed.full
-    c.outcome-outcome.result c.told-told.result c.conclude-verdict.result c.conclude-verdict.new.self refl c.requires.lent
-    (subst (λ (x : Bundled). (f : LentFile) → In f x.writes → KeepsUntouched f) c.bundle.ensures.bundle c.keeps_untouched.ensures)
+    c.outcome-outcome.result c.told-told.result c.conclude-verdict.result c.conclude-verdict.new.self refl c.requires.marked
     c.take_begun.ensures.state c.outcome-outcome.ensures.outcome c.rows-rows.ensures c.told-told.ensures.told c.conclude-verdict.ensures.verdict c.conclude-verdict.ensures.step
     (c.conclude-verdict.ensures.begun ∙ c.take_begun.ensures.taken) (ap (λ n. n + 1) c.conclude-verdict.ensures.promised ∙ c.take_begun.ensures.promised)
     c.push.ensures (c.note.ensures ∙ ap (λ fs. noted_by c.conclude-verdict.result fs c.self.inside.notes) c.as_slice.ensures)).history
@@ -74,8 +70,7 @@ invariant_of-self c =
 pub returns : goal.returns
 returns c =
     let ended = has_ended c.self.view_is c.parts-case.ensures.case c.lib-lib.ensures c.self.invariant c.requires.awaited c.parts-case.ensures.weighed.full
-    c.outcome-outcome.result c.told-told.result c.conclude-verdict.result c.conclude-verdict.new.self refl c.requires.lent
-    (subst (λ (x : Bundled). (f : LentFile) → In f x.writes → KeepsUntouched f) c.bundle.ensures.bundle c.keeps_untouched.ensures)
+    c.outcome-outcome.result c.told-told.result c.conclude-verdict.result c.conclude-verdict.new.self refl c.requires.marked
     c.take_begun.ensures.state c.outcome-outcome.ensures.outcome c.rows-rows.ensures c.told-told.ensures.told c.conclude-verdict.ensures.verdict c.conclude-verdict.ensures.step
     (c.conclude-verdict.ensures.begun ∙ c.take_begun.ensures.taken) (ap (λ n. n + 1) c.conclude-verdict.ensures.promised ∙ c.take_begun.ensures.promised)
     c.push.ensures (c.note.ensures ∙ ap (λ fs. noted_by c.conclude-verdict.result fs c.self.inside.notes) c.as_slice.ensures) in
@@ -86,6 +81,7 @@ returns c =
       acts = ended.acts;
       log = ended.logged;
       first = ap (λ (x : Controller). x.first) c.self.view_is;
+      floor = (let more = c.conclude-verdict.ensures.floor in omega (arith, more, begun, before));
       looked = omega (arith, looked, begun, before);
       reads = subst (λ (x : CaseShown). c.conclude-verdict.new.reads ≤ c.args.reads.now + length (bundle_pages (bundle_in x.bundle)) + length (bundle_in x.bundle).writes) c.parts-case.ensures.case c.conclude-verdict.ensures.reads;
       was_kept = search rules;

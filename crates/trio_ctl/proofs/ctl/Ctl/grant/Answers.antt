@@ -1,4 +1,4 @@
-use Rattle.std.proofs.Common.{◌≡◌, ◌++◌, [], ◌∷◌, List, ap, append-nil, inr, refl, subst, sym, ◌∙◌}
+use Rattle.std.proofs.Common.{arith, ◌≡◌, ◌++◌, [], ◌∷◌, List, ap, append-nil, inr, refl, subst, sym, ◌∙◌}
 use Rattle.std.specs.Prelude.{IfOk}
 use Rattle.std.specs.Option.{IsSomeAnd}
 use Rattle.trio_layout.specs.Image.{row_at}
@@ -54,6 +54,7 @@ returns-in_default c = record {
     begun = ap (λ (x : Controller). x.begun) c.self.view_is;
   };
   lease = tt;
+  floor = (let still = ap (λ (x : Controller). x.looked) c.self.view_is in omega (arith, still));
   was_kept = subst Kept (seen_state c.self.view_is) c.self.invariant.all.kept;
   kept = c.self.invariant.all.kept;
 }
@@ -71,6 +72,7 @@ returns-in-Some c =
         begun = c.grant-result.ensures.begun ∙ ap (λ (x : Controller). x.begun) c.self.view_is;
       };
       lease = subst (λ (v : State). IfOk c.grant-result.result (λ lease. IsSomeAnd (row_at v.home c.args.ino) (λ r. lease ≡ lent_by (opened v c.args.lib.0 c.args.ino c.args.kind r)))) seen c.grant-result.ensures.lease;
+      floor = (let still = ap (λ (x : Controller). x.looked) c.self.view_is in let more = c.grant-result.ensures.floor in omega (arith, still, more));
       was_kept = subst Kept seen c.self.invariant.all.kept;
       kept = c.grant-result.ensures.kept;
     }
@@ -88,6 +90,7 @@ returns-in_default-grant_told c =
         begun = c.grant-result.ensures.begun ∙ ap (λ (x : Controller). x.begun) c.self.view_is;
       };
       lease = subst (λ (v : State). IfOk c.grant-result.result (λ lease. IsSomeAnd (row_at v.home c.args.ino) (λ r. lease ≡ lent_by (opened v c.args.lib.0 c.args.ino c.args.kind r)))) seen c.grant-result.ensures.lease;
+      floor = (let still = ap (λ (x : Controller). x.looked) c.self.view_is in let more = c.grant-result.ensures.floor in omega (arith, still, more));
       was_kept = subst Kept seen c.self.invariant.all.kept;
       kept = c.grant-result.ensures.kept;
     }

@@ -1,4 +1,4 @@
-use Rattle.std.proofs.Common.{◌≡◌, ◌+◌, ◌*◌, ◌≤◌, ◌++◌, length, ap, inl, subst, sym, ◌∙◌, arith}
+use Rattle.std.proofs.Common.{◌≡◌, ◌+◌, ◌*◌, ◌≤◌, ◌++◌, length, ap, subst, sym, ◌∙◌, arith}
 use Rattle.trio_rights.specs.Bundle.{bundle_pages}
 use Rattle.trio_lease.specs.Views.{bundle_in}
 use Rattle.trio_layout.specs.Copied.{with_copied}
@@ -9,10 +9,12 @@ use Rattle.trio_state.specs.Step.{Release}
 use Rattle.trio_state.specs.Tells.{case_in}
 use Rattle.trio_ctl.specs.Answers.{verdict_of}
 use Rattle.trio_ctl.specs.Ctl.{Controller, underway_of}
-use Rattle.trio_ctl.specs.HandedIn.{WereLentOrTouched}
+use Rattle.trio_ctl.specs.HandedIn.{AreMarked}
 use Rattle.trio_ctl.specs.Logged.{entries_made, with_bundle}
 use Rattle.trio_ctl.specs.Pending.{case_made}
 use Rattle.trio_ctl.proofs.Awaiting.{made_is}
+use Rattle.trio_entries.specs.Handed.{handed_in}
+use Rattle.trio_ctl.proofs.RecordedReleases.{lent_is_marked}
 use Rattle.trio_ctl.proofs.Ends.{at_once, begun_so, in_a_row}
 use Rattle.trio_ctl.proofs.ctl.Ctl.release.Goals as goal
 
@@ -29,13 +31,14 @@ finish-requires-clause-awaited c =
     subst (λ (k : CaseShown). IsAwaited mid k.lib.0 (case_shown k)) (sym same)
     (begun_so u mid lib.0 (bundle_in b) c.requires.library was.was_kept.placed was.acts, case)
 
-pub finish-requires-clause-lent : goal.finish-requires-clause-lent
-finish-requires-clause-lent c =
+pub finish-requires-clause-marked : goal.finish-requires-clause-marked
+finish-requires-clause-marked c =
     let was = c.in-Ok.ensures in
     let same = c.weigh-judged.ensures.case ∙ was.pending in
     let state : c.begin.new.self.state ≡ c.args.self.now.state = ap (λ (x : Controller). x.state) was.rest in
-    subst (λ (k : CaseShown). WereLentOrTouched c.begin.new.self.state k.lib.0 k.bundle.writes) (sym same)
-    (subst (λ (v : State). WereLentOrTouched v c.args.lib.0 c.args.bundle.writes) (sym state) (λ f i. inl (c.requires.lent f i)))
+    subst (λ (k : CaseShown). AreMarked c.begin.new.self.state k.lib.0 (handed_in k.bundle)) (sym same)
+    (subst (λ (v : State). AreMarked v c.args.lib.0 (handed_in c.args.bundle)) (sym state)
+    (lent_is_marked c.args.self.now.state c.args.lib.0 c.args.bundle was.was_kept.kept c.requires.lent c.keeps_untouched.ensures))
 
 pub returns-in-Ok-clause-step : goal.returns-in-Ok-clause-step
 returns-in-Ok-clause-step c =
@@ -84,3 +87,9 @@ pub returns-in-Err-clause-step : goal.returns-in-Err-clause-step
 returns-in-Err-clause-step c =
     let was = c.in-Err.ensures in
     (at_once (underway_of c.args.self.now) (underway_of c.begin.new.self) c.args.lib.0 (bundle_in c.args.bundle) c.in-Err.back.1 (c.requires.library, c.requires.idle, c.requires.given) was.was_kept.placed was.acts).0
+
+pub returns-in-Ok-clause-floor : goal.returns-in-Ok-clause-floor
+returns-in-Ok-clause-floor c =
+    let before = ap (λ (x : Controller). x.looked) c.in-Ok.ensures.rest in
+    let more = c.finish.ensures.floor in
+    omega (arith, more, before)

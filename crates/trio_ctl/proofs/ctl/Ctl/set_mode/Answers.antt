@@ -48,6 +48,7 @@ returns-in-Some c =
       logs = record { log = sym (append-nil c.args.self.now.log); first = refl; begun = refl };
       leases = refl;
       call = refl;
+      floor = omega arith;
       was_kept = subst Kept same c.self.invariant.all.kept;
       kept = subst Kept same c.self.invariant.all.kept;
     }
@@ -67,6 +68,7 @@ returns-in_default-make_places c =
       };
       leases = refl;
       call = refl;
+      floor = (let still = ap (λ (x : Controller). x.looked) c.self.view_is in omega (arith, still));
       was_kept = subst Kept same c.self.invariant.all.kept;
       kept = c.self.invariant.all.kept;
     }
@@ -86,6 +88,7 @@ returns-in_default-make_mode_room c =
       };
       leases = refl;
       call = refl;
+      floor = (let still = ap (λ (x : Controller). x.looked) c.self.view_is in omega (arith, still));
       was_kept = subst Kept same c.self.invariant.all.kept;
       kept = c.self.invariant.all.kept;
     }
@@ -261,3 +264,16 @@ returns-clause-logs c =
     ∙ ap (λ (l : List Entry). l ++ entry.Mode lib c.args.ino c.args.mode (Ok tt) c.args.call ∷ []) (c.give_back_all.ensures.log ∙ ap (λ (l : List Entry). l ++ back_entries lib back) (c.make_places.ensures.kept ∙ ap (λ (x : Controller). x.log) c.self.view_is)))
     (ap (λ (x : Controller). x.first) c.self.view_is)
     (c.change_mode.ensures.begun ∙ c.give_back_all.ensures.begun ∙ ap (λ (x : Controller). x.begun) c.self.view_is)
+
+pub returns-clause-floor : goal.returns-clause-floor
+returns-clause-floor c =
+    let still = ap (λ (x : Controller). x.looked) c.self.view_is in
+    let back = c.give_back_all.ensures.looked in
+    let more = c.change_mode.ensures.floor in
+    omega (arith, still, back, more)
+
+pub returns-in-Some-fault-clause-floor : goal.returns-in-Some-fault-clause-floor
+returns-in-Some-fault-clause-floor c =
+    let still = ap (λ (x : Controller). x.looked) c.self.view_is in
+    let back = c.refuse_mode.ensures.looked in
+    omega (arith, still, back)

@@ -61,6 +61,7 @@ returns-in_default c =
       leases = refl;
       calls = refl;
       looked = (let same = ap (λ (x : Controller). x.looked) c.self.view_is in omega (arith, same));
+      floor = (let still = ap (λ (x : Controller). x.looked) c.self.view_is in omega (arith, still));
       was_kept = subst Kept (seen_state c.self.view_is) c.self.invariant.all.kept;
       kept = c.self.invariant.all.kept;
     }
@@ -78,6 +79,7 @@ returns-in-Err c =
       leases = refl;
       calls = refl;
       looked = (let same = ap (λ (x : Controller). x.looked) c.self.view_is in omega (arith, same));
+      floor = (let still = ap (λ (x : Controller). x.looked) c.self.view_is in omega (arith, still));
       was_kept = subst Kept (seen_state c.self.view_is) c.self.invariant.all.kept;
       kept = c.self.invariant.all.kept;
     }
@@ -95,6 +97,7 @@ returns-in_default-with c =
       leases = refl;
       calls = refl;
       looked = (let same = ap (λ (x : Controller). x.looked) c.self.view_is in omega (arith, same));
+      floor = (let still = ap (λ (x : Controller). x.looked) c.self.view_is in omega (arith, still));
       was_kept = subst Kept (seen_state c.self.view_is) c.self.invariant.all.kept;
       kept = c.self.invariant.all.kept;
     }
@@ -232,3 +235,10 @@ returns-clause-logs c =
     ∙ ap (λ (x : Controller). x.log ++ (back_entries lib back ++ batch ∷ [])) c.self.view_is
     in
     record { log = made; first = ap (λ (x : Controller). x.first) c.self.view_is; begun = c.conclude-verdict.ensures.begun ∙ c.give_back_all.ensures.begun ∙ ap (λ (x : Controller). x.begun) c.self.view_is }
+
+pub returns-clause-floor : goal.returns-clause-floor
+returns-clause-floor c =
+    let still = ap (λ (x : Controller). x.looked) c.self.view_is in
+    let back = c.give_back_all.ensures.looked in
+    let more = c.conclude-verdict.ensures.floor in
+    omega (arith, still, back, more)

@@ -1,4 +1,4 @@
-use Rattle.std.proofs.Common.{◌∙◌, map, refl, take, ap, subst, sym, inr}
+use Rattle.std.proofs.Common.{◌∙◌, ◌^◌, ◌<◌, map, refl, take, ap, subst, sym, inr, arith}
 use Rattle.trio_page.specs.Home.{Pages}
 use Rattle.trio_tables.specs.Free.{free_pages}
 use Rattle.trio_ctl.specs.Answers.{allot_fault_answer}
@@ -11,7 +11,7 @@ use Rattle.trio_state.specs.Kept.{Kept}
 use Rattle.trio_ctl.specs.Ctl.{Registered}
 use Rattle.trio_open.specs.Entries.{Entries}
 use Rattle.trio_ctl.proofs.Views.{state_is}
-use Rattle.trio_ctl.proofs.Allotting.{free_home, given_controlled, given_step, logged_controlled, logged_is, numbers_placed, pages_placed, refused_step, still, unchanged_controlled}
+use Rattle.trio_ctl.proofs.Allotting.{free_home, given_controlled, given_step, logged_controlled, logged_is, numbers_placed, pages_placed, raised_by_above, refused_step, still, unchanged_controlled}
 use Rattle.trio_ctl.proofs.Outs.{pages_given, without_is}
 use Rattle.trio_ctl.proofs.registry.Registry.allot.Goals as goal
 
@@ -47,6 +47,12 @@ returns-in-Ok-given c =
       kept = (given_controlled i.store i.first_core i.grants i.files.items i.libs.items i.history i.begun.items c.self.invariant c.args.lib c.args.pages c.args.inodes after c.enter.new.self c.in-Ok-given.ensures.enough_pages c.in-Ok-given.ensures.enough_inodes refl gone c.in-Ok-given.ensures.out c.enter.ensures).stored.kept;
       begun = ap (λ (x : Registered). x.begun) c.self.view_is;
       promised = ap (λ (e : Entries). e.promised) c.enter.ensures ∙ ap (λ (x : Registered). x.promised) c.self.view_is;
+      floor =
+          (let old = ap (λ (x : Registered). x.looked) c.self.view_is in
+          let new = ap (λ (h : Pages). h.looked) c.in-Ok-given.ensures.home in
+          let few : c.self.inside.store.home.looked < 2 ^ 64 = omega (arith, old) in
+          let more = (raised_by_above c.args.pages c.self.inside.store.home.looked few).0 in
+          omega (arith, old, new, more));
     }
 
 pub invariant_of-self-in-NoPages : goal.invariant_of-self-in-NoPages

@@ -1,4 +1,4 @@
-use Rattle.std.proofs.Common.{◌≤◌, ◌+◌, arith, length, ap, sym, refl, rules, subst}
+use Rattle.std.proofs.Common.{arith, length, ap, sym, rules, subst}
 use Rattle.trio_rights.specs.Bundle.{Bundle, bundle_pages}
 use Rattle.trio_lease.specs.Views.{bundle_in}
 use Rattle.trio_state.specs.Kept.{Kept}
@@ -54,6 +54,7 @@ returns-in-Accepted c =
     record {
       step = ended.1;
       verdict = ap verdict_on (sym c.in-Accepted.is);
+      floor = (let more = done.floor in omega (arith, more, seen));
       looked = omega (arith, few, looked, seen, pages, writes);
       reads = omega (arith, few, reads, pages, writes);
       was_kept = subst (λ (x : Registered). Kept x.state) c.self.view_is c.self.invariant.stored.kept;
@@ -71,6 +72,7 @@ returns-in-Refused c =
     record {
       step = ended.1;
       verdict = ap verdict_on (sym c.in-Refused.is);
+      floor = search rules;
       looked = search rules;
       reads = search rules;
       was_kept = subst (λ (x : Registered). Kept x.state) c.self.view_is c.self.invariant.stored.kept;

@@ -1,4 +1,4 @@
-use Rattle.std.proofs.Common.{◌≡◌, refl, Some, None, ap, length, sym, subst, ◌∙◌, ◌++◌, ◌∷◌, []}
+use Rattle.std.proofs.Common.{arith, ◌≡◌, refl, Some, None, ap, length, sym, subst, ◌∙◌, ◌++◌, ◌∷◌, []}
 use Rattle.std.specs.Prelude.{slice_set}
 use Rattle.std.specs.Result.{IsOk}
 use Rattle.std.specs.Vec.{with_item}
@@ -128,4 +128,5 @@ returns-in-Ok-push c =
           (ap WriteLent (c.in-Ok-lend.ensures.lease ∙ lease_made i.store i.first_core i.grants i.files.items i.libs.items i.history i.begun.items c.self.invariant c.args.lib c.args.ino r live free key c.settled_body.result body loan.file loan.checkpoint _ c.admit.new.grants c.push.new.self.items c.enter.new.self made c.in-Ok-lend.ensures.covered gone rest aside more c.enter.ensures));
       begun = ap (λ (x : Registered). x.begun) c.self.view_is;
       promised = ap (λ (e : Entries). e.promised) c.enter.ensures ∙ ap (λ (x : Registered). x.promised) c.self.view_is;
+      floor = (let old = ap (λ (x : Registered). x.looked) c.self.view_is in omega (arith, old, c.settled_body.ensures.floor, c.lend.ensures.floor));
     }

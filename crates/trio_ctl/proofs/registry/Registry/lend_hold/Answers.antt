@@ -1,4 +1,4 @@
-use Rattle.std.proofs.Common.{◌≡◌, ℕ, List, refl, Some, None, ap, sym, subst, ◌∙◌, ◌++◌, ◌∷◌, []}
+use Rattle.std.proofs.Common.{arith, ◌≡◌, ℕ, List, refl, Some, None, ap, sym, subst, ◌∙◌, ◌++◌, ◌∷◌, []}
 use Rattle.trio_nodes.specs.declared.grant.GrantKind.TheVariants.{Hold}
 use Rattle.trio_tables.specs.Row.{as_row}
 use Rattle.trio_grants.specs.Grants.{AllBelow}
@@ -83,4 +83,5 @@ returns c =
           (ap HoldLent (c.of-2.ensures ∙ ap (λ n. P n c.settled_body.result c.children.result) (next_is c.requires.entry c.self.view_is) ∙ ap (λ b. P i.history.made b c.children.result) body ∙ ap (P i.history.made (settled_body (settled (state_of i.store i.first_core (grants_in i.files.items) i.libs.items i.history.made)) c.args.ino)) counted_children));
       begun = ap (λ (x : Registered). x.begun) c.self.view_is;
       promised = ap (λ (e : Entries). e.promised) c.enter.ensures ∙ ap (λ (x : Registered). x.promised) c.self.view_is;
+      floor = (let old = ap (λ (x : Registered). x.looked) c.self.view_is in omega (arith, old, c.settled_body.ensures.floor));
     }

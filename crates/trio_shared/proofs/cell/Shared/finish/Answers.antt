@@ -2,11 +2,12 @@ use Rattle.std.proofs.Common.{◌∙◌, ap, subst, sym}
 use Rattle.trio_desk.specs.Call.{DeskSeen}
 use Rattle.trio_rights.specs.declared.rights.LibNo.{LibNo}
 use Rattle.trio_shared.specs.Seats.{library_of, seated}
-use Rattle.trio_ctl.specs.HandedIn.{WereLentOrTouched}
+use Rattle.trio_entries.specs.Handed.{handed_in}
+use Rattle.trio_ctl.specs.HandedIn.{AreMarked}
 use Rattle.trio_shared.specs.inner.Found.{Grows}
 use Rattle.trio_shared.specs.Begun.{marked}
 use Rattle.trio_shared.proofs.Grown.{is_library}
-use Rattle.trio_shared.proofs.Belongs.{lent_then}
+use Rattle.trio_shared.proofs.Belongs.{marked_then}
 use Rattle.trio_shared.proofs.Finish.{begun_end, desk_end, ended_all, grows_end, idle_all, looked_end}
 use Rattle.trio_shared.proofs.Left.{desk_is_left}
 use Rattle.trio_shared.proofs.Seats.{numbered, same_seat, saw, still_seat}
@@ -17,12 +18,12 @@ finish-answer-requires g c =
     let is = ap numbered (c.library.ensures ∙ c.enter-held.ensures.same.1) in
     let f = c.enter-held.ensures.found in
     record {
-      lent = λ mine.
-          let may = c.requires.lent (mine ∙ is) in
+      marked = λ mine.
+          let may = c.requires.marked (mine ∙ is) in
           let l = library_of c.args.seat.now in
           let same = ap (λ (d : DeskSeen). d.out) (desk_is_left _ _ may.state l may.left ∙ sym f.desk) in
-          subst (λ (z : LibNo). WereLentOrTouched c.enter-held.result.state z.0 c.args.judged.case.bundle.writes) (sym is)
-          (lent_then may.state c.enter-held.result.state l same c.args.judged.case.bundle.writes may.lent);
+          subst (λ (z : LibNo). AreMarked c.enter-held.result.state z.0 (handed_in c.args.judged.case.bundle)) (sym is)
+          (marked_then may.state c.enter-held.result.state l same (handed_in c.args.judged.case.bundle) may.marked);
     }
 
 pub leave-requires-clause-grew : goal.leave-requires-clause-grew

@@ -1,6 +1,7 @@
 use Rattle.std.proofs.Common.{◌∙◌, ap, subst, sym}
 use Rattle.trio_desk.specs.Call.{DeskSeen, SetMode, TellsHolder, mode_told}
 use Rattle.trio_desk.specs.Ready.{AreLent, TellsChmod}
+use Rattle.trio_desk.specs.Refusals.{TellsCause}
 use Rattle.trio_rights.specs.declared.rights.LibNo.{LibNo}
 use Rattle.trio_shared.specs.Seats.{seated}
 use Rattle.trio_shared.specs.inner.Found.{Grows}
@@ -42,6 +43,11 @@ pub returns-clause-holder : goal.returns-clause-holder
 returns-clause-holder g c =
     let is = ap numbered (c.library.ensures ∙ c.enter-held.ensures.same.1) in
     subst (λ (d : DeskSeen). TellsHolder d.lib d.out (SetMode c.args.ino c.args.mode c.args.back.items c.args.call) (mode_told c.set_mode-answer.result (λ came. came.2))) (desk_before (seated c.args.seat.now) c.enter-held.result c.enter-held.ensures.found c.library.result is) c.set_mode-answer.ensures.holder
+
+pub returns-clause-cause : goal.returns-clause-cause
+returns-clause-cause g c =
+    let is = ap numbered (c.library.ensures ∙ c.enter-held.ensures.same.1) in
+    subst (λ (d : DeskSeen). TellsCause d (SetMode c.args.ino c.args.mode c.args.back.items c.args.call) (mode_told c.set_mode-answer.result (λ came. came.2))) (desk_before (seated c.args.seat.now) c.enter-held.result c.enter-held.ensures.found c.library.result is) c.set_mode-answer.ensures.cause
 
 pub returns-clause-seat : goal.returns-clause-seat
 returns-clause-seat g c = (still_seat c.args.seat.now c.enter-held.new.seat c.leave.new.seat c.enter-held.ensures.same c.leave.ensures.same c.args.self.now c.requires.seat c.leave.ensures.given, same_seat c.args.seat.now c.enter-held.new.seat c.leave.new.seat c.enter-held.ensures.same c.leave.ensures.same)

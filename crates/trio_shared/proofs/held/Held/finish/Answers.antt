@@ -6,16 +6,17 @@ use Rattle.trio_state.specs.Moves.{Acts, Answered, End, IsAwaited}
 use Rattle.trio_state.specs.Step.{Release}
 use Rattle.trio_ctl.specs.Answers.{verdict_of}
 use Rattle.trio_ctl.specs.Ctl.{Controller, underway_of}
-use Rattle.trio_ctl.specs.HandedIn.{WereLentOrTouched}
+use Rattle.trio_entries.specs.Handed.{handed_in}
+use Rattle.trio_ctl.specs.HandedIn.{AreMarked}
 use Rattle.trio_ctl.specs.Logged.{entries_made, with_bundle}
 use Rattle.trio_shared.specs.inner.Found.{EndsHere}
 use Rattle.trio_shared.proofs.held.Held.finish.Goals as goal
 
-pub finish-requires-clause-lent : goal.finish-requires-clause-lent
-finish-requires-clause-lent c =
+pub finish-requires-clause-marked : goal.finish-requires-clause-marked
+finish-requires-clause-marked c =
     let mine : c.args.judged.case.lib ≡ c.args.lib = search rules in
-    subst (λ (l : LibNo). WereLentOrTouched c.self.inside.ctl.state l.0 c.args.judged.case.bundle.writes) (sym mine)
-    (subst (λ (x : Controller). WereLentOrTouched x.state c.args.lib.0 c.args.judged.case.bundle.writes) (sym c.self.view_is) (c.requires.lent mine))
+    subst (λ (l : LibNo). AreMarked c.self.inside.ctl.state l.0 (handed_in c.args.judged.case.bundle)) (sym mine)
+    (subst (λ (x : Controller). AreMarked x.state c.args.lib.0 (handed_in c.args.judged.case.bundle)) (sym c.self.view_is) (c.requires.marked mine))
 
 pub returns-clause-ends : goal.returns-clause-ends
 returns-clause-ends c =
