@@ -24,7 +24,7 @@ use Rattle.trio_image.specs.Load.{Loads}
 use Rattle.trio_ctl.specs.Ctl.{superblock_for, writer_of}
 use Rattle.trio_ctl.specs.Logged.{recorded}
 use Rattle.trio_runner.specs.Play.{Heard, Played, creds_in}
-use Rattle.trio_runner.specs.RunLaws.{OrderIsLogged, RanEndsFree, RanIsOrder, RanIsPrinted}
+use Rattle.trio_runner.specs.RunLaws.{OrderIsLogged, OrderIsOne, RanEndsFree, RanIsOrder, RanIsPrinted}
 use Rattle.trio_runner.specs.Runs.{ScriptRan}
 use Rattle.trio_runner.specs.Seen.{ScriptPlayed}
 use Rattle.trio_commands.specs.declared.status.Status.{Status}
@@ -146,19 +146,19 @@ nobody_writes_then law s pages creds first final libs tolds log started script =
     no_writer final (law (image_in s pages) libs tolds final log script').grants
 
 -- what a script comes to that is run with a thread for each library
-pub threads_end : RanIsOrder → OrderIsLogged → RanEndsFree → RanIsPrinted
+pub threads_end : RanIsOrder → OrderIsLogged → OrderIsOne → RanEndsFree → RanIsPrinted
     → (s t : Superblock) (pages last : List (Option (List ℕ))) (creds : List Creds) (first final : State) (libs : List ScriptLib) (tolds : List Heard) (log : List Entry)
     → IsVerified s pages → first ≡ start (image_in s pages) creds → ScriptRan first.home libs tolds final log
     → IsVerified t last → TablesAre t last (settled final).rows (settled final).owners → t ≡ superblock_for (settled final).core → (NoneOut final.pages_out → StoresImage t (settled final) last)
     → IsThreadsEnd (image_in s pages) libs tolds t last
-threads_end order logged free printed s t pages last creds first final libs tolds log verified started script last_verified tables is stores =
+threads_end order logged same free printed s t pages last creds first final libs tolds log verified started script last_verified tables is stores =
     let script' : ScriptRan (image_in s pages) libs tolds final log = subst (λ (f : State). ScriptRan f.home libs tolds final log) started script in
     let here : NoneOut final.pages_out = (free (image_in s pages) libs tolds final log script').pages in
     let last_first : 0 < (settled final).core.range.first = subst (λ (x : Superblock). 0 < x.first_core) is (first_low t last last_verified) in
     record {
       state = final;
       log = log;
-      ran = ran_on order logged free printed (image_in s pages) libs tolds final log (first_low s pages verified) last_first script';
+      ran = ran_on order logged same free printed (image_in s pages) libs tolds final log (first_low s pages verified) last_first script';
       last = record { superblock = is; tables = tables; stores = stores here };
     }
 

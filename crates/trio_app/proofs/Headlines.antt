@@ -39,11 +39,11 @@ use Rattle.trio_runner.specs.PlayLaws.{ComeToOne}
 use Rattle.trio_app.specs.Alone.{NeverBusyAlone}
 use Rattle.trio_runner.proofs.Alone.{played_alone}
 use Rattle.trio_runner.proofs.OnePlay.{played_is_one}
-use Rattle.trio_runner.proofs.OneSequence.{order_is_one}
 use Rattle.trio_runner.proofs.RanAlone.{ran_alone}
-use Rattle.trio_runner.specs.RunLaws.{OrderIsLogged, RanEndsFree, RanIsOrder, RanIsPrinted}
+use Rattle.trio_runner.specs.RunLaws.{OrderIsLogged, OrderIsOne, RanEndsFree, RanIsOrder, RanIsPrinted}
 use Rattle.trio_runner.specs.Runs.{ScriptRan}
 use Rattle.trio_runner.proofs.EndFree.{ends_free, plays_creds}
+use Rattle.trio_runner.proofs.History.{legal_is_history}
 use Rattle.trio_runner.proofs.Logs.{played_is_logged}
 use Rattle.trio_runner.proofs.Plays.{played_is_trace}
 use Rattle.trio_runner.proofs.Printed.{played_is_printed}
@@ -101,14 +101,16 @@ log_stored image libs moves tolds log last first last_first k r creds none entri
     let nobody : (g : OpenGrant) → In g last.open_grants → g.kind ≢ Write = λ g i. absurd (subst (In g) none i) in
     let begins : nodes_of image ≡ state_nodes (start image (creds_in libs)) = settled_nodes (start image (creds_in libs)) k (λ g i. absurd i) first in
     let ends : nodes_of (settled last) ≡ state_nodes last = settled_nodes last r.kept nobody last_first in
-    let legal : Legal (state_nodes (start image last.creds)) last.creds log (state_nodes last) = (history_is_legal (recorded image last log) r).0 in
+    let stored : Legal (state_nodes (start image last.creds)) last.creds log (state_nodes last) = (history_is_legal (recorded image last log) r).0 in
+    let legal : Legal (nodes_of image) (creds_in libs) log (nodes_of (settled last)) =
+    subst (λ (ns : Nodes). Legal ns (creds_in libs) log (nodes_of (settled last))) (sym begins)
+    (subst (λ (ns : Nodes). Legal (state_nodes (start image (creds_in libs))) (creds_in libs) log ns) (sym ends)
+    (subst (λ (cs : List Creds). Legal (state_nodes (start image cs)) cs log (state_nodes last)) creds stored)) in
     record {
       entries = entries;
       replays = subst (λ (cs : List Creds). Replays image cs log last) creds r.replays;
-      legal =
-          subst (λ (ns : Nodes). Legal ns (creds_in libs) log (nodes_of (settled last))) (sym begins)
-          (subst (λ (ns : Nodes). Legal (state_nodes (start image (creds_in libs))) (creds_in libs) log ns) (sym ends)
-          (subst (λ (cs : List Creds). Legal (state_nodes (start image cs)) cs log (state_nodes last)) creds legal));
+      legal = legal;
+      one_thread = legal_is_history (nodes_of image) (creds_in libs) log (nodes_of (settled last)) legal;
       printed = printed;
     }
 
@@ -152,10 +154,10 @@ ran_never_busy image (l ∷ []) tolds last log ran = λ lines honest answer i. r
 ran_never_busy image (l ∷ m ∷ libs) tolds last log ran = tt
 
 -- its calls are one order, of whose moves the claim holds, and what holds of the log
-pub ran_on : RanIsOrder → OrderIsLogged → RanEndsFree → RanIsPrinted
+pub ran_on : RanIsOrder → OrderIsLogged → OrderIsOne → RanEndsFree → RanIsPrinted
     → (image : Image) (libs : List ScriptLib) (tolds : List Heard) (last : State) (log : List Entry) → 0 < image.core.range.first → 0 < (settled last).core.range.first
     → ScriptRan image libs tolds last log → RanOn image libs tolds last log
-ran_on order logged free printed image libs tolds last log first last_first ran =
+ran_on order logged same free printed image libs tolds last log first last_first ran =
     let k : Kept (start image (creds_in libs)) = ran.left.begins in
     let whole : IsWhole image = started_whole image (creds_in libs) k in
     let one = order image libs tolds last log k.fit k.verifies whole ran in
@@ -166,5 +168,5 @@ ran_on order logged free printed image libs tolds last log first last_first ran 
       headline = headline_of image (creds_in libs) (moves_in one.order) one.trace k.fit k.verifies whole;
       stored = log_stored image libs (moves_in one.order) tolds log last first last_first k ran.left.all ran.left.creds none (logged image libs tolds last log ran one) (printed image libs tolds last log ran);
       alone = ran_never_busy image libs tolds last log ran;
-      one_output = λ tolds' last' log' ran' other alike. order_is_one image libs tolds tolds' last last' log log' ran ran' one other alike;
+      one_output = λ tolds' last' log' ran' other alike. same image libs tolds tolds' last last' log log' ran ran' one other alike;
     }

@@ -22,6 +22,7 @@ use Rattle.trio_laws.specs.history.Replays.{Replays}
 use Rattle.trio_script.specs.declared.ScriptLib.{ScriptLib}
 use Rattle.trio_runner.specs.Play.{Heard, IsLibraryOf, creds_in, heard_by}
 use Rattle.trio_runner.specs.Logged.{AreEntries, Prints, entries_by}
+use Rattle.trio_runner.specs.History.{CallsAreHistory}
 
 -- The moves are a run of the controller from the image's state, of events that hand in what was given, with any bytes.
 -- The first state and the state after each move are kept: the settled image verifies. It is one connected tree, with
@@ -56,10 +57,12 @@ pub record Headline (image : Image) (creds : List Creds) (moves : List Move) : T
 
 -- The log that the controller of a script stored, by the script's moves, what its libraries were told, and the last state. It is the
 -- entries of the moves, in their order. It replays from the image that was read to the state at the end, and it is legal, with the
--- libraries' credentials, from the nodes of that image to those of the image that is settled at the end. And the answers of each library
--- print its entries, each once and in their order.
+-- libraries' credentials, from the nodes of that image to those of the image that is settled at the end. Where no raw library releases
+-- or changes a mode, its calls are a history of the tree on one thread. And the answers of each library print its entries, each once and
+-- in their order.
 pub record StoredLog (image : Image) (libs : List ScriptLib) (moves : List Move) (tolds : List Heard) (log : List Entry) (last : State) : Type 0 where
   pub entries : AreEntries moves log
   pub replays : Replays image (creds_in libs) log last
   pub legal : Legal (nodes_of image) (creds_in libs) log (nodes_of (settled last))
+  pub one_thread : CallsAreHistory (nodes_of image) (creds_in libs) log (nodes_of (settled last))
   pub printed : (lib : LibNo) (l : ScriptLib) → IsLibraryOf libs lib l → Prints l.lines (heard_by tolds lib) (entries_by lib log)

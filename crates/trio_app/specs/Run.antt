@@ -29,11 +29,12 @@ pub record RanOn (image : Image) (libs : List ScriptLib) (tolds : List Heard) (l
   pub headline : Headline image (creds_in libs) (moves_in one.order)
   pub stored : StoredLog image libs (moves_in one.order) tolds log last
   pub alone : NeverBusyAlone libs tolds
-  -- any other run of the script on the image ends alike where the calls in its order are alike
+  -- the libraries are told the same, and the same image is settled at the end, in any other run of the script on the image in whose order
+  -- the libraries call in the same sequence and the honest ones ask the same
   pub one_output :
       (tolds' : List Heard) (last' : State) (log' : List Entry) (ran' : ScriptRan image libs tolds' last' log')
       (other : OneOrder (start image (creds_in libs)) (λ lib. (ran'.last lib).going.calls) log' last')
-      → CallAlike libs one.order other.order → EndAlike libs tolds tolds' last last'
+      → CallAlike libs one.order other.order → EndAlike tolds tolds' last last'
 
 -- all was done with the bytes of both files
 pub record RunDone (image script out : List ℕ) (old new : Shelf) (text : List ℕ) : Type 0 where

@@ -21,7 +21,9 @@ use trio_io::Gate;
 use trio_page::{NoMemory, Reads};
 use trio_report::{put_counts, put_end, put_heading, put_tree, tree_lines};
 use trio_rights::LibNo;
-use trio_runner::laws::{order_is_logged, ran_ends_free, ran_is_order, ran_is_printed};
+use trio_runner::laws::{
+    order_is_logged, order_is_one, ran_ends_free, ran_is_order, ran_is_printed,
+};
 use trio_runner::{LibTold, creds_of, play, run};
 use trio_script::ScriptLib;
 
@@ -119,6 +121,7 @@ fn play_in_threads<R: Threads + Wait + Sync, G: Gate + Sync>(
 {
     ran_is_order();
     order_is_logged();
+    order_is_one();
     ran_ends_free();
     ran_is_printed();
     let _superblock = image.superblock();

@@ -43,7 +43,7 @@ use Rattle.trio_walk.specs.Asks.{Called, Settles, Tried, TryEnds, Once, Unsettle
 use Rattle.trio_walk.specs.declared.outcome.Outcome.{Outcome}
 use Rattle.trio_walk.specs.declared.outcome.Outcome.TheVariants.{Replied, Busy, NoMemory}
 use Rattle.trio_calls_file.specs.Asks.{FileCalled, FileTried}
-use Rattle.trio_calls_dir.specs.Asks.{DirCalled, DirTried}
+use Rattle.trio_calls_dir.specs.Asks.{DirTried, EntryCalled}
 use Rattle.trio_calls_dir.specs.Chmods.{BreaksOff, ChmodCalled, ChmodTried, Begun, Comes, EndsAs, EndsHandedIn, EndsModed, HandsIn, SetsMode, Unbegun, lent_to, mode_ask}
 use Rattle.trio_script.specs.declared.Lines.TheVariants.{Honest}
 use Rattle.trio_script.specs.declared.ScriptLib.{ScriptLib}
@@ -300,7 +300,7 @@ module _ {D : Type 0} (called : D → Ask → Told → D → Type 0) (seen : D �
       called_free (ChmodTried called seen path mode) (λ d d' x x' end alone t. calls_keep ((t.given ++ t.ungiven) ++ t.last) d d' alone t.made)
       (chmod_names path mode) d1 d' x1 x' holder (ap (λ (y : SessionSeen). y.lib) t.empty ∙ mine) (settles_keep d d1 x x1 alone t) c
 
-  leased_free : (d d' : D) (x x' : SessionSeen) (k : call.Call) (holder : Holder) → x.lib ≡ lib → Alone d → (b : Bool) → MatchBool b (DirCalled called seen d x k (Busy holder) d' x') (FileCalled called seen d x k (Busy holder) d' x') → ⊥
+  leased_free : (d d' : D) (x x' : SessionSeen) (k : call.Call) (holder : Holder) → x.lib ≡ lib → Alone d → (b : Bool) → MatchBool b (EntryCalled called seen d x k (Busy holder) d' x') (FileCalled called seen d x k (Busy holder) d' x') → ⊥
   leased_free d d' x x' k holder mine alone true c =
       called_free (DirTried called seen k) (λ d d' x x' end alone t. calls_keep (t.1.given ++ t.1.last) d d' alone t.1.made)
       (λ d d' x x' holder alone t. tried_names _ _ d d' x x' holder alone t.1) d d' x x' holder mine alone c

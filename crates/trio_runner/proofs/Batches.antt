@@ -27,7 +27,7 @@ use Rattle.trio_ctl.specs.Logged.{with_calls}
 use Rattle.trio_session.specs.Seen.{SessionSeen}
 use Rattle.trio_walk.specs.Asks.{Called, IsGiven, Settles, Tried, TryEnds, Once, Unsettled, Again, GivesUp, LeftOut, took}
 use Rattle.trio_calls_file.specs.Asks.{FileCalled, FileTried}
-use Rattle.trio_calls_dir.specs.Asks.{DirCalled, DirTried}
+use Rattle.trio_calls_dir.specs.Asks.{DirTried, EntryCalled}
 use Rattle.trio_calls_dir.specs.Chmods.{BreaksOff, Begun, ChmodCalled, ChmodTried, Comes, EndsAs, EndsHandedIn, EndsModed, HandsIn, SetsMode, Unbegun, hand_in_ask, lent_to, mode_ask}
 use Rattle.trio_nodes.specs.Walk.{Path}
 use Rattle.trio_rights.specs.declared.rights.Mode.{Mode}
@@ -50,23 +50,23 @@ abbrev pub Replies : Type 0
 Replies = List (call.Call × Reply)
 
 -- those that entries tell
-abbrev told_in : List Entry → Replies
+abbrev pub told_in : List Entry → Replies
 told_in es = flat_map calls_in es
 
-told_both : (es fs : List Entry) (rs qs : Replies) → told_in es ≡ rs → told_in fs ≡ qs → told_in (es ++ fs) ≡ rs ++ qs
+pub told_both : (es fs : List Entry) (rs qs : Replies) → told_in es ≡ rs → told_in fs ≡ qs → told_in (es ++ fs) ≡ rs ++ qs
 told_both es fs rs qs a b = flat_map-append calls_in es fs ∙ ap (λ l. l ++ told_in fs) a ∙ ap (λ l. rs ++ l) b
 
 -- ---- one call
 
 -- a call but a settle
-abbrev IsGot : Ask → Told → Type 0
+abbrev pub IsGot : Ask → Told → Type 0
 IsGot ask (Lent lease) = Unit {0}
 IsGot ask (Given pages numbers) = Unit {0}
 IsGot (Grant ino kind) (NotLent fault) = Unit {0}
 IsGot (Allot pages numbers) (NotGiven fault) = Unit {0}
 IsGot ask told = ⊥
 
-got_tells : (s : State) (lib : LibNo) (ask : Ask) (told : Told) → IsGot ask told → told_in (entries_told s lib ask told) ≡ []
+pub got_tells : (s : State) (lib : LibNo) (ask : Ask) (told : Told) → IsGot ask told → told_in (entries_told s lib ask told) ≡ []
 got_tells s lib (Grant ino kind) (Lent lease) is = refl
 got_tells s lib (Allot pages numbers) (Lent lease) is = refl
 got_tells s lib (GiveBack back) (Lent lease) is = refl
@@ -92,7 +92,7 @@ got_tells s lib ask told is = absurd is
 -- ---- a settle
 
 -- read leases that are given back tell no call
-backs_tell : (lib : LibNo) (back : List Shown) → told_in (back_entries lib back) ≡ []
+pub backs_tell : (lib : LibNo) (back : List Shown) → told_in (back_entries lib back) ≡ []
 backs_tell lib [] = refl
 backs_tell lib (f ∷ fs) = backs_tell lib fs
 
@@ -101,7 +101,7 @@ backs_are lib [] = tt
 backs_are lib (f ∷ fs) = (tt, backs_are lib fs)
 
 -- what a change of mode by a call made: it is replied
-mode_tells : (s : State) (lib : LibNo) (ino mode : ℕ) (back : List Shown) (k : call.Call) → told_in (entries_told s lib (SetMode ino mode back (Some k)) ModeSet) ≡ replied k (Replied (reply.Ok AnsweredDone))
+pub mode_tells : (s : State) (lib : LibNo) (ino mode : ℕ) (back : List Shown) (k : call.Call) → told_in (entries_told s lib (SetMode ino mode back (Some k)) ModeSet) ≡ replied k (Replied (reply.Ok AnsweredDone))
 mode_tells s lib ino mode back k = told_both (back_entries lib back) (ModeEntry lib ino mode (Ok tt) (Some k) ∷ []) [] (replied k (Replied (reply.Ok AnsweredDone))) (backs_tell lib back) refl
 
 -- what a settle of these calls made
@@ -109,7 +109,7 @@ pub record SettleMade (done : List Done) (es : List Entry) : Type 0 where
   pub tells : told_in es ≡ with_replies done
   pub settles : IsSettle (length done) es
 
-settle_made : (s : State) (lib : LibNo) (parcel : Parcel) (back : List Shown) (done : List Done) → SettleMade done (entries_told s lib (Settle parcel back done) Settled)
+pub settle_made : (s : State) (lib : LibNo) (parcel : Parcel) (back : List Shown) (done : List Done) → SettleMade done (entries_told s lib (Settle parcel back done) Settled)
 settle_made s lib parcel back done =
     let handed = (with_calls (bundled_of parcel) done).handed in
     record {
@@ -336,7 +336,7 @@ module _ {D : Type 0} (lib : LibNo) (called : D → Ask → Told → D → Type 
     chmod_told path mode end told is (Begun d1 x1 t c) =
         called_told (Chmod path mode) _ _ (chmod_tries path mode) (with_replies x.calls) d1 d' x1 x' end told is (settle_calls d d1 x x1 t) c (settle_told d d1 x x1 (with_replies x.calls) t begins)
 
-    leased_told : (k : call.Call) (end : Outcome) (told : LineAnswer) → told_outcome end ≡ Some told → (b : Bool) → MatchBool b (DirCalled called seen d x k end d' x') (FileCalled called seen d x k end d' x') → AllTold d' x' (with_replies x.calls ++ replied k end)
+    leased_told : (k : call.Call) (end : Outcome) (told : LineAnswer) → told_outcome end ≡ Some told → (b : Bool) → MatchBool b (EntryCalled called seen d x k end d' x') (FileCalled called seen d x k end d' x') → AllTold d' x' (with_replies x.calls ++ replied k end)
     leased_told k end told is true made = called_told k _ _ (dir_tries k) (with_replies x.calls) d d' x x' end told is tt made begins
     leased_told k end told is false made = called_told k _ _ (file_tries k) (with_replies x.calls) d d' x x' end told is tt made begins
 

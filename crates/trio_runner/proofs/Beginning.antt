@@ -1,11 +1,10 @@
 -- A library at its seat, from the start of its script to its end.
-use Rattle.std.proofs.Common.{◌≡◌, ℕ, suc, ◌+◌, ◌-◌, ◌<◌, ◌≤◌, List, [], ◌∷◌, ◌++◌, length, map, take, get_or, Option, Some, None, sym, refl, ap, ◌∙◌, subst, arith}
-use Rattle.std.specs.Prelude.{slice_get}
+use Rattle.std.proofs.Common.{◌≡◌, ℕ, suc, ◌+◌, ◌-◌, ◌<◌, ◌≤◌, List, [], ◌∷◌, ◌++◌, length, take, get_or, Some, sym, refl, ap, ◌∙◌, subst, arith}
 use Rattle.std.proofs.Math.Seq.{take-suc}
 use Rattle.std.proofs.lemmas.List.{length-map, map-append}
-use Rattle.std.proofs.lemmas.Option.{slice_get-get_or, slice_get_within}
+use Rattle.std.proofs.lemmas.Option.{slice_get-get_or}
 use Rattle.trio_rights.specs.declared.rights.Creds.{Creds}
-use Rattle.trio_rights.specs.declared.rights.LibNo.{LibNo}
+use Rattle.trio_nodes.specs.Libraries.{creds_in as creds_listed}
 use Rattle.trio_nodes.specs.declared.entry.Entry.{Entry}
 use Rattle.trio_desk.specs.Call.{DeskSeen}
 use Rattle.trio_ctl.specs.Desk.{desk_of, out_of}
@@ -25,7 +24,7 @@ use Rattle.trio_shared.specs.Turns.{Seated}
 use Rattle.trio_script.specs.declared.Lines.TheVariants.{Raw, Honest}
 use Rattle.trio_script.specs.declared.ScriptLib.{ScriptLib}
 use Rattle.trio_runner.specs.Courses.{CourseGoes, Place, arrives}
-use Rattle.trio_runner.specs.Play.{Heard, InSession, IsLibraryOf, Share, Things, creds_in, new_session, untold}
+use Rattle.trio_runner.specs.Play.{Heard, InSession, IsLibraryOf, Things, creds_in, new_session, untold}
 use Rattle.trio_runner.specs.Rounds.{Ends, line_turns}
 use Rattle.trio_runner.specs.inner.Threads.{Arrives, MayGoOn, RanAll, WentThrough, place_at}
 use Rattle.trio_runner.proofs.Calling.{nothing_on_list}
@@ -75,8 +74,8 @@ module _ (shared : Shared) (libs : List ScriptLib) (seat : LibSeat Held) (a : Ar
 
   pub seat_creds : (l : ScriptLib) → l ≡ get_or libs (library seat - 1) l → (desk seat).creds ≡ l.creds
   seat_creds l is =
-      ap (λ (cs : List Creds). get_or cs (library seat - 1) (record { uid = 0; gid = 0 })) a.creds
-      ∙ sym (creds_at libs (library seat - 1) l (seat_script l is).1)
+      ap (λ (cs : List Creds). creds_listed cs (library seat)) a.creds
+      ∙ sym (creds_at libs (library seat) l seat_within.0 (seat_script l is).1)
 
   fresh : seated seat ≡ (arrives (first seat) (library_of seat)).seat
   fresh =

@@ -17,7 +17,7 @@ use Rattle.trio_nodes.specs.declared.entry.AllotAnswer.TheVariants.{Given as Giv
 use Rattle.trio_lease.specs.Shown.{Shown}
 use Rattle.trio_desk.specs.Call.{Ask, Told, Grant, Allot, GiveBack, Release, SetMode, Lent, NotLent, Given, NotGiven, Done, Judged, NotJudged, Settled, NotSettled, ModeSet, NotModeSet}
 use Rattle.trio_desk.specs.Calls.{Call, Calls, OneCall, Made, NotMade}
-use Rattle.trio_raw.specs.Asked.{AfterAllot, AfterBack, AfterGrant, AfterMode, AfterRelease, Back, IsRefusal, NoGrant, NoRelease, children_in}
+use Rattle.trio_raw.specs.Asked.{AfterAllot, AfterBack, AfterGrant, AfterMode, AfterRelease, Back, IsRefusal, NoAllot, NoGrant, NoRelease, children_in}
 use Rattle.trio_raw.specs.Has.{Has, OnList, nothing, has_all_of, keeps_allotted, parcel_named, read_on}
 use Rattle.trio_raw.specs.declared.raw.RawFault.{RawFault}
 use Rattle.trio_raw.specs.declared.raw.RawFault.TheVariants.{Absent, NotClosed, NoMemory}
@@ -176,15 +176,11 @@ module _ {D : Type 0} (called : D → Ask → Told → D → Type 0) (d d' : D) 
       asked (AllotLine pages numbers) (Allot pages numbers) (NotGiven (NoInodes wanted free)) told refl c (subst (λ x. AllotTold x told) a t) same
   allot_refused E pages numbers NoAllotMemory answer told c same is t = absurd (false≢true is)
 
-  pub allot_called : (E : Type 0) (seen_lib : LibNo) (pages numbers : ℕ) (answer : AllotAnswer) (told : LineAnswer) → seen_lib ≡ lib → OneCall called d (Allot pages numbers) d' (AfterAllot {E = E} seen_lib has (Ok answer) has') ⊥ → AllotTold answer told → Comes (AllotLine pages numbers) told
+  pub allot_called : (E : Type 0) (seen_lib : LibNo) (pages numbers : ℕ) (answer : AllotAnswer) (told : LineAnswer) → seen_lib ≡ lib → OneCall called d (Allot pages numbers) d' (AfterAllot {E = E} seen_lib has (Ok answer) has') (NoAllot {E = E} has (Ok answer) has') → AllotTold answer told → Comes (AllotLine pages numbers) told
   allot_called E seen_lib pages numbers answer told same_lib (Made (Given ps ns) c after) t =
-      elim after [
-        | inl kept ↦
-            (let a : answer ≡ GivenAnswer ps ns = cc (kept.0) in
-            let is : told ≡ answered.Allotted ps ns = subst (λ x. AllotTold x told) a t in
-            asked (AllotLine pages numbers) (Allot pages numbers) (Given ps ns) told refl c (ap Some (sym is)) (kept.1 ∙ ap (λ (l : LibNo). keeps_allotted l has ps ns) same_lib))
-        | inr let_go ↦ absurd (false≢true let_go.0)
-      ]
+      let a : answer ≡ GivenAnswer ps ns = cc (after.0) in
+      let is : told ≡ answered.Allotted ps ns = subst (λ x. AllotTold x told) a t in
+      asked (AllotLine pages numbers) (Allot pages numbers) (Given ps ns) told refl c (ap Some (sym is)) (after.1 ∙ ap (λ (l : LibNo). keeps_allotted l has ps ns) same_lib)
   allot_called E seen_lib pages numbers answer told same_lib (Made (NotGiven fault) c after) t = allot_refused E pages numbers fault answer told c after.1 after.0 t
   allot_called E seen_lib pages numbers answer told same_lib (Made (Lent l) c after) t = absurd after
   allot_called E seen_lib pages numbers answer told same_lib (Made (NotLent fault) c after) t = absurd after
@@ -195,7 +191,7 @@ module _ {D : Type 0} (called : D → Ask → Told → D → Type 0) (d d' : D) 
   allot_called E seen_lib pages numbers answer told same_lib (Made Settled c after) t = absurd after
   allot_called E seen_lib pages numbers answer told same_lib (Made NotSettled c after) t = absurd after
   allot_called E seen_lib pages numbers answer told same_lib (Made (NotModeSet fault) c after) t = absurd after
-  allot_called E seen_lib pages numbers answer told same_lib (NotMade same alone) t = absurd alone
+  allot_called E seen_lib pages numbers answer told same_lib (NotMade same alone) t = absurd (false≢true alone.0)
 
   pub release_called : (inos pages numbers : List ℕ) (r : Result ReleaseAnswer RawFault) (told : LineAnswer) → (IsFalse (has_all_of has inos pages numbers) → r ≡ Err Absent) → OneCall called d (Release (parcel_named has inos pages numbers)) d' (AfterRelease has inos pages numbers r has') (NoRelease has inos pages numbers r has') → ReleaseTold r told → Comes (ReleaseLine inos pages numbers) told
   release_called inos pages numbers r told absent call is = by call

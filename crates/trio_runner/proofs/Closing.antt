@@ -1,5 +1,5 @@
 -- A script that ran on threads, from its seats at the start to the controller at the end.
-use Rattle.std.proofs.Common.{◌≡◌, ℕ, zero, suc, ◌+◌, ◌-◌, ◌<◌, ◌≤◌, List, [], ◌∷◌, ◌++◌, length, map, get_or, Option, Some, None, Result, Ok, Err, IfOk, sym, refl, ap, ◌∙◌, subst, arith}
+use Rattle.std.proofs.Common.{◌≡◌, ℕ, zero, suc, ◌+◌, ◌-◌, ◌<◌, ◌≤◌, List, [], ◌∷◌, length, map, get_or, Option, Some, None, Result, Ok, Err, IfOk, sym, refl, ap, ◌∙◌, subst, arith}
 use denote.Param.Members.{Shared as Callable}
 use Rattle.std.specs.Prelude.{IfSome, slice_get}
 use Rattle.std.specs.Fork.{GivesJobs}
@@ -13,7 +13,7 @@ use Rattle.trio_nodes.specs.declared.entry.Entry.{Entry}
 use Rattle.trio_layout.specs.Image.{Image}
 use Rattle.trio_raw.specs.Has.{nothing}
 use Rattle.trio_state.specs.Kept.{Kept}
-use Rattle.trio_state.specs.Moves.{Outline, begun_by}
+use Rattle.trio_state.specs.Moves.{begun_by}
 use Rattle.trio_state.specs.Run.{start}
 use Rattle.trio_state.specs.State.{State}
 use Rattle.trio_laws.specs.history.Recorded.{IsRecorded}
@@ -29,13 +29,13 @@ use Rattle.trio_shared.specs.Begun.{mark_of, marked}
 use Rattle.trio_shared.specs.declared.cell.Shared.{Shared}
 use Rattle.trio_shared.specs.declared.held.Held.{Held}
 use Rattle.trio_shared.specs.Left.{Leaves, origin_of}
-use Rattle.trio_shared.specs.Seats.{AllStart, IsSeatOf, Starts, library_count, library_of, origin, seated}
+use Rattle.trio_shared.specs.Seats.{AllStart, IsSeatOf, Starts, library_count, library_of}
 use Rattle.trio_shared.specs.Turns.{Seated}
 use Rattle.trio_script.specs.declared.ScriptLib.{ScriptLib}
 use Rattle.trio_runner.specs.Courses.{LibRan, Place, arrives}
 use Rattle.trio_runner.specs.Play.{Heard, IsLibraryOf, Things, creds_in, heard_by, untold}
 use Rattle.trio_runner.specs.Runs.{IsSeenIn, ScriptRan, origin_in}
-use Rattle.trio_runner.specs.inner.Threads.{Arrives, HasRun, HaveRun, RanAll, Sits}
+use Rattle.trio_runner.specs.inner.Threads.{Arrives, HasRun, HaveRun, RanAll}
 use Rattle.trio_runner.specs.declared.threads.LibRun.{LibRun}
 use Rattle.trio_runner.proofs.EndFree.{within_some}
 use Rattle.trio_runner.proofs.Held.{same_library}

@@ -1,5 +1,5 @@
 -- At a script's end nothing is lent or out.
-use Rattle.std.proofs.Common.{◌≡◌, ℕ, zero, suc, ◌+◌, ◌-◌, ◌<◌, ◌≤◌, Bool, true, false, cond, eqb, leb, ◌&&◌, List, [], ◌∷◌, length, map, get_or, Option, Some, None, Result, Ok, Err, sym, refl, ap, ◌∙◌, subst, inl, inr, arith, leb-true, le-leb}
+use Rattle.std.proofs.Common.{◌≡◌, ℕ, zero, suc, ◌+◌, ◌-◌, ◌<◌, ◌≤◌, Bool, true, false, cond, eqb, leb, ◌&&◌, List, [], ◌∷◌, length, map, Option, Some, None, Result, Ok, Err, sym, refl, ap, ◌∙◌, subst, inl, inr, arith, leb-true, le-leb}
 use Rattle.std.specs.Prelude.{slice_get, IfOk, IfSome}
 use Rattle.std.specs.Result.{result_ok}
 use Rattle.std.proofs.lemmas.Bool.{and_from, both_ways, eq-eqb, eqb-true, false≢true}
@@ -11,6 +11,7 @@ use Rattle.trio_lists.proofs.Filters.{In-filter}
 use Rattle.trio_lists.proofs.Members.{In-map}
 use Rattle.trio_tables.specs.Out.{lib_at, none_out}
 use Rattle.trio_tables.proofs.OutLemmas.{lib_at-none_out}
+use Rattle.trio_nodes.specs.Libraries.{creds_in as creds_listed}
 use Rattle.trio_nodes.specs.declared.grant.GrantKind.{GrantKind}
 use Rattle.trio_nodes.specs.declared.grant.GrantKind.TheVariants.{Read, Write, Hold}
 use Rattle.trio_nodes.specs.GrantKinds.{is_hold, is_read, is_write}
@@ -81,11 +82,15 @@ begins_all image creds lib own (Honest lines) share same begins =
     subst (HoldsAll (start image creds) lib) (sym begins.1)
     (begins_to_call (desk_of (start image creds) lib) _ (record { lib = refl; creds = same; out = nothing_at_start image creds lib; empty = refl }))
 
+creds_placed : (libs : List ScriptLib) (k : ℕ) (l : ScriptLib) → slice_get libs k ≡ Some l → l.creds ≡ creds_listed (creds_in libs) (suc k)
+creds_placed [] k l e = absurd (cc e)
+creds_placed (x ∷ libs) zero l e = (let same : x ≡ l = cc e in ap (λ (y : ScriptLib). y.creds) (sym same))
+creds_placed (x ∷ libs) (suc k) l e = creds_placed libs k l e
+
 -- the credentials of a script's library
-pub creds_at : (libs : List ScriptLib) (k : ℕ) (l : ScriptLib) → slice_get libs k ≡ Some l → l.creds ≡ get_or (creds_in libs) k (record { uid = 0; gid = 0 })
-creds_at [] k l e = absurd (cc e)
-creds_at (x ∷ libs) zero l e = (let same : x ≡ l = cc e in ap (λ (y : ScriptLib). y.creds) (sym same))
-creds_at (x ∷ libs) (suc k) l e = creds_at libs k l e
+pub creds_at : (libs : List ScriptLib) (lib : ℕ) (l : ScriptLib) → 1 ≤ lib → slice_get libs (lib - 1) ≡ Some l → l.creds ≡ creds_listed (creds_in libs) lib
+creds_at libs zero l low e = absurd (omega (arith, low))
+creds_at libs (suc k) l low e = (let same : suc k - 1 ≡ k = omega arith in creds_placed libs k l (ap (slice_get libs) (sym same) ∙ e))
 
 -- a place within a list has its element
 pub within_some : {X : Type 0} (xs : List X) (i : ℕ) → i < length xs → (x : X) × (slice_get xs i ≡ Some x)
@@ -115,7 +120,7 @@ start_stands image libs p begins kept =
           let is' : IsLibrary lib (start image creds) = subst (λ s. IsLibrary lib s) begins.state is in
           let l = script_library image libs lib is' in
           subst (λ s. HoldsAll s lib (share_of p lib)) at
-          (begins_all image creds lib l.0.creds l.0.lines (share_of p lib) (creds_at libs (lib.0 - 1) l.0 l.1.1) (begins.begins lib l.0 l.1));
+          (begins_all image creds lib l.0.creds l.0.lines (share_of p lib) (creds_at libs lib.0 l.0 l.1.0 l.1.1) (begins.begins lib l.0 l.1));
       nobody_else = λ lib none. subst (λ s. HasAll (out_of s lib) nothing) at (start_has_all image creds lib nothing);
     }
 

@@ -3,20 +3,14 @@ use Rattle.std.proofs.Common.{◌≡◌, ℕ, suc, ◌+◌, ◌<◌, List, [], �
 use Rattle.std.proofs.lemmas.List.{map-append}
 use Rattle.std.specs.Prelude.{MatchOption}
 use Rattle.trio_rights.specs.declared.rights.LibNo.{LibNo}
-use Rattle.trio_rights.specs.declared.rights.Creds.{Creds}
-use Rattle.trio_nodes.specs.declared.entry.Entry.{Entry}
-use Rattle.trio_nodes.specs.declared.answers.ModeFault.{ModeFault}
-use Rattle.trio_desk.specs.Call.{Ask, DeskSeen, NotModeSet, SetMode, Told}
+use Rattle.trio_desk.specs.Call.{Ask, DeskSeen, Told}
 use Rattle.trio_desk.specs.Calls.{Call, Calls}
-use Rattle.trio_desk.specs.Out.{IsClosed, LibOut}
+use Rattle.trio_desk.specs.Out.{IsClosed}
 use Rattle.trio_state.specs.State.{State}
-use Rattle.trio_ctl.specs.Desk.{desk_of, out_of}
-use Rattle.trio_calls_dir.specs.Chmods.{HasModeCause, HasMoment, StandsOnTree}
+use Rattle.trio_ctl.specs.Desk.{desk_of}
 use Rattle.trio_raw.specs.Has.{Has, OnList, nothing, whole_parcel}
 use Rattle.trio_session.specs.Seen.{SessionSeen}
-use Rattle.trio_edit_laws.specs.Calls.{MayCall}
 use Rattle.trio_walk.specs.Asks.{Settles}
-use Rattle.trio_turn.specs.Origins.{Origin}
 use Rattle.trio_turn.specs.Seats.{first, library, seen}
 use Rattle.trio_turn.specs.declared.seat.LibSeat.{LibSeat}
 use Rattle.trio_shared.specs.declared.cell.Shared.{Shared}
@@ -41,9 +35,8 @@ use Rattle.trio_runner.specs.inner.Calling.{EndCalled, LineCalled}
 use Rattle.trio_runner.specs.inner.Ready.{HasAll}
 use Rattle.trio_runner.specs.inner.Threads.{MayGoOn, Sits, Went, place_at}
 use Rattle.trio_runner.proofs.Held.{CallLeaves, Leave, happens_leaves, line_held}
-use Rattle.trio_runner.proofs.Leaving.{found_desk, left_on_tree}
+use Rattle.trio_runner.proofs.Leaving.{found_desk, left_stands}
 use Rattle.trio_runner.proofs.Noting.{calls_follow, line_follows, settles_follow}
-use Rattle.trio_runner.proofs.OnTree.{OnTree, has_mode_cause, has_moment}
 use Rattle.trio_runner.proofs.Seats.{all_closed}
 
 -- ---- turns, and more turns
@@ -104,10 +97,6 @@ module _ {D N : Type 0} (called : D → Ask → Told → D → Type 0) (shared :
 
   call_left : (d : D) (ask : Ask) (told : Told) (d' : D) → called d ask told d' → IsLeft d'
   call_left d ask told d' c = (let t = (is d ask told d' c).0 in record { state = t.after; left = t.left })
-
-  calls_left : (calls : List Call) (d d' : D) → Calls called d calls d' → IsLeft d → IsLeft d'
-  calls_left [] d d' made l = subst IsLeft (sym made) l
-  calls_left (c ∷ calls) d d' made l = calls_left calls made.0 d' made.2 (call_left d c.ask c.told made.0 made.1)
 
   -- the library's calls go as those of the desk, which stands where they end
   record Stands (of : Shared) (named : N) (own : LibNo) (d : D) (g : Going) : Type 0 where
@@ -235,34 +224,18 @@ module _ {D N : Type 0} (called : D → Ask → Told → D → Type 0) (shared :
     here : (d : D) (l : IsLeft d) → desk_of l.state (library_of (seat d)) ≡ seen_at d
     here d l = is_left (first (seat d)) (seen (seat d)) l.state (library_of (seat d)) l.left
 
-    on_tree : (d : D) (l : IsLeft d) → OnTree l.state
-    on_tree d l = left_on_tree (first (seat d)) (seen (seat d)) l.state l.left
-
     -- all that a raw library has is closed
     pub has_closed : (d : D) (sh : Shared) (old : LibSeat Held) (has : Has) → seat d ≡ old → Sits sh old → HasAll (desk old).out has → IsClosed (seen_at d).out (whole_parcel has)
     has_closed d sh old has at sits all =
         let lib : LibNo = library_of old in
         let same : desk_of sits.state lib ≡ desk old = is_left (first old) (seen old) sits.state lib sits.left in
-        let o = left_on_tree (first old) (seen old) sits.state sits.left in
+        let o = left_stands (first old) (seen old) sits.state sits.left in
         subst (λ (x : LibSeat Held). IsClosed (desk x).out (whole_parcel has)) (sym at)
         (subst (λ (x : DeskSeen). IsClosed x.out (whole_parcel has)) same
-        (all_closed sits.state lib has o.stands.kept o.stands.as_told (subst (λ (x : DeskSeen). HasAll x.out has) (sym same) all)))
+        (all_closed sits.state lib has o.kept o.as_told (subst (λ (x : DeskSeen). HasAll x.out has) (sym same) all)))
 
     module _ (others_leave : OthersLeave) where
-      pub stands_on_tree : (d : D) (sh : Shared) (old : LibSeat Held) → seat d ≡ old → Sits sh old → StandsOnTree called seen_at d
-      stands_on_tree d sh old at sits =
-          let l0 : IsLeft d = left_of d sh old at sits in
-          record {
-            moments = λ calls d1 made. (let l = calls_left calls d d1 made l0 in subst HasMoment (here d1 l) (has_moment l.state (library_of (seat d1)) (on_tree d1 l)));
-            modes = λ calls d1 d2 ino mode back call fault made c.
-                let t = (is d1 (SetMode ino mode back call) (NotModeSet fault) d2 c).0 in
-                let lib : LibNo = library_of (seat d1) in
-                subst (λ x. HasModeCause x ino mode fault) (found_desk is_left others_leave (first (seat d1)) (seen (seat d1)) t.others t.before lib t.found t.not_its_own)
-                (has_mode_cause t.before lib ino mode back call fault t.after
-                (left_on_tree (first (seat d1)) (seen (seat d1) ++ t.others) t.before t.found) t.did);
-          }
-
-      -- and after a line it has all that is out to it
+      -- after a line it has all that is out to it
       module _ (d d' : D) (has has' : Has) (said : RawLine) (told : LineAnswer) (l0 : IsLeft d) (all : HasAll (seen_at d).out has) where
         by_alone : (calls : List Call) → calls ≡ [] → LineComes (library_of (seat d)) has said calls told has' → Calls called d calls d' → HasAll (seen_at d').out has'
         by_alone calls none comes made =
@@ -280,7 +253,7 @@ module _ {D N : Type 0} (called : D → Ask → Told → D → Type 0) (shared :
             let found = found_desk is_left others_leave (first (seat d)) (seen (seat d)) t.others t.before lib t.found t.not_its_own in
             let l1 : IsLeft d' = record { state = t.after; left = t.left } in
             let then' : desk_of t.after lib ≡ seen_at d' = ap (desk_of t.after) (sym t.lib) ∙ here d' l1 in
-            let kept = (left_on_tree (first (seat d)) (seen (seat d) ++ t.others) t.before t.found).stands.kept in
+            let kept = (left_stands (first (seat d)) (seen (seat d) ++ t.others) t.before t.found).kept in
             let leaves : CallLeaves (seen_at d).out c.ask c.told (seen_at d').out =
             subst (λ (x : DeskSeen). CallLeaves (seen_at d).out c.ask c.told x.out) then'
             (subst (λ (x : DeskSeen). CallLeaves x.out c.ask c.told (desk_of t.after lib).out) found

@@ -1,47 +1,39 @@
 -- What holds of each state that the entries of a controller leave.
-use Rattle.std.proofs.Common.{◌≡◌, ℕ, List, [], ◌∷◌, ◌++◌, sym, ◌∙◌, subst}
+use Rattle.std.proofs.Common.{◌≡◌, List, [], ◌∷◌, ◌++◌, sym, ◌∙◌, subst}
 use Rattle.trio_rights.specs.declared.rights.LibNo.{LibNo}
 use Rattle.trio_rights.specs.declared.rights.Creds.{Creds}
 use Rattle.trio_nodes.specs.declared.entry.Entry.{Entry}
-use Rattle.trio_desk.specs.Call.{DeskSeen}
 use Rattle.trio_state.specs.State.{State}
 use Rattle.trio_state.specs.Kept.{Kept}
 use Rattle.trio_laws.specs.history.Entries.{event_of, answer_of}
 use Rattle.trio_laws.specs.history.Replays.{ReplaysFrom}
 use Rattle.trio_laws.proofs.Runs.{step_kept}
 use Rattle.trio_laws.proofs.history.Grows.{step_whole}
-use Rattle.trio_laws.proofs.session.Lent.{step_keeps_lent}
 use Rattle.trio_ctl.specs.Desk.{desk_of}
 use Rattle.trio_ctl.proofs.Told.{step_told}
 use Rattle.trio_turn.specs.Logs.{made_by}
 use Rattle.trio_turn.specs.Origins.{Origin}
 use Rattle.trio_shared.specs.Left.{Leaves, desk_left, started}
 use Rattle.trio_shared.specs.Laws.{DeskIsLeft, OthersLeave}
-use Rattle.trio_runner.proofs.OnTree.{OnTree}
+use Rattle.trio_runner.proofs.Moves.{Stands}
 
-replays_on_tree : (s : State) (log : List Entry) (t : State) → OnTree s → ReplaysFrom s log t → OnTree t
-replays_on_tree s [] t o r = subst OnTree (sym r) o
-replays_on_tree s (e ∷ es) t o r =
-    replays_on_tree r.0 es t
+replays_stand : (s : State) (log : List Entry) (t : State) → Stands s → ReplaysFrom s log t → Stands t
+replays_stand s [] t o r = subst Stands (sym r) o
+replays_stand s (e ∷ es) t o r =
+    replays_stand r.0 es t
     (record {
-      stands = record {
-        kept = step_kept s r.0 (event_of e) (answer_of e) o.stands.kept r.2 r.3;
-        as_told = step_told s o.stands.as_told (event_of e) (answer_of e) r.0 o.stands.kept r.2 r.3;
-        whole = step_whole s o.stands.kept (event_of e) (answer_of e) r.0 r.3 o.stands.whole;
-      };
-      lent = step_keeps_lent s (event_of e) (answer_of e) r.0 o.stands.kept o.stands.whole r.2 r.3 o.lent;
+      kept = step_kept s r.0 (event_of e) (answer_of e) o.kept r.2 r.3;
+      as_told = step_told s o.as_told (event_of e) (answer_of e) r.0 o.kept r.2 r.3;
+      whole = step_whole s o.kept (event_of e) (answer_of e) r.0 r.3 o.whole;
     }) r.4
 
 -- nothing is lent at the start
-begins_on_tree : (first : Origin) → Kept (started first) → OnTree (started first)
-begins_on_tree first kept = record {
-  stands = record { kept = kept; as_told = λ g i. absurd i; whole = λ g x i j. absurd i };
-  lent = record { files = λ g f i lends lease. absurd i; holds = λ g h i kind hold. absurd i };
-}
+begins_standing : (first : Origin) → Kept (started first) → Stands (started first)
+begins_standing first kept = record { kept = kept; as_told = λ g i. absurd i; whole = λ g x i j. absurd i }
 
-pub left_on_tree : (first : Origin) (log : List Entry) (s : State) → Leaves first log s → OnTree s
-left_on_tree first log s l =
-    replays_on_tree (started first) log s (begins_on_tree first l.begins)
+pub left_stands : (first : Origin) (log : List Entry) (s : State) → Leaves first log s → Stands s
+left_stands first log s l =
+    replays_stand (started first) log s (begins_standing first l.begins)
     (subst (λ (cs : List Creds). ReplaysFrom (record (started first) { creds = cs }) log s) l.creds l.all.replays)
 
 -- what a library's turn finds is what its seat had seen of its desk

@@ -10,9 +10,9 @@ mod Batches
 mod Spelled
 pub mod Plays
 pub mod Logs
+pub mod History
 pub mod Outs
 pub mod Held
-pub mod OnTree
 pub mod Orders
 pub mod EndFree
 pub mod SameAnswers
@@ -38,5 +38,7 @@ pub mod Keeping
 pub mod RanOrder
 pub mod RanPrinted
 pub mod RanAlone
-pub mod OneSequence
 pub mod RanFree
+pub mod SeatHas
+pub mod OneAsked
+pub mod OneSequence

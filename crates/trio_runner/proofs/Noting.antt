@@ -25,7 +25,7 @@ use Rattle.trio_edit_laws.specs.Calls.{MayCall}
 use Rattle.trio_walk.specs.Asks.{Called, IsUnsettled, Settles, Tried, took, Once, Unsettled, Again, GivesUp, LeftOut}
 use Rattle.trio_calls_file.specs.Asks.{FileCalled, FileTried}
 use Rattle.trio_calls_file.specs.Asks as on_file
-use Rattle.trio_calls_dir.specs.Asks.{DirCalled, DirTried}
+use Rattle.trio_calls_dir.specs.Asks.{DirTried, EntryCalled}
 use Rattle.trio_calls_dir.specs.Asks as on_dir
 use Rattle.trio_calls_dir.specs.Chmods.{Begun, ChmodCalled, ChmodTried, TriedSo, Unbegun, lent_to}
 use Rattle.trio_nodes.specs.Walk.{Path}
@@ -201,8 +201,8 @@ module _ {D E : Type 0} (called : D → Ask → Told → D → Type 0) (noted : 
       let b = called_follows (ChmodTried called seen path mode) (ChmodTried noted seen' path mode) (chmod_tried_follows path mode) d1 d' a.0 s1 s' end a.2 c in
       (b.0, Begun a.0 s1 a.1 b.1, b.2)
 
-  leased_follows : (d d' : D) (e : E) (s s' : SessionSeen) (k : call.Call) (end : Outcome) → Is d e → (b : Bool) → MatchBool b (DirCalled called seen d s k end d' s') (FileCalled called seen d s k end d' s')
-      → Follows (λ e'. MatchBool b (DirCalled noted seen' e s k end e' s') (FileCalled noted seen' e s k end e' s')) d'
+  leased_follows : (d d' : D) (e : E) (s s' : SessionSeen) (k : call.Call) (end : Outcome) → Is d e → (b : Bool) → MatchBool b (EntryCalled called seen d s k end d' s') (FileCalled called seen d s k end d' s')
+      → Follows (λ e'. MatchBool b (EntryCalled noted seen' e s k end e' s') (FileCalled noted seen' e s k end e' s')) d'
   leased_follows d d' e s s' k end is true c = called_follows (DirTried called seen k) (DirTried noted seen' k) (dir_tried_follows k) d d' e s s' end is c
   leased_follows d d' e s s' k end is false c = called_follows (FileTried called seen k) (FileTried noted seen' k) (file_tried_follows k) d d' e s s' end is c
 

@@ -35,7 +35,7 @@ use Rattle.trio_runner.proofs.Sessions.{settle_plain}
 -- ---- alike sessions
 
 -- the same but for its room
-room_alike : (z w : SessionSeen) → w ≡ record z { room = w.room } → IsAlike z w
+pub room_alike : (z w : SessionSeen) → w ≡ record z { room = w.room } → IsAlike z w
 room_alike z w e = e ∙ sym (ap (λ (q : SessionSeen). record z { indexed = q.indexed; finds = q.finds; room = w.room }) e)
 
 pub alike_both : (x y x' y' : SessionSeen) → IsAlike x y → IsAlike x x' → IsAlike y y' → IsAlike x' y'
@@ -108,7 +108,7 @@ OneTry lib Try =
 
 -- ---- the law of a call
 
-not_busy : (holder : Holder) (end : Outcome) → IsNotBusy end → Busy holder ≡ end → ⊥
+pub not_busy : (holder : Holder) (end : Outcome) → IsNotBusy end → Busy holder ≡ end → ⊥
 not_busy holder (Busy h) none e = none
 not_busy holder (Replied answer) none e = cc e
 not_busy holder NoMemory none e = cc e

@@ -61,7 +61,7 @@ make_reply nodes creds kind path mode made = by (is_root path) (walk_into nodes 
     by false (Ok dir) = there dir (is_some (find_named nodes dir (name_of path)))
     by false (Err r) = refl
 
-applied_reply : (nodes : Nodes) (creds : Creds) (k : call.Call) (made : ℕ) → (applied nodes creds k made).reply ≡ (applied nodes creds k 0).reply
+pub applied_reply : (nodes : Nodes) (creds : Creds) (k : call.Call) (made : ℕ) → (applied nodes creds k made).reply ≡ (applied nodes creds k 0).reply
 applied_reply nodes creds (calls.Mkdir path mode) made = make_reply nodes creds Directory path mode made
 applied_reply nodes creds (calls.Create path mode) made = make_reply nodes creds Regular path mode made
 applied_reply nodes creds (calls.Write path at bytes) made = refl
@@ -181,7 +181,7 @@ lent_first s z p q l g r wants is one gets e =
     ∙ all_off s (took z (tolds p)) q l r wants one (λ c i. gets c (subst (λ (cs : List Call). In c cs) (sym is) (In-right c p q i))) e
 
 -- two tries that were given the same want the same
-wants_agree : (k : call.Call) (nodes : Nodes) (creds : Creds) (x y : SessionSeen) (t u : Target) (end end' : Outcome) (g g' l l' : List Call) (r r' : List Ask) → IsAlike x y → end ≢ NoMemory → end' ≢ NoMemory → TryEnds end l → TryEnds end' l'
+pub wants_agree : (k : call.Call) (nodes : Nodes) (creds : Creds) (x y : SessionSeen) (t u : Target) (end end' : Outcome) (g g' l l' : List Call) (r r' : List Ask) → IsAlike x y → end ≢ NoMemory → end' ≢ NoMemory → TryEnds end l → TryEnds end' l'
     → ComesBy end t nodes creds k → ComesBy end' u nodes creds k → ((c : Call) → In c g → Gets c.ask c.told) → ((c : Call) → In c g' → Gets c.ask c.told)
     → (p q q' : List Call) → g ≡ p ++ q → g' ≡ p ++ q' → asks (q ++ l) ++ r ≡ wants_of nodes creds k t (as_lent x (took x (tolds g))) → asks (q' ++ l') ++ r' ≡ wants_of nodes creds k u (as_lent x (took y (tolds g')))
     → wants_of nodes creds k t (as_lent x (took x (tolds g))) ≡ wants_of nodes creds k u (as_lent x (took y (tolds g')))
@@ -202,12 +202,12 @@ wants_agree k nodes creds x y t u (Replied a) (Replied b) g g' l l' r r' like so
 -- ---- what a try leaves
 
 -- the number of the file that a call made which is so replied
-abbrev number_of : call.Call → SessionSeen → Reply → ℕ
+abbrev pub number_of : call.Call → SessionSeen → Reply → ℕ
 number_of k s (reply.Ok answer) = made_by k s
 number_of k s a = 0
 
 -- a session that was replied has its call behind those before
-left_replied : (creds : Creds) (k : call.Call) (t : Target) (a : Reply) (all x' : SessionSeen) → Leaves creds k t (Replied a) all x' → x'.calls ≡ all.calls ++ record { call = k; reply = a; made = number_of k all a } ∷ []
+pub left_replied : (creds : Creds) (k : call.Call) (t : Target) (a : Reply) (all x' : SessionSeen) → Leaves creds k t (Replied a) all x' → x'.calls ≡ all.calls ++ record { call = k; reply = a; made = number_of k all a } ∷ []
 left_replied creds k t (reply.Ok answer) all x' l =
     ap (λ (q : SessionSeen). q.calls) l ∙ ap (λ (cs : List Done). cs ++ record { call = k; reply = reply.Ok answer; made = made_by k all } ∷ []) (dir_edited creds k t all)
 left_replied creds k t a all x' l = ap (λ (q : SessionSeen). q.calls) l
@@ -218,7 +218,7 @@ left_has s lib creds k t (Busy holder) d' all x' may l h = has_alike (out_of d'.
 left_has s lib creds k t NoMemory d' all x' may l h = absurd may
 
 -- a call that is replied the same leaves the same, by where it comes to
-left_same : (k : call.Call) (t u : Target) (nodes : Nodes) (creds own : Creds) (end : Outcome) (all all' x' y' : SessionSeen) → IsAlike all all' → ((a : Reply) → end ≡ Replied a → lacks_room a ≡ false → a ≡ (applied nodes creds k 0).reply)
+pub left_same : (k : call.Call) (t u : Target) (nodes : Nodes) (creds own : Creds) (end : Outcome) (all all' x' y' : SessionSeen) → IsAlike all all' → ((a : Reply) → end ≡ Replied a → lacks_room a ≡ false → a ≡ (applied nodes creds k 0).reply)
     → ComesBy end t nodes creds k → ComesBy end u nodes creds k → Leaves own k t end all x' → Leaves own k u end all' y' → IsAlike x' y'
 left_same k t u nodes creds own (Replied (reply.Ok answer)) all all' x' y' like replies comes comes' l m =
     let is : is_done (applied nodes creds k 0).reply ≡ true = sym (ap is_done (replies (reply.Ok answer) refl refl)) in

@@ -30,7 +30,7 @@ use Rattle.trio_runner.proofs.SameNodes.{HasOut, StandsTrue, has_alike, may_has,
 -- ---- what a try leaves
 
 -- a session that was replied has its call behind those before
-left_replied : (k : call.Call) (file : ℕ) (a : Reply) (all x' : SessionSeen) → Leaves k file (Replied a) all x' → x'.calls ≡ all.calls ++ record { call = k; reply = a; made = 0 } ∷ []
+pub left_replied : (k : call.Call) (file : ℕ) (a : Reply) (all x' : SessionSeen) → Leaves k file (Replied a) all x' → x'.calls ≡ all.calls ++ record { call = k; reply = a; made = 0 } ∷ []
 left_replied k file (reply.Ok answer) all x' l = ap (λ (q : SessionSeen). q.calls) l ∙ ap (λ (cs : List Done). cs ++ record { call = k; reply = reply.Ok answer; made = 0 } ∷ []) (file_edited k file all)
 left_replied k file a all x' l = ap (λ (q : SessionSeen). q.calls) l
 
@@ -40,7 +40,7 @@ left_has s lib k file (Busy holder) d' all x' may l h = has_alike (out_of d'.sta
 left_has s lib k file NoMemory d' all x' may l h = absurd may
 
 -- a call that is done comes to one file
-files_same : (end : Outcome) (file file' : ℕ) (nodes : Nodes) (creds : Creds) (k : call.Call) → ComesTo end file nodes creds k → ComesTo end file' nodes creds k → (all all' x' y' : SessionSeen) → IsAlike all all' → Leaves k file end all x' → Leaves k file' end all' y' → IsAlike x' y'
+pub files_same : (end : Outcome) (file file' : ℕ) (nodes : Nodes) (creds : Creds) (k : call.Call) → ComesTo end file nodes creds k → ComesTo end file' nodes creds k → (all all' x' y' : SessionSeen) → IsAlike all all' → Leaves k file end all x' → Leaves k file' end all' y' → IsAlike x' y'
 files_same (Replied (reply.Ok answer)) file file' nodes creds k a b all all' x' y' e l m =
     let both : Ok file ≡ Ok file' = sym a ∙ b in
     let is : file ≡ file' = cc both in

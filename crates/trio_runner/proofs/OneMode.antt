@@ -53,11 +53,11 @@ use Rattle.trio_runner.proofs.Sessions.{IsAsked, asked_plain}
 -- ---- the grants
 
 -- how the grants of a try end: by Busy, where it is broken off; else as where a check refuses the call
-abbrev stage : Comes → Outcome → Outcome
+abbrev pub stage : Comes → Outcome → Outcome
 stage BreaksOff end = end
 stage comes end = Replied Denied
 
-stage_final : (all : SessionSeen) (path : Path) (mode : Mode) (comes : Comes) (ungiven last : List Call) (end : Outcome) → end ≢ NoMemory → EndsAs all path mode comes ungiven last end → Final (stage comes end) ungiven
+pub stage_final : (all : SessionSeen) (path : Path) (mode : Mode) (comes : Comes) (ungiven last : List Call) (end : Outcome) → end ≢ NoMemory → EndsAs all path mode comes ungiven last end → Final (stage comes end) ungiven
 stage_final all path mode BreaksOff ungiven last (Replied answer) some e = absurd e.1
 stage_final all path mode BreaksOff ungiven last (Busy holder) some e = final_of (Busy holder) ungiven (λ w. cc w) e.1
 stage_final all path mode BreaksOff ungiven last NoMemory some e = absurd (some refl)
@@ -73,15 +73,15 @@ stage_part all path mode (HandsIn reply) ungiven last end these wanted e a = rec
 stage_part all path mode (SetsMode ino) ungiven last end these wanted e a = record { rest = []; are = a ∙ sym (append-nil these); whole = λ r w. refl }
 
 -- a try that is broken off isn't replied
-broken_off : (end end' : Outcome) (ungiven : List Call) (answer : Reply) → SameEnd end end' → EndsBroken end ungiven → end' ≡ Replied answer → ⊥
+pub broken_off : (end end' : Outcome) (ungiven : List Call) (answer : Reply) → SameEnd end end' → EndsBroken end ungiven → end' ≡ Replied answer → ⊥
 broken_off end end' ungiven answer (EndsSame o) b e = subst (λ o. EndsBroken o ungiven) e b
 broken_off end end' ungiven answer (BothReplied p q i j) b e = b
 
-broken_same : (end end' : Outcome) (ungiven : List Call) → SameEnd end end' → EndsBroken end ungiven → end ≡ end'
+pub broken_same : (end end' : Outcome) (ungiven : List Call) → SameEnd end end' → EndsBroken end ungiven → end ≡ end'
 broken_same end end' ungiven (EndsSame o) b = refl
 broken_same end end' ungiven (BothReplied p q i j) b = absurd b
 
-same_back : (end end' : Outcome) → SameEnd end end' → SameEnd end' end
+pub same_back : (end end' : Outcome) → SameEnd end end' → SameEnd end' end
 same_back end end' (EndsSame o) = EndsSame o
 same_back end end' (BothReplied p q i j) = BothReplied q p j i
 
@@ -160,7 +160,7 @@ module _ (lib : LibNo) (s t : State) (hs : Kept s) (ht : Kept t) (same : known s
 emptied_alike : (z w : SessionSeen) → w ≡ record z { finds = w.finds; room = w.room } → IsAlike z w
 emptied_alike z w e = e ∙ sym (ap (λ (q : SessionSeen). record z { indexed = q.indexed; finds = w.finds; room = w.room }) e)
 
-left_alike : (end : Outcome) (all all' x' y' : SessionSeen) → IsAlike all all' → LeavesBy all end x' → LeavesBy all' end y' → IsAlike x' y'
+pub left_alike : (end : Outcome) (all all' x' y' : SessionSeen) → IsAlike all all' → LeavesBy all end x' → LeavesBy all' end y' → IsAlike x' y'
 left_alike (Replied answer) all all' x' y' like l m =
     alike_both (emptied all) (emptied all') x' y' (ap emptied like) (emptied_alike (emptied all) x' l) (emptied_alike (emptied all') y' m)
 left_alike (Busy holder) all all' x' y' like l m = alike_both all all' x' y' like l m

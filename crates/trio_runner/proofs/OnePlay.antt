@@ -51,7 +51,7 @@ use Rattle.trio_walk.specs.Asks.{IsAlike}
 use Rattle.trio_walk.specs.declared.outcome.Outcome.{Outcome}
 use Rattle.trio_walk.specs.declared.outcome.Outcome.TheVariants.{Replied, Busy as BusyCall, NoMemory}
 use Rattle.trio_calls_file.specs.Asks.{FileCalled, FileTried}
-use Rattle.trio_calls_dir.specs.Asks.{DirCalled, DirTried}
+use Rattle.trio_calls_dir.specs.Asks.{DirTried, EntryCalled}
 use Rattle.trio_script.specs.declared.ScriptLib.{ScriptLib}
 use Rattle.trio_script.specs.declared.honest.HonestLine.{HonestLine}
 use Rattle.trio_script.specs.declared.honest.HonestLine.TheVariants.{Call as CallLine, Settle as SettleLine}
@@ -315,7 +315,7 @@ may_end lib NoMemory told d x is may = absurd (cc is)
 
 -- two calls on a directory, or on a file, come to the same
 one_leased : (lib : LibNo) (k : call.Call) (d e d' e' : Noted) (x y x' y' : SessionSeen) (end end' : Outcome) → StandsTrue d.state → StandsTrue e.state → known d.state ≡ known e.state → IsAlike x y → HasOut (out_of d.state lib) x → HasOut (out_of e.state lib) y → MayEnd lib end d' x' → MayEnd lib end' e' y'
-    → (c : Bool) → MatchBool c (DirCalled (Notes lib) (sees lib) d x k end d' x') (FileCalled (Notes lib) (sees lib) d x k end d' x') → MatchBool c (DirCalled (Notes lib) (sees lib) e y k end' e' y') (FileCalled (Notes lib) (sees lib) e y k end' e' y') → OneCalled end end' d' e' x' y'
+    → (c : Bool) → MatchBool c (EntryCalled (Notes lib) (sees lib) d x k end d' x') (FileCalled (Notes lib) (sees lib) d x k end d' x') → MatchBool c (EntryCalled (Notes lib) (sees lib) e y k end' e' y') (FileCalled (Notes lib) (sees lib) e y k end' e' y') → OneCalled end end' d' e' x' y'
 one_leased lib k d e d' e' x y x' y' end end' hd he same like has has' may may' true a b =
     one_call lib (DirTried (Notes lib) (sees lib) k) (one_dir lib k) d e d' e' x y x' y' end end' hd he same like has has' may may' a b
 one_leased lib k d e d' e' x y x' y' end end' hd he same like has has' may may' false a b =

@@ -22,7 +22,7 @@ use Rattle.trio_runner.specs.Honest.{Noted, sees}
 use Rattle.trio_runner.proofs.OneTry.{SameEnd, EndsSame, BothReplied}
 
 -- the last of legal calls
-last_legal : (creds : Creds) (nodes : Nodes) (calls : List Done) (d : Done) → LegalCalls creds nodes (calls ++ d ∷ [])
+pub last_legal : (creds : Creds) (nodes : Nodes) (calls : List Done) (d : Done) → LegalCalls creds nodes (calls ++ d ∷ [])
     → Apply (batch_nodes creds calls nodes) creds d.call d.made d.reply (call_nodes creds (batch_nodes creds calls nodes) d)
 last_legal creds nodes [] d legal = legal.0
 last_legal creds nodes (c ∷ calls) d legal = last_legal creds (call_nodes creds nodes c) calls d legal.2
@@ -33,7 +33,7 @@ lacks_none k (reply.NoInodes wanted free) q l = false≢true (sym q)
 lacks_none k a q l = l
 
 -- a reply that tells no want of room is what the call comes to
-reply_is : (nodes nodes' : Nodes) (creds : Creds) (k : call.Call) (made : ℕ) (a : Reply) → lacks_room a ≡ false → Apply nodes creds k made a nodes' → a ≡ (applied nodes creds k made).reply
+pub reply_is : (nodes nodes' : Nodes) (creds : Creds) (k : call.Call) (made : ℕ) (a : Reply) → lacks_room a ≡ false → Apply nodes creds k made a nodes' → a ≡ (applied nodes creds k made).reply
 reply_is nodes nodes' creds k made a q (inl r) = r.0
 reply_is nodes nodes' creds k made a q (inr l) = absurd (lacks_none k a q l.0)
 

@@ -1,7 +1,7 @@
 -- Two runs, in whose orders the libraries call in the same sequence and the honest ones ask the same, come to the same: the controller
 -- tells both the same, and so each raw library asks the same next.
-use Rattle.std.proofs.Common.{◌≡◌, ◌≢◌, ◌⊎◌, ℕ, ◌-◌, ◌<◌, ◌≤◌, ◌==◌, Bool, true, false, List, [], ◌∷◌, ◌++◌, length, map, Option, Some, None, sym, refl, ap, ◌∙◌, subst, inl, inr, arith}
-use Rattle.std.specs.Prelude.{MatchBool, MatchOption, if◌then◌else◌}
+use Rattle.std.proofs.Common.{◌≡◌, ◌≢◌, ◌⊎◌, ℕ, suc, ◌+◌, ◌-◌, ◌<◌, ◌≤◌, ◌==◌, Bool, true, false, List, [], ◌∷◌, ◌++◌, get_or, length, map, Option, Some, None, sym, refl, ap, ◌∙◌, subst, inl, inr, arith}
+use Rattle.std.specs.Prelude.{MatchBool, MatchOption, if◌then◌else◌, slice_get}
 use Rattle.std.proofs.lemmas.Option.{slice_get_within}
 use Rattle.std.specs.List.{filter}
 use Rattle.std.proofs.lemmas.Bool.{cases_eq, cases_lt, eq-eqb, ne_eqb}
@@ -23,7 +23,12 @@ use Rattle.trio_layout.specs.Image.{Image}
 use Rattle.trio_desk.specs.Call.{Ask, Told, Grant, Allot, GiveBack, Release, Settle, SetMode, Lent, NotLent, Given, NotGiven, Done, Judged, NotJudged, Settled as SettledAll, NotSettled, ModeSet, NotModeSet}
 use Rattle.trio_desk.specs.Calls.{Call}
 use Rattle.trio_desk.specs.Calls as desk
-use Rattle.trio_state.specs.State.{IsLibrary, State}
+use Rattle.trio_state.specs.State.{IsLibrary, State, creds_of}
+use Rattle.trio_turn.specs.Origins.{Origin}
+use Rattle.trio_shared.specs.Laws.{DeskIsLeft, OthersLeave}
+use Rattle.trio_shared.specs.Left.{started}
+use Rattle.trio_nodes.specs.declared.answers.ReleaseAnswer.{ReleaseAnswer}
+use Rattle.trio_nodes.specs.declared.answers.ReleaseAnswer.TheVariants.{Refused as RefusedParcel}
 use Rattle.trio_state.specs.Run.{start}
 use Rattle.trio_state.specs.Step as step
 use Rattle.trio_laws.specs.Known.{Known, known}
@@ -46,10 +51,13 @@ use Rattle.trio_report.specs.declared.report.EndAnswer.{EndAnswer}
 use Rattle.trio_runner.specs.Line.{Alone, Asks, EndComes, EndsAll, EndsAlone, LineComes, ask_of, end_of}
 use Rattle.trio_runner.specs.Courses.{CourseGoes, Goes, Going, Place, TurnGoes, arrives, sees_at}
 use Rattle.trio_runner.specs.Rounds.{Turn, Says, SaysHonest, Ends, line_turns}
-use Rattle.trio_runner.specs.Play.{BeginsWith, Heard, InSession, IsLibraryOf, Share, Things, creds_in, untold, with_answer, with_end}
+use Rattle.trio_runner.specs.Play.{BeginsWith, Heard, InSession, IsLibraryOf, Share, Things, creds_in, heard_by, new_session, untold, with_answer, with_end}
 use Rattle.trio_runner.specs.Runs.{ScriptRan, origin_in}
 use Rattle.trio_runner.specs.RunLaws.{CallAlike, EndAlike, IsRaw, OrderIsOne, libraries_in}
-use Rattle.trio_runner.proofs.EndFree.{script_library}
+use Rattle.trio_runner.proofs.EndFree.{creds_at, script_library, within_some}
+use Rattle.trio_runner.proofs.OneAsked.{HasMore, course_at, did, made_calls, more_stays}
+use Rattle.trio_runner.proofs.RanFree.{HoldsAt, begins_at}
+use Rattle.trio_runner.proofs.SeatHas.{arrives_at}
 use Rattle.trio_runner.proofs.Held.{same_library}
 use Rattle.trio_runner.proofs.Keeping.{course_keeps, turn_keeps}
 use Rattle.trio_runner.proofs.Moves.{Stands, call_stands}
@@ -57,7 +65,7 @@ use Rattle.trio_runner.proofs.OneMode.{holders_same, modes_same}
 use Rattle.trio_runner.proofs.OnePlay.{backs_done, end_alike, has_alike, judged_some, told_alike, told_some}
 use Rattle.trio_runner.proofs.OneTry.{Gets, lent_gets}
 use Rattle.trio_runner.proofs.Plain.{ask_plain, backs_plain, end_plain, line_plain}
-use Rattle.trio_runner.proofs.SameAnswers.{Alike, Lends, Same, answers_alike, lends_same, no_lease}
+use Rattle.trio_runner.proofs.SameAnswers.{Alike, BothRefused, Lends, Same, answers_alike, lends_same, no_lease}
 use Rattle.trio_runner.proofs.Sessions.{ArePlain, IsAsked, asked_plain, line_keeps, settle_keeps}
 use Rattle.trio_runner.specs.Moves.{apart}
 
@@ -314,21 +322,6 @@ turn_agrees lib Ends has told g g' h h' (Things x) (InSession y) told' told'' is
 
 -- ---- all turns of a raw library
 
-made_calls : (cs : List Call) (g g' : Going) → desk.Calls Goes g cs g' → g'.calls ≡ g.calls ++ cs
-made_calls [] g g' made = ap (λ (x : Going). x.calls) made ∙ sym (append-nil g.calls)
-made_calls (c ∷ cs) g g' made =
-    let first : Goes g c.ask c.told made.0 = made.1 in
-    made_calls cs made.0 g' made.2 ∙ ap (λ (l : List Call). l ++ cs) first.calls_are ∙ append_assoc g.calls (c ∷ []) cs
-
--- there are these calls, and others behind them
-abbrev HasMore : List Call → Going → Type 0
-HasMore base g = (more : List Call) × (g.calls ≡ base ++ more)
-
-more_stays : (base : List Call) (g : Going) (ask : Ask) (told : Told) (g' : Going) → HasMore base g → Goes g ask told g' → HasMore base g'
-more_stays base g ask told g' more goes =
-    let c : Call = record { ask = ask; told = told } in
-    (more.0 ++ c ∷ [], goes.calls_are ∙ ap (λ (l : List Call). l ++ c ∷ []) more.1 ∙ append_assoc base more.0 (c ∷ []))
-
 -- the calls behind some, in two parts
 two_parts : (base first later cs : List Call) (middle last : List Call) → middle ≡ base ++ first → last ≡ middle ++ later → last ≡ base ++ cs → cs ≡ first ++ later
 two_parts base first later cs middle last a b all =
@@ -366,9 +359,10 @@ course_agrees lib (turn ∷ turns) p p' q q' cs ds is is' now one two made made'
 
 -- ---- an honest library
 
--- a part of a call to which want of memory wasn't told
+-- a part of a call to which want of memory wasn't told, and no verdict
 record IsFair (c : Call) : Type 0 where
   some : answer_of c.told ≢ step.NoMemory
+  unjudged : (answer : ReleaseAnswer) → c.told ≡ Judged answer → ⊥
   plain : IsPlain c.ask ⊎ IsBusyMode c
 
 asked_some : (ask : Ask) (told : Told) → IsAsked ask told → answer_of told ≢ step.NoMemory
@@ -387,6 +381,17 @@ asked_some (SetMode ino mode back said) ModeSet is e = absurd (cc e)
 asked_some (SetMode ino mode back said) (NotModeSet (BusyMode holder)) is e = absurd (cc e)
 asked_some ask told is e = absurd is
 
+asked_unjudged : (ask : Ask) (told : Told) → IsAsked ask told → (answer : ReleaseAnswer) → told ≡ Judged answer → ⊥
+asked_unjudged ask told is answer e = by ask (subst (IsAsked ask) e is)
+  where
+    by : (ask : Ask) → IsAsked ask (Judged answer) → ⊥
+    by (Grant ino kind) w = w
+    by (Allot pages numbers) w = w
+    by (GiveBack lease) w = w
+    by (Release parcel) w = w
+    by (Settle parcel back calls) w = w
+    by (SetMode ino mode back said) w = w
+
 one_fair : (x : Call) → IsFair x → (c : Call) → In c (x ∷ []) → IsFair c
 one_fair x fair c i = elim i [ inl e ↦ subst IsFair (sym e) fair | inr none ↦ absurd none ]
 
@@ -395,7 +400,7 @@ behind_fair back x fair c i =
     elim (In-cases c (map back_call back) (x ∷ []) i) [
       | inl j ↦
           (let m = map-In back_call c back j in
-          let given : IsFair (back_call m.0) = record { some = λ e. absurd (cc e); plain = inl refl } in
+          let given : IsFair (back_call m.0) = record { some = λ e. absurd (cc e); unjudged = λ a e. absurd (cc e); plain = inl refl } in
           subst IsFair (sym m.2) given)
       | inr j ↦ one_fair x fair c j
     ]
@@ -405,18 +410,19 @@ whole_fair : (s : State) (lib : LibNo) (ask : Ask) (told : Told) (s' : State) �
 whole_fair s lib ask told s' is h whole c i =
     let x : Call = record { ask = ask; told = told } in
     let there : In x (apart ask told) = subst (λ (l : List Call). In x l) (sym whole) (inl refl) in
-    let fair : IsFair x = record { some = asked_some ask told is; plain = inl (asked_plain s lib ask told s' is h x there) } in
+    let fair : IsFair x = record { some = asked_some ask told is; unjudged = asked_unjudged ask told is; plain = inl (asked_plain s lib ask told s' is h x there) } in
     one_fair x fair c i
 
 parts_fair : (s : State) (lib : LibNo) (ask : Ask) (told : Told) (s' : State) → IsAsked ask told → Happens s lib ask told s' → (c : Call) → In c (parts_of ask told) → IsFair c
 parts_fair s lib (Settle parcel back calls) SettledAll s' is h c i =
-    behind_fair back (record { ask = Settle parcel [] calls; told = SettledAll }) (record { some = λ e. absurd (cc e); plain = inl refl }) c i
+    behind_fair back (record { ask = Settle parcel [] calls; told = SettledAll }) (record { some = λ e. absurd (cc e); unjudged = λ a e. absurd (cc e); plain = inl refl }) c i
 parts_fair s lib (SetMode ino mode back said) ModeSet s' is h c i =
-    behind_fair back (record { ask = SetMode ino mode [] said; told = ModeSet }) (record { some = λ e. absurd (cc e); plain = inl refl }) c i
+    behind_fair back (record { ask = SetMode ino mode [] said; told = ModeSet }) (record { some = λ e. absurd (cc e); unjudged = λ a e. absurd (cc e); plain = inl refl }) c i
 parts_fair s lib (SetMode ino mode back said) (NotModeSet (BusyMode holder)) s' is h c i =
     one_fair (record { ask = SetMode ino mode back said; told = NotModeSet (BusyMode holder) })
     (record {
       some = λ e. absurd (cc e);
+      unjudged = λ a e. absurd (cc e);
       plain = inr (record {
         ino = ino;
         mode = mode;
@@ -481,12 +487,17 @@ first_ask a b more others e = cc e
 other_asks : (a b : Ask) (more others : List Ask) → a ∷ more ≡ b ∷ others → more ≡ others
 other_asks a b more others e = cc e
 
--- where both ask the same all along, their calls agree
-fair_agree : (R : Type 0) (ps qs : List Call) → map (λ (c : Call). c.ask) ps ≡ map (λ (c : Call). c.ask) qs → ((c : Call) → In c ps → IsFair c) → ((c : Call) → In c qs → IsFair c) → R → Agree R ps qs
-fair_agree R [] [] asks fair fair' r = r
-fair_agree R [] (q ∷ qs) asks fair fair' r = absurd (cc asks)
-fair_agree R (p ∷ ps) [] asks fair fair' r = absurd (cc asks)
-fair_agree R (p ∷ ps) (q ∷ qs) asks fair fair' r =
+-- alike answers but verdicts are the same
+told_one : (a b : Told) → Alike a b → ((answer : ReleaseAnswer) → a ≡ Judged answer → ⊥) → a ≡ b
+told_one a b (Same told) none = refl
+told_one a b (BothRefused rule i x s i' x' s') none = absurd (none (RefusedParcel rule i x s) refl)
+
+-- where both ask the same all along, their calls agree; and they are the same where all were told alike
+fair_agree : (R : Type 0) (ps qs : List Call) → map (λ (c : Call). c.ask) ps ≡ map (λ (c : Call). c.ask) qs → ((c : Call) → In c ps → IsFair c) → ((c : Call) → In c qs → IsFair c) → (ps ≡ qs → R) → Agree R ps qs
+fair_agree R [] [] asks fair fair' so = so refl
+fair_agree R [] (q ∷ qs) asks fair fair' so = absurd (cc asks)
+fair_agree R (p ∷ ps) [] asks fair fair' so = absurd (cc asks)
+fair_agree R (p ∷ ps) (q ∷ qs) asks fair fair' so =
     let same : p.ask ≡ q.ask = first_ask p.ask q.ask (map (λ (c : Call). c.ask) ps) (map (λ (c : Call). c.ask) qs) asks in
     let x : IsFair p = fair p (inl refl) in
     let y : IsFair q = fair' q (inl refl) in
@@ -496,7 +507,13 @@ fair_agree R (p ∷ ps) (q ∷ qs) asks fair fair' r =
       | inr busy ↦ elim y.plain [ inl plain ↦ inl (subst IsPlain (sym same) plain) | inr also ↦ inr (busy, also) ]
     ] in
     let both : AskSame p q = record { same = same; some = x.some; some' = y.some; plain = plain } in
-    (both, λ alike. fair_agree R ps qs (other_asks p.ask q.ask (map (λ (c : Call). c.ask) ps) (map (λ (c : Call). c.ask) qs) asks) (λ c i. fair c (inr i)) (λ c i. fair' c (inr i)) r)
+    let one : Alike p.told q.told → p ≡ q = λ alike.
+    ap (λ (a : Ask). record { ask = a; told = p.told }) same ∙ ap (λ (t : Told). record { ask = q.ask; told = t }) (told_one p.told q.told alike x.unjudged) in (
+      both,
+      λ alike.
+          fair_agree R ps qs (other_asks p.ask q.ask (map (λ (c : Call). c.ask) ps) (map (λ (c : Call). c.ask) qs) asks) (λ c i. fair c (inr i)) (λ c i. fair' c (inr i))
+          (λ rest. so (ap (λ (c : Call). c ∷ ps) (one alike) ∙ ap (λ (l : List Call). q ∷ l) rest)),
+    )
 
 -- ---- two runs
 
@@ -510,23 +527,31 @@ among n l =
       ]
     ]
 
--- the library of a number is one
-same_lib : (libs : List ScriptLib) (lib : LibNo) (l k : ScriptLib) → IsLibraryOf libs lib l → IsLibraryOf libs lib k → l ≡ k
-same_lib libs lib l k is also = (let e : Some l ≡ Some k = sym is.1 ∙ also.1 in cc e)
-
 not_raw : (lines : List (ScriptLine HonestLine)) (l : ScriptLib) → l.lines ≡ Honest lines → IsRaw l → ⊥
 not_raw lines l honest raw = (let wrong : Honest lines ≡ Raw raw.0 = sym honest ∙ raw.1 in cc wrong)
 
-module _ (image : Image) (libs : List ScriptLib) (tolds tolds' : List Heard) (s s' : State) (log log' : List Entry) (ran : ScriptRan image libs tolds s log) (ran' : ScriptRan image libs tolds' s' log') where
-  -- a raw library of the script is told the same in both
+-- two lists of one length that have the same at each place are one
+same_lists : (xs ys : List Heard) → length xs ≡ length ys → ((n : ℕ) → n < length xs → get_or xs n untold ≡ get_or ys n untold) → xs ≡ ys
+same_lists [] [] e each = refl
+same_lists [] (y ∷ ys) e each = absurd (cc e)
+same_lists (x ∷ xs) [] e each = absurd (cc e)
+same_lists (x ∷ xs) (y ∷ ys) e each =
+    let rest : length xs ≡ length ys = cc e in
+    ap (λ z. z ∷ xs) (each 0 (omega arith)) ∙ ap (λ zs. y ∷ zs) (same_lists xs ys rest (λ n lt. each (suc n) (omega (arith, lt))))
+
+module _ (is_left : DeskIsLeft) (others_leave : OthersLeave) (image : Image) (libs : List ScriptLib) (tolds tolds' : List Heard) (s s' : State) (log log' : List Entry) (ran : ScriptRan image libs tolds s log) (ran' : ScriptRan image libs tolds' s' log') where
+  -- a library of the script is told the same in both
   abbrev ToldSame : LibNo → Type 0
-  ToldSame lib = (l : ScriptLib) → IsLibraryOf libs lib l → IsRaw l → (ran.last lib).told ≡ (ran'.last lib).told
+  ToldSame lib = (l : ScriptLib) → IsLibraryOf libs lib l → (ran.last lib).told ≡ (ran'.last lib).told
 
   abbrev parts : LibNo → List Call
-  parts lib = all_parts (ran.last lib).going.calls
+  parts lib = did (ran.last lib).going
 
   abbrev parts' : LibNo → List Call
-  parts' lib = all_parts (ran'.last lib).going.calls
+  parts' lib = did (ran'.last lib).going
+
+  abbrev place : LibNo → Share → Place
+  place lib share = record { going = arrives (origin_in image libs) lib; share = share; told = untold }
 
   raw_agrees : (lib : LibNo) (l : ScriptLib) → IsLibraryOf libs lib l → IsRaw l → Agree (ToldSame lib) (parts lib) (parts' lib)
   raw_agrees lib l is raw =
@@ -534,24 +559,31 @@ module _ (image : Image) (libs : List ScriptLib) (tolds tolds' : List Heard) (s 
       let b = ran'.ran lib l is in
       let begins : a.share ≡ Things nothing = subst (λ (y : Lines). BeginsWith lib l.creds y a.share) raw.1 a.begins in
       let begins' : b.share ≡ Things nothing = subst (λ (y : Lines). BeginsWith lib l.creds y b.share) raw.1 b.begins in
-      let p : Place = record { going = arrives (origin_in image libs) lib; share = a.share; told = untold } in
-      let q : Place = record { going = arrives (origin_in image libs) lib; share = b.share; told = untold } in
       let agree : Agree ((ran.last lib).told ≡ (ran'.last lib).told) (parts lib) (parts' lib) =
-      course_agrees lib (line_turns l.lines ++ Ends ∷ []) p (ran.last lib) q (ran'.last lib) (ran.last lib).going.calls (ran'.last lib).going.calls refl refl (nothing, begins, begins', refl) a.goes b.goes refl refl in
-      agree_so ((ran.last lib).told ≡ (ran'.last lib).told) (ToldSame lib) (parts lib) (parts' lib) (λ same k other raw'. same) agree
+      course_agrees lib (line_turns l.lines ++ Ends ∷ []) (place lib a.share) (ran.last lib) (place lib b.share) (ran'.last lib) (ran.last lib).going.calls (ran'.last lib).going.calls refl refl (nothing, begins, begins', refl) a.goes b.goes refl refl in
+      agree_so ((ran.last lib).told ≡ (ran'.last lib).told) (ToldSame lib) (parts lib) (parts' lib) (λ same k other. same) agree
 
   honest_agrees : (lib : LibNo) (l : ScriptLib) (lines : List (ScriptLine HonestLine)) → IsLibraryOf libs lib l → l.lines ≡ Honest lines → map (λ (c : Call). c.ask) (parts lib) ≡ map (λ (c : Call). c.ask) (parts' lib) → Agree (ToldSame lib) (parts lib) (parts' lib)
   honest_agrees lib l lines is honest asks =
       let a = ran.ran lib l is in
       let b = ran'.ran lib l is in
+      let first : Origin = origin_in image libs in
       let begins : BeginsWith lib l.creds (Honest lines) a.share = subst (λ (y : Lines). BeginsWith lib l.creds y a.share) honest a.begins in
       let begins' : BeginsWith lib l.creds (Honest lines) b.share = subst (λ (y : Lines). BeginsWith lib l.creds y b.share) honest b.begins in
-      let p : Place = record { going = arrives (origin_in image libs) lib; share = a.share; told = untold } in
-      let q : Place = record { going = arrives (origin_in image libs) lib; share = b.share; told = untold } in
-      let fair = course_fair p (line_turns l.lines ++ Ends ∷ []) (ran.last lib) (record { session = _; is = begins.1; fair = λ c i. absurd i }) a.goes in
-      let fair' = course_fair q (line_turns l.lines ++ Ends ∷ []) (ran'.last lib) (record { session = _; is = begins'.1; fair = λ c i. absurd i }) b.goes in
-      let none : ToldSame lib = λ k other raw. absurd (not_raw lines l honest (subst IsRaw (same_lib libs lib k l other is) raw)) in
-      fair_agree (ToldSame lib) (parts lib) (parts' lib) asks fair.fair fair'.fair none
+      let turns : List Turn = line_turns l.lines ++ Ends ∷ [] in
+      let p : Place = place lib a.share in
+      let q : Place = place lib b.share in
+      let x : SessionSeen = new_session lib l.creds begins.0 in
+      let y : SessionSeen = new_session lib l.creds begins'.0 in
+      let fair = course_fair p turns (ran.last lib) (record { session = x; is = begins.1; fair = λ c i. absurd i }) a.goes in
+      let fair' = course_fair q turns (ran'.last lib) (record { session = y; is = begins'.1; fair = λ c i. absurd i }) b.goes in
+      let at = arrives_at is_left others_leave first lib ran.left.begins in
+      let creds : l.creds ≡ creds_of (started first) lib.0 = creds_at libs lib.0 l is.0 is.1 in
+      let may : HoldsAt (sees_at (arrives first lib)) a.share = begins_at image libs lib l.creds l.lines a.share creds a.begins in
+      let may' : HoldsAt (sees_at (arrives first lib)) b.share = begins_at image libs lib l.creds l.lines b.share creds b.begins in
+      let told : parts lib ≡ parts' lib → (ran.last lib).told ≡ (ran'.last lib).told =
+      course_at is_left others_leave first lib turns p (ran.last lib) q (ran'.last lib) x y at at begins.1 begins'.1 refl refl refl (subst (HoldsAt (sees_at (arrives first lib))) begins.1 may) (subst (HoldsAt (sees_at (arrives first lib))) begins'.1 may') a.goes b.goes in
+      fair_agree (ToldSame lib) (parts lib) (parts' lib) asks fair.fair fair'.fair (λ same k other. told same)
 
   module _ (one : OneOrder (start image (creds_in libs)) (λ lib. (ran.last lib).going.calls) log s) (two : OneOrder (start image (creds_in libs)) (λ lib. (ran'.last lib).going.calls) log' s') (alike : CallAlike libs one.order two.order) where
     -- of a library of the script
@@ -576,7 +608,7 @@ module _ (image : Image) (libs : List ScriptLib) (tolds tolds' : List Heard) (s 
               subst (λ ps. Agree (ToldSame lib) ps (calls_by lib two.order)) (sym (one.own lib is))
               (subst (Agree (ToldSame lib) (parts lib)) (sym (two.own lib is)) (parts_agree lib l.0 l.1 is)))
           | inr out ↦
-              (let none : ToldSame lib = λ l is raw. absurd (out (of_script lib l is)) in
+              (let none : ToldSame lib = λ l is. absurd (out (of_script lib l is)) in
               subst (λ ps. Agree (ToldSame lib) ps (calls_by lib two.order)) (sym (one.no_other lib out))
               (subst (Agree (ToldSame lib) []) (sym (two.no_other lib out)) none))
         ]
@@ -588,15 +620,20 @@ module _ (image : Image) (libs : List ScriptLib) (tolds tolds' : List Heard) (s 
             let many : length (creds_in libs) ≡ length libs = length-map libs _ in
             (low, omega (arith, low, within, many))
 
-    come_to_one : EndAlike libs tolds tolds' s s'
+    come_to_one : EndAlike tolds tolds' s s'
     come_to_one =
         let first : State = start image (creds_in libs) in
         let stands : Stands first = record { kept = ran.left.begins; as_told = λ g i. absurd i; whole = λ g x i j. absurd i } in
         let r = orders_one ToldSame one.order two.order first first s s' stands stands refl alike.sequence calls_agree one.happen two.happen in
-        record {
-          image = ap (λ (k : Known). k.image) r.1;
-          told = λ lib l is raw. sym (ran.told lib l is) ∙ r.0 lib l is raw ∙ ran'.told lib l is;
-        }
+        let each : (n : ℕ) → n < length tolds → get_or tolds n untold ≡ get_or tolds' n untold = λ n lt.
+        (let count : length tolds ≡ length libs = ran.told_count in
+        let lib : LibNo = record { 0 = n + 1 } in
+        let there = within_some libs n (omega (arith, lt, count)) in
+        let at : lib.0 - 1 ≡ n = omega arith in
+        let is : IsLibraryOf libs lib there.0 = (omega arith, subst (λ k. slice_get libs k ≡ Some there.0) (sym at) there.1) in
+        let heard : heard_by tolds lib ≡ heard_by tolds' lib = sym (ran.told lib there.0 is) ∙ r.0 lib there.0 is ∙ ran'.told lib there.0 is in
+        subst (λ k. get_or tolds k untold ≡ get_or tolds' k untold) at heard) in
+        record { image = ap (λ (k : Known). k.image) r.1; told = same_lists tolds tolds' (ran.told_count ∙ sym ran'.told_count) each }
 
-pub order_is_one : OrderIsOne
-order_is_one image libs tolds tolds' s s' log log' ran ran' one two alike = come_to_one image libs tolds tolds' s s' log log' ran ran' one two alike
+pub order_is_one : DeskIsLeft → OthersLeave → OrderIsOne
+order_is_one is_left others_leave image libs tolds tolds' s s' log log' ran ran' one two alike = come_to_one is_left others_leave image libs tolds tolds' s s' log log' ran ran' one two alike

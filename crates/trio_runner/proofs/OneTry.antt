@@ -48,7 +48,7 @@ Gets (Allot pages numbers) (Given ps ns) = Unit {0}
 Gets (Allot pages numbers) (NotGiven fault) = Unit {0}
 Gets ask told = ⊥
 
-gets_fits : (ask : Ask) (told : Told) → Gets ask told → Fits ask told
+pub gets_fits : (ask : Ask) (told : Told) → Gets ask told → Fits ask told
 gets_fits (Grant ino kind) (Lent lease) g = tt
 gets_fits (Grant ino kind) (NotLent fault) g = tt
 gets_fits (Allot pages numbers) (Given ps ns) g = tt
@@ -105,7 +105,7 @@ given_gets s lib (SetMode ino mode back k) ps ns s' h =
     let t : State = all_back s lib back in
     elim h.is_step [ inl d ↦ absurd (no_mode t ino mode (mode_fault t lib.0 ino mode (row_at t.home ino)) _ (λ e. cc e) (λ f e. cc e) d.0) | inr n ↦ absurd (cc (n.1)) ]
 
-gets_given : (s : State) (lib : LibNo) (c : Call) (s' : State) → IsGiven c → Happens s lib c.ask c.told s' → Gets c.ask c.told
+pub gets_given : (s : State) (lib : LibNo) (c : Call) (s' : State) → IsGiven c → Happens s lib c.ask c.told s' → Gets c.ask c.told
 gets_given s lib c s' (inl l) h = subst (Gets c.ask) (sym l.1) (lent_gets s lib c.ask l.0 s' (subst (λ t. Happens s lib c.ask t s') l.1 h))
 gets_given s lib c s' (inr g) h = subst (Gets c.ask) (sym g.2) (given_gets s lib c.ask g.0 g.1 s' (subst (λ t. Happens s lib c.ask t s') g.2 h))
 
@@ -206,7 +206,7 @@ abbrev pub asks : List Call → List Ask
 asks cs = map (λ (c : Call). c.ask) cs
 
 -- a call that is given ends no try
-given_goes_on : (c : Call) (end : Outcome) → IsGiven c → outcome_told c.told ≡ Some end → ⊥
+pub given_goes_on : (c : Call) (end : Outcome) → IsGiven c → outcome_told c.told ≡ Some end → ⊥
 given_goes_on c end (inl l) e = let wrong : None ≡ Some end = ap outcome_told (sym l.1) ∙ e in cc wrong
 given_goes_on c end (inr g) e = let wrong : None ≡ Some end = ap outcome_told (sym g.2) ∙ e in cc wrong
 
@@ -370,7 +370,7 @@ module _ (lib : LibNo) where
       not_taken ModeSet e = absurd (cc e)
       not_taken (NotModeSet fault) e = absurd (cc e)
 
-  took_one : (x : SessionSeen) (t : Told) (more : List Told) → took (took x (t ∷ [])) more ≡ took x (t ∷ more)
+  pub took_one : (x : SessionSeen) (t : Told) (more : List Told) → took (took x (t ∷ [])) more ≡ took x (t ∷ more)
   took_one x (Lent lease) more = refl
   took_one x (Given ps ns) more = refl
   took_one x (NotLent fault) more = refl

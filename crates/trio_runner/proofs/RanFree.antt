@@ -45,7 +45,7 @@ use Rattle.trio_runner.proofs.Held.{CallLeaves, Leave, end_held, happens_leaves,
 use Rattle.trio_runner.proofs.Keeping.{course_keeps}
 
 -- what a library has is all that is out to it at such a desk
-abbrev HoldsAt : DeskSeen → Share → Type 0
+abbrev pub HoldsAt : DeskSeen → Share → Type 0
 HoldsAt d (Things has) = HasAll d.out has
 HoldsAt d (InSession x) = MayCall d x
 
@@ -61,7 +61,7 @@ none_left image creds lib = record {
   numbers = λ n. (λ i. no_numbers (image.core.inodes + 1) lib.0 n i, λ i. absurd i);
 }
 
-begins_at : (image : Image) (libs : List ScriptLib) (lib : LibNo) (own : Creds) (lines : Lines) (share : Share) → own ≡ creds_of (started (origin_in image libs)) lib.0 → BeginsWith lib own lines share → HoldsAt (sees_at (arrives (origin_in image libs) lib)) share
+pub begins_at : (image : Image) (libs : List ScriptLib) (lib : LibNo) (own : Creds) (lines : Lines) (share : Share) → own ≡ creds_of (started (origin_in image libs)) lib.0 → BeginsWith lib own lines share → HoldsAt (sees_at (arrives (origin_in image libs) lib)) share
 begins_at image libs lib own (Raw lines) share same begins =
     (let d : DeskSeen = sees_at (arrives (origin_in image libs) lib) in
     subst (HoldsAt d) (sym begins) (none_all d.out (none_left image (creds_in libs) lib)))
@@ -90,10 +90,10 @@ module _ (is_left : DeskIsLeft) (others_leave : OthersLeave) where
     found : desk_of goes.turn.before g.seat.lib ≡ sees_at g
     found = seen_on g.seat.first g.seat.seen goes.turn.others goes.turn.before g.seat.lib goes.turn.found goes.turn.not_its_own
 
-    left : desk_of goes.turn.after g.seat.lib ≡ sees_at g'
+    pub left : desk_of goes.turn.after g.seat.lib ≡ sees_at g'
     left = ap (desk_of goes.turn.after) (sym goes.turn.lib) ∙ is_left g'.seat.first g'.seat.seen goes.turn.after g'.seat.lib goes.turn.left
 
-    goes_leaves : CallLeaves (sees_at g).out ask told (sees_at g').out
+    pub goes_leaves : CallLeaves (sees_at g).out ask told (sees_at g').out
     goes_leaves =
         subst (λ (d : DeskSeen). CallLeaves d.out ask told (sees_at g').out) found
         (subst (λ (d : DeskSeen). CallLeaves (out_of goes.turn.before g.seat.lib) ask told d.out) left
@@ -119,7 +119,7 @@ module _ (is_left : DeskIsLeft) (others_leave : OthersLeave) where
   honest_holds g g' x x' (CallLine call) told may c = c.may
   honest_holds g g' x x' SettleLine told may c = settled_may (sees_at g) (sees_at g') x x' may (seen_settled g g' x x' may c.0) c.0.empty
 
-  turn_holds : (turn : Turn) (g : Going) (share : Share) (told : Heard) (g' : Going) (share' : Share) (told' : Heard) → HoldsAt (sees_at g) share → TurnGoes turn g share told g' share' told' → HoldsAt (sees_at g') share'
+  pub turn_holds : (turn : Turn) (g : Going) (share : Share) (told : Heard) (g' : Going) (share' : Share) (told' : Heard) → HoldsAt (sees_at g) share → TurnGoes turn g share told g' share' told' → HoldsAt (sees_at g') share'
   turn_holds (Says line) g (Things has) told g' (Things has') told' h c =
       line_held g.seat.lib (sees_at g).out (sees_at g').out has has' c.0 c.1 h (calls_leave c.0 g g' c.3) line.line c.2
   turn_holds (SaysHonest line) g (InSession x) told g' (InSession x') told' h c = honest_holds g g' x x' line.line c.0 h c.1
@@ -166,7 +166,7 @@ module _ (is_left : DeskIsLeft) (others_leave : OthersLeave) where
         let own = ran.ran lib l is in
         let in_log = ran.seen lib l is in
         let same : SeatOf first lib last = course_keeps (SeatOf first lib) (seat_stays first lib) (begin lib own.share) (line_turns l.lines ++ Ends ∷ []) (ran.last lib) (refl, refl) own.goes in
-        let starts : HoldsAt (sees_at (arrives first lib)) own.share = begins_at image libs lib l.creds l.lines own.share (creds_at libs (lib.0 - 1) l is.1) own.begins in
+        let starts : HoldsAt (sees_at (arrives first lib)) own.share = begins_at image libs lib l.creds l.lines own.share (creds_at libs lib.0 l is.0 is.1) own.begins in
         let done : HasAll (sees_at last).out nothing = course_none (line_turns l.lines) (begin lib own.share) (ran.last lib) starts own.goes in
         let seen : List Entry = last.seat.seen in
         let others : List Entry = in_log.begins.0 in

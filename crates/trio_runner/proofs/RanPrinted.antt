@@ -18,11 +18,11 @@ use Rattle.trio_runner.proofs.Entries.{Makes, by-append, by_made, by_own, calls_
 use Rattle.trio_runner.proofs.Printing.{Before, TurnMakes, begins_before, end_leads, end_makes, line_leads, line_makes}
 
 -- the seat has seen these entries of its library behind those before
-abbrev Behind : LibNo → List Entry → Going → List Entry → Type 0
+abbrev pub Behind : LibNo → List Entry → Going → List Entry → Type 0
 Behind lib before g es = (g.seat.lib ≡ lib) × (entries_by lib g.seat.seen ≡ before ++ es)
 
 -- a turn of the seat makes its library's entries alone
-goes_make : (lib : LibNo) (before : List Entry) → Makes lib Goes (Behind lib before)
+pub goes_make : (lib : LibNo) (before : List Entry) → Makes lib Goes (Behind lib before)
 goes_make lib before g es ask told g' at goes =
     let t = goes.turn in
     let own : List Entry = entries_told t.before lib ask told in

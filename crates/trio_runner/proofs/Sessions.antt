@@ -27,7 +27,7 @@ use Rattle.trio_ctl.proofs.DeskSteps.{IsPlain}
 use Rattle.trio_session.specs.Seen.{SessionSeen}
 use Rattle.trio_walk.specs.Asks.{Called, IsGiven, Settles, Tried, TryEnds, Once, Unsettled, Again, GivesUp, LeftOut}
 use Rattle.trio_calls_file.specs.Asks.{FileCalled, FileTried}
-use Rattle.trio_calls_dir.specs.Asks.{DirCalled, DirTried}
+use Rattle.trio_calls_dir.specs.Asks.{DirTried, EntryCalled}
 use Rattle.trio_calls_dir.specs.Chmods.{BreaksOff, ChmodCalled, ChmodTried, Begun, Comes, EndsAs, EndsHandedIn, EndsModed, HandsIn, SetsMode, Unbegun, hand_in_ask, lent_to, mode_ask}
 use Rattle.trio_nodes.specs.Walk.{Path}
 use Rattle.trio_rights.specs.declared.rights.Mode.{Mode}
@@ -145,7 +145,7 @@ module _ {D : Type 0} (called : D → Ask → Told → D → Type 0) (seen : D �
   chmod_keeps path mode d d' s s' end told is (Begun d1 s1 t c) p =
       called_keeps (ChmodTried called seen path mode) (chmod_tried_keeps path mode) d1 d' s1 s' end told is c (settle_keeps d d1 s s1 t p)
 
-  leased_keeps : (d d' : D) (s s' : SessionSeen) (k : call.Call) (end : Outcome) (told : LineAnswer) → told_outcome end ≡ Some told → (b : Bool) → MatchBool b (DirCalled called seen d s k end d' s') (FileCalled called seen d s k end d' s') → P d → P d'
+  leased_keeps : (d d' : D) (s s' : SessionSeen) (k : call.Call) (end : Outcome) (told : LineAnswer) → told_outcome end ≡ Some told → (b : Bool) → MatchBool b (EntryCalled called seen d s k end d' s') (FileCalled called seen d s k end d' s') → P d → P d'
   leased_keeps d d' s s' k end told is true c p = called_keeps (DirTried called seen k) (λ d d' s s' end told is t p. tried_keeps _ _ d d' s s' end told is t.1 p) d d' s s' end told is c p
   leased_keeps d d' s s' k end told is false c p = called_keeps (FileTried called seen k) (λ d d' s s' end told is t p. tried_keeps _ _ d d' s s' end told is t.1 p) d d' s s' end told is c p
 

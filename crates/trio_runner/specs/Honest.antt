@@ -14,8 +14,7 @@ use Rattle.trio_walk.specs.Asks.{Settles}
 use Rattle.trio_walk.specs.declared.outcome.Outcome.{Outcome}
 use Rattle.trio_walk.specs.declared.outcome.Outcome.TheVariants.{Replied, Busy, NoMemory}
 use Rattle.trio_calls_file.specs.Asks.{FileCalled}
-use Rattle.trio_calls_dir.specs.Asks.{DirCalled}
-use Rattle.trio_calls_dir.specs.Chmods.{ChmodCalled}
+use Rattle.trio_calls_dir.specs.Dir.{DirCalled}
 use Rattle.trio_script.specs.declared.honest.HonestLine.{HonestLine}
 use Rattle.trio_script.specs.declared.honest.HonestLine.TheVariants.{Call as CallLine, Settle as SettleLine}
 use Rattle.trio_report.specs.declared.answer.LineAnswer.{LineAnswer}
@@ -54,7 +53,7 @@ told_outcome (Replied reply) = Some (answered.Replied reply)
 told_outcome (Busy holder) = Some answered.Busy
 told_outcome NoMemory = None
 
--- it is a call on a directory: it makes, removes or renames a file, or lists names
+-- it is a call on a directory or on a mode: it makes, removes or renames a file, lists names, or changes a mode
 abbrev pub is_dir_call : call.Call → Bool
 is_dir_call (Mkdir path mode) = true
 is_dir_call (Create path mode) = true
@@ -62,11 +61,11 @@ is_dir_call (Unlink path) = true
 is_dir_call (Rmdir path) = true
 is_dir_call (Rename from to) = true
 is_dir_call (ListNames path from) = true
+is_dir_call (Chmod path mode) = true
 is_dir_call k = false
 
--- a call of a session at a desk, on a mode, on a directory or on a file: which calls of the desk it makes, and how it ends
+-- a call of a session at a desk, on a directory, on a mode or on a file: which calls of the desk it makes, and how it ends
 abbrev pub SessionCalled : {D : Type 0} → (D → Ask → Told → D → Type 0) → (D → DeskSeen) → D → SessionSeen → call.Call → Outcome → D → SessionSeen → Type 0
-SessionCalled called seen d s (Chmod path mode) end d' s' = ChmodCalled called seen d s path mode end d' s'
 SessionCalled called seen d s k end d' s' = MatchBool (is_dir_call k) (DirCalled called seen d s k end d' s') (FileCalled called seen d s k end d' s')
 
 -- A call at a desk: which calls of the desk it makes, how it is told, what the session is then, and that it may go on.

@@ -4,6 +4,7 @@ pub mod Honest
 pub mod Rounds
 pub mod Play
 pub mod Logged
+pub mod History
 pub mod PlayLaws
 pub mod Courses
 pub mod Runs

@@ -120,11 +120,16 @@ mode_replies (Err fault) = []
 abbrev pub call_and_reply : Done → Call × Reply
 call_and_reply d = (d.call, d.reply)
 
--- the calls that an entry tells, each with its reply: those of a batch, and that of a change of mode by a call
+-- The calls that an entry tells, each with its reply: those of a batch, and that of a change of mode by a call, which makes no file. One
+-- that ended in another way than by a reply is none.
+abbrev pub done_in : Entry → List Done
+done_in (Batch lib calls handed) = calls
+done_in (Mode lib ino mode answer (Some call)) = map (λ (reply : Reply). record { call = call; reply = reply; made = 0 }) (mode_replies answer)
+done_in _ = []
+
+-- the calls that an entry tells, each with its reply, without the numbers of what they made
 abbrev pub calls_in : Entry → List (Call × Reply)
-calls_in (Batch lib calls handed) = map call_and_reply calls
-calls_in (Mode lib ino mode answer (Some call)) = map (λ (reply : Reply). (call, reply)) (mode_replies answer)
-calls_in _ = []
+calls_in e = map call_and_reply (done_in e)
 
 -- the call of a line, with the reply that the line was told: none for Busy, and none of a settle
 abbrev pub call_told : HonestLine → LineAnswer → List (Call × Reply)

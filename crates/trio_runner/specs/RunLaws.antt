@@ -73,18 +73,17 @@ pub record CallAlike (libs : List ScriptLib) (a b : List Happening) : Type 0 whe
   pub sequence : libraries_in a ≡ libraries_in b
   pub asked : (lib : LibNo) (l : ScriptLib) → IsLibraryOf libs lib l → IsRaw l ⊎ (asks_by lib a ≡ asks_by lib b)
 
--- the same image is settled at the end, and each raw library was told the same
-pub record EndAlike (libs : List ScriptLib) (tolds tolds' : List Heard) (s s' : State) : Type 0 where
+-- two runs end alike: what each library was told, and the image that is settled at the end
+pub record EndAlike (tolds tolds' : List Heard) (s s' : State) : Type 0 where
+  pub told : tolds ≡ tolds'
   pub image : settled s ≡ settled s'
-  pub told : (lib : LibNo) (l : ScriptLib) → IsLibraryOf libs lib l → IsRaw l → heard_by tolds lib ≡ heard_by tolds' lib
 
--- The order of the calls determines the end: two runs of a script on an image, in whose orders the libraries call in the same sequence
--- and the honest ones ask the same, settle the same image, and each raw library is told the same. Nothing is assumed of what raw ones
--- ask.
+-- The order of the calls determines the output: two runs of a script on an image, in whose orders the libraries call in the same sequence
+-- and the honest ones ask the same, end alike. Nothing is assumed of what raw ones ask, nor of what anyone is told.
 abbrev pub OrderIsOne : Type 0
 OrderIsOne =
     (image : Image) (libs : List ScriptLib) (tolds tolds' : List Heard) (s s' : State) (log log' : List Entry)
     (ran : ScriptRan image libs tolds s log) (ran' : ScriptRan image libs tolds' s' log')
     (one : OneOrder (start image (creds_in libs)) (λ lib. (ran.last lib).going.calls) log s)
     (one' : OneOrder (start image (creds_in libs)) (λ lib. (ran'.last lib).going.calls) log' s')
-    → CallAlike libs one.order one'.order → EndAlike libs tolds tolds' s s'
+    → CallAlike libs one.order one'.order → EndAlike tolds tolds' s s'

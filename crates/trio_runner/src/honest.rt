@@ -3,13 +3,12 @@
 ghost use Rattle.std.specs.Prelude.{◌≡◌, IfOk, length};
 ghost use Rattle.trio_edit_laws.specs.Calls.{MayCall};
 ghost use Rattle.trio_walk.specs.Asks.{Settles};
-ghost use Rattle.trio_calls_dir.specs.Chmods.{StandsOnTree};
 ghost use Rattle.trio_script.specs.Within.{IsWithin, SaysWithin};
 ghost use Rattle.trio_runner.specs.Honest.{HonestComes, SessionCalled, is_dir_call};
 
 use crate::copies::copied;
 use std::alloc::Global;
-use trio_calls_dir::{chmod, dir_call};
+use trio_calls_dir::dir_call;
 use trio_calls_file::file_call;
 use trio_desk::Desk;
 use trio_nodes::Call;
@@ -28,7 +27,6 @@ pub(crate) fn play_honest<D: Desk>(
 ) -> Result<LineAnswer, NoMemory>
     requires may { MayCall (D.seen desk.old) session.old }
     requires within { SaysWithin line.now }
-    requires tree { StandsOnTree D.called D.seen desk.old }
     ensures line { IfOk result (λ told. HonestComes D.called D.seen desk.old session.old line.now told desk.new session.new) }
     ensures may { MayCall (D.seen desk.new) session.new }
 {
@@ -45,33 +43,29 @@ pub(crate) fn play_honest<D: Desk>(
     }
 }
 
-/// Makes a call at the library's desk: a change of mode, or a call on a directory or on a file.
+/// Makes a call at the library's desk: one on a directory or on a mode, or one on a file.
 fn make_call<D: Desk>(alloc: Global, session: &mut Session, desk: &mut D, call: Call) -> Outcome
     requires may { MayCall (D.seen desk.old) session.old }
     requires within { IsWithin call }
-    requires tree { StandsOnTree D.called D.seen desk.old }
     ensures may { MayCall (D.seen desk.new) session.new }
     ensures called { SessionCalled D.called D.seen desk.old session.old call result desk.new session.new }
 {
-    match call {
-        Call::Chmod { path, mode } => chmod(alloc, session, desk, path, mode),
-        call => {
-            if is_dir_call(&call) {
-                dir_call(alloc, session, desk, call)
-            } else {
-                file_call(alloc, session, desk, call)
-            }
-        }
+    if is_dir_call(&call) {
+        dir_call(alloc, session, desk, call)
+    } else {
+        file_call(alloc, session, desk, call)
     }
 }
 
-/// Whether a call is one on a directory: it makes, removes or renames a file, or lists names.
+/// Whether a call is one on a directory or on a mode: it makes, removes or renames a file, lists names,
+/// or changes a mode.
 fn is_dir_call(call: &Call) -> bool
     ensures { result ≡ is_dir_call call.now }
 {
     match call {
         Call::Mkdir { .. } | Call::Create { .. } | Call::Unlink { .. } => true,
         Call::Rmdir { .. } | Call::Rename { .. } | Call::List { .. } => true,
+        Call::Chmod { .. } => true,
         _ => false,
     }
 }

@@ -1,5 +1,6 @@
 //! The laws: the body of each function is empty, or calls the laws that it rests on, and its contract is the law.
 
+ghost use Rattle.trio_runner.specs.History.{LegalIsHistory};
 ghost use Rattle.trio_runner.specs.PlayLaws.{PlayedAlone, PlayedEndsFree, PlayedIsLogged, PlayedIsOne, PlayedIsPrinted, PlayedIsTrace, PlaysMore};
 ghost use Rattle.trio_runner.specs.RunLaws.{OrderIsLogged, OrderIsOne, RanAlone, RanEndsFree, RanIsOrder, RanIsPrinted};
 
@@ -56,10 +57,13 @@ pub fn order_is_logged()
 {}
 
 /// Two runs, in whose orders the libraries call in the same sequence and the honest ones ask the same,
-/// settle the same image at their ends, and each raw library is told the same in both.
+/// settle the same image at their ends, and each library is told the same in both.
 pub fn order_is_one()
     ensures law { OrderIsOne }
-{}
+{
+    desk_is_left();
+    others_leave();
+}
 
 /// Where each library runs on a thread of its own, what it was told prints its entries too, each once
 /// and in their order.
@@ -79,3 +83,9 @@ pub fn ran_ends_free()
     desk_is_left();
     others_leave();
 }
+
+/// Where a legal log tells no release of a raw library and no change of mode without a call, its calls
+/// in order are a history of the tree on one thread, from its first nodes to its last.
+pub fn legal_is_history()
+    ensures law { LegalIsHistory }
+{}

@@ -349,9 +349,6 @@ fn take_call(
     ensures turn { OnOk result (TookTurn lib (SaysHonest line.now) ctl.old (InSession session.old) told.old ctl.new (InSession session.new) told.new) }
     ensures lib { OnOk result (session.new.lib ≡ lib) }
 {
-    ctl.is_as_told();
-    ctl.is_recorded();
-    ctl.is_as_lent();
     let mut desk = PlainDesk::of(ctl, lib);
     let answer = play_honest(alloc, &mut desk, session, &line.line)?;
     told.hears(answer)

@@ -356,8 +356,6 @@ fn call_line<R: Wait>(
     ensures went { OnOk result (Went shared.now (SaysHonest line.now ∷ []) seat.old (InSession session.old) told.old seat.new (InSession session.new) told.new) }
     ensures may { OnOk result (MayGoOn (desk seat.new) (InSession session.new)) }
 {
-    desk_is_left();
-    others_leave();
     let mut desk = SeatDesk::of(rt, shared, seat);
     let answer = play_honest(alloc, &mut desk, session, &line.line)?;
     told.hears(answer)

@@ -1,7 +1,6 @@
 -- A library on its thread, between its turns. Cited by private functions alone.
 use Rattle.std.specs.Prelude.{◌≡◌, ℕ, List, [], ◌∷◌, ◌++◌, length, Some, IfSome, slice_get}
 use Rattle.trio_rights.specs.declared.rights.Creds.{Creds}
-use Rattle.trio_rights.specs.declared.rights.LibNo.{LibNo}
 use Rattle.trio_desk.specs.Call.{DeskSeen}
 use Rattle.trio_desk.specs.Calls.{Call}
 use Rattle.trio_raw.specs.Has.{OnList}

@@ -18,7 +18,7 @@ last_image-requires g c =
 pub returns : goal.returns
 returns g c =
     let image = c.in_ok-image.ensures in
-    threads_end c.ran_is_order.ensures.law c.order_is_logged.ensures.law c.ran_ends_free.ensures.law c.ran_is_printed.ensures.law
+    threads_end c.ran_is_order.ensures.law c.order_is_logged.ensures.law c.order_is_one.ensures.law c.ran_ends_free.ensures.law c.ran_is_printed.ensures.law
     c.args.image.superblock c.in_ok-image.image.superblock c.args.image.pages c.in_ok-image.image.pages c.in_ok-creds_of.field-0.items c.in-Ok.ctl.state c.in_ok-ctl.ctl.state c.args.libs.now c.in_ok-ctl.tolds.items c.in_ok-ctl.ctl.log
     c.superblock-superblock.ensures.verified c.in-Ok.ensures.started c.in_ok-ctl.ensures.script
     image.verified image.tables image.superblock image.stores

@@ -3,7 +3,6 @@ use Rattle.trio_edit_laws.specs.Calls.{MayCall}
 use Rattle.trio_ctl.specs.Ctl.{Controller}
 use Rattle.trio_ctl.specs.Desk.{desk_of}
 use Rattle.trio_runner.proofs.Calling.{honest_lib, honest_name, honest_took, on_ok}
-use Rattle.trio_runner.proofs.OnTree.{OnTree, stands_on_tree}
 use Rattle.trio_runner.proofs.rounds.take_call.Goals as goal
 
 pub play_honest-requires-clause-may : goal.play_honest-requires-clause-may
@@ -11,16 +10,6 @@ play_honest-requires-clause-may c =
     let desk = c.of-desk in
     subst (λ l. MayCall (desk_of desk.result.ctl.now.state l) c.args.session.now) (sym desk.ensures.lib)
     (subst (λ (x : Controller). MayCall (desk_of x.state c.args.lib) c.args.session.now) (sym desk.ensures.ctl) c.requires.may)
-
-pub play_honest-requires-clause-tree : goal.play_honest-requires-clause-tree
-play_honest-requires-clause-tree c =
-    let desk = c.of-desk in
-    let now : OnTree c.args.ctl.now.state = record {
-      stands = record { kept = c.is_recorded.ensures.kept; as_told = c.is_as_told.ensures; whole = c.is_recorded.ensures.whole };
-      lent = c.is_as_lent.ensures;
-    } in
-    stands_on_tree _ (λ d. d.ctl.now) (λ d. d.ctl.ghost_name) (λ d. d.lib) (λ d a t d' h. h) desk.result
-    (subst (λ (x : Controller). OnTree x.state) (sym desk.ensures.ctl) now)
 
 pub returns-clause-turn : goal.returns-clause-turn
 returns-clause-turn c =

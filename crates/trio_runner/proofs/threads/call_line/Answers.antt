@@ -1,19 +1,14 @@
-use Rattle.std.proofs.Common.{sym, subst, ap, ◌∙◌}
+use Rattle.std.proofs.Common.{sym, subst, ◌∙◌}
 use Rattle.trio_edit_laws.specs.Calls.{MayCall}
 use Rattle.trio_turn.specs.declared.seat.LibSeat.{LibSeat}
 use Rattle.trio_shared.specs.declared.held.Held.{Held}
 use Rattle.trio_shared.specs.Seats.{desk}
 use Rattle.trio_runner.proofs.Calling.{on_ok}
-use Rattle.trio_runner.proofs.Going.{honest_same, honest_went, left_of, stands_on_tree}
+use Rattle.trio_runner.proofs.Going.{honest_same, honest_went, left_of}
 use Rattle.trio_runner.proofs.threads.call_line.Goals as goal
 
 pub play_honest-requires-clause-may : goal.play_honest-requires-clause-may
 play_honest-requires-clause-may g c = subst (λ (s : LibSeat Held). MayCall (desk s) c.args.session.now) (sym c.of-desk.ensures.seat) c.requires.may
-
-pub play_honest-requires-clause-tree : goal.play_honest-requires-clause-tree
-play_honest-requires-clause-tree g c =
-    stands_on_tree _ (λ d. d.shared.now) (λ d. d.seat.now) (λ d. d.seat.ghost_name) (λ d a t d' h. h) c.desk_is_left.ensures.law c.others_leave.ensures.law
-    c.of-desk.result c.args.shared.now c.args.seat.now c.of-desk.ensures.seat c.requires.sits
 
 pub returns-clause-went : goal.returns-clause-went
 returns-clause-went g c =

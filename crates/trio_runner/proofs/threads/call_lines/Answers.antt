@@ -1,4 +1,4 @@
-use Rattle.std.proofs.Common.{map, refl, subst, ap}
+use Rattle.std.proofs.Common.{map, refl, subst}
 use Rattle.std.proofs.lemmas.Option.{slice_get_read}
 use Rattle.trio_runner.proofs.Seats.{line_within}
 use Rattle.std.proofs.lemmas.List.{take_all}

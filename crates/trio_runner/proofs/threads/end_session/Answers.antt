@@ -1,4 +1,4 @@
-use Rattle.std.proofs.Common.{sym, subst, ap, ◌∙◌}
+use Rattle.std.proofs.Common.{sym, subst, ◌∙◌}
 use Rattle.trio_edit_laws.specs.Calls.{MayCall}
 use Rattle.trio_turn.specs.declared.seat.LibSeat.{LibSeat}
 use Rattle.trio_shared.specs.declared.held.Held.{Held}

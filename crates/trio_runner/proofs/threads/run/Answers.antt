@@ -1,4 +1,3 @@
-use Rattle.std.proofs.Common.{arith}
 use Rattle.trio_runner.proofs.Closing.{HasStarted, all_arrive, end_every, end_first, end_idle, end_seats, script_ran}
 use Rattle.trio_runner.proofs.threads.run.Goals as goal
 

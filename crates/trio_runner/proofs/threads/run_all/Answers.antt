@@ -1,4 +1,4 @@
-use Rattle.std.proofs.Common.{◌≡◌, ◌∷◌, [], length, refl, arith}
+use Rattle.std.proofs.Common.{◌∷◌, [], length, refl, arith}
 use Rattle.std.proofs.lemmas.Option.{slice_get_read}
 use mir.Syntax.{named}
 use denote.Param.Send.{param_sync, sendable, shr_slice_sync, shr_sync}

@@ -1,8 +1,13 @@
 use Rattle.std.proofs.Common.{◌-◌, ap, get_or, subst, ◌∙◌}
 use Rattle.trio_runner.specs.Play.{Heard}
 use Rattle.trio_runner.specs.inner.Threads.{WentThrough}
-use Rattle.trio_runner.proofs.Beginning.{ran_all, seat_script}
+use Rattle.trio_runner.proofs.Beginning.{ran_all, seat_creds, seat_script}
 use Rattle.trio_runner.proofs.threads.run_lib.Goals as goal
+
+pub run_script-requires-clause-creds : goal.run_script-requires-clause-creds
+run_script-requires-clause-creds g c =
+    let l = c.index-libs-library.result in
+    seat_creds c.args.shared.now c.args.libs.now c.args.seat c.requires.arrives l (c.index-libs-library.is ∙ ap (λ n. get_or c.args.libs.now (n - 1) l) c.library.ensures)
 
 pub returns-in-Ok : goal.returns-in-Ok
 returns-in-Ok g c =

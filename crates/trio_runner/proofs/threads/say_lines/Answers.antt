@@ -1,4 +1,4 @@
-use Rattle.std.proofs.Common.{map, subst, ap}
+use Rattle.std.proofs.Common.{map, subst}
 use Rattle.std.proofs.lemmas.List.{take_all}
 use Rattle.trio_runner.specs.Play.{Things}
 use Rattle.trio_runner.specs.Rounds.{Says}
