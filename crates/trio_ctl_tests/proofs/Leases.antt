@@ -23,7 +23,10 @@ use Rattle.trio_case.specs.Cases.{CaseShown}
 use Rattle.trio_ctl.proofs.Given.{granted_is_lent}
 use Rattle.trio_ctl.specs.Answers.{grant_answer}
 use Rattle.trio_open.specs.Open.{lent_by}
-use Rattle.trio_ctl.specs.HandedIn.{WasLentAs, WereLent, WereLentOrTouched}
+use Rattle.trio_nodes.specs.declared.entry.HandedFile.{HandedFile}
+use Rattle.trio_nodes.specs.declared.entry.HandedPage.{HandedPage}
+use Rattle.trio_entries.specs.Handed.{block_in, file_in, handed_in}
+use Rattle.trio_ctl.specs.HandedIn.{AreMarked, WasLentAs, WereLent}
 use Rattle.trio_ctl_tests.specs.Leases.{AreAllTouched, AreLentAlike}
 
 -- what was marked whole is touched
@@ -34,11 +37,11 @@ all_are_touched files f i p at =
     let page = map-In as_touched p file.0.stands.blocks (subst (λ (l : List LentPage). In p l) blocks at) in
     ap (λ (x : LentPage). x.touched) page.2
 
-pub touched_will_do : (s : State) (lib : ℕ) (files : List LentFile) → AreAllTouched files → WereLentOrTouched s lib files
-touched_will_do s lib files touched f i = inr (touched f i)
-
-pub lent_will_do : (s : State) (lib : ℕ) (files : List LentFile) → WereLent s lib files → WereLentOrTouched s lib files
-lent_will_do s lib files lent f i = inl (lent f i)
+pub touched_will_do : (s : State) (lib : ℕ) (b : Bundled) → AreAllTouched b.writes → AreMarked s lib (handed_in b)
+touched_will_do s lib b touched w g p there is_open mine write same at =
+    let f = map-In (λ (x : LentFile). file_in x.stands) w b.writes there in
+    let q = map-In block_in p f.0.stands.blocks (subst (λ (x : HandedFile). In p x.blocks) f.2 at) in
+    inl (ap (λ (x : HandedPage). x.touched) q.2 ∙ touched f.0 f.1 q.0 q.1)
 
 -- what was lent to these was lent to leases that show the same
 pub lent_alike : (s : State) (lib : ℕ) (files others : List LentFile) → AreLentAlike files others → WereLent s lib others → WereLent s lib files

@@ -1,8 +1,12 @@
 -- What two bundles' write leases have in common, and which of their blocks are marked.
-use Rattle.std.specs.Prelude.{◌≡◌, List}
+use Rattle.std.specs.Prelude.{◌≡◌, List, true}
 use Rattle.trio_lease.specs.Shown.{LentFile}
 use Rattle.trio_lists.specs.Lists.{In}
-use Rattle.trio_ctl.specs.HandedIn.{AreTouched}
+use Rattle.trio_lease.specs.declared.parts.LentPage.{LentPage}
+
+-- each of these blocks is marked as touched
+abbrev pub AreTouched : List LentPage → Type 0
+AreTouched blocks = (p : LentPage) → In p blocks → p.touched ≡ true
 
 -- each block of each of these leases is marked as touched
 abbrev pub AreAllTouched : List LentFile → Type 0

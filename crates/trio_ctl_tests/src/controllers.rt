@@ -20,8 +20,17 @@ pub fn started(alloc: Global, start: Start, uid: u32) -> Option<Ctl>
     ensures idle { IfSome result NoneBegun }
     ensures nothing { IfSome result (λ ctl. OutAlike (out_of ctl.state (record { 0 = 1 })) nothing_out) }
 {
-    let libs = vec![in alloc; Creds { uid, gid: 0 }, Creds { uid: 0, gid: 0 }].ok()?;
     let image = start_image(alloc, start)?;
+    started_on(alloc, image, uid)
+}
+
+/// The same over this image.
+pub fn started_on(alloc: Global, image: Image, uid: u32) -> Option<Ctl>
+    ensures two { IfSome result (λ ctl. length ctl.state.creds ≡ 2) }
+    ensures idle { IfSome result NoneBegun }
+    ensures nothing { IfSome result (λ ctl. OutAlike (out_of ctl.state (record { 0 = 1 })) nothing_out) }
+{
+    let libs = vec![in alloc; Creds { uid, gid: 0 }, Creds { uid: 0, gid: 0 }].ok()?;
     start_with(alloc, image, libs)
 }
 

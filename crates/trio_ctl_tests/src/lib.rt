@@ -15,6 +15,8 @@ mod lines;
 #[cfg(test)]
 mod logs;
 #[cfg(test)]
+mod looks;
+#[cfg(test)]
 mod moves;
 #[cfg(test)]
 mod noting;

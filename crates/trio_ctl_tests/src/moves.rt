@@ -2,12 +2,14 @@
 
 ghost use Rattle.std.specs.Prelude.{◌≡◌, ◌∷◌, [], IfSome, IsTrue, Ok, length};
 ghost use Rattle.trio_lease.specs.declared.lease.Lease.TheVariants.{Write};
-ghost use Rattle.trio_ctl.specs.HandedIn.{WasLentAs, WereLent, WereLentOrTouched};
+ghost use Rattle.trio_ctl.specs.HandedIn.{AreMarked, WasLentAs, WereLent};
+ghost use Rattle.trio_entries.specs.Handed.{handed_in};
 ghost use Rattle.trio_ctl_tests.specs.Leases.{AreAllTouched, AreLentAlike};
 
 use crate::controllers::{Trial, allotted, asked, lent, passes, started, stores};
 use crate::images::Start;
 use std::alloc::Global;
+use trio_ctl::desk_laws::lent_is_marked;
 use trio_ctl::{Ctl, Judged, Pending, copied};
 use trio_image::Counts;
 use trio_lease::{Allotted, Bundle, HoldLease, Lease, WriteLease};
@@ -232,7 +234,7 @@ fn weighed(pending: Pending) -> Judged
 
 // What a release is told at its end, where it is awaited.
 fn ended(ctl: &mut Ctl, judged: Judged) -> Option<ReleaseAnswer>
-    requires { WereLentOrTouched ctl.old.state judged.case.lib.0 judged.case.bundle.writes }
+    requires { AreMarked ctl.old.state judged.case.lib.0 (handed_in judged.case.bundle) }
 {
     if ctl.awaits(&judged) {
         Some(ctl.finish(judged, &mut Reads::new()))
@@ -335,14 +337,14 @@ fn write_lease(lease: Lease) -> Option<WriteLease>
     }
 }
 
-// The file `f`, lent to the first library for writing.
-fn lent_file(ctl: &mut Ctl) -> Option<WriteLease>
+// A file, lent to the first library for writing.
+fn lent_file(ctl: &mut Ctl, ino: u32) -> Option<WriteLease>
     requires { length ctl.old.state.creds ≡ 2 }
     ensures two { length ctl.new.state.creds ≡ 2 }
     ensures lent { IfSome result (WasLentAs ctl.new.state 1) }
 {
     if ctl.idle(LibNo(1)) {
-        written(ctl.grant(LibNo(1), 3, GrantKind::Write))
+        written(ctl.grant(LibNo(1), ino, GrantKind::Write))
     } else {
         None
     }
@@ -350,7 +352,8 @@ fn lent_file(ctl: &mut Ctl) -> Option<WriteLease>
 
 // The lease alone, as a bundle.
 fn bundled(alloc: Global, lease: WriteLease) -> Option<Bundle>
-    ensures { IfSome result (λ bundle. bundle.writes ≡ lease ∷ []) }
+    ensures writes { IfSome result (λ bundle. bundle.writes ≡ lease ∷ []) }
+    ensures holds { IfSome result (λ bundle. bundle.holds ≡ []) }
 {
     let mut bundle = Bundle::new(alloc);
     match bundle.add_write(lease) {
@@ -369,7 +372,17 @@ pub fn taken_file(alloc: Global, ctl: &mut Ctl) -> Option<Bundle>
     ensures two { length ctl.new.state.creds ≡ 2 }
     ensures lent { IfSome result (λ bundle. WereLent ctl.new.state 1 bundle.writes) }
 {
-    let lease = lent_file(ctl)?;
+    taken(alloc, ctl, 3)
+}
+
+/// The file of this number, lent to the first library for writing, as a bundle.
+pub fn taken(alloc: Global, ctl: &mut Ctl, ino: u32) -> Option<Bundle>
+    requires { length ctl.old.state.creds ≡ 2 }
+    ensures two { length ctl.new.state.creds ≡ 2 }
+    ensures lent { IfSome result (λ bundle. WereLent ctl.new.state 1 bundle.writes) }
+    ensures holds { IfSome result (λ bundle. bundle.holds ≡ []) }
+{
+    let lease = lent_file(ctl, ino)?;
     bundled(alloc, lease)
 }
 
@@ -430,7 +443,12 @@ fn is_unlisted_refused(alloc: Global, ctl: &mut Ctl) -> bool
     requires { length ctl.old.state.creds ≡ 2 }
 {
     match judged_unlisted(alloc, ctl) {
-        Some(judged) => is_told(ended(ctl, judged), Some(1)),
+        Some(judged) => {
+            lent_is_marked();
+            ctl.is_recorded();
+            judged.keeps_untouched();
+            is_told(ended(ctl, judged), Some(1))
+        }
         None => false,
     }
 }

@@ -1,12 +1,16 @@
 -- The calls that a call of an honest library makes at its desk, one after another.
 use Rattle.std.proofs.Common.{[], ◌∷◌, ◌++◌, refl}
 use Rattle.trio_rights.specs.declared.rights.Mode.{Mode}
+use Rattle.trio_nodes.specs.declared.call.Call.{Call}
+use Rattle.trio_nodes.specs.declared.call.Call.TheVariants.{Chmod}
 use Rattle.trio_nodes.specs.Walk.{Path}
 use Rattle.trio_desk.specs.Call.{Ask, DeskSeen, Settle, Told, Settled, NotSettled}
 use Rattle.trio_session.specs.Seen.{SessionSeen}
 use Rattle.trio_walk.specs.Asks.{Called, IsUnsettled, Settles, Once, Unsettled, Again, GivesUp, LeftOut}
 use Rattle.trio_walk.specs.declared.outcome.Outcome.{Outcome}
 use Rattle.trio_calls_file.proofs.AfterTaking.{calls_then}
+use Rattle.trio_calls_dir.specs.Asks.{DirTried}
+use Rattle.trio_calls_dir.specs.Dir.{DirCalled}
 use Rattle.trio_calls_dir.specs.Chmods.{Begun, ChmodCalled, ChmodTried, Unbegun}
 use Rattle.trio_session_tests.specs.Turns.{SomeCalls}
 
@@ -35,8 +39,13 @@ module _ {D : Type 0} (called : D → Ask → Told → D → Type 0) where
         (joined d2 d3 d' (tried d2 d3 s2 s3 _ v) (unsettled_calls d3 d' s3 s' w))
 
   -- and those of a change of mode
-  pub mode_calls : (seen : D → DeskSeen) (path : Path) (mode : Mode) (d d' : D) (s s' : SessionSeen) (end : Outcome) → ChmodCalled called seen d s path mode end d' s' → SomeCalls called d d'
+  mode_calls : (seen : D → DeskSeen) (path : Path) (mode : Mode) (d d' : D) (s s' : SessionSeen) (end : Outcome) → ChmodCalled called seen d s path mode end d' s' → SomeCalls called d d'
   mode_calls seen path mode d d' s s' end (Unbegun none u) = unsettled_calls d d' s s' u
   mode_calls seen path mode d d' s s' end (Begun d1 s1 t u) =
       joined d d1 d' (settle_calls d d1 s s1 t)
       (calls_made (ChmodTried called seen path mode) (λ e e' x x' ends y. ((y.given ++ y.ungiven) ++ y.last, y.made)) d1 d' s1 s' end u)
+
+  -- and those of any call on a directory or on a mode
+  pub dir_calls : (seen : D → DeskSeen) (call : Call) (d d' : D) (s s' : SessionSeen) (end : Outcome) → DirCalled called seen d s call end d' s' → SomeCalls called d d'
+  dir_calls seen (Chmod path mode) d d' s s' end c = mode_calls seen path mode d d' s s' end c
+  dir_calls seen call d d' s s' end c = calls_made (DirTried called seen call) (λ e e' x x' ends t. (t.1.given ++ t.1.last, t.1.made)) d d' s s' end c

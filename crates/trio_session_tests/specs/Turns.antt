@@ -1,15 +1,15 @@
 -- Sessions of two libraries at desks of one controller, in turns.
-use Rattle.std.specs.Prelude.{◌≡◌, ◌≤◌, Bool, true, false, List, None}
+use Rattle.std.specs.Prelude.{◌≡◌, Bool, true, false, List, None}
 use Rattle.trio_rights.specs.declared.rights.LibNo.{LibNo}
 use Rattle.trio_nodes.specs.declared.call.Call as call
-use Rattle.trio_nodes.specs.declared.call.Call.TheVariants.{Write, Read, Truncate, Stat, Chmod}
+use Rattle.trio_nodes.specs.declared.call.Call.TheVariants.{Write, Read, Truncate, Stat}
 use Rattle.trio_desk.specs.Call.{Ask, Told}
 use Rattle.trio_desk.specs.Calls.{Call, Calls}
 use Rattle.trio_state.specs.Moves.{Underway, begun_by}
 use Rattle.trio_session.specs.Seen.{SessionSeen}
 use Rattle.trio_edit_laws.specs.Calls.{MayCall}
 use Rattle.trio_calls_file.specs.Asks.{IsFileCall}
-use Rattle.trio_calls_dir.specs.Asks.{IsDirCall}
+use Rattle.trio_calls_dir.specs.Dir.{IsDirCall}
 use Rattle.trio_ctl.specs.Ctl.{IsLibrary}
 use Rattle.trio_ctl.specs.Desk.{desk_of}
 
@@ -17,7 +17,7 @@ use Rattle.trio_ctl.specs.Desk.{desk_of}
 abbrev pub first_lib : LibNo
 first_lib = record { 0 = 1 }
 
--- a call on a file
+-- a call on a file; the others are on directories and on modes
 abbrev pub is_of_file : call.Call → Bool
 is_of_file (Write path at bytes) = true
 is_of_file (Read path at len) = true
@@ -25,24 +25,13 @@ is_of_file (Truncate path size) = true
 is_of_file (Stat path) = true
 is_of_file k = false
 
--- a change of mode; the others are on directories
-abbrev pub is_of_mode : call.Call → Bool
-is_of_mode (Chmod path mode) = true
-is_of_mode k = false
-
--- it changes to a mode of nine bits
-abbrev pub IsModeCall : call.Call → Type 0
-IsModeCall (Chmod path mode) = mode.0 ≤ 511
-IsModeCall k = ⊥
-
 -- a call that an honest library makes
-abbrev pub IsCallOf : Bool → Bool → call.Call → Type 0
-IsCallOf true mode k = IsFileCall k
-IsCallOf false true k = IsModeCall k
-IsCallOf false false k = IsDirCall k
+abbrev pub IsCallOf : Bool → call.Call → Type 0
+IsCallOf true k = IsFileCall k
+IsCallOf false k = IsDirCall k
 
 abbrev pub IsCall : call.Call → Type 0
-IsCall k = IsCallOf (is_of_file k) (is_of_mode k) k
+IsCall k = IsCallOf (is_of_file k) k
 
 -- a library may go on with its session: it is idle
 pub record MayPlay (u : Underway) (lib : LibNo) (session : SessionSeen) : Type 0 where

@@ -3,7 +3,7 @@
 
 ghost use Rattle.std.specs.Prelude.{◌≡◌, IfSome, length};
 ghost use Rattle.trio_edit_laws.specs.Calls.{MayCall};
-ghost use Rattle.trio_calls_dir.specs.Asks.{IsDirCall};
+ghost use Rattle.trio_calls_dir.specs.Dir.{IsDirCall};
 ghost use Rattle.trio_calls_file.specs.Asks.{IsFileCall};
 ghost use Rattle.trio_ctl.specs.Ctl.{NoneBegun};
 ghost use Rattle.trio_session_tests.specs.Begins.{MayBegin, NothingIsOut, second_lib};

@@ -2,16 +2,15 @@
 
 ghost use Rattle.std.specs.Prelude.{◌≡◌, ◌≢◌, ◌≤◌, IfSome, length};
 ghost use Rattle.trio_edit_laws.specs.Calls.{MayCall};
-ghost use Rattle.trio_calls_dir.specs.Chmods.{StandsOnTree};
 ghost use Rattle.trio_ctl.specs.Ctl.{underway_of};
 ghost use Rattle.trio_session_tests.specs.Begins.{MayBegin, NothingIsOut, second_lib};
-ghost use Rattle.trio_session_tests.specs.Turns.{IsCall, IsModeCall, IsTurn, MayPlay, SomeCalls, first_lib, is_of_file, is_of_mode};
+ghost use Rattle.trio_session_tests.specs.Turns.{IsCall, IsTurn, MayPlay, SomeCalls, first_lib, is_of_file};
 
 use crate::desks::{holder_in, list, started, write};
 use crate::images::Start;
 use crate::random::{PATHS, Random};
 use std::alloc::Global;
-use trio_calls_dir::{chmod, dir_call};
+use trio_calls_dir::dir_call;
 use trio_calls_file::file_call;
 use trio_ctl::{Ctl, PlainDesk};
 use trio_desk::Desk;
@@ -42,38 +41,21 @@ fn makes(alloc: Global, ctl: &mut Ctl, lib: LibNo, session: &mut Session, call: 
 {
     ctl.is_recorded();
     ctl.is_as_told();
-    ctl.is_as_lent();
     let mut desk = PlainDesk::of(ctl, lib);
     any_call(alloc, session, &mut desk, call)
 }
 
-// A call on a file, a change of mode, or a call on a directory.
+// A call on a file, or one on a directory or on a mode.
 fn any_call<D: Desk>(alloc: Global, session: &mut Session, desk: &mut D, call: Call) -> Outcome
     requires may { MayCall (D.seen desk.old) session.old }
     requires call { IsCall call }
-    requires tree { StandsOnTree D.called D.seen desk.old }
     ensures may { MayCall (D.seen desk.new) session.new }
     ensures called { SomeCalls D.called desk.old desk.new }
 {
     if is_of_file(&call) {
         file_call(alloc, session, desk, call)
-    } else if is_of_mode(&call) {
-        mode_call(alloc, session, desk, call)
     } else {
         dir_call(alloc, session, desk, call)
-    }
-}
-
-fn mode_call<D: Desk>(alloc: Global, session: &mut Session, desk: &mut D, call: Call) -> Outcome
-    requires may { MayCall (D.seen desk.old) session.old }
-    requires call { IsModeCall call }
-    requires tree { StandsOnTree D.called D.seen desk.old }
-    ensures may { MayCall (D.seen desk.new) session.new }
-    ensures called { SomeCalls D.called desk.old desk.new }
-{
-    match call {
-        Call::Chmod { path, mode } => chmod(alloc, session, desk, path, mode),
-        _ => unreachable!(),
     }
 }
 
@@ -84,12 +66,6 @@ fn is_of_file(call: &Call) -> bool
         call,
         Call::Write { .. } | Call::Read { .. } | Call::Truncate { .. } | Call::Stat { .. }
     )
-}
-
-fn is_of_mode(call: &Call) -> bool
-    ensures { result ≡ is_of_mode call.now }
-{
-    matches!(call, Call::Chmod { .. })
 }
 
 // A call of one library beside the session of another.

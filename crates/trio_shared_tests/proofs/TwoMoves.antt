@@ -1,8 +1,9 @@
 -- A file that is handed in in two moves.
-use Rattle.std.proofs.Common.{◌≡◌, ℕ, [], ◌∷◌, Option, Some, None, Result, Ok, Err, IfOk, IfSome, refl, sym, subst, inl}
+use Rattle.std.proofs.Common.{◌≡◌, ℕ, [], ◌∷◌, Option, Some, None, Result, Ok, Err, IfOk, IfSome, refl, sym, subst}
 use Rattle.trio_rights.specs.declared.rights.LibNo.{LibNo}
 use Rattle.trio_lease.specs.Bundles.{Bundled}
-use Rattle.trio_lease.specs.Shown.{LentFile}
+use Rattle.trio_lists.specs.Lists.{In}
+use Rattle.trio_lease.specs.Shown.{KeepsUntouched, LentFile}
 use Rattle.trio_lease.specs.declared.lease.Lease.TheVariants.{Write}
 use Rattle.trio_desk.specs.Call.{DeskSeen}
 use Rattle.trio_desk.specs.Contents.{Sizes}
@@ -11,7 +12,9 @@ use Rattle.trio_case.specs.Cases.{CaseShown}
 use Rattle.trio_raw.specs.Has.{OnList, keeps_lease, nothing}
 use Rattle.trio_raw.proofs.Standing.{stands-lease, stands_alike, whole-given}
 use Rattle.trio_state.specs.State.{State}
-use Rattle.trio_ctl.specs.HandedIn.{WereLentOrTouched}
+use Rattle.trio_entries.specs.Handed.{handed_in}
+use Rattle.trio_ctl.specs.HandedIn.{AreMarked}
+use Rattle.trio_ctl.specs.DeskLaws.{LentIsMarked}
 use Rattle.trio_ctl.proofs.DeskGiven.{were_lent}
 use Rattle.trio_shared.specs.Laws.{DeskIsLeft}
 use Rattle.trio_shared.specs.Left.{desk_left}
@@ -47,12 +50,12 @@ given_alone lib ino sizes out out' f (Some b) fresh alike is =
     (stands_alike out' (with_lease out (Write f)) (keeps_lease nothing (Write f)) alike (stands-lease lib ino sizes out nothing (Write f) (nothing_on_list out) fresh)))
 
 -- what a library has out shows as lent what its grants lent, in the state that its history leaves
-pub may_end : DeskIsLeft → (old new : Seated) (b : Bundled) (k : CaseShown) (Told : State → Type 0) → Looks old Told new → WasGiven (desk_left new.first new.seen new.lib).out (parcel_of b) → k.bundle ≡ b → MayEnd new k
-may_end law old new b k Told l given same = record {
+pub may_end : DeskIsLeft → LentIsMarked → (old new : Seated) (b : Bundled) (k : CaseShown) (Told : State → Type 0) → Looks old Told new → WasGiven (desk_left new.first new.seen new.lib).out (parcel_of b) → ((f : LentFile) → In f b.writes → KeepsUntouched f) → k.bundle ≡ b → MayEnd new k
+may_end law marks old new b k Told l given keeps same = record {
   state = l.after;
   left = l.left;
-  lent = subst (λ (x : Bundled). WereLentOrTouched l.after new.lib.0 x.writes) (sym same)
-      (λ f i. inl (were_lent l.after new.lib (parcel_of b) (subst (λ (d : DeskSeen). WasGiven d.out (parcel_of b)) (sym (law new.first new.seen l.after new.lib l.left)) given) f i));
+  marked = subst (λ (x : Bundled). AreMarked l.after new.lib.0 (handed_in x)) (sym same)
+      (marks l.after new.lib.0 b l.left.all.kept (were_lent l.after new.lib (parcel_of b) (subst (λ (d : DeskSeen). WasGiven d.out (parcel_of b)) (sym (law new.first new.seen l.after new.lib l.left)) given)) keeps);
 }
 
 -- the case that a release begins with has its bundle

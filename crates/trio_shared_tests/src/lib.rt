@@ -9,8 +9,6 @@ mod images;
 #[cfg(test)]
 mod moves;
 #[cfg(test)]
-mod patient;
-#[cfg(test)]
 mod replays;
 #[cfg(test)]
 mod rows;

@@ -12,6 +12,7 @@ use std::alloc::Global;
 use std::sync::Wait;
 use std::test::Fail;
 use trio_ctl::Pending;
+use trio_ctl::desk_laws::lent_is_marked;
 use trio_lease::{Bundle, Lease, WriteLease};
 use trio_nodes::{GrantKind, ReleaseAnswer};
 use trio_page::Reads;
@@ -68,6 +69,8 @@ fn begins<R: Wait>(rt: &R, shared: &Shared, seat: &mut LibSeat, bundle: Bundle) 
     ensures may { IfSome result (λ p. MayEnd (seated seat.new) p) }
 {
     desk_is_left();
+    lent_is_marked();
+    bundle.keeps_untouched();
     match shared.begin(rt, seat, bundle) {
         Ok(pending) => Some(pending),
         Err((bundle, _)) => {

@@ -5,7 +5,6 @@ ghost use Rattle.std.specs.Prelude.{◌≤◌, length};
 ghost use Rattle.trio_script.specs.Within.{AreWithin};
 
 use crate::images::{owned_bytes, owned_files, two_directories};
-use crate::patient::PatientGate;
 use crate::replays::is_replayed;
 use std::alloc::Global;
 use std::sync::Wait;
@@ -13,7 +12,7 @@ use std::test::Fail;
 use std::thread::Threads;
 use trio_ctl::Ctl;
 use trio_image::Image;
-use trio_io::{Gate, GateStop, OpenGate};
+use trio_io::{Gate, GateStop, HoldGate, OpenGate};
 use trio_report::{put_answer, put_end};
 use trio_rights::LibNo;
 use trio_runner::{LibTold, creds_of, play, run};
@@ -219,6 +218,9 @@ pub fn is_run_so<R: Threads + Wait + Sync, G: Gate + Sync>(
     }
 }
 
+// How often a library looks that is held.
+const LOOKS: u64 = 1_000_000;
+
 // Whether it does, and one who is held at a stop sees the other arrive at its own.
 fn is_held_so<R: Threads + Wait + Sync>(
     rt: &R,
@@ -227,7 +229,7 @@ fn is_held_so<R: Threads + Wait + Sync>(
     held: GateStop,
     awaited: GateStop,
 ) -> Option<bool> {
-    let gate = PatientGate::new(held, awaited);
+    let gate = HoldGate::new(held, awaited, LOOKS);
     let is_so = is_run_so(rt, alloc, case, &gate)?;
     Some(is_so && gate.has_met())
 }

@@ -1,16 +1,8 @@
 use Rattle.std.proofs.Common.{◌∙◌, subst, sym}
 use Rattle.trio_ctl.specs.Ctl.{Controller}
-use Rattle.trio_runner.proofs.OnTree.{OnTree, stands_on_tree}
 use Rattle.trio_runner.proofs.Moves.{Stands}
 use Rattle.trio_session_tests.proofs.InTurns.{calls_turn, goes_on, recorded_stands, turn_taken}
 use Rattle.trio_session_tests.proofs.turns.makes.Goals as goal
-
-pub any_call-requires-clause-tree : goal.any_call-requires-clause-tree
-any_call-requires-clause-tree c =
-    let desk = c.of-desk in
-    let now : OnTree c.args.ctl.now.state = record { stands = recorded_stands c.args.ctl.now.first c.args.ctl.now c.is_recorded.ensures c.is_as_told.ensures; lent = c.is_as_lent.ensures } in
-    stands_on_tree _ (λ d. d.ctl.now) (λ d. d.ctl.ghost_name) (λ d. d.lib) (λ d a t d' h. h) desk.result
-    (subst (λ (x : Controller). OnTree x.state) (sym desk.ensures.ctl) now)
 
 pub returns : goal.returns
 returns c =
