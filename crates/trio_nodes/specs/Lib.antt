@@ -1,6 +1,7 @@
 pub mod GrantKinds
 pub mod Nodes
 pub mod Found
+pub mod Handed
 pub mod Tree
 pub mod Walk
 pub mod Apply

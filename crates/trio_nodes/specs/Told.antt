@@ -1,10 +1,8 @@
 -- The data blocks that a release tells, and the pages that were handed in for them.
 use Rattle.std.specs.Prelude.{ℕ, List, [], Option, slice_get}
-use Rattle.std.specs.Option.{option_and_then, option_map_or}
-use Rattle.trio_nodes.specs.declared.entry.Handed.{Handed}
+use Rattle.std.specs.Option.{option_map_or}
+use Rattle.trio_nodes.specs.Handed.{Handed, all_pages}
 use Rattle.trio_nodes.specs.declared.entry.HandedPage.{HandedPage}
-use Rattle.trio_nodes.specs.declared.raw.HandedPlace.{HandedPlace}
-use Rattle.trio_nodes.specs.declared.raw.HandedPlace.TheVariants.{Index, Block, Fresh}
 use Rattle.trio_nodes.specs.declared.raw.PlacedBlock.{PlacedBlock}
 use Rattle.trio_nodes.specs.declared.raw.RawBlock.{RawBlock}
 
@@ -19,11 +17,9 @@ pub record ToldBundle : Type 0 where
   pub handed : Handed
   pub blocks : List ToldBlock
 
--- the page at a place of what was handed in
-abbrev pub page_in : Handed → HandedPlace → Option HandedPage
-page_in h (Index file at) = option_and_then (λ w. slice_get w.index at) (slice_get h.writes file)
-page_in h (Block file at) = option_and_then (λ w. slice_get w.blocks at) (slice_get h.writes file)
-page_in h (Fresh at) = slice_get h.pages at
+-- the page at a place of all that were handed in
+abbrev pub page_in : Handed → ℕ → Option HandedPage
+page_in h place = slice_get (all_pages h) place
 
 -- a block with the bytes of its page; with none where there is no page
 abbrev pub block_in : Handed → PlacedBlock → ToldBlock

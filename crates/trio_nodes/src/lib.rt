@@ -22,12 +22,12 @@ mod spot;
 
 pub use answers::{AllotFault, GrantFault, ModeFault, ReleaseAnswer, ReleaseFault};
 pub use call::{Answer, Call, Done, Reply};
-pub use entry::{AllotAnswer, Entry, GrantAnswer, Handed, HandedFile, HandedPage, RawFile};
+pub use entry::{AllotAnswer, Entry, GrantAnswer, Handed, HandedHead, HandedPage, RawFile};
 pub use grant::{GrantKind, Holder};
 pub use list::{Bytes, List};
 pub use node::{Node, Nodes};
 pub use note::Note;
-pub use raw::{HandedPlace, PlacedBlock, RawBlock, RawBundle};
+pub use raw::{PlacedBlock, RawBlock, RawBundle};
 pub use shared::SharedBytes;
 pub use spot::Spot;
 /// Want of memory: the answer of a call that asks for memory and finds none.

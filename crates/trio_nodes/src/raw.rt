@@ -1,22 +1,11 @@
 //! What a release handed in, with the data blocks that it tells.
 
 ghost use Rattle.std.specs.Prelude.{◌≡◌, length, map, slice_get};
-ghost use Rattle.std.specs.Option.{option_copied, option_map};
-ghost use Rattle.trio_nodes.specs.Told.{block_in, block_told, page_in};
+ghost use Rattle.std.specs.Option.{option_map};
+ghost use Rattle.trio_nodes.specs.Told.{block_in, block_told};
 
-use crate::entry::{Handed, HandedPage};
+use crate::entry::Handed;
 use std::marker::Model;
-
-/// Where a page stands in what was handed in, all counted from 0.
-#[derive(Clone, Copy)]
-pub enum HandedPlace {
-    /// An index page of a written file: which file, and which page.
-    Index(usize, usize),
-    /// A block of a written file: which file, and which page.
-    Block(usize, usize),
-    /// A page that was allotted.
-    Fresh(usize),
-}
 
 /// A data block that a release tells, by the page that was handed in for it.
 #[derive(Clone, Copy)]
@@ -25,7 +14,8 @@ pub struct PlacedBlock {
     pub ino: u32,
     /// Its position in the file, counted from 0.
     pub at: u32,
-    pub place: HandedPlace,
+    /// Where its page stands among all that were handed in ([`Handed::pages`]), counted from 0.
+    pub place: usize,
 }
 
 /// A data block of a release: block `at` of a regular file, counted from 0.
@@ -91,7 +81,7 @@ impl RawBundle {
         ensures { option_map block_told result ≡ slice_get self.now.blocks i }
     {
         let block = self.blocks.get(i)?;
-        let bytes: &[u8] = match page_at(&self.handed, block.place) {
+        let bytes: &[u8] = match self.handed.pages().get(block.place) {
             Some(page) => page.bytes.as_slice(),
             None => &[],
         };
@@ -100,28 +90,5 @@ impl RawBundle {
             at: block.at,
             bytes,
         })
-    }
-}
-
-/// The page at a place; `None` exactly where there is none.
-fn page_at(handed: &Handed, place: HandedPlace) -> Option<&HandedPage>
-    ensures { option_copied result ≡ page_in handed.now place }
-{
-    match place {
-        HandedPlace::Index(file, at) => handed
-            .writes
-            .as_slice()
-            .get(file)?
-            .index
-            .as_slice()
-            .get(at),
-        HandedPlace::Block(file, at) => handed
-            .writes
-            .as_slice()
-            .get(file)?
-            .blocks
-            .as_slice()
-            .get(at),
-        HandedPlace::Fresh(at) => handed.pages.as_slice().get(at),
     }
 }

@@ -20,7 +20,7 @@ use Rattle.trio_layout.specs.Edges.{is_listed}
 use Rattle.trio_layout.specs.Listing.{Listing, ListedEntry}
 use Rattle.trio_layout.specs.Tables.{row_after}
 use Rattle.trio_nodes.specs.declared.note.Note.{Note}
-use Rattle.trio_nodes.specs.declared.entry.Handed.{Handed}
+use Rattle.trio_nodes.specs.Handed.{Handed}
 use Rattle.trio_nodes.specs.Told.{ToldBlock}
 use Rattle.trio_nodes.specs.declared.entry.RawFile.{RawFile}
 

@@ -5,8 +5,8 @@ use std::alloc::Global;
 use trio_log::{Log, replay};
 use trio_names::{Name, Path};
 use trio_nodes::{
-    Answer, Bytes, Call, Done, Entry, Handed, HandedPage, HandedPlace, List, ModeFault, Nodes,
-    PlacedBlock, RawBundle, RawFile, ReleaseAnswer, Reply,
+    Answer, Bytes, Call, Done, Entry, Handed, HandedPage, List, ModeFault, Nodes, PlacedBlock,
+    RawBundle, RawFile, ReleaseAnswer, Reply,
 };
 use trio_rights::{Creds, Kind, LibNo, Mode};
 
@@ -17,13 +17,8 @@ const TREE: &[Row] = &[
     (4, 2, b"g", Kind::Regular, 0o755, b"gone"),
 ];
 
-fn handed(alloc: Global, pages: List<HandedPage>) -> Handed {
-    Handed {
-        writes: List::new(alloc),
-        holds: List::new(alloc),
-        pages,
-        numbers: List::new(alloc),
-    }
+fn handed(alloc: Global, pages: Vec<HandedPage>) -> Handed {
+    Handed::of(Vec::new(alloc), Vec::new(alloc), pages, Vec::new(alloc))
 }
 
 // The pages that are handed in.
@@ -38,12 +33,12 @@ fn fresh_page(alloc: Global, no: u32, bytes: &[u8]) -> Option<HandedPage> {
     })
 }
 
-fn two_pages(alloc: Global) -> Option<List<HandedPage>> {
+fn two_pages(alloc: Global) -> Option<Vec<HandedPage>> {
     let mut pages = Vec::new(alloc);
     for (no, bytes) in PAGES {
         pages.push(fresh_page(alloc, *no, bytes)?).ok()?;
     }
-    Some(List::from_vec(pages))
+    Some(pages)
 }
 
 // The second page is block 1 of the file 3, the first one block 0 of the file 6.
@@ -51,12 +46,12 @@ const BLOCKS: &[PlacedBlock] = &[
     PlacedBlock {
         ino: 3,
         at: 1,
-        place: HandedPlace::Fresh(1),
+        place: 1,
     },
     PlacedBlock {
         ino: 6,
         at: 0,
-        place: HandedPlace::Fresh(0),
+        place: 0,
     },
 ];
 
@@ -133,7 +128,7 @@ fn settling(alloc: Global) -> Option<Entry> {
     Some(Entry::Batch {
         lib: LibNo(2),
         calls,
-        handed: handed(alloc, List::new(alloc)),
+        handed: handed(alloc, Vec::new(alloc)),
     })
 }
 

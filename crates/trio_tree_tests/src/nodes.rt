@@ -4,8 +4,7 @@ use crate::making::{Row, nodes_of, put};
 use std::alloc::Global;
 use trio_names::{Name, Path};
 use trio_nodes::{
-    Bytes, Handed, HandedFile, HandedPage, HandedPlace, List, Nodes, PlacedBlock, RawBundle,
-    SharedBytes,
+    Bytes, Handed, HandedHead, HandedPage, Nodes, PlacedBlock, RawBundle, SharedBytes,
 };
 use trio_rights::{Kind, Mode};
 
@@ -146,56 +145,45 @@ fn shared_bytes_outlive_those_that_they_came_from(rt: HostRuntime) {
     assert!(rt; has_moved(rt.alloc()) == Some(true));
 }
 
-/// A list of one page.
-fn page(alloc: Global, no: u32, bytes: &[u8]) -> Option<List<HandedPage>> {
+fn page(alloc: Global, no: u32, bytes: &[u8]) -> Option<HandedPage> {
     let bytes = Bytes::copied(alloc, bytes).ok()?;
-    let mut pages = Vec::new(alloc);
-    pages
-        .push(HandedPage {
-            no,
-            bytes,
-            touched: false,
-        })
-        .ok()?;
-    Some(List::from_vec(pages))
-}
-
-// one written file with an index page and a block
-fn written(alloc: Global) -> Option<List<HandedFile>> {
-    let index = page(alloc, 20, b"i")?;
-    let blocks = page(alloc, 30, b"b")?;
-    let mut files = Vec::new(alloc);
-    files
-        .push(HandedFile {
-            ino: 7,
-            kind: Kind::Regular,
-            body: [0; 64],
-            index,
-            blocks,
-        })
-        .ok()?;
-    Some(List::from_vec(files))
-}
-
-// a written file and an allotted page
-fn handed(alloc: Global) -> Option<Handed> {
-    let writes = written(alloc)?;
-    let pages = page(alloc, 40, b"f")?;
-    Some(Handed {
-        writes,
-        holds: List::new(alloc),
-        pages,
-        numbers: List::new(alloc),
+    Some(HandedPage {
+        no,
+        bytes,
+        touched: false,
     })
 }
 
-const PLACES: &[(HandedPlace, &[u8])] = &[
-    (HandedPlace::Block(0, 0), b"b"),
-    (HandedPlace::Fresh(0), b"f"),
-    (HandedPlace::Index(0, 0), b"i"),
-    (HandedPlace::Block(0, 1), b""),
-    (HandedPlace::Block(1, 0), b""),
-];
+// The pages of one written file, an index page and a block, and an allotted one.
+const PAGES: &[(u32, &[u8])] = &[(20, b"i"), (30, b"b"), (40, b"f")];
+
+fn pages(alloc: Global) -> Option<Vec<HandedPage>> {
+    let mut pages = Vec::new(alloc);
+    for (no, bytes) in PAGES {
+        pages.push(page(alloc, *no, bytes)?).ok()?;
+    }
+    Some(pages)
+}
+
+const HEAD: HandedHead = HandedHead {
+    ino: 7,
+    kind: Kind::Regular,
+    body: [0; 64],
+    index: 1,
+    blocks: 1,
+};
+
+// a written file and an allotted page
+fn handed(alloc: Global) -> Option<Handed> {
+    let heads = [HEAD].to_vec(alloc).ok()?;
+    let pages = pages(alloc)?;
+    if pages.len() < 2 {
+        return None;
+    }
+    Some(Handed::of(heads, Vec::new(alloc), pages, Vec::new(alloc)))
+}
+
+const PLACES: &[(usize, &[u8])] = &[(1, b"b"), (2, b"f"), (0, b"i"), (3, b"")];
 
 // Whether one block is told, that of the file 9 at 3, with these bytes.
 fn tells(bundle: &RawBundle, bytes: &[u8]) -> bool {
@@ -209,7 +197,7 @@ fn tells(bundle: &RawBundle, bytes: &[u8]) -> bool {
 }
 
 // Whether the block at a place is told with these bytes.
-fn is_told(alloc: Global, place: HandedPlace, bytes: &[u8]) -> Option<bool> {
+fn is_told(alloc: Global, place: usize, bytes: &[u8]) -> Option<bool> {
     let placed = PlacedBlock {
         ino: 9,
         at: 3,

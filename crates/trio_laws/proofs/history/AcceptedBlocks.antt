@@ -26,7 +26,7 @@ use Rattle.trio_surveys.proofs.Cores.{listed_is_core}
 use Rattle.trio_surveys.proofs.Owned.{pages_are}
 use Rattle.trio_nodes.specs.declared.answers.ReleaseAnswer.TheVariants.{Accepted}
 use Rattle.trio_nodes.specs.declared.entry.Entry.TheVariants.{Raw}
-use Rattle.trio_nodes.specs.declared.entry.Handed.{Handed}
+use Rattle.trio_nodes.specs.Handed.{Handed}
 use Rattle.trio_nodes.specs.declared.entry.RawFile.{RawFile}
 use Rattle.trio_state.specs.Listed.{Notes, accepted_blocks, accepted_files, blocks_listed_of, blocks_of_kind, changed_blocks, is_block_changed, lent_blocks}
 use Rattle.trio_state.specs.State.{State, creds_of, settled}

@@ -30,8 +30,7 @@ use Rattle.trio_surveys.proofs.Images.{some_of, met_numbered, root_is_met, read_
 use Rattle.trio_lists.proofs.Members.{list_all-In, is_among-In, In-left, In-right, In-flat, In-map}
 use Rattle.trio_surveys.proofs.Owned.{pages_are}
 use Rattle.trio_surveys.proofs.Sheets.{with_pages_known, place_there, page_there, page_from}
-use Rattle.trio_nodes.specs.declared.entry.Handed.{Handed}
-use Rattle.trio_nodes.specs.declared.entry.HandedFile.{HandedFile}
+use Rattle.trio_nodes.specs.Handed.{Handed, HandedFile}
 use Rattle.trio_nodes.specs.declared.entry.HandedPage.{HandedPage}
 use Rattle.trio_nodes.specs.Told.{ToldBlock}
 use Rattle.trio_nodes.specs.declared.entry.RawFile.{RawFile}

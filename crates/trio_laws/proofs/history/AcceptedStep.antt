@@ -39,8 +39,7 @@ use Rattle.trio_laws.proofs.StateFacts.{alone}
 use Rattle.trio_laws.proofs.Survivors.{held_rights}
 use Rattle.trio_surveys.proofs.Tree.{child_has}
 use Rattle.trio_nodes.specs.declared.node.Node.{Node}
-use Rattle.trio_nodes.specs.declared.entry.Handed.{Handed}
-use Rattle.trio_nodes.specs.declared.entry.HandedFile.{HandedFile}
+use Rattle.trio_nodes.specs.Handed.{Handed, HandedFile}
 use Rattle.trio_nodes.specs.Told.{ToldBlock}
 use Rattle.trio_nodes.specs.declared.entry.RawFile.{RawFile}
 use Rattle.trio_nodes.specs.Nodes.{Nodes, node_at, entry_in}

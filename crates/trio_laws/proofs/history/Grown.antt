@@ -6,7 +6,7 @@ use Rattle.std.proofs.lemmas.List.{take-append-le, length-replicate}
 use Rattle.trio_lists.specs.Lists.{In}
 use Rattle.trio_layout.specs.Image.{Image, row_at}
 use Rattle.trio_rights.specs.Sheets.{Sheet}
-use Rattle.trio_nodes.specs.declared.entry.Handed.{Handed}
+use Rattle.trio_nodes.specs.Handed.{Handed}
 use Rattle.trio_nodes.specs.Apply.{resized}
 use Rattle.trio_laws.specs.history.Entries.{block_numbers, is_touched, is_block_told}
 use Rattle.trio_laws.specs.history.Stands.{size_of}

@@ -7,8 +7,7 @@ use Rattle.trio_lists.specs.Lists.{In}
 use Rattle.trio_lists.proofs.Members.{map-In}
 use Rattle.trio_nodes.specs.declared.entry.Entry.{Entry}
 use Rattle.trio_nodes.specs.declared.entry.Entry.TheVariants.{Grant as GrantEntry, Allot as AllotEntry, Back as BackEntry, Raw, Batch, Mode}
-use Rattle.trio_nodes.specs.declared.entry.Handed.{Handed}
-use Rattle.trio_nodes.specs.declared.entry.HandedFile.{HandedFile}
+use Rattle.trio_nodes.specs.Handed.{Handed, HandedFile}
 use Rattle.trio_nodes.specs.declared.entry.HandedPage.{HandedPage}
 use Rattle.trio_nodes.specs.Nodes.{Nodes}
 use Rattle.trio_nodes.specs.Standing.{Standing}

@@ -17,7 +17,7 @@ use Rattle.trio_surveys.proofs.Images.{some_of, met_numbered}
 use Rattle.trio_lists.proofs.Members.{is_among-In}
 use Rattle.trio_laws.proofs.StateFacts.{alone, write_alone}
 use Rattle.trio_layout.specs.Survey.{plain}
-use Rattle.trio_nodes.specs.declared.entry.Handed.{Handed}
+use Rattle.trio_nodes.specs.Handed.{Handed}
 use Rattle.trio_nodes.specs.declared.entry.RawFile.{RawFile}
 use Rattle.trio_nodes.specs.Standing.{Standing, is_given}
 use Rattle.trio_nodes.specs.Legal.{is_handed}

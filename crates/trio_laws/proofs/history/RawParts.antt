@@ -10,7 +10,7 @@ use Rattle.trio_lists.specs.Lists.{In}
 use Rattle.trio_layout.specs.Image.{Image, row_at}
 use Rattle.trio_rights.specs.Bundle.{Bundle}
 use Rattle.trio_rights.specs.Sheets.{Sheet, sheet_numbers}
-use Rattle.trio_nodes.specs.declared.entry.Handed.{Handed}
+use Rattle.trio_nodes.specs.Handed.{Handed}
 use Rattle.trio_nodes.specs.Told.{ToldBlock}
 use Rattle.trio_nodes.specs.declared.entry.RawFile.{RawFile}
 use Rattle.trio_nodes.specs.After.{with_blocks, put_within}

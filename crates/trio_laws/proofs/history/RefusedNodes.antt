@@ -32,8 +32,7 @@ use Rattle.trio_laws.proofs.Uncovered.{uncovered_handed, In-uncovered}
 use Rattle.trio_laws.proofs.history.Untouched.{handed_same}
 use Rattle.trio_surveys.proofs.Sheets.{Pages, with_pages_apart, with_pages_known, with_pages_there, page_same, page_from, place_there}
 use Rattle.trio_laws.proofs.StateFacts.{write_alone}
-use Rattle.trio_nodes.specs.declared.entry.Handed.{Handed}
-use Rattle.trio_nodes.specs.declared.entry.HandedFile.{HandedFile}
+use Rattle.trio_nodes.specs.Handed.{Handed, HandedFile}
 use Rattle.trio_nodes.specs.declared.entry.HandedPage.{HandedPage}
 use Rattle.trio_nodes.specs.Told.{ToldBlock}
 use Rattle.trio_nodes.specs.declared.entry.RawFile.{RawFile}

@@ -23,8 +23,7 @@ use Rattle.trio_lists.proofs.Filters.{find-In, list_any-In, In-list_any, list_an
 use Rattle.trio_surveys.proofs.Images.{some_of}
 use Rattle.trio_laws.proofs.StateFacts.{alone}
 use Rattle.trio_nodes.specs.declared.node.Node.{Node}
-use Rattle.trio_nodes.specs.declared.entry.Handed.{Handed}
-use Rattle.trio_nodes.specs.declared.entry.HandedFile.{HandedFile}
+use Rattle.trio_nodes.specs.Handed.{Handed, HandedFile}
 use Rattle.trio_nodes.specs.Told.{ToldBlock}
 use Rattle.trio_nodes.specs.declared.entry.RawFile.{RawFile}
 use Rattle.trio_nodes.specs.Nodes.{Nodes, node_at, entry_in}

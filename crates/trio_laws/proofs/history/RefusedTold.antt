@@ -16,7 +16,7 @@ use Rattle.trio_layout.specs.Case.{Case}
 use Rattle.trio_layout.specs.Image.{Image, IsFit, row_at}
 use Rattle.trio_nodes.specs.declared.answers.ReleaseAnswer.{ReleaseAnswer}
 use Rattle.trio_nodes.specs.declared.entry.Entry.TheVariants.{Raw}
-use Rattle.trio_nodes.specs.declared.entry.Handed.{Handed}
+use Rattle.trio_nodes.specs.Handed.{Handed}
 use Rattle.trio_nodes.specs.declared.entry.RawFile.{RawFile}
 use Rattle.trio_state.specs.Bundles.{Ends, refused_image, uncovered}
 use Rattle.trio_state.specs.Listed.{Notes, blocks_of_kind, changed_blocks, is_handed, lent_blocks, noted_name, noted_size, refused_blocks, refused_files, told_row, told_same}

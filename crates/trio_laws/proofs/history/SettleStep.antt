@@ -16,8 +16,7 @@ use Rattle.trio_state.specs.Allotments.{has_none_out, out_after}
 use Rattle.trio_layout.specs.Accept.{is_accepted, next}
 use Rattle.trio_nodes.specs.declared.grant.GrantKind.{GrantKind}
 use Rattle.trio_nodes.specs.declared.grant.GrantKind.TheVariants.{Read, Write, Hold}
-use Rattle.trio_nodes.specs.declared.entry.Handed.{Handed}
-use Rattle.trio_nodes.specs.declared.entry.HandedFile.{HandedFile}
+use Rattle.trio_nodes.specs.Handed.{Handed, HandedFile}
 use Rattle.trio_nodes.specs.Nodes.{Nodes}
 use Rattle.trio_nodes.specs.Legal.{IsWithinGrants}
 use Rattle.trio_nodes.specs.Libraries.{listed_creds}

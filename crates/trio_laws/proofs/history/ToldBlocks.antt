@@ -23,8 +23,7 @@ use Rattle.trio_surveys.proofs.Cores.{listed_is_core}
 use Rattle.trio_surveys.proofs.Images.{free_unlisted, one_met}
 use Rattle.trio_surveys.proofs.Owned.{index_apart, page_owner, pages_are, pages_new, sound_parts}
 use Rattle.trio_surveys.proofs.Sheets.{page_from, place_there, with_pages_known}
-use Rattle.trio_nodes.specs.declared.entry.Handed.{Handed}
-use Rattle.trio_nodes.specs.declared.entry.HandedFile.{HandedFile}
+use Rattle.trio_nodes.specs.Handed.{Handed, HandedFile}
 use Rattle.trio_nodes.specs.declared.entry.HandedPage.{HandedPage}
 use Rattle.trio_nodes.specs.Told.{ToldBlock}
 use Rattle.trio_nodes.specs.declared.entry.RawFile.{RawFile}

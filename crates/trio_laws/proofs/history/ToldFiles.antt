@@ -16,7 +16,7 @@ use Rattle.trio_nodes.specs.Legal.{TellsThese, is_handed, is_new_or_renamed, tel
 use Rattle.trio_nodes.specs.Nodes.{Nodes, node_at, with_node}
 use Rattle.trio_nodes.specs.Standing.{is_given}
 use Rattle.trio_nodes.specs.Told.{ToldBlock}
-use Rattle.trio_nodes.specs.declared.entry.Handed.{Handed}
+use Rattle.trio_nodes.specs.Handed.{Handed}
 use Rattle.trio_nodes.specs.declared.entry.RawFile.{RawFile}
 use Rattle.trio_nodes.specs.declared.node.Node.{Node}
 use Rattle.trio_nodes.proofs.NodeFacts.{with_node-else}

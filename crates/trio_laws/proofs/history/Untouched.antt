@@ -21,8 +21,7 @@ use Rattle.trio_lists.proofs.Members.{In-cases, In-right, flat_map-In, map-In}
 use Rattle.trio_surveys.proofs.Owned.{sound_parts, pages_are, pages_new, index_apart}
 use Rattle.trio_lists.proofs.New.{are_new-fewer}
 use Rattle.trio_laws.proofs.StateFacts.{tables, write_alone, lent_file}
-use Rattle.trio_nodes.specs.declared.entry.Handed.{Handed}
-use Rattle.trio_nodes.specs.declared.entry.HandedFile.{HandedFile}
+use Rattle.trio_nodes.specs.Handed.{Handed, HandedFile}
 use Rattle.trio_nodes.specs.declared.entry.HandedPage.{HandedPage}
 use Rattle.trio_laws.specs.history.Entries.{bundle_handed, written_handed, sheet_handed, is_touched}
 use Rattle.trio_laws.specs.history.Recorded.{LentWhole, IsMarked}

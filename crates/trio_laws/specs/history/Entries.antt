@@ -33,8 +33,7 @@ use Rattle.trio_nodes.specs.declared.call.Done.{Done}
 use Rattle.trio_nodes.specs.declared.entry.RawFile.{RawFile}
 use Rattle.trio_nodes.specs.Told.{ToldBlock}
 use Rattle.trio_nodes.specs.declared.entry.HandedPage.{HandedPage}
-use Rattle.trio_nodes.specs.declared.entry.HandedFile.{HandedFile}
-use Rattle.trio_nodes.specs.declared.entry.Handed.{Handed}
+use Rattle.trio_nodes.specs.Handed.{HandedFile, Handed}
 use Rattle.trio_nodes.specs.declared.entry.GrantAnswer.{GrantAnswer}
 use Rattle.trio_nodes.specs.declared.entry.GrantAnswer.TheVariants.{Granted, Refused as NotGranted}
 use Rattle.trio_nodes.specs.declared.entry.AllotAnswer.{AllotAnswer}

@@ -11,7 +11,7 @@ use Rattle.trio_layout.specs.Listing.{listing}
 use Rattle.trio_nodes.specs.declared.answers.ReleaseAnswer.{ReleaseAnswer}
 use Rattle.trio_nodes.specs.declared.answers.ReleaseAnswer.TheVariants.{Accepted}
 use Rattle.trio_nodes.specs.declared.entry.Entry.TheVariants.{Raw}
-use Rattle.trio_nodes.specs.declared.entry.Handed.{Handed}
+use Rattle.trio_nodes.specs.Handed.{Handed}
 use Rattle.trio_nodes.specs.declared.note.Note.{Note}
 use Rattle.trio_state.specs.Bundles.{refused_image}
 use Rattle.trio_state.specs.Given.{GivenEvent}

@@ -9,8 +9,7 @@ use Rattle.trio_lease.specs.Shown.{Shown}
 use Rattle.trio_lease.specs.declared.parts.HoldParts.{HoldParts}
 use Rattle.trio_nodes.specs.declared.grant.GrantKind.TheVariants.{Hold}
 use Rattle.trio_nodes.specs.declared.call.Done.{Done}
-use Rattle.trio_nodes.specs.declared.entry.Handed.{Handed}
-use Rattle.trio_nodes.specs.declared.entry.HandedFile.{HandedFile}
+use Rattle.trio_nodes.specs.Handed.{Handed, HandedFile}
 use Rattle.trio_nodes.specs.Nodes.{node_at}
 use Rattle.trio_nodes.specs.After.{batch_nodes}
 use Rattle.trio_nodes.specs.Legal.{LegalBatch}
