@@ -1,20 +1,19 @@
 -- What a bundle has under a number, and the rows that are copied for it.
-use Rattle.std.proofs.Common.{◌≡◌, ℕ, suc, zero, ◌+◌, ◌<◌, ◌≤◌, eqb, Bool, true, false, ◌&&◌, ◌||◌, cond, List, [], ◌∷◌, ◌++◌, length, get_or, map, take, Option, Some, None, Bor, nat_le, nat_lt, IsTrue, IsSome, IfSome, sym, refl, ap, ◌∙◌, subst, append_assoc, inl, inr, arith}
-use Rattle.std.specs.Prelude.{is_some, is_none}
+use Rattle.std.proofs.Common.{◌≡◌, ℕ, suc, zero, ◌+◌, ◌<◌, ◌≤◌, eqb, Bool, true, false, ◌&&◌, ◌||◌, cond, List, [], ◌∷◌, ◌++◌, length, get_or, map, Option, Some, None, Bor, nat_le, nat_lt, IsTrue, IsSome, IfSome, sym, refl, ap, ◌∙◌, subst, inl, inr, arith}
+use Rattle.std.specs.Prelude.{is_some, is_none, slice_get}
 use Rattle.std.specs.List.{find, list_all, list_any}
-use Rattle.std.specs.Option.{option_copied, option_map, option_map_or, option_or}
-use Rattle.std.specs.Ordering.{nat_cmp}
-use Rattle.std.specs.BTreeMap.{BTreeMap, get}
-use Rattle.std.specs.BTreeSet.{contains}
+use Rattle.std.specs.Option.{option_and_then, option_copied, option_map, option_map_or}
 use Rattle.std.proofs.lemmas.Bool.{and_parts, and_from, cases_eq, cases_lt, le-leb}
 use Rattle.std.proofs.lemmas.Bool.Decides.{nat_tests}
-use Rattle.std.proofs.lemmas.List.{ext_get_or, map-append, take_more}
-use Rattle.std.proofs.lemmas.List.Folds.{find-append, list_all-append, list_any-append}
+use Rattle.std.proofs.lemmas.List.{ext_get_or}
+use Rattle.std.proofs.lemmas.List.Folds.{list_all-append, list_any-append}
 use Rattle.trio_rights.specs.Row.{Row, row_in}
 use Rattle.trio_rights.specs.Bundle.{Written, is_written}
 use Rattle.trio_rights.specs.declared.kind.Kind.{Kind}
 use Rattle.trio_rights.specs.declared.kind.Kind.TheVariants.{Regular, Directory}
-use Rattle.trio_lists.specs.Lists.{is_among, tabulated}
+use Rattle.trio_lists.specs.Lists.{are_new, is_among, tabulated}
+use Rattle.trio_lists.proofs.Marked.{are_new-append}
+use Rattle.trio_lists.proofs.New.{are_new-fewer}
 use Rattle.trio_lists.proofs.Tabulated.{tabulated-get, tabulated-length}
 use Rattle.trio_lease.specs.Bundles.{Bundled}
 use Rattle.trio_lease.specs.Shown.{LentFile}
@@ -29,7 +28,9 @@ use Rattle.trio_tables.specs.Row.{as_row}
 use Rattle.trio_tables.specs.declared.row.Row.{Row as RowData}
 use Rattle.trio_case.specs.Cases.{CaseShown, case_in, held_in, is_free_number, lent_numbers, HasDirectoryParents, IsCase, IsJudgeable}
 use Rattle.trio_case.specs.declared.numbers.Numbers.{Numbers}
-use Rattle.trio_case.specs.inner.Maps.{body_lent, is_directory, map_row, HasRowsOf, Tells}
+use Rattle.trio_case.specs.Order.{place_of}
+use Rattle.trio_case.specs.inner.Memory.{NumbersDiffer}
+use Rattle.trio_case.specs.inner.Maps.{body_lent, is_directory, Tells}
 
 -- ---- numbers
 
@@ -61,22 +62,28 @@ pub held_is : (hs : List HoldParts) (n : ℕ) → is_some (body_lent hs n) ≡ i
 held_is [] n = refl
 held_is (h ∷ hs) n = body_or (eqb h.ino n) h _ _ (held_is hs n)
 
-map_or : {X Y : Type 0} (f : X → Y) (a b : Option X) → option_map f (option_or a b) ≡ option_or (option_map f a) (option_map f b)
-map_or f None b = refl
-map_or f (Some x) b = refl
+-- the body of a hold, looked up at its place
+pub body_at : (hs : List HoldParts) (n : ℕ) → body_lent hs n ≡ option_map (λ (h : HoldParts). h.body) (option_and_then (slice_get hs) (place_of n (map (λ (h : HoldParts). h.ino) hs)))
+body_at [] n = refl
+body_at (h ∷ hs) n = by (eqb h.ino n) (body_at hs n)
+  where
+    later : (o : Option ℕ) → option_and_then (slice_get (h ∷ hs)) (option_map suc o) ≡ option_and_then (slice_get hs) o
+    later None = refl
+    later (Some i) = refl
 
--- one hold more
-pub body_more : (hs : List HoldParts) (i : ℕ) (h : HoldParts) (n : ℕ) → i < length hs → h ≡ get_or hs i h → body_lent (take (i + 1) hs) n ≡ option_or (body_lent (take i hs) n) (body_lent (h ∷ []) n)
-body_more hs i h n lt is =
-    let more : take (i + 1) hs ≡ take i hs ++ h ∷ [] = take_more hs i h lt ∙ ap (λ x. take i hs ++ x ∷ []) (sym is) in
-    ap (λ x. body_lent x n) more ∙ ap (option_map (λ (x : HoldParts). x.body)) (find-append (λ (x : HoldParts). eqb x.ino n) (take i hs) (h ∷ []))
-    ∙ map_or (λ (x : HoldParts). x.body) (find (λ (x : HoldParts). eqb x.ino n) (take i hs)) (find (λ (x : HoldParts). eqb x.ino n) (h ∷ []))
+    by : (b : Bool) → body_lent hs n ≡ option_map (λ (x : HoldParts). x.body) (option_and_then (slice_get hs) (place_of n (map (λ (x : HoldParts). x.ino) hs))) → option_map (λ (x : HoldParts). x.body) (cond b (Some h) (find (λ (x : HoldParts). eqb x.ino n) hs)) ≡ option_map (λ (x : HoldParts). x.body) (option_and_then (slice_get (h ∷ hs)) (cond b (Some 0) (option_map suc (place_of n (map (λ (x : HoldParts). x.ino) hs)))))
+    by true e = refl
+    by false e = e ∙ ap (option_map (λ (x : HoldParts). x.body)) (sym (later (place_of n (map (λ (x : HoldParts). x.ino) hs))))
 
--- what the sets tell is what the bundle has
-own_is : (t : Numbers) (b : Bundled) (n p : ℕ) → Tells t b → (contains nat_cmp t.writes n || is_some (get nat_cmp t.holds n) || contains nat_cmp t.writes p) ≡ (is_written (bundle_in b) n || is_among n (bundle_in b).holds || is_written (bundle_in b) p)
-own_is t b n p h = rw (h.writes, h.writes, h.holds, held_is) refl
+-- what the numbers tell is what the bundle has
+own_is : (t : Numbers) (b : Bundled) (n p : ℕ) → Tells t b → (is_among n t.writes || is_among n t.holds || is_among p t.writes) ≡ (is_written (bundle_in b) n || is_among n (bundle_in b).holds || is_written (bundle_in b) p)
+own_is t b n p h =
+    let here : is_among n t.writes ≡ is_written (bundle_in b) n = ap (is_among n) h.writes ∙ sym (written_is b.writes n) in
+    let held : is_among n t.holds ≡ is_among n (bundle_in b).holds = ap (is_among n) h.holds in
+    let above : is_among p t.writes ≡ is_written (bundle_in b) p = ap (is_among p) h.writes ∙ sym (written_is b.writes p) in
+    rw (here, held, above) refl
 
-pub copied_if : (t : Numbers) (b : Bundled) (n : ℕ) (r : RowData) (own : Bool) → Tells t b → own ≡ (contains nat_cmp t.writes n || is_some (get nat_cmp t.holds n) || contains nat_cmp t.writes r.parent) → cond own (Some (as_row r)) None ≡ copied_row (bundle_in b) n (Some (as_row r))
+pub copied_if : (t : Numbers) (b : Bundled) (n : ℕ) (r : RowData) (own : Bool) → Tells t b → own ≡ (is_among n t.writes || is_among n t.holds || is_among r.parent t.writes) → cond own (Some (as_row r)) None ≡ copied_row (bundle_in b) n (Some (as_row r))
 copied_if t b n r own h e = ap (λ x. cond x (Some (as_row r)) None) (e ∙ own_is t b n r.parent h)
 
 -- ---- rows of the bundle's own files
@@ -122,10 +129,27 @@ own_row b rows n (Some r) e all none parents =
     list_any-append (λ x. eqb x n) (map (λ (f : LentFile). f.stands.ino) b.writes) (map (λ (h : HoldParts). h.ino) b.holds) ∙ ap (λ x. x || is_among n (bundle_in b).holds) (sym (written_is b.writes n)) in
     ap (λ x. cond x (Some r) None) (own ∙ last_false (is_written (bundle_in b) n) (is_among n (bundle_in b).holds) (is_written (bundle_in b) r.parent) child)
 
+-- what f gives of a number, looked up at its place
+looked_up : {X : Type 0} (f : ℕ → Option X) (ns : List ℕ) (n : ℕ) → option_and_then (λ at. get_or (map f ns) at None) (place_of n ns) ≡ cond (is_among n ns) (f n) None
+looked_up f [] n = refl
+looked_up f (x ∷ xs) n = by (eqb x n) refl (looked_up f xs n)
+  where
+    later : (o : Option ℕ) → option_and_then (λ at. get_or (map f (x ∷ xs)) at None) (option_map suc o) ≡ option_and_then (λ at. get_or (map f xs) at None) o
+    later None = refl
+    later (Some i) = refl
+
+    by : (b : Bool) → eqb x n ≡ b → option_and_then (λ at. get_or (map f xs) at None) (place_of n xs) ≡ cond (is_among n xs) (f n) None → option_and_then (λ at. get_or (map f (x ∷ xs)) at None) (cond b (Some 0) (option_map suc (place_of n xs))) ≡ cond (b || is_among n xs) (f n) None
+    by true e h = let same : x ≡ n = grind (arith, nat_tests) in ap f same
+    by false e h = later (place_of n xs) ∙ h
+
 -- where no directory is written, the bundle's own rows are all that are copied
-pub own_copied : (b : Bundled) (rows : List (Option Row)) (m : BTreeMap ℕ RowData) → list_all (λ f. has_kind f.stands.kind (row_in rows f.stands.ino)) b.writes ≡ true → list_any (λ f. is_directory f.stands.kind) b.writes ≡ false → HasDirectoryParents rows → HasRowsOf rows m (lent_numbers b) → (n : ℕ) → map_row m n ≡ copied_row (bundle_in b) n (row_in rows n)
-own_copied b rows m all none parents has n =
-    has n ∙ own_row b rows n (row_in rows n) refl all none parents
+pub own_copied : (b : Bundled) (rows seen : List (Option Row)) (t : Numbers) → list_all (λ f. has_kind f.stands.kind (row_in rows f.stands.ino)) b.writes ≡ true → list_any (λ f. is_directory f.stands.kind) b.writes ≡ false → HasDirectoryParents rows → Tells t b → seen ≡ map (row_in rows) (lent_numbers b) → (n : ℕ) → option_and_then (λ at. get_or seen at None) (place_of n (t.writes ++ t.holds)) ≡ copied_row (bundle_in b) n (row_in rows n)
+own_copied b rows seen t all none parents tells is n =
+    let lent : t.writes ++ t.holds ≡ lent_numbers b = rw (tells.writes, tells.holds) refl in
+    ap (λ xs. option_and_then (λ at. get_or xs at None) (place_of n (t.writes ++ t.holds))) is
+    ∙ ap (λ ns. option_and_then (λ at. get_or (map (row_in rows) (lent_numbers b)) at None) (place_of n ns)) lent
+    ∙ looked_up (row_in rows) (lent_numbers b) n
+    ∙ own_row b rows n (row_in rows n) refl all none parents
 
 -- ---- tables by number
 
@@ -141,12 +165,6 @@ tables-same f g (suc m) n size h =
     (λ k l.
     let within : k < suc m = rw (← tabulated-length f (suc m)) l in
     tabulated-get f (suc m) k (f 0) within ∙ h k within ∙ sym (tabulated-get g n k (f 0) (subst (λ x. k < x) size within)))
-
--- ---- one row more
-
-pub rows_more : {X : Type 0} (f : X → ℕ) (xs : List X) (i : ℕ) (x : X) (before : List ℕ) → i < length xs → x ≡ get_or xs i x → (before ++ map f (take i xs)) ++ f x ∷ [] ≡ before ++ map f (take (i + 1) xs)
-rows_more f xs i x before lt is =
-    append_assoc before (map f (take i xs)) (f x ∷ []) ∙ ap (λ ys. before ++ ys) (sym (ap (map f) (take_more xs i x lt ∙ ap (λ y. take i xs ++ y ∷ []) (sym is)) ∙ map-append f (take i xs) (x ∷ [])))
 
 -- ---- a look-up
 
@@ -201,3 +219,11 @@ judgeable_case b rows range inodes h = record {
   numbers = free_all rows inodes b.inodes h.numbers;
   apart = h.apart;
 }
+
+-- the numbers of a bundle that is judged differ
+pub numbers_differ : (b : Bundled) (rows : List (Option Row)) (range : CoreRange) (inodes : ℕ) → IsJudgeable b rows range inodes → NumbersDiffer b
+numbers_differ b rows range inodes h =
+    let writes = map (λ (f : LentFile). f.stands.ino) b.writes in
+    let holds = map (λ (x : HoldParts). x.ino) b.holds in
+    let both = and_parts (are_new [] writes) (are_new writes holds) (sym (are_new-append [] writes holds) ∙ h.once) in
+    record { writes = both.0; holds = are_new-fewer [] writes holds (λ n i. absurd i) both.1; fresh = h.apart }

@@ -8,6 +8,7 @@ pub mod Listings
 pub mod Unstable
 pub mod Gathers
 pub mod Ordered
+pub mod Counted
 pub mod Keeping
 pub mod IndexOnce
 pub mod Chains

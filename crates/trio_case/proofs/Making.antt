@@ -1,5 +1,5 @@
 -- The pages of a bundle, one after another.
-use Rattle.std.proofs.Common.{◌≡◌, ℕ, ◌+◌, ◌<◌, ◌≤◌, Bool, true, not, cond, List, [], ◌∷◌, ◌++◌, length, get_or, map, take, drop, Option, Some, None, nat_le, nat_lt, sym, refl, ap, ◌∙◌, append_assoc, inl, inr, arith}
+use Rattle.std.proofs.Common.{◌≡◌, ℕ, zero, suc, ◌+◌, ◌<◌, ◌≤◌, Bool, true, not, cond, List, [], ◌∷◌, ◌++◌, length, get_or, map, take, drop, Option, Some, None, nat_le, nat_lt, sym, refl, ap, ◌∙◌, subst, append_assoc, inl, inr, arith}
 use Rattle.std.specs.Prelude.{count_by, is_some, slice_get}
 use Rattle.std.specs.List.{list_all, flat_map}
 use Rattle.std.specs.Option.{option_map}
@@ -22,7 +22,7 @@ use Rattle.trio_lease.specs.Views.{bundle_in, fresh_sheet, lent_sheet, written_i
 use Rattle.trio_lease.specs.declared.parts.LentPage.{LentPage}
 use Rattle.trio_lease.specs.declared.parts.FreshParts.{FreshParts}
 use Rattle.trio_case.specs.Rooms.{IsUnread}
-use Rattle.trio_case.specs.inner.Unread.{numbers_of, AreUnread}
+use Rattle.trio_case.specs.inner.Unread.{numbers_of, AreUnread, CountsItself}
 use Rattle.trio_case.specs.declared.kept.KeptPage.{KeptPage}
 
 pub numbers_of-append : (xs ys : List KeptPage) → numbers_of (xs ++ ys) ≡ numbers_of xs ++ numbers_of ys
@@ -46,6 +46,29 @@ one_unread b now new p more u h = λ q i.
         | inr none ↦ absurd none
       ]
     ]
+
+slice_get-left : {X : Type 0} (xs ys : List X) (i : ℕ) (x : X) → slice_get xs i ≡ Some x → slice_get (xs ++ ys) i ≡ Some x
+slice_get-left [] ys i x h = absurd cc
+slice_get-left (y ∷ xs) ys zero x h = h
+slice_get-left (y ∷ xs) ys (suc i) x h = slice_get-left xs ys i x h
+
+slice_get-last : {X : Type 0} (xs : List X) (x : X) → slice_get (xs ++ x ∷ []) (length xs) ≡ Some x
+slice_get-last [] x = refl
+slice_get-last (y ∷ xs) x = slice_get-last xs x
+
+-- one page more, which knows its place
+pub one_counted : (now new : List KeptPage) (p : KeptPage) → new ≡ now ++ p ∷ [] → p.nth ≡ length now → CountsItself now → CountsItself new
+one_counted now new p more at h = λ q i.
+    let all : numbers_of now ++ p.no ∷ [] ≡ numbers_of new = sym (ap numbers_of more ∙ numbers_of-append now (p ∷ [])) in
+    let place : length (numbers_of now) ≡ p.nth = length-map now (λ (x : KeptPage). x.no) ∙ sym at in
+    let last : slice_get (numbers_of now ++ p.no ∷ []) p.nth ≡ Some p.no = subst (λ n. slice_get (numbers_of now ++ p.no ∷ []) n ≡ Some p.no) place (slice_get-last (numbers_of now) p.no) in
+    subst (λ ns. slice_get ns q.nth ≡ Some q.no) all (elim (In-cases q now (p ∷ []) (rw more at i)) [
+      | inl before ↦ slice_get-left (numbers_of now) (p.no ∷ []) q.nth q.no (h q before)
+      | inr end ↦ elim end [
+        | inl same ↦ rw same last
+        | inr none ↦ absurd none
+      ]
+    ])
 
 -- what stands at a place among the numbers of a list
 pub there_of : {X Y : Type 0} (f : X → Y) (o : Option X) (y : Y) → Some y ≡ option_map f o → (x : X) × (o ≡ Some x) × (f x ≡ y)

@@ -14,6 +14,8 @@ use Rattle.trio_lease.specs.Places.{with_block, with_bytes, with_index}
 use Rattle.trio_lease.specs.Shown.{LentFile, all_touched, as_touched, no_at, with_page, with_touched}
 use Rattle.trio_lease.specs.Views.{bundle_in, fresh_sheet, lent_sheet, written_in}
 use Rattle.trio_lease.specs.declared.parts.FreshParts.{FreshParts}
+use Rattle.trio_lease.specs.declared.parts.HoldParts.{HoldParts}
+use Rattle.trio_lease.specs.declared.parts.InoParts.{InoParts}
 use Rattle.trio_lease.specs.declared.parts.LentPage.{LentPage}
 use Rattle.trio_lease.proofs.OtherBytes.{page_map, pages_same, rest_same, touched_map, writes_same}
 use Rattle.trio_layout.specs.JudgedFiles.{written_at}
@@ -26,7 +28,6 @@ use Rattle.trio_case.specs.declared.places.PagePlace.{PagePlace}
 use Rattle.trio_case.specs.declared.places.PagePlace.TheVariants.{Index, Block, Fresh}
 use Rattle.trio_case.specs.declared.room.PageRoom.{PageRoom}
 use Rattle.trio_case.specs.inner.Maps.{Tells}
-use Rattle.trio_case.proofs.CaseRows.{written_is}
 
 -- ---- the numbers of pages
 
@@ -181,10 +182,10 @@ is_case b b' range inodes a h = record {
 }
 
 pub tells : (t : Numbers) (b b' : Bundled) → Alike b b' → Tells t b → Tells t b'
-tells t b b' a h = record {
-  writes = λ n. h.writes n ∙ written_is b.writes n ∙ rw a.files refl ∙ sym (written_is b'.writes n);
-  holds = λ n. rw a.holds (h.holds n);
-  fresh = λ n. rw a.inodes (h.fresh n);
+tells t b b' same h = record {
+  writes = h.writes ∙ sym same.files;
+  holds = h.holds ∙ ap (map (λ (x : HoldParts). x.ino)) (sym same.holds);
+  fresh = h.fresh ∙ ap (map (λ (x : InoParts). x.no)) (sym same.inodes);
 }
 
 -- ---- the room of its pages

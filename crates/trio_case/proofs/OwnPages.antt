@@ -6,7 +6,7 @@ use Rattle.std.proofs.lemmas.Bool.{and_parts, cases_Bool, or_cases, false≢true
 use Rattle.std.proofs.lemmas.Bool.Decides.{nat_tests}
 use Rattle.trio_rights.specs.Sheets.{Sheet, sheet_numbers, with_pages}
 use Rattle.trio_rights.specs.Bundle.{bundle_pages, bundle_sheets}
-use Rattle.trio_lists.specs.Lists.{is_among}
+use Rattle.trio_lists.specs.Lists.{are_new, is_among}
 use Rattle.trio_lists.proofs.Members.{is_among-In, list_all-In}
 use Rattle.trio_layout.specs.Range.{is_core}
 use Rattle.trio_layout.specs.Core.{page_of}
@@ -16,11 +16,14 @@ use Rattle.trio_lease.specs.Views.{bundle_in}
 use Rattle.trio_layout.specs.Case.{Case, bundle_core}
 use Rattle.trio_case.specs.Cases.{CaseShown, case_in}
 use Rattle.trio_case.specs.Order.{in_order, place_of}
-use Rattle.trio_case.specs.Rooms.{IsKept, KeepsPages, kept_page}
+use Rattle.trio_case.specs.Rooms.{AreCountedIn, IsKept, KeepsPages, kept_page}
 use Rattle.trio_case.specs.declared.kept.KeptPages.{KeptPages}
 use Rattle.trio_case.specs.declared.kept.KeptPage.{KeptPage}
 use Rattle.trio_case.specs.inner.Steps.{StandsAt}
 use Rattle.trio_case.proofs.Ordered.{order_length, place_has}
+use Rattle.trio_case.proofs.Counted.{place_at, place_some}
+use Rattle.trio_case.proofs.Keeping.{none_there, number_is}
+use Rattle.trio_case.proofs.Opening.{In-slice_get}
 
 abbrev Pages : Type 0
 Pages = List (Option (List ℕ))
@@ -104,3 +107,15 @@ place_within k kept page at p keeps s =
     let own : List ℕ = bundle_pages (bundle_in k.bundle) in
     let within = (place_has page (in_order own) at (place_found k kept page at p keeps s)).0 in
     omega (arith, within, order_length own)
+
+-- the place among all pages of the bundle that is known of a page found
+pub counted_place : (k : CaseShown) (kept : KeptPages) (page at : ℕ) (p : KeptPage) → KeepsPages k kept → AreCountedIn (bundle_pages (bundle_in k.bundle)) kept.pages.items → StandsAt kept page at p → are_new [] (bundle_pages (bundle_in k.bundle)) ≡ true → place_of page (bundle_pages (bundle_in k.bundle)) ≡ Some p.nth
+counted_place k kept page at p keeps counted stands new =
+    place_at (bundle_pages (bundle_in k.bundle)) page p.nth new
+    (counted p (In-slice_get kept.pages.items at p stands.page) ∙ ap (λ n. Some n) (number_is k kept page at p keeps stands))
+
+-- a page that isn't found has none
+pub uncounted : (k : CaseShown) (page : ℕ) → is_among page (bundle_pages (bundle_in k.bundle)) ≡ false → place_of page (bundle_pages (bundle_in k.bundle)) ≡ None
+uncounted k page none =
+    let own = bundle_pages (bundle_in k.bundle) in
+    none_there (place_of page own) (sym (place_some page own ∙ none))

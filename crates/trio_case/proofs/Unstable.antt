@@ -7,10 +7,13 @@ use Rattle.std.proofs.lemmas.Bool.Decides.{nat_tests}
 use Rattle.std.proofs.lemmas.List.Elements.{All-from_recursion, recursion_from_All}
 use Rattle.std.proofs.lemmas.List.Sorted.{All-permutation, sum_by-IsPermutation}
 use Rattle.std.proofs.lemmas.List.Sums.{sum_by-cons}
-use Rattle.trio_lists.specs.Lists.{In}
-use Rattle.trio_lists.specs.Sorting.{inserted_by}
+use Rattle.trio_lists.specs.Lists.{In, are_new}
+use Rattle.trio_lists.specs.Sorting.{inserted_by, sorted_by}
 use Rattle.trio_lists.proofs.Filters.{In-get_or}
-use Rattle.trio_lists.proofs.Members.{map-In}
+use Rattle.trio_lists.proofs.Members.{In-map, map-In}
+use Rattle.trio_lists.proofs.New.{are_new-first}
+use Rattle.trio_lists.proofs.Sorting.{sorted_in}
+use Rattle.trio_case.proofs.Sorted.{sorted-map}
 use Rattle.trio_case.specs.Order.{in_order}
 use Rattle.trio_case.proofs.Ordered.{from_inserted}
 
@@ -134,3 +137,29 @@ module _ {X : Type 0} (key : X → ℕ) where
   sorted_numbers xs ys moved up =
       one_order (map key ys) (in_order (map key xs)) (rises_by ys up) (rises_in_order (map key xs))
       (λ n. times_by n ys ∙ sum_by-IsPermutation (λ x. one_if (eqb (key x) n)) xs ys moved ∙ sym (times_by n xs) ∙ sym (times_in_order n (map key xs)))
+
+-- ---- a sort of what has numbers that differ has one outcome
+
+module _ {X : Type 0} (key : X → ℕ) where
+  one_by_key : (xs : List X) (x y : X) → are_new [] (map key xs) ≡ true → In x xs → In y xs → key x ≡ key y → x ≡ y
+  one_by_key [] x y new i j e = absurd i
+  one_by_key (z ∷ zs) x y new (inl s) (inl t) e = s ∙ sym t
+  one_by_key (z ∷ zs) x y new (inl s) (inr j) e = absurd ((are_new-first (key z) (map key zs) new).0 (subst (λ n. In n (map key zs)) (sym e ∙ ap key s) (In-map key y zs j)))
+  one_by_key (z ∷ zs) x y new (inr i) (inl t) e = absurd ((are_new-first (key z) (map key zs) new).0 (subst (λ n. In n (map key zs)) (e ∙ ap key t) (In-map key x zs i)))
+  one_by_key (z ∷ zs) x y new (inr i) (inr j) e = one_by_key zs x y (are_new-first (key z) (map key zs) new).1 i j e
+
+  keys_decide : (xs us vs : List X) → are_new [] (map key xs) ≡ true → ((x : X) → In x us → In x xs) → ((x : X) → In x vs → In x xs) → map key us ≡ map key vs → us ≡ vs
+  keys_decide xs [] [] new p q e = refl
+  keys_decide xs [] (v ∷ vs) new p q e = absurd cc
+  keys_decide xs (u ∷ us) [] new p q e = absurd cc
+  keys_decide xs (u ∷ us) (v ∷ vs) new p q e =
+      let heads : key u ≡ key v = cc in
+      let tails : map key us ≡ map key vs = cc in
+      let same : u ≡ v = one_by_key xs u v new (p u (inl refl)) (q v (inl refl)) heads in
+      ap (λ x. x ∷ us) same ∙ ap (λ ys. v ∷ ys) (keys_decide xs us vs new (λ x i. p x (inr i)) (λ x i. q x (inr i)) tails)
+
+  -- an unstable sort by numbers that differ is the stable one
+  pub sorted_distinct : (xs ys : List X) → IsPermutation xs ys → IsNonDecreasingBy key ys → are_new [] (map key xs) ≡ true → ys ≡ sorted_by key xs
+  sorted_distinct xs ys moved up new =
+      keys_decide xs ys (sorted_by key xs) new (permuted_in xs ys moved) (λ x i. sorted_in key x xs i)
+      (sorted_numbers key xs ys moved up ∙ sym (sorted-map key key (λ n. n) (λ x. refl) xs))

@@ -5,4 +5,5 @@ pub mod Rooms
 pub mod Indexed
 pub mod Reading
 pub mod Listed
+pub mod Memory
 pub mod inner

@@ -71,6 +71,14 @@ pub record HasPagePlaces (count : ℕ) (kept : KeptPages) : Type 0 where
   pub order : count ≤ vec_capacity kept.order
   pub pages : count ≤ vec_capacity kept.pages
 
+-- and for whatever so many pages may say, of which nothing was read
+pub record HasReadPlaces (count : ℕ) (kept : KeptPages) : Type 0 where
+  pub places : HasPagePlaces count kept
+  pub entries : 16 * count ≤ vec_capacity kept.entries
+  pub numbers : 511 * count ≤ vec_capacity kept.numbers
+  pub no_entries : vec_len kept.entries ≡ 0
+  pub no_numbers : vec_len kept.numbers ≡ 0
+
 -- there is a place for whatever the pages may say that weren't read yet: 16 entries of a directory block, and 511
 -- numbers of an index page
 pub record HasPlaces (kept : KeptPages) : Type 0 where
@@ -125,6 +133,10 @@ pub record IsUnread (b : Bundled) (p : KeptPage) : Type 0 where
   pub entries : p.entries ≡ None
   pub index : p.index ≡ None
 
+-- each page knows its place among these numbers
+abbrev pub AreCountedIn : List ℕ → List KeptPage → Type 0
+AreCountedIn numbers pages = (p : KeptPage) → In p pages → slice_get numbers p.nth ≡ Some p.no
+
 -- A room made for this case, in which nothing was read yet. It goes by the numbers of the bundle's pages, whatever
 -- their bytes are.
 pub record IsRoomFor (k : CaseShown) (room : PageRoom) : Type 0 where
@@ -132,3 +144,16 @@ pub record IsRoomFor (k : CaseShown) (room : PageRoom) : Type 0 where
   pub numbers : map (λ p. p.no) room.kept.pages.items ≡ room.kept.order.items
   pub each : (p : KeptPage) → In p room.kept.pages.items → IsUnread k.bundle p
   pub space : HasSpace k.range room
+
+-- There is memory for what is read of this case, whatever its pages say then. It goes by the count of the bundle's pages and
+-- of core pages.
+pub record HasPageMemory (k : CaseShown) (room : PageRoom) : Type 0 where
+  pub kept : HasReadPlaces (length (bundle_pages (bundle_in k.bundle))) room.kept
+  pub index : index_count (core_count k.range) ≤ vec_capacity room.index
+  pub blocks : core_count k.range ≤ vec_capacity room.blocks
+  pub names : 16 * length (bundle_pages (bundle_in k.bundle)) < room.names.room
+
+-- memory that was made for so many pages of a bundle and of the core is so for each case of no more pages, and of just so large a core
+abbrev pub IsPageMemory : ℕ → ℕ → PageRoom → Type 0
+IsPageMemory pages core room =
+    (k : CaseShown) → length (bundle_pages (bundle_in k.bundle)) ≤ pages → core_count k.range ≡ core → HasPageMemory k room

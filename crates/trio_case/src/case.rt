@@ -1,22 +1,28 @@
 //! What a bundle is judged by.
 
-ghost use Rattle.std.specs.Prelude.{◌≡◌, ◌==◌, IfOk, IfErr, IfSome, IsSome, ◌↔◌, IsTrue, map};
+ghost use Rattle.std.specs.Prelude.{◌≡◌, ◌==◌, ◌++◌, IfOk, IfErr, IfSome, IsSome, ◌↔◌, IsTrue, length, map};
 ghost use Rattle.std.specs.Option.{option_copied, option_map};
 ghost use Rattle.trio_rights.specs.Row.{row_in};
 ghost use Rattle.trio_rights.specs.Bundle.{is_written};
 ghost use Rattle.trio_lists.specs.Lists.{is_among};
+ghost use Rattle.trio_lists.specs.Sorting.{sorted_by};
 ghost use Rattle.trio_lease.specs.Views.{bundle_in};
 ghost use Rattle.trio_layout.specs.Copied.{copied_rows};
 ghost use Rattle.trio_layout.specs.Rules.{lent_body};
 ghost use Rattle.trio_tables.specs.Row.{as_row};
 ghost use Rattle.trio_case.specs.Cases.{case_in, IsJudgeable, IsCase};
+ghost use Rattle.trio_case.specs.Memory.{HasCaseMemory};
+ghost use Rattle.trio_case.specs.Order.{place_of};
 ghost use Rattle.trio_case.specs.inner.Maps.{body_lent};
 
+use crate::memory::CaseMemory;
+use crate::numbered::Places;
 use crate::numbers::{CopiedRows, Numbers, copy_rows, is_copied};
+use crate::size::{value_count, writes_directory};
 use std::alloc::Global;
 use std::marker::Model;
 use trio_layout::CoreRange;
-use trio_lease::Bundle;
+use trio_lease::{Bundle, HoldLease};
 use trio_page::{NoMemory, Page, PageNo};
 use trio_rights::{Creds, LibNo};
 use trio_tables::{Row, Shadow};
@@ -43,7 +49,7 @@ impl Model for Case {
 
     ghost Value = { CaseShown };
 
-    ghost view = { λ k. record { lib = k.lib; bundle = k.bundle; rows = rows_kept k.rows k.inodes; creds = k.creds; range = k.range; inodes = k.inodes } };
+    ghost view = { λ k. record { lib = k.lib; bundle = k.bundle; rows = rows_kept k.numbers k.rows k.inodes; creds = k.creds; range = k.range; inodes = k.inodes } };
 
     ghost invariant = { λ k. Tells k.numbers k.bundle × IsCase k.bundle k.range k.inodes };
 }
@@ -72,21 +78,40 @@ impl Case {
         ensures made { IfOk result (λ k. k ≡ record { lib = lib; bundle = bundle; rows = copied_rows (bundle_in bundle) rows.now; creds = creds; range = range; inodes = inodes }) }
         ensures back { IfErr result (λ e. e.0 ≡ bundle) }
     {
-        let numbers = match Numbers::of(alloc, &bundle) {
-            Ok(numbers) => numbers,
-            Err(fault) => return Err((bundle, fault)),
-        };
-        match copy_rows(alloc, &bundle, &numbers, rows) {
-            Ok(rows) => Ok(Case {
-                lib,
-                bundle,
-                rows,
-                numbers,
-                creds,
-                range,
-                inodes,
-            }),
+        match memory_for(alloc, &bundle, rows) {
+            Ok(memory) => Ok(Case::within(memory, lib, creds, bundle, rows, range, inodes)),
             Err(fault) => Err((bundle, fault)),
+        }
+    }
+
+    /// The same, in memory that was made for it. It takes no memory.
+    pub fn within(
+        memory: CaseMemory,
+        lib: LibNo,
+        creds: Creds,
+        bundle: Bundle,
+        rows: &Shadow,
+        range: CoreRange,
+        inodes: u32,
+    ) -> Case
+        requires judgeable { IsJudgeable bundle rows.now range inodes }
+        requires memory { HasCaseMemory bundle (length rows.now) memory }
+        ensures { result ≡ record { lib = lib; bundle = bundle; rows = copied_rows (bundle_in bundle) rows.now; creds = creds; range = range; inodes = inodes } }
+    {
+        let CaseMemory {
+            numbers,
+            rows: copied,
+        } = memory;
+        let numbers = Numbers::of(numbers, &bundle);
+        let copied = copy_rows(copied, &bundle, &numbers, rows);
+        Case {
+            lib,
+            bundle,
+            rows: copied,
+            numbers,
+            creds,
+            range,
+            inodes,
         }
     }
 
@@ -167,7 +192,7 @@ impl Case {
         if ino > self.inodes {
             return None;
         }
-        self.rows.row(ino)
+        self.rows.row(&self.numbers, ino)
     }
 
     /// Whether its rows are just those that a case of its bundle would have of this table. It takes no
@@ -182,7 +207,7 @@ impl Case {
     pub fn is_written(&self, ino: u32) -> bool
         ensures { result ≡ is_written (bundle_in self.now.bundle) ino }
     {
-        self.numbers.writes.contains(&ino)
+        self.numbers.writes.has(ino)
     }
 
     /// The body that the hold of this number lent. `None` exactly where the bundle holds no such
@@ -191,13 +216,51 @@ impl Case {
         ensures held { IsSome result ↔ IsTrue (is_among ino (bundle_in self.now.bundle).holds) }
         ensures body { IfSome result (λ b. b.now ≡ lent_body (case_in self.now) ino) }
     {
-        self.numbers.holds.get(&ino)
+        body_lent(self.bundle.holds(), &self.numbers.holds, ino)
+    }
+
+    /// The numbers of the bundle's holds, in rising order.
+    pub fn held_numbers(&self) -> &[u32]
+        ensures { result.now ≡ sorted_by (λ n. n) (bundle_in self.now.bundle).holds }
+    {
+        self.numbers.holds.in_order()
+    }
+
+    /// The place of a number among those of the write leases, and then of those that were handed in. `None`
+    /// exactly where it is none of these.
+    pub fn own_place(&self, ino: u32) -> Option<usize>
+        ensures { result ≡ place_of ino (map (λ f. f.stands.ino) self.now.bundle.writes ++ map (λ n. n.no) self.now.bundle.inodes) }
+    {
+        self.numbers.own_place(ino)
     }
 
     /// Whether this is one of the inode numbers that were handed in.
     pub fn is_fresh(&self, ino: u32) -> bool
         ensures { result ≡ is_among ino (bundle_in self.now.bundle).numbers }
     {
-        self.numbers.fresh.contains(&ino)
+        self.numbers.fresh.has(ino)
     }
+}
+
+/// Memory for the case of just this bundle.
+fn memory_for(alloc: Global, bundle: &Bundle, rows: &Shadow) -> Result<CaseMemory, NoMemory>
+    ensures { IfOk result (HasCaseMemory bundle.now (length rows.now)) }
+{
+    let tables = if writes_directory(bundle) {
+        rows.inodes() as usize + 1
+    } else {
+        0
+    };
+    let memory = CaseMemory::with(alloc, value_count(bundle)?, tables)?;
+    Ok(memory)
+}
+
+/// The body that the hold of this number lent, of holds on these numbers.
+fn body_lent<'a>(holds: &'a [HoldLease], numbers: &Places, ino: u32) -> Option<&'a [u8; 64]>
+    requires { numbers.now ≡ map (λ h. h.ino) holds.now }
+    ensures { option_copied result ≡ body_lent holds.now ino }
+{
+    let at = numbers.find(ino)?;
+    let hold = holds.get(at)?;
+    Some(hold.body())
 }

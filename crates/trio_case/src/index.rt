@@ -8,6 +8,7 @@ ghost use Rattle.trio_layout.specs.Case.{bundle_core};
 ghost use Rattle.trio_layout.specs.Core.{page_of};
 ghost use Rattle.trio_case.specs.Cases.{case_in};
 ghost use Rattle.trio_case.specs.Indexed.{HasPlacesFor, IsIndexOf};
+ghost use Rattle.trio_case.specs.Order.{place_of};
 ghost use Rattle.trio_case.specs.Places.{bytes_at};
 
 use crate::case::Case;
@@ -59,6 +60,20 @@ impl PageIndex {
         let _bundle = case.bundle();
         let (_, page) = self.kept.find(no)?;
         Some(page.place)
+    }
+
+    /// Where the page of this number stands among all pages of the bundle: of each write lease its index
+    /// pages and then its blocks, and after them the pages that were allotted. `None` exactly where it is
+    /// none of the bundle's.
+    pub fn nth(&self, case: &Case, no: u32) -> Option<usize>
+        requires { IsIndexOf case.now self.now }
+        ensures { result ≡ place_of no (bundle_pages (bundle_in case.now.bundle)) }
+    {
+        let _bundle = case.bundle();
+        match self.kept.find(no) {
+            Some((_, page)) => Some(page.nth),
+            None => None,
+        }
     }
 
     /// The page of this number; `None` exactly where it is none of the bundle's.

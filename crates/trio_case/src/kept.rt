@@ -1,16 +1,14 @@
 //! The pages of a bundle, with what they say as far as that was read.
 
-ghost use Rattle.std.specs.Prelude.{◌≡◌, ◌+◌, ◌≤◌, ◌++◌, [], true, None, Some, MatchOption, IfOk, length, map, slice_get, vec_capacity, vec_len};
-ghost use Rattle.std.specs.List.{list_all};
+ghost use Rattle.std.specs.Prelude.{◌≡◌, ◌+◌, ◌≤◌, ◌++◌, [], None, Some, MatchOption, IfOk, length, map, slice_get, vec_capacity, vec_len};
 ghost use Rattle.trio_rights.specs.Bundle.{bundle_pages};
-ghost use Rattle.trio_lists.specs.Lists.{In, are_new};
+ghost use Rattle.trio_lists.specs.Lists.{In};
 ghost use Rattle.trio_lease.specs.Bundles.{Bundled};
 ghost use Rattle.trio_lease.specs.Views.{bundle_in};
-ghost use Rattle.trio_layout.specs.Range.{is_core};
-ghost use Rattle.trio_case.specs.inner.Unread.{numbers_of, AreUnread, IsUnreadOf};
+ghost use Rattle.trio_case.specs.inner.Unread.{numbers_of, AreUnread, CountsItself, IsUnreadOf};
 ghost use Rattle.trio_case.specs.Order.{in_order, AreRising};
 ghost use Rattle.trio_case.specs.Reading.{listed_seen};
-ghost use Rattle.trio_case.specs.Rooms.{entries_kept, kept_page, unread_blocks, HasPagePlaces, HasPlaces, KeepsPages};
+ghost use Rattle.trio_case.specs.Rooms.{entries_kept, kept_page, AreCountedIn, HasPagePlaces, HasReadPlaces, KeepsPages};
 ghost use Rattle.trio_case.specs.inner.Steps.{StandsAt};
 
 use crate::case::Case;
@@ -18,7 +16,6 @@ use crate::entries::DirEntry;
 use crate::listing::push;
 use crate::places::PagePlace;
 use std::alloc::Global;
-use trio_layout::CoreRange;
 use trio_lease::{Bundle, FreshPage, WriteLease};
 use trio_page::{NoMemory, PageNo};
 
@@ -44,6 +41,8 @@ pub(crate) struct KeptPage {
     /// As a directory block: its entries among those that are kept.
     pub entries: Option<Span>,
     pub index: Option<KeptIndex>,
+    /// Where it stands among all pages of the bundle, in the order of the bundle.
+    pub nth: usize,
 }
 
 /// A part of a list.
@@ -77,24 +76,18 @@ impl KeptPages {
         })
     }
 
-    /// The pages of a bundle, none of which was read yet, with a place for whatever they may say.
-    pub fn of(alloc: Global, bundle: &Bundle, range: CoreRange) -> Result<KeptPages, NoMemory>
-        requires core { list_all (is_core range) (bundle_pages (bundle_in bundle.now)) ≡ true }
-        requires apart { are_new [] (bundle_pages (bundle_in bundle.now)) ≡ true }
-        ensures made { IfOk result (λ kept. IsUnreadOf bundle.now kept) }
-        ensures empty { IfOk result (λ kept. vec_len kept.entries ≡ 0) }
-        ensures places { IfOk result (λ kept. HasPlaces kept) }
-        ensures count { IfOk result (λ kept. (vec_len kept.pages ≤ range.end) × (unread_blocks kept ≡ vec_len kept.pages)) }
+    /// No pages, with places for so many, and for whatever they may say.
+    pub fn for_reading(alloc: Global, pages: usize) -> Result<KeptPages, NoMemory>
+        ensures { IfOk result (HasReadPlaces pages) }
     {
-        let count = page_count(bundle)?;
-        let mut kept = KeptPages {
-            order: Vec::with_capacity(alloc, count)?,
-            pages: Vec::with_capacity(alloc, count)?,
-            entries: Vec::with_capacity(alloc, 16 * count)?,
-            numbers: Vec::with_capacity(alloc, 511 * count)?,
-        };
-        kept.fill(bundle);
-        Ok(kept)
+        let entries = pages.checked_mul(16).ok_or(NoMemory)?;
+        let numbers = pages.checked_mul(511).ok_or(NoMemory)?;
+        Ok(KeptPages {
+            order: Vec::with_capacity(alloc, pages)?,
+            pages: Vec::with_capacity(alloc, pages)?,
+            entries: Vec::with_capacity(alloc, entries)?,
+            numbers: Vec::with_capacity(alloc, numbers)?,
+        })
     }
 
     /// Makes its pages those of a bundle, none of which was read yet. It takes no memory.
@@ -103,6 +96,7 @@ impl KeptPages {
         ensures made { IsUnreadOf bundle.now self.new }
         ensures entries { self.new.entries ≡ self.old.entries }
         ensures numbers { self.new.numbers ≡ self.old.numbers }
+        ensures counted { AreCountedIn (bundle_pages (bundle_in bundle.now)) self.new.pages.items }
     {
         set_pages(&mut self.pages, bundle);
         sort_pages(&mut self.pages);
@@ -159,6 +153,7 @@ fn set_pages(pages: &mut Vec<KeptPage>, bundle: &Bundle)
     requires { length (bundle_pages (bundle_in bundle.now)) ≤ vec_capacity pages.old }
     ensures numbers { numbers_of pages.new.items ≡ bundle_pages (bundle_in bundle.now) }
     ensures unread { AreUnread bundle.now pages.new.items }
+    ensures counted { AreCountedIn (bundle_pages (bundle_in bundle.now)) pages.new.items }
 {
     pages.clear();
     let writes = bundle.writes();
@@ -174,13 +169,15 @@ fn add_index(pages: &mut Vec<KeptPage>, file: usize, lease: &WriteLease)
     requires { vec_len pages.old + length lease.now.stands.index ≤ vec_capacity pages.old }
     ensures numbers { numbers_of pages.new.items ≡ numbers_of pages.old.items ++ map (λ p. p.no.0) lease.now.stands.index }
     ensures unread { (b : Bundled) → slice_get b.writes file ≡ Some lease.now → AreUnread b pages.old.items → AreUnread b pages.new.items }
+    ensures counted { CountsItself pages.old.items → CountsItself pages.new.items }
     ensures capacity { vec_capacity pages.old ≤ vec_capacity pages.new }
 {
     for at in 0..lease.index_len() {
         let Some(no) = lease.index_no(at) else {
             return;
         };
-        push(pages, unread(no, PagePlace::Index(file, at)));
+        let nth = pages.len();
+        push(pages, unread(no, PagePlace::Index(file, at), nth));
     }
 }
 
@@ -188,13 +185,15 @@ fn add_blocks(pages: &mut Vec<KeptPage>, file: usize, lease: &WriteLease)
     requires { vec_len pages.old + length lease.now.stands.blocks ≤ vec_capacity pages.old }
     ensures numbers { numbers_of pages.new.items ≡ numbers_of pages.old.items ++ map (λ p. p.no.0) lease.now.stands.blocks }
     ensures unread { (b : Bundled) → slice_get b.writes file ≡ Some lease.now → AreUnread b pages.old.items → AreUnread b pages.new.items }
+    ensures counted { CountsItself pages.old.items → CountsItself pages.new.items }
     ensures capacity { vec_capacity pages.old ≤ vec_capacity pages.new }
 {
     for at in 0..lease.blocks_len() {
         let Some(no) = lease.block_no(at) else {
             return;
         };
-        push(pages, unread(no, PagePlace::Block(file, at)));
+        let nth = pages.len();
+        push(pages, unread(no, PagePlace::Block(file, at), nth));
     }
 }
 
@@ -202,9 +201,11 @@ fn add_fresh(pages: &mut Vec<KeptPage>, fresh: &[FreshPage])
     requires { vec_len pages.old + length fresh.now ≤ vec_capacity pages.old }
     ensures numbers { numbers_of pages.new.items ≡ numbers_of pages.old.items ++ map (λ p. p.no.0) fresh.now }
     ensures unread { (b : Bundled) → b.pages ≡ fresh.now → AreUnread b pages.old.items → AreUnread b pages.new.items }
+    ensures counted { CountsItself pages.old.items → CountsItself pages.new.items }
 {
     for at in 0..fresh.len() {
-        push(pages, unread(fresh[at].no(), PagePlace::Fresh(at)));
+        let nth = pages.len();
+        push(pages, unread(fresh[at].no(), PagePlace::Fresh(at), nth));
     }
 }
 
@@ -228,13 +229,14 @@ fn set_numbers(numbers: &mut Vec<u32>, pages: &[KeptPage])
 }
 
 /// A page of which nothing was read yet.
-fn unread(no: PageNo, place: PagePlace) -> KeptPage
-    ensures { result ≡ record { no = no.0; place = place; entries = None; index = None } }
+fn unread(no: PageNo, place: PagePlace, nth: usize) -> KeptPage
+    ensures { result ≡ record { no = no.0; place = place; entries = None; index = None; nth = nth } }
 {
     KeptPage {
         no: no.0,
         place,
         entries: None,
         index: None,
+        nth,
     }
 }

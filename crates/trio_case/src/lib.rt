@@ -2,12 +2,13 @@
 //!
 //! - A [`Case`] is a bundle with all that the rules ask of it: the rows of its files, the library's
 //!   credentials, the core range and the number of inode numbers. No page of the image is in it but
-//!   the bundle's own.
+//!   the bundle's own. It is made in a [`CaseMemory`], which can be made before there is a bundle.
 //! - A [`PageRoom`] is the memory of what is read of a case ([`read_file`]). In it stands what the
 //!   bundle's pages say, so that none is looked at more than once as a directory block, and once as
 //!   an index page.
 //! - A [`Listing`] is what a bundle proposes, without its pages.
 //! - A [`PageIndex`] finds a page of the bundle by its number.
+//! - A [`BundleSize`] says how much a bundle has. Memory goes by it.
 #![tactic(auto)]
 
 mod case;
@@ -17,10 +18,13 @@ mod file;
 mod index;
 mod kept;
 mod listing;
+mod memory;
 mod names;
+mod numbered;
 mod numbers;
 mod places;
 mod room;
+mod size;
 
 pub use case::Case;
 pub use chain::read_chain;
@@ -28,5 +32,7 @@ pub use entries::{DirEntry, FaultPlace};
 pub use file::read_file;
 pub use index::PageIndex;
 pub use listing::{ListedEntry, ListedFile, Listing, ListingRoom};
+pub use memory::CaseMemory;
 pub use places::PagePlace;
 pub use room::PageRoom;
+pub use size::{BundleSize, writes_directory};

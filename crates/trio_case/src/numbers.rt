@@ -1,48 +1,93 @@
 //! What a bundle has under an inode number, and the rows that are copied for it.
 
-ghost use Rattle.std.specs.Prelude.{◌≡◌, ◌≢◌, ◌<◌, ◌++◌, ◌∷◌, [], ◌||◌, ℕ, List, None, ◌↔◌, IfOk, IsTrue, OnOk, is_some, length, map, true};
-ghost use Rattle.std.specs.List.{list_all, list_any};
-ghost use Rattle.std.specs.Option.{option_map, option_or};
-ghost use Rattle.std.specs.Ordering.{nat_cmp};
-ghost use Rattle.std.specs.BTreeMap.{get};
-ghost use Rattle.std.specs.BTreeSet.{contains};
+ghost use Rattle.std.specs.Prelude.{◌≡◌, ◌≢◌, ◌<◌, ◌≤◌, ◌+◌, ◌++◌, [], ◌||◌, ℕ, None, ◌↔◌, IfOk, IsTrue, length, map, replicate, true, vec_capacity, vec_len};
+ghost use Rattle.std.specs.List.{list_all};
+ghost use Rattle.std.specs.Option.{option_map};
 ghost use Rattle.trio_rights.specs.Row.{row_in};
-ghost use Rattle.trio_lists.specs.Lists.{is_among};
+ghost use Rattle.trio_lists.specs.Lists.{are_new, is_among};
 ghost use Rattle.trio_lease.specs.Bundles.{Bundled};
 ghost use Rattle.trio_lease.specs.Views.{bundle_in};
 ghost use Rattle.trio_layout.specs.Copied.{copied_row};
 ghost use Rattle.trio_layout.specs.Allowed.{has_kind};
 ghost use Rattle.trio_tables.specs.Row.{as_row};
 ghost use Rattle.trio_case.specs.Cases.{lent_numbers, HasDirectoryParents};
-ghost use Rattle.trio_case.specs.inner.Maps.{body_lent, is_directory, row_kept, table_row, HasCopied, HasRowsOf, Tells};
+ghost use Rattle.trio_case.specs.Memory.{value_count};
+ghost use Rattle.trio_case.specs.Order.{place_of};
+ghost use Rattle.trio_case.specs.inner.Maps.{row_kept, rows_seen, table_row, HasCopied, Tells};
+ghost use Rattle.trio_case.specs.inner.Memory.{HasNumbersMemory, HasRowsFor, NumbersDiffer};
+ghost use Rattle.trio_case.specs.inner.Numbered.{HasNumberPlaces};
 
+use crate::listing::push;
+use crate::numbered::{NumbersRoom, Places};
+use crate::size::writes_directory;
 use std::alloc::Global;
-use std::collections::{BTreeMap, BTreeSet};
 use trio_lease::{Bundle, FreshIno, HoldLease, WriteLease};
 use trio_page::NoMemory;
-use trio_rights::Kind;
 use trio_tables::{Row, Shadow};
 
 /// The inode numbers of a bundle, by what it has under them.
 #[derive(Drop)]
 pub(crate) struct Numbers {
     /// Those of its write leases.
-    pub writes: BTreeSet<u32>,
-    /// Those of its holds, each with the body that it lent.
-    pub holds: BTreeMap<u32, [u8; 64]>,
+    pub writes: Places,
+    /// Those of its holds.
+    pub holds: Places,
     /// Those that were handed in.
-    pub fresh: BTreeSet<u32>,
+    pub fresh: Places,
+}
+
+/// The memory of the inode numbers of a bundle.
+#[derive(Drop)]
+pub(crate) struct NumbersMemory {
+    pub writes: NumbersRoom,
+    pub holds: NumbersRoom,
+    pub fresh: NumbersRoom,
+}
+
+impl NumbersMemory {
+    /// Memory for so many write leases, holds and handed-in numbers, each.
+    pub fn with(alloc: Global, values: usize) -> Result<NumbersMemory, NoMemory>
+        ensures { IfOk result (HasNumbersMemory values) }
+    {
+        Ok(NumbersMemory {
+            writes: NumbersRoom::with(alloc, values)?,
+            holds: NumbersRoom::with(alloc, values)?,
+            fresh: NumbersRoom::with(alloc, values)?,
+        })
+    }
 }
 
 impl Numbers {
-    pub fn of(alloc: Global, bundle: &Bundle) -> Result<Numbers, NoMemory>
-        ensures { IfOk result (λ n. Tells n bundle.now) }
+    /// The inode numbers of a bundle, which differ. It takes no memory.
+    pub fn of(memory: NumbersMemory, bundle: &Bundle) -> Numbers
+        requires memory { HasNumbersMemory (value_count bundle.now) memory }
+        requires differ { NumbersDiffer bundle.now }
+        ensures { Tells result bundle.now }
     {
-        Ok(Numbers {
-            writes: written(alloc, bundle.writes())?,
-            holds: lent_bodies(alloc, bundle.holds())?,
-            fresh: handed_in(alloc, bundle.inodes())?,
-        })
+        let NumbersMemory {
+            writes,
+            holds,
+            fresh,
+        } = memory;
+        Numbers {
+            writes: written(writes, bundle.writes()),
+            holds: held(holds, bundle.holds()),
+            fresh: handed_in(fresh, bundle.inodes()),
+        }
+    }
+
+    /// The place of a number among those of the write leases and then of the holds.
+    fn lent_place(&self, ino: u32) -> Option<usize>
+        ensures { result ≡ place_of ino (self.now.writes ++ self.now.holds) }
+    {
+        place_in_both(&self.writes, &self.holds, ino)
+    }
+
+    /// The place of a number among those of the write leases and then of those that were handed in.
+    pub fn own_place(&self, ino: u32) -> Option<usize>
+        ensures { result ≡ place_of ino (self.now.writes ++ self.now.fresh) }
+    {
+        place_in_both(&self.writes, &self.fresh, ino)
     }
 
     /// The row of a number where it is copied.
@@ -59,52 +104,58 @@ impl Numbers {
 
     /// Whether the bundle writes or holds a number, or writes the directory that lists it.
     fn is_own(&self, ino: u32, parent: u32) -> bool
-        ensures { result ≡ (contains nat_cmp self.now.writes ino || is_some (get nat_cmp self.now.holds ino) || contains nat_cmp self.now.writes parent) }
+        ensures { result ≡ (is_among ino self.now.writes || is_among ino self.now.holds || is_among parent self.now.writes) }
     {
-        self.writes.contains(&ino) || self.holds.contains_key(&ino) || self.writes.contains(&parent)
+        self.writes.has(ino) || self.holds.has(ino) || self.writes.has(parent)
     }
 }
 
-fn written(alloc: Global, writes: &[WriteLease]) -> Result<BTreeSet<u32>, NoMemory>
-    ensures { IfOk result (λ s. (n : ℕ) → contains nat_cmp s n ≡ is_among n (map (λ f. f.stands.ino) writes.now)) }
+/// The place of a number in a list and then in another; `None` exactly where it is in neither.
+fn place_in_both(first: &Places, second: &Places, ino: u32) -> Option<usize>
+    ensures { result ≡ place_of ino (first.now ++ second.now) }
 {
-    let mut numbers = BTreeSet::new(alloc);
+    let (count, _more) = (first.len(), second.len());
+    match (first.find(ino), second.find(ino)) {
+        (Some(at), _) => Some(at),
+        (None, Some(at)) => Some(count + at),
+        (None, None) => None,
+    }
+}
+
+fn written(mut room: NumbersRoom, writes: &[WriteLease]) -> Places
+    requires memory { HasNumberPlaces (length writes.now) room }
+    requires blank { room.numbers.items ≡ [] }
+    requires differ { are_new [] (map (λ f. f.stands.ino) writes.now) ≡ true }
+    ensures { result ≡ map (λ f. f.stands.ino) writes.now }
+{
     for lease in writes {
-        numbers.insert(lease.ino())?;
+        push(&mut room.numbers, lease.ino());
     }
-    Ok(numbers)
+    Places::of(room)
 }
 
-fn handed_in(alloc: Global, inodes: &[FreshIno]) -> Result<BTreeSet<u32>, NoMemory>
-    ensures { IfOk result (λ s. (n : ℕ) → contains nat_cmp s n ≡ is_among n (map (λ f. f.no) inodes.now)) }
+fn held(mut room: NumbersRoom, holds: &[HoldLease]) -> Places
+    requires memory { HasNumberPlaces (length holds.now) room }
+    requires blank { room.numbers.items ≡ [] }
+    requires differ { are_new [] (map (λ h. h.ino) holds.now) ≡ true }
+    ensures { result ≡ map (λ h. h.ino) holds.now }
 {
-    let mut numbers = BTreeSet::new(alloc);
-    for ino in inodes {
-        numbers.insert(ino.no())?;
-    }
-    Ok(numbers)
-}
-
-fn lent_bodies(alloc: Global, holds: &[HoldLease]) -> Result<BTreeMap<u32, [u8; 64]>, NoMemory>
-    ensures { IfOk result (λ m. (n : ℕ) → get nat_cmp m n ≡ body_lent holds.now n) }
-{
-    let mut bodies = BTreeMap::new(alloc);
     for hold in holds {
-        add_body(&mut bodies, hold)?;
+        push(&mut room.numbers, hold.ino());
     }
-    Ok(bodies)
+    Places::of(room)
 }
 
-/// Adds the body of a hold, unless one of its number is there.
-fn add_body(bodies: &mut BTreeMap<u32, [u8; 64]>, hold: &HoldLease) -> Result<(), NoMemory>
-    ensures { OnOk result ((n : ℕ) → get nat_cmp bodies.new n ≡ option_or (get nat_cmp bodies.old n) (body_lent (hold.now ∷ []) n)) }
+fn handed_in(mut room: NumbersRoom, inodes: &[FreshIno]) -> Places
+    requires memory { HasNumberPlaces (length inodes.now) room }
+    requires blank { room.numbers.items ≡ [] }
+    requires differ { are_new [] (map (λ n. n.no) inodes.now) ≡ true }
+    ensures { result ≡ map (λ n. n.no) inodes.now }
 {
-    let ino = hold.ino();
-    if bodies.contains_key(&ino) {
-        return Ok(());
+    for ino in inodes {
+        push(&mut room.numbers, ino.no());
     }
-    bodies.insert(ino, *hold.body())?;
-    Ok(())
+    Places::of(room)
 }
 
 /// The rows that are copied for a bundle.
@@ -112,64 +163,76 @@ fn add_body(bodies: &mut BTreeMap<u32, [u8; 64]>, hold: &HoldLease) -> Result<()
 pub(crate) enum CopiedRows {
     /// Where it writes a directory: by inode number.
     Table(Vec<Option<Row>>),
-    /// Where it doesn't: those of its own files, however many numbers the image has.
-    Few(BTreeMap<u32, Row>),
+    /// Where it doesn't: of its own files alone, of the written ones and then of the held ones.
+    Few(Vec<Option<Row>>),
+}
+
+/// The memory of the rows that are copied for a bundle.
+#[derive(Drop)]
+pub(crate) struct RowsMemory {
+    // a place for each inode number; none where no directory is written
+    table: Vec<Option<Row>>,
+    few: Vec<Option<Row>>,
+}
+
+impl RowsMemory {
+    /// Memory for the rows of so many files, and for a table over so many numbers.
+    pub fn with(alloc: Global, values: usize, numbers: usize) -> Result<RowsMemory, NoMemory>
+        ensures few { IfOk result (λ m. values ≤ vec_capacity m.few) }
+        ensures no_few { IfOk result (λ m. m.few.items ≡ []) }
+        ensures table { IfOk result (λ m. m.table.items ≡ replicate numbers None) }
+    {
+        Ok(RowsMemory {
+            table: vec![in alloc; None; numbers]?,
+            few: Vec::with_capacity(alloc, values)?,
+        })
+    }
 }
 
 impl CopiedRows {
     /// The row of a number, where it is copied.
-    pub fn row(&self, ino: u32) -> Option<Row>
-        ensures { option_map as_row result ≡ row_kept self.now ino }
+    pub fn row(&self, numbers: &Numbers, ino: u32) -> Option<Row>
+        ensures { option_map as_row result ≡ row_kept numbers.now self.now ino }
     {
         match self {
             CopiedRows::Table(rows) => *rows.get(ino as usize)?,
-            CopiedRows::Few(rows) => rows.get(&ino).copied(),
+            CopiedRows::Few(rows) => *rows.get(numbers.lent_place(ino)?)?,
         }
     }
 }
 
 /// The rows of the files of a bundle, and of the recorded children of the directories that it
-/// writes. Only where it writes one does it take a pass over the table.
+/// writes. Only where it writes one does it take a pass over the table. It takes no memory.
 pub(crate) fn copy_rows(
-    alloc: Global,
+    memory: RowsMemory,
     bundle: &Bundle,
     numbers: &Numbers,
     rows: &Shadow,
-) -> Result<CopiedRows, NoMemory>
+) -> CopiedRows
+    requires memory { HasRowsFor bundle.now (length rows.now) memory }
     requires tells { Tells numbers.now bundle.now }
     requires parents { HasDirectoryParents rows.now }
     requires written { list_all (λ f. has_kind f.stands.kind (row_in rows.now f.stands.ino)) bundle.now.writes ≡ true }
-    ensures { IfOk result (λ m. (n : ℕ) → row_kept m n ≡ copied_row (bundle_in bundle.now) n (row_in rows.now n)) }
+    ensures { (n : ℕ) → row_kept numbers.now result n ≡ copied_row (bundle_in bundle.now) n (row_in rows.now n) }
 {
-    if writes_directory(bundle.writes()) {
-        let table = rows_in_table(alloc, numbers, rows)?;
-        Ok(CopiedRows::Table(table))
+    let RowsMemory { table, few } = memory;
+    if writes_directory(bundle) {
+        CopiedRows::Table(rows_in_table(table, numbers, rows))
     } else {
-        let few = own_rows(alloc, bundle, rows)?;
-        Ok(CopiedRows::Few(few))
+        CopiedRows::Few(own_rows(few, bundle, rows))
     }
 }
 
-fn writes_directory(writes: &[WriteLease]) -> bool
-    ensures { result ≡ list_any (λ f. is_directory f.stands.kind) writes.now }
+/// A pass over the table, into an empty one over its numbers.
+fn rows_in_table(mut table: Vec<Option<Row>>, numbers: &Numbers, rows: &Shadow) -> Vec<Option<Row>>
+    requires size { vec_len table ≡ length rows.now }
+    requires empty { (n : ℕ) → table_row table.items n ≡ None }
+    ensures { (b : Bundled) → Tells numbers.now b → (n : ℕ) → table_row result.items n ≡ copied_row (bundle_in b) n (row_in rows.now n) }
 {
-    writes.iter().any(|lease| lease.kind() == Kind::Directory)
-}
-
-/// A pass over the table.
-fn rows_in_table(
-    alloc: Global,
-    numbers: &Numbers,
-    rows: &Shadow,
-) -> Result<Vec<Option<Row>>, NoMemory>
-    ensures { (b : Bundled) → Tells numbers.now b → IfOk result (λ t. (n : ℕ) → table_row t.items n ≡ copied_row (bundle_in b) n (row_in rows.now n)) }
-{
-    let count = rows.inodes() + 1;
-    let mut table = vec![in alloc; None; count as usize]?;
-    for ino in 0..count {
+    for ino in 0..rows.inodes() + 1 {
         copy_row(&mut table, numbers, rows, ino);
     }
-    Ok(table)
+    table
 }
 
 /// Puts the row of a number in its place, which is empty, where it is copied.
@@ -189,11 +252,11 @@ fn copy_row(table: &mut [Option<Row>], numbers: &Numbers, rows: &Shadow, ino: u3
 
 /// Whether just these rows are copied for the bundle from a table. One pass over the table.
 pub(crate) fn is_copied(numbers: &Numbers, copied: &CopiedRows, rows: &Shadow) -> bool
-    ensures { (b : Bundled) → Tells numbers.now b → IsTrue result ↔ HasCopied b rows.now copied.now }
+    ensures { (b : Bundled) → Tells numbers.now b → IsTrue result ↔ HasCopied numbers.now b rows.now copied.now }
 {
     for ino in 0..rows.inodes() + 1 {
         let row = numbers.copied(ino, rows.row(ino));
-        if !is_same(copied.row(ino), row) {
+        if !is_same(copied.row(numbers, ino), row) {
             return false;
         }
     }
@@ -206,27 +269,17 @@ fn is_same(here: Option<Row>, there: Option<Row>) -> bool
     here == there
 }
 
-/// The rows of the bundle's own files.
-fn own_rows(alloc: Global, bundle: &Bundle, rows: &Shadow) -> Result<BTreeMap<u32, Row>, NoMemory>
-    ensures { IfOk result (λ m. HasRowsOf rows.now m (lent_numbers bundle.now)) }
+/// The rows of the bundle's own files, in an empty list that has places for them.
+fn own_rows(mut few: Vec<Option<Row>>, bundle: &Bundle, rows: &Shadow) -> Vec<Option<Row>>
+    requires empty { few.items ≡ [] }
+    requires places { length bundle.now.writes + length bundle.now.holds ≤ vec_capacity few }
+    ensures { rows_seen result.items ≡ map (row_in rows.now) (lent_numbers bundle.now) }
 {
-    let mut copied = BTreeMap::new(alloc);
     for lease in bundle.writes() {
-        add_row(&mut copied, rows, lease.ino())?;
+        push(&mut few, rows.row(lease.ino()));
     }
     for hold in bundle.holds() {
-        add_row(&mut copied, rows, hold.ino())?;
+        push(&mut few, rows.row(hold.ino()));
     }
-    Ok(copied)
-}
-
-/// Adds the row of a number, where it is live.
-fn add_row(copied: &mut BTreeMap<u32, Row>, rows: &Shadow, ino: u32) -> Result<(), NoMemory>
-    ensures { OnOk result ((done : List ℕ) → HasRowsOf rows.now copied.old done → HasRowsOf rows.now copied.new (done ++ ino ∷ [])) }
-{
-    let Some(row) = rows.row(ino) else {
-        return Ok(());
-    };
-    copied.insert(ino, row)?;
-    Ok(())
+    few
 }

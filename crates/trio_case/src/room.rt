@@ -1,12 +1,12 @@
 //! The memory of what is read in a judgement.
 
-ghost use Rattle.std.specs.Prelude.{◌≡◌, ◌*◌, ◌<◌, ◌≤◌, IfOk, IfSome, is_some, length, map, vec_len};
+ghost use Rattle.std.specs.Prelude.{◌≡◌, ◌*◌, ◌<◌, ◌≤◌, IfOk, IfSome, is_some, length, map};
 ghost use Rattle.trio_lists.specs.Lists.{is_among};
 ghost use Rattle.trio_rights.specs.Bundle.{bundle_pages};
 ghost use Rattle.trio_lease.specs.Views.{bundle_in};
 ghost use Rattle.trio_case.specs.Order.{in_order, place_of};
 ghost use Rattle.trio_case.specs.Reading.{listed_seen};
-ghost use Rattle.trio_case.specs.Rooms.{entries_kept, looks_left, IsRoomFor, Keeps};
+ghost use Rattle.trio_case.specs.Rooms.{entries_kept, looks_left, HasPageMemory, IsPageMemory, IsRoomFor, Keeps};
 
 use crate::case::Case;
 use crate::entries::DirEntry;
@@ -30,14 +30,14 @@ pub struct PageRoom {
 }
 
 impl PageRoom {
-    /// Room for what is read of this case, whatever its pages say then.
-    pub fn with(alloc: Global, case: &Case) -> Result<PageRoom, NoMemory>
-        ensures { IfOk result (λ room. IsRoomFor case.now room) }
+    /// Memory for what is read of any bundle of at most so many pages, of an image of so many core pages.
+    /// It can be made before there is a bundle.
+    pub fn with(alloc: Global, pages: usize, core: usize) -> Result<PageRoom, NoMemory>
+        ensures { IfOk result (IsPageMemory pages core) }
     {
-        let range = case.range();
-        let core = range.end.saturating_sub(range.first) as usize;
-        let kept = KeptPages::of(alloc, case.bundle(), range)?;
-        let Ok(names) = u32::try_from(16 * kept.pages.len() + 1) else {
+        let kept = KeptPages::for_reading(alloc, pages)?;
+        let entries = pages.checked_mul(16).ok_or(NoMemory)?;
+        let Ok(names) = u32::try_from(entries.saturating_add(1)) else {
             return Err(NoMemory);
         };
         Ok(PageRoom {
@@ -48,8 +48,16 @@ impl PageRoom {
         })
     }
 
-    /// In a room that was just made for a case, what is kept is true of it.
-    pub fn opened(&self, case: &Case)
+    /// Makes it the room of a case, of which nothing was read yet. It takes no memory.
+    pub fn fill(&mut self, case: &Case)
+        requires { HasPageMemory case.now self.old }
+        ensures { IsRoomFor case.now self.new }
+    {
+        self.kept.fill(case.bundle());
+    }
+
+    /// A fact, and no step: in a room that was just made for a case, what is kept is true of it.
+    pub fn new_room_keeps(&self, case: &Case)
         requires { IsRoomFor case.now self.now }
         ensures keeps { Keeps case.now self.now }
         ensures looks { looks_left self.now ≤ 2 * length (bundle_pages (bundle_in case.now.bundle)) }
@@ -57,10 +65,12 @@ impl PageRoom {
         let _bundle = case.bundle();
     }
 
-    /// How many pages it has room for: those of the bundle.
-    pub fn page_count(&self) -> usize
-        ensures { result ≡ vec_len self.now.kept.pages }
+    /// How many pages the bundle of this case has, for which the room was made.
+    pub fn page_count(&self, case: &Case) -> usize
+        requires { IsRoomFor case.now self.now }
+        ensures { result ≡ length (bundle_pages (bundle_in case.now.bundle)) }
     {
+        let _case = case;
         self.kept.pages.len()
     }
 

@@ -1,7 +1,6 @@
 -- A room made for a case is one for the case with other bytes in a page, and for the case with touched blocks.
-use Rattle.std.proofs.Common.{◌≡◌, ℕ, List, [], map, inl, inr, refl, sym, ap, ◌∙◌, subst}
+use Rattle.std.proofs.Common.{◌≡◌, [], map, inl, inr, refl, sym, ap, ◌∙◌, subst}
 use Rattle.std.specs.Prelude.{MatchOption}
-use Rattle.trio_page.specs.declared.page.PageNo.{PageNo}
 use Rattle.trio_rights.specs.Row.{row_in}
 use Rattle.trio_rights.specs.Bundle.{Written}
 use Rattle.trio_lists.specs.Lists.{In}
@@ -14,6 +13,7 @@ use Rattle.trio_layout.specs.Survey.{Met}
 use Rattle.trio_layout.specs.JudgedFiles.{written_files, written_met}
 use Rattle.trio_case.specs.Cases.{CaseShown, case_in}
 use Rattle.trio_judge.specs.Judging.{IsJudgeRoom}
+use Rattle.trio_judge.specs.Laws.{RoomStaysTouched, RoomStaysWithBytes}
 use Rattle.trio_judge.specs.declared.verdict.Room.{Room}
 use Rattle.trio_judge.specs.declared.walk.Walk.{Walk}
 use Rattle.trio_judge.specs.inner.Walk.{KeepRights, Lists, OwningFails, RightsFail, Starts, own_numbers}
@@ -83,10 +83,10 @@ room_alike k b' a room h = record {
 }
 
 -- so it is one for the case with other bytes in a page
-pub room_still : (k : CaseShown) (number : PageNo) (bytes : List ℕ) (room : Room) → IsJudgeRoom k room → IsJudgeRoom (record k { bundle = with_bytes k.bundle number bytes }) room
+pub room_still : RoomStaysWithBytes
 room_still k number bytes room h =
     room_alike k (with_bytes k.bundle number bytes) (alike k.bundle number bytes) room h
 
 -- and for the case with touched blocks
-pub room_touched : (k : CaseShown) (room : Room) → IsJudgeRoom k room → IsJudgeRoom (record k { bundle = touched k.bundle }) room
+pub room_touched : RoomStaysTouched
 room_touched k room h = room_alike k (touched k.bundle) (alike_touched k.bundle) room h

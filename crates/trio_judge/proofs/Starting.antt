@@ -1,17 +1,20 @@
 -- A walk before it begins.
 use Rattle.std.proofs.Common.{◌≡◌, ℕ, zero, suc, ◌+◌, ◌<◌, ◌≤◌, ◌⊎◌, Bool, true, false, ◌&&◌, ◌||◌, eqb, leb, ltb, List, [], ◌∷◌, ◌++◌, length, map, get_or, replicate, Option, None, Some, inl, inr, refl, sym, ap, ◌∙◌, subst, vec_capacity, vec_len, arith}
-use Rattle.std.specs.List.{list_all}
+use Rattle.std.specs.List.{list_all, list_any}
 use Rattle.std.proofs.lemmas.Bool.{and_parts}
+use Rattle.std.proofs.lemmas.List.{length-append, length-map}
 use Rattle.std.proofs.lemmas.Bool.Decides.{nat_tests}
 use Rattle.trio_rights.specs.Row.{Row, row_in}
 use Rattle.trio_rights.specs.Bundle.{Written, bundle_pages}
-use Rattle.trio_rights.specs.declared.kind.Kind.TheVariants.{Regular}
+use Rattle.trio_rights.specs.declared.kind.Kind.{Kind}
+use Rattle.trio_rights.specs.declared.kind.Kind.TheVariants.{Regular, Directory}
+use Rattle.trio_case.specs.inner.Maps.{is_directory}
 use Rattle.trio_rights.specs.Kind.{same_kind}
 use Rattle.trio_lists.specs.Lists.{In, is_among, are_new}
 use Rattle.trio_lists.specs.Marked.{MarksJust}
 use Rattle.trio_lists.specs.Sorting.{sorted_by}
 use Rattle.trio_lists.proofs.Marked.{are_new-append, is_among-push}
-use Rattle.trio_lists.proofs.Members.{In-cases, In-left, In-map, list_all-In, map-In}
+use Rattle.trio_lists.proofs.Members.{In-cases, In-left, In-map, list_all-In, list_all-each, map-In}
 use Rattle.trio_lists.proofs.Sorting.{sorted_in, sorted_new}
 use Rattle.std.specs.Prelude.{MatchOption}
 use Rattle.trio_lease.specs.declared.parts.InoParts.{InoParts}
@@ -64,7 +67,7 @@ no_marks n = λ k l. blank n k
     blank (suc n) zero = refl
     blank (suc n) (suc k) = blank n k
 
-length-blank : (n : ℕ) → length (replicate n false) ≡ n
+pub length-blank : (n : ℕ) → length (replicate n false) ≡ n
 length-blank zero = refl
 length-blank (suc n) = ap suc (length-blank n)
 
@@ -82,13 +85,13 @@ written_fits k n fits i =
     let t : leb n k.inodes ≡ true = list_all-In (λ m. leb m k.inodes) n (lent_numbers k.bundle) fits.lent j in
     let l : n ≤ k.inodes = grind (arith, nat_tests) in omega (arith, l)
 
-written_once : (k : CaseShown) → IsCase k.bundle k.range k.inodes → are_new [] (map (λ (w : Written). w.ino) (case_in k).bundle.writes) ≡ true
+pub written_once : (k : CaseShown) → IsCase k.bundle k.range k.inodes → are_new [] (map (λ (w : Written). w.ino) (case_in k).bundle.writes) ≡ true
 written_once k fits =
     ap (are_new []) (writes_of k)
     ∙ (and_parts (are_new [] (map (λ (f : LentFile). f.stands.ino) k.bundle.writes)) (are_new (map (λ (f : LentFile). f.stands.ino) k.bundle.writes) (map (λ h. h.ino) k.bundle.holds)) (sym (are_new-append [] (map (λ (f : LentFile). f.stands.ino) k.bundle.writes) (map (λ h. h.ino) k.bundle.holds)) ∙ fits.once)).0
 
 -- the walk that has passed no file
-pub starts : (k : CaseShown) (w : Walk) (n : ℕ) → IsCase k.bundle k.range k.inodes → files_of w ≡ written_files (case_in k) → length (own_numbers (case_in k)) ≤ vec_capacity w.files → (n ≡ k.inodes + 1) ⊎ ((n ≡ 0) × (list_all (λ m. same_kind m.kind Regular) (files_of w) ≡ true)) → MarksJust w.found (numbers (files_of w)) → length w.found ≡ n → w.named ≡ replicate n false → w.pages.items ≡ replicate (length (bundle_pages (case_in k).bundle)) false → vec_len w.pages ≡ length (bundle_pages (case_in k).bundle) → w.owning ≡ None → w.rights ≡ None → w.listing.listing ≡ listing_of (case_in k) [] [] → HasListingRoom (case_in k) w.listing.room → Starts (case_in k) w
+pub starts : (k : CaseShown) (w : Walk) (n : ℕ) → IsCase k.bundle k.range k.inodes → files_of w ≡ written_files (case_in k) → length (own_numbers (case_in k)) ≤ vec_capacity w.files → (n ≡ k.inodes + 1) ⊎ (list_all (λ m. same_kind m.kind Regular) (files_of w) ≡ true) → MarksJust w.found (numbers (files_of w)) → length w.found ≡ n → w.named ≡ replicate n false → w.pages.items ≡ replicate (length (bundle_pages (case_in k).bundle)) false → vec_len w.pages ≡ length (bundle_pages (case_in k).bundle) → w.owning ≡ None → w.rights ≡ None → w.listing.listing ≡ listing_of (case_in k) [] [] → HasListingRoom (case_in k) w.listing.room → Starts (case_in k) w
 starts k w n fits files places sized found len named pages many owning rights listing room =
     let c : Case = case_in k in
     let ns : numbers (files_of w) ≡ map (λ (x : Written). x.ino) (sorted_by (λ x. x.ino) c.bundle.writes) = ap numbers files ∙ written_numbers c in
@@ -120,7 +123,7 @@ starts k w n fits files places sized found len named pages many owning rights li
         pages = many;
         marks = elim sized [
           | inl all ↦ inl (record { found = len ∙ all; named = ap length named ∙ length-blank n ∙ all })
-          | inr none ↦ inr none.1
+          | inr none ↦ inr none
         ];
         room = room;
       };
@@ -138,3 +141,43 @@ mets_of k = go k.bundle.writes
 pub met_numbers : (fs : List JudgedFile) → numbers (map file_met fs) ≡ map (λ (f : JudgedFile). f.ino) fs
 met_numbers [] = refl
 met_numbers (f ∷ fs) = ap (λ ns. f.ino ∷ ns) (met_numbers fs)
+
+-- the written files of a bundle that writes no directory are regular
+regular_met : (c : Case) (w : Written) (o : Option Row) → (written_at w o).kind ≡ w.kind
+regular_met c w None = refl
+regular_met c w (Some r) = refl
+
+regular_kind : (kind : Kind) → is_directory kind ≡ false → same_kind kind Regular ≡ true
+regular_kind Regular e = refl
+regular_kind Directory e = absurd cc
+
+either_false : (a b : Bool) → (a || b) ≡ false → (a ≡ false) × (b ≡ false)
+either_false true b h = absurd cc
+either_false false b h = (refl, h)
+
+none_of : (fs : List LentFile) (f : LentFile) → list_any (λ (g : LentFile). is_directory g.stands.kind) fs ≡ false → In f fs → is_directory f.stands.kind ≡ false
+none_of [] f h i = absurd i
+none_of (g ∷ gs) f h (inl e) = rw e (either_false (is_directory g.stands.kind) (list_any (λ (x : LentFile). is_directory x.stands.kind) gs) h).0
+none_of (g ∷ gs) f h (inr i) = none_of gs f (either_false (is_directory g.stands.kind) (list_any (λ (x : LentFile). is_directory x.stands.kind) gs) h).1 i
+
+pub regular_files : (k : CaseShown) → list_any (λ (f : LentFile). is_directory f.stands.kind) k.bundle.writes ≡ false → list_all (λ m. same_kind m.kind Regular) (written_files (case_in k)) ≡ true
+regular_files k none =
+    list_all-each (λ (m : Met). same_kind m.kind Regular) (written_files (case_in k)) (λ m i.
+    let at = map-In (written_met (case_in k)) m (sorted_by (λ (w : Written). w.ino) (case_in k).bundle.writes) i in
+    let of = map-In (λ (f : LentFile). written_in f.stands) at.0 k.bundle.writes (sorted_in (λ (w : Written). w.ino) at.0 (case_in k).bundle.writes at.1) in
+    let kind : m.kind ≡ of.0.stands.kind = ap (λ (x : Met). x.kind) at.2 ∙ regular_met (case_in k) at.0 (row_in k.rows at.0.ino) ∙ ap (λ (x : Written). x.kind) of.2 in
+    ap (λ x. same_kind x Regular) kind ∙ regular_kind of.0.stands.kind (none_of k.bundle.writes of.0 none of.1))
+
+-- the files' numbers, as they were made
+pub made_numbers : (c : Case) (ws : List Written) (fs : List JudgedFile) → map file_met fs ≡ map (written_met c) ws → map (λ (f : JudgedFile). f.ino) fs ≡ map (λ (w : Written). w.ino) ws
+made_numbers c ws fs e = sym (met_numbers fs) ∙ ap numbers e ∙ go ws
+  where
+    go : (xs : List Written) → numbers (map (written_met c) xs) ≡ map (λ (w : Written). w.ino) xs
+    go [] = refl
+    go (x ∷ xs) = rw (written_number x (row_in c.rows x.ino), go xs) refl
+
+-- how many numbers judged files may have
+pub own_count : (k : CaseShown) → length (own_numbers (case_in k)) ≡ length k.bundle.writes + length k.bundle.inodes
+own_count k =
+    let writes = map (λ (w : Written). w.ino) (case_in k).bundle.writes in
+    omega (arith, length-append writes (case_in k).bundle.numbers, length-map (case_in k).bundle.writes (λ (w : Written). w.ino), length-map k.bundle.writes (λ (f : LentFile). written_in f.stands), length-map k.bundle.inodes (λ (n : InoParts). n.no))

@@ -1,60 +1,107 @@
 //! A walk before it begins.
 
-ghost use Rattle.std.specs.Prelude.{◌≡◌, ◌+◌, ◌*◌, ◌≤◌, ◌⊎◌, [], true, IfOk, length, map, vec_capacity};
-ghost use Rattle.std.specs.List.{list_all};
+ghost use Rattle.std.specs.Prelude.{◌≡◌, ◌*◌, ◌≤◌, [], false, IfOk, length, map, replicate, vec_capacity, vec_len};
 ghost use Rattle.trio_rights.specs.Bundle.{bundle_pages};
-ghost use Rattle.trio_rights.specs.Kind.{same_kind};
-ghost use Rattle.trio_rights.specs.declared.kind.Kind.TheVariants.{Regular};
 ghost use Rattle.trio_lists.specs.Marked.{MarksJust};
-ghost use Rattle.trio_lists.specs.Sorting.{sorted_by};
 ghost use Rattle.trio_lease.specs.Views.{bundle_in, written_in};
 ghost use Rattle.trio_layout.specs.JudgedFiles.{written_files, written_met};
 ghost use Rattle.trio_case.specs.Cases.{case_in};
-ghost use Rattle.trio_judge.specs.inner.Walk.{file_met, listing_of, own_numbers, HasListingRoom, Starts};
+ghost use Rattle.trio_case.specs.Listed.{no_listing};
+ghost use Rattle.trio_judge.specs.inner.Walk.{file_met, listing_of, own_numbers, Starts};
+ghost use Rattle.trio_judge.specs.inner.WalkMemory.{HasWalkMemory, IsWalkMemory};
 
 use crate::walk::{JudgedFile, Walk, add};
 use std::alloc::Global;
-use trio_case::{Case, Listing, ListingRoom};
-use trio_lease::{Bundle, WriteLease};
+use trio_case::{BundleSize, Case, Listing, ListingRoom};
+use trio_lease::WriteLease;
 use trio_marks::Marks;
 use trio_page::NoMemory;
-use trio_rights::Kind;
 
-impl Walk {
-    /// The walk that has passed no file, with places for all that it may find. Without a directory
-    /// among the written files there are no entries, and it has no tables by inode number.
-    pub fn with(alloc: Global, case: &Case, pages: usize) -> Result<Walk, NoMemory>
-        requires { pages ≡ length (bundle_pages (bundle_in case.now.bundle)) }
-        ensures { IfOk result (Starts (case_in case.now)) }
+/// The memory of a walk, by how much its bundle may have.
+#[derive(Drop)]
+pub(crate) struct WalkMemory {
+    pub files: Vec<JudgedFile>,
+    pub found: Marks,
+    pub pages: Vec<bool>,
+    pub named: Marks,
+    pub listing: Listing,
+}
+
+impl WalkMemory {
+    /// Memory for the walk of any bundle of at most this size, with tables over so many inode numbers:
+    /// the image's, with the number 0, or none where the bundle is to write no directory.
+    pub fn with(alloc: Global, size: BundleSize, tables: u32) -> Result<WalkMemory, NoMemory>
+        ensures { IfOk result (IsWalkMemory size tables) }
     {
-        let _bundle = case.bundle();
-        let files = written_files(alloc, case)?;
-        let numbers = number_count(case, &files)?;
-        let found = found_marks(alloc, &files, numbers)?;
-        Ok(Walk {
-            files,
-            found,
-            pages: vec![in alloc; false; pages]?,
-            named: Marks::with(alloc, numbers)?,
-            listing: held_listing(alloc, case, pages, numbers)?,
-            owning: None,
-            rights: None,
+        let entries = entry_count(size.pages)?;
+        let room = ListingRoom {
+            held: size.values,
+            files: size.values,
+            index: size.pages,
+            blocks: size.pages,
+            entries,
+        };
+        Ok(WalkMemory {
+            files: Vec::with_capacity(alloc, size.values)?,
+            found: Marks::with(alloc, tables)?,
+            pages: Vec::with_capacity(alloc, size.pages)?,
+            named: Marks::with(alloc, tables)?,
+            listing: Listing::with(alloc, room, tables)?,
         })
     }
 }
 
-/// The written files of a case in rising order of their numbers, with a place for each new file.
-fn written_files(alloc: Global, case: &Case) -> Result<Vec<JudgedFile>, NoMemory>
-    ensures files { IfOk result (λ fs. map file_met fs.items ≡ written_files (case_in case.now)) }
-    ensures places { IfOk result (λ fs. length (own_numbers (case_in case.now)) ≤ vec_capacity fs) }
+/// How many entries so many pages may list.
+fn entry_count(pages: usize) -> Result<usize, NoMemory>
+    ensures { IfOk result (λ n. n ≡ 16 * pages) }
+{
+    pages.checked_mul(16).ok_or(NoMemory)
+}
+
+impl Walk {
+    /// The walk that has passed no file, with places for all that it may find. It takes no memory.
+    pub fn of(memory: WalkMemory, case: &Case, count: usize) -> Walk
+        requires memory { HasWalkMemory case.now memory }
+        requires count { count ≡ length (bundle_pages (bundle_in case.now.bundle)) }
+        ensures { Starts (case_in case.now) result }
+    {
+        let _bundle = case.bundle();
+        let WalkMemory {
+            files,
+            found,
+            mut pages,
+            named,
+            listing,
+        } = memory;
+        let files = written_files(files, case);
+        let found = found_marks(found, &files);
+        set_unmarked(&mut pages, count);
+        Walk {
+            files,
+            found,
+            pages,
+            named,
+            listing: held_listing(listing, case),
+            owning: None,
+            rights: None,
+        }
+    }
+}
+
+/// The written files of a case in rising order of their numbers, in an empty list that has a place for
+/// each, and for each new file.
+fn written_files(mut files: Vec<JudgedFile>, case: &Case) -> Vec<JudgedFile>
+    requires empty { files.items ≡ [] }
+    requires places { length (own_numbers (case_in case.now)) ≤ vec_capacity files }
+    ensures files { map file_met result.items ≡ written_files (case_in case.now) }
+    ensures places { length (own_numbers (case_in case.now)) ≤ vec_capacity result }
 {
     let bundle = case.bundle();
-    let mut files = Vec::with_capacity(alloc, bundle.writes().len() + bundle.inodes().len())?;
     for lease in bundle.writes() {
         add(&mut files, written(case, lease));
     }
-    files.sort_by_key(|file| file.ino)?;
-    Ok(files)
+    files.sort_unstable_by_key(|file| file.ino);
+    files
 }
 
 /// A written file, with its lease's body, at the place that its row names.
@@ -76,69 +123,41 @@ fn written(case: &Case, lease: &WriteLease) -> JudgedFile
     }
 }
 
-fn are_regular(files: &[JudgedFile]) -> bool
-    ensures { result ≡ list_all (λ f. same_kind f.kind Regular) files.now }
+/// Marks none of which is set, with those of these files.
+fn found_marks(mut found: Marks, files: &[JudgedFile]) -> Marks
+    requires { MarksJust found [] }
+    ensures marked { MarksJust result (map (λ f. f.ino) files.now) }
+    ensures len { length result ≡ length found }
 {
-    files.iter().all(|file| file.kind == Kind::Regular)
-}
-
-/// How many numbers the tables by inode number have: none where all written files are regular, so
-/// that there are no entries.
-fn number_count(case: &Case, files: &[JudgedFile]) -> Result<u32, NoMemory>
-    ensures { IfOk result (λ n. (n ≡ case.now.inodes + 1) ⊎ ((n ≡ 0) × (list_all (λ m. same_kind m.kind Regular) (map file_met files.now) ≡ true))) }
-{
-    if are_regular(files) {
-        return Ok(0);
-    }
-    case.inodes().checked_add(1).ok_or(NoMemory)
-}
-
-/// Marks over so many numbers, with those of these files.
-fn found_marks(alloc: Global, files: &[JudgedFile], numbers: u32) -> Result<Marks, NoMemory>
-    ensures marked { IfOk result (λ m. MarksJust m (map (λ f. f.ino) files.now)) }
-    ensures len { IfOk result (λ m. length m ≡ numbers) }
-{
-    let mut found = Marks::with(alloc, numbers)?;
     for file in files {
         if (file.ino as usize) < found.len() {
             let _new = found.set(file.ino);
         }
     }
-    Ok(found)
+    found
 }
 
-/// The held numbers of a bundle in rising order.
-fn held_numbers(alloc: Global, bundle: &Bundle) -> Result<Vec<u32>, NoMemory>
-    ensures { IfOk result (λ ns. ns.items ≡ sorted_by (λ n. n) (bundle_in bundle.now).holds) }
+/// Makes an empty list, which has places for them, so many marks that aren't set.
+pub(crate) fn set_unmarked(marks: &mut Vec<bool>, count: usize)
+    requires empty { marks.old.items ≡ [] }
+    requires places { count ≤ vec_capacity marks.old }
+    ensures items { marks.new.items ≡ replicate count false }
+    ensures len { vec_len marks.new ≡ count }
 {
-    let mut held = Vec::with_capacity(alloc, bundle.holds().len())?;
-    for hold in bundle.holds() {
-        held.push(hold.ino())?;
+    for _ in 0..count {
+        add(marks, false);
     }
-    held.sort()?;
-    Ok(held)
 }
 
-/// The listing of the held numbers alone, in rising order, with a place for all that the bundle may
-/// list.
-fn held_listing(alloc: Global, case: &Case, pages: usize, numbers: u32) -> Result<Listing, NoMemory>
-    requires { pages ≡ length (bundle_pages (bundle_in case.now.bundle)) }
-    ensures listing { IfOk result (λ l. l.listing ≡ listing_of (case_in case.now) [] []) }
-    ensures room { IfOk result (λ l. HasListingRoom (case_in case.now) l.room) }
+/// The listing of the held numbers alone, in rising order, in an empty one that has a place for each.
+fn held_listing(mut listing: Listing, case: &Case) -> Listing
+    requires empty { listing.listing ≡ no_listing }
+    requires places { length case.now.bundle.holds ≤ listing.room.held }
+    ensures listing { result.listing ≡ listing_of (case_in case.now) [] [] }
+    ensures room { result.room ≡ listing.room }
 {
-    let bundle = case.bundle();
-    let held = held_numbers(alloc, bundle)?;
-    let entries = pages.checked_mul(16).ok_or(NoMemory)?;
-    let room = ListingRoom {
-        held: held.len(),
-        files: bundle.writes().len() + bundle.inodes().len(),
-        index: pages,
-        blocks: pages,
-        entries,
-    };
-    let mut listing = Listing::with(alloc, room, numbers)?;
-    for ino in &held {
+    for ino in case.held_numbers() {
         listing.add_held(*ino);
     }
-    Ok(listing)
+    listing
 }

@@ -6,11 +6,14 @@ ghost use Rattle.trio_lease.specs.Views.{bundle_in};
 ghost use Rattle.trio_case.specs.Cases.{case_in};
 ghost use Rattle.trio_judge.specs.Verdicts.{meets_three, HasFewEntries, HasListing, IsLowest, is_sound};
 ghost use Rattle.trio_judge.specs.Judging.{IsJudgeRoom};
+ghost use Rattle.trio_judge.specs.Memory.{HasRoomMemory, IsRoomMemory};
+ghost use Rattle.trio_case.specs.Memory.{TablesServe};
 ghost use Rattle.trio_judge.specs.inner.Walk.{HasEnded, IsPassed};
 
+use crate::start::{WalkMemory, set_unmarked};
 use crate::walk::{FaultAt, Walk};
 use std::alloc::Global;
-use trio_case::{Case, Listing, PageRoom};
+use trio_case::{BundleSize, Case, Listing, PageRoom, writes_directory};
 use trio_page::{NoMemory, Reads};
 
 /// What the judge says of a bundle.
@@ -58,16 +61,81 @@ pub struct Room {
     heads: Vec<bool>,
 }
 
+/// The memory of a judgement, by how much its bundle may have. It can be made before there is a bundle.
+#[derive(Drop)]
+pub struct RoomMemory {
+    pages: PageRoom,
+    walk: WalkMemory,
+    heads: Vec<bool>,
+}
+
+impl RoomMemory {
+    /// Memory for the judgement of any bundle of at most this size, of an image of so many core pages, with
+    /// tables over so many inode numbers: the image's, with the number 0, or none where the bundle is to
+    /// write no directory.
+    pub fn with(
+        alloc: Global,
+        size: BundleSize,
+        core: usize,
+        tables: u32,
+    ) -> Result<RoomMemory, NoMemory>
+        ensures { IfOk result (IsRoomMemory size core tables) }
+    {
+        Ok(RoomMemory {
+            pages: PageRoom::with(alloc, size.pages, core)?,
+            walk: WalkMemory::with(alloc, size, tables)?,
+            heads: Vec::with_capacity(alloc, size.pages)?,
+        })
+    }
+}
+
 impl Room {
+    /// The room of a case, in memory that was made for it. It takes no memory.
+    pub fn of(memory: RoomMemory, case: &Case) -> Room
+        requires { HasRoomMemory case.now memory }
+        ensures { IsJudgeRoom case.now result }
+    {
+        let RoomMemory {
+            mut pages,
+            walk,
+            mut heads,
+        } = memory;
+        pages.fill(case);
+        let count = pages.page_count(case);
+        let walk = Walk::of(walk, case, count);
+        set_unmarked(&mut heads, count);
+        Room { pages, walk, heads }
+    }
+
     /// Room for the judgement of this case, whatever its pages say then.
     pub fn with(alloc: Global, case: &Case) -> Result<Room, NoMemory>
         ensures { IfOk result (IsJudgeRoom case.now) }
     {
-        let pages = PageRoom::with(alloc, case)?;
-        let count = pages.page_count();
-        let walk = Walk::with(alloc, case, count)?;
-        let heads = vec![in alloc; false; count]?;
-        Ok(Room { pages, walk, heads })
+        let memory = memory_for(alloc, case)?;
+        Ok(Room::of(memory, case))
+    }
+}
+
+/// Memory for the judgement of just this case.
+fn memory_for(alloc: Global, case: &Case) -> Result<RoomMemory, NoMemory>
+    ensures { IfOk result (HasRoomMemory case.now) }
+{
+    let range = case.range();
+    let core = range.end.saturating_sub(range.first) as usize;
+    let size = BundleSize::of(case.bundle())?;
+    let memory = RoomMemory::with(alloc, size, core, table_size(case)?)?;
+    Ok(memory)
+}
+
+/// Over how many inode numbers the judgement of a case needs tables: over none where no directory is
+/// written, so that there are no entries.
+fn table_size(case: &Case) -> Result<u32, NoMemory>
+    ensures { IfOk result (λ n. TablesServe case.now.bundle (case.now.inodes + 1) n) }
+{
+    if writes_directory(case.bundle()) {
+        case.inodes().checked_add(1).ok_or(NoMemory)
+    } else {
+        Ok(0)
     }
 }
 
@@ -91,7 +159,7 @@ pub fn judge(case: &Case, room: Room, reads: &mut Reads) -> Verdict
         mut walk,
         mut heads,
     } = room;
-    pages.opened(case);
+    pages.new_room_keeps(case);
     let mut at = 0;
     while at < walk.files.len() {
         if let Err(place) = walk.visit(case, &mut pages, &mut heads, at, reads) {

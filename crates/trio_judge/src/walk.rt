@@ -374,11 +374,12 @@ fn first_denied(before: Option<FaultAt>, keeps: bool, place: FaultAt) -> Option<
     }
 }
 
-/// Adds a file to a queue that has a place for it.
-pub(crate) fn add(files: &mut Vec<JudgedFile>, file: JudgedFile)
-    requires room { vec_len files.old < vec_capacity files.old }
-    ensures added { files.new.items ≡ files.old.items ++ file ∷ [] }
-    ensures room { vec_capacity files.old ≤ vec_capacity files.new }
+/// Appends to a list that has a place for it.
+pub(crate) fn add<T: Drop>(list: &mut Vec<T>, value: T)
+    requires room { vec_len list.old < vec_capacity list.old }
+    ensures added { list.new.items ≡ list.old.items ++ value ∷ [] }
+    ensures len { vec_len list.new ≡ vec_len list.old + 1 }
+    ensures room { vec_capacity list.old ≤ vec_capacity list.new }
 {
-    let _pushed = files.push(file);
+    let _pushed = list.push(value);
 }

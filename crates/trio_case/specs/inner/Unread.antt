@@ -5,7 +5,7 @@ use Rattle.trio_lists.specs.Lists.{In}
 use Rattle.trio_lease.specs.Bundles.{Bundled}
 use Rattle.trio_lease.specs.Views.{bundle_in}
 use Rattle.trio_case.specs.Order.{in_order}
-use Rattle.trio_case.specs.Rooms.{IsUnread}
+use Rattle.trio_case.specs.Rooms.{AreCountedIn, IsUnread}
 use Rattle.trio_case.specs.declared.kept.KeptPages.{KeptPages}
 use Rattle.trio_case.specs.declared.kept.KeptPage.{KeptPage}
 
@@ -16,6 +16,10 @@ numbers_of pages = map (λ p. p.no) pages
 -- each is a page of the bundle of which nothing was read
 abbrev pub AreUnread : Bundled → List KeptPage → Type 0
 AreUnread b pages = (p : KeptPage) → In p pages → IsUnread b p
+
+-- each knows its place among the numbers of all
+abbrev pub CountsItself : List KeptPage → Type 0
+CountsItself pages = AreCountedIn (numbers_of pages) pages
 
 -- just the bundle's pages in rising order, none of which was read
 pub record IsUnreadOf (b : Bundled) (kept : KeptPages) : Type 0 where

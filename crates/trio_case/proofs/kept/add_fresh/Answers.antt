@@ -4,8 +4,9 @@ use Rattle.std.specs.Option.{option_map}
 use Rattle.std.proofs.lemmas.Option.{slice_get_read}
 use Rattle.trio_lease.specs.declared.parts.FreshParts.{FreshParts}
 use Rattle.trio_case.specs.Rooms.{IsUnread}
+use Rattle.trio_case.specs.declared.kept.KeptPage.{KeptPage}
 use Rattle.trio_case.specs.inner.Unread.{numbers_of}
-use Rattle.trio_case.proofs.Making.{more_numbers, one_unread}
+use Rattle.trio_case.proofs.Making.{more_numbers, one_counted, one_unread}
 use Rattle.trio_case.proofs.kept.add_fresh.Goals as goal
 
 pub loop-at-preserved : goal.loop-at-preserved
@@ -24,6 +25,7 @@ loop-at-preserved c =
             index = refl;
           }) in
           one_unread b c.loop-at.pages.items c.push.new.list.items c.unread.result c.push.ensures.items here (turn.unread b file before);
+      counted = λ h. one_counted c.loop-at.pages.items c.push.new.list.items c.unread.result c.push.ensures.items (omega (arith, ap (λ (q : KeptPage). q.nth) c.unread.ensures, c.len-nth.ensures)) (turn.counted h);
       len = omega (arith, c.push.ensures.len, turn.len);
       capacity = omega (arith, c.push.ensures.capacity, turn.capacity);
     }

@@ -1,4 +1,4 @@
-use Rattle.std.proofs.Common.{◌≡◌, ◌+◌, ◌∙◌, ◌++◌, List, ℕ, length, map, take, Some, sym, ap, refl, append_assoc, arith}
+use Rattle.std.proofs.Common.{◌≡◌, ◌+◌, ◌∙◌, ◌++◌, List, ℕ, length, map, take, Some, sym, ap, refl, append_assoc, subst, arith}
 use Rattle.std.specs.Prelude.{slice_get}
 use Rattle.std.specs.List.{flat_map}
 use Rattle.std.proofs.lemmas.List.{length-append, length-map, take_all}
@@ -6,6 +6,7 @@ use Rattle.std.proofs.lemmas.Option.{slice_get_read}
 use Rattle.trio_lease.specs.Shown.{LentFile}
 use Rattle.trio_lease.specs.declared.parts.FreshParts.{FreshParts}
 use Rattle.trio_lease.specs.declared.parts.LentPage.{LentPage}
+use Rattle.trio_case.specs.Rooms.{AreCountedIn}
 use Rattle.trio_case.specs.declared.kept.KeptPage.{KeptPage}
 use Rattle.trio_case.specs.inner.Unread.{numbers_of}
 use Rattle.trio_case.proofs.Making.{bundle_numbers, file_numbers, files_few, files_more, flat_map_more}
@@ -61,6 +62,7 @@ loop-file-preserved c =
       numbers = c.add_blocks.ensures.numbers ∙ ap (λ x. x ++ blocks) c.add_index.ensures.numbers ∙ append_assoc (numbers_of c.loop-file.pages.items) index blocks
           ∙ ap (λ x. x ++ file_numbers f) turn.numbers ∙ sym (flat_map_more file_numbers writes i f there);
       unread = c.add_blocks.ensures.unread c.args.bundle.now lease (c.add_index.ensures.unread c.args.bundle.now lease turn.unread);
+      counted = c.add_blocks.ensures.counted (c.add_index.ensures.counted turn.counted);
       capacity = omega (arith, turn.capacity, c.add_index.ensures.capacity, c.add_blocks.ensures.capacity);
     }
 
@@ -74,3 +76,7 @@ returns-clause-numbers c =
 
 pub returns-clause-unread : goal.returns-clause-unread
 returns-clause-unread c = c.add_fresh.ensures.unread c.args.bundle.now (sym c.pages.ensures) c.loop-file.invariant.unread
+
+pub returns-clause-counted : goal.returns-clause-counted
+returns-clause-counted c =
+    subst (λ ns. AreCountedIn ns c.add_fresh.new.pages.items) (returns-clause-numbers c) (c.add_fresh.ensures.counted c.loop-file.invariant.counted)

@@ -1,9 +1,10 @@
-use Rattle.std.proofs.Common.{◌≡◌, ℕ, map, take}
-use Rattle.std.specs.Ordering.{nat_cmp}
-use Rattle.std.specs.BTreeSet.{contains}
-use Rattle.trio_lists.specs.Lists.{is_among}
+use Rattle.std.proofs.Common.{◌≡◌, length, map, take, vec_len}
+use Rattle.trio_case.specs.inner.Numbered.{HasNumberPlaces}
 use Rattle.trio_case.proofs.numbers.handed_in.Given as goal
 
 abbrev pub invariant-loop-ino : goal.invariant-loop-ino
-invariant-loop-ino l =
-    (n : ℕ) → contains nat_cmp l.numbers n ≡ is_among n (map (λ f. f.no) (take l.ino-index l.inodes))
+invariant-loop-ino l = record {
+  numbers : l.room.numbers.items ≡ map (λ n. n.no) (take l.ino-index l.inodes);
+  len : vec_len l.room.numbers ≡ l.ino-index;
+  places : HasNumberPlaces (length l.inodes) l.room;
+}

@@ -1,10 +1,19 @@
-use Rattle.std.proofs.Common.{◌++◌, map, take}
-use Rattle.trio_case.specs.inner.Maps.{HasRowsOf}
+use Rattle.std.proofs.Common.{◌≡◌, ◌+◌, ◌≤◌, ◌++◌, length, map, take, vec_len}
+use Rattle.std.specs.Prelude.{vec_capacity}
+use Rattle.trio_rights.specs.Row.{row_in}
+use Rattle.trio_case.specs.inner.Maps.{rows_seen}
 use Rattle.trio_case.proofs.numbers.own_rows.Given as goal
 
 abbrev pub invariant-loop-lease : goal.invariant-loop-lease
-invariant-loop-lease l = HasRowsOf l.rows l.copied (map (λ f. f.stands.ino) (take l.lease-index l.bundle.writes))
+invariant-loop-lease l = record {
+  rows : rows_seen l.few.items ≡ map (row_in l.rows) (map (λ f. f.stands.ino) (take l.lease-index l.bundle.writes));
+  len : vec_len l.few ≡ l.lease-index;
+  places : length l.bundle.writes + length l.bundle.holds ≤ vec_capacity l.few;
+}
 
 abbrev pub invariant-loop-hold : goal.invariant-loop-hold
-invariant-loop-hold l =
-    HasRowsOf l.rows l.copied (map (λ f. f.stands.ino) l.bundle.writes ++ map (λ h. h.ino) (take l.hold-index l.bundle.holds))
+invariant-loop-hold l = record {
+  rows : rows_seen l.few.items ≡ map (row_in l.rows) (map (λ f. f.stands.ino) l.bundle.writes ++ map (λ h. h.ino) (take l.hold-index l.bundle.holds));
+  len : vec_len l.few ≡ length l.bundle.writes + l.hold-index;
+  places : length l.bundle.writes + length l.bundle.holds ≤ vec_capacity l.few;
+}

@@ -1,9 +1,10 @@
-use Rattle.std.proofs.Common.{◌≡◌, ℕ, map, take}
-use Rattle.std.specs.Ordering.{nat_cmp}
-use Rattle.std.specs.BTreeSet.{contains}
-use Rattle.trio_lists.specs.Lists.{is_among}
+use Rattle.std.proofs.Common.{◌≡◌, length, map, take, vec_len}
+use Rattle.trio_case.specs.inner.Numbered.{HasNumberPlaces}
 use Rattle.trio_case.proofs.numbers.written.Given as goal
 
 abbrev pub invariant-loop-lease : goal.invariant-loop-lease
-invariant-loop-lease l =
-    (n : ℕ) → contains nat_cmp l.numbers n ≡ is_among n (map (λ f. f.stands.ino) (take l.lease-index l.writes))
+invariant-loop-lease l = record {
+  numbers : l.room.numbers.items ≡ map (λ f. f.stands.ino) (take l.lease-index l.writes);
+  len : vec_len l.room.numbers ≡ l.lease-index;
+  places : HasNumberPlaces (length l.writes) l.room;
+}

@@ -38,10 +38,10 @@ loop-at-init c =
     let k = case_in c.args.case.now in
     let w = c.args.room.walk in
     record {
-      keeps = c.opened.ensures.keeps;
+      keeps = c.new_room_keeps.ensures.keeps;
       queued = c.requires.walk.queued;
       passed = c.requires.walk.passed;
       ready = c.requires.walk.ready;
       heads = subst (AreFoundHeads k (numbers (files_of w))) (sym c.requires.heads) (no_heads k (numbers (files_of w)));
-      looks = omega (arith, c.opened.ensures.looks);
+      looks = omega (arith, c.new_room_keeps.ensures.looks);
     }

@@ -15,8 +15,8 @@ returns-then-inodes-self c =
     let same = c.is_copied.ensures k.bundle c.self.invariant.0 in
     let size : k.inodes + 1 ≡ length rows = grind (arith, nat_tests) in
     rw (← c.self.view_is) (
-      (λ t. tables-same (row_kept k.rows) (λ n. copied_row (bundle_in k.bundle) n (row_in rows n)) (k.inodes + 1) (length rows) size (λ n l. same.0 t n (subst (λ m. n < m) size l))),
-      (λ e. same.1 (λ n l. tables-agree (row_kept k.rows) (λ n. copied_row (bundle_in k.bundle) n (row_in rows n)) (k.inodes + 1) (length rows) n e l)),
+      (λ t. tables-same (row_kept k.numbers k.rows) (λ n. copied_row (bundle_in k.bundle) n (row_in rows n)) (k.inodes + 1) (length rows) size (λ n l. same.0 t n (subst (λ m. n < m) size l))),
+      (λ e. same.1 (λ n l. tables-agree (row_kept k.numbers k.rows) (λ n. copied_row (bundle_in k.bundle) n (row_in rows n)) (k.inodes + 1) (length rows) n e l)),
     )
 
 pub returns-else-inodes-self : goal.returns-else-inodes-self
@@ -25,5 +25,5 @@ returns-else-inodes-self c =
     let rows = c.args.rows.now in
     rw (← c.self.view_is) (
       (λ t. absurd (grind (arith, nat_tests))),
-      (λ e. let size : k.inodes + 1 ≡ length rows = sym (tabulated-length (row_kept k.rows) (k.inodes + 1)) ∙ ap length e ∙ tabulated-length (λ n. copied_row (bundle_in k.bundle) n (row_in rows n)) (length rows) in grind (arith, nat_tests)),
+      (λ e. let size : k.inodes + 1 ≡ length rows = sym (tabulated-length (row_kept k.numbers k.rows) (k.inodes + 1)) ∙ ap length e ∙ tabulated-length (λ n. copied_row (bundle_in k.bundle) n (row_in rows n)) (length rows) in grind (arith, nat_tests)),
     )

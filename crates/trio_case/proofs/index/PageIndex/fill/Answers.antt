@@ -5,5 +5,7 @@ pub fill-requires : goal.fill-requires
 fill-requires c = rw c.bundle.ensures.bundle c.requires.room
 
 pub returns : goal.returns
-returns c =
-    keeps_unread c.args.case.now c.bundle.ensures.fits c.fill.new.self (rw c.bundle.ensures.bundle at c.fill.ensures.made)
+returns c = record {
+  pages = keeps_unread c.args.case.now c.bundle.ensures.fits c.fill.new.self (rw c.bundle.ensures.bundle at c.fill.ensures.made);
+  counted = rw c.bundle.ensures.bundle at c.fill.ensures.counted;
+}

@@ -22,3 +22,6 @@ returns-clause-made c = record {
   numbers = sym (c.set_numbers.ensures ∙ ap numbers_of c.deref.ensures.value);
   each = λ p i. c.set_pages.ensures.unread p (c.sort_pages.ensures.each p i);
 }
+
+pub returns-clause-counted : goal.returns-clause-counted
+returns-clause-counted c = λ p i. c.set_pages.ensures.counted p (c.sort_pages.ensures.each p i)

@@ -1,0 +1,13 @@
+use Rattle.std.proofs.Common.{rules}
+use Rattle.std.proofs.lemmas.List.Sorted.{IsNonDecreasingBy-from_sort, answers_always}
+use Rattle.trio_case.specs.declared.numbered.NumberPlace.{NumberPlace}
+use Rattle.trio_case.proofs.Unstable.{permuted_in, sorted_numbers}
+use Rattle.trio_case.proofs.numbered.sort_places.Goals as goal
+
+pub returns-clause-numbers : goal.returns-clause-numbers
+returns-clause-numbers c =
+    let up = IsNonDecreasingBy-from_sort (λ (p : NumberPlace). p.no) _ (c.sort_unstable_by_key.ensures.sorted (λ (p : NumberPlace). p.no) (answers_always _ _ _ (λ f a r g h. search rules))) in
+    sorted_numbers (λ (p : NumberPlace). p.no) c.args.places.now.items c.sort_unstable_by_key.new.self.items c.sort_unstable_by_key.ensures.permutation up
+
+pub returns-clause-each : goal.returns-clause-each
+returns-clause-each c = permuted_in c.args.places.now.items c.sort_unstable_by_key.new.self.items c.sort_unstable_by_key.ensures.permutation

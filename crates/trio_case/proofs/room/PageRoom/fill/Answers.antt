@@ -1,0 +1,37 @@
+use Rattle.std.proofs.Common.{◌≡◌, ◌∙◌, length, sym, ap, arith}
+use Rattle.std.specs.Prelude.{vec_capacity, vec_len}
+use Rattle.std.proofs.lemmas.List.{length-map}
+use Rattle.trio_rights.specs.Bundle.{bundle_pages}
+use Rattle.trio_lease.specs.Views.{bundle_in}
+use Rattle.trio_case.specs.Rooms.{unread_blocks, unread_index}
+use Rattle.trio_case.specs.declared.kept.KeptPage.{KeptPage}
+use Rattle.trio_case.proofs.Making.{all_unread, all_unread_index}
+use Rattle.trio_case.proofs.Ordered.{order_length}
+use Rattle.trio_case.proofs.room.PageRoom.fill.Goals as goal
+
+pub returns : goal.returns
+returns c =
+    let kept = c.fill.new.self in
+    let own = bundle_pages (bundle_in c.args.case.now.bundle) in
+    let made = rw c.bundle.ensures.bundle at c.fill.ensures.made in
+    let pages = kept.pages.items in
+    let many : length pages ≡ length own = sym (length-map pages (λ (p : KeptPage). p.no)) ∙ ap length (made.numbers ∙ made.order) ∙ order_length own in
+    let blocks : unread_blocks kept ≡ length pages = all_unread pages (λ p i. (made.each p i).entries) in
+    let index : unread_index kept ≡ length pages = all_unread_index pages (λ p i. (made.each p i).index) in
+    let m = c.requires in
+    let no_entries : vec_len kept.entries ≡ 0 = ap vec_len c.fill.ensures.entries ∙ m.kept.no_entries in
+    let no_numbers : vec_len kept.numbers ≡ 0 = ap vec_len c.fill.ensures.numbers ∙ m.kept.no_numbers in
+    record {
+      order = made.order;
+      numbers = made.numbers;
+      each = made.each;
+      space = record {
+        pages = record {
+          entries = omega (arith, many, blocks, no_entries, ap vec_capacity c.fill.ensures.entries, m.kept.entries);
+          numbers = omega (arith, many, index, no_numbers, ap vec_capacity c.fill.ensures.numbers, m.kept.numbers);
+        };
+        index = m.index;
+        blocks = m.blocks;
+        names = omega (arith, many, blocks, no_entries, m.names);
+      };
+    }

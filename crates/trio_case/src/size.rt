@@ -1,0 +1,64 @@
+//! How large a bundle may be.
+
+ghost use Rattle.std.specs.Prelude.{◌≡◌, ◌+◌, ◌-◌, ◌*◌, ◌≤◌, ℕ, IfOk};
+ghost use Rattle.trio_case.specs.Memory.{size_of, value_count, writes_directory};
+
+use crate::kept::page_count;
+use trio_lease::Bundle;
+use trio_page::NoMemory;
+use trio_rights::Kind;
+
+/// How many pages a bundle has at most, and how many values: write leases, holds and handed-in inode
+/// numbers together.
+#[derive(Clone, Copy)]
+pub struct BundleSize {
+    pub pages: usize,
+    pub values: usize,
+}
+
+impl BundleSize {
+    /// The size that no bundle passes whose release needs at most so many bytes, for an image of so many
+    /// pages and inode numbers together: 4 bytes for each of these, 16384 for each page of the bundle, and
+    /// 1024 for the release and for each value. Of pages alone, or of values alone, just so many need no more.
+    pub fn within(bytes: u64, numbers: u32) -> BundleSize
+        ensures enough { (pages values : ℕ) → 4 * numbers + 16384 * pages + 1024 * (1 + values) ≤ bytes → (pages ≤ result.pages) × (values ≤ result.values) }
+        ensures few { (16384 * result.pages ≤ bytes - (4 * numbers + 1024)) × (1024 * result.values ≤ bytes - (4 * numbers + 1024)) }
+    {
+        let rest = bytes.saturating_sub(4 * u64::from(numbers) + 1024);
+        BundleSize {
+            pages: (rest / 16384) as usize,
+            values: (rest / 1024) as usize,
+        }
+    }
+
+    /// The size of just this bundle. A bundle whose counts no `usize` can hold has none.
+    pub fn of(bundle: &Bundle) -> Result<BundleSize, NoMemory>
+        ensures { IfOk result (λ size. size ≡ size_of bundle.now) }
+    {
+        Ok(BundleSize {
+            pages: page_count(bundle)?,
+            values: value_count(bundle)?,
+        })
+    }
+}
+
+/// How many write leases, holds and handed-in numbers a bundle has.
+pub(crate) fn value_count(bundle: &Bundle) -> Result<usize, NoMemory>
+    ensures { IfOk result (λ n. n ≡ value_count bundle.now) }
+{
+    let leases = bundle
+        .writes()
+        .len()
+        .checked_add(bundle.holds().len())
+        .ok_or(NoMemory)?;
+    leases.checked_add(bundle.inodes().len()).ok_or(NoMemory)
+}
+
+/// Whether a bundle writes a directory. Only then do its case and its judgement need tables by inode
+/// number.
+pub fn writes_directory(bundle: &Bundle) -> bool
+    ensures { result ≡ writes_directory bundle.now }
+{
+    let writes = bundle.writes();
+    writes.iter().any(|lease| lease.kind() == Kind::Directory)
+}

@@ -1,0 +1,26 @@
+use Rattle.std.proofs.Common.{ap, arith}
+use Rattle.trio_judge.proofs.Starting.{own_count}
+use Rattle.trio_judge.proofs.start.WalkMemory.with.Goals as goal
+
+pub returns : goal.returns
+returns c = λ k fits t.
+    let own = own_count k in
+    let made = c.in_ok-with-3.ensures in
+    record {
+      files = omega (arith, own, fits.values, c.in_ok-with_capacity.ensures.capacity);
+      no_files = c.in_ok-with_capacity.ensures.items;
+      tables = c.args.tables;
+      sized = t;
+      found = c.in_ok-with.ensures;
+      named = c.in_ok-with-2.ensures;
+      pages = omega (arith, fits.pages, c.in_ok-with_capacity-2.ensures.capacity);
+      no_pages = c.in_ok-with_capacity-2.ensures.items;
+      listing = ap (λ l. l.listing) made;
+      held = omega (arith, fits.values, ap (λ l. l.room.held) made);
+      room = record {
+        files = omega (arith, own, fits.values, ap (λ l. l.room.files) made);
+        index = omega (arith, fits.pages, ap (λ l. l.room.index) made);
+        blocks = omega (arith, fits.pages, ap (λ l. l.room.blocks) made);
+        entries = omega (arith, fits.pages, c.in_ok-entries.ensures, ap (λ l. l.room.entries) made);
+      };
+    }
