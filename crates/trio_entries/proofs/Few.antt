@@ -24,16 +24,10 @@ use Rattle.trio_layout.specs.Survey.{FileRead, Met, numbers}
 use Rattle.trio_layout.proofs.Walks.{fronts_keep}
 use Rattle.trio_case.proofs.Listings.{listed_pages}
 use Rattle.trio_case.proofs.Distinct.{no_more}
-use Rattle.trio_nodes.specs.declared.entry.HandedFile.{HandedFile}
 use Rattle.trio_nodes.specs.declared.entry.RawFile.{RawFile}
 use Rattle.trio_state.specs.Listed.{blocks_listed_of, lent_blocks}
-use Rattle.trio_lease.specs.Bundles.{Bundled}
-use Rattle.trio_lease.specs.Shown.{LentFile}
-use Rattle.trio_lease.specs.Views.{bundle_in, lent_sheet, written_in}
-use Rattle.trio_lease.specs.declared.parts.InoParts.{InoParts}
 use Rattle.trio_state.specs.Moves.{file_outline, outline_of, FileOutline}
-use Rattle.trio_entries.specs.Drafts.{outline_numbers, outline_pages}
-use Rattle.trio_entries.specs.Handed.{block_in, file_in as handed_file, handed_in}
+use Rattle.trio_entries.specs.Drafts.{outline_pages}
 
 -- ---- what is found of distinct numbers is no more than there is
 
@@ -164,17 +158,6 @@ pub refused_few : (b : Bundle) (fs : List RawFile) → are_new [] (map (λ (f : 
 refused_few b fs once =
     omega (arith, found_few (λ (w : Written). w.ino) (λ (w : Written). sheet_numbers w.blocks) (λ (f : RawFile). f.ino) b.writes fs once, lent_few b)
 
-marked_among : (fs : List LentFile) → length (flat_map (λ (f : HandedFile). f.blocks) (map (λ (f : LentFile). handed_file f.stands) fs)) ≡ length (flat_map (λ (w : Written). sheet_numbers w.blocks) (map (λ (f : LentFile). written_in f.stands) fs))
-marked_among [] = refl
-marked_among (f ∷ fs) =
-    let hs = flat_map (λ (x : HandedFile). x.blocks) (map (λ (x : LentFile). handed_file x.stands) fs) in
-    let ws = flat_map (λ (w : Written). sheet_numbers w.blocks) (map (λ (x : LentFile). written_in x.stands) fs) in
-    omega (arith, marked_among fs, length-append (map block_in f.stands.blocks) hs, length-append (sheet_numbers (map lent_sheet f.stands.blocks)) ws, length-map f.stands.blocks block_in, length-map f.stands.blocks lent_sheet, length-map (map lent_sheet f.stands.blocks) (λ (x : Sheet). x.page))
-
--- and so are those that were handed in
-pub handed_few : (b : Bundled) → length (flat_map (λ (f : HandedFile). f.blocks) (handed_in b).writes) ≤ length (bundle_pages (bundle_in b))
-handed_few b = omega (arith, marked_among b.writes, lent_few (bundle_in b))
-
 -- ---- outlines
 
 written_outlined : (ws : List Written) → flat_map (λ (f : FileOutline). f.index ++ f.blocks) (map file_outline ws) ≡ sheet_numbers (flat_map (λ (w : Written). w.index ++ w.blocks) ws)
@@ -190,15 +173,3 @@ pub pages_outlined : (b : Bundle) → outline_pages (outline_of b) ≡ bundle_pa
 pages_outlined b =
     ap (λ l. l ++ sheet_numbers b.pages) (written_outlined b.writes)
     ∙ sym (map-append (λ (x : Sheet). x.page) (flat_map (λ (w : Written). w.index ++ w.blocks) b.writes) b.pages)
-
-numbers_outlined : (fs : List LentFile) → map (λ (f : FileOutline). f.ino) (map file_outline (map (λ (f : LentFile). written_in f.stands) fs)) ≡ map (λ (f : LentFile). f.stands.ino) fs
-numbers_outlined [] = refl
-numbers_outlined (f ∷ fs) = ap (λ ns. f.stands.ino ∷ ns) (numbers_outlined fs)
-
--- its own numbers
-pub own_outlined : (b : Bundled) → outline_numbers (outline_of (bundle_in b)) ≡ map (λ (f : LentFile). f.stands.ino) b.writes ++ map (λ (n : InoParts). n.no) b.inodes
-own_outlined b = ap (λ l. l ++ map (λ (n : InoParts). n.no) b.inodes) (numbers_outlined b.writes)
-
-pub writes_outlined : (fs : List LentFile) → map (λ (f : LentFile). file_outline (written_in f.stands)) fs ≡ map file_outline (map (λ (f : LentFile). written_in f.stands) fs)
-writes_outlined [] = refl
-writes_outlined (f ∷ fs) = ap (λ os. file_outline (written_in f.stands) ∷ os) (writes_outlined fs)

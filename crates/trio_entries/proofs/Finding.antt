@@ -44,12 +44,6 @@ place_more_by key n i xs x within =
     ∙ place_of-last n (key (get_or xs i x)) (map key (take i xs))
     ∙ ap (λ k. option_or (place_of n (map key (take i xs))) (cond (eqb (key (get_or xs i x)) n) (Some k) None)) (length-map (take i xs) key ∙ length-take-le i xs (omega (arith, within)))
 
--- the places among one number more
-pub place_of-more : (n i : ℕ) (xs : List ℕ) → i < length xs → place_of n (take (i + 1) xs) ≡ option_or (place_of n (take i xs)) (cond (eqb (get_or xs i 0) n) (Some i) None)
-place_of-more n i xs within =
-    ap (place_of n) (take_more xs i 0 within) ∙ place_of-last n (get_or xs i 0) (take i xs)
-    ∙ ap (λ k. option_or (place_of n (take i xs)) (cond (eqb (get_or xs i 0) n) (Some k) None)) (length-take-le i xs (omega (arith, within)))
-
 -- ---- what stands at a place
 
 later : {X : Type 0} (y : X) (ys : List X) (o : Option ℕ) → option_and_then (slice_get (y ∷ ys)) (option_map suc o) ≡ option_and_then (slice_get ys) o

@@ -9,3 +9,6 @@ pub mod Judged
 pub mod OneOrder
 pub mod ToldOnce
 pub mod Few
+pub mod FlatPlaces
+pub mod Outlined
+pub mod Sizes

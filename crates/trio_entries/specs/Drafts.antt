@@ -1,15 +1,18 @@
--- The memory of what the entry of a release tells, by the release's outline alone.
-use Rattle.std.specs.Prelude.{ℕ, ◌≡◌, ◌+◌, ◌*◌, ◌≤◌, List, [], ◌∷◌, ◌++◌, map, length, None, replicate, vec_len, vec_capacity}
+-- The memory of what the entry of a release tells, by how much its bundle has.
+use Rattle.std.specs.Prelude.{ℕ, ◌≡◌, ◌+◌, ◌*◌, ◌≤◌, List, [], ◌++◌, length, vec_len, vec_capacity}
 use Rattle.std.specs.Global.{Vec}
 use Rattle.std.specs.List.{flat_map, All}
-use Rattle.trio_state.specs.Moves.{FileOutline, Outline}
+use Rattle.trio_lease.specs.Bundles.{Bundled}
+use Rattle.trio_state.specs.Moves.{Outline}
 use Rattle.trio_case.specs.Indexed.{HasPlacesFor}
-use Rattle.trio_entries.specs.inner.Finding.{ArePlaces}
+use Rattle.trio_case.specs.Memory.{size_of, IsWithin}
+use Rattle.trio_case.specs.declared.size.BundleSize.{BundleSize}
 use Rattle.trio_entries.specs.declared.handed.Room.{Room}
-use Rattle.trio_entries.specs.declared.handed.FileRoom.{FileRoom}
 use Rattle.trio_entries.specs.declared.handed.HandedRoom.{HandedRoom}
 use Rattle.trio_entries.specs.declared.finder.Finder.{Finder}
-use Rattle.trio_entries.specs.declared.draft.Draft.{Draft}
+use Rattle.trio_entries.specs.declared.outline.OutlineMemory.{OutlineMemory}
+use Rattle.trio_entries.specs.declared.draft.ToldMemory.{ToldMemory}
+use Rattle.trio_entries.specs.declared.draft.DraftMemory.{DraftMemory}
 
 -- ---- outlines
 
@@ -17,9 +20,20 @@ use Rattle.trio_entries.specs.declared.draft.Draft.{Draft}
 abbrev pub outline_pages : Outline → List ℕ
 outline_pages o = flat_map (λ f. f.index ++ f.blocks) o.writes ++ o.pages
 
--- the numbers of its written files, and those that were handed in
-abbrev pub outline_numbers : Outline → List ℕ
-outline_numbers o = map (λ f. f.ino) o.writes ++ o.numbers
+-- how many pages a bundle of this outline has, and how many write leases, holds and inode numbers
+abbrev pub outline_size : Outline → BundleSize
+outline_size o = record { pages = length (outline_pages o); values = length o.writes + length o.holds + length o.numbers }
+
+-- there is memory for the outline of a bundle of this size, and nothing in it yet
+pub record HasOutlinePlaces (size : BundleSize) (m : OutlineMemory) : Type 0 where
+  pub files : size.values ≤ vec_capacity m.files
+  pub no_files : m.files.items ≡ []
+  pub holds : size.values ≤ vec_capacity m.holds
+  pub no_holds : m.holds.items ≡ []
+  pub pages : size.pages ≤ vec_capacity m.pages
+  pub no_pages : m.pages.items ≡ []
+  pub numbers : size.values ≤ vec_capacity m.numbers
+  pub no_numbers : m.numbers.items ≡ []
 
 -- ---- pages
 
@@ -39,45 +53,44 @@ pub record IsNewRoom (n : ℕ) (r : Room) : Type 0 where
   pub room : IsRoom n r
   pub empty : r.pages.items ≡ []
 
--- ---- files
-
--- there is memory for the pages of a written file
-pub record IsFileRoom (f : FileOutline) (r : FileRoom) : Type 0 where
-  pub index : IsNewRoom (length f.index) r.index
-  pub blocks : IsNewRoom (length f.blocks) r.blocks
-
--- and of each of these, in the rooms from the last one on
-abbrev pub AreFileRooms : List FileOutline → List FileRoom → Type 0
-AreFileRooms [] rooms = rooms ≡ []
-AreFileRooms (f ∷ fs) rooms =
-    (before : List FileRoom) × (last : FileRoom) × (rooms ≡ before ++ last ∷ []) × IsFileRoom f last × AreFileRooms fs before
-
--- there is memory for a copy of a bundle of this outline
-pub record IsHandedRoom (o : Outline) (r : HandedRoom) : Type 0 where
-  pub files : AreFileRooms o.writes r.files.items
-  pub writes : length o.writes ≤ vec_capacity r.writes
-  pub empty : r.writes.items ≡ []
-  pub holds : r.holds.items ≡ o.holds
-  pub pages : IsNewRoom (length o.pages) r.pages
-  pub numbers : r.numbers.items ≡ o.numbers
+-- there is memory for a copy of a bundle of this size, and nothing in it yet
+pub record HasHandedPlaces (size : BundleSize) (r : HandedRoom) : Type 0 where
+  pub heads : size.values ≤ vec_capacity r.heads
+  pub no_heads : r.heads.items ≡ []
+  pub holds : size.values ≤ vec_capacity r.holds
+  pub no_holds : r.holds.items ≡ []
+  pub pages : IsNewRoom size.pages r.pages
+  pub numbers : size.values ≤ vec_capacity r.numbers
+  pub no_numbers : r.numbers.items ≡ []
 
 -- ---- what is found by number
 
--- The places of the outline's own numbers are known, and there is memory for what else is found of a bundle of this outline:
--- its pages, its marks, and the place of each judged file, none of which is there yet.
-pub record IsFinderFor (o : Outline) (f : Finder) : Type 0 where
-  pub pages : HasPlacesFor (length (outline_pages o)) f.pages
-  pub own : ArePlaces f.own (outline_numbers o)
-  pub judged : f.judged.items ≡ replicate (length (outline_numbers o)) None
-  pub marked : length (outline_pages o) ≤ vec_capacity f.marked
+-- There is memory for what is found of a bundle of this size: its pages, its marks, and the place of each judged file. None of
+-- these is there yet.
+pub record HasFinderPlaces (size : BundleSize) (f : Finder) : Type 0 where
+  pub pages : HasPlacesFor size.pages f.pages
+  pub judged : size.values ≤ vec_capacity f.judged
+  pub unjudged : f.judged.items ≡ []
+  pub marked : size.pages ≤ vec_capacity f.marked
   pub unmarked : f.marked.items ≡ []
 
--- There is memory for all that the entry of a release of this outline tells, accepted or refused: the bundle; of files one for
--- each slot of its pages, each written file and each hold; and of blocks one for each page.
-pub record IsDraftFor (o : Outline) (d : Draft) : Type 0 where
-  pub handed : IsHandedRoom o d.handed
-  pub files : 16 * length (outline_pages o) + length o.writes + length o.holds ≤ vec_capacity d.files
-  pub no_files : d.files.items ≡ []
-  pub blocks : length (outline_pages o) ≤ vec_capacity d.blocks
-  pub no_blocks : d.blocks.items ≡ []
-  pub finder : IsFinderFor o d.finder
+-- ---- all of it
+
+-- There is memory for all that the entry of the release of a bundle of this size tells, accepted or refused: the bundle; of files
+-- one for each slot of its pages, each written file and each hold; and of blocks one for each page.
+pub record HasToldPlaces (size : BundleSize) (m : ToldMemory) : Type 0 where
+  pub handed : HasHandedPlaces size m.handed
+  pub files : 16 * size.pages + size.values ≤ vec_capacity m.files
+  pub no_files : m.files.items ≡ []
+  pub blocks : size.pages ≤ vec_capacity m.blocks
+  pub no_blocks : m.blocks.items ≡ []
+  pub finder : HasFinderPlaces size m.finder
+
+-- there is memory for the entry of the release of this bundle, whatever bytes its pages have
+pub record HasDraftMemory (b : Bundled) (m : DraftMemory) : Type 0 where
+  pub outline : HasOutlinePlaces (size_of b) m.outline
+  pub told : HasToldPlaces (size_of b) m.told
+
+-- memory that was made for a size of a bundle is memory for each bundle that is no larger
+abbrev pub IsDraftMemory : BundleSize → DraftMemory → Type 0
+IsDraftMemory size m = (b : Bundled) → IsWithin b size → HasDraftMemory b m

@@ -1,25 +1,27 @@
 //! What a release tells of blocks.
 
-ghost use Rattle.std.specs.Prelude.{◌≡◌, ◌+◌, ◌≤◌, ◌<◌, ◌^◌, ◌==◌, ◌++◌, ◌∷◌, [], List, None, Option, false, if◌then◌else◌, length, map, slice_get, vec_capacity, vec_len};
+ghost use Rattle.std.specs.Prelude.{◌≡◌, ◌+◌, ◌≤◌, ◌<◌, ◌^◌, ◌==◌, ◌++◌, ◌∷◌, [], List, None, Option, false, if◌then◌else◌, length, slice_get, vec_capacity, vec_len};
 ghost use Rattle.std.specs.List.{flat_map};
 ghost use Rattle.std.specs.Option.{option_map, option_map_or};
 ghost use Rattle.trio_rights.specs.Row.{Row};
-ghost use Rattle.trio_lease.specs.Bundles.{Bundled};
 ghost use Rattle.trio_lease.specs.Views.{bundle_in};
-ghost use Rattle.trio_case.specs.Places.{bytes_at};
+ghost use Rattle.trio_layout.specs.Case.{bundle_core};
+ghost use Rattle.trio_layout.specs.Core.{page_of};
+ghost use Rattle.trio_case.specs.Cases.{case_in};
 ghost use Rattle.trio_nodes.specs.Told.{block_in, page_in};
-ghost use Rattle.trio_nodes.specs.declared.entry.Handed.{Handed as HandedSeen};
+ghost use Rattle.trio_nodes.specs.Handed.{Handed as HandedSeen};
 ghost use Rattle.trio_state.specs.Listed.{accepted_blocks, block_told, blocks_listed_of, blocks_of_kind, changed_blocks, is_block_changed, lent_blocks, refused_blocks};
 ghost use Rattle.trio_entries.specs.Handed.{handed_in};
 ghost use Rattle.trio_entries.specs.Telling.{whole_case};
 ghost use Rattle.trio_entries.specs.inner.Finding.{IsFinderOf, IsJudgedBy, IsMarkedBy};
 ghost use Rattle.trio_entries.specs.inner.Placed.{blocks_in, numbers_of};
 
-use crate::finder::Finder;
+use crate::finder::{Finder, lease_on};
+use crate::handed::block_number;
 use crate::notes::Notes;
-use trio_case::{Case, Listing, PagePlace};
+use trio_case::{Case, Listing};
 use trio_lease::WriteLease;
-use trio_nodes::{HandedPlace, PlacedBlock, RawFile};
+use trio_nodes::{PlacedBlock, RawFile};
 use trio_rights::Kind;
 
 /// The blocks of a release that is accepted, by the files that it tells, put into an empty list that
@@ -37,11 +39,11 @@ pub(crate) fn accepted_blocks(
     requires few { length (flat_map (λ f. blocks_listed_of listing.now.listing f.ino) files.now) < 2 ^ 32 }
     requires finder { IsFinderOf case.now finder.now }
     requires marked { IsMarkedBy (handed_in case.now.bundle) finder.now }
-    requires judged { IsJudgedBy listing.now.listing finder.now }
+    requires judged { IsJudgedBy case.now listing.now.listing finder.now }
     ensures { (rows : List (Option Row)) → blocks_in case.now blocks.new.items ≡ accepted_blocks (whole_case case.now rows) listing.now.listing notes.now (handed_in case.now.bundle) files.now }
 {
     for file in files {
-        let pages = listed_blocks(listing, finder, file.ino);
+        let pages = listed_blocks(case, listing, finder, file.ino);
         add_told(blocks, case, notes, finder, file, &Pages::Listed(pages));
     }
 }
@@ -63,7 +65,7 @@ pub(crate) fn refused_blocks(
     ensures { (rows : List (Option Row)) → blocks_in case.now blocks.new.items ≡ refused_blocks (whole_case case.now rows) notes.now (handed_in case.now.bundle) files.now }
 {
     for file in files {
-        let pages = lent_blocks(case, finder, file.ino);
+        let pages = lent_blocks(case, file.ino);
         add_told(blocks, case, notes, finder, file, &pages);
     }
 }
@@ -93,37 +95,27 @@ impl<'a> Pages<'a> {
     {
         match self {
             Pages::Listed(pages) => pages.get(i).copied(),
-            Pages::Lent(lease) => lent_number(lease, i),
+            Pages::Lent(lease) => block_number(lease, i),
         }
     }
 }
 
-fn lent_number(lease: &WriteLease, i: usize) -> Option<u32>
-    ensures { result ≡ slice_get (map (λ p. p.no.0) lease.now.stands.blocks) i }
-{
-    match lease.block_no(i) {
-        Some(no) => Some(no.0),
-        None => None,
-    }
-}
-
 /// The blocks of a judged file, as the listing has them; none of a file that isn't judged.
-fn listed_blocks<'a>(listing: &'a Listing, finder: &Finder, ino: u32) -> &'a [u32]
-    requires { IsJudgedBy listing.now.listing finder.now }
+fn listed_blocks<'a>(case: &Case, listing: &'a Listing, finder: &Finder, ino: u32) -> &'a [u32]
+    requires { IsJudgedBy case.now listing.now.listing finder.now }
     ensures { result.now ≡ blocks_listed_of listing.now.listing ino }
 {
-    match finder.judged(ino) {
+    match finder.judged(case, ino) {
         Some(at) => listing.blocks(at),
         None => &[],
     }
 }
 
 /// The blocks that a file was lent with; none of a file that isn't written.
-fn lent_blocks<'a>(case: &'a Case, finder: &Finder, ino: u32) -> Pages<'a>
-    requires { IsFinderOf case.now finder.now }
+fn lent_blocks(case: &Case, ino: u32) -> Pages<'_>
     ensures { numbers_of result ≡ lent_blocks (bundle_in case.now.bundle) ino }
 {
-    match finder.lease(case, ino) {
+    match lease_on(case, ino) {
         Some(lease) => Pages::Lent(lease),
         None => Pages::Listed(&[]),
     }
@@ -215,16 +207,15 @@ fn is_changed(
 {
     let end = 4096 * u64::from(at) + 4096;
     finder.is_marked(page)
-        || !is_lent_at(case, finder, file.ino, at, page)
+        || !is_lent_at(case, file.ino, at, page)
         || notes.size(file.ino) < file.size.min(end)
 }
 
 /// Whether a file was lent with this page for its block at a position.
-fn is_lent_at(case: &Case, finder: &Finder, ino: u32, at: u32, page: u32) -> bool
-    requires { IsFinderOf case.now finder.now }
+fn is_lent_at(case: &Case, ino: u32, at: u32, page: u32) -> bool
     ensures { result ≡ option_map_or (λ q. q == page) (slice_get (lent_blocks (bundle_in case.now.bundle) ino) at) false }
 {
-    let Some(lease) = finder.lease(case, ino) else {
+    let Some(lease) = lease_on(case, ino) else {
         return false;
     };
     match lease.block_no(at as usize) {
@@ -238,27 +229,19 @@ fn block(case: &Case, finder: &Finder, ino: u32, at: u32, page: u32) -> PlacedBl
     requires { IsFinderOf case.now finder.now }
     ensures { (rows : List (Option Row)) → block_in (handed_in case.now.bundle) result ≡ block_told (whole_case case.now rows) ino at page }
 {
-    let place = match finder.pages.place(case, page) {
-        Some(place) => handed_place(place),
-        None => past_all(case),
-    };
+    let place = page_place(case, finder, page);
     PlacedBlock { ino, at, place }
 }
 
-/// The place in what was handed in of a page of the bundle.
-fn handed_place(place: PagePlace) -> HandedPlace
-    ensures { (b : Bundled) → option_map (λ p. p.bytes) (page_in (handed_in b) result) ≡ bytes_at b place }
+/// Where the page of this number stands among all that were handed in; past all of them, where it is
+/// none of the bundle's.
+fn page_place(case: &Case, finder: &Finder, page: u32) -> usize
+    requires { IsFinderOf case.now finder.now }
+    ensures { option_map (λ p. p.bytes) (page_in (handed_in case.now.bundle) result) ≡ page_of (bundle_core (case_in case.now)) page }
 {
-    match place {
-        PagePlace::Index(file, at) => HandedPlace::Index(file, at),
-        PagePlace::Block(file, at) => HandedPlace::Block(file, at),
-        PagePlace::Fresh(at) => HandedPlace::Fresh(at),
+    let _bundle = case.bundle();
+    match finder.pages.nth(case, page) {
+        Some(place) => place,
+        None => u32::MAX as usize,
     }
-}
-
-/// A place at which no page was handed in.
-fn past_all(case: &Case) -> HandedPlace
-    ensures { page_in (handed_in case.now.bundle) result ≡ None }
-{
-    HandedPlace::Fresh(case.bundle().pages().len())
 }

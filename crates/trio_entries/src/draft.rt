@@ -1,67 +1,123 @@
-//! The memory of what a release tells.
+//! The memory of what a release tells, and the outline of its bundle.
 
-ghost use Rattle.std.specs.Prelude.{◌≡◌, ◌+◌, ◌*◌, IfOk, length};
-ghost use Rattle.trio_rights.specs.Bundle.{bundle_pages};
+ghost use Rattle.std.specs.Prelude.{◌≡◌, ◌+◌, ◌*◌, ◌↔◌, IfOk, IsTrue};
 ghost use Rattle.trio_lease.specs.Views.{bundle_in};
+ghost use Rattle.trio_case.specs.Memory.{size_of};
 ghost use Rattle.trio_state.specs.Moves.{outline_of};
-ghost use Rattle.trio_entries.specs.Drafts.{IsDraftFor};
+ghost use Rattle.trio_entries.specs.Drafts.{HasDraftMemory, HasToldPlaces, IsDraftMemory};
 
 use crate::finder::Finder;
 use crate::handed::HandedRoom;
+use crate::outline::{Outline, OutlineMemory};
 use std::alloc::Global;
-use trio_case::Case;
+use std::marker::Model;
+use trio_case::{BundleSize, Case};
 use trio_lease::Bundle;
 use trio_nodes::{PlacedBlock, RawFile};
 use trio_page::NoMemory;
 
-/// All the memory of the entry of a release, by the outline of its bundle alone: by its written files
-/// with the numbers of their pages, its holds, its allotted pages and its inode numbers.
-///
-/// It can be made before the bundle's pages have the bytes that are told, and be kept while the case
-/// is elsewhere.
+/// All memory of the entry of a release, by how much its bundle may have. It can be made before there
+/// is a bundle.
 #[derive(Drop)]
-pub struct Draft {
-    pub(crate) handed: HandedRoom,
-    pub(crate) files: Vec<RawFile>,
-    pub(crate) blocks: Vec<PlacedBlock>,
-    pub(crate) finder: Finder,
+pub struct DraftMemory {
+    outline: OutlineMemory,
+    told: ToldMemory,
 }
 
-impl Draft {
-    /// A draft for the release of this case, whatever its pages say then.
-    pub fn with(alloc: Global, case: &Case) -> Result<Draft, NoMemory>
-        ensures { IfOk result (IsDraftFor (outline_of (bundle_in case.now.bundle))) }
+impl DraftMemory {
+    /// Memory for the entry of the release of any bundle of at most this size, whatever bytes its pages
+    /// have.
+    pub fn with(alloc: Global, size: BundleSize) -> Result<DraftMemory, NoMemory>
+        ensures { IfOk result (IsDraftMemory size) }
     {
-        let bundle = case.bundle();
-        let pages = page_count(bundle)?;
-        Ok(Draft {
-            handed: HandedRoom::with(alloc, bundle)?,
-            files: Vec::with_capacity(alloc, file_count(bundle, pages)?)?,
-            blocks: Vec::with_capacity(alloc, pages)?,
-            finder: Finder::with(alloc, bundle, pages)?,
+        Ok(DraftMemory {
+            outline: OutlineMemory::with(alloc, size)?,
+            told: ToldMemory::with(alloc, size)?,
         })
     }
 }
 
-/// How many pages a bundle has.
-fn page_count(bundle: &Bundle) -> Result<usize, NoMemory>
-    ensures { IfOk result (λ n. n ≡ length (bundle_pages (bundle_in bundle.now))) }
-{
-    let mut count = bundle.pages().len();
-    let writes = bundle.writes();
-    for lease in writes {
-        count = count.checked_add(lease.index_len()).ok_or(NoMemory)?;
-        count = count.checked_add(lease.blocks_len()).ok_or(NoMemory)?;
-    }
-    Ok(count)
+/// The memory of what is told.
+#[derive(Drop)]
+pub(crate) struct ToldMemory {
+    pub handed: HandedRoom,
+    pub files: Vec<RawFile>,
+    pub blocks: Vec<PlacedBlock>,
+    pub finder: Finder,
 }
 
-/// How many files are told of a bundle of so many pages, at most: those that have an entry in a slot of
-/// a page, the written ones and the held ones.
-fn file_count(bundle: &Bundle, pages: usize) -> Result<usize, NoMemory>
-    ensures { IfOk result (λ n. n ≡ 16 * pages + length bundle.now.writes + length bundle.now.holds) }
+impl ToldMemory {
+    /// Memory for what the release of a bundle of this size tells.
+    pub fn with(alloc: Global, size: BundleSize) -> Result<ToldMemory, NoMemory>
+        ensures { IfOk result (HasToldPlaces size) }
+    {
+        Ok(ToldMemory {
+            handed: HandedRoom::with(alloc, size)?,
+            files: Vec::with_capacity(alloc, file_count(size)?)?,
+            blocks: Vec::with_capacity(alloc, size.pages)?,
+            finder: Finder::with(alloc, size)?,
+        })
+    }
+}
+
+/// How many files are told of a bundle of this size, at most: those that have an entry in a slot of a
+/// page, the written ones and the held ones.
+fn file_count(size: BundleSize) -> Result<usize, NoMemory>
+    ensures { IfOk result (λ n. n ≡ 16 * size.pages + size.values) }
 {
-    let slots = pages.checked_mul(16).ok_or(NoMemory)?;
-    let written = slots.checked_add(bundle.writes().len()).ok_or(NoMemory)?;
-    written.checked_add(bundle.holds().len()).ok_or(NoMemory)
+    let slots = size.pages.checked_mul(16).ok_or(NoMemory)?;
+    slots.checked_add(size.values).ok_or(NoMemory)
+}
+
+/// The outline of the bundle of a release that has begun, with all memory of the entry of the release.
+///
+/// Contracts see the outline: the written files with the numbers of their pages, the holds, the
+/// allotted pages and the inode numbers. The pages may get other bytes while the draft is kept.
+#[derive(Drop)]
+pub struct Draft {
+    outline: Outline,
+    told: ToldMemory,
+}
+
+impl Model for Draft {
+    ghost use Rattle.trio_state.specs.Moves.{Outline};
+    ghost use Rattle.trio_entries.specs.Drafts.{outline_size, HasToldPlaces};
+
+    ghost Value = { Outline };
+
+    ghost view = { λ d. d.outline };
+
+    ghost invariant = { λ d. HasToldPlaces (outline_size d.outline) d.told };
+}
+
+impl Draft {
+    /// The draft for the release of a bundle. It takes no memory.
+    pub fn begun(memory: DraftMemory, bundle: &Bundle) -> Draft
+        requires { HasDraftMemory bundle.now memory }
+        ensures { result ≡ outline_of (bundle_in bundle.now) }
+    {
+        let DraftMemory { outline, told } = memory;
+        Draft {
+            outline: Outline::of(outline, bundle),
+            told,
+        }
+    }
+
+    /// Whether it was begun for a bundle of just these leases, holds, pages and inode numbers. It takes
+    /// no memory, and goes over the bundle once.
+    pub fn is_of(&self, bundle: &Bundle) -> bool
+        ensures { IsTrue result ↔ (self.now ≡ outline_of (bundle_in bundle.now)) }
+    {
+        self.outline.is_of(bundle)
+    }
+
+    /// Its memory, which serves the case of its bundle.
+    pub(crate) fn into_memory(self, case: &Case) -> ToldMemory
+        requires { self ≡ outline_of (bundle_in case.now.bundle) }
+        ensures { HasToldPlaces (size_of case.now.bundle) result }
+    {
+        let _case = case;
+        let Draft { outline: _, told } = self;
+        told
+    }
 }

@@ -30,7 +30,7 @@ pub(crate) fn accepted_files(
     requires empty { files.old.items ≡ [] }
     requires places { length listing.now.listing.entries + length case.now.bundle.writes + length case.now.bundle.holds ≤ vec_capacity files.old }
     requires finder { IsFinderOf case.now finder.now }
-    requires judged { IsJudgedBy listing.now.listing finder.now }
+    requires judged { IsJudgedBy case.now listing.now.listing finder.now }
     requires entries { IsToldBy case.now listing.now.listing }
     requires once { AreListedOnce case.now listing.now.listing }
     requires noted { AreNoted rows.now notes.now }
@@ -79,7 +79,7 @@ fn add_entries(
 )
     requires places { vec_len files.old + length listing.now.listing.entries ≤ vec_capacity files.old }
     requires finder { IsFinderOf case.now finder.now }
-    requires judged { IsJudgedBy listing.now.listing finder.now }
+    requires judged { IsJudgedBy case.now listing.now.listing finder.now }
     requires entries { IsToldBy case.now listing.now.listing }
     ensures files { files.new.items ≡ files.old.items ++ filter_map (told_entry (whole_case case.now rows.now) listing.now.listing notes.now) listing.now.listing.entries }
     ensures len { vec_len files.new ≤ vec_len files.old + length listing.now.listing.entries }
@@ -101,7 +101,7 @@ fn add_written(
     finder: &Finder,
 )
     requires places { vec_len files.old + length case.now.bundle.writes ≤ vec_capacity files.old }
-    requires judged { IsJudgedBy listing.now.listing finder.now }
+    requires judged { IsJudgedBy case.now listing.now.listing finder.now }
     requires written { AreWrittenNoted case.now notes.now }
     ensures files { files.new.items ≡ files.old.items ++ filter_map (told_written (whole_case case.now rows.now) listing.now.listing notes.now) (bundle_in case.now.bundle).writes }
     ensures len { vec_len files.new ≤ vec_len files.old + length case.now.bundle.writes }

@@ -1,16 +1,18 @@
 //! A bundle as it is handed in.
 
-ghost use Rattle.std.specs.Prelude.{◌≡◌, ◌+◌, ◌≤◌, ◌++◌, ◌∷◌, [], ℕ, None, Some, IfOk, length, map, slice_get, vec_capacity};
+ghost use Rattle.std.specs.Prelude.{◌≡◌, ◌+◌, ◌≤◌, ◌++◌, ◌∷◌, [], ℕ, IfOk, length, map, slice_get, vec_capacity};
+ghost use Rattle.std.specs.List.{flat_map};
 ghost use Rattle.std.specs.Option.{option_map};
-ghost use Rattle.trio_lease.specs.Views.{bundle_in, written_in};
-ghost use Rattle.trio_state.specs.Moves.{file_outline, outline_of};
-ghost use Rattle.trio_entries.specs.Drafts.{AreFileRooms, IsFileRoom, IsHandedRoom, IsNewRoom, IsRoom};
-ghost use Rattle.trio_entries.specs.Handed.{block_in, file_in, fresh_in, handed_in, index_in};
-ghost use Rattle.trio_entries.specs.inner.Sources.{page_seen, pages_of};
+ghost use Rattle.trio_case.specs.Memory.{size_of};
+ghost use Rattle.trio_nodes.specs.Handed.{head_of};
+ghost use Rattle.trio_entries.specs.Drafts.{HasHandedPlaces, IsNewRoom, IsRoom};
+ghost use Rattle.trio_entries.specs.Handed.{block_in, file_in, file_pages, fresh_in, handed_in, index_in};
+ghost use Rattle.trio_entries.specs.inner.Sources.{numbers_in, page_seen, pages_of};
 
 use std::alloc::{AllocError as NoMemory, Global};
+use trio_case::BundleSize;
 use trio_lease::{Bundle, FreshIno, FreshPage, HoldLease, WriteLease};
-use trio_nodes::{Handed, HandedFile, HandedPage, List};
+use trio_nodes::{Handed, HandedHead, HandedPage, List};
 use trio_page::Page;
 
 /// A copy of a bundle as it stands, byte for byte: its write leases, the inode numbers of its holds,
@@ -19,119 +21,100 @@ use trio_page::Page;
 pub fn copied(alloc: Global, bundle: &Bundle) -> Result<Handed, NoMemory>
     ensures { IfOk result (λ handed. handed ≡ handed_in bundle.now) }
 {
-    let room = HandedRoom::with(alloc, bundle)?;
+    let size = BundleSize::of(bundle)?;
+    let room = HandedRoom::with(alloc, size)?;
     Ok(room.fill(bundle))
 }
 
-/// The memory of a copy of a bundle, by the bundle's outline alone.
+/// The memory of a copy of a bundle.
 #[derive(Drop)]
 pub(crate) struct HandedRoom {
-    // one of each write lease, the last lease's first
-    files: Vec<FileRoom>,
-    writes: Vec<HandedFile>,
-    // the inode numbers of the holds
+    heads: Vec<HandedHead>,
     holds: Vec<u32>,
     pages: Room,
-    // the allotted inode numbers
     numbers: Vec<u32>,
 }
 
 impl HandedRoom {
-    /// The memory of a copy of this bundle, whatever bytes its pages have then.
-    pub fn with(alloc: Global, bundle: &Bundle) -> Result<HandedRoom, NoMemory>
-        ensures { IfOk result (IsHandedRoom (outline_of (bundle_in bundle.now))) }
+    /// The memory of a copy of a bundle of this size.
+    pub fn with(alloc: Global, size: BundleSize) -> Result<HandedRoom, NoMemory>
+        ensures { IfOk result (HasHandedPlaces size) }
     {
-        let writes = bundle.writes();
         Ok(HandedRoom {
-            files: file_rooms(alloc, writes)?,
-            writes: Vec::with_capacity(alloc, writes.len())?,
-            holds: held(alloc, bundle.holds())?,
-            pages: Room::with(alloc, bundle.pages().len())?,
-            numbers: fresh_numbers(alloc, bundle.inodes())?,
+            heads: Vec::with_capacity(alloc, size.values)?,
+            holds: Vec::with_capacity(alloc, size.values)?,
+            pages: Room::with(alloc, size.pages)?,
+            numbers: Vec::with_capacity(alloc, size.values)?,
         })
     }
 
-    /// The copy of a bundle of the outline that the memory was made by. It takes no memory.
+    /// The copy of a bundle that the memory has room for. It takes no memory.
     pub fn fill(self, bundle: &Bundle) -> Handed
-        requires { IsHandedRoom (outline_of (bundle_in bundle.now)) self }
+        requires { HasHandedPlaces (size_of bundle.now) self }
         ensures { result ≡ handed_in bundle.now }
     {
         let HandedRoom {
-            files,
-            writes,
-            holds,
-            pages,
-            numbers,
+            mut heads,
+            mut holds,
+            mut pages,
+            mut numbers,
         } = self;
-        Handed {
-            writes: List::from_vec(filled(files, writes, bundle.writes())),
-            holds: List::from_vec(holds),
-            pages: List::from_vec(pages.fill(&Source::Fresh(bundle.pages()))),
-            numbers: List::from_vec(numbers),
-        }
+        add_files(&mut heads, &mut pages, bundle.writes());
+        pages.add_all(&Source::Fresh(bundle.pages()));
+        add_holds(&mut holds, bundle.holds());
+        add_numbers(&mut numbers, bundle.inodes());
+        let Room { buffers: _, pages } = pages;
+        Handed::of(heads, holds, pages, numbers)
     }
 }
 
-/// The memory of a copy of each file, the last lease's first.
-fn file_rooms(alloc: Global, leases: &[WriteLease]) -> Result<Vec<FileRoom>, NoMemory>
-    ensures { IfOk result (λ rooms. AreFileRooms (map (λ f. file_outline (written_in f.stands)) leases.now) rooms.items) }
-{
-    let mut rooms = Vec::with_capacity(alloc, leases.len())?;
-    for i in 0..leases.len() {
-        rooms.push(FileRoom::with(alloc, &leases[leases.len() - 1 - i])?)?;
-    }
-    Ok(rooms)
-}
-
-/// The copy of each file, in a list that has places for them.
-fn filled(
-    mut rooms: Vec<FileRoom>,
-    mut files: Vec<HandedFile>,
-    leases: &[WriteLease],
-) -> Vec<HandedFile>
-    requires rooms { AreFileRooms (map (λ f. file_outline (written_in f.stands)) leases.now) rooms.items }
-    requires empty { files.items ≡ [] }
-    requires places { length leases.now ≤ vec_capacity files }
-    ensures { result.items ≡ map (λ f. file_in f.stands) leases.now }
+/// Adds the head of each file to an empty list that has places for them, and its pages to others.
+fn add_files(heads: &mut Vec<HandedHead>, pages: &mut Room, leases: &[WriteLease])
+    requires empty { heads.old.items ≡ [] }
+    requires places { length leases.now ≤ vec_capacity heads.old }
+    requires room { IsRoom (length (flat_map file_pages leases.now)) pages.old }
+    ensures heads { heads.new.items ≡ map (λ f. head_of (file_in f.stands)) leases.now }
+    ensures pages { pages.new.pages.items ≡ pages.old.pages.items ++ flat_map file_pages leases.now }
+    ensures room { (n : ℕ) → IsRoom (n + length (flat_map file_pages leases.now)) pages.old → IsRoom n pages.new }
 {
     for lease in leases {
-        let Some(room) = rooms.pop() else {
-            unreachable!()
-        };
-        files.push_reserved(room.fill(lease));
+        heads.push_reserved(head(lease));
+        pages.add_file(lease);
     }
-    files
 }
 
-/// The memory of a copy of one file.
-#[derive(Drop)]
-struct FileRoom {
-    index: Room,
-    blocks: Room,
+/// A file without its pages.
+fn head(lease: &WriteLease) -> HandedHead
+    ensures { result ≡ head_of (file_in lease.now.stands) }
+{
+    HandedHead {
+        ino: lease.ino(),
+        kind: lease.kind(),
+        body: *lease.body(),
+        index: lease.index_len(),
+        blocks: lease.blocks_len(),
+    }
 }
 
-impl FileRoom {
-    fn with(alloc: Global, lease: &WriteLease) -> Result<FileRoom, NoMemory>
-        ensures { IfOk result (IsFileRoom (file_outline (written_in lease.now.stands))) }
-    {
-        Ok(FileRoom {
-            index: Room::with(alloc, lease.index_len())?,
-            blocks: Room::with(alloc, lease.blocks_len())?,
-        })
+/// Adds the inode number of each hold to an empty list that has places for them.
+pub(crate) fn add_holds(numbers: &mut Vec<u32>, holds: &[HoldLease])
+    requires empty { numbers.old.items ≡ [] }
+    requires places { length holds.now ≤ vec_capacity numbers.old }
+    ensures { numbers.new.items ≡ map (λ h. h.ino) holds.now }
+{
+    for hold in holds {
+        numbers.push_reserved(hold.ino());
     }
+}
 
-    fn fill(self, lease: &WriteLease) -> HandedFile
-        requires { IsFileRoom (file_outline (written_in lease.now.stands)) self }
-        ensures { result ≡ file_in lease.now.stands }
-    {
-        let FileRoom { index, blocks } = self;
-        HandedFile {
-            ino: lease.ino(),
-            kind: lease.kind(),
-            body: *lease.body(),
-            index: List::from_vec(index.fill(&Source::Index(lease))),
-            blocks: List::from_vec(blocks.fill(&Source::Blocks(lease))),
-        }
+/// Adds each allotted inode number to an empty list that has places for them.
+pub(crate) fn add_numbers(numbers: &mut Vec<u32>, inodes: &[FreshIno])
+    requires empty { numbers.old.items ≡ [] }
+    requires places { length inodes.now ≤ vec_capacity numbers.old }
+    ensures { numbers.new.items ≡ map (λ n. n.no) inodes.now }
+{
+    for ino in inodes {
+        numbers.push_reserved(ino.no());
     }
 }
 
@@ -158,18 +141,27 @@ impl Room {
         })
     }
 
-    /// The copies of all pages of a source.
-    fn fill(mut self, source: &Source<'_>) -> Vec<HandedPage>
-        requires { IsNewRoom (length (pages_of source.now)) self }
-        ensures { result.items ≡ pages_of source.now }
+    /// Adds the copies of a file's index pages and of its blocks.
+    fn add_file(&mut self, lease: &WriteLease)
+        requires { IsRoom (length (file_pages lease.now)) self.old }
+        ensures pages { self.new.pages.items ≡ self.old.pages.items ++ file_pages lease.now }
+        ensures room { (n : ℕ) → IsRoom (n + length (file_pages lease.now)) self.old → IsRoom n self.new }
+    {
+        self.add_all(&Source::Index(lease));
+        self.add_all(&Source::Blocks(lease));
+    }
+
+    /// Adds the copies of all pages of a source.
+    fn add_all(&mut self, source: &Source<'_>)
+        requires { IsRoom (length (pages_of source.now)) self.old }
+        ensures pages { self.new.pages.items ≡ self.old.pages.items ++ pages_of source.now }
+        ensures room { (n : ℕ) → IsRoom (n + length (pages_of source.now)) self.old → IsRoom n self.new }
     {
         for i in 0..source.len() {
             if let Some(page) = source.page(i) {
                 self.add(&page);
             }
         }
-        let Room { buffers: _, pages } = self;
-        pages
     }
 
     /// Adds a copy of a page.
@@ -204,7 +196,7 @@ fn fill_buffer(buffer: &mut Vec<u8>, page: &Page)
 
 /// Pages of a bundle.
 #[derive(Drop)]
-enum Source<'a> {
+pub(crate) enum Source<'a> {
     Index(&'a WriteLease),
     Blocks(&'a WriteLease),
     Fresh(&'a [FreshPage]),
@@ -212,15 +204,16 @@ enum Source<'a> {
 
 /// A page of a bundle. Of an index page and an allotted one it is `touched: false`.
 #[derive(Drop)]
-struct PageSeen<'a> {
+pub(crate) struct PageSeen<'a> {
     no: u32,
     page: &'a Page,
     touched: bool,
 }
 
 impl<'a> Source<'a> {
-    fn len(&self) -> usize
-        ensures { result ≡ length (pages_of self.now) }
+    pub fn len(&self) -> usize
+        ensures pages { result ≡ length (pages_of self.now) }
+        ensures numbers { result ≡ length (numbers_in self.now) }
     {
         match self {
             Source::Index(lease) => lease.index_len(),
@@ -237,6 +230,17 @@ impl<'a> Source<'a> {
             Source::Index(lease) => index_page(lease, i),
             Source::Blocks(lease) => block(lease, i),
             Source::Fresh(pages) => fresh_page(pages, i),
+        }
+    }
+
+    /// The number of page `i`, counted from 0. `None` exactly past the last.
+    pub fn number(&self, i: usize) -> Option<u32>
+        ensures { result ≡ slice_get (numbers_in self.now) i }
+    {
+        match self {
+            Source::Index(lease) => index_number(lease, i),
+            Source::Blocks(lease) => block_number(lease, i),
+            Source::Fresh(pages) => fresh_number(pages, i),
         }
     }
 }
@@ -281,16 +285,27 @@ fn fresh_page(pages: &[FreshPage], i: usize) -> Option<PageSeen<'_>>
     })
 }
 
-/// The inode number of each hold.
-fn held(alloc: Global, holds: &[HoldLease]) -> Result<Vec<u32>, NoMemory>
-    ensures { IfOk result (λ numbers. numbers.items ≡ map (λ h. h.ino) holds.now) }
+fn index_number(lease: &WriteLease, i: usize) -> Option<u32>
+    ensures { result ≡ slice_get (map (λ p. p.no.0) lease.now.stands.index) i }
 {
-    holds.iter().map(|hold| hold.ino()).collect(alloc)
+    match lease.index_no(i) {
+        Some(no) => Some(no.0),
+        None => None,
+    }
 }
 
-/// Each allotted inode number.
-fn fresh_numbers(alloc: Global, inodes: &[FreshIno]) -> Result<Vec<u32>, NoMemory>
-    ensures { IfOk result (λ numbers. numbers.items ≡ map (λ n. n.no) inodes.now) }
+pub(crate) fn block_number(lease: &WriteLease, i: usize) -> Option<u32>
+    ensures { result ≡ slice_get (map (λ p. p.no.0) lease.now.stands.blocks) i }
 {
-    inodes.iter().map(|ino| ino.no()).collect(alloc)
+    match lease.block_no(i) {
+        Some(no) => Some(no.0),
+        None => None,
+    }
+}
+
+fn fresh_number(pages: &[FreshPage], i: usize) -> Option<u32>
+    ensures { result ≡ slice_get (map (λ p. p.no.0) pages.now) i }
+{
+    let fresh = pages.get(i)?;
+    Some(fresh.no().0)
 }

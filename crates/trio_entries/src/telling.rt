@@ -12,13 +12,12 @@ ghost use Rattle.trio_layout.specs.Rules.{meets_rules};
 ghost use Rattle.trio_lease.specs.Views.{bundle_in};
 ghost use Rattle.trio_state.specs.Listed.{accepted_blocks, accepted_files, refused_blocks, refused_files};
 ghost use Rattle.trio_state.specs.Moves.{outline_of};
-ghost use Rattle.trio_entries.specs.Drafts.{IsDraftFor};
 ghost use Rattle.trio_entries.specs.Handed.{handed_in};
 ghost use Rattle.trio_entries.specs.Telling.{whole_case, AreNoted};
 ghost use Rattle.trio_entries.specs.inner.Once.{lent_once};
 
 use crate::blocks::{accepted_blocks, refused_blocks};
-use crate::draft::Draft;
+use crate::draft::{Draft, ToldMemory};
 use crate::files::{accepted_files, refused_files};
 use crate::notes::Notes;
 use trio_case::{Case, Listing};
@@ -44,7 +43,7 @@ pub struct Told {
 /// It looks at the pages of the bundle alone, and at each but a few times. It needs no memory but the
 /// draft's.
 pub fn accepted(draft: Draft, case: &Case, listing: &Listing, rows: &Shadow, notes: &Notes) -> Told
-    requires draft { IsDraftFor (outline_of (bundle_in case.now.bundle)) draft }
+    requires draft { draft ≡ outline_of (bundle_in case.now.bundle) }
     requires live { list_all (λ f. has_kind f.stands.kind (row_in rows.now f.stands.ino)) case.now.bundle.writes ≡ true }
     requires rules { IsTrue (meets_rules (whole_case case.now rows.now)) }
     requires listed { listing.now.listing ≡ listing_of (whole_case case.now rows.now) }
@@ -55,12 +54,12 @@ pub fn accepted(draft: Draft, case: &Case, listing: &Listing, rows: &Shadow, not
     ensures blocks { result.bundle.blocks ≡ accepted_blocks (whole_case case.now rows.now) listing.now.listing notes.now (handed_in case.now.bundle) result.files }
 {
     bounds(case);
-    let Draft {
+    let ToldMemory {
         handed,
         mut files,
         mut blocks,
         mut finder,
-    } = draft;
+    } = draft.into_memory(case);
     let handed = handed.fill(case.bundle());
     finder.look(case, &handed);
     finder.judge(case, listing);
@@ -78,19 +77,19 @@ pub fn accepted(draft: Draft, case: &Case, listing: &Listing, rows: &Shadow, not
 ///
 /// It looks at the bundle alone. It needs no memory but the draft's.
 pub fn refused(draft: Draft, case: &Case, rows: &Shadow, notes: &Notes) -> Told
-    requires draft { IsDraftFor (outline_of (bundle_in case.now.bundle)) draft }
+    requires draft { draft ≡ outline_of (bundle_in case.now.bundle) }
     requires noted { AreNoted rows.now notes.now }
     ensures files { result.files ≡ refused_files (whole_case case.now rows.now) notes.now }
     ensures handed { result.bundle.handed ≡ handed_in case.now.bundle }
     ensures blocks { result.bundle.blocks ≡ refused_blocks (whole_case case.now rows.now) notes.now (handed_in case.now.bundle) result.files }
 {
     bounds(case);
-    let Draft {
+    let ToldMemory {
         handed,
         mut files,
         mut blocks,
         mut finder,
-    } = draft;
+    } = draft.into_memory(case);
     let handed = handed.fill(case.bundle());
     finder.look(case, &handed);
     refused_files(&mut files, case, rows, notes);

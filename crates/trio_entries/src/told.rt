@@ -21,7 +21,7 @@ ghost use Rattle.trio_entries.specs.Telling.{whole_case, AreNoted};
 ghost use Rattle.trio_entries.specs.inner.Finding.{IsFinderOf, IsJudgedBy};
 ghost use Rattle.trio_entries.specs.inner.Slots.{IsReadable};
 
-use crate::finder::{Finder, judged_row};
+use crate::finder::{Finder, judged_row, lease_on};
 use crate::notes::Notes;
 use trio_case::{Case, ListedEntry, Listing};
 use trio_layout::{Slot, SlotRead};
@@ -42,7 +42,7 @@ pub(crate) fn told_entry(
     entry: &ListedEntry,
 ) -> Option<RawFile>
     requires finder { IsFinderOf case.now finder.now }
-    requires judged { IsJudgedBy listing.now.listing finder.now }
+    requires judged { IsJudgedBy case.now listing.now.listing finder.now }
     requires readable { IsReadable (case_in case.now) (entry_seen entry.now) }
     requires first { find (λ e. e.ino == entry.now.ino) listing.now.listing.entries ≡ Some (entry_seen entry.now) }
     ensures { result ≡ told_entry (whole_case case.now rows.now) listing.now.listing notes.now (entry_seen entry.now) }
@@ -54,8 +54,8 @@ pub(crate) fn told_entry(
     let SlotRead::Entry(part) = Slot::read(slot, case.inodes()) else {
         return None;
     };
-    let row = row_listed(listing, finder, rows, entry)?;
-    let size = entry_size(case, finder, notes, entry.ino, slot);
+    let row = row_listed(case, listing, finder, rows, entry)?;
+    let size = entry_size(case, notes, entry.ino, slot);
     Some(told_row(case, entry.ino, false, part.name, size, &row))
 }
 
@@ -76,7 +76,7 @@ pub(crate) fn told_written(
     finder: &Finder,
     lease: &WriteLease,
 ) -> Option<RawFile>
-    requires judged { IsJudgedBy listing.now.listing finder.now }
+    requires judged { IsJudgedBy case.now listing.now.listing finder.now }
     requires noted { is_some (slice_index_or notes.now lease.now.stands.ino None) ≡ true }
     ensures { result ≡ told_written (whole_case case.now rows.now) listing.now.listing notes.now (written_in lease.now.stands) }
 {
@@ -84,7 +84,7 @@ pub(crate) fn told_written(
     if is_listed(listing, ino) {
         return None;
     }
-    let row = row_unlisted(listing, finder, rows, ino)?;
+    let row = row_unlisted(case, listing, finder, rows, ino)?;
     let note = notes.get(ino)?;
     let size = size_in(lease.body());
     Some(told_row(case, ino, false, note.name, size, &row))
@@ -170,11 +170,10 @@ fn slot_name(slot: &[u8; 256]) -> &[u8]
 
 /// The size of the file of an entry: as its lease says, where it is new as its slot says, else as it
 /// is noted.
-fn entry_size(case: &Case, finder: &Finder, notes: &Notes, ino: u32, slot: &[u8; 256]) -> u64
-    requires finder { IsFinderOf case.now finder.now }
+fn entry_size(case: &Case, notes: &Notes, ino: u32, slot: &[u8; 256]) -> u64
     ensures { result ≡ unwrap_or (written_size (bundle_in case.now.bundle) ino) (if is_among ino (bundle_in case.now.bundle).numbers then size_in (drop 192 slot.now) else noted_size notes.now ino) }
 {
-    if let Some(lease) = finder.lease(case, ino) {
+    if let Some(lease) = lease_on(case, ino) {
         return size_in(lease.body());
     }
     if case.is_fresh(ino) {
@@ -201,12 +200,18 @@ fn size_in(body: &[u8]) -> u64
 }
 
 /// The row after the release of the file of an entry, the first that names its number.
-fn row_listed(listing: &Listing, finder: &Finder, rows: &Shadow, entry: &ListedEntry) -> Option<Row>
-    requires judged { IsJudgedBy listing.now.listing finder.now }
+fn row_listed(
+    case: &Case,
+    listing: &Listing,
+    finder: &Finder,
+    rows: &Shadow,
+    entry: &ListedEntry,
+) -> Option<Row>
+    requires judged { IsJudgedBy case.now listing.now.listing finder.now }
     requires first { find (λ e. e.ino == entry.now.ino) listing.now.listing.entries ≡ Some (entry_seen entry.now) }
     ensures { option_map as_row result ≡ row_after listing.now.listing rows.now entry.now.ino }
 {
-    if let Some(row) = judged_row(listing, finder, entry.ino) {
+    if let Some(row) = judged_row(case, listing, finder, entry.ino) {
         return Some(row);
     }
     let row = rows.row(entry.ino)?;
@@ -226,12 +231,18 @@ fn placed(row: Row, entry: &ListedEntry) -> Row
 }
 
 /// The row after the release of a file that no entry names.
-fn row_unlisted(listing: &Listing, finder: &Finder, rows: &Shadow, ino: u32) -> Option<Row>
-    requires judged { IsJudgedBy listing.now.listing finder.now }
+fn row_unlisted(
+    case: &Case,
+    listing: &Listing,
+    finder: &Finder,
+    rows: &Shadow,
+    ino: u32,
+) -> Option<Row>
+    requires judged { IsJudgedBy case.now listing.now.listing finder.now }
     requires unlisted { is_listed listing.now.listing ino ≡ false }
     ensures { option_map as_row result ≡ row_after listing.now.listing rows.now ino }
 {
-    if let Some(row) = judged_row(listing, finder, ino) {
+    if let Some(row) = judged_row(case, listing, finder, ino) {
         return Some(row);
     }
     if listing.is_held(ino) {

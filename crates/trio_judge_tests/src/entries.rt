@@ -2,10 +2,12 @@
 
 use crate::handed::{Parts, bundle_of};
 use std::alloc::Global;
+use trio_case::BundleSize;
 use trio_entries::handed::copied;
+use trio_entries::{Draft, DraftMemory};
 use trio_lease::{Bundle, FreshParts, HoldParts, InoParts, LentPage, WriteParts};
-use trio_nodes::{Handed, HandedFile, HandedPage};
-use trio_page::{Page, PageNo};
+use trio_nodes::{Handed, HandedHead, HandedPage};
+use trio_page::{NoMemory, Page, PageNo};
 use trio_rights::{Kind, LibNo};
 
 /// A page that begins with its number.
@@ -97,24 +99,29 @@ fn is_page(page: Option<&HandedPage>, no: u32, first: u8, touched: bool) -> bool
     }
 }
 
-fn is_file(file: &HandedFile) -> bool {
-    let blocks = file.blocks.as_slice();
-    file.ino == 7
-        && file.kind == Kind::Regular
-        && file.body == [9; 64]
-        && is_page(file.index.as_slice().get(0), 20, 20, false)
-        && is_page(blocks.get(0), 30, 30, false)
-        && is_page(blocks.get(1), 31, 99, true)
-        && blocks.len() == 2
+fn is_head(head: &HandedHead) -> bool {
+    head.ino == 7
+        && head.kind == Kind::Regular
+        && head.body == [9; 64]
+        && head.index == 1
+        && head.blocks == 2
+}
+
+fn are_pages(pages: &[HandedPage]) -> bool {
+    pages.len() == 4
+        && is_page(pages.get(0), 20, 20, false)
+        && is_page(pages.get(1), 30, 30, false)
+        && is_page(pages.get(2), 31, 99, true)
+        && is_page(pages.get(3), 50, 50, false)
 }
 
 fn is_whole(handed: &Handed) -> bool {
-    let writes = handed.writes.as_slice();
-    writes.len() == 1
-        && is_file(&writes[0])
-        && handed.holds.as_slice() == [8].as_slice()
-        && is_page(handed.pages.as_slice().get(0), 50, 50, false)
-        && handed.numbers.as_slice() == [11].as_slice()
+    let heads = handed.heads();
+    heads.len() == 1
+        && is_head(&heads[0])
+        && handed.holds() == [8].as_slice()
+        && are_pages(handed.pages())
+        && handed.numbers() == [11].as_slice()
 }
 
 fn is_copied(alloc: Global) -> Option<bool> {
@@ -127,4 +134,44 @@ fn is_copied(alloc: Global) -> Option<bool> {
 #[test]
 fn a_bundle_is_copied_with_its_marks(rt: HostRuntime) {
     assert!(rt; is_copied(rt.alloc()) == Some(true));
+}
+
+/// A draft that was begun for a bundle.
+fn draft_of(alloc: Global, bundle: &Bundle) -> Result<Draft, NoMemory> {
+    let size = BundleSize::of(bundle)?;
+    let memory = DraftMemory::with(alloc, size)?;
+    Ok(Draft::begun(memory, bundle))
+}
+
+/// Whether a draft that was begun for a bundle is of it after one of its pages was written.
+fn is_same(alloc: Global) -> Option<bool> {
+    let mut bundle = bundle(alloc)?;
+    let draft = draft_of(alloc, &bundle).ok();
+    if let Some(page) = bundle.page_mut(PageNo(30)) {
+        page.put_u64(0, 98);
+    }
+    let same = draft.map(|draft| draft.is_of(&bundle));
+    bundle.discard();
+    same
+}
+
+/// Whether a draft that was begun for an empty bundle is of one that is not.
+fn is_other(alloc: Global) -> Option<bool> {
+    let empty = bundle_of(alloc, Parts::none(alloc))?;
+    let draft = draft_of(alloc, &empty).ok();
+    empty.discard();
+    let bundle = bundle(alloc)?;
+    let other = draft.map(|draft| draft.is_of(&bundle));
+    bundle.discard();
+    other
+}
+
+#[test]
+fn a_draft_is_of_its_bundle_whatever_is_written(rt: HostRuntime) {
+    assert!(rt; is_same(rt.alloc()) == Some(true));
+}
+
+#[test]
+fn a_draft_is_of_no_other_bundle(rt: HostRuntime) {
+    assert!(rt; is_other(rt.alloc()) == Some(false));
 }

@@ -1,22 +1,20 @@
 use Rattle.std.proofs.Common.{◌∙◌, ◌++◌, List, ℕ, ap, arith, length, map, subst, sym}
 use Rattle.std.specs.List.{flat_map}
-use Rattle.std.proofs.lemmas.List.{length-map}
 use Rattle.trio_lists.specs.Lists.{In}
-use Rattle.trio_lease.specs.Shown.{LentFile}
-use Rattle.trio_lease.specs.Views.{bundle_in, written_in}
-use Rattle.trio_lease.specs.declared.parts.HoldParts.{HoldParts}
+use Rattle.trio_lease.specs.Bundles.{Bundled}
 use Rattle.trio_lease.specs.declared.parts.InoParts.{InoParts}
 use Rattle.trio_layout.specs.Listing.{Listing, ListedFile}
 use Rattle.trio_case.proofs.CaseRows.{writes_of}
+use Rattle.trio_case.specs.Memory.{size_of}
 use Rattle.trio_nodes.specs.Told.{block_in, ToldBundle}
-use Rattle.trio_nodes.specs.declared.entry.Handed.{Handed}
+use Rattle.trio_nodes.specs.Handed.{Handed}
 use Rattle.trio_nodes.specs.declared.entry.RawFile.{RawFile}
 use Rattle.trio_state.specs.Listed.{accepted_blocks, blocks_listed_of}
-use Rattle.trio_state.specs.Moves.{file_outline}
+use Rattle.trio_entries.specs.Drafts.{HasHandedPlaces}
 use Rattle.trio_entries.specs.Handed.{handed_in}
 use Rattle.trio_entries.specs.Telling.{whole_case}
 use Rattle.trio_entries.specs.inner.Finding.{IsMarkedBy}
-use Rattle.trio_entries.proofs.Few.{accepted_few, listed_own, pages_outlined}
+use Rattle.trio_entries.proofs.Few.{accepted_few, listed_own}
 use Rattle.trio_entries.proofs.Judged.{told_apart, told_by, written_noted}
 use Rattle.trio_entries.proofs.telling.accepted.Goals as goal
 
@@ -27,12 +25,7 @@ judge-requires-clause-own c = λ n i.
     subst (λ (ns : List ℕ). In n (ns ++ map (λ (x : InoParts). x.no) k.bundle.inodes)) (writes_of k) (listed_own (whole_case k c.args.rows.now) n j)
 
 pub accepted_files-requires-clause-places : goal.accepted_files-requires-clause-places
-accepted_files-requires-clause-places c =
-    let b = c.args.case.now.bundle in
-    let writes = length-map b.writes (λ (f : LentFile). written_in f.stands) in
-    let outlined = length-map (map (λ (f : LentFile). written_in f.stands) b.writes) file_outline in
-    let holds = length-map b.holds (λ (h : HoldParts). h.ino) in
-    omega (arith, c.requires.draft.files, c.requires.few, ap length (pages_outlined (bundle_in b)), writes, outlined, holds)
+accepted_files-requires-clause-places c = omega (arith, c.into_memory-handed.ensures.files, c.requires.few)
 
 pub accepted_files-requires-clause-entries : goal.accepted_files-requires-clause-entries
 accepted_files-requires-clause-entries c =
@@ -51,7 +44,7 @@ accepted_blocks-requires-clause-places c =
     let l = c.args.listing.now.listing in
     let files = ap (λ (fs : List RawFile). length (flat_map (λ (f : RawFile). blocks_listed_of l f.ino) fs)) c.deref.ensures.value in
     let few = accepted_few (whole_case c.args.case.now c.args.rows.now) l c.accepted_files.new.files.items c.requires.listed c.requires.rules c.accepted_files.ensures.once in
-    omega (arith, files, few, c.requires.draft.blocks, ap length (pages_outlined (bundle_in c.args.case.now.bundle)))
+    omega (arith, files, few, c.into_memory-handed.ensures.blocks)
 
 pub accepted_blocks-requires-clause-few : goal.accepted_blocks-requires-clause-few
 accepted_blocks-requires-clause-few c =
@@ -70,3 +63,7 @@ returns-clause-blocks c =
     let b = λ (fs : List RawFile). accepted_blocks (whole_case k c.args.rows.now) c.args.listing.now.listing c.args.notes.now (handed_in k.bundle) fs in
     ap (λ (x : ToldBundle). x.blocks) c.of.ensures ∙ ap (λ (h : Handed). map (block_in h) c.accepted_blocks.new.blocks.items) (c.fill-handed.ensures ∙ ap handed_in c.bundle.ensures.bundle)
     ∙ c.accepted_blocks.ensures c.args.rows.now ∙ ap b (c.deref.ensures.value ∙ sym c.shrink_to_fit.ensures.items ∙ sym c.from_vec.ensures)
+
+pub fill-handed-requires : goal.fill-handed-requires
+fill-handed-requires c =
+    subst (λ (x : Bundled). HasHandedPlaces (size_of x) c.into_memory-handed.result.handed) (sym c.bundle.ensures.bundle) c.into_memory-handed.ensures.handed

@@ -1,12 +1,12 @@
-use Rattle.std.proofs.Common.{◌∙◌, ap, map}
+use Rattle.std.proofs.Common.{◌∙◌, ap, map, refl}
 use Rattle.trio_layout.specs.Listing.{ListedFile}
 use Rattle.trio_case.specs.Order.{place_of}
-use Rattle.trio_entries.specs.inner.Finding.{own_numbers, place_in}
+use Rattle.trio_entries.specs.inner.Finding.{own_numbers}
 use Rattle.trio_entries.proofs.Finding.{noted_all}
 use Rattle.trio_entries.proofs.finder.Finder.judge.Goals as goal
 
 pub returns-clause-judged : goal.returns-clause-judged
 returns-clause-judged c = λ n.
     let own = own_numbers c.args.case.now in
-    noted_all own (map (λ (f : ListedFile). f.ino) c.args.listing.now.listing.files) c.place_judged.new.judged.items n (place_in c.args.self.now.own n) (c.requires.found.own n)
-    (λ i. c.place_judged.ensures own c.requires.found.own c.requires.none n i ∙ ap (place_of n) c.files.ensures.numbers) (c.requires.own n)
+    noted_all own (map (λ (f : ListedFile). f.ino) c.args.listing.now.listing.files) c.place_judged.new.judged.items n (place_of n own) refl
+    (λ i. c.place_judged.ensures n i ∙ ap (place_of n) c.files.ensures.numbers) (c.requires.own n)

@@ -1,23 +1,38 @@
-use Rattle.std.proofs.Common.{◌∙◌, List, ap, arith, length, subst}
-use Rattle.std.specs.List.{flat_map}
-use Rattle.trio_lease.specs.Views.{bundle_in}
-use Rattle.trio_case.specs.Indexed.{HasPlacesFor}
-use Rattle.trio_case.specs.Order.{place_of}
-use Rattle.trio_nodes.specs.declared.entry.Handed.{Handed}
-use Rattle.trio_nodes.specs.declared.entry.HandedFile.{HandedFile}
-use Rattle.trio_entries.proofs.Few.{handed_few, own_outlined, pages_outlined}
+use Rattle.std.proofs.Common.{◌∙◌, ◌||◌, List, ℕ, ap, arith, length, map, sym}
+use Rattle.std.proofs.lemmas.List.{length-append, length-map}
+use Rattle.trio_lists.specs.Lists.{is_among}
+use Rattle.trio_lease.specs.Shown.{LentFile}
+use Rattle.trio_lease.specs.declared.parts.InoParts.{InoParts}
+use Rattle.trio_nodes.specs.Handed.{Handed, all_pages}
+use Rattle.trio_state.specs.Listed.{is_marked}
+use Rattle.trio_entries.specs.inner.Finding.{has_mark}
+use Rattle.trio_entries.proofs.FlatPlaces.{all_count, marks_in}
 use Rattle.trio_entries.proofs.finder.Finder.look.Goals as goal
 
-pub fill-requires : goal.fill-requires
-fill-requires c =
-    record { room = subst (λ n. HasPlacesFor n c.args.self.now.pages) (ap length (pages_outlined (bundle_in c.args.case.now.bundle))) c.requires.room.pages }
-
-pub mark_blocks-requires-clause-places : goal.mark_blocks-requires-clause-places
-mark_blocks-requires-clause-places c =
+pub set_unplaced-requires-clause-places : goal.set_unplaced-requires-clause-places
+set_unplaced-requires-clause-places c =
     let b = c.args.case.now.bundle in
-    let same = ap (λ (fs : List HandedFile). length (flat_map (λ (f : HandedFile). f.blocks) fs)) (c.as_slice.ensures ∙ ap (λ (h : Handed). h.writes) c.requires.handed) in
-    omega (arith, same, handed_few b, ap length (pages_outlined (bundle_in b)), c.requires.room.marked)
+    omega (arith, length-append (map (λ (f : LentFile). f.stands.ino) b.writes) (map (λ (n : InoParts). n.no) b.inodes), length-map b.writes (λ (f : LentFile). f.stands.ino), length-map b.inodes (λ (n : InoParts). n.no), c.requires.places.judged)
+
+pub add_marked-requires : goal.add_marked-requires
+add_marked-requires c =
+    let b = c.args.case.now.bundle in
+    let all = ap length (c.pages.ensures ∙ ap all_pages c.requires.handed) in
+    omega (arith, all, all_count b, c.requires.places.marked, ap length c.requires.places.unmarked)
 
 pub returns-clause-found : goal.returns-clause-found
-returns-clause-found c =
-    record { pages = c.fill.ensures; own = λ n. c.requires.room.own n ∙ ap (place_of n) (own_outlined c.args.case.now.bundle) }
+returns-clause-found c = record { pages = c.fill.ensures; few = c.requires.few }
+
+pub returns-clause-marked : goal.returns-clause-marked
+returns-clause-marked c =
+    let b = c.args.case.now.bundle in
+    let none = c.requires.places.unmarked in
+    let pages = c.pages.ensures ∙ ap all_pages c.requires.handed in
+    record {
+      marked = λ n.
+          c.sort_numbers.ensures.same n ∙ c.add_marked.ensures.marked n ∙ ap (λ (xs : List ℕ). is_among n xs || has_mark n c.pages.result.now) none
+          ∙ ap (has_mark n) pages
+          ∙ marks_in b n
+          ∙ sym (ap (λ (h : Handed). is_marked h n) c.requires.handed);
+      rising = c.sort_numbers.ensures.rising;
+    }
