@@ -2,7 +2,6 @@ pub mod Given
 pub mod Places
 pub mod Counts
 pub mod LendLemmas
-pub mod Outlines
 pub mod Fullness
 pub mod ClosingFacts
 pub mod PartedHolds

@@ -1,5 +1,5 @@
 -- What is kept of a file that is out for writing.
-use Rattle.std.specs.Prelude.{◌≡◌, ◌-◌, [], if◌then◌else◌}
+use Rattle.std.specs.Prelude.{◌≡◌, [], if◌then◌else◌}
 use Rattle.trio_rights.specs.ByKind.{covers_blocks}
 use Rattle.trio_rights.specs.Sheets.{sheet_numbers}
 use Rattle.trio_checkpoint.specs.Covered.{Checkpointed}

@@ -1,6 +1,6 @@
 //! Whether what a bundle has was given to a library, thing by thing.
 
-ghost use Rattle.std.specs.Prelude.{◌≡◌, ℕ, ◌==◌, Some, [], map};
+ghost use Rattle.std.specs.Prelude.{◌≡◌, ◌↔◌, ℕ, ◌==◌, IsTrue, Some, [], map};
 ghost use Rattle.std.specs.List.{list_all, list_any};
 ghost use Rattle.std.specs.Option.{option_copied, option_map};
 ghost use Rattle.trio_layout.specs.Allowed.{has_kind};
@@ -214,6 +214,21 @@ fn has_number<T: Numbered>(things: &[T], number: u32) -> bool
     ensures { result ≡ list_any (λ x. T.number_of x == number) things.now }
 {
     things.iter().any(|thing| thing.number() == number)
+}
+
+/// Whether these are the numbers of the things of a bundle, in their order.
+pub fn has_numbers<T: Numbered>(numbers: &[u32], things: &[T]) -> bool
+    ensures { IsTrue result ↔ (numbers.now ≡ map T.number_of things.now) }
+{
+    if numbers.len() != things.len() {
+        return false;
+    }
+    for i in 0..numbers.len() {
+        if numbers[i] != things[i].number() {
+            return false;
+        }
+    }
+    true
 }
 
 /// Whether each of these holds is on a file that the library holds, with the body that was lent.

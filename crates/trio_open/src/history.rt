@@ -1,6 +1,6 @@
 //! What a registry knows of the history of its controller.
 
-ghost use Rattle.std.specs.Prelude.{◌≡◌, ◌+◌, ◌-◌, ◌<◌, IfOk};
+ghost use Rattle.std.specs.Prelude.{◌≡◌, ◌+◌, ◌-◌, ◌<◌, IfOk, IsOk};
 ghost use Rattle.trio_open.specs.Entries.{HasRoom};
 
 use std::marker::Model;
@@ -46,11 +46,12 @@ impl History {
     }
 
     /// Makes room for so many entries more after those that the log has, beside those that are
-    /// promised. `NoMemory`: there is none, as where there would be more entries than a `u64` counts.
+    /// promised. `NoMemory` comes exactly where there would be more entries than a `u64` counts.
     /// Nothing is entered yet.
     pub fn make_room(&self, made: u64, more: u64) -> Result<(), NoMemory>
         requires { made ≡ self.now.made }
-        ensures { IfOk result (λ _. HasRoom self.now more) }
+        ensures room { IfOk result (λ _. HasRoom self.now more) }
+        ensures succeeds { HasRoom self.now more → IsOk result }
     {
         if more > u64::MAX - made - self.promised {
             return Err(NoMemory);

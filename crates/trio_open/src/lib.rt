@@ -3,8 +3,7 @@
 //! An [`open::OpenFile`] is an open grant with what it lent. A file is lent by moving its pages out of home
 //! ([`lend::lend`]) or by copying them ([`read::copied_file`]), and its grant ends where a bundle hands it
 //! back ([`closing::end_files`]). Of a bundle is asked whether all of it was given to a library
-//! ([`belongs`]), whether a hold is parted from its parent's lease ([`parted`]), and whether it has the
-//! outline with which its release began ([`outline`]).
+//! ([`belongs`]), and whether a hold is parted from its parent's lease ([`parted`]).
 //!
 //! The controller's calls are made of these; nothing here knows a store or a log.
 #![tactic(auto)]
@@ -18,7 +17,6 @@ pub mod history;
 pub mod lend;
 pub mod numbers;
 pub mod open;
-pub mod outline;
 pub mod parted;
 pub mod read;
 pub mod room;

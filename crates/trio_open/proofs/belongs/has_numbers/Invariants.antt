@@ -1,5 +1,5 @@
 use Rattle.std.proofs.Common.{◌≡◌, length, map, take}
-use Rattle.trio_open.proofs.outline.has_numbers.Given as goal
+use Rattle.trio_open.proofs.belongs.has_numbers.Given as goal
 
 -- the same so far
 abbrev pub invariant-loop-i : goal.invariant-loop-i
