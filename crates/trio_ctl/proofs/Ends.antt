@@ -11,7 +11,7 @@ use Rattle.trio_layout.specs.Image.{Image}
 use Rattle.trio_log.specs.Logged.{Logged}
 use Rattle.trio_laws.specs.history.Recorded.{IsRecorded}
 use Rattle.trio_laws.specs.history.ToldLaws.{notes_of}
-use Rattle.trio_laws.specs.session.Lent.{LentIsTrue}
+use Rattle.trio_laws.specs.session.Lent.{LentIsTrue, sizes_of}
 use Rattle.trio_ctl.specs.Logged.{AreMine, HasHistory, recorded}
 use Rattle.trio_nodes.specs.declared.answers.ReleaseFault.{ReleaseFault}
 use Rattle.trio_laws.specs.ActLaws.{AtOnce, InARow}
@@ -53,6 +53,7 @@ after_begin first s s' begun begun' promised promised' log log' notes h same und
   mine = subst AreMine (sym same) h.mine;
   lent = subst LentIsTrue (sym same) h.lent;
   noted = h.noted ∙ ap (λ (t : State). notes_of (settled t)) (sym same);
+  sizes = ap sizes_of same ∙ h.sizes;
 }
 
 -- ---- what is awaited

@@ -37,6 +37,7 @@ pub mod Awaiting
 pub mod Beginnings
 pub mod Rooms
 pub mod Sames
+mod SamePages
 pub mod Underways
 mod Recording
 mod RecordedReleases
@@ -47,3 +48,6 @@ mod ModeCalls
 pub mod Settling
 mod DeskCauses
 pub mod Sends
+pub mod Serving
+pub mod Spending
+pub mod Keeping

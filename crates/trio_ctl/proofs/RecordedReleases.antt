@@ -27,8 +27,8 @@ use Rattle.trio_nodes.specs.declared.answers.ReleaseAnswer.{ReleaseAnswer}
 use Rattle.trio_nodes.specs.declared.answers.ReleaseAnswer.TheVariants.{Accepted, Refused}
 use Rattle.trio_nodes.specs.declared.entry.Entry.{Entry}
 use Rattle.trio_nodes.specs.declared.entry.Entry.TheVariants as entry
-use Rattle.trio_nodes.specs.declared.entry.Handed.{Handed}
-use Rattle.trio_nodes.specs.declared.entry.HandedFile.{HandedFile}
+use Rattle.trio_nodes.specs.Handed.{Handed}
+use Rattle.trio_nodes.specs.Handed.{HandedFile}
 use Rattle.trio_nodes.specs.declared.entry.HandedPage.{HandedPage}
 use Rattle.trio_nodes.specs.declared.entry.RawFile.{RawFile}
 use Rattle.trio_entries.specs.Handed.{block_in, file_in, fresh_in, handed_in, index_in}
@@ -57,7 +57,7 @@ use Rattle.trio_laws.proofs.history.NotesSteps.{refused_notes}
 use Rattle.trio_laws.proofs.history.AcceptedBlocks.{accepted_is_listed}
 use Rattle.trio_laws.proofs.history.RefusedTold.{refused_is_listed}
 use Rattle.trio_laws.proofs.judgement.Equivalence.{rules_are_accept}
-use Rattle.trio_laws.proofs.session.Lent.{step_keeps_lent}
+use Rattle.trio_laws.proofs.session.Lent.{step_keeps_lent, step_keeps_root}
 use Rattle.trio_ctl.specs.Answers.{verdict_of}
 use Rattle.trio_ctl.specs.HandedIn.{AreMarked, WasLentAs, WereLent}
 use Rattle.trio_ctl.specs.DeskLaws.{LentIsMarked}
@@ -250,6 +250,7 @@ after_release first s s' begun begun' promised promised' log log' notes notes' l
   mine = still_mine s (Release lib.0 (bundle_in b)) _ s' j.kept j.given step its h.mine;
   lent = step_keeps_lent s (Release lib.0 (bundle_in b)) _ s' j.kept h.all.whole j.given step h.lent;
   noted = noted' ∙ noted_then s s' lib b outcome told notes j o h.noted t step;
+  sizes = (step_keeps_root s (Release lib.0 (bundle_in b)) _ s' j.kept h.all.whole j.given step).0 ∙ h.sizes;
 }
 
 -- ---- what is asked of a judged bundle

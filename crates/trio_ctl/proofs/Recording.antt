@@ -46,7 +46,7 @@ use Rattle.trio_laws.proofs.history.Begins.{history_begins, history_is_legal}
 use Rattle.trio_laws.proofs.history.Grows.{history_grows, step_creds}
 use Rattle.trio_laws.proofs.history.NotesStart.{start_notes}
 use Rattle.trio_laws.proofs.history.NotesSteps.{steps_keep_notes}
-use Rattle.trio_laws.proofs.session.Lent.{step_keeps_lent}
+use Rattle.trio_laws.proofs.session.Lent.{step_keeps_lent, step_keeps_root}
 use Rattle.trio_ctl.proofs.Underways.{idle_in, underway_after, underway_begins, underway_in}
 use Rattle.trio_ctl.proofs.Starting.{image_kept}
 use Rattle.trio_ctl.proofs.Wholes.{whole_none}
@@ -113,6 +113,7 @@ after_told first s s' begun begun' promised promised' log log' notes x event ans
   mine = still_mine s event answer s' k given step its h.mine;
   lent = step_keeps_lent s event answer s' k h.all.whole given step h.lent;
   noted = h.noted ∙ sym (steps_keep_notes s event answer s' k given none step);
+  sizes = (step_keeps_root s event answer s' k h.all.whole given step).0 ∙ h.sizes;
 }
 
 -- where nothing is told beside it
@@ -128,6 +129,7 @@ backs_history first s lib [] begun promised promised' log log' notes h idle its 
   mine = h.mine;
   lent = h.lent;
   noted = h.noted;
+  sizes = h.sizes;
 }
 backs_history first s lib (f ∷ fs) begun promised promised' log log' notes h idle its b given less room =
     let mid : Logged = record { entries = log.entries ++ entry.Back lib f.ino ∷ []; room = length (log.entries ++ entry.Back lib f.ino ∷ []) + (promised' + length fs) } in
@@ -179,4 +181,5 @@ begins sb pages creds begun log notes v none empty noted =
       mine = λ lib. inr refl;
       lent = record { files = λ g f i. absurd i; holds = λ g h i. absurd i };
       noted = noted ∙ sym (start_notes image creds k.fit k.verifies whole positive);
+      sizes = refl;
     }

@@ -1,4 +1,4 @@
--- How many things a bundle has that belongs to a library: each is of a table that has a place for each number.
+-- How many things a bundle has that was given to a library: each is of a table that has a place for each number.
 use Rattle.std.proofs.Common.{ℕ, ◌+◌, ◌-◌, ◌<◌, ◌≤◌, List, length, map, is_some, sym, ap, subst, ◌∙◌, arith, Option}
 use Rattle.std.proofs.lemmas.List.{length-map}
 use Rattle.trio_rights.specs.Bundle.{Bundle, Written, bundle_pages}
@@ -20,13 +20,11 @@ use Rattle.trio_layout.proofs.Superblocks.{superblock_facts}
 use Rattle.trio_grants.specs.Grants.{Keyed}
 use Rattle.trio_commit.specs.declared.store.Store.{Store}
 use Rattle.trio_commit.specs.Store.{state_of}
-use Rattle.trio_open.specs.Belonging.{Belongs}
 use Rattle.trio_state.specs.Moves.{Outline}
 use Rattle.trio_ctl.specs.Ctl.{IsControlled}
 use Rattle.trio_open.specs.Entries.{Entries}
 use Rattle.trio_open.specs.Open.{Opened, grants_in}
 use Rattle.trio_ctl.specs.Stored.{superblock_at_home}
-use Rattle.trio_ctl.proofs.Belonging.{given_belongs}
 use Rattle.trio_ctl.proofs.Judging.{pages_core, pages_new}
 
 -- ---- what is given is no more than its table has
@@ -64,11 +62,10 @@ module _ (s : Store) (first : ℕ) (table : List Keyed) (files : List Opened) (c
   abbrev st : State
   st = state_of s first (grants_in files) creds entries.made
 
-  -- how many things there are in a bundle that belongs to a library
-  pub counts_few : (lib : ℕ) → Belongs st lib b → (length (bundle_pages (bundle_in b)) ≤ 8192) × (length b.writes ≤ 16385) × (length b.holds ≤ 16385) × (length b.inodes ≤ 16385)
-  counts_few lib t =
+  -- how many things there are in a bundle that was given to a library
+  pub counts_few : (lib : ℕ) → GivenTo st lib (bundle_in b) → (length (bundle_pages (bundle_in b)) ≤ 8192) × (length b.writes ≤ 16385) × (length b.holds ≤ 16385) × (length b.inodes ≤ 16385)
+  counts_few lib given =
       let kept = k.stored.kept in
-      let given = given_belongs st lib b t in
       let facts = superblock_facts (superblock_at_home s first) k.stored.fits in
       let sized : (length s.home.pages ≤ 8192) × (length s.rows - 1 ≤ 16384) = (facts.pages, facts.inodes) in
       let pages = pages_few st kept lib (bundle_in b) given in

@@ -371,6 +371,7 @@ module _ (s : State) (lib : LibNo) (b : Bundled) (back : List Shown) (calls : Li
         mine = still_mine then' (Settle lib.0 (bundle_in b)) step.Settled s' kept given_then end its' h'.mine;
         lent = step_keeps_lent then' (Settle lib.0 (bundle_in b)) step.Settled s' kept h'.all.whole given_then end h'.lent;
         noted = noted' ∙ ap (λ x. noted_by x told.files notes) verdict ∙ noted_then then' s' lib b outcome told notes judgeable_then o' h'.noted tells' released;
+        sizes = (step_keeps_root then' (Settle lib.0 (bundle_in b)) step.Settled s' kept h'.all.whole given_then end).0 ∙ h'.sizes;
       }
 
 -- ---- what is seen of the desk

@@ -45,9 +45,11 @@ pub record Registered : Type 0 where
   pub looked : ℕ
   pub promised : ℕ
 
--- how much is made ready for entries: for so many, beside those that are promised, and so many bytes
+-- What is made ready: places in the log beside those that are promised, and memory for so many releases, each of which needs at most so
+-- many bytes.
 pub record Spare : Type 0 where
-  pub entries : ℕ
+  pub places : ℕ
+  pub kits : ℕ
   pub bytes : ℕ
 
 -- what contracts see of the controller: its state, of each library, from library 1 on, the outline of its release that has begun and

@@ -1,8 +1,8 @@
 -- What is handed in beside what the steps see of a bundle.
 use Rattle.std.specs.Prelude.{◌≡◌, ◌⊎◌, ℕ, true, List}
 use Rattle.trio_nodes.specs.declared.grant.GrantKind.TheVariants.{Hold, Write}
-use Rattle.trio_nodes.specs.declared.entry.Handed.{Handed}
-use Rattle.trio_nodes.specs.declared.entry.HandedFile.{HandedFile}
+use Rattle.trio_nodes.specs.Handed.{Handed}
+use Rattle.trio_nodes.specs.Handed.{HandedFile}
 use Rattle.trio_nodes.specs.declared.entry.HandedPage.{HandedPage}
 use Rattle.trio_laws.specs.history.Entries.{sheet_handed}
 use Rattle.trio_lease.specs.Shown.{LentFile}

@@ -18,8 +18,9 @@ use Rattle.trio_laws.specs.history.Recorded.{Recorded, IsRecorded}
 use Rattle.trio_laws.specs.history.Replays.{IsLibrary}
 use Rattle.trio_laws.specs.history.Stands.{nodes_of}
 use Rattle.trio_laws.specs.history.ToldLaws.{notes_of}
-use Rattle.trio_laws.specs.session.Lent.{LentIsTrue}
+use Rattle.trio_laws.specs.session.Lent.{LentIsTrue, sizes_of}
 use Rattle.trio_ctl.specs.Ctl.{Controller}
+use Rattle.trio_ctl.specs.Room.{sizes_in}
 
 -- beside a change of mode, its call is told, if it has one
 abbrev pub with_call : Option Call → Beside
@@ -57,8 +58,8 @@ abbrev pub AreMine : State → Type 0
 AreMine s = (lib : ℕ) → IsLibrary s.creds lib ⊎ (grants_to s.open_grants lib ≡ [])
 
 -- What holds of the log and of the notes: all is recorded, what has begun is closed and was given, there are places for the entries
--- that are promised, each open grant is of one of the libraries, what the open grants lent is true, and the notes are of the files of
--- the settled image.
+-- that are promised, each open grant is of one of the libraries, what the open grants lent is true, the notes are of the files of
+-- the settled image, and its sizes are those of the first image.
 pub record HasHistory (first : Image) (s : State) (begun : List (Option Outline)) (promised : ℕ) (log : Logged) (notes : Notes) : Type 0 where
   pub all : IsRecorded (recorded first s log.entries)
   pub underway : KeptUnderway (record { state = s; begun = begun })
@@ -66,3 +67,4 @@ pub record HasHistory (first : Image) (s : State) (begun : List (Option Outline)
   pub mine : AreMine s
   pub lent : LentIsTrue s
   pub noted : notes ≡ notes_of (settled s)
+  pub sizes : sizes_of s ≡ sizes_in first

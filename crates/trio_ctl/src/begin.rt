@@ -4,18 +4,23 @@ ghost use Rattle.std.specs.Prelude.{◌≡◌, ◌≢◌, ◌+◌, ◌↔◌, If
 ghost use Rattle.trio_lease.specs.Views.{bundle_in};
 ghost use Rattle.trio_case.specs.Cases.{case_in as case_shown};
 ghost use Rattle.trio_judge.specs.Judging.{IsJudgeRoom};
+ghost use Rattle.trio_laws.specs.session.Lent.{sizes_of};
+ghost use Rattle.trio_nodes.specs.declared.answers.ReleaseFault.TheVariants.{NoMemory as NoReleaseMemory};
 ghost use Rattle.trio_state.specs.Given.{GivenTo};
 ghost use Rattle.trio_state.specs.Moves.{Beginning, IsAwaited, begun_by, outline_of, with_begun};
 ghost use Rattle.trio_ctl.specs.Answers.{begin_answer};
 ghost use Rattle.trio_ctl.specs.Ctl.{IsLibrary};
 ghost use Rattle.trio_open.specs.Entries.{HasRoom};
 ghost use Rattle.trio_ctl.specs.HandedIn.{WereHeld};
+ghost use Rattle.trio_ctl.specs.Kits.{AreSpare, HasSpare, TakesOne};
 ghost use Rattle.trio_ctl.specs.Pending.{case_made};
+ghost use Rattle.trio_ctl.specs.Room.{room_for};
 ghost use Rattle.trio_ctl.specs.inner.Beginning.{HaveBodies, IsCopy, underway_at};
 
-use crate::begun::Begun;
 use crate::registry::Registry;
+use crate::spares::Spares;
 use trio_case::Case;
+use trio_entries::Draft;
 use trio_judge::Room;
 use trio_lease::Bundle;
 use trio_nodes::ReleaseFault;
@@ -24,9 +29,11 @@ use trio_rights::LibNo;
 
 impl Registry {
     /// Takes a closed bundle in: its case, and the room to judge it. All memory of its end is taken, and
-    /// an entry is promised for it. With a fault the bundle comes back, and nothing has changed.
+    /// an entry is promised for it. With a fault the bundle comes back, and nothing has changed but what is
+    /// kept, of which one may be taken.
     pub(crate) fn begin(
         &mut self,
+        spares: &mut Spares,
         entry: u64,
         lib: LibNo,
         bundle: Bundle,
@@ -36,6 +43,7 @@ impl Registry {
         requires idle { begun_by (underway_at self.old) lib.0 ≡ None }
         requires given { GivenTo self.old.state lib.0 (bundle_in bundle) }
         requires held { WereHeld self.old.state lib.0 bundle.holds }
+        requires spare { AreSpare (sizes_of self.old.state) spares.old }
         ensures begins { Beginning (underway_at self.old) lib.0 (bundle_in bundle) (begin_answer result (λ back. back.1)) (underway_at self.new) }
         ensures case { IfOk result (λ made. made.0 ≡ case_made self.old.state lib bundle) }
         ensures room { IfOk result (λ made. IsJudgeRoom made.0 made.1) }
@@ -44,22 +52,21 @@ impl Registry {
         ensures unpromised { OnErr result (self.new.promised ≡ self.old.promised) }
         ensures looked { self.new.looked ≡ self.old.looked }
         ensures back { IfErr result (λ back. back.0 ≡ bundle) }
+        ensures takes { TakesOne (sizes_of self.old.state) spares.old spares.new }
+        ensures sure { HasRoom (record { made = self.old.state.entries; promised = self.old.promised }) 1 → HasSpare (room_for self.old.state.home.core (bundle_in bundle)) spares.old → IfErr result (λ back. back.1 ≢ NoReleaseMemory) }
     {
-        let (case, room) = match self.taken_in(entry, lib, bundle) {
-            Ok(made) => made,
+        let (case, room, draft) = match self.taken_in(spares, entry, lib, bundle) {
+            Ok(taken) => taken,
             Err(back) => return Err(back),
         };
-        let Ok(begun) = Begun::of(self.alloc, &case) else {
-            return Err((case.into_bundle(), ReleaseFault::NoMemory));
-        };
         self.history.promise();
-        self.begun[lib.0 as usize - 1] = Some(begun);
+        self.begun[lib.0 as usize - 1] = Some(draft);
         Ok((case, room))
     }
 
     /// Takes out what was made ready when the release of a library began, and takes the promise of its
     /// entry back, so that there is room to make it.
-    pub(crate) fn take_begun(&mut self, lib: LibNo) -> Begun
+    pub(crate) fn take_begun(&mut self, lib: LibNo) -> Draft
         requires { begun_by (underway_at self.old) lib.0 ≢ None }
         ensures begun { begun_by (underway_at self.old) lib.0 ≡ Some result }
         ensures state { self.new.state ≡ self.old.state }
@@ -96,7 +103,7 @@ impl Registry {
             return false;
         };
         match self.begun.get(place as usize) {
-            Some(Some(begun)) => begun.outline.is_of(case.bundle()),
+            Some(Some(begun)) => begun.is_of(case.bundle()),
             _ => false,
         }
     }

@@ -12,6 +12,7 @@ ghost use Rattle.trio_state.specs.Step.{Allot, Back, Done, Grant, Step};
 ghost use Rattle.trio_ctl.specs.Answers.{allot_answer, grant_answer};
 ghost use Rattle.trio_ctl.specs.Ctl.{IsIdle, IsLibrary};
 ghost use Rattle.trio_ctl.specs.Logged.{Logs, alone};
+ghost use Rattle.trio_ctl.specs.Room.{Spends};
 ghost use Rattle.trio_open.specs.Open.{lent_by};
 ghost use Rattle.trio_ctl.specs.inner.Telling.{HasRoomFrom, allot_told, grant_told};
 
@@ -42,6 +43,7 @@ impl Ctl {
         ensures logs { Logs self.old alone (Grant lib.0 ino kind) (grant_answer result) self.new }
         ensures lease { IfOk result (λ lease. IsSomeAnd (row_at self.old.state.home ino)
             (λ r. lease ≡ lent_by (opened self.old.state lib.0 ino kind r))) }
+        ensures spends { Spends 2 0 self.old.spare self.new.spare }
         ensures floor { self.old.looked ≤ self.new.looked }
         ensures was_kept { Kept self.old.state }
         ensures kept { Kept self.new.state }
@@ -76,6 +78,7 @@ impl Ctl {
         ensures logs { Logs self.old alone (Allot lib.0 pages inodes) (allot_answer result) self.new }
         ensures pages { IfOk result (λ given. given.pages.items ≡ map (fresh_page lib) (page_numbers given.pages.items)) }
         ensures inodes { IfOk result (λ given. given.inodes.items ≡ map (fresh_number lib) (inode_numbers given.inodes.items)) }
+        ensures spends { Spends 1 0 self.old.spare self.new.spare }
         ensures floor { self.old.looked ≤ self.new.looked }
         ensures was_kept { Kept self.old.state }
         ensures kept { Kept self.new.state }
@@ -109,6 +112,7 @@ impl Ctl {
         requires given { HasGrant self.old.state lease.lib.0 lease.ino Read }
         ensures step { Step self.old.state (Back lease.lib.0 lease.ino) Done self.new.state }
         ensures logs { Logs self.old alone (Back lease.lib.0 lease.ino) Done self.new }
+        ensures spends { Spends 0 0 self.old.spare self.new.spare }
         ensures floor { self.old.looked ≤ self.new.looked }
         ensures was_kept { Kept self.old.state }
         ensures kept { Kept self.new.state }

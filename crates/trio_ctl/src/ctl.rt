@@ -1,6 +1,6 @@
 //! The controller.
 
-ghost use Rattle.std.specs.Prelude.{◌≡◌, ◌≤◌, ◌+◌, ◌↔◌, ℕ, [], IfErr, IfOk, IsTrue, None, OnOk, length, replicate, vec_len};
+ghost use Rattle.std.specs.Prelude.{◌≡◌, ◌≤◌, ◌+◌, ◌↔◌, ℕ, [], IfErr, IfOk, IsOk, IsTrue, None, OnErr, OnOk, length, replicate, vec_len};
 ghost use Rattle.trio_lease.specs.Views.{bundle_in};
 ghost use Rattle.trio_desk.specs.Contents.{AreWithinLimits};
 ghost use Rattle.trio_state.specs.Given.{GivenTo};
@@ -15,10 +15,11 @@ ghost use Rattle.trio_open.specs.Belonging.{Belongs};
 ghost use Rattle.trio_ctl.specs.Ctl.{AreAsTold, IsIdle, IsLibrary, NoneBegun, TellsSettled, writer_of};
 ghost use Rattle.trio_ctl.specs.HandedIn.{WereHeld};
 ghost use Rattle.trio_ctl.specs.Logged.{recorded};
-ghost use Rattle.trio_ctl.specs.Room.{room_for};
+ghost use Rattle.trio_ctl.specs.Room.{Spends, room_for, spare_entries};
 
 use crate::image::ImageFault;
 use crate::registry::Registry;
+use crate::spares::Spares;
 use std::alloc::Global;
 use std::marker::Model;
 use std::snapshot::Snapshot;
@@ -46,16 +47,18 @@ pub struct Ctl {
     pub(crate) log: Log,
     // the name and the size of each live file
     pub(crate) notes: Notes,
-    // memory that is made ready for the entries to come
-    pub(crate) spare: Vec<u8>,
+    // memory that is made ready for the releases to come
+    pub(crate) spares: Spares,
     pub(crate) first: Snapshot<Image>,
 }
 
 impl Model for Ctl {
-    ghost use Rattle.std.specs.Prelude.{◌+◌, ◌-◌, length, vec_capacity};
+    ghost use Rattle.std.specs.Prelude.{◌+◌, ◌-◌, length, vec_len};
     ghost use Rattle.trio_survey.specs.Stored.{image_in};
     ghost use Rattle.trio_ctl.specs.Ctl.{Controller};
+    ghost use Rattle.trio_ctl.specs.Kits.{AreSpare};
     ghost use Rattle.trio_ctl.specs.Logged.{HasHistory};
+    ghost use Rattle.trio_ctl.specs.Room.{sizes_in};
 
     ghost Value = { Controller };
 
@@ -65,10 +68,16 @@ impl Model for Ctl {
       first = image_in c.first.value.superblock c.first.value.pages;
       log = c.log.entries;
       looked = c.registry.looked;
-      spare = record { entries = c.log.room - (length c.log.entries + c.registry.promised); bytes = vec_capacity c.spare };
+      spare = record {
+        places = c.log.room - (length c.log.entries + c.registry.promised);
+        kits = vec_len c.spares.kits;
+        bytes = c.spares.bytes;
+      };
     } };
 
-    ghost invariant = { λ c. HasHistory (image_in c.first.value.superblock c.first.value.pages) c.registry.state c.registry.begun c.registry.promised c.log c.notes };
+    ghost invariant = { λ c.
+        HasHistory (image_in c.first.value.superblock c.first.value.pages) c.registry.state c.registry.begun c.registry.promised c.log c.notes
+        × AreSpare (sizes_in (image_in c.first.value.superblock c.first.value.pages)) c.spares };
 }
 
 impl Ctl {
@@ -96,7 +105,7 @@ impl Ctl {
                 registry,
                 log: Log::new(alloc),
                 notes: Notes::of(notes),
-                spare: Vec::new(alloc),
+                spares: Spares::none(alloc),
                 first,
             }),
             Err(back) => Err(back),
@@ -162,17 +171,27 @@ impl Ctl {
         self.registry.creds(lib)
     }
 
-    /// Makes room for so many entries, beside those that are promised, and so many bytes of what they
-    /// have; what was spare before stays so. After `NoMemory` at least as much is spare as before.
+    /// Makes room for so many entries, beside those that are promised, each with the memory of a release
+    /// whose [`room`](Self::room) is at most so many bytes; what was spare before stays so. After
+    /// `NoMemory` nothing changed.
+    ///
+    /// With one spare entry and the room of a bundle in spare bytes, [`begin`](Self::begin),
+    /// [`release`](Self::release) and [`settle`](Self::settle) don't lack memory. Each of them takes of
+    /// what is spare only where it finds no memory of its own, and one entry at most; the bytes stay, as
+    /// they are those of each entry. As the memory of an entry has to serve every bundle of that room,
+    /// whether it has many pages or many leases, it may take up to one and a half times the bytes.
     pub fn make_room(&mut self, entries: u64, bytes: u64) -> Result<(), NoMemory>
-        ensures entries { OnOk result (entries ≤ self.new.spare.entries) }
+        ensures entries { OnOk result (entries ≤ spare_entries self.new.spare) }
         ensures bytes { OnOk result (bytes ≤ self.new.spare.bytes) }
-        ensures kept_entries { self.old.spare.entries ≤ self.new.spare.entries }
+        ensures kept_entries { spare_entries self.old.spare ≤ spare_entries self.new.spare }
         ensures kept_bytes { self.old.spare.bytes ≤ self.new.spare.bytes }
+        ensures unchanged { OnErr result (self.new ≡ self.old) }
         ensures rest { self.new ≡ record self.old { spare = self.new.spare } }
     {
+        let more = self.registry.more_kits(&self.spares, entries, bytes)?;
         make_places(&mut self.log, self.registry.promised(), entries)?;
-        self.spare.reserve(bytes as usize)
+        self.spares.keep(more);
+        Ok(())
     }
 
     /// What one release of a bundle needs at most, in bytes: 4 for each page and each inode number of
@@ -182,9 +201,9 @@ impl Ctl {
     ///
     /// That is room for the judgement and, whatever the verdict, for the entry: for bodies and pages as
     /// they are handed in, once each, since the blocks that the entry tells name the handed-in pages; and
-    /// for the files that it tells, of which each page can name 16. It speaks of the bytes of which
-    /// [`make_room`](Self::make_room) speaks; no clause says yet that a release that has so many to spare
-    /// wants no memory.
+    /// for the files that it tells, of which each page can name 16. With one entry and so many
+    /// bytes to spare, a release lacks no memory ([`make_room`](Self::make_room)). No clause says that it
+    /// takes no more.
     ///
     /// Takes no memory.
     pub fn room(&self, bundle: &Bundle) -> u64
@@ -233,13 +252,14 @@ impl Ctl {
         ensures begun { IfErr result (λ back. back.0.begun ≡ self.begun) }
         ensures log { IfErr result (λ back. (back.0.log ≡ self.log) × (back.0.first ≡ self.first)) }
         ensures floor { IfErr result (λ back. self.looked ≤ back.0.looked) }
+        ensures spends { IfErr result (λ back. Spends 0 0 self.spare back.0.spare) }
         ensures kept { Kept self.state }
     {
         let Ctl {
             registry,
             log,
             notes,
-            spare,
+            spares,
             first,
         } = self;
         match registry.into_image() {
@@ -249,7 +269,7 @@ impl Ctl {
                     registry,
                     log,
                     notes,
-                    spare,
+                    spares,
                     first,
                 };
                 Err((ctl, fault))
@@ -263,7 +283,10 @@ pub(crate) fn make_places(log: &mut Log, promised: u64, more: u64) -> Result<(),
     ensures kept { log.new.entries ≡ log.old.entries }
     ensures grows { log.old.room ≤ log.new.room }
     ensures room { OnOk result (length log.new.entries + promised + more ≤ log.new.room) }
+    ensures same { OnErr result (log.new ≡ log.old) }
+    ensures succeeds { length log.old.entries + promised + more ≤ log.old.room → IsOk result }
 {
+    log.is_small();
     let Some(places) = promised.checked_add(more) else {
         return Err(NoMemory);
     };

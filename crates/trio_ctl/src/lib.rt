@@ -14,7 +14,6 @@
 mod allot;
 mod backs;
 mod begin;
-mod begun;
 mod belongs;
 mod calls;
 pub mod commit_laws;
@@ -25,6 +24,7 @@ mod give_back;
 mod grant;
 mod hold;
 mod image;
+mod kit;
 mod mode;
 mod modes;
 mod outcome;
@@ -37,6 +37,7 @@ mod room;
 mod same;
 mod settle;
 mod settled;
+mod spares;
 mod start;
 mod stored;
 

@@ -6,6 +6,7 @@ ghost use Rattle.trio_desk.specs.Ready.{AreLent, TellsChmod};
 ghost use Rattle.trio_state.specs.Kept.{Kept};
 ghost use Rattle.trio_ctl.specs.Ctl.{IsIdle, IsLibrary};
 ghost use Rattle.trio_ctl.specs.Desk.{Happens, LogsCall, desk_of, out_of};
+ghost use Rattle.trio_ctl.specs.Room.{Spends};
 ghost use Rattle.trio_open.specs.inner.Modes.{busy_holder};
 
 use crate::backs::give_back_all;
@@ -50,6 +51,7 @@ impl Ctl {
         ensures logs { LogsCall self.old lib (SetMode ino mode back.items call) (mode_told result (λ came. came.2)) self.new }
         ensures leases { IfErr result (λ came. came.0 ≡ back) }
         ensures call { IfErr result (λ came. came.1 ≡ call_back call came.2) }
+        ensures spends { Spends 1 0 self.old.spare self.new.spare }
         ensures floor { self.old.looked ≤ self.new.looked }
         ensures was_kept { Kept self.old.state }
         ensures kept { Kept self.new.state }

@@ -1,21 +1,24 @@
 //! What a controller keeps of its image, and the grants that are open.
 
-ghost use Rattle.std.specs.Prelude.{◌≡◌, ◌↔◌, IsTrue, None, length, min};
+ghost use Rattle.std.specs.Prelude.{◌≡◌, ◌↔◌, IfOk, IsTrue, None, length, min};
 ghost use Rattle.trio_desk.specs.Contents.{AreWithinLimits};
 ghost use Rattle.trio_state.specs.Allotments.{free_numbers, free_pages};
 ghost use Rattle.trio_state.specs.Moves.{begun_by};
 ghost use Rattle.trio_state.specs.State.{creds_of};
 ghost use Rattle.trio_laws.specs.session.Lent.{sizes_of};
 ghost use Rattle.trio_ctl.specs.Ctl.{AreAsTold, IsLibrary, superblock_for};
+ghost use Rattle.trio_ctl.specs.Kits.{AreSpare, IsMore};
 
-use crate::begun::Begun;
+use crate::spares::Spares;
 use std::alloc::Global;
 use std::marker::Model;
 use trio_commit::Store;
+use trio_entries::Draft;
 use trio_grants::GrantTable;
 use trio_layout::{CoreRange, Superblock};
 use trio_open::history::History;
 use trio_open::open::OpenFile;
+use trio_page::NoMemory;
 use trio_rights::{Creds, LibNo};
 use trio_tables::Shadow;
 
@@ -36,8 +39,9 @@ pub(crate) struct Registry {
     pub(crate) files: Vec<OpenFile>,
     // library n has the n-th, counted from 1
     pub(crate) libs: Vec<Creds>,
-    // of library n, counted from 1, the n-th is its release that has begun and not ended
-    pub(crate) begun: Vec<Option<Begun>>,
+    // of library n, counted from 1, the n-th has what the entry of its release wants that has begun and
+    // not ended
+    pub(crate) begun: Vec<Option<Draft>>,
     pub(crate) history: History,
 }
 
@@ -79,6 +83,27 @@ impl Registry {
         ensures { AreWithinLimits (sizes_of self.now.state) }
     {
         let _ = &self.alloc;
+    }
+
+    /// What is to be kept for releases to come, so that there is memory for so many of them, each of
+    /// which needs at most so many bytes, and for as many as before.
+    pub(crate) fn more_kits(
+        &self,
+        spares: &Spares,
+        count: u64,
+        bytes: u64,
+    ) -> Result<Spares, NoMemory>
+        ensures spare { IfOk result (AreSpare (sizes_of self.now.state)) }
+        ensures more { IfOk result (IsMore count bytes spares.now) }
+    {
+        self.is_within_limits();
+        spares.more(
+            self.alloc,
+            self.range(),
+            self.store.rows.inodes(),
+            count as usize,
+            bytes,
+        )
     }
 
     /// The allocator.

@@ -1,17 +1,17 @@
 //! Releases, in two moves or in one call, with their entries in the log.
 
-ghost use Rattle.std.specs.Prelude.{◌≡◌, ◌≤◌, ◌+◌, ◌*◌, ◌++◌, ◌↔◌, IfErr, IfOk, IsTrue, length, true};
+ghost use Rattle.std.specs.Prelude.{◌≡◌, ◌≢◌, ◌≤◌, ◌+◌, ◌*◌, ◌++◌, ◌↔◌, IfErr, IfOk, IsTrue, length, true};
 ghost use Rattle.std.specs.List.{list_all};
 ghost use Rattle.trio_rights.specs.Bundle.{bundle_pages};
 ghost use Rattle.trio_rights.specs.Row.{row_in};
 ghost use Rattle.trio_lease.specs.Views.{bundle_in};
 ghost use Rattle.trio_layout.specs.Allowed.{has_kind};
+ghost use Rattle.trio_nodes.specs.declared.answers.ReleaseFault.TheVariants.{NoMemory as NoReleaseMemory};
 ghost use Rattle.trio_case.specs.Cases.{case_in as case_shown};
 ghost use Rattle.trio_state.specs.Given.{GivenTo};
 ghost use Rattle.trio_state.specs.Kept.{Kept};
 ghost use Rattle.trio_state.specs.Moves.{Acts, Answered, Begin, End, IsAwaited, KeptUnderway, outline_of};
 ghost use Rattle.trio_state.specs.Step.{Release, Step};
-ghost use Rattle.trio_entries.specs.Drafts.{IsDraftFor};
 ghost use Rattle.trio_entries.specs.Handed.{handed_in};
 ghost use Rattle.trio_entries.specs.Telling.{AreNoted, whole_case};
 ghost use Rattle.trio_ctl.specs.Answers.{begin_answer, release_answer, verdict_of};
@@ -19,6 +19,7 @@ ghost use Rattle.trio_ctl.specs.Ctl.{IsIdle, IsLibrary, underway_of};
 ghost use Rattle.trio_ctl.specs.HandedIn.{AreMarked, WereHeld, WereLent};
 ghost use Rattle.trio_ctl.specs.Logged.{Logs, entries_made, with_bundle};
 ghost use Rattle.trio_ctl.specs.Pending.{case_made};
+ghost use Rattle.trio_ctl.specs.Room.{HasRoomFor, Spends};
 ghost use Rattle.trio_ctl.specs.inner.Outcomes.{HasFew, IsOutcome};
 ghost use Rattle.trio_ctl.specs.inner.Telling.{TellsOutcome, noted_by};
 
@@ -46,7 +47,9 @@ impl Ctl {
     /// nothing changed, and the bundle comes back unjudged.
     ///
     /// After `NoMemory`, which may come in place of each answer, nothing changed and the bundle comes
-    /// back; a log that has or has promised as many entries as a `u64` counts has no memory for more.
+    /// back; a log that has or has promised as many entries as a `u64` counts has no memory for more. With
+    /// one spare entry and the bundle's [`room`](Self::room) in spare bytes it doesn't come
+    /// ([`make_room`](Self::make_room)).
     pub fn begin(&mut self, lib: LibNo, bundle: Bundle) -> Result<Pending, (Bundle, ReleaseFault)>
         requires library { IsLibrary lib self.old.state }
         requires idle { IsIdle self.old lib.0 }
@@ -55,15 +58,18 @@ impl Ctl {
         ensures acts { Acts (underway_of self.old) (Begin lib.0 (bundle_in bundle)) (begin_answer result (λ back. back.1)) (underway_of self.new) }
         ensures pending { IfOk result (λ p. p ≡ case_made self.old.state lib bundle) }
         ensures rest { self.new ≡ record self.old { begun = self.new.begun; spare = self.new.spare } }
+        ensures sure { HasRoomFor self.old (bundle_in bundle) → IfErr result (λ back. back.1 ≢ NoReleaseMemory) }
+        ensures spends { Spends 1 0 self.old.spare self.new.spare }
         ensures back { IfErr result (λ back. back.0 ≡ bundle) }
         ensures was_kept { KeptUnderway (underway_of self.old) }
         ensures kept { KeptUnderway (underway_of self.new) }
     {
+        self.log.is_small();
         let Ok(()) = make_places(&mut self.log, self.registry.promised(), 1) else {
             return Err((bundle, ReleaseFault::NoMemory));
         };
         let entry = self.log.len();
-        let (case, room) = match self.registry.begin(entry, lib, bundle) {
+        let (case, room) = match self.registry.begin(&mut self.spares, entry, lib, bundle) {
             Ok(made) => made,
             Err(back) => return Err(back),
         };
@@ -102,6 +108,7 @@ impl Ctl {
         ensures acts { Acts (underway_of self.old) (End judged.case.lib.0 (bundle_in judged.case.bundle)) (Answered (verdict_of result)) (underway_of self.new) }
         ensures log { self.new.log ≡ self.old.log ++ entries_made self.old.state (with_bundle judged.case.bundle) (Release judged.case.lib.0 (bundle_in judged.case.bundle)) (verdict_of result) }
         ensures first { self.new.first ≡ self.old.first }
+        ensures spends { Spends 0 0 self.old.spare self.new.spare }
         ensures floor { self.old.looked ≤ self.new.looked }
         ensures looked { self.new.looked ≤ self.old.looked + length (bundle_pages (bundle_in judged.case.bundle)) + length (bundle_in judged.case.bundle).writes }
         ensures reads { reads.new ≤ reads.old + length (bundle_pages (bundle_in judged.case.bundle)) + length (bundle_in judged.case.bundle).writes }
@@ -110,7 +117,7 @@ impl Ctl {
     {
         let (case, verdict) = judged.parts();
         let lib = case.lib();
-        let draft = self.registry.take_begun(lib).into_draft();
+        let draft = self.registry.take_begun(lib);
         let outcome = self.registry.outcome(&case, verdict);
         let rows = self.registry.rows();
         let told = told(draft, rows, &self.notes, &case, &outcome);
@@ -141,7 +148,9 @@ impl Ctl {
     /// nothing changed, and the bundle comes back unjudged.
     ///
     /// After `NoMemory`, which may come in place of each answer, nothing changed and the bundle comes
-    /// back; a log that has as many entries as a `u64` counts has no memory for one more.
+    /// back; a log that has as many entries as a `u64` counts has no memory for one more. With one spare
+    /// entry and the bundle's [`room`](Self::room) in spare bytes it doesn't come
+    /// ([`make_room`](Self::make_room)).
     ///
     /// The bundle is judged by its own pages: home is looked at no more than once for each page of
     /// the bundle and once for each of its write leases. Its entry has the bundle as it was handed in,
@@ -160,6 +169,8 @@ impl Ctl {
         ensures step { Step self.old.state (Release lib.0 (bundle_in bundle)) (release_answer result (λ back. back.1)) self.new.state }
         ensures logs { Logs self.old (with_bundle bundle) (Release lib.0 (bundle_in bundle)) (release_answer result (λ back. back.1)) self.new }
         ensures back { IfErr result (λ back. back.0 ≡ bundle) }
+        ensures sure { HasRoomFor self.old (bundle_in bundle) → IfErr result (λ back. back.1 ≢ NoReleaseMemory) }
+        ensures spends { Spends 1 0 self.old.spare self.new.spare }
         ensures floor { self.old.looked ≤ self.new.looked }
         ensures looked { self.new.looked ≤ self.old.looked + length (bundle_pages (bundle_in bundle)) + length (bundle_in bundle).writes }
         ensures reads { reads.new ≤ reads.old + 3 * length (bundle_pages (bundle_in bundle)) + length (bundle_in bundle).writes }
@@ -185,7 +196,7 @@ pub(crate) fn told(
     case: &Case,
     outcome: &Outcome,
 ) -> Told
-    requires draft { IsDraftFor (outline_of (bundle_in case.now.bundle)) draft }
+    requires draft { draft ≡ outline_of (bundle_in case.now.bundle) }
     requires live { list_all (λ f. has_kind f.stands.kind (row_in rows.now f.stands.ino)) case.now.bundle.writes ≡ true }
     requires outcome { IsOutcome (whole_case case.now rows.now) outcome.now }
     requires few { HasFew (bundle_in case.now.bundle) outcome.now }

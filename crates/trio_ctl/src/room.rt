@@ -2,7 +2,7 @@
 
 ghost use Rattle.std.specs.Prelude.{◌≡◌, ◌+◌, ℕ};
 ghost use Rattle.trio_lease.specs.Views.{bundle_in};
-ghost use Rattle.trio_open.specs.Belonging.{Belongs};
+ghost use Rattle.trio_state.specs.Given.{GivenTo};
 ghost use Rattle.trio_ctl.specs.Room.{room_for};
 
 use crate::registry::Registry;
@@ -21,7 +21,7 @@ const VALUE_ROOM: u64 = 1024;
 impl Registry {
     /// What one release of a bundle needs, as [`Ctl::room`](crate::Ctl::room) says.
     pub(crate) fn room(&self, bundle: &Bundle) -> u64
-        requires { (lib : ℕ) × Belongs self.now.state lib bundle.now }
+        requires { (lib : ℕ) × GivenTo self.now.state lib (bundle_in bundle.now) }
         ensures { result ≡ room_for self.now.state.home.core (bundle_in bundle.now) }
     {
         let pages = self.range().end;

@@ -1,13 +1,15 @@
 //! Whether what was handed in is this bundle.
 
-ghost use Rattle.std.specs.Prelude.{◌≡◌, ◌↔◌, false, IsTrue, Some, map};
+ghost use Rattle.std.specs.Prelude.{◌≡◌, ◌↔◌, ◌≤◌, ◌++◌, false, IfNone, IfSome, IsSome, IsTrue, List, Some, drop, length, map, take};
 ghost use Rattle.std.specs.Option.{option_copied, option_map};
-ghost use Rattle.trio_entries.specs.Handed.{block_in, file_in, fresh_in, handed_in, index_in};
+ghost use Rattle.trio_nodes.specs.Handed.{all_pages, head_of};
+ghost use Rattle.trio_nodes.specs.declared.entry.HandedPage.{HandedPage as HandedPageSeen};
+ghost use Rattle.trio_entries.specs.Handed.{block_in, file_in, file_pages, fresh_in, handed_in, index_in};
 ghost use Rattle.trio_ctl.specs.inner.Same.{page_seen};
 
 use trio_lease::{Bundle, FreshPage, WriteLease};
-use trio_nodes::{Handed, HandedFile, HandedPage};
-use trio_open::outline::has_numbers;
+use trio_nodes::{Handed, HandedHead, HandedPage};
+use trio_open::belongs::has_numbers;
 use trio_page::{Page, PageNo};
 
 /// Whether this is the bundle as it would be handed in now, byte for byte and with the marks of its
@@ -15,34 +17,81 @@ use trio_page::{Page, PageNo};
 pub(crate) fn is_same(handed: &Handed, bundle: &Bundle) -> bool
     ensures { IsTrue result ↔ (handed.now ≡ handed_in bundle.now) }
 {
-    are_files(handed.writes.as_slice(), bundle.writes())
-        && has_numbers(handed.holds.as_slice(), bundle.holds())
-        && are_fresh(handed.pages.as_slice(), bundle.pages())
-        && has_numbers(handed.numbers.as_slice(), bundle.inodes())
+    are_files(handed, bundle)
+        && has_numbers(handed.holds(), bundle.holds())
+        && has_numbers(handed.numbers(), bundle.inodes())
 }
 
-fn are_files(files: &[HandedFile], leases: &[WriteLease]) -> bool
-    ensures { IsTrue result ↔ (files.now ≡ map (λ f. file_in f.stands) leases.now) }
+/// Whether the write leases and the allotted pages are those of this bundle.
+fn are_files(handed: &Handed, bundle: &Bundle) -> bool
+    ensures { IsTrue result ↔ ((handed.now.writes ≡ (handed_in bundle.now).writes) × (handed.now.pages ≡ (handed_in bundle.now).pages)) }
 {
-    if files.len() != leases.len() {
+    are_heads(handed.heads(), bundle.writes()) && are_pages(handed.pages(), bundle)
+}
+
+fn are_heads(heads: &[HandedHead], leases: &[WriteLease]) -> bool
+    ensures { IsTrue result ↔ (heads.now ≡ map (λ f. head_of (file_in f.stands)) leases.now) }
+{
+    if heads.len() != leases.len() {
         return false;
     }
-    for i in 0..files.len() {
-        if !is_file(&files[i], &leases[i]) {
+    for i in 0..heads.len() {
+        if !is_head(&heads[i], &leases[i]) {
             return false;
         }
     }
     true
 }
 
-fn is_file(file: &HandedFile, lease: &WriteLease) -> bool
-    ensures { IsTrue result ↔ (file.now ≡ file_in lease.now.stands) }
+fn is_head(head: &HandedHead, lease: &WriteLease) -> bool
+    ensures { IsTrue result ↔ (head.now ≡ head_of (file_in lease.now.stands)) }
 {
-    file.ino == lease.ino()
-        && file.kind == lease.kind()
-        && are_bytes(&file.body, lease.body())
-        && are_index(file.index.as_slice(), lease)
-        && are_blocks(file.blocks.as_slice(), lease)
+    head.ino == lease.ino()
+        && head.kind == lease.kind()
+        && are_bytes(&head.body, lease.body())
+        && head.index == lease.index_len()
+        && head.blocks == lease.blocks_len()
+}
+
+/// Whether these are the pages of the write leases, one lease after another, and then the allotted
+/// ones.
+fn are_pages(pages: &[HandedPage], bundle: &Bundle) -> bool
+    ensures { IsTrue result ↔ (pages.now ≡ all_pages (handed_in bundle.now)) }
+{
+    let mut rest = pages;
+    for lease in bundle.writes() {
+        match behind_file(rest, lease) {
+            Some(behind) => rest = behind,
+            None => return false,
+        }
+    }
+    are_fresh(rest, bundle.pages())
+}
+
+/// What stands behind the pages of a file. `None` exactly where these pages don't begin with them.
+fn behind_file<'a>(pages: &'a [HandedPage], lease: &WriteLease) -> Option<&'a [HandedPage]>
+    ensures behind { IfSome result (λ rest. pages.now ≡ file_pages lease.now ++ rest.now) }
+    ensures none { IfNone result ((rest : List HandedPageSeen) → pages.now ≡ file_pages lease.now ++ rest → ⊥) }
+{
+    let (index, behind) = split(pages, lease.index_len())?;
+    let (blocks, rest) = split(behind, lease.blocks_len())?;
+    if are_index(index, lease) && are_blocks(blocks, lease) {
+        Some(rest)
+    } else {
+        None
+    }
+}
+
+/// The first so many pages, and the others. `None` exactly where there are less.
+fn split(pages: &[HandedPage], count: usize) -> Option<(&[HandedPage], &[HandedPage])>
+    ensures parts { IfSome result (λ parts. (parts.0.now ≡ take count pages.now) × (parts.1.now ≡ drop count pages.now)) }
+    ensures some { IsSome result ↔ (count ≤ length pages.now) }
+{
+    if count <= pages.len() {
+        Some(pages.split_at(count))
+    } else {
+        None
+    }
 }
 
 fn are_index(pages: &[HandedPage], lease: &WriteLease) -> bool

@@ -1,6 +1,6 @@
 //! Settles, each with its entries in the log.
 
-ghost use Rattle.std.specs.Prelude.{◌≡◌, ◌≤◌, ◌+◌, IfErr, length};
+ghost use Rattle.std.specs.Prelude.{◌≡◌, ◌≤◌, ◌+◌, IfErr, IsOk, length};
 ghost use Rattle.trio_rights.specs.Bundle.{bundle_pages};
 ghost use Rattle.trio_lease.specs.Views.{bundle_in};
 ghost use Rattle.trio_desk.specs.Call.{Settle, settle_told};
@@ -9,11 +9,12 @@ ghost use Rattle.trio_desk.specs.Ready.{Ready};
 ghost use Rattle.trio_state.specs.Kept.{Kept};
 ghost use Rattle.trio_ctl.specs.Ctl.{IsIdle, IsLibrary};
 ghost use Rattle.trio_ctl.specs.Desk.{Happens, LogsCall, desk_of};
+ghost use Rattle.trio_ctl.specs.Room.{HasRoomFor, Spends};
 
 use crate::backs::give_back_all;
 use crate::ctl::{Ctl, make_places};
 use crate::releases::{note, told};
-use trio_entries::{Draft, Told};
+use trio_entries::Told;
 use trio_lease::{Bundle, ReadLease};
 use trio_nodes::{Done, Entry, List};
 use trio_page::{NoMemory, Reads};
@@ -29,7 +30,8 @@ impl Ctl {
     /// and the bundle as it was handed in; the nodes after it are those in which the calls end.
     ///
     /// After `NoMemory` nothing changed, and all of it comes back; a log that has as many entries as a
-    /// `u64` counts has no memory for one more.
+    /// `u64` counts has no memory for one more. With one spare entry and the bundle's
+    /// [`room`](Self::room) in spare bytes it doesn't come ([`make_room`](Self::make_room)).
     ///
     /// Home is looked at as by a [`release`](Self::release) of the bundle.
     pub fn settle(
@@ -47,26 +49,27 @@ impl Ctl {
         ensures bundle { IfErr result (λ came. came.0 ≡ bundle) }
         ensures leases { IfErr result (λ came. came.1 ≡ back) }
         ensures calls { IfErr result (λ came. came.2 ≡ calls) }
+        ensures sure { HasRoomFor self.old (bundle_in bundle) → IsOk result }
+        ensures spends { Spends 1 0 self.old.spare self.new.spare }
         ensures floor { self.old.looked ≤ self.new.looked }
         ensures looked { self.new.looked ≤ self.old.looked + length (bundle_pages (bundle_in bundle)) + length (bundle_in bundle).writes }
         ensures was_kept { Kept self.old.state }
         ensures kept { Kept self.new.state }
     {
+        self.log.is_small();
         let Ok(()) = make_places(&mut self.log, self.registry.promised(), 1) else {
             return Err((bundle, back, calls, NoMemory));
         };
         bundle.keeps_untouched();
         let mut reads = Reads::new();
-        let (case, outcome) = match self
+        let entry = self.log.len();
+        let spares = &mut self.spares;
+        let (case, outcome, draft) = match self
             .registry
-            .judged(self.log.len(), lib, bundle, &mut reads)
+            .judged(spares, entry, lib, bundle, &mut reads)
         {
             Ok(judged) => judged,
             Err((bundle, _)) => return Err((bundle, back, calls, NoMemory)),
-        };
-        let alloc = self.registry.alloc();
-        let Ok(draft) = Draft::with(alloc, &case) else {
-            return Err((case.into_bundle(), back, calls, NoMemory));
         };
         let rows = self.registry.rows();
         let told = told(draft, rows, &self.notes, &case, &outcome);

@@ -5,7 +5,6 @@ ghost use Rattle.trio_state.specs.Kept.{Kept};
 ghost use Rattle.trio_state.specs.Run.{start};
 ghost use Rattle.trio_survey.specs.Stored.{image_in};
 
-use crate::begun::Begun;
 use crate::registry::Registry;
 use std::alloc::Global;
 use trio_allot::Allotments;

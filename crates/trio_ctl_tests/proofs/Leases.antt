@@ -23,7 +23,7 @@ use Rattle.trio_case.specs.Cases.{CaseShown}
 use Rattle.trio_ctl.proofs.Given.{granted_is_lent}
 use Rattle.trio_ctl.specs.Answers.{grant_answer}
 use Rattle.trio_open.specs.Open.{lent_by}
-use Rattle.trio_nodes.specs.declared.entry.HandedFile.{HandedFile}
+use Rattle.trio_nodes.specs.Handed.{HandedFile}
 use Rattle.trio_nodes.specs.declared.entry.HandedPage.{HandedPage}
 use Rattle.trio_entries.specs.Handed.{block_in, file_in, handed_in}
 use Rattle.trio_ctl.specs.HandedIn.{AreMarked, WasLentAs, WereLent}

@@ -1,10 +1,12 @@
 //! The controller's calls, each run with ample memory.
 
-ghost use Rattle.std.specs.Prelude.{◌≡◌, length};
+ghost use Rattle.std.specs.Prelude.{◌≡◌, [], length};
+ghost use Rattle.trio_ctl.specs.HandedIn.{WereLent};
 
 use crate::controllers::{Trial, allotted, asked, lent, passes, stores};
 use crate::images::Start;
-use crate::moves::taken_file;
+use crate::looks::released;
+use crate::moves::{taken, taken_file};
 use std::alloc::Global;
 use trio_ctl::{Ctl, ImageFault};
 use trio_image::Counts;
@@ -319,14 +321,13 @@ fn an_image_waits_for_the_writer(rt: HostRuntime) {
     assert!(rt; passes(rt.alloc(), Start::OneFile, 0, &Deed::AsksTwice));
 }
 
-// What a release of the file `f` needs, for which room is made.
+// What a release of the file `f` needs.
 fn room_of_file(alloc: Global, ctl: &mut Ctl) -> Option<u64>
     requires { length ctl.old.state.creds ≡ 2 }
 {
     let bundle = taken_file(alloc, ctl)?;
     let room = room_where_it_belongs(ctl, &bundle);
     bundle.discard();
-    ctl.make_room(1, room?).ok()?;
     room
 }
 
@@ -340,9 +341,51 @@ fn room_where_it_belongs(ctl: &Ctl, bundle: &Bundle) -> Option<u64>
     }
 }
 
+// Makes room for a release of a bundle of the first library's. Whether there is room then.
+fn has_room(ctl: &mut Ctl, bundle: &Bundle) -> bool
+    requires { length ctl.old.state.creds ≡ 2 }
+    ensures { ctl.new.state ≡ ctl.old.state }
+{
+    match room_where_it_belongs(ctl, bundle) {
+        Some(room) => ctl.make_room(1, room).is_ok(),
+        None => false,
+    }
+}
+
+fn is_accepted(ctl: &mut Ctl, bundle: Bundle) -> bool
+    requires two { length ctl.old.state.creds ≡ 2 }
+    requires holds { bundle.holds ≡ [] }
+    requires lent { WereLent ctl.old.state 1 bundle.writes }
+{
+    match released(ctl, bundle) {
+        Some(looks) => looks.is_accepted,
+        None => false,
+    }
+}
+
+// Whether the release of the file `f` is accepted once there is room for it; `None` where memory was
+// wanting before.
+fn is_accepted_with_room(alloc: Global, ctl: &mut Ctl) -> Option<bool>
+    requires { length ctl.old.state.creds ≡ 2 }
+{
+    let bundle = taken(alloc, ctl, 3)?;
+    if !has_room(ctl, &bundle) {
+        bundle.discard();
+        return None;
+    }
+    Some(is_accepted(ctl, bundle))
+}
+
 #[test]
 fn room_is_told_and_made(rt: HostRuntime) {
-    assert!(rt; passes(rt.alloc(), Start::OneFile, 0, &Deed::MakesRoom));
+    assert!(rt; passes(rt.alloc(), Start::OneFile, 0, &Deed::TellsRoom));
+    assert!(rt; passes(rt.alloc(), Start::OneFile, 0, &Deed::ReleasesWithRoom));
+}
+
+// Whichever allocation fails, a release that has room is answered as it is with ample memory.
+#[test]
+fn a_release_with_room_lacks_no_memory(rt: HostRuntime) {
+    assert!(rt; !passes(rt.alloc(), Start::OneFile, 0, &Deed::LacksMemoryWithRoom));
 }
 
 /// What is done with a controller that has just started.
@@ -360,7 +403,10 @@ enum Deed {
     AsksTwice,
     /// 4 bytes for each of 32 pages and 64 numbers, 16384 for each of two pages, and 1024 for the release
     /// and for its lease.
-    MakesRoom,
+    TellsRoom,
+    ReleasesWithRoom,
+    /// A release isn't accepted though there is room.
+    LacksMemoryWithRoom,
 }
 
 impl Trial for Deed {
@@ -374,7 +420,9 @@ impl Trial for Deed {
                 allots_the_lowest(ctl) && stores(alloc, ctl, Start::OneDirectory, WITH_DIRECTORY)
             }
             Deed::AsksTwice => asks_twice(ctl) && waits_for(ctl, 1),
-            Deed::MakesRoom => room_of_file(alloc, ctl) == Some(35_200),
+            Deed::TellsRoom => room_of_file(alloc, ctl) == Some(35_200),
+            Deed::ReleasesWithRoom => is_accepted_with_room(alloc, ctl) == Some(true),
+            Deed::LacksMemoryWithRoom => is_accepted_with_room(alloc, ctl) == Some(false),
         }
     }
 }

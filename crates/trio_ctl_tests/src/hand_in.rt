@@ -61,18 +61,19 @@ fn let_go(mut back: Vec<ReadLease>) {
     back.destroy_empty();
 }
 
-// Takes a file for reading, and hands the lease in with a settle that has nothing else.
-fn settle_reader<D: Desk>(alloc: Global, desk: &mut D, ino: u32) -> Option<()>
+// Takes a file for reading, and hands the lease in with a settle that has nothing else. Whether it settles;
+// `None` where it has no lease to hand in.
+fn settle_reader<D: Desk>(alloc: Global, desk: &mut D, ino: u32) -> Option<bool>
     requires { OutAlike (D.seen desk.old).out nothing_out }
 {
     let lease = read_lease(desk, ino)?;
     let back = listed(alloc, lease)?;
     match desk.settle(Bundle::new(alloc), back, Vec::new(alloc)) {
-        Ok(()) => Some(()),
+        Ok(()) => Some(true),
         Err((bundle, back, _calls, _fault)) => {
             bundle.discard();
             let_go(back);
-            None
+            Some(false)
         }
     }
 }
@@ -91,7 +92,9 @@ fn reads_and_writes(alloc: Global, ctl: &mut Ctl) -> Option<()>
     requires nothing { OutAlike (out_of ctl.old.state (record { 0 = 1 })) nothing_out }
 {
     let mut desk = PlainDesk::of(ctl, LibNo(1));
-    settle_reader(alloc, &mut desk, 3)?;
+    if !settle_reader(alloc, &mut desk, 3)? {
+        return None;
+    }
     take_for_writing(&mut desk, 3);
     Some(())
 }
@@ -105,6 +108,41 @@ const SETTLED: &str = "1 grant read 3 granted 0\n\
 #[test]
 fn a_settle_gives_read_leases_back(rt: HostRuntime) {
     assert!(rt; passes(rt.alloc(), Start::OneFile, 0, &Deed::Settles));
+}
+
+// What a settle needs that has nothing in its bundle: 4 bytes for each of 32 pages and 64 numbers, and
+// 1024 for itself.
+const ROOM: u64 = 1408;
+
+// Makes room for that, and for the two entries of a grant for reading. Whether there is room then.
+fn has_room(ctl: &mut Ctl) -> bool
+    requires two { length ctl.old.state.creds ≡ 2 }
+    requires idle { NoneBegun ctl.old }
+    requires nothing { OutAlike (out_of ctl.old.state (record { 0 = 1 })) nothing_out }
+    ensures two { length ctl.new.state.creds ≡ 2 }
+    ensures idle { NoneBegun ctl.new }
+    ensures nothing { OutAlike (out_of ctl.new.state (record { 0 = 1 })) nothing_out }
+{
+    ctl.make_room(3, ROOM).is_ok()
+}
+
+// Whether a reader of the file `f` settles once there is room; `None` where memory was wanting before.
+fn settles_with_room(alloc: Global, ctl: &mut Ctl) -> Option<bool>
+    requires two { length ctl.old.state.creds ≡ 2 }
+    requires idle { NoneBegun ctl.old }
+    requires nothing { OutAlike (out_of ctl.old.state (record { 0 = 1 })) nothing_out }
+{
+    if !has_room(ctl) {
+        return None;
+    }
+    let mut desk = PlainDesk::of(ctl, LibNo(1));
+    settle_reader(alloc, &mut desk, 3)
+}
+
+// Whichever allocation fails, a settle that has room is answered as it is with ample memory.
+#[test]
+fn a_settle_with_room_lacks_no_memory(rt: HostRuntime) {
+    assert!(rt; !passes(rt.alloc(), Start::OneFile, 0, &Deed::LacksMemoryWithRoom));
 }
 
 // Hands the lease in with a change of the mode of the file 3; where it comes back, it is given back.
@@ -182,6 +220,8 @@ fn is_changed(alloc: Global, ctl: &mut Ctl, row: &Row) -> bool
 #[derive(Clone, Copy)]
 enum Deed {
     Settles,
+    /// A settle comes back though there is room.
+    LacksMemoryWithRoom,
     ChangesMode(&'static Row),
 }
 
@@ -191,6 +231,7 @@ impl Trial for Deed {
             Deed::Settles => {
                 reads_and_writes(alloc, ctl).is_some() && has_lines(alloc, ctl, SETTLED)
             }
+            Deed::LacksMemoryWithRoom => settles_with_room(alloc, ctl) == Some(false),
             Deed::ChangesMode(row) => {
                 is_changed(alloc, ctl, row) && has_lines(alloc, ctl, row.lines)
             }

@@ -4,7 +4,7 @@ use std::alloc::Global;
 use std::fmt::Write;
 use trio_ctl::Ctl;
 use trio_nodes::{
-    AllotAnswer, AllotFault, Entry, GrantAnswer, GrantFault, GrantKind, Handed, HandedFile,
+    AllotAnswer, AllotFault, Entry, GrantAnswer, GrantFault, GrantKind, Handed, HandedHead,
     HandedPage, ModeFault, RawBlock, RawBundle, RawFile, ReleaseAnswer,
 };
 use trio_page::NoMemory;
@@ -197,25 +197,35 @@ fn without_zeros(bytes: &[u8]) -> &[u8] {
 /// ` writes 3 7 8* holds - pages 9 numbers -`.
 fn put_handed(out: &mut String, handed: &Handed) -> Result<(), NoMemory> {
     out.push_str(" writes")?;
-    if handed.writes.as_slice().is_empty() {
+    if handed.heads().is_empty() {
         out.push_str(" -")?;
     }
-    for file in handed.writes.as_slice() {
-        put_file_pages(out, file)?;
+    let mut next = 0;
+    for head in handed.heads() {
+        next = put_file_pages(out, head, handed.pages(), next)?;
     }
     out.push_str(" holds")?;
-    put_numbers(out, handed.holds.as_slice())?;
+    put_numbers(out, handed.holds())?;
     out.push_str(" pages")?;
-    put_pages(out, handed.pages.as_slice())?;
+    put_pages(out, handed.pages().get(next..).unwrap_or(&[]))?;
     out.push_str(" numbers")?;
-    put_numbers(out, handed.numbers.as_slice())?;
+    put_numbers(out, handed.numbers())?;
     out.push_str("\n")
 }
 
-fn put_file_pages(out: &mut String, file: &HandedFile) -> Result<(), NoMemory> {
-    write!(out, " {}:", file.ino)?;
-    put_pages(out, file.index.as_slice())?;
-    put_pages(out, file.blocks.as_slice())
+/// Appends a file, whose pages begin at a place among all; gives the place behind them.
+fn put_file_pages(
+    out: &mut String,
+    head: &HandedHead,
+    pages: &[HandedPage],
+    start: usize,
+) -> Result<usize, NoMemory> {
+    write!(out, " {}:", head.ino)?;
+    let blocks = start.saturating_add(head.index);
+    let end = blocks.saturating_add(head.blocks);
+    put_pages(out, pages.get(start..blocks).unwrap_or(&[]))?;
+    put_pages(out, pages.get(blocks..end).unwrap_or(&[]))?;
+    Ok(end)
 }
 
 /// Appends the numbers of pages behind a space, with a star at each that is marked.

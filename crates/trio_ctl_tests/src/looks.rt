@@ -38,7 +38,9 @@ fn left_by(alloc: Global, image: Image, libs: &[ScriptLib]) -> Option<Image>
     requires within { AreWithin libs.now }
 {
     let creds = creds_of(alloc, libs).ok()?;
-    let mut ctl = Ctl::start(alloc, image, creds).ok()?;
+    let Ok(mut ctl) = Ctl::start(alloc, image, creds) else {
+        return None;
+    };
     is_played(alloc, &mut ctl, libs)?;
     ctl.into_image().ok()
 }
@@ -57,12 +59,12 @@ fn is_played(alloc: Global, ctl: &mut Ctl, libs: &[ScriptLib]) -> Option<()>
 
 /// What a release came to.
 #[derive(Clone, Copy)]
-struct Looks {
-    is_accepted: bool,
+pub struct Looks {
+    pub is_accepted: bool,
     /// How often a page at home was looked at, as home counts.
-    looked: u64,
+    pub looked: u64,
     /// And how often it was, or one of the bundle, as the release counts.
-    reads: u64,
+    pub reads: u64,
 }
 
 /// The release of a file that the first library takes for writing and leaves untouched.
@@ -73,7 +75,8 @@ fn looks_for(alloc: Global, ctl: &mut Ctl, ino: u32) -> Option<Looks>
     released(ctl, bundle)
 }
 
-fn released(ctl: &mut Ctl, bundle: Bundle) -> Option<Looks>
+/// The release of a bundle of write leases, where it is the first library's; `None` where it comes back.
+pub fn released(ctl: &mut Ctl, bundle: Bundle) -> Option<Looks>
     requires two { length ctl.old.state.creds ≡ 2 }
     requires holds { bundle.holds ≡ [] }
     requires lent { WereLent ctl.old.state 1 bundle.writes }

@@ -8,7 +8,7 @@ use Rattle.trio_lists.specs.Lists.{In}
 use Rattle.trio_lists.proofs.Filters.{In-filter}
 use Rattle.trio_lists.proofs.Members.{In-map, map-In}
 use Rattle.trio_nodes.specs.GrantKinds.{is_hold, is_write}
-use Rattle.trio_nodes.specs.declared.entry.Handed.{Handed}
+use Rattle.trio_nodes.specs.Handed.{Handed}
 use Rattle.trio_nodes.specs.declared.grant.GrantKind.{GrantKind}
 use Rattle.trio_lease.specs.Bundles.{Bundled}
 use Rattle.trio_lease.specs.Shown.{Shown}

@@ -1,4 +1,5 @@
 use Rattle.std.proofs.Common.{arith, ◌++◌, [], ◌∷◌, List, ap, append-nil, inr, refl, subst, sym, ◌∙◌}
+use Rattle.std.specs.Prelude.{vec_len}
 use Rattle.trio_log.specs.Logged.{Logged}
 use Rattle.trio_nodes.specs.declared.entry.Entry.{Entry}
 use Rattle.trio_nodes.specs.declared.entry.Entry.TheVariants as entry
@@ -9,11 +10,12 @@ use Rattle.trio_laws.specs.history.Replays.{IsLibrary}
 use Rattle.trio_ctl.specs.Answers.{allot_answer}
 use Rattle.trio_ctl.specs.Ctl.{Controller}
 use Rattle.trio_ctl.proofs.Recording.{after_call, allot_entries, next_entry, one_room, same_room}
+use Rattle.trio_ctl.proofs.Spending.{spends_entry, spends_places}
 use Rattle.trio_ctl.proofs.Views.{seen_idle, seen_state}
 use Rattle.trio_ctl.proofs.ctl.Ctl.allot.Goals as goal
 
 pub allot-result-requires-clause-entry : goal.allot-result-requires-clause-entry
-allot-result-requires-clause-entry c = next_entry _ _ _ _ _ _ _ _ c.self.invariant c.len.ensures c.make_places.ensures.kept
+allot-result-requires-clause-entry c = next_entry _ _ _ _ _ _ _ _ c.self.invariant.0 c.len.ensures c.make_places.ensures.kept
 
 pub invariant_of-self-in-Some : goal.invariant_of-self-in-Some
 invariant_of-self-in-Some c =
@@ -24,9 +26,11 @@ invariant_of-self-in-Some c =
     let library = subst (λ (v : State). IsLibrary v.creds lib.0) (sym (seen_state c.self.view_is)) c.requires.library in
     let told = sym c.in-Some.is ∙ c.allot_told.ensures in
     let pushed = ap (λ (l : Logged). l.entries) c.push.ensures ∙ ap (λ (l : List Entry). l ++ e ∷ []) c.make_places.ensures.kept ∙ sym (ap (λ (l : List Entry). i.log.entries ++ l) (allot_entries s lib c.args.pages c.args.inodes c.allot-result.result _ told)) in
-    let places = rw (c.promised.ensures) at c.in-Ok.ensures.room in
-    after_call _ s c.allot-result.new.self.state i.registry.begun c.allot-result.new.self.begun i.registry.promised c.allot-result.new.self.promised i.log c.push.new.self i.notes (Allot lib.0 c.args.pages c.args.inodes) _ c.self.invariant c.allot-result.ensures.was_kept (seen_idle c.args.lib.0 c.self.view_is c.requires.idle) c.allot-result.ensures.begun library tt tt c.allot-result.ensures.step tt pushed
-    (rw c.push.ensures (one_room c.make_places.new.log.entries e i.registry.promised c.allot-result.new.self.promised c.make_places.new.log.room places c.allot-result.ensures.promised))
+    let places = rw (c.promised.ensures) at c.in-Ok.ensures.room in (
+      after_call _ s c.allot-result.new.self.state i.registry.begun c.allot-result.new.self.begun i.registry.promised c.allot-result.new.self.promised i.log c.push.new.self i.notes (Allot lib.0 c.args.pages c.args.inodes) _ c.self.invariant.0 c.allot-result.ensures.was_kept (seen_idle c.args.lib.0 c.self.view_is c.requires.idle) c.allot-result.ensures.begun library tt tt c.allot-result.ensures.step tt pushed
+          (rw c.push.ensures (one_room c.make_places.new.log.entries e i.registry.promised c.allot-result.new.self.promised c.make_places.new.log.room places c.allot-result.ensures.promised)),
+      c.self.invariant.1,
+    )
 
 pub invariant_of-self-in_default-allot_told : goal.invariant_of-self-in_default-allot_told
 invariant_of-self-in_default-allot_told c =
@@ -36,9 +40,11 @@ invariant_of-self-in_default-allot_told c =
     let library = subst (λ (v : State). IsLibrary v.creds lib.0) (sym (seen_state c.self.view_is)) c.requires.library in
     let told = sym c.in_default-allot_told.is ∙ c.allot_told.ensures in
     let same = c.make_places.ensures.kept ∙ sym (append-nil i.log.entries) ∙ sym (ap (λ (l : List Entry). i.log.entries ++ l) (allot_entries s lib c.args.pages c.args.inodes c.allot-result.result _ told)) in
-    let places = rw (c.promised.ensures) at c.in-Ok.ensures.room in
-    after_call _ s c.allot-result.new.self.state i.registry.begun c.allot-result.new.self.begun i.registry.promised c.allot-result.new.self.promised i.log c.make_places.new.log i.notes (Allot lib.0 c.args.pages c.args.inodes) _ c.self.invariant c.allot-result.ensures.was_kept (seen_idle c.args.lib.0 c.self.view_is c.requires.idle) c.allot-result.ensures.begun library tt tt c.allot-result.ensures.step tt same
-    (same_room c.make_places.new.log.entries i.registry.promised c.allot-result.new.self.promised c.make_places.new.log.room places c.allot-result.ensures.promised)
+    let places = rw (c.promised.ensures) at c.in-Ok.ensures.room in (
+      after_call _ s c.allot-result.new.self.state i.registry.begun c.allot-result.new.self.begun i.registry.promised c.allot-result.new.self.promised i.log c.make_places.new.log i.notes (Allot lib.0 c.args.pages c.args.inodes) _ c.self.invariant.0 c.allot-result.ensures.was_kept (seen_idle c.args.lib.0 c.self.view_is c.requires.idle) c.allot-result.ensures.begun library tt tt c.allot-result.ensures.step tt same
+          (same_room c.make_places.new.log.entries i.registry.promised c.allot-result.new.self.promised c.make_places.new.log.room places c.allot-result.ensures.promised),
+      c.self.invariant.1,
+    )
 
 pub returns-in_default : goal.returns-in_default
 returns-in_default c = record {
@@ -50,9 +56,10 @@ returns-in_default c = record {
   };
   pages = tt;
   inodes = tt;
+  spends = spends_places c.self.inside.log c.self.inside.registry.promised (vec_len c.self.inside.spares.kits) c.self.inside.spares.bytes (ap (λ (x : Controller). x.spare) c.self.view_is) 1 c.make_places.new.log c.self.inside.registry.promised c.make_places.ensures.kept c.make_places.ensures.grows (omega arith);
   floor = (let still = ap (λ (x : Controller). x.looked) c.self.view_is in omega (arith, still));
-  was_kept = subst Kept (seen_state c.self.view_is) c.self.invariant.all.kept;
-  kept = c.self.invariant.all.kept;
+  was_kept = subst Kept (seen_state c.self.view_is) c.self.invariant.0.all.kept;
+  kept = c.self.invariant.0.all.kept;
 }
 
 pub returns-in_default-with : goal.returns-in_default-with
@@ -65,9 +72,10 @@ returns-in_default-with c = record {
   };
   pages = tt;
   inodes = tt;
+  spends = spends_places c.self.inside.log c.self.inside.registry.promised (vec_len c.self.inside.spares.kits) c.self.inside.spares.bytes (ap (λ (x : Controller). x.spare) c.self.view_is) 1 c.make_places.new.log c.self.inside.registry.promised c.make_places.ensures.kept c.make_places.ensures.grows (omega arith);
   floor = (let still = ap (λ (x : Controller). x.looked) c.self.view_is in omega (arith, still));
-  was_kept = subst Kept (seen_state c.self.view_is) c.self.invariant.all.kept;
-  kept = c.self.invariant.all.kept;
+  was_kept = subst Kept (seen_state c.self.view_is) c.self.invariant.0.all.kept;
+  kept = c.self.invariant.0.all.kept;
 }
 
 pub returns-in-Some : goal.returns-in-Some
@@ -84,8 +92,9 @@ returns-in-Some c =
       };
       pages = c.allot-result.ensures.pages;
       inodes = c.allot-result.ensures.inodes;
+      spends = (let few = c.allot-result.ensures.promised in spends_entry c.self.inside.log c.self.inside.registry.promised (vec_len c.self.inside.spares.kits) c.self.inside.spares.bytes (ap (λ (x : Controller). x.spare) c.self.view_is) 1 c.make_places.new.log c.push.new.self c.allot-result.new.self.promised _ c.make_places.ensures.kept c.make_places.ensures.grows c.push.ensures (omega (arith, few)));
       floor = (let still = ap (λ (x : Controller). x.looked) c.self.view_is in let more = c.allot-result.ensures.floor in omega (arith, still, more));
-      was_kept = subst Kept seen c.self.invariant.all.kept;
+      was_kept = subst Kept seen c.self.invariant.0.all.kept;
       kept = c.allot-result.ensures.kept;
     }
 
@@ -103,7 +112,8 @@ returns-in_default-allot_told c =
       };
       pages = c.allot-result.ensures.pages;
       inodes = c.allot-result.ensures.inodes;
+      spends = (let few = c.allot-result.ensures.promised in spends_places c.self.inside.log c.self.inside.registry.promised (vec_len c.self.inside.spares.kits) c.self.inside.spares.bytes (ap (λ (x : Controller). x.spare) c.self.view_is) 1 c.make_places.new.log c.allot-result.new.self.promised c.make_places.ensures.kept c.make_places.ensures.grows (omega (arith, few)));
       floor = (let still = ap (λ (x : Controller). x.looked) c.self.view_is in let more = c.allot-result.ensures.floor in omega (arith, still, more));
-      was_kept = subst Kept seen c.self.invariant.all.kept;
+      was_kept = subst Kept seen c.self.invariant.0.all.kept;
       kept = c.allot-result.ensures.kept;
     }

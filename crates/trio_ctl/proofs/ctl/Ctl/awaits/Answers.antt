@@ -18,5 +18,5 @@ returns c =
       λ aw.
           let here = subst (λ (x : CaseShown). IsAwaited u x.lib.0 (case_shown x)) (sym same) (subst (λ (v : Underway). IsAwaited v judged.lib.0 (case_shown judged)) (sym seen) aw) in
           let full = subst (λ (x : CaseShown). IsFull (bundle_in x.bundle)) (sym same) c.case.ensures.weighed.full in
-          c.awaits.ensures.each (c.self.invariant.underway.given k.lib.0 (bundle_in k.bundle) here.0 full) here,
+          c.awaits.ensures.each (c.self.invariant.0.underway.given k.lib.0 (bundle_in k.bundle) here.0 full) here,
     )

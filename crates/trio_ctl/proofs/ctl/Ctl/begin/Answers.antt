@@ -1,4 +1,7 @@
-use Rattle.std.proofs.Common.{◌≡◌, ap, subst, sym, arith}
+use Rattle.std.proofs.Common.{◌≡◌, List, ap, false, length, refl, subst, sym, true, arith}
+use Rattle.std.specs.Prelude.{vec_len}
+use Rattle.trio_nodes.specs.declared.entry.Entry.{Entry}
+use Rattle.trio_ctl.specs.Ctl.{Controller}
 use Rattle.trio_lease.specs.Views.{bundle_in}
 use Rattle.trio_survey.specs.Stored.{image_in}
 use Rattle.trio_state.specs.Given.{GivenTo}
@@ -9,13 +12,15 @@ use Rattle.trio_ctl.specs.Answers.{begin_answer, release_fault_answer}
 use Rattle.trio_ctl.specs.Ctl.{underway_of}
 use Rattle.trio_ctl.specs.inner.Beginning.{underway_at}
 use Rattle.trio_ctl.proofs.Ends.{after_begin}
+use Rattle.trio_ctl.proofs.Keeping.{has_both, has_place, spare_here, spare_there}
+use Rattle.trio_ctl.proofs.Spending.{spends_places, spends_so}
 use Rattle.trio_ctl.proofs.Recording.{next_entry}
 use Rattle.trio_ctl.proofs.Views.{seen_idle, seen_state}
 use Rattle.trio_ctl.proofs.ctl.Ctl.begin.Goals as goal
 
 pub begin-requires-clause-entry : goal.begin-requires-clause-entry
 begin-requires-clause-entry c =
-    next_entry _ _ _ _ _ _ _ _ c.self.invariant c.len-entry.ensures c.make_places.ensures.kept
+    next_entry _ _ _ _ _ _ _ _ c.self.invariant.0 c.len-entry.ensures c.make_places.ensures.kept
 
 pub invariant_of-self-2 : goal.invariant_of-self-2
 invariant_of-self-2 c =
@@ -27,10 +32,10 @@ invariant_of-self-2 c =
     let given = subst (λ (v : State). GivenTo v c.args.lib.0 b) (sym (seen_state c.self.view_is)) c.requires.given in
     let idle = seen_idle c.args.lib.0 c.self.view_is c.requires.idle in
     let answer = begin_answer c.begin.result (λ back. back.1) in
-    let kept : KeptUnderway (underway_at c.begin.new.self) = acts_keep u (Begin c.args.lib.0 b) answer (underway_at c.begin.new.self) c.self.invariant.underway (library, idle, given) c.begin.ensures.begins in
+    let kept : KeptUnderway (underway_at c.begin.new.self) = acts_keep u (Begin c.args.lib.0 b) answer (underway_at c.begin.new.self) c.self.invariant.0.underway (library, idle, given) c.begin.ensures.begins in
     let places = rw (c.promised.ensures) at c.in-Ok.ensures.room in
     let now = c.in-Ok-begin.ensures.promised in
-    after_begin (image_in i.first.value.superblock i.first.value.pages) i.registry.state c.begin.new.self.state i.registry.begun c.begin.new.self.begun i.registry.promised c.begin.new.self.promised i.log c.make_places.new.log i.notes c.self.invariant c.begin.ensures.state kept c.make_places.ensures.kept (omega (arith, places, now))
+    (after_begin (image_in i.first.value.superblock i.first.value.pages) i.registry.state c.begin.new.self.state i.registry.begun c.begin.new.self.begun i.registry.promised c.begin.new.self.promised i.log c.make_places.new.log i.notes c.self.invariant.0 c.begin.ensures.state kept c.make_places.ensures.kept (omega (arith, places, now)), spare_there c.self.inside.registry.state (image_in c.self.inside.first.value.superblock c.self.inside.first.value.pages) c.begin.new.spares c.self.invariant.0.sizes c.in-Ok-begin.ensures.takes.spare)
 
 pub invariant_of-self-in-Err : goal.invariant_of-self-in-Err
 invariant_of-self-in-Err c =
@@ -42,10 +47,10 @@ invariant_of-self-in-Err c =
     let given = subst (λ (v : State). GivenTo v c.args.lib.0 b) (sym (seen_state c.self.view_is)) c.requires.given in
     let idle = seen_idle c.args.lib.0 c.self.view_is c.requires.idle in
     let answer = begin_answer c.begin.result (λ back. back.1) in
-    let kept : KeptUnderway (underway_at c.begin.new.self) = acts_keep u (Begin c.args.lib.0 b) answer (underway_at c.begin.new.self) c.self.invariant.underway (library, idle, given) c.begin.ensures.begins in
+    let kept : KeptUnderway (underway_at c.begin.new.self) = acts_keep u (Begin c.args.lib.0 b) answer (underway_at c.begin.new.self) c.self.invariant.0.underway (library, idle, given) c.begin.ensures.begins in
     let places = rw (c.promised.ensures) at c.in-Ok.ensures.room in
     let now = c.in-Err.ensures.unpromised in
-    after_begin (image_in i.first.value.superblock i.first.value.pages) i.registry.state c.begin.new.self.state i.registry.begun c.begin.new.self.begun i.registry.promised c.begin.new.self.promised i.log c.make_places.new.log i.notes c.self.invariant c.begin.ensures.state kept c.make_places.ensures.kept (omega (arith, places, now))
+    (after_begin (image_in i.first.value.superblock i.first.value.pages) i.registry.state c.begin.new.self.state i.registry.begun c.begin.new.self.begun i.registry.promised c.begin.new.self.promised i.log c.make_places.new.log i.notes c.self.invariant.0 c.begin.ensures.state kept c.make_places.ensures.kept (omega (arith, places, now)), spare_there c.self.inside.registry.state (image_in c.self.inside.first.value.superblock c.self.inside.first.value.pages) c.begin.new.spares c.self.invariant.0.sizes c.in-Err.ensures.takes.spare)
 
 pub returns-clause-acts : goal.returns-clause-acts
 returns-clause-acts c =
@@ -73,5 +78,35 @@ returns-clause-kept c =
     let given = subst (λ (v : State). GivenTo v c.args.lib.0 b) (sym (seen_state c.self.view_is)) c.requires.given in
     let idle = seen_idle c.args.lib.0 c.self.view_is c.requires.idle in
     let answer = begin_answer c.begin.result (λ back. back.1) in
-    let kept : KeptUnderway (underway_at c.begin.new.self) = acts_keep u (Begin c.args.lib.0 b) answer (underway_at c.begin.new.self) c.self.invariant.underway (library, idle, given) c.begin.ensures.begins in
+    let kept : KeptUnderway (underway_at c.begin.new.self) = acts_keep u (Begin c.args.lib.0 b) answer (underway_at c.begin.new.self) c.self.invariant.0.underway (library, idle, given) c.begin.ensures.begins in
     kept
+
+pub begin-requires-clause-spare : goal.begin-requires-clause-spare
+begin-requires-clause-spare c = spare_here c.self.inside.registry.state (image_in c.self.inside.first.value.superblock c.self.inside.first.value.pages) c.self.inside.spares c.self.invariant.0.sizes c.self.invariant.1
+
+pub returns-in_default-clause-sure : goal.returns-in_default-clause-sure
+returns-in_default-clause-sure c = λ room lacks.
+    let place = has_place (bundle_in c.args.bundle) c.self.inside.log c.self.inside.registry.promised (vec_len c.self.inside.spares.kits) c.self.inside.spares.bytes c.self.view_is refl room in
+    let promised = c.promised.ensures in
+    let lost : false ≡ true = c.in_default.ensures.succeeds (omega (arith, place, promised)) in
+    absurd cc
+
+pub returns-in_default-clause-spends : goal.returns-in_default-clause-spends
+returns-in_default-clause-spends c = spends_places c.self.inside.log c.self.inside.registry.promised (vec_len c.self.inside.spares.kits) c.self.inside.spares.bytes (ap (λ (x : Controller). x.spare) c.self.view_is) 1 c.make_places.new.log c.self.inside.registry.promised c.make_places.ensures.kept c.make_places.ensures.grows (omega arith)
+
+pub returns-in-Err-clause-sure : goal.returns-in-Err-clause-sure
+returns-in-Err-clause-sure c = λ room.
+    let both = has_both (bundle_in c.args.bundle) c.self.inside.log c.self.inside.registry.promised c.self.inside.spares c.self.view_is refl (next_entry _ _ _ _ _ _ _ _ c.self.invariant.0 refl refl) c.is_small.ensures room in
+    c.in-Err.ensures.sure both.0 both.1
+
+pub returns-in-Err-clause-spends : goal.returns-in-Err-clause-spends
+returns-in-Err-clause-spends c =
+    let long = ap (λ (es : List Entry). length es) c.make_places.ensures.kept in
+    let same = c.in-Err.ensures.unpromised in
+    spends_so c.self.inside.log c.self.inside.registry.promised (vec_len c.self.inside.spares.kits) c.self.inside.spares.bytes (ap (λ (x : Controller). x.spare) c.self.view_is) 1 c.make_places.new.log c.begin.new.self.promised (vec_len c.begin.new.spares.kits) c.begin.new.spares.bytes (omega (arith, long, same)) c.make_places.ensures.grows c.begin.ensures.takes.kits c.begin.ensures.takes.bytes
+
+pub returns-clause-spends : goal.returns-clause-spends
+returns-clause-spends c =
+    let long = ap (λ (es : List Entry). length es) c.make_places.ensures.kept in
+    let more = c.in-Ok-begin.ensures.promised in
+    spends_so c.self.inside.log c.self.inside.registry.promised (vec_len c.self.inside.spares.kits) c.self.inside.spares.bytes (ap (λ (x : Controller). x.spare) c.self.view_is) 1 c.make_places.new.log c.begin.new.self.promised (vec_len c.begin.new.spares.kits) c.begin.new.spares.bytes (omega (arith, long, more)) c.make_places.ensures.grows c.begin.ensures.takes.kits c.begin.ensures.takes.bytes

@@ -1,4 +1,5 @@
 use Rattle.std.proofs.Common.{arith, ◌≡◌, ◌++◌, [], ◌∷◌, List, ap, append-nil, inr, refl, subst, sym, ◌∙◌}
+use Rattle.std.specs.Prelude.{vec_len}
 use Rattle.std.specs.Prelude.{IfOk}
 use Rattle.std.specs.Option.{IsSomeAnd}
 use Rattle.trio_layout.specs.Image.{row_at}
@@ -14,11 +15,12 @@ use Rattle.trio_ctl.specs.Answers.{grant_answer}
 use Rattle.trio_ctl.specs.Ctl.{Controller}
 use Rattle.trio_open.specs.Open.{lent_by}
 use Rattle.trio_ctl.proofs.Recording.{after_call, grant_entries, next_entry, no_more_room, one_more_room}
+use Rattle.trio_ctl.proofs.Spending.{spends_entry, spends_places}
 use Rattle.trio_ctl.proofs.Views.{seen_idle, seen_state}
 use Rattle.trio_ctl.proofs.ctl.Ctl.grant.Goals as goal
 
 pub grant-result-requires-clause-entry : goal.grant-result-requires-clause-entry
-grant-result-requires-clause-entry c = next_entry _ _ _ _ _ _ _ _ c.self.invariant c.len.ensures c.make_places.ensures.kept
+grant-result-requires-clause-entry c = next_entry _ _ _ _ _ _ _ _ c.self.invariant.0 c.len.ensures c.make_places.ensures.kept
 
 pub invariant_of-self-in-Some : goal.invariant_of-self-in-Some
 invariant_of-self-in-Some c =
@@ -29,9 +31,11 @@ invariant_of-self-in-Some c =
     let library = subst (λ (v : State). IsLibrary v.creds lib.0) (sym (seen_state c.self.view_is)) c.requires.library in
     let told = sym c.in-Some.is ∙ c.grant_told.ensures in
     let pushed = ap (λ (l : Logged). l.entries) c.push.ensures ∙ ap (λ (l : List Entry). l ++ e ∷ []) c.make_places.ensures.kept ∙ sym (ap (λ (l : List Entry). i.log.entries ++ l) (grant_entries s lib c.args.ino c.args.kind c.grant-result.result _ told)) in
-    let places = rw (c.promised.ensures) at c.in-Ok.ensures.room in
-    after_call _ s c.grant-result.new.self.state i.registry.begun c.grant-result.new.self.begun i.registry.promised c.grant-result.new.self.promised i.log c.push.new.self i.notes (Grant lib.0 c.args.ino c.args.kind) _ c.self.invariant c.grant-result.ensures.was_kept (seen_idle c.args.lib.0 c.self.view_is c.requires.idle) c.grant-result.ensures.begun library tt tt c.grant-result.ensures.step tt pushed
-    (rw c.push.ensures (one_more_room c.make_places.new.log.entries e i.registry.promised c.grant-result.new.self.promised c.make_places.new.log.room places c.grant-result.ensures.promised))
+    let places = rw (c.promised.ensures) at c.in-Ok.ensures.room in (
+      after_call _ s c.grant-result.new.self.state i.registry.begun c.grant-result.new.self.begun i.registry.promised c.grant-result.new.self.promised i.log c.push.new.self i.notes (Grant lib.0 c.args.ino c.args.kind) _ c.self.invariant.0 c.grant-result.ensures.was_kept (seen_idle c.args.lib.0 c.self.view_is c.requires.idle) c.grant-result.ensures.begun library tt tt c.grant-result.ensures.step tt pushed
+          (rw c.push.ensures (one_more_room c.make_places.new.log.entries e i.registry.promised c.grant-result.new.self.promised c.make_places.new.log.room places c.grant-result.ensures.promised)),
+      c.self.invariant.1,
+    )
 
 pub invariant_of-self-in_default-grant_told : goal.invariant_of-self-in_default-grant_told
 invariant_of-self-in_default-grant_told c =
@@ -41,9 +45,11 @@ invariant_of-self-in_default-grant_told c =
     let library = subst (λ (v : State). IsLibrary v.creds lib.0) (sym (seen_state c.self.view_is)) c.requires.library in
     let told = sym c.in_default-grant_told.is ∙ c.grant_told.ensures in
     let same = c.make_places.ensures.kept ∙ sym (append-nil i.log.entries) ∙ sym (ap (λ (l : List Entry). i.log.entries ++ l) (grant_entries s lib c.args.ino c.args.kind c.grant-result.result _ told)) in
-    let places = rw (c.promised.ensures) at c.in-Ok.ensures.room in
-    after_call _ s c.grant-result.new.self.state i.registry.begun c.grant-result.new.self.begun i.registry.promised c.grant-result.new.self.promised i.log c.make_places.new.log i.notes (Grant lib.0 c.args.ino c.args.kind) _ c.self.invariant c.grant-result.ensures.was_kept (seen_idle c.args.lib.0 c.self.view_is c.requires.idle) c.grant-result.ensures.begun library tt tt c.grant-result.ensures.step tt same
-    (no_more_room c.make_places.new.log.entries i.registry.promised c.grant-result.new.self.promised c.make_places.new.log.room places c.grant-result.ensures.promised)
+    let places = rw (c.promised.ensures) at c.in-Ok.ensures.room in (
+      after_call _ s c.grant-result.new.self.state i.registry.begun c.grant-result.new.self.begun i.registry.promised c.grant-result.new.self.promised i.log c.make_places.new.log i.notes (Grant lib.0 c.args.ino c.args.kind) _ c.self.invariant.0 c.grant-result.ensures.was_kept (seen_idle c.args.lib.0 c.self.view_is c.requires.idle) c.grant-result.ensures.begun library tt tt c.grant-result.ensures.step tt same
+          (no_more_room c.make_places.new.log.entries i.registry.promised c.grant-result.new.self.promised c.make_places.new.log.room places c.grant-result.ensures.promised),
+      c.self.invariant.1,
+    )
 
 pub returns-in_default : goal.returns-in_default
 returns-in_default c = record {
@@ -54,9 +60,10 @@ returns-in_default c = record {
     begun = ap (λ (x : Controller). x.begun) c.self.view_is;
   };
   lease = tt;
+  spends = spends_places c.self.inside.log c.self.inside.registry.promised (vec_len c.self.inside.spares.kits) c.self.inside.spares.bytes (ap (λ (x : Controller). x.spare) c.self.view_is) 2 c.make_places.new.log c.self.inside.registry.promised c.make_places.ensures.kept c.make_places.ensures.grows (omega arith);
   floor = (let still = ap (λ (x : Controller). x.looked) c.self.view_is in omega (arith, still));
-  was_kept = subst Kept (seen_state c.self.view_is) c.self.invariant.all.kept;
-  kept = c.self.invariant.all.kept;
+  was_kept = subst Kept (seen_state c.self.view_is) c.self.invariant.0.all.kept;
+  kept = c.self.invariant.0.all.kept;
 }
 
 pub returns-in-Some : goal.returns-in-Some
@@ -72,8 +79,9 @@ returns-in-Some c =
         begun = c.grant-result.ensures.begun ∙ ap (λ (x : Controller). x.begun) c.self.view_is;
       };
       lease = subst (λ (v : State). IfOk c.grant-result.result (λ lease. IsSomeAnd (row_at v.home c.args.ino) (λ r. lease ≡ lent_by (opened v c.args.lib.0 c.args.ino c.args.kind r)))) seen c.grant-result.ensures.lease;
+      spends = (let few = c.grant-result.ensures.promised in spends_entry c.self.inside.log c.self.inside.registry.promised (vec_len c.self.inside.spares.kits) c.self.inside.spares.bytes (ap (λ (x : Controller). x.spare) c.self.view_is) 2 c.make_places.new.log c.push.new.self c.grant-result.new.self.promised _ c.make_places.ensures.kept c.make_places.ensures.grows c.push.ensures (omega (arith, few)));
       floor = (let still = ap (λ (x : Controller). x.looked) c.self.view_is in let more = c.grant-result.ensures.floor in omega (arith, still, more));
-      was_kept = subst Kept seen c.self.invariant.all.kept;
+      was_kept = subst Kept seen c.self.invariant.0.all.kept;
       kept = c.grant-result.ensures.kept;
     }
 
@@ -90,7 +98,8 @@ returns-in_default-grant_told c =
         begun = c.grant-result.ensures.begun ∙ ap (λ (x : Controller). x.begun) c.self.view_is;
       };
       lease = subst (λ (v : State). IfOk c.grant-result.result (λ lease. IsSomeAnd (row_at v.home c.args.ino) (λ r. lease ≡ lent_by (opened v c.args.lib.0 c.args.ino c.args.kind r)))) seen c.grant-result.ensures.lease;
+      spends = (let few = c.grant-result.ensures.promised in spends_places c.self.inside.log c.self.inside.registry.promised (vec_len c.self.inside.spares.kits) c.self.inside.spares.bytes (ap (λ (x : Controller). x.spare) c.self.view_is) 2 c.make_places.new.log c.grant-result.new.self.promised c.make_places.ensures.kept c.make_places.ensures.grows (omega (arith, few)));
       floor = (let still = ap (λ (x : Controller). x.looked) c.self.view_is in let more = c.grant-result.ensures.floor in omega (arith, still, more));
-      was_kept = subst Kept seen c.self.invariant.all.kept;
+      was_kept = subst Kept seen c.self.invariant.0.all.kept;
       kept = c.grant-result.ensures.kept;
     }

@@ -16,6 +16,7 @@ use Rattle.trio_ctl.proofs.Awaiting.{made_is}
 use Rattle.trio_entries.specs.Handed.{handed_in}
 use Rattle.trio_ctl.proofs.RecordedReleases.{lent_is_marked}
 use Rattle.trio_ctl.proofs.Ends.{at_once, begun_so, in_a_row}
+use Rattle.trio_ctl.proofs.Spending.{spends_both}
 use Rattle.trio_ctl.proofs.ctl.Ctl.release.Goals as goal
 
 pub finish-requires-clause-awaited : goal.finish-requires-clause-awaited
@@ -93,3 +94,6 @@ returns-in-Ok-clause-floor c =
     let before = ap (λ (x : Controller). x.looked) c.in-Ok.ensures.rest in
     let more = c.finish.ensures.floor in
     omega (arith, more, before)
+
+pub returns-in-Ok-clause-spends : goal.returns-in-Ok-clause-spends
+returns-in-Ok-clause-spends c = spends_both 1 c.args.self.now.spare c.begin.new.self.spare c.finish.new.self.spare c.begin.ensures.spends c.finish.ensures.spends

@@ -1,4 +1,5 @@
 use Rattle.std.proofs.Common.{◌≡◌, ◌+◌, ◌++◌, ◌∷◌, [], ℕ, List, Ok, Err, ap, append-nil, arith, length, refl, subst, sym, ◌∙◌}
+use Rattle.std.specs.Prelude.{vec_len}
 use Rattle.trio_lease.specs.Shown.{Shown}
 use Rattle.trio_layout.specs.Image.{row_at}
 use Rattle.trio_log.specs.Logged.{Logged}
@@ -18,17 +19,18 @@ use Rattle.trio_open.specs.inner.Modes.{busy_holder}
 use Rattle.trio_ctl.proofs.LeasesBack.{all_back_is, are_back, backs_whose}
 use Rattle.trio_ctl.proofs.ModeCalls.{busy_told, fault_told, free_at, happens_moded, happens_refused, happens_wants, moded_history, moded_logs, moded_room, plain_call, plain_refusal, plain_told, refused_history}
 use Rattle.trio_ctl.proofs.Recording.{next_entry, one_room}
+use Rattle.trio_ctl.proofs.Spending.{spends_places}
 use Rattle.trio_ctl.proofs.Views.{seen_idle, seen_state}
 use Rattle.trio_ctl.proofs.ctl.Ctl.set_mode.Goals as goal
 
 pub make_mode_room-requires : goal.make_mode_room-requires
-make_mode_room-requires c = record { entry = next_entry _ _ _ _ _ _ _ _ c.self.invariant c.len.ensures c.make_places.ensures.kept }
+make_mode_room-requires c = record { entry = next_entry _ _ _ _ _ _ _ _ c.self.invariant.0 c.len.ensures c.make_places.ensures.kept }
 
 pub refuse_mode-requires-clause-entry : goal.refuse_mode-requires-clause-entry
-refuse_mode-requires-clause-entry c = next_entry _ _ _ _ _ _ _ _ c.self.invariant c.len-in-Some-fault.ensures c.make_places.ensures.kept
+refuse_mode-requires-clause-entry c = next_entry _ _ _ _ _ _ _ _ c.self.invariant.0 c.len-in-Some-fault.ensures c.make_places.ensures.kept
 
 pub give_back_all-requires-clause-entry : goal.give_back_all-requires-clause-entry
-give_back_all-requires-clause-entry c = next_entry _ _ _ _ _ _ _ _ c.self.invariant refl c.make_places.ensures.kept
+give_back_all-requires-clause-entry c = next_entry _ _ _ _ _ _ _ _ c.self.invariant.0 refl c.make_places.ensures.kept
 
 pub returns-in-Some : goal.returns-in-Some
 returns-in-Some c =
@@ -48,9 +50,10 @@ returns-in-Some c =
       logs = record { log = sym (append-nil c.args.self.now.log); first = refl; begun = refl };
       leases = refl;
       call = refl;
+      spends = record { entries = omega arith; bytes = omega arith };
       floor = omega arith;
-      was_kept = subst Kept same c.self.invariant.all.kept;
-      kept = subst Kept same c.self.invariant.all.kept;
+      was_kept = subst Kept same c.self.invariant.0.all.kept;
+      kept = subst Kept same c.self.invariant.0.all.kept;
     }
 
 pub returns-in_default-make_places : goal.returns-in_default-make_places
@@ -68,9 +71,10 @@ returns-in_default-make_places c =
       };
       leases = refl;
       call = refl;
+      spends = spends_places c.self.inside.log c.self.inside.registry.promised (vec_len c.self.inside.spares.kits) c.self.inside.spares.bytes (ap (λ (x : Controller). x.spare) c.self.view_is) 1 c.make_places.new.log c.self.inside.registry.promised c.make_places.ensures.kept c.make_places.ensures.grows (omega arith);
       floor = (let still = ap (λ (x : Controller). x.looked) c.self.view_is in omega (arith, still));
-      was_kept = subst Kept same c.self.invariant.all.kept;
-      kept = c.self.invariant.all.kept;
+      was_kept = subst Kept same c.self.invariant.0.all.kept;
+      kept = c.self.invariant.0.all.kept;
     }
 
 pub returns-in_default-make_mode_room : goal.returns-in_default-make_mode_room
@@ -88,9 +92,10 @@ returns-in_default-make_mode_room c =
       };
       leases = refl;
       call = refl;
+      spends = spends_places c.self.inside.log c.self.inside.registry.promised (vec_len c.self.inside.spares.kits) c.self.inside.spares.bytes (ap (λ (x : Controller). x.spare) c.self.view_is) 1 c.make_places.new.log c.self.inside.registry.promised c.make_places.ensures.kept c.make_places.ensures.grows (omega arith);
       floor = (let still = ap (λ (x : Controller). x.looked) c.self.view_is in omega (arith, still));
-      was_kept = subst Kept same c.self.invariant.all.kept;
-      kept = c.self.invariant.all.kept;
+      was_kept = subst Kept same c.self.invariant.0.all.kept;
+      kept = c.self.invariant.0.all.kept;
     }
 
 pub invariant_of-self-in-Some-fault : goal.invariant_of-self-in-Some-fault
@@ -107,10 +112,12 @@ invariant_of-self-in-Some-fault c =
     let none = ap busy_holder (sym c.in-Some-fault.is) ∙ sym c.busy_holder.ensures ∙ c.in_default.is in
     let library = subst (λ (v : State). IsLibrary v.creds lib.0) (sym same) c.requires.library in
     let tells = subst (λ (v : State). TellsChmod (desk_of v lib) back c.args.ino c.args.mode c.args.call) (sym same) c.requires.chmod in
-    let places = rw c.promised.ensures at c.in-Ok.ensures.room in
-    refused_history s lib c.args.ino c.args.mode back c.args.call _ i.registry.begun c.refuse_mode.new.self.begun i.registry.promised i.log i.notes c.self.invariant (seen_idle c.args.lib.0 c.self.view_is c.requires.idle) c.refuse_mode.ensures.begun c.self.invariant.all.kept library lent tells f c.refuse_mode.new.self.state c.refuse_mode.new.self.promised c.push.new.self (plain_told f none) fault c.refuse_mode.ensures.state
-    (ap (λ (l : Logged). l.entries) c.push.ensures ∙ ap (λ (l : List Entry). l ++ entry.Mode lib c.args.ino c.args.mode (Err f) c.args.call ∷ []) c.make_places.ensures.kept)
-    (rw c.push.ensures (one_room c.make_places.new.log.entries (entry.Mode lib c.args.ino c.args.mode (Err f) c.args.call) i.registry.promised c.refuse_mode.new.self.promised c.make_places.new.log.room places c.refuse_mode.ensures.promised))
+    let places = rw c.promised.ensures at c.in-Ok.ensures.room in (
+      refused_history s lib c.args.ino c.args.mode back c.args.call _ i.registry.begun c.refuse_mode.new.self.begun i.registry.promised i.log i.notes c.self.invariant.0 (seen_idle c.args.lib.0 c.self.view_is c.requires.idle) c.refuse_mode.ensures.begun c.self.invariant.0.all.kept library lent tells f c.refuse_mode.new.self.state c.refuse_mode.new.self.promised c.push.new.self (plain_told f none) fault c.refuse_mode.ensures.state
+          (ap (λ (l : Logged). l.entries) c.push.ensures ∙ ap (λ (l : List Entry). l ++ entry.Mode lib c.args.ino c.args.mode (Err f) c.args.call ∷ []) c.make_places.ensures.kept)
+          (rw c.push.ensures (one_room c.make_places.new.log.entries (entry.Mode lib c.args.ino c.args.mode (Err f) c.args.call) i.registry.promised c.refuse_mode.new.self.promised c.make_places.new.log.room places c.refuse_mode.ensures.promised)),
+      c.self.invariant.1,
+    )
 
 pub returns-in-Some-fault-clause-kept : goal.returns-in-Some-fault-clause-kept
 returns-in-Some-fault-clause-kept c =
@@ -127,7 +134,7 @@ returns-in-Some-fault-clause-kept c =
     let library = subst (λ (v : State). IsLibrary v.creds lib.0) (sym same) c.requires.library in
     let tells = subst (λ (v : State). TellsChmod (desk_of v lib) back c.args.ino c.args.mode c.args.call) (sym same) c.requires.chmod in
     let places = rw c.promised.ensures at c.in-Ok.ensures.room in
-    (refused_history s lib c.args.ino c.args.mode back c.args.call _ i.registry.begun c.refuse_mode.new.self.begun i.registry.promised i.log i.notes c.self.invariant (seen_idle c.args.lib.0 c.self.view_is c.requires.idle) c.refuse_mode.ensures.begun c.self.invariant.all.kept library lent tells f c.refuse_mode.new.self.state c.refuse_mode.new.self.promised c.push.new.self (plain_told f none) fault c.refuse_mode.ensures.state
+    (refused_history s lib c.args.ino c.args.mode back c.args.call _ i.registry.begun c.refuse_mode.new.self.begun i.registry.promised i.log i.notes c.self.invariant.0 (seen_idle c.args.lib.0 c.self.view_is c.requires.idle) c.refuse_mode.ensures.begun c.self.invariant.0.all.kept library lent tells f c.refuse_mode.new.self.state c.refuse_mode.new.self.promised c.push.new.self (plain_told f none) fault c.refuse_mode.ensures.state
     (ap (λ (l : Logged). l.entries) c.push.ensures ∙ ap (λ (l : List Entry). l ++ entry.Mode lib c.args.ino c.args.mode (Err f) c.args.call ∷ []) c.make_places.ensures.kept)
     (rw c.push.ensures (one_room c.make_places.new.log.entries (entry.Mode lib c.args.ino c.args.mode (Err f) c.args.call) i.registry.promised c.refuse_mode.new.self.promised c.make_places.new.log.room places c.refuse_mode.ensures.promised))).all.kept
 
@@ -217,11 +224,13 @@ invariant_of-self-2 c =
     let library = subst (λ (v : State). IsLibrary v.creds lib.0) (sym same) c.requires.library in
     let tells = subst (λ (v : State). TellsChmod (desk_of v lib) back c.args.ino c.args.mode c.args.call) (sym same) c.requires.chmod in
     let places = rw c.promised.ensures at c.in-Ok.ensures.room in
-    let less : c.change_mode.new.self.promised + length back ≡ i.registry.promised = ap (λ (n : ℕ). n + length back) c.change_mode.ensures.promised ∙ c.give_back_all.ensures.promised in
-    moded_history s lib c.args.ino c.args.mode back c.args.call _ i.registry.begun c.change_mode.new.self.begun i.registry.promised i.log i.notes c.self.invariant (seen_idle c.args.lib.0 c.self.view_is c.requires.idle) (c.change_mode.ensures.begun ∙ c.give_back_all.ensures.begun) c.self.invariant.all.kept library lent tells c.give_back_all.new.registry.state c.change_mode.new.self.state c.give_back_all.new.log c.push-2.new.self c.change_mode.new.self.promised
-    c.give_back_all.ensures.state (c.give_back_all.ensures.log ∙ ap (λ (l : List Entry). l ++ back_entries lib back) c.make_places.ensures.kept) less
-    (free_at s lib c.args.ino c.args.mode back c.args.call c.give_back_all.new.registry.state c.give_back_all.ensures.state free) c.change_mode.ensures.state (ap (λ (l : Logged). l.entries) c.push-2.ensures)
-    (moded_room lib back i.log c.make_places.new.log c.give_back_all.new.log c.push-2.new.self (entry.Mode lib c.args.ino c.args.mode (Ok tt) c.args.call) i.registry.promised c.change_mode.new.self.promised c.make_places.ensures.kept places c.give_back_all.ensures.log c.give_back_all.ensures.room less c.push-2.ensures)
+    let less : c.change_mode.new.self.promised + length back ≡ i.registry.promised = ap (λ (n : ℕ). n + length back) c.change_mode.ensures.promised ∙ c.give_back_all.ensures.promised in (
+      moded_history s lib c.args.ino c.args.mode back c.args.call _ i.registry.begun c.change_mode.new.self.begun i.registry.promised i.log i.notes c.self.invariant.0 (seen_idle c.args.lib.0 c.self.view_is c.requires.idle) (c.change_mode.ensures.begun ∙ c.give_back_all.ensures.begun) c.self.invariant.0.all.kept library lent tells c.give_back_all.new.registry.state c.change_mode.new.self.state c.give_back_all.new.log c.push-2.new.self c.change_mode.new.self.promised
+          c.give_back_all.ensures.state (c.give_back_all.ensures.log ∙ ap (λ (l : List Entry). l ++ back_entries lib back) c.make_places.ensures.kept) less
+          (free_at s lib c.args.ino c.args.mode back c.args.call c.give_back_all.new.registry.state c.give_back_all.ensures.state free) c.change_mode.ensures.state (ap (λ (l : Logged). l.entries) c.push-2.ensures)
+          (moded_room lib back i.log c.make_places.new.log c.give_back_all.new.log c.push-2.new.self (entry.Mode lib c.args.ino c.args.mode (Ok tt) c.args.call) i.registry.promised c.change_mode.new.self.promised c.make_places.ensures.kept places c.give_back_all.ensures.log c.give_back_all.ensures.room less c.push-2.ensures),
+      c.self.invariant.1,
+    )
 
 pub returns-clause-kept : goal.returns-clause-kept
 returns-clause-kept c =
@@ -237,7 +246,7 @@ returns-clause-kept c =
     let tells = subst (λ (v : State). TellsChmod (desk_of v lib) back c.args.ino c.args.mode c.args.call) (sym same) c.requires.chmod in
     let places = rw c.promised.ensures at c.in-Ok.ensures.room in
     let less : c.change_mode.new.self.promised + length back ≡ i.registry.promised = ap (λ (n : ℕ). n + length back) c.change_mode.ensures.promised ∙ c.give_back_all.ensures.promised in
-    (moded_history s lib c.args.ino c.args.mode back c.args.call _ i.registry.begun c.change_mode.new.self.begun i.registry.promised i.log i.notes c.self.invariant (seen_idle c.args.lib.0 c.self.view_is c.requires.idle) (c.change_mode.ensures.begun ∙ c.give_back_all.ensures.begun) c.self.invariant.all.kept library lent tells c.give_back_all.new.registry.state c.change_mode.new.self.state c.give_back_all.new.log c.push-2.new.self c.change_mode.new.self.promised
+    (moded_history s lib c.args.ino c.args.mode back c.args.call _ i.registry.begun c.change_mode.new.self.begun i.registry.promised i.log i.notes c.self.invariant.0 (seen_idle c.args.lib.0 c.self.view_is c.requires.idle) (c.change_mode.ensures.begun ∙ c.give_back_all.ensures.begun) c.self.invariant.0.all.kept library lent tells c.give_back_all.new.registry.state c.change_mode.new.self.state c.give_back_all.new.log c.push-2.new.self c.change_mode.new.self.promised
     c.give_back_all.ensures.state (c.give_back_all.ensures.log ∙ ap (λ (l : List Entry). l ++ back_entries lib back) c.make_places.ensures.kept) less
     (free_at s lib c.args.ino c.args.mode back c.args.call c.give_back_all.new.registry.state c.give_back_all.ensures.state free) c.change_mode.ensures.state (ap (λ (l : Logged). l.entries) c.push-2.ensures)
     (moded_room lib back i.log c.make_places.new.log c.give_back_all.new.log c.push-2.new.self (entry.Mode lib c.args.ino c.args.mode (Ok tt) c.args.call) i.registry.promised c.change_mode.new.self.promised c.make_places.ensures.kept places c.give_back_all.ensures.log c.give_back_all.ensures.room less c.push-2.ensures)).all.kept

@@ -1,4 +1,9 @@
-use Rattle.std.proofs.Common.{◌≡◌, ◌+◌, ◌≤◌, ◌++◌, [], ◌∷◌, List, ℕ, length, ap, append-nil, append_assoc, refl, subst, sym, ◌∙◌, arith}
+use Rattle.std.proofs.lemmas.List.{length-map}
+use Rattle.std.specs.Prelude.{vec_len}
+use Rattle.trio_lease.specs.Shown.{Shown}
+use Rattle.trio_state.specs.Moves.{outline_of}
+use Rattle.trio_ctl.specs.inner.Beginning.{underway_at}
+use Rattle.std.proofs.Common.{length-append, ◌≡◌, ◌+◌, ◌≤◌, ◌++◌, [], ◌∷◌, List, ℕ, length, ap, append-nil, append_assoc, refl, subst, sym, ◌∙◌, arith}
 use Rattle.trio_lease.specs.Bundles.{Bundled}
 use Rattle.trio_lease.specs.Views.{bundle_in}
 use Rattle.trio_log.specs.Logged.{Logged}
@@ -26,17 +31,20 @@ use Rattle.trio_ctl.specs.inner.Outcomes.{IsOutcome}
 use Rattle.trio_ctl.specs.inner.Telling.{TellsOutcome, noted_by}
 use Rattle.trio_ctl.proofs.DeskGiven.{given_to, were_held, were_lent}
 use Rattle.trio_ctl.proofs.LeasesBack.{backs_whose}
+use Rattle.trio_ctl.proofs.Ends.{after_begin}
+use Rattle.trio_ctl.proofs.Keeping.{closed_lacks, has_both, has_place, spare_here, spare_there}
+use Rattle.trio_ctl.proofs.Spending.{spends_places, spends_so}
 use Rattle.trio_ctl.proofs.Recording.{next_entry, one_room}
 use Rattle.trio_ctl.proofs.RecordedReleases.{are_noted, whole_is}
-use Rattle.trio_ctl.proofs.Settling.{after_settle, back_in_turn, case_then, judgeable_then, lent_reads, not_settled_seen, places_then, room_then, settled_then}
+use Rattle.trio_ctl.proofs.Settling.{after_settle, back_in_turn, case_then, judgeable_then, lent_reads, moment, not_settled_seen, places_then, room_then, settled_then}
 use Rattle.trio_ctl.proofs.Views.{seen_idle, seen_state}
 use Rattle.trio_ctl.proofs.ctl.Ctl.settle.Goals as goal
 
 pub judged-requires-clause-entry : goal.judged-requires-clause-entry
-judged-requires-clause-entry c = next_entry _ _ _ _ _ _ _ _ c.self.invariant c.len.ensures c.make_places.ensures.kept
+judged-requires-clause-entry c = next_entry _ _ _ _ _ _ _ _ c.self.invariant.0 c.len-entry.ensures c.make_places.ensures.kept
 
 pub give_back_all-requires-clause-entry : goal.give_back_all-requires-clause-entry
-give_back_all-requires-clause-entry c = next_entry _ _ _ _ _ _ _ _ c.self.invariant refl c.make_places.ensures.kept
+give_back_all-requires-clause-entry c = next_entry _ _ _ _ _ _ _ _ c.self.invariant.0 refl c.make_places.ensures.kept
 
 pub judged-requires-clause-given : goal.judged-requires-clause-given
 judged-requires-clause-given c =
@@ -51,7 +59,7 @@ judged-requires-clause-held c =
 pub returns-in_default : goal.returns-in_default
 returns-in_default c =
     record {
-      happens = not_settled_seen c.args.lib c.args.bundle c.args.back.items c.args.calls.items c.self.invariant.all.kept c.self.invariant.lent (seen_state c.self.view_is) c.requires.ready;
+      happens = not_settled_seen c.args.lib c.args.bundle c.args.back.items c.args.calls.items c.self.invariant.0.all.kept c.self.invariant.0.lent (seen_state c.self.view_is) c.requires.ready;
       logs = record {
         log = c.make_places.ensures.kept ∙ ap (λ (x : Controller). x.log) c.self.view_is ∙ sym (append-nil c.args.self.now.log);
         first = ap (λ (x : Controller). x.first) c.self.view_is;
@@ -60,16 +68,21 @@ returns-in_default c =
       bundle = refl;
       leases = refl;
       calls = refl;
+      sure = λ room.
+          let place = has_place (bundle_in c.args.bundle) c.self.inside.log c.self.inside.registry.promised (vec_len c.self.inside.spares.kits) c.self.inside.spares.bytes c.self.view_is refl room in
+          let promised = c.promised.ensures in
+          c.in_default.ensures.succeeds (omega (arith, place, promised));
+      spends = spends_places c.self.inside.log c.self.inside.registry.promised (vec_len c.self.inside.spares.kits) c.self.inside.spares.bytes (ap (λ (x : Controller). x.spare) c.self.view_is) 1 c.make_places.new.log c.self.inside.registry.promised c.make_places.ensures.kept c.make_places.ensures.grows (omega arith);
       looked = (let same = ap (λ (x : Controller). x.looked) c.self.view_is in omega (arith, same));
       floor = (let still = ap (λ (x : Controller). x.looked) c.self.view_is in omega (arith, still));
-      was_kept = subst Kept (seen_state c.self.view_is) c.self.invariant.all.kept;
-      kept = c.self.invariant.all.kept;
+      was_kept = subst Kept (seen_state c.self.view_is) c.self.invariant.0.all.kept;
+      kept = c.self.invariant.0.all.kept;
     }
 
 pub returns-in-Err : goal.returns-in-Err
 returns-in-Err c =
     record {
-      happens = not_settled_seen c.args.lib c.args.bundle c.args.back.items c.args.calls.items c.self.invariant.all.kept c.self.invariant.lent (seen_state c.self.view_is) c.requires.ready;
+      happens = not_settled_seen c.args.lib c.args.bundle c.args.back.items c.args.calls.items c.self.invariant.0.all.kept c.self.invariant.0.lent (seen_state c.self.view_is) c.requires.ready;
       logs = record {
         log = c.make_places.ensures.kept ∙ ap (λ (x : Controller). x.log) c.self.view_is ∙ sym (append-nil c.args.self.now.log);
         first = ap (λ (x : Controller). x.first) c.self.view_is;
@@ -78,32 +91,24 @@ returns-in-Err c =
       bundle = c.in-Err.ensures.back;
       leases = refl;
       calls = refl;
+      sure = λ room.
+          let s = c.self.inside.registry.state in
+          let b = bundle_in c.args.bundle in
+          let ready = subst (λ (v : State). Ready (desk_of v c.args.lib) (parcel_of c.args.bundle) c.args.back.items c.args.calls.items) (sym (seen_state c.self.view_is)) c.requires.ready in
+          let closed = (moment s c.args.lib (parcel_of c.args.bundle) c.args.back.items ready.all c.self.invariant.0.all.kept c.self.invariant.0.lent).judgeable.closed in
+          let both = has_both (bundle_in c.args.bundle) c.self.inside.log c.self.inside.registry.promised c.self.inside.spares c.self.view_is refl (next_entry _ _ _ _ _ _ _ _ c.self.invariant.0 refl refl) c.is_small.ensures room in
+          absurd (c.in-Err.ensures.sure both.0 both.1 (closed_lacks (underway_at c.self.inside.registry) c.args.lib.0 b c.in-Err.field-0-1 (underway_at c.self.inside.registry) closed c.in-Err.ensures.fault));
+      spends =
+          spends_so c.self.inside.log c.self.inside.registry.promised (vec_len c.self.inside.spares.kits) c.self.inside.spares.bytes (ap (λ (x : Controller). x.spare) c.self.view_is) 1 c.make_places.new.log c.self.inside.registry.promised (vec_len c.judged.new.spares.kits) c.judged.new.spares.bytes
+          (let long = ap (λ (es : List Entry). length es) c.make_places.ensures.kept in omega (arith, long)) c.make_places.ensures.grows c.judged.ensures.takes.kits c.judged.ensures.takes.bytes;
       looked = (let same = ap (λ (x : Controller). x.looked) c.self.view_is in omega (arith, same));
       floor = (let still = ap (λ (x : Controller). x.looked) c.self.view_is in omega (arith, still));
-      was_kept = subst Kept (seen_state c.self.view_is) c.self.invariant.all.kept;
-      kept = c.self.invariant.all.kept;
-    }
-
-pub returns-in_default-with : goal.returns-in_default-with
-returns-in_default-with c =
-    record {
-      happens = not_settled_seen c.args.lib c.args.bundle c.args.back.items c.args.calls.items c.self.invariant.all.kept c.self.invariant.lent (seen_state c.self.view_is) c.requires.ready;
-      logs = record {
-        log = c.make_places.ensures.kept ∙ ap (λ (x : Controller). x.log) c.self.view_is ∙ sym (append-nil c.args.self.now.log);
-        first = ap (λ (x : Controller). x.first) c.self.view_is;
-        begun = ap (λ (x : Controller). x.begun) c.self.view_is;
-      };
-      bundle = c.into_bundle.ensures ∙ c.in-Ok-judged.ensures.case;
-      leases = refl;
-      calls = refl;
-      looked = (let same = ap (λ (x : Controller). x.looked) c.self.view_is in omega (arith, same));
-      floor = (let still = ap (λ (x : Controller). x.looked) c.self.view_is in omega (arith, still));
-      was_kept = subst Kept (seen_state c.self.view_is) c.self.invariant.all.kept;
-      kept = c.self.invariant.all.kept;
+      was_kept = subst Kept (seen_state c.self.view_is) c.self.invariant.0.all.kept;
+      kept = c.self.invariant.0.all.kept;
     }
 
 pub told-told-requires-clause-noted : goal.told-told-requires-clause-noted
-told-told-requires-clause-noted c = are_noted c.self.inside.registry.state c.rows-rows.result.now c.self.inside.notes c.self.invariant.all.kept c.rows-rows.ensures c.self.invariant.noted
+told-told-requires-clause-noted c = are_noted c.self.inside.registry.state c.rows-rows.result.now c.self.inside.notes c.self.invariant.0.all.kept c.rows-rows.ensures c.self.invariant.0.noted
 
 pub give_back_all-requires-clause-given : goal.give_back_all-requires-clause-given
 give_back_all-requires-clause-given c =
@@ -118,7 +123,7 @@ give_back_all-requires-clause-whose c =
 pub conclude-verdict-requires-clause-room : goal.conclude-verdict-requires-clause-room
 conclude-verdict-requires-clause-room c =
     let r = c.self.inside.registry in
-    let was = next_entry _ _ _ _ _ _ _ _ c.self.invariant refl c.make_places.ensures.kept in
+    let was = next_entry _ _ _ _ _ _ _ _ c.self.invariant.0 refl c.make_places.ensures.kept in
     room_then c.make_places.new.log.entries c.give_back_all.new.log.entries c.args.lib c.args.back.items r.state.entries c.give_back_all.new.registry.state.entries r.promised c.give_back_all.new.registry.promised
     was c.give_back_all.ensures.entry c.give_back_all.ensures.log c.give_back_all.ensures.promised (c.in-Ok-judged.ensures.room refl)
 
@@ -127,7 +132,7 @@ conclude-verdict-requires-clause-given c =
     let s = c.self.inside.registry.state in
     let lib = c.args.lib in
     let ready = subst (λ (v : State). Ready (desk_of v lib) (parcel_of c.args.bundle) c.args.back.items c.args.calls.items) (sym (seen_state c.self.view_is)) c.requires.ready in
-    let j = judgeable_then s lib c.args.bundle c.args.back.items c.args.calls.items c.self.invariant.all.kept c.self.invariant.lent ready in
+    let j = judgeable_then s lib c.args.bundle c.args.back.items c.args.calls.items c.self.invariant.0.all.kept c.self.invariant.0.lent ready in
     subst (λ (v : State). GivenTo v lib.0 (bundle_in c.in-Ok-judged.judged.0.bundle)) (sym c.give_back_all.ensures.state)
     (subst (λ (x : Bundled). GivenTo (all_back s lib c.args.back.items) lib.0 (bundle_in x)) (sym c.in-Ok-judged.ensures.case) j.given)
 
@@ -136,7 +141,7 @@ conclude-verdict-requires-clause-closed c =
     let s = c.self.inside.registry.state in
     let lib = c.args.lib in
     let ready = subst (λ (v : State). Ready (desk_of v lib) (parcel_of c.args.bundle) c.args.back.items c.args.calls.items) (sym (seen_state c.self.view_is)) c.requires.ready in
-    let j = judgeable_then s lib c.args.bundle c.args.back.items c.args.calls.items c.self.invariant.all.kept c.self.invariant.lent ready in
+    let j = judgeable_then s lib c.args.bundle c.args.back.items c.args.calls.items c.self.invariant.0.all.kept c.self.invariant.0.lent ready in
     ap (λ (v : State). parted_hold v lib.0 (bundle_in c.in-Ok-judged.judged.0.bundle)) c.give_back_all.ensures.state
     ∙ ap (λ (x : Bundled). parted_hold (all_back s lib c.args.back.items) lib.0 (bundle_in x)) c.in-Ok-judged.ensures.case ∙ j.closed
 
@@ -147,7 +152,7 @@ conclude-verdict-requires-clause-outcome c =
     let b = c.args.bundle in
     let ready = subst (λ (v : State). Ready (desk_of v lib) (parcel_of b) c.args.back.items c.args.calls.items) (sym (seen_state c.self.view_is)) c.requires.ready in
     let same : case_in s lib.0 (bundle_in b) ≡ case_in c.give_back_all.new.registry.state lib.0 (bundle_in c.in-Ok-judged.judged.0.bundle) =
-    sym (case_then s lib c.args.back.items (bundle_in b) c.self.invariant.all.kept (back_in_turn s lib (parcel_of b) c.args.back.items ready.all))
+    sym (case_then s lib c.args.back.items (bundle_in b) c.self.invariant.0.all.kept (back_in_turn s lib (parcel_of b) c.args.back.items ready.all))
     ∙ ap (λ (v : State). case_in v lib.0 (bundle_in b)) (sym c.give_back_all.ensures.state)
     ∙ ap (λ (x : Bundled). case_in c.give_back_all.new.registry.state lib.0 (bundle_in x)) (sym c.in-Ok-judged.ensures.case) in
     subst (λ (x : Case). IsOutcome x c.in-Ok-judged.judged.1) same c.in-Ok-judged.ensures.outcome
@@ -191,11 +196,13 @@ invariant_of-self-2 c =
     let left = places_then c.make_places.new.log.entries lib back i.registry.promised p' c.make_places.new.log.room places c.give_back_all.ensures.promised in
     let here = subst (λ (es : List Entry). length es + p' + 1 ≤ c.make_places.new.log.room) (sym c.give_back_all.ensures.log) left in
     let room : length mid.entries + p' + 1 ≤ mid.room = subst (λ (n : ℕ). length mid.entries + p' + 1 ≤ n) (sym c.give_back_all.ensures.room) here in
-    let less : length mid.entries + p' ≤ mid.room = omega (arith, room) in
-    subst (λ n. HasHistory (image_in i.first.value.superblock i.first.value.pages) after c.conclude-verdict.new.self.begun n c.push.new.self c.note.new.notes) (sym c.conclude-verdict.ensures.promised)
-    (after_settle s lib b back calls c.self.invariant.all.kept c.self.invariant.lent ready (image_in i.first.value.superblock i.first.value.pages) after i.registry.begun c.conclude-verdict.new.self.begun i.registry.promised p' i.log mid c.push.new.self i.notes c.note.new.notes o c.told-told.result result
-    c.self.invariant (seen_idle c.args.lib.0 c.self.view_is c.requires.idle) (c.conclude-verdict.ensures.begun ∙ c.give_back_all.ensures.begun) library (were_lent s lib (parcel_of b) ready.all.given) c.keeps_untouched.ensures was.outcome told c.conclude-verdict.ensures.verdict step noted backs c.give_back_all.ensures.promised less pushed
-    (rw c.push.ensures (one_room mid.entries (entry.Batch lib c.from_vec.result c.into_handed.result) p' p' mid.room room refl)))
+    let less : length mid.entries + p' ≤ mid.room = omega (arith, room) in (
+      subst (λ n. HasHistory (image_in i.first.value.superblock i.first.value.pages) after c.conclude-verdict.new.self.begun n c.push.new.self c.note.new.notes) (sym c.conclude-verdict.ensures.promised)
+          (after_settle s lib b back calls c.self.invariant.0.all.kept c.self.invariant.0.lent ready (image_in i.first.value.superblock i.first.value.pages) after i.registry.begun c.conclude-verdict.new.self.begun i.registry.promised p' i.log mid c.push.new.self i.notes c.note.new.notes o c.told-told.result result
+          c.self.invariant.0 (seen_idle c.args.lib.0 c.self.view_is c.requires.idle) (c.conclude-verdict.ensures.begun ∙ c.give_back_all.ensures.begun) library (were_lent s lib (parcel_of b) ready.all.given) c.keeps_untouched.ensures was.outcome told c.conclude-verdict.ensures.verdict step noted backs c.give_back_all.ensures.promised less pushed
+          (rw c.push.ensures (one_room mid.entries (entry.Batch lib c.from_vec.result c.into_handed.result) p' p' mid.room room refl))),
+      spare_there c.self.inside.registry.state (image_in c.self.inside.first.value.superblock c.self.inside.first.value.pages) c.judged.new.spares c.self.invariant.0.sizes c.in-Ok-judged.ensures.takes.spare,
+    )
 
 pub returns-clause-happens : goal.returns-clause-happens
 returns-clause-happens c =
@@ -213,7 +220,7 @@ returns-clause-happens c =
     (subst (λ (v : State). Step v (Release lib.0 (bundle_in c.in-Ok-judged.judged.0.bundle)) (verdict_of result) after) c.give_back_all.ensures.state c.conclude-verdict.ensures.step)
     in
     subst (λ (v : State). Happens v lib (SettleAsked (parcel_of b) back calls) IsSettled after) seen
-    (settled_then s lib b back calls c.self.invariant.all.kept c.self.invariant.lent ready after result step)
+    (settled_then s lib b back calls c.self.invariant.0.all.kept c.self.invariant.0.lent ready after result step)
 
 pub returns-clause-logs : goal.returns-clause-logs
 returns-clause-logs c =
@@ -242,3 +249,38 @@ returns-clause-floor c =
     let back = c.give_back_all.ensures.looked in
     let more = c.conclude-verdict.ensures.floor in
     omega (arith, still, back, more)
+
+pub judged-requires-clause-spare : goal.judged-requires-clause-spare
+judged-requires-clause-spare c = spare_here c.self.inside.registry.state (image_in c.self.inside.first.value.superblock c.self.inside.first.value.pages) c.self.inside.spares c.self.invariant.0.sizes c.self.invariant.1
+
+pub told-told-requires-clause-draft : goal.told-told-requires-clause-draft
+told-told-requires-clause-draft c =
+    c.in-Ok-judged.ensures.draft ∙ ap (λ (x : Bundled). outline_of (bundle_in x)) (sym c.in-Ok-judged.ensures.case)
+
+pub returns-clause-spends : goal.returns-clause-spends
+returns-clause-spends c =
+    let mid = c.give_back_all.new.log in
+    let back = c.args.back.items in
+    let long = ap (λ (es : List Entry). length es) c.make_places.ensures.kept in
+    let backs = ap (λ (es : List Entry). length es) c.give_back_all.ensures.log ∙ length-append c.make_places.new.log.entries (back_entries c.args.lib back) in
+    let each = length-map back (λ (f : Shown). entry.Back c.args.lib f.ino) in
+    let one = ap (λ (l : Logged). length l.entries) c.push.ensures ∙ length-append mid.entries (entry.Batch c.args.lib c.from_vec.result c.into_handed.result ∷ []) in
+    let less = c.give_back_all.ensures.promised in
+    let same = c.conclude-verdict.ensures.promised in
+    let grows = c.make_places.ensures.grows in
+    let stays = c.give_back_all.ensures.room in
+    let pushed = ap (λ (l : Logged). l.room) c.push.ensures in
+    spends_so c.self.inside.log c.self.inside.registry.promised (vec_len c.self.inside.spares.kits) c.self.inside.spares.bytes (ap (λ (x : Controller). x.spare) c.self.view_is) 1 c.push.new.self c.conclude-verdict.new.self.promised (vec_len c.judged.new.spares.kits) c.judged.new.spares.bytes
+    (omega (arith, long, backs, each, one, less, same)) (omega (arith, grows, stays, pushed)) c.judged.ensures.takes.kits c.judged.ensures.takes.bytes
+
+pub invariant_of-self-in-Err : goal.invariant_of-self-in-Err
+invariant_of-self-in-Err c =
+    let i = c.self.inside in
+    let first = image_in i.first.value.superblock i.first.value.pages in
+    let h = c.self.invariant.0 in
+    let long = ap (λ (es : List Entry). length es) c.make_places.ensures.kept in
+    let room = h.room in
+    let grows = c.make_places.ensures.grows in (
+      after_begin first i.registry.state i.registry.state i.registry.begun i.registry.begun i.registry.promised i.registry.promised i.log c.make_places.new.log i.notes h refl h.underway c.make_places.ensures.kept (omega (arith, long, room, grows)),
+      spare_there i.registry.state first c.judged.new.spares h.sizes c.judged.ensures.takes.spare,
+    )

@@ -18,4 +18,4 @@ invariant_of-self c =
     let placed = c.self.invariant.placed in
     let within : place < length i.begun.items = omega (arith, low, high, creds, placed) in
     let none : get_or i.begun.items place None ≡ None = sym (begun_place u c.args.lib.0 low) ∙ ap (λ (v : Underway). begun_by v c.args.lib.0) (underway_is c.self.view_is) ∙ c.requires.idle in
-    begins_controlled i.store i.first_core i.grants i.files.items i.libs.items i.history c.promise.new.self i.begun.items place c.in-Ok-of.begun c.self.invariant c.promise.ensures within none
+    begins_controlled i.store i.first_core i.grants i.files.items i.libs.items i.history c.promise.new.self i.begun.items place c.in-Ok.taken.2 c.self.invariant c.promise.ensures within none

@@ -17,20 +17,20 @@ returns-in-Some-clause-fault c =
     let parted = sym (parted_is i.store i.first_core i.files.items i.libs.items i.history.made c.args.lib.0 b) ∙ sym (ap (lowest_parted i.store.rows c.args.lib.0 b) c.deref.ensures.value) ∙ sym c.parted_hold.ensures ∙ c.in-Some.is in
     ComesBack _ (subst (λ (v : State). parted_hold v c.args.lib.0 b ≡ Some c.in-Some.ino) (state_is c.self.view_is) parted) refl refl
 
-pub case_of-requires-clause-closed : goal.case_of-requires-clause-closed
-case_of-requires-clause-closed c =
+pub within-requires-clause-closed : goal.within-requires-clause-closed
+within-requires-clause-closed c =
     let i = c.self.inside in
     let b = bundle_in c.args.bundle in
     let closed = sym (parted_is i.store i.first_core i.files.items i.libs.items i.history.made c.args.lib.0 b) ∙ sym (ap (lowest_parted i.store.rows c.args.lib.0 b) c.deref.ensures.value) ∙ sym c.parted_hold.ensures ∙ c.in_default.is in
     subst (λ (v : State). parted_hold v c.args.lib.0 b ≡ None) (state_is c.self.view_is) closed
 
-pub returns-in-Ok-case_of-clause-closed : goal.returns-in-Ok-case_of-clause-closed
-returns-in-Ok-case_of-clause-closed c = λ ok.
+pub returns-clause-closed : goal.returns-clause-closed
+returns-clause-closed c = λ ok.
     let i = c.self.inside in
     let b = bundle_in c.args.bundle in
     let closed = sym (parted_is i.store i.first_core i.files.items i.libs.items i.history.made c.args.lib.0 b) ∙ sym (ap (lowest_parted i.store.rows c.args.lib.0 b) c.deref.ensures.value) ∙ sym c.parted_hold.ensures ∙ c.in_default.is in
     subst (λ (v : State). parted_hold v c.args.lib.0 b ≡ None) (state_is c.self.view_is) closed
 
-pub returns-in-Ok-case_of-clause-places : goal.returns-in-Ok-case_of-clause-places
-returns-in-Ok-case_of-clause-places c = λ ok.
-    subst (λ (x : Registered). HasRoom (record { made = x.state.entries; promised = x.promised }) 1) c.self.view_is c.in-Ok.ensures
+pub returns-clause-places : goal.returns-clause-places
+returns-clause-places c = λ ok.
+    subst (λ (x : Registered). HasRoom (record { made = x.state.entries; promised = x.promised }) 1) c.self.view_is c.in-Ok.ensures.room

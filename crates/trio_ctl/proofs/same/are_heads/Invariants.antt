@@ -1,11 +1,12 @@
 use Rattle.std.proofs.Common.{◌≡◌, length, map, take}
 use Rattle.trio_lease.specs.Shown.{LentFile}
+use Rattle.trio_nodes.specs.Handed.{head_of}
 use Rattle.trio_entries.specs.Handed.{file_in}
-use Rattle.trio_ctl.proofs.same.are_files.Given as goal
+use Rattle.trio_ctl.proofs.same.are_heads.Given as goal
 
 -- the same so far
 abbrev pub invariant-loop-i : goal.invariant-loop-i
 invariant-loop-i l = record {
-  long : length l.files ≡ length l.leases;
-  so_far : take l.i l.files ≡ map (λ (f : LentFile). file_in f.stands) (take l.i l.leases);
+  long : length l.heads ≡ length l.leases;
+  so_far : take l.i l.heads ≡ map (λ (f : LentFile). head_of (file_in f.stands)) (take l.i l.leases);
 }

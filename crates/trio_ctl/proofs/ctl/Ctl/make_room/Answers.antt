@@ -1,0 +1,26 @@
+use Rattle.std.proofs.Common.{List, ap, arith, length, refl}
+use Rattle.std.proofs.Math.Nat.{le-min}
+use Rattle.trio_nodes.specs.declared.entry.Entry.{Entry}
+use Rattle.trio_survey.specs.Stored.{image_in}
+use Rattle.trio_ctl.specs.Room.{sizes_in}
+use Rattle.trio_ctl.proofs.Ends.{after_begin}
+use Rattle.trio_ctl.proofs.Keeping.{spare_there}
+use Rattle.trio_ctl.proofs.ctl.Ctl.make_room.Goals as goal
+
+pub invariant_of-self-2 : goal.invariant_of-self-2
+invariant_of-self-2 c =
+    let i = c.self.inside in
+    let first = image_in i.first.value.superblock i.first.value.pages in
+    let h = c.self.invariant.0 in
+    let long = ap (λ (es : List Entry). length es) c.make_places.ensures.kept in
+    let room = h.room in
+    let grows = c.make_places.ensures.grows in (
+      after_begin first i.registry.state i.registry.state i.registry.begun i.registry.begun i.registry.promised i.registry.promised i.log c.make_places.new.log i.notes h refl h.underway c.make_places.ensures.kept (omega (arith, long, room, grows)),
+      c.keep.ensures.spare (sizes_in first) c.self.invariant.1 (spare_there i.registry.state first c.in_ok-more.more h.sizes c.in_ok-more.ensures.spare),
+    )
+
+pub returns-clause-entries : goal.returns-clause-entries
+returns-clause-entries c =
+    let places = c.in_ok-make_places.ensures.room in
+    let promised = c.promised.ensures in
+    le-min (omega (arith, places, promised)) (c.keep.ensures.enough c.args.entries c.args.bytes c.in_ok-more.ensures.more)

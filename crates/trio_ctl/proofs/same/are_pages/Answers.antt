@@ -1,0 +1,25 @@
+use Rattle.std.proofs.Common.{◌≡◌, ◌↔◌, ◌∙◌, ◌<◌, ◌≤◌, true, List, ap, arith, get_or, length, map, subst}
+use Rattle.std.proofs.lemmas.Bool.{false≢true}
+use Rattle.trio_lease.specs.Shown.{LentFile}
+use Rattle.trio_lease.specs.declared.parts.FreshParts.{FreshParts}
+use Rattle.trio_entries.specs.Handed.{fresh_in}
+use Rattle.trio_ctl.proofs.SamePages.{all_behind, not_behind}
+use Rattle.trio_ctl.proofs.same.are_pages.Goals as goal
+
+pub returns-in-None : goal.returns-in-None
+returns-in-None c =
+    let b = c.args.bundle.now in
+    let i = c.loop-lease.lease-index in
+    let f = c.lease-item.result in
+    let within : i < length b.writes = omega (arith, c.loop-lease-test.true, ap length c.writes-lease-items.ensures) in
+    let here : f ≡ get_or b.writes i f = c.lease-item.is ∙ ap (λ (fs : List LentFile). get_or fs i f) c.writes-lease-items.ensures in (
+      λ on. absurd (false≢true on),
+      λ same. absurd (not_behind b i f c.args.pages.now c.loop-lease.rest.now within here c.loop-lease.invariant c.in-None.ensures.none same),
+    )
+
+pub returns : goal.returns
+returns c =
+    let b = c.args.bundle.now in
+    let far : length b.writes ≤ c.loop-lease.lease-index = omega (arith, c.loop-lease-test.false, ap length c.writes-lease-items.ensures) in
+    all_behind b c.loop-lease.lease-index c.args.pages.now c.loop-lease.rest.now c.are_fresh.result far c.loop-lease.invariant
+    (subst (λ (xs : List FreshParts). (c.are_fresh.result ≡ true) ↔ (c.loop-lease.rest.now ≡ map fresh_in xs)) c.pages.ensures c.are_fresh.ensures)

@@ -1,0 +1,10 @@
+use Rattle.std.proofs.Common.{◌≡◌, ◌≤◌, ◌+◌}
+use Rattle.std.specs.Prelude.{vec_capacity, vec_len}
+use Rattle.std.specs.List.{All}
+use Rattle.trio_ctl.specs.Kits.{Serves}
+use Rattle.trio_ctl.proofs.spares.Spares.more.Given as goal
+
+abbrev pub invariant-loop : goal.invariant-loop
+invariant-loop l =
+    (vec_len l.kits + l.kept ≡ l.counter) × (l.kept ≤ l.wanted) × (l.wanted ≤ vec_capacity l.kits)
+    × All (Serves (record { range = l.fn.range; inodes = l.fn.inodes }) l.each) l.kits.items
