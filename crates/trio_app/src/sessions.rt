@@ -61,7 +61,7 @@ const FILES: &[Session] = &[
             "lib 1 raw\n2 granted\n3 poked\n4 accepted\nend nothing\n",
             FILE_TREE,
         ],
-        out: Kept::Changed(24_576, b'J'),
+        out: Kept::Changed(&[(24_576, b'J')]),
     },
     Session {
         name: "a size of 4097 with one block",
@@ -72,7 +72,7 @@ const FILES: &[Session] = &[
             "lib 1 raw\n2 granted\n3 poked\n4 poked\n5 refused I1\n6 granted\n7 accepted\nend nothing\n",
             FILE_TREE,
         ],
-        out: Kept::Changed(24_576, b'J'),
+        out: Kept::Changed(&[(24_576, b'J')]),
     },
     Session {
         name: "the root's block in the file's index page",
@@ -83,7 +83,7 @@ const FILES: &[Session] = &[
             "lib 1 raw\n2 granted\n3 poked\n4 poked\n5 refused I2\n6 granted\n7 accepted\nend nothing\n",
             FILE_TREE,
         ],
-        out: Kept::Changed(24_576, b'J'),
+        out: Kept::Changed(&[(24_576, b'J')]),
     },
     Session {
         name: "another uid",
@@ -94,7 +94,7 @@ const FILES: &[Session] = &[
             "lib 1 raw\n2 granted\n3 poked\n4 poked\n5 refused I4\n6 granted\n7 accepted\nend nothing\n",
             FILE_TREE,
         ],
-        out: Kept::Changed(24_576, b'J'),
+        out: Kept::Changed(&[(24_576, b'J')]),
     },
     Session {
         name: "a file is lent once, and only one that is there",
@@ -105,7 +105,7 @@ const FILES: &[Session] = &[
             "lib 1 raw\n2 granted\n3 busy\n4 notlive\nend accepted\n",
             FILE_TREE,
         ],
-        out: Kept::Changed(24_576, b'h'),
+        out: SAME,
     },
     Session {
         name: "the end hands in what was written",
@@ -113,7 +113,7 @@ const FILES: &[Session] = &[
         image: Start::OneFile,
         script: "lib 1 raw 0 0\ngrant write 2\npoke block 2 0 0 4a\n",
         report: ["lib 1 raw\n2 granted\n3 poked\nend accepted\n", FILE_TREE],
-        out: Kept::Changed(24_576, b'J'),
+        out: Kept::Changed(&[(24_576, b'J')]),
     },
     Session {
         name: "what it hasn't, and past the end",
@@ -124,7 +124,7 @@ const FILES: &[Session] = &[
             "lib 1 raw\n2 absent\n3 absent\n4 granted\n5 absent\n6 absent\n7 absent\n8 absent\nend accepted\n",
             FILE_TREE,
         ],
-        out: Kept::Changed(24_576, b'h'),
+        out: SAME,
     },
     Session {
         name: "a second grant after a refusal",
@@ -135,7 +135,7 @@ const FILES: &[Session] = &[
             "lib 1 raw\n2 granted\n3 poked\n4 refused I4\n5 granted\n6 poked\n7 accepted\nend nothing\n",
             FILE_TREE,
         ],
-        out: Kept::Changed(24_576, b'J'),
+        out: Kept::Changed(&[(24_576, b'J')]),
     },
     Session {
         name: "nothing at all is handed in",
@@ -143,7 +143,7 @@ const FILES: &[Session] = &[
         image: Start::OneFile,
         script: "lib 1 raw 0 0\nrelease - - -\n",
         report: ["lib 1 raw\n2 accepted\nend nothing\n", FILE_TREE],
-        out: Kept::Changed(24_576, b'h'),
+        out: SAME,
     },
 ];
 
@@ -260,32 +260,10 @@ const DIRECTORIES: &[Session] = &[
         out: Kept::Part(8228, 8229, 3),
     },
     Session {
-        name: "a child is dropped",
-        commands: BOTH,
-        image: Start::ThreeFiles,
-        script: "lib 1 raw 0 0\ngrant write 2\npoke block 2 0 0 00000000\nrelease 2 - -\n",
-        report: [
-            "lib 1 raw\n2 granted\n3 poked\n4 refused I3\nend nothing\n",
-            TREE,
-        ],
-        out: Kept::Part(32_768, 32_769, b'h'),
-    },
-    Session {
         name: "a file of another directory",
         commands: BOTH,
         image: Start::ThreeFiles,
         script: "lib 1 raw 0 0\ngrant write 1\npoke block 1 0 256 030000000101000067\npoke block 1 0 448 a401\nrelease 1 - -\n",
-        report: [
-            "lib 1 raw\n2 granted\n3 poked\n4 poked\n5 refused I2\nend nothing\n",
-            TREE,
-        ],
-        out: Kept::Part(32_768, 32_769, b'h'),
-    },
-    Session {
-        name: "a child twice",
-        commands: BOTH,
-        image: Start::ThreeFiles,
-        script: "lib 1 raw 0 0\ngrant write 2\npoke block 2 0 256 030000000101000067\npoke block 2 0 448 a401\nrelease 2 - -\n",
         report: [
             "lib 1 raw\n2 granted\n3 poked\n4 poked\n5 refused I2\nend nothing\n",
             TREE,
@@ -476,17 +454,6 @@ const GRANTS: &[Session] = &[
             TREE,
         ],
         out: SAME,
-    },
-    Session {
-        name: "a held file is dropped",
-        commands: BOTH,
-        image: Start::ThreeFiles,
-        script: "lib 1 raw 0 0\ngrant write 2\ngrant hold 3\npoke block 2 0 0 00000000\nrelease 2,3 - -\n",
-        report: [
-            "lib 1 raw\n2 granted\n3 granted children 0\n4 poked\n5 accepted\nend nothing\n",
-            "tree\n0 d 755 0 0 1 /\n1 d 755 0 0 0 a\ninodes 2 pages 4 free 25\n",
-        ],
-        out: Kept::Part(24_576, 24_580, 0),
     },
     Session {
         name: "a held file is dropped, and the page that listed it is another file's index page",
@@ -975,6 +942,271 @@ fn all_or_nothing(rt: HostRuntime) {
     assert!(rt; other.is_none(), "{}", other.unwrap_or(""));
 }
 
+// ---- hostile bundles
+
+// A bundle of the root, `a` or `f`, with bytes that the library chose, and what comes of it.
+struct Hostile<'a> {
+    name: &'a str,
+    // what the library does, and what it is told
+    lines: &'a str,
+    told: &'a str,
+    // the tree then
+    tree: &'a str,
+    // what OUT then has, byte for byte
+    out: Kept,
+}
+
+// The shadow row of `f` begins at 4160, the owner of its index page stands at 8220 and that of its block at 8224.
+// Slot 0 of the block of `a` begins at 24,576, and the body of `f` in it at 24,768; slot 1 begins at 24,832.
+const HOSTILE: &[Hostile] = &[
+    Hostile {
+        name: "a mode above nine bits",
+        lines: "grant write 3\npoke body 3 0 0002\nrelease 3 - -\n",
+        told: "2 granted\n3 poked\n4 refused I1\n",
+        tree: TREE,
+        out: SAME,
+    },
+    Hostile {
+        name: "a byte behind the mode",
+        lines: "grant write 3\npoke body 3 2 01\nrelease 3 - -\n",
+        told: "2 granted\n3 poked\n4 refused I1\n",
+        tree: TREE,
+        out: SAME,
+    },
+    Hostile {
+        name: "a byte behind the size",
+        lines: "grant write 3\npoke body 3 25 01\nrelease 3 - -\n",
+        told: "2 granted\n3 poked\n4 refused I1\n",
+        tree: TREE,
+        out: SAME,
+    },
+    Hostile {
+        name: "an index page of a file without bytes",
+        lines: "grant write 3\npoke body 3 16 0000000000000000\nrelease 3 - -\n",
+        told: "2 granted\n3 poked\n4 refused I1\n",
+        tree: TREE,
+        out: SAME,
+    },
+    Hostile {
+        name: "the file is emptied, and its pages are free",
+        lines: "grant write 3\npoke body 3 12 000000000000000000000000\nrelease 3 - -\n",
+        told: "2 granted\n3 poked\n4 accepted\n",
+        tree: "tree\n0 d 755 0 0 1 /\n1 d 755 0 0 1 a\n2 f 644 0 0 0 f\ninodes 3 pages 4 free 25\n",
+        out: Kept::Changed(&[(8220, 0), (8224, 0), (24_780, 0), (24_784, 0)]),
+    },
+    Hostile {
+        name: "more blocks than there are core pages",
+        lines: "grant write 3\npoke body 3 16 ffffffffffffffff\nrelease 3 - -\n",
+        told: "2 granted\n3 poked\n4 refused I1\n",
+        tree: TREE,
+        out: SAME,
+    },
+    Hostile {
+        name: "page 0 as the file's block",
+        lines: "grant write 3\npoke index 3 0 0 0000000000000000\nrelease 3 - -\n",
+        told: "2 granted\n3 poked\n4 refused I1\n",
+        tree: TREE,
+        out: SAME,
+    },
+    Hostile {
+        name: "a page of the tables as the file's block",
+        lines: "grant write 3\npoke index 3 0 0 0200000000000000\nrelease 3 - -\n",
+        told: "2 granted\n3 poked\n4 refused I1\n",
+        tree: TREE,
+        out: SAME,
+    },
+    Hostile {
+        name: "the directory's block as the file's",
+        lines: "grant write 3\npoke index 3 0 0 0600000000000000\nrelease 3 - -\n",
+        told: "2 granted\n3 poked\n4 refused I2\n",
+        tree: TREE,
+        out: SAME,
+    },
+    Hostile {
+        name: "the file's index page as its block",
+        lines: "grant write 3\npoke index 3 0 0 0700000000000000\nrelease 3 - -\n",
+        told: "2 granted\n3 poked\n4 refused I2\n",
+        tree: TREE,
+        out: SAME,
+    },
+    Hostile {
+        name: "a block more than the size needs",
+        lines: "grant write 3\npoke index 3 0 8 0800000000000000\nrelease 3 - -\n",
+        told: "2 granted\n3 poked\n4 refused I1\n",
+        tree: TREE,
+        out: SAME,
+    },
+    Hostile {
+        name: "another mode of the file",
+        lines: "grant write 3\npoke body 3 0 ff01\nrelease 3 - -\n",
+        told: "2 granted\n3 poked\n4 refused I4\n",
+        tree: TREE,
+        out: SAME,
+    },
+    Hostile {
+        name: "another gid of the file",
+        lines: "grant write 3\npoke body 3 8 05000000\nrelease 3 - -\n",
+        told: "2 granted\n3 poked\n4 refused I4\n",
+        tree: TREE,
+        out: SAME,
+    },
+    Hostile {
+        name: "another kind of the file",
+        lines: "grant write 2\npoke block 2 0 4 02\nrelease 2 - -\n",
+        told: "2 granted\n3 poked\n4 refused I4\n",
+        tree: TREE,
+        out: SAME,
+    },
+    Hostile {
+        name: "a name without bytes",
+        lines: "grant write 2\npoke block 2 0 5 00\nrelease 2 - -\n",
+        told: "2 granted\n3 poked\n4 refused I1\n",
+        tree: TREE,
+        out: SAME,
+    },
+    Hostile {
+        name: "a slash as the name",
+        lines: "grant write 2\npoke block 2 0 8 2f\nrelease 2 - -\n",
+        told: "2 granted\n3 poked\n4 refused I1\n",
+        tree: TREE,
+        out: SAME,
+    },
+    Hostile {
+        name: "another name",
+        lines: "grant write 2\npoke block 2 0 8 67\nrelease 2 - -\n",
+        told: "2 granted\n3 poked\n4 accepted\n",
+        tree: "tree\n0 d 755 0 0 1 /\n1 d 755 0 0 1 a\n2 f 644 0 0 5 g\ninodes 3 pages 6 free 23\n",
+        out: Kept::Changed(&[(24_584, b'g')]),
+    },
+    Hostile {
+        name: "the directory lists itself in the file's place",
+        lines: "grant write 2\npoke block 2 0 0 02000000\nrelease 2 - -\n",
+        told: "2 granted\n3 poked\n4 refused I2\n",
+        tree: TREE,
+        out: SAME,
+    },
+    Hostile {
+        name: "a number above the last",
+        lines: "grant write 2\npoke block 2 0 0 41000000\nrelease 2 - -\n",
+        told: "2 granted\n3 poked\n4 refused I1\n",
+        tree: TREE,
+        out: SAME,
+    },
+    Hostile {
+        name: "the file is dropped",
+        lines: "grant write 2\npoke block 2 0 0 00000000\nrelease 2 - -\n",
+        told: "2 granted\n3 poked\n4 refused I3\n",
+        tree: TREE,
+        out: SAME,
+    },
+    Hostile {
+        name: "the directory is emptied",
+        lines: "grant write 2\npoke body 2 12 000000000000000000000000\nrelease 2 - -\n",
+        told: "2 granted\n3 poked\n4 refused I3\n",
+        tree: TREE,
+        out: SAME,
+    },
+    Hostile {
+        name: "the file is listed twice",
+        lines: "grant write 2\npoke block 2 0 256 030000000101000068\npoke block 2 0 448 a401\nrelease 2 - -\n",
+        told: "2 granted\n3 poked\n4 poked\n5 refused I2\n",
+        tree: TREE,
+        out: SAME,
+    },
+    Hostile {
+        name: "the held file is listed twice",
+        lines: "grant write 2\ngrant hold 3\npoke block 2 0 256 030000000101000068\npoke block 2 0 448 a401\nrelease 2,3 - -\n",
+        told: "2 granted\n3 granted children 0\n4 poked\n5 poked\n6 refused I2\n",
+        tree: TREE,
+        out: SAME,
+    },
+    Hostile {
+        name: "the held file goes to another slot, under another name",
+        lines: "grant write 2\ngrant hold 3\npoke block 2 0 0 00000000\npoke block 2 0 256 030000000101000068\npoke block 2 0 448 a40100000000000000000000070000000500000000000000\nrelease 2,3 - -\n",
+        told: "2 granted\n3 granted children 0\n4 poked\n5 poked\n6 poked\n7 accepted\n",
+        tree: "tree\n0 d 755 0 0 1 /\n1 d 755 0 0 1 a\n2 f 644 0 0 5 h\ninodes 3 pages 6 free 23\n",
+        out: Kept::Changed(&[
+            (4180, 1),
+            (24_576, 0),
+            (24_832, 3),
+            (24_836, 1),
+            (24_837, 1),
+            (24_840, b'h'),
+            (25_024, 0xa4),
+            (25_025, 1),
+            (25_036, 7),
+            (25_040, 5),
+        ]),
+    },
+    Hostile {
+        name: "the held file goes to another slot, with another size",
+        lines: "grant write 2\ngrant hold 3\npoke block 2 0 0 00000000\npoke block 2 0 256 030000000101000068\npoke block 2 0 448 a40100000000000000000000070000000500000000000000\npoke block 2 0 464 06\nrelease 2,3 - -\n",
+        told: "2 granted\n3 granted children 0\n4 poked\n5 poked\n6 poked\n7 poked\n8 refused I4\n",
+        tree: TREE,
+        out: SAME,
+    },
+    Hostile {
+        name: "the held file is dropped, and its pages are free",
+        lines: "grant write 2\ngrant hold 3\npoke block 2 0 0 00000000\nrelease 2,3 - -\n",
+        told: "2 granted\n3 granted children 0\n4 poked\n5 accepted\n",
+        tree: "tree\n0 d 755 0 0 1 /\n1 d 755 0 0 0 a\ninodes 2 pages 4 free 25\n",
+        out: Kept::Changed(&[
+            (4160, 0),
+            (4161, 0),
+            (4162, 0),
+            (4163, 0),
+            (4172, 0),
+            (4176, 0),
+            (8220, 0),
+            (8224, 0),
+            (24_576, 0),
+        ]),
+    },
+    Hostile {
+        name: "a new file of no kind",
+        lines: "allot 0 1\ngrant write 2\npoke block 2 0 256 040000000401000068\nrelease 2 - 4\n",
+        told: "2 allotted - 4\n3 granted\n4 poked\n5 refused I1\n",
+        tree: TREE,
+        out: SAME,
+    },
+    Hostile {
+        name: "another mode of the root",
+        lines: "grant write 1\npoke body 1 0 ff01\nrelease 1 - -\n",
+        told: "2 granted\n3 poked\n4 refused I4\n",
+        tree: TREE,
+        out: SAME,
+    },
+];
+
+// Whether the library is told so, the tree is this, and OUT has these bytes.
+fn is_told<'a, R: Threads + Wait + Sync + AllocGlobal>(rt: &R, bundle: &'a Hostile<'a>) -> bool {
+    let row = Row {
+        image: Start::ThreeFiles,
+        length: IMAGE_SIZE,
+        changes: &[],
+        script: &[b"lib 1 raw 0 0\n", bundle.lines.as_bytes()],
+        failing: (0, 0),
+        status: 0,
+        text: &[
+            b"lib 1 raw\n",
+            bundle.told.as_bytes(),
+            b"end nothing\n",
+            bundle.tree.as_bytes(),
+        ],
+        is_all: true,
+        file: "o p",
+        kept: bundle.out,
+    };
+    all_end(rt, BOTH, &row)
+}
+
+#[test]
+fn hostile_bundles_are_judged(rt: HostRuntime) {
+    for bundle in HOSTILE {
+        assert!(rt; is_told(&rt, bundle), "{}", bundle.name);
+    }
+}
+
 // ---- hostile bytes
 
 // What a library pokes into a file that it is lent: the place, the offset there, and the bytes.
@@ -1017,67 +1249,6 @@ fn is_judged<'a, R: Threads + Wait + Sync + AllocGlobal>(
 
 // OUT is some image.
 const SOME: Kept = Kept::Part(0, 0, 0);
-
-// What a library writes into a file, by the file's number, and what it is told then: each row breaks the
-// rule that is named and none below it.
-const HOSTILE: &[(&str, Poke<'static>, &str)] = &[
-    // a mode above nine bits, a byte that is reserved, a byte behind the size
-    ("3", ("body 3", "0", "0002"), "refused I1"),
-    ("3", ("body 3", "2", "01"), "refused I1"),
-    ("3", ("body 3", "25", "01"), "refused I1"),
-    // no bytes, but a head; neither; more blocks than there are core pages
-    ("3", ("body 3", "16", "0000000000000000"), "refused I1"),
-    (
-        "3",
-        ("body 3", "12", "000000000000000000000000"),
-        "accepted",
-    ),
-    ("3", ("body 3", "16", "ffffffffffffffff"), "refused I1"),
-    // as a block the number 0, a page below the core, another file's block, its own index page
-    ("3", ("index 3 0", "0", "0000000000000000"), "refused I1"),
-    ("3", ("index 3 0", "0", "0200000000000000"), "refused I1"),
-    ("3", ("index 3 0", "0", "0600000000000000"), "refused I2"),
-    ("3", ("index 3 0", "0", "0700000000000000"), "refused I2"),
-    // a number behind those in use, a link where the chain ends
-    ("3", ("index 3 0", "8", "0800000000000000"), "refused I1"),
-    ("3", ("index 3 0", "4088", "0700000000000000"), "refused I1"),
-    // another mode, another gid
-    ("3", ("body 3", "0", "ff01"), "refused I4"),
-    ("3", ("body 3", "8", "05000000"), "refused I4"),
-    // in a child's entry another kind, a name without bytes, a slash, another name
-    ("2", ("block 2 0", "4", "02"), "refused I4"),
-    ("2", ("block 2 0", "5", "00"), "refused I1"),
-    ("2", ("block 2 0", "8", "2f"), "refused I1"),
-    ("2", ("block 2 0", "8", "67"), "accepted"),
-    // the directory itself in it, a number above the last, none
-    ("2", ("block 2 0", "0", "02000000"), "refused I2"),
-    ("2", ("block 2 0", "0", "41000000"), "refused I1"),
-    ("2", ("block 2 0", "0", "00000000"), "refused I3"),
-    // a directory cut down over its child
-    (
-        "2",
-        ("body 2", "12", "000000000000000000000000"),
-        "refused I3",
-    ),
-    // another mode of the root's
-    ("1", ("body 1", "0", "ff01"), "refused I4"),
-];
-
-// Whether a library that writes this is told so, and leaves an image: the same one where it is refused.
-fn is_told<R: Threads + Wait + Sync + AllocGlobal>(
-    rt: &R,
-    (ino, poke, verdict): (&'static str, Poke<'static>, &'static str),
-) -> bool {
-    let out = if verdict == "accepted" { SOME } else { SAME };
-    is_judged(rt, Start::ThreeFiles, ino, poke, (verdict, out))
-}
-
-#[test]
-fn hostile_bytes_break_the_lowest_rule(rt: HostRuntime) {
-    for row in HOSTILE {
-        assert!(rt; is_told(&rt, *row), "{} {} {}", row.1.0, row.1.1, row.1.2);
-    }
-}
 
 // Values of a byte, as they are poked.
 const VALUES: &[(u8, &str)] = &[(0, "00"), (1, "01"), (0x7f, "7f"), (0xff, "ff")];

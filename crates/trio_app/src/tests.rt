@@ -117,8 +117,8 @@ pub enum Kept {
     Image(usize),
     /// So many bytes.
     Bytes(usize),
-    /// The image, but with this byte at this offset.
-    Changed(usize, u8),
+    /// The image, but with these bytes at these offsets, which rise.
+    Changed(&'static [(usize, u8)]),
     /// An image that verifies, of which each byte from an offset on and before another is this one.
     Part(usize, usize, u8),
 }
@@ -254,17 +254,21 @@ fn keeps(content: Option<&[u8]>, image: &[u8], kept: Kept) -> bool {
         (Some(bytes), Kept::Before) => bytes == OLD,
         (Some(bytes), Kept::Image(length)) => Some(bytes) == image.get(..length),
         (Some(bytes), Kept::Bytes(length)) => bytes.len() == length,
-        (Some(bytes), Kept::Changed(at, byte)) => is_changed(bytes, image, at, byte),
+        (Some(bytes), Kept::Changed(changes)) => is_changed(bytes, image, changes),
         (Some(bytes), Kept::Part(from, to, byte)) => is_all_of(bytes.get(from..to), byte),
     }
 }
 
-fn is_changed(bytes: &[u8], image: &[u8], at: usize, byte: u8) -> bool {
-    let behind = match (bytes.get(at..), image.get(at..)) {
-        (Some([here, rest @ ..]), Some([_, others @ ..])) => *here == byte && rest == others,
-        _ => false,
-    };
-    behind && bytes.get(..at) == image.get(..at)
+fn is_changed(bytes: &[u8], image: &[u8], changes: &[(usize, u8)]) -> bool {
+    let mut from = 0_usize;
+    for (at, byte) in changes {
+        let is_same = from <= *at && bytes.get(from..*at) == image.get(from..*at);
+        if !is_same || bytes.get(*at) != Some(byte) {
+            return false;
+        }
+        from = at.saturating_add(1);
+    }
+    bytes.get(from..) == image.get(from..)
 }
 
 fn is_all_of(part: Option<&[u8]>, byte: u8) -> bool {
@@ -1064,7 +1068,7 @@ const BOTH_WRITE: Row<'static> = Row {
     text: &[b"lib 1 raw\n"],
     is_all: false,
     file: "o p",
-    kept: Kept::Changed(24_576, b'J'),
+    kept: Kept::Changed(&[(24_576, b'J')]),
 };
 
 // Whether two libraries that write one file exclude each other.
