@@ -48,7 +48,7 @@ const BEGINNING: &[u8] = b"lib 1 raw 0 0\nallot 8182 1\ngrant write 1\n\
 /// image's pages and the log's bytes, and at most the room of the judgement too.
 pub fn measure_log<R: Host + Print + AllocGlobal>(rt: &R) -> io::Result<()> {
     match libs_of(rt.alloc()) {
-        Some(libs) => measure_libs(rt, rt.alloc(), libs),
+        Some(libs) => measure_libs(rt, rt.alloc(), &libs),
         None => print_released(rt, false),
     }
 }
@@ -57,13 +57,13 @@ pub fn measure_log<R: Host + Print + AllocGlobal>(rt: &R) -> io::Result<()> {
 fn measure_libs<R: Host + Print + AllocGlobal>(
     rt: &R,
     alloc: Global,
-    libs: Vec<ScriptLib>,
+    libs: &[ScriptLib],
 ) -> io::Result<()>
-    requires some { 1 ≤ length libs.items }
-    requires few { length libs.items ≤ 16 }
-    requires within { AreWithin libs.items }
+    requires some { 1 ≤ length libs.now }
+    requires few { length libs.now ≤ 16 }
+    requires within { AreWithin libs.now }
 {
-    match new_ctl(alloc, &libs) {
+    match new_ctl(alloc, libs) {
         Some(mut ctl) => print_released(rt, is_released(alloc, &mut ctl, libs)),
         None => print_released(rt, false),
     }
@@ -137,17 +137,17 @@ fn new_ctl(alloc: Global, libs: &[ScriptLib]) -> Option<Ctl>
     started(alloc, image, creds)
 }
 
-/// Plays the lines of these libraries, which are let go, on a controller that has just started. Returns
-/// whether the last line is accepted.
-fn is_released(alloc: Global, ctl: &mut Ctl, libs: Vec<ScriptLib>) -> bool
+/// Plays the lines of these libraries on a controller that has just started. Returns whether the last
+/// line is accepted.
+fn is_released(alloc: Global, ctl: &mut Ctl, libs: &[ScriptLib]) -> bool
     requires kept { Kept ctl.old.state }
-    requires started { ctl.old.state ≡ start ctl.old.state.home (creds_in libs.items) }
+    requires started { ctl.old.state ≡ start ctl.old.state.home (creds_in libs.now) }
     requires unlogged { ctl.old.log ≡ [] }
     requires idle { NoneBegun ctl.old }
-    requires few { length libs.items ≤ 16 }
-    requires within { AreWithin libs.items }
+    requires few { length libs.now ≤ 16 }
+    requires within { AreWithin libs.now }
 {
-    match play(alloc, ctl, &libs) {
+    match play(alloc, ctl, libs) {
         Ok(tolds) => ends_accepted(&tolds),
         Err(_) => false,
     }

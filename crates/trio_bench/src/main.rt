@@ -1,53 +1,29 @@
-//! What the controller and the libraries at work on it cost: a turn without others in it, a grant at a
-//! seat, lines in threads, the memory of a release, and writes and reads through a session.
+//! What a controller and the libraries at work on it cost, on one thread: the memory of a release, and
+//! writes and reads through a session.
 //!
-//! - `trio_bench turn COUNT` takes a value out of its cell and gives it back COUNT times, and locks a
-//!   `Mutex` of std's with the same value COUNT times, all on one thread, five times over. It prints
-//!   the nanoseconds of the fastest turn and of the fastest lock on average over COUNT, and their
-//!   ratio.
-//! - `trio_bench seat COUNT` is lent a file for reading and gives it back COUNT times at a seat of a
-//!   shared controller, and COUNT times at a controller itself, all on one thread, nine times over. It
-//!   prints the nanoseconds of the fastest of each on average over COUNT, and their ratio.
-//! - `trio_bench threads COUNT` plays COUNT lines of each of four libraries, in rounds on one thread and
-//!   with a thread for each library, nine times over. It prints the microseconds of the fastest of each,
-//!   and how often the second goes into the first, once for raw libraries and once for honest ones.
 //! - `trio_bench log` releases the largest bundle of an image, and prints the peak of memory beside the
 //!   size of the image.
 //! - `trio_bench session` writes and reads 1 MiB by 4096 bytes a call through a session, twenty times
 //!   over, and prints how often a plain copy of as much into pages and out of them goes into it.
 //!
-//! `trio_bench_layers` measures what needs no controller. Both are measured and not proved; the figures
-//! of a run are in `docs/SPEED.md`.
+//! `trio_bench_shared` measures what several libraries share, and `trio_bench_layers` what needs no
+//! controller. All three are measured and not proved; the figures of a run are in `docs/SPEED.md`.
 #![tactic(auto)]
 
 mod logging;
-mod seats;
 mod sessions;
 mod starting;
-mod threads;
-mod turns;
 
 use crate::logging::measure_log;
-use crate::seats::measure_seat;
 use crate::sessions::measure_session;
-use crate::threads::measure_threads;
-use crate::turns::measure_turn;
 use std::alloc::Global;
 use std::io;
 use std::rt::{Clock, Env, Files};
-use std::sync::Wait;
-use std::thread::Threads;
 use trio_bench_common::words_given;
 
 /// What is to be measured.
 #[derive(Clone, Copy)]
 enum Asked {
-    /// So many turns.
-    Turn(u64),
-    /// So many grants at a seat.
-    Seat(u64),
-    /// So many lines of each library.
-    Threads(u64),
     Log,
     Session,
     /// Nothing that there is.
@@ -57,13 +33,12 @@ enum Asked {
 /// What the words behind the program's name ask for. More words than are needed say nothing.
 fn read_words(words: &[String]) -> Asked {
     match words {
-        [_, what] => alone(what.as_str()),
-        [_, what, count, ..] => with_count(what.as_str(), count.as_str()),
+        [_, what, ..] => read_word(what.as_str()),
         _ => Asked::Unknown,
     }
 }
 
-fn alone(what: &str) -> Asked {
+fn read_word(what: &str) -> Asked {
     if what == "log" {
         Asked::Log
     } else if what == "session" {
@@ -73,27 +48,7 @@ fn alone(what: &str) -> Asked {
     }
 }
 
-fn with_count(what: &str, count: &str) -> Asked {
-    match count.parse::<u64>() {
-        Ok(0) | Err(_) => alone(what),
-        Ok(count) => counted(what, count),
-    }
-}
-
-fn counted(what: &str, count: u64) -> Asked {
-    if what == "turn" {
-        Asked::Turn(count)
-    } else if what == "seat" {
-        Asked::Seat(count)
-    } else if what == "threads" {
-        Asked::Threads(count)
-    } else {
-        alone(what)
-    }
-}
-
-const USAGE: &str =
-    "usage: trio_bench turn COUNT\n       trio_bench seat COUNT\n       trio_bench threads COUNT\n       trio_bench log\n       trio_bench session";
+const USAGE: &str = "usage: trio_bench log\n       trio_bench session";
 
 fn main(rt: HostRuntime) -> io::Result<()> {
     let words = words_given(&rt)?;
@@ -101,15 +56,8 @@ fn main(rt: HostRuntime) -> io::Result<()> {
 }
 
 /// Measures what is asked for, and prints what was measured.
-fn measure<R: Threads + Wait + Sync + Clock + Files + Print + AllocGlobal>(
-    rt: &R,
-    asked: Asked,
-) -> io::Result<()> {
+fn measure<R: Clock + Files + Print + AllocGlobal>(rt: &R, asked: Asked) -> io::Result<()> {
     match asked {
-        Asked::Turn(count) => measure_turn(rt, count),
-        Asked::Seat(count) => measure_seat(rt, count),
-        // no script has as many lines as that
-        Asked::Threads(count) => measure_threads(rt, count.min(10_000) as u32),
         Asked::Log => measure_log(rt),
         Asked::Session => measure_session(rt),
         Asked::Unknown => println!(rt; "{USAGE}"),

@@ -1,6 +1,6 @@
 //! What it costs to write and read a file through a session, beside a plain copy.
 
-ghost use Rattle.std.specs.Prelude.{◌≡◌, [], IfSome, IsTrue, length};
+ghost use Rattle.std.specs.Prelude.{◌≡◌, IfSome, IsTrue, length};
 ghost use Rattle.trio_rights.specs.declared.rights.LibNo.{LibNo as AnyLib};
 ghost use Rattle.trio_desk.specs.Out.{OutAlike, nothing_out};
 ghost use Rattle.trio_edit_laws.specs.Calls.{MayCall};
@@ -8,11 +8,11 @@ ghost use Rattle.trio_calls_file.specs.Asks.{IsFileCall};
 ghost use Rattle.trio_ctl.specs.Ctl.{NoneBegun};
 ghost use Rattle.trio_ctl.specs.Desk.{out_of};
 
-use crate::starting::{image_of, started};
+use crate::starting::started;
 use std::alloc::Global;
 use std::io;
 use std::rt::Clock;
-use trio_bench_common::{Times, least, nanos_since, now};
+use trio_bench_common::{Times, image_of, least, nanos_since, now};
 use trio_calls_file::file_call;
 use trio_ctl::{Ctl, PlainDesk};
 use trio_desk::Desk;
@@ -132,11 +132,10 @@ fn nanos_on<R: Clock>(rt: &R, alloc: Global, ctl: &mut Ctl) -> Option<u128>
 }
 
 /// The controller of an image with one empty file, for one library of uid 0.
-pub fn one_file(alloc: Global) -> Option<Ctl>
+fn one_file(alloc: Global) -> Option<Ctl>
     ensures none { IfSome result (λ ctl. (lib : AnyLib) → OutAlike (out_of ctl.state lib) nothing_out) }
     ensures one { IfSome result (λ ctl. length ctl.state.creds ≡ 1) }
     ensures idle { IfSome result NoneBegun }
-    ensures log { IfSome result (λ ctl. ctl.log ≡ []) }
 {
     let libs = vec![in alloc; Creds { uid: 0, gid: 0 }].ok()?;
     let image = image_of(alloc, &[root(), regular(2, 1, b"f", b"")])?;

@@ -1,5 +1,5 @@
-//! What the benchmark programs have in common: their words, the times that a clock tells, the least of
-//! some rounds, and how often one time goes into another.
+//! What the benchmark programs have in common: their words, images of a few files, the times that a clock
+//! tells, the least of some rounds, and how often one time goes into another.
 #![tactic(auto)]
 
 ghost use Rattle.std.specs.Prelude.{◌≡◌};
@@ -9,6 +9,9 @@ use std::alloc::Global;
 use std::rt::{Clock, Env};
 use std::time::Instant;
 use std::{env, fmt, io};
+use trio_image::{Image, load};
+use trio_io::SureFiles;
+use trio_samples::{Sample, SampleFile};
 
 /// The words that the process was given, the program's name first.
 pub fn words_given<R: Env + AllocGlobal>(rt: &R) -> io::Result<Vec<String>> {
@@ -17,6 +20,36 @@ pub fn words_given<R: Env + AllocGlobal>(rt: &R) -> io::Result<Vec<String>> {
         words.push(word)?;
     }
     Ok(words)
+}
+
+/// The name of the file that an image is loaded from.
+const NAME: &str = "a.img";
+
+/// The image of these files, of 1,024 pages and 64 inode numbers.
+pub fn image_of(alloc: Global, files: &[SampleFile]) -> Option<Image> {
+    let bytes = bytes_of(alloc, files)?;
+    let mut held = held(alloc, bytes)?;
+    if held.serves(NAME) {
+        load(alloc, &mut held, NAME).ok()
+    } else {
+        None
+    }
+}
+
+fn bytes_of(alloc: Global, files: &[SampleFile]) -> Option<Vec<u8>> {
+    Sample::of(alloc, 1024, 64, files).ok()?.bytes(alloc).ok()
+}
+
+/// The one file that is served, with these bytes.
+fn held(alloc: Global, bytes: Vec<u8>) -> Option<SureFiles> {
+    let mut files = empty_file(alloc)?;
+    files.hold(NAME, bytes);
+    Some(files)
+}
+
+fn empty_file(alloc: Global) -> Option<SureFiles> {
+    let names = vec![in alloc; String::from_str(alloc, NAME).ok()?].ok()?;
+    SureFiles::new(alloc, names).ok()
 }
 
 /// What the clock tells. `None` where it tells nothing.

@@ -1,10 +1,10 @@
 //! What a grant costs at a seat, beside the same at the controller itself.
 
-ghost use Rattle.std.specs.Prelude.{◌≡◌, IfSome, length};
+ghost use Rattle.std.specs.Prelude.{◌≡◌, [], IfSome, length};
 ghost use Rattle.trio_ctl.specs.Ctl.{NoneBegun};
 ghost use Rattle.trio_shared.specs.Seats.{IsIdle, IsSeatOf};
 
-use crate::sessions::one_file;
+use crate::starting::started;
 use std::alloc::Global;
 use std::io;
 use std::rt::Clock;
@@ -14,7 +14,9 @@ use trio_ctl::{Ctl, PlainDesk};
 use trio_desk::Desk;
 use trio_lease::Lease;
 use trio_nodes::GrantKind;
-use trio_rights::LibNo;
+use trio_rights::{Creds, LibNo};
+use trio_samples::files::root;
+use trio_samples::regular;
 use trio_shared::{LibSeat, SeatDesk, Shared};
 
 /// The fastest of so many rounds counts.
@@ -81,6 +83,16 @@ fn nanos_on<R: Clock>(rt: &R, ctl: &mut Ctl, count: u64) -> Option<u128>
 {
     let mut desk = PlainDesk::of(ctl, LibNo(1));
     nanos_at(rt, &mut desk, count)
+}
+
+/// The controller of an image with one empty file, for one library of uid 0.
+fn one_file(alloc: Global) -> Option<Ctl>
+    ensures one { IfSome result (λ ctl. length ctl.state.creds ≡ 1) }
+    ensures idle { IfSome result NoneBegun }
+    ensures log { IfSome result (λ ctl. ctl.log ≡ []) }
+{
+    let libs = vec![in alloc; Creds { uid: 0, gid: 0 }].ok()?;
+    started(alloc, &[root(), regular(FILE, 1, b"f", b"")], libs)
 }
 
 /// A shared controller with the seat of its one library.

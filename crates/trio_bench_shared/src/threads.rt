@@ -1,13 +1,13 @@
 //! What four libraries take with a thread each, beside the same in rounds on one thread.
 
-ghost use Rattle.std.specs.Prelude.{◌≡◌, ◌≤◌, [], IfSome, length};
+ghost use Rattle.std.specs.Prelude.{◌≡◌, ◌≤◌, [], IfSome, length, vec_len};
 ghost use Rattle.trio_state.specs.Kept.{Kept};
 ghost use Rattle.trio_state.specs.Run.{start};
 ghost use Rattle.trio_ctl.specs.Ctl.{NoneBegun};
 ghost use Rattle.trio_script.specs.Within.{AreWithin};
 ghost use Rattle.trio_runner.specs.Play.{creds_in};
 
-use crate::starting::{image_of, started};
+use crate::starting::started;
 use std::alloc::Global;
 use std::io;
 use std::rt::Clock;
@@ -15,9 +15,9 @@ use std::sync::Wait;
 use std::thread::Threads;
 use trio_bench_common::{Times, least, nanos_since, now};
 use trio_ctl::Ctl;
-use trio_image::Image;
 use trio_io::OpenGate;
 use trio_page::NoMemory;
+use trio_rights::Creds;
 use trio_runner::{creds_of, play, run};
 use trio_samples::files::root;
 use trio_samples::regular;
@@ -225,12 +225,22 @@ fn four_files(alloc: Global, libs: &[ScriptLib]) -> Option<Ctl>
     ensures kept { IfSome result (λ ctl. Kept ctl.state) }
     ensures idle { IfSome result NoneBegun }
 {
-    let creds = creds_of(alloc, libs).ok()?;
-    let image = four_image(alloc)?;
-    started(alloc, image, creds)
+    match creds_of(alloc, libs) {
+        Ok(creds) => four_started(alloc, creds),
+        Err(NoMemory) => None,
+    }
 }
 
-fn four_image(alloc: Global) -> Option<Image> {
+/// The same, for libraries of these credentials.
+fn four_started(alloc: Global, libs: Vec<Creds>) -> Option<Ctl>
+    requires some { 1 ≤ vec_len libs }
+    requires few { vec_len libs ≤ 16 }
+    ensures started { IfSome result (λ ctl. ctl.state ≡ start ctl.state.home libs.items) }
+    ensures first { IfSome result (λ ctl. ctl.first ≡ ctl.state.home) }
+    ensures log { IfSome result (λ ctl. ctl.log ≡ []) }
+    ensures kept { IfSome result (λ ctl. Kept ctl.state) }
+    ensures idle { IfSome result NoneBegun }
+{
     let files = [
         root(),
         regular(2, 1, NAMES[0].as_bytes(), &BLOCK),
@@ -238,5 +248,5 @@ fn four_image(alloc: Global) -> Option<Image> {
         regular(4, 1, NAMES[2].as_bytes(), &BLOCK),
         regular(5, 1, NAMES[3].as_bytes(), &BLOCK),
     ];
-    image_of(alloc, &files)
+    started(alloc, &files, libs)
 }

@@ -1,5 +1,5 @@
-use Rattle.trio_bench.proofs.Lending.{lease_is_out}
-use Rattle.trio_bench.proofs.seats.lend_once.Goals as goal
+use Rattle.trio_bench_shared.proofs.Lending.{lease_is_out}
+use Rattle.trio_bench_shared.proofs.seats.lend_once.Goals as goal
 
 pub give_back-requires : goal.give_back-requires
 give_back-requires g c =
