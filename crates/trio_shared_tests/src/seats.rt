@@ -25,7 +25,9 @@ pub fn start(alloc: Global, image: Image, count: u32) -> Option<(Shared, Vec<Lib
     ensures { IfSome result (λ r. AreAll IsNew r.0 r.1.items) }
 {
     let libs = ROOTS[..count as usize].to_vec(alloc).ok()?;
-    let ctl = Ctl::start(alloc, image, libs).ok()?;
+    let Ok(ctl) = Ctl::start(alloc, image, libs) else {
+        return None;
+    };
     match Shared::start(alloc, ctl, count) {
         Ok(started) => Some(started),
         Err(_) => None,
