@@ -34,41 +34,44 @@ fn long_name(number: u32) -> Option<Name> {
     Name::read(&bytes).ok()
 }
 
-/// Adds the name at a place of an order, and tells whether it is new.
-fn adds(set: &mut NameSet, order: Order, place: u32) -> bool
+/// Adds the name at a place of an order, and answers its number.
+fn adds(set: &mut NameSet, order: Order, place: u32) -> Option<u32>
     requires place { place < COUNT }
     requires room { length set.old.names < set.old.room }
     ensures names { length set.new.names ≤ length set.old.names + 1 }
     ensures room { set.new.room ≡ set.old.room }
 {
     match long_name(number_at(order, place)) {
-        Some(name) => set.add(&name),
-        None => false,
+        Some(name) => Some(set.add(&name)),
+        None => None,
     }
 }
 
-/// How many of the names are new where all are added in this order.
-fn count_new(set: &mut NameSet, order: Order) -> u32
+/// How many of the names have their place in this order as their number where all are added in it.
+fn count_placed(set: &mut NameSet, order: Order) -> u32
     requires { length set.old.names + 200 ≤ set.old.room }
     ensures names { length set.new.names ≤ length set.old.names + 200 }
     ensures room { set.new.room ≡ set.old.room }
 {
     let mut count = 0u32;
     for place in 0..COUNT {
-        if adds(set, order, place) {
+        if adds(set, order, place) == Some(place) {
             count = count.saturating_add(1);
         }
     }
     count
 }
 
-/// How many are new where they are added twice in one order, and then, once the set is cleared, twice
-/// in another.
+/// How many have their places as their numbers where they are added twice in one order, and then, once
+/// the set is cleared, twice in another.
 fn rounds(alloc: Global, first: Order, second: Order) -> Option<(u32, u32, u32, u32)> {
     let mut set = NameSet::with(alloc, 2 * COUNT).ok()?;
-    let before = (count_new(&mut set, first), count_new(&mut set, first));
+    let before = (count_placed(&mut set, first), count_placed(&mut set, first));
     set.clear();
-    let after = (count_new(&mut set, second), count_new(&mut set, second));
+    let after = (
+        count_placed(&mut set, second),
+        count_placed(&mut set, second),
+    );
     Some((before.0, before.1, after.0, after.1))
 }
 
@@ -79,9 +82,9 @@ const ORDERS: &[(Order, Order)] = &[
 ];
 
 #[test]
-fn a_name_is_new_once_until_the_set_is_cleared(rt: HostRuntime) {
+fn a_name_met_again_has_the_number_it_had_until_the_set_is_cleared(rt: HostRuntime) {
     for (i, (first, second)) in ORDERS.iter().enumerate() {
         let counts = rounds(rt.alloc(), *first, *second);
-        assert!(rt; counts == Some((COUNT, 0, COUNT, 0)), "row {i}");
+        assert!(rt; counts == Some((COUNT, COUNT, COUNT, COUNT)), "row {i}");
     }
 }

@@ -1,7 +1,8 @@
 -- A name that is looked for among others, one after another.
-use Rattle.std.proofs.Common.{◌≡◌, ℕ, suc, ◌+◌, ◌<◌, true, false, List, [], ◌∷◌, length, Option, None, Some, inl, inr, refl, sym, subst, arith, below_more}
+use Rattle.std.proofs.Common.{◌≡◌, ℕ, suc, ◌+◌, ◌<◌, true, false, List, [], ◌∷◌, length, Option, None, Some, inl, inr, refl, sym, subst, arith, below_more, slice_get}
 use Rattle.std.specs.Str.{bytes_eq}
 use Rattle.std.proofs.lemmas.List.Folds.{list_any_at}
+use Rattle.std.proofs.lemmas.Option.{get_or_from_slice_get, slice_get_within}
 use Rattle.std.proofs.lemmas.Slice.Eq.{bytes_eq-Decides}
 use Rattle.trio_nameset.specs.declared.sorted.Position.{Position}
 use Rattle.trio_nameset.specs.declared.sorted.Position.TheVariants.{After}
@@ -12,6 +13,9 @@ use Rattle.trio_nameset.proofs.Links.{above_trans}
 
 pub contains_at : (name : List ℕ) (names : List (List ℕ)) (k : ℕ) → k < length names → nth names k ≡ name → contains name names ≡ true
 contains_at name names k lt e = list_any_at (λ n. bytes_eq n name) names k [] lt ((bytes_eq-Decides (nth names k) name).1 e)
+
+pub contains_read : (name : List ℕ) (names : List (List ℕ)) (k : ℕ) → slice_get names k ≡ Some name → contains name names ≡ true
+contains_read name names k e = contains_at name names k (slice_get_within names k name e) (get_or_from_slice_get names k name [] e)
 
 pub contains_none : (name : List ℕ) (names : List (List ℕ)) → ((k : ℕ) → k < length names → nth names k ≡ name → ⊥) → contains name names ≡ false
 contains_none name [] h = refl

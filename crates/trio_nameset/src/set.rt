@@ -1,16 +1,20 @@
 //! The set.
 
-ghost use Rattle.std.specs.Prelude.{◌≡◌, ◌<◌, ◌++◌, [], ◌∷◌, IfOk, not, if◌then◌else◌, length};
-ghost use Rattle.trio_nameset.specs.Names.{contains};
+ghost use Rattle.std.specs.Prelude.{◌≡◌, ◌<◌, ◌++◌, [], ◌∷◌, IfOk, Some, if◌then◌else◌, length, slice_get};
+ghost use Rattle.trio_nameset.specs.Names.{contains, AreApart};
 
 use crate::NoMemory;
-use crate::sorted::SortedNames;
-use crate::tree::Tree;
+use crate::sorted::{self, SortedNames};
+use crate::tree::{self, Tree};
 use std::alloc::Global;
 use std::marker::Model;
 use trio_names::Name;
 
-/// A set of names, with room for a number of them that is fixed when it is made.
+/// How many bytes a set takes for each name that it has room for.
+pub const NAME_BYTES: usize = sorted::NAME_BYTES + tree::NODE_BYTES;
+
+/// A set of names, with room for a number of them that is fixed when it is made. Names are numbered
+/// from 0 on, in the order in which they were added.
 ///
 /// What it answers rests on the names in their byte order alone. Where a name stands in that order
 /// is told by a tree, and what the tree tells is checked by comparing the name with its two
@@ -44,21 +48,26 @@ impl NameSet {
         })
     }
 
-    /// Adds a name, and answers whether it is new. There is room for one more.
-    pub fn add(&mut self, name: &Name) -> bool
+    /// Adds a name where it isn't there yet, and answers its number. There is room for one more.
+    pub fn add(&mut self, name: &Name) -> u32
         requires { length self.old.names < self.old.room }
-        ensures new { result ≡ not (contains name.now self.old.names) }
-        ensures names { self.new.names ≡ (if result then self.old.names ++ name.now ∷ [] else self.old.names) }
+        ensures number { slice_get self.new.names result ≡ Some name.now }
+        ensures names { self.new.names ≡ (if contains name.now self.old.names then self.old.names else self.old.names ++ name.now ∷ []) }
         ensures room { self.new.room ≡ self.old.room }
+        ensures apart { AreApart self.new.names }
     {
         let hint = self.tree.seek(&self.sorted.names, name);
         match self.sorted.position(name, hint) {
-            Some(at) => {
-                self.sorted.insert(at, name);
-                true
-            }
-            None => false,
+            Ok(at) => self.sorted.insert(at, name),
+            Err(number) => number,
         }
+    }
+
+    /// A fact, and no step: equal names have equal numbers.
+    pub fn are_apart(&self)
+        ensures { AreApart self.now.names }
+    {
+        let _sorted = &self.sorted;
     }
 
     /// Takes all names out.

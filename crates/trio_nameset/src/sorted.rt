@@ -1,6 +1,6 @@
 //! Names in byte order: a list that is linked by index.
 
-ghost use Rattle.std.specs.Prelude.{◌≡◌, ◌<◌, ◌++◌, [], ◌∷◌, ◌↔◌, IfOk, IfSome, IsTrue, is_some, not};
+ghost use Rattle.std.specs.Prelude.{◌≡◌, ◌<◌, ◌++◌, [], ◌∷◌, ◌↔◌, IfOk, IfSome, IsTrue, MatchResult, Some, is_ok, not, slice_get};
 ghost use Rattle.std.specs.Vec.{vec_len};
 ghost use Rattle.trio_nameset.specs.Names.{contains};
 ghost use Rattle.trio_nameset.specs.inner.Sorted.{IsSorted, IsWithin, IsAbove, IsBelow, IsPlace, link_at};
@@ -9,6 +9,9 @@ use crate::NoMemory;
 use std::alloc::Global;
 use std::cmp::Ordering;
 use trio_names::Name;
+
+/// How many bytes there are for each name that there is room for.
+pub(crate) const NAME_BYTES: usize = size_of::<Name>() + size_of::<Option<u32>>();
 
 /// A position in byte order.
 #[derive(Clone, Copy)]
@@ -43,28 +46,27 @@ impl SortedNames {
         })
     }
 
-    /// The position of a name that is not among these; `None` where it is.
+    /// The position of a name that is not among these, or the index of one that is.
     ///
     /// Where the hint is that position, or that of the name itself, this takes three comparisons.
-    pub fn position(&self, name: &Name, hint: Position) -> Option<Position>
+    pub fn position(&self, name: &Name, hint: Position) -> Result<Position, u32>
         requires { IsSorted self.now }
-        ensures place { IfSome result (IsPlace self.now name.now) }
-        ensures new { is_some result ≡ not (contains name.now self.now.names.items) }
+        ensures place { MatchResult result (IsPlace self.now name.now) (λ n. slice_get self.now.names.items n ≡ Some name.now) }
+        ensures new { is_ok result ≡ not (contains name.now self.now.names.items) }
     {
-        if self.is_at(name, hint) {
-            None
-        } else if self.fits(name, hint) {
-            Some(hint)
-        } else {
-            self.search(name)
+        match self.index_at(name, hint) {
+            Some(index) => Err(index),
+            None if self.fits(name, hint) => Ok(hint),
+            None => self.search(name),
         }
     }
 
-    /// Adds a new name at its position.
-    pub fn insert(&mut self, at: Position, name: &Name)
+    /// Adds a new name at its position, and answers its index.
+    pub fn insert(&mut self, at: Position, name: &Name) -> u32
         requires sorted { IsSorted self.old }
         requires place { IsPlace self.old name.now at }
         requires room { vec_len self.old.names < vec_len self.old.next }
+        ensures index { result ≡ vec_len self.old.names }
         ensures sorted { IsSorted self.new }
         ensures names { self.new.names.items ≡ self.old.names.items ++ name.now ∷ [] }
         ensures room { vec_len self.new.next ≡ vec_len self.old.next }
@@ -76,6 +78,7 @@ impl SortedNames {
             Position::Front => self.first = Some(new),
             Position::After(before) => self.next[before as usize] = Some(new),
         }
+        new
     }
 
     /// Takes all names out.
@@ -99,13 +102,17 @@ impl SortedNames {
         }
     }
 
-    // whether the name that the position follows is this one
-    fn is_at(&self, name: &Name, at: Position) -> bool
-        ensures { IsTrue result → IsTrue (contains name.now self.now.names.items) }
+    // the index of the name that the position follows, where it is this one
+    fn index_at(&self, name: &Name, at: Position) -> Option<u32>
+        ensures { IfSome result (λ n. slice_get self.now.names.items n ≡ Some name.now) }
     {
-        match at {
-            Position::Front => false,
-            Position::After(before) => self.names.get(before as usize) == Some(name),
+        let Position::After(before) = at else {
+            return None;
+        };
+        if *self.names.get(before as usize)? == *name {
+            Some(before)
+        } else {
+            None
         }
     }
 
@@ -120,16 +127,16 @@ impl SortedNames {
         }
     }
 
-    // looks at each name for the last one below this one
-    fn search(&self, name: &Name) -> Option<Position>
+    // looks at each name for this one, or the last one below it
+    fn search(&self, name: &Name) -> Result<Position, u32>
         requires { IsSorted self.now }
-        ensures place { IfSome result (IsPlace self.now name.now) }
-        ensures new { is_some result ≡ not (contains name.now self.now.names.items) }
+        ensures place { MatchResult result (IsPlace self.now name.now) (λ n. slice_get self.now.names.items n ≡ Some name.now) }
+        ensures new { is_ok result ≡ not (contains name.now self.now.names.items) }
     {
         let mut at = Position::Front;
         for (i, other) in self.names.iter().enumerate() {
             match other.cmp(name) {
-                Ordering::Equal => return None,
+                Ordering::Equal => return Err(i as u32),
                 Ordering::Greater => {}
                 Ordering::Less => {
                     if self.is_above(other, at) {
@@ -138,7 +145,7 @@ impl SortedNames {
                 }
             }
         }
-        Some(at)
+        Ok(at)
     }
 
     // whether the name is above the one that the position follows

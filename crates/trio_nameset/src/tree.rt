@@ -20,6 +20,9 @@ struct Node {
     above: Option<u32>,
 }
 
+/// How many bytes there are for each name that there is room for.
+pub(crate) const NODE_BYTES: usize = size_of::<Node>();
+
 const LEAF: Node = Node {
     below: None,
     above: None,

@@ -1,10 +1,13 @@
 use Rattle.std.proofs.Common.{not, sym, ap}
 use Rattle.trio_nameset.proofs.Links.{not_there}
-use Rattle.trio_nameset.proofs.Search.{contains_none}
+use Rattle.trio_nameset.proofs.Search.{contains_none, contains_read}
 use Rattle.trio_nameset.proofs.sorted.SortedNames.position.Goals as goal
 
-pub returns-then-fits-clause-new : goal.returns-then-fits-clause-new
-returns-then-fits-clause-new c =
+pub returns-in-Some-clause-new : goal.returns-in-Some-clause-new
+returns-in-Some-clause-new c = sym (ap not (contains_read c.args.name.now c.args.self.now.names.items c.in-Some.index c.in-Some.ensures))
+
+pub returns-in-None-clause-new : goal.returns-in-None-clause-new
+returns-in-None-clause-new c =
     let s = c.args.self.now in
     let name = c.args.name.now in
     let place = c.fits.ensures c.if-fits.true in

@@ -1,12 +1,21 @@
-use Rattle.std.proofs.Common.{◌≡◌, ◌∙◌, ℕ, ◌+◌, Bool, true, false, List, [], not, sym, ap, subst, arith}
+use Rattle.std.proofs.Common.{◌≡◌, ◌∙◌, ℕ, ◌+◌, Bool, true, false, List, [], Some, not, sym, ap, subst, arith}
 use Rattle.std.specs.Ordering.{nat_cmp}
 use Rattle.std.specs.Cmp.Lexicographic.{slice_cmp}
 use Rattle.std.proofs.lemmas.List.{get_or_read}
+use Rattle.std.proofs.lemmas.Option.{slice_get-get_or}
 use Rattle.trio_nameset.specs.inner.Sorted.{nth, IsAbove}
 use Rattle.trio_nameset.proofs.Less.{equal_same, less_not_same, greater_not_less, greater_not_same}
 use Rattle.trio_nameset.proofs.Search.{contains_at, contains_none, IsSearched, searched_later, searched_more, searched_all}
 use Rattle.trio_nameset.proofs.sorted.SortedNames.search.Goals as goal
 use Rattle.trio_nameset.proofs.sorted.SortedNames.search.Goals.{in-Greater, in-Less+then-is_above, in-Less+else-is_above}
+
+pub returns-in-Equal-clause-place : goal.returns-in-Equal-clause-place
+returns-in-Equal-clause-place c =
+    let names = c.args.self.now.names.items in
+    let here : c.other-item.result ≡ nth names c.loop-i.i =
+    get_or_read _ _ _ c.loop-i-test.true c.other-item.is [] ∙ ap (λ ns. nth ns c.loop-i.i) c.deref-other-items.ensures.value in
+    let same = sym here ∙ equal_same c.other-item.result c.args.name.now (sym c.cmp.ensures ∙ c.in-Equal.is) in
+    slice_get-get_or names c.loop-i.i [] (omega arith) ∙ ap Some same
 
 pub returns-in-Equal-clause-new : goal.returns-in-Equal-clause-new
 returns-in-Equal-clause-new c =
