@@ -1,12 +1,9 @@
 -- What is gathered of a list, a part at a time, up to the first fault.
-use Rattle.std.proofs.Common.{◌≡◌, ℕ, suc, zero, ◌+◌, ◌-◌, ◌*◌, ◌<◌, ◌≤◌, List, [], ◌∷◌, ◌++◌, length, map, get_or, take, drop, Result, Ok, Err, sym, refl, ap, ◌∙◌, append_assoc, arith, inl, inr}
+use Rattle.std.proofs.Common.{◌≡◌, ℕ, suc, zero, ◌+◌, ◌-◌, ◌*◌, ◌<◌, ◌≤◌, List, [], ◌∷◌, ◌++◌, length, get_or, take, drop, Result, Ok, Err, sym, refl, ap, ◌∙◌, append_assoc, arith, inl, inr}
 use Rattle.std.proofs.lemmas.List.{append-nil, take_more, take-append-drop, drop-take, drop-drop}
 use Rattle.std.proofs.lemmas.Bool.{cases_eq}
 use Rattle.std.specs.List.{flat_map}
-use Rattle.std.proofs.lemmas.List.{map-append, take_rest, take-take}
-use Rattle.std.proofs.Math.Seq.{drop-append_seam}
-use Rattle.trio_case.specs.declared.entries.DirEntry.{DirEntry}
-use Rattle.trio_case.specs.Reading.{listed_seen}
+use Rattle.std.proofs.lemmas.List.{take_rest, take-take}
 use Rattle.trio_lists.specs.Lists.{In, both, gathered, gathered_below}
 use Rattle.trio_layout.specs.Core.{Location}
 use Rattle.trio_layout.specs.Slot.{slot_of}
@@ -25,10 +22,6 @@ both-nil_left (Ok ys) = refl
 both-nil_right : {X E : Type 0} (q : Result (List X) E) → both q (Ok []) ≡ q
 both-nil_right (Err e) = refl
 both-nil_right (Ok ys) = ap Ok (append-nil ys)
-
-pub fault_behind : {X E : Type 0} (before : List X) (q : Result (List X) E) (e : E) → both (Ok before) q ≡ Err e → q ≡ Err e
-fault_behind before (Err e') e h = cc
-fault_behind before (Ok ys) e h = cc
 
 gathered-append : {X Y E : Type 0} (f : X → Result (List Y) E) (xs ys : List X) → gathered f (xs ++ ys) ≡ both (gathered f xs) (gathered f ys)
 gathered-append f [] ys = sym (both-nil_left (gathered f ys))
@@ -57,26 +50,26 @@ gathered_below_fault f n (suc m) e h k =
       | inr differ ↦ ap (λ q. both q (f m)) (gathered_below_fault f n m e (omega arith) k)
     ]
 
--- one number more, after what was there before
-pub gathered_below_more : {Y E : Type 0} (f : ℕ → Result (List Y) E) (n : ℕ) (before now : List Y) → both (Ok before) (gathered_below f n) ≡ Ok now → both (Ok before) (gathered_below f (n + 1)) ≡ both (Ok now) (f n)
-gathered_below_more f n before now e =
+-- one number more
+pub gathered_below_more : {Y E : Type 0} (f : ℕ → Result (List Y) E) (n : ℕ) (now : List Y) → gathered_below f n ≡ Ok now → gathered_below f (n + 1) ≡ both (Ok now) (f n)
+gathered_below_more f n now e =
     let s : n + 1 ≡ suc n = omega arith in
-    ap (λ k. both (Ok before) (gathered_below f k)) s ∙ sym (both_assoc (Ok before) (gathered_below f n) (f n)) ∙ ap (λ q. both q (f n)) e
+    ap (gathered_below f) s ∙ ap (λ q. both q (f n)) e
 
 -- after the last slot
-pub entries_on_all : (inodes page : ℕ) (bytes : List ℕ) (n : ℕ) (before now : List Listed) → 16 ≤ n → n ≤ 16 → both (Ok before) (gathered_below (slot_entries inodes page bytes) n) ≡ Ok now → both (Ok before) (entries_on inodes page bytes) ≡ Ok now
+pub entries_on_all : (inodes page : ℕ) (bytes : List ℕ) (n : ℕ) (now : List Listed) → 16 ≤ n → n ≤ 16 → gathered_below (slot_entries inodes page bytes) n ≡ Ok now → entries_on inodes page bytes ≡ Ok now
 unfolding entries_on
-entries_on_all inodes page bytes n before now h k e =
+entries_on_all inodes page bytes n now h k e =
     let s : n ≡ 16 = omega arith in
-    ap (λ m. both (Ok before) (gathered_below (slot_entries inodes page bytes) m)) (sym s) ∙ e
+    ap (λ m. gathered_below (slot_entries inodes page bytes) m) (sym s) ∙ e
 
 -- a slot that is outside the grammar
-pub entries_on_fault : (inodes page : ℕ) (bytes : List ℕ) (n : ℕ) (before now : List Listed) (e : Location) → n < 16 → both (Ok now) (slot_entries inodes page bytes n) ≡ Err e → both (Ok before) (gathered_below (slot_entries inodes page bytes) n) ≡ Ok now → both (Ok before) (entries_on inodes page bytes) ≡ Err e
+pub entries_on_fault : (inodes page : ℕ) (bytes : List ℕ) (n : ℕ) (now : List Listed) (e : Location) → n < 16 → slot_entries inodes page bytes n ≡ Err e → gathered_below (slot_entries inodes page bytes) n ≡ Ok now → entries_on inodes page bytes ≡ Err e
 unfolding entries_on
-entries_on_fault inodes page bytes n before now e h bad k =
+entries_on_fault inodes page bytes n now e h bad k =
     let f : ℕ → Result (List Listed) Location = slot_entries inodes page bytes in
-    let here : gathered_below f (n + 1) ≡ Err e = fault_behind before (gathered_below f (n + 1)) e (gathered_below_more f n before now k ∙ bad) in
-    ap (both (Ok before)) (gathered_below_fault f (n + 1) 16 e (omega arith) here)
+    let here : gathered_below f (n + 1) ≡ Err e = gathered_below_more f n now k ∙ ap (both (Ok now)) bad in
+    gathered_below_fault f (n + 1) 16 e (omega arith) here
 
 -- the body in a slot is the last of the slot's bytes
 body_is : (slot : ℕ) (bytes : List ℕ) → drop 192 (slot_bytes slot bytes) ≡ body_in_slot slot bytes
@@ -89,24 +82,13 @@ body_is slot bytes =
 pub slot_is : (inodes page slot : ℕ) (bytes part : List ℕ) → part ≡ slot_bytes slot bytes → listed_at page slot (drop 192 part) (slot_of inodes part) ≡ slot_entries inodes page bytes slot
 slot_is inodes page slot bytes part e = rw (e, body_is slot bytes) refl
 
--- what comes behind is the rest
-both_rest : {X E : Type 0} (xs ys : List X) (r : Result (List X) E) → both (Ok xs) r ≡ Ok (xs ++ ys) → r ≡ Ok ys
-both_rest xs ys (Err e) h = absurd cc
-both_rest xs ys (Ok zs) h =
-    let same : xs ++ zs ≡ xs ++ ys = cc in
-    ap Ok (sym (drop-append_seam xs zs) ∙ ap (drop (length xs)) same ∙ drop-append_seam xs ys)
-
 -- a front of a front
 pub take_before : {X : Type 0} (n m : ℕ) (now after before : List X) → n ≤ m → take m after ≡ now → take n now ≡ before → take n after ≡ before
 take_before n m now after before h p q = sym (take-take n m after h) ∙ ap (take n) p ∙ q
 
--- the entries of a page are those behind the ones that were there
-pub entries_behind : (inodes page n m : ℕ) (bytes : List ℕ) (old new : List DirEntry) → n ≡ length old → m ≡ length new → take n new ≡ old → both (Ok (map listed_seen old)) (entries_on inodes page bytes) ≡ Ok (map listed_seen new) → entries_on inodes page bytes ≡ Ok (map listed_seen (take (m - n) (drop n new)))
-entries_behind inodes page n m bytes old new a b h e =
-    let rest : take (m - n) (drop n new) ≡ drop n new = ap (λ k. take (k - n) (drop n new)) b ∙ take_rest new n in
-    let whole : map listed_seen new ≡ map listed_seen old ++ map listed_seen (drop n new) =
-    ap (map listed_seen) (sym (take-append-drop n new) ∙ ap (λ x. x ++ drop n new) h) ∙ map-append listed_seen old (drop n new) in
-    both_rest (map listed_seen old) (map listed_seen (drop n new)) (entries_on inodes page bytes) (e ∙ ap Ok whole) ∙ ap (λ x. Ok (map listed_seen x)) (sym rest)
+-- a part that ends with its list
+pub rest_is : {X : Type 0} (n m : ℕ) (xs : List X) → m ≡ length xs → take (m - n) (drop n xs) ≡ drop n xs
+rest_is n m xs e = ap (λ k. take (k - n) (drop n xs)) e ∙ take_rest xs n
 
 -- each gives a list
 pub gathered_all : {X Y E : Type 0} (f : X → Result (List Y) E) (g : X → List Y) (xs : List X) → ((x : X) → In x xs → f x ≡ Ok (g x)) → gathered f xs ≡ Ok (flat_map g xs)

@@ -1,25 +1,30 @@
 -- What is kept of one page more.
-use Rattle.std.proofs.Common.{◌≡◌, ℕ, suc, zero, ◌+◌, ◌≤◌, Bool, true, false, not, List, [], ◌∷◌, ◌++◌, length, set, take, drop, map, Option, None, Some, cond, sym, refl, ap, ◌∙◌, arith, inl, inr}
+use Rattle.std.proofs.Common.{◌≡◌, ℕ, suc, zero, ◌+◌, ◌≤◌, Bool, true, false, not, List, [], ◌∷◌, ◌++◌, length, set, take, drop, map, get_or, Option, None, Some, Result, Ok, Err, cond, sym, refl, ap, ◌∙◌, append_assoc, arith, inl, inr}
 use Rattle.std.specs.Prelude.{⊤, count_by, is_some, slice_get, MatchOption}
 use Rattle.std.specs.Option.{option_and_then, option_map_or}
 use Rattle.std.proofs.lemmas.Bool.{cases_eq}
 use Rattle.std.proofs.lemmas.List.Sums.{sum_by-cons, sum_by-set}
 use Rattle.std.proofs.lemmas.Option.{get_or_from_slice_get, slice_get_within}
-use Rattle.std.proofs.lemmas.List.{take-append-le, take-append-drop, drop-append-le, length-drop, length-append}
+use Rattle.std.proofs.lemmas.List.{get_or_append_left, map-append, take_all, take-append-le, take-append-drop, drop-append-le, length-drop, length-append}
+use Rattle.std.proofs.Math.Seq.{drop-append_seam}
 use Rattle.trio_layout.specs.declared.range.CoreRange.{CoreRange}
+use Rattle.trio_lists.specs.Lists.{In}
+use Rattle.trio_lists.proofs.Members.{In-cases}
 use Rattle.trio_layout.specs.Core.{page_of}
+use Rattle.trio_layout.specs.Entries.{Listed, entries_on}
 use Rattle.trio_layout.specs.Case.{bundle_core}
 use Rattle.trio_case.specs.Cases.{CaseShown, case_in}
 use Rattle.trio_case.specs.Places.{bytes_at}
 use Rattle.trio_case.specs.Order.{place_of}
-use Rattle.trio_case.specs.Reading.{listed_seen}
+use Rattle.trio_case.specs.Reading.{listed_seen, place_seen, AreNamed}
 use Rattle.trio_case.specs.declared.entries.DirEntry.{DirEntry}
+use Rattle.trio_case.specs.declared.entries.FaultPlace.{FaultPlace}
 use Rattle.trio_case.specs.declared.kept.KeptPages.{KeptPages}
 use Rattle.trio_case.specs.declared.kept.KeptPage.{KeptPage}
 use Rattle.trio_case.specs.declared.kept.KeptIndex.{KeptIndex}
 use Rattle.trio_case.specs.declared.kept.Span.{Span}
-use Rattle.trio_case.specs.Rooms.{part, unread_blocks, unread_index, IsKept, KeepsPages, SaysEntries, SaysIndex}
-use Rattle.trio_case.specs.inner.Steps.{IsDone, StandsAt}
+use Rattle.trio_case.specs.Rooms.{entries_said, part, unread_blocks, unread_index, IsKept, KeepsPages, SaysBlock, SaysEntries, SaysIndex}
+use Rattle.trio_case.specs.inner.Steps.{BlockAnswer, IsDone, IsFront, StandsAt}
 
 -- ---- lists
 
@@ -85,20 +90,38 @@ index_grown range ns more bytes i h = record {
   says = rw (part-grown i.numbers ns more h.within) h.says;
 }
 
-entries_grown : (inodes page : ℕ) (es more : List DirEntry) (bytes : List ℕ) (s : Span) → SaysEntries inodes page es bytes s → SaysEntries inodes page (es ++ more) bytes s
-entries_grown inodes page es more bytes s h = record {
+-- a name that is there stays as more names come
+pub names_grown : (names more : List (List ℕ)) (es : List DirEntry) → AreNamed names es → map (listed_seen (names ++ more)) es ≡ map (listed_seen names) es
+names_grown names more [] h = refl
+names_grown names more (e ∷ es) h =
+    let seen : List ℕ → Listed = λ n. record { entry = record { ino = e.ino; kind = e.kind; name = n }; page = e.page; slot = e.slot; body = e.body } in
+    let name : get_or (names ++ more) e.name [] ≡ get_or names e.name [] = get_or_append_left names more [] e.name (h e (inl refl)) in
+    let rest = names_grown names more es (λ l i. h l (inr i)) in
+    ap (λ n. seen n ∷ map (listed_seen (names ++ more)) es) name ∙ ap (λ ls. listed_seen names e ∷ ls) rest
+
+entries_grown : (inodes page : ℕ) (names new : List (List ℕ)) (es more : List DirEntry) (bytes : List ℕ) (s : Span) → SaysEntries inodes page names es bytes s → SaysEntries inodes page (names ++ new) (es ++ more) bytes s
+entries_grown inodes page names new es more bytes s h = record {
   within = rw length-append (omega (arith, h.within));
-  says = rw (part-grown s es more h.within) h.says;
+  named = λ l i. (let there : In l (part s es) = rw (part-grown s es more h.within) at i in omega (arith, h.named l there, length-append names new));
+  says = h.says ∙ ap Ok (sym (names_grown names new (part s es) h.named) ∙ ap (map (listed_seen (names ++ new))) (sym (part-grown s es more h.within)));
 }
 
--- both lists went on
-abbrev pub Grows : KeptPages → KeptPages → Type 0
-Grows old new =
-    (es : List DirEntry) × (ns : List ℕ) × (new.entries.items ≡ old.entries.items ++ es) × (new.numbers.items ≡ old.numbers.items ++ ns)
+block_grown : (inodes page : ℕ) (names new : List (List ℕ)) (es more : List DirEntry) (bytes : List ℕ) (r : Result Span FaultPlace) → SaysBlock inodes page names es bytes r → SaysBlock inodes page (names ++ new) (es ++ more) bytes r
+block_grown inodes page names new es more bytes (Ok s) h = entries_grown inodes page names new es more bytes s h
+block_grown inodes page names new es more bytes (Err p) h = h
 
-entries_still : (inodes page : ℕ) (es more : List DirEntry) (bytes : List ℕ) (o : Option Span) → MatchOption o ⊤ (SaysEntries inodes page es bytes) → MatchOption o ⊤ (SaysEntries inodes page (es ++ more) bytes)
-entries_still inodes page es more bytes None h = h
-entries_still inodes page es more bytes (Some s) h = entries_grown inodes page es more bytes s h
+-- the lists went on
+pub record Grows (old new : KeptPages) : Type 0 where
+  pub more_entries : List DirEntry
+  pub more_numbers : List ℕ
+  pub more_names : List (List ℕ)
+  pub entries : new.entries.items ≡ old.entries.items ++ more_entries
+  pub numbers : new.numbers.items ≡ old.numbers.items ++ more_numbers
+  pub names : new.names.names ≡ old.names.names ++ more_names
+
+entries_still : (inodes page : ℕ) (names new : List (List ℕ)) (es more : List DirEntry) (bytes : List ℕ) (o : Option (Result Span FaultPlace)) → MatchOption o ⊤ (SaysBlock inodes page names es bytes) → MatchOption o ⊤ (SaysBlock inodes page (names ++ new) (es ++ more) bytes)
+entries_still inodes page names new es more bytes None h = h
+entries_still inodes page names new es more bytes (Some r) h = block_grown inodes page names new es more bytes r h
 
 index_still : (range : CoreRange) (ns more : List ℕ) (bytes : List ℕ) (o : Option KeptIndex) → MatchOption o ⊤ (SaysIndex range ns bytes) → MatchOption o ⊤ (SaysIndex range (ns ++ more) bytes)
 index_still range ns more bytes None h = h
@@ -109,8 +132,8 @@ kept_grown k old new p g h = record {
   bytes = h.bytes;
   stands = h.stands;
   here = h.here;
-  entries = rw g.2 (entries_still k.inodes p.no old.entries.items g.0 h.bytes p.entries h.entries);
-  index = rw g.3 (index_still k.range old.numbers.items g.1 h.bytes p.index h.index);
+  entries = rw (g.entries, g.names) (entries_still k.inodes p.no old.names.names g.more_names old.entries.items g.more_entries h.bytes p.entries h.entries);
+  index = rw g.numbers (index_still k.range old.numbers.items g.more_numbers h.bytes p.index h.index);
 }
 
 -- what is kept of a page
@@ -121,20 +144,27 @@ kept_at k kept page at p h s = rw s.page at (h.each at)
 pub number_is : (k : CaseShown) (kept : KeptPages) (page at : ℕ) (p : KeptPage) → KeepsPages k kept → StandsAt kept page at p → p.no ≡ page
 number_is k kept page at p h s = rw (s.listed, s.page) at (h.numbered page)
 
-says_under : (inodes n page : ℕ) (es : List DirEntry) (bytes : List ℕ) (o : Option Span) (s : Span) → o ≡ Some s → n ≡ page → MatchOption o ⊤ (SaysEntries inodes n es bytes) → SaysEntries inodes page es bytes s
-says_under inodes n page es bytes o s e f h = rw (e, f) at h
+says_under : (inodes n page : ℕ) (names : List (List ℕ)) (es : List DirEntry) (bytes : List ℕ) (o : Option (Result Span FaultPlace)) (r : Result Span FaultPlace) → o ≡ Some r → n ≡ page → MatchOption o ⊤ (SaysBlock inodes n names es bytes) → SaysBlock inodes page names es bytes r
+says_under inodes n page names es bytes o r e f h = rw (e, f) at h
 
-done_from : (k : CaseShown) (kept : KeptPages) (page at : ℕ) (p : KeptPage) (s : Span) (bytes : List ℕ) → page_of (bundle_core (case_in k)) page ≡ Some bytes → place_of page kept.order.items ≡ Some at → slice_get kept.pages.items at ≡ Some p → p.entries ≡ Some s → SaysEntries k.inodes page kept.entries.items bytes s → IsDone k kept page
+done_from : (k : CaseShown) (kept : KeptPages) (page at : ℕ) (p : KeptPage) (s : Span) (bytes : List ℕ) → page_of (bundle_core (case_in k)) page ≡ Some bytes → place_of page kept.order.items ≡ Some at → slice_get kept.pages.items at ≡ Some p → p.entries ≡ Some (Ok s) → SaysEntries k.inodes page kept.names.names kept.entries.items bytes s → IsDone k kept page
 done_from k kept page at p s bytes here listed stands read says = rw (here, listed, stands, read) says.says
 
--- a block whose entries are kept
-pub done_kept : (k : CaseShown) (kept : KeptPages) (page at : ℕ) (p : KeptPage) (s : Span) → KeepsPages k kept → StandsAt kept page at p → p.entries ≡ Some s → IsDone k kept page
-done_kept k kept page at p s h stands read =
+bad_from : (k : CaseShown) (kept : KeptPages) (page : ℕ) (place : FaultPlace) (bytes : List ℕ) → page_of (bundle_core (case_in k)) page ≡ Some bytes → entries_on k.inodes page bytes ≡ Err (place_seen place) → BlockAnswer {X = Span} k kept page (Err place)
+bad_from k kept page place bytes here says = rw here says
+
+-- a block that was read
+pub answer_kept : (k : CaseShown) (kept : KeptPages) (page at : ℕ) (p : KeptPage) (r : Result Span FaultPlace) → KeepsPages k kept → StandsAt kept page at p → p.entries ≡ Some r → BlockAnswer k kept page r
+answer_kept k kept page at p r h stands read =
     let own = kept_at k kept page at p h stands in
     let number = number_is k kept page at p h stands in
     let bytes : page_of (bundle_core (case_in k)) page ≡ Some own.bytes = ap (page_of (bundle_core (case_in k))) (sym number) ∙ own.here in
-    let says = says_under k.inodes p.no page kept.entries.items own.bytes p.entries s read number own.entries in
-    done_from k kept page at p s own.bytes bytes stands.listed stands.page read says
+    let says = says_under k.inodes p.no page kept.names.names kept.entries.items own.bytes p.entries r read number own.entries in
+    answer r bytes says read
+  where
+    answer : {bytes : List ℕ} (r : Result Span FaultPlace) → page_of (bundle_core (case_in k)) page ≡ Some bytes → SaysBlock k.inodes page kept.names.names kept.entries.items bytes r → p.entries ≡ Some r → BlockAnswer k kept page r
+    answer {bytes} (Ok s) here says read = done_from k kept page at p s bytes here stands.listed stands.page read says
+    answer {bytes} (Err place) here says read = bad_from k kept page place bytes here says
 
 module _ (k : CaseShown) (old new : KeptPages) (at : ℕ) (p q : KeptPage) (keeps : KeepsPages k old) (stands : StandsAt old p.no at p) (order : new.order ≡ old.order) (pages : new.pages.items ≡ set old.pages.items at q) (grows : Grows old new) (number : q.no ≡ p.no) (kept : IsKept k new q) where
   pages_still : List KeptPage
@@ -173,24 +203,41 @@ module _ (k : CaseShown) (old new : KeptPages) (at : ℕ) (p q : KeptPage) (keep
     each = each_at;
   }
 
-  span_same : (o : Option Span) (bytes : List ℕ) (page : ℕ) → MatchOption o ⊤ (SaysEntries k.inodes page old.entries.items bytes) → option_map_or (λ s. map listed_seen (part s new.entries.items)) o [] ≡ option_map_or (λ s. map listed_seen (part s old.entries.items)) o []
-  span_same None bytes page h = refl
-  span_same (Some s) bytes page h = ap (map listed_seen) (rw grows.2 (part-grown s old.entries.items grows.0 h.within))
+  said_same : (bytes : List ℕ) (page : ℕ) (r : Result Span FaultPlace) → SaysBlock k.inodes page old.names.names old.entries.items bytes r → entries_said new.names.names new.entries.items r ≡ entries_said old.names.names old.entries.items r
+  said_same bytes page (Ok s) h =
+      rw (grows.entries, grows.names)
+      (ap (map (listed_seen (old.names.names ++ grows.more_names))) (part-grown s old.entries.items grows.more_entries h.within) ∙ names_grown old.names.names grows.more_names (part s old.entries.items) h.named)
+  said_same bytes page (Err place) h = refl
 
-  page_same : (o : Option KeptPage) → MatchOption o ⊤ (IsKept k old) → option_map_or (λ s. map listed_seen (part s new.entries.items)) (option_and_then (λ x. x.entries) o) [] ≡ option_map_or (λ s. map listed_seen (part s old.entries.items)) (option_and_then (λ x. x.entries) o) []
+  span_same : (o : Option (Result Span FaultPlace)) (bytes : List ℕ) (page : ℕ) → MatchOption o ⊤ (SaysBlock k.inodes page old.names.names old.entries.items bytes) → option_map_or (entries_said new.names.names new.entries.items) o [] ≡ option_map_or (entries_said old.names.names old.entries.items) o []
+  span_same None bytes page h = refl
+  span_same (Some r) bytes page h = said_same bytes page r h
+
+  page_same : (o : Option KeptPage) → MatchOption o ⊤ (IsKept k old) → option_map_or (entries_said new.names.names new.entries.items) (option_and_then (λ x. x.entries) o) [] ≡ option_map_or (entries_said old.names.names old.entries.items) (option_and_then (λ x. x.entries) o) []
   page_same None h = refl
   page_same (Some x) h = span_same x.entries h.bytes x.no h.entries
 
-  done_at : (s : Span) → q.entries ≡ Some s → (page : ℕ) (o : Option ℕ) → place_of page old.order.items ≡ o → IsDone k old page → IsDone k new page
-  done_at s read page None e h = rw (order, e) (rw e at h)
-  done_at s read page (Some j) e h =
+  -- the page that was just read, which lists nothing where it is bad
+  done_here : (r : Result Span FaultPlace) → q.entries ≡ Some r → p.entries ≡ None → (page : ℕ) → place_of page old.order.items ≡ Some at → IsDone k old page → IsDone k new page
+  done_here (Ok s) read none page e h = answer_kept k new page at q (Ok s) keeps_set (record { listed = rw order e; page = here }) read
+  done_here (Err place) read none page e h = rw (order, e, here, read) (rw (e, stands.page, none) at h)
+
+  done_at : (r : Result Span FaultPlace) → q.entries ≡ Some r → p.entries ≡ None → (page : ℕ) (o : Option ℕ) → place_of page old.order.items ≡ o → IsDone k old page → IsDone k new page
+  done_at r read none page None e h = rw (order, e) (rw e at h)
+  done_at r read none page (Some j) e h =
       elim (cases_eq j at) [
-        | inl same ↦ done_kept k new page at q s keeps_set (record { listed = rw order (e ∙ ap Some same); page = here }) read
+        | inl same ↦ done_here r read none page (e ∙ ap Some same) h
         | inr differ ↦ rw (order, e, there j differ, page_same (slice_get old.pages.items j) (keeps.each j)) (rw e at h)
       ]
 
-  pub done_still : (s : Span) → q.entries ≡ Some s → (page : ℕ) → IsDone k old page → IsDone k new page
-  done_still s read page h = done_at s read page (place_of page old.order.items) refl h
+  pub done_still : (r : Result Span FaultPlace) → q.entries ≡ Some r → p.entries ≡ None → (page : ℕ) → IsDone k old page → IsDone k new page
+  done_still r read none page h = done_at r read none page (place_of page old.order.items) refl h
+
+-- the entries of a block that was read have names
+pub kept_named : (k : CaseShown) (kept : KeptPages) (page at : ℕ) (p : KeptPage) (s : Span) → KeepsPages k kept → StandsAt kept page at p → p.entries ≡ Some (Ok s) → AreNamed kept.names.names (part s kept.entries.items)
+kept_named k kept page at p s h stands read =
+    let own = kept_at k kept page at p h stands in
+    (says_under k.inodes p.no page kept.names.names kept.entries.items own.bytes p.entries (Ok s) read (number_is k kept page at p h stands) own.entries).named
 
 -- a page that wasn't read is counted
 pub index_unread : (kept : KeptPages) (at : ℕ) (p : KeptPage) → slice_get kept.pages.items at ≡ Some p → p.index ≡ None → 1 ≤ unread_index kept
@@ -203,12 +250,44 @@ pub none_there : {X : Type 0} (o : Option X) → false ≡ is_some o → o ≡ N
 none_there None h = refl
 none_there (Some x) h = absurd cc
 
--- the entries went on
-pub behind : (n : ℕ) (old new : List DirEntry) → n ≡ length old → take n new ≡ old → new ≡ old ++ drop n new
+-- a list went on
+pub behind : {X : Type 0} (n : ℕ) (old new : List X) → n ≡ length old → take n new ≡ old → new ≡ old ++ drop n new
 behind n old new e h = sym (take-append-drop n new) ∙ ap (λ x. x ++ drop n new) h
 
+-- entries went on, and names
+module _ (n m : ℕ) (now next : List DirEntry) (names after : List (List ℕ)) (few : n ≤ m) (whole : m ≡ length now) (front : take m next ≡ now) (names_front : IsFront names after) where
+  drop_more : drop n next ≡ drop n now ++ drop m next
+  drop_more = ap (drop n) (behind m now next whole front) ∙ drop-append-le n now (drop m next) (omega (arith, few, whole))
+
+  names_more : after ≡ names ++ drop (length names) after
+  names_more = behind (length names) names after refl names_front
+
+  pub seen_more : AreNamed names (drop n now) → map (listed_seen after) (drop n next) ≡ map (listed_seen names) (drop n now) ++ map (listed_seen after) (drop m next)
+  seen_more h =
+      let still = names_grown names (drop (length names) after) (drop n now) h in
+      ap (map (listed_seen after)) drop_more ∙ map-append (listed_seen after) (drop n now) (drop m next)
+      ∙ ap (λ ls. ls ++ map (listed_seen after) (drop m next)) (ap (λ ns. map (listed_seen ns) (drop n now)) names_more ∙ still)
+
+  pub named_more : AreNamed names (drop n now) → AreNamed after (drop m next) → AreNamed after (drop n next)
+  named_more old new = λ l i. elim (In-cases l (drop n now) (drop m next) (rw drop_more at i)) [
+    | inl before ↦ omega (arith, old l before, ap length names_more, length-append names (drop (length names) after))
+    | inr last ↦ new l last
+  ]
+
+-- one entry more is what comes behind
+pub last_is : (n : ℕ) (es : List DirEntry) (e : DirEntry) → n ≡ length es → drop n (es ++ e ∷ []) ≡ e ∷ []
+last_is n es e h = ap (λ m. drop m (es ++ e ∷ [])) h ∙ drop-append_seam es (e ∷ [])
+
+-- a front of a front
+pub front_trans : {X : Type 0} (first now next : List X) → IsFront first now → IsFront now next → IsFront first next
+front_trans first now next h g =
+    let a = behind (length first) first now refl h in
+    let c = behind (length now) now next refl g in
+    let whole : next ≡ first ++ (drop (length first) now ++ drop (length now) next) = c ∙ ap (λ x. x ++ drop (length now) next) a ∙ append_assoc first (drop (length first) now) (drop (length now) next) in
+    ap (take (length first)) whole ∙ take-append-le (length first) first (drop (length first) now ++ drop (length now) next) (omega arith) ∙ take_all (length first) first (omega arith)
+
 -- a block that was just read: what is kept, what was done, and what is left
-module _ (k : CaseShown) (old new : KeptPages) (page at : ℕ) (p q : KeptPage) (s : Span) (keeps : KeepsPages k old) (stands : StandsAt old page at p) (order : new.order ≡ old.order) (pages : new.pages.items ≡ set old.pages.items at q) (same : q ≡ record p { entries = Some s }) (grows : Grows old new) (says : (bytes : List ℕ) → bytes_at k.bundle p.place ≡ Some bytes → SaysEntries k.inodes p.no new.entries.items bytes s) where
+module _ (k : CaseShown) (old new : KeptPages) (page at : ℕ) (p q : KeptPage) (r : Result Span FaultPlace) (keeps : KeepsPages k old) (stands : StandsAt old page at p) (order : new.order ≡ old.order) (pages : new.pages.items ≡ set old.pages.items at q) (same : q ≡ record p { entries = Some r }) (unread : p.entries ≡ None) (grows : Grows old new) (says : (bytes : List ℕ) → bytes_at k.bundle p.place ≡ Some bytes → SaysBlock k.inodes p.no new.names.names new.entries.items bytes r) where
   was : IsKept k old p
   was = kept_at k old page at p keeps stands
 
@@ -231,9 +310,9 @@ module _ (k : CaseShown) (old new : KeptPages) (page at : ℕ) (p q : KeptPage) 
   block_keeps = keeps_set k old new at p q keeps own order pages grows (ap (λ x. x.no) same) kept
 
   pub block_others : (other : ℕ) → IsDone k old other → IsDone k new other
-  block_others = done_still k old new at p q keeps own order pages grows (ap (λ x. x.no) same) kept s (ap (λ x. x.entries) same)
+  block_others = done_still k old new at p q keeps own order pages grows (ap (λ x. x.no) same) kept r (ap (λ x. x.entries) same) unread
 
-  pub block_here : IsDone k new page
+  pub block_here : BlockAnswer k new page r
   block_here =
-      done_kept k new page at q s block_keeps
+      answer_kept k new page at q r block_keeps
       (record { listed = rw order stands.listed; page = rw pages (slice_get-set_same old.pages.items at p q stands.page) }) (ap (λ x. x.entries) same)

@@ -1,102 +1,116 @@
--- The table after one number more, and the words of a listing over the lists that keep it.
-use Rattle.std.proofs.Common.{◌≡◌, ◌<◌, ℕ, eqb, cond, Bool, true, false, ◌&&◌, ◌||◌, List, [], ◌∷◌, ◌++◌, length, map, get_or, slice_set, Option, Some, None, inl, inr, refl, sym, ap, ◌∙◌, arith}
+-- The table and the sets after one number more, and the words of a listing over the lists that keep it.
+use Rattle.std.proofs.Common.{◌≡◌, ◌+◌, ◌<◌, ◌≤◌, ℕ, zero, suc, eqb, cond, Bool, true, false, ◌&&◌, ◌||◌, List, [], ◌∷◌, ◌++◌, length, map, get_or, replicate, slice_get, slice_set, Option, Some, None, inl, inr, refl, sym, ap, ◌∙◌, subst, arith}
 use Rattle.std.specs.List.{find, list_any}
 use Rattle.std.specs.Option.{option_map, option_or}
-use Rattle.std.proofs.lemmas.List.{get_or-set_same, get_or-set_other, length-set}
-use Rattle.std.proofs.lemmas.List.Folds.{find-append, list_any-append}
+use Rattle.std.proofs.lemmas.List.{get_or_append_left, get_or-set_same, get_or-set_other, length-append, length-set}
+use Rattle.std.proofs.lemmas.List.Folds.{find-append}
+use Rattle.std.proofs.lemmas.Option.{slice_get-get_or}
 use Rattle.std.proofs.lemmas.Bool.{cases_eq}
 use Rattle.std.proofs.lemmas.Bool.Decides.{nat_tests}
-use Rattle.trio_layout.specs.Listing.{Listing, ListedFile, ListedEntry as EntryData}
-use Rattle.trio_layout.specs.Edges.{has_file, is_listed_kept}
-use Rattle.trio_case.specs.declared.listing.Known.{Known}
+use Rattle.trio_lists.specs.Lists.{is_among}
+use Rattle.trio_lists.proofs.Marked.{is_among-push}
+use Rattle.trio_layout.specs.Listing.{ListedFile, ListedEntry as EntryData}
 use Rattle.trio_case.specs.declared.listing.ListedEntry.{ListedEntry}
 use Rattle.trio_tables.specs.Row.{as_row}
 use Rattle.trio_case.specs.declared.listing.ListedFile.{ListedFile as FileData}
 use Rattle.trio_case.specs.Listed.{entry_seen}
-use Rattle.trio_case.specs.inner.Known.{known_of, nothing, entry_known, file_known, file_seen, first_dir, KnowsAll}
-
--- what is known of one number changes, and of no other
-knows_set : (known : List Known) (l l' : Listing) (i : ℕ) (k : Known) → KnowsAll known l → (i < length known → k ≡ known_of l' i) → ((n : ℕ) → (n ≡ i → ⊥) → known_of l' n ≡ known_of l n) → KnowsAll (slice_set known i k) l'
-knows_set known l l' i k all here other = λ n less.
-    let h : n < length known = omega (arith, less, length-set known i k) in
-    elim (cases_eq n i) [
-      | inl same ↦
-          let w : i < length known = omega (arith, h, same) in
-          ap (λ j. get_or (slice_set known i k) j nothing) same ∙ get_or-set_same known i k nothing w ∙ here w ∙ ap (known_of l') (sym same)
-      | inr differ ↦ get_or-set_other known i n k nothing differ ∙ all n h ∙ sym (other n differ)
-    ]
-
--- ---- one file more
-
-with_file : Listing → ListedFile → Listing
-with_file l f = record { held = l.held; files = l.files ++ f ∷ []; entries = l.entries }
-
-or_true : (b : Bool) → (b || (true || false)) ≡ true
-or_true true = refl
-or_true false = refl
-
-or_false : (b : Bool) → (b || (false || false)) ≡ b
-or_false true = refl
-or_false false = refl
-
-file-last : (l : Listing) (f : ListedFile) (n : ℕ) → list_any (λ (x : ListedFile). eqb x.ino n) (l.files ++ f ∷ []) ≡ (has_file l n || (eqb f.ino n || false))
-file-last l f n = list_any-append (λ (x : ListedFile). eqb x.ino n) l.files (f ∷ [])
-
-pub knows_file : (known : List Known) (l : Listing) (f : ListedFile) → KnowsAll known l → KnowsAll (slice_set known f.ino (file_known (get_or known f.ino nothing))) (record { held = l.held; files = l.files ++ f ∷ []; entries = l.entries })
-knows_file known l f all =
-    let l' : Listing = record { held = l.held; files = l.files ++ f ∷ []; entries = l.entries } in
-    knows_set known l l' f.ino (file_known (get_or known f.ino nothing)) all
-    (λ h.
-    let same : eqb f.ino f.ino ≡ true = grind (arith, nat_tests) in
-    let has : has_file l' f.ino ≡ true = file-last l f f.ino ∙ ap (λ b. has_file l f.ino || (b || false)) same ∙ or_true (has_file l f.ino) in
-    ap file_known (all f.ino h) ∙ rw has refl)
-    (λ n differ.
-    let other : eqb f.ino n ≡ false = grind (arith, nat_tests) in
-    let has : has_file l' n ≡ has_file l n = file-last l f n ∙ ap (λ b. has_file l n || (b || false)) other ∙ or_false (has_file l n) in
-    rw has refl)
+use Rattle.trio_case.specs.inner.Known.{file_seen, last_of, noted, IsFirst, KnowsFirst}
+use Rattle.trio_case.specs.inner.NumberSets.{HasJust, NumbersShown}
 
 -- ---- one entry more
 
-named_kept : (xs : Bool) (k : Bool) → (xs || ((true && k) || false)) ≡ (xs || k)
-named_kept true k = refl
-named_kept false true = refl
-named_kept false false = refl
+abbrev first_named : ℕ → List ListedEntry → Option ListedEntry
+first_named n es = find (λ (x : ListedEntry). eqb x.ino n) es
 
-other_kept : (xs : Bool) (k : Bool) → (xs || ((false && k) || false)) ≡ xs
-other_kept true k = refl
-other_kept false k = refl
+or_some : (o : Option ListedEntry) (e : ListedEntry) → o ≡ None → option_or o (Some e) ≡ Some e
+or_some None e h = refl
+or_some (Some x) e h = absurd cc
 
-or_some : (o : Option EntryData) (e : EntryData) → option_map (λ (x : EntryData). x.dir) (option_or o (Some e)) ≡ option_or (option_map (λ (x : EntryData). x.dir) o) (Some e.dir)
-or_some None e = refl
-or_some (Some x) e = refl
-
-or_none : (o : Option EntryData) → option_or o None ≡ o
+or_none : (o : Option ListedEntry) → option_or o None ≡ o
 or_none None = refl
 or_none (Some x) = refl
 
-pub knows_entry : (known : List Known) (l : Listing) (e : EntryData) → KnowsAll known l → KnowsAll (slice_set known e.ino (entry_known (get_or known e.ino nothing) e)) (record { held = l.held; files = l.files; entries = l.entries ++ e ∷ [] })
-knows_entry known l e all =
-    let l' : Listing = record { held = l.held; files = l.files; entries = l.entries ++ e ∷ [] } in
-    let kept-last : (n : ℕ) → is_listed_kept l' n ≡ (is_listed_kept l n || ((eqb e.ino n && e.kept) || false)) =
-    λ n. list_any-append (λ (x : EntryData). eqb x.ino n && x.kept) l.entries (e ∷ []) in
-    let dir-last : (n : ℕ) → first_dir l' n ≡ option_map (λ (x : EntryData). x.dir) (option_or (find (λ (x : EntryData). eqb x.ino n) l.entries) (cond (eqb e.ino n) (Some e) None)) =
-    λ n. ap (option_map (λ (x : EntryData). x.dir)) (find-append (λ (x : EntryData). eqb x.ino n) l.entries (e ∷ [])) in
-    knows_set known l l' e.ino (entry_known (get_or known e.ino nothing) e) all
-    (λ h.
-    let same : eqb e.ino e.ino ≡ true = grind (arith, nat_tests) in
-    let k : is_listed_kept l' e.ino ≡ (is_listed_kept l e.ino || e.kept) =
-    kept-last e.ino ∙ ap (λ b. is_listed_kept l e.ino || ((b && e.kept) || false)) same ∙ named_kept (is_listed_kept l e.ino) e.kept in
-    let d : first_dir l' e.ino ≡ option_or (first_dir l e.ino) (Some e.dir) =
-    dir-last e.ino ∙ ap (λ b. option_map (λ (x : EntryData). x.dir) (option_or (find (λ (x : EntryData). eqb x.ino e.ino) l.entries) (cond b (Some e) None))) same ∙ or_some _ e in
-    ap (λ (s : Known). entry_known s e) (all e.ino h) ∙ rw (k, d) refl)
-    (λ n differ.
-    let other : eqb e.ino n ≡ false = grind (arith, nat_tests) in
-    let k : is_listed_kept l' n ≡ is_listed_kept l n =
-    kept-last n ∙ ap (λ b. is_listed_kept l n || ((b && e.kept) || false)) other ∙ other_kept (is_listed_kept l n) e.kept in
-    let d : first_dir l' n ≡ first_dir l n =
-    dir-last n ∙ ap (λ b. option_map (λ (x : EntryData). x.dir) (option_or (find (λ (x : EntryData). eqb x.ino n) l.entries) (cond b (Some e) None))) other
-    ∙ ap (option_map (λ (x : EntryData). x.dir)) (or_none (find (λ (x : EntryData). eqb x.ino n) l.entries)) in
-    rw (k, d) refl)
+or_before : (o p : Option ListedEntry) (x : ListedEntry) → o ≡ Some x → option_or o p ≡ Some x
+or_before None p x h = absurd cc
+or_before (Some y) p x h = h
+
+slice_more : (xs : List ListedEntry) (x : ListedEntry) (i : ℕ) → i < length xs → slice_get (xs ++ x ∷ []) i ≡ slice_get xs i
+slice_more xs x i h =
+    slice_get-get_or (xs ++ x ∷ []) i x (omega (arith, h, length-append xs (x ∷ []))) ∙ ap (λ y. Some y) (get_or_append_left xs (x ∷ []) x i h) ∙ sym (slice_get-get_or xs i x h)
+
+slice_last : (xs : List ListedEntry) (x : ListedEntry) → slice_get (xs ++ x ∷ []) (length xs) ≡ Some x
+slice_last [] x = refl
+slice_last (y ∷ ys) x = slice_last ys x
+
+-- the first that names a number stays so
+last_more : (count : ℕ) (es : List ListedEntry) (e : ListedEntry) → count ≤ length es → last_of count (es ++ e ∷ []) ≡ last_of count es
+last_more zero es e h = refl
+last_more (suc at) es e h = slice_more es e at (omega (arith, h))
+
+found_stays : (es : List ListedEntry) (e : ListedEntry) (n count : ℕ) → eqb e.ino n ≡ false → IsFirst es n count → IsFirst (es ++ e ∷ []) n count
+found_stays es e n count other f = record {
+  within = omega (arith, f.within, length-append es (e ∷ []));
+  named = last_more count es e f.within ∙ f.named ∙ sym (find-append (λ (x : ListedEntry). eqb x.ino n) es (e ∷ []) ∙ rw other (or_none (first_named n es)));
+}
+
+noted_old : (at count : ℕ) → noted (suc at) count ≡ suc at
+noted_old at count = let some : eqb (suc at) 0 ≡ false = grind (arith, nat_tests) in rw some refl
+
+-- the table after the entry that comes last was noted
+noted_here : (es : List ListedEntry) (e : ListedEntry) (n count : ℕ) → eqb e.ino n ≡ true → IsFirst es n count → IsFirst (es ++ e ∷ []) n (noted count (length es + 1))
+noted_here es e n zero same f = record {
+  within = omega (arith, length-append es (e ∷ []));
+  named = last ∙ sym (find-append (λ (x : ListedEntry). eqb x.ino n) es (e ∷ []) ∙ rw same (or_some (first_named n es) e (sym f.named)));
+}
+  where
+    last : last_of (length es + 1) (es ++ e ∷ []) ≡ Some e
+    last = let more : length es + 1 ≡ suc (length es) = omega arith in rw more (slice_last es e)
+noted_here es e n (suc at) same f = subst (λ count. IsFirst (es ++ e ∷ []) n count) (sym (noted_old at (length es + 1))) (record {
+  within = omega (arith, f.within, length-append es (e ∷ []));
+  named = last_more (suc at) es e f.within ∙ there ∙ sym (find-append (λ (x : ListedEntry). eqb x.ino n) es (e ∷ []) ∙ or_before (first_named n es) _ (get_or es at e) (sym f.named ∙ there));
+})
+  where
+    there : slice_get es at ≡ Some (get_or es at e)
+    there = slice_get-get_or es at e (omega (arith, f.within))
+
+pub knows_entry : (first : List ℕ) (es : List ListedEntry) (e : ListedEntry) → KnowsFirst first es → KnowsFirst (slice_set first e.ino (noted (get_or first e.ino 0) (length es + 1))) (es ++ e ∷ [])
+knows_entry first es e knows = λ n less.
+    let value : ℕ = noted (get_or first e.ino 0) (length es + 1) in
+    let h : n < length first = omega (arith, less, length-set first e.ino value) in
+    elim (cases_eq n e.ino) [
+      | inl same ↦
+          let here : eqb e.ino n ≡ true = grind (arith, nat_tests) in
+          let w : e.ino < length first = omega (arith, h, same) in
+          let is : get_or (slice_set first e.ino value) n 0 ≡ noted (get_or first n 0) (length es + 1) =
+          ap (λ j. get_or (slice_set first e.ino value) j 0) same ∙ get_or-set_same first e.ino value 0 w ∙ ap (λ j. noted (get_or first j 0) (length es + 1)) (sym same) in
+          rw is (noted_here es e n (get_or first n 0) here (knows n h))
+      | inr differ ↦
+          let other : eqb e.ino n ≡ false = grind (arith, nat_tests) in
+          rw (get_or-set_other first e.ino n value 0 differ) (found_stays es e n (get_or first n 0) other (knows n h))
+    ]
+
+-- nothing is known of no entries
+pub knows_none : (count : ℕ) → KnowsFirst (replicate count 0) []
+knows_none count = λ n h. rw (zeros count n 0) (record { within = omega arith; named = refl })
+  where
+    zeros : (count n x : ℕ) → get_or (replicate count x) n x ≡ x
+    zeros zero n x = refl
+    zeros (suc count) zero x = refl
+    zeros (suc count) (suc n) x = zeros count n x
+
+-- ---- one number more in a set
+
+pub just_more : (those : List ℕ) (n : ℕ) (s s' : NumbersShown) → HasJust those s → ((m : ℕ) → is_among m s'.numbers ≡ (eqb n m || is_among m s.numbers)) → length s'.numbers ≤ length s.numbers + 1 → HasJust (those ++ n ∷ []) s'
+just_more those n s s' h more few = record {
+  each = λ m. more m ∙ ap (λ b. eqb n m || b) (h.each m) ∙ either (eqb n m) (is_among m those) ∙ sym (is_among-push m n those);
+  few = omega (arith, few, h.few, length-append those (n ∷ []));
+}
+  where
+    either : (a b : Bool) → (a || b) ≡ (b || a)
+    either true true = refl
+    either true false = refl
+    either false true = refl
+    either false false = refl
 
 -- ---- the lists that keep it
 
@@ -104,13 +118,13 @@ pub kept-seen : (n : ℕ) (es : List ListedEntry) → list_any (λ (e : EntryDat
 kept-seen n [] = refl
 kept-seen n (e ∷ es) = ap (λ b. (eqb e.ino n && e.kept) || b) (kept-seen n es)
 
-dir_step : (b : Bool) (e : ListedEntry) (x : Option EntryData) (y : Option ListedEntry) → option_map (λ (e : EntryData). e.dir) x ≡ option_map (λ (e : ListedEntry). e.dir) y → option_map (λ (e : EntryData). e.dir) (cond b (Some (entry_seen e)) x) ≡ option_map (λ (e : ListedEntry). e.dir) (cond b (Some e) y)
-dir_step true e x y h = refl
-dir_step false e x y h = h
+seen_step : (b : Bool) (e : ListedEntry) (x : Option EntryData) (y : Option ListedEntry) → x ≡ option_map entry_seen y → cond b (Some (entry_seen e)) x ≡ option_map entry_seen (cond b (Some e) y)
+seen_step true e x y h = refl
+seen_step false e x y h = h
 
-pub dir-seen : (n : ℕ) (es : List ListedEntry) → option_map (λ (e : EntryData). e.dir) (find (λ (e : EntryData). eqb e.ino n) (map entry_seen es)) ≡ option_map (λ (e : ListedEntry). e.dir) (find (λ (e : ListedEntry). eqb e.ino n) es)
-dir-seen n [] = refl
-dir-seen n (e ∷ es) = dir_step (eqb e.ino n) e _ _ (dir-seen n es)
+pub find-seen : (n : ℕ) (es : List ListedEntry) → find (λ (e : EntryData). eqb e.ino n) (map entry_seen es) ≡ option_map entry_seen (find (λ (e : ListedEntry). eqb e.ino n) es)
+find-seen n [] = refl
+find-seen n (e ∷ es) = seen_step (eqb e.ino n) e _ _ (find-seen n es)
 
 pub numbers-seen : (index blocks : List ℕ) (fs : List FileData) → map (λ (f : FileData). f.ino) fs ≡ map (λ (f : ListedFile). f.ino) (map (file_seen index blocks) fs)
 numbers-seen index blocks [] = refl
@@ -120,6 +134,27 @@ pub rows-seen : (index blocks : List ℕ) (fs : List FileData) → map (λ (f : 
 rows-seen index blocks [] = refl
 rows-seen index blocks (f ∷ fs) = ap (λ rs. as_row f.row ∷ rs) (rows-seen index blocks fs)
 
-pub file-found : (index blocks : List ℕ) (n : ℕ) (fs : List FileData) → list_any (λ (f : ListedFile). eqb f.ino n) (map (file_seen index blocks) fs) ≡ list_any (λ (f : FileData). eqb f.ino n) fs
+pub file-found : (index blocks : List ℕ) (n : ℕ) (fs : List FileData) → list_any (λ (f : ListedFile). eqb f.ino n) (map (file_seen index blocks) fs) ≡ is_among n (map (λ (f : FileData). f.ino) fs)
 file-found index blocks n [] = refl
 file-found index blocks n (f ∷ fs) = ap (λ b. eqb f.ino n || b) (file-found index blocks n fs)
+
+-- where no entry names a number, no kept child has it; where the first that does is one, one has
+pub unkept : (n : ℕ) (es : List EntryData) → find (λ (e : EntryData). eqb e.ino n) es ≡ None → list_any (λ (e : EntryData). eqb e.ino n && e.kept) es ≡ false
+unkept n [] h = refl
+unkept n (e ∷ es) h = by (eqb e.ino n) h (unkept n es)
+  where
+    by : (b : Bool) → cond b (Some e) (find (λ (x : EntryData). eqb x.ino n) es) ≡ None → (find (λ (x : EntryData). eqb x.ino n) es ≡ None → list_any (λ (x : EntryData). eqb x.ino n && x.kept) es ≡ false) → ((b && e.kept) || list_any (λ (x : EntryData). eqb x.ino n && x.kept) es) ≡ false
+    by true h rest = absurd cc
+    by false h rest = rest h
+
+pub first_kept : (n : ℕ) (es : List EntryData) (e : EntryData) → find (λ (x : EntryData). eqb x.ino n) es ≡ Some e → e.kept ≡ true → list_any (λ (x : EntryData). eqb x.ino n && x.kept) es ≡ true
+first_kept n [] e h k = absurd cc
+first_kept n (x ∷ es) e h k = by (eqb x.ino n) h (λ i. first_kept n es e i k)
+  where
+    or_true : (a : Bool) (b : Bool) → b ≡ true → (a || b) ≡ true
+    or_true true b h = refl
+    or_true false b h = h
+
+    by : (b : Bool) → cond b (Some x) (find (λ (y : EntryData). eqb y.ino n) es) ≡ Some e → (find (λ (y : EntryData). eqb y.ino n) es ≡ Some e → list_any (λ (y : EntryData). eqb y.ino n && y.kept) es ≡ true) → ((b && x.kept) || list_any (λ (y : EntryData). eqb y.ino n && y.kept) es) ≡ true
+    by true h rest = let same : x ≡ e = cc in rw (same, k) refl
+    by false h rest = or_true (false && x.kept) _ (rest h)

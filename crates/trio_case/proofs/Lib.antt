@@ -1,4 +1,5 @@
 mod Knowing
+mod Asked
 pub mod Parts
 pub mod OtherBytes
 mod OwnPages
@@ -17,3 +18,5 @@ pub mod Files
 pub mod Opening
 pub mod Making
 pub mod CaseRows
+pub mod CopiedCount
+pub mod Copying

@@ -20,10 +20,10 @@ use Rattle.trio_case.specs.declared.kept.KeptPage.{KeptPage}
 
 -- ---- places
 
-same_here : (n : ℕ) → eqb n n ≡ true
+pub same_here : (n : ℕ) → eqb n n ≡ true
 same_here n = grind (arith, nat_tests)
 
-differs : (m n : ℕ) → (m ≡ n → ⊥) → eqb m n ≡ false
+pub differs : (m n : ℕ) → (m ≡ n → ⊥) → eqb m n ≡ false
 differs m n h = grind (arith, nat_tests)
 
 -- what stands at the place of a number

@@ -1,8 +1,9 @@
 -- What contracts see of a case, and of what one may be made.
-use Rattle.std.specs.Prelude.{ℕ, ◌≡◌, ◌+◌, nat_lt, nat_le, Bool, true, false, ◌&&◌, List, [], ◌++◌, map, length, Option, Some, is_none}
+use Rattle.std.specs.Prelude.{ℕ, ◌≡◌, ◌+◌, ◌*◌, ◌≤◌, nat_lt, nat_le, Bool, true, false, ◌&&◌, List, [], ◌++◌, map, length, count_by, Option, Some, is_none}
 use Rattle.std.specs.List.{list_all}
+use Rattle.std.specs.Option.{option_map_or}
 use Rattle.trio_rights.specs.Row.{Row, row_in}
-use Rattle.trio_rights.specs.Bundle.{bundle_pages}
+use Rattle.trio_rights.specs.Bundle.{bundle_pages, is_written}
 use Rattle.trio_rights.specs.declared.kind.Kind.TheVariants.{Regular}
 use Rattle.trio_rights.specs.declared.rights.Creds.{Creds}
 use Rattle.trio_rights.specs.declared.rights.LibNo.{LibNo}
@@ -52,9 +53,14 @@ is_free_number rows inodes n = nat_lt 0 n && nat_le n inodes && is_none (row_in 
 abbrev pub HasDirectoryParents : List (Option Row) → Type 0
 HasDirectoryParents rows = (n : ℕ) (r : Row) → row_in rows n ≡ Some r → has_kind Regular (row_in rows r.parent) ≡ false
 
+-- the row of a file that stands in a directory that the bundle writes
+abbrev pub is_child : Bundled → Option Row → Bool
+is_child b r = option_map_or (λ r. is_written (bundle_in b) r.parent) r false
+
 -- Of what a case may be made: the table has so many numbers; each file of a lease or hold is live there, of that kind,
 -- and stands in the bundle once; the handed-in numbers are within the table, not live, and differ; the bundle's pages
--- are core pages and differ, and page 0 is none.
+-- are core pages and differ, and page 0 is none; no more than 16 recorded children of its directories stand to each of
+-- its pages.
 pub record IsJudgeable (b : Bundled) (rows : List (Option Row)) (range : CoreRange) (inodes : ℕ) : Type 0 where
   pub table : length rows ≡ inodes + 1
   pub parents : HasDirectoryParents rows
@@ -66,6 +72,7 @@ pub record IsJudgeable (b : Bundled) (rows : List (Option Row)) (range : CoreRan
   pub core : list_all (is_core range) (bundle_pages (bundle_in b)) ≡ true
   pub pages : are_new [] (bundle_pages (bundle_in b)) ≡ true
   pub first : nat_lt 0 range.first ≡ true
+  pub children : count_by (is_child b) rows ≤ 16 * length (bundle_pages (bundle_in b))
 
 -- What is true of each case: its pages are core pages and differ, and page 0 is none; its leases and holds are of one
 -- file each; its numbers are within the table and differ.

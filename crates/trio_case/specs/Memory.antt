@@ -1,5 +1,5 @@
 -- The memory of a case, by how much its bundle has.
-use Rattle.std.specs.Prelude.{ℕ, ◌≡◌, ◌⊎◌, ◌≤◌, ◌+◌, Bool, false, length}
+use Rattle.std.specs.Prelude.{ℕ, ◌≤◌, ◌+◌, Bool, length}
 use Rattle.std.specs.List.{list_any}
 use Rattle.trio_rights.specs.Bundle.{bundle_pages}
 use Rattle.trio_lease.specs.Bundles.{Bundled}
@@ -26,18 +26,11 @@ pub record IsWithin (b : Bundled) (size : BundleSize) : Type 0 where
 abbrev pub writes_directory : Bundled → Bool
 writes_directory b = list_any (λ f. is_directory f.stands.kind) b.writes
 
--- Tables over so many inode numbers serve a bundle, of an image of `numbers` of them with the number 0: they are over just
--- these, or the bundle writes no directory and needs none.
-abbrev pub TablesServe : Bundled → ℕ → ℕ → Type 0
-TablesServe b numbers tables = (tables ≡ numbers) ⊎ (writes_directory b ≡ false)
-
--- there is memory for the case of this bundle, for an image of so many inode numbers, the number 0 counted
-pub record HasCaseMemory (b : Bundled) (numbers : ℕ) (m : CaseMemory) : Type 0 where
+-- there is memory for the case of this bundle
+pub record HasCaseMemory (b : Bundled) (m : CaseMemory) : Type 0 where
   pub inodes : HasNumbersMemory (value_count b) m.numbers
-  pub rows : HasRowsFor b numbers m.rows
+  pub rows : HasRowsFor b m.rows
 
--- Memory that was made for so many values, and tables over so many inode numbers, is memory for each bundle of no more values
--- that the tables serve.
-abbrev pub IsCaseMemory : ℕ → ℕ → CaseMemory → Type 0
-IsCaseMemory values tables m =
-    (b : Bundled) (numbers : ℕ) → value_count b ≤ values → TablesServe b numbers tables → HasCaseMemory b numbers m
+-- memory that was made for this size is memory for each bundle within it
+abbrev pub IsCaseMemory : BundleSize → CaseMemory → Type 0
+IsCaseMemory size m = (b : Bundled) → IsWithin b size → HasCaseMemory b m

@@ -1,5 +1,5 @@
 -- What stands in the room of a judgement.
-use Rattle.std.specs.Prelude.{ℕ, ◌≡◌, ◌+◌, ◌*◌, ◌<◌, ◌≤◌, not, ⊤, List, [], map, length, take, drop, count_by, Option, None, Some, is_some, slice_get, vec_len, vec_capacity, MatchOption, Ok}
+use Rattle.std.specs.Prelude.{ℕ, ◌≡◌, ◌+◌, ◌*◌, ◌<◌, ◌≤◌, not, ⊤, List, [], map, length, take, drop, count_by, Option, None, Some, is_some, slice_get, vec_len, vec_capacity, MatchOption, MatchResult, Result, Ok, Err}
 use Rattle.std.specs.List.{flat_map}
 use Rattle.std.specs.Option.{option_and_then, option_map_or}
 use Rattle.trio_rights.specs.declared.kind.Kind.{Kind}
@@ -20,9 +20,10 @@ use Rattle.trio_layout.specs.Case.{bundle_core}
 use Rattle.trio_case.specs.Cases.{CaseShown, case_in}
 use Rattle.trio_case.specs.Places.{bytes_at, number_at}
 use Rattle.trio_case.specs.Order.{in_order, place_of, AreRising}
-use Rattle.trio_case.specs.Reading.{listed_seen}
+use Rattle.trio_case.specs.Reading.{listed_seen, place_seen, AreNamed}
 use Rattle.trio_case.specs.declared.room.PageRoom.{PageRoom}
 use Rattle.trio_case.specs.declared.entries.DirEntry.{DirEntry}
+use Rattle.trio_case.specs.declared.entries.FaultPlace.{FaultPlace}
 use Rattle.trio_case.specs.declared.kept.KeptPages.{KeptPages}
 use Rattle.trio_case.specs.declared.kept.KeptPage.{KeptPage}
 use Rattle.trio_case.specs.declared.kept.KeptIndex.{KeptIndex}
@@ -36,10 +37,15 @@ part s xs = take s.len (drop s.from xs)
 abbrev pub kept_page : KeptPages → ℕ → Option KeptPage
 kept_page kept page = option_and_then (λ at. slice_get kept.pages.items at) (place_of page kept.order.items)
 
+-- the entries of a directory block that was read; a bad one has none
+abbrev pub entries_said : List (List ℕ) → List DirEntry → Result Span FaultPlace → List Listed
+entries_said names entries (Ok s) = map (listed_seen names) (part s entries)
+entries_said names entries (Err place) = []
+
 -- the entries that were read on a page as a directory block; none where it wasn't read, or is none of the bundle's
 abbrev pub entries_kept : KeptPages → ℕ → List Listed
 entries_kept kept page =
-    option_map_or (λ s. map listed_seen (part s kept.entries.items)) (option_and_then (λ p. p.entries) (kept_page kept page)) []
+    option_map_or (entries_said kept.names.names kept.entries.items) (option_and_then (λ p. p.entries) (kept_page kept page)) []
 
 -- the entries of the blocks of the file that was read last; a regular file has none
 abbrev pub entries_in_room : PageRoom → Kind → List Listed
@@ -76,26 +82,35 @@ pub record HasReadPlaces (count : ℕ) (kept : KeptPages) : Type 0 where
   pub places : HasPagePlaces count kept
   pub entries : 16 * count ≤ vec_capacity kept.entries
   pub numbers : 511 * count ≤ vec_capacity kept.numbers
+  pub names : 16 * count ≤ kept.names.room
   pub no_entries : vec_len kept.entries ≡ 0
   pub no_numbers : vec_len kept.numbers ≡ 0
+  pub no_names : length kept.names.names ≡ 0
 
--- there is a place for whatever the pages may say that weren't read yet: 16 entries of a directory block, and 511
--- numbers of an index page
+-- there is a place for whatever the pages may say that weren't read yet: 16 entries of a directory block with their
+-- names, and 511 numbers of an index page
 pub record HasPlaces (kept : KeptPages) : Type 0 where
   pub entries : vec_len kept.entries + 16 * unread_blocks kept ≤ vec_capacity kept.entries
   pub numbers : vec_len kept.numbers + 511 * unread_index kept ≤ vec_capacity kept.numbers
+  pub names : length kept.names.names + 16 * unread_blocks kept ≤ kept.names.room
 
--- there is a place for whatever the pages may say, for the chain of any file, and for a name of each entry and one more
+-- there is a place for whatever the pages may say, for the chain of any file, and for a mark of each name
 pub record HasSpace (range : CoreRange) (room : PageRoom) : Type 0 where
   pub pages : HasPlaces room.kept
   pub index : index_count (core_count range) ≤ vec_capacity room.index
   pub blocks : core_count range ≤ vec_capacity room.blocks
-  pub names : vec_len room.kept.entries + 16 * unread_blocks room.kept < room.names.room
+  pub named : length room.kept.names.names + 16 * unread_blocks room.kept ≤ length room.named
 
--- the kept entries of a directory block are those that its bytes list
-pub record SaysEntries (inodes no : ℕ) (entries : List DirEntry) (bytes : List ℕ) (s : Span) : Type 0 where
+-- the kept entries of a directory block are those that its bytes list, and each has one of the names
+pub record SaysEntries (inodes no : ℕ) (names : List (List ℕ)) (entries : List DirEntry) (bytes : List ℕ) (s : Span) : Type 0 where
   pub within : s.from + s.len ≤ length entries
-  pub says : entries_on inodes no bytes ≡ Ok (map listed_seen (part s entries))
+  pub named : AreNamed names (part s entries)
+  pub says : entries_on inodes no bytes ≡ Ok (map (listed_seen names) (part s entries))
+
+-- what is kept of a directory block is what its bytes list: its entries, or its first bad slot
+abbrev pub SaysBlock : ℕ → ℕ → List (List ℕ) → List DirEntry → List ℕ → Result Span FaultPlace → Type 0
+SaysBlock inodes page names entries bytes read =
+    MatchResult read (SaysEntries inodes page names entries bytes) (λ place. entries_on inodes page bytes ≡ Err (place_seen place))
 
 -- what is kept of an index page is what its bytes spell
 pub record SaysIndex (range : CoreRange) (numbers : List ℕ) (bytes : List ℕ) (i : KeptIndex) : Type 0 where
@@ -111,7 +126,7 @@ pub record IsKept (k : CaseShown) (kept : KeptPages) (p : KeptPage) : Type 0 whe
   pub bytes : List ℕ
   pub stands : bytes_at k.bundle p.place ≡ Some bytes
   pub here : page_of (bundle_core (case_in k)) p.no ≡ Some bytes
-  pub entries : MatchOption p.entries ⊤ (SaysEntries k.inodes p.no kept.entries.items bytes)
+  pub entries : MatchOption p.entries ⊤ (SaysBlock k.inodes p.no kept.names.names kept.entries.items bytes)
   pub index : MatchOption p.index ⊤ (SaysIndex k.range kept.numbers.items bytes)
 
 -- the pages of the bundle stand in the order of their numbers, and what is kept of each is true of the case
@@ -151,7 +166,7 @@ pub record HasPageMemory (k : CaseShown) (room : PageRoom) : Type 0 where
   pub kept : HasReadPlaces (length (bundle_pages (bundle_in k.bundle))) room.kept
   pub index : index_count (core_count k.range) ≤ vec_capacity room.index
   pub blocks : core_count k.range ≤ vec_capacity room.blocks
-  pub names : 16 * length (bundle_pages (bundle_in k.bundle)) < room.names.room
+  pub named : 16 * length (bundle_pages (bundle_in k.bundle)) ≤ length room.named
 
 -- memory that was made for so many pages of a bundle and of the core is so for each case of no more pages, and of just so large a core
 abbrev pub IsPageMemory : ℕ → ℕ → PageRoom → Type 0

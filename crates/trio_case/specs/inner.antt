@@ -2,6 +2,8 @@ pub mod Known
 pub mod Maps
 pub mod Steps
 pub mod Named
+pub mod NumberSets
 pub mod Numbered
+pub mod RowLists
 pub mod Unread
 pub mod Memory

@@ -1,6 +1,6 @@
 //! What a bundle is judged by.
 
-ghost use Rattle.std.specs.Prelude.{◌≡◌, ◌==◌, ◌++◌, IfOk, IfErr, IfSome, IsSome, ◌↔◌, IsTrue, length, map};
+ghost use Rattle.std.specs.Prelude.{◌≡◌, ◌==◌, ◌++◌, IfOk, IfErr, IfSome, IsSome, ◌↔◌, IsTrue, map};
 ghost use Rattle.std.specs.Option.{option_copied, option_map};
 ghost use Rattle.trio_rights.specs.Row.{row_in};
 ghost use Rattle.trio_rights.specs.Bundle.{is_written};
@@ -18,7 +18,7 @@ ghost use Rattle.trio_case.specs.inner.Maps.{body_lent};
 use crate::memory::CaseMemory;
 use crate::numbered::Places;
 use crate::numbers::{CopiedRows, Numbers, copy_rows, is_copied};
-use crate::size::{value_count, writes_directory};
+use crate::size::BundleSize;
 use std::alloc::Global;
 use std::marker::Model;
 use trio_layout::CoreRange;
@@ -78,7 +78,7 @@ impl Case {
         ensures made { IfOk result (λ k. k ≡ record { lib = lib; bundle = bundle; rows = copied_rows (bundle_in bundle) rows.now; creds = creds; range = range; inodes = inodes }) }
         ensures back { IfErr result (λ e. e.0 ≡ bundle) }
     {
-        match memory_for(alloc, &bundle, rows) {
+        match memory_for(alloc, &bundle) {
             Ok(memory) => Ok(Case::within(memory, lib, creds, bundle, rows, range, inodes)),
             Err(fault) => Err((bundle, fault)),
         }
@@ -95,7 +95,7 @@ impl Case {
         inodes: u32,
     ) -> Case
         requires judgeable { IsJudgeable bundle rows.now range inodes }
-        requires memory { HasCaseMemory bundle (length rows.now) memory }
+        requires memory { HasCaseMemory bundle memory }
         ensures { result ≡ record { lib = lib; bundle = bundle; rows = copied_rows (bundle_in bundle) rows.now; creds = creds; range = range; inodes = inodes } }
     {
         let CaseMemory {
@@ -243,15 +243,10 @@ impl Case {
 }
 
 /// Memory for the case of just this bundle.
-fn memory_for(alloc: Global, bundle: &Bundle, rows: &Shadow) -> Result<CaseMemory, NoMemory>
-    ensures { IfOk result (HasCaseMemory bundle.now (length rows.now)) }
+fn memory_for(alloc: Global, bundle: &Bundle) -> Result<CaseMemory, NoMemory>
+    ensures { IfOk result (HasCaseMemory bundle.now) }
 {
-    let tables = if writes_directory(bundle) {
-        rows.inodes() as usize + 1
-    } else {
-        0
-    };
-    let memory = CaseMemory::with(alloc, value_count(bundle)?, tables)?;
+    let memory = CaseMemory::with(alloc, BundleSize::of(bundle)?)?;
     Ok(memory)
 }
 

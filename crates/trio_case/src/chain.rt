@@ -101,7 +101,7 @@ fn read_index(
     ensures places { HasPlaces kept.new }
     ensures len { vec_len blocks.new ≤ vec_len blocks.old + used }
     ensures room { vec_capacity blocks.old ≤ vec_capacity blocks.new }
-    ensures same { (kept.new.entries ≡ kept.old.entries) × (unread_blocks kept.new ≡ unread_blocks kept.old) }
+    ensures same { (kept.new.names ≡ kept.old.names) × (unread_blocks kept.new ≡ unread_blocks kept.old) }
     ensures looks { (result ≡ IndexRead.Bad → ⊥) → reads.new + unread_index kept.new ≤ reads.old + unread_index kept.old }
     ensures last { reads.new ≤ reads.old + unread_index kept.old }
 {
@@ -138,7 +138,7 @@ fn index_page(
         MatchOption result (IsBadIndex bytes used last case.now.range) (IsIndexKept bytes case.now.range kept.new.numbers.items) }
     ensures keeps { KeepsPages case.now kept.new }
     ensures places { HasPlaces kept.new }
-    ensures same { (kept.new.entries ≡ kept.old.entries) × (unread_blocks kept.new ≡ unread_blocks kept.old) }
+    ensures same { (kept.new.names ≡ kept.old.names) × (unread_blocks kept.new ≡ unread_blocks kept.old) }
     ensures looks { IfSome result (λ _. reads.new + unread_index kept.new ≤ reads.old + unread_index kept.old) }
     ensures last { reads.new ≤ reads.old + unread_index kept.old }
 {
@@ -179,7 +179,7 @@ fn keep_index(
         MatchOption result (IsBadIndex bytes used last case.now.range) (IsIndexRead bytes used last case.now.range kept.new.numbers.items) }
     ensures keeps { KeepsPages case.now kept.new }
     ensures places { HasPlaces kept.new }
-    ensures same { (kept.new.entries ≡ kept.old.entries) × (unread_blocks kept.new ≡ unread_blocks kept.old) }
+    ensures same { (kept.new.names ≡ kept.old.names) × (unread_blocks kept.new ≡ unread_blocks kept.old) }
     ensures looks { IfSome result (λ _. reads.new + unread_index kept.new ≤ reads.old + unread_index kept.old) }
     ensures last { reads.new ≤ reads.old + unread_index kept.old }
 {

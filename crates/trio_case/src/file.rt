@@ -47,7 +47,7 @@ pub fn read_file(
         if let Err(place) = read_entries(case, &mut room.kept, &room.blocks, reads) {
             return Err(place);
         }
-        if let Some(place) = repeated_name(case, &room.kept, &room.blocks, &mut room.names) {
+        if let Some(place) = repeated_name(case, &room.kept, &room.blocks, &mut room.named) {
             return Err(place);
         }
     }

@@ -12,10 +12,13 @@ ghost use Rattle.trio_case.specs.Order.{place_of};
 ghost use Rattle.trio_case.specs.Places.{bytes_at};
 
 use crate::case::Case;
-use crate::kept::{KeptPages, page_count};
+use crate::kept::{KEPT_BYTES, KeptPages, page_count};
 use crate::places::{PagePlace, page_at};
 use std::alloc::Global;
 use trio_page::{NoMemory, Page};
+
+/// How many bytes an index takes for each page.
+pub const INDEXED_PAGE_BYTES: usize = KEPT_BYTES;
 
 /// Where the pages of a bundle stand in it, by their numbers: a search takes as many steps as the
 /// count of pages has binary digits.

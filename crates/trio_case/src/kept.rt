@@ -1,26 +1,34 @@
 //! The pages of a bundle, with what they say as far as that was read.
 
-ghost use Rattle.std.specs.Prelude.{◌≡◌, ◌+◌, ◌≤◌, ◌++◌, [], None, Some, MatchOption, IfOk, length, map, slice_get, vec_capacity, vec_len};
+ghost use Rattle.std.specs.Prelude.{◌≡◌, ◌+◌, ◌*◌, ◌≤◌, ◌++◌, [], None, Some, MatchOption, IfOk, length, map, slice_get, vec_capacity, vec_len};
 ghost use Rattle.trio_rights.specs.Bundle.{bundle_pages};
 ghost use Rattle.trio_lists.specs.Lists.{In};
 ghost use Rattle.trio_lease.specs.Bundles.{Bundled};
 ghost use Rattle.trio_lease.specs.Views.{bundle_in};
 ghost use Rattle.trio_case.specs.inner.Unread.{numbers_of, AreUnread, CountsItself, IsUnreadOf};
 ghost use Rattle.trio_case.specs.Order.{in_order, AreRising};
-ghost use Rattle.trio_case.specs.Reading.{listed_seen};
+ghost use Rattle.trio_case.specs.Reading.{listed_seen, AreNamed};
 ghost use Rattle.trio_case.specs.Rooms.{entries_kept, kept_page, AreCountedIn, HasPagePlaces, HasReadPlaces, KeepsPages};
 ghost use Rattle.trio_case.specs.inner.Steps.{StandsAt};
 
 use crate::case::Case;
-use crate::entries::DirEntry;
+use crate::entries::{DirEntry, FaultPlace};
 use crate::listing::push;
 use crate::places::PagePlace;
 use std::alloc::Global;
 use trio_lease::{Bundle, FreshPage, WriteLease};
+use trio_nameset::{NAME_BYTES, NameSet};
 use trio_page::{NoMemory, PageNo};
 
+/// How many bytes there are for each page whose number is kept.
+pub(crate) const KEPT_BYTES: usize = size_of::<u32>() + size_of::<KeptPage>();
+
+/// How many bytes there are for what a page may say: 16 entries with their names, and 511 numbers.
+pub(crate) const SAID_BYTES: usize = 16 * (size_of::<DirEntry>() + NAME_BYTES)
+    + 511 * size_of::<u32>();
+
 /// The pages of a bundle by their numbers. What a page says is kept once it was read: as a directory
-/// block its entries, as an index page its numbers and its link.
+/// block its entries or its first bad slot, as an index page its numbers and its link.
 #[derive(Drop)]
 pub(crate) struct KeptPages {
     /// The numbers of the pages, in rising order.
@@ -31,6 +39,8 @@ pub(crate) struct KeptPages {
     pub entries: Vec<DirEntry>,
     /// The numbers of the index pages that were read.
     pub numbers: Vec<u32>,
+    /// The names that were read, each once. An entry has the number of its name.
+    pub names: NameSet,
 }
 
 /// A page of the bundle.
@@ -38,8 +48,8 @@ pub(crate) struct KeptPages {
 pub(crate) struct KeptPage {
     pub no: u32,
     pub place: PagePlace,
-    /// As a directory block: its entries among those that are kept.
-    pub entries: Option<Span>,
+    /// As a directory block: its entries among those that are kept, or its first bad slot.
+    pub entries: Option<Result<Span, FaultPlace>>,
     pub index: Option<KeptIndex>,
     /// Where it stands among all pages of the bundle, in the order of the bundle.
     pub nth: usize,
@@ -73,6 +83,7 @@ impl KeptPages {
             pages: Vec::with_capacity(alloc, pages)?,
             entries: Vec::new(alloc),
             numbers: Vec::new(alloc),
+            names: NameSet::with(alloc, 0)?,
         })
     }
 
@@ -82,11 +93,13 @@ impl KeptPages {
     {
         let entries = pages.checked_mul(16).ok_or(NoMemory)?;
         let numbers = pages.checked_mul(511).ok_or(NoMemory)?;
+        let names = name_count(pages)?;
         Ok(KeptPages {
             order: Vec::with_capacity(alloc, pages)?,
             pages: Vec::with_capacity(alloc, pages)?,
             entries: Vec::with_capacity(alloc, entries)?,
             numbers: Vec::with_capacity(alloc, numbers)?,
+            names: NameSet::with(alloc, names)?,
         })
     }
 
@@ -96,6 +109,7 @@ impl KeptPages {
         ensures made { IsUnreadOf bundle.now self.new }
         ensures entries { self.new.entries ≡ self.old.entries }
         ensures numbers { self.new.numbers ≡ self.old.numbers }
+        ensures names { self.new.names ≡ self.old.names }
         ensures counted { AreCountedIn (bundle_pages (bundle_in bundle.now)) self.new.pages.items }
     {
         set_pages(&mut self.pages, bundle);
@@ -117,20 +131,32 @@ impl KeptPages {
     /// as a directory block, or is none of the bundle's.
     pub fn entries_of(&self, case: &Case, block: u32) -> &[DirEntry]
         requires { KeepsPages case.now self.now }
-        ensures { map listed_seen result.now ≡ entries_kept self.now block }
+        ensures entries { map (listed_seen self.now.names.names) result.now ≡ entries_kept self.now block }
+        ensures named { AreNamed self.now.names.names result.now }
     {
         match self.find(block) {
             Some(
                 (
                     _,
                     KeptPage {
-                        entries: Some(span),
+                        entries: Some(Ok(span)),
                         ..
                     },
                 ),
             ) => &self.entries[span.from..span.from + span.len],
             _ => &[],
         }
+    }
+}
+
+/// How many names the entries of so many directory blocks have at most.
+pub(crate) fn name_count(blocks: usize) -> Result<u32, NoMemory>
+    ensures { IfOk result (λ n. n ≡ 16 * blocks) }
+{
+    let entries = blocks.checked_mul(16).ok_or(NoMemory)?;
+    match u32::try_from(entries) {
+        Ok(names) => Ok(names),
+        Err(_) => Err(NoMemory),
     }
 }
 

@@ -20,6 +20,7 @@ mod kept;
 mod listing;
 mod memory;
 mod names;
+mod number_set;
 mod numbered;
 mod numbers;
 mod places;
@@ -30,9 +31,11 @@ pub use case::Case;
 pub use chain::read_chain;
 pub use entries::{DirEntry, FaultPlace};
 pub use file::read_file;
-pub use index::PageIndex;
-pub use listing::{ListedEntry, ListedFile, Listing, ListingRoom};
-pub use memory::CaseMemory;
+pub use index::{INDEXED_PAGE_BYTES, PageIndex};
+pub use listing::{
+    LISTED_BYTES, LISTED_NUMBER_BYTES, ListedEntry, ListedFile, Listing, ListingRoom,
+};
+pub use memory::{CASE_BYTES, CaseMemory};
 pub use places::PagePlace;
-pub use room::PageRoom;
-pub use size::{BundleSize, writes_directory};
+pub use room::{PageRoom, READ_CORE_BYTES, READ_PAGE_BYTES};
+pub use size::{BundleSize, BytesEach, table_size};

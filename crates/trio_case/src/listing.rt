@@ -1,14 +1,15 @@
 //! What the judged files of a bundle list.
 
 ghost use Rattle.std.specs.Prelude.{◌≡◌, ◌+◌, ◌==◌, ◌++◌, ◌∷◌, ◌<◌, ◌≤◌, ◌&&◌, [], Some, IfOk, length, map, slice_get, slice_index_or, slice_set, vec_capacity, vec_len};
-ghost use Rattle.std.specs.Option.{option_map};
+ghost use Rattle.std.specs.Option.{option_copied, option_map};
 ghost use Rattle.std.specs.List.{find, list_any};
 ghost use Rattle.trio_lists.specs.Lists.{is_among};
 ghost use Rattle.trio_layout.specs.Edges.{has_file, is_listed_kept};
 ghost use Rattle.trio_tables.specs.Row.{as_row};
 ghost use Rattle.trio_case.specs.Listed.{blocks_listed, entry_seen, index_listed, no_listing};
-ghost use Rattle.trio_case.specs.inner.Known.{entry_known, file_known, nothing};
+ghost use Rattle.trio_case.specs.inner.Known.{last_of, noted};
 
+use crate::number_set::NumberSet;
 use std::alloc::Global;
 use std::marker::Model;
 use trio_page::NoMemory;
@@ -62,16 +63,17 @@ pub struct ListingRoom {
     pub entries: usize,
 }
 
-/// What a listing says of one number.
-#[derive(Clone, Copy)]
-struct Known {
-    held: bool,
-    file: bool,
-    // a kept child has it
-    kept: bool,
-    // the directory of the first entry that names it
-    dir: Option<u32>,
-}
+/// How many bytes a listing takes for each of these.
+pub const LISTED_BYTES: ListingRoom = ListingRoom {
+    held: 2 * size_of::<u32>(),
+    files: size_of::<ListedFile>() + size_of::<u32>(),
+    index: size_of::<u32>(),
+    blocks: size_of::<u32>(),
+    entries: size_of::<ListedEntry>(),
+};
+
+/// How many bytes it takes for each inode number of its table.
+pub const LISTED_NUMBER_BYTES: usize = size_of::<u32>();
 
 /// The held numbers, the judged files and the entries of the judged directories of a bundle: what
 /// it proposes, without its pages.
@@ -81,8 +83,12 @@ struct Known {
 #[derive(Drop)]
 pub struct Listing {
     lists: Lists,
-    // by inode number, what the lists say of it; of a number past the end they are asked themselves
-    known: Vec<Known>,
+    // by inode number, how many entries there were with the first that names it, and 0 where none does; for
+    // a number past the end the entries are searched
+    first: Vec<u32>,
+    // the held numbers, and those of the judged files
+    held: NumberSet,
+    judged: NumberSet,
     room: ListingRoom,
 }
 
@@ -105,22 +111,18 @@ impl Model for Listing {
 
     ghost view = { λ l. record { listing = listing_seen l.lists; room = l.room } };
 
-    ghost invariant = { λ l. IsKept l.lists l.known.items l.room };
+    ghost invariant = { λ l. IsKept l.lists l.first.items l.held l.judged l.room };
 }
 
 impl Listing {
-    /// The empty listing with places for so many. The questions of a number ([`is_held`](Self::is_held)
-    /// and those after it) take one look for the numbers below `numbers`; for others the lists are
-    /// searched.
-    pub fn with(alloc: Global, room: ListingRoom, numbers: u32) -> Result<Listing, NoMemory>
+    /// The empty listing with places for so many. To find the first entry that names a number takes one
+    /// look for the numbers below `numbers`; for others the entries are searched.
+    pub fn with(alloc: Global, room: ListingRoom, numbers: usize) -> Result<Listing, NoMemory>
         ensures { IfOk result (λ l. l ≡ record { listing = no_listing; room = room }) }
     {
-        let nothing = Known {
-            held: false,
-            file: false,
-            kept: false,
-            dir: None,
-        };
+        if u32::try_from(room.entries).is_err() {
+            return Err(NoMemory);
+        }
         let lists = Lists {
             held: Vec::with_capacity(alloc, room.held)?,
             files: Vec::with_capacity(alloc, room.files)?,
@@ -130,7 +132,9 @@ impl Listing {
         };
         Ok(Listing {
             lists,
-            known: vec![in alloc; nothing; numbers as usize]?,
+            first: vec![in alloc; 0; numbers]?,
+            held: NumberSet::with(alloc, room.held)?,
+            judged: NumberSet::with(alloc, room.files)?,
             room,
         })
     }
@@ -183,9 +187,7 @@ impl Listing {
         ensures { self.new ≡ record self.old { listing = record self.old.listing { held = self.old.listing.held ++ ino ∷ [] } } }
     {
         push(&mut self.lists.held, ino);
-        if let Some(known) = self.known.get_mut(ino as usize) {
-            known.held = true;
-        }
+        self.held.add(ino);
     }
 
     /// Adds a judged file, with its index pages and its blocks, as the last one.
@@ -202,7 +204,7 @@ impl Listing {
             blocks: append(&mut self.lists.blocks, blocks),
         };
         push(&mut self.lists.files, file);
-        note_file(&mut self.known, ino);
+        self.judged.add(ino);
     }
 
     /// Adds an entry as the last one.
@@ -211,36 +213,31 @@ impl Listing {
         ensures { self.new ≡ record self.old { listing = record self.old.listing { entries = self.old.listing.entries ++ entry_seen entry ∷ [] } } }
     {
         push(&mut self.lists.entries, entry);
-        note_entry(&mut self.known, &entry);
+        note_first(&mut self.first, entry.ino, self.lists.entries.len() as u32);
     }
 
     /// Whether the file of this number is held.
     pub fn is_held(&self, ino: u32) -> bool
         ensures { result ≡ is_among ino self.now.listing.held }
     {
-        match self.known.get(ino as usize) {
-            Some(known) => known.held,
-            None => self.lists.held.iter().any(|held| *held == ino),
-        }
+        self.held.has(ino)
     }
 
     /// Whether the file of this number is judged.
     pub fn has_file(&self, ino: u32) -> bool
         ensures { result ≡ has_file self.now.listing ino }
     {
-        match self.known.get(ino as usize) {
-            Some(known) => known.file,
-            None => is_file(&self.lists.files, ino),
-        }
+        self.judged.has(ino)
     }
 
-    /// Whether a kept child has this number.
+    /// Whether a kept child has this number. The entries are searched only where the first that names it
+    /// isn't one.
     pub fn is_listed_kept(&self, ino: u32) -> bool
         ensures { result ≡ is_listed_kept self.now.listing ino }
     {
-        match self.known.get(ino as usize) {
-            Some(known) => known.kept,
-            None => is_kept(&self.lists.entries, ino),
+        match self.first_entry(ino) {
+            Some(first) => first.kept || is_kept(&self.lists.entries, ino),
+            None => false,
         }
     }
 
@@ -248,17 +245,29 @@ impl Listing {
     pub fn dir(&self, ino: u32) -> Option<u32>
         ensures { result ≡ option_map (λ e. e.dir) (find (λ e. e.ino == ino) self.now.listing.entries) }
     {
-        match self.known.get(ino as usize) {
-            Some(known) => known.dir,
-            None => first_dir(&self.lists.entries, ino),
+        match self.first_entry(ino) {
+            Some(first) => Some(first.dir),
+            None => None,
+        }
+    }
+
+    // the first entry that names this number
+    fn first_entry(&self, ino: u32) -> Option<&ListedEntry>
+        ensures { option_map entry_seen (option_copied result) ≡ find (λ e. e.ino == ino) self.now.listing.entries }
+    {
+        match self.first.get(ino as usize) {
+            Some(count) => last_of(&self.lists.entries, *count),
+            None => find_entry(&self.lists.entries, ino),
         }
     }
 }
 
-fn is_file(files: &[ListedFile], ino: u32) -> bool
-    ensures { result ≡ list_any (λ f. f.ino == ino) files.now }
+// the last of so many entries
+fn last_of(entries: &[ListedEntry], count: u32) -> Option<&ListedEntry>
+    ensures { option_copied result ≡ last_of count entries.now }
 {
-    files.iter().any(|file| file.ino == ino)
+    let at = count.checked_sub(1)?;
+    entries.get(at as usize)
 }
 
 fn is_kept(entries: &[ListedEntry], ino: u32) -> bool
@@ -267,40 +276,19 @@ fn is_kept(entries: &[ListedEntry], ino: u32) -> bool
     entries.iter().any(|entry| entry.ino == ino && entry.kept)
 }
 
-fn first_dir(entries: &[ListedEntry], ino: u32) -> Option<u32>
-    ensures { result ≡ option_map (λ e. e.dir) (find (λ e. e.ino == ino) entries.now) }
+fn find_entry(entries: &[ListedEntry], ino: u32) -> Option<&ListedEntry>
+    ensures { option_copied result ≡ find (λ e. e.ino == ino) entries.now }
 {
-    let first = entries.iter().find(|entry| entry.ino == ino)?;
-    Some(first.dir)
+    entries.iter().find(|entry| entry.ino == ino)
 }
 
-// notes in the table that the file of this number is judged
-fn note_file(known: &mut Vec<Known>, ino: u32)
-    ensures { known.new.items ≡ slice_set known.old.items ino (file_known (slice_index_or known.old.items ino nothing)) }
+// notes in the table that the last of so many entries names the number, where none before does
+fn note_first(first: &mut Vec<u32>, ino: u32, count: u32)
+    ensures { first.new.items ≡ slice_set first.old.items ino (noted (slice_index_or first.old.items ino 0) count) }
 {
     let at = ino as usize;
-    if at < known.len() {
-        known[at].file = true;
-    }
-}
-
-// notes in the table that one entry more names its number
-fn note_entry(known: &mut Vec<Known>, entry: &ListedEntry)
-    ensures { known.new.items ≡ slice_set known.old.items entry.now.ino (entry_known (slice_index_or known.old.items entry.now.ino nothing) (entry_seen entry.now)) }
-{
-    let at = entry.ino as usize;
-    if at < known.len() {
-        known[at] = with_entry(known[at], entry);
-    }
-}
-
-fn with_entry(known: Known, entry: &ListedEntry) -> Known
-    ensures { result ≡ entry_known known (entry_seen entry.now) }
-{
-    Known {
-        kept: known.kept || entry.kept,
-        dir: known.dir.or(Some(entry.dir)),
-        ..known
+    if at < first.len() && first[at] == 0 {
+        first[at] = count;
     }
 }
 

@@ -3,9 +3,17 @@
 ghost use Rattle.std.specs.Prelude.{IfOk};
 ghost use Rattle.trio_case.specs.Memory.{IsCaseMemory};
 
-use crate::numbers::{NumbersMemory, RowsMemory};
+use crate::numbered::NUMBER_BYTES;
+use crate::numbers::{FILE_BYTES, NumbersMemory, ROW_BYTES, RowsMemory};
+use crate::size::{BundleSize, BytesEach};
 use std::alloc::Global;
 use trio_page::NoMemory;
+
+/// How many bytes the memory of a case takes.
+pub const CASE_BYTES: BytesEach = BytesEach {
+    page: 16 * ROW_BYTES,
+    value: 3 * NUMBER_BYTES + FILE_BYTES,
+};
 
 /// All the memory of a case, by how much its bundle may have. It can be made before there is a bundle.
 #[derive(Drop)]
@@ -15,15 +23,13 @@ pub struct CaseMemory {
 }
 
 impl CaseMemory {
-    /// Memory for the case of any bundle of at most so many values (write leases, holds and handed-in
-    /// numbers), with tables over so many inode numbers: the image's, with the number 0, or none where
-    /// the bundle is to write no directory.
-    pub fn with(alloc: Global, values: usize, tables: usize) -> Result<CaseMemory, NoMemory>
-        ensures { IfOk result (IsCaseMemory values tables) }
+    /// Memory for the case of any bundle of at most this size.
+    pub fn with(alloc: Global, size: BundleSize) -> Result<CaseMemory, NoMemory>
+        ensures { IfOk result (IsCaseMemory size) }
     {
         Ok(CaseMemory {
-            numbers: NumbersMemory::with(alloc, values)?,
-            rows: RowsMemory::with(alloc, values, tables)?,
+            numbers: NumbersMemory::with(alloc, size.values)?,
+            rows: RowsMemory::with(alloc, size.values, size.pages)?,
         })
     }
 }

@@ -17,6 +17,9 @@ pub(crate) struct NumberPlace {
     pub at: usize,
 }
 
+/// How many bytes a room takes for each number.
+pub(crate) const NUMBER_BYTES: usize = 2 * size_of::<u32>() + size_of::<NumberPlace>();
+
 /// Numbers in the order in which they were added, with the memory to sort them.
 #[derive(Drop)]
 pub(crate) struct NumbersRoom {

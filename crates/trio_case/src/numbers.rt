@@ -1,26 +1,29 @@
 //! What a bundle has under an inode number, and the rows that are copied for it.
 
-ghost use Rattle.std.specs.Prelude.{◌≡◌, ◌≢◌, ◌<◌, ◌≤◌, ◌+◌, ◌++◌, [], ◌||◌, ℕ, None, ◌↔◌, IfOk, IsTrue, length, map, replicate, true, vec_capacity, vec_len};
+ghost use Rattle.std.specs.Prelude.{◌≡◌, ◌≤◌, ◌+◌, ◌*◌, ◌++◌, [], ◌||◌, ℕ, ◌↔◌, IfOk, IsTrue, count_by, length, map, true, vec_capacity};
 ghost use Rattle.std.specs.List.{list_all};
 ghost use Rattle.std.specs.Option.{option_map};
 ghost use Rattle.trio_rights.specs.Row.{row_in};
+ghost use Rattle.trio_rights.specs.Bundle.{bundle_pages};
 ghost use Rattle.trio_lists.specs.Lists.{are_new, is_among};
 ghost use Rattle.trio_lease.specs.Bundles.{Bundled};
 ghost use Rattle.trio_lease.specs.Views.{bundle_in};
 ghost use Rattle.trio_layout.specs.Copied.{copied_row};
 ghost use Rattle.trio_layout.specs.Allowed.{has_kind};
 ghost use Rattle.trio_tables.specs.Row.{as_row};
-ghost use Rattle.trio_case.specs.Cases.{lent_numbers, HasDirectoryParents};
+ghost use Rattle.trio_case.specs.Cases.{is_child, lent_numbers, HasDirectoryParents};
 ghost use Rattle.trio_case.specs.Memory.{value_count};
 ghost use Rattle.trio_case.specs.Order.{place_of};
-ghost use Rattle.trio_case.specs.inner.Maps.{row_kept, rows_seen, table_row, HasCopied, Tells};
-ghost use Rattle.trio_case.specs.inner.Memory.{HasNumbersMemory, HasRowsFor, NumbersDiffer};
+ghost use Rattle.trio_case.specs.inner.Maps.{most_copied, row_kept, rows_seen, HasCopied, Tells};
+ghost use Rattle.trio_case.specs.inner.Memory.{HasNoRows, HasNumbersMemory, HasRowPlaces, HasRowsFor, NumbersDiffer};
 ghost use Rattle.trio_case.specs.inner.Numbered.{HasNumberPlaces};
+ghost use Rattle.trio_case.specs.inner.RowLists.{row_listed};
 
 use crate::listing::push;
 use crate::numbered::{NumbersRoom, Places};
 use crate::size::writes_directory;
 use std::alloc::Global;
+use std::marker::Model;
 use trio_lease::{Bundle, FreshIno, HoldLease, WriteLease};
 use trio_page::NoMemory;
 use trio_tables::{Row, Shadow};
@@ -158,32 +161,93 @@ fn handed_in(mut room: NumbersRoom, inodes: &[FreshIno]) -> Places
     Places::of(room)
 }
 
+/// Rows with their numbers. The row of a number is found by halving.
+///
+/// Contracts see both lists.
+#[derive(Drop)]
+pub(crate) struct ListedRows {
+    // in rising order
+    numbers: Vec<u32>,
+    // by that order
+    rows: Vec<Row>,
+}
+
+impl Model for ListedRows {
+    ghost use Rattle.trio_case.specs.Order.{AreRising};
+    ghost use Rattle.trio_case.specs.inner.RowLists.{RowList};
+
+    ghost Value = { RowList };
+
+    ghost view = { λ l. record { numbers = l.numbers.items; rows = l.rows.items } };
+
+    ghost invariant = { λ l. AreRising l.numbers.items };
+}
+
+impl ListedRows {
+    /// The row of a number; `None` where it is none of these.
+    fn row(&self, ino: u32) -> Option<Row>
+        ensures { option_map as_row result ≡ row_listed self.now ino }
+    {
+        let at = self.numbers.binary_search(&ino).ok()?;
+        Some(*self.rows.get(at)?)
+    }
+}
+
 /// The rows that are copied for a bundle.
 #[derive(Drop)]
 pub(crate) enum CopiedRows {
-    /// Where it writes a directory: by inode number.
-    Table(Vec<Option<Row>>),
+    /// Where it writes a directory: each with its number.
+    Listed(ListedRows),
     /// Where it doesn't: of its own files alone, of the written ones and then of the held ones.
     Few(Vec<Option<Row>>),
 }
 
+/// How many bytes there are for each row that has its number.
+pub(crate) const ROW_BYTES: usize = size_of::<u32>() + size_of::<Row>();
+
+/// Memory for rows with their numbers.
+#[derive(Drop)]
+pub(crate) struct RowsRoom {
+    pub numbers: Vec<u32>,
+    pub rows: Vec<Row>,
+}
+
+impl RowsRoom {
+    /// No rows, with room for so many.
+    fn with(alloc: Global, count: usize) -> Result<RowsRoom, NoMemory>
+        ensures places { IfOk result (HasRowPlaces count) }
+        ensures empty { IfOk result HasNoRows }
+    {
+        Ok(RowsRoom {
+            numbers: Vec::with_capacity(alloc, count)?,
+            rows: Vec::with_capacity(alloc, count)?,
+        })
+    }
+}
+
+/// How many bytes there are for the rows of each file of a bundle.
+pub(crate) const FILE_BYTES: usize = ROW_BYTES + size_of::<Option<Row>>();
+
 /// The memory of the rows that are copied for a bundle.
 #[derive(Drop)]
 pub(crate) struct RowsMemory {
-    // a place for each inode number; none where no directory is written
-    table: Vec<Option<Row>>,
+    // of its own files, and of the children of the directories that it writes
+    listed: RowsRoom,
     few: Vec<Option<Row>>,
 }
 
 impl RowsMemory {
-    /// Memory for the rows of so many files, and for a table over so many numbers.
-    pub fn with(alloc: Global, values: usize, numbers: usize) -> Result<RowsMemory, NoMemory>
+    /// Memory for the rows of so many files, and of 16 children to each of so many pages.
+    pub fn with(alloc: Global, values: usize, pages: usize) -> Result<RowsMemory, NoMemory>
         ensures few { IfOk result (λ m. values ≤ vec_capacity m.few) }
         ensures no_few { IfOk result (λ m. m.few.items ≡ []) }
-        ensures table { IfOk result (λ m. m.table.items ≡ replicate numbers None) }
+        ensures listed { IfOk result (λ m. HasRowPlaces (values + 16 * pages) m.listed) }
+        ensures none_listed { IfOk result (λ m. HasNoRows m.listed) }
     {
+        let children = pages.checked_mul(16).ok_or(NoMemory)?;
+        let count = values.checked_add(children).ok_or(NoMemory)?;
         Ok(RowsMemory {
-            table: vec![in alloc; None; numbers]?,
+            listed: RowsRoom::with(alloc, count)?,
             few: Vec::with_capacity(alloc, values)?,
         })
     }
@@ -195,7 +259,7 @@ impl CopiedRows {
         ensures { option_map as_row result ≡ row_kept numbers.now self.now ino }
     {
         match self {
-            CopiedRows::Table(rows) => *rows.get(ino as usize)?,
+            CopiedRows::Listed(rows) => rows.row(ino),
             CopiedRows::Few(rows) => *rows.get(numbers.lent_place(ino)?)?,
         }
     }
@@ -209,45 +273,40 @@ pub(crate) fn copy_rows(
     numbers: &Numbers,
     rows: &Shadow,
 ) -> CopiedRows
-    requires memory { HasRowsFor bundle.now (length rows.now) memory }
+    requires memory { HasRowsFor bundle.now memory }
     requires tells { Tells numbers.now bundle.now }
     requires parents { HasDirectoryParents rows.now }
     requires written { list_all (λ f. has_kind f.stands.kind (row_in rows.now f.stands.ino)) bundle.now.writes ≡ true }
+    requires children { count_by (is_child bundle.now) rows.now ≤ 16 * length (bundle_pages (bundle_in bundle.now)) }
     ensures { (n : ℕ) → row_kept numbers.now result n ≡ copied_row (bundle_in bundle.now) n (row_in rows.now n) }
 {
-    let RowsMemory { table, few } = memory;
+    let RowsMemory { listed, few } = memory;
     if writes_directory(bundle) {
-        CopiedRows::Table(rows_in_table(table, numbers, rows))
+        CopiedRows::Listed(listed_rows(listed, numbers, rows))
     } else {
         CopiedRows::Few(own_rows(few, bundle, rows))
     }
 }
 
-/// A pass over the table, into an empty one over its numbers.
-fn rows_in_table(mut table: Vec<Option<Row>>, numbers: &Numbers, rows: &Shadow) -> Vec<Option<Row>>
-    requires size { vec_len table ≡ length rows.now }
-    requires empty { (n : ℕ) → table_row table.items n ≡ None }
-    ensures { (b : Bundled) → Tells numbers.now b → (n : ℕ) → table_row result.items n ≡ copied_row (bundle_in b) n (row_in rows.now n) }
+/// The rows that are copied from a table, in lists that have places for them. One pass over the table.
+fn listed_rows(room: RowsRoom, own: &Numbers, table: &Shadow) -> ListedRows
+    requires places { HasRowPlaces (most_copied own.now table.now) room }
+    requires empty { HasNoRows room }
+    ensures { (b : Bundled) → Tells own.now b → (n : ℕ) → row_listed result n ≡ copied_row (bundle_in b) n (row_in table.now n) }
 {
-    for ino in 0..rows.inodes() + 1 {
-        copy_row(&mut table, numbers, rows, ino);
-    }
-    table
-}
-
-/// Puts the row of a number in its place, which is empty, where it is copied.
-fn copy_row(table: &mut [Option<Row>], numbers: &Numbers, rows: &Shadow, ino: u32)
-    requires within { ino < length table.old }
-    requires empty { table_row table.old ino ≡ None }
-    ensures here { (b : Bundled) → Tells numbers.now b → table_row table.new ino ≡ copied_row (bundle_in b) ino (row_in rows.now ino) }
-    ensures others { (n : ℕ) → n ≢ ino → table_row table.new n ≡ table_row table.old n }
-    ensures len { length table.new ≡ length table.old }
-{
-    if let Some(row) = rows.row(ino) {
-        if numbers.is_own(ino, row.parent) {
-            table[ino as usize] = Some(row);
+    let RowsRoom {
+        mut numbers,
+        mut rows,
+    } = room;
+    for ino in 0..table.inodes() + 1 {
+        if let Some(row) = table.row(ino) {
+            if own.is_own(ino, row.parent) {
+                push(&mut numbers, ino);
+                push(&mut rows, row);
+            }
         }
     }
+    ListedRows { numbers, rows }
 }
 
 /// Whether just these rows are copied for the bundle from a table. One pass over the table.

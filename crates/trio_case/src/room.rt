@@ -10,10 +10,17 @@ ghost use Rattle.trio_case.specs.Rooms.{entries_kept, looks_left, HasPageMemory,
 
 use crate::case::Case;
 use crate::entries::DirEntry;
-use crate::kept::KeptPages;
+use crate::kept::{KEPT_BYTES, KeptPages, SAID_BYTES, name_count};
 use std::alloc::Global;
-use trio_nameset::NameSet;
+use trio_marks::Marks;
 use trio_page::NoMemory;
+
+/// How many bytes the memory of what is read takes for each page of a bundle: for what the page says, and
+/// for marks over 16 names.
+pub const READ_PAGE_BYTES: usize = KEPT_BYTES + SAID_BYTES + 16 * size_of::<u32>();
+
+/// How many bytes it takes for each core page of the image, beside those for index pages.
+pub const READ_CORE_BYTES: usize = size_of::<u32>();
 
 /// The memory of what is read of a case, by the number of the bundle's pages and of core pages.
 ///
@@ -25,8 +32,8 @@ pub struct PageRoom {
     pub(crate) index: Vec<u32>,
     // its blocks
     pub(crate) blocks: Vec<u32>,
-    // the names of one directory
-    pub(crate) names: NameSet,
+    // marks of the names of one directory, over the numbers of all that are kept
+    pub(crate) named: Marks,
 }
 
 impl PageRoom {
@@ -36,15 +43,12 @@ impl PageRoom {
         ensures { IfOk result (IsPageMemory pages core) }
     {
         let kept = KeptPages::for_reading(alloc, pages)?;
-        let entries = pages.checked_mul(16).ok_or(NoMemory)?;
-        let Ok(names) = u32::try_from(entries.saturating_add(1)) else {
-            return Err(NoMemory);
-        };
+        let names = name_count(pages)?;
         Ok(PageRoom {
             kept,
             index: Vec::with_capacity(alloc, core.div_ceil(511))?,
             blocks: Vec::with_capacity(alloc, core)?,
-            names: NameSet::with(alloc, names)?,
+            named: Marks::with(alloc, names)?,
         })
     }
 
@@ -107,7 +111,7 @@ impl PageRoom {
     /// as a directory block, or is none of the bundle's.
     pub fn entries_of(&self, case: &Case, block: u32) -> &[DirEntry]
         requires { Keeps case.now self.now }
-        ensures { map listed_seen result.now ≡ entries_kept self.now.kept block }
+        ensures { map (listed_seen self.now.kept.names.names) result.now ≡ entries_kept self.now.kept block }
     {
         self.kept.entries_of(case, block)
     }

@@ -1,6 +1,6 @@
 //! How large a bundle may be.
 
-ghost use Rattle.std.specs.Prelude.{◌≡◌, ◌+◌, ◌-◌, ◌*◌, ◌≤◌, ℕ, IfOk};
+ghost use Rattle.std.specs.Prelude.{◌≡◌, ◌+◌, ◌-◌, ◌*◌, ◌≤◌, ℕ, IfOk, if◌then◌else◌};
 ghost use Rattle.trio_case.specs.Memory.{size_of, value_count, writes_directory};
 
 use crate::kept::page_count;
@@ -14,6 +14,14 @@ use trio_rights::Kind;
 pub struct BundleSize {
     pub pages: usize,
     pub values: usize,
+}
+
+/// How many bytes memory takes for each page of a bundle, and for each write lease, hold and handed-in inode
+/// number.
+#[derive(Clone, Copy)]
+pub struct BytesEach {
+    pub page: usize,
+    pub value: usize,
 }
 
 impl BundleSize {
@@ -54,11 +62,23 @@ pub(crate) fn value_count(bundle: &Bundle) -> Result<usize, NoMemory>
     leases.checked_add(bundle.inodes().len()).ok_or(NoMemory)
 }
 
-/// Whether a bundle writes a directory. Only then do its case and its judgement need tables by inode
-/// number.
-pub fn writes_directory(bundle: &Bundle) -> bool
+/// Whether a bundle writes a directory. Only then does its case take a pass over the rows, and is anything
+/// listed.
+pub(crate) fn writes_directory(bundle: &Bundle) -> bool
     ensures { result ≡ writes_directory bundle.now }
 {
     let writes = bundle.writes();
     writes.iter().any(|lease| lease.kind() == Kind::Directory)
+}
+
+/// Over how many inode numbers the judgement of a bundle is to have a table: over all of an image's, with
+/// the number 0, where the bundle writes a directory, and else over none, since then it lists nothing.
+pub fn table_size(bundle: &Bundle, inodes: u32) -> usize
+    ensures { result ≡ (if writes_directory bundle.now then inodes + 1 else 0) }
+{
+    if writes_directory(bundle) {
+        inodes as usize + 1
+    } else {
+        0
+    }
 }

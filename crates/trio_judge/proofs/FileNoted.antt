@@ -39,8 +39,8 @@ module _ (c : Case) (done es : List Met) (m : Met) (f : FileRead) (w : Walk) (e 
       owns_file c done es m l.owns (rw pages own.own_all) (rw pages own.new)
 
   -- it is listed
-  pub lists_file : (w' : Walk) (keeps : Bool) → keeps ≡ body_keeps_rights c m.ino f.body → w'.rights ≡ option_or w.rights (cond keeps None (Some (record { ino = m.ino; page = 0; slot = 0 }))) → w'.listing.listing ≡ record { held = w.listing.listing.held; files = w.listing.listing.files ++ file_listed m (Ok f); entries = w.listing.listing.entries } → w'.pages.items ≡ marks → w'.named ≡ w.named → Lists c (done ++ m ∷ []) es w'
-  lists_file w' keeps k r li pa na =
+  pub lists_file : (w' : Walk) (keeps : Bool) → keeps ≡ body_keeps_rights c m.ino f.body → w'.rights ≡ option_or w.rights (cond keeps None (Some (record { ino = m.ino; page = 0; slot = 0 }))) → w'.listing.listing ≡ record { held = w.listing.listing.held; files = w.listing.listing.files ++ file_listed m (Ok f); entries = w.listing.listing.entries } → w'.pages.items ≡ marks → Lists c (done ++ m ∷ []) es w'
+  lists_file w' keeps k r li pa =
       let pages : flat_map (pages_within c) (done ++ m ∷ []) ≡ flat_map (pages_within c) done ++ (f.chain.index ++ f.chain.blocks) =
       flat_map-append (pages_within c) done (m ∷ []) ∙ ap (λ l. flat_map (pages_within c) done ++ l) (append-nil (pages_within c m) ∙ ap pages_in e) in
       record {
@@ -48,7 +48,6 @@ module _ (c : Case) (done es : List Met) (m : Met) (f : FileRead) (w : Walk) (e 
         rights = rw r (rights_file c done es m w.rights keeps (k ∙ sym (ap (file_keeps_rights c m) e)) l.rights);
         listing = li ∙ ap (λ (x : Listing). record { held = x.held; files = x.files ++ file_listed m (Ok f); entries = x.entries }) l.listing ∙ ap (λ fs. record { held = (listing_of c done es).held; files = fs; entries = (listing_of c done es).entries }) (sym (listed-file c done es m f e));
         pages = rw (pa, pages) own.marked;
-        named = rw na l.named;
       }
 
   -- and there is a place for it

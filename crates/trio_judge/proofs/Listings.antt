@@ -1,32 +1,21 @@
 -- What a file lists, within its image and its bundle.
-use Rattle.std.proofs.Common.{◌≡◌, ◌+◌, ◌*◌, ◌≤◌, true, ltb, List, [], ◌∷◌, length, Result, Ok, Err, refl, arith}
-use Rattle.std.specs.List.{list_all, flat_map}
-use Rattle.std.specs.Prelude.{nat_lt}
+use Rattle.std.proofs.Common.{◌≡◌, ◌*◌, ◌≤◌, List, [], ◌∷◌, length, Result, Ok, Err, refl, arith}
+use Rattle.std.specs.List.{flat_map}
 use Rattle.std.proofs.lemmas.List.{length-append, length-map}
-use Rattle.std.proofs.lemmas.Bool.{and_parts}
 use Rattle.trio_rights.specs.Bundle.{bundle_pages}
 use Rattle.trio_lists.specs.Lists.{is_among}
-use Rattle.trio_lists.proofs.Members.{is_among-In, list_all-In, list_all-each}
+use Rattle.trio_lists.proofs.Members.{is_among-In, list_all-In}
 use Rattle.trio_layout.specs.Core.{Location}
-use Rattle.trio_layout.specs.Entries.{Listed}
 use Rattle.trio_layout.specs.Survey.{Met, FileRead, children_in, met_in, pages_in, plain}
 use Rattle.trio_layout.specs.Case.{Case, bundle_core, file_in}
 use Rattle.trio_layout.specs.JudgedFiles.{entries_in, pages_within}
 use Rattle.trio_layout.specs.Listing.{file_listed}
-use Rattle.trio_layout.proofs.EntryNumbers.{AreInodes, AtMost, if_ok_at, is_inode, within_fit, within_most}
+use Rattle.trio_layout.proofs.EntryNumbers.{AtMost, if_ok_at, within_most}
 use Rattle.trio_layout.proofs.WithinCore.{within_from}
 use Rattle.trio_judge.specs.inner.Walk.{Owns}
 use Rattle.trio_case.proofs.Distinct.{no_more}
 
--- its entries have inode numbers of the image
-pub numbers_below : (c : Case) (m : Met) (f : FileRead) → file_in c m ≡ Ok f → list_all (λ l. nat_lt l.entry.ino (c.inodes + 1)) f.entries ≡ true
-numbers_below c m f e =
-    let r = within_from (bundle_core c) m f e in
-    let all = if_ok_at _ f.entries (AreInodes c.inodes) r.entries (within_fit (bundle_core c) m.kind f.chain.blocks) in
-    list_all-each (λ l. nat_lt l.entry.ino (c.inodes + 1)) f.entries
-    (λ l i. (and_parts (ltb 0 l.entry.ino) (ltb l.entry.ino (c.inodes + 1)) (list_all-In (λ (x : Listed). is_inode c.inodes x.entry.ino) l f.entries all i)).1)
-
--- and there are at most 16 a block
+-- it has at most 16 entries a block
 entries_most : (c : Case) (m : Met) (f : FileRead) → file_in c m ≡ Ok f → length f.entries ≤ 16 * length f.chain.blocks
 entries_most c m f e =
     let r = within_from (bundle_core c) m f e in

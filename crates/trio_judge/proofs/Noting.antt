@@ -1,30 +1,34 @@
 -- One entry more, and one file more.
-use Rattle.std.proofs.Common.{◌≡◌, ℕ, ◌+◌, ◌<◌, ◌≤◌, is_some, vec_capacity, vec_len, Bool, true, false, not, cond, List, [], ◌∷◌, ◌++◌, length, map, get_or, set, take, Option, None, Some, Ok, inl, inr, refl, sym, ap, ◌∙◌, subst, append_assoc, arith}
+use Rattle.std.proofs.Common.{◌≡◌, ℕ, ◌+◌, ◌<◌, ◌≤◌, is_some, vec_capacity, vec_len, Bool, true, false, ◌||◌, eqb, cond, List, [], ◌∷◌, ◌++◌, length, map, get_or, set, take, Option, None, Some, Ok, inl, inr, refl, sym, ap, ◌∙◌, subst, append_assoc, arith}
 use Rattle.trio_case.proofs.Distinct.{no_more}
-use Rattle.std.specs.List.{list_all, flat_map, filter}
-use Rattle.std.specs.Option.{option_or}
+use Rattle.std.specs.List.{list_all, find, flat_map, filter}
+use Rattle.std.specs.Option.{option_map, option_map_or, option_or}
 use Rattle.std.specs.Prelude.{MatchOption}
-use Rattle.std.proofs.lemmas.List.{append-nil, length-append, length-map, length-set, map-append, map_push, take_more}
+use Rattle.std.proofs.lemmas.List.{append-nil, get_or_default, length-append, length-map, length-set, map-append, map_push, take_more}
 use Rattle.std.proofs.lemmas.List.Concat.{flat_map-append}
 use Rattle.std.proofs.lemmas.List.Folds.{list_all-append}
 use Rattle.std.proofs.lemmas.Bool.{and_from, false≢true}
-use Rattle.trio_lists.proofs.Members.{In-cases, In-flat, In-map, In-right, is_among-In, list_all-each, list_all-In, map-In}
+use Rattle.trio_lists.proofs.Members.{In-cases, In-flat, In-is_among, In-left, In-map, In-right, is_among-In, map-In}
 use Rattle.trio_lists.proofs.Filters.{get_or-In}
+use Rattle.trio_rights.specs.declared.kind.Kind.TheVariants.{Regular}
 use Rattle.trio_layout.specs.Entries.{Listed}
 use Rattle.trio_case.specs.Reading.{listed_seen}
 use Rattle.trio_case.specs.declared.entries.DirEntry.{DirEntry}
 use Rattle.trio_rights.specs.Bundle.{bundle_pages}
 use Rattle.trio_lists.specs.Lists.{In, is_among, are_new}
-use Rattle.trio_lists.proofs.Marked.{MarksJust-set, are_new-append, are_new-push}
+use Rattle.trio_lists.proofs.Marked.{are_new-append, are_new-push, is_among-append, is_among-push}
 use Rattle.trio_layout.specs.Survey.{Met, FileRead, numbers, first_listed, met_in, plain}
 use Rattle.trio_layout.proofs.QueueLaws.{first_listed-append}
 use Rattle.trio_layout.specs.Case.{Case, file_in}
 use Rattle.trio_layout.specs.JudgedFiles.{pages_within}
-use Rattle.trio_layout.specs.Listing.{Listing, entry_listed, file_listed}
+use Rattle.trio_layout.specs.Listing.{Listing, ListedEntry, entry_listed, file_listed}
 use Rattle.trio_layout.specs.Rules.{entry_in_grammar, entry_is_own, entry_keeps_rights, file_keeps_rights}
 use Rattle.trio_judge.specs.declared.walk.FaultAt.{FaultAt}
 use Rattle.trio_judge.specs.declared.walk.Walk.{Walk}
-use Rattle.trio_judge.specs.inner.Walk.{AreOwn, IsForeign, KeepRights, Lists, IsListed, OwningFails, Owns, RightsFail, listing_of, HasMarks, IsReady, SameFindings, SameQueue, BadEntry, Noted, PlacesLeft, files_of, file_met, is_new, own_numbers}
+use Rattle.trio_judge.specs.inner.Walk.{AreOwn, IsForeign, KeepRights, Lists, IsListed, OwningFails, Owns, RightsFail, listing_of, AreFound, IsReady, SameFindings, SameQueue, BadEntry, Noted, PlacesLeft, files_of, file_met, is_new, own_numbers, listed_met}
+use Rattle.trio_case.specs.Order.{place_of}
+use Rattle.trio_case.proofs.Counted.{place_some, place_within}
+use Rattle.trio_case.proofs.Ordered.{mark_more}
 use Rattle.trio_case.proofs.Parts.{all-push}
 use Rattle.trio_judge.proofs.Faults.{entry_denied, entry_fault, file_denied}
 
@@ -96,25 +100,25 @@ listed-file c done es m f e =
 -- ---- one entry listed
 
 -- an entry that is its own and names a new number
-pub lists_entry : (c : Case) (done es : List Met) (e : Met) (w w' : Walk) (keeps : Bool) → Lists c done es w → entry_is_own c e ≡ true → get_or w.named e.ino false ≡ false → e.ino < length w.named → keeps ≡ entry_keeps_rights c e → w'.rights ≡ option_or w.rights (cond keeps None (Some (entry_fault e))) → w'.listing.listing ≡ record { held = w.listing.listing.held; files = w.listing.listing.files; entries = w.listing.listing.entries ++ entry_listed c e ∷ [] } → w'.pages ≡ w.pages → w'.named ≡ set w.named e.ino true → Lists c done (es ++ e ∷ []) w'
-lists_entry c done es e w w' keeps l own new h k r li pa na =
-    let unnamed : is_among e.ino (numbers es) ≡ false = sym (l.named e.ino h) ∙ new in
-    let more : numbers (es ++ e ∷ []) ≡ numbers es ++ e.ino ∷ [] = map_push (λ (m : Met). m.ino) es e in
-    record {
-      owns = owns_entry c done es e l.owns own unnamed;
-      rights = rw r (rights_entry c done es e w.rights keeps k l.rights);
-      listing = li ∙ ap (λ (x : Listing). record { held = x.held; files = x.files; entries = x.entries ++ entry_listed c e ∷ [] }) l.listing ∙ ap (λ ys. record { held = (listing_of c done es).held; files = (listing_of c done es).files; entries = ys }) (sym (map_push (entry_listed c) es e));
-      pages = rw pa l.pages;
-      named = rw (na, more) (MarksJust-set w.named (numbers es) e.ino h l.named);
-    }
+pub lists_entry : (c : Case) (done es : List Met) (e : Met) (w w' : Walk) (keeps : Bool) → Lists c done es w → entry_is_own c e ≡ true → is_among e.ino (numbers es) ≡ false → keeps ≡ entry_keeps_rights c e → w'.rights ≡ option_or w.rights (cond keeps None (Some (entry_fault e))) → w'.listing.listing ≡ record { held = w.listing.listing.held; files = w.listing.listing.files; entries = w.listing.listing.entries ++ entry_listed c e ∷ [] } → w'.pages ≡ w.pages → Lists c done (es ++ e ∷ []) w'
+lists_entry c done es e w w' keeps l own new k r li pa = record {
+  owns = owns_entry c done es e l.owns own new;
+  rights = rw r (rights_entry c done es e w.rights keeps k l.rights);
+  listing = li ∙ ap (λ (x : Listing). record { held = x.held; files = x.files; entries = x.entries ++ entry_listed c e ∷ [] }) l.listing ∙ ap (λ ys. record { held = (listing_of c done es).held; files = (listing_of c done es).files; entries = ys }) (sym (map_push (entry_listed c) es e));
+  pages = rw pa l.pages;
+}
 
-pub old_mark : (new mark : Bool) → new ≡ not mark → new ≡ false → mark ≡ true
-old_mark new true e f = refl
-old_mark new false e f = absurd (false≢true (sym f ∙ e))
+-- the listing has a directory for just the numbers of its entries
+entry_step : (here : Bool) (e : ListedEntry) (o : Option ListedEntry) → is_some (option_map (λ (x : ListedEntry). x.dir) (cond here (Some e) o)) ≡ (here || is_some (option_map (λ (x : ListedEntry). x.dir) o))
+entry_step true e o = refl
+entry_step false e o = refl
 
-pub new_mark : (new mark : Bool) → new ≡ not mark → new ≡ true → mark ≡ false
-new_mark new true e f = absurd (false≢true (sym e ∙ f))
-new_mark new false e f = refl
+entries_named : (c : Case) (es : List Met) (n : ℕ) → is_some (option_map (λ (x : ListedEntry). x.dir) (find (λ (x : ListedEntry). eqb x.ino n) (map (entry_listed c) es))) ≡ is_among n (numbers es)
+entries_named c [] n = refl
+entries_named c (e ∷ es) n = entry_step (eqb e.ino n) (entry_listed c e) _ ∙ ap (λ b. eqb e.ino n || b) (entries_named c es n)
+
+pub is_named : (c : Case) (done es : List Met) (w : Walk) (n : ℕ) → Lists c done es w → is_some (option_map (λ (x : ListedEntry). x.dir) (find (λ (x : ListedEntry). eqb x.ino n) w.listing.listing.entries)) ≡ is_among n (numbers es)
+is_named c done es w n l = rw l.listing (entries_named c es n)
 
 -- ---- a fault of I2 before
 
@@ -152,7 +156,6 @@ lists_same c done es w w' s l = record {
   rights = rw s.rights l.rights;
   listing = rw s.listing l.listing;
   pages = rw s.pages l.pages;
-  named = rw s.named l.named;
 }
 
 same_at : (c : Case) (done es : List Met) (w w' : Walk) (o : Option FaultAt) → SameFindings w w' → MatchOption o (Lists c done es w) (OwningFails c done es) → MatchOption o (Lists c done es w') (OwningFails c done es)
@@ -170,21 +173,48 @@ ready_same c w w' s r = record {
   fit = r.fit;
   once = rw s.files r.once;
   own = rw s.files r.own;
+  written = rw s.files r.written;
   found = rw (s.found, s.files) r.found;
   places = rw s.files r.places;
   pages = s.pages ∙ r.pages;
-  marks = elim r.marks [
-    | inl m ↦ inl (record { found = ap length s.found ∙ m.found; named = s.named ∙ m.named })
-    | inr h ↦ inr (rw s.files h)
-  ];
   room = rw s.room r.room;
 }
 
 pub files_same : (w w' : Walk) → SameQueue w w' → files_of w' ≡ files_of w
 files_same w w' s = rw s.files refl
 
-pub marks_same : (c : Case) (w w' : Walk) → SameQueue w w' → HasMarks c w → HasMarks c w'
-marks_same c w w' s m = record { found = ap length s.found ∙ m.found; named = s.named ∙ m.named }
+-- ---- the file of an entry found
+
+either_false : (a b : Bool) → (a || b) ≡ false → b ≡ false
+either_false true b h = absurd (false≢true (sym h))
+either_false false b h = h
+
+-- the number of an entry is new, where it is one that a judged file may have, and no file with it was found
+pub unfound_new : (c : Case) (w : Walk) (n at : ℕ) → IsReady c w → place_of n (own_numbers c) ≡ Some at → is_among n (numbers (files_of w)) ≡ false → is_among n c.bundle.numbers ≡ true
+unfound_new c w n at r place unfound =
+    elim (In-cases n (map (λ x. x.ino) c.bundle.writes) c.bundle.numbers (is_among-In n (own_numbers c) (sym (place_some n (own_numbers c)) ∙ ap is_some place))) [
+      | inl written ↦ absurd (false≢true (sym unfound ∙ In-is_among n (numbers (files_of w)) (r.written n written)))
+      | inr new ↦ In-is_among n c.bundle.numbers new
+    ]
+
+-- it isn't, where it is none that a judged file may have
+pub unplaced_old : (c : Case) (n : ℕ) → place_of n (own_numbers c) ≡ None → is_among n c.bundle.numbers ≡ false
+unplaced_old c n none =
+    either_false (is_among n (map (λ x. x.ino) c.bundle.writes)) (is_among n c.bundle.numbers)
+    (sym (is_among-append n (map (λ x. x.ino) c.bundle.writes) c.bundle.numbers) ∙ sym (place_some n (own_numbers c)) ∙ ap is_some none)
+
+-- its mark
+pub mark_at : (c : Case) (w : Walk) (n at : ℕ) → IsReady c w → place_of n (own_numbers c) ≡ Some at → get_or w.found.items at false ≡ is_among n (numbers (files_of w))
+mark_at c w n at r place = ap (λ o. option_map_or (λ i. get_or w.found.items i false) o false) (sym place) ∙ r.found.each n
+
+pub mark_within : (c : Case) (w : Walk) (n at : ℕ) → IsReady c w → place_of n (own_numbers c) ≡ Some at → at < length w.found.items
+mark_within c w n at r place = omega (arith, place_within n at (own_numbers c) place, r.found.places)
+
+found_more : (own : List ℕ) (marks : List Bool) (files : List ℕ) (n at : ℕ) → place_of n own ≡ Some at → AreFound own marks files → AreFound own (set marks at true) (files ++ n ∷ [])
+found_more own marks files n at place f = record {
+  places = length-set marks at true ∙ f.places;
+  each = λ m. mark_more own marks n at place (omega (arith, place_within n at own place, f.places)) m ∙ ap (λ b. b || eqb n m) (f.each m) ∙ sym (is_among-push m n files);
+}
 
 -- the number of an entry that isn't new
 pub find_old : (c : Case) (files : List Met) (e : Met) → is_new c e ≡ false → files ≡ files ++ first_listed (numbers files) (filter (is_new c) (e ∷ []))
@@ -200,8 +230,8 @@ find_again c files e h = by (is_new c e) refl
 pub find_first : (c : Case) (files : List Met) (e : Met) → is_new c e ≡ true → is_among e.ino (numbers files) ≡ false → files ++ e ∷ [] ≡ files ++ first_listed (numbers files) (filter (is_new c) (e ∷ []))
 find_first c files e n h = rw (n, h) refl
 
-pub ready_more : (c : Case) (w w' : Walk) (e : Met) → IsReady c w → HasMarks c w → files_of w' ≡ files_of w ++ e ∷ [] → is_among e.ino (numbers (files_of w)) ≡ false → is_new c e ≡ true → e.ino < length w.found → w'.found ≡ set w.found e.ino true → vec_capacity w.files ≤ vec_capacity w'.files → vec_len w'.pages ≡ vec_len w.pages → length w'.named ≡ length w.named → w'.listing.room ≡ w.listing.room → IsReady c w'
-ready_more c w w' e r m files unfound new h found places pages named room =
+pub ready_more : (c : Case) (w w' : Walk) (e : Met) (at : ℕ) → IsReady c w → files_of w' ≡ files_of w ++ e ∷ [] → is_among e.ino (numbers (files_of w)) ≡ false → is_new c e ≡ true → place_of e.ino (own_numbers c) ≡ Some at → w'.found.items ≡ set w.found.items at true → vec_capacity w.files ≤ vec_capacity w'.files → vec_len w'.pages ≡ vec_len w.pages → w'.listing.room ≡ w.listing.room → IsReady c w'
+ready_more c w w' e at r files unfound new place found places pages room =
     let all : numbers (files_of w') ≡ numbers (files_of w) ++ e.ino ∷ [] = ap numbers files ∙ map_push (λ (x : Met). x.ino) (files_of w) e in
     record {
       fit = r.fit;
@@ -210,10 +240,10 @@ ready_more c w w' e r m files unfound new h found places pages named room =
         | inl before ↦ r.own n before
         | inr last ↦ elim last [ inl same ↦ subst (λ k. In k (own_numbers c)) (sym same) (In-right e.ino (map (λ x. x.ino) c.bundle.writes) c.bundle.numbers (is_among-In e.ino c.bundle.numbers new)) | inr none ↦ absurd none ]
       ];
-      found = rw (found, all) (MarksJust-set w.found (numbers (files_of w)) e.ino h r.found);
+      written = λ n i. subst (λ l. In n l) (sym all) (In-left n (numbers (files_of w)) (e.ino ∷ []) (r.written n i));
+      found = rw (found, all) (found_more (own_numbers c) w.found.items (numbers (files_of w)) e.ino at place r.found);
       places = omega (arith, r.places, places);
       pages = pages ∙ r.pages;
-      marks = inl (record { found = ap length found ∙ length-set w.found e.ino true ∙ m.found; named = named ∙ m.named });
       room = rw room r.room;
     }
 
@@ -233,8 +263,8 @@ place_left c w e r unfound new =
 pub bad_entry : (c : Case) (e : Met) → entry_in_grammar c e ≡ false → BadEntry c (e ∷ []) (entry_fault e)
 bad_entry c e h = (e, inl refl, refl, refl, refl, h)
 
-pub noted_entry : (c : Case) (e : Met) (w w' w'' : Walk) → entry_in_grammar c e ≡ true → ((done es : List Met) → IsListed c done es w → IsListed c done (es ++ e ∷ []) w') → SameQueue w w' → ((n : ℕ) → PlacesLeft (n + 1) w → PlacesLeft n w') → files_of w'' ≡ files_of w' ++ first_listed (numbers (files_of w')) (filter (is_new c) (e ∷ [])) → IsReady c w'' → HasMarks c w'' → SameFindings w' w'' → Noted c (e ∷ []) w w''
-noted_entry c e w w' w'' good lists same places grows ready marks found = record {
+pub noted_entry : (c : Case) (e : Met) (w w' w'' : Walk) → entry_in_grammar c e ≡ true → ((done es : List Met) → IsListed c done es w → IsListed c done (es ++ e ∷ []) w') → SameQueue w w' → ((n : ℕ) → PlacesLeft (n + 1) w → PlacesLeft n w') → files_of w'' ≡ files_of w' ++ first_listed (numbers (files_of w')) (filter (is_new c) (e ∷ [])) → IsReady c w'' → SameFindings w' w'' → Noted c (e ∷ []) w w''
+noted_entry c e w w' w'' good lists same places grows ready found = record {
   stands = λ done es s. record {
     read = s.read;
     grammar = all-push (entry_in_grammar c) es e s.grammar good;
@@ -242,7 +272,6 @@ noted_entry c e w w' w'' good lists same places grows ready marks found = record
   };
   grows = subst (λ fs. files_of w'' ≡ fs ++ first_listed (numbers fs) (filter (is_new c) (e ∷ []))) (files_same w w' same) grows;
   ready = ready;
-  marks = marks;
   places = λ n h none.
       let one : n + 1 ≡ 1 + n = omega arith in
       rw found.listing (places n (rw one h) (sym found.owning ∙ none));
@@ -253,12 +282,11 @@ noted_entry c e w w' w'' good lists same places grows ready marks found = record
 pub places_fewer : (m n : ℕ) (w : Walk) → m ≤ n → PlacesLeft n w → PlacesLeft m w
 places_fewer m n w l h = λ none. omega (arith, l, h none)
 
-pub noted_none : (c : Case) (w : Walk) → IsReady c w → HasMarks c w → Noted c [] w w
-noted_none c w r m = record {
+pub noted_none : (c : Case) (w : Walk) → IsReady c w → Noted c [] w w
+noted_none c w r = record {
   stands = λ done es s. rw (append-nil es) s;
   grows = sym (append-nil (files_of w));
   ready = r;
-  marks = m;
   places = λ n h. places_fewer n (0 + n) w (omega arith) h;
 }
 
@@ -283,7 +311,6 @@ noted_append c xs ys w w' w'' a b = record {
   stands = λ done es s. rw (← append_assoc es xs ys) (b.stands done (es ++ xs) (a.stands done es s));
   grows = grown c (files_of w) (files_of w') (files_of w'') xs ys a.grows b.grows;
   ready = b.ready;
-  marks = b.marks;
   places = λ n h.
       let e : length (xs ++ ys) + n ≡ length xs + (length ys + n) = omega (arith, length-append xs ys) in
       b.places n (a.places (length ys + n) (rw e at h));
@@ -294,28 +321,33 @@ bad_among c xs ys p h b = (b.0, h b.0 b.1, b.2, b.3, b.4, b.5)
 
 -- ---- the entries of a block, and of several
 
-pub block_more : (d i : ℕ) (es : List DirEntry) (x : DirEntry) → i < length es → get_or es i x ≡ x → map (met_in plain d) (map listed_seen (take (i + 1) es)) ≡ map (met_in plain d) (map listed_seen (take i es)) ++ met_in plain d (listed_seen x) ∷ []
+-- the entry that stands where none does
+abbrev pub blank : DirEntry
+blank = record { ino = 0; name = 0; page = 0; slot = 0; kind = Regular; body = [] }
+
+pub block_at : (i : ℕ) (es : List DirEntry) → i < length es → get_or es i (get_or es i blank) ≡ get_or es i blank
+block_at i es h = get_or_default es i (get_or es i blank) blank h
+
+pub block_more : (d i : ℕ) (es : List DirEntry) (x : DirEntry) → i < length es → get_or es i x ≡ x → map (listed_met d) (take (i + 1) es) ≡ map (listed_met d) (take i es) ++ listed_met d x ∷ []
 block_more d i es x h at =
-    ap (λ l. map (met_in plain d) (map listed_seen l)) (take_more es i x h ∙ ap (λ y. take i es ++ y ∷ []) at)
-    ∙ ap (map (met_in plain d)) (map_push listed_seen (take i es) x)
-    ∙ map_push (met_in plain d) (map listed_seen (take i es)) (listed_seen x)
+    ap (map (listed_met d)) (take_more es i x h ∙ ap (λ y. take i es ++ y ∷ []) at) ∙ map_push (listed_met d) (take i es) x
 
-pub block_len : (d : ℕ) (es : List DirEntry) → length (map (met_in plain d) (map listed_seen es)) ≡ length es
-block_len d es = length-map (map listed_seen es) (met_in plain d) ∙ length-map es listed_seen
+pub block_len : (d : ℕ) (es : List DirEntry) → length (map (listed_met d) es) ≡ length es
+block_len d es = length-map es (listed_met d)
 
-pub block_has : (d i : ℕ) (es : List DirEntry) (x : DirEntry) → i < length es → get_or es i x ≡ x → In (met_in plain d (listed_seen x)) (map (met_in plain d) (map listed_seen es))
-block_has d i es x h at =
-    In-map (met_in plain d) (listed_seen x) (map listed_seen es) (In-map listed_seen x es (subst (λ y. In y es) at (get_or-In es i x h)))
+pub block_has : (d i : ℕ) (es : List DirEntry) (x : DirEntry) → i < length es → get_or es i x ≡ x → In (listed_met d x) (map (listed_met d) es)
+block_has d i es x h at = In-map (listed_met d) x es (subst (λ y. In y es) at (get_or-In es i x h))
+
+-- what the entries of a block list, whatever their names are
+pub listed_is : (d : ℕ) (names : List (List ℕ)) (es : List DirEntry) → map (listed_met d) es ≡ map (met_in plain d) (map (listed_seen names) es)
+listed_is d names [] = refl
+listed_is d names (e ∷ es) = ap (λ ms. listed_met d e ∷ ms) (listed_is d names es)
 
 pub entries_more : (f : ℕ → List Listed) (d i : ℕ) (bs : List ℕ) → i < length bs → map (met_in plain d) (flat_map f (take (i + 1) bs)) ≡ map (met_in plain d) (flat_map f (take i bs)) ++ map (met_in plain d) (f (get_or bs i 0))
 entries_more f d i bs h =
     ap (λ l. map (met_in plain d) (flat_map f l)) (take_more bs i 0 h)
     ∙ ap (map (met_in plain d)) (flat_map-append f (take i bs) (get_or bs i 0 ∷ []) ∙ ap (λ l. flat_map f (take i bs) ++ l) (append-nil (f (get_or bs i 0))))
     ∙ map-append (met_in plain d) (flat_map f (take i bs)) (f (get_or bs i 0))
-
-pub all_of_block : (p : Listed → Bool) (f : ℕ → List Listed) (bs : List ℕ) (i : ℕ) → i < length bs → list_all p (flat_map f bs) ≡ true → list_all p (f (get_or bs i 0)) ≡ true
-all_of_block p f bs i h all =
-    list_all-each p (f (get_or bs i 0)) (λ l k. list_all-In p l (flat_map f bs) all (In-flat f (get_or bs i 0) l bs (get_or-In bs i 0 h) k))
 
 pub entries_have : (f : ℕ → List Listed) (d i : ℕ) (bs : List ℕ) (e : Met) → i < length bs → In e (map (met_in plain d) (f (get_or bs i 0))) → In e (map (met_in plain d) (flat_map f bs))
 entries_have f d i bs e h k =

@@ -1,5 +1,5 @@
 -- A room made for a case is one for the case with other bytes in a page, and for the case with touched blocks.
-use Rattle.std.proofs.Common.{◌≡◌, [], map, inl, inr, refl, sym, ap, ◌∙◌, subst}
+use Rattle.std.proofs.Common.{◌≡◌, [], map, refl, sym, ap, ◌∙◌, subst}
 use Rattle.std.specs.Prelude.{MatchOption}
 use Rattle.trio_rights.specs.Row.{row_in}
 use Rattle.trio_rights.specs.Bundle.{Written}
@@ -9,14 +9,14 @@ use Rattle.trio_lease.specs.Bundles.{Bundled}
 use Rattle.trio_lease.specs.Places.{with_bytes}
 use Rattle.trio_lease.specs.Shown.{LentFile}
 use Rattle.trio_lease.specs.Views.{written_in}
-use Rattle.trio_layout.specs.Survey.{Met}
+use Rattle.trio_layout.specs.Survey.{Met, numbers}
 use Rattle.trio_layout.specs.JudgedFiles.{written_files, written_met}
 use Rattle.trio_case.specs.Cases.{CaseShown, case_in}
 use Rattle.trio_judge.specs.Judging.{IsJudgeRoom}
 use Rattle.trio_judge.specs.Laws.{RoomStaysTouched, RoomStaysWithBytes}
 use Rattle.trio_judge.specs.declared.verdict.Room.{Room}
 use Rattle.trio_judge.specs.declared.walk.Walk.{Walk}
-use Rattle.trio_judge.specs.inner.Walk.{KeepRights, Lists, OwningFails, RightsFail, Starts, own_numbers}
+use Rattle.trio_judge.specs.inner.Walk.{AreFound, KeepRights, Lists, OwningFails, RightsFail, Starts, files_of, own_numbers}
 use Rattle.trio_case.proofs.CaseRows.{writes_of}
 use Rattle.trio_case.proofs.OtherBytes.{Alike, alike, alike_touched, pages_alike, touched}
 use Rattle.trio_case.proofs.Sorted.{sorted-map}
@@ -25,6 +25,9 @@ use Rattle.trio_judge.proofs.Starting.{mets_of, written_number}
 module _ (k : CaseShown) (b' : Bundled) (a : Alike k.bundle b') where
   abbrev other : CaseShown
   other = record k { bundle = b' }
+
+  writes_same : map (λ (x : Written). x.ino) (case_in other).bundle.writes ≡ map (λ (x : Written). x.ino) (case_in k).bundle.writes
+  writes_same = rw (writes_of other, writes_of k, a.files) refl
 
   own_same : own_numbers (case_in other) ≡ own_numbers (case_in k)
   own_same = rw (writes_of other, writes_of k, a.files, a.inodes) refl
@@ -49,20 +52,16 @@ module _ (k : CaseShown) (b' : Bundled) (a : Alike k.bundle b') where
             rights = subst (λ o. MatchOption o (KeepRights (case_in other) [] []) (RightsFail (case_in other) [] [])) (sym s.rights) (record { files = refl; entries = refl });
             listing = rw a.holds l.listing;
             pages = rw a.pages l.pages;
-            named = l.named;
           });
         };
         ready = record {
           fit = λ n i. s.ready.fit n (subst (In n) own_same i);
           once = s.ready.once;
           own = λ n i. subst (In n) (sym own_same) (s.ready.own n i);
-          found = s.ready.found;
+          written = λ n i. s.ready.written n (subst (In n) writes_same i);
+          found = subst (λ own. AreFound own w.found.items (numbers (files_of w))) (sym own_same) s.ready.found;
           places = rw own_same s.ready.places;
           pages = rw a.pages s.ready.pages;
-          marks = elim s.ready.marks [
-            | inl m ↦ inl (record { found = m.found; named = m.named })
-            | inr regular ↦ inr regular
-          ];
           room = record {
             files = rw own_same s.ready.room.files;
             index = rw a.pages s.ready.room.index;

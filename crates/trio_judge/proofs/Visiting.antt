@@ -4,13 +4,9 @@ use Rattle.std.specs.List.{flat_map, filter}
 use Rattle.std.specs.Prelude.{IfErr, OnOk}
 use Rattle.std.proofs.lemmas.List.{append-nil, drop_more, drop-append-le, length-append, length-map, length-take-le, take_more, take-append-drop, take-append-le}
 use Rattle.std.proofs.lemmas.List.Concat.{flat_map-append}
-use Rattle.std.proofs.lemmas.Bool.{false≢true}
-use Rattle.trio_rights.specs.declared.kind.Kind.TheVariants.{Regular, Directory}
-use Rattle.trio_rights.specs.Kind.{same_kind}
 use Rattle.trio_rights.specs.Bundle.{bundle_pages}
 use Rattle.trio_lists.specs.Lists.{In}
-use Rattle.trio_lists.proofs.Members.{In-flat, list_all-In}
-use Rattle.trio_lists.proofs.Filters.{get_or-In}
+use Rattle.trio_lists.proofs.Members.{In-flat}
 use Rattle.trio_layout.specs.Core.{Location}
 use Rattle.trio_layout.specs.Survey.{Front, Met, first_listed, numbers}
 use Rattle.trio_layout.specs.Case.{Case, file_in}
@@ -21,7 +17,7 @@ use Rattle.trio_layout.proofs.QueueLaws.{pass_many}
 use Rattle.trio_layout.proofs.Walks.{pass_many-more, pigeons, waiting_in_fronts}
 use Rattle.trio_judge.specs.declared.walk.FaultAt.{FaultAt}
 use Rattle.trio_judge.specs.declared.walk.Walk.{Walk}
-use Rattle.trio_judge.specs.inner.Walk.{BadEntry, HasMarks, IsOnWay, IsPassed, IsQueued, IsReady, Noted, PlacesLeft, SameQueue, Stands, fault_place, files_of, is_new, own_numbers}
+use Rattle.trio_judge.specs.inner.Walk.{BadEntry, IsOnWay, IsPassed, IsQueued, IsReady, Noted, PlacesLeft, SameQueue, Stands, fault_place, files_of, is_new, own_numbers}
 use Rattle.trio_judge.proofs.Listings.{entries_few, pages_few}
 use Rattle.trio_case.proofs.Distinct.{no_more}
 use Rattle.trio_judge.proofs.Noting.{files_same, so_far}
@@ -109,16 +105,6 @@ passed_more c at w w' m h e g s =
     let es : flat_map (entries_in c) (take at fs ++ m ∷ []) ≡ flat_map (entries_in c) (take at fs) ++ entries_in c m =
     flat_map-append (entries_in c) (take at fs) (m ∷ []) ∙ ap (λ l. flat_map (entries_in c) (take at fs) ++ l) (append-nil (entries_in c m)) in
     subst (λ ms. Stands c ms (flat_map (entries_in c) ms) w') (sym t) (subst (λ xs. Stands c (take at fs ++ m ∷ []) xs w') (sym es) s)
-
--- a directory has marks
-pub marks_there : (c : Case) (w : Walk) (at : ℕ) (m : Met) → IsReady c w → at < length (files_of w) → get_or (files_of w) at m ≡ m → m.kind ≡ Directory → HasMarks c w
-marks_there c w at m r h e k =
-    elim r.marks [
-      | inl marks ↦ marks
-      | inr regular ↦
-          let here = list_all-In (λ (x : Met). same_kind x.kind Regular) m (files_of w) regular (subst (λ x. In x (files_of w)) e (get_or-In (files_of w) at m h)) in
-          absurd (false≢true (ap (λ x. same_kind x Regular) (sym k) ∙ here))
-    ]
 
 -- ---- the file noted, and then its entries
 

@@ -1,6 +1,6 @@
 //! Directories that list again just what one before them lists.
 
-ghost use Rattle.std.specs.Prelude.{◌≡◌, ◌+◌, ◌≤◌, ℕ, IfErr, IfOk, IsTrue, List, Err, Ok, OnOk, Some, length, true, vec_len};
+ghost use Rattle.std.specs.Prelude.{◌≡◌, ◌+◌, ◌≤◌, ℕ, IfErr, IfOk, IsTrue, List, Err, Ok, OnOk, Some, is_some, length, true, vec_len};
 ghost use Rattle.std.specs.List.{flat_map, list_all};
 ghost use Rattle.trio_rights.specs.Bundle.{bundle_pages};
 ghost use Rattle.trio_lease.specs.Views.{bundle_in};
@@ -8,7 +8,7 @@ ghost use Rattle.trio_layout.specs.Body.{body_of};
 ghost use Rattle.trio_layout.specs.Case.{file_in};
 ghost use Rattle.trio_layout.specs.JudgedFiles.{entries_in};
 ghost use Rattle.trio_case.specs.Cases.{case_in};
-ghost use Rattle.trio_case.specs.Reading.{listed_seen, place_seen};
+ghost use Rattle.trio_case.specs.Reading.{place_seen};
 ghost use Rattle.trio_case.specs.Rooms.{entries_kept, file_in_room, looks_left, Keeps};
 ghost use Rattle.trio_judge.specs.inner.Again.{has_body, AreAllFound, AreFoundHeads, IsListedBefore};
 ghost use Rattle.trio_judge.specs.inner.Walk.{file_met};
@@ -82,13 +82,13 @@ fn have_bodies(case: &Case, room: &PageRoom) -> bool
 }
 
 fn are_bodies(entries: &[DirEntry], range: CoreRange) -> bool
-    ensures { result ≡ list_all (λ l. has_body range (listed_seen l)) entries.now }
+    ensures { result ≡ list_all (λ l. is_some (body_of l.kind range l.body)) entries.now }
 {
     entries.iter().all(|listed| has_body(listed, range))
 }
 
 fn has_body(listed: &DirEntry, range: CoreRange) -> bool
-    ensures { result ≡ has_body range (listed_seen listed.now) }
+    ensures { result ≡ is_some (body_of listed.now.kind range listed.now.body) }
 {
-    Body::read(&listed.body, listed.entry.kind, range).is_some()
+    Body::read(&listed.body, listed.kind, range).is_some()
 }

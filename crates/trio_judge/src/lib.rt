@@ -13,4 +13,4 @@ mod verdict;
 mod walk;
 
 pub use laws::{room_stays_touched, room_stays_with_bytes};
-pub use verdict::{Room, RoomMemory, Verdict, judge};
+pub use verdict::{ROOM_BYTES, Room, RoomMemory, Verdict, judge};

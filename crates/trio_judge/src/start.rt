@@ -1,8 +1,7 @@
 //! A walk before it begins.
 
-ghost use Rattle.std.specs.Prelude.{◌≡◌, ◌*◌, ◌≤◌, [], false, IfOk, length, map, replicate, vec_capacity, vec_len};
+ghost use Rattle.std.specs.Prelude.{◌≡◌, ◌+◌, ◌*◌, ◌≤◌, ◌++◌, [], IfOk, length, map, replicate, vec_capacity, vec_len};
 ghost use Rattle.trio_rights.specs.Bundle.{bundle_pages};
-ghost use Rattle.trio_lists.specs.Marked.{MarksJust};
 ghost use Rattle.trio_lease.specs.Views.{bundle_in, written_in};
 ghost use Rattle.trio_layout.specs.JudgedFiles.{written_files, written_met};
 ghost use Rattle.trio_case.specs.Cases.{case_in};
@@ -12,26 +11,30 @@ ghost use Rattle.trio_judge.specs.inner.WalkMemory.{HasWalkMemory, IsWalkMemory}
 
 use crate::walk::{JudgedFile, Walk, add};
 use std::alloc::Global;
-use trio_case::{BundleSize, Case, Listing, ListingRoom};
+use trio_case::{BundleSize, BytesEach, Case, LISTED_BYTES, Listing, ListingRoom};
 use trio_lease::WriteLease;
-use trio_marks::Marks;
 use trio_page::NoMemory;
+
+/// How many bytes the memory of a walk takes.
+pub(crate) const WALK_BYTES: BytesEach = BytesEach {
+    page: size_of::<bool>() + LISTED_BYTES.index + LISTED_BYTES.blocks + 16 * LISTED_BYTES.entries,
+    value: size_of::<JudgedFile>() + size_of::<bool>() + LISTED_BYTES.held + LISTED_BYTES.files,
+};
 
 /// The memory of a walk, by how much its bundle may have.
 #[derive(Drop)]
 pub(crate) struct WalkMemory {
     pub files: Vec<JudgedFile>,
-    pub found: Marks,
+    pub found: Vec<bool>,
     pub pages: Vec<bool>,
-    pub named: Marks,
     pub listing: Listing,
 }
 
 impl WalkMemory {
-    /// Memory for the walk of any bundle of at most this size, with tables over so many inode numbers:
-    /// the image's, with the number 0, or none where the bundle is to write no directory.
-    pub fn with(alloc: Global, size: BundleSize, tables: u32) -> Result<WalkMemory, NoMemory>
-        ensures { IfOk result (IsWalkMemory size tables) }
+    /// Memory for the walk of any bundle of at most this size. What is listed of an inode number below
+    /// `numbers` takes one look.
+    pub fn with(alloc: Global, size: BundleSize, numbers: usize) -> Result<WalkMemory, NoMemory>
+        ensures { IfOk result (IsWalkMemory size) }
     {
         let entries = entry_count(size.pages)?;
         let room = ListingRoom {
@@ -43,10 +46,9 @@ impl WalkMemory {
         };
         Ok(WalkMemory {
             files: Vec::with_capacity(alloc, size.values)?,
-            found: Marks::with(alloc, tables)?,
+            found: Vec::with_capacity(alloc, size.values)?,
             pages: Vec::with_capacity(alloc, size.pages)?,
-            named: Marks::with(alloc, tables)?,
-            listing: Listing::with(alloc, room, tables)?,
+            listing: Listing::with(alloc, room, numbers)?,
         })
     }
 }
@@ -65,22 +67,21 @@ impl Walk {
         requires count { count ≡ length (bundle_pages (bundle_in case.now.bundle)) }
         ensures { Starts (case_in case.now) result }
     {
-        let _bundle = case.bundle();
+        let bundle = case.bundle();
         let WalkMemory {
             files,
-            found,
+            mut found,
             mut pages,
-            named,
             listing,
         } = memory;
-        let files = written_files(files, case);
-        let found = found_marks(found, &files);
-        set_unmarked(&mut pages, count);
+        // the written files are found from the start
+        add_marks(&mut found, bundle.writes().len(), true);
+        add_marks(&mut found, bundle.inodes().len(), false);
+        add_marks(&mut pages, count, false);
         Walk {
-            files,
+            files: written_files(files, case),
             found,
             pages,
-            named,
             listing: held_listing(listing, case),
             owning: None,
             rights: None,
@@ -123,29 +124,15 @@ fn written(case: &Case, lease: &WriteLease) -> JudgedFile
     }
 }
 
-/// Marks none of which is set, with those of these files.
-fn found_marks(mut found: Marks, files: &[JudgedFile]) -> Marks
-    requires { MarksJust found [] }
-    ensures marked { MarksJust result (map (λ f. f.ino) files.now) }
-    ensures len { length result ≡ length found }
-{
-    for file in files {
-        if (file.ino as usize) < found.len() {
-            let _new = found.set(file.ino);
-        }
-    }
-    found
-}
-
-/// Makes an empty list, which has places for them, so many marks that aren't set.
-pub(crate) fn set_unmarked(marks: &mut Vec<bool>, count: usize)
-    requires empty { marks.old.items ≡ [] }
-    requires places { count ≤ vec_capacity marks.old }
-    ensures items { marks.new.items ≡ replicate count false }
-    ensures len { vec_len marks.new ≡ count }
+/// Appends so many equal marks to a list that has places for them.
+pub(crate) fn add_marks(marks: &mut Vec<bool>, count: usize, mark: bool)
+    requires places { vec_len marks.old + count ≤ vec_capacity marks.old }
+    ensures items { marks.new.items ≡ marks.old.items ++ replicate count mark }
+    ensures len { vec_len marks.new ≡ vec_len marks.old + count }
+    ensures capacity { vec_capacity marks.old ≤ vec_capacity marks.new }
 {
     for _ in 0..count {
-        add(marks, false);
+        add(marks, mark);
     }
 }
 

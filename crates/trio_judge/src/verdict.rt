@@ -7,13 +7,12 @@ ghost use Rattle.trio_case.specs.Cases.{case_in};
 ghost use Rattle.trio_judge.specs.Verdicts.{meets_three, HasFewEntries, HasListing, IsLowest, is_sound};
 ghost use Rattle.trio_judge.specs.Judging.{IsJudgeRoom};
 ghost use Rattle.trio_judge.specs.Memory.{HasRoomMemory, IsRoomMemory};
-ghost use Rattle.trio_case.specs.Memory.{TablesServe};
 ghost use Rattle.trio_judge.specs.inner.Walk.{HasEnded, IsPassed};
 
-use crate::start::{WalkMemory, set_unmarked};
+use crate::start::{WALK_BYTES, WalkMemory, add_marks};
 use crate::walk::{FaultAt, Walk};
 use std::alloc::Global;
-use trio_case::{BundleSize, Case, Listing, PageRoom, writes_directory};
+use trio_case::{BundleSize, BytesEach, Case, Listing, PageRoom, READ_PAGE_BYTES, table_size};
 use trio_page::{NoMemory, Reads};
 
 /// What the judge says of a bundle.
@@ -61,6 +60,13 @@ pub struct Room {
     heads: Vec<bool>,
 }
 
+/// How many bytes the memory of a judgement takes, beside those for the image's core pages and inode
+/// numbers.
+pub const ROOM_BYTES: BytesEach = BytesEach {
+    page: READ_PAGE_BYTES + WALK_BYTES.page + size_of::<bool>(),
+    value: WALK_BYTES.value,
+};
+
 /// The memory of a judgement, by how much its bundle may have. It can be made before there is a bundle.
 #[derive(Drop)]
 pub struct RoomMemory {
@@ -70,20 +76,19 @@ pub struct RoomMemory {
 }
 
 impl RoomMemory {
-    /// Memory for the judgement of any bundle of at most this size, of an image of so many core pages, with
-    /// tables over so many inode numbers: the image's, with the number 0, or none where the bundle is to
-    /// write no directory.
+    /// Memory for the judgement of any bundle of at most this size, of an image of so many core pages. What is
+    /// listed of an inode number below `numbers` takes one look.
     pub fn with(
         alloc: Global,
         size: BundleSize,
         core: usize,
-        tables: u32,
+        numbers: usize,
     ) -> Result<RoomMemory, NoMemory>
-        ensures { IfOk result (IsRoomMemory size core tables) }
+        ensures { IfOk result (IsRoomMemory size core) }
     {
         Ok(RoomMemory {
             pages: PageRoom::with(alloc, size.pages, core)?,
-            walk: WalkMemory::with(alloc, size, tables)?,
+            walk: WalkMemory::with(alloc, size, numbers)?,
             heads: Vec::with_capacity(alloc, size.pages)?,
         })
     }
@@ -103,7 +108,7 @@ impl Room {
         pages.fill(case);
         let count = pages.page_count(case);
         let walk = Walk::of(walk, case, count);
-        set_unmarked(&mut heads, count);
+        add_marks(&mut heads, count, false);
         Room { pages, walk, heads }
     }
 
@@ -123,20 +128,9 @@ fn memory_for(alloc: Global, case: &Case) -> Result<RoomMemory, NoMemory>
     let range = case.range();
     let core = range.end.saturating_sub(range.first) as usize;
     let size = BundleSize::of(case.bundle())?;
-    let memory = RoomMemory::with(alloc, size, core, table_size(case)?)?;
+    let numbers = table_size(case.bundle(), case.inodes());
+    let memory = RoomMemory::with(alloc, size, core, numbers)?;
     Ok(memory)
-}
-
-/// Over how many inode numbers the judgement of a case needs tables: over none where no directory is
-/// written, so that there are no entries.
-fn table_size(case: &Case) -> Result<u32, NoMemory>
-    ensures { IfOk result (λ n. TablesServe case.now.bundle (case.now.inodes + 1) n) }
-{
-    if writes_directory(case.bundle()) {
-        case.inodes().checked_add(1).ok_or(NoMemory)
-    } else {
-        Ok(0)
-    }
 }
 
 /// Judges the rules I1, I2 and I4 of a bundle, in a room that was made for its case, whatever bytes

@@ -1,7 +1,7 @@
 //! The walk over the judged files.
 
-ghost use Rattle.std.specs.Prelude.{◌≡◌, if◌then◌else◌, Some, ◌+◌, ◌<◌, ◌≤◌, ◌++◌, ◌∷◌, [], ℕ, List, Ok, IfErr, OnOk, length, map, nat_lt, true, None, slice_index_or, vec_len, vec_capacity};
-ghost use Rattle.std.specs.List.{filter, flat_map, list_all};
+ghost use Rattle.std.specs.Prelude.{◌≡◌, if◌then◌else◌, Some, ◌+◌, ◌<◌, ◌≤◌, ◌++◌, ◌∷◌, [], ℕ, List, Ok, IfErr, OnOk, length, map, None, slice_index_or, vec_len, vec_capacity};
+ghost use Rattle.std.specs.List.{filter, flat_map};
 ghost use Rattle.std.specs.Option.{option_or};
 ghost use Rattle.trio_layout.specs.Listing.{is_kept};
 ghost use Rattle.trio_layout.specs.Broken.{BreaksGrammar};
@@ -11,17 +11,15 @@ ghost use Rattle.trio_layout.specs.JudgedFiles.{entries_in};
 ghost use Rattle.trio_layout.specs.Survey.{Met, first_listed, met_in, numbers, plain, row_by};
 ghost use Rattle.trio_tables.specs.Row.{as_row};
 ghost use Rattle.trio_case.specs.Cases.{case_in};
-ghost use Rattle.trio_case.specs.Reading.{listed_seen};
 ghost use Rattle.trio_case.specs.Rooms.{entries_in_room, entries_kept, file_in_room, looks_left, Keeps};
 ghost use Rattle.trio_judge.specs.inner.Again.{AreFoundHeads};
-ghost use Rattle.trio_judge.specs.inner.Walk.{fault_place, file_met, files_of, BadEntry, HasMarks, IsListed, IsOnWay, IsQueued, IsReady, IsPassed, Noted, PlacesLeft, SameFindings, SameQueue, Stands, is_new};
+ghost use Rattle.trio_judge.specs.inner.Walk.{fault_place, file_met, files_of, listed_met, BadEntry, IsListed, IsOnWay, IsQueued, IsReady, IsPassed, Noted, PlacesLeft, SameFindings, SameQueue, Stands, is_new};
 
 use crate::again::{is_listed_before, mark_head};
 use crate::pages::mark_own;
 use crate::rules::{entry_keeps_rights, file_keeps_rights, is_in_grammar, is_kept, is_own};
 use trio_case::{Case, DirEntry, FaultPlace, ListedEntry, Listing, PageRoom, read_file};
 use trio_layout::Body;
-use trio_marks::Marks;
 use trio_page::Reads;
 use trio_rights::Kind;
 use trio_tables::Row;
@@ -41,11 +39,11 @@ pub(crate) struct JudgedFile {
 impl JudgedFile {
     /// The file that an entry of this directory lists.
     fn listed(directory: u32, listed: &DirEntry) -> JudgedFile
-        ensures { file_met result ≡ met_in plain directory (listed_seen listed.now) }
+        ensures { file_met result ≡ listed_met directory listed.now }
     {
         JudgedFile {
-            ino: listed.entry.ino,
-            kind: listed.entry.kind,
+            ino: listed.ino,
+            kind: listed.kind,
             parent: directory,
             page: listed.page,
             slot: listed.slot,
@@ -93,12 +91,11 @@ pub(crate) struct FaultAt {
 pub(crate) struct Walk {
     /// The judged files, each once, in the order in which they are passed.
     pub files: Vec<JudgedFile>,
-    /// By inode number, whether it is one of these.
-    pub found: Marks,
+    /// By the places of the numbers that judged files may have ([`Case::own_place`]), whether a file of
+    /// the number is one of these.
+    pub found: Vec<bool>,
     /// In the order of the bundle's pages, whether a file passed lists the page.
     pub pages: Vec<bool>,
-    /// By inode number, whether an entry passed names it.
-    pub named: Marks,
     /// What is listed, up to the first fault of I2.
     pub listing: Listing,
     /// The first place at which I2 fails.
@@ -259,10 +256,8 @@ impl Walk {
     /// place of one whose body leaves the grammar.
     fn note_entries(&mut self, case: &Case, room: &PageRoom, directory: u32) -> Result<(), FaultAt>
         requires keeps { Keeps case.now room.now }
-        requires marks { HasMarks (case_in case.now) self.old }
         requires ready { IsReady (case_in case.now) self.old }
         requires places { PlacesLeft (length (flat_map (entries_kept room.now.kept) room.now.blocks.items)) self.old }
-        requires numbers { list_all (λ l. nat_lt l.entry.ino (case.now.inodes + 1)) (flat_map (entries_kept room.now.kept) room.now.blocks.items) ≡ true }
         ensures noted { OnOk result (Noted (case_in case.now) (map (met_in plain directory) (flat_map (entries_kept room.now.kept) room.now.blocks.items)) self.old self.new) }
         ensures bad { IfErr result (BadEntry (case_in case.now) (map (met_in plain directory) (flat_map (entries_kept room.now.kept) room.now.blocks.items))) }
     {
@@ -280,12 +275,10 @@ impl Walk {
         directory: u32,
         entries: &[DirEntry],
     ) -> Result<(), FaultAt>
-        requires marks { HasMarks (case_in case.now) self.old }
         requires ready { IsReady (case_in case.now) self.old }
         requires places { PlacesLeft (length entries.now) self.old }
-        requires numbers { list_all (λ l. nat_lt l.entry.ino (case.now.inodes + 1)) entries.now ≡ true }
-        ensures noted { OnOk result (Noted (case_in case.now) (map (met_in plain directory) (map listed_seen entries.now)) self.old self.new) }
-        ensures bad { IfErr result (BadEntry (case_in case.now) (map (met_in plain directory) (map listed_seen entries.now))) }
+        ensures noted { OnOk result (Noted (case_in case.now) (map (listed_met directory) entries.now) self.old self.new) }
+        ensures bad { IfErr result (BadEntry (case_in case.now) (map (listed_met directory) entries.now)) }
     {
         for listed in entries {
             if let Err(fault) = self.note_entry(case, &JudgedFile::listed(directory, listed)) {
@@ -296,10 +289,8 @@ impl Walk {
     }
 
     fn note_entry(&mut self, case: &Case, entry: &JudgedFile) -> Result<(), FaultAt>
-        requires marks { HasMarks (case_in case.now) self.old }
         requires ready { IsReady (case_in case.now) self.old }
         requires places { PlacesLeft 1 self.old }
-        requires number { entry.now.ino < case.now.inodes + 1 }
         ensures noted { OnOk result (Noted (case_in case.now) (file_met entry.now ∷ []) self.old self.new) }
         ensures bad { IfErr result (BadEntry (case_in case.now) (file_met entry.now ∷ [])) }
     {
@@ -314,18 +305,18 @@ impl Walk {
 
     /// Puts the file of an entry into the queue where it is new and wasn't found before.
     fn find(&mut self, case: &Case, entry: &JudgedFile)
-        requires marks { HasMarks (case_in case.now) self.old }
         requires ready { IsReady (case_in case.now) self.old }
-        requires number { entry.now.ino < length self.old.found }
         ensures grows { files_of self.new ≡ files_of self.old ++ first_listed (numbers (files_of self.old)) (filter (is_new (case_in case.now)) (file_met entry.now ∷ [])) }
         ensures ready { IsReady (case_in case.now) self.new }
-        ensures marks { HasMarks (case_in case.now) self.new }
         ensures same { SameFindings self.old self.new }
     {
-        if !case.is_fresh(entry.ino) || self.found.has(entry.ino) {
+        let Some(at) = case.own_place(entry.ino) else {
+            return;
+        };
+        if self.found[at] {
             return;
         }
-        let _new = self.found.set(entry.ino);
+        self.found[at] = true;
         add(&mut self.files, *entry);
     }
 
@@ -333,7 +324,6 @@ impl Walk {
     /// nothing more is listed.
     fn list(&mut self, case: &Case, entry: &JudgedFile, kept: bool)
         requires kept { kept ≡ is_kept (case_in case.now) (file_met entry.now) }
-        requires number { entry.now.ino < length self.old.named }
         requires places { PlacesLeft 1 self.old }
         ensures lists { (done es : List Met) → IsListed (case_in case.now) done es self.old → IsListed (case_in case.now) done (es ++ file_met entry.now ∷ []) self.new }
         ensures same { SameQueue self.old self.new }
@@ -342,8 +332,7 @@ impl Walk {
         if self.owning.is_some() {
             return;
         }
-        let new = self.named.set(entry.ino);
-        if !new || !is_own(case, entry, kept) {
+        if self.listing.dir(entry.ino).is_some() || !is_own(case, entry, kept) {
             self.owning = Some(entry.fault());
             return;
         }

@@ -1,3 +1,4 @@
+mod Children
 mod Numbers
 mod Listed
 mod Fits

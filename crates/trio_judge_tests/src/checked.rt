@@ -1,7 +1,7 @@
 //! Cases that are made where they may be.
 
-ghost use Rattle.std.specs.Prelude.{◌≡◌, ◌++◌, IfOk, IsTrue, OnOk, Some, [], false, map, true};
-ghost use Rattle.std.specs.List.{list_all};
+ghost use Rattle.std.specs.Prelude.{◌≡◌, ◌==◌, ◌++◌, ◌*◌, ◌≤◌, IfOk, IsTrue, OnOk, Some, [], count_by, false, length, map, true};
+ghost use Rattle.std.specs.List.{list_all, list_any};
 ghost use Rattle.trio_rights.specs.Bundle.{bundle_pages};
 ghost use Rattle.trio_rights.specs.Row.{Row, row_in};
 ghost use Rattle.trio_rights.specs.declared.kind.Kind.TheVariants.{Regular};
@@ -9,7 +9,7 @@ ghost use Rattle.trio_lists.specs.Lists.{are_new};
 ghost use Rattle.trio_lease.specs.Views.{bundle_in};
 ghost use Rattle.trio_layout.specs.Allowed.{has_kind};
 ghost use Rattle.trio_layout.specs.Range.{is_core};
-ghost use Rattle.trio_case.specs.Cases.{lent_numbers, is_free_number, HasDirectoryParents, IsJudgeable};
+ghost use Rattle.trio_case.specs.Cases.{lent_numbers, is_child, is_free_number, HasDirectoryParents, IsJudgeable};
 
 use std::alloc::Global;
 use trio_case::Case;
@@ -55,7 +55,7 @@ fn is_judgeable(
     if rows.inodes() != inodes || range.first == 0 {
         return false;
     }
-    if !has_directory_parents(rows) {
+    if !has_directory_parents(rows) || !has_few_children(alloc, bundle, rows) {
         return false;
     }
     if !writes_have_kinds(bundle.writes(), rows) || !holds_have_kinds(bundle.holds(), rows) {
@@ -89,6 +89,46 @@ fn has_directory_parent(rows: &Shadow, ino: u32) -> bool
         Some(row) => !has_kind(rows, Kind::Regular, row.parent),
         None => true,
     }
+}
+
+/// Whether at most 16 files a page of the bundle stand in the directories that it writes.
+fn has_few_children(alloc: Global, bundle: &Bundle, rows: &Shadow) -> bool
+    ensures { IsTrue result → count_by (is_child bundle.now) rows.now ≤ 16 * length (bundle_pages (bundle_in bundle.now)) }
+{
+    match page_numbers(alloc, bundle) {
+        Ok(pages) => child_count(bundle, rows).div_ceil(16) <= pages.len(),
+        Err(_) => false,
+    }
+}
+
+/// How many files stand in the directories that the bundle writes.
+fn child_count(bundle: &Bundle, rows: &Shadow) -> usize
+    ensures { result ≡ count_by (is_child bundle.now) rows.now }
+{
+    let mut count = 0;
+    for ino in 0..rows.inodes() + 1 {
+        if is_child(bundle, rows, ino) {
+            count += 1;
+        }
+    }
+    count
+}
+
+/// Whether the file of this number stands in a directory that the bundle writes.
+fn is_child(bundle: &Bundle, rows: &Shadow, ino: u32) -> bool
+    ensures { result ≡ is_child bundle.now (row_in rows.now ino) }
+{
+    match rows.row(ino) {
+        Some(row) => is_lent(bundle.writes(), row.parent),
+        None => false,
+    }
+}
+
+/// Whether the file of this number is lent for writing.
+fn is_lent(writes: &[WriteLease], ino: u32) -> bool
+    ensures { result ≡ list_any (λ f. f.stands.ino == ino) writes.now }
+{
+    writes.iter().any(|file| file.ino() == ino)
 }
 
 /// Whether the file of this number is live and of this kind.

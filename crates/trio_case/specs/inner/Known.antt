@@ -1,17 +1,15 @@
 -- How a listing is kept. Cited by the listing's own invariant and private functions alone.
-use Rattle.std.specs.Prelude.{ℕ, ◌≡◌, ◌==◌, ◌<◌, ◌≤◌, Bool, false, true, ◌&&◌, ◌||◌, nat_le, List, Option, None, Some, length, map, slice_index_or, slice_range, vec_capacity}
+use Rattle.std.specs.Prelude.{ℕ, zero, suc, ◌≡◌, ◌==◌, ◌<◌, ◌≤◌, ◌^◌, Bool, true, ◌&&◌, nat_le, List, Option, None, length, map, if◌then◌else◌, slice_get, slice_index_or, slice_range, vec_capacity}
 use Rattle.std.specs.List.{find, list_all}
-use Rattle.std.specs.Option.{option_map, option_or}
-use Rattle.trio_lists.specs.Lists.{is_among}
-use Rattle.trio_layout.specs.Listing.{Listing, ListedFile, ListedEntry}
-use Rattle.trio_layout.specs.Edges.{has_file, is_listed_kept}
+use Rattle.trio_layout.specs.Listing.{Listing, ListedFile}
 use Rattle.trio_tables.specs.Row.{as_row}
-use Rattle.trio_case.specs.declared.listing.Known.{Known}
 use Rattle.trio_case.specs.declared.listing.Span.{Span}
+use Rattle.trio_case.specs.declared.listing.ListedEntry.{ListedEntry as EntryData}
 use Rattle.trio_case.specs.declared.listing.ListedFile.{ListedFile as FileData}
 use Rattle.trio_case.specs.declared.listing.ListingRoom.{ListingRoom}
 use Rattle.trio_case.specs.declared.listing.Lists.{Lists}
 use Rattle.trio_case.specs.Listed.{blocks_listed, entry_seen, index_listed}
+use Rattle.trio_case.specs.inner.NumberSets.{HasJust, NumbersShown}
 
 -- the part of a list
 abbrev pub part_of : List ℕ → Span → List ℕ
@@ -33,29 +31,23 @@ listing_seen l = record {
 abbrev pub is_within : ℕ → Span → Bool
 is_within n s = nat_le s.start s.end && nat_le s.end n
 
--- the directory of the first entry that names the number
-abbrev pub first_dir : Listing → ℕ → Option ℕ
-first_dir l n = option_map (λ e. e.dir) (find (λ e. e.ino == n) l.entries)
+-- the last of so many elements
+abbrev pub last_of : {X : Type 0} → ℕ → List X → Option X
+last_of zero xs = None
+last_of (suc n) xs = slice_get xs n
 
--- what a listing says of a number
-abbrev pub known_of : Listing → ℕ → Known
-known_of l n = record { held = is_among n l.held; file = has_file l n; kept = is_listed_kept l n; dir = first_dir l n }
+-- with so many entries there is the first that names the number; with none of them where no entry does
+pub record IsFirst (entries : List EntryData) (n count : ℕ) : Type 0 where
+  pub within : count ≤ length entries
+  pub named : last_of count entries ≡ find (λ e. e.ino == n) entries
 
--- nothing is said
-abbrev pub nothing : Known
-nothing = record { held = false; file = false; kept = false; dir = None }
+-- the table knows the first entry of each number below its end
+abbrev pub KnowsFirst : List ℕ → List EntryData → Type 0
+KnowsFirst first entries = (n : ℕ) → n < length first → IsFirst entries n (slice_index_or first n 0)
 
--- the same after the file of the number was judged
-abbrev pub file_known : Known → Known
-file_known k = record { held = k.held; file = true; kept = k.kept; dir = k.dir }
-
--- the same after one entry more that names the number
-abbrev pub entry_known : Known → ListedEntry → Known
-entry_known k e = record { held = k.held; file = k.file; kept = k.kept || e.kept; dir = option_or k.dir (Some e.dir) }
-
--- the table says this of each number below its end
-abbrev pub KnowsAll : List Known → Listing → Type 0
-KnowsAll known l = (n : ℕ) → n < length known → slice_index_or known n nothing ≡ known_of l n
+-- what a table says after the last of so many entries names the number
+abbrev pub noted : ℕ → ℕ → ℕ
+noted before count = if before == 0 then count else before
 
 -- the lists have a place for so many of each
 pub record HasPlaces (l : Lists) (room : ListingRoom) : Type 0 where
@@ -65,11 +57,17 @@ pub record HasPlaces (l : Lists) (room : ListingRoom) : Type 0 where
   pub blocks : room.blocks ≤ vec_capacity l.blocks
   pub entries : room.entries ≤ vec_capacity l.entries
 
--- the files' parts stand within the numbers of all files, which are no others, and the table knows the listing
-pub record IsKept (l : Lists) (known : List Known) (room : ListingRoom) : Type 0 where
+-- The files' parts stand within the numbers of all files, which are no others. The table knows the first entry of a number,
+-- and the sets are the held numbers and the judged files'. A place among the entries is a u32.
+pub record IsKept (l : Lists) (first : List ℕ) (held_set judged_set : NumbersShown) (room : ListingRoom) : Type 0 where
   pub index_parts : list_all (λ f. is_within (length l.index.items) f.index) l.files.items ≡ true
   pub blocks_parts : list_all (λ f. is_within (length l.blocks.items) f.blocks) l.files.items ≡ true
   pub index_all : length l.index.items ≡ length (index_listed (listing_seen l))
   pub blocks_all : length l.blocks.items ≡ length (blocks_listed (listing_seen l))
-  pub knows : KnowsAll known (listing_seen l)
+  pub knows : KnowsFirst first l.entries.items
+  pub held : HasJust l.held.items held_set
+  pub judged : HasJust (map (λ f. f.ino) l.files.items) judged_set
+  pub held_room : room.held ≤ held_set.room
+  pub judged_room : room.files ≤ judged_set.room
+  pub small : room.entries < 2 ^ 32
   pub places : HasPlaces l room

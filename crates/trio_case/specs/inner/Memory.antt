@@ -1,13 +1,14 @@
 -- The memory of a case, by how much its bundle has. Cited by private functions alone.
-use Rattle.std.specs.Prelude.{ℕ, ◌≡◌, ◌+◌, ◌≤◌, true, [], None, map, length, replicate, vec_capacity}
-use Rattle.std.specs.List.{list_any}
+use Rattle.std.specs.Prelude.{ℕ, ◌≡◌, ◌+◌, ◌*◌, ◌≤◌, true, [], map, length, vec_capacity}
+use Rattle.trio_rights.specs.Bundle.{bundle_pages}
 use Rattle.trio_lists.specs.Lists.{are_new}
 use Rattle.trio_lease.specs.Bundles.{Bundled}
-use Rattle.trio_case.specs.inner.Maps.{is_directory}
+use Rattle.trio_lease.specs.Views.{bundle_in}
 use Rattle.trio_case.specs.inner.Numbered.{HasNumberPlaces, is_blank}
 use Rattle.trio_case.specs.declared.numbered.NumbersRoom.{NumbersRoom}
 use Rattle.trio_case.specs.declared.numbers.NumbersMemory.{NumbersMemory}
 use Rattle.trio_case.specs.declared.numbers.RowsMemory.{RowsMemory}
+use Rattle.trio_case.specs.declared.numbers.RowsRoom.{RowsRoom}
 
 -- each list of its numbers has none twice
 pub record NumbersDiffer (b : Bundled) : Type 0 where
@@ -26,9 +27,20 @@ pub record HasNumbersMemory (values : ℕ) (m : NumbersMemory) : Type 0 where
   pub holds : IsNumbersRoom values m.holds
   pub fresh : IsNumbersRoom values m.fresh
 
--- There is memory for the rows that are copied for a bundle: a list for its own files and, where it writes a directory, a
--- blank table over all numbers.
-pub record HasRowsFor (b : Bundled) (numbers : ℕ) (m : RowsMemory) : Type 0 where
+-- there is memory for so many rows and their numbers
+pub record HasRowPlaces (count : ℕ) (room : RowsRoom) : Type 0 where
+  pub numbers : count ≤ vec_capacity room.numbers
+  pub rows : count ≤ vec_capacity room.rows
+
+-- no row was added yet
+pub record HasNoRows (room : RowsRoom) : Type 0 where
+  pub numbers : room.numbers.items ≡ []
+  pub rows : room.rows.items ≡ []
+
+-- There is memory for the rows that are copied for a bundle: a list for its own files alone, and one for these and for 16
+-- children to each of its pages.
+pub record HasRowsFor (b : Bundled) (m : RowsMemory) : Type 0 where
   pub few : length b.writes + length b.holds ≤ vec_capacity m.few
   pub no_few : m.few.items ≡ []
-  pub table : list_any (λ f. is_directory f.stands.kind) b.writes ≡ true → m.table.items ≡ replicate numbers None
+  pub listed : HasRowPlaces (length b.writes + length b.holds + 16 * length (bundle_pages (bundle_in b))) m.listed
+  pub none_listed : HasNoRows m.listed

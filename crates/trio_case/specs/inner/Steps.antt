@@ -1,5 +1,5 @@
 -- What the steps of reading a file answer. Cited by private functions alone.
-use Rattle.std.specs.Prelude.{ℕ, ◌≡◌, Bool, List, ◌++◌, Option, None, Some, slice_get, Result, Ok, Err}
+use Rattle.std.specs.Prelude.{ℕ, ◌≡◌, Bool, List, ◌++◌, length, take, Option, None, Some, slice_get, Result, Ok, Err}
 use Rattle.trio_layout.specs.declared.range.CoreRange.{CoreRange}
 use Rattle.trio_layout.specs.Index.{index_of}
 use Rattle.trio_layout.specs.Core.{page_of}
@@ -15,6 +15,10 @@ use Rattle.trio_case.specs.declared.kept.KeptPage.{KeptPage}
 use Rattle.trio_case.specs.declared.kept.KeptIndex.{KeptIndex}
 use Rattle.trio_case.specs.declared.chain.IndexRead.{IndexRead}
 use Rattle.trio_case.specs.declared.chain.IndexRead.TheVariants.{Absent, Bad, Next}
+
+-- a list begins with another
+abbrev pub IsFront : {X : Type 0} → List X → List X → Type 0
+IsFront front all = take (length front) all ≡ front
 
 -- the page of this number stands at this place among the kept pages
 pub record StandsAt (kept : KeptPages) (no : ℕ) (at : ℕ) (p : KeptPage) : Type 0 where

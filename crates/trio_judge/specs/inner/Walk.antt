@@ -1,12 +1,10 @@
 -- How far a walk over the judged files has come. Cited by private functions alone.
-use Rattle.std.specs.Prelude.{ℕ, ◌≡◌, ◌+◌, ◌*◌, ◌<◌, ◌≤◌, ◌==◌, ◌⊎◌, Bool, true, false, ◌&&◌, IsFalse, List, [], ◌∷◌, ◌++◌, length, map, take, drop, Option, None, MatchOption, is_ok, if◌then◌else◌, vec_capacity, vec_len}
+use Rattle.std.specs.Prelude.{ℕ, ◌≡◌, ◌+◌, ◌*◌, ◌<◌, ◌≤◌, ◌==◌, ◌⊎◌, Bool, true, false, ◌&&◌, IsFalse, List, [], ◌∷◌, ◌++◌, length, map, take, drop, Option, None, MatchOption, is_ok, if◌then◌else◌, slice_index_or, vec_capacity, vec_len}
 use Rattle.std.specs.List.{list_all, flat_map, filter}
-use Rattle.trio_rights.specs.declared.kind.Kind.TheVariants.{Regular}
-use Rattle.trio_rights.specs.Kind.{same_kind}
+use Rattle.std.specs.Option.{option_map_or}
 use Rattle.trio_rights.specs.Row.{row_in}
 use Rattle.trio_rights.specs.Bundle.{bundle_pages, is_written}
 use Rattle.trio_lists.specs.Lists.{In, is_among, are_new}
-use Rattle.trio_lists.specs.Marked.{MarksJust}
 use Rattle.trio_lists.specs.Sorting.{sorted_by}
 use Rattle.trio_layout.specs.declared.body.Body.{Body}
 use Rattle.trio_layout.specs.Core.{Location}
@@ -17,7 +15,8 @@ use Rattle.trio_layout.specs.Listing.{Listing, entry_listed, file_listed}
 use Rattle.trio_layout.specs.Rules.{entry_in_grammar, entry_is_own, entry_keeps_rights, file_keeps_rights, has_rights}
 use Rattle.trio_layout.specs.Broken.{BreaksOwning, BreaksRights}
 use Rattle.trio_layout.proofs.QueueLaws.{pass_many}
-use Rattle.trio_case.specs.Order.{AreMarked}
+use Rattle.trio_case.specs.Order.{place_of, AreMarked}
+use Rattle.trio_case.specs.declared.entries.DirEntry.{DirEntry}
 use Rattle.trio_case.specs.declared.listing.ListingRoom.{ListingRoom}
 use Rattle.trio_judge.specs.declared.walk.JudgedFile.{JudgedFile}
 use Rattle.trio_judge.specs.declared.walk.FaultAt.{FaultAt}
@@ -28,6 +27,10 @@ use Rattle.trio_judge.specs.declared.walk.Walk.{Walk}
 -- a judged file, or an entry
 abbrev pub file_met : JudgedFile → Met
 file_met f = record { ino = f.ino; kind = f.kind; parent = f.parent; page = f.page; slot = f.slot; body = f.body }
+
+-- the file that an entry of this directory lists
+abbrev pub listed_met : ℕ → DirEntry → Met
+listed_met directory l = record { ino = l.ino; kind = l.kind; parent = directory; page = l.page; slot = l.slot; body = l.body }
 
 -- the files found, in order
 abbrev pub files_of : Walk → List Met
@@ -103,7 +106,6 @@ pub record Lists (c : Case) (done es : List Met) (w : Walk) : Type 0 where
   pub rights : MatchOption w.rights (KeepRights c done es) (RightsFail c done es)
   pub listing : w.listing.listing ≡ listing_of c done es
   pub pages : AreMarked (bundle_pages c.bundle) w.pages.items (flat_map (pages_within c) done)
-  pub named : MarksJust w.named (numbers es)
 
 -- a fault of I2 was found, or none so far
 abbrev pub IsListed : Case → List Met → List Met → Walk → Type 0
@@ -130,10 +132,14 @@ pub record IsQueued (c : Case) (at : ℕ) (w : Walk) : Type 0 where
 abbrev pub own_numbers : Case → List ℕ
 own_numbers c = map (λ w. w.ino) c.bundle.writes ++ c.bundle.numbers
 
--- there are marks for each inode number
-pub record HasMarks (c : Case) (w : Walk) : Type 0 where
-  pub found : length w.found ≡ c.inodes + 1
-  pub named : length w.named ≡ c.inodes + 1
+-- By the places of these numbers, whether a file of the number was found; of no other number one was.
+abbrev pub is_found : List ℕ → List Bool → ℕ → Bool
+is_found own marks n = option_map_or (λ at. slice_index_or marks at false) (place_of n own) false
+
+-- a mark for each of these numbers, set for just the files found
+pub record AreFound (own : List ℕ) (marks : List Bool) (files : List ℕ) : Type 0 where
+  pub places : length marks ≡ length own
+  pub each : (n : ℕ) → is_found own marks n ≡ is_among n files
 
 -- a listing of this room has a place for all that may be listed
 pub record HasListingRoom (c : Case) (room : ListingRoom) : Type 0 where
@@ -142,16 +148,16 @@ pub record HasListingRoom (c : Case) (room : ListingRoom) : Type 0 where
   pub blocks : length (bundle_pages c.bundle) ≤ room.blocks
   pub entries : 16 * length (bundle_pages c.bundle) ≤ room.entries
 
--- The files found are each found once and are the bundle's, and there is a place for all that may be found. Without a
--- directory among them there need be no marks over inode numbers.
+-- The files found are each found once and are the bundle's, the written ones among them, and there is a place for all that
+-- may be found.
 pub record IsReady (c : Case) (w : Walk) : Type 0 where
   pub fit : (n : ℕ) → In n (own_numbers c) → n < c.inodes + 1
   pub once : are_new [] (numbers (files_of w)) ≡ true
   pub own : (n : ℕ) → In n (numbers (files_of w)) → In n (own_numbers c)
-  pub found : MarksJust w.found (numbers (files_of w))
+  pub written : (n : ℕ) → In n (map (λ x. x.ino) c.bundle.writes) → In n (numbers (files_of w))
+  pub found : AreFound (own_numbers c) w.found.items (numbers (files_of w))
   pub places : length (own_numbers c) ≤ vec_capacity w.files
   pub pages : vec_len w.pages ≡ length (bundle_pages c.bundle)
-  pub marks : HasMarks c w ⊎ (list_all (λ m. same_kind m.kind Regular) (files_of w) ≡ true)
   pub room : HasListingRoom c w.listing.room
 
 -- the listing has a place for so many entries more, as long as there is one
@@ -164,14 +170,12 @@ PlacesLeft n w = w.owning ≡ None → length w.listing.listing.entries + n ≤ 
 pub record SameQueue (w w' : Walk) : Type 0 where
   pub files : w'.files ≡ w.files
   pub found : w'.found ≡ w.found
-  pub named : length w'.named ≡ length w.named
   pub pages : vec_len w'.pages ≡ vec_len w.pages
   pub room : w'.listing.room ≡ w.listing.room
 
 -- what was found of the files and entries passed is as it was
 pub record SameFindings (w w' : Walk) : Type 0 where
   pub pages : w'.pages ≡ w.pages
-  pub named : w'.named ≡ w.named
   pub listing : w'.listing ≡ w.listing
   pub owning : w'.owning ≡ w.owning
   pub rights : w'.rights ≡ w.rights
@@ -188,7 +192,6 @@ pub record Noted (c : Case) (xs : List Met) (w w' : Walk) : Type 0 where
   pub stands : (done es : List Met) → Stands c done es w → Stands c done (es ++ xs) w'
   pub grows : files_of w' ≡ files_of w ++ first_listed (numbers (files_of w)) (filter (is_new c) xs)
   pub ready : IsReady c w'
-  pub marks : HasMarks c w'
   pub places : (n : ℕ) → PlacesLeft (length xs + n) w → PlacesLeft n w'
 
 -- the body of one of these entries isn't in the grammar

@@ -1,11 +1,10 @@
-use Rattle.std.proofs.Common.{◌∙◌, inl, inr, sym, arith}
+use Rattle.std.proofs.Common.{ap, arith}
+use Rattle.trio_case.specs.declared.size.BundleSize.{BundleSize}
 use Rattle.trio_case.proofs.case.memory_for.Goals as goal
-use Rattle.trio_case.proofs.case.memory_for.Goals.{then-writes_directory, else-writes_directory}
 
 pub returns : goal.returns
 returns c =
-    c.in_ok-memory.ensures c.args.bundle.now _ (omega (arith, c.in_ok-value_count.ensures))
-    (elim c.if-writes_directory.branch [
-      | then-writes_directory w ↦ inl (omega (arith, w.tables-is, w.inodes.ensures))
-      | else-writes_directory w ↦ inr (sym (sym w.if-writes_directory.false ∙ c.writes_directory.ensures))
-    ])
+    c.in_ok-memory.ensures c.args.bundle.now (record {
+      pages = omega (arith, ap (λ (s : BundleSize). s.pages) c.in_ok-of.ensures);
+      values = omega (arith, ap (λ (s : BundleSize). s.values) c.in_ok-of.ensures);
+    })

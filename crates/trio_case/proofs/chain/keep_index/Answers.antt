@@ -33,8 +33,15 @@ returns-clause-keeps c =
     let there : Some read.bytes ≡ Some was.bytes = sym read.here ∙ ap (λ b. bytes_at b page.place) c.bundle.ensures.bundle ∙ was.stands in
     let same : read.bytes ≡ was.bytes = cc in
     let q : KeptPage = record page { index = Some c.in_ok-index.index } in
-    let after : KeptPages = record { order = old.order; pages = with_item old.pages c.args.at q; entries = old.entries; numbers = c.read_page.new.numbers } in
-    let grows : Grows old after = ([], part c.in_ok-index.index.numbers c.read_page.new.numbers.items, sym (append-nil old.entries.items), c.in_ok-index.ensures.more) in
+    let after : KeptPages = record { order = old.order; pages = with_item old.pages c.args.at q; entries = old.entries; numbers = c.read_page.new.numbers; names = old.names } in
+    let grows : Grows old after = record {
+      more_entries = [];
+      more_numbers = part c.in_ok-index.index.numbers c.read_page.new.numbers.items;
+      more_names = [];
+      entries = sym (append-nil old.entries.items);
+      numbers = c.in_ok-index.ensures.more;
+      names = sym (append-nil old.names.names);
+    } in
     let says = rw (same, c.range.ensures) at read.says in
     keeps_set c.args.case.now old after c.args.at page q c.requires.keeps c.requires.page refl refl grows refl
     (record { bytes = was.bytes; stands = was.stands; here = was.here; entries = was.entries; index = says })
@@ -49,6 +56,7 @@ returns-clause-places c =
     record {
       entries = omega (arith, same, c.requires.places.entries);
       numbers = omega (arith, less, c.requires.places.numbers, c.in_ok-index.ensures.len, c.in_ok-index.ensures.room, c.requires.many);
+      names = omega (arith, same, c.requires.places.names);
     }
 
 pub returns-clause-same : goal.returns-clause-same

@@ -35,8 +35,8 @@ loop-left-preserved c =
       blocks_kept = omega (arith, was.blocks_kept, c.in-Next.ensures.room);
       keeps = c.in-Next.ensures.keeps;
       places = c.in-Next.ensures.places;
-      entries = c.in-Next.ensures.same.0 ∙ was.entries;
+      names = c.in-Next.ensures.same.0 ∙ was.names;
       unread = c.in-Next.ensures.same.1 ∙ was.unread;
-      names = was.names;
+      named = was.named;
       looks = omega (arith, was.looks, looks, c.in-Next.ensures.same.1);
     }

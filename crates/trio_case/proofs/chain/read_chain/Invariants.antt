@@ -19,9 +19,9 @@ invariant-loop-left l = record {
   blocks_kept : vec_capacity l.fn.room.blocks ≤ vec_capacity l.room.blocks;
   keeps : KeepsPages l.case l.room.kept;
   places : HasPlaces l.room.kept;
-  entries : l.room.kept.entries ≡ l.fn.room.kept.entries;
+  names : l.room.kept.names ≡ l.fn.room.kept.names;
   unread : unread_blocks l.room.kept ≡ unread_blocks l.fn.room.kept;
-  names : l.room.names ≡ l.fn.room.names;
+  named : l.room.named ≡ l.fn.room.named;
   looks : l.reads + looks_left l.room ≤ l.fn.reads + looks_left l.fn.room;
 }
 

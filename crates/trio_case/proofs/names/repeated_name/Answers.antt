@@ -1,45 +1,44 @@
-use Rattle.std.proofs.Common.{◌≡◌, ◌∙◌, ◌++◌, length, take, get_or, sym, ap, arith}
+use Rattle.std.proofs.Common.{◌∙◌, ◌++◌, [], false, length, take, sym, ap, arith, subst, refl}
 use Rattle.std.specs.List.{flat_map}
-use Rattle.std.proofs.lemmas.List.{length-map}
-use Rattle.trio_case.specs.declared.entries.DirEntry.{DirEntry}
+use Rattle.std.proofs.lemmas.List.{length-replicate}
 use Rattle.trio_case.specs.Rooms.{entries_kept}
-use Rattle.trio_case.specs.inner.Named.{names_of}
-use Rattle.trio_case.proofs.Naming.{all_names, block_passed, block_repeats, blocks_named, blocks_taken, kept_named, names_of-append}
+use Rattle.trio_case.specs.inner.Named.{MarksNames}
+use Rattle.trio_case.proofs.Naming.{block_passed, block_repeats, blocks_taken, none_marked}
 use Rattle.trio_case.proofs.names.repeated_name.Goals as goal
 
-pub repeated_on-requires : goal.repeated_on-requires
-repeated_on-requires c =
-    let kept = c.args.kept.now in
-    let turn = c.loop-block.invariant in
-    let count : length (all_names kept) ≡ length kept.entries.items = length-map kept.entries.items (λ (e : DirEntry). e.entry.name) in
+pub loop-block-init : goal.loop-block-init
+loop-block-init c =
+    let names = c.args.kept.now.names.names in
+    let count = length c.args.named.now in
     record {
-      space = record {
-        all = all_names kept;
-        apart = turn.apart;
-        among = λ q h. blocks_named kept (take c.loop-block.block-index c.args.blocks.now) q (rw turn.added at h);
-        more = λ q h. kept_named kept (get_or c.args.blocks.now c.loop-block.block-index 0) q (rw c.entries_of.ensures at h);
-        few = omega (arith, count, turn.room, c.requires.space);
-      };
+      room = ap length c.clear.ensures ∙ length-replicate count false;
+      marks = subst (λ m. MarksNames names m []) (sym c.clear.ensures) (none_marked names count c.are_apart.ensures c.requires.space);
+      rest = refl;
     }
+
+pub repeated_on-requires : goal.repeated_on-requires
+repeated_on-requires c = λ l i. omega (arith, c.entries_of.ensures.named l i, c.requires.space, c.loop-block.invariant.room)
 
 pub returns-in-Some-clause-repeated : goal.returns-in-Some-clause-repeated
 returns-in-Some-clause-repeated c =
-    let g = entries_kept c.args.kept.now in
+    let kept = c.args.kept.now in
+    let g = entries_kept kept in
     let turn = c.loop-block.invariant in
-    block_repeats g c.args.blocks.now c.loop-block.block-index _ _ (omega arith) turn.rest (rw c.entries_of.ensures at (c.in-Some.ensures.repeated (flat_map g (take c.loop-block.block-index c.args.blocks.now)) turn.added))
+    block_repeats g c.args.blocks.now c.loop-block.block-index _ _ (omega arith) turn.rest (rw c.entries_of.ensures.entries at (c.in-Some.ensures.repeated kept.names.names (flat_map g (take c.loop-block.block-index c.args.blocks.now)) c.entries_of.ensures.named turn.marks))
 
 pub loop-block-preserved : goal.loop-block-preserved
 loop-block-preserved c =
-    let g = entries_kept c.args.kept.now in
+    let kept = c.args.kept.now in
+    let g = entries_kept kept in
     let blocks = c.args.blocks.now in
     let i = c.loop-block.block-index in
     let turn = c.loop-block.invariant in
     let read = c.in_default.ensures in
-    let here = rw c.entries_of.ensures at (read.repeated (flat_map g (take i blocks)) turn.added) in
-    let added = rw c.entries_of.ensures at read.added in
+    let before = flat_map g (take i blocks) in
+    let here = rw c.entries_of.ensures.entries at (read.repeated kept.names.names before c.entries_of.ensures.named turn.marks) in
+    let marks = read.marked kept.names.names before c.entries_of.ensures.named turn.marks in
     record {
-      added = added ∙ ap (λ x. x ++ names_of (g (get_or blocks i 0))) turn.added ∙ sym (names_of-append (flat_map g (take i blocks)) (g (get_or blocks i 0))) ∙ ap names_of (sym (blocks_taken g blocks i (omega arith)));
-      apart = read.apart;
       room = read.room ∙ turn.room;
+      marks = subst (λ ls. MarksNames kept.names.names c.repeated_on.new.named ls) (ap (λ ls. before ++ ls) c.entries_of.ensures.entries ∙ sym (blocks_taken g blocks i (omega arith))) marks;
       rest = block_passed g blocks i _ (omega arith) turn.rest here;
     }

@@ -15,7 +15,8 @@ loop-block-preserved c =
     let i = c.loop-block.block-index in
     let p : Listed → Bool = has_body c.args.case.now.range in
     let within : i < length bs = rw c.blocks-block-items.ensures at c.loop-block-test.true in
-    let here : map listed_seen c.entries_of.result.now ≡ f (get_or bs i 0) = rw c.blocks-block-items.ensures at c.entries_of.ensures in
+    let seen = listed_seen c.args.room.now.kept.names.names in
+    let here : map seen c.entries_of.result.now ≡ f (get_or bs i 0) = rw c.blocks-block-items.ensures at c.entries_of.ensures in
     let all : c.are_bodies.result ≡ true = search rules in
-    let each : list_all (λ l. p (listed_seen l)) c.entries_of.result.now ≡ true = sym (rw c.range-range.ensures at c.are_bodies.ensures) ∙ all in
-    bodies_more p f bs i within c.loop-block.invariant (ap (list_all p) (sym here) ∙ list_all-map p listed_seen c.entries_of.result.now ∙ each)
+    let each : list_all (λ l. p (seen l)) c.entries_of.result.now ≡ true = sym (rw c.range-range.ensures at c.are_bodies.ensures) ∙ all in
+    bodies_more p f bs i within c.loop-block.invariant (ap (list_all p) (sym here) ∙ list_all-map p seen c.entries_of.result.now ∙ each)

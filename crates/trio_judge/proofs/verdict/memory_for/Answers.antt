@@ -9,4 +9,4 @@ returns c =
     let core : core_count c.range-range.result ≡ core_count c.args.case.now.range = ap core_count c.range-range.ensures in
     c.in_ok-memory.ensures c.args.case.now
     (record { pages = omega (arith, ap (λ (s : BundleSize). s.pages) size); values = omega (arith, ap (λ (s : BundleSize). s.values) size) })
-    (omega (arith, core, c.saturating_sub-core.ensures)) c.in_ok-table_size.ensures
+    (omega (arith, core, c.saturating_sub-core.ensures))

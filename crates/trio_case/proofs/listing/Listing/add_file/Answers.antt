@@ -1,10 +1,10 @@
 use Rattle.std.proofs.Common.{◌≡◌, ◌+◌, ◌++◌, ◌∷◌, [], length, map, arith, refl, ap, ◌∙◌}
-use Rattle.std.proofs.lemmas.List.{length-append}
+use Rattle.std.proofs.lemmas.List.{length-append, length-map, map_push}
 use Rattle.trio_layout.specs.Listing.{ListedFile}
 use Rattle.trio_tables.specs.Row.{as_row}
 use Rattle.trio_case.specs.declared.listing.ListedFile.{ListedFile as FileData}
-use Rattle.trio_case.specs.inner.Known.{file_seen, is_within, listing_seen}
-use Rattle.trio_case.proofs.Knowing.{knows_file}
+use Rattle.trio_case.specs.inner.Known.{file_seen, is_within}
+use Rattle.trio_case.proofs.Knowing.{just_more}
 use Rattle.trio_case.proofs.Parts.{all-push, all-within-more, files-push, flat-push, whole_within}
 use Rattle.trio_case.proofs.listing.Listing.add_file.Goals as goal
 
@@ -33,7 +33,12 @@ invariant_of-self c =
       blocks_parts = rw c.push.ensures.items (all-push (λ f. is_within (length c.append-2.new.list.items) f.blocks) l.files.items file (all-within-more (λ f. f.blocks) (length l.blocks.items) (length c.append-2.new.list.items) l.files.items (omega (arith, b_len)) was.blocks_parts) (whole_within c.append-2.result (length l.blocks.items) (length c.append-2.new.list.items) start_b within_b (omega (arith, b_len))));
       index_all = rw seen (omega (arith, i_len, was.index_all, flat-push (λ f. f.index) (map (file_seen l.index.items l.blocks.items) l.files.items) listed));
       blocks_all = rw seen (omega (arith, b_len, was.blocks_all, flat-push (λ f. f.blocks) (map (file_seen l.index.items l.blocks.items) l.files.items) listed));
-      knows = rw (c.note_file.ensures, seen) (knows_file c.self.inside.known.items (listing_seen l) listed was.knows);
+      knows = was.knows;
+      held = was.held;
+      judged = rw (c.push.ensures.items, map_push (λ (f : FileData). f.ino)) (just_more (map (λ (f : FileData). f.ino) l.files.items) c.args.ino c.self.inside.judged _ was.judged c.add.ensures.numbers c.add.ensures.len);
+      held_room = was.held_room;
+      judged_room = omega (arith, was.judged_room, c.add.ensures.room);
+      small = was.small;
       places = record {
         held = was.places.held;
         files = omega (arith, was.places.files, c.push.ensures.capacity);
@@ -57,3 +62,9 @@ returns c =
     let end_i : c.append.result.end ≡ length (l.index.items ++ c.args.index.now) = within_i ∙ ap length one.items in
     let end_b : c.append-2.result.end ≡ length (l.blocks.items ++ c.args.blocks.now) = within_b ∙ ap length two.items in
     rw (← c.self.view_is, one.items, two.items, c.push.ensures.items, files-push l.index.items l.blocks.items c.args.index.now c.args.blocks.now l.files.items file was.index_parts was.blocks_parts start_i end_i start_b end_b) refl
+
+pub add-requires : goal.add-requires
+add-requires c =
+    let was = c.self.invariant in
+    let l = c.self.inside.lists in
+    omega (arith, was.judged.few, was.judged_room, length-map l.files.items (λ (f : FileData). f.ino), length-map l.files.items (file_seen l.index.items l.blocks.items), rw (← c.self.view_is) at c.requires.files)

@@ -1,8 +1,8 @@
-use Rattle.std.proofs.Common.{sym}
+use Rattle.std.proofs.Common.{sym, ◌∙◌}
 use Rattle.trio_case.proofs.Knowing.{file-found}
 use Rattle.trio_case.proofs.listing.Listing.has_file.Goals as goal
 
-pub returns-in-None : goal.returns-in-None
-returns-in-None c =
+pub returns : goal.returns
+returns c =
     let l = c.self.inside.lists in
-    rw (← c.self.view_is, c.is_file.ensures, c.deref-in-None.ensures.value) (sym (file-found _ _ c.args.ino l.files.items))
+    rw (← c.self.view_is) (c.has.ensures ∙ c.self.invariant.judged.each c.args.ino ∙ sym (file-found _ _ c.args.ino l.files.items))

@@ -3,6 +3,7 @@ use Rattle.std.specs.Prelude.{vec_capacity, vec_len}
 use Rattle.std.proofs.lemmas.List.{length-map}
 use Rattle.trio_rights.specs.Bundle.{bundle_pages}
 use Rattle.trio_lease.specs.Views.{bundle_in}
+use Rattle.trio_nameset.specs.Names.{Names}
 use Rattle.trio_case.specs.Rooms.{unread_blocks, unread_index}
 use Rattle.trio_case.specs.declared.kept.KeptPage.{KeptPage}
 use Rattle.trio_case.proofs.Making.{all_unread, all_unread_index}
@@ -20,6 +21,7 @@ returns c =
     let index : unread_index kept ≡ length pages = all_unread_index pages (λ p i. (made.each p i).index) in
     let m = c.requires in
     let no_entries : vec_len kept.entries ≡ 0 = ap vec_len c.fill.ensures.entries ∙ m.kept.no_entries in
+    let no_names : length kept.names.names ≡ 0 = ap (λ (s : Names). length s.names) c.fill.ensures.names ∙ m.kept.no_names in
     let no_numbers : vec_len kept.numbers ≡ 0 = ap vec_len c.fill.ensures.numbers ∙ m.kept.no_numbers in
     record {
       order = made.order;
@@ -29,9 +31,10 @@ returns c =
         pages = record {
           entries = omega (arith, many, blocks, no_entries, ap vec_capacity c.fill.ensures.entries, m.kept.entries);
           numbers = omega (arith, many, index, no_numbers, ap vec_capacity c.fill.ensures.numbers, m.kept.numbers);
+          names = omega (arith, many, blocks, no_names, ap (λ (s : Names). s.room) c.fill.ensures.names, m.kept.names);
         };
         index = m.index;
         blocks = m.blocks;
-        names = omega (arith, many, blocks, no_entries, m.names);
+        named = omega (arith, many, blocks, no_names, m.named);
       };
     }

@@ -3,18 +3,16 @@ use Rattle.trio_judge.proofs.Starting.{own_count}
 use Rattle.trio_judge.proofs.start.WalkMemory.with.Goals as goal
 
 pub returns : goal.returns
-returns c = λ k fits t.
+returns c = λ k fits.
     let own = own_count k in
-    let made = c.in_ok-with-3.ensures in
+    let made = c.in_ok-with.ensures in
     record {
       files = omega (arith, own, fits.values, c.in_ok-with_capacity.ensures.capacity);
       no_files = c.in_ok-with_capacity.ensures.items;
-      tables = c.args.tables;
-      sized = t;
-      found = c.in_ok-with.ensures;
-      named = c.in_ok-with-2.ensures;
-      pages = omega (arith, fits.pages, c.in_ok-with_capacity-2.ensures.capacity);
-      no_pages = c.in_ok-with_capacity-2.ensures.items;
+      found = omega (arith, own, fits.values, c.in_ok-with_capacity-2.ensures.capacity);
+      no_found = c.in_ok-with_capacity-2.ensures.items;
+      pages = omega (arith, fits.pages, c.in_ok-with_capacity-3.ensures.capacity);
+      no_pages = c.in_ok-with_capacity-3.ensures.items;
       listing = ap (λ l. l.listing) made;
       held = omega (arith, fits.values, ap (λ l. l.room.held) made);
       room = record {

@@ -2,9 +2,9 @@ use Rattle.std.proofs.Common.{arith}
 use Rattle.trio_judge.proofs.verdict.RoomMemory.with.Goals as goal
 
 pub returns : goal.returns
-returns c = λ k fits core t. record {
+returns c = λ k fits core. record {
   pages = c.in_ok-with.ensures k fits.pages core;
-  walk = c.in_ok-with-2.ensures k fits t;
+  walk = c.in_ok-with-2.ensures k fits;
   heads = omega (arith, fits.pages, c.in_ok-with_capacity.ensures.capacity);
   no_heads = c.in_ok-with_capacity.ensures.items;
 }

@@ -8,9 +8,8 @@ use Rattle.trio_layout.specs.Survey.{children_in, met_in, plain}
 use Rattle.trio_case.specs.Cases.{case_in}
 use Rattle.trio_case.specs.Rooms.{entries_in_room, entries_kept, file_in_room}
 use Rattle.trio_judge.specs.inner.Walk.{file_met, files_of}
-use Rattle.trio_judge.proofs.Listings.{numbers_below}
-use Rattle.trio_judge.proofs.Noting.{marks_same, ready_same}
-use Rattle.trio_judge.proofs.Visiting.{directory_passed, directory_queued, entries_place, entry_breaks, file_breaks, if_err_then, is_judged, marks_there, on_ok_then, on_way, regular_passed, regular_queued}
+use Rattle.trio_judge.proofs.Noting.{ready_same}
+use Rattle.trio_judge.proofs.Visiting.{directory_passed, directory_queued, entries_place, entry_breaks, file_breaks, if_err_then, is_judged, on_ok_then, on_way, regular_passed, regular_queued}
 use Rattle.trio_judge.proofs.FoundAgain.{read_of}
 use Rattle.trio_judge.proofs.walk.Walk.go_over.Goals as goal
 
@@ -35,18 +34,6 @@ note_file-requires-clause-on_way c =
     let inside : c.args.at < length (files_of w) = omega (arith, length-map w.files.items file_met) in
     on_way (case_in c.args.case.now) c.args.at w (file_met c.args.file.now) c.requires.passed c.requires.ready inside
 
-pub note_entries-requires-clause-marks : goal.note_entries-requires-clause-marks
-note_entries-requires-clause-marks c =
-    let k = case_in c.args.case.now in
-    let w = c.args.self.now in
-    let m = file_met c.args.file.now in
-    let at = c.args.at in
-    let room = c.read_file.new.room in
-    let inside : at < length (files_of w) = omega (arith, length-map w.files.items file_met) in
-    let here : get_or (files_of w) at m ≡ m = c.requires.here in
-    let read : file_in k m ≡ Ok (file_in_room room m.kind c.in-Ok.body) = sym (rw c.in-Ok.is at (c.read_file.ensures.file m refl refl)) in
-    marks_same k w c.note_file.new.self c.note_file.ensures.same (marks_there k w at m c.requires.ready inside here c.in-Directory.is)
-
 pub note_entries-requires-clause-ready : goal.note_entries-requires-clause-ready
 note_entries-requires-clause-ready c = ready_same (case_in c.args.case.now) c.args.self.now c.note_file.new.self c.note_file.ensures.same c.requires.ready
 
@@ -65,18 +52,6 @@ note_entries-requires-clause-places c =
     ap (children_in plain m.ino) read ∙ ap (λ kind. map (met_in plain m.ino) (entries_in_room room kind)) c.in-Directory.is in
     let count : length (entries_in k m) ≡ length (flat_map (entries_kept room.kept) room.blocks.items) = ap length entries ∙ length-map (flat_map (entries_kept room.kept) room.blocks.items) (met_in plain m.ino) in
     rw count at (entries_place k (take at (files_of w)) (flat_map (entries_in k) (take at (files_of w))) m w c.note_file.new.self c.requires.ready c.note_file.ensures.same refl stands)
-
-pub note_entries-requires-clause-numbers : goal.note_entries-requires-clause-numbers
-note_entries-requires-clause-numbers c =
-    let k = case_in c.args.case.now in
-    let w = c.args.self.now in
-    let m = file_met c.args.file.now in
-    let at = c.args.at in
-    let room = c.read_file.new.room in
-    let inside : at < length (files_of w) = omega (arith, length-map w.files.items file_met) in
-    let here : get_or (files_of w) at m ≡ m = c.requires.here in
-    let read : file_in k m ≡ Ok (file_in_room room m.kind c.in-Ok.body) = sym (rw c.in-Ok.is at (c.read_file.ensures.file m refl refl)) in
-    rw c.in-Directory.is at (numbers_below k m (file_in_room room m.kind c.in-Ok.body) read)
 
 pub returns-in-Directory-clause-queued : goal.returns-in-Directory-clause-queued
 returns-in-Directory-clause-queued c =

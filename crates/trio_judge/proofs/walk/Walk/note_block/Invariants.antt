@@ -1,9 +1,7 @@
 use Rattle.std.proofs.Common.{map, take}
-use Rattle.trio_layout.specs.Survey.{met_in, plain}
 use Rattle.trio_case.specs.Cases.{case_in}
-use Rattle.trio_case.specs.Reading.{listed_seen}
-use Rattle.trio_judge.specs.inner.Walk.{Noted}
+use Rattle.trio_judge.specs.inner.Walk.{Noted, listed_met}
 use Rattle.trio_judge.proofs.walk.Walk.note_block.Given as goal
 
 abbrev pub invariant-loop-listed : goal.invariant-loop-listed
-invariant-loop-listed l = Noted (case_in l.case) (map (met_in plain l.directory) (map listed_seen (take l.listed-index l.entries))) l.fn.self l.self
+invariant-loop-listed l = Noted (case_in l.case) (map (listed_met l.directory) (take l.listed-index l.entries)) l.fn.self l.self

@@ -1,14 +1,12 @@
-use Rattle.std.proofs.Common.{◌<◌, ◌+◌, ◌≤◌, Bool, length, map, take, get_or, sym, ap, ◌∙◌, arith}
-use Rattle.std.specs.List.{flat_map, list_all}
-use Rattle.std.specs.Prelude.{nat_lt}
+use Rattle.std.proofs.Common.{◌<◌, ◌+◌, ◌≤◌, length, map, take, get_or, ap, arith}
+use Rattle.std.specs.List.{flat_map}
 use Rattle.std.proofs.lemmas.List.{length-map}
-use Rattle.std.proofs.lemmas.List.Folds.{length-flat_map-take, list_all-map}
-use Rattle.trio_layout.specs.Entries.{Listed}
+use Rattle.std.proofs.lemmas.List.Folds.{length-flat_map-take}
 use Rattle.trio_layout.specs.Survey.{met_in, plain}
 use Rattle.trio_case.specs.Cases.{case_in}
 use Rattle.trio_case.specs.Reading.{listed_seen}
 use Rattle.trio_case.specs.Rooms.{entries_kept}
-use Rattle.trio_judge.proofs.Noting.{all_of_block, bad_among, entries_have, entries_more, noted_append, places_fewer}
+use Rattle.trio_judge.proofs.Noting.{bad_among, entries_have, entries_more, listed_is, noted_append, places_fewer}
 use Rattle.trio_judge.proofs.walk.Walk.note_entries.Goals as goal
 
 pub note_block-requires-clause-places : goal.note_block-requires-clause-places
@@ -20,18 +18,8 @@ note_block-requires-clause-places c =
     let here = rw c.blocks-block-items.ensures at c.entries_of.ensures in
     let xs = map (met_in plain c.args.directory) (flat_map f (take i bs)) in
     let some : length xs + length c.entries_of.result.now ≤ length (flat_map f bs) =
-    omega (arith, length-flat_map-take f bs i 0 within, length-map (flat_map f (take i bs)) (met_in plain c.args.directory), ap length here, length-map c.entries_of.result.now listed_seen) in
+    omega (arith, length-flat_map-take f bs i 0 within, length-map (flat_map f (take i bs)) (met_in plain c.args.directory), ap length here, length-map c.entries_of.result.now (listed_seen c.args.room.now.kept.names.names)) in
     c.loop-block.invariant.places (length c.entries_of.result.now) (places_fewer (length xs + length c.entries_of.result.now) (length (flat_map f bs)) c.args.self.now some c.requires.places)
-
-pub note_block-requires-clause-numbers : goal.note_block-requires-clause-numbers
-note_block-requires-clause-numbers c =
-    let bs = c.args.room.now.blocks.items in
-    let f = entries_kept c.args.room.now.kept in
-    let i = c.loop-block.block-index in
-    let p : Listed → Bool = λ l. nat_lt l.entry.ino (c.args.case.now.inodes + 1) in
-    let within : i < length bs = rw c.blocks-block-items.ensures at c.loop-block-test.true in
-    let here = rw c.blocks-block-items.ensures at c.entries_of.ensures in
-    sym (list_all-map p listed_seen c.entries_of.result.now) ∙ ap (list_all p) here ∙ all_of_block p f bs i within c.requires.numbers
 
 pub returns-in-Err-clause-bad : goal.returns-in-Err-clause-bad
 returns-in-Err-clause-bad c =
@@ -42,7 +30,7 @@ returns-in-Err-clause-bad c =
     let here = rw c.blocks-block-items.ensures at c.entries_of.ensures in
     bad_among (case_in c.args.case.now) (map (met_in plain c.args.directory) (f (get_or bs i 0))) _ c.in-Err.fault
     (λ e k. entries_have f c.args.directory i bs e within k)
-    (rw here at c.in-Err.ensures.bad)
+    (rw (listed_is c.args.directory c.args.room.now.kept.names.names, here) at c.in-Err.ensures.bad)
 
 pub loop-block-preserved : goal.loop-block-preserved
 loop-block-preserved c =
@@ -52,4 +40,4 @@ loop-block-preserved c =
     let within : i < length bs = rw c.blocks-block-items.ensures at c.loop-block-test.true in
     let here = rw c.blocks-block-items.ensures at c.entries_of.ensures in
     rw (entries_more f c.args.directory i bs within)
-    (noted_append (case_in c.args.case.now) _ _ c.args.self.now c.loop-block.self c.note_block.new.self c.loop-block.invariant (rw here at c.in_default.ensures.noted))
+    (noted_append (case_in c.args.case.now) _ _ c.args.self.now c.loop-block.self c.note_block.new.self c.loop-block.invariant (rw (listed_is c.args.directory c.args.room.now.kept.names.names, here) at c.in_default.ensures.noted))

@@ -100,5 +100,5 @@ returns-clause-stands c = λ done es s.
     record {
       read = read_more k done m f c.requires.read s.read;
       grammar = s.grammar;
-      listed = rw none (lists_file k done es m f w c.requires.read l c.mark_own-block.new.marks.items first _ c.file_keeps_rights.result c.file_keeps_rights.ensures c.first_denied-self.ensures listed refl refl);
+      listed = rw none (lists_file k done es m f w c.requires.read l c.mark_own-block.new.marks.items first _ c.file_keeps_rights.result c.file_keeps_rights.ensures c.first_denied-self.ensures listed refl);
     }

@@ -1,0 +1,5 @@
+use Rattle.std.proofs.Common.{◌∙◌}
+use Rattle.trio_case.proofs.listing.Listing.is_held.Goals as goal
+
+pub returns : goal.returns
+returns c = rw (← c.self.view_is) (c.has.ensures ∙ c.self.invariant.held.each c.args.ino)
