@@ -6,15 +6,26 @@ ghost use Rattle.trio_case.specs.Memory.{size_of};
 ghost use Rattle.trio_state.specs.Moves.{outline_of};
 ghost use Rattle.trio_entries.specs.Drafts.{HasDraftMemory, HasToldPlaces, IsDraftMemory};
 
-use crate::finder::Finder;
-use crate::handed::HandedRoom;
-use crate::outline::{Outline, OutlineMemory};
+use crate::finder::{FINDER_BYTES, Finder};
+use crate::handed::{COPY_BYTES, HandedRoom};
+use crate::outline::{OUTLINE_BYTES, Outline, OutlineMemory};
 use std::alloc::Global;
 use std::marker::Model;
-use trio_case::{BundleSize, Case};
+use trio_case::{BundleSize, BytesEach, Case};
 use trio_lease::Bundle;
 use trio_nodes::{PlacedBlock, RawFile};
 use trio_page::NoMemory;
+
+/// How many bytes the memory of an entry takes: for the copy of a bundle and its outline, for what is told
+/// of 16 files and a block to each page, and of a file to each value.
+pub const DRAFT_BYTES: BytesEach = BytesEach {
+    page: COPY_BYTES.page
+        + OUTLINE_BYTES.page
+        + FINDER_BYTES.page
+        + 16 * size_of::<RawFile>()
+        + size_of::<PlacedBlock>(),
+    value: COPY_BYTES.value + OUTLINE_BYTES.value + FINDER_BYTES.value + size_of::<RawFile>(),
+};
 
 /// All memory of the entry of a release, by how much its bundle may have. It can be made before there
 /// is a bundle.

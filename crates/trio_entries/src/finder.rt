@@ -18,11 +18,17 @@ ghost use Rattle.trio_entries.specs.Handed.{handed_in};
 ghost use Rattle.trio_entries.specs.inner.Finding.{has_mark, judged_place, own_numbers, IsFinderOf, IsJudgedBy, IsMarkedBy};
 
 use std::alloc::Global;
-use trio_case::{BundleSize, Case, ListedFile, Listing, PageIndex};
+use trio_case::{BundleSize, BytesEach, Case, INDEXED_PAGE_BYTES, ListedFile, Listing, PageIndex};
 use trio_lease::WriteLease;
 use trio_nodes::{Handed, HandedPage};
 use trio_page::NoMemory;
 use trio_tables::Row;
+
+/// How many bytes a finder takes.
+pub(crate) const FINDER_BYTES: BytesEach = BytesEach {
+    page: INDEXED_PAGE_BYTES + size_of::<u32>(),
+    value: size_of::<Option<usize>>(),
+};
 
 /// The bundle's pages by their numbers, and the judged files of a listing.
 #[derive(Drop)]

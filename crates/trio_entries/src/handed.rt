@@ -10,7 +10,7 @@ ghost use Rattle.trio_entries.specs.Handed.{block_in, file_in, file_pages, fresh
 ghost use Rattle.trio_entries.specs.inner.Sources.{numbers_in, page_seen, pages_of};
 
 use std::alloc::{AllocError as NoMemory, Global};
-use trio_case::BundleSize;
+use trio_case::{BundleSize, BytesEach};
 use trio_lease::{Bundle, FreshIno, FreshPage, HoldLease, WriteLease};
 use trio_nodes::{Handed, HandedHead, HandedPage, List};
 use trio_page::Page;
@@ -25,6 +25,12 @@ pub fn copied(alloc: Global, bundle: &Bundle) -> Result<Handed, NoMemory>
     let room = HandedRoom::with(alloc, size)?;
     Ok(room.fill(bundle))
 }
+
+/// How many bytes the memory of a copy takes.
+pub(crate) const COPY_BYTES: BytesEach = BytesEach {
+    page: 4096 + size_of::<Vec<u8>>() + size_of::<HandedPage>(),
+    value: size_of::<HandedHead>() + 2 * size_of::<u32>(),
+};
 
 /// The memory of a copy of a bundle.
 #[derive(Drop)]

@@ -17,6 +17,6 @@ mod outline;
 mod telling;
 mod told;
 
-pub use draft::{Draft, DraftMemory};
+pub use draft::{DRAFT_BYTES, Draft, DraftMemory};
 pub use notes::Notes;
 pub use telling::{Told, accepted, refused};

@@ -12,7 +12,7 @@ ghost use Rattle.trio_entries.specs.inner.Sources.{file_numbers, numbers_in};
 use crate::handed::{Source, add_holds, add_numbers};
 use std::alloc::Global;
 use std::marker::Model;
-use trio_case::BundleSize;
+use trio_case::{BundleSize, BytesEach};
 use trio_lease::{Bundle, FreshIno, HoldLease, WriteLease};
 use trio_page::NoMemory;
 use trio_rights::Kind;
@@ -48,6 +48,12 @@ impl Model for Outline {
 
     ghost invariant = { λ o. HasPages o.files.items o.pages.items };
 }
+
+/// How many bytes the memory of an outline takes.
+pub(crate) const OUTLINE_BYTES: BytesEach = BytesEach {
+    page: size_of::<u32>(),
+    value: size_of::<FileHead>() + 2 * size_of::<u32>(),
+};
 
 /// The memory of an outline.
 #[derive(Drop)]
