@@ -22,7 +22,6 @@ use trio_tables::{Owners, Shadow};
 ///
 /// Contracts see its superblock and its pages by number, each as its bytes (`ImagePages` of
 /// `specs/Image.antt`).
-#[derive(Drop)]
 pub struct Image {
     superblock: Superblock,
     parts: ImageParts,
@@ -36,6 +35,15 @@ pub struct ImageParts {
     pub rows: Shadow,
     /// The owner of each page.
     pub owners: Owners,
+}
+
+impl Drop for Image {
+    fn drop(self) {
+        let Image {
+            superblock: _,
+            parts: _,
+        } = self;
+    }
 }
 
 impl Model for Image {
@@ -78,7 +86,11 @@ impl Image {
         ensures verified { IsVerified self.superblock self.pages }
         ensures tables { TablesAre self.superblock self.pages result.rows result.owners }
     {
-        self.parts
+        let Image {
+            superblock: _,
+            parts,
+        } = self;
+        parts
     }
 
     /// The home with the pages of the image. Takes no memory.
@@ -86,7 +98,7 @@ impl Image {
         ensures pages { result.pages ≡ self.pages }
         ensures verified { IsVerified self.superblock self.pages }
     {
-        self.parts.home
+        self.into_parts().home
     }
 
     /// What the image has in use. The pages are not read.
