@@ -42,6 +42,7 @@ use Rattle.trio_ctl.specs.HandedIn.{WereHeld}
 use Rattle.trio_open.specs.Open.{Opened, grants_in}
 use Rattle.trio_ctl.specs.Pending.{case_made}
 use Rattle.trio_ctl.specs.Stored.{superblock_at_home}
+use Rattle.trio_ctl.proofs.ChildRows.{few_children}
 use Rattle.trio_ctl.proofs.Concluding.{judgeable, some_and}
 use Rattle.trio_ctl.proofs.Judging.{pages_core, pages_new, parents}
 
@@ -115,6 +116,7 @@ module _ (s : Store) (first : ℕ) (table : List Keyed) (files : List Opened) (c
         core = ap (λ rg. list_all (is_core rg) (bundle_pages b)) ranges ∙ pages_core st lib.0 b j.kept j.given;
         pages = pages_new st lib.0 b j.kept j.given;
         first = lt-ltb 0 range.first (subst (λ (rg : CoreRange). 0 < rg.first) (sym ranges) low_first);
+        children = few_children st lib.0 b j;
       }
     where
       free_number : (n : ℕ) → In n b.numbers → is_free_number s.rows inodes n ≡ true

@@ -26,6 +26,7 @@ pub mod Committing
 pub mod Looks
 pub mod Concluding
 pub mod Judging
+pub mod ChildRows
 pub mod Cases
 pub mod Given
 pub mod GivingBack

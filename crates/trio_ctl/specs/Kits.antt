@@ -6,7 +6,7 @@ use Rattle.trio_layout.specs.Range.{core_count}
 use Rattle.trio_lease.specs.Bundles.{Bundled}
 use Rattle.trio_lease.specs.Views.{bundle_in}
 use Rattle.trio_case.specs.Cases.{CaseShown}
-use Rattle.trio_case.specs.Memory.{HasCaseMemory, IsWithin, TablesServe}
+use Rattle.trio_case.specs.Memory.{HasCaseMemory, IsWithin}
 use Rattle.trio_case.specs.declared.size.BundleSize.{BundleSize}
 use Rattle.trio_judge.specs.Memory.{HasRoomMemory}
 use Rattle.trio_entries.specs.Drafts.{HasDraftMemory}
@@ -16,15 +16,14 @@ use Rattle.trio_ctl.specs.declared.spares.Spares.{Spares}
 
 -- there is memory for the whole release of this bundle, of an image of these sizes: for its case, its judgement and its entry
 pub record HasKit (z : Sizes) (b : Bundled) (k : Kit) : Type 0 where
-  pub case : HasCaseMemory b (z.inodes + 1) k.case
+  pub case : HasCaseMemory b k.case
   pub room : (c : CaseShown) → c.bundle ≡ b → c.range ≡ z.range → c.inodes ≡ z.inodes → HasRoomMemory c k.room
   pub draft : HasDraftMemory b k.draft
 
--- Memory that was made for a size of a bundle, so many core pages and tables over so many inode numbers is memory for the release of each
--- bundle of no more than this size, of an image of just so many core pages, for which the tables serve.
-abbrev pub IsKit : BundleSize → ℕ → ℕ → Kit → Type 0
-IsKit size core tables k =
-    (z : Sizes) (b : Bundled) → IsWithin b size → core_count z.range ≡ core → TablesServe b (z.inodes + 1) tables → HasKit z b k
+-- memory that was made for a size of a bundle and so many core pages is so for the release of each bundle of no more than this size, of an
+-- image of just so many core pages
+abbrev pub IsKit : BundleSize → ℕ → Kit → Type 0
+IsKit size core k = (z : Sizes) (b : Bundled) → IsWithin b size → core_count z.range ≡ core → HasKit z b k
 
 -- this is memory for each release that needs at most so many bytes, of an image of these sizes
 abbrev pub Serves : Sizes → ℕ → Kit → Type 0

@@ -41,7 +41,6 @@ use trio_rights::{Creds, LibNo};
 /// ended, whose bundle was given to it and is closed; the image that it began from and the log, which is
 /// always legal from that image's nodes to those for which the state stands, and replays to the state
 /// (`HasHistory`); how often a page at home was looked at; and what is spare.
-#[derive(Drop)]
 pub struct Ctl {
     pub(crate) registry: Registry,
     pub(crate) log: Log,
@@ -78,6 +77,18 @@ impl Model for Ctl {
     ghost invariant = { λ c.
         HasHistory (image_in c.first.value.superblock c.first.value.pages) c.registry.state c.registry.begun c.registry.promised c.log c.notes
         × AreSpare (sizes_in (image_in c.first.value.superblock c.first.value.pages)) c.spares };
+}
+
+impl Drop for Ctl {
+    fn drop(self) {
+        let Ctl {
+            registry: _,
+            log: _,
+            notes: _,
+            spares: _,
+            first: _,
+        } = self;
+    }
 }
 
 impl Ctl {

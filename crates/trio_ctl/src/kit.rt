@@ -1,17 +1,28 @@
 //! All memory of one release.
 
-ghost use Rattle.std.specs.Prelude.{◌≡◌, ◌+◌, IfOk};
+ghost use Rattle.std.specs.Prelude.{◌≡◌, IfOk};
 ghost use Rattle.trio_layout.specs.Range.{core_count};
-ghost use Rattle.trio_case.specs.Memory.{TablesServe};
 ghost use Rattle.trio_ctl.specs.Kits.{HasKit, IsKit};
 
 use std::alloc::Global;
-use trio_case::{BundleSize, CaseMemory, writes_directory};
-use trio_entries::DraftMemory;
-use trio_judge::RoomMemory;
+use trio_case::{
+    BundleSize, CASE_BYTES, CaseMemory, LISTED_NUMBER_BYTES, READ_CORE_BYTES, table_size,
+};
+use trio_entries::{DRAFT_BYTES, DraftMemory};
+use trio_judge::{ROOM_BYTES, RoomMemory};
 use trio_layout::CoreRange;
 use trio_lease::Bundle;
 use trio_page::NoMemory;
+
+// what `Ctl::room` tells is no less than what the release of a bundle takes: for each page of the bundle, for
+// each write lease, hold and inode number in it, and for each page and inode number of the image
+const _: () = prove!(CASE_BYTES.page + ROOM_BYTES.page + DRAFT_BYTES.page <= 16384);
+
+const _: () = prove!(CASE_BYTES.value + ROOM_BYTES.value + DRAFT_BYTES.value <= 1024);
+
+const _: () = prove!(READ_CORE_BYTES <= 4);
+
+const _: () = prove!(LISTED_NUMBER_BYTES <= 4);
 
 /// All memory of one release: of its case, of its judgement, and of its entry in the log. It can be made
 /// before there is a bundle.
@@ -23,15 +34,19 @@ pub(crate) struct Kit {
 }
 
 impl Kit {
-    /// Memory for the release of any bundle of at most this size, of an image of so many core pages, with
-    /// tables over so many inode numbers: the image's, with the number 0, or none where the bundle is to
-    /// write no directory.
-    pub fn with(alloc: Global, size: BundleSize, core: usize, tables: u32) -> Result<Kit, NoMemory>
-        ensures { IfOk result (IsKit size core tables) }
+    /// Memory for the release of any bundle of at most this size, of an image of so many core pages. What is
+    /// listed of an inode number below `numbers` takes one look.
+    pub fn with(
+        alloc: Global,
+        size: BundleSize,
+        core: usize,
+        numbers: usize,
+    ) -> Result<Kit, NoMemory>
+        ensures { IfOk result (IsKit size core) }
     {
         Ok(Kit {
-            case: CaseMemory::with(alloc, size.values, tables as usize)?,
-            room: RoomMemory::with(alloc, size, core, tables)?,
+            case: CaseMemory::with(alloc, size)?,
+            room: RoomMemory::with(alloc, size, core, numbers)?,
             draft: DraftMemory::with(alloc, size)?,
         })
     }
@@ -47,7 +62,7 @@ impl Kit {
         ensures { IfOk result (HasKit (record { range = range; inodes = inodes }) bundle.now) }
     {
         let size = BundleSize::of(bundle)?;
-        let kit = Kit::with(alloc, size, core_pages(range), table_size(bundle, inodes)?)?;
+        let kit = Kit::with(alloc, size, core_pages(range), table_size(bundle, inodes))?;
         Ok(kit)
     }
 }
@@ -57,16 +72,4 @@ pub(crate) fn core_pages(range: CoreRange) -> usize
     ensures { result ≡ core_count range }
 {
     range.end.saturating_sub(range.first) as usize
-}
-
-/// Over how many inode numbers the release of a bundle needs tables: over none where no directory is
-/// written.
-fn table_size(bundle: &Bundle, inodes: u32) -> Result<u32, NoMemory>
-    ensures { IfOk result (λ n. TablesServe bundle.now (inodes + 1) n) }
-{
-    if writes_directory(bundle) {
-        inodes.checked_add(1).ok_or(NoMemory)
-    } else {
-        Ok(0)
-    }
 }

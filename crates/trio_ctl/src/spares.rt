@@ -92,7 +92,7 @@ impl Spares {
         let core = core_pages(range);
         let mut kits = Vec::with_capacity(alloc, wanted)?;
         for _ in kept..wanted {
-            kits.push(Kit::with(alloc, size, core, inodes + 1)?)?;
+            kits.push(Kit::with(alloc, size, core, inodes as usize + 1)?)?;
         }
         Ok(Spares { kits, bytes: each })
     }

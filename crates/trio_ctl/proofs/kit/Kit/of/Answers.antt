@@ -7,4 +7,4 @@ returns c =
     let size = c.in_ok-size.ensures in
     c.in_ok-kit.ensures (record { range = c.args.range; inodes = c.args.inodes }) c.args.bundle.now
     (record { pages = omega (arith, ap (λ (s : BundleSize). s.pages) size); values = omega (arith, ap (λ (s : BundleSize). s.values) size) })
-    (sym c.core_pages.ensures) c.in_ok-table_size.ensures
+    (sym c.core_pages.ensures)

@@ -1,13 +1,11 @@
-use Rattle.std.proofs.Common.{◌+◌, ap, subst, sym, ◌∙◌}
+use Rattle.std.proofs.Common.{ap, subst, sym, ◌∙◌}
 use Rattle.trio_layout.specs.Range.{core_count}
-use Rattle.trio_case.specs.Memory.{IsWithin, TablesServe}
+use Rattle.trio_case.specs.Memory.{IsWithin}
 use Rattle.trio_ctl.proofs.kit.Kit.with.Goals as goal
 
 pub returns : goal.returns
-returns c = λ z b fits core serves. record {
-  case = c.in_ok-with.ensures b (z.inodes + 1) fits.values serves;
-  room = λ k bundle range inodes.
-      c.in_ok-with-2.ensures k (subst (λ x. IsWithin x c.args.size) (sym bundle) fits) (ap core_count range ∙ core)
-      (subst (λ n. TablesServe k.bundle (n + 1) c.args.tables) (sym inodes) (subst (λ x. TablesServe x (z.inodes + 1) c.args.tables) (sym bundle) serves));
+returns c = λ z b fits core. record {
+  case = c.in_ok-with.ensures b fits;
+  room = λ k bundle range inodes. c.in_ok-with-2.ensures k (subst (λ x. IsWithin x c.args.size) (sym bundle) fits) (ap core_count range ∙ core);
   draft = c.in_ok-with-3.ensures b fits;
 }

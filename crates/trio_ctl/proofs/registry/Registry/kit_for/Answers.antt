@@ -1,0 +1,35 @@
+use Rattle.std.proofs.Common.{◌≡◌, ℕ, IfOk, ap, subst, ◌∙◌, arith}
+use Rattle.trio_layout.specs.declared.range.CoreRange.{CoreRange}
+use Rattle.trio_state.specs.State.{State}
+use Rattle.trio_desk.specs.Contents.{Sizes}
+use Rattle.trio_commit.specs.Store.{state_of}
+use Rattle.trio_open.specs.Open.{grants_in}
+use Rattle.trio_laws.specs.session.Lent.{sizes_of}
+use Rattle.trio_ctl.specs.Kits.{HasKit, TakesOne}
+use Rattle.trio_ctl.proofs.Views.{state_is}
+use Rattle.trio_ctl.proofs.registry.Registry.kit_for.Goals as goal
+
+abbrev sized : CoreRange → ℕ → Sizes
+sized range inodes = record { range = range; inodes = inodes }
+
+-- the sizes that are asked for are those of the state
+sized_so : (range : CoreRange) (inodes : ℕ) (s : State) → range ≡ s.home.core.range → inodes ≡ s.home.core.inodes → sized range inodes ≡ sizes_of s
+sized_so range inodes s ranges counts = ap (λ r. sized r inodes) ranges ∙ ap (λ n. sized s.home.core.range n) counts
+
+pub returns-clause-kit : goal.returns-clause-kit
+returns-clause-kit c =
+    let i = c.self.inside in
+    let st = state_of i.store i.first_core (grants_in i.files.items) i.libs.items i.history.made in
+    let table = c.inodes-inodes.ensures.inodes in
+    let count : c.inodes-inodes.result ≡ st.home.core.inodes = omega (arith, table) in
+    let sizes = sized_so c.range.result c.inodes-inodes.result c.args.self.now.state c.range.ensures (count ∙ ap (λ (v : State). v.home.core.inodes) (state_is c.self.view_is)) in
+    subst (λ z. IfOk c.kit_for.result (HasKit z c.args.bundle.now)) sizes c.kit_for.ensures.kit
+
+pub returns-clause-takes : goal.returns-clause-takes
+returns-clause-takes c =
+    let i = c.self.inside in
+    let st = state_of i.store i.first_core (grants_in i.files.items) i.libs.items i.history.made in
+    let table = c.inodes-inodes.ensures.inodes in
+    let count : c.inodes-inodes.result ≡ st.home.core.inodes = omega (arith, table) in
+    let sizes = sized_so c.range.result c.inodes-inodes.result c.args.self.now.state c.range.ensures (count ∙ ap (λ (v : State). v.home.core.inodes) (state_is c.self.view_is)) in
+    subst (λ z. TakesOne z c.args.spares.now c.kit_for.new.self) sizes c.kit_for.ensures.takes
