@@ -35,6 +35,7 @@ pub use plain::plain_main;
 pub use running::run;
 use std::alloc::Global;
 use std::env;
+use std::fs::File;
 use std::io::ErrorKind;
 use std::process::ExitCode;
 use std::rt::{Env, Files as Host};
@@ -85,8 +86,24 @@ fn words_given<R: Env + AllocGlobal>(rt: &R) -> Result<Vec<String>, NoMemory> {
     }
 }
 
+/// Says on the standard error which call of the host failed last, on what and why, where one did.
+fn say_faults<R: Host<File = File> + Print + Eprint>(
+    rt: &R,
+    files: &RealFiles<'_, R>,
+    out: &StdoutSink<'_, R>,
+) {
+    if let Some((name, error)) = files.last_fault() {
+        let _ = eprintln!(rt; "trio: {name}: {error}");
+    }
+    if let Some(error) = out.last_fault() {
+        let _ = eprintln!(rt; "trio: standard output: {error}");
+    }
+}
+
 /// Runs the program on the words of the command line, the host's files and its standard output.
-fn run_words<R: Threads + Wait + Sync + Env + Host + Print + AllocGlobal>(rt: &R) -> u8
+fn run_words<R: Threads + Wait + Sync + Env + Host<File = File> + Print + Eprint + AllocGlobal>(
+    rt: &R,
+) -> u8
     ensures { EndOfProcess result }
 {
     let Ok(words) = words_given(rt) else {
@@ -99,7 +116,9 @@ fn run_words<R: Threads + Wait + Sync + Env + Host + Print + AllocGlobal>(rt: &R
         return Status::NoMemory.code();
     };
     let mut out = StdoutSink::new(rt);
-    trio_main(rt, rt.alloc(), &words, &mut files, &mut out, &OpenGate)
+    let status = trio_main(rt, rt.alloc(), &words, &mut files, &mut out, &OpenGate);
+    say_faults(rt, &files, &out);
+    status
 }
 
 fn main(rt: HostRuntime) -> ExitCode {

@@ -26,6 +26,7 @@ use crate::judging::measure_judge;
 use crate::names::measure_names;
 use crate::trees::measure_tree;
 use std::alloc::Global;
+use std::fs::File;
 use std::io;
 use std::rt::{Clock, Env, Files};
 use trio_bench_common::words_given;
@@ -84,7 +85,10 @@ fn main(rt: HostRuntime) -> io::Result<()> {
 }
 
 /// Measures what is asked for, and prints what was measured.
-fn measure<R: Clock + Files + Print + AllocGlobal>(rt: &R, asked: Asked) -> io::Result<()> {
+fn measure<R: Clock + Files<File = File> + Print + AllocGlobal>(
+    rt: &R,
+    asked: Asked,
+) -> io::Result<()> {
     match asked {
         Asked::Judge => measure_judge(rt),
         Asked::Tree => measure_tree(rt),

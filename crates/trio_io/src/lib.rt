@@ -23,8 +23,10 @@ mod outside;
 mod plan;
 mod real;
 mod replacing;
+mod standing;
 mod streams;
 mod sure;
+mod temporary;
 mod whole;
 
 pub use hold_gate::{GateStop, HoldGate};

@@ -12,9 +12,12 @@ ghost use Rattle.trio_io.specs.Shelf.{Rose, NoFaults};
 
 use crate::counts::{FaultCounts, is_among, place};
 use crate::replacing::replace_file;
-use crate::streams::{counted, fill, write_all};
+use crate::standing::{Standing, Target};
+use crate::streams::{HostErrors, counted, fill, write_all};
+use crate::temporary::NAME_LENGTH;
 use crate::{Failed, Files, MAX_OFFSET, Sink};
 use std::alloc::{AllocError as NoMemory, Global};
+use std::fs::File;
 use std::io::{Seek, SeekFrom};
 use std::rt::Files as Host;
 use std::{fs, io};
@@ -25,31 +28,49 @@ use std::{fs, io};
 /// from there. So a pipe can be read in order; any other read of one fails.
 ///
 /// A regular file is replaced whole or not at all: a temporary file is written beside it, synced and
-/// renamed over it. Its mode stays. Where a name leads to a regular file through a link, that file
-/// is replaced and the link stays. What is no regular file, as a device or a pipe, is written in
-/// place. A file that may not be written isn't replaced. Where there is no memory for the temporary
-/// file's name, the write fails.
+/// renamed over it. Its mode stays, but for the set-id bits where the owner or the group is another.
+/// Where a name leads to a regular file through a link, that file is replaced and the link stays. A
+/// file that may not be written isn't replaced. What is no regular file, as a device or a pipe, is
+/// written in place, and a device of blocks is then synced.
 ///
-/// Each error of the host raises the count of its name and direction. A call that was interrupted
-/// is made again; any other error is answered by `Failed`, but for one: that a file which has been
-/// replaced couldn't be synced with its folder.
+/// A file is replaced only where it is still the file that stood there when the write began, and, if
+/// it was read under any name, as it was at the first read: of the same device, number, size and time
+/// of its last write. Else the write fails. The old file is locked for this look and the rename, and
+/// the write fails where somebody else has locked it. So of two runs that read and replace one file
+/// at once, only one succeeds. A program that heeds no lock can still change the file between the look
+/// and the rename, and so can any where the host has no locks or where no file stood.
+///
+/// A temporary file is locked while it is written. One that nobody has locked was left by a run that
+/// was killed, and a write that would take its name removes it.
+///
+/// The memory for a temporary file's path is taken beforehand. Where a name is a link and there is no
+/// memory for where it leads, the write fails.
+///
+/// An error of the host that makes a call fail raises the count of its name and direction. A call
+/// that was interrupted raises it too, and is made again. It changes nothing that the host has no
+/// locks, or that it can't remove a temporary file that was left or sync a folder.
 #[derive(Drop)]
-pub struct RealFiles<'a, R: Host> {
+pub struct RealFiles<'a, R: Host<File = File>> {
     host: &'a R,
     alloc: Global,
     counts: FaultCounts,
-    last_read: Option<OpenRead<R::File>>,
+    last_read: Option<OpenRead>,
+    first_reads: Vec<Option<Standing>>,
+    path: String,
+    last_fault: Option<(usize, io::Error)>,
 }
 
-/// An open file, with the place of its name and the offset that has been read up to.
+/// An open file, with the place of its name, how it stood when it was opened, and the offset that
+/// has been read up to.
 #[derive(Drop)]
-struct OpenRead<F> {
+struct OpenRead {
     place: usize,
-    file: F,
+    file: File,
+    standing: Standing,
     end: u64,
 }
 
-impl<'a, R: Host> RealFiles<'a, R> {
+impl<'a, R: Host<File = File>> RealFiles<'a, R> {
     /// Serves these names. No file is touched yet.
     pub fn new(host: &'a R, alloc: Global, names: Vec<String>) -> Result<RealFiles<'a, R>, NoMemory>
         ensures serves { IfOk result
@@ -61,12 +82,35 @@ impl<'a, R: Host> RealFiles<'a, R> {
         ensures faults { IfOk result
             (λ files. NoFaults (⟦<RealFiles<'a, R> as Files>⟧.seen files)) }
     {
+        let first_reads = vec![in alloc; None; names.len()]?;
+        let path = String::with_capacity(alloc, longest(&names).saturating_add(NAME_LENGTH))?;
         Ok(RealFiles {
             host,
             alloc,
             counts: FaultCounts::new(alloc, names)?,
             last_read: None,
+            first_reads,
+            path,
+            last_fault: None,
         })
+    }
+
+    /// The name and the error of the last call that failed. `None` where none has.
+    pub fn last_fault(&self) -> Option<(&str, io::Error)> {
+        let (place, error) = self.last_fault?;
+        let name = self.counts.names.get(place)?;
+        Some((name.as_str(), error))
+    }
+
+    /// Keeps the last error of a call that failed.
+    fn keep_fault(&mut self, place: usize, errors: &HostErrors, has_failed: bool)
+        ensures { self.new.counts ≡ self.old.counts }
+    {
+        if let Some(error) = errors.last {
+            if has_failed {
+                self.last_fault = Some((place, error));
+            }
+        }
     }
 
     /// Whether this name may be asked for.
@@ -78,46 +122,85 @@ impl<'a, R: Host> RealFiles<'a, R> {
     }
 }
 
+/// The length of the longest of these names.
+fn longest(names: &[String]) -> usize {
+    let mut most = 0;
+    for name in names {
+        most = most.max(name.len());
+    }
+    most
+}
+
 /// Reads a file from an offset on until the buffer is full or the file has ended: the file that was
 /// read last goes on where it can, and else the file is opened anew. It stays open unless it failed.
-fn read_on<R: Host>(
+fn read_on<R: Host<File = File>>(
     host: &R,
-    last_read: &mut Option<OpenRead<R::File>>,
+    last_read: &mut Option<OpenRead>,
     place: usize,
     name: &str,
     at: u64,
     buf: &mut [u8],
-    faults: &mut u64,
+    errors: &mut HostErrors,
 ) -> Result<usize, Failed>
     requires { at ≤ MAX_OFFSET }
     ensures bound { IfOk result (λ n. n ≤ length buf.new) }
-    ensures cause { OnErr result (Rose faults.old faults.new) }
-    ensures later { faults.old ≤ faults.new }
+    ensures cause { OnErr result (Rose errors.old.count errors.new.count) }
+    ensures later { errors.old.count ≤ errors.new.count }
 {
-    let mut file = match last_read.take() {
-        Some(last) if last.place == place && last.end == at => last.file,
-        _ => open_at(host, name, at, faults)?,
+    let mut from = match last_read.take() {
+        Some(last) if last.place == place && last.end == at => last,
+        _ => open_at(host, place, name, at, errors)?,
     };
-    let count = fill(&mut file, buf, faults)?;
-    let end = at + count as u64;
-    *last_read = Some(OpenRead { place, file, end });
+    let count = fill(&mut from.file, buf, errors)?;
+    from.end = at + count as u64;
+    *last_read = Some(from);
     Ok(count)
 }
 
 /// Opens a file to be read from an offset on.
-fn open_at<R: Host>(host: &R, name: &str, at: u64, faults: &mut u64) -> Result<R::File, Failed>
-    ensures cause { OnErr result (Rose faults.old faults.new) }
-    ensures later { faults.old ≤ faults.new }
+fn open_at<R: Host<File = File>>(
+    host: &R,
+    place: usize,
+    name: &str,
+    at: u64,
+    errors: &mut HostErrors,
+) -> Result<OpenRead, Failed>
+    ensures cause { OnErr result (Rose errors.old.count errors.new.count) }
+    ensures later { errors.old.count ≤ errors.new.count }
 {
-    let mut file = counted(fs::open(host, name), faults)?;
+    let mut file = counted(fs::open(host, name), errors)?;
+    let standing = Standing::of(&counted(file.metadata(), errors)?);
     // (a pipe has no offset to begin at)
     if at > 0 {
-        counted(file.seek(SeekFrom::Start(at)), faults)?;
+        counted(file.seek(SeekFrom::Start(at)), errors)?;
     }
-    Ok(file)
+    Ok(OpenRead {
+        place,
+        file,
+        standing,
+        end: at,
+    })
 }
 
-impl<R: Host> Files for RealFiles<'_, R> {
+/// Notes what a name's first read came from.
+fn note_first(first_reads: &mut [Option<Standing>], last_read: &Option<OpenRead>) {
+    if let Some(last) = last_read {
+        if let Some(first) = first_reads.get_mut(last.place) {
+            if first.is_none() {
+                *first = Some(last.standing);
+            }
+        }
+    }
+}
+
+/// Forgets what a name's first read came from.
+fn forget_first(first_reads: &mut [Option<Standing>], place: usize) {
+    if let Some(first) = first_reads.get_mut(place) {
+        *first = None;
+    }
+}
+
+impl<R: Host<File = File>> Files for RealFiles<'_, R> {
     ghost seen = { λ s. record {
       served = texts_of s.counts.names.items;
       tells = false;
@@ -127,10 +210,13 @@ impl<R: Host> Files for RealFiles<'_, R> {
     } };
 
     fn read_at(&mut self, name: &str, at: u64, buf: &mut [u8]) -> Result<usize, Failed> {
-        let mut faults = self.counts.read_count(name);
+        let mut errors = HostErrors::from(self.counts.read_count(name));
         let place = place(&self.counts.names, name);
         let last_read = &mut self.last_read;
-        let result = read_on(self.host, last_read, place, name, at, buf, &mut faults);
+        let result = read_on(self.host, last_read, place, name, at, buf, &mut errors);
+        note_first(&mut self.first_reads, &self.last_read);
+        self.keep_fault(place, &errors, result.is_err());
+        let faults = errors.count;
         self.counts.set_read_count(name, faults);
         result
     }
@@ -138,8 +224,21 @@ impl<R: Host> Files for RealFiles<'_, R> {
     fn replace(&mut self, name: &str, bytes: &[u8]) -> Result<(), Failed> {
         // what stays open may be the file that is replaced
         self.last_read = None;
-        let mut faults = self.counts.write_count(name);
-        let result = replace_file(self.host, self.alloc, name, bytes, &mut faults);
+        let counts = &self.counts;
+        let mut errors = HostErrors::from(counts.write_count(name));
+        let place = place(&counts.names, name);
+        let target = Target {
+            name,
+            names: &counts.names,
+            first_reads: &self.first_reads,
+        };
+        let path = &mut self.path;
+        let result = replace_file(self.host, self.alloc, path, &target, bytes, &mut errors);
+        if result.is_ok() {
+            forget_first(&mut self.first_reads, place);
+        }
+        self.keep_fault(place, &errors, result.is_err());
+        let faults = errors.count;
         self.counts.set_write_count(name, faults);
         result
     }
@@ -147,12 +246,12 @@ impl<R: Host> Files for RealFiles<'_, R> {
 
 /// The standard output.
 ///
-/// Each error of the host raises `faults`. A call that was interrupted is made again; any other
+/// Each error of the host raises the count of its faults. A call that was interrupted is made again; any other
 /// error is answered by `Failed`.
 #[derive(Drop)]
 pub struct StdoutSink<'a, P: Print> {
     to: &'a P,
-    faults: u64,
+    errors: HostErrors,
 }
 
 impl<'a, P: Print> StdoutSink<'a, P> {
@@ -161,14 +260,26 @@ impl<'a, P: Print> StdoutSink<'a, P> {
         ensures written { (⟦<StdoutSink<'a, P> as Sink>⟧.seen result).written ≡ None }
         ensures faults { (⟦<StdoutSink<'a, P> as Sink>⟧.seen result).faults ≡ 0 }
     {
-        StdoutSink { to, faults: 0 }
+        StdoutSink {
+            to,
+            errors: HostErrors::from(0),
+        }
+    }
+
+    /// The error of the last call, where that failed.
+    pub fn last_fault(&self) -> Option<io::Error> {
+        self.errors.last
     }
 }
 
 impl<P: Print> Sink for StdoutSink<'_, P> {
-    ghost seen = { λ s. record { written = None; faults = s.faults } };
+    ghost seen = { λ s. record { written = None; faults = s.errors.count } };
 
     fn put(&mut self, bytes: &[u8]) -> Result<(), Failed> {
-        write_all(&mut io::writer(self.to), bytes, &mut self.faults)
+        let result = write_all(&mut io::writer(self.to), bytes, &mut self.errors);
+        if result.is_ok() {
+            self.errors.last = None;
+        }
+        result
     }
 }

@@ -5,139 +5,204 @@ ghost use Rattle.std.specs.Io.KnownBytes.{Appends};
 ghost use Rattle.trio_io.specs.Shelf.{Rose};
 
 use crate::Failed;
-use crate::streams::{counted, failed, write_all};
+use crate::standing::{Standing, Target};
+use crate::streams::{HostErrors, counted, failed, write_all};
+use crate::temporary::{create_beside, lock, set_beside};
 use std::alloc::Global;
-use std::fs::{OpenFile, OpenOptions, Permissions};
+use std::fs::{File, Metadata, OpenFile, OpenOptions, Permissions};
 use std::io::{ErrorKind, Write};
-use std::os::unix::fs::{OpenOptionsExt, PermissionsExt};
+use std::os::unix::fs::{FileTypeExt, MetadataExt, PermissionsExt};
 use std::path::PathBuf;
 use std::rt::Files as Host;
 use std::{fs, io};
 
-/// How many names are tried for a temporary file. Those that a crash left stay, so later runs pass
-/// over them.
-const TEMPORARY_NAMES: u32 = 100;
+/// The bits of a mode that lend the owner's and the group's rights to whoever runs the file.
+const SET_ID_BITS: u32 = 0o6000;
 
-/// Makes these bytes the whole content of a file.
+/// The file that stood at a name, opened to be written.
+#[derive(Drop)]
+struct OldFile {
+    file: File,
+    metadata: Metadata,
+}
+
+/// Makes these bytes the whole content of a file. `path` gets the names that are needed, and has
+/// room for those beside a target that is no link.
 ///
 /// A regular file, or none, is replaced by a temporary file that was written and synced beside it:
 /// whatever happens, the old content or the new one stands whole. It may be replaced only where it
-/// may be written, and its mode stays. Anything else, as a device or a pipe, is written in place.
-pub(crate) fn replace_file<R: Host>(
+/// may be written, and only where it is still the file that was read. Its mode stays, as
+/// [`kept_permissions`] says. Anything else, as a device or a pipe, is written in place.
+pub(crate) fn replace_file<R: Host<File = File>>(
     host: &R,
     alloc: Global,
-    name: &str,
+    path: &mut String,
+    target: &Target<'_>,
     bytes: &[u8],
-    faults: &mut u64,
+    errors: &mut HostErrors,
 ) -> Result<(), Failed>
-    ensures cause { OnErr result (Rose faults.old faults.new) }
-    ensures later { faults.old ≤ faults.new }
+    ensures cause { OnErr result (Rose errors.old.count errors.new.count) }
+    ensures later { errors.old.count ≤ errors.new.count }
 {
-    match OpenOptions::new().write(true).open(host, name) {
+    match OpenOptions::new().write(true).open(host, target.name) {
         Ok(mut file) => {
-            let standing = counted(file.metadata(), faults)?;
-            if !standing.is_file() {
-                return write_all(&mut file, bytes, faults);
+            let metadata = counted(file.metadata(), errors)?;
+            if metadata.is_file() {
+                let old = Some(OldFile { file, metadata });
+                replace_regular(host, alloc, path, target, &old, bytes, errors)
+            } else {
+                write_in_place(&mut file, &metadata, bytes, errors)
             }
-            replace_regular(
-                host,
-                alloc,
-                name,
-                Some(standing.permissions()),
-                bytes,
-                faults,
-            )
         }
         Err(error) if error.kind() == ErrorKind::NotFound => {
-            replace_regular(host, alloc, name, None, bytes, faults)
+            replace_regular(host, alloc, path, target, &None, bytes, errors)
         }
-        Err(_) => Err(failed(faults)),
+        Err(error) => Err(failed(error, errors)),
     }
 }
 
-/// Writes a temporary file and renames it over a name, or removes it.
-fn replace_regular<R: Host>(
+/// Writes to what is no regular file. A device that keeps blocks is then synced.
+fn write_in_place<F: OpenFile + Write>(
+    file: &mut F,
+    metadata: &Metadata,
+    bytes: &[u8],
+    errors: &mut HostErrors,
+) -> Result<(), Failed>
+    ensures all { OnOk result (Appends (F.contents file.old) (F.contents file.new) bytes.now) }
+    ensures cause { OnErr result (Rose errors.old.count errors.new.count) }
+    ensures later { errors.old.count ≤ errors.new.count }
+{
+    write_all(file, bytes, errors)?;
+    if metadata.file_type().is_block_device() {
+        counted(file.sync_all(), errors)?;
+    }
+    Ok(())
+}
+
+/// Replaces a regular file, or none, and sees to it that the disk knows the new one by its name. An
+/// error of the latter changes nothing: the new content stands whole already.
+fn replace_regular<R: Host<File = File>>(
     host: &R,
     alloc: Global,
-    name: &str,
-    permissions: Option<Permissions>,
+    path: &mut String,
+    target: &Target<'_>,
+    old: &Option<OldFile>,
     bytes: &[u8],
-    faults: &mut u64,
+    errors: &mut HostErrors,
 ) -> Result<(), Failed>
-    ensures cause { OnErr result (Rose faults.old faults.new) }
-    ensures later { faults.old ≤ faults.new }
+    ensures cause { OnErr result (Rose errors.old.count errors.new.count) }
+    ensures later { errors.old.count ≤ errors.new.count }
 {
-    let target = counted(target_of(host, alloc, name), faults)?;
-    let (temporary, mut file) = counted(create_beside(host, alloc, &target, &permissions), faults)?;
-    let replaced = match write_synced(&mut file, permissions, bytes, faults) {
-        Ok(()) => counted(
-            fs::rename(host, temporary.as_path(), target.as_path()),
-            faults,
-        ),
+    let linked = counted(linked_path(host, alloc, target.name), errors)?;
+    let place = match &linked {
+        Some(path) => path.as_str(),
+        None => target.name,
+    };
+    write_and_rename(host, path, place, target, old, bytes, errors)?;
+    let _ = sync_folder(host, path, place);
+    Ok(())
+}
+
+/// Where a name is a link, the path of the file that it leads to.
+fn linked_path<R: Host>(host: &R, alloc: Global, name: &str) -> io::Result<Option<PathBuf>> {
+    match fs::symlink_metadata(host, name) {
+        Ok(metadata) if metadata.is_symlink() => Ok(Some(host.canonicalize(alloc, name)?)),
+        _ => Ok(None),
+    }
+}
+
+/// Writes a temporary file beside a path and renames it to that path, or removes it.
+fn write_and_rename<R: Host<File = File>>(
+    host: &R,
+    path: &mut String,
+    place: &str,
+    target: &Target<'_>,
+    old: &Option<OldFile>,
+    bytes: &[u8],
+    errors: &mut HostErrors,
+) -> Result<(), Failed>
+    ensures cause { OnErr result (Rose errors.old.count errors.new.count) }
+    ensures later { errors.old.count ≤ errors.new.count }
+{
+    let old_metadata = match old {
+        Some(old) => Some(&old.metadata),
+        None => None,
+    };
+    let mode = first_mode(old_metadata);
+    let mut new = counted(create_beside(host, path, place, mode), errors)?;
+    let replaced = match write_synced(&mut new, old_metadata, bytes, errors) {
+        Ok(()) => counted(rename_over(host, path, place, target, old), errors),
         Err(failure) => Err(failure),
     };
-    // an error here is only counted: the old content or the new one stands whole already
-    let end = match replaced {
-        Ok(()) => sync_folder(host, alloc, &target),
-        Err(_) => fs::remove_file(host, temporary.as_path()),
-    };
-    let _ = counted(end, faults);
+    // (while it is locked, no other run takes its name)
+    if replaced.is_err() {
+        let _ = fs::remove_file(host, path.as_str());
+    }
     replaced
 }
 
-/// The file that a name stands for: where it is a link, the file that it leads to.
-fn target_of<R: Host>(host: &R, alloc: Global, name: &str) -> io::Result<PathBuf> {
-    match fs::symlink_metadata(host, name) {
-        Ok(standing) if standing.is_symlink() => host.canonicalize(alloc, name),
-        _ => Ok(PathBuf::from_str(alloc, name)?),
+/// The mode that a temporary file begins with. Nobody may do with it what the old file's mode keeps from
+/// them.
+fn first_mode(old: Option<&Metadata>) -> u32 {
+    match old {
+        Some(old) => old.permissions().mode() & 0o777,
+        None => 0o666,
     }
 }
 
-/// Makes a file in the folder of another, under a name that nothing has there. Nobody may do with it
-/// what these permissions, if there are any, keep from them.
-fn create_beside<R: Host>(
-    host: &R,
-    alloc: Global,
-    target: &PathBuf,
-    permissions: &Option<Permissions>,
-) -> io::Result<(PathBuf, R::File)> {
-    let mut options = OpenOptions::new();
-    options.write(true).create_new(true);
-    if let Some(permissions) = permissions {
-        options.mode(permissions.mode());
-    }
-    for number in 0..TEMPORARY_NAMES {
-        let name = format!(in alloc; ".trio-{number}.tmp")?;
-        let temporary = target.with_file_name(alloc, name.as_str())?;
-        match options.open(host, temporary.as_path()) {
-            Ok(file) => return Ok((temporary, file)),
-            Err(error) if error.kind() == ErrorKind::AlreadyExists => {}
-            Err(error) => return Err(error),
-        }
-    }
-    Err(io::Error::from(ErrorKind::AlreadyExists))
-}
-
-/// Gives a new file its content and its permissions, and sees to it that the disk has them.
+/// Gives a new file its content and the permissions of an old one, and sees to it that the disk has
+/// them.
 fn write_synced<F: OpenFile + Write>(
     file: &mut F,
-    permissions: Option<Permissions>,
+    old: Option<&Metadata>,
     bytes: &[u8],
-    faults: &mut u64,
+    errors: &mut HostErrors,
 ) -> Result<(), Failed>
     ensures all { OnOk result (Appends (F.contents file.old) (F.contents file.new) bytes.now) }
-    ensures cause { OnErr result (Rose faults.old faults.new) }
-    ensures later { faults.old ≤ faults.new }
+    ensures cause { OnErr result (Rose errors.old.count errors.new.count) }
+    ensures later { errors.old.count ≤ errors.new.count }
 {
-    write_all(file, bytes, faults)?;
-    if let Some(permissions) = permissions {
-        counted(file.set_permissions(permissions), faults)?;
+    write_all(file, bytes, errors)?;
+    if let Some(old) = old {
+        let new = counted(file.metadata(), errors)?;
+        counted(file.set_permissions(kept_permissions(old, &new)), errors)?;
     }
-    counted(file.sync_all(), faults)
+    counted(file.sync_all(), errors)
+}
+
+/// The old file's permissions for the new one, without the set-id bits where the new one has another
+/// owner or group.
+fn kept_permissions(old: &Metadata, new: &Metadata) -> Permissions {
+    let mode = old.permissions().mode();
+    if old.uid() == new.uid() && old.gid() == new.gid() {
+        Permissions::from_mode(mode)
+    } else {
+        Permissions::from_mode(mode & !SET_ID_BITS)
+    }
+}
+
+/// Renames a file over the old one, unless that has changed or somebody else has locked it.
+/// The lock on the old file lasts until the old file is closed.
+fn rename_over<R: Host>(
+    host: &R,
+    path: &str,
+    place: &str,
+    target: &Target<'_>,
+    old: &Option<OldFile>,
+) -> io::Result<()> {
+    let stood = match old {
+        Some(old) => {
+            lock(&old.file)?;
+            Some(Standing::of(&old.metadata))
+        }
+        None => None,
+    };
+    target.check(host, stood)?;
+    fs::rename(host, path, place)
 }
 
 /// Sees to it that the disk knows a file by its new name. Some hosts and folders don't grant that.
-fn sync_folder<R: Host>(host: &R, alloc: Global, target: &PathBuf) -> io::Result<()> {
-    let folder = target.with_file_name(alloc, ".")?;
-    fs::open(host, folder.as_path())?.sync_all()
+fn sync_folder<R: Host>(host: &R, path: &mut String, place: &str) -> io::Result<()> {
+    set_beside(path, place, ".")?;
+    fs::open(host, path.as_str())?.sync_all()
 }

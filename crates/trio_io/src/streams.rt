@@ -1,4 +1,4 @@
-//! Loops over the host's reads and writes, and the count of its errors.
+//! Loops over the host's reads and writes, and its errors.
 //!
 //! A call that was interrupted is made again. Each error of the host raises a count, and any other
 //! error than that is answered by [`Failed`].
@@ -11,35 +11,56 @@ use crate::Failed;
 use std::io;
 use std::io::{ErrorKind, Read, Write};
 
+/// How many errors of the host there were, and the last of those since this was made.
+#[derive(Clone, Copy)]
+pub(crate) struct HostErrors {
+    pub count: u64,
+    pub last: Option<io::Error>,
+}
+
+impl HostErrors {
+    /// None but those of this count.
+    pub fn from(count: u64) -> HostErrors
+        ensures { result.count ≡ count }
+    {
+        HostErrors { count, last: None }
+    }
+}
+
 /// Counts an error of the host, unless the count stands at its last value.
-pub(crate) fn failed(faults: &mut u64) -> Failed
-    ensures rose { Rose faults.old faults.new }
-    ensures later { faults.old ≤ faults.new }
+pub(crate) fn failed(error: io::Error, errors: &mut HostErrors) -> Failed
+    ensures rose { Rose errors.old.count errors.new.count }
+    ensures later { errors.old.count ≤ errors.new.count }
 {
-    *faults = faults.saturating_add(1);
+    errors.count = errors.count.saturating_add(1);
+    errors.last = Some(error);
     Failed
 }
 
 /// What the host answered, where an error of it is counted.
-pub(crate) fn counted<T>(answer: io::Result<T>, faults: &mut u64) -> Result<T, Failed>
+pub(crate) fn counted<T>(answer: io::Result<T>, errors: &mut HostErrors) -> Result<T, Failed>
     ensures same { IfOk result (λ value. answer ≡ Ok value) }
-    ensures cause { OnErr result (Rose faults.old faults.new) }
-    ensures later { faults.old ≤ faults.new }
+    ensures cause { OnErr result (Rose errors.old.count errors.new.count) }
+    ensures later { errors.old.count ≤ errors.new.count }
 {
     match answer {
         Ok(value) => Ok(value),
-        Err(_) => Err(failed(faults)),
+        Err(error) => Err(failed(error, errors)),
     }
 }
 
 /// Reads until the buffer is full or there is no more.
-pub(crate) fn fill<R: Read>(from: &mut R, buf: &mut [u8], faults: &mut u64) -> Result<usize, Failed>
+pub(crate) fn fill<R: Read>(
+    from: &mut R,
+    buf: &mut [u8],
+    errors: &mut HostErrors,
+) -> Result<usize, Failed>
     ensures bound { IfOk result (λ n. n ≤ length buf.new) }
     ensures bytes { IfOk result
         (λ n. Consumes (R.remaining from.old) (R.remaining from.new) (take n buf.new)) }
     ensures end { IfOk result (λ n. n < length buf.new → IsAtEnd (R.remaining from.new)) }
-    ensures cause { OnErr result (Rose faults.old faults.new) }
-    ensures later { faults.old ≤ faults.new }
+    ensures cause { OnErr result (Rose errors.old.count errors.new.count) }
+    ensures later { errors.old.count ≤ errors.new.count }
 {
     let mut filled = 0;
     for _ in 0..u64::MAX {
@@ -50,23 +71,27 @@ pub(crate) fn fill<R: Read>(from: &mut R, buf: &mut [u8], faults: &mut u64) -> R
             Ok(0) => return Ok(filled),
             Ok(count) => filled += count,
             Err(error) => {
-                let failure = failed(faults);
+                let failure = failed(error, errors);
                 if error.kind() != ErrorKind::Interrupted {
                     return Err(failure);
                 }
             }
         }
     }
-    Err(failed(faults))
+    Err(failed(io::Error::from(ErrorKind::Other), errors))
 }
 
 /// Writes all of the bytes.
-pub(crate) fn write_all<W: Write>(to: &mut W, bytes: &[u8], faults: &mut u64) -> Result<(), Failed>
+pub(crate) fn write_all<W: Write>(
+    to: &mut W,
+    bytes: &[u8],
+    errors: &mut HostErrors,
+) -> Result<(), Failed>
     ensures all { OnOk result (Appends (W.contents to.old) (W.contents to.new) bytes.now) }
     ensures part { OnErr result
         ((n : ℕ) × Appends (W.contents to.old) (W.contents to.new) (take n bytes.now)) }
-    ensures cause { OnErr result (Rose faults.old faults.new) }
-    ensures later { faults.old ≤ faults.new }
+    ensures cause { OnErr result (Rose errors.old.count errors.new.count) }
+    ensures later { errors.old.count ≤ errors.new.count }
 {
     let mut written = 0;
     for _ in 0..u64::MAX {
@@ -74,15 +99,15 @@ pub(crate) fn write_all<W: Write>(to: &mut W, bytes: &[u8], faults: &mut u64) ->
             return Ok(());
         }
         match to.write(&bytes[written..]) {
-            Ok(0) => return Err(failed(faults)),
+            Ok(0) => return Err(failed(io::Error::from(ErrorKind::WriteZero), errors)),
             Ok(count) => written += count,
             Err(error) => {
-                let failure = failed(faults);
+                let failure = failed(error, errors);
                 if error.kind() != ErrorKind::Interrupted {
                     return Err(failure);
                 }
             }
         }
     }
-    Err(failed(faults))
+    Err(failed(io::Error::from(ErrorKind::Other), errors))
 }

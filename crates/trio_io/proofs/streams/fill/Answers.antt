@@ -5,8 +5,8 @@ use Rattle.trio_io.proofs.streams.fill.Goals as goal
 
 pub loop-preserved : goal.loop-preserved
 loop-preserved g c = elim c.match-read.branch [
-  | in-Ok w ↦ rw (w.filled-is, w.faults-is)
+  | in-Ok w ↦ rw (w.filled-is, w.errors-is)
       (Filled-took _ _ _ _ _ _ w.in-Ok.count _ _ c.loop.invariant w.in-Ok.ensures.bound.0 (search rules) w.in-Ok.ensures.bytes.0)
-  | in-Err+else-ne w ↦ rw (w.filled-is, w.faults-is)
+  | in-Err+else-ne w ↦ rw (w.filled-is, w.errors-is)
       (Filled-kept _ _ _ _ _ _ _ _ _ c.loop.invariant (search rules) w.in-Err.ensures.bytes w.failed-failure.ensures.later)
 ]
