@@ -126,6 +126,8 @@ fn main(rt: HostRuntime) -> ExitCode {
 }
 
 #[cfg(test)]
+mod faults;
+#[cfg(test)]
 mod sessions;
 #[cfg(test)]
 mod tests;

@@ -129,13 +129,17 @@ pub const TURNS: &[&str] = &["turns", "first.img", "script", "o p"];
 /// The same with a thread for each library.
 pub const RUN: &[&str] = &["run", "first.img", "script", "o p"];
 
-const CHECK: &[&str] = &["check", "first.img"];
+/// The words of `check` on the image of a row.
+pub const CHECK: &[&str] = &["check", "first.img"];
 
-const TREE: &[&str] = &["tree", "first.img"];
+/// Those of `tree`.
+pub const TREE: &[&str] = &["tree", "first.img"];
 
-const JSON: &[&str] = &["tree", "first.img", "json"];
+/// Those of `tree` as JSON.
+pub const JSON: &[&str] = &["tree", "first.img", "json"];
 
-const NEW: &[&str] = &["new", "a.img", "32", "64"];
+/// The words of `new` of 32 pages and 64 inode numbers.
+pub const NEW: &[&str] = &["new", "a.img", "32", "64"];
 
 // What OUT has before.
 const OLD: &[u8] = b"before";
@@ -334,14 +338,6 @@ const SCRIPT: &[u8] = b"lib 1 raw 0 0\n";
 const REPORT: &[u8] =
     b"lib 1 raw\nend nothing\ntree\n0 d 755 0 0 1 /\n1 f 644 0 0 5 f\ninodes 2 pages 4 free 25\n";
 
-const HALF: &[u8] = b"lib 1 raw\nend nothing\ntree\n0 d 755 0 0 1 /";
-
-const READ_FAULT: &[u8] = b"read fault first.img\n";
-
-const VALID: &[u8] = b"valid inodes 2 pages 4 free 25\n";
-
-const MADE: &[u8] = b"made pages 32 inodes 64 free 29\n";
-
 const FOUR_FILES: &[u8] =
     b"gen number 7 files 4 calls 9 ok 9 busy 0 bytes 134\ninodes 17 pages 28 free 8139\n";
 
@@ -352,136 +348,74 @@ const ONE_FILE: &[u8] =
 const THOUSAND_FILES: &[u8] =
     b"gen number 7 files 1000 calls 2400 ok 2400 busy 0 bytes 26016\ninodes 813 pages 1674 free 6493\n";
 
-// What a file then has.
-type Out = (&'static str, Kept);
+/// A file, and what it then has.
+pub type Out = (&'static str, Kept);
 
 const FIRST: Out = ("first.img", Kept::Image(IMAGE_SIZE));
 
-const BEFORE: Out = ("o p", Kept::Before);
+/// Nothing was written.
+pub const BEFORE: Out = ("o p", Kept::Before);
 
 const DONE: Out = ("o p", Kept::Image(IMAGE_SIZE));
 
 // A name that isn't among the words has no content.
 const NO_OUT: Out = ("o p", Kept::Nothing);
 
-// No call fails.
-const NONE: (u64, u64) = (0, 0);
-
-// Words, which call of the files and which put fails, and how the run then ends: its status, its text, and
-// what a file has. The name that comes first among the words is that of an image of one file.
-type Command = (&'static [&'static str], (u64, u64), u8, &'static [u8], Out);
-
-// Of `turns` and `run` calls 1 to 33 read the image, 34 and 35 the script, and 36 writes OUT.
-const FAULTS: &[Command] = &[
-    (TURNS, (1, 0), 4, READ_FAULT, BEFORE),
-    (TURNS, (33, 0), 4, READ_FAULT, BEFORE),
-    (TURNS, (34, 0), 4, b"read fault script\n", BEFORE),
-    (TURNS, (35, 0), 4, b"read fault script\n", BEFORE),
-    (
-        TURNS,
-        (36, 0),
-        5,
-        b"write fault o\\x20p\n",
-        ("o p", Kept::Image(65_536)),
-    ),
-    (TURNS, (37, 0), 0, REPORT, DONE),
-    (RUN, (33, 0), 4, READ_FAULT, BEFORE),
-    (RUN, (35, 0), 4, b"read fault script\n", BEFORE),
-    (
-        RUN,
-        (36, 0),
-        5,
-        b"write fault o\\x20p\n",
-        ("o p", Kept::Image(65_536)),
-    ),
-    (RUN, (37, 0), 0, REPORT, DONE),
-    (CHECK, (1, 0), 4, READ_FAULT, FIRST),
-    (CHECK, (33, 0), 4, READ_FAULT, FIRST),
-    (CHECK, (34, 0), 0, VALID, FIRST),
-    (JSON, (33, 0), 4, READ_FAULT, FIRST),
-    (
-        TREE,
-        (34, 0),
-        0,
-        b"0 d 755 0 0 1 /\n1 f 644 0 0 5 f\n",
-        FIRST,
-    ),
-    (
-        NEW,
-        (1, 0),
-        5,
-        b"write fault a.img\n",
-        ("a.img", Kept::Bytes(65_536)),
-    ),
-    (NEW, (2, 0), 0, MADE, ("a.img", Kept::Bytes(IMAGE_SIZE))),
-    // half of the report is put where its put fails
-    (TURNS, (0, 1), 5, HALF, DONE),
-];
+// Words, and how the run then ends: its status, its text, and what a file has. The name that comes first among
+// the words is that of an image of one file.
+type Command = (&'static [&'static str], u8, &'static [u8], Out);
 
 const WORDS: &[Command] = &[
-    (&[], NONE, 2, USAGE, NO_OUT),
-    (&["turns"], NONE, 2, USAGE, NO_OUT),
-    (&["turns", "first.img", "script"], NONE, 2, USAGE, FIRST),
+    (&[], 2, USAGE, NO_OUT),
+    (&["turns"], 2, USAGE, NO_OUT),
+    (&["turns", "first.img", "script"], 2, USAGE, FIRST),
     (
         &["turns", "first.img", "script", "o p", "o p"],
-        NONE,
         2,
         USAGE,
         BEFORE,
     ),
     (
         &["turns", "first.img", "script", "first.img"],
-        NONE,
         0,
         REPORT,
         FIRST,
     ),
     (
         &["turns", "first.img", "first.img", "o p"],
-        NONE,
         3,
         b"script line 1\n",
         BEFORE,
     ),
-    (&["run"], NONE, 2, USAGE, NO_OUT),
-    (&["run", "first.img", "script"], NONE, 2, USAGE, FIRST),
+    (&["run"], 2, USAGE, NO_OUT),
+    (&["run", "first.img", "script"], 2, USAGE, FIRST),
     (
         &["run", "first.img", "script", "o p", "o p"],
-        NONE,
         2,
         USAGE,
         BEFORE,
     ),
     (
         &["run", "first.img", "script", "first.img"],
-        NONE,
         0,
         REPORT,
         FIRST,
     ),
     (
         &["run", "first.img", "first.img", "o p"],
-        NONE,
         3,
         b"script line 1\n",
         BEFORE,
     ),
-    (&["tree"], NONE, 2, USAGE, NO_OUT),
-    (&["tree", "first.img", "JSON"], NONE, 2, USAGE, FIRST),
-    (
-        &["tree", "first.img", "json", "o p"],
-        NONE,
-        2,
-        USAGE,
-        BEFORE,
-    ),
-    (&["check"], NONE, 2, USAGE, NO_OUT),
-    (&["checks", "first.img"], NONE, 2, USAGE, FIRST),
-    (&["--help"], NONE, 0, USAGE, NO_OUT),
-    (&["--version"], NONE, 0, b"trio 0.1.0\n", NO_OUT),
+    (&["tree"], 2, USAGE, NO_OUT),
+    (&["tree", "first.img", "JSON"], 2, USAGE, FIRST),
+    (&["tree", "first.img", "json", "o p"], 2, USAGE, BEFORE),
+    (&["check"], 2, USAGE, NO_OUT),
+    (&["checks", "first.img"], 2, USAGE, FIRST),
+    (&["--help"], 0, USAGE, NO_OUT),
+    (&["--version"], 0, b"trio 0.1.0\n", NO_OUT),
     (
         &["--help", "--version"],
-        NONE,
         2,
         USAGE,
         ("--version", Kept::Image(IMAGE_SIZE)),
@@ -489,42 +423,41 @@ const WORDS: &[Command] = &[
 ];
 
 const NUMBERS: &[Command] = &[
-    (&["gen", "7", "4"], NONE, 0, FOUR_FILES, NO_OUT),
-    (&["gen", "0", "1"], NONE, 0, ONE_FILE, NO_OUT),
-    (&["gen", "7", "1000"], NONE, 0, THOUSAND_FILES, NO_OUT),
-    (&["gen", "7", "1001"], NONE, 2, USAGE, NO_OUT),
-    (&["gen", "7", "0"], NONE, 2, USAGE, NO_OUT),
-    (&["gen", "4294967296", "4"], NONE, 2, USAGE, NO_OUT),
-    (&["gen", "07", "4"], NONE, 2, USAGE, NO_OUT),
-    (&["gen", "-7", "4"], NONE, 2, USAGE, NO_OUT),
-    (&["gen", "7", ""], NONE, 2, USAGE, NO_OUT),
+    (&["gen", "7", "4"], 0, FOUR_FILES, NO_OUT),
+    (&["gen", "0", "1"], 0, ONE_FILE, NO_OUT),
+    (&["gen", "7", "1000"], 0, THOUSAND_FILES, NO_OUT),
+    (&["gen", "7", "1001"], 2, USAGE, NO_OUT),
+    (&["gen", "7", "0"], 2, USAGE, NO_OUT),
+    (&["gen", "4294967296", "4"], 2, USAGE, NO_OUT),
+    (&["gen", "07", "4"], 2, USAGE, NO_OUT),
+    (&["gen", "-7", "4"], 2, USAGE, NO_OUT),
+    (&["gen", "7", ""], 2, USAGE, NO_OUT),
     (
         &["new", "o p", "16", "16"],
-        NONE,
         0,
         b"made pages 16 inodes 16 free 13\n",
         ("o p", Kept::Bytes(65_536)),
     ),
-    (&["new", "first.img", "15", "16"], NONE, 2, USAGE, FIRST),
-    (&["new", "first.img", "16", "15"], NONE, 2, USAGE, FIRST),
-    (&["new", "first.img", "8193", "16"], NONE, 2, USAGE, FIRST),
-    (&["new", "first.img", "16", "16385"], NONE, 2, USAGE, FIRST),
-    (&["new", "first.img", "16", "16384"], NONE, 2, USAGE, FIRST),
-    (&["new", "first.img", "32", "+64"], NONE, 2, USAGE, FIRST),
-    (&["new", "first.img", "32", "0064"], NONE, 2, USAGE, FIRST),
-    (&["new", "first.img", "", "64"], NONE, 2, USAGE, FIRST),
+    (&["new", "first.img", "15", "16"], 2, USAGE, FIRST),
+    (&["new", "first.img", "16", "15"], 2, USAGE, FIRST),
+    (&["new", "first.img", "8193", "16"], 2, USAGE, FIRST),
+    (&["new", "first.img", "16", "16385"], 2, USAGE, FIRST),
+    (&["new", "first.img", "16", "16384"], 2, USAGE, FIRST),
+    (&["new", "first.img", "32", "+64"], 2, USAGE, FIRST),
+    (&["new", "first.img", "32", "0064"], 2, USAGE, FIRST),
+    (&["new", "first.img", "", "64"], 2, USAGE, FIRST),
 ];
 
 fn command_ends<R: Threads + Wait + Sync + AllocGlobal>(
     rt: &R,
-    (words, failing, status, text, (file, kept)): Command,
+    (words, status, text, (file, kept)): Command,
 ) -> Option<bool> {
     let row = Row {
         image: Start::OneFile,
         length: IMAGE_SIZE,
         changes: &[],
         script: &[SCRIPT],
-        failing,
+        failing: (0, 0),
         status,
         text: &[text],
         is_all: true,
@@ -548,12 +481,6 @@ fn other_command<R: Threads + Wait + Sync + AllocGlobal>(
 }
 
 #[test]
-fn each_call_fails(rt: HostRuntime) {
-    let other = other_command(&rt, FAULTS);
-    assert!(rt; other.is_none(), "row {}", other.unwrap_or(0));
-}
-
-#[test]
 fn words_are_read(rt: HostRuntime) {
     let other = other_command(&rt, WORDS);
     assert!(rt; other.is_none(), "row {}", other.unwrap_or(0));
@@ -567,321 +494,79 @@ fn numbers_are_read(rt: HostRuntime) {
 
 // ---- images and scripts
 
-const RUNS: &[&[&str]] = &[TURNS, RUN];
+/// The words of both commands that run a script.
+pub const RUNS: &[&[&str]] = &[TURNS, RUN];
 
-// An image that fails has no tree either.
-const CHECKS: &[&[&str]] = &[CHECK, TREE];
+// Words that read an image, the image, how many of its bytes there are, and the status and the text with which
+// the run ends.
+type Told = (&'static [&'static str], Start, usize, u8, &'static [u8]);
 
-// An image, how many of its bytes there are, and its changes.
-type Changed = (Start, usize, &'static [(usize, u8)]);
-
-// How each of these words ends over an image and a script.
-type Input = (
-    &'static [&'static [&'static str]],
-    Changed,
-    &'static [u8],
-    u8,
-    &'static [u8],
-    Out,
-);
-
-// What doesn't verify, or isn't a script.
-const INPUTS: &[Input] = &[
+// A new image and its tree, and further trees in both forms.
+const TOLD: &[Told] = &[
     (
-        RUNS,
-        (Start::OneFile, 0, &[]),
-        SCRIPT,
-        1,
-        b"length 0\n",
-        BEFORE,
-    ),
-    (
-        RUNS,
-        (Start::OneFile, 4096, &[]),
-        SCRIPT,
-        1,
-        b"length 4096\n",
-        BEFORE,
-    ),
-    (
-        RUNS,
-        (Start::OneFile, 131_071, &[]),
-        SCRIPT,
-        1,
-        b"length 131071\n",
-        BEFORE,
-    ),
-    (
-        RUNS,
-        (Start::OneFile, IMAGE_SIZE, &[(0, b'a')]),
-        SCRIPT,
-        1,
-        b"bad superblock\n",
-        BEFORE,
-    ),
-    // a page less than there are
-    (
-        RUNS,
-        (Start::OneFile, IMAGE_SIZE, &[(16, 31)]),
-        SCRIPT,
-        1,
-        b"length 131072\n",
-        BEFORE,
-    ),
-    // an owner of a free page, and a row that differs
-    (
-        RUNS,
-        (Start::OneFile, IMAGE_SIZE, &[(8220, 2)]),
-        b"",
-        1,
-        b"invalid tables\n",
-        BEFORE,
-    ),
-    (
-        RUNS,
-        (Start::OneFile, IMAGE_SIZE, &[(4130, 0xa5)]),
-        SCRIPT,
-        1,
-        b"invalid tables\n",
-        BEFORE,
-    ),
-    // a directory of five bytes, also where the script is bad
-    (
-        RUNS,
-        (Start::OneFile, IMAGE_SIZE, &[(16_388, 2)]),
-        SCRIPT,
-        1,
-        b"invalid I1\n",
-        BEFORE,
-    ),
-    (
-        RUNS,
-        (Start::OneFile, IMAGE_SIZE, &[(16_388, 2)]),
-        b"",
-        1,
-        b"invalid I1\n",
-        BEFORE,
-    ),
-    // a slot outside the grammar
-    (
-        RUNS,
-        (Start::OneFile, IMAGE_SIZE, &[(16_390, 1)]),
-        SCRIPT,
-        1,
-        b"invalid I1\n",
-        BEFORE,
-    ),
-    (
-        RUNS,
-        (Start::OneFile, IMAGE_SIZE, &[]),
-        b"",
-        3,
-        b"script line 1\n",
-        BEFORE,
-    ),
-    (
-        RUNS,
-        (Start::OneFile, IMAGE_SIZE, &[]),
-        b"lib 1 raw 0 0\nlib 3 raw 0 0\n",
-        3,
-        b"script line 2\n",
-        BEFORE,
-    ),
-    (
-        RUNS,
-        (Start::OneFile, IMAGE_SIZE, &[]),
-        b"lib 1 raw 0 0\n\nallot 1",
-        3,
-        b"script line 3\n",
-        BEFORE,
-    ),
-    // a line of the other kind of library
-    (
-        RUNS,
-        (Start::OneFile, IMAGE_SIZE, &[]),
-        b"lib 1 honest 0 0\nstat /\ngrant read 1\n",
-        3,
-        b"script line 3\n",
-        BEFORE,
-    ),
-    (
-        RUNS,
-        (Start::OneFile, IMAGE_SIZE, &[]),
-        b"lib 1 raw 0 0\nstat /\n",
-        3,
-        b"script line 2\n",
-        BEFORE,
-    ),
-    (
-        RUNS,
-        (Start::OneFile, IMAGE_SIZE, &[]),
-        b"lib 1 raw 0 0\nlib 2 honest 0 0\nchmod /f 600\nmkdir a 755\n",
-        3,
-        b"script line 4\n",
-        BEFORE,
-    ),
-    // a seventeenth library
-    (
-        RUNS,
-        (Start::OneFile, IMAGE_SIZE, &[]),
-        b"lib 1 raw 1 0\ngrant read 2\nlib 2 raw 2 0\ngrant read 2\nlib 3 raw 3 0\ngrant read 2\nlib 4 raw 4 0\ngrant read 2\nlib 5 raw 5 0\ngrant read 2\nlib 6 raw 6 0\ngrant read 2\nlib 7 raw 7 0\ngrant read 2\nlib 8 raw 8 0\ngrant read 2\nlib 9 raw 9 0\ngrant read 2\nlib 10 raw 10 0\ngrant read 2\nlib 11 raw 11 0\ngrant read 2\nlib 12 raw 12 0\ngrant read 2\nlib 13 raw 13 0\ngrant read 2\nlib 14 raw 14 0\ngrant read 2\nlib 15 raw 15 0\ngrant read 2\nlib 16 raw 16 0\ngrant read 2\nlib 17 raw 17 0\ngrant read 2\n",
-        3,
-        b"script line 33\n",
-        BEFORE,
-    ),
-    // a page is named twice
-    (
-        RUNS,
-        (Start::OneFile, IMAGE_SIZE, &[]),
-        b"lib 1 raw 0 0\nallot 1 0\nrelease - 7,7 -\n",
-        3,
-        b"script line 3\n",
-        BEFORE,
-    ),
-    (
-        RUNS,
-        (Start::OneFile, IMAGE_SIZE, &[]),
-        b"# nothing else\nlib 1 raw 0 0",
-        0,
-        REPORT,
-        DONE,
-    ),
-];
-
-// A tree in both forms.
-const TREES: &[Input] = &[
-    (
-        &[TREE],
-        (Start::OneDirectory, IMAGE_SIZE, &[]),
-        b"",
-        0,
-        b"0 d 755 0 0 1 /\n1 d 755 0 0 0 a\n",
-        FIRST,
-    ),
-    (
-        &[JSON],
-        (Start::OneDirectory, IMAGE_SIZE, &[]),
-        b"",
-        0,
-        b"[{\"depth\":0,\"gid\":0,\"kind\":\"d\",\"mode\":\"755\",\"name\":\"/\",\"size\":1,\"uid\":0},{\"depth\":1,\"gid\":0,\"kind\":\"d\",\"mode\":\"755\",\"name\":\"a\",\"size\":0,\"uid\":0}]\n",
-        FIRST,
-    ),
-    (
-        &[TREE],
-        (Start::OddName, IMAGE_SIZE, &[]),
-        b"",
-        0,
-        b"0 d 755 0 0 1 /\n1 f 644 0 0 5 \\x0A\"\\x5C\\xFF\n",
-        FIRST,
-    ),
-    (
-        &[JSON],
-        (Start::OddName, IMAGE_SIZE, &[]),
-        b"",
-        0,
-        b"[{\"depth\":0,\"gid\":0,\"kind\":\"d\",\"mode\":\"755\",\"name\":\"/\",\"size\":1,\"uid\":0},{\"depth\":1,\"gid\":0,\"kind\":\"f\",\"mode\":\"644\",\"name\":\"\\\\x0A\\\"\\\\x5C\\\\xFF\",\"size\":5,\"uid\":0}]\n",
-        FIRST,
-    ),
-];
-
-// A new image.
-const CHECKED: &[Input] = &[
-    (
-        &[CHECK],
-        (Start::Made, IMAGE_SIZE, &[]),
-        b"",
+        CHECK,
+        Start::Made,
+        IMAGE_SIZE,
         0,
         b"valid inodes 1 pages 0 free 29\n",
-        FIRST,
     ),
+    (TREE, Start::Made, IMAGE_SIZE, 0, b"0 d 755 0 0 0 /\n"),
     (
-        CHECKS,
-        (Start::Made, 131_071, &[]),
-        b"",
-        1,
-        b"length 131071\n",
-        ("first.img", Kept::Image(131_071)),
-    ),
-    (
-        CHECKS,
-        (Start::Made, 131_073, &[]),
-        b"",
-        1,
-        b"length 131073\n",
-        ("first.img", Kept::Image(131_073)),
-    ),
-    (
-        CHECKS,
-        (Start::Made, 4095, &[]),
-        b"",
-        1,
-        b"length 4095\n",
-        ("first.img", Kept::Image(4095)),
-    ),
-    (
-        CHECKS,
-        (Start::Made, 0, &[]),
-        b"",
-        1,
-        b"length 0\n",
-        ("first.img", Kept::Image(0)),
-    ),
-    (
-        CHECKS,
-        (Start::Made, IMAGE_SIZE, &[(0, b'B')]),
-        b"",
-        1,
-        b"bad superblock\n",
-        FIRST,
-    ),
-    (
-        CHECKS,
-        (Start::Made, IMAGE_SIZE, &[(8204, 2)]),
-        b"",
-        1,
-        b"invalid tables\n",
-        FIRST,
-    ),
-    // the root has one page as both of its blocks, and the tables aren't its either
-    (
-        CHECKS,
-        (
-            Start::Made,
-            IMAGE_SIZE,
-            &[(52, 3), (57, 0x20), (12_288, 4), (12_296, 4)],
-        ),
-        b"",
-        1,
-        b"invalid I2\n",
-        FIRST,
-    ),
-    (
-        &[TREE],
-        (Start::Made, IMAGE_SIZE, &[]),
-        b"",
+        TREE,
+        Start::OneDirectory,
+        IMAGE_SIZE,
         0,
-        b"0 d 755 0 0 0 /\n",
-        FIRST,
+        b"0 d 755 0 0 1 /\n1 d 755 0 0 0 a\n",
+    ),
+    (
+        JSON,
+        Start::OneDirectory,
+        IMAGE_SIZE,
+        0,
+        b"[{\"depth\":0,\"gid\":0,\"kind\":\"d\",\"mode\":\"755\",\"name\":\"/\",\"size\":1,\"uid\":0},{\"depth\":1,\"gid\":0,\"kind\":\"d\",\"mode\":\"755\",\"name\":\"a\",\"size\":0,\"uid\":0}]\n",
+    ),
+    (
+        TREE,
+        Start::OddName,
+        IMAGE_SIZE,
+        0,
+        b"0 d 755 0 0 1 /\n1 f 644 0 0 5 \\x0A\"\\x5C\\xFF\n",
+    ),
+    (
+        JSON,
+        Start::OddName,
+        IMAGE_SIZE,
+        0,
+        b"[{\"depth\":0,\"gid\":0,\"kind\":\"d\",\"mode\":\"755\",\"name\":\"/\",\"size\":1,\"uid\":0},{\"depth\":1,\"gid\":0,\"kind\":\"f\",\"mode\":\"644\",\"name\":\"\\\\x0A\\\"\\\\x5C\\\\xFF\",\"size\":5,\"uid\":0}]\n",
+    ),
+    // one byte over the limit, all of them zero
+    (
+        CHECK,
+        Start::Nothing,
+        33_554_433,
+        7,
+        b"too long first.img\n",
     ),
 ];
 
-fn input_ends<R: Threads + Wait + Sync + AllocGlobal>(
+// Whether a run ends so, and the image is as before.
+fn is_told<R: Threads + Wait + Sync + AllocGlobal>(
     rt: &R,
-    (commands, (image, length, changes), script, status, text, (file, kept)): Input,
+    (words, image, length, status, text): Told,
 ) -> bool {
     let row = Row {
         image,
         length,
-        changes,
-        script: &[script],
+        changes: &[],
+        script: &[],
         failing: (0, 0),
         status,
         text: &[text],
         is_all: true,
-        file,
-        kept,
+        file: "first.img",
+        kept: Kept::Image(length),
     };
-    all_end(rt, commands, &row)
+    row_ends(rt, words, &row) == Some(true)
 }
 
 /// Whether a run of each of these words ends as a row says.
@@ -898,10 +583,10 @@ pub fn all_end<R: Threads + Wait + Sync + AllocGlobal>(
     true
 }
 
-// Which of the inputs is the first that ends otherwise.
-fn other_input<R: Threads + Wait + Sync + AllocGlobal>(rt: &R, inputs: &[Input]) -> Option<usize> {
-    for (i, input) in inputs.iter().enumerate() {
-        if !input_ends(rt, *input) {
+// Which of the images is the first of which something else is told.
+fn other_image<R: Threads + Wait + Sync + AllocGlobal>(rt: &R) -> Option<usize> {
+    for (i, told) in TOLD.iter().enumerate() {
+        if !is_told(rt, *told) {
             return Some(i);
         }
     }
@@ -909,32 +594,10 @@ fn other_input<R: Threads + Wait + Sync + AllocGlobal>(rt: &R, inputs: &[Input])
 }
 
 #[test]
-fn inputs_are_judged(rt: HostRuntime) {
-    let other = other_input(&rt, INPUTS);
+fn images_are_told(rt: HostRuntime) {
+    let other = other_image(&rt);
     assert!(rt; other.is_none(), "row {}", other.unwrap_or(0));
 }
-
-#[test]
-fn trees_are_told(rt: HostRuntime) {
-    let other = other_input(&rt, TREES);
-    assert!(rt; other.is_none(), "row {}", other.unwrap_or(0));
-}
-
-#[test]
-fn a_new_image_is_checked(rt: HostRuntime) {
-    let other = other_input(&rt, CHECKED);
-    assert!(rt; other.is_none(), "row {}", other.unwrap_or(0));
-}
-
-// An image of one byte over its limit, all of it zero.
-const BIG: &[Input] = &[(
-    &[CHECK],
-    (Start::Nothing, 33_554_433, &[]),
-    b"",
-    7,
-    b"too long first.img\n",
-    ("first.img", Kept::Bytes(33_554_433)),
-)];
 
 // Whether runs over a script of this length end so.
 fn long_script_ends<R: Threads + Wait + Sync + AllocGlobal>(
@@ -962,7 +625,6 @@ fn long_script_ends<R: Threads + Wait + Sync + AllocGlobal>(
 #[test]
 fn limits(rt: HostRuntime) {
     let too_long = (7, b"too long script\n".as_slice(), BEFORE);
-    assert!(rt; other_input(&rt, BIG).is_none());
     assert!(rt; long_script_ends(&rt, SCRIPT_LIMIT, (0, REPORT, DONE)) == Some(true));
     assert!(rt; long_script_ends(&rt, SCRIPT_LIMIT + 1, too_long) == Some(true));
 }

@@ -216,7 +216,6 @@ const BAD: &[&str] = &[
     "allot 1 -",
     "allot 01 2",
     "allot 1 02",
-    "allot 4294967296 0",
     "allot 1,2 3",
     "allot 1 2 3",
     "poke body 2 0",
@@ -233,7 +232,6 @@ const BAD: &[&str] = &[
     "poke page 2 0 4a",
     "release - -",
     "release - - - -",
-    "release 2,2 - -",
     "release - 1,3,1 -",
     "release 2, - -",
     "release ,2 - -",
@@ -371,7 +369,6 @@ fn libraries_are_counted(rt: HostRuntime) {
 
 /// Scripts, and the number of the first bad line, or 0.
 const SCRIPTS: &[(&str, u32)] = &[
-    ("", 1),
     ("\n", 1),
     ("# lib 1 raw 0 0\n#\n", 1),
     ("lib 1 raw 0 0", 0),
